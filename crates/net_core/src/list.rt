@@ -1,0 +1,159 @@
+ghost use Rattle.std.specs.Prelude.{◌≡◌, ◌+◌, ◌<◌, ◌++◌, [], ◌∷◌, length, OnOk, OnErr, IfErr, IfOk, IsSome, ◌↔◌, slice_set};
+ghost use Rattle.std.specs.Option.{option_to_list};
+
+use std::alloc::Global;
+use std::hash::{Hash, Hasher};
+use std::marker::Model;
+
+/// No memory was found.
+#[derive(Clone, Copy, Debug, PartialEq, Eq)]
+pub struct NoMemory;
+
+/// A list, which keeps the allocator that it was made with.
+#[derive(Drop)]
+pub struct List<T> {
+    items: Vec<T>,
+}
+
+impl<T> Model for List<T> {
+    ghost use Rattle.std.specs.Prelude as p;
+
+    ghost Value = { p.List T };
+
+    ghost view = { λ l. l.items.items };
+}
+
+impl<T> List<T> {
+    /// The empty list, which takes no memory.
+    pub fn new(alloc: Global) -> List<T>
+        ensures { result ≡ [] }
+    {
+        List {
+            items: Vec::new(alloc),
+        }
+    }
+
+    /// Puts an item last, or hands it back.
+    pub fn push(&mut self, item: T) -> Result<(), (T, NoMemory)>
+        ensures ok { OnOk result (self.new ≡ self.old ++ item ∷ []) }
+        ensures same { OnErr result (self.new ≡ self.old) }
+        ensures back { IfErr result (λ e. e.0 ≡ item) }
+    {
+        match self.items.push(item) {
+            Ok(()) => Ok(()),
+            Err(refused) => Err((refused.value, NoMemory)),
+        }
+    }
+
+    /// The items, as a slice.
+    pub fn items(&self) -> &[T]
+        ensures { result.now ≡ self.now }
+    {
+        self.items.as_slice()
+    }
+
+    /// How many items there are.
+    pub fn len(&self) -> usize
+        ensures { result ≡ length self.now }
+    {
+        self.items.len()
+    }
+
+    /// The list of a vector's items.
+    pub fn from_vec(items: Vec<T>) -> List<T>
+        ensures { result ≡ items.items }
+    {
+        List { items }
+    }
+}
+
+impl<T: Drop> List<T> {
+    /// Drops all items.
+    pub fn clear(&mut self)
+        ensures { self.new ≡ [] }
+    {
+        self.items.clear();
+    }
+}
+
+impl<T: Copy> List<T> {
+    /// Puts all items last, or none.
+    pub fn append(&mut self, items: &[T]) -> Result<(), NoMemory>
+        ensures ok { OnOk result (self.new ≡ self.old ++ items.now) }
+        ensures same { OnErr result (self.new ≡ self.old) }
+    {
+        match self.items.extend_from_slice(items) {
+            Ok(()) => Ok(()),
+            Err(_) => Err(NoMemory),
+        }
+    }
+}
+
+/// A value that can be copied. The copy equals the original.
+pub trait Copied: Drop + Sized {
+    /// A copy, on the allocator that the original keeps.
+    fn copy(&self) -> Result<Self, NoMemory>
+        ensures { IfOk result (λ c. c ≡ self.now) };
+}
+
+impl<T: Copy> Copied for T {
+    fn copy(&self) -> Result<T, NoMemory> {
+        Ok(*self)
+    }
+}
+
+impl<T: Copied> List<T> {
+    /// The list of copies of the items.
+    pub fn from_slice(alloc: Global, items: &[T]) -> Result<List<T>, NoMemory>
+        ensures { IfOk result (λ l. l ≡ items.now) }
+    {
+        let Ok(room) = Vec::with_capacity(alloc, items.len()) else {
+            return Err(NoMemory);
+        };
+        let mut all = List::from_vec(room);
+        for item in items {
+            let copied = item.copy()?;
+            let Ok(()) = all.push(copied) else {
+                return Err(NoMemory);
+            };
+        }
+        Ok(all)
+    }
+}
+
+impl<T: Copied> Copied for List<T> {
+    fn copy(&self) -> Result<List<T>, NoMemory> {
+        List::from_slice(*self.items.allocator(), self.items.as_slice())
+    }
+}
+
+impl<T: PartialEq> PartialEq for List<T> {
+    ghost use Rattle.std.specs.Cmp.Lexicographic.{pointwise, lists_per};
+
+    ghost eq = { pointwise T.eq };
+
+    ghost laws = { lists_per T.PartialEq.laws };
+
+    fn eq(&self, other: &List<T>) -> bool {
+        self.items.as_slice() == other.items.as_slice()
+    }
+}
+
+impl<T: Eq> Eq for List<T> {
+    ghost use Rattle.std.specs.Cmp.Lexicographic.{lists_equiv};
+
+    ghost laws = { lists_equiv T.Eq.laws };
+}
+
+impl<T: Hash> Hash for List<T> {
+    ghost use Rattle.std.specs.Hash as fed;
+    ghost use Rattle.std.specs.Hash.{items_Alike};
+
+    ghost hash_input = { fed.slice T.hash_input };
+
+    ghost respects_eq = { (items_Alike (record { fed = T.respects_eq })).fed };
+
+    fn hash<H: Hasher>(&self, state: &mut H) {
+        self.items.as_slice().hash(state);
+    }
+}

@@ -1,0 +1,114 @@
+ghost use Rattle.std.specs.Prelude.{◌≡◌, ◌≤◌, ◌<◌, ◌↔◌, IsTrue, IfOk, IsErrOf, false, length, []};
+ghost use Rattle.std.specs.List.{list_all};
+ghost use Rattle.net_core.specs.Names.{IsName, is_word_byte, begins_comment, is_plain};
+
+use crate::list::{Copied, List, NoMemory};
+use std::alloc::Global;
+use std::marker::Model;
+
+/// A name: a word of a file, of 1 to 255 bytes.
+#[derive(Drop, PartialEq, Eq, Hash)]
+pub struct Name {
+    bytes: List<u8>,
+}
+
+impl Model for Name {
+    ghost use Rattle.std.specs.Prelude as p;
+    ghost use Rattle.net_core.specs.Names.{IsName};
+
+    ghost Value = { p.List p.ℕ };
+
+    ghost view = { λ n. n.bytes };
+
+    ghost invariant = { λ n. IsName n.bytes };
+
+    ghost inverse = { λ bytes. record { bytes = bytes } };
+}
+
+/// Why bytes are no name.
+#[derive(Clone, Copy, Debug, PartialEq, Eq)]
+pub enum NameFault {
+    /// There is no byte.
+    Empty,
+    /// There are more than 255 bytes.
+    Long,
+    /// A byte is white space or a parenthesis, or the first is `#`.
+    BadByte,
+    /// No memory was found for the bytes.
+    NoMemory,
+}
+
+fn is_word_byte(b: u8) -> bool
+    ensures { result ≡ is_word_byte b }
+{
+    !(b == 9 || b == 10 || b == 13 || b == 32 || b == b'(' || b == b')')
+}
+
+fn are_word_bytes(bytes: &[u8]) -> bool
+    ensures { result ≡ list_all is_word_byte bytes.now }
+{
+    bytes.iter().all(|b| is_word_byte(*b))
+}
+
+fn begins_comment(bytes: &[u8]) -> bool
+    ensures { result ≡ begins_comment bytes.now }
+{
+    match bytes {
+        [] => false,
+        [first, ..] => *first == b'#',
+    }
+}
+
+fn is_plain(bytes: &[u8]) -> bool
+    ensures { result ≡ is_plain bytes.now }
+{
+    !begins_comment(bytes) && are_word_bytes(bytes)
+}
+
+impl Name {
+    /// The name of these bytes. The faults are tested in the order of `NameFault`.
+    pub fn new(alloc: Global, bytes: &[u8]) -> Result<Name, NameFault>
+        ensures ok { IfOk result (λ n. n ≡ bytes.now) }
+        ensures empty { IsErrOf result NameFault.Empty ↔ (bytes.now ≡ []) }
+        ensures long { IsErrOf result NameFault.Long ↔ (255 < length bytes.now) }
+        ensures bad { IsErrOf result NameFault.BadByte
+            ↔ ((1 ≤ length bytes.now) × (length bytes.now ≤ 255) × (is_plain bytes.now ≡ false)) }
+    {
+        if bytes.is_empty() {
+            return Err(NameFault::Empty);
+        }
+        if bytes.len() > 255 {
+            return Err(NameFault::Long);
+        }
+        if !is_plain(bytes) {
+            return Err(NameFault::BadByte);
+        }
+        let Ok(bytes) = List::from_slice(alloc, bytes) else {
+            return Err(NameFault::NoMemory);
+        };
+        Ok(Name { bytes })
+    }
+
+    /// The bytes of the name.
+    pub fn bytes(&self) -> &[u8]
+        ensures value { result.now ≡ self.now }
+        ensures valid { IsName self.now }
+    {
+        self.bytes.items()
+    }
+
+    /// Whether two names are one.
+    pub fn same(&self, other: &Name) -> bool
+        ensures { IsTrue result ↔ (self.now ≡ other.now) }
+    {
+        self.bytes.items() == other.bytes.items()
+    }
+}
+
+impl Copied for Name {
+    fn copy(&self) -> Result<Name, NoMemory> {
+        Ok(Name {
+            bytes: self.bytes.copy()?,
+        })
+    }
+}
