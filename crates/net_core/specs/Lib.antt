@@ -1,1 +1,5 @@
+pub mod Demands
 pub mod Names
+pub mod Network
+pub mod States
+pub mod Tests

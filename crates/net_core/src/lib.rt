@@ -1,12 +1,21 @@
 //! Networks, demands and failure states that passed their check, and the lists that they are made of.
 #![tactic(auto)]
 
+pub mod demand;
+pub mod ids;
 pub mod list;
 pub mod name;
 pub mod network;
+pub mod plan;
+pub mod states;
 
+pub use demand::{Demand, Demands};
+pub use ids::{LinkId, NodeId, StateId};
 pub use list::{Copied, List, NoMemory};
 pub use name::{Name, NameFault};
+pub use network::{Link, Module, NetFault, Network, Notes};
+pub use plan::{Counts, Flow, Lengths, Path, Routing};
+pub use states::{Listed, States, StatesFault};
 
 /// Bytes, as of a file.
 pub type Bytes = List<u8>;

@@ -1,9 +1,232 @@
-use crate::list::List;
+ghost use Rattle.std.specs.Prelude.{◌≡◌, ◌≢◌, ℕ, ◌≤◌, ◌<◌, ◌^◌, ◌↔◌, ◌==◌, IsTrue, All, AllPairs, IfNone, MatchResult, None, Some, List, [], length, nat_lt, not, ◌||◌, ◌&&◌};
+ghost use Rattle.std.specs.List.{list_any};
+ghost use Rattle.net_core.specs.Tests.{first_fault, is_named, is_large, are_same};
+ghost use Rattle.net_core.specs.Network.{IsLink, IsNetwork, has_large_amount, link_tests, links_tests, nodes_tests, network_fault};
 
+use crate::ids::NodeId;
+use crate::list::{Copied, List, NoMemory};
+use crate::name::Name;
+
+/// A module that a link can be given any number of times, in thousandths of capacity and of cost.
 #[derive(Clone, Copy, Debug, PartialEq, Eq)]
 pub struct Module {
     pub capacity: u64,
     pub cost: u64,
 }
 
-pub type Modules = List<Module>;
+/// A link between two nodes, with its pre-installed capacity, its setup cost and its modules, in thousandths.
+#[derive(Drop)]
+pub struct Link {
+    pub name: Name,
+    pub a: NodeId,
+    pub b: NodeId,
+    pub fixed: u64,
+    pub setup: u64,
+    pub modules: List<Module>,
+}
+
+impl Copied for Link {
+    fn copy(&self) -> Result<Link, NoMemory> {
+        Ok(Link {
+            name: self.name.copy()?,
+            a: self.a,
+            b: self.b,
+            fixed: self.fixed,
+            setup: self.setup,
+            modules: self.modules.copy()?,
+        })
+    }
+}
+
+/// Which costs, beside those of modules, a network's file gives somewhere.
+#[derive(Clone, Copy, Debug, PartialEq, Eq)]
+pub struct Notes {
+    pub fixed_cost: bool,
+    pub routing_cost: bool,
+    pub setup_cost: bool,
+}
+
+/// A network that passed its check.
+#[derive(Drop)]
+pub struct Network {
+    nodes: List<Name>,
+    links: List<Link>,
+    notes: Notes,
+    pub ghost checked: { ∥ IsNetwork nodes links ∥₁ },
+}
+
+/// Why nodes and links are no network; the number is the node's or the link's place.
+#[derive(Clone, Copy, Debug, PartialEq, Eq)]
+pub enum NetFault {
+    /// More than 128 nodes.
+    Nodes,
+    /// More than 256 links.
+    Links,
+    /// An earlier node has the name.
+    DoubleNode(u32),
+    /// An earlier link has the name.
+    DoubleLink(u32),
+    /// An end is no node.
+    UnknownEnd(u32),
+    /// Both ends are one node.
+    SelfLink(u32),
+    /// A capacity or a cost is 2^40 thousandths or more.
+    Amount(u32),
+    /// More than 16 modules.
+    Modules(u32),
+    /// A module of capacity 0.
+    ZeroModule(u32),
+    /// Pre-installed capacity and no module.
+    FixedLink(u32),
+}
+
+fn is_large(amount: u64) -> bool
+    ensures { result ≡ is_large amount }
+{
+    amount >= 1 << 40
+}
+
+fn has_large_amount(l: &Link) -> bool
+    ensures { result ≡ has_large_amount l.now }
+{
+    is_large(l.fixed) || is_large(l.setup) || has_large_module(l.modules.items())
+}
+
+fn has_large_module(modules: &[Module]) -> bool
+    ensures { result ≡ list_any (λ m. is_large m.capacity || is_large m.cost) modules.now }
+{
+    modules
+        .iter()
+        .any(|m| is_large(m.capacity) || is_large(m.cost))
+}
+
+fn has_zero_module(modules: &[Module]) -> bool
+    ensures { result ≡ list_any (λ m. m.capacity == 0) modules.now }
+{
+    modules.iter().any(|m| m.capacity == 0)
+}
+
+/// Whether a node earlier in the list has the name.
+fn is_node_among(name: &Name, earlier: &[Name]) -> bool
+    ensures { result ≡ is_named (λ x. x) name.now earlier.now }
+{
+    earlier.iter().any(|other| *other == *name)
+}
+
+/// Whether a link earlier in the list has the name.
+fn is_link_among(name: &Name, earlier: &[Link]) -> bool
+    ensures { result ≡ is_named (λ e. e.name) name.now earlier.now }
+{
+    earlier.iter().any(|other| other.name == *name)
+}
+
+/// The first fault of a link behind earlier ones.
+fn link_fault(nodes: usize, earlier: &[Link], l: &Link) -> Option<NetFault>
+    requires { length earlier.now < 2 ^ 32 }
+    ensures { result ≡ first_fault (link_tests nodes earlier.now l.now) }
+{
+    let at = earlier.len() as u32;
+    if is_link_among(&l.name, earlier) {
+        return Some(NetFault::DoubleLink(at));
+    }
+    if !((l.a.0 as usize) < nodes && (l.b.0 as usize) < nodes) {
+        return Some(NetFault::UnknownEnd(at));
+    }
+    if l.a.0 == l.b.0 {
+        return Some(NetFault::SelfLink(at));
+    }
+    if has_large_amount(l) {
+        return Some(NetFault::Amount(at));
+    }
+    if l.modules.len() > 16 {
+        return Some(NetFault::Modules(at));
+    }
+    if has_zero_module(l.modules.items()) {
+        return Some(NetFault::ZeroModule(at));
+    }
+    if l.modules.len() == 0 && l.fixed > 0 {
+        return Some(NetFault::FixedLink(at));
+    }
+    None
+}
+
+/// The first fault of the links.
+fn first_link_fault(nodes: usize, links: &[Link]) -> Option<NetFault>
+    requires { length links.now < 2 ^ 32 }
+    ensures { result ≡ first_fault (links_tests nodes [] links.now) }
+{
+    for i in 0..links.len() {
+        let fault = link_fault(nodes, &links[..i], &links[i]);
+        if fault.is_some() {
+            return fault;
+        }
+    }
+    None
+}
+
+/// The first name that an earlier node has.
+fn first_node_fault(nodes: &[Name]) -> Option<NetFault>
+    requires { length nodes.now < 2 ^ 32 }
+    ensures { result ≡ first_fault (nodes_tests [] nodes.now) }
+{
+    for i in 0..nodes.len() {
+        if is_node_among(&nodes[i], &nodes[..i]) {
+            return Some(NetFault::DoubleNode(i as u32));
+        }
+    }
+    None
+}
+
+fn network_fault(nodes: &[Name], links: &[Link]) -> Option<NetFault>
+    ensures { result ≡ network_fault nodes.now links.now }
+{
+    if nodes.len() > 128 {
+        return Some(NetFault::Nodes);
+    }
+    if links.len() > 256 {
+        return Some(NetFault::Links);
+    }
+    let fault = first_node_fault(nodes);
+    if fault.is_some() {
+        return fault;
+    }
+    first_link_fault(nodes.len(), links)
+}
+
+impl Network {
+    /// The network of these parts, which are dropped at a refusal.
+    pub fn check(nodes: List<Name>, links: List<Link>, notes: Notes) -> Result<Network, NetFault>
+        ensures faults { MatchResult result (λ _. network_fault nodes links ≡ None) (λ f. network_fault nodes links ≡ Some f) }
+        ensures parts { MatchResult result (λ net. (net.nodes ≡ nodes) × (net.links ≡ links) × (net.notes ≡ notes)) (λ _. Unit {0}) }
+    {
+        match network_fault(nodes.items(), links.items()) {
+            Some(fault) => Err(fault),
+            None => Ok(Network {
+                nodes,
+                links,
+                notes,
+            }),
+        }
+    }
+
+    /// The names of the nodes.
+    pub fn nodes(&self) -> &List<Name>
+        ensures { result.now ≡ self.now.nodes }
+    {
+        &self.nodes
+    }
+
+    /// The links.
+    pub fn links(&self) -> &List<Link>
+        ensures { result.now ≡ self.now.links }
+    {
+        &self.links
+    }
+
+    /// Which further costs the file gives.
+    pub fn notes(&self) -> Notes
+        ensures { result ≡ self.now.notes }
+    {
+        self.notes
+    }
+}

@@ -1,0 +1,17 @@
+-- demands that belong to a network
+use Rattle.std.specs.Prelude.{◌≢◌, ℕ, ◌≤◌, ◌<◌, ◌^◌, List, length, All, AllPairs, sum_by}
+use Rattle.net_core.specs.declared.demand.Demand.{Demand}
+
+-- a demand joins two different ones of n nodes, and its need is below 2^40 thousandths
+pub record IsDemand (n : ℕ) (d : Demand) : Type 0 where
+  pub from_known : d.from.0 < n
+  pub to_known : d.to.0 < n
+  pub different : d.from.0 ≢ d.to.0
+  pub need : d.need < 2 ^ 40
+
+-- at most 2,048 demands, no name twice, and a total need below 2^44 thousandths
+pub record AreDemands (n : ℕ) (demands : List Demand) : Type 0 where
+  pub few : length demands ≤ 2048
+  pub different : AllPairs (λ x y. x.name ≢ y.name) demands
+  pub each : All (IsDemand n) demands
+  pub total : sum_by (λ d. d.need) demands < 2 ^ 44

@@ -1,0 +1,69 @@
+-- what a network meets, and the faults that keep a list of nodes and links from being one
+use Rattle.std.specs.Prelude.{◌≡◌, ◌≢◌, ℕ, ◌≤◌, ◌<◌, ◌^◌, ◌||◌, ◌&&◌, ◌==◌, ◌++◌, List, [], ◌∷◌, Bool, not, nat_lt, length, All, AllPairs, Option}
+use Rattle.std.specs.List.{list_any}
+use Rattle.net_core.specs.declared.network.Module.{Module}
+use Rattle.net_core.specs.declared.network.Link.{Link}
+use Rattle.net_core.specs.declared.network.NetFault.{NetFault}
+use Rattle.net_core.specs.declared.network.NetFault.TheVariants.{Nodes, Links, DoubleNode, DoubleLink, UnknownEnd, SelfLink, Amount, Modules, ZeroModule, FixedLink}
+use Rattle.net_core.specs.Tests.{first_fault, is_named, is_large}
+
+-- a module carries something, and its numbers are below 2^40 thousandths
+pub record IsModule (m : Module) : Type 0 where
+  pub carries : 0 < m.capacity
+  pub capacity : m.capacity < 2 ^ 40
+  pub cost : m.cost < 2 ^ 40
+
+-- a link joins two different ones of n nodes, within the limits
+pub record IsLink (n : ℕ) (l : Link) : Type 0 where
+  pub from : l.a.0 < n
+  pub to : l.b.0 < n
+  pub different : l.a.0 ≢ l.b.0
+  pub fixed : l.fixed < 2 ^ 40
+  pub setup : l.setup < 2 ^ 40
+  pub few : length l.modules ≤ 16
+  pub each : All IsModule l.modules
+  pub served : l.modules ≡ [] → l.fixed ≡ 0
+
+-- at most 128 nodes and 256 links, no name twice, each link sound
+pub record IsNetwork (nodes : List (List ℕ)) (links : List Link) : Type 0 where
+  pub few_nodes : length nodes ≤ 128
+  pub few_links : length links ≤ 256
+  pub different_nodes : AllPairs (λ x y. x ≢ y) nodes
+  pub different_links : AllPairs (λ x y. x.name ≢ y.name) links
+  pub sound : All (IsLink (length nodes)) links
+
+-- a test, and the fault that it finds
+abbrev pub Test : Type 0
+Test = Bool × NetFault
+
+-- a number of the link is too large
+abbrev pub has_large_amount : Link → Bool
+has_large_amount l = is_large l.fixed || is_large l.setup || list_any (λ m. is_large m.capacity || is_large m.cost) l.modules
+
+-- the tests of a link behind earlier ones, in a network of n nodes
+abbrev pub link_tests : ℕ → List Link → Link → List Test
+link_tests n earlier l =
+    (is_named (λ e. e.name) l.name earlier, DoubleLink (length earlier))
+    ∷ (not (nat_lt l.a.0 n && nat_lt l.b.0 n), UnknownEnd (length earlier))
+    ∷ (l.a.0 == l.b.0, SelfLink (length earlier))
+    ∷ (has_large_amount l, Amount (length earlier))
+    ∷ (nat_lt 16 (length l.modules), Modules (length earlier))
+    ∷ (list_any (λ m. m.capacity == 0) l.modules, ZeroModule (length earlier))
+    ∷ ((length l.modules == 0) && nat_lt 0 l.fixed, FixedLink (length earlier))
+    ∷ []
+
+-- the tests of each link behind earlier ones
+abbrev pub links_tests : ℕ → List Link → List Link → List Test
+links_tests n earlier [] = []
+links_tests n earlier (l ∷ ls) = link_tests n earlier l ++ links_tests n (earlier ++ l ∷ []) ls
+
+-- the tests of each node's name behind earlier ones
+abbrev pub nodes_tests : List (List ℕ) → List (List ℕ) → List Test
+nodes_tests earlier [] = []
+nodes_tests earlier (name ∷ names) =
+    (is_named (λ x. x) name earlier, DoubleNode (length earlier)) ∷ nodes_tests (earlier ++ name ∷ []) names
+
+-- the first fault: of the two counts, then of the nodes' names, then link by link
+abbrev pub network_fault : List (List ℕ) → List Link → Option NetFault
+network_fault nodes links =
+    first_fault ((nat_lt 128 (length nodes), Nodes) ∷ (nat_lt 256 (length links), Links) ∷ (nodes_tests [] nodes ++ links_tests (length nodes) [] links))

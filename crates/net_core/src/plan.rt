@@ -1,0 +1,45 @@
+use crate::ids::LinkId;
+use crate::list::{Copied, List, NoMemory};
+
+/// The links of a path, from its first node to its last.
+pub type Path = List<LinkId>;
+
+/// Part of a demand along one path: `num` over the routing's denominator, in thousandths.
+#[derive(Drop)]
+pub struct Flow {
+    pub demand: u32,
+    pub path: Path,
+    pub num: u128,
+}
+
+/// Flows over one denominator.
+#[derive(Drop)]
+pub struct Routing {
+    pub den: u64,
+    pub flows: List<Flow>,
+}
+
+/// One count for each module of each link.
+pub type Counts = List<List<u64>>;
+
+/// One length for each link.
+pub type Lengths = List<u32>;
+
+impl Copied for Flow {
+    fn copy(&self) -> Result<Flow, NoMemory> {
+        Ok(Flow {
+            demand: self.demand,
+            path: self.path.copy()?,
+            num: self.num,
+        })
+    }
+}
+
+impl Copied for Routing {
+    fn copy(&self) -> Result<Routing, NoMemory> {
+        Ok(Routing {
+            den: self.den,
+            flows: self.flows.copy()?,
+        })
+    }
+}
