@@ -1,0 +1,4 @@
+pub mod Capacities
+pub mod Flows
+pub mod Paths
+pub mod Separations
