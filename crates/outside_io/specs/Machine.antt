@@ -1,0 +1,1 @@
+-- shelves and sinks of the machine
