@@ -1,13 +1,13 @@
 ghost use Rattle.std.specs.Prelude.{◌≡◌, ◌≤◌, None, OnErr, OnOk};
 ghost use Rattle.outside_io.specs.Outside.{Rose, raised};
-ghost use Rattle.outside_io.specs.Machine.{Writes, WritesOnce};
+ghost use Rattle.outside_io.specs.Machine.{Writes, WritesOnce, sink_faults, stream_of};
 
 use crate::sink::{Failed, Sink};
 use std::io::{ErrorKind, Write};
 
 /// A stream of the machine.
 #[derive(Drop)]
-pub struct StreamSink<W: Write> {
+pub struct StreamSink<W> {
     out: W,
     faults: u64,
 }
@@ -15,8 +15,8 @@ pub struct StreamSink<W: Write> {
 impl<W: Write> StreamSink<W> {
     /// A sink that writes to the stream.
     pub fn new(out: W) -> StreamSink<W>
-        ensures out { result.out ≡ out }
-        ensures faults { result.faults ≡ 0 }
+        ensures stream { stream_of result ≡ out }
+        ensures faults { sink_faults result ≡ 0 }
     {
         StreamSink { out, faults: 0 }
     }
@@ -51,17 +51,17 @@ fn write_whole<W: Write>(out: &mut W, piece: &[u8]) -> Result<(), Failed>
 impl<W: Write> Sink for StreamSink<W> {
     ghost taken = { λ _. None };
 
-    ghost faults = { λ s. s.faults };
+    ghost faults = { sink_faults };
 
     fn faults(&self) -> u64 {
         self.faults
     }
 
     fn put(&mut self, piece: &[u8]) -> Result<(), Failed>
-        ensures written { Writes (W.contents self.old.out) (W.contents self.new.out) result piece.now }
-        ensures later { self.old.faults ≤ self.new.faults }
-        ensures failed { OnErr result (Rose self.old.faults self.new.faults) }
-        ensures not_failed { OnOk result (self.new.faults ≡ self.old.faults) }
+        ensures written { Writes (W.contents (stream_of self.old)) (W.contents (stream_of self.new)) result piece.now }
+        ensures later { sink_faults self.old ≤ sink_faults self.new }
+        ensures failed { OnErr result (Rose (sink_faults self.old) (sink_faults self.new)) }
+        ensures not_failed { OnOk result (sink_faults self.new ≡ sink_faults self.old) }
     {
         let answer = write_whole(&mut self.out, piece);
         if answer.is_err() {
