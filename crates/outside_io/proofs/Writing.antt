@@ -12,6 +12,7 @@ pub Appends-once : (a b c : Option (List ℕ)) (piece : List ℕ) (done n : ℕ)
 Appends-once a b c piece done n within first few next =
     let rest : take (length piece - done) (drop done piece) ≡ drop done piece = take_rest piece done in
     let few' : n ≤ length (drop done piece) = subst (λ (l : List ℕ). n ≤ length l) rest few in
-    let next' : Appends b c (take n (drop done piece)) = subst (λ (l : List ℕ). Appends b c (take n l)) rest next in
-    (omega (arith, length-drop done piece),
-     subst (Appends a c) (sym (take-add done n piece)) (Appends-trans a b c _ _ first next'))
+    let next' : Appends b c (take n (drop done piece)) = subst (λ (l : List ℕ). Appends b c (take n l)) rest next in (
+      omega (arith, length-drop done piece),
+      subst (Appends a c) (sym (take-add done n piece)) (Appends-trans a b c _ _ first next'),
+    )

@@ -62,4 +62,4 @@ abbrev pub PutsHeld : {E : Type 0} → HeldOutput → HeldOutput → Result (Uni
 PutsHeld old new answer piece = MatchResult answer
     (λ _. Fits old piece × (IsNumbered old → ⊥) × (new ≡ after_taking piece old))
     (λ _. ((Fits old piece → ⊥) × (new ≡ after_failing [] old))
-        ⊎ (Fits old piece × IsNumbered old × (new ≡ after_failing (take (length piece / 2) piece) old)))
+    ⊎ (Fits old piece × IsNumbered old × (new ≡ after_failing (take (length piece / 2) piece) old)))
