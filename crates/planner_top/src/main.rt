@@ -2,5 +2,6 @@
 #![tactic(auto)]
 
 mod choice;
+mod loads;
 
 fn main() {}
