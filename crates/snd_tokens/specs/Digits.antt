@@ -15,3 +15,7 @@ are_digits (b ∷ bytes) = list_all is_digit (b ∷ bytes)
 abbrev pub number_of : List ℕ → ℕ
 number_of [] = 0
 number_of (b ∷ bytes) = (b - 48) * 10 ^ length bytes + number_of bytes
+
+-- the number that the digits of n and these behind them write
+abbrev pub number_behind : ℕ → List ℕ → ℕ
+number_behind n bytes = n * 10 ^ length bytes + number_of bytes
