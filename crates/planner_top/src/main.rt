@@ -3,5 +3,6 @@
 
 mod choice;
 mod loads;
+mod text;
 
 fn main() {}
