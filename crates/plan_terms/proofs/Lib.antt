@@ -1,1 +1,4 @@
+pub mod Distances
+pub mod Joining
+pub mod Shortcuts
 pub mod Walks
