@@ -1,5 +1,5 @@
 -- counts of modules: the capacity that they install, what they cost, and whether they can do
-use Rattle.std.specs.Prelude.{◌≡◌, ℕ, ◌+◌, ◌*◌, ◌≤◌, ◌⊎◌, List, [], ◌∷◌, AllPairs, length, map, sum_by, zip}
+use Rattle.std.specs.Prelude.{◌≡◌, ℕ, ◌+◌, ◌*◌, ◌≤◌, List, [], ◌∷◌, count_by, nat_lt, length, map, sum_by, zip}
 use Rattle.net_core.specs.declared.demand.Demand.{Demand}
 use Rattle.net_core.specs.declared.network.Module.{Module}
 use Rattle.net_core.specs.declared.network.Link.{Link}
@@ -43,7 +43,7 @@ pub record IsAble (links : List Link) (listed : List Listed) (demands : List Dem
 
 -- at most one kind of module has a count above 0
 abbrev pub AreOfOneKind : List ℕ → Type 0
-AreOfOneKind counts = AllPairs (λ a b. (a ≡ 0) ⊎ (b ≡ 0)) counts
+AreOfOneKind counts = count_by (λ n. nat_lt 0 n) counts ≤ 1
 
 -- counts of one kind of a link's modules that reach a need
 pub record Reaches (modules : List Module) (need : ℕ) (counts : List ℕ) : Type 0 where

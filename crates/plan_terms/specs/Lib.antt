@@ -1,4 +1,5 @@
 pub mod Capacities
+pub mod Certificates
 pub mod Flows
 pub mod Paths
 pub mod Separations
