@@ -3,6 +3,7 @@ use Rattle.std.proofs.Common.{◌≡◌, ◌≢◌, ℕ, ◌≤◌, List, [], �
 use Rattle.std.proofs.lemmas.Bool.{cases_eq}
 use Rattle.std.specs.List.{AllByRecursion}
 use Rattle.net_core.specs.declared.ids.LinkId.{LinkId}
+use Rattle.plan_terms.proofs.Distinct.{Has}
 use Rattle.plan_terms.specs.Paths.{Leads, last_node, length_of, AreDifferent, IsPath}
 
 -- a path from a to b, not longer than d
@@ -10,10 +11,6 @@ pub record Way (joins : ℕ → ℕ → ℕ → Type 0) (lengths : List ℕ) (a 
   pub along : List LinkId
   pub path : IsPath joins a b along
   pub short : length_of lengths along ≤ d
-
-abbrev Has : ℕ → List ℕ → Type 0
-Has a [] = ⊥
-Has a (x ∷ xs) = (a ≡ x) ⊎ Has a xs
 
 has_or_new : (a : ℕ) (xs : List ℕ) → Has a xs ⊎ AllByRecursion (λ y. a ≢ y) xs
 has_or_new a [] = inr tt
