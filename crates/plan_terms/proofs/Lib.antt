@@ -1,1 +1,5 @@
+pub mod Distances
 pub mod Distinct
+pub mod Joining
+pub mod Shortcuts
+pub mod Walks

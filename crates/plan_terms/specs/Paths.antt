@@ -58,3 +58,11 @@ IsDistance joins lengths a b None = AreApart joins a b
 IsDistance joins lengths a b (Some d) =
     ((es : List LinkId) × IsPath joins a b es × (length_of lengths es ≡ d))
     × ((es : List LinkId) → IsPath joins a b es → d ≤ length_of lengths es)
+
+-- a walk of length d from a to b: links that lead there, along nodes that may stand twice
+pub record Walk (joins : ℕ → ℕ → ℕ → Type 0) (lengths : List ℕ) (a b d : ℕ) : Type 0 where
+  pub along : List LinkId
+  pub nodes : List ℕ
+  pub leads : Leads joins a along nodes
+  pub ends : last_node a nodes ≡ b
+  pub long : length_of lengths along ≡ d
