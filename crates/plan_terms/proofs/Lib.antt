@@ -1,1 +1,4 @@
 pub mod Distinct
+pub mod Duality
+pub mod Metric
+pub mod Sums
