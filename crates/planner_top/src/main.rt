@@ -1,0 +1,6 @@
+//! Plans link capacities for a network.
+#![tactic(auto)]
+
+mod choice;
+
+fn main() {}
