@@ -11,7 +11,7 @@ use Rattle.net_core.specs.declared.network.Module.{Module}
 use Rattle.net_core.specs.declared.network.Link.{Link}
 use Rattle.net_core.specs.declared.states.Listed.{Listed}
 use Rattle.plan_terms.specs.Capacities.{modules_capacity, modules_cost, capacities, total_cost, AreCounts, IsAble}
-use Rattle.plan_terms.specs.Certificates.{Line, IsLine, price, asked, given, IsCertificate, module_costs, WeakDuality}
+use Rattle.plan_terms.specs.Certificates.{Line, IsLine, price, asked, given, raw_value, module_costs, IsBound, WeakDuality}
 use Rattle.plan_terms.proofs.Metric.{metric_inequality}
 use Rattle.plan_terms.proofs.Sums.{sum_below, below-same, below-first, below-times, below-swapped, sums-le, sums-equal, sums-times}
 
@@ -65,18 +65,18 @@ module _ (links : List Link) (listed : List Listed) (demands : List Demand) (cou
       mul-le-mul_left line.num (omega (arith, metric_inequality links listed line.state demands 1 (capacities links counts) line.lengths line.right here.routing here.carries is.right))
 
   -- what the cuts ask for is given by the pre-installed capacities, or paid for
-  pub asked_met : (den : ℕ) (lines : List Line) → IsCertificate links listed demands den lines → asked lines ≤ given lines 0 links + den * total_cost links counts
-  asked_met den lines c =
-      let each = recursion_from_All (IsLine links listed demands) lines c.each in
-      omega (
-        arith,
-        sums-le _ _ (IsLine links listed demands) lines each line_met,
-        summed (length links) (capacities links counts) lines,
-        capacities_priced den lines 0 (price lines) links counts able.shape (λ k. ap (price lines) (omega arith)) c.priced,
-      )
+  pub asked_met : (den : ℕ) (lines : List Line) → All (IsLine links listed demands) lines
+      → ((e : ℕ) (l : Link) → slice_get links e ≡ Some l → All (λ m. price lines e * m.capacity ≤ den * m.cost) l.modules)
+      → asked lines ≤ given lines 0 links + den * total_cost links counts
+  asked_met den lines each priced = omega (
+    arith,
+    sums-le _ _ (IsLine links listed demands) lines (recursion_from_All (IsLine links listed demands) lines each) line_met,
+    summed (length links) (capacities links counts) lines,
+    capacities_priced den lines 0 (price lines) links counts able.shape (λ k. ap (price lines) (omega arith)) priced,
+  )
 
 -- a number that divides all numbers of a list divides those of its parts
-divides_parts : (g : ℕ) (xs ys : List ℕ) → AllByRecursion (λ x. g ∣ x) (xs ++ ys) → AllByRecursion (λ x. g ∣ x) xs × AllByRecursion (λ x. g ∣ x) ys
+pub divides_parts : (g : ℕ) (xs ys : List ℕ) → AllByRecursion (λ x. g ∣ x) (xs ++ ys) → AllByRecursion (λ x. g ∣ x) xs × AllByRecursion (λ x. g ∣ x) ys
 divides_parts g [] ys all = (tt, all)
 divides_parts g (x ∷ xs) ys all = let r = divides_parts g xs ys all.1 in ((all.0, r.0), r.1)
 
@@ -94,8 +94,14 @@ cost_divided g (l ∷ ls) (c ∷ cs) all =
     let parts = divides_parts g (map (λ m. m.cost) l.modules) (module_costs ls) all in
     subst (λ s. g ∣ s) (sym (sum_by-cons (λ (p : Link × List ℕ). modules_cost p.0.modules p.1) (l, c) (zip ls cs))) (dvd-add g (modules_divided g l.modules c parts.0) (cost_divided g ls cs parts.1))
 
-pub weak_duality : WeakDuality
-weak_duality links listed demands den lines bound counts c b able =
+-- no counts cost less than the bound of what they pay for
+pub bound_met : (links : List Link) (num den bound : ℕ) (counts : List (List ℕ)) → IsBound links num den bound → num ≤ den * total_cost links counts → bound ≤ total_cost links counts
+bound_met links num den bound counts b paid =
     b.least (total_cost links counts)
     (cost_divided b.divisor links counts (recursion_from_All (λ x. b.divisor ∣ x) (module_costs links) b.is_divisor.divides))
-    (omega (arith, asked_met links listed demands counts able den lines c))
+    (omega (arith, paid))
+
+pub weak_duality : WeakDuality
+weak_duality links listed demands den lines bound counts c b able =
+    let met = asked_met links listed demands counts able den lines c.each c.priced in
+    bound_met links (raw_value links lines) den bound counts b (omega arith)
