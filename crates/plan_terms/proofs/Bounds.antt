@@ -1,8 +1,9 @@
 -- bounds: rounded up to a multiple of the greatest common divisor of the modules' costs
-use Rattle.std.proofs.Common.{◌≡◌, ℕ, zero, suc, ◌*◌, ◌/◌, ◌≤◌, ◌<◌, List, [], ◌∷◌, ◌++◌, refl, ap, arith}
+use Rattle.std.proofs.Common.{◌≡◌, ℕ, zero, suc, ◌*◌, ◌/◌, ◌≤◌, ◌<◌, List, [], ◌∷◌, ◌++◌, refl, sym, ap, subst, ◌∙◌, ◌≢◌, ⊎_elim, arith}
 use Rattle.std.proofs.Math.Nat.{mul-le-mul_left, le_of_mul-le-mul_left, dvd-mul_right, mul-div_cancel'}
 use Rattle.std.proofs.lemmas.List.Elements.{All-append, All-from_recursion, recursion_from_All}
-use Rattle.std.proofs.lemmas.Nat.Gcd.{dvd_refl, dvd-zero, dvd_trans}
+use Rattle.std.proofs.lemmas.Nat.Gcd.{dvd_refl, dvd-zero, dvd_trans, dvd_antisymm}
+use Rattle.std.proofs.lemmas.Bool.{cases_eq}
 use Rattle.std.specs.Int.{◌∣◌, IsGcd}
 use Rattle.net_core.specs.declared.network.Link.{Link}
 use Rattle.plan_terms.specs.Certificates.{IsLowest, module_costs, IsGreatestDivisor, IsBound}
@@ -89,3 +90,28 @@ divisor_one x = record {
   divides = All-from_recursion (λ y. x ∣ y) (x ∷ []) (dvd_refl x, tt);
   greatest = λ d all. (recursion_from_All (λ y. d ∣ y) (x ∷ []) all).0;
 }
+
+-- one list of numbers has one greatest common divisor
+pub divisor_unique : (xs : List ℕ) (g h : ℕ) → IsGreatestDivisor xs g → IsGreatestDivisor xs h → g ≡ h
+divisor_unique xs g h first second = dvd_antisymm (second.greatest g first.divides) (first.greatest h second.divides)
+
+-- a bound of a fraction is no more than one of the same fraction
+bound_least : (links : List Link) (a b c d x y : ℕ) → 0 < d → a * d ≡ c * b → IsBound links a b x → IsBound links c d y → x ≤ y
+bound_least links a b c d x y some same first second =
+    let one = divisor_unique (module_costs links) first.divisor second.divisor first.is_divisor second.is_divisor in
+    let multiple : first.divisor ∣ y = subst (λ g. g ∣ y) (sym one) second.multiple in
+    ⊎_elim
+    (λ (zero : first.divisor ≡ 0). omega (arith, first.zero zero))
+    (λ (positive : first.divisor ≢ 0).
+    let reached : c ≤ y * d = second.reaches (λ e. positive (one ∙ e)) in
+    let times : b * c ≤ b * (y * d) = mul-le-mul_left b reached in
+    let all : d * a ≤ d * (y * b) = omega (arith, times, same) in
+    first.least y multiple (le_of_mul-le-mul_left all some))
+    (cases_eq first.divisor 0)
+
+-- a fraction has one bound
+pub bound_unique : (links : List Link) (a b c d x y : ℕ) → 0 < b → 0 < d → a * d ≡ c * b → IsBound links a b x → IsBound links c d y → x ≡ y
+bound_unique links a b c d x y some_b some_d same first second =
+    let less = bound_least links a b c d x y some_d same first second in
+    let more = bound_least links c d a b y x some_b (sym same) second first in
+    omega (arith, less, more)

@@ -1,5 +1,5 @@
 -- the metric inequality: what is carried over its distance is no more than the capacities along the lengths
-use Rattle.std.proofs.Common.{◌≡◌, ℕ, zero, suc, ◌+◌, ◌*◌, ◌≤◌, ◌<◌, List, [], ◌∷◌, length, true, false, cond, eqb, ◌||◌, Some, None, Option, unwrap_or, ⊎_elim, sym, ap, subst, ◌∙◌, arith, sum_by, zip, slice_get, slice_index, slice_index_or}
+use Rattle.std.proofs.Common.{◌≡◌, ℕ, zero, suc, ◌+◌, ◌*◌, ◌≤◌, ◌<◌, List, [], ◌∷◌, length, true, false, cond, eqb, ◌||◌, Some, None, Option, unwrap_or, ⊎_elim, refl, sym, ap, subst, ◌∙◌, arith, sum_by, zip, slice_get, slice_index, slice_index_or}
 use Rattle.std.proofs.lemmas.List.Sums.{sum_by-cons}
 use Rattle.std.proofs.lemmas.List.Elements.{recursion_from_All}
 use Rattle.std.proofs.lemmas.Bool.{cases_eq, eq-eqb, ne_eqb}
@@ -113,3 +113,11 @@ module _ (links : List Link) (listed : List Listed) (s : ℕ) (demands : List De
       let all : routing.den * (right * scale) ≤ routing.den * sum_below n (λ e. slice_index lengths e * slice_index nums e) =
       omega (arith, right_carried scale nums lengths right routing c r, all_carried far (length demands) routing.flows known, longer, all_loaded n lengths routing.flows, within, below-times n routing.den (λ e. slice_index lengths e * slice_index nums e)) in
       le_of_mul-le-mul_left all c.den
+
+  -- the same with one number per link
+  pub metric_inequality_listed : (scale : ℕ) (nums lengths : List ℕ) (right : ℕ) (routing : Routing) → length lengths ≡ length links → length nums ≡ length links → Carries (Joins links listed s) demands scale nums routing → IsRight (Joins links listed s) lengths demands right
+      → right * scale ≤ sum_by (λ p. p.0 * p.1) (zip lengths nums)
+  metric_inequality_listed scale nums lengths right routing count nums_count c r =
+      let pairs : sum_by (λ p. p.0 * p.1) (zip lengths nums) ≡ sum_below (length lengths) (λ e. slice_index lengths e * slice_index nums e) =
+      paired (λ (p : ℕ × ℕ). p.0 * p.1) lengths nums (λ e. slice_index lengths e * slice_index nums e) (nums_count ∙ sym count) (λ k x y at of. rw (some_at lengths k x 0 at, some_at nums k y 0 of) refl) in
+      omega (arith, pairs, ap (λ n. sum_below n (λ e. slice_index lengths e * slice_index nums e)) count, metric_inequality scale nums lengths right routing c r)

@@ -9,8 +9,9 @@ use Rattle.net_core.specs.declared.network.Link.{Link}
 use Rattle.net_core.specs.declared.states.Listed.{Listed}
 use Rattle.net_core.specs.Network.{IsModule, IsLink, IsNetwork}
 use Rattle.plan_terms.specs.Capacities.{total_cost}
-use Rattle.plan_terms.specs.Certificates.{Line, IsLine, price, asked, given, raw_value, IsCertificate}
-use Rattle.plan_terms.specs.OwnBounds.{IsValid, IsLeastRatio, alone, OwnBoundHolds}
+use Rattle.plan_terms.specs.Certificates.{Line, IsLine, price, asked, given, raw_value, IsCertificate, IsBound}
+use Rattle.plan_terms.specs.OwnBounds.{IsValid, IsLeastRatio, alone, OwnBoundHolds, IsOwnBound}
+use Rattle.plan_terms.proofs.Bounds.{bound_unique}
 use Rattle.plan_terms.proofs.Duality.{asked_met, bound_met}
 use Rattle.plan_terms.proofs.Multipliers.{factor_positive, ratio_valid}
 
@@ -64,6 +65,18 @@ own_bound_holds links listed demands line bound counts is own able =
     let priced = priced_alone links line.state line.lengths line.right own.num own.den own.multiplier.valid in
     let met : asked lines ≤ given lines 0 links + own.den * total_cost links counts = asked_met links listed demands counts able own.den lines (line_alone links listed demands line own.num is) priced in
     bound_met links (raw_value links lines) own.den bound counts own.rounded (omega (arith, met))
+
+-- a cut has one own bound
+pub own_bound_unique : (links : List Link) (state : ℕ) (lengths : List ℕ) (right x y : ℕ) → length lengths ≡ length links → IsOwnBound links state lengths right x → IsOwnBound links state lengths right y → x ≡ y
+own_bound_unique links state lengths right x y count first second =
+    let less = second.multiplier.greatest first.num first.den first.multiplier.valid in
+    let more = first.multiplier.greatest second.num second.den second.multiplier.valid in
+    let same : first.num * second.den ≡ second.num * first.den = omega (arith, less, more) in
+    let rest = right - fixed_along lengths links in
+    let all : first.num * rest * second.den ≡ second.num * rest * first.den = omega (arith, ap (λ i. i * rest) same) in
+    bound_unique links (first.num * rest) first.den (second.num * rest) second.den x y first.multiplier.valid.positive second.multiplier.valid.positive all
+    (subst (λ i. IsBound links i first.den x) (raw_alone state lengths right first.num links count) first.rounded)
+    (subst (λ i. IsBound links i second.den y) (raw_alone state lengths right second.num links count) second.rounded)
 
 -- an element of a list that meets what all meet
 all_at : {X : Type 0} (P : X → Type 0) (xs : List X) (k : ℕ) (x : X) → AllByRecursion P xs → slice_get xs k ≡ Some x → P x
