@@ -3,3 +3,10 @@ pub mod Distinct
 pub mod Joining
 pub mod Shortcuts
 pub mod Walks
+pub mod Bounds
+pub mod Distinct
+pub mod Duality
+pub mod Metric
+pub mod Multipliers
+pub mod OwnBounds
+pub mod Sums
