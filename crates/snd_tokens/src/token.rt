@@ -100,7 +100,8 @@ fn token_between(kind: TokenKind, at: usize, end: usize) -> Token
 /// The first token at a place or after it.
 pub fn next_token(bytes: &[u8], from: u64) -> Option<Token>
     requires { from ≤ length bytes.now }
-    ensures first { MatchOption result (tokens_from from bytes.now ≡ []) (λ t. tokens_from from bytes.now ≡ t ∷ tokens_from (t.at + t.len) bytes.now) }
+    ensures first { MatchOption result (tokens_from from bytes.now ≡ [])
+        (λ t. tokens_from from bytes.now ≡ t ∷ tokens_from (t.at + t.len) bytes.now) }
     ensures token { IfSome result (λ t. IsTokenOf from bytes.now t) }
 {
     let at = token_start(bytes, from as usize);
