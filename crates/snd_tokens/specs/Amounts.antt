@@ -19,7 +19,8 @@ places_of word = after_first is_point word
 
 -- one or more digits, or one or more digits, a point, and one or more digits
 abbrev pub is_decimal : List ℕ → Bool
-is_decimal word = are_digits (whole_part word) && (not (list_any is_point word) || are_digits (places_of word))
+is_decimal word =
+    are_digits (whole_part word) && (not (list_any is_point word) || are_digits (places_of word))
 
 -- the digits before a word's point and those after it
 pub record AreParts (word whole places : List ℕ) : Type 0 where
@@ -40,7 +41,7 @@ units n word = 10 ^ n * number_of (whole_part word) + number_of (first_places n 
 abbrev pub is_coarse : ℕ → List ℕ → Bool
 is_coarse n word = list_all (λ b. b == 48) (drop n (places_of word))
 
--- a word's value in units of which 10 ^ n make one and which are to be fewer than the limit, or its fault
+-- a word's value in units of which 10 ^ n make one, if it is below a limit, or its fault
 abbrev pub decimal_below : ℕ → ℕ → List ℕ → Result ℕ NumberFault
 decimal_below n limit word =
     cond (not (is_decimal word)) (Err NotANumber)

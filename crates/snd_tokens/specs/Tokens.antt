@@ -72,7 +72,7 @@ IsSpelled Word bytes = IsTrue (is_plain bytes)
 IsSpelled Open bytes = bytes ≡ 40 ∷ []
 IsSpelled Close bytes = bytes ≡ 41 ∷ []
 
--- a token of a text that begins at a place or after it: it lies in the text and has its kind's bytes
+-- a token that begins at a place or after it: it lies in the text and has the bytes of its kind
 pub record IsTokenOf (from : ℕ) (bytes : List ℕ) (t : Token) : Type 0 where
   pub after : from ≤ t.at
   pub some : 1 ≤ t.len
