@@ -192,16 +192,14 @@ impl Sink for MemSink {
         ensures later { self.old.faults ≤ self.new.faults }
         ensures failed { OnErr result (Rose self.old.faults self.new.faults) }
     {
-        let call = self.calls;
-        self.calls = call.saturating_add(1);
-        let left = self.room - self.taken.len() as u64;
-        if piece.len() as u64 > left {
+        let fails = is_failing(self.failing.items(), self.calls);
+        self.calls = self.calls.saturating_add(1);
+        if piece.len() as u64 > self.room - self.taken.len() as u64 {
             self.faults = self.faults.saturating_add(1);
             return Err(Failed);
         }
-        if is_failing(self.failing.items(), call) {
-            let half = &piece[..piece.len() / 2];
-            append_within(&mut self.taken, half);
+        if fails {
+            append_within(&mut self.taken, &piece[..piece.len() / 2]);
             self.faults = self.faults.saturating_add(1);
             return Err(Failed);
         }

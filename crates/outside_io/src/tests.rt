@@ -229,7 +229,7 @@ fn a_sink_over_a_stream(rt: HostRuntime) -> Result<(), Fail> {
 }
 
 #[test]
-fn an_open_gate(rt: HostRuntime) {
+fn the_open_gate(rt: HostRuntime) {
     let _ = &rt;
     pass_gate(&OpenGate);
 }
