@@ -16,7 +16,7 @@ DistinctLinks [] = Unit {0}
 DistinctLinks (x ∷ xs) = (names_link x.0 xs ≡ false) × DistinctLinks xs
 
 -- a stands in the list
-abbrev Has : ℕ → List ℕ → Type 0
+abbrev pub Has : ℕ → List ℕ → Type 0
 Has a [] = ⊥
 Has a (x ∷ xs) = (a ≡ x) ⊎ Has a xs
 
