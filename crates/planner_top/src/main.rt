@@ -6,5 +6,6 @@ mod loads;
 mod output;
 mod status;
 mod text;
+mod tree;
 
 fn main() {}
