@@ -2,6 +2,7 @@ pub mod Choices
 pub mod Following
 pub mod Numbers
 pub mod Pairs
+pub mod Planning
 pub mod Routing
 pub mod Searching
 pub mod Taking

@@ -23,7 +23,7 @@ get_last [] y = refl
 get_last (a ∷ xs) y = get_last xs y
 
 -- what stands in the longer list stood there, or is the last
-get_cases : {X : Type 0} → (xs : List X) (y x : X) (p : ℕ) → slice_get (xs ++ y ∷ []) p ≡ Some x → (slice_get xs p ≡ Some x) ⊎ ((p ≡ length xs) × (x ≡ y))
+pub get_cases : {X : Type 0} → (xs : List X) (y x : X) (p : ℕ) → slice_get (xs ++ y ∷ []) p ≡ Some x → (slice_get xs p ≡ Some x) ⊎ ((p ≡ length xs) × (x ≡ y))
 get_cases [] y x zero h = inr (refl, cc h)
 get_cases [] y x (suc p) h = absurd (cc)
 get_cases (a ∷ xs) y x zero h = inl h

@@ -1,4 +1,5 @@
 pub mod Choice
+pub mod Plans
 pub mod Routes
 pub mod Texts
 pub mod Trees

@@ -4,6 +4,7 @@
 mod choice;
 mod loads;
 mod output;
+mod plan;
 mod routes;
 mod status;
 mod text;
