@@ -1,1 +1,7 @@
+pub mod Divisors
 pub mod Fractions
+pub mod Products
+pub mod Quotients
+pub mod Reduced
+pub mod Units
+pub mod Writing

@@ -5,7 +5,7 @@ ghost use Rattle.std.specs.Int.{IsGcd};
 use std::cmp::Ordering;
 
 /// The greatest common divisor of numbers of one machine word.
-fn word_gcd(a: u64, b: u64) -> u64
+pub(crate) fn word_gcd(a: u64, b: u64) -> u64
     ensures { IsGcd a b result }
 {
     let mut larger = a;
