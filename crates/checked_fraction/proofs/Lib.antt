@@ -1,5 +1,6 @@
 pub mod Divisors
 pub mod Fractions
+pub mod Once
 pub mod Products
 pub mod Quotients
 pub mod Reduced

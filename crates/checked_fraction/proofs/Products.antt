@@ -2,7 +2,7 @@
 use Rattle.std.proofs.Common.{◌≡◌, ℕ, zero, suc, ◌+◌, ◌*◌, ap, sym, ◌∙◌, arith}
 use Rattle.std.proofs.Math.IntN.{ℤ, pos, negsuc, ◌-ℤ◌, ◌*ℤ◌, *ℤ_comm, zero-*ℤ}
 use Rattle.std.specs.Int.Signed.{◌<ℤ◌}
-use Rattle.std.proofs.lemmas.Int.{ints}
+use Rattle.std.proofs.lemmas.Int.{ints, by_lt_z}
 use borrow.Author.Differences.{up, down, product_is}
 
 pub regroup : (a b c : ℤ) → (a *ℤ b) *ℤ c ≡ a *ℤ (b *ℤ c)
@@ -52,3 +52,10 @@ times_minus g x y =
 -- both factors times d: so is the number
 pub mixed_times : (d a q p b : ℤ) → (a *ℤ (d *ℤ q)) -ℤ ((d *ℤ p) *ℤ b) ≡ d *ℤ ((a *ℤ q) -ℤ (p *ℤ b))
 mixed_times d a q p b = omega (arith, ints, moved d a q, regroup d a q, regroup d p b, times_minus d (a *ℤ q) (p *ℤ b))
+
+pub cancelled : (g x y : ℤ) → pos 0 <ℤ g → g *ℤ x ≡ g *ℤ y → x ≡ y
+cancelled g x y pg e = by_lt_z x y
+    (λ l. let more : pos 0 <ℤ (y -ℤ x) = omega (arith, ints) in let t = positive_product g (y -ℤ x) pg more in absurd (omega (arith, ints, times_minus g y x, t, e)))
+    (λ ge. by_lt_z y x
+    (λ l. let more : pos 0 <ℤ (x -ℤ y) = omega (arith, ints) in let t = positive_product g (x -ℤ y) pg more in absurd (omega (arith, ints, times_minus g x y, t, e)))
+    (λ le. omega (arith, ints, ge, le)))
