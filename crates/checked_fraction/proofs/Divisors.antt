@@ -1,18 +1,18 @@
 -- common divisors of rows
-use Rattle.std.proofs.Common.{ℕ, ℤ, zero, suc, ◌≡◌, ◌+◌, ◌<◌, ◌≤◌, ◌⊎◌, unsigned_abs, sym, subst, arith, ⊎_elim}
-use Rattle.std.proofs.lemmas.Nat.Gcd.{dvd_refl, dvd_trans, dvd-zero}
+use Rattle.std.proofs.Common.{ℕ, ℤ, zero, suc, ◌≡◌, ◌+◌, ◌<◌, ◌≤◌, unsigned_abs, sym, subst, arith, ⊎_elim}
+use Rattle.std.proofs.lemmas.Nat.Gcd.{dvd_refl, dvd_trans}
 use Rattle.std.proofs.Math.Nat.{zero-dvd, one-dvd}
 use Rattle.std.proofs.lemmas.Bool.{cases_lt}
 use Rattle.std.specs.Int.{IsGcd, ◌∣◌}
 use Rattle.checked_fraction.specs.Passes.{IsRowGcd}
 
--- where the one is 1 or the other 0
-pub plain_gcd : (a b : ℕ) → (a ≡ 1) ⊎ (b ≡ 0) → IsGcd a b a
-plain_gcd a b plain = (
-  dvd_refl a,
-  ⊎_elim (λ e. subst (λ x. x ∣ b) (sym e) (one-dvd b)) (λ e. subst (λ x. a ∣ x) (sym e) (dvd-zero a)) plain,
-  λ d of_a of_b. of_a,
-)
+-- no numbers
+pub row_gcd_none : (f : ℕ → ℤ) (whole : ℕ) → IsRowGcd f 0 whole whole
+row_gcd_none f whole = record {
+  of_whole = dvd_refl whole;
+  of_numbers = λ k lt. absurd (omega arith);
+  greatest = λ d of_whole all. of_whole;
+}
 
 -- one number more
 pub row_gcd_more : (f : ℕ → ℤ) (n whole g x h : ℕ) → IsRowGcd f n whole g → x ≡ unsigned_abs (f n) → IsGcd g x h → IsRowGcd f (n + 1) whole h

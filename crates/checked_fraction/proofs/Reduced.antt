@@ -68,9 +68,9 @@ made f n whole g nums w pw row each e = subst (λ x. IsReduced n f x nums (pos (
     (agreed n f (pos whole) (over f g) nums (pos (whole / g)) each (reduces f n whole g pw row))
 
 -- the same by what was found
-pub settled : (f : ℕ → ℤ) (n whole : ℕ) (found : Found) (nums : ℕ → ℤ) (w : ℤ) → 0 < whole → IsFound f n whole found → ((k : ℕ) → k < n → nums k ≡ over f found.common k) → pos whole ≡ w
+pub settled : (f : ℕ → ℤ) (n whole : ℕ) (found : Found) (nums : ℕ → ℤ) (w : ℤ) → 0 < whole → IsFound f n whole found → ((k : ℕ) → k < n → nums k ≡ over f found.common.value k) → pos whole ≡ w
     → IsReduced n f w nums found.den
-settled f n whole found nums w pw found_of each e = subst (λ x. IsReduced n f w nums x) (sym found_of.den) (made f n whole found.common nums w pw found_of.common each e)
+settled f n whole found nums w pw found_of each e = subst (λ x. IsReduced n f w nums x) (sym found_of.den) (made f n whole found.common.value nums w pw found_of.common each e)
 
 -- a row from which nothing is taken stays as it is
 pub unmixed : (n : ℕ) (nums pivot : ℕ → ℤ) (p q den : ℤ) → p ≡ pos 0 → pos 0 <ℤ den → IsLowest n nums den → IsReduced n (combined nums p pivot q) (den *ℤ q) nums den

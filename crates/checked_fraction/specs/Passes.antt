@@ -31,7 +31,7 @@ pub record IsRowGcd (f : ℕ → ℤ) (n whole g : ℕ) : Type 0 where
 
 -- the greatest common divisor, and a number that no size exceeds
 pub record IsSurvey (f : ℕ → ℤ) (n whole : ℕ) (survey : Survey) : Type 0 where
-  pub common : IsRowGcd f n whole survey.common
+  pub common : IsRowGcd f n whole survey.common.value
   pub top : (k : ℕ) → k < n → unsigned_abs (f k) ≤ survey.top
 
 -- the first n numbers are narrow
@@ -40,10 +40,10 @@ IsWithin f n = (k : ℕ) → k < n → IsNarrow (f k)
 
 -- the greatest common divisor makes all numbers and the denominator narrow
 pub record IsFound (f : ℕ → ℤ) (n whole : ℕ) (found : Found) : Type 0 where
-  pub common : IsRowGcd f n whole found.common
-  pub low : found.common ≤ whole
-  pub within : IsWithin (over f found.common) n
-  pub den : found.den ≡ pos (whole / found.common)
+  pub common : IsRowGcd f n whole found.common.value
+  pub low : found.common.value ≤ whole
+  pub within : IsWithin (over f found.common.value) n
+  pub den : found.den ≡ pos (whole / found.common.value)
   pub narrow : IsNarrow found.den
 
 -- the first factors are the second ones times one whole number

@@ -1,6 +1,7 @@
 //! Exact fractions, and rows of whole numbers over one denominator.
 #![tactic(auto)]
 
+mod divisor;
 pub mod fraction;
 mod mix;
 pub mod pivot;

@@ -3,7 +3,7 @@ ghost use Rattle.std.specs.Int.{IsGcd};
 ghost use Rattle.checked_fraction.specs.Rows.{IsNarrow};
 ghost use Rattle.checked_fraction.specs.Passes.{CanMix, raw, over};
 
-use crate::fraction::gcd;
+use crate::divisor::Divisor;
 
 /// What a row is combined by: `p` times the pivot row is taken from `q` times the row.
 #[derive(Clone, Copy)]
@@ -69,26 +69,29 @@ pub(crate) fn size_at(nums: &[i64], pivot: &[i64], mix: &Mix, k: usize) -> u128
     raw_at(nums, pivot, mix, k).unsigned_abs()
 }
 
-fn divided(a: i128, g: u128) -> i128
-    requires some { 0 < g }
-    requires low { g < 2 ^ 126 }
-    requires bound { unsigned_abs a < 2 ^ 125 }
-    ensures value { result ≡ int_div a (pos g) }
+fn divided(a: i128, divisor: &Divisor) -> i128
+    requires { unsigned_abs a < 2 ^ 125 }
+    ensures value { result ≡ int_div a (pos divisor.now.value) }
     ensures bound { unsigned_abs result < 2 ^ 125 }
 {
-    a / g as i128
+    let size = divisor.quotient(a.unsigned_abs()) as i128;
+    if a < 0 { -size } else { size }
 }
 
-/// Number `k` of the combined row, divided by `g`.
-pub(crate) fn reduced_at(nums: &[i64], pivot: &[i64], mix: &Mix, g: u128, k: usize) -> i128
+/// Number `k` of the combined row, divided.
+pub(crate) fn reduced_at(
+    nums: &[i64],
+    pivot: &[i64],
+    mix: &Mix,
+    divisor: &Divisor,
+    k: usize,
+) -> i128
     requires inside { k < length nums.now }
-    requires some { 0 < g }
-    requires low { g < 2 ^ 126 }
     requires can_mix { CanMix nums.now pivot.now mix.now }
-    ensures value { result ≡ over (raw nums.now pivot.now mix.now) g k }
+    ensures value { result ≡ over (raw nums.now pivot.now mix.now) divisor.now.value k }
     ensures bound { unsigned_abs result < 2 ^ 125 }
 {
-    divided(raw_at(nums, pivot, mix, k), g)
+    divided(raw_at(nums, pivot, mix, k), divisor)
 }
 
 fn narrowed(a: i128) -> i64
@@ -99,16 +102,14 @@ fn narrowed(a: i128) -> i64
 }
 
 /// The same where it is narrow.
-pub(crate) fn narrow_at(nums: &[i64], pivot: &[i64], mix: &Mix, g: u128, k: usize) -> i64
+pub(crate) fn narrow_at(nums: &[i64], pivot: &[i64], mix: &Mix, divisor: &Divisor, k: usize) -> i64
     requires inside { k < length nums.now }
-    requires some { 0 < g }
-    requires low { g < 2 ^ 126 }
     requires can_mix { CanMix nums.now pivot.now mix.now }
-    requires narrow { IsNarrow (over (raw nums.now pivot.now mix.now) g k) }
-    ensures value { result ≡ over (raw nums.now pivot.now mix.now) g k }
+    requires narrow { IsNarrow (over (raw nums.now pivot.now mix.now) divisor.now.value k) }
+    ensures value { result ≡ over (raw nums.now pivot.now mix.now) divisor.now.value k }
     ensures bound { IsNarrow result }
 {
-    narrowed(reduced_at(nums, pivot, mix, g, k))
+    narrowed(reduced_at(nums, pivot, mix, divisor, k))
 }
 
 /// A narrow number divided by `g`.

@@ -4,6 +4,7 @@ ghost use Rattle.checked_fraction.specs.Rows.{num, IsNarrow, IsReduced};
 ghost use Rattle.checked_fraction.specs.Mixed.{combined, IsTooWide, IsFirstWide};
 ghost use Rattle.checked_fraction.specs.Passes.{CanMix, raw, over, IsSurvey, IsWithin, IsTimes, IsFound};
 
+use crate::divisor::Divisor;
 use crate::fraction::{gcd, word_gcd};
 use crate::mix::{Mix, WIDE, narrow_at, quotient, reduced_at, size_at};
 use crate::row::Row;
@@ -20,25 +21,25 @@ pub struct WideNumber {
 /// What the first pass finds: the greatest common divisor, and a number that no size exceeds.
 #[derive(Clone, Copy)]
 struct Survey {
-    common: u128,
+    common: Divisor,
     top: u128,
 }
 
 /// What the first pass decides: the divisor, and the denominator after the division.
 #[derive(Clone, Copy)]
 struct Found {
-    common: u128,
+    common: Divisor,
     den: i64,
 }
 
-/// The greatest common divisor, without a division where there is none to make.
-fn joined(common: u128, size: u128) -> u128
-    ensures { IsGcd common size result }
+/// The greatest common divisor, in most cases without a division.
+fn joined(common: &Divisor, size: u128) -> Divisor
+    ensures { IsGcd common.now.value size result.value }
 {
-    if common == 1 || size == 0 {
-        return common;
+    if common.divides(size) {
+        return *common;
     }
-    gcd(size, common)
+    Divisor::new(gcd(size, common.value))
 }
 
 fn larger(a: u128, b: u128) -> u128
@@ -53,31 +54,34 @@ fn take_survey(nums: &[i64], pivot: &[i64], mix: &Mix, whole: u128) -> Survey
     requires can_mix { CanMix nums.now pivot.now mix.now }
     requires some { 0 < whole }
     ensures survey { IsSurvey (raw nums.now pivot.now mix.now) (length nums.now) whole result }
-    ensures positive { 0 < result.common }
-    ensures low { result.common ≤ whole }
+    ensures low { result.common.value ≤ whole }
 {
-    let mut common = whole;
+    let mut common = Divisor::new(whole);
     let mut top = 0;
     for k in 0..nums.len() {
         let size = size_at(nums, pivot, mix, k);
-        common = joined(common, size);
+        common = joined(&common, size);
         top = larger(top, size);
     }
     Survey { common, top }
 }
 
-/// The first wide number of the combined row over `g`, whose denominator is `den`.
-fn first_wide(nums: &[i64], pivot: &[i64], mix: &Mix, g: u128, den: u128) -> Option<WideNumber>
+/// The first wide number of the combined row divided, whose denominator is `den`.
+fn first_wide(
+    nums: &[i64],
+    pivot: &[i64],
+    mix: &Mix,
+    divisor: &Divisor,
+    den: u128,
+) -> Option<WideNumber>
     requires can_mix { CanMix nums.now pivot.now mix.now }
     requires short { length nums.now < 2 ^ 32 }
-    requires some { 0 < g }
-    requires low { g < 2 ^ 126 }
     requires den { den < 2 ^ 126 }
-    ensures none { result ≡ None → IsWithin (over (raw nums.now pivot.now mix.now) g) (length nums.now) × (den < 2 ^ 62) }
-    ensures wide { IfSome result (IsFirstWide (length nums.now) (over (raw nums.now pivot.now mix.now) g) (pos den)) }
+    ensures none { result ≡ None → IsWithin (over (raw nums.now pivot.now mix.now) divisor.now.value) (length nums.now) × (den < 2 ^ 62) }
+    ensures wide { IfSome result (IsFirstWide (length nums.now) (over (raw nums.now pivot.now mix.now) divisor.now.value) (pos den)) }
 {
     for k in 0..nums.len() {
-        let value = reduced_at(nums, pivot, mix, g, k);
+        let value = reduced_at(nums, pivot, mix, divisor, k);
         if value.unsigned_abs() >= WIDE {
             return Some(WideNumber {
                 at: k as u32,
@@ -104,30 +108,26 @@ fn wide_number(
 ) -> Option<WideNumber>
     requires can_mix { CanMix nums.now pivot.now mix.now }
     requires short { length nums.now < 2 ^ 32 }
-    requires some { 0 < survey.now.common }
-    requires low { survey.now.common < 2 ^ 126 }
     requires den { den < 2 ^ 126 }
     requires top { (k : ℕ) → k < length nums.now → unsigned_abs (raw nums.now pivot.now mix.now k) ≤ survey.now.top }
-    ensures none { result ≡ None → IsWithin (over (raw nums.now pivot.now mix.now) survey.now.common) (length nums.now) × (den < 2 ^ 62) }
-    ensures wide { IfSome result (IsFirstWide (length nums.now) (over (raw nums.now pivot.now mix.now) survey.now.common) (pos den)) }
+    ensures none { result ≡ None → IsWithin (over (raw nums.now pivot.now mix.now) survey.now.common.value) (length nums.now) × (den < 2 ^ 62) }
+    ensures wide { IfSome result (IsFirstWide (length nums.now) (over (raw nums.now pivot.now mix.now) survey.now.common.value) (pos den)) }
 {
-    if survey.top / survey.common < WIDE && den < WIDE {
+    if survey.common.quotient(survey.top) < WIDE && den < WIDE {
         return None;
     }
-    first_wide(nums, pivot, mix, survey.common, den)
+    first_wide(nums, pivot, mix, &survey.common, den)
 }
 
-/// The second pass: each number becomes that of the combined row over `g`.
-fn write(nums: &mut [i64], pivot: &[i64], mix: &Mix, g: u128)
+/// The second pass: each number becomes that of the combined row divided.
+fn write(nums: &mut [i64], pivot: &[i64], mix: &Mix, divisor: &Divisor)
     requires can_mix { CanMix nums.now pivot.now mix.now }
-    requires some { 0 < g }
-    requires low { g < 2 ^ 126 }
-    requires within { IsWithin (over (raw nums.now pivot.now mix.now) g) (length nums.now) }
-    ensures each { (k : ℕ) → k < length nums.old → num nums.new k ≡ over (raw nums.old pivot.now mix.now) g k }
+    requires within { IsWithin (over (raw nums.now pivot.now mix.now) divisor.now.value) (length nums.now) }
+    ensures each { (k : ℕ) → k < length nums.old → num nums.new k ≡ over (raw nums.old pivot.now mix.now) divisor.now.value k }
     ensures narrow { (k : ℕ) → IsNarrow (num nums.new k) }
 {
     for k in 0..nums.len() {
-        nums[k] = narrow_at(nums, pivot, mix, g, k);
+        nums[k] = narrow_at(nums, pivot, mix, divisor, k);
     }
 }
 
@@ -180,7 +180,7 @@ fn find(nums: &[i64], pivot: &[i64], mix: &Mix, whole: u128) -> Result<Found, Wi
     ensures wide { IfErr result (IsTooWide (length nums.now) (raw nums.now pivot.now mix.now) (pos whole)) }
 {
     let survey = take_survey(nums, pivot, mix, whole);
-    let den = whole / survey.common;
+    let den = survey.common.quotient(whole);
     if let Some(wide) = wide_number(nums, pivot, mix, &survey, den) {
         return Err(wide);
     }
@@ -191,16 +191,14 @@ fn find(nums: &[i64], pivot: &[i64], mix: &Mix, whole: u128) -> Result<Found, Wi
 }
 
 /// The second pass over a list.
-fn write_list(nums: &mut List<i64>, pivot: &[i64], mix: &Mix, g: u128)
+fn write_list(nums: &mut List<i64>, pivot: &[i64], mix: &Mix, divisor: &Divisor)
     requires can_mix { CanMix nums.old pivot.now mix.now }
-    requires some { 0 < g }
-    requires low { g < 2 ^ 124 }
-    requires within { IsWithin (over (raw nums.old pivot.now mix.now) g) (length nums.old) }
+    requires within { IsWithin (over (raw nums.old pivot.now mix.now) divisor.now.value) (length nums.old) }
     ensures length { length nums.new ≡ length nums.old }
-    ensures each { (k : ℕ) → k < length nums.old → num nums.new k ≡ over (raw nums.old pivot.now mix.now) g k }
+    ensures each { (k : ℕ) → k < length nums.old → num nums.new k ≡ over (raw nums.old pivot.now mix.now) divisor.now.value k }
     ensures narrow { (k : ℕ) → IsNarrow (num nums.new k) }
 {
-    write(nums.items_mut(), pivot, mix, g);
+    write(nums.items_mut(), pivot, mix, divisor);
 }
 
 /// The row combined and reduced, or unchanged where it would be too wide.
@@ -213,7 +211,7 @@ fn reduce(row: &mut Row, pivot: &[i64], mix: &Mix) -> Result<(), WideNumber>
     ensures same { OnErr result (row.new ≡ row.old) }
 {
     let found = find(row.nums.items(), pivot, mix, whole_of(row, mix))?;
-    write_list(&mut row.nums, pivot, mix, found.common);
+    write_list(&mut row.nums, pivot, mix, &found.common);
     row.den = found.den;
     Ok(())
 }

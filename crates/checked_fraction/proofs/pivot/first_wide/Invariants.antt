@@ -3,4 +3,4 @@ use Rattle.checked_fraction.proofs.pivot.first_wide.Given as goal
 
 -- the numbers so far are narrow
 abbrev pub invariant-loop-k : goal.invariant-loop-k
-invariant-loop-k l = IsWithin (over (raw l.nums l.pivot l.mix) l.g) l.k
+invariant-loop-k l = IsWithin (over (raw l.nums l.pivot l.mix) l.divisor.value) l.k

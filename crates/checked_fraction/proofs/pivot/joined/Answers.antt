@@ -1,10 +1,7 @@
-use Rattle.std.proofs.Common.{inl, inr}
-use Rattle.checked_fraction.proofs.Divisors.{plain_gcd}
+use Rattle.std.proofs.Common.{sym, subst}
+use Rattle.std.specs.Int.{IsGcd}
+use Rattle.std.proofs.lemmas.Nat.Gcd.{IsGcd-swap}
 use Rattle.checked_fraction.proofs.pivot.joined.Goals as goal
-use Rattle.checked_fraction.proofs.pivot.joined.Goals.{then-common-eq1-via-then-common-eq1, then-common-eq1-via-else-common-eq1+then-size-eq0}
 
-pub returns-then-common-eq1 : goal.returns-then-common-eq1
-returns-then-common-eq1 c = plain_gcd _ _ (elim c.then-common-eq1.branch [
-  | then-common-eq1-via-then-common-eq1 w ↦ inl w.if-common-eq1.true
-  | then-common-eq1-via-else-common-eq1+then-size-eq0 w ↦ inr w.if-size-eq0.true
-])
+pub returns : goal.returns
+returns c = subst (λ g. IsGcd c.args.common.now.value c.args.size g) (sym c.new.ensures) (IsGcd-swap _ _ _ c.gcd.ensures)
