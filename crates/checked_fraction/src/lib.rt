@@ -7,11 +7,13 @@ mod mix;
 pub mod pivot;
 pub mod row;
 pub mod scale;
+pub mod wide;
 
 pub use fraction::{cmp, gcd, mul_div};
-pub use pivot::{WideNumber, combine};
+pub use pivot::combine;
 pub use row::Row;
 pub use scale::rescale;
+pub use wide::WideNumber;
 
 #[cfg(test)]
 mod tests;

@@ -1,5 +1,4 @@
-ghost use Rattle.std.specs.Prelude.{◌≡◌, ◌↔◌, ◌<◌, ◌≤◌, ◌^◌, ◌-ℤ◌, ◌*ℤ◌, pos, int_div, length, unsigned_abs, IsTrue};
-ghost use Rattle.std.specs.Int.{IsGcd};
+ghost use Rattle.std.specs.Prelude.{◌≡◌, ◌<◌, ◌^◌, ◌-ℤ◌, ◌*ℤ◌, pos, int_div, length, unsigned_abs};
 ghost use Rattle.checked_fraction.specs.Rows.{IsNarrow};
 ghost use Rattle.checked_fraction.specs.Passes.{CanMix, raw, over};
 

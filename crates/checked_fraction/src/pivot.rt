@@ -6,17 +6,10 @@ ghost use Rattle.checked_fraction.specs.Passes.{CanMix, raw, over, IsSurvey, IsW
 
 use crate::divisor::Divisor;
 use crate::fraction::{gcd, word_gcd};
-use crate::mix::{Mix, WIDE, narrow_at, quotient, reduced_at, size_at};
+use crate::mix::{Mix, WIDE, narrow_at, quotient, size_at};
 use crate::row::Row;
+use crate::wide::{WideNumber, first_wide};
 use net_core::list::List;
-
-/// Where a row in lowest terms is too wide: its first number that is 2^62 or more in absolute value.
-/// The denominator comes last, at the number of numbers.
-#[derive(Clone, Copy, Debug, PartialEq, Eq)]
-pub struct WideNumber {
-    pub at: u32,
-    pub value: i128,
-}
 
 /// What the first pass finds: the greatest common divisor, and a number that no size exceeds.
 #[derive(Clone, Copy)]
@@ -66,39 +59,7 @@ fn take_survey(nums: &[i64], pivot: &[i64], mix: &Mix, whole: u128) -> Survey
     Survey { common, top }
 }
 
-/// The first wide number of the combined row divided, whose denominator is `den`.
-fn first_wide(
-    nums: &[i64],
-    pivot: &[i64],
-    mix: &Mix,
-    divisor: &Divisor,
-    den: u128,
-) -> Option<WideNumber>
-    requires can_mix { CanMix nums.now pivot.now mix.now }
-    requires short { length nums.now < 2 ^ 32 }
-    requires den { den < 2 ^ 126 }
-    ensures none { result ≡ None → IsWithin (over (raw nums.now pivot.now mix.now) divisor.now.value) (length nums.now) × (den < 2 ^ 62) }
-    ensures wide { IfSome result (IsFirstWide (length nums.now) (over (raw nums.now pivot.now mix.now) divisor.now.value) (pos den)) }
-{
-    for k in 0..nums.len() {
-        let value = reduced_at(nums, pivot, mix, divisor, k);
-        if value.unsigned_abs() >= WIDE {
-            return Some(WideNumber {
-                at: k as u32,
-                value,
-            });
-        }
-    }
-    if den >= WIDE {
-        return Some(WideNumber {
-            at: nums.len() as u32,
-            value: den as i128,
-        });
-    }
-    None
-}
-
-/// The same, with no pass where the survey rules out each wide number.
+/// The first wide number, with no further pass where the survey rules out each.
 fn wide_number(
     nums: &[i64],
     pivot: &[i64],

@@ -2,9 +2,10 @@ ghost use Rattle.std.specs.Prelude.{◌≡◌, length, IfOk};
 ghost use Rattle.checked_fraction.specs.Rows.{IsNarrow};
 
 use crate::fraction::{cmp, gcd, mul_div};
-use crate::pivot::{WideNumber, combine};
+use crate::pivot::combine;
 use crate::row::Row;
 use crate::scale::rescale;
+use crate::wide::WideNumber;
 use net_core::list::NoMemory;
 use std::alloc::Global;
 use std::cmp::Ordering;

@@ -1,5 +1,5 @@
 use Rattle.checked_fraction.specs.Passes.{raw, over, IsWithin}
-use Rattle.checked_fraction.proofs.pivot.first_wide.Given as goal
+use Rattle.checked_fraction.proofs.wide.first_wide.Given as goal
 
 -- the numbers so far are narrow
 abbrev pub invariant-loop-k : goal.invariant-loop-k
