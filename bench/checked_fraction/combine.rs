@@ -1,5 +1,5 @@
 // The loop of `combine` in plain Rust, on the rows and in the cycles of bench/README.md.
-// Build: rustc -O -o /tmp/combine combine.rs
+// Build: rustc -O combine.rs
 
 // Processor time of the process, in millionths of a second.
 unsafe extern "C" {

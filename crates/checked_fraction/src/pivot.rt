@@ -192,7 +192,8 @@ fn combine_by(row: &mut Row, pivot: &[i64], mix: &Mix) -> Result<(), WideNumber>
     reduce(row, pivot, &lowest(mix))
 }
 
-/// Makes `row` the row `(nums * q - p * pivot.nums) / (den * q)` in lowest terms.
+/// Makes `row` the row `(nums * q - p * pivot.nums) / (den * q)` in lowest terms, or leaves it as it is
+/// and names the first number of that row that is 2^62 or more in absolute value. Takes no memory.
 pub fn combine(row: &mut Row, p: i64, pivot: &Row, q: i64) -> Result<(), WideNumber>
     requires equal { length row.old.nums ≡ length pivot.now.nums }
     requires p { IsNarrow p }

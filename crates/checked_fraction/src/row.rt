@@ -29,7 +29,7 @@ fn unit_nums(alloc: Global, n: u32, at: u32) -> Result<List<i64>, NoMemory>
 }
 
 impl Row {
-    /// The row of `n` numbers over 1 that are 0, but for a 1 at `at`.
+    /// The row of `n` numbers over 1 that are 0, but for a 1 at `at`. Only want of memory refuses it.
     pub fn unit(alloc: Global, n: u32, at: u32) -> Result<Row, NoMemory>
         requires { at < n }
         ensures { IfOk result (λ row. (row.nums ≡ slice_set (replicate n (pos 0)) at (pos 1)) × (row.den ≡ pos 1)) }

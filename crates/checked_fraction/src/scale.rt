@@ -48,7 +48,7 @@ fn divide_list(nums: &mut List<i64>, g: u64)
     divide(nums.items_mut(), g);
 }
 
-/// Makes `row` the row `nums / q` in lowest terms.
+/// Makes `row` the row `nums / q` in lowest terms. Takes no memory.
 pub fn rescale(row: &mut Row, q: i64)
     requires narrow { IsNarrow q }
     requires positive { pos 0 <ℤ q }

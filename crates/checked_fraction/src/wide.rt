@@ -6,10 +6,12 @@ use crate::divisor::Divisor;
 use crate::mix::{Mix, WIDE, reduced_at};
 
 /// Where a row in lowest terms is too wide: its first number that is 2^62 or more in absolute value.
-/// The denominator comes last, at the number of numbers.
+/// The denominator comes last.
 #[derive(Clone, Copy, Debug, PartialEq, Eq)]
 pub struct WideNumber {
+    /// The place among the numbers, from 0; their count stands for the denominator.
     pub at: u32,
+    /// The number there, in lowest terms.
     pub value: i128,
 }
 
