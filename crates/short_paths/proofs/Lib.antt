@@ -1,1 +1,3 @@
 pub mod Hopping
+pub mod Relaxing
+pub mod Settling
