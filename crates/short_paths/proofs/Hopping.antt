@@ -97,6 +97,11 @@ hops_within joins hops n are inside = λ k d lt.
     let both = inside h.link.0 h.from.0 h.to.0 (are.sound h.link.0 h.from.0 h.to.0 (Contains-get_or hops k d lt)) in
     (omega (arith, both.0), omega (arith, both.1))
 
+pub hops_below : (joins : ℕ → ℕ → ℕ → Type 0) (hops : List Hop) (n : ℕ) → AreHops joins hops → ((e x y : ℕ) → joins e x y → e < n) → All (λ h. h.link.0 < n) hops
+hops_below joins hops n are inside = λ k d lt.
+    let h = get_or hops k d in
+    inside h.link.0 h.from.0 h.to.0 (are.sound h.link.0 h.from.0 h.to.0 (Contains-get_or hops k d lt))
+
 pub hop_within : (hops : List Hop) (n e x y : ℕ) → All (λ h. (h.from.0 + 1 < n) × (h.to.0 + 1 < n)) hops → HasHop hops e x y → (x + 1 < n) × (y + 1 < n)
 hop_within hops n e x y all has = All-contains (λ h. (h.from.0 + 1 < n) × (h.to.0 + 1 < n)) hops (hop e x y) all has
 

@@ -72,7 +72,6 @@ fn relax(hops: &Hops, lengths: &[u32], at: NodeId, found: &mut [u64])
 fn settle_all(hops: &Hops, lengths: &[u32], from: NodeId, found: &mut [u64], settled: &mut [bool])
     requires links { All (λ h. h.link.0 < length lengths.now) hops.now.all }
     requires nodes { length hops.now.starts ≡ length found.old + 1 }
-    requires few { length found.old ≤ 128 }
     requires sizes { length settled.old ≡ length found.old }
     requires from { from.0 < length found.old }
     requires start { slice_index found.old from.0 ≡ 0 }
@@ -98,7 +97,6 @@ pub struct Search {
 fn fill(hops: &Hops, lengths: &[u32], from: NodeId, found: &mut [u64], settled: &mut [bool])
     requires links { All (λ h. h.link.0 < length lengths.now) hops.now.all }
     requires nodes { length hops.now.starts ≡ length found.old + 1 }
-    requires few { length found.old ≤ 128 }
     requires sizes { length settled.old ≡ length found.old }
     requires from { from.0 < length found.old }
     ensures { IsTable (HasHop hops.now.all) lengths.now FAR from.0 found.new }
@@ -127,7 +125,6 @@ impl Search {
     pub fn run(&mut self, hops: &Hops, lengths: &[u32], from: NodeId)
         requires links { All (λ h. h.link.0 < length lengths.now) hops.now.all }
         requires nodes { length hops.now.starts ≡ length self.old.found.items + 1 }
-        requires few { length self.old.found.items ≤ 128 }
         requires from { from.0 < length self.old.found.items }
         ensures size { length self.new.found.items ≡ length self.old.found.items }
         ensures table { IsTable (HasHop hops.now.all) lengths.now FAR from.0 self.new.found.items }
