@@ -10,3 +10,6 @@ mod table;
 pub use pairs::all_pairs;
 pub use rows::distances;
 pub use table::DistanceTable;
+
+#[cfg(test)]
+mod tests;
