@@ -1,1 +1,4 @@
 pub mod Choice
+pub mod Routes
+pub mod Texts
+pub mod Trees

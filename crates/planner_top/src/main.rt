@@ -2,5 +2,10 @@
 #![tactic(auto)]
 
 mod choice;
+mod loads;
+mod output;
+mod status;
+mod text;
+mod tree;
 
 fn main() {}
