@@ -47,28 +47,28 @@ pairs_none joins lengths far = record {
 
 pub pairs_more : (joins : ℕ → ℕ → ℕ → Type 0) (lengths : List ℕ) (far n : ℕ) (old new : List ℕ) → ArePairs joins lengths far n old → AddsRow joins lengths far n old new → ArePairs joins lengths far (n + 1) new
 pairs_more joins lengths far n old new are adds =
-    let row : List ℕ = take n adds.found in
-    let long : length row ≡ n = length-take-le n adds.found (omega (arith, adds.within)) in
+    let added : List ℕ = take n adds.found in
+    let long : length added ≡ n = length-take-le n adds.found (omega (arith, adds.within)) in
     record {
-      size = omega (arith, ap length adds.is, length-append old row, long, are.size, pair_count_more n);
+      size = omega (arith, ap length adds.is, length-append old added, long, are.size, pair_count_more n);
       each = λ low high lt within. ⊎_elim
           (λ before.
           let place = pair_place_within low high n lt before in
           let number : get_or new (pair_place low high) 0 ≡ get_or old (pair_place low high) 0 =
-          ap (λ xs. get_or xs (pair_place low high) 0) adds.is ∙ get_or_append_left old row 0 (pair_place low high) (omega (arith, are.size, place)) in
+          ap (λ xs. get_or xs (pair_place low high) 0) adds.is ∙ get_or_append_left old added 0 (pair_place low high) (omega (arith, are.size, place)) in
           subst (λ d. IsDistance joins lengths high low (answer_of far d)) (sym number) (are.each low high lt before))
           (λ past.
           let same : high ≡ n = omega arith in
           let place : pair_place low high ≡ length old + low = omega (arith, are.size, ap pair_count same) in
           let number : get_or new (pair_place low high) 0 ≡ get_or adds.found low 0 =
           ap (λ xs. get_or xs (pair_place low high) 0) adds.is
-          ∙ (ap (λ k. get_or (old ++ row) k 0) place
-          ∙ (get_or-append-add old row low 0
+          ∙ (ap (λ k. get_or (old ++ added) k 0) place
+          ∙ (get_or-append-add old added low 0
           ∙ get_or-take n adds.found low 0 (omega arith))) in
           subst (λ k. IsDistance joins lengths k low (answer_of far (get_or new (pair_place low high) 0))) (sym same)
           (subst (λ d. IsDistance joins lengths n low (answer_of far d)) (sym number) (table_distance joins lengths far n adds.found adds.table low (omega (arith, adds.within)))))
           (cases_lt high n);
-      low = All-same (λ d. d < far → d < 2 ^ 39) new (old ++ row) adds.is (All-append (λ d. d < far → d < 2 ^ 39) old row are.low (All-take (λ d. d < far → d < 2 ^ 39) n adds.found
+      low = All-same (λ d. d < far → d < 2 ^ 39) new (old ++ added) adds.is (All-append (λ d. d < far → d < 2 ^ 39) old added are.low (All-take (λ d. d < far → d < 2 ^ 39) n adds.found
           (All-from_get_or (λ d. d < far → d < 2 ^ 39) adds.found 0 (λ k lt. adds.table.low k))));
     }
 
