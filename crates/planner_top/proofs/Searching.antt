@@ -8,7 +8,8 @@ use Rattle.std.proofs.lemmas.Option.{get_or_from_slice_get, slice_get_read, slic
 use Rattle.std.proofs.lemmas.List.Elements.{Contains-get_or}
 use Rattle.short_paths.specs.declared.hops.Hop.{Hop}
 use Rattle.short_paths.specs.Hops.{HasHop}
-use Rattle.planner_top.specs.Trees.{IsSearch, IsTree, IsVisited, Leaves, Meets, Visits, turned}
+use Rattle.planner_top.specs.declared.tree.Tree.{Tree}
+use Rattle.planner_top.specs.Trees.{AreTrees, IsSearch, IsTree, IsVisited, Leaves, Meets, Visits, turned}
 use Rattle.planner_top.proofs.Numbers.{one_if}
 
 -- an element stays in its place where another comes behind
@@ -29,17 +30,22 @@ get_cases (a ∷ xs) y x zero h = inl h
 get_cases (a ∷ xs) y x (suc p) h = ⊎_elim (λ l. inl l) (λ r. inr (ap suc r.0, r.1)) (get_cases xs y x p h)
 
 -- a write is seen in its place, and nowhere else
-get_set_same : {X : Type 0} → (xs : List X) (y x : X) (p : ℕ) → slice_get (set xs p y) p ≡ Some x → x ≡ y
+pub get_set_same : {X : Type 0} → (xs : List X) (y x : X) (p : ℕ) → slice_get (set xs p y) p ≡ Some x → x ≡ y
 get_set_same [] y x p h = absurd (cc)
 get_set_same (a ∷ xs) y x zero h = cc
 get_set_same (a ∷ xs) y x (suc p) h = get_set_same xs y x p h
 
-get_set_other : {X : Type 0} → (xs : List X) (y x : X) (p q : ℕ) → q ≢ p → slice_get (set xs p y) q ≡ Some x → slice_get xs q ≡ Some x
+pub get_set_other : {X : Type 0} → (xs : List X) (y x : X) (p q : ℕ) → q ≢ p → slice_get (set xs p y) q ≡ Some x → slice_get xs q ≡ Some x
 get_set_other [] y x p q ne h = h
 get_set_other (a ∷ xs) y x zero zero ne h = absurd (ne refl)
 get_set_other (a ∷ xs) y x zero (suc q) ne h = h
 get_set_other (a ∷ xs) y x (suc p) zero ne h = h
 get_set_other (a ∷ xs) y x (suc p) (suc q) ne h = get_set_other xs y x p q (λ e. ne (ap suc e)) h
+
+pub get_set : {X : Type 0} → (xs : List X) (y : X) (p : ℕ) → p < length xs → slice_get (set xs p y) p ≡ Some y
+get_set [] y p lt = absurd (omega arith)
+get_set (a ∷ xs) y zero lt = refl
+get_set (a ∷ xs) y (suc p) lt = get_set xs y p (omega arith)
 
 -- one node fewer has no place
 fewer : (place : List ℕ) (y nowhere at : ℕ) → y < length place → get_or place y 0 ≡ nowhere → at ≢ nowhere → count_by (λ p. p == nowhere) (set place y at) + 1 ≡ count_by (λ p. p == nowhere) place
@@ -325,3 +331,17 @@ places_long n root nowhere place e = ap length e ∙ length-set (replicate n now
 -- what was written over a whole list is the list
 pub whole_written : {X : Type 0} → (n : ℕ) (new rest : List X) → n ≡ length new → take n (new ++ rest) ≡ new
 whole_written n new rest e = ap (λ m. take m (new ++ rest)) e ∙ take-append_seam new rest
+
+-- one tree more
+pub trees_more : (hops : List Hop) (n nowhere root : ℕ) (trees : List (Option Tree)) (t : Tree) → AreTrees hops n nowhere trees → IsTree hops n root nowhere t.place t.onward → AreTrees hops n nowhere (set trees root (Some t))
+trees_more hops n nowhere root trees t are is r g got = ⊎_elim
+    (λ same. let one : Some g ≡ Some t = get_set_same trees (Some t) (Some g) root (subst (λ j. slice_get (set trees root (Some t)) j ≡ Some (Some g)) same got) in
+    let one' : g ≡ t = cc one in
+    subst (λ j. IsTree hops n j nowhere g.place g.onward) (sym same) (subst (λ (x : Tree). IsTree hops n root nowhere x.place x.onward) (sym one') is))
+    (λ ne. are r g (get_set_other trees (Some t) (Some g) root r ne got))
+    (cases_eq r root)
+
+-- a tree that is read is one to its node
+pub tree_read : (hops : List Hop) (n nowhere root : ℕ) (trees : List (Option Tree)) (o : Option Tree) (t : Tree) → AreTrees hops n nowhere trees → root < length trees → o ≡ get_or trees root o → o ≡ Some t → IsTree hops n root nowhere t.place t.onward
+tree_read hops n nowhere root trees o t are lt at is =
+    are root t (slice_get_read trees (length trees) root o refl lt at ∙ ap Some is)

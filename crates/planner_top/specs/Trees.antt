@@ -1,7 +1,9 @@
 -- paths from each node to one root, found by a search in breadth
-use Rattle.std.specs.Prelude.{◌≡◌, ◌≢◌, ℕ, ◌+◌, ◌≤◌, ◌<◌, ◌⊎◌, ◌==◌, List, [], ◌∷◌, ◌++◌, All, Some, length, count_by, slice_get, slice_index, slice_set}
+use Rattle.std.specs.Prelude.{◌≡◌, ◌≢◌, ℕ, ◌+◌, ◌≤◌, ◌<◌, ◌⊎◌, ◌==◌, List, [], ◌∷◌, ◌++◌, All, Option, Some, length, count_by, slice_get, slice_index, slice_set}
+use Rattle.net_core.specs.declared.ids.LinkId.{LinkId}
 use Rattle.short_paths.specs.declared.hops.Hop.{Hop}
 use Rattle.short_paths.specs.Hops.{HasHop}
+use Rattle.planner_top.specs.declared.tree.Tree.{Tree}
 
 -- a hop the other way
 abbrev pub turned : Hop → Hop
@@ -52,3 +54,12 @@ pub record IsTree (hops : List Hop) (n root nowhere : ℕ) (place : List ℕ) (o
   pub start : slice_index place root ≡ 0
   pub sound : (k : ℕ) (h : Hop) → slice_get onward k ≡ Some h → slice_index place k < nowhere → k ≢ root → HasHop hops h.link.0 h.to.0 k × (slice_index place h.to.0 < slice_index place k)
   pub closed : (e x y : ℕ) → HasHop hops e x y → slice_index place x < nowhere → slice_index place y < nowhere
+
+-- the links that the hops lead over from node a to the root
+abbrev pub Goes : List Hop → ℕ → ℕ → List LinkId → Type 0
+Goes onward root a [] = a ≡ root
+Goes onward root a (e ∷ es) = (h : Hop) × (slice_get onward a ≡ Some h) × (a ≢ root) × (e ≡ h.link) × Goes onward root h.to.0 es
+
+-- each tree that was made is one to its node
+abbrev pub AreTrees : List Hop → ℕ → ℕ → List (Option Tree) → Type 0
+AreTrees hops n nowhere trees = (r : ℕ) (t : Tree) → slice_get trees r ≡ Some (Some t) → IsTree hops n r nowhere t.place t.onward

@@ -4,6 +4,7 @@
 mod choice;
 mod loads;
 mod output;
+mod routes;
 mod status;
 mod text;
 mod tree;
