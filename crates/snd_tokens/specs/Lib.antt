@@ -1,0 +1,4 @@
+pub mod Digits
+pub mod Amounts
+pub mod Header
+pub mod Tokens
