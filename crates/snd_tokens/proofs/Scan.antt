@@ -21,10 +21,12 @@ tokens_past-skip (suc n) at (b ∷ bytes) h =
 extent_within : (b : ℕ) (bytes : List ℕ) → extent b bytes ≤ length bytes
 extent_within b bytes =
     elim (b == 35) as (λ v. cond v (line_length bytes) (cond (is_word_byte b) (run_length bytes) 0) ≤ length bytes) [
-        true ↦ prefix_len-le-length _ bytes
-        | false ↦ elim (is_word_byte b) as (λ v. cond v (run_length bytes) 0 ≤ length bytes) [
-            true ↦ prefix_len-le-length _ bytes
-            | false ↦ omega arith ] ]
+      | true ↦ prefix_len-le-length _ bytes
+      | false ↦ elim (is_word_byte b) as (λ v. cond v (run_length bytes) 0 ≤ length bytes) [
+        | true ↦ prefix_len-le-length _ bytes
+        | false ↦ omega arith
+      ]
+    ]
 
 -- from a place on there is the byte there, and the rest
 drop-at : (at : ℕ) (bytes : List ℕ) → at < length bytes → drop at bytes ≡ get_or bytes at 0 ∷ drop (at + 1) bytes
@@ -49,8 +51,9 @@ tokens_from-end bytes = rw (drop-length bytes) refl
 apart : (p : ℕ → Bool) (b c : ℕ) → p b ≡ true → p c ≡ false → (b == c) ≡ false
 apart p b c t f =
     elim (b == c) as (λ v. (b == c) ≡ v → v ≡ false) [
-        true ↦ λ e. absurd (false≢true (sym f ∙ ap p (sym (eqb-true b c e)) ∙ t))
-        | false ↦ λ e. refl ] refl
+      | true ↦ λ e. absurd (false≢true (sym f ∙ ap p (sym (eqb-true b c e)) ∙ t))
+      | false ↦ λ e. refl
+    ] refl
 
 -- white space begins nothing
 begun-space : (at b : ℕ) (bytes : List ℕ) → is_space b ≡ true → begun at b bytes ≡ []
@@ -123,8 +126,9 @@ list_all-run p (b ∷ bytes) =
     let n : ℕ = prefix_len p bytes in
     let more : 1 + n ≡ suc n = omega arith in
     elim (p b) as (λ v. p b ≡ v → list_all p (take (cond v (1 + n) 0) (b ∷ bytes)) ≡ true) [
-        true ↦ λ e. subst (λ k. list_all p (take k (b ∷ bytes)) ≡ true) (sym more) (and_from _ _ e (list_all-run p bytes))
-        | false ↦ λ e. refl ] refl
+      | true ↦ λ e. subst (λ k. list_all p (take k (b ∷ bytes)) ≡ true) (sym more) (and_from _ _ e (list_all-run p bytes))
+      | false ↦ λ e. refl
+    ] refl
 
 -- a word's bytes are those of a word
 pub word_spelled : (at end : ℕ) (bytes : List ℕ) (t : Token) → t ≡ token_of Word at (end - at) → at < length bytes → starts_token (get_or bytes at 0) ≡ true → is_word_byte (get_or bytes at 0) ≡ true → end ≡ at + 1 + run_length (drop (at + 1) bytes) → end ≤ length bytes → IsTokenOf at bytes t
@@ -134,11 +138,12 @@ word_spelled at end bytes t made h s w e within =
     let n : ℕ = run_length rest in
     let count : at + (end - at) - at ≡ suc n = omega arith in
     let run : token_bytes bytes (token_of Word at (end - at)) ≡ b ∷ take n rest =
-        ap (λ k. take k (drop at bytes)) count ∙ ap (take (suc n)) (drop-at at bytes h) in
+    ap (λ k. take k (drop at bytes)) count ∙ ap (take (suc n)) (drop-at at bytes h) in
     let plain : is_plain (b ∷ take n rest) ≡ true =
-        and_from _ _ (ap not (apart starts_token b 35 s refl)) (and_from _ _ w (list_all-run is_word_byte rest)) in
+    and_from _ _ (ap not (apart starts_token b 35 s refl)) (and_from _ _ w (list_all-run is_word_byte rest)) in
     subst (IsTokenOf at bytes) (sym made) (record {
-        after = omega arith;
-        some = omega arith;
-        within = omega arith;
-        spelled = subst (λ bs. is_plain bs ≡ true) (sym run) plain })
+      after = omega arith;
+      some = omega arith;
+      within = omega arith;
+      spelled = subst (λ bs. is_plain bs ≡ true) (sym run) plain;
+    })

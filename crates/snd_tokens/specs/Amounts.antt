@@ -1,9 +1,9 @@
 -- Decimal numbers with few places after the point, and whole numbers.
-use Rattle.std.specs.Prelude.{ℕ, ◌+◌, ◌*◌, ◌^◌, ◌==◌, nat_lt, Bool, cond, not, ◌||◌, ◌&&◌, List, [], ◌∷◌, ◌++◌, take, drop, replicate, Result, Ok, Err}
+use Rattle.std.specs.Prelude.{◌≡◌, ℕ, IsTrue, ◌+◌, ◌*◌, ◌^◌, ◌==◌, nat_lt, Bool, cond, not, ◌||◌, ◌&&◌, List, [], ◌∷◌, ◌++◌, take, drop, replicate, Result, Ok, Err}
 use Rattle.std.specs.List.{list_all, list_any, before_first, after_first}
 use Rattle.snd_tokens.specs.declared.amount.NumberFault.{NumberFault}
 use Rattle.snd_tokens.specs.declared.amount.NumberFault.TheVariants.{NotANumber, TooFine, TooLarge}
-use Rattle.snd_tokens.specs.Digits.{are_digits, number_of}
+use Rattle.snd_tokens.specs.Digits.{is_digit, are_digits, number_of}
 
 abbrev pub is_point : ℕ → Bool
 is_point b = b == 46
@@ -19,6 +19,13 @@ places_of word = after_first is_point word
 -- one or more digits, or one or more digits, a point, and one or more digits
 abbrev pub is_decimal : List ℕ → Bool
 is_decimal word = are_digits (whole_part word) && (not (list_any is_point word) || are_digits (places_of word))
+
+-- the digits before a word's point and those after it
+pub record AreParts (word whole places : List ℕ) : Type 0 where
+  pub before : whole ≡ whole_part word
+  pub after : places ≡ places_of word
+  pub whole_digits : IsTrue (list_all is_digit whole)
+  pub places_digits : IsTrue (list_all is_digit places)
 
 -- the first n places after the point, filled up with zeros
 abbrev pub first_places : ℕ → List ℕ → List ℕ

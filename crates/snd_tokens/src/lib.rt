@@ -2,7 +2,8 @@
 #![tactic(auto)]
 
 pub mod amount;
+mod digits;
 pub mod token;
 
-pub use amount::NumberFault;
+pub use amount::{NumberFault, milli};
 pub use token::{Token, TokenKind, next_token};
