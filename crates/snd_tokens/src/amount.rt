@@ -1,9 +1,10 @@
-ghost use Rattle.std.specs.Prelude.{◌≡◌, ◌+◌, ◌*◌, ◌^◌, ◌<◌, ◌≤◌, ◌==◌, drop, length, IsTrue, IfOk, MatchOption, MatchResult};
-ghost use Rattle.std.specs.List.{list_all, position_or_len};
+ghost use Rattle.std.specs.Prelude.{◌≡◌, ◌+◌, ◌*◌, ◌^◌, ◌<◌, ◌≤◌, ◌==◌, drop, IsTrue, IfOk, MatchOption, MatchResult};
+ghost use Rattle.std.specs.List.{list_all};
 ghost use Rattle.snd_tokens.specs.Amounts.{AreParts, amount_of, decimal_below, first_places, is_decimal, is_point};
 ghost use Rattle.snd_tokens.specs.Digits.{is_digit, number_of};
 
 use crate::digits::{are_digits, number_below};
+use crate::find::find_byte;
 use thiserror::Error;
 
 /// Why a word is no amount.
@@ -20,25 +21,15 @@ pub enum NumberFault {
     TooLarge,
 }
 
-/// The place of the first point, or the length.
-fn point_in(word: &[u8]) -> usize
-    ensures value { result ≡ position_or_len is_point word.now }
-    ensures within { result ≤ length word.now }
-{
-    for (at, b) in word.iter().enumerate() {
-        if *b == b'.' {
-            return at;
-        }
-    }
-    word.len()
-}
+/// The thousandths that an amount is below.
+const AMOUNT_LIMIT: u128 = 1 << 40;
 
 /// The digits before the point and those after it.
 fn parts(word: &[u8]) -> Option<(&[u8], &[u8])>
     ensures { MatchOption result (IsTrue (is_decimal word.now) → ⊥)
         (λ p. IsTrue (is_decimal word.now) × AreParts word.now p.0.now p.1.now) }
 {
-    let point = point_in(word);
+    let point = find_byte(word, b'.', 0);
     let whole = &word[..point];
     if !are_digits(whole) {
         return None;
@@ -98,7 +89,7 @@ pub fn milli(word: &[u8]) -> Result<u64, NumberFault>
     ensures value { result ≡ amount_of word.now }
     ensures small { IfOk result (λ n. n < 2 ^ 40) }
 {
-    match decimal(word, 1 << 40) {
+    match decimal(word, AMOUNT_LIMIT) {
         Ok(number) => Ok(number as u64),
         Err(fault) => Err(fault),
     }

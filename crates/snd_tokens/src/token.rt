@@ -1,5 +1,7 @@
 ghost use Rattle.std.specs.Prelude.{◌≡◌, ◌+◌, ◌-◌, ◌≤◌, ◌<◌, ◌&&◌, ◌==◌, not, ◌∷◌, [], drop, length, slice_index, IsTrue, MatchOption, IfSome};
-ghost use Rattle.snd_tokens.specs.Tokens.{IsTokenOf, is_space, is_word_byte, line_length, run_length, starts_token, token_of, tokens_from};
+ghost use Rattle.snd_tokens.specs.Tokens.{IsTokenOf, is_space, is_word_byte, run_length, starts_token, token_of, tokens_from};
+
+use crate::find::find_byte;
 
 /// What a token is.
 #[derive(Clone, Copy, Debug, PartialEq, Eq)]
@@ -32,20 +34,6 @@ fn is_word_byte(b: u8) -> bool
     !(is_space(b) || b == b'(' || b == b')')
 }
 
-/// The place of the first line feed at `from` or after it, or the end.
-pub(crate) fn line_end(bytes: &[u8], from: usize) -> usize
-    requires { from ≤ length bytes.now }
-    ensures value { result ≡ from + line_length (drop from bytes.now) }
-    ensures within { result ≤ length bytes.now }
-{
-    for at in from..bytes.len() {
-        if bytes[at] == b'\n' {
-            return at;
-        }
-    }
-    bytes.len()
-}
-
 /// The place after the word bytes from `from` on.
 fn word_end(bytes: &[u8], from: usize) -> usize
     requires { from ≤ length bytes.now }
@@ -72,7 +60,7 @@ fn token_start(bytes: &[u8], from: usize) -> usize
     while at < bytes.len() {
         let first = bytes[at];
         if first == b'#' {
-            at = line_end(bytes, at + 1);
+            at = find_byte(bytes, b'\n', at + 1);
         } else if is_space(first) {
             at += 1;
         } else {

@@ -9,9 +9,9 @@ loop-at-preserved-then-first-eq35 c =
     let at = c.loop-at.at in
     record {
       after = omega arith;
-      within = c.line_end-at.ensures.within;
+      within = c.find_byte-at.ensures.within;
       same = c.loop-at.invariant.same ∙ tokens_from-comment at bytes c.loop-at-test.true c.if-first-eq35.true
-          ∙ ap (λ p. tokens_from p bytes) (sym c.line_end-at.ensures.value);
+          ∙ ap (λ p. tokens_from p bytes) (sym c.find_byte-at.ensures.value);
     }
 
 pub loop-at-preserved : goal.loop-at-preserved
