@@ -100,15 +100,15 @@ ends_at nodes text = do
   rest ← close_at b.1
   Ok ((a.0, b.0), rest)
 
+-- what follows behind a parenthesis, or without one
+abbrev pub closing : {A : Type 0} → Result (List Lexeme) ReadKind → (List Lexeme → A) → A → A
+closing (Ok rest) behind without = behind rest
+closing (Err e) behind without = without
+
 -- items one after another, `n` more at most, and then a closing parenthesis
 unfoldable pub items_at : {X : Type 0} → (List Lexeme → Reading X) → ℕ → List X → List Lexeme → Reading (List X)
-items_at item zero sofar text = do
-  rest ← close_at text
-  Ok (sofar, rest)
-items_at item (suc n) sofar text = elim (close_at text) [
-  | Ok rest ↦ Ok (sofar, rest)
-  | Err _ ↦ item text >>= λ x. items_at item n (sofar ++ x.0 ∷ []) x.1
-]
+items_at item zero sofar text = close_at text >>= λ rest. Ok (sofar, rest)
+items_at item (suc n) sofar text = closing (close_at text) (λ rest. Ok (sofar, rest)) (item text >>= λ x. items_at item n (sofar ++ x.0 ∷ []) x.1)
 
 -- the word of a section and the parenthesis behind it
 unfoldable pub section_at : List ℕ → List Lexeme → Result (List Lexeme) ReadKind
@@ -122,7 +122,7 @@ module_at text = do
   cost ← amount_at capacity.1
   Ok (record { capacity = capacity.0; cost = cost.0 }, cost.1)
 
-unfoldable pub modules_at : List Lexeme → Reading (List Module)
+abbrev pub modules_at : List Lexeme → Reading (List Module)
 modules_at text = items_at module_at 16 [] text
 
 unfoldable pub link_at : List (List ℕ) → List Lexeme → Reading CostedLink
@@ -168,7 +168,7 @@ are_apart earlier (d ∷ ds) = not (is_named (λ n. n) d.name earlier) && are_ap
 abbrev pub are_sound : List Demand → Bool
 are_sound demands = are_apart [] demands && nat_lt (sum_by (λ d. d.need) demands) (2 ^ 44)
 
-unfoldable pub nodes_at : List Lexeme → Reading (List (List ℕ))
+abbrev pub nodes_at : List Lexeme → Reading (List (List ℕ))
 nodes_at text = items_at name_at 128 [] text
 
 unfoldable pub links_at : List (List ℕ) → List Lexeme → Reading (List Link × Notes)

@@ -8,6 +8,8 @@ use crate::text::Text;
 use net_core::{Copied, Demand, Demands, List, Name, NoMemory};
 use std::alloc::Global;
 
+const MAX_DEMANDS: u32 = 2048;
+
 /// The need: a whole number of units of an amount.
 #[tactic(auto, unfolding(crate::specs::Reading::need_at))]
 fn need(text: &mut Text) -> Result<u64, ReadRefusal>
@@ -84,8 +86,8 @@ fn listed(alloc: Global, nodes: &[Name], text: &mut Text) -> Result<Demands, Rea
     ensures { Gives (λ demands. (demands, text.new)) result (items_at (demand_at nodes.now) 2048 [] text.old) }
 {
     let mut demands = List::new(alloc);
-    for _ in 0..2048 {
-        if text.close().is_ok() {
+    for _ in 0..MAX_DEMANDS {
+        if text.closes() {
             return Ok(demands);
         }
         let demand = demand(alloc, nodes, text)?;

@@ -9,14 +9,19 @@ use crate::text::Text;
 use net_core::{Link, List, Module, Name, Network, NodeId, Notes};
 use std::alloc::Global;
 
+const MAX_NODES: u32 = 128;
+
+const MAX_MODULES: u32 = 16;
+
+const MAX_LINKS: u32 = 256;
+
 /// The nodes' names, up to the closing parenthesis.
-#[tactic(auto, unfolding(crate::specs::Reading::nodes_at))]
 fn nodes(alloc: Global, text: &mut Text) -> Result<List<Name>, ReadRefusal>
     ensures { Gives (λ nodes. (nodes, text.new)) result (nodes_at text.old) }
 {
     let mut nodes = List::new(alloc);
-    for _ in 0..128 {
-        if text.close().is_ok() {
+    for _ in 0..MAX_NODES {
+        if text.closes() {
             return Ok(nodes);
         }
         let name = text.name(alloc)?;
@@ -72,13 +77,12 @@ fn module(text: &mut Text) -> Result<Module, ReadRefusal>
 }
 
 /// The modules of a link, up to the closing parenthesis.
-#[tactic(auto, unfolding(crate::specs::Reading::modules_at))]
 fn modules(alloc: Global, text: &mut Text) -> Result<List<Module>, ReadRefusal>
     ensures { Gives (λ modules. (modules, text.new)) result (modules_at text.old) }
 {
     let mut modules = List::new(alloc);
-    for _ in 0..16 {
-        if text.close().is_ok() {
+    for _ in 0..MAX_MODULES {
+        if text.closes() {
             return Ok(modules);
         }
         let module = module(text)?;
@@ -130,8 +134,8 @@ fn links(alloc: Global, nodes: &[Name], text: &mut Text) -> Result<(List<Link>, 
         routing_cost: false,
         setup_cost: false,
     };
-    for _ in 0..256 {
-        if text.close().is_ok() {
+    for _ in 0..MAX_LINKS {
+        if text.closes() {
             return Ok((links, notes));
         }
         let costed = link(alloc, nodes, text)?;

@@ -1,4 +1,4 @@
-ghost use Rattle.std.specs.Prelude.{◌≡◌, ◌≤◌, List, ℕ, [], Err, Ok, IfOk, IsTrue, OnErr, ◌↔◌, length};
+ghost use Rattle.std.specs.Prelude.{◌≡◌, ◌≤◌, List, ℕ, [], Err, Ok, IfOk, IsTrue, IfSome, MatchBool, MatchOption, ◌↔◌, length};
 ghost use Rattle.snd_tokens.specs.Tokens.{is_plain};
 ghost use Rattle.sndlib_reader.specs.declared.fault.ReadKind.TheVariants.{Form};
 ghost use Rattle.sndlib_reader.specs.Lexemes.{Lexeme, lexemes_from};
@@ -59,16 +59,17 @@ fn open_from(bytes: &[u8], from: u64) -> Result<u64, ReadRefusal>
     }
 }
 
-/// The place behind the closing parenthesis at a place.
+/// The place behind the closing parenthesis at a place, or None where something else stands there.
 #[tactic(auto, unfolding(crate::specs::Reading::close_at, crate::specs::Lexemes::lexemes_from))]
-fn close_from(bytes: &[u8], from: u64) -> Result<u64, ReadRefusal>
+fn close_from(bytes: &[u8], from: u64) -> Option<u64>
     requires { from ≤ length bytes.now }
-    ensures gives { Gives (λ x. lexemes_from x bytes.now) result (close_at (lexemes_from from bytes.now)) }
-    ensures within { IfOk result (λ x. x ≤ length bytes.now) }
+    ensures gives { MatchOption result (close_at (lexemes_from from bytes.now) ≡ Err Form)
+        (λ x. close_at (lexemes_from from bytes.now) ≡ Ok (lexemes_from x bytes.now)) }
+    ensures within { IfSome result (λ x. x ≤ length bytes.now) }
 {
     match next_token(bytes, from) {
-        Some(token) if token.kind == TokenKind::Close => Ok(token.at + token.len),
-        _ => Err(form()),
+        Some(token) if token.kind == TokenKind::Close => Some(token.at + token.len),
+        _ => None,
     }
 }
 
@@ -109,14 +110,24 @@ impl<'a> Text<'a> {
         Ok(())
     }
 
+    /// Takes a closing parenthesis, where one is next. It says whether one was.
+    pub(crate) fn closes(&mut self) -> bool
+        ensures { MatchBool result (close_at self.old ≡ Ok self.new) ((close_at self.old ≡ Err Form) × (self.new ≡ self.old)) }
+    {
+        match close_from(self.bytes, self.at) {
+            Some(at) => {
+                self.at = at;
+                true
+            }
+            None => false,
+        }
+    }
+
     /// Takes the next lexeme, a closing parenthesis.
     pub(crate) fn close(&mut self) -> Result<(), ReadRefusal>
-        ensures gives { Gives (λ _. self.new) result (close_at self.old) }
-        ensures same { OnErr result (self.new ≡ self.old) }
-        ensures only { OnErr result (close_at self.old ≡ Err Form) }
+        ensures { Gives (λ _. self.new) result (close_at self.old) }
     {
-        self.at = close_from(self.bytes, self.at)?;
-        Ok(())
+        if self.closes() { Ok(()) } else { Err(form()) }
     }
 
     /// Whether nothing is left.
