@@ -27,7 +27,7 @@ module_takes text x e =
     let capacity = amount_takes text c.0 c.1 in
     let cost = amount_takes c.0.1 k.0 k.1 in
     subst (λ (y : Module × List Lexeme). SpellsModule y.0 text y.1) (ok_is (record { capacity = c.0.0; cost = k.0.0 }, k.0.1) x k.2)
-        (record { capacity = capacity.word; cost = cost.word; is = capacity.is ∙ ap (λ (t : List Lexeme). Word capacity.word ∷ t) cost.is; capacity_is = capacity.value; cost_is = cost.value })
+    (record { capacity = capacity.word; cost = cost.word; is = capacity.is ∙ ap (λ (t : List Lexeme). Word capacity.word ∷ t) cost.is; capacity_is = capacity.value; cost_is = cost.value })
 
 pub module_again : (m : Module) (text rest : List Lexeme) → Unit {0} → SpellsModule m text rest → (close_at text ≡ Err Form) × (module_at text ≡ Ok (m, rest))
 unfolding module_at
@@ -68,23 +68,23 @@ link_takes nodes text x e =
       routing_cost = r.0.0;
     } in
     subst (λ (y : CostedLink × List Lexeme). SpellsLink nodes y.0 text y.1) (ok_is (l, m.0.1) x m.2)
-        (record {
-          ends = n.0.1;
-          amounts = d.0.1;
-          modules = o.0;
-          fixed = fixed.word;
-          fixed_cost = fixed_cost.word;
-          routing_cost = routing_cost.word;
-          setup = setup.word;
-          name_is = name_takes text n.0 n.1;
-          ends_are = ends_takes nodes n.0.1 d.0 d.1;
-          amounts_are = four_amounts d.0.1 f.0.1 g.0.1 r.0.1 s.0.1 o.0 f.0.0 g.0.0 r.0.0 s.0.0 fixed fixed_cost routing_cost setup (open_takes s.0.1 o.0 o.1);
-          fixed_is = fixed.value;
-          fixed_cost_is = fixed_cost.value;
-          routing_cost_is = routing_cost.value;
-          setup_is = setup.value;
-          modules_are = modules_take o.0 m.0 m.1;
-        })
+    (record {
+      ends = n.0.1;
+      amounts = d.0.1;
+      modules = o.0;
+      fixed = fixed.word;
+      fixed_cost = fixed_cost.word;
+      routing_cost = routing_cost.word;
+      setup = setup.word;
+      name_is = name_takes text n.0 n.1;
+      ends_are = ends_takes nodes n.0.1 d.0 d.1;
+      amounts_are = four_amounts d.0.1 f.0.1 g.0.1 r.0.1 s.0.1 o.0 f.0.0 g.0.0 r.0.0 s.0.0 fixed fixed_cost routing_cost setup (open_takes s.0.1 o.0 o.1);
+      fixed_is = fixed.value;
+      fixed_cost_is = fixed_cost.value;
+      routing_cost_is = routing_cost.value;
+      setup_is = setup.value;
+      modules_are = modules_take o.0 m.0 m.1;
+    })
 
 -- a spelled name is no parenthesis
 pub name_opens : (name : List ℕ) (text rest : List Lexeme) → SpellsName name text rest → close_at text ≡ Err Form
@@ -142,17 +142,17 @@ need_takes text x e =
     let unit = amount_takes text u.0 u.1 in
     let amount = amount_takes u.0.1 a.0 a.1 in
     subst (λ (y : ℕ × List Lexeme). IsNeed text y.0 y.1) t.1
-        (record {
-          unit = unit.word;
-          amount = amount.word;
-          units = u.0.0 / 1000;
-          each = a.0.0;
-          is = unit.is ∙ ap (λ (r : List Lexeme). Word unit.word ∷ r) amount.is;
-          unit_is = unit.value ∙ ap (λ (k : ℕ). Ok k) (whole u.0.0 both.0);
-          amount_is = amount.value;
-          need_is = refl;
-          below = ltb-true (u.0.0 / 1000 * a.0.0) (2 ^ 40) both.1;
-        })
+    (record {
+      unit = unit.word;
+      amount = amount.word;
+      units = u.0.0 / 1000;
+      each = a.0.0;
+      is = unit.is ∙ ap (λ (r : List Lexeme). Word unit.word ∷ r) amount.is;
+      unit_is = unit.value ∙ ap (λ (k : ℕ). Ok k) (whole u.0.0 both.0);
+      amount_is = amount.value;
+      need_is = refl;
+      below = ltb-true (u.0.0 / 1000 * a.0.0) (2 ^ 40) both.1;
+    })
 
 pub need_again : (unit amount : List ℕ) (units each : ℕ) (rest : List Lexeme) → amount_of unit ≡ Ok (1000 * units) → amount_of amount ≡ Ok each → units * each < 2 ^ 40 → need_at (Word unit ∷ Word amount ∷ rest) ≡ Ok (units * each, rest)
 unfolding need_at
