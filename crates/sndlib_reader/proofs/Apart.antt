@@ -12,18 +12,10 @@ use Rattle.net_core.specs.Tests.{are_same, is_named}
 use Rattle.net_core.specs.declared.demand.Demand.{Demand}
 use Rattle.net_core.proofs.Checks.{no_pairs, none_named}
 use Rattle.sndlib_reader.specs.Reading.{are_apart, are_sound}
-use Rattle.sndlib_reader.proofs.Steps.{same_is}
+use Rattle.sndlib_reader.proofs.Steps.{both_true, not_true, same_is}
 
 abbrev pub names_of : List Demand → List (List ℕ)
 names_of demands = map (λ d. d.name) demands
-
-both_true : (a b : Bool) → (a && b) ≡ true → (a ≡ true) × (b ≡ true)
-both_true true b h = (refl, h)
-both_true false b h = absurd cc
-
-not_true : (b : Bool) → not b ≡ true → b ≡ false
-not_true true h = absurd cc
-not_true false h = refl
 
 -- names that passed the test differ
 apart_takes : (earlier : List (List ℕ)) (ds : List Demand) → AllPairs (λ x y. x ≢ y) earlier → are_apart earlier ds ≡ true → AllPairs (λ x y. x ≢ y) (earlier ++ names_of ds)

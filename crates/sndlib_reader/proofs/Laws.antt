@@ -16,7 +16,7 @@ use Rattle.sndlib_reader.specs.declared.fault.ReadKind.TheVariants.{Form}
 use Rattle.sndlib_reader.specs.Lexemes.{Lexeme, Word, Open, Close}
 use Rattle.sndlib_reader.specs.Spelling.{SpellsItems, SpellsName, SpellsEnds, SpellsModule, SpellsLink, SpellsDemand, node_place}
 use Rattle.sndlib_reader.specs.Reading.{◌>>=◌, close_at, open_at, keyword_at, name_at, amount_at, ends_at, items_at, module_at, modules_at, link_at, need_at, demand_at}
-use Rattle.sndlib_reader.proofs.Steps.{bind_ok, if_ok, unless_ok, ok_is, IsAmount, name_takes, name_again, not_closed, amount_takes, amount_again, ends_takes, ends_again, open_takes, open_again, keyword_takes, keyword_again}
+use Rattle.sndlib_reader.proofs.Steps.{bind_ok, both_true, if_ok, unless_ok, ok_is, IsAmount, name_takes, name_again, not_closed, amount_takes, amount_again, ends_takes, ends_again, open_takes, open_again, keyword_takes, keyword_again}
 use Rattle.sndlib_reader.proofs.Items.{items_takes, items_again, TakesItems}
 
 pub module_takes : (text : List Lexeme) (x : Module × List Lexeme) → module_at text ≡ Ok x → SpellsModule x.0 text x.1
@@ -112,10 +112,6 @@ link_again nodes l text rest few s =
     )
 
 -- ---- demands
-
-both_true : (a b : Bool) → (a && b) ≡ true → (a ≡ true) × (b ≡ true)
-both_true true b h = (refl, h)
-both_true false b h = absurd cc
 
 -- a whole number of units of an amount
 pub record IsNeed (text : List Lexeme) (n : ℕ) (rest : List Lexeme) : Type 0 where

@@ -1,6 +1,6 @@
 -- One word, parenthesis, name, amount or node: what is read is spelled, and what is spelled is read.
-use Rattle.std.proofs.Common.{◌≡◌, ℕ, ◌≤◌, Bool, true, false, cond, leb, List, [], ◌∷◌, length, Option, Some, None, Result, Ok, Err, refl, sym, ap, subst, ◌∙◌, ◌⊎◌, inl, inr}
-use Rattle.std.specs.Prelude.{◌==◌}
+use Rattle.std.proofs.Common.{◌≡◌, ℕ, ◌≤◌, Bool, true, false, cond, not, leb, List, [], ◌∷◌, length, Option, Some, None, Result, Ok, Err, refl, sym, ap, subst, ◌∙◌, ◌⊎◌, inl, inr}
+use Rattle.std.specs.Prelude.{◌==◌, ◌&&◌}
 use Rattle.std.proofs.lemmas.Bool.{leb-true, le-leb}
 use Rattle.std.proofs.lemmas.Bool.Decides.{Decides-eqb}
 use Rattle.std.proofs.lemmas.Slice.Eq.{slice_eq-Decides}
@@ -33,6 +33,15 @@ done x = Ok x
 
 pub ok_is : {A : Type 0} (x y : A) → done x ≡ done y → x ≡ y
 ok_is x y e = cc
+
+-- tests that passed
+pub both_true : (a b : Bool) → (a && b) ≡ true → (a ≡ true) × (b ≡ true)
+both_true true b h = (refl, h)
+both_true false b h = absurd cc
+
+pub not_true : (b : Bool) → not b ≡ true → b ≡ false
+not_true true h = absurd cc
+not_true false h = refl
 
 -- names are the same by their bytes
 pub same_is : (a b : List ℕ) → are_same a b ≡ true → a ≡ b
@@ -165,6 +174,9 @@ node_again nodes name id rest h = rw (word_again name rest, h) refl
 
 -- ---- ends
 
+between : (a b c d e : List Lexeme) (x y : List ℕ) → a ≡ Open ∷ b → b ≡ Word x ∷ c → c ≡ Word y ∷ d → d ≡ Close ∷ e → a ≡ Open ∷ Word x ∷ Word y ∷ Close ∷ e
+between a b c d e x y p q r s = rw (p, q, r, s) refl
+
 pub ends_takes : (nodes : List (List ℕ)) (text : List Lexeme) (x : (NodeId × NodeId) × List Lexeme) → ends_at nodes text ≡ Ok x → SpellsEnds nodes x.0.0 x.0.1 text x.1
 unfolding ends_at
 ends_takes nodes text x e =
@@ -174,11 +186,7 @@ ends_takes nodes text x e =
     let r = bind_ok (close_at b.0.1) (λ rest. Ok ((a.0.0, b.0.0), rest)) x b.2 in
     let first = node_takes nodes o.0 a.0 a.1 in
     let second = node_takes nodes a.0.1 b.0 b.1 in
-    let is : text ≡ Open ∷ Word first.name ∷ Word second.name ∷ Close ∷ r.0 =
-    open_takes text o.0 o.1
-    ∙ ap (λ (t : List Lexeme). Open ∷ t) first.is
-    ∙ ap (λ (t : List Lexeme). Open ∷ Word first.name ∷ t) second.is
-    ∙ ap (λ (t : List Lexeme). Open ∷ Word first.name ∷ Word second.name ∷ t) (close_takes b.0.1 r.0 r.1) in
+    let is : text ≡ Open ∷ Word first.name ∷ Word second.name ∷ Close ∷ r.0 = between text o.0 a.0.1 b.0.1 r.0 first.name second.name (open_takes text o.0 o.1) first.is second.is (close_takes b.0.1 r.0 r.1) in
     subst (λ (y : (NodeId × NodeId) × List Lexeme). SpellsEnds nodes y.0.0 y.0.1 text y.1) (ok_is ((a.0.0, b.0.0), r.0) x r.2)
     (record { first = first.name; second = second.name; is = is; first_is = first.place; second_is = second.place })
 

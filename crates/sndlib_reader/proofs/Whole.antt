@@ -22,7 +22,7 @@ use Rattle.sndlib_reader.specs.declared.fault.ReadRefusal.TheVariants.{Bad, NoMe
 use Rattle.sndlib_reader.specs.Lexemes.{Lexeme, Word, Open, Close, lexemes_from, has_comment}
 use Rattle.sndlib_reader.specs.Spelling.{SpellsItems, SpellsSection, SpellsName, SpellsLink, SpellsDemand, SpellsSections, Spells, notes_of, header}
 use Rattle.sndlib_reader.specs.Reading.{◌>>=◌, Gives, Parts, parts_of, are_sound, close_at, name_at, items_at, section_at, link_at, nodes_at, links_at, network_at, demand_at, demands_at, sections_at, file_at}
-use Rattle.sndlib_reader.proofs.Steps.{bind_ok, if_ok, unless_ok, ok_is, done, same_is, is_same, name_again, section_takes, section_again}
+use Rattle.sndlib_reader.proofs.Steps.{bind_ok, both_true, not_true, if_ok, unless_ok, ok_is, done, same_is, is_same, name_again, section_takes, section_again}
 use Rattle.sndlib_reader.proofs.Items.{items_takes, items_again}
 use Rattle.sndlib_reader.proofs.Laws.{name_opens, nodes_take, link_takes, link_again, demand_takes, demand_again}
 use Rattle.sndlib_reader.proofs.Links.{links_are}
@@ -185,14 +185,6 @@ sections_again text parts demands t =
     ) refl
 
 -- ---- whole files
-
-both_true : (a b : Bool) → (a && b) ≡ true → (a ≡ true) × (b ≡ true)
-both_true true b h = (refl, h)
-both_true false b h = absurd cc
-
-not_true : (b : Bool) → not b ≡ true → b ≡ false
-not_true true h = absurd cc
-not_true false h = refl
 
 chosen : {A : Type 0} (b : Bool) (r : Result A ReadKind) (y : A) → cond b r (Err Form) ≡ Ok y → (b ≡ true) × (r ≡ Ok y)
 chosen true r y e = (refl, e)

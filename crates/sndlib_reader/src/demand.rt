@@ -2,8 +2,8 @@ ghost use Rattle.std.specs.Prelude.{◌≡◌, ◌≤◌, IfOk, [], length, sum_
 ghost use Rattle.sndlib_reader.specs.Reading.{Gives, are_apart, are_sound, demand_at, demands_at, items_at, need_at};
 
 use crate::fault::{ReadRefusal, form};
-use crate::link::ends;
 use crate::names::Names;
+use crate::node::ends;
 use crate::text::Text;
 use net_core::{Copied, Demand, Demands, List, Name, NoMemory};
 use std::alloc::Global;

@@ -6,6 +6,7 @@ mod demand;
 pub mod fault;
 mod link;
 mod names;
+mod node;
 mod reader;
 mod text;
 

@@ -1,41 +1,34 @@
-ghost use Rattle.std.specs.Prelude.{◌≡◌, ℕ, List, IfOk, IfErr, true};
+ghost use Rattle.std.specs.Prelude.{◌≡◌, ℕ, List, IfOk, Err};
 ghost use Rattle.net_core.specs.declared.network.Network.{Network as Net};
 ghost use Rattle.net_core.specs.declared.demand.Demand.{Demand as Dem};
-ghost use Rattle.snd_tokens.specs.Tokens.{is_word_byte};
 ghost use Rattle.sndlib_reader.specs.declared.fault.ReadKind.{ReadKind};
-ghost use Rattle.sndlib_reader.specs.Lexemes.{has_comment};
 ghost use Rattle.sndlib_reader.specs.Spelling.{Spells};
-ghost use Rattle.sndlib_reader.specs.Reading.{Gives, file_at, parts_of, sections_at};
+ghost use Rattle.sndlib_reader.specs.Reading.{Gives, file_at, network_at, parts_of, sections_at};
 
 use crate::demand::demands;
 use crate::fault::{ReadRefusal, form};
-use crate::link::network;
-use crate::text::Text;
+use crate::link::links;
+use crate::node::nodes;
+use crate::text::{Text, has_comment};
 use net_core::{Demands, Network};
 use snd_tokens::after_header;
 use std::alloc::Global;
 
 const HEADER: &[u8] = b"?SNDlib native format; type: network; version: 1.0";
 
-/// Neither white space nor a parenthesis.
-fn is_word_byte(b: u8) -> bool
-    ensures { result ≡ is_word_byte b }
+/// The sections of nodes and links.
+#[tactic(auto, unfolding(crate::specs::Reading::network_at))]
+fn network(alloc: Global, text: &mut Text) -> Result<Network, ReadRefusal>
+    ensures { Gives (λ net. (parts_of net, text.new)) result (network_at text.old) }
 {
-    !(b == b' ' || b == b'\t' || b == b'\n' || b == b'\r' || b == b'(' || b == b')')
-}
-
-/// Whether a comment begins in the bytes, before which no word stands.
-fn has_comment(bytes: &[u8]) -> bool
-    ensures { result ≡ has_comment true bytes.now }
-{
-    let mut begins = true;
-    for b in bytes {
-        if begins && *b == b'#' {
-            return true;
-        }
-        begins = !is_word_byte(*b);
+    text.section(b"NODES")?;
+    let nodes = nodes(alloc, text)?;
+    text.section(b"LINKS")?;
+    let (links, notes) = links(alloc, nodes.items(), text)?;
+    match Network::check(nodes, links, notes) {
+        Ok(net) => Ok(net),
+        Err(_) => Err(form()),
     }
-    false
 }
 
 /// The three sections, and nothing behind them.

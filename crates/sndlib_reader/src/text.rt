@@ -1,7 +1,7 @@
-ghost use Rattle.std.specs.Prelude.{◌≡◌, ◌≤◌, List, ℕ, [], Err, Ok, IfOk, IsTrue, IfSome, MatchBool, MatchOption, ◌↔◌, length};
-ghost use Rattle.snd_tokens.specs.Tokens.{is_plain};
+ghost use Rattle.std.specs.Prelude.{◌≡◌, ◌≤◌, List, ℕ, [], Err, Ok, IfOk, IsTrue, IfSome, MatchBool, MatchOption, ◌↔◌, length, true};
+ghost use Rattle.snd_tokens.specs.Tokens.{is_plain, is_word_byte};
 ghost use Rattle.sndlib_reader.specs.declared.fault.ReadKind.TheVariants.{Form};
-ghost use Rattle.sndlib_reader.specs.Lexemes.{Lexeme, lexemes_from};
+ghost use Rattle.sndlib_reader.specs.Lexemes.{Lexeme, has_comment, lexemes_from};
 ghost use Rattle.sndlib_reader.specs.Reading.{Gives, amount_at, close_at, keyword_at, name_at, open_at, section_at, word_at};
 
 use crate::fault::{ReadRefusal, form};
@@ -182,4 +182,25 @@ impl<'a> Text<'a> {
             Err(_) => Err(form()),
         }
     }
+}
+
+/// Neither white space nor a parenthesis.
+fn is_word_byte(b: u8) -> bool
+    ensures { result ≡ is_word_byte b }
+{
+    !(b == b' ' || b == b'\t' || b == b'\n' || b == b'\r' || b == b'(' || b == b')')
+}
+
+/// Whether a comment begins in the bytes, before which no word stands.
+pub(crate) fn has_comment(bytes: &[u8]) -> bool
+    ensures { result ≡ has_comment true bytes.now }
+{
+    let mut begins = true;
+    for b in bytes {
+        if begins && *b == b'#' {
+            return true;
+        }
+        begins = !is_word_byte(*b);
+    }
+    false
 }

@@ -2,7 +2,7 @@ use Rattle.std.proofs.Common.{◌-◌}
 use Rattle.std.proofs.lemmas.Result.{err_from_is_err_and}
 use Rattle.sndlib_reader.specs.Reading.{name_at}
 use Rattle.sndlib_reader.proofs.Items.{breaks, goes_on, is_all, overflows}
-use Rattle.sndlib_reader.proofs.link.nodes.Goals as goal
+use Rattle.sndlib_reader.proofs.node.nodes.Goals as goal
 
 pub returns-then-closes : goal.returns-then-closes
 returns-then-closes c = is_all name_at (128 - c.loop.counter) c.loop.nodes c.loop.text c.closes.new.self _ c.loop.invariant c.if-closes.ensures
