@@ -1,23 +1,20 @@
 -- Modules, links and demands: what is read is spelled, and what is spelled is read.
-use Rattle.std.proofs.Common.{◌≡◌, ◌≢◌, ℕ, ◌+◌, ◌*◌, ◌/◌, ◌%◌, ◌^◌, ◌≤◌, ◌<◌, Bool, true, false, cond, ltb, eqb, List, [], ◌∷◌, ◌++◌, length, Option, Some, None, Result, Ok, Err, refl, sym, ap, subst, ◌∙◌, arith, get_or}
+use Rattle.std.proofs.Common.{◌≡◌, ◌≢◌, ℕ, ◌*◌, ◌/◌, ◌%◌, ◌^◌, ◌≤◌, ◌<◌, true, false, ltb, eqb, List, [], ◌∷◌, length, Some, Ok, Err, refl, sym, ap, subst, ◌∙◌, arith}
 use Rattle.std.specs.Prelude.{◌==◌, ◌&&◌, codes}
 use Rattle.std.proofs.lemmas.Bool.{ltb-true, lt-ltb, eqb-true, eqb-false}
 use Rattle.std.proofs.lemmas.List.Quantifiers.{position-Some}
 use Rattle.snd_tokens.specs.Amounts.{amount_of}
-use Rattle.net_core.specs.declared.ids.NodeId.{NodeId}
 use Rattle.net_core.specs.declared.network.Module.{Module}
-use Rattle.net_core.specs.declared.network.Link.{Link}
 use Rattle.net_core.specs.declared.demand.Demand.{Demand}
 use Rattle.net_core.specs.Tests.{are_same}
 use Rattle.net_core.specs.Demands.{IsDemand}
 use Rattle.sndlib_reader.specs.declared.costs.CostedLink.{CostedLink}
-use Rattle.sndlib_reader.specs.declared.fault.ReadKind.{ReadKind}
 use Rattle.sndlib_reader.specs.declared.fault.ReadKind.TheVariants.{Form}
-use Rattle.sndlib_reader.specs.Lexemes.{Lexeme, Word, Open, Close}
-use Rattle.sndlib_reader.specs.Spelling.{SpellsItems, SpellsName, SpellsEnds, SpellsModule, SpellsLink, SpellsDemand, node_place}
-use Rattle.sndlib_reader.specs.Reading.{◌>>=◌, close_at, open_at, keyword_at, name_at, amount_at, ends_at, items_at, module_at, modules_at, link_at, need_at, demand_at}
+use Rattle.sndlib_reader.specs.Lexemes.{Lexeme, Word, Open}
+use Rattle.sndlib_reader.specs.Spelling.{SpellsItems, SpellsName, SpellsModule, SpellsLink, SpellsDemand, node_place}
+use Rattle.sndlib_reader.specs.Reading.{close_at, open_at, keyword_at, name_at, amount_at, ends_at, items_at, module_at, modules_at, link_at, need_at, demand_at}
 use Rattle.sndlib_reader.proofs.Steps.{bind_ok, both_true, if_ok, unless_ok, ok_is, IsAmount, name_takes, name_again, not_closed, amount_takes, amount_again, ends_takes, ends_again, open_takes, open_again, keyword_takes, keyword_again}
-use Rattle.sndlib_reader.proofs.Items.{items_takes, items_again, TakesItems}
+use Rattle.sndlib_reader.proofs.Items.{items_takes, items_again}
 
 pub module_takes : (text : List Lexeme) (x : Module × List Lexeme) → module_at text ≡ Ok x → SpellsModule x.0 text x.1
 unfolding module_at

@@ -1,5 +1,5 @@
 -- The links with the costs that aren't kept, and the notes on them.
-use Rattle.std.proofs.Common.{◌≡◌, ℕ, Bool, false, not, ◌||◌, List, [], ◌∷◌, ◌++◌, map, Result, Ok, Err, refl, sym, ap, ◌∙◌}
+use Rattle.std.proofs.Common.{◌≡◌, ℕ, Bool, not, ◌||◌, List, [], ◌∷◌, ◌++◌, map, Ok, refl, ap, ◌∙◌}
 use Rattle.std.specs.Prelude.{◌==◌}
 use Rattle.std.specs.List.{list_any}
 use Rattle.std.proofs.Math.Bool.{or-false}
@@ -11,7 +11,7 @@ use Rattle.sndlib_reader.specs.declared.fault.ReadRefusal.{ReadRefusal}
 use Rattle.sndlib_reader.specs.declared.fault.ReadRefusal.TheVariants.{Bad, NoMemory}
 use Rattle.sndlib_reader.specs.Lexemes.{Lexeme}
 use Rattle.sndlib_reader.specs.Spelling.{notes_of, with_costs}
-use Rattle.sndlib_reader.specs.Reading.{Fails, Reading, items_at, link_at, links_at}
+use Rattle.sndlib_reader.specs.Reading.{Fails, items_at, link_at, links_at}
 
 any_push : {X : Type 0} (p : X → Bool) (xs : List X) (x : X) → list_any p (xs ++ x ∷ []) ≡ (list_any p xs || p x)
 any_push p xs x = list_any-append p xs (x ∷ []) ∙ ap (λ b. list_any p xs || b) (or-false (p x))

@@ -1,6 +1,6 @@
 -- One word, parenthesis, name, amount or node: what is read is spelled, and what is spelled is read.
-use Rattle.std.proofs.Common.{◌≡◌, ℕ, ◌≤◌, Bool, true, false, cond, not, leb, List, [], ◌∷◌, length, Option, Some, None, Result, Ok, Err, refl, sym, ap, subst, ◌∙◌, ◌⊎◌, inl, inr}
-use Rattle.std.specs.Prelude.{◌==◌, ◌&&◌}
+use Rattle.std.proofs.Common.{◌≡◌, ℕ, Bool, true, false, cond, not, leb, List, [], ◌∷◌, length, Option, Some, None, Result, Ok, Err, refl, ap, subst, ◌∙◌}
+use Rattle.std.specs.Prelude.{◌&&◌}
 use Rattle.std.proofs.lemmas.Bool.{leb-true, le-leb}
 use Rattle.std.proofs.lemmas.Bool.Decides.{Decides-eqb}
 use Rattle.std.proofs.lemmas.Slice.Eq.{slice_eq-Decides}
@@ -12,7 +12,7 @@ use Rattle.sndlib_reader.specs.declared.fault.ReadKind.{ReadKind}
 use Rattle.sndlib_reader.specs.declared.fault.ReadKind.TheVariants.{Form}
 use Rattle.sndlib_reader.specs.Lexemes.{Lexeme, Word, Open, Close}
 use Rattle.sndlib_reader.specs.Spelling.{SpellsName, SpellsEnds, node_place}
-use Rattle.sndlib_reader.specs.Reading.{◌>>=◌, word_at, open_at, close_at, keyword_at, name_at, number_or, amount_at, known_or, node_at, ends_at, section_at, closing}
+use Rattle.sndlib_reader.specs.Reading.{◌>>=◌, word_at, open_at, close_at, keyword_at, name_at, number_or, amount_at, known_or, node_at, ends_at, section_at}
 
 -- the value of a step that did not fail
 pub bind_ok : {A B : Type 0} (r : Result A ReadKind) (f : A → Result B ReadKind) (y : B) → (r >>= f) ≡ Ok y → (x : A) × (r ≡ Ok x) × (f x ≡ Ok y)

@@ -1,11 +1,11 @@
 -- Sections and whole files: what is read is spelled, and what is spelled is read.
-use Rattle.std.proofs.Common.{◌≡◌, ◌≢◌, ℕ, ◌<◌, ◌≤◌, ◌^◌, Bool, true, false, cond, not, List, [], ◌∷◌, ◌++◌, map, length, drop, get_or, All, AllPairs, Option, None, Some, is_some, Result, Ok, Err, IfOk, refl, sym, ap, subst, ◌∙◌, arith}
+use Rattle.std.proofs.Common.{◌≡◌, ℕ, ◌<◌, ◌≤◌, Bool, true, false, cond, not, List, [], ◌∷◌, map, length, drop, get_or, All, Option, None, Some, is_some, Result, Ok, Err, IfOk, refl, sym, ap, subst, ◌∙◌}
 use Rattle.std.specs.Prelude.{◌==◌, ◌&&◌, codes}
 use Rattle.std.specs.Cmp.Lexicographic.{pointwise}
 use Rattle.std.proofs.lemmas.Bool.{eqb-true}
 use Rattle.std.proofs.lemmas.List.{length-map, get_or-map, nil_from_length}
 use Rattle.std.proofs.lemmas.List.Elements.{All-cons, All-nil}
-use Rattle.snd_tokens.specs.Header.{HasHeader, first_line, second_line, trimmed}
+use Rattle.snd_tokens.specs.Header.{first_line, second_line, trimmed}
 use Rattle.net_core.specs.declared.network.Link.{Link}
 use Rattle.net_core.specs.declared.network.NetFault.{NetFault}
 use Rattle.net_core.specs.declared.network.Network.{Network}
@@ -18,11 +18,11 @@ use Rattle.sndlib_reader.specs.declared.costs.CostedLink.{CostedLink}
 use Rattle.sndlib_reader.specs.declared.fault.ReadKind.{ReadKind}
 use Rattle.sndlib_reader.specs.declared.fault.ReadKind.TheVariants.{Form}
 use Rattle.sndlib_reader.specs.declared.fault.ReadRefusal.{ReadRefusal}
-use Rattle.sndlib_reader.specs.declared.fault.ReadRefusal.TheVariants.{Bad, NoMemory}
-use Rattle.sndlib_reader.specs.Lexemes.{Lexeme, Word, Open, Close, lexemes_from, has_comment}
+use Rattle.sndlib_reader.specs.declared.fault.ReadRefusal.TheVariants.{Bad}
+use Rattle.sndlib_reader.specs.Lexemes.{Lexeme, lexemes_from, has_comment}
 use Rattle.sndlib_reader.specs.Spelling.{SpellsItems, SpellsSection, SpellsName, SpellsLink, SpellsDemand, SpellsSections, Spells, notes_of, header}
-use Rattle.sndlib_reader.specs.Reading.{◌>>=◌, Gives, Parts, parts_of, are_sound, close_at, name_at, items_at, section_at, link_at, nodes_at, links_at, network_at, demand_at, demands_at, sections_at, file_at}
-use Rattle.sndlib_reader.proofs.Steps.{bind_ok, both_true, not_true, if_ok, unless_ok, ok_is, done, same_is, is_same, name_again, section_takes, section_again}
+use Rattle.sndlib_reader.specs.Reading.{Gives, Parts, parts_of, are_sound, name_at, items_at, section_at, link_at, nodes_at, links_at, network_at, demand_at, demands_at, sections_at, file_at}
+use Rattle.sndlib_reader.proofs.Steps.{bind_ok, both_true, not_true, if_ok, unless_ok, ok_is, same_is, is_same, name_again, section_takes, section_again}
 use Rattle.sndlib_reader.proofs.Items.{items_takes, items_again}
 use Rattle.sndlib_reader.proofs.Laws.{name_opens, nodes_take, link_takes, link_again, demand_takes, demand_again}
 use Rattle.sndlib_reader.proofs.Links.{links_are}

@@ -1,5 +1,5 @@
 -- Reading from left to right: the value and the lexemes behind it, or the fault.
-use Rattle.std.specs.Prelude.{◌≡◌, ℕ, zero, suc, ◌+◌, ◌*◌, ◌/◌, ◌%◌, ◌^◌, ◌==◌, nat_lt, nat_le, Bool, true, false, cond, not, ◌&&◌, if◌then◌else◌, List, [], ◌∷◌, ◌++◌, length, map, drop, Option, Some, None, Result, Ok, Err, sum_by, AllPairs, codes}
+use Rattle.std.specs.Prelude.{◌≡◌, ℕ, zero, suc, ◌*◌, ◌/◌, ◌%◌, ◌^◌, ◌==◌, nat_lt, nat_le, Bool, true, not, ◌&&◌, if◌then◌else◌, List, [], ◌∷◌, ◌++◌, length, map, drop, Option, Some, None, Result, Ok, Err, sum_by, codes}
 use Rattle.snd_tokens.specs.declared.amount.NumberFault.{NumberFault}
 use Rattle.snd_tokens.specs.Amounts.{amount_of}
 use Rattle.std.specs.Prelude.{is_some}

@@ -1,6 +1,6 @@
 -- The grammar of a network file: which lexemes spell which network and demands.
 -- Each relation says that a value is spelled by the lexemes of `text` up to `rest`.
-use Rattle.std.specs.Prelude.{◌≡◌, ℕ, ◌+◌, ◌*◌, ◌≤◌, ◌==◌, Bool, true, false, not, ◌||◌, List, [], ◌∷◌, length, map, drop, Option, Some, None, Ok, position, codes}
+use Rattle.std.specs.Prelude.{◌≡◌, ℕ, ◌*◌, ◌≤◌, ◌==◌, true, false, not, ◌||◌, List, [], ◌∷◌, length, map, drop, Option, Some, None, Ok, position, codes}
 use Rattle.std.specs.List.{list_any}
 use Rattle.snd_tokens.specs.Amounts.{amount_of}
 use Rattle.snd_tokens.specs.Header.{HasHeader, second_line}
@@ -9,7 +9,6 @@ use Rattle.net_core.specs.Network.{network_fault}
 use Rattle.net_core.specs.Demands.{AreDemands}
 use Rattle.net_core.specs.declared.ids.NodeId.{NodeId}
 use Rattle.net_core.specs.declared.network.Module.{Module}
-use Rattle.net_core.specs.declared.network.Link.{Link}
 use Rattle.net_core.specs.declared.network.Notes.{Notes}
 use Rattle.net_core.specs.declared.network.Network.{Network}
 use Rattle.net_core.specs.declared.demand.Demand.{Demand}

@@ -1,4 +1,3 @@
-use Rattle.std.proofs.Common.{◌≤◌, length, sym}
 use Rattle.sndlib_reader.proofs.Laws.{few_nodes}
 use Rattle.sndlib_reader.proofs.reader.network.Goals as goal
 
