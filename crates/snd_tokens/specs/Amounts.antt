@@ -1,10 +1,11 @@
--- Decimal numbers with few places after the point, and whole numbers.
-use Rattle.std.specs.Prelude.{◌≡◌, ℕ, IsTrue, ◌+◌, ◌*◌, ◌^◌, ◌==◌, nat_lt, Bool, cond, not, ◌||◌, ◌&&◌, List, [], ◌∷◌, ◌++◌, take, drop, replicate, Result, Ok, Err}
+-- decimal numbers with so many places after the point that count, as amounts are
+use Rattle.std.specs.Prelude.{◌≡◌, ℕ, IsTrue, ◌+◌, ◌*◌, ◌^◌, ◌==◌, nat_lt, Bool, cond, not, ◌||◌, ◌&&◌, List, ◌++◌, take, drop, replicate, Result, Ok, Err}
 use Rattle.std.specs.List.{list_all, list_any, before_first, after_first}
 use Rattle.snd_tokens.specs.declared.amount.NumberFault.{NumberFault}
 use Rattle.snd_tokens.specs.declared.amount.NumberFault.TheVariants.{NotANumber, TooFine, TooLarge}
 use Rattle.snd_tokens.specs.Digits.{is_digit, are_digits, number_of}
 
+-- the byte `.`
 abbrev pub is_point : ℕ → Bool
 is_point b = b == 46
 
@@ -18,7 +19,8 @@ places_of word = after_first is_point word
 
 -- one or more digits, or one or more digits, a point, and one or more digits
 abbrev pub is_decimal : List ℕ → Bool
-is_decimal word = are_digits (whole_part word) && (not (list_any is_point word) || are_digits (places_of word))
+is_decimal word =
+    are_digits (whole_part word) && (not (list_any is_point word) || are_digits (places_of word))
 
 -- the digits before a word's point and those after it
 pub record AreParts (word whole places : List ℕ) : Type 0 where
@@ -31,15 +33,15 @@ pub record AreParts (word whole places : List ℕ) : Type 0 where
 abbrev pub first_places : ℕ → List ℕ → List ℕ
 first_places n places = take n (places ++ replicate n 48)
 
--- a word's value, as a count of units of which 10 ^ n make one, where the places past the n-th are 0
+-- a word's value in units of which 10 ^ n make one, if the places past the n-th are zeros
 abbrev pub units : ℕ → List ℕ → ℕ
 units n word = 10 ^ n * number_of (whole_part word) + number_of (first_places n (places_of word))
 
--- no place past the n-th but zeros
+-- the places past the n-th are zeros
 abbrev pub is_coarse : ℕ → List ℕ → Bool
 is_coarse n word = list_all (λ b. b == 48) (drop n (places_of word))
 
--- the value of a word in units of which 10 ^ n make one, below a limit, or its first fault
+-- a word's value in units of which 10 ^ n make one, if it is below a limit, or its fault
 abbrev pub decimal_below : ℕ → ℕ → List ℕ → Result ℕ NumberFault
 decimal_below n limit word =
     cond (not (is_decimal word)) (Err NotANumber)

@@ -1,5 +1,5 @@
--- The tokens of a text: words, and parentheses, each a token of its own.
-use Rattle.std.specs.Prelude.{◌≡◌, ℕ, zero, suc, ◌+◌, ◌≤◌, ◌==◌, Bool, true, false, cond, not, ◌||◌, ◌&&◌, IsTrue, List, [], ◌∷◌, ◌++◌, length, drop, slice_range}
+-- the tokens of a text: words, and parentheses, each a token of its own
+use Rattle.std.specs.Prelude.{◌≡◌, ℕ, zero, suc, ◌+◌, ◌≤◌, ◌==◌, Bool, false, cond, not, ◌||◌, ◌&&◌, IsTrue, List, [], ◌∷◌, ◌++◌, length, drop, slice_range}
 use Rattle.std.specs.List.{prefix_len, position_or_len, list_all}
 pub use Rattle.snd_tokens.specs.declared.token.Token.{Token}
 pub use Rattle.snd_tokens.specs.declared.token.TokenKind.{TokenKind}
@@ -17,18 +17,20 @@ is_word_byte b = not (is_space b || b == 40 || b == 41)
 abbrev pub starts_token : ℕ → Bool
 starts_token b = not (is_space b || b == 35)
 
--- how many bytes from the front on are before the first line feed, or all
+-- how many bytes there are before the first line feed, or in all
 abbrev pub line_length : List ℕ → ℕ
 line_length bytes = position_or_len (λ b. b == 10) bytes
 
--- how many bytes the longest run of word bytes at the front has
+-- how many word bytes there are from the front on
 abbrev pub run_length : List ℕ → ℕ
 run_length bytes = prefix_len is_word_byte bytes
 
--- how many of the bytes after b belong to what b begins: a `#` begins a comment, which lasts to the end of the line, and any other word byte a word
+-- how many of the bytes after b belong to what b begins: `#` begins a comment, which ends before
+-- the next line feed, and any other word byte begins a word, the longest run of word bytes
 abbrev pub extent : ℕ → List ℕ → ℕ
 extent b bytes = cond (b == 35) (line_length bytes) (cond (is_word_byte b) (run_length bytes) 0)
 
+-- the token of a kind, from its place and how many bytes it has
 abbrev pub token_of : TokenKind → ℕ → ℕ → Token
 token_of kind at len = record { kind = kind; at = at; len = len }
 
@@ -40,7 +42,8 @@ begun at b bytes =
     (cond (b == 41) (token_of Close at 1 ∷ [])
     (token_of Word at (1 + run_length bytes) ∷ [])))
 
--- the tokens that begin in a text whose first byte is at a place, where its first bytes belong to what began before: `skip` of them
+-- the tokens that begin in bytes of which the first is at a place, where the first `skip` of them
+-- belong to what began before
 abbrev pub tokens_past : ℕ → ℕ → List ℕ → List Token
 tokens_past skip at [] = []
 tokens_past zero at (b ∷ bytes) = begun at b bytes ++ tokens_past (extent b bytes) (at + 1) bytes
@@ -69,7 +72,7 @@ IsSpelled Word bytes = IsTrue (is_plain bytes)
 IsSpelled Open bytes = bytes ≡ 40 ∷ []
 IsSpelled Close bytes = bytes ≡ 41 ∷ []
 
--- a token of a text that begins at a place or after it: it lies in the text and has the bytes of its kind
+-- a token that begins at a place or after it: it lies in the text and has the bytes of its kind
 pub record IsTokenOf (from : ℕ) (bytes : List ℕ) (t : Token) : Type 0 where
   pub after : from ≤ t.at
   pub some : 1 ≤ t.len

@@ -1,4 +1,4 @@
--- whole numbers in the one form that has no needless zero
+-- whole numbers, each of which has one form
 use Rattle.std.specs.Prelude.{ℕ, ◌^◌, ◌==◌, nat_lt, Bool, false, cond, not, ◌||◌, ◌&&◌, List, [], ◌∷◌, Result, Ok, Err, bytes_eq}
 use Rattle.snd_tokens.specs.declared.whole_number.WholeFault.{WholeFault}
 use Rattle.snd_tokens.specs.declared.whole_number.WholeFault.TheVariants.{NotANumber, TooLarge}

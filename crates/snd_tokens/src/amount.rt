@@ -21,10 +21,10 @@ pub enum NumberFault {
     TooLarge,
 }
 
-/// The thousandths that an amount is below.
+/// An amount is below this many thousandths.
 const AMOUNT_LIMIT: u128 = 1 << 40;
 
-/// The digits before the point and those after it.
+/// The digits before the point and those after it, or None where the word is no decimal number.
 fn parts(word: &[u8]) -> Option<(&[u8], &[u8])>
     ensures { MatchOption result (IsTrue (is_decimal word.now) → ⊥)
         (λ p. IsTrue (is_decimal word.now) × AreParts word.now p.0.now p.1.now) }
@@ -56,8 +56,8 @@ fn thousandths(whole: &[u8], places: &[u8], limit: u128) -> Option<u128>
     requires whole { IsTrue (list_all is_digit whole.now) }
     requires places { IsTrue (list_all is_digit places.now) }
     requires limit { 0 < limit }
-    ensures { MatchOption result (limit ≤ 1000 * number_of whole.now + number_of (first_places 3 places.now))
-        (λ n. (n ≡ 1000 * number_of whole.now + number_of (first_places 3 places.now)) × (n < limit)) }
+    ensures { let value = 1000 * number_of whole.now + number_of (first_places 3 places.now) in
+        MatchOption result (limit ≤ value) (λ n. (n ≡ value) × (n < limit)) }
 {
     let zeros: &[u8] = b"000";
     let shown = places.len().min(3);
@@ -66,7 +66,7 @@ fn thousandths(whole: &[u8], places: &[u8], limit: u128) -> Option<u128>
     number_below(number, &zeros[shown..], limit)
 }
 
-/// The value in thousandths of a decimal number below a limit.
+/// The value of a decimal number in thousandths, of which there are to be fewer than the limit.
 fn decimal(word: &[u8], limit: u128) -> Result<u128, NumberFault>
     requires { 0 < limit }
     ensures { result ≡ decimal_below 3 limit word.now }
@@ -77,10 +77,7 @@ fn decimal(word: &[u8], limit: u128) -> Result<u128, NumberFault>
     if !is_coarse(places) {
         return Err(NumberFault::TooFine);
     }
-    match thousandths(whole, places, limit) {
-        Some(number) => Ok(number),
-        None => Err(NumberFault::TooLarge),
-    }
+    thousandths(whole, places, limit).ok_or(NumberFault::TooLarge)
 }
 
 /// The value of an amount in thousandths.
@@ -89,8 +86,6 @@ pub fn milli(word: &[u8]) -> Result<u64, NumberFault>
     ensures value { result ≡ amount_of word.now }
     ensures small { IfOk result (λ n. n < 2 ^ 40) }
 {
-    match decimal(word, AMOUNT_LIMIT) {
-        Ok(number) => Ok(number as u64),
-        Err(fault) => Err(fault),
-    }
+    let number = decimal(word, AMOUNT_LIMIT)?;
+    Ok(number as u64)
 }

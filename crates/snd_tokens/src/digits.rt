@@ -5,7 +5,7 @@ ghost use Rattle.snd_tokens.specs.Digits.{are_digits, is_digit, number_behind};
 fn is_digit(b: u8) -> bool
     ensures { result ≡ is_digit b }
 {
-    b >= b'0' && b <= b'9'
+    b.is_ascii_digit()
 }
 
 fn all_digits(bytes: &[u8]) -> bool

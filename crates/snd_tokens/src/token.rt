@@ -54,7 +54,8 @@ fn token_start(bytes: &[u8], from: usize) -> usize
     requires { from ≤ length bytes.now }
     ensures range { (from ≤ result) × (result ≤ length bytes.now) }
     ensures same { tokens_from from bytes.now ≡ tokens_from result bytes.now }
-    ensures start { result < length bytes.now → IsTrue (starts_token (slice_index bytes.now result)) }
+    ensures start { result < length bytes.now
+        → IsTrue (starts_token (slice_index bytes.now result)) }
 {
     let mut at = from;
     while at < bytes.len() {
@@ -74,7 +75,8 @@ fn token_start(bytes: &[u8], from: usize) -> usize
 fn token_at(bytes: &[u8], at: usize) -> Token
     requires within { at < length bytes.now }
     requires start { IsTrue (starts_token (slice_index bytes.now at)) }
-    ensures first { tokens_from at bytes.now ≡ result ∷ tokens_from (result.at + result.len) bytes.now }
+    ensures first { tokens_from at bytes.now
+        ≡ result ∷ tokens_from (result.at + result.len) bytes.now }
     ensures token { IsTokenOf at bytes.now result }
 {
     if bytes[at] == b'(' {
@@ -100,7 +102,8 @@ fn token_between(kind: TokenKind, at: usize, end: usize) -> Token
 /// The first token at a place or after it.
 pub fn next_token(bytes: &[u8], from: u64) -> Option<Token>
     requires { from ≤ length bytes.now }
-    ensures first { MatchOption result (tokens_from from bytes.now ≡ []) (λ t. tokens_from from bytes.now ≡ t ∷ tokens_from (t.at + t.len) bytes.now) }
+    ensures first { MatchOption result (tokens_from from bytes.now ≡ [])
+        (λ t. tokens_from from bytes.now ≡ t ∷ tokens_from (t.at + t.len) bytes.now) }
     ensures token { IfSome result (λ t. IsTokenOf from bytes.now t) }
 {
     let at = token_start(bytes, from as usize);

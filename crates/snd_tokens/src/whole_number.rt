@@ -15,7 +15,7 @@ pub enum WholeFault {
     TooLarge,
 }
 
-/// What a whole number is below.
+/// A whole number is below this.
 const WHOLE_LIMIT: u128 = 1 << 126;
 
 fn begins_with_zero(word: &[u8]) -> bool
@@ -49,8 +49,5 @@ pub fn whole(word: &[u8]) -> Result<u128, WholeFault>
     if !is_whole(word) {
         return Err(WholeFault::NotANumber);
     }
-    match number_below(0, word, WHOLE_LIMIT) {
-        Some(number) => Ok(number),
-        None => Err(WholeFault::TooLarge),
-    }
+    number_below(0, word, WHOLE_LIMIT).ok_or(WholeFault::TooLarge)
 }

@@ -1,4 +1,4 @@
-use Rattle.std.proofs.Common.{◌≡◌, arith, sym, ◌∙◌, zero-add}
+use Rattle.std.proofs.Common.{arith, sym, ◌∙◌, zero-add}
 use Rattle.snd_tokens.proofs.Points.{without_point, bad_places}
 use Rattle.snd_tokens.proofs.amount.parts.Goals as goal
 

@@ -1,4 +1,4 @@
-use Rattle.std.proofs.Common.{◌≡◌, ◌+◌, ◌-◌, ◌*◌, ◌<◌, ◌≤◌, List, [], ◌∷◌, drop, take, arith, sym, ap, subst, ◌∙◌, MatchOption}
+use Rattle.std.proofs.Common.{◌≡◌, ◌+◌, ◌-◌, ◌*◌, ◌<◌, ◌≤◌, [], ◌∷◌, drop, take, arith, ap, subst, ◌∙◌, MatchOption}
 use Rattle.snd_tokens.specs.Digits.{number_of, number_behind}
 use Rattle.snd_tokens.specs.Amounts.{first_places}
 use Rattle.snd_tokens.proofs.Numbers.{number_behind-le, number_behind-zero, thousandths_value}

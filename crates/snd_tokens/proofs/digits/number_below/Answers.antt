@@ -1,4 +1,4 @@
-use Rattle.std.proofs.Common.{◌≡◌, ◌+◌, ◌-◌, ◌*◌, get_or, drop, arith, sym, ap, ◌∙◌}
+use Rattle.std.proofs.Common.{◌+◌, ◌-◌, ◌*◌, get_or, drop, arith, sym, ap, ◌∙◌}
 use Rattle.snd_tokens.specs.Digits.{number_behind}
 use Rattle.snd_tokens.proofs.Numbers.{number_behind-digit, number_behind-le}
 use Rattle.snd_tokens.proofs.digits.number_below.Goals as goal

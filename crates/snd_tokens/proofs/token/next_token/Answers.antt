@@ -1,4 +1,4 @@
-use Rattle.std.proofs.Common.{◌≡◌, ◌+◌, drop, arith, ◌∙◌, ap, sym}
+use Rattle.std.proofs.Common.{◌∙◌, ap}
 use Rattle.snd_tokens.specs.Tokens.{tokens_from}
 use Rattle.snd_tokens.proofs.Scan.{tokens_from-end}
 use Rattle.snd_tokens.proofs.token.next_token.Goals as goal

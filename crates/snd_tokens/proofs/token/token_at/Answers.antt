@@ -1,4 +1,4 @@
-use Rattle.std.proofs.Common.{◌≡◌, ◌+◌, arith, ◌∙◌, sym, refl}
+use Rattle.std.proofs.Common.{◌+◌, arith, refl}
 use Rattle.snd_tokens.proofs.Scan.{tokens_from-open, tokens_from-close, tokens_from-word, first_token, is_word_byte-start, word_spelled}
 use Rattle.snd_tokens.proofs.token.token_at.Goals as goal
 

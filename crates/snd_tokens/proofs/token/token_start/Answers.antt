@@ -1,4 +1,4 @@
-use Rattle.std.proofs.Common.{◌≡◌, ◌+◌, drop, arith, ◌∙◌, ap, sym}
+use Rattle.std.proofs.Common.{arith, ◌∙◌, ap, sym}
 use Rattle.snd_tokens.specs.Tokens.{tokens_from}
 use Rattle.snd_tokens.proofs.Scan.{tokens_from-comment, tokens_from-space}
 use Rattle.snd_tokens.proofs.token.token_start.Goals as goal
