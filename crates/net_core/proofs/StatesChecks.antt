@@ -1,17 +1,15 @@
 -- what the tests of a list of failure states tell
-use Rattle.std.proofs.Common.{◌≡◌, ◌≢◌, ℕ, ◌+◌, ◌<◌, ◌≤◌, Bool, true, false, not, ◌==◌, nat_lt, List, [], ◌∷◌, ◌++◌, All, AllPairs, Option, None, Some, get_or, length, refl, sym, ◌∙◌, ap, subst, arith, take, drop, add-one, append_assoc, append-nil}
+use Rattle.std.proofs.Common.{◌≡◌, ◌≢◌, ℕ, ◌+◌, ◌<◌, ◌≤◌, false, not, ◌==◌, nat_lt, List, [], ◌∷◌, ◌++◌, All, AllPairs, None, get_or, length, sym, ◌∙◌, ap, subst, arith, take, drop, add-one, append_assoc, append-nil}
 use Rattle.std.specs.Option.{option_or}
 use Rattle.std.specs.List.{list_any}
 use Rattle.std.proofs.Math.Seq.{drop-cons, take-suc}
 use Rattle.std.proofs.lemmas.List.Elements.{All-cons, All-nil, All-append}
 use Rattle.std.proofs.lemmas.List.Quantifiers.{all_pairs_push}
 use Rattle.std.proofs.lemmas.Bool.{ltb-false, ltb-true, eqb-false}
-use Rattle.net_core.specs.declared.ids.LinkId.{LinkId}
 use Rattle.net_core.specs.declared.states.Listed.{Listed}
-use Rattle.net_core.specs.declared.states.StatesFault.{StatesFault}
 use Rattle.net_core.specs.declared.states.StatesFault.TheVariants.{TooMany, Empty, UnknownLink, DoubleState}
 use Rattle.net_core.specs.Tests.{first_fault, is_named}
-use Rattle.net_core.specs.States.{AreStates, IsStateList, listed_tests, all_listed_tests, states_fault}
+use Rattle.net_core.specs.States.{AreStates, listed_tests, all_listed_tests, states_fault}
 use Rattle.net_core.proofs.Checks.{first_fault-append, none_head, none_or, none_passes, none_named, not_true, no_pairs}
 
 -- the tests of the states from i on begin with those of i

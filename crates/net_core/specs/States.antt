@@ -1,5 +1,5 @@
 -- failure states: state 0 fails nothing, and state i + 1 fails the links of the listed state i
-use Rattle.std.specs.Prelude.{◌≡◌, ◌≢◌, ℕ, zero, suc, ◌≤◌, ◌<◌, ◌==◌, ◌++◌, List, [], ◌∷◌, Bool, false, not, nat_lt, length, All, AllPairs, Option, slice_get}
+use Rattle.std.specs.Prelude.{◌≢◌, ℕ, zero, suc, ◌≤◌, ◌<◌, ◌==◌, ◌++◌, List, [], ◌∷◌, Bool, false, not, nat_lt, length, All, AllPairs, Option, slice_get}
 use Rattle.std.specs.List.{list_any}
 use Rattle.std.specs.Option.{option_map_or}
 use Rattle.net_core.specs.declared.ids.LinkId.{LinkId}

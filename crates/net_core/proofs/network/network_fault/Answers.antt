@@ -1,4 +1,4 @@
-use Rattle.std.proofs.Common.{sym, ◌∙◌, ap, is_some}
+use Rattle.std.proofs.Common.{sym, ◌∙◌}
 use Rattle.net_core.proofs.NetworkChecks.{nodes_found, links_found}
 use Rattle.net_core.proofs.network.network_fault.Goals as goal
 

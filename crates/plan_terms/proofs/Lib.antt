@@ -1,0 +1,11 @@
+pub mod Bounds
+pub mod Distances
+pub mod Distinct
+pub mod Duality
+pub mod Joining
+pub mod Metric
+pub mod Multipliers
+pub mod OwnBounds
+pub mod Shortcuts
+pub mod Sums
+pub mod Walks

@@ -1,0 +1,6 @@
+pub mod Choices
+pub mod Numbers
+pub mod Pairs
+pub mod Searching
+pub mod Taking
+pub mod Weights

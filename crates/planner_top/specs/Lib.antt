@@ -1,0 +1,4 @@
+pub mod Choice
+pub mod Routes
+pub mod Texts
+pub mod Trees

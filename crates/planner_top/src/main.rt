@@ -1,0 +1,11 @@
+//! Plans link capacities for a network.
+#![tactic(auto)]
+
+mod choice;
+mod loads;
+mod output;
+mod status;
+mod text;
+mod tree;
+
+fn main() {}
