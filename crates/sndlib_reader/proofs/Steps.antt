@@ -174,8 +174,9 @@ node_again nodes name id rest h = rw (word_again name rest, h) refl
 
 -- ---- ends
 
-between : (a b c d e : List Lexeme) (x y : List ℕ) → a ≡ Open ∷ b → b ≡ Word x ∷ c → c ≡ Word y ∷ d → d ≡ Close ∷ e → a ≡ Open ∷ Word x ∷ Word y ∷ Close ∷ e
-between a b c d e x y p q r s = rw (p, q, r, s) refl
+-- two nodes between parentheses
+spelled_ends : (nodes : List (List ℕ)) (text first second last rest : List Lexeme) (a b : NodeId) → text ≡ Open ∷ first → IsNode nodes first a second → IsNode nodes second b last → last ≡ Close ∷ rest → SpellsEnds nodes a b text rest
+spelled_ends nodes text first second last rest a b o p q c = record { first = p.name; second = q.name; is = rw (o, p.is, q.is, c) refl; first_is = p.place; second_is = q.place }
 
 pub ends_takes : (nodes : List (List ℕ)) (text : List Lexeme) (x : (NodeId × NodeId) × List Lexeme) → ends_at nodes text ≡ Ok x → SpellsEnds nodes x.0.0 x.0.1 text x.1
 unfolding ends_at
@@ -184,11 +185,8 @@ ends_takes nodes text x e =
     let a = bind_ok (node_at nodes o.0) (λ a. node_at nodes a.1 >>= λ b. close_at b.1 >>= λ rest. Ok ((a.0, b.0), rest)) x o.2 in
     let b = bind_ok (node_at nodes a.0.1) (λ b. close_at b.1 >>= λ rest. Ok ((a.0.0, b.0), rest)) x a.2 in
     let r = bind_ok (close_at b.0.1) (λ rest. Ok ((a.0.0, b.0.0), rest)) x b.2 in
-    let first = node_takes nodes o.0 a.0 a.1 in
-    let second = node_takes nodes a.0.1 b.0 b.1 in
-    let is : text ≡ Open ∷ Word first.name ∷ Word second.name ∷ Close ∷ r.0 = between text o.0 a.0.1 b.0.1 r.0 first.name second.name (open_takes text o.0 o.1) first.is second.is (close_takes b.0.1 r.0 r.1) in
-    subst (λ (y : (NodeId × NodeId) × List Lexeme). SpellsEnds nodes y.0.0 y.0.1 text y.1) (ok_is ((a.0.0, b.0.0), r.0) x r.2)
-    (record { first = first.name; second = second.name; is = is; first_is = first.place; second_is = second.place })
+    let spelled = spelled_ends nodes text o.0 a.0.1 b.0.1 r.0 a.0.0 b.0.0 (open_takes text o.0 o.1) (node_takes nodes o.0 a.0 a.1) (node_takes nodes a.0.1 b.0 b.1) (close_takes b.0.1 r.0 r.1) in
+    subst (λ (y : (NodeId × NodeId) × List Lexeme). SpellsEnds nodes y.0.0 y.0.1 text y.1) (ok_is ((a.0.0, b.0.0), r.0) x r.2) spelled
 
 pub ends_again : (nodes : List (List ℕ)) (a b : NodeId) (text rest : List Lexeme) → SpellsEnds nodes a b text rest → ends_at nodes text ≡ Ok ((a, b), rest)
 unfolding ends_at

@@ -1,8 +1,7 @@
 -- Reading from left to right: the value and the lexemes behind it, or the fault.
-use Rattle.std.specs.Prelude.{◌≡◌, ℕ, zero, suc, ◌*◌, ◌/◌, ◌%◌, ◌^◌, ◌==◌, nat_lt, nat_le, Bool, true, not, ◌&&◌, if◌then◌else◌, List, [], ◌∷◌, ◌++◌, length, map, drop, Option, Some, None, Result, Ok, Err, sum_by, codes}
+use Rattle.std.specs.Prelude.{◌≡◌, ℕ, zero, suc, ◌*◌, ◌/◌, ◌%◌, ◌^◌, ◌==◌, nat_lt, nat_le, Bool, true, not, ◌&&◌, if◌then◌else◌, List, [], ◌∷◌, ◌++◌, length, map, drop, Option, Some, None, is_some, Result, Ok, Err, sum_by, codes}
 use Rattle.snd_tokens.specs.declared.amount.NumberFault.{NumberFault}
 use Rattle.snd_tokens.specs.Amounts.{amount_of}
-use Rattle.std.specs.Prelude.{is_some}
 use Rattle.std.specs.Cmp.Lexicographic.{pointwise}
 use Rattle.snd_tokens.specs.Header.{first_line, second_line, trimmed}
 use Rattle.net_core.specs.Tests.{are_same, is_named}
@@ -25,6 +24,7 @@ use Rattle.sndlib_reader.specs.Spelling.{node_place, notes_of, header}
 abbrev pub Reading : Type 0 → Type 0
 Reading X = Result (X × List Lexeme) ReadKind
 
+-- one step after another, up to the first fault
 infixl 10 ◌>>=◌
 abbrev pub ◌>>=◌ : {A B : Type 0} → Result A ReadKind → (A → Result B ReadKind) → Result B ReadKind
 (Ok x) >>= f = f x
@@ -40,18 +40,21 @@ abbrev pub Gives : {X Y : Type 0} → (X → Y) → Result X ReadRefusal → Res
 Gives view (Ok x) read = read ≡ Ok (view x)
 Gives view (Err e) read = Fails e read
 
+-- a word
 unfoldable pub word_at : List Lexeme → Reading (List ℕ)
 word_at [] = Err Form
 word_at (Word w ∷ rest) = Ok (w, rest)
 word_at (Open ∷ rest) = Err Form
 word_at (Close ∷ rest) = Err Form
 
+-- an opening parenthesis
 unfoldable pub open_at : List Lexeme → Result (List Lexeme) ReadKind
 open_at [] = Err Form
 open_at (Word w ∷ rest) = Err Form
 open_at (Open ∷ rest) = Ok rest
 open_at (Close ∷ rest) = Err Form
 
+-- a closing parenthesis
 unfoldable pub close_at : List Lexeme → Result (List Lexeme) ReadKind
 close_at [] = Err Form
 close_at (Word w ∷ rest) = Err Form
@@ -64,6 +67,7 @@ keyword_at key text = do
   w ← word_at text
   if are_same w.0 key then Ok w.1 else Err Form
 
+-- a word of at most 255 bytes
 unfoldable pub name_at : List Lexeme → Reading (List ℕ)
 name_at text = do
   w ← word_at text
@@ -74,12 +78,14 @@ abbrev pub number_or : Result ℕ NumberFault → Result ℕ ReadKind
 number_or (Ok n) = Ok n
 number_or (Err f) = Err Form
 
+-- an amount, in thousandths
 unfoldable pub amount_at : List Lexeme → Reading ℕ
 amount_at text = do
   w ← word_at text
   n ← number_or (amount_of w.0)
   Ok (n, w.1)
 
+-- a place as a node's number
 abbrev pub known_or : Option ℕ → Result NodeId ReadKind
 known_or None = Err Form
 known_or (Some i) = Ok (record { 0 = i })
@@ -116,15 +122,18 @@ section_at name text = do
   rest ← keyword_at name text
   open_at rest
 
+-- a capacity and a cost
 unfoldable pub module_at : List Lexeme → Reading Module
 module_at text = do
   capacity ← amount_at text
   cost ← amount_at capacity.1
   Ok (record { capacity = capacity.0; cost = cost.0 }, cost.1)
 
+-- the modules of a link
 abbrev pub modules_at : List Lexeme → Reading (List Module)
 modules_at text = items_at module_at 16 [] text
 
+-- a link, with the costs that aren't kept
 unfoldable pub link_at : List (List ℕ) → List Lexeme → Reading CostedLink
 link_at nodes text = do
   name ← name_at text
@@ -151,6 +160,7 @@ need_at text = do
   amount ← amount_at unit.1
   if (unit.0 % 1000 == 0) && nat_lt (unit.0 / 1000 * amount.0) (2 ^ 40) then Ok (unit.0 / 1000 * amount.0, amount.1) else Err Form
 
+-- a demand of two different nodes
 unfoldable pub demand_at : List (List ℕ) → List Lexeme → Reading Demand
 demand_at nodes text = do
   name ← name_at text
@@ -168,14 +178,17 @@ are_apart earlier (d ∷ ds) = not (is_named (λ n. n) d.name earlier) && are_ap
 abbrev pub are_sound : List Demand → Bool
 are_sound demands = are_apart [] demands && nat_lt (sum_by (λ d. d.need) demands) (2 ^ 44)
 
+-- the names of the nodes
 abbrev pub nodes_at : List Lexeme → Reading (List (List ℕ))
 nodes_at text = items_at name_at 128 [] text
 
+-- the links, and which costs they have
 unfoldable pub links_at : List (List ℕ) → List Lexeme → Reading (List Link × Notes)
 links_at nodes text = do
   links ← items_at (link_at nodes) 256 [] text
   Ok ((map (λ l. l.link) links.0, notes_of links.0), links.1)
 
+-- the demands, if they are sound together
 unfoldable pub demands_at : List (List ℕ) → List Lexeme → Reading (List Demand)
 demands_at nodes text = do
   demands ← items_at (demand_at nodes) 2048 [] text
@@ -187,6 +200,7 @@ pub record Parts : Type 0 where
   pub links : List Link
   pub notes : Notes
 
+-- the parts of a network
 abbrev pub parts_of : Network → Parts
 parts_of net = record { nodes = net.nodes; links = net.links; notes = net.notes }
 
