@@ -59,7 +59,7 @@ fn file(alloc: Global, bytes: &[u8]) -> Result<(Network, Demands), ReadRefusal>
     sections(alloc, &mut Text::new(bytes, start))
 }
 
-/// The network and the demands that a file spells.
+/// The network and the demands that a file spells, read to its end. `NoMemory` may come at any file.
 pub fn read_network(alloc: Global, bytes: &[u8]) -> Result<(Network, Demands), ReadRefusal>
     // What is read is spelled.
     ensures read { IfOk result (λ r. Spells bytes.now r.0 r.1) }
