@@ -79,9 +79,9 @@ none_least ms need none = record {
   reaches = record {
     shape = length-replicate (length ms) 0;
     kind = omega (arith, positive-zeros (length ms));
-    reached = omega (arith, none)
+    reached = omega (arith, none);
   };
-  least = λ others reaches. omega (arith, value-zeros (λ m. m.cost) ms (length ms))
+  least = λ others reaches. omega (arith, value-zeros (λ m. m.cost) ms (length ms));
 }
 
 -- the best kind is the least for a need
@@ -90,9 +90,9 @@ best_least ms need at count some best = record {
   reaches = record {
     shape = length-set (replicate (length ms) 0) at count ∙ length-replicate (length ms) 0;
     kind = positive-one (length ms) at count;
-    reached = omega (arith, value-one (λ m. m.capacity) ms at count best.module_at best.is, best.reaches)
+    reached = omega (arith, value-one (λ m. m.capacity) ms at count best.module_at best.is, best.reaches);
   };
-  least = λ others reaches. omega (arith, value-one (λ m. m.cost) ms at count best.module_at best.is, bounded need (best.module_at.cost * count) ms others some (λ k c m is enough. best.least k m c is enough) reaches.kind reaches.reached)
+  least = λ others reaches. omega (arith, value-one (λ m. m.cost) ms at count best.module_at best.is, bounded need (best.module_at.cost * count) ms others some (λ k c m is enough. best.least k m c is enough) reaches.kind reaches.reached);
 }
 
 -- so many modules reach the need, and no fewer do
@@ -122,7 +122,7 @@ best_first ms m need count at enough = record {
   module_at = m;
   is = at;
   reaches = enough.enough;
-  least = λ j x c lt is reach. let zero : j ≡ 0 = omega arith in fewer_cost m x need count c (same_at ms 0 m x at (subst (λ i. slice_get ms i ≡ Some x) zero is)) enough reach
+  least = λ j x c lt is reach. let zero : j ≡ 0 = omega arith in fewer_cost m x need count c (same_at ms 0 m x at (subst (λ i. slice_get ms i ≡ Some x) zero is)) enough reach;
 }
 
 -- one more kind, which is no better
@@ -137,7 +137,7 @@ best_stays ms k need at count other a b at_is k_is best enough less = record {
       let same : a.cost * count ≡ best.module_at.cost * count = ap (λ y. y.cost * count) one in
       omega (arith, more, less, same))
       (λ ne. best.least j x c (omega (arith, lt, ne)) is reach)
-      (cases_eq j k)
+      (cases_eq j k);
 }
 
 -- one more kind, which is better
@@ -152,7 +152,7 @@ best_moves ms k need at count other a b at_is k_is best enough less = record {
       let same : a.cost * count ≡ best.module_at.cost * count = ap (λ y. y.cost * count) one in
       let more : best.module_at.cost * count ≤ x.cost * c = best.least j x c (omega (arith, lt, ne)) is reach in
       omega (arith, more, less, same))
-      (cases_eq j k)
+      (cases_eq j k);
 }
 
 -- the best of all kinds
@@ -161,5 +161,5 @@ best_of_all ms k need at count all best = record {
   module_at = best.module_at;
   is = best.is;
   reaches = best.reaches;
-  least = λ j m c is reach. best.least j m c (omega (arith, slice_get_within ms j m is)) is reach
+  least = λ j m c is reach. best.least j m c (omega (arith, slice_get_within ms j m is)) is reach;
 }

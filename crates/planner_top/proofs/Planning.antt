@@ -127,10 +127,10 @@ planned links listed demands flows counts r least =
             let enough = (of_loads e l.0 c.0 l.1 c.1).reaches.reached in
             omega (arith, capacity_at links counts e l.0 c.0 l.1 c.1, enough))
             (λ past. let none = load_none links listed 0 demands flows e r.each (λ v. let in' = slice_get_within links e v.link v.at in omega (arith, in', past)) in omega (arith, none))
-            (cases_lt e (length links))
+            (cases_lt e (length links));
       };
       shape = all_shaped links counts least.long (λ e l c p q. (of_loads e l c p q).reaches.shape);
-      least = record { long = least.long; least = of_loads }
+      least = record { long = least.long; least = of_loads };
     }
 
 -- what is known of the links and the sizes of routes
@@ -157,5 +157,5 @@ unserved links listed s demands flows e l each at none =
 pub same_loads : (links : List Link) (a b : ℕ → ℕ) (counts : List (List ℕ)) → ((e : ℕ) → e < length links → a e ≡ b e) → AreLeastCounts links a counts → AreLeastCounts links b counts
 same_loads links a b counts same least = record {
   long = least.long;
-  least = λ e l c p q. subst (λ w. AreLeast l.modules (w - l.fixed) c) (same e (slice_get_within links e l p)) (least.least e l c p q)
+  least = λ e l c p q. subst (λ w. AreLeast l.modules (w - l.fixed) c) (same e (slice_get_within links e l p)) (least.least e l c p q);
 }

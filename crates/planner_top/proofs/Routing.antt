@@ -47,7 +47,7 @@ module _ (joins : ℕ → ℕ → ℕ → Type 0) (demands : List Demand) where
     small = All-nil (λ f. f.num < 2 ^ 40);
     single = λ i j d lt in'. absurd (omega arith);
     met = λ j d lt is. absurd (omega arith);
-    joined = λ j d lt is some apart. omega arith
+    joined = λ j d lt is some apart. omega arith;
   }
 
   weaker : (k : ℕ) (flows : List Flow) → All (λ f. f.demand < k) flows → All (λ f. f.demand < k + 1) flows
@@ -73,7 +73,7 @@ module _ (joins : ℕ → ℕ → ℕ → Type 0) (demands : List Demand) where
         (λ same. let one : e ≡ d = same_demand k d e at (subst (λ x. slice_get demands x ≡ Some e) same is) in
         let zero' : e.need ≡ 0 = ap (λ (x : Demand). x.need) one ∙ none in omega (arith, zero', some))
         (λ ne. r.joined j e (omega (arith, lt, ne)) is some apart)
-        (cases_eq j k)
+        (cases_eq j k);
   }
 
   -- a demand with the flow of its need
@@ -99,7 +99,7 @@ module _ (joins : ℕ → ℕ → ℕ → Type 0) (demands : List Demand) where
             (λ same. let one : e ≡ d = same_demand k d e at (subst (λ x. slice_get demands x ≡ Some e) same is') in
             subst (λ (x : Demand). AreApart joins x.from.0 x.to.0) one apart es path)
             (λ ne. r.joined j e (omega (arith, lt, ne)) is' some' apart)
-            (cases_eq j k)
+            (cases_eq j k);
       }
 
 -- the first demand whose ends are apart
@@ -108,7 +108,7 @@ routed_apart links listed demands k flows d at some apart r = record {
   state = omega arith;
   separates = record { demand = d; at = at; needed = some; apart = apart };
   least_state = λ t j lt s. omega arith;
-  least_demand = λ j lt s. r.joined j s.demand lt s.at s.needed s.apart
+  least_demand = λ j lt s. r.joined j s.demand lt s.at s.needed s.apart;
 }
 
 -- a demand that was taken

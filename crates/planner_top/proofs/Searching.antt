@@ -150,7 +150,7 @@ search_met hops n root nowhere place onward queue head h i =
       queued = queued_after hops n root nowhere place onward queue head h i;
       counted = omega (arith, s.counted, length-append queue (h.to.0 ∷ []), fewer place h.to.0 nowhere (length queue) r.2 i.new r.1);
       sound = sound_after hops n root nowhere place onward queue head h i;
-      closed = closed_after hops n root nowhere place onward queue head h i
+      closed = closed_after hops n root nowhere place onward queue head h i;
     }
 
 -- where all hops from the node at `head` lead to nodes with places, the search goes on behind it
@@ -172,7 +172,7 @@ search_on hops n root nowhere place onward queue head x s at all below inside = 
       let same : a ≡ x = cc (subst (λ p. slice_get queue p ≡ Some a) now got, at) in
       all e b (subst (λ j. HasHop hops e j b) same hop))
       (λ ne. s.closed e a b hop (omega (arith, near, ne)))
-      (cases_eq (get_or place a 0) head)
+      (cases_eq (get_or place a 0) head);
 }
 
 -- where no node is left in the queue, the search has made a tree
@@ -183,7 +183,7 @@ search_done hops n root nowhere place onward queue head s all inside = record {
   rooted = s.rooted;
   start = s.start;
   sound = s.sound;
-  closed = λ e x y hop near. s.closed e x y hop (omega (arith, slice_get_within queue (get_or place x 0) x (s.met x (inside e x y hop) near), all))
+  closed = λ e x y hop near. s.closed e x y hop (omega (arith, slice_get_within queue (get_or place x 0) x (s.met x (inside e x y hop) near), all));
 }
 
 -- nothing has been taken yet
@@ -205,7 +205,7 @@ visited_more leaving i h p0 o0 q0 p1 o1 q1 p2 o2 q2 nowhere is before meets hops
       reached = λ j g lt' is'. ⊎_elim
           (λ same. let one : g ≡ h = cc (subst (λ x. slice_get leaving x ≡ Some g) same is', is) in subst (λ (x : Hop). get_or p1 x.to.0 0 < nowhere) (sym one) placed)
           (λ ne. v.reached j g (omega (arith, lt', ne)) is')
-          (cases_eq j i)
+          (cases_eq j i);
     } in
     subst (λ q. IsVisited hops (length p0) root nowhere leaving (i + 1) p0 p2 o2 q head) (sym old.3)
     (subst (λ o. IsVisited hops (length p0) root nowhere leaving (i + 1) p0 p2 o q1 head) (sym old.2)
@@ -224,7 +224,7 @@ visited_more leaving i h p0 o0 q0 p1 o1 q1 p2 o2 q2 nowhere is before meets hops
           (λ same. let one : g ≡ h = cc (subst (λ x. slice_get leaving x ≡ Some g) same is', is) in absurd (other (ap (λ (x : Hop). x.to.0) one)))
           (λ ne. let old = v.reached a g (omega (arith, lt', ne)) is' in omega (arith, at', old))
           (cases_eq a i))
-          (cases_eq g.to.0 h.to.0)
+          (cases_eq g.to.0 h.to.0);
     } in
     subst (λ q. IsVisited hops n root nowhere leaving (i + 1) p0 p2 o2 q head) (sym new.3)
     (subst (λ o. IsVisited hops n root nowhere leaving (i + 1) p0 p2 o (q1 ++ h.to.0 ∷ []) head) (sym new.2)
@@ -316,7 +316,7 @@ search_begins hops n root nowhere onward lt below size =
       queued = λ p k got. let one = only_one root p k got in (subst (λ j. j < n) (sym one.1) lt, ap (λ j. get_or place j 0) one.1 ∙ at_root ∙ sym one.0);
       counted = let few = fewer (replicate n nowhere) root nowhere 0 (omega (arith, lt, long)) (get-replicate n nowhere root lt) (λ e. absurd (omega (arith, below, e))) in omega (arith, few, count-replicate n nowhere);
       sound = λ k h is near ne. absurd (let in' : k < n = omega (arith, slice_get_within onward k h is, size) in omega (arith, away k in' ne, near));
-      closed = λ e x y hop near. absurd (omega arith)
+      closed = λ e x y hop near. absurd (omega arith);
     }
 
 pub search_from : (hops : List Hop) (n root nowhere : ℕ) (place : List ℕ) (onward : List Hop) (queue : List ℕ) → root < n → n < nowhere → place ≡ set (replicate n nowhere) root 0 → length onward ≡ n → queue ≡ root ∷ [] → IsSearch hops n root nowhere place onward queue 0

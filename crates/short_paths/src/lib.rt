@@ -1,7 +1,7 @@
 //! Least lengths over all paths of surviving links.
 #![tactic(auto)]
 
-mod hops;
+pub mod hops;
 mod pairs;
 mod rows;
 mod search;

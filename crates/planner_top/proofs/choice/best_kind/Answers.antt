@@ -23,7 +23,7 @@ loop-k-preserved c =
     let at_is = slice_get-get_or ms at nothing c.loop-k.invariant.0 in
     let k_is = slice_get-get_or ms k nothing c.loop-k-test.true in
     elim c.if-cost_of.branch [
-      then-cost_of w ↦ (omega arith, subst (λ n. IsBestSoFar ms (k + 1) c.args.need n c.if-cost_of.count) (sym w.at-is) (subst (λ n. IsBestSoFar ms (k + 1) c.args.need k n) (sym w.count-is) (best_moves ms k c.args.need at c.loop-k.count c.count_for-other.result _ _ at_is k_is best enough (omega arith))))
+      | then-cost_of w ↦ (omega arith, subst (λ n. IsBestSoFar ms (k + 1) c.args.need n c.if-cost_of.count) (sym w.at-is) (subst (λ n. IsBestSoFar ms (k + 1) c.args.need k n) (sym w.count-is) (best_moves ms k c.args.need at c.loop-k.count c.count_for-other.result _ _ at_is k_is best enough (omega arith))))
       | else-cost_of w ↦ (omega arith, subst (λ n. IsBestSoFar ms (k + 1) c.args.need n c.if-cost_of.count) (sym w.at-is) (subst (λ n. IsBestSoFar ms (k + 1) c.args.need at n) (sym w.count-is) (best_stays ms k c.args.need at c.loop-k.count c.count_for-other.result _ _ at_is k_is best enough (omega arith))))
     ]
 

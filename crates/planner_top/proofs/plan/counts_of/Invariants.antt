@@ -6,6 +6,6 @@ use Rattle.planner_top.proofs.plan.counts_of.Given as goal
 -- the links so far have their counts
 abbrev pub invariant-loop-e : goal.invariant-loop-e
 invariant-loop-e l = record {
-    long : length l.counts ≡ l.e;
-    least : (e : ℕ) (k : Link) (c : List ℕ) → slice_get l.links e ≡ Some k → slice_get l.counts e ≡ Some c → AreLeast k.modules (get_or l.loads e 0 - k.fixed) c
-  }
+  long : length l.counts ≡ l.e;
+  least : (e : ℕ) (k : Link) (c : List ℕ) → slice_get l.links e ≡ Some k → slice_get l.counts e ≡ Some c → AreLeast k.modules (get_or l.loads e 0 - k.fixed) c;
+}

@@ -20,7 +20,7 @@ loop-at-preserved c =
     record {
       in_range = on.1;
       near = omega (arith, on.2, i.near);
-      goes = λ tail goes. subst (λ p. Goes onward c.args.root.0 c.args.from.0 (p ++ tail)) (sym c.in-Ok.ensures.ok) (goes_on onward c.args.root.0 c.args.from.0 at c.loop-at.path (get_or c.items.result.now at nothing) on.0 c.loop-at-test.true i.goes tail goes)
+      goes = λ tail goes. subst (λ p. Goes onward c.args.root.0 c.args.from.0 (p ++ tail)) (sym c.in-Ok.ensures.ok) (goes_on onward c.args.root.0 c.args.from.0 at c.loop-at.path (get_or c.items.result.now at nothing) on.0 c.loop-at-test.true i.goes tail goes);
     }
 
 pub returns : goal.returns

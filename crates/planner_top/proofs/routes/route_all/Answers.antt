@@ -19,5 +19,5 @@ loop-k-preserved c =
     let limit : d.need < 2 ^ 40 = (subst (λ (x : Demand). IsDemand (length c.args.trees.now) x) (sym c.index-demands-k.is) (c.requires.demands.each c.loop-k.k d c.loop-k-test.true)).need in
     record {
       trees = subst (λ n. AreTrees c.args.hops.now.all n NOWHERE c.take_demand.new.trees) (sym same) c.take_demand.ensures.trees;
-      routes = routed_taken joins demands c.loop-k.k c.loop-k.flows c.take_demand.new.flows d (slice_get_read demands (length demands) c.loop-k.k d refl c.loop-k-test.true c.index-demands-k.is) limit taken c.loop-k.invariant.routes
+      routes = routed_taken joins demands c.loop-k.k c.loop-k.flows c.take_demand.new.flows d (slice_get_read demands (length demands) c.loop-k.k d refl c.loop-k-test.true c.index-demands-k.is) limit taken c.loop-k.invariant.routes;
     }

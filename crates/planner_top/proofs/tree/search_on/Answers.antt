@@ -34,10 +34,10 @@ loop-head-preserved c = record {
       let leaving : AreLeaving c.args.hops.now.all n c.index.result.now c.leaving-leaving.result.now = record {
         here = c.leaving-leaving.ensures.here;
         all = c.leaving-leaving.ensures.all;
-        within = within_all c.args.hops.now.all n (length c.args.hops.now.starts) size c.args.hops.now.within
+        within = within_all c.args.hops.now.all n (length c.args.hops.now.starts) size c.args.hops.now.within;
       } in
       subst (λ m. IsSearch c.args.hops.now.all m root NOWHERE c.meet_all.new.place c.meet_all.new.onward c.meet_all.new.queue.items (c.loop-head.head + 1)) (sym same)
-      (head_moves c.args.hops.now.all n root NOWHERE c.loop-head.place c.loop-head.onward c.loop-head.queue.items c.loop-head.head c.index.result.now c.leaving-leaving.result.now c.meet_all.new.place c.meet_all.new.onward c.meet_all.new.queue.items refl now left c.index.ensures few leaving c.in_ok-meet_all.ensures)
+      (head_moves c.args.hops.now.all n root NOWHERE c.loop-head.place c.loop-head.onward c.loop-head.queue.items c.loop-head.head c.index.result.now c.leaving-leaving.result.now c.meet_all.new.place c.meet_all.new.onward c.meet_all.new.queue.items refl now left c.index.ensures few leaving c.in_ok-meet_all.ensures);
 }
 
 pub returns : goal.returns
