@@ -5,7 +5,9 @@ use Rattle.std.proofs.lemmas.List.Sums.{sum_by-cons}
 use Rattle.std.proofs.lemmas.Bool.{cases_Bool, cases_lt, false≢true}
 use Rattle.std.proofs.lemmas.Option.{get_or_from_slice_get, slice_get_within}
 use Rattle.net_core.specs.Demands.{AreDemands, IsDemand}
-use Rattle.net_core.specs.Network.{IsLink}
+use Rattle.std.proofs.Math.Logic.{∥∥₁_elim}
+use Rattle.std.proofs.Props.{props}
+use Rattle.net_core.specs.Network.{IsLink, IsNetwork}
 use Rattle.net_core.specs.States.{names_link}
 use Rattle.net_core.specs.declared.demand.Demand.{Demand}
 use Rattle.net_core.specs.declared.ids.LinkId.{LinkId}
@@ -159,3 +161,7 @@ same_loads links a b counts same least = record {
   long = least.long;
   least = λ e l c p q. subst (λ w. AreLeast l.modules (w - l.fixed) c) (same e (slice_get_within links e l p)) (least.least e l c p q);
 }
+
+-- each link of a network is sound
+pub network_links : (nodes : List (List ℕ)) (links : List Link) → ∥ IsNetwork nodes links ∥₁ → All (IsLink (length nodes)) links
+network_links nodes links checked = ∥∥₁_elim checked (hlevel props) (λ net. net.sound)
