@@ -7,14 +7,14 @@ use Rattle.std.proofs.lemmas.Option.{get_or_from_slice_get, slice_get_within}
 use Rattle.net_core.specs.Demands.{AreDemands, IsDemand}
 use Rattle.std.proofs.Math.Logic.{∥∥₁_elim}
 use Rattle.std.proofs.Props.{props}
-use Rattle.net_core.specs.Network.{IsLink, IsNetwork}
+use Rattle.net_core.specs.Network.{IsLink, IsModule, IsNetwork}
 use Rattle.net_core.specs.States.{names_link}
 use Rattle.net_core.specs.declared.demand.Demand.{Demand}
 use Rattle.net_core.specs.declared.ids.LinkId.{LinkId}
 use Rattle.net_core.specs.declared.network.Link.{Link}
 use Rattle.net_core.specs.declared.plan.Flow.{Flow}
 use Rattle.net_core.specs.declared.states.Listed.{Listed}
-use Rattle.plan_terms.specs.Capacities.{AreCounts, AreLeast, capacities, modules_capacity}
+use Rattle.plan_terms.specs.Capacities.{AreCounts, AreLeast, IsAble, IsAbleIn, capacities, modules_capacity}
 use Rattle.plan_terms.specs.Flows.{Carries, IsFlow, load}
 use Rattle.plan_terms.specs.Paths.{IsPath, Joins, Leads, Survives}
 use Rattle.plan_terms.proofs.Distinct.{DistinctLinks, path_links_differ, path_links_known}
@@ -165,3 +165,20 @@ same_loads links a b counts same least = record {
 -- each link of a network is sound
 pub network_links : (nodes : List (List ℕ)) (links : List Link) → ∥ IsNetwork nodes links ∥₁ → All (IsLink (length nodes)) links
 network_links nodes links checked = ∥∥₁_elim checked (hlevel props) (λ net. net.sound)
+
+-- the counts of a plan, link by link
+pub shapes : (links : List Link) (counts : List (List ℕ)) → AreCounts links counts → (i : ℕ) (l : Link) (c : List ℕ) → i < length links → length (get_or counts i c) ≡ length (get_or links i l).modules
+shapes [] counts are i l c lt = absurd (omega arith)
+shapes (k ∷ ks) [] are i l c lt = absurd are
+shapes (k ∷ ks) (d ∷ ds) are zero l c lt = are.0
+shapes (k ∷ ks) (d ∷ ds) are (suc i) l c lt = shapes ks ds are.1 i l c (omega arith)
+
+pub modules_sound : (nodes : List (List ℕ)) (links : List Link) → ∥ IsNetwork nodes links ∥₁ → All (λ l. (length l.modules ≤ 16) × All IsModule l.modules) links
+modules_sound nodes links checked k d lt = let sound = network_links nodes links checked k d lt in (sound.few, sound.each)
+
+-- a plan's counts can carry the demands where there are no failures
+pub able : (links : List Link) (demands : List Demand) (counts : List (List ℕ)) → IsOnePathPlan links [] demands counts → IsAble links [] demands counts
+able links demands counts plan = record {
+  shape = plan.shape;
+  each = λ s lt. let none : s ≡ 0 = omega arith in subst (λ t. IsAbleIn links [] demands counts t) (sym none) (record { routing = plan.routing; carries = plan.carries });
+}

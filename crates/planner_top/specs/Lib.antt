@@ -1,5 +1,6 @@
 pub mod Choice
 pub mod Plans
 pub mod Routes
+pub mod Run
 pub mod Texts
 pub mod Trees
