@@ -6,7 +6,7 @@ ghost use Rattle.short_paths.specs.DistanceTables.{AreAllDistances};
 
 use crate::hops::Hops;
 use crate::search::{FAR, Search};
-use crate::table::DistanceTable;
+use crate::table::{DistanceTable, pair_count};
 use net_core::{Lengths, List, Network, NoMemory, NodeId, StateId, States};
 use std::alloc::Global;
 
@@ -45,7 +45,10 @@ pub fn all_pairs(
     let hops = Hops::new(alloc, net, states, state)?;
     let nodes = net.nodes().len() as u32;
     let mut search = Search::new(alloc, net.nodes().len())?;
-    let mut pairs = List::new(alloc);
+    let Ok(room) = Vec::with_capacity(alloc, pair_count(nodes)) else {
+        return Err(NoMemory);
+    };
+    let mut pairs = List::from_vec(room);
     for high in 0..nodes {
         add_row(&hops, lengths.items(), high, &mut search, &mut pairs)?;
     }

@@ -15,13 +15,21 @@ pub struct DistanceTable {
     pub ghost low: { All (λ d. d < FAR → d < 2 ^ 39) pairs },
 }
 
+/// How many pairs the nodes have.
+pub(crate) fn pair_count(nodes: u32) -> usize
+    requires { nodes ≤ 128 }
+    ensures { result ≡ pair_count nodes }
+{
+    (nodes * nodes.saturating_sub(1) / 2) as usize
+}
+
 /// Where the number of two nodes stands.
 fn pair_place(low: u32, high: u32) -> usize
     requires order { low < high }
     requires few { high < 128 }
     ensures { result ≡ pair_place low high }
 {
-    (high * (high - 1) / 2 + low) as usize
+    pair_count(high) + low as usize
 }
 
 impl DistanceTable {
