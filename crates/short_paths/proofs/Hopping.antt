@@ -4,7 +4,7 @@ use Rattle.std.specs.List.{All, Contains}
 use Rattle.std.specs.List.Sorted.{IsPermutation, IsPartitionPoint}
 use Rattle.std.proofs.lemmas.Bool.{cases_lt, ltb-true, ltb-false}
 use Rattle.std.proofs.lemmas.List.{get_or_append_left, get_or_push, get_or-take, get_or-drop}
-use Rattle.std.proofs.lemmas.List.Elements.{Contains-append_left, Contains-append_right, Contains-append_cases, Contains-push_cases, Contains-get_or}
+use Rattle.std.proofs.lemmas.List.Elements.{All-contains, Contains-append_left, Contains-append_right, Contains-append_cases, Contains-push_cases, Contains-get_or}
 use Rattle.std.proofs.lemmas.List.Sorted.{Contains-permutation, IsPermutation-sym}
 use Rattle.short_paths.specs.declared.hops.Hop.{Hop}
 use Rattle.short_paths.specs.Hops.{AddsHops, AreHops, AreStarts, IsStart, HasHop}
@@ -96,6 +96,14 @@ hops_within joins hops n are inside = λ k d lt.
     let h = get_or hops k d in
     let both = inside h.link.0 h.from.0 h.to.0 (are.sound h.link.0 h.from.0 h.to.0 (Contains-get_or hops k d lt)) in
     (omega (arith, both.0), omega (arith, both.1))
+
+pub hops_below : (joins : ℕ → ℕ → ℕ → Type 0) (hops : List Hop) (n : ℕ) → AreHops joins hops → ((e x y : ℕ) → joins e x y → e < n) → All (λ h. h.link.0 < n) hops
+hops_below joins hops n are inside = λ k d lt.
+    let h = get_or hops k d in
+    inside h.link.0 h.from.0 h.to.0 (are.sound h.link.0 h.from.0 h.to.0 (Contains-get_or hops k d lt))
+
+pub hop_within : (hops : List Hop) (n e x y : ℕ) → All (λ h. (h.from.0 + 1 < n) × (h.to.0 + 1 < n)) hops → HasHop hops e x y → (x + 1 < n) × (y + 1 < n)
+hop_within hops n e x y all has = All-contains (λ h. (h.from.0 + 1 < n) × (h.to.0 + 1 < n)) hops (hop e x y) all has
 
 -- where the hops of a node begin, by a search in the middle of what is left
 pub start_from_point : (hops : List Hop) (x i : ℕ) → i ≤ length hops → IsPartitionPoint (λ h. ltb h.from.0 x ≡ true) (λ h. ltb h.from.0 x ≡ false) hops i → IsStart hops x i

@@ -1,1 +1,5 @@
 pub mod Hopping
+pub mod PairNumbers
+pub mod Relaxing
+pub mod Settling
+pub mod Tables

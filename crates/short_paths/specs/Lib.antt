@@ -1,2 +1,4 @@
+pub mod DistanceTables
 pub mod Hops
+pub mod Pairs
 pub mod Tables

@@ -19,6 +19,7 @@ pub struct Hop {
 pub struct Hops {
     all: List<Hop>,
     starts: List<usize>,
+    pub ghost few: { length starts ≤ 129 },
     pub ghost sorted: { AreStarts all starts },
     pub ghost within: { All (λ h. (h.from.0 + 1 < length starts) × (h.to.0 + 1 < length starts)) all },
 }
@@ -133,6 +134,7 @@ impl Hops {
     ) -> Result<Hops, NoMemory>
         requires { state.0 < length states.now.listed + 1 }
         ensures nodes { IfOk result (λ hops. length hops.starts ≡ length net.now.nodes + 1) }
+        ensures links { IfOk result (λ hops. All (λ h. h.link.0 < length net.now.links) hops.all) }
         ensures hops { IfOk result (λ hops. AreHops (Joins net.now.links states.now.listed state.0) hops.all) }
     {
         let hops = surviving_hops(alloc, net, states, state)?;

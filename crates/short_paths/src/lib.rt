@@ -1,4 +1,12 @@
 //! Least lengths over all paths of surviving links.
 #![tactic(auto)]
 
-pub mod hops;
+mod hops;
+mod pairs;
+mod rows;
+mod search;
+mod table;
+
+pub use pairs::all_pairs;
+pub use rows::distances;
+pub use table::DistanceTable;
