@@ -3,3 +3,4 @@ pub mod Names
 pub mod Network
 pub mod States
 pub mod Tests
+pub mod Lists

@@ -1,0 +1,17 @@
+//! Exact fractions, and rows of whole numbers over one denominator.
+#![tactic(auto)]
+
+mod divisor;
+pub mod fraction;
+mod mix;
+pub mod pivot;
+pub mod row;
+pub mod scale;
+
+pub use fraction::{cmp, gcd, mul_div};
+pub use pivot::{WideNumber, combine};
+pub use row::Row;
+pub use scale::rescale;
+
+#[cfg(test)]
+mod tests;
