@@ -2,5 +2,9 @@
 #![tactic(auto)]
 
 mod choice;
+mod loads;
+mod output;
+mod status;
+mod text;
 
 fn main() {}
