@@ -1,5 +1,6 @@
 -- counts of modules: the capacity that they install, what they cost, and whether they can do
-use Rattle.std.specs.Prelude.{◌≡◌, ℕ, ◌+◌, ◌*◌, ◌≤◌, List, [], ◌∷◌, count_by, nat_lt, length, map, sum_by, zip}
+use Rattle.std.specs.Prelude.{◌≡◌, ℕ, ◌+◌, ◌*◌, ◌≤◌, List, count_by, nat_lt, length, map, sum_by, zip}
+use Rattle.std.specs.List.{AllZip}
 use Rattle.net_core.specs.declared.demand.Demand.{Demand}
 use Rattle.net_core.specs.declared.network.Module.{Module}
 use Rattle.net_core.specs.declared.network.Link.{Link}
@@ -26,10 +27,7 @@ total_cost links counts = sum_by (λ p. modules_cost p.0.modules p.1) (zip links
 
 -- one count for each module of each link
 abbrev pub AreCounts : List Link → List (List ℕ) → Type 0
-AreCounts [] [] = Unit {0}
-AreCounts (l ∷ ls) (c ∷ cs) = (length c ≡ length l.modules) × AreCounts ls cs
-AreCounts [] (c ∷ cs) = ⊥
-AreCounts (l ∷ ls) [] = ⊥
+AreCounts links counts = AllZip (λ l c. length c ≡ length l.modules) links counts
 
 -- in state s some routing carries the demands within the capacities of the counts
 pub record IsAbleIn (links : List Link) (listed : List Listed) (demands : List Demand) (counts : List (List ℕ)) (s : ℕ) : Type 0 where

@@ -10,6 +10,7 @@ use Rattle.net_core.specs.declared.network.Module.{Module}
 use Rattle.net_core.specs.declared.network.Link.{Link}
 use Rattle.plan_terms.specs.Capacities.{AreLeast, AreOfOneKind, Reaches, modules_capacity, modules_cost}
 use Rattle.planner_top.specs.Choice.{IsBestKind}
+use Rattle.planner_top.proofs.Numbers.{one_if}
 
 -- a number for each kind times its count, added up
 abbrev value : (Module → ℕ) → List Module → List ℕ → ℕ
@@ -17,10 +18,6 @@ value f modules counts = sum_by (λ p. f p.0 * p.1) (zip modules counts)
 
 value-cons : (f : Module → ℕ) (m : Module) (ms : List Module) (c : ℕ) (cs : List ℕ) → value f (m ∷ ms) (c ∷ cs) ≡ f m * c + value f ms cs
 value-cons f m ms c cs = sum_by-cons (λ (p : Module × ℕ). f p.0 * p.1) (m, c) (zip ms cs)
-
--- 1 where it is so
-abbrev one_if : Bool → ℕ
-one_if b = cond b 1 0
 
 one-suc : (c : ℕ) → one_if (nat_lt 0 (suc c)) ≡ 1
 one-suc c = let t : nat_lt 0 (suc c) ≡ true = lt-ltb 0 (suc c) (omega arith) in ap one_if t

@@ -1,1 +1,4 @@
 pub mod Choices
+pub mod Numbers
+pub mod Pairs
+pub mod Weights

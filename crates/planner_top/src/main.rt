@@ -2,5 +2,7 @@
 #![tactic(auto)]
 
 mod choice;
+mod loads;
+mod text;
 
 fn main() {}

@@ -1,0 +1,93 @@
+ghost use Rattle.std.specs.Prelude.{◌≡◌, ◌≤◌, ◌+◌, ◌<◌, [], None, length};
+ghost use Rattle.outside_io.specs.Outside.{AnswersUntold, Rose};
+ghost use Rattle.outside_io.specs.Machine.{Reads, ReadsOnce, ConsumesUpTo, shelf_faults};
+ghost use Rattle.outside_io.specs.Held.{faults_after};
+
+use crate::shelf::{Fetch, Shelf};
+use net_core::Bytes;
+use std::fs;
+use std::io::{ErrorKind, Read};
+use std::rt::Files;
+
+/// Files of the machine. The content of a file is what reading it to its end gives.
+#[derive(Drop)]
+pub struct FileShelf<'f, F> {
+    files: &'f F,
+    faults: u64,
+}
+
+/// Reads once, at most one byte more than there is left of the limit. No answer says to read on.
+fn read_once<R: Read>(file: &mut R, buffer: &mut [u8], left: u64, into: &mut Bytes) -> Option<Fetch>
+    requires some { 0 < length buffer.old }
+    requires few { length buffer.old ≤ left + 1 }
+    ensures { ReadsOnce (R.remaining file.old) (R.remaining file.new) left result into.old into.new }
+{
+    match file.read(buffer) {
+        Ok(0) => Some(Fetch::Found),
+        Ok(n) if n as u64 > left => Some(Fetch::TooLong),
+        Ok(n) => match into.append(&buffer[..n]) {
+            Ok(()) => None,
+            Err(_) => Some(Fetch::NoMemory),
+        },
+        Err(e) if e.kind() == ErrorKind::Interrupted => None,
+        Err(_) => Some(Fetch::Failed),
+    }
+}
+
+/// Reads a file to its end, or until it has read one byte more than the limit.
+pub(crate) fn read_whole<R: Read>(file: &mut R, limit: u64, into: &mut Bytes) -> Fetch
+    requires { into.old ≡ [] }
+    ensures read { Reads (R.remaining file.old) limit result into.new }
+    ensures bounded { ConsumesUpTo (limit + 1) (R.remaining file.old) (R.remaining file.new) }
+{
+    let mut buffer = [0u8; 4096];
+    for _ in 0..u64::MAX {
+        let left = limit - into.len() as u64;
+        let most = left.min(4095) as usize + 1;
+        if let Some(answer) = read_once(file, &mut buffer[..most], left, into) {
+            return answer;
+        }
+    }
+    Fetch::Failed
+}
+
+impl<'f, F: Files> FileShelf<'f, F> {
+    /// A shelf of the machine's files.
+    pub fn new(files: &'f F) -> FileShelf<'f, F>
+        ensures { shelf_faults result ≡ 0 }
+    {
+        FileShelf { files, faults: 0 }
+    }
+}
+
+impl<'f, F: Files> Shelf for FileShelf<'f, F> {
+    ghost files = { λ _. None };
+
+    ghost faults = { shelf_faults };
+
+    fn faults(&self) -> u64 {
+        self.faults
+    }
+
+    fn fetch(&mut self, name: &str, limit: u64, into: &mut Bytes) -> Fetch
+        ensures answer { AnswersUntold limit result into.new }
+        ensures later { shelf_faults self.old ≤ shelf_faults self.new }
+        ensures failed { result ≡ Fetch.Failed → Rose (shelf_faults self.old) (shelf_faults self.new) }
+        ensures no_memory { result ≡ Fetch.NoMemory → shelf_faults self.new ≡ shelf_faults self.old }
+        ensures counted { shelf_faults self.new ≡ faults_after result (shelf_faults self.old) }
+    {
+        into.clear();
+        let answer = match fs::open(self.files, name) {
+            Ok(mut file) => read_whole(&mut file, limit, into),
+            Err(e) if e.kind() == ErrorKind::NotFound => Fetch::Missing,
+            Err(_) => Fetch::Failed,
+        };
+        if answer != Fetch::Found {
+            into.clear();
+        }
+        if answer == Fetch::Failed {
+            self.faults = self.faults.saturating_add(1);
+        }
+        answer
+    }
+}

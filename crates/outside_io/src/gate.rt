@@ -1,0 +1,28 @@
+/// Where callers and workers tell what they are about to do, so that a test may hold them there.
+pub trait Gate: Sync {
+    /// The caller is about to enter the desk for an edit.
+    fn editing(&self, caller: u32);
+
+    /// The caller has left the desk after an edit.
+    fn edited(&self, caller: u32);
+
+    /// A worker of the caller begins with a state.
+    fn before(&self, caller: u32, state: u32);
+
+    /// A worker of the caller has solved a state, and has admitted no cut of it yet.
+    fn after(&self, caller: u32, state: u32);
+}
+
+/// Nobody is held.
+#[derive(Clone, Copy, Debug)]
+pub struct OpenGate;
+
+impl Gate for OpenGate {
+    fn editing(&self, _caller: u32) {}
+
+    fn edited(&self, _caller: u32) {}
+
+    fn before(&self, _caller: u32, _state: u32) {}
+
+    fn after(&self, _caller: u32, _state: u32) {}
+}

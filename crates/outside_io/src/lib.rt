@@ -1,0 +1,19 @@
+//! The outside: where files come from, where output goes, and where a test may hold callers.
+#![tactic(auto)]
+
+pub mod files;
+pub mod gate;
+pub mod memory;
+pub mod shelf;
+pub mod sink;
+pub mod stream;
+
+pub use files::FileShelf;
+pub use gate::{Gate, OpenGate};
+pub use memory::{MemFile, MemShelf, MemSink, have_different_names};
+pub use shelf::{Fetch, Shelf};
+pub use sink::{Failed, Sink};
+pub use stream::StreamSink;
+
+#[cfg(test)]
+mod tests;

@@ -1,0 +1,211 @@
+ghost use Rattle.std.specs.Prelude.{◌≡◌, ◌≤◌, ◌<◌, ◌+◌, ◌++◌, [], ℕ, List, IfOk, MatchOption, None, Some, Contains, ◌↔◌, IsTrue, OnErr, length, vec_len, vec_capacity};
+ghost use Rattle.outside_io.specs.Outside.{Answers, content, Rose};
+ghost use Rattle.outside_io.specs.Held.{HaveDifferentNames, files_of, after_fetch, PutsHeld};
+
+use crate::shelf::{Fetch, Shelf};
+use crate::sink::{Failed, Sink};
+use net_core::{Bytes, List, Name, NoMemory};
+use std::alloc::Global;
+use std::marker::Model;
+
+/// A file in memory.
+#[derive(Drop)]
+pub struct MemFile {
+    pub name: Name,
+    pub bytes: Bytes,
+}
+
+/// Files in memory. The calls of `fetch` whose numbers stand in a list fail, counted from 0.
+#[derive(Drop)]
+pub struct MemShelf {
+    files: List<MemFile>,
+    failing: List<u32>,
+    calls: u64,
+    faults: u64,
+}
+
+impl Model for MemShelf {
+    ghost use Rattle.outside_io.specs.Held.{HeldFiles, HaveDifferentNames, files_of};
+
+    ghost Value = { HeldFiles };
+
+    ghost view = { λ s. record { files = files_of s.files; failing = s.failing; calls = s.calls; faults = s.faults } };
+
+    ghost invariant = { λ s. HaveDifferentNames s.files };
+}
+
+/// Whether a call's number stands in the list.
+fn is_failing(failing: &[u32], call: u64) -> bool
+    ensures { IsTrue result ↔ Contains failing.now call }
+{
+    failing.iter().any(|n| u64::from(*n) == call)
+}
+
+/// Whether no name stands twice.
+pub fn have_different_names(files: &[MemFile]) -> bool
+    ensures { IsTrue result ↔ HaveDifferentNames files.now }
+{
+    for i in 0..files.len() {
+        for j in 0..i {
+            if files[j].name.same(&files[i].name) {
+                return false;
+            }
+        }
+    }
+    true
+}
+
+/// The first file of a name.
+fn find<'a>(files: &'a [MemFile], name: &[u8]) -> Option<&'a MemFile>
+    ensures { MatchOption result
+        (content (files_of files.now) name.now ≡ None)
+        (λ file. content (files_of files.now) name.now ≡ Some file.now.bytes) }
+{
+    for file in files {
+        if file.name.bytes() == name {
+            return Some(file);
+        }
+    }
+    None
+}
+
+impl MemShelf {
+    /// A shelf of these files. The calls whose numbers stand in `failing` will fail.
+    pub fn new(files: List<MemFile>, failing: List<u32>) -> MemShelf
+        requires { HaveDifferentNames files }
+        ensures { result ≡ record { files = files_of files; failing = failing; calls = 0; faults = 0 } }
+    {
+        MemShelf {
+            files,
+            failing,
+            calls: 0,
+            faults: 0,
+        }
+    }
+}
+
+impl Shelf for MemShelf {
+    ghost files = { λ s. Some s.files };
+
+    ghost faults = { λ s. s.faults };
+
+    fn faults(&self) -> u64 {
+        self.faults
+    }
+
+    fn fetch(&mut self, name: &str, limit: u64, into: &mut Bytes) -> Fetch
+        ensures answer { Answers (content self.old.files name.now) limit result into.new }
+        ensures later { self.old.faults ≤ self.new.faults }
+        ensures failed { result ≡ Fetch.Failed → Rose self.old.faults self.new.faults }
+        ensures numbered { (result ≡ Fetch.Failed) ↔ Contains self.old.failing self.old.calls }
+        ensures counted { self.new ≡ after_fetch result self.old }
+    {
+        into.clear();
+        let call = self.calls;
+        self.calls = call.saturating_add(1);
+        if is_failing(self.failing.items(), call) {
+            self.faults = self.faults.saturating_add(1);
+            return Fetch::Failed;
+        }
+        let Some(file) = find(self.files.items(), name.as_bytes()) else {
+            return Fetch::Missing;
+        };
+        if file.bytes.len() as u64 > limit {
+            return Fetch::TooLong;
+        }
+        match into.append(file.bytes.items()) {
+            Ok(()) => Fetch::Found,
+            Err(NoMemory) => Fetch::NoMemory,
+        }
+    }
+}
+
+/// A sink of fixed room in memory. A put whose piece doesn't fit into the room takes nothing of it.
+/// Of the others those whose numbers stand in a list, counted from 0, take half of the piece.
+#[derive(Drop)]
+pub struct MemSink {
+    taken: Vec<u8>,
+    room: u64,
+    failing: List<u32>,
+    calls: u64,
+    faults: u64,
+}
+
+impl Model for MemSink {
+    ghost use Rattle.std.specs.Prelude.{◌≤◌, vec_len, vec_capacity};
+    ghost use Rattle.outside_io.specs.Held.{HeldOutput};
+
+    ghost Value = { HeldOutput };
+
+    ghost view = { λ s. record { taken = s.taken.items; room = s.room; failing = s.failing; calls = s.calls; faults = s.faults } };
+
+    ghost invariant = { λ s. (vec_len s.taken ≤ s.room) × (s.room ≤ vec_capacity s.taken) };
+}
+
+impl MemSink {
+    /// An empty sink, which takes the memory for its room of bytes at once. The calls whose
+    /// numbers stand in `failing` will fail.
+    pub fn new(alloc: Global, room: u64, failing: List<u32>) -> Result<MemSink, NoMemory>
+        ensures { IfOk result (λ s. s ≡ record { taken = []; room = room; failing = failing; calls = 0; faults = 0 }) }
+    {
+        let Ok(taken) = Vec::with_capacity(alloc, room as usize) else {
+            return Err(NoMemory);
+        };
+        Ok(MemSink {
+            taken,
+            room,
+            failing,
+            calls: 0,
+            faults: 0,
+        })
+    }
+
+    /// The bytes that were taken.
+    pub fn bytes(&self) -> &[u8]
+        ensures { result.now ≡ self.now.taken }
+    {
+        self.taken.as_slice()
+    }
+}
+
+/// Appends bytes for which the vector has room, so that it takes no memory.
+fn append_within(taken: &mut Vec<u8>, bytes: &[u8])
+    requires { vec_len taken.old + length bytes.now ≤ vec_capacity taken.old }
+    ensures items { taken.new.items ≡ taken.old.items ++ bytes.now }
+    ensures len { vec_len taken.new ≡ vec_len taken.old + length bytes.now }
+    ensures capacity { vec_capacity taken.old ≤ vec_capacity taken.new }
+{
+    taken.extend_from_slice(bytes).unwrap();
+}
+
+impl Sink for MemSink {
+    ghost taken = { λ s. Some s.taken };
+
+    ghost faults = { λ s. s.faults };
+
+    fn faults(&self) -> u64 {
+        self.faults
+    }
+
+    fn put(&mut self, piece: &[u8]) -> Result<(), Failed>
+        ensures held { PutsHeld self.old self.new result piece.now }
+        ensures later { self.old.faults ≤ self.new.faults }
+        ensures failed { OnErr result (Rose self.old.faults self.new.faults) }
+    {
+        let call = self.calls;
+        self.calls = call.saturating_add(1);
+        let left = self.room - self.taken.len() as u64;
+        if piece.len() as u64 > left {
+            self.faults = self.faults.saturating_add(1);
+            return Err(Failed);
+        }
+        if is_failing(self.failing.items(), call) {
+            let half = &piece[..piece.len() / 2];
+            append_within(&mut self.taken, half);
+            self.faults = self.faults.saturating_add(1);
+            return Err(Failed);
+        }
+        append_within(&mut self.taken, piece);
+        Ok(())
+    }
+}

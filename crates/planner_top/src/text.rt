@@ -1,0 +1,115 @@
+ghost use Rattle.std.specs.Prelude.{◌≡◌, ◌+◌, ◌*◌, ◌/◌, ◌%◌, ◌^◌, ◌<◌, ◌≤◌, ◌++◌, [], ◌∷◌, All, IfOk, OnOk, List, codes, decimal, length, slice_index_or, ℕ};
+ghost use Rattle.net_core.specs.Network.{IsModule};
+ghost use Rattle.net_core.specs.declared.network.Link.{Link};
+ghost use Rattle.plan_terms.specs.Capacities.{modules_cost, total_cost};
+ghost use Rattle.planner_top.specs.Texts.{counts_text, digit_of, link_line, link_lines, money_text, short_form};
+
+use itoa::Buffer;
+use net_core::{Bytes, Counts, Link, List, Module, NoMemory};
+use std::alloc::Global;
+
+/// Puts a whole number last.
+fn put_number(text: &mut Bytes, n: u128) -> Result<(), NoMemory>
+    ensures { OnOk result (text.new ≡ text.old ++ decimal n) }
+{
+    let mut buffer = Buffer::new();
+    text.append(buffer.format(n).as_bytes())
+}
+
+fn digit_of(n: u128) -> u8
+    ensures { result ≡ digit_of n }
+{
+    48 + (n % 10) as u8
+}
+
+/// Puts thousandths last, with a point and three digits.
+fn put_money(text: &mut Bytes, n: u128) -> Result<(), NoMemory>
+    ensures { OnOk result (text.new ≡ text.old ++ money_text n) }
+{
+    put_number(text, n / 1000)?;
+    text.append(&[b'.', digit_of(n / 100), digit_of(n / 10), digit_of(n)])
+}
+
+/// Puts counts last, each behind a space.
+fn put_counts(text: &mut Bytes, counts: &[u64]) -> Result<(), NoMemory>
+    ensures { OnOk result (text.new ≡ text.old ++ counts_text counts.now) }
+{
+    for n in counts {
+        text.append(b" ")?;
+        put_number(text, *n as u128)?;
+    }
+    Ok(())
+}
+
+/// Puts the line of a link last.
+fn put_link(text: &mut Bytes, l: &Link, counts: &[u64]) -> Result<(), NoMemory>
+    ensures { OnOk result (text.new ≡ text.old ++ link_line l.now counts.now) }
+{
+    text.append(b"link ")?;
+    text.append(l.name.bytes())?;
+    put_counts(text, counts)?;
+    text.append(b"\n")
+}
+
+/// Puts the lines of all links last.
+#[tactic(auto, using(crate::proofs::Pairs::text_more))]
+fn put_links(text: &mut Bytes, links: &[Link], counts: &[List<u64>]) -> Result<(), NoMemory>
+    requires { length counts.now ≡ length links.now }
+    ensures { OnOk result (text.new ≡ text.old ++ link_lines links.now counts.now) }
+{
+    for i in 0..links.len() {
+        put_link(text, &links[i], counts[i].items())?;
+    }
+    Ok(())
+}
+
+/// What counts of modules cost, in thousandths.
+#[tactic(auto, using(crate::proofs::Pairs::cost_more))]
+fn modules_cost(modules: &[Module], counts: &[u64]) -> u128
+    requires shape { length counts.now ≡ length modules.now }
+    requires few { length modules.now ≤ 16 }
+    requires each { All IsModule modules.now }
+    ensures value { result ≡ modules_cost modules.now counts.now }
+    ensures bound { result ≤ 16 * 2 ^ 104 }
+{
+    let mut cost = 0;
+    for i in 0..modules.len() {
+        cost += modules[i].cost as u128 * counts[i] as u128;
+    }
+    cost
+}
+
+/// What all modules cost, in thousandths.
+#[tactic(auto, using(crate::proofs::Pairs::total_more))]
+pub fn total_cost(links: &[Link], counts: &[List<u64>]) -> u128
+    requires few { length links.now ≤ 256 }
+    requires each { All (λ l. (length l.modules ≤ 16) × All IsModule l.modules) links.now }
+    requires long { length counts.now ≡ length links.now }
+    requires shape { (i : ℕ) (l : Link) (c : List ℕ) → i < length links.now → length (slice_index_or counts.now i c) ≡ length (slice_index_or links.now i l).modules }
+    ensures { result ≡ total_cost links.now counts.now }
+{
+    let mut cost = 0;
+    for i in 0..links.len() {
+        cost += modules_cost(links[i].modules.items(), counts[i].items());
+    }
+    cost
+}
+
+/// The short form of a plan.
+pub fn short_form(
+    alloc: Global,
+    links: &[Link],
+    counts: &[List<u64>],
+    cost: u128,
+) -> Result<Bytes, NoMemory>
+    requires shape { length counts.now ≡ length links.now }
+    requires cost { cost ≡ total_cost links.now counts.now }
+    ensures { IfOk result (λ text. text ≡ short_form links.now counts.now) }
+{
+    let mut text = List::new(alloc);
+    text.append(b"cost ")?;
+    put_money(&mut text, cost)?;
+    text.append(b"\n")?;
+    put_links(&mut text, links, counts)?;
+    Ok(text)
+}

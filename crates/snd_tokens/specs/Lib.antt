@@ -1,0 +1,5 @@
+pub mod Amounts
+pub mod Digits
+pub mod Header
+pub mod Tokens
+pub mod Wholes
