@@ -1,5 +1,5 @@
 -- the certificate of a cut alone
-use Rattle.std.proofs.Common.{◌≡◌, ℕ, zero, suc, ◌+◌, ◌-◌, ◌*◌, ◌^◌, ◌≤◌, ◌<◌, List, [], ◌∷◌, All, Some, length, slice_get, slice_index, get_or, refl, sym, ap, subst, ◌∙◌, arith, sum_by, zip}
+use Rattle.std.proofs.Common.{◌≡◌, ℕ, zero, suc, ◌+◌, ◌-◌, ◌*◌, ◌^◌, ◌≤◌, ◌<◌, List, [], ◌∷◌, All, Some, length, slice_get, slice_index, get_or, refl, sym, ap, subst, ◌∙◌, arith, zip}
 use Rattle.std.proofs.lemmas.List.Sums.{sum_by-cons}
 use Rattle.std.proofs.lemmas.List.Elements.{recursion_from_All, All-cons, All-nil}
 use Rattle.std.proofs.Math.Nat.{mul-le-mul_left, mul-lt-mul_of_pos_right, mul-sub}
@@ -10,14 +10,10 @@ use Rattle.net_core.specs.declared.states.Listed.{Listed}
 use Rattle.net_core.specs.Network.{IsModule, IsLink, IsNetwork}
 use Rattle.plan_terms.specs.Capacities.{total_cost}
 use Rattle.plan_terms.specs.Certificates.{Line, IsLine, price, asked, given, raw_value, IsCertificate, IsBound}
-use Rattle.plan_terms.specs.OwnBounds.{IsValid, IsLeastRatio, alone, OwnBoundHolds, IsOwnBound}
+use Rattle.plan_terms.specs.OwnBounds.{fixed_along, IsValid, IsLeastRatio, alone, OwnBoundHolds, IsOwnBound}
 use Rattle.plan_terms.proofs.Bounds.{bound_unique}
 use Rattle.plan_terms.proofs.Duality.{asked_met, bound_met}
 use Rattle.plan_terms.proofs.Multipliers.{factor_positive, ratio_valid}
-
--- what the pre-installed capacities give along lengths
-abbrev pub fixed_along : List ℕ → List Link → ℕ
-fixed_along lengths links = sum_by (λ p. p.0 * p.1.fixed) (zip lengths links)
 
 pub price_alone : (state : ℕ) (lengths : List ℕ) (right num e : ℕ) → price (alone state lengths right num) e ≡ num * slice_index lengths e
 price_alone state lengths right num e = omega arith

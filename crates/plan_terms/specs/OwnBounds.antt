@@ -1,5 +1,5 @@
 -- the bound that a cut gives alone, with its greatest valid multiplier
-use Rattle.std.specs.Prelude.{◌≡◌, ℕ, ◌*◌, ◌≤◌, ◌<◌, List, [], ◌∷◌, Some, All, Any, slice_get, slice_index}
+use Rattle.std.specs.Prelude.{◌≡◌, ℕ, ◌*◌, ◌≤◌, ◌<◌, List, [], ◌∷◌, Some, All, Any, slice_get, slice_index, sum_by, zip}
 use Rattle.std.specs.Int.{◌∣◌}
 use Rattle.net_core.specs.declared.demand.Demand.{Demand}
 use Rattle.net_core.specs.declared.network.Link.{Link}
@@ -26,6 +26,10 @@ pub record IsLeastRatio (links : List Link) (lengths : List ℕ) (cost size : �
   pub at : slice_get links number ≡ Some link
   pub reached : Any (λ m. (m.cost ≡ cost) × (m.capacity * slice_index lengths number ≡ size)) link.modules
   pub least : (e : ℕ) (l : Link) → slice_get links e ≡ Some l → All (λ m. cost * (m.capacity * slice_index lengths e) ≤ m.cost * size) l.modules
+
+-- what the pre-installed capacities give along lengths
+abbrev pub fixed_along : List ℕ → List Link → ℕ
+fixed_along lengths links = sum_by (λ p. p.0 * p.1.fixed) (zip lengths links)
 
 -- a cut as the only line of a certificate
 abbrev pub alone : ℕ → List ℕ → ℕ → ℕ → List Line
