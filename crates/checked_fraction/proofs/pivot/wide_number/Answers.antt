@@ -1,0 +1,5 @@
+use Rattle.checked_fraction.proofs.Quotients.{quotient_below}
+use Rattle.checked_fraction.proofs.pivot.wide_number.Goals as goal
+
+pub returns-then-den-lt-WIDE-clause-none : goal.returns-then-den-lt-WIDE-clause-none
+returns-then-den-lt-WIDE-clause-none c = λ none. (λ k lt. quotient_below _ _ _ _ c.requires.some (c.requires.top k lt) c.if-survey-lt-WIDE.true, c.if-den-lt-WIDE.true)
