@@ -1,10 +1,17 @@
 -- the least of the modules' ratios, module by module and link by link
-use Rattle.std.proofs.Common.{◌≡◌, ℕ, suc, ◌+◌, ◌*◌, ◌≤◌, ◌<◌, List, get_or, length, ⊎_elim, ap, ◌∙◌, subst, arith}
+use Rattle.std.proofs.Common.{◌≡◌, ◌≢◌, ◌⊎◌, inr, ℕ, suc, ◌+◌, ◌*◌, ◌≤◌, ◌<◌, List, [], ◌∷◌, All, Any, Some, get_or, length, slice_get, slice_index, ⊎_elim, refl, sym, ap, ◌∙◌, subst, arith, mul-pos}
+use Rattle.std.proofs.lemmas.Option.{slice_get-get_or, slice_get_within}
 use Rattle.std.proofs.lemmas.Bool.{cases_lt}
 use Rattle.std.proofs.lemmas.List.{get_or_default}
+use Rattle.net_core.specs.declared.network.Link.{Link}
 use Rattle.net_core.specs.declared.network.Module.{Module}
+use Rattle.net_core.specs.Network.{IsModule}
+use Rattle.plan_terms.specs.OwnBounds.{IsLeastRatio}
 use Rattle.metric_cut.specs.declared.ratio.Ratio.{Ratio}
-use Rattle.metric_cut.specs.Ratios.{IsNoGreater, IsRatioOf, IsLeastOf}
+use Rattle.metric_cut.specs.Ratios.{IsNoGreater, IsRatioOf, IsLeastOf, IsSmall, IsRatioAmong, IsLeastSoFar, HaveBound}
+
+abbrev no_link : Link
+no_link = record { name = []; a = record { 0 = 0 }; b = record { 0 = 0 }; fixed = 0; setup = 0; modules = [] }
 
 -- none of the first n modules has a ratio below this one
 abbrev pub IsLeastBefore : List Module → ℕ → ℕ → Ratio → Type 0
@@ -17,3 +24,58 @@ least_more modules len n old new m lt at before kept least k d below inside = �
     (λ g. let same : m ≡ get_or modules k d = at ∙ (ap (λ i. get_or modules i m) (omega arith) ∙ get_or_default modules k m d inside) in
     subst (λ (x : Module). new.cost * (x.capacity * len) ≤ x.cost * new.size) same least)
     (cases_lt k n)
+
+-- one link more
+pub links_more : (links : List Link) (lengths : List ℕ) (n : ℕ) (old new : Ratio) (l : Link) → slice_get links n ≡ Some l → IsLeastSoFar links lengths n old
+    → IsLeastOf l.modules (slice_index lengths n) new → IsNoGreater new old → (new ≡ old) ⊎ Any (IsRatioOf (slice_index lengths n) new) l.modules → IsSmall new
+    → IsLeastSoFar links lengths (n + 1) new
+links_more links lengths n old new l at so_far least kept is small = record {
+  before = λ e other below here. ⊎_elim
+      (λ lt. λ k d inside. kept (get_or other.modules k d).cost ((get_or other.modules k d).capacity * slice_index lengths e) (so_far.before e other lt here k d inside))
+      (λ ge. let same : e ≡ n = omega arith in
+      let one : l ≡ other = cc (at, here, same) in
+      subst (λ (x : Link). IsLeastOf x.modules (slice_index lengths e) new) one (subst (λ i. IsLeastOf l.modules (slice_index lengths i) new) (sym same) least))
+      (cases_lt e n);
+  is = ⊎_elim
+      (λ old_is. subst (λ r. (r ≡ record { cost = 1; size = 0 }) ⊎ IsRatioAmong links lengths r) (sym old_is) so_far.is)
+      (λ found. inr (record { number = n; link = l; at = at; of = found }))
+      is;
+  small = small;
+}
+
+-- a list that is not empty has a first element
+some_first : {X : Type 0} (xs : List X) → xs ≢ [] → (x : X) × (slice_get xs 0 ≡ Some x)
+some_first [] some = absurd (some refl)
+some_first (x ∷ xs) some = (x, refl)
+
+-- a module of a link of positive length has a lesser ratio than the infinite one
+not_infinite : (links : List Link) (lengths : List ℕ) (n : ℕ) → length links ≤ n → All (λ l. All IsModule l.modules) links → HaveBound links lengths → IsLeastSoFar links lengths n (record { cost = 1; size = 0 }) → ⊥
+not_infinite links lengths n all sound bound so_far =
+    let e = bound.positive.0 in
+    let len : slice_index lengths e ≡ bound.positive.1 = get_or_default lengths e 0 bound.positive.1 bound.positive.2 ∙ bound.positive.3 in
+    let inside : e < length links = omega (arith, bound.positive.2, bound.count) in
+    let link = get_or links e no_link in
+    let at : slice_get links e ≡ Some link = slice_get-get_or links e no_link inside in
+    let first = some_first link.modules (bound.served e link at (λ z. omega (arith, z, len, bound.positive.4))) in
+    let some : 0 < length link.modules = slice_get_within link.modules 0 first.0 first.1 in
+    let m = get_or link.modules 0 first.0 in
+    let carries : 0 < m.capacity = (sound e no_link inside 0 first.0 some).carries in
+    let least : 1 * (m.capacity * slice_index lengths e) ≤ m.cost * 0 = so_far.before e link (omega (arith, inside)) at 0 first.0 some in
+    let positive : 0 < m.capacity * slice_index lengths e = mul-pos carries (omega (arith, len, bound.positive.4)) in
+    omega (arith, least, positive)
+
+-- the least over all links
+pub least_of_all : (links : List Link) (lengths : List ℕ) (n : ℕ) (r : Ratio) → length links ≤ n → All (λ l. All IsModule l.modules) links → HaveBound links lengths → IsLeastSoFar links lengths n r → IsLeastRatio links lengths r.cost r.size
+least_of_all links lengths n r all sound bound so_far = ⊎_elim
+    (λ infinite. absurd (not_infinite links lengths n all sound bound (subst (IsLeastSoFar links lengths n) infinite so_far)))
+    (λ among.
+        let of = among.of.4 in
+        record {
+          positive = of.some;
+          number = among.number;
+          link = among.link;
+          at = among.at;
+          reached = (among.of.0, among.of.1, among.of.2, among.of.3, (of.cost, of.size));
+          least = λ e l at. so_far.before e l (omega (arith, slice_get_within links e l at)) at;
+        })
+    so_far.is

@@ -1,8 +1,9 @@
 ghost use Rattle.std.specs.Prelude.{◌≡◌, ℕ, ◌*◌, ◌≤◌, ◌<◌, ◌^◌, ◌⊎◌, All, Any};
 ghost use Rattle.net_core.specs.Network.{IsModule};
-ghost use Rattle.metric_cut.specs.Ratios.{IsNoGreater, IsRatioOf, IsLeastOf, IsSmall};
+ghost use Rattle.plan_terms.specs.OwnBounds.{IsLeastRatio};
+ghost use Rattle.metric_cut.specs.Ratios.{IsNoGreater, IsRatioOf, IsLeastOf, IsSmall, HaveBound};
 
-use net_core::Module;
+use net_core::{Link, Module};
 
 /// A module's cost over its capacity times its link's length.
 #[derive(Clone, Copy)]
@@ -40,6 +41,20 @@ fn link_ratio(best: Ratio, modules: &[Module], length: u32) -> Ratio
     let mut least = best;
     for m in modules {
         least = lesser(least, m, length);
+    }
+    least
+}
+
+/// The least cost over capacity times length, over all modules of the links of positive length.
+pub fn least_ratio(links: &[Link], lengths: &[u32]) -> Ratio
+    requires sound { All (λ l. All IsModule l.modules) links.now }
+    requires lengths { HaveBound links.now lengths.now }
+    ensures least { IsLeastRatio links.now lengths.now result.cost result.size }
+    ensures small { IsSmall result }
+{
+    let mut least = Ratio { cost: 1, size: 0 };
+    for e in 0..links.len() {
+        least = link_ratio(least, links[e].modules.items(), lengths[e]);
     }
     least
 }
