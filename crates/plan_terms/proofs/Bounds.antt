@@ -1,12 +1,13 @@
 -- bounds: rounded up to a multiple of the greatest common divisor of the modules' costs
-use Rattle.std.proofs.Common.{◌≡◌, ℕ, zero, suc, ◌*◌, ◌/◌, ◌≤◌, ◌<◌, List, [], ◌∷◌, ◌++◌, refl, sym, ap, subst, ◌∙◌, ◌≢◌, ◌+◌, ◌⊎◌, inl, inr, ⊎_elim, arith}
-use Rattle.std.proofs.Math.Nat.{mul-le-mul_left, le_of_mul-le-mul_left, dvd-mul_right, mul-div_cancel'}
+use Rattle.std.proofs.Common.{◌≡◌, ℕ, zero, suc, ◌*◌, ◌/◌, ◌≤◌, ◌<◌, List, [], ◌∷◌, ◌++◌, refl, sym, ap, subst, ◌∙◌, ◌≢◌, ◌+◌, ◌⊎◌, inl, inr, ⊎_elim, arith, All, map}
+use Rattle.std.proofs.Math.Nat.{mul-le-mul_left, le_of_mul-le-mul_left, dvd-mul_right, mul-div_cancel', lt_of_mul-lt-mul_right}
 use Rattle.std.proofs.lemmas.List.Elements.{All-append, All-from_recursion, recursion_from_All}
 use Rattle.std.proofs.lemmas.Nat.Gcd.{dvd_refl, dvd-zero, dvd_trans, dvd_antisymm, le_of_dvd}
 use Rattle.std.proofs.lemmas.Bool.{cases_eq}
 use Rattle.std.specs.Int.{◌∣◌, IsGcd}
 use Rattle.std.specs.List.{AllByRecursion}
 use Rattle.net_core.specs.declared.network.Link.{Link}
+use Rattle.net_core.specs.declared.network.Module.{Module}
 use Rattle.plan_terms.specs.Certificates.{IsLowest, module_costs, IsGreatestDivisor, IsBound}
 use Rattle.plan_terms.proofs.Duality.{divides_parts}
 
@@ -140,3 +141,19 @@ divisor_limit xs g limit some below is = ⊎_elim
     absurd (omega (arith, le)))
     (cases_eq g 0))
     (divisor_or_none g limit xs below (recursion_from_All (λ x. g ∣ x) xs is.divides))
+
+-- the costs of a network's modules are below their limit
+modules_below : (limit : ℕ) (modules : List Module) (rest : List ℕ) → AllByRecursion (λ m. m.cost < limit) modules → AllByRecursion (λ x. x < limit) rest → AllByRecursion (λ x. x < limit) (map (λ m. m.cost) modules ++ rest)
+modules_below limit [] rest all others = others
+modules_below limit (m ∷ ms) rest all others = (all.0, modules_below limit ms rest all.1 others)
+
+pub costs_below : (limit : ℕ) (links : List Link) → AllByRecursion (λ l. All (λ m. m.cost < limit) l.modules) links → AllByRecursion (λ x. x < limit) (module_costs links)
+costs_below limit [] all = tt
+costs_below limit (l ∷ ls) all = modules_below limit l.modules (module_costs ls) (recursion_from_All (λ m. m.cost < limit) l.modules all.0) (costs_below limit ls all.1)
+
+-- a quotient that is rounded up is the least number of times that reaches
+pub quotient_least : (a y q : ℕ) → q * y < a + y → (c : ℕ) → a ≤ y * c → q ≤ c
+quotient_least a y q low c reached =
+    let less : q * y < (c + 1) * y = omega (arith, low, reached) in
+    let lt : q < c + 1 = lt_of_mul-lt-mul_right y less in
+    omega (arith, lt)

@@ -75,7 +75,7 @@ own_bound_unique links state lengths right x y count first second =
     (subst (λ i. IsBound links i second.den y) (raw_alone state lengths right second.num links count) second.rounded)
 
 -- an element of a list that meets what all meet
-all_at : {X : Type 0} (P : X → Type 0) (xs : List X) (k : ℕ) (x : X) → AllByRecursion P xs → slice_get xs k ≡ Some x → P x
+pub all_at : {X : Type 0} (P : X → Type 0) (xs : List X) (k : ℕ) (x : X) → AllByRecursion P xs → slice_get xs k ≡ Some x → P x
 all_at P [] k x all e = absurd (cc)
 all_at P (y ∷ ys) zero x all e = let same : y ≡ x = cc e in subst P same all.0
 all_at P (y ∷ ys) (suc k) x all e = all_at P ys k x all.1 e
@@ -86,7 +86,7 @@ index_below limit [] k some all = some
 index_below limit (x ∷ xs) zero some all = all.0
 index_below limit (x ∷ xs) (suc k) some all = index_below limit xs k some all.1
 
-product_below : (a b p q : ℕ) → a < p → 0 < q → b < q → a * b < p * q
+pub product_below : (a b p q : ℕ) → a < p → 0 < q → b < q → a * b < p * q
 product_below a b p q la some lb =
     let one : a * b ≤ a * q = mul-le-mul_left a (omega arith) in
     let two : a * q < p * q = mul-lt-mul_of_pos_right la some in
