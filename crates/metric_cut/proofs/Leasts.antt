@@ -1,5 +1,5 @@
 -- the least of the modules' ratios, module by module and link by link
-use Rattle.std.proofs.Common.{◌≡◌, ◌≢◌, ◌⊎◌, inr, ℕ, suc, ◌+◌, ◌*◌, ◌≤◌, ◌<◌, List, [], ◌∷◌, All, Any, Some, get_or, length, slice_get, slice_index, ⊎_elim, refl, sym, ap, ◌∙◌, subst, arith, mul-pos}
+use Rattle.std.proofs.Common.{◌≡◌, ◌≢◌, ◌⊎◌, inr, ℕ, ◌+◌, ◌*◌, ◌≤◌, ◌<◌, List, [], ◌∷◌, All, Any, Some, get_or, length, slice_get, slice_index, ⊎_elim, refl, sym, ap, ◌∙◌, subst, arith, mul-pos}
 use Rattle.std.proofs.lemmas.Option.{slice_get-get_or, slice_get_within}
 use Rattle.std.proofs.lemmas.Bool.{cases_lt}
 use Rattle.std.proofs.lemmas.List.{get_or_default}
@@ -69,13 +69,13 @@ pub least_of_all : (links : List Link) (lengths : List ℕ) (n : ℕ) (r : Ratio
 least_of_all links lengths n r all sound bound so_far = ⊎_elim
     (λ infinite. absurd (not_infinite links lengths n all sound bound (subst (IsLeastSoFar links lengths n) infinite so_far)))
     (λ among.
-        let of = among.of.4 in
-        record {
-          positive = of.some;
-          number = among.number;
-          link = among.link;
-          at = among.at;
-          reached = (among.of.0, among.of.1, among.of.2, among.of.3, (of.cost, of.size));
-          least = λ e l at. so_far.before e l (omega (arith, slice_get_within links e l at)) at;
-        })
+    let of = among.of.4 in
+    record {
+      positive = of.some;
+      number = among.number;
+      link = among.link;
+      at = among.at;
+      reached = (among.of.0, among.of.1, among.of.2, among.of.3, (of.cost, of.size));
+      least = λ e l at. so_far.before e l (omega (arith, slice_get_within links e l at)) at;
+    })
     so_far.is

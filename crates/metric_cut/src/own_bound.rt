@@ -33,7 +33,10 @@ pub fn greatest_multiplier(links: &[Link], lengths: &[u32]) -> Multiplier
 {
     let ratio = least_ratio(links, lengths);
     let common = gcd(ratio.cost as u128, ratio.size);
-    Multiplier { num: (ratio.cost as u128 / common) as u64, den: ratio.size / common }
+    Multiplier {
+        num: (ratio.cost as u128 / common) as u64,
+        den: ratio.size / common,
+    }
 }
 
 /// What the pre-installed capacities give along lengths.
