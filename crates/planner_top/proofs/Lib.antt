@@ -1,4 +1,5 @@
 pub mod Choices
 pub mod Numbers
 pub mod Pairs
+pub mod Taking
 pub mod Weights

@@ -3,6 +3,8 @@
 
 mod choice;
 mod loads;
+mod output;
+mod status;
 mod text;
 
 fn main() {}
