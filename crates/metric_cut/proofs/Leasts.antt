@@ -1,14 +1,13 @@
 -- the least of the modules' ratios, module by module and link by link
-use Rattle.std.proofs.Common.{◌≡◌, ◌≢◌, ◌⊎◌, inr, ℕ, ◌+◌, ◌*◌, ◌≤◌, ◌<◌, List, [], ◌∷◌, All, Any, Some, get_or, length, slice_get, slice_index, ⊎_elim, refl, sym, ap, ◌∙◌, subst, arith, mul-pos}
+use Rattle.std.proofs.Common.{◌≡◌, ◌≢◌, ℕ, ◌*◌, ◌≤◌, ◌<◌, List, [], ◌∷◌, All, Some, get_or, length, slice_get, slice_index, ⊎_elim, refl, ◌∙◌, subst, arith, mul-pos}
 use Rattle.std.proofs.lemmas.Option.{slice_get-get_or, slice_get_within}
-use Rattle.std.proofs.lemmas.Bool.{cases_lt}
 use Rattle.std.proofs.lemmas.List.{get_or_default}
 use Rattle.net_core.specs.declared.network.Link.{Link}
 use Rattle.net_core.specs.declared.network.Module.{Module}
 use Rattle.net_core.specs.Network.{IsModule}
 use Rattle.plan_terms.specs.OwnBounds.{IsLeastRatio}
 use Rattle.metric_cut.specs.declared.ratio.Ratio.{Ratio}
-use Rattle.metric_cut.specs.Ratios.{IsNoGreater, IsRatioOf, IsLeastOf, IsSmall, IsRatioAmong, IsLeastSoFar, HaveBound}
+use Rattle.metric_cut.specs.Ratios.{IsLeastSoFar, HaveBound}
 
 abbrev no_link : Link
 no_link = record { name = []; a = record { 0 = 0 }; b = record { 0 = 0 }; fixed = 0; setup = 0; modules = [] }
@@ -16,32 +15,6 @@ no_link = record { name = []; a = record { 0 = 0 }; b = record { 0 = 0 }; fixed 
 -- none of the first n modules has a ratio below this one
 abbrev pub IsLeastBefore : List Module → ℕ → ℕ → Ratio → Type 0
 IsLeastBefore modules len n r = (k : ℕ) (d : Module) → k < n → k < length modules → r.cost * ((get_or modules k d).capacity * len) ≤ (get_or modules k d).cost * r.size
-
--- one module more
-pub least_more : (modules : List Module) (len n : ℕ) (old new : Ratio) (m : Module) → n < length modules → m ≡ get_or modules n m → IsLeastBefore modules len n old → IsNoGreater new old → new.cost * (m.capacity * len) ≤ m.cost * new.size → IsLeastBefore modules len (n + 1) new
-least_more modules len n old new m lt at before kept least k d below inside = ⊎_elim
-    (λ l. kept (get_or modules k d).cost ((get_or modules k d).capacity * len) (before k d l inside))
-    (λ g. let same : m ≡ get_or modules k d = at ∙ (ap (λ i. get_or modules i m) (omega arith) ∙ get_or_default modules k m d inside) in
-    subst (λ (x : Module). new.cost * (x.capacity * len) ≤ x.cost * new.size) same least)
-    (cases_lt k n)
-
--- one link more
-pub links_more : (links : List Link) (lengths : List ℕ) (n : ℕ) (old new : Ratio) (l : Link) → slice_get links n ≡ Some l → IsLeastSoFar links lengths n old
-    → IsLeastOf l.modules (slice_index lengths n) new → IsNoGreater new old → (new ≡ old) ⊎ Any (IsRatioOf (slice_index lengths n) new) l.modules → IsSmall new
-    → IsLeastSoFar links lengths (n + 1) new
-links_more links lengths n old new l at so_far least kept is small = record {
-  before = λ e other below here. ⊎_elim
-      (λ lt. λ k d inside. kept (get_or other.modules k d).cost ((get_or other.modules k d).capacity * slice_index lengths e) (so_far.before e other lt here k d inside))
-      (λ ge. let same : e ≡ n = omega arith in
-      let one : l ≡ other = cc (at, here, same) in
-      subst (λ (x : Link). IsLeastOf x.modules (slice_index lengths e) new) one (subst (λ i. IsLeastOf l.modules (slice_index lengths i) new) (sym same) least))
-      (cases_lt e n);
-  is = ⊎_elim
-      (λ old_is. subst (λ r. (r ≡ record { cost = 1; size = 0 }) ⊎ IsRatioAmong links lengths r) (sym old_is) so_far.is)
-      (λ found. inr (record { number = n; link = l; at = at; of = found }))
-      is;
-  small = small;
-}
 
 -- a list that is not empty has a first element
 some_first : {X : Type 0} (xs : List X) → xs ≢ [] → (x : X) × (slice_get xs 0 ≡ Some x)
