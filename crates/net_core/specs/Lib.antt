@@ -1,6 +1,6 @@
 pub mod Demands
+pub mod Lists
 pub mod Names
 pub mod Network
 pub mod States
 pub mod Tests
-pub mod Lists

@@ -1,0 +1,5 @@
+//! Cuts: what a metric inequality asks for, and the bound that it gives.
+#![tactic(auto)]
+
+pub mod own_bound;
+mod ratio;
