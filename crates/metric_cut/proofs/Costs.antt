@@ -61,15 +61,24 @@ rounded_up raw den g q some_den some_g is =
     let more : g * q * 1 ≤ g * q * den = mul-le-mul_left (g * q) some_den in
     (omega (arith, times.0), times.1, omega (arith, times.1, more))
 
+-- the raw value of a cut alone, from what it asks for beyond the pre-installed capacities
+pub raw_from_parts : (links given : List Link) (lengths taken : List ℕ) (state right rest num : ℕ) → given ≡ links → taken ≡ lengths → length lengths ≡ length links → rest ≡ right - fixed_along taken given → num * rest ≡ raw_value links (alone state lengths right num)
+raw_from_parts links given lengths taken state right rest num same_links same_lengths count rest_is =
+    let same : fixed_along taken given ≡ fixed_along lengths links = ap (λ xs. fixed_along xs given) same_lengths ∙ ap (λ ls. fixed_along lengths ls) same_links in
+    ap (λ i. num * i) (rest_is ∙ ap (λ i. right - i) same) ∙ sym (raw_alone state lengths right num links count)
+
+-- a multiplier of the same lengths and links
+pub multiplier_of_same : (links given : List Link) (lengths taken : List ℕ) (num den : ℕ) → given ≡ links → taken ≡ lengths → IsMultiplier given taken num den → IsMultiplier links lengths num den
+multiplier_of_same links given lengths taken num den same_links same_lengths greatest =
+    subst (λ ls. IsMultiplier ls lengths num den) same_links (subst (λ xs. IsMultiplier given xs num den) same_lengths greatest)
+
 -- the own bound from the multiplier and the bound of its raw value
-pub own_from_parts : (links given : List Link) (lengths taken : List ℕ) (state right fixed rest num den bound : ℕ) → given ≡ links → taken ≡ lengths → length lengths ≡ length links → IsMultiplier given taken num den → fixed ≡ fixed_along taken given → rest ≡ right - fixed → IsBound given (num * rest) den bound → IsOwnBound links state lengths right bound
-own_from_parts links given lengths taken state right fixed rest num den bound same_links same_lengths count greatest fixed_is rest_is rounded =
-    let greatest' : IsMultiplier links lengths num den = subst (λ ls. IsMultiplier ls lengths num den) same_links (subst (λ xs. IsMultiplier given xs num den) same_lengths greatest) in
-    let fixed' : fixed ≡ fixed_along lengths links = fixed_is ∙ (ap (λ xs. fixed_along xs given) same_lengths ∙ ap (λ ls. fixed_along lengths ls) same_links) in
-    let raw : num * rest ≡ raw_value links (alone state lengths right num) = ap (λ i. num * i) (rest_is ∙ ap (λ i. right - i) fixed') ∙ sym (raw_alone state lengths right num links count) in
+pub own_from_parts : (links given : List Link) (lengths taken : List ℕ) (state right rest num den bound : ℕ) → given ≡ links → taken ≡ lengths → length lengths ≡ length links → IsMultiplier given taken num den → rest ≡ right - fixed_along taken given → IsBound given (num * rest) den bound → IsOwnBound links state lengths right bound
+own_from_parts links given lengths taken state right rest num den bound same_links same_lengths count greatest rest_is rounded =
+    let raw = raw_from_parts links given lengths taken state right rest num same_links same_lengths count rest_is in
     record {
       num = num;
       den = den;
-      multiplier = greatest';
+      multiplier = multiplier_of_same links given lengths taken num den same_links same_lengths greatest;
       rounded = subst (λ ls. IsBound ls (raw_value links (alone state lengths right num)) den bound) same_links (subst (λ i. IsBound given i den bound) raw rounded);
     }

@@ -1,1 +1,3 @@
+pub mod Keeping
 pub mod Ratios
+pub mod Rights

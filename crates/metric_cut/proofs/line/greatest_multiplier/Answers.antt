@@ -1,5 +1,5 @@
 use Rattle.plan_terms.proofs.Multipliers.{ratio_quotient}
-use Rattle.metric_cut.proofs.own_bound.greatest_multiplier.Goals as goal
+use Rattle.metric_cut.proofs.line.greatest_multiplier.Goals as goal
 
 pub nonzero_div-result : goal.nonzero_div-result
 nonzero_div-result c = (ratio_quotient c.args.links.now c.args.lengths.now _ _ _ c.least_ratio-ratio.ensures.least c.gcd-common.ensures).0

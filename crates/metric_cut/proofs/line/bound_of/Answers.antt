@@ -2,7 +2,7 @@ use Rattle.std.proofs.Common.{◌^◌, arith}
 use Rattle.plan_terms.proofs.Bounds.{bound_rounded, quotient_least}
 use Rattle.plan_terms.proofs.OwnBounds.{product_below}
 use Rattle.metric_cut.proofs.Costs.{cost_divisor_limit, rounded_up}
-use Rattle.metric_cut.proofs.own_bound.bound_of.Goals as goal
+use Rattle.metric_cut.proofs.line.bound_of.Goals as goal
 
 pub overflow_mul-den : goal.overflow_mul-den
 overflow_mul-den c =

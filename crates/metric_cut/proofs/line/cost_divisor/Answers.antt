@@ -3,7 +3,7 @@ use Rattle.net_core.specs.declared.network.Link.{Link}
 use Rattle.net_core.specs.declared.network.Module.{Module}
 use Rattle.plan_terms.specs.Certificates.{IsGreatestDivisor}
 use Rattle.metric_cut.proofs.Costs.{link_divisor_step}
-use Rattle.metric_cut.proofs.own_bound.cost_divisor.Goals as goal
+use Rattle.metric_cut.proofs.line.cost_divisor.Goals as goal
 
 pub loop-l-preserved : goal.loop-l-preserved
 loop-l-preserved c =

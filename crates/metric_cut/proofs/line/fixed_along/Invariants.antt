@@ -1,6 +1,6 @@
 use Rattle.std.proofs.Common.{◌≡◌, ◌≤◌, ◌*◌, ◌^◌, take}
 use Rattle.plan_terms.specs.OwnBounds.{fixed_along}
-use Rattle.metric_cut.proofs.own_bound.fixed_along.Given as goal
+use Rattle.metric_cut.proofs.line.fixed_along.Given as goal
 
 -- the sum over the links so far
 abbrev pub invariant-loop-e : goal.invariant-loop-e

@@ -1,6 +1,6 @@
 use Rattle.std.proofs.Common.{map, take}
 use Rattle.plan_terms.specs.Certificates.{IsGreatestDivisor}
-use Rattle.metric_cut.proofs.own_bound.modules_divisor.Given as goal
+use Rattle.metric_cut.proofs.line.modules_divisor.Given as goal
 
 -- the divisor of the costs so far
 abbrev pub invariant-loop-m : goal.invariant-loop-m

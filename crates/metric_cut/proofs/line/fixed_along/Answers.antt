@@ -1,7 +1,7 @@
 use Rattle.std.proofs.Common.{◌^◌, get_or, arith}
 use Rattle.plan_terms.proofs.OwnBounds.{product_below}
 use Rattle.metric_cut.proofs.Costs.{fixed_step}
-use Rattle.metric_cut.proofs.own_bound.fixed_along.Goals as goal
+use Rattle.metric_cut.proofs.line.fixed_along.Goals as goal
 
 pub loop-e-preserved : goal.loop-e-preserved
 loop-e-preserved c =

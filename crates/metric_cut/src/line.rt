@@ -1,4 +1,4 @@
-ghost use Rattle.std.specs.Prelude.{◌≡◌, ℕ, ◌*◌, ◌≤◌, ◌<◌, ◌^◌, All, length, map};
+ghost use Rattle.std.specs.Prelude.{◌≡◌, ℕ, ◌-◌, ◌*◌, ◌≤◌, ◌<◌, ◌^◌, All, length, map};
 ghost use Rattle.net_core.specs.Network.{IsModule};
 ghost use Rattle.plan_terms.specs.Certificates.{IsBound, IsGreatestDivisor, module_costs};
 ghost use Rattle.plan_terms.specs.OwnBounds.{IsMultiplier, IsOwnBound, fixed_along};
@@ -53,6 +53,17 @@ fn fixed_along(links: &[Link], lengths: &[u32]) -> u128
     sum
 }
 
+/// What a right side asks for beyond what the pre-installed capacities give.
+pub(crate) fn asked_rest(links: &[Link], lengths: &[u32], right: u128) -> u128
+    requires few { length links.now ≤ 256 }
+    requires sound { All (λ l. l.fixed < 2 ^ 40) links.now }
+    requires count { length lengths.now ≡ length links.now }
+    ensures rest { result ≡ right - fixed_along lengths.now links.now }
+    ensures low { result ≤ right }
+{
+    right.saturating_sub(fixed_along(links, lengths))
+}
+
 /// The greatest common divisor of modules' costs. That of none is 0.
 fn modules_divisor(modules: &[Module]) -> u128
     ensures { IsGreatestDivisor (map (λ m. m.cost) modules.now) result }
@@ -99,6 +110,6 @@ pub fn own_bound(net: &Network, line: &CutLine) -> u128
     let links = net.links().items();
     let lengths = line.lengths.items();
     let multiplier = greatest_multiplier(links, lengths);
-    let rest = line.right.saturating_sub(fixed_along(links, lengths));
+    let rest = asked_rest(links, lengths, line.right);
     bound_of(links, multiplier.num as u128 * rest, multiplier.den)
 }
