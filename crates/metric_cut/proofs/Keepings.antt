@@ -112,7 +112,7 @@ module _ (links : List Link) (listed : List Listed) (s common : ℕ) (lengths ma
   pub zero_divisor : AreZero links listed s lengths → common ≡ 0
   zero_divisor none =
       let all : All (λ x. (common + 1) ∣ x) masked = divides_all (common + 1) masked
-          (λ e. divides_unless_zero (common + 1) (slice_index masked e) (λ some. let survives = are.zero e some in absurd (some (are.same e survives ∙ none e survives)))) in
+      (λ e. divides_unless_zero (common + 1) (slice_index masked e) (λ some. let survives = are.zero e some in absurd (some (are.same e survives ∙ none e survives)))) in
       ⊎_elim
       (λ (zero : common ≡ 0). zero)
       (λ (some : common ≢ 0). let least : common + 1 ≤ common = le_of_dvd (omega (arith, some)) (divisor.greatest (common + 1) all) in absurd (omega (arith, least)))
@@ -146,7 +146,7 @@ keeps_kept links listed s lengths kept count keeps = record {
   zero = keeps.zero;
   lowest = λ d all.
       let each : (e : ℕ) → Survives links listed s e → (d * keeps.common) ∣ slice_index lengths e = λ e survives.
-          subst (λ x. (d * keeps.common) ∣ x) (keeps.divided e survives) (mul-dvd-mul_right d (divides_at d kept all e) keeps.common) in
+      subst (λ x. (d * keeps.common) ∣ x) (keeps.divided e survives) (mul-dvd-mul_right d (divides_at d kept all e) keeps.common) in
       let divides : (d * keeps.common) ∣ (1 * keeps.common) = subst (λ x. (d * keeps.common) ∣ x) (omega arith) (keeps.greatest (d * keeps.common) each) in
       eq-one_of_dvd-one (dvd_of_mul-dvd-mul_right d keeps.positive divides);
 }

@@ -36,6 +36,6 @@ sum_is_right joins lengths n table demands right distances known sum = record {
       let demand : IsDemand table.nodes d = subst (IsDemand table.nodes) is (known k d inside) in
       let far : slice_index_or (map (far_of table) demands) k None ≡ far_of table d = get_or-map (far_of table) demands k d None inside ∙ ap (far_of table) is in
       subst (IsDistance joins lengths d.from.0 d.to.0) (sym far)
-          (distances.each d.from.0 d.to.0 (omega (arith, demand.from_known, distances.count)) (omega (arith, demand.to_known, distances.count)));
+      (distances.each d.from.0 d.to.0 (omega (arith, demand.from_known, distances.count)) (omega (arith, demand.to_known, distances.count)));
   sum = sum ∙ parts_sum table demands;
 }

@@ -81,7 +81,11 @@ impl Cut {
             return Err(CutFault::ZeroLengths);
         }
         match all_pairs(alloc, net, states, state, &kept) {
-            Ok(table) => Ok(Cut { state, lengths: kept, table }),
+            Ok(table) => Ok(Cut {
+                state,
+                lengths: kept,
+                table,
+            }),
             Err(NoMemory) => Err(CutFault::NoMemory),
         }
     }

@@ -60,12 +60,7 @@ fn keep_items(links: &[Link], states: &States, state: StateId, lengths: &mut [u3
 }
 
 /// The same for a list.
-pub(crate) fn keep(
-    links: &[Link],
-    states: &States,
-    state: StateId,
-    lengths: &mut Lengths,
-) -> bool
+pub(crate) fn keep(links: &[Link], states: &States, state: StateId, lengths: &mut Lengths) -> bool
     requires state { state.0 < length states.now.listed + 1 }
     requires few { length links.now < 2 ^ 32 }
     requires lengths { length lengths.old ≡ length links.now }

@@ -10,3 +10,6 @@ mod ratio;
 pub use certificate::{OwnCertificate, RawValue, own_certificate};
 pub use cut::{Cut, CutFault};
 pub use line::{CutLine, Multiplier, own_bound};
+
+#[cfg(test)]
+mod tests;

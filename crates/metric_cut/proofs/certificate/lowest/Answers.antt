@@ -14,4 +14,4 @@ pub returns : goal.returns
 returns c =
     let gcd = c.gcd-common.ensures in
     lowest_terms c.args.num c.args.den c.gcd-common.result _ _ c.requires gcd
-        (sym (div-mul_cancel c.gcd-common.result gcd.0)) (sym (div-mul_cancel c.gcd-common.result gcd.1))
+    (sym (div-mul_cancel c.gcd-common.result gcd.0)) (sym (div-mul_cancel c.gcd-common.result gcd.1))
