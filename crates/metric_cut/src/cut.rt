@@ -71,6 +71,7 @@ impl Cut {
         ensures state { IfOk result (λ cut. cut.state ≡ state) }
         ensures keeps { IfOk result (λ cut. Keeps net.now.links states.now.listed state.0 lengths cut.lengths) }
         ensures cut { IfOk result (IsCutOf net.now.links states.now.listed (length net.now.nodes)) }
+        ensures nodes { IfOk result (λ cut. cut.table.nodes ≡ length net.now.nodes) }
         ensures bound { IfOk result (λ cut. HaveBound net.now.links cut.lengths) }
     {
         if state.0 >= states.count() {

@@ -1,4 +1,4 @@
-ghost use Rattle.std.specs.Prelude.{◌≡◌, ◌<◌, ◌^◌, IfOk, length};
+ghost use Rattle.std.specs.Prelude.{◌≡◌, ◌+◌, IfOk, length};
 ghost use Rattle.net_core.specs.Demands.{AreDemands};
 
 use crate::{Cut, CutFault, CutLine, own_bound, own_certificate};
