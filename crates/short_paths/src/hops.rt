@@ -31,7 +31,7 @@ fn has_module(l: &Link) -> bool
 }
 
 /// Whether the link survives: the state doesn't fail it, and it has a module.
-fn survives(links: &[Link], states: &States, state: StateId, e: LinkId) -> bool
+pub fn survives(links: &[Link], states: &States, state: StateId, e: LinkId) -> bool
     requires state { state.0 < length states.now.listed + 1 }
     requires link { e.0 < length links.now }
     ensures { IsTrue result ↔ Survives links.now states.now.listed state.0 e.0 }

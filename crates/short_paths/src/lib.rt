@@ -7,6 +7,7 @@ mod rows;
 mod search;
 mod table;
 
+pub use hops::survives;
 pub use pairs::all_pairs;
 pub use rows::distances;
 pub use table::DistanceTable;

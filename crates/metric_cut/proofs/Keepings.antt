@@ -1,0 +1,177 @@
+-- lengths masked, divided and kept
+use Rattle.std.proofs.Common.{◌≡◌, ◌≢◌, ℕ, zero, suc, ◌+◌, ◌*◌, ◌/◌, ◌≤◌, ◌<◌, ◌⊎◌, List, [], ◌∷◌, All, Any, Bool, true, false, length, get_or, take, ◌++◌, slice_index, slice_set, slice_get, Some, ⊎_elim, inl, inr, refl, sym, ap, ◌∙◌, subst, arith, add-one}
+use Rattle.std.proofs.Math.ListN.{get_or-eq_default}
+use Rattle.std.proofs.Math.Nat.{mul-dvd-mul_right, dvd_of_mul-dvd-mul_right, eq-one_of_dvd-one, div-mul_cancel, zero-dvd}
+use Rattle.std.proofs.Math.Seq.{take-suc}
+use Rattle.std.proofs.lemmas.Bool.{cases_eq, cases_lt}
+use Rattle.std.proofs.lemmas.Nat.Gcd.{dvd-zero, dvd_refl, le_of_dvd}
+use Rattle.std.proofs.lemmas.Grind.{get_or_default_zero}
+use Rattle.std.proofs.lemmas.List.{get_or-set_same, get_or-set_other, length-set}
+use Rattle.std.proofs.lemmas.Option.{slice_get_within}
+use Rattle.std.specs.Int.{IsGcd, ◌∣◌}
+use Rattle.net_core.specs.declared.network.Link.{Link}
+use Rattle.net_core.specs.declared.states.Listed.{Listed}
+use Rattle.plan_terms.specs.Certificates.{AreKept, IsGreatestDivisor}
+use Rattle.plan_terms.specs.Paths.{Survives}
+use Rattle.plan_terms.proofs.Bounds.{divisor_both, divisor_one}
+use Rattle.metric_cut.specs.Keeping.{AreDivided, AreMasked, AreZero, Keeps}
+use Rattle.metric_cut.specs.Ratios.{HaveBound}
+
+-- the first n lengths are masked, and the others are as they were
+pub record AreMaskedBelow (links : List Link) (listed : List Listed) (s n : ℕ) (lengths masked : List ℕ) : Type 0 where
+  pub count : length masked ≡ length lengths
+  pub same : (e : ℕ) → Survives links listed s e → slice_index masked e ≡ slice_index lengths e
+  pub zero : (e : ℕ) → e < n → slice_index masked e ≢ 0 → Survives links listed s e
+
+-- the first n lengths are divided, and the others are as they were
+pub record AreDividedBelow (common n : ℕ) (lengths divided : List ℕ) : Type 0 where
+  pub count : length divided ≡ length lengths
+  pub each : (e : ℕ) → e < n → e < length lengths → slice_index divided e ≡ slice_index lengths e / common
+  pub rest : (e : ℕ) → n ≤ e → slice_index divided e ≡ slice_index lengths e
+
+module _ (links : List Link) (listed : List Listed) (s n : ℕ) (lengths masked : List ℕ) (so_far : AreMaskedBelow links listed s n lengths masked) where
+  -- a surviving link more
+  pub mask_keeps : Survives links listed s n → AreMaskedBelow links listed s (n + 1) lengths masked
+  mask_keeps survives = record {
+    count = so_far.count;
+    same = so_far.same;
+    zero = λ e lt some. ⊎_elim
+        (λ same. subst (Survives links listed s) (sym same) survives)
+        (λ other. so_far.zero e (omega (arith, lt, other)) some)
+        (cases_eq e n);
+  }
+
+  -- a link more that doesn't survive
+  pub mask_sets : n < length masked → (Survives links listed s n → ⊥) → AreMaskedBelow links listed s (n + 1) lengths (slice_set masked n 0)
+  mask_sets inside fails = record {
+    count = length-set masked n 0 ∙ so_far.count;
+    same = λ e survives. get_or-set_other masked n e 0 0 (λ same. fails (subst (Survives links listed s) same survives)) ∙ so_far.same e survives;
+    zero = λ e lt some. ⊎_elim
+        (λ same. absurd (some (subst (λ i. slice_index (slice_set masked n 0) i ≡ 0) (sym same) (get_or-set_same masked n 0 0 inside))))
+        (λ other. so_far.zero e (omega (arith, lt, other)) (λ none. some (get_or-set_other masked n e 0 0 other ∙ none)))
+        (cases_eq e n);
+  }
+
+  pub mask_ends : length lengths ≤ n → AreMasked links listed s lengths masked
+  mask_ends all = record {
+    count = so_far.count;
+    same = so_far.same;
+    zero = λ e some. ⊎_elim
+        (λ lt. so_far.zero e lt some)
+        (λ ge. absurd (some (get_or-eq_default masked 0 (omega (arith, ge, all, so_far.count)))))
+        (cases_lt e n);
+  }
+
+-- one length more over a divisor
+pub divide_step : (common n v : ℕ) (lengths divided : List ℕ) → n < length divided → v ≡ slice_index divided n / common → AreDividedBelow common n lengths divided → AreDividedBelow common (n + 1) lengths (slice_set divided n v)
+divide_step common n v lengths divided inside is so_far = record {
+  count = length-set divided n v ∙ so_far.count;
+  each = λ e lt within. ⊎_elim
+      (λ same. subst (λ i. slice_index (slice_set divided n v) i ≡ slice_index lengths i / common) (sym same)
+      (get_or-set_same divided n v 0 inside ∙ (is ∙ ap (λ i. i / common) (so_far.rest n (omega arith)))))
+      (λ other. get_or-set_other divided n e v 0 other ∙ so_far.each e (omega (arith, lt, other)) within)
+      (cases_eq e n);
+  rest = λ e ge. get_or-set_other divided n e v 0 (λ same. omega (arith, ge, same)) ∙ so_far.rest e (omega (arith, ge));
+}
+
+-- one length more
+pub divisor_step : (n : ℕ) (lengths : List ℕ) (d g h : ℕ) → n < length lengths → IsGreatestDivisor (take n lengths) g → IsGcd g (get_or lengths n d) h → IsGreatestDivisor (take (n + 1) lengths) h
+divisor_step n lengths d g h lt before gcd =
+    let x = get_or lengths n d in
+    let more : take (n + 1) lengths ≡ take n lengths ++ x ∷ [] = rw add-one (take-suc lengths n d lt) in
+    subst (λ xs. IsGreatestDivisor xs h) (sym more) (divisor_both (take n lengths) (x ∷ []) g x h before (divisor_one x) gcd)
+
+-- a divisor of all lengths divides each, that of a link out of range among them
+divides_at : (d : ℕ) (lengths : List ℕ) → All (λ x. d ∣ x) lengths → (e : ℕ) → d ∣ slice_index lengths e
+divides_at d lengths all e = ⊎_elim
+    (λ lt. all e 0 lt)
+    (λ ge. subst (λ x. d ∣ x) (sym (get_or-eq_default lengths 0 (omega (arith, ge)))) (dvd-zero d))
+    (cases_lt e (length lengths))
+
+-- what divides each divides all
+divides_all : (d : ℕ) (lengths : List ℕ) → ((e : ℕ) → d ∣ slice_index lengths e) → All (λ x. d ∣ x) lengths
+divides_all d lengths each i x lt = subst (λ y. d ∣ y) (sym (get_or_default_zero lengths i x lt)) (each i)
+
+-- a divisor of a positive number is positive
+pub divisor_positive : (g n : ℕ) → 0 < n → g ∣ n → 0 < g
+divisor_positive zero n some divides = let none : n ≡ 0 = zero-dvd.0 divides in absurd (omega (arith, some, none))
+divisor_positive (suc g) n some divides = omega arith
+
+-- what divides a length wherever it isn't 0
+divides_unless_zero : (d x : ℕ) → (x ≢ 0 → d ∣ x) → d ∣ x
+divides_unless_zero d zero some = dvd-zero d
+divides_unless_zero d (suc x) some = some (λ e. omega (arith, e))
+
+module _ (links : List Link) (listed : List Listed) (s common : ℕ) (lengths masked : List ℕ) (are : AreMasked links listed s lengths masked) (divisor : IsGreatestDivisor masked common) where
+  -- the greatest common divisor is 0 exactly where no surviving link has a positive length
+  pub zero_lengths : common ≡ 0 → AreZero links listed s lengths
+  zero_lengths none = λ e survives.
+      let divides : 0 ∣ slice_index masked e = subst (λ c. c ∣ slice_index masked e) none (divides_at common masked divisor.divides e) in
+      sym (are.same e survives) ∙ zero-dvd.0 divides
+
+  pub zero_divisor : AreZero links listed s lengths → common ≡ 0
+  zero_divisor none =
+      let all : All (λ x. (common + 1) ∣ x) masked = divides_all (common + 1) masked
+      (λ e. divides_unless_zero (common + 1) (slice_index masked e) (λ some. let survives = are.zero e some in absurd (some (are.same e survives ∙ none e survives)))) in
+      ⊎_elim
+      (λ (zero : common ≡ 0). zero)
+      (λ (some : common ≢ 0). let least : common + 1 ≤ common = le_of_dvd (omega (arith, some)) (divisor.greatest (common + 1) all) in absurd (omega (arith, least)))
+      (cases_eq common 0)
+
+  -- the lengths that are kept
+  pub keeps_divided : (kept : List ℕ) → 0 < common → length lengths ≡ length links → AreDivided common masked kept → Keeps links listed s lengths kept
+  keeps_divided kept some count divided = record {
+    count = divided.count ∙ are.count;
+    common = common;
+    positive = some;
+    divided = λ e survives.
+        let inside : e < length masked = omega (arith, slice_get_within links e survives.link survives.at, count, are.count) in
+        ap (λ x. x * common) (divided.each e inside) ∙ (div-mul_cancel common (divides_at common masked divisor.divides e) ∙ are.same e survives);
+    greatest = λ d each. divisor.greatest d (divides_all d masked (λ e. divides_unless_zero d (slice_index masked e)
+        (λ positive. let survives = are.zero e positive in subst (λ x. d ∣ x) (sym (are.same e survives)) (each e survives))));
+    zero = λ e positive. ⊎_elim
+        (λ inside. are.zero e (λ none. positive (divided.each e inside ∙ (ap (λ x. x / common) none ∙ zero_over common some))))
+        (λ outside. absurd (positive (get_or-eq_default kept 0 (omega (arith, outside, divided.count)))))
+        (cases_lt e (length masked));
+  }
+    where
+      zero_over : (c : ℕ) → 0 < c → 0 / c ≡ 0
+      zero_over zero positive = absurd (omega arith)
+      zero_over (suc c) positive = omega arith
+
+-- what a state keeps of lengths is kept in it
+pub keeps_kept : (links : List Link) (listed : List Listed) (s : ℕ) (lengths kept : List ℕ) → length lengths ≡ length links → Keeps links listed s lengths kept → AreKept links listed s kept
+keeps_kept links listed s lengths kept count keeps = record {
+  count = keeps.count ∙ count;
+  zero = keeps.zero;
+  lowest = λ d all.
+      let each : (e : ℕ) → Survives links listed s e → (d * keeps.common) ∣ slice_index lengths e = λ e survives.
+      subst (λ x. (d * keeps.common) ∣ x) (keeps.divided e survives) (mul-dvd-mul_right d (divides_at d kept all e) keeps.common) in
+      let divides : (d * keeps.common) ∣ (1 * keeps.common) = subst (λ x. (d * keeps.common) ∣ x) (omega arith) (keeps.greatest (d * keeps.common) each) in
+      eq-one_of_dvd-one (dvd_of_mul-dvd-mul_right d keeps.positive divides);
+}
+
+-- some number is positive, or all are 0
+positive_or_zero : (xs : List ℕ) → Any (λ x. 0 < x) xs ⊎ ((e : ℕ) → slice_index xs e ≡ 0)
+positive_or_zero [] = inr (λ e. refl)
+positive_or_zero (zero ∷ xs) = ⊎_elim
+    (λ some. inl (suc some.0, some.1, omega (arith, some.2), some.3, some.4))
+    (λ none. inr (λ e. elim e as (λ i. slice_index (0 ∷ xs) i ≡ 0) [ zero ↦ refl | suc k ↦ none k ]))
+    (positive_or_zero xs)
+positive_or_zero (suc x ∷ xs) = inl (0, suc x, omega arith, refl, omega arith)
+
+-- kept lengths have a bound of their own
+pub kept_have_bound : (links : List Link) (listed : List Listed) (s : ℕ) (lengths : List ℕ) → AreKept links listed s lengths → HaveBound links lengths
+kept_have_bound links listed s lengths kept = record {
+  count = kept.count;
+  positive = ⊎_elim
+      (λ some. some)
+      (λ none. absurd (let two : 2 ≡ 1 = kept.lowest 2 (divides_all 2 lengths (λ e. subst (λ x. 2 ∣ x) (sym (none e)) (dvd-zero 2))) in omega (arith, two)))
+      (positive_or_zero lengths);
+  served = λ e l at some.
+      let survives = kept.zero e some in
+      subst (λ (x : Link). x.modules ≢ []) (same_link e l survives.link at survives.at) survives.served;
+}
+  where
+    same_link : (e : ℕ) (a b : Link) → slice_get links e ≡ Some a → slice_get links e ≡ Some b → b ≡ a
+    same_link e a b first second = cc

@@ -1,0 +1,4 @@
+pub mod Costs
+pub mod Keepings
+pub mod Leasts
+pub mod Sides
