@@ -4,4 +4,3 @@ pub mod Names
 pub mod Network
 pub mod States
 pub mod Tests
-pub mod Lists
