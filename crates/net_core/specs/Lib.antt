@@ -1,4 +1,5 @@
 pub mod Demands
+pub mod Lists
 pub mod Names
 pub mod Network
 pub mod States

@@ -1,0 +1,7 @@
+use Rattle.std.proofs.Common.{sym, subst}
+use Rattle.std.specs.Int.{◌∣◌}
+use Rattle.std.proofs.Math.Nat.{one-dvd}
+use Rattle.checked_fraction.proofs.divisor.Divisor.divides.Goals as goal
+
+pub returns-then-self-eq1 : goal.returns-then-self-eq1
+returns-then-self-eq1 c = λ yes. subst (λ g. g ∣ c.args.size) (sym c.if-self-eq1.true) (one-dvd c.args.size)

@@ -1,0 +1,7 @@
+use Rattle.std.proofs.Common.{sym, subst}
+use Rattle.std.specs.Int.{IsGcd}
+use Rattle.std.proofs.lemmas.Nat.Gcd.{IsGcd-swap}
+use Rattle.checked_fraction.proofs.pivot.joined.Goals as goal
+
+pub returns : goal.returns
+returns c = subst (λ g. IsGcd c.args.common.now.value c.args.size g) (sym c.new.ensures) (IsGcd-swap _ _ _ c.gcd.ensures)

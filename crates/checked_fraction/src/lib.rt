@@ -1,0 +1,19 @@
+//! Exact fractions, and rows of whole numbers over one denominator.
+#![tactic(auto)]
+
+mod divisor;
+pub mod fraction;
+mod mix;
+pub mod pivot;
+pub mod row;
+pub mod scale;
+pub mod wide;
+
+pub use fraction::{cmp, gcd, mul_div};
+pub use pivot::combine;
+pub use row::Row;
+pub use scale::rescale;
+pub use wide::WideNumber;
+
+#[cfg(test)]
+mod tests;
