@@ -1,11 +1,13 @@
 -- bounds: rounded up to a multiple of the greatest common divisor of the modules' costs
-use Rattle.std.proofs.Common.{◌≡◌, ℕ, zero, suc, ◌*◌, ◌/◌, ◌≤◌, ◌<◌, List, [], ◌∷◌, ◌++◌, refl, sym, ap, subst, ◌∙◌, ◌≢◌, ⊎_elim, arith}
-use Rattle.std.proofs.Math.Nat.{mul-le-mul_left, le_of_mul-le-mul_left, dvd-mul_right, mul-div_cancel'}
+use Rattle.std.proofs.Common.{◌≡◌, ℕ, zero, suc, ◌*◌, ◌/◌, ◌≤◌, ◌<◌, List, [], ◌∷◌, ◌++◌, refl, sym, ap, subst, ◌∙◌, ◌≢◌, ◌+◌, ◌⊎◌, inl, inr, ⊎_elim, arith, All, map}
+use Rattle.std.proofs.Math.Nat.{mul-le-mul_left, le_of_mul-le-mul_left, dvd-mul_right, mul-div_cancel', lt_of_mul-lt-mul_right}
 use Rattle.std.proofs.lemmas.List.Elements.{All-append, All-from_recursion, recursion_from_All}
-use Rattle.std.proofs.lemmas.Nat.Gcd.{dvd_refl, dvd-zero, dvd_trans, dvd_antisymm}
+use Rattle.std.proofs.lemmas.Nat.Gcd.{dvd_refl, dvd-zero, dvd_trans, dvd_antisymm, le_of_dvd}
 use Rattle.std.proofs.lemmas.Bool.{cases_eq}
 use Rattle.std.specs.Int.{◌∣◌, IsGcd}
+use Rattle.std.specs.List.{AllByRecursion}
 use Rattle.net_core.specs.declared.network.Link.{Link}
+use Rattle.net_core.specs.declared.network.Module.{Module}
 use Rattle.plan_terms.specs.Certificates.{IsLowest, module_costs, IsGreatestDivisor, IsBound}
 use Rattle.plan_terms.proofs.Duality.{divides_parts}
 
@@ -115,3 +117,43 @@ bound_unique links a b c d x y some_b some_d same first second =
     let less = bound_least links a b c d x y some_d same first second in
     let more = bound_least links c d a b y x some_b (sym same) second first in
     omega (arith, less, more)
+
+-- what divides numbers below a limit is below it, or all of them are 0
+divisor_or_none : (g limit : ℕ) (xs : List ℕ) → AllByRecursion (λ x. x < limit) xs → AllByRecursion (λ x. g ∣ x) xs → (g < limit) ⊎ ((d : ℕ) → AllByRecursion (λ x. d ∣ x) xs)
+divisor_or_none g limit [] below divides = inr (λ d. tt)
+divisor_or_none g limit (x ∷ xs) below divides = ⊎_elim
+    (λ (zero : x ≡ 0). ⊎_elim
+    (λ low. inl low)
+    (λ rest. inr (λ d. (subst (λ i. d ∣ i) (sym zero) (dvd-zero d), rest d)))
+    (divisor_or_none g limit xs below.1 divides.1))
+    (λ (some : x ≢ 0). let le : g ≤ x = le_of_dvd (omega arith) divides.0 in inl (omega (arith, le, below.0)))
+    (cases_eq x 0)
+
+-- the greatest common divisor of numbers below a limit is below it
+pub divisor_limit : (xs : List ℕ) (g limit : ℕ) → 0 < limit → AllByRecursion (λ x. x < limit) xs → IsGreatestDivisor xs g → g < limit
+divisor_limit xs g limit some below is = ⊎_elim
+    (λ low. low)
+    (λ all. ⊎_elim
+    (λ (zero : g ≡ 0). omega arith)
+    (λ (positive : g ≢ 0).
+    let more : g + 1 ∣ g = is.greatest (g + 1) (All-from_recursion (λ x. g + 1 ∣ x) xs (all (g + 1))) in
+    let le : g + 1 ≤ g = le_of_dvd (omega arith) more in
+    absurd (omega (arith, le)))
+    (cases_eq g 0))
+    (divisor_or_none g limit xs below (recursion_from_All (λ x. g ∣ x) xs is.divides))
+
+-- the costs of a network's modules are below their limit
+modules_below : (limit : ℕ) (modules : List Module) (rest : List ℕ) → AllByRecursion (λ m. m.cost < limit) modules → AllByRecursion (λ x. x < limit) rest → AllByRecursion (λ x. x < limit) (map (λ m. m.cost) modules ++ rest)
+modules_below limit [] rest all others = others
+modules_below limit (m ∷ ms) rest all others = (all.0, modules_below limit ms rest all.1 others)
+
+pub costs_below : (limit : ℕ) (links : List Link) → AllByRecursion (λ l. All (λ m. m.cost < limit) l.modules) links → AllByRecursion (λ x. x < limit) (module_costs links)
+costs_below limit [] all = tt
+costs_below limit (l ∷ ls) all = modules_below limit l.modules (module_costs ls) (recursion_from_All (λ m. m.cost < limit) l.modules all.0) (costs_below limit ls all.1)
+
+-- a quotient that is rounded up is the least number of times that reaches
+pub quotient_least : (a y q : ℕ) → q * y < a + y → (c : ℕ) → a ≤ y * c → q ≤ c
+quotient_least a y q low c reached =
+    let less : q * y < (c + 1) * y = omega (arith, low, reached) in
+    let lt : q < c + 1 = lt_of_mul-lt-mul_right y less in
+    omega (arith, lt)

@@ -1,6 +1,6 @@
 -- the greatest valid multiplier of lengths, from the least ratio of a cost and a size
-use Rattle.std.proofs.Common.{◌≡◌, ℕ, zero, suc, ◌*◌, ◌≤◌, ◌<◌, List, slice_index, get_or, sym, ap, subst, ◌∙◌, arith}
-use Rattle.std.proofs.Math.Nat.{mul-le-mul_left, le_of_mul-le-mul_left, mul-dvd-mul_right, dvd_of_mul-dvd-mul_right, eq-one_of_dvd-one}
+use Rattle.std.proofs.Common.{◌≡◌, ℕ, zero, suc, ◌*◌, ◌/◌, ◌≤◌, ◌<◌, List, slice_index, get_or, sym, ap, subst, ◌∙◌, arith}
+use Rattle.std.proofs.Math.Nat.{mul-le-mul_left, le_of_mul-le-mul_left, mul-dvd-mul_right, dvd_of_mul-dvd-mul_right, eq-one_of_dvd-one, div-mul_cancel}
 use Rattle.std.specs.Int.{◌∣◌, IsGcd}
 use Rattle.net_core.specs.declared.network.Module.{Module}
 use Rattle.net_core.specs.declared.network.Link.{Link}
@@ -64,3 +64,11 @@ module _ (links : List Link) (lengths : List ℕ) (cost size : ℕ) (ratio : IsL
   ratio_multiplier gcd =
       let low = lowest_terms cost size g num den ratio.positive gcd first second in
       record { valid = ratio_valid; greatest = ratio_greatest; lowest = low.lowest }
+
+-- the least ratio over its greatest common divisor is the greatest valid multiplier
+pub ratio_quotient : (links : List Link) (lengths : List ℕ) (cost size g : ℕ) → IsLeastRatio links lengths cost size → IsGcd cost size g → (0 < g) × IsMultiplier links lengths (cost / g) (size / g)
+ratio_quotient links lengths cost size g ratio gcd =
+    let first = sym (div-mul_cancel g gcd.0) in
+    let second = sym (div-mul_cancel g gcd.1) in
+    let positive = factor_positive (size / g) g (omega (arith, second, ratio.positive)) in
+    (positive.1, ratio_multiplier links lengths cost size ratio g (cost / g) (size / g) first second gcd)

@@ -75,7 +75,7 @@ own_bound_unique links state lengths right x y count first second =
     (subst (λ i. IsBound links i second.den y) (raw_alone state lengths right second.num links count) second.rounded)
 
 -- an element of a list that meets what all meet
-all_at : {X : Type 0} (P : X → Type 0) (xs : List X) (k : ℕ) (x : X) → AllByRecursion P xs → slice_get xs k ≡ Some x → P x
+pub all_at : {X : Type 0} (P : X → Type 0) (xs : List X) (k : ℕ) (x : X) → AllByRecursion P xs → slice_get xs k ≡ Some x → P x
 all_at P [] k x all e = absurd (cc)
 all_at P (y ∷ ys) zero x all e = let same : y ≡ x = cc e in subst P same all.0
 all_at P (y ∷ ys) (suc k) x all e = all_at P ys k x all.1 e
@@ -86,7 +86,7 @@ index_below limit [] k some all = some
 index_below limit (x ∷ xs) zero some all = all.0
 index_below limit (x ∷ xs) (suc k) some all = index_below limit xs k some all.1
 
-product_below : (a b p q : ℕ) → a < p → 0 < q → b < q → a * b < p * q
+pub product_below : (a b p q : ℕ) → a < p → 0 < q → b < q → a * b < p * q
 product_below a b p q la some lb =
     let one : a * b ≤ a * q = mul-le-mul_left a (omega arith) in
     let two : a * q < p * q = mul-lt-mul_of_pos_right la some in
@@ -123,17 +123,12 @@ module _ (nodes : List (List ℕ)) (links : List Link) (lengths : List ℕ) (net
         let product = product_below ratio.reached.1.capacity (slice_index lengths ratio.number) (2 ^ 40) (2 ^ 32) ratio_module.capacity (omega arith) short in
         omega (arith, product, ratio.reached.4.1)
 
--- The least ratio of a cut's lengths, reduced, makes the cut alone a certificate.
-pub own_certificate : (nodes : List (List ℕ)) (links : List Link) (listed : List Listed) (demands : List Demand) (line : Line) (cost size g num den : ℕ)
+-- A valid multiplier within the limits makes a cut alone a certificate.
+pub certificate_alone : (nodes : List (List ℕ)) (links : List Link) (listed : List Listed) (demands : List Demand) (line : Line) (num den : ℕ)
     → IsNetwork nodes links → IsLine links listed demands line → All (λ x. x < 2 ^ 32) line.lengths → line.right < 2 ^ 84
-    → IsLeastRatio links line.lengths cost size → cost ≡ num * g → size ≡ den * g
+    → IsValid links line.lengths num den → num < 2 ^ 40 → den < 2 ^ 72
     → IsCertificate links listed demands den (alone line.state line.lengths line.right num)
-own_certificate nodes links listed demands line cost size g num den network is small low ratio first second =
-    let valid = ratio_valid links line.lengths cost size ratio g num den first second in
-    let some = ratio.positive in
-    let positive = factor_positive den g (omega (arith, second, some)) in
-    let num_limit : num < 2 ^ 40 = omega (arith, mul-le-mul_left num positive.1, first, ratio_cost_limit nodes links line.lengths network small cost size ratio) in
-    let den_limit : den < 2 ^ 72 = omega (arith, mul-le-mul_left den positive.1, second, ratio_size_limit nodes links line.lengths network small cost size ratio) in
+certificate_alone nodes links listed demands line num den network is small low valid num_limit den_limit =
     let asked_small : num * line.right < 2 ^ 40 * 2 ^ 84 = product_below num line.right (2 ^ 40) (2 ^ 84) num_limit (omega arith) low in
     let given_small : num * fixed_along line.lengths links ≤ num * 2 ^ 80 = mul-le-mul_left num (fixed_limit nodes links line.lengths network small) in
     record {
@@ -145,6 +140,18 @@ own_certificate nodes links listed demands line cost size g num den network is s
       each = line_alone links listed demands line num is;
       priced = priced_alone links line.state line.lengths line.right num den valid;
     }
+
+-- The least ratio of a cut's lengths, reduced, makes the cut alone a certificate.
+pub own_certificate : (nodes : List (List ℕ)) (links : List Link) (listed : List Listed) (demands : List Demand) (line : Line) (cost size g num den : ℕ)
+    → IsNetwork nodes links → IsLine links listed demands line → All (λ x. x < 2 ^ 32) line.lengths → line.right < 2 ^ 84
+    → IsLeastRatio links line.lengths cost size → cost ≡ num * g → size ≡ den * g
+    → IsCertificate links listed demands den (alone line.state line.lengths line.right num)
+own_certificate nodes links listed demands line cost size g num den network is small low ratio first second =
+    let some = ratio.positive in
+    let positive = factor_positive den g (omega (arith, second, some)) in
+    certificate_alone nodes links listed demands line num den network is small low (ratio_valid links line.lengths cost size ratio g num den first second)
+    (omega (arith, mul-le-mul_left num positive.1, first, ratio_cost_limit nodes links line.lengths network small cost size ratio))
+    (omega (arith, mul-le-mul_left den positive.1, second, ratio_size_limit nodes links line.lengths network small cost size ratio))
 
 -- no lines give nothing
 given_empty : (from : ℕ) (links : List Link) → given [] from links ≡ 0
