@@ -1,5 +1,5 @@
 -- shelves and sinks in memory
-use Rattle.std.specs.Prelude.{◌≡◌, ◌≢◌, ℕ, ◌+◌, ◌/◌, ◌≤◌, ◌<◌, ◌⊎◌, List, [], ◌++◌, length, take, map, AllPairs, Contains, Result, MatchResult}
+use Rattle.std.specs.Prelude.{◌≡◌, ◌≢◌, ℕ, ◌+◌, ◌/◌, ◌≤◌, ◌⊎◌, List, ◌++◌, length, take, map, AllPairs, Contains, Result, MatchResult}
 use Rattle.outside_io.specs.declared.memory.MemFile.{MemFile}
 use Rattle.outside_io.specs.declared.shelf.Fetch.{Fetch}
 use Rattle.outside_io.specs.declared.shelf.Fetch.TheVariants.{Found, Missing, TooLong, Failed, NoMemory}
@@ -40,14 +40,17 @@ faults_after NoMemory faults = faults
 abbrev pub after_fetch : Fetch → HeldFiles → HeldFiles
 after_fetch answer shelf = record shelf { calls = raised shelf.calls; faults = faults_after answer shelf.faults }
 
--- the sink after a put that took the whole piece
-abbrev pub after_taking : List ℕ → HeldOutput → HeldOutput
-after_taking piece sink = record sink { taken = sink.taken ++ piece; calls = raised sink.calls }
+-- the sink with more bytes
+abbrev pub taking : List ℕ → HeldOutput → HeldOutput
+taking bytes sink = record sink { taken = sink.taken ++ bytes }
 
--- the sink after a put that failed and took these bytes
-abbrev pub after_failing : List ℕ → HeldOutput → HeldOutput
-after_failing bytes sink =
-    record sink { taken = sink.taken ++ bytes; calls = raised sink.calls; faults = raised sink.faults }
+-- the sink after one call more
+abbrev pub after_put : HeldOutput → HeldOutput
+after_put sink = record sink { calls = raised sink.calls }
+
+-- the sink after one call more, which failed
+abbrev pub after_fault : HeldOutput → HeldOutput
+after_fault sink = record sink { calls = raised sink.calls; faults = raised sink.faults }
 
 -- the piece fits into what is left of the room
 abbrev pub Fits : HeldOutput → List ℕ → Type 0
@@ -60,6 +63,6 @@ IsNumbered sink = Contains sink.failing sink.calls
 -- a put of a piece that doesn't fit takes nothing, one of a failing number half of the piece, and any other all of it
 abbrev pub PutsHeld : {E : Type 0} → HeldOutput → HeldOutput → Result (Unit {0}) E → List ℕ → Type 0
 PutsHeld old new answer piece = MatchResult answer
-    (λ _. Fits old piece × (IsNumbered old → ⊥) × (new ≡ after_taking piece old))
-    (λ _. ((Fits old piece → ⊥) × (new ≡ after_failing [] old))
-    ⊎ (Fits old piece × IsNumbered old × (new ≡ after_failing (take (length piece / 2) piece) old)))
+    (λ _. Fits old piece × (IsNumbered old → ⊥) × (new ≡ after_put (taking piece old)))
+    (λ _. ((Fits old piece → ⊥) × (new ≡ after_fault old))
+    ⊎ (Fits old piece × IsNumbered old × (new ≡ after_fault (taking (take (length piece / 2) piece) old))))

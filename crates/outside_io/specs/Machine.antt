@@ -1,5 +1,8 @@
 -- reading the machine's files and writing to its streams
-use Rattle.std.specs.Prelude.{◌≡◌, ℕ, ◌+◌, ◌≤◌, ◌<◌, List, [], ◌++◌, length, take, Option, Some, None, IfSome, ⊤, Result, MatchResult}
+use Rattle.std.specs.Prelude.{◌≡◌, ◌≢◌, ℕ, ◌+◌, ◌≤◌, ◌<◌, List, [], ◌++◌, length, take, Option, Some, None, IfSome, ⊤, Result, MatchResult}
+use Rattle.std.specs.IoError.{error_kind}
+use Rattle.std.specs.declared.io.Error.{Error}
+use Rattle.std.specs.declared.io.ErrorKind.TheVariants.{NotFound}
 use Rattle.std.specs.Io.KnownBytes.{Consumes, Appends, IsAtEnd}
 use Rattle.outside_io.specs.declared.files.FileShelf.{FileShelf}
 use Rattle.outside_io.specs.declared.stream.StreamSink.{StreamSink}
@@ -25,6 +28,14 @@ Reads known limit Missing into = ⊥
 Reads known limit TooLong into = IfSome known (λ bytes. limit < length bytes)
 Reads known limit Failed into = ⊤
 Reads known limit NoMemory into = ⊤
+
+-- what a file that can't be opened answers: only one that doesn't exist is missing
+abbrev pub AnswersUnopened : Error → Fetch → Type 0
+AnswersUnopened e Found = ⊥
+AnswersUnopened e Missing = error_kind e ≡ NotFound
+AnswersUnopened e TooLong = ⊥
+AnswersUnopened e Failed = error_kind e ≢ NotFound
+AnswersUnopened e NoMemory = ⊥
 
 -- at most so many bytes were read, where the bytes of the file are known
 abbrev pub ConsumesUpTo : ℕ → Option (List ℕ) → Option (List ℕ) → Type 0

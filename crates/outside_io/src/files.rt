@@ -1,15 +1,17 @@
-ghost use Rattle.std.specs.Prelude.{◌≡◌, ◌≤◌, ◌+◌, ◌<◌, [], None, length};
+ghost use Rattle.std.specs.Prelude.{◌≡◌, ◌≤◌, ◌+◌, ◌<◌, [], None, MatchResult, length};
 ghost use Rattle.outside_io.specs.Outside.{AnswersUntold, Rose};
-ghost use Rattle.outside_io.specs.Machine.{Reads, ReadsOnce, ConsumesUpTo, shelf_faults};
+ghost use Rattle.outside_io.specs.Machine.{AnswersUnopened, Reads, ReadsOnce, ConsumesUpTo, shelf_faults};
 ghost use Rattle.outside_io.specs.Held.{faults_after};
 
 use crate::shelf::{Fetch, Shelf};
 use net_core::Bytes;
-use std::fs;
 use std::io::{ErrorKind, Read};
 use std::rt::Files;
+use std::{fs, io};
 
-/// Files of the machine. The content of a file is what reading it to its end gives.
+/// Files of the machine, of which it tells nothing. The content of a file is what reading it to its
+/// end gives. A name that doesn't exist is `Missing`; a folder, or another thing that can't be read,
+/// is `Failed`.
 #[derive(Drop)]
 pub struct FileShelf<'f, F> {
     files: &'f F,
@@ -51,6 +53,20 @@ pub(crate) fn read_whole<R: Read>(file: &mut R, limit: u64, into: &mut Bytes) ->
     Fetch::Failed
 }
 
+/// Reads a file that was opened.
+fn read_opened<R: Read + Drop>(opened: io::Result<R>, limit: u64, into: &mut Bytes) -> Fetch
+    requires { into.old ≡ [] }
+    ensures { MatchResult opened
+        (λ file. Reads (R.remaining file) limit result into.new)
+        (λ e. AnswersUnopened e result) }
+{
+    match opened {
+        Ok(mut file) => read_whole(&mut file, limit, into),
+        Err(e) if e.kind() == ErrorKind::NotFound => Fetch::Missing,
+        Err(_) => Fetch::Failed,
+    }
+}
+
 impl<'f, F: Files> FileShelf<'f, F> {
     /// A shelf of the machine's files.
     pub fn new(files: &'f F) -> FileShelf<'f, F>
@@ -72,16 +88,14 @@ impl<'f, F: Files> Shelf for FileShelf<'f, F> {
     fn fetch(&mut self, name: &str, limit: u64, into: &mut Bytes) -> Fetch
         ensures answer { AnswersUntold limit result into.new }
         ensures later { shelf_faults self.old ≤ shelf_faults self.new }
-        ensures failed { result ≡ Fetch.Failed → Rose (shelf_faults self.old) (shelf_faults self.new) }
-        ensures no_memory { result ≡ Fetch.NoMemory → shelf_faults self.new ≡ shelf_faults self.old }
+        ensures failed { result ≡ Fetch.Failed
+            → Rose (shelf_faults self.old) (shelf_faults self.new) }
+        ensures no_memory { result ≡ Fetch.NoMemory
+            → shelf_faults self.new ≡ shelf_faults self.old }
         ensures counted { shelf_faults self.new ≡ faults_after result (shelf_faults self.old) }
     {
         into.clear();
-        let answer = match fs::open(self.files, name) {
-            Ok(mut file) => read_whole(&mut file, limit, into),
-            Err(e) if e.kind() == ErrorKind::NotFound => Fetch::Missing,
-            Err(_) => Fetch::Failed,
-        };
+        let answer = read_opened(fs::open(self.files, name), limit, into);
         if answer != Fetch::Found {
             into.clear();
         }

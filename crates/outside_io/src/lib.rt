@@ -1,4 +1,8 @@
 //! The outside: where files come from, where output goes, and where a test may hold callers.
+//!
+//! `MemShelf` and `MemSink` tell what they hold, so that clauses can speak of it. `FileShelf` and
+//! `StreamSink` are the two trusted edges to the machine: what a real file holds, and that a real
+//! stream took the bytes, is outside what is proved.
 #![tactic(auto)]
 
 pub mod files;

@@ -11,7 +11,9 @@ use std::marker::Model;
 /// A file in memory.
 #[derive(Drop)]
 pub struct MemFile {
+    /// The name under which it is fetched.
     pub name: Name,
+    /// Its whole content.
     pub bytes: Bytes,
 }
 
@@ -29,7 +31,12 @@ impl Model for MemShelf {
 
     ghost Value = { HeldFiles };
 
-    ghost view = { λ s. record { files = files_of s.files; failing = s.failing; calls = s.calls; faults = s.faults } };
+    ghost view = { λ s. record {
+      files = files_of s.files;
+      failing = s.failing;
+      calls = s.calls;
+      faults = s.faults;
+    } };
 
     ghost invariant = { λ s. HaveDifferentNames s.files };
 }
@@ -73,7 +80,12 @@ impl MemShelf {
     /// A shelf of these files. The calls whose numbers stand in `failing` will fail.
     pub fn new(files: List<MemFile>, failing: List<u32>) -> MemShelf
         requires { HaveDifferentNames files }
-        ensures { result ≡ record { files = files_of files; failing = failing; calls = 0; faults = 0 } }
+        ensures { result ≡ record {
+          files = files_of files;
+          failing = failing;
+          calls = 0;
+          faults = 0;
+        } }
     {
         MemShelf {
             files,
@@ -137,7 +149,13 @@ impl Model for MemSink {
 
     ghost Value = { HeldOutput };
 
-    ghost view = { λ s. record { taken = s.taken.items; room = s.room; failing = s.failing; calls = s.calls; faults = s.faults } };
+    ghost view = { λ s. record {
+      taken = s.taken.items;
+      room = s.room;
+      failing = s.failing;
+      calls = s.calls;
+      faults = s.faults;
+    } };
 
     ghost invariant = { λ s. (vec_len s.taken ≤ s.room) × (s.room ≤ vec_capacity s.taken) };
 }
@@ -146,7 +164,13 @@ impl MemSink {
     /// An empty sink, which takes the memory for its room of bytes at once. The calls whose
     /// numbers stand in `failing` will fail.
     pub fn new(alloc: Global, room: u64, failing: List<u32>) -> Result<MemSink, NoMemory>
-        ensures { IfOk result (λ s. s ≡ record { taken = []; room = room; failing = failing; calls = 0; faults = 0 }) }
+        ensures { IfOk result (λ s. s ≡ record {
+          taken = [];
+          room = room;
+          failing = failing;
+          calls = 0;
+          faults = 0;
+        }) }
     {
         let Ok(taken) = Vec::with_capacity(alloc, room as usize) else {
             return Err(NoMemory);

@@ -5,7 +5,7 @@ ghost use Rattle.outside_io.specs.Machine.{Writes, WritesOnce, sink_faults, stre
 use crate::sink::{Failed, Sink};
 use std::io::{ErrorKind, Write};
 
-/// A stream of the machine.
+/// A stream of the machine, of which it tells nothing. Each piece is flushed.
 #[derive(Drop)]
 pub struct StreamSink<W> {
     out: W,
@@ -58,7 +58,8 @@ impl<W: Write> Sink for StreamSink<W> {
     }
 
     fn put(&mut self, piece: &[u8]) -> Result<(), Failed>
-        ensures written { Writes (W.contents (stream_of self.old)) (W.contents (stream_of self.new)) result piece.now }
+        ensures written { Writes
+            (W.contents (stream_of self.old)) (W.contents (stream_of self.new)) result piece.now }
         ensures later { sink_faults self.old ≤ sink_faults self.new }
         ensures failed { OnErr result (Rose (sink_faults self.old) (sink_faults self.new)) }
         ensures not_failed { OnOk result (sink_faults self.new ≡ sink_faults self.old) }
