@@ -33,3 +33,6 @@ fn main(rt: HostRuntime) -> ExitCode {
     let status = run(&rt, rt.alloc(), &words, &mut shelf, &mut out, &OpenGate);
     ExitCode::from(status.number())
 }
+
+#[cfg(test)]
+mod tests;
