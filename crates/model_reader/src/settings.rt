@@ -88,16 +88,23 @@ fn is_word_of(key: ModelKey, word: &[u8]) -> bool
     key_word(key) == word
 }
 
+/// The first of these keys that has the word.
+fn first_of(keys: &[ModelKey], word: &[u8]) -> Option<ModelKey>
+    ensures { result ≡ first_key (λ k. are_same (key_word k) word.now) keys.now }
+{
+    for key in keys {
+        if is_word_of(*key, word) {
+            return Some(*key);
+        }
+    }
+    None
+}
+
 /// The key of a word.
 fn key_of(word: &[u8]) -> Option<ModelKey>
     ensures { result ≡ key_of word.now }
 {
-    for key in KEYS {
-        if is_word_of(key, word) {
-            return Some(key);
-        }
-    }
-    None
+    first_of(&KEYS, word)
 }
 
 impl Known {
