@@ -1,3 +1,5 @@
 pub mod Steps
 pub mod Keys
 pub mod Models
+pub mod Sound
+pub mod Singles

@@ -2,9 +2,14 @@
 #![tactic(auto)]
 
 mod cursor;
+pub mod failures;
 mod lexeme;
+mod list;
 pub mod model;
 mod settings;
+mod single;
 
+pub use failures::{FailuresKind, FailuresRefusal};
 pub use model::{Model, ModelKey, ModelKind, ModelRefusal};
 pub use settings::read_model;
+pub use single::{only_none, single_links};
