@@ -1,8 +1,9 @@
 -- Each link alone as a state.
-use Rattle.std.proofs.Common.{◌≡◌, ◌≢◌, ℕ, zero, suc, ◌+◌, ◌<◌, ◌≤◌, List, [], ◌∷◌, ◌++◌, length, get_or, take, All, AllPairs, Option, None, Some, refl, sym, ap, subst, ◌∙◌, arith, add-one}
+use Rattle.std.proofs.Common.{◌≡◌, ◌≢◌, ℕ, zero, suc, ◌+◌, ◌<◌, ◌≤◌, List, [], ◌∷◌, ◌++◌, length, get_or, take, All, AllPairs, Option, None, Some, refl, sym, ap, subst, ◌∙◌, arith, add-one, ⊎_elim}
 use Rattle.std.proofs.Math.Seq.{take-suc}
 use Rattle.std.proofs.lemmas.List.{length-take}
 use Rattle.std.proofs.Math.Logic.{∥∥₁_elim}
+use Rattle.std.proofs.lemmas.Bool.{cases_lt}
 use Rattle.std.proofs.lemmas.List.Elements.{All-cons, All-nil}
 use Rattle.net_core.specs.declared.ids.LinkId.{LinkId}
 use Rattle.net_core.specs.declared.ids.NodeId.{NodeId}
@@ -47,17 +48,17 @@ abbrev no_link : Link
 no_link = record { name = []; a = record { 0 = 0 }; b = record { 0 = 0 }; fixed = 0; setup = 0; modules = [] }
 
 -- they are states of the network
-pub singles_are_states : (nodes : List (List ℕ)) (links : List Link) → IsNetwork nodes links → AreStates (length links) (single_states links)
-singles_are_states nodes links net =
+pub singles_are_states : (links : List Link) → length links ≤ 256 → AllPairs (λ x y. x.name ≢ y.name) links → AreStates (length links) (single_states links)
+singles_are_states links few pairs =
     let len = singles_length 0 links in
     record {
       checked = record {
-        few = let few : length links ≤ 256 = net.few_links in omega (arith, len);
+        few = omega (arith, len, few);
         some = λ k d lt. subst (λ (s : Listed). 1 ≤ length s.links) (sym (state_at links k d no_link (omega (arith, len, lt)))) (omega arith);
         different = λ i j d lt within same.
         let in_j : j < length links = omega (arith, len, within) in
         let in_i : i < length links = omega (arith, lt, in_j) in
-        net.different_links i j no_link lt in_j (
+        pairs i j no_link lt in_j (
           ap (λ (s : Listed). s.name) (sym (state_at links i d no_link in_i)) ∙ same ∙ ap (λ (s : Listed). s.name) (state_at links j d no_link in_j)
         );
       };
@@ -66,11 +67,25 @@ singles_are_states nodes links net =
       subst (λ (s : Listed). All (λ e. e.0 < length links) s.links) (sym (state_at links k d no_link in_k)) (All-cons (λ (e : LinkId). e.0 < length links) (record { 0 = k }) [] in_k (All-nil (λ (e : LinkId). e.0 < length links)));
     }
 
-none_some : (o : Option StatesFault) (f : StatesFault) → o ≡ None → o ≡ Some f → ⊥
+pub none_some : (o : Option StatesFault) (f : StatesFault) → o ≡ None → o ≡ Some f → ⊥
 none_some None f n s = absurd cc
 none_some (Some g) f n s = absurd cc
+
+-- links of a network have different names
+pub network_differs : (nodes : List (List ℕ)) (links : List Link) → ∥ IsNetwork nodes links ∥₁ → AllPairs (λ x y. x.name ≢ y.name) links
+network_differs nodes links net i j d lt within same = ∥∥₁_elim net (λ x y. absurd x) (λ (sound : IsNetwork nodes links). sound.different_links i j d lt within same)
+
+too_many : (nodes : List (List ℕ)) (links : List Link) → ∥ IsNetwork nodes links ∥₁ → 256 < length links → ⊥
+too_many nodes links net many = ∥∥₁_elim net (λ x y. absurd x) (λ (sound : IsNetwork nodes links). let few : length links ≤ 256 = sound.few_links in omega (arith, few, many))
+
+-- and there are few
+pub network_few : (nodes : List (List ℕ)) (links : List Link) → ∥ IsNetwork nodes links ∥₁ → length links ≤ 256
+network_few nodes links net = ⊎_elim (λ (many : 256 < length links). absurd (too_many nodes links net many)) (λ few. few) (cases_lt 256 (length links))
+
+pub network_singles : (nodes : List (List ℕ)) (links : List Link) → ∥ IsNetwork nodes links ∥₁ → AreStates (length links) (single_states links)
+network_singles nodes links net = singles_are_states links (network_few nodes links net) (network_differs nodes links net)
 
 -- so they are never refused
 pub singles_pass : (nodes : List (List ℕ)) (links : List Link) (f : StatesFault) (listed : List Listed) → ∥ IsNetwork nodes links ∥₁ → listed ≡ single_states links → states_fault (length links) listed ≡ Some f → ⊥
 singles_pass nodes links f listed net is some =
-    ∥∥₁_elim net (λ x y. absurd x) (λ sound. none_some (states_fault (length links) listed) f (ap (states_fault (length links)) is ∙ no_fault (length links) (single_states links) (singles_are_states nodes links sound)) some)
+    none_some (states_fault (length links) listed) f (ap (states_fault (length links)) is ∙ no_fault (length links) (single_states links) (network_singles nodes links net)) some

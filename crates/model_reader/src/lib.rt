@@ -2,6 +2,7 @@
 #![tactic(auto)]
 
 mod cursor;
+mod failure_file;
 pub mod failures;
 mod lexeme;
 mod list;
@@ -9,6 +10,7 @@ pub mod model;
 mod settings;
 mod single;
 
+pub use failure_file::read_failures;
 pub use failures::{FailuresKind, FailuresRefusal};
 pub use model::{Model, ModelKey, ModelKind, ModelRefusal};
 pub use settings::read_model;

@@ -3,28 +3,19 @@ ghost use Rattle.snd_tokens.specs.Tokens.{is_plain};
 ghost use Rattle.net_core.specs.Tests.{is_named};
 ghost use Rattle.net_core.specs.declared.states.Listed.{Listed as State};
 ghost use Rattle.model_reader.specs.Lexemes.{WordAt, left, size};
-ghost use Rattle.model_reader.specs.Failures.{Spells};
-ghost use Rattle.model_reader.specs.FailuresReading.{Gives, Leads, failing_at, failures_at, failures_of, last_at, link_at, link_place, links_at, list_at, name_at, open_at, states_at};
+ghost use Rattle.model_reader.specs.FailuresReading.{Gives, Leads, failing_at, last_at, link_at, link_place, links_at, list_at, name_at, open_at, states_at};
 
 use crate::cursor::Cursor;
 use crate::failures::{FailuresKind, FailuresRefusal};
 use crate::lexeme::Next;
-use crate::single::single_links;
-use net_core::{Link, LinkId, List, Listed, Name, Network, States};
-use snd_tokens::after_header;
+use net_core::{Link, LinkId, List, Listed, Name};
 use std::alloc::Global;
-
-const HEADER: &[u8] = b"?planner failures; version: 1";
-
-const FAILURES: &[u8] = b"FAILURES";
-
-const ALL_SINGLE_LINKS: &[u8] = b"ALL_SINGLE_LINKS";
 
 const MAX_NAME: usize = 255;
 
 const MAX_STATES: usize = 256;
 
-fn bad(at: u64, kind: FailuresKind) -> FailuresRefusal
+pub(crate) fn bad(at: u64, kind: FailuresKind) -> FailuresRefusal
     ensures { result ≡ FailuresRefusal.Bad at kind }
 {
     FailuresRefusal::Bad { at, kind }
@@ -166,7 +157,7 @@ fn states(alloc: Global, links: &[Link], text: &mut Cursor) -> Result<List<Liste
 }
 
 /// Finds that nothing is left.
-fn end(text: &mut Cursor) -> Result<(), FailuresRefusal>
+pub(crate) fn end(text: &mut Cursor) -> Result<(), FailuresRefusal>
     ensures { (listed : List State) → Gives (λ _. listed) result (last_at listed (left text.old)) }
 {
     match text.next() {
@@ -177,7 +168,7 @@ fn end(text: &mut Cursor) -> Result<(), FailuresRefusal>
 
 /// Takes the list of states between parentheses, behind which nothing is left.
 #[tactic(auto, unfolding(crate::specs::FailuresReading::list_at))]
-fn list(alloc: Global, links: &[Link], text: &mut Cursor) -> Result<List<Listed>, FailuresRefusal>
+pub(crate) fn list(alloc: Global, links: &[Link], text: &mut Cursor) -> Result<List<Listed>, FailuresRefusal>
     requires { length links.now ≤ 256 }
     ensures { Gives (λ listed. listed) result (list_at links.now (left text.old)) }
 {

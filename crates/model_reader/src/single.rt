@@ -1,4 +1,5 @@
 ghost use Rattle.std.specs.Prelude.{◌≡◌, ◌≤◌, [], ◌∷◌, length, IfOk};
+ghost use Rattle.net_core.specs.States.{AreStates};
 ghost use Rattle.model_reader.specs.Failures.{single, single_states};
 
 use net_core::{Copied, Link, LinkId, List, Listed, Network, NoMemory, States};
@@ -49,7 +50,8 @@ fn singles(alloc: Global, links: &[Link]) -> Result<List<Listed>, NoMemory>
 
 /// Each link alone, as a state of its name, in the order of the links.
 pub fn single_links(alloc: Global, net: &Network) -> Result<States, NoMemory>
-    ensures { IfOk result (λ states. states.listed ≡ single_states net.now.links) }
+    ensures list { IfOk result (λ states. states.listed ≡ single_states net.now.links) }
+    ensures belong { IfOk result (λ states. AreStates (length net.now.links) states.listed) }
 {
     let listed = singles(alloc, net.links().items())?;
     match States::new(net, listed) {
