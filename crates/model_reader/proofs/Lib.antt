@@ -3,3 +3,4 @@ pub mod Keys
 pub mod Models
 pub mod Sound
 pub mod Singles
+pub mod FailureLaws

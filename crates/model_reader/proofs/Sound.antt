@@ -15,7 +15,7 @@ use Rattle.net_core.specs.States.{AreStates, all_listed_tests, listed_tests, sta
 use Rattle.net_core.proofs.Checks.{first_fault-append}
 use Rattle.model_reader.proofs.Steps.{same_is}
 
-differ : (a b : List ℕ) → a ≢ b → are_same a b ≡ false
+pub differ : (a b : List ℕ) → a ≢ b → are_same a b ≡ false
 differ a b ne = ⊎_elim (λ (same : are_same a b ≡ true). absurd (ne (same_is a b same))) (λ (other : are_same a b ≡ false). other) (cases_Bool (are_same a b))
 
 -- a state of another name than all earlier ones
@@ -26,7 +26,7 @@ new_name earlier l ls pairs =
     pairs k (length earlier) d lt within (ap (λ (x : Listed). x.name) (get_or-append earlier (l ∷ ls) d k lt) ∙ same ∙ sym (ap (λ (x : Listed). x.name) (get_or-append_seam earlier l ls d)))))
 
 -- a number that isn't 0
-some_links : (n : ℕ) → 1 ≤ n → (n == 0) ≡ false
+pub some_links : (n : ℕ) → 1 ≤ n → (n == 0) ≡ false
 some_links n h = ⊎_elim (λ (zero : (n == 0) ≡ true). let is : n ≡ 0 = eqb-true n 0 zero in absurd (omega arith)) (λ (other : (n == 0) ≡ false). other) (cases_Bool (n == 0))
 
 passes : (n : ℕ) (earlier : List Listed) (l : Listed) → 1 ≤ length l.links → All (λ e. e.0 < n) l.links → is_named (λ x. x.name) l.name earlier ≡ false → first_fault (listed_tests n earlier l) ≡ None
