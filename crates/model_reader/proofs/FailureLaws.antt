@@ -220,10 +220,10 @@ states_take links (suc n) sofar (WordAt at w rest) x pairs e =
       short = All-cons (IsShort links) s t.new (name.1, failing.short) t.short;
       different = t.different;
       spelled = ap (λ (v : List ℕ). Word v ∷ lexemes rest) name.0
-      ∙ ap (λ (ls : List Lexeme). Word b.0 ∷ ls) failing.spelled
-      ∙ ap (λ (ls : List Lexeme). Word b.0 ∷ Open ∷ (map (λ e. Word (link_name links e)) f.0.0 ++ Close ∷ ls)) t.spelled
-      ∙ state_before links s (flat_map (state_text links) t.new ++ Close ∷ lexemes x.1)
-      ∙ sym (append_assoc (state_text links s) (flat_map (state_text links) t.new) (Close ∷ lexemes x.1));
+          ∙ ap (λ (ls : List Lexeme). Word b.0 ∷ ls) failing.spelled
+          ∙ ap (λ (ls : List Lexeme). Word b.0 ∷ Open ∷ (map (λ e. Word (link_name links e)) f.0.0 ++ Close ∷ ls)) t.spelled
+          ∙ state_before links s (flat_map (state_text links) t.new ++ Close ∷ lexemes x.1)
+          ∙ sym (append_assoc (state_text links s) (flat_map (state_text links) t.new) (Close ∷ lexemes x.1));
     }
 
 states_again : (links : List Link) (n : ℕ) (sofar new : List Listed) (text : Text) (more : List Lexeme) → AllPairs (λ x y. x.name ≢ y.name) links → length new ≤ n → All (λ s. 1 ≤ length s.links) new → All (λ s. All (λ e. e.0 < length links) s.links) new → All (IsShort links) new → AllPairs (λ x y. x.name ≢ y.name) (sofar ++ new) → lexemes text ≡ flat_map (state_text links) new ++ Close ∷ more → Behind (states_at links n sofar text) (sofar ++ new) more

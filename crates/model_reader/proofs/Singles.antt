@@ -56,15 +56,15 @@ singles_are_states links few pairs =
         few = omega (arith, len, few);
         some = λ k d lt. subst (λ (s : Listed). 1 ≤ length s.links) (sym (state_at links k d no_link (omega (arith, len, lt)))) (omega arith);
         different = λ i j d lt within same.
-        let in_j : j < length links = omega (arith, len, within) in
-        let in_i : i < length links = omega (arith, lt, in_j) in
-        pairs i j no_link lt in_j (
-          ap (λ (s : Listed). s.name) (sym (state_at links i d no_link in_i)) ∙ same ∙ ap (λ (s : Listed). s.name) (state_at links j d no_link in_j)
-        );
+            let in_j : j < length links = omega (arith, len, within) in
+            let in_i : i < length links = omega (arith, lt, in_j) in
+            pairs i j no_link lt in_j (
+            ap (λ (s : Listed). s.name) (sym (state_at links i d no_link in_i)) ∙ same ∙ ap (λ (s : Listed). s.name) (state_at links j d no_link in_j)
+            );
       };
       known = λ k d lt.
-      let in_k : k < length links = omega (arith, len, lt) in
-      subst (λ (s : Listed). All (λ e. e.0 < length links) s.links) (sym (state_at links k d no_link in_k)) (All-cons (λ (e : LinkId). e.0 < length links) (record { 0 = k }) [] in_k (All-nil (λ (e : LinkId). e.0 < length links)));
+          let in_k : k < length links = omega (arith, len, lt) in
+          subst (λ (s : Listed). All (λ e. e.0 < length links) s.links) (sym (state_at links k d no_link in_k)) (All-cons (λ (e : LinkId). e.0 < length links) (record { 0 = k }) [] in_k (All-nil (λ (e : LinkId). e.0 < length links)));
     }
 
 pub none_some : (o : Option StatesFault) (f : StatesFault) → o ≡ None → o ≡ Some f → ⊥

@@ -7,4 +7,3 @@ pub(crate) struct Cursor<'a> {
     pub(crate) at: u64,
     ghost within: { at ≤ length bytes.now },
 }
-

@@ -15,3 +15,6 @@ pub use failures::{FailuresKind, FailuresRefusal};
 pub use model::{Model, ModelKey, ModelKind, ModelRefusal};
 pub use settings::read_model;
 pub use single::{only_none, single_links};
+
+#[cfg(test)]
+mod tests;

@@ -43,7 +43,11 @@ fn link(links: &[Link], at: u64, word: &[u8]) -> Result<LinkId, FailuresRefusal>
 }
 
 /// Takes links, up to the closing parenthesis.
-fn links_of(alloc: Global, links: &[Link], text: &mut Cursor) -> Result<List<LinkId>, FailuresRefusal>
+fn links_of(
+    alloc: Global,
+    links: &[Link],
+    text: &mut Cursor,
+) -> Result<List<LinkId>, FailuresRefusal>
     requires { length links.now ≤ 256 }
     ensures gives { Gives (λ failing. (failing, left text.new)) result (links_at links.now [] (left text.old)) }
     ensures shorter { size (left text.new) ≤ size (left text.old) }
@@ -78,7 +82,11 @@ fn open(kind: FailuresKind, text: &mut Cursor) -> Result<(), FailuresRefusal>
 
 /// Takes the links of a state, between parentheses.
 #[tactic(auto, unfolding(crate::specs::FailuresReading::failing_at))]
-fn failing(alloc: Global, links: &[Link], text: &mut Cursor) -> Result<List<LinkId>, FailuresRefusal>
+fn failing(
+    alloc: Global,
+    links: &[Link],
+    text: &mut Cursor,
+) -> Result<List<LinkId>, FailuresRefusal>
     requires { length links.now ≤ 256 }
     ensures gives { Gives (λ failing. (failing, left text.new)) result (failing_at links.now (left text.old)) }
     ensures shorter { size (left text.new) ≤ size (left text.old) }
@@ -168,7 +176,11 @@ pub(crate) fn end(text: &mut Cursor) -> Result<(), FailuresRefusal>
 
 /// Takes the list of states between parentheses, behind which nothing is left.
 #[tactic(auto, unfolding(crate::specs::FailuresReading::list_at))]
-pub(crate) fn list(alloc: Global, links: &[Link], text: &mut Cursor) -> Result<List<Listed>, FailuresRefusal>
+pub(crate) fn list(
+    alloc: Global,
+    links: &[Link],
+    text: &mut Cursor,
+) -> Result<List<Listed>, FailuresRefusal>
     requires { length links.now ≤ 256 }
     ensures { Gives (λ listed. listed) result (list_at links.now (left text.old)) }
 {
