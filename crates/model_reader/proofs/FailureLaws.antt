@@ -1,13 +1,13 @@
 -- Failure files: what is read is spelled, and what is spelled is read.
-use Rattle.std.proofs.Common.{◌≡◌, ◌≢◌, ℕ, zero, suc, ◌+◌, ◌<◌, ◌≤◌, Bool, true, false, cond, List, [], ◌∷◌, ◌++◌, length, map, get_or, All, AllPairs, Option, None, Some, Result, Ok, Err, IfOk, refl, sym, ap, subst, ◌∙◌, arith, append_assoc, append-nil, length-append, ⊎_elim, inl, inr}
-use Rattle.std.specs.Prelude.{flat_map, codes, ◌==◌, nat_lt, position}
-use Rattle.std.specs.List.{position_or_len, slice_get}
+use Rattle.std.proofs.Common.{◌≡◌, ◌≢◌, ℕ, zero, suc, ◌<◌, ◌≤◌, Bool, true, false, cond, List, [], ◌∷◌, ◌++◌, length, map, get_or, All, AllPairs, Option, None, Some, Result, Ok, Err, IfOk, refl, sym, ap, subst, ◌∙◌, arith, append_assoc, append-nil, ⊎_elim, inl, inr}
+use Rattle.std.specs.Prelude.{flat_map, codes, ◌==◌, nat_lt}
+use Rattle.std.specs.List.{position_or_len}
 use Rattle.std.proofs.lemmas.Bool.{cases_Bool, ltb-false, le-ltb, lt-ltb, eqb-false}
 use Rattle.std.proofs.lemmas.List.Elements.{All-cons, All-nil, All-head, All-tail}
 use Rattle.std.proofs.lemmas.List.Quantifiers.{all_pairs_push, position-Some}
 use Rattle.std.proofs.lemmas.List.Sums.{position_or_len_is}
 use Rattle.std.proofs.lemmas.Option.{slice_get-get_or}
-use Rattle.snd_tokens.specs.Header.{HasHeader, first_line, second_line, trimmed}
+use Rattle.snd_tokens.specs.Header.{first_line, second_line, trimmed}
 use Rattle.net_core.specs.declared.ids.LinkId.{LinkId}
 use Rattle.net_core.specs.declared.network.Link.{Link}
 use Rattle.net_core.specs.declared.states.Listed.{Listed}
@@ -18,12 +18,12 @@ use Rattle.net_core.specs.Network.{IsNetwork}
 use Rattle.net_core.specs.States.{AreStates, states_fault}
 use Rattle.net_core.proofs.Checks.{no_pairs, none_named}
 use Rattle.model_reader.specs.declared.failures.FailuresKind.{FailuresKind}
-use Rattle.model_reader.specs.declared.failures.FailuresKind.TheVariants.{Header, Section, Token, Ended, LimitName, UnknownLink, DoubleState, LimitStates}
+use Rattle.model_reader.specs.declared.failures.FailuresKind.TheVariants.{Header, Section, Token, LimitName, DoubleState, LimitStates}
 use Rattle.model_reader.specs.declared.failures.FailuresRefusal.{FailuresRefusal}
 use Rattle.model_reader.specs.declared.failures.FailuresRefusal.TheVariants.{Bad, NoMemory}
 use Rattle.model_reader.specs.Lexemes.{Lexeme, Word, Open, Close, Text, WordAt, OpenAt, CloseAt, EndAt, lexemes, text_from}
-use Rattle.model_reader.specs.Failures.{IsShort, Spells, SpellsStates, header, link_name, list_text, single_states, state_text}
-use Rattle.model_reader.specs.FailuresReading.{Fails, Fault, Gives, ◌>>=◌, failing_at, failures_at, failures_of, known_or, last_at, link_at, link_place, links_at, list_at, name_at, open_at, states_at}
+use Rattle.model_reader.specs.Failures.{IsShort, Spells, SpellsStates, header, link_name, single_states, state_text}
+use Rattle.model_reader.specs.FailuresReading.{Fault, Gives, ◌>>=◌, failing_at, failures_at, failures_of, known_or, last_at, link_at, link_place, links_at, list_at, name_at, open_at, states_at}
 use Rattle.model_reader.proofs.Steps.{if_ok, unless_ok, ok_is, never, same_is, is_same, word_first, open_first, close_first, nothing_left}
 use Rattle.model_reader.proofs.Sound.{differ, new_name, no_fault, some_links}
 use Rattle.model_reader.proofs.Singles.{none_some, network_differs, network_singles}
@@ -185,6 +185,13 @@ record TakesStates (links : List Link) (n : ℕ) (sofar : List Listed) (text : T
 state_before : (links : List Link) (s : Listed) (more : List Lexeme) → Word s.name ∷ Open ∷ (map (λ e. Word (link_name links e)) s.links ++ Close ∷ more) ≡ state_text links s ++ more
 state_before links s more = ap (λ (ls : List Lexeme). Word s.name ∷ Open ∷ ls) (sym (append_assoc (map (λ e. Word (link_name links e)) s.links) (Close ∷ []) more))
 
+-- the texts of a state and of those behind it
+spelled_more : (links : List Link) (w : List ℕ) (s : Listed) (a b : List Lexeme) (new : List Listed) (c : List Lexeme) → w ≡ s.name → a ≡ Open ∷ (map (λ e. Word (link_name links e)) s.links ++ Close ∷ b) → b ≡ flat_map (state_text links) new ++ c → Word w ∷ a ≡ (state_text links s ++ flat_map (state_text links) new) ++ c
+spelled_more links w s a b new c p q r =
+    let joined : Word s.name ∷ Open ∷ (map (λ e. Word (link_name links e)) s.links ++ Close ∷ (flat_map (state_text links) new ++ c)) ≡ (state_text links s ++ flat_map (state_text links) new) ++ c =
+    state_before links s (flat_map (state_text links) new ++ c) ∙ sym (append_assoc (state_text links s) (flat_map (state_text links) new) c) in
+    rw (p, q, r) joined
+
 states_take : (links : List Link) (n : ℕ) (sofar : List Listed) (text : Text) (x : List Listed × Text) → AllPairs (λ x y. x.name ≢ y.name) sofar → states_at links n sofar text ≡ Ok x → TakesStates links n sofar text x.0 x.1
 states_take links n sofar (OpenAt at rest) x pairs e = absurd cc
 states_take links n sofar (EndAt at) x pairs e = absurd cc
@@ -219,11 +226,7 @@ states_take links (suc n) sofar (WordAt at w rest) x pairs e =
       known = All-cons (λ (s : Listed). All (λ e. e.0 < length links) s.links) s t.new failing.known t.known;
       short = All-cons (IsShort links) s t.new (name.1, failing.short) t.short;
       different = t.different;
-      spelled = ap (λ (v : List ℕ). Word v ∷ lexemes rest) name.0
-          ∙ ap (λ (ls : List Lexeme). Word b.0 ∷ ls) failing.spelled
-          ∙ ap (λ (ls : List Lexeme). Word b.0 ∷ Open ∷ (map (λ e. Word (link_name links e)) f.0.0 ++ Close ∷ ls)) t.spelled
-          ∙ state_before links s (flat_map (state_text links) t.new ++ Close ∷ lexemes x.1)
-          ∙ sym (append_assoc (state_text links s) (flat_map (state_text links) t.new) (Close ∷ lexemes x.1));
+      spelled = spelled_more links w s (lexemes rest) (lexemes f.0.1) t.new (Close ∷ lexemes x.1) name.0 failing.spelled t.spelled;
     }
 
 states_again : (links : List Link) (n : ℕ) (sofar new : List Listed) (text : Text) (more : List Lexeme) → AllPairs (λ x y. x.name ≢ y.name) links → length new ≤ n → All (λ s. 1 ≤ length s.links) new → All (λ s. All (λ e. e.0 < length links) s.links) new → All (IsShort links) new → AllPairs (λ x y. x.name ≢ y.name) (sofar ++ new) → lexemes text ≡ flat_map (state_text links) new ++ Close ∷ more → Behind (states_at links n sofar text) (sofar ++ new) more

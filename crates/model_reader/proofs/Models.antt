@@ -2,22 +2,21 @@
 use Rattle.std.proofs.Common.{◌≡◌, ◌≢◌, ℕ, Bool, true, false, cond, not, List, [], ◌∷◌, ◌++◌, AllPairs, Contains, Option, None, Some, Result, Ok, Err, IfOk, refl, sym, ap, subst, ◌∙◌, append_assoc, append-nil, ⊎_elim}
 use Rattle.std.specs.Prelude.{flat_map, codes, ◌||◌}
 use Rattle.std.proofs.lemmas.Bool.{cases_Bool}
-use Rattle.snd_tokens.specs.Header.{HasHeader, first_line, second_line, trimmed}
+use Rattle.snd_tokens.specs.Header.{first_line, second_line, trimmed}
 use Rattle.net_core.specs.Tests.{are_same}
 use Rattle.net_core.proofs.Checks.{no_pairs}
 use Rattle.model_reader.specs.declared.model.Model.{Model}
 use Rattle.model_reader.specs.declared.model.ModelKey.{ModelKey}
 use Rattle.model_reader.specs.declared.model.ModelKey.TheVariants.{Survivability}
-use Rattle.model_reader.specs.declared.model.ModelKind.{ModelKind}
 use Rattle.model_reader.specs.declared.model.ModelKind.TheVariants as kinds
 use Rattle.model_reader.specs.declared.model.ModelRefusal.{ModelRefusal}
 use Rattle.model_reader.specs.declared.model.ModelRefusal.TheVariants.{Bad, NoMemory}
 use Rattle.model_reader.specs.declared.settings.Known.{Known}
 use Rattle.model_reader.specs.Lexemes.{Lexeme, Word, Text, WordAt, OpenAt, CloseAt, EndAt, lexemes, text_from}
 use Rattle.model_reader.specs.Models.{IsEachOnce, Spells, header, key_word, setting, survivability_word, value_word}
-use Rattle.model_reader.specs.ModelReading.{Due, Key, Sign, Value, Fails, Fault, Gives, ◌>>=◌, all_keys, complete, first_key, has_key, is_served, key_of, model_of, new_key, nothing, same_key, settings_at, with_setting}
+use Rattle.model_reader.specs.ModelReading.{Due, Key, Sign, Value, Fault, Gives, ◌>>=◌, all_keys, complete, first_key, has_key, is_served, key_of, model_of, new_key, nothing, same_key, settings_at, with_setting}
 use Rattle.model_reader.proofs.Steps.{if_ok, unless_ok, ok_is, never, same_is, is_same, word_first, nothing_left}
-use Rattle.model_reader.proofs.Keys.{key_again, key_takes, same_key_is, key_is_same, has_takes, has_again, different_push, is_new, has_more, has_last, all_came, none_missing, served_again, asks, value_is}
+use Rattle.model_reader.proofs.Keys.{key_again, key_takes, same_key_is, has_again, different_push, is_new, has_more, has_last, all_came, none_missing, served_again, asks, value_is}
 
 -- the value of a step that did not fail
 bind_ok : {A B : Type 0} (r : Result A Fault) (f : A → Result B Fault) (y : B) → (r >>= f) ≡ Ok y → (x : A) × (r ≡ Ok x) × (f x ≡ Ok y)

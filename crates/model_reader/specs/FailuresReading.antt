@@ -1,5 +1,5 @@
 -- Reading a failure file from left to right: its states, or its first fault by place.
-use Rattle.std.specs.Prelude.{◌≡◌, ℕ, zero, suc, ◌==◌, nat_lt, Bool, if◌then◌else◌, List, [], ◌∷◌, ◌++◌, length, Option, Some, None, Result, Ok, Err, position, codes}
+use Rattle.std.specs.Prelude.{◌≡◌, ℕ, zero, suc, ◌==◌, nat_lt, if◌then◌else◌, List, [], ◌∷◌, ◌++◌, length, Option, Some, None, Result, Ok, Err, position, codes}
 use Rattle.snd_tokens.specs.Header.{first_line, second_line, trimmed}
 use Rattle.net_core.specs.Tests.{are_same, is_named}
 use Rattle.net_core.specs.declared.ids.LinkId.{LinkId}

@@ -1,9 +1,8 @@
 -- Reading a model file from left to right: its model, or its first fault by place.
-use Rattle.std.specs.Prelude.{◌≡◌, ℕ, ◌==◌, Bool, true, false, cond, not, ◌||◌, if◌then◌else◌, List, [], ◌∷◌, ◌++◌, Option, Some, None, Result, Ok, Err, codes}
+use Rattle.std.specs.Prelude.{◌≡◌, ℕ, Bool, true, false, cond, not, ◌||◌, if◌then◌else◌, List, [], ◌∷◌, ◌++◌, Option, Some, None, Result, Ok, Err, codes}
 use Rattle.std.specs.List.{list_any}
 use Rattle.snd_tokens.specs.Header.{first_line, second_line, trimmed}
 use Rattle.net_core.specs.Tests.{are_same}
-use Rattle.model_reader.specs.declared.model.Model.{Model as Mod}
 use Rattle.model_reader.specs.declared.model.ModelKey.{ModelKey}
 use Rattle.model_reader.specs.declared.model.ModelKey.TheVariants as aspects
 use Rattle.model_reader.specs.declared.model.ModelKind.{ModelKind}

@@ -133,7 +133,8 @@ fn add_state(
     requires within { length listed.now ≤ 256 }
     requires some { 1 ≤ length word.now }
     requires plain { IsTrue (is_plain word.now) }
-    ensures leads { Leads result (states_at links.now (256 - length listed.old) listed.old (WordAt at word.now (left text.old))) (λ _. states_at links.now (256 - length listed.new) listed.new (left text.new)) }
+    ensures leads { Leads result (states_at links.now (256 - length listed.old) listed.old (WordAt at word.now (left text.old)))
+        (λ _. states_at links.now (256 - length listed.new) listed.new (left text.new)) }
     ensures count { OnOk result (length listed.new ≤ 256) }
     ensures shorter { size (left text.new) ≤ size (left text.old) }
 {

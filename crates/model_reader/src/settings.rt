@@ -166,7 +166,8 @@ impl Known {
 
 /// Takes the sign behind a key.
 fn sign(text: &mut Cursor) -> Result<(), ModelRefusal>
-    ensures leads { (k : ModelKeys) (s : KnownKeys) → Leads result (settings_at (Sign k) s (left text.old)) (λ _. settings_at (Value k) s (left text.new)) }
+    ensures leads { (k : ModelKeys) (s : KnownKeys) → Leads result (settings_at (Sign k) s (left text.old))
+        (λ _. settings_at (Value k) s (left text.new)) }
     ensures shorter { size (left text.new) ≤ size (left text.old) }
 {
     match text.next() {
@@ -189,7 +190,8 @@ fn is_served(key: ModelKey, word: &[u8]) -> bool
 
 /// Takes a value that is served.
 fn value<'a>(key: ModelKey, text: &mut Cursor<'a>) -> Result<&'a [u8], ModelRefusal>
-    ensures leads { (s : KnownKeys) → Leads result (settings_at (Value key) s (left text.old)) (λ w. settings_at Key (with_setting key w.now s) (left text.new)) }
+    ensures leads { (s : KnownKeys) → Leads result (settings_at (Value key) s (left text.old))
+        (λ w. settings_at Key (with_setting key w.now s) (left text.new)) }
     ensures shorter { size (left text.new) ≤ size (left text.old) }
 {
     match text.next() {
@@ -206,7 +208,8 @@ fn value<'a>(key: ModelKey, text: &mut Cursor<'a>) -> Result<&'a [u8], ModelRefu
 
 /// Takes a key's word that was read at a place, and what follows it.
 fn setting(known: &mut Known, at: u64, word: &[u8], text: &mut Cursor) -> Result<(), ModelRefusal>
-    ensures leads { Leads result (settings_at Key known.old (WordAt at word.now (left text.old))) (λ _. settings_at Key known.new (left text.new)) }
+    ensures leads { Leads result (settings_at Key known.old (WordAt at word.now (left text.old)))
+        (λ _. settings_at Key known.new (left text.new)) }
     ensures shorter { size (left text.new) ≤ size (left text.old) }
 {
     let key = known.new_key(at, word)?;

@@ -1,4 +1,3 @@
-use Rattle.std.proofs.Common.{◌≡◌, ◌∙◌}
 use Rattle.model_reader.proofs.Singles.{singles_pass}
 use Rattle.model_reader.proofs.single.single_links.Goals as goal
 

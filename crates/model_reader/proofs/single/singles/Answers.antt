@@ -1,4 +1,4 @@
-use Rattle.std.proofs.Common.{◌≡◌, ◌∙◌, sym, ap, ◌++◌, ◌∷◌, []}
+use Rattle.std.proofs.Common.{sym}
 use Rattle.model_reader.proofs.Singles.{singles_more}
 use Rattle.model_reader.proofs.single.singles.Goals as goal
 
