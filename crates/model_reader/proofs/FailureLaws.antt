@@ -192,6 +192,10 @@ spelled_more links w s a b new c p q r =
     state_before links s (flat_map (state_text links) new ++ c) ∙ sym (append_assoc (state_text links s) (flat_map (state_text links) new) c) in
     rw (p, q, r) joined
 
+-- one more in front of the new ones
+one_more : (all sofar new : List Listed) (s : Listed) → all ≡ (sofar ++ s ∷ []) ++ new → all ≡ sofar ++ s ∷ new
+one_more all sofar new s e = e ∙ append_assoc sofar (s ∷ []) new
+
 states_take : (links : List Link) (n : ℕ) (sofar : List Listed) (text : Text) (x : List Listed × Text) → AllPairs (λ x y. x.name ≢ y.name) sofar → states_at links n sofar text ≡ Ok x → TakesStates links n sofar text x.0 x.1
 states_take links n sofar (OpenAt at rest) x pairs e = absurd cc
 states_take links n sofar (EndAt at) x pairs e = absurd cc
@@ -220,7 +224,7 @@ states_take links (suc n) sofar (WordAt at w rest) x pairs e =
     let t = states_take links n (sofar ++ s ∷ []) f.0.1 x pairs' f.2 in
     record {
       new = s ∷ t.new;
-      all_are = t.all_are ∙ append_assoc sofar (s ∷ []) t.new;
+      all_are = one_more x.0 sofar t.new s t.all_are;
       few = let few : length t.new ≤ n = t.few in omega arith;
       some = All-cons (λ (s : Listed). 1 ≤ length s.links) s t.new failing.some t.some;
       known = All-cons (λ (s : Listed). All (λ e. e.0 < length links) s.links) s t.new failing.known t.known;

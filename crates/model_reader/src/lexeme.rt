@@ -6,7 +6,7 @@ use snd_tokens::{TokenKind, next_token};
 
 /// What comes next in a text, at its place: a word with its bytes, a parenthesis, or the end.
 #[derive(Clone, Copy)]
-pub enum Next<'a> {
+pub(crate) enum Next<'a> {
     Word(u64, &'a [u8]),
     Open(u64),
     Close(u64),

@@ -1,4 +1,4 @@
-ghost use Rattle.std.specs.Prelude.{◌≡◌, ◌≤◌, ◌<◌, ◌-◌, ◌++◌, ◌∷◌, [], length, List, IfOk, IsTrue, Ok, OnOk};
+ghost use Rattle.std.specs.Prelude.{◌≡◌, ◌≤◌, ◌-◌, [], length, List, IsTrue, OnOk};
 ghost use Rattle.snd_tokens.specs.Tokens.{is_plain};
 ghost use Rattle.net_core.specs.Tests.{is_named};
 ghost use Rattle.net_core.specs.declared.states.Listed.{Listed as State};

@@ -1,12 +1,11 @@
-ghost use Rattle.std.specs.Prelude.{◌≡◌, ◌≤◌, ◌++◌, ◌∷◌, [], Ok, IfOk, codes, not};
-ghost use Rattle.std.specs.List.{list_any};
+ghost use Rattle.std.specs.Prelude.{◌≡◌, ◌≤◌, Ok, IfOk, not};
 ghost use Rattle.net_core.specs.Tests.{are_same};
 ghost use Rattle.model_reader.specs.declared.model.Model.{Model as Mod};
 ghost use Rattle.model_reader.specs.declared.model.ModelKey.{ModelKey as ModelKeys};
 ghost use Rattle.model_reader.specs.declared.settings.Known.{Known as KnownKeys};
 ghost use Rattle.model_reader.specs.Lexemes.{WordAt, left, size};
 ghost use Rattle.model_reader.specs.Models.{Spells, key_word, value_word};
-ghost use Rattle.model_reader.specs.ModelReading.{Due, Fails, Gives, Key, Leads, Sign, Value, all_keys, complete, first_key, has_key, is_served, key_of, model_of, new_key, nothing, same_key, settings_at, with_setting};
+ghost use Rattle.model_reader.specs.ModelReading.{Gives, Key, Leads, Sign, Value, all_keys, complete, first_key, has_key, is_served, key_of, model_of, new_key, nothing, settings_at, with_setting};
 
 use crate::cursor::Cursor;
 use crate::lexeme::Next;
