@@ -7,6 +7,7 @@ use crate::ids::{LinkId, StateId};
 use crate::list::{Copied, List, NoMemory};
 use crate::name::Name;
 use crate::network::Network;
+use std::alloc::Global;
 
 /// A state that a failure list gives: its name and the links that fail.
 #[derive(Drop)]
@@ -105,6 +106,15 @@ impl States {
         match states_fault(net.links().len(), listed.items()) {
             Some(fault) => Err(fault),
             None => Ok(States { listed }),
+        }
+    }
+
+    /// The state without failures alone. It takes no memory.
+    pub fn only_none(alloc: Global) -> States
+        ensures { result.listed ≡ [] }
+    {
+        States {
+            listed: List::new(alloc),
         }
     }
 

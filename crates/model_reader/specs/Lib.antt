@@ -1,0 +1,5 @@
+pub mod Lexemes
+pub mod Models
+pub mod ModelReading
+pub mod Failures
+pub mod FailuresReading

@@ -1,0 +1,225 @@
+use crate::failure_file::read_failures;
+use crate::failures::{FailuresKind, FailuresRefusal};
+use crate::model::{ModelKey, ModelKind, ModelRefusal};
+use crate::settings::read_model;
+use crate::single::{only_none, single_links};
+use net_core::{Bytes, Link, LinkId, List, Module, Name, Network, NodeId, Notes, States};
+use std::alloc::Global;
+use std::test::Fail;
+
+const MODEL: &[u8] = b"?SNDlib native format; type: model; version: 1.0\n";
+
+const FAILURES: &[u8] = b"?planner failures; version: 1\n";
+
+fn joined(alloc: Global, header: &[u8], body: &[u8]) -> Option<Bytes> {
+    let mut text = List::new(alloc);
+    text.append(header).ok()?;
+    text.append(body).ok()?;
+    Some(text)
+}
+
+/// The fault of the model file of this body.
+fn model_fault(alloc: Global, body: &[u8]) -> Option<(u64, ModelKind)> {
+    let text = joined(alloc, MODEL, body)?;
+    match read_model(alloc, text.items()) {
+        Err(ModelRefusal::Bad { at, kind }) => Some((at, kind)),
+        _ => None,
+    }
+}
+
+/// The model of a file.
+fn reconfigures(alloc: Global, body: &[u8]) -> Option<bool> {
+    let text = joined(alloc, MODEL, body)?;
+    Some(read_model(alloc, text.items()).ok()?.reconfigure)
+}
+
+#[test]
+fn models(rt: HostRuntime) {
+    let plain: &[u8] =
+        b"DEMAND_MODEL = UNDIRECTED\nLINK_MODEL = UNDIRECTED\nLINK_CAPACITY_MODEL = MODULAR_CAPACITIES\nFIXED_CHARGE_MODEL = NO\nROUTING_MODEL = CONTINUOUS\nADMISSIBLE_PATH_MODEL = ALL_PATHS\nHOP_LIMIT_MODEL = NO\nSURVIVABILITY_MODEL = NO_SURVIVABILITY\n";
+    let other: &[u8] =
+        b"# as failures come\nSURVIVABILITY_MODEL = UNRESTRICTED_FLOW_RECONFIGURATION\nHOP_LIMIT_MODEL = NO\nADMISSIBLE_PATH_MODEL = ALL_PATHS\nROUTING_MODEL = CONTINUOUS\nFIXED_CHARGE_MODEL = NO\nLINK_CAPACITY_MODEL = MODULAR_CAPACITIES\nLINK_MODEL = UNDIRECTED\nDEMAND_MODEL = UNDIRECTED";
+    assert_eq!(rt; reconfigures(rt.alloc(), plain), Some(false));
+    assert_eq!(rt; reconfigures(rt.alloc(), other), Some(true));
+}
+
+#[test]
+fn model_faults(rt: HostRuntime) {
+    let rows: [(&[u8], u64, ModelKind); 9] = [
+        (b"(", 49, ModelKind::Token),
+        (b"LINK_MODEL + UNDIRECTED", 60, ModelKind::Token),
+        (b"LINK_MODEL =", 61, ModelKind::Ended),
+        (b"LINK_MODEL\n", 60, ModelKind::Ended),
+        (b"COST_MODEL = NO", 49, ModelKind::Key),
+        (
+            b"ROUTING_MODEL = CONTINUOUS ROUTING_MODEL = CONTINUOUS",
+            76,
+            ModelKind::DoubleKey,
+        ),
+        (
+            b"HOP_LIMIT_MODEL = INDIVIDUAL",
+            67,
+            ModelKind::Unsupported(ModelKey::HopLimit),
+        ),
+        (
+            b"DEMAND_MODEL = UNDIRECTED\n",
+            75,
+            ModelKind::Missing(ModelKey::Link),
+        ),
+        (b"", 49, ModelKind::Missing(ModelKey::Demand)),
+    ];
+    for (body, at, kind) in rows {
+        assert_eq!(rt; model_fault(rt.alloc(), body), Some((at, kind)));
+    }
+    assert!(rt;
+        matches!(
+            read_model(rt.alloc(), FAILURES),
+            Err(ModelRefusal::Bad {
+                at: 0,
+                kind: ModelKind::Header
+            })
+        )
+    );
+}
+
+/// A link of one module.
+fn link(alloc: Global, name: &[u8], a: u32, b: u32) -> Option<Link> {
+    let mut modules = List::new(alloc);
+    modules
+        .push(Module {
+            capacity: 10_000,
+            cost: 5_000,
+        })
+        .ok()?;
+    Some(Link {
+        name: Name::new(alloc, name).ok()?,
+        a: NodeId(a),
+        b: NodeId(b),
+        fixed: 0,
+        setup: 0,
+        modules,
+    })
+}
+
+/// Three nodes and the links AB, BC and AC.
+fn triangle(alloc: Global) -> Option<Network> {
+    let mut nodes = List::new(alloc);
+    nodes.push(Name::new(alloc, b"A").ok()?).ok()?;
+    nodes.push(Name::new(alloc, b"B").ok()?).ok()?;
+    nodes.push(Name::new(alloc, b"C").ok()?).ok()?;
+    let mut links = List::new(alloc);
+    links.push(link(alloc, b"AB", 0, 1)?).ok()?;
+    links.push(link(alloc, b"BC", 1, 2)?).ok()?;
+    links.push(link(alloc, b"AC", 0, 2)?).ok()?;
+    let notes = Notes {
+        fixed_cost: false,
+        routing_cost: false,
+        setup_cost: false,
+    };
+    Network::check(nodes, links, notes).ok()
+}
+
+/// The fault of the failure file of this body, for the triangle.
+fn failures_fault(alloc: Global, body: &[u8]) -> Option<(u64, FailuresKind)> {
+    let net = triangle(alloc)?;
+    let text = joined(alloc, FAILURES, body)?;
+    match read_failures(alloc, &net, text.items()) {
+        Err(FailuresRefusal::Bad { at, kind }) => Some((at, kind)),
+        _ => None,
+    }
+}
+
+#[test]
+fn failure_faults(rt: HostRuntime) {
+    let rows: [(&[u8], u64, FailuresKind); 11] = [
+        (b"STATES ( )", 30, FailuresKind::Section),
+        (b"FAILURES )", 39, FailuresKind::Section),
+        (b"FAILURES ( ) x", 43, FailuresKind::Section),
+        (b"ALL_SINGLE_LINKS AB", 47, FailuresKind::Section),
+        (b"FAILURES ( (", 41, FailuresKind::Token),
+        (b"FAILURES ( s AB )", 43, FailuresKind::Token),
+        (b"FAILURES ( s ( ) )", 45, FailuresKind::Token),
+        (b"", 30, FailuresKind::Ended),
+        (b"FAILURES (", 40, FailuresKind::Ended),
+        (b"FAILURES ( s ( XY ) )", 45, FailuresKind::UnknownLink),
+        (
+            b"FAILURES ( s ( AB ) s ( BC ) )",
+            50,
+            FailuresKind::DoubleState,
+        ),
+    ];
+    for (body, at, kind) in rows {
+        assert_eq!(rt; failures_fault(rt.alloc(), body), Some((at, kind)));
+    }
+}
+
+/// A list of 257 states of names of two letters.
+fn many(alloc: Global) -> Option<Bytes> {
+    let mut text = List::new(alloc);
+    text.append(b"FAILURES ( ").ok()?;
+    for i in 0..257u32 {
+        text.push(b'a' + (i / 16) as u8).ok()?;
+        text.push(b'a' + (i % 16) as u8).ok()?;
+        text.append(b" ( AB ) ").ok()?;
+    }
+    text.append(b")").ok()?;
+    Some(text)
+}
+
+/// A state's name of 256 bytes.
+fn long(alloc: Global) -> Option<Bytes> {
+    let mut text = List::new(alloc);
+    text.append(b"FAILURES ( ").ok()?;
+    for _ in 0..256u32 {
+        text.push(b'x').ok()?;
+    }
+    Some(text)
+}
+
+#[test]
+fn limits(rt: HostRuntime) -> Result<(), Fail> {
+    let many = many(rt.alloc()).ok_or("memory")?;
+    assert_eq!(rt;
+        failures_fault(rt.alloc(), many.items()),
+        Some((2_601, FailuresKind::LimitStates))
+    );
+    let long = long(rt.alloc()).ok_or("memory")?;
+    assert_eq!(rt;
+        failures_fault(rt.alloc(), long.items()),
+        Some((41, FailuresKind::LimitName))
+    );
+    Ok(())
+}
+
+/// Whether state `state` has the name and fails these links, in their order.
+fn is_state(states: &States, state: usize, name: &[u8], links: &[LinkId]) -> bool {
+    match states.listed().items().get(state) {
+        Some(listed) => listed.name.bytes() == name && listed.links.items() == links,
+        None => false,
+    }
+}
+
+#[test]
+fn failure_lists(rt: HostRuntime) -> Result<(), Fail> {
+    let net = triangle(rt.alloc()).ok_or("the triangle is a network")?;
+    let twice = joined(
+        rt.alloc(),
+        FAILURES,
+        b"FAILURES ( s ( AB BC AB ) none ( AC ) )",
+    )
+    .ok_or("memory")?;
+    let states = read_failures(rt.alloc(), &net, twice.items())?;
+    assert_eq!(rt; states.count(), 3);
+    assert!(rt; is_state(&states, 0, b"s", &[LinkId(0), LinkId(1), LinkId(0)]));
+    assert!(rt; is_state(&states, 1, b"none", &[LinkId(2)]));
+    let each = joined(rt.alloc(), FAILURES, b"ALL_SINGLE_LINKS").ok_or("memory")?;
+    let states = read_failures(rt.alloc(), &net, each.items())?;
+    assert_eq!(rt; states.count(), 4);
+    assert!(rt; is_state(&states, 0, b"AB", &[LinkId(0)]));
+    assert!(rt; is_state(&states, 1, b"BC", &[LinkId(1)]));
+    assert!(rt; is_state(&states, 2, b"AC", &[LinkId(2)]));
+    let alone = single_links(rt.alloc(), &net).ok().ok_or("memory")?;
+    assert_eq!(rt; alone.count(), 4);
+    assert_eq!(rt; only_none(rt.alloc()).count(), 1);
+    Ok(())
+}
