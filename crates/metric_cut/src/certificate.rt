@@ -1,9 +1,9 @@
 ghost use Rattle.std.specs.Prelude.{◌≡◌, ◌*◌, ◌<◌, ◌^◌};
-ghost use Rattle.plan_terms.specs.Certificates.{IsLowest, raw_value};
+ghost use Rattle.plan_terms.specs.Certificates.{IsBound, IsLowest, raw_value};
 ghost use Rattle.plan_terms.specs.OwnBounds.{IsMultiplier, alone};
 ghost use Rattle.metric_cut.specs.Ratios.{HaveBound};
 
-use crate::line::{CutLine, Multiplier, asked_rest, greatest_multiplier};
+use crate::line::{CutLine, Multiplier, asked_rest, bound_of, greatest_multiplier};
 use checked_fraction::gcd;
 use net_core::Network;
 
@@ -14,11 +14,12 @@ pub struct RawValue {
     pub den: u128,
 }
 
-/// The certificate of a cut alone: its greatest valid multiplier, and its raw value.
+/// The certificate of a cut alone: its greatest valid multiplier, its raw value, and its bound in thousandths.
 #[derive(Clone, Copy)]
 pub struct OwnCertificate {
     pub multiplier: Multiplier,
     pub raw: RawValue,
+    pub bound: u128,
 }
 
 /// The fraction `num / den` in lowest terms.
@@ -39,13 +40,17 @@ pub fn own_certificate(net: &Network, line: &CutLine) -> OwnCertificate
     requires right { line.now.right < 2 ^ 84 }
     ensures multiplier { IsMultiplier net.now.links line.now.lengths result.multiplier.num result.multiplier.den }
     ensures raw { IsLowest (raw_value net.now.links (alone line.now.state.0 line.now.lengths line.now.right result.multiplier.num)) result.multiplier.den result.raw.num result.raw.den }
+    ensures bound { IsBound net.now.links (raw_value net.now.links (alone line.now.state.0 line.now.lengths line.now.right result.multiplier.num)) result.multiplier.den result.bound }
+    ensures limits { (result.multiplier.num < 2 ^ 40) × (result.multiplier.den < 2 ^ 72) }
 {
     let links = net.links().items();
     let lengths = line.lengths.items();
     let multiplier = greatest_multiplier(links, lengths);
     let rest = asked_rest(links, lengths, line.right);
+    let raw = multiplier.num as u128 * rest;
     OwnCertificate {
         multiplier,
-        raw: lowest(multiplier.num as u128 * rest, multiplier.den),
+        raw: lowest(raw, multiplier.den),
+        bound: bound_of(links, raw, multiplier.den),
     }
 }

@@ -1,4 +1,6 @@
 -- the certificate of a cut alone
+use Rattle.std.proofs.Math.Logic.{∥∥₁_elim}
+use Rattle.std.proofs.Props.{props}
 use Rattle.std.proofs.Common.{◌≡◌, ℕ, zero, suc, ◌+◌, ◌-◌, ◌*◌, ◌^◌, ◌≤◌, ◌<◌, List, [], ◌∷◌, All, Some, length, slice_get, slice_index, get_or, refl, sym, ap, subst, ◌∙◌, arith, zip}
 use Rattle.std.proofs.lemmas.List.Sums.{sum_by-cons}
 use Rattle.std.proofs.lemmas.List.Elements.{recursion_from_All, All-cons, All-nil}
@@ -131,6 +133,25 @@ pub certificate_alone : (nodes : List (List ℕ)) (links : List Link) (listed : 
 certificate_alone nodes links listed demands line num den network is small low valid num_limit den_limit =
     let asked_small : num * line.right < 2 ^ 40 * 2 ^ 84 = product_below num line.right (2 ^ 40) (2 ^ 84) num_limit (omega arith) low in
     let given_small : num * fixed_along line.lengths links ≤ num * 2 ^ 80 = mul-le-mul_left num (fixed_limit nodes links line.lengths network small) in
+    record {
+      positive = valid.positive;
+      den_limit = den_limit;
+      nums = All-cons (λ (l : Line). l.num < 2 ^ 62) (record { state = line.state; lengths = line.lengths; right = line.right; num = num }) [] (omega (arith, num_limit)) (All-nil (λ (l : Line). l.num < 2 ^ 62));
+      asked_limit = omega (arith, asked_alone line.state line.lengths line.right num, asked_small);
+      given_limit = omega (arith, given_alone line.state line.lengths line.right num links is.kept.count, given_small, num_limit);
+      each = line_alone links listed demands line num is;
+      priced = priced_alone links line.state line.lengths line.right num den valid;
+    }
+
+-- The same of a network that passed its check.
+pub certificate_checked : (nodes : List (List ℕ)) (links : List Link) (listed : List Listed) (demands : List Demand) (line : Line) (num den : ℕ)
+    → ∥ IsNetwork nodes links ∥₁ → IsLine links listed demands line → All (λ x. x < 2 ^ 32) line.lengths → line.right < 2 ^ 84
+    → IsValid links line.lengths num den → num < 2 ^ 40 → den < 2 ^ 72
+    → IsCertificate links listed demands den (alone line.state line.lengths line.right num)
+certificate_checked nodes links listed demands line num den checked is small low valid num_limit den_limit =
+    let asked_small : num * line.right < 2 ^ 40 * 2 ^ 84 = product_below num line.right (2 ^ 40) (2 ^ 84) num_limit (omega arith) low in
+    let fixed : fixed_along line.lengths links ≤ 2 ^ 80 = ∥∥₁_elim checked (hlevel props) (λ network. fixed_limit nodes links line.lengths network small) in
+    let given_small : num * fixed_along line.lengths links ≤ num * 2 ^ 80 = mul-le-mul_left num fixed in
     record {
       positive = valid.positive;
       den_limit = den_limit;

@@ -1,5 +1,6 @@
 use Rattle.std.proofs.Common.{◌∙◌, subst}
-use Rattle.plan_terms.specs.Certificates.{IsLowest}
+use Rattle.plan_terms.specs.Certificates.{IsBound, IsLowest, raw_value}
+use Rattle.plan_terms.specs.OwnBounds.{alone}
 use Rattle.metric_cut.proofs.Costs.{multiplier_of_same, raw_from_parts}
 use Rattle.metric_cut.proofs.certificate.own_certificate.Goals as goal
 
@@ -12,3 +13,11 @@ returns-clause-raw c =
     (raw_from_parts c.args.net.now.links _ c.args.line.now.lengths _ c.args.line.now.state.0 c.args.line.now.right c.asked_rest-rest.result c.greatest_multiplier-multiplier.result.num
     (c.items-links.ensures ∙ c.links.ensures) c.items-lengths.ensures c.requires.lengths.count c.asked_rest-rest.ensures.rest)
     c.lowest.ensures
+
+pub returns-clause-bound : goal.returns-clause-bound
+returns-clause-bound c =
+    let same = c.items-links.ensures ∙ c.links.ensures in
+    let raw = raw_from_parts c.args.net.now.links _ c.args.line.now.lengths _ c.args.line.now.state.0 c.args.line.now.right c.asked_rest-rest.result c.greatest_multiplier-multiplier.result.num same c.items-lengths.ensures c.requires.lengths.count c.asked_rest-rest.ensures.rest in
+    let den = c.greatest_multiplier-multiplier.result.den in
+    subst (λ links. IsBound links (raw_value c.args.net.now.links (alone c.args.line.now.state.0 c.args.line.now.lengths c.args.line.now.right c.greatest_multiplier-multiplier.result.num)) den c.bound_of.result) same
+    (subst (λ i. IsBound c.items-links.result.now i den c.bound_of.result) raw c.bound_of.ensures)
