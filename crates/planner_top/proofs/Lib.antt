@@ -1,3 +1,4 @@
+pub mod Bounding
 pub mod Choices
 pub mod Following
 pub mod Numbers

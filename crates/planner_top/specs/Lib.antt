@@ -1,3 +1,4 @@
+pub mod Bounds
 pub mod Choice
 pub mod Plans
 pub mod Routes

@@ -1,6 +1,7 @@
 //! Plans link capacities for a network whose demands must be carried.
 #![tactic(auto)]
 
+mod bound;
 mod choice;
 mod loads;
 mod output;
