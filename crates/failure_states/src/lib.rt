@@ -7,3 +7,6 @@ mod survival;
 
 pub use separations::{Separation, first_separated};
 pub use survival::survives;
+
+#[cfg(test)]
+mod tests;
