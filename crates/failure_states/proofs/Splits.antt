@@ -14,15 +14,7 @@ use Rattle.plan_terms.proofs.Joining.{joins_below}
 use Rattle.failure_states.specs.Labels.{AreLabels, HasEndsBelow, IsFirst, IsSplit}
 use Rattle.failure_states.proofs.Labelling.{labels_apart, labels_joined}
 
--- what the test of the demand at place k says of it
-pub split_here : (labels : List ℕ) (demands : List Demand) (k : ℕ) (d : Demand) → k < length demands → d ≡ get_or demands k d → (0 < d.need) × (get_or labels d.from.0 0 ≢ get_or labels d.to.0 0) → IsSplit labels demands k
-split_here labels demands k d lt is test = record {
-  demand = d;
-  at = slice_get_read demands (length demands) k d refl lt is;
-  needed = test.0;
-  differ = test.1;
-}
-
+-- what is said of the demand at place k is said of the one that stands there
 pub split_test : (labels : List ℕ) (demands : List Demand) (k : ℕ) (d : Demand) → k < length demands → d ≡ get_or demands k d → IsSplit labels demands k → (0 < d.need) × (get_or labels d.from.0 0 ≢ get_or labels d.to.0 0)
 split_test labels demands k d lt is s =
     let here : slice_get demands k ≡ Some d = slice_get_read demands (length demands) k d refl lt is in
@@ -44,7 +36,7 @@ pub ends_below : (n : ℕ) (demands : List Demand) → AreDemands n demands → 
 ends_below n demands are = λ k d lt. let is = are.each k d lt in (is.from_known, is.to_known)
 
 module _ (links : List Link) (listed : List Listed) (n s : ℕ) (labels : List ℕ) (h : AreLabels (Joins links listed s) n (length links) labels) (demands : List Demand) (are : AreDemands n demands) where
-  pub split_separates : (k : ℕ) → IsSplit labels demands k → Separates links listed demands s k
+  split_separates : (k : ℕ) → IsSplit labels demands k → Separates links listed demands s k
   split_separates k p = record {
     demand = p.demand;
     at = p.at;
@@ -52,7 +44,7 @@ module _ (links : List Link) (listed : List Listed) (n s : ℕ) (labels : List �
     apart = labels_apart (Joins links listed s) n (length links) p.demand.from.0 p.demand.to.0 labels (joins_below links listed s) h p.differ;
   }
 
-  pub separates_split : (k : ℕ) → Separates links listed demands s k → IsSplit labels demands k
+  separates_split : (k : ℕ) → Separates links listed demands s k → IsSplit labels demands k
   separates_split k p =
       let lt : k < length demands = slice_get_within demands k p.demand p.at in
       let is : IsDemand n p.demand = subst (IsDemand n) (get_or_from_slice_get demands k p.demand p.demand p.at) (are.each k p.demand lt) in
@@ -63,15 +55,16 @@ module _ (links : List Link) (listed : List Listed) (n s : ℕ) (labels : List �
         differ = λ e. labels_joined (Joins links listed s) n (length links) p.demand.from.0 p.demand.to.0 labels h is.from_known is.to_known e p.apart;
       }
 
-  pub none_separates : ((k : ℕ) → IsSplit labels demands k → ⊥) → (k : ℕ) → Separates links listed demands s k → ⊥
+  none_separates : ((k : ℕ) → IsSplit labels demands k → ⊥) → (k : ℕ) → Separates links listed demands s k → ⊥
   none_separates none k p = none k (separates_split k p)
 
-  pub first_separates : (k : ℕ) → IsFirst (IsSplit labels demands) k → IsFirst (Separates links listed demands s) k
+  first_separates : (k : ℕ) → IsFirst (IsSplit labels demands) k → IsFirst (Separates links listed demands s) k
   first_separates k f = record {
     here = split_separates k f.here;
     least = λ j lt p. f.least j lt (separates_split j p);
   }
 
+  -- so the first split demand is the first that the state separates
   pub answer_separates : (r : Option ℕ) → MatchOption r ((k : ℕ) → IsSplit labels demands k → ⊥) (IsFirst (IsSplit labels demands)) → MatchOption r ((k : ℕ) → Separates links listed demands s k → ⊥) (IsFirst (Separates links listed demands s))
   answer_separates None r = none_separates r
   answer_separates (Some k) r = first_separates k r
