@@ -1,0 +1,4 @@
+pub mod Labelling
+pub mod Relabelling
+pub mod Splits
+pub mod Taking

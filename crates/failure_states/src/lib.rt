@@ -1,0 +1,12 @@
+//! Links that survive a failure state, and the first demand that a state separates.
+#![tactic(auto)]
+
+mod labels;
+mod separations;
+mod survival;
+
+pub use separations::{Separation, first_separated};
+pub use survival::survives;
+
+#[cfg(test)]
+mod tests;
