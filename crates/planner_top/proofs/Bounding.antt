@@ -1,15 +1,13 @@
 -- bounds, with and without a certificate
-use Rattle.std.proofs.Common.{◌≡◌, ◌≢◌, ℕ, zero, suc, ◌+◌, ◌*◌, ◌^◌, ◌<◌, ◌≤◌, List, [], ◌∷◌, All, Some, None, get_or, length, replicate, refl, sym, ◌∙◌, ap, subst, arith, ⊎_elim, inl, inr}
+use Rattle.std.proofs.Common.{◌≡◌, ℕ, zero, suc, ◌*◌, ◌^◌, ◌<◌, ◌≤◌, List, [], All, Some, None, get_or, length, replicate, refl, sym, subst, arith, inr}
 use Rattle.std.proofs.lemmas.Grind.{get_or_default_zero}
 use Rattle.std.proofs.lemmas.Nat.Gcd.{dvd-zero}
 use Rattle.std.proofs.Math.Nat.{eq-one_of_dvd-one, mul-le-mul_left}
-use Rattle.std.specs.Int.{◌∣◌}
 use Rattle.net_core.specs.Network.{IsNetwork}
 use Rattle.net_core.specs.declared.demand.Demand.{Demand}
 use Rattle.net_core.specs.declared.network.Link.{Link}
-use Rattle.plan_terms.specs.Capacities.{IsAble, total_cost}
-use Rattle.plan_terms.specs.Certificates.{AreKept, IsBound, IsCertificate, IsLine, IsLowest, IsRight, Line, raw_value}
-use Rattle.plan_terms.specs.OwnBounds.{IsMultiplier, IsOwnBound, alone}
+use Rattle.plan_terms.specs.Certificates.{AreKept, IsBound, IsLine, IsLowest, IsRight, Line, raw_value}
+use Rattle.plan_terms.specs.OwnBounds.{IsMultiplier, alone}
 use Rattle.plan_terms.specs.Paths.{Joins}
 use Rattle.plan_terms.proofs.Bounds.{lowest_positive}
 use Rattle.plan_terms.proofs.Duality.{weak_duality}
@@ -17,7 +15,6 @@ use Rattle.plan_terms.proofs.OwnBounds.{certificate_checked, empty_certificate, 
 use Rattle.metric_cut.specs.Keeping.{Keeps}
 use Rattle.metric_cut.specs.declared.cut.Cut.{Cut}
 use Rattle.planner_top.specs.Bounds.{IsBounded, IsUnitBound, unit_lengths}
-use Rattle.planner_top.specs.declared.bound.Bounded.{Bounded}
 
 -- where the raw value is 0, so is the bound
 pub bound_zero : (links : List Link) (num den bound : ℕ) → IsBound links num den bound → num ≡ 0 → bound ≡ 0
@@ -36,7 +33,7 @@ bare_bounded links demands bound own b =
       rounded = rounded;
       positive = tt;
       own = subst (IsUnitBound links demands) (sym none) own;
-      least = λ counts able. weak_duality links [] demands 1 [] bound counts (empty_certificate links [] demands) rounded able
+      least = λ counts able. weak_duality links [] demands 1 [] bound counts (empty_certificate links [] demands) rounded able;
     }
 
 -- kept unit lengths are at most 1
@@ -75,7 +72,7 @@ cut_bounded nodes links demands kept right num den raw_num raw_den bound checked
       rounded = rounded;
       positive = some;
       own = inr (kept, right, keeps, rights, record { num = num; den = den; multiplier = greatest; rounded = rounded });
-      least = λ counts able. weak_duality links [] demands den (alone 0 kept right num) bound counts certificate rounded able
+      least = λ counts able. weak_duality links [] demands den (alone 0 kept right num) bound counts certificate rounded able;
     }
 
 -- a factor of 0 beside a positive one
@@ -100,4 +97,4 @@ pub right_of_copy : (links : List Link) (demands : List Demand) (cut : Cut) (kep
     → IsRight (Joins links [] cut.state.0) cut.lengths demands right → IsRight (Joins links [] 0) kept demands right
 right_of_copy links demands cut kept right none same r =
     subst (λ s. IsRight (Joins links [] s) kept demands right) none
-        (subst (λ lengths. IsRight (Joins links [] cut.state.0) lengths demands right) (sym same) r)
+    (subst (λ lengths. IsRight (Joins links [] cut.state.0) lengths demands right) (sym same) r)

@@ -1,5 +1,5 @@
 -- modules of one kind
-use Rattle.std.proofs.Common.{◌≡◌, ◌≢◌, ℕ, zero, suc, ◌+◌, ◌-◌, ◌*◌, ◌<◌, ◌≤◌, Bool, true, false, cond, nat_lt, List, [], ◌∷◌, All, Some, None, Option, get_or, set, replicate, length, refl, sym, ◌∙◌, ap, subst, arith, take, sum_by, count_by, zip, slice_get, ⊎_elim}
+use Rattle.std.proofs.Common.{◌≡◌, ℕ, zero, suc, ◌+◌, ◌*◌, ◌<◌, ◌≤◌, true, false, cond, nat_lt, List, [], ◌∷◌, Some, set, replicate, length, refl, sym, ◌∙◌, ap, subst, arith, sum_by, count_by, zip, slice_get, ⊎_elim}
 use Rattle.std.proofs.lemmas.List.Sums.{sum_by-cons}
 use Rattle.std.proofs.lemmas.List.{length-replicate}
 use Rattle.std.proofs.Math.ListN.{length-set}
@@ -7,8 +7,7 @@ use Rattle.std.proofs.lemmas.Bool.{cases_eq, lt-ltb}
 use Rattle.std.proofs.lemmas.Option.{slice_get_within}
 use Rattle.std.proofs.Math.Nat.{mul-le-mul_left}
 use Rattle.net_core.specs.declared.network.Module.{Module}
-use Rattle.net_core.specs.declared.network.Link.{Link}
-use Rattle.plan_terms.specs.Capacities.{AreLeast, AreOfOneKind, Reaches, modules_capacity, modules_cost}
+use Rattle.plan_terms.specs.Capacities.{AreLeast}
 use Rattle.planner_top.specs.Choice.{IsBestKind}
 use Rattle.planner_top.proofs.Numbers.{one_if}
 

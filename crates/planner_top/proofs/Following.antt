@@ -1,14 +1,14 @@
 -- paths along a tree
-use Rattle.std.proofs.Common.{◌≡◌, ◌≢◌, ℕ, ◌+◌, ◌<◌, ◌≤◌, List, [], ◌∷◌, ◌++◌, Some, get_or, length, refl, sym, ◌∙◌, ap, subst, arith, All, slice_get, append_assoc, append-nil}
-use Rattle.std.proofs.lemmas.Option.{slice_get_within, slice_get-get_or}
+use Rattle.std.proofs.Common.{◌≡◌, ◌≢◌, ℕ, ◌+◌, ◌<◌, ◌≤◌, List, [], ◌∷◌, ◌++◌, Some, get_or, refl, sym, subst, arith, All, slice_get, append_assoc, append-nil}
+use Rattle.std.proofs.lemmas.Option.{slice_get-get_or}
 use Rattle.net_core.specs.declared.ids.LinkId.{LinkId}
 use Rattle.net_core.specs.declared.network.Link.{Link}
 use Rattle.net_core.specs.declared.states.Listed.{Listed}
-use Rattle.plan_terms.specs.Paths.{AreApart, AreDifferent, IsPath, Joins, Leads, last_node}
+use Rattle.plan_terms.specs.Paths.{AreApart, IsPath, Joins, Leads, last_node}
 use Rattle.plan_terms.proofs.Joining.{joins_turned}
 use Rattle.plan_terms.proofs.Walks.{Falls, closed_reaches, falls_differ}
 use Rattle.short_paths.specs.declared.hops.Hop.{Hop}
-use Rattle.short_paths.specs.Hops.{AreHops, HasHop}
+use Rattle.short_paths.specs.Hops.{AreHops}
 use Rattle.planner_top.specs.Trees.{Goes, IsTree}
 use Rattle.planner_top.proofs.Searching.{within_all}
 

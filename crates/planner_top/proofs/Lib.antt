@@ -1,5 +1,6 @@
 pub mod Bounding
 pub mod Choices
+pub mod Ending
 pub mod Following
 pub mod Numbers
 pub mod Pairs

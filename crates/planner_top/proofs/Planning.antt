@@ -1,6 +1,5 @@
 -- from routes and counts to a plan
-use Rattle.std.proofs.Common.{◌≡◌, ◌≢◌, ℕ, zero, suc, ◌+◌, ◌-◌, ◌*◌, ◌<◌, ◌≤◌, ◌==◌, ◌||◌, Bool, true, false, cond, if◌then◌else◌, List, [], ◌∷◌, ◌++◌, All, AllPairs, Some, None, get_or, map, length, zip, refl, sym, ◌∙◌, ap, subst, arith, sum_by, count_by, slice_get, ⊎_elim, ◌⊎◌, eqb, eqb-true}
-use Rattle.std.specs.List.{AllZip}
+use Rattle.std.proofs.Common.{◌≡◌, ℕ, zero, suc, ◌+◌, ◌-◌, ◌*◌, ◌<◌, ◌≤◌, ◌==◌, ◌||◌, Bool, true, false, cond, if◌then◌else◌, List, [], ◌∷◌, ◌++◌, All, Some, get_or, length, refl, sym, ◌∙◌, ap, subst, arith, slice_get, ⊎_elim, eqb, eqb-true}
 use Rattle.std.proofs.lemmas.List.Sums.{sum_by-cons}
 use Rattle.std.proofs.lemmas.Bool.{cases_Bool, cases_lt, false≢true}
 use Rattle.std.proofs.lemmas.Option.{get_or_from_slice_get, slice_get_within}
@@ -15,8 +14,8 @@ use Rattle.net_core.specs.declared.network.Link.{Link}
 use Rattle.net_core.specs.declared.plan.Flow.{Flow}
 use Rattle.net_core.specs.declared.states.Listed.{Listed}
 use Rattle.plan_terms.specs.Capacities.{AreCounts, AreLeast, IsAble, IsAbleIn, capacities, modules_capacity}
-use Rattle.plan_terms.specs.Flows.{Carries, IsFlow, load}
-use Rattle.plan_terms.specs.Paths.{IsPath, Joins, Leads, Survives}
+use Rattle.plan_terms.specs.Flows.{IsFlow, load}
+use Rattle.plan_terms.specs.Paths.{Joins, Leads, Survives}
 use Rattle.plan_terms.proofs.Distinct.{DistinctLinks, path_links_differ, path_links_known}
 use Rattle.plan_terms.proofs.Few.{path_few}
 use Rattle.plan_terms.proofs.Joining.{joins_within}

@@ -1,5 +1,5 @@
 -- a search in breadth: what a hop keeps, and what all hops come to
-use Rattle.std.proofs.Common.{◌≡◌, ◌≢◌, ℕ, zero, suc, ◌+◌, ◌<◌, ◌≤◌, ◌==◌, Bool, true, false, cond, List, [], ◌∷◌, ◌++◌, Some, None, Option, get_or, replicate, set, take, length, refl, sym, ◌∙◌, ap, subst, arith, All, sum_by, count_by, slice_get, ⊎_elim, ◌⊎◌, inl, inr, get_or-set_same, get_or-set_other, length-set, length-append}
+use Rattle.std.proofs.Common.{◌≡◌, ◌≢◌, ℕ, zero, suc, ◌+◌, ◌<◌, ◌≤◌, ◌==◌, cond, List, [], ◌∷◌, ◌++◌, Some, Option, get_or, replicate, set, take, length, refl, sym, ◌∙◌, ap, subst, arith, All, count_by, slice_get, ⊎_elim, ◌⊎◌, inl, inr, get_or-set_same, get_or-set_other, length-set, length-append}
 use Rattle.std.proofs.lemmas.List.Sums.{sum_by-cons, sum_by-set}
 use Rattle.std.proofs.lemmas.List.{length-replicate}
 use Rattle.std.proofs.Math.Seq.{take-append_seam}

@@ -1,11 +1,9 @@
 -- what flows bring onto links
-use Rattle.std.proofs.Common.{◌≡◌, ◌≢◌, ℕ, suc, ◌+◌, ◌*◌, ◌^◌, ◌<◌, ◌≤◌, ◌==◌, Bool, true, false, cond, List, [], ◌∷◌, All, get_or, set, length, refl, sym, ◌∙◌, ap, subst, arith, take, sum_by, count_by, ⊎_elim, get_or-set_same, get_or-set_other}
-use Rattle.std.proofs.lemmas.List.Sums.{sum_by_more, sum_by-cons, count_by-le-length}
+use Rattle.std.proofs.Common.{◌≡◌, ◌≢◌, ℕ, ◌+◌, ◌*◌, ◌<◌, ◌==◌, cond, List, get_or, set, length, sym, ◌∙◌, ap, subst, arith, take, ⊎_elim, get_or-set_same, get_or-set_other}
+use Rattle.std.proofs.lemmas.List.Sums.{sum_by_more}
 use Rattle.std.proofs.lemmas.Bool.{cases_eq, eq-eqb, ne_eqb}
-use Rattle.std.proofs.Math.Nat.{mul-le-mul_left}
 use Rattle.net_core.specs.declared.ids.LinkId.{LinkId}
-use Rattle.net_core.specs.declared.plan.Flow.{Flow}
-use Rattle.planner_top.specs.Routes.{times, weight}
+use Rattle.planner_top.specs.Routes.{times}
 use Rattle.planner_top.proofs.Numbers.{one_if}
 
 -- one link more has been counted where it is this one

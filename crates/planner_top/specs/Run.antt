@@ -7,8 +7,10 @@ use Rattle.outside_io.specs.Outside.{Files, Rose, TakesFront, content}
 use Rattle.plan_terms.specs.Capacities.{IsAble}
 use Rattle.plan_terms.specs.Separations.{IsFirstSeparation}
 use Rattle.sndlib_reader.specs.Spelling.{Spells}
+use Rattle.planner_top.specs.Bounds.{IsBounded}
 use Rattle.planner_top.specs.Plans.{IsOnePathPlan}
 use Rattle.planner_top.specs.Texts.{short_form}
+use Rattle.planner_top.specs.declared.bound.Bounded.{Bounded}
 use Rattle.planner_top.specs.declared.status.Status.{Status}
 use Rattle.planner_top.specs.declared.status.Status.TheVariants.{Done, BadWords, NoFile, ReadFault, WriteFault, BadNetwork, BadModel, BadFailures, BadScript, NotSurvivable, Rejected, TooLong, BadReport, NoMemory}
 
@@ -42,15 +44,18 @@ IsTooLong None name = Unit {0}
 IsTooLong (Some files) name = IsSomeAnd (content files name) (λ bytes. limit < length bytes)
 
 -- The file is planned: its bytes spell a network and demands, and the text is the short form of counts that can carry these demands
--- in the state without failures, those of a plan of one path for each demand that has a need.
+-- in the state without failures, those of a plan of one path for each demand that has a need, and of a bound with its certificate,
+-- below which no counts that can carry these demands cost.
 pub record IsPlan (bytes text : List ℕ) : Type 0 where
   pub net : Network
   pub demands : List Demand
   pub counts : List (List ℕ)
+  pub bounded : Bounded
   pub spelled : Spells bytes net demands
   pub able : IsAble net.links [] demands counts
   pub plan : IsOnePathPlan net.links [] demands counts
-  pub printed : text ≡ short_form net.links counts
+  pub bound : IsBounded net.links demands bounded
+  pub printed : text ≡ short_form net.links counts bounded
 
 -- The file is not survivable: its bytes spell a network and demands, and the text names the first demand that has a need and whose ends are apart.
 pub record IsSeparated (bytes text : List ℕ) : Type 0 where

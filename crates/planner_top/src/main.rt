@@ -2,6 +2,7 @@
 #![tactic(auto)]
 
 mod bound;
+mod bound_text;
 mod choice;
 mod loads;
 mod output;

@@ -2,15 +2,17 @@ ghost use Rattle.std.specs.Prelude.{◌≡◌, ℕ, List, ◌≤◌, ◌++◌, [
 ghost use Rattle.outside_io.specs.Outside.{Rose};
 ghost use Rattle.plan_terms.specs.Separations.{IsFirstSeparation};
 ghost use Rattle.sndlib_reader.specs.Spelling.{Spells};
+ghost use Rattle.planner_top.specs.Bounds.{IsBounded};
 ghost use Rattle.planner_top.specs.Plans.{IsOnePathPlan};
 ghost use Rattle.planner_top.specs.declared.status.Status.{Status};
 ghost use Rattle.planner_top.specs.Run.{Ends, EndsFile, IsCommand, SpellsNothing, Writes, names_file, usage};
 
+use crate::bound::{Bounded, bound_network};
 use crate::output::put_text;
 use crate::plan::{Planned, plan_network};
 use crate::status::Status;
 use crate::text::{short_form, total_cost};
-use net_core::{Bytes, Demand, List, Network, NoMemory, States};
+use net_core::{Bytes, Demand, Demands, List, Network, NoMemory, States};
 use outside_io::{Fetch, Gate, Shelf, Sink};
 use sndlib_reader::{ReadRefusal, read_network};
 use std::alloc::Global;
@@ -81,16 +83,18 @@ fn installed(
     alloc: Global,
     _bytes: &[u8],
     net: &Network,
-    _demands: &[Demand],
+    _demands: &Demands,
     counts: &[List<u64>],
+    bounded: &Bounded,
 ) -> Result<Answer, NoMemory>
     requires spelled { Spells _bytes.now net.now _demands.now }
     requires plan { IsOnePathPlan net.now.links [] _demands.now counts.now }
+    requires bound { IsBounded net.now.links _demands.now bounded.now }
     ensures { IfOk result (λ a. EndsFile _bytes.now a.status a.text) }
 {
     let links = net.links().items();
     let cost = total_cost(links, counts);
-    let text = short_form(alloc, links, counts, cost)?;
+    let text = short_form(alloc, links, counts, cost, bounded)?;
     Ok(Answer {
         status: Status::Done,
         text,
@@ -126,17 +130,18 @@ fn answer_network(
     alloc: Global,
     bytes: &[u8],
     net: &Network,
-    demands: &[Demand],
+    demands: &Demands,
 ) -> Result<Answer, NoMemory>
     requires { Spells bytes.now net.now demands.now }
     ensures { IfOk result (λ a. EndsFile bytes.now a.status a.text) }
 {
-    let Ok(states) = States::new(net, List::new(alloc)) else {
-        unreachable!()
-    };
-    match plan_network(alloc, net, &states, demands)? {
-        Planned::Installed(counts) => installed(alloc, bytes, net, demands, counts.items()),
-        Planned::Apart(k) => separated(alloc, bytes, net, demands, k),
+    let states = States::only_none(alloc);
+    match plan_network(alloc, net, &states, demands.items())? {
+        Planned::Apart(k) => separated(alloc, bytes, net, demands.items(), k),
+        Planned::Installed(counts) => {
+            let bounded = bound_network(alloc, net, &states, demands)?;
+            installed(alloc, bytes, net, demands, counts.items(), &bounded)
+        }
     }
 }
 
@@ -157,7 +162,7 @@ fn answer_file(alloc: Global, bytes: &[u8]) -> Result<Answer, NoMemory>
     ensures { IfOk result (λ a. EndsFile bytes.now a.status a.text) }
 {
     match read_network(alloc, bytes) {
-        Ok((net, demands)) => answer_network(alloc, bytes, &net, demands.items()),
+        Ok((net, demands)) => answer_network(alloc, bytes, &net, &demands),
         Err(ReadRefusal::Bad { .. }) => refused(alloc, bytes),
         Err(ReadRefusal::NoMemory) => Err(NoMemory),
     }

@@ -15,6 +15,12 @@ LINKS ( AB ( A B ) 0 0 0 0 ( 10.00 5.00 ) BC ( B C ) 0 0 0 0 ( 10.00 5.00 ) AC (
 DEMANDS ( D1 ( A C ) 1 12.00 UNLIMITED )
 ";
 
+const FIXED_TRIANGLE: &[u8] = b"?SNDlib native format; type: network; version: 1.0
+NODES ( A B C )
+LINKS ( AB ( A B ) 20.00 0 0 0 ( 10.00 5.00 ) BC ( B C ) 20.00 0 0 0 ( 10.00 5.00 ) AC ( A C ) 20.00 0 0 0 ( 10.00 5.00 ) )
+DEMANDS ( D1 ( A C ) 1 12.00 UNLIMITED )
+";
+
 const NO_MODULE: &[u8] = b"?SNDlib native format; type: network; version: 1.0
 NODES ( A B )
 LINKS ( L ( A B ) 0 0 0 0 ( ) )
@@ -58,7 +64,19 @@ fn the_triangle_is_planned(rt: HostRuntime) -> Result<(), Fail> {
     assert_eq!(rt; status, Status::Done);
     assert_eq!(rt;
         out.bytes(),
-        b"cost 10.000\nlink AB 0\nlink BC 0\nlink AC 2\n".as_slice()
+        b"cost 10.000\nlink AB 0\nlink BC 0\nlink AC 2\nbound 10.000\nraw 6000 1\ncut 0 2 1 12000 1 1 1\n".as_slice()
+    );
+    Ok(())
+}
+
+#[test]
+fn fixed_capacity_needs_no_module(rt: HostRuntime) -> Result<(), Fail> {
+    let bytes = List::from_slice(rt.alloc(), FIXED_TRIANGLE)?;
+    let (status, out) = runs(&rt, "net", bytes, &[], &[])?;
+    assert_eq!(rt; status, Status::Done);
+    assert_eq!(rt;
+        out.bytes(),
+        b"cost 0.000\nlink AB 0\nlink BC 0\nlink AC 0\nbound 0.000\nraw 0 1\n".as_slice()
     );
     Ok(())
 }
@@ -93,7 +111,10 @@ fn faults_end_a_run(rt: HostRuntime) -> Result<(), Fail> {
     let bytes = List::from_slice(rt.alloc(), TRIANGLE)?;
     let (status, out) = runs(&rt, "net", bytes, &[], &[0])?;
     assert_eq!(rt; status, Status::WriteFault);
-    assert_eq!(rt; out.bytes(), b"cost 10.000\nlink AB 0".as_slice());
+    assert_eq!(rt;
+        out.bytes(),
+        b"cost 10.000\nlink AB 0\nlink BC 0\nlink AC 2\nbo".as_slice()
+    );
     Ok(())
 }
 

@@ -4,16 +4,26 @@ ghost use Rattle.net_core.specs.declared.network.Link.{Link};
 ghost use Rattle.plan_terms.specs.Capacities.{modules_cost, total_cost};
 ghost use Rattle.planner_top.specs.Texts.{counts_text, digit_of, link_line, link_lines, money_text, short_form};
 
+use crate::bound::Bounded;
+use crate::bound_text::put_bound;
 use itoa::Buffer;
 use net_core::{Bytes, Counts, Link, List, Module, NoMemory};
 use std::alloc::Global;
 
 /// Puts a whole number last.
-fn put_number(text: &mut Bytes, n: u128) -> Result<(), NoMemory>
+pub fn put_number(text: &mut Bytes, n: u128) -> Result<(), NoMemory>
     ensures { OnOk result (text.new ≡ text.old ++ decimal n) }
 {
     let mut buffer = Buffer::new();
     text.append(buffer.format(n).as_bytes())
+}
+
+/// Puts a whole number last, behind a space.
+pub fn put_spaced(text: &mut Bytes, n: u128) -> Result<(), NoMemory>
+    ensures { OnOk result (text.new ≡ text.old ++ 32 ∷ decimal n) }
+{
+    text.append(b" ")?;
+    put_number(text, n)
 }
 
 fn digit_of(n: u128) -> u8
@@ -23,7 +33,7 @@ fn digit_of(n: u128) -> u8
 }
 
 /// Puts thousandths last, with a point and three digits.
-fn put_money(text: &mut Bytes, n: u128) -> Result<(), NoMemory>
+pub fn put_money(text: &mut Bytes, n: u128) -> Result<(), NoMemory>
     ensures { OnOk result (text.new ≡ text.old ++ money_text n) }
 {
     put_number(text, n / 1000)?;
@@ -35,8 +45,7 @@ fn put_counts(text: &mut Bytes, counts: &[u64]) -> Result<(), NoMemory>
     ensures { OnOk result (text.new ≡ text.old ++ counts_text counts.now) }
 {
     for n in counts {
-        text.append(b" ")?;
-        put_number(text, *n as u128)?;
+        put_spaced(text, *n as u128)?;
     }
     Ok(())
 }
@@ -95,21 +104,23 @@ pub fn total_cost(links: &[Link], counts: &[List<u64>]) -> u128
     cost
 }
 
-/// The short form of a plan.
+/// The short form of a plan, which costs so much, and of its bound.
 pub fn short_form(
     alloc: Global,
     links: &[Link],
     counts: &[List<u64>],
     cost: u128,
+    bounded: &Bounded,
 ) -> Result<Bytes, NoMemory>
     requires shape { length counts.now ≡ length links.now }
     requires cost { cost ≡ total_cost links.now counts.now }
-    ensures { IfOk result (λ text. text ≡ short_form links.now counts.now) }
+    ensures { IfOk result (λ text. text ≡ short_form links.now counts.now bounded.now) }
 {
     let mut text = List::new(alloc);
     text.append(b"cost ")?;
     put_money(&mut text, cost)?;
     text.append(b"\n")?;
     put_links(&mut text, links, counts)?;
+    put_bound(&mut text, bounded)?;
     Ok(text)
 }

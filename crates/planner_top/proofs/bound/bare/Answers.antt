@@ -6,4 +6,4 @@ use Rattle.planner_top.proofs.bound.bare.Goals as goal
 pub returns : goal.returns
 returns c =
     bare_bounded c.args.net.now.links c.args._demands.now c.bound_of.result c.requires
-        (subst (λ links. IsBound links 0 1 c.bound_of.result) (c.items.ensures ∙ c.links.ensures) c.bound_of.ensures)
+    (subst (λ links. IsBound links 0 1 c.bound_of.result) (c.items.ensures ∙ c.links.ensures) c.bound_of.ensures)

@@ -1,4 +1,4 @@
-use Rattle.std.proofs.Common.{ℕ, ◌≡◌, ◌<◌, arith, [], subst, sym, ◌∙◌, length}
+use Rattle.std.proofs.Common.{arith, [], subst, sym, ◌∙◌, length}
 use Rattle.plan_terms.specs.Certificates.{AreKept, IsLowest, raw_value}
 use Rattle.plan_terms.specs.OwnBounds.{alone}
 use Rattle.metric_cut.specs.Keeping.{Keeps}
@@ -18,7 +18,7 @@ bare-requires c =
     let rights = right_of_copy links c.args.demands.now c.args.cut.now kept right c.requires.state same (c.right.ensures.right links [] (length c.args.net.now.nodes) c.requires.cut) in
     let raw = subst (λ n. IsLowest (raw_value links (alone 0 kept right multiplier.num)) multiplier.den n own.result.raw.den) c.if-certificate-eq0.true own.ensures.raw in
     subst (λ demands. IsUnitBound links demands 0) (sym c.items.ensures)
-        (unit_zero links c.args.demands.now kept right multiplier.num multiplier.den own.result.raw.den own.result.bound keeps rights own.ensures.multiplier raw own.ensures.bound)
+    (unit_zero links c.args.demands.now kept right multiplier.num multiplier.den own.result.raw.den own.result.bound keeps rights own.ensures.multiplier raw own.ensures.bound)
 
 pub returns : goal.returns
 returns c =
@@ -32,6 +32,6 @@ returns c =
     let are_kept = subst (λ lengths. AreKept links [] 0 lengths) (sym same) (subst (λ s. AreKept links [] s c.args.cut.now.lengths) c.requires.state c.requires.cut.kept) in
     let rights = right_of_copy links c.args.demands.now c.args.cut.now kept right c.requires.state same (c.right.ensures.right links [] (length c.args.net.now.nodes) c.requires.cut) in
     cut_bounded c.args.net.now.nodes links c.args.demands.now kept right multiplier.num multiplier.den own.result.raw.num own.result.raw.den own.result.bound
-        c.args.net.now.checked
-        are_kept keeps rights c.right.ensures.low own.ensures.multiplier own.ensures.limits.0 own.ensures.limits.1 own.ensures.raw own.ensures.bound
-        (omega (arith, c.if-certificate-eq0.false))
+    c.args.net.now.checked
+    are_kept keeps rights c.right.ensures.low own.ensures.multiplier own.ensures.limits.0 own.ensures.limits.1 own.ensures.raw own.ensures.bound
+    (omega (arith, c.if-certificate-eq0.false))

@@ -1,4 +1,4 @@
-use Rattle.std.proofs.Common.{◌+◌, arith, get_or, length, subst, sym}
+use Rattle.std.proofs.Common.{◌+◌, arith, get_or, subst, sym}
 use Rattle.std.proofs.lemmas.Option.{slice_get-get_or}
 use Rattle.net_core.specs.declared.network.Module.{Module}
 use Rattle.planner_top.proofs.Choices.{IsBestSoFar, IsEnough, best_first, best_moves, best_of_all, best_stays}

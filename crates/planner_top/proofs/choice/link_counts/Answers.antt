@@ -1,8 +1,7 @@
-use Rattle.std.proofs.Common.{◌≡◌, ◌-◌, ◌∙◌, arith, length, replicate, set, subst, sym}
+use Rattle.std.proofs.Common.{◌≡◌, ◌-◌, ◌∙◌, arith, length, replicate, subst, sym}
 use Rattle.std.proofs.lemmas.Option.{slice_get_within}
 use Rattle.std.proofs.lemmas.Result.{IfOk-weaker}
 use Rattle.plan_terms.specs.Capacities.{AreLeast}
-use Rattle.planner_top.specs.Choice.{IsBestKind}
 use Rattle.planner_top.proofs.Choices.{best_least, none_least}
 use Rattle.planner_top.proofs.choice.link_counts.Goals as goal
 

@@ -1,4 +1,4 @@
-use Rattle.std.proofs.Common.{◌≡◌, ◌≤◌, ◌-◌, length, take}
+use Rattle.std.proofs.Common.{◌≤◌, ◌-◌, length, take}
 use Rattle.planner_top.proofs.Taking.{Took}
 use Rattle.planner_top.proofs.output.put_text.Given as goal
 

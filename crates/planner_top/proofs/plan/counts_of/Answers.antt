@@ -1,6 +1,5 @@
-use Rattle.std.proofs.Common.{◌≡◌, ◌++◌, ◌∷◌, [], Some, ap, arith, get_or, length, length-append, refl, slice_get, subst, sym}
+use Rattle.std.proofs.Common.{◌≡◌, ◌++◌, ◌∷◌, [], Some, ap, arith, get_or, length, length-append, refl, slice_get, subst}
 use Rattle.std.proofs.lemmas.Option.{slice_get_read}
-use Rattle.plan_terms.specs.Capacities.{AreLeast}
 use Rattle.planner_top.proofs.Planning.{least_more}
 use Rattle.planner_top.proofs.plan.counts_of.Goals as goal
 

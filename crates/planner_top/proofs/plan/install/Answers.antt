@@ -1,7 +1,6 @@
-use Rattle.std.proofs.Common.{◌≡◌, ◌≤◌, ◌<◌, ◌^◌, ◌∙◌, ap, arith, get_or, length}
+use Rattle.std.proofs.Common.{◌≡◌, ◌<◌, ◌∙◌, ap, arith, get_or, length}
 use Rattle.std.proofs.lemmas.Option.{slice_get_within}
 use Rattle.std.proofs.lemmas.Result.{IfOk-weaker}
-use Rattle.planner_top.specs.Plans.{AreLeastCounts}
 use Rattle.planner_top.specs.Routes.{weight}
 use Rattle.planner_top.proofs.Planning.{links_known, paths_short, planned, same_loads, unserved}
 use Rattle.planner_top.proofs.plan.install.Goals as goal

@@ -1,4 +1,4 @@
-use Rattle.std.proofs.Common.{All, List, arith, length, subst, sym, ◌∙◌, ap}
+use Rattle.std.proofs.Common.{All, length, subst, sym, ◌∙◌, ap}
 use Rattle.net_core.specs.Network.{IsLink}
 use Rattle.planner_top.proofs.Planning.{network_links}
 use Rattle.planner_top.proofs.plan.plan_network.Goals as goal

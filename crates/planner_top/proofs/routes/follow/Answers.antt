@@ -1,4 +1,4 @@
-use Rattle.std.proofs.Common.{◌≡◌, ◌++◌, ◌<◌, Some, arith, get_or, length, refl, slice_get, subst, sym}
+use Rattle.std.proofs.Common.{◌≡◌, ◌++◌, ◌<◌, Some, arith, get_or, length, slice_get, subst, sym}
 use Rattle.short_paths.specs.declared.hops.Hop.{Hop}
 use Rattle.planner_top.specs.Trees.{Goes}
 use Rattle.planner_top.specs.declared.tree.TheConstants.{NOWHERE}

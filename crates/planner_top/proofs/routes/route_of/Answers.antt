@@ -1,8 +1,5 @@
-use Rattle.std.proofs.Common.{◌≡◌, ◌+◌, ◌<◌, ◌∙◌, Some, arith, length, refl, slice_get, subst, sym}
-use Rattle.std.proofs.lemmas.Option.{slice_get_read}
-use Rattle.short_paths.specs.declared.hops.Hop.{Hop}
+use Rattle.std.proofs.Common.{◌≡◌, ◌∙◌, arith, length, subst, sym}
 use Rattle.planner_top.specs.Trees.{IsTree}
-use Rattle.planner_top.specs.declared.tree.Tree.{Tree}
 use Rattle.planner_top.specs.declared.tree.TheConstants.{NOWHERE}
 use Rattle.planner_top.proofs.Searching.{tree_read}
 use Rattle.planner_top.proofs.routes.route_of.Goals as goal

@@ -1,5 +1,4 @@
 use Rattle.std.proofs.Common.{◌≡◌, ◌∙◌, ◌<◌, get_or, length, subst, sym}
-use Rattle.net_core.specs.declared.network.Link.{Link}
 use Rattle.planner_top.specs.Texts.{short_form}
 use Rattle.planner_top.proofs.Planning.{able, shapes}
 use Rattle.planner_top.proofs.run.installed.Goals as goal
@@ -17,8 +16,10 @@ returns c =
       net = c.args.net.now;
       demands = c.args._demands.now;
       counts = c.args.counts.now;
+      bounded = c.args.bounded.now;
       spelled = c.requires.spelled;
       able = able c.args.net.now.links c.args._demands.now c.args.counts.now c.requires.plan;
       plan = c.requires.plan;
-      printed = subst (λ links. c.in_ok-text.text ≡ short_form links c.args.counts.now) same c.in_ok-text.ensures;
+      bound = c.requires.bound;
+      printed = subst (λ links. c.in_ok-text.text ≡ short_form links c.args.counts.now c.args.bounded.now) same c.in_ok-text.ensures;
     }

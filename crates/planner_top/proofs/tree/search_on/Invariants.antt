@@ -1,4 +1,4 @@
-use Rattle.std.proofs.Common.{◌≡◌, ℕ, ◌-◌, ◌≤◌, length}
+use Rattle.std.proofs.Common.{◌≡◌, ℕ, ◌-◌, length}
 use Rattle.planner_top.specs.Trees.{IsSearch}
 use Rattle.planner_top.specs.declared.tree.TheConstants.{NOWHERE}
 use Rattle.planner_top.proofs.tree.search_on.Given as goal
