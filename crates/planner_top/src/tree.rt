@@ -123,7 +123,7 @@ fn first_queue(alloc: Global, nodes: usize, root: NodeId) -> Result<Vec<u32>, No
     Ok(queue)
 }
 
-/// The tree of the paths to a root, each with as few links as can be.
+/// The tree of the paths to a root, found by a search in breadth.
 pub fn tree_to(alloc: Global, hops: &Hops, nodes: usize, root: NodeId) -> Result<Tree, NoMemory>
     requires few { nodes ≤ 128 }
     requires nodes { length hops.now.starts ≡ nodes + 1 }
