@@ -13,22 +13,28 @@ mod status;
 mod text;
 mod tree;
 
+use net_core::NoMemory;
 use outside_io::{FileShelf, OpenGate, StreamSink};
 use run::run;
 use status::Status;
 use std::process::ExitCode;
 use std::{env, io};
 
-/// The words after the program's name, where all of them are text.
-fn words_of(rt: &HostRuntime) -> Option<Vec<String>> {
-    let args = env::args(rt).ok()?;
-    args.skip(1).collect(rt.alloc()).ok()
+/// The words after the program's name, and no words where one of them isn't text.
+fn words_of(rt: &HostRuntime) -> Result<Vec<String>, NoMemory> {
+    match env::args(rt) {
+        Ok(args) => match args.skip(1).collect(rt.alloc()) {
+            Ok(words) => Ok(words),
+            Err(_) => Err(NoMemory),
+        },
+        Err(fault) if fault.kind() == io::ErrorKind::OutOfMemory => Err(NoMemory),
+        Err(_) => Ok(Vec::new(rt.alloc())),
+    }
 }
 
 fn main(rt: HostRuntime) -> ExitCode {
-    let words = match words_of(&rt) {
-        Some(words) => words,
-        None => Vec::new(rt.alloc()),
+    let Ok(words) = words_of(&rt) else {
+        return ExitCode::from(Status::NoMemory.number());
     };
     let mut shelf = FileShelf::new(&rt);
     let mut out = StreamSink::new(io::writer(&rt));
