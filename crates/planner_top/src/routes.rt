@@ -38,7 +38,7 @@ fn follow(
 }
 
 /// Makes the tree to a node, unless it is there.
-fn plant(
+fn make_tree(
     alloc: Global,
     hops: &Hops,
     trees: &mut [Option<Tree>],
@@ -49,7 +49,7 @@ fn plant(
     requires root { root.0 < length trees.old }
     requires trees { AreTrees hops.now.all (length trees.old) NOWHERE trees.old }
     ensures trees { AreTrees hops.now.all (length trees.old) NOWHERE trees.new }
-    ensures planted { OnOk result ((t : Tree) × (slice_get trees.new root.0 ≡ Some (Some t))) }
+    ensures made { OnOk result ((t : Tree) × (slice_get trees.new root.0 ≡ Some (Some t))) }
 {
     let at = root.0 as usize;
     if trees[at].is_some() {
@@ -105,7 +105,7 @@ fn route_of(
         (AreApart (Joins net.now.links states.now.listed 0) d.now.from.0 d.now.to.0)
         (λ es. IsPath (Joins net.now.links states.now.listed 0) d.now.from.0 d.now.to.0 es)) }
 {
-    plant(alloc, hops, trees, d.to)?;
+    make_tree(alloc, hops, trees, d.to)?;
     let Some(tree) = &trees[d.to.0 as usize] else {
         unreachable!()
     };

@@ -70,7 +70,8 @@ fn line(alloc: Global, front: &[u8], word: &[u8]) -> Result<Bytes, NoMemory>
 
 /// Writes a text, and answers the status, or that writing failed.
 fn say<K: Sink>(out: &mut K, text: &[u8], status: Status) -> Status
-    ensures { Writes status text.now result (K.taken out.old) (K.taken out.new) (K.faults out.old) (K.faults out.new) }
+    ensures later { K.faults out.old ≤ K.faults out.new }
+    ensures writes { Writes status text.now result (K.taken out.old) (K.taken out.new) (K.faults out.old) (K.faults out.new) }
 {
     match put_text(out, text) {
         Ok(()) => status,
@@ -212,6 +213,8 @@ fn answer_usage(alloc: Global) -> Result<Answer, NoMemory>
 fn answer_words<S: Shelf>(alloc: Global, words: &[String], shelf: &mut S) -> Answer
     ensures ends { Ends words.now (S.files shelf.old) result.status result.text }
     ensures read { result.status ≡ Status.ReadFault → Rose (S.faults shelf.old) (S.faults shelf.new) }
+    ensures files { S.files shelf.new ≡ S.files shelf.old }
+    ensures later { S.faults shelf.old ≤ S.faults shelf.new }
 {
     let Some(name) = file_word(words) else {
         return or_no_memory(alloc, answer_usage(alloc));
@@ -246,6 +249,9 @@ pub fn run<Rt: Threads + Wait + Sync, S: Shelf, K: Sink, G: Gate>(
         × Writes status text result (K.taken out.old) (K.taken out.new) (K.faults out.old) (K.faults out.new) }
     // Reading has failed only where the shelf has counted it.
     ensures read { result ≡ Status.ReadFault → Rose (S.faults shelf.old) (S.faults shelf.new) }
+    // The files stay as they are, and no count of faults falls.
+    ensures files { S.files shelf.new ≡ S.files shelf.old }
+    ensures later { (S.faults shelf.old ≤ S.faults shelf.new) × (K.faults out.old ≤ K.faults out.new) }
 {
     let answer = answer_words(alloc, words, shelf);
     say(out, answer.text.items(), answer.status)
