@@ -5,20 +5,20 @@ use Rattle.net_core.specs.declared.ids.LinkId.{LinkId}
 use Rattle.plan_terms.specs.Paths.{Leads, last_node, AreApart}
 use Rattle.plan_terms.proofs.Walks.{walk_none, walk_on, closed_reaches}
 use Rattle.plan_terms.proofs.Shortcuts.{shortcut}
-use Rattle.failure_states.specs.Labels.{Reaches, AreLabels, IsMerged}
+use Rattle.failure_states.specs.Labels.{AreLinked, AreLabels, IsMerged}
 
 module _ (joins : ℕ → ℕ → ℕ → Type 0) where
   -- further links from where links lead to
-  reaches_leads : (a b : ℕ) (es : List LinkId) (cs : List ℕ) → Reaches joins a b → Leads joins b es cs → Reaches joins a (last_node b cs)
+  reaches_leads : (a b : ℕ) (es : List LinkId) (cs : List ℕ) → AreLinked joins a b → Leads joins b es cs → AreLinked joins a (last_node b cs)
   reaches_leads a b [] [] r leads = r
   reaches_leads a b (e ∷ es) (c ∷ cs) r leads = reaches_leads a c es cs (r.0 + get_or [] e.0 0, walk_on joins [] a b r.0 e.0 c r.1 leads.0) leads.1
   reaches_leads a b [] (c ∷ cs) r leads = absurd leads
   reaches_leads a b (e ∷ es) [] r leads = absurd leads
 
-  reaches_on : (a b c : ℕ) → Reaches joins a b → Reaches joins b c → Reaches joins a c
-  reaches_on a b c r s = subst (Reaches joins a) s.1.ends (reaches_leads a b s.1.along s.1.nodes r s.1.leads)
+  reaches_on : (a b c : ℕ) → AreLinked joins a b → AreLinked joins b c → AreLinked joins a c
+  reaches_on a b c r s = subst (AreLinked joins a) s.1.ends (reaches_leads a b s.1.along s.1.nodes r s.1.leads)
 
-  reaches_link : (e a b : ℕ) → joins e a b → Reaches joins a b
+  reaches_link : (e a b : ℕ) → joins e a b → AreLinked joins a b
   reaches_link e a b j = (0 + get_or [] e 0, walk_on joins [] a a 0 e b (walk_none joins [] a) j)
 
   -- before any link, each node has its own label
@@ -28,7 +28,7 @@ module _ (joins : ℕ → ℕ → ℕ → Type 0) where
     closed = λ e x y lt j. absurd (omega (arith, lt));
     sound = λ x y lx ly same.
         let one : x ≡ y = omega (arith, own x lx, own y ly) in
-        subst (Reaches joins x) one (0, walk_none joins [] x);
+        subst (AreLinked joins x) one (0, walk_none joins [] x);
   }
 
   -- a link that joins nothing changes nothing

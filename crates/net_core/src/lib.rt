@@ -1,6 +1,7 @@
 //! Networks, demands and failure states that passed their check, and the lists that they are made of.
 #![tactic(auto)]
 
+pub mod columns;
 pub mod demand;
 pub mod ids;
 pub mod list;
@@ -9,12 +10,13 @@ pub mod network;
 pub mod plan;
 pub mod states;
 
+pub use columns::{MasterColumn, RouteColumn, WideKind};
 pub use demand::{Demand, Demands};
 pub use ids::{LinkId, NodeId, StateId};
 pub use list::{Copied, List, NoMemory};
 pub use name::{Name, NameFault};
 pub use network::{Link, Module, NetFault, Network, Notes};
-pub use plan::{Counts, Flow, Lengths, Path, Routing};
+pub use plan::{Caps, Counts, Flow, Lengths, Path, Routing};
 pub use states::{Listed, States, StatesFault};
 
 /// Bytes, as of a file.

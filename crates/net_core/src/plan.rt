@@ -19,6 +19,13 @@ pub struct Routing {
     pub flows: List<Flow>,
 }
 
+/// One capacity for each link: `nums` over `scale`, in thousandths.
+#[derive(Drop)]
+pub struct Caps {
+    pub scale: u64,
+    pub nums: List<u128>,
+}
+
 /// One count for each module of each link.
 pub type Counts = List<List<u64>>;
 
@@ -40,6 +47,15 @@ impl Copied for Routing {
         Ok(Routing {
             den: self.den,
             flows: self.flows.copy()?,
+        })
+    }
+}
+
+impl Copied for Caps {
+    fn copy(&self) -> Result<Caps, NoMemory> {
+        Ok(Caps {
+            scale: self.scale,
+            nums: self.nums.copy()?,
         })
     }
 }

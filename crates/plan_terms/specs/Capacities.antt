@@ -1,5 +1,5 @@
 -- counts of modules: the capacity that they install, what they cost, and whether they can do
-use Rattle.std.specs.Prelude.{◌≡◌, ℕ, ◌+◌, ◌*◌, ◌≤◌, List, count_by, nat_lt, length, map, sum_by, zip}
+use Rattle.std.specs.Prelude.{◌≡◌, ℕ, ◌+◌, ◌-◌, ◌*◌, ◌≤◌, List, Some, count_by, nat_lt, length, map, slice_get, sum_by, zip}
 use Rattle.std.specs.List.{AllZip}
 use Rattle.net_core.specs.declared.demand.Demand.{Demand}
 use Rattle.net_core.specs.declared.network.Module.{Module}
@@ -50,6 +50,11 @@ pub record Reaches (modules : List Module) (need : ℕ) (counts : List ℕ) : Ty
   pub reached : need ≤ modules_capacity modules counts
 
 -- such counts of least cost
-pub record AreLeast (modules : List Module) (need : ℕ) (counts : List ℕ) : Type 0 where
+pub record AreCheapest (modules : List Module) (need : ℕ) (counts : List ℕ) : Type 0 where
   pub reaches : Reaches modules need counts
   pub least : (others : List ℕ) → Reaches modules need others → modules_cost modules counts ≤ modules_cost modules others
+
+-- for each link, the cheapest counts of one kind that reach its load less its pre-installed capacity
+pub record AreCheapestCounts (links : List Link) (loads : ℕ → ℕ) (counts : List (List ℕ)) : Type 0 where
+  pub long : length counts ≡ length links
+  pub cheapest : (e : ℕ) (l : Link) (c : List ℕ) → slice_get links e ≡ Some l → slice_get counts e ≡ Some c → AreCheapest l.modules (loads e - l.fixed) c

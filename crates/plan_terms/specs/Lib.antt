@@ -1,6 +1,9 @@
 pub mod Capacities
 pub mod Certificates
+pub mod Fallbacks
 pub mod Flows
+pub mod LeastPaths
 pub mod OwnBounds
 pub mod Paths
+pub mod Prices
 pub mod Separations

@@ -7,7 +7,7 @@ use Rattle.std.proofs.lemmas.Bool.{cases_eq, lt-ltb}
 use Rattle.std.proofs.lemmas.Option.{slice_get_within}
 use Rattle.std.proofs.Math.Nat.{mul-le-mul_left}
 use Rattle.net_core.specs.declared.network.Module.{Module}
-use Rattle.plan_terms.specs.Capacities.{AreLeast}
+use Rattle.plan_terms.specs.Capacities.{AreCheapest}
 use Rattle.planner_top.specs.Choice.{IsBestKind}
 use Rattle.planner_top.proofs.Numbers.{one_if}
 
@@ -73,7 +73,7 @@ bounded need bound (m ∷ ms) (suc c ∷ cs) some each kind reach =
     omega (arith, each zero (suc c) m refl enough, value-cons (λ m. m.cost) m ms (suc c) cs, value-none (λ m. m.cost) ms cs none)
 
 -- no modules are the least for no need
-pub none_least : (ms : List Module) (need : ℕ) → need ≡ 0 → AreLeast ms need (replicate (length ms) 0)
+pub none_least : (ms : List Module) (need : ℕ) → need ≡ 0 → AreCheapest ms need (replicate (length ms) 0)
 none_least ms need none = record {
   reaches = record {
     shape = length-replicate (length ms) 0;
@@ -84,7 +84,7 @@ none_least ms need none = record {
 }
 
 -- the best kind is the least for a need
-pub best_least : (ms : List Module) (need at count : ℕ) → 0 < need → IsBestKind ms need at count → AreLeast ms need (set (replicate (length ms) 0) at count)
+pub best_least : (ms : List Module) (need at count : ℕ) → 0 < need → IsBestKind ms need at count → AreCheapest ms need (set (replicate (length ms) 0) at count)
 best_least ms need at count some best = record {
   reaches = record {
     shape = length-set (replicate (length ms) 0) at count ∙ length-replicate (length ms) 0;

@@ -13,13 +13,13 @@ use Rattle.net_core.specs.declared.ids.LinkId.{LinkId}
 use Rattle.net_core.specs.declared.network.Link.{Link}
 use Rattle.net_core.specs.declared.plan.Flow.{Flow}
 use Rattle.net_core.specs.declared.states.Listed.{Listed}
-use Rattle.plan_terms.specs.Capacities.{AreCounts, AreLeast, IsAble, IsAbleIn, capacities, modules_capacity}
+use Rattle.plan_terms.specs.Capacities.{AreCounts, AreCheapest, IsAble, IsAbleIn, capacities, modules_capacity}
 use Rattle.plan_terms.specs.Flows.{IsFlow, load}
 use Rattle.plan_terms.specs.Paths.{Joins, Leads, Survives}
 use Rattle.plan_terms.proofs.Distinct.{DistinctLinks, path_links_differ, path_links_known}
 use Rattle.plan_terms.proofs.Few.{path_few}
 use Rattle.plan_terms.proofs.Joining.{joins_within}
-use Rattle.planner_top.specs.Plans.{AreLeastCounts, IsOnePathPlan}
+use Rattle.planner_top.specs.Plans.{AreCheapestCounts, IsOnePathPlan}
 use Rattle.planner_top.specs.Routes.{AreRoutes, times, weight}
 use Rattle.planner_top.proofs.Numbers.{one_if}
 use Rattle.planner_top.proofs.Searching.{get_cases}
@@ -75,16 +75,16 @@ load_none links listed s demands (f ∷ fs) e each dead =
     omega (arith, sum_by-cons (λ (g : Flow). (if names_link e g.path then g.num else 0)) f fs, one, load_none links listed s demands fs e (λ k d lt. each (suc k) d (omega arith)) dead)
 
 -- one link's counts more
-pub least_more : (links : List Link) (loads : ℕ → ℕ) (counts : List (List ℕ)) (k : Link) (c : List ℕ) (e : ℕ) → length counts ≡ e → slice_get links e ≡ Some k → AreLeast k.modules (loads e - k.fixed) c
-    → ((i : ℕ) (l : Link) (d : List ℕ) → slice_get links i ≡ Some l → slice_get counts i ≡ Some d → AreLeast l.modules (loads i - l.fixed) d)
-    → (i : ℕ) (l : Link) (d : List ℕ) → slice_get links i ≡ Some l → slice_get (counts ++ c ∷ []) i ≡ Some d → AreLeast l.modules (loads i - l.fixed) d
+pub least_more : (links : List Link) (loads : ℕ → ℕ) (counts : List (List ℕ)) (k : Link) (c : List ℕ) (e : ℕ) → length counts ≡ e → slice_get links e ≡ Some k → AreCheapest k.modules (loads e - k.fixed) c
+    → ((i : ℕ) (l : Link) (d : List ℕ) → slice_get links i ≡ Some l → slice_get counts i ≡ Some d → AreCheapest l.modules (loads i - l.fixed) d)
+    → (i : ℕ) (l : Link) (d : List ℕ) → slice_get links i ≡ Some l → slice_get (counts ++ c ∷ []) i ≡ Some d → AreCheapest l.modules (loads i - l.fixed) d
 least_more links loads counts k c e long at least before i l d is got = ⊎_elim
     (λ old. before i l d is old)
     (λ last. let same : i ≡ e = last.0 ∙ long in
     let one : l ≡ k = cc (subst (λ j. slice_get links j ≡ Some l) same is, at) in
-    subst (λ x. AreLeast l.modules (loads i - l.fixed) x) (sym last.1)
-    (subst (λ j. AreLeast l.modules (loads j - l.fixed) c) (sym same)
-    (subst (λ (x : Link). AreLeast x.modules (loads e - x.fixed) c) (sym one) least)))
+    subst (λ x. AreCheapest l.modules (loads i - l.fixed) x) (sym last.1)
+    (subst (λ j. AreCheapest l.modules (loads j - l.fixed) c) (sym same)
+    (subst (λ (x : Link). AreCheapest x.modules (loads e - x.fixed) c) (sym one) least)))
     (get_cases counts c d i got)
 
 -- counts of the right shape, link by link
@@ -110,10 +110,10 @@ get_some (x ∷ xs) zero lt = (x, refl)
 get_some (x ∷ xs) (suc i) lt = get_some xs i (omega arith)
 
 -- routes and the counts for their loads are a plan
-pub planned : (links : List Link) (listed : List Listed) (demands : List Demand) (flows : List Flow) (counts : List (List ℕ)) → AreRoutes (Joins links listed 0) demands (length demands) flows → AreLeastCounts links (weight flows) counts → IsOnePathPlan links listed demands counts
+pub planned : (links : List Link) (listed : List Listed) (demands : List Demand) (flows : List Flow) (counts : List (List ℕ)) → AreRoutes (Joins links listed 0) demands (length demands) flows → AreCheapestCounts links (weight flows) counts → IsOnePathPlan links listed demands counts
 planned links listed demands flows counts r least =
     let same : (e : ℕ) → load flows e ≡ weight flows e = λ e. load_is_weight links listed 0 demands flows e r.each in
-    let of_loads : (e : ℕ) (l : Link) (c : List ℕ) → slice_get links e ≡ Some l → slice_get counts e ≡ Some c → AreLeast l.modules (load flows e - l.fixed) c = λ e l c p q. subst (λ w. AreLeast l.modules (w - l.fixed) c) (sym (same e)) (least.least e l c p q) in
+    let of_loads : (e : ℕ) (l : Link) (c : List ℕ) → slice_get links e ≡ Some l → slice_get counts e ≡ Some c → AreCheapest l.modules (load flows e - l.fixed) c = λ e l c p q. subst (λ w. AreCheapest l.modules (w - l.fixed) c) (sym (same e)) (least.least e l c p q) in
     record {
       routing = record { den = 1; flows = flows };
       whole = refl;
@@ -155,10 +155,10 @@ unserved links listed s demands flows e l each at none =
     ∙ load_none links listed s demands flows e each (λ v. let one : v.link ≡ l = cc (v.at, at) in v.served (ap (λ (x : Link). x.modules) one ∙ none))
 
 -- counts for the same loads
-pub same_loads : (links : List Link) (a b : ℕ → ℕ) (counts : List (List ℕ)) → ((e : ℕ) → e < length links → a e ≡ b e) → AreLeastCounts links a counts → AreLeastCounts links b counts
+pub same_loads : (links : List Link) (a b : ℕ → ℕ) (counts : List (List ℕ)) → ((e : ℕ) → e < length links → a e ≡ b e) → AreCheapestCounts links a counts → AreCheapestCounts links b counts
 same_loads links a b counts same least = record {
   long = least.long;
-  least = λ e l c p q. subst (λ w. AreLeast l.modules (w - l.fixed) c) (same e (slice_get_within links e l p)) (least.least e l c p q);
+  least = λ e l c p q. subst (λ w. AreCheapest l.modules (w - l.fixed) c) (same e (slice_get_within links e l p)) (least.least e l c p q);
 }
 
 -- each link of a network is sound

@@ -1,6 +1,6 @@
 ghost use Rattle.std.specs.Prelude.{◌≡◌, ℕ, ◌-◌, ◌*◌, ◌^◌, ◌<◌, ◌≤◌, All, IfOk, [], length, replicate, slice_set};
 ghost use Rattle.net_core.specs.Network.{IsModule};
-ghost use Rattle.plan_terms.specs.Capacities.{AreLeast};
+ghost use Rattle.plan_terms.specs.Capacities.{AreCheapest};
 ghost use Rattle.planner_top.specs.Choice.{IsBestKind};
 
 use net_core::{Link, List, Module, NoMemory};
@@ -66,7 +66,7 @@ fn no_modules(alloc: Global, kinds: usize) -> Result<List<u64>, NoMemory>
 pub fn link_counts(alloc: Global, l: &Link, load: u64) -> Result<List<u64>, NoMemory>
     requires each { All IsModule l.now.modules }
     requires served { l.now.modules ≡ [] → load ≤ l.now.fixed }
-    ensures { IfOk result (λ c. AreLeast l.now.modules (load - l.now.fixed) c) }
+    ensures { IfOk result (λ c. AreCheapest l.now.modules (load - l.now.fixed) c) }
 {
     let need = load.saturating_sub(l.fixed);
     let modules = l.modules.items();

@@ -3,7 +3,7 @@ ghost use Rattle.net_core.specs.Demands.{AreDemands};
 ghost use Rattle.net_core.specs.Network.{IsLink, IsModule};
 ghost use Rattle.net_core.specs.declared.network.Link.{Link};
 ghost use Rattle.plan_terms.specs.Paths.{Joins};
-ghost use Rattle.planner_top.specs.Plans.{AreLeastCounts, IsOnePathPlan, IsPlanned};
+ghost use Rattle.planner_top.specs.Plans.{AreCheapestCounts, IsOnePathPlan, IsPlanned};
 ghost use Rattle.planner_top.specs.Routes.{AreRoutes};
 
 use crate::choice::link_counts;
@@ -26,7 +26,7 @@ fn counts_of(alloc: Global, links: &[Link], loads: &[u64]) -> Result<Counts, NoM
     requires sizes { length loads.now ≡ length links.now }
     requires each { All (λ l. All IsModule l.modules) links.now }
     requires served { (e : ℕ) (l : Link) → slice_get links.now e ≡ Some l → l.modules ≡ [] → slice_index loads.now e ≤ l.fixed }
-    ensures { IfOk result (AreLeastCounts links.now (slice_index loads.now)) }
+    ensures { IfOk result (AreCheapestCounts links.now (slice_index loads.now)) }
 {
     let mut counts = List::new(alloc);
     for e in 0..links.len() {

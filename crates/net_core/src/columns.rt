@@ -1,0 +1,76 @@
+use crate::ids::{LinkId, StateId};
+use crate::list::{Copied, NoMemory};
+use crate::plan::{Lengths, Path};
+
+/// A column of the program that routes the demands of a state.
+#[derive(Drop)]
+pub enum RouteColumn {
+    /// What a link has left.
+    LinkSlack(LinkId),
+    /// What of a demand is not carried, by the demand's place.
+    DemandSlack(u32),
+    /// A demand, by its place, along a path.
+    Carry(u32, Path),
+}
+
+/// A column of the program that finds the best certificate of some cuts.
+#[derive(Drop)]
+pub enum MasterColumn {
+    /// What a link's price leaves of its cost.
+    LinkSlack(LinkId),
+    /// A cut: its state, and one length for each link.
+    Metric(StateId, Lengths),
+}
+
+/// What of a basis of columns `C` is too wide for the numbers that hold it. A row is named by its place among the
+/// rows of the inverse; the count of rows names the objective row.
+#[derive(Drop)]
+pub enum WideKind<C> {
+    /// A number of the column, in the program itself.
+    Number(C),
+    /// A number of the row.
+    Row(u32),
+    /// The product of the row and the column.
+    Product(u32, C),
+    /// The sum of the products of the row and the bounds.
+    Sum(u32),
+    /// The common denominator of all rows.
+    Common,
+    /// A value, or a sum of the certificate.
+    Value,
+    /// The length of the link.
+    Length(LinkId),
+}
+
+impl Copied for RouteColumn {
+    fn copy(&self) -> Result<RouteColumn, NoMemory> {
+        Ok(match self {
+            RouteColumn::LinkSlack(link) => RouteColumn::LinkSlack(*link),
+            RouteColumn::DemandSlack(demand) => RouteColumn::DemandSlack(*demand),
+            RouteColumn::Carry(demand, path) => RouteColumn::Carry(*demand, path.copy()?),
+        })
+    }
+}
+
+impl Copied for MasterColumn {
+    fn copy(&self) -> Result<MasterColumn, NoMemory> {
+        Ok(match self {
+            MasterColumn::LinkSlack(link) => MasterColumn::LinkSlack(*link),
+            MasterColumn::Metric(state, lengths) => MasterColumn::Metric(*state, lengths.copy()?),
+        })
+    }
+}
+
+impl<C: Copied> Copied for WideKind<C> {
+    fn copy(&self) -> Result<WideKind<C>, NoMemory> {
+        Ok(match self {
+            WideKind::Number(column) => WideKind::Number(column.copy()?),
+            WideKind::Row(row) => WideKind::Row(*row),
+            WideKind::Product(row, column) => WideKind::Product(*row, column.copy()?),
+            WideKind::Sum(row) => WideKind::Sum(*row),
+            WideKind::Common => WideKind::Common,
+            WideKind::Value => WideKind::Value,
+            WideKind::Length(link) => WideKind::Length(*link),
+        })
+    }
+}

@@ -1,0 +1,47 @@
+-- the plan that takes one path for each demand in each state, and cheap modules of one kind on each link
+use Rattle.std.specs.Prelude.{◌≡◌, ℕ, ◌+◌, ◌<◌, ◌==◌, List, [], ◌∷◌, Some, All, count_by, length, map, max, slice_get}
+use Rattle.net_core.specs.declared.demand.Demand.{Demand}
+use Rattle.net_core.specs.declared.network.Link.{Link}
+use Rattle.net_core.specs.declared.plan.Flow.{Flow}
+use Rattle.net_core.specs.declared.plan.Routing.{Routing}
+use Rattle.net_core.specs.declared.states.Listed.{Listed}
+use Rattle.plan_terms.specs.Capacities.{AreCounts, AreCheapestCounts, capacities, total_cost}
+use Rattle.plan_terms.specs.Flows.{Carries, load}
+use Rattle.plan_terms.specs.LeastPaths.{IsLeastPath}
+use Rattle.plan_terms.specs.Paths.{Joins}
+use Rattle.plan_terms.specs.Prices.{ArePriceLengths}
+
+-- the whole need of a demand along the least of its shortest paths
+pub record IsLeastFlow (joins : ℕ → ℕ → ℕ → Type 0) (lengths : List ℕ) (demands : List Demand) (f : Flow) : Type 0 where
+  pub of : Demand
+  pub at : slice_get demands f.demand ≡ Some of
+  pub positive : 0 < of.need
+  pub num : f.num ≡ of.need
+  pub path : IsLeastPath joins lengths of.from.0 of.to.0 f.path
+
+-- one such flow for each demand that has a need
+pub record IsLeastRouting (joins : ℕ → ℕ → ℕ → Type 0) (lengths : List ℕ) (demands : List Demand) (routing : Routing) : Type 0 where
+  pub whole : routing.den ≡ 1
+  pub each : All (IsLeastFlow joins lengths demands) routing.flows
+  pub one : (k : ℕ) (d : Demand) → slice_get demands k ≡ Some d → 0 < d.need → count_by (λ f. f.demand == k) routing.flows ≡ 1
+
+-- the greatest load of link e over the routings
+abbrev pub peak : List Routing → ℕ → ℕ
+peak [] e = 0
+peak (r ∷ rs) e = max (load r.flows e) (peak rs e)
+
+-- lengths of 1 or more: the price lengths, each plus 1
+abbrev pub raised : List ℕ → List ℕ
+raised prices = map (λ n. n + 1) prices
+
+-- The fallback plan: in each state each demand takes the least of its paths that are shortest under the price lengths plus 1, each link's
+-- counts are the least that reach its greatest load less its pre-installed capacity, and so the routings carry the demands in each state.
+pub record IsFallback (links : List Link) (listed : List Listed) (demands : List Demand) (counts : List (List ℕ)) (routings : List Routing) (cost : ℕ) : Type 0 where
+  pub prices : List ℕ
+  pub priced : ArePriceLengths links prices
+  pub states : length routings ≡ length listed + 1
+  pub routed : (s : ℕ) (r : Routing) → slice_get routings s ≡ Some r → IsLeastRouting (Joins links listed s) (raised prices) demands r
+  pub carries : (s : ℕ) (r : Routing) → slice_get routings s ≡ Some r → Carries (Joins links listed s) demands 1 (capacities links counts) r
+  pub shape : AreCounts links counts
+  pub cheapest : AreCheapestCounts links (peak routings) counts
+  pub paid : cost ≡ total_cost links counts
