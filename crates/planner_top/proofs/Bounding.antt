@@ -17,7 +17,7 @@ use Rattle.plan_terms.proofs.Duality.{weak_duality}
 use Rattle.plan_terms.proofs.OwnBounds.{certificate_checked, empty_certificate, empty_raw}
 use Rattle.metric_cut.specs.Keeping.{Keeps}
 use Rattle.metric_cut.specs.declared.cut.Cut.{Cut}
-use Rattle.planner_top.specs.Bounds.{IsCertified, IsGreatest, IsStateBound, IsUnitBound, unit_lengths}
+use Rattle.planner_top.specs.Bounds.{IsCertified, IsGreatestUnitBound, IsStateBound, IsUnitBound, unit_lengths}
 use Rattle.planner_top.specs.declared.bound.Bounded.{Bounded}
 use Rattle.planner_top.specs.declared.bound.CertifiedCut.{CertifiedCut}
 
@@ -38,6 +38,7 @@ bare_bound links listed demands s bound own b =
         raw = subst (λ n. IsLowest n 1 0 1) (sym raw) (record { same = refl; lowest = λ k none' one. eq-one_of_dvd-one one });
         rounded = rounded;
         positive = tt;
+        unit = tt;
         least = λ counts able. weak_duality links listed demands 1 [] bound counts (empty_certificate links listed demands) rounded able;
       };
       own = subst (IsUnitBound links listed demands s) (sym none) own;
@@ -80,6 +81,7 @@ cut_bound nodes links listed demands s kept right num den raw_num raw_den bound 
         raw = raw;
         rounded = rounded;
         positive = some;
+        unit = record { keeps = keeps; multiplier = greatest };
         least = λ counts able. weak_duality links listed demands den (alone s kept right num) bound counts certificate rounded able;
       };
       own = inr (kept, right, keeps, rights, record { num = num; den = den; multiplier = greatest; rounded = rounded });
@@ -144,7 +146,7 @@ greatest_more bounds n x top count each le s lt = ⊎_elim
     (cases_lt s n)
 
 -- the state without failures alone
-pub greatest_one : (links : List Link) (listed : List Listed) (demands : List Demand) (b : Bounded) → IsStateBound links listed demands 0 b → IsGreatest links listed demands 1 b
+pub greatest_one : (links : List Link) (listed : List Listed) (demands : List Demand) (b : Bounded) → IsStateBound links listed demands 0 b → IsGreatestUnitBound links listed demands 1 b
 greatest_one links listed demands b is = record {
   bounds = b.bound ∷ [];
   count = refl;
@@ -157,7 +159,7 @@ greatest_one links listed demands b is = record {
 }
 
 -- a state whose bound isn't greater
-pub greatest_kept : (links : List Link) (listed : List Listed) (demands : List Demand) (n : ℕ) (b other : Bounded) → IsGreatest links listed demands n b → IsStateBound links listed demands n other → other.bound ≤ b.bound → IsGreatest links listed demands (n + 1) b
+pub greatest_kept : (links : List Link) (listed : List Listed) (demands : List Demand) (n : ℕ) (b other : Bounded) → IsGreatestUnitBound links listed demands n b → IsStateBound links listed demands n other → other.bound ≤ b.bound → IsGreatestUnitBound links listed demands (n + 1) b
 greatest_kept links listed demands n b other g is le = record {
   bounds = g.bounds ++ other.bound ∷ [];
   count = omega (arith, length-append g.bounds (other.bound ∷ []), g.count);
@@ -168,7 +170,7 @@ greatest_kept links listed demands n b other g is le = record {
 }
 
 -- a state whose bound is greater
-pub greatest_taken : (links : List Link) (listed : List Listed) (demands : List Demand) (n : ℕ) (b other : Bounded) → IsGreatest links listed demands n b → IsStateBound links listed demands n other → b.bound < other.bound → IsGreatest links listed demands (n + 1) other
+pub greatest_taken : (links : List Link) (listed : List Listed) (demands : List Demand) (n : ℕ) (b other : Bounded) → IsGreatestUnitBound links listed demands n b → IsStateBound links listed demands n other → b.bound < other.bound → IsGreatestUnitBound links listed demands (n + 1) other
 greatest_taken links listed demands n b other g is lt = record {
   bounds = g.bounds ++ other.bound ∷ [];
   count = omega (arith, length-append g.bounds (other.bound ∷ []), g.count);
@@ -180,9 +182,9 @@ greatest_taken links listed demands n b other g is lt = record {
 }
 
 -- the greater of the best so far and that of the next state
-pub next_best : (links : List Link) (listed : List Listed) (demands : List Demand) (n : ℕ) (b other next : Bounded) → IsCertified links listed demands b × IsGreatest links listed demands n b → IsStateBound links listed demands n other
-    → ((b.bound < other.bound) × (next ≡ other)) ⊎ ((other.bound ≤ b.bound) × (next ≡ b)) → IsCertified links listed demands next × IsGreatest links listed demands (n + 1) next
+pub next_best : (links : List Link) (listed : List Listed) (demands : List Demand) (n : ℕ) (b other next : Bounded) → IsCertified links listed demands b × IsGreatestUnitBound links listed demands n b → IsStateBound links listed demands n other
+    → ((b.bound < other.bound) × (next ≡ other)) ⊎ ((other.bound ≤ b.bound) × (next ≡ b)) → IsCertified links listed demands next × IsGreatestUnitBound links listed demands (n + 1) next
 next_best links listed demands n b other next so_far is (inl more) =
-    subst (λ x. IsCertified links listed demands x × IsGreatest links listed demands (n + 1) x) (sym more.1) (is.certified, greatest_taken links listed demands n b other so_far.1 is more.0)
+    subst (λ x. IsCertified links listed demands x × IsGreatestUnitBound links listed demands (n + 1) x) (sym more.1) (is.certified, greatest_taken links listed demands n b other so_far.1 is more.0)
 next_best links listed demands n b other next so_far is (inr less) =
-    subst (λ x. IsCertified links listed demands x × IsGreatest links listed demands (n + 1) x) (sym less.1) (so_far.0, greatest_kept links listed demands n b other so_far.1 is less.0)
+    subst (λ x. IsCertified links listed demands x × IsGreatestUnitBound links listed demands (n + 1) x) (sym less.1) (so_far.0, greatest_kept links listed demands n b other so_far.1 is less.0)

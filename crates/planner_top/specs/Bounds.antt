@@ -5,7 +5,7 @@ use Rattle.net_core.specs.declared.network.Link.{Link}
 use Rattle.net_core.specs.declared.states.Listed.{Listed}
 use Rattle.plan_terms.specs.Capacities.{IsAble, total_cost}
 use Rattle.plan_terms.specs.Certificates.{IsBound, IsCertificate, IsLowest, IsRight, Line, raw_value}
-use Rattle.plan_terms.specs.OwnBounds.{IsOwnBound, alone}
+use Rattle.plan_terms.specs.OwnBounds.{IsMultiplier, IsOwnBound, alone}
 use Rattle.plan_terms.specs.Paths.{Joins}
 use Rattle.metric_cut.specs.Keeping.{AreZero, Keeps}
 use Rattle.planner_top.specs.declared.bound.CertifiedCut.{CertifiedCut}
@@ -31,8 +31,13 @@ IsUnitBound links listed demands s bound =
     (AreZero links listed s (unit_lengths links) × (bound ≡ 0))
     ⊎ ((kept : List ℕ) × (right : ℕ) × Keeps links listed s (unit_lengths links) kept × IsRight (Joins links listed s) kept demands right × IsOwnBound links s kept right bound)
 
--- The bound is the greatest own bound of the unit cuts of n states, and the cut of the certificate is that of the first state that has it.
-pub record IsGreatest (links : List Link) (listed : List Listed) (demands : List Demand) (n : ℕ) (b : Bounded) : Type 0 where
+-- the cut is what its state keeps of unit lengths, with its greatest valid multiplier
+pub record IsUnitCut (links : List Link) (listed : List Listed) (c : CertifiedCut) : Type 0 where
+  pub keeps : Keeps links listed c.line.state.0 (unit_lengths links) c.line.lengths
+  pub multiplier : IsMultiplier links c.line.lengths c.multiplier.num c.multiplier.den
+
+-- the bound is the greatest own bound of the unit cuts of n states, and the state of the printed cut is the first that has it
+pub record IsGreatestUnitBound (links : List Link) (listed : List Listed) (demands : List Demand) (n : ℕ) (b : Bounded) : Type 0 where
   pub bounds : List ℕ
   pub count : length bounds ≡ n
   pub each : (s : ℕ) → s < n → IsUnitBound links listed demands s (slice_index bounds s)
@@ -40,12 +45,13 @@ pub record IsGreatest (links : List Link) (listed : List Listed) (demands : List
   pub reached : IfSome b.cut (λ c. (c.line.state.0 < n) × (slice_index bounds c.line.state.0 ≡ b.bound))
   pub first : IfSome b.cut (λ c. (s : ℕ) → s < c.line.state.0 → slice_index bounds s < b.bound)
 
--- The printed certificate is valid, the printed raw value and bound are its own, and no counts that can carry the demands in each state cost less than the bound.
+-- The printed certificate is valid and that of a unit cut, the printed raw value and bound are its own, and no counts that can carry the demands in each state cost less than the bound.
 pub record IsCertified (links : List Link) (listed : List Listed) (demands : List Demand) (b : Bounded) : Type 0 where
   pub certificate : IsCertificate links listed demands (denominator_of b.cut) (lines_of b.cut)
   pub raw : IsLowest (raw_value links (lines_of b.cut)) (denominator_of b.cut) b.raw.num b.raw.den
   pub rounded : IsBound links (raw_value links (lines_of b.cut)) (denominator_of b.cut) b.bound
   pub positive : IfSome b.cut (λ _. 0 < b.raw.num)
+  pub unit : IfSome b.cut (IsUnitCut links listed)
   pub least : (counts : List (List ℕ)) → IsAble links listed demands counts → b.bound ≤ total_cost links counts
 
 -- a certified bound, the own bound of the unit cut of state s
@@ -57,4 +63,4 @@ pub record IsStateBound (links : List Link) (listed : List Listed) (demands : Li
 -- a certified bound, the greatest own bound of the unit cuts of all states
 pub record IsBounded (links : List Link) (listed : List Listed) (demands : List Demand) (b : Bounded) : Type 0 where
   pub certified : IsCertified links listed demands b
-  pub greatest : IsGreatest links listed demands (length listed + 1) b
+  pub greatest : IsGreatestUnitBound links listed demands (length listed + 1) b

@@ -13,9 +13,9 @@ abbrev pub default : List ℕ
 default = codes "default"
 
 -- a word that may stand for a file: it isn't empty and doesn't begin with `-`
-abbrev pub names_file : List ℕ → Bool
-names_file [] = false
-names_file (b ∷ bytes) = not (b == 45)
+abbrev pub may_be_file : List ℕ → Bool
+may_be_file [] = false
+may_be_file (b ∷ bytes) = not (b == 45)
 
 -- one, two or three words are the files; a word that is missing is read as `default`
 abbrev pub AreFiles : List (List ℕ) → Command → Type 0
@@ -28,7 +28,7 @@ AreFiles _ c = ⊥
 abbrev pub IsCommand : List (String Global) → Command → Type 0
 IsCommand [] c = ⊥
 IsCommand (command ∷ files) c =
-    (string_bytes command ≡ codes "plan") × All (λ w. names_file (string_bytes w) ≡ true) files × AreFiles (map string_bytes files) c
+    (string_bytes command ≡ codes "plan") × All (λ w. may_be_file (string_bytes w) ≡ true) files × AreFiles (map string_bytes files) c
 
 -- the line that answers words outside the grammar
 abbrev pub usage : List ℕ

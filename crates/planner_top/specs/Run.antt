@@ -55,7 +55,7 @@ state_name listed zero = codes "none"
 state_name listed (suc i) = option_map_or (λ l. l.name) (slice_get listed i) []
 
 -- the text names the first state that separates a demand which has a need, and the first such demand
-pub record IsSeparated (links : List Link) (listed : List Listed) (demands : List Demand) (text : List ℕ) : Type 0 where
+pub record NamesFirstSeparation (links : List Link) (listed : List Listed) (demands : List Demand) (text : List ℕ) : Type 0 where
   pub state : ℕ
   pub place : ℕ
   pub demand : Demand
@@ -72,7 +72,7 @@ HasInputs files c net demands listed =
 abbrev pub EndsPlan : List Link → List Listed → List Demand → Status → List ℕ → Type 0
 EndsPlan links listed demands status text =
     ((status ≡ Done) × IsPlan links listed demands text)
-    ⊎ ((status ≡ NotSurvivable) × IsSeparated links listed demands text)
+    ⊎ ((status ≡ NotSurvivable) × NamesFirstSeparation links listed demands text)
 
 -- A failure list ends the run: it is named though the model has no survivability, or its file is not read.
 abbrev pub EndsFailures : Option Files → Command → List Link → Bool → Status → List ℕ → Type 0

@@ -34,7 +34,7 @@ fn units(alloc: Global, links: usize) -> Result<Lengths, NoMemory>
     Ok(List::from_vec(lengths))
 }
 
-/// The bound of an empty certificate.
+/// The bound of an empty certificate. Of states and demands the contract alone speaks.
 fn bare(net: &Network, _states: &States, _demands: &[Demand], _state: StateId) -> Bounded
     requires { IsUnitBound net.now.links _states.now.listed _demands.now _state.0 0 }
     ensures { IsStateBound net.now.links _states.now.listed _demands.now _state.0 result }

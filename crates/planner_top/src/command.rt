@@ -1,5 +1,5 @@
 ghost use Rattle.std.specs.Prelude.{◌≡◌, ℕ, List, All, IsTrue, ◌↔◌, MatchOption, codes, map, string_bytes, true};
-ghost use Rattle.planner_top.specs.Commands.{AreFiles, Command, IsCommand, names_file};
+ghost use Rattle.planner_top.specs.Commands.{AreFiles, Command, IsCommand, may_be_file};
 ghost use Rattle.planner_top.specs.Inputs.{named};
 
 /// The word for a model or a failure list that is in no file.
@@ -21,8 +21,8 @@ fn is_plan(word: &str) -> bool
 }
 
 /// Whether a word may stand for a file.
-fn names_file(word: &str) -> bool
-    ensures { result ≡ names_file word.now }
+fn may_be_file(word: &str) -> bool
+    ensures { result ≡ may_be_file word.now }
 {
     match word.as_bytes() {
         [] => false,
@@ -31,10 +31,10 @@ fn names_file(word: &str) -> bool
 }
 
 /// Whether all words may stand for files.
-fn all_name_files(words: &[String]) -> bool
-    ensures { IsTrue result ↔ All (λ w. names_file (string_bytes w) ≡ true) words.now }
+fn all_may_be_files(words: &[String]) -> bool
+    ensures { IsTrue result ↔ All (λ w. may_be_file (string_bytes w) ≡ true) words.now }
 {
-    words.iter().all(|w| names_file(w.as_str()))
+    words.iter().all(|w| may_be_file(w.as_str()))
 }
 
 /// The files that one, two or three words name.
@@ -68,7 +68,7 @@ pub fn command_of(words: &[String]) -> Option<PlanFiles<'_>>
     let Some((command, files)) = words.split_first() else {
         return None;
     };
-    if is_plan(command.as_str()) && all_name_files(files) {
+    if is_plan(command.as_str()) && all_may_be_files(files) {
         files_of(files)
     } else {
         None

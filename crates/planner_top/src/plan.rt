@@ -43,7 +43,7 @@ fn separated_line(
     Ok(text)
 }
 
-/// The answer to a network that isn't survivable.
+/// The answer to a network that isn't survivable. Of the network the contract alone speaks.
 fn separated(
     alloc: Global,
     _net: &Network,

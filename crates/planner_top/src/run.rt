@@ -75,6 +75,7 @@ pub fn run<Rt: Threads + Wait + Sync, S: Shelf, K: Sink, G: Gate>(
 ) -> Status
     // What the run comes to has its cause in the words and the files, and its text is written.
     ensures outcome { (status : Status) × (text : List ℕ) × Ends words.now (S.files shelf.old) status text
+        × (status ≡ Status.ReadFault → Rose (S.faults shelf.old) (S.faults shelf.new))
         × Writes status text result (K.taken out.old) (K.taken out.new) (K.faults out.old) (K.faults out.new) }
     // Reading has failed only where the shelf has counted it.
     ensures read { result ≡ Status.ReadFault → Rose (S.faults shelf.old) (S.faults shelf.new) }

@@ -125,126 +125,136 @@ const LAST_FAILS: &[u8] = b"?planner failures; version: 1
 FAILURES ( f ( BC ) )
 ";
 
-/// The files, by their names.
-const FILES: [(&str, &[u8]); 14] = [
-    ("triangle", TRIANGLE),
-    ("fixed", FIXED_TRIANGLE),
-    ("parallel", PARALLEL),
-    ("chain", CHAIN),
-    ("idle", IDLE_CHAIN),
-    ("bare", NO_MODULE),
-    ("stuck", FIXED_LINK),
-    ("cut", CUT_OFF),
-    ("towns", FOUR_TOWNS),
-    ("reconfigure", RECONFIGURE),
-    ("plain", NO_SURVIVABILITY),
-    ("hops", HOP_LIMITS),
-    ("single", SINGLE),
-    ("last", LAST_FAILS),
-];
+/// How many files there are.
+const FILES: usize = 14;
+
+/// The name and the bytes of each file.
+fn file(at: usize) -> (&'static str, &'static [u8]) {
+    match at {
+        0 => ("triangle", TRIANGLE),
+        1 => ("fixed", FIXED_TRIANGLE),
+        2 => ("parallel", PARALLEL),
+        3 => ("chain", CHAIN),
+        4 => ("idle", IDLE_CHAIN),
+        5 => ("bare", NO_MODULE),
+        6 => ("stuck", FIXED_LINK),
+        7 => ("cut", CUT_OFF),
+        8 => ("towns", FOUR_TOWNS),
+        9 => ("reconfigure", RECONFIGURE),
+        10 => ("plain", NO_SURVIVABILITY),
+        11 => ("hops", HOP_LIMITS),
+        12 => ("single", SINGLE),
+        _ => ("last", LAST_FAILS),
+    }
+}
 
 const USAGE: &str =
     "usage: plan NET [MODEL [FAILURES]] | session NET MODEL FAILURES SCRIPT | check NET MODEL FAILURES REPORT | sample SEED N\n";
 
+/// How many cases there are.
+const CASES: usize = 24;
+
 /// Words, and the status and the text that they come to.
-const RUNS: [(&str, Status, &str); 24] = [
-    (
-        "plan triangle",
-        Status::Done,
-        "cost 10.000\nlink AB 0\nlink BC 0\nlink AC 2\nbound 10.000\nraw 6000 1\ncut 0 2 1 12000 1 1 1\n",
-    ),
-    (
-        "plan triangle default",
-        Status::Done,
-        "cost 10.000\nlink AB 0\nlink BC 0\nlink AC 2\nbound 10.000\nraw 6000 1\ncut 0 2 1 12000 1 1 1\n",
-    ),
-    (
-        "plan triangle reconfigure",
-        Status::Done,
-        "cost 30.000\nlink AB 2\nlink BC 2\nlink AC 2\nbound 15.000\nraw 12000 1\ncut 3 2 1 24000 1 1 0\n",
-    ),
-    (
-        "plan parallel default single",
-        Status::Done,
-        "cost 20.000\nlink L1 10\nlink L2 10\nlink L3 0\nbound 10.000\nraw 10000 1\ncut 0 1 1 10000 1 1 1\n",
-    ),
-    (
-        "plan towns reconfigure",
-        Status::Done,
-        "cost 600.000\nlink L1 2 0\nlink L2 1 0\nlink L3 1 0\nlink L4 1 0\nlink L5 1 0\nbound 150.000\nraw 35000000 311\ncut 1 311 125 280000 0 1 1 1 1\n",
-    ),
-    (
-        "plan fixed plain",
-        Status::Done,
-        "cost 0.000\nlink AB 0\nlink BC 0\nlink AC 0\nbound 0.000\nraw 0 1\n",
-    ),
-    (
-        "plan chain reconfigure last",
-        Status::NotSurvivable,
-        "not survivable: state 1 f demand D1\n",
-    ),
-    (
-        "plan idle default last",
-        Status::Done,
-        "cost 0.000\nlink AB 0\nlink BC 0\nbound 0.000\nraw 0 1\n",
-    ),
-    (
-        "plan bare",
-        Status::NotSurvivable,
-        "not survivable: state 0 none demand D1\n",
-    ),
-    (
-        "plan stuck",
-        Status::BadNetwork,
-        "refused network fixed-link at 93\n",
-    ),
-    (
-        "plan cut",
-        Status::BadNetwork,
-        "refused network ended at 78\n",
-    ),
-    (
-        "plan hops",
-        Status::BadNetwork,
-        "refused network header at 0\n",
-    ),
-    (
-        "plan chain hops",
-        Status::BadModel,
-        "refused model unsupported-HOP_LIMIT_MODEL at 67\n",
-    ),
-    (
-        "plan chain chain",
-        Status::BadModel,
-        "refused model header at 0\n",
-    ),
-    (
-        "plan triangle plain last",
-        Status::BadFailures,
-        "refused failures unused at 0\n",
-    ),
-    (
-        "plan triangle plain nowhere",
-        Status::BadFailures,
-        "refused failures unused at 0\n",
-    ),
-    (
-        "plan parallel default last",
-        Status::BadFailures,
-        "refused failures unknown-link at 45\n",
-    ),
-    ("plan X", Status::NoFile, "no file X\n"),
-    ("plan triangle X last", Status::NoFile, "no file X\n"),
-    ("plan triangle default X", Status::NoFile, "no file X\n"),
-    ("plan", Status::BadWords, USAGE),
-    ("plan triangle -reconfigure", Status::BadWords, USAGE),
-    (
-        "plan triangle default default default",
-        Status::BadWords,
-        USAGE,
-    ),
-    ("plans triangle", Status::BadWords, USAGE),
-];
+fn case(at: usize) -> (&'static str, Status, &'static str) {
+    match at {
+        0 => (
+            "plan triangle",
+            Status::Done,
+            "cost 10.000\nlink AB 0\nlink BC 0\nlink AC 2\nbound 10.000\nraw 6000 1\ncut 0 2 1 12000 1 1 1\n",
+        ),
+        1 => (
+            "plan triangle default",
+            Status::Done,
+            "cost 10.000\nlink AB 0\nlink BC 0\nlink AC 2\nbound 10.000\nraw 6000 1\ncut 0 2 1 12000 1 1 1\n",
+        ),
+        2 => (
+            "plan triangle reconfigure",
+            Status::Done,
+            "cost 30.000\nlink AB 2\nlink BC 2\nlink AC 2\nbound 15.000\nraw 12000 1\ncut 3 2 1 24000 1 1 0\n",
+        ),
+        3 => (
+            "plan parallel default single",
+            Status::Done,
+            "cost 20.000\nlink L1 10\nlink L2 10\nlink L3 0\nbound 10.000\nraw 10000 1\ncut 0 1 1 10000 1 1 1\n",
+        ),
+        4 => (
+            "plan towns reconfigure",
+            Status::Done,
+            "cost 600.000\nlink L1 2 0\nlink L2 1 0\nlink L3 1 0\nlink L4 1 0\nlink L5 1 0\nbound 150.000\nraw 35000000 311\ncut 1 311 125 280000 0 1 1 1 1\n",
+        ),
+        5 => (
+            "plan fixed plain",
+            Status::Done,
+            "cost 0.000\nlink AB 0\nlink BC 0\nlink AC 0\nbound 0.000\nraw 0 1\n",
+        ),
+        6 => (
+            "plan chain reconfigure last",
+            Status::NotSurvivable,
+            "not survivable: state 1 f demand D1\n",
+        ),
+        7 => (
+            "plan idle default last",
+            Status::Done,
+            "cost 0.000\nlink AB 0\nlink BC 0\nbound 0.000\nraw 0 1\n",
+        ),
+        8 => (
+            "plan bare",
+            Status::NotSurvivable,
+            "not survivable: state 0 none demand D1\n",
+        ),
+        9 => (
+            "plan stuck",
+            Status::BadNetwork,
+            "refused network fixed-link at 93\n",
+        ),
+        10 => (
+            "plan cut",
+            Status::BadNetwork,
+            "refused network ended at 78\n",
+        ),
+        11 => (
+            "plan hops",
+            Status::BadNetwork,
+            "refused network header at 0\n",
+        ),
+        12 => (
+            "plan chain hops",
+            Status::BadModel,
+            "refused model unsupported-HOP_LIMIT_MODEL at 67\n",
+        ),
+        13 => (
+            "plan chain chain",
+            Status::BadModel,
+            "refused model header at 0\n",
+        ),
+        14 => (
+            "plan triangle plain last",
+            Status::BadFailures,
+            "refused failures unused at 0\n",
+        ),
+        15 => (
+            "plan triangle plain nowhere",
+            Status::BadFailures,
+            "refused failures unused at 0\n",
+        ),
+        16 => (
+            "plan parallel default last",
+            Status::BadFailures,
+            "refused failures unknown-link at 45\n",
+        ),
+        17 => ("plan X", Status::NoFile, "no file X\n"),
+        18 => ("plan triangle X last", Status::NoFile, "no file X\n"),
+        19 => ("plan triangle default X", Status::NoFile, "no file X\n"),
+        20 => ("plan", Status::BadWords, USAGE),
+        21 => ("plan triangle -reconfigure", Status::BadWords, USAGE),
+        22 => (
+            "plan triangle default default default",
+            Status::BadWords,
+            USAGE,
+        ),
+        _ => ("plans triangle", Status::BadWords, USAGE),
+    }
+}
 
 /// What a run writes, and its status, with these words and files, and with calls that fail.
 fn runs<R: AllocGlobal + Abort + Threads + Wait + Sync>(
@@ -258,7 +268,8 @@ fn runs<R: AllocGlobal + Abort + Threads + Wait + Sync>(
         list.push(word.to_string(rt.alloc())?)?;
     }
     let mut files = List::new(rt.alloc());
-    for (name, bytes) in FILES {
+    for at in 0..FILES {
+        let (name, bytes) = file(at);
         let name = Name::new(rt.alloc(), name.as_bytes())?;
         let bytes = List::from_slice(rt.alloc(), bytes)?;
         assert!(rt; files.push(MemFile { name, bytes }).is_ok());
@@ -273,7 +284,8 @@ fn runs<R: AllocGlobal + Abort + Threads + Wait + Sync>(
 
 #[test]
 fn words_and_files_come_to_their_texts(rt: HostRuntime) -> Result<(), Fail> {
-    for (words, expected, text) in RUNS {
+    for at in 0..CASES {
+        let (words, expected, text) = case(at);
         let (status, out) = runs(&rt, words, &[], &[])?;
         assert_eq!(rt; status, expected);
         assert_eq!(rt; out.bytes(), text.as_bytes());
@@ -289,6 +301,25 @@ fn faults_end_a_run(rt: HostRuntime) -> Result<(), Fail> {
     let (status, out) = runs(&rt, "plan triangle reconfigure single", &[2], &[])?;
     assert_eq!(rt; status, Status::ReadFault);
     assert_eq!(rt; out.bytes(), b"".as_slice());
+    Ok(())
+}
+
+#[test]
+fn what_is_not_due_is_not_fetched(rt: HostRuntime) -> Result<(), Fail> {
+    let (status, out) = runs(&rt, "plan triangle plain last", &[2], &[])?;
+    assert_eq!(rt; status, Status::BadFailures);
+    assert_eq!(rt; out.bytes(), b"refused failures unused at 0\n".as_slice());
+    let (status, out) = runs(&rt, "plan stuck reconfigure", &[1], &[])?;
+    assert_eq!(rt; status, Status::BadNetwork);
+    assert_eq!(rt;
+        out.bytes(),
+        b"refused network fixed-link at 93\n".as_slice()
+    );
+    Ok(())
+}
+
+#[test]
+fn a_fault_of_writing_leaves_a_front(rt: HostRuntime) -> Result<(), Fail> {
     let (status, out) = runs(&rt, "plan triangle", &[], &[0])?;
     assert_eq!(rt; status, Status::WriteFault);
     assert_eq!(rt;

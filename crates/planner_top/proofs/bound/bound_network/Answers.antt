@@ -1,5 +1,5 @@
 use Rattle.std.proofs.Common.{◌≡◌, ◌+◌, arith, length, subst}
-use Rattle.planner_top.specs.Bounds.{IsGreatest}
+use Rattle.planner_top.specs.Bounds.{IsGreatestUnitBound}
 use Rattle.planner_top.proofs.Bounding.{greatest_one, next_best}
 use Rattle.planner_top.proofs.bound.bound_network.Goals as goal
 
@@ -14,5 +14,5 @@ returns c =
     let all : c.loop-s.s ≡ length c.args.states.now.listed + 1 = omega (arith, c.loop-s-test.false, c.loop-s.auto.s, c.loop-s.auto.s-end, c.count-s-end.ensures) in
     record {
       certified = c.loop-s.invariant.0;
-      greatest = subst (λ n. IsGreatest c.args.net.now.links c.args.states.now.listed c.args.demands.now n c.loop-s.best) all c.loop-s.invariant.1;
+      greatest = subst (λ n. IsGreatestUnitBound c.args.net.now.links c.args.states.now.listed c.args.demands.now n c.loop-s.best) all c.loop-s.invariant.1;
     }
