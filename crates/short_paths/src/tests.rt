@@ -1,6 +1,6 @@
 ghost use Rattle.std.specs.Prelude.{◌<◌};
 
-use crate::{all_pairs, distances};
+use crate::{LeastPaths, PathFault, all_pairs, distances, least_path};
 use net_core::{
     Lengths, Link, LinkId, List, Listed, Module, Name, Network, NoMemory, NodeId, Notes, StateId,
     States,
