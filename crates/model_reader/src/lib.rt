@@ -13,7 +13,7 @@ mod single;
 pub use failure_file::read_failures;
 pub use failures::{FailuresKind, FailuresRefusal};
 pub use model::{Model, ModelKey, ModelKind, ModelRefusal};
-pub use settings::read_model;
+pub use settings::{key_word, read_model};
 pub use single::{only_none, single_links};
 
 #[cfg(test)]

@@ -42,7 +42,8 @@ fn bad(at: u64, kind: ModelKind) -> ModelRefusal
     ModelRefusal::Bad { at, kind }
 }
 
-fn key_word(key: ModelKey) -> &'static [u8]
+/// The word of a key.
+pub fn key_word(key: ModelKey) -> &'static [u8]
     ensures { result.now ≡ key_word key }
 {
     match key {

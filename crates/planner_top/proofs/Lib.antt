@@ -1,11 +1,6 @@
+pub mod Answering
 pub mod Bounding
-pub mod Choices
-pub mod Ending
-pub mod Following
-pub mod Numbers
 pub mod Pairs
 pub mod Planning
-pub mod Routing
-pub mod Searching
 pub mod Taking
-pub mod Weights
+pub mod Wording

@@ -1,11 +1,8 @@
 -- two lists taken together, so far and with the next elements
-use Rattle.std.proofs.Common.{◌≡◌, ℕ, zero, suc, ◌+◌, ◌*◌, ◌<◌, List, [], ◌∷◌, ◌++◌, get_or, length, refl, sym, ◌∙◌, ap, arith, take, sum_by, zip, flat_map, add-one, append_assoc}
-use Rattle.std.proofs.lemmas.List.Sums.{sum_by-append}
+use Rattle.std.proofs.Common.{◌≡◌, ℕ, zero, suc, ◌+◌, ◌<◌, List, [], ◌∷◌, ◌++◌, get_or, length, refl, sym, ◌∙◌, ap, arith, take, zip, flat_map, add-one, append_assoc}
 use Rattle.std.proofs.lemmas.Grind.{flat_map-append}
 use Rattle.std.proofs.lemmas.List.{append-nil}
-use Rattle.net_core.specs.declared.network.Module.{Module}
 use Rattle.net_core.specs.declared.network.Link.{Link}
-use Rattle.plan_terms.specs.Capacities.{modules_cost, total_cost}
 use Rattle.planner_top.specs.Texts.{link_line, link_lines}
 
 zip_suc : {A B : Type 0} → (xs : List A) (ys : List B) (i : ℕ) (x : A) (y : B) → i < length xs → i < length ys → zip (take (suc i) xs) (take (suc i) ys) ≡ zip (take i xs) (take i ys) ++ (get_or xs i x, get_or ys i y) ∷ []
@@ -14,22 +11,8 @@ zip_suc (p ∷ xs) [] i x y a b = absurd (omega arith)
 zip_suc (p ∷ xs) (q ∷ ys) zero x y a b = refl
 zip_suc (p ∷ xs) (q ∷ ys) (suc i) x y a b = ap (λ rest. (p, q) ∷ rest) (zip_suc xs ys i x y (omega arith) (omega arith))
 
-pub zip_more : {A B : Type 0} → (xs : List A) (ys : List B) (i : ℕ) (x : A) (y : B) → i < length xs → i < length ys → zip (take (i + 1) xs) (take (i + 1) ys) ≡ zip (take i xs) (take i ys) ++ (get_or xs i x, get_or ys i y) ∷ []
+zip_more : {A B : Type 0} → (xs : List A) (ys : List B) (i : ℕ) (x : A) (y : B) → i < length xs → i < length ys → zip (take (i + 1) xs) (take (i + 1) ys) ≡ zip (take i xs) (take i ys) ++ (get_or xs i x, get_or ys i y) ∷ []
 zip_more xs ys i x y a b = rw add-one (zip_suc xs ys i x y a b)
-
--- the cost with the next kind of module
-pub cost_more : (ms : List Module) (cs : List ℕ) (i : ℕ) (d : Module) → i < length ms → i < length cs → modules_cost (take (i + 1) ms) (take (i + 1) cs) ≡ modules_cost (take i ms) (take i cs) + (get_or ms i d).cost * get_or cs i 0
-cost_more ms cs i d a b =
-    let both = ap (λ ps. sum_by (λ (p : Module × ℕ). p.0.cost * p.1) ps) (zip_more ms cs i d 0 a b) in
-    let parts = sum_by-append (λ (p : Module × ℕ). p.0.cost * p.1) (zip (take i ms) (take i cs)) ((get_or ms i d, get_or cs i 0) ∷ []) in
-    omega (arith, both, parts)
-
--- the cost with the next link
-pub total_more : (links : List Link) (counts : List (List ℕ)) (i : ℕ) (d : Link) (c : List ℕ) → i < length links → i < length counts → total_cost (take (i + 1) links) (take (i + 1) counts) ≡ total_cost (take i links) (take i counts) + modules_cost (get_or links i d).modules (get_or counts i c)
-total_more links counts i d c a b =
-    let both = ap (λ ps. sum_by (λ (p : Link × List ℕ). modules_cost p.0.modules p.1) ps) (zip_more links counts i d c a b) in
-    let parts = sum_by-append (λ (p : Link × List ℕ). modules_cost p.0.modules p.1) (zip (take i links) (take i counts)) ((get_or links i d, get_or counts i c) ∷ []) in
-    omega (arith, both, parts)
 
 -- the lines with that of the next link
 pub lines_more : (links : List Link) (counts : List (List ℕ)) (i : ℕ) (d : Link) (c : List ℕ) → i < length links → i < length counts → link_lines (take (i + 1) links) (take (i + 1) counts) ≡ link_lines (take i links) (take i counts) ++ link_line (get_or links i d) (get_or counts i c)

@@ -1,7 +1,6 @@
 pub mod Bounds
-pub mod Choice
-pub mod Plans
-pub mod Routes
+pub mod Commands
+pub mod Inputs
+pub mod Refusals
 pub mod Run
 pub mod Texts
-pub mod Trees

@@ -1,14 +1,20 @@
 -- what a run comes to: its status, and the text that it writes
-use Rattle.std.specs.Prelude.{◌≡◌, ℕ, ◌^◌, ◌≤◌, ◌<◌, ◌==◌, ◌⊎◌, Bool, true, false, not, List, [], ◌∷◌, ◌++◌, Option, None, Some, IsSomeAnd, String, string_bytes, codes, length, slice_get}
+use Rattle.std.specs.Prelude.{◌≡◌, ◌≢◌, ℕ, zero, suc, ◌≤◌, ◌⊎◌, Bool, true, false, List, [], ◌∷◌, ◌++◌, Option, None, Some, IsSomeAnd, String, codes, decimal, slice_get}
 use Rattle.std.specs.Global.{Global}
+use Rattle.std.specs.Option.{option_map_or}
 use Rattle.net_core.specs.declared.demand.Demand.{Demand}
+use Rattle.net_core.specs.declared.network.Link.{Link}
 use Rattle.net_core.specs.declared.network.Network.{Network}
-use Rattle.outside_io.specs.Outside.{Files, Rose, TakesFront, content}
+use Rattle.net_core.specs.declared.plan.Routing.{Routing}
+use Rattle.net_core.specs.declared.states.Listed.{Listed}
+use Rattle.outside_io.specs.Outside.{Files, Rose, TakesFront}
 use Rattle.plan_terms.specs.Capacities.{IsAble}
+use Rattle.plan_terms.specs.Fallbacks.{IsFallback}
 use Rattle.plan_terms.specs.Separations.{IsFirstSeparation}
-use Rattle.sndlib_reader.specs.Spelling.{Spells}
 use Rattle.planner_top.specs.Bounds.{IsBounded}
-use Rattle.planner_top.specs.Plans.{IsOnePathPlan}
+use Rattle.planner_top.specs.Commands.{Command, IsCommand, default, usage}
+use Rattle.planner_top.specs.Inputs.{EndsFile, HasModel, HasNetwork, HasStates, OrNoMemory, RefusesFailures, RefusesModel, RefusesNetwork}
+use Rattle.planner_top.specs.Refusals.{unused_line}
 use Rattle.planner_top.specs.Texts.{short_form}
 use Rattle.planner_top.specs.declared.bound.Bounded.{Bounded}
 use Rattle.planner_top.specs.declared.status.Status.{Status}
@@ -31,105 +37,74 @@ status_number TooLong = 12
 status_number BadReport = 13
 status_number NoMemory = 14
 
--- a word that names a file: it isn't empty and doesn't begin with `-`
-abbrev pub names_file : List ℕ → Bool
-names_file [] = false
-names_file (b ∷ bytes) = not (b == 45)
-
--- the words are `plan` and a file's name
-abbrev pub IsCommand : List (String Global) → List ℕ → Type 0
-IsCommand (command ∷ file ∷ []) name = (string_bytes command ≡ codes "plan") × (string_bytes file ≡ name) × (names_file name ≡ true)
-IsCommand _ name = ⊥
-
--- an input file has at most 16 MiB
-abbrev pub limit : ℕ
-limit = 2 ^ 24
-
--- the content under a name, where the files are told
-abbrev pub Holds : Option Files → List ℕ → List ℕ → Type 0
-Holds None name bytes = Unit {0}
-Holds (Some files) name bytes = content files name ≡ Some bytes
-
--- no file has the name, where the files are told
-abbrev pub Lacks : Option Files → List ℕ → Type 0
-Lacks None name = Unit {0}
-Lacks (Some files) name = content files name ≡ None
-
--- the content is longer than the limit, where the files are told
-abbrev pub IsTooLong : Option Files → List ℕ → Type 0
-IsTooLong None name = Unit {0}
-IsTooLong (Some files) name = IsSomeAnd (content files name) (λ bytes. limit < length bytes)
-
--- The file is planned: its bytes spell a network and demands, and the text is the short form of counts that can carry these demands
--- in the state without failures, those of a plan of one path for each demand that has a need, and of a bound with its certificate,
--- below which no counts that can carry these demands cost.
-pub record IsPlan (bytes text : List ℕ) : Type 0 where
-  pub net : Network
-  pub demands : List Demand
+-- The text is a plan: the short form of the counts of the fallback plan, which carry the demands in each listed state,
+-- and of a bound with its certificate; no counts that can carry the demands in each listed state cost less than the bound.
+pub record IsPlan (links : List Link) (listed : List Listed) (demands : List Demand) (text : List ℕ) : Type 0 where
   pub counts : List (List ℕ)
+  pub routings : List Routing
+  pub cost : ℕ
   pub bounded : Bounded
-  pub spelled : Spells bytes net demands
-  pub able : IsAble net.links [] demands counts
-  pub plan : IsOnePathPlan net.links [] demands counts
-  pub bound : IsBounded net.links demands bounded
-  pub printed : text ≡ short_form net.links counts bounded
+  pub fallback : IsFallback links listed demands counts routings cost
+  pub able : IsAble links listed demands counts
+  pub bound : IsBounded links listed demands bounded
+  pub printed : text ≡ short_form links counts cost bounded
 
--- The file is not survivable: its bytes spell a network and demands, and the text names the first demand that has a need and whose ends are apart.
-pub record IsSeparated (bytes text : List ℕ) : Type 0 where
-  pub net : Network
-  pub demands : List Demand
+-- the name of a state
+abbrev pub state_name : List Listed → ℕ → List ℕ
+state_name listed zero = codes "none"
+state_name listed (suc i) = option_map_or (λ l. l.name) (slice_get listed i) []
+
+-- the text names the first state that separates a demand which has a need, and the first such demand
+pub record IsSeparated (links : List Link) (listed : List Listed) (demands : List Demand) (text : List ℕ) : Type 0 where
+  pub state : ℕ
   pub place : ℕ
   pub demand : Demand
-  pub spelled : Spells bytes net demands
-  pub first : IsFirstSeparation net.links [] demands 0 place
+  pub first : IsFirstSeparation links listed demands state place
   pub at : slice_get demands place ≡ Some demand
-  pub printed : text ≡ codes "not survivable: state 0 none demand " ++ demand.name ++ 10 ∷ []
+  pub printed : text ≡ codes "not survivable: state " ++ decimal state ++ 32 ∷ state_name listed state ++ codes " demand " ++ demand.name ++ 10 ∷ []
 
--- no network and demands are spelled by the bytes
-abbrev pub SpellsNothing : List ℕ → Type 0
-SpellsNothing bytes = (net : Network) (demands : List Demand) → Spells bytes net demands → ⊥
+-- the files of the command spell this network, these demands and these listed states
+abbrev pub HasInputs : Option Files → Command → Network → List Demand → List Listed → Type 0
+HasInputs files c net demands listed =
+    HasNetwork files c net demands × ((reconfigure : Bool) × HasModel files c reconfigure × HasStates files c net.links reconfigure listed)
 
--- what planning a file's bytes comes to
-abbrev pub EndsFile : List ℕ → Status → List ℕ → Type 0
-EndsFile bytes Done text = IsPlan bytes text
-EndsFile bytes BadNetwork text = SpellsNothing bytes × (text ≡ codes "refused network form at 0\n")
-EndsFile bytes NotSurvivable text = IsSeparated bytes text
-EndsFile bytes NoMemory text = text ≡ []
-EndsFile bytes BadWords text = ⊥
-EndsFile bytes NoFile text = ⊥
-EndsFile bytes ReadFault text = ⊥
-EndsFile bytes WriteFault text = ⊥
-EndsFile bytes BadModel text = ⊥
-EndsFile bytes BadFailures text = ⊥
-EndsFile bytes BadScript text = ⊥
-EndsFile bytes Rejected text = ⊥
-EndsFile bytes TooLong text = ⊥
-EndsFile bytes BadReport text = ⊥
+-- what planning comes to, unless memory runs out
+abbrev pub EndsPlan : List Link → List Listed → List Demand → Status → List ℕ → Type 0
+EndsPlan links listed demands status text =
+    ((status ≡ Done) × IsPlan links listed demands text)
+    ⊎ ((status ≡ NotSurvivable) × IsSeparated links listed demands text)
 
--- the file that the words name was read, and its bytes came to this
-abbrev pub EndsRead : List (String Global) → Option Files → Status → List ℕ → Type 0
-EndsRead words files status text = (name bytes : List ℕ) × IsCommand words name × Holds files name bytes × (length bytes ≤ limit) × EndsFile bytes status text
+-- A failure list ends the run: it is named though the model has no survivability, or its file is not read.
+abbrev pub EndsFailures : Option Files → Command → List Link → Bool → Status → List ℕ → Type 0
+EndsFailures files c links reconfigure status text =
+    (c.failures ≢ default)
+    × (((reconfigure ≡ false) × (status ≡ BadFailures) × (text ≡ unused_line))
+    ⊎ ((reconfigure ≡ true) × EndsFile files c.failures BadFailures (RefusesFailures links) status text))
 
--- the line that answers words outside the grammar
-abbrev pub usage : List ℕ
-usage = codes "usage: plan NET [MODEL [FAILURES]] | session NET MODEL FAILURES SCRIPT | check NET MODEL FAILURES REPORT | sample SEED N\n"
+-- what a network and a model come to: the states are read, and the plan is made
+abbrev pub EndsModel : Option Files → Command → Network → List Demand → Bool → Status → List ℕ → Type 0
+EndsModel files c net demands reconfigure status text =
+    EndsFailures files c net.links reconfigure status text
+    ⊎ ((listed : List Listed) × HasStates files c net.links reconfigure listed × EndsPlan net.links listed demands status text)
+
+-- what a network comes to: the model is read next
+abbrev pub EndsNetwork : Option Files → Command → Network → List Demand → Status → List ℕ → Type 0
+EndsNetwork files c net demands status text =
+    ((c.model ≢ default) × EndsFile files c.model BadModel RefusesModel status text)
+    ⊎ ((reconfigure : Bool) × HasModel files c reconfigure × EndsModel files c net demands reconfigure status text)
+
+-- What a command comes to: its files are read in their order, and the first that is not read ends the run.
+abbrev pub EndsCommand : Option Files → Command → Status → List ℕ → Type 0
+EndsCommand files c status text =
+    EndsFile files c.network BadNetwork RefusesNetwork status text
+    ⊎ ((net : Network) × (demands : List Demand) × HasNetwork files c net demands × EndsNetwork files c net demands status text)
 
 -- What a run comes to, and its whole text. Want of memory alone needs no cause.
 abbrev pub Ends : List (String Global) → Option Files → Status → List ℕ → Type 0
-Ends words files BadWords text = ((name : List ℕ) → IsCommand words name → ⊥) × (text ≡ usage)
-Ends words files NoFile text = (name : List ℕ) × IsCommand words name × Lacks files name × (text ≡ codes "no file " ++ name ++ 10 ∷ [])
-Ends words files TooLong text = (name : List ℕ) × IsCommand words name × IsTooLong files name × (text ≡ codes "too long " ++ name ++ 10 ∷ [])
-Ends words files ReadFault text = (name : List ℕ) × IsCommand words name × (text ≡ [])
-Ends words files NoMemory text = text ≡ []
-Ends words files Done text = EndsRead words files Done text
-Ends words files BadNetwork text = EndsRead words files BadNetwork text
-Ends words files NotSurvivable text = EndsRead words files NotSurvivable text
-Ends words files WriteFault text = ⊥
-Ends words files BadModel text = ⊥
-Ends words files BadFailures text = ⊥
-Ends words files BadScript text = ⊥
-Ends words files Rejected text = ⊥
-Ends words files BadReport text = ⊥
+Ends words files status text =
+    OrNoMemory status text
+    (((status ≡ BadWords) × ((c : Command) → IsCommand words c → ⊥) × (text ≡ usage))
+    ⊎ ((c : Command) × IsCommand words c × EndsCommand files c status text))
 
 -- the sink took the whole text, where it tells what it took
 abbrev pub TakesWhole : Option (List ℕ) → Option (List ℕ) → List ℕ → Type 0

@@ -1,7 +1,6 @@
 -- the texts that the program writes
 use Rattle.std.specs.Prelude.{ℕ, ◌+◌, ◌/◌, ◌%◌, List, [], ◌∷◌, ◌++◌, Option, None, Some, codes, decimal, flat_map, zip}
 use Rattle.net_core.specs.declared.network.Link.{Link}
-use Rattle.plan_terms.specs.Capacities.{total_cost}
 use Rattle.planner_top.specs.declared.bound.Bounded.{Bounded}
 use Rattle.planner_top.specs.declared.bound.CertifiedCut.{CertifiedCut}
 
@@ -39,5 +38,5 @@ abbrev pub bound_lines : Bounded → List ℕ
 bound_lines b = codes "bound " ++ money_text b.bound ++ codes "\nraw " ++ decimal b.raw.num ++ 32 ∷ decimal b.raw.den ++ 10 ∷ cut_lines b.cut
 
 -- the short form of a plan: its cost, a line for each link, and the lines of its bound
-abbrev pub short_form : List Link → List (List ℕ) → Bounded → List ℕ
-short_form links counts bounded = codes "cost " ++ money_text (total_cost links counts) ++ 10 ∷ link_lines links counts ++ bound_lines bounded
+abbrev pub short_form : List Link → List (List ℕ) → ℕ → Bounded → List ℕ
+short_form links counts cost bounded = codes "cost " ++ money_text cost ++ 10 ∷ link_lines links counts ++ bound_lines bounded

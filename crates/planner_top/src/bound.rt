@@ -1,8 +1,8 @@
-ghost use Rattle.std.specs.Prelude.{◌≡◌, [], IfOk, length, replicate};
+ghost use Rattle.std.specs.Prelude.{◌≡◌, ◌+◌, ◌<◌, ◌≤◌, ◌⊎◌, [], IfOk, length, replicate};
 ghost use Rattle.net_core.specs.Demands.{AreDemands};
 ghost use Rattle.metric_cut.specs.Keeping.{IsCutOf, Keeps};
 ghost use Rattle.metric_cut.specs.Ratios.{HaveBound};
-ghost use Rattle.planner_top.specs.Bounds.{IsBounded, IsUnitBound, unit_lengths};
+ghost use Rattle.planner_top.specs.Bounds.{IsBounded, IsStateBound, IsUnitBound, unit_lengths};
 
 use metric_cut::line::bound_of;
 use metric_cut::{Cut, CutFault, CutLine, Multiplier, RawValue, own_certificate};
@@ -35,9 +35,9 @@ fn units(alloc: Global, links: usize) -> Result<Lengths, NoMemory>
 }
 
 /// The bound of an empty certificate.
-fn bare(net: &Network, _demands: &[Demand]) -> Bounded
-    requires { IsUnitBound net.now.links _demands.now 0 }
-    ensures { IsBounded net.now.links _demands.now result }
+fn bare(net: &Network, _states: &States, _demands: &[Demand], _state: StateId) -> Bounded
+    requires { IsUnitBound net.now.links _states.now.listed _demands.now _state.0 0 }
+    ensures { IsStateBound net.now.links _states.now.listed _demands.now _state.0 result }
 {
     Bounded {
         bound: bound_of(net.links().items(), 0, 1),
@@ -46,24 +46,23 @@ fn bare(net: &Network, _demands: &[Demand]) -> Bounded
     }
 }
 
-/// The bound of the cut of unit lengths.
-fn of_cut(net: &Network, demands: &Demands, cut: &Cut) -> Result<Bounded, NoMemory>
-    requires state { cut.now.state.0 ≡ 0 }
-    requires keeps { Keeps net.now.links [] 0 (unit_lengths net.now.links) cut.now.lengths }
-    requires cut { IsCutOf net.now.links [] (length net.now.nodes) cut.now }
+/// The bound of the cut of unit lengths of a state.
+fn of_cut(net: &Network, states: &States, demands: &Demands, cut: &Cut) -> Result<Bounded, NoMemory>
+    requires keeps { Keeps net.now.links states.now.listed cut.now.state.0 (unit_lengths net.now.links) cut.now.lengths }
+    requires cut { IsCutOf net.now.links states.now.listed (length net.now.nodes) cut.now }
     requires nodes { cut.now.table.nodes ≡ length net.now.nodes }
     requires bound { HaveBound net.now.links cut.now.lengths }
     requires demands { AreDemands (length net.now.nodes) demands.now }
-    ensures { IfOk result (IsBounded net.now.links demands.now) }
+    ensures { IfOk result (IsStateBound net.now.links states.now.listed demands.now cut.now.state.0) }
 {
     let line = CutLine {
-        state: StateId(0),
+        state: cut.state(),
         lengths: cut.lengths().copy()?,
         right: cut.right(demands),
     };
     let certificate = own_certificate(net, &line);
     if certificate.raw.num == 0 {
-        return Ok(bare(net, demands.items()));
+        return Ok(bare(net, states, demands.items(), cut.state()));
     }
     Ok(Bounded {
         bound: certificate.bound,
@@ -75,22 +74,52 @@ fn of_cut(net: &Network, demands: &Demands, cut: &Cut) -> Result<Bounded, NoMemo
     })
 }
 
-/// The lower bound of a network's demands in the state without failures, from the cut of unit lengths.
+/// The bound of the cut of unit lengths of a state, and of no cut where no link survives.
+fn state_bound(
+    alloc: Global,
+    net: &Network,
+    states: &States,
+    state: StateId,
+    demands: &Demands,
+) -> Result<Bounded, NoMemory>
+    requires state { state.0 < length states.now.listed + 1 }
+    requires demands { AreDemands (length net.now.nodes) demands.now }
+    ensures { IfOk result (IsStateBound net.now.links states.now.listed demands.now state.0) }
+{
+    let lengths = units(alloc, net.links().len())?;
+    match Cut::new(alloc, net, states, state, lengths) {
+        Ok(cut) => of_cut(net, states, demands, &cut),
+        Err(CutFault::ZeroLengths) => Ok(bare(net, states, demands.items(), state)),
+        Err(CutFault::UnknownState) => unreachable!(),
+        Err(CutFault::NoMemory) => Err(NoMemory),
+    }
+}
+
+/// The greater of two bounds, the first at a tie.
+fn greater(best: Bounded, other: Bounded) -> Bounded
+    ensures { ((best.bound < other.bound) × (result ≡ other)) ⊎ ((other.bound ≤ best.bound) × (result ≡ best)) }
+{
+    if other.bound > best.bound {
+        other
+    } else {
+        best
+    }
+}
+
+/// The greatest of the bounds that the cuts of unit lengths give, that of the first state at a tie.
 pub fn bound_network(
     alloc: Global,
     net: &Network,
     states: &States,
     demands: &Demands,
 ) -> Result<Bounded, NoMemory>
-    requires none { states.now.listed ≡ [] }
-    requires demands { AreDemands (length net.now.nodes) demands.now }
-    ensures { IfOk result (IsBounded net.now.links demands.now) }
+    requires { AreDemands (length net.now.nodes) demands.now }
+    ensures { IfOk result (IsBounded net.now.links states.now.listed demands.now) }
 {
-    let lengths = units(alloc, net.links().len())?;
-    match Cut::new(alloc, net, states, StateId(0), lengths) {
-        Ok(cut) => of_cut(net, demands, &cut),
-        Err(CutFault::ZeroLengths) => Ok(bare(net, demands.items())),
-        Err(CutFault::UnknownState) => unreachable!(),
-        Err(CutFault::NoMemory) => Err(NoMemory),
+    let mut best = state_bound(alloc, net, states, StateId(0), demands)?;
+    for s in 1..states.count() {
+        let other = state_bound(alloc, net, states, StateId(s), demands)?;
+        best = greater(best, other);
     }
+    Ok(best)
 }

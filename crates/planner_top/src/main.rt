@@ -1,17 +1,17 @@
 //! Plans link capacities for a network whose demands must be carried.
 #![tactic(auto)]
 
+mod answer;
 mod bound;
 mod bound_text;
-mod choice;
-mod loads;
+mod command;
+mod inputs;
 mod output;
 mod plan;
-mod routes;
+mod refusal;
 mod run;
 mod status;
 mod text;
-mod tree;
 
 use net_core::NoMemory;
 use outside_io::{FileShelf, OpenGate, StreamSink};

@@ -1,79 +1,107 @@
-ghost use Rattle.std.specs.Prelude.{◌≡◌, ℕ, ◌<◌, ◌≤◌, [], All, IfOk, Some, length, slice_get, slice_index};
+ghost use Rattle.std.specs.Prelude.{◌≡◌, ◌+◌, ◌<◌, ◌++◌, ◌∷◌, [], IfOk, codes, decimal, length};
 ghost use Rattle.net_core.specs.Demands.{AreDemands};
-ghost use Rattle.net_core.specs.Network.{IsLink, IsModule};
-ghost use Rattle.net_core.specs.declared.network.Link.{Link};
-ghost use Rattle.plan_terms.specs.Paths.{Joins};
-ghost use Rattle.planner_top.specs.Plans.{AreCheapestCounts, IsOnePathPlan, IsPlanned};
-ghost use Rattle.planner_top.specs.Routes.{AreRoutes};
+ghost use Rattle.plan_terms.specs.Separations.{IsFirstSeparation, IsSurvivable};
+ghost use Rattle.planner_top.specs.Run.{EndsPlan, state_name};
 
-use crate::choice::link_counts;
-use crate::loads::loads_of;
-use crate::routes::{Routed, routes};
-use net_core::{Counts, Demand, Flow, Link, List, Network, NoMemory, States};
+use crate::answer::Answer;
+use crate::bound::bound_network;
+use crate::status::Status;
+use crate::text::{put_number, short_form};
+use failure_states::{Separation, first_separated};
+use module_choice::fallback_plan;
+use net_core::{Bytes, Demands, List, Network, NoMemory, StateId, States};
 use std::alloc::Global;
 
-/// What planning comes to.
-#[derive(Drop)]
-pub enum Planned {
-    /// The counts of modules to install.
-    Installed(Counts),
-    /// The first demand that has a need and whose ends are apart.
-    Apart(u32),
-}
-
-/// The counts of all links for their loads.
-fn counts_of(alloc: Global, links: &[Link], loads: &[u64]) -> Result<Counts, NoMemory>
-    requires sizes { length loads.now ≡ length links.now }
-    requires each { All (λ l. All IsModule l.modules) links.now }
-    requires served { (e : ℕ) (l : Link) → slice_get links.now e ≡ Some l → l.modules ≡ [] → slice_index loads.now e ≤ l.fixed }
-    ensures { IfOk result (AreCheapestCounts links.now (slice_index loads.now)) }
+/// The name of a state.
+fn state_name(states: &States, state: StateId) -> &[u8]
+    requires { state.0 < length states.now.listed + 1 }
+    ensures { result.now ≡ state_name states.now.listed state.0 }
 {
-    let mut counts = List::new(alloc);
-    for e in 0..links.len() {
-        let c = link_counts(alloc, &links[e], loads[e])?;
-        let Ok(()) = counts.push(c) else {
-            return Err(NoMemory);
-        };
+    if state.0 == 0 {
+        return b"none";
     }
-    Ok(counts)
+    states.listed().items()[state.0 as usize - 1].name.bytes()
 }
 
-/// The counts that install the flows.
-fn install(
+/// The line of a network that isn't survivable.
+fn separated_line(
     alloc: Global,
-    links: &[Link],
-    nodes: usize,
-    _states: &States,
-    _demands: &[Demand],
-    flows: &[Flow],
-) -> Result<Counts, NoMemory>
-    requires few { nodes ≤ 128 }
-    requires links { All (IsLink nodes) links.now }
-    requires demands { AreDemands nodes _demands.now }
-    requires routes { AreRoutes (Joins links.now _states.now.listed 0) _demands.now (length _demands.now) flows.now }
-    ensures { IfOk result (IsOnePathPlan links.now _states.now.listed _demands.now) }
+    state: StateId,
+    name: &[u8],
+    demand: &[u8],
+) -> Result<Bytes, NoMemory>
+    ensures { IfOk result (λ text. text ≡ codes "not survivable: state " ++ decimal state.0 ++ 32 ∷ name.now ++ codes " demand " ++ demand.now ++ 10 ∷ []) }
 {
-    let loads = loads_of(alloc, links.len(), flows)?;
-    counts_of(alloc, links, loads.as_slice())
+    let mut text = List::new(alloc);
+    text.append(b"not survivable: state ")?;
+    put_number(&mut text, state.0 as u128)?;
+    text.append(b" ")?;
+    text.append(name)?;
+    text.append(b" demand ")?;
+    text.append(demand)?;
+    text.append(b"\n")?;
+    Ok(text)
 }
 
-/// The counts that install a path for each demand that has a need, or the first demand that has none.
+/// The answer to a network that isn't survivable.
+fn separated(
+    alloc: Global,
+    _net: &Network,
+    states: &States,
+    demands: &Demands,
+    separation: &Separation,
+) -> Result<Answer, NoMemory>
+    requires { IsFirstSeparation _net.now.links states.now.listed demands.now separation.now.state.0 separation.now.demand }
+    ensures { IfOk result (λ a. EndsPlan _net.now.links states.now.listed demands.now a.status a.text) }
+{
+    let name = state_name(states, separation.state);
+    let demand = &demands.items()[separation.demand as usize];
+    let text = separated_line(alloc, separation.state, name, demand.name.bytes())?;
+    Ok(Answer {
+        status: Status::NotSurvivable,
+        text,
+    })
+}
+
+/// The answer to a network that survives all states.
+fn planned(
+    alloc: Global,
+    net: &Network,
+    states: &States,
+    demands: &Demands,
+) -> Result<Answer, NoMemory>
+    requires demands { AreDemands (length net.now.nodes) demands.now }
+    requires survivable { IsSurvivable net.now.links states.now.listed demands.now }
+    ensures { IfOk result (λ a. EndsPlan net.now.links states.now.listed demands.now a.status a.text) }
+{
+    let fallback = fallback_plan(alloc, net, states, demands)?;
+    let bounded = bound_network(alloc, net, states, demands)?;
+    let links = net.links().items();
+    let text = short_form(
+        alloc,
+        links,
+        fallback.counts.items(),
+        fallback.cost,
+        &bounded,
+    )?;
+    Ok(Answer {
+        status: Status::Done,
+        text,
+    })
+}
+
+/// The plan of a network for its listed states, or the first demand that one of them separates.
 pub fn plan_network(
     alloc: Global,
     net: &Network,
     states: &States,
-    demands: &[Demand],
-) -> Result<Planned, NoMemory>
+    demands: &Demands,
+) -> Result<Answer, NoMemory>
     requires { AreDemands (length net.now.nodes) demands.now }
-    ensures { IfOk result (IsPlanned net.now.links states.now.listed demands.now) }
+    ensures { IfOk result (λ a. EndsPlan net.now.links states.now.listed demands.now a.status a.text) }
 {
-    match routes(alloc, net, states, demands)? {
-        Routed::Separated(k) => Ok(Planned::Apart(k)),
-        Routed::Flows(flows) => {
-            let links = net.links().items();
-            let nodes = net.nodes().len();
-            let counts = install(alloc, links, nodes, states, demands, flows.items())?;
-            Ok(Planned::Installed(counts))
-        }
+    match first_separated(alloc, net, states, demands)? {
+        Some(separation) => separated(alloc, net, states, demands, &separation),
+        None => planned(alloc, net, states, demands),
     }
 }

@@ -1,13 +1,10 @@
-ghost use Rattle.std.specs.Prelude.{◌≡◌, ◌+◌, ◌*◌, ◌/◌, ◌%◌, ◌^◌, ◌<◌, ◌≤◌, ◌++◌, [], ◌∷◌, All, IfOk, OnOk, List, codes, decimal, length, slice_index_or, ℕ};
-ghost use Rattle.net_core.specs.Network.{IsModule};
-ghost use Rattle.net_core.specs.declared.network.Link.{Link};
-ghost use Rattle.plan_terms.specs.Capacities.{modules_cost, total_cost};
+ghost use Rattle.std.specs.Prelude.{◌≡◌, ◌++◌, ◌∷◌, IfOk, OnOk, decimal, length};
 ghost use Rattle.planner_top.specs.Texts.{counts_text, digit_of, link_line, link_lines, money_text, short_form};
 
 use crate::bound::Bounded;
 use crate::bound_text::put_bound;
 use itoa::Buffer;
-use net_core::{Bytes, Counts, Link, List, Module, NoMemory};
+use net_core::{Bytes, Link, List, NoMemory};
 use std::alloc::Global;
 
 /// Puts a whole number last.
@@ -72,38 +69,6 @@ fn put_links(text: &mut Bytes, links: &[Link], counts: &[List<u64>]) -> Result<(
     Ok(())
 }
 
-/// What counts of modules cost, in thousandths.
-#[tactic(auto, using(crate::proofs::Pairs::cost_more))]
-fn modules_cost(modules: &[Module], counts: &[u64]) -> u128
-    requires shape { length counts.now ≡ length modules.now }
-    requires few { length modules.now ≤ 16 }
-    requires each { All IsModule modules.now }
-    ensures value { result ≡ modules_cost modules.now counts.now }
-    ensures bound { result ≤ 16 * 2 ^ 104 }
-{
-    let mut cost = 0;
-    for i in 0..modules.len() {
-        cost += modules[i].cost as u128 * counts[i] as u128;
-    }
-    cost
-}
-
-/// What all modules cost, in thousandths.
-#[tactic(auto, using(crate::proofs::Pairs::total_more))]
-pub fn total_cost(links: &[Link], counts: &[List<u64>]) -> u128
-    requires few { length links.now ≤ 256 }
-    requires each { All (λ l. (length l.modules ≤ 16) × All IsModule l.modules) links.now }
-    requires long { length counts.now ≡ length links.now }
-    requires shape { (i : ℕ) (l : Link) (c : List ℕ) → i < length links.now → length (slice_index_or counts.now i c) ≡ length (slice_index_or links.now i l).modules }
-    ensures { result ≡ total_cost links.now counts.now }
-{
-    let mut cost = 0;
-    for i in 0..links.len() {
-        cost += modules_cost(links[i].modules.items(), counts[i].items());
-    }
-    cost
-}
-
 /// The short form of a plan, which costs so much, and of its bound.
 pub fn short_form(
     alloc: Global,
@@ -112,9 +77,8 @@ pub fn short_form(
     cost: u128,
     bounded: &Bounded,
 ) -> Result<Bytes, NoMemory>
-    requires shape { length counts.now ≡ length links.now }
-    requires cost { cost ≡ total_cost links.now counts.now }
-    ensures { IfOk result (λ text. text ≡ short_form links.now counts.now bounded.now) }
+    requires { length counts.now ≡ length links.now }
+    ensures { IfOk result (λ text. text ≡ short_form links.now counts.now cost bounded.now) }
 {
     let mut text = List::new(alloc);
     text.append(b"cost ")?;

@@ -1,0 +1,17 @@
+use Rattle.std.proofs.Common.{sym, subst}
+use Rattle.std.proofs.lemmas.Result.{err_from_is_err_and}
+use Rattle.planner_top.specs.Inputs.{named}
+use Rattle.planner_top.proofs.Answering.{failures_end, model_ends}
+use Rattle.planner_top.proofs.inputs.load_inputs.Goals as goal
+
+pub returns-in_err-reconfigure-clause-ends : goal.returns-in_err-reconfigure-clause-ends
+returns-in_err-reconfigure-clause-ends g c =
+    let p = err_from_is_err_and c.from_residual-in_err-reconfigure.result c.from_residual-in_err-reconfigure.ensures.1 in
+    let a = c.in_err-reconfigure.field-0.0 in
+    rw (p.1, p.2) (model_ends (g.S.Shelf.files c.args.shelf.now) (named c.args.files.now) c.in_ok-net.net c.in_ok-net.demands a.status a.text c.in_ok-net.ensures.has (rw c.in_ok-net.ensures.files at c.in_err-reconfigure.ensures.ends))
+
+pub returns-in_err-states-clause-ends : goal.returns-in_err-states-clause-ends
+returns-in_err-states-clause-ends g c =
+    let p = err_from_is_err_and c.from_residual-in_err-states.result c.from_residual-in_err-states.ensures.1 in
+    let a = c.in_err-states.field-0.0 in
+    rw (p.1, p.2) (failures_end (g.S.Shelf.files c.args.shelf.now) (named c.args.files.now) c.in_ok-net.net c.in_ok-net.demands c.in_ok-reconfigure.reconfigure a.status a.text c.in_ok-net.ensures.has (rw c.in_ok-net.ensures.files at c.in_ok-reconfigure.ensures.has) (rw (c.in_ok-reconfigure.ensures.files, c.in_ok-net.ensures.files) at c.in_err-states.ensures.ends))
