@@ -94,7 +94,7 @@ fn follow(
     Ok(path)
 }
 
-/// The way back to a node along first links, from a node that a search from it has found.
+/// The way from one node to another along first links, where `back` has the length from each node to that other.
 pub(crate) fn way_back(
     alloc: Global,
     hops: &Hops,
@@ -119,7 +119,7 @@ pub(crate) fn way_back(
     }
 }
 
-/// The lengths from a node to each, over the hops.
+/// The search from a node, which finds the length from each node to it.
 fn lengths_to(
     alloc: Global,
     hops: &Hops,
