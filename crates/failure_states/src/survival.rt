@@ -1,13 +1,7 @@
-ghost use Rattle.std.specs.Prelude.{◌≢◌, ◌+◌, ◌<◌, ◌↔◌, IsTrue, [], length};
+ghost use Rattle.std.specs.Prelude.{◌+◌, ◌<◌, ◌↔◌, IsTrue, length};
 ghost use Rattle.plan_terms.specs.Paths.{Survives};
 
-use net_core::{Link, LinkId, Network, StateId, States};
-
-fn has_module(link: &Link) -> bool
-    ensures { IsTrue result ↔ (link.now.modules ≢ []) }
-{
-    link.modules.len() > 0
-}
+use net_core::{LinkId, Network, StateId, States};
 
 /// Whether a link survives in a state: the state doesn't fail it, and it has a module.
 pub fn survives(net: &Network, states: &States, state: StateId, link: LinkId) -> bool
@@ -15,5 +9,5 @@ pub fn survives(net: &Network, states: &States, state: StateId, link: LinkId) ->
     requires link { link.0 < length net.now.links }
     ensures { IsTrue result ↔ Survives net.now.links states.now.listed state.0 link.0 }
 {
-    has_module(&net.links().items()[link.0 as usize]) && !states.fails(state, link)
+    short_paths::survives(net.links().items(), states, state, link)
 }

@@ -1,9 +1,10 @@
-ghost use Rattle.std.specs.Prelude.{◌<◌};
+ghost use Rattle.std.specs.Prelude.{◌≡◌, ℕ, ◌+◌, ◌<◌, IsTrue, length, slice_index};
+ghost use Rattle.plan_terms.specs.Paths.{Survives};
 
-use crate::{all_pairs, distances};
+use crate::{LeastPaths, PathFault, all_pairs, distances, least_path};
 use net_core::{
-    Lengths, Link, LinkId, List, Listed, Module, Name, Network, NoMemory, NodeId, Notes, StateId,
-    States,
+    Lengths, Link, LinkId, List, Listed, Module, Name, Network, NoMemory, NodeId, Notes, Path,
+    StateId, States,
 };
 use std::alloc::Global;
 use std::test::Fail;
@@ -137,9 +138,9 @@ fn least(s: usize, a: u32, b: u32) -> Option<u64>
     best
 }
 
-fn lengths(alloc: Global) -> Result<Lengths, Fail> {
+fn list_of(alloc: Global, numbers: &[u32; 5]) -> Result<Lengths, Fail> {
     let mut lengths = List::new(alloc);
-    for length in LENGTHS {
+    for length in *numbers {
         put(&mut lengths, length)?;
     }
     Ok(lengths)
@@ -150,7 +151,7 @@ fn rows_are_as_by_hand(rt: HostRuntime) -> Result<(), Fail> {
     let alloc = rt.alloc();
     let net = network(alloc)?;
     let states = states(alloc, &net)?;
-    let lengths = lengths(alloc)?;
+    let lengths = list_of(alloc, &LENGTHS)?;
     assert!(rt; net.nodes().len() == 4);
     assert!(rt; states.count() == 4);
     assert!(rt; lengths.len() == net.links().len());
@@ -166,7 +167,7 @@ fn tables_are_as_by_all_paths(rt: HostRuntime) -> Result<(), Fail> {
     let alloc = rt.alloc();
     let net = network(alloc)?;
     let states = states(alloc, &net)?;
-    let lengths = lengths(alloc)?;
+    let lengths = list_of(alloc, &LENGTHS)?;
     assert!(rt; net.nodes().len() == 4);
     assert!(rt; states.count() == 4);
     assert!(rt; lengths.len() == net.links().len());
@@ -178,6 +179,88 @@ fn tables_are_as_by_all_paths(rt: HostRuntime) -> Result<(), Fail> {
                 assert_eq!(rt; table.get(NodeId(a), NodeId(b)), least(s, a, b));
             }
         }
+    }
+    Ok(())
+}
+
+/// Lengths with which two paths, or three, are the shortest.
+const TIED: [u32; 5] = [2, 2, 2, 4, 1];
+
+/// A state, two nodes, and the links of the least path between them. None says that they are apart.
+type Row = (u32, u32, u32, Option<&'static [u32]>);
+
+/// Least paths under the tied lengths, worked out by hand.
+const LEAST: [Row; 12] = [
+    (0, 0, 1, Some(&[0])),
+    (0, 0, 2, Some(&[0, 2])),
+    (0, 2, 0, Some(&[2, 0])),
+    (0, 1, 1, Some(&[])),
+    (0, 0, 3, None),
+    (1, 0, 1, Some(&[1])),
+    (1, 0, 2, Some(&[1, 2])),
+    (1, 2, 0, Some(&[2, 1])),
+    (2, 0, 1, Some(&[3, 2])),
+    (2, 0, 2, Some(&[3])),
+    (3, 1, 0, Some(&[0])),
+    (3, 2, 0, None),
+];
+
+/// Whether each link has a length.
+fn are_long(net: &Network, states: &States, state: StateId, lengths: &Lengths) -> bool
+    requires { length lengths.now ≡ length net.now.links }
+    ensures { IsTrue result → (e : ℕ) → Survives net.now.links states.now.listed state.0 e → 0 < slice_index lengths.now e }
+{
+    lengths.items().iter().all(|n| *n > 0)
+}
+
+/// Whether the answer is that of a row.
+fn agrees(found: &Result<Path, PathFault>, expected: Option<&[u32]>) -> bool {
+    match (found, expected) {
+        (Ok(path), Some(links)) => {
+            path.len() == links.len() && path.items().iter().zip(links).all(|(e, k)| e.0 == *k)
+        }
+        (Err(fault), None) => *fault == PathFault::Apart,
+        _ => false,
+    }
+}
+
+/// Whether both calls answer as the row says.
+fn both_agree(
+    alloc: Global,
+    net: &Network,
+    states: &States,
+    state: StateId,
+    lengths: &Lengths,
+    ends: (NodeId, NodeId),
+    expected: Option<&[u32]>,
+) -> Result<bool, NoMemory>
+    requires state { state.0 < length states.now.listed + 1 }
+    requires lengths { length lengths.now ≡ length net.now.links }
+    requires from { ends.0.0 < length net.now.nodes }
+    requires to { ends.1.0 < length net.now.nodes }
+{
+    if !are_long(net, states, state, lengths) {
+        return Ok(false);
+    }
+    let one = least_path(alloc, net, states, state, lengths, ends.0, ends.1);
+    let paths = LeastPaths::new(alloc, net, states, state, lengths)?;
+    let other = paths.path(alloc, ends.0, ends.1);
+    Ok(agrees(&one, expected) && agrees(&other, expected))
+}
+
+#[test]
+fn least_paths_are_as_by_hand(rt: HostRuntime) -> Result<(), Fail> {
+    let alloc = rt.alloc();
+    let net = network(alloc)?;
+    let states = states(alloc, &net)?;
+    let lengths = list_of(alloc, &TIED)?;
+    assert!(rt; net.nodes().len() == 4);
+    assert!(rt; states.count() == 4);
+    assert!(rt; lengths.len() == net.links().len());
+    for (s, a, b, expected) in LEAST {
+        assert!(rt; s < 4 && a < 4 && b < 4);
+        let ends = (NodeId(a), NodeId(b));
+        assert!(rt; both_agree(alloc, &net, &states, StateId(s), &lengths, ends, expected)?);
     }
     Ok(())
 }
