@@ -1,0 +1,4 @@
+pub mod Choices
+pub mod Dearest
+pub mod Numbers
+pub mod Pairs
