@@ -1,4 +1,8 @@
+pub mod Choosing
+pub mod Following
+pub mod Gathering
 pub mod Hopping
+pub mod Leading
 pub mod PairNumbers
 pub mod Relaxing
 pub mod Settling

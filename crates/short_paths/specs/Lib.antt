@@ -1,4 +1,5 @@
 pub mod DistanceTables
+pub mod Following
 pub mod Hops
 pub mod Pairs
 pub mod Tables
