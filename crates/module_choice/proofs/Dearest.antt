@@ -96,12 +96,15 @@ dearest_kept : (links : List Link) (n : ℕ) (l : Link) (old new : Module) → s
     → ((new.cost ≡ 0) × ((e : ℕ) (l : Link) → e < n + 1 → slice_get links e ≡ Some l → l.modules ≡ [])) ⊎ Any (λ l. IsCheapest l.modules new) links
 dearest_kept links n l old new at so_far same kept = ⊎_elim
     (λ none. ⊎_elim
-        (λ empty. inl (ap (λ (m : Module). m.cost) same ∙ none.0, λ e k lt got. ⊎_elim
-            (λ here. ap (λ (x : Link). x.modules) (link_again links n k l (subst (λ i. slice_get links i ≡ Some k) here got) at) ∙ empty)
-            (λ other. none.1 e k (omega (arith, lt, other)) got)
-            (cases_eq e n)))
-        (λ costs. absurd (omega (arith, costs, none.0)))
-        kept)
+    (λ empty. inl (
+      ap (λ (m : Module). m.cost) same ∙ none.0,
+      λ e k lt got. ⊎_elim
+          (λ here. ap (λ (x : Link). x.modules) (link_again links n k l (subst (λ i. slice_get links i ≡ Some k) here got) at) ∙ empty)
+          (λ other. none.1 e k (omega (arith, lt, other)) got)
+          (cases_eq e n),
+    ))
+    (λ costs. absurd (omega (arith, costs, none.0)))
+    kept)
     (λ some. inr (subst (λ m. Any (λ l. IsCheapest l.modules m) links) (sym same) some))
     so_far
 

@@ -2,9 +2,13 @@
 #![tactic(auto)]
 
 pub mod covers;
+pub mod fallback;
+mod loads;
 pub mod prices;
+mod routes;
 pub mod totals;
 
 pub use covers::{Covering, cover};
+pub use fallback::{Fallback, fallback_plan};
 pub use prices::price_lengths;
 pub use totals::{capacities, cost};
