@@ -1,5 +1,5 @@
 -- counts of modules: the capacity that they install, what they cost, and whether they can do
-use Rattle.std.specs.Prelude.{◌≡◌, ℕ, ◌+◌, ◌-◌, ◌*◌, ◌≤◌, List, Some, count_by, nat_lt, length, map, slice_get, sum_by, zip}
+use Rattle.std.specs.Prelude.{◌≡◌, ℕ, ◌+◌, ◌-◌, ◌*◌, ◌^◌, ◌<◌, ◌≤◌, List, Some, All, count_by, nat_lt, length, map, slice_get, sum_by, zip}
 use Rattle.std.specs.List.{AllZip}
 use Rattle.net_core.specs.declared.demand.Demand.{Demand}
 use Rattle.net_core.specs.declared.network.Module.{Module}
@@ -28,6 +28,11 @@ total_cost links counts = sum_by (λ p. modules_cost p.0.modules p.1) (zip links
 -- one count for each module of each link
 abbrev pub AreCounts : List Link → List (List ℕ) → Type 0
 AreCounts links counts = AllZip (λ l c. length c ≡ length l.modules) links counts
+
+-- each count is below 2^44, and each link's capacity is below 2^46 thousandths
+pub record AreNarrow (links : List Link) (counts : List (List ℕ)) : Type 0 where
+  pub few : All (λ c. All (λ n. n < 2 ^ 44) c) counts
+  pub small : All (λ n. n < 2 ^ 46) (capacities links counts)
 
 -- in state s some routing carries the demands within the capacities of the counts
 pub record IsAbleIn (links : List Link) (listed : List Listed) (demands : List Demand) (counts : List (List ℕ)) (s : ℕ) : Type 0 where

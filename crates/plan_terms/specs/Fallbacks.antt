@@ -1,5 +1,5 @@
 -- the plan that takes one path for each demand in each state, and cheap modules of one kind on each link
-use Rattle.std.specs.Prelude.{◌≡◌, ℕ, ◌+◌, ◌<◌, ◌==◌, List, [], ◌∷◌, Some, All, count_by, length, map, max, slice_get}
+use Rattle.std.specs.Prelude.{◌≡◌, ℕ, ◌+◌, ◌<◌, List, [], ◌∷◌, Some, All, AllPairs, Any, length, map, max, slice_get}
 use Rattle.net_core.specs.declared.demand.Demand.{Demand}
 use Rattle.net_core.specs.declared.network.Link.{Link}
 use Rattle.net_core.specs.declared.plan.Flow.{Flow}
@@ -19,11 +19,12 @@ pub record IsLeastFlow (joins : ℕ → ℕ → ℕ → Type 0) (lengths : List 
   pub num : f.num ≡ of.need
   pub path : IsLeastPath joins lengths of.from.0 of.to.0 f.path
 
--- one such flow for each demand that has a need
+-- one such flow for each demand that has a need, in the order of the demands
 pub record IsLeastRouting (joins : ℕ → ℕ → ℕ → Type 0) (lengths : List ℕ) (demands : List Demand) (routing : Routing) : Type 0 where
   pub whole : routing.den ≡ 1
   pub each : All (IsLeastFlow joins lengths demands) routing.flows
-  pub one : (k : ℕ) (d : Demand) → slice_get demands k ≡ Some d → 0 < d.need → count_by (λ f. f.demand == k) routing.flows ≡ 1
+  pub every : (k : ℕ) (d : Demand) → slice_get demands k ≡ Some d → 0 < d.need → Any (λ f. f.demand ≡ k) routing.flows
+  pub ordered : AllPairs (λ f g. f.demand < g.demand) routing.flows
 
 -- the greatest load of link e over the routings
 abbrev pub peak : List Routing → ℕ → ℕ

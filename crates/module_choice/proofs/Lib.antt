@@ -1,0 +1,8 @@
+pub mod Carrying
+pub mod Choices
+pub mod Dearest
+pub mod Falling
+pub mod Numbers
+pub mod Pairs
+pub mod Routing
+pub mod Weights

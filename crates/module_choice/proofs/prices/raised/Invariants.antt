@@ -1,0 +1,7 @@
+use Rattle.std.proofs.Common.{◌≡◌, take}
+use Rattle.plan_terms.specs.Fallbacks.{raised}
+use Rattle.module_choice.proofs.prices.raised.Given as goal
+
+-- the lengths so far
+abbrev pub invariant-loop-n : goal.invariant-loop-n
+invariant-loop-n l = l.lengths ≡ raised (take l.n-index l.prices)
