@@ -4,9 +4,9 @@ use Rattle.snd_tokens.specs.declared.token.Token.{Token}
 use Rattle.snd_tokens.specs.declared.token.TokenKind.{TokenKind}
 use Rattle.snd_tokens.specs.declared.token.TokenKind.TheVariants as kinds
 use Rattle.snd_tokens.specs.Tokens.{is_plain, token_bytes, tokens_from}
-use Rattle.model_reader.specs.declared.cursor.Cursor.{Cursor}
-use Rattle.model_reader.specs.declared.lexeme.Next.{Next}
-use Rattle.model_reader.specs.declared.lexeme.Next.TheVariants as next
+use Rattle.snd_tokens.specs.declared.cursor.Cursor.{Cursor}
+use Rattle.snd_tokens.specs.declared.lexeme.Next.{Next}
+use Rattle.snd_tokens.specs.declared.lexeme.Next.TheVariants as next
 
 -- a word with its bytes, or a parenthesis
 pub data Lexeme : Type 0 where

@@ -1,15 +1,19 @@
 ghost use Rattle.std.specs.Prelude.{◌≡◌, ◌≤◌, length};
-ghost use Rattle.model_reader.specs.Lexemes.{IsNext, left, text_from};
+ghost use Rattle.snd_tokens.specs.Lexemes.{IsNext, left, text_from};
 
 use crate::cursor::Cursor;
-use snd_tokens::{TokenKind, next_token};
+use crate::token::{TokenKind, next_token};
 
 /// What comes next in a text, at its place: a word with its bytes, a parenthesis, or the end.
 #[derive(Clone, Copy)]
-pub(crate) enum Next<'a> {
+pub enum Next<'a> {
+    /// A word, with its bytes.
     Word(u64, &'a [u8]),
+    /// `(`
     Open(u64),
+    /// `)`
     Close(u64),
+    /// The end, at the length of the text.
     End(u64),
 }
 
@@ -36,7 +40,7 @@ fn next_from(bytes: &[u8], from: u64) -> (Next<'_>, u64)
 
 impl<'a> Cursor<'a> {
     /// The text from a place on.
-    pub(crate) fn new(bytes: &'a [u8], at: u64) -> Cursor<'a>
+    pub fn new(bytes: &'a [u8], at: u64) -> Cursor<'a>
         requires { at ≤ length bytes.now }
         ensures { left result ≡ text_from at bytes.now }
     {
@@ -44,7 +48,7 @@ impl<'a> Cursor<'a> {
     }
 
     /// Takes what comes next; at the end it stays.
-    pub(crate) fn next(&mut self) -> Next<'a>
+    pub fn next(&mut self) -> Next<'a>
         ensures { IsNext result (left self.old) (left self.new) }
     {
         let (next, at) = next_from(self.bytes, self.at);
