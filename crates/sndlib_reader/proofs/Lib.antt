@@ -1,6 +1,6 @@
-pub mod Steps
+pub mod Adding
 pub mod Items
-pub mod Links
-pub mod Laws
-pub mod Apart
-pub mod Whole
+pub mod Tokens
+pub mod Words
+pub mod Skipped
+pub mod Listed

@@ -1,3 +1,4 @@
-pub mod Lexemes
+pub mod Balance
+pub mod Paths
 pub mod Spelling
 pub mod Reading
