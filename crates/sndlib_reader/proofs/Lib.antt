@@ -4,3 +4,8 @@ pub mod Tokens
 pub mod Words
 pub mod Skipped
 pub mod Listed
+pub mod Passes
+pub mod Together
+pub mod Grammar
+pub mod Lines
+pub mod Whole
