@@ -1,6 +1,5 @@
 -- One more node, module, link or demand.
-use Rattle.std.proofs.Common.{◌≡◌, ℕ, ◌<◌, List, [], ◌∷◌, ◌++◌, length, map, Ok, refl, sym, ap, ◌∙◌, subst}
-use Rattle.std.proofs.lemmas.List.{map_push}
+use Rattle.std.proofs.Common.{◌≡◌, ℕ, ◌<◌, List, [], ◌∷◌, ◌++◌, length, Ok, refl, subst}
 use Rattle.snd_tokens.specs.Lexemes.{Text, WordAt}
 use Rattle.net_core.specs.declared.network.Module.{Module}
 use Rattle.net_core.specs.declared.demand.Demand.{Demand}

@@ -1,6 +1,6 @@
 -- Nodes, modules, links and demands: what is read is spelled, and what is spelled is read.
-use Rattle.std.proofs.Common.{◌≡◌, ◌≢◌, ℕ, ◌+◌, ◌*◌, ◌^◌, ◌<◌, ◌≤◌, false, true, List, [], ◌∷◌, ◌++◌, length, map, All, Some, Result, Ok, Err, refl, sym, ap, subst, ◌∙◌, arith, ◌⊎◌, ⊎_elim, inl, inr}
-use Rattle.std.specs.Prelude.{◌==◌, ◌&&◌, nat_lt, codes}
+use Rattle.std.proofs.Common.{◌≡◌, ◌≢◌, ℕ, ◌<◌, ◌≤◌, false, List, [], ◌∷◌, ◌++◌, length, All, Some, Result, Ok, refl, sym, ap, subst, ◌∙◌, arith, ◌⊎◌, inl, inr}
+use Rattle.std.specs.Prelude.{◌==◌, ◌&&◌, nat_lt}
 use Rattle.std.proofs.lemmas.Bool.{eqb-false, ne_eqb, ltb-false}
 use Rattle.std.proofs.lemmas.List.Quantifiers.{position-Some}
 use Rattle.snd_tokens.specs.Lexemes.{Lexeme, Word, Open, Close, Text, WordAt, OpenAt, CloseAt, EndAt, lexemes}
@@ -10,14 +10,14 @@ use Rattle.net_core.specs.declared.network.Module.{Module}
 use Rattle.net_core.specs.declared.demand.Demand.{Demand}
 use Rattle.net_core.specs.Tests.{are_same}
 use Rattle.net_core.specs.Network.{IsModule, IsLink}
-use Rattle.net_core.specs.Demands.{AreDemands, IsDemand}
+use Rattle.net_core.specs.Demands.{AreDemands}
 use Rattle.sndlib_reader.specs.declared.costs.CostedLink.{CostedLink}
 use Rattle.sndlib_reader.specs.declared.fault.Limited.TheVariants as limits
 use Rattle.sndlib_reader.specs.declared.fault.ReadKind.{ReadKind}
 use Rattle.sndlib_reader.specs.declared.fault.ReadKind.TheVariants.{Token, SelfLink, SelfDemand, FixedLink}
 use Rattle.sndlib_reader.specs.Spelling.{SpellsItems, SpellsSkipped, SpellsNode, SpellsEnds, SpellsModule, SpellsLink, SpellsDemand, node_place}
-use Rattle.sndlib_reader.specs.Reading.{Fault, ◌>>=◌, node_of, other_node, new_name, amount, unit, need, hops, capacity, said_at, open_at, close_at, coordinates_at, skipped_at, node_at, nodes_at, ends_at, module_at, modules_at, served, link_names, link_at, links_at, demand_names, demand_at, demands_at, total}
-use Rattle.sndlib_reader.proofs.Tokens.{Behind, Left, Said, bind_ok, unless_ok, ok_is, said_takes, said_again, open_takes, open_again, close_takes, close_again}
+use Rattle.sndlib_reader.specs.Reading.{Fault, ◌>>=◌, node_of, other_node, new_name, amount, unit, need, hops, capacity, said_at, open_at, close_at, coordinates_at, node_at, nodes_at, ends_at, module_at, modules_at, served, link_names, link_at, links_at, demand_names, demand_at, demands_at, total}
+use Rattle.sndlib_reader.proofs.Tokens.{Behind, Left, bind_ok, unless_ok, ok_is, said_takes, said_again, open_takes, open_again, close_takes, close_again}
 use Rattle.sndlib_reader.proofs.Words.{new_takes, new_again, node_takes, node_again, other_takes, other_again, amount_takes, amount_again, amount_small, unit_takes, unit_again, capacity_takes, capacity_again, need_takes, need_again, hops_takes, hops_again}
 use Rattle.sndlib_reader.proofs.Skipped.{skipped_takes, skipped_again}
 use Rattle.sndlib_reader.proofs.Listed.{Each, IsNotOpen, IsItem, items_take, items_again}

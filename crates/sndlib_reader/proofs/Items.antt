@@ -1,12 +1,12 @@
 -- Steps of a loop over items.
-use Rattle.std.proofs.Common.{◌≡◌, ℕ, zero, suc, ◌+◌, ◌-◌, ◌<◌, ◌≤◌, List, [], ◌∷◌, ◌++◌, length, Result, Ok, Err, refl, sym, ap, ◌∙◌, arith, length-append}
+use Rattle.std.proofs.Common.{◌≡◌, ℕ, zero, suc, ◌-◌, ◌<◌, List, [], ◌∷◌, ◌++◌, length, Result, Ok, Err, refl, arith, length-append}
 use Rattle.snd_tokens.specs.Lexemes.{Text, WordAt}
 use Rattle.sndlib_reader.specs.declared.fault.Limited.{Limited}
 use Rattle.sndlib_reader.specs.declared.fault.ReadKind.{ReadKind}
 use Rattle.sndlib_reader.specs.declared.fault.ReadKind.TheVariants.{Limit}
 use Rattle.sndlib_reader.specs.declared.fault.ReadRefusal.{ReadRefusal}
 use Rattle.sndlib_reader.specs.declared.fault.ReadRefusal.TheVariants.{Bad, NoMemory}
-use Rattle.sndlib_reader.specs.Reading.{Fault, Fails, Reading, ◌>>=◌, placed, items_at}
+use Rattle.sndlib_reader.specs.Reading.{Fails, Reading, placed, items_at}
 
 module _ {X A : Type 0} (first : List X → List ℕ → Result A ReadKind) (more : List X → A → Text → Reading X) (last : List X → Result (List X) ReadKind) (kind : Limited) where
   -- an item more

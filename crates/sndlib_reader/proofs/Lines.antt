@@ -1,17 +1,16 @@
 -- Admissible paths: what is read is spelled, and what is spelled is read.
-use Rattle.std.proofs.Common.{◌≡◌, ℕ, ◌≤◌, Bool, true, false, List, [], ◌∷◌, ◌++◌, length, map, All, Result, Ok, Err, refl, sym, ap, subst, ◌∙◌, arith, append_assoc, ◌⊎◌, ⊎_elim, inl, inr, Option, Some, None}
+use Rattle.std.proofs.Common.{◌≡◌, ℕ, ◌≤◌, Bool, true, false, List, [], ◌∷◌, ◌++◌, length, map, All, Ok, refl, sym, ap, subst, ◌∙◌, arith, append_assoc, inl, inr}
 use Rattle.std.specs.Prelude.{flat_map, codes}
 use Rattle.std.proofs.lemmas.List.Elements.{All-cons, All-head, All-tail, All-nil}
 use Rattle.snd_tokens.specs.Lexemes.{Lexeme, Word, Open, Close, Text, WordAt, OpenAt, CloseAt, EndAt, lexemes}
 use Rattle.snd_tokens.proofs.Texts.{word_first, open_first, close_first, nothing_left}
 use Rattle.net_core.specs.Tests.{are_same}
-use Rattle.sndlib_reader.specs.declared.fault.ReadKind.{ReadKind}
 use Rattle.sndlib_reader.specs.declared.fault.ReadKind.TheVariants.{Section}
 use Rattle.sndlib_reader.specs.declared.paths.Stage.{Stage}
 use Rattle.sndlib_reader.specs.declared.paths.Stage.TheVariants as stages
 use Rattle.sndlib_reader.specs.Paths.{NamedPath, Line, path_text, line_text, IsKnown, IsNamedPath, IsLine, SpellsPaths}
-use Rattle.sndlib_reader.specs.Reading.{Fault, ◌>>=◌, placed, name_of, known_name, word_step, open_step, close_step, lines_at, open_at, end_at, paths_at}
-use Rattle.sndlib_reader.proofs.Tokens.{Left, bind_ok, if_ok, placed_ok, ok_is, same_is, is_same, open_takes, open_again}
+use Rattle.sndlib_reader.specs.Reading.{◌>>=◌, placed, name_of, known_name, word_step, lines_at, open_at, end_at, paths_at}
+use Rattle.sndlib_reader.proofs.Tokens.{Left, bind_ok, if_ok, placed_ok, ok_is, same_is, open_takes, open_again}
 use Rattle.sndlib_reader.proofs.Words.{name_takes, name_again, known_takes, known_again}
 
 -- ---- what is read is spelled

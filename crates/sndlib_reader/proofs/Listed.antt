@@ -1,13 +1,13 @@
 -- Items up to a closing parenthesis: what is read is spelled, and what is spelled is read.
-use Rattle.std.proofs.Common.{◌≡◌, ℕ, zero, suc, ◌+◌, ◌<◌, ◌≤◌, List, [], ◌∷◌, ◌++◌, length, Result, Ok, Err, refl, sym, ap, subst, ◌∙◌, arith, append_assoc, append-nil}
+use Rattle.std.proofs.Common.{◌≡◌, ℕ, zero, suc, ◌≤◌, List, [], ◌∷◌, ◌++◌, length, Result, Ok, Err, refl, sym, ap, subst, ◌∙◌, arith, append_assoc, append-nil}
 use Rattle.snd_tokens.specs.Lexemes.{Lexeme, Word, Open, Close, Text, WordAt, OpenAt, CloseAt, EndAt, lexemes}
 use Rattle.snd_tokens.proofs.Texts.{close_first}
 use Rattle.sndlib_reader.specs.declared.fault.Limited.{Limited}
 use Rattle.sndlib_reader.specs.declared.fault.ReadKind.{ReadKind}
 use Rattle.sndlib_reader.specs.declared.fault.ReadKind.TheVariants.{Limit}
 use Rattle.sndlib_reader.specs.Spelling.{SpellsItems}
-use Rattle.sndlib_reader.specs.Reading.{Fault, Reading, ◌>>=◌, placed, items_at}
-use Rattle.sndlib_reader.proofs.Tokens.{Behind, bind_ok, placed_ok, ok_is, never, done}
+use Rattle.sndlib_reader.specs.Reading.{Reading, ◌>>=◌, placed, items_at}
+use Rattle.sndlib_reader.proofs.Tokens.{Behind, bind_ok, placed_ok, ok_is, never}
 
 -- each new item meets a condition on it and all earlier ones
 abbrev pub Each : {X : Type 0} → (List X → X → Type 0) → List X → List X → Type 0

@@ -1,11 +1,9 @@
 -- Sound nodes and links pass each test of a network.
-use Rattle.std.proofs.Common.{◌≡◌, ◌≢◌, ℕ, ◌+◌, ◌<◌, ◌≤◌, ◌^◌, Bool, true, false, not, nat_lt, List, [], ◌∷◌, ◌++◌, length, map, get_or, All, AllPairs, Option, None, refl, sym, ap, subst, ◌∙◌, arith, append_assoc, append-nil, length-append, ⊎_elim}
+use Rattle.std.proofs.Common.{◌≡◌, ◌≢◌, ℕ, ◌<◌, ◌≤◌, ◌^◌, Bool, true, false, nat_lt, List, [], ◌∷◌, ◌++◌, length, map, get_or, All, Option, None, refl, sym, ap, subst, ◌∙◌, arith, ⊎_elim}
 use Rattle.std.specs.Prelude.{◌==◌, ◌||◌, ◌&&◌}
 use Rattle.std.specs.List.{list_any}
 use Rattle.std.specs.Option.{option_or}
-use Rattle.std.proofs.Math.ListN.{get_or-append}
-use Rattle.std.proofs.Math.Seq.{get_or-append_seam}
-use Rattle.std.proofs.lemmas.Bool.{cases_Bool, lt-ltb, le-ltb, lt-leb, ne_eqb, eqb-true}
+use Rattle.std.proofs.lemmas.Bool.{cases_Bool, lt-ltb, le-ltb, lt-leb, ne_eqb}
 use Rattle.std.proofs.lemmas.List.{map_push, length-map}
 use Rattle.std.proofs.lemmas.List.Elements.{All-cons, All-head, All-tail, All-nil}
 use Rattle.std.proofs.lemmas.List.Folds.{list_any_none}
@@ -14,7 +12,7 @@ use Rattle.net_core.specs.declared.network.Link.{Link}
 use Rattle.net_core.specs.declared.network.NetFault.{NetFault}
 use Rattle.net_core.specs.declared.network.NetFault.TheVariants.{DoubleNode}
 use Rattle.net_core.specs.Tests.{are_same, first_fault, is_named, is_large}
-use Rattle.net_core.specs.Network.{IsModule, IsLink, IsNetwork, has_large_amount, link_tests, links_tests, nodes_tests, network_fault}
+use Rattle.net_core.specs.Network.{IsModule, IsLink, link_tests, links_tests, nodes_tests, network_fault}
 use Rattle.net_core.proofs.Checks.{first_fault-append, none_head, none_or}
 use Rattle.net_core.proofs.NetworkChecks.{sound_link, sound_network, counted}
 use Rattle.sndlib_reader.specs.declared.costs.CostedLink.{CostedLink}

@@ -1,5 +1,5 @@
 -- What is skipped balances, and what balances is skipped.
-use Rattle.std.proofs.Common.{◌≡◌, ℕ, zero, suc, ◌+◌, ◌≤◌, List, [], ◌∷◌, ◌++◌, take, Result, Ok, Err, refl, ap, ◌∙◌, arith}
+use Rattle.std.proofs.Common.{◌≡◌, ℕ, zero, suc, ◌+◌, ◌≤◌, List, [], ◌∷◌, ◌++◌, take, Ok, refl, ap, ◌∙◌, arith}
 use Rattle.snd_tokens.specs.Lexemes.{Lexeme, Word, Open, Close, Text, WordAt, OpenAt, CloseAt, EndAt, lexemes}
 use Rattle.snd_tokens.proofs.Texts.{word_first, open_first, close_first}
 use Rattle.sndlib_reader.specs.Balance.{opened, closed, AreBalanced}

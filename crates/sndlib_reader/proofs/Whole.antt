@@ -1,12 +1,11 @@
 -- Sections and whole files: what is read is spelled, and what is spelled is read.
-use Rattle.std.proofs.Common.{◌≡◌, ℕ, ◌≤◌, Bool, true, false, cond, List, [], ◌∷◌, ◌++◌, map, length, None, Result, Ok, Err, IfOk, refl, sym, ap, subst, ◌∙◌, ◌⊎◌, ⊎_elim, inl, inr}
+use Rattle.std.proofs.Common.{◌≡◌, ℕ, Bool, true, false, cond, List, [], ◌∷◌, ◌++◌, map, length, None, Result, Ok, Err, IfOk, refl, sym, ap, subst, ◌∙◌, inl, inr}
 use Rattle.std.specs.Prelude.{codes}
 use Rattle.snd_tokens.specs.Header.{first_line, second_line, trimmed}
 use Rattle.snd_tokens.specs.Lexemes.{Lexeme, Word, Open, Close, Text, WordAt, OpenAt, CloseAt, EndAt, lexemes, text_from}
 use Rattle.snd_tokens.proofs.Texts.{word_first}
 use Rattle.net_core.specs.declared.network.Link.{Link}
 use Rattle.net_core.specs.declared.network.Network.{Network}
-use Rattle.net_core.specs.declared.network.Notes.{Notes}
 use Rattle.net_core.specs.declared.demand.Demand.{Demand}
 use Rattle.net_core.specs.Tests.{are_same}
 use Rattle.net_core.specs.Network.{network_fault}
@@ -17,12 +16,12 @@ use Rattle.sndlib_reader.specs.declared.fault.ReadKind.TheVariants.{Header, Sect
 use Rattle.sndlib_reader.specs.declared.fault.ReadRefusal.{ReadRefusal}
 use Rattle.sndlib_reader.specs.declared.fault.ReadRefusal.TheVariants.{Bad}
 use Rattle.sndlib_reader.specs.Paths.{SpellsPaths}
-use Rattle.sndlib_reader.specs.Spelling.{SpellsItems, SpellsSection, SpellsSkipped, SpellsMeta, SpellsNode, SpellsLink, SpellsDemand, SpellsSections, Spells, notes_of, header}
+use Rattle.sndlib_reader.specs.Spelling.{SpellsItems, SpellsSkipped, SpellsMeta, SpellsNode, SpellsLink, SpellsDemand, SpellsSections, Spells, notes_of, header}
 use Rattle.sndlib_reader.specs.Reading.{Fault, Gives, IsFirstFault, Parts, parts_of, parts, ◌>>=◌, open_at, skipped_at, section_at, meta_at, nodes_at, links_at, demands_at, node_section_at, link_section_at, demand_section_at, link_names, demand_names, paths_at, sections_at, file_at}
-use Rattle.sndlib_reader.proofs.Tokens.{Behind, Left, bind_ok, if_ok, ok_is, never, same_is, is_same, open_takes, open_again, section_takes, section_again}
+use Rattle.sndlib_reader.proofs.Tokens.{Left, bind_ok, if_ok, ok_is, never, same_is, is_same, open_takes, open_again, section_takes, section_again}
 use Rattle.sndlib_reader.proofs.Skipped.{skipped_takes, skipped_again}
 use Rattle.sndlib_reader.proofs.Passes.{network_passes, network_passed}
-use Rattle.sndlib_reader.proofs.Grammar.{TakesNodes, nodes_take, nodes_again, TakesLinks, links_take, links_again, TakesDemands, demands_take, demands_again}
+use Rattle.sndlib_reader.proofs.Grammar.{nodes_take, nodes_again, links_take, links_again, demands_take, demands_again}
 use Rattle.sndlib_reader.proofs.Lines.{paths_take, paths_again}
 
 -- ---- META

@@ -1,6 +1,6 @@
 -- What a word says, and which words say it.
-use Rattle.std.proofs.Common.{◌≡◌, ◌≢◌, ℕ, ◌+◌, ◌*◌, ◌^◌, ◌<◌, ◌≤◌, Bool, true, false, cond, not, List, [], ◌∷◌, length, Option, None, Some, Result, Ok, Err, refl, sym, ap, subst, ◌∙◌, arith, ◌⊎◌, ⊎_elim, inl, inr}
-use Rattle.std.specs.Prelude.{◌==◌, ◌||◌, nat_lt, codes, IsTrue}
+use Rattle.std.proofs.Common.{◌≡◌, ℕ, ◌+◌, ◌*◌, ◌^◌, ◌<◌, ◌≤◌, Bool, true, false, cond, not, List, length, Option, None, Some, Result, Ok, Err, refl, sym, ap, subst, ◌∙◌, ◌⊎◌, ⊎_elim, inl, inr}
+use Rattle.std.specs.Prelude.{◌==◌, ◌||◌, nat_lt, codes}
 use Rattle.std.proofs.lemmas.Bool.{cases_Bool, ltb-true, ltb-false, le-ltb, lt-ltb}
 use Rattle.snd_tokens.specs.declared.amount.NumberFault.{NumberFault}
 use Rattle.snd_tokens.specs.declared.amount.NumberFault.TheVariants.{NotANumber, TooFine, TooLarge}
@@ -12,8 +12,8 @@ use Rattle.sndlib_reader.specs.declared.fault.Limited.TheVariants as limits
 use Rattle.sndlib_reader.specs.declared.fault.ReadKind.{ReadKind}
 use Rattle.sndlib_reader.specs.declared.fault.ReadKind.TheVariants.{Limit, Number, UnknownName, DoubleName, ZeroModule}
 use Rattle.sndlib_reader.specs.Spelling.{IsHops, node_place}
-use Rattle.sndlib_reader.specs.Reading.{◌>>=◌, name_of, new_name, known_name, node_or, node_of, other_node, number, amount, unit, capacity, need, hops}
-use Rattle.sndlib_reader.proofs.Tokens.{bind_ok, if_ok, unless_ok, ok_is, same_is, is_same}
+use Rattle.sndlib_reader.specs.Reading.{name_of, new_name, known_name, node_or, node_of, other_node, number, amount, unit, capacity, need, hops}
+use Rattle.sndlib_reader.proofs.Tokens.{bind_ok, if_ok, unless_ok, ok_is, same_is}
 
 pub name_takes : (w name : List ℕ) → name_of w ≡ Ok name → (w ≡ name) × (length name ≤ 255)
 name_takes w name e =

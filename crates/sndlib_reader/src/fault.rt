@@ -1,4 +1,5 @@
 ghost use Rattle.std.specs.Prelude.{◌≡◌};
+ghost use Rattle.sndlib_reader.specs.Kinds.{kind_word};
 
 use snd_tokens::NumberFault;
 use thiserror::Error;
@@ -47,6 +48,51 @@ pub enum ReadKind {
     ZeroModule,
     /// A link has pre-installed capacity and no module.
     FixedLink,
+}
+
+impl ReadKind {
+    /// How the kind is written.
+    pub fn word(&self) -> &'static str
+        ensures { result.now ≡ kind_word self.now }
+    {
+        match self {
+            ReadKind::Header => "header",
+            ReadKind::Section => "section",
+            ReadKind::Token => "token",
+            ReadKind::Ended => "ended",
+            ReadKind::Limit(limited) => limit_word(*limited),
+            ReadKind::Number(fault) => number_word(*fault),
+            ReadKind::UnknownName => "unknown-name",
+            ReadKind::DoubleName => "double-name",
+            ReadKind::SelfLink => "self-link",
+            ReadKind::SelfDemand => "self-demand",
+            ReadKind::ZeroModule => "zero-module",
+            ReadKind::FixedLink => "fixed-link",
+        }
+    }
+}
+
+fn limit_word(limited: Limited) -> &'static str
+    ensures { result.now ≡ kind_word (ReadKind.Limit limited) }
+{
+    match limited {
+        Limited::Name => "limit-name",
+        Limited::Nodes => "limit-nodes",
+        Limited::Links => "limit-links",
+        Limited::Modules => "limit-modules",
+        Limited::Demands => "limit-demands",
+        Limited::Total => "limit-total",
+    }
+}
+
+fn number_word(fault: NumberFault) -> &'static str
+    ensures { result.now ≡ kind_word (ReadKind.Number fault) }
+{
+    match fault {
+        NumberFault::NotANumber => "number-not",
+        NumberFault::TooFine => "number-fine",
+        NumberFault::TooLarge => "number-large",
+    }
 }
 
 /// Why a file was not read.

@@ -14,3 +14,6 @@ mod steps;
 
 pub use fault::{Limited, ReadKind, ReadRefusal};
 pub use reader::read_network;
+
+#[cfg(test)]
+mod tests;

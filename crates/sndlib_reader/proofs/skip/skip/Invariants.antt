@@ -1,4 +1,4 @@
-use Rattle.std.proofs.Common.{◌≡◌, ◌≤◌, ◌+◌, ◌^◌, ◌<◌}
+use Rattle.std.proofs.Common.{◌≡◌, ◌≤◌, ◌+◌}
 use Rattle.snd_tokens.specs.Lexemes.{left, size}
 use Rattle.sndlib_reader.specs.Reading.{skipped_at}
 use Rattle.sndlib_reader.proofs.skip.skip.Given as goal
