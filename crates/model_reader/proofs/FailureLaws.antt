@@ -21,10 +21,11 @@ use Rattle.model_reader.specs.declared.failures.FailuresKind.{FailuresKind}
 use Rattle.model_reader.specs.declared.failures.FailuresKind.TheVariants.{Header, Section, Token, LimitName, DoubleState, LimitStates}
 use Rattle.model_reader.specs.declared.failures.FailuresRefusal.{FailuresRefusal}
 use Rattle.model_reader.specs.declared.failures.FailuresRefusal.TheVariants.{Bad, NoMemory}
-use Rattle.model_reader.specs.Lexemes.{Lexeme, Word, Open, Close, Text, WordAt, OpenAt, CloseAt, EndAt, lexemes, text_from}
+use Rattle.snd_tokens.specs.Lexemes.{Lexeme, Word, Open, Close, Text, WordAt, OpenAt, CloseAt, EndAt, lexemes, text_from}
 use Rattle.model_reader.specs.Failures.{IsShort, Spells, SpellsStates, header, link_name, single_states, state_text}
 use Rattle.model_reader.specs.FailuresReading.{Fault, Gives, ◌>>=◌, failing_at, failures_at, failures_of, known_or, last_at, link_at, link_place, links_at, list_at, name_at, open_at, states_at}
-use Rattle.model_reader.proofs.Steps.{if_ok, unless_ok, ok_is, never, same_is, is_same, word_first, open_first, close_first, nothing_left}
+use Rattle.snd_tokens.proofs.Texts.{word_first, open_first, close_first, nothing_left}
+use Rattle.model_reader.proofs.Steps.{if_ok, unless_ok, ok_is, never, same_is, is_same}
 use Rattle.model_reader.proofs.Sound.{differ, new_name, no_fault, some_links}
 use Rattle.model_reader.proofs.Singles.{none_some, network_differs, network_singles}
 

@@ -12,10 +12,11 @@ use Rattle.model_reader.specs.declared.model.ModelKind.TheVariants as kinds
 use Rattle.model_reader.specs.declared.model.ModelRefusal.{ModelRefusal}
 use Rattle.model_reader.specs.declared.model.ModelRefusal.TheVariants.{Bad, NoMemory}
 use Rattle.model_reader.specs.declared.settings.Known.{Known}
-use Rattle.model_reader.specs.Lexemes.{Lexeme, Word, Text, WordAt, OpenAt, CloseAt, EndAt, lexemes, text_from}
+use Rattle.snd_tokens.specs.Lexemes.{Lexeme, Word, Text, WordAt, OpenAt, CloseAt, EndAt, lexemes, text_from}
 use Rattle.model_reader.specs.Models.{IsEachOnce, Spells, header, key_word, setting, survivability_word, value_word}
 use Rattle.model_reader.specs.ModelReading.{Due, Key, Sign, Value, Fault, Gives, ◌>>=◌, all_keys, complete, first_key, has_key, is_served, key_of, model_of, new_key, nothing, same_key, settings_at, with_setting}
-use Rattle.model_reader.proofs.Steps.{if_ok, unless_ok, ok_is, never, same_is, is_same, word_first, nothing_left}
+use Rattle.snd_tokens.proofs.Texts.{word_first, nothing_left}
+use Rattle.model_reader.proofs.Steps.{if_ok, unless_ok, ok_is, never, same_is, is_same}
 use Rattle.model_reader.proofs.Keys.{key_again, key_takes, same_key_is, has_again, different_push, is_new, has_more, has_last, all_came, none_missing, served_again, asks, value_is}
 
 -- the value of a step that did not fail

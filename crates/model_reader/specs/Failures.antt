@@ -6,7 +6,7 @@ use Rattle.net_core.specs.declared.ids.LinkId.{LinkId}
 use Rattle.net_core.specs.declared.network.Link.{Link}
 use Rattle.net_core.specs.declared.states.Listed.{Listed}
 use Rattle.net_core.specs.States.{AreStates}
-use Rattle.model_reader.specs.Lexemes.{Lexeme, Word, Open, Close, lexemes, text_from}
+use Rattle.snd_tokens.specs.Lexemes.{Lexeme, Word, Open, Close, lexemes, text_from}
 
 -- the first line of a failure file
 abbrev pub header : List ℕ

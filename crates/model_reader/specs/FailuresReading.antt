@@ -9,7 +9,7 @@ use Rattle.model_reader.specs.declared.failures.FailuresKind.{FailuresKind}
 use Rattle.model_reader.specs.declared.failures.FailuresKind.TheVariants.{Header, Section, Token, Ended, LimitName, UnknownLink, DoubleState, LimitStates}
 use Rattle.model_reader.specs.declared.failures.FailuresRefusal.{FailuresRefusal}
 use Rattle.model_reader.specs.declared.failures.FailuresRefusal.TheVariants.{Bad, NoMemory}
-use Rattle.model_reader.specs.Lexemes.{Text, WordAt, OpenAt, CloseAt, EndAt, text_from}
+use Rattle.snd_tokens.specs.Lexemes.{Text, WordAt, OpenAt, CloseAt, EndAt, text_from}
 use Rattle.model_reader.specs.Failures.{header, single_states}
 
 -- a fault: its place and its kind

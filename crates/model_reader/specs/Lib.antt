@@ -1,4 +1,3 @@
-pub mod Lexemes
 pub mod Models
 pub mod ModelReading
 pub mod Failures

@@ -10,7 +10,7 @@ use Rattle.model_reader.specs.declared.model.ModelKind.TheVariants as kinds
 use Rattle.model_reader.specs.declared.model.ModelRefusal.{ModelRefusal}
 use Rattle.model_reader.specs.declared.model.ModelRefusal.TheVariants.{Bad, NoMemory}
 use Rattle.model_reader.specs.declared.settings.Known.{Known}
-use Rattle.model_reader.specs.Lexemes.{Text, WordAt, OpenAt, CloseAt, EndAt, text_from}
+use Rattle.snd_tokens.specs.Lexemes.{Text, WordAt, OpenAt, CloseAt, EndAt, text_from}
 use Rattle.model_reader.specs.Models.{header, key_word, value_word, survivability_word}
 
 -- a fault: its place and its kind

@@ -4,7 +4,7 @@ use Rattle.snd_tokens.specs.Header.{HasHeader, second_line}
 use Rattle.model_reader.specs.declared.model.Model.{Model}
 use Rattle.model_reader.specs.declared.model.ModelKey.{ModelKey}
 use Rattle.model_reader.specs.declared.model.ModelKey.TheVariants.{Demand, Link, LinkCapacity, FixedCharge, Routing, AdmissiblePath, HopLimit, Survivability}
-use Rattle.model_reader.specs.Lexemes.{Lexeme, Word, lexemes, text_from}
+use Rattle.snd_tokens.specs.Lexemes.{Lexeme, Word, lexemes, text_from}
 
 -- the first line of a model file
 abbrev pub header : List ℕ

@@ -1,16 +1,14 @@
 ghost use Rattle.std.specs.Prelude.{◌≡◌, List, IfOk, Ok};
 ghost use Rattle.net_core.specs.declared.states.Listed.{Listed as State};
-ghost use Rattle.model_reader.specs.Lexemes.{left};
+ghost use Rattle.snd_tokens.specs.Lexemes.{left};
 ghost use Rattle.model_reader.specs.Failures.{Spells, single_states};
 ghost use Rattle.model_reader.specs.FailuresReading.{Gives, failures_at, failures_of, last_at, list_at};
 
-use crate::cursor::Cursor;
 use crate::failures::{FailuresKind, FailuresRefusal};
-use crate::lexeme::Next;
 use crate::list::{bad, end, list};
 use crate::single::single_links;
 use net_core::{Network, States};
-use snd_tokens::after_header;
+use snd_tokens::{Cursor, Next, after_header};
 use std::alloc::Global;
 
 const HEADER: &[u8] = b"?planner failures; version: 1";

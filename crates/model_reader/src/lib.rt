@@ -1,10 +1,8 @@
 //! Reads planning models and failure lists.
 #![tactic(auto)]
 
-mod cursor;
 mod failure_file;
 pub mod failures;
-mod lexeme;
 mod list;
 pub mod model;
 mod settings;

@@ -2,13 +2,12 @@ ghost use Rattle.std.specs.Prelude.{◌≡◌, ◌≤◌, ◌-◌, [], length, L
 ghost use Rattle.snd_tokens.specs.Tokens.{is_plain};
 ghost use Rattle.net_core.specs.Tests.{is_named};
 ghost use Rattle.net_core.specs.declared.states.Listed.{Listed as State};
-ghost use Rattle.model_reader.specs.Lexemes.{WordAt, left, size};
+ghost use Rattle.snd_tokens.specs.Lexemes.{WordAt, left, size};
 ghost use Rattle.model_reader.specs.FailuresReading.{Gives, Leads, failing_at, last_at, link_at, link_place, links_at, list_at, name_at, open_at, states_at};
 
-use crate::cursor::Cursor;
 use crate::failures::{FailuresKind, FailuresRefusal};
-use crate::lexeme::Next;
 use net_core::{Link, LinkId, List, Listed, Name};
+use snd_tokens::{Cursor, Next};
 use std::alloc::Global;
 
 const MAX_NAME: usize = 255;

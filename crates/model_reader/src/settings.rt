@@ -3,15 +3,13 @@ ghost use Rattle.net_core.specs.Tests.{are_same};
 ghost use Rattle.model_reader.specs.declared.model.Model.{Model as Mod};
 ghost use Rattle.model_reader.specs.declared.model.ModelKey.{ModelKey as ModelKeys};
 ghost use Rattle.model_reader.specs.declared.settings.Known.{Known as KnownKeys};
-ghost use Rattle.model_reader.specs.Lexemes.{WordAt, left, size};
+ghost use Rattle.snd_tokens.specs.Lexemes.{WordAt, left, size};
 ghost use Rattle.model_reader.specs.Models.{Spells, key_word, value_word};
 ghost use Rattle.model_reader.specs.ModelReading.{Gives, Key, Leads, Sign, Value, all_keys, complete, first_key, has_key, is_served, key_of, model_of, new_key, nothing, settings_at, with_setting};
 
-use crate::cursor::Cursor;
-use crate::lexeme::Next;
 use crate::model::{Model, ModelKey, ModelKind, ModelRefusal};
 use net_core::List;
-use snd_tokens::after_header;
+use snd_tokens::{Cursor, Next, after_header};
 use std::alloc::Global;
 
 const HEADER: &[u8] = b"?SNDlib native format; type: model; version: 1.0";

@@ -51,3 +51,7 @@ decimal_below n limit word =
 -- the value of an amount's word in thousandths, or its fault
 unfoldable pub amount_of : List ℕ → Result ℕ NumberFault
 amount_of word = decimal_below 3 (2 ^ 40) word
+
+-- the whole number that a unit's word writes, below 2^40 thousandths, or its fault
+unfoldable pub units_of : List ℕ → Result ℕ NumberFault
+units_of word = decimal_below 0 1099511628 word

@@ -1,6 +1,6 @@
 ghost use Rattle.std.specs.Prelude.{◌≡◌, ◌+◌, ◌*◌, ◌^◌, ◌<◌, ◌≤◌, ◌==◌, drop, IsTrue, IfOk, MatchOption, MatchResult};
 ghost use Rattle.std.specs.List.{list_all};
-ghost use Rattle.snd_tokens.specs.Amounts.{AreParts, amount_of, decimal_below, first_places, is_decimal, is_point};
+ghost use Rattle.snd_tokens.specs.Amounts.{AreParts, amount_of, decimal_below, first_places, is_decimal, is_point, units_of};
 ghost use Rattle.snd_tokens.specs.Digits.{is_digit, number_of};
 
 use crate::digits::{are_digits, number_below};
@@ -23,6 +23,9 @@ pub enum NumberFault {
 
 /// An amount is below this many thousandths.
 const AMOUNT_LIMIT: u128 = 1 << 40;
+
+/// A whole amount is below this many units, of which each has 1000 thousandths.
+const UNITS_LIMIT: u128 = 1_099_511_628;
 
 /// The digits before the point and those after it, or None where the word is no decimal number.
 fn parts(word: &[u8]) -> Option<(&[u8], &[u8])>
@@ -49,6 +52,13 @@ fn is_coarse(places: &[u8]) -> bool
     ensures { result ≡ list_all (λ b. b == 48) (drop 3 places.now) }
 {
     places.iter().skip(3).all(|b| *b == b'0')
+}
+
+/// Whether all places are zeros.
+fn are_zeros(places: &[u8]) -> bool
+    ensures { result ≡ list_all (λ b. b == 48) places.now }
+{
+    places.iter().all(|b| *b == b'0')
 }
 
 /// The number of thousandths, or None where that reaches the limit.
@@ -87,5 +97,21 @@ pub fn milli(word: &[u8]) -> Result<u64, NumberFault>
     ensures small { IfOk result (λ n. n < 2 ^ 40) }
 {
     let number = decimal(word, AMOUNT_LIMIT)?;
+    Ok(number as u64)
+}
+
+/// The value of an amount that is a whole number.
+#[tactic(auto, unfolding(crate::specs::Amounts::units_of))]
+pub fn units(word: &[u8]) -> Result<u64, NumberFault>
+    ensures value { result ≡ units_of word.now }
+    ensures small { IfOk result (λ n. 1000 * n < 2 ^ 40) }
+{
+    let Some((whole, places)) = parts(word) else {
+        return Err(NumberFault::NotANumber);
+    };
+    if !are_zeros(places) {
+        return Err(NumberFault::TooFine);
+    }
+    let number = number_below(0, whole, UNITS_LIMIT).ok_or(NumberFault::TooLarge)?;
     Ok(number as u64)
 }

@@ -14,8 +14,8 @@ fn all_digits(bytes: &[u8]) -> bool
     bytes.iter().all(|b| is_digit(*b))
 }
 
-/// Whether there are one or more digits, and nothing else.
-pub(crate) fn are_digits(bytes: &[u8]) -> bool
+/// Whether a word is one or more digits, and nothing else.
+pub fn are_digits(bytes: &[u8]) -> bool
     ensures { result ≡ are_digits bytes.now }
 {
     !bytes.is_empty() && all_digits(bytes)

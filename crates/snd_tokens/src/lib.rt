@@ -2,14 +2,19 @@
 #![tactic(auto)]
 
 pub mod amount;
+pub mod cursor;
 mod digits;
 mod find;
 pub mod header;
+pub mod lexeme;
 pub mod token;
 pub mod whole_number;
 
-pub use amount::{NumberFault, milli};
+pub use amount::{NumberFault, milli, units};
+pub use cursor::Cursor;
+pub use digits::are_digits;
 pub use header::after_header;
+pub use lexeme::Next;
 pub use token::{Token, TokenKind, next_token};
 pub use whole_number::{WholeFault, whole};
 

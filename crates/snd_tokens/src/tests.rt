@@ -1,4 +1,4 @@
-use crate::amount::{NumberFault, milli};
+use crate::amount::{NumberFault, milli, units};
 use crate::header::after_header;
 use crate::token::{Token, TokenKind, next_token};
 use crate::whole_number::{WholeFault, whole};
@@ -33,6 +33,23 @@ fn amounts(rt: HostRuntime) {
     ];
     for (word, value) in rows {
         assert_eq!(rt; milli(word), value);
+    }
+}
+
+#[test]
+fn whole_amounts(rt: HostRuntime) {
+    let rows: [(&[u8], Result<u64, NumberFault>); 8] = [
+        (b"1", Ok(1)),
+        (b"007.0000", Ok(7)),
+        (b"1099511627", Ok(1_099_511_627)),
+        (b"1099511628", Err(NumberFault::TooLarge)),
+        (b"1099511628.5", Err(NumberFault::TooFine)),
+        (b"1.0001", Err(NumberFault::TooFine)),
+        (b"1.", Err(NumberFault::NotANumber)),
+        (b"UNLIMITED", Err(NumberFault::NotANumber)),
+    ];
+    for (word, value) in rows {
+        assert_eq!(rt; units(word), value);
     }
 }
 

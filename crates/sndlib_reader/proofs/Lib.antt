@@ -1,6 +1,11 @@
-pub mod Steps
+pub mod Adding
 pub mod Items
-pub mod Links
-pub mod Laws
-pub mod Apart
+pub mod Tokens
+pub mod Words
+pub mod Skipped
+pub mod Listed
+pub mod Passes
+pub mod Together
+pub mod Grammar
+pub mod Lines
 pub mod Whole

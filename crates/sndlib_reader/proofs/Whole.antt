@@ -1,221 +1,180 @@
 -- Sections and whole files: what is read is spelled, and what is spelled is read.
-use Rattle.std.proofs.Common.{◌≡◌, ℕ, ◌<◌, ◌≤◌, Bool, true, false, cond, not, List, [], ◌∷◌, map, length, drop, get_or, All, Option, None, Some, is_some, Result, Ok, Err, IfOk, refl, sym, ap, subst, ◌∙◌}
-use Rattle.std.specs.Prelude.{◌==◌, ◌&&◌, codes}
-use Rattle.std.specs.Cmp.Lexicographic.{pointwise}
-use Rattle.std.proofs.lemmas.Bool.{eqb-true}
-use Rattle.std.proofs.lemmas.List.{length-map, get_or-map, nil_from_length}
-use Rattle.std.proofs.lemmas.List.Elements.{All-cons, All-nil}
+use Rattle.std.proofs.Common.{◌≡◌, ℕ, Bool, true, false, cond, List, [], ◌∷◌, ◌++◌, map, length, None, Result, Ok, Err, IfOk, refl, sym, ap, subst, ◌∙◌, inl, inr}
+use Rattle.std.specs.Prelude.{codes}
 use Rattle.snd_tokens.specs.Header.{first_line, second_line, trimmed}
+use Rattle.snd_tokens.specs.Lexemes.{Lexeme, Word, Open, Close, Text, WordAt, OpenAt, CloseAt, EndAt, lexemes, text_from}
+use Rattle.snd_tokens.proofs.Texts.{word_first}
 use Rattle.net_core.specs.declared.network.Link.{Link}
-use Rattle.net_core.specs.declared.network.NetFault.{NetFault}
 use Rattle.net_core.specs.declared.network.Network.{Network}
-use Rattle.net_core.specs.declared.network.Notes.{Notes}
 use Rattle.net_core.specs.declared.demand.Demand.{Demand}
-use Rattle.net_core.specs.Network.{IsLink, IsNetwork, network_fault}
-use Rattle.net_core.specs.Demands.{AreDemands, IsDemand}
-use Rattle.net_core.proofs.NetworkChecks.{sound_network}
+use Rattle.net_core.specs.Tests.{are_same}
+use Rattle.net_core.specs.Network.{network_fault}
+use Rattle.net_core.specs.Demands.{AreDemands}
 use Rattle.sndlib_reader.specs.declared.costs.CostedLink.{CostedLink}
 use Rattle.sndlib_reader.specs.declared.fault.ReadKind.{ReadKind}
-use Rattle.sndlib_reader.specs.declared.fault.ReadKind.TheVariants.{Form}
+use Rattle.sndlib_reader.specs.declared.fault.ReadKind.TheVariants.{Header, Section}
 use Rattle.sndlib_reader.specs.declared.fault.ReadRefusal.{ReadRefusal}
 use Rattle.sndlib_reader.specs.declared.fault.ReadRefusal.TheVariants.{Bad}
-use Rattle.sndlib_reader.specs.Lexemes.{Lexeme, lexemes_from, has_comment}
-use Rattle.sndlib_reader.specs.Spelling.{SpellsItems, SpellsSection, SpellsName, SpellsLink, SpellsDemand, SpellsSections, Spells, notes_of, header}
-use Rattle.sndlib_reader.specs.Reading.{Gives, Parts, parts_of, are_sound, name_at, items_at, section_at, link_at, nodes_at, links_at, network_at, demand_at, demands_at, sections_at, file_at}
-use Rattle.sndlib_reader.proofs.Steps.{bind_ok, both_true, not_true, if_ok, unless_ok, ok_is, same_is, is_same, name_again, section_takes, section_again}
-use Rattle.sndlib_reader.proofs.Items.{items_takes, items_again}
-use Rattle.sndlib_reader.proofs.Laws.{name_opens, nodes_take, link_takes, link_again, demand_takes, demand_again}
-use Rattle.sndlib_reader.proofs.Links.{links_are}
-use Rattle.sndlib_reader.proofs.Apart.{sound_takes, sound_again}
+use Rattle.sndlib_reader.specs.Paths.{SpellsPaths}
+use Rattle.sndlib_reader.specs.Spelling.{SpellsItems, SpellsSkipped, SpellsMeta, SpellsNode, SpellsLink, SpellsDemand, SpellsSections, Spells, notes_of, header}
+use Rattle.sndlib_reader.specs.Reading.{Fault, Gives, IsFirstFault, Parts, parts_of, parts, ◌>>=◌, open_at, skipped_at, section_at, meta_at, nodes_at, links_at, demands_at, node_section_at, link_section_at, demand_section_at, link_names, demand_names, paths_at, sections_at, file_at}
+use Rattle.sndlib_reader.proofs.Tokens.{Left, bind_ok, if_ok, ok_is, never, same_is, is_same, open_takes, open_again, section_takes, section_again}
+use Rattle.sndlib_reader.proofs.Skipped.{skipped_takes, skipped_again}
+use Rattle.sndlib_reader.proofs.Passes.{network_passes, network_passed}
+use Rattle.sndlib_reader.proofs.Grammar.{nodes_take, nodes_again, links_take, links_again, demands_take, demands_again}
+use Rattle.sndlib_reader.proofs.Lines.{paths_take, paths_again}
 
--- ---- links
+-- ---- META
 
--- links that were read: with their costs they are spelled
-record TakesLinks (nodes : List (List ℕ)) (text : List Lexeme) (links : List Link) (notes : Notes) (rest : List Lexeme) : Type 0 where
+meta_behind : (t rest : Text) → (open_at Section t >>= λ inside. skipped_at 0 inside) ≡ Ok rest → SpellsSkipped (lexemes t) (lexemes rest)
+meta_behind t rest e =
+    let o = bind_ok (open_at Section t) (λ inside. skipped_at 0 inside) rest e in
+    let s = skipped_takes o.0 rest o.2 in
+    (s.0, s.1, open_takes Section t o.0 o.1 ∙ ap (λ (ls : List Lexeme). Open ∷ ls) s.2)
+
+meta_take : (text rest : Text) → meta_at text ≡ Ok rest → SpellsMeta (lexemes text) (lexemes rest)
+unfolding meta_at
+meta_take (WordAt at w t) rest e =
+    elim (are_same w (codes "META")) as (λ v. are_same w (codes "META") ≡ v → cond v (open_at Section t >>= λ inside. skipped_at 0 inside) (Ok (WordAt at w t)) ≡ Ok rest → SpellsMeta (Word w ∷ lexemes t) (lexemes rest)) [
+      | true ↦ λ same e. inr (lexemes t, ap (λ (v : List ℕ). Word v ∷ lexemes t) (same_is w (codes "META") same), meta_behind t rest e)
+      | false ↦ λ other e. inl (ap (λ (x : Text). lexemes x) (ok_is (WordAt at w t) rest e))
+    ] refl e
+meta_take (OpenAt at t) rest e = inl (ap (λ (x : Text). lexemes x) (ok_is (OpenAt at t) rest e))
+meta_take (CloseAt at t) rest e = inl (ap (λ (x : Text). lexemes x) (ok_is (CloseAt at t) rest e))
+meta_take (EndAt at) rest e = inl (ap (λ (x : Text). lexemes x) (ok_is (EndAt at) rest e))
+
+meta_again : (text : Text) (after items : List Lexeme) → after ≡ Word (codes "NODES") ∷ items → SpellsMeta (lexemes text) after → Left (meta_at text) after
+unfolding meta_at
+meta_again text after items nodes (inl is) =
+    let f = word_first text (codes "NODES") items (is ∙ nodes) in
+    record { rest = text; is = subst (λ (t : Text). meta_at t ≡ Ok t) (sym f.is) refl; behind = is }
+meta_again text after items nodes (inr s) =
+    let f = word_first text (codes "META") s.0 s.1 in
+    let o = open_again Section f.rest (s.2.0 ++ Close ∷ after) (f.behind ∙ s.2.2) in
+    let k = skipped_again s.2.0 o.rest after s.2.1 o.behind in
+    let read : meta_at (WordAt f.at (codes "META") f.rest) ≡ Ok k.rest = rw o.is k.is in
+    record { rest = k.rest; is = ap (λ (t : Text). meta_at t) f.is ∙ read; behind = k.behind }
+
+-- ---- sections
+
+-- a section that was read, and what was read in it
+record TakesSection {X : Type 0} (key : List ℕ) (reads : Text → Result (X × Text) Fault) (text : Text) (x : X) (rest : Text) : Type 0 where
+  pub inside : Text
+  pub is : lexemes text ≡ Word key ∷ Open ∷ lexemes inside
+  pub read : reads inside ≡ Ok (x, rest)
+
+nodes_read : (text : Text) (y : List (List ℕ) × Text) → node_section_at text ≡ Ok y → TakesSection (codes "NODES") (λ t. nodes_at [] t) text y.0 y.1
+unfolding node_section_at
+nodes_read text y e =
+    let s = bind_ok (section_at (codes "NODES") text) (λ inside. nodes_at [] inside) y e in
+    record { inside = s.0; is = section_takes (codes "NODES") text s.0 s.1; read = s.2 }
+
+links_read : (nodes : List (List ℕ)) (text : Text) (y : List CostedLink × Text) → link_section_at nodes text ≡ Ok y → TakesSection (codes "LINKS") (λ t. links_at nodes [] t) text y.0 y.1
+unfolding link_section_at
+links_read nodes text y e =
+    let s = bind_ok (section_at (codes "LINKS") text) (λ inside. links_at nodes [] inside) y e in
+    record { inside = s.0; is = section_takes (codes "LINKS") text s.0 s.1; read = s.2 }
+
+demands_read : (nodes : List (List ℕ)) (text : Text) (y : List Demand × Text) → demand_section_at nodes text ≡ Ok y → TakesSection (codes "DEMANDS") (λ t. demands_at nodes [] t) text y.0 y.1
+unfolding demand_section_at
+demands_read nodes text y e =
+    let s = bind_ok (section_at (codes "DEMANDS") text) (λ inside. demands_at nodes [] inside) y e in
+    record { inside = s.0; is = section_takes (codes "DEMANDS") text s.0 s.1; read = s.2 }
+
+-- nodes and links that were read are a network
+pub read_passes : (a b c : Text) (nodes : List (List ℕ)) (links : List CostedLink) (d : Text) → node_section_at a ≡ Ok (nodes, b) → link_section_at nodes c ≡ Ok (links, d) → network_fault nodes (map (λ l. l.link) links) ≡ None
+read_passes a b c nodes links d first second =
+    let s = nodes_read a (nodes, b) first in
+    let t = links_read nodes c (links, d) second in
+    let n = nodes_take s.inside (nodes, b) s.read in
+    let l = links_take nodes t.inside (links, d) t.read in
+    network_passes nodes links n.few l.few n.each l.each
+
+-- sections that were read
+record TakesSections (text : Text) (p : Parts) (demands : List Demand) : Type 0 where
   pub costed : List CostedLink
-  pub links_is : map (λ l. l.link) costed ≡ links
-  pub notes_is : notes_of costed ≡ notes
-  pub spelled : SpellsItems (SpellsLink nodes) costed text rest
+  pub sections : SpellsSections p.nodes costed demands (lexemes text)
+  pub links_is : map (λ l. l.link) costed ≡ p.links
+  pub notes_is : notes_of costed ≡ p.notes
+  pub sound : network_fault p.nodes p.links ≡ None
+  pub are : AreDemands (length p.nodes) demands
 
-links_take : (nodes : List (List ℕ)) (text : List Lexeme) (x : (List Link × Notes) × List Lexeme) → links_at nodes text ≡ Ok x → TakesLinks nodes text x.0.0 x.0.1 x.1
-unfolding links_at
-links_take nodes text x e =
-    let c = bind_ok (items_at (link_at nodes) 256 [] text) _ x e in
-    let t = items_takes (SpellsLink nodes) (link_at nodes) (link_takes nodes) 256 [] text c.0 c.1 in
-    subst (λ (y : (List Link × Notes) × List Lexeme). TakesLinks nodes text y.0.0 y.0.1 y.1) (ok_is ((map (λ l. l.link) c.0.0, notes_of c.0.0), c.0.1) x c.2)
-    (record { costed = c.0.0; links_is = refl; notes_is = refl; spelled = subst (λ (ls : List CostedLink). SpellsItems (SpellsLink nodes) ls text c.0.1) (sym t.all_are) t.spelled })
-
--- each link of a network has few modules
-few_modules : (n : ℕ) (costed : List CostedLink) (links : List Link) → map (λ l. l.link) costed ≡ links → All (IsLink n) links → All (λ l. length l.link.modules ≤ 16) costed
-few_modules n costed links is each k d lt =
-    let within : k < length (map (λ l. l.link) costed) = rw (length-map costed (λ l. l.link)) lt in
-    let sound : IsLink n (get_or (map (λ l. l.link) costed) k d.link) = (subst (λ (ls : List Link). All (IsLink n) ls) (sym is) each) k d.link within in
-    let at : get_or (map (λ l. l.link) costed) k d.link ≡ (get_or costed k d).link = get_or-map (λ l. l.link) costed k d d.link lt in
-    (subst (λ (l : Link). IsLink n l) at sound).few
-
-links_again : (nodes : List (List ℕ)) (costed : List CostedLink) (links : List Link) (notes : Notes) (text rest : List Lexeme) → map (λ l. l.link) costed ≡ links → notes_of costed ≡ notes → IsNetwork nodes links → SpellsItems (SpellsLink nodes) costed text rest → links_at nodes text ≡ Ok ((links, notes), rest)
-links_again nodes costed links notes text rest links_is notes_is sound s =
-    let few : length links ≤ 256 = sound.few_links in
-    let few' : length costed ≤ 256 = subst (λ (k : ℕ). k ≤ 256) (ap (λ (ls : List Link). length ls) (sym links_is) ∙ length-map costed (λ l. l.link)) few in
-    links_are nodes text rest costed links notes links_is notes_is
-    (items_again (SpellsLink nodes) (λ l. length l.link.modules ≤ 16) (link_at nodes) (λ l t r f w. link_again nodes l t r f w) 256 [] costed text rest few' (few_modules (length nodes) costed links links_is sound.sound) s)
-
--- ---- the network
-
-no_fault : (o : Option NetFault) → is_some o ≡ false → o ≡ None
-no_fault None h = refl
-no_fault (Some f) h = absurd cc
-
--- a network that was read: its sections are spelled, and it has no fault
-record TakesNetwork (text : List Lexeme) (parts : Parts) (rest : List Lexeme) : Type 0 where
-  pub costed : List CostedLink
-  pub after : List Lexeme
-  pub nodes_are : SpellsSection (codes "NODES") SpellsName parts.nodes text after
-  pub links_are : SpellsSection (codes "LINKS") (SpellsLink parts.nodes) costed after rest
-  pub links_is : map (λ l. l.link) costed ≡ parts.links
-  pub notes_is : notes_of costed ≡ parts.notes
-  pub sound : network_fault parts.nodes parts.links ≡ None
-
-network_takes : (text : List Lexeme) (x : Parts × List Lexeme) → network_at text ≡ Ok x → TakesNetwork text x.0 x.1
-unfolding network_at
-network_takes text x e =
-    let s = bind_ok (section_at (codes "NODES") text) _ x e in
-    let n = bind_ok (nodes_at s.0) _ x s.2 in
-    let t = bind_ok (section_at (codes "LINKS") n.0.1) _ x n.2 in
-    let l = bind_ok (links_at n.0.0 t.0) _ x t.2 in
-    let g = unless_ok (is_some (network_fault n.0.0 l.0.0.0)) Form (record { nodes = n.0.0; links = l.0.0.0; notes = l.0.0.1 }, l.0.1) x l.2 in
-    let links = links_take n.0.0 t.0 l.0 l.1 in
-    subst (λ (y : Parts × List Lexeme). TakesNetwork text y.0 y.1) g.1
-    (record {
-      costed = links.costed;
-      after = n.0.1;
-      nodes_are = (s.0, section_takes (codes "NODES") text s.0 s.1, (nodes_take s.0 n.0 n.1).0);
-      links_are = (t.0, section_takes (codes "LINKS") n.0.1 t.0 t.1, links.spelled);
-      links_is = links.links_is;
-      notes_is = links.notes_is;
-      sound = no_fault (network_fault n.0.0 l.0.0.0) g.0;
-    })
-
-network_again : (nodes : List (List ℕ)) (links : List Link) (notes : Notes) (costed : List CostedLink) (text after rest : List Lexeme) → map (λ l. l.link) costed ≡ links → notes_of costed ≡ notes → network_fault nodes links ≡ None
-    → SpellsSection (codes "NODES") SpellsName nodes text after → SpellsSection (codes "LINKS") (SpellsLink nodes) costed after rest
-    → network_at text ≡ Ok (record { nodes = nodes; links = links; notes = notes }, rest)
-unfolding network_at
-network_again nodes links notes costed text after rest links_is notes_is none n l =
-    let sound = sound_network nodes links none in
-    let read_nodes : nodes_at n.0 ≡ Ok (nodes, after) = items_again SpellsName (λ _. Unit {0}) name_at (λ x t r _ w. (name_opens x t r w, name_again x t r w)) 128 [] nodes n.0 after sound.few_nodes (λ k d lt. tt) n.2 in
-    let read_links : links_at nodes l.0 ≡ Ok ((links, notes), rest) = links_again nodes costed links notes l.0 rest links_is notes_is sound l.2 in
-    rw (n.1, section_again (codes "NODES") n.0, read_nodes, l.1, section_again (codes "LINKS") l.0, read_links, none) refl
-
--- ---- demands
-
--- what is spelled and sound is spelled, and each of it is sound
-items_both : {X : Type 0} (Spells : X → List Lexeme → List Lexeme → Type 0) (P : X → Type 0) (xs : List X) (text rest : List Lexeme) → SpellsItems (λ x t r. Spells x t r × P x) xs text rest → SpellsItems Spells xs text rest × All P xs
-items_both Spells P [] text rest s = (s, All-nil P)
-items_both Spells P (x ∷ xs) text rest s =
-    let more = items_both Spells P xs s.0 rest s.2 in
-    ((s.0, s.1.0, more.0), All-cons P x xs s.1.1 more.1)
-
-demands_take : (nodes : List (List ℕ)) (text : List Lexeme) (x : List Demand × List Lexeme) → demands_at nodes text ≡ Ok x → SpellsItems (SpellsDemand nodes) x.0 text x.1 × AreDemands (length nodes) x.0
-unfolding demands_at
-demands_take nodes text x e =
-    let c = bind_ok (items_at (demand_at nodes) 2048 [] text) _ x e in
-    let g = if_ok (are_sound c.0.0) Form c.0 x c.2 in
-    let t = items_takes (λ d t r. SpellsDemand nodes d t r × IsDemand (length nodes) d) (demand_at nodes) (demand_takes nodes) 2048 [] text c.0 c.1 in
-    let all : SpellsItems (λ d t r. SpellsDemand nodes d t r × IsDemand (length nodes) d) c.0.0 text c.0.1 = subst (λ (ds : List Demand). SpellsItems (λ d t r. SpellsDemand nodes d t r × IsDemand (length nodes) d) ds text c.0.1) (sym t.all_are) t.spelled in
-    let both = items_both (SpellsDemand nodes) (IsDemand (length nodes)) c.0.0 text c.0.1 all in
-    let sound = sound_takes c.0.0 g.0 in
-    subst (λ (y : List Demand × List Lexeme). SpellsItems (SpellsDemand nodes) y.0 text y.1 × AreDemands (length nodes) y.0) g.1
-    (both.0, record { few = subst (λ (ds : List Demand). length ds ≤ 2048) (sym t.all_are) t.few; different = sound.0; each = both.1; total = sound.1 })
-
-demands_again : (nodes : List (List ℕ)) (demands : List Demand) (text rest : List Lexeme) → AreDemands (length nodes) demands → SpellsItems (SpellsDemand nodes) demands text rest → demands_at nodes text ≡ Ok (demands, rest)
-unfolding demands_at
-demands_again nodes demands text rest are s =
-    rw (
-      items_again (SpellsDemand nodes) (IsDemand (length nodes)) (demand_at nodes) (λ d t r is w. demand_again nodes d t r is w) 2048 [] demands text rest are.few are.each s,
-      sound_again demands are.different are.total,
-    ) refl
-
--- ---- all sections
-
--- a text that was read
-record TakesSections (text : List Lexeme) (parts : Parts) (demands : List Demand) : Type 0 where
-  pub costed : List CostedLink
-  pub sections : SpellsSections parts.nodes costed demands text
-  pub links_is : map (λ l. l.link) costed ≡ parts.links
-  pub notes_is : notes_of costed ≡ parts.notes
-  pub sound : network_fault parts.nodes parts.links ≡ None
-  pub demands_are : AreDemands (length parts.nodes) demands
-
-sections_take : (text : List Lexeme) (x : Parts × List Demand) → sections_at text ≡ Ok x → TakesSections text x.0 x.1
+sections_take : (text : Text) (y : Parts × List Demand) → sections_at text ≡ Ok y → TakesSections text y.0 y.1
 unfolding sections_at
-sections_take text x e =
-    let n = bind_ok (network_at text) _ x e in
-    let s = bind_ok (section_at (codes "DEMANDS") n.0.1) _ x n.2 in
-    let d = bind_ok (demands_at n.0.0.nodes s.0) _ x s.2 in
-    let g = if_ok (length d.0.1 == 0) Form (n.0.0, d.0.0) x d.2 in
-    let net = network_takes text n.0 n.1 in
-    let demands = demands_take n.0.0.nodes s.0 d.0 d.1 in
-    let end : d.0.1 ≡ [] = nil_from_length d.0.1 (eqb-true (length d.0.1) 0 g.0) in
-    subst (λ (y : Parts × List Demand). TakesSections text y.0 y.1) g.1
+sections_take text y e =
+    let m = bind_ok (meta_at text) _ y e in
+    let n = bind_ok (node_section_at m.0) _ y m.2 in
+    let l = bind_ok (link_section_at n.0.0 n.0.1) _ y n.2 in
+    let d = bind_ok (demand_section_at n.0.0 l.0.1) _ y l.2 in
+    let p = bind_ok (paths_at (link_names l.0.0) (demand_names d.0.0) d.0.1) _ y d.2 in
+    let ns = nodes_read m.0 n.0 n.1 in
+    let ls = links_read n.0.0 n.0.1 l.0 l.1 in
+    let ds = demands_read n.0.0 l.0.1 d.0 d.1 in
+    let nodes = nodes_take ns.inside n.0 ns.read in
+    let links = links_take n.0.0 ls.inside l.0 ls.read in
+    let demands = demands_take n.0.0 ds.inside d.0 ds.read in
+    subst (λ (z : Parts × List Demand). TakesSections text z.0 z.1) (ok_is (parts n.0.0 l.0.0, d.0.0) y p.2)
     (record {
-      costed = net.costed;
+      costed = l.0.0;
       sections = record {
-        after_nodes = net.after;
-        after_links = n.0.1;
-        nodes_are = net.nodes_are;
-        links_are = net.links_are;
-        demands_are = (s.0, section_takes (codes "DEMANDS") n.0.1 s.0 s.1, subst (λ (r : List Lexeme). SpellsItems (SpellsDemand n.0.0.nodes) d.0.0 s.0 r) end demands.0);
+        after_meta = lexemes m.0;
+        after_nodes = lexemes n.0.1;
+        after_links = lexemes l.0.1;
+        after_demands = lexemes d.0.1;
+        meta_is = meta_take text m.0 m.1;
+        nodes_are = (lexemes ns.inside, ns.is, nodes.spelled);
+        links_are = (lexemes ls.inside, ls.is, links.spelled);
+        demands_are = (lexemes ds.inside, ds.is, demands.spelled);
+        paths_are = paths_take (link_names l.0.0) (demand_names d.0.0) d.0.1 p.1;
       };
-      links_is = net.links_is;
-      notes_is = net.notes_is;
-      sound = net.sound;
-      demands_are = demands.1;
+      links_is = refl;
+      notes_is = refl;
+      sound = read_passes m.0 n.0.1 n.0.1 n.0.0 l.0.0 l.0.1 n.1 l.1;
+      are = demands.are;
     })
 
-sections_again : (text : List Lexeme) (parts : Parts) (demands : List Demand) → TakesSections text parts demands → sections_at text ≡ Ok (parts, demands)
-unfolding sections_at
-sections_again text parts demands t =
-    let s = t.sections in
-    let d = s.demands_are in
-    rw (
-      network_again parts.nodes parts.links parts.notes t.costed text s.after_nodes s.after_links t.links_is t.notes_is t.sound s.nodes_are s.links_are,
-      d.1,
-      section_again (codes "DEMANDS") d.0,
-      demands_again parts.nodes demands d.0 [] t.demands_are d.2,
-    ) refl
+sections_again : (text : Text) (nodes : List (List ℕ)) (costed : List CostedLink) (demands : List Demand) → SpellsSections nodes costed demands (lexemes text) → network_fault nodes (map (λ l. l.link) costed) ≡ None → AreDemands (length nodes) demands
+    → sections_at text ≡ Ok (parts nodes costed, demands)
+unfolding sections_at node_section_at link_section_at demand_section_at
+sections_again text nodes costed demands s sound are =
+    let passed = network_passed nodes costed sound in
+    let m = meta_again text s.after_meta (Open ∷ s.nodes_are.0) s.nodes_are.1 s.meta_is in
+    let ns = section_again (codes "NODES") m.rest s.nodes_are.0 (m.behind ∙ s.nodes_are.1) in
+    let n = nodes_again nodes ns.rest s.after_nodes passed.few_nodes passed.each_node (subst (λ (ls : List Lexeme). SpellsItems SpellsNode nodes ls s.after_nodes) (sym ns.behind) s.nodes_are.2) in
+    let ls = section_again (codes "LINKS") n.rest s.links_are.0 (n.behind ∙ s.links_are.1) in
+    let l = links_again nodes costed ls.rest s.after_links passed.few_links passed.each_link (subst (λ (xs : List Lexeme). SpellsItems (SpellsLink nodes) costed xs s.after_links) (sym ls.behind) s.links_are.2) in
+    let ds = section_again (codes "DEMANDS") l.rest s.demands_are.0 (l.behind ∙ s.demands_are.1) in
+    let d = demands_again nodes demands ds.rest s.after_demands are (subst (λ (xs : List Lexeme). SpellsItems (SpellsDemand nodes) demands xs s.after_demands) (sym ds.behind) s.demands_are.2) in
+    let p = paths_again (link_names costed) (demand_names demands) d.rest (subst (λ (xs : List Lexeme). SpellsPaths (link_names costed) (demand_names demands) xs) (sym d.behind) s.paths_are) in
+    rw (m.is, ns.is, n.is, ls.is, l.is, ds.is, d.is, p) refl
 
 -- ---- whole files
 
-chosen : {A : Type 0} (b : Bool) (r : Result A ReadKind) (y : A) → cond b r (Err Form) ≡ Ok y → (b ≡ true) × (r ≡ Ok y)
-chosen true r y e = (refl, e)
-chosen false r y e = absurd cc
-
 file_takes : (bytes : List ℕ) (net : Network) (demands : List Demand) → file_at bytes ≡ Ok (parts_of net, demands) → Spells bytes net demands
-unfolding file_at
 file_takes bytes net demands e =
-    let body = second_line bytes in
-    let c = chosen (pointwise ◌==◌ (trimmed (first_line bytes)) header && not (has_comment true (drop body bytes))) (sections_at (lexemes_from body bytes)) (parts_of net, demands) e in
-    let both = both_true (pointwise ◌==◌ (trimmed (first_line bytes)) header) (not (has_comment true (drop body bytes))) c.0 in
-    let t = sections_take (lexemes_from body bytes) (parts_of net, demands) c.1 in
+    let text = text_from (second_line bytes) bytes in
+    let c = if_ok (are_same (trimmed (first_line bytes)) header) (0, Header) (sections_at text) (parts_of net, demands) e in
+    let t = sections_take text (parts_of net, demands) c.1 in
     record {
-      begins = same_is (trimmed (first_line bytes)) header both.0;
-      plain = not_true (has_comment true (drop body bytes)) both.1;
+      begins = same_is (trimmed (first_line bytes)) header c.0;
       links = t.costed;
       sections = t.sections;
       links_are = t.links_is;
       notes_are = t.notes_is;
       network = t.sound;
-      demands_are = t.demands_are;
+      demands_are = t.are;
     }
 
+parts_are : (nodes : List (List ℕ)) (costed : List CostedLink) (net : Network) → nodes ≡ net.nodes → map (λ l. l.link) costed ≡ net.links → notes_of costed ≡ net.notes → parts nodes costed ≡ parts_of net
+parts_are nodes costed net n l m = rw (n, l, m) refl
+
 file_again : (bytes : List ℕ) (net : Network) (demands : List Demand) → Spells bytes net demands → file_at bytes ≡ Ok (parts_of net, demands)
-unfolding file_at
 file_again bytes net demands s =
-    let begins : pointwise ◌==◌ (trimmed (first_line bytes)) header ≡ true = rw s.begins (is_same header) in
-    let read : sections_at (lexemes_from (second_line bytes) bytes) ≡ Ok (parts_of net, demands) =
-    sections_again (lexemes_from (second_line bytes) bytes) (parts_of net) demands
-    (record { costed = s.links; sections = s.sections; links_is = s.links_are; notes_is = s.notes_are; sound = s.network; demands_are = s.demands_are }) in
-    rw (begins, s.plain) read
+    let text = text_from (second_line bytes) bytes in
+    let begins : are_same (trimmed (first_line bytes)) header ≡ true = rw s.begins (is_same header) in
+    let sound : network_fault net.nodes (map (λ l. l.link) s.links) ≡ None = subst (λ (ls : List Link). network_fault net.nodes ls ≡ None) (sym s.links_are) s.network in
+    let read : sections_at text ≡ Ok (parts net.nodes s.links, demands) = sections_again text net.nodes s.links demands s.sections sound s.demands_are in
+    ap (λ (b : Bool). cond b (sections_at text) (Err (0, Header))) begins ∙ read ∙ ap (λ (p : Parts). Ok (p, demands)) (parts_are net.nodes s.links net refl s.links_are s.notes_are)
 
 -- ---- the three clauses
 
@@ -235,14 +194,7 @@ is_only bytes (Ok x) h = λ net demands s.
     (ap (λ (y : Parts × List Demand). y.0.nodes) same, ap (λ (y : Parts × List Demand). y.0.links) same, ap (λ (y : Parts × List Demand). y.0.notes) same, ap (λ (y : Parts × List Demand). y.1) same)
 is_only bytes (Err e) h = tt
 
-is_form : (kind : ReadKind) → kind ≡ Form
-is_form Form = refl
-
-never : {A : Type 0} (r : Result A ReadKind) (e : ReadKind) (x : A) → r ≡ Err e → r ≡ Ok x → ⊥
-never (Ok y) e x err ok = absurd cc
-never (Err d) e x err ok = absurd cc
-
-pub spells_nothing : (bytes : List ℕ) (r : Answer) → Gives seen r (file_at bytes) → (at : ℕ) (kind : ReadKind) → r ≡ Err (Bad at kind) → (at ≡ 0) × (kind ≡ Form) × ((net : Network) (demands : List Demand) → Spells bytes net demands → ⊥)
-spells_nothing bytes r h at kind e =
+pub first_fault : (bytes : List ℕ) (r : Answer) → Gives seen r (file_at bytes) → (at : ℕ) (kind : ReadKind) → r ≡ Err (Bad at kind) → IsFirstFault bytes at kind × ((net : Network) (demands : List Demand) → Spells bytes net demands → ⊥)
+first_fault bytes r h at kind e =
     let f : Gives seen (Err (Bad at kind)) (file_at bytes) = subst (λ (x : Answer). Gives seen x (file_at bytes)) e h in
-    (f.0, is_form kind, λ net demands s. never (file_at bytes) kind (parts_of net, demands) f.1 (file_again bytes net demands s))
+    (f, λ net demands s. never (file_at bytes) (at, kind) (parts_of net, demands) f (file_again bytes net demands s))

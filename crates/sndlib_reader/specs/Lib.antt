@@ -1,3 +1,5 @@
-pub mod Lexemes
+pub mod Balance
+pub mod Paths
 pub mod Spelling
 pub mod Reading
+pub mod Kinds

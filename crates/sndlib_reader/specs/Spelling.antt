@@ -1,8 +1,9 @@
 -- The grammar of a network file: which lexemes spell which network and demands.
 -- Each relation says that a value is spelled by the lexemes of `text` up to `rest`.
-use Rattle.std.specs.Prelude.{◌≡◌, ℕ, ◌*◌, ◌≤◌, ◌==◌, true, false, not, ◌||◌, List, [], ◌∷◌, length, map, drop, Option, Some, None, Ok, position, codes}
+use Rattle.std.specs.Prelude.{◌≡◌, ℕ, ◌*◌, ◌≤◌, ◌==◌, ◌⊎◌, not, List, [], ◌∷◌, ◌++◌, length, map, IsTrue, Option, Some, None, Ok, position, codes}
 use Rattle.std.specs.List.{list_any}
-use Rattle.snd_tokens.specs.Amounts.{amount_of}
+use Rattle.snd_tokens.specs.Amounts.{amount_of, units_of}
+use Rattle.snd_tokens.specs.Digits.{are_digits}
 use Rattle.snd_tokens.specs.Header.{HasHeader, second_line}
 use Rattle.net_core.specs.Tests.{are_same}
 use Rattle.net_core.specs.Network.{network_fault}
@@ -13,7 +14,9 @@ use Rattle.net_core.specs.declared.network.Notes.{Notes}
 use Rattle.net_core.specs.declared.network.Network.{Network}
 use Rattle.net_core.specs.declared.demand.Demand.{Demand}
 use Rattle.sndlib_reader.specs.declared.costs.CostedLink.{CostedLink}
-use Rattle.sndlib_reader.specs.Lexemes.{Lexeme, Word, Open, Close, lexemes_from, has_comment}
+use Rattle.snd_tokens.specs.Lexemes.{Lexeme, Word, Open, Close, lexemes, text_from}
+use Rattle.sndlib_reader.specs.Balance.{AreBalanced}
+use Rattle.sndlib_reader.specs.Paths.{SpellsPaths}
 
 -- items one after another, as `Spells` says of each, and then a closing parenthesis
 abbrev pub SpellsItems : {X : Type 0} → (X → List Lexeme → List Lexeme → Type 0) → List X → List Lexeme → List Lexeme → Type 0
@@ -28,6 +31,18 @@ SpellsSection name Spells xs text rest = (items : List Lexeme) × (text ≡ Word
 abbrev pub SpellsName : List ℕ → List Lexeme → List Lexeme → Type 0
 SpellsName name text rest = (text ≡ Word name ∷ rest) × (length name ≤ 255)
 
+-- any lexemes that balance, between parentheses
+abbrev pub SpellsSkipped : List Lexeme → List Lexeme → Type 0
+SpellsSkipped text rest = (inside : List Lexeme) × AreBalanced inside × (text ≡ Open ∷ (inside ++ Close ∷ rest))
+
+-- a section META of anything, or nothing
+abbrev pub SpellsMeta : List Lexeme → List Lexeme → Type 0
+SpellsMeta text rest = (text ≡ rest) ⊎ ((behind : List Lexeme) × (text ≡ Word (codes "META") ∷ behind) × SpellsSkipped behind rest)
+
+-- a node is a name, with coordinates of any form or without
+abbrev pub SpellsNode : List ℕ → List Lexeme → List Lexeme → Type 0
+SpellsNode name text rest = (behind : List Lexeme) × SpellsName name text behind × ((behind ≡ rest) ⊎ SpellsSkipped behind rest)
+
 -- the place of a name in the list of nodes
 abbrev pub node_place : List (List ℕ) → List ℕ → Option ℕ
 node_place nodes name = position (λ n. are_same n name) nodes
@@ -37,6 +52,8 @@ pub record SpellsEnds (nodes : List (List ℕ)) (a b : NodeId) (text rest : List
   pub first : List ℕ
   pub second : List ℕ
   pub is : text ≡ Open ∷ Word first ∷ Word second ∷ Close ∷ rest
+  pub first_short : length first ≤ 255
+  pub second_short : length second ≤ 255
   pub first_is : node_place nodes first ≡ Some a.0
   pub second_is : node_place nodes second ≡ Some b.0
 
@@ -66,20 +83,26 @@ pub record SpellsLink (nodes : List (List ℕ)) (l : CostedLink) (text rest : Li
   pub setup_is : amount_of setup ≡ Ok l.link.setup
   pub modules_are : SpellsItems SpellsModule l.link.modules modules rest
 
--- a demand: its name, its ends, a whole number of units of an amount, and the word for paths of any length
+-- how many links a path may have: `UNLIMITED`, or digits
+abbrev pub IsHops : List ℕ → Type 0
+IsHops w = (w ≡ codes "UNLIMITED") ⊎ IsTrue (are_digits w)
+
+-- a demand: its name, its ends, a whole number of units of an amount, and its hops
 pub record SpellsDemand (nodes : List (List ℕ)) (d : Demand) (text rest : List Lexeme) : Type 0 where
   pub ends : List Lexeme
   pub amounts : List Lexeme
   pub unit : List ℕ
   pub amount : List ℕ
+  pub hops : List ℕ
   pub units : ℕ
   pub each : ℕ
   pub name_is : SpellsName d.name text ends
   pub ends_are : SpellsEnds nodes d.from d.to ends amounts
-  pub amounts_are : amounts ≡ Word unit ∷ Word amount ∷ Word (codes "UNLIMITED") ∷ rest
-  pub unit_is : amount_of unit ≡ Ok (1000 * units)
+  pub amounts_are : amounts ≡ Word unit ∷ Word amount ∷ Word hops ∷ rest
+  pub unit_is : units_of unit ≡ Ok units
   pub amount_is : amount_of amount ≡ Ok each
   pub need_is : d.need ≡ units * each
+  pub hops_are : IsHops hops
 
 -- which of the costs beside those of modules some link has
 abbrev pub notes_of : List CostedLink → Notes
@@ -89,21 +112,17 @@ notes_of links = record {
   setup_cost = list_any (λ l. not (l.link.setup == 0)) links;
 }
 
--- the notes with the costs of one more link
-abbrev pub with_costs : Notes → CostedLink → Notes
-with_costs notes l = record {
-  fixed_cost = notes.fixed_cost || not (l.fixed_cost == 0);
-  routing_cost = notes.routing_cost || not (l.routing_cost == 0);
-  setup_cost = notes.setup_cost || not (l.link.setup == 0);
-}
-
--- the sections of nodes, links and demands, and nothing after them
+-- perhaps META, the sections of nodes, links and demands, perhaps paths, and nothing after them
 pub record SpellsSections (nodes : List (List ℕ)) (links : List CostedLink) (demands : List Demand) (text : List Lexeme) : Type 0 where
+  pub after_meta : List Lexeme
   pub after_nodes : List Lexeme
   pub after_links : List Lexeme
-  pub nodes_are : SpellsSection (codes "NODES") SpellsName nodes text after_nodes
+  pub after_demands : List Lexeme
+  pub meta_is : SpellsMeta text after_meta
+  pub nodes_are : SpellsSection (codes "NODES") SpellsNode nodes after_meta after_nodes
   pub links_are : SpellsSection (codes "LINKS") (SpellsLink nodes) links after_nodes after_links
-  pub demands_are : SpellsSection (codes "DEMANDS") (SpellsDemand nodes) demands after_links []
+  pub demands_are : SpellsSection (codes "DEMANDS") (SpellsDemand nodes) demands after_links after_demands
+  pub paths_are : SpellsPaths (map (λ l. l.link.name) links) (map (λ d. d.name) demands) after_demands
 
 -- the first line of a network file
 abbrev pub header : List ℕ
@@ -112,9 +131,8 @@ header = codes "?SNDlib native format; type: network; version: 1.0"
 -- the bytes of a file spell this network and these demands
 pub record Spells (bytes : List ℕ) (net : Network) (demands : List Demand) : Type 0 where
   pub begins : HasHeader bytes header
-  pub plain : has_comment true (drop (second_line bytes) bytes) ≡ false
   pub links : List CostedLink
-  pub sections : SpellsSections net.nodes links demands (lexemes_from (second_line bytes) bytes)
+  pub sections : SpellsSections net.nodes links demands (lexemes (text_from (second_line bytes) bytes))
   pub links_are : map (λ l. l.link) links ≡ net.links
   pub notes_are : notes_of links ≡ net.notes
   pub network : network_fault net.nodes net.links ≡ None

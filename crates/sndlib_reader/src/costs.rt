@@ -1,7 +1,9 @@
-ghost use Rattle.std.specs.Prelude.{◌≡◌};
-ghost use Rattle.sndlib_reader.specs.Spelling.{with_costs};
+ghost use Rattle.std.specs.Prelude.{◌≡◌, ◌==◌, not, map, IfOk};
+ghost use Rattle.std.specs.List.{list_any};
+ghost use Rattle.sndlib_reader.specs.Spelling.{notes_of};
 
-use net_core::{Link, Notes};
+use net_core::{Copied, Link, List, NoMemory, Notes};
+use std::alloc::Global;
 
 /// A link with the two costs that a network doesn't keep, in thousandths.
 #[derive(Drop)]
@@ -11,13 +13,48 @@ pub struct CostedLink {
     pub routing_cost: u64,
 }
 
-/// The notes with the costs of one more link.
-pub(crate) fn noted(notes: Notes, l: &CostedLink) -> Notes
-    ensures { result ≡ with_costs notes l.now }
+/// Whether pre-installed capacity costs something on some link.
+fn has_fixed_cost(links: &[CostedLink]) -> bool
+    ensures { result ≡ list_any (λ l. not (l.fixed_cost == 0)) links.now }
+{
+    links.iter().any(|l| l.fixed_cost != 0)
+}
+
+/// Whether routing costs something on some link.
+fn has_routing_cost(links: &[CostedLink]) -> bool
+    ensures { result ≡ list_any (λ l. not (l.routing_cost == 0)) links.now }
+{
+    links.iter().any(|l| l.routing_cost != 0)
+}
+
+/// Whether some link has a setup cost.
+fn has_setup_cost(links: &[CostedLink]) -> bool
+    ensures { result ≡ list_any (λ l. not (l.link.setup == 0)) links.now }
+{
+    links.iter().any(|l| l.link.setup != 0)
+}
+
+/// Which costs some of these links have.
+pub(crate) fn notes(links: &[CostedLink]) -> Notes
+    ensures { result ≡ notes_of links.now }
 {
     Notes {
-        fixed_cost: notes.fixed_cost || l.fixed_cost != 0,
-        routing_cost: notes.routing_cost || l.routing_cost != 0,
-        setup_cost: notes.setup_cost || l.link.setup != 0,
+        fixed_cost: has_fixed_cost(links),
+        routing_cost: has_routing_cost(links),
+        setup_cost: has_setup_cost(links),
     }
+}
+
+/// The links without these costs.
+pub(crate) fn links(alloc: Global, costed: &[CostedLink]) -> Result<List<Link>, NoMemory>
+    ensures { IfOk result (λ ls. ls ≡ map (λ l. l.link) costed.now) }
+{
+    let mut links = List::new(alloc);
+    for l in costed {
+        let link = l.link.copy()?;
+        let Ok(()) = links.push(link) else {
+            return Err(NoMemory);
+        };
+    }
+    Ok(links)
 }

@@ -1,45 +1,88 @@
-ghost use Rattle.std.specs.Prelude.{◌≡◌, ◌≤◌, IfOk, [], length, sum_by};
-ghost use Rattle.sndlib_reader.specs.Reading.{Gives, are_apart, are_sound, demand_at, demands_at, items_at, need_at};
+ghost use Rattle.std.specs.Prelude.{◌≡◌, ◌≤◌, ◌<◌, ◌^◌, ◌+◌, IsTrue, IfOk, OnOk, [], length};
+ghost use Rattle.snd_tokens.specs.Tokens.{is_plain};
+ghost use Rattle.snd_tokens.specs.Lexemes.{WordAt, left};
+ghost use Rattle.sndlib_reader.specs.Reading.{Gives, Leads, demand_at, demand_names, demand_section_at, demands_at, hops, need, placed, said_at, total, unit};
 
-use crate::fault::{ReadRefusal, form};
+use crate::fault::{Limited, ReadKind, ReadRefusal, bad};
 use crate::names::Names;
-use crate::node::ends;
-use crate::text::Text;
-use net_core::{Copied, Demand, Demands, List, Name, NoMemory};
+use crate::node::{ends, new_name};
+use crate::steps::{amount_of, section, word};
+use net_core::{Demand, Demands, List, Name};
+use snd_tokens::{Cursor, Next, NumberFault, are_digits, units};
 use std::alloc::Global;
 
-const MAX_DEMANDS: u32 = 2048;
+const MAX_DEMANDS: usize = 2048;
 
-/// The need: a whole number of units of an amount.
-#[tactic(auto, unfolding(crate::specs::Reading::need_at))]
-fn need(text: &mut Text) -> Result<u64, ReadRefusal>
-    ensures { Gives (λ n. (n, text.new)) result (need_at text.old) }
+const MAX_NEED: u128 = 1 << 40;
+
+const MAX_TOTAL: u128 = 1 << 44;
+
+const UNLIMITED: &[u8] = b"UNLIMITED";
+
+/// Takes a whole number of units.
+#[tactic(auto, unfolding(crate::specs::Reading::said_at))]
+fn unit(text: &mut Cursor) -> Result<u64, ReadRefusal>
+    ensures gives { Gives (λ n. (n, left text.new)) result (said_at unit (left text.old)) }
+    ensures small { IfOk result (λ n. n < 2 ^ 40) }
 {
-    let unit = text.amount()?;
-    let amount = text.amount()?;
-    if unit % 1000 != 0 {
-        return Err(form());
+    let (at, word) = word(text)?;
+    match units(word) {
+        Ok(units) => Ok(units),
+        Err(fault) => Err(bad(at, ReadKind::Number(fault))),
     }
-    let need = u128::from(unit / 1000) * u128::from(amount);
-    if need >= 1 << 40 {
-        return Err(form());
+}
+
+/// Takes the amount of so many units, behind demands of this total. It gives their need.
+#[tactic(auto, unfolding(crate::specs::Reading::said_at))]
+fn need(before: u64, units: u64, text: &mut Cursor) -> Result<u64, ReadRefusal>
+    requires before { before < 2 ^ 44 }
+    requires units { units < 2 ^ 40 }
+    ensures gives { Gives (λ n. (n, left text.new)) result (said_at (need before units) (left text.old)) }
+    ensures below { IfOk result (λ n. before + n < 2 ^ 44) }
+{
+    let (at, word) = word(text)?;
+    let amount = amount_of(at, word)?;
+    let need = u128::from(units) * u128::from(amount);
+    if need >= MAX_NEED {
+        return Err(bad(at, ReadKind::Number(NumberFault::TooLarge)));
+    }
+    if u128::from(before) + need >= MAX_TOTAL {
+        return Err(bad(at, ReadKind::Limit(Limited::Total)));
     }
     Ok(need as u64)
 }
 
-/// A demand.
-#[tactic(auto, unfolding(crate::specs::Reading::demand_at))]
-fn demand(alloc: Global, nodes: &[Name], text: &mut Text) -> Result<Demand, ReadRefusal>
-    requires { length nodes.now ≤ 128 }
-    ensures { Gives (λ d. (d, text.new)) result (demand_at nodes.now text.old) }
+/// Takes how many links a path may have, which isn't kept.
+#[tactic(auto, unfolding(crate::specs::Reading::said_at))]
+fn hops<'a>(text: &mut Cursor<'a>) -> Result<&'a [u8], ReadRefusal>
+    ensures { Gives (λ w. (w.now, left text.new)) result (said_at hops (left text.old)) }
 {
-    let name = text.name(alloc)?;
-    let (from, to) = ends(nodes, text)?;
-    let need = need(text)?;
-    text.keyword(b"UNLIMITED")?;
-    if from == to {
-        return Err(form());
+    let (at, word) = word(text)?;
+    if word == UNLIMITED || are_digits(word) {
+        return Ok(word);
     }
+    Err(bad(at, ReadKind::Number(NumberFault::NotANumber)))
+}
+
+/// Takes what is behind the name of a demand that comes behind demands of this total.
+#[tactic(auto, unfolding(crate::specs::Reading::demand_at))]
+fn demand(
+    alloc: Global,
+    nodes: &Names,
+    before: u64,
+    name: Name,
+    text: &mut Cursor,
+) -> Result<Demand, ReadRefusal>
+    requires nodes { length nodes.now ≤ 128 }
+    requires before { before < 2 ^ 44 }
+    ensures gives { Gives (λ d. (d, left text.new)) result (demand_at nodes.now before name (left text.old)) }
+    ensures named { IfOk result (λ d. d.name ≡ name) }
+    ensures below { IfOk result (λ d. before + d.need < 2 ^ 44) }
+{
+    let (from, to) = ends(ReadKind::SelfDemand, alloc, nodes, text)?;
+    let units = unit(text)?;
+    let need = need(before, units, text)?;
+    hops(text)?;
     Ok(Demand {
         name,
         from,
@@ -48,71 +91,83 @@ fn demand(alloc: Global, nodes: &[Name], text: &mut Text) -> Result<Demand, Read
     })
 }
 
-/// Whether no two demands have one name.
-fn are_apart(alloc: Global, demands: &[Demand]) -> Result<bool, NoMemory>
-    ensures { IfOk result (λ apart. apart ≡ are_apart [] demands.now) }
-{
-    let mut names = Names::new(alloc);
-    for d in demands {
-        if !names.add(d.name.copy()?)? {
-            return Ok(false);
-        }
-    }
-    Ok(true)
+/// Demands, their names in the same order, and their total in thousandths.
+#[derive(Drop)]
+pub(crate) struct NamedDemands {
+    pub(crate) demands: Demands,
+    pub(crate) names: Names,
+    total: u64,
 }
 
-/// The sum of all needs.
-fn total(demands: &[Demand]) -> u128
-    ensures { result ≡ sum_by (λ d. d.need) demands.now }
-{
-    let mut total = 0;
-    for d in demands {
-        total += u128::from(d.need);
-    }
-    total
-}
-
-/// Whether the names are apart and the total is small enough.
-fn are_sound(alloc: Global, demands: &[Demand]) -> Result<bool, NoMemory>
-    ensures { IfOk result (λ sound. sound ≡ are_sound demands.now) }
-{
-    let apart = are_apart(alloc, demands)?;
-    Ok(apart && total(demands) < 1 << 44)
-}
-
-/// The demands, up to the closing parenthesis.
-fn listed(alloc: Global, nodes: &[Name], text: &mut Text) -> Result<Demands, ReadRefusal>
-    requires { length nodes.now ≤ 128 }
-    ensures { Gives (λ demands. (demands, text.new)) result (items_at (demand_at nodes.now) 2048 [] text.old) }
-{
-    let mut demands = List::new(alloc);
-    for _ in 0..MAX_DEMANDS {
-        if text.closes() {
-            return Ok(demands);
-        }
-        let demand = demand(alloc, nodes, text)?;
-        let Ok(()) = demands.push(demand) else {
-            return Err(ReadRefusal::NoMemory);
-        };
-    }
-    text.close()?;
-    Ok(demands)
-}
-
-/// The demands of a network, up to the closing parenthesis.
+/// Takes a demand whose name's word was read at a place, and puts it last.
 #[tactic(auto, unfolding(crate::specs::Reading::demands_at))]
-pub(crate) fn demands(
+fn add_demand(
     alloc: Global,
-    nodes: &[Name],
-    text: &mut Text,
-) -> Result<Demands, ReadRefusal>
-    requires { length nodes.now ≤ 128 }
-    ensures { Gives (λ demands. (demands, text.new)) result (demands_at nodes.now text.old) }
+    nodes: &Names,
+    r: &mut NamedDemands,
+    at: u64,
+    word: &[u8],
+    text: &mut Cursor,
+) -> Result<(), ReadRefusal>
+    requires nodes { length nodes.now ≤ 128 }
+    requires few { length r.now.demands ≤ 2048 }
+    requires named { r.now.names ≡ demand_names r.now.demands }
+    requires sum { r.now.total ≡ total r.now.demands }
+    requires below { r.now.total < 2 ^ 44 }
+    requires some { 1 ≤ length word.now }
+    requires plain { IsTrue (is_plain word.now) }
+    ensures leads { Leads result (demands_at nodes.now r.old.demands (WordAt at word.now (left text.old))) (λ _. demands_at nodes.now r.new.demands (left text.new)) }
+    ensures few { OnOk result (length r.new.demands ≤ 2048) }
+    ensures count { OnOk result (length r.new.demands ≡ length r.old.demands + 1) }
+    ensures named { OnOk result (r.new.names ≡ demand_names r.new.demands) }
+    ensures sum { OnOk result (r.new.total ≡ total r.new.demands) }
+    ensures below { OnOk result (r.new.total < 2 ^ 44) }
 {
-    let demands = listed(alloc, nodes, text)?;
-    match are_sound(alloc, demands.items()) {
-        Ok(true) => Ok(demands),
-        Ok(false) => Err(form()),
-        Err(_) => Err(ReadRefusal::NoMemory),
+    let name = new_name(alloc, &mut r.names, at, word)?;
+    if r.demands.len() == MAX_DEMANDS {
+        return Err(bad(at, ReadKind::Limit(Limited::Demands)));
     }
+    let demand = demand(alloc, nodes, r.total, name, text)?;
+    r.total += demand.need;
+    let Ok(()) = r.demands.push(demand) else {
+        return Err(ReadRefusal::NoMemory);
+    };
+    Ok(())
+}
+
+/// Takes demands, up to the closing parenthesis.
+#[tactic(auto, unfolding(crate::specs::Reading::demands_at))]
+fn demands(alloc: Global, nodes: &Names, text: &mut Cursor) -> Result<NamedDemands, ReadRefusal>
+    requires { length nodes.now ≤ 128 }
+    ensures gives { Gives (λ r. (r.demands, left text.new)) result (demands_at nodes.now [] (left text.old)) }
+    ensures named { IfOk result (λ r. r.names ≡ demand_names r.demands) }
+{
+    let mut r = NamedDemands {
+        demands: List::new(alloc),
+        names: Names::new(alloc),
+        total: 0,
+    };
+    loop {
+        match text.next() {
+            Next::Word(at, word) => add_demand(alloc, nodes, &mut r, at, word, text)?,
+            Next::Close(_) => return Ok(r),
+            Next::Open(at) => return Err(bad(at, ReadKind::Token)),
+            Next::End(at) => return Err(bad(at, ReadKind::Ended)),
+        }
+    }
+}
+
+/// Takes the section of demands.
+#[tactic(auto, unfolding(crate::specs::Reading::demand_section_at))]
+pub(crate) fn demand_section(
+    alloc: Global,
+    nodes: &Names,
+    text: &mut Cursor,
+) -> Result<NamedDemands, ReadRefusal>
+    requires { length nodes.now ≤ 128 }
+    ensures gives { Gives (λ r. (r.demands, left text.new)) result (demand_section_at nodes.now (left text.old)) }
+    ensures named { IfOk result (λ r. r.names ≡ demand_names r.demands) }
+{
+    section(b"DEMANDS", text)?;
+    demands(alloc, nodes, text)
 }

@@ -1,18 +1,104 @@
 ghost use Rattle.std.specs.Prelude.{◌≡◌};
+ghost use Rattle.sndlib_reader.specs.Kinds.{kind_word};
 
+use snd_tokens::NumberFault;
 use thiserror::Error;
 
-/// What is wrong with a file.
+/// What there may be only so many of, or so much.
+#[derive(Clone, Copy, Debug, PartialEq, Eq)]
+pub enum Limited {
+    /// A name has at most 255 bytes.
+    Name,
+    /// At most 128 nodes.
+    Nodes,
+    /// At most 256 links.
+    Links,
+    /// At most 16 modules of a link.
+    Modules,
+    /// At most 2,048 demands.
+    Demands,
+    /// All needs together are below 2^44 thousandths.
+    Total,
+}
+
+/// What is wrong with a network file.
 #[derive(Clone, Copy, Debug, PartialEq, Eq)]
 pub enum ReadKind {
-    /// It isn't of the form of a network file.
-    Form,
+    /// The first line is another.
+    Header,
+    /// Something else than a section's word, the parenthesis behind it, or the end.
+    Section,
+    /// A word or a parenthesis where the other is due.
+    Token,
+    /// The file ends where something is due.
+    Ended,
+    /// Something is one too many, or too much.
+    Limit(Limited),
+    /// A number is faulty.
+    Number(NumberFault),
+    /// No node, link or demand has the name.
+    UnknownName,
+    /// An earlier node, link or demand has the name.
+    DoubleName,
+    /// A link's ends are one node.
+    SelfLink,
+    /// A demand's ends are one node.
+    SelfDemand,
+    /// A module's capacity is 0.
+    ZeroModule,
+    /// A link has pre-installed capacity and no module.
+    FixedLink,
+}
+
+impl ReadKind {
+    /// How the kind is written.
+    pub fn word(&self) -> &'static str
+        ensures { result.now ≡ kind_word self.now }
+    {
+        match self {
+            ReadKind::Header => "header",
+            ReadKind::Section => "section",
+            ReadKind::Token => "token",
+            ReadKind::Ended => "ended",
+            ReadKind::Limit(limited) => limit_word(*limited),
+            ReadKind::Number(fault) => number_word(*fault),
+            ReadKind::UnknownName => "unknown-name",
+            ReadKind::DoubleName => "double-name",
+            ReadKind::SelfLink => "self-link",
+            ReadKind::SelfDemand => "self-demand",
+            ReadKind::ZeroModule => "zero-module",
+            ReadKind::FixedLink => "fixed-link",
+        }
+    }
+}
+
+fn limit_word(limited: Limited) -> &'static str
+    ensures { result.now ≡ kind_word (ReadKind.Limit limited) }
+{
+    match limited {
+        Limited::Name => "limit-name",
+        Limited::Nodes => "limit-nodes",
+        Limited::Links => "limit-links",
+        Limited::Modules => "limit-modules",
+        Limited::Demands => "limit-demands",
+        Limited::Total => "limit-total",
+    }
+}
+
+fn number_word(fault: NumberFault) -> &'static str
+    ensures { result.now ≡ kind_word (ReadKind.Number fault) }
+{
+    match fault {
+        NumberFault::NotANumber => "number-not",
+        NumberFault::TooFine => "number-fine",
+        NumberFault::TooLarge => "number-large",
+    }
 }
 
 /// Why a file was not read.
 #[derive(Debug, Drop, Error)]
 pub enum ReadRefusal {
-    /// The file spells nothing.
+    /// The first fault, and the place of its first byte; the length of the file at its end.
     #[error("fault {kind:?} at {at}")]
     Bad { at: u64, kind: ReadKind },
     /// No memory was found.
@@ -20,12 +106,8 @@ pub enum ReadRefusal {
     NoMemory,
 }
 
-/// The refusal of a file that isn't of the form.
-pub(crate) fn form() -> ReadRefusal
-    ensures { result ≡ ReadRefusal.Bad 0 ReadKind.Form }
+pub(crate) fn bad(at: u64, kind: ReadKind) -> ReadRefusal
+    ensures { result ≡ ReadRefusal.Bad at kind }
 {
-    ReadRefusal::Bad {
-        at: 0,
-        kind: ReadKind::Form,
-    }
+    ReadRefusal::Bad { at, kind }
 }

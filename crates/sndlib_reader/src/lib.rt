@@ -7,10 +7,12 @@ pub mod fault;
 mod link;
 mod names;
 mod node;
+mod paths;
 mod reader;
-mod text;
+mod skip;
+mod steps;
 
-pub use fault::{ReadKind, ReadRefusal};
+pub use fault::{Limited, ReadKind, ReadRefusal};
 pub use reader::read_network;
 
 #[cfg(test)]

@@ -1,62 +1,63 @@
-ghost use Rattle.std.specs.Prelude.{◌≡◌, ℕ, List, IfOk, Err};
+ghost use Rattle.std.specs.Prelude.{◌≡◌, ℕ, List, IfOk, Err, None, map};
+ghost use Rattle.snd_tokens.specs.Lexemes.{left};
+ghost use Rattle.net_core.specs.Network.{network_fault};
 ghost use Rattle.net_core.specs.declared.network.Network.{Network as Net};
 ghost use Rattle.net_core.specs.declared.demand.Demand.{Demand as Dem};
 ghost use Rattle.sndlib_reader.specs.declared.fault.ReadKind.{ReadKind};
 ghost use Rattle.sndlib_reader.specs.Spelling.{Spells};
-ghost use Rattle.sndlib_reader.specs.Reading.{Gives, file_at, network_at, parts_of, sections_at};
+ghost use Rattle.sndlib_reader.specs.Reading.{Gives, IsFirstFault, file_at, parts, parts_of, sections_at};
 
-use crate::demand::demands;
-use crate::fault::{ReadRefusal, form};
-use crate::link::links;
-use crate::node::nodes;
-use crate::text::{Text, has_comment};
-use net_core::{Demands, Network};
-use snd_tokens::after_header;
+use crate::costs::{CostedLink, links, notes};
+use crate::demand::demand_section;
+use crate::fault::{ReadKind, ReadRefusal, bad};
+use crate::link::link_section;
+use crate::names::Names;
+use crate::node::node_section;
+use crate::paths::paths;
+use crate::skip::meta;
+use net_core::{Demands, Network, NoMemory};
+use snd_tokens::{Cursor, after_header};
 use std::alloc::Global;
 
 const HEADER: &[u8] = b"?SNDlib native format; type: network; version: 1.0";
 
-/// The sections of nodes and links.
-#[tactic(auto, unfolding(crate::specs::Reading::network_at))]
-fn network(alloc: Global, text: &mut Text) -> Result<Network, ReadRefusal>
-    ensures { Gives (λ net. (parts_of net, text.new)) result (network_at text.old) }
+/// The network of nodes and links without fault.
+fn network(alloc: Global, nodes: &Names, costed: &[CostedLink]) -> Result<Network, NoMemory>
+    requires { network_fault nodes.now (map (λ l. l.link) costed.now) ≡ None }
+    ensures { IfOk result (λ net. parts_of net ≡ parts nodes.now costed.now) }
 {
-    text.section(b"NODES")?;
-    let nodes = nodes(alloc, text)?;
-    text.section(b"LINKS")?;
-    let (links, notes) = links(alloc, nodes.items(), text)?;
-    match Network::check(nodes, links, notes) {
+    let nodes = nodes.list(alloc)?;
+    let links = links(alloc, costed)?;
+    match Network::check(nodes, links, notes(costed)) {
         Ok(net) => Ok(net),
-        Err(_) => Err(form()),
+        Err(_) => unreachable!(),
     }
 }
 
-/// The three sections, and nothing behind them.
+/// All sections, and nothing behind them.
 #[tactic(auto, unfolding(crate::specs::Reading::sections_at))]
-fn sections(alloc: Global, text: &mut Text) -> Result<(Network, Demands), ReadRefusal>
-    ensures { Gives (λ r. (parts_of r.0, r.1)) result (sections_at text.old) }
+fn sections(alloc: Global, text: &mut Cursor) -> Result<(Network, Demands), ReadRefusal>
+    ensures { Gives (λ r. (parts_of r.0, r.1)) result (sections_at (left text.old)) }
 {
-    let net = network(alloc, text)?;
-    text.section(b"DEMANDS")?;
-    let demands = demands(alloc, net.nodes().items(), text)?;
-    if !text.is_done() {
-        return Err(form());
+    meta(text)?;
+    let nodes = node_section(alloc, text)?;
+    let links = link_section(alloc, &nodes, text)?;
+    let demands = demand_section(alloc, &nodes, text)?;
+    paths(alloc, &links.names, &demands.names, text)?;
+    match network(alloc, &nodes, links.links.items()) {
+        Ok(net) => Ok((net, demands.demands)),
+        Err(_) => Err(ReadRefusal::NoMemory),
     }
-    Ok((net, demands))
 }
 
 /// The whole file.
-#[tactic(auto, unfolding(crate::specs::Reading::file_at))]
 fn file(alloc: Global, bytes: &[u8]) -> Result<(Network, Demands), ReadRefusal>
     ensures { Gives (λ r. (parts_of r.0, r.1)) result (file_at bytes.now) }
 {
     let Some(start) = after_header(bytes, HEADER) else {
-        return Err(form());
+        return Err(bad(0, ReadKind::Header));
     };
-    if has_comment(&bytes[start as usize..]) {
-        return Err(form());
-    }
-    sections(alloc, &mut Text::new(bytes, start))
+    sections(alloc, &mut Cursor::new(bytes, start))
 }
 
 /// The network and the demands that a file spells, read to its end. `NoMemory` may come at any file.
@@ -65,9 +66,9 @@ pub fn read_network(alloc: Global, bytes: &[u8]) -> Result<(Network, Demands), R
     ensures read { IfOk result (λ r. Spells bytes.now r.0 r.1) }
     // Nothing else is spelled.
     ensures only { IfOk result (λ r. (net : Net) (demands : List Dem) → Spells bytes.now net demands → (net.nodes ≡ r.0.nodes) × (net.links ≡ r.0.links) × (net.notes ≡ r.0.notes) × (demands ≡ r.1)) }
-    // What is refused spells nothing.
+    // What is refused spells nothing, and the fault is the first one by place.
     ensures refused { (at : ℕ) (kind : ReadKind) → result ≡ Err (ReadRefusal.Bad at kind)
-        → (at ≡ 0) × (kind ≡ ReadKind.Form) × ((net : Net) (demands : List Dem) → Spells bytes.now net demands → ⊥) }
+        → IsFirstFault bytes.now at kind × ((net : Net) (demands : List Dem) → Spells bytes.now net demands → ⊥) }
 {
     file(alloc, bytes)
 }

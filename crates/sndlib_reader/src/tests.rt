@@ -1,13 +1,20 @@
-use crate::fault::{ReadKind, ReadRefusal};
+use crate::fault::{Limited, ReadKind, ReadRefusal};
 use crate::reader::read_network;
-use net_core::{Bytes, List, NodeId};
+use net_core::{Bytes, Demand, Link, List, NodeId};
+use snd_tokens::NumberFault;
 use std::alloc::Global;
 use std::test::Fail;
 
 const HEADER: &[u8] = b"?SNDlib native format; type: network; version: 1.0\n";
 
-const TRIANGLE: &[u8] =
-    b"?SNDlib native format; type: network; version: 1.0\nNODES ( A B C )\nLINKS (\n AB ( A B ) 0 0 0 0 ( 10.00 5.00 )\n BC ( B C ) 0 0 0 0 ( 10.00 5.00 )\n AC ( A C ) 0 0 0 0 ( 10.00 5.00 )\n)\nDEMANDS ( D1 ( A C ) 1 12.00 UNLIMITED )\n";
+const SMALL: &[u8] =
+    b"?SNDlib native format; type: network; version: 1.0\n# network small4\n\nMETA (\n  granularity = instance\n)\n\n# NODE SECTION\n# <node_id> [(<longitude>, <latitude>)]\nNODES (\n  Bonn ( 7.10 50.73 )\n  Kiel ( 10.13 54.32 )\n  Ulm ( 9.99, 48.40 )\n  Jena\n)\n\n# LINK SECTION\nLINKS (\n  L1 ( Bonn Kiel ) 0.00 0.00 0.00 0.00 ( 155.00 100.00 622.00 250.00 )\n  L2 ( Kiel Jena ) 0.00 0.00 0.00 0.00 ( 155.00 100.00 622.00 250.00 )\n  L3 ( Jena Ulm ) 0.00 0.00 0.00 0.00 ( 155.00 100.00 622.00 250.00 )\n  L4 ( Ulm Bonn ) 0.00 0.00 0.00 0.00 ( 155.00 100.00 622.00 250.00 )\n  L5 ( Bonn Jena ) 0.00 0.00 0.00 0.00 ( 155.00 100.00 622.00 250.00 )\n)\n\n# DEMAND SECTION\nDEMANDS (\n  D1 ( Bonn Kiel ) 1 60.00 UNLIMITED\n  D2 ( Bonn Jena ) 1 80.00 UNLIMITED\n  D3 ( Kiel Ulm ) 1 40.00 UNLIMITED\n)\n\nADMISSIBLE_PATHS (\n  D1 ( P1 ( L1 ) P2 ( L5 L2 ) )\n)\n";
+
+const NOT_A_NUMBER: ReadKind = ReadKind::Number(NumberFault::NotANumber);
+
+const TOO_FINE: ReadKind = ReadKind::Number(NumberFault::TooFine);
+
+const TOO_LARGE: ReadKind = ReadKind::Number(NumberFault::TooLarge);
 
 fn with_header(alloc: Global, body: &[u8]) -> Option<Bytes> {
     let mut text = List::new(alloc);
@@ -16,36 +23,371 @@ fn with_header(alloc: Global, body: &[u8]) -> Option<Bytes> {
     Some(text)
 }
 
-/// Whether the file of this body is refused, with the one fault at its beginning.
-fn is_refused(alloc: Global, body: &[u8]) -> Option<bool> {
-    let text = with_header(alloc, body)?;
-    match read_network(alloc, text.items()) {
-        Ok(_) => Some(false),
-        Err(ReadRefusal::Bad { at, kind }) => Some(at == 0 && kind == ReadKind::Form),
-        Err(ReadRefusal::NoMemory) => None,
+/// The fault of a file.
+fn fault_of(alloc: Global, text: &[u8]) -> Option<(u64, ReadKind)> {
+    match read_network(alloc, text) {
+        Err(ReadRefusal::Bad { at, kind }) => Some((at, kind)),
+        _ => None,
+    }
+}
+
+/// The fault of the file of this body.
+fn fault(alloc: Global, body: &[u8]) -> Option<(u64, ReadKind)> {
+    fault_of(alloc, with_header(alloc, body)?.items())
+}
+
+/// Whether the file of this body is read.
+fn is_read(alloc: Global, body: &[u8]) -> Option<bool> {
+    Some(read_network(alloc, with_header(alloc, body)?.items()).is_ok())
+}
+
+#[test]
+fn headers_and_places(rt: HostRuntime) {
+    let file: &[u8] =
+        b"?SNDlib native format; type: network; version: 1.0\nNODES ( A B )\nLINKS ( L ( A B ) 5 0 0 0 ( ) )\nDEMANDS ( )\n";
+    let model: &[u8] = b"?SNDlib native format; type: model; version: 1.0\n";
+    assert_eq!(rt; fault_of(rt.alloc(), file), Some((93, ReadKind::FixedLink)));
+    assert_eq!(rt;
+        fault_of(rt.alloc(), &file[..78]),
+        Some((78, ReadKind::Ended))
+    );
+    assert_eq!(rt; fault_of(rt.alloc(), model), Some((0, ReadKind::Header)));
+    assert_eq!(rt; fault_of(rt.alloc(), b""), Some((0, ReadKind::Header)));
+}
+
+#[test]
+fn faults_of_sections(rt: HostRuntime) {
+    let rows: [(&[u8], u64, ReadKind); 12] = [
+        (b"NODE()", 51, ReadKind::Section),
+        (b"()", 51, ReadKind::Section),
+        (b"NODES", 56, ReadKind::Ended),
+        (b"META NODES", 56, ReadKind::Section),
+        (b"META() META()", 58, ReadKind::Section),
+        (b"META(a))", 58, ReadKind::Section),
+        (b"META((a) b", 61, ReadKind::Ended),
+        (b"NODES()DEMANDS()", 58, ReadKind::Section),
+        (b"NODES() LINKS() DEMANDS() )", 77, ReadKind::Section),
+        (b"NODES() LINKS() DEMANDS() PATHS()", 77, ReadKind::Section),
+        (
+            b"NODES() LINKS() DEMANDS() ADMISSIBLE_PATHS() x",
+            96,
+            ReadKind::Section,
+        ),
+        (b"NODES() LINKS() DEMANDS(", 75, ReadKind::Ended),
+    ];
+    for (body, at, kind) in rows {
+        assert_eq!(rt; fault(rt.alloc(), body), Some((at, kind)));
     }
 }
 
 #[test]
-fn reads_a_triangle(rt: HostRuntime) -> Result<(), Fail> {
-    let (net, demands) = read_network(rt.alloc(), TRIANGLE)?;
-    assert_eq!(rt; net.nodes().len(), 3);
-    assert!(rt; net.nodes().items()[2].bytes() == b"C".as_slice());
-    assert_eq!(rt; net.links().len(), 3);
-    let link = &net.links().items()[2];
-    assert!(rt; link.name.bytes() == b"AC".as_slice());
-    assert_eq!(rt; link.a, NodeId(0));
-    assert_eq!(rt; link.b, NodeId(2));
-    assert_eq!(rt; link.modules.len(), 1);
-    assert_eq!(rt; link.modules.items()[0].capacity, 10000);
-    assert_eq!(rt; link.modules.items()[0].cost, 5000);
+fn faults_of_tokens(rt: HostRuntime) {
+    let rows: [(&[u8], u64, ReadKind); 12] = [
+        (b"NODES((1))", 57, ReadKind::Token),
+        (b"NODES(A(1)(2))", 61, ReadKind::Token),
+        (b"NODES(A #B)\n", 63, ReadKind::Ended),
+        (b"NODES(A B)LINKS(L A", 69, ReadKind::Token),
+        (b"NODES(A B)LINKS(L(A B A)", 73, ReadKind::Token),
+        (b"NODES(A B)LINKS(L(A B)0 0 0()", 78, ReadKind::Token),
+        (b"NODES(A B)LINKS(L(A B)0 0 0 0(1)", 82, ReadKind::Token),
+        (
+            b"NODES(A B)LINKS(L(A B)0 0 0 0())DEMANDS(D(A B)1 1)",
+            100,
+            ReadKind::Token,
+        ),
+        (
+            b"NODES(A B)LINKS(L(A B)0 0 0 0())DEMANDS(D(A B)1 1 9)ADMISSIBLE_PATHS(D(P()",
+            124,
+            ReadKind::Token,
+        ),
+        (
+            b"NODES(A B)LINKS(L(A B)0 0 0 0())DEMANDS(D(A B)1 1 9)ADMISSIBLE_PATHS(D()",
+            122,
+            ReadKind::Token,
+        ),
+        (
+            b"NODES(A B)LINKS(L(A B)0 0 0 0())DEMANDS(D(A B)1 1 9)ADMISSIBLE_PATHS(D(P L",
+            124,
+            ReadKind::Token,
+        ),
+        (
+            b"NODES(A B)LINKS(L(A B)0 0 0 0())DEMANDS(D(A B)1 1 9)ADMISSIBLE_PATHS(",
+            120,
+            ReadKind::Ended,
+        ),
+    ];
+    for (body, at, kind) in rows {
+        assert_eq!(rt; fault(rt.alloc(), body), Some((at, kind)));
+    }
+}
+
+#[test]
+fn faults_of_names(rt: HostRuntime) {
+    let rows: [(&[u8], u64, ReadKind); 9] = [
+        (b"NODES(A B A)", 61, ReadKind::DoubleName),
+        (
+            b"NODES(A B)LINKS(L(A B)0 0 0 0() L",
+            83,
+            ReadKind::DoubleName,
+        ),
+        (
+            b"NODES(A B)LINKS(L(A B)0 0 0 0())DEMANDS(D(A B)1 1 9 D",
+            103,
+            ReadKind::DoubleName,
+        ),
+        (b"NODES(A B)LINKS(L(A X)", 71, ReadKind::UnknownName),
+        (
+            b"NODES(A B)LINKS(L(A B)0 0 0 0())DEMANDS(D(X A)",
+            93,
+            ReadKind::UnknownName,
+        ),
+        (
+            b"NODES(A B)LINKS(L(A B)0 0 0 0())DEMANDS(D(A B)1 1 9)ADMISSIBLE_PATHS(E",
+            120,
+            ReadKind::UnknownName,
+        ),
+        (
+            b"NODES(A B)LINKS(L(A B)0 0 0 0())DEMANDS(D(A B)1 1 9)ADMISSIBLE_PATHS(D(P(M",
+            124,
+            ReadKind::UnknownName,
+        ),
+        (b"NODES(A B)LINKS(L(A A)", 71, ReadKind::SelfLink),
+        (
+            b"NODES(A B)LINKS(L(A B)0 0 0 0())DEMANDS(D(B B)",
+            95,
+            ReadKind::SelfDemand,
+        ),
+    ];
+    for (body, at, kind) in rows {
+        assert_eq!(rt; fault(rt.alloc(), body), Some((at, kind)));
+    }
+}
+
+#[test]
+fn faults_of_numbers(rt: HostRuntime) {
+    let rows: [(&[u8], u64, ReadKind); 12] = [
+        (b"NODES(A B)LINKS(L(A B)+5", 73, NOT_A_NUMBER),
+        (
+            b"NODES(A B)LINKS(L(A B)0 0 0 0(0.0 1)",
+            81,
+            ReadKind::ZeroModule,
+        ),
+        (
+            b"NODES(A B)LINKS(L(A B)0.001 0 0 0()",
+            85,
+            ReadKind::FixedLink,
+        ),
+        (
+            b"NODES(A B)LINKS(L(A B)0 0 0 0(1 1 1 1 1 1 1 1 1 1 1 1 1 1 1 1 1 1 1 1 1 1 1 1 1 1 1 1 1 1 1 1 1 1)",
+            145,
+            ReadKind::Limit(Limited::Modules),
+        ),
+        (
+            b"NODES(A B)LINKS(L(A B)0 0 0 0(1 1 1 1 1 1 1 1 1 1 1 1 1 1 1 1 1 1 1 1 1 1 1 1 1 1 1 1 1 1 1 1 0 1)",
+            145,
+            ReadKind::ZeroModule,
+        ),
+        (
+            b"NODES(A B)LINKS(L(A B)0 0 0 0(1 1 1 1 1 1 1 1 1 1 1 1 1 1 1 1 1 1 1 1 1 1 1 1 1 1 1 1 1 1 1 1 x 1)",
+            145,
+            NOT_A_NUMBER,
+        ),
+        (b"NODES(A B)LINKS()DEMANDS(D(A B)1.5 1 9)", 82, TOO_FINE),
+        (
+            b"NODES(A B)LINKS()DEMANDS(D(A B)1099511627776.5 1 9)",
+            82,
+            TOO_FINE,
+        ),
+        (
+            b"NODES(A B)LINKS()DEMANDS(D(A B)1099511628 0 9)",
+            82,
+            TOO_LARGE,
+        ),
+        (b"NODES(A B)LINKS()DEMANDS(D(A B)1 0.0001 9)", 84, TOO_FINE),
+        (
+            b"NODES(A B)LINKS()DEMANDS(D(A B)2 549755813.888 9)",
+            84,
+            TOO_LARGE,
+        ),
+        (
+            b"NODES(A B)LINKS()DEMANDS(D(A B)1 1 some)",
+            86,
+            NOT_A_NUMBER,
+        ),
+    ];
+    for (body, at, kind) in rows {
+        assert_eq!(rt; fault(rt.alloc(), body), Some((at, kind)));
+    }
+}
+
+/// Puts a name of three letters for each number below `count`, each behind a space and before `tail`.
+fn put_many(text: &mut Bytes, count: u32, tail: &[u8]) -> Option<()> {
+    for i in 0..count {
+        let a = b'a' + (i / 676 % 26) as u8;
+        let b = b'a' + (i / 26 % 26) as u8;
+        let c = b'a' + (i % 26) as u8;
+        text.append(&[b' ', a, b, c]).ok()?;
+        text.append(tail).ok()?;
+    }
+    Some(())
+}
+
+/// The fault of a file that has so many items behind this front, before this end.
+fn fault_of_many(
+    alloc: Global,
+    front: &[u8],
+    count: u32,
+    tail: &[u8],
+    end: &[u8],
+) -> Option<(u64, ReadKind)> {
+    let mut text = with_header(alloc, front)?;
+    put_many(&mut text, count, tail)?;
+    text.append(end).ok()?;
+    fault_of(alloc, text.items())
+}
+
+#[test]
+fn counts(rt: HostRuntime) {
+    let nodes: &[u8] = b"NODES(";
+    let links: &[u8] = b"NODES(A B)LINKS(";
+    let link: &[u8] = b"(A B)0 0 0 0()";
+    let demands: &[u8] = b"NODES(A B)LINKS()DEMANDS(";
+    let demand: &[u8] = b"(A B)1 0 9";
+    let rows: [(&[u8], u32, &[u8], &[u8], u64, ReadKind); 9] = [
+        (nodes, 128, b"", b")", 570, ReadKind::Ended),
+        (nodes, 129, b"", b")", 570, ReadKind::Limit(Limited::Nodes)),
+        (nodes, 128, b"", b" aaa)", 570, ReadKind::DoubleName),
+        (links, 256, link, b")", 4676, ReadKind::Ended),
+        (
+            links,
+            257,
+            link,
+            b")",
+            4676,
+            ReadKind::Limit(Limited::Links),
+        ),
+        (links, 256, link, b" aaa(", 4676, ReadKind::DoubleName),
+        (demands, 2048, demand, b")x", 28749, ReadKind::Section),
+        (
+            demands,
+            2049,
+            demand,
+            b")",
+            28749,
+            ReadKind::Limit(Limited::Demands),
+        ),
+        (demands, 2048, demand, b" aaa(", 28749, ReadKind::DoubleName),
+    ];
+    for (front, count, tail, end, at, kind) in rows {
+        assert_eq!(rt;
+            fault_of_many(rt.alloc(), front, count, tail, end),
+            Some((at, kind))
+        );
+    }
+}
+
+#[test]
+fn totals(rt: HostRuntime) {
+    let front: &[u8] = b"NODES(A B)LINKS()DEMANDS(";
+    let most: &[u8] = b"(A B)1 1099511627.775 9";
+    let rows: [(&[u8], u64, ReadKind); 4] = [
+        (b" x(A B)1 0.015 9)x", 525, ReadKind::Section),
+        (b" x(A B)1 0.016 9)", 517, ReadKind::Limit(Limited::Total)),
+        (b" x(A B)1000 1099511627.775 9)", 520, TOO_LARGE),
+        (b" x(A B)0 1099511627.776 9)", 517, TOO_LARGE),
+    ];
+    for (end, at, kind) in rows {
+        assert_eq!(rt;
+            fault_of_many(rt.alloc(), front, 16, most, end),
+            Some((at, kind))
+        );
+    }
+}
+
+/// The fault of a file with a name of so many bytes behind this front.
+fn fault_of_long(alloc: Global, front: &[u8], count: u32, end: &[u8]) -> Option<(u64, ReadKind)> {
+    let mut text = with_header(alloc, front)?;
+    for _ in 0..count {
+        text.append(b"n").ok()?;
+    }
+    text.append(end).ok()?;
+    fault_of(alloc, text.items())
+}
+
+#[test]
+fn long_names(rt: HostRuntime) {
+    let rows: [(&[u8], u64); 6] = [
+        (b"NODES(", 57),
+        (b"NODES()LINKS(", 64),
+        (b"NODES(A)LINKS(L(", 67),
+        (b"NODES(A)LINKS(L(A ", 69),
+        (b"NODES()LINKS()DEMANDS(", 73),
+        (b"NODES()LINKS()DEMANDS()ADMISSIBLE_PATHS(", 91),
+    ];
+    for (front, at) in rows {
+        assert_eq!(rt;
+            fault_of_long(rt.alloc(), front, 256, b")"),
+            Some((at, ReadKind::Limit(Limited::Name)))
+        );
+    }
+    assert_eq!(rt;
+        fault_of_long(rt.alloc(), b"NODES(", 255, b")"),
+        Some((313, ReadKind::Ended))
+    );
+}
+
+#[test]
+fn reads_what_is_allowed(rt: HostRuntime) {
+    let bodies: [&[u8]; 6] = [
+        b"NODES()LINKS()DEMANDS()",
+        b"META()NODES()LINKS()DEMANDS()ADMISSIBLE_PATHS()",
+        b"# ( ( (\nMETA((a)(b # )\n))NODES(A# B C)LINKS()DEMANDS()#",
+        b"NODES(A# B(()META(NODES)))LINKS(B(A# B)0 0 0 0())DEMANDS(B(B A#)0 0 007)",
+        b"NODES(A B)LINKS(L(A B)5 0 0 0(0.001 0))DEMANDS(D(A B)1 1 UNLIMITED)ADMISSIBLE_PATHS(D(P(L L)P(L))D(L(L)))",
+        b"NODES(A B)LINKS()DEMANDS(D(A B)1.000 1099511627.775 9 E(A B)1099511627 0.001 9)",
+    ];
+    for body in bodies {
+        assert_eq!(rt; is_read(rt.alloc(), body), Some(true));
+    }
+}
+
+fn is_link(l: &Link, name: &[u8], a: u32, b: u32) -> bool {
+    l.name.bytes() == name && l.a == NodeId(a) && l.b == NodeId(b)
+}
+
+fn is_demand(d: &Demand, name: &[u8], from: u32, to: u32, need: u64) -> bool {
+    d.name.bytes() == name && d.from == NodeId(from) && d.to == NodeId(to) && d.need == need
+}
+
+#[test]
+fn reads_a_file_of_users(rt: HostRuntime) -> Result<(), Fail> {
+    let (net, demands) = read_network(rt.alloc(), SMALL)?;
+    let names: [&[u8]; 4] = [b"Bonn", b"Kiel", b"Ulm", b"Jena"];
+    assert_eq!(rt; net.nodes().len(), 4);
+    for (i, name) in names.into_iter().enumerate() {
+        assert!(rt; net.nodes().items()[i].bytes() == name);
+    }
+    let links: [(&[u8], u32, u32); 5] = [
+        (b"L1", 0, 1),
+        (b"L2", 1, 3),
+        (b"L3", 3, 2),
+        (b"L4", 2, 0),
+        (b"L5", 0, 3),
+    ];
+    assert_eq!(rt; net.links().len(), 5);
+    for (i, (name, a, b)) in links.into_iter().enumerate() {
+        let l = &net.links().items()[i];
+        assert!(rt; is_link(l, name, a, b));
+        assert_eq!(rt; (l.fixed, l.setup, l.modules.len()), (0, 0, 2));
+        let (first, second) = (l.modules.items()[0], l.modules.items()[1]);
+        assert_eq!(rt; (first.capacity, first.cost), (155_000, 100_000));
+        assert_eq!(rt; (second.capacity, second.cost), (622_000, 250_000));
+    }
     assert!(rt; !net.notes().fixed_cost && !net.notes().routing_cost && !net.notes().setup_cost);
-    assert_eq!(rt; demands.len(), 1);
-    let demand = &demands.items()[0];
-    assert!(rt; demand.name.bytes() == b"D1".as_slice());
-    assert_eq!(rt; demand.from, NodeId(0));
-    assert_eq!(rt; demand.to, NodeId(2));
-    assert_eq!(rt; demand.need, 12000);
+    assert_eq!(rt; demands.len(), 3);
+    assert!(rt; is_demand(&demands.items()[0], b"D1", 0, 1, 60_000));
+    assert!(rt; is_demand(&demands.items()[1], b"D2", 0, 3, 80_000));
+    assert!(rt; is_demand(&demands.items()[2], b"D3", 1, 2, 40_000));
     Ok(())
 }
 
@@ -57,41 +399,26 @@ fn notes_costs_and_units(rt: HostRuntime) -> Result<(), Fail> {
     let (net, demands) = read_network(rt.alloc(), text.items())?;
     assert!(rt; net.notes().fixed_cost && !net.notes().routing_cost && net.notes().setup_cost);
     let link = &net.links().items()[0];
-    assert_eq!(rt; link.fixed, 2500);
-    assert_eq!(rt; link.setup, 7000);
-    assert_eq!(rt; link.modules.len(), 2);
-    assert_eq!(rt; link.modules.items()[1].cost, 4000);
-    assert_eq!(rt; demands.len(), 1);
-    assert_eq!(rt; demands.items()[0].need, 4500);
+    assert_eq!(rt;
+        (link.fixed, link.setup, link.modules.len()),
+        (2_500, 7_000, 2)
+    );
+    assert_eq!(rt; link.modules.items()[1].cost, 4_000);
+    assert!(rt; is_demand(&demands.items()[0], b"D", 1, 0, 4_500));
     Ok(())
 }
 
 #[test]
-fn refuses_other_files(rt: HostRuntime) -> Result<(), Fail> {
-    let bodies: [&[u8]; 16] = [
-        b"NODES ( A B )\nLINKS ( L ( A B ) 5 0 0 0 ( ) )\nDEMANDS ( )\n",
-        b"# a comment\nNODES ( A B ) LINKS ( ) DEMANDS ( )",
-        b"NODES ( A B )# a comment\n LINKS ( ) DEMANDS ( )",
-        b"NODES ( A B ) LINKS ( ) DEMANDS ( ) )",
-        b"NODES ( A B ) LINKS ( ) DEMANDS (",
-        b"NODES ( A A ) LINKS ( ) DEMANDS ( )",
-        b"NODES ( A B ) LINKS ( L ( A X ) 0 0 0 0 ( ) ) DEMANDS ( )",
-        b"NODES ( A B ) LINKS ( L ( A A ) 0 0 0 0 ( ) ) DEMANDS ( )",
-        b"NODES ( A B ) LINKS ( L ( A B ) 0 0 0 0 ( 0 1 ) ) DEMANDS ( )",
-        b"NODES ( A B ) LINKS ( L ( A B ) 0 0 0 0 ( 1 ) ) DEMANDS ( )",
-        b"NODES ( A B ) LINKS ( ) DEMANDS ( D ( A B ) 1.5 2 UNLIMITED )",
-        b"NODES ( A B ) LINKS ( ) DEMANDS ( D ( A B ) 1 2 3 )",
-        b"NODES ( A B ) LINKS ( ) DEMANDS ( D ( A A ) 1 2 UNLIMITED )",
-        b"NODES ( A B ) LINKS ( ) DEMANDS ( D ( A B ) 1 2 UNLIMITED D ( B A ) 1 2 UNLIMITED )",
-        b"NODES ( A B ) LINKS ( ) DEMANDS ( D ( A B ) 2 1099511627.775 UNLIMITED )",
-        b"LINKS ( ) NODES ( A B ) DEMANDS ( )",
+fn kinds_are_written(rt: HostRuntime) {
+    let rows: [(ReadKind, &str); 6] = [
+        (ReadKind::Header, "header"),
+        (ReadKind::FixedLink, "fixed-link"),
+        (ReadKind::Limit(Limited::Name), "limit-name"),
+        (ReadKind::Limit(Limited::Total), "limit-total"),
+        (NOT_A_NUMBER, "number-not"),
+        (TOO_LARGE, "number-large"),
     ];
-    for body in bodies {
-        assert_eq!(rt; is_refused(rt.alloc(), body), Some(true));
+    for (kind, word) in rows {
+        assert!(rt; kind.word() == word);
     }
-    assert_eq!(rt;
-        is_refused(rt.alloc(), b"NODES ( A# B ) LINKS ( ) DEMANDS ( )"),
-        Some(false)
-    );
-    Ok(())
 }

@@ -1,4 +1,4 @@
-use Rattle.model_reader.specs.Lexemes.{left}
+use Rattle.snd_tokens.specs.Lexemes.{left}
 use Rattle.model_reader.proofs.FailureLaws.{read_pass}
 use Rattle.model_reader.proofs.failure_file.listed.Goals as goal
 

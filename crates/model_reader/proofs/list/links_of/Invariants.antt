@@ -1,5 +1,5 @@
 use Rattle.std.proofs.Common.{◌≡◌, ◌≤◌, []}
-use Rattle.model_reader.specs.Lexemes.{left, size}
+use Rattle.snd_tokens.specs.Lexemes.{left, size}
 use Rattle.model_reader.specs.FailuresReading.{links_at}
 use Rattle.model_reader.proofs.list.links_of.Given as goal
 

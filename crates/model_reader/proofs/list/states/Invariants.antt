@@ -1,5 +1,5 @@
 use Rattle.std.proofs.Common.{◌≡◌, ◌≤◌, ◌-◌, [], length}
-use Rattle.model_reader.specs.Lexemes.{left, size}
+use Rattle.snd_tokens.specs.Lexemes.{left, size}
 use Rattle.model_reader.specs.FailuresReading.{states_at}
 use Rattle.model_reader.proofs.list.states.Given as goal
 

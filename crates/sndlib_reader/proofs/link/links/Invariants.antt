@@ -1,9 +1,14 @@
-use Rattle.std.proofs.Common.{◌≡◌, ◌-◌, [], List, map}
-use Rattle.sndlib_reader.specs.Reading.{link_at, items_at}
-use Rattle.sndlib_reader.specs.Spelling.{notes_of}
-use Rattle.sndlib_reader.specs.declared.costs.CostedLink.{CostedLink}
+use Rattle.std.proofs.Common.{◌≡◌, ◌≤◌, ◌-◌, [], length}
+use Rattle.snd_tokens.specs.Lexemes.{left}
+use Rattle.sndlib_reader.specs.Reading.{link_names, links_at}
 use Rattle.sndlib_reader.proofs.link.links.Given as goal
 
-abbrev pub invariant-loop : goal.invariant-loop
-invariant-loop l = (sofar : List CostedLink) × (map (λ c. c.link) sofar ≡ l.links) × (notes_of sofar ≡ l.notes)
-    × (items_at (link_at l.nodes) (256 - l.counter) sofar l.text ≡ items_at (link_at l.nodes) 256 [] l.fn.text)
+abbrev pub invariant-loop-at : goal.invariant-loop-at
+invariant-loop-at l = record {
+  same : links_at l.nodes l.links (left l.text) ≡ links_at l.nodes [] (left l.fn.text);
+  few : length l.links ≤ 256;
+  named : l.names ≡ link_names l.links;
+}
+
+abbrev pub decreases-loop-at : goal.decreases-loop-at
+decreases-loop-at l = 256 - length l.links

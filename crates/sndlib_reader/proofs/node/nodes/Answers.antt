@@ -1,24 +1,5 @@
-use Rattle.std.proofs.Common.{◌-◌}
-use Rattle.std.proofs.lemmas.Result.{err_from_is_err_and}
-use Rattle.sndlib_reader.specs.Reading.{name_at}
-use Rattle.sndlib_reader.proofs.Items.{breaks, goes_on, is_all, overflows}
+use Rattle.std.proofs.Common.{refl, arith}
 use Rattle.sndlib_reader.proofs.node.nodes.Goals as goal
 
-pub returns-then-closes : goal.returns-then-closes
-returns-then-closes c = is_all name_at (128 - c.loop.counter) c.loop.nodes c.loop.text c.closes.new.self _ c.loop.invariant c.if-closes.ensures
-
-pub returns-in_err-name : goal.returns-in_err-name
-returns-in_err-name c =
-    let p = err_from_is_err_and c.from_residual.result c.from_residual.ensures.1 in
-    rw (p.1, p.2) (breaks c.in_err-name.field-0.0 name_at 128 c.loop.counter c.loop.nodes c.loop.text _ c.loop.invariant c.loop-test.true c.if-closes.ensures.0 (rw (← c.if-closes.ensures.1) c.in_err-name.ensures))
-
-pub loop-preserved : goal.loop-preserved
-loop-preserved c = rw c.in-Ok.ensures.ok (goes_on name_at 128 c.loop.counter c.loop.nodes c.loop.text _ _ _ c.loop.invariant c.loop-test.true c.if-closes.ensures.0 (rw (← c.if-closes.ensures.1) c.in_ok-name.ensures))
-
-pub returns-in_err-close : goal.returns-in_err-close
-returns-in_err-close c =
-    let p = err_from_is_err_and c.from_residual-in_err-close.result c.from_residual-in_err-close.ensures.1 in
-    rw (p.1, p.2) (overflows c.in_err-close.field-0.0 name_at 128 c.loop.counter c.loop.nodes c.loop.text _ c.loop.invariant c.loop-test.false c.in_err-close.ensures)
-
-pub returns : goal.returns
-returns c = is_all name_at (128 - c.loop.counter) c.loop.nodes c.loop.text _ _ c.loop.invariant c.in_ok-close.ensures
+pub loop-at-init : goal.loop-at-init
+loop-at-init c = rw c.new-nodes.ensures (refl, omega arith)

@@ -1,4 +1,4 @@
-use Rattle.sndlib_reader.proofs.Whole.{is_spelled, is_only, spells_nothing}
+use Rattle.sndlib_reader.proofs.Whole.{is_spelled, is_only, first_fault}
 use Rattle.sndlib_reader.proofs.reader.read_network.Goals as goal
 
 pub returns-clause-read : goal.returns-clause-read
@@ -8,4 +8,4 @@ pub returns-clause-only : goal.returns-clause-only
 returns-clause-only c = is_only c.args.bytes.now c.file.result c.file.ensures
 
 pub returns-clause-refused : goal.returns-clause-refused
-returns-clause-refused c = spells_nothing c.args.bytes.now c.file.result c.file.ensures
+returns-clause-refused c = first_fault c.args.bytes.now c.file.result c.file.ensures

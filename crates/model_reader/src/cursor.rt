@@ -1,9 +1,0 @@
-ghost use Rattle.std.specs.Prelude.{◌≤◌, length};
-
-/// A text that is read from left to right.
-#[derive(Drop)]
-pub(crate) struct Cursor<'a> {
-    pub(crate) bytes: &'a [u8],
-    pub(crate) at: u64,
-    ghost within: { at ≤ length bytes.now },
-}

@@ -1,0 +1,28 @@
+-- how the kinds of faults are written
+use Rattle.std.specs.Prelude.{ℕ, List, codes}
+use Rattle.snd_tokens.specs.declared.amount.NumberFault.TheVariants.{NotANumber, TooFine, TooLarge}
+use Rattle.sndlib_reader.specs.declared.fault.Limited.TheVariants.{Name, Nodes, Links, Modules, Demands, Total}
+use Rattle.sndlib_reader.specs.declared.fault.ReadKind.{ReadKind}
+use Rattle.sndlib_reader.specs.declared.fault.ReadKind.TheVariants.{Header, Section, Token, Ended, Limit, Number, UnknownName, DoubleName, SelfLink, SelfDemand, ZeroModule, FixedLink}
+
+-- the word of each kind
+abbrev pub kind_word : ReadKind → List ℕ
+kind_word Header = codes "header"
+kind_word Section = codes "section"
+kind_word Token = codes "token"
+kind_word Ended = codes "ended"
+kind_word (Limit Name) = codes "limit-name"
+kind_word (Limit Nodes) = codes "limit-nodes"
+kind_word (Limit Links) = codes "limit-links"
+kind_word (Limit Modules) = codes "limit-modules"
+kind_word (Limit Demands) = codes "limit-demands"
+kind_word (Limit Total) = codes "limit-total"
+kind_word (Number NotANumber) = codes "number-not"
+kind_word (Number TooFine) = codes "number-fine"
+kind_word (Number TooLarge) = codes "number-large"
+kind_word UnknownName = codes "unknown-name"
+kind_word DoubleName = codes "double-name"
+kind_word SelfLink = codes "self-link"
+kind_word SelfDemand = codes "self-demand"
+kind_word ZeroModule = codes "zero-module"
+kind_word FixedLink = codes "fixed-link"
