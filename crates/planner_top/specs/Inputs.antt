@@ -13,16 +13,15 @@ use Rattle.model_reader.specs.FailuresReading.{failures_of}
 use Rattle.model_reader.specs.Models as models
 use Rattle.model_reader.specs.ModelReading.{model_of}
 use Rattle.sndlib_reader.specs.declared.fault.ReadKind.{ReadKind}
+use Rattle.sndlib_reader.specs.Kinds.{kind_word}
+use Rattle.sndlib_reader.specs.Reading.{IsFirstFault}
 use Rattle.sndlib_reader.specs.Spelling as networks
 use Rattle.planner_top.specs.Commands.{Command, default}
-use Rattle.planner_top.specs.Refusals.{failures_word, model_word, network_word, refusal_line}
+use Rattle.planner_top.specs.Refusals.{failures_word, model_word, refusal_line}
 use Rattle.planner_top.specs.declared.answer.Answer.{Answer}
 use Rattle.planner_top.specs.declared.command.PlanFiles.{PlanFiles}
 use Rattle.planner_top.specs.declared.status.Status.{Status}
 use Rattle.planner_top.specs.declared.status.Status.TheVariants.{NoFile, ReadFault, TooLong, NoMemory}
-
-abbrev pub IsFirstFault : List ℕ → ℕ → ReadKind → Type 0
-IsFirstFault bytes at kind = at ≡ 0
 
 -- an input file has at most 16 MiB
 abbrev pub limit : ℕ
@@ -74,7 +73,7 @@ pub record RefusesNetwork (bytes text : List ℕ) : Type 0 where
   pub at : ℕ
   pub kind : ReadKind
   pub first : IsFirstFault bytes at kind
-  pub printed : text ≡ refusal_line (codes "network") (network_word kind) at
+  pub printed : text ≡ refusal_line (codes "network") (kind_word kind) at
 
 -- the bytes spell no model, and the text names their first fault
 pub record RefusesModel (bytes text : List ℕ) : Type 0 where

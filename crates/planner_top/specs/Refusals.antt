@@ -5,12 +5,6 @@ use Rattle.model_reader.specs.declared.failures.FailuresKind.TheVariants as fail
 use Rattle.model_reader.specs.declared.model.ModelKind.{ModelKind}
 use Rattle.model_reader.specs.declared.model.ModelKind.TheVariants as models
 use Rattle.model_reader.specs.Models.{key_word}
-use Rattle.sndlib_reader.specs.declared.fault.ReadKind.{ReadKind}
-use Rattle.sndlib_reader.specs.declared.fault.ReadKind.TheVariants as networks
-
--- the word of each fault of a network file
-abbrev pub network_word : ReadKind → List ℕ
-network_word networks.Form = codes "form"
 
 -- the word of each fault of a model file
 abbrev pub model_word : ModelKind → List ℕ

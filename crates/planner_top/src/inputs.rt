@@ -10,7 +10,7 @@ ghost use Rattle.model_reader.specs.Models as models;
 ghost use Rattle.model_reader.specs.declared.model.Model.{Model as Mod};
 ghost use Rattle.sndlib_reader.specs.Spelling as networks;
 ghost use Rattle.planner_top.specs.Commands.{default};
-ghost use Rattle.planner_top.specs.Inputs.{EndsFetch, EndsFile, HasModel, HasNetwork, HasStates, Holds, IsFirstFault, OrNoMemory, RefusesFailures, RefusesModel, RefusesNetwork, named};
+ghost use Rattle.planner_top.specs.Inputs.{EndsFetch, EndsFile, HasModel, HasNetwork, HasStates, Holds, OrNoMemory, RefusesFailures, RefusesModel, RefusesNetwork, named};
 ghost use Rattle.planner_top.specs.Run.{EndsCommand, EndsFailures, HasInputs};
 
 use crate::answer::{Answer, no_file, silent, too_long};

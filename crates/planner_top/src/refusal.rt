@@ -1,6 +1,7 @@
 ghost use Rattle.std.specs.Prelude.{◌≡◌, ◌++◌, ◌∷◌, [], IfOk, OnOk, codes, decimal};
+ghost use Rattle.sndlib_reader.specs.Kinds.{kind_word};
 ghost use Rattle.planner_top.specs.Inputs.{IsAnswer};
-ghost use Rattle.planner_top.specs.Refusals.{failures_word, model_word, network_word, refusal_line, unused_line};
+ghost use Rattle.planner_top.specs.Refusals.{failures_word, model_word, refusal_line, unused_line};
 
 use crate::answer::{Answer, answer_with};
 use crate::status::Status;
@@ -9,15 +10,6 @@ use model_reader::{FailuresKind, ModelKind, key_word};
 use net_core::{Bytes, List, NoMemory};
 use sndlib_reader::ReadKind;
 use std::alloc::Global;
-
-/// The word of a fault of a network file.
-fn network_word(kind: ReadKind) -> &'static [u8]
-    ensures { result.now ≡ network_word kind }
-{
-    match kind {
-        ReadKind::Form => b"form",
-    }
-}
 
 /// The word of a fault of a failure file.
 fn failures_word(kind: FailuresKind) -> &'static [u8]
@@ -77,12 +69,12 @@ fn refusal_line(alloc: Global, file: &[u8], word: &[u8], at: u64) -> Result<Byte
 
 /// The answer to a network file with a fault.
 pub fn bad_network(alloc: Global, kind: ReadKind, at: u64) -> Answer
-    ensures { IsAnswer Status.BadNetwork (refusal_line (codes "network") (network_word kind) at) result }
+    ensures { IsAnswer Status.BadNetwork (refusal_line (codes "network") (kind_word kind) at) result }
 {
     answer_with(
         alloc,
         Status::BadNetwork,
-        refusal_line(alloc, b"network", network_word(kind), at),
+        refusal_line(alloc, b"network", kind.word().as_bytes(), at),
     )
 }
 
