@@ -26,7 +26,7 @@ module _ (joins : ℕ → ℕ → ℕ → Type 0) (lengths : List ℕ) (demands 
     total = refl;
   }
 
-  same_demand : (k : ℕ) (d e : Demand) → slice_get demands k ≡ Some d → slice_get demands k ≡ Some e → e ≡ d
+  pub same_demand : (k : ℕ) (d e : Demand) → slice_get demands k ≡ Some d → slice_get demands k ≡ Some e → e ≡ d
   same_demand k d e p q = cc (p, q)
 
   weaker : (k : ℕ) (flows : List Flow) → All (λ f. f.demand < k) flows → All (λ f. f.demand < k + 1) flows
