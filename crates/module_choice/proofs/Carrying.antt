@@ -1,5 +1,5 @@
 -- from the routings of states to what the links carry
-use Rattle.std.proofs.Common.{◌≡◌, ◌≢◌, ℕ, zero, suc, ◌+◌, ◌-◌, ◌*◌, ◌^◌, ◌<◌, ◌≤◌, ◌==◌, ◌||◌, ◌⊎◌, Bool, true, false, cond, if◌then◌else◌, List, [], ◌∷◌, ◌++◌, All, AllPairs, Any, Some, get_or, inl, inr, length, length-append, max, refl, replicate, sym, ◌∙◌, ap, subst, arith, slice_get, sum_by, ⊎_elim, eqb, eqb-true}
+use Rattle.std.proofs.Common.{◌≡◌, ℕ, zero, suc, ◌+◌, ◌-◌, ◌*◌, ◌^◌, ◌<◌, ◌≤◌, ◌==◌, ◌||◌, ◌⊎◌, Bool, true, false, cond, if◌then◌else◌, List, [], ◌∷◌, ◌++◌, All, AllPairs, Some, get_or, inl, inr, length, length-append, max, refl, replicate, sym, ◌∙◌, ap, subst, arith, slice_get, sum_by, ⊎_elim, eqb, eqb-true}
 use Rattle.std.proofs.lemmas.List.{get_or-replicate, length-replicate}
 use Rattle.std.proofs.lemmas.List.Sums.{sum_by-cons}
 use Rattle.std.proofs.lemmas.Bool.{cases_Bool, cases_lt, false≢true}
@@ -7,7 +7,7 @@ use Rattle.std.proofs.lemmas.Option.{get_or_from_slice_get, slice_get_within}
 use Rattle.std.proofs.Math.Logic.{∥∥₁_elim}
 use Rattle.std.proofs.Props.{props}
 use Rattle.net_core.specs.Demands.{AreDemands, IsDemand}
-use Rattle.net_core.specs.Network.{IsLink, IsModule, IsNetwork}
+use Rattle.net_core.specs.Network.{IsLink, IsNetwork}
 use Rattle.net_core.specs.States.{names_link}
 use Rattle.net_core.specs.declared.demand.Demand.{Demand}
 use Rattle.net_core.specs.declared.ids.LinkId.{LinkId}

@@ -1,5 +1,5 @@
 -- the cheapest module of a link, and the dearest of these
-use Rattle.std.proofs.Common.{◌≡◌, ◌≢◌, ℕ, zero, suc, ◌+◌, ◌*◌, ◌/◌, ◌≤◌, ◌<◌, ◌⊎◌, List, [], ◌∷◌, ◌++◌, All, Any, Contains, Some, get_or, length, slice_get, slice_index, inl, inr, ⊎_elim, refl, sym, ◌∙◌, ap, subst, arith}
+use Rattle.std.proofs.Common.{◌≡◌, ℕ, ◌+◌, ◌*◌, ◌/◌, ◌≤◌, ◌<◌, ◌⊎◌, List, [], ◌∷◌, ◌++◌, All, Any, Contains, Some, get_or, length, slice_get, inl, inr, ⊎_elim, refl, sym, ◌∙◌, ap, subst, arith}
 use Rattle.std.proofs.Math.Nat.{div-le_of_le-mul, mul-le-mul_left, le_of_mul-le-mul_left}
 use Rattle.std.proofs.lemmas.Bool.{cases_eq}
 use Rattle.std.proofs.lemmas.List.{get_or_append_left, get_or_default, get_or_push}
@@ -7,10 +7,9 @@ use Rattle.std.proofs.lemmas.Option.{get_or_from_slice_get, slice_get-get_or, sl
 use Rattle.net_core.specs.Network.{IsModule}
 use Rattle.net_core.specs.declared.network.Link.{Link}
 use Rattle.net_core.specs.declared.network.Module.{Module}
-use Rattle.plan_terms.specs.Prices.{ArePriceLengths, IsCheapest, IsDearest, IsPriceLength}
+use Rattle.plan_terms.specs.Prices.{ArePriceLengths, IsCheapest, IsPriceLength}
 use Rattle.plan_terms.proofs.Multipliers.{factor_positive, smaller_ratio}
 use Rattle.module_choice.specs.Ratios.{ArePriced, IsDearer, IsDearestSoFar, IsGreatest, IsNoDearer}
-use Rattle.module_choice.proofs.Choices.{all_read}
 
 -- what is no dearer than a module that is no dearer than a third, is no dearer than that one
 pub no_dearer : (a b c : Module) → 0 < b.capacity → IsNoDearer a b → IsNoDearer b c → IsNoDearer a c

@@ -1,5 +1,5 @@
 -- the fallback plan from its routings and its counts
-use Rattle.std.proofs.Common.{◌≡◌, ◌≢◌, ℕ, zero, suc, ◌+◌, ◌-◌, ◌*◌, ◌^◌, ◌<◌, ◌≤◌, ◌==◌, cond, if◌then◌else◌, List, [], ◌∷◌, All, AllPairs, Any, Some, get_or, length, max, refl, sym, ◌∙◌, ap, subst, arith, slice_get, slice_index, ⊎_elim}
+use Rattle.std.proofs.Common.{◌≡◌, ◌≢◌, ℕ, zero, suc, ◌+◌, ◌-◌, ◌*◌, ◌^◌, ◌<◌, ◌≤◌, ◌==◌, cond, if◌then◌else◌, List, [], ◌∷◌, All, AllPairs, Any, Some, get_or, length, refl, sym, ◌∙◌, ap, subst, arith, slice_get, slice_index, ⊎_elim}
 use Rattle.std.proofs.lemmas.List.Sums.{sum_by-cons}
 use Rattle.std.proofs.lemmas.List.Elements.{All-cons, All-nil}
 use Rattle.std.proofs.lemmas.Bool.{cases_eq, cases_lt, eq-eqb, ne_eqb}
@@ -11,8 +11,8 @@ use Rattle.net_core.specs.declared.plan.Flow.{Flow}
 use Rattle.net_core.specs.declared.plan.Routing.{Routing}
 use Rattle.net_core.specs.declared.states.Listed.{Listed}
 use Rattle.plan_terms.specs.Capacities.{AreCheapest, AreCheapestCounts, AreCounts, AreNarrow, capacities, modules_capacity, total_cost}
-use Rattle.plan_terms.specs.Fallbacks.{IsFallback, IsLeastFlow, IsLeastRouting, peak, raised}
-use Rattle.plan_terms.specs.Flows.{Carries, IsFlow, load, sent}
+use Rattle.plan_terms.specs.Fallbacks.{IsFallback, IsLeastRouting, peak, raised}
+use Rattle.plan_terms.specs.Flows.{Carries, load, sent}
 use Rattle.plan_terms.specs.Paths.{Joins}
 use Rattle.plan_terms.specs.Prices.{ArePriceLengths}
 use Rattle.module_choice.specs.Routes.{AreCovered, AreRouted}

@@ -1,5 +1,5 @@
 -- one demand after another gets its flow
-use Rattle.std.proofs.Common.{◌≡◌, ◌≢◌, ℕ, zero, suc, ◌+◌, ◌^◌, ◌<◌, ◌≤◌, List, [], ◌∷◌, ◌++◌, All, AllPairs, Any, Some, get_or, length, length-append, refl, sym, ◌∙◌, ap, subst, arith, slice_get, sum_by, take, ⊎_elim}
+use Rattle.std.proofs.Common.{◌≡◌, ℕ, ◌+◌, ◌<◌, List, [], ◌∷◌, ◌++◌, All, Any, Some, length, length-append, refl, sym, ◌∙◌, ap, subst, arith, slice_get, sum_by, take, ⊎_elim}
 use Rattle.std.proofs.lemmas.List.{get_or_append_left}
 use Rattle.std.proofs.lemmas.List.Sums.{sum_by-append, sum_by-cons, sum_by_more}
 use Rattle.std.proofs.lemmas.List.Elements.{All-nil, All-push}
@@ -26,7 +26,7 @@ module _ (joins : ℕ → ℕ → ℕ → Type 0) (lengths : List ℕ) (demands 
     total = refl;
   }
 
-  same_demand : (k : ℕ) (d e : Demand) → slice_get demands k ≡ Some d → slice_get demands k ≡ Some e → e ≡ d
+  pub same_demand : (k : ℕ) (d e : Demand) → slice_get demands k ≡ Some d → slice_get demands k ≡ Some e → e ≡ d
   same_demand k d e p q = cc (p, q)
 
   weaker : (k : ℕ) (flows : List Flow) → All (λ f. f.demand < k) flows → All (λ f. f.demand < k + 1) flows

@@ -1,5 +1,5 @@
 -- one path for each demand that has a need, state by state
-use Rattle.std.specs.Prelude.{◌≡◌, ℕ, ◌+◌, ◌*◌, ◌^◌, ◌<◌, ◌==◌, ◌⊎◌, ◌++◌, [], ◌∷◌, List, All, AllPairs, Any, Some, count_by, length, slice_get, slice_index, sum_by, take}
+use Rattle.std.specs.Prelude.{◌≡◌, ℕ, ◌*◌, ◌^◌, ◌<◌, ◌==◌, ◌⊎◌, ◌++◌, [], ◌∷◌, List, All, AllPairs, Any, Some, count_by, length, slice_get, slice_index, sum_by, take}
 use Rattle.net_core.specs.declared.demand.Demand.{Demand}
 use Rattle.net_core.specs.declared.ids.LinkId.{LinkId}
 use Rattle.net_core.specs.declared.network.Link.{Link}

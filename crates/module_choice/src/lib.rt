@@ -12,3 +12,6 @@ pub use covers::{Covering, cover};
 pub use fallback::{Fallback, fallback_plan};
 pub use prices::price_lengths;
 pub use totals::{capacities, cost};
+
+#[cfg(test)]
+mod tests;

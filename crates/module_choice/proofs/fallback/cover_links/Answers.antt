@@ -1,7 +1,6 @@
-use Rattle.std.proofs.Common.{◌≡◌, ◌++◌, ◌∷◌, [], ◌-◌, ◌^◌, ◌<◌, ◌∙◌, ℕ, List, All, Some, ap, arith, get_or, length, length-append, refl, slice_get, subst, sym}
+use Rattle.std.proofs.Common.{◌≡◌, ◌++◌, ◌∷◌, [], ◌-◌, ◌^◌, ◌<◌, All, Some, ap, arith, get_or, length, length-append, refl, slice_get, subst, sym}
 use Rattle.std.proofs.lemmas.List.Elements.{All-push}
 use Rattle.std.proofs.lemmas.Option.{slice_get_read}
-use Rattle.net_core.specs.declared.network.Link.{Link}
 use Rattle.plan_terms.specs.Capacities.{AreCheapest, modules_capacity}
 use Rattle.module_choice.specs.Kinds.{IsCovering}
 use Rattle.module_choice.proofs.Carrying.{each_more}

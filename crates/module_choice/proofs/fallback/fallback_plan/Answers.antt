@@ -1,11 +1,9 @@
-use Rattle.std.proofs.Common.{◌≡◌, ◌<◌, ◌≤◌, ◌^◌, ◌∙◌, ◌+◌, ℕ, All, Some, ap, arith, get_or, length, slice_get, slice_index, subst, sym}
+use Rattle.std.proofs.Common.{◌≡◌, ◌<◌, ◌≤◌, ◌^◌, ◌∙◌, ◌+◌, All, Some, ap, arith, get_or, length, slice_get, slice_index, subst, sym}
 use Rattle.std.proofs.lemmas.Option.{slice_get_within}
 use Rattle.net_core.specs.Network.{IsModule}
-use Rattle.net_core.specs.declared.network.Link.{Link}
 use Rattle.plan_terms.specs.Fallbacks.{raised}
 use Rattle.plan_terms.specs.Separations.{IsSurvivable}
 use Rattle.module_choice.specs.Routes.{AreCovered, AreRouted}
-use Rattle.module_choice.proofs.Carrying.{network_links}
 use Rattle.module_choice.proofs.Falling.{covered_narrow, covered_shape, falls, fixed_small, links_sound, raised_positive, unserved}
 use Rattle.module_choice.proofs.fallback.fallback_plan.Goals as goal
 

@@ -1,4 +1,4 @@
-use Rattle.std.proofs.Common.{◌≡◌, ◌≤◌, ◌<◌, ℕ, get_or, length, max}
+use Rattle.std.proofs.Common.{◌≡◌, ◌≤◌, ◌<◌, ℕ, get_or, max}
 use Rattle.module_choice.proofs.loads.raise.Given as goal
 
 -- the peaks so far have been raised, the others are as they were

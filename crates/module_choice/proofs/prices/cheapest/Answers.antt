@@ -1,4 +1,4 @@
-use Rattle.std.proofs.Common.{◌+◌, arith, get_or, subst, sym}
+use Rattle.std.proofs.Common.{◌+◌, arith, subst, sym}
 use Rattle.net_core.specs.declared.network.Module.{Module}
 use Rattle.module_choice.proofs.Dearest.{IsCheapestSoFar, cheapest_moves, cheapest_stays}
 use Rattle.module_choice.proofs.prices.cheapest.Goals as goal

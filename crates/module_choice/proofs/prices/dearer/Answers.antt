@@ -1,5 +1,5 @@
 use Rattle.std.proofs.Common.{arith}
-use Rattle.module_choice.proofs.Dearest.{dearer_moves, dearer_stays}
+use Rattle.module_choice.proofs.Dearest.{dearer_stays}
 use Rattle.module_choice.proofs.prices.dearer.Goals as goal
 
 pub returns-then-crossed : goal.returns-then-crossed

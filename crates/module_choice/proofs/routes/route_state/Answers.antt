@@ -1,5 +1,4 @@
-use Rattle.std.proofs.Common.{◌≡◌, ℕ, ◌∙◌, ap, arith, length, refl, subst, sym}
-use Rattle.std.proofs.lemmas.Option.{slice_get_within}
+use Rattle.std.proofs.Common.{◌≡◌, ℕ, ◌∙◌, ap, arith, length, subst}
 use Rattle.net_core.specs.declared.network.Network.{Network}
 use Rattle.net_core.specs.declared.states.States.{States}
 use Rattle.plan_terms.specs.Paths.{AreApart, Joins}

@@ -1,0 +1,324 @@
+ghost use Rattle.std.specs.Prelude.{◌≡◌, ℕ, ◌+◌, ◌<◌, ◌≤◌, ◌^◌, IfOk, IsTrue, Some, length, replicate, slice_get};
+ghost use Rattle.net_core.specs.Demands.{AreDemands};
+ghost use Rattle.net_core.specs.declared.demand.Demand.{Demand};
+ghost use Rattle.plan_terms.specs.Paths.{AreApart, Joins};
+ghost use Rattle.plan_terms.specs.Separations.{IsSurvivable};
+
+use crate::{capacities, cost, cover, fallback_plan, price_lengths};
+use net_core::{
+    Counts, Demand, Demands, Lengths, Link, LinkId, List, Listed, Module, Name, Network, NoMemory,
+    NodeId, Notes, StateId, States,
+};
+use short_paths::{LeastPaths, PathFault};
+use std::alloc::Global;
+use std::test::Fail;
+
+/// Modules of 155.000 for 100.000 and of 622.000 for 250.000.
+const TWO_KINDS: [Module; 2] = [
+    Module {
+        capacity: 155000,
+        cost: 100000,
+    },
+    Module {
+        capacity: 622000,
+        cost: 250000,
+    },
+];
+
+/// A module of 10.000 for 5.000.
+const TEN: [Module; 1] = [Module {
+    capacity: 10000,
+    cost: 5000,
+}];
+
+/// A module of 1.000 for 1.000.
+const ONE: [Module; 1] = [Module {
+    capacity: 1000,
+    cost: 1000,
+}];
+
+/// A module of 10.000 that costs nothing.
+const FREE: [Module; 1] = [Module {
+    capacity: 10000,
+    cost: 0,
+}];
+
+fn put<T: Drop>(items: &mut List<T>, item: T) -> Result<(), NoMemory> {
+    match items.push(item) {
+        Ok(()) => Ok(()),
+        Err(_) => Err(NoMemory),
+    }
+}
+
+fn link(
+    alloc: Global,
+    name: u8,
+    ends: (u32, u32),
+    fixed: u64,
+    modules: &[Module],
+) -> Result<Link, Fail>
+    ensures { IfOk result (λ l. l.modules ≡ modules.now) }
+{
+    Ok(Link {
+        name: Name::new(alloc, &[name])?,
+        a: NodeId(ends.0),
+        b: NodeId(ends.1),
+        fixed,
+        setup: 0,
+        modules: List::from_slice(alloc, modules)?,
+    })
+}
+
+/// A network of nodes A, B and so on, with one link for each pair of ends, all alike.
+fn network(
+    alloc: Global,
+    nodes: u8,
+    ends: &[(u32, u32)],
+    fixed: u64,
+    modules: &[Module],
+) -> Result<Network, Fail>
+    requires { nodes < 26 }
+{
+    let mut links = List::new(alloc);
+    let mut name = b'0';
+    for pair in ends {
+        put(&mut links, link(alloc, name, *pair, fixed, modules)?)?;
+        name = name.wrapping_add(1);
+    }
+    joined(alloc, nodes, links)
+}
+
+/// A network of nodes A, B and so on, and these links.
+fn joined(alloc: Global, nodes: u8, links: List<Link>) -> Result<Network, Fail>
+    requires { nodes < 26 }
+{
+    let mut names = List::new(alloc);
+    for n in 0..nodes {
+        put(&mut names, Name::new(alloc, &[b'A' + n])?)?;
+    }
+    let notes = Notes {
+        fixed_cost: false,
+        routing_cost: false,
+        setup_cost: false,
+    };
+    Ok(Network::check(names, links, notes)?)
+}
+
+/// Each link fails alone.
+fn single_links(alloc: Global, net: &Network) -> Result<States, Fail> {
+    let mut listed = List::new(alloc);
+    let mut name = b'0';
+    for e in 0..net.links().len() {
+        let mut links = List::new(alloc);
+        put(&mut links, LinkId(e as u32))?;
+        put(
+            &mut listed,
+            Listed {
+                name: Name::new(alloc, &[name])?,
+                links,
+            },
+        )?;
+        name = name.wrapping_add(1);
+    }
+    Ok(States::new(net, listed)?)
+}
+
+fn demand(alloc: Global, name: &[u8], from: u32, to: u32, need: u64) -> Result<Demand, Fail>
+    ensures { IfOk result (λ d. (d.name ≡ name.now) × (d.from.0 ≡ from) × (d.to.0 ≡ to) × (d.need ≡ need)) }
+{
+    Ok(Demand {
+        name: Name::new(alloc, name)?,
+        from: NodeId(from),
+        to: NodeId(to),
+        need,
+    })
+}
+
+/// One demand from the first node to the last.
+fn one_demand(alloc: Global, nodes: u32, need: u64) -> Result<Demands, Fail>
+    requires nodes { 2 ≤ nodes }
+    requires need { need < 2 ^ 40 }
+    ensures { IfOk result (AreDemands nodes) }
+{
+    let mut demands = List::new(alloc);
+    let Ok(()) = demands.push(demand(alloc, b"D1", 0, nodes - 1, need)?) else {
+        return Err(NoMemory)?;
+    };
+    Ok(demands)
+}
+
+/// Demands of 60 between the first two of four nodes, 80 between the first and the last, and 40 between the others.
+fn three_demands(alloc: Global) -> Result<Demands, Fail>
+    ensures { IfOk result (AreDemands 4) }
+{
+    let mut demands = List::new(alloc);
+    let Ok(()) = demands.push(demand(alloc, b"D1", 0, 1, 60000)?) else {
+        return Err(NoMemory)?;
+    };
+    let Ok(()) = demands.push(demand(alloc, b"D2", 0, 3, 80000)?) else {
+        return Err(NoMemory)?;
+    };
+    let Ok(()) = demands.push(demand(alloc, b"D3", 1, 2, 40000)?) else {
+        return Err(NoMemory)?;
+    };
+    Ok(demands)
+}
+
+/// The length 1 for each link.
+fn unit_lengths(alloc: Global, links: usize) -> Result<Lengths, NoMemory>
+    ensures { IfOk result (λ l. l ≡ replicate links 1) }
+{
+    let Ok(lengths) = vec![in alloc; 1u32; links] else {
+        return Err(NoMemory);
+    };
+    Ok(List::from_vec(lengths))
+}
+
+/// Whether paths join the ends of each demand.
+fn are_joined(alloc: Global, paths: &LeastPaths, demands: &[Demand]) -> Result<bool, NoMemory>
+    requires { AreDemands (length paths.now.net.now.nodes) demands.now }
+    ensures { IfOk result (λ joined. IsTrue joined → (k : ℕ) (d : Demand) → slice_get demands.now k ≡ Some d → AreApart (Joins paths.now.net.now.links paths.now.states.now.listed paths.now.state.0) d.from.0 d.to.0 → ⊥) }
+{
+    for k in 0..demands.len() {
+        let d = &demands[k];
+        match paths.path(alloc, d.from, d.to) {
+            Ok(_) => {}
+            Err(PathFault::NoMemory) => return Err(NoMemory),
+            Err(PathFault::Apart) => return Ok(false),
+        }
+    }
+    Ok(true)
+}
+
+/// Whether paths join the ends of each demand in each state.
+fn is_survivable(
+    alloc: Global,
+    net: &Network,
+    states: &States,
+    demands: &Demands,
+) -> Result<bool, NoMemory>
+    requires { AreDemands (length net.now.nodes) demands.now }
+    ensures { IfOk result (λ joined. IsTrue joined → IsSurvivable net.now.links states.now.listed demands.now) }
+{
+    let lengths = unit_lengths(alloc, net.links().len())?;
+    for s in 0..states.count() {
+        let paths = LeastPaths::new(alloc, net, states, StateId(s), &lengths)?;
+        if !are_joined(alloc, &paths, demands.items())? {
+            return Ok(false);
+        }
+    }
+    Ok(true)
+}
+
+/// The counts that cover a need by two kinds of module, and their cost.
+fn two_kinds(alloc: Global, need: u64) -> Result<(u64, u64, u128), Fail>
+    requires { need < 2 ^ 44 }
+{
+    let link = link(alloc, b'L', (0, 1), 0, &TWO_KINDS)?;
+    let covering = cover(alloc, &link, need)?;
+    let counts = covering.counts.items();
+    Ok((counts[0], counts[1], covering.cost))
+}
+
+#[test]
+fn covers(rt: HostRuntime) -> Result<(), Fail> {
+    for (need, want) in [
+        (0, (0, 0, 0)),
+        (1, (1, 0, 100000)),
+        (155000, (1, 0, 100000)),
+        (180000, (2, 0, 200000)),
+        (310001, (0, 1, 250000)),
+        (500000, (0, 1, 250000)),
+        (700000, (5, 0, 500000)),
+        (900000, (0, 2, 500000)),
+    ] {
+        assert_eq!(rt; two_kinds(rt.alloc(), need)?, want);
+    }
+    Ok(())
+}
+
+#[test]
+fn price_lengths_by_hand(rt: HostRuntime) -> Result<(), Fail> {
+    let alloc = rt.alloc();
+    let mut links = List::new(alloc);
+    put(&mut links, link(alloc, b'0', (0, 1), 0, &TEN)?)?;
+    put(&mut links, link(alloc, b'1', (0, 1), 0, &TWO_KINDS)?)?;
+    put(&mut links, link(alloc, b'2', (0, 1), 0, &FREE)?)?;
+    put(&mut links, link(alloc, b'3', (0, 1), 0, &[])?)?;
+    put(&mut links, link(alloc, b'4', (0, 1), 0, &ONE)?)?;
+    let prices = price_lengths(alloc, &joined(alloc, 2, links)?)?;
+    assert_eq!(rt; prices.items(), [8, 6, 0, 0, 16].as_slice());
+    let free = price_lengths(alloc, &network(alloc, 3, &[(0, 1), (1, 2)], 0, &FREE)?)?;
+    assert_eq!(rt; free.items(), [0, 0].as_slice());
+    let bare = price_lengths(alloc, &network(alloc, 2, &[(0, 1)], 0, &[])?)?;
+    assert_eq!(rt; bare.items(), [0].as_slice());
+    Ok(())
+}
+
+/// The counts of all links, one after another.
+fn flat(alloc: Global, counts: &Counts) -> Result<List<u64>, NoMemory> {
+    let mut all = List::new(alloc);
+    for c in counts.items() {
+        all.append(c.items())?;
+    }
+    Ok(all)
+}
+
+#[test]
+fn fallback_of_the_triangle(rt: HostRuntime) -> Result<(), Fail> {
+    let alloc = rt.alloc();
+    for (fixed, counts, price, capacity) in [
+        (0, 2, 30000, 20000),
+        (2000, 1, 15000, 12000),
+        (12000, 0, 0, 12000),
+    ] {
+        let net = network(alloc, 3, &[(0, 1), (1, 2), (0, 2)], fixed, &TEN)?;
+        let states = single_links(alloc, &net)?;
+        let demands = one_demand(alloc, 3, 12000)?;
+        assert!(rt; net.nodes().len() == 3);
+        assert!(rt; is_survivable(alloc, &net, &states, &demands)?);
+        let plan = fallback_plan(alloc, &net, &states, &demands)?;
+        assert_eq!(rt; flat(alloc, &plan.counts)?.items(), [counts; 3].as_slice());
+        assert_eq!(rt; plan.cost, price);
+        assert_eq!(rt; cost(&net, &plan.counts), price);
+        let caps = capacities(alloc, &net, &plan.counts)?;
+        assert_eq!(rt; caps.scale, 1);
+        assert_eq!(rt; caps.nums.items(), [capacity; 3].as_slice());
+    }
+    Ok(())
+}
+
+#[test]
+fn fallback_of_parallel_links(rt: HostRuntime) -> Result<(), Fail> {
+    let alloc = rt.alloc();
+    let net = network(alloc, 2, &[(0, 1), (0, 1), (0, 1)], 0, &ONE)?;
+    let states = single_links(alloc, &net)?;
+    let demands = one_demand(alloc, 2, 10000)?;
+    assert!(rt; net.nodes().len() == 2);
+    assert!(rt; is_survivable(alloc, &net, &states, &demands)?);
+    let plan = fallback_plan(alloc, &net, &states, &demands)?;
+    assert_eq!(rt; flat(alloc, &plan.counts)?.items(), [10, 10, 0].as_slice());
+    assert_eq!(rt; plan.cost, 20000);
+    Ok(())
+}
+
+/// With modules of 1.000 the counts are the greatest loads.
+#[test]
+fn fallback_of_four_nodes(rt: HostRuntime) -> Result<(), Fail> {
+    let alloc = rt.alloc();
+    let ends = [(0, 1), (1, 3), (3, 2), (2, 0), (0, 3)];
+    let demands = three_demands(alloc)?;
+    for (modules, counts, price) in [
+        (ONE.as_slice(), [180, 100, 40, 40, 140].as_slice(), 500000),
+        (&TWO_KINDS, &[2, 0, 1, 0, 1, 0, 1, 0, 1, 0], 600000),
+    ] {
+        let net = network(alloc, 4, &ends, 0, modules)?;
+        let states = single_links(alloc, &net)?;
+        assert!(rt; net.nodes().len() == 4);
+        assert!(rt; is_survivable(alloc, &net, &states, &demands)?);
+        let plan = fallback_plan(alloc, &net, &states, &demands)?;
+        assert_eq!(rt; flat(alloc, &plan.counts)?.items(), counts);
+        assert_eq!(rt; plan.cost, price);
+    }
+    Ok(())
+}
