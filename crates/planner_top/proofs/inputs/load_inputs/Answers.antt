@@ -15,3 +15,13 @@ returns-in_err-states-clause-ends g c =
     let p = err_from_is_err_and c.from_residual-in_err-states.result c.from_residual-in_err-states.ensures.1 in
     let a = c.in_err-states.field-0.0 in
     rw (p.1, p.2) (failures_end (g.S.Shelf.files c.args.shelf.now) (named c.args.files.now) c.in_ok-net.net c.in_ok-net.demands c.in_ok-reconfigure.reconfigure a.status a.text c.in_ok-net.ensures.has (rw c.in_ok-net.ensures.files at c.in_ok-reconfigure.ensures.has) (rw (c.in_ok-reconfigure.ensures.files, c.in_ok-net.ensures.files) at c.in_err-states.ensures.ends))
+
+pub returns-clause-has : goal.returns-clause-has
+returns-clause-has g c = (
+  c.in_ok-net.ensures.has,
+  (
+    c.in_ok-reconfigure.reconfigure,
+    rw c.in_ok-net.ensures.files at c.in_ok-reconfigure.ensures.has,
+    rw (c.in_ok-reconfigure.ensures.files, c.in_ok-net.ensures.files) at c.in_ok-states.ensures.has,
+  ),
+)

@@ -16,8 +16,8 @@ returns c =
         routings = fallback.routings;
         cost = fallback.cost;
         bounded = c.in_ok-bounded.bounded;
-        fallback = c.in_ok-fallback.ensures;
-        able = able links listed demands fallback.counts fallback.routings fallback.cost c.in_ok-fallback.ensures;
+        fallback = c.in_ok-fallback.ensures.fallback;
+        able = able links listed demands fallback.counts fallback.routings fallback.cost c.in_ok-fallback.ensures.fallback;
         bound = c.in_ok-bounded.ensures;
         printed = subst (λ ls. c.in_ok-text.text ≡ short_form ls fallback.counts fallback.cost c.in_ok-bounded.bounded) (c.items-links.ensures ∙ c.links.ensures)
             (subst (λ counts. c.in_ok-text.text ≡ short_form c.items-links.result.now counts fallback.cost c.in_ok-bounded.bounded) c.items.ensures c.in_ok-text.ensures);
