@@ -7,7 +7,7 @@ use Rattle.std.proofs.lemmas.Option.{get_or_from_slice_get, slice_get-get_or, sl
 use Rattle.net_core.specs.Network.{IsModule}
 use Rattle.net_core.specs.declared.network.Link.{Link}
 use Rattle.net_core.specs.declared.network.Module.{Module}
-use Rattle.plan_terms.specs.Prices.{ArePriceLengths, IsCheapest, IsPriceLength}
+use Rattle.plan_terms.specs.Prices.{ArePriceLengths, HasLeastUnitCost, IsPriceLength}
 use Rattle.plan_terms.proofs.Multipliers.{factor_positive, smaller_ratio}
 use Rattle.module_choice.specs.Ratios.{ArePriced, IsDearer, IsDearestSoFar, IsGreatest, IsNoDearer}
 
@@ -47,7 +47,7 @@ cheapest_moves modules n m d lt less c =
     }
 
 -- the cheapest is one of the modules
-pub cheapest_sound : (modules : List Module) (m : Module) → All IsModule modules → IsCheapest modules m → IsModule m
+pub cheapest_sound : (modules : List Module) (m : Module) → All IsModule modules → HasLeastUnitCost modules m → IsModule m
 cheapest_sound modules m each is = subst IsModule is.one.2 (each is.one.0 m is.one.1)
 
 -- what is dearer than another costs something
@@ -55,11 +55,11 @@ costly : (m other : Module) → m.cost * other.capacity < other.cost * m.capacit
 costly m other less = (factor_positive other.cost m.capacity (omega (arith, less))).0
 
 -- cheapest modules of one link cost as much per capacity
-cheapest_alike : (modules : List Module) (a b : Module) → IsCheapest modules a → IsCheapest modules b → IsNoDearer a b
+cheapest_alike : (modules : List Module) (a b : Module) → HasLeastUnitCost modules a → HasLeastUnitCost modules b → IsNoDearer a b
 cheapest_alike modules a b first second = subst (IsNoDearer a) second.one.2 (first.least second.one.0 b second.one.1)
 
 -- the cheapest of a link wins where it is at least as dear
-pub dearer_moves : (modules : List Module) (other m : Module) → IsModule m → IsCheapest modules m → IsNoDearer other m → IsDearer modules other m
+pub dearer_moves : (modules : List Module) (other m : Module) → IsModule m → HasLeastUnitCost modules m → IsNoDearer other m → IsDearer modules other m
 dearer_moves modules other m sound is less = record {
   sound = sound;
   kept = less;
@@ -68,7 +68,7 @@ dearer_moves modules other m sound is less = record {
 }
 
 -- the other stays where it is dearer
-pub dearer_stays : (modules : List Module) (other m : Module) → All IsModule modules → IsModule other → IsCheapest modules m → m.cost * other.capacity < other.cost * m.capacity → IsDearer modules other other
+pub dearer_stays : (modules : List Module) (other m : Module) → All IsModule modules → IsModule other → HasLeastUnitCost modules m → m.cost * other.capacity < other.cost * m.capacity → IsDearer modules other other
 dearer_stays modules other m each sound is less =
     let carries : 0 < m.capacity = (cheapest_sound modules m each is).carries in
     record {
@@ -81,7 +81,7 @@ dearer_stays modules other m each sound is less =
 link_again : (links : List Link) (n : ℕ) (k l : Link) → slice_get links n ≡ Some k → slice_get links n ≡ Some l → k ≡ l
 link_again links n k l a b = cc (a, b)
 
-some_link : (links : List Link) (n : ℕ) (l : Link) (m : Module) → slice_get links n ≡ Some l → IsCheapest l.modules m → Any (λ l. IsCheapest l.modules m) links
+some_link : (links : List Link) (n : ℕ) (l : Link) (m : Module) → slice_get links n ≡ Some l → HasLeastUnitCost l.modules m → Any (λ l. HasLeastUnitCost l.modules m) links
 some_link links n l m at is = (n, l, slice_get_within links n l at, get_or_from_slice_get links n l l at, is)
 
 -- what stands at a place
@@ -90,9 +90,9 @@ read_link links e l lt is = slice_get-get_or links e l lt ∙ ap Some is
 
 -- the dearest so far stays
 dearest_kept : (links : List Link) (n : ℕ) (l : Link) (old new : Module) → slice_get links n ≡ Some l
-    → ((old.cost ≡ 0) × ((e : ℕ) (l : Link) → e < n → slice_get links e ≡ Some l → l.modules ≡ [])) ⊎ Any (λ l. IsCheapest l.modules old) links
+    → ((old.cost ≡ 0) × ((e : ℕ) (l : Link) → e < n → slice_get links e ≡ Some l → l.modules ≡ [])) ⊎ Any (λ l. HasLeastUnitCost l.modules old) links
     → new ≡ old → (l.modules ≡ []) ⊎ (0 < old.cost)
-    → ((new.cost ≡ 0) × ((e : ℕ) (l : Link) → e < n + 1 → slice_get links e ≡ Some l → l.modules ≡ [])) ⊎ Any (λ l. IsCheapest l.modules new) links
+    → ((new.cost ≡ 0) × ((e : ℕ) (l : Link) → e < n + 1 → slice_get links e ≡ Some l → l.modules ≡ [])) ⊎ Any (λ l. HasLeastUnitCost l.modules new) links
 dearest_kept links n l old new at so_far same kept = ⊎_elim
     (λ none. ⊎_elim
     (λ empty. inl (
@@ -104,7 +104,7 @@ dearest_kept links n l old new at so_far same kept = ⊎_elim
     ))
     (λ costs. absurd (omega (arith, costs, none.0)))
     kept)
-    (λ some. inr (subst (λ m. Any (λ l. IsCheapest l.modules m) links) (sym same) some))
+    (λ some. inr (subst (λ m. Any (λ l. HasLeastUnitCost l.modules m) links) (sym same) some))
     so_far
 
 -- no module yet
@@ -120,7 +120,7 @@ pub dearest_more : (links : List Link) (n : ℕ) (l : Link) (old new : Module) �
 dearest_more links n l old new at d more = record {
   sound = more.sound;
   before = λ e k o lt got is. ⊎_elim
-      (λ same. more.here o (subst (λ (x : Link). IsCheapest x.modules o) (link_again links n k l (subst (λ i. slice_get links i ≡ Some k) same got) at) is))
+      (λ same. more.here o (subst (λ (x : Link). HasLeastUnitCost x.modules o) (link_again links n k l (subst (λ i. slice_get links i ≡ Some k) same got) at) is))
       (λ other. no_dearer o old new d.sound.carries (d.before e k o (omega (arith, lt, other)) got is) more.kept)
       (cases_eq e n);
   is = ⊎_elim

@@ -3,7 +3,7 @@ use Rattle.std.specs.Prelude.{◌≡◌, ℕ, ◌*◌, ◌≤◌, ◌<◌, ◌�
 use Rattle.net_core.specs.Network.{IsModule}
 use Rattle.net_core.specs.declared.network.Link.{Link}
 use Rattle.net_core.specs.declared.network.Module.{Module}
-use Rattle.plan_terms.specs.Prices.{IsCheapest, IsPriceLength}
+use Rattle.plan_terms.specs.Prices.{HasLeastUnitCost, IsPriceLength}
 
 -- a module costs at most as much per capacity as another
 abbrev pub IsNoDearer : Module → Module → Type 0
@@ -11,20 +11,20 @@ IsNoDearer m other = m.cost * other.capacity ≤ other.cost * m.capacity
 
 -- no link's cheapest module is dearer
 abbrev pub IsGreatest : List Link → Module → Type 0
-IsGreatest links m = (e : ℕ) (l : Link) (o : Module) → slice_get links e ≡ Some l → IsCheapest l.modules o → IsNoDearer o m
+IsGreatest links m = (e : ℕ) (l : Link) (o : Module) → slice_get links e ≡ Some l → HasLeastUnitCost l.modules o → IsNoDearer o m
 
 -- the dearest of another module and the cheapest of a link, which wins a tie
 pub record IsDearer (modules : List Module) (other m : Module) : Type 0 where
   pub sound : IsModule m
   pub kept : IsNoDearer other m
-  pub here : (o : Module) → IsCheapest modules o → IsNoDearer o m
-  pub is : ((m ≡ other) × ((modules ≡ []) ⊎ (0 < other.cost))) ⊎ IsCheapest modules m
+  pub here : (o : Module) → HasLeastUnitCost modules o → IsNoDearer o m
+  pub is : ((m ≡ other) × ((modules ≡ []) ⊎ (0 < other.cost))) ⊎ HasLeastUnitCost modules m
 
 -- the dearest of the cheapest modules of the first n links, or a free one where these have none
 pub record IsDearestSoFar (links : List Link) (n : ℕ) (m : Module) : Type 0 where
   pub sound : IsModule m
-  pub before : (e : ℕ) (l : Link) (o : Module) → e < n → slice_get links e ≡ Some l → IsCheapest l.modules o → IsNoDearer o m
-  pub is : ((m.cost ≡ 0) × ((e : ℕ) (l : Link) → e < n → slice_get links e ≡ Some l → l.modules ≡ [])) ⊎ Any (λ l. IsCheapest l.modules m) links
+  pub before : (e : ℕ) (l : Link) (o : Module) → e < n → slice_get links e ≡ Some l → HasLeastUnitCost l.modules o → IsNoDearer o m
+  pub is : ((m.cost ≡ 0) × ((e : ℕ) (l : Link) → e < n → slice_get links e ≡ Some l → l.modules ≡ [])) ⊎ Any (λ l. HasLeastUnitCost l.modules m) links
 
 -- the price lengths of links under the dearest module, each at most 16
 pub record ArePriced (links : List Link) (dearest : Module) (lengths : List ℕ) : Type 0 where

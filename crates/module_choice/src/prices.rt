@@ -2,7 +2,7 @@ ghost use Rattle.std.specs.Prelude.{◌≡◌, ◌*◌, ◌≤◌, ◌<◌, ℕ,
 ghost use Rattle.net_core.specs.Network.{IsModule};
 ghost use Rattle.net_core.specs.declared.network.Module.{Module};
 ghost use Rattle.plan_terms.specs.Fallbacks.{raised};
-ghost use Rattle.plan_terms.specs.Prices.{ArePriceLengths, IsCheapest, IsPriceLength, IsSixteenths};
+ghost use Rattle.plan_terms.specs.Prices.{ArePriceLengths, HasLeastUnitCost, IsPriceLength, IsSixteenths};
 ghost use Rattle.module_choice.specs.Ratios.{ArePriced, IsDearer, IsDearestSoFar, IsGreatest, IsNoDearer};
 
 use checked_fraction::mul_div;
@@ -19,7 +19,7 @@ fn crossed(m: &Module, other: &Module) -> u128
 /// The first module of least cost per capacity.
 fn cheapest(modules: &[Module]) -> Module
     requires { 0 < length modules.now }
-    ensures { IsCheapest modules.now result }
+    ensures { HasLeastUnitCost modules.now result }
 {
     let mut cheapest = modules[0];
     for m in modules {
@@ -80,7 +80,7 @@ fn sixteenths(dearest: &Module, m: &Module) -> u32
 fn price_length(dearest: &Module, modules: &[Module]) -> u32
     requires dearest { IsModule dearest.now }
     requires each { All IsModule modules.now }
-    requires greatest { (o : Module) → IsCheapest modules.now o → IsNoDearer o dearest.now }
+    requires greatest { (o : Module) → HasLeastUnitCost modules.now o → IsNoDearer o dearest.now }
     ensures exact { IsPriceLength dearest.now modules.now result }
     ensures small { result ≤ 16 }
 {

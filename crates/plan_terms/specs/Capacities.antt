@@ -1,4 +1,4 @@
--- counts of modules: the capacity that they install, what they cost, and whether they can do
+-- counts of modules: the capacity that they install, what they cost, and whether they are able
 use Rattle.std.specs.Prelude.{◌≡◌, ℕ, ◌+◌, ◌-◌, ◌*◌, ◌^◌, ◌<◌, ◌≤◌, List, Some, All, count_by, nat_lt, length, map, slice_get, sum_by, zip}
 use Rattle.std.specs.List.{AllZip}
 use Rattle.net_core.specs.declared.demand.Demand.{Demand}
@@ -39,7 +39,7 @@ pub record IsAbleIn (links : List Link) (listed : List Listed) (demands : List D
   pub routing : Routing
   pub carries : Carries (Joins links listed s) demands 1 (capacities links counts) routing
 
--- The counts can do: in each state some routing carries the demands. Counts, numerators and denominators are any whole numbers.
+-- The counts are able: in each state some routing carries the demands. Counts, numerators and denominators are any whole numbers.
 pub record IsAble (links : List Link) (listed : List Listed) (demands : List Demand) (counts : List (List ℕ)) : Type 0 where
   pub shape : AreCounts links counts
   pub each : (s : ℕ) → s ≤ length listed → IsAbleIn links listed demands counts s

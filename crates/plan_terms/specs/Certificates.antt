@@ -84,7 +84,7 @@ pub record IsBound (links : List Link) (num den bound : ℕ) : Type 0 where
   pub reaches : divisor ≢ 0 → num ≤ bound * den
   pub least : (other : ℕ) → divisor ∣ other → num ≤ other * den → bound ≤ other
 
--- Weak duality: no counts that can do cost less than the bound of a certificate, whatever its lines, and whatever the counts.
+-- Weak duality: no able counts cost less than the bound of a certificate, whatever its lines, and whatever the counts.
 abbrev pub WeakDuality : Type 0
 WeakDuality = (links : List Link) (listed : List Listed) (demands : List Demand) (den : ℕ) (lines : List Line) (bound : ℕ) (counts : List (List ℕ))
     → IsCertificate links listed demands den lines

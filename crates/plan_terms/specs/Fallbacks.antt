@@ -1,4 +1,4 @@
--- the plan that takes one path for each demand in each state, and cheap modules of one kind on each link
+-- the plan that takes one path for each demand that has a need, in each state, and the cheapest modules of one kind on each link
 use Rattle.std.specs.Prelude.{◌≡◌, ℕ, ◌+◌, ◌<◌, List, [], ◌∷◌, Some, All, AllPairs, Any, length, map, max, slice_get}
 use Rattle.net_core.specs.declared.demand.Demand.{Demand}
 use Rattle.net_core.specs.declared.network.Link.{Link}
@@ -35,8 +35,8 @@ peak (r ∷ rs) e = max (load r.flows e) (peak rs e)
 abbrev pub raised : List ℕ → List ℕ
 raised prices = map (λ n. n + 1) prices
 
--- The fallback plan: in each state each demand takes the least of its paths that are shortest under the price lengths plus 1, each link's
--- counts are the least that reach its greatest load less its pre-installed capacity, and so the routings carry the demands in each state.
+-- The fallback plan: in each state each demand that has a need takes the least of its paths that are shortest under the price lengths plus 1, each link's
+-- counts are the cheapest of one kind that reach its greatest load less its pre-installed capacity, and so the routings carry the demands in each state.
 pub record IsFallback (links : List Link) (listed : List Listed) (demands : List Demand) (counts : List (List ℕ)) (routings : List Routing) (cost : ℕ) : Type 0 where
   pub prices : List ℕ
   pub priced : ArePriceLengths links prices

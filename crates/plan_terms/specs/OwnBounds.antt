@@ -42,7 +42,7 @@ pub record IsOwnBound (links : List Link) (state : ℕ) (lengths : List ℕ) (ri
   pub multiplier : IsMultiplier links lengths num den
   pub rounded : IsBound links (raw_value links (alone state lengths right num)) den bound
 
--- no counts that can do cost less than the own bound of a cut
+-- no able counts cost less than the own bound of a cut
 abbrev pub OwnBoundHolds : Type 0
 OwnBoundHolds = (links : List Link) (listed : List Listed) (demands : List Demand) (line : Line) (bound : ℕ) (counts : List (List ℕ))
     → IsLine links listed demands line

@@ -4,14 +4,14 @@ use Rattle.net_core.specs.declared.network.Module.{Module}
 use Rattle.net_core.specs.declared.network.Link.{Link}
 
 -- a module of least cost per capacity
-pub record IsCheapest (modules : List Module) (m : Module) : Type 0 where
+pub record HasLeastUnitCost (modules : List Module) (m : Module) : Type 0 where
   pub one : Contains modules m
   pub least : All (λ o. m.cost * o.capacity ≤ o.cost * m.capacity) modules
 
 -- the cheapest module of some link, and no link's cheapest module costs more per capacity
-pub record IsDearest (links : List Link) (m : Module) : Type 0 where
-  pub some : Any (λ l. IsCheapest l.modules m) links
-  pub greatest : (e : ℕ) (l : Link) (o : Module) → slice_get links e ≡ Some l → IsCheapest l.modules o → o.cost * m.capacity ≤ m.cost * o.capacity
+pub record HasGreatestUnitCost (links : List Link) (m : Module) : Type 0 where
+  pub some : Any (λ l. HasLeastUnitCost l.modules m) links
+  pub greatest : (e : ℕ) (l : Link) (o : Module) → slice_get links e ≡ Some l → HasLeastUnitCost l.modules o → o.cost * m.capacity ≤ m.cost * o.capacity
 
 -- the cost per capacity of m, in sixteenths of that of the dearest, rounded down; 0 where even the dearest costs nothing
 abbrev pub IsSixteenths : Module → Module → ℕ → Type 0
@@ -22,11 +22,11 @@ IsSixteenths dearest m n =
 -- the price length of a link's modules: that of a cheapest one; 0 where there is none
 abbrev pub IsPriceLength : Module → List Module → ℕ → Type 0
 IsPriceLength dearest modules n =
-    ((modules ≡ []) × (n ≡ 0)) ⊎ ((m : Module) × IsCheapest modules m × IsSixteenths dearest m n)
+    ((modules ≡ []) × (n ≡ 0)) ⊎ ((m : Module) × HasLeastUnitCost modules m × IsSixteenths dearest m n)
 
 -- one price length for each link
 pub record ArePriceLengths (links : List Link) (lengths : List ℕ) : Type 0 where
   pub count : length lengths ≡ length links
   pub dearest : Module
-  pub is_dearest : Any (λ l. l.modules ≢ []) links → IsDearest links dearest
+  pub is_dearest : Any (λ l. l.modules ≢ []) links → HasGreatestUnitCost links dearest
   pub each : (e : ℕ) (l : Link) → slice_get links e ≡ Some l → IsPriceLength dearest l.modules (slice_index lengths e)
