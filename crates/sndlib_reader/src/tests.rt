@@ -404,6 +404,7 @@ fn notes_costs_and_units(rt: HostRuntime) -> Result<(), Fail> {
         (2_500, 7_000, 2)
     );
     assert_eq!(rt; link.modules.items()[1].cost, 4_000);
+    assert_eq!(rt; demands.len(), 1);
     assert!(rt; is_demand(&demands.items()[0], b"D", 1, 0, 4_500));
     Ok(())
 }
