@@ -1,5 +1,5 @@
 -- A text has at most as many lexemes as the file has bytes.
-use Rattle.std.proofs.Common.{◌≡◌, ℕ, zero, suc, ◌+◌, ◌≤◌, ◌==◌, Bool, true, false, cond, not, List, [], ◌∷◌, ◌++◌, length, drop, arith, length-append, length-drop, ap, ◌∙◌, refl}
+use Rattle.std.proofs.Common.{◌≡◌, ℕ, zero, suc, ◌+◌, ◌≤◌, ◌==◌, true, false, cond, not, List, [], ◌∷◌, length, drop, arith, length-append, length-drop, refl}
 use Rattle.snd_tokens.specs.declared.token.TokenKind.{TokenKind}
 use Rattle.snd_tokens.specs.declared.token.TokenKind.TheVariants as kinds
 use Rattle.snd_tokens.specs.Tokens.{Token, starts_token, run_length, extent, token_of, begun, tokens_past, tokens_from, token_bytes}
