@@ -1,0 +1,146 @@
+-- the inverse from the other side: the columns times the rows
+use Rattle.std.proofs.Common.{◌≡◌, ℕ, zero, suc, ◌<◌, refl, sym, ap, ◌∙◌, arith, ⊎_elim, subst, cond, eqb, Bool, true, false}
+use Rattle.std.proofs.Math.IntN.{ℤ, pos, ◌+ℤ◌, ◌-ℤ◌, ◌*ℤ◌, *ℤ_comm, *ℤ-zero, zero-*ℤ}
+use Rattle.std.specs.Int.Signed.{◌<ℤ◌}
+use Rattle.std.proofs.lemmas.Int.{ints}
+use Rattle.std.proofs.lemmas.Bool.{cases_eq, eq-eqb, ne_eqb}
+use Rattle.checked_fraction.specs.Mixed.{combined}
+use Rattle.simplex_law.specs.Sums.{int_sum, dot, unit, put}
+use Rattle.simplex_law.specs.Turns.{IsFilling}
+use Rattle.simplex_law.proofs.Arithmetic.{distribute_minus, minus_left, regroup, swap_last, moved_out, times_positive, same_cancel}
+use Rattle.simplex_law.proofs.Sums.{sum-same, sum-times, sum-minus, sum-swapped, sum-put, sum-unit}
+use Rattle.simplex_law.proofs.Rows.{IsMultiple}
+
+-- any right side is filled
+pub fills : (m : ℕ) (basic nums : ℕ → ℕ → ℤ) (den w b : ℕ → ℤ) (all : ℤ) → IsFilling m basic nums den w all
+    → (k : ℕ) → k < m → int_sum m (λ j. (w j *ℤ dot m (nums j) b) *ℤ basic j k) ≡ all *ℤ b k
+fills m basic nums den w b all h k lt =
+    sum-same m _ (λ j. int_sum m (λ l. b l *ℤ ((w j *ℤ nums j l) *ℤ basic j k)))
+    (λ j lj. *ℤ_comm (w j *ℤ dot m (nums j) b) (basic j k)
+    ∙ (ap (λ s. basic j k *ℤ s) (sym (sum-times m (w j) (λ l. nums j l *ℤ b l)))
+    ∙ (sym (sum-times m (basic j k) (λ l. w j *ℤ (nums j l *ℤ b l)))
+    ∙ sum-same m _ _ (λ l ll. each (w j) (nums j l) (b l) (basic j k)))))
+    ∙ (sum-swapped m m (λ j l. b l *ℤ ((w j *ℤ nums j l) *ℤ basic j k))
+    ∙ (sum-same m _ (λ l. (all *ℤ b l) *ℤ unit k l)
+    (λ l ll. sum-times m (b l) (λ j. (w j *ℤ nums j l) *ℤ basic j k) ∙ (ap (λ s. b l *ℤ s) (h.filled k l lt ll) ∙ (moved_out (b l) all (unit k l) ∙ sym (regroup all (b l) (unit k l)))))
+    ∙ sum-unit m k (λ l. all *ℤ b l) lt))
+  where
+    each : (w n b c : ℤ) → c *ℤ (w *ℤ (n *ℤ b)) ≡ b *ℤ ((w *ℤ n) *ℤ c)
+    each w n b c = ap (λ s. c *ℤ s) (sym (regroup w n b) ∙ *ℤ_comm (w *ℤ n) b) ∙ (moved_out c b (w *ℤ n) ∙ ap (λ s. b *ℤ s) (*ℤ_comm c (w *ℤ n)))
+
+-- the rows after a turn, before they are reduced: products p with the column that enters, of which q is the pivot
+abbrev pub next_nums : (ℕ → ℕ → ℤ) → (ℕ → ℤ) → ℕ → ℤ → ℕ → ℕ → ℤ
+next_nums nums p r q j = cond (eqb r j) (nums r) (combined (nums j) (p j) (nums r) q)
+
+abbrev pub next_den : (ℕ → ℤ) → ℕ → ℤ → ℕ → ℤ
+next_den den r q j = cond (eqb r j) q (den j *ℤ q)
+
+four : (w n q c : ℤ) → (w *ℤ (n *ℤ q)) *ℤ c ≡ q *ℤ ((w *ℤ n) *ℤ c)
+four w n q c = ap (λ s. s *ℤ c) (sym (regroup w n q)) ∙ (swap_last (w *ℤ n) q c ∙ *ℤ_comm ((w *ℤ n) *ℤ c) q)
+
+term : (w n q p x c : ℤ) → (w *ℤ ((n *ℤ q) -ℤ (p *ℤ x))) *ℤ c ≡ (q *ℤ ((w *ℤ n) *ℤ c)) -ℤ (x *ℤ ((w *ℤ p) *ℤ c))
+term w n q p x c =
+    ap (λ s. s *ℤ c) (minus_left (n *ℤ q) (p *ℤ x) w) ∙ (distribute_minus (w *ℤ (n *ℤ q)) (w *ℤ (p *ℤ x)) c ∙ omega (arith, ints, four w n q c, four w p x c))
+
+no_term : (w n q p c : ℤ) → p ≡ q → (w *ℤ ((n *ℤ q) -ℤ (p *ℤ n))) *ℤ c ≡ pos 0
+no_term w n q p c e =
+    let zero_there : (n *ℤ q) -ℤ (p *ℤ n) ≡ pos 0 = ap (λ s. (n *ℤ q) -ℤ (s *ℤ n)) e ∙ omega (arith, ints) in
+    ap (λ s. (w *ℤ s) *ℤ c) zero_there ∙ (ap (λ s. s *ℤ c) (*ℤ-zero w) ∙ zero-*ℤ c)
+
+last_step : (s x f n all q a u : ℤ) → s ≡ (q *ℤ (all *ℤ u)) -ℤ (n *ℤ (all *ℤ a)) → x ≡ (all *ℤ n) *ℤ a → f ≡ pos 0 → (s +ℤ x) -ℤ f ≡ (all *ℤ q) *ℤ u
+last_step s x f n all q a u e ex ef =
+    let g : n *ℤ (all *ℤ a) ≡ (all *ℤ n) *ℤ a = moved_out n all a ∙ sym (regroup all n a) in
+    let h : q *ℤ (all *ℤ u) ≡ (all *ℤ q) *ℤ u = moved_out q all u ∙ sym (regroup all q u) in
+    omega (arith, ints, e, ex, ef, g, h)
+
+-- after a turn the weight of the pivot's row is the whole, the other weights stay, and the whole is multiplied by the pivot
+pub next_filling : (m r : ℕ) (basic nums : ℕ → ℕ → ℤ) (den w a : ℕ → ℤ) (all q : ℤ) → r < m → pos 0 <ℤ q → IsFilling m basic nums den w all → dot m (nums r) a ≡ q
+    → IsFilling m (put basic r a) (next_nums nums (λ j. dot m (nums j) a) r q) (next_den den r q) (put w r all) (all *ℤ q)
+next_filling m r basic nums den w a all q rm pq h is_q = record {
+  positive = times_positive all q h.positive pq;
+  weights = λ j lj. ⊎_elim
+      (λ e. subst (λ t. cond t all (w j) *ℤ cond t q (den j *ℤ q) ≡ all *ℤ q) (sym (eq-eqb r j e)) refl)
+      (λ ne. subst (λ t. cond t all (w j) *ℤ cond t q (den j *ℤ q) ≡ all *ℤ q) (sym (ne_eqb r j ne))
+      (sym (regroup (w j) (den j) q) ∙ ap (λ s. s *ℤ q) (h.weights j lj)))
+      (cases_eq r j);
+  filled = λ k l lk ll.
+      let whole : int_sum m (f k l) ≡ (q *ℤ (all *ℤ unit k l)) -ℤ (nums r l *ℤ (all *ℤ a k)) =
+      sum-same m (f k l) (λ j. (q *ℤ ((w j *ℤ nums j l) *ℤ basic j k)) -ℤ (nums r l *ℤ ((w j *ℤ p j) *ℤ basic j k))) (λ j lj. term (w j) (nums j l) q (p j) (nums r l) (basic j k))
+      ∙ (sum-minus m (λ j. q *ℤ ((w j *ℤ nums j l) *ℤ basic j k)) (λ j. nums r l *ℤ ((w j *ℤ p j) *ℤ basic j k))
+      ∙ (ap (λ s. s -ℤ int_sum m (λ j. nums r l *ℤ ((w j *ℤ p j) *ℤ basic j k))) (sum-times m q (λ j. (w j *ℤ nums j l) *ℤ basic j k) ∙ ap (λ s. q *ℤ s) (h.filled k l lk ll))
+      ∙ ap (λ s. (q *ℤ (all *ℤ unit k l)) -ℤ s) (sum-times m (nums r l) (λ j. (w j *ℤ p j) *ℤ basic j k) ∙ ap (λ s. nums r l *ℤ s) (fills m basic nums den w a all h k lk)))) in
+      let none : f k l r ≡ pos 0 = no_term (w r) (nums r l) q (p r) (basic r k) is_q in
+      let shape : int_sum m (λ j. (put w r all j *ℤ next_nums nums p r q j l) *ℤ put basic r a j k) ≡ int_sum m (put (f k l) r ((all *ℤ nums r l) *ℤ a k)) =
+      sum-same m _ _ (λ j lj. by_place k l j (eqb r j) refl) in
+      shape ∙ (sum-put m r (f k l) ((all *ℤ nums r l) *ℤ a k) rm ∙ last_step _ _ _ (nums r l) all q (a k) (unit k l) whole refl none);
+}
+  where
+    p : ℕ → ℤ
+    p j = dot m (nums j) a
+
+    f : ℕ → ℕ → ℕ → ℤ
+    f k l j = (w j *ℤ combined (nums j) (p j) (nums r) q l) *ℤ basic j k
+
+    by_place : (k l j : ℕ) (b : Bool) → eqb r j ≡ b → (put w r all j *ℤ next_nums nums (λ i. dot m (nums i) a) r q j l) *ℤ put basic r a j k ≡ put (λ i. (w i *ℤ combined (nums i) (dot m (nums i) a) (nums r) q l) *ℤ basic i k) r ((all *ℤ nums r l) *ℤ a k) j
+    by_place k l j true e = rw e refl
+    by_place k l j false e = rw e refl
+
+-- what there is for each place below n, there is as a function
+choice : (n : ℕ) (P : ℕ → ℤ → Type 0) → ((j : ℕ) → j < n → (g : ℤ) × P j g) → (f : ℕ → ℤ) × ((j : ℕ) → j < n → P j (f j))
+choice zero P each = ((λ j. pos 0), λ j l. absurd (omega arith))
+choice (suc n) P each =
+    let before = choice n P (λ j l. each j (omega arith)) in
+    let last = each n (omega arith) in (
+      put before.0 n last.0,
+      λ j l. ⊎_elim
+          (λ e. subst (λ t. P j (cond t last.0 (before.0 j))) (sym (eq-eqb n j e)) (subst (λ i. P i last.0) e last.1))
+          (λ ne. subst (λ t. P j (cond t last.0 (before.0 j))) (sym (ne_eqb n j ne)) (before.1 j (omega (arith, l, ne))))
+          (cases_eq n j),
+    )
+
+-- rows in lowest terms have greater weights
+pub reduced_filling : (m : ℕ) (basic raw nums : ℕ → ℕ → ℤ) (whole den w : ℕ → ℤ) (all : ℤ) → ((j : ℕ) → j < m → (g : ℤ) × IsMultiple m (raw j) (whole j) (nums j) (den j) g)
+    → IsFilling m basic raw whole w all → (v : ℕ → ℤ) × (total : ℤ) × IsFilling m basic nums den v total
+reduced_filling m basic raw nums whole den w all each h =
+    let factors = choice m (λ j g. IsMultiple m (raw j) (whole j) (nums j) (den j) g) each in
+    let g = factors.0 in (
+      (λ j. w j *ℤ g j),
+      all,
+      record {
+        positive = h.positive;
+        weights = λ j lj. regroup (w j) (g j) (den j) ∙ (ap (λ s. w j *ℤ s) (sym ((factors.1 j lj).of_den)) ∙ h.weights j lj);
+        filled = λ k l lk ll. sum-same m _ (λ j. (w j *ℤ raw j l) *ℤ basic j k)
+            (λ j lj. ap (λ s. s *ℤ basic j k) (regroup (w j) (g j) (nums j l) ∙ ap (λ s. w j *ℤ s) (sym ((factors.1 j lj).of_nums l ll))))
+            ∙ h.filled k l lk ll;
+      },
+    )
+
+-- other weights that bring the rows over one denominator fill as well
+pub other_filling : (m : ℕ) (basic nums : ℕ → ℕ → ℤ) (den w v : ℕ → ℤ) (all total : ℤ) → ((j : ℕ) → j < m → pos 0 <ℤ den j) → pos 0 <ℤ total
+    → ((j : ℕ) → j < m → v j *ℤ den j ≡ total) → IsFilling m basic nums den w all → IsFilling m basic nums den v total
+other_filling m basic nums den w v all total over pt weights h = record {
+  positive = pt;
+  weights = weights;
+  filled = λ k l lk ll.
+      let same : all *ℤ int_sum m (λ j. (v j *ℤ nums j l) *ℤ basic j k) ≡ total *ℤ int_sum m (λ j. (w j *ℤ nums j l) *ℤ basic j k) =
+      sym (sum-times m all (λ j. (v j *ℤ nums j l) *ℤ basic j k))
+      ∙ (sum-same m _ _ (λ j lj. crossed (w j) (v j) (den j) (nums j l) (basic j k) (over j lj) (h.weights j lj) (weights j lj))
+      ∙ sum-times m total (λ j. (w j *ℤ nums j l) *ℤ basic j k)) in
+      same_cancel all (int_sum m (λ j. (v j *ℤ nums j l) *ℤ basic j k)) (total *ℤ unit k l) h.positive
+      (same ∙ (ap (λ s. total *ℤ s) (h.filled k l lk ll) ∙ moved_out total all (unit k l)));
+}
+  where
+    crossed : (a b d n c : ℤ) → pos 0 <ℤ d → a *ℤ d ≡ all → b *ℤ d ≡ total → all *ℤ ((b *ℤ n) *ℤ c) ≡ total *ℤ ((a *ℤ n) *ℤ c)
+    crossed a b d n c pd ea eb =
+        let one : all *ℤ b ≡ total *ℤ a = same_cancel d (all *ℤ b) (total *ℤ a) pd
+        (*ℤ_comm d (all *ℤ b) ∙ (regroup all b d ∙ (ap (λ s. all *ℤ s) eb ∙ (*ℤ_comm all total ∙ (ap (λ s. total *ℤ s) (sym ea) ∙ (sym (regroup total a d) ∙ *ℤ_comm (total *ℤ a) d)))))) in
+        ap (λ s. all *ℤ s) (regroup b n c) ∙ (sym (regroup all b (n *ℤ c)) ∙ (ap (λ s. s *ℤ (n *ℤ c)) one ∙ (regroup total a (n *ℤ c) ∙ ap (λ s. total *ℤ s) (sym (regroup a n c)))))
+
+-- the same at columns that agree below m
+pub same_filling : (m : ℕ) (basic others nums : ℕ → ℕ → ℤ) (den w : ℕ → ℤ) (all : ℤ) → ((j k : ℕ) → j < m → others j k ≡ basic j k)
+    → IsFilling m basic nums den w all → IsFilling m others nums den w all
+same_filling m basic others nums den w all e h = record {
+  positive = h.positive;
+  weights = h.weights;
+  filled = λ k l lk ll. sum-same m _ _ (λ j lj. ap (λ s. (w j *ℤ nums j l) *ℤ s) (e j k lj)) ∙ h.filled k l lk ll;
+}

@@ -1,0 +1,16 @@
+pub mod Arithmetic
+pub mod Bounds
+pub mod Duality
+pub mod Examples
+pub mod Filling
+pub mod Limited
+pub mod Numbers
+pub mod Optimal
+pub mod Order
+pub mod Reached
+pub mod Rows
+pub mod Sparse
+pub mod Sums
+pub mod Turned
+pub mod Values
+pub mod Widths

@@ -1,0 +1,120 @@
+-- the lexicographic order of rows
+use Rattle.std.proofs.Common.{◌≡◌, ℕ, zero, suc, ◌<◌, sym, ap, ◌∙◌, arith, inl, inr, ⊎_elim, subst}
+use Rattle.std.proofs.Math.IntN.{ℤ, pos, ◌+ℤ◌, ◌-ℤ◌, ◌*ℤ◌, *ℤ_comm, *ℤ-zero}
+use Rattle.std.specs.Int.Signed.{◌<ℤ◌, ◌≤ℤ◌}
+use Rattle.std.proofs.lemmas.Int.{ints}
+use Rattle.checked_fraction.specs.Mixed.{combined}
+use Rattle.simplex_law.specs.Lexicographic.{IsLexNonneg, IsLexPositive, IsLexBelow, valued}
+use Rattle.simplex_law.proofs.Arithmetic.{distribute_minus, minus_left, regroup, swap_last, moved_out, times_positive, times_negative, times_nonneg, positive_cancel, zero_cancel, lt_cancel, same_cancel}
+use Rattle.simplex_law.proofs.Sums.{sum-same, dot-times}
+use Rattle.simplex_law.proofs.Rows.{IsMultiple}
+
+-- a row whose number p is negative stays 0 or more
+pub lex_negative : (n : ℕ) (u w : ℕ → ℤ) (p q : ℤ) → p <ℤ pos 0 → pos 0 <ℤ q → IsLexNonneg n u → IsLexNonneg n w → IsLexNonneg n (combined u p w q)
+lex_negative zero u w p q less more hu hw = tt
+lex_negative (suc n) u w p q less more hu hw = ⊎_elim
+    (λ above. let here : pos 0 <ℤ (u 0 *ℤ q) = times_positive (u 0) q above more in ⊎_elim
+    (λ a. inl (omega (arith, ints, here, times_negative p (w 0) less a)))
+    (λ z. inl (rw (z.0) (omega (arith, ints, here))))
+    hw)
+    (λ none. ⊎_elim
+    (λ a. inl (rw (none.0) (omega (arith, ints, times_negative p (w 0) less a))))
+    (λ z. inr (rw (none.0, z.0) (omega (arith, ints)), lex_negative n (λ k. u (suc k)) (λ k. w (suc k)) p q less more none.1 z.1))
+    hw)
+    hu
+
+pub lex_zero : (n : ℕ) (u w : ℕ → ℤ) (q : ℤ) → pos 0 <ℤ q → IsLexNonneg n u → IsLexNonneg n (combined u (pos 0) w q)
+lex_zero zero u w q more hu = tt
+lex_zero (suc n) u w q more hu = ⊎_elim
+    (λ above. inl (omega (arith, ints, times_positive (u 0) q above more)))
+    (λ none. inr (rw (none.0) (omega (arith, ints)), lex_zero n (λ k. u (suc k)) (λ k. w (suc k)) q more none.1))
+    hu
+
+pub lex_positive : (n : ℕ) (v : ℕ → ℤ) → IsLexNonneg n v → (((k : ℕ) → k < n → v k ≡ pos 0) → ⊥) → IsLexPositive n v
+lex_positive zero v h some = some (λ k l. absurd (omega arith))
+lex_positive (suc n) v h some = ⊎_elim
+    (λ above. inl above)
+    (λ none. inr (none.0, lex_positive n (λ k. v (suc k)) none.1 (λ all. some (from_front none.0 all))))
+    h
+  where
+    from_front : v 0 ≡ pos 0 → ((k : ℕ) → k < n → v (suc k) ≡ pos 0) → (k : ℕ) → k < suc n → v k ≡ pos 0
+    from_front z all zero l = z
+    from_front z all (suc k) l = all k (omega arith)
+
+-- the objective row rises
+pub lex_rises : (n : ℕ) (y w : ℕ → ℤ) (p q d : ℤ) → p <ℤ pos 0 → pos 0 <ℤ q → pos 0 <ℤ d → IsLexPositive n w → IsLexBelow n y d (combined y p w q) (d *ℤ q)
+lex_rises zero y w p q d less more over h = h
+lex_rises (suc n) y w p q d less more over h =
+    let e = distribute_minus (y 0 *ℤ q) (p *ℤ w 0) d in
+    let f : (y 0 *ℤ q) *ℤ d ≡ y 0 *ℤ (d *ℤ q) = swap_last (y 0) q d ∙ regroup (y 0) d q in
+    ⊎_elim
+    (λ a. inl (omega (arith, ints, e, f, times_negative (p *ℤ w 0) d (times_negative p (w 0) less a) over)))
+    (λ z. inr (sym (ap (λ s. ((y 0 *ℤ q) -ℤ (p *ℤ s)) *ℤ d) z.0 ∙ (ap (λ s. s *ℤ d) (omega (arith, ints)) ∙ f)), lex_rises n (λ k. y (suc k)) (λ k. w (suc k)) p q d less more over z.1))
+    h
+
+-- numbers that are a positive multiple of others
+pub lex_reduced : (n : ℕ) (u v : ℕ → ℤ) (g : ℤ) → pos 0 <ℤ g → ((k : ℕ) → k < n → u k ≡ g *ℤ v k) → IsLexNonneg n u → IsLexNonneg n v
+lex_reduced zero u v g pg e h = tt
+lex_reduced (suc n) u v g pg e h = ⊎_elim
+    (λ l. inl (positive_cancel g (v 0) pg (subst (λ x. pos 0 <ℤ x) (e 0 (omega arith)) l)))
+    (λ z. inr (zero_cancel g (v 0) pg (sym (e 0 (omega arith)) ∙ z.0), lex_reduced n (λ k. u (suc k)) (λ k. v (suc k)) g pg (λ k l. e (suc k) (omega arith)) z.1))
+    h
+
+pub below_reduced : (n : ℕ) (y u v : ℕ → ℤ) (d whole den g : ℤ) → pos 0 <ℤ g → whole ≡ g *ℤ den → ((k : ℕ) → k < n → u k ≡ g *ℤ v k)
+    → IsLexBelow n y d u whole → IsLexBelow n y d v den
+below_reduced zero y u v d whole den g pg ew e h = h
+below_reduced (suc n) y u v d whole den g pg ew e h =
+    let left : y 0 *ℤ whole ≡ g *ℤ (y 0 *ℤ den) = ap (λ s. y 0 *ℤ s) ew ∙ moved_out (y 0) g den in
+    let right : u 0 *ℤ d ≡ g *ℤ (v 0 *ℤ d) = ap (λ s. s *ℤ d) (e 0 (omega arith)) ∙ regroup g (v 0) d in
+    ⊎_elim
+    (λ l. inl (lt_cancel g (y 0 *ℤ den) (v 0 *ℤ d) pg (omega (arith, ints, l, left, right))))
+    (λ s. inr (same_cancel g (y 0 *ℤ den) (v 0 *ℤ d) pg (sym left ∙ (s.0 ∙ right)), below_reduced n (λ k. y (suc k)) (λ k. u (suc k)) (λ k. v (suc k)) d whole den g pg ew (λ k l. e (suc k) (omega arith)) s.1))
+    h
+
+pub valued_multiple : (m : ℕ) (b raw nums : ℕ → ℤ) (whole den g : ℤ) → IsMultiple m raw whole nums den g → (k : ℕ) → k < suc m → valued m b raw k ≡ g *ℤ valued m b nums k
+valued_multiple m b raw nums whole den g r zero l = sum-same m _ _ (λ k h. ap (λ s. s *ℤ b k) (r.of_nums k h)) ∙ dot-times m g nums b
+valued_multiple m b raw nums whole den g r (suc k) l = r.of_nums k (omega arith)
+
+-- what is, but for a positive factor, a sum of positive multiples of two
+pub lex_sum : (n : ℕ) (v x y : ℕ → ℤ) (g a b : ℤ) → pos 0 <ℤ g → pos 0 <ℤ a → pos 0 <ℤ b → ((k : ℕ) → k < n → g *ℤ v k ≡ (a *ℤ x k) +ℤ (b *ℤ y k))
+    → IsLexNonneg n x → IsLexNonneg n y → IsLexNonneg n v
+lex_sum zero v x y g a b pg pa pb e hx hy = tt
+lex_sum (suc n) v x y g a b pg pa pb e hx hy =
+    let here = e 0 (omega arith) in
+    ⊎_elim
+    (λ above. inl (positive_cancel g (v 0) pg (omega (arith, ints, here, times_positive a (x 0) pa above, times_nonneg b (y 0) (weaken b pb) (first_nonneg hy)))))
+    (λ none. ⊎_elim
+    (λ above. inl (positive_cancel g (v 0) pg (omega (arith, ints, here, times_positive b (y 0) pb above, ap (λ t. a *ℤ t) none.0 ∙ *ℤ-zero a))))
+    (λ z. inr (
+      zero_cancel g (v 0) pg (omega (arith, ints, here, ap (λ t. a *ℤ t) none.0 ∙ *ℤ-zero a, ap (λ t. b *ℤ t) z.0 ∙ *ℤ-zero b)),
+      lex_sum n (λ k. v (suc k)) (λ k. x (suc k)) (λ k. y (suc k)) g a b pg pa pb (λ k l. e (suc k) (omega arith)) none.1 z.1,
+    ))
+    hy)
+    hx
+  where
+    weaken : (b : ℤ) → pos 0 <ℤ b → pos 0 ≤ℤ b
+    weaken b h = omega (arith, ints, h)
+
+    first_nonneg : IsLexNonneg (suc n) y → pos 0 ≤ℤ y 0
+    first_nonneg h = ⊎_elim (λ l. omega (arith, ints, l)) (λ z. omega (arith, ints, z.0)) h
+
+-- by this the order of the ratio test is transitive: it is the sum for two ratios in a row
+pub crossed : (u v w p q r : ℤ) → q *ℤ ((w *ℤ p) -ℤ (r *ℤ u)) ≡ (p *ℤ ((w *ℤ q) -ℤ (r *ℤ v))) +ℤ (r *ℤ ((v *ℤ p) -ℤ (q *ℤ u)))
+crossed u v w p q r =
+    let one : q *ℤ ((w *ℤ p) -ℤ (r *ℤ u)) ≡ (q *ℤ (w *ℤ p)) -ℤ (q *ℤ (r *ℤ u)) = minus_left (w *ℤ p) (r *ℤ u) q in
+    let two : p *ℤ ((w *ℤ q) -ℤ (r *ℤ v)) ≡ (p *ℤ (w *ℤ q)) -ℤ (p *ℤ (r *ℤ v)) = minus_left (w *ℤ q) (r *ℤ v) p in
+    let three : r *ℤ ((v *ℤ p) -ℤ (q *ℤ u)) ≡ (r *ℤ (v *ℤ p)) -ℤ (r *ℤ (q *ℤ u)) = minus_left (v *ℤ p) (q *ℤ u) r in
+    let a : q *ℤ (w *ℤ p) ≡ p *ℤ (w *ℤ q) = moved_out q w p ∙ (ap (λ t. w *ℤ t) (*ℤ_comm q p) ∙ moved_out w p q) in
+    let b : p *ℤ (r *ℤ v) ≡ r *ℤ (v *ℤ p) = moved_out p r v ∙ ap (λ t. r *ℤ t) (*ℤ_comm p v) in
+    let c : q *ℤ (r *ℤ u) ≡ r *ℤ (q *ℤ u) = moved_out q r u in
+    omega (arith, ints, one, two, three, a, b, c)
+
+-- where the first place that isn't 0 is known
+pub lex_at : (n at : ℕ) (v : ℕ → ℤ) → at < n → ((k : ℕ) → k < at → v k ≡ pos 0) → pos 0 <ℤ v at → IsLexNonneg n v
+lex_at zero at v lt none above = absurd (omega arith)
+lex_at (suc n) zero v lt none above = inl above
+lex_at (suc n) (suc at) v lt none above = inr (none 0 (omega arith), lex_at n at (λ k. v (suc k)) (omega arith) (λ k l. none (suc k) (omega arith)) above)
+
+pub lex_none : (n : ℕ) (v : ℕ → ℤ) → ((k : ℕ) → k < n → v k ≡ pos 0) → IsLexNonneg n v
+lex_none zero v none = tt
+lex_none (suc n) v none = inr (none 0 (omega arith), lex_none n (λ k. v (suc k)) (λ k l. none (suc k) (omega arith)))

@@ -1,0 +1,174 @@
+-- one turn of the simplex method
+use Rattle.std.proofs.Common.{◌≡◌, ◌≢◌, ℕ, suc, ◌<◌, refl, sym, ap, ◌∙◌, arith, ◌⊎◌, ⊎_elim, cond, eqb, Bool, true, false, subst}
+use Rattle.std.proofs.lemmas.Bool.{cases_eq, eq-eqb, ne_eqb}
+use Rattle.std.proofs.Math.IntN.{ℤ, pos, ◌-ℤ◌, ◌*ℤ◌}
+use Rattle.std.specs.Int.Signed.{◌<ℤ◌}
+use Rattle.std.proofs.lemmas.Int.{ints, by_lt_z}
+use Rattle.checked_fraction.specs.Mixed.{combined}
+use Rattle.simplex_law.specs.Sums.{dot, unit, put}
+use Rattle.simplex_law.specs.Programs.{ColumnOf}
+use Rattle.simplex_law.specs.Bases.{IsRow}
+use Rattle.simplex_law.specs.Lexicographic.{IsLexNonneg, IsLexBelow, valued}
+use Rattle.simplex_law.specs.Turns.{State, IsPick, IsTurned, Rises}
+use Rattle.simplex_law.proofs.Arithmetic.{times_positive, positive_cancel}
+use Rattle.simplex_law.proofs.Sums.{unit-same, unit-other, dot-none}
+use Rattle.simplex_law.proofs.Rows.{IsMultiple, multiple, dot-combined, next_row, pivot_row, reduced_row}
+use Rattle.simplex_law.proofs.Order.{lex_negative, lex_zero, lex_positive, lex_rises, lex_reduced, below_reduced, valued_multiple}
+use Rattle.simplex_law.proofs.Filling.{next_nums, next_den, next_filling, reduced_filling, same_filling}
+
+-- the columns of the next basis
+entry_put : {N : Type 0} (basis : ℕ → ColumnOf N) (c : ColumnOf N) (r j : ℕ) → (put basis r c j).entry ≡ put (λ i. (basis i).entry) r c.entry j
+entry_put basis c r j = by_test (eqb r j)
+  where
+    by_test : (t : Bool) → (cond t c (basis j)).entry ≡ cond t c.entry (basis j).entry
+    by_test true = refl
+    by_test false = refl
+
+gain_put : {N : Type 0} (basis : ℕ → ColumnOf N) (c : ColumnOf N) (r j : ℕ) → (put basis r c j).gain ≡ put (λ i. (basis i).gain) r c.gain j
+gain_put basis c r j = by_test (eqb r j)
+  where
+    by_test : (t : Bool) → (cond t c (basis j)).gain ≡ cond t c.gain (basis j).gain
+    by_test true = refl
+    by_test false = refl
+
+to_basis : {N : Type 0} (m : ℕ) (basis : ℕ → ColumnOf N) (c : ColumnOf N) (r : ℕ) (target nums : ℕ → ℤ) (den : ℤ) → IsRow m (put (λ j. (basis j).entry) r c.entry) target nums den
+    → IsRow m (λ j. (put basis r c j).entry) target nums den
+to_basis m basis c r target nums den row j lt = ap (λ v. dot m nums v) (entry_put basis c r j) ∙ row j lt
+
+-- the rows of the next basis before they are reduced
+pub other_row : {N : Type 0} (m : ℕ) (bound : ℕ → ℤ) (basis : ℕ → ColumnOf N) (nums : ℕ → ℕ → ℤ) (den duals : ℕ → ℤ) (duals_den : ℤ) (c : ColumnOf N) (r i : ℕ)
+    → State m bound basis nums den duals duals_den → IsPick m bound nums duals duals_den c r → i < m → i ≢ r
+    → IsRow m (λ j. (put basis r c j).entry) (unit i) (combined (nums i) (dot m (nums i) c.entry) (nums r) (dot m (nums r) c.entry)) (den i *ℤ dot m (nums r) c.entry)
+other_row m bound basis nums den duals duals_den c r i s k l ne = to_basis m basis c r (unit i) _ _ (λ j lj.
+    next_row m r (λ j. (basis j).entry) (unit i) (nums i) (nums r) c.entry (den i) (den r) (dot m (nums i) c.entry) (dot m (nums r) c.entry) (pos 0)
+    (s.rows i l) (s.rows r k.inside) refl (plain (dot m (nums i) c.entry) (den i)) j lj
+    ∙ ap (λ x. (den i *ℤ dot m (nums r) c.entry) *ℤ x) (unit_put j))
+  where
+    plain : (x d : ℤ) → x ≡ x -ℤ (d *ℤ pos 0)
+    plain x d = omega (arith, ints)
+
+    unit_put : (j : ℕ) → put (unit i) r (pos 0) j ≡ unit i j
+    unit_put j = ⊎_elim
+        (λ e. ap (λ t. cond t (pos 0) (unit i j)) (eq-eqb r j e) ∙ sym (unit-other i j (λ f. ne (f ∙ sym e))))
+        (λ n. ap (λ t. cond t (pos 0) (unit i j)) (ne_eqb r j n))
+        (cases_eq r j)
+
+first_row : {N : Type 0} (m : ℕ) (bound : ℕ → ℤ) (basis : ℕ → ColumnOf N) (nums : ℕ → ℕ → ℤ) (den duals : ℕ → ℤ) (duals_den : ℤ) (c : ColumnOf N) (r : ℕ)
+    → State m bound basis nums den duals duals_den → IsPick m bound nums duals duals_den c r
+    → IsRow m (λ j. (put basis r c j).entry) (unit r) (nums r) (dot m (nums r) c.entry)
+first_row m bound basis nums den duals duals_den c r s k = to_basis m basis c r (unit r) _ _
+    (pivot_row m r (λ j. (basis j).entry) (nums r) c.entry (den r) (dot m (nums r) c.entry) (s.rows r k.inside) refl)
+
+pub objective_row : {N : Type 0} (m : ℕ) (bound : ℕ → ℤ) (basis : ℕ → ColumnOf N) (nums : ℕ → ℕ → ℤ) (den duals : ℕ → ℤ) (duals_den : ℤ) (c : ColumnOf N) (r : ℕ)
+    → State m bound basis nums den duals duals_den → IsPick m bound nums duals duals_den c r
+    → IsRow m (λ j. (put basis r c j).entry) (λ j. (put basis r c j).gain) (combined duals (dot m duals c.entry -ℤ (duals_den *ℤ c.gain)) (nums r) (dot m (nums r) c.entry)) (duals_den *ℤ dot m (nums r) c.entry)
+objective_row m bound basis nums den duals duals_den c r s k j lj =
+    to_basis m basis c r (put (λ j. (basis j).gain) r c.gain) _ _
+    (next_row m r (λ j. (basis j).entry) (λ j. (basis j).gain) duals (nums r) c.entry duals_den (den r) (dot m duals c.entry -ℤ (duals_den *ℤ c.gain)) (dot m (nums r) c.entry) c.gain
+    s.objective (s.rows r k.inside) refl refl) j lj
+    ∙ ap (λ x. (duals_den *ℤ dot m (nums r) c.entry) *ℤ x) (sym (gain_put basis c r j))
+
+-- the value of a combined row stands in front of it
+front : (m : ℕ) (b u w : ℕ → ℤ) (p q : ℤ) → IsLexNonneg (suc m) (combined (valued m b u) p (valued m b w) q) → IsLexNonneg (suc m) (valued m b (combined u p w q))
+front m b u w p q h = subst (λ x. (pos 0 <ℤ x) ⊎ ((x ≡ pos 0) × IsLexNonneg m (combined u p w q))) (sym (dot-combined m u w b p q)) h
+
+row_lex : (m : ℕ) (b u w : ℕ → ℤ) (p q : ℤ) → pos 0 <ℤ q → IsLexNonneg (suc m) (valued m b u) → IsLexNonneg (suc m) (valued m b w)
+    → ((pos 0 <ℤ p) → IsLexNonneg (suc m) (combined (valued m b u) p (valued m b w) q)) → IsLexNonneg (suc m) (valued m b (combined u p w q))
+row_lex m b u w p q more hu hw ratio = front m b u w p q (by_lt_z (pos 0) p ratio
+    (λ le. by_lt_z p (pos 0)
+    (λ less. lex_negative (suc m) (valued m b u) (valued m b w) p q less more hu hw)
+    (λ ge. let e : pos 0 ≡ p = omega (arith, ints, le, ge) in subst (λ x. IsLexNonneg (suc m) (combined (valued m b u) x (valued m b w) q)) e (lex_zero (suc m) (valued m b u) (valued m b w) q more hu))))
+
+-- the state after a turn, before the rows are reduced
+pub turned_raw : {N : Type 0} (m : ℕ) (bound : ℕ → ℤ) (basis : ℕ → ColumnOf N) (nums : ℕ → ℕ → ℤ) (den duals : ℕ → ℤ) (duals_den : ℤ) (c : ColumnOf N) (r : ℕ)
+    → State m bound basis nums den duals duals_den → IsPick m bound nums duals duals_den c r
+    → State m bound (put basis r c)
+    (next_nums nums (λ i. dot m (nums i) c.entry) r (dot m (nums r) c.entry)) (next_den den r (dot m (nums r) c.entry))
+    (combined duals (dot m duals c.entry -ℤ (duals_den *ℤ c.gain)) (nums r) (dot m (nums r) c.entry)) (duals_den *ℤ dot m (nums r) c.entry)
+turned_raw m bound basis nums den duals duals_den c r s k = record {
+  rows = λ i l. at_row (λ i u d. IsRow m (λ j. (put basis r c j).entry) (unit i) u d) i
+      (first_row m bound basis nums den duals duals_den c r s k)
+      (λ ne. other_row m bound basis nums den duals duals_den c r i s k l ne);
+  over = λ i l. at_row (λ i u d. pos 0 <ℤ d) i k.positive (λ ne. times_positive (den i) q (s.over i l) k.positive);
+  lex = λ i l. at_row (λ i u d. IsLexNonneg (suc m) (valued m bound u)) i (s.lex r k.inside)
+      (λ ne. row_lex m bound (nums i) (nums r) (dot m (nums i) c.entry) q k.positive (s.lex i l) (s.lex r k.inside) (k.ratio i l ne));
+  objective = objective_row m bound basis nums den duals duals_den c r s k;
+  above = times_positive duals_den q s.above k.positive;
+  filling = (
+    put s.filling.0 r s.filling.1,
+    s.filling.1 *ℤ q,
+    same_filling m (put (λ j. (basis j).entry) r c.entry) (λ j. (put basis r c j).entry) _ _ _ _ (λ j k lj. ap (λ v. v k) (entry_put basis c r j))
+        (next_filling m r (λ j. (basis j).entry) nums den s.filling.0 c.entry s.filling.1 q k.inside k.positive s.filling.2 refl),
+  );
+}
+  where
+    q : ℤ
+    q = dot m (nums r) c.entry
+
+    mixed : ℕ → ℕ → ℤ
+    mixed i = combined (nums i) (dot m (nums i) c.entry) (nums r) q
+
+    at_row : (P : ℕ → (ℕ → ℤ) → ℤ → Type 0) (i : ℕ) → P r (nums r) q → (i ≢ r → P i (mixed i) (den i *ℤ q)) → P i (cond (eqb r i) (nums r) (mixed i)) (cond (eqb r i) q (den i *ℤ q))
+    at_row P i first other = ⊎_elim
+        (λ e. subst (λ t. P i (cond t (nums r) (mixed i)) (cond t q (den i *ℤ q))) (sym (eq-eqb r i e)) (subst (λ x. P x (nums r) q) e first))
+        (λ ne. subst (λ t. P i (cond t (nums r) (mixed i)) (cond t q (den i *ℤ q))) (sym (ne_eqb r i ne)) (other (λ e. ne (sym e))))
+        (cases_eq r i)
+
+-- a state keeps its facts when its rows go to lowest terms
+reduced_state : {N : Type 0} (m : ℕ) (bound : ℕ → ℤ) (basis : ℕ → ColumnOf N) (raw nums : ℕ → ℕ → ℤ) (whole den z y : ℕ → ℤ) (dz dy g : ℤ)
+    → ((i : ℕ) → i < m → (f : ℤ) × IsMultiple m (raw i) (whole i) (nums i) (den i) f) → IsMultiple m z dz y dy g
+    → State m bound basis raw whole z dz → State m bound basis nums den y dy
+reduced_state m bound basis raw nums whole den z y dz dy g each own s = record {
+  rows = λ i l. let f = each i l in reduced_row m (λ j. (basis j).entry) (unit i) (raw i) (nums i) (whole i) (den i) f.0 f.1 (s.rows i l);
+  over = λ i l. let f = each i l in positive_cancel f.0 (den i) f.1.positive (subst (λ x. pos 0 <ℤ x) f.1.of_den (s.over i l));
+  lex = λ i l. let f = each i l in
+      lex_reduced (suc m) (valued m bound (raw i)) (valued m bound (nums i)) f.0 f.1.positive (valued_multiple m bound (raw i) (nums i) (whole i) (den i) f.0 f.1) (s.lex i l);
+  objective = reduced_row m (λ j. (basis j).entry) (λ j. (basis j).gain) z y dz dy g own s.objective;
+  above = positive_cancel g dy own.positive (subst (λ x. pos 0 <ℤ x) own.of_den s.above);
+  filling = reduced_filling m (λ j. (basis j).entry) raw nums whole den s.filling.0 s.filling.1 each s.filling.2;
+}
+
+-- the state after a turn
+pub turned : {N : Type 0} (m : ℕ) (bound : ℕ → ℤ) (basis : ℕ → ColumnOf N) (nums next : ℕ → ℕ → ℤ) (den next_dens duals next_duals : ℕ → ℤ) (duals_den next_duals_den : ℤ) (c : ColumnOf N) (r : ℕ)
+    → State m bound basis nums den duals duals_den → IsPick m bound nums duals duals_den c r → IsTurned m c r nums next den next_dens duals next_duals duals_den next_duals_den
+    → State m bound (put basis r c) next next_dens next_duals next_duals_den
+turned m bound basis nums next den next_dens duals next_duals duals_den next_duals_den c r s k t =
+    let own = multiple m _ _ next_duals next_duals_den (times_positive duals_den q s.above k.positive) t.objective in
+    reduced_state m bound (put basis r c) (next_nums nums (λ i. dot m (nums i) c.entry) r q) next (next_den den r q) next_dens
+    (combined duals (dot m duals c.entry -ℤ (duals_den *ℤ c.gain)) (nums r) q) next_duals (duals_den *ℤ q) next_duals_den own.0
+    each own.1 (turned_raw m bound basis nums den duals duals_den c r s k)
+  where
+    q : ℤ
+    q = dot m (nums r) c.entry
+
+    mixed : ℕ → ℕ → ℤ
+    mixed i = combined (nums i) (dot m (nums i) c.entry) (nums r) q
+
+    each : (i : ℕ) → i < m → (f : ℤ) × IsMultiple m (cond (eqb r i) (nums r) (mixed i)) (cond (eqb r i) q (den i *ℤ q)) (next i) (next_dens i) f
+    each i l = ⊎_elim
+        (λ e. subst (λ b. (f : ℤ) × IsMultiple m (cond b (nums r) (mixed i)) (cond b q (den i *ℤ q)) (next i) (next_dens i) f) (sym (eq-eqb r i e))
+        (subst (λ x. (f : ℤ) × IsMultiple m (nums r) q (next x) (next_dens x) f) e (multiple m (nums r) q (next r) (next_dens r) k.positive t.pivot)))
+        (λ ne. subst (λ b. (f : ℤ) × IsMultiple m (cond b (nums r) (mixed i)) (cond b q (den i *ℤ q)) (next i) (next_dens i) f) (sym (ne_eqb r i ne))
+        (multiple m (mixed i) (den i *ℤ q) (next i) (next_dens i) (times_positive (den i) q (s.over i l) k.positive) (t.others i l (λ e. ne (sym e)))))
+        (cases_eq r i)
+
+some_number : (m r : ℕ) (b : ℕ → ℤ) (basic : ℕ → ℕ → ℤ) (w : ℕ → ℤ) (e : ℤ) → r < m → IsRow m basic (unit r) w e → pos 0 <ℤ e → ((k : ℕ) → k < suc m → valued m b w k ≡ pos 0) → ⊥
+some_number m r b basic w e rm row pe all =
+    let z = dot-none m w (basic r) (λ k l. all (suc k) (omega arith)) in
+    let one : e *ℤ unit r r ≡ e = ap (λ t. e *ℤ t) (unit-same r) ∙ omega (arith, ints) in
+    let is = row r rm in omega (arith, ints, z, one, is, pe)
+
+-- the duals and their value rise
+pub rises : {N : Type 0} (m : ℕ) (bound : ℕ → ℤ) (basis : ℕ → ColumnOf N) (nums next : ℕ → ℕ → ℤ) (den next_dens duals next_duals : ℕ → ℤ) (duals_den next_duals_den : ℤ) (c : ColumnOf N) (r : ℕ)
+    → State m bound basis nums den duals duals_den → IsPick m bound nums duals duals_den c r → IsTurned m c r nums next den next_dens duals next_duals duals_den next_duals_den
+    → Rises m bound duals duals_den next_duals next_duals_den
+rises m bound basis nums next den next_dens duals next_duals duals_den next_duals_den c r s k t =
+    let p = dot m duals c.entry -ℤ (duals_den *ℤ c.gain) in let q = dot m (nums r) c.entry in
+    let h = lex_rises (suc m) (valued m bound duals) (valued m bound (nums r)) p q duals_den k.gains k.positive s.above
+    (lex_positive (suc m) (valued m bound (nums r)) (s.lex r k.inside) (some_number m r bound (λ j. (basis j).entry) (nums r) (den r) k.inside (s.rows r k.inside) (s.over r k.inside))) in
+    let raw : IsLexBelow (suc m) (valued m bound duals) duals_den (valued m bound (combined duals p (nums r) q)) (duals_den *ℤ q) =
+    subst (λ x. ((dot m duals bound *ℤ (duals_den *ℤ q)) <ℤ (x *ℤ duals_den)) ⊎ ((dot m duals bound *ℤ (duals_den *ℤ q) ≡ x *ℤ duals_den) × IsLexBelow m duals duals_den (combined duals p (nums r) q) (duals_den *ℤ q)))
+    (sym (dot-combined m duals (nums r) bound p q)) h in
+    let own = multiple m _ _ next_duals next_duals_den (times_positive duals_den q s.above k.positive) t.objective in
+    below_reduced (suc m) (valued m bound duals) (valued m bound (combined duals p (nums r) q)) (valued m bound next_duals) duals_den (duals_den *ℤ q) next_duals_den own.0 own.1.positive own.1.of_den
+    (valued_multiple m bound (combined duals p (nums r) q) next_duals (duals_den *ℤ q) next_duals_den own.0 own.1) raw

@@ -1,0 +1,7 @@
+pub mod Sums
+pub mod Programs
+pub mod Bases
+pub mod Evidence
+pub mod Optima
+pub mod Lexicographic
+pub mod Turns
