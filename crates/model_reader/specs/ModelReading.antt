@@ -22,7 +22,7 @@ abbrev pub ◌>>=◌ : {A B : Type 0} → Result A Fault → (A → Result B Fau
 (Ok x) >>= f = f x
 (Err e) >>= f = Err e
 
--- what a refusal says of a reading that failed
+-- what a refusal says of a reading: that this is its first fault; want of memory says nothing
 abbrev pub Fails : {Y : Type 0} → ModelRefusal → Result Y Fault → Type 0
 Fails (Bad at kind) read = read ≡ Err (at, kind)
 Fails NoMemory read = Unit {0}
@@ -32,7 +32,7 @@ abbrev pub Gives : {X Y : Type 0} → (X → Y) → Result X ModelRefusal → Re
 Gives view (Ok x) read = read ≡ Ok (view x)
 Gives view (Err e) read = Fails e read
 
--- where a function answers x, what is read from before is what is read from `after x` on; else reading fails
+-- where a function answers x, what is read from before is what is read from `after x` on; at a fault reading fails with it
 abbrev pub Leads : {X Y : Type 0} → Result X ModelRefusal → Result Y Fault → (X → Result Y Fault) → Type 0
 Leads (Ok x) before after = before ≡ after x
 Leads (Err e) before after = Fails e before

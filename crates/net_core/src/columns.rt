@@ -26,15 +26,15 @@ pub enum MasterColumn {
 /// rows of the inverse; the count of rows names the objective row.
 #[derive(Drop)]
 pub enum WideKind<C> {
-    /// A number of the column, in the program itself.
+    /// A number of the column, or the bound of a slack's row, in the program itself.
     Number(C),
-    /// A number of the row.
+    /// A number of the row, or its denominator.
     Row(u32),
-    /// The product of the row and the column.
+    /// The product of the row and the column; for the objective row, less the column's gain times its denominator.
     Product(u32, C),
-    /// The sum of the products of the row and the bounds.
+    /// The sum of the absolute products of the row's whole numbers and the bounds.
     Sum(u32),
-    /// The common denominator of all rows.
+    /// The least common denominator of all rows, the objective row's too.
     Common,
     /// A value, or a sum of the certificate.
     Value,

@@ -38,7 +38,7 @@ module _ {N : Type 0} (rows : ℕ) (bound : ℕ → ℤ) (is_column : ColumnOf N
     pub objective : IsObjectiveRow basis duals den
     pub none : (c : ColumnOf N) → is_column c → Gains duals den c → ⊥
 
-  -- one column is replaced by a column that gains at the prices of the basis before
+  -- one column is replaced, in its place, by a column that gains at the prices of the basis before
   pub record Step (before after : ℕ → ColumnOf N) : Type 0 where
     pub row : ℕ
     pub inside : row < rows

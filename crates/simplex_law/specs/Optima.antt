@@ -12,7 +12,7 @@ pub record Fits (columns rows : ℕ) (entry : ℕ → ℕ → ℤ) (bound amount
   pub within : (k : ℕ) → k < rows → int_sum columns (λ c. amounts c *ℤ entry c k) ≤ℤ (scale *ℤ bound k)
 
 module _ {N : Type 0} (rows : ℕ) (bound : ℕ → ℤ) (is_column : ColumnOf N → Type 0) where
-  -- values over den of a best basis, which fill each row, and its objective row, of equal value
+  -- values over den of a best basis (IsBest, with these duals), which fill each row, and its objective row, of equal value
   pub record IsOptimum (basis : ℕ → ColumnOf N) (values : ℕ → ℤ) (den : ℤ) (duals : ℕ → ℤ) (duals_den : ℤ) : Type 0 where
     pub feasible : IsFeasible rows bound is_column basis
     pub objective : IsObjectiveRow rows bound is_column basis duals duals_den

@@ -7,7 +7,7 @@ use Rattle.simplex_law.specs.Programs.{ColumnOf}
 use Rattle.simplex_law.specs.Bases.{IsRow}
 use Rattle.simplex_law.specs.Lexicographic.{IsLexNonneg, IsLexBelow, valued}
 
--- the inverse from the other side: with weights that bring all rows over one denominator, the columns times the rows are that denominator
+-- the right inverse: with weights that bring all rows over one denominator, the columns times the rows are that denominator
 pub record IsFilling (m : ℕ) (basic nums : ℕ → ℕ → ℤ) (den w : ℕ → ℤ) (all : ℤ) : Type 0 where
   pub positive : pos 0 <ℤ all
   pub weights : (j : ℕ) → j < m → w j *ℤ den j ≡ all

@@ -49,7 +49,6 @@ fn word_end(bytes: &[u8], from: usize) -> usize
 }
 
 /// The place where the next token begins, or the end.
-
 fn token_start(bytes: &[u8], from: usize) -> usize
     requires { from ≤ length bytes.now }
     ensures range { (from ≤ result) × (result ≤ length bytes.now) }
@@ -99,7 +98,7 @@ fn token_between(kind: TokenKind, at: usize, end: usize) -> Token
     }
 }
 
-/// The first token at a place or after it.
+/// The first token of what is left from a place on, read as if the text began there.
 pub fn next_token(bytes: &[u8], from: u64) -> Option<Token>
     requires { from ≤ length bytes.now }
     ensures first { MatchOption result (tokens_from from bytes.now ≡ [])

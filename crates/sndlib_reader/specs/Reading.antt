@@ -38,7 +38,7 @@ abbrev pub ◌>>=◌ : {A B E : Type 0} → Result A E → (A → Result B E) �
 (Ok x) >>= f = f x
 (Err e) >>= f = Err e
 
--- what a refusal says of a reading that failed
+-- what a refusal says of a reading: that this is its first fault; want of memory says nothing
 abbrev pub Fails : {Y : Type 0} → ReadRefusal → Result Y Fault → Type 0
 Fails (Bad at kind) read = read ≡ Err (at, kind)
 Fails NoMemory read = Unit {0}
@@ -48,14 +48,14 @@ abbrev pub Gives : {X Y : Type 0} → (X → Y) → Result X ReadRefusal → Res
 Gives view (Ok x) read = read ≡ Ok (view x)
 Gives view (Err e) read = Fails e read
 
--- where a function answers x, what is read from before is what is read from `after x` on; else reading fails
+-- where a function answers x, what is read from before is what is read from `after x` on; at a fault reading fails with it
 abbrev pub Leads : {X Y : Type 0} → Result X ReadRefusal → Result Y Fault → (X → Result Y Fault) → Type 0
 Leads (Ok x) before after = before ≡ after x
 Leads (Err e) before after = Fails e before
 
 -- ---- what a word says
 
--- a fault of the word at a place
+-- a fault of the token at a place
 abbrev pub placed : {A : Type 0} → ℕ → Result A ReadKind → Result A Fault
 placed at (Ok x) = Ok x
 placed at (Err kind) = Err (at, kind)

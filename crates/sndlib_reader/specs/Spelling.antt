@@ -1,5 +1,5 @@
 -- The grammar of a network file: which lexemes spell which network and demands.
--- Each relation says that a value is spelled by the lexemes of `text` up to `rest`.
+-- A relation with `text` and `rest` says that a value is spelled by the lexemes of `text` up to `rest`; one without `rest` speaks of all of its text.
 use Rattle.std.specs.Prelude.{◌≡◌, ℕ, ◌*◌, ◌≤◌, ◌==◌, ◌⊎◌, not, List, [], ◌∷◌, ◌++◌, length, map, IsTrue, Option, Some, None, Ok, position, codes}
 use Rattle.std.specs.List.{list_any}
 use Rattle.snd_tokens.specs.Amounts.{amount_of, units_of}

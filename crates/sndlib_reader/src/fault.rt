@@ -28,7 +28,7 @@ pub enum ReadKind {
     Header,
     /// Something else than a section's word, the parenthesis behind it, or the end.
     Section,
-    /// A word or a parenthesis where the other is due.
+    /// Any other token of the wrong sort.
     Token,
     /// The file ends where something is due.
     Ended,
@@ -36,9 +36,9 @@ pub enum ReadKind {
     Limit(Limited),
     /// A number is faulty.
     Number(NumberFault),
-    /// No node, link or demand has the name.
+    /// No node has the name where a node is due, no link where a link, no demand where a demand.
     UnknownName,
-    /// An earlier node, link or demand has the name.
+    /// An earlier node has a node's name, an earlier link a link's, or an earlier demand a demand's.
     DoubleName,
     /// A link's ends are one node.
     SelfLink,

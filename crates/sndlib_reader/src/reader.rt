@@ -66,7 +66,7 @@ pub fn read_network(alloc: Global, bytes: &[u8]) -> Result<(Network, Demands), R
     ensures read { IfOk result (λ r. Spells bytes.now r.0 r.1) }
     // Nothing else is spelled.
     ensures only { IfOk result (λ r. (net : Net) (demands : List Dem) → Spells bytes.now net demands → (net.nodes ≡ r.0.nodes) × (net.links ≡ r.0.links) × (net.notes ≡ r.0.notes) × (demands ≡ r.1)) }
-    // What is refused spells nothing, and the fault is the first one by place.
+    // What is refused as bad spells nothing, and the fault is the first one by place.
     ensures refused { (at : ℕ) (kind : ReadKind) → result ≡ Err (ReadRefusal.Bad at kind)
         → IsFirstFault bytes.now at kind × ((net : Net) (demands : List Dem) → Spells bytes.now net demands → ⊥) }
 {

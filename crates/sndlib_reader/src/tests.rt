@@ -57,7 +57,7 @@ fn headers_and_places(rt: HostRuntime) {
 
 #[test]
 fn faults_of_sections(rt: HostRuntime) {
-    let rows: [(&[u8], u64, ReadKind); 12] = [
+    let rows: [(&[u8], u64, ReadKind); 16] = [
         (b"NODE()", 51, ReadKind::Section),
         (b"()", 51, ReadKind::Section),
         (b"NODES", 56, ReadKind::Ended),
@@ -74,6 +74,22 @@ fn faults_of_sections(rt: HostRuntime) {
             ReadKind::Section,
         ),
         (b"NODES() LINKS() DEMANDS(", 75, ReadKind::Ended),
+        (b"META", 55, ReadKind::Ended),
+        (
+            b"NODES(A B)LINKS(L(A B)0 0 0 0())DEMANDS(D(A B)1 1 9)ADMISSIBLE_PATHS",
+            119,
+            ReadKind::Ended,
+        ),
+        (
+            b"NODES(A B)LINKS(L(A B)0 0 0 0())DEMANDS(D(A B)1 1 9)ADMISSIBLE_PATHS x",
+            120,
+            ReadKind::Section,
+        ),
+        (
+            b"NODES(A B)LINKS(L(A B)0 0 0 0())DEMANDS(D(A B)1 1 9)ADMISSIBLE_PATHS)",
+            119,
+            ReadKind::Section,
+        ),
     ];
     for (body, at, kind) in rows {
         assert_eq!(rt; fault(rt.alloc(), body), Some((at, kind)));
@@ -82,8 +98,24 @@ fn faults_of_sections(rt: HostRuntime) {
 
 #[test]
 fn faults_of_tokens(rt: HostRuntime) {
-    let rows: [(&[u8], u64, ReadKind); 12] = [
+    let rows: [(&[u8], u64, ReadKind); 16] = [
         (b"NODES((1))", 57, ReadKind::Token),
+        (
+            b"NODES(A B)LINKS(L(A B)0 0 0 0())DEMANDS(D(A B)1 1 9)ADMISSIBLE_PATHS(D(P)",
+            123,
+            ReadKind::Token,
+        ),
+        (
+            b"NODES(A B)LINKS(L(A B)0 0 0 0())DEMANDS(D(A B)1 1 9)ADMISSIBLE_PATHS(D((",
+            122,
+            ReadKind::Token,
+        ),
+        (
+            b"NODES(A B)LINKS(L(A B)0 0 0 0())DEMANDS(D(A B)1 1 9)ADMISSIBLE_PATHS((",
+            120,
+            ReadKind::Token,
+        ),
+        (b"NODES(A B)LINKS()DEMANDS(D(A B)1 1 )", 86, ReadKind::Token),
         (b"NODES(A(1)(2))", 61, ReadKind::Token),
         (b"NODES(A #B)\n", 63, ReadKind::Ended),
         (b"NODES(A B)LINKS(L A", 69, ReadKind::Token),
@@ -316,13 +348,21 @@ fn fault_of_long(alloc: Global, front: &[u8], count: u32, end: &[u8]) -> Option<
 
 #[test]
 fn long_names(rt: HostRuntime) {
-    let rows: [(&[u8], u64); 6] = [
+    let rows: [(&[u8], u64); 8] = [
         (b"NODES(", 57),
         (b"NODES()LINKS(", 64),
         (b"NODES(A)LINKS(L(", 67),
         (b"NODES(A)LINKS(L(A ", 69),
         (b"NODES()LINKS()DEMANDS(", 73),
         (b"NODES()LINKS()DEMANDS()ADMISSIBLE_PATHS(", 91),
+        (
+            b"NODES(A B)LINKS(L(A B)0 0 0 0())DEMANDS(D(A B)1 1 9)ADMISSIBLE_PATHS(D(",
+            122,
+        ),
+        (
+            b"NODES(A B)LINKS(L(A B)0 0 0 0())DEMANDS(D(A B)1 1 9)ADMISSIBLE_PATHS(D(P(",
+            124,
+        ),
     ];
     for (front, at) in rows {
         assert_eq!(rt;
