@@ -1,7 +1,8 @@
 use crate::run::run;
 use crate::status::Status;
-use net_core::{List, Name};
+use net_core::{List, Name, NoMemory};
 use outside_io::{MemFile, MemShelf, MemSink, OpenGate, have_different_names};
+use std::alloc::Global;
 use std::process::Abort;
 use std::sync::Wait;
 use std::test::Fail;
@@ -256,10 +257,40 @@ fn case(at: usize) -> (&'static str, Status, &'static str) {
     }
 }
 
+/// Puts a file last.
+fn put(files: &mut List<MemFile>, file: MemFile) -> Result<(), NoMemory> {
+    match files.push(file) {
+        Ok(()) => Ok(()),
+        Err(_) => Err(NoMemory),
+    }
+}
+
+/// All files.
+fn all_files(alloc: Global) -> Result<List<MemFile>, Fail> {
+    let mut files = List::new(alloc);
+    for at in 0..FILES {
+        let (name, bytes) = file(at);
+        let name = Name::new(alloc, name.as_bytes())?;
+        let bytes = List::from_slice(alloc, bytes)?;
+        put(&mut files, MemFile { name, bytes })?;
+    }
+    Ok(files)
+}
+
+/// A file `long` of so many spaces, alone.
+fn long_file(alloc: Global, size: usize) -> Result<List<MemFile>, Fail> {
+    let mut files = List::new(alloc);
+    let name = Name::new(alloc, b"long")?;
+    let bytes = List::from_vec(vec![in alloc; b' '; size]?);
+    put(&mut files, MemFile { name, bytes })?;
+    Ok(files)
+}
+
 /// What a run writes, and its status, with these words and files, and with calls that fail.
-fn runs<R: AllocGlobal + Abort + Threads + Wait + Sync>(
+fn runs_on<R: AllocGlobal + Abort + Threads + Wait + Sync>(
     rt: &R,
     words: &str,
+    files: List<MemFile>,
     fetches: &[u32],
     puts: &[u32],
 ) -> Result<(Status, MemSink), Fail> {
@@ -267,19 +298,23 @@ fn runs<R: AllocGlobal + Abort + Threads + Wait + Sync>(
     for word in words.split(' ') {
         list.push(word.to_string(rt.alloc())?)?;
     }
-    let mut files = List::new(rt.alloc());
-    for at in 0..FILES {
-        let (name, bytes) = file(at);
-        let name = Name::new(rt.alloc(), name.as_bytes())?;
-        let bytes = List::from_slice(rt.alloc(), bytes)?;
-        assert!(rt; files.push(MemFile { name, bytes }).is_ok());
-    }
     assert!(rt; have_different_names(files.items()));
     let mut shelf = MemShelf::new(files, List::from_slice(rt.alloc(), fetches)?);
     let failing = List::from_slice(rt.alloc(), puts)?;
     let mut out = MemSink::new(rt.alloc(), 10000, failing)?;
     let status = run(rt, rt.alloc(), &list, &mut shelf, &mut out, &OpenGate);
     Ok((status, out))
+}
+
+/// The same with all files.
+fn runs<R: AllocGlobal + Abort + Threads + Wait + Sync>(
+    rt: &R,
+    words: &str,
+    fetches: &[u32],
+    puts: &[u32],
+) -> Result<(Status, MemSink), Fail> {
+    let files = all_files(rt.alloc())?;
+    runs_on(rt, words, files, fetches, puts)
 }
 
 #[test]
@@ -331,17 +366,8 @@ fn a_fault_of_writing_leaves_a_front(rt: HostRuntime) -> Result<(), Fail> {
 
 #[test]
 fn a_file_above_its_limit_is_too_long(rt: HostRuntime) -> Result<(), Fail> {
-    let bytes = List::from_vec(vec![in rt.alloc(); b' '; 16777217]?);
-    let mut files = List::new(rt.alloc());
-    let name = Name::new(rt.alloc(), b"long")?;
-    assert!(rt; files.push(MemFile { name, bytes }).is_ok());
-    assert!(rt; have_different_names(files.items()));
-    let mut shelf = MemShelf::new(files, List::new(rt.alloc()));
-    let mut out = MemSink::new(rt.alloc(), 100, List::new(rt.alloc()))?;
-    let mut words = Vec::new(rt.alloc());
-    words.push("plan".to_string(rt.alloc())?)?;
-    words.push("long".to_string(rt.alloc())?)?;
-    let status = run(&rt, rt.alloc(), &words, &mut shelf, &mut out, &OpenGate);
+    let files = long_file(rt.alloc(), 16777217)?;
+    let (status, out) = runs_on(&rt, "plan long", files, &[], &[])?;
     assert_eq!(rt; status, Status::TooLong);
     assert_eq!(rt; out.bytes(), b"too long long\n".as_slice());
     Ok(())
