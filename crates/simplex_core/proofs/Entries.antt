@@ -1,0 +1,35 @@
+-- the products of a row with entries, one after another
+use Rattle.std.proofs.Common.{◌≡◌, ℕ, zero, suc, ◌<◌, ◌≤◌, ◌+◌, List, [], ◌∷◌, length, drop, get_or, refl, subst, arith}
+use Rattle.std.proofs.Math.IntN.{ℤ, pos, ◌+ℤ◌, ◌*ℤ◌}
+use Rattle.std.specs.List.{AllByRecursion}
+use Rattle.simplex_core.specs.Columns.{entries_dot, IsEntry}
+use Rattle.simplex_core.specs.declared.columns.Entry.{Entry}
+
+dot_behind : (nums : ℕ → ℤ) (es : List Entry) (k : ℕ) (d : Entry) → k < length es
+    → entries_dot nums (drop k es) ≡ (nums (get_or es k d).row *ℤ (get_or es k d).value) +ℤ entries_dot nums (drop (suc k) es)
+dot_behind nums [] k d lt = absurd (omega arith)
+dot_behind nums (e ∷ es) zero d lt = refl
+dot_behind nums (e ∷ es) (suc k) d lt = dot_behind nums es k d (omega arith)
+
+-- the product of the entry at k and those behind it
+pub dot_rest : (nums : ℕ → ℤ) (es : List Entry) (k : ℕ) (d : Entry) → k < length es
+    → entries_dot nums (drop k es) ≡ (nums (get_or es k d).row *ℤ (get_or es k d).value) +ℤ entries_dot nums (drop (k + 1) es)
+dot_rest nums es k d lt =
+    let next : suc k ≡ k + 1 = omega arith in
+    subst (λ n. entries_dot nums (drop k es) ≡ (nums (get_or es k d).row *ℤ (get_or es k d).value) +ℤ entries_dot nums (drop n es)) next (dot_behind nums es k d lt)
+
+pub dot_end : (nums : ℕ → ℤ) (es : List Entry) (k : ℕ) → length es ≤ k → entries_dot nums (drop k es) ≡ pos 0
+dot_end nums [] zero le = refl
+dot_end nums [] (suc k) le = refl
+dot_end nums (e ∷ es) zero le = absurd (omega arith)
+dot_end nums (e ∷ es) (suc k) le = dot_end nums es k (omega arith)
+
+-- the entry at k
+pub entry_fits : (m : ℕ) (es : List Entry) (k : ℕ) (d : Entry) → AllByRecursion (IsEntry m) es → k < length es → IsEntry m (get_or es k d)
+entry_fits m [] k d all lt = absurd (omega arith)
+entry_fits m (e ∷ es) zero d all lt = all.0
+entry_fits m (e ∷ es) (suc k) d all lt = entry_fits m es k d all.1 (omega arith)
+
+pub inside_all : (m : ℕ) (es : List Entry) → AllByRecursion (IsEntry m) es → AllByRecursion (λ e. e.row < m) es
+inside_all m [] all = tt
+inside_all m (e ∷ es) all = (all.0.inside, inside_all m es all.1)

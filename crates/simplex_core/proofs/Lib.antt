@@ -1,0 +1,12 @@
+pub mod Entries
+pub mod Lists
+pub mod Listed
+pub mod Multiples
+pub mod Pivots
+pub mod Ratios
+pub mod Starts
+pub mod Turning
+pub mod Ending
+pub mod Evidences
+pub mod Solving
+pub mod Values

@@ -1,0 +1,91 @@
+-- rows combined one after another
+use Rattle.std.proofs.Common.{◌≡◌, ◌≢◌, ℕ, ◌<◌, ◌+◌, List, length, Some, slice_get, slice_set, length-set, sym, ap, subst, ◌∙◌, arith, ⊎_elim}
+use Rattle.std.proofs.Math.IntN.{ℤ, pos, ◌-ℤ◌, ◌*ℤ◌, *ℤ_comm}
+use Rattle.std.specs.Int.Signed.{◌<ℤ◌}
+use Rattle.std.proofs.lemmas.Int.{ints}
+use Rattle.std.proofs.lemmas.Bool.{cases_eq}
+use Rattle.checked_fraction.specs.Rows.{num, IsLowest, IsReduced}
+use Rattle.checked_fraction.specs.Mixed.{combined}
+use Rattle.checked_fraction.specs.declared.row.Row.{Row}
+use Rattle.simplex_law.proofs.Arithmetic.{regroup}
+use Rattle.simplex_core.specs.Products.{nums_of, den_of, IsRectangle}
+use Rattle.simplex_core.specs.Pivots.{IsCombinedRow, IsCombined, IsTooWideRow, IsTooWideAt, CombinesAt, AreCombined, AreTurned, IsWideRow}
+use Rattle.simplex_core.proofs.Lists.{get_same, get_other}
+
+kept_number : (u d q w : ℤ) → u *ℤ (d *ℤ q) ≡ ((u *ℤ q) -ℤ (pos 0 *ℤ w)) *ℤ d
+kept_number u d q w =
+    let none : (u *ℤ q) -ℤ (pos 0 *ℤ w) ≡ u *ℤ q = omega (arith, ints) in
+    ap (λ s. u *ℤ s) (*ℤ_comm d q) ∙ (sym (regroup u q d) ∙ ap (λ s. s *ℤ d) (sym none))
+
+-- a row whose product is 0 is combined as it is
+pub kept_row : (n : ℕ) (u w : ℕ → ℤ) (p d q : ℤ) → p ≡ pos 0 → pos 0 <ℤ d → IsLowest n u d → IsReduced n (combined u p w q) (d *ℤ q) u d
+kept_row n u w p d q none positive lowest = subst (λ p. IsReduced n (combined u p w q) (d *ℤ q) u d) (sym none) (record {
+  positive = positive;
+  same = λ k l. kept_number (u k) d q (w k);
+  lowest = lowest;
+})
+
+-- one row more
+pub combined_next : (m : ℕ) (old now next : List Row) (products : List ℤ) (pivot : ℕ → ℤ) (q : ℤ) (r n : ℕ)
+    → AreCombined m old now products pivot q r n → CombinesAt m now next products pivot q r n → n < length old → AreCombined m old next products pivot q r (n + 1)
+combined_next m old now next products pivot q r n a c lt = record {
+  count = c.count ∙ a.count;
+  sizes = λ i l. ⊎_elim
+      (λ e. subst (λ k. length (nums_of (slice_get next k)) ≡ length (nums_of (slice_get old k))) (sym e) (c.size ∙ a.sizes n lt))
+      (λ ne. ap (λ o. length (nums_of o)) (c.others i ne) ∙ a.sizes i l)
+      (cases_eq i n);
+  done = λ i l other. ⊎_elim
+      (λ e. subst (λ k. IsCombined m old next products pivot q k) (sym e)
+      (subst (λ o. IsCombinedRow m o (slice_get next n) (num products n) pivot q) (a.rest n (omega arith)) (c.done (λ f. other (e ∙ f)))))
+      (λ ne. subst (λ o. IsCombinedRow m (slice_get old i) o (num products i) pivot q) (sym (c.others i ne)) (a.done i (omega (arith, ne)) other))
+      (cases_eq i n);
+  rest = λ i l. c.others i (λ e. omega arith) ∙ a.rest i (omega arith);
+  kept = ⊎_elim
+      (λ e. subst (λ k. slice_get next k ≡ slice_get now k) (sym e) (c.kept (sym e)) ∙ a.kept)
+      (λ ne. c.others r ne ∙ a.kept)
+      (cases_eq r n);
+}
+
+-- the rows once the new pivot row is back in its place
+pub turned_rows : (m r : ℕ) (old mid : List Row) (row spare next : Row) (products : List ℤ) → length old ≡ m → r < m → IsRectangle m old → slice_get old r ≡ Some row
+    → AreCombined (length row.nums) (slice_set old r spare) mid products (num row.nums) (num products r) r (length (slice_set old r spare))
+    → length next.nums ≡ length row.nums → IsReduced (length row.nums) (num row.nums) (num products r) (num next.nums) next.den
+    → AreTurned m old (slice_set mid r next) products r
+turned_rows m r old mid row spare next products count lt square at a size reduced =
+    let width : length row.nums ≡ m = subst (λ o. length (nums_of o) ≡ m) at (square r (omega arith)) in
+    let mids : length mid ≡ m = a.count ∙ (length-set old r spare ∙ count) in
+    let here : slice_get (slice_set mid r next) r ≡ Some next = get_same mid r next (omega arith) in
+    record {
+      count = length-set mid r next ∙ (mids ∙ sym count);
+      sizes = λ i l. ⊎_elim
+          (λ e. subst (λ k. length (nums_of (slice_get (slice_set mid r next) k)) ≡ m) (sym e) (ap (λ o. length (nums_of o)) here ∙ (size ∙ width)))
+          (λ ne. ap (λ o. length (nums_of o)) (get_other mid r i next ne)
+          ∙ (a.sizes i (omega (arith, length-set old r spare)) ∙ (ap (λ o. length (nums_of o)) (get_other old r i spare ne) ∙ square i (omega arith))))
+          (cases_eq i r);
+      others = λ i l ne.
+          subst (λ w. IsCombinedRow w (slice_get old i) (slice_get (slice_set mid r next) i) (num products i) (num (nums_of (slice_get old r))) (num products r)) width
+          (subst (λ o. IsCombinedRow (length row.nums) (slice_get old i) (slice_get (slice_set mid r next) i) (num products i) (num (nums_of o)) (num products r)) (sym at)
+          (subst (λ o. IsCombinedRow (length row.nums) o (slice_get (slice_set mid r next) i) (num products i) (num row.nums) (num products r)) (get_other old r i spare ne)
+          (subst (λ o. IsCombinedRow (length row.nums) (slice_get (slice_set old r spare) i) o (num products i) (num row.nums) (num products r)) (sym (get_other mid r i next ne))
+          (a.done i (omega (arith, length-set old r spare)) ne))));
+      pivot =
+          subst (λ w. IsReduced w (num (nums_of (slice_get old r))) (num products r) (num (nums_of (slice_get (slice_set mid r next) r))) (den_of (slice_get (slice_set mid r next) r))) width
+          (subst (λ o. IsReduced (length row.nums) (num (nums_of o)) (num products r) (num (nums_of (slice_get (slice_set mid r next) r))) (den_of (slice_get (slice_set mid r next) r))) (sym at)
+          (subst (λ o. IsReduced (length row.nums) (num row.nums) (num products r) (num (nums_of o)) (den_of o)) (sym here) reduced));
+    }
+
+pub wide_rows : (m r i : ℕ) (old : List Row) (row spare : Row) (products : List ℤ) → length old ≡ m → r < m → IsRectangle m old → slice_get old r ≡ Some row
+    → i < length (slice_set old r spare) → i ≢ r → IsTooWideAt (length row.nums) (slice_set old r spare) products (num row.nums) (num products r) i → IsWideRow m old products r i
+wide_rows m r i old row spare products count lt square at li ne wide =
+    let width : length row.nums ≡ m = subst (λ o. length (nums_of o) ≡ m) at (square r (omega arith)) in (
+      omega (arith, length-set old r spare, li, count),
+      ne,
+      subst (λ w. IsTooWideRow w (slice_get old i) (num products i) (num (nums_of (slice_get old r))) (num products r)) width
+          (subst (λ o. IsTooWideRow (length row.nums) (slice_get old i) (num products i) (num (nums_of o)) (num products r)) (sym at)
+          (subst (λ o. IsTooWideRow (length row.nums) o (num products i) (num row.nums) (num products r)) (get_other old r i spare ne) wide)),
+    )
+
+pub spare_size : (m r : ℕ) (old mid : List Row) (row spare : Row) (products : List ℤ) (w : ℕ) (pivot : ℕ → ℤ) (q : ℤ) → length old ≡ m → r < m → length spare.nums ≡ m → slice_get mid r ≡ Some row
+    → AreCombined w (slice_set old r spare) mid products pivot q r (length (slice_set old r spare)) → length row.nums ≡ m
+spare_size m r old mid row spare products w pivot q count lt size at a =
+    ap (λ o. length (nums_of o)) (sym at) ∙ (a.sizes r (omega (arith, length-set old r spare)) ∙ (ap (λ o. length (nums_of o)) (get_same old r spare (omega arith)) ∙ size))

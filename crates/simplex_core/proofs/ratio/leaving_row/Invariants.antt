@@ -1,0 +1,7 @@
+use Rattle.simplex_core.specs.Ratios.{IsBestBefore}
+use Rattle.simplex_core.proofs.ratio.leaving_row.Given as goal
+use Rattle.std.proofs.Common.{length}
+
+-- the best of the rows so far
+abbrev pub invariant-loop-i : goal.invariant-loop-i
+invariant-loop-i l = IsBestBefore (length l.rows) l.rows l.bounds l.products l.i l.best

@@ -1,0 +1,203 @@
+ghost use Rattle.std.specs.Prelude.{◌≡◌, ◌<◌, ◌≤◌, ◌^◌, ◌<ℤ◌, ◌≤ℤ◌, ℕ, ℤ, pos, length, slice_set, unsigned_abs, MatchOption, IsTrue, false};
+ghost use Rattle.std.specs.List.{AllByRecursion};
+ghost use Rattle.checked_fraction.specs.Rows.{num, IsNarrow};
+ghost use Rattle.simplex_law.specs.Sums.{dot};
+ghost use Rattle.simplex_law.specs.Programs.{ColumnOf, IsProgramColumn, IsPacking};
+ghost use Rattle.simplex_core.specs.Columns.{IsEntry, column_from};
+ghost use Rattle.simplex_core.specs.Products.{nums_at};
+ghost use Rattle.simplex_core.specs.Programs.{IsSameProgram, IsAnswer};
+ghost use Rattle.simplex_core.specs.Shapes.{IsShaped};
+ghost use Rattle.simplex_core.specs.Values.{sizes_of};
+ghost use Rattle.simplex_core.specs.Solving.{Ends, HasLowValues};
+ghost use Rattle.simplex_core.specs.Turns.{price_of, Chooses, Enters, Turns};
+
+use crate::basis::{Basis, slack_basis};
+use crate::columns::{Column, Columns, Entry, Price};
+use crate::optimum::{Optimum, ValueFault, common_denominator, values_over};
+use crate::pivot::{turn_list, turn_objective};
+use crate::product::{objective_product, write_list};
+use crate::ratio::leaving_of;
+use crate::value::row_value;
+use checked_fraction::Row;
+use net_core::{List, WideKind};
+use std::alloc::Global;
+
+/// Why there is no optimum.
+#[derive(Drop)]
+pub enum SimplexFault<N> {
+    /// A number of this basis is too wide.
+    Wide { basis: List<N>, kind: WideKind<N> },
+    /// No memory was found.
+    NoMemory,
+}
+
+/// What a turn leaves.
+#[derive(Drop)]
+enum Turn<N> {
+    /// The next basis.
+    Again,
+    /// The basis as it was, which is best.
+    Best,
+    /// A column that no row limits.
+    Unlimited,
+    /// A basis with a number that is too wide.
+    Wide(WideKind<N>),
+    /// No memory was found.
+    NoMemory,
+}
+
+/// The first row of negative price.
+fn negative_price(duals: &[i64]) -> Option<u32>
+    requires { length duals.now < 2 ^ 32 }
+    ensures { MatchOption result ((k : ℕ) → k < length duals.now → pos 0 ≤ℤ num duals.now k) (λ k. (k < length duals.now) × (num duals.now k <ℤ pos 0)) }
+{
+    for k in 0..duals.len() {
+        if duals[k] < 0 {
+            return Some(k as u32);
+        }
+    }
+    None
+}
+
+fn set_name<N: Drop>(names: &mut List<N>, r: usize, name: N)
+    requires { r < length names.old }
+    ensures { names.new ≡ slice_set names.old r name }
+{
+    names.items_mut()[r] = name;
+}
+
+/// Whether the absolute products of the objective row with the bounds sum to less than 2^126.
+fn is_low(duals: &Row, bounds: &List<i64>) -> bool
+    requires equal { length duals.now.nums ≡ length bounds.now }
+    requires bounds { (k : ℕ) → IsNarrow (num bounds.now k) }
+    ensures low { IsTrue result → unsigned_abs (dot (length bounds.now) (num duals.now.nums) (num bounds.now)) < 2 ^ 126 }
+    ensures high { result ≡ false → 2 ^ 126 ≤ sizes_of (length bounds.now) (num duals.now.nums) (num bounds.now) }
+{
+    row_value(duals.nums(), bounds.items()).is_some()
+}
+
+/// Makes the rows those of the basis in which the column, whose products are at hand, stands at `r`. A kind says what is too wide.
+fn replace<N: Drop>(basis: &mut Basis<N>, name: N, price: &i64, r: usize) -> Turn<N>
+    requires shaped { IsShaped (length basis.old.rows) basis.old }
+    requires inside { r < length basis.old.rows }
+    requires price { IsNarrow price.now }
+    requires products { (i : ℕ) → i < length basis.old.rows → IsNarrow (num basis.old.products i) }
+    requires positive { pos 0 <ℤ num basis.old.products r }
+    ensures { (c : ColumnOf N) → Chooses (length basis.old.rows) basis.old c name price.now r → Enters (length basis.old.rows) basis.old c result basis.new }
+{
+    let count = basis.rows.len() as u32;
+    set_name(&mut basis.names, r, name);
+    if let Err(_) = turn_objective(&mut basis.duals, price, &basis.rows, &basis.products, r) {
+        return Turn::Wide(WideKind::Row(count));
+    }
+    if let Err(i) = turn_list(&mut basis.rows, &basis.products, &mut basis.spare, r) {
+        return Turn::Wide(WideKind::Row(i));
+    }
+    if is_low(&basis.duals, &basis.bounds) {
+        Turn::Again
+    } else {
+        Turn::Wide(WideKind::Sum(count))
+    }
+}
+
+/// A column that gains enters the basis.
+fn enter<N: Drop>(basis: &mut Basis<N>, name: N, gain: &i64, entries: &[Entry]) -> Turn<N>
+    requires shaped { IsShaped (length basis.old.rows) basis.old }
+    requires values { (k : ℕ) → k < length basis.old.rows → pos 0 ≤ℤ dot (length basis.old.rows) (nums_at basis.old.rows k) (num basis.old.bounds) }
+    requires gain { IsNarrow gain.now }
+    requires entries { AllByRecursion (IsEntry (length basis.old.rows)) entries.now }
+    requires gains { price_of (length basis.old.rows) basis.old.duals (column_from name gain.now entries.now) <ℤ pos 0 }
+    ensures { Enters (length basis.old.rows) basis.old (column_from name gain.now entries.now) result basis.new }
+{
+    let count = basis.rows.len() as u32;
+    let Some(price) = objective_product(&basis.duals, gain, entries) else {
+        return Turn::Wide(WideKind::Product(count, name));
+    };
+    if let Some(i) = write_list(&mut basis.products, &basis.rows, entries) {
+        return Turn::Wide(WideKind::Product(i, name));
+    }
+    match leaving_of(&basis.rows, &basis.bounds, &basis.products) {
+        Err(i) => Turn::Wide(WideKind::Sum(i)),
+        Ok(None) => Turn::Unlimited,
+        Ok(Some(r)) => replace(basis, name, &price, r),
+    }
+}
+
+/// A column that gains enters: a slack while a price is negative, else one that is priced.
+fn take_turn<C: Columns>(cols: &mut C, basis: &mut Basis<C::Name>) -> Turn<C::Name>
+    requires shaped { IsShaped (C.rows cols.old) basis.old }
+    requires values { (k : ℕ) → k < length basis.old.rows → pos 0 ≤ℤ dot (length basis.old.rows) (nums_at basis.old.rows k) (num basis.old.bounds) }
+    ensures same { IsSameProgram (C.rows cols.old) (C.rows cols.new) (C.bound cols.old) (C.bound cols.new) (C.slack cols.old) (C.slack cols.new) (C.is_listed cols.old) (C.is_listed cols.new) }
+    ensures turn { Turns (C.rows cols.old) (C.slack cols.old) (C.is_listed cols.old) basis.old result basis.new }
+{
+    if let Some(row) = negative_price(basis.duals.nums()) {
+        let entry = Entry { row, value: 1 };
+        return enter(basis, cols.slack(row), &0, &[entry]);
+    }
+    match cols.price(&basis.duals) {
+        Price::Gain(
+            Column {
+                name,
+                gain,
+                entries,
+            },
+        ) => enter(basis, name, &gain, entries.items()),
+        Price::Optimal => Turn::Best,
+        Price::NoMemory => Turn::NoMemory,
+    }
+}
+
+/// The values of a best basis.
+fn finish<N: Drop>(alloc: Global, basis: Basis<N>) -> Result<Optimum<N>, SimplexFault<N>>
+    requires shaped { IsShaped (length basis.rows) basis }
+    requires low { HasLowValues basis }
+    ensures { Ends basis result }
+{
+    let Some(den) = common_denominator(basis.rows.items(), &basis.duals) else {
+        return Err(SimplexFault::Wide {
+            basis: basis.names,
+            kind: WideKind::Common,
+        });
+    };
+    match values_over(alloc, basis.rows.items(), basis.bounds.items(), den) {
+        Ok(values) => Ok(Optimum {
+            basis: basis.names,
+            den,
+            values,
+            duals: basis.duals,
+        }),
+        Err(ValueFault::Sum(i)) => Err(SimplexFault::Wide {
+            basis: basis.names,
+            kind: WideKind::Sum(i),
+        }),
+        Err(ValueFault::NoMemory) => Err(SimplexFault::NoMemory),
+    }
+}
+
+/// An optimum of the program, or a basis, reached by gaining steps, on which a number is too wide.
+pub fn solve<C: Columns>(
+    alloc: Global,
+    cols: &mut C,
+) -> Result<Optimum<C::Name>, SimplexFault<C::Name>>
+    requires { IsPacking (C.rows cols.old) (C.bound cols.old) (IsProgramColumn (C.rows cols.old) (C.slack cols.old) (C.is_listed cols.old)) }
+    ensures same { IsSameProgram (C.rows cols.old) (C.rows cols.new) (C.bound cols.old) (C.bound cols.new) (C.slack cols.old) (C.slack cols.new) (C.is_listed cols.old) (C.is_listed cols.new) }
+    ensures answer { IsAnswer (C.rows cols.old) (C.bound cols.old) (C.slack cols.old) (C.is_listed cols.old) result }
+{
+    let Ok(mut basis) = slack_basis(alloc, cols) else {
+        return Err(SimplexFault::NoMemory);
+    };
+    loop {
+        match take_turn(cols, &mut basis) {
+            Turn::Again => {}
+            Turn::Best => return finish(alloc, basis),
+            Turn::Unlimited => unreachable!(),
+            Turn::Wide(kind) => {
+                return Err(SimplexFault::Wide {
+                    basis: basis.names,
+                    kind,
+                });
+            }
+            Turn::NoMemory => return Err(SimplexFault::NoMemory),
+        }
+    }
+}
