@@ -20,13 +20,13 @@ use Rattle.simplex_core.specs.Prices.{GainsAt}
 use Rattle.simplex_core.specs.Products.{nums_at, den_at}
 use Rattle.simplex_core.specs.Programs.{AreNames, IsSameProgram, Solves, IsAnswer}
 use Rattle.simplex_core.specs.Solving.{IsAt, HasLowValues, IsValued, Ends}
-use Rattle.simplex_core.specs.Turns.{price_of, Enters, IsDone, HasEntered, Turns}
+use Rattle.simplex_core.specs.Turns.{reduced_cost, Enters, IsDone, HasEntered, Turns}
 use Rattle.simplex_core.specs.declared.basis.Basis.{Basis}
 use Rattle.simplex_core.specs.declared.optimum.Optimum.{Optimum}
 use Rattle.simplex_core.specs.declared.solver.SimplexFault.{SimplexFault}
 use Rattle.simplex_core.specs.declared.solver.SimplexFault.TheVariants.{Wide, NoMemory}
 use Rattle.simplex_core.specs.declared.solver.Turn.{Turn}
-use Rattle.simplex_core.specs.declared.solver.Turn.TheVariants.{Again, Best, Unlimited, Wide as WideTurn, NoMemory as NoMemoryTurn}
+use Rattle.simplex_core.specs.declared.solver.Turn.TheVariants.{Again, Best, Unbounded, Wide as WideTurn, NoMemory as NoMemoryTurn}
 use Rattle.simplex_core.proofs.Evidences.{end_evidence}
 use Rattle.simplex_core.proofs.Starts.{each_at}
 
@@ -97,7 +97,7 @@ module _ {N : Type 0} (m : ℕ) (bound : ℕ → ℤ) (slack : ℕ → N) (is_li
   answers b (Err NoMemory) packing a done e = tt
 
   -- a row limits each column that gains
-  pub some_limit : (b new : Basis N) → IsPacking m bound (IsProgramColumn m slack is_listed) → IsAt m bound slack is_listed b → HasEntered m slack is_listed b Unlimited new → ⊥
+  pub some_limit : (b new : Basis N) → IsPacking m bound (IsProgramColumn m slack is_listed) → IsAt m bound slack is_listed b → HasEntered m slack is_listed b Unbounded new → ⊥
   some_limit b new packing a h = limited m bound (IsProgramColumn m slack is_listed) a.basis (nums_at b.rows) (den_at b.rows) (num b.duals.nums) b.duals.den h.column packing a.reached.here.columns h.is_column a.state
       (above (dot m (num b.duals.nums) h.column.entry) (b.duals.den *ℤ h.column.gain) h.gains) h.enters
     where
@@ -139,7 +139,7 @@ module _ {N : Type 0} (m n : ℕ) (bound bounds : ℕ → ℤ) (slack slacks : �
   first_entered b turn new h = record {
     column = h.column;
     is_column = first_column h.column h.is_column;
-    gains = subst (λ k. price_of k b.duals h.column <ℤ pos 0) same.count h.gains;
+    gains = subst (λ k. reduced_cost k b.duals h.column <ℤ pos 0) same.count h.gains;
     enters = subst (λ k. Enters k b h.column turn new) same.count h.enters;
   }
 
@@ -155,4 +155,4 @@ module _ {N : Type 0} (m n : ℕ) (bound bounds : ℕ → ℤ) (slack slacks : �
   first_turn b NoMemoryTurn new h = h
   first_turn b Again new h = first_entered b Again new h
   first_turn b (WideTurn kind) new h = first_entered b (WideTurn kind) new h
-  first_turn b Unlimited new h = first_entered b Unlimited new h
+  first_turn b Unbounded new h = first_entered b Unbounded new h

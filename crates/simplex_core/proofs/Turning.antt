@@ -16,15 +16,15 @@ use Rattle.simplex_core.specs.Prices.{GainsAt}
 use Rattle.simplex_core.specs.Products.{nums_at, den_at}
 use Rattle.simplex_core.specs.Pivots.{IsWideRow}
 use Rattle.simplex_core.specs.Ratios.{IsNoLater, IsRowNoLater}
-use Rattle.simplex_core.specs.Turns.{price_of, Picks, TurnsTo, IsWideOther, GetsWide, Enters, Chooses, HasEntered, Turns}
+use Rattle.simplex_core.specs.Turns.{reduced_cost, Picks, TurnsTo, IsWideOther, GetsWide, Enters, Chooses, HasEntered, Turns}
 use Rattle.simplex_core.specs.declared.basis.Basis.{Basis}
 use Rattle.simplex_core.specs.declared.solver.Turn.{Turn}
-use Rattle.simplex_core.specs.declared.solver.Turn.TheVariants.{Again, Best, Unlimited, Wide, NoMemory}
+use Rattle.simplex_core.specs.declared.solver.Turn.TheVariants.{Again, Best, Unbounded, Wide, NoMemory}
 
 -- a wide row, by the products that are at hand
-pub wide_other : {N : Type 0} (m : ℕ) (old : Basis N) (c : ColumnOf N) (name : N) (price : ℤ) (r i : ℕ) → Chooses m old c name price r
+pub wide_other : {N : Type 0} (m : ℕ) (old : Basis N) (c : ColumnOf N) (name : N) (cost : ℤ) (r i : ℕ) → Chooses m old c name cost r
     → IsWideRow m old.rows old.products r i → IsWideOther m old c r i
-wide_other m old c name price r i ch wide =
+wide_other m old c name cost r i ch wide =
     let here = ch.products i wide.0 in
     let there = ch.products r ch.picks.inside in (
       wide.0,
@@ -38,7 +38,7 @@ wide_other m old c name price r i ch wide =
 
 -- the row that the ratio test finds is a pick
 pub picks : {N : Type 0} (m : ℕ) (old : Basis N) (products : List ℤ) (c : ColumnOf N) (r : ℕ)
-    → ((i : ℕ) → i < m → num products i ≡ dot m (nums_at old.rows i) c.entry) → price_of m old.duals c <ℤ pos 0
+    → ((i : ℕ) → i < m → num products i ≡ dot m (nums_at old.rows i) c.entry) → reduced_cost m old.duals c <ℤ pos 0
     → r < m → pos 0 <ℤ num products r → ((k : ℕ) → k < m → pos 0 <ℤ num products k → IsRowNoLater m old.rows old.bounds products r k)
     → Picks m old c r
 picks m old products c r dots gains lt positive first = record {
@@ -74,7 +74,7 @@ module _ {N : Type 0} (m : ℕ) (old : Basis N) (products : List ℤ) (c : Colum
   pub enters_as_well : (turn : Turn N) (new : Basis N) → Enters m (record { names = old.names; rows = old.rows; duals = old.duals; bounds = old.bounds; products = products; spare = old.spare }) c turn new → Enters m old c turn new
   enters_as_well Again new h = ((h.0.0, turns_as_well h.0.0 new h.0.1), h.1)
   enters_as_well (Wide kind) new h = wide_as_well kind new h
-  enters_as_well Unlimited new h = h
+  enters_as_well Unbounded new h = h
   enters_as_well Best new h = h
   enters_as_well NoMemory new h = h
 
@@ -83,7 +83,7 @@ pub entered : {N : Type 0} (m : ℕ) (slack : ℕ → N) (is_listed : ColumnOf N
     → HasEntered m slack is_listed old turn new → Turns m slack is_listed old turn new
 entered m slack is_listed old Again new h = h
 entered m slack is_listed old (Wide kind) new h = h
-entered m slack is_listed old Unlimited new h = h
+entered m slack is_listed old Unbounded new h = h
 entered m slack is_listed old Best new h = absurd h.enters
 entered m slack is_listed old NoMemory new h = absurd h.enters
 
@@ -104,9 +104,9 @@ is_slack m slack name row lt named = record {
   entry = λ k l. slack_entry row k;
 }
 
--- a slack gains where the row's price is negative
+-- a slack gains where the row's dual is negative
 pub slack_gains : {N : Type 0} (m : ℕ) (duals : Row) (name : N) (row : ℕ) → row < m → num duals.nums row <ℤ pos 0
-    → price_of m duals (column_from name (pos 0) (record { row = row; value = pos 1 } ∷ [])) <ℤ pos 0
+    → reduced_cost m duals (column_from name (pos 0) (record { row = row; value = pos 1 } ∷ [])) <ℤ pos 0
 slack_gains m duals name row lt negative =
     let is : dot m (num duals.nums) (entry_of (record { row = row; value = pos 1 } ∷ [])) ≡ num duals.nums row =
     dot-unit m row (num duals.nums) (entry_of (record { row = row; value = pos 1 } ∷ [])) lt (λ k l. slack_entry row k) in
@@ -115,8 +115,8 @@ slack_gains m duals name row lt negative =
     below : (x y d : ℤ) → x ≡ y → y <ℤ pos 0 → (x -ℤ (d *ℤ pos 0)) <ℤ pos 0
     below x y d e h = omega (arith, ints, e, h)
 
--- what gains has a negative price
-pub gains_price : {N : Type 0} (m : ℕ) (duals : Row) (c : ColumnOf N) → GainsAt m duals c → price_of m duals c <ℤ pos 0
+-- what gains has a negative reduced cost
+pub gains_price : {N : Type 0} (m : ℕ) (duals : Row) (c : ColumnOf N) → GainsAt m duals c → reduced_cost m duals c <ℤ pos 0
 gains_price m duals c gains = below (dot m (num duals.nums) c.entry) (duals.den *ℤ c.gain) gains
   where
     below : (x y : ℤ) → x <ℤ y → (x -ℤ y) <ℤ pos 0

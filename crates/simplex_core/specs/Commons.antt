@@ -9,7 +9,7 @@ use Rattle.simplex_core.specs.Values.{sizes_of}
 use Rattle.simplex_core.specs.declared.optimum.ValueFault.{ValueFault}
 use Rattle.simplex_core.specs.declared.optimum.ValueFault.TheVariants.{Sum, NoMemory}
 
--- a narrow number that both divide
+-- the least common multiple of both, which is narrow
 pub record IsMultiple (a b multiple : ℕ) : Type 0 where
   pub some : 0 < multiple
   pub narrow : multiple < 2 ^ 62
@@ -31,7 +31,7 @@ pub record DivideAll (rows : List Row) (duals : Row) (n c : ℕ) : Type 0 where
   pub each : (i : ℕ) → i < n → unsigned_abs (den_at rows i) ∣ c
   pub last : unsigned_abs duals.den ∣ c
 
--- a narrow number that they divide, and that divides each other such number
+-- the least common denominator of the first n rows and the objective row, which is narrow
 pub record IsDenominator (rows : List Row) (duals : Row) (n den : ℕ) : Type 0 where
   pub some : 0 < den
   pub narrow : den < 2 ^ 62

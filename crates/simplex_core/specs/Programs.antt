@@ -25,7 +25,8 @@ pub record AreNames {N : Type 0} (rows : ℕ) (basis : ℕ → ColumnOf N) (name
   pub each : (j : ℕ) → j < rows → slice_get names j ≡ Some (basis j).name
 
 module _ {N : Type 0} (rows : ℕ) (bound : ℕ → ℤ) (slack : ℕ → N) (is_listed : ColumnOf N → Type 0) where
-  -- a best basis that gaining steps reach, with values that fill the rows, and prices of equal value
+  -- A best basis that gaining steps reach, with values that fill the rows, and duals of equal value. No amounts gain more;
+  -- the denominator is below 2 ^ 62, the values are below 2 ^ 124, and no dual is negative.
   pub record Solves (best : Optimum N) : Type 0 where
     pub basis : ℕ → ColumnOf N
     pub names : AreNames rows basis best.basis

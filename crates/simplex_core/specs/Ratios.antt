@@ -50,8 +50,8 @@ ComparesRatios m bound u p v q Equal = IsNoLater m bound v q u p
 ComparesRatios m bound u p v q Greater = IsNoLater m bound v q u p
 
 -- two rows of one program, whose values the bounds give
-abbrev pub HaveValues : List Row → (ℕ → ℤ) → Candidate → Candidate → Type 0
-HaveValues rows bound first second = (pos first.value ≡ dot (length rows) (nums_at rows first.row) bound) × (pos second.value ≡ dot (length rows) (nums_at rows second.row) bound)
+abbrev pub HaveRowValues : List Row → (ℕ → ℤ) → Candidate → Candidate → Type 0
+HaveRowValues rows bound first second = (pos first.value ≡ dot (length rows) (nums_at rows first.row) bound) × (pos second.value ≡ dot (length rows) (nums_at rows second.row) bound)
 
 -- how the ratios of two rows compare
 abbrev pub ComparesRows : List Row → (ℕ → ℤ) → Candidate → Candidate → Ordering → Type 0
@@ -65,8 +65,8 @@ IsFirstOf rows bound first second = IsNoLater (length rows) bound (nums_at rows 
 abbrev pub IsBetter : List Row → Option Candidate → Candidate → Candidate → Type 0
 IsBetter rows None other better = better ≡ other
 IsBetter rows (Some best) other better =
-    ((better ≡ best) × ((bound : ℕ → ℤ) → HaveValues rows bound other best → IsFirstOf rows bound best other))
-    ⊎ ((better ≡ other) × ((bound : ℕ → ℤ) → HaveValues rows bound other best → IsFirstOf rows bound other best))
+    ((better ≡ best) × ((bound : ℕ → ℤ) → HaveRowValues rows bound other best → IsFirstOf rows bound best other))
+    ⊎ ((better ≡ other) × ((bound : ℕ → ℤ) → HaveRowValues rows bound other best → IsFirstOf rows bound other best))
 
 -- row r comes no later than row k
 abbrev pub IsRowNoLater : ℕ → List Row → List ℤ → List ℤ → ℕ → ℕ → Type 0

@@ -16,11 +16,11 @@ use Rattle.simplex_core.specs.Shapes.{IsShaped}
 use Rattle.simplex_core.specs.Values.{sizes_of}
 use Rattle.simplex_core.specs.declared.basis.Basis.{Basis}
 use Rattle.simplex_core.specs.declared.solver.Turn.{Turn}
-use Rattle.simplex_core.specs.declared.solver.Turn.TheVariants.{Again, Best, Unlimited, Wide, NoMemory}
+use Rattle.simplex_core.specs.declared.solver.Turn.TheVariants.{Again, Best, Unbounded, Wide, NoMemory}
 
 -- the product of the objective row with a column, less the column's gain over the row's denominator
-abbrev pub price_of : {N : Type 0} → ℕ → Row → ColumnOf N → ℤ
-price_of m duals c = dot m (num duals.nums) c.entry -ℤ (duals.den *ℤ c.gain)
+abbrev pub reduced_cost : {N : Type 0} → ℕ → Row → ColumnOf N → ℤ
+reduced_cost m duals c = dot m (num duals.nums) c.entry -ℤ (duals.den *ℤ c.gain)
 
 module _ {N : Type 0} (m : ℕ) (old : Basis N) (c : ColumnOf N) where
   -- row r leaves for the column
@@ -37,7 +37,7 @@ module _ {N : Type 0} (m : ℕ) (old : Basis N) (c : ColumnOf N) where
 
   -- an objective row that gets too wide when the column stands at r
   abbrev pub IsWideObjective : ℕ → Type 0
-  IsWideObjective r = (wide : WideNumber) × IsTooWide m (combined (num old.duals.nums) (price_of m old.duals c) (nums_at old.rows r) (dot m (nums_at old.rows r) c.entry)) (old.duals.den *ℤ dot m (nums_at old.rows r) c.entry) wide
+  IsWideObjective r = (wide : WideNumber) × IsTooWide m (combined (num old.duals.nums) (reduced_cost m old.duals c) (nums_at old.rows r) (dot m (nums_at old.rows r) c.entry)) (old.duals.den *ℤ dot m (nums_at old.rows r) c.entry) wide
 
   -- row i gets too wide
   abbrev pub IsWideOther : ℕ → ℕ → Type 0
@@ -48,7 +48,7 @@ module _ {N : Type 0} (m : ℕ) (old : Basis N) (c : ColumnOf N) where
   abbrev pub GetsWide : WideKind N → Basis N → Type 0
   GetsWide (RowOf i) new = (r : ℕ) × Picks r × (new.names ≡ slice_set old.names r c.name) × (((i ≡ m) × IsWideObjective r) ⊎ IsWideOther r i)
   GetsWide (Product i name) new = (new.names ≡ old.names) × (name ≡ c.name)
-      × (((i ≡ m) × IsWide (price_of m old.duals c)) ⊎ ((i < m) × IsWide (dot m (nums_at old.rows i) c.entry)))
+      × (((i ≡ m) × IsWide (reduced_cost m old.duals c)) ⊎ ((i < m) × IsWide (dot m (nums_at old.rows i) c.entry)))
   GetsWide (Sum i) new = ((new.names ≡ old.names) × (i < m) × (2 ^ 126 ≤ sizes_of m (nums_at old.rows i) (num old.bounds)))
       ⊎ ((i ≡ m) × ((r : ℕ) × TurnsTo r new) × (2 ^ 126 ≤ sizes_of m (num new.duals.nums) (num new.bounds)))
   GetsWide (Number name) new = ⊥
@@ -60,18 +60,18 @@ module _ {N : Type 0} (m : ℕ) (old : Basis N) (c : ColumnOf N) where
   abbrev pub Enters : Turn N → Basis N → Type 0
   Enters Again new = ((r : ℕ) × TurnsTo r new) × (unsigned_abs (dot m (num new.duals.nums) (num new.bounds)) < 2 ^ 126)
   Enters (Wide kind) new = GetsWide kind new
-  Enters Unlimited new = (i : ℕ) → i < m → dot m (nums_at old.rows i) c.entry ≤ℤ pos 0
+  Enters Unbounded new = (i : ℕ) → i < m → dot m (nums_at old.rows i) c.entry ≤ℤ pos 0
   Enters Best new = ⊥
   Enters NoMemory new = ⊥
 
--- a column of this name and price, whose products are at hand, and for which row r leaves
-pub record Chooses {N : Type 0} (m : ℕ) (old : Basis N) (c : ColumnOf N) (name : N) (price : ℤ) (r : ℕ) : Type 0 where
+-- a column of this name and reduced cost, whose products are at hand, and for which row r leaves
+pub record Chooses {N : Type 0} (m : ℕ) (old : Basis N) (c : ColumnOf N) (name : N) (cost : ℤ) (r : ℕ) : Type 0 where
   pub named : c.name ≡ name
-  pub priced : price ≡ price_of m old.duals c
+  pub priced : cost ≡ reduced_cost m old.duals c
   pub products : (i : ℕ) → i < m → num old.products i ≡ dot m (nums_at old.rows i) c.entry
   pub picks : Picks m old c r
 
--- no price is negative, and no listed column gains
+-- no dual is negative, and no listed column gains
 pub record IsDone {N : Type 0} (m : ℕ) (is_listed : ColumnOf N → Type 0) (b : Basis N) : Type 0 where
   pub positive : (k : ℕ) → k < m → pos 0 ≤ℤ num b.duals.nums k
   pub none : (c : ColumnOf N) → is_listed c → GainsAt m b.duals c → ⊥
@@ -80,7 +80,7 @@ pub record IsDone {N : Type 0} (m : ℕ) (is_listed : ColumnOf N → Type 0) (b 
 pub record HasEntered {N : Type 0} (m : ℕ) (slack : ℕ → N) (is_listed : ColumnOf N → Type 0) (old : Basis N) (turn : Turn N) (new : Basis N) : Type 0 where
   pub column : ColumnOf N
   pub is_column : IsProgramColumn m slack is_listed column
-  pub gains : price_of m old.duals column <ℤ pos 0
+  pub gains : reduced_cost m old.duals column <ℤ pos 0
   pub enters : Enters m old column turn new
 
 -- what a turn leaves
@@ -89,4 +89,4 @@ Turns m slack is_listed old Best new = (new ≡ old) × IsDone m is_listed old
 Turns m slack is_listed old NoMemory new = Unit {0}
 Turns m slack is_listed old Again new = HasEntered m slack is_listed old Again new
 Turns m slack is_listed old (Wide kind) new = HasEntered m slack is_listed old (Wide kind) new
-Turns m slack is_listed old Unlimited new = HasEntered m slack is_listed old Unlimited new
+Turns m slack is_listed old Unbounded new = HasEntered m slack is_listed old Unbounded new

@@ -32,7 +32,7 @@ pub enum Price<N> {
     NoMemory,
 }
 
-/// A packing program: rows with bounds, a slack for each row, and a finite list of columns.
+/// A packing program: rows with bounds, a slack for each row, and columns. `solve` asks that it is a packing program (`IsPacking`).
 pub trait Columns {
     type Name: Drop;
 
@@ -64,8 +64,8 @@ pub trait Columns {
 
     /// A column that gains at these prices of the rows, none of which is negative, or that there is none. The program stays as it is.
     fn price(&mut self, duals: &Row) -> Price<Self::Name>
-        requires count { length duals.now.nums ≡ rows self.now }
-        requires positive { (k : ℕ) → k < rows self.now → pos 0 ≤ℤ num duals.now.nums k }
+        requires count { length duals.now.nums ≡ rows self.old }
+        requires positive { (k : ℕ) → k < rows self.old → pos 0 ≤ℤ num duals.now.nums k }
         ensures rows { rows self.new ≡ rows self.old }
         ensures bound { (k : ℕ) → k < rows self.old → bound self.new k ≡ bound self.old k }
         ensures slack { (k : ℕ) → k < rows self.old → slack self.new k ≡ slack self.old k }

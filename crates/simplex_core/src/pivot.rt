@@ -124,7 +124,7 @@ pub(crate) fn turn_list(
 /// Combines the objective row with row `r`.
 pub(crate) fn turn_objective(
     duals: &mut Row,
-    price: &i64,
+    cost: &i64,
     rows: &List<Row>,
     products: &List<i64>,
     r: usize,
@@ -133,12 +133,12 @@ pub(crate) fn turn_objective(
     requires rectangle { IsRectangle (length rows.now) rows.now }
     requires equal { length duals.old.nums ≡ length rows.now }
     requires products { length products.now ≡ length rows.now }
-    requires price { IsNarrow price.now }
+    requires cost { IsNarrow cost.now }
     requires narrow { IsNarrow (num products.now r) }
     requires positive { pos 0 <ℤ num products.now r }
     ensures length { length duals.new.nums ≡ length rows.now }
-    ensures reduced { OnOk result (IsReduced (length rows.now) (combined (num duals.old.nums) price.now (nums_at rows.now r) (num products.now r)) (duals.old.den *ℤ num products.now r) (num duals.new.nums) duals.new.den) }
-    ensures wide { IfErr result (IsTooWide (length rows.now) (combined (num duals.old.nums) price.now (nums_at rows.now r) (num products.now r)) (duals.old.den *ℤ num products.now r)) }
+    ensures reduced { OnOk result (IsReduced (length rows.now) (combined (num duals.old.nums) cost.now (nums_at rows.now r) (num products.now r)) (duals.old.den *ℤ num products.now r) (num duals.new.nums) duals.new.den) }
+    ensures wide { IfErr result (IsTooWide (length rows.now) (combined (num duals.old.nums) cost.now (nums_at rows.now r) (num products.now r)) (duals.old.den *ℤ num products.now r)) }
 {
-    combine_row(duals, price, &rows.items()[r], &products.items()[r])
+    combine_row(duals, cost, &rows.items()[r], &products.items()[r])
 }

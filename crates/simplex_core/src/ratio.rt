@@ -3,7 +3,7 @@ ghost use Rattle.std.specs.Option.{ForSome, option_map};
 ghost use Rattle.checked_fraction.specs.Rows.{num, IsNarrow};
 ghost use Rattle.simplex_law.specs.Sums.{dot};
 ghost use Rattle.simplex_core.specs.Products.{nums_at, IsRectangle};
-ghost use Rattle.simplex_core.specs.Ratios.{Stands, IsPlaced, IsCandidate, Compares, HaveValues, ComparesRows, IsFirstOf, IsBetter, IsBestBefore, Leaves};
+ghost use Rattle.simplex_core.specs.Ratios.{Stands, IsPlaced, IsCandidate, Compares, HaveRowValues, ComparesRows, IsFirstOf, IsBetter, IsBestBefore, Leaves};
 ghost use Rattle.simplex_core.specs.Values.{sizes_of};
 
 use crate::sum::product;
@@ -90,7 +90,7 @@ fn compare(rows: &[Row], first: &Candidate, second: &Candidate) -> Ordering
     requires rectangle { IsRectangle (length rows.now) rows.now }
     requires first { IsPlaced (length rows.now) first.now }
     requires second { IsPlaced (length rows.now) second.now }
-    ensures { (bound : ℕ → ℤ) → HaveValues rows.now bound first.now second.now → ComparesRows rows.now bound first.now second.now result }
+    ensures { (bound : ℕ → ℤ) → HaveRowValues rows.now bound first.now second.now → ComparesRows rows.now bound first.now second.now result }
 {
     match compare_values(first, second) {
         Ordering::Equal => compare_rows(rows, first, second),
@@ -103,8 +103,8 @@ fn lesser(rows: &[Row], best: &Candidate, other: &Candidate) -> Candidate
     requires rectangle { IsRectangle (length rows.now) rows.now }
     requires best { IsPlaced (length rows.now) best.now }
     requires other { IsPlaced (length rows.now) other.now }
-    ensures one { (result ≡ best.now) × ((bound : ℕ → ℤ) → HaveValues rows.now bound other.now best.now → IsFirstOf rows.now bound best.now other.now)
-        ⊎ (result ≡ other.now) × ((bound : ℕ → ℤ) → HaveValues rows.now bound other.now best.now → IsFirstOf rows.now bound other.now best.now) }
+    ensures one { (result ≡ best.now) × ((bound : ℕ → ℤ) → HaveRowValues rows.now bound other.now best.now → IsFirstOf rows.now bound best.now other.now)
+        ⊎ (result ≡ other.now) × ((bound : ℕ → ℤ) → HaveRowValues rows.now bound other.now best.now → IsFirstOf rows.now bound other.now best.now) }
 {
     match compare(rows, other, best) {
         Ordering::Less => *other,

@@ -9,7 +9,7 @@ ghost use Rattle.simplex_core.specs.Programs.{IsSameProgram, IsAnswer};
 ghost use Rattle.simplex_core.specs.Shapes.{IsShaped};
 ghost use Rattle.simplex_core.specs.Values.{sizes_of};
 ghost use Rattle.simplex_core.specs.Solving.{Ends, HasLowValues};
-ghost use Rattle.simplex_core.specs.Turns.{price_of, Chooses, Enters, Turns};
+ghost use Rattle.simplex_core.specs.Turns.{reduced_cost, Chooses, Enters, Turns};
 
 use crate::basis::{Basis, slack_basis};
 use crate::columns::{Column, Columns, Entry, Price};
@@ -39,15 +39,15 @@ enum Turn<N> {
     /// The basis as it was, which is best.
     Best,
     /// A column that no row limits.
-    Unlimited,
+    Unbounded,
     /// A basis with a number that is too wide.
     Wide(WideKind<N>),
     /// No memory was found.
     NoMemory,
 }
 
-/// The first row of negative price.
-fn negative_price(duals: &[i64]) -> Option<u32>
+/// The first row of negative dual.
+fn negative_dual(duals: &[i64]) -> Option<u32>
     requires { length duals.now < 2 ^ 32 }
     ensures { MatchOption result ((k : ℕ) → k < length duals.now → pos 0 ≤ℤ num duals.now k) (λ k. (k < length duals.now) × (num duals.now k <ℤ pos 0)) }
 {
@@ -77,17 +77,17 @@ fn is_low(duals: &Row, bounds: &List<i64>) -> bool
 }
 
 /// Makes the rows those of the basis in which the column, whose products are at hand, stands at `r`. A kind says what is too wide.
-fn replace<N: Drop>(basis: &mut Basis<N>, name: N, price: &i64, r: usize) -> Turn<N>
+fn replace<N: Drop>(basis: &mut Basis<N>, name: N, cost: &i64, r: usize) -> Turn<N>
     requires shaped { IsShaped (length basis.old.rows) basis.old }
     requires inside { r < length basis.old.rows }
-    requires price { IsNarrow price.now }
+    requires cost { IsNarrow cost.now }
     requires products { (i : ℕ) → i < length basis.old.rows → IsNarrow (num basis.old.products i) }
     requires positive { pos 0 <ℤ num basis.old.products r }
-    ensures { (c : ColumnOf N) → Chooses (length basis.old.rows) basis.old c name price.now r → Enters (length basis.old.rows) basis.old c result basis.new }
+    ensures { (c : ColumnOf N) → Chooses (length basis.old.rows) basis.old c name cost.now r → Enters (length basis.old.rows) basis.old c result basis.new }
 {
     let count = basis.rows.len() as u32;
     set_name(&mut basis.names, r, name);
-    if let Err(_) = turn_objective(&mut basis.duals, price, &basis.rows, &basis.products, r) {
+    if let Err(_) = turn_objective(&mut basis.duals, cost, &basis.rows, &basis.products, r) {
         return Turn::Wide(WideKind::Row(count));
     }
     if let Err(i) = turn_list(&mut basis.rows, &basis.products, &mut basis.spare, r) {
@@ -106,11 +106,11 @@ fn enter<N: Drop>(basis: &mut Basis<N>, name: N, gain: &i64, entries: &[Entry]) 
     requires values { (k : ℕ) → k < length basis.old.rows → pos 0 ≤ℤ dot (length basis.old.rows) (nums_at basis.old.rows k) (num basis.old.bounds) }
     requires gain { IsNarrow gain.now }
     requires entries { AllByRecursion (IsEntry (length basis.old.rows)) entries.now }
-    requires gains { price_of (length basis.old.rows) basis.old.duals (column_from name gain.now entries.now) <ℤ pos 0 }
+    requires gains { reduced_cost (length basis.old.rows) basis.old.duals (column_from name gain.now entries.now) <ℤ pos 0 }
     ensures { Enters (length basis.old.rows) basis.old (column_from name gain.now entries.now) result basis.new }
 {
     let count = basis.rows.len() as u32;
-    let Some(price) = objective_product(&basis.duals, gain, entries) else {
+    let Some(cost) = objective_product(&basis.duals, gain, entries) else {
         return Turn::Wide(WideKind::Product(count, name));
     };
     if let Some(i) = write_list(&mut basis.products, &basis.rows, entries) {
@@ -118,19 +118,19 @@ fn enter<N: Drop>(basis: &mut Basis<N>, name: N, gain: &i64, entries: &[Entry]) 
     }
     match leaving_of(&basis.rows, &basis.bounds, &basis.products) {
         Err(i) => Turn::Wide(WideKind::Sum(i)),
-        Ok(None) => Turn::Unlimited,
-        Ok(Some(r)) => replace(basis, name, &price, r),
+        Ok(None) => Turn::Unbounded,
+        Ok(Some(r)) => replace(basis, name, &cost, r),
     }
 }
 
-/// A column that gains enters: a slack while a price is negative, else one that is priced.
+/// A column that gains enters: a slack while a dual is negative, else one that is priced.
 fn take_turn<C: Columns>(cols: &mut C, basis: &mut Basis<C::Name>) -> Turn<C::Name>
     requires shaped { IsShaped (C.rows cols.old) basis.old }
     requires values { (k : ℕ) → k < length basis.old.rows → pos 0 ≤ℤ dot (length basis.old.rows) (nums_at basis.old.rows k) (num basis.old.bounds) }
     ensures same { IsSameProgram (C.rows cols.old) (C.rows cols.new) (C.bound cols.old) (C.bound cols.new) (C.slack cols.old) (C.slack cols.new) (C.is_listed cols.old) (C.is_listed cols.new) }
     ensures turn { Turns (C.rows cols.old) (C.slack cols.old) (C.is_listed cols.old) basis.old result basis.new }
 {
-    if let Some(row) = negative_price(basis.duals.nums()) {
+    if let Some(row) = negative_dual(basis.duals.nums()) {
         let entry = Entry { row, value: 1 };
         return enter(basis, cols.slack(row), &0, &[entry]);
     }
@@ -190,7 +190,7 @@ pub fn solve<C: Columns>(
         match take_turn(cols, &mut basis) {
             Turn::Again => {}
             Turn::Best => return finish(alloc, basis),
-            Turn::Unlimited => unreachable!(),
+            Turn::Unbounded => unreachable!(),
             Turn::Wide(kind) => {
                 return Err(SimplexFault::Wide {
                     basis: basis.names,

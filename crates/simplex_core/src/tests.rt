@@ -9,7 +9,7 @@ use crate::optimum::Optimum;
 use crate::product::gains;
 use crate::solver::{SimplexFault, solve};
 use checked_fraction::Row;
-use net_core::{List, NoMemory};
+use net_core::{List, NoMemory, WideKind};
 use std::alloc::Global;
 use std::test::Fail;
 
@@ -202,8 +202,22 @@ fn optima(rt: HostRuntime) -> Result<(), Fail> {
         assert_eq!(rt; best.values.items(), values.as_slice());
         assert_eq!(rt; best.duals.den(), duals_den);
         assert_eq!(rt; best.duals.nums(), duals.as_slice());
+        if shapes.is_empty() {
+            assert_eq!(rt;
+                best.basis.items(),
+                [Label::Slack(0), Label::Slack(1), Label::Slack(2)].as_slice()
+            );
+        }
     }
     Ok(())
+}
+
+/// Whether the kind is one of those that any packing program may have.
+fn is_of_a_basis(kind: &WideKind<Label>) -> bool {
+    match kind {
+        WideKind::Row(_) | WideKind::Product(_, _) | WideKind::Sum(_) | WideKind::Common => true,
+        WideKind::Number(_) | WideKind::Value | WideKind::Length(_) => false,
+    }
 }
 
 /// The optimum of gain 2^50 + 2^10, or a wide number on a basis of the second column and either the first column or the first slack.
@@ -215,7 +229,8 @@ fn an_optimum_or_evidence(rt: HostRuntime) -> Result<(), Fail> {
             assert_eq!(rt; best.den, 1 << 30);
             assert_eq!(rt; best.values.items(), [(1 << 40) - 1, 1 << 40, 0].as_slice());
         }
-        Err(SimplexFault::Wide { basis, kind: _ }) => {
+        Err(SimplexFault::Wide { basis, kind }) => {
+            assert!(rt; is_of_a_basis(&kind));
             let [first, second, _] = basis.items() else {
                 return Err(Fail::new("three columns"));
             };

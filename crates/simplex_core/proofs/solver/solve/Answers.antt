@@ -1,6 +1,6 @@
 use Rattle.std.proofs.Common.{sym, subst}
 use Rattle.simplex_core.specs.Solving.{HasLowValues, Ends}
-use Rattle.simplex_core.specs.declared.solver.Turn.TheVariants.{Again, Best, Unlimited, Wide}
+use Rattle.simplex_core.specs.declared.solver.Turn.TheVariants.{Again, Best, Unbounded, Wide}
 use Rattle.simplex_core.proofs.Ending.{answers, low_values, some_limit, same_program, same_trans, first_turn}
 use Rattle.simplex_core.proofs.Evidences.{evidence}
 use Rattle.simplex_core.proofs.Solving.{at_start, at_turn, falls, values_at}
@@ -71,7 +71,7 @@ unreachable-requires g c =
     let first = c.args.cols.now in
     let now = c.loop-basis.cols in
     let b = c.loop-basis.basis in
-    let h = first_turn (p.rows first) (p.rows now) (p.bound first) (p.bound now) (p.slack first) (p.slack now) (p.is_listed first) (p.is_listed now) c.loop-basis.invariant.same b Unlimited c.take_turn.new.basis c.in-Unlimited.ensures.turn in
+    let h = first_turn (p.rows first) (p.rows now) (p.bound first) (p.bound now) (p.slack first) (p.slack now) (p.is_listed first) (p.is_listed now) c.loop-basis.invariant.same b Unbounded c.take_turn.new.basis c.in-Unbounded.ensures.turn in
     some_limit (p.rows first) (p.bound first) (p.slack first) (p.is_listed first) b c.take_turn.new.basis c.requires c.loop-basis.invariant.at h
 
 pub returns-in-Wide-clause-answer : goal.returns-in-Wide-clause-answer

@@ -1,6 +1,6 @@
 use Rattle.std.proofs.Common.{ℕ, pos, ◌<◌, ◌≤ℤ◌}
 use Rattle.checked_fraction.specs.Rows.{num}
-use Rattle.simplex_core.proofs.solver.negative_price.Given as goal
+use Rattle.simplex_core.proofs.solver.negative_dual.Given as goal
 
 -- no price so far is negative
 abbrev pub invariant-loop-k : goal.invariant-loop-k
