@@ -1,13 +1,41 @@
-ghost use Rattle.std.specs.Prelude.{◌≡◌, ◌+◌, ◌<◌, ◌++◌, [], ◌∷◌, length, OnOk, OnErr, IfErr, IfOk, IsSome, ◌↔◌, slice_set};
+ghost use Rattle.std.specs.Prelude.{◌≡◌, ◌+◌, ◌<◌, ◌++◌, [], ◌∷◌, length, OnOk, OnErr, IfErr, IfOk, IsSome, ◌↔◌, slice_set, replicate};
 ghost use Rattle.std.specs.Option.{option_to_list};
 
-use std::alloc::Global;
+use std::alloc::{AllocError, AllocFailed, Global};
 use std::hash::{Hash, Hasher};
 use std::marker::Model;
+use thiserror::Error;
 
-/// No memory was found.
-#[derive(Clone, Copy, Debug, PartialEq, Eq)]
+/// The call ran out of memory.
+#[derive(Clone, Copy, Debug, PartialEq, Eq, Error)]
+#[error("out of memory")]
 pub struct NoMemory;
+
+impl From<AllocError> for NoMemory {
+    ghost from_gives = { λ _ _. Unit {0} };
+
+    fn from(_error: AllocError) -> NoMemory {
+        NoMemory
+    }
+}
+
+/// What couldn't be stored is dropped.
+impl<T: Drop> From<AllocFailed<T>> for NoMemory {
+    ghost from_gives = { λ _ _. Unit {0} };
+
+    fn from(_refused: AllocFailed<T>) -> NoMemory {
+        NoMemory
+    }
+}
+
+/// What couldn't be stored is dropped.
+impl<T: Drop> From<(T, NoMemory)> for NoMemory {
+    ghost from_gives = { λ _ _. Unit {0} };
+
+    fn from(_refused: (T, NoMemory)) -> NoMemory {
+        NoMemory
+    }
+}
 
 /// A list, which keeps the allocator that it was made with.
 #[derive(Drop)]
@@ -88,15 +116,24 @@ impl<T: Drop> List<T> {
 }
 
 impl<T: Copy> List<T> {
+    /// As many copies of one item, in one allocation.
+    pub fn filled(alloc: Global, item: T, count: usize) -> Result<List<T>, NoMemory>
+        ensures { IfOk result (λ l. l ≡ replicate count item) }
+    {
+        let mut all = List::from_vec(Vec::with_capacity(alloc, count)?);
+        for _ in 0..count {
+            all.push(item)?;
+        }
+        Ok(all)
+    }
+
     /// Puts all items last, or none.
     pub fn append(&mut self, items: &[T]) -> Result<(), NoMemory>
         ensures ok { OnOk result (self.new ≡ self.old ++ items.now) }
         ensures same { OnErr result (self.new ≡ self.old) }
     {
-        match self.items.extend_from_slice(items) {
-            Ok(()) => Ok(()),
-            Err(_) => Err(NoMemory),
-        }
+        self.items.extend_from_slice(items)?;
+        Ok(())
     }
 }
 
@@ -118,15 +155,9 @@ impl<T: Copied> List<T> {
     pub fn from_slice(alloc: Global, items: &[T]) -> Result<List<T>, NoMemory>
         ensures { IfOk result (λ l. l ≡ items.now) }
     {
-        let Ok(room) = Vec::with_capacity(alloc, items.len()) else {
-            return Err(NoMemory);
-        };
-        let mut all = List::from_vec(room);
+        let mut all = List::from_vec(Vec::with_capacity(alloc, items.len())?);
         for item in items {
-            let copied = item.copy()?;
-            let Ok(()) = all.push(copied) else {
-                return Err(NoMemory);
-            };
+            all.push(item.copy()?)?;
         }
         Ok(all)
     }

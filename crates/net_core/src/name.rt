@@ -5,6 +5,7 @@ ghost use Rattle.net_core.specs.Names.{IsName, is_word_byte, begins_comment, is_
 use crate::list::{Copied, List, NoMemory};
 use std::alloc::Global;
 use std::marker::Model;
+use thiserror::Error;
 
 /// A name: a word of a file, of 1 to 255 bytes.
 #[derive(Drop, PartialEq, Eq, Hash)]
@@ -26,16 +27,31 @@ impl Model for Name {
 }
 
 /// Why bytes are no name.
-#[derive(Clone, Copy, Debug, PartialEq, Eq)]
+#[derive(Clone, Copy, Debug, PartialEq, Eq, Error)]
 pub enum NameFault {
     /// There is no byte.
+    #[error("an empty name")]
     Empty,
     /// There are more than 255 bytes.
+    #[error("a name of more than 255 bytes")]
     Long,
     /// A byte is white space or a parenthesis, or the first is `#`.
+    #[error("a byte that no name may have")]
     BadByte,
-    /// No memory was found for the bytes.
+    /// The call ran out of memory.
+    #[error("out of memory")]
     NoMemory,
+}
+
+impl From<NoMemory> for NameFault {
+    ghost use Rattle.std.specs.Prelude.{◌≡◌};
+    ghost use Rattle.net_core.specs.declared.name.NameFault.{NameFault};
+
+    ghost from_gives = { λ _ fault. fault ≡ NameFault.NoMemory };
+
+    fn from(_error: NoMemory) -> NameFault {
+        NameFault::NoMemory
+    }
 }
 
 fn is_word_byte(b: u8) -> bool
@@ -83,10 +99,9 @@ impl Name {
         if !is_plain(bytes) {
             return Err(NameFault::BadByte);
         }
-        let Ok(bytes) = List::from_slice(alloc, bytes) else {
-            return Err(NameFault::NoMemory);
-        };
-        Ok(Name { bytes })
+        Ok(Name {
+            bytes: List::from_slice(alloc, bytes)?,
+        })
     }
 
     /// The bytes of the name.

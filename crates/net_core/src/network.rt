@@ -6,6 +6,7 @@ ghost use Rattle.net_core.specs.Network.{IsLink, IsNetwork, has_large_amount, li
 use crate::ids::NodeId;
 use crate::list::{Copied, List, NoMemory};
 use crate::name::Name;
+use thiserror::Error;
 
 /// A module that a link can be given any number of times, in thousandths of capacity and of cost.
 #[derive(Clone, Copy, Debug, PartialEq, Eq)]
@@ -55,28 +56,48 @@ pub struct Network {
     pub ghost checked: { ∥ IsNetwork nodes links ∥₁ },
 }
 
-/// Why nodes and links are no network; the number is the node's or the link's place.
-#[derive(Clone, Copy, Debug, PartialEq, Eq)]
+impl Copied for Network {
+    fn copy(&self) -> Result<Network, NoMemory> {
+        Ok(Network {
+            nodes: self.nodes.copy()?,
+            links: self.links.copy()?,
+            notes: self.notes,
+        })
+    }
+}
+
+/// Why nodes and links are no network; the number is the place of the node or link in its list.
+#[derive(Clone, Copy, Debug, PartialEq, Eq, Error)]
 pub enum NetFault {
     /// More than 128 nodes.
+    #[error("more than 128 nodes")]
     Nodes,
     /// More than 256 links.
+    #[error("more than 256 links")]
     Links,
     /// An earlier node has the name.
+    #[error("node {0}: the name of an earlier node")]
     DoubleNode(u32),
     /// An earlier link has the name.
+    #[error("link {0}: the name of an earlier link")]
     DoubleLink(u32),
     /// An end is no node.
+    #[error("link {0}: an end that is no node")]
     UnknownEnd(u32),
     /// Both ends are one node.
+    #[error("link {0}: both ends are one node")]
     SelfLink(u32),
     /// A capacity or a cost is 2^40 thousandths or more.
+    #[error("link {0}: an amount of 2^40 thousandths or more")]
     Amount(u32),
     /// More than 16 modules.
+    #[error("link {0}: more than 16 modules")]
     Modules(u32),
     /// A module of capacity 0.
+    #[error("link {0}: a module of capacity 0")]
     ZeroModule(u32),
     /// Pre-installed capacity and no module.
+    #[error("link {0}: pre-installed capacity and no module")]
     FixedLink(u32),
 }
 

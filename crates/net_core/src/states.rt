@@ -8,6 +8,7 @@ use crate::list::{Copied, List, NoMemory};
 use crate::name::Name;
 use crate::network::Network;
 use std::alloc::Global;
+use thiserror::Error;
 
 /// A state that a failure list gives: its name and the links that fail.
 #[derive(Drop)]
@@ -32,16 +33,28 @@ pub struct States {
     pub ghost checked: { ∥ IsStateList listed ∥₁ },
 }
 
+impl Copied for States {
+    fn copy(&self) -> Result<States, NoMemory> {
+        Ok(States {
+            listed: self.listed.copy()?,
+        })
+    }
+}
+
 /// Why listed states are refused; the number is the state's place in the list.
-#[derive(Clone, Copy, Debug, PartialEq, Eq)]
+#[derive(Clone, Copy, Debug, PartialEq, Eq, Error)]
 pub enum StatesFault {
     /// More than 256 states.
+    #[error("more than 256 states")]
     TooMany,
     /// No link.
+    #[error("listed state {0}: no link")]
     Empty(u32),
     /// A link that the network lacks.
+    #[error("listed state {0}: an unknown link")]
     UnknownLink(u32),
     /// An earlier state has the name.
+    #[error("listed state {0}: the name of an earlier state")]
     DoubleState(u32),
 }
 
