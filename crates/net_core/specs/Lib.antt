@@ -1,6 +1,9 @@
+pub mod Cases
 pub mod Demands
+pub mod Graphs
 pub mod Lists
 pub mod Names
 pub mod Network
 pub mod States
 pub mod Tests
+pub mod Views

@@ -3,20 +3,26 @@
 
 pub mod columns;
 pub mod demand;
+pub mod graph;
 pub mod ids;
+pub mod instance;
 pub mod list;
 pub mod name;
 pub mod network;
 pub mod plan;
+pub mod problem;
 pub mod states;
+pub mod surviving;
 
 pub use columns::{MasterColumn, RouteColumn, WideKind};
 pub use demand::{Demand, Demands};
+pub use graph::Surviving;
 pub use ids::{LinkId, NodeId, StateId};
+pub use instance::{Instance, Problem};
 pub use list::{Copied, List, NoMemory};
 pub use name::{Name, NameFault};
 pub use network::{Link, Module, NetFault, Network, Notes};
-pub use plan::{Caps, Counts, Flow, Lengths, Path, Routing};
+pub use plan::{Caps, Counts, CutLine, Flow, Lengths, Path, Routing};
 pub use states::{Listed, States, StatesFault};
 
 /// Bytes, as of a file.

@@ -1,4 +1,4 @@
-use crate::ids::LinkId;
+use crate::ids::{LinkId, StateId};
 use crate::list::{Copied, List, NoMemory};
 
 /// The links of a path, from its first node to its last.
@@ -32,6 +32,15 @@ pub type Counts = List<List<u64>>;
 /// One length for each link.
 pub type Lengths = List<u32>;
 
+/// A cut: a state and one length for each link, with its right side. Whatever carries the demands in that state needs as much
+/// capacity, in thousandths, along the lengths as the right side says (a metric inequality).
+#[derive(Drop)]
+pub struct CutLine {
+    pub state: StateId,
+    pub lengths: Lengths,
+    pub right: u128,
+}
+
 impl Copied for Flow {
     fn copy(&self) -> Result<Flow, NoMemory> {
         Ok(Flow {
@@ -56,6 +65,16 @@ impl Copied for Caps {
         Ok(Caps {
             scale: self.scale,
             nums: self.nums.copy()?,
+        })
+    }
+}
+
+impl Copied for CutLine {
+    fn copy(&self) -> Result<CutLine, NoMemory> {
+        Ok(CutLine {
+            state: self.state,
+            lengths: self.lengths.copy()?,
+            right: self.right,
         })
     }
 }

@@ -1,0 +1,17 @@
+-- what a plan is made for: a network, its failure states and its demands (the problem instance of SNDlib)
+use Rattle.std.specs.Prelude.{ℕ, List}
+use Rattle.net_core.specs.declared.demand.Demand.{Demand}
+use Rattle.net_core.specs.declared.network.Link.{Link}
+use Rattle.net_core.specs.declared.states.Listed.{Listed}
+use Rattle.net_core.specs.Graphs.{Graph}
+
+-- nodes, links, listed states and demands
+pub record Case : Type 0 where
+  pub nodes : List (List ℕ)
+  pub links : List Link
+  pub listed : List Listed
+  pub demands : List Demand
+
+-- the network of the case in state s
+abbrev pub graph_in : Case → ℕ → Graph
+graph_in c s = record { nodes = c.nodes; links = c.links; listed = c.listed; state = s }

@@ -1,0 +1,23 @@
+-- the graph and the case that values of the program stand for
+use Rattle.std.specs.Prelude.{ℕ, List}
+use Rattle.net_core.specs.declared.demand.Demand.{Demand}
+use Rattle.net_core.specs.declared.graph.Surviving.{Surviving}
+use Rattle.net_core.specs.declared.instance.Instance.{Instance}
+use Rattle.net_core.specs.declared.network.Network.{Network}
+use Rattle.net_core.specs.declared.states.States.{States}
+use Rattle.net_core.specs.Cases.{Case}
+use Rattle.net_core.specs.Graphs.{Graph}
+
+-- the network in state s
+abbrev pub graph : Network → States → ℕ → Graph
+graph net states s = record { nodes = net.nodes; links = net.links; listed = states.listed; state = s }
+
+abbrev pub graph_of : Surviving → Graph
+graph_of g = graph g.net.now g.states.now g.state.0
+
+-- the network with its states and demands
+abbrev pub case : Network → States → List Demand → Case
+case net states demands = record { nodes = net.nodes; links = net.links; listed = states.listed; demands = demands }
+
+abbrev pub case_of : Instance → Case
+case_of i = case i.net.now i.states.now i.demands.now
