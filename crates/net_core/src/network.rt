@@ -1,4 +1,4 @@
-ghost use Rattle.std.specs.Prelude.{◌≡◌, ◌≢◌, ℕ, ◌≤◌, ◌<◌, ◌^◌, ◌↔◌, ◌==◌, IsTrue, All, AllPairs, IfNone, MatchResult, None, Some, List, [], length, nat_lt, not, ◌||◌, ◌&&◌};
+ghost use Rattle.std.specs.Prelude.{◌≡◌, ◌≢◌, ℕ, ◌≤◌, ◌<◌, ◌^◌, ◌↔◌, ◌==◌, IsTrue, All, AllPairs, IfNone, IsOk, MatchResult, None, Some, List, [], length, nat_lt, not, ◌||◌, ◌&&◌};
 ghost use Rattle.std.specs.List.{list_any};
 ghost use Rattle.net_core.specs.Tests.{first_fault, is_named, is_large, are_same};
 ghost use Rattle.net_core.specs.Network.{IsLink, IsNetwork, has_large_amount, link_tests, links_tests, nodes_tests, network_fault};
@@ -218,6 +218,7 @@ impl Network {
     /// The network of these parts, which are dropped at a refusal.
     pub fn check(nodes: List<Name>, links: List<Link>, notes: Notes) -> Result<Network, NetFault>
         ensures faults { MatchResult result (λ _. network_fault nodes links ≡ None) (λ f. network_fault nodes links ≡ Some f) }
+        ensures accepted { IsNetwork nodes links → IsOk result }
         ensures parts { MatchResult result (λ net. (net.nodes ≡ nodes) × (net.links ≡ links) × (net.notes ≡ notes)) (λ _. Unit {0}) }
     {
         match network_fault(nodes.items(), links.items()) {

@@ -1,4 +1,4 @@
-ghost use Rattle.std.specs.Prelude.{◌≡◌, ◌<◌, ◌^◌, ◌+◌, ◌==◌, None, Some, MatchResult, [], length, nat_lt, not};
+ghost use Rattle.std.specs.Prelude.{◌≡◌, ◌<◌, ◌^◌, ◌+◌, ◌==◌, None, Some, MatchResult, IsOk, [], length, nat_lt, not};
 ghost use Rattle.std.specs.List.{list_any};
 ghost use Rattle.net_core.specs.Tests.{first_fault, is_named};
 ghost use Rattle.net_core.specs.States.{AreStates, IsStateList, all_listed_tests, fails, listed_tests, names_link, states_fault};
@@ -114,6 +114,7 @@ impl States {
     /// The states of this list, which is dropped at a refusal.
     pub fn new(net: &Network, listed: List<Listed>) -> Result<States, StatesFault>
         ensures faults { MatchResult result (λ _. states_fault (length net.now.links) listed ≡ None) (λ f. states_fault (length net.now.links) listed ≡ Some f) }
+        ensures accepted { AreStates (length net.now.links) listed → IsOk result }
         ensures list { MatchResult result (λ s. (s.listed ≡ listed) × AreStates (length net.now.links) s.listed) (λ _. Unit {0}) }
     {
         match states_fault(net.links().len(), listed.items()) {

@@ -1,6 +1,7 @@
-use Rattle.std.proofs.Common.{◌≡◌, None, subst, sym, ◌∙◌}
+use Rattle.std.proofs.Common.{◌≡◌, None, Some, subst, sym, ◌∙◌}
 use Rattle.net_core.specs.Network.{network_fault}
 use Rattle.net_core.proofs.NetworkChecks.{sound_network}
+use Rattle.net_core.proofs.Accepted.{network_accepted}
 use Rattle.net_core.proofs.network.Network.check.Goals as goal
 
 pub invariant_of-result : goal.invariant_of-result
@@ -9,3 +10,9 @@ invariant_of-result c =
     let of_nodes = subst (λ nodes. network_fault nodes c.items-2.result.now ≡ None) c.items.ensures none in
     let of_parts = subst (λ links. network_fault c.args.nodes links ≡ None) c.items-2.ensures of_nodes in
     record { checked = ∣ sound_network c.args.nodes c.args.links of_parts ∣₁ }
+
+pub returns-in-Some-clause-accepted : goal.returns-in-Some-clause-accepted
+returns-in-Some-clause-accepted c = λ sound.
+    let of_parts = subst (λ nodes. network_fault nodes c.items-2.result.now ≡ None) (sym c.items.ensures) (subst (λ links. network_fault c.args.nodes links ≡ None) (sym c.items-2.ensures) (network_accepted c.args.nodes c.args.links sound)) in
+    let none : Some c.in-Some.fault ≡ None = sym c.in-Some.is ∙ (c.network_fault.ensures ∙ of_parts) in
+    absurd (cc)

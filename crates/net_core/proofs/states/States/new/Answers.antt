@@ -1,6 +1,7 @@
-use Rattle.std.proofs.Common.{◌≡◌, None, length, ap, refl, subst, sym, ◌∙◌}
+use Rattle.std.proofs.Common.{◌≡◌, None, Some, length, ap, refl, subst, sym, ◌∙◌}
 use Rattle.net_core.specs.States.{states_fault, AreStates}
 use Rattle.net_core.proofs.StatesChecks.{sound_states}
+use Rattle.net_core.proofs.Accepted.{states_accepted}
 use Rattle.net_core.proofs.states.States.new.Goals as goal
 
 pub invariant_of-result : goal.invariant_of-result
@@ -15,3 +16,10 @@ returns-in-None-clause-list c =
     let of_list = subst (λ listed. states_fault c.len.result listed ≡ None) c.items.ensures none in
     let count : c.len.result ≡ length c.args.net.now.links = c.len.ensures ∙ ap length c.links.ensures in
     (refl, subst (λ n. AreStates n c.args.listed) count (sound_states c.len.result c.args.listed of_list))
+
+pub returns-in-Some-clause-accepted : goal.returns-in-Some-clause-accepted
+returns-in-Some-clause-accepted c = λ sound.
+    let count : c.len.result ≡ length c.args.net.now.links = c.len.ensures ∙ ap length c.links.ensures in
+    let of_items = subst (λ listed. states_fault c.len.result listed ≡ None) (sym c.items.ensures) (states_accepted c.len.result c.args.listed (subst (λ n. AreStates n c.args.listed) (sym count) sound)) in
+    let none : Some c.in-Some.fault ≡ None = sym c.in-Some.is ∙ (c.states_fault.ensures ∙ of_items) in
+    absurd (cc)
