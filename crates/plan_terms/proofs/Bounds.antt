@@ -8,7 +8,7 @@ use Rattle.std.specs.Int.{◌∣◌, IsGcd}
 use Rattle.std.specs.List.{AllByRecursion}
 use Rattle.net_core.specs.declared.network.Link.{Link}
 use Rattle.net_core.specs.declared.network.Module.{Module}
-use Rattle.plan_terms.specs.Certificates.{IsLowest, module_costs, IsGreatestDivisor, IsBound}
+use Rattle.plan_terms.specs.Bounds.{IsLowest, module_costs, IsGreatestDivisor, IsBound}
 use Rattle.plan_terms.proofs.Duality.{divides_parts}
 
 -- where all modules cost nothing the bound is 0
@@ -16,7 +16,6 @@ pub bound_free : (links : List Link) (num den : ℕ) → IsGreatestDivisor (modu
 bound_free links num den is = record {
   divisor = 0;
   is_divisor = is;
-  zero = λ e. refl;
   multiple = dvd-zero 0;
   reaches = λ some. absurd (some refl);
   least = λ other divides enough. omega arith;
@@ -27,7 +26,6 @@ pub bound_rounded : (links : List Link) (num den g count : ℕ) → 0 < g → Is
 bound_rounded links num den g count some is enough least = record {
   divisor = g;
   is_divisor = is;
-  zero = λ e. absurd (omega arith);
   multiple = dvd-mul_right g count;
   reaches = λ positive. omega arith;
   least = λ other divides reached.
@@ -42,7 +40,6 @@ pub bound_none : (links : List Link) (den g : ℕ) → IsGreatestDivisor (module
 bound_none links den g is = record {
   divisor = g;
   is_divisor = is;
-  zero = λ e. refl;
   multiple = dvd-zero g;
   reaches = λ some. omega arith;
   least = λ other divides reached. omega arith;
@@ -61,7 +58,6 @@ pub bound_same : (links : List Link) (a b c d bound : ℕ) → 0 < b → IsLowes
 bound_same links a b c d bound some low is = record {
   divisor = is.divisor;
   is_divisor = is.is_divisor;
-  zero = is.zero;
   multiple = is.multiple;
   reaches = λ positive.
       let one : d * a ≤ d * (bound * b) = mul-le-mul_left d (is.reaches positive) in
@@ -97,13 +93,17 @@ divisor_one x = record {
 pub divisor_unique : (xs : List ℕ) (g h : ℕ) → IsGreatestDivisor xs g → IsGreatestDivisor xs h → g ≡ h
 divisor_unique xs g h first second = dvd_antisymm (second.greatest g first.divides) (first.greatest h second.divides)
 
+-- 0 divides 0 alone
+zero_divides : (x : ℕ) → 0 ∣ x → x ≡ 0
+zero_divides x h = let whole = mul-div_cancel' 0 h in omega (arith, whole)
+
 -- a bound of a fraction is no more than one of the same fraction
 bound_least : (links : List Link) (a b c d x y : ℕ) → 0 < d → a * d ≡ c * b → IsBound links a b x → IsBound links c d y → x ≤ y
 bound_least links a b c d x y some same first second =
     let one = divisor_unique (module_costs links) first.divisor second.divisor first.is_divisor second.is_divisor in
     let multiple : first.divisor ∣ y = subst (λ g. g ∣ y) (sym one) second.multiple in
     ⊎_elim
-    (λ (zero : first.divisor ≡ 0). omega (arith, first.zero zero))
+    (λ (zero : first.divisor ≡ 0). let none : 0 ∣ x = subst (λ g. g ∣ x) zero first.multiple in omega (arith, zero_divides x none))
     (λ (positive : first.divisor ≢ 0).
     let reached : c ≤ y * d = second.reaches (λ e. positive (one ∙ e)) in
     let times : b * c ≤ b * (y * d) = mul-le-mul_left b reached in

@@ -6,9 +6,9 @@ use Rattle.std.proofs.lemmas.List.Elements.{All-from_recursion}
 use Rattle.std.specs.List.{AllByRecursion}
 use Rattle.net_core.specs.declared.ids.LinkId.{LinkId}
 use Rattle.net_core.specs.declared.network.Link.{Link}
-use Rattle.net_core.specs.declared.states.Listed.{Listed}
 use Rattle.net_core.specs.States.{names_link}
-use Rattle.plan_terms.specs.Paths.{Leads, AreDifferent, IsPath, HasEnds, Joins}
+use Rattle.net_core.specs.Graphs.{Graph, HasEnds, Joins}
+use Rattle.plan_terms.specs.Paths.{Leads, AreDifferent, IsPath}
 
 -- no link stands twice
 abbrev pub DistinctLinks : List LinkId → Type 0
@@ -69,23 +69,23 @@ same_ends l x y p q (inr s) (inl t) = inr (sym s.0 ∙ t.1)
 same_ends l x y p q (inr s) (inr t) = inl (sym s.0 ∙ t.0)
 
 -- what joins nodes is a link of the network
-pub joining_known : (links : List Link) (listed : List Listed) (s e x y : ℕ) → Joins links listed s e x y → e < length links
-joining_known links listed s e x y j = slice_get_within links e j.survives.link j.survives.at
+pub joining_known : (g : Graph) (e x y : ℕ) → Joins g e x y → e < length g.links
+joining_known g e x y j = slice_get_within g.links e j.survives.link j.survives.at
 
 -- a link joins the same two nodes wherever it stands
-pub joins_again : (links : List Link) (listed : List Listed) (s e x y p q : ℕ) → Joins links listed s e x y → Joins links listed s e p q → (x ≡ p) ⊎ (x ≡ q)
-joins_again links listed s e x y p q i j =
+pub joins_again : (g : Graph) (e x y p q : ℕ) → Joins g e x y → Joins g e p q → (x ≡ p) ⊎ (x ≡ q)
+joins_again g e x y p q i j =
     let one : i.survives.link ≡ j.survives.link = cc (i.survives.at, j.survives.at) in
     same_ends j.survives.link x y p q (subst (λ (l : Link). HasEnds l x y) one i.ends) j.ends
 
 -- each link of a path is one of the network
-pub path_links_inside : (links : List Link) (listed : List Listed) (s a b : ℕ) (es : List LinkId) → IsPath (Joins links listed s) a b es → AllByRecursion (λ e. e.0 < length links) es
-path_links_inside links listed s a b es p =
-    links_inside (Joins links listed s) (length links) (joining_known links listed s) (joins_again links listed s) a es p.0 p.1
+pub path_links_inside : (g : Graph) (a b : ℕ) (es : List LinkId) → IsPath (Joins g) a b es → AllByRecursion (λ e. e.0 < length g.links) es
+path_links_inside g a b es p =
+    links_inside (Joins g) (length g.links) (joining_known g) (joins_again g) a es p.0 p.1
 
-pub path_links_known : (links : List Link) (listed : List Listed) (s a b : ℕ) (es : List LinkId) → IsPath (Joins links listed s) a b es → (k : ℕ) (d : LinkId) → k < length es → (get_or es k d).0 < length links
-path_links_known links listed s a b es p =
-    All-from_recursion (λ e. e.0 < length links) es (path_links_inside links listed s a b es p)
+pub path_links_known : (g : Graph) (a b : ℕ) (es : List LinkId) → IsPath (Joins g) a b es → (k : ℕ) (d : LinkId) → k < length es → (get_or es k d).0 < length g.links
+path_links_known g a b es p =
+    All-from_recursion (λ e. e.0 < length g.links) es (path_links_inside g a b es p)
 
 -- a link with the test stands below n where each does
 named_inside : (n e : ℕ) (es : List LinkId) → AllByRecursion (λ x. x.0 < n) es → names_link e es ≡ true → e < n
@@ -95,11 +95,11 @@ named_inside n e (x ∷ xs) all named = ⊎_elim
     (λ f. named_inside n e xs all.1 (rw f at named))
     (cases_Bool (eqb x.0 e))
 
-pub path_names_known : (links : List Link) (listed : List Listed) (s a b : ℕ) (es : List LinkId) (e : ℕ) → IsPath (Joins links listed s) a b es → names_link e es ≡ true → e < length links
-path_names_known links listed s a b es e p named =
-    named_inside (length links) e es (path_links_inside links listed s a b es p) named
+pub path_names_known : (g : Graph) (a b : ℕ) (es : List LinkId) (e : ℕ) → IsPath (Joins g) a b es → names_link e es ≡ true → e < length g.links
+path_names_known g a b es e p named =
+    named_inside (length g.links) e es (path_links_inside g a b es p) named
 
 -- on a path no link stands twice
-pub path_links_differ : (links : List Link) (listed : List Listed) (s a b : ℕ) (es : List LinkId) → IsPath (Joins links listed s) a b es → DistinctLinks es
-path_links_differ links listed s a b es p =
-    distinct_links (Joins links listed s) (length links) (joining_known links listed s) (joins_again links listed s) a es p.0 p.1 p.3
+pub path_links_differ : (g : Graph) (a b : ℕ) (es : List LinkId) → IsPath (Joins g) a b es → DistinctLinks es
+path_links_differ g a b es p =
+    distinct_links (Joins g) (length g.links) (joining_known g) (joins_again g) a es p.0 p.1 p.3

@@ -6,14 +6,14 @@ use Rattle.std.proofs.Math.Nat.{mul-le-mul_left, dvd-add, dvd-mul_right_of_dvd}
 use Rattle.std.proofs.lemmas.Nat.Gcd.{dvd-zero}
 use Rattle.std.specs.List.{AllByRecursion}
 use Rattle.std.specs.Int.{◌∣◌}
-use Rattle.net_core.specs.declared.demand.Demand.{Demand}
 use Rattle.net_core.specs.declared.network.Module.{Module}
 use Rattle.net_core.specs.declared.network.Link.{Link}
-use Rattle.net_core.specs.declared.states.Listed.{Listed}
+use Rattle.net_core.specs.Cases.{Case, graph_in}
 use Rattle.plan_terms.specs.Capacities.{modules_capacity, modules_cost, capacities, total_cost, AreCounts, IsAble}
-use Rattle.plan_terms.specs.Certificates.{Line, IsLine, price, asked, given, raw_value, module_costs, IsBound, WeakDuality}
+use Rattle.plan_terms.specs.Bounds.{module_costs, IsBound}
+use Rattle.plan_terms.specs.Certificates.{Line, IsLine, price, asked, fixed_along, given, raw_value, WeakDuality}
 use Rattle.plan_terms.proofs.Metric.{metric_inequality}
-use Rattle.plan_terms.proofs.Sums.{sum_below, below-same, below-first, below-times, below-swapped, sums-le, sums-equal, sums-times}
+use Rattle.plan_terms.proofs.Sums.{sum_below, below-same, below-first, below-times, below-swapped, sums-le, sums-same, sums-equal, sums-times}
 
 -- where no module's price exceeds its cost, counts of modules cost at least the price of their capacity
 modules_priced : (den unit : ℕ) (modules : List Module) (counts : List ℕ) → AllByRecursion (λ m. unit * m.capacity ≤ den * m.cost) modules → unit * modules_capacity modules counts ≤ den * modules_cost modules counts
@@ -29,51 +29,76 @@ modules_priced den unit (m ∷ ms) (c ∷ cs) priced =
       ap (λ s. den * s) (sum_by-cons (λ (p : Module × ℕ). p.0.cost * p.1) (m, c) (zip ms cs)),
     )
 
--- The capacities at their prices are at most what the pre-installed ones give and the modules cost. The first of the links has the number `from`, and `unit k` is the price of link k of these.
-capacities_priced : (den : ℕ) (lines : List Line) (from : ℕ) (unit : ℕ → ℕ) (links : List Link) (counts : List (List ℕ)) → AreCounts links counts
-    → ((k : ℕ) → unit k ≡ price lines (from + k))
+-- the pre-installed capacities
+abbrev pub fixed_of : List Link → List ℕ
+fixed_of links = map (λ l. l.fixed) links
+
+-- the capacities at their prices are at most what the pre-installed ones give and the modules cost
+capacities_priced : (den : ℕ) (unit : ℕ → ℕ) (links : List Link) (counts : List (List ℕ)) → AreCounts links counts
     → ((k : ℕ) (l : Link) → slice_get links k ≡ Some l → All (λ m. unit k * m.capacity ≤ den * m.cost) l.modules)
-    → sum_below (length links) (λ k. unit k * slice_index (capacities links counts) k) ≤ given lines from links + den * total_cost links counts
-capacities_priced den lines from unit [] [] shape same priced = omega arith
-capacities_priced den lines from unit (l ∷ ls) (c ∷ cs) shape same priced =
-    let here : price lines from ≡ unit 0 = ap (price lines) (omega arith) ∙ sym (same 0) in
+    → sum_below (length links) (λ k. unit k * slice_index (capacities links counts) k) ≤ sum_below (length links) (λ k. unit k * slice_index (fixed_of links) k) + den * total_cost links counts
+capacities_priced den unit [] [] shape priced = omega arith
+capacities_priced den unit (l ∷ ls) (c ∷ cs) shape priced =
     let first : unit 0 * modules_capacity l.modules c ≤ den * modules_cost l.modules c = modules_priced den (unit 0) l.modules c (recursion_from_All (λ m. unit 0 * m.capacity ≤ den * m.cost) l.modules (priced 0 l refl)) in
-    let rest = capacities_priced den lines (from + 1) (λ k. unit (suc k)) ls cs shape.1 (λ k. same (suc k) ∙ ap (price lines) (omega arith)) (λ k. priced (suc k)) in
+    let rest = capacities_priced den (λ k. unit (suc k)) ls cs shape.1 (λ k. priced (suc k)) in
     omega (
       arith,
       first,
       rest,
-      ap (λ i. i * l.fixed) here,
       below-first (length ls) (λ k. unit k * slice_index (capacities (l ∷ ls) (c ∷ cs)) k),
+      below-first (length ls) (λ k. unit k * slice_index (fixed_of (l ∷ ls)) k),
       ap (λ s. den * s) (sum_by-cons (λ (p : Link × List ℕ). modules_cost p.0.modules p.1) (l, c) (zip ls cs)),
     )
-capacities_priced den lines from unit [] (c ∷ cs) shape same priced = absurd shape
-capacities_priced den lines from unit (l ∷ ls) [] shape same priced = absurd shape
+capacities_priced den unit [] (c ∷ cs) shape priced = absurd shape
+capacities_priced den unit (l ∷ ls) [] shape priced = absurd shape
+
+-- what the pre-installed capacities give along lengths, link by link
+fixed_summed : (lengths : List ℕ) (links : List Link) → length lengths ≡ length links → fixed_along lengths links ≡ sum_below (length links) (λ e. slice_index lengths e * slice_index (fixed_of links) e)
+fixed_summed [] [] count = refl
+fixed_summed (x ∷ xs) (l ∷ ls) count =
+    omega (
+      arith,
+      fixed_summed xs ls (omega (arith, count)),
+      sum_by-cons (λ (p : ℕ × Link). p.0 * p.1.fixed) (x, l) (zip xs ls),
+      below-first (length ls) (λ e. slice_index (x ∷ xs) e * slice_index (fixed_of (l ∷ ls)) e),
+    )
+fixed_summed [] (l ∷ ls) count = absurd (omega (arith, count))
+fixed_summed (x ∷ xs) [] count = absurd (omega (arith, count))
 
 -- sums along each line's lengths are a sum at the prices
-summed : (n : ℕ) (nums : List ℕ) (lines : List Line) → sum_by (λ l. l.num * sum_below n (λ e. slice_index l.lengths e * slice_index nums e)) lines ≡ sum_below n (λ e. price lines e * slice_index nums e)
+summed : (n : ℕ) (nums : List ℕ) (lines : List Line) → sum_by (λ l. l.num * sum_below n (λ e. slice_index l.cut.lengths e * slice_index nums e)) lines ≡ sum_below n (λ e. price lines e * slice_index nums e)
 summed n nums lines =
-    sums-equal _ (λ l. sum_below n (λ e. slice_index nums e * (l.num * slice_index l.lengths e))) lines (λ l. sym (below-times n l.num (λ e. slice_index l.lengths e * slice_index nums e)) ∙ below-same n _ _ (λ e lt. omega arith))
-    ∙ (sym (below-swapped n (λ e (l : Line). slice_index nums e * (l.num * slice_index l.lengths e)) lines)
-    ∙ below-same n _ _ (λ e lt. sums-times (slice_index nums e) (λ (l : Line). l.num * slice_index l.lengths e) lines ∙ omega arith))
+    sums-equal _ (λ l. sum_below n (λ e. slice_index nums e * (l.num * slice_index l.cut.lengths e))) lines (λ l. sym (below-times n l.num (λ e. slice_index l.cut.lengths e * slice_index nums e)) ∙ below-same n _ _ (λ e lt. omega arith))
+    ∙ (sym (below-swapped n (λ e (l : Line). slice_index nums e * (l.num * slice_index l.cut.lengths e)) lines)
+    ∙ below-same n _ _ (λ e lt. sums-times (slice_index nums e) (λ (l : Line). l.num * slice_index l.cut.lengths e) lines ∙ omega arith))
 
-module _ (links : List Link) (listed : List Listed) (demands : List Demand) (counts : List (List ℕ)) (able : IsAble links listed demands counts) where
-  -- a line asks for no more than the capacities of counts that can do give along its lengths
-  line_met : (line : Line) → IsLine links listed demands line → line.num * line.right ≤ line.num * sum_below (length links) (λ e. slice_index line.lengths e * slice_index (capacities links counts) e)
+-- what the pre-installed capacities give along the cuts is their sum at the prices
+given_summed : (p : Case) (lines : List Line) → AllByRecursion (λ l. IsLine p l.cut) lines → given p.links lines ≡ sum_below (length p.links) (λ e. price lines e * slice_index (fixed_of p.links) e)
+given_summed p lines each =
+    sums-same (λ l. l.num * fixed_along l.cut.lengths p.links) (λ l. l.num * sum_below (length p.links) (λ e. slice_index l.cut.lengths e * slice_index (fixed_of p.links) e)) (λ l. IsLine p l.cut) lines each
+    (λ l is. ap (λ s. l.num * s) (fixed_summed l.cut.lengths p.links is.kept.count))
+    ∙ summed (length p.links) (fixed_of p.links) lines
+
+module _ (p : Case) (counts : List (List ℕ)) (able : IsAble p counts) where
+  -- a line asks for no more than the capacities of able counts give along its lengths
+  line_met : (line : Line) → IsLine p line.cut → line.num * line.cut.right ≤ line.num * sum_below (length p.links) (λ e. slice_index line.cut.lengths e * slice_index (capacities p.links counts) e)
   line_met line is =
-      let here = able.each line.state is.listed_state in
-      mul-le-mul_left line.num (omega (arith, metric_inequality links listed line.state demands 1 (capacities links counts) line.lengths line.right here.routing here.carries is.right))
+      let here = able.each line.cut.state.0 is.listed_state in
+      mul-le-mul_left line.num (omega (arith, metric_inequality (graph_in p line.cut.state.0) p.demands 1 (capacities p.links counts) line.cut.lengths line.cut.right here.routing here.carries is.right))
 
   -- what the cuts ask for is given by the pre-installed capacities, or paid for
-  pub asked_met : (den : ℕ) (lines : List Line) → All (IsLine links listed demands) lines
-      → ((e : ℕ) (l : Link) → slice_get links e ≡ Some l → All (λ m. price lines e * m.capacity ≤ den * m.cost) l.modules)
-      → asked lines ≤ given lines 0 links + den * total_cost links counts
-  asked_met den lines each priced = omega (
-    arith,
-    sums-le _ _ (IsLine links listed demands) lines (recursion_from_All (IsLine links listed demands) lines each) line_met,
-    summed (length links) (capacities links counts) lines,
-    capacities_priced den lines 0 (price lines) links counts able.shape (λ k. ap (price lines) (omega arith)) priced,
-  )
+  pub asked_met : (den : ℕ) (lines : List Line) → All (λ l. IsLine p l.cut) lines
+      → ((e : ℕ) (l : Link) → slice_get p.links e ≡ Some l → All (λ m. price lines e * m.capacity ≤ den * m.cost) l.modules)
+      → asked lines ≤ given p.links lines + den * total_cost p.links counts
+  asked_met den lines each priced =
+      let all = recursion_from_All (λ (l : Line). IsLine p l.cut) lines each in
+      omega (
+        arith,
+        sums-le _ _ (λ (l : Line). IsLine p l.cut) lines all line_met,
+        summed (length p.links) (capacities p.links counts) lines,
+        given_summed p lines all,
+        capacities_priced den (price lines) p.links counts able.shape priced,
+      )
 
 -- a number that divides all numbers of a list divides those of its parts
 pub divides_parts : (g : ℕ) (xs ys : List ℕ) → AllByRecursion (λ x. g ∣ x) (xs ++ ys) → AllByRecursion (λ x. g ∣ x) xs × AllByRecursion (λ x. g ∣ x) ys
@@ -102,6 +127,6 @@ bound_met links num den bound counts b paid =
     (omega (arith, paid))
 
 pub weak_duality : WeakDuality
-weak_duality links listed demands den lines bound counts c b able =
-    let met = asked_met links listed demands counts able den lines c.each c.priced in
-    bound_met links (raw_value links lines) den bound counts b (omega arith)
+weak_duality p den lines bound counts c b able =
+    let met = asked_met p counts able den lines c.each c.priced in
+    bound_met p.links (raw_value p.links lines) den bound counts b (omega (arith, met))

@@ -8,14 +8,13 @@ use Rattle.std.proofs.Math.Nat.{mul-le-mul_left, le_of_mul-le-mul_left}
 use Rattle.std.specs.List.{AllByRecursion}
 use Rattle.net_core.specs.declared.demand.Demand.{Demand}
 use Rattle.net_core.specs.declared.ids.LinkId.{LinkId}
-use Rattle.net_core.specs.declared.network.Link.{Link}
 use Rattle.net_core.specs.declared.plan.Flow.{Flow}
 use Rattle.net_core.specs.declared.plan.Routing.{Routing}
-use Rattle.net_core.specs.declared.states.Listed.{Listed}
 use Rattle.net_core.specs.States.{names_link}
 use Rattle.plan_terms.specs.Certificates.{IsRight}
 use Rattle.plan_terms.specs.Flows.{sent, load, IsFlow, Carries}
-use Rattle.plan_terms.specs.Paths.{IsPath, IsDistance, Joins, length_of}
+use Rattle.net_core.specs.Graphs.{Graph, Joins}
+use Rattle.plan_terms.specs.Paths.{IsPath, IsDistance, length_of}
 use Rattle.plan_terms.proofs.Distinct.{DistinctLinks, path_links_inside, path_links_differ}
 use Rattle.plan_terms.proofs.Sums.{sum_below, below-same, below-le, below-times, below-none, below-plus, below-swapped, below-one, sums-le, sums-same, sums-equal, sums-times, paired}
 
@@ -76,18 +75,18 @@ some_at [] k x d e = cc
 some_at (y ∷ ys) zero x d e = cc e
 some_at (y ∷ ys) (suc k) x d e = some_at ys k x d e
 
-module _ (links : List Link) (listed : List Listed) (s : ℕ) (demands : List Demand) where
+module _ (g : Graph) (demands : List Demand) where
   -- a flow's distance is no more than its path's length
-  flow_length : (lengths : List ℕ) (right : ℕ) (r : IsRight (Joins links listed s) lengths demands right) (f : Flow) → IsFlow (Joins links listed s) demands f
-      → f.num * unwrap_or (slice_index_or r.far f.demand None) 0 ≤ f.num * sum_below (length links) (λ e. cond (names_link e f.path) (slice_index lengths e) 0)
+  flow_length : (lengths : List ℕ) (right : ℕ) (r : IsRight (Joins g) lengths demands right) (f : Flow) → IsFlow (Joins g) demands f
+      → f.num * unwrap_or (slice_index_or r.far f.demand None) 0 ≤ f.num * sum_below (length g.links) (λ e. cond (names_link e f.path) (slice_index lengths e) 0)
   flow_length lengths right r f flow =
-      let inside = path_links_inside links listed s flow.of.from.0 flow.of.to.0 f.path flow.path in
-      let differ = path_links_differ links listed s flow.of.from.0 flow.of.to.0 f.path flow.path in
-      let short = near (Joins links listed s) lengths flow.of.from.0 flow.of.to.0 (slice_index_or r.far f.demand None) f.path (r.each f.demand flow.of flow.at) flow.path in
-      mul-le-mul_left f.num (omega (arith, links_length (length links) lengths f.path differ inside, short))
+      let inside = path_links_inside g flow.of.from.0 flow.of.to.0 f.path flow.path in
+      let differ = path_links_differ g flow.of.from.0 flow.of.to.0 f.path flow.path in
+      let short = near (Joins g) lengths flow.of.from.0 flow.of.to.0 (slice_index_or r.far f.demand None) f.path (r.each f.demand flow.of flow.at) flow.path in
+      mul-le-mul_left f.num (omega (arith, links_length (length g.links) lengths f.path differ inside, short))
 
   -- the right side over a routing's denominator is what its flows carry over their distances
-  right_carried : (scale : ℕ) (nums lengths : List ℕ) (right : ℕ) (routing : Routing) → Carries (Joins links listed s) demands scale nums routing → (r : IsRight (Joins links listed s) lengths demands right)
+  right_carried : (scale : ℕ) (nums lengths : List ℕ) (right : ℕ) (routing : Routing) → Carries (Joins g) demands scale nums routing → (r : IsRight (Joins g) lengths demands right)
       → right * (scale * routing.den) ≡ sum_below (length demands) (λ k. unwrap_or (slice_index_or r.far k None) 0 * sent routing.flows k)
   right_carried scale nums lengths right routing c r =
       let den = scale * routing.den in
@@ -99,15 +98,15 @@ module _ (links : List Link) (listed : List Listed) (s : ℕ) (demands : List De
       ∙ paired (λ (p : Demand × Option ℕ). den * (p.0.need * unwrap_or p.1 0)) demands r.far (λ k. unwrap_or (slice_index_or r.far k None) 0 * sent routing.flows k) r.count each)
 
   -- The metric inequality: where a routing carries the demands, their right side is at most the capacities along the lengths.
-  pub metric_inequality : (scale : ℕ) (nums lengths : List ℕ) (right : ℕ) (routing : Routing) → Carries (Joins links listed s) demands scale nums routing → IsRight (Joins links listed s) lengths demands right
-      → right * scale ≤ sum_below (length links) (λ e. slice_index lengths e * slice_index nums e)
+  pub metric_inequality : (scale : ℕ) (nums lengths : List ℕ) (right : ℕ) (routing : Routing) → Carries (Joins g) demands scale nums routing → IsRight (Joins g) lengths demands right
+      → right * scale ≤ sum_below (length g.links) (λ e. slice_index lengths e * slice_index nums e)
   metric_inequality scale nums lengths right routing c r =
-      let n = length links in
+      let n = length g.links in
       let far : ℕ → ℕ = λ k. unwrap_or (slice_index_or r.far k None) 0 in
-      let flows = recursion_from_All (IsFlow (Joins links listed s) demands) routing.flows c.flows in
-      let known : AllByRecursion (λ f. f.demand < length demands) routing.flows = all_weaker (IsFlow (Joins links listed s) demands) (λ f. f.demand < length demands) routing.flows (λ f p. slice_get_within demands f.demand p.of p.at) flows in
+      let flows = recursion_from_All (IsFlow (Joins g) demands) routing.flows c.flows in
+      let known : AllByRecursion (λ f. f.demand < length demands) routing.flows = all_weaker (IsFlow (Joins g) demands) (λ f. f.demand < length demands) routing.flows (λ f p. slice_get_within demands f.demand p.of p.at) flows in
       let longer : sum_by (λ f. f.num * far f.demand) routing.flows ≤ sum_by (λ f. f.num * sum_below n (λ e. cond (names_link e f.path) (slice_index lengths e) 0)) routing.flows =
-      sums-le _ _ (IsFlow (Joins links listed s) demands) routing.flows flows (λ f p. flow_length lengths right r f p) in
+      sums-le _ _ (IsFlow (Joins g) demands) routing.flows flows (λ f p. flow_length lengths right r f p) in
       let within : sum_below n (λ e. slice_index lengths e * load routing.flows e) ≤ sum_below n (λ e. routing.den * (slice_index lengths e * slice_index nums e)) =
       below-le n _ _ (λ e l. let times : slice_index lengths e * load routing.flows e ≤ slice_index lengths e * (slice_index nums e * routing.den) = mul-le-mul_left (slice_index lengths e) (c.within e) in omega arith) in
       let all : routing.den * (right * scale) ≤ routing.den * sum_below n (λ e. slice_index lengths e * slice_index nums e) =
@@ -115,7 +114,7 @@ module _ (links : List Link) (listed : List Listed) (s : ℕ) (demands : List De
       le_of_mul-le-mul_left all c.den
 
   -- the same with one number per link
-  pub metric_inequality_listed : (scale : ℕ) (nums lengths : List ℕ) (right : ℕ) (routing : Routing) → length lengths ≡ length links → length nums ≡ length links → Carries (Joins links listed s) demands scale nums routing → IsRight (Joins links listed s) lengths demands right
+  pub metric_inequality_listed : (scale : ℕ) (nums lengths : List ℕ) (right : ℕ) (routing : Routing) → length lengths ≡ length g.links → length nums ≡ length g.links → Carries (Joins g) demands scale nums routing → IsRight (Joins g) lengths demands right
       → right * scale ≤ sum_by (λ p. p.0 * p.1) (zip lengths nums)
   metric_inequality_listed scale nums lengths right routing count nums_count c r =
       let pairs : sum_by (λ p. p.0 * p.1) (zip lengths nums) ≡ sum_below (length lengths) (λ e. slice_index lengths e * slice_index nums e) =

@@ -4,8 +4,9 @@ use Rattle.std.proofs.Math.Nat.{mul-le-mul_left, le_of_mul-le-mul_left, mul-dvd-
 use Rattle.std.specs.Int.{◌∣◌, IsGcd}
 use Rattle.net_core.specs.declared.network.Module.{Module}
 use Rattle.net_core.specs.declared.network.Link.{Link}
-use Rattle.plan_terms.specs.Certificates.{IsLowest}
-use Rattle.plan_terms.specs.OwnBounds.{IsValid, IsMultiplier, IsLeastRatio}
+use Rattle.plan_terms.specs.Bounds.{IsLowest}
+use Rattle.plan_terms.specs.OwnBounds.{IsValid, IsMultiplier}
+use Rattle.plan_terms.specs.inner.Ratios.{IsLeastRatio}
 
 -- What is no less than a ratio c / s is no less than a lesser one. A size of 0 makes a ratio that is greater than all.
 pub smaller_ratio : (c s less less_size other other_size : ℕ) → less * s < c * less_size → c * other_size ≤ other * s → less * other_size ≤ other * less_size

@@ -1,13 +1,12 @@
 -- counts of modules: the capacity that they install, what they cost, and whether they are able
-use Rattle.std.specs.Prelude.{◌≡◌, ℕ, ◌+◌, ◌-◌, ◌*◌, ◌^◌, ◌<◌, ◌≤◌, List, Some, All, count_by, nat_lt, length, map, slice_get, sum_by, zip}
+use Rattle.std.specs.Prelude.{◌≡◌, ℕ, ◌+◌, ◌*◌, ◌^◌, ◌<◌, ◌≤◌, List, All, length, map, sum_by, zip}
 use Rattle.std.specs.List.{AllZip}
-use Rattle.net_core.specs.declared.demand.Demand.{Demand}
 use Rattle.net_core.specs.declared.network.Module.{Module}
 use Rattle.net_core.specs.declared.network.Link.{Link}
 use Rattle.net_core.specs.declared.plan.Routing.{Routing}
-use Rattle.net_core.specs.declared.states.Listed.{Listed}
+use Rattle.net_core.specs.Cases.{Case, graph_in}
+use Rattle.net_core.specs.Graphs.{Joins}
 use Rattle.plan_terms.specs.Flows.{Carries}
-use Rattle.plan_terms.specs.Paths.{Joins}
 
 -- the capacity of counts of modules
 abbrev pub modules_capacity : List Module → List ℕ → ℕ
@@ -35,31 +34,11 @@ pub record AreNarrow (links : List Link) (counts : List (List ℕ)) : Type 0 whe
   pub small : All (λ n. n < 2 ^ 46) (capacities links counts)
 
 -- in state s some routing carries the demands within the capacities of the counts
-pub record IsAbleIn (links : List Link) (listed : List Listed) (demands : List Demand) (counts : List (List ℕ)) (s : ℕ) : Type 0 where
+pub record IsAbleIn (p : Case) (counts : List (List ℕ)) (s : ℕ) : Type 0 where
   pub routing : Routing
-  pub carries : Carries (Joins links listed s) demands 1 (capacities links counts) routing
+  pub carries : Carries (Joins (graph_in p s)) p.demands 1 (capacities p.links counts) routing
 
 -- The counts are able: in each state some routing carries the demands. Counts, numerators and denominators are any whole numbers.
-pub record IsAble (links : List Link) (listed : List Listed) (demands : List Demand) (counts : List (List ℕ)) : Type 0 where
-  pub shape : AreCounts links counts
-  pub each : (s : ℕ) → s ≤ length listed → IsAbleIn links listed demands counts s
-
--- at most one kind of module has a count above 0
-abbrev pub AreOfOneKind : List ℕ → Type 0
-AreOfOneKind counts = count_by (λ n. nat_lt 0 n) counts ≤ 1
-
--- counts of one kind of a link's modules that reach a need
-pub record Reaches (modules : List Module) (need : ℕ) (counts : List ℕ) : Type 0 where
-  pub shape : length counts ≡ length modules
-  pub kind : AreOfOneKind counts
-  pub reached : need ≤ modules_capacity modules counts
-
--- such counts of least cost
-pub record AreCheapest (modules : List Module) (need : ℕ) (counts : List ℕ) : Type 0 where
-  pub reaches : Reaches modules need counts
-  pub least : (others : List ℕ) → Reaches modules need others → modules_cost modules counts ≤ modules_cost modules others
-
--- for each link, the cheapest counts of one kind that reach its load less its pre-installed capacity
-pub record AreCheapestCounts (links : List Link) (loads : ℕ → ℕ) (counts : List (List ℕ)) : Type 0 where
-  pub long : length counts ≡ length links
-  pub cheapest : (e : ℕ) (l : Link) (c : List ℕ) → slice_get links e ≡ Some l → slice_get counts e ≡ Some c → AreCheapest l.modules (loads e - l.fixed) c
+pub record IsAble (p : Case) (counts : List (List ℕ)) : Type 0 where
+  pub shape : AreCounts p.links counts
+  pub each : (s : ℕ) → s ≤ length p.listed → IsAbleIn p counts s

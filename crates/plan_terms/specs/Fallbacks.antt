@@ -1,14 +1,14 @@
--- the plan that takes one path for each demand that has a need, in each state, and the cheapest modules of one kind on each link
+-- the plan that takes one path for each demand that has a need, in each state, and covers the greatest load of each link
 use Rattle.std.specs.Prelude.{◌≡◌, ℕ, ◌+◌, ◌<◌, List, [], ◌∷◌, Some, All, AllPairs, Any, length, map, max, slice_get}
 use Rattle.net_core.specs.declared.demand.Demand.{Demand}
-use Rattle.net_core.specs.declared.network.Link.{Link}
 use Rattle.net_core.specs.declared.plan.Flow.{Flow}
 use Rattle.net_core.specs.declared.plan.Routing.{Routing}
-use Rattle.net_core.specs.declared.states.Listed.{Listed}
-use Rattle.plan_terms.specs.Capacities.{AreCounts, AreCheapestCounts, capacities, total_cost}
+use Rattle.net_core.specs.Cases.{Case, graph_in}
+use Rattle.net_core.specs.Graphs.{Joins}
+use Rattle.plan_terms.specs.Capacities.{AreCounts, capacities, total_cost}
+use Rattle.plan_terms.specs.Covers.{CoverLoads}
 use Rattle.plan_terms.specs.Flows.{Carries, load}
 use Rattle.plan_terms.specs.LeastPaths.{IsLeastPath}
-use Rattle.plan_terms.specs.Paths.{Joins}
 use Rattle.plan_terms.specs.Prices.{ArePriceLengths}
 
 -- the whole need of a demand along the least of its shortest paths
@@ -36,13 +36,13 @@ abbrev pub raised : List ℕ → List ℕ
 raised prices = map (λ n. n + 1) prices
 
 -- The fallback plan: in each state each demand that has a need takes the least of its paths that are shortest under the price lengths plus 1, each link's
--- counts are the cheapest of one kind that reach its greatest load less its pre-installed capacity, and so the routings carry the demands in each state.
-pub record IsFallback (links : List Link) (listed : List Listed) (demands : List Demand) (counts : List (List ℕ)) (routings : List Routing) (cost : ℕ) : Type 0 where
+-- counts cover its greatest load less its pre-installed capacity, and so the routings carry the demands in each state.
+pub record IsFallback (p : Case) (counts : List (List ℕ)) (routings : List Routing) (cost : ℕ) : Type 0 where
   pub prices : List ℕ
-  pub priced : ArePriceLengths links prices
-  pub states : length routings ≡ length listed + 1
-  pub routed : (s : ℕ) (r : Routing) → slice_get routings s ≡ Some r → IsLeastRouting (Joins links listed s) (raised prices) demands r
-  pub carries : (s : ℕ) (r : Routing) → slice_get routings s ≡ Some r → Carries (Joins links listed s) demands 1 (capacities links counts) r
-  pub shape : AreCounts links counts
-  pub cheapest : AreCheapestCounts links (peak routings) counts
-  pub paid : cost ≡ total_cost links counts
+  pub priced : ArePriceLengths p.links prices
+  pub states : length routings ≡ length p.listed + 1
+  pub routed : (s : ℕ) (r : Routing) → slice_get routings s ≡ Some r → IsLeastRouting (Joins (graph_in p s)) (raised prices) p.demands r
+  pub carries : (s : ℕ) (r : Routing) → slice_get routings s ≡ Some r → Carries (Joins (graph_in p s)) p.demands 1 (capacities p.links counts) r
+  pub shape : AreCounts p.links counts
+  pub covered : CoverLoads p.links (peak routings) counts
+  pub paid : cost ≡ total_cost p.links counts

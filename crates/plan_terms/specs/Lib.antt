@@ -1,5 +1,7 @@
+pub mod Bounds
 pub mod Capacities
 pub mod Certificates
+pub mod Covers
 pub mod Fallbacks
 pub mod Flows
 pub mod LeastPaths
@@ -7,3 +9,4 @@ pub mod OwnBounds
 pub mod Paths
 pub mod Prices
 pub mod Separations
+pub mod inner

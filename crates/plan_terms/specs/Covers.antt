@@ -1,0 +1,32 @@
+-- the cheapest modules of a link for a need
+use Rattle.std.specs.Prelude.{◌≡◌, ℕ, ◌-◌, ◌≤◌, List, Some, count_by, nat_lt, length, slice_get}
+use Rattle.net_core.specs.declared.network.Module.{Module}
+use Rattle.net_core.specs.declared.network.Link.{Link}
+use Rattle.plan_terms.specs.Capacities.{modules_capacity, modules_cost}
+
+-- counts of a link's modules that reach a need
+pub record Reaches (modules : List Module) (need : ℕ) (counts : List ℕ) : Type 0 where
+  pub shape : length counts ≡ length modules
+  pub reached : need ≤ modules_capacity modules counts
+
+-- at most one kind of module has a count above 0
+abbrev pub AreOfOneKind : List ℕ → Type 0
+AreOfOneKind counts = count_by (λ n. nat_lt 0 n) counts ≤ 1
+
+-- the cost of a cover: the least that counts of one kind of module cost which reach the need
+pub record IsCover (modules : List Module) (need cost : ℕ) : Type 0 where
+  pub counts : List ℕ
+  pub kind : AreOfOneKind counts
+  pub reaches : Reaches modules need counts
+  pub paid : modules_cost modules counts ≡ cost
+  pub least : (others : List ℕ) → AreOfOneKind others → Reaches modules need others → cost ≤ modules_cost modules others
+
+-- counts cover a need: they reach it at the cost of its cover
+pub record Covers (modules : List Module) (need : ℕ) (counts : List ℕ) : Type 0 where
+  pub reaches : Reaches modules need counts
+  pub cheapest : IsCover modules need (modules_cost modules counts)
+
+-- the counts of each link cover its load less its pre-installed capacity
+pub record CoverLoads (links : List Link) (loads : ℕ → ℕ) (counts : List (List ℕ)) : Type 0 where
+  pub long : length counts ≡ length links
+  pub each : (e : ℕ) (l : Link) (c : List ℕ) → slice_get links e ≡ Some l → slice_get counts e ≡ Some c → Covers l.modules (loads e - l.fixed) c
