@@ -1,6 +1,5 @@
 pub mod Carrying
 pub mod Choices
-pub mod Dearest
 pub mod Falling
 pub mod Numbers
 pub mod Pairs

@@ -10,7 +10,8 @@ ghost use Rattle.module_choice.specs.Routes.{AreCovered, AreRouted};
 
 use crate::covers::cover;
 use crate::loads::{loads_of, no_loads, raise};
-use crate::prices::{price_lengths, raised};
+use crate::prices::raised;
+use module_prices::price_lengths;
 use crate::routes::route_state;
 use crate::totals::cost;
 use net_core::{

@@ -10,7 +10,6 @@ pub mod totals;
 
 pub use covers::{Covering, cover};
 pub use fallback::{Fallback, fallback_plan};
-pub use prices::price_lengths;
 pub use totals::{capacities, cost};
 
 #[cfg(test)]

@@ -4,7 +4,7 @@ ghost use Rattle.net_core.specs.declared.demand.Demand.{Demand};
 ghost use Rattle.plan_terms.specs.Paths.{AreApart, Joins};
 ghost use Rattle.plan_terms.specs.Separations.{IsSurvivable};
 
-use crate::{capacities, cost, cover, fallback_plan, price_lengths};
+use crate::{capacities, cost, cover, fallback_plan};
 use net_core::{
     Counts, Demand, Demands, Lengths, Link, LinkId, List, Listed, Module, Name, Network, NoMemory,
     NodeId, Notes, StateId, States,
@@ -234,24 +234,6 @@ fn covers(rt: HostRuntime) -> Result<(), Fail> {
     ] {
         assert_eq!(rt; two_kinds(rt.alloc(), need)?, want);
     }
-    Ok(())
-}
-
-#[test]
-fn price_lengths_by_hand(rt: HostRuntime) -> Result<(), Fail> {
-    let alloc = rt.alloc();
-    let mut links = List::new(alloc);
-    put(&mut links, link(alloc, b'0', (0, 1), 0, &TEN)?)?;
-    put(&mut links, link(alloc, b'1', (0, 1), 0, &TWO_KINDS)?)?;
-    put(&mut links, link(alloc, b'2', (0, 1), 0, &FREE)?)?;
-    put(&mut links, link(alloc, b'3', (0, 1), 0, &[])?)?;
-    put(&mut links, link(alloc, b'4', (0, 1), 0, &ONE)?)?;
-    let prices = price_lengths(alloc, &joined(alloc, 2, links)?)?;
-    assert_eq!(rt; prices.items(), [8, 6, 0, 0, 16].as_slice());
-    let free = price_lengths(alloc, &network(alloc, 3, &[(0, 1), (1, 2)], 0, &FREE)?)?;
-    assert_eq!(rt; free.items(), [0, 0].as_slice());
-    let bare = price_lengths(alloc, &network(alloc, 2, &[(0, 1)], 0, &[])?)?;
-    assert_eq!(rt; bare.items(), [0].as_slice());
     Ok(())
 }
 

@@ -4,9 +4,12 @@ pub mod Certificates
 pub mod Covers
 pub mod Fallbacks
 pub mod Flows
+pub mod Keeping
 pub mod LeastPaths
+pub mod Openings
 pub mod OwnBounds
 pub mod Paths
 pub mod Prices
 pub mod Separations
+pub mod Violations
 pub mod inner

@@ -1,5 +1,5 @@
 -- the bound that a cut gives alone, with its greatest valid multiplier
-use Rattle.std.specs.Prelude.{◌≡◌, ℕ, ◌-◌, ◌*◌, ◌≤◌, List, Some, All, slice_get, slice_index}
+use Rattle.std.specs.Prelude.{◌≡◌, ℕ, ◌-◌, ◌*◌, ◌≤◌, ◌<◌, List, Some, All, slice_get, slice_index}
 use Rattle.std.specs.Int.{◌∣◌}
 use Rattle.net_core.specs.declared.network.Link.{Link}
 use Rattle.net_core.specs.declared.plan.CutLine.{CutLine}
@@ -25,6 +25,14 @@ pub record IsOwnBound (links : List Link) (lengths : List ℕ) (right bound : �
   pub den : ℕ
   pub multiplier : IsMultiplier links lengths num den
   pub rounded : IsBound links (num * (right - fixed_along lengths links)) den bound
+
+-- Cut k is the first of greatest own bound: each cut's own bound is at most that of cut k, and less where the cut stands before it.
+pub record IsBestOwn (links : List Link) (cuts : List CutLine) (k : ℕ) : Type 0 where
+  pub cut : CutLine
+  pub at : slice_get cuts k ≡ Some cut
+  pub best : ℕ
+  pub own : IsOwnBound links cut.lengths cut.right best
+  pub each : (i : ℕ) (c : CutLine) → slice_get cuts i ≡ Some c → (b : ℕ) × IsOwnBound links c.lengths c.right b × (b ≤ best) × (i < k → b < best)
 
 -- no able counts cost less than the own bound of a cut
 abbrev pub OwnBoundHolds : Type 0

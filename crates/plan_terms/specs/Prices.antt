@@ -1,12 +1,19 @@
--- price lengths: what a unit of capacity costs on each link, in sixteenths of the greatest such cost
+-- unit pairs, and price lengths: what a unit of capacity costs on each link, in sixteenths of the greatest such cost
 use Rattle.std.specs.Prelude.{◌≡◌, ◌≢◌, ℕ, ◌*◌, ◌/◌, ◌≤◌, ◌<◌, ◌⊎◌, List, [], Some, All, Any, Contains, length, slice_get, slice_index}
 use Rattle.net_core.specs.declared.network.Module.{Module}
 use Rattle.net_core.specs.declared.network.Link.{Link}
+use Rattle.plan_terms.specs.Bounds.{IsLowest}
 
 -- a module of least cost per capacity
 pub record HasLeastUnitCost (modules : List Module) (m : Module) : Type 0 where
   pub one : Contains modules m
   pub least : All (λ o. m.cost * o.capacity ≤ o.cost * m.capacity) modules
+
+-- The unit pair: capacity and cost of a module of least cost per capacity, without common divisor. All such modules have the same one.
+pub record IsUnitPair (modules : List Module) (capacity cost : ℕ) : Type 0 where
+  pub cheapest : Module
+  pub least : HasLeastUnitCost modules cheapest
+  pub lowest : IsLowest cheapest.cost cheapest.capacity cost capacity
 
 -- the cheapest module of some link, and no link's cheapest module costs more per capacity
 pub record HasGreatestUnitCost (links : List Link) (m : Module) : Type 0 where

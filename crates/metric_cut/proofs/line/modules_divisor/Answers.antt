@@ -1,5 +1,0 @@
-use Rattle.metric_cut.proofs.Costs.{module_divisor_step}
-use Rattle.metric_cut.proofs.line.modules_divisor.Goals as goal
-
-pub loop-m-preserved : goal.loop-m-preserved
-loop-m-preserved c = module_divisor_step c.loop-m.m-index c.args.modules.now _ c.loop-m.common c.gcd-common.result c.loop-m-test.true c.loop-m.invariant c.gcd-common.ensures

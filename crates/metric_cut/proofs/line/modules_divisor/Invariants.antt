@@ -1,7 +1,0 @@
-use Rattle.std.proofs.Common.{map, take}
-use Rattle.plan_terms.specs.Certificates.{IsGreatestDivisor}
-use Rattle.metric_cut.proofs.line.modules_divisor.Given as goal
-
--- the divisor of the costs so far
-abbrev pub invariant-loop-m : goal.invariant-loop-m
-invariant-loop-m l = IsGreatestDivisor (map (λ m. m.cost) (take l.m-index l.modules)) l.common

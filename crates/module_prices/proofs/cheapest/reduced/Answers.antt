@@ -1,0 +1,17 @@
+use Rattle.std.proofs.Common.{sym}
+use Rattle.std.proofs.Math.Nat.{div-mul_cancel}
+use Rattle.plan_terms.proofs.Bounds.{divisor_positive}
+use Rattle.plan_terms.proofs.Multipliers.{lowest_terms}
+use Rattle.module_prices.proofs.cheapest.reduced.Goals as goal
+
+pub nonzero_div-result : goal.nonzero_div-result
+nonzero_div-result c = divisor_positive _ c.args.m.now.capacity c.requires.carries c.gcd-common.ensures.1
+
+pub nonzero_div-result-2 : goal.nonzero_div-result-2
+nonzero_div-result-2 c = divisor_positive _ c.args.m.now.capacity c.requires.carries c.gcd-common.ensures.1
+
+pub returns : goal.returns
+returns c =
+    let m = c.args.m.now in
+    let gcd = c.gcd-common.ensures in
+    lowest_terms m.cost m.capacity c.gcd-common.result _ _ c.requires.carries gcd (sym (div-mul_cancel c.gcd-common.result gcd.0)) (sym (div-mul_cancel c.gcd-common.result gcd.1))
