@@ -1,6 +1,6 @@
 use crate::ids::{LinkId, StateId};
-use crate::list::{Copied, NoMemory};
-use crate::plan::{Lengths, Path};
+use crate::list::{Copied, List, NoMemory};
+use crate::plan::{Caps, Lengths, Path};
 
 /// A column of the program that routes the demands of a state.
 #[derive(Drop)]
@@ -42,6 +42,23 @@ pub enum WideKind<C> {
     Length(LinkId),
 }
 
+/// Why a program was not solved: a basis of it, and what of that basis is too wide.
+#[derive(Drop)]
+pub enum Evidence {
+    /// The program that routes a state's demands within these capacities.
+    Route {
+        state: StateId,
+        caps: Caps,
+        basis: List<RouteColumn>,
+        kind: WideKind<RouteColumn>,
+    },
+    /// The program that finds the best certificate of some cuts.
+    Master {
+        basis: List<MasterColumn>,
+        kind: WideKind<MasterColumn>,
+    },
+}
+
 impl Copied for RouteColumn {
     fn copy(&self) -> Result<RouteColumn, NoMemory> {
         Ok(match self {
@@ -71,6 +88,28 @@ impl<C: Copied> Copied for WideKind<C> {
             WideKind::Common => WideKind::Common,
             WideKind::Value => WideKind::Value,
             WideKind::Length(link) => WideKind::Length(*link),
+        })
+    }
+}
+
+impl Copied for Evidence {
+    fn copy(&self) -> Result<Evidence, NoMemory> {
+        Ok(match self {
+            Evidence::Route {
+                state,
+                caps,
+                basis,
+                kind,
+            } => Evidence::Route {
+                state: *state,
+                caps: caps.copy()?,
+                basis: basis.copy()?,
+                kind: kind.copy()?,
+            },
+            Evidence::Master { basis, kind } => Evidence::Master {
+                basis: basis.copy()?,
+                kind: kind.copy()?,
+            },
         })
     }
 }

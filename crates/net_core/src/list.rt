@@ -1,4 +1,4 @@
-ghost use Rattle.std.specs.Prelude.{◌≡◌, ◌+◌, ◌<◌, ◌++◌, [], ◌∷◌, length, OnOk, OnErr, IfErr, IfOk, IsSome, ◌↔◌, slice_set, replicate};
+ghost use Rattle.std.specs.Prelude.{◌≡◌, ◌+◌, ◌<◌, ◌++◌, [], ◌∷◌, length, OnOk, OnErr, IfErr, IfOk, IsSome, ◌↔◌, slice_set, replicate, remove};
 ghost use Rattle.std.specs.Option.{option_to_list};
 
 use std::alloc::{AllocError, AllocFailed, Global};
@@ -96,6 +96,14 @@ impl<T> List<T> {
         ensures { result ≡ length self.now }
     {
         self.items.len()
+    }
+
+    /// Takes an item out; those after it move up, in time that grows with their number.
+    pub fn remove(&mut self, at: usize) -> T
+        requires { at < length self.old }
+        ensures items { self.new ≡ remove self.old at }
+    {
+        self.items.remove(at)
     }
 
     /// The list of a vector's items.

@@ -2,6 +2,7 @@ pub mod Bounds
 pub mod Capacities
 pub mod Certificates
 pub mod Covers
+pub mod Edits
 pub mod Fallbacks
 pub mod Flows
 pub mod Keeping
