@@ -5,35 +5,35 @@ use Rattle.net_core.specs.declared.ids.LinkId.{LinkId}
 use Rattle.plan_terms.specs.Paths.{Leads, last_node, AreApart}
 use Rattle.plan_terms.proofs.Walks.{walk_none, walk_on, closed_reaches}
 use Rattle.plan_terms.proofs.Shortcuts.{shortcut}
-use Rattle.failure_states.specs.Labels.{AreLinked, AreLabels, IsMerged}
+use Rattle.failure_states.specs.inner.Components.{AreConnected, AreComponents, IsMerged}
 
 module _ (joins : ℕ → ℕ → ℕ → Type 0) where
   -- further links from where links lead to
-  reaches_leads : (a b : ℕ) (es : List LinkId) (cs : List ℕ) → AreLinked joins a b → Leads joins b es cs → AreLinked joins a (last_node b cs)
+  reaches_leads : (a b : ℕ) (es : List LinkId) (cs : List ℕ) → AreConnected joins a b → Leads joins b es cs → AreConnected joins a (last_node b cs)
   reaches_leads a b [] [] r leads = r
   reaches_leads a b (e ∷ es) (c ∷ cs) r leads = reaches_leads a c es cs (r.0 + get_or [] e.0 0, walk_on joins [] a b r.0 e.0 c r.1 leads.0) leads.1
   reaches_leads a b [] (c ∷ cs) r leads = absurd leads
   reaches_leads a b (e ∷ es) [] r leads = absurd leads
 
-  reaches_on : (a b c : ℕ) → AreLinked joins a b → AreLinked joins b c → AreLinked joins a c
-  reaches_on a b c r s = subst (AreLinked joins a) s.1.ends (reaches_leads a b s.1.along s.1.nodes r s.1.leads)
+  reaches_on : (a b c : ℕ) → AreConnected joins a b → AreConnected joins b c → AreConnected joins a c
+  reaches_on a b c r s = subst (AreConnected joins a) s.1.ends (reaches_leads a b s.1.along s.1.nodes r s.1.leads)
 
-  reaches_link : (e a b : ℕ) → joins e a b → AreLinked joins a b
+  reaches_link : (e a b : ℕ) → joins e a b → AreConnected joins a b
   reaches_link e a b j = (0 + get_or [] e 0, walk_on joins [] a a 0 e b (walk_none joins [] a) j)
 
   -- before any link, each node has its own label
-  pub labels_none : (n : ℕ) (labels : List ℕ) → length labels ≡ n → ((k : ℕ) → k < n → get_or labels k 0 ≡ k) → AreLabels joins n 0 labels
-  labels_none n labels size own = record {
+  pub components_none : (n : ℕ) (labels : List ℕ) → length labels ≡ n → ((k : ℕ) → k < n → get_or labels k 0 ≡ k) → AreComponents joins n 0 labels
+  components_none n labels size own = record {
     size = size;
     closed = λ e x y lt j. absurd (omega (arith, lt));
     sound = λ x y lx ly same.
         let one : x ≡ y = omega (arith, own x lx, own y ly) in
-        subst (AreLinked joins x) one (0, walk_none joins [] x);
+        subst (AreConnected joins x) one (0, walk_none joins [] x);
   }
 
   -- a link that joins nothing changes nothing
-  pub labels_skip : (n e : ℕ) (labels : List ℕ) → ((x y : ℕ) → joins e x y → ⊥) → AreLabels joins n e labels → AreLabels joins n (e + 1) labels
-  labels_skip n e labels none h = record {
+  pub components_skip : (n e : ℕ) (labels : List ℕ) → ((x y : ℕ) → joins e x y → ⊥) → AreComponents joins n e labels → AreComponents joins n (e + 1) labels
+  components_skip n e labels none h = record {
     size = h.size;
     closed = λ f x y lt j. ⊎_elim
         (λ is. absurd (none x y (subst (λ k. joins k x y) is j)))
@@ -68,8 +68,8 @@ module _ (joins : ℕ → ℕ → ℕ → Type 0) where
         (cases_eq (get_or old x 0) (get_or old b 0))
 
   -- a link between a and b merges their labels
-  pub labels_merge : (n e a b : ℕ) (old new : List ℕ) → a < n → b < n → joins e a b → joins e b a → ((x y : ℕ) → joins e x y → ((a ≡ x) × (b ≡ y)) ⊎ ((b ≡ x) × (a ≡ y))) → ((f x y : ℕ) → joins f x y → (x < n) × (y < n)) → IsMerged a b old new → AreLabels joins n e old → AreLabels joins n (e + 1) new
-  labels_merge n e a b old new la lb there back ends within m h =
+  pub components_merge : (n e a b : ℕ) (old new : List ℕ) → a < n → b < n → joins e a b → joins e b a → ((x y : ℕ) → joins e x y → ((a ≡ x) × (b ≡ y)) ⊎ ((b ≡ x) × (a ≡ y))) → ((f x y : ℕ) → joins f x y → (x < n) × (y < n)) → IsMerged a b old new → AreComponents joins n e old → AreComponents joins n (e + 1) new
+  components_merge n e a b old new la lb there back ends within m h =
       let one : get_or new a 0 ≡ get_or new b 0 = merged_first a b old new m (omega (arith, h.size)) ∙ sym (m.moved b (omega (arith, h.size)) refl) in
       record {
         size = m.size ∙ h.size;
@@ -90,13 +90,13 @@ module _ (joins : ℕ → ℕ → ℕ → Type 0) where
       }
 
   -- nodes of different labels are apart
-  pub labels_apart : (n links a b : ℕ) (labels : List ℕ) → ((e x y : ℕ) → joins e x y → e < links) → AreLabels joins n links labels → get_or labels a 0 ≢ get_or labels b 0 → AreApart joins a b
-  labels_apart n links a b labels below h differ = λ es path.
+  pub components_apart : (n links a b : ℕ) (labels : List ℕ) → ((e x y : ℕ) → joins e x y → e < links) → AreComponents joins n links labels → get_or labels a 0 ≢ get_or labels b 0 → AreApart joins a b
+  components_apart n links a b labels below h differ = λ es path.
       differ (sym (closed_reaches joins (λ k. get_or labels k 0 ≡ get_or labels a 0) (λ e x y j here. sym (h.closed e x y (below e x y j) j) ∙ here) a b es path refl))
 
   -- nodes of one label are not
-  pub labels_joined : (n links a b : ℕ) (labels : List ℕ) → AreLabels joins n links labels → a < n → b < n → get_or labels a 0 ≡ get_or labels b 0 → AreApart joins a b → ⊥
-  labels_joined n links a b labels h la lb same apart =
+  pub components_joined : (n links a b : ℕ) (labels : List ℕ) → AreComponents joins n links labels → a < n → b < n → get_or labels a 0 ≡ get_or labels b 0 → AreApart joins a b → ⊥
+  components_joined n links a b labels h la lb same apart =
       let r = h.sound a b la lb same in
       let v = shortcut joins [] a b r.1.along r.1.nodes r.1.leads r.1.ends in
       apart v.along v.path

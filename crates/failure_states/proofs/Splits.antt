@@ -5,14 +5,13 @@ use Rattle.std.specs.Prelude.{MatchOption}
 use Rattle.std.proofs.lemmas.Bool.{cases_eq}
 use Rattle.std.proofs.lemmas.Option.{slice_get_read, slice_get_within, get_or_from_slice_get}
 use Rattle.net_core.specs.declared.demand.Demand.{Demand}
-use Rattle.net_core.specs.declared.network.Link.{Link}
-use Rattle.net_core.specs.declared.states.Listed.{Listed}
 use Rattle.net_core.specs.Demands.{AreDemands, IsDemand}
-use Rattle.plan_terms.specs.Paths.{Joins}
+use Rattle.net_core.specs.Cases.{Case, graph_in}
+use Rattle.net_core.specs.Graphs.{Joins}
 use Rattle.plan_terms.specs.Separations.{Separates}
 use Rattle.plan_terms.proofs.Joining.{joins_below}
-use Rattle.failure_states.specs.Labels.{AreLabels, HasEndsBelow, IsFirst, IsSplit}
-use Rattle.failure_states.proofs.Labelling.{labels_apart, labels_joined}
+use Rattle.failure_states.specs.inner.Components.{AreComponents, HasEndsBelow, IsFirst, IsSplit}
+use Rattle.failure_states.proofs.Labelling.{components_apart, components_joined}
 
 -- what is said of the demand at place k is said of the one that stands there
 pub split_test : (labels : List ℕ) (demands : List Demand) (k : ℕ) (d : Demand) → k < length demands → d ≡ get_or demands k d → IsSplit labels demands k → (0 < d.need) × (get_or labels d.from.0 0 ≢ get_or labels d.to.0 0)
@@ -35,43 +34,43 @@ split_none labels demands k all before j s = before j (omega (arith, slice_get_w
 pub ends_below : (n : ℕ) (demands : List Demand) → AreDemands n demands → All (HasEndsBelow n) demands
 ends_below n demands are = λ k d lt. let is = are.each k d lt in (is.from_known, is.to_known)
 
-module _ (links : List Link) (listed : List Listed) (n s : ℕ) (labels : List ℕ) (h : AreLabels (Joins links listed s) n (length links) labels) (demands : List Demand) (are : AreDemands n demands) where
-  split_separates : (k : ℕ) → IsSplit labels demands k → Separates links listed demands s k
+module _ (c : Case) (n s : ℕ) (labels : List ℕ) (h : AreComponents (Joins (graph_in c s)) n (length c.links) labels) (are : AreDemands n c.demands) where
+  split_separates : (k : ℕ) → IsSplit labels c.demands k → Separates c s k
   split_separates k p = record {
     demand = p.demand;
     at = p.at;
     needed = p.needed;
-    apart = labels_apart (Joins links listed s) n (length links) p.demand.from.0 p.demand.to.0 labels (joins_below links listed s) h p.differ;
+    apart = components_apart (Joins (graph_in c s)) n (length c.links) p.demand.from.0 p.demand.to.0 labels (joins_below (graph_in c s)) h p.differ;
   }
 
-  separates_split : (k : ℕ) → Separates links listed demands s k → IsSplit labels demands k
+  separates_split : (k : ℕ) → Separates c s k → IsSplit labels c.demands k
   separates_split k p =
-      let lt : k < length demands = slice_get_within demands k p.demand p.at in
-      let is : IsDemand n p.demand = subst (IsDemand n) (get_or_from_slice_get demands k p.demand p.demand p.at) (are.each k p.demand lt) in
+      let lt : k < length c.demands = slice_get_within c.demands k p.demand p.at in
+      let is : IsDemand n p.demand = subst (IsDemand n) (get_or_from_slice_get c.demands k p.demand p.demand p.at) (are.each k p.demand lt) in
       record {
         demand = p.demand;
         at = p.at;
         needed = p.needed;
-        differ = λ e. labels_joined (Joins links listed s) n (length links) p.demand.from.0 p.demand.to.0 labels h is.from_known is.to_known e p.apart;
+        differ = λ e. components_joined (Joins (graph_in c s)) n (length c.links) p.demand.from.0 p.demand.to.0 labels h is.from_known is.to_known e p.apart;
       }
 
-  none_separates : ((k : ℕ) → IsSplit labels demands k → ⊥) → (k : ℕ) → Separates links listed demands s k → ⊥
+  none_separates : ((k : ℕ) → IsSplit labels c.demands k → ⊥) → (k : ℕ) → Separates c s k → ⊥
   none_separates none k p = none k (separates_split k p)
 
-  first_separates : (k : ℕ) → IsFirst (IsSplit labels demands) k → IsFirst (Separates links listed demands s) k
+  first_separates : (k : ℕ) → IsFirst (IsSplit labels c.demands) k → IsFirst (Separates c s) k
   first_separates k f = record {
     here = split_separates k f.here;
     least = λ j lt p. f.least j lt (separates_split j p);
   }
 
   -- so the first split demand is the first that the state separates
-  pub answer_separates : (r : Option ℕ) → MatchOption r ((k : ℕ) → IsSplit labels demands k → ⊥) (IsFirst (IsSplit labels demands)) → MatchOption r ((k : ℕ) → Separates links listed demands s k → ⊥) (IsFirst (Separates links listed demands s))
+  pub answer_separates : (r : Option ℕ) → MatchOption r ((k : ℕ) → IsSplit labels c.demands k → ⊥) (IsFirst (IsSplit labels c.demands)) → MatchOption r ((k : ℕ) → Separates c s k → ⊥) (IsFirst (Separates c s))
   answer_separates None r = none_separates r
   answer_separates (Some k) r = first_separates k r
 
 -- one more state separates nothing
-pub states_more : (links : List Link) (listed : List Listed) (demands : List Demand) (s : ℕ) → ((k : ℕ) → Separates links listed demands s k → ⊥) → ((t k : ℕ) → t < s → Separates links listed demands t k → ⊥) → (t k : ℕ) → t < s + 1 → Separates links listed demands t k → ⊥
-states_more links listed demands s none before t k lt p = ⊎_elim
-    (λ e. none k (subst (λ x. Separates links listed demands x k) e p))
+pub states_more : (c : Case) (s : ℕ) → ((k : ℕ) → Separates c s k → ⊥) → ((t k : ℕ) → t < s → Separates c t k → ⊥) → (t k : ℕ) → t < s + 1 → Separates c t k → ⊥
+states_more c s none before t k lt p = ⊎_elim
+    (λ e. none k (subst (λ x. Separates c x k) e p))
     (λ ne. before t k (omega arith) p)
     (cases_eq t s)

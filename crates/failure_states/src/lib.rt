@@ -1,7 +1,7 @@
 //! Links that survive a failure state, and the first demand that a state separates.
 #![tactic(auto)]
 
-mod labels;
+mod components;
 mod separations;
 mod survival;
 

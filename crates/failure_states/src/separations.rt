@@ -1,13 +1,14 @@
 ghost use Rattle.std.specs.Prelude.{◌≡◌, ◌≢◌, ℕ, ◌+◌, ◌≤◌, ◌<◌, ◌↔◌, IsTrue, All, IfOk, MatchOption, length, slice_index};
 ghost use Rattle.net_core.specs.Demands.{AreDemands};
+ghost use Rattle.net_core.specs.Views.{case, case_of};
 ghost use Rattle.plan_terms.specs.Separations.{IsFirstSeparation, IsSurvivable, Separates};
-ghost use Rattle.failure_states.specs.Labels.{HasEndsBelow, IsFirst, IsSplit};
+ghost use Rattle.failure_states.specs.inner.Components.{HasEndsBelow, IsFirst, IsSplit};
 
-use crate::labels::label_nodes;
-use net_core::{Demand, Demands, Network, NoMemory, StateId, States};
+use crate::components::label_components;
+use net_core::{Demand, Demands, Instance, Network, NoMemory, StateId, States, Surviving};
 use std::alloc::Global;
 
-/// A state and the place of a demand whose ends no path of the state joins.
+/// A state, and the place in the list of a demand whose ends no path of the state joins.
 #[derive(Clone, Copy, Debug, PartialEq, Eq)]
 pub struct Separation {
     pub state: StateId,
@@ -37,51 +38,48 @@ fn first_split(labels: &[u32], demands: &[Demand]) -> Option<u32>
 }
 
 /// The first demand that a state separates. The labels are room for one number per node.
-fn first_in_state(
-    net: &Network,
-    states: &States,
-    state: StateId,
-    demands: &Demands,
-    labels: &mut [u32],
-) -> Option<u32>
-    requires state { state.0 < length states.now.listed + 1 }
-    requires demands { AreDemands (length net.now.nodes) demands.now }
-    requires size { length labels.old ≡ length net.now.nodes }
+fn first_in_state(instance: &Instance, state: StateId, labels: &mut [u32]) -> Option<u32>
+    requires state { state.0 < length instance.now.states.now.listed + 1 }
+    requires size { length labels.old ≡ length instance.now.net.now.nodes }
     ensures size { length labels.new ≡ length labels.old }
     ensures first { MatchOption result
-        ((k : ℕ) → Separates net.now.links states.now.listed demands.now state.0 k → ⊥)
-        (IsFirst (Separates net.now.links states.now.listed demands.now state.0)) }
+        ((k : ℕ) → Separates (case_of instance.now) state.0 k → ⊥)
+        (IsFirst (Separates (case_of instance.now) state.0)) }
 {
-    label_nodes(net, states, state, labels);
-    first_split(labels, demands.items())
+    let graph = Surviving {
+        net: instance.net,
+        states: instance.states,
+        state,
+    };
+    label_components(&graph, labels);
+    first_split(labels, instance.demands.items())
 }
 
 /// The first separation of all states. The labels are room for one number per node.
-fn first_of_states(
-    net: &Network,
-    states: &States,
-    demands: &Demands,
-    labels: &mut [u32],
-) -> Option<Separation>
-    requires demands { AreDemands (length net.now.nodes) demands.now }
-    requires size { length labels.old ≡ length net.now.nodes }
+fn first_of_states(instance: &Instance, labels: &mut [u32]) -> Option<Separation>
+    requires { length labels.old ≡ length instance.now.net.now.nodes }
     ensures { MatchOption result
-        (IsSurvivable net.now.links states.now.listed demands.now)
-        (λ s. IsFirstSeparation net.now.links states.now.listed demands.now s.state.0 s.demand) }
+        (IsSurvivable (case_of instance.now))
+        (λ s. IsFirstSeparation (case_of instance.now) s.state.0 s.demand) }
 {
-    for s in 0..states.count() {
+    for s in 0..instance.states.count() {
         let state = StateId(s);
-        if let Some(demand) = first_in_state(net, states, state, demands, labels) {
+        if let Some(demand) = first_in_state(instance, state, labels) {
             return Some(Separation { state, demand });
         }
     }
     None
 }
 
-/// The first separation: the least state and then the least demand of positive need whose ends no path of the state
-/// joins.
+/// The first separation: the least state, and in it the first demand of positive need whose ends no path of the state
+/// joins. A network without one is survivable.
 ///
-/// The time grows with the states, and for each with the links, the demands and the square of the nodes.
+/// It takes one number per node of memory, and for each state time in the square of the nodes, the demands, and the
+/// links by the failed links of the state.
+///
+/// In the chain of links AB and BC with a demand D1 from A to C, and a state that fails BC, this is
+/// `Some(Separation { state: StateId(1), demand: 0 })`. Where D1 has no need, or where a third link joins A and C, it
+/// is `None`.
 pub fn first_separated(
     alloc: Global,
     net: &Network,
@@ -89,12 +87,14 @@ pub fn first_separated(
     demands: &Demands,
 ) -> Result<Option<Separation>, NoMemory>
     requires { AreDemands (length net.now.nodes) demands.now }
-    ensures { IfOk result (λ r. MatchOption r
-        (IsSurvivable net.now.links states.now.listed demands.now)
-        (λ s. IsFirstSeparation net.now.links states.now.listed demands.now s.state.0 s.demand)) }
+    ensures { let c = case net.now states.now demands.now in
+        IfOk result (λ r. MatchOption r (IsSurvivable c) (λ s. IsFirstSeparation c s.state.0 s.demand)) }
 {
-    let Ok(mut labels) = vec![in alloc; 0u32; net.nodes().len()] else {
-        return Err(NoMemory);
+    let mut labels = vec![in alloc; 0u32; net.nodes().len()]?;
+    let instance = Instance {
+        net,
+        states,
+        demands,
     };
-    Ok(first_of_states(net, states, demands, &mut labels))
+    Ok(first_of_states(&instance, &mut labels))
 }

@@ -7,34 +7,27 @@ use net_core::{
     StateId, States,
 };
 use std::alloc::Global;
+use std::process::Abort;
 use std::test::Fail;
 
 fn put<T: Drop>(items: &mut List<T>, item: T) -> Result<(), NoMemory> {
-    match items.push(item) {
-        Ok(()) => Ok(()),
-        Err(_) => Err(NoMemory),
-    }
+    items.push(item)?;
+    Ok(())
 }
 
 /// A link with as many modules of 10.00 for 5.00 as are asked for.
 fn link(alloc: Global, name: u8, ends: (u32, u32), modules: usize) -> Result<Link, Fail> {
-    let mut kinds = List::new(alloc);
-    for _ in 0..modules {
-        put(
-            &mut kinds,
-            Module {
-                capacity: 10000,
-                cost: 5000,
-            },
-        )?;
-    }
+    let kind = Module {
+        capacity: 10000,
+        cost: 5000,
+    };
     Ok(Link {
         name: Name::new(alloc, &[name])?,
         a: NodeId(ends.0),
         b: NodeId(ends.1),
         fixed: 0,
         setup: 0,
-        modules: kinds,
+        modules: List::filled(alloc, kind, modules)?,
     })
 }
 
@@ -65,15 +58,11 @@ fn states(alloc: Global, net: &Network, failed: &[u32]) -> Result<States, Fail> 
     let mut listed = List::new(alloc);
     let mut name = b'f';
     for e in failed {
-        let mut links = List::new(alloc);
-        put(&mut links, LinkId(*e))?;
-        put(
-            &mut listed,
-            Listed {
-                name: Name::new(alloc, &[name])?,
-                links,
-            },
-        )?;
+        let state = Listed {
+            name: Name::new(alloc, &[name])?,
+            links: List::filled(alloc, LinkId(*e), 1)?,
+        };
+        put(&mut listed, state)?;
         name = name.wrapping_add(1);
     }
     Ok(States::new(net, listed)?)
@@ -98,51 +87,91 @@ fn one_demand(alloc: Global, nodes: u32, need: u64) -> Result<Demands, Fail>
     Ok(demands)
 }
 
-#[test]
-fn chain_is_separated_by_its_state(rt: HostRuntime) -> Result<(), Fail> {
+/// A network, its states, the need of its one demand, and what is found.
+#[derive(Clone, Copy)]
+struct Row {
+    name: &'static str,
+    nodes: u8,
+    ends: &'static [(u32, u32)],
+    modules: usize,
+    failed: &'static [u32],
+    need: u64,
+    found: Option<Separation>,
+}
+
+const IN_STATE_F: Separation = Separation {
+    state: StateId(1),
+    demand: 0,
+};
+
+const WITHOUT_FAILURE: Separation = Separation {
+    state: StateId(0),
+    demand: 0,
+};
+
+fn rows() -> [Row; 4] {
+    [
+        Row {
+            name: "the chain is separated by the state that fails its last link",
+            nodes: 3,
+            ends: &[(0, 1), (1, 2)],
+            modules: 1,
+            failed: &[1],
+            need: 12000,
+            found: Some(IN_STATE_F),
+        },
+        Row {
+            name: "a demand of 0 is separated by nothing",
+            nodes: 3,
+            ends: &[(0, 1), (1, 2)],
+            modules: 1,
+            failed: &[1],
+            need: 0,
+            found: None,
+        },
+        Row {
+            name: "a link without modules joins nothing",
+            nodes: 2,
+            ends: &[(0, 1)],
+            modules: 0,
+            failed: &[],
+            need: 1000,
+            found: Some(WITHOUT_FAILURE),
+        },
+        Row {
+            name: "the triangle survives each link",
+            nodes: 3,
+            ends: &[(0, 1), (1, 2), (0, 2)],
+            modules: 1,
+            failed: &[0, 1, 2],
+            need: 12000,
+            found: None,
+        },
+    ]
+}
+
+/// What is found in the network of a row.
+fn found<R: AllocGlobal + Abort>(rt: &R, row: &Row) -> Result<Option<Separation>, Fail> {
     let alloc = rt.alloc();
-    let net = network(alloc, 3, &[(0, 1), (1, 2)], 1)?;
-    let states = states(alloc, &net, &[1])?;
-    assert!(rt; net.nodes().len() == 3);
-    let found = first_separated(alloc, &net, &states, &one_demand(alloc, 3, 12000)?)?;
-    let expected = Separation {
-        state: StateId(1),
-        demand: 0,
-    };
-    assert_eq!(rt; found, Some(expected));
-    let none = first_separated(alloc, &net, &states, &one_demand(alloc, 3, 0)?)?;
-    assert_eq!(rt; none, None);
+    assert!(rt; row.nodes >= 2 && row.nodes < 26 && row.need < 1 << 40);
+    let net = network(alloc, row.nodes, row.ends, row.modules)?;
+    let states = states(alloc, &net, row.failed)?;
+    assert!(rt; net.nodes().len() == row.nodes as usize);
+    let demands = one_demand(alloc, row.nodes as u32, row.need)?;
+    Ok(first_separated(alloc, &net, &states, &demands)?)
+}
+
+#[test]
+fn first_separations_are_found(rt: HostRuntime) -> Result<(), Fail> {
+    for row in &rows() {
+        let found = found(&rt, row)?;
+        assert_eq!(rt; (row.name, found), (row.name, row.found));
+    }
     Ok(())
 }
 
 #[test]
-fn link_without_modules_joins_nothing(rt: HostRuntime) -> Result<(), Fail> {
-    let alloc = rt.alloc();
-    let net = network(alloc, 2, &[(0, 1)], 0)?;
-    let states = states(alloc, &net, &[])?;
-    assert!(rt; net.nodes().len() == 2);
-    let found = first_separated(alloc, &net, &states, &one_demand(alloc, 2, 1000)?)?;
-    let expected = Separation {
-        state: StateId(0),
-        demand: 0,
-    };
-    assert_eq!(rt; found, Some(expected));
-    Ok(())
-}
-
-#[test]
-fn triangle_survives_each_link(rt: HostRuntime) -> Result<(), Fail> {
-    let alloc = rt.alloc();
-    let net = network(alloc, 3, &[(0, 1), (1, 2), (0, 2)], 1)?;
-    let states = states(alloc, &net, &[0, 1, 2])?;
-    assert!(rt; net.nodes().len() == 3);
-    let none = first_separated(alloc, &net, &states, &one_demand(alloc, 3, 12000)?)?;
-    assert_eq!(rt; none, None);
-    Ok(())
-}
-
-#[test]
-fn failed_links_and_links_without_modules_do_not_survive(rt: HostRuntime) -> Result<(), Fail> {
+fn failed_links_do_not_survive(rt: HostRuntime) -> Result<(), Fail> {
     let alloc = rt.alloc();
     let net = network(alloc, 3, &[(0, 1), (1, 2)], 1)?;
     let failing = states(alloc, &net, &[1])?;
@@ -150,9 +179,5 @@ fn failed_links_and_links_without_modules_do_not_survive(rt: HostRuntime) -> Res
     assert!(rt; survives(&net, &failing, StateId(0), LinkId(1)));
     assert!(rt; survives(&net, &failing, StateId(1), LinkId(0)));
     assert!(rt; !survives(&net, &failing, StateId(1), LinkId(1)));
-    let bare = network(alloc, 2, &[(0, 1)], 0)?;
-    let none = states(alloc, &bare, &[])?;
-    assert!(rt; bare.links().len() == 1 && none.count() == 1);
-    assert!(rt; !survives(&bare, &none, StateId(0), LinkId(0)));
     Ok(())
 }

@@ -3,4 +3,4 @@ use Rattle.failure_states.proofs.separations.first_in_state.Goals as goal
 
 pub returns-clause-first : goal.returns-clause-first
 returns-clause-first c =
-    answer_separates _ _ _ _ _ c.label_nodes.ensures _ c.requires.demands _ (rw c.items.ensures at c.first_split.ensures)
+    answer_separates _ _ _ _ c.label_components.ensures c.args.instance.now.belong _ (rw c.items.ensures at c.first_split.ensures)

@@ -1,7 +1,8 @@
 use Rattle.std.proofs.Common.{◌≡◌, ℕ, ◌<◌, length}
+use Rattle.net_core.specs.Views.{case_of}
 use Rattle.plan_terms.specs.Separations.{Separates}
 use Rattle.failure_states.proofs.separations.first_of_states.Given as goal
 
 -- no state so far separates a demand
 abbrev pub invariant-loop-s : goal.invariant-loop-s
-invariant-loop-s l = (length l.labels ≡ length l.net.nodes) × ((t k : ℕ) → t < l.s → Separates l.net.links l.states.listed l.demands t k → ⊥)
+invariant-loop-s l = (length l.labels ≡ length l.instance.net.now.nodes) × ((t k : ℕ) → t < l.s → Separates (case_of l.instance) t k → ⊥)

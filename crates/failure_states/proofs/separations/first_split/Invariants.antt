@@ -1,5 +1,5 @@
 use Rattle.std.proofs.Common.{ℕ, ◌<◌}
-use Rattle.failure_states.specs.Labels.{IsSplit}
+use Rattle.failure_states.specs.inner.Components.{IsSplit}
 use Rattle.failure_states.proofs.separations.first_split.Given as goal
 
 -- no demand so far is split

@@ -1,17 +1,17 @@
--- labels of nodes, where nodes of one label are those that links lead between
+-- the connected components of a graph, as labels of its nodes: nodes have one label where links lead between them
 use Rattle.std.specs.Prelude.{◌≡◌, ◌≢◌, ℕ, ◌<◌, List, [], Some, length, slice_get, slice_index}
 use Rattle.net_core.specs.declared.demand.Demand.{Demand}
-use Rattle.plan_terms.specs.Paths.{Walk}
+use Rattle.plan_terms.specs.inner.Walks.{Walk}
 
 -- links lead from a to b, perhaps along a node twice
-abbrev pub AreLinked : (ℕ → ℕ → ℕ → Type 0) → ℕ → ℕ → Type 0
-AreLinked joins a b = (d : ℕ) × Walk joins [] a b d
+abbrev pub AreConnected : (ℕ → ℕ → ℕ → Type 0) → ℕ → ℕ → Type 0
+AreConnected joins a b = (d : ℕ) × Walk joins [] a b d
 
--- labels of n nodes by the first links: a link joins nodes of one label, and links lead between any two nodes of one label
-pub record AreLabels (joins : ℕ → ℕ → ℕ → Type 0) (n links : ℕ) (labels : List ℕ) : Type 0 where
+-- the components of n nodes by the first links: a link joins nodes of one label, and links lead between any two nodes of one label
+pub record AreComponents (joins : ℕ → ℕ → ℕ → Type 0) (n links : ℕ) (labels : List ℕ) : Type 0 where
   pub size : length labels ≡ n
   pub closed : (e x y : ℕ) → e < links → joins e x y → slice_index labels x ≡ slice_index labels y
-  pub sound : (x y : ℕ) → x < n → y < n → slice_index labels x ≡ slice_index labels y → AreLinked joins x y
+  pub sound : (x y : ℕ) → x < n → y < n → slice_index labels x ≡ slice_index labels y → AreConnected joins x y
 
 -- the nodes that had the label of b have now that of a, and the others theirs
 pub record IsMerged (a b : ℕ) (old new : List ℕ) : Type 0 where

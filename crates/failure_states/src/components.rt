@@ -1,9 +1,9 @@
 ghost use Rattle.std.specs.Prelude.{◌≡◌, ◌≢◌, ℕ, ◌+◌, ◌<◌, ◌^◌, length, slice_index};
-ghost use Rattle.plan_terms.specs.Paths.{Joins};
-ghost use Rattle.failure_states.specs.Labels.{AreLabels, IsMerged};
+ghost use Rattle.net_core.specs.Graphs.{Joins};
+ghost use Rattle.net_core.specs.Views.{graph_of};
+ghost use Rattle.failure_states.specs.inner.Components.{AreComponents, IsMerged};
 
-use crate::survival::survives;
-use net_core::{Link, LinkId, Network, StateId, States};
+use net_core::{Link, LinkId, Surviving};
 
 /// Gives each node its own number as label.
 fn number(labels: &mut [u32])
@@ -43,26 +43,26 @@ fn merge(link: &Link, labels: &mut [u32])
 }
 
 /// Takes one link more, if it survives.
-fn take_link(net: &Network, states: &States, state: StateId, link: LinkId, labels: &mut [u32])
-    requires state { state.0 < length states.now.listed + 1 }
-    requires link { link.0 < length net.now.links }
-    requires labels { AreLabels (Joins net.now.links states.now.listed state.0) (length net.now.nodes) link.0 labels.old }
-    ensures { AreLabels (Joins net.now.links states.now.listed state.0) (length net.now.nodes) (link.0 + 1) labels.new }
+fn take_link(graph: &Surviving, link: LinkId, labels: &mut [u32])
+    requires link { link.0 < length graph.now.net.now.links }
+    requires labels { let g = graph_of graph.now in AreComponents (Joins g) (length g.nodes) link.0 labels.old }
+    ensures { let g = graph_of graph.now in AreComponents (Joins g) (length g.nodes) (link.0 + 1) labels.new }
 {
-    if survives(net, states, state, link) {
-        merge(&net.links().items()[link.0 as usize], labels);
+    if graph.has(link) {
+        merge(&graph.net.links().items()[link.0 as usize], labels);
     }
 }
 
-/// Labels the nodes of a state, whatever the labels are: two nodes have one label exactly where surviving links lead
-/// from one to the other.
-pub fn label_nodes(net: &Network, states: &States, state: StateId, labels: &mut [u32])
-    requires state { state.0 < length states.now.listed + 1 }
-    requires size { length labels.old ≡ length net.now.nodes }
-    ensures { AreLabels (Joins net.now.links states.now.listed state.0) (length net.now.nodes) (length net.now.links) labels.new }
+/// Labels the nodes by their connected components: two nodes have one label exactly where surviving links lead from
+/// one to the other. There is one label per node, and what the labels were doesn't matter.
+///
+/// It takes time in the links that the state fails, for each link, and in the square of the nodes, and no memory.
+pub fn label_components(graph: &Surviving, labels: &mut [u32])
+    requires { length labels.old ≡ length graph.now.net.now.nodes }
+    ensures { let g = graph_of graph.now in AreComponents (Joins g) (length g.nodes) (length g.links) labels.new }
 {
     number(labels);
-    for e in 0..net.links().len() {
-        take_link(net, states, state, LinkId(e as u32), labels);
+    for e in 0..graph.net.links().len() {
+        take_link(graph, LinkId(e as u32), labels);
     }
 }

@@ -1,5 +1,5 @@
 use Rattle.std.proofs.Common.{◌≡◌, ℕ, ◌<◌, length, get_or}
-use Rattle.failure_states.proofs.labels.number.Given as goal
+use Rattle.failure_states.proofs.components.number.Given as goal
 
 -- the nodes so far have their numbers
 abbrev pub invariant-loop-k : goal.invariant-loop-k

@@ -1,5 +1,5 @@
 use Rattle.failure_states.proofs.Relabelling.{IsRelabelled}
-use Rattle.failure_states.proofs.labels.relabel.Given as goal
+use Rattle.failure_states.proofs.components.relabel.Given as goal
 
 -- the nodes so far are relabelled
 abbrev pub invariant-loop-k : goal.invariant-loop-k
