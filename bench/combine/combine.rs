@@ -1,5 +1,8 @@
-// The loop of `combine` in plain Rust, on the rows and in the cycles of bench/README.md.
-// Build: rustc -O combine.rs
+// The code of `combine` of `checked_fraction` without its contracts, beside the same loop written plainly, on the rows and
+// in the cycles of the README. Prints nanoseconds of processor time per number of a row and call, and a digest of each row.
+#![allow(dead_code, unused)]
+mod checked_fraction;
+mod net_core;
 
 // Processor time of the process, in millionths of a second.
 unsafe extern "C" {
@@ -72,16 +75,34 @@ fn filled(n: usize, seed: u64, limit: u64) -> Row {
     Row { nums, den: 1 }
 }
 
-fn time(label: &str, row: &mut Row, pivot: &Row, (p, q, back): (i64, i64, i64), reps: u32) {
+fn digest(nums: &[i64], den: i64) -> i64 {
+    nums.iter().fold(den, |sum, num| sum.wrapping_mul(31).wrapping_add(*num))
+}
+
+// Runs a cycle, there and back, so often.
+fn time(reps: u32, n: usize, mut call: impl FnMut(bool) -> bool) -> f64 {
     let start = clock();
-    let mut good = 0;
     for _ in 0..reps {
-        good += combine(row, p, pivot, q).is_ok() as u32;
-        good += combine(row, -p, pivot, back).is_ok() as u32;
+        assert!(call(true) && call(false));
     }
-    let nanos = (clock() - start) * 1000;
-    let digest = row.nums.iter().fold(row.den, |sum, num| sum.wrapping_mul(31).wrapping_add(*num));
-    println!("{label} n {} good {good} nanos {nanos} digest {digest}", row.nums.len());
+    (clock() - start) as f64 * 1000.0 / (2 * reps) as f64 / n as f64
+}
+
+fn cycle(label: &str, row: &mut Row, pivot: &Row, (p, q, back): (i64, i64, i64), reps: u32) {
+    let n = row.nums.len();
+    let listed = |row: &Row| checked_fraction::Row { nums: net_core::List::from_vec(row.nums.clone()), den: row.den };
+    let (mut crate_row, crate_pivot) = (listed(row), listed(pivot));
+    let proved = time(reps, n, |there| {
+        let (p, q) = if there { (p, q) } else { (-p, back) };
+        checked_fraction::combine(&mut crate_row, p, &crate_pivot, q).is_ok()
+    });
+    let plain = time(reps, n, |there| {
+        let (p, q) = if there { (p, q) } else { (-p, back) };
+        combine(row, p, pivot, q).is_ok()
+    });
+    let (one, other) = (digest(crate_row.nums(), crate_row.den), digest(&row.nums, row.den));
+    assert_eq!(one, other);
+    println!("{label:5} n {n:4}: combine {proved:5.1}, plain {plain:5.1}, digest {one}");
 }
 
 fn main() {
@@ -90,8 +111,8 @@ fn main() {
         let mut row = filled(n, 11, 1 << 40);
         let mut low = filled(n, 13, 1 << 25);
         let _ = combine(&mut low, -1012345678, &pivot, 1073741789);
-        time("whole", &mut row, &pivot, (12345, 1, 1), reps);
-        time("den", &mut row, &pivot, (12345, 1000003, 1), reps);
-        time("wide", &mut low, &pivot, (1012345688307645113, 1000000007, 1073741789), reps);
+        cycle("whole", &mut row, &pivot, (12345, 1, 1), reps);
+        cycle("den", &mut row, &pivot, (12345, 1000003, 1), reps);
+        cycle("wide", &mut low, &pivot, (1012345688307645113, 1000000007, 1073741789), reps);
     }
 }
