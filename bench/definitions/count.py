@@ -39,8 +39,8 @@ def imports(lines, prefix):
 
 
 def definitions(path):
-    """The definitions of a file: each name with its lines."""
-    found, current = {}, None
+    """The definitions of a file: each name with its lines; and the type of each constructor."""
+    found, current, constructors = {}, None, {}
     for line in open(path, encoding="utf-8"):
         bare = line.strip()
         if not bare or bare.startswith("--") or bare.startswith("use ") or bare.startswith("infix"):
@@ -52,9 +52,11 @@ def definitions(path):
         if head:
             current = head.group(1)
             found.setdefault(current, [])
+        elif current and found[current][0].removeprefix("pub ").startswith("data "):
+            constructors[bare.split(" ")[0]] = current
         if current:
             found[current].append(bare)
-    return found
+    return found, constructors
 
 
 class House:
@@ -64,7 +66,7 @@ class House:
             crate = path.split("/")[1]
             module = path.split("/specs/")[1][: -len(".antt")].replace("/", ".")
             lines = open(path, encoding="utf-8").read().splitlines()
-            self.files[f"{crate}.specs.{module}"] = (definitions(path), *imports(lines, ""))
+            self.files[f"{crate}.specs.{module}"] = (*definitions(path), *imports(lines, ""))
 
     def cited(self, module, lines, own, names, aliases):
         """The definitions that lines cite."""
@@ -84,13 +86,20 @@ class House:
                     yield names[f"◌{word}◌"]
 
     def closure(self, start):
-        seen, todo = set(), list(start)
+        seen, missing, todo = set(), set(), list(start)
         while todo:
             module, name = todo.pop()
-            if (module, name) in seen or module not in self.files or name not in self.files[module][0]:
+            own, constructors, names, aliases = self.files.get(module, ({}, {}, {}, {}))
+            name = constructors.get(name, name)
+            if (module, name) in seen:
+                continue
+            if name not in own:
+                # Types that Rust declares are in `declared`, and contracts of traits in `contracts`.
+                if not re.match(r"std\.|\w+\.specs\.(declared|contracts)\.", module) and (module, name) not in missing:
+                    print(f"not found: {module}.{name}", file=sys.stderr)
+                missing.add((module, name))
                 continue
             seen.add((module, name))
-            own, names, aliases = self.files[module]
             todo += self.cited(module, own[name], own, names, aliases)
         return seen
 
