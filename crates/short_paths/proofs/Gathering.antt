@@ -4,8 +4,8 @@ use Rattle.std.proofs.Math.Logic.{∥∥₁_elim}
 use Rattle.std.proofs.Props.{props}
 use Rattle.std.proofs.lemmas.Bool.{cases_lt}
 use Rattle.std.proofs.lemmas.List.{get_or_append_left, get_or_default, get_or_push}
-use Rattle.short_paths.specs.Following.{AreTables}
-use Rattle.short_paths.specs.Tables.{IsTable}
+use Rattle.short_paths.specs.inner.TightLinks.{AreTables}
+use Rattle.short_paths.specs.inner.Tables.{IsTable}
 
 module _ (joins : ℕ → ℕ → ℕ → Type 0) (lengths : List ℕ) (far n : ℕ) where
   -- the tables of the first k nodes

@@ -1,9 +1,9 @@
 pub mod Choosing
-pub mod Following
+pub mod ForwardStars
 pub mod Gathering
-pub mod Hopping
 pub mod Leading
 pub mod PairNumbers
 pub mod Relaxing
 pub mod Settling
 pub mod Tables
+pub mod TightLinks

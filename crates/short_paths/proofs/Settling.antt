@@ -3,10 +3,11 @@ use Rattle.std.proofs.Common.{◌≡◌, ℕ, ◌+◌, ◌-◌, ◌*◌, ◌^◌
 use Rattle.std.proofs.lemmas.Bool.{cases_eq, cases_lt, cases_Bool, both_ways}
 use Rattle.std.proofs.lemmas.List.Sums.{sum_by-set, count_by-le-length}
 use Rattle.std.proofs.lemmas.List.{get_or_past, get_or_default}
+use Rattle.std.proofs.Math.Nat.{mul-le-mul_left}
 use Rattle.std.specs.List.{slice_set, All}
-use Rattle.plan_terms.specs.Paths.{Walk}
+use Rattle.plan_terms.specs.inner.Walks.{Walk}
 use Rattle.plan_terms.proofs.Walks.{walk_none, walk_on}
-use Rattle.short_paths.specs.Tables.{IsTable}
+use Rattle.short_paths.specs.inner.Tables.{IsTable}
 
 -- a node that is settled, and one that is not
 abbrev pub IsSettled : List Bool → ℕ → Type 0
@@ -41,7 +42,7 @@ module _ (joins : ℕ → ℕ → ℕ → Type 0) (lengths : List ℕ) (far a : 
     pub closed : (e x y : ℕ) → IsSettled settled x → joins e x y → get_or found y 0 ≤ get_or found x 0 + get_or lengths e 0
     pub order : (x y : ℕ) → IsSettled settled x → IsOpen settled y → get_or found x 0 ≤ get_or found y 0
     pub near : (x : ℕ) → IsSettled settled x → get_or found x 0 < far
-    pub low : (k : ℕ) → get_or found k 0 < far → get_or found k 0 + (2 ^ 32 - 1) * count_by not settled ≤ (2 ^ 32 - 1) * length found
+    pub low : (m : ℕ) → ((e : ℕ) → get_or lengths e 0 ≤ m) → (k : ℕ) → get_or found k 0 < far → get_or found k 0 + m * count_by not settled ≤ m * length found
 
   -- at the start a alone is found, and none is settled
   pub search_init : (found : List ℕ) (settled : List Bool) → length settled ≡ length found → ((k : ℕ) → get_or found k 0 ≤ far) → get_or found a 0 ≡ 0 → ((k : ℕ) → k < length found → (k ≡ a) ⊎ (get_or found k 0 ≡ far)) → All (λ b. b ≡ false) settled → IsSearch found settled
@@ -60,12 +61,13 @@ module _ (joins : ℕ → ℕ → ℕ → Type 0) (lengths : List ℕ) (far a : 
         closed = λ e x y h j. absurd (none x h);
         order = λ x y h o. absurd (none x h);
         near = λ x h. absurd (none x h);
-        low = λ k f.
+        low = λ m short k f.
             let zero : get_or found k 0 ≡ 0 = ⊎_elim
             (λ lt. ⊎_elim (λ e. rw e start) (λ m. absurd (omega arith)) (others k lt))
             (λ past. get_or_past found k 0 past)
             (cases_lt k (length found)) in
-            omega (arith, count_by-le-length not settled, sizes);
+            let few : m * count_by not settled ≤ m * length found = mul-le-mul_left m (omega (arith, count_by-le-length not settled, sizes)) in
+            omega arith;
       }
 
   -- what a turn does: it settles the nearest open node, and tries each link there
@@ -79,7 +81,6 @@ module _ (joins : ℕ → ℕ → ℕ → Type 0) (lengths : List ℕ) (far a : 
     pub lower : (k : ℕ) → get_or new k 0 ≤ get_or old k 0
     pub all : (e y : ℕ) → joins e at y → get_or new y 0 ≤ get_or old at 0 + get_or lengths e 0
     pub sound : (k : ℕ) → (get_or new k 0 ≡ get_or old k 0) ⊎ ((e : ℕ) × joins e at k × (get_or new k 0 ≡ get_or old at 0 + get_or lengths e 0))
-    pub short : (e : ℕ) → get_or lengths e 0 < 2 ^ 32
 
   -- what is no farther than the node stays
   kept : (at : ℕ) (old new : List ℕ) (settled : List Bool) → IsTurn at old new settled → (x : ℕ) → get_or old x 0 ≤ get_or old at 0 → get_or new x 0 ≡ get_or old x 0
@@ -124,16 +125,20 @@ module _ (joins : ℕ → ℕ → ℕ → Type 0) (lengths : List ℕ) (far a : 
             (λ q. let here : get_or new x 0 ≡ get_or old at 0 = keeps x h ∙ ap (λ k. get_or old k 0) q in omega (arith, t.found))
             (λ w. omega (arith, s.near x w, keeps x h))
             (settled_cases settled at x h);
-        low = λ k f. ⊎_elim
-            (λ e. omega (arith, fewer, t.same, s.low k (omega arith)))
-            (λ r. omega (arith, fewer, t.same, r.2, t.short r.0, s.low at t.found))
+        low = λ m short k f.
+            let fall : m * count_by not (slice_set settled at true) + m ≡ m * count_by not settled = omega (arith, ap (λ n. m * n) fewer) in
+            let size : m * length new ≡ m * length old = ap (λ n. m * n) t.same in
+            ⊎_elim
+            (λ e. omega (arith, fall, size, s.low m short k (omega arith)))
+            (λ r. omega (arith, fall, size, r.2, short r.0, s.low m short at t.found))
             (t.sound k);
       }
 
-  -- at the end each node that is found is settled
-  pub search_end : (found : List ℕ) (settled : List Bool) → length settled ≡ length found → length found ≤ 128 → 2 ^ 60 ≤ far → ((e : ℕ) → get_or lengths e 0 < 2 ^ 32) → ((e x y : ℕ) → joins e x y → x < length found) → ((k : ℕ) → IsOpen settled k → get_or found k 0 ≡ far) → IsSearch found settled → IsTable joins lengths far a found
+  -- at the end each node that is reached is settled
+  pub search_end : (found : List ℕ) (settled : List Bool) → length settled ≡ length found → length found ≤ 128 → 2 ^ 120 ≤ far → ((e : ℕ) → get_or lengths e 0 < 2 ^ 100) → ((e x y : ℕ) → joins e x y → x < length found) → ((k : ℕ) → IsOpen settled k → get_or found k 0 ≡ far) → IsSearch found settled → IsTable joins lengths far a found
   search_end found settled sizes few large short inside none s =
-      let low : (k : ℕ) → get_or found k 0 < far → get_or found k 0 < 2 ^ 39 = λ k f. omega (arith, s.low k f) in
+      let bound : (m : ℕ) → ((e : ℕ) → get_or lengths e 0 ≤ m) → (k : ℕ) → get_or found k 0 < far → get_or found k 0 ≤ m * length found = λ m most k f. omega (arith, s.low m most k f) in
+      let low : (k : ℕ) → get_or found k 0 < far → get_or found k 0 ≤ 2 ^ 100 * length found = bound (2 ^ 100) (λ e. omega (arith, short e)) in
       record {
         start = s.start;
         sound = s.sound;
@@ -145,7 +150,7 @@ module _ (joins : ℕ → ℕ → ℕ → Type 0) (lengths : List ℕ) (far a : 
             (cases_Bool (get_or settled x false)) in
             let up = s.closed e x y done j in
             (omega (arith, up, low x f, short e), up);
-        low = low;
+        low = bound;
         most = s.most;
         zero = omega arith;
       }

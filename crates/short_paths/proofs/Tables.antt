@@ -1,14 +1,15 @@
 -- from the table of a search to distances
-use Rattle.std.proofs.Common.{◌≡◌, ℕ, ◌+◌, ◌<◌, ◌≤◌, List, [], ◌∷◌, length, get_or, Option, None, Some, cond, eqb, true, false, map, ap, refl, sym, subst, ◌∙◌, arith}
+use Rattle.std.proofs.Common.{◌≡◌, ℕ, ◌+◌, ◌-◌, ◌^◌, ◌<◌, ◌≤◌, List, [], ◌∷◌, length, get_or, Option, None, Some, cond, eqb, true, false, map, ap, refl, sym, subst, ◌∙◌, arith}
 use Rattle.std.proofs.lemmas.Bool.{eqb-true, eqb-false}
 use Rattle.std.proofs.lemmas.List.{length-map, get_or-map}
 use Rattle.net_core.specs.declared.ids.LinkId.{LinkId}
 use Rattle.plan_terms.specs.Paths.{Leads, last_node, length_of, IsPath, IsDistance}
 use Rattle.plan_terms.proofs.Distances.{distance_alike}
 use Rattle.plan_terms.proofs.Shortcuts.{shortcut}
-use Rattle.short_paths.specs.declared.hops.Hop.{Hop}
-use Rattle.short_paths.specs.Hops.{AreHops, HasHop}
-use Rattle.short_paths.specs.Tables.{AreDistances, IsTable, answer_of}
+use Rattle.short_paths.specs.declared.forward_star.Arc.{Arc}
+use Rattle.short_paths.specs.inner.ForwardStars.{AreArcs, HasArc}
+use Rattle.short_paths.specs.inner.Tables.{IsTable, answer_of}
+use Rattle.short_paths.specs.DistanceRows.{AreDistances}
 
 module _ (joins : ℕ → ℕ → ℕ → Type 0) (lengths : List ℕ) (far a : ℕ) (found : List ℕ) (t : IsTable joins lengths far a found) where
   -- no walk from a node that is found is shorter than the table says
@@ -39,21 +40,25 @@ module _ (joins : ℕ → ℕ → ℕ → Type 0) (lengths : List ℕ) (far a : 
             ((v.along, v.path, omega (arith, v.short, w.long, (least b v.along v.path).1)), λ es p. (least b es p).1)
       ] refl
 
--- hops join what their links join, so distances over them are distances over the links
-pub hops_distance : (joins : ℕ → ℕ → ℕ → Type 0) (lengths : List ℕ) (a b : ℕ) (d : Option ℕ) (hops : List Hop) → AreHops joins hops → IsDistance (HasHop hops) lengths a b d → IsDistance joins lengths a b d
-hops_distance joins lengths a b d hops are h = distance_alike (HasHop hops) joins are.sound are.whole lengths a b d h
+-- distances of lengths below 2^32 are below 2^39
+pub found_low : (joins : ℕ → ℕ → ℕ → Type 0) (lengths : List ℕ) (far a : ℕ) (found : List ℕ) → IsTable joins lengths far a found → ((e : ℕ) → get_or lengths e 0 < 2 ^ 32) → length found ≤ 128 → (k : ℕ) → get_or found k 0 < far → get_or found k 0 < 2 ^ 39
+found_low joins lengths far a found t short few k near = omega (arith, t.low (2 ^ 32 - 1) (λ e. omega (arith, short e)) k near)
 
--- hops go both ways where links do
-pub hops_turned : (joins : ℕ → ℕ → ℕ → Type 0) → ((e x y : ℕ) → joins e x y → joins e y x) → (hops : List Hop) → AreHops joins hops → (e x y : ℕ) → HasHop hops e x y → HasHop hops e y x
-hops_turned joins turns hops are e x y h = are.whole e y x (turns e x y (are.sound e x y h))
+-- arcs join what their links join, so distances over them are distances over the links
+pub arcs_distance : (joins : ℕ → ℕ → ℕ → Type 0) (lengths : List ℕ) (a b : ℕ) (d : Option ℕ) (arcs : List Arc) → AreArcs joins arcs → IsDistance (HasArc arcs) lengths a b d → IsDistance joins lengths a b d
+arcs_distance joins lengths a b d arcs are h = distance_alike (HasArc arcs) joins are.sound are.whole lengths a b d h
+
+-- arcs go both ways where links do
+pub arcs_turned : (joins : ℕ → ℕ → ℕ → Type 0) → ((e x y : ℕ) → joins e x y → joins e y x) → (arcs : List Arc) → AreArcs joins arcs → (e x y : ℕ) → HasArc arcs e x y → HasArc arcs e y x
+arcs_turned joins turns arcs are e x y h = are.whole e y x (turns e x y (are.sound e x y h))
 
 -- the answers of a whole row
-pub are_distances : (joins : ℕ → ℕ → ℕ → Type 0) (lengths : List ℕ) (far a n : ℕ) (found : List ℕ) (hops : List Hop) (answers : List (Option ℕ)) → answers ≡ map (answer_of far) found → AreHops joins hops → length found ≡ n → IsTable (HasHop hops) lengths far a found → AreDistances joins lengths a n answers
-are_distances joins lengths far a n found hops answers is are size t = record {
+pub are_distances : (joins : ℕ → ℕ → ℕ → Type 0) (lengths : List ℕ) (far a n : ℕ) (found : List ℕ) (arcs : List Arc) (answers : List (Option ℕ)) → answers ≡ map (answer_of far) found → AreArcs joins arcs → length found ≡ n → IsTable (HasArc arcs) lengths far a found → AreDistances joins lengths a n answers
+are_distances joins lengths far a n found arcs answers is are size t = record {
   count = ap length is ∙ (length-map found (answer_of far) ∙ size);
   each = λ b lt.
       let same : get_or answers b None ≡ answer_of far (get_or found b 0) =
       ap (λ xs. get_or xs b None) is ∙ get_or-map (answer_of far) found b 0 None (omega arith) in
       subst (IsDistance joins lengths a b) (sym same)
-      (hops_distance joins lengths a b (answer_of far (get_or found b 0)) hops are (table_distance (HasHop hops) lengths far a found t b (omega arith)));
+      (arcs_distance joins lengths a b (answer_of far (get_or found b 0)) arcs are (table_distance (HasArc arcs) lengths far a found t b (omega arith)));
 }

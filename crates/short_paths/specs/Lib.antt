@@ -1,5 +1,3 @@
+pub mod DistanceRows
 pub mod DistanceTables
-pub mod Following
-pub mod Hops
-pub mod Pairs
-pub mod Tables
+pub mod inner

@@ -1,20 +1,19 @@
 //! Least lengths over all paths of surviving links, and the least of the shortest paths.
 #![tactic(auto)]
 
-pub mod hops;
-mod least;
+mod dijkstra;
+mod distance_table;
+mod forward_star;
+mod least_paths;
 mod pairs;
-mod prepared;
-mod rows;
-mod search;
-mod table;
+mod single_source;
+mod tight_links;
 
-pub use hops::survives;
-pub use least::{PathFault, least_path};
+pub use distance_table::DistanceTable;
+pub use least_paths::{LeastPaths, least_path};
 pub use pairs::all_pairs;
-pub use prepared::LeastPaths;
-pub use rows::distances;
-pub use table::DistanceTable;
+pub use single_source::distances;
+pub use tight_links::PathFault;
 
 #[cfg(test)]
 mod tests;

@@ -1,10 +1,11 @@
 ghost use Rattle.std.specs.Prelude.{◌≡◌, ℕ, ◌+◌, ◌<◌, IsTrue, length, slice_index};
-ghost use Rattle.plan_terms.specs.Paths.{Survives};
+ghost use Rattle.net_core.specs.Graphs.{Survives};
+ghost use Rattle.net_core.specs.Views.{graph};
 
 use crate::{LeastPaths, PathFault, all_pairs, distances, least_path};
 use net_core::{
     Lengths, Link, LinkId, List, Listed, Module, Name, Network, NoMemory, NodeId, Notes, Path,
-    StateId, States,
+    StateId, States, Surviving,
 };
 use std::alloc::Global;
 use std::test::Fail;
@@ -31,10 +32,8 @@ const FROM_FIRST: [[Option<u64>; 4]; 4] = [
 ];
 
 fn put<T: Drop>(items: &mut List<T>, item: T) -> Result<(), NoMemory> {
-    match items.push(item) {
-        Ok(()) => Ok(()),
-        Err(_) => Err(NoMemory),
-    }
+    items.push(item)?;
+    Ok(())
 }
 
 fn network(alloc: Global) -> Result<Network, Fail> {
@@ -208,7 +207,7 @@ const LEAST: [Row; 12] = [
 /// Whether each link has a length.
 fn are_long(net: &Network, states: &States, state: StateId, lengths: &Lengths) -> bool
     requires { length lengths.now ≡ length net.now.links }
-    ensures { IsTrue result → (e : ℕ) → Survives net.now.links states.now.listed state.0 e → 0 < slice_index lengths.now e }
+    ensures { IsTrue result → (e : ℕ) → Survives (graph net.now states.now state.0) e → 0 < slice_index lengths.now e }
 {
     lengths.items().iter().all(|n| *n > 0)
 }
@@ -244,8 +243,8 @@ fn both_agree(
         return Ok(false);
     }
     let one = least_path(alloc, net, states, state, lengths, ends.0, ends.1);
-    let paths = LeastPaths::new(alloc, net, states, state, lengths)?;
-    let other = paths.path(alloc, ends.0, ends.1);
+    let paths = LeastPaths::new(alloc, &Surviving { net, states, state }, lengths)?;
+    let other = paths.path(ends.0, ends.1);
     Ok(agrees(&one, expected) && agrees(&other, expected))
 }
 

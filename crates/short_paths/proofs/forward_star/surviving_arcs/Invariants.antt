@@ -1,0 +1,8 @@
+use Rattle.net_core.specs.Graphs.{Joins}
+use Rattle.net_core.specs.Views.{graph_of}
+use Rattle.short_paths.proofs.ForwardStars.{ArcsBelow}
+use Rattle.short_paths.proofs.forward_star.surviving_arcs.Given as goal
+
+-- the arcs of the links so far
+abbrev pub invariant-loop-e : goal.invariant-loop-e
+invariant-loop-e l = ArcsBelow (Joins (graph_of l.graph)) l.e l.arcs.items

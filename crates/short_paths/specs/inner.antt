@@ -1,0 +1,4 @@
+pub mod ForwardStars
+pub mod Pairs
+pub mod Tables
+pub mod TightLinks
