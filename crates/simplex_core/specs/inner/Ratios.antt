@@ -6,9 +6,9 @@ use Rattle.checked_fraction.specs.Rows.{num, IsNarrow}
 use Rattle.checked_fraction.specs.Mixed.{combined}
 use Rattle.checked_fraction.specs.declared.row.Row.{Row}
 use Rattle.simplex_law.specs.Sums.{dot}
-use Rattle.simplex_law.specs.Lexicographic.{IsLexNonneg, valued}
-use Rattle.simplex_core.specs.Products.{nums_at}
-use Rattle.simplex_core.specs.Values.{sizes_of}
+use Rattle.simplex_law.specs.inner.Lexicographic.{IsLexNonneg, valued}
+use Rattle.simplex_core.specs.inner.Products.{nums_at}
+use Rattle.simplex_core.specs.inner.Values.{sizes_of}
 use Rattle.simplex_core.specs.declared.ratio.Candidate.{Candidate}
 
 -- a row of m with a narrow product that is positive
@@ -28,20 +28,20 @@ abbrev pub IsNoLater : ℕ → (ℕ → ℤ) → (ℕ → ℤ) → ℤ → (ℕ 
 IsNoLater m bound u p v q = IsLexNonneg (suc m) (combined (valued m bound v) q (valued m bound u) p)
 
 -- how x stands to y
-abbrev pub Stands : ℤ → ℤ → Ordering → Type 0
-Stands x y Less = x <ℤ y
-Stands x y Equal = x ≡ y
-Stands x y Greater = y <ℤ x
+abbrev pub HasOrder : ℤ → ℤ → Ordering → Type 0
+HasOrder x y Less = x <ℤ y
+HasOrder x y Equal = x ≡ y
+HasOrder x y Greater = y <ℤ x
 
 -- u and v are equal before a place, and u is less there
 abbrev pub IsFirstLess : ℕ → (ℕ → ℤ) → (ℕ → ℤ) → Type 0
 IsFirstLess m u v = (at : ℕ) × (at < m) × ((k : ℕ) → k < at → u k ≡ v k) × (u at <ℤ v at)
 
 -- how m numbers u compare with v, by the first that differs
-abbrev pub Compares : ℕ → (ℕ → ℤ) → (ℕ → ℤ) → Ordering → Type 0
-Compares m u v Less = IsFirstLess m u v
-Compares m u v Equal = (k : ℕ) → k < m → u k ≡ v k
-Compares m u v Greater = IsFirstLess m v u
+abbrev pub ComparesNumbers : ℕ → (ℕ → ℤ) → (ℕ → ℤ) → Ordering → Type 0
+ComparesNumbers m u v Less = IsFirstLess m u v
+ComparesNumbers m u v Equal = (k : ℕ) → k < m → u k ≡ v k
+ComparesNumbers m u v Greater = IsFirstLess m v u
 
 -- how the ratio of u and p stands to that of v and q
 abbrev pub ComparesRatios : ℕ → (ℕ → ℤ) → (ℕ → ℤ) → ℤ → (ℕ → ℤ) → ℤ → Ordering → Type 0
@@ -79,8 +79,8 @@ IsBestBefore m rows bounds products n (Some best) = IsCandidate m rows bounds pr
     × ((k : ℕ) → k < n → pos 0 <ℤ num products k → IsRowNoLater m rows bounds products best.row k)
 
 -- the first of all rows whose product is positive, if any is, or a row whose value is wide
-abbrev pub Leaves : ℕ → List Row → List ℤ → List ℤ → Result (Option ℕ) ℕ → Type 0
-Leaves m rows bounds products (Err i) = (i < m) × (2 ^ 126 ≤ sizes_of m (nums_at rows i) (num bounds))
-Leaves m rows bounds products (Ok None) = (k : ℕ) → k < m → num products k ≤ℤ pos 0
-Leaves m rows bounds products (Ok (Some r)) = (r < m) × (pos 0 <ℤ num products r)
+abbrev pub IsLeavingRow : ℕ → List Row → List ℤ → List ℤ → Result (Option ℕ) ℕ → Type 0
+IsLeavingRow m rows bounds products (Err i) = (i < m) × (2 ^ 126 ≤ sizes_of m (nums_at rows i) (num bounds))
+IsLeavingRow m rows bounds products (Ok None) = (k : ℕ) → k < m → num products k ≤ℤ pos 0
+IsLeavingRow m rows bounds products (Ok (Some r)) = (r < m) × (pos 0 <ℤ num products r)
     × ((k : ℕ) → k < m → pos 0 <ℤ num products k → IsRowNoLater m rows bounds products r k)

@@ -5,7 +5,7 @@ use Rattle.checked_fraction.specs.Rows.{num, IsReduced}
 use Rattle.checked_fraction.specs.Mixed.{combined, IsTooWide}
 use Rattle.checked_fraction.specs.declared.row.Row.{Row}
 use Rattle.checked_fraction.specs.declared.wide.WideNumber.{WideNumber}
-use Rattle.simplex_core.specs.Products.{nums_at, den_at, nums_of, den_of}
+use Rattle.simplex_core.specs.inner.Products.{nums_at, den_at, nums_of, den_of}
 
 -- a row becomes the one combined with the pivot row
 abbrev pub IsCombinedRow : ℕ → Option Row → Option Row → ℤ → (ℕ → ℤ) → ℤ → Type 0

@@ -9,8 +9,8 @@ use Rattle.simplex_core.specs.declared.columns.Entry.{Entry}
 use Rattle.simplex_core.specs.declared.sum.Sum.{Sum}
 
 -- what a running sum stands for
-abbrev pub total : Sum → ℤ
-total s = (s.high *ℤ pos (2 ^ 62)) +ℤ pos s.low
+abbrev pub sum_value : Sum → ℤ
+sum_value s = (s.high *ℤ pos (2 ^ 62)) +ℤ pos s.low
 
 -- a running sum that can take one product more
 pub record HasRoom (s : Sum) : Type 0 where

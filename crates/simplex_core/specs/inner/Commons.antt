@@ -3,14 +3,14 @@ use Rattle.std.specs.Prelude.{ℕ, ℤ, List, length, Option, Some, None, Result
 use Rattle.std.specs.Int.{◌∣◌}
 use Rattle.checked_fraction.specs.declared.row.Row.{Row}
 use Rattle.simplex_law.specs.Sums.{dot}
-use Rattle.simplex_core.specs.Products.{nums_at, den_at}
-use Rattle.simplex_core.specs.Shapes.{Each}
-use Rattle.simplex_core.specs.Values.{sizes_of}
+use Rattle.simplex_core.specs.inner.Products.{nums_at, den_at}
+use Rattle.simplex_core.specs.inner.Shapes.{AtEach}
+use Rattle.simplex_core.specs.inner.Values.{sizes_of}
 use Rattle.simplex_core.specs.declared.optimum.ValueFault.{ValueFault}
 use Rattle.simplex_core.specs.declared.optimum.ValueFault.TheVariants.{Sum, NoMemory}
 
 -- the least common multiple of both, which is narrow
-pub record IsMultiple (a b multiple : ℕ) : Type 0 where
+pub record IsLeastMultiple (a b multiple : ℕ) : Type 0 where
   pub some : 0 < multiple
   pub narrow : multiple < 2 ^ 62
   pub first : a ∣ multiple
@@ -24,7 +24,7 @@ HaveNoMultiple a b = (part : ℕ) × (2 ^ 62 ≤ part) × ((c : ℕ) → a ∣ c
 -- the least common multiple of two numbers where it is narrow
 abbrev pub IsCommonMultiple : ℕ → ℕ → Option ℕ → Type 0
 IsCommonMultiple a b None = HaveNoMultiple a b
-IsCommonMultiple a b (Some multiple) = IsMultiple a b multiple
+IsCommonMultiple a b (Some multiple) = IsLeastMultiple a b multiple
 
 -- the first n rows' denominators, and that of the objective row, divide c
 pub record DivideAll (rows : List Row) (duals : Row) (n c : ℕ) : Type 0 where
@@ -53,6 +53,6 @@ value_at rows bound den j = unsigned_abs (dot (length rows) (nums_at rows j) bou
 
 -- the values of all rows over den, or a row whose value is too wide
 abbrev pub HaveValues : List Row → (ℕ → ℤ) → ℕ → Result (List ℕ) ValueFault → Type 0
-HaveValues rows bound den (Ok values) = (length values ≡ length rows) × Each (λ j v. v ≡ value_at rows bound den j) values
+HaveValues rows bound den (Ok values) = (length values ≡ length rows) × AtEach (λ j v. v ≡ value_at rows bound den j) values
 HaveValues rows bound den (Err (Sum i)) = (i < length rows) × (2 ^ 126 ≤ sizes_of (length rows) (nums_at rows i) bound)
 HaveValues rows bound den (Err NoMemory) = Unit {0}

@@ -39,7 +39,7 @@ abbrev pub IsWithin : (ℕ → ℤ) → ℕ → Type 0
 IsWithin f n = (k : ℕ) → k < n → IsNarrow (f k)
 
 -- the greatest common divisor makes all numbers and the denominator narrow
-pub record IsFound (f : ℕ → ℤ) (n whole : ℕ) (found : Found) : Type 0 where
+pub record IsFoundDivisor (f : ℕ → ℤ) (n whole : ℕ) (found : Found) : Type 0 where
   pub common : IsRowGcd f n whole found.common.value
   pub low : found.common.value ≤ whole
   pub within : IsWithin (over f found.common.value) n
@@ -49,9 +49,3 @@ pub record IsFound (f : ℕ → ℤ) (n whole : ℕ) (found : Found) : Type 0 wh
 -- the first factors are the second ones times one whole number
 abbrev pub IsTimes : Mix → Mix → Type 0
 IsTimes mix low = (d : ℕ) × (0 < d) × (mix.p ≡ pos d *ℤ low.p) × (mix.q ≡ pos d *ℤ low.q)
-
--- the first k numbers are those of f, the others as they were
-pub record IsWritten (now first : List ℤ) (f : ℕ → ℤ) (k : ℕ) : Type 0 where
-  pub done : (i : ℕ) → i < k → num now i ≡ f i
-  pub rest : (i : ℕ) → k ≤ i → num now i ≡ num first i
-  pub narrow : (i : ℕ) → IsNarrow (num now i)

@@ -3,8 +3,8 @@ use Rattle.std.specs.Prelude.{ℕ, ℤ, List, length, pos, Some, replicate, slic
 use Rattle.std.specs.List.{slice_get}
 use Rattle.checked_fraction.specs.Rows.{num, IsNarrow}
 use Rattle.checked_fraction.specs.declared.row.Row.{Row}
-use Rattle.simplex_law.specs.Sums.{unit}
-use Rattle.simplex_core.specs.Products.{nums_at, den_at, IsRectangle}
+use Rattle.simplex_law.specs.Sums.{unit_vector}
+use Rattle.simplex_core.specs.inner.Products.{nums_at, den_at, IsRectangle}
 use Rattle.simplex_core.specs.declared.basis.Basis.{Basis}
 
 -- each list of a basis of m rows has m items
@@ -20,19 +20,19 @@ pub record IsShaped {N : Type 0} (m : ℕ) (b : Basis N) : Type 0 where
   pub short : m < 2 ^ 32
 
 -- each item of a list fits its place
-abbrev pub Each : {X : Type 0} → (ℕ → X → Type 0) → List X → Type 0
-Each P xs = (i : ℕ) (x : _) → slice_get xs i ≡ Some x → P i x
+abbrev pub AtEach : {X : Type 0} → (ℕ → X → Type 0) → List X → Type 0
+AtEach P xs = (i : ℕ) (x : _) → slice_get xs i ≡ Some x → P i x
 
 -- row i of the unit matrix of n rows
 abbrev pub IsUnit : ℕ → ℕ → Row → Type 0
 IsUnit n i row = (row.nums ≡ slice_set (replicate n (pos 0)) i (pos 1)) × (row.den ≡ pos 1)
 
 -- the slack basis: unit rows over 1, and no prices
-pub record IsStart {N : Type 0} (m : ℕ) (bound : ℕ → ℤ) (slack : ℕ → N) (b : Basis N) : Type 0 where
+pub record IsStartBasis {N : Type 0} (m : ℕ) (bound : ℕ → ℤ) (slack : ℕ → N) (b : Basis N) : Type 0 where
   pub shaped : IsShaped m b
-  pub names : Each (λ i name. name ≡ slack i) b.names
+  pub names : AtEach (λ i name. name ≡ slack i) b.names
   pub bounds : (k : ℕ) → k < m → num b.bounds k ≡ bound k
-  pub units : (i k : ℕ) → i < m → k < m → nums_at b.rows i k ≡ unit i k
+  pub units : (i k : ℕ) → i < m → k < m → nums_at b.rows i k ≡ unit_vector i k
   pub ones : (i : ℕ) → i < m → den_at b.rows i ≡ pos 1
   pub zeros : (k : ℕ) → k < m → num b.duals.nums k ≡ pos 0
   pub one : b.duals.den ≡ pos 1

@@ -17,12 +17,12 @@ abbrev pub entries_of : ℤ → ℤ → ℤ → List Entry
 entries_of a b c = record { row = 0; value = a } ∷ record { row = 1; value = b } ∷ record { row = 2; value = c } ∷ []
 
 -- a number that a packing program may have
-abbrev pub Fits : ℤ → Type 0
-Fits z = (pos 0 ≤ℤ z) × IsNarrow z
+abbrev pub IsPackingNumber : ℤ → Type 0
+IsPackingNumber z = (pos 0 ≤ℤ z) × IsNarrow z
 
 -- the column of some item, named by the item's place
-abbrev pub IsListed : {X N : Type 0} → (ℕ → N) → (X → ℤ) → (X → List Entry) → List X → ColumnOf N → Type 0
-IsListed name gain entries items c = (i : ℕ) × (x : _) × (slice_get items i ≡ Some x) × (c ≡ column_from (name i) (gain x) (entries x))
+abbrev pub IsListedColumn : {X N : Type 0} → (ℕ → N) → (X → ℤ) → (X → List Entry) → List X → ColumnOf N → Type 0
+IsListedColumn name gain entries items c = (i : ℕ) × (x : _) × (slice_get items i ≡ Some x) × (c ≡ column_from (name i) (gain x) (entries x))
 
 -- the column of this name, gain and entries, where there is memory for it
 abbrev pub Copies : {N : Type 0} → N → ℤ → List Entry → Price N → Type 0

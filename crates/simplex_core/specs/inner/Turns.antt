@@ -9,11 +9,11 @@ use Rattle.net_core.specs.declared.columns.WideKind.TheVariants.{Number, Row as 
 use Rattle.simplex_law.specs.Sums.{dot}
 use Rattle.simplex_law.specs.Programs.{ColumnOf, IsProgramColumn}
 use Rattle.simplex_law.specs.Evidence.{IsWide}
-use Rattle.simplex_law.specs.Turns.{IsPick, IsTurned}
-use Rattle.simplex_core.specs.Products.{nums_at, den_at}
+use Rattle.simplex_law.specs.inner.Pivots.{IsPick, IsTurned}
+use Rattle.simplex_core.specs.inner.Products.{nums_at, den_at}
 use Rattle.simplex_core.specs.Prices.{GainsAt}
-use Rattle.simplex_core.specs.Shapes.{IsShaped}
-use Rattle.simplex_core.specs.Values.{sizes_of}
+use Rattle.simplex_core.specs.inner.Shapes.{IsShaped}
+use Rattle.simplex_core.specs.inner.Values.{sizes_of}
 use Rattle.simplex_core.specs.declared.basis.Basis.{Basis}
 use Rattle.simplex_core.specs.declared.solver.Turn.{Turn}
 use Rattle.simplex_core.specs.declared.solver.Turn.TheVariants.{Again, Best, Unbounded, Wide, NoMemory}
@@ -84,9 +84,9 @@ pub record HasEntered {N : Type 0} (m : ℕ) (slack : ℕ → N) (is_listed : Co
   pub enters : Enters m old column turn new
 
 -- what a turn leaves
-abbrev pub Turns : {N : Type 0} → ℕ → (ℕ → N) → (ColumnOf N → Type 0) → Basis N → Turn N → Basis N → Type 0
-Turns m slack is_listed old Best new = (new ≡ old) × IsDone m is_listed old
-Turns m slack is_listed old NoMemory new = Unit {0}
-Turns m slack is_listed old Again new = HasEntered m slack is_listed old Again new
-Turns m slack is_listed old (Wide kind) new = HasEntered m slack is_listed old (Wide kind) new
-Turns m slack is_listed old Unbounded new = HasEntered m slack is_listed old Unbounded new
+abbrev pub IsTurnOutcome : {N : Type 0} → ℕ → (ℕ → N) → (ColumnOf N → Type 0) → Basis N → Turn N → Basis N → Type 0
+IsTurnOutcome m slack is_listed old Best new = (new ≡ old) × IsDone m is_listed old
+IsTurnOutcome m slack is_listed old NoMemory new = Unit {0}
+IsTurnOutcome m slack is_listed old Again new = HasEntered m slack is_listed old Again new
+IsTurnOutcome m slack is_listed old (Wide kind) new = HasEntered m slack is_listed old (Wide kind) new
+IsTurnOutcome m slack is_listed old Unbounded new = HasEntered m slack is_listed old Unbounded new
