@@ -9,7 +9,7 @@ use Rattle.snd_tokens.specs.Header.{first_line, second_line, trimmed}
 use Rattle.snd_tokens.specs.Lexemes.{Text, WordAt, OpenAt, CloseAt, EndAt, text_from, text_of}
 use Rattle.snd_tokens.specs.Tokens.{tokens_from}
 use Rattle.snd_tokens.proofs.Scan.{tokens_from-end}
-use Rattle.text_kit.specs.Answers.{AnswersAs, ReadsAllAs}
+use Rattle.text_kit.specs.Answers.{AnswersAs, Fails, ReadsAllAs}
 use Rattle.text_kit.specs.Files.{IsNotTooEarly, SpellsAs, body, file_at}
 use Rattle.text_kit.specs.Items.{Item, Begins}
 use Rattle.text_kit.specs.Laws.{WrittenIsRead}
@@ -136,6 +136,15 @@ module _ {K X Y : Type 0} (other : K) (header : List ℕ) (r : Reading K X) (mea
       (header_err other (are_same (trimmed (first_line bytes)) header) (mapped meaning r (body bytes)) at kind e)
 
   -- ---- what a function returned
+
+  pub file_read : (bytes : List ℕ) (x : X) (rest : Text) → are_same (trimmed (first_line bytes)) header ≡ true → r (body bytes) ≡ Ok (x, rest) → (at : ℕ) × (file bytes ≡ Ok (meaning x, EndAt at))
+  file_read bytes x rest line read =
+      let end = (law.takes (body bytes) x rest read).2 in
+      (end.0, ap (λ (b : Bool). cond b (mapped meaning r (body bytes)) (Err (0, other))) line ∙ (ap (λ (q : Read K X). after q (λ y. give (meaning y))) read ∙ ap (λ (t : Text). Ok (meaning x, t)) end.1))
+
+  pub file_fails : (bytes : List ℕ) (e : Refusal K) → are_same (trimmed (first_line bytes)) header ≡ true → Fails e (r (body bytes)) → Fails e (file bytes)
+  file_fails bytes (Bad at kind) line fails = ap (λ (b : Bool). cond b (mapped meaning r (body bytes)) (Err (0, other))) line ∙ ap (λ (q : Read K X). after q (λ y. give (meaning y))) fails
+  file_fails bytes NoMemory line fails = tt
 
   pub answer_found : {Z : Type 0} (view : Z → Y) (bytes : List ℕ) (a : Result Z (Refusal K)) → ReadsAllAs view a (file bytes) → IfOk a (λ z. IsOf bytes (view z))
   answer_found view bytes (Ok z) h = file_takes bytes (view z) (EndAt h.0) h.1

@@ -1,6 +1,9 @@
-ghost use Rattle.std.specs.Prelude.{◌≡◌};
+ghost use Rattle.std.specs.Prelude.{◌≡◌, true, false, IfOk, IfErr};
+ghost use Rattle.net_core.specs.Tests.{are_same};
+ghost use Rattle.snd_tokens.specs.Header.{first_line, trimmed};
 ghost use Rattle.snd_tokens.specs.Lexemes.{EndAt, left};
 ghost use Rattle.text_kit.specs.Answers.{Closes, Fails, ReadsAs, IsAtEnd};
+ghost use Rattle.text_kit.specs.Files.{body};
 ghost use Rattle.text_kit.specs.Reading.{close_at, end_at, key, open_at, over_at, placed, word_at};
 
 use crate::refusal::{Refusal, bad};
@@ -102,5 +105,21 @@ pub fn over<K: Debug + Drop>(limit: K, ended: K, text: &mut Cursor) -> Refusal<K
     match text.next() {
         Next::Word(at, _) | Next::Open(at) | Next::Close(at) => bad(at, limit),
         Next::End(at) => bad(at, ended),
+    }
+}
+
+/// The text behind the header of a file.
+pub fn behind_header<'a, K: Debug + Drop>(
+    other: K,
+    bytes: &'a [u8],
+    header: &[u8],
+) -> Result<Cursor<'a>, Refusal<K>>
+    ensures text { IfOk result (λ text. left text ≡ body bytes.now) }
+    ensures line { IfOk result (λ _. are_same (trimmed (first_line bytes.now)) header.now ≡ true) }
+    ensures fault { IfErr result (λ e. (e ≡ Refusal.Bad 0 other) × (are_same (trimmed (first_line bytes.now)) header.now ≡ false)) }
+{
+    match snd_tokens::after_header(bytes, header) {
+        Some(start) => Ok(Cursor::new(bytes, start)),
+        None => Err(bad(0, other)),
     }
 }
