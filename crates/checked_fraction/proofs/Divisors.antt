@@ -4,7 +4,7 @@ use Rattle.std.proofs.lemmas.Nat.Gcd.{dvd_refl, dvd_trans}
 use Rattle.std.proofs.Math.Nat.{zero-dvd, one-dvd}
 use Rattle.std.proofs.lemmas.Bool.{cases_lt}
 use Rattle.std.specs.Int.{IsGcd, ◌∣◌}
-use Rattle.checked_fraction.specs.Passes.{IsRowGcd}
+use Rattle.checked_fraction.specs.inner.Passes.{IsRowGcd}
 
 -- no numbers
 pub row_gcd_none : (f : ℕ → ℤ) (whole : ℕ) → IsRowGcd f 0 whole whole

@@ -4,9 +4,9 @@ use Rattle.std.specs.Int.Signed.{◌<ℤ◌}
 use Rattle.std.specs.Int.{◌∣◌}
 use Rattle.std.proofs.lemmas.Int.{ints, unsigned_abs-mul}
 use Rattle.std.proofs.Math.Nat.{mul-dvd-mul_left, dvd_of_mul-dvd-mul_left, eq-one_of_dvd-one, mul-div_cancel'}
-use Rattle.checked_fraction.specs.Rows.{num, IsLowest, IsReduced}
+use Rattle.checked_fraction.specs.Rows.{num, IsInLowestTerms, IsReduced}
 use Rattle.checked_fraction.specs.Mixed.{combined}
-use Rattle.checked_fraction.specs.Passes.{IsRowGcd, IsFound, IsTimes, raw, over}
+use Rattle.checked_fraction.specs.inner.Passes.{IsRowGcd, IsFoundDivisor, IsTimes, raw, over}
 use Rattle.checked_fraction.specs.declared.mix.Mix.{Mix}
 use Rattle.checked_fraction.specs.declared.pivot.Found.{Found}
 use Rattle.checked_fraction.proofs.Divisors.{positive_divisor}
@@ -68,12 +68,12 @@ made f n whole g nums w pw row each e = subst (λ x. IsReduced n f x nums (pos (
     (agreed n f (pos whole) (over f g) nums (pos (whole / g)) each (reduces f n whole g pw row))
 
 -- the same by what was found
-pub settled : (f : ℕ → ℤ) (n whole : ℕ) (found : Found) (nums : ℕ → ℤ) (w : ℤ) → 0 < whole → IsFound f n whole found → ((k : ℕ) → k < n → nums k ≡ over f found.common.value k) → pos whole ≡ w
+pub settled : (f : ℕ → ℤ) (n whole : ℕ) (found : Found) (nums : ℕ → ℤ) (w : ℤ) → 0 < whole → IsFoundDivisor f n whole found → ((k : ℕ) → k < n → nums k ≡ over f found.common.value k) → pos whole ≡ w
     → IsReduced n f w nums found.den
 settled f n whole found nums w pw found_of each e = subst (λ x. IsReduced n f w nums x) (sym found_of.den) (made f n whole found.common.value nums w pw found_of.common each e)
 
 -- a row from which nothing is taken stays as it is
-pub unmixed : (n : ℕ) (nums pivot : ℕ → ℤ) (p q den : ℤ) → p ≡ pos 0 → pos 0 <ℤ den → IsLowest n nums den → IsReduced n (combined nums p pivot q) (den *ℤ q) nums den
+pub unmixed : (n : ℕ) (nums pivot : ℕ → ℤ) (p q den : ℤ) → p ≡ pos 0 → pos 0 <ℤ den → IsInLowestTerms n nums den → IsReduced n (combined nums p pivot q) (den *ℤ q) nums den
 unmixed n nums pivot p q den none positive lowest = record {
   positive = positive;
   same = λ k l. subst (λ t. nums k *ℤ (den *ℤ q) ≡ combined nums t pivot q k *ℤ den) (sym none) (nothing_taken (nums k) q (pivot k) den);

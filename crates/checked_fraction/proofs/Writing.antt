@@ -1,9 +1,14 @@
 -- numbers written one by one
-use Rattle.std.proofs.Common.{ℕ, ℤ, List, pos, length, slice_set, ◌≡◌, ◌+◌, ◌<◌, sym, subst, ◌∙◌, arith, ⊎_elim}
+use Rattle.std.proofs.Common.{ℕ, ℤ, List, pos, length, slice_set, ◌≡◌, ◌+◌, ◌<◌, ◌≤◌, sym, subst, ◌∙◌, arith, ⊎_elim}
 use Rattle.std.proofs.lemmas.Bool.{cases_eq}
 use Rattle.std.proofs.lemmas.List.{get_or-set_same, get_or-set_other}
 use Rattle.checked_fraction.specs.Rows.{num, IsNarrow}
-use Rattle.checked_fraction.specs.Passes.{IsWritten}
+
+-- the first k numbers are those of f, the others as they were
+pub record IsWritten (now first : List ℤ) (f : ℕ → ℤ) (k : ℕ) : Type 0 where
+  pub done : (i : ℕ) → i < k → num now i ≡ f i
+  pub rest : (i : ℕ) → k ≤ i → num now i ≡ num first i
+  pub narrow : (i : ℕ) → IsNarrow (num now i)
 
 pub write_one : (now first : List ℤ) (f : ℕ → ℤ) (k : ℕ) (v : ℤ) → k < length now → v ≡ f k → IsNarrow v → IsWritten now first f k → IsWritten (slice_set now k v) first f (k + 1)
 write_one now first f k v lt is narrow w = record {

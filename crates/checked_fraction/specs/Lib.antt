@@ -1,3 +1,3 @@
 pub mod Rows
 pub mod Mixed
-pub mod Passes
+pub mod inner

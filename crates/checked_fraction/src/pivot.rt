@@ -2,7 +2,7 @@ ghost use Rattle.std.specs.Prelude.{◌≡◌, ◌<◌, ◌≤◌, ◌^◌, ◌*
 ghost use Rattle.std.specs.Int.{IsGcd};
 ghost use Rattle.checked_fraction.specs.Rows.{num, IsNarrow, IsReduced};
 ghost use Rattle.checked_fraction.specs.Mixed.{combined, IsTooWide, IsFirstWide};
-ghost use Rattle.checked_fraction.specs.Passes.{CanMix, raw, over, IsSurvey, IsWithin, IsTimes, IsFound};
+ghost use Rattle.checked_fraction.specs.inner.Passes.{CanMix, raw, over, IsSurvey, IsWithin, IsTimes, IsFoundDivisor};
 
 use crate::divisor::Divisor;
 use crate::fraction::{gcd, word_gcd};
@@ -137,7 +137,7 @@ fn find(nums: &[i64], pivot: &[i64], mix: &Mix, whole: u128) -> Result<Found, Wi
     requires short { length nums.now < 2 ^ 32 }
     requires some { 0 < whole }
     requires bound { whole < 2 ^ 124 }
-    ensures found { IfOk result (IsFound (raw nums.now pivot.now mix.now) (length nums.now) whole) }
+    ensures found { IfOk result (IsFoundDivisor (raw nums.now pivot.now mix.now) (length nums.now) whole) }
     ensures wide { IfErr result (IsTooWide (length nums.now) (raw nums.now pivot.now mix.now) (pos whole)) }
 {
     let survey = take_survey(nums, pivot, mix, whole);

@@ -1,5 +1,5 @@
 ghost use Rattle.std.specs.Prelude.{◌≡◌, ◌<◌, ◌^◌, ◌<ℤ◌, ℕ, pos, length, IfOk, slice_set, replicate};
-ghost use Rattle.checked_fraction.specs.Rows.{num, IsNarrow, IsLowest};
+ghost use Rattle.checked_fraction.specs.Rows.{num, IsNarrow, IsInLowestTerms};
 
 use net_core::list::{List, NoMemory};
 use std::alloc::Global;
@@ -12,7 +12,7 @@ pub struct Row {
     pub ghost positive: { pos 0 <ℤ den },
     pub ghost narrow: { (k : ℕ) → IsNarrow (num nums k) },
     pub ghost narrow_den: { IsNarrow den },
-    pub ghost lowest: { IsLowest (length nums) (num nums) den },
+    pub ghost lowest: { IsInLowestTerms (length nums) (num nums) den },
     pub ghost short: { length nums < 2 ^ 32 },
 }
 

@@ -4,7 +4,7 @@ use Rattle.std.specs.Io.KnownBytes.{Consumes}
 use Rattle.std.proofs.KnownBytes.{Consumes-trans}
 use Rattle.outside_io.specs.declared.shelf.Fetch.{Fetch}
 use Rattle.outside_io.specs.declared.shelf.Fetch.TheVariants.{Found, Missing, TooLong, Failed, NoMemory}
-use Rattle.outside_io.specs.Machine.{ReadsOnce, ConsumesUpTo}
+use Rattle.outside_io.specs.inner.Steps.{ReadsOnce, ConsumesUpTo}
 
 -- one read more, of at most one byte past the limit
 pub ConsumesUpTo-once : (a b c : Option (List ℕ)) (limit left : ℕ) (answer : Fetch) (before after : List ℕ) → length before + left ≡ limit

@@ -2,7 +2,7 @@
 use Rattle.std.specs.Prelude.{◌≡◌, ◌≢◌, ℕ, ◌+◌, ◌/◌, ◌≤◌, ◌⊎◌, List, ◌++◌, length, take, map, AllPairs, Contains, Result, MatchResult}
 use Rattle.outside_io.specs.declared.memory.MemFile.{MemFile}
 use Rattle.outside_io.specs.declared.shelf.Fetch.{Fetch}
-use Rattle.outside_io.specs.declared.shelf.Fetch.TheVariants.{Found, Missing, TooLong, Failed, NoMemory}
+use Rattle.outside_io.specs.declared.shelf.Fetch.TheVariants.{Failed}
 use Rattle.outside_io.specs.Outside.{Files, raised}
 
 -- no name stands twice
@@ -30,11 +30,8 @@ pub record HeldOutput : Type 0 where
 
 -- a count of faults after a fetch
 abbrev pub faults_after : Fetch → ℕ → ℕ
-faults_after Found faults = faults
-faults_after Missing faults = faults
-faults_after TooLong faults = faults
 faults_after Failed faults = raised faults
-faults_after NoMemory faults = faults
+faults_after _ faults = faults
 
 -- the shelf after a fetch
 abbrev pub after_fetch : Fetch → HeldFiles → HeldFiles

@@ -1,3 +1,4 @@
 pub mod Held
 pub mod Machine
 pub mod Outside
+pub mod inner

@@ -1,6 +1,7 @@
 ghost use Rattle.std.specs.Prelude.{◌≡◌, ◌≤◌, ◌+◌, ◌<◌, [], None, MatchResult, length};
-ghost use Rattle.outside_io.specs.Outside.{AnswersUntold, Rose};
-ghost use Rattle.outside_io.specs.Machine.{AnswersUnopened, Reads, ReadsOnce, ConsumesUpTo, shelf_faults};
+ghost use Rattle.outside_io.specs.Outside.{Fetches, Rose};
+ghost use Rattle.outside_io.specs.Machine.{shelf_faults};
+ghost use Rattle.outside_io.specs.inner.Steps.{AnswersUnopened, Reads, ReadsOnce, ConsumesUpTo};
 ghost use Rattle.outside_io.specs.Held.{faults_after};
 
 use crate::shelf::{Fetch, Shelf};
@@ -9,16 +10,16 @@ use std::io::{ErrorKind, Read};
 use std::rt::Files;
 use std::{fs, io};
 
-/// Files of the machine, of which it tells nothing. The content of a file is what reading it to its
-/// end gives. A name that doesn't exist is `Missing`; a folder, or another thing that can't be read,
-/// is `Failed`.
+/// The machine's files, of which it tells nothing. The content of a file is what reading it to its end gives. A name that
+/// doesn't exist is `Missing`; a folder, or anything else that can't be opened or read, is `Failed`. A fetch reads at most one
+/// byte past its limit, in steps of 4,096 bytes.
 #[derive(Drop)]
 pub struct FileShelf<'f, F> {
     files: &'f F,
     faults: u64,
 }
 
-/// Reads once, at most one byte more than there is left of the limit. No answer says to read on.
+/// Reads once, at most one byte more than is left of the limit. With no answer there may be more to read.
 fn read_once<R: Read>(file: &mut R, buffer: &mut [u8], left: u64, into: &mut Bytes) -> Option<Fetch>
     requires some { 0 < length buffer.old }
     requires few { length buffer.old ≤ left + 1 }
@@ -53,7 +54,7 @@ pub(crate) fn read_whole<R: Read>(file: &mut R, limit: u64, into: &mut Bytes) ->
     Fetch::Failed
 }
 
-/// Reads a file that was opened.
+/// Reads the file where it could be opened.
 fn read_opened<R: Read + Drop>(opened: io::Result<R>, limit: u64, into: &mut Bytes) -> Fetch
     requires { into.old ≡ [] }
     ensures { MatchResult opened
@@ -68,7 +69,7 @@ fn read_opened<R: Read + Drop>(opened: io::Result<R>, limit: u64, into: &mut Byt
 }
 
 impl<'f, F: Files> FileShelf<'f, F> {
-    /// A shelf of the machine's files.
+    /// A shelf of the machine's files, with no fault counted. It takes no memory.
     pub fn new(files: &'f F) -> FileShelf<'f, F>
         ensures { shelf_faults result ≡ 0 }
     {
@@ -86,12 +87,10 @@ impl<'f, F: Files> Shelf for FileShelf<'f, F> {
     }
 
     fn fetch(&mut self, name: &str, limit: u64, into: &mut Bytes) -> Fetch
-        ensures answer { AnswersUntold limit result into.new }
+        ensures answer { Fetches None name.now limit result into.new }
         ensures later { shelf_faults self.old ≤ shelf_faults self.new }
         ensures failed { result ≡ Fetch.Failed
             → Rose (shelf_faults self.old) (shelf_faults self.new) }
-        ensures no_memory { result ≡ Fetch.NoMemory
-            → shelf_faults self.new ≡ shelf_faults self.old }
         ensures counted { shelf_faults self.new ≡ faults_after result (shelf_faults self.old) }
     {
         into.clear();

@@ -1,4 +1,4 @@
-/// Where callers and workers tell what they are about to do, so that a test may hold them there.
+/// Where callers and workers announce what they are about to do, so that a test may hold them there. No answer depends on it.
 pub trait Gate: Sync {
     /// The caller is about to enter the desk for an edit.
     fn editing(&self, caller: u32);

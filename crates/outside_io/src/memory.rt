@@ -1,5 +1,5 @@
 ghost use Rattle.std.specs.Prelude.{◌≡◌, ◌≤◌, ◌<◌, ◌+◌, ◌++◌, [], ℕ, List, IfOk, MatchOption, None, Some, Contains, ◌↔◌, IsTrue, OnErr, length, vec_len, vec_capacity};
-ghost use Rattle.outside_io.specs.Outside.{Answers, content, Rose};
+ghost use Rattle.outside_io.specs.Outside.{Fetches, content, Rose};
 ghost use Rattle.outside_io.specs.Held.{HaveDifferentNames, files_of, after_fetch, PutsHeld};
 
 use crate::shelf::{Fetch, Shelf};
@@ -17,7 +17,8 @@ pub struct MemFile {
     pub bytes: Bytes,
 }
 
-/// Files in memory. The calls of `fetch` whose numbers stand in a list fail, counted from 0.
+/// Files in memory. Exactly those calls of `fetch` fail whose numbers stand in its list, counted from 0. A fetch takes time in
+/// the names of the files and the bytes that it copies, and memory for these.
 #[derive(Drop)]
 pub struct MemShelf {
     files: List<MemFile>,
@@ -41,14 +42,14 @@ impl Model for MemShelf {
     ghost invariant = { λ s. HaveDifferentNames s.files };
 }
 
-/// Whether a call's number stands in the list.
+/// Whether the list has the number of a call.
 fn is_failing(failing: &[u32], call: u64) -> bool
     ensures { IsTrue result ↔ Contains failing.now call }
 {
     failing.iter().any(|n| u64::from(*n) == call)
 }
 
-/// Whether no name stands twice.
+/// Whether no two files have one name. It compares each pair of names.
 pub fn have_different_names(files: &[MemFile]) -> bool
     ensures { IsTrue result ↔ HaveDifferentNames files.now }
 {
@@ -62,7 +63,7 @@ pub fn have_different_names(files: &[MemFile]) -> bool
     true
 }
 
-/// The first file of a name.
+/// The first file of the name.
 fn find<'a>(files: &'a [MemFile], name: &[u8]) -> Option<&'a MemFile>
     ensures { MatchOption result
         (content (files_of files.now) name.now ≡ None)
@@ -77,7 +78,7 @@ fn find<'a>(files: &'a [MemFile], name: &[u8]) -> Option<&'a MemFile>
 }
 
 impl MemShelf {
-    /// A shelf of these files. The calls whose numbers stand in `failing` will fail.
+    /// A shelf of these files. The fetches whose numbers stand in `failing` will fail, counted from 0.
     pub fn new(files: List<MemFile>, failing: List<u32>) -> MemShelf
         requires { HaveDifferentNames files }
         ensures { result ≡ record {
@@ -106,7 +107,7 @@ impl Shelf for MemShelf {
     }
 
     fn fetch(&mut self, name: &str, limit: u64, into: &mut Bytes) -> Fetch
-        ensures answer { Answers (content self.old.files name.now) limit result into.new }
+        ensures answer { Fetches (Some self.old.files) name.now limit result into.new }
         ensures later { self.old.faults ≤ self.new.faults }
         ensures failed { result ≡ Fetch.Failed → Rose self.old.faults self.new.faults }
         ensures numbered { (result ≡ Fetch.Failed) ↔ Contains self.old.failing self.old.calls }
@@ -132,8 +133,9 @@ impl Shelf for MemShelf {
     }
 }
 
-/// A sink of fixed room in memory. A put whose piece doesn't fit into the room takes nothing of it.
-/// Of the others those whose numbers stand in a list, counted from 0, take half of the piece.
+/// A sink in memory with a fixed room, in bytes. A put whose piece doesn't fit into what is left fails and takes nothing of it.
+/// Of the others exactly those fail whose numbers stand in its list, counted from 0; they take half of the piece, rounded down.
+/// A put takes no memory.
 #[derive(Drop)]
 pub struct MemSink {
     taken: Vec<u8>,
@@ -161,8 +163,8 @@ impl Model for MemSink {
 }
 
 impl MemSink {
-    /// An empty sink, which takes the memory for its room of bytes at once. The calls whose
-    /// numbers stand in `failing` will fail.
+    /// An empty sink, which takes the memory for its room at once. The puts whose numbers stand in `failing` will fail, counted
+    /// from 0.
     pub fn new(alloc: Global, room: u64, failing: List<u32>) -> Result<MemSink, NoMemory>
         ensures { IfOk result (λ s. s ≡ record {
           taken = [];
@@ -172,11 +174,8 @@ impl MemSink {
           faults = 0;
         }) }
     {
-        let Ok(taken) = Vec::with_capacity(alloc, room as usize) else {
-            return Err(NoMemory);
-        };
         Ok(MemSink {
-            taken,
+            taken: Vec::with_capacity(alloc, room as usize)?,
             room,
             failing,
             calls: 0,
@@ -184,7 +183,7 @@ impl MemSink {
         })
     }
 
-    /// The bytes that were taken.
+    /// The bytes taken so far.
     pub fn bytes(&self) -> &[u8]
         ensures { result.now ≡ self.now.taken }
     {

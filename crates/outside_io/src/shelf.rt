@@ -6,7 +6,7 @@ use net_core::Bytes;
 /// What a fetch answers.
 #[derive(Clone, Copy, Debug, PartialEq, Eq)]
 pub enum Fetch {
-    /// The whole content was put into the buffer.
+    /// The buffer holds the whole content.
     Found,
     /// No file has the name.
     Missing,
@@ -14,11 +14,15 @@ pub enum Fetch {
     TooLong,
     /// The shelf failed, and has counted it.
     Failed,
-    /// No memory was found for the content.
+    /// The fetch ran out of memory. The shelf may have counted a fault before.
     NoMemory,
 }
 
-/// Where files come from. `Failed` and `NoMemory` may come in place of any other answer.
+/// Where files come from. `Failed` and `NoMemory` may come in place of any other answer. No call changes the files.
+///
+/// ```text
+/// shelf.fetch("net", 1 << 24, &mut bytes) == Fetch::Found    // bytes holds the whole file, 16 MiB at most
+/// ```
 pub trait Shelf {
     /// The files by their names, where the shelf tells them.
     ghost files: { Self → Option Files };
@@ -26,15 +30,15 @@ pub trait Shelf {
     /// How often the shelf has failed.
     ghost faults: { Self → ℕ };
 
-    /// How often the shelf has failed. The count stands still at its type's end.
+    /// How often the shelf has failed. The count stays at the greatest number of its type.
     fn faults(&self) -> u64
         ensures { result ≡ faults self.now };
 
-    /// Empties the buffer and puts the content of a file of at most `limit` bytes into it.
+    /// Empties the buffer and puts the content of the file of this name into it, if that has at most `limit` bytes. After any
+    /// answer but `Found` the buffer is empty.
     fn fetch(&mut self, name: &str, limit: u64, into: &mut Bytes) -> Fetch
         ensures answer { Fetches (files self.old) name.now limit result into.new }
         ensures files { files self.new ≡ files self.old }
         ensures later { faults self.old ≤ faults self.new }
-        ensures failed { result ≡ Fetch.Failed → Rose (faults self.old) (faults self.new) }
-        ensures no_memory { result ≡ Fetch.NoMemory → faults self.new ≡ faults self.old };
+        ensures failed { result ≡ Fetch.Failed → Rose (faults self.old) (faults self.new) };
 }

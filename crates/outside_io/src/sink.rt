@@ -1,8 +1,11 @@
 ghost use Rattle.std.specs.Prelude.{◌≡◌, ℕ, ◌≤◌, List, Option, OnErr};
 ghost use Rattle.outside_io.specs.Outside.{Puts, Rose};
 
-/// A piece was not taken whole.
-#[derive(Clone, Copy, Debug, PartialEq, Eq)]
+use thiserror::Error;
+
+/// A piece of the output was not taken whole.
+#[derive(Clone, Copy, Debug, PartialEq, Eq, Error)]
+#[error("a piece of the output was not written")]
 pub struct Failed;
 
 /// Where output goes.
@@ -13,11 +16,11 @@ pub trait Sink {
     /// How often the sink has failed.
     ghost faults: { Self → ℕ };
 
-    /// How often the sink has failed. The count stands still at its type's end.
+    /// How often the sink has failed. The count stays at the greatest number of its type.
     fn faults(&self) -> u64
         ensures { result ≡ faults self.now };
 
-    /// Takes a piece of the output, or at a fault a front of it.
+    /// Takes a piece of the output, or at a fault a prefix of it.
     fn put(&mut self, piece: &[u8]) -> Result<(), Failed>
         ensures bytes { Puts (taken self.old) (taken self.new) result piece.now }
         ensures later { faults self.old ≤ faults self.new }

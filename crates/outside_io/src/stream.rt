@@ -1,11 +1,13 @@
 ghost use Rattle.std.specs.Prelude.{◌≡◌, ◌≤◌, None, OnErr, OnOk};
 ghost use Rattle.outside_io.specs.Outside.{Rose, raised};
-ghost use Rattle.outside_io.specs.Machine.{Writes, WritesOnce, sink_faults, stream_of};
+ghost use Rattle.outside_io.specs.Machine.{Writes, sink_faults, stream_of};
+ghost use Rattle.outside_io.specs.inner.Steps.{WritesOnce};
 
 use crate::sink::{Failed, Sink};
 use std::io::{ErrorKind, Write};
 
-/// A stream of the machine, of which it tells nothing. Each piece is flushed.
+/// A stream of the machine, of which it tells nothing. Each piece is written whole and flushed, without taking memory; a write
+/// that takes nothing of a piece is a fault.
 #[derive(Drop)]
 pub struct StreamSink<W> {
     out: W,
@@ -13,7 +15,7 @@ pub struct StreamSink<W> {
 }
 
 impl<W: Write> StreamSink<W> {
-    /// A sink that writes to the stream.
+    /// A sink that writes to the stream, with no fault counted.
     pub fn new(out: W) -> StreamSink<W>
         ensures stream { stream_of result ≡ out }
         ensures faults { sink_faults result ≡ 0 }

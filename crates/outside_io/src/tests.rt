@@ -1,12 +1,12 @@
 use crate::files::{FileShelf, read_whole};
-use crate::gate::{Gate, OpenGate};
 use crate::memory::{MemFile, MemShelf, MemSink, have_different_names};
 use crate::shelf::{Fetch, Shelf};
-use crate::sink::{Failed, Sink};
+use crate::sink::Sink;
 use crate::stream::StreamSink;
-use net_core::{Bytes, List, Name};
+use net_core::{List, Name, NoMemory};
 use std::alloc::Global;
 use std::io::{ErrorKind, Read, Write};
+use std::process::Abort;
 use std::test::Fail;
 use std::{fs, io};
 
@@ -17,89 +17,105 @@ fn make_file(alloc: Global, name: &[u8], bytes: &[u8]) -> Result<MemFile, Fail> 
     })
 }
 
-fn fetch_answer<S: Shelf>(shelf: &mut S, name: &str, limit: u64, into: &mut Bytes) -> Fetch {
-    shelf.fetch(name, limit, into)
+fn files_in_memory(alloc: Global, rows: &[(&[u8], &[u8])]) -> Result<List<MemFile>, Fail> {
+    let mut files = List::new(alloc);
+    for (name, bytes) in rows {
+        files
+            .push(make_file(alloc, name, bytes)?)
+            .map_err(NoMemory::from)?;
+    }
+    Ok(files)
 }
 
-fn put_answer<K: Sink>(out: &mut K, piece: &[u8]) -> Result<(), Failed> {
-    out.put(piece)
-}
+/// A fetch: its name and limit, its answer, what the buffer holds then, and the faults counted so far.
+type FetchRow<'b> = (&'static str, u64, Fetch, &'b [u8], u64);
 
-fn pass_gate<G: Gate>(gate: &G) {
-    gate.editing(1);
-    gate.edited(1);
-    gate.before(1, 0);
-    gate.after(1, 0);
-}
-
-#[test]
-fn a_shelf_in_memory(rt: HostRuntime) -> Result<(), Fail> {
-    let mut files = List::new(rt.alloc());
-    assert!(rt; files.push(make_file(rt.alloc(), b"net", b"five!")?).is_ok());
-    assert!(rt; files.push(make_file(rt.alloc(), b"model", b"")?).is_ok());
-    let mut twice = List::new(rt.alloc());
-    assert!(rt; twice.push(make_file(rt.alloc(), b"net", b"a")?).is_ok());
-    assert!(rt; twice.push(make_file(rt.alloc(), b"net", b"b")?).is_ok());
-    assert!(rt; !have_different_names(twice.items()));
-    assert!(rt; have_different_names(files.items()));
-
-    let failing = List::from_slice(rt.alloc(), &[4, 9])?;
-    let mut shelf = MemShelf::new(files, failing);
+fn fetches_are<R: AllocGlobal + Abort, S: Shelf>(rt: &R, shelf: &mut S, rows: &[FetchRow]) {
     let mut into = List::new(rt.alloc());
-    assert_eq!(rt; fetch_answer(&mut shelf, "net", 5, &mut into), Fetch::Found);
-    assert_eq!(rt; into.items(), b"five!".as_slice());
-    assert_eq!(rt; shelf.fetch("net", 4, &mut into), Fetch::TooLong);
-    assert_eq!(rt; into.len(), 0);
-    assert_eq!(rt; shelf.fetch("model", 0, &mut into), Fetch::Found);
-    assert_eq!(rt; shelf.fetch("mode", 5, &mut into), Fetch::Missing);
-    assert_eq!(rt; shelf.faults(), 0);
-    assert_eq!(rt; shelf.fetch("net", 5, &mut into), Fetch::Failed);
-    assert_eq!(rt; into.len(), 0);
-    assert_eq!(rt; shelf.faults(), 1);
-    assert_eq!(rt; shelf.fetch("net", 5, &mut into), Fetch::Found);
+    for (name, limit, answer, bytes, faults) in rows {
+        assert_eq!(rt;
+            shelf.fetch(name, *limit, &mut into),
+            *answer,
+            "{name} {limit}"
+        );
+        assert_eq!(rt; into.items(), *bytes, "{name} {limit}");
+        assert_eq!(rt; shelf.faults(), *faults, "{name} {limit}");
+    }
+}
+
+/// A put: its piece, whether it is taken whole, and the faults counted so far.
+type PutRow = (&'static [u8], bool, u64);
+
+fn puts_are<R: Abort, K: Sink>(rt: &R, out: &mut K, rows: &[PutRow]) {
+    for (piece, whole, faults) in rows {
+        assert_eq!(rt; out.put(piece).is_ok(), *whole, "{piece:?}");
+        assert_eq!(rt; out.faults(), *faults, "{piece:?}");
+    }
+}
+
+#[test]
+fn names_of_files_in_memory_are_compared(rt: HostRuntime) -> Result<(), Fail> {
+    let twice = files_in_memory(
+        rt.alloc(),
+        &[(b"net", b"a"), (b"model", b""), (b"net", b"b")],
+    )?;
+    assert!(rt; !have_different_names(twice.items()));
     Ok(())
 }
 
 #[test]
-fn a_sink_in_memory(rt: HostRuntime) -> Result<(), Fail> {
-    let failing = List::from_slice(rt.alloc(), &[1, 2])?;
-    let mut out = MemSink::new(rt.alloc(), 10, failing)?;
-    assert_eq!(rt; put_answer(&mut out, b"abc"), Ok(()));
-    assert_eq!(rt; out.put(b"defgh"), Err(Failed));
-    assert_eq!(rt; out.bytes(), b"abcde".as_slice());
-    assert_eq!(rt; out.put(b"ijklmn"), Err(Failed));
-    assert_eq!(rt; out.bytes(), b"abcde".as_slice());
-    assert_eq!(rt; out.put(b"ijklm"), Ok(()));
-    assert_eq!(rt; out.put(b"o"), Err(Failed));
-    assert_eq!(rt; out.put(b""), Ok(()));
+fn a_shelf_in_memory_answers_by_name_length_and_number(rt: HostRuntime) -> Result<(), Fail> {
+    let files = files_in_memory(rt.alloc(), &[(b"net", b"five!"), (b"model", b"")])?;
+    assert!(rt; have_different_names(files.items()));
+    let mut shelf = MemShelf::new(files, List::from_slice(rt.alloc(), &[4, 9])?);
+    fetches_are(
+        &rt,
+        &mut shelf,
+        &[
+            ("net", 5, Fetch::Found, b"five!", 0),
+            ("net", 4, Fetch::TooLong, b"", 0),
+            ("model", 0, Fetch::Found, b"", 0),
+            ("mode", 5, Fetch::Missing, b"", 0),
+            ("net", 5, Fetch::Failed, b"", 1),
+            ("net", 5, Fetch::Found, b"five!", 1),
+        ],
+    );
+    Ok(())
+}
+
+#[test]
+fn a_sink_in_memory_fails_by_room_and_number(rt: HostRuntime) -> Result<(), Fail> {
+    let mut out = MemSink::new(rt.alloc(), 10, List::from_slice(rt.alloc(), &[1, 2])?)?;
+    puts_are(
+        &rt,
+        &mut out,
+        &[
+            (b"abc", true, 0),
+            (b"defgh", false, 1),
+            (b"ijklmn", false, 2),
+            (b"ijklm", true, 2),
+            (b"o", false, 3),
+            (b"", true, 3),
+        ],
+    );
     assert_eq!(rt; out.bytes(), b"abcdeijklm".as_slice());
-    assert_eq!(rt; out.faults(), 3);
     Ok(())
 }
 
 #[test]
-fn a_shelf_of_files(rt: HostRuntime) -> Result<(), Fail> {
+fn a_shelf_of_files_answers_by_name_and_length(rt: HostRuntime) -> Result<(), Fail> {
     let bytes = vec![in rt.alloc(); 7u8; 10_000]?;
     fs::write(&rt, "outside_io_in", bytes.as_slice())?;
-    let mut shelf = FileShelf::new(&rt);
-    let mut into = List::new(rt.alloc());
-    assert_eq!(rt;
-        shelf.fetch("outside_io_in", 10_000, &mut into),
-        Fetch::Found
+    fetches_are(
+        &rt,
+        &mut FileShelf::new(&rt),
+        &[
+            ("outside_io_in", 10_000, Fetch::Found, bytes.as_slice(), 0),
+            ("outside_io_in", 9_999, Fetch::TooLong, b"", 0),
+            ("outside_io_none", 10_000, Fetch::Missing, b"", 0),
+            (".", 10_000, Fetch::Failed, b"", 1),
+        ],
     );
-    assert_eq!(rt; into.items(), bytes.as_slice());
-    assert_eq!(rt;
-        shelf.fetch("outside_io_in", 9_999, &mut into),
-        Fetch::TooLong
-    );
-    assert_eq!(rt; into.len(), 0);
-    assert_eq!(rt;
-        shelf.fetch("outside_io_none", 10_000, &mut into),
-        Fetch::Missing
-    );
-    assert_eq!(rt; shelf.faults(), 0);
-    assert_eq!(rt; shelf.fetch(".", 10_000, &mut into), Fetch::Failed);
-    assert_eq!(rt; shelf.faults(), 1);
     fs::remove_file(&rt, "outside_io_in")?;
     Ok(())
 }
@@ -197,19 +213,22 @@ impl Write for NarrowWriter {
 }
 
 #[test]
-fn a_sink_over_a_stream(rt: HostRuntime) -> Result<(), Fail> {
-    let file = fs::create(&rt, "outside_io_out")?;
-    let mut out = StreamSink::new(file);
-    assert_eq!(rt; out.put(b"first "), Ok(()));
-    assert_eq!(rt; out.put(b"second"), Ok(()));
-    assert_eq!(rt; out.faults(), 0);
+fn a_sink_over_a_file_writes_it(rt: HostRuntime) -> Result<(), Fail> {
+    let mut out = StreamSink::new(fs::create(&rt, "outside_io_out")?);
+    puts_are(&rt, &mut out, &[(b"first ", true, 0), (b"second", true, 0)]);
     let written = fs::read(&rt, "outside_io_out")?;
     assert_eq!(rt; written.as_slice(), b"first second".as_slice());
     fs::remove_file(&rt, "outside_io_out")?;
+    puts_are(
+        &rt,
+        &mut StreamSink::new(io::writer(&rt)),
+        &[(b"written to standard output\n", true, 0)],
+    );
+    Ok(())
+}
 
-    let mut shown = StreamSink::new(io::writer(&rt));
-    assert_eq!(rt; shown.put(b"written to standard output\n"), Ok(()));
-
+#[test]
+fn a_sink_over_a_stream_writes_on_and_counts_faults(rt: HostRuntime) -> Result<(), Fail> {
     let mut narrow = NarrowWriter {
         taken: Vec::new(rt.alloc()),
         room: 8,
@@ -217,19 +236,14 @@ fn a_sink_over_a_stream(rt: HostRuntime) -> Result<(), Fail> {
         flushes: 0,
         flush_fails: false,
     };
-    let mut out = StreamSink::new(&mut narrow);
-    assert_eq!(rt; put_answer(&mut out, b"01234"), Ok(()));
-    assert_eq!(rt; out.put(b"56789"), Err(Failed));
-    assert_eq!(rt; out.faults(), 1);
+    puts_are(
+        &rt,
+        &mut StreamSink::new(&mut narrow),
+        &[(b"01234", true, 0), (b"56789", false, 1)],
+    );
     assert_eq!(rt; narrow.taken.as_slice(), b"01234567".as_slice());
     assert_eq!(rt; narrow.flushes, 1);
     narrow.flush_fails = true;
-    assert_eq!(rt; StreamSink::new(&mut narrow).put(b""), Err(Failed));
+    puts_are(&rt, &mut StreamSink::new(&mut narrow), &[(b"", false, 1)]);
     Ok(())
-}
-
-#[test]
-fn the_open_gate(rt: HostRuntime) {
-    let _ = &rt;
-    pass_gate(&OpenGate);
 }

@@ -6,7 +6,7 @@ use Rattle.std.specs.Int.Signed.{◌<ℤ◌, ◌≤ℤ◌}
 use Rattle.std.proofs.lemmas.Int.{ints}
 use Rattle.std.proofs.Math.Nat.{mul-div_cancel'}
 use Rattle.std.proofs.lemmas.Option.{get_or_from_slice_get}
-use Rattle.checked_fraction.specs.Rows.{num, IsLowest}
+use Rattle.checked_fraction.specs.Rows.{num, IsInLowestTerms}
 use Rattle.simplex_law.specs.Sums.{dot}
 use Rattle.simplex_law.specs.Programs.{ColumnOf, IsProgramColumn, IsPacking, IsSlack}
 use Rattle.simplex_law.specs.Optima.{IsOptimum}
@@ -15,12 +15,14 @@ use Rattle.simplex_law.proofs.Limited.{limited}
 use Rattle.simplex_law.proofs.Optimal.{optimum, greatest, none_gains}
 use Rattle.simplex_law.proofs.Reached.{value_nonneg}
 use Rattle.simplex_law.proofs.Values.{value_low}
-use Rattle.simplex_core.specs.Commons.{DivideAll, value_at}
+use Rattle.simplex_core.specs.inner.Commons.{DivideAll, value_at}
 use Rattle.simplex_core.specs.Prices.{GainsAt}
-use Rattle.simplex_core.specs.Products.{nums_at, den_at}
-use Rattle.simplex_core.specs.Programs.{AreNames, IsSameProgram, Solves, IsAnswer}
-use Rattle.simplex_core.specs.Solving.{IsAt, HasLowValues, IsValued, Ends}
-use Rattle.simplex_core.specs.Turns.{reduced_cost, Enters, IsDone, HasEntered, Turns}
+use Rattle.simplex_core.specs.inner.Products.{nums_at, den_at}
+use Rattle.simplex_law.specs.Bases.{AreNames}
+use Rattle.simplex_core.specs.Programs.{IsSameProgram, Solves, IsSimplexAnswer}
+use Rattle.simplex_core.proofs.Solving.{IsAt}
+use Rattle.simplex_core.specs.inner.Outcomes.{HasLowValues, IsValued, IsBasisOutcome}
+use Rattle.simplex_core.specs.inner.Turns.{reduced_cost, Enters, IsDone, HasEntered, IsTurnOutcome}
 use Rattle.simplex_core.specs.declared.basis.Basis.{Basis}
 use Rattle.simplex_core.specs.declared.optimum.Optimum.{Optimum}
 use Rattle.simplex_core.specs.declared.solver.SimplexFault.{SimplexFault}
@@ -74,7 +76,7 @@ module _ {N : Type 0} (m : ℕ) (bound : ℕ → ℤ) (slack : ℕ → N) (is_li
       get_or_from_slice_get best.values j x.0 0 x.1 ∙ x.2 in
       let optimal : IsOptimum m bound (IsProgramColumn m slack is_listed) a.basis (λ j. pos (get_or best.values j 0)) (pos den) (num b.duals.nums) b.duals.den =
       optimum m bound (IsProgramColumn m slack is_listed) a.basis (nums_at b.rows) (den_at b.rows) (num b.duals.nums) b.duals.den (λ j. weight den (den_at b.rows j)) (λ j. pos (get_or best.values j 0)) (pos den)
-      a.reached.here.columns a.state (subst (λ w. IsLowest w (num b.duals.nums) b.duals.den) a.shaped.duals b.duals.lowest)
+      a.reached.here.columns a.state (subst (λ w. IsInLowestTerms w (num b.duals.nums) b.duals.den) a.shaped.duals b.duals.lowest)
       (none_gains m bound slack is_listed (num b.duals.nums) b.duals.den done.positive done.none)
       (omega (arith, ints, v.den.some)) (over_den b den a v.den.all) (λ j l. ap pos (is j l) ∙ value_of b den j a l) in
       record {
@@ -90,8 +92,8 @@ module _ {N : Type 0} (m : ℕ) (bound : ℕ → ℤ) (slack : ℕ → N) (is_li
         positive = λ k l. subst (λ duals. pos 0 ≤ℤ num duals.nums k) (sym v.duals) (done.positive k l);
       }
 
-  pub answers : (b : Basis N) (result : Result (Optimum N) (SimplexFault N)) → IsPacking m bound (IsProgramColumn m slack is_listed) → IsAt m bound slack is_listed b → IsDone m is_listed b → Ends b result
-      → IsAnswer m bound slack is_listed result
+  pub answers : (b : Basis N) (result : Result (Optimum N) (SimplexFault N)) → IsPacking m bound (IsProgramColumn m slack is_listed) → IsAt m bound slack is_listed b → IsDone m is_listed b → IsBasisOutcome b result
+      → IsSimplexAnswer m bound slack is_listed result
   answers b (Ok best) packing a done e = solves b best packing a done e
   answers b (Err (Wide names kind)) packing a done e = end_evidence m bound slack is_listed b names kind a e.0 e.1
   answers b (Err NoMemory) packing a done e = tt
@@ -144,7 +146,7 @@ module _ {N : Type 0} (m n : ℕ) (bound bounds : ℕ → ℤ) (slack slacks : �
   }
 
   -- a turn on the one is a turn on the other
-  pub first_turn : (b : Basis N) (turn : Turn N) (new : Basis N) → Turns n slacks are_listed b turn new → Turns m slack is_listed b turn new
+  pub first_turn : (b : Basis N) (turn : Turn N) (new : Basis N) → IsTurnOutcome n slacks are_listed b turn new → IsTurnOutcome m slack is_listed b turn new
   first_turn b Best new h = (
     h.0,
     record {

@@ -2,8 +2,13 @@
 use Rattle.std.proofs.Common.{◌≡◌, ℕ, zero, suc, ◌<◌, ◌≤◌, ◌+◌, List, [], ◌∷◌, length, drop, get_or, refl, subst, arith}
 use Rattle.std.proofs.Math.IntN.{ℤ, pos, ◌+ℤ◌, ◌*ℤ◌}
 use Rattle.std.specs.List.{AllByRecursion}
-use Rattle.simplex_core.specs.Columns.{entries_dot, IsEntry}
+use Rattle.simplex_law.specs.Programs.{entry_dot}
+use Rattle.simplex_core.specs.Columns.{IsEntry}
 use Rattle.simplex_core.specs.declared.columns.Entry.{Entry}
+
+-- the product of a row with entries
+abbrev pub entries_dot : (ℕ → ℤ) → List Entry → ℤ
+entries_dot = entry_dot (λ e. e.row) (λ e. e.value)
 
 dot_behind : (nums : ℕ → ℤ) (es : List Entry) (k : ℕ) (d : Entry) → k < length es
     → entries_dot nums (drop k es) ≡ (nums (get_or es k d).row *ℤ (get_or es k d).value) +ℤ entries_dot nums (drop (suc k) es)

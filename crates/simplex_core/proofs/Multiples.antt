@@ -6,8 +6,8 @@ use Rattle.std.proofs.lemmas.Nat.{div-add-mod'}
 use Rattle.std.proofs.lemmas.Nat.Gcd.{dvd_refl, dvd-zero, dvd_trans}
 use Rattle.std.proofs.Math.Nat.{dvd-add, dvd-sub, dvd-mul_right, dvd-mul_left_of_dvd, dvd_of_mul-dvd-mul_left, mul-dvd-mul_left, mul-dvd-mul_right, mul-div_cancel'}
 use Rattle.checked_fraction.specs.declared.row.Row.{Row}
-use Rattle.simplex_core.specs.Products.{den_at}
-use Rattle.simplex_core.specs.Commons.{IsMultiple, IsDenominator, HaveNoMultiple, HaveNoDenominator}
+use Rattle.simplex_core.specs.inner.Products.{den_at}
+use Rattle.simplex_core.specs.inner.Commons.{IsLeastMultiple, IsDenominator, HaveNoMultiple, HaveNoDenominator}
 
 divides_back : (g a b : ℕ) → g ∣ b → g ∣ a % b → g ∣ a
 divides_back g a b h r = subst (λ x. g ∣ x) (div-add-mod' a b) (dvd-add g (dvd-mul_left_of_dvd g h (a / b)) r)
@@ -74,7 +74,7 @@ multiple_least a b g c pa gcd ac bc =
 
 module _ (rows : List Row) (duals : Row) where
   -- one row more
-  pub denominator_next : (n all next : ℕ) → IsDenominator rows duals n all → IsMultiple all (unsigned_abs (den_at rows n)) next → IsDenominator rows duals (n + 1) next
+  pub denominator_next : (n all next : ℕ) → IsDenominator rows duals n all → IsLeastMultiple all (unsigned_abs (den_at rows n)) next → IsDenominator rows duals (n + 1) next
   denominator_next n all next d m = record {
     some = m.some;
     narrow = m.narrow;

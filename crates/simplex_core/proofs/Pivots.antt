@@ -4,12 +4,12 @@ use Rattle.std.proofs.Math.IntN.{ℤ, pos, ◌-ℤ◌, ◌*ℤ◌, *ℤ_comm}
 use Rattle.std.specs.Int.Signed.{◌<ℤ◌}
 use Rattle.std.proofs.lemmas.Int.{ints}
 use Rattle.std.proofs.lemmas.Bool.{cases_eq}
-use Rattle.checked_fraction.specs.Rows.{num, IsLowest, IsReduced}
+use Rattle.checked_fraction.specs.Rows.{num, IsInLowestTerms, IsReduced}
 use Rattle.checked_fraction.specs.Mixed.{combined}
 use Rattle.checked_fraction.specs.declared.row.Row.{Row}
 use Rattle.simplex_law.proofs.Arithmetic.{regroup}
-use Rattle.simplex_core.specs.Products.{nums_of, den_of, IsRectangle}
-use Rattle.simplex_core.specs.Pivots.{IsCombinedRow, IsCombined, IsTooWideRow, IsTooWideAt, CombinesAt, AreCombined, AreTurned, IsWideRow}
+use Rattle.simplex_core.specs.inner.Products.{nums_of, den_of, IsRectangle}
+use Rattle.simplex_core.specs.inner.Pivots.{IsCombinedRow, IsCombined, IsTooWideRow, IsTooWideAt, CombinesAt, AreCombined, AreTurned, IsWideRow}
 use Rattle.simplex_core.proofs.Lists.{get_same, get_other}
 
 kept_number : (u d q w : ℤ) → u *ℤ (d *ℤ q) ≡ ((u *ℤ q) -ℤ (pos 0 *ℤ w)) *ℤ d
@@ -18,7 +18,7 @@ kept_number u d q w =
     ap (λ s. u *ℤ s) (*ℤ_comm d q) ∙ (sym (regroup u q d) ∙ ap (λ s. s *ℤ d) (sym none))
 
 -- a row whose product is 0 is combined as it is
-pub kept_row : (n : ℕ) (u w : ℕ → ℤ) (p d q : ℤ) → p ≡ pos 0 → pos 0 <ℤ d → IsLowest n u d → IsReduced n (combined u p w q) (d *ℤ q) u d
+pub kept_row : (n : ℕ) (u w : ℕ → ℤ) (p d q : ℤ) → p ≡ pos 0 → pos 0 <ℤ d → IsInLowestTerms n u d → IsReduced n (combined u p w q) (d *ℤ q) u d
 kept_row n u w p d q none positive lowest = subst (λ p. IsReduced n (combined u p w q) (d *ℤ q) u d) (sym none) (record {
   positive = positive;
   same = λ k l. kept_number (u k) d q (w k);

@@ -11,10 +11,10 @@ use Rattle.checked_fraction.specs.Rows.{num}
 use Rattle.checked_fraction.specs.Mixed.{combined}
 use Rattle.checked_fraction.specs.declared.row.Row.{Row}
 use Rattle.simplex_law.specs.Sums.{dot}
-use Rattle.simplex_law.specs.Lexicographic.{valued}
+use Rattle.simplex_law.specs.inner.Lexicographic.{valued}
 use Rattle.simplex_law.proofs.Order.{lex_at, lex_none, lex_sum, crossed}
-use Rattle.simplex_core.specs.Products.{nums_at}
-use Rattle.simplex_core.specs.Ratios.{IsCandidate, IsNoLater, IsFirstLess, Compares, ComparesRatios, IsFirstOf, IsBetter, IsRowNoLater, IsBestBefore, Leaves}
+use Rattle.simplex_core.specs.inner.Products.{nums_at}
+use Rattle.simplex_core.specs.inner.Ratios.{IsCandidate, IsNoLater, IsFirstLess, ComparesNumbers, ComparesRatios, IsFirstOf, IsBetter, IsRowNoLater, IsBestBefore, IsLeavingRow}
 use Rattle.simplex_core.specs.declared.ratio.Candidate.{Candidate}
 
 gone : (u v p q : ℤ) → u *ℤ q ≡ v *ℤ p → (v *ℤ p) -ℤ (q *ℤ u) ≡ pos 0
@@ -62,13 +62,13 @@ row_equal m bound u p v q x y ex ey same all =
     )
 
 pub by_values : (m : ℕ) (bound u : ℕ → ℤ) (p : ℤ) (v : ℕ → ℤ) (q x y : ℤ) (order : Ordering) → x ≡ dot m u bound → y ≡ dot m v bound → order ≢ Equal
-    → Compares 1 (λ k. x *ℤ q) (λ k. y *ℤ p) order → ComparesRatios m bound u p v q order
+    → ComparesNumbers 1 (λ k. x *ℤ q) (λ k. y *ℤ p) order → ComparesRatios m bound u p v q order
 by_values m bound u p v q x y Less ex ey ne c = value_less m bound u p v q x y ex ey c.3
 by_values m bound u p v q x y Equal ex ey ne c = absurd (ne refl)
 by_values m bound u p v q x y Greater ex ey ne c = value_less m bound v q u p y x ey ex c.3
 
 pub by_rows : (m : ℕ) (bound u : ℕ → ℤ) (p : ℤ) (v : ℕ → ℤ) (q x y : ℤ) (order : Ordering) → x ≡ dot m u bound → y ≡ dot m v bound → x *ℤ q ≡ y *ℤ p
-    → Compares m (λ k. u k *ℤ q) (λ k. v k *ℤ p) order → ComparesRatios m bound u p v q order
+    → ComparesNumbers m (λ k. u k *ℤ q) (λ k. v k *ℤ p) order → ComparesRatios m bound u p v q order
 by_rows m bound u p v q x y Less ex ey same c = row_less m bound u p v q x y ex ey same c
 by_rows m bound u p v q x y Equal ex ey same c = row_equal m bound v q u p y x ey ex (sym same) (λ k l. sym (c k l))
 by_rows m bound u p v q x y Greater ex ey same c = row_less m bound v q u p y x ey ex (sym same) c
@@ -135,7 +135,7 @@ module _ (rows : List Row) (bounds products : List ℤ) where
 
   -- the best of all rows
   pub leaves : (n : ℕ) (best : Option Candidate) → n ≡ length rows → IsBestBefore (length rows) rows bounds products n best
-      → Leaves (length rows) rows bounds products (Ok (option_map (λ c. c.row) best))
+      → IsLeavingRow (length rows) rows bounds products (Ok (option_map (λ c. c.row) best))
   leaves n None e before = subst (λ n. (k : ℕ) → k < n → num products k ≤ℤ pos 0) e before
   leaves n (Some best) e before = (
     before.0.placed.inside,

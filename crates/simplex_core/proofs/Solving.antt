@@ -4,25 +4,34 @@ use Rattle.std.proofs.Math.IntN.{ℤ, pos}
 use Rattle.std.specs.Int.Signed.{◌≤ℤ◌}
 use Rattle.std.proofs.lemmas.Int.{ints}
 use Rattle.std.proofs.lemmas.Bool.{cases_eq, eq-eqb, ne_eqb}
-use Rattle.checked_fraction.specs.Rows.{num, IsLowest}
+use Rattle.checked_fraction.specs.Rows.{num, IsInLowestTerms}
 use Rattle.checked_fraction.specs.declared.row.Row.{Row}
 use Rattle.simplex_law.specs.Sums.{dot, put}
 use Rattle.simplex_law.specs.Programs.{ColumnOf, IsProgramColumn, IsPacking, slack_basis}
-use Rattle.simplex_law.specs.Lexicographic.{left_above}
-use Rattle.simplex_law.specs.Turns.{State, IsPick, IsNumbered}
+use Rattle.simplex_law.proofs.Numbers.{left_above, AreNumberedDuals, left_falls}
+use Rattle.simplex_law.proofs.Tableaux.{IsTableau}
+use Rattle.simplex_law.specs.inner.Pivots.{IsPick}
 use Rattle.simplex_law.proofs.Sums.{dot-same, dot-none}
 use Rattle.simplex_law.proofs.Bounds.{same_pick}
-use Rattle.simplex_law.proofs.Numbers.{left_falls}
 use Rattle.simplex_law.proofs.Reached.{started, start_reached, turn_reached, value_nonneg}
 use Rattle.simplex_law.proofs.Turned.{turned, rises}
-use Rattle.simplex_core.specs.Products.{nums_of, den_of, nums_at, den_at, IsRectangle}
-use Rattle.simplex_core.specs.Programs.{AreNames}
-use Rattle.simplex_core.specs.Shapes.{IsStart}
-use Rattle.simplex_core.specs.Solving.{IsAt}
-use Rattle.simplex_core.specs.Turns.{Picks, TurnsTo}
+use Rattle.simplex_core.specs.inner.Products.{nums_of, den_of, nums_at, den_at, IsRectangle}
+use Rattle.simplex_core.specs.inner.Shapes.{IsStartBasis, IsShaped}
+use Rattle.simplex_law.specs.Bases.{AreNames, IsReached}
+use Rattle.simplex_core.specs.inner.Turns.{Picks, TurnsTo}
 use Rattle.simplex_core.specs.declared.basis.Basis.{Basis}
 use Rattle.simplex_core.proofs.Lists.{get_same, get_other}
 use Rattle.simplex_core.proofs.Starts.{each_at}
+
+-- a basis of the program that gaining steps reach, with the rows of its inverse
+pub record IsAt {N : Type 0} (m : ℕ) (bound : ℕ → ℤ) (slack : ℕ → N) (is_listed : ColumnOf N → Type 0) (b : Basis N) : Type 0 where
+  pub basis : ℕ → ColumnOf N
+  pub names : AreNames m basis b.names
+  pub shaped : IsShaped m b
+  pub bounds : (k : ℕ) → k < m → num b.bounds k ≡ bound k
+  pub state : IsTableau m bound basis (nums_at b.rows) (den_at b.rows) (num b.duals.nums) b.duals.den
+  pub reached : IsReached m bound (IsProgramColumn m slack is_listed) (slack_basis slack) basis
+  pub value : unsigned_abs (dot m (num b.duals.nums) bound) < 2 ^ 126
 
 -- the names after a turn
 pub names_turn : {N : Type 0} (m : ℕ) (basis : ℕ → ColumnOf N) (names : List N) (c : ColumnOf N) (r : ℕ) → AreNames m basis names → r < m → AreNames m (put basis r c) (slice_set names r c.name)
@@ -35,14 +44,14 @@ names_turn m basis names c r are lt = record {
 }
 
 -- each row is in lowest terms
-pub lowest_at : (m : ℕ) (rows : List Row) (i : ℕ) → length rows ≡ m → IsRectangle m rows → i < m → IsLowest m (nums_at rows i) (den_at rows i)
+pub lowest_at : (m : ℕ) (rows : List Row) (i : ℕ) → length rows ≡ m → IsRectangle m rows → i < m → IsInLowestTerms m (nums_at rows i) (den_at rows i)
 lowest_at m rows i count square lt =
-    let row = each_at (λ i r. IsLowest (length (nums_of (Some r))) (num r.nums) r.den) rows i (omega (arith, count, lt)) (λ i r e. r.lowest) in
+    let row = each_at (λ i r. IsInLowestTerms (length (nums_of (Some r))) (num r.nums) r.den) rows i (omega (arith, count, lt)) (λ i r e. r.lowest) in
     let width : length row.0.nums ≡ m = sym (ap (λ o. length (nums_of o)) row.1) ∙ square i (omega (arith, count, lt)) in
-    subst (λ o. IsLowest m (num (nums_of o)) (den_of o)) (sym row.1) (subst (λ w. IsLowest w (num row.0.nums) row.0.den) width row.2)
+    subst (λ o. IsInLowestTerms m (num (nums_of o)) (den_of o)) (sym row.1) (subst (λ w. IsInLowestTerms w (num row.0.nums) row.0.den) width row.2)
 
 module _ {N : Type 0} (m : ℕ) (bound : ℕ → ℤ) (slack : ℕ → N) (is_listed : ColumnOf N → Type 0) where
-  pub at_start : (b : Basis N) → IsPacking m bound (IsProgramColumn m slack is_listed) → IsStart m bound slack b → IsAt m bound slack is_listed b
+  pub at_start : (b : Basis N) → IsPacking m bound (IsProgramColumn m slack is_listed) → IsStartBasis m bound slack b → IsAt m bound slack is_listed b
   at_start b packing s =
       let state = started m bound slack (nums_at b.rows) (den_at b.rows) (num b.duals.nums) b.duals.den (λ k l. (packing.bounds k l).0) s.units s.ones s.zeros s.one in
       record {
@@ -62,7 +71,7 @@ module _ {N : Type 0} (m : ℕ) (bound : ℕ → ℤ) (slack : ℕ → N) (is_li
   pick_at b c r a pick = same_pick m (num b.bounds) bound a.bounds (nums_at b.rows) (num b.duals.nums) b.duals.den c r pick
 
   pub state_turn : (b new : Basis N) (c : ColumnOf N) (r : ℕ) → (a : IsAt m bound slack is_listed b) → TurnsTo m b c r new
-      → State m bound (put a.basis r c) (nums_at new.rows) (den_at new.rows) (num new.duals.nums) new.duals.den
+      → IsTableau m bound (put a.basis r c) (nums_at new.rows) (den_at new.rows) (num new.duals.nums) new.duals.den
   state_turn b new c r a t =
       turned m bound a.basis (nums_at b.rows) (nums_at new.rows) (den_at b.rows) (den_at new.rows) (num b.duals.nums) (num new.duals.nums) b.duals.den new.duals.den c r a.state (pick_at b c r a t.pick) t.turned
 
@@ -81,7 +90,7 @@ module _ {N : Type 0} (m : ℕ) (bound : ℕ → ℤ) (slack : ℕ → N) (is_li
     value = subst (λ x. unsigned_abs x < 2 ^ 126) (dot-same m (num new.duals.nums) (num new.duals.nums) (num new.bounds) bound (λ k l. refl) (bounds_turn b new c r a t)) low;
   }
 
-  numbered : (b : Basis N) → IsAt m bound slack is_listed b → IsNumbered m bound (num b.duals.nums) b.duals.den
+  numbered : (b : Basis N) → IsAt m bound slack is_listed b → AreNumberedDuals m bound (num b.duals.nums) b.duals.den
   numbered b a = record {
     positive = b.duals.positive;
     narrow_den = b.duals.narrow_den;

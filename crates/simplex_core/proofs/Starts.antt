@@ -7,30 +7,30 @@ use Rattle.std.proofs.lemmas.Bool.{cases_lt, cases_eq}
 use Rattle.std.proofs.lemmas.Option.{get_or_from_slice_get}
 use Rattle.checked_fraction.specs.Rows.{num, IsNarrow}
 use Rattle.checked_fraction.specs.declared.row.Row.{Row}
-use Rattle.simplex_law.specs.Sums.{unit}
+use Rattle.simplex_law.specs.Sums.{unit_vector}
 use Rattle.simplex_law.proofs.Sums.{unit-same, unit-other}
-use Rattle.simplex_core.specs.Products.{nums_of, den_of}
-use Rattle.simplex_core.specs.Shapes.{Each, IsUnit, IsStart}
+use Rattle.simplex_core.specs.inner.Products.{nums_of, den_of}
+use Rattle.simplex_core.specs.inner.Shapes.{AtEach, IsUnit, IsStartBasis}
 use Rattle.simplex_core.specs.declared.basis.Basis.{Basis}
 
 -- what fits each place still does with one item more
-pub each_push : {X : Type 0} (P : ℕ → X → Type 0) (xs : List X) (x : X) → Each P xs → P (length xs) x → Each P (xs ++ x ∷ [])
+pub each_push : {X : Type 0} (P : ℕ → X → Type 0) (xs : List X) (x : X) → AtEach P xs → P (length xs) x → AtEach P (xs ++ x ∷ [])
 each_push P [] x all last zero y e = let same : x ≡ y = cc in subst (λ z. P 0 z) same last
 each_push P [] x all last (suc i) y e = absurd cc
 each_push P (z ∷ zs) x all last zero y e = all zero y e
 each_push P (z ∷ zs) x all last (suc i) y e = each_push (λ k. P (suc k)) zs x (λ k w h. all (suc k) w h) last i y e
 
-pub each_at : {X : Type 0} (P : ℕ → X → Type 0) (xs : List X) (i : ℕ) → i < length xs → Each P xs → (x : X) × (slice_get xs i ≡ Some x) × P i x
+pub each_at : {X : Type 0} (P : ℕ → X → Type 0) (xs : List X) (i : ℕ) → i < length xs → AtEach P xs → (x : X) × (slice_get xs i ≡ Some x) × P i x
 each_at P [] i lt all = absurd (omega arith)
 each_at P (x ∷ xs) zero lt all = (x, refl, all zero x refl)
 each_at P (x ∷ xs) (suc i) lt all = each_at (λ k. P (suc k)) xs i (omega arith) (λ k w h. all (suc k) w h)
 
 -- one number more that fits its place
-pub number_push : (f : ℕ → ℤ) (xs : List ℤ) (i : ℕ) (x : ℤ) (new : List ℤ) → length xs ≡ i → Each (λ k b. b ≡ f k) xs → x ≡ f i → new ≡ xs ++ x ∷ []
-    → (length new ≡ i + 1) × Each (λ k b. b ≡ f k) new
+pub number_push : (f : ℕ → ℤ) (xs : List ℤ) (i : ℕ) (x : ℤ) (new : List ℤ) → length xs ≡ i → AtEach (λ k b. b ≡ f k) xs → x ≡ f i → new ≡ xs ++ x ∷ []
+    → (length new ≡ i + 1) × AtEach (λ k b. b ≡ f k) new
 number_push f xs i x new count all is made = (
   omega (arith, ap length made, length-append xs (x ∷ []), count),
-  subst (λ ys. Each (λ k b. b ≡ f k) ys) (sym made) (each_push (λ k b. b ≡ f k) xs x all (is ∙ ap f (sym count))),
+  subst (λ ys. AtEach (λ k b. b ≡ f k) ys) (sym made) (each_push (λ k b. b ≡ f k) xs x all (is ∙ ap f (sym count))),
 )
 
 pub zeros_num : (n k : ℕ) → num (replicate n (pos 0)) k ≡ pos 0
@@ -49,9 +49,9 @@ num_past [] (suc k) le = refl
 num_past (x ∷ xs) zero le = absurd (omega arith)
 num_past (x ∷ xs) (suc k) le = num_past xs k (omega arith)
 
-unit_num : (m i k : ℕ) → i < m → num (slice_set (replicate m (pos 0)) i (pos 1)) k ≡ unit i k
+unit_num : (m i k : ℕ) → i < m → num (slice_set (replicate m (pos 0)) i (pos 1)) k ≡ unit_vector i k
 unit_num m i k lt = ⊎_elim
-    (λ e. subst (λ j. num (slice_set (replicate m (pos 0)) i (pos 1)) j ≡ unit i j) (sym e)
+    (λ e. subst (λ j. num (slice_set (replicate m (pos 0)) i (pos 1)) j ≡ unit_vector i j) (sym e)
     (get_or-set_same (replicate m (pos 0)) i (pos 1) (pos 0) (omega (arith, zeros_length m)) ∙ sym (unit-same i)))
     (λ ne. get_or-set_other (replicate m (pos 0)) i k (pos 1) (pos 0) ne ∙ (zeros_num m k ∙ sym (unit-other i k (λ e. ne (sym e)))))
     (cases_eq k i)
@@ -59,11 +59,11 @@ unit_num m i k lt = ⊎_elim
 -- the parts make the slack basis
 pub start : {N : Type 0} (m : ℕ) (bound : ℕ → ℤ) (slack : ℕ → N) (b : Basis N) → m < 2 ^ 32
     → ((k : ℕ) → k < m → (pos 0 ≤ℤ bound k) × IsNarrow (bound k))
-    → length b.names ≡ m → Each (λ i name. name ≡ slack i) b.names
-    → length b.rows ≡ m → Each (IsUnit m) b.rows
-    → length b.bounds ≡ m → Each (λ i x. x ≡ bound i) b.bounds
+    → length b.names ≡ m → AtEach (λ i name. name ≡ slack i) b.names
+    → length b.rows ≡ m → AtEach (IsUnit m) b.rows
+    → length b.bounds ≡ m → AtEach (λ i x. x ≡ bound i) b.bounds
     → b.duals.nums ≡ replicate m (pos 0) → b.duals.den ≡ pos 1 → b.products ≡ replicate m (pos 0) → b.spare.nums ≡ replicate m (pos 0)
-    → IsStart m bound slack b
+    → IsStartBasis m bound slack b
 start m bound slack b short narrow count_names names count_rows rows count_bounds bounds duals den products spare =
     let row : (i : ℕ) → i < m → (r : Row) × (slice_get b.rows i ≡ Some r) × IsUnit m i r = λ i l. each_at (IsUnit m) b.rows i (omega (arith, count_rows, l)) rows in
     let at : (k : ℕ) → k < m → num b.bounds k ≡ bound k = λ k l.

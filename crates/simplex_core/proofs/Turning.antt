@@ -8,15 +8,15 @@ use Rattle.checked_fraction.specs.Mixed.{combined, IsTooWide}
 use Rattle.checked_fraction.specs.declared.row.Row.{Row}
 use Rattle.net_core.specs.declared.columns.WideKind.{WideKind}
 use Rattle.net_core.specs.declared.columns.WideKind.TheVariants.{Number, Row as RowOf, Product, Sum, Common, Value, Length}
-use Rattle.simplex_law.specs.Sums.{dot, unit}
+use Rattle.simplex_law.specs.Sums.{dot, unit_vector}
 use Rattle.simplex_law.specs.Programs.{ColumnOf, IsSlack}
 use Rattle.simplex_law.proofs.Sums.{dot-unit}
 use Rattle.simplex_core.specs.Columns.{column_from, entry_of}
 use Rattle.simplex_core.specs.Prices.{GainsAt}
-use Rattle.simplex_core.specs.Products.{nums_at, den_at}
-use Rattle.simplex_core.specs.Pivots.{IsWideRow}
-use Rattle.simplex_core.specs.Ratios.{IsNoLater, IsRowNoLater}
-use Rattle.simplex_core.specs.Turns.{reduced_cost, Picks, TurnsTo, IsWideOther, GetsWide, Enters, Chooses, HasEntered, Turns}
+use Rattle.simplex_core.specs.inner.Products.{nums_at, den_at}
+use Rattle.simplex_core.specs.inner.Pivots.{IsWideRow}
+use Rattle.simplex_core.specs.inner.Ratios.{IsNoLater, IsRowNoLater}
+use Rattle.simplex_core.specs.inner.Turns.{reduced_cost, Picks, TurnsTo, IsWideOther, GetsWide, Enters, Chooses, HasEntered, IsTurnOutcome}
 use Rattle.simplex_core.specs.declared.basis.Basis.{Basis}
 use Rattle.simplex_core.specs.declared.solver.Turn.{Turn}
 use Rattle.simplex_core.specs.declared.solver.Turn.TheVariants.{Again, Best, Unbounded, Wide, NoMemory}
@@ -80,7 +80,7 @@ module _ {N : Type 0} (m : ℕ) (old : Basis N) (products : List ℤ) (c : Colum
 
 -- a column that has entered makes a turn
 pub entered : {N : Type 0} (m : ℕ) (slack : ℕ → N) (is_listed : ColumnOf N → Type 0) (old : Basis N) (turn : Turn N) (new : Basis N)
-    → HasEntered m slack is_listed old turn new → Turns m slack is_listed old turn new
+    → HasEntered m slack is_listed old turn new → IsTurnOutcome m slack is_listed old turn new
 entered m slack is_listed old Again new h = h
 entered m slack is_listed old (Wide kind) new h = h
 entered m slack is_listed old Unbounded new h = h
@@ -88,7 +88,7 @@ entered m slack is_listed old Best new h = absurd h.enters
 entered m slack is_listed old NoMemory new h = absurd h.enters
 
 -- the one entry of a slack
-slack_entry : (row k : ℕ) → cond (eqb row k) (pos 1) (pos 0) +ℤ pos 0 ≡ unit row k
+slack_entry : (row k : ℕ) → cond (eqb row k) (pos 1) (pos 0) +ℤ pos 0 ≡ unit_vector row k
 slack_entry row k = plain (cond (eqb row k) (pos 1) (pos 0))
   where
     plain : (x : ℤ) → x +ℤ pos 0 ≡ x

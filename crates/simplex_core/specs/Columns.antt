@@ -2,17 +2,13 @@
 use Rattle.std.specs.Prelude.{ℕ, ℤ, List, [], ◌∷◌, pos, ◌≢◌, ◌<◌, ◌≤ℤ◌}
 use Rattle.std.specs.List.{AllByRecursion}
 use Rattle.checked_fraction.specs.Rows.{IsNarrow}
-use Rattle.simplex_law.specs.Programs.{ColumnOf, entry_at, entry_dot}
+use Rattle.simplex_law.specs.Programs.{ColumnOf, entry_at}
 use Rattle.simplex_core.specs.declared.columns.Column.{Column}
 use Rattle.simplex_core.specs.declared.columns.Entry.{Entry}
 
 -- what entries hold in row k
 abbrev pub entry_of : List Entry → ℕ → ℤ
 entry_of = entry_at (λ e. e.row) (λ e. e.value)
-
--- the product of a row with entries
-abbrev pub entries_dot : (ℕ → ℤ) → List Entry → ℤ
-entries_dot = entry_dot (λ e. e.row) (λ e. e.value)
 
 -- a column of a program, from its parts
 abbrev pub column_from : {N : Type 0} → N → ℤ → List Entry → ColumnOf N
@@ -28,11 +24,11 @@ pub record IsEntry (m : ℕ) (e : Entry) : Type 0 where
   pub narrow : IsNarrow e.value
 
 -- no row stands twice
-abbrev pub AreApart : List Entry → Type 0
-AreApart [] = Unit {0}
-AreApart (e ∷ es) = AllByRecursion (λ f. e.row ≢ f.row) es × AreApart es
+abbrev pub HaveApartRows : List Entry → Type 0
+HaveApartRows [] = Unit {0}
+HaveApartRows (e ∷ es) = AllByRecursion (λ f. e.row ≢ f.row) es × HaveApartRows es
 
 -- entries of m rows, each row once
 pub record AreEntries (m : ℕ) (entries : List Entry) : Type 0 where
   pub each : AllByRecursion (IsEntry m) entries
-  pub once : AreApart entries
+  pub once : HaveApartRows entries

@@ -1,12 +1,4 @@
 pub mod Columns
-pub mod Commons
-pub mod Listed
-pub mod Pivots
 pub mod Prices
-pub mod Products
 pub mod Programs
-pub mod Ratios
-pub mod Shapes
-pub mod Solving
-pub mod Turns
-pub mod Values
+pub mod inner

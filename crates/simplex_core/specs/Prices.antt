@@ -14,7 +14,7 @@ abbrev pub GainsAt : {N : Type 0} → ℕ → Row → ColumnOf N → Type 0
 GainsAt rows duals c = dot rows (num duals.nums) c.entry <ℤ (duals.den *ℤ c.gain)
 
 -- a listed column that gains
-pub record IsFound {N : Type 0} (rows : ℕ) (is_listed : ColumnOf N → Type 0) (duals : Row) (c : Column N) : Type 0 where
+pub record IsGainingColumn {N : Type 0} (rows : ℕ) (is_listed : ColumnOf N → Type 0) (duals : Row) (c : Column N) : Type 0 where
   pub listed : is_listed (column_of c)
   pub entries : AreEntries rows c.entries
   pub gain : IsNarrow c.gain
@@ -22,6 +22,6 @@ pub record IsFound {N : Type 0} (rows : ℕ) (is_listed : ColumnOf N → Type 0)
 
 -- a listed column that gains, or that none does
 abbrev pub Finds : {N : Type 0} → ℕ → (ColumnOf N → Type 0) → Row → Price N → Type 0
-Finds rows is_listed duals (Gain c) = IsFound rows is_listed duals c
+Finds rows is_listed duals (Gain c) = IsGainingColumn rows is_listed duals c
 Finds rows is_listed duals Optimal = (c : ColumnOf _) → is_listed c → GainsAt rows duals c → ⊥
 Finds rows is_listed duals NoMemory = Unit {0}

@@ -1,13 +1,11 @@
 -- programs that stay the same, and what is found of them
-use Rattle.std.specs.Prelude.{ℕ, ℤ, List, length, get_or, pos, Some, Result, Ok, Err, ◌≡◌, ◌<◌, ◌^◌, ◌≤ℤ◌, ◌↔◌, ◌*ℤ◌}
-use Rattle.std.specs.List.{slice_get}
+use Rattle.std.specs.Prelude.{ℕ, ℤ, length, get_or, pos, Result, Ok, Err, ◌≡◌, ◌<◌, ◌^◌, ◌≤ℤ◌, ◌↔◌, ◌*ℤ◌}
 use Rattle.checked_fraction.specs.Rows.{num}
-use Rattle.net_core.specs.declared.columns.WideKind.{WideKind}
 use Rattle.simplex_law.specs.Sums.{int_sum}
 use Rattle.simplex_law.specs.Programs.{ColumnOf, IsProgramColumn, slack_basis}
-use Rattle.simplex_law.specs.Bases.{IsReached}
-use Rattle.simplex_law.specs.Evidence.{Holds}
-use Rattle.simplex_law.specs.Optima.{IsOptimum, IsGreatest}
+use Rattle.simplex_law.specs.Bases.{AreNames, IsReached}
+use Rattle.simplex_law.specs.Evidence.{HoldsKind, IsReachedEvidence}
+use Rattle.simplex_law.specs.Optima.{IsOptimum, IsGreatestGain}
 use Rattle.simplex_core.specs.declared.optimum.Optimum.{Optimum}
 use Rattle.simplex_core.specs.declared.solver.SimplexFault.{SimplexFault}
 use Rattle.simplex_core.specs.declared.solver.SimplexFault.TheVariants.{Wide, NoMemory}
@@ -19,11 +17,6 @@ pub record IsSameProgram {N : Type 0} (rows others : ℕ) (bound bounds : ℕ �
   pub slacks_are : (k : ℕ) → k < rows → slacks k ≡ slack k
   pub listed : (c : ColumnOf N) → are_listed c ↔ is_listed c
 
--- the names of the columns of a basis, in order
-pub record AreNames {N : Type 0} (rows : ℕ) (basis : ℕ → ColumnOf N) (names : List N) : Type 0 where
-  pub count : length names ≡ rows
-  pub each : (j : ℕ) → j < rows → slice_get names j ≡ Some (basis j).name
-
 module _ {N : Type 0} (rows : ℕ) (bound : ℕ → ℤ) (slack : ℕ → N) (is_listed : ColumnOf N → Type 0) where
   -- A best basis that gaining steps reach, with values that fill the rows, and duals of equal value. No amounts gain more;
   -- the denominator is below 2 ^ 62, the values are below 2 ^ 124, and no dual is negative.
@@ -32,22 +25,16 @@ module _ {N : Type 0} (rows : ℕ) (bound : ℕ → ℤ) (slack : ℕ → N) (is
     pub names : AreNames rows basis best.basis
     pub reached : IsReached rows bound (IsProgramColumn rows slack is_listed) (slack_basis slack) basis
     pub optimum : IsOptimum rows bound (IsProgramColumn rows slack is_listed) basis (λ j. pos (get_or best.values j 0)) (pos best.den) (num best.duals.nums) best.duals.den
-    pub greatest : IsGreatest rows bound (IsProgramColumn rows slack is_listed) (int_sum rows (λ j. pos (get_or best.values j 0) *ℤ (basis j).gain)) (pos best.den)
+    pub greatest : IsGreatestGain rows bound (IsProgramColumn rows slack is_listed) (int_sum rows (λ j. pos (get_or best.values j 0) *ℤ (basis j).gain)) (pos best.den)
     pub narrow : best.den < 2 ^ 62
     pub low : (j : ℕ) → j < rows → get_or best.values j 0 < 2 ^ 124
     pub count : length best.values ≡ rows
     pub prices : length best.duals.nums ≡ rows
     pub positive : (k : ℕ) → k < rows → pos 0 ≤ℤ num best.duals.nums k
 
-  -- a basis that gaining steps reach, and of which the kind holds
-  pub record IsEvidence (names : List N) (kind : WideKind N) : Type 0 where
-    pub basis : ℕ → ColumnOf N
-    pub names_are : AreNames rows basis names
-    pub reached : IsReached rows bound (IsProgramColumn rows slack is_listed) (slack_basis slack) basis
-    pub holds : Holds rows bound (IsProgramColumn rows slack is_listed) basis kind
-
   -- what is found of a program
-  abbrev pub IsAnswer : Result (Optimum N) (SimplexFault N) → Type 0
-  IsAnswer (Ok best) = Solves best
-  IsAnswer (Err (Wide names kind)) = IsEvidence names kind
-  IsAnswer (Err NoMemory) = Unit {0}
+  abbrev pub IsSimplexAnswer : Result (Optimum N) (SimplexFault N) → Type 0
+  IsSimplexAnswer (Ok best) = Solves best
+  IsSimplexAnswer (Err (Wide names kind)) =
+      IsReachedEvidence rows bound slack (IsProgramColumn rows slack is_listed) (HoldsKind rows bound slack (IsProgramColumn rows slack is_listed)) names kind
+  IsSimplexAnswer (Err NoMemory) = Unit {0}

@@ -1,7 +1,7 @@
 ghost use Rattle.std.specs.Prelude.{◌≡◌, ◌<◌, ◌≤ℤ◌, ℕ, ℤ, pos, length, replicate, IfOk};
 ghost use Rattle.checked_fraction.specs.Rows.{IsNarrow};
-ghost use Rattle.simplex_law.specs.Sums.{unit};
-ghost use Rattle.simplex_core.specs.Shapes.{Each, IsUnit, IsStart};
+ghost use Rattle.simplex_law.specs.Sums.{unit_vector};
+ghost use Rattle.simplex_core.specs.inner.Shapes.{AtEach, IsUnit, IsStartBasis};
 
 use crate::columns::Columns;
 use checked_fraction::Row;
@@ -40,7 +40,7 @@ fn zero_row(alloc: Global, n: u32) -> Result<Row, NoMemory>
 
 fn unit_rows(alloc: Global, n: u32) -> Result<List<Row>, NoMemory>
     ensures count { IfOk result (λ rows. length rows ≡ n) }
-    ensures units { IfOk result (Each (IsUnit n)) }
+    ensures units { IfOk result (AtEach (IsUnit n)) }
 {
     let mut rows = List::new(alloc);
     for i in 0..n {
@@ -54,7 +54,7 @@ fn unit_rows(alloc: Global, n: u32) -> Result<List<Row>, NoMemory>
 
 fn bounds_of<C: Columns>(alloc: Global, cols: &C) -> Result<List<i64>, NoMemory>
     ensures count { IfOk result (λ bounds. length bounds ≡ C.rows cols.now) }
-    ensures bounds { IfOk result (Each (λ i b. b ≡ C.bound cols.now i)) }
+    ensures bounds { IfOk result (AtEach (λ i b. b ≡ C.bound cols.now i)) }
 {
     let mut bounds = List::new(alloc);
     for i in 0..cols.rows() {
@@ -67,7 +67,7 @@ fn bounds_of<C: Columns>(alloc: Global, cols: &C) -> Result<List<i64>, NoMemory>
 
 fn slacks_of<C: Columns>(alloc: Global, cols: &C) -> Result<List<C::Name>, NoMemory>
     ensures count { IfOk result (λ names. length names ≡ C.rows cols.now) }
-    ensures names { IfOk result (Each (λ i name. name ≡ C.slack cols.now i)) }
+    ensures names { IfOk result (AtEach (λ i name. name ≡ C.slack cols.now i)) }
 {
     let mut names = List::new(alloc);
     for i in 0..cols.rows() {
@@ -81,7 +81,7 @@ fn slacks_of<C: Columns>(alloc: Global, cols: &C) -> Result<List<C::Name>, NoMem
 /// The slack basis.
 pub(crate) fn slack_basis<C: Columns>(alloc: Global, cols: &C) -> Result<Basis<C::Name>, NoMemory>
     requires { (k : ℕ) → k < C.rows cols.now → (pos 0 ≤ℤ C.bound cols.now k) × IsNarrow (C.bound cols.now k) }
-    ensures { IfOk result (IsStart (C.rows cols.now) (C.bound cols.now) (C.slack cols.now)) }
+    ensures { IfOk result (IsStartBasis (C.rows cols.now) (C.bound cols.now) (C.slack cols.now)) }
 {
     let n = cols.rows();
     let names = slacks_of(alloc, cols)?;

@@ -2,9 +2,9 @@ ghost use Rattle.std.specs.Prelude.{◌≡◌, ◌*◌, ◌/◌, ◌<◌, ◌≤
 ghost use Rattle.std.specs.Int.{◌∣◌};
 ghost use Rattle.checked_fraction.specs.Rows.{num, IsNarrow};
 ghost use Rattle.simplex_law.specs.Sums.{dot};
-ghost use Rattle.simplex_core.specs.Products.{den_at, IsRectangle};
-ghost use Rattle.simplex_core.specs.Values.{sizes_of};
-ghost use Rattle.simplex_core.specs.Commons.{IsCommonMultiple, IsCommonDenominator, value_at, HaveValues};
+ghost use Rattle.simplex_core.specs.inner.Products.{den_at, IsRectangle};
+ghost use Rattle.simplex_core.specs.inner.Values.{sizes_of};
+ghost use Rattle.simplex_core.specs.inner.Commons.{IsCommonMultiple, IsCommonDenominator, value_at, HaveValues};
 
 use crate::value::row_value;
 use checked_fraction::{Row, gcd};

@@ -1,8 +1,8 @@
 ghost use Rattle.std.specs.Prelude.{◌≡◌, ◌≢◌, ◌<◌, ◌^◌, ◌*ℤ◌, ◌<ℤ◌, ℕ, pos, length, OnOk, IfErr};
 ghost use Rattle.checked_fraction.specs.Rows.{num, IsNarrow, IsReduced};
 ghost use Rattle.checked_fraction.specs.Mixed.{combined, IsTooWide};
-ghost use Rattle.simplex_core.specs.Products.{nums_at, IsRectangle};
-ghost use Rattle.simplex_core.specs.Pivots.{CombinesAt, AreCombined, IsTooWideAt, AreTurned, IsWideRow};
+ghost use Rattle.simplex_core.specs.inner.Products.{nums_at, IsRectangle};
+ghost use Rattle.simplex_core.specs.inner.Pivots.{CombinesAt, AreCombined, IsTooWideAt, AreTurned, IsWideRow};
 
 use checked_fraction::{Row, WideNumber, combine, rescale};
 use net_core::List;

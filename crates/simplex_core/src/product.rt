@@ -3,7 +3,7 @@ ghost use Rattle.std.specs.List.{AllByRecursion};
 ghost use Rattle.checked_fraction.specs.Rows.{num, IsNarrow};
 ghost use Rattle.simplex_law.specs.Sums.{dot};
 ghost use Rattle.simplex_core.specs.Columns.{entry_of, IsEntry};
-ghost use Rattle.simplex_core.specs.Products.{total, IsNarrowOf, HasRoom, HaveProducts, IsRectangle};
+ghost use Rattle.simplex_core.specs.inner.Products.{sum_value, IsNarrowOf, HasRoom, HaveProducts, IsRectangle};
 
 use crate::columns::Entry;
 use crate::sum::Sum;
@@ -16,7 +16,7 @@ fn add_entries(sum: &mut Sum, nums: &[i64], entries: &[Entry])
     requires low { sum.old.low ≤ 2 ^ 62 }
     requires entries { AllByRecursion (IsEntry (length nums.now)) entries.now }
     requires nums { (k : ℕ) → IsNarrow (num nums.now k) }
-    ensures total { total sum.new ≡ total sum.old +ℤ dot (length nums.now) (num nums.now) (entry_of entries.now) }
+    ensures total { sum_value sum.new ≡ sum_value sum.old +ℤ dot (length nums.now) (num nums.now) (entry_of entries.now) }
     ensures room { HasRoom sum.new }
 {
     for entry in entries {
@@ -39,7 +39,7 @@ fn row_product(nums: &[i64], entries: &[Entry]) -> Option<i64>
 fn objective_sum(duals: &Row, gain: &i64, entries: &[Entry]) -> Sum
     requires gain { IsNarrow gain.now }
     requires entries { AllByRecursion (IsEntry (length duals.now.nums)) entries.now }
-    ensures total { total result ≡ dot (length duals.now.nums) (num duals.now.nums) (entry_of entries.now) -ℤ duals.now.den *ℤ gain.now }
+    ensures total { sum_value result ≡ dot (length duals.now.nums) (num duals.now.nums) (entry_of entries.now) -ℤ duals.now.den *ℤ gain.now }
     ensures room { HasRoom result }
 {
     let mut sum = Sum::new();

@@ -2,9 +2,9 @@ ghost use Rattle.std.specs.Prelude.{◌≡◌, ◌+◌, ◌<◌, ◌≤◌, ◌^
 ghost use Rattle.std.specs.Option.{ForSome, option_map};
 ghost use Rattle.checked_fraction.specs.Rows.{num, IsNarrow};
 ghost use Rattle.simplex_law.specs.Sums.{dot};
-ghost use Rattle.simplex_core.specs.Products.{nums_at, IsRectangle};
-ghost use Rattle.simplex_core.specs.Ratios.{Stands, IsPlaced, IsCandidate, Compares, HaveRowValues, ComparesRows, IsFirstOf, IsBetter, IsBestBefore, Leaves};
-ghost use Rattle.simplex_core.specs.Values.{sizes_of};
+ghost use Rattle.simplex_core.specs.inner.Products.{nums_at, IsRectangle};
+ghost use Rattle.simplex_core.specs.inner.Ratios.{HasOrder, IsPlaced, IsCandidate, ComparesNumbers, HaveRowValues, ComparesRows, IsFirstOf, IsBetter, IsBestBefore, IsLeavingRow};
+ghost use Rattle.simplex_core.specs.inner.Values.{sizes_of};
 
 use crate::sum::product;
 use crate::value::row_value;
@@ -26,7 +26,7 @@ fn compare_products(a: &i64, b: &i64, c: &i64, d: &i64) -> Ordering
     requires b { IsNarrow b.now }
     requires c { IsNarrow c.now }
     requires d { IsNarrow d.now }
-    ensures { Stands (a.now *ℤ b.now) (c.now *ℤ d.now) result }
+    ensures { HasOrder (a.now *ℤ b.now) (c.now *ℤ d.now) result }
 {
     let here = product(a, b);
     let there = product(c, d);
@@ -46,7 +46,7 @@ fn compare_numbers(first: &[i64], p: &i64, second: &[i64], q: &i64) -> Ordering
     requires second { (k : ℕ) → IsNarrow (num second.now k) }
     requires p { IsNarrow p.now }
     requires q { IsNarrow q.now }
-    ensures { Compares (length first.now) (λ k. num first.now k *ℤ q.now) (λ k. num second.now k *ℤ p.now) result }
+    ensures { ComparesNumbers (length first.now) (λ k. num first.now k *ℤ q.now) (λ k. num second.now k *ℤ p.now) result }
 {
     for k in 0..first.len() {
         match compare_products(&first[k], q, &second[k], p) {
@@ -61,7 +61,7 @@ fn compare_numbers(first: &[i64], p: &i64, second: &[i64], q: &i64) -> Ordering
 fn compare_values(first: &Candidate, second: &Candidate) -> Ordering
     requires first { pos 0 <ℤ first.now.product }
     requires second { pos 0 <ℤ second.now.product }
-    ensures { Compares 1 (λ k. pos first.now.value *ℤ second.now.product) (λ k. pos second.now.value *ℤ first.now.product) result }
+    ensures { ComparesNumbers 1 (λ k. pos first.now.value *ℤ second.now.product) (λ k. pos second.now.value *ℤ first.now.product) result }
 {
     let p = first.product.unsigned_abs() as u128;
     let q = second.product.unsigned_abs() as u128;
@@ -75,7 +75,7 @@ fn compare_rows(rows: &[Row], first: &Candidate, second: &Candidate) -> Ordering
     requires inside_second { second.now.row < length rows.now }
     requires narrow_first { IsNarrow first.now.product }
     requires narrow_second { IsNarrow second.now.product }
-    ensures { Compares (length rows.now) (λ k. nums_at rows.now first.now.row k *ℤ second.now.product) (λ k. nums_at rows.now second.now.row k *ℤ first.now.product) result }
+    ensures { ComparesNumbers (length rows.now) (λ k. nums_at rows.now first.now.row k *ℤ second.now.product) (λ k. nums_at rows.now second.now.row k *ℤ first.now.product) result }
 {
     compare_numbers(
         rows[first.row].nums(),
@@ -196,7 +196,7 @@ fn leaving_row(rows: &[Row], bounds: &[i64], products: &[i64]) -> Result<Option<
     requires bounds { (k : ℕ) → IsNarrow (num bounds.now k) }
     requires narrow { (k : ℕ) → k < length rows.now → IsNarrow (num products.now k) }
     requires values { (k : ℕ) → k < length rows.now → pos 0 ≤ℤ dot (length rows.now) (nums_at rows.now k) (num bounds.now) }
-    ensures { Leaves (length rows.now) rows.now bounds.now products.now result }
+    ensures { IsLeavingRow (length rows.now) rows.now bounds.now products.now result }
 {
     let mut best = None;
     for i in 0..rows.len() {
@@ -218,7 +218,7 @@ pub(crate) fn leaving_of(
     requires bounds { (k : ℕ) → IsNarrow (num bounds.now k) }
     requires narrow { (k : ℕ) → k < length rows.now → IsNarrow (num products.now k) }
     requires values { (k : ℕ) → k < length rows.now → pos 0 ≤ℤ dot (length rows.now) (nums_at rows.now k) (num bounds.now) }
-    ensures { Leaves (length rows.now) rows.now bounds.now products.now result }
+    ensures { IsLeavingRow (length rows.now) rows.now bounds.now products.now result }
 {
     leaving_row(rows.items(), bounds.items(), products.items())
 }

@@ -4,12 +4,12 @@ ghost use Rattle.checked_fraction.specs.Rows.{num, IsNarrow};
 ghost use Rattle.simplex_law.specs.Sums.{dot};
 ghost use Rattle.simplex_law.specs.Programs.{ColumnOf, IsProgramColumn, IsPacking};
 ghost use Rattle.simplex_core.specs.Columns.{IsEntry, column_from};
-ghost use Rattle.simplex_core.specs.Products.{nums_at};
-ghost use Rattle.simplex_core.specs.Programs.{IsSameProgram, IsAnswer};
-ghost use Rattle.simplex_core.specs.Shapes.{IsShaped};
-ghost use Rattle.simplex_core.specs.Values.{sizes_of};
-ghost use Rattle.simplex_core.specs.Solving.{Ends, HasLowValues};
-ghost use Rattle.simplex_core.specs.Turns.{reduced_cost, Chooses, Enters, Turns};
+ghost use Rattle.simplex_core.specs.inner.Products.{nums_at};
+ghost use Rattle.simplex_core.specs.Programs.{IsSameProgram, IsSimplexAnswer};
+ghost use Rattle.simplex_core.specs.inner.Shapes.{IsShaped};
+ghost use Rattle.simplex_core.specs.inner.Values.{sizes_of};
+ghost use Rattle.simplex_core.specs.inner.Outcomes.{IsBasisOutcome, HasLowValues};
+ghost use Rattle.simplex_core.specs.inner.Turns.{reduced_cost, Chooses, Enters, IsTurnOutcome};
 
 use crate::basis::{Basis, slack_basis};
 use crate::columns::{Column, Columns, Entry, Price};
@@ -128,7 +128,7 @@ fn take_turn<C: Columns>(cols: &mut C, basis: &mut Basis<C::Name>) -> Turn<C::Na
     requires shaped { IsShaped (C.rows cols.old) basis.old }
     requires values { (k : ℕ) → k < length basis.old.rows → pos 0 ≤ℤ dot (length basis.old.rows) (nums_at basis.old.rows k) (num basis.old.bounds) }
     ensures same { IsSameProgram (C.rows cols.old) (C.rows cols.new) (C.bound cols.old) (C.bound cols.new) (C.slack cols.old) (C.slack cols.new) (C.is_listed cols.old) (C.is_listed cols.new) }
-    ensures turn { Turns (C.rows cols.old) (C.slack cols.old) (C.is_listed cols.old) basis.old result basis.new }
+    ensures turn { IsTurnOutcome (C.rows cols.old) (C.slack cols.old) (C.is_listed cols.old) basis.old result basis.new }
 {
     if let Some(row) = negative_dual(basis.duals.nums()) {
         let entry = Entry { row, value: 1 };
@@ -151,7 +151,7 @@ fn take_turn<C: Columns>(cols: &mut C, basis: &mut Basis<C::Name>) -> Turn<C::Na
 fn finish<N: Drop>(alloc: Global, basis: Basis<N>) -> Result<Optimum<N>, SimplexFault<N>>
     requires shaped { IsShaped (length basis.rows) basis }
     requires low { HasLowValues basis }
-    ensures { Ends basis result }
+    ensures { IsBasisOutcome basis result }
 {
     let Some(den) = common_denominator(basis.rows.items(), &basis.duals) else {
         return Err(SimplexFault::Wide {
@@ -181,7 +181,7 @@ pub fn solve<C: Columns>(
 ) -> Result<Optimum<C::Name>, SimplexFault<C::Name>>
     requires { IsPacking (C.rows cols.old) (C.bound cols.old) (IsProgramColumn (C.rows cols.old) (C.slack cols.old) (C.is_listed cols.old)) }
     ensures same { IsSameProgram (C.rows cols.old) (C.rows cols.new) (C.bound cols.old) (C.bound cols.new) (C.slack cols.old) (C.slack cols.new) (C.is_listed cols.old) (C.is_listed cols.new) }
-    ensures answer { IsAnswer (C.rows cols.old) (C.bound cols.old) (C.slack cols.old) (C.is_listed cols.old) result }
+    ensures answer { IsSimplexAnswer (C.rows cols.old) (C.bound cols.old) (C.slack cols.old) (C.is_listed cols.old) result }
 {
     let Ok(mut basis) = slack_basis(alloc, cols) else {
         return Err(SimplexFault::NoMemory);

@@ -1,6 +1,6 @@
 ghost use Rattle.std.specs.Prelude.{◌≡◌, ◌+◌, ◌<◌, ◌≤◌, ◌^◌, ◌+ℤ◌, ◌-ℤ◌, ◌*ℤ◌, ◌/◌, ◌%◌, ◌<ℤ◌, ◌↔◌, pos, unsigned_abs, IsTrue};
 ghost use Rattle.checked_fraction.specs.Rows.{IsNarrow};
-ghost use Rattle.simplex_core.specs.Products.{total, IsNarrowOf, HasRoom};
+ghost use Rattle.simplex_core.specs.inner.Products.{sum_value, IsNarrowOf, HasRoom};
 
 /// A running sum of products of narrow numbers, as `high * 2^62 + low`. It need not fit into 128 bits.
 #[derive(Clone, Copy)]
@@ -37,7 +37,7 @@ impl Sum {
     fn raise(&mut self, size: u128)
         requires room { HasRoom self.old }
         requires bound { size < 2 ^ 124 }
-        ensures total { total self.new ≡ total self.old +ℤ pos size }
+        ensures total { sum_value self.new ≡ sum_value self.old +ℤ pos size }
         ensures high { unsigned_abs self.new.high ≤ unsigned_abs self.old.high + 2 ^ 62 }
         ensures low { self.new.low ≤ self.old.low + 2 ^ 62 }
     {
@@ -48,7 +48,7 @@ impl Sum {
     fn lower(&mut self, size: u128)
         requires room { HasRoom self.old }
         requires bound { size < 2 ^ 124 }
-        ensures total { total self.new ≡ total self.old -ℤ pos size }
+        ensures total { sum_value self.new ≡ sum_value self.old -ℤ pos size }
         ensures high { unsigned_abs self.new.high ≤ unsigned_abs self.old.high + 2 ^ 62 }
         ensures low { self.new.low ≤ self.old.low + 2 ^ 62 }
     {
@@ -61,7 +61,7 @@ impl Sum {
         requires room { HasRoom self.old }
         requires a { IsNarrow a.now }
         requires b { IsNarrow b.now }
-        ensures total { total self.new ≡ total self.old +ℤ a.now *ℤ b.now }
+        ensures total { sum_value self.new ≡ sum_value self.old +ℤ a.now *ℤ b.now }
         ensures high { unsigned_abs self.new.high ≤ unsigned_abs self.old.high + 2 ^ 62 }
         ensures low { self.new.low ≤ self.old.low + 2 ^ 62 }
     {
@@ -78,7 +78,7 @@ impl Sum {
         requires room { HasRoom self.old }
         requires a { IsNarrow a.now }
         requires b { IsNarrow b.now }
-        ensures total { total self.new ≡ total self.old -ℤ a.now *ℤ b.now }
+        ensures total { sum_value self.new ≡ sum_value self.old -ℤ a.now *ℤ b.now }
         ensures high { unsigned_abs self.new.high ≤ unsigned_abs self.old.high + 2 ^ 62 }
         ensures low { self.new.low ≤ self.old.low + 2 ^ 62 }
     {
@@ -108,7 +108,7 @@ impl Sum {
     /// The sum, where it is below 2^62 in absolute value.
     pub(crate) fn narrow(&self) -> Option<i64>
         requires { HasRoom self.now }
-        ensures { IsNarrowOf (total self.now) result }
+        ensures { IsNarrowOf (sum_value self.now) result }
     {
         let rest = self.rest();
         match self.carried() {
@@ -121,7 +121,7 @@ impl Sum {
     /// Whether the sum is below 0.
     pub(crate) fn is_negative(&self) -> bool
         requires { HasRoom self.now }
-        ensures { IsTrue result ↔ (total self.now <ℤ pos 0) }
+        ensures { IsTrue result ↔ (sum_value self.now <ℤ pos 0) }
     {
         self.carried() < 0
     }

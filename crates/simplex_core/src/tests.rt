@@ -2,7 +2,7 @@ ghost use Rattle.std.specs.Prelude.{◌≡◌, ◌<◌, ◌^◌, ◌<ℤ◌, ◌
 ghost use Rattle.checked_fraction.specs.Rows.{num, IsNarrow};
 ghost use Rattle.simplex_law.specs.Sums.{dot};
 ghost use Rattle.simplex_core.specs.Columns.{entry_of};
-ghost use Rattle.simplex_core.specs.Listed.{Fits, Copies, entries_of};
+ghost use Rattle.simplex_core.specs.inner.Listed.{IsPackingNumber, Copies, entries_of};
 
 use crate::columns::{Column, Columns, Entry, Price};
 use crate::optimum::Optimum;
@@ -26,9 +26,9 @@ struct Bounds {
     first: i64,
     second: i64,
     third: i64,
-    ghost fits_first: { Fits first },
-    ghost fits_second: { Fits second },
-    ghost fits_third: { Fits third },
+    ghost fits_first: { IsPackingNumber first },
+    ghost fits_second: { IsPackingNumber second },
+    ghost fits_third: { IsPackingNumber third },
 }
 
 /// A column with its entries in the three rows.
@@ -39,9 +39,9 @@ struct Shape {
     second: i64,
     third: i64,
     ghost narrow: { IsNarrow gain },
-    ghost fits_first: { Fits first },
-    ghost fits_second: { Fits second },
-    ghost fits_third: { Fits third },
+    ghost fits_first: { IsPackingNumber first },
+    ghost fits_second: { IsPackingNumber second },
+    ghost fits_third: { IsPackingNumber third },
     ghost some: { pos 0 <ℤ ((first +ℤ second) +ℤ third) },
 }
 
@@ -55,7 +55,7 @@ struct Program {
 }
 
 impl Columns for Program {
-    ghost use Rattle.simplex_core.specs.Listed.{three, IsListed};
+    ghost use Rattle.simplex_core.specs.inner.Listed.{three, IsListedColumn};
     ghost use Rattle.simplex_core.specs.declared.tests.Label.TheVariants.{Slack, Listed};
 
     type Name = Label;
@@ -66,7 +66,7 @@ impl Columns for Program {
 
     ghost slack = { λ p. Slack };
 
-    ghost is_listed = { λ p. IsListed Listed (λ x. x.gain) (λ x. entries_of x.first x.second x.third) p.shapes };
+    ghost is_listed = { λ p. IsListedColumn Listed (λ x. x.gain) (λ x. entries_of x.first x.second x.third) p.shapes };
 
     fn rows(&self) -> u32 {
         3
@@ -160,9 +160,9 @@ fn solved(
 }
 
 fn limits(first: i64, second: i64, third: i64) -> Bounds
-    requires first { Fits first }
-    requires second { Fits second }
-    requires third { Fits third }
+    requires first { IsPackingNumber first }
+    requires second { IsPackingNumber second }
+    requires third { IsPackingNumber third }
 {
     Bounds {
         first,
@@ -173,9 +173,9 @@ fn limits(first: i64, second: i64, third: i64) -> Bounds
 
 fn column(gain: i64, first: i64, second: i64, third: i64) -> Shape
     requires narrow { IsNarrow gain }
-    requires first { Fits first }
-    requires second { Fits second }
-    requires third { Fits third }
+    requires first { IsPackingNumber first }
+    requires second { IsPackingNumber second }
+    requires third { IsPackingNumber third }
     requires some { pos 0 <ℤ ((first +ℤ second) +ℤ third) }
 {
     Shape {

@@ -5,8 +5,8 @@ use Rattle.std.specs.Int.Signed.{◌<ℤ◌}
 use Rattle.checked_fraction.specs.Mixed.{combined}
 use Rattle.simplex_law.specs.Sums.{dot, sum_below}
 use Rattle.simplex_law.specs.Programs.{ColumnOf}
-use Rattle.simplex_law.specs.Lexicographic.{IsLexNonneg, valued}
-use Rattle.simplex_law.specs.Turns.{IsPick}
+use Rattle.simplex_law.specs.inner.Lexicographic.{IsLexNonneg, valued}
+use Rattle.simplex_law.specs.inner.Pivots.{IsPick}
 use Rattle.simplex_law.proofs.Sums.{dot-same}
 
 lex_same : (n : ℕ) (u v : ℕ → ℤ) → ((k : ℕ) → k < n → u k ≡ v k) → IsLexNonneg n u → IsLexNonneg n v

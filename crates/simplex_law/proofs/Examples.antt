@@ -4,9 +4,9 @@ use Rattle.std.proofs.Math.IntN.{ℤ, pos, negsuc, ◌*ℤ◌}
 use Rattle.std.specs.Int.Signed.{◌<ℤ◌}
 use Rattle.std.proofs.lemmas.Int.{ints}
 use Rattle.std.proofs.Math.Nat.{eq-one_of_dvd-one}
-use Rattle.simplex_law.specs.Sums.{dot, unit, put}
+use Rattle.simplex_law.specs.Sums.{dot, unit_vector, put}
 use Rattle.simplex_law.specs.Programs.{ColumnOf, IsProgramColumn, slack_basis}
-use Rattle.simplex_law.specs.Bases.{IsFeasible, IsReached}
+use Rattle.simplex_law.specs.Bases.{IsFeasible, IsBest, IsReached}
 use Rattle.simplex_law.specs.Evidence.{HoldsRow, HoldsProduct}
 use Rattle.simplex_law.specs.Optima.{IsOptimum}
 use Rattle.simplex_law.proofs.Reached.{slack_is}
@@ -46,17 +46,23 @@ feasible1 = record {
       (two (negsuc 0) (pos 2), pos 3, (omega (arith, ints), both _ refl refl), omega (arith, ints));
 }
 
--- values 4/3 and 4/3, duals 1/3 and 1/3
-optimum1 : IsOptimum 2 (λ k. pos 4) (Of a1 b1) (two a1 b1) (λ j. pos 4) (pos 3) (λ k. pos 1) (pos 3)
-optimum1 = record {
+-- no column gains at the prices 1/3 and 1/3
+best1 : IsBest 2 (λ k. pos 4) (Of a1 b1) (two a1 b1) (λ k. pos 1) (pos 3)
+best1 = record {
   feasible = feasible1;
   objective = (omega (arith, ints), both _ refl refl);
-  lowest = λ d of_den of_nums. eq-one_of_dvd-one (of_nums 0 (omega arith));
-  best = none_gains 2 (λ k. pos 4) slacks (λ c. (c ≡ a1) ⊎ (c ≡ b1)) (λ k. pos 1) (pos 3) (λ k l. omega (arith, ints))
+  none = none_gains 2 (λ k. pos 4) slacks (λ c. (c ≡ a1) ⊎ (c ≡ b1)) (λ k. pos 1) (pos 3) (λ k l. omega (arith, ints))
       (λ c is_c. ⊎_elim
       (λ e. subst (λ x. dot 2 (λ k. pos 1) x.entry <ℤ (pos 3 *ℤ x.gain) → ⊥) (sym e) (λ h. omega (arith, ints, h)))
       (λ e. subst (λ x. dot 2 (λ k. pos 1) x.entry <ℤ (pos 3 *ℤ x.gain) → ⊥) (sym e) (λ h. omega (arith, ints, h)))
       is_c);
+}
+
+-- values 4/3 and 4/3, duals 1/3 and 1/3
+optimum1 : IsOptimum 2 (λ k. pos 4) (Of a1 b1) (two a1 b1) (λ j. pos 4) (pos 3) (λ k. pos 1) (pos 3)
+optimum1 = record {
+  best = best1;
+  lowest = λ d of_den of_nums. eq-one_of_dvd-one (of_nums 0 (omega arith));
   positive = omega (arith, ints);
   values_positive = λ j l. omega (arith, ints);
   filled = both _ refl refl;
@@ -68,8 +74,8 @@ start1 : IsFeasible 2 (λ k. pos 4) (Of a1 b1) (slack_basis slacks)
 start1 = record {
   columns = λ j l. inr (slack_is 2 slacks j l);
   filled = both _
-      (unit 0, pos 1, (omega (arith, ints), both _ refl refl), omega (arith, ints))
-      (unit 1, pos 1, (omega (arith, ints), both _ refl refl), omega (arith, ints));
+      (unit_vector 0, pos 1, (omega (arith, ints), both _ refl refl), omega (arith, ints))
+      (unit_vector 1, pos 1, (omega (arith, ints), both _ refl refl), omega (arith, ints));
 }
 
 after1 : IsFeasible 2 (λ k. pos 4) (Of a1 b1) (put (slack_basis slacks) 0 a1)
@@ -85,7 +91,7 @@ reached1 = record {
   from = start1;
   here = feasible1;
   steps = 2;
-  leads = (
+  path = (
     put (slack_basis slacks) 0 a1,
     (
       slack_basis slacks,
@@ -121,15 +127,17 @@ reached1 = record {
 -- the same with bounds 0 and 0: values 0 and 0
 optimum2 : IsOptimum 2 (λ k. pos 0) (Of a1 b1) (two a1 b1) (λ j. pos 0) (pos 3) (λ k. pos 1) (pos 3)
 optimum2 = record {
-  feasible = record {
-    columns = feasible1.columns;
-    filled = both _
-        (two (pos 2) (negsuc 0), pos 3, (omega (arith, ints), both _ refl refl), omega (arith, ints))
-        (two (negsuc 0) (pos 2), pos 3, (omega (arith, ints), both _ refl refl), omega (arith, ints));
+  best = record {
+    feasible = record {
+      columns = feasible1.columns;
+      filled = both _
+          (two (pos 2) (negsuc 0), pos 3, (omega (arith, ints), both _ refl refl), omega (arith, ints))
+          (two (negsuc 0) (pos 2), pos 3, (omega (arith, ints), both _ refl refl), omega (arith, ints));
+    };
+    objective = (omega (arith, ints), both _ refl refl);
+    none = none_gains 2 (λ k. pos 0) slacks (λ c. (c ≡ a1) ⊎ (c ≡ b1)) (λ k. pos 1) (pos 3) (λ k l. omega (arith, ints)) (λ c is_c gains. best1.none c (inl is_c) gains);
   };
-  objective = optimum1.objective;
-  lowest = optimum1.lowest;
-  best = none_gains 2 (λ k. pos 0) slacks (λ c. (c ≡ a1) ⊎ (c ≡ b1)) (λ k. pos 1) (pos 3) (λ k l. omega (arith, ints)) (λ c is_c gains. optimum1.best c (inl is_c) gains);
+  lowest = λ d of_den of_nums. eq-one_of_dvd-one (of_nums 0 (omega arith));
   positive = omega (arith, ints);
   values_positive = λ j l. omega (arith, ints);
   filled = both _ refl refl;
@@ -139,10 +147,12 @@ optimum2 = record {
 -- no columns: the slack basis, the bounds as values, duals 0
 optimum3 : IsOptimum 2 (λ k. pos 4) (IsProgramColumn 2 slacks (λ c. ⊥)) (slack_basis slacks) (λ j. pos 4) (pos 1) (λ k. pos 0) (pos 1)
 optimum3 = record {
-  feasible = record { columns = λ j l. inr (slack_is 2 slacks j l); filled = start1.filled };
-  objective = (omega (arith, ints), both _ refl refl);
+  best = record {
+    feasible = record { columns = λ j l. inr (slack_is 2 slacks j l); filled = start1.filled };
+    objective = (omega (arith, ints), both _ refl refl);
+    none = none_gains 2 (λ k. pos 4) slacks (λ c. ⊥) (λ k. pos 0) (pos 1) (λ k l. omega (arith, ints)) (λ c none gains. none);
+  };
   lowest = λ d of_den of_nums. eq-one_of_dvd-one of_den;
-  best = none_gains 2 (λ k. pos 4) slacks (λ c. ⊥) (λ k. pos 0) (pos 1) (λ k l. omega (arith, ints)) (λ c none gains. none);
   positive = omega (arith, ints);
   values_positive = λ j l. omega (arith, ints);
   filled = both _ refl refl;
@@ -157,27 +167,27 @@ abbrev b4 : ColumnOf ℕ
 b4 = column 1 (pos 2) (pos 1) (pos (2 ^ 40))
 
 -- the first row of the basis of a and b has the denominator 2 ^ 80
-wide_row4 : HoldsRow 2 (λ k. pos (2 ^ 50)) (Of a4 b4) (two a4 b4) 0
+wide_row4 : HoldsRow 2 (two a4 b4) 0
 wide_row4 = (
   two (pos (2 ^ 40)) (negsuc 0),
   pos (2 ^ 80),
   record {
     place = omega arith;
-    gives = (omega (arith, ints), both _ refl refl);
+    row = (omega (arith, ints), both _ refl refl);
     lowest = λ d of_den of_nums. eq-one_of_dvd-one (of_nums 1 (omega arith));
   },
   inl (omega (arith, ints)),
 )
 
 -- the first row of the basis of b and the slack of the first row has the product 2 ^ 80 with a
-wide_product4 : HoldsProduct 2 (λ k. pos (2 ^ 50)) (Of a4 b4) (put (slack_basis slacks) 1 b4) 0 0
+wide_product4 : HoldsProduct 2 (Of a4 b4) (put (slack_basis slacks) 1 b4) 0 0
 wide_product4 = (
   two (pos (2 ^ 40)) (negsuc 0),
   pos (2 ^ 40),
   a4,
   record {
     place = omega arith;
-    gives = (omega (arith, ints), both _ refl refl);
+    row = (omega (arith, ints), both _ refl refl);
     lowest = λ d of_den of_nums. eq-one_of_dvd-one (of_nums 1 (omega arith));
   },
   inl (inl refl),

@@ -5,8 +5,8 @@ use Rattle.std.specs.Int.Signed.{◌<ℤ◌}
 use Rattle.std.proofs.lemmas.Int.{ints}
 use Rattle.std.proofs.lemmas.Bool.{cases_eq, eq-eqb, ne_eqb}
 use Rattle.checked_fraction.specs.Mixed.{combined}
-use Rattle.simplex_law.specs.Sums.{int_sum, dot, unit, put}
-use Rattle.simplex_law.specs.Turns.{IsFilling}
+use Rattle.simplex_law.specs.Sums.{int_sum, dot, unit_vector, put}
+use Rattle.simplex_law.proofs.Tableaux.{IsFilling}
 use Rattle.simplex_law.proofs.Arithmetic.{distribute_minus, minus_left, regroup, swap_last, moved_out, times_positive, same_cancel}
 use Rattle.simplex_law.proofs.Sums.{sum-same, sum-times, sum-minus, sum-swapped, sum-put, sum-unit}
 use Rattle.simplex_law.proofs.Rows.{IsMultiple}
@@ -21,8 +21,8 @@ fills m basic nums den w b all h k lt =
     ∙ (sym (sum-times m (basic j k) (λ l. w j *ℤ (nums j l *ℤ b l)))
     ∙ sum-same m _ _ (λ l ll. each (w j) (nums j l) (b l) (basic j k)))))
     ∙ (sum-swapped m m (λ j l. b l *ℤ ((w j *ℤ nums j l) *ℤ basic j k))
-    ∙ (sum-same m _ (λ l. (all *ℤ b l) *ℤ unit k l)
-    (λ l ll. sum-times m (b l) (λ j. (w j *ℤ nums j l) *ℤ basic j k) ∙ (ap (λ s. b l *ℤ s) (h.filled k l lt ll) ∙ (moved_out (b l) all (unit k l) ∙ sym (regroup all (b l) (unit k l)))))
+    ∙ (sum-same m _ (λ l. (all *ℤ b l) *ℤ unit_vector k l)
+    (λ l ll. sum-times m (b l) (λ j. (w j *ℤ nums j l) *ℤ basic j k) ∙ (ap (λ s. b l *ℤ s) (h.filled k l lt ll) ∙ (moved_out (b l) all (unit_vector k l) ∙ sym (regroup all (b l) (unit_vector k l)))))
     ∙ sum-unit m k (λ l. all *ℤ b l) lt))
   where
     each : (w n b c : ℤ) → c *ℤ (w *ℤ (n *ℤ b)) ≡ b *ℤ ((w *ℤ n) *ℤ c)
@@ -64,15 +64,15 @@ next_filling m r basic nums den w a all q rm pq h is_q = record {
       (sym (regroup (w j) (den j) q) ∙ ap (λ s. s *ℤ q) (h.weights j lj)))
       (cases_eq r j);
   filled = λ k l lk ll.
-      let whole : int_sum m (f k l) ≡ (q *ℤ (all *ℤ unit k l)) -ℤ (nums r l *ℤ (all *ℤ a k)) =
+      let whole : int_sum m (f k l) ≡ (q *ℤ (all *ℤ unit_vector k l)) -ℤ (nums r l *ℤ (all *ℤ a k)) =
       sum-same m (f k l) (λ j. (q *ℤ ((w j *ℤ nums j l) *ℤ basic j k)) -ℤ (nums r l *ℤ ((w j *ℤ p j) *ℤ basic j k))) (λ j lj. term (w j) (nums j l) q (p j) (nums r l) (basic j k))
       ∙ (sum-minus m (λ j. q *ℤ ((w j *ℤ nums j l) *ℤ basic j k)) (λ j. nums r l *ℤ ((w j *ℤ p j) *ℤ basic j k))
       ∙ (ap (λ s. s -ℤ int_sum m (λ j. nums r l *ℤ ((w j *ℤ p j) *ℤ basic j k))) (sum-times m q (λ j. (w j *ℤ nums j l) *ℤ basic j k) ∙ ap (λ s. q *ℤ s) (h.filled k l lk ll))
-      ∙ ap (λ s. (q *ℤ (all *ℤ unit k l)) -ℤ s) (sum-times m (nums r l) (λ j. (w j *ℤ p j) *ℤ basic j k) ∙ ap (λ s. nums r l *ℤ s) (fills m basic nums den w a all h k lk)))) in
+      ∙ ap (λ s. (q *ℤ (all *ℤ unit_vector k l)) -ℤ s) (sum-times m (nums r l) (λ j. (w j *ℤ p j) *ℤ basic j k) ∙ ap (λ s. nums r l *ℤ s) (fills m basic nums den w a all h k lk)))) in
       let none : f k l r ≡ pos 0 = no_term (w r) (nums r l) q (p r) (basic r k) is_q in
       let shape : int_sum m (λ j. (put w r all j *ℤ next_nums nums p r q j l) *ℤ put basic r a j k) ≡ int_sum m (put (f k l) r ((all *ℤ nums r l) *ℤ a k)) =
       sum-same m _ _ (λ j lj. by_place k l j (eqb r j) refl) in
-      shape ∙ (sum-put m r (f k l) ((all *ℤ nums r l) *ℤ a k) rm ∙ last_step _ _ _ (nums r l) all q (a k) (unit k l) whole refl none);
+      shape ∙ (sum-put m r (f k l) ((all *ℤ nums r l) *ℤ a k) rm ∙ last_step _ _ _ (nums r l) all q (a k) (unit_vector k l) whole refl none);
 }
   where
     p : ℕ → ℤ
@@ -126,8 +126,8 @@ other_filling m basic nums den w v all total over pt weights h = record {
       sym (sum-times m all (λ j. (v j *ℤ nums j l) *ℤ basic j k))
       ∙ (sum-same m _ _ (λ j lj. crossed (w j) (v j) (den j) (nums j l) (basic j k) (over j lj) (h.weights j lj) (weights j lj))
       ∙ sum-times m total (λ j. (w j *ℤ nums j l) *ℤ basic j k)) in
-      same_cancel all (int_sum m (λ j. (v j *ℤ nums j l) *ℤ basic j k)) (total *ℤ unit k l) h.positive
-      (same ∙ (ap (λ s. total *ℤ s) (h.filled k l lk ll) ∙ moved_out total all (unit k l)));
+      same_cancel all (int_sum m (λ j. (v j *ℤ nums j l) *ℤ basic j k)) (total *ℤ unit_vector k l) h.positive
+      (same ∙ (ap (λ s. total *ℤ s) (h.filled k l lk ll) ∙ moved_out total all (unit_vector k l)));
 }
   where
     crossed : (a b d n c : ℤ) → pos 0 <ℤ d → a *ℤ d ≡ all → b *ℤ d ≡ total → all *ℤ ((b *ℤ n) *ℤ c) ≡ total *ℤ ((a *ℤ n) *ℤ c)

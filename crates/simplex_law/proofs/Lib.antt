@@ -11,6 +11,7 @@ pub mod Reached
 pub mod Rows
 pub mod Sparse
 pub mod Sums
+pub mod Tableaux
 pub mod Turned
 pub mod Values
 pub mod Widths

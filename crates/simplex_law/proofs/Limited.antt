@@ -6,7 +6,7 @@ use Rattle.std.proofs.lemmas.Int.{ints, by_lt_z}
 use Rattle.simplex_law.specs.Sums.{dot}
 use Rattle.simplex_law.specs.Programs.{ColumnOf, IsPacking}
 use Rattle.simplex_law.specs.Bases.{Gains}
-use Rattle.simplex_law.specs.Turns.{State}
+use Rattle.simplex_law.proofs.Tableaux.{IsTableau}
 use Rattle.simplex_law.proofs.Arithmetic.{times_nonpositive, positive_cancel, le_cancel}
 use Rattle.simplex_law.proofs.Sums.{sum-le, sum-none, dot-none-column}
 use Rattle.simplex_law.proofs.Filling.{fills}
@@ -18,7 +18,7 @@ weight_positive w den all pd pa e = positive_cancel den w pd (subst (λ x. pos 0
 -- products with the basis' rows that are nowhere positive belong to a column without entries, which gains nothing
 pub limited : {N : Type 0} (m : ℕ) (bound : ℕ → ℤ) (is_column : ColumnOf N → Type 0) (basis : ℕ → ColumnOf N) (nums : ℕ → ℕ → ℤ) (den duals : ℕ → ℤ) (duals_den : ℤ) (c : ColumnOf N)
     → IsPacking m bound is_column → ((j : ℕ) → j < m → is_column (basis j)) → is_column c
-    → State m bound basis nums den duals duals_den → Gains m bound is_column duals duals_den c
+    → IsTableau m bound basis nums den duals duals_den → Gains m duals duals_den c
     → ((i : ℕ) → i < m → dot m (nums i) c.entry ≤ℤ pos 0) → ⊥
 limited m bound is_column basis nums den duals duals_den c packing columns is_c s gains none = by_lt_z (pos 0) c.gain
     (λ above. let k = packing.limited c is_c above in let z = no_entry k.0 k.1 in let p = k.2 in absurd (omega (arith, ints, z, p)))

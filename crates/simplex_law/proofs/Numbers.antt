@@ -6,8 +6,31 @@ use Rattle.std.specs.Int.Signed.{◌<ℤ◌}
 use Rattle.std.proofs.lemmas.Int.{ints}
 use Rattle.std.proofs.lemmas.Nat.{mul-le}
 use borrow.Author.Differences.{up, down}
-use Rattle.simplex_law.specs.Lexicographic.{IsLexBelow, digit, lex_number, left_above, valued}
-use Rattle.simplex_law.specs.Turns.{IsNumbered, Rises}
+use Rattle.simplex_law.specs.inner.Lexicographic.{valued}
+use Rattle.simplex_law.proofs.Order.{IsLexBelow, Rises}
+use Rattle.simplex_law.specs.Sums.{dot}
+use Rattle.checked_fraction.specs.Rows.{IsNarrow}
+
+-- duals and their value are small enough to be numbered
+pub record AreNumberedDuals (m : ℕ) (bound duals : ℕ → ℤ) (den : ℤ) : Type 0 where
+  pub positive : pos 0 <ℤ den
+  pub narrow_den : IsNarrow den
+  pub narrow : (k : ℕ) → k < m → IsNarrow (duals k)
+  pub value : unsigned_abs (dot m duals bound) < 2 ^ 126
+
+-- for v over d between -edge and edge, with d at most the root of square: a number that is larger for a larger fraction
+unfoldable pub digit : ℕ → ℕ → ℤ → ℕ → ℕ
+digit edge square v d = (unsigned_abs (v +ℤ pos (edge * d)) * square) / d
+
+-- the same of n numbers in lexicographic order
+unfoldable pub lex_number : ℕ → ℕ → ℕ → ℕ → (ℕ → ℤ) → ℕ → ℕ
+lex_number base edge square zero v d = 0
+lex_number base edge square (suc n) v d = digit edge square (v 0) d * base ^ n + lex_number base edge square n (λ k. v (suc k)) d
+
+-- what is left above the duals of m rows and their value: it falls where they rise
+unfoldable pub left_above : ℕ → (ℕ → ℤ) → (ℕ → ℤ) → ℤ → ℕ
+left_above m bound duals den =
+    (2 * 2 ^ 126 * 2 ^ 124 + 1) ^ (m + 1) - lex_number (2 * 2 ^ 126 * 2 ^ 124 + 1) (2 ^ 126) (2 ^ 124) (m + 1) (valued m bound duals) (unsigned_abs den)
 
 -- a * q / d against b * q / e, by cross products
 div_le : (a b d e q : ℕ) → 0 < d → 0 < e → a * e ≤ b * d → (a * q) / d ≤ (b * q) / e
@@ -94,12 +117,12 @@ lex_climbs base edge square (suc n) y z d e is pd pe big hy hz h = ⊎_elim
 size_positive : (d : ℤ) → pos 0 <ℤ d → 0 < unsigned_abs d
 size_positive d p = omega (arith, ints, p)
 
-within : (m : ℕ) (bound y : ℕ → ℤ) (d : ℤ) → IsNumbered m bound y d → (k : ℕ) → k < m + 1 → unsigned_abs (valued m bound y k) ≤ 2 ^ 126 * unsigned_abs d
+within : (m : ℕ) (bound y : ℕ → ℤ) (d : ℤ) → AreNumberedDuals m bound y d → (k : ℕ) → k < m + 1 → unsigned_abs (valued m bound y k) ≤ 2 ^ 126 * unsigned_abs d
 within m bound y d h zero l = let v = h.value in omega (arith, v, size_positive d h.positive)
 within m bound y d h (suc k) l = let v = h.narrow k (omega arith) in omega (arith, v, size_positive d h.positive)
 
 -- where the duals and their value rise, less is left above them
-pub left_falls : (m : ℕ) (bound y : ℕ → ℤ) (d : ℤ) (z : ℕ → ℤ) (e : ℤ) → IsNumbered m bound y d → IsNumbered m bound z e → Rises m bound y d z e
+pub left_falls : (m : ℕ) (bound y : ℕ → ℤ) (d : ℤ) (z : ℕ → ℤ) (e : ℤ) → AreNumberedDuals m bound y d → AreNumberedDuals m bound z e → Rises m bound y d z e
     → left_above m bound z e < left_above m bound y d
 unfolding left_above
 left_falls m bound y d z e hy hz rises =

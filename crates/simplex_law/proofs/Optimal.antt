@@ -3,12 +3,12 @@ use Rattle.std.proofs.Common.{◌≡◌, ℕ, ◌<◌, refl, sym, ap, ◌∙◌,
 use Rattle.std.proofs.Math.IntN.{ℤ, pos, ◌*ℤ◌, *ℤ-zero}
 use Rattle.std.specs.Int.Signed.{◌<ℤ◌, ◌≤ℤ◌}
 use Rattle.std.proofs.lemmas.Int.{ints, by_lt_z}
-use Rattle.checked_fraction.specs.Rows.{IsLowest}
-use Rattle.simplex_law.specs.Sums.{int_sum, dot, unit}
+use Rattle.checked_fraction.specs.Rows.{IsInLowestTerms}
+use Rattle.simplex_law.specs.Sums.{int_sum, dot, unit_vector}
 use Rattle.simplex_law.specs.Programs.{ColumnOf, IsSlack, slack_basis, IsProgramColumn}
-use Rattle.simplex_law.specs.Bases.{IsBest, Gains}
-use Rattle.simplex_law.specs.Optima.{IsOptimum, IsGreatest}
-use Rattle.simplex_law.specs.Turns.{IsFilling, State}
+use Rattle.simplex_law.specs.Bases.{Gains}
+use Rattle.simplex_law.specs.Optima.{IsOptimum, IsGreatestGain}
+use Rattle.simplex_law.proofs.Tableaux.{IsFilling, IsTableau}
 use Rattle.simplex_law.proofs.Arithmetic.{moved_out, le_times, times_nonneg, le_cancel}
 use Rattle.simplex_law.proofs.Sums.{sum-same, dot-unit}
 use Rattle.simplex_law.proofs.Duality.{packing_duality, equal_value}
@@ -19,7 +19,7 @@ use Rattle.simplex_law.proofs.Reached.{feasible, value_nonneg, slack_is}
 -- no listed column and no slack gains at duals of 0 or more
 pub none_gains : {N : Type 0} (m : ℕ) (bound : ℕ → ℤ) (slack : ℕ → N) (is_listed : ColumnOf N → Type 0) (duals : ℕ → ℤ) (duals_den : ℤ)
     → ((k : ℕ) → k < m → pos 0 ≤ℤ duals k) → ((c : ColumnOf N) → is_listed c → dot m duals c.entry <ℤ (duals_den *ℤ c.gain) → ⊥)
-    → (c : ColumnOf N) → IsProgramColumn m slack is_listed c → Gains m bound (IsProgramColumn m slack is_listed) duals duals_den c → ⊥
+    → (c : ColumnOf N) → IsProgramColumn m slack is_listed c → Gains m duals duals_den c → ⊥
 none_gains m bound slack is_listed duals duals_den high none c is_c gains = ⊎_elim
     (λ listed. none c listed gains)
     (λ (slacks : IsSlack m slack c). let at = dot-unit m slacks.row duals c.entry slacks.inside slacks.entry in
@@ -30,15 +30,17 @@ none_gains m bound slack is_listed duals duals_den high none c is_c gains = ⊎_
 
 -- values by weights that bring all rows over one denominator
 pub optimum : {N : Type 0} (m : ℕ) (bound : ℕ → ℤ) (is_column : ColumnOf N → Type 0) (basis : ℕ → ColumnOf N) (nums : ℕ → ℕ → ℤ) (den duals : ℕ → ℤ) (duals_den : ℤ) (weights values : ℕ → ℤ) (common : ℤ)
-    → ((j : ℕ) → j < m → is_column (basis j)) → State m bound basis nums den duals duals_den → IsLowest m duals duals_den
-    → ((c : ColumnOf N) → is_column c → Gains m bound is_column duals duals_den c → ⊥)
+    → ((j : ℕ) → j < m → is_column (basis j)) → IsTableau m bound basis nums den duals duals_den → IsInLowestTerms m duals duals_den
+    → ((c : ColumnOf N) → is_column c → Gains m duals duals_den c → ⊥)
     → pos 0 <ℤ common → ((j : ℕ) → j < m → weights j *ℤ den j ≡ common) → ((j : ℕ) → j < m → values j ≡ weights j *ℤ dot m (nums j) bound)
     → IsOptimum m bound is_column basis values common duals duals_den
-optimum m bound is_column basis nums den duals duals_den weights values common columns s lowest best pc over_common values_are = record {
-  feasible = feasible m bound is_column basis nums den duals duals_den columns s;
-  objective = (s.above, s.objective);
+optimum m bound is_column basis nums den duals duals_den weights values common columns s lowest none pc over_common values_are = record {
+  best = record {
+    feasible = feasible m bound is_column basis nums den duals duals_den columns s;
+    objective = (s.above, s.objective);
+    none = none;
+  };
   lowest = lowest;
-  best = best;
   positive = pc;
   values_positive = λ j lj. subst (λ x. pos 0 ≤ℤ x) (sym (values_are j lj))
       (times_nonneg (weights j) (dot m (nums j) bound)
@@ -57,19 +59,14 @@ optimum m bound is_column basis nums den duals duals_den weights values common c
     filled : (k : ℕ) → k < m → int_sum m (λ j. values j *ℤ (basis j).entry k) ≡ common *ℤ bound k
     filled k lk = sum-same m _ _ (λ j lj. ap (λ x. x *ℤ (basis j).entry k) (values_are j lj)) ∙ fills m (λ j. (basis j).entry) nums den weights bound common filling k lk
 
--- the basis of an optimum is best
-pub best_basis : {N : Type 0} (m : ℕ) (bound : ℕ → ℤ) (is_column : ColumnOf N → Type 0) (basis : ℕ → ColumnOf N) (values duals : ℕ → ℤ) (den duals_den : ℤ)
-    → IsOptimum m bound is_column basis values den duals duals_den → IsBest m bound is_column basis
-best_basis m bound is_column basis values duals den duals_den o = record { feasible = o.feasible; duals = duals; den = duals_den; objective = o.objective; none = o.best }
-
 -- no amounts of a program's columns gain more than an optimum
 pub greatest : {N : Type 0} (m : ℕ) (bound : ℕ → ℤ) (slack : ℕ → N) (is_listed : ColumnOf N → Type 0) (basis : ℕ → ColumnOf N) (values duals : ℕ → ℤ) (den duals_den : ℤ)
     → IsOptimum m bound (IsProgramColumn m slack is_listed) basis values den duals duals_den
-    → IsGreatest m bound (IsProgramColumn m slack is_listed) (int_sum m (λ j. values j *ℤ (basis j).gain)) den
+    → IsGreatestGain m bound (IsProgramColumn m slack is_listed) (int_sum m (λ j. values j *ℤ (basis j).gain)) den
 greatest m bound slack is_listed basis values duals den duals_den o count columns amounts scale are fits =
     let weak = packing_duality count m (λ c. (columns c).entry) (λ c. (columns c).gain) bound amounts duals scale duals_den fits
-    (record { duals_positive = high; none = λ c l. at_least (dot m duals ((columns c).entry)) (duals_den *ℤ (columns c).gain) (o.best (columns c) (are c l)) }) in
-    le_cancel duals_den (den *ℤ total) (scale *ℤ best) o.objective.0
+    (record { duals_positive = high; none = λ c l. at_least (dot m duals ((columns c).entry)) (duals_den *ℤ (columns c).gain) (o.best.none (columns c) (are c l)) }) in
+    le_cancel duals_den (den *ℤ total) (scale *ℤ best) o.best.objective.0
     (subst (λ x. x ≤ℤ (duals_den *ℤ (scale *ℤ best))) (moved_out den duals_den total)
     (subst (λ x. (den *ℤ (duals_den *ℤ total)) ≤ℤ x) right
     (le_times den (duals_den *ℤ total) (scale *ℤ dot m duals bound) (weaken den o.positive) weak)))
@@ -91,6 +88,6 @@ greatest m bound slack is_listed basis values duals den duals_den o count column
 
     high : (k : ℕ) → k < m → pos 0 ≤ℤ duals k
     high k l = by_lt_z (duals k) (pos 0)
-        (λ below. absurd (o.best (slack_basis slack k) (inr (slack_is m slack k l))
-        (subst (λ x. x <ℤ (duals_den *ℤ pos 0)) (sym (dot-unit m k duals (unit k) l (λ i h. refl))) (subst (λ z. duals k <ℤ z) (sym (*ℤ-zero duals_den)) below))))
+        (λ below. absurd (o.best.none (slack_basis slack k) (inr (slack_is m slack k l))
+        (subst (λ x. x <ℤ (duals_den *ℤ pos 0)) (sym (dot-unit m k duals (unit_vector k) l (λ i h. refl))) (subst (λ z. duals k <ℤ z) (sym (*ℤ-zero duals_den)) below))))
         (λ h. h)

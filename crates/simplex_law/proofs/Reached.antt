@@ -3,11 +3,12 @@ use Rattle.std.proofs.Common.{◌≡◌, ℕ, suc, ◌<◌, refl, sym, ap, ◌�
 use Rattle.std.proofs.Math.IntN.{ℤ, pos, ◌-ℤ◌, ◌*ℤ◌, *ℤ-zero}
 use Rattle.std.specs.Int.Signed.{◌<ℤ◌, ◌≤ℤ◌}
 use Rattle.std.proofs.lemmas.Int.{ints, by_lt_z}
-use Rattle.simplex_law.specs.Sums.{dot, put, unit}
+use Rattle.simplex_law.specs.Sums.{dot, put, unit_vector}
 use Rattle.simplex_law.specs.Programs.{ColumnOf, IsSlack, slack_basis, IsProgramColumn}
-use Rattle.simplex_law.specs.Bases.{IsFeasible, Step, IsReached}
-use Rattle.simplex_law.specs.Lexicographic.{IsLexNonneg, valued}
-use Rattle.simplex_law.specs.Turns.{State, IsPick}
+use Rattle.simplex_law.specs.Bases.{IsFeasible, GainingStep, IsReached}
+use Rattle.simplex_law.specs.inner.Lexicographic.{IsLexNonneg, valued}
+use Rattle.simplex_law.proofs.Tableaux.{IsTableau}
+use Rattle.simplex_law.specs.inner.Pivots.{IsPick}
 use Rattle.simplex_law.proofs.Sums.{sum-one, unit-same, unit-other, dot-unit, dot-of-unit}
 use Rattle.simplex_law.proofs.Order.{lex_at}
 use Rattle.simplex_law.proofs.Turned.{turned_raw}
@@ -16,20 +17,20 @@ first_value : (m : ℕ) (b u : ℕ → ℤ) → IsLexNonneg (suc m) (valued m b 
 first_value m b u h = ⊎_elim (λ l. omega (arith, ints, l)) (λ z. omega (arith, ints, z.0)) h
 
 -- the values of a state are 0 or more
-pub value_nonneg : {N : Type 0} (m : ℕ) (bound : ℕ → ℤ) (basis : ℕ → ColumnOf N) (nums : ℕ → ℕ → ℤ) (den duals : ℕ → ℤ) (duals_den : ℤ) (i : ℕ) → State m bound basis nums den duals duals_den → i < m
+pub value_nonneg : {N : Type 0} (m : ℕ) (bound : ℕ → ℤ) (basis : ℕ → ColumnOf N) (nums : ℕ → ℕ → ℤ) (den duals : ℕ → ℤ) (duals_den : ℤ) (i : ℕ) → IsTableau m bound basis nums den duals duals_den → i < m
     → pos 0 ≤ℤ dot m (nums i) bound
 value_nonneg m bound basis nums den duals duals_den i s l = first_value m bound (nums i) (s.lex i l)
 
 module _ {N : Type 0} (m : ℕ) (bound : ℕ → ℤ) (is_column : ColumnOf N → Type 0) where
   pub feasible : (basis : ℕ → ColumnOf N) (nums : ℕ → ℕ → ℤ) (den duals : ℕ → ℤ) (duals_den : ℤ) → ((j : ℕ) → j < m → is_column (basis j))
-      → State m bound basis nums den duals duals_den → IsFeasible m bound is_column basis
+      → IsTableau m bound basis nums den duals duals_den → IsFeasible m bound is_column basis
   feasible basis nums den duals duals_den columns s = record {
     columns = columns;
     filled = λ i l. (nums i, den i, (s.over i l, s.rows i l), first_value m bound (nums i) (s.lex i l));
   }
 
   step : (basis : ℕ → ColumnOf N) (nums : ℕ → ℕ → ℤ) (den duals : ℕ → ℤ) (duals_den : ℤ) (c : ColumnOf N) (r : ℕ) → is_column c
-      → State m bound basis nums den duals duals_den → IsPick m bound nums duals duals_den c r → Step m bound is_column basis (put basis r c)
+      → IsTableau m bound basis nums den duals duals_den → IsPick m bound nums duals duals_den c r → GainingStep m is_column basis (put basis r c)
   step basis nums den duals duals_den c r is_c s k = record {
     row = r;
     inside = k.inside;
@@ -54,23 +55,23 @@ module _ {N : Type 0} (m : ℕ) (bound : ℕ → ℤ) (is_column : ColumnOf N �
 
   -- the basis after a turn is reached, whatever becomes of its rows
   pub turn_reached : (first basis : ℕ → ColumnOf N) (nums : ℕ → ℕ → ℤ) (den duals : ℕ → ℤ) (duals_den : ℤ) (c : ColumnOf N) (r : ℕ) → is_column c
-      → State m bound basis nums den duals duals_den → IsPick m bound nums duals duals_den c r
+      → IsTableau m bound basis nums den duals duals_den → IsPick m bound nums duals duals_den c r
       → IsReached m bound is_column first basis → IsReached m bound is_column first (put basis r c)
   turn_reached first basis nums den duals duals_den c r is_c s k reached = record {
     from = reached.from;
     here = feasible (put basis r c) _ _ _ _ (put_columns basis c r is_c reached.here.columns) (turned_raw m bound basis nums den duals duals_den c r s k);
     steps = suc reached.steps;
-    leads = (basis, reached.leads, reached.here, step basis nums den duals duals_den c r is_c s k);
+    path = (basis, reached.path, reached.here, step basis nums den duals duals_den c r is_c s k);
   }
 
 -- the state of the slack basis
 pub started : {N : Type 0} (m : ℕ) (bound : ℕ → ℤ) (slack : ℕ → N) (nums : ℕ → ℕ → ℤ) (den duals : ℕ → ℤ) (duals_den : ℤ)
     → ((k : ℕ) → k < m → pos 0 ≤ℤ bound k)
-    → ((i k : ℕ) → i < m → k < m → nums i k ≡ unit i k) → ((i : ℕ) → i < m → den i ≡ pos 1)
+    → ((i k : ℕ) → i < m → k < m → nums i k ≡ unit_vector i k) → ((i : ℕ) → i < m → den i ≡ pos 1)
     → ((k : ℕ) → k < m → duals k ≡ pos 0) → duals_den ≡ pos 1
-    → State m bound (slack_basis slack) nums den duals duals_den
+    → IsTableau m bound (slack_basis slack) nums den duals duals_den
 started m bound slack nums den duals duals_den bounds units ones zeros one = record {
-  rows = λ i l j lj. dot-unit m j (nums i) (unit j) lj (λ k h. refl) ∙ (units i j l lj ∙ times_one (den i) (unit i j) (ones i l));
+  rows = λ i l j lj. dot-unit m j (nums i) (unit_vector j) lj (λ k h. refl) ∙ (units i j l lj ∙ times_one (den i) (unit_vector i j) (ones i l));
   over = λ i l. subst (λ x. pos 0 <ℤ x) (sym (ones i l)) (omega (arith, ints));
   lex = λ i l. by_lt_z (pos 0) (bound i)
       (λ above. inl (subst (λ x. pos 0 <ℤ x) (sym (dot-of-unit m i (nums i) bound l (λ k h. units i k l h))) above))
@@ -79,7 +80,7 @@ started m bound slack nums den duals duals_den bounds units ones zeros one = rec
         lex_at m i (nums i) l (λ k h. units i k l (omega (arith, h, l)) ∙ unit-other i k (λ e. omega (arith, e, h)))
             (subst (λ x. pos 0 <ℤ x) (sym (units i i l l ∙ unit-same i)) (omega (arith, ints))),
       ));
-  objective = λ j lj. dot-unit m j duals (unit j) lj (λ k h. refl) ∙ (zeros j lj ∙ sym (*ℤ-zero duals_den));
+  objective = λ j lj. dot-unit m j duals (unit_vector j) lj (λ k h. refl) ∙ (zeros j lj ∙ sym (*ℤ-zero duals_den));
   above = subst (λ x. pos 0 <ℤ x) (sym one) (omega (arith, ints));
   filling = (
     (λ j. pos 1),
@@ -87,7 +88,7 @@ started m bound slack nums den duals duals_den bounds units ones zeros one = rec
     record {
       positive = omega (arith, ints);
       weights = λ j lj. ap (λ s. pos 1 *ℤ s) (ones j lj);
-      filled = λ k l lk ll. sum-one m k _ (pos 1 *ℤ unit k l) lk
+      filled = λ k l lk ll. sum-one m k _ (pos 1 *ℤ unit_vector k l) lk
           (λ j lj ne. ap (λ s. (pos 1 *ℤ nums j l) *ℤ s) (unit-other j k ne) ∙ *ℤ-zero (pos 1 *ℤ nums j l))
           (ap (λ s. (pos 1 *ℤ nums k l) *ℤ s) (unit-same k) ∙ (last_one (pos 1 *ℤ nums k l) ∙ ap (λ s. pos 1 *ℤ s) (units k l lk ll)));
     },
@@ -107,8 +108,8 @@ pub slack_is : {N : Type 0} (m : ℕ) (slack : ℕ → N) (k : ℕ) → k < m �
 slack_is m slack k l = record { row = k; inside = l; named = refl; gain = refl; entry = λ i h. refl }
 
 pub start_reached : {N : Type 0} (m : ℕ) (bound : ℕ → ℤ) (slack : ℕ → N) (is_listed : ColumnOf N → Type 0) (nums : ℕ → ℕ → ℤ) (den duals : ℕ → ℤ) (duals_den : ℤ)
-    → State m bound (slack_basis slack) nums den duals duals_den
+    → IsTableau m bound (slack_basis slack) nums den duals duals_den
     → IsReached m bound (IsProgramColumn m slack is_listed) (slack_basis slack) (slack_basis slack)
 start_reached m bound slack is_listed nums den duals duals_den s =
     let here = feasible m bound (IsProgramColumn m slack is_listed) (slack_basis slack) nums den duals duals_den (λ j l. inr (slack_is m slack j l)) s in
-    record { from = here; here = here; steps = 0; leads = λ j l. refl }
+    record { from = here; here = here; steps = 0; path = λ j l. refl }

@@ -7,7 +7,7 @@ use Rattle.std.proofs.lemmas.Int.{ints}
 use Rattle.checked_fraction.specs.Rows.{IsReduced}
 use Rattle.checked_fraction.specs.Mixed.{combined}
 use Rattle.checked_fraction.proofs.Once.{times_reduced}
-use Rattle.simplex_law.specs.Sums.{dot, unit, put}
+use Rattle.simplex_law.specs.Sums.{dot, unit_vector, put}
 use Rattle.simplex_law.specs.Bases.{IsRow}
 use Rattle.simplex_law.proofs.Arithmetic.{distribute, distribute_left, distribute_minus, regroup, swap_last, combined_times, same_cancel}
 use Rattle.simplex_law.proofs.Sums.{sum-same, dot-times}
@@ -33,12 +33,12 @@ new_value : (m : ℕ) (u w a : ℕ → ℤ) (p q d t : ℤ) → dot m w a ≡ q 
 new_value m u w a p q d t e z =
     dot-combined m u w a p q ∙ (ap (λ s. (dot m u a *ℤ q) -ℤ (p *ℤ s)) e ∙ (ap (λ s. (dot m u a *ℤ q) -ℤ (s *ℤ q)) z ∙ rest_taken (dot m u a) d t q))
 
-none_elsewhere : (m r j : ℕ) (basic : ℕ → ℕ → ℤ) (w : ℕ → ℤ) (e : ℤ) → IsRow m basic (unit r) w e → j < m → (r ≡ j → ⊥) → dot m w (basic j) ≡ pos 0
+none_elsewhere : (m r j : ℕ) (basic : ℕ → ℕ → ℤ) (w : ℕ → ℤ) (e : ℤ) → IsRow m basic (unit_vector r) w e → j < m → (r ≡ j → ⊥) → dot m w (basic j) ≡ pos 0
 none_elsewhere m r j basic w e row lt other = row j lt ∙ (ap (λ b. e *ℤ cond b (pos 1) (pos 0)) (ne_eqb r j other) ∙ *ℤ-zero e)
 
 -- a combined row takes the target's values, and t at the column that enters
 pub next_row : (m r : ℕ) (basic : ℕ → ℕ → ℤ) (target u w a : ℕ → ℤ) (d e p q t : ℤ)
-    → IsRow m basic target u d → IsRow m basic (unit r) w e → dot m w a ≡ q → p ≡ dot m u a -ℤ (d *ℤ t)
+    → IsRow m basic target u d → IsRow m basic (unit_vector r) w e → dot m w a ≡ q → p ≡ dot m u a -ℤ (d *ℤ t)
     → IsRow m (put basic r a) (put target r t) (combined u p w q) (d *ℤ q)
 next_row m r basic target u w a d e p q t row pivot is_q is_p j lt = ⊎_elim
     (λ same. rw (eq-eqb r j same) (new_value m u w a p q d t is_q is_p))
@@ -47,7 +47,7 @@ next_row m r basic target u w a d e p q t row pivot is_q is_p j lt = ⊎_elim
 
 -- the row of the pivot over the pivot
 pub pivot_row : (m r : ℕ) (basic : ℕ → ℕ → ℤ) (w a : ℕ → ℤ) (e q : ℤ)
-    → IsRow m basic (unit r) w e → dot m w a ≡ q → IsRow m (put basic r a) (unit r) w q
+    → IsRow m basic (unit_vector r) w e → dot m w a ≡ q → IsRow m (put basic r a) (unit_vector r) w q
 pivot_row m r basic w a e q pivot is_q j lt = ⊎_elim
     (λ same. rw (eq-eqb r j same) (is_q ∙ times_one q))
     (λ other. rw (ne_eqb r j other) (none_elsewhere m r j basic w e pivot lt other ∙ sym (*ℤ-zero q)))

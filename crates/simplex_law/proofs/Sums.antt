@@ -4,7 +4,7 @@ use Rattle.std.proofs.lemmas.Bool.{cases_eq, cases_lt, eq-eqb, ne_eqb}
 use Rattle.std.proofs.Math.IntN.{ℤ, pos, ◌+ℤ◌, ◌-ℤ◌, ◌*ℤ◌, *ℤ_comm, zero-*ℤ, *ℤ-zero}
 use Rattle.std.specs.Int.Signed.{◌≤ℤ◌}
 use Rattle.std.proofs.lemmas.Int.{ints}
-use Rattle.simplex_law.specs.Sums.{int_sum, dot, unit, put}
+use Rattle.simplex_law.specs.Sums.{int_sum, dot, unit_vector, put}
 use Rattle.simplex_law.proofs.Arithmetic.{distribute_left, regroup}
 
 pub sum-plus : (n : ℕ) (f g : ℕ → ℤ) → int_sum n (λ k. f k +ℤ g k) ≡ int_sum n f +ℤ int_sum n g
@@ -55,13 +55,13 @@ sum-one m r f x lt none here =
     (cases_eq r k))
     ∙ omega (arith, ints, sum-put m r (λ k. pos 0) x lt, sum-none m)
 
-pub unit-same : (k : ℕ) → unit k k ≡ pos 1
+pub unit-same : (k : ℕ) → unit_vector k k ≡ pos 1
 unit-same k = ap (λ t. cond t (pos 1) (pos 0)) (eq-eqb k k refl)
 
-pub unit-other : (k l : ℕ) → k ≢ l → unit k l ≡ pos 0
+pub unit-other : (k l : ℕ) → k ≢ l → unit_vector k l ≡ pos 0
 unit-other k l ne = ap (λ t. cond t (pos 1) (pos 0)) (ne_eqb k l ne)
 
-pub sum-unit : (m k : ℕ) (v : ℕ → ℤ) → k < m → int_sum m (λ l. v l *ℤ unit k l) ≡ v k
+pub sum-unit : (m k : ℕ) (v : ℕ → ℤ) → k < m → int_sum m (λ l. v l *ℤ unit_vector k l) ≡ v k
 sum-unit m k v lt = sum-one m k _ (v k) lt
     (λ l h ne. ap (λ x. v l *ℤ x) (unit-other k l (λ e. ne (sym e))) ∙ *ℤ-zero (v l))
     (ap (λ x. v k *ℤ x) (unit-same k) ∙ omega (arith, ints))
@@ -76,13 +76,13 @@ pub dot-none-column : (m : ℕ) (u v : ℕ → ℤ) → ((k : ℕ) → k < m →
 dot-none-column m u v h = sum-same m _ (λ k. pos 0) (λ k l. ap (λ s. u k *ℤ s) (h k l) ∙ *ℤ-zero (u k)) ∙ sum-none m
 
 -- a row times a unit column, and a unit row times a column
-pub dot-unit : (m i : ℕ) (u v : ℕ → ℤ) → i < m → ((k : ℕ) → k < m → v k ≡ unit i k) → dot m u v ≡ u i
-dot-unit m i u v lt e = dot-same m u u v (unit i) (λ k l. refl) e ∙ sum-unit m i u lt
+pub dot-unit : (m i : ℕ) (u v : ℕ → ℤ) → i < m → ((k : ℕ) → k < m → v k ≡ unit_vector i k) → dot m u v ≡ u i
+dot-unit m i u v lt e = dot-same m u u v (unit_vector i) (λ k l. refl) e ∙ sum-unit m i u lt
 
-pub dot-of-unit : (m i : ℕ) (u v : ℕ → ℤ) → i < m → ((k : ℕ) → k < m → u k ≡ unit i k) → dot m u v ≡ v i
+pub dot-of-unit : (m i : ℕ) (u v : ℕ → ℤ) → i < m → ((k : ℕ) → k < m → u k ≡ unit_vector i k) → dot m u v ≡ v i
 dot-of-unit m i u v lt e =
-    dot-same m u (unit i) v v e (λ k l. refl)
-    ∙ (sum-same m _ _ (λ k l. *ℤ_comm (unit i k) (v k)) ∙ sum-unit m i v lt)
+    dot-same m u (unit_vector i) v v e (λ k l. refl)
+    ∙ (sum-same m _ _ (λ k l. *ℤ_comm (unit_vector i k) (v k)) ∙ sum-unit m i v lt)
 
 pub dot-times : (m : ℕ) (g : ℤ) (u v : ℕ → ℤ) → dot m (λ k. g *ℤ u k) v ≡ g *ℤ dot m u v
 dot-times m g u v = sum-same m _ _ (λ k l. regroup g (u k) (v k)) ∙ sum-times m g (λ k. u k *ℤ v k)

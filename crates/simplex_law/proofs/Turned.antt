@@ -5,15 +5,16 @@ use Rattle.std.proofs.Math.IntN.{ℤ, pos, ◌-ℤ◌, ◌*ℤ◌}
 use Rattle.std.specs.Int.Signed.{◌<ℤ◌}
 use Rattle.std.proofs.lemmas.Int.{ints, by_lt_z}
 use Rattle.checked_fraction.specs.Mixed.{combined}
-use Rattle.simplex_law.specs.Sums.{dot, unit, put}
+use Rattle.simplex_law.specs.Sums.{dot, unit_vector, put}
 use Rattle.simplex_law.specs.Programs.{ColumnOf}
 use Rattle.simplex_law.specs.Bases.{IsRow}
-use Rattle.simplex_law.specs.Lexicographic.{IsLexNonneg, IsLexBelow, valued}
-use Rattle.simplex_law.specs.Turns.{State, IsPick, IsTurned, Rises}
+use Rattle.simplex_law.specs.inner.Lexicographic.{IsLexNonneg, valued}
+use Rattle.simplex_law.proofs.Order.{IsLexBelow, Rises, lex_negative, lex_zero, lex_positive, lex_rises, lex_reduced, below_reduced, valued_multiple}
+use Rattle.simplex_law.proofs.Tableaux.{IsTableau}
+use Rattle.simplex_law.specs.inner.Pivots.{IsPick, IsTurned}
 use Rattle.simplex_law.proofs.Arithmetic.{times_positive, positive_cancel}
 use Rattle.simplex_law.proofs.Sums.{unit-same, unit-other, dot-none}
 use Rattle.simplex_law.proofs.Rows.{IsMultiple, multiple, dot-combined, next_row, pivot_row, reduced_row}
-use Rattle.simplex_law.proofs.Order.{lex_negative, lex_zero, lex_positive, lex_rises, lex_reduced, below_reduced, valued_multiple}
 use Rattle.simplex_law.proofs.Filling.{next_nums, next_den, next_filling, reduced_filling, same_filling}
 
 -- the columns of the next basis
@@ -37,30 +38,30 @@ to_basis m basis c r target nums den row j lt = ap (λ v. dot m nums v) (entry_p
 
 -- the rows of the next basis before they are reduced
 pub other_row : {N : Type 0} (m : ℕ) (bound : ℕ → ℤ) (basis : ℕ → ColumnOf N) (nums : ℕ → ℕ → ℤ) (den duals : ℕ → ℤ) (duals_den : ℤ) (c : ColumnOf N) (r i : ℕ)
-    → State m bound basis nums den duals duals_den → IsPick m bound nums duals duals_den c r → i < m → i ≢ r
-    → IsRow m (λ j. (put basis r c j).entry) (unit i) (combined (nums i) (dot m (nums i) c.entry) (nums r) (dot m (nums r) c.entry)) (den i *ℤ dot m (nums r) c.entry)
-other_row m bound basis nums den duals duals_den c r i s k l ne = to_basis m basis c r (unit i) _ _ (λ j lj.
-    next_row m r (λ j. (basis j).entry) (unit i) (nums i) (nums r) c.entry (den i) (den r) (dot m (nums i) c.entry) (dot m (nums r) c.entry) (pos 0)
+    → IsTableau m bound basis nums den duals duals_den → IsPick m bound nums duals duals_den c r → i < m → i ≢ r
+    → IsRow m (λ j. (put basis r c j).entry) (unit_vector i) (combined (nums i) (dot m (nums i) c.entry) (nums r) (dot m (nums r) c.entry)) (den i *ℤ dot m (nums r) c.entry)
+other_row m bound basis nums den duals duals_den c r i s k l ne = to_basis m basis c r (unit_vector i) _ _ (λ j lj.
+    next_row m r (λ j. (basis j).entry) (unit_vector i) (nums i) (nums r) c.entry (den i) (den r) (dot m (nums i) c.entry) (dot m (nums r) c.entry) (pos 0)
     (s.rows i l) (s.rows r k.inside) refl (plain (dot m (nums i) c.entry) (den i)) j lj
     ∙ ap (λ x. (den i *ℤ dot m (nums r) c.entry) *ℤ x) (unit_put j))
   where
     plain : (x d : ℤ) → x ≡ x -ℤ (d *ℤ pos 0)
     plain x d = omega (arith, ints)
 
-    unit_put : (j : ℕ) → put (unit i) r (pos 0) j ≡ unit i j
+    unit_put : (j : ℕ) → put (unit_vector i) r (pos 0) j ≡ unit_vector i j
     unit_put j = ⊎_elim
-        (λ e. ap (λ t. cond t (pos 0) (unit i j)) (eq-eqb r j e) ∙ sym (unit-other i j (λ f. ne (f ∙ sym e))))
-        (λ n. ap (λ t. cond t (pos 0) (unit i j)) (ne_eqb r j n))
+        (λ e. ap (λ t. cond t (pos 0) (unit_vector i j)) (eq-eqb r j e) ∙ sym (unit-other i j (λ f. ne (f ∙ sym e))))
+        (λ n. ap (λ t. cond t (pos 0) (unit_vector i j)) (ne_eqb r j n))
         (cases_eq r j)
 
 first_row : {N : Type 0} (m : ℕ) (bound : ℕ → ℤ) (basis : ℕ → ColumnOf N) (nums : ℕ → ℕ → ℤ) (den duals : ℕ → ℤ) (duals_den : ℤ) (c : ColumnOf N) (r : ℕ)
-    → State m bound basis nums den duals duals_den → IsPick m bound nums duals duals_den c r
-    → IsRow m (λ j. (put basis r c j).entry) (unit r) (nums r) (dot m (nums r) c.entry)
-first_row m bound basis nums den duals duals_den c r s k = to_basis m basis c r (unit r) _ _
+    → IsTableau m bound basis nums den duals duals_den → IsPick m bound nums duals duals_den c r
+    → IsRow m (λ j. (put basis r c j).entry) (unit_vector r) (nums r) (dot m (nums r) c.entry)
+first_row m bound basis nums den duals duals_den c r s k = to_basis m basis c r (unit_vector r) _ _
     (pivot_row m r (λ j. (basis j).entry) (nums r) c.entry (den r) (dot m (nums r) c.entry) (s.rows r k.inside) refl)
 
 pub objective_row : {N : Type 0} (m : ℕ) (bound : ℕ → ℤ) (basis : ℕ → ColumnOf N) (nums : ℕ → ℕ → ℤ) (den duals : ℕ → ℤ) (duals_den : ℤ) (c : ColumnOf N) (r : ℕ)
-    → State m bound basis nums den duals duals_den → IsPick m bound nums duals duals_den c r
+    → IsTableau m bound basis nums den duals duals_den → IsPick m bound nums duals duals_den c r
     → IsRow m (λ j. (put basis r c j).entry) (λ j. (put basis r c j).gain) (combined duals (dot m duals c.entry -ℤ (duals_den *ℤ c.gain)) (nums r) (dot m (nums r) c.entry)) (duals_den *ℤ dot m (nums r) c.entry)
 objective_row m bound basis nums den duals duals_den c r s k j lj =
     to_basis m basis c r (put (λ j. (basis j).gain) r c.gain) _ _
@@ -81,12 +82,12 @@ row_lex m b u w p q more hu hw ratio = front m b u w p q (by_lt_z (pos 0) p rati
 
 -- the state after a turn, before the rows are reduced
 pub turned_raw : {N : Type 0} (m : ℕ) (bound : ℕ → ℤ) (basis : ℕ → ColumnOf N) (nums : ℕ → ℕ → ℤ) (den duals : ℕ → ℤ) (duals_den : ℤ) (c : ColumnOf N) (r : ℕ)
-    → State m bound basis nums den duals duals_den → IsPick m bound nums duals duals_den c r
-    → State m bound (put basis r c)
+    → IsTableau m bound basis nums den duals duals_den → IsPick m bound nums duals duals_den c r
+    → IsTableau m bound (put basis r c)
     (next_nums nums (λ i. dot m (nums i) c.entry) r (dot m (nums r) c.entry)) (next_den den r (dot m (nums r) c.entry))
     (combined duals (dot m duals c.entry -ℤ (duals_den *ℤ c.gain)) (nums r) (dot m (nums r) c.entry)) (duals_den *ℤ dot m (nums r) c.entry)
 turned_raw m bound basis nums den duals duals_den c r s k = record {
-  rows = λ i l. at_row (λ i u d. IsRow m (λ j. (put basis r c j).entry) (unit i) u d) i
+  rows = λ i l. at_row (λ i u d. IsRow m (λ j. (put basis r c j).entry) (unit_vector i) u d) i
       (first_row m bound basis nums den duals duals_den c r s k)
       (λ ne. other_row m bound basis nums den duals duals_den c r i s k l ne);
   over = λ i l. at_row (λ i u d. pos 0 <ℤ d) i k.positive (λ ne. times_positive (den i) q (s.over i l) k.positive);
@@ -117,9 +118,9 @@ turned_raw m bound basis nums den duals duals_den c r s k = record {
 -- a state keeps its facts when its rows go to lowest terms
 reduced_state : {N : Type 0} (m : ℕ) (bound : ℕ → ℤ) (basis : ℕ → ColumnOf N) (raw nums : ℕ → ℕ → ℤ) (whole den z y : ℕ → ℤ) (dz dy g : ℤ)
     → ((i : ℕ) → i < m → (f : ℤ) × IsMultiple m (raw i) (whole i) (nums i) (den i) f) → IsMultiple m z dz y dy g
-    → State m bound basis raw whole z dz → State m bound basis nums den y dy
+    → IsTableau m bound basis raw whole z dz → IsTableau m bound basis nums den y dy
 reduced_state m bound basis raw nums whole den z y dz dy g each own s = record {
-  rows = λ i l. let f = each i l in reduced_row m (λ j. (basis j).entry) (unit i) (raw i) (nums i) (whole i) (den i) f.0 f.1 (s.rows i l);
+  rows = λ i l. let f = each i l in reduced_row m (λ j. (basis j).entry) (unit_vector i) (raw i) (nums i) (whole i) (den i) f.0 f.1 (s.rows i l);
   over = λ i l. let f = each i l in positive_cancel f.0 (den i) f.1.positive (subst (λ x. pos 0 <ℤ x) f.1.of_den (s.over i l));
   lex = λ i l. let f = each i l in
       lex_reduced (suc m) (valued m bound (raw i)) (valued m bound (nums i)) f.0 f.1.positive (valued_multiple m bound (raw i) (nums i) (whole i) (den i) f.0 f.1) (s.lex i l);
@@ -130,8 +131,8 @@ reduced_state m bound basis raw nums whole den z y dz dy g each own s = record {
 
 -- the state after a turn
 pub turned : {N : Type 0} (m : ℕ) (bound : ℕ → ℤ) (basis : ℕ → ColumnOf N) (nums next : ℕ → ℕ → ℤ) (den next_dens duals next_duals : ℕ → ℤ) (duals_den next_duals_den : ℤ) (c : ColumnOf N) (r : ℕ)
-    → State m bound basis nums den duals duals_den → IsPick m bound nums duals duals_den c r → IsTurned m c r nums next den next_dens duals next_duals duals_den next_duals_den
-    → State m bound (put basis r c) next next_dens next_duals next_duals_den
+    → IsTableau m bound basis nums den duals duals_den → IsPick m bound nums duals duals_den c r → IsTurned m c r nums next den next_dens duals next_duals duals_den next_duals_den
+    → IsTableau m bound (put basis r c) next next_dens next_duals next_duals_den
 turned m bound basis nums next den next_dens duals next_duals duals_den next_duals_den c r s k t =
     let own = multiple m _ _ next_duals next_duals_den (times_positive duals_den q s.above k.positive) t.objective in
     reduced_state m bound (put basis r c) (next_nums nums (λ i. dot m (nums i) c.entry) r q) next (next_den den r q) next_dens
@@ -152,15 +153,15 @@ turned m bound basis nums next den next_dens duals next_duals duals_den next_dua
         (multiple m (mixed i) (den i *ℤ q) (next i) (next_dens i) (times_positive (den i) q (s.over i l) k.positive) (t.others i l (λ e. ne (sym e)))))
         (cases_eq r i)
 
-some_number : (m r : ℕ) (b : ℕ → ℤ) (basic : ℕ → ℕ → ℤ) (w : ℕ → ℤ) (e : ℤ) → r < m → IsRow m basic (unit r) w e → pos 0 <ℤ e → ((k : ℕ) → k < suc m → valued m b w k ≡ pos 0) → ⊥
+some_number : (m r : ℕ) (b : ℕ → ℤ) (basic : ℕ → ℕ → ℤ) (w : ℕ → ℤ) (e : ℤ) → r < m → IsRow m basic (unit_vector r) w e → pos 0 <ℤ e → ((k : ℕ) → k < suc m → valued m b w k ≡ pos 0) → ⊥
 some_number m r b basic w e rm row pe all =
     let z = dot-none m w (basic r) (λ k l. all (suc k) (omega arith)) in
-    let one : e *ℤ unit r r ≡ e = ap (λ t. e *ℤ t) (unit-same r) ∙ omega (arith, ints) in
+    let one : e *ℤ unit_vector r r ≡ e = ap (λ t. e *ℤ t) (unit-same r) ∙ omega (arith, ints) in
     let is = row r rm in omega (arith, ints, z, one, is, pe)
 
 -- the duals and their value rise
 pub rises : {N : Type 0} (m : ℕ) (bound : ℕ → ℤ) (basis : ℕ → ColumnOf N) (nums next : ℕ → ℕ → ℤ) (den next_dens duals next_duals : ℕ → ℤ) (duals_den next_duals_den : ℤ) (c : ColumnOf N) (r : ℕ)
-    → State m bound basis nums den duals duals_den → IsPick m bound nums duals duals_den c r → IsTurned m c r nums next den next_dens duals next_duals duals_den next_duals_den
+    → IsTableau m bound basis nums den duals duals_den → IsPick m bound nums duals duals_den c r → IsTurned m c r nums next den next_dens duals next_duals duals_den next_duals_den
     → Rises m bound duals duals_den next_duals next_duals_den
 rises m bound basis nums next den next_dens duals next_duals duals_den next_duals_den c r s k t =
     let p = dot m duals c.entry -ℤ (duals_den *ℤ c.gain) in let q = dot m (nums r) c.entry in

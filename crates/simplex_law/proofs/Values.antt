@@ -6,9 +6,9 @@ use Rattle.std.proofs.Math.IntN.{ℤ, pos, ◌*ℤ◌}
 use Rattle.std.specs.Int.Signed.{◌<ℤ◌, ◌≤ℤ◌}
 use Rattle.std.proofs.lemmas.Int.{ints, by_lt_z, unsigned_abs-mul}
 use Rattle.checked_fraction.specs.Rows.{IsNarrow}
-use Rattle.simplex_law.specs.Sums.{int_sum, dot, unit}
+use Rattle.simplex_law.specs.Sums.{int_sum, dot, unit_vector}
 use Rattle.simplex_law.specs.Programs.{ColumnOf, IsPacking}
-use Rattle.simplex_law.specs.Turns.{State}
+use Rattle.simplex_law.proofs.Tableaux.{IsTableau}
 use Rattle.simplex_law.proofs.Arithmetic.{le_times, times_nonneg}
 use Rattle.simplex_law.proofs.Sums.{dot-none-column, unit-same}
 use Rattle.simplex_law.proofs.Filling.{fills, other_filling}
@@ -49,20 +49,20 @@ weaken x h = omega (arith, ints, h)
 
 -- a basic column has an entry
 basic_entry : {N : Type 0} (m : ℕ) (bound : ℕ → ℤ) (is_column : ColumnOf N → Type 0) (basis : ℕ → ColumnOf N) (nums : ℕ → ℕ → ℤ) (den duals : ℕ → ℤ) (duals_den : ℤ) (j : ℕ)
-    → IsPacking m bound is_column → ((j : ℕ) → j < m → is_column (basis j)) → State m bound basis nums den duals duals_den → j < m
+    → IsPacking m bound is_column → ((j : ℕ) → j < m → is_column (basis j)) → IsTableau m bound basis nums den duals duals_den → j < m
     → (k : ℕ) × (k < m) × (pos 0 <ℤ (basis j).entry k)
 basic_entry m bound is_column basis nums den duals duals_den j packing columns s lj = ⊎_elim
     (λ found. found)
     (λ none. let zero_there = dot-none-column m (nums j) ((basis j).entry) none in
     let row = s.rows j lj j lj in
-    let one : den j *ℤ unit j j ≡ den j = ap (λ t. den j *ℤ t) (unit-same j) ∙ omega (arith, ints) in
+    let one : den j *ℤ unit_vector j j ≡ den j = ap (λ t. den j *ℤ t) (unit-same j) ∙ omega (arith, ints) in
     let over = s.over j lj in
     absurd (omega (arith, ints, zero_there, row, one, over)))
     (some_positive m ((basis j).entry) (λ k l. (packing.entries (basis j) (columns j lj) k l).0))
 
 -- a value over a common denominator is below 2 ^ 124 where the denominator is below 2 ^ 62
 pub value_low : {N : Type 0} (m : ℕ) (bound : ℕ → ℤ) (is_column : ColumnOf N → Type 0) (basis : ℕ → ColumnOf N) (nums : ℕ → ℕ → ℤ) (den duals : ℕ → ℤ) (duals_den : ℤ) (weights : ℕ → ℤ) (common : ℤ) (j : ℕ)
-    → IsPacking m bound is_column → ((j : ℕ) → j < m → is_column (basis j)) → State m bound basis nums den duals duals_den
+    → IsPacking m bound is_column → ((j : ℕ) → j < m → is_column (basis j)) → IsTableau m bound basis nums den duals duals_den
     → pos 0 <ℤ common → IsNarrow common → ((j : ℕ) → j < m → weights j *ℤ den j ≡ common) → j < m
     → unsigned_abs (weights j *ℤ dot m (nums j) bound) < 2 ^ 124
 value_low m bound is_column basis nums den duals duals_den weights common j packing columns s pc narrow over_common lj =

@@ -6,46 +6,47 @@ use Rattle.std.specs.Int.Signed.{◌<ℤ◌}
 use Rattle.std.specs.Int.{◌∣◌}
 use Rattle.std.proofs.lemmas.Int.{ints}
 use Rattle.std.proofs.lemmas.Nat.Gcd.{le_of_dvd}
-use Rattle.checked_fraction.specs.Rows.{IsLowest}
+use Rattle.checked_fraction.specs.Rows.{IsInLowestTerms}
 use Rattle.checked_fraction.specs.Mixed.{combined, IsTooWide, IsFirstWide}
 use Rattle.checked_fraction.specs.declared.wide.WideNumber.{WideNumber}
-use Rattle.simplex_law.specs.Sums.{dot, sum_below, unit, put}
+use Rattle.simplex_law.specs.Sums.{dot, sum_below, unit_vector, put}
 use Rattle.simplex_law.specs.Programs.{ColumnOf}
 use Rattle.simplex_law.specs.Bases.{IsRow}
 use Rattle.simplex_law.specs.Evidence.{IsWide, IsRowOf, HoldsRow, HoldsProduct, HoldsSum, HoldsCommon}
-use Rattle.simplex_law.specs.Turns.{State, IsPick}
+use Rattle.simplex_law.proofs.Tableaux.{IsTableau}
+use Rattle.simplex_law.specs.inner.Pivots.{IsPick}
 use Rattle.simplex_law.proofs.Arithmetic.{times_positive}
 use Rattle.simplex_law.proofs.Rows.{multiple, reduced_row}
 use Rattle.simplex_law.proofs.Turned.{other_row, objective_row}
 
 module _ {N : Type 0} (m : ℕ) (bound : ℕ → ℤ) (is_column : ColumnOf N → Type 0) where
   -- a row of the inverse, and the objective row, in lowest terms
-  inverse_row : (basis : ℕ → ColumnOf N) (i : ℕ) (nums : ℕ → ℤ) (den : ℤ) → i < m → pos 0 <ℤ den → IsRow m (λ j. (basis j).entry) (unit i) nums den → IsLowest m nums den
-      → IsRowOf m bound is_column basis i nums den
+  inverse_row : (basis : ℕ → ColumnOf N) (i : ℕ) (nums : ℕ → ℤ) (den : ℤ) → i < m → pos 0 <ℤ den → IsRow m (λ j. (basis j).entry) (unit_vector i) nums den → IsInLowestTerms m nums den
+      → IsRowOf m basis i nums den
   inverse_row basis i nums den lt pd row lowest = record {
     place = omega (arith, lt);
-    gives = (pd, λ j lj. row j lj ∙ ap (λ t. den *ℤ cond t (basis j).gain (unit i j)) (sym (ne_eqb i m (λ e. omega (arith, e, lt)))));
+    row = (pd, λ j lj. row j lj ∙ ap (λ t. den *ℤ cond t (basis j).gain (unit_vector i j)) (sym (ne_eqb i m (λ e. omega (arith, e, lt)))));
     lowest = lowest;
   }
 
-  last_row : (basis : ℕ → ColumnOf N) (nums : ℕ → ℤ) (den : ℤ) → pos 0 <ℤ den → IsRow m (λ j. (basis j).entry) (λ j. (basis j).gain) nums den → IsLowest m nums den
-      → IsRowOf m bound is_column basis m nums den
+  last_row : (basis : ℕ → ColumnOf N) (nums : ℕ → ℤ) (den : ℤ) → pos 0 <ℤ den → IsRow m (λ j. (basis j).entry) (λ j. (basis j).gain) nums den → IsInLowestTerms m nums den
+      → IsRowOf m basis m nums den
   last_row basis nums den pd row lowest = record {
     place = omega arith;
-    gives = (pd, λ j lj. row j lj ∙ ap (λ t. den *ℤ cond t (basis j).gain (unit m j)) (sym (eq-eqb m m refl)));
+    row = (pd, λ j lj. row j lj ∙ ap (λ t. den *ℤ cond t (basis j).gain (unit_vector m j)) (sym (eq-eqb m m refl)));
     lowest = lowest;
   }
 
-  state_row : (basis : ℕ → ColumnOf N) (nums : ℕ → ℕ → ℤ) (den duals : ℕ → ℤ) (duals_den : ℤ) (i : ℕ) → State m bound basis nums den duals duals_den → i < m → IsLowest m (nums i) (den i)
-      → IsRowOf m bound is_column basis i (nums i) (den i)
+  state_row : (basis : ℕ → ColumnOf N) (nums : ℕ → ℕ → ℤ) (den duals : ℕ → ℤ) (duals_den : ℤ) (i : ℕ) → IsTableau m bound basis nums den duals duals_den → i < m → IsInLowestTerms m (nums i) (den i)
+      → IsRowOf m basis i (nums i) (den i)
   state_row basis nums den duals duals_den i s lt lowest = inverse_row basis i (nums i) (den i) lt (s.over i lt) (s.rows i lt) lowest
 
-  state_objective : (basis : ℕ → ColumnOf N) (nums : ℕ → ℕ → ℤ) (den duals : ℕ → ℤ) (duals_den : ℤ) → State m bound basis nums den duals duals_den → IsLowest m duals duals_den
-      → IsRowOf m bound is_column basis m duals duals_den
+  state_objective : (basis : ℕ → ColumnOf N) (nums : ℕ → ℕ → ℤ) (den duals : ℕ → ℤ) (duals_den : ℤ) → IsTableau m bound basis nums den duals duals_den → IsInLowestTerms m duals duals_den
+      → IsRowOf m basis m duals duals_den
   state_objective basis nums den duals duals_den s lowest = last_row basis duals duals_den s.above s.objective lowest
 
-  found : (basis : ℕ → ColumnOf N) (i : ℕ) (nums : ℕ → ℤ) (den : ℤ) (wide : WideNumber) → IsRowOf m bound is_column basis i nums den
-      → IsFirstWide m nums den wide → HoldsRow m bound is_column basis i
+  found : (basis : ℕ → ColumnOf N) (i : ℕ) (nums : ℕ → ℤ) (den : ℤ) (wide : WideNumber) → IsRowOf m basis i nums den
+      → IsFirstWide m nums den wide → HoldsRow m basis i
   found basis i nums den wide row first = (
     nums,
     den,
@@ -58,27 +59,27 @@ module _ {N : Type 0} (m : ℕ) (bound : ℕ → ℤ) (is_column : ColumnOf N �
 
   -- a row that can't be combined with the pivot's row is a wide row of the next basis
   pub wide_row : (basis : ℕ → ColumnOf N) (nums : ℕ → ℕ → ℤ) (den duals : ℕ → ℤ) (duals_den : ℤ) (c : ColumnOf N) (r i : ℕ) (wide : WideNumber)
-      → State m bound basis nums den duals duals_den → IsPick m bound nums duals duals_den c r → i < m → i ≢ r
+      → IsTableau m bound basis nums den duals duals_den → IsPick m bound nums duals duals_den c r → i < m → i ≢ r
       → IsTooWide m (combined (nums i) (dot m (nums i) c.entry) (nums r) (dot m (nums r) c.entry)) (den i *ℤ dot m (nums r) c.entry) wide
-      → HoldsRow m bound is_column (put basis r c) i
+      → HoldsRow m (put basis r c) i
   wide_row basis nums den duals duals_den c r i wide s k lt ne too =
       let f = multiple m _ _ too.0 too.1 (times_positive (den i) (dot m (nums r) c.entry) (s.over i lt) k.positive) too.2 in
-      let row = reduced_row m (λ j. (put basis r c j).entry) (unit i) _ too.0 _ too.1 f.0 f.1 (other_row m bound basis nums den duals duals_den c r i s k lt ne) in
+      let row = reduced_row m (λ j. (put basis r c j).entry) (unit_vector i) _ too.0 _ too.1 f.0 f.1 (other_row m bound basis nums den duals duals_den c r i s k lt ne) in
       found (put basis r c) i too.0 too.1 wide (inverse_row (put basis r c) i too.0 too.1 lt too.2.positive row too.2.lowest) too.3
 
   -- and so are duals
   pub wide_duals : (basis : ℕ → ColumnOf N) (nums : ℕ → ℕ → ℤ) (den duals : ℕ → ℤ) (duals_den : ℤ) (c : ColumnOf N) (r : ℕ) (wide : WideNumber)
-      → State m bound basis nums den duals duals_den → IsPick m bound nums duals duals_den c r
+      → IsTableau m bound basis nums den duals duals_den → IsPick m bound nums duals duals_den c r
       → IsTooWide m (combined duals (dot m duals c.entry -ℤ (duals_den *ℤ c.gain)) (nums r) (dot m (nums r) c.entry)) (duals_den *ℤ dot m (nums r) c.entry) wide
-      → HoldsRow m bound is_column (put basis r c) m
+      → HoldsRow m (put basis r c) m
   wide_duals basis nums den duals duals_den c r wide s k too =
       let f = multiple m _ _ too.0 too.1 (times_positive duals_den (dot m (nums r) c.entry) s.above k.positive) too.2 in
       let row = reduced_row m (λ j. (put basis r c j).entry) (λ j. (put basis r c j).gain) _ too.0 _ too.1 f.0 f.1 (objective_row m bound basis nums den duals duals_den c r s k) in
       found (put basis r c) m too.0 too.1 wide (last_row (put basis r c) too.0 too.1 too.2.positive row too.2.lowest) too.3
 
   -- a wide product of a row of the inverse, and of the objective row
-  pub wide_product : (basis : ℕ → ColumnOf N) (nums : ℕ → ℕ → ℤ) (den duals : ℕ → ℤ) (duals_den : ℤ) (c : ColumnOf N) (i : ℕ) → State m bound basis nums den duals duals_den → i < m → IsLowest m (nums i) (den i)
-      → is_column c → IsWide (dot m (nums i) c.entry) → HoldsProduct m bound is_column basis i c.name
+  pub wide_product : (basis : ℕ → ColumnOf N) (nums : ℕ → ℕ → ℤ) (den duals : ℕ → ℤ) (duals_den : ℤ) (c : ColumnOf N) (i : ℕ) → IsTableau m bound basis nums den duals duals_den → i < m → IsInLowestTerms m (nums i) (den i)
+      → is_column c → IsWide (dot m (nums i) c.entry) → HoldsProduct m is_column basis i c.name
   wide_product basis nums den duals duals_den c i s lt lowest is_c wide = (
     nums i,
     den i,
@@ -93,8 +94,8 @@ module _ {N : Type 0} (m : ℕ) (bound : ℕ → ℤ) (is_column : ColumnOf N �
       less_none : (x : ℤ) → x ≡ x -ℤ pos 0
       less_none x = omega (arith, ints)
 
-  pub wide_price : (basis : ℕ → ColumnOf N) (nums : ℕ → ℕ → ℤ) (den duals : ℕ → ℤ) (duals_den : ℤ) (c : ColumnOf N) → State m bound basis nums den duals duals_den → IsLowest m duals duals_den
-      → is_column c → IsWide (dot m duals c.entry -ℤ (duals_den *ℤ c.gain)) → HoldsProduct m bound is_column basis m c.name
+  pub wide_price : (basis : ℕ → ColumnOf N) (nums : ℕ → ℕ → ℤ) (den duals : ℕ → ℤ) (duals_den : ℤ) (c : ColumnOf N) → IsTableau m bound basis nums den duals duals_den → IsInLowestTerms m duals duals_den
+      → is_column c → IsWide (dot m duals c.entry -ℤ (duals_den *ℤ c.gain)) → HoldsProduct m is_column basis m c.name
   wide_price basis nums den duals duals_den c s lowest is_c wide = (
     duals,
     duals_den,
@@ -106,19 +107,19 @@ module _ {N : Type 0} (m : ℕ) (bound : ℕ → ℤ) (is_column : ColumnOf N �
   )
 
   -- a wide sum of a row of the inverse, and of the objective row
-  pub wide_sum : (basis : ℕ → ColumnOf N) (nums : ℕ → ℕ → ℤ) (den duals : ℕ → ℤ) (duals_den : ℤ) (i : ℕ) → State m bound basis nums den duals duals_den → i < m → IsLowest m (nums i) (den i)
-      → 2 ^ 126 ≤ sum_below m (λ k. unsigned_abs (nums i k) * unsigned_abs (bound k)) → HoldsSum m bound is_column basis i
+  pub wide_sum : (basis : ℕ → ColumnOf N) (nums : ℕ → ℕ → ℤ) (den duals : ℕ → ℤ) (duals_den : ℤ) (i : ℕ) → IsTableau m bound basis nums den duals duals_den → i < m → IsInLowestTerms m (nums i) (den i)
+      → 2 ^ 126 ≤ sum_below m (λ k. unsigned_abs (nums i k) * unsigned_abs (bound k)) → HoldsSum m bound basis i
   wide_sum basis nums den duals duals_den i s lt lowest high = (nums i, den i, state_row basis nums den duals duals_den i s lt lowest, high)
 
-  pub wide_value : (basis : ℕ → ColumnOf N) (nums : ℕ → ℕ → ℤ) (den duals : ℕ → ℤ) (duals_den : ℤ) → State m bound basis nums den duals duals_den → IsLowest m duals duals_den
-      → 2 ^ 126 ≤ sum_below m (λ k. unsigned_abs (duals k) * unsigned_abs (bound k)) → HoldsSum m bound is_column basis m
+  pub wide_value : (basis : ℕ → ColumnOf N) (nums : ℕ → ℕ → ℤ) (den duals : ℕ → ℤ) (duals_den : ℤ) → IsTableau m bound basis nums den duals duals_den → IsInLowestTerms m duals duals_den
+      → 2 ^ 126 ≤ sum_below m (λ k. unsigned_abs (duals k) * unsigned_abs (bound k)) → HoldsSum m bound basis m
   wide_value basis nums den duals duals_den s lowest high = (duals, duals_den, state_objective basis nums den duals duals_den s lowest, high)
 
   -- a number that divides each common multiple of the denominators is wide
-  pub wide_common : (basis : ℕ → ColumnOf N) (nums : ℕ → ℕ → ℤ) (den duals : ℕ → ℤ) (duals_den : ℤ) (part : ℕ) → State m bound basis nums den duals duals_den
-      → ((i : ℕ) → i < m → IsLowest m (nums i) (den i)) → IsLowest m duals duals_den
+  pub wide_common : (basis : ℕ → ColumnOf N) (nums : ℕ → ℕ → ℤ) (den duals : ℕ → ℤ) (duals_den : ℤ) (part : ℕ) → IsTableau m bound basis nums den duals duals_den
+      → ((i : ℕ) → i < m → IsInLowestTerms m (nums i) (den i)) → IsInLowestTerms m duals duals_den
       → ((multiple : ℕ) → ((i : ℕ) → i < m → unsigned_abs (den i) ∣ multiple) → unsigned_abs duals_den ∣ multiple → part ∣ multiple)
-      → 2 ^ 62 ≤ part → HoldsCommon m bound is_column basis
+      → 2 ^ 62 ≤ part → HoldsCommon m basis
   wide_common basis nums den duals duals_den part s lowest lowest_duals divides high multiple some all =
       let low : part ≤ multiple = le_of_dvd some (divides multiple
       (λ i l. all i (nums i) (den i) (state_row basis nums den duals duals_den i s l (lowest i l)))

@@ -1,45 +1,38 @@
 -- bases of a packing program, and the steps from one to another
-use Rattle.std.specs.Prelude.{ℕ, ℤ, zero, suc, pos, ◌≡◌, ◌<◌, ◌*ℤ◌, ◌<ℤ◌, ◌≤ℤ◌}
-use Rattle.simplex_law.specs.Sums.{dot, unit, put}
+use Rattle.std.specs.Prelude.{ℕ, ℤ, List, length, zero, suc, pos, Some, ◌≡◌, ◌<◌, ◌*ℤ◌, ◌<ℤ◌, ◌≤ℤ◌}
+use Rattle.std.specs.List.{slice_get}
+use Rattle.simplex_law.specs.Sums.{dot, unit_vector, put}
 use Rattle.simplex_law.specs.Programs.{ColumnOf}
 
--- nums over den takes the value target j at each basic column j
+-- the product of nums with each basic column j is den times target j
 abbrev pub IsRow : ℕ → (ℕ → ℕ → ℤ) → (ℕ → ℤ) → (ℕ → ℤ) → ℤ → Type 0
 IsRow rows basic target nums den = (j : ℕ) → j < rows → dot rows nums (basic j) ≡ den *ℤ target j
 
--- a program has rows, their bounds, and columns, the slacks among them
-module _ {N : Type 0} (rows : ℕ) (bound : ℕ → ℤ) (is_column : ColumnOf N → Type 0) where
-  -- a row over a positive denominator that takes the value target j at each column j of the basis
-  abbrev pub Gives : (ℕ → ColumnOf N) → (ℕ → ℤ) → (ℕ → ℤ) → ℤ → Type 0
-  Gives basis target nums den = (pos 0 <ℤ den) × IsRow rows (λ j. (basis j).entry) target nums den
+-- bases of as many columns as rows
+module _ {N : Type 0} (rows : ℕ) where
+  -- a row over a positive denominator whose product with each column j of the basis is target j
+  abbrev pub IsBasisRow : (ℕ → ColumnOf N) → (ℕ → ℤ) → (ℕ → ℤ) → ℤ → Type 0
+  IsBasisRow basis target nums den = (pos 0 <ℤ den) × IsRow rows (λ j. (basis j).entry) target nums den
 
   -- row i of the inverse
   abbrev pub IsInverseRow : (ℕ → ColumnOf N) → ℕ → (ℕ → ℤ) → ℤ → Type 0
-  IsInverseRow basis i nums den = Gives basis (unit i) nums den
+  IsInverseRow basis i nums den = IsBasisRow basis (unit_vector i) nums den
 
   -- the basic gains times the inverse
   abbrev pub IsObjectiveRow : (ℕ → ColumnOf N) → (ℕ → ℤ) → ℤ → Type 0
-  IsObjectiveRow basis nums den = Gives basis (λ j. (basis j).gain) nums den
+  IsObjectiveRow basis nums den = IsBasisRow basis (λ j. (basis j).gain) nums den
 
-  -- as many columns as rows, with an inverse, which times the bounds is nowhere negative
-  pub record IsFeasible (basis : ℕ → ColumnOf N) : Type 0 where
-    pub columns : (j : ℕ) → j < rows → is_column (basis j)
-    pub filled : (i : ℕ) → i < rows → (nums : ℕ → ℤ) × (den : ℤ) × IsInverseRow basis i nums den × (pos 0 ≤ℤ dot rows nums bound)
-
-  -- a column's gain exceeds its priced entries
+  -- a column's gain exceeds its entries, priced by the duals over den
   abbrev pub Gains : (ℕ → ℤ) → ℤ → ColumnOf N → Type 0
   Gains duals den c = dot rows duals c.entry <ℤ (den *ℤ c.gain)
 
-  -- a feasible basis at whose prices no column gains
-  pub record IsBest (basis : ℕ → ColumnOf N) : Type 0 where
-    pub feasible : IsFeasible basis
-    pub duals : ℕ → ℤ
-    pub den : ℤ
-    pub objective : IsObjectiveRow basis duals den
-    pub none : (c : ColumnOf N) → is_column c → Gains duals den c → ⊥
+  -- the names of the columns of a basis, in order
+  pub record AreNames (basis : ℕ → ColumnOf N) (names : List N) : Type 0 where
+    pub count : length names ≡ rows
+    pub each : (j : ℕ) → j < rows → slice_get names j ≡ Some (basis j).name
 
-  -- one column is replaced, in its place, by a column that gains at the prices of the basis before
-  pub record Step (before after : ℕ → ColumnOf N) : Type 0 where
+  -- one column is replaced, in its place, by a column of the program that gains at the prices of the basis before
+  pub record GainingStep (is_column : ColumnOf N → Type 0) (before after : ℕ → ColumnOf N) : Type 0 where
     pub row : ℕ
     pub inside : row < rows
     pub enters : ColumnOf N
@@ -50,14 +43,27 @@ module _ {N : Type 0} (rows : ℕ) (bound : ℕ → ℤ) (is_column : ColumnOf N
     pub gains : Gains duals den enters
     pub after_is : (j : ℕ) → j < rows → after j ≡ put before row enters j
 
-  -- n steps over feasible bases lead from the first to the last
-  abbrev pub Leads : ℕ → (ℕ → ColumnOf N) → (ℕ → ColumnOf N) → Type 0
-  Leads zero first last = (j : ℕ) → j < rows → first j ≡ last j
-  Leads (suc n) first last = (between : ℕ → ColumnOf N) × Leads n first between × IsFeasible between × Step between last
+-- bases of a program: its rows, their bounds, and its columns, the slacks among them
+module _ {N : Type 0} (rows : ℕ) (bound : ℕ → ℤ) (is_column : ColumnOf N → Type 0) where
+  -- as many columns as rows, with an inverse, which times the bounds is nowhere negative
+  pub record IsFeasible (basis : ℕ → ColumnOf N) : Type 0 where
+    pub columns : (j : ℕ) → j < rows → is_column (basis j)
+    pub filled : (i : ℕ) → i < rows → (nums : ℕ → ℤ) × (den : ℤ) × IsInverseRow rows basis i nums den × (pos 0 ≤ℤ dot rows nums bound)
 
-  -- feasible bases lead from the first, by steps, to this one
+  -- a feasible basis at whose prices, the duals over den, no column gains
+  pub record IsBest (basis : ℕ → ColumnOf N) (duals : ℕ → ℤ) (den : ℤ) : Type 0 where
+    pub feasible : IsFeasible basis
+    pub objective : IsObjectiveRow rows basis duals den
+    pub none : (c : ColumnOf N) → is_column c → Gains rows duals den c → ⊥
+
+  -- n gaining steps over feasible bases, from the first to the last
+  abbrev pub AreGainingSteps : ℕ → (ℕ → ColumnOf N) → (ℕ → ColumnOf N) → Type 0
+  AreGainingSteps zero first last = (j : ℕ) → j < rows → first j ≡ last j
+  AreGainingSteps (suc n) first last = (between : ℕ → ColumnOf N) × AreGainingSteps n first between × IsFeasible between × GainingStep rows is_column between last
+
+  -- feasible bases lead from the first, by gaining steps, to this one
   pub record IsReached (first basis : ℕ → ColumnOf N) : Type 0 where
     pub from : IsFeasible first
     pub here : IsFeasible basis
     pub steps : ℕ
-    pub leads : Leads steps first basis
+    pub path : AreGainingSteps steps first basis

@@ -3,5 +3,4 @@ pub mod Programs
 pub mod Bases
 pub mod Evidence
 pub mod Optima
-pub mod Lexicographic
-pub mod Turns
+pub mod inner

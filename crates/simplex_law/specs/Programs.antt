@@ -1,7 +1,7 @@
 -- packing programs: the greatest gain of columns that fit into bounds
 use Rattle.std.specs.Prelude.{ℕ, ℤ, List, [], ◌∷◌, pos, ◌≡◌, ◌<◌, ◌+ℤ◌, ◌*ℤ◌, ◌<ℤ◌, ◌≤ℤ◌, ◌⊎◌, cond, eqb}
 use Rattle.checked_fraction.specs.Rows.{IsNarrow}
-use Rattle.simplex_law.specs.Sums.{unit}
+use Rattle.simplex_law.specs.Sums.{unit_vector}
 
 -- a column: its name, its gain, and its entry in each row
 pub record ColumnOf (N : Type 0) : Type 0 where
@@ -25,11 +25,11 @@ pub record IsSlack {N : Type 0} (rows : ℕ) (slack : ℕ → N) (c : ColumnOf N
   pub inside : row < rows
   pub named : c.name ≡ slack row
   pub gain : c.gain ≡ pos 0
-  pub entry : (k : ℕ) → k < rows → c.entry k ≡ unit row k
+  pub entry : (k : ℕ) → k < rows → c.entry k ≡ unit_vector row k
 
 -- the slack columns in the order of their rows
 abbrev pub slack_basis : {N : Type 0} → (ℕ → N) → ℕ → ColumnOf N
-slack_basis slack k = record { name = slack k; gain = pos 0; entry = unit k }
+slack_basis slack k = record { name = slack k; gain = pos 0; entry = unit_vector k }
 
 -- the columns of a program: those of a list, and the slacks
 abbrev pub IsProgramColumn : {N : Type 0} → ℕ → (ℕ → N) → (ColumnOf N → Type 0) → ColumnOf N → Type 0

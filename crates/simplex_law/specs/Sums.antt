@@ -16,8 +16,8 @@ abbrev pub dot : ℕ → (ℕ → ℤ) → (ℕ → ℤ) → ℤ
 dot m row column = int_sum m (λ k. row k *ℤ column k)
 
 -- 1 at i, and 0 elsewhere
-abbrev pub unit : ℕ → ℕ → ℤ
-unit i j = cond (eqb i j) (pos 1) (pos 0)
+abbrev pub unit_vector : ℕ → ℕ → ℤ
+unit_vector i j = cond (eqb i j) (pos 1) (pos 0)
 
 -- f, with x at r
 abbrev pub put : {X : Type 0} → (ℕ → X) → ℕ → X → ℕ → X

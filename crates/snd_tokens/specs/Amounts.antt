@@ -52,6 +52,10 @@ decimal_below n limit word =
 unfoldable pub amount_of : List ℕ → Result ℕ NumberFault
 amount_of word = decimal_below 3 (2 ^ 40) word
 
+-- the value of money's word in thousandths, or its fault
+unfoldable pub money_of : List ℕ → Result ℕ NumberFault
+money_of word = decimal_below 3 (2 ^ 126) word
+
 -- the whole number that a unit's word writes, below 2^40 thousandths, or its fault
 unfoldable pub units_of : List ℕ → Result ℕ NumberFault
 units_of word = decimal_below 0 1099511628 word

@@ -1,6 +1,6 @@
 ghost use Rattle.std.specs.Prelude.{◌≡◌, ◌+◌, ◌*◌, ◌^◌, ◌<◌, ◌≤◌, ◌==◌, drop, IsTrue, IfOk, MatchOption, MatchResult};
 ghost use Rattle.std.specs.List.{list_all};
-ghost use Rattle.snd_tokens.specs.Amounts.{AreParts, amount_of, decimal_below, first_places, is_decimal, is_point, units_of};
+ghost use Rattle.snd_tokens.specs.Amounts.{AreParts, amount_of, decimal_below, first_places, is_decimal, is_point, money_of, units_of};
 ghost use Rattle.snd_tokens.specs.Digits.{is_digit, number_of};
 
 use crate::digits::{are_digits, number_below};
@@ -23,6 +23,9 @@ pub enum NumberFault {
 
 /// An amount is below this many thousandths.
 const AMOUNT_LIMIT: u128 = 1 << 40;
+
+/// Money is below this many thousandths.
+const MONEY_LIMIT: u128 = 1 << 126;
 
 /// A whole amount is below this many units, of which each has 1000 thousandths.
 const UNITS_LIMIT: u128 = 1_099_511_628;
@@ -98,6 +101,15 @@ pub fn milli(word: &[u8]) -> Result<u64, NumberFault>
 {
     let number = decimal(word, AMOUNT_LIMIT)?;
     Ok(number as u64)
+}
+
+/// The value of money in thousandths.
+#[tactic(auto, unfolding(crate::specs::Amounts::money_of))]
+pub fn money(word: &[u8]) -> Result<u128, NumberFault>
+    ensures value { result ≡ money_of word.now }
+    ensures small { IfOk result (λ n. n < 2 ^ 126) }
+{
+    decimal(word, MONEY_LIMIT)
 }
 
 /// The value of an amount that is a whole number.

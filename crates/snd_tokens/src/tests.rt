@@ -1,4 +1,4 @@
-use crate::amount::{NumberFault, milli, units};
+use crate::amount::{NumberFault, milli, money, units};
 use crate::header::after_header;
 use crate::token::{Token, TokenKind, next_token};
 use crate::whole_number::{WholeFault, whole};
@@ -33,6 +33,27 @@ fn amounts(rt: HostRuntime) {
     ];
     for (word, value) in rows {
         assert_eq!(rt; milli(word), value);
+    }
+}
+
+#[test]
+fn amounts_of_money(rt: HostRuntime) {
+    let rows: [(&[u8], Result<u128, NumberFault>); 6] = [
+        (b"0.000", Ok(0)),
+        (b"600.000", Ok(600_000)),
+        (b"1099511627.776", Ok(1_099_511_627_776)),
+        (
+            b"85070591730234615865843651857942052.863",
+            Ok(85_070_591_730_234_615_865_843_651_857_942_052_863),
+        ),
+        (
+            b"85070591730234615865843651857942052.864",
+            Err(NumberFault::TooLarge),
+        ),
+        (b"1.0001", Err(NumberFault::TooFine)),
+    ];
+    for (word, value) in rows {
+        assert_eq!(rt; money(word), value);
     }
 }
 

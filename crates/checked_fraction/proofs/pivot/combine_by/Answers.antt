@@ -3,7 +3,7 @@ use Rattle.std.proofs.lemmas.Int.{ints}
 use Rattle.std.proofs.lemmas.Result.{on_ok_weaker, IfErr-weaker}
 use Rattle.checked_fraction.specs.Rows.{num}
 use Rattle.checked_fraction.specs.Mixed.{IsTooWide}
-use Rattle.checked_fraction.specs.Passes.{raw}
+use Rattle.checked_fraction.specs.inner.Passes.{raw}
 use Rattle.checked_fraction.proofs.Reduced.{times_same, unmixed}
 use Rattle.checked_fraction.proofs.pivot.combine_by.Goals as goal
 

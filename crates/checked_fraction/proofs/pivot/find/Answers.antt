@@ -1,6 +1,6 @@
 use Rattle.std.proofs.Common.{length, pos, sym, subst}
 use Rattle.checked_fraction.specs.Rows.{IsReduced}
-use Rattle.checked_fraction.specs.Passes.{raw, over}
+use Rattle.checked_fraction.specs.inner.Passes.{raw, over}
 use Rattle.checked_fraction.proofs.Reduced.{reduces}
 use Rattle.checked_fraction.proofs.pivot.find.Goals as goal
 

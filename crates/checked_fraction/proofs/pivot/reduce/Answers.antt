@@ -1,6 +1,6 @@
 use Rattle.std.proofs.Common.{◌≡◌, w64, to_z, of_z, sym, subst, arith}
 use Rattle.std.proofs.lemmas.Int.{ints}
-use Rattle.checked_fraction.specs.Rows.{num, IsLowest}
+use Rattle.checked_fraction.specs.Rows.{num, IsInLowestTerms}
 use Rattle.checked_fraction.proofs.Reduced.{settled}
 use Rattle.checked_fraction.proofs.pivot.reduce.Goals as goal
 
@@ -32,5 +32,5 @@ invariant_of-row-clause-lowest c =
     let narrow = found.narrow in
     let back : to_z w64 (of_z w64 c.in_ok-found.found.den) ≡ c.in_ok-found.found.den = omega (arith, ints, narrow) in
     let row = settled _ _ _ _ _ _ c.whole_of.ensures.positive found c.write_list.ensures.each c.whole_of.ensures.value in
-    let there = subst (λ n. IsLowest n (num c.write_list.new.nums) c.in_ok-found.found.den) (sym c.write_list.ensures.length) row.lowest in
+    let there = subst (λ n. IsInLowestTerms n (num c.write_list.new.nums) c.in_ok-found.found.den) (sym c.write_list.ensures.length) row.lowest in
     rw back there

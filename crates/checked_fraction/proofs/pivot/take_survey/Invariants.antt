@@ -1,5 +1,5 @@
 use Rattle.std.proofs.Common.{ℕ, ◌<◌, ◌≤◌, unsigned_abs}
-use Rattle.checked_fraction.specs.Passes.{raw, IsRowGcd}
+use Rattle.checked_fraction.specs.inner.Passes.{raw, IsRowGcd}
 use Rattle.checked_fraction.proofs.pivot.take_survey.Given as goal
 
 -- the divisor and the bound of the numbers so far

@@ -1,4 +1,5 @@
-use Rattle.checked_fraction.specs.Passes.{raw, over, IsWritten}
+use Rattle.checked_fraction.specs.inner.Passes.{raw, over}
+use Rattle.checked_fraction.proofs.Writing.{IsWritten}
 use Rattle.checked_fraction.proofs.pivot.write.Given as goal
 
 -- the numbers so far are written

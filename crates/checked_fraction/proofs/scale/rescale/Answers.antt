@@ -1,7 +1,7 @@
 use Rattle.std.proofs.Common.{◌≡◌, ◌<◌, ◌/◌, ◌^◌, pos, w64, to_z, sym, subst, arith}
 use Rattle.std.proofs.lemmas.Int.{ints}
 use Rattle.std.proofs.Math.Nat.{div-le_self}
-use Rattle.checked_fraction.specs.Rows.{num, IsLowest}
+use Rattle.checked_fraction.specs.Rows.{num, IsInLowestTerms}
 use Rattle.checked_fraction.proofs.Reduced.{made}
 use Rattle.checked_fraction.proofs.scale.rescale.Goals as goal
 
@@ -42,5 +42,5 @@ invariant_of-row-clause-lowest c =
     let back : to_z w64 den ≡ pos den = omega (arith, ints, low) in
     let divisor = rw c.items.ensures at c.divisor_of-common.ensures.gcd in
     let row = made _ _ whole _ _ c.args.q (omega (arith, ints)) divisor c.divide_list.ensures.each (omega (arith, ints)) in
-    let there = subst (λ n. IsLowest n (num c.divide_list.new.nums) (pos den)) (sym c.divide_list.ensures.length) row.lowest in
+    let there = subst (λ n. IsInLowestTerms n (num c.divide_list.new.nums) (pos den)) (sym c.divide_list.ensures.length) row.lowest in
     rw back there

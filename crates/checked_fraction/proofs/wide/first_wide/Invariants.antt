@@ -1,4 +1,4 @@
-use Rattle.checked_fraction.specs.Passes.{raw, over, IsWithin}
+use Rattle.checked_fraction.specs.inner.Passes.{raw, over, IsWithin}
 use Rattle.checked_fraction.proofs.wide.first_wide.Given as goal
 
 -- the numbers so far are narrow

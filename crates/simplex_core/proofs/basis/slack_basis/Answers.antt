@@ -1,5 +1,5 @@
 use Rattle.std.proofs.Common.{arith, subst, sym, ◌∙◌}
-use Rattle.simplex_core.specs.Shapes.{IsStart}
+use Rattle.simplex_core.specs.inner.Shapes.{IsStartBasis}
 use Rattle.simplex_core.specs.declared.basis.Basis.{Basis}
 use Rattle.simplex_core.proofs.Starts.{start}
 use Rattle.simplex_core.proofs.basis.slack_basis.Goals as goal
@@ -16,7 +16,7 @@ returns g c =
       spare = c.in_ok-spare.spare;
     } in
     let n = c.rows-n.ensures in
-    subst (λ m. IsStart m (g.C.Columns.bound cols) (g.C.Columns.slack cols) b) n
+    subst (λ m. IsStartBasis m (g.C.Columns.bound cols) (g.C.Columns.slack cols) b) n
     (start c.rows-n.result (g.C.Columns.bound cols) (g.C.Columns.slack cols) b (omega (arith, c.rows-n.type_inv))
     (λ k l. c.requires k (omega (arith, n, l)))
     (c.in_ok-names.ensures.count ∙ sym n) c.in_ok-names.ensures.names

@@ -1,5 +1,5 @@
 use Rattle.std.proofs.Common.{subst, sym, ◌<◌}
-use Rattle.simplex_core.specs.Commons.{IsDenominator, IsMultiple, HaveNoMultiple}
+use Rattle.simplex_core.specs.inner.Commons.{IsDenominator, IsLeastMultiple, HaveNoMultiple}
 use Rattle.simplex_core.proofs.Multiples.{denominator_first, denominator_next, denominator_none}
 use Rattle.simplex_core.proofs.optimum.common_denominator.Goals as goal
 
@@ -11,7 +11,7 @@ loop-i-init c =
 
 pub loop-i-preserved : goal.loop-i-preserved
 loop-i-preserved c = denominator_next c.args.rows.now c.args.duals.now c.loop-i.i c.loop-i.all c.in-Some.next c.loop-i.invariant
-    (subst (λ x. IsMultiple c.loop-i.all x c.in-Some.next) c.den_size_at.ensures.value c.in-Some.ensures)
+    (subst (λ x. IsLeastMultiple c.loop-i.all x c.in-Some.next) c.den_size_at.ensures.value c.in-Some.ensures)
 
 pub returns-in_default : goal.returns-in_default
 returns-in_default c = denominator_none c.args.rows.now c.args.duals.now c.loop-i.i c.loop-i.all c.loop-i-test.true c.loop-i.invariant

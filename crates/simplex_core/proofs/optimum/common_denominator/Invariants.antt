@@ -1,4 +1,4 @@
-use Rattle.simplex_core.specs.Commons.{IsDenominator}
+use Rattle.simplex_core.specs.inner.Commons.{IsDenominator}
 use Rattle.simplex_core.proofs.optimum.common_denominator.Given as goal
 
 -- the denominator of the rows so far

@@ -1,6 +1,6 @@
 use Rattle.std.proofs.Common.{length}
 use Rattle.checked_fraction.specs.Rows.{num}
-use Rattle.simplex_core.specs.Pivots.{AreCombined}
+use Rattle.simplex_core.specs.inner.Pivots.{AreCombined}
 use Rattle.simplex_core.proofs.pivot.combine_rows.Given as goal
 
 -- the rows so far are combined

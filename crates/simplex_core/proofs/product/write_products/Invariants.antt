@@ -1,5 +1,5 @@
 use Rattle.std.proofs.Common.{◌≡◌, length}
-use Rattle.simplex_core.specs.Products.{AreProducts}
+use Rattle.simplex_core.specs.inner.Products.{AreProducts}
 use Rattle.simplex_core.proofs.product.write_products.Given as goal
 
 -- the products so far are written

@@ -1,11 +1,10 @@
-use Rattle.std.proofs.Common.{arith, subst, sym}
-use Rattle.simplex_core.specs.Ratios.{Leaves}
-use Rattle.std.proofs.Common.{length, Ok}
+use Rattle.std.proofs.Common.{arith, subst, sym, length, Ok}
+use Rattle.simplex_core.specs.inner.Ratios.{IsLeavingRow}
 use Rattle.simplex_core.proofs.Ratios.{leaves}
 use Rattle.simplex_core.proofs.ratio.leaving_row.Goals as goal
 
 pub returns : goal.returns
 returns c =
     let rows = c.args.rows.now in
-    subst (λ r. Leaves (length rows) rows c.args.bounds.now c.args.products.now (Ok r)) (sym c.row_of.ensures)
+    subst (λ r. IsLeavingRow (length rows) rows c.args.bounds.now c.args.products.now (Ok r)) (sym c.row_of.ensures)
     (leaves rows c.args.bounds.now c.args.products.now c.loop-i.i c.loop-i.best (omega arith) c.loop-i.invariant)

@@ -1,4 +1,4 @@
-use Rattle.simplex_core.specs.Ratios.{IsBestBefore}
+use Rattle.simplex_core.specs.inner.Ratios.{IsBestBefore}
 use Rattle.simplex_core.proofs.ratio.leaving_row.Given as goal
 use Rattle.std.proofs.Common.{length}
 

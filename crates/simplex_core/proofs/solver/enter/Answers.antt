@@ -4,7 +4,7 @@ use Rattle.checked_fraction.specs.Rows.{num}
 use Rattle.simplex_law.specs.Sums.{dot}
 use Rattle.simplex_law.specs.Programs.{ColumnOf}
 use Rattle.simplex_core.specs.Columns.{column_from, entry_of}
-use Rattle.simplex_core.specs.Ratios.{Leaves}
+use Rattle.simplex_core.specs.inner.Ratios.{IsLeavingRow}
 use Rattle.simplex_core.specs.declared.basis.Basis.{Basis}
 use Rattle.simplex_core.proofs.Turning.{picks, enters_as_well}
 use Rattle.simplex_core.proofs.solver.enter.Goals as goal
@@ -18,7 +18,7 @@ returns-in-Ok-Some g c =
     let dots = c.in_default-write_list.ensures.products in
     let back : to_z w64 (of_z w64 c.in-Some.cost) ≡ c.in-Some.cost = omega (arith, ints, c.in-Some.ensures.1) in
     let cost = subst (λ n. c.in-Some.cost ≡ dot n (num old.duals.nums) (entry_of c.args.entries.now) -ℤ old.duals.den *ℤ c.args.gain.now) c.requires.shaped.duals c.in-Some.ensures.0 in
-    let first = subst (λ o. Leaves m old.rows old.bounds products (Ok o)) c.in-Ok-Some.field-0-is c.in-Ok-Some.ensures in
+    let first = subst (λ o. IsLeavingRow m old.rows old.bounds products (Ok o)) c.in-Ok-Some.field-0-is c.in-Ok-Some.ensures in
     let with : Basis g.row.N.Denot = record { names = old.names; rows = old.rows; duals = old.duals; bounds = old.bounds; products = products; spare = old.spare } in
     enters_as_well m old products column c.replace.result c.replace.new.basis
     (c.replace.ensures column (record {

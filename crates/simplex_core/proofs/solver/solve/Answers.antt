@@ -1,5 +1,5 @@
 use Rattle.std.proofs.Common.{sym, subst}
-use Rattle.simplex_core.specs.Solving.{HasLowValues, Ends}
+use Rattle.simplex_core.specs.inner.Outcomes.{HasLowValues, IsBasisOutcome}
 use Rattle.simplex_core.specs.declared.solver.Turn.TheVariants.{Again, Best, Unbounded, Wide}
 use Rattle.simplex_core.proofs.Ending.{answers, low_values, some_limit, same_program, same_trans, first_turn}
 use Rattle.simplex_core.proofs.Evidences.{evidence}
@@ -63,7 +63,7 @@ returns-in-Best-clause-answer g c =
     let now = c.loop-basis.cols in
     let b = c.loop-basis.basis in
     let h = first_turn (p.rows first) (p.rows now) (p.bound first) (p.bound now) (p.slack first) (p.slack now) (p.is_listed first) (p.is_listed now) c.loop-basis.invariant.same b Best c.take_turn.new.basis c.in-Best.ensures.turn in
-    answers (p.rows first) (p.bound first) (p.slack first) (p.is_listed first) b c.finish.result c.requires c.loop-basis.invariant.at h.1 (subst (λ x. Ends x c.finish.result) h.0 c.finish.ensures)
+    answers (p.rows first) (p.bound first) (p.slack first) (p.is_listed first) b c.finish.result c.requires c.loop-basis.invariant.at h.1 (subst (λ x. IsBasisOutcome x c.finish.result) h.0 c.finish.ensures)
 
 pub unreachable-requires : goal.unreachable-requires
 unreachable-requires g c =

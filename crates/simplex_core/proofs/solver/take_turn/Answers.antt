@@ -3,7 +3,7 @@ use Rattle.std.proofs.lemmas.Int.{ints}
 use Rattle.checked_fraction.specs.Rows.{num}
 use Rattle.simplex_law.specs.Programs.{ColumnOf}
 use Rattle.simplex_core.specs.Columns.{column_from, column_of}
-use Rattle.simplex_core.specs.Turns.{Enters}
+use Rattle.simplex_core.specs.inner.Turns.{Enters}
 use Rattle.simplex_core.proofs.Turning.{entered, is_slack, slack_gains, gains_price}
 use Rattle.simplex_core.proofs.solver.take_turn.Goals as goal
 

@@ -3,7 +3,7 @@ use Rattle.std.proofs.lemmas.Option.{slice_get-get_or}
 use Rattle.checked_fraction.specs.Rows.{num}
 use Rattle.simplex_law.specs.Sums.{dot}
 use Rattle.simplex_core.specs.Columns.{entry_of}
-use Rattle.simplex_core.specs.Listed.{IsListed, entries_of}
+use Rattle.simplex_core.specs.inner.Listed.{IsListedColumn, entries_of}
 use Rattle.simplex_core.specs.Prices.{Finds}
 use Rattle.simplex_core.specs.declared.tests.Shape.{Shape}
 use Rattle.simplex_core.specs.declared.columns.Price.TheVariants.{Optimal}
@@ -30,5 +30,5 @@ returns-then-is_gaining-clause-found c =
 
 pub returns-clause-found : goal.returns-clause-found
 returns-clause-found c =
-    subst (λ (xs : List Shape). Finds 3 (IsListed Listed (λ x. x.gain) (λ x. entries_of x.first x.second x.third) xs) c.args.duals.now Optimal) c.items-shapes.ensures
+    subst (λ (xs : List Shape). Finds 3 (IsListedColumn Listed (λ x. x.gain) (λ x. entries_of x.first x.second x.third) xs) c.args.duals.now Optimal) c.items-shapes.ensures
     (none_listed Listed (λ (x : Shape). x.gain) (λ x. x.first) (λ x. x.second) (λ x. x.third) c.items-shapes.result.now c.args.duals.now c.loop-i.i c.loop-i-test.false c.loop-i.invariant)

@@ -1,0 +1,42 @@
+-- the steps in which a file is read and a piece is written
+use Rattle.std.specs.Prelude.{◌≡◌, ◌≢◌, ℕ, ◌+◌, ◌≤◌, ◌<◌, List, [], ◌++◌, length, take, Option, Some, None, IfSome, ⊤, Result, MatchResult}
+use Rattle.std.specs.IoError.{error_kind}
+use Rattle.std.specs.declared.io.Error.{Error}
+use Rattle.std.specs.declared.io.ErrorKind.TheVariants.{NotFound}
+use Rattle.std.specs.Io.KnownBytes.{Consumes, Appends, IsAtEnd}
+use Rattle.outside_io.specs.declared.shelf.Fetch.{Fetch}
+use Rattle.outside_io.specs.declared.shelf.Fetch.TheVariants.{Found, Missing, TooLong, Failed, NoMemory}
+
+-- what reading an open file to its end answers, and what it leaves in an empty buffer, where the bytes of the file are known
+abbrev pub Reads : Option (List ℕ) → ℕ → Fetch → List ℕ → Type 0
+Reads known limit Found into = IfSome known (λ bytes. into ≡ bytes) × (length into ≤ limit)
+Reads known limit Missing into = ⊥
+Reads known limit TooLong into = IfSome known (λ bytes. limit < length bytes)
+Reads known limit Failed into = ⊤
+Reads known limit NoMemory into = ⊤
+
+-- what a file that can't be opened answers: only one that doesn't exist is missing
+abbrev pub AnswersUnopened : Error → Fetch → Type 0
+AnswersUnopened e Missing = error_kind e ≡ NotFound
+AnswersUnopened e Failed = error_kind e ≢ NotFound
+AnswersUnopened e _ = ⊥
+
+-- at most so many bytes were read, where the bytes of the file are known
+abbrev pub ConsumesUpTo : ℕ → Option (List ℕ) → Option (List ℕ) → Type 0
+ConsumesUpTo most old new = (bytes : List ℕ) × (length bytes ≤ most) × Consumes old new bytes
+
+-- what one read answers, where so many bytes are left of the limit: with no answer it appended what it read, and there may be more
+abbrev pub ReadsOnce : Option (List ℕ) → Option (List ℕ) → ℕ → Option Fetch → List ℕ → List ℕ → Type 0
+ReadsOnce old new left None before after =
+    (bytes : List ℕ) × (length bytes ≤ left) × Consumes old new bytes × (after ≡ before ++ bytes)
+ReadsOnce old new left (Some Found) before after = Consumes old new [] × IsAtEnd new × (after ≡ before)
+ReadsOnce old new left (Some Missing) before after = ⊥
+ReadsOnce old new left (Some TooLong) before after =
+    (bytes : List ℕ) × (length bytes ≡ left + 1) × Consumes old new bytes
+ReadsOnce old new left (Some Failed) before after = ConsumesUpTo (left + 1) old new
+ReadsOnce old new left (Some NoMemory) before after = ConsumesUpTo (left + 1) old new
+
+-- one write took a prefix of the piece, or at a fault nothing
+abbrev pub WritesOnce : {E : Type 0} → Option (List ℕ) → Option (List ℕ) → Result ℕ E → List ℕ → Type 0
+WritesOnce old new answer piece =
+    MatchResult answer (λ n. (n ≤ length piece) × Appends old new (take n piece)) (λ _. Appends old new [])

@@ -1,0 +1,9 @@
+pub mod Commons
+pub mod Listed
+pub mod Outcomes
+pub mod Pivots
+pub mod Products
+pub mod Ratios
+pub mod Shapes
+pub mod Turns
+pub mod Values

@@ -1,0 +1,86 @@
+-- which row leaves when a column enters
+use Rattle.std.specs.Prelude.{ℕ, ℤ, suc, pos, List, length, Option, Some, None, Result, Ok, Err, ◌≡◌, ◌<◌, ◌≤◌, ◌^◌, ◌<ℤ◌, ◌≤ℤ◌, ◌⊎◌}
+use Rattle.std.specs.declared.cmp.Ordering.{Ordering}
+use Rattle.std.specs.declared.cmp.Ordering.TheVariants.{Less, Equal, Greater}
+use Rattle.checked_fraction.specs.Rows.{num, IsNarrow}
+use Rattle.checked_fraction.specs.Mixed.{combined}
+use Rattle.checked_fraction.specs.declared.row.Row.{Row}
+use Rattle.simplex_law.specs.Sums.{dot}
+use Rattle.simplex_law.specs.inner.Lexicographic.{IsLexNonneg, valued}
+use Rattle.simplex_core.specs.inner.Products.{nums_at}
+use Rattle.simplex_core.specs.inner.Values.{sizes_of}
+use Rattle.simplex_core.specs.declared.ratio.Candidate.{Candidate}
+
+-- a row of m with a narrow product that is positive
+pub record IsPlaced (m : ℕ) (c : Candidate) : Type 0 where
+  pub inside : c.row < m
+  pub positive : pos 0 <ℤ c.product
+  pub narrow : IsNarrow c.product
+
+-- the value and the product are those of the row
+pub record IsCandidate (m : ℕ) (rows : List Row) (bounds products : List ℤ) (c : Candidate) : Type 0 where
+  pub placed : IsPlaced m c
+  pub value : pos c.value ≡ dot m (nums_at rows c.row) (num bounds)
+  pub product : c.product ≡ num products c.row
+
+-- the numbers u with their value in front, over p, come no later than those of v over q
+abbrev pub IsNoLater : ℕ → (ℕ → ℤ) → (ℕ → ℤ) → ℤ → (ℕ → ℤ) → ℤ → Type 0
+IsNoLater m bound u p v q = IsLexNonneg (suc m) (combined (valued m bound v) q (valued m bound u) p)
+
+-- how x stands to y
+abbrev pub HasOrder : ℤ → ℤ → Ordering → Type 0
+HasOrder x y Less = x <ℤ y
+HasOrder x y Equal = x ≡ y
+HasOrder x y Greater = y <ℤ x
+
+-- u and v are equal before a place, and u is less there
+abbrev pub IsFirstLess : ℕ → (ℕ → ℤ) → (ℕ → ℤ) → Type 0
+IsFirstLess m u v = (at : ℕ) × (at < m) × ((k : ℕ) → k < at → u k ≡ v k) × (u at <ℤ v at)
+
+-- how m numbers u compare with v, by the first that differs
+abbrev pub ComparesNumbers : ℕ → (ℕ → ℤ) → (ℕ → ℤ) → Ordering → Type 0
+ComparesNumbers m u v Less = IsFirstLess m u v
+ComparesNumbers m u v Equal = (k : ℕ) → k < m → u k ≡ v k
+ComparesNumbers m u v Greater = IsFirstLess m v u
+
+-- how the ratio of u and p stands to that of v and q
+abbrev pub ComparesRatios : ℕ → (ℕ → ℤ) → (ℕ → ℤ) → ℤ → (ℕ → ℤ) → ℤ → Ordering → Type 0
+ComparesRatios m bound u p v q Less = IsNoLater m bound u p v q
+ComparesRatios m bound u p v q Equal = IsNoLater m bound v q u p
+ComparesRatios m bound u p v q Greater = IsNoLater m bound v q u p
+
+-- two rows of one program, whose values the bounds give
+abbrev pub HaveRowValues : List Row → (ℕ → ℤ) → Candidate → Candidate → Type 0
+HaveRowValues rows bound first second = (pos first.value ≡ dot (length rows) (nums_at rows first.row) bound) × (pos second.value ≡ dot (length rows) (nums_at rows second.row) bound)
+
+-- how the ratios of two rows compare
+abbrev pub ComparesRows : List Row → (ℕ → ℤ) → Candidate → Candidate → Ordering → Type 0
+ComparesRows rows bound first second order = ComparesRatios (length rows) bound (nums_at rows first.row) first.product (nums_at rows second.row) second.product order
+
+-- the first comes no later than the second
+abbrev pub IsFirstOf : List Row → (ℕ → ℤ) → Candidate → Candidate → Type 0
+IsFirstOf rows bound first second = IsNoLater (length rows) bound (nums_at rows first.row) first.product (nums_at rows second.row) second.product
+
+-- the better of some row and another one, of which it is one
+abbrev pub IsBetter : List Row → Option Candidate → Candidate → Candidate → Type 0
+IsBetter rows None other better = better ≡ other
+IsBetter rows (Some best) other better =
+    ((better ≡ best) × ((bound : ℕ → ℤ) → HaveRowValues rows bound other best → IsFirstOf rows bound best other))
+    ⊎ ((better ≡ other) × ((bound : ℕ → ℤ) → HaveRowValues rows bound other best → IsFirstOf rows bound other best))
+
+-- row r comes no later than row k
+abbrev pub IsRowNoLater : ℕ → List Row → List ℤ → List ℤ → ℕ → ℕ → Type 0
+IsRowNoLater m rows bounds products r k = IsNoLater m (num bounds) (nums_at rows r) (num products r) (nums_at rows k) (num products k)
+
+-- the first of the first n rows whose product is positive
+abbrev pub IsBestBefore : ℕ → List Row → List ℤ → List ℤ → ℕ → Option Candidate → Type 0
+IsBestBefore m rows bounds products n None = (k : ℕ) → k < n → num products k ≤ℤ pos 0
+IsBestBefore m rows bounds products n (Some best) = IsCandidate m rows bounds products best
+    × ((k : ℕ) → k < n → pos 0 <ℤ num products k → IsRowNoLater m rows bounds products best.row k)
+
+-- the first of all rows whose product is positive, if any is, or a row whose value is wide
+abbrev pub IsLeavingRow : ℕ → List Row → List ℤ → List ℤ → Result (Option ℕ) ℕ → Type 0
+IsLeavingRow m rows bounds products (Err i) = (i < m) × (2 ^ 126 ≤ sizes_of m (nums_at rows i) (num bounds))
+IsLeavingRow m rows bounds products (Ok None) = (k : ℕ) → k < m → num products k ≤ℤ pos 0
+IsLeavingRow m rows bounds products (Ok (Some r)) = (r < m) × (pos 0 <ℤ num products r)
+    × ((k : ℕ) → k < m → pos 0 <ℤ num products k → IsRowNoLater m rows bounds products r k)

@@ -1,0 +1,2 @@
+pub mod Lexicographic
+pub mod Pivots

@@ -1,0 +1,188 @@
+-- Laws of whole files, for each reading that is lawful.
+use Rattle.std.proofs.Common.{◌≡◌, ℕ, suc, ◌+◌, ◌≤◌, ◌<◌, ◌==◌, min, Bool, true, false, cond, not, List, [], ◌∷◌, ◌++◌, length, take, drop, Result, Ok, Err, IfOk, IfErr, refl, sym, ap, subst, ◌∙◌, arith, ⊎_elim, ◌⊎◌, inl, inr, length-append}
+use Rattle.std.specs.List.{position_or_len}
+use Rattle.std.proofs.lemmas.Bool.{cases_eq, cases_lt}
+use Rattle.std.proofs.lemmas.List.{drop-drop, length-take}
+use Rattle.std.proofs.lemmas.List.Sums.{prefix_len-le-length}
+use Rattle.net_core.specs.Tests.{are_same}
+use Rattle.snd_tokens.specs.Header.{first_line, second_line, trimmed}
+use Rattle.snd_tokens.specs.Lexemes.{Text, WordAt, OpenAt, CloseAt, EndAt, text_from, text_of}
+use Rattle.snd_tokens.specs.Tokens.{tokens_from}
+use Rattle.snd_tokens.proofs.Scan.{tokens_from-end}
+use Rattle.text_kit.specs.Answers.{AnswersAs, Fails, ReadsAllAs}
+use Rattle.text_kit.specs.Files.{IsNotTooEarly, SpellsAs, body, file_at}
+use Rattle.text_kit.specs.Items.{Item, Begins}
+use Rattle.text_kit.specs.Laws.{WrittenIsRead}
+use Rattle.text_kit.specs.Places.{EndsBefore}
+use Rattle.text_kit.specs.Reading.{Read, Reading, after, give, mapped}
+use Rattle.text_kit.specs.Written.{written}
+use Rattle.text_kit.specs.declared.refusal.Refusal.{Refusal}
+use Rattle.text_kit.specs.declared.refusal.Refusal.TheVariants.{Bad, NoMemory}
+use Rattle.text_kit.proofs.Agreeing.{files_agree, run_same, take_less}
+use Rattle.text_kit.proofs.Lawful.{IsEnd, Lawful, is_same, same_is}
+use Rattle.text_kit.proofs.Numerals.{drop_first, take_first}
+use Rattle.text_kit.proofs.Online.{IsOnline, err_parts, ok_parts, same_fault}
+use Rattle.text_kit.proofs.Rising.{RisesFrom, file_rises}
+use Rattle.text_kit.proofs.Written.{written_begins}
+
+-- ---- first lines
+
+-- a lexeme that ends before a limit stands at the beginning of the text or behind it, and before the limit
+before_limit : (from at limit : ℕ) (t : Text) → RisesFrom from t → EndsBefore at limit t → (from ≤ at) × (from < limit)
+before_limit from at limit (WordAt p w t) r e = ⊎_elim (λ same. (omega (arith, r.1, same), omega (arith, r.1, e.0 same))) (λ other. let h = before_limit p at limit t (r.0.1, omega (arith, r.0.0)) (e.1 other) in (omega (arith, r.1, h.0), omega (arith, r.1, h.1))) (cases_eq p at)
+before_limit from at limit (OpenAt p t) r e = ⊎_elim (λ same. (omega (arith, r.1, same), omega (arith, r.1, e.0 same))) (λ other. let h = before_limit p at limit t (r.0.1, omega (arith, r.0.0)) (e.1 other) in (omega (arith, r.1, h.0), omega (arith, r.1, h.1))) (cases_eq p at)
+before_limit from at limit (CloseAt p t) r e = ⊎_elim (λ same. (omega (arith, r.1, same), omega (arith, r.1, e.0 same))) (λ other. let h = before_limit p at limit t (r.0.1, omega (arith, r.0.0)) (e.1 other) in (omega (arith, r.1, h.0), omega (arith, r.1, h.1))) (cases_eq p at)
+before_limit from at limit (EndAt p) r e = absurd e
+
+body_rises : (bytes : List ℕ) → RisesFrom (second_line bytes) (body bytes)
+body_rises bytes = file_rises (second_line bytes) bytes (omega arith)
+
+abbrev line_size : List ℕ → ℕ
+line_size bytes = position_or_len (λ b. b == 10) bytes
+
+-- nothing stands behind a first line without a line feed
+at_last : (bytes : List ℕ) (at n : ℕ) → second_line bytes ≡ length bytes → EndsBefore at n (body bytes) → ⊥
+unfolding text_from
+at_last bytes at n e ends =
+    subst (λ (t : Text). EndsBefore at n t) (ap (λ k. text_of bytes (tokens_from k bytes)) e ∙ ap (text_of bytes) (tokens_from-end bytes)) ends
+
+-- files that agree past a lexeme have one first line
+record SameLine (bytes other : List ℕ) : Type 0 where
+  pub line : first_line other ≡ first_line bytes
+  pub behind : second_line other ≡ second_line bytes
+
+same_line : (bytes other : List ℕ) (at n : ℕ) → take n bytes ≡ take n other → EndsBefore at n (body bytes) → SameLine bytes other
+same_line bytes other at n same ends =
+    let L = line_size bytes in
+    let within : L ≤ length bytes = prefix_len-le-length (λ b. not (b == 10)) bytes in
+    let size : length (first_line bytes) ≡ L = length-take L bytes ∙ omega (arith, within) in
+    let low = (before_limit (second_line bytes) at n (body bytes) (body_rises bytes) ends).1 in
+    ⊎_elim
+    (λ (less : L < length bytes).
+    let below : L < n = omega (arith, low, size, less) in
+    let run : line_size other ≡ L = run_same (λ b. not (b == 10)) n bytes other below same in
+    let line : first_line other ≡ first_line bytes = ap (λ k. take k other) run ∙ sym (take_less L n bytes other (omega (arith, below)) same) in
+    let more : take (L + 1) bytes ≡ take (L + 1) other = take_less (L + 1) n bytes other (omega (arith, below)) same in
+    let long : min (L + 1) (length bytes) ≡ min (L + 1) (length other) = sym (length-take (L + 1) bytes) ∙ (ap length more ∙ length-take (L + 1) other) in
+    record { line = line; behind = ap (λ (l : List ℕ). min (length l + 1) (length other)) line ∙ omega (arith, size, long, less) })
+    (λ (all : length bytes ≤ L). absurd (at_last bytes at n (omega (arith, size, within, all)) ends))
+    (cases_lt L (length bytes))
+
+-- ---- readings of files
+
+header_ok : {K X : Type 0} (other : K) (b : Bool) (q : Read K X) (x : X) (rest : Text) → cond b q (Err (0, other)) ≡ Ok (x, rest) → (b ≡ true) × (q ≡ Ok (x, rest))
+header_ok other true q x rest e = (refl, e)
+header_ok other false q x rest e = absurd cc
+
+header_err : {K X : Type 0} (other : K) (b : Bool) (q : Read K X) (at : ℕ) (kind : K) → cond b q (Err (0, other)) ≡ Err (at, kind) → (0 ≡ at) ⊎ ((b ≡ true) × (q ≡ Err (at, kind)))
+header_err other true q at kind e = inr (refl, e)
+header_err {K} {X} other false q at kind e = inl (err_parts {X = X} 0 at other kind e).0
+
+module _ {K X Y : Type 0} (other : K) (header : List ℕ) (r : Reading K X) (meaning : X → Y) (items : X → List Item) (is : X → Type 0) (law : Lawful r items is IsEnd) where
+  abbrev file : List ℕ → Read K Y
+  file bytes = file_at other header (mapped meaning r) bytes
+
+  abbrev IsOf : List ℕ → Y → Type 0
+  IsOf bytes y = SpellsAs header items is meaning bytes y
+
+  meant : (q : Read K X) (y : Y) (rest : Text) → after q (λ x. give (meaning x)) ≡ Ok (y, rest) → (x : X) × (q ≡ Ok (x, rest)) × (meaning x ≡ y)
+  meant (Ok x) y rest e = let p = ok_parts {K = K} (meaning x.0) y x.1 rest e in (x.0, ap (λ (t : Text). Ok (x.0, t)) p.1, p.0)
+  meant (Err d) y rest e = absurd cc
+
+  not_meant : (q : Read K X) (e : ℕ × K) → after q (λ x. give (meaning x)) ≡ Err e → q ≡ Err e
+  not_meant (Ok x) d e = absurd cc
+  not_meant (Err b) d e = let same : b ≡ d = cc in ap (λ (i : ℕ × K). Err i) same
+
+  file_takes : (bytes : List ℕ) (y : Y) (rest : Text) → file bytes ≡ Ok (y, rest) → IsOf bytes y
+  file_takes bytes y rest e =
+      let h = header_ok other (are_same (trimmed (first_line bytes)) header) (mapped meaning r (body bytes)) y rest e in
+      let m = meant (r (body bytes)) y rest h.1 in
+      let t = law.takes (body bytes) m.0 rest m.1 in
+      (m.0, t.0, (same_is (trimmed (first_line bytes)) header h.0, (t.2.0, subst (λ (u : Text). Begins (items m.0) (body bytes) u) t.2.1 t.1)), m.2)
+
+  file_again : (bytes : List ℕ) (y : Y) → IsOf bytes y → (at : ℕ) × (file bytes ≡ Ok (y, EndAt at))
+  file_again bytes y s =
+      let begins : are_same (trimmed (first_line bytes)) header ≡ true = ap (λ (l : List ℕ). are_same l header) s.2.0 ∙ is_same header in
+      let at = s.2.1.0 in
+      let read = law.again (body bytes) s.0 (EndAt at) s.1 s.2.1.1 (at, refl) in (
+        at,
+        ap (λ (b : Bool). cond b (mapped meaning r (body bytes)) (Err (0, other))) begins
+            ∙ (ap (λ (q : Read K X). after q (λ x. give (meaning x))) read ∙ ap (λ (z : Y). Ok (z, EndAt at)) s.3),
+      )
+
+  header_fault : (bytes : List ℕ) (n : ℕ) → EndsBefore 0 n (body bytes) → ⊥
+  header_fault [] n ends = at_last [] 0 n (omega arith) ends
+  header_fault (b ∷ bytes) n ends =
+      let low = (before_limit (second_line (b ∷ bytes)) 0 n (body (b ∷ bytes)) (body_rises (b ∷ bytes)) ends).0 in omega (arith, low)
+
+  not_both : (q : Read K Y) (e : ℕ × K) (y : Y) (at : ℕ) → q ≡ Err e → q ≡ Ok (y, EndAt at) → ⊥
+  not_both (Ok x) e y at err ok = absurd cc
+  not_both (Err d) e y at err ok = absurd cc
+
+  file_first : IsOnline r → (bytes : List ℕ) (at : ℕ) (kind : K) → file bytes ≡ Err (at, kind) → (bytes' : List ℕ) (n : ℕ) → take n bytes ≡ take n bytes' → EndsBefore at n (body bytes) → (y : Y) → IsOf bytes' y → ⊥
+  file_first on bytes at kind e bytes' n same ends y s =
+      ⊎_elim
+      (λ (first : 0 ≡ at). header_fault bytes n (subst (λ k. EndsBefore k n (body bytes)) (sym first) ends))
+      (λ (h : (are_same (trimmed (first_line bytes)) header ≡ true) × (mapped meaning r (body bytes) ≡ Err (at, kind))).
+      let l = same_line bytes bytes' at n same ends in
+      let from = second_line bytes in
+      let low = (before_limit from at n (body bytes) (body_rises bytes) ends).1 in
+      let agree = files_agree bytes bytes' from at n (omega (arith, low)) same ends in
+      let fails = same_fault r on (body bytes) (text_from from bytes') at kind (body_rises bytes).0 (not_meant (r (body bytes)) (at, kind) h.1) agree in
+      let there : r (body bytes') ≡ Err (at, kind) = ap (λ k. r (text_from k bytes')) l.behind ∙ fails in
+      let read = law.again (body bytes') s.0 (EndAt s.2.1.0) s.1 s.2.1.1 (s.2.1.0, refl) in
+      let one : (let q : Read K X = Err (at, kind) in q ≡ Ok (s.0, EndAt s.2.1.0)) = sym there ∙ read in
+      absurd cc)
+      (header_err other (are_same (trimmed (first_line bytes)) header) (mapped meaning r (body bytes)) at kind e)
+
+  -- ---- what a function returned
+
+  pub file_read : (bytes : List ℕ) (x : X) (rest : Text) → are_same (trimmed (first_line bytes)) header ≡ true → r (body bytes) ≡ Ok (x, rest) → (at : ℕ) × (file bytes ≡ Ok (meaning x, EndAt at))
+  file_read bytes x rest line read =
+      let end = (law.takes (body bytes) x rest read).2 in
+      (end.0, ap (λ (b : Bool). cond b (mapped meaning r (body bytes)) (Err (0, other))) line ∙ (ap (λ (q : Read K X). after q (λ y. give (meaning y))) read ∙ ap (λ (t : Text). Ok (meaning x, t)) end.1))
+
+  pub file_fails : (bytes : List ℕ) (e : Refusal K) → are_same (trimmed (first_line bytes)) header ≡ true → Fails e (r (body bytes)) → Fails e (file bytes)
+  file_fails bytes (Bad at kind) line fails = ap (λ (b : Bool). cond b (mapped meaning r (body bytes)) (Err (0, other))) line ∙ ap (λ (q : Read K X). after q (λ y. give (meaning y))) fails
+  file_fails bytes NoMemory line fails = tt
+
+  pub answer_found : {Z : Type 0} (view : Z → Y) (bytes : List ℕ) (a : Result Z (Refusal K)) → ReadsAllAs view a (file bytes) → IfOk a (λ z. IsOf bytes (view z))
+  answer_found view bytes (Ok z) h = file_takes bytes (view z) (EndAt h.0) h.1
+  answer_found view bytes (Err e) h = tt
+
+  pub answer_only : {Z : Type 0} (view : Z → Y) (bytes : List ℕ) (a : Result Z (Refusal K)) → ReadsAllAs view a (file bytes) → (y : Y) → IsOf bytes y → AnswersAs view a y
+  answer_only view bytes (Ok z) h y s =
+      let again = file_again bytes y s in
+      (ok_parts {K = K} (view z) y (EndAt h.0) (EndAt again.0) (sym h.1 ∙ again.1)).0
+  answer_only view bytes (Err (Bad at kind)) h y s = let again = file_again bytes y s in absurd (not_both (file bytes) (at, kind) y again.0 h again.1)
+  answer_only view bytes (Err NoMemory) h y s = tt
+
+  pub answer_first : {Z : Type 0} (view : Z → Y) (on : IsOnline r) (bytes : List ℕ) (a : Result Z (Refusal K)) → ReadsAllAs view a (file bytes) → IfErr a (λ e. IsNotTooEarly (λ b y. IsOf b y) bytes e)
+  answer_first view on bytes (Ok z) h = tt
+  answer_first view on bytes (Err (Bad at kind)) h = file_first on bytes at kind h
+  answer_first view on bytes (Err NoMemory) h = tt
+
+-- ---- what was written
+
+full_line : (l : List ℕ) → first_line l ≡ l → line_size l ≡ length l
+full_line l e = omega (arith, ap length e, length-take (line_size l) l, prefix_len-le-length (λ b. not (b == 10)) l)
+
+line_found : (l more : List ℕ) → line_size l ≡ length l → line_size (l ++ 10 ∷ more) ≡ length l
+line_found [] more e = refl
+line_found (b ∷ l) more e =
+    elim (b == 10) as (λ v. cond (not v) (1 + line_size l) 0 ≡ length (b ∷ l) → cond (not v) (1 + line_size (l ++ 10 ∷ more)) 0 ≡ length (b ∷ l)) [
+      | true ↦ λ h. absurd (omega (arith, h))
+      | false ↦ λ h. omega (arith, h, line_found l more (omega (arith, h)))
+    ] e
+
+pub written_is_read : WrittenIsRead
+written_is_read header items line all =
+    let text = header ++ 10 ∷ written items in
+    let place_of : line_size text ≡ length header = line_found header (written items) (full_line header line.one) in
+    let first : first_line text ≡ header = ap (λ k. take k text) place_of ∙ take_first header (10 ∷ written items) in
+    let total : length text ≡ length header + suc (length (written items)) = length-append header (10 ∷ written items) in
+    let second : second_line text ≡ length header + 1 = ap (λ (l : List ℕ). min (length l + 1) (length text)) first ∙ omega (arith, total) in
+    let behind : drop (length header + 1) text ≡ written items = sym (drop-drop 1 (length header) text) ∙ ap (drop 1) (drop_first header (10 ∷ written items)) in (
+      ap trimmed first ∙ line.no_blank,
+      (length text, subst (λ k. Begins items (text_from k text) (EndAt (length text))) (sym second) (written_begins items text (length header + 1) all (omega (arith, total)) behind)),
+    )

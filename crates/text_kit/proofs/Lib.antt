@@ -1,0 +1,9 @@
+pub mod Alike
+pub mod Online
+pub mod Turns
+pub mod Lawful
+pub mod Rising
+pub mod Agreeing
+pub mod Numerals
+pub mod Written
+pub mod Files

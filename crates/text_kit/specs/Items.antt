@@ -1,0 +1,38 @@
+-- what a text is made of: parentheses, and words that stand for something
+use Rattle.std.specs.Prelude.{◌≡◌, ℕ, List, [], ◌∷◌, ◌++◌, Ok}
+use Rattle.snd_tokens.specs.Amounts.{money_of}
+use Rattle.snd_tokens.specs.Lexemes.{Text, WordAt, OpenAt, CloseAt, EndAt}
+use Rattle.snd_tokens.specs.Wholes.{whole_of}
+
+-- this very word, a whole number, an amount or money in thousandths, or a parenthesis
+pub data Item : Type 0 where
+  Named : List ℕ → Item
+  Whole : ℕ → Item
+  Money : ℕ → Item
+  Opening : Item
+  Closing : Item
+
+-- the word spells the item
+abbrev pub SpellsItem : List ℕ → Item → Type 0
+SpellsItem w (Named v) = w ≡ v
+SpellsItem w (Whole n) = whole_of w ≡ Ok n
+SpellsItem w (Money n) = money_of w ≡ Ok n
+SpellsItem w Opening = ⊥
+SpellsItem w Closing = ⊥
+
+-- the text begins with these items, one by one, and the rest comes after them
+abbrev pub Begins : List Item → Text → Text → Type 0
+Begins [] text rest = text ≡ rest
+Begins (i ∷ is) (WordAt at w text) rest = SpellsItem w i × Begins is text rest
+Begins (i ∷ is) (OpenAt at text) rest = (i ≡ Opening) × Begins is text rest
+Begins (i ∷ is) (CloseAt at text) rest = (i ≡ Closing) × Begins is text rest
+Begins (i ∷ is) (EndAt at) rest = ⊥
+
+-- the text is these items
+abbrev pub IsMadeOf : List Item → Text → Type 0
+IsMadeOf is text = (at : ℕ) × Begins is text (EndAt at)
+
+-- each element is so behind those before it
+abbrev pub AreBehind : {X : Type 0} → (List X → X → Type 0) → List X → List X → Type 0
+AreBehind is sofar [] = Unit {0}
+AreBehind is sofar (x ∷ xs) = is sofar x × AreBehind is (sofar ++ x ∷ []) xs

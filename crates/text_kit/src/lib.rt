@@ -1,0 +1,13 @@
+//! Reading and writing of texts in the style of SNDlib's native format, put together from steps
+//! that all formats share.
+#![tactic(auto)]
+
+pub mod law;
+pub mod refusal;
+pub mod steps;
+pub mod write;
+
+pub use refusal::Refusal;
+
+#[cfg(test)]
+mod tests;

@@ -1,0 +1,125 @@
+ghost use Rattle.std.specs.Prelude.{◌≡◌, true, false, IfOk, IfErr};
+ghost use Rattle.net_core.specs.Tests.{are_same};
+ghost use Rattle.snd_tokens.specs.Header.{first_line, trimmed};
+ghost use Rattle.snd_tokens.specs.Lexemes.{EndAt, left};
+ghost use Rattle.text_kit.specs.Answers.{Closes, Fails, ReadsAs, IsAtEnd};
+ghost use Rattle.text_kit.specs.Files.{body};
+ghost use Rattle.text_kit.specs.Reading.{close_at, end_at, key, open_at, over_at, placed, word_at};
+
+use crate::refusal::{Refusal, bad};
+use snd_tokens::{Cursor, Next};
+use std::fmt::Debug;
+
+/// The outcome of a test of the word at a place.
+pub fn placed<K: Debug + Drop, X: Drop>(at: u64, outcome: Result<X, K>) -> Result<X, Refusal<K>>
+    ensures { ReadsAs (λ x. x) result (EndAt at) (placed at (EndAt at) outcome) }
+{
+    match outcome {
+        Ok(x) => Ok(x),
+        Err(kind) => Err(bad(at, kind)),
+    }
+}
+
+/// Takes one expected word.
+pub fn expect<K: Debug + Drop>(
+    other: K,
+    ended: K,
+    wanted: &[u8],
+    text: &mut Cursor,
+) -> Result<(), Refusal<K>>
+    ensures { ReadsAs (λ _. tt) result (left text.new) (word_at other ended (key other wanted.now) (left text.old)) }
+{
+    match text.next() {
+        Next::Word(at, word) => {
+            if word == wanted {
+                return Ok(());
+            }
+            Err(bad(at, other))
+        }
+        Next::Open(at) | Next::Close(at) => Err(bad(at, other)),
+        Next::End(at) => Err(bad(at, ended)),
+    }
+}
+
+/// Takes an opening parenthesis.
+pub fn open<K: Debug + Drop>(other: K, ended: K, text: &mut Cursor) -> Result<(), Refusal<K>>
+    ensures { ReadsAs (λ _. tt) result (left text.new) (open_at other ended (left text.old)) }
+{
+    match text.next() {
+        Next::Open(_) => Ok(()),
+        Next::Word(at, _) | Next::Close(at) => Err(bad(at, other)),
+        Next::End(at) => Err(bad(at, ended)),
+    }
+}
+
+/// Takes a closing parenthesis.
+pub fn close<K: Debug + Drop>(other: K, ended: K, text: &mut Cursor) -> Result<(), Refusal<K>>
+    ensures { ReadsAs (λ _. tt) result (left text.new) (close_at other ended (left text.old)) }
+{
+    match text.next() {
+        Next::Close(_) => Ok(()),
+        Next::Word(at, _) | Next::Open(at) => Err(bad(at, other)),
+        Next::End(at) => Err(bad(at, ended)),
+    }
+}
+
+/// Finds that nothing is left.
+pub fn end<K: Debug + Drop>(other: K, text: &mut Cursor) -> Result<(), Refusal<K>>
+    ensures { ReadsAs (λ _. tt) result (left text.new) (end_at other (left text.old)) }
+{
+    match text.next() {
+        Next::End(_) => Ok(()),
+        Next::Word(at, _) | Next::Open(at) | Next::Close(at) => Err(bad(at, other)),
+    }
+}
+
+/// Takes a closing parenthesis if one is next, and gives its place.
+pub fn closes(text: &mut Cursor) -> Option<u64>
+    ensures { Closes result (left text.old) (left text.new) }
+{
+    let mut ahead = *text;
+    match ahead.next() {
+        Next::Close(at) => {
+            *text = ahead;
+            Some(at)
+        }
+        Next::Word(_, _) | Next::Open(_) | Next::End(_) => None,
+    }
+}
+
+/// The place of the end, if nothing is left.
+pub fn ends(text: &Cursor) -> Option<u64>
+    ensures { IsAtEnd result (left text.now) }
+{
+    let mut ahead = *text;
+    match ahead.next() {
+        Next::End(at) => Some(at),
+        Next::Word(_, _) | Next::Open(_) | Next::Close(_) => None,
+    }
+}
+
+/// The fault of what is next, where nothing more may stand.
+pub fn over<K: Debug + Drop>(limit: K, ended: K, text: &mut Cursor) -> Refusal<K>
+    ensures { Fails {Y = Unit {0}} result (over_at limit ended (left text.old)) }
+{
+    match text.next() {
+        Next::Word(at, _) | Next::Open(at) | Next::Close(at) => bad(at, limit),
+        Next::End(at) => bad(at, ended),
+    }
+}
+
+/// The text behind the header of a file.
+pub fn behind_header<'a, K: Debug + Drop>(
+    other: K,
+    bytes: &'a [u8],
+    header: &[u8],
+) -> Result<Cursor<'a>, Refusal<K>>
+    ensures text { IfOk result (λ text. left text ≡ body bytes.now) }
+    ensures line { IfOk result (λ _. are_same (trimmed (first_line bytes.now)) header.now ≡ true) }
+    ensures fault { IfErr result (λ e. (e ≡ Refusal.Bad 0 other) × (are_same (trimmed (first_line bytes.now)) header.now ≡ false)) }
+{
+    match snd_tokens::after_header(bytes, header) {
+        Some(start) => Ok(Cursor::new(bytes, start)),
+        None => Err(bad(0, other)),
+    }
+}

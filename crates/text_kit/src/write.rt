@@ -1,0 +1,67 @@
+ghost use Rattle.std.specs.Prelude.{◌≡◌, ◌++◌, ◌∷◌, [], OnOk, decimal};
+ghost use Rattle.text_kit.specs.Items.{Item, Named, Whole, Money, Opening, Closing};
+ghost use Rattle.text_kit.specs.Written.{last_digit, money_word, written};
+
+use itoa::Buffer;
+use net_core::{Bytes, NoMemory};
+
+/// Puts a number last, without a space behind it.
+pub fn put_decimal(text: &mut Bytes, n: u128) -> Result<(), NoMemory>
+    ensures { OnOk result (text.new ≡ text.old ++ decimal n) }
+{
+    let mut buffer = Buffer::new();
+    text.append(buffer.format(n).as_bytes())
+}
+
+/// The last digit of a number.
+fn last_digit(n: u128) -> u8
+    ensures { result ≡ last_digit n }
+{
+    b'0' + (n % 10) as u8
+}
+
+/// Puts thousandths last as money, without a space behind it.
+pub fn put_money_word(text: &mut Bytes, n: u128) -> Result<(), NoMemory>
+    ensures { OnOk result (text.new ≡ text.old ++ money_word n) }
+{
+    put_decimal(text, n / 1000)?;
+    text.append(&[b'.', last_digit(n / 100), last_digit(n / 10), last_digit(n)])
+}
+
+/// Puts a word last.
+pub fn put_word(text: &mut Bytes, word: &[u8]) -> Result<(), NoMemory>
+    ensures { OnOk result (text.new ≡ text.old ++ written (Named word.now ∷ [])) }
+{
+    text.append(word)?;
+    text.append(b" ")
+}
+
+/// Puts a whole number last.
+pub fn put_whole(text: &mut Bytes, n: u128) -> Result<(), NoMemory>
+    ensures { OnOk result (text.new ≡ text.old ++ written (Whole n ∷ [])) }
+{
+    put_decimal(text, n)?;
+    text.append(b" ")
+}
+
+/// Puts thousandths last, as an amount or money.
+pub fn put_money(text: &mut Bytes, n: u128) -> Result<(), NoMemory>
+    ensures { OnOk result (text.new ≡ text.old ++ written (Money n ∷ [])) }
+{
+    put_money_word(text, n)?;
+    text.append(b" ")
+}
+
+/// Puts an opening parenthesis last.
+pub fn put_open(text: &mut Bytes) -> Result<(), NoMemory>
+    ensures { OnOk result (text.new ≡ text.old ++ written (Opening ∷ [])) }
+{
+    text.append(b"( ")
+}
+
+/// Puts a closing parenthesis last, and ends the line.
+pub fn put_close(text: &mut Bytes) -> Result<(), NoMemory>
+    ensures { OnOk result (text.new ≡ text.old ++ written (Closing ∷ [])) }
+{
+    text.append(b")\n")
+}

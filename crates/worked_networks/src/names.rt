@@ -1,0 +1,26 @@
+ghost use Rattle.std.specs.Prelude.{◌≡◌, ◌≤◌, ◌+◌, [], ◌∷◌, IfOk};
+ghost use Rattle.net_core.specs.Names.{IsName};
+
+use net_core::{Name, NameFault, NoMemory};
+use std::alloc::Global;
+
+/// A name that is known to be one.
+pub fn name(alloc: Global, bytes: &[u8]) -> Result<Name, NoMemory>
+    requires { IsName bytes.now }
+    ensures { IfOk result (λ n. n ≡ bytes.now) }
+{
+    match Name::new(alloc, bytes) {
+        Ok(name) => Ok(name),
+        Err(NameFault::NoMemory) => Err(NoMemory),
+        Err(_) => unreachable!(),
+    }
+}
+
+/// The name of one letter, so many places after the first.
+pub fn letter(alloc: Global, first: u8, place: usize) -> Result<Name, NoMemory>
+    requires first { 65 ≤ first }
+    requires place { first + place ≤ 122 }
+    ensures { IfOk result (λ n. n ≡ (first + place) ∷ []) }
+{
+    name(alloc, &[first + place as u8])
+}
