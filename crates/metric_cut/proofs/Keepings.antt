@@ -10,18 +10,19 @@ use Rattle.std.proofs.lemmas.List.{get_or-set_same, get_or-set_other, length-set
 use Rattle.std.proofs.lemmas.Option.{slice_get_within}
 use Rattle.std.specs.Int.{IsGcd, ◌∣◌}
 use Rattle.net_core.specs.declared.network.Link.{Link}
-use Rattle.net_core.specs.declared.states.Listed.{Listed}
-use Rattle.plan_terms.specs.Certificates.{AreKept, IsGreatestDivisor}
-use Rattle.plan_terms.specs.Paths.{Survives}
+use Rattle.net_core.specs.Graphs.{Graph, Survives}
+use Rattle.plan_terms.specs.Bounds.{IsGreatestDivisor}
+use Rattle.plan_terms.specs.Certificates.{AreKept}
+use Rattle.plan_terms.specs.Keeping.{AreZero, Keeps}
 use Rattle.plan_terms.proofs.Bounds.{divisor_both, divisor_one}
-use Rattle.metric_cut.specs.Keeping.{AreDivided, AreMasked, AreZero, Keeps}
-use Rattle.metric_cut.specs.Ratios.{HaveBound}
+use Rattle.metric_cut.specs.Bounded.{HaveBound}
+use Rattle.metric_cut.specs.inner.Masks.{AreDivided, AreMasked}
 
 -- the first n lengths are masked, and the others are as they were
-pub record AreMaskedBelow (links : List Link) (listed : List Listed) (s n : ℕ) (lengths masked : List ℕ) : Type 0 where
+pub record AreMaskedBelow (g : Graph) (n : ℕ) (lengths masked : List ℕ) : Type 0 where
   pub count : length masked ≡ length lengths
-  pub same : (e : ℕ) → Survives links listed s e → slice_index masked e ≡ slice_index lengths e
-  pub zero : (e : ℕ) → e < n → slice_index masked e ≢ 0 → Survives links listed s e
+  pub same : (e : ℕ) → Survives g e → slice_index masked e ≡ slice_index lengths e
+  pub zero : (e : ℕ) → e < n → slice_index masked e ≢ 0 → Survives g e
 
 -- the first n lengths are divided, and the others are as they were
 pub record AreDividedBelow (common n : ℕ) (lengths divided : List ℕ) : Type 0 where
@@ -29,30 +30,30 @@ pub record AreDividedBelow (common n : ℕ) (lengths divided : List ℕ) : Type 
   pub each : (e : ℕ) → e < n → e < length lengths → slice_index divided e ≡ slice_index lengths e / common
   pub rest : (e : ℕ) → n ≤ e → slice_index divided e ≡ slice_index lengths e
 
-module _ (links : List Link) (listed : List Listed) (s n : ℕ) (lengths masked : List ℕ) (so_far : AreMaskedBelow links listed s n lengths masked) where
+module _ (g : Graph) (n : ℕ) (lengths masked : List ℕ) (so_far : AreMaskedBelow g n lengths masked) where
   -- a surviving link more
-  pub mask_keeps : Survives links listed s n → AreMaskedBelow links listed s (n + 1) lengths masked
+  pub mask_keeps : Survives g n → AreMaskedBelow g (n + 1) lengths masked
   mask_keeps survives = record {
     count = so_far.count;
     same = so_far.same;
     zero = λ e lt some. ⊎_elim
-        (λ same. subst (Survives links listed s) (sym same) survives)
+        (λ same. subst (Survives g) (sym same) survives)
         (λ other. so_far.zero e (omega (arith, lt, other)) some)
         (cases_eq e n);
   }
 
   -- a link more that doesn't survive
-  pub mask_sets : n < length masked → (Survives links listed s n → ⊥) → AreMaskedBelow links listed s (n + 1) lengths (slice_set masked n 0)
+  pub mask_sets : n < length masked → (Survives g n → ⊥) → AreMaskedBelow g (n + 1) lengths (slice_set masked n 0)
   mask_sets inside fails = record {
     count = length-set masked n 0 ∙ so_far.count;
-    same = λ e survives. get_or-set_other masked n e 0 0 (λ same. fails (subst (Survives links listed s) same survives)) ∙ so_far.same e survives;
+    same = λ e survives. get_or-set_other masked n e 0 0 (λ same. fails (subst (Survives g) same survives)) ∙ so_far.same e survives;
     zero = λ e lt some. ⊎_elim
         (λ same. absurd (some (subst (λ i. slice_index (slice_set masked n 0) i ≡ 0) (sym same) (get_or-set_same masked n 0 0 inside))))
         (λ other. so_far.zero e (omega (arith, lt, other)) (λ none. some (get_or-set_other masked n e 0 0 other ∙ none)))
         (cases_eq e n);
   }
 
-  pub mask_ends : length lengths ≤ n → AreMasked links listed s lengths masked
+  pub mask_ends : length lengths ≤ n → AreMasked g lengths masked
   mask_ends all = record {
     count = so_far.count;
     same = so_far.same;
@@ -92,24 +93,19 @@ divides_at d lengths all e = ⊎_elim
 divides_all : (d : ℕ) (lengths : List ℕ) → ((e : ℕ) → d ∣ slice_index lengths e) → All (λ x. d ∣ x) lengths
 divides_all d lengths each i x lt = subst (λ y. d ∣ y) (sym (get_or_default_zero lengths i x lt)) (each i)
 
--- a divisor of a positive number is positive
-pub divisor_positive : (g n : ℕ) → 0 < n → g ∣ n → 0 < g
-divisor_positive zero n some divides = let none : n ≡ 0 = zero-dvd.0 divides in absurd (omega (arith, some, none))
-divisor_positive (suc g) n some divides = omega arith
-
 -- what divides a length wherever it isn't 0
 divides_unless_zero : (d x : ℕ) → (x ≢ 0 → d ∣ x) → d ∣ x
 divides_unless_zero d zero some = dvd-zero d
 divides_unless_zero d (suc x) some = some (λ e. omega (arith, e))
 
-module _ (links : List Link) (listed : List Listed) (s common : ℕ) (lengths masked : List ℕ) (are : AreMasked links listed s lengths masked) (divisor : IsGreatestDivisor masked common) where
+module _ (g : Graph) (common : ℕ) (lengths masked : List ℕ) (are : AreMasked g lengths masked) (divisor : IsGreatestDivisor masked common) where
   -- the greatest common divisor is 0 exactly where no surviving link has a positive length
-  pub zero_lengths : common ≡ 0 → AreZero links listed s lengths
+  pub zero_lengths : common ≡ 0 → AreZero g lengths
   zero_lengths none = λ e survives.
       let divides : 0 ∣ slice_index masked e = subst (λ c. c ∣ slice_index masked e) none (divides_at common masked divisor.divides e) in
       sym (are.same e survives) ∙ zero-dvd.0 divides
 
-  pub zero_divisor : AreZero links listed s lengths → common ≡ 0
+  pub zero_divisor : AreZero g lengths → common ≡ 0
   zero_divisor none =
       let all : All (λ x. (common + 1) ∣ x) masked = divides_all (common + 1) masked
       (λ e. divides_unless_zero (common + 1) (slice_index masked e) (λ some. let survives = are.zero e some in absurd (some (are.same e survives ∙ none e survives)))) in
@@ -119,13 +115,13 @@ module _ (links : List Link) (listed : List Listed) (s common : ℕ) (lengths ma
       (cases_eq common 0)
 
   -- the lengths that are kept
-  pub keeps_divided : (kept : List ℕ) → 0 < common → length lengths ≡ length links → AreDivided common masked kept → Keeps links listed s lengths kept
+  pub keeps_divided : (kept : List ℕ) → 0 < common → length lengths ≡ length g.links → AreDivided common masked kept → Keeps g lengths kept
   keeps_divided kept some count divided = record {
     count = divided.count ∙ are.count;
     common = common;
     positive = some;
     divided = λ e survives.
-        let inside : e < length masked = omega (arith, slice_get_within links e survives.link survives.at, count, are.count) in
+        let inside : e < length masked = omega (arith, slice_get_within g.links e survives.link survives.at, count, are.count) in
         ap (λ x. x * common) (divided.each e inside) ∙ (div-mul_cancel common (divides_at common masked divisor.divides e) ∙ are.same e survives);
     greatest = λ d each. divisor.greatest d (divides_all d masked (λ e. divides_unless_zero d (slice_index masked e)
         (λ positive. let survives = are.zero e positive in subst (λ x. d ∣ x) (sym (are.same e survives)) (each e survives))));
@@ -140,12 +136,12 @@ module _ (links : List Link) (listed : List Listed) (s common : ℕ) (lengths ma
       zero_over (suc c) positive = omega arith
 
 -- what a state keeps of lengths is kept in it
-pub keeps_kept : (links : List Link) (listed : List Listed) (s : ℕ) (lengths kept : List ℕ) → length lengths ≡ length links → Keeps links listed s lengths kept → AreKept links listed s kept
-keeps_kept links listed s lengths kept count keeps = record {
+pub keeps_kept : (g : Graph) (lengths kept : List ℕ) → length lengths ≡ length g.links → Keeps g lengths kept → AreKept g kept
+keeps_kept g lengths kept count keeps = record {
   count = keeps.count ∙ count;
   zero = keeps.zero;
   lowest = λ d all.
-      let each : (e : ℕ) → Survives links listed s e → (d * keeps.common) ∣ slice_index lengths e = λ e survives.
+      let each : (e : ℕ) → Survives g e → (d * keeps.common) ∣ slice_index lengths e = λ e survives.
       subst (λ x. (d * keeps.common) ∣ x) (keeps.divided e survives) (mul-dvd-mul_right d (divides_at d kept all e) keeps.common) in
       let divides : (d * keeps.common) ∣ (1 * keeps.common) = subst (λ x. (d * keeps.common) ∣ x) (omega arith) (keeps.greatest (d * keeps.common) each) in
       eq-one_of_dvd-one (dvd_of_mul-dvd-mul_right d keeps.positive divides);
@@ -161,8 +157,8 @@ positive_or_zero (zero ∷ xs) = ⊎_elim
 positive_or_zero (suc x ∷ xs) = inl (0, suc x, omega arith, refl, omega arith)
 
 -- kept lengths have a bound of their own
-pub kept_have_bound : (links : List Link) (listed : List Listed) (s : ℕ) (lengths : List ℕ) → AreKept links listed s lengths → HaveBound links lengths
-kept_have_bound links listed s lengths kept = record {
+pub kept_have_bound : (g : Graph) (lengths : List ℕ) → AreKept g lengths → HaveBound g.links lengths
+kept_have_bound g lengths kept = record {
   count = kept.count;
   positive = ⊎_elim
       (λ some. some)
@@ -173,5 +169,5 @@ kept_have_bound links listed s lengths kept = record {
       subst (λ (x : Link). x.modules ≢ []) (same_link e l survives.link at survives.at) survives.served;
 }
   where
-    same_link : (e : ℕ) (a b : Link) → slice_get links e ≡ Some a → slice_get links e ≡ Some b → b ≡ a
+    same_link : (e : ℕ) (a b : Link) → slice_get g.links e ≡ Some a → slice_get g.links e ≡ Some b → b ≡ a
     same_link e a b first second = cc

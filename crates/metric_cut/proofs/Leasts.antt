@@ -5,9 +5,10 @@ use Rattle.std.proofs.lemmas.List.{get_or_default}
 use Rattle.net_core.specs.declared.network.Link.{Link}
 use Rattle.net_core.specs.declared.network.Module.{Module}
 use Rattle.net_core.specs.Network.{IsModule}
-use Rattle.plan_terms.specs.OwnBounds.{IsLeastRatio}
+use Rattle.plan_terms.specs.inner.Ratios.{IsLeastRatio}
 use Rattle.metric_cut.specs.declared.ratio.Ratio.{Ratio}
-use Rattle.metric_cut.specs.Ratios.{IsLeastSoFar, HaveBound}
+use Rattle.metric_cut.specs.Bounded.{HaveBound}
+use Rattle.metric_cut.specs.inner.Ratios.{IsLeastSoFar}
 
 abbrev no_link : Link
 no_link = record { name = []; a = record { 0 = 0 }; b = record { 0 = 0 }; fixed = 0; setup = 0; modules = [] }

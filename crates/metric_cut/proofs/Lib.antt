@@ -1,4 +1,5 @@
-pub mod Costs
 pub mod Keepings
+pub mod KeptCuts
 pub mod Leasts
+pub mod Pairs
 pub mod Sides

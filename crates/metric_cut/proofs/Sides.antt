@@ -8,8 +8,8 @@ use Rattle.net_core.specs.declared.demand.Demand.{Demand}
 use Rattle.plan_terms.specs.Certificates.{IsRight}
 use Rattle.plan_terms.specs.Paths.{IsDistance}
 use Rattle.short_paths.specs.DistanceTables.{AreAllDistances, distance_at}
-use Rattle.short_paths.specs.declared.table.DistanceTable.{DistanceTable}
-use Rattle.metric_cut.specs.Rights.{part_of}
+use Rattle.short_paths.specs.declared.distance_table.DistanceTable.{DistanceTable}
+use Rattle.metric_cut.specs.inner.Rights.{part_of}
 
 -- the distance of a demand's ends
 abbrev far_of : DistanceTable → Demand → Option ℕ

@@ -1,3 +1,3 @@
-pub mod Keeping
-pub mod Ratios
-pub mod Rights
+pub mod Bounded
+pub mod Cuts
+pub mod inner

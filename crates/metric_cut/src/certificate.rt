@@ -1,13 +1,16 @@
-ghost use Rattle.std.specs.Prelude.{◌≡◌, ◌*◌, ◌<◌, ◌^◌};
-ghost use Rattle.plan_terms.specs.Certificates.{IsBound, IsLowest, raw_value};
-ghost use Rattle.plan_terms.specs.OwnBounds.{IsMultiplier, alone};
-ghost use Rattle.metric_cut.specs.Ratios.{HaveBound};
+ghost use Rattle.std.specs.Prelude.{◌-◌, ◌*◌, ◌<◌, ◌^◌};
+ghost use Rattle.plan_terms.specs.Bounds.{IsBound, IsLowest};
+ghost use Rattle.plan_terms.specs.Certificates.{fixed_along};
+ghost use Rattle.plan_terms.specs.OwnBounds.{IsMultiplier};
+ghost use Rattle.metric_cut.specs.Bounded.{HaveBound};
 
-use crate::line::{CutLine, Multiplier, asked_rest, bound_of, greatest_multiplier};
+use crate::multiplier::{OwnMultiplier, greatest_multiplier};
+use crate::own_bounds::asked_rest;
 use checked_fraction::gcd;
-use net_core::Network;
+use module_prices::bound_of;
+use net_core::{CutLine, Network};
 
-/// A value in thousandths, in lowest terms.
+/// `num / den` thousandths, in lowest terms.
 #[derive(Clone, Copy)]
 pub struct RawValue {
     pub num: u128,
@@ -17,7 +20,7 @@ pub struct RawValue {
 /// The certificate of a cut alone: its greatest valid multiplier, its raw value, and its bound in thousandths.
 #[derive(Clone, Copy)]
 pub struct OwnCertificate {
-    pub multiplier: Multiplier,
+    pub multiplier: OwnMultiplier,
     pub raw: RawValue,
     pub bound: u128,
 }
@@ -34,14 +37,15 @@ fn lowest(num: u128, den: u128) -> RawValue
     }
 }
 
-/// The certificate of a cut alone with its greatest valid multiplier.
+/// The certificate of a cut alone with its greatest valid multiplier. It takes time in the number of modules, and no memory.
 pub fn own_certificate(net: &Network, line: &CutLine) -> OwnCertificate
     requires lengths { HaveBound net.now.links line.now.lengths }
     requires right { line.now.right < 2 ^ 84 }
     ensures multiplier { IsMultiplier net.now.links line.now.lengths result.multiplier.num result.multiplier.den }
-    ensures raw { IsLowest (raw_value net.now.links (alone line.now.state.0 line.now.lengths line.now.right result.multiplier.num)) result.multiplier.den result.raw.num result.raw.den }
-    ensures bound { IsBound net.now.links (raw_value net.now.links (alone line.now.state.0 line.now.lengths line.now.right result.multiplier.num)) result.multiplier.den result.bound }
-    ensures limits { (result.multiplier.num < 2 ^ 40) × (result.multiplier.den < 2 ^ 72) }
+    ensures raw { IsLowest (result.multiplier.num * (line.now.right - fixed_along line.now.lengths net.now.links)) result.multiplier.den result.raw.num result.raw.den }
+    ensures bound { IsBound net.now.links (result.multiplier.num * (line.now.right - fixed_along line.now.lengths net.now.links)) result.multiplier.den result.bound }
+    ensures num { result.multiplier.num < 2 ^ 40 }
+    ensures den { result.multiplier.den < 2 ^ 72 }
 {
     let links = net.links().items();
     let lengths = line.lengths.items();

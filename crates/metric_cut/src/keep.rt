@@ -1,20 +1,19 @@
-ghost use Rattle.std.specs.Prelude.{◌≡◌, ◌<◌, ◌+◌, ◌^◌, ◌↔◌, IsTrue, IsFalse, length};
-ghost use Rattle.plan_terms.specs.Certificates.{IsGreatestDivisor};
-ghost use Rattle.metric_cut.specs.Keeping.{AreDivided, AreMasked, AreZero, Keeps};
+ghost use Rattle.std.specs.Prelude.{◌≡◌, ◌<◌, ◌↔◌, IsTrue, IsFalse, length};
+ghost use Rattle.net_core.specs.Views.{graph_of};
+ghost use Rattle.plan_terms.specs.Bounds.{IsGreatestDivisor};
+ghost use Rattle.plan_terms.specs.Keeping.{AreZero, Keeps};
+ghost use Rattle.metric_cut.specs.inner.Masks.{AreDivided, AreMasked};
 
 use checked_fraction::gcd;
-use net_core::{Lengths, Link, LinkId, StateId, States};
-use short_paths::survives;
+use net_core::{Lengths, LinkId, Surviving};
 
 /// Sets the length of each link that doesn't survive to 0.
-fn mask(links: &[Link], states: &States, state: StateId, lengths: &mut [u32])
-    requires state { state.0 < length states.now.listed + 1 }
-    requires few { length links.now < 2 ^ 32 }
-    requires lengths { length lengths.old ≡ length links.now }
-    ensures { AreMasked links.now states.now.listed state.0 lengths.old lengths.new }
+fn mask(graph: &Surviving, lengths: &mut [u32])
+    requires { length lengths.old ≡ length graph.now.net.now.links }
+    ensures { AreMasked (graph_of graph.now) lengths.old lengths.new }
 {
-    for e in 0..links.len() {
-        if !survives(links, states, state, LinkId(e as u32)) {
+    for e in 0..lengths.len() {
+        if !graph.has(LinkId(e as u32)) {
             lengths[e] = 0;
         }
     }
@@ -41,16 +40,13 @@ fn divide(lengths: &mut [u32], common: u128)
     }
 }
 
-/// Keeps the lengths of the surviving links, over their greatest common divisor, and sets the others to 0.
-/// False where no surviving link has a positive length.
-fn keep_items(links: &[Link], states: &States, state: StateId, lengths: &mut [u32]) -> bool
-    requires state { state.0 < length states.now.listed + 1 }
-    requires few { length links.now < 2 ^ 32 }
-    requires lengths { length lengths.old ≡ length links.now }
-    ensures zero { IsFalse result ↔ AreZero links.now states.now.listed state.0 lengths.old }
-    ensures kept { IsTrue result → Keeps links.now states.now.listed state.0 lengths.old lengths.new }
+/// The same as `keep`, on a slice.
+fn keep_items(graph: &Surviving, lengths: &mut [u32]) -> bool
+    requires { length lengths.old ≡ length graph.now.net.now.links }
+    ensures zero { IsFalse result ↔ AreZero (graph_of graph.now) lengths.old }
+    ensures kept { IsTrue result → Keeps (graph_of graph.now) lengths.old lengths.new }
 {
-    mask(links, states, state, lengths);
+    mask(graph, lengths);
     let common = common_divisor(lengths);
     if common == 0 {
         return false;
@@ -59,13 +55,12 @@ fn keep_items(links: &[Link], states: &States, state: StateId, lengths: &mut [u3
     true
 }
 
-/// The same for a list.
-pub(crate) fn keep(links: &[Link], states: &States, state: StateId, lengths: &mut Lengths) -> bool
-    requires state { state.0 < length states.now.listed + 1 }
-    requires few { length links.now < 2 ^ 32 }
-    requires lengths { length lengths.old ≡ length links.now }
-    ensures zero { IsFalse result ↔ AreZero links.now states.now.listed state.0 lengths.old }
-    ensures kept { IsTrue result → Keeps links.now states.now.listed state.0 lengths.old lengths.new }
+/// Divides the lengths of the surviving links by their greatest common divisor, and sets the others to 0.
+/// False if no surviving link has a positive length.
+pub(crate) fn keep(graph: &Surviving, lengths: &mut Lengths) -> bool
+    requires { length lengths.old ≡ length graph.now.net.now.links }
+    ensures zero { IsFalse result ↔ AreZero (graph_of graph.now) lengths.old }
+    ensures kept { IsTrue result → Keeps (graph_of graph.now) lengths.old lengths.new }
 {
-    keep_items(links, states, state, lengths.items_mut())
+    keep_items(graph, lengths.items_mut())
 }

@@ -1,15 +1,19 @@
-//! Cuts: what a metric inequality asks for, and the bound that it gives.
+//! Metric inequalities of a state: the lengths that it keeps, what they ask for, and the bound that each gives alone.
 #![tactic(auto)]
 
 pub mod certificate;
 pub mod cut;
 mod keep;
-pub mod line;
+pub mod multiplier;
+pub mod openings;
+pub mod own_bounds;
 mod ratio;
+pub mod violation;
 
 pub use certificate::{OwnCertificate, RawValue, own_certificate};
 pub use cut::{Cut, CutFault};
-pub use line::{CutLine, Multiplier, own_bound};
-
-#[cfg(test)]
-mod tests;
+pub use multiplier::{OwnMultiplier, greatest_multiplier};
+pub use net_core::CutLine;
+pub use openings::opening;
+pub use own_bounds::own_bound;
+pub use violation::violated_by;

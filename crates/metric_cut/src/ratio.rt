@@ -1,7 +1,8 @@
 ghost use Rattle.std.specs.Prelude.{◌≡◌, ℕ, ◌*◌, ◌≤◌, ◌<◌, ◌^◌, ◌⊎◌, All, Any};
 ghost use Rattle.net_core.specs.Network.{IsModule};
-ghost use Rattle.plan_terms.specs.OwnBounds.{IsLeastRatio};
-ghost use Rattle.metric_cut.specs.Ratios.{IsNoGreater, IsRatioOf, IsLeastOf, IsSmall, HaveBound};
+ghost use Rattle.plan_terms.specs.inner.Ratios.{IsLeastRatio};
+ghost use Rattle.metric_cut.specs.Bounded.{HaveBound};
+ghost use Rattle.metric_cut.specs.inner.Ratios.{IsLeastOf, IsNoGreater, IsRatioOf, IsSmall};
 
 use net_core::{Link, Module};
 

@@ -1,7 +1,7 @@
 use Rattle.std.proofs.Common.{sym}
 use Rattle.std.proofs.Math.Nat.{div-mul_cancel}
 use Rattle.plan_terms.proofs.Multipliers.{lowest_terms}
-use Rattle.metric_cut.proofs.Keepings.{divisor_positive}
+use Rattle.plan_terms.proofs.Bounds.{divisor_positive}
 use Rattle.metric_cut.proofs.certificate.lowest.Goals as goal
 
 pub nonzero_div-result : goal.nonzero_div-result

@@ -1,5 +1,5 @@
 use Rattle.std.proofs.Common.{◌≡◌, ◌≤◌, ◌*◌, ◌^◌, sum_by, take}
-use Rattle.metric_cut.specs.Rights.{part_of}
+use Rattle.metric_cut.specs.inner.Rights.{part_of}
 use Rattle.metric_cut.proofs.cut.right_side.Given as goal
 
 -- the sum of the parts so far

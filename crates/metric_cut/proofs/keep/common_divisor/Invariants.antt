@@ -1,5 +1,5 @@
 use Rattle.std.proofs.Common.{take}
-use Rattle.plan_terms.specs.Certificates.{IsGreatestDivisor}
+use Rattle.plan_terms.specs.Bounds.{IsGreatestDivisor}
 use Rattle.metric_cut.proofs.keep.common_divisor.Given as goal
 
 -- the divisor of the lengths so far

@@ -1,6 +1,7 @@
+use Rattle.net_core.specs.Views.{graph_of}
 use Rattle.metric_cut.proofs.Keepings.{AreMaskedBelow}
 use Rattle.metric_cut.proofs.keep.mask.Given as goal
 
 -- the lengths so far are masked
 abbrev pub invariant-loop-e : goal.invariant-loop-e
-invariant-loop-e l = AreMaskedBelow l.links l.states.listed l.state.0 l.e l.initial.lengths l.lengths
+invariant-loop-e l = AreMaskedBelow (graph_of l.graph) l.e l.initial.lengths l.lengths

@@ -1,0 +1,6 @@
+//! The best bounds of given cuts.
+#![tactic(auto)]
+
+pub mod best;
+
+pub use best::best_own;

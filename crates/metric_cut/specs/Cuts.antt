@@ -1,0 +1,13 @@
+-- cuts of a state: lengths that it keeps, with their distances
+use Rattle.std.specs.Prelude.{◌≡◌, ℕ, ◌≤◌, length}
+use Rattle.net_core.specs.Graphs.{Graph, Joins}
+use Rattle.plan_terms.specs.Certificates.{AreKept}
+use Rattle.short_paths.specs.DistanceTables.{AreAllDistances}
+use Rattle.metric_cut.specs.declared.cut.Cut.{Cut}
+
+-- a cut of the network in a listed state: lengths that the state keeps, and the distances along the surviving links
+pub record IsCutOf (g : Graph) (cut : Cut) : Type 0 where
+  pub state : g.state ≡ cut.state.0
+  pub listed_state : g.state ≤ length g.listed
+  pub kept : AreKept g cut.lengths
+  pub distances : AreAllDistances (Joins g) cut.lengths (length g.nodes) cut.table

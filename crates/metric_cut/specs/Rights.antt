@@ -1,9 +1,0 @@
--- right sides by a table of distances
-use Rattle.std.specs.Prelude.{ℕ, ◌*◌, unwrap_or}
-use Rattle.net_core.specs.declared.demand.Demand.{Demand}
-use Rattle.short_paths.specs.declared.table.DistanceTable.{DistanceTable}
-use Rattle.short_paths.specs.DistanceTables.{distance_at}
-
--- the need of a demand times the distance of its ends; ends that are apart count 0
-abbrev pub part_of : DistanceTable → Demand → ℕ
-part_of table d = d.need * unwrap_or (distance_at table d.from.0 d.to.0) 0

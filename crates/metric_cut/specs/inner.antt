@@ -1,0 +1,4 @@
+pub mod KeptCuts
+pub mod Masks
+pub mod Ratios
+pub mod Rights

@@ -1,0 +1,19 @@
+-- what a state keeps of lengths, as a cut
+use Rattle.std.specs.Prelude.{◌==◌, ℕ, List, [], ◌∷◌, Option, None, Some, cond}
+use Rattle.std.specs.Cmp.Lexicographic.{pointwise}
+use Rattle.net_core.specs.Graphs.{Graph}
+use Rattle.plan_terms.specs.Keeping.{AreZero, Keeps}
+use Rattle.metric_cut.specs.Cuts.{IsCutOf}
+use Rattle.metric_cut.specs.declared.cut.Cut.{Cut}
+
+-- a cut of what the state keeps of lengths, and none where they are 0 on all surviving links
+abbrev pub MayKeepCut : Graph → List ℕ → Option Cut → Type 0
+MayKeepCut g lengths None = AreZero g lengths
+MayKeepCut g lengths (Some cut) = Keeps g lengths cut.lengths × IsCutOf g cut
+
+-- the cuts that are there, each once
+abbrev pub each_cut_once : Option Cut → Option Cut → List Cut
+each_cut_once None None = []
+each_cut_once None (Some price) = price ∷ []
+each_cut_once (Some unit) None = unit ∷ []
+each_cut_once (Some unit) (Some price) = cond (pointwise ◌==◌ unit.lengths price.lengths) (unit ∷ []) (unit ∷ price ∷ [])

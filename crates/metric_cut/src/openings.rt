@@ -1,0 +1,92 @@
+ghost use Rattle.std.specs.Prelude.{◌≡◌, ◌+◌, ◌<◌, ◌==◌, All, IfOk, [], ◌∷◌, cond, length, map};
+ghost use Rattle.std.specs.Cmp.Lexicographic.{pointwise};
+ghost use Rattle.net_core.specs.Views.{graph};
+ghost use Rattle.plan_terms.specs.Openings.{AreOpening};
+ghost use Rattle.metric_cut.specs.Cuts.{IsCutOf};
+ghost use Rattle.metric_cut.specs.inner.KeptCuts.{MayKeepCut, each_cut_once};
+
+use crate::cut::{Cut, CutFault};
+use module_prices::price_lengths;
+use net_core::{Lengths, List, Network, NoMemory, StateId, States};
+use std::alloc::Global;
+
+/// What a state keeps of lengths, as a cut; `None` where they are 0 on all surviving links.
+fn kept_cut(
+    alloc: Global,
+    net: &Network,
+    states: &States,
+    state: StateId,
+    lengths: Lengths,
+) -> Result<Option<Cut>, NoMemory>
+    requires state { state.0 < length states.now.listed + 1 }
+    requires lengths { length lengths ≡ length net.now.links }
+    ensures { IfOk result (MayKeepCut (graph net.now states.now state.0) lengths) }
+{
+    match Cut::new(alloc, net, states, state, lengths) {
+        Ok(cut) => Ok(Some(cut)),
+        Err(CutFault::NoMemory) => Err(NoMemory),
+        Err(_) => Ok(None),
+    }
+}
+
+fn one(alloc: Global, cut: Cut) -> Result<List<Cut>, NoMemory>
+    ensures { IfOk result (λ cuts. cuts ≡ cut ∷ []) }
+{
+    let mut cuts = List::new(alloc);
+    cuts.push(cut)?;
+    Ok(cuts)
+}
+
+/// Two cuts, or the first one where their lengths are equal.
+fn both(alloc: Global, unit: Cut, price: Cut) -> Result<List<Cut>, NoMemory>
+    ensures { IfOk result (λ cuts. cuts ≡ cond (pointwise ◌==◌ unit.lengths price.lengths) (unit ∷ []) (unit ∷ price ∷ [])) }
+{
+    if unit.lengths().items() == price.lengths().items() {
+        return one(alloc, unit);
+    }
+    let mut cuts = one(alloc, unit)?;
+    cuts.push(price)?;
+    Ok(cuts)
+}
+
+/// The cuts that are there, each once.
+fn each_once(
+    alloc: Global,
+    unit: Option<Cut>,
+    price: Option<Cut>,
+) -> Result<List<Cut>, NoMemory>
+    ensures { IfOk result (λ cuts. cuts ≡ each_cut_once unit price) }
+{
+    match unit {
+        Some(unit) => match price {
+            Some(price) => both(alloc, unit, price),
+            None => one(alloc, unit),
+        },
+        None => match price {
+            Some(price) => one(alloc, price),
+            None => Ok(List::new(alloc)),
+        },
+    }
+}
+
+/// The opening cuts of a state, with which a planning begins: what the state keeps of lengths of 1, then what it keeps of the
+/// price lengths. One that is 0 on all surviving links, or equals the other, is left out. It takes two searches from each node.
+///
+/// A triangle whose links cost the same has the one opening cut 1, 1, 1 without failures, and 1, 1, 0 in a state that fails the
+/// third link. Where a unit of capacity costs half as much on the first link, the second cut is 1, 2, 2.
+pub fn opening(
+    alloc: Global,
+    net: &Network,
+    states: &States,
+    state: StateId,
+) -> Result<List<Cut>, NoMemory>
+    requires { state.0 < length states.now.listed + 1 }
+    ensures each { IfOk result (All (IsCutOf (graph net.now states.now state.0))) }
+    ensures opening { IfOk result (λ cuts. AreOpening (graph net.now states.now state.0) (map (λ c. c.lengths) cuts)) }
+{
+    let units = List::filled(alloc, 1, net.links().len())?;
+    let unit = kept_cut(alloc, net, states, state, units)?;
+    let prices = price_lengths(alloc, net)?;
+    let price = kept_cut(alloc, net, states, state, prices)?;
+    each_once(alloc, unit, price)
+}
