@@ -4,3 +4,6 @@
 pub mod best;
 
 pub use best::best_own;
+
+#[cfg(test)]
+mod tests;

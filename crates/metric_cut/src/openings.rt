@@ -50,11 +50,7 @@ fn both(alloc: Global, unit: Cut, price: Cut) -> Result<List<Cut>, NoMemory>
 }
 
 /// The cuts that are there, each once.
-fn each_once(
-    alloc: Global,
-    unit: Option<Cut>,
-    price: Option<Cut>,
-) -> Result<List<Cut>, NoMemory>
+fn each_once(alloc: Global, unit: Option<Cut>, price: Option<Cut>) -> Result<List<Cut>, NoMemory>
     ensures { IfOk result (λ cuts. cuts ≡ each_cut_once unit price) }
 {
     match unit {
