@@ -14,14 +14,15 @@ use Rattle.net_core.specs.declared.ids.LinkId.{LinkId}
 use Rattle.net_core.specs.declared.network.Link.{Link}
 use Rattle.net_core.specs.declared.plan.Flow.{Flow}
 use Rattle.net_core.specs.declared.plan.Routing.{Routing}
-use Rattle.net_core.specs.declared.states.Listed.{Listed}
+use Rattle.net_core.specs.Cases.{Case, graph_in}
+use Rattle.net_core.specs.Graphs.{Graph, Joins, Survives}
 use Rattle.plan_terms.specs.Fallbacks.{IsLeastFlow, IsLeastRouting, peak}
 use Rattle.plan_terms.specs.Flows.{IsFlow, load}
-use Rattle.plan_terms.specs.Paths.{Joins, Leads, Survives}
+use Rattle.plan_terms.specs.Paths.{Leads}
 use Rattle.plan_terms.proofs.Distinct.{DistinctLinks, path_links_differ, path_links_known}
 use Rattle.plan_terms.proofs.Few.{path_few}
 use Rattle.plan_terms.proofs.Joining.{joins_within}
-use Rattle.module_choice.specs.Routes.{AreRouted, times, weight}
+use Rattle.module_choice.specs.inner.Routes.{AreRouted, times, weight}
 use Rattle.module_choice.proofs.Numbers.{one_if}
 
 -- a flow along a least path is a flow
@@ -48,14 +49,14 @@ few_flows joins lengths demands r least = ⊎_elim
     (λ none. omega (arith, none))
     (cases_lt 0 (length r.flows))
 
-named_survives : (links : List Link) (listed : List Listed) (s a : ℕ) (es : List LinkId) (cs : List ℕ) (e : ℕ) → Leads (Joins links listed s) a es cs → names_link e es ≡ true → Survives links listed s e
-named_survives links listed s a [] [] e leads named = absurd (false≢true named)
-named_survives links listed s a (x ∷ es) (c ∷ cs) e leads named = ⊎_elim
-    (λ t. subst (λ i. Survives links listed s i) (eqb-true x.0 e t) leads.0.survives)
-    (λ f. named_survives links listed s c es cs e leads.1 (rw f at named))
+named_survives : (g : Graph) (a : ℕ) (es : List LinkId) (cs : List ℕ) (e : ℕ) → Leads (Joins g) a es cs → names_link e es ≡ true → Survives g e
+named_survives g a [] [] e leads named = absurd (false≢true named)
+named_survives g a (x ∷ es) (c ∷ cs) e leads named = ⊎_elim
+    (λ t. subst (λ i. Survives g i) (eqb-true x.0 e t) leads.0.survives)
+    (λ f. named_survives g c es cs e leads.1 (rw f at named))
     (cases_Bool (eqb x.0 e))
-named_survives links listed s a [] (c ∷ cs) e leads named = absurd leads
-named_survives links listed s a (x ∷ es) [] e leads named = absurd leads
+named_survives g a [] (c ∷ cs) e leads named = absurd leads
+named_survives g a (x ∷ es) [] e leads named = absurd leads
 
 -- where no link stands twice, a link stands once where it is named
 times_once : (e : ℕ) (es : List LinkId) → DistinctLinks es → times e es ≡ one_if (names_link e es)
@@ -79,37 +80,37 @@ brought num true = omega arith
 brought num false = omega arith
 
 -- each link carries what the flows over it sum to
-pub load_is_weight : (links : List Link) (listed : List Listed) (s : ℕ) (demands : List Demand) (flows : List Flow) (e : ℕ) → All (IsFlow (Joins links listed s) demands) flows → load flows e ≡ weight flows e
-load_is_weight links listed s demands [] e each = refl
-load_is_weight links listed s demands (f ∷ fs) e each =
+pub load_is_weight : (g : Graph) (demands : List Demand) (flows : List Flow) (e : ℕ) → All (IsFlow (Joins g) demands) flows → load flows e ≡ weight flows e
+load_is_weight g demands [] e each = refl
+load_is_weight g demands (f ∷ fs) e each =
     let flow = each 0 f (omega arith) in
-    let once = times_once e f.path (path_links_differ links listed s flow.of.from.0 flow.of.to.0 f.path flow.path) in
+    let once = times_once e f.path (path_links_differ g flow.of.from.0 flow.of.to.0 f.path flow.path) in
     let one : f.num * times e f.path ≡ (if names_link e f.path then f.num else 0) = ap (λ t. f.num * t) once ∙ brought f.num (names_link e f.path) in
-    let rest = load_is_weight links listed s demands fs e (λ k d lt. each (suc k) d (omega arith)) in
-    omega (arith, sum_by-cons (λ (g : Flow). (if names_link e g.path then g.num else 0)) f fs, sum_by-cons (λ (g : Flow). g.num * times e g.path) f fs, one, rest)
+    let rest = load_is_weight g demands fs e (λ k d lt. each (suc k) d (omega arith)) in
+    omega (arith, sum_by-cons (λ (h : Flow). (if names_link e h.path then h.num else 0)) f fs, sum_by-cons (λ (h : Flow). h.num * times e h.path) f fs, one, rest)
 
 -- a link that doesn't survive, or isn't one, carries nothing
-pub load_none : (links : List Link) (listed : List Listed) (s : ℕ) (demands : List Demand) (flows : List Flow) (e : ℕ) → All (IsFlow (Joins links listed s) demands) flows → (Survives links listed s e → ⊥) → load flows e ≡ 0
-load_none links listed s demands [] e each dead = refl
-load_none links listed s demands (f ∷ fs) e each dead =
+pub load_none : (g : Graph) (demands : List Demand) (flows : List Flow) (e : ℕ) → All (IsFlow (Joins g) demands) flows → (Survives g e → ⊥) → load flows e ≡ 0
+load_none g demands [] e each dead = refl
+load_none g demands (f ∷ fs) e each dead =
     let flow = each 0 f (omega arith) in
-    let off : names_link e f.path ≡ false = ⊎_elim (λ t. absurd (dead (named_survives links listed s flow.of.from.0 f.path flow.path.0 e flow.path.1 t))) (λ n. n) (cases_Bool (names_link e f.path)) in
+    let off : names_link e f.path ≡ false = ⊎_elim (λ t. absurd (dead (named_survives g flow.of.from.0 f.path flow.path.0 e flow.path.1 t))) (λ n. n) (cases_Bool (names_link e f.path)) in
     let one : (if names_link e f.path then f.num else 0) ≡ 0 = ap (λ b. cond b f.num 0) off in
-    omega (arith, sum_by-cons (λ (g : Flow). (if names_link e g.path then g.num else 0)) f fs, one, load_none links listed s demands fs e (λ k d lt. each (suc k) d (omega arith)) dead)
+    omega (arith, sum_by-cons (λ (h : Flow). (if names_link e h.path then h.num else 0)) f fs, one, load_none g demands fs e (λ k d lt. each (suc k) d (omega arith)) dead)
 
 -- what is known of the links and the sizes of routes
-pub links_known : (links : List Link) (listed : List Listed) (s : ℕ) (demands : List Demand) (flows : List Flow) → All (IsFlow (Joins links listed s) demands) flows → (k : ℕ) (f : Flow) → k < length flows → (i : ℕ) (x : LinkId) → i < length (get_or flows k f).path → (get_or (get_or flows k f).path i x).0 < length links
-links_known links listed s demands flows each k f lt i x lt' =
+pub links_known : (g : Graph) (demands : List Demand) (flows : List Flow) → All (IsFlow (Joins g) demands) flows → (k : ℕ) (f : Flow) → k < length flows → (i : ℕ) (x : LinkId) → i < length (get_or flows k f).path → (get_or (get_or flows k f).path i x).0 < length g.links
+links_known g demands flows each k f lt i x lt' =
     let flow = each k f lt in
-    path_links_known links listed s flow.of.from.0 flow.of.to.0 (get_or flows k f).path flow.path i x lt'
+    path_links_known g flow.of.from.0 flow.of.to.0 (get_or flows k f).path flow.path i x lt'
 
 -- a flow's number is small, and its path is short
-pub flows_small : (links : List Link) (listed : List Listed) (s n : ℕ) (lengths : List ℕ) (demands : List Demand) (r : Routing) → n ≤ 128 → All (IsLink n) links → AreDemands n demands → IsLeastRouting (Joins links listed s) lengths demands r → (k : ℕ) (f : Flow) → k < length r.flows → ((get_or r.flows k f).num < 2 ^ 40) × (length (get_or r.flows k f).path < 256)
-flows_small links listed s n lengths demands r few sound are least k f lt =
+pub flows_small : (g : Graph) (n : ℕ) (lengths : List ℕ) (demands : List Demand) (r : Routing) → n ≤ 128 → All (IsLink n) g.links → AreDemands n demands → IsLeastRouting (Joins g) lengths demands r → (k : ℕ) (f : Flow) → k < length r.flows → ((get_or r.flows k f).num < 2 ^ 40) × (length (get_or r.flows k f).path < 256)
+flows_small g n lengths demands r few sound are least k f lt =
     let flow = least.each k f lt in
     let at : get_or demands (get_or r.flows k f).demand flow.of ≡ flow.of = get_or_from_slice_get demands (get_or r.flows k f).demand flow.of flow.of flow.at in
     let is : IsDemand n flow.of = subst (IsDemand n) at (are.each (get_or r.flows k f).demand flow.of (slice_get_within demands (get_or r.flows k f).demand flow.of flow.at)) in
-    let short = path_few (Joins links listed s) n (λ e x y j. (joins_within n links listed s e x y sound j).1) flow.of.from.0 flow.of.to.0 is.from_known (get_or r.flows k f).path flow.path.path in
+    let short = path_few (Joins g) n (λ e x y j. (joins_within n g e x y sound j).1) flow.of.from.0 flow.of.to.0 is.from_known (get_or r.flows k f).path flow.path.path in
     (omega (arith, flow.num, is.need), omega (arith, short, few))
 
 -- a load is no more than all flows
@@ -117,7 +118,7 @@ pub load_all : (flows : List Flow) (e : ℕ) → load flows e ≤ sum_by (λ f. 
 load_all [] e = omega arith
 load_all (f ∷ fs) e =
     let one : (if names_link e f.path then f.num else 0) ≤ f.num = elim (names_link e f.path) as (λ b. (if b then f.num else 0) ≤ f.num) [ true ↦ omega arith | false ↦ omega arith ] in
-    omega (arith, sum_by-cons (λ (g : Flow). (if names_link e g.path then g.num else 0)) f fs, sum_by-cons (λ (g : Flow). g.num) f fs, one, load_all fs e)
+    omega (arith, sum_by-cons (λ (h : Flow). (if names_link e h.path then h.num else 0)) f fs, sum_by-cons (λ (g : Flow). g.num) f fs, one, load_all fs e)
 
 -- the greatest load with one more routing
 pub peak_more : (rs : List Routing) (r : Routing) (e : ℕ) → peak (rs ++ r ∷ []) e ≡ max (peak rs e) (load r.flows e)
@@ -141,32 +142,32 @@ pub network_links : (nodes : List (List ℕ)) (links : List Link) → ∥ IsNetw
 network_links nodes links checked = ∥∥₁_elim checked (hlevel props) (λ net. net.sound)
 
 -- no state yet
-pub routed_none : (links : List Link) (listed : List Listed) (lengths : List ℕ) (demands : List Demand) → AreRouted links listed lengths demands 0 [] (replicate (length links) 0)
-routed_none links listed lengths demands = record {
+pub routed_none : (p : Case) (lengths : List ℕ) → AreRouted p lengths 0 [] (replicate (length p.links) 0)
+routed_none p lengths = record {
   count = refl;
   routed = λ s r at. absurd (cc);
-  size = length-replicate (length links) 0;
-  greatest = λ e lt. get_or-replicate (length links) e 0 0 lt;
+  size = length-replicate (length p.links) 0;
+  greatest = λ e lt. get_or-replicate (length p.links) e 0 0 lt;
   small = λ e. omega arith;
 }
 
 -- one more state
-pub routed_more : (links : List Link) (listed : List Listed) (lengths : List ℕ) (demands : List Demand) (n : ℕ) (routings : List Routing) (r : Routing) (peaks loads raised : List ℕ)
-    → AreRouted links listed lengths demands n routings peaks
-    → IsLeastRouting (Joins links listed n) lengths demands r
+pub routed_more : (p : Case) (lengths : List ℕ) (n : ℕ) (routings : List Routing) (r : Routing) (peaks loads raised : List ℕ)
+    → AreRouted p lengths n routings peaks
+    → IsLeastRouting (Joins (graph_in p n)) lengths p.demands r
     → sum_by (λ f. f.num) r.flows < 2 ^ 44
-    → ((e : ℕ) → e < length links → get_or loads e 0 ≡ weight r.flows e)
+    → ((e : ℕ) → e < length p.links → get_or loads e 0 ≡ weight r.flows e)
     → length raised ≡ length peaks
     → ((e : ℕ) → e < length peaks → get_or raised e 0 ≡ max (get_or peaks e 0) (get_or loads e 0))
-    → AreRouted links listed lengths demands (n + 1) (routings ++ r ∷ []) raised
-routed_more links listed lengths demands n routings r peaks loads raised so_far least total loaded size rises = record {
+    → AreRouted p lengths (n + 1) (routings ++ r ∷ []) raised
+routed_more p lengths n routings r peaks loads raised so_far least total loaded size rises = record {
   count = omega (arith, length-append routings (r ∷ []), so_far.count);
   routed = λ s x at. ⊎_elim
       (λ old. so_far.routed s x old)
-      (λ last. subst (λ i. IsLeastRouting (Joins links listed i) lengths demands x) (sym (last.0 ∙ so_far.count)) (subst (IsLeastRouting (Joins links listed n) lengths demands) (sym last.1) least))
+      (λ last. subst (λ i. IsLeastRouting (Joins (graph_in p i)) lengths p.demands x) (sym (last.0 ∙ so_far.count)) (subst (IsLeastRouting (Joins (graph_in p n)) lengths p.demands) (sym last.1) least))
       (get_cases routings r x s at);
   size = size ∙ so_far.size;
-  greatest = λ e lt. omega (arith, rises e (omega (arith, lt, so_far.size)), so_far.greatest e lt, loaded e lt, load_is_weight links listed n demands r.flows e (least_flows (Joins links listed n) lengths demands r least), peak_more routings r e);
+  greatest = λ e lt. omega (arith, rises e (omega (arith, lt, so_far.size)), so_far.greatest e lt, loaded e lt, load_is_weight (graph_in p n) p.demands r.flows e (least_flows (Joins (graph_in p n)) lengths p.demands r least), peak_more routings r e);
   small = λ e. omega (arith, peak_more routings r e, so_far.small e, load_all r.flows e, total);
 }
 

@@ -8,8 +8,10 @@ use Rattle.std.proofs.lemmas.Option.{get_or_from_slice_get, slice_get_within}
 use Rattle.std.proofs.Math.Nat.{mul-le-mul_left}
 use Rattle.net_core.specs.declared.network.Module.{Module}
 use Rattle.net_core.specs.Network.{IsModule}
-use Rattle.plan_terms.specs.Capacities.{AreCheapest, modules_capacity, modules_cost}
-use Rattle.module_choice.specs.Kinds.{IsBestKind, IsCovering}
+use Rattle.plan_terms.specs.Capacities.{modules_capacity, modules_cost}
+use Rattle.plan_terms.specs.Covers.{AreOfOneKind, Covers, Reaches}
+use Rattle.module_choice.specs.Coverings.{IsCovering}
+use Rattle.module_choice.specs.inner.Kinds.{IsBestKind}
 use Rattle.module_choice.specs.declared.covers.Covering.{Covering}
 use Rattle.module_choice.specs.declared.covers.Kind.{Kind}
 use Rattle.module_choice.proofs.Numbers.{one_if}
@@ -75,16 +77,15 @@ bounded need bound (m ∷ ms) (suc c ∷ cs) some each kind reach =
     let enough : need ≤ m.capacity * suc c = omega (arith, value-cons (λ m. m.capacity) m ms (suc c) cs, value-none (λ m. m.capacity) ms cs none, reach) in
     omega (arith, each zero (suc c) m refl enough, value-cons (λ m. m.cost) m ms (suc c) cs, value-none (λ m. m.cost) ms cs none)
 
--- no modules are the least for no need
-pub none_least : (ms : List Module) (need : ℕ) → need ≡ 0 → AreCheapest ms need (replicate (length ms) 0)
-none_least ms need none = record {
-  reaches = record {
-    shape = length-replicate (length ms) 0;
-    kind = omega (arith, positive-zeros (length ms));
-    reached = omega (arith, none);
-  };
-  least = λ others reaches. omega (arith, value-zeros (λ m. m.cost) ms (length ms));
-}
+-- counts of one kind that reach the need at the least cost of such counts cover it
+kind_covers : (ms : List Module) (need : ℕ) (cs : List ℕ) → AreOfOneKind cs → Reaches ms need cs → ((others : List ℕ) → AreOfOneKind others → Reaches ms need others → modules_cost ms cs ≤ modules_cost ms others) → Covers ms need cs
+kind_covers ms need cs kind reaches least = record { reaches = reaches; cheapest = record { counts = cs; kind = kind; reaches = reaches; paid = refl; least = least } }
+
+-- no modules cover no need
+none_least : (ms : List Module) (need : ℕ) → need ≡ 0 → Covers ms need (replicate (length ms) 0)
+none_least ms need none = kind_covers ms need (replicate (length ms) 0) (omega (arith, positive-zeros (length ms)))
+    (record { shape = length-replicate (length ms) 0; reached = omega (arith, none) })
+    (λ others kind reaches. omega (arith, value-zeros (λ m. m.cost) ms (length ms)))
 
 pub same_at : (ms : List Module) (j : ℕ) (m n : Module) → slice_get ms j ≡ Some m → slice_get ms j ≡ Some n → m ≡ n
 same_at ms j m n a b = cc (a, b)
@@ -103,16 +104,14 @@ needs_some : (capacity need count : ℕ) → 0 < need → need ≤ capacity * co
 needs_some capacity need zero some reaches = absurd (omega arith)
 needs_some capacity need (suc c) some reaches = omega arith
 
--- the best kind is the least for a need
-best_least : (ms : List Module) (need : ℕ) (kind : Kind) → 0 < need → IsBestKind ms need kind → AreCheapest ms need (set (replicate (length ms) 0) kind.at kind.count)
-best_least ms need kind some best = record {
-  reaches = record {
-    shape = length-set (replicate (length ms) 0) kind.at kind.count ∙ length-replicate (length ms) 0;
-    kind = positive-one (length ms) kind.at kind.count;
-    reached = omega (arith, value-one (λ m. m.capacity) ms kind.at kind.count best.module_at best.is, best.reaches);
-  };
-  least = λ others reaches. omega (arith, value-one (λ m. m.cost) ms kind.at kind.count best.module_at best.is, bounded need (best.module_at.cost * kind.count) ms others some (λ k c m is enough. best.least k m c is enough) reaches.kind reaches.reached);
-}
+-- so many of the best kind cover a need
+best_least : (ms : List Module) (need : ℕ) (kind : Kind) → 0 < need → IsBestKind ms need kind → Covers ms need (set (replicate (length ms) 0) kind.at kind.count)
+best_least ms need kind some best = kind_covers ms need (set (replicate (length ms) 0) kind.at kind.count) (positive-one (length ms) kind.at kind.count)
+    (record {
+      shape = length-set (replicate (length ms) 0) kind.at kind.count ∙ length-replicate (length ms) 0;
+      reached = omega (arith, value-one (λ m. m.capacity) ms kind.at kind.count best.module_at best.is, best.reaches);
+    })
+    (λ others kinds reaches. omega (arith, value-one (λ m. m.cost) ms kind.at kind.count best.module_at best.is, bounded need (best.module_at.cost * kind.count) ms others some (λ k c m is enough. best.least k m c is enough) kinds reaches.reached))
 
 -- counts of one kind are small where that one is
 one-below : (n at count limit : ℕ) → count < limit → All (λ c. c < limit) (set (replicate n 0) at count)
@@ -132,23 +131,25 @@ fewest-capacity capacity need (suc c) some fewest = ⊎_elim
     (λ enough. omega (arith, fewest c enough))
     (cases_lt (capacity * c) need)
 
--- no modules cover no need
+-- what `cover` answers for no need
 pub none_covers : (ms : List Module) (need : ℕ) (c : Covering) → need ≡ 0 → c.counts ≡ replicate (length ms) 0 → c.cost ≡ 0 → IsCovering ms need c
 none_covers ms need c none counts cost = record {
-  cheapest = subst (AreCheapest ms need) (sym counts) (none_least ms need none);
+  covers = subst (Covers ms need) (sym counts) (none_least ms need none);
+  kind = subst AreOfOneKind (sym counts) (omega (arith, positive-zeros (length ms)));
   paid = omega (arith, cost, ap (modules_cost ms) counts, value-zeros (λ m. m.cost) ms (length ms));
   small = subst (λ cs. All (λ n. n < 2 ^ 44) cs) (sym counts) (λ k d lt. omega (arith, get_or-replicate (length ms) k 0 d (omega (arith, lt, length-replicate {A = ℕ} (length ms) 0))));
   narrow = omega (arith, ap (modules_capacity ms) counts, value-zeros (λ m. m.capacity) ms (length ms));
 }
 
--- the best kind covers a need
+-- what `cover` answers for a need
 pub best_covers : (ms : List Module) (need : ℕ) (kind : Kind) (m : Module) (c : Covering) → 0 < need → need < 2 ^ 44 → All IsModule ms → IsBestKind ms need kind → slice_get ms kind.at ≡ Some m → c.counts ≡ set (replicate (length ms) 0) kind.at kind.count → c.cost ≡ m.cost * kind.count → IsCovering ms need c
 best_covers ms need kind m c some limit sound best at counts cost =
     let one : m ≡ best.module_at = same_at ms kind.at m best.module_at at best.is in
     let is : IsModule best.module_at = all_read IsModule ms kind.at best.module_at sound best.is in
     let fewest : kind.count ≤ need = best.fewest need (factor_reaches best.module_at.capacity need is.carries) in
     record {
-      cheapest = subst (AreCheapest ms need) (sym counts) (best_least ms need kind some best);
+      covers = subst (Covers ms need) (sym counts) (best_least ms need kind some best);
+      kind = subst AreOfOneKind (sym counts) (positive-one (length ms) kind.at kind.count);
       paid = omega (arith, cost, ap (λ (x : Module). x.cost * kind.count) one, ap (modules_cost ms) counts, value-one (λ m. m.cost) ms kind.at kind.count best.module_at best.is);
       small = subst (λ cs. All (λ n. n < 2 ^ 44) cs) (sym counts) (one-below (length ms) kind.at kind.count (2 ^ 44) (omega (arith, fewest, limit)));
       narrow = omega (arith, ap (modules_capacity ms) counts, value-one (λ m. m.capacity) ms kind.at kind.count best.module_at best.is, fewest-capacity best.module_at.capacity need kind.count (needs_some best.module_at.capacity need kind.count some best.reaches) best.fewest, limit, is.capacity);

@@ -9,13 +9,14 @@ use Rattle.net_core.specs.declared.demand.Demand.{Demand}
 use Rattle.net_core.specs.declared.network.Link.{Link}
 use Rattle.net_core.specs.declared.plan.Flow.{Flow}
 use Rattle.net_core.specs.declared.plan.Routing.{Routing}
-use Rattle.net_core.specs.declared.states.Listed.{Listed}
-use Rattle.plan_terms.specs.Capacities.{AreCheapest, AreCheapestCounts, AreCounts, AreNarrow, capacities, modules_capacity, total_cost}
+use Rattle.net_core.specs.Cases.{Case, graph_in}
+use Rattle.net_core.specs.Graphs.{Joins}
+use Rattle.plan_terms.specs.Capacities.{AreCounts, AreNarrow, capacities, modules_capacity, total_cost}
 use Rattle.plan_terms.specs.Fallbacks.{IsFallback, IsLeastRouting, peak, raised}
 use Rattle.plan_terms.specs.Flows.{Carries, load, sent}
-use Rattle.plan_terms.specs.Paths.{Joins}
+use Rattle.plan_terms.specs.Covers.{CoverLoads, Covers}
 use Rattle.plan_terms.specs.Prices.{ArePriceLengths}
-use Rattle.module_choice.specs.Routes.{AreCovered, AreRouted}
+use Rattle.module_choice.specs.inner.Routes.{AreCovered, AreRouted}
 use Rattle.module_choice.proofs.Carrying.{least_flows, load_none, network_links, peak_above}
 use Rattle.module_choice.proofs.Choices.{all_read}
 
@@ -84,21 +85,21 @@ capacity_at (k ∷ ks) (d ∷ ds) zero l c p q =
 capacity_at (k ∷ ks) (d ∷ ds) (suc e) l c p q = capacity_at ks ds e l c p q
 
 -- counts that reach the greatest loads carry each routing
-carried : (links : List Link) (listed : List Listed) (s : ℕ) (lengths : List ℕ) (demands : List Demand) (rs : List Routing) (r : Routing) (counts : List (List ℕ)) → AreCheapestCounts links (peak rs) counts → slice_get rs s ≡ Some r → IsLeastRouting (Joins links listed s) lengths demands r → Carries (Joins links listed s) demands 1 (capacities links counts) r
-carried links listed s lengths demands rs r counts cheapest at least =
-    let flows = least_flows (Joins links listed s) lengths demands r least in
+carried : (p : Case) (s : ℕ) (lengths : List ℕ) (rs : List Routing) (r : Routing) (counts : List (List ℕ)) → CoverLoads p.links (peak rs) counts → slice_get rs s ≡ Some r → IsLeastRouting (Joins (graph_in p s)) lengths p.demands r → Carries (Joins (graph_in p s)) p.demands 1 (capacities p.links counts) r
+carried p s lengths rs r counts covers at least =
+    let flows = least_flows (Joins (graph_in p s)) lengths p.demands r least in
     let den : r.den ≡ 1 = least.whole in
     record {
       den = omega (arith, den);
       flows = flows;
-      met = λ k d is. met (Joins links listed s) lengths demands r least k d is ∙ sym (ap (λ x. d.need * 1 * x) den ∙ omega arith);
-      within = λ e. subst (λ x. load r.flows e ≤ get_or (capacities links counts) e 0 * x) (sym den) (⊎_elim
-          (λ lt. let l = get_some links e lt in
-          let c = get_some counts e (omega (arith, lt, cheapest.long)) in
-          let enough = (cheapest.cheapest e l.0 c.0 l.1 c.1).reaches.reached in
-          omega (arith, capacity_at links counts e l.0 c.0 l.1 c.1, enough, peak_above rs s r e at))
-          (λ past. let none = load_none links listed s demands r.flows e flows (λ v. let in' = slice_get_within links e v.link v.at in omega (arith, in', past)) in omega (arith, none))
-          (cases_lt e (length links)));
+      met = λ k d is. met (Joins (graph_in p s)) lengths p.demands r least k d is ∙ sym (ap (λ x. d.need * 1 * x) den ∙ omega arith);
+      within = λ e. subst (λ x. load r.flows e ≤ get_or (capacities p.links counts) e 0 * x) (sym den) (⊎_elim
+          (λ lt. let l = get_some p.links e lt in
+          let c = get_some counts e (omega (arith, lt, covers.long)) in
+          let enough = (covers.each e l.0 c.0 l.1 c.1).reaches.reached in
+          omega (arith, capacity_at p.links counts e l.0 c.0 l.1 c.1, enough, peak_above rs s r e at))
+          (λ past. let none = load_none (graph_in p s) p.demands r.flows e flows (λ v. let in' = slice_get_within p.links e v.link v.at in omega (arith, in', past)) in omega (arith, none))
+          (cases_lt e (length p.links)));
     }
 
 -- counts of the right shape, link by link
@@ -109,7 +110,7 @@ all_shaped (l ∷ ls) [] long each = absurd (omega (arith, long))
 all_shaped (l ∷ ls) (c ∷ cs) long each = (each 0 l c refl refl, all_shaped ls cs (omega (arith, long)) (λ e k d p q. each (suc e) k d p q))
 
 pub covered_shape : (links : List Link) (loads : ℕ → ℕ) (counts : List (List ℕ)) → AreCovered links loads counts → AreCounts links counts
-covered_shape links loads counts covered = all_shaped links counts covered.cheapest.long (λ e l c p q. (covered.cheapest.cheapest e l c p q).reaches.shape)
+covered_shape links loads counts covered = all_shaped links counts covered.covers.long (λ e l c p q. (covered.covers.each e l c p q).reaches.shape)
 
 capacities_small : (links : List Link) (counts : List (List ℕ)) → ((e : ℕ) (l : Link) (c : List ℕ) → slice_get links e ≡ Some l → slice_get counts e ≡ Some c → l.fixed + modules_capacity l.modules c < 2 ^ 46) → All (λ n. n < 2 ^ 46) (capacities links counts)
 capacities_small [] counts each = All-nil (λ n. n < 2 ^ 46)
@@ -128,30 +129,30 @@ peak_none [] e none = refl
 peak_none (r ∷ rs) e none = omega (arith, none 0 r refl, peak_none rs e (λ s q at. none (suc s) q at))
 
 -- a link without modules carries nothing
-pub unserved : (links : List Link) (listed : List Listed) (lengths : List ℕ) (demands : List Demand) (n : ℕ) (rs : List Routing) (peaks : List ℕ) → AreRouted links listed lengths demands n rs peaks → (e : ℕ) (l : Link) → slice_get links e ≡ Some l → l.modules ≡ [] → get_or peaks e 0 ≡ 0
-unserved links listed lengths demands n rs peaks routed e l at none =
-    routed.greatest e (slice_get_within links e l at)
-    ∙ peak_none rs e (λ s r is. load_none links listed s demands r.flows e (least_flows (Joins links listed s) lengths demands r (routed.routed s r is)) (λ v. let one : v.link ≡ l = cc (v.at, at) in v.served (ap (λ (x : Link). x.modules) one ∙ none)))
+pub unserved : (p : Case) (lengths : List ℕ) (n : ℕ) (rs : List Routing) (peaks : List ℕ) → AreRouted p lengths n rs peaks → (e : ℕ) (l : Link) → slice_get p.links e ≡ Some l → l.modules ≡ [] → get_or peaks e 0 ≡ 0
+unserved p lengths n rs peaks routed e l at none =
+    routed.greatest e (slice_get_within p.links e l at)
+    ∙ peak_none rs e (λ s r is. load_none (graph_in p s) p.demands r.flows e (least_flows (Joins (graph_in p s)) lengths p.demands r (routed.routed s r is)) (λ v. let one : v.link ≡ l = cc (v.at, at) in v.served (ap (λ (x : Link). x.modules) one ∙ none)))
 
--- the counts are the cheapest for the greatest loads themselves
-peaks_covered : (links : List Link) (rs : List Routing) (peaks : List ℕ) (counts : List (List ℕ)) → ((e : ℕ) → e < length links → get_or peaks e 0 ≡ peak rs e) → AreCheapestCounts links (slice_index peaks) counts → AreCheapestCounts links (peak rs) counts
-peaks_covered links rs peaks counts same cheapest = record {
-  long = cheapest.long;
-  cheapest = λ e l c p q. subst (λ w. AreCheapest l.modules (w - l.fixed) c) (same e (slice_get_within links e l p)) (cheapest.cheapest e l c p q);
+-- the counts cover the greatest loads themselves
+peaks_covered : (links : List Link) (rs : List Routing) (peaks : List ℕ) (counts : List (List ℕ)) → ((e : ℕ) → e < length links → get_or peaks e 0 ≡ peak rs e) → CoverLoads links (slice_index peaks) counts → CoverLoads links (peak rs) counts
+peaks_covered links rs peaks counts same covers = record {
+  long = covers.long;
+  each = λ e l c p q. subst (λ w. Covers l.modules (w - l.fixed) c) (same e (slice_get_within links e l p)) (covers.each e l c p q);
 }
 
 -- routings and counts are the fallback plan
-pub falls : (links : List Link) (listed : List Listed) (demands : List Demand) (prices : List ℕ) (rs : List Routing) (peaks : List ℕ) (counts : List (List ℕ)) (cost : ℕ) → ArePriceLengths links prices → AreRouted links listed (raised prices) demands (length listed + 1) rs peaks → AreCovered links (slice_index peaks) counts → cost ≡ total_cost links counts → IsFallback links listed demands counts rs cost
-falls links listed demands prices rs peaks counts cost priced routed covered paid =
-    let cheapest = peaks_covered links rs peaks counts routed.greatest covered.cheapest in
+pub falls : (p : Case) (prices : List ℕ) (rs : List Routing) (peaks : List ℕ) (counts : List (List ℕ)) (cost : ℕ) → ArePriceLengths p.links prices → AreRouted p (raised prices) (length p.listed + 1) rs peaks → AreCovered p.links (slice_index peaks) counts → cost ≡ total_cost p.links counts → IsFallback p counts rs cost
+falls p prices rs peaks counts cost priced routed covered paid =
+    let covers = peaks_covered p.links rs peaks counts routed.greatest covered.covers in
     record {
       prices = prices;
       priced = priced;
       states = routed.count;
       routed = routed.routed;
-      carries = λ s r at. carried links listed s (raised prices) demands rs r counts cheapest at (routed.routed s r at);
-      shape = covered_shape links (slice_index peaks) counts covered;
-      cheapest = cheapest;
+      carries = λ s r at. carried p s (raised prices) rs r counts covers at (routed.routed s r at);
+      shape = covered_shape p.links (slice_index peaks) counts covered;
+      covered = covers;
       paid = paid;
     }
 

@@ -11,7 +11,7 @@ use Rattle.net_core.specs.declared.ids.LinkId.{LinkId}
 use Rattle.net_core.specs.declared.plan.Flow.{Flow}
 use Rattle.plan_terms.specs.Fallbacks.{IsLeastFlow, IsLeastRouting}
 use Rattle.plan_terms.specs.LeastPaths.{IsLeastPath}
-use Rattle.module_choice.specs.Routes.{AreLeastFlows, Takes}
+use Rattle.module_choice.specs.inner.Routes.{AreLeastFlows, Takes}
 
 any_before : {X : Type 0} (P : X → Type 0) (xs : List X) (x : X) → Any P xs → Any P (xs ++ x ∷ [])
 any_before P xs x a = (a.0, a.1, omega (arith, a.2, length-append xs (x ∷ [])), get_or_append_left xs (x ∷ []) a.1 a.0 a.2 ∙ a.3, a.4)

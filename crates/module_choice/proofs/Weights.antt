@@ -3,7 +3,7 @@ use Rattle.std.proofs.Common.{◌≡◌, ◌≢◌, ℕ, ◌+◌, ◌*◌, ◌<�
 use Rattle.std.proofs.lemmas.List.Sums.{sum_by_more}
 use Rattle.std.proofs.lemmas.Bool.{cases_eq, eq-eqb, ne_eqb}
 use Rattle.net_core.specs.declared.ids.LinkId.{LinkId}
-use Rattle.module_choice.specs.Routes.{times}
+use Rattle.module_choice.specs.inner.Routes.{times}
 use Rattle.module_choice.proofs.Numbers.{one_if}
 
 -- one link more has been counted where it is this one

@@ -1,2 +1,2 @@
-pub mod Kinds
-pub mod Routes
+pub mod Coverings
+pub mod inner

@@ -1,17 +1,27 @@
 ghost use Rattle.std.specs.Prelude.{◌≡◌, ℕ, ◌*◌, ◌^◌, ◌<◌, ◌≤◌, All, IfOk, [], length, replicate, slice_set};
 ghost use Rattle.net_core.specs.Network.{IsModule};
-ghost use Rattle.module_choice.specs.Kinds.{IsBestKind, IsCovering};
+ghost use Rattle.module_choice.specs.Coverings.{IsCovering};
+ghost use Rattle.module_choice.specs.inner.Kinds.{IsBestKind};
 
-use net_core::{Link, List, Module, NoMemory};
+use net_core::{Copied, Link, List, Module, NoMemory};
 use std::alloc::Global;
 
-/// Counts of a link's modules.
+/// Counts of a link's modules, and their cost.
 #[derive(Drop)]
 pub struct Covering {
     /// One count for each module of the link.
     pub counts: List<u64>,
     /// What they cost, in thousandths.
     pub cost: u128,
+}
+
+impl Copied for Covering {
+    fn copy(&self) -> Result<Covering, NoMemory> {
+        Ok(Covering {
+            counts: self.counts.copy()?,
+            cost: self.cost,
+        })
+    }
 }
 
 /// A kind of module by its place, and how many of them.
@@ -62,20 +72,8 @@ fn one_kind(alloc: Global, kinds: usize, kind: Kind) -> Result<List<u64>, NoMemo
     requires { kind.at < kinds }
     ensures { IfOk result (λ c. c ≡ slice_set (replicate kinds 0) kind.at kind.count) }
 {
-    let Ok(mut counts) = vec![in alloc; 0; kinds] else {
-        return Err(NoMemory);
-    };
+    let mut counts = vec![in alloc; 0; kinds]?;
     counts[kind.at] = kind.count;
-    Ok(List::from_vec(counts))
-}
-
-/// No modules.
-fn no_modules(alloc: Global, kinds: usize) -> Result<List<u64>, NoMemory>
-    ensures { IfOk result (λ c. c ≡ replicate kinds 0) }
-{
-    let Ok(counts) = vec![in alloc; 0; kinds] else {
-        return Err(NoMemory);
-    };
     Ok(List::from_vec(counts))
 }
 
@@ -94,7 +92,11 @@ fn cover_some(alloc: Global, modules: &[Module], need: u64) -> Result<Covering, 
     })
 }
 
-/// The cheapest counts of one kind of the link's modules that reach the need, in thousandths.
+/// Counts of the link's modules that cover a need, in thousandths: modules of one kind that reach it at the least cost of such
+/// modules, the first such kind at a tie, and none for a need of 0. It takes time in the number of modules.
+///
+/// Modules of 155 for 100 and of 622 for 250: a need of 500 is covered by one of the second kind for 250, since four of the
+/// first would cost 400; a need of 180 by two of the first for 200.
 pub fn cover(alloc: Global, link: &Link, need: u64) -> Result<Covering, NoMemory>
     requires few { length link.now.modules ≤ 16 }
     requires each { All IsModule link.now.modules }
@@ -107,7 +109,7 @@ pub fn cover(alloc: Global, link: &Link, need: u64) -> Result<Covering, NoMemory
         return cover_some(alloc, modules, need);
     }
     Ok(Covering {
-        counts: no_modules(alloc, modules.len())?,
+        counts: List::filled(alloc, 0, modules.len())?,
         cost: 0,
     })
 }

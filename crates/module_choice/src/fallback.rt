@@ -1,21 +1,23 @@
 ghost use Rattle.std.specs.Prelude.{◌≡◌, ℕ, ◌+◌, ◌^◌, ◌<◌, ◌≤◌, [], All, IfOk, OnOk, Some, length, slice_get, slice_index};
+ghost use Rattle.net_core.specs.Cases.{graph_in};
 ghost use Rattle.net_core.specs.Demands.{AreDemands};
+ghost use Rattle.net_core.specs.Graphs.{Survives};
 ghost use Rattle.net_core.specs.Network.{IsModule};
+ghost use Rattle.net_core.specs.Views.{case, case_of};
 ghost use Rattle.net_core.specs.declared.network.Link.{Link};
 ghost use Rattle.plan_terms.specs.Capacities.{AreNarrow};
-ghost use Rattle.plan_terms.specs.Fallbacks.{IsFallback};
-ghost use Rattle.plan_terms.specs.Paths.{Survives};
+ghost use Rattle.plan_terms.specs.Fallbacks.{IsFallback, raised};
 ghost use Rattle.plan_terms.specs.Separations.{IsSurvivable};
-ghost use Rattle.module_choice.specs.Routes.{AreCovered, AreRouted};
+ghost use Rattle.module_choice.specs.inner.Routes.{AreCovered, AreRouted};
 
 use crate::covers::cover;
-use crate::loads::{loads_of, no_loads, raise};
-use crate::prices::raised;
-use module_prices::price_lengths;
+use crate::loads::{loads_of, raise};
 use crate::routes::route_state;
 use crate::totals::cost;
+use module_prices::price_lengths;
 use net_core::{
-    Counts, Demand, Demands, Lengths, Link, List, Network, NoMemory, Routing, StateId, States,
+    Copied, Counts, Demands, Instance, Lengths, Link, List, Network, NoMemory, Routing, StateId,
+    States,
 };
 use std::alloc::Global;
 
@@ -30,6 +32,16 @@ pub struct Fallback {
     pub cost: u128,
 }
 
+impl Copied for Fallback {
+    fn copy(&self) -> Result<Fallback, NoMemory> {
+        Ok(Fallback {
+            counts: self.counts.copy()?,
+            routings: self.routings.copy()?,
+            cost: self.cost,
+        })
+    }
+}
+
 /// The routings of states, and the greatest load of each link over them, in thousandths.
 #[derive(Drop)]
 struct Routed {
@@ -37,65 +49,57 @@ struct Routed {
     peaks: List<u64>,
 }
 
+/// Price lengths, each plus 1.
+fn raised(alloc: Global, prices: &[u32]) -> Result<Lengths, NoMemory>
+    requires { All (λ n. n ≤ 16) prices.now }
+    ensures { IfOk result (λ lengths. lengths ≡ raised prices.now) }
+{
+    let mut lengths = List::new(alloc);
+    for n in prices {
+        lengths.push(*n + 1)?;
+    }
+    Ok(lengths)
+}
+
 /// Routes the next state, and raises the greatest loads to those that it brings.
 fn route_next(
     alloc: Global,
-    net: &Network,
-    states: &States,
+    problem: &Instance,
     lengths: &Lengths,
-    demands: &[Demand],
     routings: &mut List<Routing>,
     peaks: &mut [u64],
 ) -> Result<(), NoMemory>
-    requires state { length routings.old < length states.now.listed + 1 }
-    requires lengths { length lengths.now ≡ length net.now.links }
-    requires long { (s e : ℕ) → Survives net.now.links states.now.listed s e → 0 < slice_index lengths.now e }
-    requires demands { AreDemands (length net.now.nodes) demands.now }
-    requires survivable { IsSurvivable net.now.links states.now.listed demands.now }
-    requires routed { AreRouted net.now.links states.now.listed lengths.now demands.now (length routings.old) routings.old peaks.old }
-    ensures { OnOk result (AreRouted net.now.links states.now.listed lengths.now demands.now (length routings.old + 1) routings.new peaks.new) }
+    requires state { length routings.old < length problem.now.states.now.listed + 1 }
+    requires lengths { length lengths.now ≡ length problem.now.net.now.links }
+    requires long { let p = case_of problem.now in (s e : ℕ) → Survives (graph_in p s) e → 0 < slice_index lengths.now e }
+    requires survivable { let p = case_of problem.now in IsSurvivable p }
+    requires routed { let p = case_of problem.now in AreRouted p lengths.now (length routings.old) routings.old peaks.old }
+    ensures { let p = case_of problem.now in OnOk result (AreRouted p lengths.now (length routings.old + 1) routings.new peaks.new) }
 {
     let state = StateId(routings.len() as u32);
-    let routing = route_state(alloc, net, states, state, lengths, demands)?;
-    let loads = loads_of(alloc, net.links().len(), routing.flows.items())?;
+    let routing = route_state(alloc, problem, state, lengths)?;
+    let loads = loads_of(alloc, problem.net.links().len(), routing.flows.items())?;
     raise(peaks, &loads);
-    match routings.push(routing) {
-        Ok(()) => Ok(()),
-        Err(_) => Err(NoMemory),
-    }
+    routings.push(routing)?;
+    Ok(())
 }
 
 /// Routes one state after another.
-fn route_states(
-    alloc: Global,
-    net: &Network,
-    states: &States,
-    lengths: &Lengths,
-    demands: &[Demand],
-) -> Result<Routed, NoMemory>
-    requires lengths { length lengths.now ≡ length net.now.links }
-    requires long { (s e : ℕ) → Survives net.now.links states.now.listed s e → 0 < slice_index lengths.now e }
-    requires demands { AreDemands (length net.now.nodes) demands.now }
-    requires survivable { IsSurvivable net.now.links states.now.listed demands.now }
-    ensures { IfOk result (λ r. AreRouted net.now.links states.now.listed lengths.now demands.now (length states.now.listed + 1) r.routings r.peaks) }
+fn route_states(alloc: Global, problem: &Instance, lengths: &Lengths) -> Result<Routed, NoMemory>
+    requires lengths { length lengths.now ≡ length problem.now.net.now.links }
+    requires long { let p = case_of problem.now in (s e : ℕ) → Survives (graph_in p s) e → 0 < slice_index lengths.now e }
+    requires survivable { let p = case_of problem.now in IsSurvivable p }
+    ensures { let p = case_of problem.now in IfOk result (λ r. AreRouted p lengths.now (length p.listed + 1) r.routings r.peaks) }
 {
     let mut routings = List::new(alloc);
-    let mut peaks = List::from_vec(no_loads(alloc, net.links().len())?);
-    for _ in 0..states.count() {
-        route_next(
-            alloc,
-            net,
-            states,
-            lengths,
-            demands,
-            &mut routings,
-            peaks.items_mut(),
-        )?;
+    let mut peaks = List::filled(alloc, 0, problem.net.links().len())?;
+    for _ in 0..problem.states.count() {
+        route_next(alloc, problem, lengths, &mut routings, peaks.items_mut())?;
     }
     Ok(Routed { routings, peaks })
 }
 
-/// The cheapest counts of each link for its greatest load less its pre-installed capacity.
+/// Counts that cover the greatest load of each link less its pre-installed capacity.
 fn cover_links(alloc: Global, links: &[Link], peaks: &[u64]) -> Result<Counts, NoMemory>
     requires size { length peaks.now ≡ length links.now }
     requires each { All (λ l. (l.fixed < 2 ^ 40) × (length l.modules ≤ 16) × All IsModule l.modules) links.now }
@@ -107,16 +111,34 @@ fn cover_links(alloc: Global, links: &[Link], peaks: &[u64]) -> Result<Counts, N
     for e in 0..links.len() {
         let l = &links[e];
         let covering = cover(alloc, l, peaks[e].saturating_sub(l.fixed))?;
-        let Ok(()) = counts.push(covering.counts) else {
-            return Err(NoMemory);
-        };
+        counts.push(covering.counts)?;
     }
     Ok(counts)
 }
 
-/// The plan of one path for each demand in each state, and of cheap modules of one kind on each link.
+/// The fallback plan of an instance.
+fn fallback_of(alloc: Global, problem: &Instance) -> Result<Fallback, NoMemory>
+    requires { let p = case_of problem.now in IsSurvivable p }
+    ensures fallback { let p = case_of problem.now in IfOk result (λ f. IsFallback p f.counts f.routings f.cost) }
+    ensures narrow { IfOk result (λ f. AreNarrow problem.now.net.now.links f.counts) }
+{
+    let prices = price_lengths(alloc, problem.net)?;
+    let lengths = raised(alloc, prices.items())?;
+    let routed = route_states(alloc, problem, &lengths)?;
+    let counts = cover_links(alloc, problem.net.links().items(), routed.peaks.items())?;
+    let cost = cost(problem.net, &counts);
+    Ok(Fallback {
+        counts,
+        routings: routed.routings,
+        cost,
+    })
+}
+
+/// The fallback plan: one path for each demand in each state, and cheap modules of one kind on each link.
 ///
-/// No state separates a demand. The flows of each routing stand in the order of the demands.
+/// No state separates a demand. The flows of each routing are in the order of the demands. On a triangle AB, BC, AC with
+/// modules of 10 for 5, each link failing alone, a demand of 12 from A to C takes AC, and AB, BC where AC fails: each link gets
+/// two modules, and the plan costs 30. It takes a search from each node for each state.
 pub fn fallback_plan(
     alloc: Global,
     net: &Network,
@@ -124,18 +146,14 @@ pub fn fallback_plan(
     demands: &Demands,
 ) -> Result<Fallback, NoMemory>
     requires demands { AreDemands (length net.now.nodes) demands.now }
-    requires survivable { IsSurvivable net.now.links states.now.listed demands.now }
-    ensures fallback { IfOk result (λ f. IsFallback net.now.links states.now.listed demands.now f.counts f.routings f.cost) }
+    requires survivable { IsSurvivable (case net.now states.now demands.now) }
+    ensures fallback { IfOk result (λ f. IsFallback (case net.now states.now demands.now) f.counts f.routings f.cost) }
     ensures narrow { IfOk result (λ f. AreNarrow net.now.links f.counts) }
 {
-    let prices = price_lengths(alloc, net)?;
-    let lengths = raised(alloc, prices.items())?;
-    let routed = route_states(alloc, net, states, &lengths, demands.items())?;
-    let counts = cover_links(alloc, net.links().items(), routed.peaks.items())?;
-    let cost = cost(net, &counts);
-    Ok(Fallback {
-        counts,
-        routings: routed.routings,
-        cost,
-    })
+    let problem = Instance {
+        net,
+        states,
+        demands,
+    };
+    fallback_of(alloc, &problem)
 }

@@ -1,12 +1,11 @@
 //! How many modules each link gets, what they cost, and the plan of one path for each demand in each state.
 #![tactic(auto)]
 
-pub mod covers;
-pub mod fallback;
+mod covers;
+mod fallback;
 mod loads;
-pub mod prices;
 mod routes;
-pub mod totals;
+mod totals;
 
 pub use covers::{Covering, cover};
 pub use fallback::{Fallback, fallback_plan};

@@ -1,5 +1,5 @@
-ghost use Rattle.std.specs.Prelude.{◌≡◌, ℕ, ◌+◌, ◌*◌, ◌^◌, ◌<◌, ◌≤◌, All, IfOk, length, max, replicate, slice_index};
-ghost use Rattle.module_choice.specs.Routes.{times, weight};
+ghost use Rattle.std.specs.Prelude.{◌≡◌, ℕ, ◌+◌, ◌*◌, ◌^◌, ◌<◌, ◌≤◌, All, IfOk, length, max, slice_index};
+ghost use Rattle.module_choice.specs.inner.Routes.{times, weight};
 
 use net_core::{Flow, LinkId, NoMemory};
 use std::alloc::Global;
@@ -29,16 +29,6 @@ fn add_flows(loads: &mut [u64], flows: &[Flow])
     }
 }
 
-/// No load on each link.
-pub(crate) fn no_loads(alloc: Global, links: usize) -> Result<Vec<u64>, NoMemory>
-    ensures { IfOk result (λ v. v.items ≡ replicate links 0) }
-{
-    match vec![in alloc; 0u64; links] {
-        Ok(loads) => Ok(loads),
-        Err(_) => Err(NoMemory),
-    }
-}
-
 /// What the flows bring onto each link, in thousandths.
 pub(crate) fn loads_of(alloc: Global, links: usize, flows: &[Flow]) -> Result<Vec<u64>, NoMemory>
     requires few { length flows.now ≤ 2 ^ 11 }
@@ -46,7 +36,7 @@ pub(crate) fn loads_of(alloc: Global, links: usize, flows: &[Flow]) -> Result<Ve
     requires small { All (λ f. (f.num < 2 ^ 40) × (length f.path < 2 ^ 8)) flows.now }
     ensures { IfOk result (λ v. (length v.items ≡ links) × ((e : ℕ) → e < links → slice_index v.items e ≡ weight flows.now e)) }
 {
-    let mut loads = no_loads(alloc, links)?;
+    let mut loads = vec![in alloc; 0u64; links]?;
     add_flows(&mut loads, flows);
     Ok(loads)
 }

@@ -1,15 +1,12 @@
-ghost use Rattle.std.specs.Prelude.{◌≡◌, ℕ, ◌+◌, ◌<◌, ◌≤◌, ◌^◌, IfOk, IsTrue, Some, length, replicate, slice_get};
+ghost use Rattle.std.specs.Prelude.{◌≡◌, ◌<◌, ◌≤◌, ◌^◌, ◌++◌, [], ◌∷◌, IfOk, OnOk};
 ghost use Rattle.net_core.specs.Demands.{AreDemands};
-ghost use Rattle.net_core.specs.declared.demand.Demand.{Demand};
-ghost use Rattle.plan_terms.specs.Paths.{AreApart, Joins};
-ghost use Rattle.plan_terms.specs.Separations.{IsSurvivable};
 
 use crate::{capacities, cost, cover, fallback_plan};
+use failure_states::first_separated;
 use net_core::{
-    Counts, Demand, Demands, Lengths, Link, LinkId, List, Listed, Module, Name, Network, NoMemory,
-    NodeId, Notes, StateId, States,
+    Counts, Demand, Demands, Link, LinkId, List, Listed, Module, Name, Network, NoMemory, NodeId,
+    Notes, States,
 };
-use short_paths::{LeastPaths, PathFault};
 use std::alloc::Global;
 use std::test::Fail;
 
@@ -43,11 +40,11 @@ const FREE: [Module; 1] = [Module {
     cost: 0,
 }];
 
-fn put<T: Drop>(items: &mut List<T>, item: T) -> Result<(), NoMemory> {
-    match items.push(item) {
-        Ok(()) => Ok(()),
-        Err(_) => Err(NoMemory),
-    }
+fn put<T: Drop>(items: &mut List<T>, item: T) -> Result<(), NoMemory>
+    ensures { OnOk result (items.new ≡ items.old ++ item ∷ []) }
+{
+    items.push(item)?;
+    Ok(())
 }
 
 fn link(
@@ -141,9 +138,7 @@ fn one_demand(alloc: Global, nodes: u32, need: u64) -> Result<Demands, Fail>
     ensures { IfOk result (AreDemands nodes) }
 {
     let mut demands = List::new(alloc);
-    let Ok(()) = demands.push(demand(alloc, b"D1", 0, nodes - 1, need)?) else {
-        return Err(NoMemory)?;
-    };
+    put(&mut demands, demand(alloc, b"D1", 0, nodes - 1, need)?)?;
     Ok(demands)
 }
 
@@ -152,62 +147,10 @@ fn three_demands(alloc: Global) -> Result<Demands, Fail>
     ensures { IfOk result (AreDemands 4) }
 {
     let mut demands = List::new(alloc);
-    let Ok(()) = demands.push(demand(alloc, b"D1", 0, 1, 60000)?) else {
-        return Err(NoMemory)?;
-    };
-    let Ok(()) = demands.push(demand(alloc, b"D2", 0, 3, 80000)?) else {
-        return Err(NoMemory)?;
-    };
-    let Ok(()) = demands.push(demand(alloc, b"D3", 1, 2, 40000)?) else {
-        return Err(NoMemory)?;
-    };
+    put(&mut demands, demand(alloc, b"D1", 0, 1, 60000)?)?;
+    put(&mut demands, demand(alloc, b"D2", 0, 3, 80000)?)?;
+    put(&mut demands, demand(alloc, b"D3", 1, 2, 40000)?)?;
     Ok(demands)
-}
-
-/// The length 1 for each link.
-fn unit_lengths(alloc: Global, links: usize) -> Result<Lengths, NoMemory>
-    ensures { IfOk result (λ l. l ≡ replicate links 1) }
-{
-    let Ok(lengths) = vec![in alloc; 1u32; links] else {
-        return Err(NoMemory);
-    };
-    Ok(List::from_vec(lengths))
-}
-
-/// Whether paths join the ends of each demand.
-fn are_joined(alloc: Global, paths: &LeastPaths, demands: &[Demand]) -> Result<bool, NoMemory>
-    requires { AreDemands (length paths.now.net.now.nodes) demands.now }
-    ensures { IfOk result (λ joined. IsTrue joined → (k : ℕ) (d : Demand) → slice_get demands.now k ≡ Some d → AreApart (Joins paths.now.net.now.links paths.now.states.now.listed paths.now.state.0) d.from.0 d.to.0 → ⊥) }
-{
-    for k in 0..demands.len() {
-        let d = &demands[k];
-        match paths.path(alloc, d.from, d.to) {
-            Ok(_) => {}
-            Err(PathFault::NoMemory) => return Err(NoMemory),
-            Err(PathFault::Apart) => return Ok(false),
-        }
-    }
-    Ok(true)
-}
-
-/// Whether paths join the ends of each demand in each state.
-fn is_survivable(
-    alloc: Global,
-    net: &Network,
-    states: &States,
-    demands: &Demands,
-) -> Result<bool, NoMemory>
-    requires { AreDemands (length net.now.nodes) demands.now }
-    ensures { IfOk result (λ joined. IsTrue joined → IsSurvivable net.now.links states.now.listed demands.now) }
-{
-    let lengths = unit_lengths(alloc, net.links().len())?;
-    for s in 0..states.count() {
-        let paths = LeastPaths::new(alloc, net, states, StateId(s), &lengths)?;
-        if !are_joined(alloc, &paths, demands.items())? {
-            return Ok(false);
-        }
-    }
-    Ok(true)
 }
 
 /// The counts that cover a need by two kinds of module, and their cost.
@@ -258,7 +201,7 @@ fn fallback_of_the_triangle(rt: HostRuntime) -> Result<(), Fail> {
         let states = single_links(alloc, &net)?;
         let demands = one_demand(alloc, 3, 12000)?;
         assert!(rt; net.nodes().len() == 3);
-        assert!(rt; is_survivable(alloc, &net, &states, &demands)?);
+        assert!(rt; first_separated(alloc, &net, &states, &demands)?.is_none());
         let plan = fallback_plan(alloc, &net, &states, &demands)?;
         assert_eq!(rt; flat(alloc, &plan.counts)?.items(), [counts; 3].as_slice());
         assert_eq!(rt; plan.cost, price);
@@ -277,7 +220,7 @@ fn fallback_of_parallel_links(rt: HostRuntime) -> Result<(), Fail> {
     let states = single_links(alloc, &net)?;
     let demands = one_demand(alloc, 2, 10000)?;
     assert!(rt; net.nodes().len() == 2);
-    assert!(rt; is_survivable(alloc, &net, &states, &demands)?);
+    assert!(rt; first_separated(alloc, &net, &states, &demands)?.is_none());
     let plan = fallback_plan(alloc, &net, &states, &demands)?;
     assert_eq!(rt; flat(alloc, &plan.counts)?.items(), [10, 10, 0].as_slice());
     assert_eq!(rt; plan.cost, 20000);
@@ -297,7 +240,7 @@ fn fallback_of_four_nodes(rt: HostRuntime) -> Result<(), Fail> {
         let net = network(alloc, 4, &ends, 0, modules)?;
         let states = single_links(alloc, &net)?;
         assert!(rt; net.nodes().len() == 4);
-        assert!(rt; is_survivable(alloc, &net, &states, &demands)?);
+        assert!(rt; first_separated(alloc, &net, &states, &demands)?.is_none());
         let plan = fallback_plan(alloc, &net, &states, &demands)?;
         assert_eq!(rt; flat(alloc, &plan.counts)?.items(), counts);
         assert_eq!(rt; plan.cost, price);

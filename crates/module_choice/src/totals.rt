@@ -75,9 +75,7 @@ fn all_capacities(
 {
     let mut nums = List::new(alloc);
     for i in 0..links.len() {
-        let Ok(()) = nums.push(link_capacity(&links[i], counts[i].items())) else {
-            return Err(NoMemory);
-        };
+        nums.push(link_capacity(&links[i], counts[i].items()))?;
     }
     Ok(nums)
 }

@@ -1,5 +1,5 @@
 use Rattle.std.proofs.Common.{◌≡◌, ℕ, ◌*◌, ◌^◌, ◌<◌, ◌≤◌, get_or, length, take}
-use Rattle.module_choice.specs.Routes.{weight}
+use Rattle.module_choice.specs.inner.Routes.{weight}
 use Rattle.module_choice.proofs.loads.add_flows.Given as goal
 
 -- the flows so far have been added

@@ -1,5 +1,5 @@
 use Rattle.std.proofs.Common.{◌≡◌, ℕ, ◌+◌, ◌*◌, ◌<◌, get_or, length, take}
-use Rattle.module_choice.specs.Routes.{times}
+use Rattle.module_choice.specs.inner.Routes.{times}
 use Rattle.module_choice.proofs.loads.add_path.Given as goal
 
 -- the links so far have been counted

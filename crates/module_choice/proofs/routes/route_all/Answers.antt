@@ -1,6 +1,7 @@
 use Rattle.std.proofs.Common.{length, refl}
 use Rattle.std.proofs.lemmas.Option.{slice_get_read}
-use Rattle.plan_terms.specs.Paths.{Joins}
+use Rattle.net_core.specs.Graphs.{Joins}
+use Rattle.net_core.specs.Views.{graph_of}
 use Rattle.module_choice.proofs.Routing.{flows_taken}
 use Rattle.module_choice.proofs.routes.route_all.Goals as goal
 
@@ -9,4 +10,4 @@ loop-k-preserved c =
     let p = c.args.paths.now in
     let demands = c.args.demands.now in
     let d = c.index-demands-k.result in
-    flows_taken (Joins p.net.now.links p.states.now.listed p.state.0) p.lengths.now demands c.loop-k.k c.loop-k.flows c.take_demand.new.flows d (slice_get_read demands (length demands) c.loop-k.k d refl c.loop-k-test.true c.index-demands-k.is) c.in_ok-take_demand.ensures c.loop-k.invariant
+    flows_taken (Joins (graph_of p.graph)) p.lengths demands c.loop-k.k c.loop-k.flows c.take_demand.new.flows d (slice_get_read demands (length demands) c.loop-k.k d refl c.loop-k-test.true c.index-demands-k.is) c.in_ok-take_demand.ensures c.loop-k.invariant

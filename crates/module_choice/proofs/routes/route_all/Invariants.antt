@@ -1,7 +1,8 @@
-use Rattle.plan_terms.specs.Paths.{Joins}
-use Rattle.module_choice.specs.Routes.{AreLeastFlows}
+use Rattle.net_core.specs.Graphs.{Joins}
+use Rattle.net_core.specs.Views.{graph_of}
+use Rattle.module_choice.specs.inner.Routes.{AreLeastFlows}
 use Rattle.module_choice.proofs.routes.route_all.Given as goal
 
 -- the demands so far have their flows
 abbrev pub invariant-loop-k : goal.invariant-loop-k
-invariant-loop-k l = AreLeastFlows (Joins l.paths.net.now.links l.paths.states.now.listed l.paths.state.0) l.paths.lengths.now l.demands l.k l.flows
+invariant-loop-k l = AreLeastFlows (Joins (graph_of l.paths.graph)) l.paths.lengths l.demands l.k l.flows

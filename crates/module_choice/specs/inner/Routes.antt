@@ -5,11 +5,12 @@ use Rattle.net_core.specs.declared.ids.LinkId.{LinkId}
 use Rattle.net_core.specs.declared.network.Link.{Link}
 use Rattle.net_core.specs.declared.plan.Flow.{Flow}
 use Rattle.net_core.specs.declared.plan.Routing.{Routing}
-use Rattle.net_core.specs.declared.states.Listed.{Listed}
-use Rattle.plan_terms.specs.Capacities.{AreCheapestCounts, modules_capacity}
+use Rattle.net_core.specs.Cases.{Case, graph_in}
+use Rattle.net_core.specs.Graphs.{Joins}
+use Rattle.plan_terms.specs.Capacities.{modules_capacity}
+use Rattle.plan_terms.specs.Covers.{CoverLoads}
 use Rattle.plan_terms.specs.Fallbacks.{IsLeastFlow, IsLeastRouting, peak}
 use Rattle.plan_terms.specs.LeastPaths.{IsLeastPath}
-use Rattle.plan_terms.specs.Paths.{Joins}
 
 -- how often link e stands on the path
 abbrev pub times : ℕ → List LinkId → ℕ
@@ -34,15 +35,15 @@ pub record AreLeastFlows (joins : ℕ → ℕ → ℕ → Type 0) (lengths : Lis
   pub total : sum_by (λ f. f.num) flows ≡ sum_by (λ d. d.need) (take k demands)
 
 -- the routings of the first n states, and what they bring onto each link at most
-pub record AreRouted (links : List Link) (listed : List Listed) (lengths : List ℕ) (demands : List Demand) (n : ℕ) (routings : List Routing) (peaks : List ℕ) : Type 0 where
+pub record AreRouted (p : Case) (lengths : List ℕ) (n : ℕ) (routings : List Routing) (peaks : List ℕ) : Type 0 where
   pub count : length routings ≡ n
-  pub routed : (s : ℕ) (r : Routing) → slice_get routings s ≡ Some r → IsLeastRouting (Joins links listed s) lengths demands r
-  pub size : length peaks ≡ length links
-  pub greatest : (e : ℕ) → e < length links → slice_index peaks e ≡ peak routings e
+  pub routed : (s : ℕ) (r : Routing) → slice_get routings s ≡ Some r → IsLeastRouting (Joins (graph_in p s)) lengths p.demands r
+  pub size : length peaks ≡ length p.links
+  pub greatest : (e : ℕ) → e < length p.links → slice_index peaks e ≡ peak routings e
   pub small : (e : ℕ) → peak routings e < 2 ^ 44
 
 -- counts that cover each link's load less its pre-installed capacity, one covering after another
 pub record AreCovered (links : List Link) (loads : ℕ → ℕ) (counts : List (List ℕ)) : Type 0 where
-  pub cheapest : AreCheapestCounts links loads counts
+  pub covers : CoverLoads links loads counts
   pub few : All (λ c. All (λ n. n < 2 ^ 44) c) counts
   pub small : (e : ℕ) (l : Link) (c : List ℕ) → slice_get links e ≡ Some l → slice_get counts e ≡ Some c → modules_capacity l.modules c < 2 ^ 45

@@ -1,6 +1,6 @@
 use Rattle.std.proofs.Common.{◌≡◌, take}
 use Rattle.plan_terms.specs.Fallbacks.{raised}
-use Rattle.module_choice.proofs.prices.raised.Given as goal
+use Rattle.module_choice.proofs.fallback.raised.Given as goal
 
 -- the lengths so far
 abbrev pub invariant-loop-n : goal.invariant-loop-n
