@@ -1,4 +1,5 @@
 pub mod Entries
+pub mod Divided
 pub mod Lists
 pub mod Listed
 pub mod Multiples

@@ -2,7 +2,7 @@ ghost use Rattle.std.specs.Prelude.{◌≡◌, ◌*◌, ◌/◌, ◌<◌, ◌≤
 ghost use Rattle.std.specs.Int.{◌∣◌};
 ghost use Rattle.checked_fraction.specs.Rows.{num, IsNarrow};
 ghost use Rattle.simplex_law.specs.Sums.{dot};
-ghost use Rattle.simplex_core.specs.inner.Products.{den_at, IsRectangle};
+ghost use Rattle.simplex_core.specs.inner.Products.{den_at, AreBoundedRows};
 ghost use Rattle.simplex_core.specs.inner.Values.{sizes_of};
 ghost use Rattle.simplex_core.specs.inner.Commons.{IsCommonMultiple, IsCommonDenominator, value_at, HaveValues};
 
@@ -104,10 +104,7 @@ pub(crate) fn values_over(
     bounds: &[i64],
     den: u64,
 ) -> Result<List<u128>, ValueFault>
-    requires rectangle { IsRectangle (length rows.now) rows.now }
-    requires short { length rows.now < 2 ^ 32 }
-    requires count { length bounds.now ≡ length rows.now }
-    requires bounds { (k : ℕ) → IsNarrow (num bounds.now k) }
+    requires rows { AreBoundedRows rows.now bounds.now }
     requires fits { (j : ℕ) → j < length rows.now → value_at rows.now (num bounds.now) den j < 2 ^ 124 }
     ensures { HaveValues rows.now (num bounds.now) den result }
 {

@@ -4,6 +4,7 @@ ghost use Rattle.checked_fraction.specs.Rows.{num, IsNarrow};
 ghost use Rattle.simplex_law.specs.Sums.{dot};
 ghost use Rattle.simplex_law.specs.Programs.{ColumnOf, IsProgramColumn, IsPacking};
 ghost use Rattle.simplex_core.specs.Columns.{IsEntry, column_from};
+ghost use Rattle.simplex_core.specs.inner.Factors.{IsNarrowOver, HavePivot};
 ghost use Rattle.simplex_core.specs.inner.Products.{nums_at};
 ghost use Rattle.simplex_core.specs.Programs.{IsSameProgram, IsSimplexAnswer};
 ghost use Rattle.simplex_core.specs.inner.Shapes.{IsShaped};
@@ -13,10 +14,11 @@ ghost use Rattle.simplex_core.specs.inner.Turns.{reduced_cost, Chooses, Enters, 
 
 use crate::basis::{Basis, slack_basis};
 use crate::columns::{Column, Columns, Entry, Price};
+use crate::factors::wide_product;
 use crate::optimum::{Optimum, ValueFault, common_denominator, values_over};
 use crate::pivot::{turn_list, turn_objective};
-use crate::product::{objective_product, write_list};
-use crate::ratio::leaving_of;
+use crate::product::{reduced_cost_of, write_list};
+use crate::ratio_test::leaving_of;
 use crate::value::row_value;
 use checked_fraction::Row;
 use net_core::{List, WideKind};
@@ -77,12 +79,10 @@ fn is_low(duals: &Row, bounds: &List<i64>) -> bool
 }
 
 /// Makes the rows those of the basis in which the column, whose products are at hand, stands at `r`. A kind says what is too wide.
-fn replace<N: Drop>(basis: &mut Basis<N>, name: N, cost: &i64, r: usize) -> Turn<N>
+fn replace<N: Drop>(basis: &mut Basis<N>, name: N, cost: &i128, r: usize) -> Turn<N>
     requires shaped { IsShaped (length basis.old.rows) basis.old }
-    requires inside { r < length basis.old.rows }
-    requires cost { IsNarrow cost.now }
-    requires products { (i : ℕ) → i < length basis.old.rows → IsNarrow (num basis.old.products i) }
-    requires positive { pos 0 <ℤ num basis.old.products r }
+    requires pivot { HavePivot basis.old.products (length basis.old.rows) r }
+    requires over { IsNarrowOver (num basis.old.products r) cost.now }
     ensures { (c : ColumnOf N) → Chooses (length basis.old.rows) basis.old c name cost.now r → Enters (length basis.old.rows) basis.old c result basis.new }
 {
     let count = basis.rows.len() as u32;
@@ -100,6 +100,19 @@ fn replace<N: Drop>(basis: &mut Basis<N>, name: N, cost: &i64, r: usize) -> Turn
     }
 }
 
+/// The column, whose products are at hand, enters at row `r`, unless a product stays wide when it is divided.
+fn pivot_at<N: Drop>(basis: &mut Basis<N>, name: N, cost: &i128, r: usize) -> Turn<N>
+    requires shaped { IsShaped (length basis.old.rows) basis.old }
+    requires inside { r < length basis.old.rows }
+    requires positive { pos 0 <ℤ num basis.old.products r }
+    ensures { (c : ColumnOf N) → Chooses (length basis.old.rows) basis.old c name cost.now r → Enters (length basis.old.rows) basis.old c result basis.new }
+{
+    match wide_product(basis.products.items(), cost, r) {
+        Some(i) => Turn::Wide(WideKind::Product(i, name)),
+        None => replace(basis, name, cost, r),
+    }
+}
+
 /// A column that gains enters the basis.
 fn enter<N: Drop>(basis: &mut Basis<N>, name: N, gain: &i64, entries: &[Entry]) -> Turn<N>
     requires shaped { IsShaped (length basis.old.rows) basis.old }
@@ -110,7 +123,7 @@ fn enter<N: Drop>(basis: &mut Basis<N>, name: N, gain: &i64, entries: &[Entry]) 
     ensures { Enters (length basis.old.rows) basis.old (column_from name gain.now entries.now) result basis.new }
 {
     let count = basis.rows.len() as u32;
-    let Some(cost) = objective_product(&basis.duals, gain, entries) else {
+    let Some(cost) = reduced_cost_of(&basis.duals, gain, entries) else {
         return Turn::Wide(WideKind::Product(count, name));
     };
     if let Some(i) = write_list(&mut basis.products, &basis.rows, entries) {
@@ -119,7 +132,7 @@ fn enter<N: Drop>(basis: &mut Basis<N>, name: N, gain: &i64, entries: &[Entry]) 
     match leaving_of(&basis.rows, &basis.bounds, &basis.products) {
         Err(i) => Turn::Wide(WideKind::Sum(i)),
         Ok(None) => Turn::Unbounded,
-        Ok(Some(r)) => replace(basis, name, &cost, r),
+        Ok(Some(r)) => pivot_at(basis, name, &cost, r),
     }
 }
 
