@@ -4,6 +4,7 @@
 mod basis;
 pub mod columns;
 mod factors;
+mod fraction;
 pub mod optimum;
 mod pivot;
 pub mod product;

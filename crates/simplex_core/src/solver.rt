@@ -15,13 +15,13 @@ ghost use Rattle.simplex_core.specs.inner.Turns.{reduced_cost, Chooses, Enters, 
 use crate::basis::{Basis, slack_basis};
 use crate::columns::{Column, Columns, Entry, Price};
 use crate::factors::wide_product;
-use crate::optimum::{Optimum, ValueFault, common_denominator, values_over};
+use crate::optimum::{Optimum, common_denominator, values_over};
 use crate::pivot::{turn_list, turn_objective};
 use crate::product::{reduced_cost_of, write_list};
 use crate::ratio_test::leaving_of;
-use crate::value::row_value;
+use crate::value::{ValueFault, fractions_of, row_value};
 use checked_fraction::Row;
-use net_core::{List, WideKind};
+use net_core::{List, NoMemory, WideKind};
 use std::alloc::Global;
 
 /// Why there is no optimum.
@@ -29,8 +29,19 @@ use std::alloc::Global;
 pub enum SimplexFault<N> {
     /// A number of this basis is too wide.
     Wide { basis: List<N>, kind: WideKind<N> },
-    /// No memory was found.
+    /// The call ran out of memory.
     NoMemory,
+}
+
+impl<N> From<NoMemory> for SimplexFault<N> {
+    ghost use Rattle.std.specs.Prelude.{◌≡◌};
+    ghost use Rattle.simplex_core.specs.declared.solver.SimplexFault.{SimplexFault};
+
+    ghost from_gives = { λ _ fault. fault ≡ SimplexFault.NoMemory };
+
+    fn from(_error: NoMemory) -> SimplexFault<N> {
+        SimplexFault::NoMemory
+    }
 }
 
 /// What a turn leaves.
@@ -44,7 +55,7 @@ enum Turn<N> {
     Unbounded,
     /// A basis with a number that is too wide.
     Wide(WideKind<N>),
-    /// No memory was found.
+    /// The call ran out of memory.
     NoMemory,
 }
 
@@ -166,28 +177,39 @@ fn finish<N: Drop>(alloc: Global, basis: Basis<N>) -> Result<Optimum<N>, Simplex
     requires low { HasLowValues basis }
     ensures { IsBasisOutcome basis result }
 {
-    let Some(den) = common_denominator(basis.rows.items(), &basis.duals) else {
+    let fractions = match fractions_of(alloc, basis.rows.items(), basis.bounds.items()) {
+        Ok(fractions) => fractions,
+        Err(ValueFault::Sum(i)) => {
+            return Err(SimplexFault::Wide {
+                basis: basis.names,
+                kind: WideKind::Sum(i),
+            });
+        }
+        Err(ValueFault::NoMemory) => return Err(SimplexFault::NoMemory),
+    };
+    let Some(den) = common_denominator(fractions.items()) else {
         return Err(SimplexFault::Wide {
             basis: basis.names,
             kind: WideKind::Common,
         });
     };
-    match values_over(alloc, basis.rows.items(), basis.bounds.items(), den) {
-        Ok(values) => Ok(Optimum {
-            basis: basis.names,
-            den,
-            values,
-            duals: basis.duals,
-        }),
-        Err(ValueFault::Sum(i)) => Err(SimplexFault::Wide {
-            basis: basis.names,
-            kind: WideKind::Sum(i),
-        }),
-        Err(ValueFault::NoMemory) => Err(SimplexFault::NoMemory),
-    }
+    let values = values_over(alloc, fractions.items(), den)?;
+    Ok(Optimum {
+        basis: basis.names,
+        den,
+        values,
+        duals: basis.duals,
+    })
 }
 
 /// An optimum of the program, or a basis, reached by gaining steps, on which a number is too wide.
+///
+/// Each turn takes time that grows with the square of the count of rows, and so does the memory; how many
+/// turns there are depends on the columns that `price` names.
+///
+/// With two rows of bounds 4 and 4, a column a of gain 1 and entries 2 and 1, and a column b of gain 1 and
+/// entries 1 and 2, first a enters and then b. The basis is a, b with the values 4 and 4 over the
+/// denominator 3, and the prices 1/3 and 1/3: both sides are worth 8/3.
 pub fn solve<C: Columns>(
     alloc: Global,
     cols: &mut C,
@@ -196,9 +218,7 @@ pub fn solve<C: Columns>(
     ensures same { IsSameProgram (C.rows cols.old) (C.rows cols.new) (C.bound cols.old) (C.bound cols.new) (C.slack cols.old) (C.slack cols.new) (C.is_listed cols.old) (C.is_listed cols.new) }
     ensures answer { IsSimplexAnswer (C.rows cols.old) (C.bound cols.old) (C.slack cols.old) (C.is_listed cols.old) result }
 {
-    let Ok(mut basis) = slack_basis(alloc, cols) else {
-        return Err(SimplexFault::NoMemory);
-    };
+    let mut basis = slack_basis(alloc, cols)?;
     loop {
         match take_turn(cols, &mut basis) {
             Turn::Again => {}
