@@ -193,7 +193,12 @@ fn combine_by(row: &mut Row, pivot: &[i64], mix: &Mix) -> Result<(), WideNumber>
 }
 
 /// Makes `row` the row `(nums * q - p * pivot.nums) / (den * q)` in lowest terms, or leaves it as it is
-/// and names the first number of that row that is 2^62 or more in absolute value. Takes no memory.
+/// and names the first number of that row that is 2^62 or more in absolute value. It takes no memory,
+/// and a number of steps that grows with the row.
+///
+/// The row (1, 2) / 3 with p = 2 and the pivot row (4, 1) / 1 with q = 6 becomes
+/// (1·6 - 2·4, 2·6 - 2·1) / 18 = (-2, 10) / 18,
+/// which is (-1, 5) / 9 in lowest terms.
 pub fn combine(row: &mut Row, p: i64, pivot: &Row, q: i64) -> Result<(), WideNumber>
     requires equal { length row.old.nums ≡ length pivot.now.nums }
     requires p { IsNarrow p }

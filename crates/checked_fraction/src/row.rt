@@ -21,15 +21,13 @@ fn unit_nums(alloc: Global, n: u32, at: u32) -> Result<List<i64>, NoMemory>
     requires { at < n }
     ensures { IfOk result (λ nums. nums ≡ slice_set (replicate n (pos 0)) at (pos 1)) }
 {
-    let Ok(mut nums) = vec![in alloc; 0; n as usize] else {
-        return Err(NoMemory);
-    };
+    let mut nums = vec![in alloc; 0; n as usize]?;
     nums[at as usize] = 1;
     Ok(List::from_vec(nums))
 }
 
 impl Row {
-    /// The row of `n` numbers over 1 that are 0, but for a 1 at `at`. Only want of memory refuses it.
+    /// The row of `n` numbers over 1 that are 0, but for a 1 at `at`. It fails only where memory runs out.
     pub fn unit(alloc: Global, n: u32, at: u32) -> Result<Row, NoMemory>
         requires { at < n }
         ensures { IfOk result (λ row. (row.nums ≡ slice_set (replicate n (pos 0)) at (pos 1)) × (row.den ≡ pos 1)) }

@@ -1,10 +1,9 @@
 -- the end: values over one denominator, and programs that stay the same
-use Rattle.std.proofs.Common.{◌≡◌, ℕ, ◌<◌, ◌*◌, ◌/◌, ◌^◌, length, get_or, refl, sym, ap, subst, ◌∙◌, arith, inl, inr, ⊎_elim, unsigned_abs, Result, Ok, Err}
+use Rattle.std.proofs.Common.{◌≡◌, ℕ, ◌<◌, ◌*◌, ◌/◌, ◌^◌, List, length, get_or, refl, sym, ap, subst, ◌∙◌, arith, inl, inr, ⊎_elim, unsigned_abs, Result, Ok, Err}
 use Rattle.std.proofs.Math.IntN.{ℤ, pos, negsuc, ◌*ℤ◌, ◌-ℤ◌}
 use Rattle.std.specs.Int.{◌∣◌}
 use Rattle.std.specs.Int.Signed.{◌<ℤ◌, ◌≤ℤ◌}
 use Rattle.std.proofs.lemmas.Int.{ints}
-use Rattle.std.proofs.Math.Nat.{mul-div_cancel'}
 use Rattle.std.proofs.lemmas.Option.{get_or_from_slice_get}
 use Rattle.checked_fraction.specs.Rows.{num, IsInLowestTerms}
 use Rattle.simplex_law.specs.Sums.{dot}
@@ -15,7 +14,7 @@ use Rattle.simplex_law.proofs.Limited.{limited}
 use Rattle.simplex_law.proofs.Optimal.{optimum, greatest, none_gains}
 use Rattle.simplex_law.proofs.Reached.{value_nonneg}
 use Rattle.simplex_law.proofs.Values.{value_low}
-use Rattle.simplex_core.specs.inner.Commons.{DivideAll, value_at}
+use Rattle.simplex_core.specs.inner.Commons.{IsFractionOf, AreFractionsOf, num_of_fraction, den_of_fraction, fraction_den, DivideAll, value_at}
 use Rattle.simplex_core.specs.Prices.{GainsAt}
 use Rattle.simplex_core.specs.inner.Products.{nums_at, den_at}
 use Rattle.simplex_law.specs.Bases.{AreNames}
@@ -29,56 +28,52 @@ use Rattle.simplex_core.specs.declared.solver.SimplexFault.{SimplexFault}
 use Rattle.simplex_core.specs.declared.solver.SimplexFault.TheVariants.{Wide, NoMemory}
 use Rattle.simplex_core.specs.declared.solver.Turn.{Turn}
 use Rattle.simplex_core.specs.declared.solver.Turn.TheVariants.{Again, Best, Unbounded, Wide as WideTurn, NoMemory as NoMemoryTurn}
+use Rattle.simplex_core.specs.declared.fraction.Fraction.{Fraction}
 use Rattle.simplex_core.proofs.Evidences.{end_evidence}
+use Rattle.simplex_core.proofs.Multiples.{numerator_times}
 use Rattle.simplex_core.proofs.Starts.{each_at}
 
--- what a row is multiplied by to stand over den
-weight : ℕ → ℤ → ℤ
-weight den d = pos (den / unsigned_abs d)
-
-weight_is : (den : ℕ) (d : ℤ) → pos 0 <ℤ d → unsigned_abs d ∣ den → weight den d *ℤ d ≡ pos den
-unfolding weight
-weight_is den d positive divides = whole (den / unsigned_abs d) den d positive (mul-div_cancel' (unsigned_abs d) divides)
+-- a fraction of a row over a common denominator
+over_den : (f : Fraction) (x d : ℤ) (den : ℕ) → IsFractionOf x d f → f.den ∣ den → pos 0 ≤ℤ x → pos 0 <ℤ d → pos (f.num * (den / f.den)) *ℤ d ≡ pos den *ℤ x
+over_den f x d den is divides high positive =
+    whole (f.num * (den / f.den)) den d x positive high (numerator_times f.num f.den den (unsigned_abs d) (unsigned_abs x) is.same divides)
   where
-    whole : (w n : ℕ) (d : ℤ) → pos 0 <ℤ d → unsigned_abs d * w ≡ n → pos w *ℤ d ≡ pos n
-    whole w n (pos d) h e = omega (arith, ints, e)
-    whole w n (negsuc d) h e = absurd (omega (arith, ints, h))
-
--- the size of a value that isn't negative
-sized : (x : ℤ) (w : ℕ) → pos 0 ≤ℤ x → pos (unsigned_abs x * w) ≡ pos w *ℤ x
-sized (pos x) w h = omega (arith, ints)
-sized (negsuc x) w h = absurd (omega (arith, ints, h))
+    whole : (v n : ℕ) (d x : ℤ) → pos 0 <ℤ d → pos 0 ≤ℤ x → v * unsigned_abs d ≡ n * unsigned_abs x → pos v *ℤ d ≡ pos n *ℤ x
+    whole v n (pos d) (pos x) pd px e = omega (arith, ints, e)
+    whole v n (pos d) (negsuc x) pd px e = absurd (omega (arith, ints, px))
+    whole v n (negsuc d) x pd px e = absurd (omega (arith, ints, pd))
 
 module _ {N : Type 0} (m : ℕ) (bound : ℕ → ℤ) (slack : ℕ → N) (is_listed : ColumnOf N → Type 0) where
-  over_den : (b : Basis N) (den : ℕ) → IsAt m bound slack is_listed b → DivideAll b.rows b.duals (length b.rows) den → (j : ℕ) → j < m → weight den (den_at b.rows j) *ℤ den_at b.rows j ≡ pos den
-  over_den b den a all j l = weight_is den (den_at b.rows j) (a.state.over j l) (all.each j (omega (arith, a.shaped.rows, l)))
-
-  value_of : (b : Basis N) (den j : ℕ) → IsAt m bound slack is_listed b → j < m → pos (value_at b.rows (num b.bounds) den j) ≡ weight den (den_at b.rows j) *ℤ dot m (nums_at b.rows j) bound
-  unfolding weight
-  value_of b den j a l =
+  value_is : (b : Basis N) (fractions : List Fraction) (den j : ℕ) → IsAt m bound slack is_listed b → AreFractionsOf b.rows (num b.bounds) fractions → DivideAll (fraction_den fractions) (length fractions) den → j < m
+      → pos (value_at fractions den j) *ℤ den_at b.rows j ≡ pos den *ℤ dot m (nums_at b.rows j) bound
+  value_is b fractions den j a are all l =
+      let lj : j < length fractions = omega (arith, are.count, a.shaped.rows, l) in
+      let f = each_at (λ j f. IsFractionOf (dot (length b.rows) (nums_at b.rows j) (num b.bounds)) (den_at b.rows j) f) fractions j lj are.each in
       let is : dot (length b.rows) (nums_at b.rows j) (num b.bounds) ≡ dot m (nums_at b.rows j) bound =
       ap (λ n. dot n (nums_at b.rows j) (num b.bounds)) a.shaped.rows ∙ dot-same m (nums_at b.rows j) (nums_at b.rows j) (num b.bounds) bound (λ k l. refl) a.bounds in
-      ap (λ x. pos (unsigned_abs x * (den / unsigned_abs (den_at b.rows j)))) is
-      ∙ sized (dot m (nums_at b.rows j) bound) (den / unsigned_abs (den_at b.rows j)) (value_nonneg m bound a.basis (nums_at b.rows) (den_at b.rows) (num b.duals.nums) b.duals.den j a.state l)
+      subst (λ o. pos (num_of_fraction o * (den / den_of_fraction o)) *ℤ den_at b.rows j ≡ pos den *ℤ dot m (nums_at b.rows j) bound) (sym f.1)
+      (over_den f.0 (dot m (nums_at b.rows j) bound) (den_at b.rows j) den
+      (subst (λ x. IsFractionOf x (den_at b.rows j) f.0) is f.2)
+      (subst (λ o. den_of_fraction o ∣ den) f.1 (all j lj))
+      (value_nonneg m bound a.basis (nums_at b.rows) (den_at b.rows) (num b.duals.nums) b.duals.den j a.state l)
+      (a.state.over j l))
 
   pub low_values : (b : Basis N) → IsPacking m bound (IsProgramColumn m slack is_listed) → IsAt m bound slack is_listed b → HasLowValues b
-  low_values b packing a den some narrow all j l =
-      let lj : j < m = omega (arith, a.shaped.rows, l) in
-      subst (λ x. x < 2 ^ 124) (ap unsigned_abs (sym (value_of b den j a lj)))
-      (value_low m bound (IsProgramColumn m slack is_listed) a.basis (nums_at b.rows) (den_at b.rows) (num b.duals.nums) b.duals.den (λ j. weight den (den_at b.rows j)) (pos den) j
-      packing a.reached.here.columns a.state (omega (arith, ints, some)) narrow (over_den b den a all) lj)
+  low_values b packing a fractions den are some narrow all j l =
+      value_low m bound (IsProgramColumn m slack is_listed) a.basis (nums_at b.rows) (den_at b.rows) (num b.duals.nums) b.duals.den (λ j. pos (value_at fractions den j)) (pos den) j
+      packing a.reached.here.columns a.state (omega (arith, ints, some)) narrow (λ j l. value_is b fractions den j a are all l) (omega (arith, are.count, a.shaped.rows, l))
 
   pub solves : (b : Basis N) (best : Optimum N) → IsPacking m bound (IsProgramColumn m slack is_listed) → IsAt m bound slack is_listed b → IsDone m is_listed b → IsValued b best → Solves m bound slack is_listed best
   solves b best packing a done v =
       let den = best.den in
-      let is : (j : ℕ) → j < m → get_or best.values j 0 ≡ value_at b.rows (num b.bounds) den j = λ j l.
-      let x = each_at (λ j v. v ≡ value_at b.rows (num b.bounds) den j) best.values j (omega (arith, v.count, a.shaped.rows, l)) v.values in
+      let is : (j : ℕ) → j < m → get_or best.values j 0 ≡ value_at v.fractions den j = λ j l.
+      let x = each_at (λ j x. x ≡ value_at v.fractions den j) best.values j (omega (arith, v.count, v.are.count, a.shaped.rows, l)) v.values in
       get_or_from_slice_get best.values j x.0 0 x.1 ∙ x.2 in
       let optimal : IsOptimum m bound (IsProgramColumn m slack is_listed) a.basis (λ j. pos (get_or best.values j 0)) (pos den) (num b.duals.nums) b.duals.den =
-      optimum m bound (IsProgramColumn m slack is_listed) a.basis (nums_at b.rows) (den_at b.rows) (num b.duals.nums) b.duals.den (λ j. weight den (den_at b.rows j)) (λ j. pos (get_or best.values j 0)) (pos den)
+      optimum m bound (IsProgramColumn m slack is_listed) a.basis (nums_at b.rows) (den_at b.rows) (num b.duals.nums) b.duals.den (λ j. pos (get_or best.values j 0)) (pos den)
       a.reached.here.columns a.state (subst (λ w. IsInLowestTerms w (num b.duals.nums) b.duals.den) a.shaped.duals b.duals.lowest)
       (none_gains m bound slack is_listed (num b.duals.nums) b.duals.den done.positive done.none)
-      (omega (arith, ints, v.den.some)) (over_den b den a v.den.all) (λ j l. ap pos (is j l) ∙ value_of b den j a l) in
+      (omega (arith, ints, v.den.some)) (λ j l. ap (λ x. pos x *ℤ den_at b.rows j) (is j l) ∙ value_is b v.fractions den j a v.are v.den.all l) in
       record {
         basis = a.basis;
         names = subst (λ names. AreNames m a.basis names) (sym v.names) a.names;
@@ -86,8 +81,8 @@ module _ {N : Type 0} (m : ℕ) (bound : ℕ → ℤ) (slack : ℕ → N) (is_li
         optimum = subst (λ duals. IsOptimum m bound (IsProgramColumn m slack is_listed) a.basis (λ j. pos (get_or best.values j 0)) (pos den) (num duals.nums) duals.den) (sym v.duals) optimal;
         greatest = greatest m bound slack is_listed a.basis (λ j. pos (get_or best.values j 0)) (num b.duals.nums) (pos den) b.duals.den optimal;
         narrow = v.den.narrow;
-        low = λ j l. subst (λ x. x < 2 ^ 124) (sym (is j l)) (low_values b packing a den v.den.some v.den.narrow v.den.all j (omega (arith, a.shaped.rows, l)));
-        count = v.count ∙ a.shaped.rows;
+        low = λ j l. subst (λ x. x < 2 ^ 124) (sym (is j l)) (low_values b packing a v.fractions den v.are v.den.some v.den.narrow v.den.all j (omega (arith, v.are.count, a.shaped.rows, l)));
+        count = v.count ∙ (v.are.count ∙ a.shaped.rows);
         prices = ap (λ d. length d.nums) v.duals ∙ a.shaped.duals;
         positive = λ k l. subst (λ duals. pos 0 ≤ℤ num duals.nums k) (sym v.duals) (done.positive k l);
       }

@@ -4,7 +4,11 @@ use Rattle.std.proofs.Math.IntN.{ℤ}
 use Rattle.checked_fraction.specs.Rows.{num, IsInLowestTerms}
 use Rattle.net_core.specs.declared.columns.WideKind.{WideKind}
 use Rattle.net_core.specs.declared.columns.WideKind.TheVariants.{Number, Row as RowOf, Product, Sum, Common, Value, Length}
-use Rattle.simplex_law.specs.Sums.{put}
+use Rattle.std.specs.Int.{◌∣◌}
+use Rattle.std.proofs.lemmas.Nat.Gcd.{dvd_trans}
+use Rattle.simplex_law.specs.Sums.{dot, put}
+use Rattle.simplex_core.specs.inner.Commons.{IsFractionOf, den_of_fraction}
+use Rattle.simplex_core.proofs.Starts.{each_at}
 use Rattle.simplex_law.specs.Programs.{ColumnOf, IsProgramColumn, slack_basis}
 use Rattle.simplex_law.specs.Bases.{AreNames, IsReached}
 use Rattle.simplex_law.specs.Evidence.{HoldsRow, HoldsProduct, HoldsSum, HoldsKind, IsReachedEvidence}
@@ -97,8 +101,10 @@ module _ {N : Type 0} (m : ℕ) (bound : ℕ → ℤ) (slack : ℕ → N) (is_li
     evidence = record {
       named = subst (λ n. AreNames m a.basis n) (sym is) a.names;
       feasible = (a.reached).here;
-      holds = wide_common m bound (IsProgramColumn m slack is_listed) a.basis (nums_at b.rows) (den_at b.rows) (num b.duals.nums) b.duals.den w.0 a.state (lowest b a) (lowest_duals b a.shaped.duals)
-          (λ multiple each last. w.2 multiple (record { each = λ i l. each i (omega (arith, a.shaped.rows, l)); last = last })) w.1;
+      holds = wide_common m bound (IsProgramColumn m slack is_listed) a.basis (nums_at b.rows) (den_at b.rows) (num b.duals.nums) b.duals.den w.2.0 a.state (lowest b a) (lowest_duals b a.shaped.duals)
+          (λ multiple each last. w.2.2 multiple (λ i l.
+          let f = each_at (λ j f. IsFractionOf (dot (length b.rows) (nums_at b.rows j) (num b.bounds)) (den_at b.rows j) f) w.0 i l w.1.each in
+          subst (λ o. den_of_fraction o ∣ multiple) (sym f.1) (dvd_trans f.0.den f.2.divides (each i (omega (arith, w.1.count, a.shaped.rows, l)))))) w.2.1;
     };
     reached = a.reached;
   }

@@ -1,4 +1,6 @@
 pub mod Entries
+pub mod Divided
+pub mod Fractions
 pub mod Lists
 pub mod Listed
 pub mod Multiples

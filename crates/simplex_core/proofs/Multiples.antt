@@ -1,12 +1,10 @@
 -- least common multiples
-use Rattle.std.proofs.Common.{◌≡◌, ℕ, zero, suc, ◌+◌, ◌-◌, ◌*◌, ◌/◌, ◌%◌, ◌<◌, ◌^◌, List, length, sym, ap, subst, ◌∙◌, arith, ⊎_elim, unsigned_abs}
+use Rattle.std.proofs.Common.{◌≡◌, ℕ, zero, suc, ◌+◌, ◌-◌, ◌*◌, ◌/◌, ◌%◌, ◌<◌, ◌^◌, sym, ap, subst, ◌∙◌, arith, ⊎_elim}
 use Rattle.std.specs.Int.{◌∣◌, IsGcd}
 use Rattle.std.proofs.lemmas.Bool.{cases_lt}
 use Rattle.std.proofs.lemmas.Nat.{div-add-mod'}
 use Rattle.std.proofs.lemmas.Nat.Gcd.{dvd_refl, dvd-zero, dvd_trans}
-use Rattle.std.proofs.Math.Nat.{dvd-add, dvd-sub, dvd-mul_right, dvd-mul_left_of_dvd, dvd_of_mul-dvd-mul_left, mul-dvd-mul_left, mul-dvd-mul_right, mul-div_cancel'}
-use Rattle.checked_fraction.specs.declared.row.Row.{Row}
-use Rattle.simplex_core.specs.inner.Products.{den_at}
+use Rattle.std.proofs.Math.Nat.{one-dvd, dvd-mul_left, dvd-add, dvd-sub, dvd-mul_right, dvd-mul_left_of_dvd, dvd_of_mul-dvd-mul_left, mul-dvd-mul_left, mul-dvd-mul_right, mul-div_cancel'}
 use Rattle.simplex_core.specs.inner.Commons.{IsLeastMultiple, IsDenominator, HaveNoMultiple, HaveNoDenominator}
 
 divides_back : (g a b : ℕ) → g ∣ b → g ∣ a % b → g ∣ a
@@ -34,7 +32,7 @@ pub divisor_some : (g n : ℕ) → 0 < n → g ∣ n → 0 < g
 divisor_some zero n p h = let e : n ≡ 0 = sym (mul-div_cancel' 0 h) ∙ omega arith in absurd (omega arith)
 divisor_some (suc g) n p h = omega arith
 
-quotient_some : (g a : ℕ) → 0 < a → g ∣ a → 0 < a / g
+pub quotient_some : (g a : ℕ) → 0 < a → g ∣ a → 0 < a / g
 quotient_some g a p h = some (a / g) (mul-div_cancel' g h)
   where
     some : (x : ℕ) → g * x ≡ a → 0 < x
@@ -72,44 +70,52 @@ multiple_least a b g c pa gcd ac bc =
     grouped : (g x y : ℕ) → (g * x) * y ≡ g * (x * y)
     grouped g x y = omega arith
 
-module _ (rows : List Row) (duals : Row) where
-  -- one row more
-  pub denominator_next : (n all next : ℕ) → IsDenominator rows duals n all → IsLeastMultiple all (unsigned_abs (den_at rows n)) next → IsDenominator rows duals (n + 1) next
+module _ (dens : ℕ → ℕ) where
+  -- one more
+  pub denominator_next : (n all next : ℕ) → IsDenominator dens n all → IsLeastMultiple all (dens n) next → IsDenominator dens (n + 1) next
   denominator_next n all next d m = record {
     some = m.some;
     narrow = m.narrow;
-    all = record {
-      each = λ i l. ⊎_elim
-          (λ less. dvd_trans (unsigned_abs (den_at rows i)) (d.all.each i less) m.first)
-          (λ ge. let e : n ≡ i = omega arith in subst (λ k. unsigned_abs (den_at rows k) ∣ next) e m.second)
-          (cases_lt i n);
-      last = dvd_trans (unsigned_abs duals.den) d.all.last m.first;
-    };
-    least = λ c all. m.least c (d.least c (record {
-      each = λ i l. all.each i (omega arith);
-      last = all.last;
-    })) (all.each n (omega arith));
+    all = λ i l. ⊎_elim
+        (λ less. dvd_trans (dens i) (d.all i less) m.first)
+        (λ ge. let e : n ≡ i = omega arith in subst (λ k. dens k ∣ next) e m.second)
+        (cases_lt i n);
+    least = λ c all. m.least c (d.least c (λ i l. all i (omega arith))) (all n (omega arith));
   }
 
-  pub denominator_none : (n all : ℕ) → n < length rows → IsDenominator rows duals n all → HaveNoMultiple all (unsigned_abs (den_at rows n)) → HaveNoDenominator rows duals
-  denominator_none n all lt d none = (
+  pub denominator_none : (n total all : ℕ) → n < total → IsDenominator dens n all → HaveNoMultiple all (dens n) → HaveNoDenominator dens total
+  denominator_none n total all lt d none = (
     none.0,
     none.1,
-    λ c every. none.2 c
-        (d.least c (record {
-          each = λ i l. every.each i (omega (arith, l, lt));
-          last = every.last;
-        }))
-        (every.each n lt),
+    λ c every. none.2 c (d.least c (λ i l. every i (omega (arith, l, lt)))) (every n lt),
   )
 
-  pub denominator_first : 0 < unsigned_abs duals.den → unsigned_abs duals.den < 2 ^ 62 → IsDenominator rows duals 0 (unsigned_abs duals.den)
-  denominator_first some narrow = record {
-    some = some;
-    narrow = narrow;
-    all = record {
-      each = λ i l. absurd (omega arith);
-      last = dvd_refl (unsigned_abs duals.den);
-    };
-    least = λ c all. all.last;
+  pub denominator_first : IsDenominator dens 0 1
+  denominator_first = record {
+    some = omega arith;
+    narrow = omega arith;
+    all = λ i l. absurd (omega arith);
+    least = λ c all. one-dvd c;
   }
+
+-- a fraction over a multiple of its denominator
+pub numerator_times : (num den whole size value : ℕ) → num * size ≡ value * den → den ∣ whole → (num * (whole / den)) * size ≡ whole * value
+numerator_times num den whole size value same divides =
+    first num (whole / den) size ∙ (ap (λ t. (whole / den) * t) same ∙ (second (whole / den) value den ∙ ap (λ t. t * value) (mul-div_cancel' den divides)))
+  where
+    first : (n w s : ℕ) → (n * w) * s ≡ w * (n * s)
+    first n w s = omega arith
+
+    second : (w v d : ℕ) → w * (v * d) ≡ (d * w) * v
+    second w v d = omega arith
+
+-- a fraction without its common divisor
+pub fraction_same : (value den g : ℕ) → g ∣ value → g ∣ den → (value / g) * den ≡ value * (den / g)
+fraction_same value den g gv gd =
+    ap (λ t. (value / g) * t) (sym (mul-div_cancel' g gd)) ∙ (crossed (value / g) g (den / g) ∙ ap (λ t. t * (den / g)) (mul-div_cancel' g gv))
+  where
+    crossed : (x g y : ℕ) → x * (g * y) ≡ (g * x) * y
+    crossed x g y = omega arith
+
+pub quotient_divides : (den g : ℕ) → g ∣ den → den / g ∣ den
+quotient_divides den g h = subst (λ x. den / g ∣ x) (mul-div_cancel' g h) (dvd-mul_left (den / g) g)

@@ -17,24 +17,15 @@ pub(crate) struct Basis<N> {
     /// The bounds of the rows.
     pub(crate) bounds: List<i64>,
     /// Room for the products of the rows with a column.
-    pub(crate) products: List<i64>,
+    pub(crate) products: List<i128>,
     /// A row to stand in for the pivot row while that is lent.
     pub(crate) spare: Row,
-}
-
-fn zeros(alloc: Global, n: u32) -> Result<List<i64>, NoMemory>
-    ensures { IfOk result (λ nums. nums ≡ replicate n (pos 0)) }
-{
-    let Ok(nums) = vec![in alloc; 0; n as usize] else {
-        return Err(NoMemory);
-    };
-    Ok(List::from_vec(nums))
 }
 
 fn zero_row(alloc: Global, n: u32) -> Result<Row, NoMemory>
     ensures { IfOk result (λ row. (row.nums ≡ replicate n (pos 0)) × (row.den ≡ pos 1)) }
 {
-    let nums = zeros(alloc, n)?;
+    let nums = List::filled(alloc, 0, n as usize)?;
     Ok(Row { nums, den: 1 })
 }
 
@@ -44,10 +35,7 @@ fn unit_rows(alloc: Global, n: u32) -> Result<List<Row>, NoMemory>
 {
     let mut rows = List::new(alloc);
     for i in 0..n {
-        let row = Row::unit(alloc, n, i)?;
-        let Ok(()) = rows.push(row) else {
-            return Err(NoMemory);
-        };
+        rows.push(Row::unit(alloc, n, i)?)?;
     }
     Ok(rows)
 }
@@ -58,9 +46,7 @@ fn bounds_of<C: Columns>(alloc: Global, cols: &C) -> Result<List<i64>, NoMemory>
 {
     let mut bounds = List::new(alloc);
     for i in 0..cols.rows() {
-        let Ok(()) = bounds.push(cols.bound(i)) else {
-            return Err(NoMemory);
-        };
+        bounds.push(cols.bound(i))?;
     }
     Ok(bounds)
 }
@@ -71,9 +57,7 @@ fn slacks_of<C: Columns>(alloc: Global, cols: &C) -> Result<List<C::Name>, NoMem
 {
     let mut names = List::new(alloc);
     for i in 0..cols.rows() {
-        let Ok(()) = names.push(cols.slack(i)) else {
-            return Err(NoMemory);
-        };
+        names.push(cols.slack(i))?;
     }
     Ok(names)
 }
@@ -88,7 +72,7 @@ pub(crate) fn slack_basis<C: Columns>(alloc: Global, cols: &C) -> Result<Basis<C
     let rows = unit_rows(alloc, n)?;
     let duals = zero_row(alloc, n)?;
     let bounds = bounds_of(alloc, cols)?;
-    let products = zeros(alloc, n)?;
+    let products = List::filled(alloc, 0, n as usize)?;
     let spare = zero_row(alloc, n)?;
     Ok(Basis {
         names,

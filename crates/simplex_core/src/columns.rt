@@ -28,7 +28,7 @@ pub enum Price<N> {
     Gain(Column<N>),
     /// No column does.
     Optimal,
-    /// No memory was found.
+    /// The call ran out of memory.
     NoMemory,
 }
 

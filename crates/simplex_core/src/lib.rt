@@ -3,10 +3,12 @@
 
 mod basis;
 pub mod columns;
+mod factors;
+mod fraction;
 pub mod optimum;
 mod pivot;
 pub mod product;
-mod ratio;
+mod ratio_test;
 pub mod solver;
 mod sum;
 mod value;

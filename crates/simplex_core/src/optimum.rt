@@ -1,29 +1,24 @@
-ghost use Rattle.std.specs.Prelude.{◌≡◌, ◌*◌, ◌/◌, ◌<◌, ◌≤◌, ◌^◌, ℕ, length, unsigned_abs, IfSome, IfNone};
+ghost use Rattle.std.specs.Prelude.{◌≡◌, ◌*◌, ◌/◌, ◌<◌, ◌^◌, ℕ, length, IfOk};
 ghost use Rattle.std.specs.Int.{◌∣◌};
-ghost use Rattle.checked_fraction.specs.Rows.{num, IsNarrow};
-ghost use Rattle.simplex_law.specs.Sums.{dot};
-ghost use Rattle.simplex_core.specs.inner.Products.{den_at, IsRectangle};
-ghost use Rattle.simplex_core.specs.inner.Values.{sizes_of};
-ghost use Rattle.simplex_core.specs.inner.Commons.{IsCommonMultiple, IsCommonDenominator, value_at, HaveValues};
+ghost use Rattle.simplex_core.specs.inner.Commons.{IsCommonMultiple, IsCommonDenominator, fraction_den, value_at};
+ghost use Rattle.simplex_core.specs.inner.Shapes.{AtEach};
 
-use crate::value::row_value;
+use crate::fraction::Fraction;
 use checked_fraction::{Row, gcd};
-use net_core::List;
+use net_core::{List, NoMemory};
 use std::alloc::Global;
 
-/// A best basis: what it takes of each of its columns over one denominator, and the prices of the rows.
+/// A best basis: how much is taken of each of its columns, as values over one denominator, and the prices of the rows.
 #[derive(Drop)]
 pub struct Optimum<N> {
+    /// The names of the columns, one per row.
     pub basis: List<N>,
+    /// The denominator of the values.
     pub den: u64,
+    /// The numerators of the values, one per column of the basis.
     pub values: List<u128>,
+    /// The prices, one per row, over a denominator of their own.
     pub duals: Row,
-}
-
-/// Why there are no values: that of a row is too wide, or no memory was found.
-pub(crate) enum ValueFault {
-    Sum(u32),
-    NoMemory,
 }
 
 /// The least common multiple of narrow numbers, which need not be narrow.
@@ -52,32 +47,23 @@ fn common_multiple(a: u64, b: u64) -> Option<u64>
     }
 }
 
-/// The denominator of a row.
-fn size_of_den(row: &Row) -> u64
-    ensures value { result ≡ unsigned_abs row.now.den }
+/// The denominator of fraction `i`.
+fn den_at(fractions: &[Fraction], i: usize) -> u64
+    requires { i < length fractions.now }
+    ensures value { result ≡ fraction_den fractions.now i }
     ensures some { 0 < result }
     ensures narrow { result < 2 ^ 62 }
 {
-    row.den.unsigned_abs()
-}
-
-/// The denominator of row `i`.
-fn den_size_at(rows: &[Row], i: usize) -> u64
-    requires { i < length rows.now }
-    ensures value { result ≡ unsigned_abs (den_at rows.now i) }
-    ensures some { 0 < result }
-    ensures narrow { result < 2 ^ 62 }
-{
-    size_of_den(&rows[i])
+    fractions[i].den
 }
 
 /// The least common multiple of all denominators, where it is narrow.
-pub(crate) fn common_denominator(rows: &[Row], duals: &Row) -> Option<u64>
-    ensures { IsCommonDenominator rows.now duals.now result }
+pub(crate) fn common_denominator(fractions: &[Fraction]) -> Option<u64>
+    ensures { IsCommonDenominator fractions.now result }
 {
-    let mut all = size_of_den(duals);
-    for i in 0..rows.len() {
-        let Some(next) = common_multiple(all, den_size_at(rows, i)) else {
+    let mut all = 1;
+    for i in 0..fractions.len() {
+        let Some(next) = common_multiple(all, den_at(fractions, i)) else {
             return None;
         };
         all = next;
@@ -85,40 +71,27 @@ pub(crate) fn common_denominator(rows: &[Row], duals: &Row) -> Option<u64>
     Some(all)
 }
 
-/// The value of a row over a denominator, or none where that is too wide.
-fn value_over(row: &Row, bounds: &[i64], den: u64) -> Option<u128>
-    requires equal { length row.now.nums ≡ length bounds.now }
-    requires bounds { (k : ℕ) → IsNarrow (num bounds.now k) }
-    requires fits { unsigned_abs (dot (length bounds.now) (num row.now.nums) (num bounds.now)) * (den / unsigned_abs row.now.den) < 2 ^ 124 }
-    ensures some { IfSome result (λ v. v ≡ unsigned_abs (dot (length bounds.now) (num row.now.nums) (num bounds.now)) * (den / unsigned_abs row.now.den)) }
-    ensures none { IfNone result (2 ^ 126 ≤ sizes_of (length bounds.now) (num row.now.nums) (num bounds.now)) }
+/// The numerator of a fraction over a denominator.
+fn numerator_over(fraction: &Fraction, den: u64) -> u128
+    requires { fraction.now.num * (den / fraction.now.den) < 2 ^ 124 }
+    ensures { result ≡ fraction.now.num * (den / fraction.now.den) }
 {
-    let value = row_value(row.nums(), bounds)?;
-    Some(value.unsigned_abs() * (den / size_of_den(row)) as u128)
+    fraction.num * (den / fraction.den) as u128
 }
 
-/// The values of all rows over one denominator.
+/// All values over one denominator.
 pub(crate) fn values_over(
     alloc: Global,
-    rows: &[Row],
-    bounds: &[i64],
+    fractions: &[Fraction],
     den: u64,
-) -> Result<List<u128>, ValueFault>
-    requires rectangle { IsRectangle (length rows.now) rows.now }
-    requires short { length rows.now < 2 ^ 32 }
-    requires count { length bounds.now ≡ length rows.now }
-    requires bounds { (k : ℕ) → IsNarrow (num bounds.now k) }
-    requires fits { (j : ℕ) → j < length rows.now → value_at rows.now (num bounds.now) den j < 2 ^ 124 }
-    ensures { HaveValues rows.now (num bounds.now) den result }
+) -> Result<List<u128>, NoMemory>
+    requires { (j : ℕ) → j < length fractions.now → value_at fractions.now den j < 2 ^ 124 }
+    ensures count { IfOk result (λ values. length values ≡ length fractions.now) }
+    ensures values { IfOk result (AtEach (λ j v. v ≡ value_at fractions.now den j)) }
 {
     let mut values = List::new(alloc);
-    for i in 0..rows.len() {
-        let Some(value) = value_over(&rows[i], bounds, den) else {
-            return Err(ValueFault::Sum(i as u32));
-        };
-        let Ok(()) = values.push(value) else {
-            return Err(ValueFault::NoMemory);
-        };
+    for i in 0..fractions.len() {
+        values.push(numerator_over(&fractions[i], den))?;
     }
     Ok(values)
 }

@@ -2,18 +2,33 @@ ghost use Rattle.std.specs.Prelude.{◌≡◌, ◌≢◌, ◌<◌, ◌^◌, ◌*
 ghost use Rattle.checked_fraction.specs.Rows.{num, IsNarrow, IsReduced};
 ghost use Rattle.checked_fraction.specs.Mixed.{combined, IsTooWide};
 ghost use Rattle.simplex_core.specs.inner.Products.{nums_at, IsRectangle};
+ghost use Rattle.simplex_core.specs.inner.Factors.{IsNarrowOver, HavePivot};
 ghost use Rattle.simplex_core.specs.inner.Pivots.{CombinesAt, AreCombined, IsTooWideAt, AreTurned, IsWideRow};
 
+use crate::factors::{Factors, factors_of, narrowed};
 use checked_fraction::{Row, WideNumber, combine, rescale};
 use net_core::List;
 use std::mem;
 
-/// Combines a row with the pivot row. Where its product is 0 this leaves it as it is.
-fn combine_row(row: &mut Row, p: &i64, pivot: &Row, q: &i64) -> Result<(), WideNumber>
+/// Combines a row with the pivot row by narrow factors.
+fn combine_by(row: &mut Row, factors: &Factors, pivot: &Row) -> Result<(), WideNumber>
     requires equal { length row.old.nums ≡ length pivot.now.nums }
-    requires p { IsNarrow p.now }
-    requires q { IsNarrow q.now }
+    requires p { IsNarrow factors.now.p }
+    requires q { IsNarrow factors.now.q }
+    requires positive { pos 0 <ℤ factors.now.q }
+    ensures length { length row.new.nums ≡ length row.old.nums }
+    ensures reduced { OnOk result (IsReduced (length row.old.nums) (combined (num row.old.nums) factors.now.p (num pivot.now.nums) factors.now.q) (row.old.den *ℤ factors.now.q) (num row.new.nums) row.new.den) }
+    ensures wide { IfErr result (IsTooWide (length row.old.nums) (combined (num row.old.nums) factors.now.p (num pivot.now.nums) factors.now.q) (row.old.den *ℤ factors.now.q)) }
+{
+    combine(row, factors.p, pivot, factors.q)
+}
+
+/// Combines a row with the pivot row by the row's product `p` and the pivot `q`. Where `p` is 0 this leaves it as it is.
+fn combine_row(row: &mut Row, p: &i128, pivot: &Row, q: &i128) -> Result<(), WideNumber>
+    requires equal { length row.old.nums ≡ length pivot.now.nums }
     requires positive { pos 0 <ℤ q.now }
+    requires narrow { IsNarrow q.now }
+    requires over { IsNarrowOver q.now p.now }
     ensures length { length row.new.nums ≡ length row.old.nums }
     ensures reduced { OnOk result (IsReduced (length row.old.nums) (combined (num row.old.nums) p.now (num pivot.now.nums) q.now) (row.old.den *ℤ q.now) (num row.new.nums) row.new.den) }
     ensures wide { IfErr result (IsTooWide (length row.old.nums) (combined (num row.old.nums) p.now (num pivot.now.nums) q.now) (row.old.den *ℤ q.now)) }
@@ -21,11 +36,10 @@ fn combine_row(row: &mut Row, p: &i64, pivot: &Row, q: &i64) -> Result<(), WideN
     if *p == 0 {
         return Ok(());
     }
-    combine(row, *p, pivot, *q)
+    combine_by(row, &factors_of(p, q), pivot)
 }
 
-/// Divides a row by its product.
-fn divide_row(row: &mut Row, q: &i64)
+fn divide_by(row: &mut Row, q: &i64)
     requires narrow { IsNarrow q.now }
     requires positive { pos 0 <ℤ q.now }
     ensures length { length row.new.nums ≡ length row.old.nums }
@@ -34,21 +48,27 @@ fn divide_row(row: &mut Row, q: &i64)
     rescale(row, *q);
 }
 
+/// Divides the pivot row by the pivot.
+fn divide_row(row: &mut Row, q: &i128)
+    requires narrow { IsNarrow q.now }
+    requires positive { pos 0 <ℤ q.now }
+    ensures length { length row.new.nums ≡ length row.old.nums }
+    ensures reduced { IsReduced (length row.old.nums) (num row.old.nums) q.now (num row.new.nums) row.new.den }
+{
+    divide_by(row, &narrowed(q));
+}
+
 /// Combines row `i` with the pivot row, unless it is row `r`. An error names it where it gets too wide.
 fn combine_at(
     rows: &mut [Row],
-    products: &[i64],
+    products: &[i128],
     pivot: &Row,
     r: usize,
     i: usize,
 ) -> Result<(), u32>
-    requires short { length rows.old < 2 ^ 32 }
     requires inside { i < length rows.old }
-    requires inside_pivot { r < length products.now }
     requires rectangle { IsRectangle (length pivot.now.nums) rows.old }
-    requires products { length products.now ≡ length rows.old }
-    requires narrow { (k : ℕ) → k < length rows.old → IsNarrow (num products.now k) }
-    requires positive { pos 0 <ℤ num products.now r }
+    requires pivot { HavePivot products.now (length rows.old) r }
     ensures combined { OnOk result (CombinesAt (length pivot.now.nums) rows.old rows.new products.now (num pivot.now.nums) (num products.now r) r i) }
     ensures wide { IfErr result (λ k. (k ≡ i) × (i ≢ r) × IsTooWideAt (length pivot.now.nums) rows.old products.now (num pivot.now.nums) (num products.now r) i) }
 {
@@ -62,13 +82,9 @@ fn combine_at(
 }
 
 /// Combines each row but row `r` with the pivot row. An error names a row that gets too wide.
-fn combine_rows(rows: &mut [Row], products: &[i64], pivot: &Row, r: usize) -> Result<(), u32>
-    requires short { length rows.old < 2 ^ 32 }
-    requires inside { r < length rows.old }
+fn combine_rows(rows: &mut [Row], products: &[i128], pivot: &Row, r: usize) -> Result<(), u32>
     requires rectangle { IsRectangle (length pivot.now.nums) rows.old }
-    requires products { length products.now ≡ length rows.old }
-    requires narrow { (k : ℕ) → k < length rows.old → IsNarrow (num products.now k) }
-    requires positive { pos 0 <ℤ num products.now r }
+    requires pivot { HavePivot products.now (length rows.old) r }
     ensures combined { OnOk result (AreCombined (length pivot.now.nums) rows.old rows.new products.now (num pivot.now.nums) (num products.now r) r (length rows.old)) }
     ensures wide { IfErr result (λ i. (i < length rows.old) × (i ≢ r) × IsTooWideAt (length pivot.now.nums) rows.old products.now (num pivot.now.nums) (num products.now r) i) }
 {
@@ -79,22 +95,16 @@ fn combine_rows(rows: &mut [Row], products: &[i64], pivot: &Row, r: usize) -> Re
 }
 
 /// Makes rows those of the next basis. An error names a row that gets too wide.
-fn turn_rows(rows: &mut [Row], products: &[i64], spare: &mut Row, r: usize) -> Result<(), u32>
-    requires short { length rows.old < 2 ^ 32 }
-    requires inside { r < length rows.old }
+fn turn_rows(rows: &mut [Row], products: &[i128], spare: &mut Row, r: usize) -> Result<(), u32>
     requires rectangle { IsRectangle (length rows.old) rows.old }
     requires spare { length spare.old.nums ≡ length rows.old }
-    requires products { length products.now ≡ length rows.old }
-    requires narrow { (k : ℕ) → k < length rows.old → IsNarrow (num products.now k) }
-    requires positive { pos 0 <ℤ num products.now r }
+    requires pivot { HavePivot products.now (length rows.old) r }
     ensures turned { OnOk result (AreTurned (length rows.old) rows.old rows.new products.now r) }
     ensures spare { OnOk result (length spare.new.nums ≡ length rows.old) }
     ensures wide { IfErr result (IsWideRow (length rows.old) rows.old products.now r) }
 {
     mem::swap(&mut rows[r], spare);
-    if let Err(i) = combine_rows(rows, products, spare, r) {
-        return Err(i);
-    }
+    combine_rows(rows, products, spare, r)?;
     divide_row(spare, &products[r]);
     mem::swap(&mut rows[r], spare);
     Ok(())
@@ -103,17 +113,13 @@ fn turn_rows(rows: &mut [Row], products: &[i64], spare: &mut Row, r: usize) -> R
 /// The same of a list of rows.
 pub(crate) fn turn_list(
     rows: &mut List<Row>,
-    products: &List<i64>,
+    products: &List<i128>,
     spare: &mut Row,
     r: usize,
 ) -> Result<(), u32>
-    requires short { length rows.old < 2 ^ 32 }
-    requires inside { r < length rows.old }
     requires rectangle { IsRectangle (length rows.old) rows.old }
     requires spare { length spare.old.nums ≡ length rows.old }
-    requires products { length products.now ≡ length rows.old }
-    requires narrow { (k : ℕ) → k < length rows.old → IsNarrow (num products.now k) }
-    requires positive { pos 0 <ℤ num products.now r }
+    requires pivot { HavePivot products.now (length rows.old) r }
     ensures turned { OnOk result (AreTurned (length rows.old) rows.old rows.new products.now r) }
     ensures spare { OnOk result (length spare.new.nums ≡ length rows.old) }
     ensures wide { IfErr result (IsWideRow (length rows.old) rows.old products.now r) }
@@ -122,23 +128,39 @@ pub(crate) fn turn_list(
 }
 
 /// Combines the objective row with row `r`.
-pub(crate) fn turn_objective(
+fn combine_objective(
     duals: &mut Row,
-    cost: &i64,
-    rows: &List<Row>,
-    products: &List<i64>,
+    cost: &i128,
+    rows: &[Row],
+    products: &[i128],
     r: usize,
 ) -> Result<(), WideNumber>
-    requires inside { r < length rows.now }
     requires rectangle { IsRectangle (length rows.now) rows.now }
     requires equal { length duals.old.nums ≡ length rows.now }
-    requires products { length products.now ≡ length rows.now }
-    requires cost { IsNarrow cost.now }
-    requires narrow { IsNarrow (num products.now r) }
-    requires positive { pos 0 <ℤ num products.now r }
+    requires pivot { HavePivot products.now (length rows.now) r }
+    requires over { IsNarrowOver (num products.now r) cost.now }
     ensures length { length duals.new.nums ≡ length rows.now }
     ensures reduced { OnOk result (IsReduced (length rows.now) (combined (num duals.old.nums) cost.now (nums_at rows.now r) (num products.now r)) (duals.old.den *ℤ num products.now r) (num duals.new.nums) duals.new.den) }
     ensures wide { IfErr result (IsTooWide (length rows.now) (combined (num duals.old.nums) cost.now (nums_at rows.now r) (num products.now r)) (duals.old.den *ℤ num products.now r)) }
 {
-    combine_row(duals, cost, &rows.items()[r], &products.items()[r])
+    combine_row(duals, cost, &rows[r], &products[r])
+}
+
+/// The same of lists.
+pub(crate) fn turn_objective(
+    duals: &mut Row,
+    cost: &i128,
+    rows: &List<Row>,
+    products: &List<i128>,
+    r: usize,
+) -> Result<(), WideNumber>
+    requires rectangle { IsRectangle (length rows.now) rows.now }
+    requires equal { length duals.old.nums ≡ length rows.now }
+    requires pivot { HavePivot products.now (length rows.now) r }
+    requires over { IsNarrowOver (num products.now r) cost.now }
+    ensures length { length duals.new.nums ≡ length rows.now }
+    ensures reduced { OnOk result (IsReduced (length rows.now) (combined (num duals.old.nums) cost.now (nums_at rows.now r) (num products.now r)) (duals.old.den *ℤ num products.now r) (num duals.new.nums) duals.new.den) }
+    ensures wide { IfErr result (IsTooWide (length rows.now) (combined (num duals.old.nums) cost.now (nums_at rows.now r) (num products.now r)) (duals.old.den *ℤ num products.now r)) }
+{
+    combine_objective(duals, cost, rows.items(), products.items(), r)
 }

@@ -3,7 +3,7 @@ ghost use Rattle.std.specs.List.{AllByRecursion};
 ghost use Rattle.checked_fraction.specs.Rows.{num, IsNarrow};
 ghost use Rattle.simplex_law.specs.Sums.{dot};
 ghost use Rattle.simplex_core.specs.Columns.{entry_of, IsEntry};
-ghost use Rattle.simplex_core.specs.inner.Products.{sum_value, IsNarrowOf, HasRoom, HaveProducts, IsRectangle};
+ghost use Rattle.simplex_core.specs.inner.Products.{sum_value, IsHeldOf, HasRoom, HaveProducts, IsRectangle};
 
 use crate::columns::Entry;
 use crate::sum::Sum;
@@ -24,19 +24,19 @@ fn add_entries(sum: &mut Sum, nums: &[i64], entries: &[Entry])
     }
 }
 
-/// The product of a row with entries, where it is narrow.
-fn row_product(nums: &[i64], entries: &[Entry]) -> Option<i64>
+/// The product of a row with entries, where 128 bits hold it.
+fn row_product(nums: &[i64], entries: &[Entry]) -> Option<i128>
     requires entries { AllByRecursion (IsEntry (length nums.now)) entries.now }
     requires nums { (k : ℕ) → IsNarrow (num nums.now k) }
-    ensures { IsNarrowOf (dot (length nums.now) (num nums.now) (entry_of entries.now)) result }
+    ensures { IsHeldOf (dot (length nums.now) (num nums.now) (entry_of entries.now)) result }
 {
     let mut sum = Sum::new();
     add_entries(&mut sum, nums, entries);
-    sum.narrow()
+    sum.exact()
 }
 
 /// The product of the objective row with a column, less the column's gain over the row's denominator.
-fn objective_sum(duals: &Row, gain: &i64, entries: &[Entry]) -> Sum
+fn reduced_cost_sum(duals: &Row, gain: &i64, entries: &[Entry]) -> Sum
     requires gain { IsNarrow gain.now }
     requires entries { AllByRecursion (IsEntry (length duals.now.nums)) entries.now }
     ensures total { sum_value result ≡ dot (length duals.now.nums) (num duals.now.nums) (entry_of entries.now) -ℤ duals.now.den *ℤ gain.now }
@@ -48,17 +48,17 @@ fn objective_sum(duals: &Row, gain: &i64, entries: &[Entry]) -> Sum
     sum
 }
 
-/// The same, where it is narrow.
-pub(crate) fn objective_product(duals: &Row, gain: &i64, entries: &[Entry]) -> Option<i64>
+/// The same, where 128 bits hold it.
+pub(crate) fn reduced_cost_of(duals: &Row, gain: &i64, entries: &[Entry]) -> Option<i128>
     requires gain { IsNarrow gain.now }
     requires entries { AllByRecursion (IsEntry (length duals.now.nums)) entries.now }
-    ensures { IsNarrowOf (dot (length duals.now.nums) (num duals.now.nums) (entry_of entries.now) -ℤ duals.now.den *ℤ gain.now) result }
+    ensures { IsHeldOf (dot (length duals.now.nums) (num duals.now.nums) (entry_of entries.now) -ℤ duals.now.den *ℤ gain.now) result }
 {
-    objective_sum(duals, gain, entries).narrow()
+    reduced_cost_sum(duals, gain, entries).exact()
 }
 
-/// Writes the product of each row with entries, up to the first that is wide.
-fn write_products(products: &mut [i64], rows: &[Row], entries: &[Entry]) -> Option<u32>
+/// Writes the product of each row with entries, up to the first that 128 bits don't hold.
+fn write_products(products: &mut [i128], rows: &[Row], entries: &[Entry]) -> Option<u32>
     requires count { length products.old ≡ length rows.now }
     requires short { length rows.now < 2 ^ 32 }
     requires rectangle { IsRectangle (length rows.now) rows.now }
@@ -77,7 +77,7 @@ fn write_products(products: &mut [i64], rows: &[Row], entries: &[Entry]) -> Opti
 
 /// The same of lists.
 pub(crate) fn write_list(
-    products: &mut List<i64>,
+    products: &mut List<i128>,
     rows: &List<Row>,
     entries: &[Entry],
 ) -> Option<u32>
@@ -97,5 +97,5 @@ pub fn gains(duals: &Row, gain: i64, entries: &[Entry]) -> bool
     requires entries { AllByRecursion (IsEntry (length duals.now.nums)) entries.now }
     ensures { IsTrue result ↔ (dot (length duals.now.nums) (num duals.now.nums) (entry_of entries.now) <ℤ (duals.now.den *ℤ gain)) }
 {
-    objective_sum(duals, &gain, entries).is_negative()
+    reduced_cost_sum(duals, &gain, entries).is_negative()
 }

@@ -4,6 +4,7 @@ ghost use Rattle.checked_fraction.specs.Rows.{num, IsNarrow};
 ghost use Rattle.simplex_law.specs.Sums.{dot};
 ghost use Rattle.simplex_law.specs.Programs.{ColumnOf, IsProgramColumn, IsPacking};
 ghost use Rattle.simplex_core.specs.Columns.{IsEntry, column_from};
+ghost use Rattle.simplex_core.specs.inner.Factors.{IsNarrowOver, HavePivot};
 ghost use Rattle.simplex_core.specs.inner.Products.{nums_at};
 ghost use Rattle.simplex_core.specs.Programs.{IsSameProgram, IsSimplexAnswer};
 ghost use Rattle.simplex_core.specs.inner.Shapes.{IsShaped};
@@ -13,13 +14,14 @@ ghost use Rattle.simplex_core.specs.inner.Turns.{reduced_cost, Chooses, Enters, 
 
 use crate::basis::{Basis, slack_basis};
 use crate::columns::{Column, Columns, Entry, Price};
-use crate::optimum::{Optimum, ValueFault, common_denominator, values_over};
+use crate::factors::wide_product;
+use crate::optimum::{Optimum, common_denominator, values_over};
 use crate::pivot::{turn_list, turn_objective};
-use crate::product::{objective_product, write_list};
-use crate::ratio::leaving_of;
-use crate::value::row_value;
+use crate::product::{reduced_cost_of, write_list};
+use crate::ratio_test::leaving_of;
+use crate::value::{ValueFault, fractions_of, row_value};
 use checked_fraction::Row;
-use net_core::{List, WideKind};
+use net_core::{List, NoMemory, WideKind};
 use std::alloc::Global;
 
 /// Why there is no optimum.
@@ -27,8 +29,19 @@ use std::alloc::Global;
 pub enum SimplexFault<N> {
     /// A number of this basis is too wide.
     Wide { basis: List<N>, kind: WideKind<N> },
-    /// No memory was found.
+    /// The call ran out of memory.
     NoMemory,
+}
+
+impl<N> From<NoMemory> for SimplexFault<N> {
+    ghost use Rattle.std.specs.Prelude.{◌≡◌};
+    ghost use Rattle.simplex_core.specs.declared.solver.SimplexFault.{SimplexFault};
+
+    ghost from_gives = { λ _ fault. fault ≡ SimplexFault.NoMemory };
+
+    fn from(_error: NoMemory) -> SimplexFault<N> {
+        SimplexFault::NoMemory
+    }
 }
 
 /// What a turn leaves.
@@ -42,7 +55,7 @@ enum Turn<N> {
     Unbounded,
     /// A basis with a number that is too wide.
     Wide(WideKind<N>),
-    /// No memory was found.
+    /// The call ran out of memory.
     NoMemory,
 }
 
@@ -77,12 +90,10 @@ fn is_low(duals: &Row, bounds: &List<i64>) -> bool
 }
 
 /// Makes the rows those of the basis in which the column, whose products are at hand, stands at `r`. A kind says what is too wide.
-fn replace<N: Drop>(basis: &mut Basis<N>, name: N, cost: &i64, r: usize) -> Turn<N>
+fn replace<N: Drop>(basis: &mut Basis<N>, name: N, cost: &i128, r: usize) -> Turn<N>
     requires shaped { IsShaped (length basis.old.rows) basis.old }
-    requires inside { r < length basis.old.rows }
-    requires cost { IsNarrow cost.now }
-    requires products { (i : ℕ) → i < length basis.old.rows → IsNarrow (num basis.old.products i) }
-    requires positive { pos 0 <ℤ num basis.old.products r }
+    requires pivot { HavePivot basis.old.products (length basis.old.rows) r }
+    requires over { IsNarrowOver (num basis.old.products r) cost.now }
     ensures { (c : ColumnOf N) → Chooses (length basis.old.rows) basis.old c name cost.now r → Enters (length basis.old.rows) basis.old c result basis.new }
 {
     let count = basis.rows.len() as u32;
@@ -100,6 +111,19 @@ fn replace<N: Drop>(basis: &mut Basis<N>, name: N, cost: &i64, r: usize) -> Turn
     }
 }
 
+/// The column, whose products are at hand, enters at row `r`, unless a product stays wide when it is divided.
+fn pivot_at<N: Drop>(basis: &mut Basis<N>, name: N, cost: &i128, r: usize) -> Turn<N>
+    requires shaped { IsShaped (length basis.old.rows) basis.old }
+    requires inside { r < length basis.old.rows }
+    requires positive { pos 0 <ℤ num basis.old.products r }
+    ensures { (c : ColumnOf N) → Chooses (length basis.old.rows) basis.old c name cost.now r → Enters (length basis.old.rows) basis.old c result basis.new }
+{
+    match wide_product(basis.products.items(), cost, r) {
+        Some(i) => Turn::Wide(WideKind::Product(i, name)),
+        None => replace(basis, name, cost, r),
+    }
+}
+
 /// A column that gains enters the basis.
 fn enter<N: Drop>(basis: &mut Basis<N>, name: N, gain: &i64, entries: &[Entry]) -> Turn<N>
     requires shaped { IsShaped (length basis.old.rows) basis.old }
@@ -110,7 +134,7 @@ fn enter<N: Drop>(basis: &mut Basis<N>, name: N, gain: &i64, entries: &[Entry]) 
     ensures { Enters (length basis.old.rows) basis.old (column_from name gain.now entries.now) result basis.new }
 {
     let count = basis.rows.len() as u32;
-    let Some(cost) = objective_product(&basis.duals, gain, entries) else {
+    let Some(cost) = reduced_cost_of(&basis.duals, gain, entries) else {
         return Turn::Wide(WideKind::Product(count, name));
     };
     if let Some(i) = write_list(&mut basis.products, &basis.rows, entries) {
@@ -119,7 +143,7 @@ fn enter<N: Drop>(basis: &mut Basis<N>, name: N, gain: &i64, entries: &[Entry]) 
     match leaving_of(&basis.rows, &basis.bounds, &basis.products) {
         Err(i) => Turn::Wide(WideKind::Sum(i)),
         Ok(None) => Turn::Unbounded,
-        Ok(Some(r)) => replace(basis, name, &cost, r),
+        Ok(Some(r)) => pivot_at(basis, name, &cost, r),
     }
 }
 
@@ -153,28 +177,39 @@ fn finish<N: Drop>(alloc: Global, basis: Basis<N>) -> Result<Optimum<N>, Simplex
     requires low { HasLowValues basis }
     ensures { IsBasisOutcome basis result }
 {
-    let Some(den) = common_denominator(basis.rows.items(), &basis.duals) else {
+    let fractions = match fractions_of(alloc, basis.rows.items(), basis.bounds.items()) {
+        Ok(fractions) => fractions,
+        Err(ValueFault::Sum(i)) => {
+            return Err(SimplexFault::Wide {
+                basis: basis.names,
+                kind: WideKind::Sum(i),
+            });
+        }
+        Err(ValueFault::NoMemory) => return Err(SimplexFault::NoMemory),
+    };
+    let Some(den) = common_denominator(fractions.items()) else {
         return Err(SimplexFault::Wide {
             basis: basis.names,
             kind: WideKind::Common,
         });
     };
-    match values_over(alloc, basis.rows.items(), basis.bounds.items(), den) {
-        Ok(values) => Ok(Optimum {
-            basis: basis.names,
-            den,
-            values,
-            duals: basis.duals,
-        }),
-        Err(ValueFault::Sum(i)) => Err(SimplexFault::Wide {
-            basis: basis.names,
-            kind: WideKind::Sum(i),
-        }),
-        Err(ValueFault::NoMemory) => Err(SimplexFault::NoMemory),
-    }
+    let values = values_over(alloc, fractions.items(), den)?;
+    Ok(Optimum {
+        basis: basis.names,
+        den,
+        values,
+        duals: basis.duals,
+    })
 }
 
 /// An optimum of the program, or a basis, reached by gaining steps, on which a number is too wide.
+///
+/// Each turn takes time that grows with the square of the count of rows, and so does the memory; how many
+/// turns there are depends on the columns that `price` names.
+///
+/// With two rows of bounds 4 and 4, a column a of gain 1 and entries 2 and 1, and a column b of gain 1 and
+/// entries 1 and 2, first a enters and then b. The basis is a, b with the values 4 and 4 over the
+/// denominator 3, and the prices 1/3 and 1/3: both sides are worth 8/3.
 pub fn solve<C: Columns>(
     alloc: Global,
     cols: &mut C,
@@ -183,9 +218,7 @@ pub fn solve<C: Columns>(
     ensures same { IsSameProgram (C.rows cols.old) (C.rows cols.new) (C.bound cols.old) (C.bound cols.new) (C.slack cols.old) (C.slack cols.new) (C.is_listed cols.old) (C.is_listed cols.new) }
     ensures answer { IsSimplexAnswer (C.rows cols.old) (C.bound cols.old) (C.slack cols.old) (C.is_listed cols.old) result }
 {
-    let Ok(mut basis) = slack_basis(alloc, cols) else {
-        return Err(SimplexFault::NoMemory);
-    };
+    let mut basis = slack_basis(alloc, cols)?;
     loop {
         match take_turn(cols, &mut basis) {
             Turn::Again => {}

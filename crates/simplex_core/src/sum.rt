@@ -1,6 +1,6 @@
 ghost use Rattle.std.specs.Prelude.{◌≡◌, ◌+◌, ◌<◌, ◌≤◌, ◌^◌, ◌+ℤ◌, ◌-ℤ◌, ◌*ℤ◌, ◌/◌, ◌%◌, ◌<ℤ◌, ◌↔◌, pos, unsigned_abs, IsTrue};
 ghost use Rattle.checked_fraction.specs.Rows.{IsNarrow};
-ghost use Rattle.simplex_core.specs.inner.Products.{sum_value, IsNarrowOf, HasRoom};
+ghost use Rattle.simplex_core.specs.inner.Products.{sum_value, IsHeldOf, HasRoom};
 
 /// A running sum of products of narrow numbers, as `high * 2^62 + low`. It need not fit into 128 bits.
 #[derive(Clone, Copy)]
@@ -99,23 +99,22 @@ impl Sum {
     }
 
     /// What is left of the sum.
-    fn rest(&self) -> i64
+    fn rest(&self) -> i128
         ensures { result ≡ pos (self.now.low % 2 ^ 62) }
     {
-        (self.low % (1 << 62)) as i64
+        (self.low % (1 << 62)) as i128
     }
 
-    /// The sum, where it is below 2^62 in absolute value.
-    pub(crate) fn narrow(&self) -> Option<i64>
+    /// The sum, where it is at most some 2^125 in absolute value.
+    pub(crate) fn exact(&self) -> Option<i128>
         requires { HasRoom self.now }
-        ensures { IsNarrowOf (sum_value self.now) result }
+        ensures { IsHeldOf (sum_value self.now) result }
     {
-        let rest = self.rest();
-        match self.carried() {
-            0 => Some(rest),
-            -1 if rest > 0 => Some(rest - (1 << 62)),
-            _ => None,
+        let carried = self.carried();
+        if carried < -(1 << 63) || carried >= 1 << 63 {
+            return None;
         }
+        Some(carried * (1 << 62) + self.rest())
     }
 
     /// Whether the sum is below 0.

@@ -242,6 +242,32 @@ fn an_optimum_or_evidence(rt: HostRuntime) -> Result<(), Fail> {
     Ok(())
 }
 
+/// A program whose second turn takes 2^70 from a row and divides it by 2^30.
+fn wide_products() -> (Bounds, [Shape; 2]) {
+    (
+        limits(3, 1 << 41, 0),
+        [column(1, 3, 1 << 40, 0), column(1 << 31, 1 << 30, 0, 0)],
+    )
+}
+
+/// A wide product that is narrow once it is divided is no evidence.
+#[test]
+fn a_wide_product_that_divides(rt: HostRuntime) -> Result<(), Fail> {
+    let (bounds, shapes) = wide_products();
+    let Ok(best) = solved(rt.alloc(), bounds, &shapes) else {
+        return Err(Fail::new("no optimum"));
+    };
+    assert_eq!(rt;
+        best.basis.items(),
+        [Label::Listed(1), Label::Slack(1), Label::Slack(2)].as_slice()
+    );
+    assert_eq!(rt; best.den, 1 << 30);
+    assert_eq!(rt; best.values.items(), [3, 1 << 71, 0].as_slice());
+    assert_eq!(rt; best.duals.den(), 1);
+    assert_eq!(rt; best.duals.nums(), [2, 0, 0].as_slice());
+    Ok(())
+}
+
 /// A program whose bases come round again where the first of the rows of least ratio leaves.
 #[test]
 fn no_basis_comes_twice(rt: HostRuntime) -> Result<(), Fail> {

@@ -1,8 +1,15 @@
-ghost use Rattle.std.specs.Prelude.{◌≡◌, ◌+◌, ◌*◌, ◌<◌, ◌≤◌, ◌^◌, ◌+ℤ◌, ◌*ℤ◌, ℕ, pos, unsigned_abs, length};
+ghost use Rattle.std.specs.Prelude.{◌≡◌, ◌+◌, ◌*◌, ◌<◌, ◌≤◌, ◌^◌, ◌+ℤ◌, ◌*ℤ◌, ℕ, pos, unsigned_abs, length, IfSome, IfNone};
 ghost use Rattle.checked_fraction.specs.Rows.{num, IsNarrow};
-ghost use Rattle.simplex_core.specs.inner.Values.{IsValueOf};
+ghost use Rattle.simplex_law.specs.Sums.{dot};
+ghost use Rattle.simplex_core.specs.inner.Commons.{IsFractionOf, HaveFractions};
+ghost use Rattle.simplex_core.specs.inner.Products.{AreBoundedRows};
+ghost use Rattle.simplex_core.specs.inner.Values.{sizes_of, IsValueOf};
 
+use crate::fraction::{Fraction, fraction_of};
 use crate::sum::product;
+use checked_fraction::Row;
+use net_core::{List, NoMemory};
+use std::alloc::Global;
 
 /// The limit of the absolute products of a row's numbers with the bounds.
 const LIMIT: u128 = 1 << 126;
@@ -64,4 +71,60 @@ pub(crate) fn row_value(nums: &[i64], bounds: &[i64]) -> Option<i128>
         }
     }
     Some(sums.value)
+}
+
+/// Why there are no values: that of a row is too wide, or the call ran out of memory.
+pub(crate) enum ValueFault {
+    Sum(u32),
+    NoMemory,
+}
+
+impl<T: Drop> From<(T, NoMemory)> for ValueFault {
+    ghost use Rattle.std.specs.Prelude.{◌≡◌};
+    ghost use Rattle.simplex_core.specs.declared.value.ValueFault.{ValueFault};
+
+    ghost from_gives = { λ _ fault. fault ≡ ValueFault.NoMemory };
+
+    fn from(_refused: (T, NoMemory)) -> ValueFault {
+        ValueFault::NoMemory
+    }
+}
+
+/// The denominator of a row.
+fn size_of_den(row: &Row) -> u64
+    ensures value { result ≡ unsigned_abs row.now.den }
+    ensures some { 0 < result }
+    ensures narrow { result < 2 ^ 62 }
+{
+    row.den.unsigned_abs()
+}
+
+/// The value of a row, or none where that is too wide.
+fn row_fraction(row: &Row, bounds: &[i64]) -> Option<Fraction>
+    requires equal { length row.now.nums ≡ length bounds.now }
+    requires bounds { (k : ℕ) → IsNarrow (num bounds.now k) }
+    ensures some { IfSome result (IsFractionOf (dot (length bounds.now) (num row.now.nums) (num bounds.now)) row.now.den) }
+    ensures none { IfNone result (2 ^ 126 ≤ sizes_of (length bounds.now) (num row.now.nums) (num bounds.now)) }
+{
+    let value = row_value(row.nums(), bounds)?;
+    Some(fraction_of(value.unsigned_abs(), size_of_den(row)))
+}
+
+/// The values of all rows.
+pub(crate) fn fractions_of(
+    alloc: Global,
+    rows: &[Row],
+    bounds: &[i64],
+) -> Result<List<Fraction>, ValueFault>
+    requires rows { AreBoundedRows rows.now bounds.now }
+    ensures { HaveFractions rows.now (num bounds.now) result }
+{
+    let mut fractions = List::new(alloc);
+    for i in 0..rows.len() {
+        let Some(fraction) = row_fraction(&rows[i], bounds) else {
+            return Err(ValueFault::Sum(i as u32));
+        };
+        fractions.push(fraction)?;
+    }
+    Ok(fractions)
 }

@@ -115,27 +115,6 @@ reduced_filling m basic raw nums whole den w all each h =
       },
     )
 
--- other weights that bring the rows over one denominator fill as well
-pub other_filling : (m : ℕ) (basic nums : ℕ → ℕ → ℤ) (den w v : ℕ → ℤ) (all total : ℤ) → ((j : ℕ) → j < m → pos 0 <ℤ den j) → pos 0 <ℤ total
-    → ((j : ℕ) → j < m → v j *ℤ den j ≡ total) → IsFilling m basic nums den w all → IsFilling m basic nums den v total
-other_filling m basic nums den w v all total over pt weights h = record {
-  positive = pt;
-  weights = weights;
-  filled = λ k l lk ll.
-      let same : all *ℤ int_sum m (λ j. (v j *ℤ nums j l) *ℤ basic j k) ≡ total *ℤ int_sum m (λ j. (w j *ℤ nums j l) *ℤ basic j k) =
-      sym (sum-times m all (λ j. (v j *ℤ nums j l) *ℤ basic j k))
-      ∙ (sum-same m _ _ (λ j lj. crossed (w j) (v j) (den j) (nums j l) (basic j k) (over j lj) (h.weights j lj) (weights j lj))
-      ∙ sum-times m total (λ j. (w j *ℤ nums j l) *ℤ basic j k)) in
-      same_cancel all (int_sum m (λ j. (v j *ℤ nums j l) *ℤ basic j k)) (total *ℤ unit_vector k l) h.positive
-      (same ∙ (ap (λ s. total *ℤ s) (h.filled k l lk ll) ∙ moved_out total all (unit_vector k l)));
-}
-  where
-    crossed : (a b d n c : ℤ) → pos 0 <ℤ d → a *ℤ d ≡ all → b *ℤ d ≡ total → all *ℤ ((b *ℤ n) *ℤ c) ≡ total *ℤ ((a *ℤ n) *ℤ c)
-    crossed a b d n c pd ea eb =
-        let one : all *ℤ b ≡ total *ℤ a = same_cancel d (all *ℤ b) (total *ℤ a) pd
-        (*ℤ_comm d (all *ℤ b) ∙ (regroup all b d ∙ (ap (λ s. all *ℤ s) eb ∙ (*ℤ_comm all total ∙ (ap (λ s. total *ℤ s) (sym ea) ∙ (sym (regroup total a d) ∙ *ℤ_comm (total *ℤ a) d)))))) in
-        ap (λ s. all *ℤ s) (regroup b n c) ∙ (sym (regroup all b (n *ℤ c)) ∙ (ap (λ s. s *ℤ (n *ℤ c)) one ∙ (regroup total a (n *ℤ c) ∙ ap (λ s. total *ℤ s) (sym (regroup a n c)))))
-
 -- the same at columns that agree below m
 pub same_filling : (m : ℕ) (basic others nums : ℕ → ℕ → ℤ) (den w : ℕ → ℤ) (all : ℤ) → ((j k : ℕ) → j < m → others j k ≡ basic j k)
     → IsFilling m basic nums den w all → IsFilling m others nums den w all
@@ -144,3 +123,24 @@ same_filling m basic others nums den w all e h = record {
   weights = h.weights;
   filled = λ k l lk ll. sum-same m _ _ (λ j lj. ap (λ s. (w j *ℤ nums j l) *ℤ s) (e j k lj)) ∙ h.filled k l lk ll;
 }
+
+-- values over a common denominator, each the fraction of its row times the bounds, fill each row
+pub filled_over : (m : ℕ) (basic nums : ℕ → ℕ → ℤ) (den w b values : ℕ → ℤ) (all common : ℤ) → IsFilling m basic nums den w all
+    → ((j : ℕ) → j < m → values j *ℤ den j ≡ common *ℤ dot m (nums j) b)
+    → (k : ℕ) → k < m → int_sum m (λ j. values j *ℤ basic j k) ≡ common *ℤ b k
+filled_over m basic nums den w b values all common h are k lk =
+    same_cancel all (int_sum m (λ j. values j *ℤ basic j k)) (common *ℤ b k) h.positive
+    (sym (sum-times m all (λ j. values j *ℤ basic j k))
+    ∙ (sum-same m _ (λ j. common *ℤ ((w j *ℤ dot m (nums j) b) *ℤ basic j k)) (λ j lj. each (w j) (den j) (values j) (dot m (nums j) b) (basic j k) (h.weights j lj) (are j lj))
+    ∙ (sum-times m common (λ j. (w j *ℤ dot m (nums j) b) *ℤ basic j k)
+    ∙ (ap (λ s. common *ℤ s) (fills m basic nums den w b all h k lk) ∙ moved_out common all (b k)))))
+  where
+    inner : (w d v : ℤ) → (w *ℤ d) *ℤ v ≡ w *ℤ (v *ℤ d)
+    inner w d v = regroup w d v ∙ ap (λ s. w *ℤ s) (*ℤ_comm d v)
+
+    each : (w d v x e : ℤ) → w *ℤ d ≡ all → v *ℤ d ≡ common *ℤ x → all *ℤ (v *ℤ e) ≡ common *ℤ ((w *ℤ x) *ℤ e)
+    each w d v x e ew ev =
+        sym (regroup all v e)
+        ∙ (ap (λ s. (s *ℤ v) *ℤ e) (sym ew)
+        ∙ (ap (λ s. s *ℤ e) (inner w d v ∙ (ap (λ s. w *ℤ s) ev ∙ moved_out w common x))
+        ∙ regroup common (w *ℤ x) e))

@@ -8,13 +8,13 @@ use Rattle.simplex_law.specs.Sums.{int_sum, dot, unit_vector}
 use Rattle.simplex_law.specs.Programs.{ColumnOf, IsSlack, slack_basis, IsProgramColumn}
 use Rattle.simplex_law.specs.Bases.{Gains}
 use Rattle.simplex_law.specs.Optima.{IsOptimum, IsGreatestGain}
-use Rattle.simplex_law.proofs.Tableaux.{IsFilling, IsTableau}
+use Rattle.simplex_law.proofs.Tableaux.{IsTableau}
 use Rattle.simplex_law.proofs.Arithmetic.{moved_out, le_times, times_nonneg, le_cancel}
 use Rattle.simplex_law.proofs.Sums.{sum-same, dot-unit}
 use Rattle.simplex_law.proofs.Duality.{packing_duality, equal_value}
-use Rattle.simplex_law.proofs.Filling.{fills, other_filling}
-use Rattle.simplex_law.proofs.Limited.{weight_positive}
-use Rattle.simplex_law.proofs.Reached.{feasible, value_nonneg, slack_is}
+use Rattle.simplex_law.proofs.Filling.{filled_over}
+use Rattle.simplex_law.proofs.Values.{values_nonneg}
+use Rattle.simplex_law.proofs.Reached.{feasible, slack_is}
 
 -- no listed column and no slack gains at duals of 0 or more
 pub none_gains : {N : Type 0} (m : ℕ) (bound : ℕ → ℤ) (slack : ℕ → N) (is_listed : ColumnOf N → Type 0) (duals : ℕ → ℤ) (duals_den : ℤ)
@@ -28,13 +28,13 @@ none_gains m bound slack is_listed duals duals_den high none c is_c gains = ⊎_
     absurd (omega (arith, ints, at, zero_gain, up, gains)))
     is_c
 
--- values by weights that bring all rows over one denominator
-pub optimum : {N : Type 0} (m : ℕ) (bound : ℕ → ℤ) (is_column : ColumnOf N → Type 0) (basis : ℕ → ColumnOf N) (nums : ℕ → ℕ → ℤ) (den duals : ℕ → ℤ) (duals_den : ℤ) (weights values : ℕ → ℤ) (common : ℤ)
+-- values over a common denominator, each the fraction of its row times the bounds
+pub optimum : {N : Type 0} (m : ℕ) (bound : ℕ → ℤ) (is_column : ColumnOf N → Type 0) (basis : ℕ → ColumnOf N) (nums : ℕ → ℕ → ℤ) (den duals : ℕ → ℤ) (duals_den : ℤ) (values : ℕ → ℤ) (common : ℤ)
     → ((j : ℕ) → j < m → is_column (basis j)) → IsTableau m bound basis nums den duals duals_den → IsInLowestTerms m duals duals_den
     → ((c : ColumnOf N) → is_column c → Gains m duals duals_den c → ⊥)
-    → pos 0 <ℤ common → ((j : ℕ) → j < m → weights j *ℤ den j ≡ common) → ((j : ℕ) → j < m → values j ≡ weights j *ℤ dot m (nums j) bound)
+    → pos 0 <ℤ common → ((j : ℕ) → j < m → values j *ℤ den j ≡ common *ℤ dot m (nums j) bound)
     → IsOptimum m bound is_column basis values common duals duals_den
-optimum m bound is_column basis nums den duals duals_den weights values common columns s lowest none pc over_common values_are = record {
+optimum m bound is_column basis nums den duals duals_den values common columns s lowest none pc values_are = record {
   best = record {
     feasible = feasible m bound is_column basis nums den duals duals_den columns s;
     objective = (s.above, s.objective);
@@ -42,22 +42,13 @@ optimum m bound is_column basis nums den duals duals_den weights values common c
   };
   lowest = lowest;
   positive = pc;
-  values_positive = λ j lj. subst (λ x. pos 0 ≤ℤ x) (sym (values_are j lj))
-      (times_nonneg (weights j) (dot m (nums j) bound)
-      (weaken (weights j) (weight_positive (weights j) (den j) common (s.over j lj) pc (over_common j lj)))
-      (value_nonneg m bound basis nums den duals duals_den j s lj));
+  values_positive = λ j lj. values_nonneg m bound basis nums den duals duals_den values common j s pc (values_are j lj) lj;
   filled = filled;
   equal = equal_value m values (λ j. (basis j).gain) duals bound (λ j. (basis j).entry) duals_den common s.objective filled;
 }
   where
-    weaken : (x : ℤ) → pos 0 <ℤ x → pos 0 ≤ℤ x
-    weaken x h = omega (arith, ints, h)
-
-    filling : IsFilling m (λ j. (basis j).entry) nums den weights common
-    filling = other_filling m (λ j. (basis j).entry) nums den s.filling.0 weights s.filling.1 common s.over pc over_common s.filling.2
-
     filled : (k : ℕ) → k < m → int_sum m (λ j. values j *ℤ (basis j).entry k) ≡ common *ℤ bound k
-    filled k lk = sum-same m _ _ (λ j lj. ap (λ x. x *ℤ (basis j).entry k) (values_are j lj)) ∙ fills m (λ j. (basis j).entry) nums den weights bound common filling k lk
+    filled = filled_over m (λ j. (basis j).entry) nums den s.filling.0 bound values s.filling.1 common s.filling.2 values_are
 
 -- no amounts of a program's columns gain more than an optimum
 pub greatest : {N : Type 0} (m : ℕ) (bound : ℕ → ℤ) (slack : ℕ → N) (is_listed : ColumnOf N → Type 0) (basis : ℕ → ColumnOf N) (values duals : ℕ → ℤ) (den duals_den : ℤ)

@@ -2,17 +2,16 @@
 use Rattle.std.proofs.Common.{◌≡◌, ℕ, zero, suc, ◌<◌, ◌≤◌, ◌-◌, ◌*◌, ◌^◌, ◌⊎◌, inl, inr, ap, ◌∙◌, arith, ⊎_elim, subst, unsigned_abs}
 use Rattle.std.proofs.lemmas.Bool.{cases_lt}
 use Rattle.std.proofs.lemmas.Nat.{mul-le}
-use Rattle.std.proofs.Math.IntN.{ℤ, pos, ◌*ℤ◌}
+use Rattle.std.proofs.Math.IntN.{ℤ, pos, ◌*ℤ◌, *ℤ_comm, *ℤ-zero}
 use Rattle.std.specs.Int.Signed.{◌<ℤ◌, ◌≤ℤ◌}
 use Rattle.std.proofs.lemmas.Int.{ints, by_lt_z, unsigned_abs-mul}
 use Rattle.checked_fraction.specs.Rows.{IsNarrow}
 use Rattle.simplex_law.specs.Sums.{int_sum, dot, unit_vector}
 use Rattle.simplex_law.specs.Programs.{ColumnOf, IsPacking}
 use Rattle.simplex_law.proofs.Tableaux.{IsTableau}
-use Rattle.simplex_law.proofs.Arithmetic.{le_times, times_nonneg}
+use Rattle.simplex_law.proofs.Arithmetic.{le_times, times_nonneg, le_cancel}
 use Rattle.simplex_law.proofs.Sums.{dot-none-column, unit-same}
-use Rattle.simplex_law.proofs.Filling.{fills, other_filling}
-use Rattle.simplex_law.proofs.Limited.{weight_positive}
+use Rattle.simplex_law.proofs.Filling.{filled_over}
 use Rattle.simplex_law.proofs.Reached.{value_nonneg}
 
 -- one of n numbers that aren't negative is positive, or all are 0
@@ -60,25 +59,32 @@ basic_entry m bound is_column basis nums den duals duals_den j packing columns s
     absurd (omega (arith, ints, zero_there, row, one, over)))
     (some_positive m ((basis j).entry) (λ k l. (packing.entries (basis j) (columns j lj) k l).0))
 
--- a value over a common denominator is below 2 ^ 124 where the denominator is below 2 ^ 62
-pub value_low : {N : Type 0} (m : ℕ) (bound : ℕ → ℤ) (is_column : ColumnOf N → Type 0) (basis : ℕ → ColumnOf N) (nums : ℕ → ℕ → ℤ) (den duals : ℕ → ℤ) (duals_den : ℤ) (weights : ℕ → ℤ) (common : ℤ) (j : ℕ)
+-- a value over a common denominator isn't negative
+pub values_nonneg : {N : Type 0} (m : ℕ) (bound : ℕ → ℤ) (basis : ℕ → ColumnOf N) (nums : ℕ → ℕ → ℤ) (den duals : ℕ → ℤ) (duals_den : ℤ) (values : ℕ → ℤ) (common : ℤ) (j : ℕ)
+    → IsTableau m bound basis nums den duals duals_den → pos 0 <ℤ common → values j *ℤ den j ≡ common *ℤ dot m (nums j) bound → j < m → pos 0 ≤ℤ values j
+values_nonneg m bound basis nums den duals duals_den values common j s pc is lj =
+    le_cancel (den j) (pos 0) (values j) (s.over j lj)
+    (at_least (den j) (values j) (common *ℤ dot m (nums j) bound) is (times_nonneg common (dot m (nums j) bound) (weaken common pc) (value_nonneg m bound basis nums den duals duals_den j s lj)))
+  where
+    at_least : (d v x : ℤ) → v *ℤ d ≡ x → pos 0 ≤ℤ x → (d *ℤ pos 0) ≤ℤ (d *ℤ v)
+    at_least d v x e h = omega (arith, ints, e, h, *ℤ_comm d v, *ℤ-zero d)
+
+-- it is below 2 ^ 124 where the denominator is below 2 ^ 62
+pub value_low : {N : Type 0} (m : ℕ) (bound : ℕ → ℤ) (is_column : ColumnOf N → Type 0) (basis : ℕ → ColumnOf N) (nums : ℕ → ℕ → ℤ) (den duals : ℕ → ℤ) (duals_den : ℤ) (values : ℕ → ℤ) (common : ℤ) (j : ℕ)
     → IsPacking m bound is_column → ((j : ℕ) → j < m → is_column (basis j)) → IsTableau m bound basis nums den duals duals_den
-    → pos 0 <ℤ common → IsNarrow common → ((j : ℕ) → j < m → weights j *ℤ den j ≡ common) → j < m
-    → unsigned_abs (weights j *ℤ dot m (nums j) bound) < 2 ^ 124
-value_low m bound is_column basis nums den duals duals_den weights common j packing columns s pc narrow over_common lj =
+    → pos 0 <ℤ common → IsNarrow common → ((j : ℕ) → j < m → values j *ℤ den j ≡ common *ℤ dot m (nums j) bound) → j < m
+    → unsigned_abs (values j) < 2 ^ 124
+value_low m bound is_column basis nums den duals duals_den values common j packing columns s pc narrow values_are lj =
     let entry = basic_entry m bound is_column basis nums den duals duals_den j packing columns s lj in
     let k = entry.0 in
-    let filling = other_filling m (λ j. (basis j).entry) nums den s.filling.0 weights s.filling.1 common s.over pc over_common s.filling.2 in
-    let filled = fills m (λ j. (basis j).entry) nums den weights bound common filling k entry.1 in
-    let part = part_of_sum m j (λ i. (weights i *ℤ dot m (nums i) bound) *ℤ (basis i).entry k)
-    (λ i li. times_nonneg (weights i *ℤ dot m (nums i) bound) ((basis i).entry k) (high i li) (packing.entries (basis i) (columns i li) k entry.1).0) lj in
-    let once = le_times (weights j *ℤ dot m (nums j) bound) (pos 1) ((basis j).entry k) (high j lj) (omega (arith, ints, entry.2)) in
-    low (weights j *ℤ dot m (nums j) bound) common (bound k) (high j lj) once part filled pc narrow (packing.bounds k entry.1)
+    let filled = filled_over m (λ j. (basis j).entry) nums den s.filling.0 bound values s.filling.1 common s.filling.2 values_are k entry.1 in
+    let part = part_of_sum m j (λ i. values i *ℤ (basis i).entry k)
+    (λ i li. times_nonneg (values i) ((basis i).entry k) (high i li) (packing.entries (basis i) (columns i li) k entry.1).0) lj in
+    let once = le_times (values j) (pos 1) ((basis j).entry k) (high j lj) (omega (arith, ints, entry.2)) in
+    low (values j) common (bound k) (high j lj) once part filled pc narrow (packing.bounds k entry.1)
   where
-    high : (i : ℕ) → i < m → pos 0 ≤ℤ (weights i *ℤ dot m (nums i) bound)
-    high i li = times_nonneg (weights i) (dot m (nums i) bound)
-        (weaken (weights i) (weight_positive (weights i) (den i) common (s.over i li) pc (over_common i li)))
-        (value_nonneg m bound basis nums den duals duals_den i s li)
+    high : (i : ℕ) → i < m → pos 0 ≤ℤ values i
+    high i li = values_nonneg m bound basis nums den duals duals_den values common i s pc (values_are i li) li
 
     low : (v c b : ℤ) {x y : ℤ} → pos 0 ≤ℤ v → (v *ℤ pos 1) ≤ℤ x → x ≤ℤ y → y ≡ c *ℤ b → pos 0 <ℤ c → IsNarrow c → ((pos 0 ≤ℤ b) × IsNarrow b) → unsigned_abs v < 2 ^ 124
     low v c b {x} {y} hv one part e pc nc nb =

@@ -30,15 +30,18 @@ fn listed(alloc: Global, rows: &[DemandRow]) -> Result<Demands, NoMemory>
     Ok(demands)
 }
 
-/// Up to 26 demands A, B and so on of so many nodes.
+/// Up to 26 demands A, B and so on of so many nodes: each joins two of them, and the needs keep the limits of a network's file.
 pub fn demands(alloc: Global, nodes: usize, rows: &[DemandRow]) -> Result<Demands, WorkedFault>
-    requires { length rows.now ≤ 26 }
     ensures belong { IfOk result (AreDemands nodes) }
     ensures count { IfOk result (λ demands. length demands ≡ length rows.now) }
     ensures rows { IfOk result (λ demands. map row_of demands ≡ rows.now) }
     ensures refused { IfErr result (λ fault. (fault ≡ WorkedFault.NoMemory)
+        ⊎ ((fault ≡ WorkedFault.TooMany) × (26 < length rows.now))
         ⊎ ((fault ≡ WorkedFault.Demands) × (demands : Seq D) × (map row_of demands ≡ rows.now) × (AreDemands nodes demands → ⊥))) }
 {
+    if rows.len() > 26 {
+        return Err(WorkedFault::TooMany);
+    }
     let demands = listed(alloc, rows)?;
     if belong(nodes, demands.items()) {
         Ok(demands)

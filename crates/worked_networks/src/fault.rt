@@ -4,6 +4,9 @@ use thiserror::Error;
 /// Why a table gives no network, states or demands.
 #[derive(Clone, Copy, Debug, PartialEq, Eq, Error)]
 pub enum WorkedFault {
+    /// More than 26 nodes, links or demands, or more than 20 listed states.
+    #[error("too many rows")]
+    TooMany,
     /// The nodes and links are no network.
     #[error("no network: {0}")]
     Network(NetFault),

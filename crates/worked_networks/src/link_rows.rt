@@ -102,20 +102,23 @@ pub(crate) fn checked(nodes: List<Name>, links: List<Link>) -> Result<Network, W
     }
 }
 
-/// The network of up to 26 nodes A, B and so on, and up to 26 links a, b and so on. Where the rows aren't links of the nodes, the
-/// answer is the fault that `Network::check` finds.
+/// The network of up to 26 nodes A, B and so on, and up to 26 links a, b and so on, of whose costs none is a note. Where the rows
+/// aren't links of the nodes, the answer is the fault that `Network::check` finds.
 pub fn network(alloc: Global, nodes: usize, rows: &[LinkRow]) -> Result<Network, WorkedFault>
-    requires nodes { nodes ≤ 26 }
-    requires links { length rows.now ≤ 26 }
     ensures nodes { IfOk result (λ net. length net.nodes ≡ nodes) }
     ensures names { IfOk result (λ net. (net.nodes ≡ letters 65 nodes) × (map (λ l. l.name) net.links ≡ letters 97 (length rows.now))) }
     ensures links { IfOk result (λ net. length net.links ≡ length rows.now) }
     ensures ends { IfOk result (λ net. map ends_of net.links ≡ map ends_of_row rows.now) }
     ensures modules { IfOk result (λ net. map (λ l. l.modules) net.links ≡ map (λ r. r.3.now) rows.now) }
-    ensures refused { IfErr result (λ fault. (fault ≡ WorkedFault.NoMemory) ⊎ ((links : Seq L) × (map (λ l. l.name) links ≡ letters 97 (length rows.now)) × (map ends_of links ≡ map ends_of_row rows.now)
+    ensures refused { IfErr result (λ fault. (fault ≡ WorkedFault.NoMemory)
+        ⊎ ((fault ≡ WorkedFault.TooMany) × ((26 < nodes) ⊎ (26 < length rows.now)))
+        ⊎ ((links : Seq L) × (map (λ l. l.name) links ≡ letters 97 (length rows.now)) × (map ends_of links ≡ map ends_of_row rows.now)
         × (map (λ l. l.modules) links ≡ map (λ r. r.3.now) rows.now)
         × RefusesNetwork (letters 65 nodes) links fault)) }
 {
+    if nodes > 26 || rows.len() > 26 {
+        return Err(WorkedFault::TooMany);
+    }
     let names = nodes_of(alloc, nodes)?;
     let links = links_of(alloc, rows)?;
     checked(names, links)

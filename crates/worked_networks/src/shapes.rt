@@ -48,13 +48,13 @@ pub fn triangle(alloc: Global, fixed: u64) -> Result<Network, WorkedFault>
 
 /// The network, the failure of each of its links alone, and up to 26 demands.
 pub fn problem(alloc: Global, net: Network, rows: &[DemandRow]) -> Result<Problem, WorkedFault>
-    requires { length rows.now ≤ 26 }
     ensures net { IfOk result (λ p. p.net ≡ net) }
     ensures belong { IfOk result (λ p. AreStates (length p.net.links) p.states.listed) }
     ensures singles { IfOk result (λ p. AreSingles p.net.links p.states.listed) }
     ensures count { IfOk result (λ p. length p.demands ≡ length rows.now) }
     ensures demands { IfOk result (λ p. map row_of p.demands ≡ rows.now) }
     ensures refused { IfErr result (λ fault. (fault ≡ WorkedFault.NoMemory)
+        ⊎ ((fault ≡ WorkedFault.TooMany) × (26 < length rows.now))
         ⊎ ((fault ≡ WorkedFault.Demands) × (demands : Seq D) × (map row_of demands ≡ rows.now) × (AreDemands (length net.nodes) demands → ⊥))) }
 {
     let states = single_failures(alloc, &net)?;

@@ -47,13 +47,16 @@ fn checked(net: &Network, listed: List<Listed>) -> Result<States, WorkedFault>
 /// Up to 20 states f, g and so on, each of which fails the links of a row. Where the rows aren't states of the network, the answer
 /// is the fault that `States::new` finds.
 pub fn failing(alloc: Global, net: &Network, rows: &[&[u32]]) -> Result<States, WorkedFault>
-    requires { length rows.now ≤ 20 }
     ensures belong { IfOk result (λ s. AreStates (length net.now.links) s.listed) }
     ensures count { IfOk result (λ s. length s.listed ≡ length rows.now) }
     ensures links { IfOk result (λ s. map failed_of s.listed ≡ map (λ r. r.now) rows.now) }
-    ensures refused { IfErr result (λ fault. (fault ≡ WorkedFault.NoMemory) ⊎ ((listed : Seq State)
-        × (map failed_of listed ≡ map (λ r. r.now) rows.now) × RefusesStates (length net.now.links) listed fault)) }
+    ensures refused { IfErr result (λ fault. (fault ≡ WorkedFault.NoMemory)
+        ⊎ ((fault ≡ WorkedFault.TooMany) × (20 < length rows.now))
+        ⊎ ((listed : Seq State) × (map failed_of listed ≡ map (λ r. r.now) rows.now) × RefusesStates (length net.now.links) listed fault)) }
 {
+    if rows.len() > 20 {
+        return Err(WorkedFault::TooMany);
+    }
     let listed = listed_of(alloc, rows)?;
     checked(net, listed)
 }

@@ -14,7 +14,6 @@ fn tables_give_networks_with_single_failures(rt: HostRuntime) -> Result<(), Fail
         (4, &RING),
     ];
     for (nodes, links) in rows {
-        assert!(rt; links.len() <= 5 && nodes <= 6);
         let p = problem(alloc, network(alloc, nodes, links)?, &[(0, 1, 1000)])?;
         assert_eq!(rt;
             (p.net.nodes().len(), p.net.links().len()),
@@ -31,6 +30,10 @@ fn tables_give_networks_with_single_failures(rt: HostRuntime) -> Result<(), Fail
 #[test]
 fn tables_are_refused(rt: HostRuntime) {
     let alloc = rt.alloc();
+    assert_eq!(rt;
+        network(alloc, 27, &CHAIN).err(),
+        Some(WorkedFault::TooMany)
+    );
     let refused = network(alloc, 2, &CHAIN).err();
     assert_eq!(rt;
         refused,

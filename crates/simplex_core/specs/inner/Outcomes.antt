@@ -1,32 +1,36 @@
 -- what comes of a best basis
-use Rattle.std.specs.Prelude.{ℕ, length, Result, Ok, Err, ◌≡◌, ◌<◌, ◌≤◌, ◌^◌}
+use Rattle.std.specs.Prelude.{ℕ, List, length, Result, Ok, Err, ◌≡◌, ◌<◌, ◌≤◌, ◌^◌}
 use Rattle.checked_fraction.specs.Rows.{num}
 use Rattle.net_core.specs.declared.columns.WideKind.{WideKind}
 use Rattle.net_core.specs.declared.columns.WideKind.TheVariants.{Number, Row as RowOf, Product, Sum, Common, Value, Length}
-use Rattle.simplex_core.specs.inner.Commons.{IsDenominator, HaveNoDenominator, DivideAll, value_at}
+use Rattle.simplex_core.specs.inner.Commons.{AreFractionsOf, fraction_den, IsDenominator, HaveNoDenominator, DivideAll, value_at}
 use Rattle.simplex_core.specs.inner.Products.{nums_at}
 use Rattle.simplex_core.specs.inner.Shapes.{AtEach}
 use Rattle.simplex_core.specs.inner.Values.{sizes_of}
 use Rattle.simplex_core.specs.declared.basis.Basis.{Basis}
+use Rattle.simplex_core.specs.declared.fraction.Fraction.{Fraction}
 use Rattle.simplex_core.specs.declared.optimum.Optimum.{Optimum}
 use Rattle.simplex_core.specs.declared.solver.SimplexFault.{SimplexFault}
 use Rattle.simplex_core.specs.declared.solver.SimplexFault.TheVariants.{Wide, NoMemory}
 
 -- over each narrow common denominator, the values are below 2 ^ 124
 abbrev pub HasLowValues : {N : Type 0} → Basis N → Type 0
-HasLowValues b = (den : ℕ) → 0 < den → den < 2 ^ 62 → DivideAll b.rows b.duals (length b.rows) den → (j : ℕ) → j < length b.rows → value_at b.rows (num b.bounds) den j < 2 ^ 124
+HasLowValues b = (fractions : List Fraction) (den : ℕ) → AreFractionsOf b.rows (num b.bounds) fractions → 0 < den → den < 2 ^ 62 → DivideAll (fraction_den fractions) (length fractions) den
+    → (j : ℕ) → j < length fractions → value_at fractions den j < 2 ^ 124
 
--- the values of a basis over its common denominator, with its names and prices
+-- the values of a basis over their common denominator, with its names and prices
 pub record IsValued {N : Type 0} (b : Basis N) (best : Optimum N) : Type 0 where
   pub names : best.basis ≡ b.names
   pub duals : best.duals ≡ b.duals
-  pub den : IsDenominator b.rows b.duals (length b.rows) best.den
-  pub count : length best.values ≡ length b.rows
-  pub values : AtEach (λ j v. v ≡ value_at b.rows (num b.bounds) best.den j) best.values
+  pub fractions : List Fraction
+  pub are : AreFractionsOf b.rows (num b.bounds) fractions
+  pub den : IsDenominator (fraction_den fractions) (length fractions) best.den
+  pub count : length best.values ≡ length fractions
+  pub values : AtEach (λ j v. v ≡ value_at fractions best.den j) best.values
 
 -- what is too wide at the end
 abbrev pub IsWideEnd : {N : Type 0} → Basis N → WideKind N → Type 0
-IsWideEnd b Common = HaveNoDenominator b.rows b.duals
+IsWideEnd b Common = (fractions : List Fraction) × AreFractionsOf b.rows (num b.bounds) fractions × HaveNoDenominator (fraction_den fractions) (length fractions)
 IsWideEnd b (Sum i) = (i < length b.rows) × (2 ^ 126 ≤ sizes_of (length b.rows) (nums_at b.rows i) (num b.bounds))
 IsWideEnd b (RowOf i) = ⊥
 IsWideEnd b (Product i name) = ⊥

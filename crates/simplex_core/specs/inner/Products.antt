@@ -17,10 +17,10 @@ pub record HasRoom (s : Sum) : Type 0 where
   pub high : unsigned_abs s.high ≤ 2 ^ 126
   pub low : s.low ≤ 2 ^ 126
 
--- the number where it is narrow, and none where it isn't
-abbrev pub IsNarrowOf : ℤ → Option ℤ → Type 0
-IsNarrowOf z None = 2 ^ 62 ≤ unsigned_abs z
-IsNarrowOf z (Some p) = (p ≡ z) × IsNarrow p
+-- the number where 128 bits hold it with room to spare, and that it is wide where there is none
+abbrev pub IsHeldOf : ℤ → Option ℤ → Type 0
+IsHeldOf z None = 2 ^ 62 ≤ unsigned_abs z
+IsHeldOf z (Some p) = (p ≡ z) × (unsigned_abs p < 2 ^ 126)
 
 abbrev pub nums_of : Option Row → List ℤ
 nums_of None = []
@@ -42,9 +42,16 @@ den_at rows i = den_of (slice_get rows i)
 abbrev pub IsRectangle : ℕ → List Row → Type 0
 IsRectangle m rows = (i : ℕ) → i < length rows → length (nums_of (slice_get rows i)) ≡ m
 
--- the products of the first n rows with entries are narrow, and are these
+-- rows of as many numbers as there are rows, and as many bounds, all narrow
+pub record AreBoundedRows (rows : List Row) (bounds : List ℤ) : Type 0 where
+  pub rectangle : IsRectangle (length rows) rows
+  pub short : length rows < 2 ^ 32
+  pub count : length bounds ≡ length rows
+  pub narrow : (k : ℕ) → IsNarrow (num bounds k)
+
+-- the products of the first n rows with entries are these, and below 2 ^ 126
 abbrev pub AreProducts : List Row → List Entry → List ℤ → ℕ → Type 0
-AreProducts rows entries products n = (i : ℕ) → i < n → (num products i ≡ dot (length rows) (nums_at rows i) (entry_of entries)) × IsNarrow (num products i)
+AreProducts rows entries products n = (i : ℕ) → i < n → (num products i ≡ dot (length rows) (nums_at rows i) (entry_of entries)) × (unsigned_abs (num products i) < 2 ^ 126)
 
 -- all products, or a row whose product is wide
 abbrev pub HaveProducts : List Row → List Entry → List ℤ → Option ℕ → Type 0

@@ -1,21 +1,21 @@
 -- which row leaves when a column enters
-use Rattle.std.specs.Prelude.{ℕ, ℤ, suc, pos, List, length, Option, Some, None, Result, Ok, Err, ◌≡◌, ◌<◌, ◌≤◌, ◌^◌, ◌<ℤ◌, ◌≤ℤ◌, ◌⊎◌}
+use Rattle.std.specs.Prelude.{ℕ, ℤ, suc, pos, List, length, Option, Some, None, Result, Ok, Err, ◌≡◌, ◌<◌, ◌≤◌, ◌^◌, ◌<ℤ◌, unsigned_abs, ◌≤ℤ◌, ◌⊎◌}
 use Rattle.std.specs.declared.cmp.Ordering.{Ordering}
 use Rattle.std.specs.declared.cmp.Ordering.TheVariants.{Less, Equal, Greater}
-use Rattle.checked_fraction.specs.Rows.{num, IsNarrow}
+use Rattle.checked_fraction.specs.Rows.{num}
 use Rattle.checked_fraction.specs.Mixed.{combined}
 use Rattle.checked_fraction.specs.declared.row.Row.{Row}
 use Rattle.simplex_law.specs.Sums.{dot}
 use Rattle.simplex_law.specs.inner.Lexicographic.{IsLexNonneg, valued}
 use Rattle.simplex_core.specs.inner.Products.{nums_at}
 use Rattle.simplex_core.specs.inner.Values.{sizes_of}
-use Rattle.simplex_core.specs.declared.ratio.Candidate.{Candidate}
+use Rattle.simplex_core.specs.declared.ratio_test.Candidate.{Candidate}
 
--- a row of m with a narrow product that is positive
+-- a row of m with a product that is positive and below 2 ^ 126
 pub record IsPlaced (m : ℕ) (c : Candidate) : Type 0 where
   pub inside : c.row < m
   pub positive : pos 0 <ℤ c.product
-  pub narrow : IsNarrow c.product
+  pub low : unsigned_abs c.product < 2 ^ 126
 
 -- the value and the product are those of the row
 pub record IsCandidate (m : ℕ) (rows : List Row) (bounds products : List ℤ) (c : Candidate) : Type 0 where

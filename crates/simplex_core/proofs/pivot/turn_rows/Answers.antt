@@ -5,27 +5,20 @@ use Rattle.simplex_core.specs.inner.Pivots.{AreTurned}
 use Rattle.simplex_core.proofs.Pivots.{turned_rows, wide_rows, spare_size}
 use Rattle.simplex_core.proofs.pivot.turn_rows.Goals as goal
 
-pub returns-in-Err-clause-wide : goal.returns-in-Err-clause-wide
-returns-in-Err-clause-wide c =
-    let rows = c.args.rows.now in
-    let at : slice_get rows c.args.r ≡ Some c.swap.new.y = slice_get-get_or rows c.args.r c.index-rows-r.result c.requires.inside ∙ ap Some (sym c.swap.ensures.y_after) in
-    let wide = c.in-Err.ensures.wide in
-    wide_rows (length rows) c.args.r c.in-Err.i rows c.swap.new.y c.swap.new.x c.args.products.now refl c.requires.inside c.requires.rectangle at wide.0 wide.1 wide.2
-
 pub returns-clause-turned : goal.returns-clause-turned
 returns-clause-turned c =
     let rows = c.args.rows.now in
-    let at : slice_get rows c.args.r ≡ Some c.swap.new.y = slice_get-get_or rows c.args.r c.index-rows-r.result c.requires.inside ∙ ap Some (sym c.swap.ensures.y_after) in
+    let at : slice_get rows c.args.r ≡ Some c.swap.new.y = slice_get-get_or rows c.args.r c.index-rows-r.result c.requires.pivot.inside ∙ ap Some (sym c.swap.ensures.y_after) in
     subst (λ x. AreTurned (length rows) rows (slice_set c.combine_rows.new.rows c.args.r x) c.args.products.now c.args.r) (sym c.swap-2.ensures.x_after)
-    (turned_rows (length rows) c.args.r rows c.combine_rows.new.rows c.swap.new.y c.swap.new.x c.divide_row.new.row c.args.products.now refl c.requires.inside c.requires.rectangle at
-    c.in_default.ensures.combined c.divide_row.ensures.length c.divide_row.ensures.reduced)
+    (turned_rows (length rows) c.args.r rows c.combine_rows.new.rows c.swap.new.y c.swap.new.x c.divide_row.new.row c.args.products.now refl c.requires.pivot.inside c.requires.rectangle at
+    c.in_ok-combine_rows.ensures.combined c.divide_row.ensures.length c.divide_row.ensures.reduced)
 
 pub returns-clause-spare : goal.returns-clause-spare
 returns-clause-spare c =
     let rows = c.args.rows.now in
     let mid = c.combine_rows.new.rows in
-    let a = c.in_default.ensures.combined in
+    let a = c.in_ok-combine_rows.ensures.combined in
     let at : slice_get mid c.args.r ≡ Some c.swap-2.new.y =
-    slice_get-get_or mid c.args.r c.index-rows-r-2.result (omega (arith, a.count, length-set rows c.args.r c.swap.new.x, c.requires.inside)) ∙ ap Some (sym c.swap-2.ensures.y_after) in
+    slice_get-get_or mid c.args.r c.index-rows-r-2.result (omega (arith, a.count, length-set rows c.args.r c.swap.new.x, c.requires.pivot.inside)) ∙ ap Some (sym c.swap-2.ensures.y_after) in
     spare_size (length rows) c.args.r rows mid c.swap-2.new.y c.swap.new.x c.args.products.now (length c.swap.new.y.nums) (num c.swap.new.y.nums) (num c.args.products.now c.args.r)
-    refl c.requires.inside (ap (λ x. length x.nums) c.swap.ensures.x_after ∙ c.requires.spare) at a
+    refl c.requires.pivot.inside (ap (λ x. length x.nums) c.swap.ensures.x_after ∙ c.requires.spare) at a

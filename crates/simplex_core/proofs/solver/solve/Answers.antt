@@ -11,7 +11,7 @@ loop-basis-init g c =
     let p = g.C.Columns in
     let first = c.args.cols.now in
     record {
-      at = at_start (p.rows first) (p.bound first) (p.slack first) (p.is_listed first) c.in-Ok.basis c.requires c.in-Ok.ensures;
+      at = at_start (p.rows first) (p.bound first) (p.slack first) (p.is_listed first) c.in_ok-basis.basis c.requires c.in_ok-basis.ensures;
       same = same_program (p.rows first) (p.bound first) (p.slack first) (p.is_listed first);
     }
 

@@ -1,5 +1,5 @@
 use Rattle.simplex_core.proofs.Ratios.{best_next}
-use Rattle.simplex_core.proofs.ratio.next_best.Goals as goal
+use Rattle.simplex_core.proofs.ratio_test.next_best.Goals as goal
 
 pub returns-clause-ok : goal.returns-clause-ok
 returns-clause-ok c =

@@ -1,6 +1,6 @@
 use Rattle.std.proofs.Common.{◌≡◌, ℕ, ◌<◌, ◌*ℤ◌}
 use Rattle.checked_fraction.specs.Rows.{num}
-use Rattle.simplex_core.proofs.ratio.compare_numbers.Given as goal
+use Rattle.simplex_core.proofs.ratio_test.compare_numbers.Given as goal
 
 -- all before are equal
 abbrev pub invariant-loop-k : goal.invariant-loop-k

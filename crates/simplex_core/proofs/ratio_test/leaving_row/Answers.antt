@@ -1,7 +1,7 @@
 use Rattle.std.proofs.Common.{arith, subst, sym, length, Ok}
 use Rattle.simplex_core.specs.inner.Ratios.{IsLeavingRow}
 use Rattle.simplex_core.proofs.Ratios.{leaves}
-use Rattle.simplex_core.proofs.ratio.leaving_row.Goals as goal
+use Rattle.simplex_core.proofs.ratio_test.leaving_row.Goals as goal
 
 pub returns : goal.returns
 returns c =

@@ -1,5 +1,5 @@
 use Rattle.simplex_core.specs.inner.Ratios.{IsBestBefore}
-use Rattle.simplex_core.proofs.ratio.leaving_row.Given as goal
+use Rattle.simplex_core.proofs.ratio_test.leaving_row.Given as goal
 use Rattle.std.proofs.Common.{length}
 
 -- the best of the rows so far

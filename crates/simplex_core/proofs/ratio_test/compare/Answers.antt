@@ -1,7 +1,7 @@
 use Rattle.std.proofs.Common.{length, arith, pos}
 use Rattle.simplex_core.specs.inner.Products.{nums_at}
 use Rattle.simplex_core.proofs.Ratios.{by_rows}
-use Rattle.simplex_core.proofs.ratio.compare.Goals as goal
+use Rattle.simplex_core.proofs.ratio_test.compare.Goals as goal
 
 pub returns-in-Equal : goal.returns-in-Equal
 returns-in-Equal c bound values =

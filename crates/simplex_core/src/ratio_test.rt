@@ -1,11 +1,12 @@
-ghost use Rattle.std.specs.Prelude.{◌≡◌, ◌+◌, ◌<◌, ◌≤◌, ◌^◌, ◌*ℤ◌, ◌<ℤ◌, ◌≤ℤ◌, ℤ, ℕ, pos, length, IfOk, IfErr, ◌⊎◌};
+ghost use Rattle.std.specs.Prelude.{◌≡◌, ◌+◌, ◌<◌, ◌≤◌, ◌^◌, ◌*ℤ◌, ◌<ℤ◌, ◌≤ℤ◌, ℤ, ℕ, pos, length, unsigned_abs, IfOk, IfErr, ◌⊎◌};
 ghost use Rattle.std.specs.Option.{ForSome, option_map};
 ghost use Rattle.checked_fraction.specs.Rows.{num, IsNarrow};
 ghost use Rattle.simplex_law.specs.Sums.{dot};
-ghost use Rattle.simplex_core.specs.inner.Products.{nums_at, IsRectangle};
+ghost use Rattle.simplex_core.specs.inner.Products.{nums_at, IsRectangle, AreBoundedRows};
 ghost use Rattle.simplex_core.specs.inner.Ratios.{HasOrder, IsPlaced, IsCandidate, ComparesNumbers, HaveRowValues, ComparesRows, IsFirstOf, IsBetter, IsBestBefore, IsLeavingRow};
 ghost use Rattle.simplex_core.specs.inner.Values.{sizes_of};
 
+use crate::factors::{is_narrow, narrowed};
 use crate::sum::product;
 use crate::value::row_value;
 use checked_fraction::{Row, cmp};
@@ -17,19 +18,28 @@ use std::cmp::Ordering;
 struct Candidate {
     row: usize,
     value: u128,
-    product: i64,
+    product: i128,
+}
+
+/// A product with a narrow factor.
+fn product_with(a: &i64, b: &i128) -> i128
+    requires a { IsNarrow a.now }
+    requires b { IsNarrow b.now }
+    ensures value { result ≡ a.now *ℤ b.now }
+{
+    product(a, &narrowed(b))
 }
 
 /// How two products compare.
-fn compare_products(a: &i64, b: &i64, c: &i64, d: &i64) -> Ordering
+fn compare_products(a: &i64, b: &i128, c: &i64, d: &i128) -> Ordering
     requires a { IsNarrow a.now }
     requires b { IsNarrow b.now }
     requires c { IsNarrow c.now }
     requires d { IsNarrow d.now }
     ensures { HasOrder (a.now *ℤ b.now) (c.now *ℤ d.now) result }
 {
-    let here = product(a, b);
-    let there = product(c, d);
+    let here = product_with(a, b);
+    let there = product_with(c, d);
     if here < there {
         Ordering::Less
     } else if there < here {
@@ -39,17 +49,58 @@ fn compare_products(a: &i64, b: &i64, c: &i64, d: &i64) -> Ordering
     }
 }
 
+/// How `a / p` compares with `b / q`.
+fn compare_sizes(a: u64, p: &i128, b: u64, q: &i128) -> Ordering
+    requires p { pos 0 <ℤ p.now }
+    requires q { pos 0 <ℤ q.now }
+    ensures { HasOrder (pos a *ℤ q.now) (pos b *ℤ p.now) result }
+{
+    cmp(a as u128, p.unsigned_abs(), b as u128, q.unsigned_abs())
+}
+
+/// The same of numbers of either sign.
+fn compare_fractions(a: &i64, p: &i128, b: &i64, q: &i128) -> Ordering
+    requires p { pos 0 <ℤ p.now }
+    requires q { pos 0 <ℤ q.now }
+    ensures { HasOrder (a.now *ℤ q.now) (b.now *ℤ p.now) result }
+{
+    if *a < 0 {
+        if *b < 0 {
+            return compare_sizes(b.unsigned_abs(), q, a.unsigned_abs(), p);
+        }
+        return Ordering::Less;
+    }
+    if *b < 0 {
+        return Ordering::Greater;
+    }
+    compare_sizes(a.unsigned_abs(), p, b.unsigned_abs(), q)
+}
+
+/// The same, by products where they fit into 128 bits.
+fn compare_ratios(a: &i64, p: &i128, b: &i64, q: &i128) -> Ordering
+    requires a { IsNarrow a.now }
+    requires b { IsNarrow b.now }
+    requires p { pos 0 <ℤ p.now }
+    requires q { pos 0 <ℤ q.now }
+    ensures { HasOrder (a.now *ℤ q.now) (b.now *ℤ p.now) result }
+{
+    if is_narrow(p) && is_narrow(q) {
+        return compare_products(a, q, b, p);
+    }
+    compare_fractions(a, p, b, q)
+}
+
 /// How the numbers `first / p` compare with `second / q`, by the first that differs.
-fn compare_numbers(first: &[i64], p: &i64, second: &[i64], q: &i64) -> Ordering
+fn compare_numbers(first: &[i64], p: &i128, second: &[i64], q: &i128) -> Ordering
     requires equal { length first.now ≡ length second.now }
     requires first { (k : ℕ) → IsNarrow (num first.now k) }
     requires second { (k : ℕ) → IsNarrow (num second.now k) }
-    requires p { IsNarrow p.now }
-    requires q { IsNarrow q.now }
+    requires p { pos 0 <ℤ p.now }
+    requires q { pos 0 <ℤ q.now }
     ensures { ComparesNumbers (length first.now) (λ k. num first.now k *ℤ q.now) (λ k. num second.now k *ℤ p.now) result }
 {
     for k in 0..first.len() {
-        match compare_products(&first[k], q, &second[k], p) {
+        match compare_ratios(&first[k], p, &second[k], q) {
             Ordering::Equal => {}
             order => return order,
         }
@@ -63,9 +114,12 @@ fn compare_values(first: &Candidate, second: &Candidate) -> Ordering
     requires second { pos 0 <ℤ second.now.product }
     ensures { ComparesNumbers 1 (λ k. pos first.now.value *ℤ second.now.product) (λ k. pos second.now.value *ℤ first.now.product) result }
 {
-    let p = first.product.unsigned_abs() as u128;
-    let q = second.product.unsigned_abs() as u128;
-    cmp(first.value, p, second.value, q)
+    cmp(
+        first.value,
+        first.product.unsigned_abs(),
+        second.value,
+        second.product.unsigned_abs(),
+    )
 }
 
 /// How the ratios of two rows compare.
@@ -73,8 +127,8 @@ fn compare_rows(rows: &[Row], first: &Candidate, second: &Candidate) -> Ordering
     requires rectangle { IsRectangle (length rows.now) rows.now }
     requires inside_first { first.now.row < length rows.now }
     requires inside_second { second.now.row < length rows.now }
-    requires narrow_first { IsNarrow first.now.product }
-    requires narrow_second { IsNarrow second.now.product }
+    requires first { pos 0 <ℤ first.now.product }
+    requires second { pos 0 <ℤ second.now.product }
     ensures { ComparesNumbers (length rows.now) (λ k. nums_at rows.now first.now.row k *ℤ second.now.product) (λ k. nums_at rows.now second.now.row k *ℤ first.now.product) result }
 {
     compare_numbers(
@@ -123,14 +177,11 @@ fn row_of(best: &Option<Candidate>) -> Option<usize>
 }
 
 /// Row `i` with its value, unless that is wide.
-fn candidate_at(rows: &[Row], bounds: &[i64], products: &[i64], i: usize) -> Result<Candidate, u32>
+fn candidate_at(rows: &[Row], bounds: &[i64], products: &[i128], i: usize) -> Result<Candidate, u32>
     requires inside { i < length rows.now }
-    requires rectangle { IsRectangle (length rows.now) rows.now }
-    requires short { length rows.now < 2 ^ 32 }
-    requires count { length bounds.now ≡ length rows.now }
+    requires rows { AreBoundedRows rows.now bounds.now }
     requires products { length products.now ≡ length rows.now }
-    requires bounds { (k : ℕ) → IsNarrow (num bounds.now k) }
-    requires narrow { IsNarrow (num products.now i) }
+    requires low { unsigned_abs (num products.now i) < 2 ^ 126 }
     requires positive { pos 0 <ℤ num products.now i }
     requires value { pos 0 ≤ℤ dot (length rows.now) (nums_at rows.now i) (num bounds.now) }
     ensures ok { IfOk result (IsCandidate (length rows.now) rows.now bounds.now products.now) }
@@ -164,17 +215,14 @@ fn better(rows: &[Row], best: Option<Candidate>, other: Candidate) -> Candidate
 fn next_best(
     rows: &[Row],
     bounds: &[i64],
-    products: &[i64],
+    products: &[i128],
     best: Option<Candidate>,
     i: usize,
 ) -> Result<Option<Candidate>, u32>
     requires inside { i < length rows.now }
-    requires rectangle { IsRectangle (length rows.now) rows.now }
-    requires short { length rows.now < 2 ^ 32 }
-    requires count { length bounds.now ≡ length rows.now }
+    requires rows { AreBoundedRows rows.now bounds.now }
     requires products { length products.now ≡ length rows.now }
-    requires bounds { (k : ℕ) → IsNarrow (num bounds.now k) }
-    requires narrow { IsNarrow (num products.now i) }
+    requires low { unsigned_abs (num products.now i) < 2 ^ 126 }
     requires value { pos 0 ≤ℤ dot (length rows.now) (nums_at rows.now i) (num bounds.now) }
     requires before { IsBestBefore (length rows.now) rows.now bounds.now products.now i best }
     ensures ok { IfOk result (IsBestBefore (length rows.now) rows.now bounds.now products.now (i + 1)) }
@@ -188,13 +236,10 @@ fn next_best(
 }
 
 /// The row that leaves: of those whose product is positive, the first by its ratio. An error names a row whose value is wide.
-fn leaving_row(rows: &[Row], bounds: &[i64], products: &[i64]) -> Result<Option<usize>, u32>
-    requires rectangle { IsRectangle (length rows.now) rows.now }
-    requires short { length rows.now < 2 ^ 32 }
-    requires count { length bounds.now ≡ length rows.now }
+fn leaving_row(rows: &[Row], bounds: &[i64], products: &[i128]) -> Result<Option<usize>, u32>
+    requires rows { AreBoundedRows rows.now bounds.now }
     requires products { length products.now ≡ length rows.now }
-    requires bounds { (k : ℕ) → IsNarrow (num bounds.now k) }
-    requires narrow { (k : ℕ) → k < length rows.now → IsNarrow (num products.now k) }
+    requires low { (k : ℕ) → k < length rows.now → unsigned_abs (num products.now k) < 2 ^ 126 }
     requires values { (k : ℕ) → k < length rows.now → pos 0 ≤ℤ dot (length rows.now) (nums_at rows.now k) (num bounds.now) }
     ensures { IsLeavingRow (length rows.now) rows.now bounds.now products.now result }
 {
@@ -209,14 +254,11 @@ fn leaving_row(rows: &[Row], bounds: &[i64], products: &[i64]) -> Result<Option<
 pub(crate) fn leaving_of(
     rows: &List<Row>,
     bounds: &List<i64>,
-    products: &List<i64>,
+    products: &List<i128>,
 ) -> Result<Option<usize>, u32>
-    requires rectangle { IsRectangle (length rows.now) rows.now }
-    requires short { length rows.now < 2 ^ 32 }
-    requires count { length bounds.now ≡ length rows.now }
+    requires rows { AreBoundedRows rows.now bounds.now }
     requires products { length products.now ≡ length rows.now }
-    requires bounds { (k : ℕ) → IsNarrow (num bounds.now k) }
-    requires narrow { (k : ℕ) → k < length rows.now → IsNarrow (num products.now k) }
+    requires low { (k : ℕ) → k < length rows.now → unsigned_abs (num products.now k) < 2 ^ 126 }
     requires values { (k : ℕ) → k < length rows.now → pos 0 ≤ℤ dot (length rows.now) (nums_at rows.now k) (num bounds.now) }
     ensures { IsLeavingRow (length rows.now) rows.now bounds.now products.now result }
 {
