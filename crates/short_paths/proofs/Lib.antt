@@ -3,6 +3,7 @@ pub mod ForwardStars
 pub mod Gathering
 pub mod Leading
 pub mod PairNumbers
+pub mod Pricing
 pub mod Relaxing
 pub mod Settling
 pub mod Tables

@@ -1,3 +1,4 @@
 pub mod DistanceRows
 pub mod DistanceTables
+pub mod PricedPaths
 pub mod inner

@@ -1,4 +1,5 @@
 pub mod ForwardStars
 pub mod Pairs
+pub mod Scales
 pub mod Tables
 pub mod TightLinks

@@ -1,4 +1,4 @@
-ghost use Rattle.std.specs.Prelude.{◌≡◌, ℕ, ◌+◌, ◌<◌, ◌↔◌, IfOk, IsErrOf, length, slice_index};
+ghost use Rattle.std.specs.Prelude.{◌≡◌, ℕ, ◌+◌, ◌<◌, ◌^◌, ◌↔◌, IfOk, IsErrOf, length, slice_index};
 ghost use Rattle.net_core.specs.Graphs.{Joins, Survives};
 ghost use Rattle.net_core.specs.Views.{graph, graph_of};
 ghost use Rattle.plan_terms.specs.LeastPaths.{IsLeastPath};
@@ -119,15 +119,16 @@ fn search_to(
     Ok(search)
 }
 
-/// The least path in a surviving graph.
-fn path_in(
+/// The least path in a surviving graph, under lengths in the width of a search.
+pub(crate) fn path_under(
     alloc: Global,
     graph: &Surviving,
-    lengths: &Lengths,
+    lengths: &[u128],
     from: NodeId,
     to: NodeId,
 ) -> Result<Path, PathFault>
     requires lengths { length lengths.now ≡ length graph.now.net.now.links }
+    requires short { (e : ℕ) → slice_index lengths.now e < 2 ^ 100 }
     requires long { let g = graph_of graph.now in (e : ℕ) → Survives g e → 0 < slice_index lengths.now e }
     requires from { from.0 < length graph.now.net.now.nodes }
     requires to { to.0 < length graph.now.net.now.nodes }
@@ -135,9 +136,8 @@ fn path_in(
     ensures apart { let g = graph_of graph.now in IsErrOf result PathFault.Apart → AreApart (Joins g) from.0 to.0 }
 {
     let star = ForwardStar::new(alloc, graph)?;
-    let wide = widened(alloc, lengths)?;
-    let search = search_to(alloc, &star, wide.items(), graph.net.nodes().len(), to)?;
-    way_back(alloc, &star, wide.items(), search.found(), from, to)
+    let search = search_to(alloc, &star, lengths, graph.net.nodes().len(), to)?;
+    way_back(alloc, &star, lengths, search.found(), from, to)
 }
 
 /// The least of the shortest paths between two nodes, by the numbers of its links, over the links that survive in the
@@ -163,5 +163,7 @@ pub fn least_path(
     ensures found { IfOk result (IsLeastPath (Joins (graph net.now states.now state.0)) lengths.now from.0 to.0) }
     ensures apart { IsErrOf result PathFault.Apart → AreApart (Joins (graph net.now states.now state.0)) from.0 to.0 }
 {
-    path_in(alloc, &Surviving { net, states, state }, lengths, from, to)
+    let graph = Surviving { net, states, state };
+    let wide = widened(alloc, lengths)?;
+    path_under(alloc, &graph, wide.items(), from, to)
 }

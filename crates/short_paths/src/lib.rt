@@ -6,12 +6,14 @@ mod distance_table;
 mod forward_star;
 mod least_paths;
 mod pairs;
+mod priced_paths;
 mod single_source;
 mod tight_links;
 
 pub use distance_table::DistanceTable;
 pub use least_paths::{LeastPaths, least_path};
 pub use pairs::all_pairs;
+pub use priced_paths::{PricedPath, priced_path};
 pub use single_source::distances;
 pub use tight_links::PathFault;
 

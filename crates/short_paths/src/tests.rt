@@ -2,194 +2,64 @@ ghost use Rattle.std.specs.Prelude.{◌≡◌, ℕ, ◌+◌, ◌<◌, IsTrue, le
 ghost use Rattle.net_core.specs.Graphs.{Survives};
 ghost use Rattle.net_core.specs.Views.{graph};
 
-use crate::{LeastPaths, PathFault, all_pairs, distances, least_path};
-use net_core::{
-    Lengths, Link, LinkId, List, Listed, Module, Name, Network, NoMemory, NodeId, Notes, Path,
-    StateId, States, Surviving,
-};
+use crate::{LeastPaths, PathFault, all_pairs, distances, least_path, priced_path};
+use net_core::{Lengths, List, Network, NoMemory, NodeId, Path, StateId, States, Surviving};
 use std::alloc::Global;
 use std::test::Fail;
+use worked_networks::{LinkRow, ONE, failing, network};
 
-/// Two parallel links, a link of length 0, and one without a module, which alone would lead to the last of four nodes.
-const ENDS: [(u32, u32); 5] = [(0, 1), (1, 0), (1, 2), (0, 2), (2, 3)];
-
-const LENGTHS: [u32; 5] = [2, 5, 0, 4, 1];
-
-/// Whether each link survives, in each state. The last link has no module.
-const ALIVE: [[bool; 5]; 4] = [
-    [true, true, true, true, false],
-    [false, true, true, true, false],
-    [false, false, true, true, false],
-    [true, true, false, false, false],
+/// Two parallel links AB, links BC and AC, and CD, which has no module.
+const LINKS: [LinkRow; 5] = [
+    (0, 1, 0, &ONE),
+    (1, 0, 0, &ONE),
+    (1, 2, 0, &ONE),
+    (0, 2, 0, &ONE),
+    (2, 3, 0, &[]),
 ];
 
-/// The least length from the first node to each, in each state, worked out by hand.
-const FROM_FIRST: [[Option<u64>; 4]; 4] = [
-    [Some(0), Some(2), Some(2), None],
-    [Some(0), Some(4), Some(4), None],
-    [Some(0), Some(4), Some(4), None],
-    [Some(0), Some(2), None, None],
+/// The links that the listed states fail.
+const FAILED: [&[u32]; 3] = [&[0], &[0, 1], &[2, 3]];
+
+/// In each state the distances of A and B, of A and C, and of B and C, worked out by hand.
+const DISTANCES: [[Option<u64>; 3]; 4] = [
+    [Some(2), Some(2), Some(0)],
+    [Some(4), Some(4), Some(0)],
+    [Some(4), Some(4), Some(0)],
+    [Some(2), None, None],
 ];
 
-fn put<T: Drop>(items: &mut List<T>, item: T) -> Result<(), NoMemory> {
-    items.push(item)?;
-    Ok(())
-}
-
-fn network(alloc: Global) -> Result<Network, Fail> {
-    let mut nodes = List::new(alloc);
-    for n in 0..4u8 {
-        put(&mut nodes, Name::new(alloc, &[b'A' + n])?)?;
-    }
-    let mut links = List::new(alloc);
-    for e in 0..5usize {
-        let mut modules = List::new(alloc);
-        if ALIVE[0][e] {
-            put(
-                &mut modules,
-                Module {
-                    capacity: 1000,
-                    cost: 1000,
-                },
-            )?;
-        }
-        let (a, b) = ENDS[e];
-        put(
-            &mut links,
-            Link {
-                name: Name::new(alloc, &[b'a' + e as u8])?,
-                a: NodeId(a),
-                b: NodeId(b),
-                fixed: 0,
-                setup: 0,
-                modules,
-            },
-        )?;
-    }
-    let notes = Notes {
-        fixed_cost: false,
-        routing_cost: false,
-        setup_cost: false,
-    };
-    Ok(Network::check(nodes, links, notes)?)
-}
-
-/// States that fail the links that have a module and don't survive.
-fn states(alloc: Global, net: &Network) -> Result<States, Fail> {
-    let mut listed = List::new(alloc);
-    for s in 1..4usize {
-        let mut links = List::new(alloc);
-        for e in 0..5usize {
-            if ALIVE[0][e] && !ALIVE[s][e] {
-                put(&mut links, LinkId(e as u32))?;
-            }
-        }
-        put(
-            &mut listed,
-            Listed {
-                name: Name::new(alloc, &[b'0' + s as u8])?,
-                links,
-            },
-        )?;
-    }
-    Ok(States::new(net, listed)?)
-}
-
-/// The length of the links that `code` names in base 5, where they are a path from a to b in a state.
-fn path_length(s: usize, a: u32, b: u32, count: u32, code: usize) -> Option<u64>
-    requires { s < 4 }
-{
-    let mut at = a;
-    let mut seen = [false; 4];
-    seen[(a % 4) as usize] = true;
-    let mut total = 0u64;
-    let mut rest = code;
-    for _ in 0..count {
-        let e = rest % 5;
-        rest /= 5;
-        let (x, y) = ENDS[e];
-        if !ALIVE[s][e] || (x != at && y != at) {
-            return None;
-        }
-        at = if x == at { y } else { x };
-        let place = (at % 4) as usize;
-        if seen[place] {
-            return None;
-        }
-        seen[place] = true;
-        total = total.saturating_add(LENGTHS[e] as u64);
-    }
-    if at == b { Some(total) } else { None }
-}
-
-/// The least of the lengths of all paths, one after another.
-fn least(s: usize, a: u32, b: u32) -> Option<u64>
-    requires { s < 4 }
-{
-    let mut best: Option<u64> = None;
-    for count in 0..4 {
-        for code in 0..125 {
-            if let Some(d) = path_length(s, a, b, count, code) {
-                best = Some(best.unwrap_or(d).min(d));
-            }
-        }
-    }
-    best
-}
-
-fn list_of(alloc: Global, numbers: &[u32; 5]) -> Result<Lengths, Fail> {
-    let mut lengths = List::new(alloc);
-    for length in *numbers {
-        put(&mut lengths, length)?;
-    }
-    Ok(lengths)
-}
-
 #[test]
-fn rows_are_as_by_hand(rt: HostRuntime) -> Result<(), Fail> {
+fn distances_are_as_by_hand(rt: HostRuntime) -> Result<(), Fail> {
     let alloc = rt.alloc();
-    let net = network(alloc)?;
-    let states = states(alloc, &net)?;
-    let lengths = list_of(alloc, &LENGTHS)?;
-    assert!(rt; net.nodes().len() == 4);
-    assert!(rt; states.count() == 4);
-    assert!(rt; lengths.len() == net.links().len());
+    let net = network(alloc, 4, &LINKS)?;
+    let states = failing(alloc, &net, &FAILED)?;
+    let lengths = List::from_slice(alloc, &[2, 5, 0, 4, 1])?;
     for s in 0..4usize {
-        let row = distances(alloc, &net, &states, StateId(s as u32), &lengths, NodeId(0))?;
-        assert!(rt; row.items() == &FROM_FIRST[s][..]);
-    }
-    Ok(())
-}
-
-#[test]
-fn tables_are_as_by_all_paths(rt: HostRuntime) -> Result<(), Fail> {
-    let alloc = rt.alloc();
-    let net = network(alloc)?;
-    let states = states(alloc, &net)?;
-    let lengths = list_of(alloc, &LENGTHS)?;
-    assert!(rt; net.nodes().len() == 4);
-    assert!(rt; states.count() == 4);
-    assert!(rt; lengths.len() == net.links().len());
-    for s in 0..4usize {
-        let table = all_pairs(alloc, &net, &states, StateId(s as u32), &lengths)?;
-        assert!(rt; table.nodes() == 4);
-        for a in 0..4 {
-            for b in 0..4 {
-                assert_eq!(rt; table.get(NodeId(a), NodeId(b)), least(s, a, b));
-            }
+        let [ab, ac, bc] = DISTANCES[s];
+        let state = StateId(s as u32);
+        let row = distances(alloc, &net, &states, state, &lengths, NodeId(0))?;
+        assert!(rt; row.items() == [Some(0), ab, ac, None].as_slice());
+        let table = all_pairs(alloc, &net, &states, state, &lengths)?;
+        for (a, b, want) in [
+            (0, 1, ab),
+            (2, 0, ac),
+            (1, 2, bc),
+            (3, 2, None),
+            (3, 3, Some(0)),
+        ] {
+            assert!(rt; a < table.nodes() && b < table.nodes());
+            assert_eq!(rt; table.get(NodeId(a), NodeId(b)), want, "{s} {a} {b}");
+            assert_eq!(rt; table.get(NodeId(b), NodeId(a)), want, "{s} {b} {a}");
         }
     }
     Ok(())
 }
 
-/// Lengths with which two paths, or three, are the shortest.
-const TIED: [u32; 5] = [2, 2, 2, 4, 1];
+/// A state, two nodes, and the links of a path between them. None says that they are apart.
+type PathRow = (u32, u32, u32, Option<&'static [u32]>);
 
-/// A state, two nodes, and the links of the least path between them. None says that they are apart.
-type Row = (u32, u32, u32, Option<&'static [u32]>);
-
-/// Least paths under the tied lengths, worked out by hand.
-const LEAST: [Row; 12] = [
+/// Least paths under the lengths 2, 2, 2, 4 and 1, by which two paths, or three, are the shortest.
+const LEAST: [PathRow; 12] = [
     (0, 0, 1, Some(&[0])),
     (0, 0, 2, Some(&[0, 2])),
     (0, 2, 0, Some(&[2, 0])),
@@ -212,12 +82,15 @@ fn are_long(net: &Network, states: &States, state: StateId, lengths: &Lengths) -
     lengths.items().iter().all(|n| *n > 0)
 }
 
+/// Whether the path is of these links.
+fn is_of(path: &Path, links: &[u32]) -> bool {
+    path.len() == links.len() && path.items().iter().zip(links).all(|(e, k)| e.0 == *k)
+}
+
 /// Whether the answer is that of a row.
 fn agrees(found: &Result<Path, PathFault>, expected: Option<&[u32]>) -> bool {
     match (found, expected) {
-        (Ok(path), Some(links)) => {
-            path.len() == links.len() && path.items().iter().zip(links).all(|(e, k)| e.0 == *k)
-        }
+        (Ok(path), Some(links)) => is_of(path, links),
         (Err(fault), None) => *fault == PathFault::Apart,
         _ => false,
     }
@@ -228,36 +101,65 @@ fn both_agree(
     alloc: Global,
     net: &Network,
     states: &States,
-    state: StateId,
     lengths: &Lengths,
-    ends: (NodeId, NodeId),
-    expected: Option<&[u32]>,
+    row: PathRow,
 ) -> Result<bool, NoMemory>
     requires { length lengths.now ≡ length net.now.links }
 {
-    if state.0 >= states.count() || !are_long(net, states, state, lengths) {
-        return Ok(false);
-    }
+    let (s, a, b, expected) = row;
     let nodes = net.nodes().len() as u32;
-    if ends.0.0 >= nodes || ends.1.0 >= nodes {
+    let state = StateId(s);
+    if s >= states.count() || a >= nodes || b >= nodes || !are_long(net, states, state, lengths) {
         return Ok(false);
     }
-    let one = least_path(alloc, net, states, state, lengths, ends.0, ends.1);
+    let one = least_path(alloc, net, states, state, lengths, NodeId(a), NodeId(b));
     let paths = LeastPaths::new(alloc, &Surviving { net, states, state }, lengths)?;
-    let other = paths.path(ends.0, ends.1);
+    let other = paths.path(NodeId(a), NodeId(b));
     Ok(agrees(&one, expected) && agrees(&other, expected))
 }
 
 #[test]
 fn least_paths_are_as_by_hand(rt: HostRuntime) -> Result<(), Fail> {
     let alloc = rt.alloc();
-    let net = network(alloc)?;
-    let states = states(alloc, &net)?;
-    let lengths = list_of(alloc, &TIED)?;
-    assert!(rt; lengths.len() == net.links().len());
-    for (s, a, b, expected) in LEAST {
-        let ends = (NodeId(a), NodeId(b));
-        assert!(rt; both_agree(alloc, &net, &states, StateId(s), &lengths, ends, expected)?);
+    let net = network(alloc, 4, &LINKS)?;
+    let states = failing(alloc, &net, &FAILED)?;
+    let lengths = List::from_slice(alloc, &[2, 2, 2, 4, 1])?;
+    for row in LEAST {
+        assert!(rt; both_agree(alloc, &net, &states, &lengths, row)?);
+    }
+    Ok(())
+}
+
+/// A price that no sum of smaller ones reaches, and that a 64-bit sum of five can't hold.
+const GREAT: u64 = (1 << 62) - 1;
+
+#[test]
+fn cheapest_paths_are_as_by_hand(rt: HostRuntime) -> Result<(), Fail> {
+    let alloc = rt.alloc();
+    let net = network(alloc, 3, &LINKS[..4])?;
+    let states = failing(alloc, &net, &[])?;
+    let rows: [([u64; 4], &[u32], u128); 4] = [
+        ([5, 0, 0, 1], &[1, 2], 0),
+        ([0, 0, 3, 3], &[3], 3),
+        ([0, 0, 0, 0], &[3], 0),
+        ([GREAT, 7, GREAT, GREAT], &[3], GREAT as u128),
+    ];
+    for (prices, links, total) in rows {
+        assert!(rt;
+            prices[0] < 1 << 62 && prices[1] < 1 << 62 && prices[2] < 1 << 62 && prices[3] < 1 << 62
+        );
+        let prices = List::from_slice(alloc, &prices)?;
+        let found = priced_path(
+            alloc,
+            &net,
+            &states,
+            StateId(0),
+            &prices,
+            NodeId(0),
+            NodeId(2),
+        )?;
+        assert!(rt; is_of(&found.path, links));
+        assert_eq!(rt; found.total, total);
     }
     Ok(())
 }
