@@ -1,0 +1,3 @@
+pub mod Bests
+pub mod Carrying
+pub mod Growing
