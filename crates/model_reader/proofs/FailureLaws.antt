@@ -1,5 +1,5 @@
 -- The reading of a failure list takes exactly the texts of failure lists.
-use Rattle.std.proofs.Common.{◌≡◌, ◌≢◌, ℕ, ◌<◌, ◌≤◌, Bool, true, false, cond, nat_lt, List, [], ◌∷◌, ◌++◌, length, get_or, All, AllPairs, Option, None, Some, Result, Ok, Err, IfOk, IfErr, refl, sym, ap, subst, ◌∙◌, arith, append-nil, append_assoc}
+use Rattle.std.proofs.Common.{◌≡◌, ◌≢◌, ℕ, ◌<◌, ◌≤◌, Bool, true, false, cond, nat_lt, List, [], ◌∷◌, ◌++◌, length, get_or, All, AllPairs, Option, None, Some, Result, Ok, Err, IfOk, IfErr, refl, sym, ap, subst, ◌∙◌, arith, append-nil}
 use Rattle.std.specs.Prelude.{flat_map, codes}
 use Rattle.std.specs.List.{position_or_len}
 use Rattle.std.proofs.lemmas.Bool.{ltb-false, ltb-true, le-ltb, lt-ltb}
@@ -19,7 +19,7 @@ use Rattle.snd_tokens.specs.Lexemes.{Text, EndAt}
 use Rattle.text_kit.specs.Answers.{AnswersAs, ReadsAllAs}
 use Rattle.text_kit.specs.Files.{IsNotTooEarly, body}
 use Rattle.text_kit.specs.Items.{AreBehind, Item, Named, Opening, Closing}
-use Rattle.text_kit.specs.Reading.{word_at, open_at, Parenthesis, list_at, no_fault, not_empty, sound, whole_at}
+use Rattle.text_kit.specs.Reading.{word_at, Parenthesis, no_fault, not_empty, sound}
 use Rattle.text_kit.specs.declared.refusal.Refusal.{Refusal}
 use Rattle.text_kit.proofs.Behind.{all_behind, behind_all, behind_as, behind_both, behind_differ, differ_behind}
 use Rattle.text_kit.proofs.Files.{answer_found, answer_only, answer_first, file_read}
@@ -28,7 +28,7 @@ use Rattle.text_kit.proofs.Online.{IsOnline, TakesSome, online_give, online_list
 use Rattle.model_reader.specs.declared.failures.FailureList.{FailureList}
 use Rattle.model_reader.specs.declared.failures.FailureList.TheVariants.{OneByOne, EachAlone}
 use Rattle.model_reader.specs.declared.failures.FailuresKind.{FailuresKind}
-use Rattle.model_reader.specs.declared.failures.FailuresKind.TheVariants.{Header, Section, Token, Ended, LimitName, UnknownLink, DoubleState, LimitStates}
+use Rattle.model_reader.specs.declared.failures.FailuresKind.TheVariants.{Header, Section, Token, Ended, LimitName, DoubleState, LimitStates}
 use Rattle.model_reader.specs.Failures.{IsListInForm, IsShort, Spells, header, link_name, list_items, state_items, states_of}
 use Rattle.model_reader.specs.FailuresReading.{behind_word, failure_list_at, failures_at, failures_of, is_list, known_or, link_of, link_place, links_at, name_fault, state_at, states_at}
 use Rattle.model_reader.proofs.FailureSingles.{network_differs}

@@ -6,7 +6,7 @@ use Rattle.snd_tokens.specs.Header.{first_line, trimmed}
 use Rattle.snd_tokens.specs.Lexemes.{Text, EndAt}
 use Rattle.text_kit.specs.Answers.{AnswersAs, ReadsAllAs}
 use Rattle.text_kit.specs.Files.{IsNotTooEarly, body}
-use Rattle.text_kit.specs.Items.{Item, Named}
+use Rattle.text_kit.specs.Items.{Named}
 use Rattle.text_kit.specs.Reading.{word_at, key, TheEnd}
 use Rattle.text_kit.specs.declared.refusal.Refusal.{Refusal}
 use Rattle.text_kit.proofs.Files.{answer_found, answer_only, answer_first, file_read}

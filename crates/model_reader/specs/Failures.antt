@@ -1,5 +1,5 @@
 -- the grammar of a failure list: named states, each with the links that fail; or the word for each link alone
-use Rattle.std.specs.Prelude.{◌≡◌, ℕ, ◌+◌, ◌≤◌, List, [], ◌∷◌, ◌++◌, length, All, flat_map, slice_get, codes}
+use Rattle.std.specs.Prelude.{ℕ, ◌+◌, ◌≤◌, List, [], ◌∷◌, ◌++◌, length, All, flat_map, slice_get, codes}
 use Rattle.std.specs.Option.{option_map_or}
 use Rattle.net_core.specs.declared.ids.LinkId.{LinkId}
 use Rattle.net_core.specs.declared.network.Link.{Link}
