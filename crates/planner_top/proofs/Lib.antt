@@ -1,6 +1,4 @@
 pub mod Answering
-pub mod Bounding
 pub mod Pairs
-pub mod Planning
+pub mod Refusing
 pub mod Taking
-pub mod Wording

@@ -1,12 +1,16 @@
--- the words of a command, and the files that they name
+-- commands, and the words that give them
 use Rattle.std.specs.Prelude.{◌≡◌, ℕ, ◌==◌, Bool, true, false, not, List, [], ◌∷◌, String, string_bytes, codes, All, map}
 use Rattle.std.specs.Global.{Global}
 
 -- the files of a plan: the network's, the model's and the failure list's, in the order in which they are read
-pub record Command : Type 0 where
+pub record PlanWords : Type 0 where
   pub network : List ℕ
   pub model : List ℕ
   pub failures : List ℕ
+
+-- a command and its words
+pub data Command : Type 0 where
+  Plan : PlanWords → Command
 
 -- the word for a model or a failure list that is in no file
 abbrev pub default : List ℕ
@@ -18,17 +22,17 @@ may_be_file [] = false
 may_be_file (b ∷ bytes) = not (b == 45)
 
 -- one, two or three words are the files; a word that is missing is read as `default`
-abbrev pub AreFiles : List (List ℕ) → Command → Type 0
-AreFiles (n ∷ []) c = c ≡ record { network = n; model = default; failures = default }
-AreFiles (n ∷ m ∷ []) c = c ≡ record { network = n; model = m; failures = default }
-AreFiles (n ∷ m ∷ f ∷ []) c = c ≡ record { network = n; model = m; failures = f }
-AreFiles _ c = ⊥
+abbrev pub AreFiles : List (List ℕ) → PlanWords → Type 0
+AreFiles (n ∷ []) w = w ≡ record { network = n; model = default; failures = default }
+AreFiles (n ∷ m ∷ []) w = w ≡ record { network = n; model = m; failures = default }
+AreFiles (n ∷ m ∷ f ∷ []) w = w ≡ record { network = n; model = m; failures = f }
+AreFiles _ w = ⊥
 
--- the words are `plan` and these files
+-- the words are those of the command: for a plan, `plan` and its files
 abbrev pub IsCommand : List (String Global) → Command → Type 0
 IsCommand [] c = ⊥
-IsCommand (command ∷ files) c =
-    (string_bytes command ≡ codes "plan") × All (λ w. may_be_file (string_bytes w) ≡ true) files × AreFiles (map string_bytes files) c
+IsCommand (name ∷ words) (Plan w) =
+    (string_bytes name ≡ codes "plan") × All (λ word. may_be_file (string_bytes word) ≡ true) words × AreFiles (map string_bytes words) w
 
 -- the line that answers words outside the grammar
 abbrev pub usage : List ℕ

@@ -1,6 +1,6 @@
-pub mod Bounds
 pub mod Commands
 pub mod Inputs
 pub mod Refusals
 pub mod Run
 pub mod Texts
+pub mod inner

@@ -1,5 +1,5 @@
 -- the lines that say why a file is refused
-use Rattle.std.specs.Prelude.{ℕ, List, [], ◌∷◌, ◌++◌, codes, decimal}
+use Rattle.std.specs.Prelude.{◌≡◌, ℕ, List, [], ◌∷◌, ◌++◌, codes, decimal}
 use Rattle.model_reader.specs.declared.failures.FailuresKind.{FailuresKind}
 use Rattle.model_reader.specs.declared.failures.FailuresKind.TheVariants as failures
 use Rattle.model_reader.specs.declared.model.ModelKind.{ModelKind}
@@ -33,4 +33,12 @@ refusal_line file word at = codes "refused " ++ file ++ 32 ∷ word ++ codes " a
 
 -- the line of a failure file beside a model without survivability
 abbrev pub unused_line : List ℕ
-unused_line = codes "refused failures unused at 0\n"
+unused_line = refusal_line (codes "failures") (codes "unused") 0
+
+-- the bytes spell nothing in their format, and the text names their first fault
+pub record Refuses {X K : Type 0} (Spells : List ℕ → X → Type 0) (IsFirst : List ℕ → ℕ → K → Type 0) (file : List ℕ) (word : K → List ℕ) (bytes text : List ℕ) : Type 0 where
+  pub nothing : (x : X) → Spells bytes x → ⊥
+  pub at : ℕ
+  pub kind : K
+  pub first : IsFirst bytes at kind
+  pub printed : text ≡ refusal_line file (word kind) at

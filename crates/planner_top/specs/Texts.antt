@@ -1,16 +1,10 @@
 -- the texts that the program writes
-use Rattle.std.specs.Prelude.{ℕ, ◌+◌, ◌/◌, ◌%◌, List, [], ◌∷◌, ◌++◌, Option, None, Some, codes, decimal, flat_map, zip}
+use Rattle.std.specs.Prelude.{ℕ, List, [], ◌∷◌, ◌++◌, Option, None, Some, codes, decimal, flat_map, zip}
 use Rattle.net_core.specs.declared.network.Link.{Link}
-use Rattle.planner_top.specs.declared.bound.Bounded.{Bounded}
-use Rattle.planner_top.specs.declared.bound.CertifiedCut.{CertifiedCut}
-
--- the digit at a place of ten
-abbrev pub digit_of : ℕ → ℕ
-digit_of n = 48 + n % 10
-
--- thousandths, with a point and three digits
-abbrev pub money_text : ℕ → List ℕ
-money_text n = decimal (n / 1000) ++ 46 ∷ digit_of (n / 100) ∷ digit_of (n / 10) ∷ digit_of n ∷ []
+use Rattle.planner.specs.declared.bounded.Bounded.{Bounded}
+use Rattle.planner.specs.declared.bounded.CertifiedCut.{CertifiedCut}
+use Rattle.planner.specs.declared.plan.FirstPlan.{FirstPlan}
+use Rattle.text_kit.specs.Written.{money_word}
 
 -- counts, each behind a space
 abbrev pub counts_text : List ℕ → List ℕ
@@ -35,8 +29,8 @@ cut_lines (Some c) = cut_line c
 
 -- the lines of a bound: the bound, the raw value, and the cut
 abbrev pub bound_lines : Bounded → List ℕ
-bound_lines b = codes "bound " ++ money_text b.bound ++ codes "\nraw " ++ decimal b.raw.num ++ 32 ∷ decimal b.raw.den ++ 10 ∷ cut_lines b.cut
+bound_lines b = codes "bound " ++ money_word b.bound ++ codes "\nraw " ++ decimal b.raw.num ++ 32 ∷ decimal b.raw.den ++ 10 ∷ cut_lines b.cut
 
 -- the short form of a plan: its cost, a line for each link, and the lines of its bound
-abbrev pub short_form : List Link → List (List ℕ) → ℕ → Bounded → List ℕ
-short_form links counts cost bounded = codes "cost " ++ money_text cost ++ 10 ∷ link_lines links counts ++ bound_lines bounded
+abbrev pub short_form : List Link → FirstPlan → List ℕ
+short_form links plan = codes "cost " ++ money_word plan.cost ++ 10 ∷ link_lines links plan.counts ++ bound_lines plan.bounded

@@ -1,9 +1,10 @@
 ghost use Rattle.std.specs.Prelude.{◌≡◌, ◌++◌, ◌∷◌, [], OnOk, codes, decimal};
-ghost use Rattle.planner_top.specs.Texts.{bound_lines, counts_text, cut_line, cut_lines, money_text};
+ghost use Rattle.planner_top.specs.Texts.{bound_lines, counts_text, cut_line, cut_lines};
 
-use crate::bound::{Bounded, CertifiedCut};
-use crate::text::{put_money, put_number, put_spaced};
+use crate::text::put_spaced;
 use net_core::{Bytes, NoMemory};
+use planner::{Bounded, CertifiedCut};
+use text_kit::write::{put_decimal, put_money_word};
 
 /// Puts lengths last, each behind a space.
 fn put_lengths(text: &mut Bytes, lengths: &[u32]) -> Result<(), NoMemory>
@@ -20,7 +21,7 @@ fn put_cut(text: &mut Bytes, c: &CertifiedCut) -> Result<(), NoMemory>
     ensures { OnOk result (text.new ≡ text.old ++ cut_line c.now) }
 {
     text.append(b"cut ")?;
-    put_number(text, c.line.state.0 as u128)?;
+    put_decimal(text, c.line.state.0 as u128)?;
     put_spaced(text, c.multiplier.den)?;
     put_spaced(text, c.multiplier.num as u128)?;
     put_spaced(text, c.line.right)?;
@@ -33,9 +34,9 @@ pub fn put_bound(text: &mut Bytes, b: &Bounded) -> Result<(), NoMemory>
     ensures { OnOk result (text.new ≡ text.old ++ bound_lines b.now) }
 {
     text.append(b"bound ")?;
-    put_money(text, b.bound)?;
+    put_money_word(text, b.bound)?;
     text.append(b"\nraw ")?;
-    put_number(text, b.raw.num)?;
+    put_decimal(text, b.raw.num)?;
     put_spaced(text, b.raw.den)?;
     text.append(b"\n")?;
     match &b.cut {

@@ -1,6 +1,6 @@
 ghost use Rattle.std.specs.Prelude.{◌≡◌, ℕ, List, All, IsTrue, ◌↔◌, MatchOption, codes, map, string_bytes, true};
-ghost use Rattle.planner_top.specs.Commands.{AreFiles, Command, IsCommand, may_be_file};
-ghost use Rattle.planner_top.specs.Inputs.{named};
+ghost use Rattle.planner_top.specs.Commands.{AreFiles, Command, IsCommand, Plan, PlanWords, may_be_file};
+ghost use Rattle.planner_top.specs.inner.Steps.{named};
 
 /// The word for a model or a failure list that is in no file.
 pub const DEFAULT: &str = "default";
@@ -39,7 +39,7 @@ fn all_may_be_files(words: &[String]) -> bool
 
 /// The files that one, two or three words name.
 fn files_of(words: &[String]) -> Option<PlanFiles<'_>>
-    ensures { MatchOption result ((c : Command) → AreFiles (map string_bytes words.now) c → ⊥) (λ f. AreFiles (map string_bytes words.now) (named f)) }
+    ensures { MatchOption result ((w : PlanWords) → AreFiles (map string_bytes words.now) w → ⊥) (λ f. AreFiles (map string_bytes words.now) (named f)) }
 {
     match words {
         [network] => Some(PlanFiles {
@@ -61,14 +61,12 @@ fn files_of(words: &[String]) -> Option<PlanFiles<'_>>
     }
 }
 
-/// The files that the words of a command name.
+/// The files of the plan that words ask for; none where they give no command.
 pub fn command_of(words: &[String]) -> Option<PlanFiles<'_>>
-    ensures { MatchOption result ((c : Command) → IsCommand words.now c → ⊥) (λ f. IsCommand words.now (named f)) }
+    ensures { MatchOption result ((c : Command) → IsCommand words.now c → ⊥) (λ f. IsCommand words.now (Plan (named f))) }
 {
-    let Some((command, files)) = words.split_first() else {
-        return None;
-    };
-    if is_plan(command.as_str()) && all_may_be_files(files) {
+    let (name, files) = words.split_first()?;
+    if is_plan(name.as_str()) && all_may_be_files(files) {
         files_of(files)
     } else {
         None

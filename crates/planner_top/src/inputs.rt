@@ -1,93 +1,89 @@
-ghost use Rattle.std.specs.Prelude.{◌≡◌, ◌≢◌, ℕ, ◌≤◌, List, [], Err, IfErr, IfOk, length, true, false};
+ghost use Rattle.std.specs.Prelude.{◌≡◌, ◌≢◌, ℕ, List, [], Err, IfErr, IfOk, IsErrOf, length, true, false};
 ghost use Rattle.net_core.specs.declared.demand.Demand.{Demand};
 ghost use Rattle.net_core.specs.declared.network.Network.{Network as Net};
 ghost use Rattle.net_core.specs.declared.states.Listed.{Listed};
-ghost use Rattle.outside_io.specs.Outside.{Rose};
-ghost use Rattle.model_reader.specs.FailuresReading.{failures_of};
+ghost use Rattle.net_core.specs.Demands.{AreDemands};
+ghost use Rattle.outside_io.specs.Outside.{Fetches};
 ghost use Rattle.model_reader.specs.Failures as failures;
-ghost use Rattle.model_reader.specs.ModelReading.{model_of};
 ghost use Rattle.model_reader.specs.Models as models;
-ghost use Rattle.model_reader.specs.declared.model.Model.{Model as Mod};
-ghost use Rattle.sndlib_reader.specs.Spelling as networks;
+ghost use Rattle.planner_top.specs.Commands as commands;
 ghost use Rattle.planner_top.specs.Commands.{default};
-ghost use Rattle.planner_top.specs.Inputs.{EndsFetch, EndsFile, HasModel, HasNetwork, HasStates, Holds, OrNoMemory, RefusesFailures, RefusesModel, RefusesNetwork, named};
-ghost use Rattle.planner_top.specs.Run.{EndsCommand, EndsFailures, HasInputs};
+ghost use Rattle.planner_top.specs.Inputs.{EndsFetch, EndsFile, Fetched, HasModel, HasStates, RefusesFailures, RefusesModel, RefusesNetwork, SpellsNetwork, limit};
+ghost use Rattle.planner_top.specs.Run.{EndsCommand, EndsFailures, KeepsShelf};
+ghost use Rattle.planner_top.specs.inner.Steps.{HasInputs, Stops, named};
 
-use crate::answer::{Answer, no_file, silent, too_long};
+use crate::answer::Stop;
 use crate::command::{DEFAULT, PlanFiles};
-use crate::refusal::{bad_failures, bad_model, bad_network, unused};
+use crate::fault_word::UnusedFailures;
+use crate::refusal::{not_fetched, refused};
 use crate::status::Status;
 use model_reader::{
-    FailuresKind, FailuresRefusal, ModelKind, ModelRefusal, only_none, read_failures, read_model,
-    single_links,
+    FailuresRefusal, ModelRefusal, only_none, read_failures, read_model, single_links,
 };
-use net_core::{Bytes, Demands, List, Network, States};
+use net_core::{Bytes, Demands, List, Network, NoMemory, Problem, States};
 use outside_io::{Fetch, Shelf};
-use sndlib_reader::{ReadKind, ReadRefusal, read_network};
+use sndlib_reader::{ReadRefusal, read_network};
 use std::alloc::Global;
 
 /// How many bytes an input file may have.
 const LIMIT: u64 = 1 << 24;
 
-/// What a plan is made for.
-#[derive(Drop)]
-pub struct Inputs {
-    pub net: Network,
-    pub demands: Demands,
-    pub states: States,
-}
-
-/// The content of a file, or what the run comes to without it.
-fn fetch_file<S: Shelf>(alloc: Global, name: &str, shelf: &mut S) -> Result<Bytes, Answer>
-    ensures found { IfOk result (λ bytes. Holds (S.files shelf.old) name.now bytes) }
-    ensures ends { IfErr result (λ a. OrNoMemory a.status a.text (EndsFetch (S.files shelf.old) name.now a.status a.text)) }
-    ensures read { IfErr result (λ a. a.status ≡ Status.ReadFault → Rose (S.faults shelf.old) (S.faults shelf.new)) }
-    ensures files { S.files shelf.new ≡ S.files shelf.old }
-    ensures later { S.faults shelf.old ≤ S.faults shelf.new }
+/// The content of a file.
+fn fetch_file<S: Shelf>(alloc: Global, name: &str, shelf: &mut S) -> Result<Bytes, Stop>
+    ensures found { IfOk result (λ bytes. Fetches (S.files shelf.old) name.now limit Fetch.Found bytes) }
+    ensures ends { IfErr result (Stops (EndsFetch (S.files shelf.old) name.now)) }
+    ensures shelf { KeepsShelf S.files S.faults (IsErrOf result Stop.ReadFault) shelf.old shelf.new }
 {
     let mut bytes = List::new(alloc);
     match shelf.fetch(name, LIMIT, &mut bytes) {
         Fetch::Found => Ok(bytes),
-        Fetch::Missing => Err(no_file(alloc, name)),
-        Fetch::TooLong => Err(too_long(alloc, name)),
-        Fetch::Failed => Err(silent(alloc, Status::ReadFault)),
-        Fetch::NoMemory => Err(silent(alloc, Status::NoMemory)),
+        Fetch::Missing => Err(not_fetched(alloc, Status::NoFile, b"no file ", name)),
+        Fetch::TooLong => Err(not_fetched(alloc, Status::TooLong, b"too long ", name)),
+        Fetch::Failed => Err(Stop::ReadFault),
+        Fetch::NoMemory => Err(Stop::NoMemory),
     }
 }
 
 /// The network and the demands that bytes spell.
-fn network_of(alloc: Global, bytes: &[u8]) -> Result<(Network, Demands), Answer>
-    ensures spelled { IfOk result (λ r. networks.Spells bytes.now r.0 r.1) }
-    ensures refused { IfErr result (λ a. OrNoMemory a.status a.text ((a.status ≡ Status.BadNetwork) × RefusesNetwork bytes.now a.text)) }
+fn network_of(alloc: Global, bytes: &[u8]) -> Result<(Network, Demands), Stop>
+    ensures spelled { IfOk result (SpellsNetwork bytes.now) }
+    ensures belong { IfOk result (λ r. AreDemands (length r.0.nodes) r.1) }
+    ensures refused { IfErr result (Stops (λ s text. (s ≡ Status.BadNetwork) × RefusesNetwork bytes.now text)) }
 {
     match read_network(alloc, bytes) {
         Ok(read) => Ok(read),
-        Err(ReadRefusal::Bad { at, kind }) => Err(bad_network(alloc, kind, at)),
-        Err(ReadRefusal::NoMemory) => Err(silent(alloc, Status::NoMemory)),
+        Err(ReadRefusal::Bad { at, kind }) => {
+            Err(refused(alloc, Status::BadNetwork, b"network", &kind, at))
+        }
+        Err(ReadRefusal::NoMemory) => Err(Stop::NoMemory),
     }
 }
 
 /// Whether the model that bytes spell asks for reconfiguration.
-fn model_of(alloc: Global, bytes: &[u8]) -> Result<bool, Answer>
+fn model_of(alloc: Global, bytes: &[u8]) -> Result<bool, Stop>
     ensures spelled { IfOk result (λ r. models.Spells bytes.now (record { reconfigure = r })) }
-    ensures refused { IfErr result (λ a. OrNoMemory a.status a.text ((a.status ≡ Status.BadModel) × RefusesModel bytes.now a.text)) }
+    ensures refused { IfErr result (Stops (λ s text. (s ≡ Status.BadModel) × RefusesModel bytes.now text)) }
 {
     match read_model(alloc, bytes) {
         Ok(model) => Ok(model.reconfigure),
-        Err(ModelRefusal::Bad { at, kind }) => Err(bad_model(alloc, kind, at)),
-        Err(ModelRefusal::NoMemory) => Err(silent(alloc, Status::NoMemory)),
+        Err(ModelRefusal::Bad { at, kind }) => {
+            Err(refused(alloc, Status::BadModel, b"model", &kind, at))
+        }
+        Err(ModelRefusal::NoMemory) => Err(Stop::NoMemory),
     }
 }
 
 /// The states that bytes spell.
-fn states_of(alloc: Global, net: &Network, bytes: &[u8]) -> Result<States, Answer>
+fn states_of(alloc: Global, net: &Network, bytes: &[u8]) -> Result<States, Stop>
     ensures spelled { IfOk result (λ r. failures.Spells net.now.links bytes.now r.listed) }
-    ensures refused { IfErr result (λ a. OrNoMemory a.status a.text ((a.status ≡ Status.BadFailures) × RefusesFailures net.now.links bytes.now a.text)) }
+    ensures refused { IfErr result (Stops (λ s text. (s ≡ Status.BadFailures) × RefusesFailures net.now.links bytes.now text)) }
 {
     match read_failures(alloc, net, bytes) {
         Ok(states) => Ok(states),
-        Err(FailuresRefusal::Bad { at, kind }) => Err(bad_failures(alloc, kind, at)),
-        Err(FailuresRefusal::NoMemory) => Err(silent(alloc, Status::NoMemory)),
+        Err(FailuresRefusal::Bad { at, kind }) => {
+            Err(refused(alloc, Status::BadFailures, b"failures", &kind, at))
+        }
+        Err(FailuresRefusal::NoMemory) => Err(Stop::NoMemory),
     }
 }
 
@@ -96,24 +92,21 @@ fn load_network<S: Shelf>(
     alloc: Global,
     files: &PlanFiles,
     shelf: &mut S,
-) -> Result<(Network, Demands), Answer>
-    ensures has { IfOk result (λ r. HasNetwork (S.files shelf.old) (named files.now) r.0 r.1) }
-    ensures ends { IfErr result (λ a. OrNoMemory a.status a.text (EndsFile (S.files shelf.old) files.now.network.now Status.BadNetwork RefusesNetwork a.status a.text)) }
-    ensures read { IfErr result (λ a. a.status ≡ Status.ReadFault → Rose (S.faults shelf.old) (S.faults shelf.new)) }
-    ensures files { S.files shelf.new ≡ S.files shelf.old }
-    ensures later { S.faults shelf.old ≤ S.faults shelf.new }
+) -> Result<(Network, Demands), Stop>
+    ensures has { IfOk result (Fetched (S.files shelf.old) files.now.network.now SpellsNetwork) }
+    ensures belong { IfOk result (λ r. AreDemands (length r.0.nodes) r.1) }
+    ensures ends { IfErr result (Stops (EndsFile (S.files shelf.old) files.now.network.now Status.BadNetwork RefusesNetwork)) }
+    ensures shelf { KeepsShelf S.files S.faults (IsErrOf result Stop.ReadFault) shelf.old shelf.new }
 {
     let bytes = fetch_file(alloc, files.network, shelf)?;
     network_of(alloc, bytes.items())
 }
 
 /// Whether the model asks for reconfiguration. Without a file, a failure file asks for it.
-fn load_model<S: Shelf>(alloc: Global, files: &PlanFiles, shelf: &mut S) -> Result<bool, Answer>
+fn load_model<S: Shelf>(alloc: Global, files: &PlanFiles, shelf: &mut S) -> Result<bool, Stop>
     ensures has { IfOk result (HasModel (S.files shelf.old) (named files.now)) }
-    ensures ends { IfErr result (λ a. OrNoMemory a.status a.text ((files.now.model.now ≢ default) × EndsFile (S.files shelf.old) files.now.model.now Status.BadModel RefusesModel a.status a.text)) }
-    ensures read { IfErr result (λ a. a.status ≡ Status.ReadFault → Rose (S.faults shelf.old) (S.faults shelf.new)) }
-    ensures files { S.files shelf.new ≡ S.files shelf.old }
-    ensures later { S.faults shelf.old ≤ S.faults shelf.new }
+    ensures ends { IfErr result (Stops (λ s text. (files.now.model.now ≢ default) × EndsFile (S.files shelf.old) files.now.model.now Status.BadModel RefusesModel s text)) }
+    ensures shelf { KeepsShelf S.files S.faults (IsErrOf result Stop.ReadFault) shelf.old shelf.new }
 {
     if files.model == DEFAULT {
         return Ok(files.failures != DEFAULT);
@@ -123,17 +116,14 @@ fn load_model<S: Shelf>(alloc: Global, files: &PlanFiles, shelf: &mut S) -> Resu
 }
 
 /// The states without a failure file: each link alone with reconfiguration, and none without.
-fn default_states(alloc: Global, net: &Network, reconfigure: bool) -> Result<States, Answer>
+fn default_states(alloc: Global, net: &Network, reconfigure: bool) -> Result<States, NoMemory>
     ensures single { reconfigure ≡ true → IfOk result (λ r. r.listed ≡ failures.single_states net.now.links) }
     ensures none { reconfigure ≡ false → IfOk result (λ r. r.listed ≡ []) }
-    ensures ends { IfErr result (λ a. (a.status ≡ Status.NoMemory) × (a.text ≡ [])) }
 {
-    if !reconfigure {
-        return Ok(only_none(alloc));
-    }
-    match single_links(alloc, net) {
-        Ok(states) => Ok(states),
-        Err(_) => Err(silent(alloc, Status::NoMemory)),
+    if reconfigure {
+        single_links(alloc, net)
+    } else {
+        Ok(only_none(alloc))
     }
 }
 
@@ -143,12 +133,10 @@ fn load_failures<S: Shelf>(
     files: &PlanFiles,
     net: &Network,
     shelf: &mut S,
-) -> Result<States, Answer>
-    ensures has { IfOk result (λ r. (bytes : List ℕ) × Holds (S.files shelf.old) files.now.failures.now bytes × failures.Spells net.now.links bytes r.listed) }
-    ensures ends { IfErr result (λ a. OrNoMemory a.status a.text (EndsFile (S.files shelf.old) files.now.failures.now Status.BadFailures (RefusesFailures net.now.links) a.status a.text)) }
-    ensures read { IfErr result (λ a. a.status ≡ Status.ReadFault → Rose (S.faults shelf.old) (S.faults shelf.new)) }
-    ensures files { S.files shelf.new ≡ S.files shelf.old }
-    ensures later { S.faults shelf.old ≤ S.faults shelf.new }
+) -> Result<States, Stop>
+    ensures has { IfOk result (λ r. Fetched (S.files shelf.old) files.now.failures.now (failures.Spells net.now.links) r.listed) }
+    ensures ends { IfErr result (Stops (EndsFile (S.files shelf.old) files.now.failures.now Status.BadFailures (RefusesFailures net.now.links))) }
+    ensures shelf { KeepsShelf S.files S.faults (IsErrOf result Stop.ReadFault) shelf.old shelf.new }
 {
     let bytes = fetch_file(alloc, files.failures, shelf)?;
     states_of(alloc, net, bytes.items())
@@ -161,40 +149,36 @@ fn load_states<S: Shelf>(
     net: &Network,
     reconfigure: bool,
     shelf: &mut S,
-) -> Result<States, Answer>
+) -> Result<States, Stop>
     ensures has { IfOk result (λ r. HasStates (S.files shelf.old) (named files.now) net.now.links reconfigure r.listed) }
-    ensures ends { IfErr result (λ a. OrNoMemory a.status a.text (EndsFailures (S.files shelf.old) (named files.now) net.now.links reconfigure a.status a.text)) }
-    ensures read { IfErr result (λ a. a.status ≡ Status.ReadFault → Rose (S.faults shelf.old) (S.faults shelf.new)) }
-    ensures files { S.files shelf.new ≡ S.files shelf.old }
-    ensures later { S.faults shelf.old ≤ S.faults shelf.new }
+    ensures ends { IfErr result (Stops (EndsFailures (S.files shelf.old) (named files.now) net.now.links reconfigure)) }
+    ensures shelf { KeepsShelf S.files S.faults (IsErrOf result Stop.ReadFault) shelf.old shelf.new }
 {
     if files.failures == DEFAULT {
-        return default_states(alloc, net, reconfigure);
+        return Ok(default_states(alloc, net, reconfigure)?);
     }
     if !reconfigure {
-        return Err(unused(alloc));
+        return Err(refused(alloc, Status::BadFailures, b"failures", &UnusedFailures, 0));
     }
     load_failures(alloc, files, net, shelf)
 }
 
-/// What the files of a command spell, read one after another, or what the run comes to without it.
-pub fn load_inputs<S: Shelf>(
+/// What the files of a plan spell. They are read one after another, and the first that is not read ends the run.
+pub fn load_problem<S: Shelf>(
     alloc: Global,
     files: &PlanFiles,
     shelf: &mut S,
-) -> Result<Inputs, Answer>
-    ensures has { IfOk result (λ r. HasInputs (S.files shelf.old) (named files.now) r.net r.demands r.states.listed) }
-    ensures ends { IfErr result (λ a. OrNoMemory a.status a.text (EndsCommand (S.files shelf.old) (named files.now) a.status a.text)) }
-    ensures read { IfErr result (λ a. a.status ≡ Status.ReadFault → Rose (S.faults shelf.old) (S.faults shelf.new)) }
-    ensures files { S.files shelf.new ≡ S.files shelf.old }
-    ensures later { S.faults shelf.old ≤ S.faults shelf.new }
+) -> Result<Problem, Stop>
+    ensures has { IfOk result (λ p. HasInputs (S.files shelf.old) (named files.now) p.net p.demands p.states.listed) }
+    ensures ends { IfErr result (Stops (EndsCommand (S.files shelf.old) (commands.Plan (named files.now)))) }
+    ensures shelf { KeepsShelf S.files S.faults (IsErrOf result Stop.ReadFault) shelf.old shelf.new }
 {
     let (net, demands) = load_network(alloc, files, shelf)?;
     let reconfigure = load_model(alloc, files, shelf)?;
     let states = load_states(alloc, files, &net, reconfigure, shelf)?;
-    Ok(Inputs {
+    Ok(Problem {
         net,
-        demands,
         states,
+        demands,
     })
 }

@@ -2,12 +2,12 @@
 #![tactic(auto)]
 
 mod answer;
-mod bound;
 mod bound_text;
 mod command;
+mod fault_word;
 mod inputs;
 mod output;
-mod plan;
+mod plan_text;
 mod refusal;
 mod run;
 mod status;
@@ -20,13 +20,10 @@ use status::Status;
 use std::process::ExitCode;
 use std::{env, io};
 
-/// The words after the program's name, and no words where one of them isn't text.
+/// The command-line arguments, and none where one of them isn't text.
 fn words_of(rt: &HostRuntime) -> Result<Vec<String>, NoMemory> {
     match env::args(rt) {
-        Ok(args) => match args.skip(1).collect(rt.alloc()) {
-            Ok(words) => Ok(words),
-            Err(_) => Err(NoMemory),
-        },
+        Ok(args) => Ok(args.skip(1).collect(rt.alloc())?),
         Err(fault) if fault.kind() == io::ErrorKind::OutOfMemory => Err(NoMemory),
         Err(_) => Ok(Vec::new(rt.alloc())),
     }

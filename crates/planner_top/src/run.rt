@@ -1,70 +1,58 @@
-ghost use Rattle.std.specs.Prelude.{◌≡◌, ℕ, List, ◌≤◌, length};
-ghost use Rattle.net_core.specs.Demands.{AreDemands};
-ghost use Rattle.outside_io.specs.Outside.{Rose};
-ghost use Rattle.planner_top.specs.Inputs.{OrNoMemory, named};
-ghost use Rattle.planner_top.specs.Run.{Ends, EndsCommand, EndsPlan, Writes};
+ghost use Rattle.std.specs.Prelude.{◌≡◌, ℕ, List, ◌≤◌, IfOk, IsErrOf};
+ghost use Rattle.planner_top.specs.Commands as commands;
+ghost use Rattle.planner_top.specs.Commands.{usage};
+ghost use Rattle.planner_top.specs.Run.{Ends, EndsCommand, KeepsShelf, PutsText};
+ghost use Rattle.planner_top.specs.inner.Steps.{HasCause, named};
 ghost use Rattle.planner_top.specs.declared.status.Status.{Status};
 
-use crate::answer::{Answer, bad_words, silent};
+use crate::answer::{Answer, Stop};
 use crate::command::{PlanFiles, command_of};
-use crate::inputs::{Inputs, load_inputs};
-use crate::output::put_text;
-use crate::plan::plan_network;
+use crate::inputs::load_problem;
+use crate::output::say;
+use crate::plan_text::answer_instance;
 use crate::status::Status;
+use net_core::{List, NoMemory};
 use outside_io::{Gate, Shelf, Sink};
 use std::alloc::Global;
 use std::sync::Wait;
 use std::thread::Threads;
 
-/// Writes a text, and answers the status, or that writing failed.
-fn say<K: Sink>(out: &mut K, text: &[u8], status: Status) -> Status
-    ensures later { K.faults out.old ≤ K.faults out.new }
-    ensures writes { Writes status text.now result (K.taken out.old) (K.taken out.new) (K.faults out.old) (K.faults out.new) }
-{
-    match put_text(out, text) {
-        Ok(()) => status,
-        Err(_) => Status::WriteFault,
-    }
-}
+/// The line that answers words outside the grammar.
+const USAGE: &[u8] =
+    b"usage: plan NET [MODEL [FAILURES]] | session NET MODEL FAILURES SCRIPT | check NET MODEL FAILURES REPORT | sample SEED N\n";
 
-/// The answer to inputs that were read.
-fn answer_inputs(alloc: Global, inputs: &Inputs) -> Answer
-    requires { AreDemands (length inputs.now.net.nodes) inputs.now.demands }
-    ensures { OrNoMemory result.status result.text (EndsPlan inputs.now.net.links inputs.now.states.listed inputs.now.demands result.status result.text) }
+/// The answer to words outside the grammar.
+fn bad_words(alloc: Global) -> Result<Answer, NoMemory>
+    ensures { IfOk result (λ a. (a.status ≡ Status.BadWords) × (a.text ≡ usage)) }
 {
-    match plan_network(alloc, &inputs.net, &inputs.states, &inputs.demands) {
-        Ok(answer) => answer,
-        Err(_) => silent(alloc, Status::NoMemory),
-    }
+    Ok(Answer {
+        status: Status::BadWords,
+        text: List::from_slice(alloc, USAGE)?,
+    })
 }
 
 /// The answer to a plan of these files.
-fn answer_plan<S: Shelf>(alloc: Global, files: &PlanFiles, shelf: &mut S) -> Answer
-    ensures ends { OrNoMemory result.status result.text (EndsCommand (S.files shelf.old) (named files.now) result.status result.text) }
-    ensures read { result.status ≡ Status.ReadFault → Rose (S.faults shelf.old) (S.faults shelf.new) }
-    ensures files { S.files shelf.new ≡ S.files shelf.old }
-    ensures later { S.faults shelf.old ≤ S.faults shelf.new }
+fn answer_plan<S: Shelf>(alloc: Global, files: &PlanFiles, shelf: &mut S) -> Result<Answer, Stop>
+    ensures ends { HasCause (EndsCommand (S.files shelf.old) (commands.Plan (named files.now))) result }
+    ensures shelf { KeepsShelf S.files S.faults (IsErrOf result Stop.ReadFault) shelf.old shelf.new }
 {
-    match load_inputs(alloc, files, shelf) {
-        Ok(inputs) => answer_inputs(alloc, &inputs),
-        Err(answer) => answer,
-    }
+    let problem = load_problem(alloc, files, shelf)?;
+    Ok(answer_instance(alloc, &problem.instance())?)
 }
 
 /// The answer to words.
-fn answer_words<S: Shelf>(alloc: Global, words: &[String], shelf: &mut S) -> Answer
-    ensures ends { Ends words.now (S.files shelf.old) result.status result.text }
-    ensures read { result.status ≡ Status.ReadFault → Rose (S.faults shelf.old) (S.faults shelf.new) }
-    ensures files { S.files shelf.new ≡ S.files shelf.old }
-    ensures later { S.faults shelf.old ≤ S.faults shelf.new }
+fn answer_words<S: Shelf>(alloc: Global, words: &[String], shelf: &mut S) -> Result<Answer, Stop>
+    ensures ends { HasCause (Ends words.now (S.files shelf.old)) result }
+    ensures shelf { KeepsShelf S.files S.faults (IsErrOf result Stop.ReadFault) shelf.old shelf.new }
 {
     match command_of(words) {
         Some(files) => answer_plan(alloc, &files, shelf),
-        None => bad_words(alloc),
+        None => Ok(bad_words(alloc)?),
     }
 }
 
-/// Carries out the command that the words give. Nothing is written at `ReadFault` and `NoMemory`.
+/// Carries out the command that the words give: reads its files from the shelf, and writes its text to the sink. Nothing is
+/// written where reading failed or memory ran out.
 pub fn run<Rt: Threads + Wait + Sync, S: Shelf, K: Sink, G: Gate>(
     _rt: &Rt,
     alloc: Global,
@@ -73,16 +61,17 @@ pub fn run<Rt: Threads + Wait + Sync, S: Shelf, K: Sink, G: Gate>(
     out: &mut K,
     _gate: &G,
 ) -> Status
-    // What the run comes to has its cause in the words and the files, and its text is written.
+    // What the run comes to has its cause in the words and the files, reading fails only where the shelf counts it, and the
+    // text is written. The files stay as they are, and no count of faults falls.
     ensures outcome { (status : Status) × (text : List ℕ) × Ends words.now (S.files shelf.old) status text
-        × (status ≡ Status.ReadFault → Rose (S.faults shelf.old) (S.faults shelf.new))
-        × Writes status text result (K.taken out.old) (K.taken out.new) (K.faults out.old) (K.faults out.new) }
-    // Reading has failed only where the shelf has counted it.
-    ensures read { result ≡ Status.ReadFault → Rose (S.faults shelf.old) (S.faults shelf.new) }
-    // The files stay as they are, and no count of faults falls.
-    ensures files { S.files shelf.new ≡ S.files shelf.old }
-    ensures later { (S.faults shelf.old ≤ S.faults shelf.new) × (K.faults out.old ≤ K.faults out.new) }
+        × KeepsShelf S.files S.faults (status ≡ Status.ReadFault) shelf.old shelf.new
+        × PutsText K.taken K.faults status text result out.old out.new }
+    ensures later { K.faults out.old ≤ K.faults out.new }
 {
-    let answer = answer_words(alloc, words, shelf);
-    say(out, answer.text.items(), answer.status)
+    match answer_words(alloc, words, shelf) {
+        Ok(answer) => say(out, answer.text.items(), answer.status),
+        Err(Stop::Told(answer)) => say(out, answer.text.items(), answer.status),
+        Err(Stop::ReadFault) => say(out, b"", Status::ReadFault),
+        Err(Stop::NoMemory) => say(out, b"", Status::NoMemory),
+    }
 }

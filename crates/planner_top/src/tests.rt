@@ -1,61 +1,78 @@
 use crate::run::run;
 use crate::status::Status;
-use net_core::{List, Name, NoMemory};
-use outside_io::{MemFile, MemShelf, MemSink, OpenGate, have_different_names};
+use net_core::{Bytes, List, Name, NoMemory};
+use outside_io::{MemFile, MemShelf, MemSink, OpenGate, Shelf, Sink, have_different_names};
 use std::alloc::Global;
 use std::process::Abort;
 use std::sync::Wait;
 use std::test::Fail;
 use std::thread::Threads;
 
-const TRIANGLE: &[u8] = b"?SNDlib native format; type: network; version: 1.0
+fn triangle() -> &'static [u8] {
+    b"?SNDlib native format; type: network; version: 1.0
 NODES ( A B C )
 LINKS ( AB ( A B ) 0 0 0 0 ( 10.00 5.00 ) BC ( B C ) 0 0 0 0 ( 10.00 5.00 ) AC ( A C ) 0 0 0 0 ( 10.00 5.00 ) )
 DEMANDS ( D1 ( A C ) 1 12.00 UNLIMITED )
-";
+"
+}
 
-const FIXED_TRIANGLE: &[u8] = b"?SNDlib native format; type: network; version: 1.0
+fn fixed_triangle() -> &'static [u8] {
+    b"?SNDlib native format; type: network; version: 1.0
 NODES ( A B C )
 LINKS ( AB ( A B ) 20.00 0 0 0 ( 10.00 5.00 ) BC ( B C ) 20.00 0 0 0 ( 10.00 5.00 ) AC ( A C ) 20.00 0 0 0 ( 10.00 5.00 ) )
 DEMANDS ( D1 ( A C ) 1 12.00 UNLIMITED )
-";
+"
+}
 
-const PARALLEL: &[u8] = b"?SNDlib native format; type: network; version: 1.0
+fn parallel() -> &'static [u8] {
+    b"?SNDlib native format; type: network; version: 1.0
 NODES ( A B )
 LINKS ( L1 ( A B ) 0 0 0 0 ( 1.00 1.00 ) L2 ( A B ) 0 0 0 0 ( 1.00 1.00 ) L3 ( A B ) 0 0 0 0 ( 1.00 1.00 ) )
 DEMANDS ( D1 ( A B ) 1 10.00 UNLIMITED )
-";
+"
+}
 
-const CHAIN: &[u8] = b"?SNDlib native format; type: network; version: 1.0
+fn chain() -> &'static [u8] {
+    b"?SNDlib native format; type: network; version: 1.0
 NODES ( A B C )
 LINKS ( AB ( A B ) 0 0 0 0 ( 10.00 5.00 ) BC ( B C ) 0 0 0 0 ( 10.00 5.00 ) )
 DEMANDS ( D1 ( A C ) 1 12.00 UNLIMITED )
-";
+"
+}
 
-const IDLE_CHAIN: &[u8] = b"?SNDlib native format; type: network; version: 1.0
+fn idle_chain() -> &'static [u8] {
+    b"?SNDlib native format; type: network; version: 1.0
 NODES ( A B C )
 LINKS ( AB ( A B ) 0 0 0 0 ( 10.00 5.00 ) BC ( B C ) 0 0 0 0 ( 10.00 5.00 ) )
 DEMANDS ( D1 ( A C ) 1 0.00 UNLIMITED )
-";
+"
+}
 
-const NO_MODULE: &[u8] = b"?SNDlib native format; type: network; version: 1.0
+fn no_module() -> &'static [u8] {
+    b"?SNDlib native format; type: network; version: 1.0
 NODES ( A B )
 LINKS ( L ( A B ) 0 0 0 0 ( ) )
 DEMANDS ( D1 ( A B ) 1 1.00 UNLIMITED )
-";
+"
+}
 
-const FIXED_LINK: &[u8] = b"?SNDlib native format; type: network; version: 1.0
+fn fixed_link() -> &'static [u8] {
+    b"?SNDlib native format; type: network; version: 1.0
 NODES ( A B )
 LINKS ( L ( A B ) 5 0 0 0 ( ) )
 DEMANDS ( )
-";
+"
+}
 
-const CUT_OFF: &[u8] = b"?SNDlib native format; type: network; version: 1.0
+fn cut_off() -> &'static [u8] {
+    b"?SNDlib native format; type: network; version: 1.0
 NODES ( A B )
-LINKS ( L ( A";
+LINKS ( L ( A"
+}
 
 /// A file as users have it: comments, a section of notes, coordinates, two kinds of modules, and admissible paths.
-const FOUR_TOWNS: &[u8] = b"?SNDlib native format; type: network; version: 1.0
+fn four_towns() -> &'static [u8] {
+    b"?SNDlib native format; type: network; version: 1.0
 # network small4
 
 META (
@@ -90,9 +107,11 @@ DEMANDS (
 ADMISSIBLE_PATHS (
   D1 ( P1 ( L1 ) P2 ( L5 L2 ) )
 )
-";
+"
+}
 
-const RECONFIGURE: &[u8] = b"?SNDlib native format; type: model; version: 1.0
+fn reconfigure() -> &'static [u8] {
+    b"?SNDlib native format; type: model; version: 1.0
 DEMAND_MODEL = UNDIRECTED
 LINK_MODEL = UNDIRECTED
 LINK_CAPACITY_MODEL = MODULAR_CAPACITIES
@@ -101,9 +120,11 @@ ROUTING_MODEL = CONTINUOUS
 ADMISSIBLE_PATH_MODEL = ALL_PATHS
 HOP_LIMIT_MODEL = NO
 SURVIVABILITY_MODEL = UNRESTRICTED_FLOW_RECONFIGURATION
-";
+"
+}
 
-const NO_SURVIVABILITY: &[u8] = b"?SNDlib native format; type: model; version: 1.0
+fn no_survivability() -> &'static [u8] {
+    b"?SNDlib native format; type: model; version: 1.0
 DEMAND_MODEL = UNDIRECTED
 LINK_MODEL = UNDIRECTED
 LINK_CAPACITY_MODEL = MODULAR_CAPACITIES
@@ -112,188 +133,225 @@ ROUTING_MODEL = CONTINUOUS
 ADMISSIBLE_PATH_MODEL = ALL_PATHS
 HOP_LIMIT_MODEL = NO
 SURVIVABILITY_MODEL = NO_SURVIVABILITY
-";
-
-const HOP_LIMITS: &[u8] = b"?SNDlib native format; type: model; version: 1.0
-HOP_LIMIT_MODEL = INDIVIDUAL
-";
-
-const SINGLE: &[u8] = b"?planner failures; version: 1
-ALL_SINGLE_LINKS
-";
-
-const LAST_FAILS: &[u8] = b"?planner failures; version: 1
-FAILURES ( f ( BC ) )
-";
-
-/// How many files there are.
-const FILES: usize = 14;
-
-/// The name and the bytes of each file.
-fn file(at: usize) -> (&'static str, &'static [u8]) {
-    match at {
-        0 => ("triangle", TRIANGLE),
-        1 => ("fixed", FIXED_TRIANGLE),
-        2 => ("parallel", PARALLEL),
-        3 => ("chain", CHAIN),
-        4 => ("idle", IDLE_CHAIN),
-        5 => ("bare", NO_MODULE),
-        6 => ("stuck", FIXED_LINK),
-        7 => ("cut", CUT_OFF),
-        8 => ("towns", FOUR_TOWNS),
-        9 => ("reconfigure", RECONFIGURE),
-        10 => ("plain", NO_SURVIVABILITY),
-        11 => ("hops", HOP_LIMITS),
-        12 => ("single", SINGLE),
-        _ => ("last", LAST_FAILS),
-    }
+"
 }
 
-const USAGE: &str =
-    "usage: plan NET [MODEL [FAILURES]] | session NET MODEL FAILURES SCRIPT | check NET MODEL FAILURES REPORT | sample SEED N\n";
+fn hop_limits() -> &'static [u8] {
+    b"?SNDlib native format; type: model; version: 1.0
+HOP_LIMIT_MODEL = INDIVIDUAL
+"
+}
 
-/// How many cases there are.
-const CASES: usize = 24;
+fn single() -> &'static [u8] {
+    b"?planner failures; version: 1
+ALL_SINGLE_LINKS
+"
+}
 
-/// Words, and the status and the text that they come to.
-fn case(at: usize) -> (&'static str, Status, &'static str) {
-    match at {
-        0 => (
+fn last_fails() -> &'static [u8] {
+    b"?planner failures; version: 1
+FAILURES ( f ( BC ) )
+"
+}
+
+/// The name and the bytes of each file.
+fn files() -> [(&'static str, &'static [u8]); 14] {
+    [
+        ("triangle", triangle()),
+        ("fixed", fixed_triangle()),
+        ("parallel", parallel()),
+        ("chain", chain()),
+        ("idle", idle_chain()),
+        ("bare", no_module()),
+        ("stuck", fixed_link()),
+        ("cut", cut_off()),
+        ("towns", four_towns()),
+        ("reconfigure", reconfigure()),
+        ("plain", no_survivability()),
+        ("hops", hop_limits()),
+        ("single", single()),
+        ("last", last_fails()),
+    ]
+}
+
+fn usage() -> &'static str {
+    "usage: plan NET [MODEL [FAILURES]] | session NET MODEL FAILURES SCRIPT | check NET MODEL FAILURES REPORT | sample SEED N\n"
+}
+
+/// Words, how many files they fetch, and the status and the text that they come to.
+type Row = (&'static str, u32, Status, &'static str);
+
+/// Networks with and without a plan.
+fn plans() -> [Row; 9] {
+    [
+        (
             "plan triangle",
+            1,
             Status::Done,
             "cost 10.000\nlink AB 0\nlink BC 0\nlink AC 2\nbound 10.000\nraw 6000 1\ncut 0 2 1 12000 1 1 1\n",
         ),
-        1 => (
+        (
             "plan triangle default",
+            1,
             Status::Done,
             "cost 10.000\nlink AB 0\nlink BC 0\nlink AC 2\nbound 10.000\nraw 6000 1\ncut 0 2 1 12000 1 1 1\n",
         ),
-        2 => (
+        (
             "plan triangle reconfigure",
+            2,
             Status::Done,
             "cost 30.000\nlink AB 2\nlink BC 2\nlink AC 2\nbound 15.000\nraw 12000 1\ncut 3 2 1 24000 1 1 0\n",
         ),
-        3 => (
+        (
             "plan parallel default single",
+            2,
             Status::Done,
             "cost 20.000\nlink L1 10\nlink L2 10\nlink L3 0\nbound 10.000\nraw 10000 1\ncut 0 1 1 10000 1 1 1\n",
         ),
-        4 => (
+        (
             "plan towns reconfigure",
+            2,
             Status::Done,
             "cost 600.000\nlink L1 2 0\nlink L2 1 0\nlink L3 1 0\nlink L4 1 0\nlink L5 1 0\nbound 150.000\nraw 35000000 311\ncut 1 311 125 280000 0 1 1 1 1\n",
         ),
-        5 => (
+        (
             "plan fixed plain",
+            2,
             Status::Done,
             "cost 0.000\nlink AB 0\nlink BC 0\nlink AC 0\nbound 0.000\nraw 0 1\n",
         ),
-        6 => (
+        (
             "plan chain reconfigure last",
+            3,
             Status::NotSurvivable,
             "not survivable: state 1 f demand D1\n",
         ),
-        7 => (
+        (
             "plan idle default last",
+            2,
             Status::Done,
             "cost 0.000\nlink AB 0\nlink BC 0\nbound 0.000\nraw 0 1\n",
         ),
-        8 => (
+        (
             "plan bare",
+            1,
             Status::NotSurvivable,
             "not survivable: state 0 none demand D1\n",
         ),
-        9 => (
+    ]
+}
+
+/// Files that are refused or missing, and words outside the grammar.
+fn refusals() -> [Row; 16] {
+    [
+        (
             "plan stuck",
+            1,
             Status::BadNetwork,
             "refused network fixed-link at 93\n",
         ),
-        10 => (
+        (
+            "plan stuck reconfigure single",
+            1,
+            Status::BadNetwork,
+            "refused network fixed-link at 93\n",
+        ),
+        (
             "plan cut",
+            1,
             Status::BadNetwork,
             "refused network ended at 78\n",
         ),
-        11 => (
+        (
             "plan hops",
+            1,
             Status::BadNetwork,
             "refused network header at 0\n",
         ),
-        12 => (
+        (
             "plan chain hops",
+            2,
             Status::BadModel,
             "refused model unsupported-HOP_LIMIT_MODEL at 67\n",
         ),
-        13 => (
+        (
             "plan chain chain",
+            2,
             Status::BadModel,
             "refused model header at 0\n",
         ),
-        14 => (
+        (
             "plan triangle plain last",
+            2,
             Status::BadFailures,
             "refused failures unused at 0\n",
         ),
-        15 => (
+        (
             "plan triangle plain nowhere",
+            2,
             Status::BadFailures,
             "refused failures unused at 0\n",
         ),
-        16 => (
+        (
             "plan parallel default last",
+            2,
             Status::BadFailures,
             "refused failures unknown-link at 45\n",
         ),
-        17 => ("plan X", Status::NoFile, "no file X\n"),
-        18 => ("plan triangle X last", Status::NoFile, "no file X\n"),
-        19 => ("plan triangle default X", Status::NoFile, "no file X\n"),
-        20 => ("plan", Status::BadWords, USAGE),
-        21 => ("plan triangle -reconfigure", Status::BadWords, USAGE),
-        22 => (
+        ("plan X", 1, Status::NoFile, "no file X\n"),
+        ("plan triangle X last", 2, Status::NoFile, "no file X\n"),
+        ("plan triangle default X", 2, Status::NoFile, "no file X\n"),
+        ("plan", 0, Status::BadWords, usage()),
+        ("plan triangle -reconfigure", 0, Status::BadWords, usage()),
+        (
             "plan triangle default default default",
+            0,
             Status::BadWords,
-            USAGE,
+            usage(),
         ),
-        _ => ("plans triangle", Status::BadWords, USAGE),
-    }
+        ("plans triangle", 0, Status::BadWords, usage()),
+    ]
 }
 
-/// Puts a file last.
-fn put(files: &mut List<MemFile>, file: MemFile) -> Result<(), NoMemory> {
-    match files.push(file) {
-        Ok(()) => Ok(()),
-        Err(_) => Err(NoMemory),
-    }
+fn put<T: Drop>(items: &mut List<T>, item: T) -> Result<(), NoMemory> {
+    items.push(item)?;
+    Ok(())
 }
 
-/// All files.
 fn all_files(alloc: Global) -> Result<List<MemFile>, Fail> {
-    let mut files = List::new(alloc);
-    for at in 0..FILES {
-        let (name, bytes) = file(at);
+    let mut held = List::new(alloc);
+    for (name, bytes) in files() {
         let name = Name::new(alloc, name.as_bytes())?;
         let bytes = List::from_slice(alloc, bytes)?;
-        put(&mut files, MemFile { name, bytes })?;
+        put(&mut held, MemFile { name, bytes })?;
     }
-    Ok(files)
+    Ok(held)
 }
 
-/// A file `long` of so many spaces, alone.
-fn long_file(alloc: Global, size: usize) -> Result<List<MemFile>, Fail> {
-    let mut files = List::new(alloc);
-    let name = Name::new(alloc, b"long")?;
-    let bytes = List::from_vec(vec![in alloc; b' '; size]?);
-    put(&mut files, MemFile { name, bytes })?;
-    Ok(files)
+/// One file, alone.
+fn one_file(alloc: Global, name: &str, bytes: Bytes) -> Result<List<MemFile>, Fail> {
+    let mut held = List::new(alloc);
+    let name = Name::new(alloc, name.as_bytes())?;
+    put(&mut held, MemFile { name, bytes })?;
+    Ok(held)
 }
 
-/// What a run writes, and its status, with these words and files, and with calls that fail.
-fn runs_on<R: AllocGlobal + Abort + Threads + Wait + Sync>(
+/// How a run ended, what it wrote, and how often the shelf and the sink failed.
+#[derive(Drop)]
+struct Ended {
+    status: Status,
+    out: MemSink,
+    faults: (u64, u64),
+}
+
+/// A run with these words and files, in which the fetches and puts of these numbers fail, counted from 0.
+fn runs<R: AllocGlobal + Abort + Threads + Wait + Sync>(
     rt: &R,
     words: &str,
     files: List<MemFile>,
     fetches: &[u32],
     puts: &[u32],
-) -> Result<(Status, MemSink), Fail> {
+) -> Result<Ended, Fail> {
     let mut list = Vec::new(rt.alloc());
     for word in words.split(' ') {
         list.push(word.to_string(rt.alloc())?)?;
@@ -303,72 +361,145 @@ fn runs_on<R: AllocGlobal + Abort + Threads + Wait + Sync>(
     let failing = List::from_slice(rt.alloc(), puts)?;
     let mut out = MemSink::new(rt.alloc(), 10000, failing)?;
     let status = run(rt, rt.alloc(), &list, &mut shelf, &mut out, &OpenGate);
-    Ok((status, out))
+    let faults = (shelf.faults(), out.faults());
+    Ok(Ended {
+        status,
+        out,
+        faults,
+    })
 }
 
-/// The same with all files.
-fn runs<R: AllocGlobal + Abort + Threads + Wait + Sync>(
-    rt: &R,
-    words: &str,
-    fetches: &[u32],
-    puts: &[u32],
-) -> Result<(Status, MemSink), Fail> {
-    let files = all_files(rt.alloc())?;
-    runs_on(rt, words, files, fetches, puts)
+/// Runs the words of a row. The fetch after its last would fail, and is not made.
+fn comes_to<R: AllocGlobal + Abort + Threads + Wait + Sync>(rt: &R, row: Row) -> Result<(), Fail> {
+    let (words, fetched, status, text) = row;
+    let ended = runs(rt, words, all_files(rt.alloc())?, &[fetched], &[])?;
+    assert_eq!(rt; (words, ended.status), (words, status));
+    assert_eq!(rt; ended.out.bytes(), text.as_bytes());
+    assert_eq!(rt; (words, ended.faults), (words, (0, 0)));
+    Ok(())
 }
 
 #[test]
-fn words_and_files_come_to_their_texts(rt: HostRuntime) -> Result<(), Fail> {
-    for at in 0..CASES {
-        let (words, expected, text) = case(at);
-        let (status, out) = runs(&rt, words, &[], &[])?;
-        assert_eq!(rt; status, expected);
-        assert_eq!(rt; out.bytes(), text.as_bytes());
+fn plans_are_written(rt: HostRuntime) -> Result<(), Fail> {
+    for row in plans() {
+        comes_to(&rt, row)?;
     }
     Ok(())
 }
 
 #[test]
+fn refusals_are_written_and_no_further_file_is_fetched(rt: HostRuntime) -> Result<(), Fail> {
+    for row in refusals() {
+        comes_to(&rt, row)?;
+    }
+    Ok(())
+}
+
+/// Words, the number of a fetch and of a put that fail, and the status, the text and the counts of faults after it.
+type Faulty = (&'static str, u32, u32, Status, &'static str, (u64, u64));
+
+fn faulty() -> [Faulty; 3] {
+    [
+        ("plan triangle", 0, 0, Status::ReadFault, "", (1, 0)),
+        (
+            "plan triangle reconfigure single",
+            2,
+            0,
+            Status::ReadFault,
+            "",
+            (1, 0),
+        ),
+        (
+            "plan triangle",
+            1,
+            0,
+            Status::WriteFault,
+            "cost 10.000\nlink AB 0\nlink BC 0\nlink AC 2\nbo",
+            (0, 1),
+        ),
+    ]
+}
+
+#[test]
 fn faults_end_a_run(rt: HostRuntime) -> Result<(), Fail> {
-    let (status, out) = runs(&rt, "plan triangle", &[0], &[])?;
-    assert_eq!(rt; status, Status::ReadFault);
-    assert_eq!(rt; out.bytes(), b"".as_slice());
-    let (status, out) = runs(&rt, "plan triangle reconfigure single", &[2], &[])?;
-    assert_eq!(rt; status, Status::ReadFault);
-    assert_eq!(rt; out.bytes(), b"".as_slice());
+    for (words, fetch, put, status, text, faults) in faulty() {
+        let ended = runs(&rt, words, all_files(rt.alloc())?, &[fetch], &[put])?;
+        assert_eq!(rt; (words, ended.status), (words, status));
+        assert_eq!(rt; ended.out.bytes(), text.as_bytes());
+        assert_eq!(rt; (words, ended.faults), (words, faults));
+    }
     Ok(())
 }
 
-#[test]
-fn what_is_not_due_is_not_fetched(rt: HostRuntime) -> Result<(), Fail> {
-    let (status, out) = runs(&rt, "plan triangle plain last", &[2], &[])?;
-    assert_eq!(rt; status, Status::BadFailures);
-    assert_eq!(rt; out.bytes(), b"refused failures unused at 0\n".as_slice());
-    let (status, out) = runs(&rt, "plan stuck reconfigure", &[1], &[])?;
-    assert_eq!(rt; status, Status::BadNetwork);
-    assert_eq!(rt;
-        out.bytes(),
-        b"refused network fixed-link at 93\n".as_slice()
-    );
-    Ok(())
+/// The name of a link: one letter, 250 times.
+fn long_name(alloc: Global, n: u8) -> Result<Bytes, NoMemory> {
+    List::filled(alloc, b'a' + n % 26, 250)
+}
+
+/// A network of 20 links with long names, and no demand.
+fn long_network(alloc: Global) -> Result<Bytes, NoMemory> {
+    let mut text = List::new(alloc);
+    text.append(b"?SNDlib native format; type: network; version: 1.0\nNODES ( A B )\nLINKS (")?;
+    for n in 0..20 {
+        text.append(b" ")?;
+        text.append(long_name(alloc, n)?.items())?;
+        text.append(b" ( A B ) 0 0 0 0 ( 1.00 1.00 )")?;
+    }
+    text.append(b" )\nDEMANDS ( )\n")?;
+    Ok(text)
+}
+
+/// Its plan.
+fn long_plan(alloc: Global) -> Result<Bytes, NoMemory> {
+    let mut text = List::new(alloc);
+    text.append(b"cost 0.000\n")?;
+    for n in 0..20 {
+        text.append(b"link ")?;
+        text.append(long_name(alloc, n)?.items())?;
+        text.append(b" 0\n")?;
+    }
+    text.append(b"bound 0.000\nraw 0 1\n")?;
+    Ok(text)
 }
 
 #[test]
-fn a_fault_of_writing_leaves_a_front(rt: HostRuntime) -> Result<(), Fail> {
-    let (status, out) = runs(&rt, "plan triangle", &[], &[0])?;
-    assert_eq!(rt; status, Status::WriteFault);
+fn a_long_text_is_put_in_pieces(rt: HostRuntime) -> Result<(), Fail> {
+    let alloc = rt.alloc();
+    let text = long_plan(alloc)?;
+    assert_eq!(rt; text.len(), 5191);
+    let ended = runs(
+        &rt,
+        "plan long",
+        one_file(alloc, "long", long_network(alloc)?)?,
+        &[],
+        &[],
+    )?;
+    assert_eq!(rt; (ended.status, ended.faults), (Status::Done, (0, 0)));
+    assert_eq!(rt; ended.out.bytes(), text.items());
+    let ended = runs(
+        &rt,
+        "plan long",
+        one_file(alloc, "long", long_network(alloc)?)?,
+        &[],
+        &[1],
+    )?;
+    assert_eq!(rt; (ended.status, ended.faults), (Status::WriteFault, (0, 1)));
     assert_eq!(rt;
-        out.bytes(),
-        b"cost 10.000\nlink AB 0\nlink BC 0\nlink AC 2\nbo".as_slice()
+        Some(ended.out.bytes()),
+        text.items().get(..4096 + (5191 - 4096) / 2)
     );
     Ok(())
 }
 
 #[test]
 fn a_file_above_its_limit_is_too_long(rt: HostRuntime) -> Result<(), Fail> {
-    let files = long_file(rt.alloc(), 16777217)?;
-    let (status, out) = runs_on(&rt, "plan long", files, &[], &[])?;
-    assert_eq!(rt; status, Status::TooLong);
-    assert_eq!(rt; out.bytes(), b"too long long\n".as_slice());
+    let files = one_file(
+        rt.alloc(),
+        "long",
+        List::filled(rt.alloc(), b' ', 16777217)?,
+    )?;
+    let ended = runs(&rt, "plan long", files, &[], &[])?;
+    assert_eq!(rt; (ended.status, ended.faults), (Status::TooLong, (0, 0)));
+    assert_eq!(rt; ended.out.bytes(), b"too long long\n".as_slice());
     Ok(())
 }

@@ -1,8 +1,19 @@
-use Rattle.planner_top.specs.Inputs.{named}
-use Rattle.planner_top.proofs.Answering.{plan_ends}
+use Rattle.std.proofs.Common.{inr, subst}
+use Rattle.planner_top.specs.Run.{EndsCase}
 use Rattle.planner_top.proofs.run.answer_plan.Goals as goal
 
-pub returns-in-Ok-clause-ends : goal.returns-in-Ok-clause-ends
-returns-in-Ok-clause-ends g c =
-    plan_ends (g.S.Shelf.files c.args.shelf.now) (named c.args.files.now) c.in-Ok.inputs.net c.in-Ok.inputs.demands c.in-Ok.inputs.states.listed c.answer_inputs.result.status c.answer_inputs.result.text
-    c.in-Ok.ensures.has c.answer_inputs.ensures
+pub returns-clause-ends : goal.returns-clause-ends
+returns-clause-ends g c =
+    let has = c.in_ok-problem.ensures.has in
+    let problem = c.in_ok-problem.problem in
+    let answer = c.in_ok-answer_instance.field-0 in
+    inr (
+      problem.net,
+      problem.demands,
+      has.0,
+      inr (
+        has.1.0,
+        has.1.1,
+        inr (problem.states.listed, has.1.2, subst (λ p. EndsCase p answer.status answer.text) c.instance.ensures c.in_ok-answer_instance.ensures),
+      ),
+    )
