@@ -1,356 +1,270 @@
--- Failure files: what is read is spelled, and what is spelled is read.
-use Rattle.std.proofs.Common.{◌≡◌, ◌≢◌, ℕ, zero, suc, ◌<◌, ◌≤◌, Bool, true, false, cond, List, [], ◌∷◌, ◌++◌, length, map, get_or, All, AllPairs, Option, None, Some, Result, Ok, Err, IfOk, refl, sym, ap, subst, ◌∙◌, arith, append_assoc, append-nil, ⊎_elim, inl, inr}
-use Rattle.std.specs.Prelude.{flat_map, codes, ◌==◌, nat_lt}
+-- The reading of a failure list takes exactly the texts of failure lists.
+use Rattle.std.proofs.Common.{◌≡◌, ◌≢◌, ℕ, ◌<◌, ◌≤◌, Bool, true, false, cond, nat_lt, List, [], ◌∷◌, ◌++◌, length, get_or, All, AllPairs, Option, None, Some, Result, Ok, Err, IfOk, IfErr, refl, sym, ap, subst, ◌∙◌, arith, append-nil}
+use Rattle.std.specs.Prelude.{flat_map, codes}
 use Rattle.std.specs.List.{position_or_len}
-use Rattle.std.proofs.lemmas.Bool.{cases_Bool, ltb-false, le-ltb, lt-ltb, eqb-false}
-use Rattle.std.proofs.lemmas.List.Elements.{All-cons, All-nil, All-head, All-tail}
-use Rattle.std.proofs.lemmas.List.Quantifiers.{all_pairs_push, position-Some}
+use Rattle.std.proofs.lemmas.Bool.{ltb-false, ltb-true, le-ltb, lt-ltb}
+use Rattle.std.proofs.lemmas.List.Quantifiers.{position-Some}
 use Rattle.std.proofs.lemmas.List.Sums.{position_or_len_is}
 use Rattle.std.proofs.lemmas.Option.{slice_get-get_or}
-use Rattle.snd_tokens.specs.Header.{first_line, second_line, trimmed}
+use Rattle.net_core.specs.Network.{IsNetwork}
+use Rattle.net_core.specs.States.{AreStates}
+use Rattle.net_core.specs.Tests.{are_same, is_named}
 use Rattle.net_core.specs.declared.ids.LinkId.{LinkId}
 use Rattle.net_core.specs.declared.network.Link.{Link}
 use Rattle.net_core.specs.declared.states.Listed.{Listed}
 use Rattle.net_core.specs.declared.states.States.{States}
-use Rattle.net_core.specs.declared.states.StatesFault.{StatesFault}
-use Rattle.net_core.specs.Tests.{are_same, is_named}
-use Rattle.net_core.specs.Network.{IsNetwork}
-use Rattle.net_core.specs.States.{AreStates, states_fault}
-use Rattle.net_core.proofs.Checks.{no_pairs, none_named}
+use Rattle.net_core.proofs.Accepted.{differ}
+use Rattle.snd_tokens.specs.Header.{first_line, trimmed}
+use Rattle.snd_tokens.specs.Lexemes.{Text, EndAt}
+use Rattle.text_kit.specs.Answers.{AnswersAs, ReadsAllAs}
+use Rattle.text_kit.specs.Files.{IsNotTooEarly, body}
+use Rattle.text_kit.specs.Items.{AreBehind, Item, Named, Opening, Closing}
+use Rattle.text_kit.specs.Reading.{word_at, Parenthesis, no_fault, not_empty, sound}
+use Rattle.text_kit.specs.declared.refusal.Refusal.{Refusal}
+use Rattle.text_kit.proofs.Behind.{all_behind, behind_all, behind_as, behind_both, behind_differ, differ_behind}
+use Rattle.text_kit.proofs.Files.{answer_found, answer_only, answer_first, file_read}
+use Rattle.text_kit.proofs.Lawful.{AnyText, IsEnd, Lawful, behind_few, few_behind, is_same, lawful_as, lawful_give, lawful_list, lawful_open, lawful_some, lawful_then, lawful_whole, lawful_word, same_is, sound_ok}
+use Rattle.text_kit.proofs.Online.{IsOnline, TakesSome, online_give, online_list, online_open, online_then, online_whole, online_word, takes_some}
+use Rattle.model_reader.specs.declared.failures.FailureList.{FailureList}
+use Rattle.model_reader.specs.declared.failures.FailureList.TheVariants.{OneByOne, EachAlone}
 use Rattle.model_reader.specs.declared.failures.FailuresKind.{FailuresKind}
-use Rattle.model_reader.specs.declared.failures.FailuresKind.TheVariants.{Header, Section, Token, LimitName, DoubleState, LimitStates}
-use Rattle.model_reader.specs.declared.failures.FailuresRefusal.{FailuresRefusal}
-use Rattle.model_reader.specs.declared.failures.FailuresRefusal.TheVariants.{Bad, NoMemory}
-use Rattle.snd_tokens.specs.Lexemes.{Lexeme, Word, Open, Close, Text, WordAt, OpenAt, CloseAt, EndAt, lexemes, text_from}
-use Rattle.model_reader.specs.Failures.{IsShort, Spells, SpellsStates, header, link_name, single_states, state_text}
-use Rattle.model_reader.specs.FailuresReading.{Fault, Gives, ◌>>=◌, failing_at, failures_at, failures_of, known_or, last_at, link_at, link_place, links_at, list_at, name_at, open_at, states_at}
-use Rattle.snd_tokens.proofs.Texts.{word_first, open_first, close_first, nothing_left}
-use Rattle.model_reader.proofs.Steps.{if_ok, unless_ok, ok_is, never, same_is, is_same}
-use Rattle.model_reader.proofs.Sound.{differ, new_name, no_fault, some_links}
-use Rattle.model_reader.proofs.Singles.{none_some, network_differs, network_singles}
-
--- the value of a step that did not fail
-bind_ok : {A B : Type 0} (r : Result A Fault) (f : A → Result B Fault) (y : B) → (r >>= f) ≡ Ok y → (x : A) × (r ≡ Ok x) × (f x ≡ Ok y)
-bind_ok (Ok x) f y e = (x, refl, e)
-bind_ok (Err d) f y e = absurd cc
+use Rattle.model_reader.specs.declared.failures.FailuresKind.TheVariants.{Header, Section, Token, Ended, LimitName, DoubleState, LimitStates}
+use Rattle.model_reader.specs.Failures.{IsListInForm, IsShort, Spells, header, link_name, list_items, state_items, states_of}
+use Rattle.model_reader.specs.FailuresReading.{behind_word, failure_list_at, failures_at, failures_of, is_list, known_or, link_of, link_place, links_at, name_fault, state_at, states_at}
+use Rattle.model_reader.proofs.FailureSingles.{network_differs}
 
 -- ---- links by name
-
-name_at_place : (links : List Link) (e : LinkId) (d : Link) → e.0 < length links → link_name links e ≡ (get_or links e.0 d).name
-name_at_place links e d lt = rw (slice_get-get_or links e.0 d lt) refl
-
-known_takes : (at : ℕ) (o : Option ℕ) (e : LinkId) → known_or at o ≡ Ok e → o ≡ Some e.0
-known_takes at None e h = absurd cc
-known_takes at (Some i) e h = ap (λ (k : LinkId). Some k.0) (ok_is (record { 0 = i }) e h)
 
 abbrev no_link : Link
 no_link = record { name = []; a = record { 0 = 0 }; b = record { 0 = 0 }; fixed = 0; setup = 0; modules = [] }
 
--- a word that names a link
-record IsLinkName (links : List Link) (w : List ℕ) (e : LinkId) : Type 0 where
-  pub is : w ≡ link_name links e
-  pub short : length (link_name links e) ≤ 255
-  pub known : e.0 < length links
+-- a link of the network whose name isn't too long
+abbrev IsLinkIn : List Link → LinkId → Type 0
+IsLinkIn links e = (e.0 < length links) × (length (link_name links e) ≤ 255)
 
-link_takes : (links : List Link) (at : ℕ) (w : List ℕ) (e : LinkId) → link_at links at w ≡ Ok e → IsLinkName links w e
-link_takes links at w e h =
-    let t = unless_ok (nat_lt 255 (length w)) (at, LimitName) (known_or at (link_place links w)) e h in
-    let p = position-Some (λ l. are_same l.name w) links e.0 no_link (known_takes at (link_place links w) e t.1) in
-    let is : w ≡ link_name links e = sym (same_is (get_or links e.0 no_link).name w p.1) ∙ sym (name_at_place links e no_link p.0) in
-    record { is = is; short = subst (λ (v : List ℕ). length v ≤ 255) is (ltb-false 255 (length w) t.0); known = p.0 }
+abbrev AreDifferent : List Link → Type 0
+AreDifferent links = AllPairs (λ x y. x.name ≢ y.name) links
 
-link_again : (links : List Link) (at : ℕ) (e : LinkId) → AllPairs (λ x y. x.name ≢ y.name) links → e.0 < length links → length (link_name links e) ≤ 255 → link_at links at (link_name links e) ≡ Ok e
-link_again links at e pairs lt short =
-    let w = link_name links e in
-    let named : w ≡ (get_or links e.0 no_link).name = name_at_place links e no_link lt in
-    let first : position_or_len (λ l. are_same l.name w) links ≡ e.0 =
-    position_or_len_is (λ l. are_same l.name w) links e.0 no_link (omega arith)
-    (λ k below. differ (get_or links k no_link).name w (λ same. pairs k e.0 no_link below lt (same ∙ named)))
-    (λ within. subst (λ (v : List ℕ). are_same v w ≡ true) named (is_same w)) in
-    rw (le-ltb 255 (length w) short, first, lt-ltb e.0 (length links) lt) refl
+name_at_place : (links : List Link) (e : LinkId) → e.0 < length links → link_name links e ≡ (get_or links e.0 no_link).name
+name_at_place links e lt = rw (slice_get-get_or links e.0 no_link lt) refl
 
--- ---- the links of a state
+known_takes : (o : Option ℕ) (e : LinkId) → known_or o ≡ Ok e → o ≡ Some e.0
+known_takes None e h = absurd cc
+known_takes (Some i) e h = let k : record { 0 = i } ≡ e = cc in ap (λ (x : LinkId). Some x.0) k
 
--- links that were read: new ones behind the earlier ones, and spelled so
-record TakesLinks (links : List Link) (sofar : List LinkId) (text : Text) (all : List LinkId) (rest : Text) : Type 0 where
-  pub new : List LinkId
-  pub all_are : all ≡ sofar ++ new
-  pub some : 1 ≤ length all
-  pub short : All (λ e. length (link_name links e) ≤ 255) new
-  pub known : All (λ e. e.0 < length links) new
-  pub spelled : lexemes text ≡ map (λ e. Word (link_name links e)) new ++ Close ∷ lexemes rest
+short_if : {A : Type 0} (b : Bool) (k : FailuresKind) (r : Result A FailuresKind) (x : A) → cond b (Err k) r ≡ Ok x → (b ≡ false) × (r ≡ Ok x)
+short_if true k r x e = absurd cc
+short_if false k r x e = (refl, e)
 
-not_zero : (n : ℕ) → (n == 0) ≡ false → 1 ≤ n
-not_zero n h = let none : n ≡ 0 → ⊥ = eqb-false n 0 h in omega arith
+link_takes : (links : List Link) (w : List ℕ) (e : LinkId) → link_of links w ≡ Ok e → IsLinkIn links e × (w ≡ link_name links e)
+link_takes links w e h =
+    let t = short_if (nat_lt 255 (length w)) LimitName (known_or (link_place links w)) e h in
+    let p = position-Some (λ l. are_same l.name w) links e.0 no_link (known_takes (link_place links w) e t.1) in
+    let is : w ≡ link_name links e = sym (same_is (get_or links e.0 no_link).name w p.1) ∙ sym (name_at_place links e p.0) in
+    ((p.0, subst (λ (v : List ℕ). length v ≤ 255) is (ltb-false 255 (length w) t.0)), is)
 
-links_take : (links : List Link) (sofar : List LinkId) (text : Text) (x : List LinkId × Text) → links_at links sofar text ≡ Ok x → TakesLinks links sofar text x.0 x.1
-links_take links sofar (OpenAt at rest) x e = absurd cc
-links_take links sofar (EndAt at) x e = absurd cc
-links_take links sofar (CloseAt at rest) x e =
-    let t = unless_ok (length sofar == 0) (at, Token) (Ok (sofar, rest)) x e in
-    subst (λ (y : List LinkId × Text). TakesLinks links sofar (CloseAt at rest) y.0 y.1) (ok_is (sofar, rest) x t.1)
-    (record {
-      new = [];
-      all_are = sym (append-nil sofar);
-      some = not_zero (length sofar) t.0;
-      short = All-nil (λ (e : LinkId). length (link_name links e) ≤ 255);
-      known = All-nil (λ (e : LinkId). e.0 < length links);
-      spelled = refl;
-    })
-links_take links sofar (WordAt at w rest) x e =
-    let b = bind_ok (link_at links at w) (λ k. links_at links (sofar ++ k ∷ []) rest) x e in
-    let n = link_takes links at w b.0 b.1 in
-    let t = links_take links (sofar ++ b.0 ∷ []) rest x b.2 in
-    record {
-      new = b.0 ∷ t.new;
-      all_are = t.all_are ∙ append_assoc sofar (b.0 ∷ []) t.new;
-      some = t.some;
-      short = All-cons (λ (e : LinkId). length (link_name links e) ≤ 255) b.0 t.new n.short t.short;
-      known = All-cons (λ (e : LinkId). e.0 < length links) b.0 t.new n.known t.known;
-      spelled = ap (λ (ls : List Lexeme). Word w ∷ ls) t.spelled ∙ ap (λ (v : List ℕ). Word v ∷ (map (λ e. Word (link_name links e)) t.new ++ Close ∷ lexemes x.1)) n.is;
-    }
+link_again : (links : List Link) → AreDifferent links → (w : List ℕ) (e : LinkId) → IsLinkIn links e → w ≡ link_name links e → link_of links w ≡ Ok e
+link_again links pairs w e is same =
+    let name = link_name links e in
+    let named : name ≡ (get_or links e.0 no_link).name = name_at_place links e is.0 in
+    let first : position_or_len (λ l. are_same l.name name) links ≡ e.0 =
+    position_or_len_is (λ l. are_same l.name name) links e.0 no_link (omega (arith, is.0))
+    (λ k below. differ (get_or links k no_link).name name (λ equal. pairs k e.0 no_link below is.0 (equal ∙ named)))
+    (λ within. subst (λ (v : List ℕ). are_same v name ≡ true) named (is_same name)) in
+    ap (link_of links) same ∙ rw (le-ltb 255 (length name) is.1, first, lt-ltb e.0 (length links) is.0) refl
 
--- a text behind what was read
-record Behind {X : Type 0} (read : Result (X × Text) Fault) (x : X) (more : List Lexeme) : Type 0 where
-  pub rest : Text
-  pub is : read ≡ Ok (x, rest)
-  pub behind : lexemes rest ≡ more
+-- ---- a state's name
 
-links_again : (links : List Link) (sofar new : List LinkId) (text : Text) (more : List Lexeme) → AllPairs (λ x y. x.name ≢ y.name) links → 1 ≤ length (sofar ++ new) → All (λ e. length (link_name links e) ≤ 255) new → All (λ e. e.0 < length links) new → lexemes text ≡ map (λ e. Word (link_name links e)) new ++ Close ∷ more → Behind (links_at links sofar text) (sofar ++ new) more
-links_again links sofar [] text more pairs some short known is =
-    let c = close_first text more is in
-    let len : 1 ≤ length sofar = subst (λ (xs : List LinkId). 1 ≤ length xs) (append-nil sofar) some in
-    record { rest = c.rest; is = ap (λ (t : Text). links_at links sofar t) c.is ∙ ap (λ (b : Bool). cond b (Err (c.at, Token)) (Ok (sofar, c.rest))) (some_links (length sofar) len) ∙ ap (λ (xs : List LinkId). Ok (xs, c.rest)) (sym (append-nil sofar)); behind = c.behind }
-links_again links sofar (k ∷ ks) text more pairs some short known is =
-    let a = word_first text (link_name links k) (map (λ e. Word (link_name links e)) ks ++ Close ∷ more) is in
-    let one = link_again links a.at k pairs (All-head (λ (e : LinkId). e.0 < length links) k ks known) (All-head (λ (e : LinkId). length (link_name links e) ≤ 255) k ks short) in
-    let later = links_again links (sofar ++ k ∷ []) ks a.rest more pairs (subst (λ (xs : List LinkId). 1 ≤ length xs) (sym (append_assoc sofar (k ∷ []) ks)) some) (All-tail (λ (e : LinkId). length (link_name links e) ≤ 255) k ks short) (All-tail (λ (e : LinkId). e.0 < length links) k ks known) a.behind in
-    record { rest = later.rest; is = ap (λ (t : Text). links_at links sofar t) a.is ∙ ap (λ (r : Result LinkId Fault). r >>= λ e. links_at links (sofar ++ e ∷ []) a.rest) one ∙ later.is ∙ ap (λ (xs : List LinkId). Ok (xs, later.rest)) (append_assoc sofar (k ∷ []) ks); behind = later.behind }
+-- a name that may stand behind earlier states
+abbrev IsNameBehind : List Listed → List ℕ → Type 0
+IsNameBehind sofar w = (length w ≤ 255) × (is_named (λ s. s.name) w sofar ≡ false) × (length sofar < 256)
 
-open_takes : (kind : FailuresKind) (text rest : Text) → open_at kind text ≡ Ok rest → lexemes text ≡ Open ∷ lexemes rest
-open_takes kind (WordAt at w t) rest e = absurd cc
-open_takes kind (OpenAt at t) rest e = ap (λ (x : Text). Open ∷ lexemes x) (ok_is t rest e)
-open_takes kind (CloseAt at t) rest e = absurd cc
-open_takes kind (EndAt at) rest e = absurd cc
+name_none : (long double few : Bool) → (let o : Option FailuresKind = cond long (Some LimitName) (cond double (Some DoubleState) (cond few None (Some LimitStates))) in o ≡ None) → (long ≡ false) × (double ≡ false) × (few ≡ true)
+name_none true double few e = absurd cc
+name_none false true few e = absurd cc
+name_none false false true e = (refl, refl, refl)
+name_none false false false e = absurd cc
 
--- the links of a state that was read
-record TakesFailing (links : List Link) (text : Text) (all : List LinkId) (rest : Text) : Type 0 where
-  pub some : 1 ≤ length all
-  pub short : All (λ e. length (link_name links e) ≤ 255) all
-  pub known : All (λ e. e.0 < length links) all
-  pub spelled : lexemes text ≡ Open ∷ (map (λ e. Word (link_name links e)) all ++ Close ∷ lexemes rest)
+name_takes : (sofar : List Listed) (w n : List ℕ) → sound w (name_fault sofar w) ≡ Ok n → IsNameBehind sofar n × (w ≡ n)
+name_takes sofar w n e =
+    let s = sound_ok w n (name_fault sofar w) e in
+    let t = name_none (nat_lt 255 (length w)) (is_named (λ l. l.name) w sofar) (nat_lt (length sofar) 256) s.0 in
+    (subst (IsNameBehind sofar) s.1 (ltb-false 255 (length w) t.0, t.1, ltb-true (length sofar) 256 t.2), s.1)
 
-failing_takes : (links : List Link) (text : Text) (x : List LinkId × Text) → failing_at links text ≡ Ok x → TakesFailing links text x.0 x.1
-unfolding failing_at
-failing_takes links text x e =
-    let o = bind_ok (open_at Token text) (λ inside. links_at links [] inside) x e in
-    let t = links_take links [] o.0 x o.2 in
-    record {
-      some = t.some;
-      short = subst (λ (xs : List LinkId). All (λ e. length (link_name links e) ≤ 255) xs) (sym t.all_are) t.short;
-      known = subst (λ (xs : List LinkId). All (λ e. e.0 < length links) xs) (sym t.all_are) t.known;
-      spelled = open_takes Token text o.0 o.1 ∙ ap (λ (ls : List Lexeme). Open ∷ ls) t.spelled ∙ ap (λ (xs : List LinkId). Open ∷ (map (λ e. Word (link_name links e)) xs ++ Close ∷ lexemes x.1)) (sym t.all_are);
-    }
-
-failing_again : (links : List Link) (all : List LinkId) (text : Text) (more : List Lexeme) → AllPairs (λ x y. x.name ≢ y.name) links → 1 ≤ length all → All (λ e. length (link_name links e) ≤ 255) all → All (λ e. e.0 < length links) all → lexemes text ≡ Open ∷ (map (λ e. Word (link_name links e)) all ++ Close ∷ more) → Behind (failing_at links text) all more
-unfolding failing_at
-failing_again links all text more pairs some short known is =
-    let o = open_first text (map (λ e. Word (link_name links e)) all ++ Close ∷ more) is in
-    let t = links_again links [] all o.rest more pairs some short known o.behind in
-    record { rest = t.rest; is = ap (λ (x : Text). open_at Token x >>= λ inside. links_at links [] inside) o.is ∙ t.is; behind = t.behind }
+name_again : (sofar : List Listed) (w n : List ℕ) → IsNameBehind sofar n → w ≡ n → sound w (name_fault sofar w) ≡ Ok n
+name_again sofar w n is same = ap (λ (v : List ℕ). sound v (name_fault sofar v)) same ∙ rw (le-ltb 255 (length n) is.0, is.1, lt-ltb (length sofar) 256 is.2) refl
 
 -- ---- states
 
-name_takes : (sofar : List Listed) (at : ℕ) (w name : List ℕ) → name_at sofar at w ≡ Ok name → (w ≡ name) × (length name ≤ 255) × (is_named (λ s. s.name) name sofar ≡ false)
-name_takes sofar at w name e =
-    let a = unless_ok (nat_lt 255 (length w)) (at, LimitName) (cond (is_named (λ s. s.name) w sofar) (Err (at, DoubleState)) (Ok w)) name e in
-    let b = unless_ok (is_named (λ s. s.name) w sofar) (at, DoubleState) (Ok w) name a.1 in
-    let is : w ≡ name = ok_is w name b.1 in
-    (is, subst (λ (v : List ℕ). length v ≤ 255) is (ltb-false 255 (length w) a.0), subst (λ (v : List ℕ). is_named (λ s. s.name) v sofar ≡ false) is b.0)
+-- a state that may stand behind earlier ones
+abbrev IsStateBehind : List Link → List Listed → Listed → Type 0
+IsStateBehind links sofar s = IsNameBehind sofar s.name × ((1 ≤ length s.links) × AreBehind (λ before e. IsLinkIn links e) [] s.links)
 
-name_again : (sofar : List Listed) (at : ℕ) (name : List ℕ) → length name ≤ 255 → is_named (λ s. s.name) name sofar ≡ false → name_at sofar at name ≡ Ok name
-name_again sofar at name short new = rw (le-ltb 255 (length name) short, new) refl
+are_states : (links : List Link) (listed : List Listed) → AreBehind (IsStateBehind links) [] listed → AreStates (length links) listed × All (IsShort links) listed
+are_states links listed all =
+    let each : (P : Listed → Type 0) → ((before : List Listed) (s : Listed) → IsStateBehind links before s → P s) → All P listed = λ P to. behind_all P [] listed (behind_as (IsStateBehind links) (λ before s. P s) [] listed to all) in
+    let of_links : (P : LinkId → Type 0) (s : Listed) → ((e : LinkId) → IsLinkIn links e → P e) → AreBehind (λ before e. IsLinkIn links e) [] s.links → All P s.links = λ P s to h. behind_all P [] s.links (behind_as (λ before e. IsLinkIn links e) (λ before e. P e) [] s.links (λ before e i. to e i) h) in (
+      record {
+        checked = record {
+          few = (few_behind 256 (λ before s. Unit {0}) [] listed (omega arith) (behind_as (IsStateBehind links) (λ before s. (length before < 256) × Unit {0}) [] listed (λ before s h. (h.0.2, tt)) all)).0;
+          some = each (λ s. 1 ≤ length s.links) (λ before s h. h.1.0);
+          different = behind_differ (λ s. s.name) listed (behind_as (IsStateBehind links) (λ before s. is_named (λ x. x.name) s.name before ≡ false) [] listed (λ before s h. h.0.1) all);
+        };
+        known = each (λ s. All (λ e. e.0 < length links) s.links) (λ before s h. of_links (λ e. e.0 < length links) s (λ e i. i.0) h.1.1);
+      },
+      each (IsShort links) (λ before s h. (h.0.0, of_links (λ e. length (link_name links e) ≤ 255) s (λ e i. i.1) h.1.1)),
+    )
 
--- states that were read: new ones behind the earlier ones, within the limit, sound and spelled so
-record TakesStates (links : List Link) (n : ℕ) (sofar : List Listed) (text : Text) (all : List Listed) (rest : Text) : Type 0 where
-  pub new : List Listed
-  pub all_are : all ≡ sofar ++ new
-  pub few : length new ≤ n
-  pub some : All (λ s. 1 ≤ length s.links) new
-  pub known : All (λ s. All (λ e. e.0 < length links) s.links) new
-  pub short : All (IsShort links) new
-  pub different : AllPairs (λ x y. x.name ≢ y.name) all
-  pub spelled : lexemes text ≡ flat_map (state_text links) new ++ Close ∷ lexemes rest
+are_behind : (links : List Link) (listed : List Listed) → AreStates (length links) listed × All (IsShort links) listed → AreBehind (IsStateBehind links) [] listed
+are_behind links listed h =
+    let few = behind_few 256 (λ before s. Unit {0}) [] listed h.0.checked.few (all_behind (λ s. Unit {0}) [] listed (λ k d lt. tt)) in
+    let new = differ_behind (λ s. s.name) [] listed h.0.checked.different in
+    let each = all_behind (λ s. (1 ≤ length s.links) × All (λ e. e.0 < length links) s.links × IsShort links s) [] listed (λ k d lt. (h.0.checked.some k d lt, h.0.known k d lt, h.1 k d lt)) in
+    behind_as _ (IsStateBehind links) [] listed
+    (λ before s i. ((i.1.1.2.0, i.1.0, i.0.0), (i.1.1.0, all_behind (IsLinkIn links) [] s.links (λ k d lt. (i.1.1.1 k d lt, i.1.1.2.1 k d lt)))))
+    (behind_both _ _ [] listed few (behind_both _ _ [] listed new each))
 
--- the text of a state before other lexemes
-state_before : (links : List Link) (s : Listed) (more : List Lexeme) → Word s.name ∷ Open ∷ (map (λ e. Word (link_name links e)) s.links ++ Close ∷ more) ≡ state_text links s ++ more
-state_before links s more = ap (λ (ls : List Lexeme). Word s.name ∷ Open ∷ ls) (sym (append_assoc (map (λ e. Word (link_name links e)) s.links) (Close ∷ []) more))
+-- ---- the law
 
--- the texts of a state and of those behind it
-spelled_more : (links : List Link) (w : List ℕ) (s : Listed) (a b : List Lexeme) (new : List Listed) (c : List Lexeme) → w ≡ s.name → a ≡ Open ∷ (map (λ e. Word (link_name links e)) s.links ++ Close ∷ b) → b ≡ flat_map (state_text links) new ++ c → Word w ∷ a ≡ (state_text links s ++ flat_map (state_text links) new) ++ c
-spelled_more links w s a b new c p q r =
-    let joined : Word s.name ∷ Open ∷ (map (λ e. Word (link_name links e)) s.links ++ Close ∷ (flat_map (state_text links) new ++ c)) ≡ (state_text links s ++ flat_map (state_text links) new) ++ c =
-    state_before links s (flat_map (state_text links) new ++ c) ∙ sym (append_assoc (state_text links s) (flat_map (state_text links) new) c) in
-    rw (p, q, r) joined
+link_lawful : (links : List Link) → AreDifferent links → Lawful (word_at Token Ended (link_of links)) (λ e. Named (link_name links e) ∷ []) (IsLinkIn links) AnyText
+link_lawful links pairs = lawful_word Token Ended (link_of links) (λ e. Named (link_name links e)) (IsLinkIn links) (λ e. tt) (link_takes links) (λ w e is same. link_again links pairs w e is same)
 
--- one more in front of the new ones
-one_more : (all sofar new : List Listed) (s : Listed) → all ≡ (sofar ++ s ∷ []) ++ new → all ≡ sofar ++ s ∷ new
-one_more all sofar new s e = e ∙ append_assoc sofar (s ∷ []) new
+name_lawful : (sofar : List Listed) → Lawful (word_at Token Ended (λ w. sound w (name_fault sofar w))) (λ n. Named n ∷ []) (IsNameBehind sofar) AnyText
+name_lawful sofar = lawful_word Token Ended (λ w. sound w (name_fault sofar w)) (λ n. Named n) (IsNameBehind sofar) (λ n. tt) (name_takes sofar) (λ w n is same. name_again sofar w n is same)
 
-states_take : (links : List Link) (n : ℕ) (sofar : List Listed) (text : Text) (x : List Listed × Text) → AllPairs (λ x y. x.name ≢ y.name) sofar → states_at links n sofar text ≡ Ok x → TakesStates links n sofar text x.0 x.1
-states_take links n sofar (OpenAt at rest) x pairs e = absurd cc
-states_take links n sofar (EndAt at) x pairs e = absurd cc
-states_take links n sofar (CloseAt at rest) x pairs e =
-    subst (λ (y : List Listed × Text). TakesStates links n sofar (CloseAt at rest) y.0 y.1) (ok_is (sofar, rest) x e)
-    (record {
-      new = [];
-      all_are = sym (append-nil sofar);
-      few = omega arith;
-      some = All-nil (λ (s : Listed). 1 ≤ length s.links);
-      known = All-nil (λ (s : Listed). All (λ e. e.0 < length links) s.links);
-      short = All-nil (IsShort links);
-      different = pairs;
-      spelled = refl;
-    })
-states_take links zero sofar (WordAt at w rest) x pairs e =
-    let b = bind_ok (name_at sofar at w) (λ name. Err (at, LimitStates)) x e in
-    absurd (never (Err (at, LimitStates)) (at, LimitStates) x refl b.2)
-states_take links (suc n) sofar (WordAt at w rest) x pairs e =
-    let b = bind_ok (name_at sofar at w) (λ name. failing_at links rest >>= λ failing. states_at links n (sofar ++ record { name = name; links = failing.0 } ∷ []) failing.1) x e in
-    let f = bind_ok (failing_at links rest) (λ failing. states_at links n (sofar ++ record { name = b.0; links = failing.0 } ∷ []) failing.1) x b.2 in
-    let s : Listed = record { name = b.0; links = f.0.0 } in
-    let name = name_takes sofar at w b.0 b.1 in
-    let failing = failing_takes links rest f.0 f.1 in
-    let pairs' : AllPairs (λ x y. x.name ≢ y.name) (sofar ++ s ∷ []) = all_pairs_push (λ x y. x.name ≢ y.name) sofar s pairs (none_named (λ s. s.name) b.0 sofar name.2) in
-    let t = states_take links n (sofar ++ s ∷ []) f.0.1 x pairs' f.2 in
-    record {
-      new = s ∷ t.new;
-      all_are = one_more x.0 sofar t.new s t.all_are;
-      few = let few : length t.new ≤ n = t.few in omega arith;
-      some = All-cons (λ (s : Listed). 1 ≤ length s.links) s t.new failing.some t.some;
-      known = All-cons (λ (s : Listed). All (λ e. e.0 < length links) s.links) s t.new failing.known t.known;
-      short = All-cons (IsShort links) s t.new (name.1, failing.short) t.short;
-      different = t.different;
-      spelled = spelled_more links w s (lexemes rest) (lexemes f.0.1) t.new (Close ∷ lexemes x.1) name.0 failing.spelled t.spelled;
-    }
+state_lawful : (links : List Link) → AreDifferent links → (sofar : List Listed) → Lawful (state_at links sofar) (state_items links) (IsStateBehind links sofar) AnyText
+unfolding state_at
+state_lawful links pairs sofar = lawful_as (state_at links sofar) _ (state_items links) _ (IsStateBehind links sofar) AnyText
+    (λ s h. ap (λ (is : List Item). Named s.name ∷ Opening ∷ is) (append-nil (flat_map (λ e. Named (link_name links e) ∷ []) s.links ++ Closing ∷ [])))
+    (λ s h. (h.0, h.1.1.0))
+    (λ s h. (h.0, (tt, (h.1, refl))))
+    (lawful_then _ _ _ _ _ _ AnyText (λ s. s.name) (λ a s h. ap (λ (x : Listed). x.name) h.1.1) (name_lawful sofar) (λ name.
+    lawful_then _ _ _ _ _ _ AnyText (λ s. tt) (λ a s h. refl) (lawful_open Token Ended) (λ a.
+    lawful_then _ _ _ _ _ _ AnyText (λ s. s.links) (λ a s h. ap (λ (x : Listed). x.links) h) (lawful_some Token (λ before. word_at Token Ended (link_of links)) (λ e. Named (link_name links e) ∷ []) (λ before e. IsLinkIn links e) (λ e. tt) (λ before. link_lawful links pairs)) (λ failing.
+    lawful_give (record { name = name; links = failing })))))
 
-states_again : (links : List Link) (n : ℕ) (sofar new : List Listed) (text : Text) (more : List Lexeme) → AllPairs (λ x y. x.name ≢ y.name) links → length new ≤ n → All (λ s. 1 ≤ length s.links) new → All (λ s. All (λ e. e.0 < length links) s.links) new → All (IsShort links) new → AllPairs (λ x y. x.name ≢ y.name) (sofar ++ new) → lexemes text ≡ flat_map (state_text links) new ++ Close ∷ more → Behind (states_at links n sofar text) (sofar ++ new) more
-states_again links n sofar [] text more pairs few some known short different is =
-    let c = close_first text more is in
-    record { rest = c.rest; is = ap (λ (t : Text). states_at links n sofar t) c.is ∙ ap (λ (xs : List Listed). Ok (xs, c.rest)) (sym (append-nil sofar)); behind = c.behind }
-states_again links zero sofar (s ∷ ss) text more pairs few some known short different is = absurd (omega (arith, few))
-states_again links (suc n) sofar (s ∷ ss) text more pairs few some known short different is =
-    let later_text = flat_map (state_text links) ss ++ Close ∷ more in
-    let spelled : lexemes text ≡ Word s.name ∷ Open ∷ (map (λ e. Word (link_name links e)) s.links ++ Close ∷ later_text) =
-    is ∙ append_assoc (state_text links s) (flat_map (state_text links) ss) (Close ∷ more) ∙ sym (state_before links s later_text) in
-    let a = word_first text s.name (Open ∷ (map (λ e. Word (link_name links e)) s.links ++ Close ∷ later_text)) spelled in
-    let head = All-head (IsShort links) s ss short in
-    let name = name_again sofar a.at s.name head.0 (new_name sofar s ss different) in
-    let f = failing_again links s.links a.rest later_text pairs (All-head (λ (s : Listed). 1 ≤ length s.links) s ss some) head.1 (All-head (λ (s : Listed). All (λ e. e.0 < length links) s.links) s ss known) a.behind in
-    let fewer : length ss ≤ n = omega (arith, few) in
-    let later = states_again links n (sofar ++ s ∷ []) ss f.rest more pairs fewer (All-tail (λ (s : Listed). 1 ≤ length s.links) s ss some) (All-tail (λ (s : Listed). All (λ e. e.0 < length links) s.links) s ss known) (All-tail (IsShort links) s ss short) (subst (λ (xs : List Listed). AllPairs (λ x y. x.name ≢ y.name) xs) (sym (append_assoc sofar (s ∷ []) ss)) different) f.behind in
-    record { rest = later.rest; is = ap (λ (t : Text). states_at links (suc n) sofar t) a.is ∙ ap (λ (r : Result (List ℕ) Fault). r >>= λ name. failing_at links a.rest >>= λ failing. states_at links n (sofar ++ record { name = name; links = failing.0 } ∷ []) failing.1) name ∙ ap (λ (r : Result (List LinkId × Text) Fault). r >>= λ failing. states_at links n (sofar ++ record { name = s.name; links = failing.0 } ∷ []) failing.1) f.is ∙ later.is ∙ ap (λ (xs : List Listed). Ok (xs, later.rest)) (append_assoc sofar (s ∷ []) ss); behind = later.behind }
+states_lawful : (links : List Link) → AreDifferent links → Lawful (states_at links []) (λ xs. flat_map (state_items links) xs ++ Closing ∷ []) (λ xs. AreStates (length links) xs × All (IsShort links) xs) AnyText
+states_lawful links pairs = lawful_as (states_at links []) _ (λ xs. flat_map (state_items links) xs ++ Closing ∷ []) _ _ AnyText (λ xs h. refl) (λ xs h. are_states links xs h.1) (λ xs h. (refl, are_behind links xs h))
+    (lawful_list Parenthesis no_fault (state_at links) (state_items links) (IsStateBehind links) (λ s. tt) (state_lawful links pairs))
 
--- ---- whole lists and files
+-- the first word, and what comes behind it
+abbrev is_one_by_one : FailureList → Bool
+is_one_by_one (OneByOne listed) = true
+is_one_by_one EachAlone = false
 
-last_takes : (listed : List Listed) (text : Text) (x : List Listed) → last_at listed text ≡ Ok x → (lexemes text ≡ []) × (listed ≡ x)
-last_takes listed (WordAt at w rest) x e = absurd cc
-last_takes listed (OpenAt at rest) x e = absurd cc
-last_takes listed (CloseAt at rest) x e = absurd cc
-last_takes listed (EndAt at) x e = (refl, ok_is listed x e)
+abbrev word_for : Bool → List ℕ
+word_for true = codes "FAILURES"
+word_for false = codes "ALL_SINGLE_LINKS"
 
-last_again : (listed : List Listed) (text : Text) → lexemes text ≡ [] → last_at listed text ≡ Ok listed
-last_again listed text is = let e = nothing_left text is in rw e.1 refl
+abbrev items_behind : List Link → FailureList → List Item
+items_behind links (OneByOne listed) = Opening ∷ (flat_map (state_items links) listed ++ Closing ∷ [])
+items_behind links EachAlone = []
 
--- a list that was read
-record TakesList (links : List Link) (text : Text) (listed : List Listed) : Type 0 where
-  pub states : AreStates (length links) listed
-  pub short : All (IsShort links) listed
-  pub spelled : lexemes text ≡ Open ∷ (flat_map (state_text links) listed ++ Close ∷ [])
+abbrev listed_of : FailureList → List Listed
+listed_of (OneByOne listed) = listed
+listed_of EachAlone = []
 
-list_takes : (links : List Link) (text : Text) (listed : List Listed) → list_at links text ≡ Ok listed → TakesList links text listed
-unfolding list_at
-list_takes links text listed e =
-    let o = bind_ok (open_at Section text) (λ inside. states_at links 256 [] inside >>= λ l. last_at l.0 l.1) listed e in
-    let s = bind_ok (states_at links 256 [] o.0) (λ l. last_at l.0 l.1) listed o.2 in
-    let l = last_takes s.0.0 s.0.1 listed s.2 in
-    let t = states_take links 256 [] o.0 s.0 (no_pairs (λ x y. x.name ≢ y.name)) s.1 in
-    let is : t.new ≡ listed = sym t.all_are ∙ l.1 in
-    subst (λ (xs : List Listed). TakesList links text xs) is
-    (record {
-      states = record {
-        checked = record { few = t.few; some = t.some; different = subst (λ (xs : List Listed). AllPairs (λ x y. x.name ≢ y.name) xs) t.all_are t.different };
-        known = t.known;
-      };
-      short = t.short;
-      spelled = open_takes Section text o.0 o.1 ∙ ap (λ (ls : List Lexeme). Open ∷ ls) t.spelled ∙ ap (λ (ls : List Lexeme). Open ∷ (flat_map (state_text links) t.new ++ Close ∷ ls)) l.0;
-    })
+word_if : (w : List ℕ) (one all x : Bool) → are_same w (codes "FAILURES") ≡ one → are_same w (codes "ALL_SINGLE_LINKS") ≡ all → (let r : Result Bool FailuresKind = cond one (Ok true) (cond all (Ok false) (Err Section)) in r ≡ Ok x) → w ≡ word_for x
+word_if w true all true p q e = same_is w (codes "FAILURES") p
+word_if w true all false p q e = absurd cc
+word_if w false true true p q e = absurd cc
+word_if w false true false p q e = same_is w (codes "ALL_SINGLE_LINKS") q
+word_if w false false x p q e = absurd cc
 
-list_again : (links : List Link) (text : Text) (listed : List Listed) → AllPairs (λ x y. x.name ≢ y.name) links → TakesList links text listed → list_at links text ≡ Ok listed
-unfolding list_at
-list_again links text listed pairs t =
-    let o = open_first text (flat_map (state_text links) listed ++ Close ∷ []) t.spelled in
-    let s = states_again links 256 [] listed o.rest [] pairs t.states.checked.few t.states.checked.some t.states.known t.short t.states.checked.different o.behind in
-    rw (o.is, s.is) (last_again listed s.rest s.behind)
+word_again : (x : Bool) → is_list (word_for x) ≡ Ok x
+word_again true = refl
+word_again false = refl
 
--- states that were read are never refused
-pub read_pass : (links : List Link) (text : Text) (listed : List Listed) (f : StatesFault) → list_at links text ≡ Ok listed → states_fault (length links) listed ≡ Some f → ⊥
-read_pass links text listed f e some = none_some (states_fault (length links) listed) f (no_fault (length links) listed (list_takes links text listed e).states) some
+first_lawful : Lawful (word_at Section Ended is_list) (λ x. Named (word_for x) ∷ []) (λ x. Unit {0}) AnyText
+first_lawful = lawful_word Section Ended is_list (λ x. Named (word_for x)) (λ x. Unit {0}) (λ x. tt)
+    (λ w x e. (tt, word_if w (are_same w (codes "FAILURES")) (are_same w (codes "ALL_SINGLE_LINKS")) x refl refl e))
+    (λ w x is same. ap is_list same ∙ word_again x)
 
--- what was read behind the header
-record TakesFailures (links : List Link) (text : Text) (listed : List Listed) : Type 0 where
-  pub states : AreStates (length links) listed
-  pub spelled : SpellsStates links (lexemes text) listed
+abbrev IsOf : List Link → Bool → FailureList → Type 0
+IsOf links b l = (b ≡ is_one_by_one l) × IsListInForm links l
 
-failures_take : (links : List Link) (text : Text) (listed : List Listed) → AreStates (length links) (single_states links) → failures_at links text ≡ Ok listed → TakesFailures links text listed
-failures_take links (OpenAt at rest) listed singles e = absurd cc
-failures_take links (CloseAt at rest) listed singles e = absurd cc
-failures_take links (EndAt at) listed singles e = absurd cc
-failures_take links (WordAt at w rest) listed singles e =
-    let one = are_same w (codes "FAILURES") in
-    let all = are_same w (codes "ALL_SINGLE_LINKS") in
-    let other : Result (List Listed) Fault = cond all (last_at (single_states links) rest) (Err (at, Section)) in
-    ⊎_elim
-    (λ (yes : one ≡ true).
-    let t = list_takes links rest listed (sym (ap (λ (b : Bool). cond b (list_at links rest) other) yes) ∙ e) in
-    record { states = t.states; spelled = inl (ap (λ (v : List ℕ). Word v ∷ lexemes rest) (same_is w (codes "FAILURES") yes) ∙ ap (λ (ls : List Lexeme). Word (codes "FAILURES") ∷ ls) t.spelled, t.short) })
-    (λ (not_this : one ≡ false).
-    let t = if_ok all (at, Section) (last_at (single_states links) rest) listed (sym (ap (λ (b : Bool). cond b (list_at links rest) other) not_this) ∙ e) in
-    let l = last_takes (single_states links) rest listed t.1 in
-    record {
-      states = subst (λ (xs : List Listed). AreStates (length links) xs) l.1 singles;
-      spelled = inr (ap (λ (v : List ℕ). Word v ∷ lexemes rest) (same_is w (codes "ALL_SINGLE_LINKS") t.0) ∙ ap (λ (ls : List Lexeme). Word (codes "ALL_SINGLE_LINKS") ∷ ls) l.0, sym l.1);
-    })
-    (cases_Bool one)
+abbrev WasListed : List Link → FailureList → Type 0
+WasListed links l = Unit {0} × ((AreStates (length links) (listed_of l) × All (IsShort links) (listed_of l)) × (OneByOne (listed_of l) ≡ l))
 
-failures_again : (links : List Link) (text : Text) (listed : List Listed) → AllPairs (λ x y. x.name ≢ y.name) links → AreStates (length links) listed → SpellsStates links (lexemes text) listed → failures_at links text ≡ Ok listed
-failures_again links text listed pairs states (inl s) =
-    let a = word_first text (codes "FAILURES") (Open ∷ (flat_map (state_text links) listed ++ Close ∷ [])) s.0 in
-    rw a.is (list_again links a.rest listed pairs (record { states = states; short = s.1; spelled = a.behind }))
-failures_again links text listed pairs states (inr s) =
-    let a = word_first text (codes "ALL_SINGLE_LINKS") [] s.0 in
-    rw a.is (last_again (single_states links) a.rest a.behind ∙ ap (λ (xs : List Listed). Ok xs) (sym s.1))
+listed_items : (links : List Link) (l : FailureList) → WasListed links l → Opening ∷ ((flat_map (state_items links) (listed_of l) ++ Closing ∷ []) ++ []) ≡ items_behind links l
+listed_items links (OneByOne listed) h = ap (λ (is : List Item). Opening ∷ is) (append-nil (flat_map (state_items links) listed ++ Closing ∷ []))
+listed_items links EachAlone h = absurd (let e : OneByOne [] ≡ EachAlone = h.1.1 in cc)
 
-file_takes : (links : List Link) (bytes : List ℕ) (listed : List Listed) → AreStates (length links) (single_states links) → failures_of links bytes ≡ Ok listed → Spells links bytes listed
-file_takes links bytes listed singles e =
-    let text = text_from (second_line bytes) bytes in
-    let h = if_ok (are_same (trimmed (first_line bytes)) header) (0, Header) (failures_at links text) listed e in
-    let t = failures_take links text listed singles h.1 in
-    record { begins = same_is (trimmed (first_line bytes)) header h.0; states = t.states; text = t.spelled }
+listed_form : (links : List Link) (l : FailureList) → WasListed links l → IsOf links true l
+listed_form links (OneByOne listed) h = (refl, h.1.0)
+listed_form links EachAlone h = absurd (let e : OneByOne [] ≡ EachAlone = h.1.1 in cc)
 
-file_again : (links : List Link) (bytes : List ℕ) (listed : List Listed) → AllPairs (λ x y. x.name ≢ y.name) links → Spells links bytes listed → failures_of links bytes ≡ Ok listed
-file_again links bytes listed pairs s =
-    let begins : are_same (trimmed (first_line bytes)) header ≡ true = rw s.begins (is_same header) in
-    rw begins (failures_again links (text_from (second_line bytes) bytes) listed pairs s.states s.text)
+form_listed : (links : List Link) (l : FailureList) → IsOf links true l → WasListed links l
+form_listed links (OneByOne listed) h = (tt, (h.1, refl))
+form_listed links EachAlone h = absurd (let e : true ≡ false = h.0 in cc)
 
-abbrev Answer : Type 0
-Answer = Result States FailuresRefusal
+form_alone : (links : List Link) (l : FailureList) → IsOf links false l → EachAlone ≡ l
+form_alone links (OneByOne listed) h = absurd (let e : false ≡ true = h.0 in cc)
+form_alone links EachAlone h = refl
 
-pub is_spelled : (nodes : List (List ℕ)) (links : List Link) (bytes : List ℕ) (r : Answer) → ∥ IsNetwork nodes links ∥₁ → Gives (λ s. s.listed) r (failures_of links bytes) → IfOk r (λ s. Spells links bytes s.listed)
-is_spelled nodes links bytes (Ok s) net h = file_takes links bytes s.listed (network_singles nodes links net) h
-is_spelled nodes links bytes (Err e) net h = tt
+behind_lawful : (links : List Link) → AreDifferent links → (b : Bool) → Lawful (behind_word links b) (items_behind links) (IsOf links b) AnyText
+unfolding behind_word
+behind_lawful links pairs true = lawful_as (behind_word links true) _ (items_behind links) (WasListed links) (IsOf links true) AnyText (listed_items links) (listed_form links) (form_listed links)
+    (lawful_then _ _ _ _ _ _ AnyText (λ l. tt) (λ a l h. refl) (lawful_open Section Ended) (λ a.
+    lawful_then _ _ _ _ _ _ AnyText listed_of (λ a l h. ap listed_of h) (states_lawful links pairs) (λ listed.
+    lawful_give (OneByOne listed))))
+behind_lawful links pairs false = lawful_as (behind_word links false) _ (items_behind links) _ (IsOf links false) AnyText
+    (λ l e. ap (items_behind links) e) (λ l e. subst (λ (x : FailureList). IsOf links false x) e (refl, tt)) (form_alone links) (lawful_give EachAlone)
 
-pub is_read : (nodes : List (List ℕ)) (links : List Link) (bytes : List ℕ) (r : Answer) → ∥ IsNetwork nodes links ∥₁ → Gives (λ s. s.listed) r (failures_of links bytes) → (listed : List Listed) → Spells links bytes listed → Gives (λ s. s.listed) r (Ok listed)
-is_read nodes links bytes (Ok s) net h listed spelled = sym (file_again links bytes listed (network_differs nodes links net) spelled) ∙ h
-is_read nodes links bytes (Err (Bad at kind)) net h listed spelled = absurd (never (failures_of links bytes) (at, kind) listed h (file_again links bytes listed (network_differs nodes links net) spelled))
-is_read nodes links bytes (Err NoMemory) net h listed spelled = tt
+all_items : (links : List Link) (l : FailureList) → Named (word_for (is_one_by_one l)) ∷ items_behind links l ≡ list_items links l
+all_items links (OneByOne listed) = refl
+all_items links EachAlone = refl
+
+failures_lawful : (links : List Link) → AreDifferent links → Lawful (failures_at links) (list_items links) (IsListInForm links) IsEnd
+failures_lawful links pairs = lawful_whole Section (failure_list_at links) (list_items links) (IsListInForm links)
+    (lawful_as (failure_list_at links) _ (list_items links) _ (IsListInForm links) AnyText (λ l h. all_items links l) (λ l h. h.1.1) (λ l h. (tt, (refl, h)))
+    (lawful_then _ _ _ _ _ _ AnyText is_one_by_one (λ b l h. h.0) first_lawful (behind_lawful links pairs)))
+
+-- ---- faults stand where they are met
+
+links_online : (links : List Link) → IsOnline (links_at links [])
+links_online links = online_list Parenthesis (not_empty Token) (λ before. word_at Token Ended (link_of links)) (λ before. online_word Token Ended (link_of links)) (λ before. takes_some (word_at Token Ended (link_of links)) (online_word Token Ended (link_of links)) (λ p. Ended) (λ p. refl)) []
+
+state_online : (links : List Link) (sofar : List Listed) → IsOnline (state_at links sofar)
+unfolding state_at
+state_online links sofar =
+    online_then _ _ (online_word Token Ended (λ w. sound w (name_fault sofar w))) (λ name.
+    online_then _ _ (online_open Token Ended) (λ a.
+    online_then _ _ (links_online links) (λ failing.
+    online_give (record { name = name; links = failing }))))
+
+pub state_some : (links : List Link) (sofar : List Listed) → TakesSome (state_at links sofar)
+unfolding state_at
+state_some links sofar = takes_some (state_at links sofar) (state_online links sofar) (λ p. Ended) (λ p. refl)
+
+behind_online : (links : List Link) (b : Bool) → IsOnline (behind_word links b)
+unfolding behind_word
+behind_online links true =
+    online_then _ _ (online_open Section Ended) (λ a.
+    online_then _ _ (online_list Parenthesis no_fault (state_at links) (state_online links) (state_some links) []) (λ listed.
+    online_give (OneByOne listed)))
+behind_online links false = online_give EachAlone
+
+failures_online : (links : List Link) → IsOnline (failures_at links)
+failures_online links = online_whole Section (failure_list_at links) (online_then _ _ (online_word Section Ended is_list) (behind_online links))
+
+-- ---- whole files
+
+module _ (nodes : List (List ℕ)) (links : List Link) (net : ∥ IsNetwork nodes links ∥₁) where
+  law : Lawful (failures_at links) (list_items links) (IsListInForm links) IsEnd
+  law = failures_lawful links (network_differs nodes links net)
+
+  pub read_in_form : (text : Text) (l : FailureList) (rest : Text) → failures_at links text ≡ Ok (l, rest) → IsListInForm links l
+  read_in_form text l rest e = (law.takes text l rest e).0
+
+  pub failures_read : (bytes : List ℕ) (l : FailureList) (rest : Text) → are_same (trimmed (first_line bytes)) header ≡ true → failures_at links (body bytes) ≡ Ok (l, rest) → (at : ℕ) × (failures_of links bytes ≡ Ok (states_of links l, EndAt at))
+  failures_read bytes l rest line read = file_read Header header (failures_at links) (states_of links) (list_items links) (IsListInForm links) law bytes l rest line read
+
+  pub failures_found : (bytes : List ℕ) (a : Result States (Refusal FailuresKind)) → ReadsAllAs (λ s. s.listed) a (failures_of links bytes) → IfOk a (λ s. Spells links bytes s.listed)
+  failures_found bytes a h = answer_found Header header (failures_at links) (states_of links) (list_items links) (IsListInForm links) law (λ s. s.listed) bytes a h
+
+  pub failures_only : (bytes : List ℕ) (a : Result States (Refusal FailuresKind)) → ReadsAllAs (λ s. s.listed) a (failures_of links bytes) → (listed : List Listed) → Spells links bytes listed → AnswersAs (λ s. s.listed) a listed
+  failures_only bytes a h = answer_only Header header (failures_at links) (states_of links) (list_items links) (IsListInForm links) law (λ s. s.listed) bytes a h
+
+  pub failures_first : (bytes : List ℕ) (a : Result States (Refusal FailuresKind)) → ReadsAllAs (λ s. s.listed) a (failures_of links bytes) → IfErr a (IsNotTooEarly (Spells links) bytes)
+  failures_first bytes a h = answer_first Header header (failures_at links) (states_of links) (list_items links) (IsListInForm links) law (λ s. s.listed) (failures_online links) bytes a h

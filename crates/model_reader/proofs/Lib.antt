@@ -1,6 +1,4 @@
-pub mod Steps
-pub mod Keys
-pub mod Models
-pub mod Sound
-pub mod Singles
+pub mod FailureSingles
 pub mod FailureLaws
+pub mod ModelKeys
+pub mod ModelLaws

@@ -1,106 +1,65 @@
--- Reading a model file from left to right: its model, or its first fault by place.
-use Rattle.std.specs.Prelude.{◌≡◌, ℕ, Bool, true, false, cond, not, ◌||◌, if◌then◌else◌, List, [], ◌∷◌, ◌++◌, Option, Some, None, Result, Ok, Err, codes}
-use Rattle.std.specs.List.{list_any}
-use Rattle.snd_tokens.specs.Header.{first_line, second_line, trimmed}
-use Rattle.net_core.specs.Tests.{are_same}
+-- Reading a model file from left to right: the tests of its words, and their order.
+use Rattle.std.specs.Prelude.{ℕ, Bool, cond, not, ◌&&◌, if◌then◌else◌, List, [], ◌∷◌, Option, Some, None, Result, Ok, Err, codes}
+use Rattle.net_core.specs.Tests.{are_same, is_named}
+use Rattle.text_kit.specs.Files.{file_at}
+use Rattle.text_kit.specs.Reading.{Read, Reading, ◌>>=◌, word_at, key, TheEnd, list_at, mapped}
+use Rattle.model_reader.specs.declared.model.Model.{Model}
 use Rattle.model_reader.specs.declared.model.ModelKey.{ModelKey}
 use Rattle.model_reader.specs.declared.model.ModelKey.TheVariants as aspects
 use Rattle.model_reader.specs.declared.model.ModelKind.{ModelKind}
 use Rattle.model_reader.specs.declared.model.ModelKind.TheVariants as kinds
-use Rattle.model_reader.specs.declared.model.ModelRefusal.{ModelRefusal}
-use Rattle.model_reader.specs.declared.model.ModelRefusal.TheVariants.{Bad, NoMemory}
-use Rattle.model_reader.specs.declared.settings.Known.{Known}
-use Rattle.snd_tokens.specs.Lexemes.{Text, WordAt, OpenAt, CloseAt, EndAt, text_from}
-use Rattle.model_reader.specs.Models.{header, key_word, value_word, survivability_word}
-
--- a fault: its place and its kind
-abbrev pub Fault : Type 0
-Fault = ℕ × ModelKind
-
-infixl 10 ◌>>=◌
-abbrev pub ◌>>=◌ : {A B : Type 0} → Result A Fault → (A → Result B Fault) → Result B Fault
-(Ok x) >>= f = f x
-(Err e) >>= f = Err e
-
--- what a refusal says of a reading: that this is its first fault; want of memory says nothing
-abbrev pub Fails : {Y : Type 0} → ModelRefusal → Result Y Fault → Type 0
-Fails (Bad at kind) read = read ≡ Err (at, kind)
-Fails NoMemory read = Unit {0}
-
--- what a function returned, seen by `view`, is what reading gives, unless memory ran out
-abbrev pub Gives : {X Y : Type 0} → (X → Y) → Result X ModelRefusal → Result Y Fault → Type 0
-Gives view (Ok x) read = read ≡ Ok (view x)
-Gives view (Err e) read = Fails e read
-
--- where a function answers x, what is read from before is what is read from `after x` on; at a fault reading fails with it
-abbrev pub Leads : {X Y : Type 0} → Result X ModelRefusal → Result Y Fault → (X → Result Y Fault) → Type 0
-Leads (Ok x) before after = before ≡ after x
-Leads (Err e) before after = Fails e before
+use Rattle.model_reader.specs.declared.model.Setting.{Setting}
+use Rattle.model_reader.specs.declared.model.Setting.TheVariants.{Plain, Reconfiguration}
+use Rattle.model_reader.specs.Models.{header, key_of, key_word, model_of_settings, plain_word, reconfiguration_word}
 
 -- the keys in the order in which the first missing one is told
 abbrev pub all_keys : List ModelKey
 all_keys = aspects.Demand ∷ aspects.Link ∷ aspects.LinkCapacity ∷ aspects.FixedCharge ∷ aspects.Routing ∷ aspects.AdmissiblePath ∷ aspects.HopLimit ∷ aspects.Survivability ∷ []
 
--- the first that passes a test
+-- the first key that passes a test
 abbrev pub first_key : (ModelKey → Bool) → List ModelKey → Option ModelKey
 first_key test [] = None
 first_key test (k ∷ ks) = cond (test k) (Some k) (first_key test ks)
 
--- the key of a word
-abbrev pub key_of : List ℕ → Option ModelKey
-key_of w = first_key (λ k. are_same (key_word k) w) all_keys
+-- one of the settings has the key
+abbrev pub has_key : List Setting → ModelKey → Bool
+has_key settings k = is_named (λ s. key_word (key_of s)) (key_word k) settings
 
--- two keys are one
-abbrev pub same_key : ModelKey → ModelKey → Bool
-same_key a b = are_same (key_word a) (key_word b)
+-- a key that no earlier setting has
+abbrev pub new_key : List Setting → Option ModelKey → Result ModelKey ModelKind
+new_key sofar None = Err kinds.Key
+new_key sofar (Some k) = if has_key sofar k then Err kinds.DoubleKey else Ok k
 
--- nothing has come
-abbrev pub nothing : Known
-nothing = record { keys = []; reconfigure = false }
+-- a word as a key behind earlier settings
+abbrev pub key_behind : List Setting → List ℕ → Result ModelKey ModelKind
+key_behind sofar w = new_key sofar (first_key (λ k. are_same (key_word k) w) all_keys)
 
-abbrev pub has_key : List ModelKey → ModelKey → Bool
-has_key keys k = list_any (λ x. same_key x k) keys
+-- a word as the value of a key
+abbrev pub value_of : ModelKey → List ℕ → Result Setting ModelKind
+value_of k w =
+    if are_same w (plain_word k) then Ok (Plain k)
+    else (if are_same (key_word k) (key_word aspects.Survivability) && are_same w reconfiguration_word
+    then Ok Reconfiguration else Err (kinds.Unsupported k))
 
--- a key's word, which is no key's or a new one's
-abbrev pub new_key : Known → ℕ → Option ModelKey → Result ModelKey Fault
-new_key s at None = Err (at, kinds.Key)
-new_key s at (Some k) = if has_key s.keys k then Err (at, kinds.DoubleKey) else Ok k
+-- a key, the sign behind it, and its value
+unfoldable pub setting_at : List Setting → Reading ModelKind Setting
+setting_at sofar = do
+  k ← word_at kinds.Token kinds.Ended (key_behind sofar)
+  _ ← word_at kinds.Token kinds.Ended (key kinds.Token (codes "="))
+  word_at kinds.Token kinds.Ended (value_of k)
 
--- the value is one of those that are served
-abbrev pub is_served : ModelKey → List ℕ → Bool
-is_served k w = are_same w (value_word false k) || are_same w (value_word true k)
+-- the first key that is missing at the end
+abbrev pub missing_or : Option ModelKey → Option ModelKind
+missing_or None = None
+missing_or (Some k) = Some (kinds.Missing k)
 
--- what is known after a key with this value
-abbrev pub with_setting : ModelKey → List ℕ → Known → Known
-with_setting k w s = record {
-  keys = s.keys ++ k ∷ [];
-  reconfigure = if same_key k aspects.Survivability then are_same w (survivability_word true) else s.reconfigure;
-}
+abbrev pub missing : List Setting → Option ModelKind
+missing settings = missing_or (first_key (λ k. not (has_key settings k)) all_keys)
 
--- the model of all settings, or the first key that is missing at the end
-abbrev pub complete : ℕ → Known → Option ModelKey → Result Bool Fault
-complete at s None = Ok s.reconfigure
-complete at s (Some k) = Err (at, kinds.Missing k)
+-- further settings, up to the end
+abbrev pub settings_at : List Setting → Reading ModelKind (List Setting)
+settings_at sofar = list_at TheEnd missing setting_at sofar
 
--- what is due: a key or the end, the sign behind a key, or the value behind that
-pub data Due : Type 0 where
-  Key : Due
-  Sign : ModelKey → Due
-  Value : ModelKey → Due
-
--- the rest of a file, where this is due
-abbrev pub settings_at : Due → Known → Text → Result Bool Fault
-settings_at due s (OpenAt at rest) = Err (at, kinds.Token)
-settings_at due s (CloseAt at rest) = Err (at, kinds.Token)
-settings_at Key s (EndAt at) = complete at s (first_key (λ k. not (has_key s.keys k)) all_keys)
-settings_at (Sign k) s (EndAt at) = Err (at, kinds.Ended)
-settings_at (Value k) s (EndAt at) = Err (at, kinds.Ended)
-settings_at Key s (WordAt at w rest) = new_key s at (key_of w) >>= λ k. settings_at (Sign k) s rest
-settings_at (Sign k) s (WordAt at w rest) = if are_same w (codes "=") then settings_at (Value k) s rest else Err (at, kinds.Token)
-settings_at (Value k) s (WordAt at w rest) = if is_served k w then settings_at Key (with_setting k w s) rest else Err (at, kinds.Unsupported k)
-
--- a whole file
-abbrev pub model_of : List ℕ → Result Bool Fault
-model_of bytes =
-    if are_same (trimmed (first_line bytes)) header
-    then settings_at Key nothing (text_from (second_line bytes) bytes) else Err (0, kinds.Header)
+-- a whole file: its model, or its first fault by place
+abbrev pub model_of : List ℕ → Read ModelKind Model
+model_of bytes = file_at kinds.Header header (mapped model_of_settings (settings_at [])) bytes

@@ -1,10 +1,13 @@
 -- the grammar of a model file: eight keys, each with a value
-use Rattle.std.specs.Prelude.{◌≡◌, ◌≢◌, ℕ, Bool, true, false, List, [], ◌∷◌, AllPairs, Contains, flat_map, codes}
-use Rattle.snd_tokens.specs.Header.{HasHeader, second_line}
+use Rattle.std.specs.Prelude.{◌≡◌, ◌≢◌, ℕ, Bool, true, false, List, [], ◌∷◌, AllPairs, Any, flat_map, codes}
+use Rattle.std.specs.List.{list_any}
+use Rattle.text_kit.specs.Files.{SpellsAs}
+use Rattle.text_kit.specs.Items.{Item, Named}
 use Rattle.model_reader.specs.declared.model.Model.{Model}
 use Rattle.model_reader.specs.declared.model.ModelKey.{ModelKey}
 use Rattle.model_reader.specs.declared.model.ModelKey.TheVariants.{Demand, Link, LinkCapacity, FixedCharge, Routing, AdmissiblePath, HopLimit, Survivability}
-use Rattle.snd_tokens.specs.Lexemes.{Lexeme, Word, lexemes, text_from}
+use Rattle.model_reader.specs.declared.model.Setting.{Setting}
+use Rattle.model_reader.specs.declared.model.Setting.TheVariants.{Plain, Reconfiguration}
 
 -- the first line of a model file
 abbrev pub header : List ℕ
@@ -21,34 +24,48 @@ key_word AdmissiblePath = codes "ADMISSIBLE_PATH_MODEL"
 key_word HopLimit = codes "HOP_LIMIT_MODEL"
 key_word Survivability = codes "SURVIVABILITY_MODEL"
 
--- the value of survivability, with or without reconfiguration
-abbrev pub survivability_word : Bool → List ℕ
-survivability_word false = codes "NO_SURVIVABILITY"
-survivability_word true = codes "UNRESTRICTED_FLOW_RECONFIGURATION"
+-- the plain value of a key
+abbrev pub plain_word : ModelKey → List ℕ
+plain_word Demand = codes "UNDIRECTED"
+plain_word Link = codes "UNDIRECTED"
+plain_word LinkCapacity = codes "MODULAR_CAPACITIES"
+plain_word FixedCharge = codes "NO"
+plain_word Routing = codes "CONTINUOUS"
+plain_word AdmissiblePath = codes "ALL_PATHS"
+plain_word HopLimit = codes "NO"
+plain_word Survivability = codes "NO_SURVIVABILITY"
 
--- the value of a key, with or without reconfiguration
-abbrev pub value_word : Bool → ModelKey → List ℕ
-value_word reconfigure Demand = codes "UNDIRECTED"
-value_word reconfigure Link = codes "UNDIRECTED"
-value_word reconfigure LinkCapacity = codes "MODULAR_CAPACITIES"
-value_word reconfigure FixedCharge = codes "NO"
-value_word reconfigure Routing = codes "CONTINUOUS"
-value_word reconfigure AdmissiblePath = codes "ALL_PATHS"
-value_word reconfigure HopLimit = codes "NO"
-value_word reconfigure Survivability = survivability_word reconfigure
+-- the value of survivability with reconfiguration
+abbrev pub reconfiguration_word : List ℕ
+reconfiguration_word = codes "UNRESTRICTED_FLOW_RECONFIGURATION"
+
+-- a setting's key and the word of its value
+abbrev pub key_of : Setting → ModelKey
+key_of (Plain key) = key
+key_of Reconfiguration = Survivability
+
+abbrev pub value_word : Setting → List ℕ
+value_word (Plain key) = plain_word key
+value_word Reconfiguration = reconfiguration_word
 
 -- a key and its value
-abbrev pub setting : Bool → ModelKey → List Lexeme
-setting reconfigure key = Word (key_word key) ∷ Word (codes "=") ∷ Word (value_word reconfigure key) ∷ []
+abbrev pub setting_items : Setting → List Item
+setting_items s = Named (key_word (key_of s)) ∷ Named (codes "=") ∷ Named (value_word s) ∷ []
 
 -- each key stands once
-pub record IsEachOnce (keys : List ModelKey) : Type 0 where
-  pub different : AllPairs (λ a b. a ≢ b) keys
-  pub all : (key : ModelKey) → Contains keys key
+pub record IsEachOnce (settings : List Setting) : Type 0 where
+  pub different : AllPairs (λ a b. key_of a ≢ key_of b) settings
+  pub all : (key : ModelKey) → Any (λ s. key_of s ≡ key) settings
 
--- the bytes of a file spell this model: its keys in any order, each with its value
-pub record Spells (bytes : List ℕ) (model : Model) : Type 0 where
-  pub begins : HasHeader bytes header
-  pub keys : List ModelKey
-  pub once : IsEachOnce keys
-  pub settings : lexemes (text_from (second_line bytes) bytes) ≡ flat_map (setting model.reconfigure) keys
+-- the setting asks for reconfiguration
+abbrev pub asks : Setting → Bool
+asks (Plain key) = false
+asks Reconfiguration = true
+
+-- the model of settings
+abbrev pub model_of_settings : List Setting → Model
+model_of_settings settings = record { reconfigure = list_any asks settings }
+
+-- the bytes of a file spell this model: its settings in any order, each key once
+abbrev pub Spells : List ℕ → Model → Type 0
+Spells bytes model = SpellsAs header (flat_map setting_items) IsEachOnce model_of_settings bytes model

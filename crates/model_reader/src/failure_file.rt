@@ -1,15 +1,20 @@
-ghost use Rattle.std.specs.Prelude.{◌≡◌, List, IfOk, Ok};
+ghost use Rattle.std.specs.Prelude.{◌≡◌, ◌≤◌, length, List, IfOk, IfErr};
 ghost use Rattle.net_core.specs.declared.states.Listed.{Listed as State};
 ghost use Rattle.snd_tokens.specs.Lexemes.{left};
-ghost use Rattle.model_reader.specs.Failures.{Spells, single_states};
-ghost use Rattle.model_reader.specs.FailuresReading.{Gives, failures_at, failures_of, last_at, list_at};
+ghost use Rattle.text_kit.specs.Answers.{AnswersAs, ReadsAllAs, ReadsAs};
+ghost use Rattle.text_kit.specs.Files.{IsNotTooEarly};
+ghost use Rattle.text_kit.specs.Reading.{word_at};
+ghost use Rattle.model_reader.specs.Failures.{IsListInForm, Spells, states_of};
+ghost use Rattle.model_reader.specs.FailuresReading.{failure_list_at, failures_at, failures_of, is_list};
 
-use crate::failures::{FailuresKind, FailuresRefusal};
-use crate::list::{bad, end, list};
-use crate::single::single_links;
-use net_core::{Network, States};
-use snd_tokens::{Cursor, Next, after_header};
+use crate::failure_list::states;
+use crate::failure_singles::single_links;
+use crate::failures::{FailureList, FailuresKind, FailuresRefusal};
+use net_core::{Link, Network, NoMemory, States};
+use snd_tokens::{Cursor, Next};
 use std::alloc::Global;
+use text_kit::refusal::bad;
+use text_kit::steps::{behind_header, end, open, placed};
 
 const HEADER: &[u8] = b"?planner failures; version: 1";
 
@@ -17,55 +22,79 @@ const FAILURES: &[u8] = b"FAILURES";
 
 const ALL_SINGLE_LINKS: &[u8] = b"ALL_SINGLE_LINKS";
 
-/// The states that are listed one by one.
-fn listed(alloc: Global, net: &Network, text: &mut Cursor) -> Result<States, FailuresRefusal>
-    ensures { Gives (λ s. s.listed) result (list_at net.now.links (left text.old)) }
+/// Whether a word begins states one by one.
+fn is_list(word: &[u8]) -> Result<bool, FailuresKind>
+    ensures { result ≡ is_list word.now }
 {
-    let listed = list(alloc, net.links().items(), text)?;
-    match States::new(net, listed) {
-        Ok(states) => Ok(states),
-        Err(_) => unreachable!(),
+    if word == FAILURES {
+        return Ok(true);
     }
+    if word == ALL_SINGLE_LINKS {
+        return Ok(false);
+    }
+    Err(FailuresKind::Section)
 }
 
-/// Each link alone, where nothing is left.
-fn each_alone(alloc: Global, net: &Network, text: &mut Cursor) -> Result<States, FailuresRefusal>
-    ensures { Gives (λ s. s.listed) result (last_at (single_states net.now.links) (left text.old)) }
-{
-    end(text)?;
-    match single_links(alloc, net) {
-        Ok(states) => Ok(states),
-        Err(_) => Err(FailuresRefusal::NoMemory),
-    }
-}
-
-/// All behind the header.
-fn failures(alloc: Global, net: &Network, text: &mut Cursor) -> Result<States, FailuresRefusal>
-    ensures { Gives (λ s. s.listed) result (failures_at net.now.links (left text.old)) }
+/// Takes the word that says how the states are given.
+fn first_word(text: &mut Cursor) -> Result<bool, FailuresRefusal>
+    ensures { ReadsAs (λ b. b) result (left text.new) (word_at FailuresKind.Section FailuresKind.Ended is_list (left text.old)) }
 {
     match text.next() {
-        Next::Word(at, word) => {
-            if word == FAILURES {
-                return listed(alloc, net, text);
-            }
-            if word == ALL_SINGLE_LINKS {
-                return each_alone(alloc, net, text);
-            }
-            Err(bad(at, FailuresKind::Section))
-        }
+        Next::Word(at, word) => placed(at, is_list(word)),
         Next::Open(at) | Next::Close(at) => Err(bad(at, FailuresKind::Section)),
         Next::End(at) => Err(bad(at, FailuresKind::Ended)),
     }
 }
 
+/// Takes what the file says, up to its end or something else.
+#[tactic(auto, unfolding(crate::specs::FailuresReading::behind_word))]
+fn list(alloc: Global, links: &[Link], text: &mut Cursor) -> Result<FailureList, FailuresRefusal>
+    requires { length links.now ≤ 256 }
+    ensures { ReadsAs (λ l. l) result (left text.new) (failure_list_at links.now (left text.old)) }
+{
+    if !first_word(text)? {
+        return Ok(FailureList::EachAlone);
+    }
+    open(FailuresKind::Section, FailuresKind::Ended, text)?;
+    let listed = states(alloc, links, text)?;
+    Ok(FailureList::OneByOne(listed))
+}
+
+/// Takes what the file says, behind which nothing is left.
+fn whole_list(
+    alloc: Global,
+    links: &[Link],
+    text: &mut Cursor,
+) -> Result<FailureList, FailuresRefusal>
+    requires { length links.now ≤ 256 }
+    ensures { ReadsAs (λ l. l) result (left text.new) (failures_at links.now (left text.old)) }
+{
+    let list = list(alloc, links, text)?;
+    end(FailuresKind::Section, text)?;
+    Ok(list)
+}
+
+/// The states of what a file says.
+fn states_of(alloc: Global, net: &Network, list: FailureList) -> Result<States, NoMemory>
+    requires { IsListInForm net.now.links list }
+    ensures { IfOk result (λ s. s.listed ≡ states_of net.now.links list) }
+{
+    match list {
+        FailureList::EachAlone => single_links(alloc, net),
+        FailureList::OneByOne(listed) => match States::new(net, listed) {
+            Ok(states) => Ok(states),
+            Err(_) => unreachable!(),
+        },
+    }
+}
+
 /// The whole file.
 fn file(alloc: Global, net: &Network, bytes: &[u8]) -> Result<States, FailuresRefusal>
-    ensures { Gives (λ s. s.listed) result (failures_of net.now.links bytes.now) }
+    ensures { ReadsAllAs (λ s. s.listed) result (failures_of net.now.links bytes.now) }
 {
-    let Some(start) = after_header(bytes, HEADER) else {
-        return Err(bad(0, FailuresKind::Header));
-    };
-    failures(alloc, net, &mut Cursor::new(bytes, start))
+    let mut text = behind_header(FailuresKind::Header, bytes, HEADER)?;
+    let list = whole_list(alloc, net.links().items(), &mut text)?;
+    Ok(states_of(alloc, net, list)?)
 }
 
 /// The states of the network that a file spells.
@@ -73,9 +102,11 @@ pub fn read_failures(alloc: Global, net: &Network, bytes: &[u8]) -> Result<State
     // What is read is spelled.
     ensures found { IfOk result (λ s. Spells net.now.links bytes.now s.listed) }
     // What is spelled is read, unless memory runs out.
-    ensures only { (states : List State) → Spells net.now.links bytes.now states → Gives (λ s. s.listed) result (Ok states) }
-    // A fault is the first one by place.
-    ensures exact { Gives (λ s. s.listed) result (failures_of net.now.links bytes.now) }
+    ensures only { (states : List State) → Spells net.now.links bytes.now states → AnswersAs (λ s. s.listed) result states }
+    // A fault is the first one that reading from left to right meets.
+    ensures exact { ReadsAllAs (λ s. s.listed) result (failures_of net.now.links bytes.now) }
+    // It doesn't stand too early: no bytes that agree past it are spelled right.
+    ensures first { IfErr result (IsNotTooEarly (Spells net.now.links) bytes.now) }
 {
     file(alloc, net, bytes)
 }

@@ -1,15 +1,16 @@
-use thiserror::Error;
+use net_core::{List, Listed};
+use text_kit::Refusal;
 
-/// What is wrong with a failure file.
+/// What is wrong with a failure list.
 #[derive(Clone, Copy, Debug, PartialEq, Eq)]
 pub enum FailuresKind {
     /// The first line is another.
     Header,
     /// Something else than a section's word, the parenthesis behind it, or the end.
     Section,
-    /// A word or a parenthesis where the other is due, or a state without links.
+    /// A word or a parenthesis where the other is expected, or a state without links.
     Token,
-    /// The file ends where something is due.
+    /// The file ends where something is expected.
     Ended,
     /// A name of more than 255 bytes.
     LimitName,
@@ -21,13 +22,14 @@ pub enum FailuresKind {
     LimitStates,
 }
 
-/// Why a failure file was not read.
-#[derive(Debug, Drop, Error)]
-pub enum FailuresRefusal {
-    /// The first fault, and the place of its first byte; the length of the file at its end.
-    #[error("fault {kind:?} at {at}")]
-    Bad { at: u64, kind: FailuresKind },
-    /// No memory was found.
-    #[error("no memory")]
-    NoMemory,
+/// Why a failure list was not read.
+pub type FailuresRefusal = Refusal<FailuresKind>;
+
+/// What a failure list says.
+#[derive(Drop)]
+pub enum FailureList {
+    /// States one by one, each with its name and the links that fail.
+    OneByOne(List<Listed>),
+    /// Each link alone, by one word.
+    EachAlone,
 }

@@ -2,17 +2,17 @@
 #![tactic(auto)]
 
 mod failure_file;
+mod failure_list;
+mod failure_singles;
 pub mod failures;
-mod list;
 pub mod model;
-mod settings;
-mod single;
+mod model_file;
 
 pub use failure_file::read_failures;
-pub use failures::{FailuresKind, FailuresRefusal};
+pub use failure_singles::{only_none, single_links};
+pub use failures::{FailureList, FailuresKind, FailuresRefusal};
 pub use model::{Model, ModelKey, ModelKind, ModelRefusal};
-pub use settings::{key_word, read_model};
-pub use single::{only_none, single_links};
+pub use model_file::{key_word, read_model};
 
 #[cfg(test)]
 mod tests;

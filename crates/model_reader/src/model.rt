@@ -1,4 +1,4 @@
-use thiserror::Error;
+use text_kit::Refusal;
 
 /// What a model file asks for.
 #[derive(Clone, Copy, Debug, PartialEq, Eq)]
@@ -20,14 +20,23 @@ pub enum ModelKey {
     Survivability,
 }
 
+/// A key with a value that is served.
+#[derive(Clone, Copy, Debug, PartialEq, Eq)]
+pub enum Setting {
+    /// A key with its plain value.
+    Plain(ModelKey),
+    /// Survivability with reconfiguration.
+    Reconfiguration,
+}
+
 /// What is wrong with a model file.
 #[derive(Clone, Copy, Debug, PartialEq, Eq)]
 pub enum ModelKind {
     /// The first line is another.
     Header,
-    /// A parenthesis, or another word than `=` behind a key.
+    /// A parenthesis, or another word than `=` after a key.
     Token,
-    /// The file ends behind a key or its `=`.
+    /// The file ends after a key or its `=`.
     Ended,
     /// A word is no key.
     Key,
@@ -40,12 +49,4 @@ pub enum ModelKind {
 }
 
 /// Why a model file was not read.
-#[derive(Debug, Drop, Error)]
-pub enum ModelRefusal {
-    /// The first fault, and the place of its first byte; the length of the file at its end.
-    #[error("fault {kind:?} at {at}")]
-    Bad { at: u64, kind: ModelKind },
-    /// No memory was found.
-    #[error("no memory")]
-    NoMemory,
-}
+pub type ModelRefusal = Refusal<ModelKind>;

@@ -1,11 +1,12 @@
 use crate::failure_file::read_failures;
+use crate::failure_singles::{only_none, single_links};
 use crate::failures::{FailuresKind, FailuresRefusal};
 use crate::model::{ModelKey, ModelKind, ModelRefusal};
-use crate::settings::read_model;
-use crate::single::{only_none, single_links};
-use net_core::{Bytes, Link, LinkId, List, Module, Name, Network, NodeId, Notes, States};
+use crate::model_file::read_model;
+use net_core::{Bytes, LinkId, List, States};
 use std::alloc::Global;
 use std::test::Fail;
+use worked_networks::triangle;
 
 const MODEL: &[u8] = b"?SNDlib native format; type: model; version: 1.0\n";
 
@@ -82,46 +83,9 @@ fn model_faults(rt: HostRuntime) {
     );
 }
 
-/// A link of one module.
-fn link(alloc: Global, name: &[u8], a: u32, b: u32) -> Option<Link> {
-    let mut modules = List::new(alloc);
-    modules
-        .push(Module {
-            capacity: 10_000,
-            cost: 5_000,
-        })
-        .ok()?;
-    Some(Link {
-        name: Name::new(alloc, name).ok()?,
-        a: NodeId(a),
-        b: NodeId(b),
-        fixed: 0,
-        setup: 0,
-        modules,
-    })
-}
-
-/// Three nodes and the links AB, BC and AC.
-fn triangle(alloc: Global) -> Option<Network> {
-    let mut nodes = List::new(alloc);
-    nodes.push(Name::new(alloc, b"A").ok()?).ok()?;
-    nodes.push(Name::new(alloc, b"B").ok()?).ok()?;
-    nodes.push(Name::new(alloc, b"C").ok()?).ok()?;
-    let mut links = List::new(alloc);
-    links.push(link(alloc, b"AB", 0, 1)?).ok()?;
-    links.push(link(alloc, b"BC", 1, 2)?).ok()?;
-    links.push(link(alloc, b"AC", 0, 2)?).ok()?;
-    let notes = Notes {
-        fixed_cost: false,
-        routing_cost: false,
-        setup_cost: false,
-    };
-    Network::check(nodes, links, notes).ok()
-}
-
 /// The fault of the failure file of this body, for the triangle.
 fn failures_fault(alloc: Global, body: &[u8]) -> Option<(u64, FailuresKind)> {
-    let net = triangle(alloc)?;
+    let net = triangle(alloc, 0).ok()?;
     let text = joined(alloc, FAILURES, body)?;
     match read_failures(alloc, &net, text.items()) {
         Err(FailuresRefusal::Bad { at, kind }) => Some((at, kind)),
@@ -201,7 +165,7 @@ fn is_state(states: &States, state: usize, name: &[u8], links: &[LinkId]) -> boo
 
 #[test]
 fn failure_lists(rt: HostRuntime) -> Result<(), Fail> {
-    let net = triangle(rt.alloc()).ok_or("the triangle is a network")?;
+    let net = triangle(rt.alloc(), 0).ok().ok_or("memory")?;
     let twice = joined(
         rt.alloc(),
         FAILURES,

@@ -25,11 +25,11 @@ next_none b f rest h r = ap (λ v. cond v (Some f) rest) h ∙ r
 both_none : {F : Type 0} (a b : List (Bool × F)) → first_fault a ≡ None → first_fault b ≡ None → first_fault (a ++ b) ≡ None
 both_none a b h r = first_fault-append a b ∙ (ap (λ v. option_or v (first_fault b)) h ∙ r)
 
-differ : (a b : List ℕ) → a ≢ b → are_same a b ≡ false
+pub differ : (a b : List ℕ) → a ≢ b → are_same a b ≡ false
 differ a b ne = false_from_ne_true (are_same a b) (λ e. ne ((slice_eq-Decides Decides-eqb a b (are_same a b) refl).0 e))
 
 -- of things with different names the next one has a new name
-new_name : {X : Type 0} (name_of : X → List ℕ) (earlier : List X) (x : X) (rest : List X) → AllPairs (λ a b. name_of a ≢ name_of b) (earlier ++ x ∷ rest) → is_named name_of (name_of x) earlier ≡ false
+pub new_name : {X : Type 0} (name_of : X → List ℕ) (earlier : List X) (x : X) (rest : List X) → AllPairs (λ a b. name_of a ≢ name_of b) (earlier ++ x ∷ rest) → is_named name_of (name_of x) earlier ≡ false
 new_name name_of earlier x rest pairs =
     list_any_none (λ y. are_same (name_of y) (name_of x)) earlier (λ k d lt.
     let long : length (earlier ++ x ∷ rest) ≡ length earlier + length (x ∷ rest) = length-append earlier (x ∷ rest) in

@@ -240,7 +240,7 @@ ending_again Parenthesis (WordAt p w t) r b left = absurd b.0
 ending_again Parenthesis (EndAt p) r b left = absurd b
 ending_again TheEnd t r b left = rw (b, left.1) refl
 
-sound_ok : {K X : Type 0} (x y : X) (o : Option K) → sound x o ≡ Ok y → (o ≡ None) × (x ≡ y)
+pub sound_ok : {K X : Type 0} (x y : X) (o : Option K) → sound x o ≡ Ok y → (o ≡ None) × (x ≡ y)
 sound_ok x y None e = (refl, cc)
 sound_ok x y (Some k) e = absurd cc
 

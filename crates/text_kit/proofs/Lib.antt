@@ -7,3 +7,4 @@ pub mod Agreeing
 pub mod Numerals
 pub mod Written
 pub mod Files
+pub mod Behind

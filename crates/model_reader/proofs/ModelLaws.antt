@@ -1,0 +1,65 @@
+-- The reading of a model file takes exactly the texts of models.
+use Rattle.std.proofs.Common.{◌≡◌, ℕ, true, false, List, [], ◌∷◌, Result, Ok, IfOk, IfErr, refl, append-nil}
+use Rattle.std.specs.Prelude.{codes, flat_map}
+use Rattle.net_core.specs.Tests.{are_same}
+use Rattle.snd_tokens.specs.Header.{first_line, trimmed}
+use Rattle.snd_tokens.specs.Lexemes.{Text, EndAt}
+use Rattle.text_kit.specs.Answers.{AnswersAs, ReadsAllAs}
+use Rattle.text_kit.specs.Files.{IsNotTooEarly, body}
+use Rattle.text_kit.specs.Items.{Named}
+use Rattle.text_kit.specs.Reading.{word_at, key, TheEnd}
+use Rattle.text_kit.specs.declared.refusal.Refusal.{Refusal}
+use Rattle.text_kit.proofs.Files.{answer_found, answer_only, answer_first, file_read}
+use Rattle.text_kit.proofs.Lawful.{AnyText, IsEnd, Lawful, lawful_as, lawful_key, lawful_list, lawful_then, lawful_word}
+use Rattle.text_kit.proofs.Online.{IsOnline, TakesSome, online_list, online_then, online_word, takes_some}
+use Rattle.model_reader.specs.declared.model.Model.{Model}
+use Rattle.model_reader.specs.declared.model.ModelKey.{ModelKey}
+use Rattle.model_reader.specs.declared.model.ModelKind.{ModelKind}
+use Rattle.model_reader.specs.declared.model.ModelKind.TheVariants.{Header, Token, Ended}
+use Rattle.model_reader.specs.declared.model.Setting.{Setting}
+use Rattle.model_reader.specs.Models.{IsEachOnce, Spells, header, key_of, key_word, model_of_settings, setting_items, value_word}
+use Rattle.model_reader.specs.ModelReading.{has_key, key_behind, missing, model_of, setting_at, settings_at, value_of}
+use Rattle.model_reader.proofs.ModelKeys.{complete, each_once, key_behind_again, key_takes, value_again, value_takes}
+
+key_lawful : (sofar : List Setting) → Lawful (word_at Token Ended (key_behind sofar)) (λ k. Named (key_word k) ∷ []) (λ k. has_key sofar k ≡ false) AnyText
+key_lawful sofar = lawful_word Token Ended (key_behind sofar) (λ k. Named (key_word k)) (λ k. has_key sofar k ≡ false) (λ k. tt) (key_takes sofar) (λ w k new is. key_behind_again sofar w k new is)
+
+value_lawful : (k : ModelKey) → Lawful (word_at Token Ended (value_of k)) (λ s. Named (value_word s) ∷ []) (λ s. k ≡ key_of s) AnyText
+value_lawful k = lawful_word Token Ended (value_of k) (λ s. Named (value_word s)) (λ s. k ≡ key_of s) (λ s. tt) (value_takes k) (λ w s is value. value_again k w s is value)
+
+setting_lawful : (sofar : List Setting) → Lawful (setting_at sofar) setting_items (λ s. has_key sofar (key_of s) ≡ false) AnyText
+unfolding setting_at
+setting_lawful sofar = lawful_as (setting_at sofar) _ setting_items _ (λ s. has_key sofar (key_of s) ≡ false) AnyText (λ s h. refl) (λ s h. h.0) (λ s h. (h, (tt, refl)))
+    (lawful_then _ _ _ _ _ _ AnyText key_of (λ k s h. h.1) (key_lawful sofar) (λ k.
+    lawful_then _ _ _ _ _ _ AnyText (λ s. tt) (λ a s h. refl) (lawful_key Token Ended Token (codes "=")) (λ a.
+    value_lawful k)))
+
+settings_lawful : Lawful (settings_at []) (λ ss. flat_map setting_items ss) IsEachOnce IsEnd
+settings_lawful = lawful_as (settings_at []) _ (λ ss. flat_map setting_items ss) _ IsEachOnce IsEnd (λ ss h. append-nil (flat_map setting_items ss)) each_once complete
+    (lawful_list TheEnd missing setting_at setting_items (λ sofar s. has_key sofar (key_of s) ≡ false) (λ s. tt) setting_lawful)
+
+setting_online : (sofar : List Setting) → IsOnline (setting_at sofar)
+unfolding setting_at
+setting_online sofar =
+    online_then _ _ (online_word Token Ended (key_behind sofar)) (λ k.
+    online_then _ _ (online_word Token Ended (key Token (codes "="))) (λ a.
+    online_word Token Ended (value_of k)))
+
+pub setting_some : (sofar : List Setting) → TakesSome (setting_at sofar)
+unfolding setting_at
+setting_some sofar = takes_some (setting_at sofar) (setting_online sofar) (λ p. Ended) (λ p. refl)
+
+-- ---- whole files
+
+pub model_read : (bytes : List ℕ) (settings : List Setting) (rest : Text) → are_same (trimmed (first_line bytes)) header ≡ true → settings_at [] (body bytes) ≡ Ok (settings, rest) → (at : ℕ) × (model_of bytes ≡ Ok (model_of_settings settings, EndAt at))
+model_read bytes settings rest line read = file_read Header header (settings_at []) model_of_settings (λ ss. flat_map setting_items ss) IsEachOnce settings_lawful bytes settings rest line read
+
+pub model_found : (bytes : List ℕ) (a : Result Model (Refusal ModelKind)) → ReadsAllAs (λ m. m) a (model_of bytes) → IfOk a (λ m. Spells bytes m)
+model_found bytes a h = answer_found Header header (settings_at []) model_of_settings (λ ss. flat_map setting_items ss) IsEachOnce settings_lawful (λ m. m) bytes a h
+
+pub model_only : (bytes : List ℕ) (a : Result Model (Refusal ModelKind)) → ReadsAllAs (λ m. m) a (model_of bytes) → (m : Model) → Spells bytes m → AnswersAs (λ x. x) a m
+model_only bytes a h = answer_only Header header (settings_at []) model_of_settings (λ ss. flat_map setting_items ss) IsEachOnce settings_lawful (λ m. m) bytes a h
+
+pub model_first : (bytes : List ℕ) (a : Result Model (Refusal ModelKind)) → ReadsAllAs (λ m. m) a (model_of bytes) → IfErr a (IsNotTooEarly Spells bytes)
+model_first bytes a h = answer_first Header header (settings_at []) model_of_settings (λ ss. flat_map setting_items ss) IsEachOnce settings_lawful (λ m. m)
+    (online_list TheEnd missing setting_at setting_online setting_some []) bytes a h

@@ -1,0 +1,10 @@
+use Rattle.std.proofs.Common.{◌≡◌, []}
+use Rattle.snd_tokens.specs.Lexemes.{left, size}
+use Rattle.model_reader.specs.FailuresReading.{states_at}
+use Rattle.model_reader.proofs.failure_list.states.Given as goal
+
+abbrev pub invariant-loop-all : goal.invariant-loop-all
+invariant-loop-all l = states_at l.links l.all (left l.text) ≡ states_at l.links [] (left l.fn.text)
+
+abbrev pub decreases-loop-all : goal.decreases-loop-all
+decreases-loop-all l = size (left l.text)

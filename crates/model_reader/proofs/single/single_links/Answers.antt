@@ -1,5 +1,0 @@
-use Rattle.model_reader.proofs.Singles.{singles_pass}
-use Rattle.model_reader.proofs.single.single_links.Goals as goal
-
-pub unreachable-requires : goal.unreachable-requires
-unreachable-requires c = singles_pass c.args.net.now.nodes c.args.net.now.links c.in-Err.field-0 c.in_ok-listed.listed c.args.net.now.checked (rw (c.items.ensures, c.links.ensures) at c.in_ok-listed.ensures) c.in-Err.ensures.faults

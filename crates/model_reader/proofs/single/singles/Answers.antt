@@ -1,8 +1,0 @@
-use Rattle.std.proofs.Common.{sym}
-use Rattle.model_reader.proofs.Singles.{singles_more}
-use Rattle.model_reader.proofs.single.singles.Goals as goal
-
-pub loop-i-preserved : goal.loop-i-preserved
-loop-i-preserved c =
-    rw (c.in-Ok.ensures.ok, c.loop-i.invariant, c.in_ok-state.ensures)
-    (sym (singles_more c.args.links.now c.loop-i.i c.index-links-i.result c.index-links-i.result c.loop-i-test.true c.index-links-i.is))

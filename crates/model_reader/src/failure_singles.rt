@@ -1,0 +1,57 @@
+ghost use Rattle.std.specs.Prelude.{◌≡◌, ◌≤◌, [], ◌∷◌, length, IfOk};
+ghost use Rattle.net_core.specs.States.{AreStates};
+ghost use Rattle.model_reader.specs.Failures.{single, single_states};
+
+use net_core::{Copied, Link, LinkId, List, Listed, Network, NoMemory, States};
+use std::alloc::Global;
+
+/// The state without failures alone. It takes no memory.
+pub fn only_none(alloc: Global) -> States
+    ensures { result.listed ≡ [] }
+{
+    States::only_none(alloc)
+}
+
+/// A list of one item.
+fn just(alloc: Global, link: LinkId) -> Result<List<LinkId>, NoMemory>
+    ensures { IfOk result (λ l. l ≡ link ∷ []) }
+{
+    let mut links = List::new(alloc);
+    links.push(link)?;
+    Ok(links)
+}
+
+/// The state that fails one link alone, whose name it has.
+fn single(alloc: Global, id: LinkId, link: &Link) -> Result<Listed, NoMemory>
+    ensures { IfOk result (λ s. s ≡ single id.0 link.now.name) }
+{
+    Ok(Listed {
+        name: link.name.copy()?,
+        links: just(alloc, id)?,
+    })
+}
+
+/// Each link as a state of its name.
+fn singles(alloc: Global, links: &[Link]) -> Result<List<Listed>, NoMemory>
+    requires { length links.now ≤ 256 }
+    ensures { IfOk result (λ listed. listed ≡ single_states links.now) }
+{
+    let mut listed = List::new(alloc);
+    for i in 0..links.len() {
+        let state = single(alloc, LinkId(i as u32), &links[i])?;
+        listed.push(state)?;
+    }
+    Ok(listed)
+}
+
+/// Each link alone, as a state of its name, in the order of the links.
+pub fn single_links(alloc: Global, net: &Network) -> Result<States, NoMemory>
+    ensures list { IfOk result (λ states. states.listed ≡ single_states net.now.links) }
+    ensures belong { IfOk result (λ states. AreStates (length net.now.links) states.listed) }
+{
+    let listed = singles(alloc, net.links().items())?;
+    match States::new(net, listed) {
+        Ok(states) => Ok(states),
+        Err(_) => unreachable!(),
+    }
+}

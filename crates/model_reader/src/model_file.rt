@@ -1,0 +1,258 @@
+ghost use Rattle.std.specs.Prelude.{◌≡◌, ◌<◌, [], IsTrue, IfOk, IfErr, Ok, not};
+ghost use Rattle.std.specs.List.{list_any};
+ghost use Rattle.net_core.specs.Tests.{are_same};
+ghost use Rattle.snd_tokens.specs.Lexemes.{left, size};
+ghost use Rattle.text_kit.specs.Answers.{AnswersAs, ReadsAllAs, ReadsAs, TakesTurn};
+ghost use Rattle.text_kit.specs.Files.{IsNotTooEarly};
+ghost use Rattle.text_kit.specs.Reading.{word_at};
+ghost use Rattle.model_reader.specs.declared.model.Model.{Model as Mod};
+ghost use Rattle.model_reader.specs.Models.{Spells, asks, key_of, key_word, model_of_settings, plain_word};
+ghost use Rattle.model_reader.specs.ModelReading.{all_keys, first_key, has_key, key_behind, missing, model_of, setting_at, settings_at, value_of};
+
+use crate::model::{Model, ModelKey, ModelKind, ModelRefusal, Setting};
+use net_core::List;
+use snd_tokens::{Cursor, Next};
+use std::alloc::Global;
+use text_kit::refusal::bad;
+use text_kit::steps::{behind_header, ends, expect, placed};
+
+const HEADER: &[u8] = b"?SNDlib native format; type: model; version: 1.0";
+
+const RECONFIGURATION: &[u8] = b"UNRESTRICTED_FLOW_RECONFIGURATION";
+
+const KEYS: [ModelKey; 8] = [
+    ModelKey::Demand,
+    ModelKey::Link,
+    ModelKey::LinkCapacity,
+    ModelKey::FixedCharge,
+    ModelKey::Routing,
+    ModelKey::AdmissiblePath,
+    ModelKey::HopLimit,
+    ModelKey::Survivability,
+];
+
+/// The word of a key.
+pub fn key_word(key: ModelKey) -> &'static [u8]
+    ensures { result.now ≡ key_word key }
+{
+    match key {
+        ModelKey::Demand => b"DEMAND_MODEL",
+        ModelKey::Link => b"LINK_MODEL",
+        ModelKey::LinkCapacity => b"LINK_CAPACITY_MODEL",
+        ModelKey::FixedCharge => b"FIXED_CHARGE_MODEL",
+        ModelKey::Routing => b"ROUTING_MODEL",
+        ModelKey::AdmissiblePath => b"ADMISSIBLE_PATH_MODEL",
+        ModelKey::HopLimit => b"HOP_LIMIT_MODEL",
+        ModelKey::Survivability => b"SURVIVABILITY_MODEL",
+    }
+}
+
+/// The plain value of a key.
+fn plain_word(key: ModelKey) -> &'static [u8]
+    ensures { result.now ≡ plain_word key }
+{
+    match key {
+        ModelKey::Demand | ModelKey::Link => b"UNDIRECTED",
+        ModelKey::LinkCapacity => b"MODULAR_CAPACITIES",
+        ModelKey::FixedCharge | ModelKey::HopLimit => b"NO",
+        ModelKey::Routing => b"CONTINUOUS",
+        ModelKey::AdmissiblePath => b"ALL_PATHS",
+        ModelKey::Survivability => b"NO_SURVIVABILITY",
+    }
+}
+
+impl Setting {
+    fn key(self) -> ModelKey
+        ensures { result ≡ key_of self }
+    {
+        match self {
+            Setting::Plain(key) => key,
+            Setting::Reconfiguration => ModelKey::Survivability,
+        }
+    }
+
+    fn asks(self) -> bool
+        ensures { result ≡ asks self }
+    {
+        match self {
+            Setting::Plain(_) => false,
+            Setting::Reconfiguration => true,
+        }
+    }
+}
+
+fn is_word_of(key: ModelKey, word: &[u8]) -> bool
+    ensures { result ≡ are_same (key_word key) word.now }
+{
+    key_word(key) == word
+}
+
+/// The first of these keys that has the word.
+fn first_of(keys: &[ModelKey], word: &[u8]) -> Option<ModelKey>
+    ensures { result ≡ first_key (λ k. are_same (key_word k) word.now) keys.now }
+{
+    for key in keys {
+        if is_word_of(*key, word) {
+            return Some(*key);
+        }
+    }
+    None
+}
+
+/// The key of a word.
+fn key_of_word(word: &[u8]) -> Option<ModelKey>
+    ensures { result ≡ first_key (λ k. are_same (key_word k) word.now) all_keys }
+{
+    first_of(&KEYS, word)
+}
+
+/// Whether one of the settings has the key.
+fn has_key(settings: &[Setting], key: ModelKey) -> bool
+    ensures { result ≡ has_key settings.now key }
+{
+    settings.iter().any(|s| is_word_of(s.key(), key_word(key)))
+}
+
+/// A word as a key behind earlier settings.
+fn key_behind(sofar: &[Setting], word: &[u8]) -> Result<ModelKey, ModelKind>
+    ensures { result ≡ key_behind sofar.now word.now }
+{
+    let Some(key) = key_of_word(word) else {
+        return Err(ModelKind::Key);
+    };
+    if has_key(sofar, key) {
+        return Err(ModelKind::DoubleKey);
+    }
+    Ok(key)
+}
+
+/// A word as the value of a key.
+fn value_of(key: ModelKey, word: &[u8]) -> Result<Setting, ModelKind>
+    ensures { result ≡ value_of key word.now }
+{
+    if word == plain_word(key) {
+        return Ok(Setting::Plain(key));
+    }
+    if is_word_of(key, key_word(ModelKey::Survivability)) && word == RECONFIGURATION {
+        return Ok(Setting::Reconfiguration);
+    }
+    Err(ModelKind::Unsupported(key))
+}
+
+/// Takes a key that no earlier setting has.
+fn key(sofar: &[Setting], text: &mut Cursor) -> Result<ModelKey, ModelRefusal>
+    ensures { ReadsAs (λ k. k) result (left text.new) (word_at ModelKind.Token ModelKind.Ended (key_behind sofar.now) (left text.old)) }
+{
+    match text.next() {
+        Next::Word(at, word) => placed(at, key_behind(sofar, word)),
+        Next::Open(at) | Next::Close(at) => Err(bad(at, ModelKind::Token)),
+        Next::End(at) => Err(bad(at, ModelKind::Ended)),
+    }
+}
+
+/// Takes the value of a key.
+fn value(key: ModelKey, text: &mut Cursor) -> Result<Setting, ModelRefusal>
+    ensures { ReadsAs (λ s. s) result (left text.new) (word_at ModelKind.Token ModelKind.Ended (value_of key) (left text.old)) }
+{
+    match text.next() {
+        Next::Word(at, word) => placed(at, value_of(key, word)),
+        Next::Open(at) | Next::Close(at) => Err(bad(at, ModelKind::Token)),
+        Next::End(at) => Err(bad(at, ModelKind::Ended)),
+    }
+}
+
+/// Takes a setting behind earlier ones.
+#[tactic(auto, unfolding(crate::specs::ModelReading::setting_at))]
+fn setting(sofar: &[Setting], text: &mut Cursor) -> Result<Setting, ModelRefusal>
+    ensures { ReadsAs (λ s. s) result (left text.new) (setting_at sofar.now (left text.old)) }
+{
+    let key = key(sofar, text)?;
+    expect(ModelKind::Token, ModelKind::Ended, b"=", text)?;
+    value(key, text)
+}
+
+/// The first of these keys that no setting has.
+fn first_missing(keys: &[ModelKey], settings: &[Setting]) -> Option<ModelKey>
+    ensures { result ≡ first_key (λ k. not (has_key settings.now k)) keys.now }
+{
+    for key in keys {
+        if !has_key(settings, *key) {
+            return Some(*key);
+        }
+    }
+    None
+}
+
+/// The fault of settings behind which the file ends.
+fn missing(settings: &[Setting]) -> Option<ModelKind>
+    ensures { result ≡ missing settings.now }
+{
+    match first_missing(&KEYS, settings) {
+        Some(key) => Some(ModelKind::Missing(key)),
+        None => None,
+    }
+}
+
+/// Takes one setting more, and says whether there was one.
+fn take_setting(all: &mut List<Setting>, text: &mut Cursor) -> Result<bool, ModelRefusal>
+    ensures turn { TakesTurn result (settings_at all.old (left text.old)) (settings_at all.new (left text.new)) (Ok (all.new, left text.new)) }
+    ensures shorter { IfOk result (λ more. IsTrue more → size (left text.new) < size (left text.old)) }
+{
+    if let Some(at) = ends(text) {
+        if let Some(kind) = missing(all.items()) {
+            return Err(bad(at, kind));
+        }
+        return Ok(false);
+    }
+    let setting = setting(all.items(), text)?;
+    all.push(setting)?;
+    Ok(true)
+}
+
+/// Takes settings, up to the end.
+fn settings(alloc: Global, text: &mut Cursor) -> Result<List<Setting>, ModelRefusal>
+    ensures { ReadsAs (λ l. l) result (left text.new) (settings_at [] (left text.old)) }
+{
+    let mut all = List::new(alloc);
+    while take_setting(&mut all, text)? {}
+    Ok(all)
+}
+
+/// Whether one of the settings asks for reconfiguration.
+fn one_asks(settings: &[Setting]) -> bool
+    ensures { result ≡ list_any asks settings.now }
+{
+    settings.iter().any(|s| s.asks())
+}
+
+/// The model of settings.
+fn model_of_settings(settings: &[Setting]) -> Model
+    ensures { result ≡ model_of_settings settings.now }
+{
+    Model {
+        reconfigure: one_asks(settings),
+    }
+}
+
+/// The whole file.
+fn file(alloc: Global, bytes: &[u8]) -> Result<Model, ModelRefusal>
+    ensures { ReadsAllAs (λ m. m) result (model_of bytes.now) }
+{
+    let mut text = behind_header(ModelKind::Header, bytes, HEADER)?;
+    let settings = settings(alloc, &mut text)?;
+    Ok(model_of_settings(settings.items()))
+}
+
+/// The model that a file spells. It takes memory for its settings.
+pub fn read_model(alloc: Global, bytes: &[u8]) -> Result<Model, ModelRefusal>
+    // What is read is spelled.
+    ensures found { IfOk result (λ m. Spells bytes.now m) }
+    // What is spelled is read, unless memory runs out.
+    ensures only { (m : Mod) → Spells bytes.now m → AnswersAs (λ x. x) result m }
+    // A fault is the first one that reading from left to right meets.
+    ensures exact { ReadsAllAs (λ m. m) result (model_of bytes.now) }
+    // It doesn't stand too early: no bytes that agree past it are spelled right.
+    ensures first { IfErr result (IsNotTooEarly Spells bytes.now) }
+{
+    file(alloc, bytes)
+}
