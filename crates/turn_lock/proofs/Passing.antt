@@ -14,7 +14,7 @@ use Rattle.turn_lock.specs.declared.rule.Stage.TheVariants.{Idle, Waiting, Holdi
 use Rattle.turn_lock.specs.Histories.{IsPrefix, longer, are_places, merged}
 use Rattle.turn_lock.specs.inner.Tests.{stage_number}
 use Rattle.turn_lock.specs.inner.Rule.{one_where, within, times_at, tickets_of, ticket_at, turns_of, reach, KnowsStage, Knows, HasSlot, Kept}
-use Rattle.turn_lock.specs.inner.Plays.{IsPlaced, first_half, second_half, joined_view, spent_view, Settles}
+use Rattle.turn_lock.specs.inner.Plays.{IsPlaced, also_seen, first_half, second_half, joined_view, spent_view, Settles}
 use Rattle.turn_lock.proofs.Lists.{each_set, each_snoc, sum_set, sum_zero, two_below, one_below}
 use Rattle.turn_lock.proofs.Places.{within_few, within_from, prefix_same, prefix_le, prefix_all, both_begin_longer, longer_of, longer_le, wider, times_merged, times_after, merged_ascends, all_places}
 use Rattle.turn_lock.proofs.Turns.{idle_from_number, slot_set, slot_snoc}
@@ -70,9 +70,9 @@ module _ {T I O : Type 0} (history : T → List I) (made : T → O) (origin : O)
       let le = longer_le v.seen u.seen in
       let once : (p : ℕ) → times_at p v.places + times_at p u.places ≤ 1 = λ p. omega (arith, two_below (λ (x : View I O). times_at p x.places) s.views id other v u apart at at_u, k.each_place p, within_few 0 (length k.log) p) in
       let placed : are_places 0 (length (longer v.seen u.seen)) (merged v.places u.places) ≡ true = merged_ascends 0 (length (longer v.seen u.seen)) v.places u.places
-          (wider 0 0 (length v.seen) (length (longer v.seen u.seen)) v.places (omega arith) le.0 (idle_placed v is_v mine.placed))
-          (wider 0 0 (length u.seen) (length (longer v.seen u.seen)) u.places (omega arith) le.1 (idle_placed u is_u theirs.placed))
-          once in
+      (wider 0 0 (length v.seen) (length (longer v.seen u.seen)) v.places (omega arith) le.0 (idle_placed v is_v mine.placed))
+      (wider 0 0 (length u.seen) (length (longer v.seen u.seen)) u.places (omega arith) le.1 (idle_placed u is_u theirs.placed))
+      once in
       record {
         log = k.log;
         drawn = k.drawn;
@@ -116,9 +116,7 @@ module _ {T I O : Type 0} (history : T → List I) (made : T → O) (origin : O)
               (λ j x ne e. k.each_view j x e);
           slot = slot_set history made origin k.log s.homes s.views id v w at (ap turns_of is) refl k.slot;
         },
-        λ zs q.
-            let same : ys ≡ zs = cc (is, q) in
-            subst (λ (xs : List I). (w ≡ record v { stage = Idle; seen = longer v.seen xs }) × (cs ≡ cs) × IsPrefix v.seen w.seen × IsPrefix xs w.seen × IsPlaced w) same (refl, refl, begin.0, begin.1, placed),
+        subst (λ (xs : List I). (w ≡ record v { stage = Idle; seen = longer v.seen xs }) × (cs ≡ cs) × IsPrefix v.seen w.seen × IsPrefix xs w.seen × IsPlaced w) (sym (ap also_seen is)) (refl, refl, begin.0, begin.1, placed),
       )
 
   -- what a pass with all units finds at the end
@@ -143,21 +141,21 @@ module _ {T I O : Type 0} (history : T → List I) (made : T → O) (origin : O)
       let others = set s.views id z in
       let none_left : sum_by (λ (x : View I O). x.units) others ≡ 0 = omega (arith, sum_set (λ (x : View I O). x.units) s.views id v z at, k.units, all) in
       let knows : (j : ℕ) (u : View I O) → get_elem? others j ≡ some u → (tickets_of u.stage ≤ u.units) × (u.units ≡ 0 → u.places ≡ []) =
-          each_set (λ (u : View I O). (tickets_of u.stage ≤ u.units) × (u.units ≡ 0 → u.places ≡ [])) s.views id z (omega arith, λ _. refl) (λ j u ne e. let o = k.each_view j u e in (o.few, o.spent)) in
+      each_set (λ (u : View I O). (tickets_of u.stage ≤ u.units) × (u.units ≡ 0 → u.places ≡ [])) s.views id z (omega arith, λ _. refl) (λ j u ne e. let o = k.each_view j u e in (o.few, o.spent)) in
       let spent : (j : ℕ) (u : View I O) → get_elem? others j ≡ some u → u.units ≡ 0 = λ j u e. omega (arith, none_left, one_below (λ (x : View I O). x.units) others j u e) in
       let no_places : (p : ℕ) → sum_by (λ (x : View I O). times_at p x.places) others ≡ 0 = λ p. sum_zero (λ (x : View I O). times_at p x.places) others
-          (λ j u e. ap (times_at p) ((knows j u e).1 (spent j u e))) in
+      (λ j u e. ap (times_at p) ((knows j u e).1 (spent j u e))) in
       let no_turns : sum_by (λ (x : View I O). turns_of x.stage) others ≡ 0 = sum_zero (λ (x : View I O). turns_of x.stage) others
-          (λ j u e. omega (arith, turns_le u.stage, (knows j u e).0, spent j u e)) in
+      (λ j u e. omega (arith, turns_le u.stage, (knows j u e).0, spent j u e)) in
       let own : (p : ℕ) → times_at p v.places ≡ within 0 (length k.log) p = λ p. omega (arith, sum_set (λ (x : View I O). times_at p x.places) s.views id v z at, no_places p, k.each_place p) in
       let whole : length k.log ≤ length v.seen = ⊎_elim
-          (λ l. absurd (omega (arith, own (length v.seen), within_from (length k.log) (length v.seen) l, times_after 0 (length v.seen) (length v.seen) v.places (omega arith) own_placed)))
-          (λ g. g)
-          (cases_lt (length v.seen) (length k.log)) in
+      (λ l. absurd (omega (arith, own (length v.seen), within_from (length k.log) (length v.seen) l, times_after 0 (length v.seen) (length v.seen) v.places (omega arith) own_placed)))
+      (λ g. g)
+      (cases_lt (length v.seen) (length k.log)) in
       let stands : k.log ≡ v.seen = prefix_all v.seen k.log mine.begins whole in
       let places : v.places ≡ range_with_len 0 (length k.log) = all_places 0 (length k.log) v.places
-          (wider 0 0 (length v.seen) (0 + length k.log) v.places (omega arith) (omega (arith, ap length stands)) own_placed)
-          (λ p a b. own p ∙ within_from (length k.log) p (omega (arith, b))) in
+      (wider 0 0 (length v.seen) (0 + length k.log) v.places (omega arith) (omega (arith, ap length stands)) own_placed)
+      (λ p a b. own p ∙ within_from (length k.log) p (omega (arith, b))) in
       ⊎_elim
       (λ h. (
         h.1.0,

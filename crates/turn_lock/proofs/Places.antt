@@ -177,7 +177,7 @@ all_places low (suc n) (p ∷ ps) h all =
     ⊎_elim
     (λ (e : low ≡ p).
     let rest = all_places (low + 1) n ps (wider (p + 1) (low + 1) (low + suc n) (low + 1 + n) ps (omega (arith, e)) (omega arith) f.2)
-        (λ q a b. omega (arith, all q (omega (arith, a)) (omega (arith, b)), times_cons q p ps, none_if p q (λ d. omega (arith, d, e, a)))) in
+    (λ q a b. omega (arith, all q (omega (arith, a)) (omega (arith, b)), times_cons q p ps, none_if p q (λ d. omega (arith, d, e, a)))) in
     λ i. sym e i ∷ rest i)
     (λ ne. absurd (omega (arith, all low (omega arith) (omega arith), times_cons low p ps, none_if p low (λ d. ne (sym d)), times_before (p + 1) (low + suc n) low ps (omega (arith, f.0)) f.2)))
     (cases_eq low p)

@@ -108,8 +108,8 @@ module _ {T I O : Type 0} (history : T → List I) (made : T → O) (origin : O)
   no_turn_out s k id v at waits =
       let has : ticket_at k.served v.stage ≡ 1 = ap {B = ℕ} (ticket_at k.served) waits ∙ one_if k.served k.served refl in
       let less = sums_lt (λ (x : View I O). turns_of x.stage) (λ (x : View I O). ticket_at k.served x.stage) s.views id v at
-          (λ j x e. turn_ticket k.log k.served x.seen x.stage (k.each_view j x e).stage)
-          (omega (arith, has, ap {B = ℕ} turns_of waits)) in
+      (λ j x e. turn_ticket k.log k.served x.seen x.stage (k.each_view j x e).stage)
+      (omega (arith, has, ap {B = ℕ} turns_of waits)) in
       omega (arith, less, k.each_ticket k.served, within_few k.served k.drawn k.served)
 
   -- a look that changes nothing

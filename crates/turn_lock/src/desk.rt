@@ -3,11 +3,11 @@ ghost use Rattle.std.specs.List.{range_with_len};
 ghost use Rattle.std.specs.Coded.{Coded-set};
 ghost use Rattle.atomic_table.specs.Seated.{table_id_coded};
 ghost use Rattle.turn_lock.specs.Histories.{IsPrefix, longer, merged, are_places};
-ghost use Rattle.turn_lock.specs.inner.Tests.{has_vacant_slot, stage_number};
+ghost use Rattle.turn_lock.specs.inner.Tests.{IsDeskTable, has_vacant_slot, stage_number};
 
 use crate::chronicle::Chronicle;
-use crate::rule::{Halves, Merge, Settle, TurnSeat, TurnTable};
-use crate::steps::{commit, draw, put_back, serve, sleep, try_take};
+use crate::rule::{TurnSeat, TurnTable};
+use crate::steps::{commit, draw, halve, join, put_back, serve, sleep, try_take};
 use atomic_table::Table;
 use net_core::NoMemory;
 use std::alloc::Global;
@@ -18,7 +18,7 @@ use std::sync::Wait;
 #[derive(Drop)]
 pub struct Desk<T: Chronicle> {
     table: TurnTable<T>,
-    ghost sizes: { (table.shared.table_id.words ≡ 3) × (table.shared.table_id.slots ≡ 1) },
+    ghost sizes: { IsDeskTable table.shared.table_id },
 }
 
 /// The right to take turns at a desk. It knows the history that it has seen, the places in it of its own items, and
@@ -111,7 +111,7 @@ impl<T: Chronicle> Desk<T> {
     {
         let Pass { seat } = pass;
         let mut seat = seat;
-        let other = self.table.shared.split_seat::<Halves>(&mut seat);
+        let other = halve(&self.table, &mut seat);
         (Pass { seat }, Pass { seat: other })
     }
 
@@ -129,8 +129,7 @@ impl<T: Chronicle> Desk<T> {
         let Pass { seat } = into;
         let Pass { seat: second } = other;
         let mut seat = seat;
-        self.table.shared.join_seat::<Merge>(&mut seat, second);
-        let _ = self.table.shared.load::<Settle>(&mut seat, 2);
+        join(&self.table, &mut seat, second);
         Pass { seat }
     }
 

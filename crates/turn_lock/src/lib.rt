@@ -3,9 +3,12 @@
 
 mod chronicle;
 mod desk;
+mod example;
 mod rule;
 mod steps;
 
 pub use chronicle::Chronicle;
 pub use desk::{Desk, Pass, Turn};
-pub use rule::{Stage, TurnRule, View};
+
+#[cfg(test)]
+mod tests;

@@ -6,6 +6,13 @@ use Rattle.turn_lock.specs.declared.rule.Stage.{Stage}
 use Rattle.turn_lock.specs.declared.rule.Stage.TheVariants.{Idle, Waiting, Holding, Joined}
 use Rattle.turn_lock.specs.Histories.{IsPrefix, longer, are_places, merged}
 
+-- the list that a pass which was taken in had seen
+abbrev pub also_seen : {I : Type 0} → Stage I → List I
+also_seen Idle = []
+also_seen (Waiting k) = []
+also_seen (Holding k) = []
+also_seen (Joined ys) = ys
+
 module _ {I O : Type 0} where
   -- the own items stand in the history that the pass has seen
   abbrev pub IsPlaced : View I O → Type 0
@@ -44,8 +51,8 @@ module _ {T I O : Type 0} where
 
   -- after a join: the longer list is kept, and both begin it
   abbrev pub Settles : Step (Option T) → Hand T I O → ℕ → Hand T I O → Type 0
-  Settles s m found n = (ys : List I) → m.0.stage ≡ Joined ys
-      → (n.0 ≡ record m.0 { stage = Idle; seen = longer m.0.seen ys }) × (n.1 ≡ m.1) × IsPrefix m.0.seen n.0.seen × IsPrefix ys n.0.seen × IsPlaced n.0
+  Settles s m found n = (n.0 ≡ record m.0 { stage = Idle; seen = longer m.0.seen (also_seen m.0.stage) }) × (n.1 ≡ m.1)
+      × IsPrefix m.0.seen n.0.seen × IsPrefix (also_seen m.0.stage) n.0.seen × IsPlaced n.0
 
   module _ (history : T → List I) where
     -- one item more stands in the history, and it is the pass's own

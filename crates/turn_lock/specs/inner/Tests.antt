@@ -1,5 +1,6 @@
 -- What a pass and a turn keep, as numbers and tests.
-use Rattle.std.specs.Prelude.{ℕ, Bool, true, false, List, [], ◌∷◌, Option, Some, None, ◌==◌, ◌&&◌}
+use Rattle.std.specs.Prelude.{◌≡◌, ℕ, Bool, true, false, List, [], ◌∷◌, Option, Some, None, ◌==◌, ◌&&◌}
+use Rattle.atomic_table.specs.Seated.{TableId}
 use Rattle.turn_lock.specs.declared.rule.Stage.{Stage}
 use Rattle.turn_lock.specs.declared.rule.Stage.TheVariants.{Idle, Waiting, Holding, Joined}
 
@@ -18,3 +19,7 @@ abbrev pub has_vacant_slot : {T : Type 0} → List (ℕ × Option T) → Bool
 has_vacant_slot [] = false
 has_vacant_slot (x ∷ []) = x.0 == 0 && is_vacant x.1
 has_vacant_slot (x ∷ y ∷ xs) = false
+
+-- a table of three words and one slot
+abbrev pub IsDeskTable : TableId → Type 0
+IsDeskTable z = (z.words ≡ 3) × (z.slots ≡ 1)
