@@ -1,5 +1,5 @@
 -- Splitting, joining, the look at the count, and the end.
-use Rattle.std.proofs.Common.{◌≡◌, ◌≢◌, ℕ, zero, suc, ◌+◌, ◌%◌, ◌^◌, ◌<◌, ◌≤◌, List, [], ◌∷◌, ◌++◌, length, get_or, sum_by, set, Some, Option, ⊎_elim, refl, sym, ap, subst, ◌∙◌, arith, true, eqb}
+use Rattle.std.proofs.Common.{◌≡◌, ℕ, ◌+◌, ◌^◌, ◌≤◌, List, [], ◌∷◌, length, sum_by, set, Some, Option, ⊎_elim, refl, sym, ap, subst, ◌∙◌, arith, true}
 use Rattle.std.proofs.lemmas.List.{set-get_or}
 use Rattle.std.proofs.lemmas.List.Sums.{sum_by_push}
 use mathlib.Core.Option.{some, none, some-injective}
@@ -13,10 +13,10 @@ use Rattle.turn_lock.specs.declared.rule.Stage.{Stage}
 use Rattle.turn_lock.specs.declared.rule.Stage.TheVariants.{Idle, Waiting, Holding, Joined}
 use Rattle.turn_lock.specs.Histories.{IsPrefix, longer, are_places, merged}
 use Rattle.turn_lock.specs.inner.Tests.{stage_number}
-use Rattle.turn_lock.specs.inner.Rule.{one_where, within, times_at, tickets_of, ticket_at, turns_of, reach, KnowsStage, Knows, HasSlot, Kept}
-use Rattle.turn_lock.specs.inner.Plays.{IsPlaced, also_seen, first_half, second_half, joined_view, spent_view, Settles}
+use Rattle.turn_lock.specs.inner.Rule.{within, times_at, tickets_of, ticket_at, turns_of, reach, KnowsStage, Knows, Kept}
+use Rattle.turn_lock.specs.inner.Plays.{OwnItemsStand, also_seen, first_half, second_half, joined_view, spent_view, Settles}
 use Rattle.turn_lock.proofs.Lists.{each_set, each_snoc, sum_set, sum_zero, two_below, one_below}
-use Rattle.turn_lock.proofs.Places.{within_few, within_from, prefix_same, prefix_le, prefix_all, both_begin_longer, longer_of, longer_le, wider, times_merged, times_after, merged_ascends, all_places}
+use Rattle.turn_lock.proofs.Places.{within_few, within_from, prefix_all, both_begin_longer, longer_of, longer_le, wider, times_merged, times_after, merged_ascends, all_places}
 use Rattle.turn_lock.proofs.Turns.{idle_from_number, slot_set, slot_snoc}
 
 module _ {T I O : Type 0} (history : T → List I) (made : T → O) (origin : O) where
@@ -116,7 +116,7 @@ module _ {T I O : Type 0} (history : T → List I) (made : T → O) (origin : O)
               (λ j x ne e. k.each_view j x e);
           slot = slot_set history made origin k.log s.homes s.views id v w at (ap turns_of is) refl k.slot;
         },
-        subst (λ (xs : List I). (w ≡ record v { stage = Idle; seen = longer v.seen xs }) × (cs ≡ cs) × IsPrefix v.seen w.seen × IsPrefix xs w.seen × IsPlaced w) (sym (ap also_seen is)) (refl, refl, begin.0, begin.1, placed),
+        subst (λ (xs : List I). (w ≡ record v { stage = Idle; seen = longer v.seen xs }) × (cs ≡ cs) × IsPrefix v.seen w.seen × IsPrefix xs w.seen × OwnItemsStand w) (sym (ap also_seen is)) (refl, refl, begin.0, begin.1, placed),
       )
 
   -- what a pass with all units finds at the end

@@ -1,5 +1,5 @@
 -- The steps of a turn keep the rule: draw, look, commit, serve.
-use Rattle.std.proofs.Common.{◌≡◌, ◌≢◌, ℕ, zero, suc, ◌+◌, ◌%◌, ◌^◌, ◌<◌, ◌≤◌, List, [], ◌∷◌, ◌++◌, length, get_or, sum_by, cond, eqb, set, Some, Option, inl, inr, ⊎_elim, refl, sym, ap, subst, ◌∙◌, arith, length-append, map, true}
+use Rattle.std.proofs.Common.{◌≡◌, ◌≢◌, ℕ, zero, suc, ◌+◌, ◌%◌, ◌^◌, ◌<◌, ◌≤◌, List, [], ◌∷◌, ◌++◌, length, get_or, sum_by, eqb, set, Some, Option, inl, inr, ⊎_elim, refl, sym, ap, subst, ◌∙◌, arith, length-append, map, true}
 use Rattle.std.proofs.lemmas.List.{set-get_or}
 use Rattle.std.proofs.lemmas.List.Sums.{sum_by_push}
 use Rattle.std.proofs.lemmas.Bool.{cases_eq}
@@ -13,9 +13,9 @@ use Rattle.turn_lock.specs.declared.rule.Stage.TheVariants.{Idle, Waiting, Holdi
 use Rattle.turn_lock.specs.Histories.{IsPrefix, are_places}
 use Rattle.turn_lock.specs.inner.Tests.{stage_number}
 use Rattle.turn_lock.specs.inner.Rule.{one_where, within, times_at, tickets_of, ticket_at, turns_of, reach, KnowsStage, Knows, HasSlot, Kept, first_view}
-use Rattle.turn_lock.specs.inner.Plays.{IsPlaced, Awaits, Draws, Looks, Takes, Commits, Serves}
-use Rattle.turn_lock.proofs.Lists.{each_set, sum_set, one_below, two_below, sums_le, sums_lt, no_items}
-use Rattle.turn_lock.proofs.Places.{one_if, none_if, within_after, within_few, within_some, within_more, within_less, prefix_same, prefix_le, prefix_more, prefix_all, wider, place_last}
+use Rattle.turn_lock.specs.inner.Plays.{Awaits, Draws, Looks, TakesTurn, Commits, Serves}
+use Rattle.turn_lock.proofs.Lists.{each_set, sum_set, one_below, two_below, sums_le, sums_lt}
+use Rattle.turn_lock.proofs.Places.{one_if, within_after, within_few, within_some, within_more, within_less, prefix_same, prefix_le, prefix_more, wider, place_last}
 
 module _ {I : Type 0} where
   pub idle_from_number : (st : Stage I) → stage_number st ≡ 0 → st ≡ Idle
@@ -337,5 +337,5 @@ pub hand_is : {T : Type 0} (hand cs : List (ℕ × Option T)) (y : Option T) →
 hand_is hand cs y e = e ∙ ap (λ r. (0, y) ∷ r) (sym (ap rest e))
 
 -- a look that found the pass's own ticket
-pub took : {T I O : Type 0} (history : T → List I) (made : T → O) (st : Step (Option T)) (m n : Me (Option T) (View I O)) (word found : ℕ) → Awaits word m.0 → found ≡ word → Looks history made st m found n → (k : ℕ) × Takes history made m n k
+pub took : {T I O : Type 0} (history : T → List I) (made : T → O) (st : Step (Option T)) (m n : Me (Option T) (View I O)) (word found : ℕ) → Awaits word m.0 → found ≡ word → Looks history made st m found n → (k : ℕ) × TakesTurn history made m n k
 took history made st m n word found waits is looks = ⊎_elim (λ h. (waits.0, h.1)) (λ h. absurd (h.0 (is ∙ waits.1))) (looks waits.0 waits.2)

@@ -31,8 +31,8 @@ module _ {T I O : Type 0} {g : Ghosts T I O} where
   abbrev pub own_places : Pass T I O g → List ℕ
   own_places p = p.seat.me.0.places
 
-  abbrev pub units_of : Pass T I O g → ℕ
-  units_of p = p.seat.me.0.units
+  abbrev pub own_units : Pass T I O g → ℕ
+  own_units p = p.seat.me.0.units
 
   -- the pass is one of the desk's
   abbrev pub IsPassOf : Desk T I O → Pass T I O g → Type 0

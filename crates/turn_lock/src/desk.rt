@@ -45,14 +45,14 @@ pub struct Turn<'a, T: Chronicle> {
 }
 
 impl<T: Chronicle> Desk<T> {
-    ghost use Rattle.turn_lock.specs.Passes.{AreOfOneDesk, IsPassOf, opening_of, own_places, seen_by, turn_history, turn_origin, turn_places, turn_units, units_of};
+    ghost use Rattle.turn_lock.specs.Passes.{AreOfOneDesk, IsPassOf, opening_of, own_places, seen_by, turn_history, turn_origin, turn_places, turn_units, own_units};
 
     /// A desk for the value, and the pass with all units.
     pub fn new(alloc: Global, value: T) -> Result<(Desk<T>, Pass<T>), (T, NoMemory)>
         requires { T.history value ≡ [] }
         ensures own { IfOk result (λ d. IsPassOf d.0 d.1) }
         ensures opening { IfOk result (λ d. opening_of d.0 ≡ value) }
-        ensures pass { IfOk result (λ d. (seen_by d.1 ≡ []) × (own_places d.1 ≡ []) × (units_of d.1 ≡ 2 ^ 32)) }
+        ensures pass { IfOk result (λ d. (seen_by d.1 ≡ []) × (own_places d.1 ≡ []) × (own_units d.1 ≡ 2 ^ 32)) }
         ensures back { IfErr result (λ e. e.0 ≡ value) }
     {
         let opening = Snapshot::of(&value);
@@ -86,7 +86,7 @@ impl<T: Chronicle> Desk<T> {
         ensures stands { T.history result.0 ≡ turn_history result.1 }
         ensures begins { IsPrefix (seen_by pass) (turn_history result.1) }
         ensures places { turn_places result.1 ≡ own_places pass }
-        ensures units { turn_units result.1 ≡ units_of pass }
+        ensures units { turn_units result.1 ≡ own_units pass }
     {
         let Pass { seat } = pass;
         let mut seat = seat;
@@ -103,11 +103,11 @@ impl<T: Chronicle> Desk<T> {
     /// Two passes for one. Half of the units, rounded down, go to the second, which has no items of its own.
     pub fn split(&self, pass: Pass<T>) -> (Pass<T>, Pass<T>)
         requires own { IsPassOf self.now pass }
-        requires units { 2 ≤ units_of pass }
+        requires units { 2 ≤ own_units pass }
         ensures own { IsPassOf self.now result.0 × IsPassOf self.now result.1 }
         ensures seen { (seen_by result.0 ≡ seen_by pass) × (seen_by result.1 ≡ seen_by pass) }
         ensures places { (own_places result.0 ≡ own_places pass) × (own_places result.1 ≡ []) }
-        ensures units { (units_of result.0 + units_of result.1 ≡ units_of pass) × (units_of result.1 ≡ units_of pass / 2) }
+        ensures units { (own_units result.0 + own_units result.1 ≡ own_units pass) × (own_units result.1 ≡ own_units pass / 2) }
     {
         let Pass { seat } = pass;
         let mut seat = seat;
@@ -124,7 +124,7 @@ impl<T: Chronicle> Desk<T> {
         ensures first { IsPrefix (seen_by into) (seen_by result) }
         ensures second { IsPrefix (seen_by other) (seen_by result) }
         ensures places { own_places result ≡ merged (own_places into) (own_places other) }
-        ensures units { units_of result ≡ units_of into + units_of other }
+        ensures units { own_units result ≡ own_units into + own_units other }
     {
         let Pass { seat } = into;
         let Pass { seat: second } = other;
@@ -136,7 +136,7 @@ impl<T: Chronicle> Desk<T> {
     /// The value, back from the desk. Nothing stands in its history but the pass's own items.
     pub fn close(self, pass: Pass<T>) -> T
         requires own { IsPassOf self pass }
-        requires all { units_of pass ≡ 2 ^ 32 }
+        requires all { own_units pass ≡ 2 ^ 32 }
         ensures origin { T.origin result ≡ T.origin (opening_of self) }
         ensures stands { T.history result ≡ seen_by pass }
         ensures places { own_places pass ≡ range_with_len 0 (length (T.history result)) }
@@ -152,7 +152,7 @@ impl<T: Chronicle> Desk<T> {
 }
 
 impl<'a, T: Chronicle> Turn<'a, T> {
-    ghost use Rattle.turn_lock.specs.Passes.{AreOfOneDesk, own_places, seen_by, turn_history, turn_origin, turn_places, turn_units, units_of};
+    ghost use Rattle.turn_lock.specs.Passes.{AreOfOneDesk, own_places, seen_by, turn_history, turn_origin, turn_places, turn_units, own_units};
 
     /// Ends the turn with the history as it was.
     pub fn leave(self, value: T) -> Pass<T>
@@ -161,7 +161,7 @@ impl<'a, T: Chronicle> Turn<'a, T> {
         ensures own { AreOfOneDesk result self.entry }
         ensures seen { seen_by result ≡ turn_history self.entry }
         ensures places { own_places result ≡ turn_places self.entry }
-        ensures units { units_of result ≡ turn_units self.entry }
+        ensures units { own_units result ≡ turn_units self.entry }
     {
         let Turn { desk, seat } = self;
         let mut seat = seat;
@@ -177,7 +177,7 @@ impl<'a, T: Chronicle> Turn<'a, T> {
         ensures own { AreOfOneDesk result self.entry }
         ensures seen { seen_by result ≡ T.history value }
         ensures places { own_places result ≡ turn_places self.entry ++ length (turn_history self.entry) ∷ [] }
-        ensures units { units_of result ≡ turn_units self.entry }
+        ensures units { own_units result ≡ turn_units self.entry }
     {
         let Turn { desk, seat } = self;
         let mut seat = seat;

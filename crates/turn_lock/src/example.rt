@@ -40,7 +40,7 @@ impl Sheet {
     }
 }
 
-ghost use Rattle.turn_lock.specs.Passes.{IsPassOf, opening_of, seen_by, units_of};
+ghost use Rattle.turn_lock.specs.Passes.{IsPassOf, opening_of, seen_by, own_units};
 
 /// One turn, which notes a number where there is room.
 pub(crate) fn note<R: Wait>(
@@ -51,7 +51,7 @@ pub(crate) fn note<R: Wait>(
 ) -> Pass<Sheet>
     requires { IsPassOf desk.now pass }
     ensures own { IsPassOf desk.now result }
-    ensures units { units_of result ≡ units_of pass }
+    ensures units { own_units result ≡ own_units pass }
 {
     let (sheet, turn) = desk.enter(rt, pass);
     let mut sheet = sheet;
@@ -72,7 +72,7 @@ pub(crate) fn note_often<R: Wait>(
 ) -> Pass<Sheet>
     requires { IsPassOf desk.now pass }
     ensures own { IsPassOf desk.now result }
-    ensures units { units_of result ≡ units_of pass }
+    ensures units { own_units result ≡ own_units pass }
 {
     let mut pass = pass;
     for _ in 0..turns {
@@ -89,7 +89,7 @@ pub(crate) fn note_by_two<R: Threads + Wait + Sync>(
     turns: u32,
 ) -> Sheet
     requires own { IsPassOf desk pass }
-    requires all { units_of pass ≡ 2 ^ 32 }
+    requires all { own_units pass ≡ 2 ^ 32 }
     ensures { result.owner ≡ (opening_of desk).owner }
 {
     let shared = &desk;
@@ -99,12 +99,12 @@ pub(crate) fn note_by_two<R: Threads + Wait + Sync>(
         || -> Pass<Sheet>
             requires { IsPassOf shared.now one }
             ensures own { IsPassOf shared.entry.now result }
-            ensures units { units_of result ≡ units_of one }
+            ensures units { own_units result ≡ own_units one }
         { note_often(rt, shared, one, 1, turns) },
         || -> Pass<Sheet>
             requires { IsPassOf shared.now two }
             ensures own { IsPassOf shared.entry.now result }
-            ensures units { units_of result ≡ units_of two }
+            ensures units { own_units result ≡ own_units two }
         { note_often(rt, shared, two, 2, turns) },
     );
     let pass = shared.meet(one, two);

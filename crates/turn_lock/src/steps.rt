@@ -1,7 +1,7 @@
 //! The steps at the table, each in a function of its own.
 ghost use Rattle.std.specs.Prelude.{◌≡◌, ◌≤◌, ◌+◌, ◌++◌, ◌∷◌, [], Some, None, length, IfSome, IfNone};
 ghost use Rattle.turn_lock.specs.Histories.{IsPrefix, longer, merged};
-ghost use Rattle.turn_lock.specs.inner.Plays.{Awaits, Got, IsPlaced, first_half, second_half};
+ghost use Rattle.turn_lock.specs.inner.Plays.{Awaits, Got, OwnItemsStand, first_half, second_half};
 ghost use Rattle.turn_lock.specs.inner.Tests.{IsDeskTable, stage_number};
 
 use crate::chronicle::Chronicle;
@@ -92,7 +92,7 @@ pub(crate) fn serve<T: Chronicle>(table: &TurnTable<T>, seat: &mut TurnSeat<T>)
     requires hand { (x : T) × (seat.old.me.1 ≡ (0, Some x) ∷ []) × (T.history x ≡ seat.old.me.0.seen) × (seat.old.me.0.origin ≡ Some (T.origin x)) }
     ensures own { seat.new.table_id ≡ seat.old.table_id }
     ensures idle { stage_number seat.new.me.0.stage ≡ 0 }
-    ensures placed { IsPlaced seat.new.me.0 }
+    ensures placed { OwnItemsStand seat.new.me.0 }
     ensures seen { seat.new.me.0.seen ≡ seat.old.me.0.seen }
     ensures places { seat.new.me.0.places ≡ seat.old.me.0.places }
     ensures units { seat.new.me.0.units ≡ seat.old.me.0.units }
@@ -116,7 +116,7 @@ pub(crate) fn halve<T: Chronicle>(table: &TurnTable<T>, seat: &mut TurnSeat<T>) 
     table.shared.split_seat::<Halves>(seat)
 }
 
-/// Takes another seat in, and looks at the count. The longer of the two lists that were seen is kept.
+/// TakesTurn another seat in, and looks at the count. The longer of the two lists that were seen is kept.
 pub(crate) fn join<T: Chronicle>(table: &TurnTable<T>, seat: &mut TurnSeat<T>, other: TurnSeat<T>)
     requires own { seat.old.table_id ≡ table.now.shared.table_id }
     requires same { other.table_id ≡ table.now.shared.table_id }
@@ -126,7 +126,7 @@ pub(crate) fn join<T: Chronicle>(table: &TurnTable<T>, seat: &mut TurnSeat<T>, o
     requires hand { length other.me.1 ≡ 0 }
     ensures own { seat.new.table_id ≡ seat.old.table_id }
     ensures idle { stage_number seat.new.me.0.stage ≡ 0 }
-    ensures placed { IsPlaced seat.new.me.0 }
+    ensures placed { OwnItemsStand seat.new.me.0 }
     ensures seen { seat.new.me.0.seen ≡ longer seat.old.me.0.seen other.me.0.seen }
     ensures first { IsPrefix seat.old.me.0.seen seat.new.me.0.seen }
     ensures second { IsPrefix other.me.0.seen seat.new.me.0.seen }

@@ -15,7 +15,8 @@ fn two_threads_take_turns_at_one_sheet(rt: HostRuntime) -> Result<(), Fail> {
     let sheet = note_by_two(&rt, desk, pass, 100);
     let notes = sheet.notes.items();
     assert_eq!(rt; sheet.count(), 200);
-    assert_eq!(rt; notes.iter().sum::<u64>(), 300);
+    let sum = notes.iter().fold(0u64, |sum, note| sum.wrapping_add(*note));
+    assert_eq!(rt; sum, 300);
     assert_eq!(rt; sheet.owner, 7);
     Ok(())
 }

@@ -15,8 +15,8 @@ also_seen (Joined ys) = ys
 
 module _ {I O : Type 0} where
   -- the own items stand in the history that the pass has seen
-  abbrev pub IsPlaced : View I O → Type 0
-  IsPlaced v = are_places 0 (length v.seen) v.places ≡ true
+  abbrev pub OwnItemsStand : View I O → Type 0
+  OwnItemsStand v = are_places 0 (length v.seen) v.places ≡ true
 
   -- the pass waits for the ticket whose word is `word`
   abbrev pub Awaits : ℕ → View I O → Type 0
@@ -47,12 +47,12 @@ module _ {T I O : Type 0} where
 
   -- the value went home
   abbrev pub Serves : Step (Option T) → Hand T I O → ℕ → Hand T I O → Type 0
-  Serves s m found n = (n.0 ≡ record m.0 { stage = Idle }) × (n.1 ≡ rest m.1) × IsPlaced n.0
+  Serves s m found n = (n.0 ≡ record m.0 { stage = Idle }) × (n.1 ≡ rest m.1) × OwnItemsStand n.0
 
   -- after a join: the longer list is kept, and both begin it
   abbrev pub Settles : Step (Option T) → Hand T I O → ℕ → Hand T I O → Type 0
   Settles s m found n = (n.0 ≡ record m.0 { stage = Idle; seen = longer m.0.seen (also_seen m.0.stage) }) × (n.1 ≡ m.1)
-      × IsPrefix m.0.seen n.0.seen × IsPrefix (also_seen m.0.stage) n.0.seen × IsPlaced n.0
+      × IsPrefix m.0.seen n.0.seen × IsPrefix (also_seen m.0.stage) n.0.seen × OwnItemsStand n.0
 
   module _ (history : T → List I) where
     -- one item more stands in the history, and it is the pass's own
@@ -62,13 +62,13 @@ module _ {T I O : Type 0} where
 
     module _ (origin_of_value : T → O) where
       -- the ticket k is served, and the value is in the hand
-      abbrev pub Takes : Hand T I O → Hand T I O → ℕ → Type 0
-      Takes m n k = (x : T) × (n.0 ≡ record m.0 { stage = Holding k; seen = history x }) × (n.1 ≡ (0, Some x) ∷ m.1)
-          × IsPrefix m.0.seen (history x) × (m.0.origin ≡ Some (origin_of_value x)) × IsPlaced n.0
+      abbrev pub TakesTurn : Hand T I O → Hand T I O → ℕ → Type 0
+      TakesTurn m n k = (x : T) × (n.0 ≡ record m.0 { stage = Holding k; seen = history x }) × (n.1 ≡ (0, Some x) ∷ m.1)
+          × IsPrefix m.0.seen (history x) × (m.0.origin ≡ Some (origin_of_value x)) × OwnItemsStand n.0
 
       -- the pass's ticket is served, or nothing changed
       abbrev pub Looks : Step (Option T) → Hand T I O → ℕ → Hand T I O → Type 0
-      Looks s m found n = (k : ℕ) → m.0.stage ≡ Waiting k → ((found ≡ k % 2 ^ 64) × Takes m n k) ⊎ ((found ≢ k % 2 ^ 64) × (n ≡ m))
+      Looks s m found n = (k : ℕ) → m.0.stage ≡ Waiting k → ((found ≡ k % 2 ^ 64) × TakesTurn m n k) ⊎ ((found ≢ k % 2 ^ 64) × (n ≡ m))
 
 -- the value x came into the hand of the pass
 pub record Got {T I O : Type 0} (history : T → List I) (origin_of_value : T → O) (x : T) (old new : View I O) : Type 0 where
@@ -76,7 +76,7 @@ pub record Got {T I O : Type 0} (history : T → List I) (origin_of_value : T �
   pub stands : history x ≡ new.seen
   pub begins : IsPrefix old.seen new.seen
   pub made : old.origin ≡ Some (origin_of_value x)
-  pub placed : IsPlaced new
+  pub placed : OwnItemsStand new
   pub units : new.units ≡ old.units
   pub places : new.places ≡ old.places
   pub origin : new.origin ≡ old.origin
