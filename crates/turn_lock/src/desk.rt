@@ -14,7 +14,13 @@ use std::alloc::Global;
 use std::snapshot::Snapshot;
 use std::sync::Wait;
 
-/// A value that one caller has at a time, in the order of the callers' tickets.
+/// A value that one caller has at a time, in the order of the callers' tickets. A pass enters, its caller changes the
+/// value, and the turn ends with one item more, or with the history as it was:
+///
+/// ```text
+/// let (value, turn) = desk.enter(&rt, pass);
+/// let pass = turn.leave_with(with_one_item_more(value));
+/// ```
 #[derive(Drop)]
 pub struct Desk<T: Chronicle> {
     table: TurnTable<T>,
@@ -47,7 +53,8 @@ pub struct Turn<'a, T: Chronicle> {
 impl<T: Chronicle> Desk<T> {
     ghost use Rattle.turn_lock.specs.Passes.{AreOfOneDesk, IsPassOf, opening_of, own_places, seen_by, turn_history, turn_origin, turn_places, turn_units, own_units};
 
-    /// A desk for the value, and the pass with all units.
+    /// A desk for the value, and the pass with all units. It takes the memory of a table of three words and the value,
+    /// once; no other call takes any.
     pub fn new(alloc: Global, value: T) -> Result<(Desk<T>, Pass<T>), (T, NoMemory)>
         requires { T.history value ≡ [] }
         ensures own { IfOk result (λ d. IsPassOf d.0 d.1) }
@@ -77,7 +84,8 @@ impl<T: Chronicle> Desk<T> {
         }
     }
 
-    /// Waits for the pass's turn, and gives the value. It may never return. It takes no memory.
+    /// Waits for the pass's turn, and gives the value. It may never return. It sleeps until another turn ends, and looks
+    /// again then.
     pub fn enter<R: Wait>(&self, rt: &R, pass: Pass<T>) -> (T, Turn<'_, T>)
         requires { IsPassOf self.now pass }
         ensures own { AreOfOneDesk pass result.1 }
@@ -115,7 +123,8 @@ impl<T: Chronicle> Desk<T> {
         (Pass { seat }, Pass { seat: other })
     }
 
-    /// One pass for two. It has seen the longer of their lists, which both begin, and has the items and units of both.
+    /// One pass for two. It has seen the longer of their lists, of which the other is a prefix, and has the items and
+    /// units of both.
     pub fn meet(&self, into: Pass<T>, other: Pass<T>) -> Pass<T>
         requires own { IsPassOf self.now into }
         requires same { IsPassOf self.now other }
