@@ -11,6 +11,7 @@ const SIDES: [LinkRow; 3] = [(0, 1, 0, &TEN), (1, 2, 0, &TEN), (0, 2, 0, &TEN)];
 
 /// How many nodes there are, their links, the links that each state fails, the need of a demand from the first node to the
 /// last, and the state that separates it.
+#[derive(Drop)]
 struct Row {
     name: &'static str,
     nodes: u32,

@@ -1,12 +1,12 @@
 -- cut after cut, the first of greatest own bound
-use Rattle.std.proofs.Common.{◌≡◌, ℕ, ◌+◌, ◌<◌, ◌≤◌, ◌⊎◌, List, Some, length, slice_get, ⊎_elim, ap, arith, subst, sym}
+use Rattle.std.proofs.Common.{◌≡◌, ℕ, ◌+◌, ◌<◌, ◌≤◌, List, Some, length, slice_get, ⊎_elim, arith, subst, sym}
 use Rattle.std.proofs.lemmas.Bool.{cases_eq}
 use Rattle.std.proofs.lemmas.Option.{slice_get_within}
 use Rattle.net_core.specs.declared.network.Link.{Link}
 use Rattle.net_core.specs.declared.plan.CutLine.{CutLine}
 use Rattle.plan_terms.specs.OwnBounds.{IsBestOwn, IsOwnBound}
 use Rattle.master_bound.specs.declared.best.Best.{Best}
-use Rattle.master_bound.specs.inner.Bests.{IsBestBelow, IsBetter, IsNoBetter}
+use Rattle.master_bound.specs.inner.Bests.{IsBestBelow, IsBetter}
 
 same_cut : (cuts : List CutLine) (i : ℕ) (a b : CutLine) → slice_get cuts i ≡ Some a → slice_get cuts i ≡ Some b → a ≡ b
 same_cut cuts i a b first second = cc (first, second)

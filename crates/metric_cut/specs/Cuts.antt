@@ -1,5 +1,5 @@
 -- cuts of a state: lengths that it keeps, with their distances
-use Rattle.std.specs.Prelude.{◌≡◌, ℕ, ◌≤◌, length}
+use Rattle.std.specs.Prelude.{◌≡◌, ◌≤◌, length}
 use Rattle.net_core.specs.Graphs.{Graph, Joins}
 use Rattle.plan_terms.specs.Certificates.{AreKept}
 use Rattle.short_paths.specs.DistanceTables.{AreAllDistances}

@@ -1,83 +1,20 @@
-ghost use Rattle.std.specs.Prelude.{◌≡◌, IfOk, [], ◌∷◌, length};
-ghost use Rattle.net_core.specs.Demands.{AreDemands};
+ghost use Rattle.std.specs.Prelude.{◌≡◌, IfOk, length};
 
 use crate::{Cut, CutFault, CutLine, opening, own_bound, own_certificate, violated_by};
-use net_core::{
-    Caps, Copied, Demand, Demands, Lengths, Link, LinkId, List, Listed, Module, Name, Network,
-    NoMemory, NodeId, Notes, StateId, States,
-};
+use net_core::{Caps, Copied, Lengths, List, Network, NodeId, StateId, States};
 use std::alloc::Global;
 use std::test::Fail;
+use worked_networks::{LinkRow, ONE, TEN, demands, failing, network, triangle};
 
-const TEN: Module = Module {
-    capacity: 10000,
-    cost: 5000,
-};
+/// A triangle whose links cost the same.
+const ALIKE: [LinkRow; 3] = [(0, 1, 0, &TEN), (1, 2, 0, &TEN), (0, 2, 0, &TEN)];
 
-const ONE: Module = Module {
-    capacity: 1000,
-    cost: 1000,
-};
+/// A triangle whose first link costs half as much for its capacity as the others.
+const MIXED: [LinkRow; 3] = [(0, 1, 0, &TEN), (1, 2, 0, &ONE), (0, 2, 0, &ONE)];
 
-fn put<T: Drop>(items: &mut List<T>, item: T) -> Result<(), NoMemory> {
-    items.push(item)?;
-    Ok(())
-}
-
-fn link(alloc: Global, ends: (u32, u32), fixed: u64, module: Module) -> Result<Link, Fail> {
-    let name = [b'A' + ends.0 as u8 % 26, b'A' + ends.1 as u8 % 26];
-    Ok(Link {
-        name: Name::new(alloc, &name)?,
-        a: NodeId(ends.0),
-        b: NodeId(ends.1),
-        fixed,
-        setup: 0,
-        modules: List::from_slice(alloc, &[module])?,
-    })
-}
-
-fn sides(alloc: Global, fixed: u64, kinds: &[Module; 3]) -> Result<List<Link>, Fail> {
-    let mut links = List::new(alloc);
-    put(&mut links, link(alloc, (0, 1), fixed, kinds[0])?)?;
-    put(&mut links, link(alloc, (1, 2), fixed, kinds[1])?)?;
-    put(&mut links, link(alloc, (0, 2), fixed, kinds[2])?)?;
-    Ok(links)
-}
-
-/// The nodes A, B and C with the links AB, BC and AC, of a module each.
-fn triangle(alloc: Global, fixed: u64, kinds: &[Module; 3]) -> Result<Network, Fail>
-    ensures nodes { IfOk result (λ net. length net.nodes ≡ 3) }
-    ensures links { IfOk result (λ net. length net.links ≡ 3) }
-{
-    let mut nodes = List::new(alloc);
-    for name in [b"A", b"B", b"C"] {
-        put(&mut nodes, Name::new(alloc, name)?)?;
-    }
-    let notes = Notes {
-        fixed_cost: false,
-        routing_cost: false,
-        setup_cost: false,
-    };
-    let net = Network::check(nodes, sides(alloc, fixed, kinds)?, notes)?;
-    match (net.nodes().len(), net.links().len()) {
-        (3, 3) => Ok(net),
-        _ => Err(NoMemory)?,
-    }
-}
-
-/// States that fail AB, BC and AC alone, and one that fails them all.
+/// States that fail each link of a triangle alone, and one that fails them all.
 fn failures(alloc: Global, net: &Network) -> Result<States, Fail> {
-    let mut listed = List::new(alloc);
-    let rows: [&[u32]; 4] = [&[0], &[1], &[2], &[0, 1, 2]];
-    for (k, row) in rows.iter().enumerate() {
-        let mut links = List::new(alloc);
-        for e in *row {
-            put(&mut links, LinkId(*e))?;
-        }
-        let name = Name::new(alloc, &[b'a' + (k % 26) as u8])?;
-        put(&mut listed, Listed { name, links })?;
-    }
-    Ok(States::new(net, listed)?)
+    Ok(failing(alloc, net, &[&[0], &[1], &[2], &[0, 1, 2]])?)
 }
 
 fn three(alloc: Global, items: [u32; 3]) -> Result<Lengths, Fail>
@@ -86,31 +23,10 @@ fn three(alloc: Global, items: [u32; 3]) -> Result<Lengths, Fail>
     Ok(List::from_slice(alloc, &items)?)
 }
 
-fn alone(alloc: Global, demand: Demand) -> Result<Demands, NoMemory>
-    ensures { IfOk result (λ demands. demands ≡ demand ∷ []) }
-{
-    let mut demands = List::new(alloc);
-    demands.push(demand)?;
-    Ok(demands)
-}
-
-/// A demand from A to C, of 12.
-fn one_demand(alloc: Global) -> Result<Demands, Fail>
-    ensures { IfOk result (AreDemands 3) }
-{
-    let demand = Demand {
-        name: Name::new(alloc, b"D1")?,
-        from: NodeId(0),
-        to: NodeId(2),
-        need: 12000,
-    };
-    Ok(alone(alloc, demand)?)
-}
-
 #[test]
 fn lengths_are_kept(rt: HostRuntime) -> Result<(), Fail> {
     let alloc = rt.alloc();
-    let net = triangle(alloc, 0, &[TEN, TEN, TEN])?;
+    let net = triangle(alloc, 0)?;
     let states = failures(alloc, &net)?;
     for (state, given, want, apart) in [
         (0, [2, 4, 6], [1, 2, 3], 3),
@@ -129,7 +45,7 @@ fn lengths_are_kept(rt: HostRuntime) -> Result<(), Fail> {
 #[test]
 fn lengths_are_refused(rt: HostRuntime) -> Result<(), Fail> {
     let alloc = rt.alloc();
-    let net = triangle(alloc, 0, &[TEN, TEN, TEN])?;
+    let net = triangle(alloc, 0)?;
     let states = failures(alloc, &net)?;
     for (state, given, want) in [
         (0, [0, 0, 0], CutFault::ZeroLengths),
@@ -146,14 +62,24 @@ fn lengths_are_refused(rt: HostRuntime) -> Result<(), Fail> {
 #[test]
 fn bounds_of_the_unit_cut(rt: HostRuntime) -> Result<(), Fail> {
     let alloc = rt.alloc();
-    for (fixed, right, raw, bound) in [(0, 12000, 6000, 10000), (20000, 12000, 0, 0)] {
-        let net = triangle(alloc, fixed, &[TEN, TEN, TEN])?;
+    for (fixed, state, right, raw, bound) in [
+        (0, 0, 12000, 6000, 10000),
+        (0, 3, 24000, 12000, 15000),
+        (20000, 0, 12000, 0, 0),
+    ] {
+        let net = triangle(alloc, fixed)?;
         let states = failures(alloc, &net)?;
-        let cut = Cut::new(alloc, &net, &states, StateId(0), three(alloc, [1, 1, 1])?)?;
+        let cut = Cut::new(
+            alloc,
+            &net,
+            &states,
+            StateId(state),
+            three(alloc, [1, 1, 1])?,
+        )?;
         let line = CutLine {
             state: cut.state(),
             lengths: cut.lengths().copy()?,
-            right: cut.right(&one_demand(alloc)?),
+            right: cut.right(&demands(alloc, 3, &[(0, 2, 12000)])?),
         };
         let own = own_certificate(&net, &line);
         assert_eq!(rt; line.right, right);
@@ -190,8 +116,8 @@ fn capacities_that_are_too_small(rt: HostRuntime) -> Result<(), Fail> {
 }
 
 /// The lengths of the opening cuts of a state, one after another.
-fn opening_lengths(alloc: Global, kinds: &[Module; 3], state: u32) -> Result<List<u32>, Fail> {
-    let net = triangle(alloc, 0, kinds)?;
+fn opening_lengths(alloc: Global, rows: &[LinkRow; 3], state: u32) -> Result<List<u32>, Fail> {
+    let net = network(alloc, 3, rows)?;
     let states = failures(alloc, &net)?;
     let mut all = List::new(alloc);
     if state < states.count() {
@@ -205,17 +131,15 @@ fn opening_lengths(alloc: Global, kinds: &[Module; 3], state: u32) -> Result<Lis
 #[test]
 fn opening_cuts_of_a_state(rt: HostRuntime) -> Result<(), Fail> {
     let alloc = rt.alloc();
-    let alike = [TEN, TEN, TEN];
-    let mixed = [TEN, ONE, ONE];
-    for (kinds, state, want) in [
-        (&alike, 0, [1, 1, 1].as_slice()),
-        (&alike, 3, &[1, 1, 0]),
-        (&alike, 4, &[]),
-        (&mixed, 0, &[1, 1, 1, 1, 2, 2]),
-        (&mixed, 1, &[0, 1, 1]),
-        (&mixed, 2, &[1, 0, 1, 1, 0, 2]),
+    for (rows, state, want) in [
+        (&ALIKE, 0, [1, 1, 1].as_slice()),
+        (&ALIKE, 3, &[1, 1, 0]),
+        (&ALIKE, 4, &[]),
+        (&MIXED, 0, &[1, 1, 1, 1, 2, 2]),
+        (&MIXED, 1, &[0, 1, 1]),
+        (&MIXED, 2, &[1, 0, 1, 1, 0, 2]),
     ] {
-        assert_eq!(rt; opening_lengths(alloc, kinds, state)?.items(), want);
+        assert_eq!(rt; opening_lengths(alloc, rows, state)?.items(), want);
     }
     Ok(())
 }

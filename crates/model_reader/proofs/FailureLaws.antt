@@ -75,7 +75,7 @@ link_again links pairs w e is same =
 
 -- ---- a state's name
 
--- a name that may stand behind earlier states
+-- a name that may stand after earlier states
 abbrev IsNameBehind : List Listed → List ℕ → Type 0
 IsNameBehind sofar w = (length w ≤ 255) × (is_named (λ s. s.name) w sofar ≡ false) × (length sofar < 256)
 
@@ -96,7 +96,7 @@ name_again sofar w n is same = ap (λ (v : List ℕ). sound v (name_fault sofar 
 
 -- ---- states
 
--- a state that may stand behind earlier ones
+-- a state that may stand after earlier ones
 abbrev IsStateBehind : List Link → List Listed → Listed → Type 0
 IsStateBehind links sofar s = IsNameBehind sofar s.name × ((1 ≤ length s.links) × AreBehind (λ before e. IsLinkIn links e) [] s.links)
 
@@ -147,7 +147,7 @@ states_lawful : (links : List Link) → AreDifferent links → Lawful (states_at
 states_lawful links pairs = lawful_as (states_at links []) _ (λ xs. flat_map (state_items links) xs ++ Closing ∷ []) _ _ AnyText (λ xs h. refl) (λ xs h. are_states links xs h.1) (λ xs h. (refl, are_behind links xs h))
     (lawful_list Parenthesis no_fault (state_at links) (state_items links) (IsStateBehind links) (λ s. tt) (state_lawful links pairs))
 
--- the first word, and what comes behind it
+-- the first word, and what comes after it
 abbrev is_one_by_one : FailureList → Bool
 is_one_by_one (OneByOne listed) = true
 is_one_by_one EachAlone = false

@@ -45,7 +45,7 @@ first_passes p (x ∷ xs) k h =
     (λ (not_this : p x ≡ false). first_passes p xs k (sym (ap (λ (b : Bool). cond b (Some x) (first_key p xs)) not_this) ∙ h))
     (cases_Bool (p x))
 
--- ---- a key behind earlier settings
+-- ---- a key after earlier settings
 
 new_takes : (sofar : List Setting) (o : Option ModelKey) (k : ModelKey) → new_key sofar o ≡ Ok k → (o ≡ Some k) × (has_key sofar k ≡ false)
 new_takes sofar None k e = absurd cc

@@ -29,14 +29,14 @@ link_of links w = if nat_lt 255 (length w) then Err LimitName else known_or (lin
 abbrev pub links_at : List Link → List LinkId → Reading FailuresKind (List LinkId)
 links_at links sofar = list_at Parenthesis (not_empty Token) (λ before. word_at Token Ended (link_of links)) sofar
 
--- the fault of a word as a state's name behind earlier states
+-- the fault of a word as a state's name after earlier states
 abbrev pub name_fault : List Listed → List ℕ → Option FailuresKind
 name_fault sofar w =
     if nat_lt 255 (length w) then Some LimitName
     else (if is_named (λ s. s.name) w sofar then Some DoubleState
     else (if nat_lt (length sofar) 256 then None else Some LimitStates))
 
--- a state behind earlier ones: its name, and its links between parentheses
+-- a state after earlier ones: its name, and its links between parentheses
 unfoldable pub state_at : List Link → List Listed → Reading FailuresKind Listed
 state_at links sofar = do
   name ← word_at Token Ended (λ w. sound w (name_fault sofar w))
@@ -54,7 +54,7 @@ is_list w =
     if are_same w (codes "FAILURES") then Ok true
     else (if are_same w (codes "ALL_SINGLE_LINKS") then Ok false else Err Section)
 
--- what comes behind that word
+-- what comes after that word
 unfoldable pub behind_word : List Link → Bool → Reading FailuresKind FailureList
 behind_word links true = do
   _ ← open_at Section Ended
@@ -62,11 +62,11 @@ behind_word links true = do
   give (OneByOne listed)
 behind_word links false = give EachAlone
 
--- that word and what comes behind it
+-- that word and what comes after it
 abbrev pub failure_list_at : List Link → Reading FailuresKind FailureList
 failure_list_at links = word_at Section Ended is_list >>= behind_word links
 
--- all behind the header
+-- all after the header
 abbrev pub failures_at : List Link → Reading FailuresKind FailureList
 failures_at links = whole_at Section (failure_list_at links)
 

@@ -30,7 +30,7 @@ abbrev pub new_key : List Setting → Option ModelKey → Result ModelKey ModelK
 new_key sofar None = Err kinds.Key
 new_key sofar (Some k) = if has_key sofar k then Err kinds.DoubleKey else Ok k
 
--- a word as a key behind earlier settings
+-- a word as a key after earlier settings
 abbrev pub key_behind : List Setting → List ℕ → Result ModelKey ModelKind
 key_behind sofar w = new_key sofar (first_key (λ k. are_same (key_word k) w) all_keys)
 
@@ -41,7 +41,7 @@ value_of k w =
     else (if are_same (key_word k) (key_word aspects.Survivability) && are_same w reconfiguration_word
     then Ok Reconfiguration else Err (kinds.Unsupported k))
 
--- a key, the sign behind it, and its value
+-- a key, the sign after it, and its value
 unfoldable pub setting_at : List Setting → Reading ModelKind Setting
 setting_at sofar = do
   k ← word_at kinds.Token kinds.Ended (key_behind sofar)

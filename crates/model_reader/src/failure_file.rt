@@ -60,7 +60,7 @@ fn list(alloc: Global, links: &[Link], text: &mut Cursor) -> Result<FailureList,
     Ok(FailureList::OneByOne(listed))
 }
 
-/// Takes what the file says, behind which nothing is left.
+/// Takes what the file says, after which nothing is left.
 fn whole_list(
     alloc: Global,
     links: &[Link],

@@ -92,7 +92,7 @@ fn is_listed(name: &[u8], listed: &[Listed]) -> bool
     listed.iter().any(|state| state.name.bytes() == name)
 }
 
-/// What is wrong with a word as the name of a state behind these ones.
+/// What is wrong with a word as the name of a state after these ones.
 fn name_fault(listed: &[Listed], word: &[u8]) -> Option<FailuresKind>
     ensures { result ≡ name_fault listed.now word.now }
 {
@@ -108,7 +108,7 @@ fn name_fault(listed: &[Listed], word: &[u8]) -> Option<FailuresKind>
     None
 }
 
-/// The name that a word at a place is for a state behind these ones.
+/// The name that a word at a place is for a state after these ones.
 fn named(alloc: Global, listed: &[Listed], at: u64, word: &[u8]) -> Result<Name, FailuresRefusal>
     ensures { ReadsAs (λ n. n) result (EndAt at) (placed at (EndAt at) (sound word.now (name_fault listed.now word.now))) }
 {
@@ -121,7 +121,7 @@ fn named(alloc: Global, listed: &[Listed], at: u64, word: &[u8]) -> Result<Name,
     }
 }
 
-/// Takes the name of a state behind these ones.
+/// Takes the name of a state after these ones.
 fn name(alloc: Global, listed: &[Listed], text: &mut Cursor) -> Result<Name, FailuresRefusal>
     ensures { ReadsAs (λ n. n) result (left text.new) (word_at FailuresKind.Token FailuresKind.Ended (λ w. sound w (name_fault listed.now w)) (left text.old)) }
 {
@@ -132,7 +132,7 @@ fn name(alloc: Global, listed: &[Listed], text: &mut Cursor) -> Result<Name, Fai
     }
 }
 
-/// Takes a state behind these ones.
+/// Takes a state after these ones.
 #[tactic(auto, unfolding(crate::specs::FailuresReading::state_at))]
 fn state(
     alloc: Global,

@@ -6,7 +6,7 @@ use text_kit::Refusal;
 pub enum FailuresKind {
     /// The first line is another.
     Header,
-    /// Something else than a section's word, the parenthesis behind it, or the end.
+    /// Something else than a section's word, the parenthesis after it, or the end.
     Section,
     /// A word or a parenthesis where the other is expected, or a state without links.
     Token,

@@ -113,7 +113,7 @@ fn has_key(settings: &[Setting], key: ModelKey) -> bool
     settings.iter().any(|s| is_word_of(s.key(), key_word(key)))
 }
 
-/// A word as a key behind earlier settings.
+/// A word as a key after earlier settings.
 fn key_behind(sofar: &[Setting], word: &[u8]) -> Result<ModelKey, ModelKind>
     ensures { result ≡ key_behind sofar.now word.now }
 {
@@ -161,7 +161,7 @@ fn value(key: ModelKey, text: &mut Cursor) -> Result<Setting, ModelRefusal>
     }
 }
 
-/// Takes a setting behind earlier ones.
+/// Takes a setting after earlier ones.
 #[tactic(auto, unfolding(crate::specs::ModelReading::setting_at))]
 fn setting(sofar: &[Setting], text: &mut Cursor) -> Result<Setting, ModelRefusal>
     ensures { ReadsAs (λ s. s) result (left text.new) (setting_at sofar.now (left text.old)) }
@@ -183,7 +183,7 @@ fn first_missing(keys: &[ModelKey], settings: &[Setting]) -> Option<ModelKey>
     None
 }
 
-/// The fault of settings behind which the file ends.
+/// The fault of settings after which the file ends.
 fn missing(settings: &[Setting]) -> Option<ModelKind>
     ensures { result ≡ missing settings.now }
 {

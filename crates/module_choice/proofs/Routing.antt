@@ -11,7 +11,7 @@ use Rattle.net_core.specs.declared.ids.LinkId.{LinkId}
 use Rattle.net_core.specs.declared.plan.Flow.{Flow}
 use Rattle.plan_terms.specs.Fallbacks.{IsLeastFlow, IsLeastRouting}
 use Rattle.plan_terms.specs.LeastPaths.{IsLeastPath}
-use Rattle.module_choice.specs.inner.Routes.{AreLeastFlows, Takes}
+use Rattle.module_choice.specs.inner.Routes.{AreLeastFlows, TakesDemand}
 
 any_before : {X : Type 0} (P : X → Type 0) (xs : List X) (x : X) → Any P xs → Any P (xs ++ x ∷ [])
 any_before P xs x a = (a.0, a.1, omega (arith, a.2, length-append xs (x ∷ [])), get_or_append_left xs (x ∷ []) a.1 a.0 a.2 ∙ a.3, a.4)
@@ -67,7 +67,7 @@ module _ (joins : ℕ → ℕ → ℕ → Type 0) (lengths : List ℕ) (demands 
       }
 
   -- a demand that was taken
-  pub flows_taken : (k : ℕ) (flows new : List Flow) (d : Demand) → slice_get demands k ≡ Some d → Takes joins lengths d k flows new → AreLeastFlows joins lengths demands k flows → AreLeastFlows joins lengths demands (k + 1) new
+  pub flows_taken : (k : ℕ) (flows new : List Flow) (d : Demand) → slice_get demands k ≡ Some d → TakesDemand joins lengths d k flows new → AreLeastFlows joins lengths demands k flows → AreLeastFlows joins lengths demands (k + 1) new
   flows_taken k flows new d at taken r = ⊎_elim
       (λ none. subst (AreLeastFlows joins lengths demands (k + 1)) (sym none.1) (flows_skip k flows d at none.0 r))
       (λ more. subst (AreLeastFlows joins lengths demands (k + 1)) (sym more.3) (flows_more k flows d more.1 _ at more.0 more.2 refl r))

@@ -8,7 +8,7 @@ ghost use Rattle.plan_terms.specs.Fallbacks.{IsLeastRouting};
 ghost use Rattle.plan_terms.specs.LeastPaths.{IsLeastPath};
 ghost use Rattle.plan_terms.specs.Paths.{AreApart};
 ghost use Rattle.plan_terms.specs.Separations.{IsSurvivable};
-ghost use Rattle.module_choice.specs.inner.Routes.{AreLeastFlows, Takes};
+ghost use Rattle.module_choice.specs.inner.Routes.{AreLeastFlows, TakesDemand};
 
 use net_core::{
     Demand, Flow, Instance, Lengths, List, NoMemory, NodeId, Path, Routing, StateId, Surviving,
@@ -52,7 +52,7 @@ fn take_demand(
     requires from { d.now.from.0 < length paths.now.graph.net.now.nodes }
     requires to { d.now.to.0 < length paths.now.graph.net.now.nodes }
     requires joined { let g = graph_of paths.now.graph in 0 < d.now.need → AreApart (Joins g) d.now.from.0 d.now.to.0 → ⊥ }
-    ensures { let g = graph_of paths.now.graph in OnOk result (Takes (Joins g) paths.now.lengths d.now k flows.old flows.new) }
+    ensures { let g = graph_of paths.now.graph in OnOk result (TakesDemand (Joins g) paths.now.lengths d.now k flows.old flows.new) }
 {
     if d.need == 0 {
         return Ok(());

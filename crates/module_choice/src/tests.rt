@@ -1,16 +1,15 @@
-ghost use Rattle.std.specs.Prelude.{◌≡◌, ◌<◌, ◌≤◌, ◌^◌, ◌++◌, [], ◌∷◌, IfOk, OnOk};
-ghost use Rattle.net_core.specs.Demands.{AreDemands};
+ghost use Rattle.std.specs.Prelude.{◌≡◌, ◌<◌, ◌^◌, IfOk, IsTrue};
+ghost use Rattle.net_core.specs.Views.{case};
+ghost use Rattle.plan_terms.specs.Separations.{IsSurvivable};
 
 use crate::{capacities, cost, cover, fallback_plan};
 use failure_states::first_separated;
-use net_core::{
-    Counts, Demand, Demands, Link, LinkId, List, Listed, Module, Name, Network, NoMemory, NodeId,
-    Notes, States,
-};
+use net_core::{Counts, Link, List, Module, Name, NoMemory, NodeId, Problem};
 use std::alloc::Global;
 use std::test::Fail;
+use worked_networks::{DemandRow, LinkRow, ONE, PARALLEL, network, problem, triangle};
 
-/// Modules of 155.000 for 100.000 and of 622.000 for 250.000.
+/// Modules of 155.00 for 100.00 and of 622.00 for 250.00.
 const TWO_KINDS: [Module; 2] = [
     Module {
         capacity: 155000,
@@ -22,142 +21,25 @@ const TWO_KINDS: [Module; 2] = [
     },
 ];
 
-/// A module of 10.000 for 5.000.
-const TEN: [Module; 1] = [Module {
-    capacity: 10000,
-    cost: 5000,
-}];
-
-/// A module of 1.000 for 1.000.
-const ONE: [Module; 1] = [Module {
-    capacity: 1000,
-    cost: 1000,
-}];
-
-/// A module of 10.000 that costs nothing.
-const FREE: [Module; 1] = [Module {
-    capacity: 10000,
-    cost: 0,
-}];
-
-fn put<T: Drop>(items: &mut List<T>, item: T) -> Result<(), NoMemory>
-    ensures { OnOk result (items.new ≡ items.old ++ item ∷ []) }
-{
-    items.push(item)?;
-    Ok(())
-}
-
-fn link(
-    alloc: Global,
-    name: u8,
-    ends: (u32, u32),
-    fixed: u64,
-    modules: &[Module],
-) -> Result<Link, Fail>
-    ensures { IfOk result (λ l. l.modules ≡ modules.now) }
+/// A link of the two kinds of module.
+fn link(alloc: Global) -> Result<Link, Fail>
+    ensures { IfOk result (λ l. l.modules ≡ TWO_KINDS) }
 {
     Ok(Link {
-        name: Name::new(alloc, &[name])?,
-        a: NodeId(ends.0),
-        b: NodeId(ends.1),
-        fixed,
+        name: Name::new(alloc, b"L")?,
+        a: NodeId(0),
+        b: NodeId(1),
+        fixed: 0,
         setup: 0,
-        modules: List::from_slice(alloc, modules)?,
+        modules: List::from_slice(alloc, &TWO_KINDS)?,
     })
-}
-
-/// A network of nodes A, B and so on, with one link for each pair of ends, all alike.
-fn network(
-    alloc: Global,
-    nodes: u8,
-    ends: &[(u32, u32)],
-    fixed: u64,
-    modules: &[Module],
-) -> Result<Network, Fail>
-    requires { nodes < 26 }
-{
-    let mut links = List::new(alloc);
-    let mut name = b'0';
-    for pair in ends {
-        put(&mut links, link(alloc, name, *pair, fixed, modules)?)?;
-        name = name.wrapping_add(1);
-    }
-    joined(alloc, nodes, links)
-}
-
-/// A network of nodes A, B and so on, and these links.
-fn joined(alloc: Global, nodes: u8, links: List<Link>) -> Result<Network, Fail>
-    requires { nodes < 26 }
-{
-    let mut names = List::new(alloc);
-    for n in 0..nodes {
-        put(&mut names, Name::new(alloc, &[b'A' + n])?)?;
-    }
-    let notes = Notes {
-        fixed_cost: false,
-        routing_cost: false,
-        setup_cost: false,
-    };
-    Ok(Network::check(names, links, notes)?)
-}
-
-/// Each link fails alone.
-fn single_links(alloc: Global, net: &Network) -> Result<States, Fail> {
-    let mut listed = List::new(alloc);
-    let mut name = b'0';
-    for e in 0..net.links().len() {
-        let mut links = List::new(alloc);
-        put(&mut links, LinkId(e as u32))?;
-        put(
-            &mut listed,
-            Listed {
-                name: Name::new(alloc, &[name])?,
-                links,
-            },
-        )?;
-        name = name.wrapping_add(1);
-    }
-    Ok(States::new(net, listed)?)
-}
-
-fn demand(alloc: Global, name: &[u8], from: u32, to: u32, need: u64) -> Result<Demand, Fail>
-    ensures { IfOk result (λ d. (d.name ≡ name.now) × (d.from.0 ≡ from) × (d.to.0 ≡ to) × (d.need ≡ need)) }
-{
-    Ok(Demand {
-        name: Name::new(alloc, name)?,
-        from: NodeId(from),
-        to: NodeId(to),
-        need,
-    })
-}
-
-/// One demand from the first node to the last.
-fn one_demand(alloc: Global, nodes: u32, need: u64) -> Result<Demands, Fail>
-    requires nodes { 2 ≤ nodes }
-    requires need { need < 2 ^ 40 }
-    ensures { IfOk result (AreDemands nodes) }
-{
-    let mut demands = List::new(alloc);
-    put(&mut demands, demand(alloc, b"D1", 0, nodes - 1, need)?)?;
-    Ok(demands)
-}
-
-/// Demands of 60 between the first two of four nodes, 80 between the first and the last, and 40 between the others.
-fn three_demands(alloc: Global) -> Result<Demands, Fail>
-    ensures { IfOk result (AreDemands 4) }
-{
-    let mut demands = List::new(alloc);
-    put(&mut demands, demand(alloc, b"D1", 0, 1, 60000)?)?;
-    put(&mut demands, demand(alloc, b"D2", 0, 3, 80000)?)?;
-    put(&mut demands, demand(alloc, b"D3", 1, 2, 40000)?)?;
-    Ok(demands)
 }
 
 /// The counts that cover a need by two kinds of module, and their cost.
 fn two_kinds(alloc: Global, need: u64) -> Result<(u64, u64, u128), Fail>
     requires { need < 2 ^ 44 }
 {
-    let link = link(alloc, b'L', (0, 1), 0, &TWO_KINDS)?;
+    let link = link(alloc)?;
     let covering = cover(alloc, &link, need)?;
     let counts = covering.counts.items();
     Ok((counts[0], counts[1], covering.cost))
@@ -175,7 +57,7 @@ fn covers(rt: HostRuntime) -> Result<(), Fail> {
         (700000, (5, 0, 500000)),
         (900000, (0, 2, 500000)),
     ] {
-        assert_eq!(rt; two_kinds(rt.alloc(), need)?, want);
+        assert_eq!(rt; two_kinds(rt.alloc(), need)?, want, "{need}");
     }
     Ok(())
 }
@@ -189,6 +71,16 @@ fn flat(alloc: Global, counts: &Counts) -> Result<List<u64>, NoMemory> {
     Ok(all)
 }
 
+/// Whether no state separates a demand.
+fn is_survivable(alloc: Global, p: &Problem) -> Result<bool, NoMemory>
+    ensures { IfOk result (λ joined. IsTrue joined → IsSurvivable (case p.now.net p.now.states p.now.demands)) }
+{
+    match first_separated(alloc, &p.net, &p.states, &p.demands)? {
+        None => Ok(true),
+        Some(_) => Ok(false),
+    }
+}
+
 #[test]
 fn fallback_of_the_triangle(rt: HostRuntime) -> Result<(), Fail> {
     let alloc = rt.alloc();
@@ -197,51 +89,73 @@ fn fallback_of_the_triangle(rt: HostRuntime) -> Result<(), Fail> {
         (2000, 1, 15000, 12000),
         (12000, 0, 0, 12000),
     ] {
-        let net = network(alloc, 3, &[(0, 1), (1, 2), (0, 2)], fixed, &TEN)?;
-        let states = single_links(alloc, &net)?;
-        let demands = one_demand(alloc, 3, 12000)?;
-        assert!(rt; net.nodes().len() == 3);
-        assert!(rt; first_separated(alloc, &net, &states, &demands)?.is_none());
-        let plan = fallback_plan(alloc, &net, &states, &demands)?;
+        let p = problem(alloc, triangle(alloc, fixed)?, &[(0, 2, 12000)])?;
+        assert!(rt; is_survivable(alloc, &p)?);
+        let plan = fallback_plan(alloc, &p.net, &p.states, &p.demands)?;
         assert_eq!(rt; flat(alloc, &plan.counts)?.items(), [counts; 3].as_slice());
         assert_eq!(rt; plan.cost, price);
-        assert_eq!(rt; cost(&net, &plan.counts), price);
-        let caps = capacities(alloc, &net, &plan.counts)?;
+        assert_eq!(rt; cost(&p.net, &plan.counts), price);
+        let caps = capacities(alloc, &p.net, &plan.counts)?;
         assert_eq!(rt; caps.scale, 1);
         assert_eq!(rt; caps.nums.items(), [capacity; 3].as_slice());
     }
     Ok(())
 }
 
-#[test]
-fn fallback_of_parallel_links(rt: HostRuntime) -> Result<(), Fail> {
-    let alloc = rt.alloc();
-    let net = network(alloc, 2, &[(0, 1), (0, 1), (0, 1)], 0, &ONE)?;
-    let states = single_links(alloc, &net)?;
-    let demands = one_demand(alloc, 2, 10000)?;
-    assert!(rt; net.nodes().len() == 2);
-    assert!(rt; first_separated(alloc, &net, &states, &demands)?.is_none());
-    let plan = fallback_plan(alloc, &net, &states, &demands)?;
-    assert_eq!(rt; flat(alloc, &plan.counts)?.items(), [10, 10, 0].as_slice());
-    assert_eq!(rt; plan.cost, 20000);
-    Ok(())
-}
+/// A ring of four nodes and one chord, of modules of 1.00 for 1.00.
+const RING_OF_ONES: [LinkRow; 5] = [
+    (0, 1, 0, &ONE),
+    (1, 3, 0, &ONE),
+    (3, 2, 0, &ONE),
+    (2, 0, 0, &ONE),
+    (0, 3, 0, &ONE),
+];
 
-/// With modules of 1.000 the counts are the greatest loads.
+/// The same of two kinds of module.
+const RING_OF_TWO_KINDS: [LinkRow; 5] = [
+    (0, 1, 0, &TWO_KINDS),
+    (1, 3, 0, &TWO_KINDS),
+    (3, 2, 0, &TWO_KINDS),
+    (2, 0, 0, &TWO_KINDS),
+    (0, 3, 0, &TWO_KINDS),
+];
+
+const THREE_DEMANDS: [DemandRow; 3] = [(0, 1, 60000), (0, 3, 80000), (1, 2, 40000)];
+
+/// Nodes, links, demands, and what the fallback plan must have: counts and cost.
+type FallbackRow<'r> = (
+    usize,
+    &'r [LinkRow<'static>],
+    &'r [DemandRow],
+    &'r [u64],
+    u128,
+);
+
+/// With modules of 1.00 the counts are the greatest loads.
 #[test]
-fn fallback_of_four_nodes(rt: HostRuntime) -> Result<(), Fail> {
+fn fallback_plans(rt: HostRuntime) -> Result<(), Fail> {
     let alloc = rt.alloc();
-    let ends = [(0, 1), (1, 3), (3, 2), (2, 0), (0, 3)];
-    let demands = three_demands(alloc)?;
-    for (modules, counts, price) in [
-        (ONE.as_slice(), [180, 100, 40, 40, 140].as_slice(), 500000),
-        (&TWO_KINDS, &[2, 0, 1, 0, 1, 0, 1, 0, 1, 0], 600000),
-    ] {
-        let net = network(alloc, 4, &ends, 0, modules)?;
-        let states = single_links(alloc, &net)?;
-        assert!(rt; net.nodes().len() == 4);
-        assert!(rt; first_separated(alloc, &net, &states, &demands)?.is_none());
-        let plan = fallback_plan(alloc, &net, &states, &demands)?;
+    let rows: [FallbackRow; 3] = [
+        (2, &PARALLEL[..3], &[(0, 1, 10000)], &[10, 10, 0], 20000),
+        (
+            4,
+            &RING_OF_ONES,
+            &THREE_DEMANDS,
+            &[180, 100, 40, 40, 140],
+            500000,
+        ),
+        (
+            4,
+            &RING_OF_TWO_KINDS,
+            &THREE_DEMANDS,
+            &[2, 0, 1, 0, 1, 0, 1, 0, 1, 0],
+            600000,
+        ),
+    ];
+    for (nodes, links, demands, counts, price) in rows {
+        let p = problem(alloc, network(alloc, nodes, links)?, demands)?;
+        assert!(rt; is_survivable(alloc, &p)?);
+        let plan = fallback_plan(alloc, &p.net, &p.states, &p.demands)?;
         assert_eq!(rt; flat(alloc, &plan.counts)?.items(), counts);
         assert_eq!(rt; plan.cost, price);
     }

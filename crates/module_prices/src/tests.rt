@@ -1,15 +1,10 @@
-ghost use Rattle.std.specs.Prelude.{◌≡◌, All, IfOk};
-ghost use Rattle.net_core.specs.Network.{IsModule};
+ghost use Rattle.std.specs.Prelude.{◌≡◌, IfOk};
 
 use crate::{UnitPair, bound_of, price_lengths, unit_pair};
-use net_core::{Link, List, Module, Name, Network, NoMemory, NodeId, Notes};
+use net_core::{Link, List, Module, Name, NodeId};
 use std::alloc::Global;
 use std::test::Fail;
-
-const TEN: Module = Module {
-    capacity: 10000,
-    cost: 5000,
-};
+use worked_networks::{ONE, TEN, network};
 
 const SMALL: Module = Module {
     capacity: 155000,
@@ -21,50 +16,23 @@ const LARGE: Module = Module {
     cost: 250000,
 };
 
-const ONE: Module = Module {
-    capacity: 1000,
-    cost: 1000,
-};
-
 const FREE: Module = Module {
     capacity: 10000,
     cost: 0,
 };
 
-fn put<T: Drop>(items: &mut List<T>, item: T) -> Result<(), NoMemory> {
-    items.push(item)?;
-    Ok(())
-}
-
-fn link(alloc: Global, name: u8, modules: &[Module]) -> Result<Link, Fail>
+/// A link with these modules.
+fn link(alloc: Global, modules: &[Module]) -> Result<Link, Fail>
     ensures { IfOk result (λ l. l.modules ≡ modules.now) }
 {
     Ok(Link {
-        name: Name::new(alloc, &[name])?,
+        name: Name::new(alloc, b"L")?,
         a: NodeId(0),
         b: NodeId(1),
         fixed: 0,
         setup: 0,
         modules: List::from_slice(alloc, modules)?,
     })
-}
-
-/// Two nodes, with a link for each list of modules.
-fn parallel(alloc: Global, links: &[&[Module]]) -> Result<Network, Fail> {
-    let mut all = List::new(alloc);
-    for modules in links {
-        let name = b'0' + (all.len() % 10) as u8;
-        put(&mut all, link(alloc, name, modules)?)?;
-    }
-    let mut nodes = List::new(alloc);
-    put(&mut nodes, Name::new(alloc, b"A")?)?;
-    put(&mut nodes, Name::new(alloc, b"B")?)?;
-    let notes = Notes {
-        fixed_cost: false,
-        routing_cost: false,
-        setup_cost: false,
-    };
-    Ok(Network::check(nodes, all, notes)?)
 }
 
 fn pair(capacity: u64, cost: u64) -> Option<UnitPair> {
@@ -74,7 +42,7 @@ fn pair(capacity: u64, cost: u64) -> Option<UnitPair> {
 #[test]
 fn unit_pairs(rt: HostRuntime) -> Result<(), Fail> {
     assert_eq!(rt; unit_pair(&[SMALL, LARGE]), pair(311, 125));
-    assert_eq!(rt; unit_pair(&[ONE, TEN]), pair(2, 1));
+    assert_eq!(rt; unit_pair(&[ONE[0], TEN[0]]), pair(2, 1));
     assert_eq!(rt; unit_pair(&[FREE]), pair(1, 0));
     assert_eq!(rt; unit_pair(&[]), None);
     Ok(())
@@ -85,15 +53,21 @@ fn sixteenths_of_the_dearest_link(rt: HostRuntime) -> Result<(), Fail> {
     let alloc = rt.alloc();
     let none: &[Module] = &[];
     let free: &[Module] = &[FREE];
-    let one: &[Module] = &[ONE];
-    let ten: &[Module] = &[TEN];
     let two: &[Module] = &[SMALL, LARGE];
     for (links, want) in [
-        ([ten, two, none], [16, 12, 0]),
-        ([two, one, free], [6, 16, 0]),
+        ([&TEN, two, none], [16, 12, 0]),
+        ([two, &ONE, free], [6, 16, 0]),
         ([free, free, none], [0, 0, 0]),
     ] {
-        let net = parallel(alloc, &links)?;
+        let net = network(
+            alloc,
+            2,
+            &[
+                (0, 1, 0, links[0]),
+                (0, 1, 0, links[1]),
+                (0, 1, 0, links[2]),
+            ],
+        )?;
         assert_eq!(rt; price_lengths(alloc, &net)?.items(), want.as_slice());
     }
     Ok(())
@@ -102,8 +76,8 @@ fn sixteenths_of_the_dearest_link(rt: HostRuntime) -> Result<(), Fail> {
 #[test]
 fn bounds_are_multiples(rt: HostRuntime) -> Result<(), Fail> {
     let alloc = rt.alloc();
-    let kinds = [link(alloc, b'0', &[SMALL, LARGE])?];
-    let free = [link(alloc, b'0', &[FREE])?];
+    let kinds = [link(alloc, &[SMALL, LARGE])?];
+    let free = [link(alloc, &[FREE])?];
     for (raw, den, want) in [
         (0, 1, 0),
         (1, 7, 50000),

@@ -1,6 +1,6 @@
 -- rows combined by factors that have a common divisor, and without it
-use Rattle.std.proofs.Common.{◌≡◌, ℕ, ◌<◌, ◌^◌, List, length, None, pos, sym, ap, ◌∙◌, subst, arith}
-use Rattle.std.proofs.Math.IntN.{ℤ, ◌-ℤ◌, ◌*ℤ◌}
+use Rattle.std.proofs.Common.{◌≡◌, ℕ, ◌<◌, ◌^◌, List, length, None, pos, sym, ◌∙◌, subst, arith}
+use Rattle.std.proofs.Math.IntN.{ℤ, ◌*ℤ◌}
 use Rattle.std.specs.Int.Signed.{◌<ℤ◌}
 use Rattle.checked_fraction.specs.Rows.{num, IsReduced}
 use Rattle.checked_fraction.specs.Mixed.{combined}

@@ -9,8 +9,8 @@ use Rattle.simplex_law.specs.Programs.{ColumnOf, IsSlack, slack_basis, IsProgram
 use Rattle.simplex_law.specs.Bases.{Gains}
 use Rattle.simplex_law.specs.Optima.{IsOptimum, IsGreatestGain}
 use Rattle.simplex_law.proofs.Tableaux.{IsTableau}
-use Rattle.simplex_law.proofs.Arithmetic.{moved_out, le_times, times_nonneg, le_cancel}
-use Rattle.simplex_law.proofs.Sums.{sum-same, dot-unit}
+use Rattle.simplex_law.proofs.Arithmetic.{moved_out, le_times, le_cancel}
+use Rattle.simplex_law.proofs.Sums.{dot-unit}
 use Rattle.simplex_law.proofs.Duality.{packing_duality, equal_value}
 use Rattle.simplex_law.proofs.Filling.{filled_over}
 use Rattle.simplex_law.proofs.Values.{values_nonneg}

@@ -4,7 +4,7 @@ use Rattle.std.proofs.Math.Nat.{pow-suc, mul-le-mul_left, pow-le-pow_right}
 use Rattle.snd_tokens.specs.Digits.{number_of, number_behind}
 use Rattle.snd_tokens.specs.Amounts.{first_places}
 
--- the first of the digits goes behind the number
+-- the first of the digits goes after the number
 cons : (n b : ℕ) (bytes : List ℕ) → number_behind n (b ∷ bytes) ≡ number_behind (n * 10 + (b - 48)) bytes
 cons n b bytes =
     let p : ℕ = 10 ^ length bytes in

@@ -59,7 +59,7 @@ with_point word point first some whole places =
       },
     )
 
--- a word with something else than digits behind its point
+-- a word with something else than digits after its point
 pub bad_places : (word : List ℕ) (point : ℕ) → point ≡ position_or_len is_point word → point < length word → are_digits (take (length word - (point + 1)) (drop (point + 1) word)) ≡ false → IsTrue (is_decimal word) → ⊥
 bad_places word point first some places d =
     let behind : take (length word - (point + 1)) (drop (point + 1) word) ≡ places_of word = take_rest word (point + 1) ∙ ap (λ n. drop (n + 1) word) first in

@@ -31,7 +31,7 @@ extent_within b bytes =
 drop-at : (at : ℕ) (bytes : List ℕ) → at < length bytes → drop at bytes ≡ get_or bytes at 0 ∷ drop (at + 1) bytes
 drop-at at bytes h = rw (add-one) (drop-cons bytes at 0 h)
 
--- what the byte at a place begins, and then the tokens behind it
+-- what the byte at a place begins, and then the tokens after it
 pub tokens_from-step : (at : ℕ) (bytes : List ℕ) (b : ℕ) → at < length bytes → get_or bytes at 0 ≡ b → tokens_from at bytes ≡ begun at b (drop (at + 1) bytes) ++ tokens_from (at + 1 + extent b (drop (at + 1) bytes)) bytes
 unfolding tokens_from
 tokens_from-step at bytes b h e =

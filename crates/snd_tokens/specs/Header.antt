@@ -18,6 +18,6 @@ trimmed line = take (length line - suffix_len is_blank line) line
 abbrev pub HasHeader : List ℕ → List ℕ → Type 0
 HasHeader bytes header = trimmed (first_line bytes) ≡ header
 
--- the place behind the first line and its line feed, or the end
+-- the place after the first line and its line feed, or the end
 abbrev pub second_line : List ℕ → ℕ
 second_line bytes = min (length (first_line bytes) + 1) (length bytes)

@@ -51,7 +51,7 @@ left c = text_from c.at c.bytes.now
 abbrev pub size : Text → ℕ
 size text = length (lexemes text)
 
--- what comes next in a text, and what is behind it
+-- what comes next in a text, and what is after it
 abbrev pub IsNext : Next → Text → Text → Type 0
 IsNext (next.Word at w) text rest = (text ≡ WordAt at w.now rest) × (1 ≤ length w.now) × IsTrue (is_plain w.now)
 IsNext (next.Open at) text rest = text ≡ OpenAt at rest

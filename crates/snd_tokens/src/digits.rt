@@ -21,7 +21,7 @@ pub fn are_digits(bytes: &[u8]) -> bool
     !bytes.is_empty() && all_digits(bytes)
 }
 
-/// The number with one more digit behind it, or None where that reaches the limit.
+/// The number with one more digit after it, or None where that reaches the limit.
 fn with_digit(number: u128, digit: u8, limit: u128) -> Option<u128>
     requires { 48 ≤ digit }
     ensures { MatchOption result (limit ≤ number * 10 + (digit - 48))
@@ -33,7 +33,7 @@ fn with_digit(number: u128, digit: u8, limit: u128) -> Option<u128>
     if next < limit { Some(next) } else { None }
 }
 
-/// The number with these digits behind it, or None where that reaches the limit.
+/// The number with these digits after it, or None where that reaches the limit.
 pub(crate) fn number_below(number: u128, digits: &[u8], limit: u128) -> Option<u128>
     requires digits { IsTrue (list_all is_digit digits.now) }
     requires below { number < limit }

@@ -20,7 +20,7 @@ fn trimmed(line: &[u8]) -> &[u8]
     &line[..end]
 }
 
-/// The place behind the first line, where that line is the header. The header is given without its
+/// The place after the first line, where that line is the header. The header is given without its
 /// line feed and without blanks at its end.
 pub fn after_header(bytes: &[u8], line: &[u8]) -> Option<u64>
     ensures value { MatchOption result (HasHeader bytes.now line.now → ⊥)

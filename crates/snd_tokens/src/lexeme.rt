@@ -17,7 +17,7 @@ pub enum Next<'a> {
     End(u64),
 }
 
-/// What comes next at a place, and the place behind it.
+/// What comes next at a place, and the place after it.
 #[tactic(auto, unfolding(crate::specs::Lexemes::text_from))]
 fn next_from(bytes: &[u8], from: u64) -> (Next<'_>, u64)
     requires { from ≤ length bytes.now }

@@ -83,7 +83,7 @@ begun_is at b =
     ] refl
 
 module _ (whole : List ℕ) (p limit : ℕ) where
-  -- no lexeme at the limit or behind it ends before it
+  -- no lexeme at the limit or after it ends before it
   late : (skip at : ℕ) (bytes : List ℕ) → limit ≤ at + skip → EndsBefore p limit (text_of whole (tokens_past skip at bytes)) → ⊥
   late skip at [] le ends = ends
   late (suc n) at (b ∷ bytes) le ends = late n (at + 1) bytes (omega (arith, le)) ends

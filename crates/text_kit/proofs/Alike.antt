@@ -1,4 +1,4 @@
--- Texts that begin alike, by how many lexemes, and texts whose lexemes stand one behind another.
+-- Texts that begin alike, by how many lexemes, and texts whose lexemes stand one after another.
 use Rattle.std.proofs.Common.{◌≡◌, ◌≢◌, ℕ, zero, suc, ◌<◌, ◌≤◌, refl, sym, ap, arith}
 use Rattle.snd_tokens.specs.Lexemes.{Text, WordAt, OpenAt, CloseAt, EndAt, size}
 use Rattle.text_kit.specs.Places.{place}
@@ -11,7 +11,7 @@ Same (suc n) (OpenAt p t) u = (v : Text) × (u ≡ OpenAt p v) × Same n t v
 Same (suc n) (CloseAt p t) u = (v : Text) × (u ≡ CloseAt p v) × Same n t v
 Same (suc n) (EndAt p) u = u ≡ EndAt p
 
--- the text behind n lexemes
+-- the text after n lexemes
 abbrev pub past : ℕ → Text → Text
 past zero t = t
 past (suc n) (WordAt p w t) = past n t
@@ -66,7 +66,7 @@ AgreeThrough at (OpenAt p text) other = (more : Text) × (other ≡ OpenAt p mor
 AgreeThrough at (CloseAt p text) other = (more : Text) × (other ≡ CloseAt p more) × (p ≢ at → AgreeThrough at text more)
 AgreeThrough at (EndAt p) other = other ≡ EndAt p
 
--- each lexeme stands behind the one before it
+-- each lexeme stands after the one before it
 abbrev pub Rises : Text → Type 0
 Rises (WordAt p w text) = (p < place text) × Rises text
 Rises (OpenAt p text) = (p < place text) × Rises text

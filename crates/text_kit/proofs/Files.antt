@@ -27,7 +27,7 @@ use Rattle.text_kit.proofs.Written.{written_begins}
 
 -- ---- first lines
 
--- a lexeme that ends before a limit stands at the beginning of the text or behind it, and before the limit
+-- a lexeme that ends before a limit stands at the beginning of the text or after it, and before the limit
 before_limit : (from at limit : ℕ) (t : Text) → RisesFrom from t → EndsBefore at limit t → (from ≤ at) × (from < limit)
 before_limit from at limit (WordAt p w t) r e = ⊎_elim (λ same. (omega (arith, r.1, same), omega (arith, r.1, e.0 same))) (λ other. let h = before_limit p at limit t (r.0.1, omega (arith, r.0.0)) (e.1 other) in (omega (arith, r.1, h.0), omega (arith, r.1, h.1))) (cases_eq p at)
 before_limit from at limit (OpenAt p t) r e = ⊎_elim (λ same. (omega (arith, r.1, same), omega (arith, r.1, e.0 same))) (λ other. let h = before_limit p at limit t (r.0.1, omega (arith, r.0.0)) (e.1 other) in (omega (arith, r.1, h.0), omega (arith, r.1, h.1))) (cases_eq p at)
@@ -40,7 +40,7 @@ body_rises bytes = file_rises (second_line bytes) bytes (omega arith)
 abbrev line_size : List ℕ → ℕ
 line_size bytes = position_or_len (λ b. b == 10) bytes
 
--- nothing stands behind a first line without a line feed
+-- nothing stands after a first line without a line feed
 at_last : (bytes : List ℕ) (at n : ℕ) → second_line bytes ≡ length bytes → EndsBefore at n (body bytes) → ⊥
 unfolding text_from
 at_last bytes at n e ends =

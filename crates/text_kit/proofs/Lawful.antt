@@ -23,7 +23,7 @@ pub record Lawful {K X : Type 0} (r : Reading K X) (items : X → List Item) (is
   pub takes : (text : Text) (x : X) (rest : Text) → r text ≡ Ok (x, rest) → is x × Begins (items x) text rest × IsLeft rest
   pub again : (text : Text) (x : X) (rest : Text) → is x → Begins (items x) text rest → IsLeft rest → r text ≡ Ok (x, rest)
 
--- items behind items
+-- items after items
 begins_both : (a b : List Item) (text mid rest : Text) → Begins a text mid → Begins b mid rest → Begins (a ++ b) text rest
 begins_both [] b text mid rest p q = subst (λ t. Begins b t rest) (sym p) q
 begins_both (i ∷ a) b (WordAt at w text) mid rest p q = (p.0, begins_both a b text mid rest p.1 q)
@@ -95,7 +95,7 @@ end_takes other x y (OpenAt at t) rest e = absurd cc
 end_takes other x y (CloseAt at t) rest e = absurd cc
 end_takes {K} other x y (EndAt at) rest e = let p = ok_parts {K = K} x y (EndAt at) rest e in (p.0, p.1, (at, sym p.1))
 
--- the end, behind what was read
+-- the end, after what was read
 pub lawful_end : {K X : Type 0} (other : K) (x : X) → Lawful (end_at other >>= λ _. give x) (λ y. []) (λ y. x ≡ y) IsEnd
 lawful_end {K} {X} other x = record {
   takes = λ text y rest e. end_takes other x y text rest e;
@@ -251,7 +251,7 @@ module _ {K X : Type 0} (ending : Ending) (fault : List X → Option K) (one : L
   abbrev M : ℕ → List X → X → Reading K (List X)
   M n sofar x text = more ending fault one n sofar x text
 
-  -- a list that was read: new elements behind the earlier ones
+  -- a list that was read: new elements after the earlier ones
   record Takes (sofar : List X) (text : Text) (all : List X) (rest : Text) : Type 0 where
     pub new : List X
     pub all_are : all ≡ sofar ++ new

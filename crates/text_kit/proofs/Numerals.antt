@@ -145,7 +145,7 @@ digits_words (b ∷ ds) e =
     let p = and_parts (is_digit b) (list_all is_digit ds) e in
     rw ((digit_word b p.0).0, digits_words ds p.1) refl
 
--- digits and other bytes of words behind them
+-- digits and other bytes of words after them
 digits_begin : (ds more : List ℕ) → 1 ≤ length ds → list_all is_digit ds ≡ true → list_all is_word_byte more ≡ true → is_plain (ds ++ more) ≡ true
 digits_begin [] more some e rest = absurd (omega (arith, some))
 digits_begin (b ∷ ds) more some e rest =

@@ -1,4 +1,4 @@
--- Readings whose answer depends on no lexeme behind what they take, nor behind the place of their fault.
+-- Readings whose answer depends on no lexeme after what they take, nor after the place of their fault.
 use Rattle.std.proofs.Common.{◌≡◌, ℕ, zero, suc, ◌<◌, ◌≤◌, true, false, cond, nat_lt, List, [], ◌∷◌, ◌++◌, length, Option, None, Some, Result, Ok, Err, refl, sym, ap, subst, ◌∙◌, arith}
 use Rattle.snd_tokens.specs.Lexemes.{Text, WordAt, OpenAt, CloseAt, EndAt, size}
 use Rattle.text_kit.specs.Places.{place}
@@ -243,7 +243,7 @@ module _ {K X : Type 0} (ending : Ending) (fault : List X → Option K) (one : L
     pub here : place (past count text) ≡ at
     pub again : (n : ℕ) (u : Text) → size u < suc n → Same (suc count) text u → E (suc n) sofar u ≡ Err (at, kind)
 
-  -- enough turns for what is behind an element
+  -- enough turns for what is after an element
   fewer : (n : ℕ) (P : ℕ → Type 0) (a b : ℕ) → a < b → b < suc n → ((k : ℕ) → a < suc k → n ≡ suc k → P (suc k)) → P n
   fewer zero P a b low high f = absurd (omega (arith, low, high))
   fewer (suc k) P a b low high f = f k (omega (arith, low, high)) refl

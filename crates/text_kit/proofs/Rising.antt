@@ -7,7 +7,7 @@ use Rattle.snd_tokens.specs.Lexemes.{Text, text_of, text_from}
 use Rattle.text_kit.specs.Places.{place}
 use Rattle.text_kit.proofs.Alike.{Rises}
 
--- the lexemes rise, and the first stands at this place or behind it
+-- the lexemes rise, and the first stands at this place or after it
 abbrev pub RisesFrom : ℕ → Text → Type 0
 RisesFrom at text = Rises text × (at ≤ place text)
 

@@ -11,7 +11,7 @@ use Rattle.text_kit.specs.Items.{Item, Named, Whole, Money, Opening, Closing, Sp
 use Rattle.text_kit.specs.Written.{IsWritable, byte_behind, money_word, word_of, written}
 use Rattle.text_kit.proofs.Numerals.{and_parts, decimal_plain, decimal_writes, drop_first, money_again, money_plain, take_first, whole_again}
 
--- a byte at a place, and the bytes behind it
+-- a byte at a place, and the bytes after it
 record From (whole : List ℕ) (at b : ℕ) (bytes : List ℕ) : Type 0 where
   pub within : at < length whole
   pub first : get_or whole at 0 ≡ b
@@ -117,7 +117,7 @@ written_begins (Whole n ∷ is) whole at all within e =
 written_begins (Money n ∷ is) whole at all within e =
     word_first (Money n) is whole at (money_word n) (money_plain n all.0) (money_again n all.0) e (λ d le. written_begins is whole (at + length (money_word n) + 1) all.1 le d)
 
--- items behind items, and the items of a list
+-- items after items, and the items of a list
 pub written_both : (a b : List Item) → written (a ++ b) ≡ written a ++ written b
 written_both [] b = refl
 written_both (i ∷ a) b = ap (λ (t : List ℕ). word_of i ++ byte_behind i ∷ t) (written_both a b) ∙ sym (append_assoc (word_of i) (byte_behind i ∷ written a) (written b))

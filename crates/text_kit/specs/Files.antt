@@ -1,4 +1,4 @@
--- whole files: a header line, and a text behind it
+-- whole files: a header line, and a text after it
 use Rattle.std.specs.Prelude.{◌≡◌, ℕ, if◌then◌else◌, List, take, Err}
 use Rattle.net_core.specs.Tests.{are_same}
 use Rattle.snd_tokens.specs.Header.{HasHeader, first_line, second_line, trimmed}
@@ -9,7 +9,7 @@ use Rattle.text_kit.specs.Reading.{Read, Reading}
 use Rattle.text_kit.specs.declared.refusal.Refusal.{Refusal}
 use Rattle.text_kit.specs.declared.refusal.Refusal.TheVariants.{Bad, NoMemory}
 
--- the text behind the first line
+-- the text after the first line
 abbrev pub body : List ℕ → Text
 body bytes = text_from (second_line bytes) bytes
 

@@ -32,7 +32,7 @@ Begins (i ∷ is) (EndAt at) rest = ⊥
 abbrev pub IsMadeOf : List Item → Text → Type 0
 IsMadeOf is text = (at : ℕ) × Begins is text (EndAt at)
 
--- each element is so behind those before it
+-- each element is so after those before it
 abbrev pub AreBehind : {X : Type 0} → (List X → X → Type 0) → List X → List X → Type 0
 AreBehind is sofar [] = Unit {0}
 AreBehind is sofar (x ∷ xs) = is sofar x × AreBehind is (sofar ++ x ∷ []) xs

@@ -4,7 +4,7 @@ use Rattle.net_core.specs.Tests.{are_same}
 use Rattle.snd_tokens.specs.Lexemes.{Text, WordAt, OpenAt, CloseAt, EndAt, size}
 use Rattle.text_kit.specs.Places.{place}
 
--- an answer: something and the text behind it, or a fault of a kind at a place
+-- an answer: something and the text after it, or a fault of a kind at a place
 abbrev pub Read : Type 0 → Type 0 → Type 0
 Read K X = Result (X × Text) (ℕ × K)
 
@@ -71,7 +71,7 @@ pub data Ending : Type 0 where
   Parenthesis : Ending
   TheEnd : Ending
 
--- the text behind the ending, if that is next
+-- the text after the ending, if that is next
 abbrev pub past_ending : Ending → Text → Option Text
 past_ending Parenthesis (CloseAt at rest) = Some rest
 past_ending TheEnd (CloseAt at rest) = None
@@ -89,7 +89,7 @@ abbrev pub ended_or : {A : Type 0} → Option Text → (Text → A) → A → A
 ended_or (Some rest) closed more = closed rest
 ended_or None closed more = more
 
--- further elements behind those so far, up to the ending; n is more than the lexemes that are left
+-- further elements after those so far, up to the ending; n is more than the lexemes that are left
 abbrev pub elements_at : {K X : Type 0} → Ending → (List X → Option K) → (List X → Reading K X) → ℕ → List X → Reading K (List X)
 elements_at ending fault one zero sofar text = Ok (sofar, text)
 elements_at ending fault one (suc n) sofar text =
@@ -121,6 +121,6 @@ of_length n kind xs = if length xs == n then None else Some kind
 abbrev pub exactly_at : {K X : Type 0} → ℕ → K → K → (List X → Reading K X) → Reading K (List X)
 exactly_at n limit ended one = list_at Parenthesis (of_length n limit) (up_to n limit ended one) []
 
--- a reading of a whole text, behind which nothing is left
+-- a reading of a whole text, after which nothing is left
 abbrev pub whole_at : {K X : Type 0} → K → Reading K X → Reading K X
 whole_at other r = r >>= λ x. end_at other >>= λ _. give x

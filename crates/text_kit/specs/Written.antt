@@ -19,7 +19,7 @@ word_of (Money n) = money_word n
 word_of Opening = 40 ∷ []
 word_of Closing = 41 ∷ []
 
--- a line ends behind a closing parenthesis, and a space stands behind all else
+-- a line ends after a closing parenthesis, and a space stands after all else
 abbrev pub byte_behind : Item → ℕ
 byte_behind (Named w) = 32
 byte_behind (Whole n) = 32

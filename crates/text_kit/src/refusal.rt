@@ -10,8 +10,8 @@ pub enum Refusal<K: std::fmt::Debug> {
     /// The first fault, and the place of its first byte; the length of the file at its end.
     #[error("fault {kind:?} at {at}")]
     Bad { at: u64, kind: K },
-    /// Memory ran out.
-    #[error("no memory")]
+    /// The call ran out of memory.
+    #[error("out of memory")]
     NoMemory,
 }
 

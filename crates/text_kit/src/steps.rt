@@ -108,7 +108,7 @@ pub fn over<K: Debug + Drop>(limit: K, ended: K, text: &mut Cursor) -> Refusal<K
     }
 }
 
-/// The text behind the header of a file.
+/// The text after the header of a file.
 pub fn behind_header<'a, K: Debug + Drop>(
     other: K,
     bytes: &'a [u8],

@@ -5,7 +5,7 @@ ghost use Rattle.text_kit.specs.Written.{last_digit, money_word, written};
 use itoa::Buffer;
 use net_core::{Bytes, NoMemory};
 
-/// Puts a number last, without a space behind it.
+/// Puts a number last, without a space after it.
 pub fn put_decimal(text: &mut Bytes, n: u128) -> Result<(), NoMemory>
     ensures { OnOk result (text.new ≡ text.old ++ decimal n) }
 {
@@ -20,7 +20,7 @@ fn last_digit(n: u128) -> u8
     b'0' + (n % 10) as u8
 }
 
-/// Puts thousandths last as money, without a space behind it.
+/// Puts thousandths last as money, without a space after it.
 pub fn put_money_word(text: &mut Bytes, n: u128) -> Result<(), NoMemory>
     ensures { OnOk result (text.new ≡ text.old ++ money_word n) }
 {

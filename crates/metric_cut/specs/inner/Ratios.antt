@@ -1,5 +1,5 @@
 -- ratios of a cost and a size, where a size of 0 makes a ratio greater than all
-use Rattle.std.specs.Prelude.{◌≡◌, ◌≢◌, ◌⊎◌, ℕ, ◌*◌, ◌^◌, ◌≤◌, ◌<◌, List, [], Any, All, Some, length, slice_get, slice_index}
+use Rattle.std.specs.Prelude.{◌≡◌, ◌⊎◌, ℕ, ◌*◌, ◌^◌, ◌≤◌, ◌<◌, List, Any, All, Some, length, slice_get, slice_index}
 use Rattle.net_core.specs.declared.network.Link.{Link}
 use Rattle.net_core.specs.declared.network.Module.{Module}
 use Rattle.metric_cut.specs.declared.ratio.Ratio.{Ratio}

@@ -21,8 +21,8 @@ abbrev pub weight : List Flow → ℕ → ℕ
 weight flows e = sum_by (λ f. f.num * times e f.path) flows
 
 -- a demand with a need gets the flow of its whole need along its least path, one without gets none
-abbrev pub Takes : (ℕ → ℕ → ℕ → Type 0) → List ℕ → Demand → ℕ → List Flow → List Flow → Type 0
-Takes joins lengths d k old new =
+abbrev pub TakesDemand : (ℕ → ℕ → ℕ → Type 0) → List ℕ → Demand → ℕ → List Flow → List Flow → Type 0
+TakesDemand joins lengths d k old new =
     ((d.need ≡ 0) × (new ≡ old))
     ⊎ ((0 < d.need) × (es : List LinkId) × IsLeastPath joins lengths d.from.0 d.to.0 es × (new ≡ old ++ record { demand = k; path = es; num = d.need } ∷ []))
 

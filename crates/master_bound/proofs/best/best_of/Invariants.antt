@@ -1,4 +1,3 @@
-use Rattle.std.proofs.Common.{◌≤◌, length}
 use Rattle.master_bound.specs.inner.Bests.{IsBestBelow}
 use Rattle.master_bound.proofs.best.best_of.Given as goal
 

@@ -1,4 +1,4 @@
-use Rattle.std.proofs.Common.{◌≡◌, pos, ◌*ℤ◌, sym, ap, ◌∙◌, arith}
+use Rattle.std.proofs.Common.{pos, ◌*ℤ◌, sym, ap, ◌∙◌}
 use Rattle.checked_fraction.proofs.Products.{positive_factor}
 use Rattle.checked_fraction.proofs.Quotients.{exact_quotient}
 use Rattle.simplex_core.proofs.factors.factors_of.Goals as goal

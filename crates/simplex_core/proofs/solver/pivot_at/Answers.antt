@@ -1,4 +1,4 @@
-use Rattle.std.proofs.Common.{subst, length, arith}
+use Rattle.std.proofs.Common.{subst, length}
 use Rattle.checked_fraction.specs.Rows.{num}
 use Rattle.simplex_core.specs.inner.Factors.{IsNarrowOver}
 use Rattle.simplex_core.proofs.Divided.{has_pivot}

@@ -1,0 +1,4 @@
+pub mod Lists
+pub mod Places
+pub mod Turns
+pub mod Passing

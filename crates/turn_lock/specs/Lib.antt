@@ -1,0 +1,3 @@
+pub mod Histories
+pub mod Passes
+pub mod inner

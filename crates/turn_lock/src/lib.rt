@@ -1,0 +1,14 @@
+//! Callers that take turns at one value, in the order of their tickets. The value stands for a history that only grows.
+#![tactic(auto)]
+
+mod chronicle;
+mod desk;
+mod example;
+mod rule;
+mod steps;
+
+pub use chronicle::Chronicle;
+pub use desk::{Desk, Pass, Turn};
+
+#[cfg(test)]
+mod tests;
