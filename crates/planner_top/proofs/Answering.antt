@@ -6,7 +6,7 @@ use Rattle.net_core.specs.declared.demand.Demand.{Demand}
 use Rattle.net_core.specs.declared.network.Network.{Network}
 use Rattle.outside_io.specs.Outside.{Files}
 use Rattle.planner_top.specs.Commands.{Command, IsCommand, Plan, PlanWords, default}
-use Rattle.planner_top.specs.Inputs.{EndsFile, Fetched, HasModel, RefusesModel, SpellsNetwork}
+use Rattle.planner_top.specs.Inputs.{EndsFile, Fetched, HasModel, RefusesModelFile, SpellsNetwork}
 use Rattle.planner_top.specs.Run.{Ends, EndsCommand, EndsFailures}
 use Rattle.planner_top.specs.inner.Steps.{HasCause, Stops}
 use Rattle.planner_top.specs.declared.answer.Answer.{Answer}
@@ -23,9 +23,9 @@ stop_map P Q (stop.Told a) f h = f a.status a.text h
 
 -- a model that ends the run ends the plan
 pub model_ends : (files : Option Files) (w : PlanWords) (net : Network) (demands : List Demand) (s : Stop) → Fetched files w.network SpellsNetwork (net, demands)
-    → Stops (λ status text. (w.model ≢ default) × EndsFile files w.model BadModel RefusesModel status text) s → Stops (EndsCommand files (Plan w)) s
+    → Stops (λ status text. (w.model ≢ default) × EndsFile files w.model BadModel RefusesModelFile status text) s → Stops (EndsCommand files (Plan w)) s
 model_ends files w net demands s has ends =
-    stop_map (λ status text. (w.model ≢ default) × EndsFile files w.model BadModel RefusesModel status text) (EndsCommand files (Plan w)) s
+    stop_map (λ status text. (w.model ≢ default) × EndsFile files w.model BadModel RefusesModelFile status text) (EndsCommand files (Plan w)) s
     (λ status text e. inr (net, demands, has, inl e)) ends
 
 -- a failure list that ends the run ends the plan

@@ -19,7 +19,7 @@ use Rattle.sndlib_reader.specs.declared.fault.ReadKind.{ReadKind}
 use Rattle.text_kit.specs.Answers.{AnswersAs, Fails}
 use Rattle.text_kit.specs.declared.refusal.Refusal.{Refusal}
 use Rattle.text_kit.specs.declared.refusal.Refusal.TheVariants.{Bad}
-use Rattle.planner_top.specs.Inputs.{RefusesFailures, RefusesModel, RefusesNetwork}
+use Rattle.planner_top.specs.Inputs.{RefusesFailureFile, RefusesModelFile, RefusesNetworkFile}
 use Rattle.planner_top.specs.Refusals.{failures_word, model_word, refusal_line}
 use Rattle.planner_top.specs.inner.Steps.{Says, Stops}
 use Rattle.planner_top.specs.declared.answer.Stop.{Stop}
@@ -29,9 +29,9 @@ use Rattle.planner_top.proofs.Answering.{stop_map}
 -- bytes that spell no network
 pub network_refused : (bytes : List ℕ) (at : ℕ) (kind : ReadKind) (s : Stop)
     → IsFirstFault bytes at kind × ((net : Network) (demands : List Demand) → networks.Spells bytes net demands → ⊥)
-    → Stops (Says BadNetwork (refusal_line (codes "network") (kind_word kind) at)) s → Stops (λ status text. (status ≡ BadNetwork) × RefusesNetwork bytes text) s
+    → Stops (Says BadNetwork (refusal_line (codes "network") (kind_word kind) at)) s → Stops (λ status text. (status ≡ BadNetwork) × RefusesNetworkFile bytes text) s
 network_refused bytes at kind s refused h =
-    stop_map (Says BadNetwork (refusal_line (codes "network") (kind_word kind) at)) (λ status text. (status ≡ BadNetwork) × RefusesNetwork bytes text) s
+    stop_map (Says BadNetwork (refusal_line (codes "network") (kind_word kind) at)) (λ status text. (status ≡ BadNetwork) × RefusesNetworkFile bytes text) s
     (λ status text says. (
       says.0,
       record { nothing = λ read spelled. refused.1 read.0 read.1 spelled; at = at; kind = kind; first = refused.0; printed = says.1 },
@@ -45,9 +45,9 @@ refusal_of refusal = Err refusal
 -- bytes that spell no model
 pub model_refused : (bytes : List ℕ) (refusal : Refusal ModelKind) (at : ℕ) (kind : ModelKind) (s : Stop)
     → refusal ≡ Bad at kind → ((model : Model) → models.Spells bytes model → AnswersAs (λ m. m) (refusal_of refusal) model) → Fails refusal (model_of bytes)
-    → Stops (Says BadModel (refusal_line (codes "model") (model_word kind) at)) s → Stops (λ status text. (status ≡ BadModel) × RefusesModel bytes text) s
+    → Stops (Says BadModel (refusal_line (codes "model") (model_word kind) at)) s → Stops (λ status text. (status ≡ BadModel) × RefusesModelFile bytes text) s
 model_refused bytes refusal at kind s is only exact h =
-    stop_map (Says BadModel (refusal_line (codes "model") (model_word kind) at)) (λ status text. (status ≡ BadModel) × RefusesModel bytes text) s
+    stop_map (Says BadModel (refusal_line (codes "model") (model_word kind) at)) (λ status text. (status ≡ BadModel) × RefusesModelFile bytes text) s
     (λ status text says. (
       says.0,
       record {
@@ -67,9 +67,9 @@ states_refusal_of refusal = Err refusal
 -- bytes that spell no states of these links
 pub failures_refused : (links : List Link) (bytes : List ℕ) (refusal : Refusal FailuresKind) (at : ℕ) (kind : FailuresKind) (s : Stop)
     → refusal ≡ Bad at kind → ((listed : List Listed) → failures.Spells links bytes listed → AnswersAs (λ states. states.listed) (states_refusal_of refusal) listed) → Fails refusal (failures_of links bytes)
-    → Stops (Says BadFailures (refusal_line (codes "failures") (failures_word kind) at)) s → Stops (λ status text. (status ≡ BadFailures) × RefusesFailures links bytes text) s
+    → Stops (Says BadFailures (refusal_line (codes "failures") (failures_word kind) at)) s → Stops (λ status text. (status ≡ BadFailures) × RefusesFailureFile links bytes text) s
 failures_refused links bytes refusal at kind s is only exact h =
-    stop_map (Says BadFailures (refusal_line (codes "failures") (failures_word kind) at)) (λ status text. (status ≡ BadFailures) × RefusesFailures links bytes text) s
+    stop_map (Says BadFailures (refusal_line (codes "failures") (failures_word kind) at)) (λ status text. (status ≡ BadFailures) × RefusesFailureFile links bytes text) s
     (λ status text says. (
       says.0,
       record {

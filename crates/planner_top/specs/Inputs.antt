@@ -43,14 +43,14 @@ abbrev pub SpellsNetwork : List ℕ → Network × List Demand → Type 0
 SpellsNetwork bytes read = networks.Spells bytes read.0 read.1
 
 -- the bytes spell no network, no model, or no states of these links, and the text names their first fault
-abbrev pub RefusesNetwork : List ℕ → List ℕ → Type 0
-RefusesNetwork = Refuses SpellsNetwork IsFirstFault (codes "network") kind_word
+abbrev pub RefusesNetworkFile : List ℕ → List ℕ → Type 0
+RefusesNetworkFile = Refuses SpellsNetwork IsFirstFault (codes "network") kind_word
 
-abbrev pub RefusesModel : List ℕ → List ℕ → Type 0
-RefusesModel = Refuses models.Spells (λ bytes at kind. model_of bytes ≡ Err (at, kind)) (codes "model") model_word
+abbrev pub RefusesModelFile : List ℕ → List ℕ → Type 0
+RefusesModelFile = Refuses models.Spells (λ bytes at kind. model_of bytes ≡ Err (at, kind)) (codes "model") model_word
 
-abbrev pub RefusesFailures : List Link → List ℕ → List ℕ → Type 0
-RefusesFailures links =
+abbrev pub RefusesFailureFile : List Link → List ℕ → List ℕ → Type 0
+RefusesFailureFile links =
     Refuses (failures.Spells links) (λ bytes at kind. failures_of links bytes ≡ Err (at, kind)) (codes "failures") failures_word
 
 -- Whether the model asks for reconfiguration: by its file; without one, where a failure file is named.

@@ -8,7 +8,7 @@ ghost use Rattle.model_reader.specs.Failures as failures;
 ghost use Rattle.model_reader.specs.Models as models;
 ghost use Rattle.planner_top.specs.Commands as commands;
 ghost use Rattle.planner_top.specs.Commands.{default};
-ghost use Rattle.planner_top.specs.Inputs.{EndsFetch, EndsFile, Fetched, HasModel, HasStates, RefusesFailures, RefusesModel, RefusesNetwork, SpellsNetwork, limit};
+ghost use Rattle.planner_top.specs.Inputs.{EndsFetch, EndsFile, Fetched, HasModel, HasStates, RefusesFailureFile, RefusesModelFile, RefusesNetworkFile, SpellsNetwork, limit};
 ghost use Rattle.planner_top.specs.Run.{EndsCommand, EndsFailures, KeepsShelf};
 ghost use Rattle.planner_top.specs.inner.Steps.{HasInputs, Stops, named};
 
@@ -48,7 +48,7 @@ fn fetch_file<S: Shelf>(alloc: Global, name: &str, shelf: &mut S) -> Result<Byte
 fn network_of(alloc: Global, bytes: &[u8]) -> Result<(Network, Demands), Stop>
     ensures spelled { IfOk result (SpellsNetwork bytes.now) }
     ensures belong { IfOk result (λ r. AreDemands (length r.0.nodes) r.1) }
-    ensures refused { IfErr result (Stops (λ s text. (s ≡ Status.BadNetwork) × RefusesNetwork bytes.now text)) }
+    ensures refused { IfErr result (Stops (λ s text. (s ≡ Status.BadNetwork) × RefusesNetworkFile bytes.now text)) }
 {
     match read_network(alloc, bytes) {
         Ok(read) => Ok(read),
@@ -62,7 +62,7 @@ fn network_of(alloc: Global, bytes: &[u8]) -> Result<(Network, Demands), Stop>
 /// Whether the model that bytes spell asks for reconfiguration.
 fn model_of(alloc: Global, bytes: &[u8]) -> Result<bool, Stop>
     ensures spelled { IfOk result (λ r. models.Spells bytes.now (record { reconfigure = r })) }
-    ensures refused { IfErr result (Stops (λ s text. (s ≡ Status.BadModel) × RefusesModel bytes.now text)) }
+    ensures refused { IfErr result (Stops (λ s text. (s ≡ Status.BadModel) × RefusesModelFile bytes.now text)) }
 {
     match read_model(alloc, bytes) {
         Ok(model) => Ok(model.reconfigure),
@@ -76,7 +76,7 @@ fn model_of(alloc: Global, bytes: &[u8]) -> Result<bool, Stop>
 /// The states that bytes spell.
 fn states_of(alloc: Global, net: &Network, bytes: &[u8]) -> Result<States, Stop>
     ensures spelled { IfOk result (λ r. failures.Spells net.now.links bytes.now r.listed) }
-    ensures refused { IfErr result (Stops (λ s text. (s ≡ Status.BadFailures) × RefusesFailures net.now.links bytes.now text)) }
+    ensures refused { IfErr result (Stops (λ s text. (s ≡ Status.BadFailures) × RefusesFailureFile net.now.links bytes.now text)) }
 {
     match read_failures(alloc, net, bytes) {
         Ok(states) => Ok(states),
@@ -95,7 +95,7 @@ fn load_network<S: Shelf>(
 ) -> Result<(Network, Demands), Stop>
     ensures has { IfOk result (Fetched (S.files shelf.old) files.now.network.now SpellsNetwork) }
     ensures belong { IfOk result (λ r. AreDemands (length r.0.nodes) r.1) }
-    ensures ends { IfErr result (Stops (EndsFile (S.files shelf.old) files.now.network.now Status.BadNetwork RefusesNetwork)) }
+    ensures ends { IfErr result (Stops (EndsFile (S.files shelf.old) files.now.network.now Status.BadNetwork RefusesNetworkFile)) }
     ensures shelf { KeepsShelf S.files S.faults (IsErrOf result Stop.ReadFault) shelf.old shelf.new }
 {
     let bytes = fetch_file(alloc, files.network, shelf)?;
@@ -105,7 +105,7 @@ fn load_network<S: Shelf>(
 /// Whether the model asks for reconfiguration. Without a file, a failure file asks for it.
 fn load_model<S: Shelf>(alloc: Global, files: &PlanFiles, shelf: &mut S) -> Result<bool, Stop>
     ensures has { IfOk result (HasModel (S.files shelf.old) (named files.now)) }
-    ensures ends { IfErr result (Stops (λ s text. (files.now.model.now ≢ default) × EndsFile (S.files shelf.old) files.now.model.now Status.BadModel RefusesModel s text)) }
+    ensures ends { IfErr result (Stops (λ s text. (files.now.model.now ≢ default) × EndsFile (S.files shelf.old) files.now.model.now Status.BadModel RefusesModelFile s text)) }
     ensures shelf { KeepsShelf S.files S.faults (IsErrOf result Stop.ReadFault) shelf.old shelf.new }
 {
     if files.model == DEFAULT {
@@ -135,7 +135,7 @@ fn load_failures<S: Shelf>(
     shelf: &mut S,
 ) -> Result<States, Stop>
     ensures has { IfOk result (λ r. Fetched (S.files shelf.old) files.now.failures.now (failures.Spells net.now.links) r.listed) }
-    ensures ends { IfErr result (Stops (EndsFile (S.files shelf.old) files.now.failures.now Status.BadFailures (RefusesFailures net.now.links))) }
+    ensures ends { IfErr result (Stops (EndsFile (S.files shelf.old) files.now.failures.now Status.BadFailures (RefusesFailureFile net.now.links))) }
     ensures shelf { KeepsShelf S.files S.faults (IsErrOf result Stop.ReadFault) shelf.old shelf.new }
 {
     let bytes = fetch_file(alloc, files.failures, shelf)?;
