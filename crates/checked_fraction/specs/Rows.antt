@@ -2,7 +2,7 @@
 use Rattle.std.specs.Prelude.{ℕ, ℤ, List, pos, ◌*ℤ◌, ◌<ℤ◌, ◌≡◌, ◌<◌, ◌^◌, get_or, unsigned_abs}
 use Rattle.std.specs.Int.{◌∣◌}
 
--- number k of a list, 0 behind its end
+-- number k of a list, 0 after its end
 abbrev pub num : List ℤ → ℕ → ℤ
 num nums k = get_or nums k (pos 0)
 

@@ -6,7 +6,7 @@ use Rattle.net_core.specs.declared.network.Link.{Link}
 use Rattle.net_core.specs.declared.plan.CutLine.{CutLine}
 use Rattle.plan_terms.specs.OwnBounds.{IsBestOwn, IsOwnBound}
 use Rattle.master_bound.specs.declared.best.Best.{Best}
-use Rattle.master_bound.specs.inner.Bests.{IsBestBelow, IsBetter}
+use Rattle.master_bound.specs.inner.Bests.{IsBestBelow, IsBetterOwn}
 
 same_cut : (cuts : List CutLine) (i : ℕ) (a b : CutLine) → slice_get cuts i ≡ Some a → slice_get cuts i ≡ Some b → a ≡ b
 same_cut cuts i a b first second = cc (first, second)
@@ -67,7 +67,7 @@ module _ (links : List Link) (cuts : List CutLine) where
       }
 
   -- one cut more
-  pub best_more : (k : ℕ) (c : CutLine) (old new : Best) → slice_get cuts k ≡ Some c → IsBestBelow links cuts k old → IsBetter links old k c new → IsBestBelow links cuts (k + 1) new
+  pub best_more : (k : ℕ) (c : CutLine) (old new : Best) → slice_get cuts k ≡ Some c → IsBestBelow links cuts k old → IsBetterOwn links old k c new → IsBestBelow links cuts (k + 1) new
   best_more k c old new at so_far better = ⊎_elim
       (λ stays. subst (IsBestBelow links cuts (k + 1)) (sym stays.1) (best_stays k better.bound c old at better.own stays.0 so_far))
       (λ moves. subst (IsBestBelow links cuts (k + 1)) (sym moves.1) (best_moves k better.bound c old at better.own moves.0 so_far))

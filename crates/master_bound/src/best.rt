@@ -1,7 +1,7 @@
 ghost use Rattle.std.specs.Prelude.{◌≡◌, ◌<◌, ◌^◌, ◌↔◌, All, IfSome, IsNone, [], length};
 ghost use Rattle.plan_terms.specs.OwnBounds.{IsBestOwn};
 ghost use Rattle.metric_cut.specs.Bounded.{HaveBound};
-ghost use Rattle.master_bound.specs.inner.Bests.{IsBestBelow, IsBetter};
+ghost use Rattle.master_bound.specs.inner.Bests.{IsBestBelow, IsBetterOwn};
 
 use metric_cut::own_bound;
 use net_core::{CutLine, List, Network};
@@ -17,7 +17,7 @@ pub struct Best {
 fn better(net: &Network, best: Best, k: u32, cut: &CutLine) -> Best
     requires lengths { HaveBound net.now.links cut.now.lengths }
     requires right { cut.now.right < 2 ^ 84 }
-    ensures { IsBetter net.now.links best k cut.now result }
+    ensures { IsBetterOwn net.now.links best k cut.now result }
 {
     let bound = own_bound(net, cut);
     if bound > best.bound {

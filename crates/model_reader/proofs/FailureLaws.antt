@@ -29,7 +29,7 @@ use Rattle.model_reader.specs.declared.failures.FailureList.{FailureList}
 use Rattle.model_reader.specs.declared.failures.FailureList.TheVariants.{OneByOne, EachAlone}
 use Rattle.model_reader.specs.declared.failures.FailuresKind.{FailuresKind}
 use Rattle.model_reader.specs.declared.failures.FailuresKind.TheVariants.{Header, Section, Token, Ended, LimitName, DoubleState, LimitStates}
-use Rattle.model_reader.specs.Failures.{IsListInForm, IsShort, Spells, header, link_name, list_items, state_items, states_of}
+use Rattle.model_reader.specs.Failures.{IsListInForm, IsShort, SpellsFailures, failures_header, link_name, list_items, state_items, states_of}
 use Rattle.model_reader.specs.FailuresReading.{behind_word, failure_list_at, failures_at, failures_of, is_list, known_or, link_of, link_place, links_at, name_fault, state_at, states_at}
 use Rattle.model_reader.proofs.FailureSingles.{network_differs}
 
@@ -257,14 +257,14 @@ module _ (nodes : List (List ℕ)) (links : List Link) (net : ∥ IsNetwork node
   pub read_in_form : (text : Text) (l : FailureList) (rest : Text) → failures_at links text ≡ Ok (l, rest) → IsListInForm links l
   read_in_form text l rest e = (law.takes text l rest e).0
 
-  pub failures_read : (bytes : List ℕ) (l : FailureList) (rest : Text) → are_same (trimmed (first_line bytes)) header ≡ true → failures_at links (body bytes) ≡ Ok (l, rest) → (at : ℕ) × (failures_of links bytes ≡ Ok (states_of links l, EndAt at))
-  failures_read bytes l rest line read = file_read Header header (failures_at links) (states_of links) (list_items links) (IsListInForm links) law bytes l rest line read
+  pub failures_read : (bytes : List ℕ) (l : FailureList) (rest : Text) → are_same (trimmed (first_line bytes)) failures_header ≡ true → failures_at links (body bytes) ≡ Ok (l, rest) → (at : ℕ) × (failures_of links bytes ≡ Ok (states_of links l, EndAt at))
+  failures_read bytes l rest line read = file_read Header failures_header (failures_at links) (states_of links) (list_items links) (IsListInForm links) law bytes l rest line read
 
-  pub failures_found : (bytes : List ℕ) (a : Result States (Refusal FailuresKind)) → ReadsAllAs (λ s. s.listed) a (failures_of links bytes) → IfOk a (λ s. Spells links bytes s.listed)
-  failures_found bytes a h = answer_found Header header (failures_at links) (states_of links) (list_items links) (IsListInForm links) law (λ s. s.listed) bytes a h
+  pub failures_found : (bytes : List ℕ) (a : Result States (Refusal FailuresKind)) → ReadsAllAs (λ s. s.listed) a (failures_of links bytes) → IfOk a (λ s. SpellsFailures links bytes s.listed)
+  failures_found bytes a h = answer_found Header failures_header (failures_at links) (states_of links) (list_items links) (IsListInForm links) law (λ s. s.listed) bytes a h
 
-  pub failures_only : (bytes : List ℕ) (a : Result States (Refusal FailuresKind)) → ReadsAllAs (λ s. s.listed) a (failures_of links bytes) → (listed : List Listed) → Spells links bytes listed → AnswersAs (λ s. s.listed) a listed
-  failures_only bytes a h = answer_only Header header (failures_at links) (states_of links) (list_items links) (IsListInForm links) law (λ s. s.listed) bytes a h
+  pub failures_only : (bytes : List ℕ) (a : Result States (Refusal FailuresKind)) → ReadsAllAs (λ s. s.listed) a (failures_of links bytes) → (listed : List Listed) → SpellsFailures links bytes listed → AnswersAs (λ s. s.listed) a listed
+  failures_only bytes a h = answer_only Header failures_header (failures_at links) (states_of links) (list_items links) (IsListInForm links) law (λ s. s.listed) bytes a h
 
-  pub failures_first : (bytes : List ℕ) (a : Result States (Refusal FailuresKind)) → ReadsAllAs (λ s. s.listed) a (failures_of links bytes) → IfErr a (IsNotTooEarly (Spells links) bytes)
-  failures_first bytes a h = answer_first Header header (failures_at links) (states_of links) (list_items links) (IsListInForm links) law (λ s. s.listed) (failures_online links) bytes a h
+  pub failures_first : (bytes : List ℕ) (a : Result States (Refusal FailuresKind)) → ReadsAllAs (λ s. s.listed) a (failures_of links bytes) → IfErr a (IsNotTooEarly (SpellsFailures links) bytes)
+  failures_first bytes a h = answer_first Header failures_header (failures_at links) (states_of links) (list_items links) (IsListInForm links) law (λ s. s.listed) (failures_online links) bytes a h

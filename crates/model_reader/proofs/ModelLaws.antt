@@ -17,7 +17,7 @@ use Rattle.model_reader.specs.declared.model.ModelKey.{ModelKey}
 use Rattle.model_reader.specs.declared.model.ModelKind.{ModelKind}
 use Rattle.model_reader.specs.declared.model.ModelKind.TheVariants.{Header, Token, Ended}
 use Rattle.model_reader.specs.declared.model.Setting.{Setting}
-use Rattle.model_reader.specs.Models.{IsEachOnce, Spells, header, key_of, key_word, model_of_settings, setting_items, value_word}
+use Rattle.model_reader.specs.Models.{IsEachOnce, SpellsModel, model_header, key_of, key_word, model_of_settings, setting_items, value_word}
 use Rattle.model_reader.specs.ModelReading.{has_key, key_behind, missing, model_of, setting_at, settings_at, value_of}
 use Rattle.model_reader.proofs.ModelKeys.{complete, each_once, key_behind_again, key_takes, value_again, value_takes}
 
@@ -51,15 +51,15 @@ setting_some sofar = takes_some (setting_at sofar) (setting_online sofar) (λ p.
 
 -- ---- whole files
 
-pub model_read : (bytes : List ℕ) (settings : List Setting) (rest : Text) → are_same (trimmed (first_line bytes)) header ≡ true → settings_at [] (body bytes) ≡ Ok (settings, rest) → (at : ℕ) × (model_of bytes ≡ Ok (model_of_settings settings, EndAt at))
-model_read bytes settings rest line read = file_read Header header (settings_at []) model_of_settings (λ ss. flat_map setting_items ss) IsEachOnce settings_lawful bytes settings rest line read
+pub model_read : (bytes : List ℕ) (settings : List Setting) (rest : Text) → are_same (trimmed (first_line bytes)) model_header ≡ true → settings_at [] (body bytes) ≡ Ok (settings, rest) → (at : ℕ) × (model_of bytes ≡ Ok (model_of_settings settings, EndAt at))
+model_read bytes settings rest line read = file_read Header model_header (settings_at []) model_of_settings (λ ss. flat_map setting_items ss) IsEachOnce settings_lawful bytes settings rest line read
 
-pub model_found : (bytes : List ℕ) (a : Result Model (Refusal ModelKind)) → ReadsAllAs (λ m. m) a (model_of bytes) → IfOk a (λ m. Spells bytes m)
-model_found bytes a h = answer_found Header header (settings_at []) model_of_settings (λ ss. flat_map setting_items ss) IsEachOnce settings_lawful (λ m. m) bytes a h
+pub model_found : (bytes : List ℕ) (a : Result Model (Refusal ModelKind)) → ReadsAllAs (λ m. m) a (model_of bytes) → IfOk a (λ m. SpellsModel bytes m)
+model_found bytes a h = answer_found Header model_header (settings_at []) model_of_settings (λ ss. flat_map setting_items ss) IsEachOnce settings_lawful (λ m. m) bytes a h
 
-pub model_only : (bytes : List ℕ) (a : Result Model (Refusal ModelKind)) → ReadsAllAs (λ m. m) a (model_of bytes) → (m : Model) → Spells bytes m → AnswersAs (λ x. x) a m
-model_only bytes a h = answer_only Header header (settings_at []) model_of_settings (λ ss. flat_map setting_items ss) IsEachOnce settings_lawful (λ m. m) bytes a h
+pub model_only : (bytes : List ℕ) (a : Result Model (Refusal ModelKind)) → ReadsAllAs (λ m. m) a (model_of bytes) → (m : Model) → SpellsModel bytes m → AnswersAs (λ x. x) a m
+model_only bytes a h = answer_only Header model_header (settings_at []) model_of_settings (λ ss. flat_map setting_items ss) IsEachOnce settings_lawful (λ m. m) bytes a h
 
-pub model_first : (bytes : List ℕ) (a : Result Model (Refusal ModelKind)) → ReadsAllAs (λ m. m) a (model_of bytes) → IfErr a (IsNotTooEarly Spells bytes)
-model_first bytes a h = answer_first Header header (settings_at []) model_of_settings (λ ss. flat_map setting_items ss) IsEachOnce settings_lawful (λ m. m)
+pub model_first : (bytes : List ℕ) (a : Result Model (Refusal ModelKind)) → ReadsAllAs (λ m. m) a (model_of bytes) → IfErr a (IsNotTooEarly SpellsModel bytes)
+model_first bytes a h = answer_first Header model_header (settings_at []) model_of_settings (λ ss. flat_map setting_items ss) IsEachOnce settings_lawful (λ m. m)
     (online_list TheEnd missing setting_at setting_online setting_some []) bytes a h

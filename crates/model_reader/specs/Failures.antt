@@ -11,8 +11,8 @@ use Rattle.text_kit.specs.Files.{SpellsAs}
 use Rattle.text_kit.specs.Items.{Item, Named, Opening, Closing}
 
 -- the first line of a failure list
-abbrev pub header : List ℕ
-header = codes "?planner failures; version: 1"
+abbrev pub failures_header : List ℕ
+failures_header = codes "?planner failures; version: 1"
 
 -- a link's name
 abbrev pub link_name : List Link → LinkId → List ℕ
@@ -55,5 +55,5 @@ IsListInForm links (OneByOne listed) = AreStates (length links) listed × All (I
 IsListInForm links EachAlone = Unit {0}
 
 -- the bytes of a file spell these states of the links of a network
-abbrev pub Spells : List Link → List ℕ → List Listed → Type 0
-Spells links bytes listed = SpellsAs header (list_items links) (IsListInForm links) (states_of links) bytes listed
+abbrev pub SpellsFailures : List Link → List ℕ → List Listed → Type 0
+SpellsFailures links bytes listed = SpellsAs failures_header (list_items links) (IsListInForm links) (states_of links) bytes listed

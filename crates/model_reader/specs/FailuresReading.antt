@@ -10,7 +10,7 @@ use Rattle.model_reader.specs.declared.failures.FailuresKind.{FailuresKind}
 use Rattle.model_reader.specs.declared.failures.FailuresKind.TheVariants.{Header, Section, Token, Ended, LimitName, UnknownLink, DoubleState, LimitStates}
 use Rattle.model_reader.specs.declared.failures.FailureList.{FailureList}
 use Rattle.model_reader.specs.declared.failures.FailureList.TheVariants.{OneByOne, EachAlone}
-use Rattle.model_reader.specs.Failures.{header, states_of}
+use Rattle.model_reader.specs.Failures.{failures_header, states_of}
 
 -- the place of a name among the links
 abbrev pub link_place : List Link → List ℕ → Option ℕ
@@ -72,4 +72,4 @@ failures_at links = whole_at Section (failure_list_at links)
 
 -- a whole file: its states, or its first fault by place
 abbrev pub failures_of : List Link → List ℕ → Read FailuresKind (List Listed)
-failures_of links bytes = file_at Header header (mapped (states_of links) (failures_at links)) bytes
+failures_of links bytes = file_at Header failures_header (mapped (states_of links) (failures_at links)) bytes

@@ -10,7 +10,7 @@ use Rattle.model_reader.specs.declared.model.ModelKind.{ModelKind}
 use Rattle.model_reader.specs.declared.model.ModelKind.TheVariants as kinds
 use Rattle.model_reader.specs.declared.model.Setting.{Setting}
 use Rattle.model_reader.specs.declared.model.Setting.TheVariants.{Plain, Reconfiguration}
-use Rattle.model_reader.specs.Models.{header, key_of, key_word, model_of_settings, plain_word, reconfiguration_word}
+use Rattle.model_reader.specs.Models.{model_header, key_of, key_word, model_of_settings, plain_word, reconfiguration_word}
 
 -- the keys in the order in which the first missing one is told
 abbrev pub all_keys : List ModelKey
@@ -62,4 +62,4 @@ settings_at sofar = list_at TheEnd missing setting_at sofar
 
 -- a whole file: its model, or its first fault by place
 abbrev pub model_of : List ℕ → Read ModelKind Model
-model_of bytes = file_at kinds.Header header (mapped model_of_settings (settings_at [])) bytes
+model_of bytes = file_at kinds.Header model_header (mapped model_of_settings (settings_at [])) bytes

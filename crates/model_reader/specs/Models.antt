@@ -10,8 +10,8 @@ use Rattle.model_reader.specs.declared.model.Setting.{Setting}
 use Rattle.model_reader.specs.declared.model.Setting.TheVariants.{Plain, Reconfiguration}
 
 -- the first line of a model file
-abbrev pub header : List ℕ
-header = codes "?SNDlib native format; type: model; version: 1.0"
+abbrev pub model_header : List ℕ
+model_header = codes "?SNDlib native format; type: model; version: 1.0"
 
 -- the word of a key: the aspects of SNDlib's planning models
 abbrev pub key_word : ModelKey → List ℕ
@@ -67,5 +67,5 @@ abbrev pub model_of_settings : List Setting → Model
 model_of_settings settings = record { reconfigure = list_any asks settings }
 
 -- the bytes of a file spell this model: its settings in any order, each key once
-abbrev pub Spells : List ℕ → Model → Type 0
-Spells bytes model = SpellsAs header (flat_map setting_items) IsEachOnce model_of_settings bytes model
+abbrev pub SpellsModel : List ℕ → Model → Type 0
+SpellsModel bytes model = SpellsAs model_header (flat_map setting_items) IsEachOnce model_of_settings bytes model

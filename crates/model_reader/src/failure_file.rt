@@ -4,7 +4,7 @@ ghost use Rattle.snd_tokens.specs.Lexemes.{left};
 ghost use Rattle.text_kit.specs.Answers.{AnswersAs, ReadsAllAs, ReadsAs};
 ghost use Rattle.text_kit.specs.Files.{IsNotTooEarly};
 ghost use Rattle.text_kit.specs.Reading.{word_at};
-ghost use Rattle.model_reader.specs.Failures.{IsListInForm, Spells, states_of};
+ghost use Rattle.model_reader.specs.Failures.{IsListInForm, SpellsFailures, states_of};
 ghost use Rattle.model_reader.specs.FailuresReading.{failure_list_at, failures_at, failures_of, is_list};
 
 use crate::failure_list::states;
@@ -100,13 +100,13 @@ fn file(alloc: Global, net: &Network, bytes: &[u8]) -> Result<States, FailuresRe
 /// The states of the network that a file spells.
 pub fn read_failures(alloc: Global, net: &Network, bytes: &[u8]) -> Result<States, FailuresRefusal>
     // What is read is spelled.
-    ensures found { IfOk result (λ s. Spells net.now.links bytes.now s.listed) }
+    ensures found { IfOk result (λ s. SpellsFailures net.now.links bytes.now s.listed) }
     // What is spelled is read, unless memory runs out.
-    ensures only { (states : List State) → Spells net.now.links bytes.now states → AnswersAs (λ s. s.listed) result states }
+    ensures only { (states : List State) → SpellsFailures net.now.links bytes.now states → AnswersAs (λ s. s.listed) result states }
     // A fault is the first one that reading from left to right meets.
     ensures exact { ReadsAllAs (λ s. s.listed) result (failures_of net.now.links bytes.now) }
     // It doesn't stand too early: no bytes that agree past it are spelled right.
-    ensures first { IfErr result (IsNotTooEarly (Spells net.now.links) bytes.now) }
+    ensures not_early { IfErr result (IsNotTooEarly (SpellsFailures net.now.links) bytes.now) }
 {
     file(alloc, net, bytes)
 }

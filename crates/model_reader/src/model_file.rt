@@ -6,7 +6,7 @@ ghost use Rattle.text_kit.specs.Answers.{AnswersAs, ReadsAllAs, ReadsAs, TakesTu
 ghost use Rattle.text_kit.specs.Files.{IsNotTooEarly};
 ghost use Rattle.text_kit.specs.Reading.{word_at};
 ghost use Rattle.model_reader.specs.declared.model.Model.{Model as Mod};
-ghost use Rattle.model_reader.specs.Models.{Spells, asks, key_of, key_word, model_of_settings, plain_word};
+ghost use Rattle.model_reader.specs.Models.{SpellsModel, asks, key_of, key_word, model_of_settings, plain_word};
 ghost use Rattle.model_reader.specs.ModelReading.{all_keys, first_key, has_key, key_behind, missing, model_of, setting_at, settings_at, value_of};
 
 use crate::model::{Model, ModelKey, ModelKind, ModelRefusal, Setting};
@@ -246,13 +246,13 @@ fn file(alloc: Global, bytes: &[u8]) -> Result<Model, ModelRefusal>
 /// The model that a file spells. It takes memory for its settings.
 pub fn read_model(alloc: Global, bytes: &[u8]) -> Result<Model, ModelRefusal>
     // What is read is spelled.
-    ensures found { IfOk result (λ m. Spells bytes.now m) }
+    ensures found { IfOk result (λ m. SpellsModel bytes.now m) }
     // What is spelled is read, unless memory runs out.
-    ensures only { (m : Mod) → Spells bytes.now m → AnswersAs (λ x. x) result m }
+    ensures only { (m : Mod) → SpellsModel bytes.now m → AnswersAs (λ x. x) result m }
     // A fault is the first one that reading from left to right meets.
     ensures exact { ReadsAllAs (λ m. m) result (model_of bytes.now) }
     // It doesn't stand too early: no bytes that agree past it are spelled right.
-    ensures first { IfErr result (IsNotTooEarly Spells bytes.now) }
+    ensures not_early { IfErr result (IsNotTooEarly SpellsModel bytes.now) }
 {
     file(alloc, bytes)
 }

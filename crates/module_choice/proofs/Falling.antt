@@ -11,7 +11,7 @@ use Rattle.net_core.specs.declared.plan.Flow.{Flow}
 use Rattle.net_core.specs.declared.plan.Routing.{Routing}
 use Rattle.net_core.specs.Cases.{Case, graph_in}
 use Rattle.net_core.specs.Graphs.{Joins}
-use Rattle.plan_terms.specs.Capacities.{AreCounts, AreNarrow, capacities, modules_capacity, total_cost}
+use Rattle.plan_terms.specs.Capacities.{AreCounts, AreWithinLimits, capacities, modules_capacity, total_cost}
 use Rattle.plan_terms.specs.Fallbacks.{IsFallback, IsLeastRouting, peak, raised}
 use Rattle.plan_terms.specs.Flows.{Carries, load, sent}
 use Rattle.plan_terms.specs.Covers.{CoverLoads, Covers}
@@ -118,7 +118,7 @@ capacities_small (l ∷ ls) [] each = All-nil (λ n. n < 2 ^ 46)
 capacities_small (l ∷ ls) (c ∷ cs) each = All-cons (λ n. n < 2 ^ 46) (l.fixed + modules_capacity l.modules c) (capacities ls cs) (each 0 l c refl refl) (capacities_small ls cs (λ e k d p q. each (suc e) k d p q))
 
 -- covered links stay within the limits
-pub covered_narrow : (links : List Link) (loads : ℕ → ℕ) (counts : List (List ℕ)) → ((e : ℕ) (l : Link) → slice_get links e ≡ Some l → l.fixed < 2 ^ 40) → AreCovered links loads counts → AreNarrow links counts
+pub covered_narrow : (links : List Link) (loads : ℕ → ℕ) (counts : List (List ℕ)) → ((e : ℕ) (l : Link) → slice_get links e ≡ Some l → l.fixed < 2 ^ 40) → AreCovered links loads counts → AreWithinLimits links counts
 covered_narrow links loads counts fixed covered = record {
   few = covered.few;
   small = capacities_small links counts (λ e l c p q. omega (arith, fixed e l p, covered.small e l c p q));

@@ -93,7 +93,7 @@ fn cover_some(alloc: Global, modules: &[Module], need: u64) -> Result<Covering, 
 }
 
 /// Counts of the link's modules that cover a need, in thousandths: modules of one kind that reach it at the least cost of such
-/// modules, the first such kind at a tie, and none for a need of 0. It takes time in the number of modules.
+/// modules. It takes time in the number of modules.
 ///
 /// Modules of 155 for 100 and of 622 for 250: a need of 500 is covered by one of the second kind for 250, since four of the
 /// first would cost 400; a need of 180 by two of the first for 200.

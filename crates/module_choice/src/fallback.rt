@@ -5,7 +5,7 @@ ghost use Rattle.net_core.specs.Graphs.{Survives};
 ghost use Rattle.net_core.specs.Network.{IsModule};
 ghost use Rattle.net_core.specs.Views.{case, case_of};
 ghost use Rattle.net_core.specs.declared.network.Link.{Link};
-ghost use Rattle.plan_terms.specs.Capacities.{AreNarrow};
+ghost use Rattle.plan_terms.specs.Capacities.{AreWithinLimits};
 ghost use Rattle.plan_terms.specs.Fallbacks.{IsFallback, raised};
 ghost use Rattle.plan_terms.specs.Separations.{IsSurvivable};
 ghost use Rattle.module_choice.specs.inner.Routes.{AreCovered, AreRouted};
@@ -120,7 +120,7 @@ fn cover_links(alloc: Global, links: &[Link], peaks: &[u64]) -> Result<Counts, N
 fn fallback_of(alloc: Global, problem: &Instance) -> Result<Fallback, NoMemory>
     requires { let p = case_of problem.now in IsSurvivable p }
     ensures fallback { let p = case_of problem.now in IfOk result (λ f. IsFallback p f.counts f.routings f.cost) }
-    ensures narrow { IfOk result (λ f. AreNarrow problem.now.net.now.links f.counts) }
+    ensures narrow { IfOk result (λ f. AreWithinLimits problem.now.net.now.links f.counts) }
 {
     let prices = price_lengths(alloc, problem.net)?;
     let lengths = raised(alloc, prices.items())?;
@@ -134,10 +134,10 @@ fn fallback_of(alloc: Global, problem: &Instance) -> Result<Fallback, NoMemory>
     })
 }
 
-/// The fallback plan: one path for each demand in each state, and cheap modules of one kind on each link.
+/// The fallback plan: one path for each demand in each state, and modules that cover each link's load at the least cost.
 ///
 /// No state separates a demand. The flows of each routing are in the order of the demands. On a triangle AB, BC, AC with
-/// modules of 10 for 5, each link failing alone, a demand of 12 from A to C takes AC, and AB, BC where AC fails: each link gets
+/// modules of 10 for 5, with every single-link failure, a demand of 12 from A to C takes AC, and AB, BC where AC fails: each link gets
 /// two modules, and the plan costs 30. It takes a search from each node for each state.
 pub fn fallback_plan(
     alloc: Global,
@@ -148,7 +148,7 @@ pub fn fallback_plan(
     requires demands { AreDemands (length net.now.nodes) demands.now }
     requires survivable { IsSurvivable (case net.now states.now demands.now) }
     ensures fallback { IfOk result (λ f. IsFallback (case net.now states.now demands.now) f.counts f.routings f.cost) }
-    ensures narrow { IfOk result (λ f. AreNarrow net.now.links f.counts) }
+    ensures narrow { IfOk result (λ f. AreWithinLimits net.now.links f.counts) }
 {
     let problem = Instance {
         net,

@@ -1,4 +1,4 @@
--- the cheapest module of a link, and the dearest of these
+-- the cheapest module of a link, and the most expensive of these
 use Rattle.std.proofs.Common.{◌≡◌, ℕ, ◌+◌, ◌*◌, ◌/◌, ◌≤◌, ◌<◌, ◌⊎◌, List, [], ◌∷◌, ◌++◌, All, Any, Contains, Some, get_or, length, slice_get, inl, inr, ⊎_elim, refl, sym, ◌∙◌, ap, subst, arith}
 use Rattle.std.proofs.Math.Nat.{div-le_of_le-mul, mul-le-mul_left, le_of_mul-le-mul_left}
 use Rattle.std.proofs.lemmas.Bool.{cases_eq}
@@ -88,7 +88,7 @@ some_link links n l m at is = (n, l, slice_get_within links n l at, get_or_from_
 read_link : (links : List Link) (e : ℕ) (l : Link) → e < length links → get_or links e l ≡ l → slice_get links e ≡ Some l
 read_link links e l lt is = slice_get-get_or links e l lt ∙ ap Some is
 
--- the dearest so far stays
+-- the most expensive so far stays
 dearest_kept : (links : List Link) (n : ℕ) (l : Link) (old new : Module) → slice_get links n ≡ Some l
     → ((old.cost ≡ 0) × ((e : ℕ) (l : Link) → e < n → slice_get links e ≡ Some l → l.modules ≡ [])) ⊎ Any (λ l. HasLeastUnitCost l.modules old) links
     → new ≡ old → (l.modules ≡ []) ⊎ (0 < old.cost)
@@ -129,11 +129,11 @@ dearest_more links n l old new at d more = record {
       more.is;
 }
 
--- the dearest of all links
+-- the most expensive of all links
 pub dearest_greatest : (links : List Link) (m : Module) → IsDearestSoFar links (length links) m → IsGreatest links m
 dearest_greatest links m d e l o at is = d.before e l o (slice_get_within links e l at) at is
 
--- price lengths under the dearest of all links
+-- price lengths under the most expensive of all links
 pub priced_lengths : (links : List Link) (m : Module) (lengths : List ℕ) → IsDearestSoFar links (length links) m → ArePriced links m lengths → ArePriceLengths links lengths
 priced_lengths links m lengths d priced = record {
   count = priced.count;

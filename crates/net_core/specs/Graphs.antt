@@ -4,7 +4,7 @@ use Rattle.net_core.specs.declared.network.Link.{Link}
 use Rattle.net_core.specs.declared.states.Listed.{Listed}
 use Rattle.net_core.specs.States.{fails}
 
--- a network in one of its states
+-- a network in one of its states; its links are all those of the network, and `Survives` says which are left
 pub record Graph : Type 0 where
   pub nodes : List (List ℕ)
   pub links : List Link

@@ -40,7 +40,7 @@ Test = Bool × NetFault
 abbrev pub has_large_amount : Link → Bool
 has_large_amount l = is_large l.fixed || is_large l.setup || list_any (λ m. is_large m.capacity || is_large m.cost) l.modules
 
--- the tests of a link behind earlier ones, in a network of n nodes
+-- the tests of a link after earlier ones, in a network of n nodes
 abbrev pub link_tests : ℕ → List Link → Link → List Test
 link_tests n earlier l =
     (is_named (λ e. e.name) l.name earlier, DoubleLink (length earlier))
@@ -52,12 +52,12 @@ link_tests n earlier l =
     ∷ ((length l.modules == 0) && nat_lt 0 l.fixed, FixedLink (length earlier))
     ∷ []
 
--- the tests of each link behind earlier ones
+-- the tests of each link after earlier ones
 abbrev pub links_tests : ℕ → List Link → List Link → List Test
 links_tests n earlier [] = []
 links_tests n earlier (l ∷ ls) = link_tests n earlier l ++ links_tests n (earlier ++ l ∷ []) ls
 
--- the tests of each node's name behind earlier ones
+-- the tests of each node's name after earlier ones
 abbrev pub nodes_tests : List (List ℕ) → List (List ℕ) → List Test
 nodes_tests earlier [] = []
 nodes_tests earlier (name ∷ names) =

@@ -28,7 +28,7 @@ pub record AreStates (n : ℕ) (listed : List Listed) : Type 0 where
   pub checked : IsStateList listed
   pub known : All (λ l. All (λ e. e.0 < n) l.links) listed
 
--- the tests of a listed state behind earlier ones, in a network of n links
+-- the tests of a listed state after earlier ones, in a network of n links
 abbrev pub listed_tests : ℕ → List Listed → Listed → List (Bool × StatesFault)
 listed_tests n earlier l =
     (length l.links == 0, Empty (length earlier))
@@ -36,7 +36,7 @@ listed_tests n earlier l =
     ∷ (is_named (λ x. x.name) l.name earlier, DoubleState (length earlier))
     ∷ []
 
--- the tests of each listed state behind earlier ones
+-- the tests of each listed state after earlier ones
 abbrev pub all_listed_tests : ℕ → List Listed → List Listed → List (Bool × StatesFault)
 all_listed_tests n earlier [] = []
 all_listed_tests n earlier (l ∷ ls) = listed_tests n earlier l ++ all_listed_tests n (earlier ++ l ∷ []) ls

@@ -12,6 +12,7 @@ use Rattle.net_core.specs.Graphs.{Graph}
 abbrev pub graph : Network → States → ℕ → Graph
 graph net states s = record { nodes = net.nodes; links = net.links; listed = states.listed; state = s }
 
+-- the graph that a value of the program stands for
 abbrev pub graph_of : Surviving → Graph
 graph_of g = graph g.net.now g.states.now g.state.0
 
@@ -19,5 +20,6 @@ graph_of g = graph g.net.now g.states.now g.state.0
 abbrev pub case : Network → States → List Demand → Case
 case net states demands = record { nodes = net.nodes; links = net.links; listed = states.listed; demands = demands }
 
+-- the case that a value of the program stands for
 abbrev pub case_of : Instance → Case
 case_of i = case i.net.now i.states.now i.demands.now

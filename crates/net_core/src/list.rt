@@ -1,4 +1,4 @@
-ghost use Rattle.std.specs.Prelude.{◌≡◌, ◌+◌, ◌<◌, ◌++◌, [], ◌∷◌, length, OnOk, OnErr, IfErr, IfOk, IsSome, ◌↔◌, slice_set, replicate, remove};
+ghost use Rattle.std.specs.Prelude.{◌≡◌, ◌+◌, ◌<◌, ◌++◌, [], ◌∷◌, length, OnOk, OnErr, IfErr, IfOk, IsSome, ◌↔◌, slice_get, slice_set, replicate, remove, Some};
 ghost use Rattle.std.specs.Option.{option_to_list};
 
 use std::alloc::{AllocError, AllocFailed, Global};
@@ -101,6 +101,7 @@ impl<T> List<T> {
     /// Takes an item out; those after it move up, in time that grows with their number.
     pub fn remove(&mut self, at: usize) -> T
         requires { at < length self.old }
+        ensures item { slice_get self.old at ≡ Some result }
         ensures items { self.new ≡ remove self.old at }
     {
         self.items.remove(at)

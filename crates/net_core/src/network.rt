@@ -141,7 +141,7 @@ fn is_link_among(name: &Name, earlier: &[Link]) -> bool
     earlier.iter().any(|other| other.name == *name)
 }
 
-/// The first fault of a link behind earlier ones.
+/// The first fault of a link after earlier ones.
 fn link_fault(nodes: usize, earlier: &[Link], l: &Link) -> Option<NetFault>
     requires { length earlier.now < 2 ^ 32 }
     ensures { result ≡ first_fault (link_tests nodes earlier.now l.now) }

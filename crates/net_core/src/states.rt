@@ -77,7 +77,7 @@ fn is_state_among(name: &Name, earlier: &[Listed]) -> bool
     earlier.iter().any(|other| other.name == *name)
 }
 
-/// The first fault of a listed state behind earlier ones.
+/// The first fault of a listed state after earlier ones.
 fn listed_fault(links: usize, earlier: &[Listed], l: &Listed) -> Option<StatesFault>
     requires { length earlier.now < 2 ^ 32 }
     ensures { result ≡ first_fault (listed_tests links earlier.now l.now) }

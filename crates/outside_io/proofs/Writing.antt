@@ -5,7 +5,7 @@ use Rattle.std.specs.Io.KnownBytes.{Appends}
 use Rattle.std.proofs.KnownBytes.{Appends-trans}
 use lib.Seq.{take-add}
 
--- one write more, of a front of what is left of the piece
+-- one write more, of a prefix of what is left of the piece
 pub Appends-once : (a b c : Option (List ℕ)) (piece : List ℕ) (done n : ℕ) → done ≤ length piece → Appends a b (take done piece)
     → n ≤ length (take (length piece - done) (drop done piece)) → Appends b c (take n (take (length piece - done) (drop done piece)))
     → (done + n ≤ length piece) × Appends a c (take (done + n) piece)

@@ -3,7 +3,7 @@ use Rattle.std.specs.Prelude.{◌≡◌, ◌≢◌, ℕ, ◌+◌, ◌/◌, ◌�
 use Rattle.outside_io.specs.declared.memory.MemFile.{MemFile}
 use Rattle.outside_io.specs.declared.shelf.Fetch.{Fetch}
 use Rattle.outside_io.specs.declared.shelf.Fetch.TheVariants.{Failed}
-use Rattle.outside_io.specs.Outside.{Files, raised}
+use Rattle.outside_io.specs.Outside.{Files, one_more}
 
 -- no name stands twice
 abbrev pub HaveDifferentNames : List MemFile → Type 0
@@ -30,12 +30,12 @@ pub record HeldOutput : Type 0 where
 
 -- a count of faults after a fetch
 abbrev pub faults_after : Fetch → ℕ → ℕ
-faults_after Failed faults = raised faults
+faults_after Failed faults = one_more faults
 faults_after _ faults = faults
 
 -- the shelf after a fetch
 abbrev pub after_fetch : Fetch → HeldFiles → HeldFiles
-after_fetch answer shelf = record shelf { calls = raised shelf.calls; faults = faults_after answer shelf.faults }
+after_fetch answer shelf = record shelf { calls = one_more shelf.calls; faults = faults_after answer shelf.faults }
 
 -- the sink with more bytes
 abbrev pub taking : List ℕ → HeldOutput → HeldOutput
@@ -43,11 +43,11 @@ taking bytes sink = record sink { taken = sink.taken ++ bytes }
 
 -- the sink after one call more
 abbrev pub after_put : HeldOutput → HeldOutput
-after_put sink = record sink { calls = raised sink.calls }
+after_put sink = record sink { calls = one_more sink.calls }
 
 -- the sink after one call more, which failed
 abbrev pub after_fault : HeldOutput → HeldOutput
-after_fault sink = record sink { calls = raised sink.calls; faults = raised sink.faults }
+after_fault sink = record sink { calls = one_more sink.calls; faults = one_more sink.faults }
 
 -- the piece fits into what is left of the room
 abbrev pub Fits : HeldOutput → List ℕ → Type 0

@@ -1,5 +1,5 @@
 ghost use Rattle.std.specs.Prelude.{◌≡◌, ◌≤◌, None, OnErr, OnOk};
-ghost use Rattle.outside_io.specs.Outside.{Rose, raised};
+ghost use Rattle.outside_io.specs.Outside.{Rose, one_more};
 ghost use Rattle.outside_io.specs.Machine.{Writes, sink_faults, stream_of};
 ghost use Rattle.outside_io.specs.inner.Steps.{WritesOnce};
 

@@ -1,4 +1,4 @@
--- weak duality: no counts that can do cost less than the bound of a certificate
+-- weak duality: no able counts cost less than the bound of a certificate
 use Rattle.std.proofs.Common.{◌≡◌, ℕ, suc, ◌+◌, ◌*◌, ◌≤◌, List, [], ◌∷◌, ◌++◌, length, All, Some, refl, sym, ap, subst, ◌∙◌, arith, map, sum_by, zip, slice_get, slice_index}
 use Rattle.std.proofs.lemmas.List.Sums.{sum_by-cons}
 use Rattle.std.proofs.lemmas.List.Elements.{recursion_from_All}
@@ -11,7 +11,7 @@ use Rattle.net_core.specs.declared.network.Link.{Link}
 use Rattle.net_core.specs.Cases.{Case, graph_in}
 use Rattle.plan_terms.specs.Capacities.{modules_capacity, modules_cost, capacities, total_cost, AreCounts, IsAble}
 use Rattle.plan_terms.specs.Bounds.{module_costs, IsBound}
-use Rattle.plan_terms.specs.Certificates.{Line, IsLine, price, asked, fixed_along, given, raw_value, WeakDuality}
+use Rattle.plan_terms.specs.Certificates.{CertificateLine, IsCut, price, asked, fixed_along, given, raw_value, WeakDuality}
 use Rattle.plan_terms.proofs.Metric.{metric_inequality}
 use Rattle.plan_terms.proofs.Sums.{sum_below, below-same, below-first, below-times, below-swapped, sums-le, sums-same, sums-equal, sums-times}
 
@@ -66,35 +66,35 @@ fixed_summed [] (l ∷ ls) count = absurd (omega (arith, count))
 fixed_summed (x ∷ xs) [] count = absurd (omega (arith, count))
 
 -- sums along each line's lengths are a sum at the prices
-summed : (n : ℕ) (nums : List ℕ) (lines : List Line) → sum_by (λ l. l.num * sum_below n (λ e. slice_index l.cut.lengths e * slice_index nums e)) lines ≡ sum_below n (λ e. price lines e * slice_index nums e)
+summed : (n : ℕ) (nums : List ℕ) (lines : List CertificateLine) → sum_by (λ l. l.num * sum_below n (λ e. slice_index l.cut.lengths e * slice_index nums e)) lines ≡ sum_below n (λ e. price lines e * slice_index nums e)
 summed n nums lines =
     sums-equal _ (λ l. sum_below n (λ e. slice_index nums e * (l.num * slice_index l.cut.lengths e))) lines (λ l. sym (below-times n l.num (λ e. slice_index l.cut.lengths e * slice_index nums e)) ∙ below-same n _ _ (λ e lt. omega arith))
-    ∙ (sym (below-swapped n (λ e (l : Line). slice_index nums e * (l.num * slice_index l.cut.lengths e)) lines)
-    ∙ below-same n _ _ (λ e lt. sums-times (slice_index nums e) (λ (l : Line). l.num * slice_index l.cut.lengths e) lines ∙ omega arith))
+    ∙ (sym (below-swapped n (λ e (l : CertificateLine). slice_index nums e * (l.num * slice_index l.cut.lengths e)) lines)
+    ∙ below-same n _ _ (λ e lt. sums-times (slice_index nums e) (λ (l : CertificateLine). l.num * slice_index l.cut.lengths e) lines ∙ omega arith))
 
 -- what the pre-installed capacities give along the cuts is their sum at the prices
-given_summed : (p : Case) (lines : List Line) → AllByRecursion (λ l. IsLine p l.cut) lines → given p.links lines ≡ sum_below (length p.links) (λ e. price lines e * slice_index (fixed_of p.links) e)
+given_summed : (p : Case) (lines : List CertificateLine) → AllByRecursion (λ l. IsCut p l.cut) lines → given p.links lines ≡ sum_below (length p.links) (λ e. price lines e * slice_index (fixed_of p.links) e)
 given_summed p lines each =
-    sums-same (λ l. l.num * fixed_along l.cut.lengths p.links) (λ l. l.num * sum_below (length p.links) (λ e. slice_index l.cut.lengths e * slice_index (fixed_of p.links) e)) (λ l. IsLine p l.cut) lines each
+    sums-same (λ l. l.num * fixed_along l.cut.lengths p.links) (λ l. l.num * sum_below (length p.links) (λ e. slice_index l.cut.lengths e * slice_index (fixed_of p.links) e)) (λ l. IsCut p l.cut) lines each
     (λ l is. ap (λ s. l.num * s) (fixed_summed l.cut.lengths p.links is.kept.count))
     ∙ summed (length p.links) (fixed_of p.links) lines
 
 module _ (p : Case) (counts : List (List ℕ)) (able : IsAble p counts) where
   -- a line asks for no more than the capacities of able counts give along its lengths
-  line_met : (line : Line) → IsLine p line.cut → line.num * line.cut.right ≤ line.num * sum_below (length p.links) (λ e. slice_index line.cut.lengths e * slice_index (capacities p.links counts) e)
+  line_met : (line : CertificateLine) → IsCut p line.cut → line.num * line.cut.right ≤ line.num * sum_below (length p.links) (λ e. slice_index line.cut.lengths e * slice_index (capacities p.links counts) e)
   line_met line is =
       let here = able.each line.cut.state.0 is.listed_state in
       mul-le-mul_left line.num (omega (arith, metric_inequality (graph_in p line.cut.state.0) p.demands 1 (capacities p.links counts) line.cut.lengths line.cut.right here.routing here.carries is.right))
 
   -- what the cuts ask for is given by the pre-installed capacities, or paid for
-  pub asked_met : (den : ℕ) (lines : List Line) → All (λ l. IsLine p l.cut) lines
+  pub asked_met : (den : ℕ) (lines : List CertificateLine) → All (λ l. IsCut p l.cut) lines
       → ((e : ℕ) (l : Link) → slice_get p.links e ≡ Some l → All (λ m. price lines e * m.capacity ≤ den * m.cost) l.modules)
       → asked lines ≤ given p.links lines + den * total_cost p.links counts
   asked_met den lines each priced =
-      let all = recursion_from_All (λ (l : Line). IsLine p l.cut) lines each in
+      let all = recursion_from_All (λ (l : CertificateLine). IsCut p l.cut) lines each in
       omega (
         arith,
-        sums-le _ _ (λ (l : Line). IsLine p l.cut) lines all line_met,
+        sums-le _ _ (λ (l : CertificateLine). IsCut p l.cut) lines all line_met,
         summed (length p.links) (capacities p.links counts) lines,
         given_summed p lines all,
         capacities_priced den (price lines) p.links counts able.shape priced,

@@ -11,13 +11,13 @@ use Rattle.net_core.specs.declared.plan.CutLine.{CutLine}
 use Rattle.net_core.specs.Cases.{Case}
 use Rattle.net_core.specs.Network.{IsNetwork}
 use Rattle.plan_terms.specs.Capacities.{total_cost}
-use Rattle.plan_terms.specs.Certificates.{Line, IsLine, price, asked, fixed_along, given, raw_value, IsCertificate}
+use Rattle.plan_terms.specs.Certificates.{CertificateLine, IsCut, price, asked, fixed_along, given, raw_value, IsCertificate}
 use Rattle.plan_terms.specs.OwnBounds.{IsValid, OwnBoundHolds, IsOwnBound}
 use Rattle.plan_terms.proofs.Bounds.{bound_unique}
 use Rattle.plan_terms.proofs.Duality.{asked_met, bound_met}
 
 -- a cut as the only line of a certificate
-abbrev pub alone : CutLine → ℕ → List Line
+abbrev pub alone : CutLine → ℕ → List CertificateLine
 alone cut num = record { cut = cut; num = num } ∷ []
 
 -- the raw value of a cut alone, over the denominator
@@ -32,8 +32,8 @@ priced_alone links cut num den valid e l at k d lt =
     let same : price (alone cut num) e ≡ num * slice_index cut.lengths e = omega arith in
     subst (λ i. i * (get_or l.modules k d).capacity ≤ den * (get_or l.modules k d).cost) (sym same) (valid.priced e l at k d lt)
 
-line_alone : (p : Case) (cut : CutLine) (num : ℕ) → IsLine p cut → All (λ l. IsLine p l.cut) (alone cut num)
-line_alone p cut num is = All-cons (λ (l : Line). IsLine p l.cut) (record { cut = cut; num = num }) [] is (All-nil (λ (l : Line). IsLine p l.cut))
+line_alone : (p : Case) (cut : CutLine) (num : ℕ) → IsCut p cut → All (λ l. IsCut p l.cut) (alone cut num)
+line_alone p cut num is = All-cons (λ (l : CertificateLine). IsCut p l.cut) (record { cut = cut; num = num }) [] is (All-nil (λ (l : CertificateLine). IsCut p l.cut))
 
 pub own_bound_holds : OwnBoundHolds
 own_bound_holds p cut bound counts is own able =
@@ -73,7 +73,7 @@ fixed_limit nodes links lengths network small =
 
 -- a valid multiplier within the limits makes a cut alone a certificate
 pub certificate_alone : (p : Case) (cut : CutLine) (num den : ℕ)
-    → ∥ IsNetwork p.nodes p.links ∥₁ → IsLine p cut → All (λ x. x < 2 ^ 32) cut.lengths → cut.right < 2 ^ 84
+    → ∥ IsNetwork p.nodes p.links ∥₁ → IsCut p cut → All (λ x. x < 2 ^ 32) cut.lengths → cut.right < 2 ^ 84
     → IsValid p.links cut.lengths num den → num < 2 ^ 40 → den < 2 ^ 72
     → IsCertificate p den (alone cut num)
 certificate_alone p cut num den checked is small low valid num_limit den_limit =
@@ -83,7 +83,7 @@ certificate_alone p cut num den checked is small low valid num_limit den_limit =
     record {
       positive = valid.positive;
       den_limit = den_limit;
-      nums = All-cons (λ (l : Line). l.num < 2 ^ 62) (record { cut = cut; num = num }) [] (omega (arith, num_limit)) (All-nil (λ (l : Line). l.num < 2 ^ 62));
+      nums = All-cons (λ (l : CertificateLine). l.num < 2 ^ 62) (record { cut = cut; num = num }) [] (omega (arith, num_limit)) (All-nil (λ (l : CertificateLine). l.num < 2 ^ 62));
       asked_limit = omega (arith, asked_small);
       given_limit = omega (arith, given_small, num_limit);
       each = line_alone p cut num is;
@@ -95,10 +95,10 @@ pub empty_certificate : (p : Case) → IsCertificate p 1 []
 empty_certificate p = record {
   positive = omega arith;
   den_limit = omega arith;
-  nums = All-nil (λ (l : Line). l.num < 2 ^ 62);
+  nums = All-nil (λ (l : CertificateLine). l.num < 2 ^ 62);
   asked_limit = omega arith;
   given_limit = omega arith;
-  each = All-nil (λ (l : Line). IsLine p l.cut);
+  each = All-nil (λ (l : CertificateLine). IsCut p l.cut);
   priced = λ e l at k d lt. omega arith;
 }
 

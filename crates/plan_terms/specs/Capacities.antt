@@ -29,7 +29,7 @@ abbrev pub AreCounts : List Link → List (List ℕ) → Type 0
 AreCounts links counts = AllZip (λ l c. length c ≡ length l.modules) links counts
 
 -- each count is below 2^44, and each link's capacity is below 2^46 thousandths
-pub record AreNarrow (links : List Link) (counts : List (List ℕ)) : Type 0 where
+pub record AreWithinLimits (links : List Link) (counts : List (List ℕ)) : Type 0 where
   pub few : All (λ c. All (λ n. n < 2 ^ 44) c) counts
   pub small : All (λ n. n < 2 ^ 46) (capacities links counts)
 

@@ -14,7 +14,7 @@ abbrev pub AreOfOneKind : List ℕ → Type 0
 AreOfOneKind counts = count_by (λ n. nat_lt 0 n) counts ≤ 1
 
 -- the cost of a cover: the least that counts of one kind of module cost which reach the need
-pub record IsCover (modules : List Module) (need cost : ℕ) : Type 0 where
+pub record IsCoverCost (modules : List Module) (need cost : ℕ) : Type 0 where
   pub counts : List ℕ
   pub kind : AreOfOneKind counts
   pub reaches : Reaches modules need counts
@@ -24,7 +24,7 @@ pub record IsCover (modules : List Module) (need cost : ℕ) : Type 0 where
 -- counts cover a need: they reach it at the cost of its cover
 pub record Covers (modules : List Module) (need : ℕ) (counts : List ℕ) : Type 0 where
   pub reaches : Reaches modules need counts
-  pub cheapest : IsCover modules need (modules_cost modules counts)
+  pub cheapest : IsCoverCost modules need (modules_cost modules counts)
 
 -- the counts of each link cover its load less its pre-installed capacity
 pub record CoverLoads (links : List Link) (loads : ℕ → ℕ) (counts : List (List ℕ)) : Type 0 where

@@ -1,4 +1,4 @@
--- edits of demands: what each is answered, and the demands after it
+-- edits of demands: what each is edit_reply, and the demands after it
 use Rattle.std.specs.Prelude.{ℕ, ◌+◌, ◌-◌, ◌^◌, List, [], ◌∷◌, ◌++◌, Bool, Option, None, Some, cond, filter, length, map, min, nat_le, nat_lt, not, ◌==◌, ◌&&◌, ◌||◌, position, sum_by, unwrap_or}
 use Rattle.net_core.specs.declared.demand.Demand.{Demand}
 use Rattle.net_core.specs.declared.ids.NodeId.{NodeId}
@@ -50,18 +50,18 @@ add_fault nodes demands name from to = first_fault (
     ∷ (nat_le 2048 (length demands), TooMany)
     ∷ [])
 
--- the fault, or else the new demand behind the others
+-- the fault, or else the new demand after the others
 abbrev pub added : List Demand → ℕ → Demand → Option Reply → Answered
 added demands version new (Some fault) = (fault, demands)
 added demands version new None = within_total demands version (demands ++ new ∷ [])
 
--- what an edit is answered where these are the nodes, the demands and their version
-abbrev pub answered : List (List ℕ) → List Demand → ℕ → Edit → Answered
-answered nodes demands version (Set name need) =
+-- what an edit is edit_reply where these are the nodes, the demands and their version
+abbrev pub edit_reply : List (List ℕ) → List Demand → ℕ → Edit → Answered
+edit_reply nodes demands version (Set name need) =
     cond (is_demand name demands) (within_total demands version (set_need name need demands)) (UnknownDemand, demands)
-answered nodes demands version (Drop name) =
+edit_reply nodes demands version (Drop name) =
     cond (is_demand name demands) (Accepted (next_version version), without name demands) (UnknownDemand, demands)
-answered nodes demands version (Add name from to need) =
+edit_reply nodes demands version (Add name from to need) =
     let new : Demand = record { name = name; from = record { 0 = node_of nodes from }; to = record { 0 = node_of nodes to }; need = need } in
     added demands version new (add_fault nodes demands name from to)
 

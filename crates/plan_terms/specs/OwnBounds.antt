@@ -6,7 +6,7 @@ use Rattle.net_core.specs.declared.plan.CutLine.{CutLine}
 use Rattle.net_core.specs.Cases.{Case}
 use Rattle.plan_terms.specs.Bounds.{IsBound}
 use Rattle.plan_terms.specs.Capacities.{IsAble, total_cost}
-use Rattle.plan_terms.specs.Certificates.{IsLine, fixed_along}
+use Rattle.plan_terms.specs.Certificates.{IsCut, fixed_along}
 
 -- a multiplier of lengths is valid: no module's price exceeds its cost
 pub record IsValid (links : List Link) (lengths : List ℕ) (num den : ℕ) : Type 0 where
@@ -37,7 +37,7 @@ pub record IsBestOwn (links : List Link) (cuts : List CutLine) (k : ℕ) : Type 
 -- no able counts cost less than the own bound of a cut
 abbrev pub OwnBoundHolds : Type 0
 OwnBoundHolds = (p : Case) (cut : CutLine) (bound : ℕ) (counts : List (List ℕ))
-    → IsLine p cut
+    → IsCut p cut
     → IsOwnBound p.links cut.lengths cut.right bound
     → IsAble p counts
     → bound ≤ total_cost p.links counts

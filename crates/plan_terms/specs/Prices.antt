@@ -20,7 +20,7 @@ pub record HasGreatestUnitCost (links : List Link) (m : Module) : Type 0 where
   pub some : Any (λ l. HasLeastUnitCost l.modules m) links
   pub greatest : (e : ℕ) (l : Link) (o : Module) → slice_get links e ≡ Some l → HasLeastUnitCost l.modules o → o.cost * m.capacity ≤ m.cost * o.capacity
 
--- the cost per capacity of m, in sixteenths of that of the dearest, rounded down; 0 where even the dearest costs nothing
+-- the cost per capacity of m, in sixteenths of that of the most expensive, rounded down; 0 where even the most expensive costs nothing
 abbrev pub IsSixteenths : Module → Module → ℕ → Type 0
 IsSixteenths dearest m n =
     ((dearest.cost ≡ 0) × (n ≡ 0))

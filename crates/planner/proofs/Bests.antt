@@ -11,7 +11,7 @@ use Rattle.net_core.specs.Network.{IsNetwork}
 use Rattle.net_core.specs.declared.network.Link.{Link}
 use Rattle.net_core.specs.declared.plan.CutLine.{CutLine}
 use Rattle.plan_terms.specs.Bounds.{IsBound, IsLowest}
-use Rattle.plan_terms.specs.Certificates.{IsCertificate, IsLine, fixed_along, raw_value}
+use Rattle.plan_terms.specs.Certificates.{IsCertificate, IsCut, fixed_along, raw_value}
 use Rattle.plan_terms.specs.Keeping.{AreZero, Keeps}
 use Rattle.plan_terms.specs.OwnBounds.{IsBestOwn, IsOwnBound}
 use Rattle.plan_terms.proofs.Bounds.{lowest_positive}
@@ -109,7 +109,7 @@ module _ (p : Case) (cuts : List CutLine) (h : AreUnitCuts p (length p.listed + 
   certified : (own : OwnCertificate) → ∥ IsNetwork p.nodes p.links ∥₁ → IsCertificateOf p.links cut own → IsBoundCut p cut
       → IsCertified p (record { bound = own.bound; raw = own.raw; cut = Some (record { line = cut; multiplier = own.multiplier }) })
   certified own checked is sound =
-      let line : IsLine p cut = record { listed_state = sound.listed_state; kept = sound.kept; right = sound.unit.right } in
+      let line : IsCut p cut = record { listed_state = sound.listed_state; kept = sound.kept; right = sound.unit.right } in
       let small = kept_small (graph_in p cut.state.0) cut.lengths sound.unit.keeps in
       let lines = alone cut own.multiplier.num in
       let raw = sym (raw_alone p.links cut own.multiplier.num) in

@@ -6,7 +6,7 @@ use Rattle.net_core.specs.Cases.{Case, graph_in}
 use Rattle.net_core.specs.Graphs.{Joins}
 use Rattle.plan_terms.specs.Bounds.{IsBound, IsLowest}
 use Rattle.plan_terms.specs.Capacities.{IsAble, total_cost}
-use Rattle.plan_terms.specs.Certificates.{IsCertificate, IsRight, Line, raw_value}
+use Rattle.plan_terms.specs.Certificates.{IsCertificate, IsRight, CertificateLine, raw_value}
 use Rattle.plan_terms.specs.Keeping.{AreZero, Keeps}
 use Rattle.plan_terms.specs.OwnBounds.{IsMultiplier, IsOwnBound}
 use Rattle.planner.specs.declared.bounded.Bounded.{Bounded}
@@ -28,7 +28,7 @@ IsUnitBound p s bound =
     ⊎ ((cut : CutLine) × (cut.state.0 ≡ s) × IsUnitCut p cut × IsOwnBound p.links cut.lengths cut.right bound)
 
 -- the lines of the certificate: the cut alone, or none
-abbrev pub lines_of : Option CertifiedCut → List Line
+abbrev pub lines_of : Option CertifiedCut → List CertificateLine
 lines_of None = []
 lines_of (Some c) = record { cut = c.line; num = c.multiplier.num } ∷ []
 

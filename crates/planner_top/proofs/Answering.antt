@@ -6,8 +6,8 @@ use Rattle.net_core.specs.declared.demand.Demand.{Demand}
 use Rattle.net_core.specs.declared.network.Network.{Network}
 use Rattle.outside_io.specs.Outside.{Files}
 use Rattle.planner_top.specs.Commands.{Command, IsCommand, Plan, PlanWords, default}
-use Rattle.planner_top.specs.Inputs.{EndsFile, Fetched, HasModel, RefusesModelFile, SpellsNetwork}
-use Rattle.planner_top.specs.Run.{Ends, EndsCommand, EndsFailures}
+use Rattle.planner_top.specs.Inputs.{StopsAtFile, Fetched, HasModel, RefusesModelFile, SpellsNetwork}
+use Rattle.planner_top.specs.Run.{Ends, EndsCommand, StopsAtFailures}
 use Rattle.planner_top.specs.inner.Steps.{HasCause, Stops}
 use Rattle.planner_top.specs.declared.answer.Answer.{Answer}
 use Rattle.planner_top.specs.declared.answer.Stop.{Stop}
@@ -23,16 +23,16 @@ stop_map P Q (stop.Told a) f h = f a.status a.text h
 
 -- a model that ends the run ends the plan
 pub model_ends : (files : Option Files) (w : PlanWords) (net : Network) (demands : List Demand) (s : Stop) → Fetched files w.network SpellsNetwork (net, demands)
-    → Stops (λ status text. (w.model ≢ default) × EndsFile files w.model BadModel RefusesModelFile status text) s → Stops (EndsCommand files (Plan w)) s
+    → Stops (λ status text. (w.model ≢ default) × StopsAtFile files w.model BadModel RefusesModelFile status text) s → Stops (EndsCommand files (Plan w)) s
 model_ends files w net demands s has ends =
-    stop_map (λ status text. (w.model ≢ default) × EndsFile files w.model BadModel RefusesModelFile status text) (EndsCommand files (Plan w)) s
+    stop_map (λ status text. (w.model ≢ default) × StopsAtFile files w.model BadModel RefusesModelFile status text) (EndsCommand files (Plan w)) s
     (λ status text e. inr (net, demands, has, inl e)) ends
 
 -- a failure list that ends the run ends the plan
 pub failures_end : (files : Option Files) (w : PlanWords) (net : Network) (demands : List Demand) (reconfigure : Bool) (s : Stop) → Fetched files w.network SpellsNetwork (net, demands) → HasModel files w reconfigure
-    → Stops (EndsFailures files w net.links reconfigure) s → Stops (EndsCommand files (Plan w)) s
+    → Stops (StopsAtFailures files w net.links reconfigure) s → Stops (EndsCommand files (Plan w)) s
 failures_end files w net demands reconfigure s has model ends =
-    stop_map (EndsFailures files w net.links reconfigure) (EndsCommand files (Plan w)) s
+    stop_map (StopsAtFailures files w net.links reconfigure) (EndsCommand files (Plan w)) s
     (λ status text e. inr (net, demands, has, inr (reconfigure, model, inl e))) ends
 
 -- what a command comes to is what its words come to

@@ -44,7 +44,7 @@ refusal_of refusal = Err refusal
 
 -- bytes that spell no model
 pub model_refused : (bytes : List ℕ) (refusal : Refusal ModelKind) (at : ℕ) (kind : ModelKind) (s : Stop)
-    → refusal ≡ Bad at kind → ((model : Model) → models.Spells bytes model → AnswersAs (λ m. m) (refusal_of refusal) model) → Fails refusal (model_of bytes)
+    → refusal ≡ Bad at kind → ((model : Model) → models.SpellsModel bytes model → AnswersAs (λ m. m) (refusal_of refusal) model) → Fails refusal (model_of bytes)
     → Stops (Says BadModel (refusal_line (codes "model") (model_word kind) at)) s → Stops (λ status text. (status ≡ BadModel) × RefusesModelFile bytes text) s
 model_refused bytes refusal at kind s is only exact h =
     stop_map (Says BadModel (refusal_line (codes "model") (model_word kind) at)) (λ status text. (status ≡ BadModel) × RefusesModelFile bytes text) s
@@ -66,7 +66,7 @@ states_refusal_of refusal = Err refusal
 
 -- bytes that spell no states of these links
 pub failures_refused : (links : List Link) (bytes : List ℕ) (refusal : Refusal FailuresKind) (at : ℕ) (kind : FailuresKind) (s : Stop)
-    → refusal ≡ Bad at kind → ((listed : List Listed) → failures.Spells links bytes listed → AnswersAs (λ states. states.listed) (states_refusal_of refusal) listed) → Fails refusal (failures_of links bytes)
+    → refusal ≡ Bad at kind → ((listed : List Listed) → failures.SpellsFailures links bytes listed → AnswersAs (λ states. states.listed) (states_refusal_of refusal) listed) → Fails refusal (failures_of links bytes)
     → Stops (Says BadFailures (refusal_line (codes "failures") (failures_word kind) at)) s → Stops (λ status text. (status ≡ BadFailures) × RefusesFailureFile links bytes text) s
 failures_refused links bytes refusal at kind s is only exact h =
     stop_map (Says BadFailures (refusal_line (codes "failures") (failures_word kind) at)) (λ status text. (status ≡ BadFailures) × RefusesFailureFile links bytes text) s

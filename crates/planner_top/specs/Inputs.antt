@@ -27,16 +27,16 @@ abbrev pub Fetched : {X : Type 0} → Option Files → List ℕ → (List ℕ �
 Fetched files name Holds x = (bytes : List ℕ) × Fetches files name limit fetch.Found bytes × Holds bytes x
 
 -- A file can't be fetched: it isn't there, or is too long, or reading failed.
-abbrev pub EndsFetch : Option Files → List ℕ → Status → List ℕ → Type 0
-EndsFetch files name status text =
+abbrev pub StopsAtFetch : Option Files → List ℕ → Status → List ℕ → Type 0
+StopsAtFetch files name status text =
     ((status ≡ NoFile) × Fetches files name limit fetch.Missing [] × (text ≡ codes "no file " ++ name ++ 10 ∷ []))
     ⊎ ((status ≡ TooLong) × Fetches files name limit fetch.TooLong [] × (text ≡ codes "too long " ++ name ++ 10 ∷ []))
     ⊎ ((status ≡ ReadFault) × (text ≡ []))
 
 -- A file ends the run: it can't be fetched, or its bytes are refused with the status and the text.
-abbrev pub EndsFile : Option Files → List ℕ → Status → (List ℕ → List ℕ → Type 0) → Status → List ℕ → Type 0
-EndsFile files name bad Refused status text =
-    EndsFetch files name status text ⊎ ((status ≡ bad) × Fetched files name Refused text)
+abbrev pub StopsAtFile : Option Files → List ℕ → Status → (List ℕ → List ℕ → Type 0) → Status → List ℕ → Type 0
+StopsAtFile files name bad Refused status text =
+    StopsAtFetch files name status text ⊎ ((status ≡ bad) × Fetched files name Refused text)
 
 -- the bytes spell this network and these demands
 abbrev pub SpellsNetwork : List ℕ → Network × List Demand → Type 0
@@ -47,22 +47,22 @@ abbrev pub RefusesNetworkFile : List ℕ → List ℕ → Type 0
 RefusesNetworkFile = Refuses SpellsNetwork IsFirstFault (codes "network") kind_word
 
 abbrev pub RefusesModelFile : List ℕ → List ℕ → Type 0
-RefusesModelFile = Refuses models.Spells (λ bytes at kind. model_of bytes ≡ Err (at, kind)) (codes "model") model_word
+RefusesModelFile = Refuses models.SpellsModel (λ bytes at kind. model_of bytes ≡ Err (at, kind)) (codes "model") model_word
 
 abbrev pub RefusesFailureFile : List Link → List ℕ → List ℕ → Type 0
 RefusesFailureFile links =
-    Refuses (failures.Spells links) (λ bytes at kind. failures_of links bytes ≡ Err (at, kind)) (codes "failures") failures_word
+    Refuses (failures.SpellsFailures links) (λ bytes at kind. failures_of links bytes ≡ Err (at, kind)) (codes "failures") failures_word
 
 -- Whether the model asks for reconfiguration: by its file; without one, where a failure file is named.
 abbrev pub HasModel : Option Files → PlanWords → Bool → Type 0
 HasModel files w reconfigure =
-    ((w.model ≢ default) × Fetched files w.model models.Spells (record { reconfigure = reconfigure }))
+    ((w.model ≢ default) × Fetched files w.model models.SpellsModel (record { reconfigure = reconfigure }))
     ⊎ ((w.model ≡ default) × (w.failures ≢ default) × (reconfigure ≡ true))
     ⊎ ((w.model ≡ default) × (w.failures ≡ default) × (reconfigure ≡ false))
 
 -- The listed states: those of the failure file; without one, each link alone with reconfiguration, and none without.
 abbrev pub HasStates : Option Files → PlanWords → List Link → Bool → List Listed → Type 0
 HasStates files w links reconfigure listed =
-    ((w.failures ≢ default) × (reconfigure ≡ true) × Fetched files w.failures (failures.Spells links) listed)
+    ((w.failures ≢ default) × (reconfigure ≡ true) × Fetched files w.failures (failures.SpellsFailures links) listed)
     ⊎ ((w.failures ≡ default) × (reconfigure ≡ true) × (listed ≡ failures.single_states links))
     ⊎ ((w.failures ≡ default) × (reconfigure ≡ false) × (listed ≡ []))

@@ -12,7 +12,7 @@ use Rattle.plan_terms.specs.Separations.{IsFirstSeparation}
 use Rattle.planner.specs.Plans.{IsFirstPlan}
 use Rattle.planner.specs.declared.plan.FirstPlan.{FirstPlan}
 use Rattle.planner_top.specs.Commands.{Command, IsCommand, Plan, PlanWords, default, usage}
-use Rattle.planner_top.specs.Inputs.{EndsFile, Fetched, HasModel, HasStates, RefusesFailureFile, RefusesModelFile, RefusesNetworkFile, SpellsNetwork}
+use Rattle.planner_top.specs.Inputs.{StopsAtFile, Fetched, HasModel, HasStates, RefusesFailureFile, RefusesModelFile, RefusesNetworkFile, SpellsNetwork}
 use Rattle.planner_top.specs.Refusals.{unused_line}
 use Rattle.planner_top.specs.Texts.{short_form}
 use Rattle.planner_top.specs.declared.status.Status.{Status}
@@ -58,16 +58,16 @@ EndsCase p status text =
     ⊎ ((status ≡ NotSurvivable) × NamesFirstSeparation p text)
 
 -- A failure list ends the run: it is named though the model has no survivability, or its file is not read.
-abbrev pub EndsFailures : Option Files → PlanWords → List Link → Bool → Status → List ℕ → Type 0
-EndsFailures files w links reconfigure status text =
+abbrev pub StopsAtFailures : Option Files → PlanWords → List Link → Bool → Status → List ℕ → Type 0
+StopsAtFailures files w links reconfigure status text =
     (w.failures ≢ default)
     × (((reconfigure ≡ false) × (status ≡ BadFailures) × (text ≡ unused_line))
-    ⊎ ((reconfigure ≡ true) × EndsFile files w.failures BadFailures (RefusesFailureFile links) status text))
+    ⊎ ((reconfigure ≡ true) × StopsAtFile files w.failures BadFailures (RefusesFailureFile links) status text))
 
 -- what a network and a model come to: the states are read, and the plan is made
 abbrev pub EndsModel : Option Files → PlanWords → Network → List Demand → Bool → Status → List ℕ → Type 0
 EndsModel files w net demands reconfigure status text =
-    EndsFailures files w net.links reconfigure status text
+    StopsAtFailures files w net.links reconfigure status text
     ⊎ ((listed : List Listed)
     × HasStates files w net.links reconfigure listed
     × EndsCase (record { nodes = net.nodes; links = net.links; listed = listed; demands = demands }) status text)
@@ -75,13 +75,13 @@ EndsModel files w net demands reconfigure status text =
 -- what a network comes to: the model is read next
 abbrev pub EndsNetwork : Option Files → PlanWords → Network → List Demand → Status → List ℕ → Type 0
 EndsNetwork files w net demands status text =
-    ((w.model ≢ default) × EndsFile files w.model BadModel RefusesModelFile status text)
+    ((w.model ≢ default) × StopsAtFile files w.model BadModel RefusesModelFile status text)
     ⊎ ((reconfigure : Bool) × HasModel files w reconfigure × EndsModel files w net demands reconfigure status text)
 
 -- What a command comes to. A plan's files are read in their order, and the first that is not read ends the run.
 abbrev pub EndsCommand : Option Files → Command → Status → List ℕ → Type 0
 EndsCommand files (Plan w) status text =
-    EndsFile files w.network BadNetwork RefusesNetworkFile status text
+    StopsAtFile files w.network BadNetwork RefusesNetworkFile status text
     ⊎ ((net : Network) × (demands : List Demand)
     × Fetched files w.network SpellsNetwork (net, demands)
     × EndsNetwork files w net demands status text)

@@ -8,8 +8,8 @@ ghost use Rattle.model_reader.specs.Failures as failures;
 ghost use Rattle.model_reader.specs.Models as models;
 ghost use Rattle.planner_top.specs.Commands as commands;
 ghost use Rattle.planner_top.specs.Commands.{default};
-ghost use Rattle.planner_top.specs.Inputs.{EndsFetch, EndsFile, Fetched, HasModel, HasStates, RefusesFailureFile, RefusesModelFile, RefusesNetworkFile, SpellsNetwork, limit};
-ghost use Rattle.planner_top.specs.Run.{EndsCommand, EndsFailures, KeepsShelf};
+ghost use Rattle.planner_top.specs.Inputs.{StopsAtFetch, StopsAtFile, Fetched, HasModel, HasStates, RefusesFailureFile, RefusesModelFile, RefusesNetworkFile, SpellsNetwork, limit};
+ghost use Rattle.planner_top.specs.Run.{EndsCommand, StopsAtFailures, KeepsShelf};
 ghost use Rattle.planner_top.specs.inner.Steps.{HasInputs, Stops, named};
 
 use crate::answer::Stop;
@@ -31,7 +31,7 @@ const LIMIT: u64 = 1 << 24;
 /// The content of a file.
 fn fetch_file<S: Shelf>(alloc: Global, name: &str, shelf: &mut S) -> Result<Bytes, Stop>
     ensures found { IfOk result (λ bytes. Fetches (S.files shelf.old) name.now limit Fetch.Found bytes) }
-    ensures ends { IfErr result (Stops (EndsFetch (S.files shelf.old) name.now)) }
+    ensures ends { IfErr result (Stops (StopsAtFetch (S.files shelf.old) name.now)) }
     ensures shelf { KeepsShelf S.files S.faults (IsErrOf result Stop.ReadFault) shelf.old shelf.new }
 {
     let mut bytes = List::new(alloc);
@@ -61,7 +61,7 @@ fn network_of(alloc: Global, bytes: &[u8]) -> Result<(Network, Demands), Stop>
 
 /// Whether the model that bytes spell asks for reconfiguration.
 fn model_of(alloc: Global, bytes: &[u8]) -> Result<bool, Stop>
-    ensures spelled { IfOk result (λ r. models.Spells bytes.now (record { reconfigure = r })) }
+    ensures spelled { IfOk result (λ r. models.SpellsModel bytes.now (record { reconfigure = r })) }
     ensures refused { IfErr result (Stops (λ s text. (s ≡ Status.BadModel) × RefusesModelFile bytes.now text)) }
 {
     match read_model(alloc, bytes) {
@@ -75,7 +75,7 @@ fn model_of(alloc: Global, bytes: &[u8]) -> Result<bool, Stop>
 
 /// The states that bytes spell.
 fn states_of(alloc: Global, net: &Network, bytes: &[u8]) -> Result<States, Stop>
-    ensures spelled { IfOk result (λ r. failures.Spells net.now.links bytes.now r.listed) }
+    ensures spelled { IfOk result (λ r. failures.SpellsFailures net.now.links bytes.now r.listed) }
     ensures refused { IfErr result (Stops (λ s text. (s ≡ Status.BadFailures) × RefusesFailureFile net.now.links bytes.now text)) }
 {
     match read_failures(alloc, net, bytes) {
@@ -95,7 +95,7 @@ fn load_network<S: Shelf>(
 ) -> Result<(Network, Demands), Stop>
     ensures has { IfOk result (Fetched (S.files shelf.old) files.now.network.now SpellsNetwork) }
     ensures belong { IfOk result (λ r. AreDemands (length r.0.nodes) r.1) }
-    ensures ends { IfErr result (Stops (EndsFile (S.files shelf.old) files.now.network.now Status.BadNetwork RefusesNetworkFile)) }
+    ensures ends { IfErr result (Stops (StopsAtFile (S.files shelf.old) files.now.network.now Status.BadNetwork RefusesNetworkFile)) }
     ensures shelf { KeepsShelf S.files S.faults (IsErrOf result Stop.ReadFault) shelf.old shelf.new }
 {
     let bytes = fetch_file(alloc, files.network, shelf)?;
@@ -105,7 +105,7 @@ fn load_network<S: Shelf>(
 /// Whether the model asks for reconfiguration. Without a file, a failure file asks for it.
 fn load_model<S: Shelf>(alloc: Global, files: &PlanFiles, shelf: &mut S) -> Result<bool, Stop>
     ensures has { IfOk result (HasModel (S.files shelf.old) (named files.now)) }
-    ensures ends { IfErr result (Stops (λ s text. (files.now.model.now ≢ default) × EndsFile (S.files shelf.old) files.now.model.now Status.BadModel RefusesModelFile s text)) }
+    ensures ends { IfErr result (Stops (λ s text. (files.now.model.now ≢ default) × StopsAtFile (S.files shelf.old) files.now.model.now Status.BadModel RefusesModelFile s text)) }
     ensures shelf { KeepsShelf S.files S.faults (IsErrOf result Stop.ReadFault) shelf.old shelf.new }
 {
     if files.model == DEFAULT {
@@ -134,8 +134,8 @@ fn load_failures<S: Shelf>(
     net: &Network,
     shelf: &mut S,
 ) -> Result<States, Stop>
-    ensures has { IfOk result (λ r. Fetched (S.files shelf.old) files.now.failures.now (failures.Spells net.now.links) r.listed) }
-    ensures ends { IfErr result (Stops (EndsFile (S.files shelf.old) files.now.failures.now Status.BadFailures (RefusesFailureFile net.now.links))) }
+    ensures has { IfOk result (λ r. Fetched (S.files shelf.old) files.now.failures.now (failures.SpellsFailures net.now.links) r.listed) }
+    ensures ends { IfErr result (Stops (StopsAtFile (S.files shelf.old) files.now.failures.now Status.BadFailures (RefusesFailureFile net.now.links))) }
     ensures shelf { KeepsShelf S.files S.faults (IsErrOf result Stop.ReadFault) shelf.old shelf.new }
 {
     let bytes = fetch_file(alloc, files.failures, shelf)?;
@@ -151,7 +151,7 @@ fn load_states<S: Shelf>(
     shelf: &mut S,
 ) -> Result<States, Stop>
     ensures has { IfOk result (λ r. HasStates (S.files shelf.old) (named files.now) net.now.links reconfigure r.listed) }
-    ensures ends { IfErr result (Stops (EndsFailures (S.files shelf.old) (named files.now) net.now.links reconfigure)) }
+    ensures ends { IfErr result (Stops (StopsAtFailures (S.files shelf.old) (named files.now) net.now.links reconfigure)) }
     ensures shelf { KeepsShelf S.files S.faults (IsErrOf result Stop.ReadFault) shelf.old shelf.new }
 {
     if files.failures == DEFAULT {

@@ -75,8 +75,7 @@ fn priced_in(
     }
 }
 
-/// A path between two nodes whose prices have the least sum over all paths of links that survive in the state. Of the
-/// cheapest paths it is one of fewest links, and of these the least by the numbers of its links.
+/// A path between two nodes whose prices have the least sum over all paths of links that survive in the state.
 ///
 /// There is one price for each link, below 2^62, and a price may be 0. In a triangle AB, BC, AC with the prices 0, 3 and 4
 /// the path from A to C is AB, BC, and its total 3. It takes time in the square of the nodes, and in the links.

@@ -47,7 +47,8 @@ module _ {N : Type 0} (rows : ℕ) (bound : ℕ → ℤ) (slack : ℕ → N) (is
   abbrev pub HoldsNumber : (ℕ → ColumnOf N) → N → Type 0
   HoldsNumber basis name = ((j : ℕ) → j < rows → basis j ≡ slack_basis slack j) × HasWideNumber name
 
-  -- a kind holds of a basis of a packing program; Value and Length mean something of some programs alone, which say what
+  -- a kind holds of a basis of a packing program; Value and Length mean something of some programs alone, which say what, and
+  -- Number of a cut holds also where its right side is wide
   abbrev pub HoldsKind : (ℕ → ColumnOf N) → WideKind N → Type 0
   HoldsKind basis (Number name) = HoldsNumber basis name
   HoldsKind basis (Row i) = HoldsRow rows basis i

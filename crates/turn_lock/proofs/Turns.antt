@@ -13,7 +13,7 @@ use Rattle.turn_lock.specs.declared.rule.Stage.TheVariants.{Idle, Waiting, Holdi
 use Rattle.turn_lock.specs.Histories.{IsPrefix, are_places}
 use Rattle.turn_lock.specs.inner.Tests.{stage_number}
 use Rattle.turn_lock.specs.inner.Rule.{one_where, within, times_at, tickets_of, ticket_at, turns_of, reach, KnowsStage, Knows, HasSlot, Kept, first_view}
-use Rattle.turn_lock.specs.inner.Plays.{Awaits, Draws, Looks, TakesTurn, Commits, Serves}
+use Rattle.turn_lock.specs.inner.Plays.{Awaits, Draws, Looks, TakesValue, Commits, Serves}
 use Rattle.turn_lock.proofs.Lists.{each_set, sum_set, one_below, two_below, sums_le, sums_lt}
 use Rattle.turn_lock.proofs.Places.{one_if, within_after, within_few, within_some, within_more, within_less, prefix_same, prefix_le, prefix_more, wider, place_last}
 
@@ -337,5 +337,5 @@ pub hand_is : {T : Type 0} (hand cs : List (ℕ × Option T)) (y : Option T) →
 hand_is hand cs y e = e ∙ ap (λ r. (0, y) ∷ r) (sym (ap rest e))
 
 -- a look that found the pass's own ticket
-pub took : {T I O : Type 0} (history : T → List I) (made : T → O) (st : Step (Option T)) (m n : Me (Option T) (View I O)) (word found : ℕ) → Awaits word m.0 → found ≡ word → Looks history made st m found n → (k : ℕ) × TakesTurn history made m n k
+pub took : {T I O : Type 0} (history : T → List I) (made : T → O) (st : Step (Option T)) (m n : Me (Option T) (View I O)) (word found : ℕ) → Awaits word m.0 → found ≡ word → Looks history made st m found n → (k : ℕ) × TakesValue history made m n k
 took history made st m n word found waits is looks = ⊎_elim (λ h. (waits.0, h.1)) (λ h. absurd (h.0 (is ∙ waits.1))) (looks waits.0 waits.2)

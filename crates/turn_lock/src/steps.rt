@@ -116,7 +116,7 @@ pub(crate) fn halve<T: Chronicle>(table: &TurnTable<T>, seat: &mut TurnSeat<T>) 
     table.shared.split_seat::<Halves>(seat)
 }
 
-/// TakesTurn another seat in, and looks at the count. The longer of the two lists that were seen is kept.
+/// Takes another seat in, and looks at the count. The longer of the two lists that were seen is kept.
 pub(crate) fn join<T: Chronicle>(table: &TurnTable<T>, seat: &mut TurnSeat<T>, other: TurnSeat<T>)
     requires own { seat.old.table_id ≡ table.now.shared.table_id }
     requires same { other.table_id ≡ table.now.shared.table_id }

@@ -6,7 +6,7 @@ use Rattle.plan_terms.specs.OwnBounds.{IsOwnBound}
 use Rattle.master_bound.specs.declared.best.Best.{Best}
 
 -- the cut at place k takes the place of another where its own bound is greater
-pub record IsBetter (links : List Link) (old : Best) (k : ℕ) (cut : CutLine) (new : Best) : Type 0 where
+pub record IsBetterOwn (links : List Link) (old : Best) (k : ℕ) (cut : CutLine) (new : Best) : Type 0 where
   pub bound : ℕ
   pub own : IsOwnBound links cut.lengths cut.right bound
   pub is : ((bound ≤ old.bound) × (new ≡ old)) ⊎ ((old.bound < bound) × (new ≡ record { cut = k; bound = bound }))

@@ -8,7 +8,7 @@ use Rattle.short_paths.specs.inner.Tables.{IsTable, answer_of}
 abbrev pub pair_count : ℕ → ℕ
 pair_count n = n * (n - 1) / 2
 
--- where the number of two nodes stands: behind the pairs of the nodes below the higher one
+-- where the number of two nodes stands: after the pairs of the nodes below the higher one
 abbrev pub pair_place : ℕ → ℕ → ℕ
 pair_place low high = pair_count high + low
 

@@ -62,13 +62,13 @@ module _ {T I O : Type 0} where
 
     module _ (origin_of_value : T → O) where
       -- the ticket k is served, and the value is in the hand
-      abbrev pub TakesTurn : Hand T I O → Hand T I O → ℕ → Type 0
-      TakesTurn m n k = (x : T) × (n.0 ≡ record m.0 { stage = Holding k; seen = history x }) × (n.1 ≡ (0, Some x) ∷ m.1)
+      abbrev pub TakesValue : Hand T I O → Hand T I O → ℕ → Type 0
+      TakesValue m n k = (x : T) × (n.0 ≡ record m.0 { stage = Holding k; seen = history x }) × (n.1 ≡ (0, Some x) ∷ m.1)
           × IsPrefix m.0.seen (history x) × (m.0.origin ≡ Some (origin_of_value x)) × OwnItemsStand n.0
 
       -- the pass's ticket is served, or nothing changed
       abbrev pub Looks : Step (Option T) → Hand T I O → ℕ → Hand T I O → Type 0
-      Looks s m found n = (k : ℕ) → m.0.stage ≡ Waiting k → ((found ≡ k % 2 ^ 64) × TakesTurn m n k) ⊎ ((found ≢ k % 2 ^ 64) × (n ≡ m))
+      Looks s m found n = (k : ℕ) → m.0.stage ≡ Waiting k → ((found ≡ k % 2 ^ 64) × TakesValue m n k) ⊎ ((found ≢ k % 2 ^ 64) × (n ≡ m))
 
 -- the value x came into the hand of the pass
 pub record Got {T I O : Type 0} (history : T → List I) (origin_of_value : T → O) (x : T) (old new : View I O) : Type 0 where

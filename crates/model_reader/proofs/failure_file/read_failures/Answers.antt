@@ -7,5 +7,5 @@ returns-clause-found c = failures_found c.args.net.now.nodes c.args.net.now.link
 pub returns-clause-only : goal.returns-clause-only
 returns-clause-only c = failures_only c.args.net.now.nodes c.args.net.now.links c.args.net.now.checked c.args.bytes.now c.file.result c.file.ensures
 
-pub returns-clause-first : goal.returns-clause-first
-returns-clause-first c = failures_first c.args.net.now.nodes c.args.net.now.links c.args.net.now.checked c.args.bytes.now c.file.result c.file.ensures
+pub returns-clause-not_early : goal.returns-clause-not_early
+returns-clause-not_early c = failures_first c.args.net.now.nodes c.args.net.now.links c.args.net.now.checked c.args.bytes.now c.file.result c.file.ensures

@@ -7,5 +7,5 @@ returns-clause-found c = model_found c.args.bytes.now c.file.result c.file.ensur
 pub returns-clause-only : goal.returns-clause-only
 returns-clause-only c = model_only c.args.bytes.now c.file.result c.file.ensures
 
-pub returns-clause-first : goal.returns-clause-first
-returns-clause-first c = model_first c.args.bytes.now c.file.result c.file.ensures
+pub returns-clause-not_early : goal.returns-clause-not_early
+returns-clause-not_early c = model_first c.args.bytes.now c.file.result c.file.ensures
