@@ -1,11 +1,6 @@
-pub mod Adding
-pub mod Items
-pub mod Tokens
-pub mod Words
+pub mod Tests
 pub mod Skipped
-pub mod Listed
-pub mod Passes
-pub mod Together
-pub mod Grammar
-pub mod Lines
+pub mod Nodes
+pub mod Online
+pub mod Laws
 pub mod Whole

@@ -1,200 +1,496 @@
--- Sections and whole files: what is read is spelled, and what is spelled is read.
-use Rattle.std.proofs.Common.{◌≡◌, ℕ, Bool, true, false, cond, List, [], ◌∷◌, ◌++◌, map, length, None, Result, Ok, Err, IfOk, refl, sym, ap, subst, ◌∙◌, inl, inr}
-use Rattle.std.specs.Prelude.{codes}
-use Rattle.snd_tokens.specs.Header.{first_line, second_line, trimmed}
-use Rattle.snd_tokens.specs.Lexemes.{Lexeme, Word, Open, Close, Text, WordAt, OpenAt, CloseAt, EndAt, lexemes, text_from}
-use Rattle.snd_tokens.proofs.Texts.{word_first}
+-- Paths, sections and whole files: what is read is spelled, and what is spelled is read.
+use Rattle.std.proofs.Common.{◌≡◌, ◌≢◌, ℕ, ◌<◌, ◌≤◌, Bool, true, false, cond, List, [], ◌∷◌, ◌++◌, map, length, All, AllPairs, IsTrue, Option, None, Some, Result, Ok, Err, IfOk, IfErr, refl, sym, ap, subst, ◌∙◌, arith, append-nil, append_assoc, ◌||◌, inl, inr}
+use Rattle.std.specs.Prelude.{codes, flat_map}
+use Rattle.std.specs.List.{AllByRecursion}
+use Rattle.std.proofs.lemmas.List.{length-map, map_push}
+use Rattle.std.proofs.lemmas.List.Elements.{All-from_recursion, All-map, recursion_from_All}
+use Rattle.net_core.specs.Network.{IsLink, IsNetwork}
+use Rattle.net_core.specs.Demands.{AreDemands}
+use Rattle.net_core.specs.Tests.{are_same, is_named}
+use Rattle.net_core.specs.declared.demand.Demand.{Demand}
 use Rattle.net_core.specs.declared.network.Link.{Link}
 use Rattle.net_core.specs.declared.network.Network.{Network}
-use Rattle.net_core.specs.declared.demand.Demand.{Demand}
-use Rattle.net_core.specs.Tests.{are_same}
-use Rattle.net_core.specs.Network.{network_fault}
-use Rattle.net_core.specs.Demands.{AreDemands}
+use Rattle.snd_tokens.specs.Header.{first_line, trimmed}
+use Rattle.snd_tokens.specs.Lexemes.{Text, WordAt, OpenAt, CloseAt, EndAt}
+use Rattle.text_kit.specs.Answers.{ReadsAllAs, ReadsAs}
+use Rattle.text_kit.specs.Files.{IsNotTooEarly, body}
+use Rattle.text_kit.specs.Items.{AreBehind, AreSpelled, Item, Named, Opening, Closing, Begins}
+use Rattle.text_kit.specs.Reading.{Read, Reading, after, give, placed, ◌>>=◌, word_at, open_at, end_at, key, mapped, Parenthesis, no_fault, list_at, each_at}
+use Rattle.text_kit.specs.declared.refusal.Refusal.{Refusal}
+use Rattle.text_kit.specs.declared.refusal.Refusal.TheVariants.{Bad, NoMemory}
+use Rattle.text_kit.proofs.Behind.{behind_all, behind_differ, differ_behind}
+use Rattle.text_kit.proofs.Files.{first_spelled, found_spelled, only_spelled, spelled_read}
+use Rattle.text_kit.proofs.Lawful.{AnyText, IsEnd, Starts, is_same, lawful_key, lawful_open, same_is}
+use Rattle.text_kit.proofs.Online.{ok_parts}
+use Rattle.text_kit.proofs.Spelled.{Both, Spelled, SpelledBehind, behind_parts, parts_behind, spelled_as, spelled_give, spelled_law, spelled_list, spelled_then, spelled_word}
 use Rattle.sndlib_reader.specs.declared.costs.CostedLink.{CostedLink}
 use Rattle.sndlib_reader.specs.declared.fault.ReadKind.{ReadKind}
-use Rattle.sndlib_reader.specs.declared.fault.ReadKind.TheVariants.{Header, Section}
-use Rattle.sndlib_reader.specs.declared.fault.ReadRefusal.{ReadRefusal}
-use Rattle.sndlib_reader.specs.declared.fault.ReadRefusal.TheVariants.{Bad}
-use Rattle.sndlib_reader.specs.Paths.{SpellsPaths}
-use Rattle.sndlib_reader.specs.Spelling.{SpellsItems, SpellsSkipped, SpellsMeta, SpellsNode, SpellsLink, SpellsDemand, SpellsSections, Spells, notes_of, header}
-use Rattle.sndlib_reader.specs.Reading.{Fault, Gives, IsFirstFault, Parts, parts_of, parts, ◌>>=◌, open_at, skipped_at, section_at, meta_at, nodes_at, links_at, demands_at, node_section_at, link_section_at, demand_section_at, link_names, demand_names, paths_at, sections_at, file_at}
-use Rattle.sndlib_reader.proofs.Tokens.{Left, bind_ok, if_ok, ok_is, never, same_is, is_same, open_takes, open_again, section_takes, section_again}
-use Rattle.sndlib_reader.proofs.Skipped.{skipped_takes, skipped_again}
-use Rattle.sndlib_reader.proofs.Passes.{network_passes, network_passed}
-use Rattle.sndlib_reader.proofs.Grammar.{nodes_take, nodes_again, links_take, links_again, demands_take, demands_again}
-use Rattle.sndlib_reader.proofs.Lines.{paths_take, paths_again}
+use Rattle.sndlib_reader.specs.declared.fault.ReadKind.TheVariants.{Header, Section, Token, Ended}
+use Rattle.sndlib_reader.specs.Balance.{IsSkipped}
+use Rattle.sndlib_reader.specs.Paths.{AreMany, ArePaths, AreSome, IsKnownName, IsLine, IsPath, IsShortName, section}
+use Rattle.sndlib_reader.specs.Spelling.{IsMeta, IsShortLink, NodePart, NodeName, Coordinates, Parts, Spells, SpellsDemand, SpellsNetwork, SpellsPart, IsPartBehind, header, link_items, names_of, notes_of, parts_of}
+use Rattle.sndlib_reader.specs.Reading.{IsFirstFault, short_name, known_name, section_at, skipped_at, part_at, nodes_at, links_at, demands_at, some_at, path_at, line_at, is_meta, meta_behind, start_at, is_paths, paths_behind, paths_at, parts, sections_at, network_of}
+use Rattle.sndlib_reader.proofs.Tests.{AreDifferent, IsNew, known_again, known_takes, short_again, short_takes}
+use Rattle.sndlib_reader.proofs.Skipped.{skipped_spelled}
+use Rattle.sndlib_reader.proofs.Nodes.{IsNewPart, are_parts, part_spelled, parts_are, parts_short}
+use Rattle.sndlib_reader.proofs.Laws.{AreLinks, IsDemandBehind, IsLinkBehind, are_demands, are_links, are_new, demands_are, demands_spelled, links_are, links_lawful, new_are}
+use Rattle.sndlib_reader.proofs.Online.{sections_online}
 
--- ---- META
+-- ---- what is given of what was read
 
-meta_behind : (t rest : Text) → (open_at Section t >>= λ inside. skipped_at 0 inside) ≡ Ok rest → SpellsSkipped (lexemes t) (lexemes rest)
-meta_behind t rest e =
-    let o = bind_ok (open_at Section t) (λ inside. skipped_at 0 inside) rest e in
-    let s = skipped_takes o.0 rest o.2 in
-    (s.0, s.1, open_takes Section t o.0 o.1 ∙ ap (λ (ls : List Lexeme). Open ∷ ls) s.2)
+module _ {K A B : Type 0} (r : Reading K A) (g : A → B) (Of : A → List Item → Type 0) (IsLeft : Text → Type 0) (law : Spelled r Of IsLeft) where
+  given : (text : Text) (q : Read K A) (b : B) (rest : Text) → r text ≡ q → after q (λ a. give (g a)) ≡ Ok (b, rest) → (is : List Item) × ((a : A) × Of a is × (g a ≡ b)) × Begins is text rest × IsLeft rest
+  given text (Ok x) b rest read e =
+      let p = ok_parts {K = K} (g x.0) b x.1 rest e in
+      let h = law.takes text x.0 x.1 read in
+      (h.0, (x.0, h.1, p.0), subst (λ (t : Text). Begins h.0 text t) p.1 h.2, subst IsLeft p.1 h.3)
+  given text (Err d) b rest read e = absurd cc
 
-meta_take : (text rest : Text) → meta_at text ≡ Ok rest → SpellsMeta (lexemes text) (lexemes rest)
-unfolding meta_at
-meta_take (WordAt at w t) rest e =
-    elim (are_same w (codes "META")) as (λ v. are_same w (codes "META") ≡ v → cond v (open_at Section t >>= λ inside. skipped_at 0 inside) (Ok (WordAt at w t)) ≡ Ok rest → SpellsMeta (Word w ∷ lexemes t) (lexemes rest)) [
-      | true ↦ λ same e. inr (lexemes t, ap (λ (v : List ℕ). Word v ∷ lexemes t) (same_is w (codes "META") same), meta_behind t rest e)
-      | false ↦ λ other e. inl (ap (λ (x : Text). lexemes x) (ok_is (WordAt at w t) rest e))
-    ] refl e
-meta_take (OpenAt at t) rest e = inl (ap (λ (x : Text). lexemes x) (ok_is (OpenAt at t) rest e))
-meta_take (CloseAt at t) rest e = inl (ap (λ (x : Text). lexemes x) (ok_is (CloseAt at t) rest e))
-meta_take (EndAt at) rest e = inl (ap (λ (x : Text). lexemes x) (ok_is (EndAt at) rest e))
+  spelled_given : Spelled (r >>= λ a. give (g a)) (λ b is. (a : A) × Of a is × (g a ≡ b)) IsLeft
+  spelled_given = record {
+    takes = λ text b rest e. given text (r text) b rest refl e;
+    again = λ text b rest is s begins left. rw (law.again text s.0 rest is s.1 begins left) (ap (λ (z : B). Ok (z, rest)) s.2);
+  }
 
-meta_again : (text : Text) (after items : List Lexeme) → after ≡ Word (codes "NODES") ∷ items → SpellsMeta (lexemes text) after → Left (meta_at text) after
-unfolding meta_at
-meta_again text after items nodes (inl is) =
-    let f = word_first text (codes "NODES") items (is ∙ nodes) in
-    record { rest = text; is = subst (λ (t : Text). meta_at t ≡ Ok t) (sym f.is) refl; behind = is }
-meta_again text after items nodes (inr s) =
-    let f = word_first text (codes "META") s.0 s.1 in
-    let o = open_again Section f.rest (s.2.0 ++ Close ∷ after) (f.behind ∙ s.2.2) in
-    let k = skipped_again s.2.0 o.rest after s.2.1 o.behind in
-    let read : meta_at (WordAt f.at (codes "META") f.rest) ≡ Ok k.rest = rw o.is k.is in
-    record { rest = k.rest; is = ap (λ (t : Text). meta_at t) f.is ∙ read; behind = k.behind }
+-- ---- paths
+
+starts_named : (w : List ℕ) (is js : List Item) → is ≡ Named w ∷ js → Starts is
+starts_named w is js e = subst Starts (sym e) tt
+
+short_spelled : Spelled (word_at Token Ended short_name) (λ x is. IsShortName is) AnyText
+short_spelled = spelled_as _ _ (λ x is. IsShortName is) AnyText (λ x is s. (s.0, short_takes s.0 x s.1, s.2)) (λ x is s. (s.0, short_again s.0 s.1, s.2)) (spelled_word Token Ended short_name)
+
+known_spelled : {X : Type 0} (name_of : X → List ℕ) (xs : List X) → Spelled (word_at Token Ended (known_name name_of xs)) (λ x is. IsKnownName name_of xs is) AnyText
+known_spelled name_of xs = spelled_as _ _ (λ x is. IsKnownName name_of xs is) AnyText (λ x is s. (s.0, known_takes name_of xs s.0 x s.1, s.2)) (λ x is s. (s.0, known_again name_of xs s.0 s.1, s.2)) (spelled_word Token Ended (known_name name_of xs))
+
+-- things of a sort, of which none is kept
+module _ (one : Reading ReadKind (Unit {0})) (Is : List Item → Type 0) (starts : (is : List Item) → Is is → Starts is) (law : Spelled one (λ x is. Is is) AnyText) where
+  each_spelled : Spelled (each_at one) (λ x is. (js : List Item) × AreMany Is js × (is ≡ js ++ Closing ∷ [])) AnyText
+  each_spelled = spelled_as (each_at one) _ _ AnyText
+      (λ x is s.
+      let l = s.1.1 in
+      let p = behind_parts (λ before y. Unit {0}) (λ y js. Is js) [] s.0 l.0 l.1 in
+      (l.0, (s.0, p.1), l.2))
+      (λ x is s. (s.1.0, (refl, (s.0, parts_behind (λ before y. Unit {0}) (λ y js. Is js) [] s.1.0 s.0 (all s.1.0 []) s.1.1, s.2)), refl))
+      (spelled_given (list_at Parenthesis no_fault (λ sofar. one) []) (λ xs. tt) _ AnyText
+      (spelled_list no_fault (λ sofar. one) (λ sofar y js. Unit {0} × Is js) (λ sofar y js h. starts js h.1) (λ sofar. spelled_as one (λ x is. Is is) (λ y js. Unit {0} × Is js) AnyText (λ y js h. (tt, h)) (λ y js h. h.1) law)))
+    where
+      all : (xs before : List (Unit {0})) → AreBehind (λ (before : List (Unit {0})) y. Unit {0}) before xs
+      all [] before = tt
+      all (x ∷ xs) before = (tt, all xs (before ++ x ∷ []))
+
+  some_spelled : Spelled (some_at one) (λ x is. AreSome Is is) AnyText
+  unfolding some_at
+  some_spelled = spelled_as (some_at one) _ _ AnyText
+      (λ x is s.
+      let f = s.4 in
+      (f.1, f.4.0, f.3, f.4.1, s.5 ∙ (ap (λ (js : List Item). js ++ s.2) s.3.1 ∙ ap (λ (js : List Item). Opening ∷ js) (f.5 ∙ ap (λ (js : List Item). f.1 ++ js) f.4.2))))
+      (λ x is s. (tt, Opening ∷ [], s.0 ++ (s.1 ++ Closing ∷ []), (tt, refl), (tt, s.0, s.1 ++ Closing ∷ [], s.2, (s.1, s.3, refl), refl), s.4))
+      (spelled_then _ _ _ _ AnyText (spelled_law (open_at Token Ended) _ _ AnyText (lawful_open Token Ended)) (λ o js s.
+      spelled_then _ _ _ _ AnyText law (λ y js s.
+      each_spelled)))
+
+known_starts : {X : Type 0} (name_of : X → List ℕ) (xs : List X) (is : List Item) → IsKnownName name_of xs is → Starts is
+known_starts name_of xs is s = starts_named s.0 is [] s.2
+
+path_spelled : (links : List CostedLink) → Spelled (path_at links) (λ x is. IsPath links is) AnyText
+path_spelled links = spelled_as (path_at links) _ (λ x is. IsPath links is) AnyText (λ x is s. (s.1, s.2, s.3, s.4, s.5)) (λ x is s. (tt, s.0, s.1, s.2, s.3, s.4))
+    (spelled_then _ _ _ _ AnyText short_spelled (λ n js s.
+    some_spelled (word_at Token Ended (known_name (λ l. l.link.name) links)) (IsKnownName (λ l. l.link.name) links) (known_starts (λ l. l.link.name) links) (known_spelled (λ l. l.link.name) links)))
+
+path_starts : (links : List CostedLink) (is : List Item) → IsPath links is → Starts is
+path_starts links is s = let n = s.2 in starts_named n.0 is s.1 (s.4 ∙ ap (λ (js : List Item). js ++ s.1) n.2)
+
+line_spelled : (links : List CostedLink) (demands : List Demand) → Spelled (line_at links demands) (λ x is. IsLine links demands is) AnyText
+line_spelled links demands = spelled_as (line_at links demands) _ (λ x is. IsLine links demands is) AnyText (λ x is s. (s.1, s.2, s.3, s.4, s.5)) (λ x is s. (tt, s.0, s.1, s.2, s.3, s.4))
+    (spelled_then _ _ _ _ AnyText (known_spelled (λ d. d.name) demands) (λ n js s.
+    some_spelled (path_at links) (IsPath links) (path_starts links) (path_spelled links)))
+
+line_starts : (links : List CostedLink) (demands : List Demand) (is : List Item) → IsLine links demands is → Starts is
+line_starts links demands is s = let n = s.2 in starts_named n.0 is s.1 (s.4 ∙ ap (λ (js : List Item). js ++ s.1) n.2)
+
+-- the end, behind the section
+end_spelled : Spelled (end_at Section) (λ (x : Unit {0}) is. is ≡ []) IsEnd
+end_spelled = record { takes = takes; again = λ text x rest is s b left. rw (subst (λ (js : List Item). Begins js text rest) s b, left.1) refl }
+  where
+    takes : (text : Text) (x : Unit {0}) (rest : Text) → end_at Section text ≡ Ok (x, rest) → (is : List Item) × (is ≡ []) × Begins is text rest × IsEnd rest
+    takes (WordAt at w t) x rest e = absurd cc
+    takes (OpenAt at t) x rest e = absurd cc
+    takes (CloseAt at t) x rest e = absurd cc
+    takes (EndAt at) x rest e = let p = ok_parts {K = ReadKind} tt x (EndAt at) rest e in ([], refl, p.1, (at, sym p.1))
+
+-- lines between parentheses, and the end
+abbrev AreLines : List CostedLink → List Demand → List Item → Type 0
+AreLines links demands is = (lines : List Item) × AreMany (IsLine links demands) lines × (is ≡ Opening ∷ (lines ++ Closing ∷ []))
+
+lines_joined : (is js ks j2 k2 lines : List Item) → is ≡ js ++ ks → js ≡ Opening ∷ [] → ks ≡ j2 ++ k2 → j2 ≡ lines ++ Closing ∷ [] → k2 ≡ [] → is ≡ Opening ∷ (lines ++ Closing ∷ [])
+lines_joined is js ks j2 k2 lines a b c d e = rw (a, b, c, d, e) (ap (λ (l : List Item). Opening ∷ l) (append-nil (lines ++ Closing ∷ [])))
+
+lines_spelled : (links : List CostedLink) (demands : List Demand) → Spelled (paths_behind links demands true) (λ x is. AreLines links demands is) IsEnd
+unfolding paths_behind
+lines_spelled links demands = spelled_as (paths_behind links demands true) _ (λ x is. AreLines links demands is) IsEnd
+    (λ x is s. let f = s.4 in (f.3.0, f.3.1, lines_joined is s.1 s.2 f.1 f.2 f.3.0 s.5 s.3.1 f.5 f.3.2 f.4))
+    (λ x is s. (tt, Opening ∷ [], s.0 ++ Closing ∷ [], (tt, refl), (tt, s.0 ++ Closing ∷ [], [], (s.0, s.1, refl), refl, sym (append-nil (s.0 ++ Closing ∷ []))), s.2))
+    (spelled_then _ _ _ _ IsEnd (spelled_law (open_at Section Ended) _ _ AnyText (lawful_open Section Ended)) (λ o js s.
+    spelled_then _ _ _ _ IsEnd (each_spelled (line_at links demands) (IsLine links demands) (line_starts links demands) (line_spelled links demands)) (λ l js s.
+    end_spelled)))
+
+paths_if : (b : Bool) (w : List ℕ) (c : Bool) → are_same w (codes "ADMISSIBLE_PATHS") ≡ b → (let r : Result Bool ReadKind = cond b (Ok true) (Err Section) in r ≡ Ok c) → (w ≡ codes "ADMISSIBLE_PATHS") × (true ≡ c)
+paths_if true w c same e = (same_is w (codes "ADMISSIBLE_PATHS") same, cc)
+paths_if false w c same e = absurd cc
+
+module _ (links : List CostedLink) (demands : List Demand) where
+  abbrev PathsTaken : Text → Text → Type 0
+  PathsTaken text rest = (is : List Item) × ArePaths links demands is × Begins is text rest × IsEnd rest
+
+  word_takes : (at : ℕ) (w : List ℕ) (t : Text) (q : Result Bool ReadKind) (x : Unit {0}) (rest : Text) → is_paths w ≡ q → after (placed at t q) (paths_behind links demands) ≡ Ok (x, rest) → PathsTaken (WordAt at w t) rest
+  word_takes at w t (Ok c) x rest is e =
+      let p = paths_if (are_same w (codes "ADMISSIBLE_PATHS")) w c refl is in
+      let h = (lines_spelled links demands).takes t x rest (subst (λ (d : Bool). paths_behind links demands d t ≡ Ok (x, rest)) (sym p.1) e) in
+      (Named (codes "ADMISSIBLE_PATHS") ∷ h.0, inr (h.1.0, h.1.1, ap (λ (js : List Item). Named (codes "ADMISSIBLE_PATHS") ∷ js) h.1.2), (p.0, h.2), h.3)
+  word_takes at w t (Err k) x rest is e = absurd cc
+
+  paths_take : (text : Text) (x : Unit {0}) (rest : Text) → paths_at links demands text ≡ Ok (x, rest) → PathsTaken text rest
+  unfolding paths_behind
+  paths_take (WordAt at w t) x rest e = word_takes at w t (is_paths w) x rest refl e
+  paths_take (OpenAt at t) x rest e = absurd cc
+  paths_take (CloseAt at t) x rest e = absurd cc
+  paths_take (EndAt at) x rest e = let p = ok_parts {K = ReadKind} tt x (EndAt at) rest e in ([], inl refl, p.1, (at, sym p.1))
+
+  lines_again : (text rest : Text) (js : List Item) → AreLines links demands js → Begins (Named (codes "ADMISSIBLE_PATHS") ∷ js) text rest → IsEnd rest → paths_at links demands text ≡ Ok (tt, rest)
+  lines_again (WordAt at w t) rest js s b left = rw b.0 ((lines_spelled links demands).again t tt rest js s b.1 left)
+  lines_again (OpenAt at t) rest js s b left = absurd (let e : Named (codes "ADMISSIBLE_PATHS") ≡ Opening = b.0 in cc)
+  lines_again (CloseAt at t) rest js s b left = absurd (let e : Named (codes "ADMISSIBLE_PATHS") ≡ Closing = b.0 in cc)
+  lines_again (EndAt at) rest js s b left = absurd b
+
+  paths_again : (text rest : Text) (is : List Item) → ArePaths links demands is → Begins is text rest → IsEnd rest → paths_at links demands text ≡ Ok (tt, rest)
+  unfolding paths_behind
+  paths_again text rest is (inl none) b left = rw (subst (λ (js : List Item). Begins js text rest) none b, left.1) refl
+  paths_again text rest is (inr s) b left = lines_again text rest (Opening ∷ (s.0 ++ Closing ∷ [])) (s.0, s.1, refl) (subst (λ (js : List Item). Begins js text rest) s.2 b) left
+
+  paths_spelled : Spelled (paths_at links demands) (λ x is. ArePaths links demands is) IsEnd
+  paths_spelled = record { takes = paths_take; again = λ text x rest is s b left. paths_again text rest is s b left }
 
 -- ---- sections
 
--- a section that was read, and what was read in it
-record TakesSection {X : Type 0} (key : List ℕ) (reads : Text → Result (X × Text) Fault) (text : Text) (x : X) (rest : Text) : Type 0 where
-  pub inside : Text
-  pub is : lexemes text ≡ Word key ∷ Open ∷ lexemes inside
-  pub read : reads inside ≡ Ok (x, rest)
+section_spelled : {X : Type 0} (name : List ℕ) (r : Reading ReadKind X) (Of : X → List Item → Type 0) → Spelled r Of AnyText → Spelled (section_at name r) (λ x is. (js : List Item) × Of x js × (is ≡ Named name ∷ Opening ∷ js)) AnyText
+unfolding section_at
+section_spelled name r Of law = spelled_as (section_at name r) _ _ AnyText
+    (λ x is s.
+    let f = s.4 in
+    (f.2, f.4, s.5 ∙ (ap (λ (js : List Item). js ++ s.2) s.3.1 ∙ ap (λ (js : List Item). Named name ∷ js) (f.5 ∙ ap (λ (js : List Item). js ++ f.2) f.3.1))))
+    (λ x is s. (tt, Named name ∷ [], Opening ∷ s.0, (tt, refl), (tt, Opening ∷ [], s.0, (tt, refl), s.1, refl), s.2))
+    (spelled_then _ _ _ _ AnyText (spelled_law (word_at Section Ended (key Section name)) _ _ AnyText (lawful_key Section Ended Section name)) (λ k js s.
+    spelled_then _ _ _ _ AnyText (spelled_law (open_at Section Ended) _ _ AnyText (lawful_open Section Ended)) (λ o js s. law)))
 
-nodes_read : (text : Text) (y : List (List ℕ) × Text) → node_section_at text ≡ Ok y → TakesSection (codes "NODES") (λ t. nodes_at [] t) text y.0 y.1
-unfolding node_section_at
-nodes_read text y e =
-    let s = bind_ok (section_at (codes "NODES") text) (λ inside. nodes_at [] inside) y e in
-    record { inside = s.0; is = section_takes (codes "NODES") text s.0 s.1; read = s.2 }
+-- what comes behind the word of META or NODES
+abbrev Behind : Bool → List Item → Type 0
+Behind true is = (inside : List Item) × IsSkipped inside × (is ≡ Opening ∷ (inside ++ Named (codes "NODES") ∷ []))
+Behind false is = is ≡ []
 
-links_read : (nodes : List (List ℕ)) (text : Text) (y : List CostedLink × Text) → link_section_at nodes text ≡ Ok y → TakesSection (codes "LINKS") (λ t. links_at nodes [] t) text y.0 y.1
-unfolding link_section_at
-links_read nodes text y e =
-    let s = bind_ok (section_at (codes "LINKS") text) (λ inside. links_at nodes [] inside) y e in
-    record { inside = s.0; is = section_takes (codes "LINKS") text s.0 s.1; read = s.2 }
+abbrev first_word : Bool → List ℕ
+first_word true = codes "META"
+first_word false = codes "NODES"
 
-demands_read : (nodes : List (List ℕ)) (text : Text) (y : List Demand × Text) → demand_section_at nodes text ≡ Ok y → TakesSection (codes "DEMANDS") (λ t. demands_at nodes [] t) text y.0 y.1
-unfolding demand_section_at
-demands_read nodes text y e =
-    let s = bind_ok (section_at (codes "DEMANDS") text) (λ inside. demands_at nodes [] inside) y e in
-    record { inside = s.0; is = section_takes (codes "DEMANDS") text s.0 s.1; read = s.2 }
+behind_spelled : (meta : Bool) → Spelled (meta_behind meta) (λ x is. Behind meta is) AnyText
+unfolding meta_behind
+behind_spelled true = spelled_as (meta_behind true) _ (λ x is. Behind true is) AnyText
+    (λ x is s.
+    let f = s.4 in
+    (f.1, f.3, s.5 ∙ (ap (λ (js : List Item). js ++ s.2) s.3.1 ∙ ap (λ (js : List Item). Opening ∷ js) (f.5 ∙ ap (λ (js : List Item). f.1 ++ js) f.4.1))))
+    (λ x is s. (tt, Opening ∷ [], s.0 ++ Named (codes "NODES") ∷ [], (tt, refl), (tt, s.0, Named (codes "NODES") ∷ [], s.1, (tt, refl), refl), s.2))
+    (spelled_then _ _ _ _ AnyText (spelled_law (open_at Section Ended) _ _ AnyText (lawful_open Section Ended)) (λ o js s.
+    spelled_then _ _ _ _ AnyText skipped_spelled (λ k js s.
+    spelled_law (word_at Section Ended (key Section (codes "NODES"))) _ _ AnyText (lawful_key Section Ended Section (codes "NODES")))))
+behind_spelled false = spelled_as (meta_behind false) _ (λ x is. Behind false is) AnyText (λ x is s. s.1) (λ x is s. (refl, s)) (spelled_give tt)
+
+word_is : (w : List ℕ) (meta nodes b : Bool) → are_same w (codes "META") ≡ meta → are_same w (codes "NODES") ≡ nodes → (let r : Result Bool ReadKind = cond meta (Ok true) (cond nodes (Ok false) (Err Section)) in r ≡ Ok b) → w ≡ first_word b
+word_is w true nodes true m n e = same_is w (codes "META") m
+word_is w true nodes false m n e = absurd cc
+word_is w false true true m n e = absurd cc
+word_is w false true false m n e = same_is w (codes "NODES") n
+word_is w false false b m n e = absurd cc
+
+is_word : (b : Bool) → is_meta (first_word b) ≡ Ok b
+is_word true = refl
+is_word false = refl
+
+-- META or nothing, and the word of NODES
+abbrev IsStart : List Item → Type 0
+IsStart is = (meta : List Item) × IsMeta meta × (is ≡ meta ++ Named (codes "NODES") ∷ [])
+
+start_of : (b : Bool) (is ks : List Item) → is ≡ Named (first_word b) ∷ ks → Behind b ks → IsStart is
+start_of true is ks e s = (Named (codes "META") ∷ Opening ∷ s.0, inr (s.0, s.1, refl), e ∙ ap (λ (js : List Item). Named (codes "META") ∷ js) s.2)
+start_of false is ks e s = ([], inl refl, e ∙ ap (λ (js : List Item). Named (codes "NODES") ∷ js) s)
+
+abbrev Started : List Item → Type 0
+Started is = (b : Bool) × (ks : List Item) × Behind b ks × (is ≡ Named (first_word b) ∷ ks)
+
+started : (is : List Item) → IsStart is → Started is
+started is s = by s.0 s.1 s.2
+  where
+    by : (meta : List Item) → IsMeta meta → is ≡ meta ++ Named (codes "NODES") ∷ [] → Started is
+    by meta (inl none) e = (false, [], refl, e ∙ ap (λ (js : List Item). js ++ Named (codes "NODES") ∷ []) none)
+    by meta (inr m) e = (true, Opening ∷ (m.0 ++ Named (codes "NODES") ∷ []), (m.0, m.1, refl), e ∙ ap (λ (js : List Item). js ++ Named (codes "NODES") ∷ []) m.2)
+
+start_spelled : Spelled start_at (λ x is. IsStart is) AnyText
+start_spelled = spelled_as start_at _ (λ x is. IsStart is) AnyText
+    (λ x is s.
+    let w = s.3 in
+    start_of s.0 is s.2 (s.5 ∙ (ap (λ (js : List Item). js ++ s.2) w.2 ∙ ap (λ (v : List ℕ). Named v ∷ s.2) (word_is w.0 (are_same w.0 (codes "META")) (are_same w.0 (codes "NODES")) s.0 refl refl w.1))) s.4)
+    (λ x is s. let t = started is s in (t.0, Named (first_word t.0) ∷ [], t.1, (first_word t.0, is_word t.0, refl), t.2, t.3))
+    (spelled_then _ _ _ _ AnyText (spelled_word Section Ended is_meta) (λ b js s. behind_spelled b))
+
+-- ---- nodes
+
+-- nodes that were read: their parts, in order
+abbrev AreNodes : List (List ℕ) → List Item → Type 0
+AreNodes nodes is = (parts : List NodePart) × (js : List Item) × AreBehind IsNewPart [] parts × AreSpelled SpellsPart parts js × (names_of parts ≡ nodes) × (is ≡ js ++ Closing ∷ [])
+
+part_starts : (sofar : List NodePart) (part : NodePart) (is : List Item) → IsNewPart sofar part × SpellsPart part is → Starts is
+part_starts sofar (NodeName w) is s = subst Starts (sym s.1) tt
+part_starts sofar Coordinates is s = subst Starts (sym s.1.2) tt
+
+nodes_spelled : Spelled (nodes_at []) AreNodes AnyText
+nodes_spelled = spelled_as (nodes_at []) _ AreNodes AnyText
+    (λ nodes is s.
+    let l = s.1.1 in
+    let p = behind_parts IsNewPart SpellsPart [] s.0 l.0 l.1 in
+    (s.0, l.0, p.0, p.1, s.2, l.2))
+    (λ nodes is s. (s.0, (refl, (s.1, parts_behind IsNewPart SpellsPart [] s.0 s.1 s.2 s.3, s.5)), s.4))
+    (spelled_given (list_at Parenthesis no_fault part_at []) names_of _ AnyText (spelled_list no_fault part_at (λ sofar part is. IsNewPart sofar part × SpellsPart part is) part_starts part_spelled))
+
+nodes_new : (nodes : List (List ℕ)) (is : List Item) → AreNodes nodes is → (length nodes ≤ 128) × AllPairs (λ x y. x ≢ y) nodes × All (λ n. length n ≤ 255) nodes
+nodes_new nodes is s = subst (λ (ns : List (List ℕ)). (length ns ≤ 128) × AllPairs (λ x y. x ≢ y) ns × All (λ n. length n ≤ 255) ns) s.4 (are_new (λ (n : List ℕ). n) 128 (names_of s.0) (parts_are [] s.0 s.2).0)
+
+-- ---- all sections
+
+-- links between parentheses, as they are read
+abbrev AreLinkItems : List (List ℕ) → List CostedLink → List Item → Type 0
+AreLinkItems nodes links is = AreBehind (IsLinkBehind nodes) [] links × (is ≡ flat_map (link_items nodes) links ++ Closing ∷ [])
+
+abbrev AreDemandItems : List (List ℕ) → List Demand → List Item → Type 0
+AreDemandItems nodes demands is = (js : List Item) × AreBehind (IsDemandBehind nodes) [] demands × AreSpelled (SpellsDemand nodes) demands js × (is ≡ js ++ Closing ∷ [])
+
+-- sections one after another
+abbrev whole_items : List Item → List Item → List Item → List Item → List Item → List Item
+whole_items meta ps ls ds paths = meta ++ (section (codes "NODES") ps ++ (section (codes "LINKS") ls ++ (section (codes "DEMANDS") ds ++ paths)))
+
+all_joined : (is j1 k1 j2 k2 j3 k3 j4 k4 l4 j5 k5 l5 meta ps ls ds : List Item) → is ≡ j1 ++ k1 → j1 ≡ meta ++ Named (codes "NODES") ∷ [] → k1 ≡ j2 ++ k2 → j2 ≡ Opening ∷ [] → k2 ≡ j3 ++ k3 → j3 ≡ ps ++ Closing ∷ [] → k3 ≡ j4 ++ k4 → j4 ≡ Named (codes "LINKS") ∷ Opening ∷ l4 → l4 ≡ ls ++ Closing ∷ []
+    → k4 ≡ j5 ++ k5 → j5 ≡ Named (codes "DEMANDS") ∷ Opening ∷ l5 → l5 ≡ ds ++ Closing ∷ [] → is ≡ whole_items meta ps ls ds k5
+all_joined is j1 k1 j2 k2 j3 k3 j4 k4 l4 j5 k5 l5 meta ps ls ds a b c d e f g h i j k l =
+    rw (a, b, c, d, e, f, g, h, i, j, k, l) (append_assoc meta (Named (codes "NODES") ∷ []) (Opening ∷ ((ps ++ Closing ∷ []) ++ (section (codes "LINKS") ls ++ (section (codes "DEMANDS") ds ++ k5)))))
+
+-- names of links, with their costs and without
+named_link : (w : List ℕ) (links : List CostedLink) → is_named (λ x. x.name) w (map (λ l. l.link) links) ≡ is_named (λ l. l.link.name) w links
+named_link w [] = refl
+named_link w (l ∷ ls) = ap (λ (b : Bool). are_same l.link.name w || b) (named_link w ls)
+
+abbrev NewLinks : List Link → List Link → Type 0
+NewLinks sofar links = AreBehind (λ before l. is_named (λ x. x.name) l.name before ≡ false) sofar links
+
+abbrev NewCosted : List CostedLink → List CostedLink → Type 0
+NewCosted sofar links = AreBehind (λ before l. is_named (λ x. x.link.name) l.link.name before ≡ false) sofar links
+
+without_costs : (sofar links : List CostedLink) → NewCosted sofar links → NewLinks (map (λ l. l.link) sofar) (map (λ l. l.link) links)
+without_costs sofar [] h = tt
+without_costs sofar (l ∷ ls) h = (named_link l.link.name sofar ∙ h.0, subst (λ (ks : List Link). NewLinks ks (map (λ x. x.link) ls)) (map_push (λ x. x.link) sofar l) (without_costs (sofar ++ l ∷ []) ls h.1))
+
+with_costs : (sofar links : List CostedLink) → NewLinks (map (λ l. l.link) sofar) (map (λ l. l.link) links) → NewCosted sofar links
+with_costs sofar [] h = tt
+with_costs sofar (l ∷ ls) h = (sym (named_link l.link.name sofar) ∙ h.0, with_costs (sofar ++ l ∷ []) ls (subst (λ (ks : List Link). NewLinks ks (map (λ x. x.link) ls)) (sym (map_push (λ x. x.link) sofar l)) h.1))
 
 -- nodes and links that were read are a network
-pub read_passes : (a b c : Text) (nodes : List (List ℕ)) (links : List CostedLink) (d : Text) → node_section_at a ≡ Ok (nodes, b) → link_section_at nodes c ≡ Ok (links, d) → network_fault nodes (map (λ l. l.link) links) ≡ None
-read_passes a b c nodes links d first second =
-    let s = nodes_read a (nodes, b) first in
-    let t = links_read nodes c (links, d) second in
-    let n = nodes_take s.inside (nodes, b) s.read in
-    let l = links_take nodes t.inside (links, d) t.read in
-    network_passes nodes links n.few l.few n.each l.each
+pub network_read : (nodes : List (List ℕ)) (links : List CostedLink) (is : List Item) → AreNodes nodes is → AreBehind (IsLinkBehind nodes) [] links → IsNetwork nodes (map (λ l. l.link) links)
+network_read nodes links is s all =
+    let n = nodes_new nodes is s in
+    let l = are_links nodes links all in
+    record {
+      few_nodes = n.0;
+      few_links = subst (λ (k : ℕ). k ≤ 256) (sym (length-map links (λ l. l.link))) l.few;
+      different_nodes = n.1;
+      different_links = behind_differ (λ (x : Link). x.name) (map (λ x. x.link) links) (without_costs [] links (differ_behind (λ (x : CostedLink). x.link.name) [] links l.different));
+      sound = All-map (IsLink (length nodes)) (λ (x : CostedLink). x.link) links l.sound;
+    }
 
--- sections that were read
-record TakesSections (text : Text) (p : Parts) (demands : List Demand) : Type 0 where
-  pub costed : List CostedLink
-  pub sections : SpellsSections p.nodes costed demands (lexemes text)
-  pub links_is : map (λ l. l.link) costed ≡ p.links
-  pub notes_is : notes_of costed ≡ p.notes
-  pub sound : network_fault p.nodes p.links ≡ None
-  pub are : AreDemands (length p.nodes) demands
+links_of_network : (nodes : List (List ℕ)) (links : List CostedLink) → IsNetwork nodes (map (λ l. l.link) links) → All IsShortLink links → AreLinks nodes links
+links_of_network nodes links net short = record {
+  few = subst (λ (k : ℕ). k ≤ 256) (length-map links (λ l. l.link)) net.few_links;
+  different = behind_differ (λ (x : CostedLink). x.link.name) links (with_costs [] links (differ_behind (λ (x : Link). x.name) [] (map (λ x. x.link) links) net.different_links));
+  sound = All-from_recursion _ links (unmapped (IsLink (length nodes)) links (recursion_from_All (IsLink (length nodes)) (map (λ x. x.link) links) net.sound));
+  short = short;
+}
+  where
+    unmapped : (P : Link → Type 0) (ls : List CostedLink) → AllByRecursion P (map (λ x. x.link) ls) → AllByRecursion (λ x. P x.link) ls
+    unmapped P [] h = tt
+    unmapped P (l ∷ ls) h = (h.0, unmapped P ls h.1)
 
-sections_take : (text : Text) (y : Parts × List Demand) → sections_at text ≡ Ok y → TakesSections text y.0 y.1
+-- what the sections are made of, as it is read
+record AreSections (x : Parts × List Demand) (is : List Item) : Type 0 where
+  pub meta : List Item
+  pub node_items : List Item
+  pub part_items : List Item
+  pub links : List CostedLink
+  pub demand_items : List Item
+  pub paths : List Item
+  pub meta_is : IsMeta meta
+  pub nodes : AreNodes x.0.nodes node_items
+  pub items_are : is ≡ whole_items meta nodes.1 (flat_map (link_items x.0.nodes) links) demand_items paths
+  pub links_are : AreBehind (IsLinkBehind x.0.nodes) [] links
+  pub demands_are : AreBehind (IsDemandBehind x.0.nodes) [] x.1 × AreSpelled (SpellsDemand x.0.nodes) x.1 demand_items
+  pub paths_are : ArePaths links x.1 paths
+  pub parts_are : parts x.0.nodes links ≡ x.0
+
+to_network : (x : Parts × List Demand) (is : List Item) → AreSections x is → SpellsNetwork x is
+to_network x is s =
+    let n = s.nodes in
+    let d = s.demands_are in
+    let order = parts_are [] n.0 n.2 in
+    let p = s.parts_are in
+    record {
+      meta = s.meta;
+      parts = n.0;
+      part_items = n.1;
+      links = s.links;
+      demand_items = s.demand_items;
+      paths = s.paths;
+      items_are = s.items_are;
+      meta_is = s.meta_is;
+      parts_are = n.3;
+      parts_in_order = order.1;
+      nodes_are = n.4;
+      links_are = ap (λ (y : Parts). y.links) p;
+      links_short = (are_links x.0.nodes s.links s.links_are).short;
+      notes_are = ap (λ (y : Parts). y.notes) p;
+      network = subst (λ (ls : List Link). IsNetwork x.0.nodes ls) (ap (λ (y : Parts). y.links) p) (network_read x.0.nodes s.links s.node_items n s.links_are);
+      demands_are = d.1;
+      belong = are_demands x.0.nodes x.1 d.0;
+      paths_are = s.paths_are;
+    }
+
+parts_equal : (nodes : List (List ℕ)) (links : List CostedLink) (p : Parts) → nodes ≡ p.nodes → map (λ l. l.link) links ≡ p.links → notes_of links ≡ p.notes → parts nodes links ≡ p
+parts_equal nodes links p a b c = rw (a, b, c) refl
+
+of_network : (x : Parts × List Demand) (is : List Item) → SpellsNetwork x is → AreSections x is
+of_network x is s =
+    let net : IsNetwork x.0.nodes (map (λ l. l.link) s.links) = subst (λ (ls : List Link). IsNetwork x.0.nodes ls) (sym s.links_are) s.network in
+    let short_parts : All (λ n. length n ≤ 255) (names_of s.parts) = behind_all (λ (n : List ℕ). length n ≤ 255) [] (names_of s.parts) (parts_short [] s.parts s.parts_in_order) in
+    let short : All (λ n. length n ≤ 255) x.0.nodes = subst (λ (ns : List (List ℕ)). All (λ n. length n ≤ 255) ns) s.nodes_are short_parts in
+    let new : AreBehind (IsNew (λ n. n) 128) [] (names_of s.parts) = subst (λ (ns : List (List ℕ)). AreBehind (IsNew (λ n. n) 128) [] ns) (sym s.nodes_are) (new_are (λ (n : List ℕ). n) 128 x.0.nodes net.few_nodes net.different_nodes short) in
+    record {
+      meta = s.meta;
+      node_items = s.part_items ++ Closing ∷ [];
+      part_items = s.part_items;
+      links = s.links;
+      demand_items = s.demand_items;
+      paths = s.paths;
+      meta_is = s.meta_is;
+      nodes = (s.parts, s.part_items, are_parts [] s.parts new s.parts_in_order, s.parts_are, s.nodes_are, refl);
+      items_are = s.items_are;
+      links_are = links_are x.0.nodes s.links short (links_of_network x.0.nodes s.links net s.links_short);
+      demands_are = (demands_are x.0.nodes x.1 s.demand_items short s.belong s.demands_are, s.demands_are);
+      paths_are = s.paths_are;
+      parts_are = parts_equal x.0.nodes s.links x.0 refl s.links_are s.notes_are;
+    }
+
+pub sections_spelled : Spelled sections_at SpellsNetwork IsEnd
 unfolding sections_at
-sections_take text y e =
-    let m = bind_ok (meta_at text) _ y e in
-    let n = bind_ok (node_section_at m.0) _ y m.2 in
-    let l = bind_ok (link_section_at n.0.0 n.0.1) _ y n.2 in
-    let d = bind_ok (demand_section_at n.0.0 l.0.1) _ y l.2 in
-    let p = bind_ok (paths_at (link_names l.0.0) (demand_names d.0.0) d.0.1) _ y d.2 in
-    let ns = nodes_read m.0 n.0 n.1 in
-    let ls = links_read n.0.0 n.0.1 l.0 l.1 in
-    let ds = demands_read n.0.0 l.0.1 d.0 d.1 in
-    let nodes = nodes_take ns.inside n.0 ns.read in
-    let links = links_take n.0.0 ls.inside l.0 ls.read in
-    let demands = demands_take n.0.0 ds.inside d.0 ds.read in
-    subst (λ (z : Parts × List Demand). TakesSections text z.0 z.1) (ok_is (parts n.0.0 l.0.0, d.0.0) y p.2)
-    (record {
-      costed = l.0.0;
-      sections = record {
-        after_meta = lexemes m.0;
-        after_nodes = lexemes n.0.1;
-        after_links = lexemes l.0.1;
-        after_demands = lexemes d.0.1;
-        meta_is = meta_take text m.0 m.1;
-        nodes_are = (lexemes ns.inside, ns.is, nodes.spelled);
-        links_are = (lexemes ls.inside, ls.is, links.spelled);
-        demands_are = (lexemes ds.inside, ds.is, demands.spelled);
-        paths_are = paths_take (link_names l.0.0) (demand_names d.0.0) d.0.1 p.1;
-      };
-      links_is = refl;
-      notes_is = refl;
-      sound = read_passes m.0 n.0.1 n.0.1 n.0.0 l.0.0 l.0.1 n.1 l.1;
-      are = demands.are;
-    })
+sections_spelled = spelled_as sections_at _ SpellsNetwork IsEnd
+    (λ x is s.
+    let m = s.3 in
+    let o = s.4 in
+    let n = o.4 in
+    let l = n.4 in
+    let d = l.4 in
+    let p = d.4 in
+    let nodes = n.3 in
+    subst (λ (y : Parts × List Demand). SpellsNetwork y is) p.2
+    (to_network (parts n.0 l.0, d.0) is (record {
+      meta = m.0;
+      node_items = n.1;
+      part_items = nodes.1;
+      links = l.0;
+      demand_items = d.3.1.0;
+      paths = d.2;
+      meta_is = m.1;
+      nodes = nodes;
+      items_are = all_joined is s.1 s.2 o.1 o.2 n.1 n.2 l.1 l.2 l.3.0 d.1 d.2 d.3.0 m.0 nodes.1 (flat_map (link_items n.0) l.0) d.3.1.0 s.5 m.2 o.5 o.3.1 n.5 nodes.5 l.5 l.3.2 l.3.1.1 d.5 d.3.2 d.3.1.3;
+      links_are = l.3.1.0;
+      demands_are = (d.3.1.1, d.3.1.2);
+      paths_are = p.1;
+      parts_are = refl;
+    })))
+    (λ x is s.
+    let t = of_network x is s in
+    let n = t.nodes in
+    let ls = flat_map (link_items x.0.nodes) t.links ++ Closing ∷ [] in
+    let ds = t.demand_items ++ Closing ∷ [] in
+    let links_text = Named (codes "LINKS") ∷ Opening ∷ ls in
+    let demands_text = Named (codes "DEMANDS") ∷ Opening ∷ ds in
+    let from_demands = demands_text ++ t.paths in
+    let from_links = links_text ++ from_demands in
+    let from_nodes = (n.1 ++ Closing ∷ []) ++ from_links in (
+      tt, t.meta ++ Named (codes "NODES") ∷ [], Opening ∷ from_nodes, (t.meta, t.meta_is, refl), (
+        tt, Opening ∷ [], from_nodes, (tt, refl), (
+          x.0.nodes, n.1 ++ Closing ∷ [], from_links, (n.0, n.1, n.2, n.3, n.4, refl), (
+            t.links, links_text, from_demands, (ls, (t.links_are, refl), refl), (
+              x.1, demands_text, t.paths, (ds, (t.demand_items, t.demands_are.0, t.demands_are.1, refl), refl), (
+                tt, t.paths_are, ap (λ (y : Parts). (y, x.1)) t.parts_are,
+              ), refl,
+            ), refl,
+          ), refl,
+        ), refl,
+      ), t.items_are ∙ sym (append_assoc t.meta (Named (codes "NODES") ∷ []) (Opening ∷ from_nodes)),
+    ))
+    (spelled_then start_at _ _ _ IsEnd start_spelled (λ m js s.
+    spelled_then (open_at Section Ended) _ _ _ IsEnd (spelled_law (open_at Section Ended) _ _ AnyText (lawful_open Section Ended)) (λ o js s.
+    spelled_then (nodes_at []) _ AreNodes _ IsEnd nodes_spelled (λ nodes js s.
+    let different : AreDifferent nodes = (nodes_new nodes js s).1 in
+    spelled_then _ _ _ _ IsEnd (section_spelled (codes "LINKS") (links_at nodes []) (AreLinkItems nodes) (spelled_law (links_at nodes []) _ _ AnyText (links_lawful nodes different))) (λ links js s.
+    spelled_then _ _ _ _ IsEnd (section_spelled (codes "DEMANDS") (demands_at nodes []) (AreDemandItems nodes) (demands_spelled nodes different)) (λ demands js s.
+    spelled_given (paths_at links demands) (λ u. (parts nodes links, demands)) _ IsEnd (paths_spelled links demands)))))))
 
-sections_again : (text : Text) (nodes : List (List ℕ)) (costed : List CostedLink) (demands : List Demand) → SpellsSections nodes costed demands (lexemes text) → network_fault nodes (map (λ l. l.link) costed) ≡ None → AreDemands (length nodes) demands
-    → sections_at text ≡ Ok (parts nodes costed, demands)
-unfolding sections_at node_section_at link_section_at demand_section_at
-sections_again text nodes costed demands s sound are =
-    let passed = network_passed nodes costed sound in
-    let m = meta_again text s.after_meta (Open ∷ s.nodes_are.0) s.nodes_are.1 s.meta_is in
-    let ns = section_again (codes "NODES") m.rest s.nodes_are.0 (m.behind ∙ s.nodes_are.1) in
-    let n = nodes_again nodes ns.rest s.after_nodes passed.few_nodes passed.each_node (subst (λ (ls : List Lexeme). SpellsItems SpellsNode nodes ls s.after_nodes) (sym ns.behind) s.nodes_are.2) in
-    let ls = section_again (codes "LINKS") n.rest s.links_are.0 (n.behind ∙ s.links_are.1) in
-    let l = links_again nodes costed ls.rest s.after_links passed.few_links passed.each_link (subst (λ (xs : List Lexeme). SpellsItems (SpellsLink nodes) costed xs s.after_links) (sym ls.behind) s.links_are.2) in
-    let ds = section_again (codes "DEMANDS") l.rest s.demands_are.0 (l.behind ∙ s.demands_are.1) in
-    let d = demands_again nodes demands ds.rest s.after_demands are (subst (λ (xs : List Lexeme). SpellsItems (SpellsDemand nodes) demands xs s.after_demands) (sym ds.behind) s.demands_are.2) in
-    let p = paths_again (link_names costed) (demand_names demands) d.rest (subst (λ (xs : List Lexeme). SpellsPaths (link_names costed) (demand_names demands) xs) (sym d.behind) s.paths_are) in
-    rw (m.is, ns.is, n.is, ls.is, l.is, ds.is, d.is, p) refl
+-- ---- what the code needs while it reads
+
+pub few_nodes : (text : Text) (nodes : List (List ℕ)) (rest : Text) → nodes_at [] text ≡ Ok (nodes, rest) → length nodes ≤ 128
+few_nodes text nodes rest e = let h = nodes_spelled.takes text nodes rest e in (nodes_new nodes h.0 h.1).0
+
+pub read_is_network : (text mid : Text) (nodes : List (List ℕ)) (a b : Text) (links : List CostedLink) → nodes_at [] text ≡ Ok (nodes, a) → section_at (codes "LINKS") (links_at nodes []) mid ≡ Ok (links, b) → IsNetwork nodes (map (λ l. l.link) links)
+read_is_network text mid nodes a b links first second =
+    let n = nodes_spelled.takes text nodes a first in
+    let law = section_spelled (codes "LINKS") (links_at nodes []) (AreLinkItems nodes) (spelled_law (links_at nodes []) _ _ AnyText (links_lawful nodes (nodes_new nodes n.0 n.1).1)) in
+    let l = law.takes mid links b second in
+    network_read nodes links n.0 n.1 l.1.1.0
 
 -- ---- whole files
 
-file_takes : (bytes : List ℕ) (net : Network) (demands : List Demand) → file_at bytes ≡ Ok (parts_of net, demands) → Spells bytes net demands
-file_takes bytes net demands e =
-    let text = text_from (second_line bytes) bytes in
-    let c = if_ok (are_same (trimmed (first_line bytes)) header) (0, Header) (sections_at text) (parts_of net, demands) e in
-    let t = sections_take text (parts_of net, demands) c.1 in
-    record {
-      begins = same_is (trimmed (first_line bytes)) header c.0;
-      links = t.costed;
-      sections = t.sections;
-      links_are = t.links_is;
-      notes_are = t.notes_is;
-      network = t.sound;
-      demands_are = t.are;
-    }
-
-parts_are : (nodes : List (List ℕ)) (costed : List CostedLink) (net : Network) → nodes ≡ net.nodes → map (λ l. l.link) costed ≡ net.links → notes_of costed ≡ net.notes → parts nodes costed ≡ parts_of net
-parts_are nodes costed net n l m = rw (n, l, m) refl
-
-file_again : (bytes : List ℕ) (net : Network) (demands : List Demand) → Spells bytes net demands → file_at bytes ≡ Ok (parts_of net, demands)
-file_again bytes net demands s =
-    let text = text_from (second_line bytes) bytes in
-    let begins : are_same (trimmed (first_line bytes)) header ≡ true = rw s.begins (is_same header) in
-    let sound : network_fault net.nodes (map (λ l. l.link) s.links) ≡ None = subst (λ (ls : List Link). network_fault net.nodes ls ≡ None) (sym s.links_are) s.network in
-    let read : sections_at text ≡ Ok (parts net.nodes s.links, demands) = sections_again text net.nodes s.links demands s.sections sound s.demands_are in
-    ap (λ (b : Bool). cond b (sections_at text) (Err (0, Header))) begins ∙ read ∙ ap (λ (p : Parts). Ok (p, demands)) (parts_are net.nodes s.links net refl s.links_are s.notes_are)
-
--- ---- the three clauses
-
 abbrev Answer : Type 0
-Answer = Result (Network × List Demand) ReadRefusal
+Answer = Result (Network × List Demand) (Refusal ReadKind)
 
 abbrev seen : Network × List Demand → Parts × List Demand
 seen r = (parts_of r.0, r.1)
 
-pub is_spelled : (bytes : List ℕ) (r : Answer) → Gives seen r (file_at bytes) → IfOk r (λ x. Spells bytes x.0 x.1)
-is_spelled bytes (Ok x) h = file_takes bytes x.0 x.1 h
-is_spelled bytes (Err e) h = tt
+-- what reading the sections gave is what the file gives
+pub file_answers : (bytes : List ℕ) (r : Answer) (rest : Text) → are_same (trimmed (first_line bytes)) header ≡ true → ReadsAs seen r rest (sections_at (body bytes)) → ReadsAllAs seen r (network_of bytes)
+file_answers bytes (Ok x) rest line read = spelled_read Header header sections_at SpellsNetwork sections_spelled bytes (seen x) rest line read
+file_answers bytes (Err (Bad at kind)) rest line read = ap (λ (b : Bool). cond b (sections_at (body bytes)) (Err (0, Header))) line ∙ read
+file_answers bytes (Err NoMemory) rest line read = tt
 
-pub is_only : (bytes : List ℕ) (r : Answer) → Gives seen r (file_at bytes) → IfOk r (λ x. (net : Network) (demands : List Demand) → Spells bytes net demands → (net.nodes ≡ x.0.nodes) × (net.links ≡ x.0.links) × (net.notes ≡ x.0.notes) × (demands ≡ x.1))
+pub is_spelled : (bytes : List ℕ) (r : Answer) → ReadsAllAs seen r (network_of bytes) → IfOk r (λ x. Spells bytes x.0 x.1)
+is_spelled bytes r h = found_spelled Header header sections_at SpellsNetwork sections_spelled seen bytes r h
+
+pub is_only : (bytes : List ℕ) (r : Answer) → ReadsAllAs seen r (network_of bytes) → IfOk r (λ x. (net : Network) (demands : List Demand) → Spells bytes net demands → (net.nodes ≡ x.0.nodes) × (net.links ≡ x.0.links) × (net.notes ≡ x.0.notes) × (demands ≡ x.1))
 is_only bytes (Ok x) h = λ net demands s.
-    let same : (parts_of net, demands) ≡ (parts_of x.0, x.1) = ok_is (parts_of net, demands) (parts_of x.0, x.1) (sym (file_again bytes net demands s) ∙ h) in
-    (ap (λ (y : Parts × List Demand). y.0.nodes) same, ap (λ (y : Parts × List Demand). y.0.links) same, ap (λ (y : Parts × List Demand). y.0.notes) same, ap (λ (y : Parts × List Demand). y.1) same)
+    let same : seen x ≡ (parts_of net, demands) = only_spelled Header header sections_at SpellsNetwork sections_spelled seen bytes (Ok x) h (parts_of net, demands) s in
+    (sym (ap (λ (y : Parts × List Demand). y.0.nodes) same), sym (ap (λ (y : Parts × List Demand). y.0.links) same), sym (ap (λ (y : Parts × List Demand). y.0.notes) same), sym (ap (λ (y : Parts × List Demand). y.1) same))
 is_only bytes (Err e) h = tt
 
-pub first_fault : (bytes : List ℕ) (r : Answer) → Gives seen r (file_at bytes) → (at : ℕ) (kind : ReadKind) → r ≡ Err (Bad at kind) → IsFirstFault bytes at kind × ((net : Network) (demands : List Demand) → Spells bytes net demands → ⊥)
+pub first_fault : (bytes : List ℕ) (r : Answer) → ReadsAllAs seen r (network_of bytes) → (at : ℕ) (kind : ReadKind) → r ≡ Err (Bad at kind) → IsFirstFault bytes at kind × ((net : Network) (demands : List Demand) → Spells bytes net demands → ⊥)
 first_fault bytes r h at kind e =
-    let f : Gives seen (Err (Bad at kind)) (file_at bytes) = subst (λ (x : Answer). Gives seen x (file_at bytes)) e h in
-    (f, λ net demands s. never (file_at bytes) (at, kind) (parts_of net, demands) f (file_again bytes net demands s))
+    let f : ReadsAllAs seen (Err (Bad at kind)) (network_of bytes) = subst (λ (x : Answer). ReadsAllAs seen x (network_of bytes)) e h in
+    (f, λ net demands s. only_spelled Header header sections_at SpellsNetwork sections_spelled seen bytes (Err (Bad at kind)) f (parts_of net, demands) s)
+
+pub not_early : (bytes : List ℕ) (r : Answer) → ReadsAllAs seen r (network_of bytes) → IfErr r (IsNotTooEarly (λ other (x : Network × List Demand). Spells other x.0 x.1) bytes)
+not_early bytes (Ok x) h = tt
+not_early bytes (Err (Bad at kind)) h = λ other n same ends x s. first_spelled Header header sections_at SpellsNetwork sections_spelled seen sections_online bytes (Err (Bad at kind)) h other n same ends (seen x) s
+not_early bytes (Err NoMemory) h = tt

@@ -3,3 +3,4 @@ pub mod Paths
 pub mod Spelling
 pub mod Reading
 pub mod Kinds
+pub mod inner

@@ -1,44 +1,38 @@
--- the section of admissible paths: lines of demands, each with named paths of links
-use Rattle.std.specs.Prelude.{◌≡◌, ℕ, ◌≤◌, ◌⊎◌, List, [], ◌∷◌, ◌++◌, length, map, flat_map, All, IsTrue, codes}
+-- the section of admissible paths, of which nothing is kept
+use Rattle.std.specs.Prelude.{◌≡◌, ℕ, ◌≤◌, ◌⊎◌, List, [], ◌∷◌, ◌++◌, length, IsTrue, codes}
 use Rattle.net_core.specs.Tests.{is_named}
-use Rattle.snd_tokens.specs.Lexemes.{Lexeme, Word, Open, Close}
+use Rattle.net_core.specs.declared.demand.Demand.{Demand}
+use Rattle.sndlib_reader.specs.declared.costs.CostedLink.{CostedLink}
+use Rattle.text_kit.specs.Items.{Item, Named, Opening, Closing, AreSpelled}
 
--- a path: its name, and its links by name
-pub record NamedPath : Type 0 where
-  pub name : List ℕ
-  pub links : List (List ℕ)
+-- a section: its word, and what stands in it between parentheses
+abbrev pub section : List ℕ → List Item → List Item
+section name inside = Named name ∷ Opening ∷ (inside ++ Closing ∷ [])
 
--- a line: a demand by name, and its paths
-pub record Line : Type 0 where
-  pub demand : List ℕ
-  pub paths : List NamedPath
+-- a name of at most 255 bytes
+abbrev pub IsShortName : List Item → Type 0
+IsShortName items = (w : List ℕ) × (length w ≤ 255) × (items ≡ Named w ∷ [])
 
--- a path's name, and the names of its links between parentheses
-abbrev pub path_text : NamedPath → List Lexeme
-path_text p = Word p.name ∷ Open ∷ (map Word p.links ++ Close ∷ [])
+-- such a name, which one of these has
+abbrev pub IsKnownName : {X : Type 0} → (X → List ℕ) → List X → List Item → Type 0
+IsKnownName name_of xs items = (w : List ℕ) × ((length w ≤ 255) × IsTrue (is_named name_of w xs)) × (items ≡ Named w ∷ [])
 
--- a demand's name, and its paths between parentheses
-abbrev pub line_text : Line → List Lexeme
-line_text l = Word l.demand ∷ Open ∷ (flat_map path_text l.paths ++ Close ∷ [])
+-- things of a sort, one after another
+abbrev pub AreMany : (List Item → Type 0) → List Item → Type 0
+AreMany Is items = (xs : List (Unit {0})) × AreSpelled (λ x. Is) xs items
 
--- a name of at most 255 bytes that one of these has
-abbrev pub IsKnown : List (List ℕ) → List ℕ → Type 0
-IsKnown names w = (length w ≤ 255) × IsTrue (is_named (λ n. n) w names)
+-- one thing of a sort or more, between parentheses
+abbrev pub AreSome : (List Item → Type 0) → List Item → Type 0
+AreSome Is items = (first more : List Item) × Is first × AreMany Is more × (items ≡ Opening ∷ (first ++ (more ++ Closing ∷ [])))
 
--- a path of one or more of these links
-pub record IsNamedPath (link_names : List (List ℕ)) (p : NamedPath) : Type 0 where
-  pub short : length p.name ≤ 255
-  pub some : 1 ≤ length p.links
-  pub known : All (IsKnown link_names) p.links
+-- a path: a name, and the names of its links
+abbrev pub IsPath : List CostedLink → List Item → Type 0
+IsPath links items = (name inside : List Item) × IsShortName name × AreSome (IsKnownName (λ l. l.link.name) links) inside × (items ≡ name ++ inside)
 
--- one or more paths of one of these demands
-pub record IsLine (link_names demand_names : List (List ℕ)) (l : Line) : Type 0 where
-  pub known : IsKnown demand_names l.demand
-  pub some : 1 ≤ length l.paths
-  pub each : All (IsNamedPath link_names) l.paths
+-- a line: the name of a demand, and its paths
+abbrev pub IsLine : List CostedLink → List Demand → List Item → Type 0
+IsLine links demands items = (name inside : List Item) × IsKnownName (λ d. d.name) demands name × AreSome (IsPath links) inside × (items ≡ name ++ inside)
 
 -- the section with any lines, or nothing
-abbrev pub SpellsPaths : List (List ℕ) → List (List ℕ) → List Lexeme → Type 0
-SpellsPaths link_names demand_names text =
-    (text ≡ [])
-    ⊎ ((ls : List Line) × (text ≡ Word (codes "ADMISSIBLE_PATHS") ∷ Open ∷ (flat_map line_text ls ++ Close ∷ [])) × All (IsLine link_names demand_names) ls)
+abbrev pub ArePaths : List CostedLink → List Demand → List Item → Type 0
+ArePaths links demands items = (items ≡ []) ⊎ ((lines : List Item) × AreMany (IsLine links demands) lines × (items ≡ section (codes "ADMISSIBLE_PATHS") lines))

@@ -1,104 +1,82 @@
--- The grammar of a network file: which lexemes spell which network and demands.
--- A relation with `text` and `rest` says that a value is spelled by the lexemes of `text` up to `rest`; one without `rest` speaks of all of its text.
-use Rattle.std.specs.Prelude.{◌≡◌, ℕ, ◌*◌, ◌≤◌, ◌==◌, ◌⊎◌, not, List, [], ◌∷◌, ◌++◌, length, map, IsTrue, Option, Some, None, Ok, position, codes}
+-- The grammar of a network file: which items spell which network and demands.
+use Rattle.std.specs.Prelude.{◌≡◌, ℕ, ◌*◌, ◌≤◌, ◌<◌, ◌^◌, ◌==◌, ◌⊎◌, not, Bool, true, false, List, [], ◌∷◌, ◌++◌, length, get_or, map, flat_map, All, IsTrue, Ok, codes}
 use Rattle.std.specs.List.{list_any}
 use Rattle.snd_tokens.specs.Amounts.{amount_of, units_of}
 use Rattle.snd_tokens.specs.Digits.{are_digits}
-use Rattle.snd_tokens.specs.Header.{HasHeader, second_line}
-use Rattle.net_core.specs.Tests.{are_same}
-use Rattle.net_core.specs.Network.{network_fault}
+use Rattle.net_core.specs.Network.{IsNetwork}
 use Rattle.net_core.specs.Demands.{AreDemands}
 use Rattle.net_core.specs.declared.ids.NodeId.{NodeId}
 use Rattle.net_core.specs.declared.network.Module.{Module}
+use Rattle.net_core.specs.declared.network.Link.{Link}
 use Rattle.net_core.specs.declared.network.Notes.{Notes}
 use Rattle.net_core.specs.declared.network.Network.{Network}
 use Rattle.net_core.specs.declared.demand.Demand.{Demand}
 use Rattle.sndlib_reader.specs.declared.costs.CostedLink.{CostedLink}
-use Rattle.snd_tokens.specs.Lexemes.{Lexeme, Word, Open, Close, lexemes, text_from}
-use Rattle.sndlib_reader.specs.Balance.{AreBalanced}
-use Rattle.sndlib_reader.specs.Paths.{SpellsPaths}
+use Rattle.text_kit.specs.Files.{SpellsBy}
+use Rattle.text_kit.specs.Items.{Item, Named, Money, Opening, Closing, AreBehind, AreSpelled}
+use Rattle.sndlib_reader.specs.Balance.{IsSkipped}
+use Rattle.sndlib_reader.specs.Paths.{section, ArePaths}
 
--- items one after another, as `Spells` says of each, and then a closing parenthesis
-abbrev pub SpellsItems : {X : Type 0} → (X → List Lexeme → List Lexeme → Type 0) → List X → List Lexeme → List Lexeme → Type 0
-SpellsItems Spells [] text rest = text ≡ Close ∷ rest
-SpellsItems Spells (x ∷ xs) text rest = (after : List Lexeme) × Spells x text after × SpellsItems Spells xs after rest
+-- what stands in the list of nodes: a node's name, or the coordinates of the node before them
+pub data NodePart : Type 0 where
+  NodeName : List ℕ → NodePart
+  Coordinates : NodePart
 
--- a section: its word, and its items between parentheses
-abbrev pub SpellsSection : {X : Type 0} → List ℕ → (X → List Lexeme → List Lexeme → Type 0) → List X → List Lexeme → List Lexeme → Type 0
-SpellsSection name Spells xs text rest = (items : List Lexeme) × (text ≡ Word name ∷ Open ∷ items) × SpellsItems Spells xs items rest
+-- the names of the nodes
+abbrev pub names_of : List NodePart → List (List ℕ)
+names_of [] = []
+names_of (NodeName name ∷ parts) = name ∷ names_of parts
+names_of (Coordinates ∷ parts) = names_of parts
 
--- a name is a word of at most 255 bytes
-abbrev pub SpellsName : List ℕ → List Lexeme → List Lexeme → Type 0
-SpellsName name text rest = (text ≡ Word name ∷ rest) × (length name ≤ 255)
+-- the last part is a name, or this where there is none
+abbrev pub ends_named : Bool → List NodePart → Bool
+ends_named named [] = named
+ends_named named (NodeName name ∷ parts) = ends_named true parts
+ends_named named (Coordinates ∷ parts) = ends_named false parts
 
--- any lexemes that balance, between parentheses
-abbrev pub SpellsSkipped : List Lexeme → List Lexeme → Type 0
-SpellsSkipped text rest = (inside : List Lexeme) × AreBalanced inside × (text ≡ Open ∷ (inside ++ Close ∷ rest))
+-- names have at most 255 bytes, and coordinates come right behind a name
+abbrev pub IsPartBehind : List NodePart → NodePart → Type 0
+IsPartBehind sofar (NodeName name) = length name ≤ 255
+IsPartBehind sofar Coordinates = IsTrue (ends_named false sofar)
 
--- a section META of anything, or nothing
-abbrev pub SpellsMeta : List Lexeme → List Lexeme → Type 0
-SpellsMeta text rest = (text ≡ rest) ⊎ ((behind : List Lexeme) × (text ≡ Word (codes "META") ∷ behind) × SpellsSkipped behind rest)
+-- coordinates are anything that balances, between parentheses
+abbrev pub SpellsPart : NodePart → List Item → Type 0
+SpellsPart (NodeName name) items = items ≡ Named name ∷ []
+SpellsPart Coordinates items = (inside : List Item) × IsSkipped inside × (items ≡ Opening ∷ inside)
 
--- a node is a name, with coordinates of any form or without
-abbrev pub SpellsNode : List ℕ → List Lexeme → List Lexeme → Type 0
-SpellsNode name text rest = (behind : List Lexeme) × SpellsName name text behind × ((behind ≡ rest) ⊎ SpellsSkipped behind rest)
+-- the names of two nodes between parentheses
+abbrev pub ends_items : List (List ℕ) → NodeId → NodeId → List Item
+ends_items nodes a b = Opening ∷ Named (get_or nodes a.0 []) ∷ Named (get_or nodes b.0 []) ∷ Closing ∷ []
 
--- the place of a name in the list of nodes
-abbrev pub node_place : List (List ℕ) → List ℕ → Option ℕ
-node_place nodes name = position (λ n. are_same n name) nodes
-
--- two nodes between parentheses
-pub record SpellsEnds (nodes : List (List ℕ)) (a b : NodeId) (text rest : List Lexeme) : Type 0 where
-  pub first : List ℕ
-  pub second : List ℕ
-  pub is : text ≡ Open ∷ Word first ∷ Word second ∷ Close ∷ rest
-  pub first_short : length first ≤ 255
-  pub second_short : length second ≤ 255
-  pub first_is : node_place nodes first ≡ Some a.0
-  pub second_is : node_place nodes second ≡ Some b.0
-
--- a module is an amount of capacity and a cost
-pub record SpellsModule (m : Module) (text rest : List Lexeme) : Type 0 where
-  pub capacity : List ℕ
-  pub cost : List ℕ
-  pub is : text ≡ Word capacity ∷ Word cost ∷ rest
-  pub capacity_is : amount_of capacity ≡ Ok m.capacity
-  pub cost_is : amount_of cost ≡ Ok m.cost
+-- a module: its capacity and its cost
+abbrev pub module_items : Module → List Item
+module_items m = Money m.capacity ∷ Money m.cost ∷ []
 
 -- a link: its name, its ends, its pre-installed capacity and the cost of that, its routing cost, its setup cost, and its modules
-pub record SpellsLink (nodes : List (List ℕ)) (l : CostedLink) (text rest : List Lexeme) : Type 0 where
-  pub ends : List Lexeme
-  pub amounts : List Lexeme
-  pub modules : List Lexeme
-  pub fixed : List ℕ
-  pub fixed_cost : List ℕ
-  pub routing_cost : List ℕ
-  pub setup : List ℕ
-  pub name_is : SpellsName l.link.name text ends
-  pub ends_are : SpellsEnds nodes l.link.a l.link.b ends amounts
-  pub amounts_are : amounts ≡ Word fixed ∷ Word fixed_cost ∷ Word routing_cost ∷ Word setup ∷ Open ∷ modules
-  pub fixed_is : amount_of fixed ≡ Ok l.link.fixed
-  pub fixed_cost_is : amount_of fixed_cost ≡ Ok l.fixed_cost
-  pub routing_cost_is : amount_of routing_cost ≡ Ok l.routing_cost
-  pub setup_is : amount_of setup ≡ Ok l.link.setup
-  pub modules_are : SpellsItems SpellsModule l.link.modules modules rest
+abbrev pub link_items : List (List ℕ) → CostedLink → List Item
+link_items nodes l =
+    Named l.link.name ∷ ends_items nodes l.link.a l.link.b
+    ++ Money l.link.fixed ∷ Money l.fixed_cost ∷ Money l.routing_cost ∷ Money l.link.setup ∷ Opening ∷ (flat_map module_items l.link.modules ++ Closing ∷ [])
+
+-- what isn't kept of a link is in its range: its name and the two further costs
+pub record IsShortLink (l : CostedLink) : Type 0 where
+  pub name : length l.link.name ≤ 255
+  pub fixed_cost : l.fixed_cost < 2 ^ 40
+  pub routing_cost : l.routing_cost < 2 ^ 40
 
 -- how many links a path may have: `UNLIMITED`, or digits
 abbrev pub IsHops : List ℕ → Type 0
 IsHops w = (w ≡ codes "UNLIMITED") ⊎ IsTrue (are_digits w)
 
 -- a demand: its name, its ends, a whole number of units of an amount, and its hops
-pub record SpellsDemand (nodes : List (List ℕ)) (d : Demand) (text rest : List Lexeme) : Type 0 where
-  pub ends : List Lexeme
-  pub amounts : List Lexeme
+pub record SpellsDemand (nodes : List (List ℕ)) (d : Demand) (items : List Item) : Type 0 where
   pub unit : List ℕ
   pub amount : List ℕ
   pub hops : List ℕ
   pub units : ℕ
   pub each : ℕ
-  pub name_is : SpellsName d.name text ends
-  pub ends_are : SpellsEnds nodes d.from d.to ends amounts
-  pub amounts_are : amounts ≡ Word unit ∷ Word amount ∷ Word hops ∷ rest
+  pub short : length d.name ≤ 255
+  pub items_are : items ≡ Named d.name ∷ ends_items nodes d.from d.to ++ Named unit ∷ Named amount ∷ Named hops ∷ []
   pub unit_is : units_of unit ≡ Ok units
   pub amount_is : amount_of amount ≡ Ok each
   pub need_is : d.need ≡ units * each
@@ -112,28 +90,45 @@ notes_of links = record {
   setup_cost = list_any (λ l. not (l.link.setup == 0)) links;
 }
 
--- perhaps META, the sections of nodes, links and demands, perhaps paths, and nothing after them
-pub record SpellsSections (nodes : List (List ℕ)) (links : List CostedLink) (demands : List Demand) (text : List Lexeme) : Type 0 where
-  pub after_meta : List Lexeme
-  pub after_nodes : List Lexeme
-  pub after_links : List Lexeme
-  pub after_demands : List Lexeme
-  pub meta_is : SpellsMeta text after_meta
-  pub nodes_are : SpellsSection (codes "NODES") SpellsNode nodes after_meta after_nodes
-  pub links_are : SpellsSection (codes "LINKS") (SpellsLink nodes) links after_nodes after_links
-  pub demands_are : SpellsSection (codes "DEMANDS") (SpellsDemand nodes) demands after_links after_demands
-  pub paths_are : SpellsPaths (map (λ l. l.link.name) links) (map (λ d. d.name) demands) after_demands
+-- a section META of anything, or nothing
+abbrev pub IsMeta : List Item → Type 0
+IsMeta items = (items ≡ []) ⊎ ((inside : List Item) × IsSkipped inside × (items ≡ Named (codes "META") ∷ Opening ∷ inside))
+
+-- what the sections of nodes and links say
+pub record Parts : Type 0 where
+  pub nodes : List (List ℕ)
+  pub links : List Link
+  pub notes : Notes
+
+-- the parts of a network
+abbrev pub parts_of : Network → Parts
+parts_of net = record { nodes = net.nodes; links = net.links; notes = net.notes }
+
+-- perhaps META, the sections of nodes, links and demands, and perhaps paths: a network, and demands that belong to it
+pub record SpellsNetwork (x : Parts × List Demand) (items : List Item) : Type 0 where
+  pub meta : List Item
+  pub parts : List NodePart
+  pub part_items : List Item
+  pub links : List CostedLink
+  pub demand_items : List Item
+  pub paths : List Item
+  pub items_are : items ≡ meta ++ (section (codes "NODES") part_items ++ (section (codes "LINKS") (flat_map (link_items x.0.nodes) links) ++ (section (codes "DEMANDS") demand_items ++ paths)))
+  pub meta_is : IsMeta meta
+  pub parts_are : AreSpelled SpellsPart parts part_items
+  pub parts_in_order : AreBehind IsPartBehind [] parts
+  pub nodes_are : names_of parts ≡ x.0.nodes
+  pub links_are : map (λ l. l.link) links ≡ x.0.links
+  pub links_short : All IsShortLink links
+  pub notes_are : notes_of links ≡ x.0.notes
+  pub network : IsNetwork x.0.nodes x.0.links
+  pub demands_are : AreSpelled (SpellsDemand x.0.nodes) x.1 demand_items
+  pub belong : AreDemands (length x.0.nodes) x.1
+  pub paths_are : ArePaths links x.1 paths
 
 -- the first line of a network file
 abbrev pub header : List ℕ
 header = codes "?SNDlib native format; type: network; version: 1.0"
 
 -- the bytes of a file spell this network and these demands
-pub record Spells (bytes : List ℕ) (net : Network) (demands : List Demand) : Type 0 where
-  pub begins : HasHeader bytes header
-  pub links : List CostedLink
-  pub sections : SpellsSections net.nodes links demands (lexemes (text_from (second_line bytes) bytes))
-  pub links_are : map (λ l. l.link) links ≡ net.links
-  pub notes_are : notes_of links ≡ net.notes
-  pub network : network_fault net.nodes net.links ≡ None
-  pub demands_are : AreDemands (length net.nodes) demands
+abbrev pub Spells : List ℕ → Network → List Demand → Type 0
+Spells bytes net demands = SpellsBy header SpellsNetwork bytes (parts_of net, demands)

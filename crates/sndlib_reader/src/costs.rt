@@ -2,7 +2,7 @@ ghost use Rattle.std.specs.Prelude.{◌≡◌, ◌==◌, not, map, IfOk};
 ghost use Rattle.std.specs.List.{list_any};
 ghost use Rattle.sndlib_reader.specs.Spelling.{notes_of};
 
-use net_core::{Copied, Link, List, NoMemory, Notes};
+use net_core::{Link, List, NoMemory, Notes};
 use std::alloc::Global;
 
 /// A link with the two costs that a network doesn't keep, in thousandths.
@@ -35,7 +35,7 @@ fn has_setup_cost(links: &[CostedLink]) -> bool
 }
 
 /// Which costs some of these links have.
-pub(crate) fn notes(links: &[CostedLink]) -> Notes
+pub(crate) fn notes_of(links: &[CostedLink]) -> Notes
     ensures { result ≡ notes_of links.now }
 {
     Notes {
@@ -45,16 +45,16 @@ pub(crate) fn notes(links: &[CostedLink]) -> Notes
     }
 }
 
-/// The links without these costs.
-pub(crate) fn links(alloc: Global, costed: &[CostedLink]) -> Result<List<Link>, NoMemory>
-    ensures { IfOk result (λ ls. ls ≡ map (λ l. l.link) costed.now) }
+/// The links without these costs; none is copied.
+pub(crate) fn links_of(
+    alloc: Global,
+    mut costed: List<CostedLink>,
+) -> Result<List<Link>, NoMemory>
+    ensures { IfOk result (λ ls. ls ≡ map (λ l. l.link) costed) }
 {
     let mut links = List::new(alloc);
-    for l in costed {
-        let link = l.link.copy()?;
-        let Ok(()) = links.push(link) else {
-            return Err(NoMemory);
-        };
+    while costed.len() > 0 {
+        links.push(costed.remove(0).link)?;
     }
     Ok(links)
 }

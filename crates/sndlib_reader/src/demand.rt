@@ -1,15 +1,19 @@
-ghost use Rattle.std.specs.Prelude.{◌≡◌, ◌≤◌, ◌<◌, ◌^◌, ◌+◌, IsTrue, IfOk, OnOk, [], length};
-ghost use Rattle.snd_tokens.specs.Tokens.{is_plain};
-ghost use Rattle.snd_tokens.specs.Lexemes.{WordAt, left};
-ghost use Rattle.sndlib_reader.specs.Reading.{Gives, Leads, demand_at, demand_names, demand_section_at, demands_at, hops, need, placed, said_at, total, unit};
+ghost use Rattle.std.specs.Prelude.{◌≡◌, ◌≤◌, ◌<◌, ◌^◌, ◌+◌, IsTrue, IfOk, OnOk, Ok, [], length};
+ghost use Rattle.net_core.specs.Tests.{is_named};
+ghost use Rattle.snd_tokens.specs.Lexemes.{left, size};
+ghost use Rattle.text_kit.specs.Answers.{ReadsAs, TakesTurn};
+ghost use Rattle.text_kit.specs.Reading.{word_at};
+ghost use Rattle.sndlib_reader.specs.Reading.{demand_at, demands_at, hops, name_fault, need, new_name, total, unit};
+ghost use Rattle.sndlib_reader.specs.declared.fault.Limited.TheVariants as limits;
 
-use crate::fault::{Limited, ReadKind, ReadRefusal, bad};
-use crate::names::Names;
-use crate::node::{ends, new_name};
-use crate::steps::{amount_of, section, word};
+use crate::fault::{Limited, ReadKind, ReadRefusal};
+use crate::node::ends;
+use crate::words::{amount_of, name_fault, named};
 use net_core::{Demand, Demands, List, Name};
 use snd_tokens::{Cursor, Next, NumberFault, are_digits, units};
 use std::alloc::Global;
+use text_kit::refusal::bad;
+use text_kit::steps::{closes, placed};
 
 const MAX_DEMANDS: usize = 2048;
 
@@ -19,67 +23,124 @@ const MAX_TOTAL: u128 = 1 << 44;
 
 const UNLIMITED: &[u8] = b"UNLIMITED";
 
-/// Takes a whole number of units.
-#[tactic(auto, unfolding(crate::specs::Reading::said_at))]
-fn unit(text: &mut Cursor) -> Result<u64, ReadRefusal>
-    ensures gives { Gives (λ n. (n, left text.new)) result (said_at unit (left text.old)) }
+/// A whole number of units.
+fn unit_of(word: &[u8]) -> Result<u64, ReadKind>
+    ensures value { result ≡ unit word.now }
     ensures small { IfOk result (λ n. n < 2 ^ 40) }
 {
-    let (at, word) = word(text)?;
     match units(word) {
         Ok(units) => Ok(units),
-        Err(fault) => Err(bad(at, ReadKind::Number(fault))),
+        Err(fault) => Err(ReadKind::Number(fault)),
     }
 }
 
-/// Takes the amount of so many units, behind demands of this total. It gives their need.
-#[tactic(auto, unfolding(crate::specs::Reading::said_at))]
-fn need(before: u64, units: u64, text: &mut Cursor) -> Result<u64, ReadRefusal>
+/// Takes a whole number of units.
+fn unit(text: &mut Cursor) -> Result<u64, ReadRefusal>
+    ensures reads { ReadsAs (λ n. n) result (left text.new) (word_at ReadKind.Token ReadKind.Ended unit (left text.old)) }
+    ensures small { IfOk result (λ n. n < 2 ^ 40) }
+{
+    match text.next() {
+        Next::Word(at, word) => placed(at, unit_of(word)),
+        Next::Open(at) | Next::Close(at) => Err(bad(at, ReadKind::Token)),
+        Next::End(at) => Err(bad(at, ReadKind::Ended)),
+    }
+}
+
+/// The need of so many units of a word's amount, behind demands of this total, in thousandths.
+fn need_of(before: u64, units: u64, word: &[u8]) -> Result<u64, ReadKind>
     requires before { before < 2 ^ 44 }
     requires units { units < 2 ^ 40 }
-    ensures gives { Gives (λ n. (n, left text.new)) result (said_at (need before units) (left text.old)) }
+    ensures value { result ≡ need before units word.now }
     ensures below { IfOk result (λ n. before + n < 2 ^ 44) }
 {
-    let (at, word) = word(text)?;
-    let amount = amount_of(at, word)?;
+    let amount = amount_of(word)?;
     let need = u128::from(units) * u128::from(amount);
     if need >= MAX_NEED {
-        return Err(bad(at, ReadKind::Number(NumberFault::TooLarge)));
+        return Err(ReadKind::Number(NumberFault::TooLarge));
     }
     if u128::from(before) + need >= MAX_TOTAL {
-        return Err(bad(at, ReadKind::Limit(Limited::Total)));
+        return Err(ReadKind::Limit(Limited::Total));
     }
     Ok(need as u64)
 }
 
-/// Takes how many links a path may have, which isn't kept.
-#[tactic(auto, unfolding(crate::specs::Reading::said_at))]
-fn hops<'a>(text: &mut Cursor<'a>) -> Result<&'a [u8], ReadRefusal>
-    ensures { Gives (λ w. (w.now, left text.new)) result (said_at hops (left text.old)) }
+/// Takes the amount of so many units, behind demands of this total. It gives their need.
+fn need(before: u64, units: u64, text: &mut Cursor) -> Result<u64, ReadRefusal>
+    requires before { before < 2 ^ 44 }
+    requires units { units < 2 ^ 40 }
+    ensures reads { ReadsAs (λ n. n) result (left text.new) (word_at ReadKind.Token ReadKind.Ended (need before units) (left text.old)) }
+    ensures below { IfOk result (λ n. before + n < 2 ^ 44) }
 {
-    let (at, word) = word(text)?;
-    if word == UNLIMITED || are_digits(word) {
-        return Ok(word);
+    match text.next() {
+        Next::Word(at, word) => placed(at, need_of(before, units, word)),
+        Next::Open(at) | Next::Close(at) => Err(bad(at, ReadKind::Token)),
+        Next::End(at) => Err(bad(at, ReadKind::Ended)),
     }
-    Err(bad(at, ReadKind::Number(NumberFault::NotANumber)))
 }
 
-/// Takes what is behind the name of a demand that comes behind demands of this total.
+/// Tests how many links a path may have.
+fn hops_of(word: &[u8]) -> Result<(), ReadKind>
+    ensures { result ≡ hops word.now }
+{
+    if word == UNLIMITED || are_digits(word) {
+        return Ok(());
+    }
+    Err(ReadKind::Number(NumberFault::NotANumber))
+}
+
+/// Takes how many links a path may have, which isn't kept.
+fn hops(text: &mut Cursor) -> Result<(), ReadRefusal>
+    ensures { ReadsAs (λ _. tt) result (left text.new) (word_at ReadKind.Token ReadKind.Ended hops (left text.old)) }
+{
+    match text.next() {
+        Next::Word(at, word) => placed(at, hops_of(word)),
+        Next::Open(at) | Next::Close(at) => Err(bad(at, ReadKind::Token)),
+        Next::End(at) => Err(bad(at, ReadKind::Ended)),
+    }
+}
+
+/// Whether one of these demands has the name.
+pub(crate) fn is_demand(demands: &[Demand], name: &[u8]) -> bool
+    ensures { result ≡ is_named (λ d. d.name) name.now demands.now }
+{
+    demands.iter().any(|d| d.name.bytes() == name)
+}
+
+/// What is wrong with a word as the name of a demand behind these ones.
+fn demand_fault(demands: &[Demand], word: &[u8]) -> Option<ReadKind>
+    ensures { result ≡ name_fault (λ d. d.name) limits.Demands 2048 demands.now word.now }
+{
+    name_fault(Limited::Demands, MAX_DEMANDS, demands.len(), is_demand(demands, word), word)
+}
+
+/// Takes the name of a demand behind these ones.
+fn demand_name(alloc: Global, demands: &[Demand], text: &mut Cursor) -> Result<Name, ReadRefusal>
+    ensures { ReadsAs (λ n. n) result (left text.new) (word_at ReadKind.Token ReadKind.Ended (new_name (λ d. d.name) limits.Demands 2048 demands.now) (left text.old)) }
+{
+    match text.next() {
+        Next::Word(at, word) => named(alloc, at, word, demand_fault(demands, word)),
+        Next::Open(at) | Next::Close(at) => Err(bad(at, ReadKind::Token)),
+        Next::End(at) => Err(bad(at, ReadKind::Ended)),
+    }
+}
+
+/// Takes a demand behind these ones, whose total is `before`.
 #[tactic(auto, unfolding(crate::specs::Reading::demand_at))]
 fn demand(
     alloc: Global,
-    nodes: &Names,
+    nodes: &[Name],
+    demands: &[Demand],
     before: u64,
-    name: Name,
     text: &mut Cursor,
 ) -> Result<Demand, ReadRefusal>
     requires nodes { length nodes.now ≤ 128 }
-    requires before { before < 2 ^ 44 }
-    ensures gives { Gives (λ d. (d, left text.new)) result (demand_at nodes.now before name (left text.old)) }
-    ensures named { IfOk result (λ d. d.name ≡ name) }
+    requires sum { before ≡ total demands.now }
+    requires below { before < 2 ^ 44 }
+    ensures reads { ReadsAs (λ d. d) result (left text.new) (demand_at nodes.now demands.now (left text.old)) }
     ensures below { IfOk result (λ d. before + d.need < 2 ^ 44) }
 {
-    let (from, to) = ends(ReadKind::SelfDemand, alloc, nodes, text)?;
+    let name = demand_name(alloc, demands, text)?;
+    let (from, to) = ends(ReadKind::SelfDemand, nodes, text)?;
     let units = unit(text)?;
     let need = need(before, units, text)?;
     hops(text)?;
@@ -91,83 +152,42 @@ fn demand(
     })
 }
 
-/// Demands, their names in the same order, and their total in thousandths.
-#[derive(Drop)]
-pub(crate) struct NamedDemands {
-    pub(crate) demands: Demands,
-    pub(crate) names: Names,
-    total: u64,
-}
-
-/// Takes a demand whose name's word was read at a place, and puts it last.
-#[tactic(auto, unfolding(crate::specs::Reading::demands_at))]
-fn add_demand(
+/// Takes one demand more behind these ones, whose total is `sum`, and says whether there was one.
+fn take_demand(
     alloc: Global,
-    nodes: &Names,
-    r: &mut NamedDemands,
-    at: u64,
-    word: &[u8],
+    nodes: &[Name],
+    all: &mut Demands,
+    sum: &mut u64,
     text: &mut Cursor,
-) -> Result<(), ReadRefusal>
+) -> Result<bool, ReadRefusal>
     requires nodes { length nodes.now ≤ 128 }
-    requires few { length r.now.demands ≤ 2048 }
-    requires named { r.now.names ≡ demand_names r.now.demands }
-    requires sum { r.now.total ≡ total r.now.demands }
-    requires below { r.now.total < 2 ^ 44 }
-    requires some { 1 ≤ length word.now }
-    requires plain { IsTrue (is_plain word.now) }
-    ensures leads { Leads result (demands_at nodes.now r.old.demands (WordAt at word.now (left text.old))) (λ _. demands_at nodes.now r.new.demands (left text.new)) }
-    ensures few { OnOk result (length r.new.demands ≤ 2048) }
-    ensures count { OnOk result (length r.new.demands ≡ length r.old.demands + 1) }
-    ensures named { OnOk result (r.new.names ≡ demand_names r.new.demands) }
-    ensures sum { OnOk result (r.new.total ≡ total r.new.demands) }
-    ensures below { OnOk result (r.new.total < 2 ^ 44) }
+    requires sum { sum.now ≡ total all.now }
+    requires below { sum.now < 2 ^ 44 }
+    ensures turn { TakesTurn result (demands_at nodes.now all.old (left text.old)) (demands_at nodes.now all.new (left text.new)) (Ok (all.new, left text.new)) }
+    ensures shorter { IfOk result (λ more. IsTrue more → size (left text.new) < size (left text.old)) }
+    ensures sum { OnOk result (sum.new ≡ total all.new) }
+    ensures below { OnOk result (sum.new < 2 ^ 44) }
 {
-    let name = new_name(alloc, &mut r.names, at, word)?;
-    if r.demands.len() == MAX_DEMANDS {
-        return Err(bad(at, ReadKind::Limit(Limited::Demands)));
+    if let Some(_) = closes(text) {
+        return Ok(false);
     }
-    let demand = demand(alloc, nodes, r.total, name, text)?;
-    r.total += demand.need;
-    let Ok(()) = r.demands.push(demand) else {
-        return Err(ReadRefusal::NoMemory);
-    };
-    Ok(())
+    let demand = demand(alloc, nodes, all.items(), *sum, text)?;
+    *sum += demand.need;
+    all.push(demand)?;
+    Ok(true)
 }
 
 /// Takes demands, up to the closing parenthesis.
-#[tactic(auto, unfolding(crate::specs::Reading::demands_at))]
-fn demands(alloc: Global, nodes: &Names, text: &mut Cursor) -> Result<NamedDemands, ReadRefusal>
-    requires { length nodes.now ≤ 128 }
-    ensures gives { Gives (λ r. (r.demands, left text.new)) result (demands_at nodes.now [] (left text.old)) }
-    ensures named { IfOk result (λ r. r.names ≡ demand_names r.demands) }
-{
-    let mut r = NamedDemands {
-        demands: List::new(alloc),
-        names: Names::new(alloc),
-        total: 0,
-    };
-    loop {
-        match text.next() {
-            Next::Word(at, word) => add_demand(alloc, nodes, &mut r, at, word, text)?,
-            Next::Close(_) => return Ok(r),
-            Next::Open(at) => return Err(bad(at, ReadKind::Token)),
-            Next::End(at) => return Err(bad(at, ReadKind::Ended)),
-        }
-    }
-}
-
-/// Takes the section of demands.
-#[tactic(auto, unfolding(crate::specs::Reading::demand_section_at))]
-pub(crate) fn demand_section(
+pub(crate) fn demands(
     alloc: Global,
-    nodes: &Names,
+    nodes: &[Name],
     text: &mut Cursor,
-) -> Result<NamedDemands, ReadRefusal>
+) -> Result<Demands, ReadRefusal>
     requires { length nodes.now ≤ 128 }
-    ensures gives { Gives (λ r. (r.demands, left text.new)) result (demand_section_at nodes.now (left text.old)) }
-    ensures named { IfOk result (λ r. r.names ≡ demand_names r.demands) }
+    ensures { ReadsAs (λ demands. demands) result (left text.new) (demands_at nodes.now [] (left text.old)) }
 {
-    section(b"DEMANDS", text)?;
-    demands(alloc, nodes, text)
+    let mut all = List::new(alloc);
+    let mut sum = 0;
+    while take_demand(alloc, nodes, &mut all, &mut sum, text)? {}
+    Ok(all)
 }

@@ -2,7 +2,7 @@ ghost use Rattle.std.specs.Prelude.{◌≡◌};
 ghost use Rattle.sndlib_reader.specs.Kinds.{kind_word};
 
 use snd_tokens::NumberFault;
-use thiserror::Error;
+use text_kit::Refusal;
 
 /// What there may be only so many of, or so much.
 #[derive(Clone, Copy, Debug, PartialEq, Eq)]
@@ -26,17 +26,17 @@ pub enum Limited {
 pub enum ReadKind {
     /// The first line is another.
     Header,
-    /// Something else than a section's word, the parenthesis behind it, or the end.
+    /// Something other than a section's word, the parenthesis after it, or the end.
     Section,
     /// Any other token of the wrong sort.
     Token,
-    /// The file ends where something is due.
+    /// The file ends where something is expected.
     Ended,
     /// Something is one too many, or too much.
     Limit(Limited),
     /// A number is faulty.
     Number(NumberFault),
-    /// No node has the name where a node is due, no link where a link, no demand where a demand.
+    /// The name of a node, a link or a demand is expected, and none has this one.
     UnknownName,
     /// An earlier node has a node's name, an earlier link a link's, or an earlier demand a demand's.
     DoubleName,
@@ -96,18 +96,4 @@ fn number_word(fault: NumberFault) -> &'static str
 }
 
 /// Why a file was not read.
-#[derive(Debug, Drop, Error)]
-pub enum ReadRefusal {
-    /// The first fault, and the place of its first byte; the length of the file at its end.
-    #[error("fault {kind:?} at {at}")]
-    Bad { at: u64, kind: ReadKind },
-    /// No memory was found.
-    #[error("no memory")]
-    NoMemory,
-}
-
-pub(crate) fn bad(at: u64, kind: ReadKind) -> ReadRefusal
-    ensures { result ≡ ReadRefusal.Bad at kind }
-{
-    ReadRefusal::Bad { at, kind }
-}
+pub type ReadRefusal = Refusal<ReadKind>;

@@ -5,12 +5,11 @@ mod costs;
 mod demand;
 pub mod fault;
 mod link;
-mod names;
 mod node;
 mod paths;
 mod reader;
 mod skip;
-mod steps;
+mod words;
 
 pub use fault::{Limited, ReadKind, ReadRefusal};
 pub use reader::read_network;

@@ -1,94 +1,132 @@
-ghost use Rattle.std.specs.Prelude.{◌≡◌, ◌≤◌, ◌+◌, IsTrue, IfOk, OnOk, [], length};
-ghost use Rattle.snd_tokens.specs.Tokens.{is_plain};
-ghost use Rattle.snd_tokens.specs.Lexemes.{WordAt, left};
-ghost use Rattle.sndlib_reader.specs.Reading.{Gives, Leads, capacity, link_at, link_names, link_section_at, links_at, modules_at, placed};
+ghost use Rattle.std.specs.Prelude.{◌≡◌, ◌≤◌, ◌<◌, IsTrue, IfOk, Ok, [], length};
+ghost use Rattle.net_core.specs.Tests.{is_named};
+ghost use Rattle.snd_tokens.specs.Lexemes.{left, size};
+ghost use Rattle.text_kit.specs.Answers.{ReadsAs, TakesTurn};
+ghost use Rattle.text_kit.specs.Reading.{word_at};
+ghost use Rattle.sndlib_reader.specs.Reading.{capacity, link_at, links_at, module_at, modules_at, name_fault, new_name};
+ghost use Rattle.sndlib_reader.specs.declared.fault.Limited.TheVariants as limits;
 
 use crate::costs::CostedLink;
-use crate::fault::{Limited, ReadKind, ReadRefusal, bad};
-use crate::names::Names;
-use crate::node::{ends, new_name};
-use crate::steps::{amount, amount_of, open, section};
+use crate::fault::{Limited, ReadKind, ReadRefusal};
+use crate::node::ends;
+use crate::words::{amount, amount_of, name_fault, named};
 use net_core::{Link, List, Module, Name};
 use snd_tokens::{Cursor, Next};
 use std::alloc::Global;
+use text_kit::refusal::bad;
+use text_kit::steps::{closes, open, placed};
 
 const MAX_LINKS: usize = 256;
 
 const MAX_MODULES: usize = 16;
 
-/// The capacity of a word that was read at a place, in thousandths.
-fn capacity(at: u64, word: &[u8]) -> Result<u64, ReadRefusal>
-    ensures { Gives (λ n. n) result (placed at (capacity word.now)) }
+/// The capacity of a word for a module behind `count` others, in thousandths.
+fn capacity_of(modules: &[Module], word: &[u8]) -> Result<u64, ReadKind>
+    ensures { result ≡ capacity modules.now word.now }
 {
-    let capacity = amount_of(at, word)?;
+    let capacity = amount_of(word)?;
     if capacity == 0 {
-        return Err(bad(at, ReadKind::ZeroModule));
+        return Err(ReadKind::ZeroModule);
+    }
+    if modules.len() >= MAX_MODULES {
+        return Err(ReadKind::Limit(Limited::Modules));
     }
     Ok(capacity)
 }
 
-/// Takes a module whose capacity's word was read at a place, and puts it last.
-#[tactic(auto, unfolding(crate::specs::Reading::modules_at))]
-fn add_module(
-    fixed: u64,
-    modules: &mut List<Module>,
-    at: u64,
-    word: &[u8],
-    text: &mut Cursor,
-) -> Result<(), ReadRefusal>
-    requires { length modules.now ≤ 16 }
-    ensures leads { Leads result (modules_at fixed modules.old (WordAt at word.now (left text.old))) (λ _. modules_at fixed modules.new (left text.new)) }
-    ensures few { OnOk result (length modules.new ≤ 16) }
-    ensures count { OnOk result (length modules.new ≡ length modules.old + 1) }
+/// Takes the capacity of a module behind these ones.
+fn capacity(modules: &[Module], text: &mut Cursor) -> Result<u64, ReadRefusal>
+    ensures { ReadsAs (λ n. n) result (left text.new) (word_at ReadKind.Token ReadKind.Ended (capacity modules.now) (left text.old)) }
 {
-    let capacity = capacity(at, word)?;
-    if modules.len() == MAX_MODULES {
-        return Err(bad(at, ReadKind::Limit(Limited::Modules)));
+    match text.next() {
+        Next::Word(at, word) => placed(at, capacity_of(modules, word)),
+        Next::Open(at) | Next::Close(at) => Err(bad(at, ReadKind::Token)),
+        Next::End(at) => Err(bad(at, ReadKind::Ended)),
     }
+}
+
+/// Takes a module behind these ones.
+#[tactic(auto, unfolding(crate::specs::Reading::module_at))]
+fn module(modules: &[Module], text: &mut Cursor) -> Result<Module, ReadRefusal>
+    ensures { ReadsAs (λ m. m) result (left text.new) (module_at modules.now (left text.old)) }
+{
+    let capacity = capacity(modules, text)?;
     let cost = amount(text)?;
-    let Ok(()) = modules.push(Module { capacity, cost }) else {
-        return Err(ReadRefusal::NoMemory);
-    };
-    Ok(())
+    Ok(Module { capacity, cost })
+}
+
+/// Takes one module more of a link with this pre-installed capacity, and says whether there was one.
+fn take_module(
+    fixed: u64,
+    all: &mut List<Module>,
+    text: &mut Cursor,
+) -> Result<bool, ReadRefusal>
+    ensures turn { TakesTurn result (modules_at fixed all.old (left text.old)) (modules_at fixed all.new (left text.new)) (Ok (all.new, left text.new)) }
+    ensures shorter { IfOk result (λ more. IsTrue more → size (left text.new) < size (left text.old)) }
+{
+    if let Some(at) = closes(text) {
+        if all.len() == 0 && fixed > 0 {
+            return Err(bad(at, ReadKind::FixedLink));
+        }
+        return Ok(false);
+    }
+    let module = module(all.items(), text)?;
+    all.push(module)?;
+    Ok(true)
 }
 
 /// Takes the modules of a link with this pre-installed capacity, up to the closing parenthesis.
-#[tactic(auto, unfolding(crate::specs::Reading::modules_at))]
 fn modules(alloc: Global, fixed: u64, text: &mut Cursor) -> Result<List<Module>, ReadRefusal>
-    ensures { Gives (λ modules. (modules, left text.new)) result (modules_at fixed [] (left text.old)) }
+    ensures { ReadsAs (λ modules. modules) result (left text.new) (modules_at fixed [] (left text.old)) }
 {
-    let mut modules = List::new(alloc);
-    loop {
-        match text.next() {
-            Next::Word(at, word) => add_module(fixed, &mut modules, at, word, text)?,
-            Next::Close(at) if modules.len() == 0 && fixed > 0 => {
-                return Err(bad(at, ReadKind::FixedLink));
-            }
-            Next::Close(_) => return Ok(modules),
-            Next::Open(at) => return Err(bad(at, ReadKind::Token)),
-            Next::End(at) => return Err(bad(at, ReadKind::Ended)),
-        }
+    let mut all = List::new(alloc);
+    while take_module(fixed, &mut all, text)? {}
+    Ok(all)
+}
+
+/// Whether one of these links has the name.
+pub(crate) fn is_link(links: &[CostedLink], name: &[u8]) -> bool
+    ensures { result ≡ is_named (λ l. l.link.name) name.now links.now }
+{
+    links.iter().any(|l| l.link.name.bytes() == name)
+}
+
+/// What is wrong with a word as the name of a link behind these ones.
+fn link_fault(links: &[CostedLink], word: &[u8]) -> Option<ReadKind>
+    ensures { result ≡ name_fault (λ l. l.link.name) limits.Links 256 links.now word.now }
+{
+    name_fault(Limited::Links, MAX_LINKS, links.len(), is_link(links, word), word)
+}
+
+/// Takes the name of a link behind these ones.
+fn link_name(alloc: Global, links: &[CostedLink], text: &mut Cursor) -> Result<Name, ReadRefusal>
+    ensures { ReadsAs (λ n. n) result (left text.new) (word_at ReadKind.Token ReadKind.Ended (new_name (λ l. l.link.name) limits.Links 256 links.now) (left text.old)) }
+{
+    match text.next() {
+        Next::Word(at, word) => named(alloc, at, word, link_fault(links, word)),
+        Next::Open(at) | Next::Close(at) => Err(bad(at, ReadKind::Token)),
+        Next::End(at) => Err(bad(at, ReadKind::Ended)),
     }
 }
 
-/// Takes what is behind the name of a link.
+/// Takes a link behind these ones.
 #[tactic(auto, unfolding(crate::specs::Reading::link_at))]
 fn link(
     alloc: Global,
-    nodes: &Names,
-    name: Name,
+    nodes: &[Name],
+    links: &[CostedLink],
     text: &mut Cursor,
 ) -> Result<CostedLink, ReadRefusal>
     requires { length nodes.now ≤ 128 }
-    ensures gives { Gives (λ l. (l, left text.new)) result (link_at nodes.now name (left text.old)) }
-    ensures named { IfOk result (λ l. l.link.name ≡ name) }
+    ensures { ReadsAs (λ l. l) result (left text.new) (link_at nodes.now links.now (left text.old)) }
 {
-    let (a, b) = ends(ReadKind::SelfLink, alloc, nodes, text)?;
+    let name = link_name(alloc, links, text)?;
+    let (a, b) = ends(ReadKind::SelfLink, nodes, text)?;
     let fixed = amount(text)?;
     let fixed_cost = amount(text)?;
     let routing_cost = amount(text)?;
     let setup = amount(text)?;
-    open(ReadKind::Token, text)?;
+    open(ReadKind::Token, ReadKind::Ended, text)?;
     let modules = modules(alloc, fixed, text)?;
     Ok(CostedLink {
         link: Link {
@@ -104,77 +142,35 @@ fn link(
     })
 }
 
-/// Takes a link whose name's word was read at a place, and puts it last.
-#[tactic(auto, unfolding(crate::specs::Reading::links_at))]
-fn add_link(
+/// Takes one link more, and says whether there was one.
+fn take_link(
     alloc: Global,
-    nodes: &Names,
-    names: &mut Names,
-    links: &mut List<CostedLink>,
-    at: u64,
-    word: &[u8],
+    nodes: &[Name],
+    all: &mut List<CostedLink>,
     text: &mut Cursor,
-) -> Result<(), ReadRefusal>
-    requires nodes { length nodes.now ≤ 128 }
-    requires few { length links.now ≤ 256 }
-    requires named { names.now ≡ link_names links.now }
-    requires some { 1 ≤ length word.now }
-    requires plain { IsTrue (is_plain word.now) }
-    ensures leads { Leads result (links_at nodes.now links.old (WordAt at word.now (left text.old))) (λ _. links_at nodes.now links.new (left text.new)) }
-    ensures few { OnOk result (length links.new ≤ 256) }
-    ensures count { OnOk result (length links.new ≡ length links.old + 1) }
-    ensures named { OnOk result (names.new ≡ link_names links.new) }
+) -> Result<bool, ReadRefusal>
+    requires { length nodes.now ≤ 128 }
+    ensures turn { TakesTurn result (links_at nodes.now all.old (left text.old)) (links_at nodes.now all.new (left text.new)) (Ok (all.new, left text.new)) }
+    ensures shorter { IfOk result (λ more. IsTrue more → size (left text.new) < size (left text.old)) }
 {
-    let name = new_name(alloc, names, at, word)?;
-    if links.len() == MAX_LINKS {
-        return Err(bad(at, ReadKind::Limit(Limited::Links)));
+    if let Some(_) = closes(text) {
+        return Ok(false);
     }
-    let link = link(alloc, nodes, name, text)?;
-    let Ok(()) = links.push(link) else {
-        return Err(ReadRefusal::NoMemory);
-    };
-    Ok(())
-}
-
-/// Links, and their names in the same order.
-#[derive(Drop)]
-pub(crate) struct NamedLinks {
-    pub(crate) links: List<CostedLink>,
-    pub(crate) names: Names,
+    let link = link(alloc, nodes, all.items(), text)?;
+    all.push(link)?;
+    Ok(true)
 }
 
 /// Takes links, up to the closing parenthesis.
-#[tactic(auto, unfolding(crate::specs::Reading::links_at))]
-fn links(alloc: Global, nodes: &Names, text: &mut Cursor) -> Result<NamedLinks, ReadRefusal>
-    requires { length nodes.now ≤ 128 }
-    ensures gives { Gives (λ r. (r.links, left text.new)) result (links_at nodes.now [] (left text.old)) }
-    ensures named { IfOk result (λ r. r.names ≡ link_names r.links) }
-{
-    let mut names = Names::new(alloc);
-    let mut links = List::new(alloc);
-    loop {
-        match text.next() {
-            Next::Word(at, word) => {
-                add_link(alloc, nodes, &mut names, &mut links, at, word, text)?;
-            }
-            Next::Close(_) => return Ok(NamedLinks { links, names }),
-            Next::Open(at) => return Err(bad(at, ReadKind::Token)),
-            Next::End(at) => return Err(bad(at, ReadKind::Ended)),
-        }
-    }
-}
-
-/// Takes the section of links.
-#[tactic(auto, unfolding(crate::specs::Reading::link_section_at))]
-pub(crate) fn link_section(
+pub(crate) fn links(
     alloc: Global,
-    nodes: &Names,
+    nodes: &[Name],
     text: &mut Cursor,
-) -> Result<NamedLinks, ReadRefusal>
+) -> Result<List<CostedLink>, ReadRefusal>
     requires { length nodes.now ≤ 128 }
-    ensures gives { Gives (λ r. (r.links, left text.new)) result (link_section_at nodes.now (left text.old)) }
-    ensures named { IfOk result (λ r. r.names ≡ link_names r.links) }
+    ensures { ReadsAs (λ links. links) result (left text.new) (links_at nodes.now [] (left text.old)) }
 {
-    section(b"LINKS", text)?;
-    links(alloc, nodes, text)
+    let mut all = List::new(alloc);
+    while take_link(alloc, nodes, &mut all, text)? {}
+    Ok(all)
 }

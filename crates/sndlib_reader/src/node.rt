@@ -1,151 +1,155 @@
-ghost use Rattle.std.specs.Prelude.{◌≡◌, ◌≤◌, ◌+◌, ◌++◌, IsTrue, IfOk, OnOk, [], ◌∷◌, length};
-ghost use Rattle.snd_tokens.specs.Tokens.{is_plain};
-ghost use Rattle.snd_tokens.specs.Lexemes.{WordAt, left};
-ghost use Rattle.sndlib_reader.specs.Reading.{Gives, Leads, ends_at, new_name, node_of, node_section_at, nodes_at, other_node, placed, said_at};
+ghost use Rattle.std.specs.Prelude.{◌≡◌, ◌≤◌, ◌<◌, ◌+◌, IsTrue, IfOk, OnOk, Ok, [], length};
+ghost use Rattle.net_core.specs.Tests.{is_named};
+ghost use Rattle.snd_tokens.specs.Lexemes.{left, size};
+ghost use Rattle.text_kit.specs.Answers.{ReadsAs, TakesTurn};
+ghost use Rattle.text_kit.specs.Reading.{word_at};
+ghost use Rattle.sndlib_reader.specs.Reading.{ends_at, name_fault, node_of, node_place, nodes_at, other_node};
+ghost use Rattle.sndlib_reader.specs.declared.fault.Limited.TheVariants as limits;
+ghost use Rattle.sndlib_reader.specs.inner.Nodes.{parts_so_far};
 
-use crate::fault::{Limited, ReadKind, ReadRefusal, bad};
-use crate::names::Names;
-use crate::skip::coordinates;
-use crate::steps::{close, name, open, section, word};
-use net_core::{Copied, Name, NodeId};
+use crate::fault::{Limited, ReadKind, ReadRefusal};
+use crate::skip::skip;
+use crate::words::{is_long, name_fault, named};
+use net_core::{List, Name, NodeId};
 use snd_tokens::{Cursor, Next};
 use std::alloc::Global;
+use text_kit::refusal::bad;
+use text_kit::steps::{close, open, placed};
 
 const MAX_NODES: usize = 128;
 
-/// Puts the name of a word that was read at a place behind the earlier names. It gives the name.
-pub(crate) fn new_name(
-    alloc: Global,
-    names: &mut Names,
-    at: u64,
-    word: &[u8],
-) -> Result<Name, ReadRefusal>
-    requires some { 1 ≤ length word.now }
-    requires plain { IsTrue (is_plain word.now) }
-    ensures gives { Gives (λ n. n) result (placed at (new_name names.old word.now)) }
-    ensures added { IfOk result (λ n. names.new ≡ names.old ++ n ∷ []) }
+/// Whether one of these nodes has the name.
+fn is_node(nodes: &[Name], name: &[u8]) -> bool
+    ensures { result ≡ is_named (λ n. n) name.now nodes.now }
 {
-    let name = name(alloc, at, word)?;
-    let Ok(copy) = name.copy() else {
-        return Err(ReadRefusal::NoMemory);
-    };
-    match names.add(copy) {
-        Ok(true) => Ok(name),
-        Ok(false) => Err(bad(at, ReadKind::DoubleName)),
-        Err(_) => Err(ReadRefusal::NoMemory),
-    }
+    nodes.iter().any(|n| n.bytes() == name)
 }
 
-/// Takes a node whose name's word was read at a place.
-#[tactic(auto, unfolding(crate::specs::Reading::nodes_at))]
-fn add_node(
-    alloc: Global,
-    nodes: &mut Names,
-    at: u64,
-    word: &[u8],
-    text: &mut Cursor,
-) -> Result<(), ReadRefusal>
-    requires few { length nodes.now ≤ 128 }
-    requires some { 1 ≤ length word.now }
-    requires plain { IsTrue (is_plain word.now) }
-    ensures leads { Leads result (nodes_at nodes.old (WordAt at word.now (left text.old))) (λ _. nodes_at nodes.new (left text.new)) }
-    ensures few { OnOk result (length nodes.new ≤ 128) }
-    ensures count { OnOk result (length nodes.new ≡ length nodes.old + 1) }
+/// What is wrong with a word as the name of a node behind these ones.
+fn node_fault(nodes: &[Name], word: &[u8]) -> Option<ReadKind>
+    ensures { result ≡ name_fault (λ n. n) limits.Nodes 128 nodes.now word.now }
 {
-    let count = nodes.len();
-    new_name(alloc, nodes, at, word)?;
-    if count == MAX_NODES {
-        return Err(bad(at, ReadKind::Limit(Limited::Nodes)));
+    name_fault(Limited::Nodes, MAX_NODES, nodes.len(), is_node(nodes, word), word)
+}
+
+/// Takes a node's name or coordinates behind these nodes; `after_name` says that a name was taken
+/// last. It says whether there was one, or the closing parenthesis.
+fn take_part(
+    alloc: Global,
+    nodes: &mut List<Name>,
+    after_name: &mut bool,
+    text: &mut Cursor,
+) -> Result<bool, ReadRefusal>
+    requires { IsTrue after_name.now → 1 ≤ length nodes.now }
+    ensures turn { TakesTurn result (nodes_at (parts_so_far nodes.old after_name.old) (left text.old)) (nodes_at (parts_so_far nodes.new after_name.new) (left text.new)) (Ok (nodes.new, left text.new)) }
+    ensures shorter { IfOk result (λ more. IsTrue more → size (left text.new) < size (left text.old)) }
+    ensures some { OnOk result (IsTrue after_name.new → 1 ≤ length nodes.new) }
+{
+    match text.next() {
+        Next::Word(at, word) => {
+            let name = named(alloc, at, word, node_fault(nodes.items(), word))?;
+            nodes.push(name)?;
+            *after_name = true;
+            Ok(true)
+        }
+        Next::Open(at) => {
+            if !*after_name {
+                return Err(bad(at, ReadKind::Token));
+            }
+            skip(text)?;
+            *after_name = false;
+            Ok(true)
+        }
+        Next::Close(_) => Ok(false),
+        Next::End(at) => Err(bad(at, ReadKind::Ended)),
     }
-    coordinates(text)?;
-    Ok(())
 }
 
 /// Takes nodes, up to the closing parenthesis.
-#[tactic(auto, unfolding(crate::specs::Reading::nodes_at))]
-fn nodes(alloc: Global, text: &mut Cursor) -> Result<Names, ReadRefusal>
-    ensures gives { Gives (λ nodes. (nodes, left text.new)) result (nodes_at [] (left text.old)) }
-    ensures few { IfOk result (λ nodes. length nodes ≤ 128) }
+pub(crate) fn nodes(alloc: Global, text: &mut Cursor) -> Result<List<Name>, ReadRefusal>
+    ensures { ReadsAs (λ nodes. nodes) result (left text.new) (nodes_at [] (left text.old)) }
 {
-    let mut nodes = Names::new(alloc);
-    loop {
-        match text.next() {
-            Next::Word(at, word) => add_node(alloc, &mut nodes, at, word, text)?,
-            Next::Close(_) => return Ok(nodes),
-            Next::Open(at) => return Err(bad(at, ReadKind::Token)),
-            Next::End(at) => return Err(bad(at, ReadKind::Ended)),
-        }
+    let mut nodes = List::new(alloc);
+    let mut after_name = false;
+    while take_part(alloc, &mut nodes, &mut after_name, text)? {}
+    Ok(nodes)
+}
+
+/// The place of a name among the nodes.
+fn place_of(nodes: &[Name], name: &[u8]) -> Option<usize>
+    ensures { result ≡ node_place nodes.now name.now }
+{
+    nodes.iter().position(|n| n.bytes() == name)
+}
+
+/// The node that a word names.
+fn node_of(nodes: &[Name], word: &[u8]) -> Result<NodeId, ReadKind>
+    requires { length nodes.now ≤ 128 }
+    ensures { result ≡ node_of nodes.now word.now }
+{
+    if is_long(word) {
+        return Err(ReadKind::Limit(Limited::Name));
     }
-}
-
-/// Takes the section of nodes.
-#[tactic(auto, unfolding(crate::specs::Reading::node_section_at))]
-pub(crate) fn node_section(alloc: Global, text: &mut Cursor) -> Result<Names, ReadRefusal>
-    ensures gives { Gives (λ nodes. (nodes, left text.new)) result (node_section_at (left text.old)) }
-    ensures few { IfOk result (λ nodes. length nodes ≤ 128) }
-{
-    section(b"NODES", text)?;
-    nodes(alloc, text)
-}
-
-/// The node of a word that was read at a place.
-fn node_of(alloc: Global, nodes: &Names, at: u64, word: &[u8]) -> Result<NodeId, ReadRefusal>
-    requires few { length nodes.now ≤ 128 }
-    requires some { 1 ≤ length word.now }
-    requires plain { IsTrue (is_plain word.now) }
-    ensures { Gives (λ id. id) result (placed at (node_of nodes.now word.now)) }
-{
-    let name = name(alloc, at, word)?;
-    match nodes.place(&name) {
+    match place_of(nodes, word) {
         Some(place) => Ok(NodeId(place as u32)),
-        None => Err(bad(at, ReadKind::UnknownName)),
+        None => Err(ReadKind::UnknownName),
     }
 }
 
 /// Takes a node's name.
-#[tactic(auto, unfolding(crate::specs::Reading::said_at))]
-fn node(alloc: Global, nodes: &Names, text: &mut Cursor) -> Result<NodeId, ReadRefusal>
+fn node(nodes: &[Name], text: &mut Cursor) -> Result<NodeId, ReadRefusal>
     requires { length nodes.now ≤ 128 }
-    ensures { Gives (λ id. (id, left text.new)) result (said_at (node_of nodes.now) (left text.old)) }
+    ensures { ReadsAs (λ id. id) result (left text.new) (word_at ReadKind.Token ReadKind.Ended (node_of nodes.now) (left text.old)) }
 {
-    let (at, word) = word(text)?;
-    node_of(alloc, nodes, at, word)
+    match text.next() {
+        Next::Word(at, word) => placed(at, node_of(nodes, word)),
+        Next::Open(at) | Next::Close(at) => Err(bad(at, ReadKind::Token)),
+        Next::End(at) => Err(bad(at, ReadKind::Ended)),
+    }
 }
 
-/// Takes another node's name than that of `a`.
-#[tactic(auto, unfolding(crate::specs::Reading::said_at))]
-fn other_node(
-    kind: ReadKind,
-    alloc: Global,
-    nodes: &Names,
-    a: NodeId,
-    text: &mut Cursor,
-) -> Result<NodeId, ReadRefusal>
+/// The node that a word names, where that is another one than `a`.
+fn other_of(kind: ReadKind, nodes: &[Name], a: NodeId, word: &[u8]) -> Result<NodeId, ReadKind>
     requires { length nodes.now ≤ 128 }
-    ensures { Gives (λ id. (id, left text.new)) result (said_at (other_node kind nodes.now a) (left text.old)) }
+    ensures { result ≡ other_node kind nodes.now a word.now }
 {
-    let (at, word) = word(text)?;
-    let b = node_of(alloc, nodes, at, word)?;
+    let b = node_of(nodes, word)?;
     if a.0 == b.0 {
-        return Err(bad(at, kind));
+        return Err(kind);
     }
     Ok(b)
 }
 
-/// Takes two nodes between parentheses, of which equal ones are a fault of this kind.
+/// Takes another node's name than that of `a`.
+fn other_node(
+    kind: ReadKind,
+    nodes: &[Name],
+    a: NodeId,
+    text: &mut Cursor,
+) -> Result<NodeId, ReadRefusal>
+    requires { length nodes.now ≤ 128 }
+    ensures { ReadsAs (λ id. id) result (left text.new) (word_at ReadKind.Token ReadKind.Ended (other_node kind nodes.now a) (left text.old)) }
+{
+    match text.next() {
+        Next::Word(at, word) => placed(at, other_of(kind, nodes, a, word)),
+        Next::Open(at) | Next::Close(at) => Err(bad(at, ReadKind::Token)),
+        Next::End(at) => Err(bad(at, ReadKind::Ended)),
+    }
+}
+
+/// Takes two nodes between parentheses; two equal ones have a fault of this kind.
 #[tactic(auto, unfolding(crate::specs::Reading::ends_at))]
 pub(crate) fn ends(
     kind: ReadKind,
-    alloc: Global,
-    nodes: &Names,
+    nodes: &[Name],
     text: &mut Cursor,
 ) -> Result<(NodeId, NodeId), ReadRefusal>
     requires { length nodes.now ≤ 128 }
-    ensures { Gives (λ ends. (ends, left text.new)) result (ends_at kind nodes.now (left text.old)) }
+    ensures { ReadsAs (λ ends. ends) result (left text.new) (ends_at kind nodes.now (left text.old)) }
 {
-    open(ReadKind::Token, text)?;
-    let a = node(alloc, nodes, text)?;
-    let b = other_node(kind, alloc, nodes, a, text)?;
-    close(text)?;
+    open(ReadKind::Token, ReadKind::Ended, text)?;
+    let a = node(nodes, text)?;
+    let b = other_node(kind, nodes, a, text)?;
+    close(ReadKind::Token, ReadKind::Ended, text)?;
     Ok((a, b))
 }

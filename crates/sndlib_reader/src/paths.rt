@@ -1,152 +1,211 @@
-ghost use Rattle.std.specs.Prelude.{◌≡◌, ◌≤◌, IsTrue, length};
-ghost use Rattle.snd_tokens.specs.Tokens.{is_plain};
-ghost use Rattle.snd_tokens.specs.Lexemes.{WordAt, left};
-ghost use Rattle.sndlib_reader.specs.Reading.{Gives, close_step, end_at, known_name, lines_at, open_step, paths_at, placed, word_step};
+ghost use Rattle.std.specs.Prelude.{◌≡◌, ◌<◌, false, IsTrue, IfOk, Ok, Err};
+ghost use Rattle.snd_tokens.specs.Lexemes.{left, size};
+ghost use Rattle.text_kit.specs.Answers.{ReadsAs, TakesTurn};
+ghost use Rattle.text_kit.specs.Reading.{each_at, step_at, word_at};
+ghost use Rattle.sndlib_reader.specs.Reading.{is_paths, known_name, line_at, path_at, paths_at, short_name, some_at};
 
-use crate::fault::{ReadKind, ReadRefusal, bad};
-use crate::names::Names;
-use crate::steps::{name, open};
-use net_core::Name;
+use crate::costs::CostedLink;
+use crate::demand::is_demand;
+use crate::fault::{Limited, ReadKind, ReadRefusal};
+use crate::link::is_link;
+use crate::words::is_long;
+use net_core::Demand;
 use snd_tokens::{Cursor, Next};
-use std::alloc::Global;
-
-/// Where reading stands in the section of admissible paths.
-#[derive(Clone, Copy, Debug, PartialEq, Eq)]
-pub enum Stage {
-    /// At a demand's name, or the end of all lines.
-    Line,
-    /// At the parenthesis that opens a demand's paths.
-    Paths,
-    /// At a path's name, or the end of the paths where there were some.
-    Path(bool),
-    /// At the parenthesis that opens a path's links.
-    Links,
-    /// At a link's name, or the end of the links where there were some.
-    Link(bool),
-}
-
-/// The name of a word that was read at a place, which is one of these.
-fn known_name(alloc: Global, names: &Names, at: u64, word: &[u8]) -> Result<Name, ReadRefusal>
-    requires some { 1 ≤ length word.now }
-    requires plain { IsTrue (is_plain word.now) }
-    ensures { Gives (λ n. n) result (placed at (known_name names.now word.now)) }
-{
-    let name = name(alloc, at, word)?;
-    if !names.has(&name) {
-        return Err(bad(at, ReadKind::UnknownName));
-    }
-    Ok(name)
-}
-
-/// The stage behind a word.
-fn word_step(
-    alloc: Global,
-    links: &Names,
-    demands: &Names,
-    stage: Stage,
-    at: u64,
-    word: &[u8],
-) -> Result<Stage, ReadRefusal>
-    requires some { 1 ≤ length word.now }
-    requires plain { IsTrue (is_plain word.now) }
-    ensures { Gives (λ s. s) result (placed at (word_step links.now demands.now stage word.now)) }
-{
-    match stage {
-        Stage::Line => {
-            known_name(alloc, demands, at, word)?;
-            Ok(Stage::Paths)
-        }
-        Stage::Path(_) => {
-            name(alloc, at, word)?;
-            Ok(Stage::Links)
-        }
-        Stage::Link(_) => {
-            known_name(alloc, links, at, word)?;
-            Ok(Stage::Link(true))
-        }
-        Stage::Paths | Stage::Links => Err(bad(at, ReadKind::Token)),
-    }
-}
-
-/// The stage behind an opening parenthesis.
-fn open_step(stage: Stage, at: u64) -> Result<Stage, ReadRefusal>
-    ensures { Gives (λ s. s) result (placed at (open_step stage)) }
-{
-    match stage {
-        Stage::Paths => Ok(Stage::Path(false)),
-        Stage::Links => Ok(Stage::Link(false)),
-        _ => Err(bad(at, ReadKind::Token)),
-    }
-}
-
-/// The stage behind a closing parenthesis, or None where that is the last one.
-fn close_step(stage: Stage, at: u64) -> Result<Option<Stage>, ReadRefusal>
-    ensures { Gives (λ s. s) result (placed at (close_step stage)) }
-{
-    match stage {
-        Stage::Line => Ok(None),
-        Stage::Path(true) => Ok(Some(Stage::Line)),
-        Stage::Link(true) => Ok(Some(Stage::Path(true))),
-        _ => Err(bad(at, ReadKind::Token)),
-    }
-}
-
-/// Takes lines, up to the parenthesis that closes them.
-fn lines(
-    alloc: Global,
-    links: &Names,
-    demands: &Names,
-    text: &mut Cursor,
-) -> Result<(), ReadRefusal>
-    ensures { Gives (λ _. left text.new) result (lines_at links.now demands.now Stage.Line (left text.old)) }
-{
-    let mut stage = Stage::Line;
-    loop {
-        stage = match text.next() {
-            Next::Word(at, word) => word_step(alloc, links, demands, stage, at, word)?,
-            Next::Open(at) => open_step(stage, at)?,
-            Next::Close(at) => match close_step(stage, at)? {
-                Some(next) => next,
-                None => return Ok(()),
-            },
-            Next::End(at) => return Err(bad(at, ReadKind::Ended)),
-        };
-    }
-}
-
-/// Finds that nothing is left.
-#[tactic(auto, unfolding(crate::specs::Reading::end_at))]
-fn end(text: &mut Cursor) -> Result<(), ReadRefusal>
-    ensures { Gives (λ _. tt) result (end_at (left text.old)) }
-{
-    match text.next() {
-        Next::Word(at, _) | Next::Open(at) | Next::Close(at) => Err(bad(at, ReadKind::Section)),
-        Next::End(_) => Ok(()),
-    }
-}
+use text_kit::refusal::bad;
+use text_kit::steps::{closes, end, open, placed};
 
 const PATHS: &[u8] = b"ADMISSIBLE_PATHS";
 
-/// Takes the section of admissible paths, where there is one, behind which nothing is left.
-#[tactic(auto, unfolding(crate::specs::Reading::paths_at))]
-pub(crate) fn paths(
-    alloc: Global,
-    links: &Names,
-    demands: &Names,
-    text: &mut Cursor,
-) -> Result<(), ReadRefusal>
-    ensures { Gives (λ _. tt) result (paths_at links.now demands.now (left text.old)) }
+/// Tests a word as the name of a link.
+fn known_link(links: &[CostedLink], word: &[u8]) -> Result<(), ReadKind>
+    ensures { result ≡ known_name (λ l. l.link.name) links.now word.now }
+{
+    if is_long(word) {
+        return Err(ReadKind::Limit(Limited::Name));
+    }
+    if !is_link(links, word) {
+        return Err(ReadKind::UnknownName);
+    }
+    Ok(())
+}
+
+/// Takes the name of a link.
+fn link(links: &[CostedLink], text: &mut Cursor) -> Result<(), ReadRefusal>
+    ensures { ReadsAs (λ _. tt) result (left text.new) (word_at ReadKind.Token ReadKind.Ended (known_name (λ l. l.link.name) links.now) (left text.old)) }
 {
     match text.next() {
-        Next::Word(at, word) => {
-            if word != PATHS {
-                return Err(bad(at, ReadKind::Section));
-            }
-            open(ReadKind::Section, text)?;
-            lines(alloc, links, demands, text)?;
-            end(text)
-        }
-        Next::Open(at) | Next::Close(at) => Err(bad(at, ReadKind::Section)),
-        Next::End(_) => Ok(()),
+        Next::Word(at, word) => placed(at, known_link(links, word)),
+        Next::Open(at) | Next::Close(at) => Err(bad(at, ReadKind::Token)),
+        Next::End(at) => Err(bad(at, ReadKind::Ended)),
     }
+}
+
+/// Takes one link more of a path, and says whether there was one.
+fn take_link(links: &[CostedLink], text: &mut Cursor) -> Result<bool, ReadRefusal>
+    ensures turn { let links_at = each_at (word_at ReadKind.Token ReadKind.Ended (known_name (λ l. l.link.name) links.now)) in
+        TakesTurn result (links_at (left text.old)) (links_at (left text.new)) (Ok (tt, left text.new)) }
+    ensures shorter { IfOk result (λ more. IsTrue more → size (left text.new) < size (left text.old)) }
+{
+    if let Some(_) = closes(text) {
+        return Ok(false);
+    }
+    link(links, text)?;
+    Ok(true)
+}
+
+/// Takes the links of a path between parentheses.
+#[tactic(auto, unfolding(crate::specs::Reading::some_at))]
+fn path_links(links: &[CostedLink], text: &mut Cursor) -> Result<(), ReadRefusal>
+    ensures { ReadsAs (λ _. tt) result (left text.new) (some_at (word_at ReadKind.Token ReadKind.Ended (known_name (λ l. l.link.name) links.now)) (left text.old)) }
+{
+    open(ReadKind::Token, ReadKind::Ended, text)?;
+    link(links, text)?;
+    while take_link(links, text)? {}
+    Ok(())
+}
+
+/// Tests a word as a name.
+fn short_name(word: &[u8]) -> Result<(), ReadKind>
+    ensures { result ≡ short_name word.now }
+{
+    if is_long(word) {
+        return Err(ReadKind::Limit(Limited::Name));
+    }
+    Ok(())
+}
+
+/// Takes a path's name, which may be any name.
+fn path_name(text: &mut Cursor) -> Result<(), ReadRefusal>
+    ensures { ReadsAs (λ _. tt) result (left text.new) (word_at ReadKind.Token ReadKind.Ended short_name (left text.old)) }
+{
+    match text.next() {
+        Next::Word(at, word) => placed(at, short_name(word)),
+        Next::Open(at) | Next::Close(at) => Err(bad(at, ReadKind::Token)),
+        Next::End(at) => Err(bad(at, ReadKind::Ended)),
+    }
+}
+
+/// Takes a path: its name and its links.
+fn path(links: &[CostedLink], text: &mut Cursor) -> Result<(), ReadRefusal>
+    ensures { ReadsAs (λ _. tt) result (left text.new) (path_at links.now (left text.old)) }
+{
+    path_name(text)?;
+    path_links(links, text)
+}
+
+/// Takes one path more of a demand, and says whether there was one.
+fn take_path(links: &[CostedLink], text: &mut Cursor) -> Result<bool, ReadRefusal>
+    ensures turn { TakesTurn result (each_at (path_at links.now) (left text.old)) (each_at (path_at links.now) (left text.new)) (Ok (tt, left text.new)) }
+    ensures shorter { IfOk result (λ more. IsTrue more → size (left text.new) < size (left text.old)) }
+{
+    if let Some(_) = closes(text) {
+        return Ok(false);
+    }
+    path(links, text)?;
+    Ok(true)
+}
+
+/// Takes the paths of a demand between parentheses.
+#[tactic(auto, unfolding(crate::specs::Reading::some_at))]
+fn demand_paths(links: &[CostedLink], text: &mut Cursor) -> Result<(), ReadRefusal>
+    ensures { ReadsAs (λ _. tt) result (left text.new) (some_at (path_at links.now) (left text.old)) }
+{
+    open(ReadKind::Token, ReadKind::Ended, text)?;
+    path(links, text)?;
+    while take_path(links, text)? {}
+    Ok(())
+}
+
+/// Tests a word as the name of a demand.
+fn known_demand(demands: &[Demand], word: &[u8]) -> Result<(), ReadKind>
+    ensures { result ≡ known_name (λ d. d.name) demands.now word.now }
+{
+    if is_long(word) {
+        return Err(ReadKind::Limit(Limited::Name));
+    }
+    if !is_demand(demands, word) {
+        return Err(ReadKind::UnknownName);
+    }
+    Ok(())
+}
+
+/// Takes the name of a demand.
+fn demand(demands: &[Demand], text: &mut Cursor) -> Result<(), ReadRefusal>
+    ensures { ReadsAs (λ _. tt) result (left text.new) (word_at ReadKind.Token ReadKind.Ended (known_name (λ d. d.name) demands.now) (left text.old)) }
+{
+    match text.next() {
+        Next::Word(at, word) => placed(at, known_demand(demands, word)),
+        Next::Open(at) | Next::Close(at) => Err(bad(at, ReadKind::Token)),
+        Next::End(at) => Err(bad(at, ReadKind::Ended)),
+    }
+}
+
+/// Takes a line: a demand's name and its paths.
+fn line(links: &[CostedLink], demands: &[Demand], text: &mut Cursor) -> Result<(), ReadRefusal>
+    ensures { ReadsAs (λ _. tt) result (left text.new) (line_at links.now demands.now (left text.old)) }
+{
+    demand(demands, text)?;
+    demand_paths(links, text)
+}
+
+/// Takes one line more, and says whether there was one.
+fn take_line(
+    links: &[CostedLink],
+    demands: &[Demand],
+    text: &mut Cursor,
+) -> Result<bool, ReadRefusal>
+    ensures turn { TakesTurn result (each_at (line_at links.now demands.now) (left text.old)) (each_at (line_at links.now demands.now) (left text.new)) (Ok (tt, left text.new)) }
+    ensures shorter { IfOk result (λ more. IsTrue more → size (left text.new) < size (left text.old)) }
+{
+    if let Some(_) = closes(text) {
+        return Ok(false);
+    }
+    line(links, demands, text)?;
+    Ok(true)
+}
+
+/// Takes lines, up to the closing parenthesis.
+fn lines(links: &[CostedLink], demands: &[Demand], text: &mut Cursor) -> Result<(), ReadRefusal>
+    ensures { ReadsAs (λ _. tt) result (left text.new) (each_at (line_at links.now demands.now) (left text.old)) }
+{
+    while take_line(links, demands, text)? {}
+    Ok(())
+}
+
+/// Tests a word as that of the section of paths.
+fn is_paths(word: &[u8]) -> Result<bool, ReadKind>
+    ensures { result ≡ is_paths word.now }
+{
+    if word == PATHS {
+        return Ok(true);
+    }
+    Err(ReadKind::Section)
+}
+
+/// Takes the word of the section of paths, or finds the end.
+fn paths_word(text: &mut Cursor) -> Result<bool, ReadRefusal>
+    ensures { ReadsAs (λ b. b) result (left text.new) (step_at is_paths (Err ReadKind.Section) (Err ReadKind.Section) (Ok false) (left text.old)) }
+{
+    match text.next() {
+        Next::Word(at, word) => placed(at, is_paths(word)),
+        Next::Open(at) | Next::Close(at) => Err(bad(at, ReadKind::Section)),
+        Next::End(_) => Ok(false),
+    }
+}
+
+/// Takes the section of admissible paths and finds the end, or finds the end at once.
+#[tactic(auto, unfolding(crate::specs::Reading::paths_behind))]
+pub(crate) fn paths(
+    links: &[CostedLink],
+    demands: &[Demand],
+    text: &mut Cursor,
+) -> Result<(), ReadRefusal>
+    ensures { ReadsAs (λ _. tt) result (left text.new) (paths_at links.now demands.now (left text.old)) }
+{
+    if !paths_word(text)? {
+        return Ok(());
+    }
+    open(ReadKind::Section, ReadKind::Ended, text)?;
+    lines(links, demands, text)?;
+    end(ReadKind::Section, text)
 }

@@ -1,74 +1,154 @@
-ghost use Rattle.std.specs.Prelude.{◌≡◌, ℕ, List, IfOk, Err, None, map};
+ghost use Rattle.std.specs.Prelude.{◌≡◌, ◌≤◌, ℕ, List, [], length, map, IfOk, IfErr, Err, codes};
 ghost use Rattle.snd_tokens.specs.Lexemes.{left};
-ghost use Rattle.net_core.specs.Network.{network_fault};
+ghost use Rattle.net_core.specs.Network.{IsNetwork};
 ghost use Rattle.net_core.specs.declared.network.Network.{Network as Net};
 ghost use Rattle.net_core.specs.declared.demand.Demand.{Demand as Dem};
+ghost use Rattle.text_kit.specs.Answers.{ReadsAllAs, ReadsAs};
+ghost use Rattle.text_kit.specs.Files.{IsNotTooEarly};
+ghost use Rattle.text_kit.specs.Reading.{word_at};
+ghost use Rattle.text_kit.specs.declared.refusal.Refusal.{Refusal};
 ghost use Rattle.sndlib_reader.specs.declared.fault.ReadKind.{ReadKind};
-ghost use Rattle.sndlib_reader.specs.Spelling.{Spells};
-ghost use Rattle.sndlib_reader.specs.Reading.{Gives, IsFirstFault, file_at, parts, parts_of, sections_at};
+ghost use Rattle.sndlib_reader.specs.Spelling.{Spells, parts_of};
+ghost use Rattle.sndlib_reader.specs.Reading.{IsFirstFault, demands_at, is_meta, links_at, network_of, parts, section_at, sections_at, start_at};
 
-use crate::costs::{CostedLink, links, notes};
-use crate::demand::demand_section;
-use crate::fault::{ReadKind, ReadRefusal, bad};
-use crate::link::link_section;
-use crate::names::Names;
-use crate::node::node_section;
+use crate::costs::{CostedLink, links_of, notes_of};
+use crate::demand::demands;
+use crate::fault::{ReadKind, ReadRefusal};
+use crate::link::links;
+use crate::node::nodes;
 use crate::paths::paths;
-use crate::skip::meta;
-use net_core::{Demands, Network, NoMemory};
-use snd_tokens::{Cursor, after_header};
+use crate::skip::skip;
+use net_core::{Demands, List, Name, Network, NoMemory};
+use snd_tokens::{Cursor, Next};
 use std::alloc::Global;
+use text_kit::refusal::bad;
+use text_kit::steps::{behind_header, expect, open, placed};
 
 const HEADER: &[u8] = b"?SNDlib native format; type: network; version: 1.0";
 
-/// The network of nodes and links without fault.
-fn network(alloc: Global, nodes: &Names, costed: &[CostedLink]) -> Result<Network, NoMemory>
-    requires { network_fault nodes.now (map (λ l. l.link) costed.now) ≡ None }
-    ensures { IfOk result (λ net. parts_of net ≡ parts nodes.now costed.now) }
+const META: &[u8] = b"META";
+
+const NODES: &[u8] = b"NODES";
+
+/// Whether a word begins META or NODES.
+fn is_meta(word: &[u8]) -> Result<bool, ReadKind>
+    ensures { result ≡ is_meta word.now }
 {
-    let nodes = nodes.list(alloc)?;
-    let links = links(alloc, costed)?;
-    match Network::check(nodes, links, notes(costed)) {
+    if word == META {
+        return Ok(true);
+    }
+    if word == NODES {
+        return Ok(false);
+    }
+    Err(ReadKind::Section)
+}
+
+/// Takes the word of META or NODES.
+fn first_word(text: &mut Cursor) -> Result<bool, ReadRefusal>
+    ensures { ReadsAs (λ b. b) result (left text.new) (word_at ReadKind.Section ReadKind.Ended is_meta (left text.old)) }
+{
+    match text.next() {
+        Next::Word(at, word) => placed(at, is_meta(word)),
+        Next::Open(at) | Next::Close(at) => Err(bad(at, ReadKind::Section)),
+        Next::End(at) => Err(bad(at, ReadKind::Ended)),
+    }
+}
+
+/// Takes all before the parenthesis of NODES.
+#[tactic(auto, unfolding(crate::specs::Reading::meta_behind))]
+fn start(text: &mut Cursor) -> Result<(), ReadRefusal>
+    ensures { ReadsAs (λ _. tt) result (left text.new) (start_at (left text.old)) }
+{
+    if !first_word(text)? {
+        return Ok(());
+    }
+    open(ReadKind::Section, ReadKind::Ended, text)?;
+    skip(text)?;
+    expect(ReadKind::Section, ReadKind::Ended, NODES, text)
+}
+
+/// Takes the section of links.
+#[tactic(auto, unfolding(crate::specs::Reading::section_at))]
+fn link_section(
+    alloc: Global,
+    nodes: &[Name],
+    text: &mut Cursor,
+) -> Result<List<CostedLink>, ReadRefusal>
+    requires { length nodes.now ≤ 128 }
+    ensures { ReadsAs (λ links. links) result (left text.new) (section_at (codes "LINKS") (links_at nodes.now []) (left text.old)) }
+{
+    expect(ReadKind::Section, ReadKind::Ended, b"LINKS", text)?;
+    open(ReadKind::Section, ReadKind::Ended, text)?;
+    links(alloc, nodes, text)
+}
+
+/// Takes the section of demands.
+#[tactic(auto, unfolding(crate::specs::Reading::section_at))]
+fn demand_section(
+    alloc: Global,
+    nodes: &[Name],
+    text: &mut Cursor,
+) -> Result<Demands, ReadRefusal>
+    requires { length nodes.now ≤ 128 }
+    ensures { ReadsAs (λ demands. demands) result (left text.new) (section_at (codes "DEMANDS") (demands_at nodes.now []) (left text.old)) }
+{
+    expect(ReadKind::Section, ReadKind::Ended, b"DEMANDS", text)?;
+    open(ReadKind::Section, ReadKind::Ended, text)?;
+    demands(alloc, nodes, text)
+}
+
+/// The network of nodes and links that were read.
+fn network(
+    alloc: Global,
+    nodes: List<Name>,
+    links: List<CostedLink>,
+) -> Result<Network, NoMemory>
+    requires { IsNetwork nodes (map (λ l. l.link) links) }
+    ensures { IfOk result (λ net. parts_of net ≡ parts nodes links) }
+{
+    let notes = notes_of(links.items());
+    let links = links_of(alloc, links)?;
+    match Network::check(nodes, links, notes) {
         Ok(net) => Ok(net),
         Err(_) => unreachable!(),
     }
 }
 
-/// All sections, and nothing behind them.
+/// Takes all sections, and finds that nothing is behind them.
 #[tactic(auto, unfolding(crate::specs::Reading::sections_at))]
 fn sections(alloc: Global, text: &mut Cursor) -> Result<(Network, Demands), ReadRefusal>
-    ensures { Gives (λ r. (parts_of r.0, r.1)) result (sections_at (left text.old)) }
+    ensures { ReadsAs (λ r. (parts_of r.0, r.1)) result (left text.new) (sections_at (left text.old)) }
 {
-    meta(text)?;
-    let nodes = node_section(alloc, text)?;
-    let links = link_section(alloc, &nodes, text)?;
-    let demands = demand_section(alloc, &nodes, text)?;
-    paths(alloc, &links.names, &demands.names, text)?;
-    match network(alloc, &nodes, links.links.items()) {
-        Ok(net) => Ok((net, demands.demands)),
-        Err(_) => Err(ReadRefusal::NoMemory),
-    }
+    start(text)?;
+    open(ReadKind::Section, ReadKind::Ended, text)?;
+    let nodes = nodes(alloc, text)?;
+    let links = link_section(alloc, nodes.items(), text)?;
+    let demands = demand_section(alloc, nodes.items(), text)?;
+    paths(links.items(), demands.items(), text)?;
+    Ok((network(alloc, nodes, links)?, demands))
 }
 
 /// The whole file.
 fn file(alloc: Global, bytes: &[u8]) -> Result<(Network, Demands), ReadRefusal>
-    ensures { Gives (λ r. (parts_of r.0, r.1)) result (file_at bytes.now) }
+    ensures { ReadsAllAs (λ r. (parts_of r.0, r.1)) result (network_of bytes.now) }
 {
-    let Some(start) = after_header(bytes, HEADER) else {
-        return Err(bad(0, ReadKind::Header));
-    };
-    sections(alloc, &mut Cursor::new(bytes, start))
+    let mut text = behind_header(ReadKind::Header, bytes, HEADER)?;
+    sections(alloc, &mut text)
 }
 
-/// The network and the demands that a file spells, read to its end. `NoMemory` may come at any file.
+/// The network and the demands that a file spells. It takes time in proportion to the file's length,
+/// and for each name to the number of nodes, links or demands among which it is looked up; memory
+/// for what it gives.
 pub fn read_network(alloc: Global, bytes: &[u8]) -> Result<(Network, Demands), ReadRefusal>
     // What is read is spelled.
     ensures read { IfOk result (λ r. Spells bytes.now r.0 r.1) }
     // Nothing else is spelled.
     ensures only { IfOk result (λ r. (net : Net) (demands : List Dem) → Spells bytes.now net demands → (net.nodes ≡ r.0.nodes) × (net.links ≡ r.0.links) × (net.notes ≡ r.0.notes) × (demands ≡ r.1)) }
     // What is refused as bad spells nothing, and the fault is the first one by place.
-    ensures refused { (at : ℕ) (kind : ReadKind) → result ≡ Err (ReadRefusal.Bad at kind)
+    ensures refused { (at : ℕ) (kind : ReadKind) → result ≡ Err (Refusal.Bad at kind)
         → IsFirstFault bytes.now at kind × ((net : Net) (demands : List Dem) → Spells bytes.now net demands → ⊥) }
+    // A fault doesn't stand too early: no bytes that agree past it are spelled right.
+    ensures first { IfErr result (IsNotTooEarly (λ other (r : Net × List Dem). Spells other r.0 r.1) bytes.now) }
 {
     file(alloc, bytes)
 }

@@ -10,7 +10,7 @@ use Rattle.snd_tokens.specs.Lexemes.{Text, WordAt, OpenAt, CloseAt, EndAt, text_
 use Rattle.snd_tokens.specs.Tokens.{tokens_from}
 use Rattle.snd_tokens.proofs.Scan.{tokens_from-end}
 use Rattle.text_kit.specs.Answers.{AnswersAs, Fails, ReadsAllAs}
-use Rattle.text_kit.specs.Files.{IsNotTooEarly, SpellsAs, body, file_at}
+use Rattle.text_kit.specs.Files.{IsNotTooEarly, SpellsAs, SpellsBy, body, file_at}
 use Rattle.text_kit.specs.Items.{Item, Begins}
 use Rattle.text_kit.specs.Laws.{WrittenIsRead}
 use Rattle.text_kit.specs.Places.{EndsBefore}
@@ -21,7 +21,8 @@ use Rattle.text_kit.specs.declared.refusal.Refusal.TheVariants.{Bad, NoMemory}
 use Rattle.text_kit.proofs.Agreeing.{files_agree, run_same, take_less}
 use Rattle.text_kit.proofs.Lawful.{IsEnd, Lawful, is_same, same_is}
 use Rattle.text_kit.proofs.Numerals.{drop_first, take_first}
-use Rattle.text_kit.proofs.Online.{IsOnline, err_parts, ok_parts, same_fault}
+use Rattle.text_kit.proofs.Online.{IsOnline, err_parts, ok_parts, online_give, online_then, same_fault}
+use Rattle.text_kit.proofs.Spelled.{Spelled}
 use Rattle.text_kit.proofs.Rising.{RisesFrom, file_rises}
 use Rattle.text_kit.proofs.Written.{written_begins}
 
@@ -78,6 +79,66 @@ header_err : {K X : Type 0} (other : K) (b : Bool) (q : Read K X) (at : ℕ) (ki
 header_err other true q at kind e = inr (refl, e)
 header_err {K} {X} other false q at kind e = inl (err_parts {X = X} 0 at other kind e).0
 
+header_fault : (bytes : List ℕ) (n : ℕ) → EndsBefore 0 n (body bytes) → ⊥
+header_fault [] n ends = at_last [] 0 n (omega arith) ends
+header_fault (b ∷ bytes) n ends =
+    let low = (before_limit (second_line (b ∷ bytes)) 0 n (body (b ∷ bytes)) (body_rises (b ∷ bytes)) ends).0 in omega (arith, low)
+
+module _ {K Y : Type 0} (other : K) (header : List ℕ) (r : Reading K Y) (Of : Y → List Item → Type 0) (law : Spelled r Of IsEnd) where
+  spelled_takes : (bytes : List ℕ) (y : Y) (rest : Text) → file_at other header r bytes ≡ Ok (y, rest) → SpellsBy header Of bytes y
+  spelled_takes bytes y rest e =
+      let h = header_ok other (are_same (trimmed (first_line bytes)) header) (r (body bytes)) y rest e in
+      let t = law.takes (body bytes) y rest h.1 in
+      (t.0, t.1, (same_is (trimmed (first_line bytes)) header h.0, (t.3.0, subst (λ (u : Text). Begins t.0 (body bytes) u) t.3.1 t.2)))
+
+  spelled_again : (bytes : List ℕ) (y : Y) → SpellsBy header Of bytes y → (at : ℕ) × (file_at other header r bytes ≡ Ok (y, EndAt at))
+  spelled_again bytes y s =
+      let begins : are_same (trimmed (first_line bytes)) header ≡ true = ap (λ (l : List ℕ). are_same l header) s.2.0 ∙ is_same header in
+      let at = s.2.1.0 in
+      (at, ap (λ (b : Bool). cond b (r (body bytes)) (Err (0, other))) begins ∙ law.again (body bytes) y (EndAt at) s.0 s.1 s.2.1.1 (at, refl))
+
+  not_both : (q : Read K Y) (e : ℕ × K) (y : Y) (at : ℕ) → q ≡ Err e → q ≡ Ok (y, EndAt at) → ⊥
+  not_both (Ok x) e y at err ok = absurd cc
+  not_both (Err d) e y at err ok = absurd cc
+
+  spelled_first : IsOnline r → (bytes : List ℕ) (at : ℕ) (kind : K) → file_at other header r bytes ≡ Err (at, kind) → (bytes' : List ℕ) (n : ℕ) → take n bytes ≡ take n bytes' → EndsBefore at n (body bytes) → (y : Y) → SpellsBy header Of bytes' y → ⊥
+  spelled_first on bytes at kind e bytes' n same ends y s =
+      ⊎_elim
+      (λ (first : 0 ≡ at). header_fault bytes n (subst (λ k. EndsBefore k n (body bytes)) (sym first) ends))
+      (λ (h : (are_same (trimmed (first_line bytes)) header ≡ true) × (r (body bytes) ≡ Err (at, kind))).
+      let l = same_line bytes bytes' at n same ends in
+      let from = second_line bytes in
+      let low = (before_limit from at n (body bytes) (body_rises bytes) ends).1 in
+      let agree = files_agree bytes bytes' from at n (omega (arith, low)) same ends in
+      let fails = same_fault r on (body bytes) (text_from from bytes') at kind (body_rises bytes).0 h.1 agree in
+      let there : r (body bytes') ≡ Err (at, kind) = ap (λ k. r (text_from k bytes')) l.behind ∙ fails in
+      not_both (r (body bytes')) (at, kind) y s.2.1.0 there (law.again (body bytes') y (EndAt s.2.1.0) s.0 s.1 s.2.1.1 (s.2.1.0, refl)))
+      (header_err other (are_same (trimmed (first_line bytes)) header) (r (body bytes)) at kind e)
+
+  -- ---- what a function returned
+
+  pub spelled_read : (bytes : List ℕ) (y : Y) (rest : Text) → are_same (trimmed (first_line bytes)) header ≡ true → r (body bytes) ≡ Ok (y, rest) → (at : ℕ) × (file_at other header r bytes ≡ Ok (y, EndAt at))
+  spelled_read bytes y rest line read =
+      let end = (law.takes (body bytes) y rest read).3 in
+      (end.0, ap (λ (b : Bool). cond b (r (body bytes)) (Err (0, other))) line ∙ (read ∙ ap (λ (t : Text). Ok (y, t)) end.1))
+
+  pub found_spelled : {Z : Type 0} (view : Z → Y) (bytes : List ℕ) (a : Result Z (Refusal K)) → ReadsAllAs view a (file_at other header r bytes) → IfOk a (λ z. SpellsBy header Of bytes (view z))
+  found_spelled view bytes (Ok z) h = spelled_takes bytes (view z) (EndAt h.0) h.1
+  found_spelled view bytes (Err e) h = tt
+
+  pub only_spelled : {Z : Type 0} (view : Z → Y) (bytes : List ℕ) (a : Result Z (Refusal K)) → ReadsAllAs view a (file_at other header r bytes) → (y : Y) → SpellsBy header Of bytes y → AnswersAs view a y
+  only_spelled view bytes (Ok z) h y s =
+      let again = spelled_again bytes y s in
+      (ok_parts {K = K} (view z) y (EndAt h.0) (EndAt again.0) (sym h.1 ∙ again.1)).0
+  only_spelled view bytes (Err (Bad at kind)) h y s = let again = spelled_again bytes y s in absurd (not_both (file_at other header r bytes) (at, kind) y again.0 h again.1)
+  only_spelled view bytes (Err NoMemory) h y s = tt
+
+  pub first_spelled : {Z : Type 0} (view : Z → Y) (on : IsOnline r) (bytes : List ℕ) (a : Result Z (Refusal K)) → ReadsAllAs view a (file_at other header r bytes) → IfErr a (λ e. IsNotTooEarly (λ b y. SpellsBy header Of b y) bytes e)
+  first_spelled view on bytes (Ok z) h = tt
+  first_spelled view on bytes (Err (Bad at kind)) h = spelled_first on bytes at kind h
+  first_spelled view on bytes (Err NoMemory) h = tt
+
+-- the same where one list of items spells each value, of which the file means something
 module _ {K X Y : Type 0} (other : K) (header : List ℕ) (r : Reading K X) (meaning : X → Y) (items : X → List Item) (is : X → Type 0) (law : Lawful r items is IsEnd) where
   abbrev file : List ℕ → Read K Y
   file bytes = file_at other header (mapped meaning r) bytes
@@ -85,81 +146,47 @@ module _ {K X Y : Type 0} (other : K) (header : List ℕ) (r : Reading K X) (mea
   abbrev IsOf : List ℕ → Y → Type 0
   IsOf bytes y = SpellsAs header items is meaning bytes y
 
+  abbrev Means : Y → List Item → Type 0
+  Means y js = (x : X) × is x × (js ≡ items x) × (meaning x ≡ y)
+
   meant : (q : Read K X) (y : Y) (rest : Text) → after q (λ x. give (meaning x)) ≡ Ok (y, rest) → (x : X) × (q ≡ Ok (x, rest)) × (meaning x ≡ y)
   meant (Ok x) y rest e = let p = ok_parts {K = K} (meaning x.0) y x.1 rest e in (x.0, ap (λ (t : Text). Ok (x.0, t)) p.1, p.0)
   meant (Err d) y rest e = absurd cc
 
-  not_meant : (q : Read K X) (e : ℕ × K) → after q (λ x. give (meaning x)) ≡ Err e → q ≡ Err e
-  not_meant (Ok x) d e = absurd cc
-  not_meant (Err b) d e = let same : b ≡ d = cc in ap (λ (i : ℕ × K). Err i) same
+  meant_law : Spelled (mapped meaning r) Means IsEnd
+  meant_law = record {
+    takes = λ text y rest e.
+        let m = meant (r text) y rest e in
+        let t = law.takes text m.0 rest m.1 in
+        (items m.0, (m.0, t.0, refl, m.2), t.1, t.2);
+    again = λ text y rest js s b left.
+        ap (λ (q : Read K X). after q (λ x. give (meaning x))) (law.again text s.0 rest s.1 (subst (λ (ks : List Item). Begins ks text rest) s.2 b) left) ∙ ap (λ (z : Y). Ok (z, rest)) s.3;
+  }
 
-  file_takes : (bytes : List ℕ) (y : Y) (rest : Text) → file bytes ≡ Ok (y, rest) → IsOf bytes y
-  file_takes bytes y rest e =
-      let h = header_ok other (are_same (trimmed (first_line bytes)) header) (mapped meaning r (body bytes)) y rest e in
-      let m = meant (r (body bytes)) y rest h.1 in
-      let t = law.takes (body bytes) m.0 rest m.1 in
-      (m.0, t.0, (same_is (trimmed (first_line bytes)) header h.0, (t.2.0, subst (λ (u : Text). Begins (items m.0) (body bytes) u) t.2.1 t.1)), m.2)
+  from_meant : (bytes : List ℕ) (y : Y) → SpellsBy header Means bytes y → IsOf bytes y
+  from_meant bytes y s = (s.1.0, s.1.1, (s.2.0, (s.2.1.0, subst (λ (ks : List Item). Begins ks (body bytes) (EndAt s.2.1.0)) s.1.2 s.2.1.1)), s.1.3)
 
-  file_again : (bytes : List ℕ) (y : Y) → IsOf bytes y → (at : ℕ) × (file bytes ≡ Ok (y, EndAt at))
-  file_again bytes y s =
-      let begins : are_same (trimmed (first_line bytes)) header ≡ true = ap (λ (l : List ℕ). are_same l header) s.2.0 ∙ is_same header in
-      let at = s.2.1.0 in
-      let read = law.again (body bytes) s.0 (EndAt at) s.1 s.2.1.1 (at, refl) in (
-        at,
-        ap (λ (b : Bool). cond b (mapped meaning r (body bytes)) (Err (0, other))) begins
-            ∙ (ap (λ (q : Read K X). after q (λ x. give (meaning x))) read ∙ ap (λ (z : Y). Ok (z, EndAt at)) s.3),
-      )
-
-  header_fault : (bytes : List ℕ) (n : ℕ) → EndsBefore 0 n (body bytes) → ⊥
-  header_fault [] n ends = at_last [] 0 n (omega arith) ends
-  header_fault (b ∷ bytes) n ends =
-      let low = (before_limit (second_line (b ∷ bytes)) 0 n (body (b ∷ bytes)) (body_rises (b ∷ bytes)) ends).0 in omega (arith, low)
-
-  not_both : (q : Read K Y) (e : ℕ × K) (y : Y) (at : ℕ) → q ≡ Err e → q ≡ Ok (y, EndAt at) → ⊥
-  not_both (Ok x) e y at err ok = absurd cc
-  not_both (Err d) e y at err ok = absurd cc
-
-  file_first : IsOnline r → (bytes : List ℕ) (at : ℕ) (kind : K) → file bytes ≡ Err (at, kind) → (bytes' : List ℕ) (n : ℕ) → take n bytes ≡ take n bytes' → EndsBefore at n (body bytes) → (y : Y) → IsOf bytes' y → ⊥
-  file_first on bytes at kind e bytes' n same ends y s =
-      ⊎_elim
-      (λ (first : 0 ≡ at). header_fault bytes n (subst (λ k. EndsBefore k n (body bytes)) (sym first) ends))
-      (λ (h : (are_same (trimmed (first_line bytes)) header ≡ true) × (mapped meaning r (body bytes) ≡ Err (at, kind))).
-      let l = same_line bytes bytes' at n same ends in
-      let from = second_line bytes in
-      let low = (before_limit from at n (body bytes) (body_rises bytes) ends).1 in
-      let agree = files_agree bytes bytes' from at n (omega (arith, low)) same ends in
-      let fails = same_fault r on (body bytes) (text_from from bytes') at kind (body_rises bytes).0 (not_meant (r (body bytes)) (at, kind) h.1) agree in
-      let there : r (body bytes') ≡ Err (at, kind) = ap (λ k. r (text_from k bytes')) l.behind ∙ fails in
-      let read = law.again (body bytes') s.0 (EndAt s.2.1.0) s.1 s.2.1.1 (s.2.1.0, refl) in
-      let one : (let q : Read K X = Err (at, kind) in q ≡ Ok (s.0, EndAt s.2.1.0)) = sym there ∙ read in
-      absurd cc)
-      (header_err other (are_same (trimmed (first_line bytes)) header) (mapped meaning r (body bytes)) at kind e)
-
-  -- ---- what a function returned
+  to_meant : (bytes : List ℕ) (y : Y) → IsOf bytes y → SpellsBy header Means bytes y
+  to_meant bytes y s = (items s.0, (s.0, s.1, refl, s.3), s.2)
 
   pub file_read : (bytes : List ℕ) (x : X) (rest : Text) → are_same (trimmed (first_line bytes)) header ≡ true → r (body bytes) ≡ Ok (x, rest) → (at : ℕ) × (file bytes ≡ Ok (meaning x, EndAt at))
-  file_read bytes x rest line read =
-      let end = (law.takes (body bytes) x rest read).2 in
-      (end.0, ap (λ (b : Bool). cond b (mapped meaning r (body bytes)) (Err (0, other))) line ∙ (ap (λ (q : Read K X). after q (λ y. give (meaning y))) read ∙ ap (λ (t : Text). Ok (meaning x, t)) end.1))
+  file_read bytes x rest line read = spelled_read other header (mapped meaning r) Means meant_law bytes (meaning x) rest line (ap (λ (q : Read K X). after q (λ y. give (meaning y))) read)
 
   pub file_fails : (bytes : List ℕ) (e : Refusal K) → are_same (trimmed (first_line bytes)) header ≡ true → Fails e (r (body bytes)) → Fails e (file bytes)
   file_fails bytes (Bad at kind) line fails = ap (λ (b : Bool). cond b (mapped meaning r (body bytes)) (Err (0, other))) line ∙ ap (λ (q : Read K X). after q (λ y. give (meaning y))) fails
   file_fails bytes NoMemory line fails = tt
 
   pub answer_found : {Z : Type 0} (view : Z → Y) (bytes : List ℕ) (a : Result Z (Refusal K)) → ReadsAllAs view a (file bytes) → IfOk a (λ z. IsOf bytes (view z))
-  answer_found view bytes (Ok z) h = file_takes bytes (view z) (EndAt h.0) h.1
+  answer_found view bytes (Ok z) h = from_meant bytes (view z) (found_spelled other header (mapped meaning r) Means meant_law view bytes (Ok z) h)
   answer_found view bytes (Err e) h = tt
 
   pub answer_only : {Z : Type 0} (view : Z → Y) (bytes : List ℕ) (a : Result Z (Refusal K)) → ReadsAllAs view a (file bytes) → (y : Y) → IsOf bytes y → AnswersAs view a y
-  answer_only view bytes (Ok z) h y s =
-      let again = file_again bytes y s in
-      (ok_parts {K = K} (view z) y (EndAt h.0) (EndAt again.0) (sym h.1 ∙ again.1)).0
-  answer_only view bytes (Err (Bad at kind)) h y s = let again = file_again bytes y s in absurd (not_both (file bytes) (at, kind) y again.0 h again.1)
-  answer_only view bytes (Err NoMemory) h y s = tt
+  answer_only view bytes a h y s = only_spelled other header (mapped meaning r) Means meant_law view bytes a h y (to_meant bytes y s)
 
   pub answer_first : {Z : Type 0} (view : Z → Y) (on : IsOnline r) (bytes : List ℕ) (a : Result Z (Refusal K)) → ReadsAllAs view a (file bytes) → IfErr a (λ e. IsNotTooEarly (λ b y. IsOf b y) bytes e)
   answer_first view on bytes (Ok z) h = tt
-  answer_first view on bytes (Err (Bad at kind)) h = file_first on bytes at kind h
+  answer_first view on bytes (Err (Bad at kind)) h = λ bytes' n same ends y s.
+      spelled_first other header (mapped meaning r) Means meant_law (online_then r (λ x. give (meaning x)) on (λ x. online_give (meaning x))) bytes at kind h bytes' n same ends y (to_meant bytes' y s)
   answer_first view on bytes (Err NoMemory) h = tt
 
 -- ---- what was written

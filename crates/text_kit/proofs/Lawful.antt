@@ -24,14 +24,14 @@ pub record Lawful {K X : Type 0} (r : Reading K X) (items : X → List Item) (is
   pub again : (text : Text) (x : X) (rest : Text) → is x → Begins (items x) text rest → IsLeft rest → r text ≡ Ok (x, rest)
 
 -- items after items
-begins_both : (a b : List Item) (text mid rest : Text) → Begins a text mid → Begins b mid rest → Begins (a ++ b) text rest
+pub begins_both : (a b : List Item) (text mid rest : Text) → Begins a text mid → Begins b mid rest → Begins (a ++ b) text rest
 begins_both [] b text mid rest p q = subst (λ t. Begins b t rest) (sym p) q
 begins_both (i ∷ a) b (WordAt at w text) mid rest p q = (p.0, begins_both a b text mid rest p.1 q)
 begins_both (i ∷ a) b (OpenAt at text) mid rest p q = (p.0, begins_both a b text mid rest p.1 q)
 begins_both (i ∷ a) b (CloseAt at text) mid rest p q = (p.0, begins_both a b text mid rest p.1 q)
 begins_both (i ∷ a) b (EndAt at) mid rest p q = absurd p
 
-begins_parts : (a b : List Item) (text rest : Text) → Begins (a ++ b) text rest → (mid : Text) × Begins a text mid × Begins b mid rest
+pub begins_parts : (a b : List Item) (text rest : Text) → Begins (a ++ b) text rest → (mid : Text) × Begins a text mid × Begins b mid rest
 begins_parts [] b text rest p = (text, refl, p)
 begins_parts (i ∷ a) b (WordAt at w text) rest p = let r = begins_parts a b text rest p.1 in (r.0, (p.0, r.1), r.2)
 begins_parts (i ∷ a) b (OpenAt at text) rest p = let r = begins_parts a b text rest p.1 in (r.0, (p.0, r.1), r.2)
@@ -197,14 +197,14 @@ starts_text : (is more : List Item) (at : ℕ) (rest : Text) → Starts is → B
 starts_text [] more at rest s b = s
 starts_text (i ∷ is) more at rest s b = b
 
-starts_less : (is : List Item) (text rest : Text) → Starts is → Begins is text rest → size rest < size text
+pub starts_less : (is : List Item) (text rest : Text) → Starts is → Begins is text rest → size rest < size text
 starts_less [] text rest s b = absurd s
 starts_less (i ∷ is) (WordAt at w t) rest s b = omega (arith, begins_size is t rest b.1)
 starts_less (i ∷ is) (OpenAt at t) rest s b = omega (arith, begins_size is t rest b.1)
 starts_less (i ∷ is) (CloseAt at t) rest s b = omega (arith, begins_size is t rest b.1)
 starts_less (i ∷ is) (EndAt at) rest s b = absurd b
 
-no_ending : (e : Ending) (is more : List Item) (text rest : Text) → Starts is → Begins (is ++ more) text rest → past_ending e text ≡ None
+pub no_ending : (e : Ending) (is more : List Item) (text rest : Text) → Starts is → Begins (is ++ more) text rest → past_ending e text ≡ None
 no_ending Parenthesis is more (WordAt at w t) rest s b = refl
 no_ending TheEnd is more (WordAt at w t) rest s b = refl
 no_ending Parenthesis is more (OpenAt at t) rest s b = refl
@@ -223,7 +223,7 @@ abbrev pub IsLeftBy : Ending → Text → Type 0
 IsLeftBy Parenthesis text = Unit {0}
 IsLeftBy TheEnd text = IsEnd text
 
-ending_takes : (e : Ending) (t r : Text) → past_ending e t ≡ Some r → Begins (ending_items e) t r × IsLeftBy e r
+pub ending_takes : (e : Ending) (t r : Text) → past_ending e t ≡ Some r → Begins (ending_items e) t r × IsLeftBy e r
 ending_takes Parenthesis (CloseAt p t) r e = let is : t ≡ r = cc in ((refl, is), tt)
 ending_takes TheEnd (EndAt p) r e = let is : EndAt p ≡ r = cc in (is, (p, sym is))
 ending_takes TheEnd (CloseAt p t) r e = absurd cc
@@ -233,7 +233,7 @@ ending_takes TheEnd (WordAt p w t) r e = absurd cc
 ending_takes Parenthesis (OpenAt p t) r e = absurd cc
 ending_takes TheEnd (OpenAt p t) r e = absurd cc
 
-ending_again : (e : Ending) (t r : Text) → Begins (ending_items e) t r → IsLeftBy e r → past_ending e t ≡ Some r
+pub ending_again : (e : Ending) (t r : Text) → Begins (ending_items e) t r → IsLeftBy e r → past_ending e t ≡ Some r
 ending_again Parenthesis (CloseAt p t) r b left = ap (λ (u : Text). Some u) b.1
 ending_again Parenthesis (OpenAt p t) r b left = absurd (let e : Closing ≡ Opening = b.0 in cc)
 ending_again Parenthesis (WordAt p w t) r b left = absurd b.0

@@ -2,6 +2,7 @@ pub mod Alike
 pub mod Online
 pub mod Turns
 pub mod Lawful
+pub mod Spelled
 pub mod Rising
 pub mod Agreeing
 pub mod Numerals

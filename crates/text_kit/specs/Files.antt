@@ -21,6 +21,10 @@ IsFileOf header items bytes = HasHeader bytes header × IsMadeOf items (body byt
 abbrev pub SpellsAs : {X Y : Type 0} → List ℕ → (X → List Item) → (X → Type 0) → (X → Y) → List ℕ → Y → Type 0
 SpellsAs {X} header items is meaning bytes y = (x : X) × is x × IsFileOf header (items x) bytes × (meaning x ≡ y)
 
+-- the bytes are a file with this header, whose items spell x
+abbrev pub SpellsBy : {X : Type 0} → List ℕ → (X → List Item → Type 0) → List ℕ → X → Type 0
+SpellsBy header Spells bytes x = (items : List Item) × Spells x items × IsFileOf header items bytes
+
 -- what a reading gives of a file; another first line is a fault at 0
 abbrev pub file_at : {K X : Type 0} → K → List ℕ → Reading K X → List ℕ → Read K X
 file_at other header r bytes = if are_same (trimmed (first_line bytes)) header then r (body bytes) else Err (0, other)

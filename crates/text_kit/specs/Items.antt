@@ -36,3 +36,8 @@ IsMadeOf is text = (at : ℕ) × Begins is text (EndAt at)
 abbrev pub AreBehind : {X : Type 0} → (List X → X → Type 0) → List X → List X → Type 0
 AreBehind is sofar [] = Unit {0}
 AreBehind is sofar (x ∷ xs) = is sofar x × AreBehind is (sofar ++ x ∷ []) xs
+
+-- elements one after another, each of which items of its own spell
+abbrev pub AreSpelled : {X : Type 0} → (X → List Item → Type 0) → List X → List Item → Type 0
+AreSpelled Spells [] is = is ≡ []
+AreSpelled Spells (x ∷ xs) is = (js ks : List Item) × Spells x js × AreSpelled Spells xs ks × (is ≡ js ++ ks)

@@ -121,6 +121,10 @@ of_length n kind xs = if length xs == n then None else Some kind
 abbrev pub exactly_at : {K X : Type 0} → ℕ → K → K → (List X → Reading K X) → Reading K (List X)
 exactly_at n limit ended one = list_at Parenthesis (of_length n limit) (up_to n limit ended one) []
 
+-- elements of which none is kept, up to the closing parenthesis
+abbrev pub each_at : {K X : Type 0} → Reading K X → Reading K (Unit {0})
+each_at one = mapped (λ xs. tt) (list_at Parenthesis no_fault (λ sofar. one) [])
+
 -- a reading of a whole text, after which nothing is left
 abbrev pub whole_at : {K X : Type 0} → K → Reading K X → Reading K X
 whole_at other r = r >>= λ x. end_at other >>= λ _. give x

@@ -1,10 +1,10 @@
-use Rattle.std.proofs.Common.{◌≡◌, ◌≤◌, ◌-◌, [], length}
-use Rattle.snd_tokens.specs.Lexemes.{left}
+use Rattle.std.proofs.Common.{◌≡◌, []}
+use Rattle.snd_tokens.specs.Lexemes.{left, size}
 use Rattle.sndlib_reader.specs.Reading.{modules_at}
 use Rattle.sndlib_reader.proofs.link.modules.Given as goal
 
-abbrev pub invariant-loop-at : goal.invariant-loop-at
-invariant-loop-at l = (modules_at l.fixed l.modules (left l.text) ≡ modules_at l.fixed [] (left l.fn.text)) × (length l.modules ≤ 16)
+abbrev pub invariant-loop-all : goal.invariant-loop-all
+invariant-loop-all l = modules_at l.fixed l.all (left l.text) ≡ modules_at l.fixed [] (left l.fn.text)
 
-abbrev pub decreases-loop-at : goal.decreases-loop-at
-decreases-loop-at l = 16 - length l.modules
+abbrev pub decreases-loop-all : goal.decreases-loop-all
+decreases-loop-all l = size (left l.text)

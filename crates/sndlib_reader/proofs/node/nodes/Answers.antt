@@ -1,5 +1,6 @@
-use Rattle.std.proofs.Common.{refl, arith}
+use Rattle.snd_tokens.specs.Lexemes.{left}
+use Rattle.sndlib_reader.proofs.Nodes.{nothing_so_far}
 use Rattle.sndlib_reader.proofs.node.nodes.Goals as goal
 
-pub loop-at-init : goal.loop-at-init
-loop-at-init c = rw c.new-nodes.ensures (refl, omega arith)
+pub loop-nodes-init : goal.loop-nodes-init
+loop-nodes-init c = rw c.new-nodes.ensures (nothing_so_far (left c.args.text.now), λ named. absurd cc)

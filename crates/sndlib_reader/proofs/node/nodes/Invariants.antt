@@ -1,10 +1,11 @@
-use Rattle.std.proofs.Common.{◌≡◌, ◌≤◌, ◌-◌, [], length}
-use Rattle.snd_tokens.specs.Lexemes.{left}
+use Rattle.std.proofs.Common.{◌≡◌, ◌≤◌, [], length, IsTrue}
+use Rattle.snd_tokens.specs.Lexemes.{left, size}
 use Rattle.sndlib_reader.specs.Reading.{nodes_at}
+use Rattle.sndlib_reader.specs.inner.Nodes.{parts_so_far}
 use Rattle.sndlib_reader.proofs.node.nodes.Given as goal
 
-abbrev pub invariant-loop-at : goal.invariant-loop-at
-invariant-loop-at l = (nodes_at l.nodes (left l.text) ≡ nodes_at [] (left l.fn.text)) × (length l.nodes ≤ 128)
+abbrev pub invariant-loop-nodes : goal.invariant-loop-nodes
+invariant-loop-nodes l = (nodes_at (parts_so_far l.nodes l.after_name) (left l.text) ≡ nodes_at [] (left l.fn.text)) × (IsTrue l.after_name → 1 ≤ length l.nodes)
 
-abbrev pub decreases-loop-at : goal.decreases-loop-at
-decreases-loop-at l = 128 - length l.nodes
+abbrev pub decreases-loop-nodes : goal.decreases-loop-nodes
+decreases-loop-nodes l = size (left l.text)

@@ -1,4 +1,4 @@
-use Rattle.sndlib_reader.proofs.Whole.{is_spelled, is_only, first_fault}
+use Rattle.sndlib_reader.proofs.Whole.{first_fault, is_only, is_spelled, not_early}
 use Rattle.sndlib_reader.proofs.reader.read_network.Goals as goal
 
 pub returns-clause-read : goal.returns-clause-read
@@ -9,3 +9,6 @@ returns-clause-only c = is_only c.args.bytes.now c.file.result c.file.ensures
 
 pub returns-clause-refused : goal.returns-clause-refused
 returns-clause-refused c = first_fault c.args.bytes.now c.file.result c.file.ensures
+
+pub returns-clause-first : goal.returns-clause-first
+returns-clause-first c = not_early c.args.bytes.now c.file.result c.file.ensures

@@ -1,5 +1,11 @@
-use Rattle.sndlib_reader.proofs.Whole.{read_passes}
+use Rattle.sndlib_reader.proofs.Whole.{few_nodes, read_is_network}
 use Rattle.sndlib_reader.proofs.reader.sections.Goals as goal
 
+pub link_section-requires : goal.link_section-requires
+link_section-requires c = rw c.items.ensures (few_nodes _ c.in_ok-nodes.nodes _ c.in_ok-nodes.ensures)
+
+pub demand_section-requires : goal.demand_section-requires
+demand_section-requires c = rw c.items-2.ensures (few_nodes _ c.in_ok-nodes.nodes _ c.in_ok-nodes.ensures)
+
 pub network-requires : goal.network-requires
-network-requires c = rw c.items.ensures (read_passes _ _ _ _ _ _ c.in_ok-nodes.ensures.gives c.in_ok-links.ensures.gives)
+network-requires c = read_is_network _ _ c.in_ok-nodes.nodes _ _ c.in_ok-links.links c.in_ok-nodes.ensures (rw c.items.ensures at c.in_ok-links.ensures)

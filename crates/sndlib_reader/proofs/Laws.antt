@@ -1,0 +1,263 @@
+-- What is read of a network file is spelled, and what is spelled is read.
+use Rattle.std.proofs.Common.{◌≡◌, ◌≢◌, ℕ, zero, suc, ◌+◌, ◌*◌, ◌^◌, ◌<◌, ◌≤◌, ◌==◌, ◌&&◌, nat_lt, Bool, true, false, cond, List, [], ◌∷◌, ◌++◌, map, length, get_or, All, AllPairs, IsTrue, Option, None, Some, Result, Ok, Err, refl, sym, ap, subst, ◌∙◌, arith, append-nil, append_assoc}
+use Rattle.std.specs.Prelude.{flat_map}
+use Rattle.std.proofs.lemmas.Bool.{ltb-false}
+use Rattle.std.proofs.lemmas.List.Sums.{sum_by-cons, sum_by-append, sum_by_push}
+use Rattle.net_core.specs.Demands.{AreDemands, IsDemand}
+use Rattle.net_core.specs.Network.{IsLink, IsModule}
+use Rattle.net_core.specs.Tests.{is_named}
+use Rattle.net_core.specs.declared.demand.Demand.{Demand}
+use Rattle.net_core.specs.declared.ids.NodeId.{NodeId}
+use Rattle.net_core.specs.declared.network.Module.{Module}
+use Rattle.text_kit.specs.Items.{AreBehind, AreSpelled, Item, Named, Money, Opening, Closing}
+use Rattle.text_kit.specs.Reading.{Reading, word_at, open_at, close_at, Parenthesis, no_fault, list_at}
+use Rattle.text_kit.proofs.Behind.{all_behind, behind_all, behind_as, behind_both, behind_differ, differ_behind}
+use Rattle.text_kit.proofs.Lawful.{AnyText, Lawful, Starts, behind_few, few_behind, lawful_as, lawful_close, lawful_few, lawful_give, lawful_list, lawful_open, lawful_then, lawful_word}
+use Rattle.text_kit.proofs.Spelled.{Both, Spelled, SpelledBehind, behind_parts, parts_behind, spelled_as, spelled_give, spelled_law, spelled_list, spelled_then, spelled_word}
+use Rattle.sndlib_reader.specs.declared.costs.CostedLink.{CostedLink}
+use Rattle.sndlib_reader.specs.declared.fault.Limited.TheVariants as limits
+use Rattle.sndlib_reader.specs.declared.fault.ReadKind.{ReadKind}
+use Rattle.sndlib_reader.specs.declared.fault.ReadKind.TheVariants.{Token, Ended, SelfLink, SelfDemand, FixedLink}
+use Rattle.sndlib_reader.specs.Spelling.{IsHops, IsShortLink, SpellsDemand, ends_items, link_items, module_items}
+use Rattle.sndlib_reader.specs.Reading.{new_name, node_of, other_node, amount, unit, capacity, need, hops, ends_at, module_at, unserved, modules_at, link_at, links_at, total, demand_at, demands_at}
+use Rattle.sndlib_reader.proofs.Tests.{AreDifferent, IsCapacity, IsNeed, IsNew, IsNodeIn, amount_again, amount_takes, capacity_again, capacity_takes, hops_again, hops_takes, need_again, need_takes, new_again, new_takes, node_again, node_takes, other_again, other_takes, unit_again, unit_takes}
+
+-- ---- names that are new, all together
+
+pub are_new : {X : Type 0} (name_of : X → List ℕ) (most : ℕ) (xs : List X) → AreBehind (λ before x. IsNew name_of most before (name_of x)) [] xs → (length xs ≤ most) × AllPairs (λ x y. name_of x ≢ name_of y) xs × All (λ x. length (name_of x) ≤ 255) xs
+are_new {X} name_of most xs all = (
+  (few_behind most (λ before x. Unit {0}) [] xs (omega arith) (behind_as _ (λ before x. (length before < most) × Unit {0}) [] xs (λ before x h. (h.0, tt)) all)).0,
+  behind_differ name_of xs (behind_as _ (λ before x. is_named name_of (name_of x) before ≡ false) [] xs (λ before x h. h.1) all),
+  behind_all (λ x. length (name_of x) ≤ 255) [] xs (behind_as _ (λ before x. length (name_of x) ≤ 255) [] xs (λ before x h. h.2) all),
+)
+
+pub new_are : {X : Type 0} (name_of : X → List ℕ) (most : ℕ) (xs : List X) → length xs ≤ most → AllPairs (λ x y. name_of x ≢ name_of y) xs → All (λ x. length (name_of x) ≤ 255) xs → AreBehind (λ before x. IsNew name_of most before (name_of x)) [] xs
+new_are {X} name_of most xs few different short =
+    behind_as _ (λ before x. IsNew name_of most before (name_of x)) [] xs (λ before x h. (h.0.0, h.1.0, h.1.1))
+    (behind_both (λ before x. (length before < most) × Unit {0}) (λ before x. (is_named name_of (name_of x) before ≡ false) × (length (name_of x) ≤ 255)) [] xs (behind_few most (λ before x. Unit {0}) [] xs few (all_behind (λ x. Unit {0}) [] xs (λ k d lt. tt)))
+    (behind_both (λ before x. is_named name_of (name_of x) before ≡ false) (λ before x. length (name_of x) ≤ 255) [] xs (differ_behind name_of [] xs different) (all_behind (λ x. length (name_of x) ≤ 255) [] xs short)))
+
+-- ---- ends
+
+-- two different nodes
+abbrev pub AreEnds : List (List ℕ) → NodeId → NodeId → Type 0
+AreEnds nodes a b = IsNodeIn nodes a × ((a.0 ≢ b.0) × IsNodeIn nodes b)
+
+ends_lawful : (kind : ReadKind) (nodes : List (List ℕ)) → AreDifferent nodes → Lawful (ends_at kind nodes) (λ e. ends_items nodes e.0 e.1) (λ e. AreEnds nodes e.0 e.1) AnyText
+unfolding ends_at
+ends_lawful kind nodes pairs = lawful_as (ends_at kind nodes) _ (λ e. ends_items nodes e.0 e.1) _ (λ e. AreEnds nodes e.0 e.1) AnyText (λ e h. refl) (λ e h. (h.1.0, h.1.1.0)) (λ e h. (tt, (h.0, (h.1, (tt, refl)))))
+    (lawful_then _ _ _ _ _ _ AnyText (λ e. tt) (λ a e h. refl) (lawful_open Token Ended) (λ o.
+    lawful_then _ _ _ _ _ _ AnyText (λ e. e.0) (λ a e h. ap (λ (x : NodeId × NodeId). x.0) h.1.1) (lawful_word Token Ended (node_of nodes) (λ a. Named (get_or nodes a.0 [])) (IsNodeIn nodes) (λ a. tt) (node_takes nodes) (λ w a is same. node_again nodes pairs w a is same)) (λ a.
+    lawful_then _ _ _ _ _ _ AnyText (λ e. e.1) (λ b e h. ap (λ (x : NodeId × NodeId). x.1) h.1) (lawful_word Token Ended (other_node kind nodes a) (λ b. Named (get_or nodes b.0 [])) (λ b. (a.0 ≢ b.0) × IsNodeIn nodes b) (λ b. tt) (other_takes kind nodes a) (λ w b is same. other_again kind nodes pairs a w b is same)) (λ b.
+    lawful_then _ _ _ _ _ _ AnyText (λ e. tt) (λ c e h. refl) (lawful_close Token Ended) (λ c.
+    lawful_give (a, b))))))
+
+-- ---- modules
+
+amount_lawful : Lawful (word_at Token Ended amount) (λ n. Money n ∷ []) (λ n. n < 2 ^ 40) AnyText
+amount_lawful = lawful_word Token Ended amount (λ n. Money n) (λ n. n < 2 ^ 40) (λ n. tt) amount_takes (λ w n is e. amount_again w n is e)
+
+capacity_lawful : (sofar : List Module) → Lawful (word_at Token Ended (capacity sofar)) (λ n. Money n ∷ []) (IsCapacity sofar) AnyText
+capacity_lawful sofar = lawful_word Token Ended (capacity sofar) (λ n. Money n) (IsCapacity sofar) (λ n. tt) (capacity_takes sofar) (λ w n is e. capacity_again sofar w n is e)
+
+module_lawful : (sofar : List Module) → Lawful (module_at sofar) module_items (λ m. (length sofar < 16) × IsModule m) AnyText
+unfolding module_at
+module_lawful sofar = lawful_as (module_at sofar) _ module_items _ (λ m. (length sofar < 16) × IsModule m) AnyText (λ m h. refl)
+    (λ m h. (h.0.0, record { carries = h.0.1; capacity = h.0.2; cost = h.1.0 })) (λ m h. ((h.0, h.1.carries, h.1.capacity), (h.1.cost, refl)))
+    (lawful_then _ _ _ _ _ _ AnyText (λ m. m.capacity) (λ c m h. ap (λ (x : Module). x.capacity) h.1) (capacity_lawful sofar) (λ capacity.
+    lawful_then _ _ _ _ _ _ AnyText (λ m. m.cost) (λ c m h. ap (λ (x : Module). x.cost) h) amount_lawful (λ cost.
+    lawful_give (record { capacity = capacity; cost = cost }))))
+
+-- modules of a link with this pre-installed capacity
+pub record AreModules (fixed : ℕ) (ms : List Module) : Type 0 where
+  pub few : length ms ≤ 16
+  pub each : All IsModule ms
+  pub served : ms ≡ [] → fixed ≡ 0
+
+served_if : (b : Bool) → (let o : Option ReadKind = cond b (Some FixedLink) None in o ≡ None) → b ≡ false
+served_if true e = absurd cc
+served_if false e = refl
+
+served_takes : (fixed : ℕ) (ms : List Module) → unserved fixed ms ≡ None → ms ≡ [] → fixed ≡ 0
+served_takes fixed [] e h = let small = ltb-false 0 fixed (served_if (nat_lt 0 fixed) e) in omega (arith, small)
+served_takes fixed (m ∷ ms) e h = absurd cc
+
+has_some : (m : Module) (ms : List Module) → (length (m ∷ ms) == 0) ≡ false
+has_some m ms = Rattle.std.proofs.lemmas.Bool.ne_eqb (length (m ∷ ms)) 0 (λ e. omega (arith, e))
+
+served_again : (fixed : ℕ) (ms : List Module) → (ms ≡ [] → fixed ≡ 0) → unserved fixed ms ≡ None
+served_again fixed [] h = rw (h refl) refl
+served_again fixed (m ∷ ms) h = rw (has_some m ms) refl
+
+modules_lawful : (fixed : ℕ) → Lawful (modules_at fixed []) (λ ms. flat_map module_items ms ++ Closing ∷ []) (AreModules fixed) AnyText
+modules_lawful fixed = lawful_as (modules_at fixed []) _ (λ ms. flat_map module_items ms ++ Closing ∷ []) _ (AreModules fixed) AnyText (λ ms h. refl)
+    (λ ms h. let f = few_behind 16 (λ before m. IsModule m) [] ms (omega arith) h.1 in record { few = f.0; each = behind_all IsModule [] ms f.1; served = served_takes fixed ms h.0 })
+    (λ ms h. (served_again fixed ms h.served, behind_few 16 (λ before m. IsModule m) [] ms h.few (all_behind IsModule [] ms h.each)))
+    (lawful_list Parenthesis (unserved fixed) module_at module_items (λ sofar m. (length sofar < 16) × IsModule m) (λ m. tt) module_lawful)
+
+-- ---- links
+
+-- a link that may stand behind earlier ones
+pub record IsLinkBehind (nodes : List (List ℕ)) (sofar : List CostedLink) (l : CostedLink) : Type 0 where
+  pub new : IsNew (λ x. x.link.name) 256 sofar l.link.name
+  pub ends : AreEnds nodes l.link.a l.link.b
+  pub fixed : l.link.fixed < 2 ^ 40
+  pub fixed_cost : l.fixed_cost < 2 ^ 40
+  pub routing_cost : l.routing_cost < 2 ^ 40
+  pub setup : l.link.setup < 2 ^ 40
+  pub modules : AreModules l.link.fixed l.link.modules
+
+link_lawful : (nodes : List (List ℕ)) → AreDifferent nodes → (sofar : List CostedLink) → Lawful (link_at nodes sofar) (link_items nodes) (IsLinkBehind nodes sofar) AnyText
+unfolding link_at
+link_lawful nodes pairs sofar = lawful_as (link_at nodes sofar) _ (link_items nodes) _ (IsLinkBehind nodes sofar) AnyText
+    (λ l h. ap (λ (is : List Item). Named l.link.name ∷ ends_items nodes l.link.a l.link.b ++ Money l.link.fixed ∷ Money l.fixed_cost ∷ Money l.routing_cost ∷ Money l.link.setup ∷ Opening ∷ is) (append-nil (flat_map module_items l.link.modules ++ Closing ∷ [])))
+    (λ l h. record { new = h.0; ends = h.1.0; fixed = h.1.1.0; fixed_cost = h.1.1.1.0; routing_cost = h.1.1.1.1.0; setup = h.1.1.1.1.1.0; modules = h.1.1.1.1.1.1.1.0 })
+    (λ l h. (h.new, (h.ends, (h.fixed, (h.fixed_cost, (h.routing_cost, (h.setup, (tt, (h.modules, refl)))))))))
+    (lawful_then _ _ _ _ _ _ AnyText (λ l. l.link.name) (λ a l h. ap (λ (x : CostedLink). x.link.name) h.1.1.1.1.1.1.1) (lawful_word Token Ended (new_name (λ x. x.link.name) limits.Links 256 sofar) (λ n. Named n) (IsNew (λ x. x.link.name) 256 sofar) (λ n. tt) (new_takes (λ x. x.link.name) limits.Links 256 sofar) (λ w n is e. new_again (λ x. x.link.name) limits.Links 256 sofar w n is e)) (λ name.
+    lawful_then _ _ _ _ _ _ AnyText (λ l. (l.link.a, l.link.b)) (λ a l h. ap (λ (x : CostedLink). (x.link.a, x.link.b)) h.1.1.1.1.1.1) (ends_lawful SelfLink nodes pairs) (λ ends.
+    lawful_then _ _ _ _ _ _ AnyText (λ l. l.link.fixed) (λ a l h. ap (λ (x : CostedLink). x.link.fixed) h.1.1.1.1.1) amount_lawful (λ fixed.
+    lawful_then _ _ _ _ _ _ AnyText (λ l. l.fixed_cost) (λ a l h. ap (λ (x : CostedLink). x.fixed_cost) h.1.1.1.1) amount_lawful (λ fixed_cost.
+    lawful_then _ _ _ _ _ _ AnyText (λ l. l.routing_cost) (λ a l h. ap (λ (x : CostedLink). x.routing_cost) h.1.1.1) amount_lawful (λ routing_cost.
+    lawful_then _ _ _ _ _ _ AnyText (λ l. l.link.setup) (λ a l h. ap (λ (x : CostedLink). x.link.setup) h.1.1) amount_lawful (λ setup.
+    lawful_then _ _ _ _ _ _ AnyText (λ l. tt) (λ a l h. refl) (lawful_open Token Ended) (λ o.
+    lawful_then _ _ _ _ _ _ AnyText (λ l. l.link.modules) (λ a l h. ap (λ (x : CostedLink). x.link.modules) h) (modules_lawful fixed) (λ modules.
+    lawful_give (record { link = record { name = name; a = ends.0; b = ends.1; fixed = fixed; setup = setup; modules = modules }; fixed_cost = fixed_cost; routing_cost = routing_cost }))))))))))
+
+pub links_lawful : (nodes : List (List ℕ)) → AreDifferent nodes → Lawful (links_at nodes []) (λ ls. flat_map (link_items nodes) ls ++ Closing ∷ []) (λ ls. AreBehind (IsLinkBehind nodes) [] ls) AnyText
+links_lawful nodes pairs = lawful_as (links_at nodes []) _ (λ ls. flat_map (link_items nodes) ls ++ Closing ∷ []) _ (λ ls. AreBehind (IsLinkBehind nodes) [] ls) AnyText (λ ls h. refl) (λ ls h. h.1) (λ ls h. (refl, h))
+    (lawful_list Parenthesis no_fault (link_at nodes) (link_items nodes) (IsLinkBehind nodes) (λ l. tt) (link_lawful nodes pairs))
+
+-- all links together
+pub record AreLinks (nodes : List (List ℕ)) (links : List CostedLink) : Type 0 where
+  pub few : length links ≤ 256
+  pub different : AllPairs (λ x y. x.link.name ≢ y.link.name) links
+  pub sound : All (λ l. IsLink (length nodes) l.link) links
+  pub short : All IsShortLink links
+
+pub are_links : (nodes : List (List ℕ)) (links : List CostedLink) → AreBehind (IsLinkBehind nodes) [] links → AreLinks nodes links
+are_links nodes links all =
+    let new = are_new (λ (x : CostedLink). x.link.name) 256 links (behind_as (IsLinkBehind nodes) (λ before l. IsNew (λ x. x.link.name) 256 before l.link.name) [] links (λ before l h. h.new) all) in
+    record {
+      few = new.0;
+      different = new.1;
+      sound = behind_all (λ (l : CostedLink). IsLink (length nodes) l.link) [] links (behind_as (IsLinkBehind nodes) (λ before l. IsLink (length nodes) l.link) [] links (λ before l h. record { from = h.ends.0.0; to = h.ends.1.1.0; different = h.ends.1.0; fixed = h.fixed; setup = h.setup; few = h.modules.few; each = h.modules.each; served = h.modules.served }) all);
+      short = behind_all IsShortLink [] links (behind_as (IsLinkBehind nodes) (λ before l. IsShortLink l) [] links (λ before l h. record { name = h.new.2; fixed_cost = h.fixed_cost; routing_cost = h.routing_cost }) all);
+    }
+
+pub links_are : (nodes : List (List ℕ)) (links : List CostedLink) → All (λ n. length n ≤ 255) nodes → AreLinks nodes links → AreBehind (IsLinkBehind nodes) [] links
+links_are nodes links short are =
+    behind_as _ (IsLinkBehind nodes) [] links
+    (λ before l h.
+    let s = h.1 in
+    let link = s.0 in
+    let costs = s.1 in
+    record { new = h.0; ends = ((link.from, short l.link.a.0 [] link.from), (link.different, (link.to, short l.link.b.0 [] link.to))); fixed = link.fixed; fixed_cost = costs.fixed_cost; routing_cost = costs.routing_cost; setup = link.setup; modules = record { few = link.few; each = link.each; served = link.served } })
+    (behind_both (λ before l. IsNew (λ x. x.link.name) 256 before l.link.name) (λ before (l : CostedLink). IsLink (length nodes) l.link × IsShortLink l) [] links
+    (new_are (λ (x : CostedLink). x.link.name) 256 links are.few are.different (λ k d lt. (are.short k d lt).name))
+    (all_behind (λ (l : CostedLink). IsLink (length nodes) l.link × IsShortLink l) [] links (λ k d lt. (are.sound k d lt, are.short k d lt))))
+
+-- ---- demands
+
+-- a demand that may stand behind earlier ones
+pub record IsDemandBehind (nodes : List (List ℕ)) (sofar : List Demand) (d : Demand) : Type 0 where
+  pub new : IsNew (λ x. x.name) 2048 sofar d.name
+  pub ends : AreEnds nodes d.from d.to
+  pub need : d.need < 2 ^ 40
+  pub below : total sofar + d.need < 2 ^ 44
+
+joined : (is js ks j2 k2 j3 k3 j4 k4 j5 k5 ends : List Item) (v n u a h : List ℕ) → is ≡ js ++ ks → js ≡ Named v ∷ [] → v ≡ n → ks ≡ j2 ++ k2 → j2 ≡ ends → k2 ≡ j3 ++ k3 → j3 ≡ Named u ∷ [] → k3 ≡ j4 ++ k4 → j4 ≡ Named a ∷ [] → k4 ≡ j5 ++ k5 → j5 ≡ Named h ∷ [] → k5 ≡ []
+    → is ≡ Named n ∷ ends ++ Named u ∷ Named a ∷ Named h ∷ []
+joined is js ks j2 k2 j3 k3 j4 k4 j5 k5 ends v n u a h e1 e2 e3 e4 e5 e6 e7 e8 e9 e10 e11 e12 = rw (e1, e2, e3, e4, e5, e6, e7, e8, e9, e10, e11, e12) refl
+
+demand_spelled : (nodes : List (List ℕ)) → AreDifferent nodes → (sofar : List Demand) → Spelled (demand_at nodes sofar) (λ d is. IsDemandBehind nodes sofar d × SpellsDemand nodes d is) AnyText
+unfolding demand_at
+demand_spelled nodes pairs sofar = spelled_as (demand_at nodes sofar) _ (λ d is. IsDemandBehind nodes sofar d × SpellsDemand nodes d is) AnyText
+    (λ d is s.
+    let name = new_takes (λ x. x.name) limits.Demands 2048 sofar s.3.0 s.0 s.3.1 in
+    let e = s.4 in
+    let u = e.4 in
+    let n = u.4 in
+    let h = n.4 in
+    let needed = need_takes (total sofar) u.0 n.3.0 n.0 n.3.1 in
+    let short = name.0.2 in
+    subst (λ (x : Demand). IsDemandBehind nodes sofar x × SpellsDemand nodes x is) h.4.0 (
+      record { new = name.0; ends = e.3.0; need = needed.small; below = needed.below },
+      record {
+        unit = u.3.0;
+        amount = n.3.0;
+        hops = h.3.0;
+        units = u.0;
+        each = needed.each;
+        short = short;
+        items_are = joined is s.1 s.2 e.1 e.2 u.1 u.2 n.1 n.2 h.1 h.2 (ends_items nodes e.0.0 e.0.1) s.3.0 s.0 u.3.0 n.3.0 h.3.0 s.5 s.3.2 name.1 e.5 e.3.1 u.5 u.3.2 n.5 n.3.2 h.5 h.3.2 h.4.1;
+        unit_is = unit_takes u.3.0 u.0 u.3.1;
+        amount_is = needed.amount_is;
+        need_is = needed.need_is;
+        hops_are = hops_takes h.3.0 h.0 h.3.1;
+      },
+    ))
+    (λ d is s.
+    let t = s.1 in
+    let b = s.0 in (
+      d.name, Named d.name ∷ [], ends_items nodes d.from d.to ++ Named t.unit ∷ Named t.amount ∷ Named t.hops ∷ [], (d.name, new_again (λ x. x.name) limits.Demands 2048 sofar d.name d.name b.new refl, refl), (
+        (d.from, d.to), ends_items nodes d.from d.to, Named t.unit ∷ Named t.amount ∷ Named t.hops ∷ [], (b.ends, refl), (
+          t.units, Named t.unit ∷ [], Named t.amount ∷ Named t.hops ∷ [], (t.unit, unit_again t.unit t.units t.unit_is, refl), (
+            d.need, Named t.amount ∷ [], Named t.hops ∷ [], (t.amount, need_again (total sofar) t.units t.amount t.each d.need t.amount_is t.need_is b.need b.below, refl), (
+              tt, Named t.hops ∷ [], [], (t.hops, hops_again t.hops t.hops_are, refl), (refl, refl), refl,
+            ), refl,
+          ), refl,
+        ), refl,
+      ), t.items_are,
+    ))
+    (spelled_then _ _ _ _ AnyText (spelled_word Token Ended (new_name (λ x. x.name) limits.Demands 2048 sofar)) (λ name js s.
+    spelled_then _ _ _ _ AnyText (spelled_law (ends_at SelfDemand nodes) _ _ AnyText (ends_lawful SelfDemand nodes pairs)) (λ ends js s.
+    spelled_then _ _ _ _ AnyText (spelled_word Token Ended unit) (λ units js s.
+    spelled_then _ _ _ _ AnyText (spelled_word Token Ended (need (total sofar) units)) (λ needed js s.
+    spelled_then _ _ _ _ AnyText (spelled_word Token Ended hops) (λ h js s.
+    spelled_give _))))))
+
+demand_starts : (nodes : List (List ℕ)) (sofar : List Demand) (d : Demand) (is : List Item) → IsDemandBehind nodes sofar d × SpellsDemand nodes d is → Starts is
+demand_starts nodes sofar d is s = let t = s.1 in subst Starts (sym t.items_are) tt
+
+pub demands_spelled : (nodes : List (List ℕ)) → AreDifferent nodes → Spelled (demands_at nodes []) (λ ds is. (js : List Item) × AreBehind (IsDemandBehind nodes) [] ds × AreSpelled (SpellsDemand nodes) ds js × (is ≡ js ++ Closing ∷ [])) AnyText
+demands_spelled nodes pairs = spelled_as (demands_at nodes []) _ _ AnyText
+    (λ ds is s. let p = behind_parts (IsDemandBehind nodes) (SpellsDemand nodes) [] ds s.1.0 s.1.1 in (s.1.0, p.0, p.1, s.1.2))
+    (λ ds is s. (refl, (s.0, parts_behind (IsDemandBehind nodes) (SpellsDemand nodes) [] ds s.0 s.1 s.2, s.3)))
+    (spelled_list no_fault (demand_at nodes) (λ sofar d is. IsDemandBehind nodes sofar d × SpellsDemand nodes d is) (demand_starts nodes) (demand_spelled nodes pairs))
+
+-- the need of all, one by one
+total_below : (sofar ds : List Demand) → total sofar < 2 ^ 44 → AreBehind (λ before d. total before + d.need < 2 ^ 44) sofar ds → total (sofar ++ ds) < 2 ^ 44
+total_below sofar [] small all = subst (λ (xs : List Demand). total xs < 2 ^ 44) (sym (append-nil sofar)) small
+total_below sofar (d ∷ ds) small all =
+    subst (λ (xs : List Demand). total xs < 2 ^ 44) (append_assoc sofar (d ∷ []) ds)
+    (total_below (sofar ++ d ∷ []) ds (subst (λ (k : ℕ). k < 2 ^ 44) (sym (sum_by_push (λ x. x.need) sofar d)) all.0) all.1)
+
+below_total : (sofar ds : List Demand) → total (sofar ++ ds) < 2 ^ 44 → AreBehind (λ before d. total before + d.need < 2 ^ 44) sofar ds
+below_total sofar [] small = tt
+below_total sofar (d ∷ ds) small =
+    let sum : total (sofar ++ d ∷ ds) ≡ total sofar + (d.need + total ds) = sum_by-append (λ x. x.need) sofar (d ∷ ds) ∙ ap (λ (k : ℕ). total sofar + k) (sum_by-cons (λ x. x.need) d ds) in
+    (omega (arith, sum, small), below_total (sofar ++ d ∷ []) ds (subst (λ (xs : List Demand). total xs < 2 ^ 44) (sym (append_assoc sofar (d ∷ []) ds)) small))
+
+pub are_demands : (nodes : List (List ℕ)) (ds : List Demand) → AreBehind (IsDemandBehind nodes) [] ds → AreDemands (length nodes) ds
+are_demands nodes ds all =
+    let new = are_new (λ (x : Demand). x.name) 2048 ds (behind_as (IsDemandBehind nodes) (λ before d. IsNew (λ x. x.name) 2048 before d.name) [] ds (λ before d h. h.new) all) in
+    record {
+      few = new.0;
+      different = new.1;
+      each = behind_all (IsDemand (length nodes)) [] ds (behind_as (IsDemandBehind nodes) (λ before d. IsDemand (length nodes) d) [] ds (λ before d h. record { from_known = h.ends.0.0; to_known = h.ends.1.1.0; different = h.ends.1.0; need = h.need }) all);
+      total = total_below [] ds (omega arith) (behind_as (IsDemandBehind nodes) (λ before d. total before + d.need < 2 ^ 44) [] ds (λ before d h. h.below) all);
+    }
+
+spelled_short : (nodes : List (List ℕ)) (ds : List Demand) (is : List Item) → AreSpelled (SpellsDemand nodes) ds is → (sofar : List Demand) → AreBehind (λ before d. length d.name ≤ 255) sofar ds
+spelled_short nodes [] is s sofar = tt
+spelled_short nodes (d ∷ ds) is s sofar = let t = s.2 in (t.short, spelled_short nodes ds s.1 s.3 (sofar ++ d ∷ []))
+
+pub demands_are : (nodes : List (List ℕ)) (ds : List Demand) (is : List Item) → All (λ n. length n ≤ 255) nodes → AreDemands (length nodes) ds → AreSpelled (SpellsDemand nodes) ds is → AreBehind (IsDemandBehind nodes) [] ds
+demands_are nodes ds is short are spelled =
+    behind_as _ (IsDemandBehind nodes) [] ds
+    (λ before d h.
+    let one = h.1.1 in
+    record { new = h.0; ends = ((one.from_known, short d.from.0 [] one.from_known), (one.different, (one.to_known, short d.to.0 [] one.to_known))); need = one.need; below = h.1.0 })
+    (behind_both (λ before d. IsNew (λ x. x.name) 2048 before d.name) (λ before d. (total before + d.need < 2 ^ 44) × IsDemand (length nodes) d) [] ds
+    (new_are (λ (x : Demand). x.name) 2048 ds are.few are.different (behind_all (λ (d : Demand). length d.name ≤ 255) [] ds (spelled_short nodes ds is spelled [])))
+    (behind_both (λ before d. total before + d.need < 2 ^ 44) (λ before d. IsDemand (length nodes) d) [] ds (below_total [] ds are.total) (all_behind (IsDemand (length nodes)) [] ds are.each)))

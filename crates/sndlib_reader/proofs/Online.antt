@@ -1,0 +1,135 @@
+-- No answer depends on a lexeme behind what was taken, or behind the place of the fault.
+use Rattle.std.proofs.Common.{◌≡◌, ℕ, true, false, List, [], Ok, Err, refl}
+use Rattle.std.specs.Prelude.{codes}
+use Rattle.net_core.specs.declared.demand.Demand.{Demand}
+use Rattle.net_core.specs.declared.network.Module.{Module}
+use Rattle.text_kit.specs.Reading.{Reading, give, word_at, open_at, close_at, end_at, key, Parenthesis, no_fault, list_at, each_at}
+use Rattle.text_kit.proofs.Online.{IsOnline, TakesSome, online_close, online_end, online_give, online_list, online_open, online_step, online_then, online_word, takes_some}
+use Rattle.sndlib_reader.specs.declared.costs.CostedLink.{CostedLink}
+use Rattle.sndlib_reader.specs.declared.fault.Limited.TheVariants as limits
+use Rattle.sndlib_reader.specs.declared.fault.ReadKind.{ReadKind}
+use Rattle.sndlib_reader.specs.declared.fault.ReadKind.TheVariants.{Section, Token, Ended, SelfLink, SelfDemand}
+use Rattle.sndlib_reader.specs.Spelling.{names_of}
+use Rattle.sndlib_reader.specs.Reading.{new_name, known_name, short_name, node_of, other_node, amount, unit, capacity, need, total, hops, skipped_at, section_at, part_at, nodes_at, ends_at, module_at, unserved, modules_at, link_at, links_at, demand_at, demands_at, some_at, path_at, line_at, is_meta, meta_behind, start_at, is_paths, paths_behind, paths_at, parts, sections_at}
+use Rattle.sndlib_reader.proofs.Nodes.{part_online, part_some}
+use Rattle.sndlib_reader.proofs.Skipped.{skipped_online}
+
+ends_online : (kind : ReadKind) (nodes : List (List ℕ)) → IsOnline (ends_at kind nodes)
+unfolding ends_at
+ends_online kind nodes =
+    online_then _ _ (online_open Token Ended) (λ o.
+    online_then _ _ (online_word Token Ended (node_of nodes)) (λ a.
+    online_then _ _ (online_word Token Ended (other_node kind nodes a)) (λ b.
+    online_then _ _ (online_close Token Ended) (λ c.
+    online_give (a, b)))))
+
+module_online : (sofar : List Module) → IsOnline (module_at sofar)
+unfolding module_at
+module_online sofar =
+    online_then _ _ (online_word Token Ended (capacity sofar)) (λ capacity.
+    online_then _ _ (online_word Token Ended amount) (λ cost.
+    online_give (record { capacity = capacity; cost = cost })))
+
+pub module_some : (sofar : List Module) → TakesSome (module_at sofar)
+unfolding module_at
+module_some sofar = takes_some (module_at sofar) (module_online sofar) (λ p. Ended) (λ p. refl)
+
+link_online : (nodes : List (List ℕ)) (sofar : List CostedLink) → IsOnline (link_at nodes sofar)
+unfolding link_at
+link_online nodes sofar =
+    online_then _ _ (online_word Token Ended (new_name (λ l. l.link.name) limits.Links 256 sofar)) (λ name.
+    online_then _ _ (ends_online SelfLink nodes) (λ ends.
+    online_then _ _ (online_word Token Ended amount) (λ fixed.
+    online_then _ _ (online_word Token Ended amount) (λ fixed_cost.
+    online_then _ _ (online_word Token Ended amount) (λ routing_cost.
+    online_then _ _ (online_word Token Ended amount) (λ setup.
+    online_then _ _ (online_open Token Ended) (λ o.
+    online_then _ _ (online_list Parenthesis (unserved fixed) module_at module_online module_some []) (λ modules.
+    online_give _))))))))
+
+pub link_some : (nodes : List (List ℕ)) (sofar : List CostedLink) → TakesSome (link_at nodes sofar)
+unfolding link_at
+link_some nodes sofar = takes_some (link_at nodes sofar) (link_online nodes sofar) (λ p. Ended) (λ p. refl)
+
+demand_online : (nodes : List (List ℕ)) (sofar : List Demand) → IsOnline (demand_at nodes sofar)
+unfolding demand_at
+demand_online nodes sofar =
+    online_then _ _ (online_word Token Ended (new_name (λ d. d.name) limits.Demands 2048 sofar)) (λ name.
+    online_then _ _ (ends_online SelfDemand nodes) (λ ends.
+    online_then _ _ (online_word Token Ended unit) (λ units.
+    online_then _ _ (online_word Token Ended (need (total sofar) units)) (λ needed.
+    online_then _ _ (online_word Token Ended hops) (λ h.
+    online_give _)))))
+
+pub demand_some : (nodes : List (List ℕ)) (sofar : List Demand) → TakesSome (demand_at nodes sofar)
+unfolding demand_at
+demand_some nodes sofar = takes_some (demand_at nodes sofar) (demand_online nodes sofar) (λ p. Ended) (λ p. refl)
+
+-- ---- paths
+
+each_online : {X : Type 0} (one : Reading ReadKind X) → IsOnline one → TakesSome one → IsOnline (each_at one)
+each_online one on some = online_then (list_at Parenthesis no_fault (λ sofar. one) []) _ (online_list Parenthesis no_fault (λ sofar. one) (λ sofar. on) (λ sofar. some) []) (λ xs. online_give tt)
+
+some_online : (one : Reading ReadKind (Unit {0})) → IsOnline one → TakesSome one → IsOnline (some_at one)
+unfolding some_at
+some_online one on some =
+    online_then _ _ (online_open Token Ended) (λ o.
+    online_then one _ on (λ x.
+    each_online one on some))
+
+pub known_some : {X : Type 0} (name_of : X → List ℕ) (xs : List X) → TakesSome (word_at Token Ended (known_name name_of xs))
+known_some name_of xs = takes_some (word_at Token Ended (known_name name_of xs)) (online_word Token Ended (known_name name_of xs)) (λ p. Ended) (λ p. refl)
+
+path_online : (links : List CostedLink) → IsOnline (path_at links)
+path_online links =
+    online_then _ _ (online_word Token Ended short_name) (λ x.
+    some_online (word_at Token Ended (known_name (λ l. l.link.name) links)) (online_word Token Ended (known_name (λ l. l.link.name) links)) (known_some (λ l. l.link.name) links))
+
+pub path_some : (links : List CostedLink) → TakesSome (path_at links)
+path_some links = takes_some (path_at links) (path_online links) (λ p. Ended) (λ p. refl)
+
+line_online : (links : List CostedLink) (demands : List Demand) → IsOnline (line_at links demands)
+line_online links demands =
+    online_then _ _ (online_word Token Ended (known_name (λ d. d.name) demands)) (λ x.
+    some_online (path_at links) (path_online links) (path_some links))
+
+pub line_some : (links : List CostedLink) (demands : List Demand) → TakesSome (line_at links demands)
+line_some links demands = takes_some (line_at links demands) (line_online links demands) (λ p. Ended) (λ p. refl)
+
+paths_behind_online : (links : List CostedLink) (demands : List Demand) (more : _) → IsOnline (paths_behind links demands more)
+unfolding paths_behind
+paths_behind_online links demands true =
+    online_then _ _ (online_open Section Ended) (λ o.
+    online_then _ _ (each_online (line_at links demands) (line_online links demands) (line_some links demands)) (λ x.
+    online_end Section))
+paths_behind_online links demands false = online_give tt
+
+paths_online : (links : List CostedLink) (demands : List Demand) → IsOnline (paths_at links demands)
+paths_online links demands = online_then _ (paths_behind links demands) (online_step is_paths (Err Section) (Err Section) (Ok false)) (paths_behind_online links demands)
+
+-- ---- whole files
+
+section_online : {X : Type 0} (name : List ℕ) (r : Reading ReadKind X) → IsOnline r → IsOnline (section_at name r)
+unfolding section_at
+section_online name r on =
+    online_then _ _ (online_word Section Ended (key Section name)) (λ x.
+    online_then _ _ (online_open Section Ended) (λ o. on))
+
+meta_online : (meta : _) → IsOnline (meta_behind meta)
+unfolding meta_behind
+meta_online true =
+    online_then _ _ (online_open Section Ended) (λ o.
+    online_then _ _ skipped_online (λ s.
+    online_word Section Ended (key Section (codes "NODES"))))
+meta_online false = online_give tt
+
+pub sections_online : IsOnline sections_at
+unfolding sections_at
+sections_online =
+    online_then start_at _ (online_then _ meta_behind (online_word Section Ended is_meta) meta_online) (λ s.
+    online_then _ _ (online_open Section Ended) (λ o.
+    online_then (nodes_at []) _ (online_then (list_at Parenthesis no_fault part_at []) _ (online_list Parenthesis no_fault part_at part_online part_some []) (λ xs. online_give (names_of xs))) (λ nodes.
+    online_then _ _ (section_online (codes "LINKS") (links_at nodes []) (online_list Parenthesis no_fault (link_at nodes) (link_online nodes) (link_some nodes) [])) (λ links.
+    online_then _ _ (section_online (codes "DEMANDS") (demands_at nodes []) (online_list Parenthesis no_fault (demand_at nodes) (demand_online nodes) (demand_some nodes) [])) (λ demands.
+    online_then _ _ (paths_online links demands) (λ p.
+    online_give (parts nodes links, demands)))))))

@@ -1,0 +1,12 @@
+use Rattle.text_kit.proofs.Turns.{each_turn}
+use Rattle.text_kit.specs.Reading.{word_at}
+use Rattle.sndlib_reader.specs.declared.fault.ReadKind.TheVariants.{Token, Ended}
+use Rattle.sndlib_reader.specs.Reading.{known_name}
+use Rattle.sndlib_reader.proofs.Online.{known_some}
+use Rattle.sndlib_reader.proofs.paths.take_link.Goals as goal
+
+pub returns-clause-turn : goal.returns-clause-turn
+returns-clause-turn c = each_turn (word_at Token Ended (known_name (λ x. x.link.name) c.args.links.now)) (known_some (λ x. x.link.name) c.args.links.now) _ _ _ c.in_default.ensures.1 (rw c.in_default.ensures.0 at c.in_ok-link.ensures)
+
+pub returns-clause-shorter : goal.returns-clause-shorter
+returns-clause-shorter c more = known_some (λ x. x.link.name) c.args.links.now _ _ _ (rw c.in_default.ensures.0 at c.in_ok-link.ensures)
