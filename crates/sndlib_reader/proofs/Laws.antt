@@ -97,7 +97,7 @@ modules_lawful fixed = lawful_as (modules_at fixed []) _ (λ ms. flat_map module
 
 -- ---- links
 
--- a link that may stand behind earlier ones
+-- a link that may stand after earlier ones
 pub record IsLinkBehind (nodes : List (List ℕ)) (sofar : List CostedLink) (l : CostedLink) : Type 0 where
   pub new : IsNew (λ x. x.link.name) 256 sofar l.link.name
   pub ends : AreEnds nodes l.link.a l.link.b
@@ -158,7 +158,7 @@ links_are nodes links short are =
 
 -- ---- demands
 
--- a demand that may stand behind earlier ones
+-- a demand that may stand after earlier ones
 pub record IsDemandBehind (nodes : List (List ℕ)) (sofar : List Demand) (d : Demand) : Type 0 where
   pub new : IsNew (λ x. x.name) 2048 sofar d.name
   pub ends : AreEnds nodes d.from d.to

@@ -1,4 +1,4 @@
--- The list of nodes: names, and coordinates behind them.
+-- The list of nodes: names, and coordinates after them.
 use Rattle.std.proofs.Common.{◌≡◌, ℕ, ◌≤◌, ◌<◌, Bool, true, false, cond, List, [], ◌∷◌, ◌++◌, map, length, IsTrue, Option, None, Some, Result, Ok, Err, refl, sym, ap, subst, ◌∙◌, arith}
 use Rattle.snd_tokens.specs.Lexemes.{Text, WordAt, OpenAt, CloseAt, EndAt, size}
 use Rattle.text_kit.specs.Answers.{Fails}
@@ -56,7 +56,7 @@ pub part_some : (sofar : List NodePart) → TakesSome (part_at sofar)
 unfolding part_at
 part_some sofar = takes_some (part_at sofar) (part_online sofar) (λ p. Ended) (λ p. refl)
 
--- ---- what is read behind parts hangs on their names, and on whether the last is one
+-- ---- what is read after parts hangs on their names, and on whether the last is one
 
 abbrev Alike : List NodePart → List NodePart → Type 0
 Alike s t = (names_of s ≡ names_of t) × (ends_named false s ≡ ends_named false t)
@@ -172,7 +172,7 @@ nodes_end names named at t = ap (λ (ns : List (List ℕ)). Ok (ns, t)) (names_s
 
 -- ---- the law of a part
 
--- a part that may stand behind earlier ones
+-- a part that may stand after earlier ones
 abbrev pub IsNewPart : List NodePart → NodePart → Type 0
 IsNewPart sofar (NodeName w) = IsNew (λ n. n) 128 (names_of sofar) w
 IsNewPart sofar Coordinates = IsTrue (ends_named false sofar)
@@ -228,7 +228,7 @@ part_spelled sofar = record { takes = part_takes sofar; again = λ text x rest i
 
 -- ---- all parts
 
--- new names, behind parts whose coordinates are in order
+-- new names, after parts whose coordinates are in order
 pub parts_are : (sofar parts : List NodePart) → AreBehind IsNewPart sofar parts → AreBehind (IsNew (λ n. n) 128) (names_of sofar) (names_of parts) × AreBehind IsPartBehind sofar parts
 parts_are sofar [] h = (tt, tt)
 parts_are sofar (NodeName w ∷ parts) h =

@@ -1,4 +1,4 @@
--- No answer depends on a lexeme behind what was taken, or behind the place of the fault.
+-- No answer depends on a lexeme after what was taken, or after the place of the fault.
 use Rattle.std.proofs.Common.{◌≡◌, ℕ, true, false, List, [], Ok, Err, refl}
 use Rattle.std.specs.Prelude.{codes}
 use Rattle.net_core.specs.declared.demand.Demand.{Demand}

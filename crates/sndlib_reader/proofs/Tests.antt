@@ -36,7 +36,7 @@ ok_is x y e = cc
 
 -- ---- names
 
--- a name that may stand behind earlier ones
+-- a name that may stand after earlier ones
 abbrev pub IsNew : {X : Type 0} → (X → List ℕ) → ℕ → List X → List ℕ → Type 0
 IsNew name_of most sofar w = (length sofar < most) × (is_named name_of w sofar ≡ false) × (length w ≤ 255)
 

@@ -109,7 +109,7 @@ line_spelled links demands = spelled_as (line_at links demands) _ (λ x is. IsLi
 line_starts : (links : List CostedLink) (demands : List Demand) (is : List Item) → IsLine links demands is → Starts is
 line_starts links demands is s = let n = s.2 in starts_named n.0 is s.1 (s.4 ∙ ap (λ (js : List Item). js ++ s.1) n.2)
 
--- the end, behind the section
+-- the end, after the section
 end_spelled : Spelled (end_at Section) (λ (x : Unit {0}) is. is ≡ []) IsEnd
 end_spelled = record { takes = takes; again = λ text x rest is s b left. rw (subst (λ (js : List Item). Begins js text rest) s b, left.1) refl }
   where
@@ -183,7 +183,7 @@ section_spelled name r Of law = spelled_as (section_at name r) _ _ AnyText
     (spelled_then _ _ _ _ AnyText (spelled_law (word_at Section Ended (key Section name)) _ _ AnyText (lawful_key Section Ended Section name)) (λ k js s.
     spelled_then _ _ _ _ AnyText (spelled_law (open_at Section Ended) _ _ AnyText (lawful_open Section Ended)) (λ o js s. law)))
 
--- what comes behind the word of META or NODES
+-- what comes after the word of META or NODES
 abbrev Behind : Bool → List Item → Type 0
 Behind true is = (inside : List Item) × IsSkipped inside × (is ≡ Opening ∷ (inside ++ Named (codes "NODES") ∷ []))
 Behind false is = is ≡ []

@@ -88,7 +88,7 @@ carried sofar (Err fault) = Err fault
 abbrev pub capacity : List Module → List ℕ → Result ℕ ReadKind
 capacity sofar w = carried sofar (amount w)
 
--- the need of so many units of an amount, behind demands of this total
+-- the need of so many units of an amount, after demands of this total
 abbrev pub wanted : ℕ → ℕ → Result ℕ ReadKind → Result ℕ ReadKind
 wanted total units (Ok each) =
     if nat_lt (units * each) (2 ^ 40)
@@ -113,7 +113,7 @@ skipped_at zero (CloseAt at rest) = Ok (tt, rest)
 skipped_at (suc n) (CloseAt at rest) = skipped_at n rest
 skipped_at n (EndAt at) = Err (at, Ended)
 
--- a section's word, the parenthesis behind it, and what stands there
+-- a section's word, the parenthesis after it, and what stands there
 unfoldable pub section_at : {X : Type 0} → List ℕ → Reading ReadKind X → Reading ReadKind X
 section_at name r = do
   _ ← word_at Section Ended (key Section name)
@@ -124,11 +124,11 @@ section_at name r = do
 abbrev pub name_part : List NodePart → List ℕ → Result NodePart ReadKind
 name_part sofar w = sound (NodeName w) (name_fault (λ n. n) limits.Nodes 128 (names_of sofar) w)
 
--- an opening parenthesis there, right behind a name
+-- an opening parenthesis there, right after a name
 abbrev pub coordinates : List NodePart → Result NodePart ReadKind
 coordinates sofar = if ends_named false sofar then Ok Coordinates else Err Token
 
--- what comes behind it
+-- what comes after it
 abbrev pub part_behind : NodePart → Reading ReadKind NodePart
 part_behind (NodeName name) = give (NodeName name)
 part_behind Coordinates = mapped (λ _. Coordinates) (skipped_at 0)
@@ -150,7 +150,7 @@ ends_at kind nodes = do
   _ ← close_at Token Ended
   give (a, b)
 
--- a module behind others
+-- a module after others
 unfoldable pub module_at : List Module → Reading ReadKind Module
 module_at sofar = do
   capacity ← word_at Token Ended (capacity sofar)
@@ -165,7 +165,7 @@ unserved fixed modules = if (length modules == 0) && nat_lt 0 fixed then Some Fi
 abbrev pub modules_at : ℕ → List Module → Reading ReadKind (List Module)
 modules_at fixed sofar = list_at Parenthesis (unserved fixed) module_at sofar
 
--- a link behind others, with the two costs that aren't kept
+-- a link after others, with the two costs that aren't kept
 unfoldable pub link_at : List (List ℕ) → List CostedLink → Reading ReadKind CostedLink
 link_at nodes sofar = do
   name ← word_at Token Ended (new_name (λ l. l.link.name) limits.Links 256 sofar)
@@ -190,7 +190,7 @@ links_at nodes sofar = list_at Parenthesis no_fault (link_at nodes) sofar
 abbrev pub total : List Demand → ℕ
 total demands = sum_by (λ d. d.need) demands
 
--- a demand behind others
+-- a demand after others
 unfoldable pub demand_at : List (List ℕ) → List Demand → Reading ReadKind Demand
 demand_at nodes sofar = do
   name ← word_at Token Ended (new_name (λ d. d.name) limits.Demands 2048 sofar)
@@ -225,7 +225,7 @@ line_at links demands = word_at Token Ended (known_name (λ d. d.name) demands) 
 abbrev pub is_meta : List ℕ → Result Bool ReadKind
 is_meta w = if are_same w (codes "META") then Ok true else (if are_same w (codes "NODES") then Ok false else Err Section)
 
--- what comes behind that word
+-- what comes after that word
 unfoldable pub meta_behind : Bool → Reading ReadKind (Unit {0})
 meta_behind true = do
   _ ← open_at Section Ended
@@ -241,7 +241,7 @@ start_at = word_at Section Ended is_meta >>= meta_behind
 abbrev pub is_paths : List ℕ → Result Bool ReadKind
 is_paths w = if are_same w (codes "ADMISSIBLE_PATHS") then Ok true else Err Section
 
--- what comes behind that word, or behind the end
+-- what comes after that word, or after the end
 unfoldable pub paths_behind : List CostedLink → List Demand → Bool → Reading ReadKind (Unit {0})
 paths_behind links demands true = do
   _ ← open_at Section Ended
@@ -257,7 +257,7 @@ paths_at links demands = step_at is_paths (Err Section) (Err Section) (Ok false)
 abbrev pub parts : List (List ℕ) → List CostedLink → Parts
 parts nodes links = record { nodes = nodes; links = map (λ l. l.link) links; notes = notes_of links }
 
--- all sections, and nothing behind them
+-- all sections, and nothing after them
 unfoldable pub sections_at : Reading ReadKind (Parts × List Demand)
 sections_at = do
   _ ← start_at

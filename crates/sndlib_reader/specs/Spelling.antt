@@ -34,7 +34,7 @@ ends_named named [] = named
 ends_named named (NodeName name ∷ parts) = ends_named true parts
 ends_named named (Coordinates ∷ parts) = ends_named false parts
 
--- names have at most 255 bytes, and coordinates come right behind a name
+-- names have at most 255 bytes, and coordinates come right after a name
 abbrev pub IsPartBehind : List NodePart → NodePart → Type 0
 IsPartBehind sofar (NodeName name) = length name ≤ 255
 IsPartBehind sofar Coordinates = IsTrue (ends_named false sofar)

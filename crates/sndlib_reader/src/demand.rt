@@ -46,7 +46,7 @@ fn unit(text: &mut Cursor) -> Result<u64, ReadRefusal>
     }
 }
 
-/// The need of so many units of a word's amount, behind demands of this total, in thousandths.
+/// The need of so many units of a word's amount, after demands of this total, in thousandths.
 fn need_of(before: u64, units: u64, word: &[u8]) -> Result<u64, ReadKind>
     requires before { before < 2 ^ 44 }
     requires units { units < 2 ^ 40 }
@@ -64,7 +64,7 @@ fn need_of(before: u64, units: u64, word: &[u8]) -> Result<u64, ReadKind>
     Ok(need as u64)
 }
 
-/// Takes the amount of so many units, behind demands of this total. It gives their need.
+/// Takes the amount of so many units, after demands of this total. It gives their need.
 fn need(before: u64, units: u64, text: &mut Cursor) -> Result<u64, ReadRefusal>
     requires before { before < 2 ^ 44 }
     requires units { units < 2 ^ 40 }
@@ -106,14 +106,14 @@ pub(crate) fn is_demand(demands: &[Demand], name: &[u8]) -> bool
     demands.iter().any(|d| d.name.bytes() == name)
 }
 
-/// What is wrong with a word as the name of a demand behind these ones.
+/// What is wrong with a word as the name of a demand after these ones.
 fn demand_fault(demands: &[Demand], word: &[u8]) -> Option<ReadKind>
     ensures { result ≡ name_fault (λ d. d.name) limits.Demands 2048 demands.now word.now }
 {
     name_fault(Limited::Demands, MAX_DEMANDS, demands.len(), is_demand(demands, word), word)
 }
 
-/// Takes the name of a demand behind these ones.
+/// Takes the name of a demand after these ones.
 fn demand_name(alloc: Global, demands: &[Demand], text: &mut Cursor) -> Result<Name, ReadRefusal>
     ensures { ReadsAs (λ n. n) result (left text.new) (word_at ReadKind.Token ReadKind.Ended (new_name (λ d. d.name) limits.Demands 2048 demands.now) (left text.old)) }
 {
@@ -124,7 +124,7 @@ fn demand_name(alloc: Global, demands: &[Demand], text: &mut Cursor) -> Result<N
     }
 }
 
-/// Takes a demand behind these ones, whose total is `before`.
+/// Takes a demand after these ones, whose total is `before`.
 #[tactic(auto, unfolding(crate::specs::Reading::demand_at))]
 fn demand(
     alloc: Global,
@@ -152,7 +152,7 @@ fn demand(
     })
 }
 
-/// Takes one demand more behind these ones, whose total is `sum`, and says whether there was one.
+/// Takes one demand more after these ones, whose total is `sum`, and says whether there was one.
 fn take_demand(
     alloc: Global,
     nodes: &[Name],

@@ -20,7 +20,7 @@ const MAX_LINKS: usize = 256;
 
 const MAX_MODULES: usize = 16;
 
-/// The capacity of a word for a module behind `count` others, in thousandths.
+/// The capacity of a word for a module after `count` others, in thousandths.
 fn capacity_of(modules: &[Module], word: &[u8]) -> Result<u64, ReadKind>
     ensures { result ≡ capacity modules.now word.now }
 {
@@ -34,7 +34,7 @@ fn capacity_of(modules: &[Module], word: &[u8]) -> Result<u64, ReadKind>
     Ok(capacity)
 }
 
-/// Takes the capacity of a module behind these ones.
+/// Takes the capacity of a module after these ones.
 fn capacity(modules: &[Module], text: &mut Cursor) -> Result<u64, ReadRefusal>
     ensures { ReadsAs (λ n. n) result (left text.new) (word_at ReadKind.Token ReadKind.Ended (capacity modules.now) (left text.old)) }
 {
@@ -45,7 +45,7 @@ fn capacity(modules: &[Module], text: &mut Cursor) -> Result<u64, ReadRefusal>
     }
 }
 
-/// Takes a module behind these ones.
+/// Takes a module after these ones.
 #[tactic(auto, unfolding(crate::specs::Reading::module_at))]
 fn module(modules: &[Module], text: &mut Cursor) -> Result<Module, ReadRefusal>
     ensures { ReadsAs (λ m. m) result (left text.new) (module_at modules.now (left text.old)) }
@@ -91,14 +91,14 @@ pub(crate) fn is_link(links: &[CostedLink], name: &[u8]) -> bool
     links.iter().any(|l| l.link.name.bytes() == name)
 }
 
-/// What is wrong with a word as the name of a link behind these ones.
+/// What is wrong with a word as the name of a link after these ones.
 fn link_fault(links: &[CostedLink], word: &[u8]) -> Option<ReadKind>
     ensures { result ≡ name_fault (λ l. l.link.name) limits.Links 256 links.now word.now }
 {
     name_fault(Limited::Links, MAX_LINKS, links.len(), is_link(links, word), word)
 }
 
-/// Takes the name of a link behind these ones.
+/// Takes the name of a link after these ones.
 fn link_name(alloc: Global, links: &[CostedLink], text: &mut Cursor) -> Result<Name, ReadRefusal>
     ensures { ReadsAs (λ n. n) result (left text.new) (word_at ReadKind.Token ReadKind.Ended (new_name (λ l. l.link.name) limits.Links 256 links.now) (left text.old)) }
 {
@@ -109,7 +109,7 @@ fn link_name(alloc: Global, links: &[CostedLink], text: &mut Cursor) -> Result<N
     }
 }
 
-/// Takes a link behind these ones.
+/// Takes a link after these ones.
 #[tactic(auto, unfolding(crate::specs::Reading::link_at))]
 fn link(
     alloc: Global,

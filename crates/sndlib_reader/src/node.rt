@@ -25,14 +25,14 @@ fn is_node(nodes: &[Name], name: &[u8]) -> bool
     nodes.iter().any(|n| n.bytes() == name)
 }
 
-/// What is wrong with a word as the name of a node behind these ones.
+/// What is wrong with a word as the name of a node after these ones.
 fn node_fault(nodes: &[Name], word: &[u8]) -> Option<ReadKind>
     ensures { result ≡ name_fault (λ n. n) limits.Nodes 128 nodes.now word.now }
 {
     name_fault(Limited::Nodes, MAX_NODES, nodes.len(), is_node(nodes, word), word)
 }
 
-/// Takes a node's name or coordinates behind these nodes; `after_name` says that a name was taken
+/// Takes a node's name or coordinates after these nodes; `after_name` says that a name was taken
 /// last. It says whether there was one, or the closing parenthesis.
 fn take_part(
     alloc: Global,

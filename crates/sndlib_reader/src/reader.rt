@@ -114,7 +114,7 @@ fn network(
     }
 }
 
-/// Takes all sections, and finds that nothing is behind them.
+/// Takes all sections, and finds that nothing is after them.
 #[tactic(auto, unfolding(crate::specs::Reading::sections_at))]
 fn sections(alloc: Global, text: &mut Cursor) -> Result<(Network, Demands), ReadRefusal>
     ensures { ReadsAs (λ r. (parts_of r.0, r.1)) result (left text.new) (sections_at (left text.old)) }

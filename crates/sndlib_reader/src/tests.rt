@@ -252,7 +252,7 @@ fn faults_of_numbers(rt: HostRuntime) {
     }
 }
 
-/// Puts a name of three letters for each number below `count`, each behind a space and before `tail`.
+/// Puts a name of three letters for each number below `count`, each after a space and before `tail`.
 fn put_many(text: &mut Bytes, count: u32, tail: &[u8]) -> Option<()> {
     for i in 0..count {
         let a = b'a' + (i / 676 % 26) as u8;
@@ -264,7 +264,7 @@ fn put_many(text: &mut Bytes, count: u32, tail: &[u8]) -> Option<()> {
     Some(())
 }
 
-/// The fault of a file that has so many items behind this front, before this end.
+/// The fault of a file that has so many items after this front, before this end.
 fn fault_of_many(
     alloc: Global,
     front: &[u8],
@@ -336,7 +336,7 @@ fn totals(rt: HostRuntime) {
     }
 }
 
-/// The fault of a file with a name of so many bytes behind this front.
+/// The fault of a file with a name of so many bytes after this front.
 fn fault_of_long(alloc: Global, front: &[u8], count: u32, end: &[u8]) -> Option<(u64, ReadKind)> {
     let mut text = with_header(alloc, front)?;
     for _ in 0..count {

@@ -21,7 +21,7 @@ pub(crate) fn is_long(word: &[u8]) -> bool
     word.len() > MAX_NAME
 }
 
-/// What is wrong with a word as a new name behind `count` others.
+/// What is wrong with a word as a new name after `count` others.
 pub(crate) fn name_fault(
     kind: Limited,
     most: usize,

@@ -87,7 +87,7 @@ abbrev pub SpelledBehind : {X : Type 0} → (List X → X → List Item → Type
 SpelledBehind Of sofar [] is = is ≡ []
 SpelledBehind Of sofar (x ∷ xs) is = (js ks : List Item) × Of sofar x js × SpelledBehind Of (sofar ++ x ∷ []) xs ks × (is ≡ js ++ ks)
 
--- what each is behind those before it, and how it is spelled
+-- what each is after those before it, and how it is spelled
 pub behind_parts : {X : Type 0} (C : List X → X → Type 0) (Of : X → List Item → Type 0) (sofar xs : List X) (is : List Item) → SpelledBehind (λ before x js. C before x × Of x js) sofar xs is → AreBehind C sofar xs × AreSpelled Of xs is
 behind_parts C Of sofar [] is s = (tt, s)
 behind_parts C Of sofar (x ∷ xs) is s = let h = behind_parts C Of (sofar ++ x ∷ []) xs s.1 s.3 in ((s.2.0, h.0), (s.0, s.1, s.2.1, h.1, s.4))
@@ -103,7 +103,7 @@ module _ {K X : Type 0} (fault : List X → Option K) (one : List X → Reading 
   abbrev M : ℕ → List X → X → Reading K (List X)
   M n sofar x text = more Parenthesis fault one n sofar x text
 
-  -- a list that was read: new elements behind the earlier ones
+  -- a list that was read: new elements after the earlier ones
   record Takes (sofar : List X) (text : Text) (all : List X) (rest : Text) : Type 0 where
     pub new : List X
     pub items : List Item

@@ -39,7 +39,7 @@ pub list_fails : {K X : Type 0} (ending : Ending) (fault : List X → Option K) 
 list_fails {K} {X} ending fault one sofar text d open_text e =
     before_ending ending fault one (size text) sofar text open_text ∙ ap (λ (q : Read K X). after q (λ y. more ending fault one (size text) sofar y)) e
 
--- Lists behind elements that are alike to what is kept of them are read alike.
+-- Lists after elements that are alike to what is kept of them are read alike.
 module _ {K X Y : Type 0} (ending : Ending) (one : List X → Reading K X) (kept : List X → Y) (Alike : List X → List X → Type 0) (same : (s t : List X) → Alike s t → (text : Text) → one s text ≡ one t text)
     (longer : (s t : List X) (x : X) → Alike s t → Alike (s ++ x ∷ []) (t ++ x ∷ [])) (equal : (s t : List X) → Alike s t → kept s ≡ kept t) where
   abbrev Kept : Read K (List X) → Read K Y
