@@ -1,5 +1,5 @@
 -- What is read of a network file is spelled, and what is spelled is read.
-use Rattle.std.proofs.Common.{◌≡◌, ◌≢◌, ℕ, zero, suc, ◌+◌, ◌*◌, ◌^◌, ◌<◌, ◌≤◌, ◌==◌, ◌&&◌, nat_lt, Bool, true, false, cond, List, [], ◌∷◌, ◌++◌, map, length, get_or, All, AllPairs, IsTrue, Option, None, Some, Result, Ok, Err, refl, sym, ap, subst, ◌∙◌, arith, append-nil, append_assoc}
+use Rattle.std.proofs.Common.{◌≡◌, ◌≢◌, ℕ, ◌+◌, ◌^◌, ◌<◌, ◌≤◌, ◌==◌, nat_lt, Bool, true, false, cond, List, [], ◌∷◌, ◌++◌, length, get_or, All, AllPairs, Option, None, Some, refl, sym, ap, subst, ◌∙◌, arith, append-nil, append_assoc}
 use Rattle.std.specs.Prelude.{flat_map}
 use Rattle.std.proofs.lemmas.Bool.{ltb-false}
 use Rattle.std.proofs.lemmas.List.Sums.{sum_by-cons, sum_by-append, sum_by_push}
@@ -10,17 +10,17 @@ use Rattle.net_core.specs.declared.demand.Demand.{Demand}
 use Rattle.net_core.specs.declared.ids.NodeId.{NodeId}
 use Rattle.net_core.specs.declared.network.Module.{Module}
 use Rattle.text_kit.specs.Items.{AreBehind, AreSpelled, Item, Named, Money, Opening, Closing}
-use Rattle.text_kit.specs.Reading.{Reading, word_at, open_at, close_at, Parenthesis, no_fault, list_at}
+use Rattle.text_kit.specs.Reading.{word_at, Parenthesis, no_fault}
 use Rattle.text_kit.proofs.Behind.{all_behind, behind_all, behind_as, behind_both, behind_differ, differ_behind}
-use Rattle.text_kit.proofs.Lawful.{AnyText, Lawful, Starts, behind_few, few_behind, lawful_as, lawful_close, lawful_few, lawful_give, lawful_list, lawful_open, lawful_then, lawful_word}
-use Rattle.text_kit.proofs.Spelled.{Both, Spelled, SpelledBehind, behind_parts, parts_behind, spelled_as, spelled_give, spelled_law, spelled_list, spelled_then, spelled_word}
+use Rattle.text_kit.proofs.Lawful.{AnyText, Lawful, Starts, behind_few, few_behind, lawful_as, lawful_close, lawful_give, lawful_list, lawful_open, lawful_then, lawful_word}
+use Rattle.text_kit.proofs.Spelled.{Spelled, behind_parts, parts_behind, spelled_as, spelled_give, spelled_law, spelled_list, spelled_then, spelled_word}
 use Rattle.sndlib_reader.specs.declared.costs.CostedLink.{CostedLink}
 use Rattle.sndlib_reader.specs.declared.fault.Limited.TheVariants as limits
 use Rattle.sndlib_reader.specs.declared.fault.ReadKind.{ReadKind}
 use Rattle.sndlib_reader.specs.declared.fault.ReadKind.TheVariants.{Token, Ended, SelfLink, SelfDemand, FixedLink}
-use Rattle.sndlib_reader.specs.Spelling.{IsHops, IsShortLink, SpellsDemand, ends_items, link_items, module_items}
-use Rattle.sndlib_reader.specs.Reading.{new_name, node_of, other_node, amount, unit, capacity, need, hops, ends_at, module_at, unserved, modules_at, link_at, links_at, total, demand_at, demands_at}
-use Rattle.sndlib_reader.proofs.Tests.{AreDifferent, IsCapacity, IsNeed, IsNew, IsNodeIn, amount_again, amount_takes, capacity_again, capacity_takes, hops_again, hops_takes, need_again, need_takes, new_again, new_takes, node_again, node_takes, other_again, other_takes, unit_again, unit_takes}
+use Rattle.sndlib_reader.specs.Spelling.{IsShortLink, SpellsDemand, ends_items, link_items, module_items}
+use Rattle.sndlib_reader.specs.Reading.{new_name, named_node, other_node, amount, unit, capacity, need, hops, ends_at, module_at, unserved, modules_at, link_at, costed_links_at, total, demand_at, demands_at}
+use Rattle.sndlib_reader.proofs.WordTests.{AreDifferent, IsCapacity, IsNew, IsNodeIn, amount_again, amount_takes, capacity_again, capacity_takes, hops_again, hops_takes, need_again, need_takes, new_again, new_takes, node_again, node_takes, other_again, other_takes, unit_again, unit_takes}
 
 -- ---- names that are new, all together
 
@@ -47,7 +47,7 @@ ends_lawful : (kind : ReadKind) (nodes : List (List ℕ)) → AreDifferent nodes
 unfolding ends_at
 ends_lawful kind nodes pairs = lawful_as (ends_at kind nodes) _ (λ e. ends_items nodes e.0 e.1) _ (λ e. AreEnds nodes e.0 e.1) AnyText (λ e h. refl) (λ e h. (h.1.0, h.1.1.0)) (λ e h. (tt, (h.0, (h.1, (tt, refl)))))
     (lawful_then _ _ _ _ _ _ AnyText (λ e. tt) (λ a e h. refl) (lawful_open Token Ended) (λ o.
-    lawful_then _ _ _ _ _ _ AnyText (λ e. e.0) (λ a e h. ap (λ (x : NodeId × NodeId). x.0) h.1.1) (lawful_word Token Ended (node_of nodes) (λ a. Named (get_or nodes a.0 [])) (IsNodeIn nodes) (λ a. tt) (node_takes nodes) (λ w a is same. node_again nodes pairs w a is same)) (λ a.
+    lawful_then _ _ _ _ _ _ AnyText (λ e. e.0) (λ a e h. ap (λ (x : NodeId × NodeId). x.0) h.1.1) (lawful_word Token Ended (named_node nodes) (λ a. Named (get_or nodes a.0 [])) (IsNodeIn nodes) (λ a. tt) (node_takes nodes) (λ w a is same. node_again nodes pairs w a is same)) (λ a.
     lawful_then _ _ _ _ _ _ AnyText (λ e. e.1) (λ b e h. ap (λ (x : NodeId × NodeId). x.1) h.1) (lawful_word Token Ended (other_node kind nodes a) (λ b. Named (get_or nodes b.0 [])) (λ b. (a.0 ≢ b.0) × IsNodeIn nodes b) (λ b. tt) (other_takes kind nodes a) (λ w b is same. other_again kind nodes pairs a w b is same)) (λ b.
     lawful_then _ _ _ _ _ _ AnyText (λ e. tt) (λ c e h. refl) (lawful_close Token Ended) (λ c.
     lawful_give (a, b))))))
@@ -123,8 +123,8 @@ link_lawful nodes pairs sofar = lawful_as (link_at nodes sofar) _ (link_items no
     lawful_then _ _ _ _ _ _ AnyText (λ l. l.link.modules) (λ a l h. ap (λ (x : CostedLink). x.link.modules) h) (modules_lawful fixed) (λ modules.
     lawful_give (record { link = record { name = name; a = ends.0; b = ends.1; fixed = fixed; setup = setup; modules = modules }; fixed_cost = fixed_cost; routing_cost = routing_cost }))))))))))
 
-pub links_lawful : (nodes : List (List ℕ)) → AreDifferent nodes → Lawful (links_at nodes []) (λ ls. flat_map (link_items nodes) ls ++ Closing ∷ []) (λ ls. AreBehind (IsLinkBehind nodes) [] ls) AnyText
-links_lawful nodes pairs = lawful_as (links_at nodes []) _ (λ ls. flat_map (link_items nodes) ls ++ Closing ∷ []) _ (λ ls. AreBehind (IsLinkBehind nodes) [] ls) AnyText (λ ls h. refl) (λ ls h. h.1) (λ ls h. (refl, h))
+pub links_lawful : (nodes : List (List ℕ)) → AreDifferent nodes → Lawful (costed_links_at nodes []) (λ ls. flat_map (link_items nodes) ls ++ Closing ∷ []) (λ ls. AreBehind (IsLinkBehind nodes) [] ls) AnyText
+links_lawful nodes pairs = lawful_as (costed_links_at nodes []) _ (λ ls. flat_map (link_items nodes) ls ++ Closing ∷ []) _ (λ ls. AreBehind (IsLinkBehind nodes) [] ls) AnyText (λ ls h. refl) (λ ls h. h.1) (λ ls h. (refl, h))
     (lawful_list Parenthesis no_fault (link_at nodes) (link_items nodes) (IsLinkBehind nodes) (λ l. tt) (link_lawful nodes pairs))
 
 -- all links together
@@ -199,15 +199,40 @@ demand_spelled nodes pairs sofar = spelled_as (demand_at nodes sofar) _ (λ d is
     (λ d is s.
     let t = s.1 in
     let b = s.0 in (
-      d.name, Named d.name ∷ [], ends_items nodes d.from d.to ++ Named t.unit ∷ Named t.amount ∷ Named t.hops ∷ [], (d.name, new_again (λ x. x.name) limits.Demands 2048 sofar d.name d.name b.new refl, refl), (
-        (d.from, d.to), ends_items nodes d.from d.to, Named t.unit ∷ Named t.amount ∷ Named t.hops ∷ [], (b.ends, refl), (
-          t.units, Named t.unit ∷ [], Named t.amount ∷ Named t.hops ∷ [], (t.unit, unit_again t.unit t.units t.unit_is, refl), (
-            d.need, Named t.amount ∷ [], Named t.hops ∷ [], (t.amount, need_again (total sofar) t.units t.amount t.each d.need t.amount_is t.need_is b.need b.below, refl), (
-              tt, Named t.hops ∷ [], [], (t.hops, hops_again t.hops t.hops_are, refl), (refl, refl), refl,
-            ), refl,
-          ), refl,
-        ), refl,
-      ), t.items_are,
+      d.name,
+      Named d.name ∷ [],
+      ends_items nodes d.from d.to ++ Named t.unit ∷ Named t.amount ∷ Named t.hops ∷ [],
+      (d.name, new_again (λ x. x.name) limits.Demands 2048 sofar d.name d.name b.new refl, refl),
+      (
+        (d.from, d.to),
+        ends_items nodes d.from d.to,
+        Named t.unit ∷ Named t.amount ∷ Named t.hops ∷ [],
+        (b.ends, refl),
+        (
+          t.units,
+          Named t.unit ∷ [],
+          Named t.amount ∷ Named t.hops ∷ [],
+          (t.unit, unit_again t.unit t.units t.unit_is, refl),
+          (
+            d.need,
+            Named t.amount ∷ [],
+            Named t.hops ∷ [],
+            (t.amount, need_again (total sofar) t.units t.amount t.each d.need t.amount_is t.need_is b.need b.below, refl),
+            (
+              tt,
+              Named t.hops ∷ [],
+              [],
+              (t.hops, hops_again t.hops t.hops_are, refl),
+              (refl, refl),
+              refl,
+            ),
+            refl,
+          ),
+          refl,
+        ),
+        refl,
+      ),
+      t.items_are,
     ))
     (spelled_then _ _ _ _ AnyText (spelled_word Token Ended (new_name (λ x. x.name) limits.Demands 2048 sofar)) (λ name js s.
     spelled_then _ _ _ _ AnyText (spelled_law (ends_at SelfDemand nodes) _ _ AnyText (ends_lawful SelfDemand nodes pairs)) (λ ends js s.

@@ -1,4 +1,4 @@
-pub mod Tests
+pub mod WordTests
 pub mod Skipped
 pub mod Nodes
 pub mod Online

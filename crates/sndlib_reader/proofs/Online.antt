@@ -1,16 +1,16 @@
 -- No answer depends on a lexeme after what was taken, or after the place of the fault.
-use Rattle.std.proofs.Common.{◌≡◌, ℕ, true, false, List, [], Ok, Err, refl}
+use Rattle.std.proofs.Common.{ℕ, true, false, List, [], Ok, Err, refl}
 use Rattle.std.specs.Prelude.{codes}
 use Rattle.net_core.specs.declared.demand.Demand.{Demand}
 use Rattle.net_core.specs.declared.network.Module.{Module}
-use Rattle.text_kit.specs.Reading.{Reading, give, word_at, open_at, close_at, end_at, key, Parenthesis, no_fault, list_at, each_at}
+use Rattle.text_kit.specs.Reading.{Reading, word_at, key, Parenthesis, no_fault, list_at, each_at}
 use Rattle.text_kit.proofs.Online.{IsOnline, TakesSome, online_close, online_end, online_give, online_list, online_open, online_step, online_then, online_word, takes_some}
 use Rattle.sndlib_reader.specs.declared.costs.CostedLink.{CostedLink}
 use Rattle.sndlib_reader.specs.declared.fault.Limited.TheVariants as limits
 use Rattle.sndlib_reader.specs.declared.fault.ReadKind.{ReadKind}
 use Rattle.sndlib_reader.specs.declared.fault.ReadKind.TheVariants.{Section, Token, Ended, SelfLink, SelfDemand}
 use Rattle.sndlib_reader.specs.Spelling.{names_of}
-use Rattle.sndlib_reader.specs.Reading.{new_name, known_name, short_name, node_of, other_node, amount, unit, capacity, need, total, hops, skipped_at, section_at, part_at, nodes_at, ends_at, module_at, unserved, modules_at, link_at, links_at, demand_at, demands_at, some_at, path_at, line_at, is_meta, meta_behind, start_at, is_paths, paths_behind, paths_at, parts, sections_at}
+use Rattle.sndlib_reader.specs.Reading.{new_name, known_name, short_name, named_node, other_node, amount, unit, capacity, need, total, hops, section_at, part_at, nodes_at, ends_at, module_at, unserved, link_at, costed_links_at, demand_at, demands_at, some_at, path_at, line_at, is_meta, meta_behind, start_at, is_paths, paths_behind, paths_at, parts, sections_at}
 use Rattle.sndlib_reader.proofs.Nodes.{part_online, part_some}
 use Rattle.sndlib_reader.proofs.Skipped.{skipped_online}
 
@@ -18,7 +18,7 @@ ends_online : (kind : ReadKind) (nodes : List (List ℕ)) → IsOnline (ends_at 
 unfolding ends_at
 ends_online kind nodes =
     online_then _ _ (online_open Token Ended) (λ o.
-    online_then _ _ (online_word Token Ended (node_of nodes)) (λ a.
+    online_then _ _ (online_word Token Ended (named_node nodes)) (λ a.
     online_then _ _ (online_word Token Ended (other_node kind nodes a)) (λ b.
     online_then _ _ (online_close Token Ended) (λ c.
     online_give (a, b)))))
@@ -129,7 +129,7 @@ sections_online =
     online_then start_at _ (online_then _ meta_behind (online_word Section Ended is_meta) meta_online) (λ s.
     online_then _ _ (online_open Section Ended) (λ o.
     online_then (nodes_at []) _ (online_then (list_at Parenthesis no_fault part_at []) _ (online_list Parenthesis no_fault part_at part_online part_some []) (λ xs. online_give (names_of xs))) (λ nodes.
-    online_then _ _ (section_online (codes "LINKS") (links_at nodes []) (online_list Parenthesis no_fault (link_at nodes) (link_online nodes) (link_some nodes) [])) (λ links.
+    online_then _ _ (section_online (codes "LINKS") (costed_links_at nodes []) (online_list Parenthesis no_fault (link_at nodes) (link_online nodes) (link_some nodes) [])) (λ links.
     online_then _ _ (section_online (codes "DEMANDS") (demands_at nodes []) (online_list Parenthesis no_fault (demand_at nodes) (demand_online nodes) (demand_some nodes) [])) (λ demands.
     online_then _ _ (paths_online links demands) (λ p.
     online_give (parts nodes links, demands)))))))

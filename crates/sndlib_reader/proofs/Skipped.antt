@@ -9,7 +9,7 @@ use Rattle.text_kit.proofs.Online.{Failed, IsOnline, Took, err_parts, ok_parts}
 use Rattle.text_kit.proofs.Spelled.{Spelled}
 use Rattle.sndlib_reader.specs.declared.fault.ReadKind.{ReadKind}
 use Rattle.sndlib_reader.specs.declared.fault.ReadKind.TheVariants.{Ended}
-use Rattle.sndlib_reader.specs.Balance.{opened, closed, AreBalanced, IsSkipped, item_of}
+use Rattle.sndlib_reader.specs.Balance.{opened, closed, IsSkipped, item_of}
 use Rattle.sndlib_reader.specs.Reading.{skipped_at}
 
 -- with n parentheses open before, each is closed and none more

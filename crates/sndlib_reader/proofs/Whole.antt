@@ -1,11 +1,10 @@
 -- Paths, sections and whole files: what is read is spelled, and what is spelled is read.
-use Rattle.std.proofs.Common.{◌≡◌, ◌≢◌, ℕ, ◌<◌, ◌≤◌, Bool, true, false, cond, List, [], ◌∷◌, ◌++◌, map, length, All, AllPairs, IsTrue, Option, None, Some, Result, Ok, Err, IfOk, IfErr, refl, sym, ap, subst, ◌∙◌, arith, append-nil, append_assoc, ◌||◌, inl, inr}
+use Rattle.std.proofs.Common.{◌≡◌, ◌≢◌, ℕ, ◌≤◌, Bool, true, false, cond, List, [], ◌∷◌, ◌++◌, map, length, All, AllPairs, Result, Ok, Err, IfOk, IfErr, refl, sym, ap, subst, ◌∙◌, append-nil, append_assoc, ◌||◌, inl, inr}
 use Rattle.std.specs.Prelude.{codes, flat_map}
 use Rattle.std.specs.List.{AllByRecursion}
 use Rattle.std.proofs.lemmas.List.{length-map, map_push}
 use Rattle.std.proofs.lemmas.List.Elements.{All-from_recursion, All-map, recursion_from_All}
 use Rattle.net_core.specs.Network.{IsLink, IsNetwork}
-use Rattle.net_core.specs.Demands.{AreDemands}
 use Rattle.net_core.specs.Tests.{are_same, is_named}
 use Rattle.net_core.specs.declared.demand.Demand.{Demand}
 use Rattle.net_core.specs.declared.network.Link.{Link}
@@ -15,22 +14,22 @@ use Rattle.snd_tokens.specs.Lexemes.{Text, WordAt, OpenAt, CloseAt, EndAt}
 use Rattle.text_kit.specs.Answers.{ReadsAllAs, ReadsAs}
 use Rattle.text_kit.specs.Files.{IsNotTooEarly, body}
 use Rattle.text_kit.specs.Items.{AreBehind, AreSpelled, Item, Named, Opening, Closing, Begins}
-use Rattle.text_kit.specs.Reading.{Read, Reading, after, give, placed, ◌>>=◌, word_at, open_at, end_at, key, mapped, Parenthesis, no_fault, list_at, each_at}
+use Rattle.text_kit.specs.Reading.{Read, Reading, after, give, placed, ◌>>=◌, word_at, open_at, end_at, key, Parenthesis, no_fault, list_at, each_at}
 use Rattle.text_kit.specs.declared.refusal.Refusal.{Refusal}
 use Rattle.text_kit.specs.declared.refusal.Refusal.TheVariants.{Bad, NoMemory}
 use Rattle.text_kit.proofs.Behind.{behind_all, behind_differ, differ_behind}
 use Rattle.text_kit.proofs.Files.{first_spelled, found_spelled, only_spelled, spelled_read}
-use Rattle.text_kit.proofs.Lawful.{AnyText, IsEnd, Starts, is_same, lawful_key, lawful_open, same_is}
+use Rattle.text_kit.proofs.Lawful.{AnyText, IsEnd, Starts, lawful_key, lawful_open, same_is}
 use Rattle.text_kit.proofs.Online.{ok_parts}
-use Rattle.text_kit.proofs.Spelled.{Both, Spelled, SpelledBehind, behind_parts, parts_behind, spelled_as, spelled_give, spelled_law, spelled_list, spelled_then, spelled_word}
+use Rattle.text_kit.proofs.Spelled.{Spelled, behind_parts, parts_behind, spelled_as, spelled_give, spelled_law, spelled_list, spelled_then, spelled_word}
 use Rattle.sndlib_reader.specs.declared.costs.CostedLink.{CostedLink}
 use Rattle.sndlib_reader.specs.declared.fault.ReadKind.{ReadKind}
 use Rattle.sndlib_reader.specs.declared.fault.ReadKind.TheVariants.{Header, Section, Token, Ended}
 use Rattle.sndlib_reader.specs.Balance.{IsSkipped}
-use Rattle.sndlib_reader.specs.Paths.{AreMany, ArePaths, AreSome, IsKnownName, IsLine, IsPath, IsShortName, section}
-use Rattle.sndlib_reader.specs.Spelling.{IsMeta, IsShortLink, NodePart, NodeName, Coordinates, Parts, Spells, SpellsDemand, SpellsNetwork, SpellsPart, IsPartBehind, header, link_items, names_of, notes_of, parts_of}
-use Rattle.sndlib_reader.specs.Reading.{IsFirstFault, short_name, known_name, section_at, skipped_at, part_at, nodes_at, links_at, demands_at, some_at, path_at, line_at, is_meta, meta_behind, start_at, is_paths, paths_behind, paths_at, parts, sections_at, network_of}
-use Rattle.sndlib_reader.proofs.Tests.{AreDifferent, IsNew, known_again, known_takes, short_again, short_takes}
+use Rattle.sndlib_reader.specs.Paths.{AreMany, ArePaths, AreSome, IsKnownName, IsLine, IsNamedPath, IsShortName, section}
+use Rattle.sndlib_reader.specs.Spelling.{IsMeta, IsShortLink, NodePart, NodeName, Coordinates, Parts, Spells, SpellsDemand, SpellsParts, SpellsPart, header, link_items, names_of, notes_of, parts_of}
+use Rattle.sndlib_reader.specs.Reading.{IsFirstFault, short_name, known_name, section_at, part_at, nodes_at, costed_links_at, demands_at, some_at, path_at, line_at, is_meta, meta_behind, start_at, is_paths, paths_behind, paths_at, parts, sections_at, network_of}
+use Rattle.sndlib_reader.proofs.WordTests.{AreDifferent, IsNew, known_again, known_takes, short_again, short_takes}
 use Rattle.sndlib_reader.proofs.Skipped.{skipped_spelled}
 use Rattle.sndlib_reader.proofs.Nodes.{IsNewPart, are_parts, part_spelled, parts_are, parts_short}
 use Rattle.sndlib_reader.proofs.Laws.{AreLinks, IsDemandBehind, IsLinkBehind, are_demands, are_links, are_new, demands_are, demands_spelled, links_are, links_lawful, new_are}
@@ -93,18 +92,18 @@ module _ (one : Reading ReadKind (Unit {0})) (Is : List Item → Type 0) (starts
 known_starts : {X : Type 0} (name_of : X → List ℕ) (xs : List X) (is : List Item) → IsKnownName name_of xs is → Starts is
 known_starts name_of xs is s = starts_named s.0 is [] s.2
 
-path_spelled : (links : List CostedLink) → Spelled (path_at links) (λ x is. IsPath links is) AnyText
-path_spelled links = spelled_as (path_at links) _ (λ x is. IsPath links is) AnyText (λ x is s. (s.1, s.2, s.3, s.4, s.5)) (λ x is s. (tt, s.0, s.1, s.2, s.3, s.4))
+path_spelled : (links : List CostedLink) → Spelled (path_at links) (λ x is. IsNamedPath links is) AnyText
+path_spelled links = spelled_as (path_at links) _ (λ x is. IsNamedPath links is) AnyText (λ x is s. (s.1, s.2, s.3, s.4, s.5)) (λ x is s. (tt, s.0, s.1, s.2, s.3, s.4))
     (spelled_then _ _ _ _ AnyText short_spelled (λ n js s.
     some_spelled (word_at Token Ended (known_name (λ l. l.link.name) links)) (IsKnownName (λ l. l.link.name) links) (known_starts (λ l. l.link.name) links) (known_spelled (λ l. l.link.name) links)))
 
-path_starts : (links : List CostedLink) (is : List Item) → IsPath links is → Starts is
+path_starts : (links : List CostedLink) (is : List Item) → IsNamedPath links is → Starts is
 path_starts links is s = let n = s.2 in starts_named n.0 is s.1 (s.4 ∙ ap (λ (js : List Item). js ++ s.1) n.2)
 
 line_spelled : (links : List CostedLink) (demands : List Demand) → Spelled (line_at links demands) (λ x is. IsLine links demands is) AnyText
 line_spelled links demands = spelled_as (line_at links demands) _ (λ x is. IsLine links demands is) AnyText (λ x is s. (s.1, s.2, s.3, s.4, s.5)) (λ x is s. (tt, s.0, s.1, s.2, s.3, s.4))
     (spelled_then _ _ _ _ AnyText (known_spelled (λ d. d.name) demands) (λ n js s.
-    some_spelled (path_at links) (IsPath links) (path_starts links) (path_spelled links)))
+    some_spelled (path_at links) (IsNamedPath links) (path_starts links) (path_spelled links)))
 
 line_starts : (links : List CostedLink) (demands : List Demand) (is : List Item) → IsLine links demands is → Starts is
 line_starts links demands is s = let n = s.2 in starts_named n.0 is s.1 (s.4 ∙ ap (λ (js : List Item). js ++ s.1) n.2)
@@ -341,7 +340,7 @@ record AreSections (x : Parts × List Demand) (is : List Item) : Type 0 where
   pub paths_are : ArePaths links x.1 paths
   pub parts_are : parts x.0.nodes links ≡ x.0
 
-to_network : (x : Parts × List Demand) (is : List Item) → AreSections x is → SpellsNetwork x is
+to_network : (x : Parts × List Demand) (is : List Item) → AreSections x is → SpellsParts x is
 to_network x is s =
     let n = s.nodes in
     let d = s.demands_are in
@@ -371,7 +370,7 @@ to_network x is s =
 parts_equal : (nodes : List (List ℕ)) (links : List CostedLink) (p : Parts) → nodes ≡ p.nodes → map (λ l. l.link) links ≡ p.links → notes_of links ≡ p.notes → parts nodes links ≡ p
 parts_equal nodes links p a b c = rw (a, b, c) refl
 
-of_network : (x : Parts × List Demand) (is : List Item) → SpellsNetwork x is → AreSections x is
+of_network : (x : Parts × List Demand) (is : List Item) → SpellsParts x is → AreSections x is
 of_network x is s =
     let net : IsNetwork x.0.nodes (map (λ l. l.link) s.links) = subst (λ (ls : List Link). IsNetwork x.0.nodes ls) (sym s.links_are) s.network in
     let short_parts : All (λ n. length n ≤ 255) (names_of s.parts) = behind_all (λ (n : List ℕ). length n ≤ 255) [] (names_of s.parts) (parts_short [] s.parts s.parts_in_order) in
@@ -393,9 +392,9 @@ of_network x is s =
       parts_are = parts_equal x.0.nodes s.links x.0 refl s.links_are s.notes_are;
     }
 
-pub sections_spelled : Spelled sections_at SpellsNetwork IsEnd
+pub sections_spelled : Spelled sections_at SpellsParts IsEnd
 unfolding sections_at
-sections_spelled = spelled_as sections_at _ SpellsNetwork IsEnd
+sections_spelled = spelled_as sections_at _ SpellsParts IsEnd
     (λ x is s.
     let m = s.3 in
     let o = s.4 in
@@ -404,7 +403,7 @@ sections_spelled = spelled_as sections_at _ SpellsNetwork IsEnd
     let d = l.4 in
     let p = d.4 in
     let nodes = n.3 in
-    subst (λ (y : Parts × List Demand). SpellsNetwork y is) p.2
+    subst (λ (y : Parts × List Demand). SpellsParts y is) p.2
     (to_network (parts n.0 l.0, d.0) is (record {
       meta = m.0;
       node_items = n.1;
@@ -430,23 +429,50 @@ sections_spelled = spelled_as sections_at _ SpellsNetwork IsEnd
     let from_demands = demands_text ++ t.paths in
     let from_links = links_text ++ from_demands in
     let from_nodes = (n.1 ++ Closing ∷ []) ++ from_links in (
-      tt, t.meta ++ Named (codes "NODES") ∷ [], Opening ∷ from_nodes, (t.meta, t.meta_is, refl), (
-        tt, Opening ∷ [], from_nodes, (tt, refl), (
-          x.0.nodes, n.1 ++ Closing ∷ [], from_links, (n.0, n.1, n.2, n.3, n.4, refl), (
-            t.links, links_text, from_demands, (ls, (t.links_are, refl), refl), (
-              x.1, demands_text, t.paths, (ds, (t.demand_items, t.demands_are.0, t.demands_are.1, refl), refl), (
-                tt, t.paths_are, ap (λ (y : Parts). (y, x.1)) t.parts_are,
-              ), refl,
-            ), refl,
-          ), refl,
-        ), refl,
-      ), t.items_are ∙ sym (append_assoc t.meta (Named (codes "NODES") ∷ []) (Opening ∷ from_nodes)),
+      tt,
+      t.meta ++ Named (codes "NODES") ∷ [],
+      Opening ∷ from_nodes,
+      (t.meta, t.meta_is, refl),
+      (
+        tt,
+        Opening ∷ [],
+        from_nodes,
+        (tt, refl),
+        (
+          x.0.nodes,
+          n.1 ++ Closing ∷ [],
+          from_links,
+          (n.0, n.1, n.2, n.3, n.4, refl),
+          (
+            t.links,
+            links_text,
+            from_demands,
+            (ls, (t.links_are, refl), refl),
+            (
+              x.1,
+              demands_text,
+              t.paths,
+              (ds, (t.demand_items, t.demands_are.0, t.demands_are.1, refl), refl),
+              (
+                tt,
+                t.paths_are,
+                ap (λ (y : Parts). (y, x.1)) t.parts_are,
+              ),
+              refl,
+            ),
+            refl,
+          ),
+          refl,
+        ),
+        refl,
+      ),
+      t.items_are ∙ sym (append_assoc t.meta (Named (codes "NODES") ∷ []) (Opening ∷ from_nodes)),
     ))
     (spelled_then start_at _ _ _ IsEnd start_spelled (λ m js s.
     spelled_then (open_at Section Ended) _ _ _ IsEnd (spelled_law (open_at Section Ended) _ _ AnyText (lawful_open Section Ended)) (λ o js s.
     spelled_then (nodes_at []) _ AreNodes _ IsEnd nodes_spelled (λ nodes js s.
     let different : AreDifferent nodes = (nodes_new nodes js s).1 in
-    spelled_then _ _ _ _ IsEnd (section_spelled (codes "LINKS") (links_at nodes []) (AreLinkItems nodes) (spelled_law (links_at nodes []) _ _ AnyText (links_lawful nodes different))) (λ links js s.
+    spelled_then _ _ _ _ IsEnd (section_spelled (codes "LINKS") (costed_links_at nodes []) (AreLinkItems nodes) (spelled_law (costed_links_at nodes []) _ _ AnyText (links_lawful nodes different))) (λ links js s.
     spelled_then _ _ _ _ IsEnd (section_spelled (codes "DEMANDS") (demands_at nodes []) (AreDemandItems nodes) (demands_spelled nodes different)) (λ demands js s.
     spelled_given (paths_at links demands) (λ u. (parts nodes links, demands)) _ IsEnd (paths_spelled links demands)))))))
 
@@ -455,10 +481,10 @@ sections_spelled = spelled_as sections_at _ SpellsNetwork IsEnd
 pub few_nodes : (text : Text) (nodes : List (List ℕ)) (rest : Text) → nodes_at [] text ≡ Ok (nodes, rest) → length nodes ≤ 128
 few_nodes text nodes rest e = let h = nodes_spelled.takes text nodes rest e in (nodes_new nodes h.0 h.1).0
 
-pub read_is_network : (text mid : Text) (nodes : List (List ℕ)) (a b : Text) (links : List CostedLink) → nodes_at [] text ≡ Ok (nodes, a) → section_at (codes "LINKS") (links_at nodes []) mid ≡ Ok (links, b) → IsNetwork nodes (map (λ l. l.link) links)
+pub read_is_network : (text mid : Text) (nodes : List (List ℕ)) (a b : Text) (links : List CostedLink) → nodes_at [] text ≡ Ok (nodes, a) → section_at (codes "LINKS") (costed_links_at nodes []) mid ≡ Ok (links, b) → IsNetwork nodes (map (λ l. l.link) links)
 read_is_network text mid nodes a b links first second =
     let n = nodes_spelled.takes text nodes a first in
-    let law = section_spelled (codes "LINKS") (links_at nodes []) (AreLinkItems nodes) (spelled_law (links_at nodes []) _ _ AnyText (links_lawful nodes (nodes_new nodes n.0 n.1).1)) in
+    let law = section_spelled (codes "LINKS") (costed_links_at nodes []) (AreLinkItems nodes) (spelled_law (costed_links_at nodes []) _ _ AnyText (links_lawful nodes (nodes_new nodes n.0 n.1).1)) in
     let l = law.takes mid links b second in
     network_read nodes links n.0 n.1 l.1.1.0
 
@@ -472,25 +498,25 @@ seen r = (parts_of r.0, r.1)
 
 -- what reading the sections gave is what the file gives
 pub file_answers : (bytes : List ℕ) (r : Answer) (rest : Text) → are_same (trimmed (first_line bytes)) header ≡ true → ReadsAs seen r rest (sections_at (body bytes)) → ReadsAllAs seen r (network_of bytes)
-file_answers bytes (Ok x) rest line read = spelled_read Header header sections_at SpellsNetwork sections_spelled bytes (seen x) rest line read
+file_answers bytes (Ok x) rest line read = spelled_read Header header sections_at SpellsParts sections_spelled bytes (seen x) rest line read
 file_answers bytes (Err (Bad at kind)) rest line read = ap (λ (b : Bool). cond b (sections_at (body bytes)) (Err (0, Header))) line ∙ read
 file_answers bytes (Err NoMemory) rest line read = tt
 
 pub is_spelled : (bytes : List ℕ) (r : Answer) → ReadsAllAs seen r (network_of bytes) → IfOk r (λ x. Spells bytes x.0 x.1)
-is_spelled bytes r h = found_spelled Header header sections_at SpellsNetwork sections_spelled seen bytes r h
+is_spelled bytes r h = found_spelled Header header sections_at SpellsParts sections_spelled seen bytes r h
 
 pub is_only : (bytes : List ℕ) (r : Answer) → ReadsAllAs seen r (network_of bytes) → IfOk r (λ x. (net : Network) (demands : List Demand) → Spells bytes net demands → (net.nodes ≡ x.0.nodes) × (net.links ≡ x.0.links) × (net.notes ≡ x.0.notes) × (demands ≡ x.1))
 is_only bytes (Ok x) h = λ net demands s.
-    let same : seen x ≡ (parts_of net, demands) = only_spelled Header header sections_at SpellsNetwork sections_spelled seen bytes (Ok x) h (parts_of net, demands) s in
+    let same : seen x ≡ (parts_of net, demands) = only_spelled Header header sections_at SpellsParts sections_spelled seen bytes (Ok x) h (parts_of net, demands) s in
     (sym (ap (λ (y : Parts × List Demand). y.0.nodes) same), sym (ap (λ (y : Parts × List Demand). y.0.links) same), sym (ap (λ (y : Parts × List Demand). y.0.notes) same), sym (ap (λ (y : Parts × List Demand). y.1) same))
 is_only bytes (Err e) h = tt
 
 pub first_fault : (bytes : List ℕ) (r : Answer) → ReadsAllAs seen r (network_of bytes) → (at : ℕ) (kind : ReadKind) → r ≡ Err (Bad at kind) → IsFirstFault bytes at kind × ((net : Network) (demands : List Demand) → Spells bytes net demands → ⊥)
 first_fault bytes r h at kind e =
     let f : ReadsAllAs seen (Err (Bad at kind)) (network_of bytes) = subst (λ (x : Answer). ReadsAllAs seen x (network_of bytes)) e h in
-    (f, λ net demands s. only_spelled Header header sections_at SpellsNetwork sections_spelled seen bytes (Err (Bad at kind)) f (parts_of net, demands) s)
+    (f, λ net demands s. only_spelled Header header sections_at SpellsParts sections_spelled seen bytes (Err (Bad at kind)) f (parts_of net, demands) s)
 
 pub not_early : (bytes : List ℕ) (r : Answer) → ReadsAllAs seen r (network_of bytes) → IfErr r (IsNotTooEarly (λ other (x : Network × List Demand). Spells other x.0 x.1) bytes)
 not_early bytes (Ok x) h = tt
-not_early bytes (Err (Bad at kind)) h = λ other n same ends x s. first_spelled Header header sections_at SpellsNetwork sections_spelled seen sections_online bytes (Err (Bad at kind)) h other n same ends (seen x) s
+not_early bytes (Err (Bad at kind)) h = λ other n same ends x s. first_spelled Header header sections_at SpellsParts sections_spelled seen sections_online bytes (Err (Bad at kind)) h other n same ends (seen x) s
 not_early bytes (Err NoMemory) h = tt

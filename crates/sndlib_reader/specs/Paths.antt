@@ -26,12 +26,12 @@ abbrev pub AreSome : (List Item → Type 0) → List Item → Type 0
 AreSome Is items = (first more : List Item) × Is first × AreMany Is more × (items ≡ Opening ∷ (first ++ (more ++ Closing ∷ [])))
 
 -- a path: a name, and the names of its links
-abbrev pub IsPath : List CostedLink → List Item → Type 0
-IsPath links items = (name inside : List Item) × IsShortName name × AreSome (IsKnownName (λ l. l.link.name) links) inside × (items ≡ name ++ inside)
+abbrev pub IsNamedPath : List CostedLink → List Item → Type 0
+IsNamedPath links items = (name inside : List Item) × IsShortName name × AreSome (IsKnownName (λ l. l.link.name) links) inside × (items ≡ name ++ inside)
 
 -- a line: the name of a demand, and its paths
 abbrev pub IsLine : List CostedLink → List Demand → List Item → Type 0
-IsLine links demands items = (name inside : List Item) × IsKnownName (λ d. d.name) demands name × AreSome (IsPath links) inside × (items ≡ name ++ inside)
+IsLine links demands items = (name inside : List Item) × IsKnownName (λ d. d.name) demands name × AreSome (IsNamedPath links) inside × (items ≡ name ++ inside)
 
 -- the section with any lines, or nothing
 abbrev pub ArePaths : List CostedLink → List Demand → List Item → Type 0

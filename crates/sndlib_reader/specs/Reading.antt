@@ -1,14 +1,13 @@
 -- Reading a network file from left to right: the tests of its words, and their order.
-use Rattle.std.specs.Prelude.{◌≡◌, ℕ, zero, suc, ◌+◌, ◌*◌, ◌^◌, ◌==◌, nat_lt, Bool, true, false, ◌||◌, ◌&&◌, if◌then◌else◌, List, [], ◌∷◌, ◌++◌, length, map, Option, Some, None, Result, Ok, Err, position, sum_by, codes}
+use Rattle.std.specs.Prelude.{◌≡◌, ℕ, zero, suc, ◌+◌, ◌*◌, ◌^◌, ◌==◌, nat_lt, Bool, true, false, ◌||◌, ◌&&◌, if◌then◌else◌, List, [], length, map, Option, Some, None, Result, Ok, Err, position, sum_by, codes}
 use Rattle.snd_tokens.specs.declared.amount.NumberFault.{NumberFault}
 use Rattle.snd_tokens.specs.declared.amount.NumberFault.TheVariants.{NotANumber, TooLarge}
 use Rattle.snd_tokens.specs.Amounts.{amount_of, units_of}
 use Rattle.snd_tokens.specs.Digits.{are_digits}
-use Rattle.snd_tokens.specs.Lexemes.{Text, WordAt, OpenAt, CloseAt, EndAt}
+use Rattle.snd_tokens.specs.Lexemes.{WordAt, OpenAt, CloseAt, EndAt}
 use Rattle.net_core.specs.Tests.{are_same, is_named}
 use Rattle.net_core.specs.declared.ids.NodeId.{NodeId}
 use Rattle.net_core.specs.declared.network.Module.{Module}
-use Rattle.net_core.specs.declared.network.Link.{Link}
 use Rattle.net_core.specs.declared.demand.Demand.{Demand}
 use Rattle.text_kit.specs.Files.{file_at}
 use Rattle.text_kit.specs.Reading.{Read, Reading, ◌>>=◌, give, step_at, word_at, open_at, close_at, end_at, key, mapped, Parenthesis, sound, list_at, no_fault, each_at}
@@ -28,12 +27,12 @@ taken_fault kind most count taken w =
     else (if taken then Some DoubleName
     else (if nat_lt count most then None else Some (Limit kind)))
 
-abbrev pub name_fault : {X : Type 0} → (X → List ℕ) → Limited → ℕ → List X → List ℕ → Option ReadKind
-name_fault name_of kind most sofar w = taken_fault kind most (length sofar) (is_named name_of w sofar) w
+abbrev pub new_name_fault : {X : Type 0} → (X → List ℕ) → Limited → ℕ → List X → List ℕ → Option ReadKind
+new_name_fault name_of kind most sofar w = taken_fault kind most (length sofar) (is_named name_of w sofar) w
 
 -- a new name
 abbrev pub new_name : {X : Type 0} → (X → List ℕ) → Limited → ℕ → List X → List ℕ → Result (List ℕ) ReadKind
-new_name name_of kind most sofar w = sound w (name_fault name_of kind most sofar w)
+new_name name_of kind most sofar w = sound w (new_name_fault name_of kind most sofar w)
 
 -- any name
 abbrev pub short_name : List ℕ → Result (Unit {0}) ReadKind
@@ -55,8 +54,8 @@ node_or None = Err UnknownName
 node_or (Some i) = Ok (record { 0 = i })
 
 -- the node of a name
-abbrev pub node_of : List (List ℕ) → List ℕ → Result NodeId ReadKind
-node_of nodes w = if nat_lt 255 (length w) then Err (Limit limits.Name) else node_or (node_place nodes w)
+abbrev pub named_node : List (List ℕ) → List ℕ → Result NodeId ReadKind
+named_node nodes w = if nat_lt 255 (length w) then Err (Limit limits.Name) else node_or (node_place nodes w)
 
 -- a node other than a
 abbrev pub apart : ReadKind → NodeId → Result NodeId ReadKind → Result NodeId ReadKind
@@ -65,7 +64,7 @@ apart kind a (Err fault) = Err fault
 
 -- the node of a name, other than a
 abbrev pub other_node : ReadKind → List (List ℕ) → NodeId → List ℕ → Result NodeId ReadKind
-other_node kind nodes a w = apart kind a (node_of nodes w)
+other_node kind nodes a w = apart kind a (named_node nodes w)
 
 -- a number's value or its fault
 abbrev pub number : Result ℕ NumberFault → Result ℕ ReadKind
@@ -122,7 +121,7 @@ section_at name r = do
 
 -- a name in the list of nodes
 abbrev pub name_part : List NodePart → List ℕ → Result NodePart ReadKind
-name_part sofar w = sound (NodeName w) (name_fault (λ n. n) limits.Nodes 128 (names_of sofar) w)
+name_part sofar w = sound (NodeName w) (new_name_fault (λ n. n) limits.Nodes 128 (names_of sofar) w)
 
 -- an opening parenthesis there, right after a name
 abbrev pub coordinates : List NodePart → Result NodePart ReadKind
@@ -145,7 +144,7 @@ nodes_at sofar = mapped names_of (list_at Parenthesis no_fault part_at sofar)
 unfoldable pub ends_at : ReadKind → List (List ℕ) → Reading ReadKind (NodeId × NodeId)
 ends_at kind nodes = do
   _ ← open_at Token Ended
-  a ← word_at Token Ended (node_of nodes)
+  a ← word_at Token Ended (named_node nodes)
   b ← word_at Token Ended (other_node kind nodes a)
   _ ← close_at Token Ended
   give (a, b)
@@ -183,8 +182,8 @@ link_at nodes sofar = do
   })
 
 -- further links
-abbrev pub links_at : List (List ℕ) → List CostedLink → Reading ReadKind (List CostedLink)
-links_at nodes sofar = list_at Parenthesis no_fault (link_at nodes) sofar
+abbrev pub costed_links_at : List (List ℕ) → List CostedLink → Reading ReadKind (List CostedLink)
+costed_links_at nodes sofar = list_at Parenthesis no_fault (link_at nodes) sofar
 
 -- the need of all demands
 abbrev pub total : List Demand → ℕ
@@ -263,7 +262,7 @@ sections_at = do
   _ ← start_at
   _ ← open_at Section Ended
   nodes ← nodes_at []
-  links ← section_at (codes "LINKS") (links_at nodes [])
+  links ← section_at (codes "LINKS") (costed_links_at nodes [])
   demands ← section_at (codes "DEMANDS") (demands_at nodes [])
   _ ← paths_at links demands
   give (parts nodes links, demands)

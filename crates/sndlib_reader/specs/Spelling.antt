@@ -105,7 +105,7 @@ abbrev pub parts_of : Network → Parts
 parts_of net = record { nodes = net.nodes; links = net.links; notes = net.notes }
 
 -- perhaps META, the sections of nodes, links and demands, and perhaps paths: a network, and demands that belong to it
-pub record SpellsNetwork (x : Parts × List Demand) (items : List Item) : Type 0 where
+pub record SpellsParts (x : Parts × List Demand) (items : List Item) : Type 0 where
   pub meta : List Item
   pub parts : List NodePart
   pub part_items : List Item
@@ -131,4 +131,4 @@ header = codes "?SNDlib native format; type: network; version: 1.0"
 
 -- the bytes of a file spell this network and these demands
 abbrev pub Spells : List ℕ → Network → List Demand → Type 0
-Spells bytes net demands = SpellsBy header SpellsNetwork bytes (parts_of net, demands)
+Spells bytes net demands = SpellsBy header SpellsParts bytes (parts_of net, demands)

@@ -3,12 +3,12 @@ ghost use Rattle.net_core.specs.Tests.{is_named};
 ghost use Rattle.snd_tokens.specs.Lexemes.{left, size};
 ghost use Rattle.text_kit.specs.Answers.{ReadsAs, TakesTurn};
 ghost use Rattle.text_kit.specs.Reading.{word_at};
-ghost use Rattle.sndlib_reader.specs.Reading.{demand_at, demands_at, hops, name_fault, need, new_name, total, unit};
+ghost use Rattle.sndlib_reader.specs.Reading.{demand_at, demands_at, hops, new_name_fault, need, new_name, total, unit};
 ghost use Rattle.sndlib_reader.specs.declared.fault.Limited.TheVariants as limits;
 
 use crate::fault::{Limited, ReadKind, ReadRefusal};
 use crate::node::ends;
-use crate::words::{amount_of, name_fault, named};
+use crate::words::{amount_of, named, new_name_fault};
 use net_core::{Demand, Demands, List, Name};
 use snd_tokens::{Cursor, Next, NumberFault, are_digits, units};
 use std::alloc::Global;
@@ -108,9 +108,15 @@ pub(crate) fn is_demand(demands: &[Demand], name: &[u8]) -> bool
 
 /// What is wrong with a word as the name of a demand after these ones.
 fn demand_fault(demands: &[Demand], word: &[u8]) -> Option<ReadKind>
-    ensures { result ≡ name_fault (λ d. d.name) limits.Demands 2048 demands.now word.now }
+    ensures { result ≡ new_name_fault (λ d. d.name) limits.Demands 2048 demands.now word.now }
 {
-    name_fault(Limited::Demands, MAX_DEMANDS, demands.len(), is_demand(demands, word), word)
+    new_name_fault(
+        Limited::Demands,
+        MAX_DEMANDS,
+        demands.len(),
+        is_demand(demands, word),
+        word,
+    )
 }
 
 /// Takes the name of a demand after these ones.

@@ -3,13 +3,13 @@ ghost use Rattle.net_core.specs.Tests.{is_named};
 ghost use Rattle.snd_tokens.specs.Lexemes.{left, size};
 ghost use Rattle.text_kit.specs.Answers.{ReadsAs, TakesTurn};
 ghost use Rattle.text_kit.specs.Reading.{word_at};
-ghost use Rattle.sndlib_reader.specs.Reading.{capacity, link_at, links_at, module_at, modules_at, name_fault, new_name};
+ghost use Rattle.sndlib_reader.specs.Reading.{capacity, link_at, costed_links_at, module_at, modules_at, new_name_fault, new_name};
 ghost use Rattle.sndlib_reader.specs.declared.fault.Limited.TheVariants as limits;
 
 use crate::costs::CostedLink;
 use crate::fault::{Limited, ReadKind, ReadRefusal};
 use crate::node::ends;
-use crate::words::{amount, amount_of, name_fault, named};
+use crate::words::{amount, amount_of, named, new_name_fault};
 use net_core::{Link, List, Module, Name};
 use snd_tokens::{Cursor, Next};
 use std::alloc::Global;
@@ -56,11 +56,7 @@ fn module(modules: &[Module], text: &mut Cursor) -> Result<Module, ReadRefusal>
 }
 
 /// Takes one module more of a link with this pre-installed capacity, and says whether there was one.
-fn take_module(
-    fixed: u64,
-    all: &mut List<Module>,
-    text: &mut Cursor,
-) -> Result<bool, ReadRefusal>
+fn take_module(fixed: u64, all: &mut List<Module>, text: &mut Cursor) -> Result<bool, ReadRefusal>
     ensures turn { TakesTurn result (modules_at fixed all.old (left text.old)) (modules_at fixed all.new (left text.new)) (Ok (all.new, left text.new)) }
     ensures shorter { IfOk result (λ more. IsTrue more → size (left text.new) < size (left text.old)) }
 {
@@ -93,9 +89,15 @@ pub(crate) fn is_link(links: &[CostedLink], name: &[u8]) -> bool
 
 /// What is wrong with a word as the name of a link after these ones.
 fn link_fault(links: &[CostedLink], word: &[u8]) -> Option<ReadKind>
-    ensures { result ≡ name_fault (λ l. l.link.name) limits.Links 256 links.now word.now }
+    ensures { result ≡ new_name_fault (λ l. l.link.name) limits.Links 256 links.now word.now }
 {
-    name_fault(Limited::Links, MAX_LINKS, links.len(), is_link(links, word), word)
+    new_name_fault(
+        Limited::Links,
+        MAX_LINKS,
+        links.len(),
+        is_link(links, word),
+        word,
+    )
 }
 
 /// Takes the name of a link after these ones.
@@ -150,7 +152,7 @@ fn take_link(
     text: &mut Cursor,
 ) -> Result<bool, ReadRefusal>
     requires { length nodes.now ≤ 128 }
-    ensures turn { TakesTurn result (links_at nodes.now all.old (left text.old)) (links_at nodes.now all.new (left text.new)) (Ok (all.new, left text.new)) }
+    ensures turn { TakesTurn result (costed_links_at nodes.now all.old (left text.old)) (costed_links_at nodes.now all.new (left text.new)) (Ok (all.new, left text.new)) }
     ensures shorter { IfOk result (λ more. IsTrue more → size (left text.new) < size (left text.old)) }
 {
     if let Some(_) = closes(text) {
@@ -168,7 +170,7 @@ pub(crate) fn links(
     text: &mut Cursor,
 ) -> Result<List<CostedLink>, ReadRefusal>
     requires { length nodes.now ≤ 128 }
-    ensures { ReadsAs (λ links. links) result (left text.new) (links_at nodes.now [] (left text.old)) }
+    ensures { ReadsAs (λ links. links) result (left text.new) (costed_links_at nodes.now [] (left text.old)) }
 {
     let mut all = List::new(alloc);
     while take_link(alloc, nodes, &mut all, text)? {}

@@ -3,13 +3,13 @@ ghost use Rattle.net_core.specs.Tests.{is_named};
 ghost use Rattle.snd_tokens.specs.Lexemes.{left, size};
 ghost use Rattle.text_kit.specs.Answers.{ReadsAs, TakesTurn};
 ghost use Rattle.text_kit.specs.Reading.{word_at};
-ghost use Rattle.sndlib_reader.specs.Reading.{ends_at, name_fault, node_of, node_place, nodes_at, other_node};
+ghost use Rattle.sndlib_reader.specs.Reading.{ends_at, new_name_fault, named_node, node_place, nodes_at, other_node};
 ghost use Rattle.sndlib_reader.specs.declared.fault.Limited.TheVariants as limits;
 ghost use Rattle.sndlib_reader.specs.inner.Nodes.{parts_so_far};
 
 use crate::fault::{Limited, ReadKind, ReadRefusal};
 use crate::skip::skip;
-use crate::words::{is_long, name_fault, named};
+use crate::words::{is_long, named, new_name_fault};
 use net_core::{List, Name, NodeId};
 use snd_tokens::{Cursor, Next};
 use std::alloc::Global;
@@ -27,9 +27,15 @@ fn is_node(nodes: &[Name], name: &[u8]) -> bool
 
 /// What is wrong with a word as the name of a node after these ones.
 fn node_fault(nodes: &[Name], word: &[u8]) -> Option<ReadKind>
-    ensures { result ≡ name_fault (λ n. n) limits.Nodes 128 nodes.now word.now }
+    ensures { result ≡ new_name_fault (λ n. n) limits.Nodes 128 nodes.now word.now }
 {
-    name_fault(Limited::Nodes, MAX_NODES, nodes.len(), is_node(nodes, word), word)
+    new_name_fault(
+        Limited::Nodes,
+        MAX_NODES,
+        nodes.len(),
+        is_node(nodes, word),
+        word,
+    )
 }
 
 /// Takes a node's name or coordinates after these nodes; `after_name` says that a name was taken
@@ -83,9 +89,9 @@ fn place_of(nodes: &[Name], name: &[u8]) -> Option<usize>
 }
 
 /// The node that a word names.
-fn node_of(nodes: &[Name], word: &[u8]) -> Result<NodeId, ReadKind>
+fn named_node(nodes: &[Name], word: &[u8]) -> Result<NodeId, ReadKind>
     requires { length nodes.now ≤ 128 }
-    ensures { result ≡ node_of nodes.now word.now }
+    ensures { result ≡ named_node nodes.now word.now }
 {
     if is_long(word) {
         return Err(ReadKind::Limit(Limited::Name));
@@ -99,10 +105,10 @@ fn node_of(nodes: &[Name], word: &[u8]) -> Result<NodeId, ReadKind>
 /// Takes a node's name.
 fn node(nodes: &[Name], text: &mut Cursor) -> Result<NodeId, ReadRefusal>
     requires { length nodes.now ≤ 128 }
-    ensures { ReadsAs (λ id. id) result (left text.new) (word_at ReadKind.Token ReadKind.Ended (node_of nodes.now) (left text.old)) }
+    ensures { ReadsAs (λ id. id) result (left text.new) (word_at ReadKind.Token ReadKind.Ended (named_node nodes.now) (left text.old)) }
 {
     match text.next() {
-        Next::Word(at, word) => placed(at, node_of(nodes, word)),
+        Next::Word(at, word) => placed(at, named_node(nodes, word)),
         Next::Open(at) | Next::Close(at) => Err(bad(at, ReadKind::Token)),
         Next::End(at) => Err(bad(at, ReadKind::Ended)),
     }
@@ -113,7 +119,7 @@ fn other_of(kind: ReadKind, nodes: &[Name], a: NodeId, word: &[u8]) -> Result<No
     requires { length nodes.now ≤ 128 }
     ensures { result ≡ other_node kind nodes.now a word.now }
 {
-    let b = node_of(nodes, word)?;
+    let b = named_node(nodes, word)?;
     if a.0 == b.0 {
         return Err(kind);
     }

@@ -42,8 +42,8 @@ fn link(links: &[CostedLink], text: &mut Cursor) -> Result<(), ReadRefusal>
 
 /// Takes one link more of a path, and says whether there was one.
 fn take_link(links: &[CostedLink], text: &mut Cursor) -> Result<bool, ReadRefusal>
-    ensures turn { let links_at = each_at (word_at ReadKind.Token ReadKind.Ended (known_name (λ l. l.link.name) links.now)) in
-        TakesTurn result (links_at (left text.old)) (links_at (left text.new)) (Ok (tt, left text.new)) }
+    ensures turn { let costed_links_at = each_at (word_at ReadKind.Token ReadKind.Ended (known_name (λ l. l.link.name) links.now)) in
+        TakesTurn result (costed_links_at (left text.old)) (costed_links_at (left text.new)) (Ok (tt, left text.new)) }
     ensures shorter { IfOk result (λ more. IsTrue more → size (left text.new) < size (left text.old)) }
 {
     if let Some(_) = closes(text) {

@@ -9,7 +9,7 @@ ghost use Rattle.text_kit.specs.Reading.{word_at};
 ghost use Rattle.text_kit.specs.declared.refusal.Refusal.{Refusal};
 ghost use Rattle.sndlib_reader.specs.declared.fault.ReadKind.{ReadKind};
 ghost use Rattle.sndlib_reader.specs.Spelling.{Spells, parts_of};
-ghost use Rattle.sndlib_reader.specs.Reading.{IsFirstFault, demands_at, is_meta, links_at, network_of, parts, section_at, sections_at, start_at};
+ghost use Rattle.sndlib_reader.specs.Reading.{IsFirstFault, demands_at, is_meta, costed_links_at, network_of, parts, section_at, sections_at, start_at};
 
 use crate::costs::{CostedLink, links_of, notes_of};
 use crate::demand::demands;
@@ -75,7 +75,7 @@ fn link_section(
     text: &mut Cursor,
 ) -> Result<List<CostedLink>, ReadRefusal>
     requires { length nodes.now ≤ 128 }
-    ensures { ReadsAs (λ links. links) result (left text.new) (section_at (codes "LINKS") (links_at nodes.now []) (left text.old)) }
+    ensures { ReadsAs (λ links. links) result (left text.new) (section_at (codes "LINKS") (costed_links_at nodes.now []) (left text.old)) }
 {
     expect(ReadKind::Section, ReadKind::Ended, b"LINKS", text)?;
     open(ReadKind::Section, ReadKind::Ended, text)?;
@@ -84,11 +84,7 @@ fn link_section(
 
 /// Takes the section of demands.
 #[tactic(auto, unfolding(crate::specs::Reading::section_at))]
-fn demand_section(
-    alloc: Global,
-    nodes: &[Name],
-    text: &mut Cursor,
-) -> Result<Demands, ReadRefusal>
+fn demand_section(alloc: Global, nodes: &[Name], text: &mut Cursor) -> Result<Demands, ReadRefusal>
     requires { length nodes.now ≤ 128 }
     ensures { ReadsAs (λ demands. demands) result (left text.new) (section_at (codes "DEMANDS") (demands_at nodes.now []) (left text.old)) }
 {
@@ -98,11 +94,7 @@ fn demand_section(
 }
 
 /// The network of nodes and links that were read.
-fn network(
-    alloc: Global,
-    nodes: List<Name>,
-    links: List<CostedLink>,
-) -> Result<Network, NoMemory>
+fn network(alloc: Global, nodes: List<Name>, links: List<CostedLink>) -> Result<Network, NoMemory>
     requires { IsNetwork nodes (map (λ l. l.link) links) }
     ensures { IfOk result (λ net. parts_of net ≡ parts nodes links) }
 {

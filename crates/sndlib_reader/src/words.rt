@@ -22,7 +22,7 @@ pub(crate) fn is_long(word: &[u8]) -> bool
 }
 
 /// What is wrong with a word as a new name after `count` others.
-pub(crate) fn name_fault(
+pub(crate) fn new_name_fault(
     kind: Limited,
     most: usize,
     count: usize,

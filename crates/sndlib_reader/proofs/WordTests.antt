@@ -1,5 +1,5 @@
 -- What a word says, and which words say it.
-use Rattle.std.proofs.Common.{◌≡◌, ◌≢◌, ℕ, zero, suc, ◌+◌, ◌*◌, ◌^◌, ◌<◌, ◌≤◌, ◌==◌, ◌||◌, Bool, true, false, cond, not, nat_lt, List, [], length, get_or, All, AllPairs, Option, None, Some, Result, Ok, Err, IsTrue, refl, sym, ap, subst, ◌∙◌, ◌⊎◌, inl, inr, arith}
+use Rattle.std.proofs.Common.{◌≡◌, ◌≢◌, ℕ, ◌+◌, ◌*◌, ◌^◌, ◌<◌, ◌≤◌, ◌==◌, ◌||◌, Bool, true, false, cond, not, nat_lt, List, [], length, get_or, AllPairs, Option, None, Some, Result, Ok, Err, IsTrue, refl, sym, ap, subst, ◌∙◌, inl, inr, arith}
 use Rattle.std.specs.Prelude.{codes}
 use Rattle.std.specs.List.{position_or_len}
 use Rattle.std.proofs.lemmas.Bool.{ltb-true, ltb-false, le-ltb, lt-ltb, eqb-false, ne_eqb}
@@ -20,7 +20,7 @@ use Rattle.sndlib_reader.specs.declared.fault.Limited.TheVariants as limits
 use Rattle.sndlib_reader.specs.declared.fault.ReadKind.{ReadKind}
 use Rattle.sndlib_reader.specs.declared.fault.ReadKind.TheVariants.{Limit, Number, UnknownName, DoubleName, ZeroModule}
 use Rattle.sndlib_reader.specs.Spelling.{IsHops}
-use Rattle.sndlib_reader.specs.Reading.{name_fault, taken_fault, new_name, short_name, known_name, node_place, node_or, node_of, apart, other_node, number, amount, unit, carried, capacity, wanted, need, hops}
+use Rattle.sndlib_reader.specs.Reading.{new_name_fault, new_name, short_name, known_name, node_place, node_or, named_node, apart, other_node, number, amount, unit, carried, capacity, wanted, need, hops}
 
 -- a test that had to fail, and one that had to pass
 unless_ok : {A E : Type 0} (b : Bool) (d : E) (r : Result A E) (y : A) → cond b (Err d) r ≡ Ok y → (b ≡ false) × (r ≡ Ok y)
@@ -46,17 +46,17 @@ no_fault_is kind false true few e = absurd cc
 no_fault_is kind false false true e = (refl, refl, refl)
 no_fault_is kind false false false e = absurd cc
 
-pub fault_none : {X : Type 0} (name_of : X → List ℕ) (kind : Limited) (most : ℕ) (sofar : List X) (w : List ℕ) → name_fault name_of kind most sofar w ≡ None → IsNew name_of most sofar w
+pub fault_none : {X : Type 0} (name_of : X → List ℕ) (kind : Limited) (most : ℕ) (sofar : List X) (w : List ℕ) → new_name_fault name_of kind most sofar w ≡ None → IsNew name_of most sofar w
 fault_none name_of kind most sofar w e =
     let t = no_fault_is kind (nat_lt 255 (length w)) (is_named name_of w sofar) (nat_lt (length sofar) most) e in
     (ltb-true (length sofar) most t.2, t.1, ltb-false 255 (length w) t.0)
 
-pub none_fault : {X : Type 0} (name_of : X → List ℕ) (kind : Limited) (most : ℕ) (sofar : List X) (w : List ℕ) → IsNew name_of most sofar w → name_fault name_of kind most sofar w ≡ None
+pub none_fault : {X : Type 0} (name_of : X → List ℕ) (kind : Limited) (most : ℕ) (sofar : List X) (w : List ℕ) → IsNew name_of most sofar w → new_name_fault name_of kind most sofar w ≡ None
 none_fault name_of kind most sofar w is = rw (le-ltb 255 (length w) is.2, is.1, lt-ltb (length sofar) most is.0) refl
 
 pub new_takes : {X : Type 0} (name_of : X → List ℕ) (kind : Limited) (most : ℕ) (sofar : List X) (w n : List ℕ) → new_name name_of kind most sofar w ≡ Ok n → IsNew name_of most sofar n × (w ≡ n)
 new_takes name_of kind most sofar w n e =
-    let s = sound_ok w n (name_fault name_of kind most sofar w) e in
+    let s = sound_ok w n (new_name_fault name_of kind most sofar w) e in
     (subst (IsNew name_of most sofar) s.1 (fault_none name_of kind most sofar w s.0), s.1)
 
 pub new_again : {X : Type 0} (name_of : X → List ℕ) (kind : Limited) (most : ℕ) (sofar : List X) (w n : List ℕ) → IsNew name_of most sofar n → w ≡ n → new_name name_of kind most sofar w ≡ Ok n
@@ -90,21 +90,21 @@ place_takes : (o : Option ℕ) (id : NodeId) → node_or o ≡ Ok id → o ≡ S
 place_takes None id e = absurd cc
 place_takes (Some i) id e = let k : record { 0 = i } ≡ id = cc in ap (λ (x : NodeId). Some x.0) k
 
-pub node_takes : (nodes : List (List ℕ)) (w : List ℕ) (id : NodeId) → node_of nodes w ≡ Ok id → IsNodeIn nodes id × (w ≡ get_or nodes id.0 [])
+pub node_takes : (nodes : List (List ℕ)) (w : List ℕ) (id : NodeId) → named_node nodes w ≡ Ok id → IsNodeIn nodes id × (w ≡ get_or nodes id.0 [])
 node_takes nodes w id e =
     let t = unless_ok (nat_lt 255 (length w)) (Limit limits.Name) (node_or (node_place nodes w)) id e in
     let p = position-Some (λ n. are_same n w) nodes id.0 [] (place_takes (node_place nodes w) id t.1) in
     let is : w ≡ get_or nodes id.0 [] = sym (same_is (get_or nodes id.0 []) w p.1) in
     ((p.0, subst (λ (v : List ℕ). length v ≤ 255) is (ltb-false 255 (length w) t.0)), is)
 
-pub node_again : (nodes : List (List ℕ)) → AreDifferent nodes → (w : List ℕ) (id : NodeId) → IsNodeIn nodes id → w ≡ get_or nodes id.0 [] → node_of nodes w ≡ Ok id
+pub node_again : (nodes : List (List ℕ)) → AreDifferent nodes → (w : List ℕ) (id : NodeId) → IsNodeIn nodes id → w ≡ get_or nodes id.0 [] → named_node nodes w ≡ Ok id
 node_again nodes pairs w id is same =
     let name = get_or nodes id.0 [] in
     let first : position_or_len (λ n. are_same n name) nodes ≡ id.0 =
     position_or_len_is (λ n. are_same n name) nodes id.0 [] (omega (arith, is.0))
     (λ k below. differ (get_or nodes k []) name (λ equal. pairs k id.0 [] below is.0 equal))
     (λ within. is_same name) in
-    ap (node_of nodes) same ∙ rw (le-ltb 255 (length name) is.1, first, lt-ltb id.0 (length nodes) is.0) refl
+    ap (named_node nodes) same ∙ rw (le-ltb 255 (length name) is.1, first, lt-ltb id.0 (length nodes) is.0) refl
 
 apart_takes : (kind : ReadKind) (a : NodeId) (r : Result NodeId ReadKind) (b : NodeId) → apart kind a r ≡ Ok b → (a.0 ≢ b.0) × (r ≡ Ok b)
 apart_takes kind a (Ok c) b e =
@@ -115,7 +115,7 @@ apart_takes kind a (Err k) b e = absurd cc
 
 pub other_takes : (kind : ReadKind) (nodes : List (List ℕ)) (a : NodeId) (w : List ℕ) (b : NodeId) → other_node kind nodes a w ≡ Ok b → ((a.0 ≢ b.0) × IsNodeIn nodes b) × (w ≡ get_or nodes b.0 [])
 other_takes kind nodes a w b e =
-    let t = apart_takes kind a (node_of nodes w) b e in
+    let t = apart_takes kind a (named_node nodes w) b e in
     let n = node_takes nodes w b t.1 in
     ((t.0, n.0), n.1)
 
