@@ -1,0 +1,7 @@
+use Rattle.std.proofs.Common.{◌≡◌, sym, subst}
+use Rattle.std.specs.Prelude.{IfOk}
+use Rattle.plan_terms.specs.Edits.{edit_reply}
+use Rattle.demand_book.proofs.book.Book.apply.Goals as goal
+
+pub returns-in-Add-clause-answer : goal.returns-in-Add-clause-answer
+returns-in-Add-clause-answer c = rw c.in-Add.is c.add.ensures.answer

@@ -1,0 +1,9 @@
+-- which edits need memory
+use Rattle.net_core.specs.declared.journal.Edit.{Edit}
+use Rattle.net_core.specs.declared.journal.Edit.TheVariants.{Add, Drop, Set}
+
+-- the edit adds a demand
+abbrev pub IsAdd : Edit → Type 0
+IsAdd (Add name from to need) = Unit {0}
+IsAdd (Set name need) = ⊥
+IsAdd (Drop name) = ⊥
