@@ -67,8 +67,8 @@ alone n demands name k are found =
       within = within;
       here = here;
       others = λ j d other lt. false_from_ne_true _ (λ same.
-        let one : (get_or demands j d).name ≡ (get_or demands k d).name = same_is _ _ same ∙ sym (same_is _ _ (here d)) in
-        ⊎_elim other (⊎_elim (λ (below : j < k). are.different j k d below within one) (λ (above : k < j). are.different k j d above lt (sym one))) (cases_order j k));
+          let one : (get_or demands j d).name ≡ (get_or demands k d).name = same_is _ _ same ∙ sym (same_is _ _ (here d)) in
+          ⊎_elim other (⊎_elim (λ (below : j < k). are.different j k d below within one) (λ (above : k < j). are.different k j d above lt (sym one))) (cases_order j k));
     }
 
 -- ---- another need
@@ -103,9 +103,9 @@ pub set_total : (before : List Demand) (name : List ℕ) (k need : ℕ) (d : Dem
 set_total before name k need d a =
     let new = with_need need (get_or before k blank) in
     let is : set before k new ≡ set_need name need before =
-      replaced before (set before k new) name k need a (length-set before k new)
-      (λ e. get_or-set_same before k new e a.within ∙ ap (with_need need) (get_or_from_slice_get before k (get_or before k e) blank (slice_get-get_or before k e a.within)))
-      (λ j e ne. get_or-set_other before k j new e ne) in
+    replaced before (set before k new) name k need a (length-set before k new)
+    (λ e. get_or-set_same before k new e a.within ∙ ap (with_need need) (get_or_from_slice_get before k (get_or before k e) blank (slice_get-get_or before k e a.within)))
+    (λ j e ne. get_or-set_other before k j new e ne) in
     subst (λ ds. total_need ds + (get_or before k d).need ≡ total_need before + need) is (sum_by-set (λ x. x.need) before k new d a.within)
 
 -- the running total, less the need of before and with the new one
@@ -127,10 +127,10 @@ set_demands n before name need are small total =
     record {
       few = omega (arith, are.few, length-map before f);
       different = λ i j d below lt same.
-        let within : j < length before = omega (arith, lt, length-map before f) in
-        let first : (get_or (map f before) i d).name ≡ (get_or before i d).name = ap (λ (x : Demand). x.name) (get_or-map f before i d d (omega (arith, below, within))) ∙ keeps_name name need (get_or before i d) in
-        let second : (get_or (map f before) j d).name ≡ (get_or before j d).name = ap (λ (x : Demand). x.name) (get_or-map f before j d d within) ∙ keeps_name name need (get_or before j d) in
-        are.different i j d below within (sym first ∙ (same ∙ second));
+          let within : j < length before = omega (arith, lt, length-map before f) in
+          let first : (get_or (map f before) i d).name ≡ (get_or before i d).name = ap (λ (x : Demand). x.name) (get_or-map f before i d d (omega (arith, below, within))) ∙ keeps_name name need (get_or before i d) in
+          let second : (get_or (map f before) j d).name ≡ (get_or before j d).name = ap (λ (x : Demand). x.name) (get_or-map f before j d d within) ∙ keeps_name name need (get_or before j d) in
+          are.different i j d below within (sym first ∙ (same ∙ second));
       each = All-map (IsDemand n) f before (λ k d lt. sound_again n name need (get_or before k d) small (are.each k d lt));
       total = total;
     }

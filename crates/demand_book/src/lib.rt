@@ -6,3 +6,5 @@ mod find;
 
 pub use book::Book;
 
+#[cfg(test)]
+mod tests;

@@ -15,8 +15,7 @@ returns-clause-ok c =
     let other : are_same c.args.from.now c.args.to.now ≡ false = search rules in
     let few : length c.args.self.now.demands < 2048 = search rules in
     let from : Some c.in-Some.first ≡ position (λ n. are_same n c.args.from.now) nodes = search rules in
-    let to : Some c.in-Some-node_place.second ≡ position (λ n. are_same n c.args.to.now) nodes = rw c.items-3.ensures at c.in-Some-node_place.ensures.place in
-    (
+    let to : Some c.in-Some-node_place.second ≡ position (λ n. are_same n c.args.to.now) nodes = rw c.items-3.ensures at c.in-Some-node_place.ensures.place in (
       rw (unknown, first, second, other, lt-leb 2048 (length c.args.self.now.demands) few) refl,
       ap (λ o. unwrap_or o (length nodes)) from,
       ap (λ o. unwrap_or o (length nodes)) to,
