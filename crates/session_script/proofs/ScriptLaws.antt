@@ -1,0 +1,271 @@
+-- The reading of a script takes exactly the texts of scripts.
+use Rattle.std.proofs.Common.{◌≡◌, ℕ, ◌+◌, ◌^◌, ◌<◌, ◌≤◌, true, cond, List, [], ◌∷◌, ◌++◌, length, Result, Ok, IfOk, IfErr, refl, sym, ap, subst, ◌∙◌, arith, append-nil, append_assoc, count_by}
+use Rattle.std.specs.Prelude.{codes, flat_map}
+use Rattle.std.proofs.lemmas.List.Sums.{sum_by-append}
+use Rattle.net_core.specs.Tests.{are_same}
+use Rattle.net_core.specs.declared.journal.Edit.TheVariants as edits
+use Rattle.snd_tokens.specs.Header.{first_line, trimmed}
+use Rattle.snd_tokens.specs.Lexemes.{Text, EndAt}
+use Rattle.text_kit.specs.Answers.{AnswersAs, ReadsAllAs}
+use Rattle.text_kit.specs.Files.{IsNotTooEarly, body}
+use Rattle.text_kit.specs.Items.{AreBehind, Item, Named, Whole, Money, Opening, Closing}
+use Rattle.text_kit.specs.Reading.{word_at, TheEnd, no_fault}
+use Rattle.text_kit.specs.declared.refusal.Refusal.{Refusal}
+use Rattle.text_kit.proofs.Behind.{all_behind, behind_all, behind_as, behind_both}
+use Rattle.text_kit.proofs.Files.{answer_found, answer_only, answer_first, file_read}
+use Rattle.text_kit.proofs.Lawful.{AnyText, IsEnd, Lawful, behind_few, few_behind, lawful_as, lawful_close, lawful_give, lawful_list, lawful_open, lawful_then, lawful_word}
+use Rattle.text_kit.proofs.Online.{IsOnline, TakesSome, online_close, online_give, online_list, online_open, online_then, online_word, takes_some}
+use Rattle.session_script.specs.declared.fault.ScriptKind.{ScriptKind}
+use Rattle.session_script.specs.declared.fault.ScriptKind.TheVariants.{Header, Token, Ended}
+use Rattle.session_script.specs.declared.script.Act.{Act}
+use Rattle.session_script.specs.declared.script.Act.TheVariants.{Change, Plan}
+use Rattle.session_script.specs.declared.script.Command.{Command}
+use Rattle.session_script.specs.declared.script.Script.{Script}
+use Rattle.session_script.specs.declared.script.Verb.{Verb}
+use Rattle.session_script.specs.declared.script.Verb.TheVariants as verbs
+use Rattle.session_script.specs.Scripts.{IsActInForm, IsCommandInForm, IsScript, SpellsScript, act_items, command_items, is_plan, script_header, script_of_commands}
+use Rattle.session_script.specs.ScriptReading.{act_at, begun_command, caller_of, command_at, commands_at, name_in_script, need_in_script, script_of, verb_behind}
+use Rattle.session_script.proofs.ScriptWords.{HasRoom, IsCallerNumber, begun_again, begun_takes, caller_again, caller_takes, name_again, name_takes, need_again, need_takes, verb_again, verb_takes, verb_word}
+
+-- ---- words
+
+begun_lawful : (sofar : List Command) → Lawful (word_at Token Ended (begun_command sofar)) (λ x. Named (codes "caller") ∷ []) (λ x. length sofar < 1000) AnyText
+begun_lawful sofar = lawful_word Token Ended (begun_command sofar) (λ x. Named (codes "caller")) (λ x. length sofar < 1000) (λ x. tt) (begun_takes sofar) (begun_again sofar)
+
+caller_lawful : Lawful (word_at Token Ended caller_of) (λ n. Whole n ∷ []) IsCallerNumber AnyText
+caller_lawful = lawful_word Token Ended caller_of (λ n. Whole n) IsCallerNumber (λ n. tt) caller_takes (λ w n is same. caller_again w n is same)
+
+verb_lawful : (sofar : List Command) → Lawful (word_at Token Ended (verb_behind sofar)) (λ v. Named (verb_word v) ∷ []) (HasRoom sofar) AnyText
+verb_lawful sofar = lawful_word Token Ended (verb_behind sofar) (λ v. Named (verb_word v)) (HasRoom sofar) (λ v. tt) (verb_takes sofar) (verb_again sofar)
+
+name_lawful : Lawful (word_at Token Ended name_in_script) (λ n. Named n ∷ []) (λ n. length n ≤ 255) AnyText
+name_lawful = lawful_word Token Ended name_in_script (λ n. Named n) (λ n. length n ≤ 255) (λ n. tt) name_takes name_again
+
+need_lawful : Lawful (word_at Token Ended need_in_script) (λ n. Money n ∷ []) (λ n. n < 2 ^ 40) AnyText
+need_lawful = lawful_word Token Ended need_in_script (λ n. Money n) (λ n. n < 2 ^ 40) (λ n. tt) need_takes (λ w n is same. need_again w n is same)
+
+-- ---- acts
+
+-- the word of what is asked for, and what comes after it
+abbrev verb_for : Act → Verb
+verb_for (Change (edits.Set name need)) = verbs.Set
+verb_for (Change (edits.Add name from to need)) = verbs.Add
+verb_for (Change (edits.Drop name)) = verbs.Drop
+verb_for Plan = verbs.Plan
+
+abbrev items_behind : Act → List Item
+items_behind (Change (edits.Set name need)) = Named name ∷ Money need ∷ []
+items_behind (Change (edits.Add name from to need)) = Named name ∷ Opening ∷ Named from ∷ Named to ∷ Closing ∷ Money need ∷ []
+items_behind (Change (edits.Drop name)) = Named name ∷ []
+items_behind Plan = []
+
+all_items : (a : Act) → Named (verb_word (verb_for a)) ∷ items_behind a ≡ act_items a
+all_items (Change (edits.Set name need)) = refl
+all_items (Change (edits.Add name from to need)) = refl
+all_items (Change (edits.Drop name)) = refl
+all_items Plan = refl
+
+-- the parts of an edit
+abbrev name_part : Act → List ℕ
+name_part (Change (edits.Set name need)) = name
+name_part (Change (edits.Add name from to need)) = name
+name_part (Change (edits.Drop name)) = name
+name_part Plan = []
+
+abbrev from_part : Act → List ℕ
+from_part (Change (edits.Set name need)) = []
+from_part (Change (edits.Add name from to need)) = from
+from_part (Change (edits.Drop name)) = []
+from_part Plan = []
+
+abbrev to_part : Act → List ℕ
+to_part (Change (edits.Set name need)) = []
+to_part (Change (edits.Add name from to need)) = to
+to_part (Change (edits.Drop name)) = []
+to_part Plan = []
+
+abbrev need_part : Act → ℕ
+need_part (Change (edits.Set name need)) = need
+need_part (Change (edits.Add name from to need)) = need
+need_part (Change (edits.Drop name)) = 0
+need_part Plan = 0
+
+-- what a word asks for, in form
+abbrev IsOf : Verb → Act → Type 0
+IsOf v a = (v ≡ verb_for a) × IsActInForm a
+
+-- what was read after each word
+abbrev WasSet : Act → Type 0
+WasSet a = (length (name_part a) ≤ 255) × ((need_part a < 2 ^ 40) × (Change (edits.Set (name_part a) (need_part a)) ≡ a))
+
+abbrev WasAdd : Act → Type 0
+WasAdd a = (length (name_part a) ≤ 255) × (Unit {0} × ((length (from_part a) ≤ 255) × ((length (to_part a) ≤ 255) × (Unit {0} × ((need_part a < 2 ^ 40) × (Change (edits.Add (name_part a) (from_part a) (to_part a) (need_part a)) ≡ a))))))
+
+abbrev WasDrop : Act → Type 0
+WasDrop a = (length (name_part a) ≤ 255) × (Change (edits.Drop (name_part a)) ≡ a)
+
+was_set : (a : Act) → IsOf verbs.Set a → WasSet a
+was_set (Change (edits.Set name need)) h = (h.1.0, (h.1.1, refl))
+was_set (Change (edits.Add name from to need)) h = absurd (let e : verbs.Set ≡ verbs.Add = h.0 in cc)
+was_set (Change (edits.Drop name)) h = absurd (let e : verbs.Set ≡ verbs.Drop = h.0 in cc)
+was_set Plan h = absurd (let e : verbs.Set ≡ verbs.Plan = h.0 in cc)
+
+was_add : (a : Act) → IsOf verbs.Add a → WasAdd a
+was_add (Change (edits.Set name need)) h = absurd (let e : verbs.Add ≡ verbs.Set = h.0 in cc)
+was_add (Change (edits.Add name from to need)) h = (h.1.0, (tt, (h.1.1, (h.1.2, (tt, (h.1.3, refl))))))
+was_add (Change (edits.Drop name)) h = absurd (let e : verbs.Add ≡ verbs.Drop = h.0 in cc)
+was_add Plan h = absurd (let e : verbs.Add ≡ verbs.Plan = h.0 in cc)
+
+was_drop : (a : Act) → IsOf verbs.Drop a → WasDrop a
+was_drop (Change (edits.Set name need)) h = absurd (let e : verbs.Drop ≡ verbs.Set = h.0 in cc)
+was_drop (Change (edits.Add name from to need)) h = absurd (let e : verbs.Drop ≡ verbs.Add = h.0 in cc)
+was_drop (Change (edits.Drop name)) h = (h.1, refl)
+was_drop Plan h = absurd (let e : verbs.Drop ≡ verbs.Plan = h.0 in cc)
+
+was_plan : (a : Act) → IsOf verbs.Plan a → Plan ≡ a
+was_plan (Change (edits.Set name need)) h = absurd (let e : verbs.Plan ≡ verbs.Set = h.0 in cc)
+was_plan (Change (edits.Add name from to need)) h = absurd (let e : verbs.Plan ≡ verbs.Add = h.0 in cc)
+was_plan (Change (edits.Drop name)) h = absurd (let e : verbs.Plan ≡ verbs.Drop = h.0 in cc)
+was_plan Plan h = refl
+
+act_lawful : (v : Verb) → Lawful (act_at v) items_behind (IsOf v) AnyText
+unfolding act_at
+act_lawful verbs.Set = lawful_as (act_at verbs.Set) _ items_behind WasSet (IsOf verbs.Set) AnyText
+    (λ a h. ap items_behind h.1.1) (λ a h. subst (IsOf verbs.Set) h.1.1 (refl, (h.0, h.1.0))) was_set
+    (lawful_then _ _ _ _ _ _ AnyText name_part (λ n a h. ap name_part h.1) name_lawful (λ name.
+    lawful_then _ _ _ _ _ _ AnyText need_part (λ n a h. ap need_part h) need_lawful (λ need.
+    lawful_give (Change (edits.Set name need)))))
+act_lawful verbs.Add = lawful_as (act_at verbs.Add) _ items_behind WasAdd (IsOf verbs.Add) AnyText
+    (λ a h. ap items_behind h.1.1.1.1.1.1) (λ a h. subst (IsOf verbs.Add) h.1.1.1.1.1.1 (refl, (h.0, h.1.1.0, h.1.1.1.0, h.1.1.1.1.1.0))) was_add
+    (lawful_then _ _ _ _ _ _ AnyText name_part (λ n a h. ap name_part h.1.1.1.1.1) name_lawful (λ name.
+    lawful_then _ _ _ _ _ _ AnyText (λ a. tt) (λ x a h. refl) (lawful_open Token Ended) (λ o.
+    lawful_then _ _ _ _ _ _ AnyText from_part (λ n a h. ap from_part h.1.1.1) name_lawful (λ from.
+    lawful_then _ _ _ _ _ _ AnyText to_part (λ n a h. ap to_part h.1.1) name_lawful (λ to.
+    lawful_then _ _ _ _ _ _ AnyText (λ a. tt) (λ x a h. refl) (lawful_close Token Ended) (λ c.
+    lawful_then _ _ _ _ _ _ AnyText need_part (λ n a h. ap need_part h) need_lawful (λ need.
+    lawful_give (Change (edits.Add name from to need)))))))))
+act_lawful verbs.Drop = lawful_as (act_at verbs.Drop) _ items_behind WasDrop (IsOf verbs.Drop) AnyText
+    (λ a h. ap items_behind h.1) (λ a h. subst (IsOf verbs.Drop) h.1 (refl, h.0)) was_drop
+    (lawful_then _ _ _ _ _ _ AnyText name_part (λ n a h. ap name_part h) name_lawful (λ name.
+    lawful_give (Change (edits.Drop name))))
+act_lawful verbs.Plan = lawful_as (act_at verbs.Plan) _ items_behind _ (IsOf verbs.Plan) AnyText
+    (λ a e. ap items_behind e) (λ a e. subst (IsOf verbs.Plan) e (refl, tt)) was_plan (lawful_give Plan)
+
+-- ---- commands
+
+-- a command that may stand after earlier ones
+abbrev IsCommandBehind : List Command → Command → Type 0
+IsCommandBehind sofar c = (length sofar < 1000) × (IsCallerNumber c.caller × (HasRoom sofar (verb_for c.act) × IsActInForm c.act))
+
+command_lawful : (sofar : List Command) → Lawful (command_at sofar) command_items (IsCommandBehind sofar) AnyText
+unfolding command_at
+command_lawful sofar = lawful_as (command_at sofar) _ command_items _ (IsCommandBehind sofar) AnyText
+    (λ c h. ap (λ (is : List Item). Named (codes "caller") ∷ Whole c.caller ∷ is) (ap (λ (is : List Item). Named (verb_word (verb_for c.act)) ∷ is) (append-nil (items_behind c.act)) ∙ all_items c.act))
+    (λ c h. (h.0, (h.1.0, (h.1.1.0, h.1.1.1.0.1))))
+    (λ c h. (h.0, (h.1.0, (h.1.1.0, ((refl, h.1.1.1), refl)))))
+    (lawful_then _ _ _ _ _ _ AnyText (λ c. tt) (λ x c h. refl) (begun_lawful sofar) (λ x.
+    lawful_then _ _ _ _ _ _ AnyText (λ c. c.caller) (λ n c h. ap (λ (x : Command). x.caller) h.1.1) caller_lawful (λ caller.
+    lawful_then _ _ _ _ _ _ AnyText (λ c. verb_for c.act) (λ v c h. h.0.0) (verb_lawful sofar) (λ verb.
+    lawful_then _ _ _ _ _ _ AnyText (λ c. c.act) (λ a c h. ap (λ (x : Command). x.act) h) (act_lawful verb) (λ act.
+    lawful_give (record { caller = caller; act = act }))))))
+
+-- ---- how many ask for a plan
+
+abbrev plans : List Command → ℕ
+plans commands = count_by is_plan commands
+
+plans_both : (xs ys : List Command) → plans (xs ++ ys) ≡ plans xs + plans ys
+plans_both xs ys = sum_by-append (λ c. cond (is_plan c) 1 0) xs ys
+
+plan_room : (sofar : List Command) (caller : ℕ) (act : Act) → HasRoom sofar (verb_for act) → plans sofar ≤ 64 → plans (sofar ++ record { caller = caller; act = act } ∷ []) ≤ 64
+plan_room sofar caller (Change (edits.Set name need)) room le = omega (arith, le, plans_both sofar (record { caller = caller; act = Change (edits.Set name need) } ∷ []))
+plan_room sofar caller (Change (edits.Add name from to need)) room le = omega (arith, le, plans_both sofar (record { caller = caller; act = Change (edits.Add name from to need) } ∷ []))
+plan_room sofar caller (Change (edits.Drop name)) room le = omega (arith, le, plans_both sofar (record { caller = caller; act = Change (edits.Drop name) } ∷ []))
+plan_room sofar caller Plan room le = let r : plans sofar < 64 = room in omega (arith, r, plans_both sofar (record { caller = caller; act = Plan } ∷ []))
+
+room_left : (sofar : List Command) (caller : ℕ) (act : Act) → plans (sofar ++ record { caller = caller; act = act } ∷ []) ≤ 64 → HasRoom sofar (verb_for act)
+room_left sofar caller (Change (edits.Set name need)) le = tt
+room_left sofar caller (Change (edits.Add name from to need)) le = tt
+room_left sofar caller (Change (edits.Drop name)) le = tt
+room_left sofar caller Plan le = omega (arith, le, plans_both sofar (record { caller = caller; act = Plan } ∷ []))
+
+plans_more : (sofar cs : List Command) → plans sofar ≤ 64 → AreBehind (λ before c. HasRoom before (verb_for c.act)) sofar cs → plans (sofar ++ cs) ≤ 64
+plans_more sofar [] le all = subst (λ (xs : List Command). plans xs ≤ 64) (sym (append-nil sofar)) le
+plans_more sofar (c ∷ cs) le all =
+    subst (λ (xs : List Command). plans xs ≤ 64) (append_assoc sofar (c ∷ []) cs)
+    (plans_more (sofar ++ c ∷ []) cs (plan_room sofar c.caller c.act all.0 le) all.1)
+
+more_plans : (sofar cs : List Command) → plans (sofar ++ cs) ≤ 64 → AreBehind (λ before c. HasRoom before (verb_for c.act)) sofar cs
+more_plans sofar [] le = tt
+more_plans sofar (c ∷ cs) le =
+    let all : plans ((sofar ++ c ∷ []) ++ cs) ≤ 64 = subst (λ (xs : List Command). plans xs ≤ 64) (sym (append_assoc sofar (c ∷ []) cs)) le in
+    (room_left sofar c.caller c.act (omega (arith, all, plans_both (sofar ++ c ∷ []) cs)), more_plans (sofar ++ c ∷ []) cs all)
+
+-- ---- scripts
+
+is_script : (cs : List Command) → AreBehind IsCommandBehind [] cs → IsScript cs
+is_script cs all = record {
+  few = (few_behind 1000 (λ before c. Unit {0}) [] cs (omega arith) (behind_as IsCommandBehind (λ before c. (length before < 1000) × Unit {0}) [] cs (λ before c h. (h.0, tt)) all)).0;
+  plans = plans_more [] cs (omega arith) (behind_as IsCommandBehind (λ before c. HasRoom before (verb_for c.act)) [] cs (λ before c h. h.1.1.0) all);
+  each = behind_all IsCommandInForm [] cs (behind_as IsCommandBehind (λ before c. IsCommandInForm c) [] cs (λ before c h. record { some = h.1.0.0; most = h.1.0.1; act = h.1.1.1 }) all);
+}
+
+are_commands : (cs : List Command) → IsScript cs → AreBehind IsCommandBehind [] cs
+are_commands cs is =
+    behind_as _ IsCommandBehind [] cs (λ before c h. (h.0.0, ((h.1.1.some, h.1.1.most), (h.1.0, h.1.1.act))))
+    (behind_both (λ before c. (length before < 1000) × Unit {0}) (λ before c. HasRoom before (verb_for c.act) × IsCommandInForm c) [] cs
+    (behind_few 1000 (λ before c. Unit {0}) [] cs is.few (all_behind (λ c. Unit {0}) [] cs (λ k d lt. tt)))
+    (behind_both (λ before c. HasRoom before (verb_for c.act)) (λ before c. IsCommandInForm c) [] cs (more_plans [] cs is.plans) (all_behind IsCommandInForm [] cs is.each)))
+
+commands_lawful : Lawful (commands_at []) (λ cs. flat_map command_items cs) IsScript IsEnd
+commands_lawful = lawful_as (commands_at []) _ (λ cs. flat_map command_items cs) _ IsScript IsEnd (λ cs h. append-nil (flat_map command_items cs)) (λ cs h. is_script cs h.1) (λ cs h. (refl, are_commands cs h))
+    (lawful_list TheEnd no_fault command_at command_items IsCommandBehind (λ c. tt) command_lawful)
+
+-- ---- faults stand where they are met
+
+act_online : (v : Verb) → IsOnline (act_at v)
+unfolding act_at
+act_online verbs.Set =
+    online_then _ _ (online_word Token Ended name_in_script) (λ name.
+    online_then _ _ (online_word Token Ended need_in_script) (λ need.
+    online_give (Change (edits.Set name need))))
+act_online verbs.Add =
+    online_then _ _ (online_word Token Ended name_in_script) (λ name.
+    online_then _ _ (online_open Token Ended) (λ o.
+    online_then _ _ (online_word Token Ended name_in_script) (λ from.
+    online_then _ _ (online_word Token Ended name_in_script) (λ to.
+    online_then _ _ (online_close Token Ended) (λ c.
+    online_then _ _ (online_word Token Ended need_in_script) (λ need.
+    online_give (Change (edits.Add name from to need))))))))
+act_online verbs.Drop =
+    online_then _ _ (online_word Token Ended name_in_script) (λ name.
+    online_give (Change (edits.Drop name)))
+act_online verbs.Plan = online_give Plan
+
+command_online : (sofar : List Command) → IsOnline (command_at sofar)
+unfolding command_at
+command_online sofar =
+    online_then _ _ (online_word Token Ended (begun_command sofar)) (λ x.
+    online_then _ _ (online_word Token Ended caller_of) (λ caller.
+    online_then _ _ (online_word Token Ended (verb_behind sofar)) (λ verb.
+    online_then _ _ (act_online verb) (λ act.
+    online_give (record { caller = caller; act = act })))))
+
+pub command_some : (sofar : List Command) → TakesSome (command_at sofar)
+unfolding command_at
+command_some sofar = takes_some (command_at sofar) (command_online sofar) (λ p. Ended) (λ p. refl)
+
+-- ---- whole files
+
+pub script_read : (bytes : List ℕ) (cs : List Command) (rest : Text) → are_same (trimmed (first_line bytes)) script_header ≡ true → commands_at [] (body bytes) ≡ Ok (cs, rest) → (at : ℕ) × (script_of bytes ≡ Ok (script_of_commands cs, EndAt at))
+script_read bytes cs rest line read = file_read Header script_header (commands_at []) script_of_commands (λ xs. flat_map command_items xs) IsScript commands_lawful bytes cs rest line read
+
+pub script_found : (bytes : List ℕ) (a : Result Script (Refusal ScriptKind)) → ReadsAllAs (λ s. s) a (script_of bytes) → IfOk a (λ s. SpellsScript bytes s)
+script_found bytes a h = answer_found Header script_header (commands_at []) script_of_commands (λ xs. flat_map command_items xs) IsScript commands_lawful (λ s. s) bytes a h
+
+pub script_only : (bytes : List ℕ) (a : Result Script (Refusal ScriptKind)) → ReadsAllAs (λ s. s) a (script_of bytes) → (s : Script) → SpellsScript bytes s → AnswersAs (λ x. x) a s
+script_only bytes a h = answer_only Header script_header (commands_at []) script_of_commands (λ xs. flat_map command_items xs) IsScript commands_lawful (λ s. s) bytes a h
+
+pub script_first : (bytes : List ℕ) (a : Result Script (Refusal ScriptKind)) → ReadsAllAs (λ s. s) a (script_of bytes) → IfErr a (IsNotTooEarly SpellsScript bytes)
+script_first bytes a h = answer_first Header script_header (commands_at []) script_of_commands (λ xs. flat_map command_items xs) IsScript commands_lawful (λ s. s)
+    (online_list TheEnd no_fault command_at command_online command_some []) bytes a h

@@ -1,0 +1,108 @@
+-- Reading a script from left to right: the tests of its words, and their order.
+use Rattle.std.specs.Prelude.{ℕ, Bool, nat_lt, ◌&&◌, if◌then◌else◌, List, [], length, count_by, Option, Some, None, Result, Ok, Err, codes}
+use Rattle.net_core.specs.Tests.{are_same}
+use Rattle.net_core.specs.declared.journal.Edit.TheVariants as edits
+use Rattle.snd_tokens.specs.declared.amount.NumberFault.{NumberFault}
+use Rattle.snd_tokens.specs.declared.whole_number.WholeFault.{WholeFault}
+use Rattle.snd_tokens.specs.Amounts.{amount_of}
+use Rattle.snd_tokens.specs.Wholes.{whole_of}
+use Rattle.text_kit.specs.Files.{file_at}
+use Rattle.text_kit.specs.Reading.{Read, Reading, ◌>>=◌, give, word_at, open_at, close_at, TheEnd, list_at, mapped, no_fault, sound}
+use Rattle.session_script.specs.declared.fault.ScriptKind.{ScriptKind}
+use Rattle.session_script.specs.declared.fault.ScriptKind.TheVariants.{Header, Token, Ended, Caller, Number, LimitName, LimitCommands, LimitPlans}
+use Rattle.session_script.specs.declared.script.Act.{Act}
+use Rattle.session_script.specs.declared.script.Act.TheVariants.{Change, Plan}
+use Rattle.session_script.specs.declared.script.Command.{Command}
+use Rattle.session_script.specs.declared.script.Script.{Script}
+use Rattle.session_script.specs.declared.script.Verb.{Verb}
+use Rattle.session_script.specs.declared.script.Verb.TheVariants as verbs
+use Rattle.session_script.specs.Scripts.{script_header, is_plan, script_of_commands}
+
+-- ---- what a word says
+
+-- the word of a command, after earlier ones
+abbrev pub begun_command : List Command → List ℕ → Result (Unit {0}) ScriptKind
+begun_command sofar w =
+    if are_same w (codes "caller") then (if nat_lt (length sofar) 1000 then Ok tt else Err LimitCommands) else Err Token
+
+-- a whole number as a caller
+abbrev pub caller_within : Result ℕ WholeFault → Result ℕ ScriptKind
+caller_within (Ok n) = if nat_lt 0 n && nat_lt n 9 then Ok n else Err Caller
+caller_within (Err fault) = Err Caller
+
+-- a caller
+abbrev pub caller_of : List ℕ → Result ℕ ScriptKind
+caller_of w = caller_within (whole_of w)
+
+-- what a word asks for
+abbrev pub verb_of : List ℕ → Result Verb ScriptKind
+verb_of w =
+    if are_same w (codes "set") then Ok verbs.Set
+    else (if are_same w (codes "add") then Ok verbs.Add
+    else (if are_same w (codes "drop") then Ok verbs.Drop
+    else (if are_same w (codes "plan") then Ok verbs.Plan else Err Token)))
+
+-- a plan after fewer than 64 others, or an edit
+abbrev pub verb_within : Bool → Result Verb ScriptKind → Result Verb ScriptKind
+verb_within room (Ok verbs.Plan) = if room then Ok verbs.Plan else Err LimitPlans
+verb_within room (Ok verbs.Set) = Ok verbs.Set
+verb_within room (Ok verbs.Add) = Ok verbs.Add
+verb_within room (Ok verbs.Drop) = Ok verbs.Drop
+verb_within room (Err kind) = Err kind
+
+-- what a word asks for after earlier commands
+abbrev pub verb_behind : List Command → List ℕ → Result Verb ScriptKind
+verb_behind sofar w = verb_within (nat_lt (count_by is_plan sofar) 64) (verb_of w)
+
+-- a name that isn't too long
+abbrev pub long_name_fault : List ℕ → Option ScriptKind
+long_name_fault w = if nat_lt 255 (length w) then Some LimitName else None
+
+abbrev pub name_in_script : List ℕ → Result (List ℕ) ScriptKind
+name_in_script w = sound w (long_name_fault w)
+
+-- a need or its fault
+abbrev pub need_or_fault : Result ℕ NumberFault → Result ℕ ScriptKind
+need_or_fault (Ok n) = Ok n
+need_or_fault (Err f) = Err (Number f)
+
+abbrev pub need_in_script : List ℕ → Result ℕ ScriptKind
+need_in_script w = need_or_fault (amount_of w)
+
+-- ---- the order of words
+
+-- what comes after the word that says what is asked for
+unfoldable pub act_at : Verb → Reading ScriptKind Act
+act_at verbs.Set = do
+  name ← word_at Token Ended name_in_script
+  need ← word_at Token Ended need_in_script
+  give (Change (edits.Set name need))
+act_at verbs.Add = do
+  name ← word_at Token Ended name_in_script
+  _ ← open_at Token Ended
+  from ← word_at Token Ended name_in_script
+  to ← word_at Token Ended name_in_script
+  _ ← close_at Token Ended
+  need ← word_at Token Ended need_in_script
+  give (Change (edits.Add name from to need))
+act_at verbs.Drop = do
+  name ← word_at Token Ended name_in_script
+  give (Change (edits.Drop name))
+act_at verbs.Plan = give Plan
+
+-- a command after earlier ones
+unfoldable pub command_at : List Command → Reading ScriptKind Command
+command_at sofar = do
+  _ ← word_at Token Ended (begun_command sofar)
+  caller ← word_at Token Ended caller_of
+  verb ← word_at Token Ended (verb_behind sofar)
+  act ← act_at verb
+  give (record { caller = caller; act = act })
+
+-- further commands, up to the end
+abbrev pub commands_at : List Command → Reading ScriptKind (List Command)
+commands_at sofar = list_at TheEnd no_fault command_at sofar
+
+-- a whole file: its script, or its first fault by place
+abbrev pub script_of : List ℕ → Read ScriptKind Script
+script_of bytes = file_at Header script_header (mapped script_of_commands (commands_at [])) bytes

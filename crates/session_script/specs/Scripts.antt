@@ -1,0 +1,67 @@
+-- the grammar of a script: commands one after another, each of a caller
+use Rattle.std.specs.Prelude.{ℕ, ◌≤◌, ◌<◌, ◌^◌, Bool, true, false, List, [], ◌∷◌, length, All, flat_map, count_by, codes}
+use Rattle.net_core.specs.declared.journal.Edit.{Edit}
+use Rattle.net_core.specs.declared.journal.Edit.TheVariants as edits
+use Rattle.text_kit.specs.Files.{SpellsAs}
+use Rattle.text_kit.specs.Items.{Item, Named, Whole, Money, Opening, Closing}
+use Rattle.session_script.specs.declared.script.Act.{Act}
+use Rattle.session_script.specs.declared.script.Act.TheVariants.{Change, Plan}
+use Rattle.session_script.specs.declared.script.Command.{Command}
+use Rattle.session_script.specs.declared.script.Script.{Script}
+
+-- the first line of a script
+abbrev pub script_header : List ℕ
+script_header = codes "?planner script; version: 1"
+
+-- the command asks for a plan
+abbrev pub asks_plan : Act → Bool
+asks_plan (Change edit) = false
+asks_plan Plan = true
+
+abbrev pub is_plan : Command → Bool
+is_plan c = asks_plan c.act
+
+-- an edit: its word, its name, the two nodes of a new demand between parentheses, and its need
+abbrev pub edit_items : Edit → List Item
+edit_items (edits.Set name need) = Named (codes "set") ∷ Named name ∷ Money need ∷ []
+edit_items (edits.Add name from to need) = Named (codes "add") ∷ Named name ∷ Opening ∷ Named from ∷ Named to ∷ Closing ∷ Money need ∷ []
+edit_items (edits.Drop name) = Named (codes "drop") ∷ Named name ∷ []
+
+-- an edit, or the one word for a plan
+abbrev pub act_items : Act → List Item
+act_items (Change edit) = edit_items edit
+act_items Plan = Named (codes "plan") ∷ []
+
+-- a command: its word, its caller, and what it asks for
+abbrev pub command_items : Command → List Item
+command_items c = Named (codes "caller") ∷ Whole c.caller ∷ act_items c.act
+
+-- names have at most 255 bytes, and a need is below 2^40 thousandths
+abbrev pub IsEditInForm : Edit → Type 0
+IsEditInForm (edits.Set name need) = (length name ≤ 255) × (need < 2 ^ 40)
+IsEditInForm (edits.Add name from to need) = (length name ≤ 255) × (length from ≤ 255) × (length to ≤ 255) × (need < 2 ^ 40)
+IsEditInForm (edits.Drop name) = length name ≤ 255
+
+abbrev pub IsActInForm : Act → Type 0
+IsActInForm (Change edit) = IsEditInForm edit
+IsActInForm Plan = Unit {0}
+
+-- a command of a caller from 1 to 8
+pub record IsCommandInForm (c : Command) : Type 0 where
+  pub some : 1 ≤ c.caller
+  pub most : c.caller ≤ 8
+  pub act : IsActInForm c.act
+
+-- at most 1,000 commands, and 64 that ask for a plan
+pub record IsScript (commands : List Command) : Type 0 where
+  pub few : length commands ≤ 1000
+  pub plans : count_by is_plan commands ≤ 64
+  pub each : All IsCommandInForm commands
+
+-- the script of commands
+abbrev pub script_of_commands : List Command → Script
+script_of_commands commands = record { commands = commands }
+
+-- the bytes of a file spell this script
+abbrev pub SpellsScript : List ℕ → Script → Type 0
+SpellsScript bytes script = SpellsAs script_header (flat_map command_items) IsScript script_of_commands bytes script

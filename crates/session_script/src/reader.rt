@@ -1,0 +1,72 @@
+ghost use Rattle.std.specs.Prelude.{◌≡◌, ◌<◌, [], IsTrue, IfOk, IfErr, Ok};
+ghost use Rattle.snd_tokens.specs.Lexemes.{left, size};
+ghost use Rattle.text_kit.specs.Answers.{AnswersAs, ReadsAllAs, ReadsAs, TakesTurn};
+ghost use Rattle.text_kit.specs.Files.{IsNotTooEarly};
+ghost use Rattle.session_script.specs.declared.script.Script.{Script as Scr};
+ghost use Rattle.session_script.specs.Scripts.{SpellsScript};
+ghost use Rattle.session_script.specs.ScriptReading.{commands_at, script_of};
+
+use crate::command::command;
+use crate::fault::{ScriptKind, ScriptRefusal};
+use crate::script::{Command, Script};
+use net_core::List;
+use snd_tokens::Cursor;
+use std::alloc::Global;
+use text_kit::steps::{behind_header, ends};
+
+const HEADER: &[u8] = b"?planner script; version: 1";
+
+/// Takes one command more, and says whether there was one.
+fn take_command(
+    alloc: Global,
+    all: &mut List<Command>,
+    text: &mut Cursor,
+) -> Result<bool, ScriptRefusal>
+    ensures turn { TakesTurn result (commands_at all.old (left text.old)) (commands_at all.new (left text.new)) (Ok (all.new, left text.new)) }
+    ensures shorter { IfOk result (λ more. IsTrue more → size (left text.new) < size (left text.old)) }
+{
+    if let Some(_) = ends(text) {
+        return Ok(false);
+    }
+    let command = command(alloc, all.items(), text)?;
+    all.push(command)?;
+    Ok(true)
+}
+
+/// Takes commands, up to the end.
+fn commands(alloc: Global, text: &mut Cursor) -> Result<List<Command>, ScriptRefusal>
+    ensures { ReadsAs (λ l. l) result (left text.new) (commands_at [] (left text.old)) }
+{
+    let mut all = List::new(alloc);
+    while take_command(alloc, &mut all, text)? {}
+    Ok(all)
+}
+
+/// The whole file.
+fn file(alloc: Global, bytes: &[u8]) -> Result<Script, ScriptRefusal>
+    ensures { ReadsAllAs (λ s. s) result (script_of bytes.now) }
+{
+    let mut text = behind_header(ScriptKind::Header, bytes, HEADER)?;
+    let commands = commands(alloc, &mut text)?;
+    Ok(Script { commands })
+}
+
+/// The script that a file spells. Needs are in thousandths. It takes memory for the commands and
+/// their names, and time in proportion to the bytes, with one pass over the earlier commands at
+/// each word `plan`.
+///
+/// After the header, the line `caller 1 set D1 2.5` is one command: caller 1 asks that the demand
+/// D1 need 2500 thousandths. A line `caller 9 plan` there is refused as `caller` at the place of
+/// the 9.
+pub fn read_script(alloc: Global, bytes: &[u8]) -> Result<Script, ScriptRefusal>
+    // What is read is spelled.
+    ensures found { IfOk result (λ s. SpellsScript bytes.now s) }
+    // What is spelled is read, unless memory runs out.
+    ensures only { (s : Scr) → SpellsScript bytes.now s → AnswersAs (λ x. x) result s }
+    // A fault is the first one that reading from left to right meets.
+    ensures exact { ReadsAllAs (λ s. s) result (script_of bytes.now) }
+    // It doesn't stand too early: no bytes that agree past it are spelled right.
+    ensures not_early { IfErr result (IsNotTooEarly SpellsScript bytes.now) }
+{
+    file(alloc, bytes)
+}

@@ -1,0 +1,170 @@
+use crate::fault::{ScriptKind, ScriptRefusal};
+use crate::reader::read_script;
+use crate::script::{Act, Command};
+use net_core::{Bytes, Copied, Edit, List};
+use std::alloc::Global;
+use std::test::Fail;
+
+const HEADER: &[u8] = b"?planner script; version: 1\n";
+
+fn joined(alloc: Global, body: &[u8]) -> Option<Bytes> {
+    let mut text = List::new(alloc);
+    text.append(HEADER).ok()?;
+    text.append(body).ok()?;
+    Some(text)
+}
+
+/// The place and the word of the fault of a script with this body.
+fn fault(alloc: Global, body: &[u8]) -> Option<(u64, &'static str)> {
+    let text = joined(alloc, body)?;
+    match read_script(alloc, text.items()) {
+        Err(ScriptRefusal::Bad { at, kind }) => Some((at, kind.word())),
+        _ => None,
+    }
+}
+
+/// How many commands a script with this body has.
+fn count(alloc: Global, body: &[u8]) -> Option<usize> {
+    let text = joined(alloc, body)?;
+    Some(read_script(alloc, text.items()).ok()?.commands.len())
+}
+
+fn sets(command: &Command, demand: &[u8], amount: u64) -> bool {
+    match &command.act {
+        Act::Change(Edit::Set { name, need }) => name.bytes() == demand && *need == amount,
+        _ => false,
+    }
+}
+
+fn adds(command: &Command, demand: &[u8], ends: (&[u8], &[u8]), amount: u64) -> bool {
+    match &command.act {
+        Act::Change(
+            Edit::Add {
+                name,
+                from,
+                to,
+                need,
+            },
+        ) => {
+            name.bytes() == demand
+                && from.bytes() == ends.0
+                && to.bytes() == ends.1
+                && *need == amount
+        }
+        _ => false,
+    }
+}
+
+fn drops(command: &Command, demand: &[u8]) -> bool {
+    match &command.act {
+        Act::Change(Edit::Drop { name }) => name.bytes() == demand,
+        _ => false,
+    }
+}
+
+#[test]
+fn each_command(rt: HostRuntime) -> Result<(), Fail> {
+    let body: &[u8] =
+        b"caller 1 set D1 2.5\ncaller 2 add D4 ( A C ) 0.001 # a note\n\ncaller 8 drop plan caller 3\nplan";
+    let text = joined(rt.alloc(), body).ok_or("memory")?;
+    let script = read_script(rt.alloc(), text.items())?
+        .copy()
+        .ok()
+        .ok_or("memory")?;
+    match script.commands.items() {
+        [first, second, third, fourth] => {
+            assert!(rt; first.caller == 1 && sets(first, b"D1", 2_500));
+            assert!(rt; second.caller == 2 && adds(second, b"D4", (b"A", b"C"), 1));
+            assert!(rt; third.caller == 8 && drops(third, b"plan") && !third.is_plan());
+            assert!(rt; fourth.caller == 3 && fourth.is_plan());
+        }
+        _ => return Err("four commands".into()),
+    }
+    assert_eq!(rt; count(rt.alloc(), b""), Some(0));
+    Ok(())
+}
+
+#[test]
+fn first_faults(rt: HostRuntime) {
+    let rows: [(&[u8], u64, &str); 24] = [
+        (b"(", 28, "token"),
+        (b"plan", 28, "token"),
+        (b"caller", 34, "ended"),
+        (b"caller ( 1", 35, "token"),
+        (b"caller 0 plan", 35, "caller"),
+        (b"caller 9 plan", 35, "caller"),
+        (b"caller 01 plan", 35, "caller"),
+        (b"caller one plan", 35, "caller"),
+        (
+            b"caller 100000000000000000000000000000000000001 plan",
+            35,
+            "caller",
+        ),
+        (b"caller 1", 36, "ended"),
+        (b"caller 1 move D1", 37, "token"),
+        (b"caller 1 )", 37, "token"),
+        (b"caller 1 set", 40, "ended"),
+        (b"caller 1 set D1 )", 44, "token"),
+        (b"caller 1 set D1 1,5", 44, "number-not"),
+        (b"caller 1 set D1 1.0001", 44, "number-fine"),
+        (b"caller 1 set D1 1099511627.776", 44, "number-large"),
+        (b"caller 1 add D4 A C 1", 44, "token"),
+        (b"caller 1 add D4 ( A ) 1", 48, "token"),
+        (b"caller 1 add D4 ( A C 1", 50, "token"),
+        (b"caller 1 add D4 ( A C )", 51, "ended"),
+        (b"caller 2 drop (", 42, "token"),
+        (b"caller 3 plan plan", 42, "token"),
+        (b"caller 3 plan\ncaller 3\n", 51, "ended"),
+    ];
+    for (body, at, word) in rows {
+        assert_eq!(rt; fault(rt.alloc(), body), Some((at, word)));
+    }
+    assert!(rt;
+        matches!(
+            read_script(rt.alloc(), b"?planner failures; version: 1\n"),
+            Err(ScriptRefusal::Bad {
+                at: 0,
+                kind: ScriptKind::Header
+            })
+        )
+    );
+}
+
+/// So many times the same bytes, and others behind them.
+fn repeated(alloc: Global, piece: &[u8], times: u32, last: &[u8]) -> Option<Bytes> {
+    let mut text = List::new(alloc);
+    for _ in 0..times {
+        text.append(piece).ok()?;
+    }
+    text.append(last).ok()?;
+    Some(text)
+}
+
+#[test]
+fn limits(rt: HostRuntime) -> Result<(), Fail> {
+    let most = repeated(rt.alloc(), b"caller 1 drop a\n", 1000, b"").ok_or("memory")?;
+    assert_eq!(rt; count(rt.alloc(), most.items()), Some(1000));
+    let plans = repeated(rt.alloc(), b"caller 1 plan\n", 64, b"caller 1 drop plan").ok_or(
+        "memory",
+    )?;
+    assert_eq!(rt; count(rt.alloc(), plans.items()), Some(65));
+    let rows: [(&[u8], u32, &[u8], u64, &str); 3] = [
+        (
+            b"caller 1 drop a\n",
+            1000,
+            b"caller 1 drop a",
+            16_028,
+            "limit-commands",
+        ),
+        (b"caller 1 drop a\n", 1000, b"call", 16_028, "token"),
+        (b"caller 1 plan\n", 64, b"caller 1 plan", 933, "limit-plans"),
+    ];
+    for (piece, times, last, at, word) in rows {
+        let body = repeated(rt.alloc(), piece, times, last).ok_or("memory")?;
+        assert_eq!(rt; fault(rt.alloc(), body.items()), Some((at, word)));
+    }
+    let name = repeated(rt.alloc(), b"x", 256, b"").ok_or("memory")?;
+    let set = repeated(rt.alloc(), b"caller 1 set ", 1, name.items()).ok_or("memory")?;
+    assert_eq!(rt; fault(rt.alloc(), set.items()), Some((41, "limit-name")));
+    Ok(())
+}
