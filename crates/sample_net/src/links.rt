@@ -1,4 +1,4 @@
-ghost use Rattle.std.specs.Prelude.{◌≡◌, ◌≤◌, ◌+◌, ◌*◌, [], IfOk, OnOk, length};
+ghost use Rattle.std.specs.Prelude.{◌≡◌, ◌≤◌, ◌*◌, IfOk, OnOk, length};
 ghost use Rattle.sample_net.specs.Draws.{nth_draw, nth_number};
 ghost use Rattle.sample_net.specs.Samples.{sample_link, sample_modules, links_between};
 
