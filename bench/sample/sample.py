@@ -1,0 +1,39 @@
+"""The sample network of a seed, worked out from its definition: sample.py SEED N prints nodes, links and demands."""
+
+import sys
+from itertools import combinations
+
+
+def draws(seed):
+    """The function that draws a number below m."""
+    x = seed
+
+    def draw(m):
+        nonlocal x
+        x = (x * 6364136223846793005 + 1442695040888963407) % 2**64
+        return x // 2**33 % m
+
+    return draw
+
+
+def sample(seed, n):
+    """The ends of the links with the costs of their two modules, and the demands."""
+    draw = draws(seed)
+    ends = [(i, (i + 1) % n) for i in range(n)]
+    ends += [(i, (i + 2 + draw(n - 3)) % n) for i in range(0, n, 2)]
+    links = [(a, b, 20 + draw(80), 50 + draw(200)) for a, b in ends]
+    demands = [(i, j, 1 + draw(40)) for i, j in combinations(range(n), 2)]
+    return links, demands
+
+
+def main():
+    seed, n = int(sys.argv[1]), int(sys.argv[2])
+    links, demands = sample(seed, n)
+    print(f"seed {seed}: nodes {n} links {len(links)} demands {len(demands)}")
+    for e, (a, b, small, large) in enumerate(links):
+        print(f"l{e} n{a} n{b} 155.000 for {small}.000, 622.000 for {large}.000")
+    for k, (a, b, need) in enumerate(demands):
+        print(f"d{k} n{a} n{b} {need}.000")
+
+
+main()

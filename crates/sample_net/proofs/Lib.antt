@@ -1,0 +1,5 @@
+pub mod Naming
+pub mod Sequence
+pub mod Pairs
+pub mod Takes
+pub mod Sound

@@ -1,0 +1,20 @@
+use Rattle.std.proofs.Common.{ap, length, ◌∙◌}
+use Rattle.std.proofs.lemmas.List.FromFn.{length-map-range_with_len}
+use Rattle.sample_net.specs.Samples.{numbered, sample_pairs}
+use Rattle.sample_net.proofs.Pairs.{pairs_count}
+use Rattle.sample_net.proofs.Sound.{are_sample_demands, demands_long, is_sample_network, links_long}
+use Rattle.sample_net.proofs.generator.sample.Goals as goal
+
+pub checked-requires : goal.checked-requires
+checked-requires c =
+    rw (c.in_ok-nodes.ensures, c.in_ok-links.ensures.links, c.new-draws.ensures) (is_sample_network c.args.seed c.args.n c.requires.0 c.requires.1)
+
+pub returns-clause-belong : goal.returns-clause-belong
+returns-clause-belong c = rw (c.in_ok-demands.ensures) (are_sample_demands c.links.new.draws.number c.args.n c.requires.1)
+
+pub returns-clause-counts : goal.returns-clause-counts
+returns-clause-counts c = (
+  ap length (c.checked.ensures.0 ∙ c.in_ok-nodes.ensures) ∙ length-map-range_with_len (numbered 110) 0 c.args.n,
+  ap length (c.checked.ensures.1 ∙ c.in_ok-links.ensures.links) ∙ links_long c.new-draws.result.number c.args.n,
+  ap length c.in_ok-demands.ensures ∙ demands_long c.links.new.draws.number (sample_pairs c.args.n) ∙ pairs_count c.args.n,
+)
