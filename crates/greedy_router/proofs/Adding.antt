@@ -1,5 +1,5 @@
 -- flows of one demand are added to a routing
-use Rattle.std.proofs.Common.{◌≡◌, ◌≢◌, ℕ, zero, suc, ◌+◌, ◌*◌, ◌<◌, ◌≤◌, ◌==◌, ◌++◌, All, Any, AllPairs, Some, if◌then◌else◌, List, [], ◌∷◌, get_or, length, length-append, map, sum_by, slice_get, ⊎_elim, refl, sym, ap, subst, ◌∙◌, arith}
+use Rattle.std.proofs.Common.{◌≡◌, ℕ, ◌+◌, ◌*◌, ◌<◌, ◌≤◌, ◌==◌, ◌++◌, All, Some, if◌then◌else◌, List, [], ◌∷◌, get_or, length, length-append, map, slice_get, ⊎_elim, refl, sym, ap, subst, ◌∙◌, arith}
 use Rattle.std.proofs.lemmas.Bool.{cases_eq}
 use Rattle.std.proofs.lemmas.List.{append_assoc, append-nil, get_or-map, length-map}
 use Rattle.std.proofs.lemmas.List.Elements.{All-append, All-contains, All-nil, All-push, All-weaker}
@@ -136,4 +136,3 @@ module _ (joins : ℕ → ℕ → ℕ → Type 0) (demands : List Demand) (scale
         (All-weaker (λ (x : LinkId). HasSpare nums draft.flows x.0) (λ (x : LinkId). 0 < get_or draft.spares x.0 0) (λ x h. omega (arith, h, r.whole.spares x.0)) es room);
     few = omega (arith, r.whole.few);
   }
-

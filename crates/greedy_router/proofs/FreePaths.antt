@@ -58,8 +58,7 @@ opened g spares a b p None same priced is = λ es q room.
     omega (arith, is, priced.least es q, free_links spares es (recursion_from_All (λ (e : LinkId). 0 < get_or spares e.0 0) es room))
 opened g spares a b p (Some path) same priced is =
     let known = subst (λ n. AllByRecursion (λ (e : LinkId). e.0 < n) p.path) (sym same) (path_links_inside g a b p.path priced.path) in
-    let room = All-from_recursion (λ (e : LinkId). 0 < get_or spares e.0 0) p.path (open_links spares p.path known (omega (arith, priced.total, is.0))) in
-    (
+    let room = All-from_recursion (λ (e : LinkId). 0 < get_or spares e.0 0) p.path (open_links spares p.path known (omega (arith, priced.total, is.0))) in (
       subst (IsPath (Joins g) a b) (sym is.1) priced.path,
       subst (All (λ e. 0 < get_or spares e.0 0)) (sym is.1) room,
     )

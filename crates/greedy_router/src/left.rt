@@ -7,7 +7,9 @@ ghost use Rattle.greedy_router.specs.inner.Drafts.{IsRoutedBelow};
 
 use crate::draft::{Draft, empty_draft};
 use crate::routes::route_demand;
-use net_core::{Caps, Demand, Demands, List, Network, NoMemory, Routing, StateId, States, Surviving};
+use net_core::{
+    Caps, Demand, Demands, List, Network, NoMemory, Routing, StateId, States, Surviving,
+};
 use std::alloc::Global;
 
 /// A routing, and what it leaves of each demand: the need less the demand's flows, over the scale of the capacities.

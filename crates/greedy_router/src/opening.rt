@@ -54,7 +54,15 @@ pub fn open_path(
         (λ path. IsPath (Joins g) from.0 to.0 path × All (λ e. 0 < slice_index spares.now e.0) path)) }
 {
     let prices = full_prices(alloc, spares)?;
-    match priced_path(alloc, graph.net, graph.states, graph.state, &prices, from, to) {
+    match priced_path(
+        alloc,
+        graph.net,
+        graph.states,
+        graph.state,
+        &prices,
+        from,
+        to,
+    ) {
         Ok(priced) => Ok(free_path(priced)),
         Err(PathFault::Apart) => Ok(None),
         Err(PathFault::NoMemory) => Err(NoMemory),

@@ -1,4 +1,4 @@
-use Rattle.std.proofs.Common.{◌≡◌, ◌∙◌, Err, ap, map, subst}
+use Rattle.std.proofs.Common.{◌∙◌, Err, ap, subst}
 use Rattle.net_core.specs.Graphs.{Joins}
 use Rattle.net_core.specs.Views.{graph_of}
 use Rattle.short_paths.specs.PricedPaths.{IsPricedPath}
