@@ -1,0 +1,5 @@
+mod Adding
+mod Differing
+mod FreePaths
+mod Positives
+mod Taking

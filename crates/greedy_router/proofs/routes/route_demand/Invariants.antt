@@ -1,0 +1,14 @@
+use Rattle.std.proofs.Common.{◌+◌}
+use Rattle.net_core.specs.Graphs.{Joins}
+use Rattle.net_core.specs.Views.{graph_of}
+use Rattle.greedy_router.specs.inner.Drafts.{Adds}
+use Rattle.greedy_router.specs.inner.FullLinks.{positives}
+use Rattle.greedy_router.proofs.routes.route_demand.Given as goal
+
+-- flows of the demand have been added
+abbrev pub invariant-loop-alloc : goal.invariant-loop-alloc
+invariant-loop-alloc l = Adds (Joins (graph_of l.graph)) l.k l.d l.initial.draft l.draft
+
+-- links that aren't full, and rests
+abbrev pub decreases-loop-alloc : goal.decreases-loop-alloc
+decreases-loop-alloc l = positives l.draft.spares + positives l.draft.rest

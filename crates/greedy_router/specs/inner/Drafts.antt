@@ -1,0 +1,53 @@
+-- a routing in the making
+use Rattle.std.specs.Prelude.{◌≡◌, ℕ, ◌+◌, ◌*◌, ◌<◌, ◌≤◌, ◌==◌, ◌⊎◌, ◌++◌, if◌then◌else◌, List, [], ◌∷◌, All, Any, Some, length, slice_get, slice_index}
+use Rattle.net_core.specs.declared.demand.Demand.{Demand}
+use Rattle.net_core.specs.declared.ids.LinkId.{LinkId}
+use Rattle.net_core.specs.declared.plan.Flow.{Flow}
+use Rattle.net_core.specs.States.{names_link}
+use Rattle.plan_terms.specs.Flows.{IsFlow, load, sent}
+use Rattle.plan_terms.specs.Paths.{IsPath}
+use Rattle.greedy_router.specs.Blocked.{IsBlocked}
+use Rattle.greedy_router.specs.declared.draft.Draft.{Draft}
+use Rattle.greedy_router.specs.inner.FullLinks.{positives}
+
+-- one flow of demand k more, which ends the demand's rest or fills a link
+pub record Sends (k : ℕ) (path : List LinkId) (old new : Draft) : Type 0 where
+  pub num : ℕ
+  pub positive : 0 < num
+  pub flows : new.flows ≡ old.flows ++ record { demand = k; path = path; num = num } ∷ []
+  pub rests : length new.rest ≡ length old.rest
+  pub links : length new.spares ≡ length old.spares
+  pub rest : (j : ℕ) → slice_index new.rest j + (if k == j then num else 0) ≡ slice_index old.rest j
+  pub spares : (e : ℕ) → slice_index new.spares e + (if names_link e path then num else 0) ≡ slice_index old.spares e
+  pub ends : (slice_index new.rest k ≡ 0) ⊎ Any (λ e. slice_index new.spares e.0 ≡ 0) path
+
+-- a flow of demand k
+pub record IsFlowOf (joins : ℕ → ℕ → ℕ → Type 0) (k : ℕ) (d : Demand) (f : Flow) : Type 0 where
+  pub demand : f.demand ≡ k
+  pub positive : 0 < f.num
+  pub path : IsPath joins d.from.0 d.to.0 f.path
+
+-- flows of demand k more, each of which ends the demand's rest or fills a link
+pub record Adds (joins : ℕ → ℕ → ℕ → Type 0) (k : ℕ) (d : Demand) (old new : Draft) : Type 0 where
+  pub added : List Flow
+  pub flows : new.flows ≡ old.flows ++ added
+  pub each : All (IsFlowOf joins k d) added
+  pub rests : length new.rest ≡ length old.rest
+  pub links : length new.spares ≡ length old.spares
+  pub rest : (j : ℕ) → slice_index new.rest j + sent added j ≡ slice_index old.rest j
+  pub spares : (e : ℕ) → slice_index new.spares e + load added e ≡ slice_index old.spares e
+  pub few : length added + (positives new.spares + positives new.rest) ≤ positives old.spares + positives old.rest
+
+-- flows and rests are the needs, flows and spares the capacities
+pub record IsDraft (joins : ℕ → ℕ → ℕ → Type 0) (demands : List Demand) (scale : ℕ) (nums : List ℕ) (draft : Draft) : Type 0 where
+  pub flows : All (IsFlow joins demands) draft.flows
+  pub rests : length draft.rest ≡ length demands
+  pub links : length draft.spares ≡ length nums
+  pub met : (k : ℕ) (d : Demand) → slice_get demands k ≡ Some d → sent draft.flows k + slice_index draft.rest k ≡ d.need * scale
+  pub spares : (e : ℕ) → load draft.flows e + slice_index draft.spares e ≡ slice_index nums e
+  pub few : length draft.flows + (positives draft.spares + positives draft.rest) ≤ length nums + length demands
+
+-- a draft in which each of the first n demands is blocked or has no rest
+pub record IsRoutedBelow (joins : ℕ → ℕ → ℕ → Type 0) (demands : List Demand) (scale : ℕ) (nums : List ℕ) (n : ℕ) (draft : Draft) : Type 0 where
+  pub whole : IsDraft joins demands scale nums draft
+  pub blocked : (k : ℕ) (d : Demand) → k < n → slice_get demands k ≡ Some d → 0 < slice_index draft.rest k → IsBlocked joins (λ e. 0 < slice_index draft.spares e) d.from.0 d.to.0

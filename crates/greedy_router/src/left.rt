@@ -1,0 +1,71 @@
+ghost use Rattle.std.specs.Prelude.{◌≡◌, ◌+◌, ◌<◌, IfOk, length};
+ghost use Rattle.net_core.specs.Demands.{AreDemands};
+ghost use Rattle.net_core.specs.Graphs.{Joins};
+ghost use Rattle.net_core.specs.Views.{graph, graph_of};
+ghost use Rattle.greedy_router.specs.Left.{IsLeft};
+ghost use Rattle.greedy_router.specs.inner.Drafts.{IsRoutedBelow};
+
+use crate::draft::{Draft, empty_draft};
+use crate::routes::route_demand;
+use net_core::{
+    Caps, Demand, Demands, List, Network, NoMemory, Routing, StateId, States, Surviving,
+};
+use std::alloc::Global;
+
+/// A routing, and what it leaves of each demand: the need less the demand's flows, over the scale of the capacities.
+#[derive(Drop)]
+pub struct Left {
+    pub routing: Routing,
+    /// One number for each demand.
+    pub rest: List<u128>,
+}
+
+/// Routes one demand after another.
+fn route_all(
+    alloc: Global,
+    graph: &Surviving,
+    demands: &[Demand],
+    caps: &Caps,
+) -> Result<Draft, NoMemory>
+    requires demands { AreDemands (length graph.now.net.now.nodes) demands.now }
+    requires caps { length caps.now.nums ≡ length graph.now.net.now.links }
+    ensures { let g = graph_of graph.now in IfOk result (IsRoutedBelow (Joins g) demands.now caps.now.scale caps.now.nums (length demands.now)) }
+{
+    let mut draft = empty_draft(alloc, demands, caps)?;
+    for k in 0..demands.len() {
+        route_demand(alloc, graph, &demands[k], k as u32, &mut draft)?;
+    }
+    Ok(draft)
+}
+
+/// Routes the demands in a state within the capacities, one demand after another, as long as paths have spare capacity.
+///
+/// There is one number for each link. A demand that is left with a rest has no path any more on which each link has spare
+/// capacity, though another routing may carry more. It takes one search of the paths for each flow and for each demand, and
+/// so time in the square of the nodes, times links and demands together.
+///
+/// The triangle AB, BC, AC with 4.00 on each link and a demand of 12.00 from A to C gets two flows, of 4.00 over AC and of
+/// 4.00 over AB and BC, and 4.00 are left.
+pub fn greedy(
+    alloc: Global,
+    net: &Network,
+    states: &States,
+    state: StateId,
+    demands: &Demands,
+    caps: &Caps,
+) -> Result<Left, NoMemory>
+    requires state { state.0 < length states.now.listed + 1 }
+    requires demands { AreDemands (length net.now.nodes) demands.now }
+    requires caps { length caps.now.nums ≡ length net.now.links }
+    ensures { IfOk result (IsLeft (Joins (graph net.now states.now state.0)) demands.now caps.now.scale caps.now.nums) }
+{
+    let graph = Surviving { net, states, state };
+    let draft = route_all(alloc, &graph, demands.items(), caps)?;
+    Ok(Left {
+        routing: Routing {
+            den: 1,
+            flows: draft.flows,
+        },
+        rest: draft.rest,
+    })
+}

@@ -1,0 +1,70 @@
+ghost use Rattle.std.specs.Prelude.{◌≡◌, ℕ, ◌+◌, ◌<◌, All, IfOk, MatchOption, length, map, slice_index};
+ghost use Rattle.net_core.specs.Graphs.{Joins};
+ghost use Rattle.net_core.specs.Views.{graph_of};
+ghost use Rattle.plan_terms.specs.Paths.{IsPath};
+ghost use Rattle.greedy_router.specs.Blocked.{IsBlocked};
+ghost use Rattle.greedy_router.specs.inner.FullLinks.{full_price};
+
+use net_core::{List, NoMemory, NodeId, Path, Surviving};
+use short_paths::{PathFault, PricedPath, priced_path};
+use std::alloc::Global;
+
+/// The price of a link by what is left of its capacity.
+fn price_of(spare: u128) -> u64
+    ensures { result ≡ full_price spare }
+{
+    if spare == 0 { 1 } else { 0 }
+}
+
+/// The price 1 for full links and 0 for the others.
+fn full_prices(alloc: Global, spares: &[u128]) -> Result<List<u64>, NoMemory>
+    ensures { IfOk result (λ prices. prices ≡ map full_price spares.now) }
+{
+    let mut prices = List::from_vec(Vec::with_capacity(alloc, spares.len())?);
+    for spare in spares {
+        prices.push(price_of(*spare))?;
+    }
+    Ok(prices)
+}
+
+/// The path, if it costs nothing.
+fn free_path(priced: PricedPath) -> Option<Path>
+    ensures { MatchOption result (0 < priced.total) (λ path. (priced.total ≡ 0) × (path ≡ priced.path)) }
+{
+    if priced.total == 0 {
+        Some(priced.path)
+    } else {
+        None
+    }
+}
+
+/// A path of links that aren't full, if there is one.
+pub fn open_path(
+    alloc: Global,
+    graph: &Surviving,
+    spares: &[u128],
+    from: NodeId,
+    to: NodeId,
+) -> Result<Option<Path>, NoMemory>
+    requires spares { length spares.now ≡ length graph.now.net.now.links }
+    requires from { from.0 < length graph.now.net.now.nodes }
+    requires to { to.0 < length graph.now.net.now.nodes }
+    ensures { let g = graph_of graph.now in IfOk result (λ found. MatchOption found
+        (IsBlocked (Joins g) (λ e. 0 < slice_index spares.now e) from.0 to.0)
+        (λ path. IsPath (Joins g) from.0 to.0 path × All (λ e. 0 < slice_index spares.now e.0) path)) }
+{
+    let prices = full_prices(alloc, spares)?;
+    match priced_path(
+        alloc,
+        graph.net,
+        graph.states,
+        graph.state,
+        &prices,
+        from,
+        to,
+    ) {
+        Ok(priced) => Ok(free_path(priced)),
+        Err(PathFault::Apart) => Ok(None),
+        Err(PathFault::NoMemory) => Err(NoMemory),
+    }
+}
