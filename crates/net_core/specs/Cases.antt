@@ -14,4 +14,4 @@ pub record Case : Type 0 where
 
 -- the network of the case in state s
 abbrev pub graph_in : Case → ℕ → Graph
-graph_in c s = record { nodes = c.nodes; links = c.links; listed = c.listed; state = s }
+graph_in p s = record { nodes = p.nodes; links = p.links; listed = p.listed; state = s }

@@ -15,8 +15,8 @@ pub record Graph : Type 0 where
 pub record Survives (g : Graph) (e : ℕ) : Type 0 where
   pub link : Link
   pub at : slice_get g.links e ≡ Some link
-  pub served : link.modules ≢ []
-  pub kept : fails g.listed g.state e ≡ false
+  pub has_module : link.modules ≢ []
+  pub unfailed : fails g.listed g.state e ≡ false
 
 -- the ends of the link are x and y, in either order
 abbrev pub HasEnds : Link → ℕ → ℕ → Type 0

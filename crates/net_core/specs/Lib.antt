@@ -5,5 +5,6 @@ pub mod Lists
 pub mod Names
 pub mod Network
 pub mod States
+pub mod Sums
 pub mod Tests
 pub mod Views

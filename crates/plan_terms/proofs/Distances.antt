@@ -35,7 +35,7 @@ distance_back joins turns lengths a b (Some d) h =
     let v = path_back joins turns lengths a b h.0.0 h.0.1 in
     ((v.along, v.path, omega (arith, v.short, h.0.2, least v.along v.path)), least)
 
-leads_alike : (joins others : ℕ → ℕ → ℕ → Type 0) → ((e x y : ℕ) → joins e x y → others e x y) → (a : ℕ) (es : List LinkId) (cs : List ℕ) → Leads joins a es cs → Leads others a es cs
+pub leads_alike : (joins others : ℕ → ℕ → ℕ → Type 0) → ((e x y : ℕ) → joins e x y → others e x y) → (a : ℕ) (es : List LinkId) (cs : List ℕ) → Leads joins a es cs → Leads others a es cs
 leads_alike joins others to a [] [] leads = leads
 leads_alike joins others to a (e ∷ es) (c ∷ cs) leads = (to e.0 a c leads.0, leads_alike joins others to c es cs leads.1)
 leads_alike joins others to a [] (c ∷ cs) leads = absurd leads

@@ -20,7 +20,7 @@ abbrev pub Has : ℕ → List ℕ → Type 0
 Has a [] = ⊥
 Has a (x ∷ xs) = (a ≡ x) ⊎ Has a xs
 
-not_has : (a : ℕ) (xs : List ℕ) → Has a xs → AllByRecursion (λ y. a ≢ y) xs → ⊥
+pub not_has : (a : ℕ) (xs : List ℕ) → Has a xs → AllByRecursion (λ y. a ≢ y) xs → ⊥
 not_has a [] h all = h
 not_has a (x ∷ xs) (inl e) all = all.0 e
 not_has a (x ∷ xs) (inr h) all = not_has a xs h all.1
@@ -62,7 +62,7 @@ module _ (joins : ℕ → ℕ → ℕ → Type 0) (n : ℕ) (inside : (e x y : �
   links_inside a (e ∷ es) [] leads = absurd leads
 
 -- two pairs of ends of one link
-same_ends : (l : Link) (x y p q : ℕ) → HasEnds l x y → HasEnds l p q → (x ≡ p) ⊎ (x ≡ q)
+pub same_ends : (l : Link) (x y p q : ℕ) → HasEnds l x y → HasEnds l p q → (x ≡ p) ⊎ (x ≡ q)
 same_ends l x y p q (inl s) (inl t) = inl (sym s.0 ∙ t.0)
 same_ends l x y p q (inl s) (inr t) = inr (sym s.0 ∙ t.1)
 same_ends l x y p q (inr s) (inl t) = inr (sym s.0 ∙ t.1)
@@ -88,7 +88,7 @@ path_links_known g a b es p =
     All-from_recursion (λ e. e.0 < length g.links) es (path_links_inside g a b es p)
 
 -- a link with the test stands below n where each does
-named_inside : (n e : ℕ) (es : List LinkId) → AllByRecursion (λ x. x.0 < n) es → names_link e es ≡ true → e < n
+pub named_inside : (n e : ℕ) (es : List LinkId) → AllByRecursion (λ x. x.0 < n) es → names_link e es ≡ true → e < n
 named_inside n e [] all named = absurd (false≢true named)
 named_inside n e (x ∷ xs) all named = ⊎_elim
     (λ t. subst (λ i. i < n) (eqb-true x.0 e t) all.0)

@@ -13,7 +13,8 @@ use Rattle.plan_terms.specs.Capacities.{modules_capacity, modules_cost, capaciti
 use Rattle.plan_terms.specs.Bounds.{module_costs, IsBound}
 use Rattle.plan_terms.specs.Certificates.{CertificateLine, IsCut, price, asked, fixed_along, given, raw_value, WeakDuality}
 use Rattle.plan_terms.proofs.Metric.{metric_inequality}
-use Rattle.plan_terms.proofs.Sums.{sum_below, below-same, below-first, below-times, below-swapped, sums-le, sums-same, sums-equal, sums-times}
+use Rattle.net_core.specs.Sums.{sum_below}
+use Rattle.net_core.proofs.Sums.{below-same, below-first, below-times, below-swapped, sums-le, sums-same, sums-equal, sums-times}
 
 -- where no module's price exceeds its cost, counts of modules cost at least the price of their capacity
 modules_priced : (den unit : ℕ) (modules : List Module) (counts : List ℕ) → AllByRecursion (λ m. unit * m.capacity ≤ den * m.cost) modules → unit * modules_capacity modules counts ≤ den * modules_cost modules counts

@@ -31,7 +31,7 @@ joins_one g e x y z j k =
 
 -- the link at place e survives, where it does
 pub survives_from : (g : Graph) (e : ℕ) (l : Link) → e < length g.links → l ≡ get_or g.links e l → l.modules ≢ [] → fails g.listed g.state e ≡ false → Survives g e
-survives_from g e l lt is served kept = record { link = l; at = slice_get_read g.links (length g.links) e l refl lt is; served = served; kept = kept }
+survives_from g e l lt is has_module unfailed = record { link = l; at = slice_get_read g.links (length g.links) e l refl lt is; has_module = has_module; unfailed = unfailed }
 
 -- and it is that of `Survives`
 pub survives_same : (g : Graph) (e : ℕ) (l : Link) → e < length g.links → l ≡ get_or g.links e l → (v : Survives g e) → v.link ≡ l

@@ -8,5 +8,4 @@ pub mod Metric
 pub mod Multipliers
 pub mod OwnBounds
 pub mod Shortcuts
-pub mod Sums
 pub mod Walks

@@ -16,10 +16,11 @@ use Rattle.plan_terms.specs.Flows.{sent, load, IsFlow, Carries}
 use Rattle.net_core.specs.Graphs.{Graph, Joins}
 use Rattle.plan_terms.specs.Paths.{IsPath, IsDistance, length_of}
 use Rattle.plan_terms.proofs.Distinct.{DistinctLinks, path_links_inside, path_links_differ}
-use Rattle.plan_terms.proofs.Sums.{sum_below, below-same, below-le, below-times, below-none, below-plus, below-swapped, below-one, sums-le, sums-same, sums-equal, sums-times, paired}
+use Rattle.net_core.specs.Sums.{sum_below}
+use Rattle.net_core.proofs.Sums.{below-same, below-le, below-times, below-none, below-plus, below-swapped, below-one, sums-le, sums-same, sums-equal, sums-times, paired}
 
 -- what different links sum to, link by link
-links_length : (n : ℕ) (lengths : List ℕ) (es : List LinkId) → DistinctLinks es → AllByRecursion (λ e. e.0 < n) es → sum_below n (λ e. cond (names_link e es) (slice_index lengths e) 0) ≡ length_of lengths es
+pub links_length : (n : ℕ) (lengths : List ℕ) (es : List LinkId) → DistinctLinks es → AllByRecursion (λ e. e.0 < n) es → sum_below n (λ e. cond (names_link e es) (slice_index lengths e) 0) ≡ length_of lengths es
 links_length n lengths [] distinct inside = below-none n
 links_length n lengths (x ∷ xs) distinct inside =
     let each : (e : ℕ) → e < n → cond (eqb x.0 e || names_link e xs) (slice_index lengths e) 0 ≡ cond (eqb x.0 e) (slice_index lengths e) 0 + cond (names_link e xs) (slice_index lengths e) 0 = λ e l.
@@ -36,41 +37,41 @@ links_length n lengths (x ∷ xs) distinct inside =
 abbrev weight : List ℕ → ℕ → Flow → ℕ
 weight lengths e f = f.num * cond (names_link e f.path) (slice_index lengths e) 0
 
-loaded : (lengths : List ℕ) (e : ℕ) (flows : List Flow) → slice_index lengths e * load flows e ≡ sum_by (weight lengths e) flows
+pub loaded : (lengths : List ℕ) (e : ℕ) (flows : List Flow) → slice_index lengths e * load flows e ≡ sum_by (weight lengths e) flows
 loaded lengths e [] = omega arith
 loaded lengths e (f ∷ fs) =
     let one : slice_index lengths e * cond (names_link e f.path) f.num 0 ≡ weight lengths e f = elim (names_link e f.path) as (λ b. slice_index lengths e * cond b f.num 0 ≡ f.num * cond b (slice_index lengths e) 0) [ true ↦ omega arith | false ↦ omega arith ] in
     omega (arith, ap (λ s. slice_index lengths e * s) (sum_by-cons (λ (g : Flow). cond (names_link e g.path) g.num 0) f fs), sum_by-cons (weight lengths e) f fs, one, loaded lengths e fs)
 
-all_loaded : (n : ℕ) (lengths : List ℕ) (flows : List Flow) → sum_below n (λ e. slice_index lengths e * load flows e) ≡ sum_by (λ f. f.num * sum_below n (λ e. cond (names_link e f.path) (slice_index lengths e) 0)) flows
+pub all_loaded : (n : ℕ) (lengths : List ℕ) (flows : List Flow) → sum_below n (λ e. slice_index lengths e * load flows e) ≡ sum_by (λ f. f.num * sum_below n (λ e. cond (names_link e f.path) (slice_index lengths e) 0)) flows
 all_loaded n lengths flows =
     below-same n _ (λ e. sum_by (weight lengths e) flows) (λ e l. loaded lengths e flows)
     ∙ (below-swapped n (weight lengths) flows
     ∙ sums-equal (λ f. sum_below n (λ e. weight lengths e f)) (λ f. f.num * sum_below n (λ e. cond (names_link e f.path) (slice_index lengths e) 0)) flows (λ f. below-times n f.num (λ e. cond (names_link e f.path) (slice_index lengths e) 0)))
 
 -- what a demand's flows carry, times a number of the demand
-carried : (far : ℕ → ℕ) (k : ℕ) (flows : List Flow) → far k * sent flows k ≡ sum_by (λ f. cond (eqb f.demand k) (f.num * far k) 0) flows
+pub carried : (far : ℕ → ℕ) (k : ℕ) (flows : List Flow) → far k * sent flows k ≡ sum_by (λ f. cond (eqb f.demand k) (f.num * far k) 0) flows
 carried far k [] = omega arith
 carried far k (f ∷ fs) =
     let one : far k * cond (eqb f.demand k) f.num 0 ≡ cond (eqb f.demand k) (f.num * far k) 0 = elim (eqb f.demand k) as (λ b. far k * cond b f.num 0 ≡ cond b (f.num * far k) 0) [ true ↦ omega arith | false ↦ omega arith ] in
     omega (arith, ap (λ s. far k * s) (sum_by-cons (λ (g : Flow). cond (eqb g.demand k) g.num 0) f fs), sum_by-cons (λ (g : Flow). cond (eqb g.demand k) (g.num * far k) 0) f fs, one, carried far k fs)
 
-all_carried : (far : ℕ → ℕ) (m : ℕ) (flows : List Flow) → AllByRecursion (λ f. f.demand < m) flows → sum_below m (λ k. far k * sent flows k) ≡ sum_by (λ f. f.num * far f.demand) flows
+pub all_carried : (far : ℕ → ℕ) (m : ℕ) (flows : List Flow) → AllByRecursion (λ f. f.demand < m) flows → sum_below m (λ k. far k * sent flows k) ≡ sum_by (λ f. f.num * far f.demand) flows
 all_carried far m flows inside =
     below-same m _ (λ k. sum_by (λ f. cond (eqb f.demand k) (f.num * far k) 0) flows) (λ k l. carried far k flows)
     ∙ (below-swapped m (λ k (f : Flow). cond (eqb f.demand k) (f.num * far k) 0) flows
     ∙ sums-same (λ f. sum_below m (λ k. cond (eqb f.demand k) (f.num * far k) 0)) (λ f. f.num * far f.demand) (λ f. f.demand < m) flows inside (λ f l. below-one m f.demand (λ k. f.num * far k) l))
 
-all_weaker : {X : Type 0} (P Q : X → Type 0) (xs : List X) → ((x : X) → P x → Q x) → AllByRecursion P xs → AllByRecursion Q xs
+pub all_weaker : {X : Type 0} (P Q : X → Type 0) (xs : List X) → ((x : X) → P x → Q x) → AllByRecursion P xs → AllByRecursion Q xs
 all_weaker P Q [] h all = tt
 all_weaker P Q (x ∷ xs) h all = (h x all.0, all_weaker P Q xs h all.1)
 
 -- no path is shorter than the distance, and apart counts 0
-near : (joins : ℕ → ℕ → ℕ → Type 0) (lengths : List ℕ) (a b : ℕ) (o : Option ℕ) (es : List LinkId) → IsDistance joins lengths a b o → IsPath joins a b es → unwrap_or o 0 ≤ length_of lengths es
+pub near : (joins : ℕ → ℕ → ℕ → Type 0) (lengths : List ℕ) (a b : ℕ) (o : Option ℕ) (es : List LinkId) → IsDistance joins lengths a b o → IsPath joins a b es → unwrap_or o 0 ≤ length_of lengths es
 near joins lengths a b None es distance path = omega arith
 near joins lengths a b (Some d) es distance path = distance.1 es path
 
-some_at : {X : Type 0} (xs : List X) (k : ℕ) (x d : X) → slice_get xs k ≡ Some x → slice_index_or xs k d ≡ x
+pub some_at : {X : Type 0} (xs : List X) (k : ℕ) (x d : X) → slice_get xs k ≡ Some x → slice_index_or xs k d ≡ x
 some_at [] k x d e = cc
 some_at (y ∷ ys) zero x d e = cc e
 some_at (y ∷ ys) (suc k) x d e = some_at ys k x d e

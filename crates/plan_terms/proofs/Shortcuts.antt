@@ -12,13 +12,13 @@ pub record Way (joins : ℕ → ℕ → ℕ → Type 0) (lengths : List ℕ) (a 
   pub path : IsPath joins a b along
   pub short : length_of lengths along ≤ d
 
-has_or_new : (a : ℕ) (xs : List ℕ) → Has a xs ⊎ AllByRecursion (λ y. a ≢ y) xs
+pub has_or_new : (a : ℕ) (xs : List ℕ) → Has a xs ⊎ AllByRecursion (λ y. a ≢ y) xs
 has_or_new a [] = inr tt
 has_or_new a (x ∷ xs) =
     ⊎_elim (λ e. inl (inl e)) (λ ne. ⊎_elim (λ h. inl (inr h)) (λ f. inr (ne, f)) (has_or_new a xs)) (cases_eq a x)
 
 -- the part of a path from one of its nodes on
-tail_from : (joins : ℕ → ℕ → ℕ → Type 0) (lengths : List ℕ) (a b c : ℕ) (es : List LinkId) (cs : List ℕ) → Leads joins c es cs → last_node c cs ≡ b → AreDifferent (c ∷ cs) → Has a (c ∷ cs) → Way joins lengths a b (length_of lengths es)
+pub tail_from : (joins : ℕ → ℕ → ℕ → Type 0) (lengths : List ℕ) (a b c : ℕ) (es : List LinkId) (cs : List ℕ) → Leads joins c es cs → last_node c cs ≡ b → AreDifferent (c ∷ cs) → Has a (c ∷ cs) → Way joins lengths a b (length_of lengths es)
 tail_from joins lengths a b c es cs leads ends different (inl e) =
     subst (λ x. Way joins lengths x b (length_of lengths es)) (sym e) (record { along = es; path = (cs, leads, ends, different); short = omega arith })
 tail_from joins lengths a b c (e ∷ es) (k ∷ cs) leads ends different (inr h) =

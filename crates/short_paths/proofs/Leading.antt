@@ -47,8 +47,8 @@ joins_told g e x y told =
             survives = record {
               link = l;
               at = is;
-              served = λ none. ∥∥₁_elim told (λ u v. absurd u) (λ j. subst (λ (k : Link). k.modules ≢ []) (same j) j.survives.served none);
-              kept = ∥∥₁_elim told (hlevel props) (λ j. j.survives.kept);
+              has_module = λ none. ∥∥₁_elim told (λ u v. absurd u) (λ j. subst (λ (k : Link). k.modules ≢ []) (same j) j.survives.has_module none);
+              unfailed = ∥∥₁_elim told (hlevel props) (λ j. j.survives.unfailed);
             };
             ends = ends_told l x y (∥∥₁_elim told (hlevel props) (λ j. ∣ subst (λ (k : Link). HasEnds k x y) (same j) j.ends ∣₁));
           }

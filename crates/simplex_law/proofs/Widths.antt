@@ -9,7 +9,8 @@ use Rattle.std.proofs.lemmas.Nat.Gcd.{le_of_dvd}
 use Rattle.checked_fraction.specs.Rows.{IsInLowestTerms}
 use Rattle.checked_fraction.specs.Mixed.{combined, IsTooWide, IsFirstWide}
 use Rattle.checked_fraction.specs.declared.wide.WideNumber.{WideNumber}
-use Rattle.simplex_law.specs.Sums.{dot, sum_below, unit_vector, put}
+use Rattle.net_core.specs.Sums.{sum_below}
+use Rattle.simplex_law.specs.Sums.{dot, unit_vector, put}
 use Rattle.simplex_law.specs.Programs.{ColumnOf}
 use Rattle.simplex_law.specs.Bases.{IsRow}
 use Rattle.simplex_law.specs.Evidence.{IsWide, IsRowOf, HoldsRow, HoldsProduct, HoldsSum, HoldsCommon}

@@ -4,7 +4,8 @@ use Rattle.std.specs.Int.{◌∣◌}
 use Rattle.checked_fraction.specs.Rows.{IsInLowestTerms}
 use Rattle.net_core.specs.declared.columns.WideKind.{WideKind}
 use Rattle.net_core.specs.declared.columns.WideKind.TheVariants.{Number, Row, Product, Sum, Common, Value, Length}
-use Rattle.simplex_law.specs.Sums.{dot, unit_vector, sum_below}
+use Rattle.net_core.specs.Sums.{sum_below}
+use Rattle.simplex_law.specs.Sums.{dot, unit_vector}
 use Rattle.simplex_law.specs.Programs.{ColumnOf, slack_basis}
 use Rattle.simplex_law.specs.Bases.{IsBasisRow, AreNames, IsFeasible, IsReached}
 

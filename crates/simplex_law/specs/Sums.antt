@@ -1,15 +1,10 @@
 -- sums of whole numbers, and rows times columns
-use Rattle.std.specs.Prelude.{ℕ, ℤ, zero, suc, pos, ◌+◌, ◌+ℤ◌, ◌*ℤ◌, cond, eqb}
+use Rattle.std.specs.Prelude.{ℕ, ℤ, zero, suc, pos, ◌+ℤ◌, ◌*ℤ◌, cond, eqb}
 
 -- the sum of the first n numbers
 abbrev pub int_sum : ℕ → (ℕ → ℤ) → ℤ
 int_sum zero f = pos 0
 int_sum (suc n) f = int_sum n f +ℤ f n
-
--- the same of natural numbers
-abbrev pub sum_below : ℕ → (ℕ → ℕ) → ℕ
-sum_below zero f = 0
-sum_below (suc n) f = sum_below n f + f n
 
 -- the product of a row with a column of m rows
 abbrev pub dot : ℕ → (ℕ → ℤ) → (ℕ → ℤ) → ℤ
