@@ -1,0 +1,42 @@
+-- evidence that a number of a routing program is too wide
+use Rattle.std.specs.Prelude.{ℕ, ℤ, ◌^◌, ◌≤◌, ◌*ℤ◌, ◌<ℤ◌, List, pos, length, slice_index}
+use Rattle.net_core.specs.declared.columns.RouteColumn.{RouteColumn}
+use Rattle.net_core.specs.declared.columns.WideKind.{WideKind}
+use Rattle.net_core.specs.declared.columns.WideKind.TheVariants.{Number, Row, Product, Sum, Common, Value, Length}
+use Rattle.net_core.specs.declared.demand.Demand.{Demand}
+use Rattle.net_core.specs.declared.plan.Caps.{Caps}
+use Rattle.net_core.specs.Graphs.{Graph}
+use Rattle.simplex_law.specs.Sums.{dot}
+use Rattle.simplex_law.specs.Programs.{ColumnOf}
+use Rattle.simplex_law.specs.Bases.{IsBest}
+use Rattle.simplex_law.specs.Evidence.{HoldsKind, IsReachedEvidence}
+use Rattle.route_law.specs.PricedLengths.{AreLinkPrices}
+use Rattle.route_law.specs.RoutingPrograms.{total_need, route_rows, route_bound, route_slack, IsRouteColumn}
+
+module _ (g : Graph) (demands : List Demand) (caps : Caps) where
+  -- no column gains, the value is below what the demands need, and the price of link e is 2^32 or more as a whole number
+  pub record HasWideLength (basis : ℕ → ColumnOf RouteColumn) (e : ℕ) : Type 0 where
+    pub duals : ℕ → ℤ
+    pub den : ℤ
+    pub best : IsBest (route_rows g demands) (route_bound g demands caps) (IsRouteColumn g demands) basis duals den
+    pub below : dot (route_rows g demands) duals (route_bound g demands caps) <ℤ (den *ℤ pos (total_need demands caps))
+    pub lengths : List ℕ
+    pub prices : AreLinkPrices (length g.links) duals lengths
+    pub wide : 2 ^ 32 ≤ slice_index lengths e
+
+  abbrev HoldsOfProgram : (ℕ → ColumnOf RouteColumn) → WideKind RouteColumn → Type 0
+  HoldsOfProgram = HoldsKind (route_rows g demands) (route_bound g demands caps) (route_slack g) (IsRouteColumn g demands)
+
+  -- a kind holds of a basis that routes: as of each packing program, and Length where a link price is too wide
+  abbrev pub HoldsOfRoute : (ℕ → ColumnOf RouteColumn) → WideKind RouteColumn → Type 0
+  HoldsOfRoute basis (Number name) = HoldsOfProgram basis (Number name)
+  HoldsOfRoute basis (Row i) = HoldsOfProgram basis (Row i)
+  HoldsOfRoute basis (Product i name) = HoldsOfProgram basis (Product i name)
+  HoldsOfRoute basis (Sum i) = HoldsOfProgram basis (Sum i)
+  HoldsOfRoute basis Common = HoldsOfProgram basis Common
+  HoldsOfRoute basis Value = ⊥
+  HoldsOfRoute basis (Length link) = HasWideLength basis link.0
+
+  -- evidence of the routing program that holds, of a basis that gaining steps reach
+  abbrev pub IsRouteEvidence : List RouteColumn → WideKind RouteColumn → Type 0
+  IsRouteEvidence = IsReachedEvidence (route_rows g demands) (route_bound g demands caps) (route_slack g) (IsRouteColumn g demands) HoldsOfRoute
