@@ -1,0 +1,4 @@
+pub mod Parts
+pub mod Items
+pub mod Forms
+pub mod Texts
