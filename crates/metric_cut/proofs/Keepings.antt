@@ -166,7 +166,7 @@ kept_have_bound g lengths kept = record {
       (positive_or_zero lengths);
   served = λ e l at some.
       let survives = kept.zero e some in
-      subst (λ (x : Link). x.modules ≢ []) (same_link e l survives.link at survives.at) survives.served;
+      subst (λ (x : Link). x.modules ≢ []) (same_link e l survives.link at survives.at) survives.has_module;
 }
   where
     same_link : (e : ℕ) (a b : Link) → slice_get g.links e ≡ Some a → slice_get g.links e ≡ Some b → b ≡ a

@@ -132,7 +132,7 @@ peak_none (r ∷ rs) e none = omega (arith, none 0 r refl, peak_none rs e (λ s 
 pub unserved : (p : Case) (lengths : List ℕ) (n : ℕ) (rs : List Routing) (peaks : List ℕ) → AreRouted p lengths n rs peaks → (e : ℕ) (l : Link) → slice_get p.links e ≡ Some l → l.modules ≡ [] → get_or peaks e 0 ≡ 0
 unserved p lengths n rs peaks routed e l at none =
     routed.greatest e (slice_get_within p.links e l at)
-    ∙ peak_none rs e (λ s r is. load_none (graph_in p s) p.demands r.flows e (least_flows (Joins (graph_in p s)) lengths p.demands r (routed.routed s r is)) (λ v. let one : v.link ≡ l = cc (v.at, at) in v.served (ap (λ (x : Link). x.modules) one ∙ none)))
+    ∙ peak_none rs e (λ s r is. load_none (graph_in p s) p.demands r.flows e (least_flows (Joins (graph_in p s)) lengths p.demands r (routed.routed s r is)) (λ v. let one : v.link ≡ l = cc (v.at, at) in v.has_module (ap (λ (x : Link). x.modules) one ∙ none)))
 
 -- the counts cover the greatest loads themselves
 peaks_covered : (links : List Link) (rs : List Routing) (peaks : List ℕ) (counts : List (List ℕ)) → ((e : ℕ) → e < length links → get_or peaks e 0 ≡ peak rs e) → CoverLoads links (slice_index peaks) counts → CoverLoads links (peak rs) counts
