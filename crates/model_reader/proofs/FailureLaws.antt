@@ -18,7 +18,7 @@ use Rattle.snd_tokens.specs.Header.{first_line, trimmed}
 use Rattle.snd_tokens.specs.Lexemes.{Text, EndAt}
 use Rattle.text_kit.specs.Answers.{AnswersAs, ReadsAllAs}
 use Rattle.text_kit.specs.Files.{IsNotTooEarly, body}
-use Rattle.text_kit.specs.Items.{AreBehind, Item, Named, Opening, Closing}
+use Rattle.text_kit.specs.Items.{AreBehind, Item, Verbatim, Opening, Closing}
 use Rattle.text_kit.specs.Reading.{word_at, Parenthesis, no_fault, not_empty, sound}
 use Rattle.text_kit.specs.declared.refusal.Refusal.{Refusal}
 use Rattle.text_kit.proofs.Behind.{all_behind, behind_all, behind_as, behind_both, behind_differ, differ_behind}
@@ -126,21 +126,21 @@ are_behind links listed h =
 
 -- ---- the law
 
-link_lawful : (links : List Link) → AreDifferent links → Lawful (word_at Token Ended (link_of links)) (λ e. Named (link_name links e) ∷ []) (IsLinkIn links) AnyText
-link_lawful links pairs = lawful_word Token Ended (link_of links) (λ e. Named (link_name links e)) (IsLinkIn links) (λ e. tt) (link_takes links) (λ w e is same. link_again links pairs w e is same)
+link_lawful : (links : List Link) → AreDifferent links → Lawful (word_at Token Ended (link_of links)) (λ e. Verbatim (link_name links e) ∷ []) (IsLinkIn links) AnyText
+link_lawful links pairs = lawful_word Token Ended (link_of links) (λ e. Verbatim (link_name links e)) (IsLinkIn links) (λ e. tt) (link_takes links) (λ w e is same. link_again links pairs w e is same)
 
-name_lawful : (sofar : List Listed) → Lawful (word_at Token Ended (λ w. sound w (name_fault sofar w))) (λ n. Named n ∷ []) (IsNameBehind sofar) AnyText
-name_lawful sofar = lawful_word Token Ended (λ w. sound w (name_fault sofar w)) (λ n. Named n) (IsNameBehind sofar) (λ n. tt) (name_takes sofar) (λ w n is same. name_again sofar w n is same)
+name_lawful : (sofar : List Listed) → Lawful (word_at Token Ended (λ w. sound w (name_fault sofar w))) (λ n. Verbatim n ∷ []) (IsNameBehind sofar) AnyText
+name_lawful sofar = lawful_word Token Ended (λ w. sound w (name_fault sofar w)) (λ n. Verbatim n) (IsNameBehind sofar) (λ n. tt) (name_takes sofar) (λ w n is same. name_again sofar w n is same)
 
 state_lawful : (links : List Link) → AreDifferent links → (sofar : List Listed) → Lawful (state_at links sofar) (state_items links) (IsStateBehind links sofar) AnyText
 unfolding state_at
 state_lawful links pairs sofar = lawful_as (state_at links sofar) _ (state_items links) _ (IsStateBehind links sofar) AnyText
-    (λ s h. ap (λ (is : List Item). Named s.name ∷ Opening ∷ is) (append-nil (flat_map (λ e. Named (link_name links e) ∷ []) s.links ++ Closing ∷ [])))
+    (λ s h. ap (λ (is : List Item). Verbatim s.name ∷ Opening ∷ is) (append-nil (flat_map (λ e. Verbatim (link_name links e) ∷ []) s.links ++ Closing ∷ [])))
     (λ s h. (h.0, h.1.1.0))
     (λ s h. (h.0, (tt, (h.1, refl))))
     (lawful_then _ _ _ _ _ _ AnyText (λ s. s.name) (λ a s h. ap (λ (x : Listed). x.name) h.1.1) (name_lawful sofar) (λ name.
     lawful_then _ _ _ _ _ _ AnyText (λ s. tt) (λ a s h. refl) (lawful_open Token Ended) (λ a.
-    lawful_then _ _ _ _ _ _ AnyText (λ s. s.links) (λ a s h. ap (λ (x : Listed). x.links) h) (lawful_some Token (λ before. word_at Token Ended (link_of links)) (λ e. Named (link_name links e) ∷ []) (λ before e. IsLinkIn links e) (λ e. tt) (λ before. link_lawful links pairs)) (λ failing.
+    lawful_then _ _ _ _ _ _ AnyText (λ s. s.links) (λ a s h. ap (λ (x : Listed). x.links) h) (lawful_some Token (λ before. word_at Token Ended (link_of links)) (λ e. Verbatim (link_name links e) ∷ []) (λ before e. IsLinkIn links e) (λ e. tt) (λ before. link_lawful links pairs)) (λ failing.
     lawful_give (record { name = name; links = failing })))))
 
 states_lawful : (links : List Link) → AreDifferent links → Lawful (states_at links []) (λ xs. flat_map (state_items links) xs ++ Closing ∷ []) (λ xs. AreStates (length links) xs × All (IsShort links) xs) AnyText
@@ -175,8 +175,8 @@ word_again : (x : Bool) → is_list (word_for x) ≡ Ok x
 word_again true = refl
 word_again false = refl
 
-first_lawful : Lawful (word_at Section Ended is_list) (λ x. Named (word_for x) ∷ []) (λ x. Unit {0}) AnyText
-first_lawful = lawful_word Section Ended is_list (λ x. Named (word_for x)) (λ x. Unit {0}) (λ x. tt)
+first_lawful : Lawful (word_at Section Ended is_list) (λ x. Verbatim (word_for x) ∷ []) (λ x. Unit {0}) AnyText
+first_lawful = lawful_word Section Ended is_list (λ x. Verbatim (word_for x)) (λ x. Unit {0}) (λ x. tt)
     (λ w x e. (tt, word_if w (are_same w (codes "FAILURES")) (are_same w (codes "ALL_SINGLE_LINKS")) x refl refl e))
     (λ w x is same. ap is_list same ∙ word_again x)
 
@@ -211,7 +211,7 @@ behind_lawful links pairs true = lawful_as (behind_word links true) _ (items_beh
 behind_lawful links pairs false = lawful_as (behind_word links false) _ (items_behind links) _ (IsOf links false) AnyText
     (λ l e. ap (items_behind links) e) (λ l e. subst (λ (x : FailureList). IsOf links false x) e (refl, tt)) (form_alone links) (lawful_give EachAlone)
 
-all_items : (links : List Link) (l : FailureList) → Named (word_for (is_one_by_one l)) ∷ items_behind links l ≡ list_items links l
+all_items : (links : List Link) (l : FailureList) → Verbatim (word_for (is_one_by_one l)) ∷ items_behind links l ≡ list_items links l
 all_items links (OneByOne listed) = refl
 all_items links EachAlone = refl
 

@@ -6,8 +6,8 @@ use Rattle.snd_tokens.specs.Header.{first_line, trimmed}
 use Rattle.snd_tokens.specs.Lexemes.{Text, EndAt}
 use Rattle.text_kit.specs.Answers.{AnswersAs, ReadsAllAs}
 use Rattle.text_kit.specs.Files.{IsNotTooEarly, body}
-use Rattle.text_kit.specs.Items.{Named}
-use Rattle.text_kit.specs.Reading.{word_at, key, TheEnd}
+use Rattle.text_kit.specs.Items.{Verbatim}
+use Rattle.text_kit.specs.Reading.{word_at, expected, TheEnd}
 use Rattle.text_kit.specs.declared.refusal.Refusal.{Refusal}
 use Rattle.text_kit.proofs.Files.{answer_found, answer_only, answer_first, file_read}
 use Rattle.text_kit.proofs.Lawful.{AnyText, IsEnd, Lawful, lawful_as, lawful_key, lawful_list, lawful_then, lawful_word}
@@ -21,11 +21,11 @@ use Rattle.model_reader.specs.Models.{IsEachOnce, SpellsModel, model_header, key
 use Rattle.model_reader.specs.ModelReading.{has_key, key_behind, missing, model_of, setting_at, settings_at, value_of}
 use Rattle.model_reader.proofs.ModelKeys.{complete, each_once, key_behind_again, key_takes, value_again, value_takes}
 
-key_lawful : (sofar : List Setting) → Lawful (word_at Token Ended (key_behind sofar)) (λ k. Named (key_word k) ∷ []) (λ k. has_key sofar k ≡ false) AnyText
-key_lawful sofar = lawful_word Token Ended (key_behind sofar) (λ k. Named (key_word k)) (λ k. has_key sofar k ≡ false) (λ k. tt) (key_takes sofar) (λ w k new is. key_behind_again sofar w k new is)
+key_lawful : (sofar : List Setting) → Lawful (word_at Token Ended (key_behind sofar)) (λ k. Verbatim (key_word k) ∷ []) (λ k. has_key sofar k ≡ false) AnyText
+key_lawful sofar = lawful_word Token Ended (key_behind sofar) (λ k. Verbatim (key_word k)) (λ k. has_key sofar k ≡ false) (λ k. tt) (key_takes sofar) (λ w k new is. key_behind_again sofar w k new is)
 
-value_lawful : (k : ModelKey) → Lawful (word_at Token Ended (value_of k)) (λ s. Named (value_word s) ∷ []) (λ s. k ≡ key_of s) AnyText
-value_lawful k = lawful_word Token Ended (value_of k) (λ s. Named (value_word s)) (λ s. k ≡ key_of s) (λ s. tt) (value_takes k) (λ w s is value. value_again k w s is value)
+value_lawful : (k : ModelKey) → Lawful (word_at Token Ended (value_of k)) (λ s. Verbatim (value_word s) ∷ []) (λ s. k ≡ key_of s) AnyText
+value_lawful k = lawful_word Token Ended (value_of k) (λ s. Verbatim (value_word s)) (λ s. k ≡ key_of s) (λ s. tt) (value_takes k) (λ w s is value. value_again k w s is value)
 
 setting_lawful : (sofar : List Setting) → Lawful (setting_at sofar) setting_items (λ s. has_key sofar (key_of s) ≡ false) AnyText
 unfolding setting_at
@@ -42,7 +42,7 @@ setting_online : (sofar : List Setting) → IsOnline (setting_at sofar)
 unfolding setting_at
 setting_online sofar =
     online_then _ _ (online_word Token Ended (key_behind sofar)) (λ k.
-    online_then _ _ (online_word Token Ended (key Token (codes "="))) (λ a.
+    online_then _ _ (online_word Token Ended (expected Token (codes "="))) (λ a.
     online_word Token Ended (value_of k)))
 
 pub setting_some : (sofar : List Setting) → TakesSome (setting_at sofar)

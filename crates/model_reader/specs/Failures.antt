@@ -8,7 +8,7 @@ use Rattle.net_core.specs.States.{AreStates}
 use Rattle.model_reader.specs.declared.failures.FailureList.{FailureList}
 use Rattle.model_reader.specs.declared.failures.FailureList.TheVariants.{OneByOne, EachAlone}
 use Rattle.text_kit.specs.Files.{SpellsAs}
-use Rattle.text_kit.specs.Items.{Item, Named, Opening, Closing}
+use Rattle.text_kit.specs.Items.{Item, Verbatim, Opening, Closing}
 
 -- the first line of a failure list
 abbrev pub failures_header : List ℕ
@@ -38,12 +38,12 @@ states_of links EachAlone = single_states links
 
 -- a state's name, and its links between parentheses
 abbrev pub state_items : List Link → Listed → List Item
-state_items links s = Named s.name ∷ Opening ∷ (flat_map (λ e. Named (link_name links e) ∷ []) s.links ++ Closing ∷ [])
+state_items links s = Verbatim s.name ∷ Opening ∷ (flat_map (λ e. Verbatim (link_name links e) ∷ []) s.links ++ Closing ∷ [])
 
 -- all states between parentheses, or one word
 abbrev pub list_items : List Link → FailureList → List Item
-list_items links (OneByOne listed) = Named (codes "FAILURES") ∷ Opening ∷ (flat_map (state_items links) listed ++ Closing ∷ [])
-list_items links EachAlone = Named (codes "ALL_SINGLE_LINKS") ∷ []
+list_items links (OneByOne listed) = Verbatim (codes "FAILURES") ∷ Opening ∷ (flat_map (state_items links) listed ++ Closing ∷ [])
+list_items links EachAlone = Verbatim (codes "ALL_SINGLE_LINKS") ∷ []
 
 -- a state's name and those of its links have at most 255 bytes
 abbrev pub IsShort : List Link → Listed → Type 0

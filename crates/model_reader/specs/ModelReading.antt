@@ -2,7 +2,7 @@
 use Rattle.std.specs.Prelude.{ℕ, Bool, cond, not, ◌&&◌, if◌then◌else◌, List, [], ◌∷◌, Option, Some, None, Result, Ok, Err, codes}
 use Rattle.net_core.specs.Tests.{are_same, is_named}
 use Rattle.text_kit.specs.Files.{file_at}
-use Rattle.text_kit.specs.Reading.{Read, Reading, ◌>>=◌, word_at, key, TheEnd, list_at, mapped}
+use Rattle.text_kit.specs.Reading.{Read, Reading, ◌>>=◌, word_at, expected, TheEnd, list_at, mapped}
 use Rattle.model_reader.specs.declared.model.Model.{Model}
 use Rattle.model_reader.specs.declared.model.ModelKey.{ModelKey}
 use Rattle.model_reader.specs.declared.model.ModelKey.TheVariants as aspects
@@ -45,7 +45,7 @@ value_of k w =
 unfoldable pub setting_at : List Setting → Reading ModelKind Setting
 setting_at sofar = do
   k ← word_at kinds.Token kinds.Ended (key_behind sofar)
-  _ ← word_at kinds.Token kinds.Ended (key kinds.Token (codes "="))
+  _ ← word_at kinds.Token kinds.Ended (expected kinds.Token (codes "="))
   word_at kinds.Token kinds.Ended (value_of k)
 
 -- the first key that is missing at the end

@@ -2,7 +2,7 @@
 use Rattle.std.specs.Prelude.{◌≡◌, ◌≢◌, ℕ, Bool, true, false, List, [], ◌∷◌, AllPairs, Any, flat_map, codes}
 use Rattle.std.specs.List.{list_any}
 use Rattle.text_kit.specs.Files.{SpellsAs}
-use Rattle.text_kit.specs.Items.{Item, Named}
+use Rattle.text_kit.specs.Items.{Item, Verbatim}
 use Rattle.model_reader.specs.declared.model.Model.{Model}
 use Rattle.model_reader.specs.declared.model.ModelKey.{ModelKey}
 use Rattle.model_reader.specs.declared.model.ModelKey.TheVariants.{Demand, Link, LinkCapacity, FixedCharge, Routing, AdmissiblePath, HopLimit, Survivability}
@@ -50,7 +50,7 @@ value_word Reconfiguration = reconfiguration_word
 
 -- a key and its value
 abbrev pub setting_items : Setting → List Item
-setting_items s = Named (key_word (key_of s)) ∷ Named (codes "=") ∷ Named (value_word s) ∷ []
+setting_items s = Verbatim (key_word (key_of s)) ∷ Verbatim (codes "=") ∷ Verbatim (value_word s) ∷ []
 
 -- each key stands once
 pub record IsEachOnce (settings : List Setting) : Type 0 where

@@ -1,7 +1,7 @@
 ghost use Rattle.std.specs.Prelude.{◌≡◌, ◌≤◌, ◌<◌, [], length, IsTrue, IfOk, Ok};
 ghost use Rattle.net_core.specs.Tests.{is_named};
 ghost use Rattle.snd_tokens.specs.Lexemes.{EndAt, left, size};
-ghost use Rattle.text_kit.specs.Answers.{ReadsAs, TakesTurn};
+ghost use Rattle.text_kit.specs.Answers.{ReadsAs, TakesElement};
 ghost use Rattle.text_kit.specs.Reading.{placed, sound, word_at};
 ghost use Rattle.model_reader.specs.FailuresReading.{link_of, link_place, links_at, name_fault, state_at, states_at};
 
@@ -57,7 +57,7 @@ fn take_link(
     text: &mut Cursor,
 ) -> Result<bool, FailuresRefusal>
     requires { length links.now ≤ 256 }
-    ensures turn { TakesTurn result (links_at links.now all.old (left text.old)) (links_at links.now all.new (left text.new)) (Ok (all.new, left text.new)) }
+    ensures turn { TakesElement result (links_at links.now all.old (left text.old)) (links_at links.now all.new (left text.new)) (Ok (all.new, left text.new)) }
     ensures shorter { IfOk result (λ more. IsTrue more → size (left text.new) < size (left text.old)) }
 {
     if let Some(at) = closes(text) {
@@ -157,7 +157,7 @@ fn take_state(
     text: &mut Cursor,
 ) -> Result<bool, FailuresRefusal>
     requires { length links.now ≤ 256 }
-    ensures turn { TakesTurn result (states_at links.now all.old (left text.old)) (states_at links.now all.new (left text.new)) (Ok (all.new, left text.new)) }
+    ensures turn { TakesElement result (states_at links.now all.old (left text.old)) (states_at links.now all.new (left text.new)) (Ok (all.new, left text.new)) }
     ensures shorter { IfOk result (λ more. IsTrue more → size (left text.new) < size (left text.old)) }
 {
     if let Some(_) = closes(text) {

@@ -2,7 +2,7 @@ ghost use Rattle.std.specs.Prelude.{◌≡◌, ◌<◌, [], IsTrue, IfOk, IfErr,
 ghost use Rattle.std.specs.List.{list_any};
 ghost use Rattle.net_core.specs.Tests.{are_same};
 ghost use Rattle.snd_tokens.specs.Lexemes.{left, size};
-ghost use Rattle.text_kit.specs.Answers.{AnswersAs, ReadsAllAs, ReadsAs, TakesTurn};
+ghost use Rattle.text_kit.specs.Answers.{AnswersAs, ReadsAllAs, ReadsAs, TakesElement};
 ghost use Rattle.text_kit.specs.Files.{IsNotTooEarly};
 ghost use Rattle.text_kit.specs.Reading.{word_at};
 ghost use Rattle.model_reader.specs.declared.model.Model.{Model as Mod};
@@ -195,7 +195,7 @@ fn missing(settings: &[Setting]) -> Option<ModelKind>
 
 /// Takes one setting more, and says whether there was one.
 fn take_setting(all: &mut List<Setting>, text: &mut Cursor) -> Result<bool, ModelRefusal>
-    ensures turn { TakesTurn result (settings_at all.old (left text.old)) (settings_at all.new (left text.new)) (Ok (all.new, left text.new)) }
+    ensures turn { TakesElement result (settings_at all.old (left text.old)) (settings_at all.new (left text.new)) (Ok (all.new, left text.new)) }
     ensures shorter { IfOk result (λ more. IsTrue more → size (left text.new) < size (left text.old)) }
 {
     if let Some(at) = ends(text) {

@@ -8,7 +8,7 @@ use Rattle.snd_tokens.specs.Header.{first_line, trimmed}
 use Rattle.snd_tokens.specs.Lexemes.{Text, EndAt}
 use Rattle.text_kit.specs.Answers.{AnswersAs, ReadsAllAs}
 use Rattle.text_kit.specs.Files.{IsNotTooEarly, body}
-use Rattle.text_kit.specs.Items.{AreBehind, Item, Named, Whole, Money, Opening, Closing}
+use Rattle.text_kit.specs.Items.{AreBehind, Item, Verbatim, Whole, Money, Opening, Closing}
 use Rattle.text_kit.specs.Reading.{word_at, TheEnd, no_fault}
 use Rattle.text_kit.specs.declared.refusal.Refusal.{Refusal}
 use Rattle.text_kit.proofs.Behind.{all_behind, behind_all, behind_as, behind_both}
@@ -29,17 +29,17 @@ use Rattle.session_script.proofs.ScriptWords.{HasRoom, IsCallerNumber, begun_aga
 
 -- ---- words
 
-begun_lawful : (sofar : List Command) → Lawful (word_at Token Ended (begun_command sofar)) (λ x. Named (codes "caller") ∷ []) (λ x. length sofar < 1000) AnyText
-begun_lawful sofar = lawful_word Token Ended (begun_command sofar) (λ x. Named (codes "caller")) (λ x. length sofar < 1000) (λ x. tt) (begun_takes sofar) (begun_again sofar)
+begun_lawful : (sofar : List Command) → Lawful (word_at Token Ended (begun_command sofar)) (λ x. Verbatim (codes "caller") ∷ []) (λ x. length sofar < 1000) AnyText
+begun_lawful sofar = lawful_word Token Ended (begun_command sofar) (λ x. Verbatim (codes "caller")) (λ x. length sofar < 1000) (λ x. tt) (begun_takes sofar) (begun_again sofar)
 
 caller_lawful : Lawful (word_at Token Ended caller_of) (λ n. Whole n ∷ []) IsCallerNumber AnyText
 caller_lawful = lawful_word Token Ended caller_of (λ n. Whole n) IsCallerNumber (λ n. tt) caller_takes (λ w n is same. caller_again w n is same)
 
-verb_lawful : (sofar : List Command) → Lawful (word_at Token Ended (verb_behind sofar)) (λ v. Named (verb_word v) ∷ []) (HasRoom sofar) AnyText
-verb_lawful sofar = lawful_word Token Ended (verb_behind sofar) (λ v. Named (verb_word v)) (HasRoom sofar) (λ v. tt) (verb_takes sofar) (verb_again sofar)
+verb_lawful : (sofar : List Command) → Lawful (word_at Token Ended (verb_behind sofar)) (λ v. Verbatim (verb_word v) ∷ []) (HasRoom sofar) AnyText
+verb_lawful sofar = lawful_word Token Ended (verb_behind sofar) (λ v. Verbatim (verb_word v)) (HasRoom sofar) (λ v. tt) (verb_takes sofar) (verb_again sofar)
 
-name_lawful : Lawful (word_at Token Ended name_in_script) (λ n. Named n ∷ []) (λ n. length n ≤ 255) AnyText
-name_lawful = lawful_word Token Ended name_in_script (λ n. Named n) (λ n. length n ≤ 255) (λ n. tt) name_takes name_again
+name_lawful : Lawful (word_at Token Ended name_in_script) (λ n. Verbatim n ∷ []) (λ n. length n ≤ 255) AnyText
+name_lawful = lawful_word Token Ended name_in_script (λ n. Verbatim n) (λ n. length n ≤ 255) (λ n. tt) name_takes name_again
 
 need_lawful : Lawful (word_at Token Ended need_in_script) (λ n. Money n ∷ []) (λ n. n < 2 ^ 40) AnyText
 need_lawful = lawful_word Token Ended need_in_script (λ n. Money n) (λ n. n < 2 ^ 40) (λ n. tt) need_takes (λ w n is same. need_again w n is same)
@@ -54,12 +54,12 @@ verb_for (Change (edits.Drop name)) = verbs.Drop
 verb_for Plan = verbs.Plan
 
 abbrev items_behind : Act → List Item
-items_behind (Change (edits.Set name need)) = Named name ∷ Money need ∷ []
-items_behind (Change (edits.Add name from to need)) = Named name ∷ Opening ∷ Named from ∷ Named to ∷ Closing ∷ Money need ∷ []
-items_behind (Change (edits.Drop name)) = Named name ∷ []
+items_behind (Change (edits.Set name need)) = Verbatim name ∷ Money need ∷ []
+items_behind (Change (edits.Add name from to need)) = Verbatim name ∷ Opening ∷ Verbatim from ∷ Verbatim to ∷ Closing ∷ Money need ∷ []
+items_behind (Change (edits.Drop name)) = Verbatim name ∷ []
 items_behind Plan = []
 
-all_items : (a : Act) → Named (verb_word (verb_for a)) ∷ items_behind a ≡ act_items a
+all_items : (a : Act) → Verbatim (verb_word (verb_for a)) ∷ items_behind a ≡ act_items a
 all_items (Change (edits.Set name need)) = refl
 all_items (Change (edits.Add name from to need)) = refl
 all_items (Change (edits.Drop name)) = refl
@@ -160,7 +160,7 @@ IsCommandBehind sofar c = (length sofar < 1000) × (IsCallerNumber c.caller × (
 command_lawful : (sofar : List Command) → Lawful (command_at sofar) command_items (IsCommandBehind sofar) AnyText
 unfolding command_at
 command_lawful sofar = lawful_as (command_at sofar) _ command_items _ (IsCommandBehind sofar) AnyText
-    (λ c h. ap (λ (is : List Item). Named (codes "caller") ∷ Whole c.caller ∷ is) (ap (λ (is : List Item). Named (verb_word (verb_for c.act)) ∷ is) (append-nil (items_behind c.act)) ∙ all_items c.act))
+    (λ c h. ap (λ (is : List Item). Verbatim (codes "caller") ∷ Whole c.caller ∷ is) (ap (λ (is : List Item). Verbatim (verb_word (verb_for c.act)) ∷ is) (append-nil (items_behind c.act)) ∙ all_items c.act))
     (λ c h. (h.0, (h.1.0, (h.1.1.0, h.1.1.1.0.1))))
     (λ c h. (h.0, (h.1.0, (h.1.1.0, ((refl, h.1.1.1), refl)))))
     (lawful_then _ _ _ _ _ _ AnyText (λ c. tt) (λ x c h. refl) (begun_lawful sofar) (λ x.

@@ -3,7 +3,7 @@ use Rattle.std.specs.Prelude.{ℕ, ◌≤◌, ◌<◌, ◌^◌, Bool, true, fals
 use Rattle.net_core.specs.declared.journal.Edit.{Edit}
 use Rattle.net_core.specs.declared.journal.Edit.TheVariants as edits
 use Rattle.text_kit.specs.Files.{SpellsAs}
-use Rattle.text_kit.specs.Items.{Item, Named, Whole, Money, Opening, Closing}
+use Rattle.text_kit.specs.Items.{Item, Verbatim, Whole, Money, Opening, Closing}
 use Rattle.session_script.specs.declared.script.Act.{Act}
 use Rattle.session_script.specs.declared.script.Act.TheVariants.{Change, Plan}
 use Rattle.session_script.specs.declared.script.Command.{Command}
@@ -23,18 +23,18 @@ is_plan c = asks_plan c.act
 
 -- an edit: its word, its name, the two nodes of a new demand between parentheses, and its need
 abbrev pub edit_items : Edit → List Item
-edit_items (edits.Set name need) = Named (codes "set") ∷ Named name ∷ Money need ∷ []
-edit_items (edits.Add name from to need) = Named (codes "add") ∷ Named name ∷ Opening ∷ Named from ∷ Named to ∷ Closing ∷ Money need ∷ []
-edit_items (edits.Drop name) = Named (codes "drop") ∷ Named name ∷ []
+edit_items (edits.Set name need) = Verbatim (codes "set") ∷ Verbatim name ∷ Money need ∷ []
+edit_items (edits.Add name from to need) = Verbatim (codes "add") ∷ Verbatim name ∷ Opening ∷ Verbatim from ∷ Verbatim to ∷ Closing ∷ Money need ∷ []
+edit_items (edits.Drop name) = Verbatim (codes "drop") ∷ Verbatim name ∷ []
 
 -- an edit, or the one word for a plan
 abbrev pub act_items : Act → List Item
 act_items (Change edit) = edit_items edit
-act_items Plan = Named (codes "plan") ∷ []
+act_items Plan = Verbatim (codes "plan") ∷ []
 
 -- a command: its word, its caller, and what it asks for
 abbrev pub command_items : Command → List Item
-command_items c = Named (codes "caller") ∷ Whole c.caller ∷ act_items c.act
+command_items c = Verbatim (codes "caller") ∷ Whole c.caller ∷ act_items c.act
 
 -- names have at most 255 bytes, and a need is below 2^40 thousandths
 abbrev pub IsEditInForm : Edit → Type 0

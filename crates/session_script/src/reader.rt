@@ -1,6 +1,6 @@
 ghost use Rattle.std.specs.Prelude.{◌≡◌, ◌<◌, [], IsTrue, IfOk, IfErr, Ok};
 ghost use Rattle.snd_tokens.specs.Lexemes.{left, size};
-ghost use Rattle.text_kit.specs.Answers.{AnswersAs, ReadsAllAs, ReadsAs, TakesTurn};
+ghost use Rattle.text_kit.specs.Answers.{AnswersAs, ReadsAllAs, ReadsAs, TakesElement};
 ghost use Rattle.text_kit.specs.Files.{IsNotTooEarly};
 ghost use Rattle.session_script.specs.declared.script.Script.{Script as Scr};
 ghost use Rattle.session_script.specs.Scripts.{SpellsScript};
@@ -22,7 +22,7 @@ fn take_command(
     all: &mut List<Command>,
     text: &mut Cursor,
 ) -> Result<bool, ScriptRefusal>
-    ensures turn { TakesTurn result (commands_at all.old (left text.old)) (commands_at all.new (left text.new)) (Ok (all.new, left text.new)) }
+    ensures turn { TakesElement result (commands_at all.old (left text.old)) (commands_at all.new (left text.new)) (Ok (all.new, left text.new)) }
     ensures shorter { IfOk result (λ more. IsTrue more → size (left text.new) < size (left text.old)) }
 {
     if let Some(_) = ends(text) {

@@ -9,7 +9,7 @@ use Rattle.net_core.specs.Tests.{is_named}
 use Rattle.net_core.specs.declared.demand.Demand.{Demand}
 use Rattle.net_core.specs.declared.ids.NodeId.{NodeId}
 use Rattle.net_core.specs.declared.network.Module.{Module}
-use Rattle.text_kit.specs.Items.{AreBehind, AreSpelled, Item, Named, Money, Opening, Closing}
+use Rattle.text_kit.specs.Items.{AreBehind, AreSpelled, Item, Verbatim, Money, Opening, Closing}
 use Rattle.text_kit.specs.Reading.{word_at, Parenthesis, no_fault}
 use Rattle.text_kit.proofs.Behind.{all_behind, behind_all, behind_as, behind_both, behind_differ, differ_behind}
 use Rattle.text_kit.proofs.Lawful.{AnyText, Lawful, Starts, behind_few, few_behind, lawful_as, lawful_close, lawful_give, lawful_list, lawful_open, lawful_then, lawful_word}
@@ -47,8 +47,8 @@ ends_lawful : (kind : ReadKind) (nodes : List (List ℕ)) → AreDifferent nodes
 unfolding ends_at
 ends_lawful kind nodes pairs = lawful_as (ends_at kind nodes) _ (λ e. ends_items nodes e.0 e.1) _ (λ e. AreEnds nodes e.0 e.1) AnyText (λ e h. refl) (λ e h. (h.1.0, h.1.1.0)) (λ e h. (tt, (h.0, (h.1, (tt, refl)))))
     (lawful_then _ _ _ _ _ _ AnyText (λ e. tt) (λ a e h. refl) (lawful_open Token Ended) (λ o.
-    lawful_then _ _ _ _ _ _ AnyText (λ e. e.0) (λ a e h. ap (λ (x : NodeId × NodeId). x.0) h.1.1) (lawful_word Token Ended (named_node nodes) (λ a. Named (get_or nodes a.0 [])) (IsNodeIn nodes) (λ a. tt) (node_takes nodes) (λ w a is same. node_again nodes pairs w a is same)) (λ a.
-    lawful_then _ _ _ _ _ _ AnyText (λ e. e.1) (λ b e h. ap (λ (x : NodeId × NodeId). x.1) h.1) (lawful_word Token Ended (other_node kind nodes a) (λ b. Named (get_or nodes b.0 [])) (λ b. (a.0 ≢ b.0) × IsNodeIn nodes b) (λ b. tt) (other_takes kind nodes a) (λ w b is same. other_again kind nodes pairs a w b is same)) (λ b.
+    lawful_then _ _ _ _ _ _ AnyText (λ e. e.0) (λ a e h. ap (λ (x : NodeId × NodeId). x.0) h.1.1) (lawful_word Token Ended (named_node nodes) (λ a. Verbatim (get_or nodes a.0 [])) (IsNodeIn nodes) (λ a. tt) (node_takes nodes) (λ w a is same. node_again nodes pairs w a is same)) (λ a.
+    lawful_then _ _ _ _ _ _ AnyText (λ e. e.1) (λ b e h. ap (λ (x : NodeId × NodeId). x.1) h.1) (lawful_word Token Ended (other_node kind nodes a) (λ b. Verbatim (get_or nodes b.0 [])) (λ b. (a.0 ≢ b.0) × IsNodeIn nodes b) (λ b. tt) (other_takes kind nodes a) (λ w b is same. other_again kind nodes pairs a w b is same)) (λ b.
     lawful_then _ _ _ _ _ _ AnyText (λ e. tt) (λ c e h. refl) (lawful_close Token Ended) (λ c.
     lawful_give (a, b))))))
 
@@ -110,10 +110,10 @@ pub record IsLinkBehind (nodes : List (List ℕ)) (sofar : List CostedLink) (l :
 link_lawful : (nodes : List (List ℕ)) → AreDifferent nodes → (sofar : List CostedLink) → Lawful (link_at nodes sofar) (link_items nodes) (IsLinkBehind nodes sofar) AnyText
 unfolding link_at
 link_lawful nodes pairs sofar = lawful_as (link_at nodes sofar) _ (link_items nodes) _ (IsLinkBehind nodes sofar) AnyText
-    (λ l h. ap (λ (is : List Item). Named l.link.name ∷ ends_items nodes l.link.a l.link.b ++ Money l.link.fixed ∷ Money l.fixed_cost ∷ Money l.routing_cost ∷ Money l.link.setup ∷ Opening ∷ is) (append-nil (flat_map module_items l.link.modules ++ Closing ∷ [])))
+    (λ l h. ap (λ (is : List Item). Verbatim l.link.name ∷ ends_items nodes l.link.a l.link.b ++ Money l.link.fixed ∷ Money l.fixed_cost ∷ Money l.routing_cost ∷ Money l.link.setup ∷ Opening ∷ is) (append-nil (flat_map module_items l.link.modules ++ Closing ∷ [])))
     (λ l h. record { new = h.0; ends = h.1.0; fixed = h.1.1.0; fixed_cost = h.1.1.1.0; routing_cost = h.1.1.1.1.0; setup = h.1.1.1.1.1.0; modules = h.1.1.1.1.1.1.1.0 })
     (λ l h. (h.new, (h.ends, (h.fixed, (h.fixed_cost, (h.routing_cost, (h.setup, (tt, (h.modules, refl)))))))))
-    (lawful_then _ _ _ _ _ _ AnyText (λ l. l.link.name) (λ a l h. ap (λ (x : CostedLink). x.link.name) h.1.1.1.1.1.1.1) (lawful_word Token Ended (new_name (λ x. x.link.name) limits.Links 256 sofar) (λ n. Named n) (IsNew (λ x. x.link.name) 256 sofar) (λ n. tt) (new_takes (λ x. x.link.name) limits.Links 256 sofar) (λ w n is e. new_again (λ x. x.link.name) limits.Links 256 sofar w n is e)) (λ name.
+    (lawful_then _ _ _ _ _ _ AnyText (λ l. l.link.name) (λ a l h. ap (λ (x : CostedLink). x.link.name) h.1.1.1.1.1.1.1) (lawful_word Token Ended (new_name (λ x. x.link.name) limits.Links 256 sofar) (λ n. Verbatim n) (IsNew (λ x. x.link.name) 256 sofar) (λ n. tt) (new_takes (λ x. x.link.name) limits.Links 256 sofar) (λ w n is e. new_again (λ x. x.link.name) limits.Links 256 sofar w n is e)) (λ name.
     lawful_then _ _ _ _ _ _ AnyText (λ l. (l.link.a, l.link.b)) (λ a l h. ap (λ (x : CostedLink). (x.link.a, x.link.b)) h.1.1.1.1.1.1) (ends_lawful SelfLink nodes pairs) (λ ends.
     lawful_then _ _ _ _ _ _ AnyText (λ l. l.link.fixed) (λ a l h. ap (λ (x : CostedLink). x.link.fixed) h.1.1.1.1.1) amount_lawful (λ fixed.
     lawful_then _ _ _ _ _ _ AnyText (λ l. l.fixed_cost) (λ a l h. ap (λ (x : CostedLink). x.fixed_cost) h.1.1.1.1) amount_lawful (λ fixed_cost.
@@ -165,8 +165,8 @@ pub record IsDemandBehind (nodes : List (List ℕ)) (sofar : List Demand) (d : D
   pub need : d.need < 2 ^ 40
   pub below : total sofar + d.need < 2 ^ 44
 
-joined : (is js ks j2 k2 j3 k3 j4 k4 j5 k5 ends : List Item) (v n u a h : List ℕ) → is ≡ js ++ ks → js ≡ Named v ∷ [] → v ≡ n → ks ≡ j2 ++ k2 → j2 ≡ ends → k2 ≡ j3 ++ k3 → j3 ≡ Named u ∷ [] → k3 ≡ j4 ++ k4 → j4 ≡ Named a ∷ [] → k4 ≡ j5 ++ k5 → j5 ≡ Named h ∷ [] → k5 ≡ []
-    → is ≡ Named n ∷ ends ++ Named u ∷ Named a ∷ Named h ∷ []
+joined : (is js ks j2 k2 j3 k3 j4 k4 j5 k5 ends : List Item) (v n u a h : List ℕ) → is ≡ js ++ ks → js ≡ Verbatim v ∷ [] → v ≡ n → ks ≡ j2 ++ k2 → j2 ≡ ends → k2 ≡ j3 ++ k3 → j3 ≡ Verbatim u ∷ [] → k3 ≡ j4 ++ k4 → j4 ≡ Verbatim a ∷ [] → k4 ≡ j5 ++ k5 → j5 ≡ Verbatim h ∷ [] → k5 ≡ []
+    → is ≡ Verbatim n ∷ ends ++ Verbatim u ∷ Verbatim a ∷ Verbatim h ∷ []
 joined is js ks j2 k2 j3 k3 j4 k4 j5 k5 ends v n u a h e1 e2 e3 e4 e5 e6 e7 e8 e9 e10 e11 e12 = rw (e1, e2, e3, e4, e5, e6, e7, e8, e9, e10, e11, e12) refl
 
 demand_spelled : (nodes : List (List ℕ)) → AreDifferent nodes → (sofar : List Demand) → Spelled (demand_at nodes sofar) (λ d is. IsDemandBehind nodes sofar d × SpellsDemand nodes d is) AnyText
@@ -200,27 +200,27 @@ demand_spelled nodes pairs sofar = spelled_as (demand_at nodes sofar) _ (λ d is
     let t = s.1 in
     let b = s.0 in (
       d.name,
-      Named d.name ∷ [],
-      ends_items nodes d.from d.to ++ Named t.unit ∷ Named t.amount ∷ Named t.hops ∷ [],
+      Verbatim d.name ∷ [],
+      ends_items nodes d.from d.to ++ Verbatim t.unit ∷ Verbatim t.amount ∷ Verbatim t.hops ∷ [],
       (d.name, new_again (λ x. x.name) limits.Demands 2048 sofar d.name d.name b.new refl, refl),
       (
         (d.from, d.to),
         ends_items nodes d.from d.to,
-        Named t.unit ∷ Named t.amount ∷ Named t.hops ∷ [],
+        Verbatim t.unit ∷ Verbatim t.amount ∷ Verbatim t.hops ∷ [],
         (b.ends, refl),
         (
           t.units,
-          Named t.unit ∷ [],
-          Named t.amount ∷ Named t.hops ∷ [],
+          Verbatim t.unit ∷ [],
+          Verbatim t.amount ∷ Verbatim t.hops ∷ [],
           (t.unit, unit_again t.unit t.units t.unit_is, refl),
           (
             d.need,
-            Named t.amount ∷ [],
-            Named t.hops ∷ [],
+            Verbatim t.amount ∷ [],
+            Verbatim t.hops ∷ [],
             (t.amount, need_again (total sofar) t.units t.amount t.each d.need t.amount_is t.need_is b.need b.below, refl),
             (
               tt,
-              Named t.hops ∷ [],
+              Verbatim t.hops ∷ [],
               [],
               (t.hops, hops_again t.hops t.hops_are, refl),
               (refl, refl),

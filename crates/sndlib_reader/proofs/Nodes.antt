@@ -2,7 +2,7 @@
 use Rattle.std.proofs.Common.{◌≡◌, ℕ, ◌≤◌, ◌<◌, Bool, true, false, cond, List, [], ◌∷◌, ◌++◌, map, length, IsTrue, Option, None, Some, Ok, Err, refl, sym, ap, subst, ◌∙◌, arith}
 use Rattle.snd_tokens.specs.Lexemes.{Text, WordAt, OpenAt, CloseAt, EndAt, size}
 use Rattle.text_kit.specs.Answers.{Fails}
-use Rattle.text_kit.specs.Items.{AreBehind, Item, Named, Opening, Closing, Begins}
+use Rattle.text_kit.specs.Items.{AreBehind, Item, Verbatim, Opening, Closing, Begins}
 use Rattle.text_kit.specs.Reading.{Read, after, give, placed, step_at, Parenthesis, past_ending, no_fault, sound}
 use Rattle.text_kit.specs.declared.refusal.Refusal.{Refusal}
 use Rattle.text_kit.specs.declared.refusal.Refusal.TheVariants.{Bad, NoMemory}
@@ -182,7 +182,7 @@ Takes sofar text x rest = (is : List Item) × (IsNewPart sofar x × SpellsPart x
 name_takes : (sofar : List NodePart) (at : ℕ) (w : List ℕ) (t : Text) (o : Option ReadKind) (x : NodePart) (rest : Text) → new_name_fault (λ n. n) limits.Nodes 128 (names_of sofar) w ≡ o → after (placed at t (sound (NodeName w) o)) part_behind ≡ Ok (x, rest) → Takes sofar (WordAt at w t) x rest
 name_takes sofar at w t None x rest fault e =
     let p = ok_parts {K = ReadKind} (NodeName w) x t rest e in
-    subst (λ (y : NodePart). Takes sofar (WordAt at w t) y rest) p.0 (Named w ∷ [], (fault_none (λ n. n) limits.Nodes 128 (names_of sofar) w fault, refl), (refl, p.1), tt)
+    subst (λ (y : NodePart). Takes sofar (WordAt at w t) y rest) p.0 (Verbatim w ∷ [], (fault_none (λ n. n) limits.Nodes 128 (names_of sofar) w fault, refl), (refl, p.1), tt)
 name_takes sofar at w t (Some k) x rest fault e = absurd cc
 
 skip_takes : (sofar : List NodePart) (at : ℕ) (t : Text) (q : Read ReadKind (Unit {0})) (x : NodePart) (rest : Text) → IsTrue (ends_named false sofar) → skipped_at 0 t ≡ q → after q (λ u. give Coordinates) ≡ Ok (x, rest) → Takes sofar (OpenAt at t) x rest
@@ -207,10 +207,10 @@ part_again : (sofar : List NodePart) (text : Text) (x : NodePart) (rest : Text) 
 unfolding part_at
 part_again sofar text (NodeName w) rest is s b = by text (subst (λ (js : List Item). Begins js text rest) s.1 b)
   where
-    by : (text : Text) → Begins (Named w ∷ []) text rest → part_at sofar text ≡ Ok (NodeName w, rest)
+    by : (text : Text) → Begins (Verbatim w ∷ []) text rest → part_at sofar text ≡ Ok (NodeName w, rest)
     by (WordAt at v t) c = rw (c.0, none_fault (λ n. n) limits.Nodes 128 (names_of sofar) w s.0) (ap (λ (u : Text). Ok (NodeName w, u)) c.1)
-    by (OpenAt at t) c = absurd (let e : Named w ≡ Opening = c.0 in cc)
-    by (CloseAt at t) c = absurd (let e : Named w ≡ Closing = c.0 in cc)
+    by (OpenAt at t) c = absurd (let e : Verbatim w ≡ Opening = c.0 in cc)
+    by (CloseAt at t) c = absurd (let e : Verbatim w ≡ Closing = c.0 in cc)
     by (EndAt at) c = absurd c
 part_again sofar text Coordinates rest is s b = by text (subst (λ (js : List Item). Begins js text rest) s.1.2 b)
   where

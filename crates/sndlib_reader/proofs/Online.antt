@@ -3,7 +3,7 @@ use Rattle.std.proofs.Common.{ℕ, true, false, List, [], Ok, Err, refl}
 use Rattle.std.specs.Prelude.{codes}
 use Rattle.net_core.specs.declared.demand.Demand.{Demand}
 use Rattle.net_core.specs.declared.network.Module.{Module}
-use Rattle.text_kit.specs.Reading.{Reading, word_at, key, Parenthesis, no_fault, list_at, each_at}
+use Rattle.text_kit.specs.Reading.{Reading, word_at, expected, Parenthesis, no_fault, list_at, each_at}
 use Rattle.text_kit.proofs.Online.{IsOnline, TakesSome, online_close, online_end, online_give, online_list, online_open, online_step, online_then, online_word, takes_some}
 use Rattle.sndlib_reader.specs.declared.costs.CostedLink.{CostedLink}
 use Rattle.sndlib_reader.specs.declared.fault.Limited.TheVariants as limits
@@ -112,7 +112,7 @@ paths_online links demands = online_then _ (paths_behind links demands) (online_
 section_online : {X : Type 0} (name : List ℕ) (r : Reading ReadKind X) → IsOnline r → IsOnline (section_at name r)
 unfolding section_at
 section_online name r on =
-    online_then _ _ (online_word Section Ended (key Section name)) (λ x.
+    online_then _ _ (online_word Section Ended (expected Section name)) (λ x.
     online_then _ _ (online_open Section Ended) (λ o. on))
 
 meta_online : (meta : _) → IsOnline (meta_behind meta)
@@ -120,7 +120,7 @@ unfolding meta_behind
 meta_online true =
     online_then _ _ (online_open Section Ended) (λ o.
     online_then _ _ skipped_online (λ s.
-    online_word Section Ended (key Section (codes "NODES"))))
+    online_word Section Ended (expected Section (codes "NODES"))))
 meta_online false = online_give tt
 
 pub sections_online : IsOnline sections_at

@@ -1,7 +1,7 @@
 -- What is skipped balances, and what balances is skipped.
 use Rattle.std.proofs.Common.{◌≡◌, ℕ, zero, suc, ◌+◌, ◌≤◌, List, [], ◌∷◌, ◌++◌, map, take, Ok, Err, refl, sym, ap, subst, ◌∙◌, arith}
 use Rattle.snd_tokens.specs.Lexemes.{Lexeme, Word, Open, Close, Text, WordAt, OpenAt, CloseAt, EndAt}
-use Rattle.text_kit.specs.Items.{Item, Named, Opening, Closing, Begins}
+use Rattle.text_kit.specs.Items.{Item, Verbatim, Opening, Closing, Begins}
 use Rattle.text_kit.specs.Places.{place}
 use Rattle.text_kit.proofs.Alike.{Same, past, plus}
 use Rattle.text_kit.proofs.Lawful.{AnyText}
@@ -55,8 +55,8 @@ skips_again n [] (WordAt at v t) rest c b = absurd b.0
 skips_again n [] (OpenAt at t) rest c b = absurd (let e : Closing ≡ Opening = b.0 in cc)
 skips_again n [] (EndAt at) rest c b = absurd b
 skips_again n (Word w ∷ ls) (WordAt at v t) rest c b = skips_again n ls t rest (record { same = c.same; prefixes = λ k. c.prefixes (suc k) }) b.1
-skips_again n (Word w ∷ ls) (OpenAt at t) rest c b = absurd (let e : Named w ≡ Opening = b.0 in cc)
-skips_again n (Word w ∷ ls) (CloseAt at t) rest c b = absurd (let e : Named w ≡ Closing = b.0 in cc)
+skips_again n (Word w ∷ ls) (OpenAt at t) rest c b = absurd (let e : Verbatim w ≡ Opening = b.0 in cc)
+skips_again n (Word w ∷ ls) (CloseAt at t) rest c b = absurd (let e : Verbatim w ≡ Closing = b.0 in cc)
 skips_again n (Word w ∷ ls) (EndAt at) rest c b = absurd b
 skips_again n (Open ∷ ls) (OpenAt at t) rest c b = skips_again (suc n) ls t rest (record { same = omega (arith, c.same); prefixes = λ k. omega (arith, c.prefixes (suc k)) }) b.1
 skips_again n (Open ∷ ls) (WordAt at v t) rest c b = absurd b.0

@@ -13,8 +13,8 @@ use Rattle.snd_tokens.specs.Header.{first_line, trimmed}
 use Rattle.snd_tokens.specs.Lexemes.{Text, WordAt, OpenAt, CloseAt, EndAt}
 use Rattle.text_kit.specs.Answers.{ReadsAllAs, ReadsAs}
 use Rattle.text_kit.specs.Files.{IsNotTooEarly, body}
-use Rattle.text_kit.specs.Items.{AreBehind, AreSpelled, Item, Named, Opening, Closing, Begins}
-use Rattle.text_kit.specs.Reading.{Read, Reading, after, give, placed, ◌>>=◌, word_at, open_at, end_at, key, Parenthesis, no_fault, list_at, each_at}
+use Rattle.text_kit.specs.Items.{AreBehind, AreSpelled, Item, Verbatim, Opening, Closing, Begins}
+use Rattle.text_kit.specs.Reading.{Read, Reading, after, give, placed, ◌>>=◌, word_at, open_at, end_at, expected, Parenthesis, no_fault, list_at, each_at}
 use Rattle.text_kit.specs.declared.refusal.Refusal.{Refusal}
 use Rattle.text_kit.specs.declared.refusal.Refusal.TheVariants.{Bad, NoMemory}
 use Rattle.text_kit.proofs.Behind.{behind_all, behind_differ, differ_behind}
@@ -53,7 +53,7 @@ module _ {K A B : Type 0} (r : Reading K A) (g : A → B) (Of : A → List Item 
 
 -- ---- paths
 
-starts_named : (w : List ℕ) (is js : List Item) → is ≡ Named w ∷ js → Starts is
+starts_named : (w : List ℕ) (is js : List Item) → is ≡ Verbatim w ∷ js → Starts is
 starts_named w is js e = subst Starts (sym e) tt
 
 short_spelled : Spelled (word_at Token Ended short_name) (λ x is. IsShortName is) AnyText
@@ -146,7 +146,7 @@ module _ (links : List CostedLink) (demands : List Demand) where
   word_takes at w t (Ok c) x rest is e =
       let p = paths_if (are_same w (codes "ADMISSIBLE_PATHS")) w c refl is in
       let h = (lines_spelled links demands).takes t x rest (subst (λ (d : Bool). paths_behind links demands d t ≡ Ok (x, rest)) (sym p.1) e) in
-      (Named (codes "ADMISSIBLE_PATHS") ∷ h.0, inr (h.1.0, h.1.1, ap (λ (js : List Item). Named (codes "ADMISSIBLE_PATHS") ∷ js) h.1.2), (p.0, h.2), h.3)
+      (Verbatim (codes "ADMISSIBLE_PATHS") ∷ h.0, inr (h.1.0, h.1.1, ap (λ (js : List Item). Verbatim (codes "ADMISSIBLE_PATHS") ∷ js) h.1.2), (p.0, h.2), h.3)
   word_takes at w t (Err k) x rest is e = absurd cc
 
   paths_take : (text : Text) (x : Unit {0}) (rest : Text) → paths_at links demands text ≡ Ok (x, rest) → PathsTaken text rest
@@ -156,10 +156,10 @@ module _ (links : List CostedLink) (demands : List Demand) where
   paths_take (CloseAt at t) x rest e = absurd cc
   paths_take (EndAt at) x rest e = let p = ok_parts {K = ReadKind} tt x (EndAt at) rest e in ([], inl refl, p.1, (at, sym p.1))
 
-  lines_again : (text rest : Text) (js : List Item) → AreLines links demands js → Begins (Named (codes "ADMISSIBLE_PATHS") ∷ js) text rest → IsEnd rest → paths_at links demands text ≡ Ok (tt, rest)
+  lines_again : (text rest : Text) (js : List Item) → AreLines links demands js → Begins (Verbatim (codes "ADMISSIBLE_PATHS") ∷ js) text rest → IsEnd rest → paths_at links demands text ≡ Ok (tt, rest)
   lines_again (WordAt at w t) rest js s b left = rw b.0 ((lines_spelled links demands).again t tt rest js s b.1 left)
-  lines_again (OpenAt at t) rest js s b left = absurd (let e : Named (codes "ADMISSIBLE_PATHS") ≡ Opening = b.0 in cc)
-  lines_again (CloseAt at t) rest js s b left = absurd (let e : Named (codes "ADMISSIBLE_PATHS") ≡ Closing = b.0 in cc)
+  lines_again (OpenAt at t) rest js s b left = absurd (let e : Verbatim (codes "ADMISSIBLE_PATHS") ≡ Opening = b.0 in cc)
+  lines_again (CloseAt at t) rest js s b left = absurd (let e : Verbatim (codes "ADMISSIBLE_PATHS") ≡ Closing = b.0 in cc)
   lines_again (EndAt at) rest js s b left = absurd b
 
   paths_again : (text rest : Text) (is : List Item) → ArePaths links demands is → Begins is text rest → IsEnd rest → paths_at links demands text ≡ Ok (tt, rest)
@@ -172,19 +172,19 @@ module _ (links : List CostedLink) (demands : List Demand) where
 
 -- ---- sections
 
-section_spelled : {X : Type 0} (name : List ℕ) (r : Reading ReadKind X) (Of : X → List Item → Type 0) → Spelled r Of AnyText → Spelled (section_at name r) (λ x is. (js : List Item) × Of x js × (is ≡ Named name ∷ Opening ∷ js)) AnyText
+section_spelled : {X : Type 0} (name : List ℕ) (r : Reading ReadKind X) (Of : X → List Item → Type 0) → Spelled r Of AnyText → Spelled (section_at name r) (λ x is. (js : List Item) × Of x js × (is ≡ Verbatim name ∷ Opening ∷ js)) AnyText
 unfolding section_at
 section_spelled name r Of law = spelled_as (section_at name r) _ _ AnyText
     (λ x is s.
     let f = s.4 in
-    (f.2, f.4, s.5 ∙ (ap (λ (js : List Item). js ++ s.2) s.3.1 ∙ ap (λ (js : List Item). Named name ∷ js) (f.5 ∙ ap (λ (js : List Item). js ++ f.2) f.3.1))))
-    (λ x is s. (tt, Named name ∷ [], Opening ∷ s.0, (tt, refl), (tt, Opening ∷ [], s.0, (tt, refl), s.1, refl), s.2))
-    (spelled_then _ _ _ _ AnyText (spelled_law (word_at Section Ended (key Section name)) _ _ AnyText (lawful_key Section Ended Section name)) (λ k js s.
+    (f.2, f.4, s.5 ∙ (ap (λ (js : List Item). js ++ s.2) s.3.1 ∙ ap (λ (js : List Item). Verbatim name ∷ js) (f.5 ∙ ap (λ (js : List Item). js ++ f.2) f.3.1))))
+    (λ x is s. (tt, Verbatim name ∷ [], Opening ∷ s.0, (tt, refl), (tt, Opening ∷ [], s.0, (tt, refl), s.1, refl), s.2))
+    (spelled_then _ _ _ _ AnyText (spelled_law (word_at Section Ended (expected Section name)) _ _ AnyText (lawful_key Section Ended Section name)) (λ k js s.
     spelled_then _ _ _ _ AnyText (spelled_law (open_at Section Ended) _ _ AnyText (lawful_open Section Ended)) (λ o js s. law)))
 
 -- what comes after the word of META or NODES
 abbrev Behind : Bool → List Item → Type 0
-Behind true is = (inside : List Item) × IsSkipped inside × (is ≡ Opening ∷ (inside ++ Named (codes "NODES") ∷ []))
+Behind true is = (inside : List Item) × IsSkipped inside × (is ≡ Opening ∷ (inside ++ Verbatim (codes "NODES") ∷ []))
 Behind false is = is ≡ []
 
 abbrev first_word : Bool → List ℕ
@@ -197,10 +197,10 @@ behind_spelled true = spelled_as (meta_behind true) _ (λ x is. Behind true is) 
     (λ x is s.
     let f = s.4 in
     (f.1, f.3, s.5 ∙ (ap (λ (js : List Item). js ++ s.2) s.3.1 ∙ ap (λ (js : List Item). Opening ∷ js) (f.5 ∙ ap (λ (js : List Item). f.1 ++ js) f.4.1))))
-    (λ x is s. (tt, Opening ∷ [], s.0 ++ Named (codes "NODES") ∷ [], (tt, refl), (tt, s.0, Named (codes "NODES") ∷ [], s.1, (tt, refl), refl), s.2))
+    (λ x is s. (tt, Opening ∷ [], s.0 ++ Verbatim (codes "NODES") ∷ [], (tt, refl), (tt, s.0, Verbatim (codes "NODES") ∷ [], s.1, (tt, refl), refl), s.2))
     (spelled_then _ _ _ _ AnyText (spelled_law (open_at Section Ended) _ _ AnyText (lawful_open Section Ended)) (λ o js s.
     spelled_then _ _ _ _ AnyText skipped_spelled (λ k js s.
-    spelled_law (word_at Section Ended (key Section (codes "NODES"))) _ _ AnyText (lawful_key Section Ended Section (codes "NODES")))))
+    spelled_law (word_at Section Ended (expected Section (codes "NODES"))) _ _ AnyText (lawful_key Section Ended Section (codes "NODES")))))
 behind_spelled false = spelled_as (meta_behind false) _ (λ x is. Behind false is) AnyText (λ x is s. s.1) (λ x is s. (refl, s)) (spelled_give tt)
 
 word_is : (w : List ℕ) (meta nodes b : Bool) → are_same w (codes "META") ≡ meta → are_same w (codes "NODES") ≡ nodes → (let r : Result Bool ReadKind = cond meta (Ok true) (cond nodes (Ok false) (Err Section)) in r ≡ Ok b) → w ≡ first_word b
@@ -216,28 +216,28 @@ is_word false = refl
 
 -- META or nothing, and the word of NODES
 abbrev IsStart : List Item → Type 0
-IsStart is = (meta : List Item) × IsMeta meta × (is ≡ meta ++ Named (codes "NODES") ∷ [])
+IsStart is = (meta : List Item) × IsMeta meta × (is ≡ meta ++ Verbatim (codes "NODES") ∷ [])
 
-start_of : (b : Bool) (is ks : List Item) → is ≡ Named (first_word b) ∷ ks → Behind b ks → IsStart is
-start_of true is ks e s = (Named (codes "META") ∷ Opening ∷ s.0, inr (s.0, s.1, refl), e ∙ ap (λ (js : List Item). Named (codes "META") ∷ js) s.2)
-start_of false is ks e s = ([], inl refl, e ∙ ap (λ (js : List Item). Named (codes "NODES") ∷ js) s)
+start_of : (b : Bool) (is ks : List Item) → is ≡ Verbatim (first_word b) ∷ ks → Behind b ks → IsStart is
+start_of true is ks e s = (Verbatim (codes "META") ∷ Opening ∷ s.0, inr (s.0, s.1, refl), e ∙ ap (λ (js : List Item). Verbatim (codes "META") ∷ js) s.2)
+start_of false is ks e s = ([], inl refl, e ∙ ap (λ (js : List Item). Verbatim (codes "NODES") ∷ js) s)
 
 abbrev Started : List Item → Type 0
-Started is = (b : Bool) × (ks : List Item) × Behind b ks × (is ≡ Named (first_word b) ∷ ks)
+Started is = (b : Bool) × (ks : List Item) × Behind b ks × (is ≡ Verbatim (first_word b) ∷ ks)
 
 started : (is : List Item) → IsStart is → Started is
 started is s = by s.0 s.1 s.2
   where
-    by : (meta : List Item) → IsMeta meta → is ≡ meta ++ Named (codes "NODES") ∷ [] → Started is
-    by meta (inl none) e = (false, [], refl, e ∙ ap (λ (js : List Item). js ++ Named (codes "NODES") ∷ []) none)
-    by meta (inr m) e = (true, Opening ∷ (m.0 ++ Named (codes "NODES") ∷ []), (m.0, m.1, refl), e ∙ ap (λ (js : List Item). js ++ Named (codes "NODES") ∷ []) m.2)
+    by : (meta : List Item) → IsMeta meta → is ≡ meta ++ Verbatim (codes "NODES") ∷ [] → Started is
+    by meta (inl none) e = (false, [], refl, e ∙ ap (λ (js : List Item). js ++ Verbatim (codes "NODES") ∷ []) none)
+    by meta (inr m) e = (true, Opening ∷ (m.0 ++ Verbatim (codes "NODES") ∷ []), (m.0, m.1, refl), e ∙ ap (λ (js : List Item). js ++ Verbatim (codes "NODES") ∷ []) m.2)
 
 start_spelled : Spelled start_at (λ x is. IsStart is) AnyText
 start_spelled = spelled_as start_at _ (λ x is. IsStart is) AnyText
     (λ x is s.
     let w = s.3 in
-    start_of s.0 is s.2 (s.5 ∙ (ap (λ (js : List Item). js ++ s.2) w.2 ∙ ap (λ (v : List ℕ). Named v ∷ s.2) (word_is w.0 (are_same w.0 (codes "META")) (are_same w.0 (codes "NODES")) s.0 refl refl w.1))) s.4)
-    (λ x is s. let t = started is s in (t.0, Named (first_word t.0) ∷ [], t.1, (first_word t.0, is_word t.0, refl), t.2, t.3))
+    start_of s.0 is s.2 (s.5 ∙ (ap (λ (js : List Item). js ++ s.2) w.2 ∙ ap (λ (v : List ℕ). Verbatim v ∷ s.2) (word_is w.0 (are_same w.0 (codes "META")) (are_same w.0 (codes "NODES")) s.0 refl refl w.1))) s.4)
+    (λ x is s. let t = started is s in (t.0, Verbatim (first_word t.0) ∷ [], t.1, (first_word t.0, is_word t.0, refl), t.2, t.3))
     (spelled_then _ _ _ _ AnyText (spelled_word Section Ended is_meta) (λ b js s. behind_spelled b))
 
 -- ---- nodes
@@ -275,10 +275,10 @@ AreDemandItems nodes demands is = (js : List Item) × AreBehind (IsDemandBehind 
 abbrev whole_items : List Item → List Item → List Item → List Item → List Item → List Item
 whole_items meta ps ls ds paths = meta ++ (section (codes "NODES") ps ++ (section (codes "LINKS") ls ++ (section (codes "DEMANDS") ds ++ paths)))
 
-all_joined : (is j1 k1 j2 k2 j3 k3 j4 k4 l4 j5 k5 l5 meta ps ls ds : List Item) → is ≡ j1 ++ k1 → j1 ≡ meta ++ Named (codes "NODES") ∷ [] → k1 ≡ j2 ++ k2 → j2 ≡ Opening ∷ [] → k2 ≡ j3 ++ k3 → j3 ≡ ps ++ Closing ∷ [] → k3 ≡ j4 ++ k4 → j4 ≡ Named (codes "LINKS") ∷ Opening ∷ l4 → l4 ≡ ls ++ Closing ∷ []
-    → k4 ≡ j5 ++ k5 → j5 ≡ Named (codes "DEMANDS") ∷ Opening ∷ l5 → l5 ≡ ds ++ Closing ∷ [] → is ≡ whole_items meta ps ls ds k5
+all_joined : (is j1 k1 j2 k2 j3 k3 j4 k4 l4 j5 k5 l5 meta ps ls ds : List Item) → is ≡ j1 ++ k1 → j1 ≡ meta ++ Verbatim (codes "NODES") ∷ [] → k1 ≡ j2 ++ k2 → j2 ≡ Opening ∷ [] → k2 ≡ j3 ++ k3 → j3 ≡ ps ++ Closing ∷ [] → k3 ≡ j4 ++ k4 → j4 ≡ Verbatim (codes "LINKS") ∷ Opening ∷ l4 → l4 ≡ ls ++ Closing ∷ []
+    → k4 ≡ j5 ++ k5 → j5 ≡ Verbatim (codes "DEMANDS") ∷ Opening ∷ l5 → l5 ≡ ds ++ Closing ∷ [] → is ≡ whole_items meta ps ls ds k5
 all_joined is j1 k1 j2 k2 j3 k3 j4 k4 l4 j5 k5 l5 meta ps ls ds a b c d e f g h i j k l =
-    rw (a, b, c, d, e, f, g, h, i, j, k, l) (append_assoc meta (Named (codes "NODES") ∷ []) (Opening ∷ ((ps ++ Closing ∷ []) ++ (section (codes "LINKS") ls ++ (section (codes "DEMANDS") ds ++ k5)))))
+    rw (a, b, c, d, e, f, g, h, i, j, k, l) (append_assoc meta (Verbatim (codes "NODES") ∷ []) (Opening ∷ ((ps ++ Closing ∷ []) ++ (section (codes "LINKS") ls ++ (section (codes "DEMANDS") ds ++ k5)))))
 
 -- names of links, with their costs and without
 named_link : (w : List ℕ) (links : List CostedLink) → is_named (λ x. x.name) w (map (λ l. l.link) links) ≡ is_named (λ l. l.link.name) w links
@@ -424,13 +424,13 @@ sections_spelled = spelled_as sections_at _ SpellsParts IsEnd
     let n = t.nodes in
     let ls = flat_map (link_items x.0.nodes) t.links ++ Closing ∷ [] in
     let ds = t.demand_items ++ Closing ∷ [] in
-    let links_text = Named (codes "LINKS") ∷ Opening ∷ ls in
-    let demands_text = Named (codes "DEMANDS") ∷ Opening ∷ ds in
+    let links_text = Verbatim (codes "LINKS") ∷ Opening ∷ ls in
+    let demands_text = Verbatim (codes "DEMANDS") ∷ Opening ∷ ds in
     let from_demands = demands_text ++ t.paths in
     let from_links = links_text ++ from_demands in
     let from_nodes = (n.1 ++ Closing ∷ []) ++ from_links in (
       tt,
-      t.meta ++ Named (codes "NODES") ∷ [],
+      t.meta ++ Verbatim (codes "NODES") ∷ [],
       Opening ∷ from_nodes,
       (t.meta, t.meta_is, refl),
       (
@@ -466,7 +466,7 @@ sections_spelled = spelled_as sections_at _ SpellsParts IsEnd
         ),
         refl,
       ),
-      t.items_are ∙ sym (append_assoc t.meta (Named (codes "NODES") ∷ []) (Opening ∷ from_nodes)),
+      t.items_are ∙ sym (append_assoc t.meta (Verbatim (codes "NODES") ∷ []) (Opening ∷ from_nodes)),
     ))
     (spelled_then start_at _ _ _ IsEnd start_spelled (λ m js s.
     spelled_then (open_at Section Ended) _ _ _ IsEnd (spelled_law (open_at Section Ended) _ _ AnyText (lawful_open Section Ended)) (λ o js s.

@@ -1,7 +1,7 @@
 -- what is skipped: lexemes whose parentheses balance
 use Rattle.std.specs.Prelude.{◌≡◌, ℕ, ◌+◌, ◌≤◌, List, [], ◌∷◌, ◌++◌, map, take}
 use Rattle.snd_tokens.specs.Lexemes.{Lexeme, Word, Open, Close}
-use Rattle.text_kit.specs.Items.{Item, Named, Opening, Closing}
+use Rattle.text_kit.specs.Items.{Item, Verbatim, Opening, Closing}
 
 -- how many parentheses are opened
 abbrev pub opened : List Lexeme → ℕ
@@ -24,7 +24,7 @@ pub record AreBalanced (ls : List Lexeme) : Type 0 where
 
 -- the item of a lexeme
 abbrev pub item_of : Lexeme → Item
-item_of (Word w) = Named w
+item_of (Word w) = Verbatim w
 item_of Open = Opening
 item_of Close = Closing
 

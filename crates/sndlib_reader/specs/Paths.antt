@@ -3,19 +3,19 @@ use Rattle.std.specs.Prelude.{◌≡◌, ℕ, ◌≤◌, ◌⊎◌, List, [], �
 use Rattle.net_core.specs.Tests.{is_named}
 use Rattle.net_core.specs.declared.demand.Demand.{Demand}
 use Rattle.sndlib_reader.specs.declared.costs.CostedLink.{CostedLink}
-use Rattle.text_kit.specs.Items.{Item, Named, Opening, Closing, AreSpelled}
+use Rattle.text_kit.specs.Items.{Item, Verbatim, Opening, Closing, AreSpelled}
 
 -- a section: its word, and what stands in it between parentheses
 abbrev pub section : List ℕ → List Item → List Item
-section name inside = Named name ∷ Opening ∷ (inside ++ Closing ∷ [])
+section name inside = Verbatim name ∷ Opening ∷ (inside ++ Closing ∷ [])
 
 -- a name of at most 255 bytes
 abbrev pub IsShortName : List Item → Type 0
-IsShortName items = (w : List ℕ) × (length w ≤ 255) × (items ≡ Named w ∷ [])
+IsShortName items = (w : List ℕ) × (length w ≤ 255) × (items ≡ Verbatim w ∷ [])
 
 -- such a name, which one of these has
 abbrev pub IsKnownName : {X : Type 0} → (X → List ℕ) → List X → List Item → Type 0
-IsKnownName name_of xs items = (w : List ℕ) × ((length w ≤ 255) × IsTrue (is_named name_of w xs)) × (items ≡ Named w ∷ [])
+IsKnownName name_of xs items = (w : List ℕ) × ((length w ≤ 255) × IsTrue (is_named name_of w xs)) × (items ≡ Verbatim w ∷ [])
 
 -- things of a sort, one after another
 abbrev pub AreMany : (List Item → Type 0) → List Item → Type 0

@@ -10,7 +10,7 @@ use Rattle.net_core.specs.declared.ids.NodeId.{NodeId}
 use Rattle.net_core.specs.declared.network.Module.{Module}
 use Rattle.net_core.specs.declared.demand.Demand.{Demand}
 use Rattle.text_kit.specs.Files.{file_at}
-use Rattle.text_kit.specs.Reading.{Read, Reading, ◌>>=◌, give, step_at, word_at, open_at, close_at, end_at, key, mapped, Parenthesis, sound, list_at, no_fault, each_at}
+use Rattle.text_kit.specs.Reading.{Read, Reading, ◌>>=◌, give, step_at, word_at, open_at, close_at, end_at, expected, mapped, Parenthesis, sound, list_at, no_fault, each_at}
 use Rattle.sndlib_reader.specs.declared.fault.Limited.{Limited}
 use Rattle.sndlib_reader.specs.declared.fault.Limited.TheVariants as limits
 use Rattle.sndlib_reader.specs.declared.fault.ReadKind.{ReadKind}
@@ -115,7 +115,7 @@ skipped_at n (EndAt at) = Err (at, Ended)
 -- a section's word, the parenthesis after it, and what stands there
 unfoldable pub section_at : {X : Type 0} → List ℕ → Reading ReadKind X → Reading ReadKind X
 section_at name r = do
-  _ ← word_at Section Ended (key Section name)
+  _ ← word_at Section Ended (expected Section name)
   _ ← open_at Section Ended
   r
 
@@ -229,7 +229,7 @@ unfoldable pub meta_behind : Bool → Reading ReadKind (Unit {0})
 meta_behind true = do
   _ ← open_at Section Ended
   _ ← skipped_at 0
-  word_at Section Ended (key Section (codes "NODES"))
+  word_at Section Ended (expected Section (codes "NODES"))
 meta_behind false = give tt
 
 -- all before the parenthesis of NODES

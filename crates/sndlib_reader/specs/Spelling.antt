@@ -13,7 +13,7 @@ use Rattle.net_core.specs.declared.network.Network.{Network}
 use Rattle.net_core.specs.declared.demand.Demand.{Demand}
 use Rattle.sndlib_reader.specs.declared.costs.CostedLink.{CostedLink}
 use Rattle.text_kit.specs.Files.{SpellsBy}
-use Rattle.text_kit.specs.Items.{Item, Named, Money, Opening, Closing, AreBehind, AreSpelled}
+use Rattle.text_kit.specs.Items.{Item, Verbatim, Money, Opening, Closing, AreBehind, AreSpelled}
 use Rattle.sndlib_reader.specs.Balance.{IsSkipped}
 use Rattle.sndlib_reader.specs.Paths.{section, ArePaths}
 
@@ -41,12 +41,12 @@ IsPartBehind sofar Coordinates = IsTrue (ends_named false sofar)
 
 -- coordinates are anything that balances, between parentheses
 abbrev pub SpellsPart : NodePart → List Item → Type 0
-SpellsPart (NodeName name) items = items ≡ Named name ∷ []
+SpellsPart (NodeName name) items = items ≡ Verbatim name ∷ []
 SpellsPart Coordinates items = (inside : List Item) × IsSkipped inside × (items ≡ Opening ∷ inside)
 
 -- the names of two nodes between parentheses
 abbrev pub ends_items : List (List ℕ) → NodeId → NodeId → List Item
-ends_items nodes a b = Opening ∷ Named (get_or nodes a.0 []) ∷ Named (get_or nodes b.0 []) ∷ Closing ∷ []
+ends_items nodes a b = Opening ∷ Verbatim (get_or nodes a.0 []) ∷ Verbatim (get_or nodes b.0 []) ∷ Closing ∷ []
 
 -- a module: its capacity and its cost
 abbrev pub module_items : Module → List Item
@@ -55,7 +55,7 @@ module_items m = Money m.capacity ∷ Money m.cost ∷ []
 -- a link: its name, its ends, its pre-installed capacity and the cost of that, its routing cost, its setup cost, and its modules
 abbrev pub link_items : List (List ℕ) → CostedLink → List Item
 link_items nodes l =
-    Named l.link.name ∷ ends_items nodes l.link.a l.link.b
+    Verbatim l.link.name ∷ ends_items nodes l.link.a l.link.b
     ++ Money l.link.fixed ∷ Money l.fixed_cost ∷ Money l.routing_cost ∷ Money l.link.setup ∷ Opening ∷ (flat_map module_items l.link.modules ++ Closing ∷ [])
 
 -- what isn't kept of a link is in its range: its name and the two further costs
@@ -76,7 +76,7 @@ pub record SpellsDemand (nodes : List (List ℕ)) (d : Demand) (items : List Ite
   pub units : ℕ
   pub each : ℕ
   pub short : length d.name ≤ 255
-  pub items_are : items ≡ Named d.name ∷ ends_items nodes d.from d.to ++ Named unit ∷ Named amount ∷ Named hops ∷ []
+  pub items_are : items ≡ Verbatim d.name ∷ ends_items nodes d.from d.to ++ Verbatim unit ∷ Verbatim amount ∷ Verbatim hops ∷ []
   pub unit_is : units_of unit ≡ Ok units
   pub amount_is : amount_of amount ≡ Ok each
   pub need_is : d.need ≡ units * each
@@ -92,7 +92,7 @@ notes_of links = record {
 
 -- a section META of anything, or nothing
 abbrev pub IsMeta : List Item → Type 0
-IsMeta items = (items ≡ []) ⊎ ((inside : List Item) × IsSkipped inside × (items ≡ Named (codes "META") ∷ Opening ∷ inside))
+IsMeta items = (items ≡ []) ⊎ ((inside : List Item) × IsSkipped inside × (items ≡ Verbatim (codes "META") ∷ Opening ∷ inside))
 
 -- what the sections of nodes and links say
 pub record Parts : Type 0 where

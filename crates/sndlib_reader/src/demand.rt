@@ -1,7 +1,7 @@
 ghost use Rattle.std.specs.Prelude.{◌≡◌, ◌≤◌, ◌<◌, ◌^◌, ◌+◌, IsTrue, IfOk, OnOk, Ok, [], length};
 ghost use Rattle.net_core.specs.Tests.{is_named};
 ghost use Rattle.snd_tokens.specs.Lexemes.{left, size};
-ghost use Rattle.text_kit.specs.Answers.{ReadsAs, TakesTurn};
+ghost use Rattle.text_kit.specs.Answers.{ReadsAs, TakesElement};
 ghost use Rattle.text_kit.specs.Reading.{word_at};
 ghost use Rattle.sndlib_reader.specs.Reading.{demand_at, demands_at, hops, new_name_fault, need, new_name, total, unit};
 ghost use Rattle.sndlib_reader.specs.declared.fault.Limited.TheVariants as limits;
@@ -169,7 +169,7 @@ fn take_demand(
     requires nodes { length nodes.now ≤ 128 }
     requires sum { sum.now ≡ total all.now }
     requires below { sum.now < 2 ^ 44 }
-    ensures turn { TakesTurn result (demands_at nodes.now all.old (left text.old)) (demands_at nodes.now all.new (left text.new)) (Ok (all.new, left text.new)) }
+    ensures turn { TakesElement result (demands_at nodes.now all.old (left text.old)) (demands_at nodes.now all.new (left text.new)) (Ok (all.new, left text.new)) }
     ensures shorter { IfOk result (λ more. IsTrue more → size (left text.new) < size (left text.old)) }
     ensures sum { OnOk result (sum.new ≡ total all.new) }
     ensures below { OnOk result (sum.new < 2 ^ 44) }

@@ -1,7 +1,7 @@
 ghost use Rattle.std.specs.Prelude.{◌≡◌, ◌≤◌, ◌<◌, IsTrue, IfOk, Ok, [], length};
 ghost use Rattle.net_core.specs.Tests.{is_named};
 ghost use Rattle.snd_tokens.specs.Lexemes.{left, size};
-ghost use Rattle.text_kit.specs.Answers.{ReadsAs, TakesTurn};
+ghost use Rattle.text_kit.specs.Answers.{ReadsAs, TakesElement};
 ghost use Rattle.text_kit.specs.Reading.{word_at};
 ghost use Rattle.sndlib_reader.specs.Reading.{capacity, link_at, costed_links_at, module_at, modules_at, new_name_fault, new_name};
 ghost use Rattle.sndlib_reader.specs.declared.fault.Limited.TheVariants as limits;
@@ -57,7 +57,7 @@ fn module(modules: &[Module], text: &mut Cursor) -> Result<Module, ReadRefusal>
 
 /// Takes one module more of a link with this pre-installed capacity, and says whether there was one.
 fn take_module(fixed: u64, all: &mut List<Module>, text: &mut Cursor) -> Result<bool, ReadRefusal>
-    ensures turn { TakesTurn result (modules_at fixed all.old (left text.old)) (modules_at fixed all.new (left text.new)) (Ok (all.new, left text.new)) }
+    ensures turn { TakesElement result (modules_at fixed all.old (left text.old)) (modules_at fixed all.new (left text.new)) (Ok (all.new, left text.new)) }
     ensures shorter { IfOk result (λ more. IsTrue more → size (left text.new) < size (left text.old)) }
 {
     if let Some(at) = closes(text) {
@@ -152,7 +152,7 @@ fn take_link(
     text: &mut Cursor,
 ) -> Result<bool, ReadRefusal>
     requires { length nodes.now ≤ 128 }
-    ensures turn { TakesTurn result (costed_links_at nodes.now all.old (left text.old)) (costed_links_at nodes.now all.new (left text.new)) (Ok (all.new, left text.new)) }
+    ensures turn { TakesElement result (costed_links_at nodes.now all.old (left text.old)) (costed_links_at nodes.now all.new (left text.new)) (Ok (all.new, left text.new)) }
     ensures shorter { IfOk result (λ more. IsTrue more → size (left text.new) < size (left text.old)) }
 {
     if let Some(_) = closes(text) {

@@ -1,7 +1,7 @@
 ghost use Rattle.std.specs.Prelude.{◌≡◌, ◌≤◌, ◌<◌, ◌+◌, IsTrue, IfOk, OnOk, Ok, [], length};
 ghost use Rattle.net_core.specs.Tests.{is_named};
 ghost use Rattle.snd_tokens.specs.Lexemes.{left, size};
-ghost use Rattle.text_kit.specs.Answers.{ReadsAs, TakesTurn};
+ghost use Rattle.text_kit.specs.Answers.{ReadsAs, TakesElement};
 ghost use Rattle.text_kit.specs.Reading.{word_at};
 ghost use Rattle.sndlib_reader.specs.Reading.{ends_at, new_name_fault, named_node, node_place, nodes_at, other_node};
 ghost use Rattle.sndlib_reader.specs.declared.fault.Limited.TheVariants as limits;
@@ -47,7 +47,7 @@ fn take_part(
     text: &mut Cursor,
 ) -> Result<bool, ReadRefusal>
     requires { IsTrue after_name.now → 1 ≤ length nodes.now }
-    ensures turn { TakesTurn result (nodes_at (parts_so_far nodes.old after_name.old) (left text.old)) (nodes_at (parts_so_far nodes.new after_name.new) (left text.new)) (Ok (nodes.new, left text.new)) }
+    ensures turn { TakesElement result (nodes_at (parts_so_far nodes.old after_name.old) (left text.old)) (nodes_at (parts_so_far nodes.new after_name.new) (left text.new)) (Ok (nodes.new, left text.new)) }
     ensures shorter { IfOk result (λ more. IsTrue more → size (left text.new) < size (left text.old)) }
     ensures some { OnOk result (IsTrue after_name.new → 1 ≤ length nodes.new) }
 {

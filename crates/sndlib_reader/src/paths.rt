@@ -1,6 +1,6 @@
 ghost use Rattle.std.specs.Prelude.{◌≡◌, ◌<◌, false, IsTrue, IfOk, Ok, Err};
 ghost use Rattle.snd_tokens.specs.Lexemes.{left, size};
-ghost use Rattle.text_kit.specs.Answers.{ReadsAs, TakesTurn};
+ghost use Rattle.text_kit.specs.Answers.{ReadsAs, TakesElement};
 ghost use Rattle.text_kit.specs.Reading.{each_at, step_at, word_at};
 ghost use Rattle.sndlib_reader.specs.Reading.{is_paths, known_name, line_at, path_at, paths_at, short_name, some_at};
 
@@ -43,7 +43,7 @@ fn link(links: &[CostedLink], text: &mut Cursor) -> Result<(), ReadRefusal>
 /// Takes one link more of a path, and says whether there was one.
 fn take_link(links: &[CostedLink], text: &mut Cursor) -> Result<bool, ReadRefusal>
     ensures turn { let costed_links_at = each_at (word_at ReadKind.Token ReadKind.Ended (known_name (λ l. l.link.name) links.now)) in
-        TakesTurn result (costed_links_at (left text.old)) (costed_links_at (left text.new)) (Ok (tt, left text.new)) }
+        TakesElement result (costed_links_at (left text.old)) (costed_links_at (left text.new)) (Ok (tt, left text.new)) }
     ensures shorter { IfOk result (λ more. IsTrue more → size (left text.new) < size (left text.old)) }
 {
     if let Some(_) = closes(text) {
@@ -95,7 +95,7 @@ fn path(links: &[CostedLink], text: &mut Cursor) -> Result<(), ReadRefusal>
 
 /// Takes one path more of a demand, and says whether there was one.
 fn take_path(links: &[CostedLink], text: &mut Cursor) -> Result<bool, ReadRefusal>
-    ensures turn { TakesTurn result (each_at (path_at links.now) (left text.old)) (each_at (path_at links.now) (left text.new)) (Ok (tt, left text.new)) }
+    ensures turn { TakesElement result (each_at (path_at links.now) (left text.old)) (each_at (path_at links.now) (left text.new)) (Ok (tt, left text.new)) }
     ensures shorter { IfOk result (λ more. IsTrue more → size (left text.new) < size (left text.old)) }
 {
     if let Some(_) = closes(text) {
@@ -154,7 +154,7 @@ fn take_line(
     demands: &[Demand],
     text: &mut Cursor,
 ) -> Result<bool, ReadRefusal>
-    ensures turn { TakesTurn result (each_at (line_at links.now demands.now) (left text.old)) (each_at (line_at links.now demands.now) (left text.new)) (Ok (tt, left text.new)) }
+    ensures turn { TakesElement result (each_at (line_at links.now demands.now) (left text.old)) (each_at (line_at links.now demands.now) (left text.new)) (Ok (tt, left text.new)) }
     ensures shorter { IfOk result (λ more. IsTrue more → size (left text.new) < size (left text.old)) }
 {
     if let Some(_) = closes(text) {

@@ -1,49 +1,17 @@
 -- Readings that take exactly the texts of what they give.
-use Rattle.std.proofs.Common.{◌≡◌, ℕ, zero, suc, ◌<◌, ◌≤◌, ◌==◌, Bool, true, false, cond, nat_lt, List, [], ◌∷◌, ◌++◌, length, Option, None, Some, Result, Ok, Err, refl, sym, ap, subst, ◌∙◌, arith, append-nil, append_assoc, length-append}
+use Rattle.std.proofs.Common.{◌≡◌, ℕ, ◌<◌, ◌≤◌, ◌==◌, Bool, true, false, cond, nat_lt, List, [], ◌∷◌, ◌++◌, length, Option, None, Some, Result, Ok, Err, refl, sym, ap, subst, ◌∙◌, arith, append-nil, length-append}
 use Rattle.std.specs.Prelude.{flat_map}
 use Rattle.std.proofs.lemmas.Bool.{eqb-true, eq-eqb, lt-ltb, ltb-true}
 use Rattle.std.proofs.lemmas.Bool.Decides.{Decides-eqb}
 use Rattle.std.proofs.lemmas.Slice.Eq.{slice_eq-Decides}
 use Rattle.net_core.specs.Tests.{are_same}
-use Rattle.snd_tokens.specs.Lexemes.{Text, WordAt, OpenAt, CloseAt, EndAt, size}
-use Rattle.text_kit.specs.Items.{AreBehind, Item, Named, Whole, Money, Opening, Closing, SpellsItem, Begins}
-use Rattle.text_kit.specs.Places.{place}
-use Rattle.text_kit.specs.Reading.{Read, Reading, after, ◌>>=◌, give, placed, word_at, open_at, close_at, end_at, over_at, key, Ending, Parenthesis, TheEnd, past_ending, sound, ended_or, list_at, up_to, of_length, exactly_at, no_fault, not_empty, whole_at}
-use Rattle.text_kit.proofs.Online.{at_ending, before_ending, elements, more, ok_parts, placed_ok}
-
--- what is left is any text, or the end
-abbrev pub AnyText : Text → Type 0
-AnyText text = Unit {0}
-
-abbrev pub IsEnd : Text → Type 0
-IsEnd text = (at : ℕ) × (text ≡ EndAt at)
-
--- what is read from a text is in form and stands at its beginning, and what is in form and stands there is read
-pub record Lawful {K X : Type 0} (r : Reading K X) (items : X → List Item) (is : X → Type 0) (IsLeft : Text → Type 0) : Type 0 where
-  pub takes : (text : Text) (x : X) (rest : Text) → r text ≡ Ok (x, rest) → is x × Begins (items x) text rest × IsLeft rest
-  pub again : (text : Text) (x : X) (rest : Text) → is x → Begins (items x) text rest → IsLeft rest → r text ≡ Ok (x, rest)
-
--- items after items
-pub begins_both : (a b : List Item) (text mid rest : Text) → Begins a text mid → Begins b mid rest → Begins (a ++ b) text rest
-begins_both [] b text mid rest p q = subst (λ t. Begins b t rest) (sym p) q
-begins_both (i ∷ a) b (WordAt at w text) mid rest p q = (p.0, begins_both a b text mid rest p.1 q)
-begins_both (i ∷ a) b (OpenAt at text) mid rest p q = (p.0, begins_both a b text mid rest p.1 q)
-begins_both (i ∷ a) b (CloseAt at text) mid rest p q = (p.0, begins_both a b text mid rest p.1 q)
-begins_both (i ∷ a) b (EndAt at) mid rest p q = absurd p
-
-pub begins_parts : (a b : List Item) (text rest : Text) → Begins (a ++ b) text rest → (mid : Text) × Begins a text mid × Begins b mid rest
-begins_parts [] b text rest p = (text, refl, p)
-begins_parts (i ∷ a) b (WordAt at w text) rest p = let r = begins_parts a b text rest p.1 in (r.0, (p.0, r.1), r.2)
-begins_parts (i ∷ a) b (OpenAt at text) rest p = let r = begins_parts a b text rest p.1 in (r.0, (p.0, r.1), r.2)
-begins_parts (i ∷ a) b (CloseAt at text) rest p = let r = begins_parts a b text rest p.1 in (r.0, (p.0, r.1), r.2)
-begins_parts (i ∷ a) b (EndAt at) rest p = absurd p
-
-begins_size : (a : List Item) (text rest : Text) → Begins a text rest → size rest ≤ size text
-begins_size [] text rest p = subst (λ (t : Text). size t ≤ size text) p (omega arith)
-begins_size (i ∷ a) (WordAt at w text) rest p = omega (arith, begins_size a text rest p.1)
-begins_size (i ∷ a) (OpenAt at text) rest p = omega (arith, begins_size a text rest p.1)
-begins_size (i ∷ a) (CloseAt at text) rest p = omega (arith, begins_size a text rest p.1)
-begins_size (i ∷ a) (EndAt at) rest p = absurd p
+use Rattle.snd_tokens.specs.Lexemes.{Text, WordAt, OpenAt, CloseAt, EndAt}
+use Rattle.text_kit.specs.Items.{AreBehind, AreSpelled, Item, Verbatim, Whole, Money, Opening, Closing, SpellsItem, Begins}
+use Rattle.text_kit.specs.Reading.{Read, Reading, after, ◌>>=◌, give, word_at, open_at, close_at, end_at, over_at, expected, Ending, Parenthesis, list_at, up_to, of_length, exactly_at, no_fault, not_empty, whole_at}
+pub use Rattle.text_kit.proofs.Beginnings.{AnyText, IsEnd, IsLeftBy, Starts, begins_both, begins_parts, ending_again, ending_items, ending_takes, no_ending, sound_ok, starts_less}
+use Rattle.text_kit.proofs.Online.{ok_parts, placed_ok}
+pub use Rattle.text_kit.proofs.Spelled.{Lawful}
+use Rattle.text_kit.proofs.Spelled.{behind_parts, law_spelled, parts_behind, spelled_as, spelled_elements, spelled_law}
 
 pub lawful_give : {K X : Type 0} (v : X) → Lawful {K = K} (give v) (λ x. []) (λ x. v ≡ x) AnyText
 lawful_give {K} v = record {
@@ -104,7 +72,7 @@ lawful_end {K} {X} other x = record {
 
 -- a word's item is no parenthesis
 abbrev pub IsWord : Item → Type 0
-IsWord (Named v) = Unit {0}
+IsWord (Verbatim v) = Unit {0}
 IsWord (Whole n) = Unit {0}
 IsWord (Money n) = Unit {0}
 IsWord Opening = ⊥
@@ -138,10 +106,10 @@ key_if other true x e = refl
 key_if other false x e = absurd cc
 
 -- one expected word
-pub lawful_key : {K : Type 0} (other ended wrong : K) (wanted : List ℕ) → Lawful (word_at other ended (key wrong wanted)) (λ x. Named wanted ∷ []) (λ x. Unit {0}) AnyText
-lawful_key other ended wrong wanted = lawful_word other ended (key wrong wanted) (λ x. Named wanted) (λ x. Unit {0}) (λ x. tt)
+pub lawful_key : {K : Type 0} (other ended wrong : K) (wanted : List ℕ) → Lawful (word_at other ended (expected wrong wanted)) (λ x. Verbatim wanted ∷ []) (λ x. Unit {0}) AnyText
+lawful_key other ended wrong wanted = lawful_word other ended (expected wrong wanted) (λ x. Verbatim wanted) (λ x. Unit {0}) (λ x. tt)
     (λ w x e. (tt, same_is w wanted (key_if wrong (are_same w wanted) x e)))
-    (λ w x is same. ap (key wrong wanted) same ∙ rw (is_same wanted) refl)
+    (λ w x is same. ap (expected wrong wanted) same ∙ rw (is_same wanted) refl)
 
 -- ---- one reading after another, whose answer tells what the first gave
 
@@ -176,151 +144,21 @@ lawful_whole other r items is law = lawful_as (whole_at other r) _ items _ is Is
 
 -- ---- lists
 
--- the first item is none that closes
-abbrev pub Starts : List Item → Type 0
-Starts [] = ⊥
-Starts (Named v ∷ is) = Unit {0}
-Starts (Whole n ∷ is) = Unit {0}
-Starts (Money n ∷ is) = Unit {0}
-Starts (Opening ∷ is) = Unit {0}
-Starts (Closing ∷ is) = ⊥
+-- the items of elements, one after another
+spelled_flat : {X : Type 0} (items : X → List Item) (xs : List X) (is : List Item) → AreSpelled (λ x js. js ≡ items x) xs is → is ≡ flat_map items xs
+spelled_flat items [] is s = s
+spelled_flat items (x ∷ xs) is s = s.4 ∙ rw (s.2, spelled_flat items xs s.1 s.3) refl
 
-starts_open : (is more : List Item) (at : ℕ) (t rest : Text) → Starts is → Begins (is ++ more) (CloseAt at t) rest → ⊥
-starts_open [] more at t rest s b = s
-starts_open (Named v ∷ is) more at t rest s b = let e : Named v ≡ Closing = b.0 in cc
-starts_open (Whole n ∷ is) more at t rest s b = let e : Whole n ≡ Closing = b.0 in cc
-starts_open (Money n ∷ is) more at t rest s b = let e : Money n ≡ Closing = b.0 in cc
-starts_open (Opening ∷ is) more at t rest s b = let e : Opening ≡ Closing = b.0 in cc
-starts_open (Closing ∷ is) more at t rest s b = s
+flat_spelled : {X : Type 0} (items : X → List Item) (xs : List X) → AreSpelled (λ x js. js ≡ items x) xs (flat_map items xs)
+flat_spelled items [] = refl
+flat_spelled items (x ∷ xs) = (items x, flat_map items xs, refl, flat_spelled items xs, refl)
 
-starts_text : (is more : List Item) (at : ℕ) (rest : Text) → Starts is → Begins (is ++ more) (EndAt at) rest → ⊥
-starts_text [] more at rest s b = s
-starts_text (i ∷ is) more at rest s b = b
-
-pub starts_less : (is : List Item) (text rest : Text) → Starts is → Begins is text rest → size rest < size text
-starts_less [] text rest s b = absurd s
-starts_less (i ∷ is) (WordAt at w t) rest s b = omega (arith, begins_size is t rest b.1)
-starts_less (i ∷ is) (OpenAt at t) rest s b = omega (arith, begins_size is t rest b.1)
-starts_less (i ∷ is) (CloseAt at t) rest s b = omega (arith, begins_size is t rest b.1)
-starts_less (i ∷ is) (EndAt at) rest s b = absurd b
-
-pub no_ending : (e : Ending) (is more : List Item) (text rest : Text) → Starts is → Begins (is ++ more) text rest → past_ending e text ≡ None
-no_ending Parenthesis is more (WordAt at w t) rest s b = refl
-no_ending TheEnd is more (WordAt at w t) rest s b = refl
-no_ending Parenthesis is more (OpenAt at t) rest s b = refl
-no_ending TheEnd is more (OpenAt at t) rest s b = refl
-no_ending Parenthesis is more (CloseAt at t) rest s b = absurd (starts_open is more at t rest s b)
-no_ending TheEnd is more (CloseAt at t) rest s b = refl
-no_ending Parenthesis is more (EndAt at) rest s b = refl
-no_ending TheEnd is more (EndAt at) rest s b = absurd (starts_text is more at rest s b)
-
--- the items of an ending, and what it leaves
-abbrev pub ending_items : Ending → List Item
-ending_items Parenthesis = Closing ∷ []
-ending_items TheEnd = []
-
-abbrev pub IsLeftBy : Ending → Text → Type 0
-IsLeftBy Parenthesis text = Unit {0}
-IsLeftBy TheEnd text = IsEnd text
-
-pub ending_takes : (e : Ending) (t r : Text) → past_ending e t ≡ Some r → Begins (ending_items e) t r × IsLeftBy e r
-ending_takes Parenthesis (CloseAt p t) r e = let is : t ≡ r = cc in ((refl, is), tt)
-ending_takes TheEnd (EndAt p) r e = let is : EndAt p ≡ r = cc in (is, (p, sym is))
-ending_takes TheEnd (CloseAt p t) r e = absurd cc
-ending_takes Parenthesis (EndAt p) r e = absurd cc
-ending_takes Parenthesis (WordAt p w t) r e = absurd cc
-ending_takes TheEnd (WordAt p w t) r e = absurd cc
-ending_takes Parenthesis (OpenAt p t) r e = absurd cc
-ending_takes TheEnd (OpenAt p t) r e = absurd cc
-
-pub ending_again : (e : Ending) (t r : Text) → Begins (ending_items e) t r → IsLeftBy e r → past_ending e t ≡ Some r
-ending_again Parenthesis (CloseAt p t) r b left = ap (λ (u : Text). Some u) b.1
-ending_again Parenthesis (OpenAt p t) r b left = absurd (let e : Closing ≡ Opening = b.0 in cc)
-ending_again Parenthesis (WordAt p w t) r b left = absurd b.0
-ending_again Parenthesis (EndAt p) r b left = absurd b
-ending_again TheEnd t r b left = rw (b, left.1) refl
-
-pub sound_ok : {K X : Type 0} (x y : X) (o : Option K) → sound x o ≡ Ok y → (o ≡ None) × (x ≡ y)
-sound_ok x y None e = (refl, cc)
-sound_ok x y (Some k) e = absurd cc
-
-module _ {K X : Type 0} (ending : Ending) (fault : List X → Option K) (one : List X → Reading K X) (items : X → List Item) (is : List X → X → Type 0) (starts : (x : X) → Starts (items x)) (law : (sofar : List X) → Lawful (one sofar) items (is sofar) AnyText) where
-  abbrev E : ℕ → List X → Reading K (List X)
-  E n sofar text = elements ending fault one n sofar text
-
-  abbrev M : ℕ → List X → X → Reading K (List X)
-  M n sofar x text = more ending fault one n sofar x text
-
-  -- a list that was read: new elements after the earlier ones
-  record Takes (sofar : List X) (text : Text) (all : List X) (rest : Text) : Type 0 where
-    pub new : List X
-    pub all_are : all ≡ sofar ++ new
-    pub right : fault all ≡ None
-    pub each : AreBehind is sofar new
-    pub begins : Begins (flat_map items new ++ ending_items ending) text rest
-    pub left : IsLeftBy ending rest
-
-  takes_more : (n : ℕ) (sofar : List X) (text : Text) (q : Read K X) (all : List X) (rest : Text) → one sofar text ≡ q → after q (λ x. M n sofar x) ≡ Ok (all, rest) → size text < suc n
-      → ((x : X) (mid : Text) → size mid < n → M n sofar x mid ≡ Ok (all, rest) → Takes (sofar ++ x ∷ []) mid all rest) → Takes sofar text all rest
-  takes_more n sofar text (Err d) all rest read e enough later = absurd cc
-  takes_more n sofar text (Ok x) all rest read e enough later =
-      let h = (law sofar).takes text x.0 x.1 read in
-      let t = later x.0 x.1 (omega (arith, enough, starts_less (items x.0) text x.1 (starts x.0) h.1)) e in
-      record {
-        new = x.0 ∷ t.new;
-        all_are = t.all_are ∙ append_assoc sofar (x.0 ∷ []) t.new;
-        right = t.right;
-        each = (h.0, t.each);
-        begins = subst (λ (xs : List Item). Begins xs text rest) (sym (append_assoc (items x.0) (flat_map items t.new) (ending_items ending))) (begins_both (items x.0) (flat_map items t.new ++ ending_items ending) text x.1 rest h.1 t.begins);
-        left = t.left;
-      }
-
-  takes_by : (n : ℕ) (sofar : List X) (text : Text) (o : Option Text) (all : List X) (rest : Text) → past_ending ending text ≡ o → ended_or o (λ r. placed (place text) r (sound sofar (fault sofar))) (after (one sofar text) (λ x. M n sofar x)) ≡ Ok (all, rest) → size text < suc n
-      → ((x : X) (mid : Text) → size mid < n → M n sofar x mid ≡ Ok (all, rest) → Takes (sofar ++ x ∷ []) mid all rest) → Takes sofar text all rest
-  takes_by n sofar text (Some r) all rest read e enough later =
-      let p = placed_ok (place text) r (sound sofar (fault sofar)) all rest e in
-      let s = sound_ok sofar all (fault sofar) p.0 in
-      let b = ending_takes ending text r read in
-      record {
-        new = [];
-        all_are = sym s.1 ∙ sym (append-nil sofar);
-        right = subst (λ (xs : List X). fault xs ≡ None) s.1 s.0;
-        each = tt;
-        begins = subst (λ (t : Text). Begins (ending_items ending) text t) p.1 b.0;
-        left = subst (λ (t : Text). IsLeftBy ending t) p.1 b.1;
-      }
-  takes_by n sofar text None all rest read e enough later = takes_more n sofar text (one sofar text) all rest refl e enough later
-
-  list_takes : (n : ℕ) (sofar : List X) (text : Text) (all : List X) (rest : Text) → size text < n → E n sofar text ≡ Ok (all, rest) → Takes sofar text all rest
-  list_takes zero sofar text all rest enough e = absurd (omega (arith, enough))
-  list_takes (suc n) sofar text all rest enough e = takes_by n sofar text (past_ending ending text) all rest refl e enough (λ x mid lt h. list_takes n (sofar ++ x ∷ []) mid all rest lt h)
-
-  list_again : (n : ℕ) (sofar new : List X) (text rest : Text) → size text < n → fault (sofar ++ new) ≡ None → AreBehind is sofar new → Begins (flat_map items new ++ ending_items ending) text rest → IsLeftBy ending rest → E n sofar text ≡ Ok (sofar ++ new, rest)
-  list_again zero sofar new text rest enough right each b left = absurd (omega (arith, enough))
-  list_again (suc n) sofar [] text rest enough right each b left =
-      let all = append-nil sofar in
-      at_ending ending fault one n sofar text rest (ending_again ending text rest b left)
-      ∙ (ap (λ (o : Option K). placed (place text) rest (sound sofar o)) (subst (λ (xs : List X). fault xs ≡ None) all right) ∙ ap (λ (xs : List X). Ok (xs, rest)) (sym all))
-  list_again (suc n) sofar (x ∷ xs) text rest enough right each b left =
-      let behind = flat_map items xs ++ ending_items ending in
-      let joined : Begins (items x ++ behind) text rest = subst (λ (is : List Item). Begins is text rest) (append_assoc (items x) (flat_map items xs) (ending_items ending)) b in
-      let p = begins_parts (items x) behind text rest joined in
-      let read = (law sofar).again text x p.0 each.0 p.1 tt in
-      let less = starts_less (items x) text p.0 (starts x) p.1 in
-      let all = append_assoc sofar (x ∷ []) xs in
-      before_ending ending fault one n sofar text (no_ending ending (items x) behind text rest (starts x) joined)
-      ∙ (ap (λ (q : Read K X). after q (λ y. M n sofar y)) read
-      ∙ (list_again n (sofar ++ x ∷ []) xs p.0 rest (omega (arith, enough, less)) (subst (λ (ys : List X). fault ys ≡ None) (sym all) right) each.1 p.2 left
-      ∙ ap (λ (ys : List X). Ok (ys, rest)) all))
-
-  pub lawful_list : Lawful (list_at ending fault one []) (λ xs. flat_map items xs ++ ending_items ending) (λ xs. (fault xs ≡ None) × AreBehind is [] xs) (IsLeftBy ending)
-  lawful_list = record {
-    takes = λ text xs rest e.
-        let t = list_takes (suc (size text)) [] text xs rest (omega arith) e in
-        subst (λ (ys : List X). ((fault ys ≡ None) × AreBehind is [] ys) × Begins (flat_map items ys ++ ending_items ending) text rest × IsLeftBy ending rest) (sym t.all_are)
-        ((subst (λ (ys : List X). fault ys ≡ None) t.all_are t.right, t.each), t.begins, t.left);
-    again = λ text xs rest form b left. list_again (suc (size text)) [] xs text rest (omega arith) form.0 form.1 b left;
-  }
+pub lawful_list : {K X : Type 0} (ending : Ending) (fault : List X → Option K) (one : List X → Reading K X) (items : X → List Item) (is : List X → X → Type 0) (starts : (x : X) → Starts (items x)) (law : (sofar : List X) → Lawful (one sofar) items (is sofar) AnyText)
+    → Lawful (list_at ending fault one []) (λ xs. flat_map items xs ++ ending_items ending) (λ xs. (fault xs ≡ None) × AreBehind is [] xs) (IsLeftBy ending)
+lawful_list {X} ending fault one items is starts law = law_spelled _ _ _ _ (spelled_as _ _ (λ xs js. ((fault xs ≡ None) × AreBehind is [] xs) × (js ≡ flat_map items xs ++ ending_items ending)) _
+    (λ xs js s. let p = behind_parts is (λ x ks. ks ≡ items x) [] xs s.1.0 s.1.1 in ((s.0, p.0), s.1.2 ∙ ap (λ (ks : List Item). ks ++ ending_items ending) (spelled_flat items xs s.1.0 p.1)))
+    (λ xs js s. (s.0.0, (flat_map items xs, parts_behind is (λ x ks. ks ≡ items x) [] xs (flat_map items xs) s.0.1 (flat_spelled items xs), s.1)))
+    (spelled_elements ending fault one (λ sofar x js. is sofar x × (js ≡ items x)) (λ sofar x js s. subst Starts (sym s.1) (starts x)) (λ sofar. spelled_law (one sofar) items (is sofar) AnyText (law sofar))))
 
 -- ---- limits
 

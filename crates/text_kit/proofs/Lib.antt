@@ -1,11 +1,15 @@
 pub mod Alike
 pub mod Online
+pub mod Beginnings
 pub mod Turns
+pub mod Outcomes
 pub mod Lawful
 pub mod Spelled
 pub mod Rising
 pub mod Agreeing
 pub mod Numerals
+pub mod Amounts
 pub mod Written
 pub mod Files
 pub mod Behind
+pub mod NameLaws

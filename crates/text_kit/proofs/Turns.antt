@@ -1,4 +1,4 @@
--- TakesTurn of a list.
+-- TakesElement of a list.
 use Rattle.std.proofs.Common.{◌≡◌, ℕ, zero, suc, ◌<◌, List, [], ◌∷◌, ◌++◌, Option, None, Some, Ok, Err, refl, ap, ◌∙◌, arith}
 use Rattle.snd_tokens.specs.Lexemes.{Text, size}
 use Rattle.text_kit.specs.Places.{place}

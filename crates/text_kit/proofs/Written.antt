@@ -7,7 +7,7 @@ use Rattle.snd_tokens.specs.declared.token.TokenKind.TheVariants as kinds
 use Rattle.snd_tokens.specs.Tokens.{is_plain, is_space, is_word_byte, run_length, starts_token, token_of, token_bytes, tokens_from}
 use Rattle.snd_tokens.specs.Lexemes.{Text, WordAt, OpenAt, CloseAt, EndAt, text_of, text_from}
 use Rattle.snd_tokens.proofs.Scan.{tokens_from-close, tokens_from-end, tokens_from-open, tokens_from-space, tokens_from-word}
-use Rattle.text_kit.specs.Items.{Item, Named, Whole, Money, Opening, Closing, SpellsItem, Begins}
+use Rattle.text_kit.specs.Items.{Item, Verbatim, Whole, Money, Opening, Closing, SpellsItem, Begins}
 use Rattle.text_kit.specs.Written.{IsWritable, byte_behind, money_word, word_of, written}
 use Rattle.text_kit.proofs.Numerals.{and_parts, decimal_plain, decimal_writes, drop_first, money_again, money_plain, take_first, whole_again}
 
@@ -110,8 +110,8 @@ written_begins (Closing ∷ is) whole at all within e =
     let p = passed whole (at + 1) 10 (written is) refl o.1 in
     subst (λ (t : Text). Begins (Closing ∷ is) t (EndAt (length whole))) (sym o.0)
     (refl, subst (λ (t : Text). Begins is t (EndAt (length whole))) (sym p.0) (written_begins is whole (at + 1 + 1) all.1 p.2 p.1))
-written_begins (Named w ∷ is) whole at all within e =
-    word_first (Named w) is whole at w all.0 refl e (λ d le. written_begins is whole (at + length w + 1) all.1 le d)
+written_begins (Verbatim w ∷ is) whole at all within e =
+    word_first (Verbatim w) is whole at w all.0 refl e (λ d le. written_begins is whole (at + length w + 1) all.1 le d)
 written_begins (Whole n ∷ is) whole at all within e =
     word_first (Whole n) is whole at (decimal n) (decimal_plain n all.0) (whole_again n (decimal n) all.0 (decimal_writes n all.0)) e (λ d le. written_begins is whole (at + length (decimal n) + 1) all.1 le d)
 written_begins (Money n ∷ is) whole at all within e =

@@ -1,6 +1,6 @@
 -- what functions answer of a reading
 use Rattle.std.specs.Prelude.{◌≡◌, ℕ, Bool, true, false, Option, None, Some, Result, Ok, Err}
-use Rattle.snd_tokens.specs.Lexemes.{Text, CloseAt, EndAt}
+use Rattle.snd_tokens.specs.Lexemes.{Text, WordAt, OpenAt, CloseAt, EndAt}
 use Rattle.text_kit.specs.Reading.{Read, Parenthesis, TheEnd, past_ending}
 use Rattle.text_kit.specs.declared.refusal.Refusal.{Refusal}
 use Rattle.text_kit.specs.declared.refusal.Refusal.TheVariants.{Bad, NoMemory}
@@ -26,6 +26,13 @@ AnswersAs view (Ok x) y = view x ≡ y
 AnswersAs view (Err (Bad at kind)) y = ⊥
 AnswersAs view (Err NoMemory) y = Unit {0}
 
+-- something else than a word is next, or nothing
+abbrev pub LacksWord : {K : Type 0} → K → K → Text → Refusal K → Type 0
+LacksWord other ended (WordAt at w rest) e = ⊥
+LacksWord other ended (OpenAt at rest) e = e ≡ Bad at other
+LacksWord other ended (CloseAt at rest) e = e ≡ Bad at other
+LacksWord other ended (EndAt at) e = e ≡ Bad at ended
+
 -- a closing parenthesis was taken at this place, or none is next
 abbrev pub Closes : Option ℕ → Text → Text → Type 0
 Closes (Some at) old new = old ≡ CloseAt at new
@@ -37,7 +44,7 @@ IsAtEnd (Some at) text = text ≡ EndAt at
 IsAtEnd None text = past_ending TheEnd text ≡ None
 
 -- a turn of a list: with more to come, reading goes on as it stood; else it gave all; at a fault it fails with it
-abbrev pub TakesTurn : {K X : Type 0} → Result Bool (Refusal K) → Read K X → Read K X → Read K X → Type 0
-TakesTurn (Ok true) before after all = before ≡ after
-TakesTurn (Ok false) before after all = before ≡ all
-TakesTurn (Err e) before after all = Fails e before
+abbrev pub TakesElement : {K X : Type 0} → Result Bool (Refusal K) → Read K X → Read K X → Read K X → Type 0
+TakesElement (Ok true) before after all = before ≡ after
+TakesElement (Ok false) before after all = before ≡ all
+TakesElement (Err e) before after all = Fails e before

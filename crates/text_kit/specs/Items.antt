@@ -6,7 +6,7 @@ use Rattle.snd_tokens.specs.Wholes.{whole_of}
 
 -- this very word, a whole number, an amount or money in thousandths, or a parenthesis
 pub data Item : Type 0 where
-  Named : List ℕ → Item
+  Verbatim : List ℕ → Item
   Whole : ℕ → Item
   Money : ℕ → Item
   Opening : Item
@@ -14,7 +14,7 @@ pub data Item : Type 0 where
 
 -- the word spells the item
 abbrev pub SpellsItem : List ℕ → Item → Type 0
-SpellsItem w (Named v) = w ≡ v
+SpellsItem w (Verbatim v) = w ≡ v
 SpellsItem w (Whole n) = whole_of w ≡ Ok n
 SpellsItem w (Money n) = money_of w ≡ Ok n
 SpellsItem w Opening = ⊥

@@ -2,6 +2,8 @@ pub mod Items
 pub mod Laws
 pub mod Places
 pub mod Reading
+pub mod Names
+pub mod Numbers
 pub mod Answers
 pub mod Files
 pub mod Written

@@ -59,8 +59,8 @@ abbrev pub over_at : {K X : Type 0} → K → K → Reading K X
 over_at kind ended = step_at (λ w. Err kind) (Err kind) (Err kind) (Err ended)
 
 -- the test for one expected word
-abbrev pub key : {K : Type 0} → K → List ℕ → List ℕ → Result (Unit {0}) K
-key other wanted w = if are_same w wanted then Ok tt else Err other
+abbrev pub expected : {K : Type 0} → K → List ℕ → List ℕ → Result (Unit {0}) K
+expected other wanted w = if are_same w wanted then Ok tt else Err other
 
 -- what was read, for what it means
 abbrev pub mapped : {K X Y : Type 0} → (X → Y) → Reading K X → Reading K Y

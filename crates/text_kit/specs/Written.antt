@@ -1,7 +1,7 @@
 -- the text of items, as it is written
 use Rattle.std.specs.Prelude.{◌≡◌, ℕ, ◌+◌, ◌/◌, ◌%◌, ◌<◌, ◌≤◌, ◌^◌, true, List, [], ◌∷◌, ◌++◌, length, decimal}
 use Rattle.snd_tokens.specs.Tokens.{is_plain}
-use Rattle.text_kit.specs.Items.{Item, Named, Whole, Money, Opening, Closing}
+use Rattle.text_kit.specs.Items.{Item, Verbatim, Whole, Money, Opening, Closing}
 
 -- the last digit of a number
 abbrev pub last_digit : ℕ → ℕ
@@ -13,7 +13,7 @@ money_word n = decimal (n / 1000) ++ 46 ∷ last_digit (n / 100) ∷ last_digit 
 
 -- the word of an item
 abbrev pub word_of : Item → List ℕ
-word_of (Named w) = w
+word_of (Verbatim w) = w
 word_of (Whole n) = decimal n
 word_of (Money n) = money_word n
 word_of Opening = 40 ∷ []
@@ -21,7 +21,7 @@ word_of Closing = 41 ∷ []
 
 -- a line ends after a closing parenthesis, and a space stands after all else
 abbrev pub byte_behind : Item → ℕ
-byte_behind (Named w) = 32
+byte_behind (Verbatim w) = 32
 byte_behind (Whole n) = 32
 byte_behind (Money n) = 32
 byte_behind Opening = 32
@@ -34,7 +34,7 @@ written (i ∷ is) = word_of i ++ byte_behind i ∷ written is
 
 -- a name is a word, and a number isn't too large
 abbrev pub IsWritable : Item → Type 0
-IsWritable (Named w) = (1 ≤ length w) × (is_plain w ≡ true)
+IsWritable (Verbatim w) = (1 ≤ length w) × (is_plain w ≡ true)
 IsWritable (Whole n) = n < 2 ^ 126
 IsWritable (Money n) = n < 2 ^ 126
 IsWritable Opening = Unit {0}

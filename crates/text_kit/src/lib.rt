@@ -2,11 +2,14 @@
 //! that all formats share.
 #![tactic(auto)]
 
+pub mod fault_word;
 pub mod law;
+pub mod names;
 pub mod refusal;
 pub mod steps;
 pub mod write;
 
+pub use fault_word::FaultWord;
 pub use refusal::Refusal;
 
 #[cfg(test)]

@@ -1,10 +1,11 @@
-ghost use Rattle.std.specs.Prelude.{◌≡◌, true, false, IfOk, IfErr};
+ghost use Rattle.std.specs.Prelude.{◌≡◌, ◌≤◌, true, false, length, IfOk, IfErr, IsTrue};
 ghost use Rattle.net_core.specs.Tests.{are_same};
 ghost use Rattle.snd_tokens.specs.Header.{first_line, trimmed};
-ghost use Rattle.snd_tokens.specs.Lexemes.{EndAt, left};
-ghost use Rattle.text_kit.specs.Answers.{Closes, Fails, ReadsAs, IsAtEnd};
+ghost use Rattle.snd_tokens.specs.Lexemes.{EndAt, WordAt, left};
+ghost use Rattle.snd_tokens.specs.Tokens.{is_plain};
+ghost use Rattle.text_kit.specs.Answers.{Closes, Fails, ReadsAs, IsAtEnd, LacksWord};
 ghost use Rattle.text_kit.specs.Files.{body};
-ghost use Rattle.text_kit.specs.Reading.{close_at, end_at, key, open_at, over_at, placed, word_at};
+ghost use Rattle.text_kit.specs.Reading.{close_at, end_at, expected, open_at, over_at, placed, word_at};
 
 use crate::refusal::{Refusal, bad};
 use snd_tokens::{Cursor, Next};
@@ -20,25 +21,37 @@ pub fn placed<K: Debug + Drop, X: Drop>(at: u64, outcome: Result<X, K>) -> Resul
     }
 }
 
+/// Takes a word, and gives its place and its bytes.
+pub fn word<'a, K: Debug + Drop>(
+    other: K,
+    ended: K,
+    text: &mut Cursor<'a>,
+) -> Result<(u64, &'a [u8]), Refusal<K>>
+    ensures took { IfOk result (λ x. left text.old ≡ WordAt x.0 x.1.now (left text.new)) }
+    ensures plain { IfOk result (λ x. (1 ≤ length x.1.now) × IsTrue (is_plain x.1.now)) }
+    ensures fault { IfErr result (LacksWord other ended (left text.old)) }
+{
+    match text.next() {
+        Next::Word(at, word) => Ok((at, word)),
+        Next::Open(at) | Next::Close(at) => Err(bad(at, other)),
+        Next::End(at) => Err(bad(at, ended)),
+    }
+}
+
 /// Takes one expected word.
-pub fn expect<K: Debug + Drop>(
+pub fn expect<K: Copy + Debug + Drop>(
     other: K,
     ended: K,
     wanted: &[u8],
     text: &mut Cursor,
 ) -> Result<(), Refusal<K>>
-    ensures { ReadsAs (λ _. tt) result (left text.new) (word_at other ended (key other wanted.now) (left text.old)) }
+    ensures { ReadsAs (λ _. tt) result (left text.new) (word_at other ended (expected other wanted.now) (left text.old)) }
 {
-    match text.next() {
-        Next::Word(at, word) => {
-            if word == wanted {
-                return Ok(());
-            }
-            Err(bad(at, other))
-        }
-        Next::Open(at) | Next::Close(at) => Err(bad(at, other)),
-        Next::End(at) => Err(bad(at, ended)),
+    let (at, word) = word(other, ended, text)?;
+    if word == wanted {
+        return Ok(());
     }
+    Err(bad(at, other))
 }
 
 /// Takes an opening parenthesis.

@@ -1,5 +1,5 @@
 ghost use Rattle.std.specs.Prelude.{◌≡◌, ◌++◌, ◌∷◌, [], OnOk, decimal};
-ghost use Rattle.text_kit.specs.Items.{Item, Named, Whole, Money, Opening, Closing};
+ghost use Rattle.text_kit.specs.Items.{Item, Verbatim, Whole, Money, Opening, Closing};
 ghost use Rattle.text_kit.specs.Written.{last_digit, money_word, written};
 
 use itoa::Buffer;
@@ -30,7 +30,7 @@ pub fn put_money_word(text: &mut Bytes, n: u128) -> Result<(), NoMemory>
 
 /// Puts a word last.
 pub fn put_word(text: &mut Bytes, word: &[u8]) -> Result<(), NoMemory>
-    ensures { OnOk result (text.new ≡ text.old ++ written (Named word.now ∷ [])) }
+    ensures { OnOk result (text.new ≡ text.old ++ written (Verbatim word.now ∷ [])) }
 {
     text.append(word)?;
     text.append(b" ")

@@ -1,0 +1,80 @@
+ghost use Rattle.std.specs.Prelude.{◌≡◌, ◌≤◌, false, nat_lt, length, None, IfOk, IsTrue};
+ghost use Rattle.snd_tokens.specs.Lexemes.{EndAt};
+ghost use Rattle.snd_tokens.specs.Tokens.{is_plain};
+ghost use Rattle.text_kit.specs.Answers.{ReadsAs};
+ghost use Rattle.text_kit.specs.Names.{new_name_fault};
+ghost use Rattle.text_kit.specs.Reading.{placed, sound};
+
+use crate::refusal::{Refusal, bad};
+use net_core::{Name, NameFault, NoMemory};
+use std::alloc::Global;
+use std::fmt::Debug;
+
+const MAX_NAME: usize = 255;
+
+/// Whether a word is too long for a name.
+pub fn is_long(word: &[u8]) -> bool
+    ensures value { result ≡ nat_lt 255 (length word.now) }
+    ensures short { result ≡ false → length word.now ≤ 255 }
+{
+    word.len() > MAX_NAME
+}
+
+/// What is wrong with a word as a new name, of which there are `most` at most: it is too `long`,
+/// or it is a `double` since it is `taken`, or `count` others before it are as many as the `limit`
+/// allows.
+pub fn new_name_fault<K: Debug + Drop>(
+    long: K,
+    double: K,
+    limit: K,
+    most: usize,
+    count: usize,
+    taken: bool,
+    word: &[u8],
+) -> Option<K>
+    ensures value { result ≡ new_name_fault long double limit most count taken word.now }
+    ensures short { result ≡ None → length word.now ≤ 255 }
+{
+    if is_long(word) {
+        return Some(long);
+    }
+    if taken {
+        return Some(double);
+    }
+    if count >= most {
+        return Some(limit);
+    }
+    None
+}
+
+/// The name that a word is.
+fn name_of(alloc: Global, word: &[u8]) -> Result<Name, NoMemory>
+    requires some { 1 ≤ length word.now }
+    requires plain { IsTrue (is_plain word.now) }
+    requires short { length word.now ≤ 255 }
+    ensures { IfOk result (λ n. n ≡ word.now) }
+{
+    match Name::new(alloc, word) {
+        Ok(name) => Ok(name),
+        Err(NameFault::NoMemory) => Err(NoMemory),
+        Err(NameFault::Empty | NameFault::Long | NameFault::BadByte) => unreachable!(),
+    }
+}
+
+/// The name that a word of a text is, at a place, if it has no fault.
+pub fn named<K: Debug + Drop>(
+    alloc: Global,
+    at: u64,
+    word: &[u8],
+    fault: Option<K>,
+) -> Result<Name, Refusal<K>>
+    requires some { 1 ≤ length word.now }
+    requires plain { IsTrue (is_plain word.now) }
+    requires short { fault ≡ None → length word.now ≤ 255 }
+    ensures { ReadsAs (λ n. n) result (EndAt at) (placed at (EndAt at) (sound word.now fault)) }
+{
+    if let Some(kind) = fault {
+        return Err(bad(at, kind));
+    }
+    Ok(name_of(alloc, word)?)
+}
