@@ -31,7 +31,7 @@ use Rattle.plan_types.specs.declared.quality.Quality.TheVariants.{Tight, Loose, 
 use Rattle.plan_types.specs.declared.report.Outcome.{Outcome}
 use Rattle.plan_types.specs.declared.report.Outcome.TheVariants.{Planned, Unsurvivable}
 use Rattle.plan_types.specs.declared.report.Report.{Report}
-use Rattle.text_kit.specs.Items.{Item, Named, Whole, Money}
+use Rattle.text_kit.specs.Items.{Item, Verbatim, Whole, Money}
 use Rattle.plan_report.specs.Parts.{demand_name, edit_items, enclosed, ends_items, link_name, node_name, section, state_name}
 
 -- ---- numbers, cuts and paths
@@ -48,27 +48,27 @@ numbers_items ns = enclosed (flat_map (λ n. Whole n ∷ []) ns)
 -- a line of the pool: its number, and a cut with its state, its right side and its lengths
 abbrev pub pool_line_items : ℕ × CutLine → List Item
 pool_line_items p =
-    enclosed (Whole p.0 ∷ Named (codes "state") ∷ Whole p.1.state.0 ∷ Named (codes "right") ∷ Whole p.1.right ∷ numbers_items p.1.lengths)
+    enclosed (Whole p.0 ∷ Verbatim (codes "state") ∷ Whole p.1.state.0 ∷ Verbatim (codes "right") ∷ Whole p.1.right ∷ numbers_items p.1.lengths)
 
 -- a path: its links between parentheses
 abbrev pub path_items : List Link → List LinkId → List Item
-path_items links path = enclosed (flat_map (λ e. Named (link_name links e) ∷ []) path)
+path_items links path = enclosed (flat_map (λ e. Verbatim (link_name links e) ∷ []) path)
 
 -- ---- the journal
 
 abbrev pub reply_items : Reply → List Item
-reply_items (Accepted version) = Named (codes "accepted") ∷ Whole version ∷ []
-reply_items UnknownDemand = Named (codes "unknown-demand") ∷ []
-reply_items KnownDemand = Named (codes "known-demand") ∷ []
-reply_items UnknownNode = Named (codes "unknown-node") ∷ []
-reply_items SelfDemand = Named (codes "self-demand") ∷ []
-reply_items TooMany = Named (codes "too-many") ∷ []
-reply_items (TooMuch total) = Named (codes "too-much") ∷ Money total ∷ []
+reply_items (Accepted version) = Verbatim (codes "accepted") ∷ Whole version ∷ []
+reply_items UnknownDemand = Verbatim (codes "unknown-demand") ∷ []
+reply_items KnownDemand = Verbatim (codes "known-demand") ∷ []
+reply_items UnknownNode = Verbatim (codes "unknown-node") ∷ []
+reply_items SelfDemand = Verbatim (codes "self-demand") ∷ []
+reply_items TooMany = Verbatim (codes "too-many") ∷ []
+reply_items (TooMuch total) = Verbatim (codes "too-much") ∷ Money total ∷ []
 
 -- an entry: a caller with an edit and its reply, or the place of a cut in the pool, whose state and lengths stand there
 abbrev pub event_items : Entry → List Item
-event_items (Edited caller edit reply) = Named (codes "caller") ∷ Whole caller ∷ edit_items edit ++ reply_items reply
-event_items (Pooled index state lengths) = Named (codes "cut") ∷ Whole index ∷ []
+event_items (Edited caller edit reply) = Verbatim (codes "caller") ∷ Whole caller ∷ edit_items edit ++ reply_items reply
+event_items (Pooled index state lengths) = Verbatim (codes "cut") ∷ Whole index ∷ []
 
 -- an entry after its position
 abbrev pub entry_items : ℕ × Entry → List Item
@@ -78,12 +78,12 @@ entry_items p = enclosed (Whole p.0 ∷ event_items p.1)
 
 -- a flow: its demand, its numerator and its path
 abbrev pub flow_items : List Link → List Demand → Flow → List Item
-flow_items links demands f = Named (demand_name demands f.demand) ∷ Whole f.num ∷ path_items links f.path
+flow_items links demands f = Verbatim (demand_name demands f.demand) ∷ Whole f.num ∷ path_items links f.path
 
 -- the routing of a state: the state's number and name, the denominator, and the flows
 abbrev pub routing_items : List Link → List Listed → List Demand → ℕ × Routing → List Item
 routing_items links listed demands p =
-    Named (codes "state") ∷ Whole p.0 ∷ Named (state_name listed p.0) ∷ Whole p.1.den ∷ enclosed (flat_map (flow_items links demands) p.1.flows)
+    Verbatim (codes "state") ∷ Whole p.0 ∷ Verbatim (state_name listed p.0) ∷ Whole p.1.den ∷ enclosed (flat_map (flow_items links demands) p.1.flows)
 
 -- the routings of all states, from state 0
 abbrev pub routings_items : List Link → List Listed → List Demand → List Routing → List Item
@@ -92,58 +92,58 @@ routings_items links listed demands routings = enclosed (flat_map (routing_items
 -- ---- how good a bound is
 
 abbrev pub route_column_items : List Link → List Demand → RouteColumn → List Item
-route_column_items links demands (route.LinkSlack e) = Named (codes "link") ∷ Named (link_name links e) ∷ []
-route_column_items links demands (route.DemandSlack k) = Named (codes "demand") ∷ Named (demand_name demands k) ∷ []
-route_column_items links demands (route.Carry k path) = Named (codes "flow") ∷ Named (demand_name demands k) ∷ path_items links path
+route_column_items links demands (route.LinkSlack e) = Verbatim (codes "link") ∷ Verbatim (link_name links e) ∷ []
+route_column_items links demands (route.DemandSlack k) = Verbatim (codes "demand") ∷ Verbatim (demand_name demands k) ∷ []
+route_column_items links demands (route.Carry k path) = Verbatim (codes "flow") ∷ Verbatim (demand_name demands k) ∷ path_items links path
 
 abbrev pub master_column_items : List Link → MasterColumn → List Item
-master_column_items links (master.LinkSlack e) = Named (codes "link") ∷ Named (link_name links e) ∷ []
-master_column_items links (master.Metric state lengths) = Named (codes "cut") ∷ Whole state.0 ∷ numbers_items lengths
+master_column_items links (master.LinkSlack e) = Verbatim (codes "link") ∷ Verbatim (link_name links e) ∷ []
+master_column_items links (master.Metric state lengths) = Verbatim (codes "cut") ∷ Whole state.0 ∷ numbers_items lengths
 
 -- what is too wide, of a basis of such columns
 abbrev pub wide_items : {C : Type 0} → List Link → (C → List Item) → WideKind C → List Item
-wide_items links column (Number c) = Named (codes "number") ∷ column c
-wide_items links column (Row i) = Named (codes "row") ∷ Whole i ∷ []
-wide_items links column (Product i c) = Named (codes "entry") ∷ Whole i ∷ column c
-wide_items links column (Sum i) = Named (codes "sum") ∷ Whole i ∷ []
-wide_items links column Common = Named (codes "common") ∷ []
-wide_items links column Value = Named (codes "value") ∷ []
-wide_items links column (Length e) = Named (codes "length") ∷ Named (link_name links e) ∷ []
+wide_items links column (Number c) = Verbatim (codes "number") ∷ column c
+wide_items links column (Row i) = Verbatim (codes "row") ∷ Whole i ∷ []
+wide_items links column (Product i c) = Verbatim (codes "entry") ∷ Whole i ∷ column c
+wide_items links column (Sum i) = Verbatim (codes "sum") ∷ Whole i ∷ []
+wide_items links column Common = Verbatim (codes "common") ∷ []
+wide_items links column Value = Verbatim (codes "value") ∷ []
+wide_items links column (Length e) = Verbatim (codes "length") ∷ Verbatim (link_name links e) ∷ []
 
 -- evidence: the program, a basis, and what of it is too wide
 abbrev pub evidence_items : List Link → List Demand → Evidence → List Item
 evidence_items links demands (Route state caps basis kind) =
-    Named (codes "route") ∷ Whole state.0 ∷ Whole caps.scale ∷ numbers_items caps.nums
+    Verbatim (codes "route") ∷ Whole state.0 ∷ Whole caps.scale ∷ numbers_items caps.nums
     ++ enclosed (flat_map (route_column_items links demands) basis) ++ wide_items links (route_column_items links demands) kind
 evidence_items links demands (Master basis kind) =
-    Named (codes "master") ∷ enclosed (flat_map (master_column_items links) basis) ++ wide_items links (master_column_items links) kind
+    Verbatim (codes "master") ∷ enclosed (flat_map (master_column_items links) basis) ++ wide_items links (master_column_items links) kind
 
 -- a share with the routings within it, why there is no better bound, or that none was looked for
 abbrev pub quality_items : List Link → List Listed → List Demand → Quality → List Item
 quality_items links listed demands (Tight f) =
-    Named (codes "tight") ∷ Whole f.share.scale ∷ numbers_items f.share.units ++ routings_items links listed demands f.routings
-quality_items links listed demands (Loose (Wide evidence)) = Named (codes "loose") ∷ Named (codes "wide") ∷ evidence_items links demands evidence
-quality_items links listed demands (Loose Cuts) = Named (codes "loose") ∷ Named (codes "cuts") ∷ []
-quality_items links listed demands Unsolved = Named (codes "unsolved") ∷ []
+    Verbatim (codes "tight") ∷ Whole f.share.scale ∷ numbers_items f.share.units ++ routings_items links listed demands f.routings
+quality_items links listed demands (Loose (Wide evidence)) = Verbatim (codes "loose") ∷ Verbatim (codes "wide") ∷ evidence_items links demands evidence
+quality_items links listed demands (Loose Cuts) = Verbatim (codes "loose") ∷ Verbatim (codes "cuts") ∷ []
+quality_items links listed demands Unsolved = Verbatim (codes "unsolved") ∷ []
 
 -- ---- plans
 
 -- a demand: its name, its ends and its need
 abbrev pub demand_items : List (List ℕ) → Demand → List Item
-demand_items nodes d = Named d.name ∷ ends_items (node_name nodes d.from) (node_name nodes d.to) ++ Money d.need ∷ []
+demand_items nodes d = Verbatim d.name ∷ ends_items (node_name nodes d.from) (node_name nodes d.to) ++ Money d.need ∷ []
 
 -- the modules of a link: its name, and a count for each
 abbrev pub modules_items : Link × List ℕ → List Item
-modules_items p = Named p.0.name ∷ numbers_items p.1
+modules_items p = Verbatim p.0.name ∷ numbers_items p.1
 
 -- where a cut stands: its place in the pool, or its own state and lengths
 abbrev pub spot_items : Spot → CutLine → List Item
-spot_items (Pool i) cut = Named (codes "pool") ∷ Whole i ∷ []
-spot_items Local cut = Named (codes "local") ∷ Whole cut.state.0 ∷ numbers_items cut.lengths
+spot_items (Pool i) cut = Verbatim (codes "pool") ∷ Whole i ∷ []
+spot_items Local cut = Verbatim (codes "local") ∷ Whole cut.state.0 ∷ numbers_items cut.lengths
 
 -- a line of a certificate: its numerator, its cut, and its right side
 abbrev pub certificate_line_items : CertLine → List Item
-certificate_line_items l = enclosed (Whole l.num ∷ spot_items l.spot l.cut ++ Named (codes "right") ∷ Whole l.cut.right ∷ [])
+certificate_line_items l = enclosed (Whole l.num ∷ spot_items l.spot l.cut ++ Verbatim (codes "right") ∷ Whole l.cut.right ∷ [])
 
 -- a certificate: its denominator, and its lines
 abbrev pub certificate_items : Certificate → List Item
@@ -152,17 +152,17 @@ certificate_items c = section (codes "CERTIFICATE") (Whole c.den ∷ flat_map ce
 -- whose plan command it was, the how manieth of that caller, and for which version and position
 abbrev pub head_items : ℕ → ℕ → ℕ → ℕ → List Item
 head_items caller serial version position =
-    Named (codes "caller") ∷ Whole caller ∷ Named (codes "plan") ∷ Whole serial
-    ∷ Named (codes "version") ∷ Whole version ∷ Named (codes "position") ∷ Whole position ∷ []
+    Verbatim (codes "caller") ∷ Whole caller ∷ Verbatim (codes "plan") ∷ Whole serial
+    ∷ Verbatim (codes "version") ∷ Whole version ∷ Verbatim (codes "position") ∷ Whole position ∷ []
 
 -- a plan after its head
 abbrev pub plan_items : List (List ℕ) → List Link → List Listed → Plan → List Item
 plan_items nodes links listed p =
     section (codes "DEMANDS") (flat_map (demand_items nodes) p.demands)
-    ++ Named (codes "cost") ∷ Money p.cost ∷ Named (codes "bound") ∷ Money p.bound ∷ Named (codes "raw") ∷ Whole p.raw_num ∷ Whole p.raw_den
+    ++ Verbatim (codes "cost") ∷ Money p.cost ∷ Verbatim (codes "bound") ∷ Money p.bound ∷ Verbatim (codes "raw") ∷ Whole p.raw_num ∷ Whole p.raw_den
     ∷ section (codes "MODULES") (flat_map modules_items (zip links p.counts))
     ++ certificate_items p.certificate
-    ++ Named (codes "ROUTES") ∷ routings_items links listed p.demands p.routings
+    ++ Verbatim (codes "ROUTES") ∷ routings_items links listed p.demands p.routings
     ++ quality_items links listed p.demands p.quality
 
 -- what a plan command came to
@@ -171,13 +171,13 @@ outcome_items nodes links listed (Planned caller serial plan) =
     section (codes "PLAN") (head_items caller serial plan.version plan.position ++ plan_items nodes links listed plan)
 outcome_items nodes links listed (Unsurvivable caller serial version position state demand) =
     section (codes "UNSURVIVABLE") (head_items caller serial version position
-    ++ Named (codes "state") ∷ Whole state.0 ∷ Named (state_name listed state.0) ∷ Named (codes "demand") ∷ Named demand ∷ [])
+    ++ Verbatim (codes "state") ∷ Whole state.0 ∷ Verbatim (state_name listed state.0) ∷ Verbatim (codes "demand") ∷ Verbatim demand ∷ [])
 
 -- ---- the report
 
 -- a word where something is noted
 abbrev pub note_items : Bool → List ℕ → List Item
-note_items noted w = if noted then Named w ∷ [] else []
+note_items noted w = if noted then Verbatim w ∷ [] else []
 
 -- which costs of the network aren't counted
 abbrev pub notes_items : Notes → List Item

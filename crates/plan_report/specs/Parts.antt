@@ -8,7 +8,7 @@ use Rattle.net_core.specs.declared.journal.Edit.{Edit}
 use Rattle.net_core.specs.declared.journal.Edit.TheVariants.{Set, Add, Drop}
 use Rattle.net_core.specs.declared.network.Link.{Link}
 use Rattle.net_core.specs.declared.states.Listed.{Listed}
-use Rattle.text_kit.specs.Items.{Item, Named, Whole, Money, Opening, Closing}
+use Rattle.text_kit.specs.Items.{Item, Verbatim, Whole, Money, Opening, Closing}
 
 -- ---- names
 
@@ -37,19 +37,19 @@ enclosed items = Opening ∷ (items ++ Closing ∷ [])
 
 -- a word, and items between parentheses
 abbrev pub section : List ℕ → List Item → List Item
-section w items = Named w ∷ enclosed items
+section w items = Verbatim w ∷ enclosed items
 
 -- the names of two nodes between parentheses
 abbrev pub ends_items : List ℕ → List ℕ → List Item
-ends_items a b = enclosed (Named a ∷ Named b ∷ [])
+ends_items a b = enclosed (Verbatim a ∷ Verbatim b ∷ [])
 
 -- ---- edits of demands
 
 -- an edit: its word, its name, the two nodes of a new demand between parentheses, and its need
 abbrev pub edit_items : Edit → List Item
-edit_items (Set name need) = Named (codes "set") ∷ Named name ∷ Money need ∷ []
-edit_items (Add name from to need) = Named (codes "add") ∷ Named name ∷ ends_items from to ++ Money need ∷ []
-edit_items (Drop name) = Named (codes "drop") ∷ Named name ∷ []
+edit_items (Set name need) = Verbatim (codes "set") ∷ Verbatim name ∷ Money need ∷ []
+edit_items (Add name from to need) = Verbatim (codes "add") ∷ Verbatim name ∷ ends_items from to ++ Money need ∷ []
+edit_items (Drop name) = Verbatim (codes "drop") ∷ Verbatim name ∷ []
 
 -- names have at most 255 bytes, and a need is below 2^40 thousandths
 abbrev pub IsEditInForm : Edit → Type 0
