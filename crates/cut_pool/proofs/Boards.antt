@@ -1,5 +1,6 @@
 -- boards with one entry more
 use Rattle.std.proofs.Common.{◌≡◌, ◌∙◌, ℕ, ◌<◌, ◌++◌, List, [], ◌∷◌, All, length, map, get_or, refl, sym, ap, subst, arith}
+use Rattle.std.specs.Prelude.{IfErr, OnOk, Ok, Err, Result}
 use Rattle.std.proofs.Math.Logic.{∥∥₁_elim}
 use Rattle.std.proofs.Props.{props}
 use Rattle.std.proofs.lemmas.List.{append-nil, get_or-map, length-map, map-append}
@@ -53,7 +54,7 @@ lines_cuts [] = refl
 lines_cuts (c ∷ pool) = ap (λ (cuts : List (ℕ × List ℕ)). cut_with_state c.cut ∷ cuts) (lines_cuts pool)
 
 -- the line has its right side at the demands
-abbrev IsFollowed : Case → List Demand → CutLine → Type 0
+abbrev pub IsFollowed : Case → List Demand → CutLine → Type 0
 IsFollowed p demands l = IsRight (Joins (graph_in p l.state.0)) l.lengths demands l.right
 
 -- the right sides of pooled cuts, as lines
@@ -136,3 +137,18 @@ pub edited_told : (p : Case) (es : List Entry) (demands : List Demand) (version 
 edited_told p es demands version old cuts told caller edit reply after next new answer counted same at =
     ∥∥₁_elim cuts (hlevel props) (λ all. ∥∥₁_elim told (hlevel props) (λ board.
     ∣ edited p es demands version old board caller edit reply after next new answer counted same (still_cuts p old new same all) at ∣₁))
+
+pub pooled_told : (p : Case) (es : List Entry) (demands : List Demand) (version : ℕ) (old : List PooledCut) → ∥ IsBoardAfter p es demands version (map line_of_pooled old) ∥₁
+    → (index : ℕ) (new : PooledCut) → IsLegalAfter p es (Pooled index new.cut.state new.cut.lengths) → IsCutOf (graph_in p new.cut.state.0) new.cut → IsAtDemands demands new
+    → ∥ IsBoardAfter p (es ++ Pooled index new.cut.state new.cut.lengths ∷ []) demands version (map line_of_pooled (old ++ new ∷ [])) ∥₁
+pooled_told p es demands version old told index new legal cut at = ∥∥₁_elim told (hlevel props) (λ board. ∣ pooled p es demands version old board index new legal cut at ∣₁)
+
+pub more_cuts : (p : Case) (old : List PooledCut) (new : PooledCut) → IsCutOf (graph_in p new.cut.state.0) new.cut → ∥ ArePooledCuts p old ∥₁ → ∥ ArePooledCuts p (old ++ new ∷ []) ∥₁
+more_cuts p old new cut told = ∥∥₁_elim told (hlevel props) (λ cuts. ∣ All-push (λ (c : PooledCut). IsCutOf (graph_in p c.cut.state.0) c.cut) old new cuts cut ∣₁)
+
+-- what holds of a history and a pool, and also with one cut more, holds after a cut was committed or refused
+pub committed : (P : List Entry → List PooledCut → Type 0) (r : Result (Unit {0}) Cut) (es es' : List Entry) (e : Entry) (pool pool' : List PooledCut) (new : PooledCut)
+    → OnOk r (es' ≡ es ++ e ∷ []) → OnOk r (pool' ≡ pool ++ new ∷ []) → IfErr r (λ cut. (cut ≡ new.cut) × (es' ≡ es) × (pool' ≡ pool))
+    → P (es ++ e ∷ []) (pool ++ new ∷ []) → P es pool → P es' pool'
+committed P (Ok u) es es' e pool pool' new entries cuts same more before = subst (λ xs. P xs pool') (sym entries) (subst (P (es ++ e ∷ [])) (sym cuts) more)
+committed P (Err cut) es es' e pool pool' new entries cuts same more before = subst (λ xs. P xs pool') (sym same.1) (subst (P es) (sym same.2) before)

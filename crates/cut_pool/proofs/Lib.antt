@@ -1,2 +1,5 @@
+mod Admitting
 mod Boards
 mod Growing
+mod Places
+mod Told

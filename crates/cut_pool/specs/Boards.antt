@@ -1,12 +1,14 @@
 -- boards: what they were made with, how they grow, and what they answer
-use Rattle.std.specs.Prelude.{◌≡◌, ◌≢◌, ℕ, ◌<◌, ◌++◌, List, [], ◌∷◌, All, Some, length, slice_get}
+use Rattle.std.specs.Prelude.{◌≡◌, ◌≢◌, ℕ, ◌<◌, ◌^◌, ◌++◌, List, [], ◌∷◌, All, Some, length, slice_get}
 use Rattle.net_core.specs.declared.demand.Demand.{Demand}
 use Rattle.net_core.specs.declared.journal.Edit.{Edit}
 use Rattle.net_core.specs.declared.journal.Entry.{Entry}
 use Rattle.net_core.specs.declared.journal.Entry.TheVariants.{Edited, Pooled}
 use Rattle.net_core.specs.declared.network.Network.{Network}
 use Rattle.net_core.specs.declared.states.States.{States}
-use Rattle.net_core.specs.Cases.{Case}
+use Rattle.net_core.specs.Cases.{Case, graph_in}
+use Rattle.net_core.specs.Demands.{AreDemands}
+use Rattle.net_core.specs.Graphs.{Joins}
 use Rattle.net_core.specs.Views.{case}
 use Rattle.metric_cut.specs.declared.cut.Cut.{Cut}
 use Rattle.cut_pool.specs.declared.answers.AdmitAnswer.{AdmitAnswer}
@@ -14,7 +16,9 @@ use Rattle.cut_pool.specs.declared.answers.AdmitAnswer.TheVariants as admitting
 use Rattle.cut_pool.specs.declared.answers.EditAnswer.{EditAnswer}
 use Rattle.cut_pool.specs.declared.answers.EditAnswer.TheVariants as editing
 use Rattle.cut_pool.specs.declared.board.Board.{Board}
-use Rattle.cut_pool.specs.Histories.{IsLegalAfter, cuts_of}
+use Rattle.cut_pool.specs.declared.snapshot.Snapshot.{Snapshot}
+use Rattle.plan_terms.specs.Certificates.{IsCut, IsRight}
+use Rattle.cut_pool.specs.Histories.{IsLegalAfter, IsPoolAfter, cuts_of, demands_left, version_left}
 
 -- what a board was made with: its network, its states and its opening demands
 abbrev pub origin_of : Board → Network × States × List Demand
@@ -65,3 +69,18 @@ AnswersAdmit old cut (admitting.Full back) new =
     IsNew cut old.entries × (length (cuts_of old.entries) < 4096) × (length old.entries ≡ 65536) × (back ≡ cut) × IsSameBoard old new
 AnswersAdmit old cut (admitting.NoMemory back) new =
     IsNew cut old.entries × (length (cuts_of old.entries) < 4096) × (length old.entries < 65536) × (back ≡ cut) × IsSameBoard old new
+
+-- this is the right side of the cut of an index at the demands now
+abbrev pub IsRightNow : Board → ℕ → ℕ → Type 0
+IsRightNow b index right = (cut : ℕ × List ℕ) → slice_get (cuts_of b.entries) index ≡ Some cut
+    → ∥ IsRight (Joins (graph_in (opening_case b) cut.0)) cut.1 (demands_left (opening_case b) b.entries) right ∥₁
+
+-- the snapshot of a board: its position, the version and the demands, and the pool with right sides at these demands
+pub record IsSnapshotOf (b : Board) (s : Snapshot) : Type 0 where
+  pub position_is : s.position ≡ length b.entries
+  pub version_is : s.version ≡ version_left (opening_case b) b.entries
+  pub demands_are : s.demands ≡ demands_left (opening_case b) b.entries
+  pub belong : AreDemands (length b.net.now.nodes) s.demands
+  pub pool : ∥ IsPoolAfter (opening_case b) b.entries s.cuts ∥₁
+  pub cuts_are : ∥ All (IsCut (case b.net.now b.states.now s.demands)) s.cuts ∥₁
+  pub low : All (λ l. l.right < 2 ^ 84) s.cuts
