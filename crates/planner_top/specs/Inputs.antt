@@ -8,13 +8,14 @@ use Rattle.outside_io.specs.Outside.{Fetches, Files}
 use Rattle.outside_io.specs.declared.shelf.Fetch.TheVariants as fetch
 use Rattle.model_reader.specs.Failures as failures
 use Rattle.model_reader.specs.FailuresReading.{failures_of}
+use Rattle.model_reader.specs.FaultWords.{failures_word, model_word}
 use Rattle.model_reader.specs.Models as models
 use Rattle.model_reader.specs.ModelReading.{model_of}
 use Rattle.sndlib_reader.specs.Kinds.{kind_word}
 use Rattle.sndlib_reader.specs.Reading.{IsFirstFault}
 use Rattle.sndlib_reader.specs.Spelling as networks
 use Rattle.planner_top.specs.Commands.{PlanWords, default}
-use Rattle.planner_top.specs.Refusals.{Refuses, failures_word, model_word, unused_line}
+use Rattle.planner_top.specs.Refusals.{Refuses, unused_line}
 use Rattle.planner_top.specs.declared.status.Status.{Status}
 use Rattle.planner_top.specs.declared.status.Status.TheVariants.{BadFailures, BadModel, BadNetwork, NoFile, ReadFault, TooLong}
 

@@ -13,8 +13,7 @@ ghost use Rattle.planner_top.specs.inner.Steps.{Stops, named};
 
 use crate::answer::Stop;
 use crate::command::{DEFAULT, PlanFiles};
-use crate::fault_word::UnusedFailures;
-use crate::refusal::{not_fetched, refused};
+use crate::refusal::{UnusedFailures, not_fetched, refused};
 use crate::status::Status;
 use model_reader::{
     FailuresRefusal, ModelRefusal, only_none, read_failures, read_model, single_links,
