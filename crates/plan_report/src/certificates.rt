@@ -21,7 +21,7 @@ fn put_spot(text: &mut Bytes, spot: Spot, cut: &CutLine) -> Result<(), NoMemory>
 }
 
 /// Puts a line of a certificate last.
-fn put_certificate_line(text: &mut Bytes, line: &CertLine) -> Result<(), NoMemory>
+pub(crate) fn put_certificate_line(text: &mut Bytes, line: &CertLine) -> Result<(), NoMemory>
     requires { line.now.cut.right < 2 ^ 84 }
     ensures { OnOk result (Puts text.old (certificate_line_items line.now) text.new) }
 {

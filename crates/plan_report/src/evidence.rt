@@ -1,4 +1,4 @@
-ghost use Rattle.std.specs.Prelude.{◌<◌, ◌^◌, ◌∷◌, ℕ, List, All, OnOk, flat_map, length};
+ghost use Rattle.std.specs.Prelude.{◌<◌, ◌^◌, ◌∷◌, ◌+◌, List, All, OnOk, flat_map, length};
 ghost use Rattle.net_core.specs.declared.states.Listed.{Listed};
 ghost use Rattle.text_kit.specs.Items.{Whole};
 ghost use Rattle.plan_report.specs.Forms.{IsCauseInForm, IsEvidenceInForm, IsKindInForm, IsMasterColumnInForm, IsMasterEvidenceInForm, IsRouteColumnInForm, IsRouteEvidenceInForm};
@@ -96,13 +96,13 @@ fn put_master_basis(
 }
 
 /// Puts last what of a program that routes is too wide.
-fn put_route_kind(
+pub(crate) fn put_route_kind(
     text: &mut Bytes,
     links: &[Link],
     demands: &[Demand],
     kind: &WideKind<RouteColumn>,
 ) -> Result<(), NoMemory>
-    requires { (rows : ℕ) × IsKindInForm (IsRouteColumnInForm links.now demands.now) ⊥ (λ e. e.0 < length links.now) rows kind.now }
+    requires { IsKindInForm (IsRouteColumnInForm links.now demands.now) ⊥ (λ e. e.0 < length links.now) (length links.now + length demands.now) kind.now }
     ensures { OnOk result (Puts text.old (wide_items links.now (route_column_items links.now demands.now) kind.now) text.new) }
 {
     match kind {
@@ -126,12 +126,12 @@ fn put_route_kind(
 }
 
 /// Puts last what of a program that finds a certificate is too wide.
-fn put_master_kind(
+pub(crate) fn put_master_kind(
     text: &mut Bytes,
     links: &[Link],
     kind: &WideKind<MasterColumn>,
 ) -> Result<(), NoMemory>
-    requires { (listed : List Listed) × (rows : ℕ) × IsKindInForm (IsMasterColumnInForm links.now listed) (Unit {0}) (λ e. ⊥) rows kind.now }
+    requires { (listed : List Listed) × IsKindInForm (IsMasterColumnInForm links.now listed) (Unit {0}) (λ e. ⊥) (length links.now) kind.now }
     ensures { OnOk result (Puts text.old (wide_items links.now (master_column_items links.now) kind.now) text.new) }
 {
     match kind {

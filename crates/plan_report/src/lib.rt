@@ -15,3 +15,6 @@ mod writer;
 
 pub use plan_types::{Outcome, Report};
 pub use writer::write_report;
+
+#[cfg(test)]
+mod tests;

@@ -94,7 +94,7 @@ fn put_fractional(
 }
 
 /// Puts last how good a bound is.
-fn put_quality(
+pub(crate) fn put_quality(
     text: &mut Bytes,
     links: &[Link],
     listed: &[Listed],

@@ -10,7 +10,7 @@ use crate::puts::{put_close, put_field, put_number, put_open, put_whole};
 use net_core::{Bytes, Demand, Flow, Link, Listed, NoMemory, Routing};
 
 /// Puts a flow last.
-fn put_flow(
+pub(crate) fn put_flow(
     text: &mut Bytes,
     links: &[Link],
     demands: &[Demand],

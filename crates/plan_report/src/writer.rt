@@ -28,7 +28,7 @@ fn put_note(text: &mut Bytes, noted: bool, word: &[u8]) -> Result<(), NoMemory>
 }
 
 /// Puts notes last.
-fn put_notes(text: &mut Bytes, notes: Notes) -> Result<(), NoMemory>
+pub(crate) fn put_notes(text: &mut Bytes, notes: Notes) -> Result<(), NoMemory>
     ensures { OnOk result (Puts text.old (notes_items notes) text.new) }
 {
     put_note(text, notes.fixed_cost, b"fixed")?;
