@@ -43,7 +43,7 @@ abbrev pub plan_findings : Case → Bool → Plan → List Kind
 plan_findings p full plan = HoldsDemandsDiffer p plan ∷ own_findings (plan_case p plan) full plan
 
 -- the plan carries the demands in each state, its cost is its own, and its bound is certified
-pub record IsSoundPlan (p : Case) (plan : Plan) : Type 0 where
+pub record IsAcceptedPlan (p : Case) (plan : Plan) : Type 0 where
   pub carrying : IsCarryingPlan p plan
   pub costed : IsCostedPlan p plan
   pub certified : IsCertifiedPlan p plan

@@ -38,7 +38,7 @@ fn divisor_of(lengths: &[u32]) -> u128
 }
 
 /// Whether the state keeps lengths, one per link, as they are.
-pub(crate) fn is_kept(graph: &Surviving, lengths: &[u32]) -> bool
+pub fn is_kept(graph: &Surviving, lengths: &[u32]) -> bool
     requires { length lengths.now ≡ length graph.now.net.now.links }
     ensures { let g = graph_of graph.now in IsTrue result ↔ AreKept g lengths.now }
 {

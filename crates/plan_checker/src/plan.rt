@@ -3,7 +3,7 @@ ghost use Rattle.net_core.specs.Demands.{AreDemands};
 ghost use Rattle.net_core.specs.Views.{case, case_of};
 ghost use Rattle.plan_report.specs.Forms.{IsPlanInForm};
 ghost use Rattle.plan_terms.specs.Capacities.{IsAble, total_cost};
-ghost use Rattle.plan_checker.specs.PlanFindings.{AnswersPlan, IsSoundPlan, own_findings, plan_findings};
+ghost use Rattle.plan_checker.specs.PlanFindings.{AnswersPlan, IsAcceptedPlan, own_findings, plan_findings};
 ghost use Rattle.plan_checker.specs.inner.Tests.{TellFirst};
 
 use crate::certificate::check_certificate;
@@ -22,7 +22,7 @@ fn check_own(alloc: Global, instance: &Instance, plan: &Plan, full: bool) -> Tes
     requires form { IsPlanInForm instance.now.net.now.nodes instance.now.net.now.links instance.now.states.now.listed plan.now }
     requires demands { plan.now.demands ≡ instance.now.demands.now }
     ensures told { TellFirst (own_findings (case_of instance.now) full plan.now) result }
-    ensures sound { OnOk result (IsSoundPlan (case_of instance.now) plan.now) }
+    ensures sound { OnOk result (IsAcceptedPlan (case_of instance.now) plan.now) }
 {
     check_routings(alloc, instance, &plan.counts, plan.routings.items())?;
     check_cost(instance, plan)?;
@@ -42,7 +42,7 @@ fn check_for(
     requires belong { AreDemands (length net.now.nodes) demands.now }
     requires form { IsPlanInForm net.now.nodes net.now.links states.now.listed plan.now }
     ensures told { TellFirst (plan_findings (case net.now states.now demands.now) full plan.now) result }
-    ensures sound { OnOk result (IsSoundPlan (case net.now states.now demands.now) plan.now) }
+    ensures sound { OnOk result (IsAcceptedPlan (case net.now states.now demands.now) plan.now) }
 {
     let instance = Instance {
         net,
@@ -73,7 +73,7 @@ pub fn check_plan(
     requires belong { AreDemands (length net.now.nodes) demands.now }
     requires form { IsPlanInForm net.now.nodes net.now.links states.now.listed plan.now }
     ensures told { AnswersPlan (plan_findings (case net.now states.now demands.now) pool_full plan.now) result }
-    ensures sound { result ≡ CheckAnswer.Accepted → IsSoundPlan (case net.now states.now demands.now) plan.now }
+    ensures sound { result ≡ CheckAnswer.Accepted → IsAcceptedPlan (case net.now states.now demands.now) plan.now }
     ensures bound { result ≡ CheckAnswer.Accepted → (counts : List (List ℕ)) → IsAble (case net.now states.now demands.now) counts → plan.now.bound ≤ total_cost net.now.links counts }
 {
     match check_for(alloc, net, states, demands, plan, pool_full) {

@@ -15,7 +15,7 @@ use plan_types::CertLine;
 use std::alloc::Global;
 
 /// The right side of a cut at the demands. It takes a search from each node.
-pub(crate) fn right_of(alloc: Global, instance: &Instance, cut: &CutLine) -> Result<u128, NoMemory>
+pub fn right_of(alloc: Global, instance: &Instance, cut: &CutLine) -> Result<u128, NoMemory>
     requires form { IsCutInForm instance.now.net.now.links instance.now.states.now.listed cut.now }
     requires kept { AreKept (graph_in (case_of instance.now) cut.now.state.0) cut.now.lengths }
     ensures { IfOk result (IsRight (Joins (graph_in (case_of instance.now) cut.now.state.0)) cut.now.lengths instance.now.demands.now) }
