@@ -26,3 +26,5 @@ mod task;
 pub use answer::RouteAnswer;
 pub use route::route_state;
 
+#[cfg(test)]
+mod tests;
