@@ -41,6 +41,8 @@ def plain(text, crate, crates):
     text = without(text, r"\n *(?:pub )?ghost \w+\s*[:=] *\{")
     text = without(text, r"\nimpl[^\n]* Model for [^\n]*\{")
     text = re.sub(r"#\[cfg\(test\)\]\nmod tests;\n", "", text)
+    text = text.replace("use thiserror::Error;\n", "").replace(", Error)]", ")]")
+    text = re.sub(r"^ *#\[error\([^\n]*\n", "", text, flags=re.M)
     # Rust drops everything, and its own standard library takes no allocator.
     text = re.sub(r"#\[derive\(Drop\)\]\n", "", text)
     text = re.sub(r"\bDrop, |, Drop\b", "", text)
