@@ -1,0 +1,23 @@
+-- which plans have no finding
+use Rattle.std.specs.Prelude.{◌≡◌, Bool, true, All}
+use Rattle.net_core.specs.Cases.{Case}
+use Rattle.plan_types.specs.Plans.{IsCarryingPlan, IsCertifiedPlan, IsCostedPlan}
+use Rattle.plan_types.specs.declared.certificate.Spot.TheVariants.{Local}
+use Rattle.plan_types.specs.declared.plan.Plan.{Plan}
+use Rattle.plan_types.specs.declared.quality.Fractional.{Fractional}
+use Rattle.plan_types.specs.declared.quality.Quality.TheVariants.{Tight}
+use Rattle.plan_checker.specs.Order.{HoldNone}
+use Rattle.plan_checker.specs.PlanFindings.{plan_findings}
+use Rattle.plan_checker.specs.Shares.{IsTight}
+
+-- A plan for the demands of the case has no finding where it carries them, is costed and certified, has cuts outside the pool
+-- only where the pool is full, and is tight where it claims so.
+abbrev pub SoundPlansAreAccepted : Type 0
+SoundPlansAreAccepted = (p : Case) (full : Bool) (plan : Plan)
+    → plan.demands ≡ p.demands
+    → IsCarryingPlan p plan
+    → IsCostedPlan p plan
+    → IsCertifiedPlan p plan
+    → All (λ l. l.spot ≡ Local → full ≡ true) plan.certificate.lines
+    → ((f : Fractional) → plan.quality ≡ Tight f → IsTight p plan f)
+    → HoldNone (plan_findings p full plan)

@@ -1,0 +1,6 @@
+pub mod Apart
+pub mod PoolLines
+pub mod Reports
+pub mod Telling
+pub mod There
+pub mod Walking

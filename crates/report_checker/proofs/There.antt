@@ -1,0 +1,48 @@
+-- outcomes, and the case at their positions
+use Rattle.std.proofs.Common.{◌≡◌, ◌∙◌, ℕ, Bool, List, length, nat_le, refl, sym, ap, subst, take}
+use Rattle.std.specs.Prelude.{OnOk, Result, Ok, Err, ⊤}
+use Rattle.net_core.specs.declared.demand.Demand.{Demand}
+use Rattle.net_core.specs.Cases.{Case}
+use Rattle.plan_types.specs.declared.report.Outcome.{Outcome}
+use Rattle.plan_types.specs.declared.report.Outcome.TheVariants.{Planned, Unsurvivable}
+use Rattle.plan_types.specs.declared.report.Report.{Report}
+use Rattle.plan_checker.specs.Order.{HoldsNone}
+use Rattle.plan_checker.specs.declared.stop.Stop.{Stop}
+use Rattle.plan_checker.specs.inner.Tests.{TellFirst}
+use Rattle.plan_checker.proofs.Firsts.{told_later}
+use Rattle.report_checker.specs.Outcomes.{HoldsVersionDiffers, IsAcceptedOutcome, case_at, outcome_findings}
+use Rattle.report_checker.specs.inner.Said.{IsSaid, findings_there, outcome_position, outcome_version, said_findings}
+use Rattle.report_checker.specs.inner.Walks.{HasPassed}
+use Rattle.report_checker.specs.declared.walk.Walk.{Walk}
+
+-- the findings are those there
+pub all_there : (p : Case) (r : Report) (o : Outcome) → findings_there p r o ≡ outcome_findings p r o
+all_there p r (Planned caller serial plan) = refl
+all_there p r (Unsurvivable caller serial version position state demand) = refl
+
+pub told_outcome : (p : Case) (r : Report) (o : Outcome) (t : Result ⊤ Stop) → TellFirst (findings_there p r o) t → TellFirst (outcome_findings p r o) t
+told_outcome p r o t = subst (λ ks. TellFirst ks t) (all_there p r o)
+
+accepted : (p : Case) (r : Report) (o : Outcome) → IsSaid (case_at p r.entries (outcome_position o)) o → IsAcceptedOutcome p r o
+accepted p r (Planned caller serial plan) said = said
+accepted p r (Unsurvivable caller serial version position state demand) said = said
+
+pub sound_outcome : (p : Case) (r : Report) (o : Outcome) (t : Result ⊤ Stop) → OnOk t (IsSaid (case_at p r.entries (outcome_position o)) o) → OnOk t (IsAcceptedOutcome p r o)
+sound_outcome p r o (Ok u) said = accepted p r o said
+sound_outcome p r o (Err e) said = tt
+
+module _ (p : Case) (r : Report) (o : Outcome) (w : Walk) (passed : HasPassed p (take (outcome_position o) r.entries) w) (ds : List Demand) (is : ds ≡ w.book.demands) where
+  abbrev own : Case
+  own = record { nodes = p.nodes; links = p.links; listed = p.listed; demands = ds }
+
+  -- the case with the walk's demands is the one at the position
+  case_there : own ≡ case_at p r.entries (outcome_position o)
+  case_there = ap (λ x. record { nodes = p.nodes; links = p.links; listed = p.listed; demands = x }) (is ∙ passed.demands)
+
+  pub told_there : (t : Result ⊤ Stop) → HoldsNone (HoldsVersionDiffers p r.entries (outcome_version o) (outcome_position o)) → TellFirst (said_findings own (nat_le 4096 (length r.pool)) o) t → TellFirst (findings_there p r o) t
+  told_there t none told =
+      told_later (HoldsVersionDiffers p r.entries (outcome_version o) (outcome_position o)) (said_findings (case_at p r.entries (outcome_position o)) (nat_le 4096 (length r.pool)) o) t none
+      (subst (λ c. TellFirst (said_findings c (nat_le 4096 (length r.pool)) o) t) case_there told)
+
+  pub sound_there : (t : Result ⊤ Stop) → OnOk t (IsSaid own o) → OnOk t (IsSaid (case_at p r.entries (outcome_position o)) o)
+  sound_there t said = subst (λ c. OnOk t (IsSaid c o)) case_there said

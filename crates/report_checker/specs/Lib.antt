@@ -1,0 +1,5 @@
+pub mod Journals
+pub mod Pools
+pub mod Outcomes
+pub mod ReportFindings
+pub mod inner

@@ -1,0 +1,50 @@
+-- findings on an outcome of a report
+use Rattle.std.specs.Prelude.{◌≡◌, ◌≢◌, ℕ, ◌<◌, ◌⊎◌, List, [], ◌∷◌, length, nat_le, take}
+use Rattle.net_core.specs.declared.journal.Entry.{Entry}
+use Rattle.net_core.specs.Cases.{Case}
+use Rattle.plan_terms.specs.Separations.{Separates}
+use Rattle.plan_types.specs.declared.report.Outcome.{Outcome}
+use Rattle.plan_types.specs.declared.report.Outcome.TheVariants.{Planned, Unsurvivable}
+use Rattle.plan_types.specs.declared.report.Report.{Report}
+use Rattle.cut_pool.specs.Histories.{version_at}
+use Rattle.plan_checker.specs.Order.{Kind}
+use Rattle.plan_checker.specs.PlanFindings.{IsAcceptedPlan, plan_findings}
+use Rattle.plan_checker.specs.declared.finding.Finding.{Finding}
+use Rattle.report_checker.specs.Journals.{case_after}
+use Rattle.plan_checker.specs.declared.finding.Finding.TheVariants.{Survivable, VersionDiffers}
+
+-- the case with the demands at a position of the journal
+abbrev pub case_at : Case → List Entry → ℕ → Case
+case_at p entries position = case_after p (take position entries)
+
+-- the version isn't the number of edits that were accepted up to the position, or the position is past the journal
+abbrev pub HoldsVersionDiffers : Case → List Entry → ℕ → ℕ → Finding → Type 0
+HoldsVersionDiffers p entries version position (VersionDiffers a b) =
+    (version ≡ a) × (version_at p entries position ≡ b) × ((a ≢ b) ⊎ (length entries < position))
+HoldsVersionDiffers p entries version position _ = ⊥
+
+-- the state separates a demand of this name
+pub record SeparatesNamed (p : Case) (state : ℕ) (name : List ℕ) : Type 0 where
+  pub place : ℕ
+  pub separates : Separates p state place
+  pub named : separates.demand.name ≡ name
+
+-- the state separates no demand of this name
+abbrev pub HoldsSurvivable : Case → ℕ → List ℕ → Finding → Type 0
+HoldsSurvivable p state name Survivable = SeparatesNamed p state name → ⊥
+HoldsSurvivable p state name _ = ⊥
+
+-- the kinds of findings on an outcome, in their order
+abbrev pub outcome_findings : Case → Report → Outcome → List Kind
+outcome_findings p r (Planned caller serial plan) =
+    HoldsVersionDiffers p r.entries plan.version plan.position
+    ∷ plan_findings (case_at p r.entries plan.position) (nat_le 4096 (length r.pool)) plan
+outcome_findings p r (Unsurvivable caller serial version position state demand) =
+    HoldsVersionDiffers p r.entries version position
+    ∷ HoldsSurvivable (case_at p r.entries position) state.0 demand
+    ∷ []
+
+-- what an accepted outcome is known to be: a plan carries the demands at its position in each state, its cost is its own, and its bound is certified
+abbrev pub IsAcceptedOutcome : Case → Report → Outcome → Type 0
+IsAcceptedOutcome p r (Planned caller serial plan) = IsAcceptedPlan (case_at p r.entries plan.position) plan
+IsAcceptedOutcome p r (Unsurvivable caller serial version position state demand) = SeparatesNamed (case_at p r.entries position) state.0 demand

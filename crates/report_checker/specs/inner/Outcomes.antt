@@ -1,0 +1,30 @@
+-- what tests of outcomes come to
+use Rattle.std.specs.Prelude.{ℕ, zero, suc, ◌<◌, List, All}
+use Rattle.net_core.specs.Cases.{Case}
+use Rattle.plan_types.specs.declared.report.Report.{Report}
+use Rattle.plan_checker.specs.Order.{HoldNone, IsFirstFinding}
+use Rattle.plan_checker.specs.Places.{HoldsAt}
+use Rattle.plan_checker.specs.declared.finding.CheckAnswer.{CheckAnswer}
+use Rattle.plan_checker.specs.declared.finding.CheckAnswer.TheVariants.{Accepted, NoMemory, Rejected}
+use Rattle.plan_checker.specs.declared.finding.Finding.{Finding}
+use Rattle.plan_checker.specs.declared.stop.Stop.{Stop}
+use Rattle.plan_checker.specs.declared.stop.Stop.TheVariants as stops
+use Rattle.report_checker.specs.Outcomes.{outcome_findings}
+
+-- the answer of a reason to stop
+abbrev pub answer_of : ℕ → Stop → CheckAnswer
+answer_of outcome (stops.Found finding) = Rejected outcome finding
+answer_of outcome stops.NoMemory = NoMemory
+
+-- the first finding on outcome j, from 1, where those before it have none
+abbrev pub IsFirstOfOutcomes : Case → Report → ℕ → Finding → Type 0
+IsFirstOfOutcomes p r zero f = ⊥
+IsFirstOfOutcomes p r (suc j) f =
+    ((i : ℕ) → i < j → HoldsAt r.outcomes i (λ o. HoldNone (outcome_findings p r o)))
+    × HoldsAt r.outcomes j (λ o. IsFirstFinding (outcome_findings p r o) f)
+
+-- no outcome has a finding, or this is the first one
+abbrev pub TellOutcomes : Case → Report → CheckAnswer → Type 0
+TellOutcomes p r Accepted = All (λ o. HoldNone (outcome_findings p r o)) r.outcomes
+TellOutcomes p r (Rejected outcome finding) = IsFirstOfOutcomes p r outcome finding
+TellOutcomes p r NoMemory = Unit {0}

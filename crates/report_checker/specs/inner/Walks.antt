@@ -1,0 +1,27 @@
+-- a walk through a journal
+use Rattle.std.specs.Prelude.{◌≡◌, ℕ, ◌<◌, ◌^◌, List, [], ◌∷◌, ◌++◌, Bool, true, length}
+use Rattle.net_core.specs.declared.journal.Entry.{Entry}
+use Rattle.net_core.specs.declared.journal.Entry.TheVariants.{Edited, Pooled}
+use Rattle.net_core.specs.Cases.{Case}
+use Rattle.plan_terms.specs.Edits.{edit_need}
+use Rattle.cut_pool.specs.Histories.{cuts_of, demands_left, version_left}
+use Rattle.report_checker.specs.Journals.{IsOtherEntry}
+use Rattle.report_checker.specs.declared.walk.Walk.{Walk}
+
+-- the need of the entry's edit, if it has one, is below 2^40 thousandths
+abbrev pub HasSmallNeed : Entry → Type 0
+HasSmallNeed (Edited caller edit reply) = edit_need edit < 2 ^ 40
+HasSmallNeed (Pooled index state lengths) = Unit {0}
+
+-- the walk has passed these entries
+pub record HasPassed (p : Case) (before : List Entry) (w : Walk) : Type 0 where
+  pub nodes : w.book.nodes ≡ p.nodes
+  pub demands : w.book.demands ≡ demands_left p before
+  pub version : w.book.version ≡ version_left p before
+  pub cuts : w.cuts ≡ length (cuts_of before)
+
+-- the walk passes one entry more, and says whether it is the one that is expected there
+pub record Passes (p : Case) (before : List Entry) (entry : Entry) (expected : Bool) (w : Walk) : Type 0 where
+  pub passed : HasPassed p (before ++ entry ∷ []) w
+  pub right : expected ≡ true → IsOtherEntry p before entry → ⊥
+  pub other : (expected ≡ true → ⊥) → IsOtherEntry p before entry

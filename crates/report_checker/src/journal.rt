@@ -1,0 +1,51 @@
+ghost use Rattle.std.specs.Prelude.{◌≡◌, ◌≤◌, All, IfErr, IfOk, length};
+ghost use Rattle.net_core.specs.Views.{case_of};
+ghost use Rattle.plan_checker.specs.inner.Tests.{StopsBy};
+ghost use Rattle.report_checker.specs.Journals.{HoldsEntryDiffers, HoldsNotesDiffer};
+ghost use Rattle.report_checker.specs.inner.Walks.{HasPassed, HasSmallNeed};
+ghost use Rattle.plan_checker.specs.Order.{HoldsNone};
+ghost use Rattle.plan_checker.specs.inner.Tests.{Tells};
+
+use crate::walk::{Walk, walk_from};
+use net_core::{Entry, Instance, NoMemory, Notes};
+use plan_checker::{Finding, Stop, Test};
+
+/// Whether the notes are the network's.
+pub fn check_notes(own: Notes, printed: Notes) -> Test
+    ensures { Tells (HoldsNotesDiffer own printed) result }
+{
+    if printed != own {
+        return Err(Stop::Found(Finding::NotesDiffer));
+    }
+    Ok(())
+}
+
+/// A walk past these entries, whatever replies they have.
+pub fn walk_past(instance: &Instance, entries: &[Entry]) -> Result<Walk, NoMemory>
+    requires needs { All HasSmallNeed entries.now }
+    requires few { length entries.now ≤ 65536 }
+    ensures { IfOk result (HasPassed (case_of instance.now) entries.now) }
+{
+    let mut walk = walk_from(instance)?;
+    for k in 0..entries.len() {
+        walk.pass(&entries[k])?;
+    }
+    Ok(walk)
+}
+
+/// A walk past these entries, each of which is the one that is expected there.
+pub fn check_entries(instance: &Instance, entries: &[Entry]) -> Result<Walk, Stop>
+    requires needs { All HasSmallNeed entries.now }
+    requires few { length entries.now ≤ 65536 }
+    ensures none { IfOk result (λ _. HoldsNone (HoldsEntryDiffers (case_of instance.now) entries.now)) }
+    ensures passed { IfOk result (HasPassed (case_of instance.now) entries.now) }
+    ensures found { IfErr result (StopsBy (HoldsEntryDiffers (case_of instance.now) entries.now)) }
+{
+    let mut walk = walk_from(instance)?;
+    for k in 0..entries.len() {
+        if !walk.pass(&entries[k])? {
+            return Err(Stop::Found(Finding::EntryDiffers(k as u64 + 1)));
+        }
+    }
+    Ok(walk)
+}

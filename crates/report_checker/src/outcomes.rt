@@ -1,0 +1,210 @@
+ghost use Rattle.std.specs.Prelude.{◌≡◌, ◌+◌, ◌≤◌, ◌<◌, ◌↔◌, All, IfOk, IsTrue, None, OnOk, length, take};
+ghost use Rattle.net_core.specs.Graphs.{Joins};
+ghost use Rattle.net_core.specs.Views.{case_of, graph};
+ghost use Rattle.plan_report.specs.Forms.{IsOutcomeInForm, IsPlanInForm};
+ghost use Rattle.plan_terms.specs.Paths.{AreApart};
+ghost use Rattle.plan_checker.specs.PlanFindings.{IsAcceptedPlan, plan_findings};
+ghost use Rattle.plan_checker.specs.inner.Tests.{TellFirst, Tells};
+ghost use Rattle.report_checker.specs.Outcomes.{HoldsSurvivable, HoldsVersionDiffers, IsAcceptedOutcome, SeparatesNamed, case_at, outcome_findings};
+ghost use Rattle.report_checker.specs.inner.Said.{IsNamedSeparation, IsSaid, findings_there, outcome_position, outcome_version, said_findings};
+ghost use Rattle.report_checker.specs.inner.Walks.{HasPassed, HasSmallNeed};
+
+use crate::journal::walk_past;
+use crate::walk::Walk;
+use net_core::{CutLine, Demand, Entry, Instance, List, Name, NoMemory, StateId};
+use plan_checker::{CheckAnswer, Finding, Stop, Test, check_plan};
+use plan_types::{Outcome, Plan, Report};
+use short_paths::distances;
+use std::alloc::Global;
+
+/// The version of an outcome.
+fn version_of(outcome: &Outcome) -> u64
+    ensures { result ≡ outcome_version outcome.now }
+{
+    match outcome {
+        Outcome::Planned { plan, .. } => plan.version,
+        Outcome::Unsurvivable { version, .. } => *version,
+    }
+}
+
+/// The position of an outcome in the journal.
+fn position_of(outcome: &Outcome) -> u64
+    ensures { result ≡ outcome_position outcome.now }
+{
+    match outcome {
+        Outcome::Planned { plan, .. } => plan.position,
+        Outcome::Unsurvivable { position, .. } => *position,
+    }
+}
+
+/// Whether the version is the number of edits that the walk to the outcome's position has accepted, and the position is one of
+/// the journal.
+fn check_version(instance: &Instance, walk: &Walk, report: &Report, outcome: &Outcome) -> Test
+    requires { HasPassed (case_of instance.now) (take (outcome_position outcome.now) report.now.entries) walk.now }
+    ensures { Tells (HoldsVersionDiffers (case_of instance.now) report.now.entries (outcome_version outcome.now) (outcome_position outcome.now)) result }
+{
+    let printed = version_of(outcome);
+    let accepted = walk.book.version();
+    if printed != accepted || position_of(outcome) > report.entries.len() as u64 {
+        return Err(Stop::Found(Finding::VersionDiffers(printed, accepted)));
+    }
+    Ok(())
+}
+
+/// Checks a plan for the instance's demands.
+fn check_planned(alloc: Global, instance: &Instance, plan: &Plan, full: bool) -> Test
+    requires form { IsPlanInForm instance.now.net.now.nodes instance.now.net.now.links instance.now.states.now.listed plan.now }
+    ensures told { TellFirst (plan_findings (case_of instance.now) full plan.now) result }
+    ensures sound { OnOk result (IsAcceptedPlan (case_of instance.now) plan.now) }
+{
+    match check_plan(
+        alloc,
+        instance.net,
+        instance.states,
+        instance.demands,
+        plan,
+        full,
+    ) {
+        CheckAnswer::Accepted => Ok(()),
+        CheckAnswer::Rejected { finding, .. } => Err(Stop::Found(finding)),
+        CheckAnswer::NoMemory => Err(Stop::NoMemory),
+    }
+}
+
+/// Whether there is no distance.
+fn is_none(far: Option<u64>) -> bool
+    ensures { IsTrue result ↔ (far ≡ None) }
+{
+    match far {
+        None => true,
+        Some(_) => false,
+    }
+}
+
+/// Whether no path of the state joins the demand's ends. It takes a search from one of them.
+fn are_apart(
+    alloc: Global,
+    instance: &Instance,
+    state: StateId,
+    demand: &Demand,
+) -> Result<bool, NoMemory>
+    requires state { state.0 < length instance.now.states.now.listed + 1 }
+    requires from { demand.now.from.0 < length instance.now.net.now.nodes }
+    requires to { demand.now.to.0 < length instance.now.net.now.nodes }
+    ensures { IfOk result (λ r. IsTrue r ↔ AreApart (Joins (graph instance.now.net.now instance.now.states.now state.0)) demand.now.from.0 demand.now.to.0) }
+{
+    let lengths = List::filled(alloc, 0, instance.net.links().len())?;
+    let far = distances(
+        alloc,
+        instance.net,
+        instance.states,
+        state,
+        &lengths,
+        demand.from,
+    )?;
+    Ok(is_none(far.items()[demand.to.0 as usize]))
+}
+
+/// Whether demand `k` has this name and the state separates it.
+fn is_separated(
+    alloc: Global,
+    instance: &Instance,
+    state: StateId,
+    name: &Name,
+    k: usize,
+) -> Result<bool, NoMemory>
+    requires state { state.0 < length instance.now.states.now.listed + 1 }
+    requires inside { k < length instance.now.demands.now }
+    ensures { IfOk result (λ r. IsTrue r ↔ IsNamedSeparation (case_of instance.now) state.0 name.now k) }
+{
+    let demand = &instance.demands.items()[k];
+    if !demand.name.same(name) {
+        return Ok(false);
+    }
+    if demand.need == 0 {
+        return Ok(false);
+    }
+    are_apart(alloc, instance, state, demand)
+}
+
+/// Whether the state separates a demand of this name.
+fn check_separated(alloc: Global, instance: &Instance, state: StateId, name: &Name) -> Test
+    requires state { state.0 < length instance.now.states.now.listed + 1 }
+    ensures told { Tells (HoldsSurvivable (case_of instance.now) state.0 name.now) result }
+    ensures sound { OnOk result (SeparatesNamed (case_of instance.now) state.0 name.now) }
+{
+    for k in 0..instance.demands.len() {
+        if is_separated(alloc, instance, state, name, k)? {
+            return Ok(());
+        }
+    }
+    Err(Stop::Found(Finding::Survivable))
+}
+
+/// Checks what an outcome says of the instance's demands, which are those at its position.
+fn check_said(
+    alloc: Global,
+    instance: &Instance,
+    outcome: &Outcome,
+    full: bool,
+    pool: &[CutLine],
+) -> Test
+    requires form { IsOutcomeInForm instance.now.net.now.nodes instance.now.net.now.links instance.now.states.now.listed pool.now outcome.now }
+    ensures told { TellFirst (said_findings (case_of instance.now) full outcome.now) result }
+    ensures sound { OnOk result (IsSaid (case_of instance.now) outcome.now) }
+{
+    match outcome {
+        Outcome::Planned { plan, .. } => check_planned(alloc, instance, plan, full),
+        Outcome::Unsurvivable { state, demand, .. } => {
+            check_separated(alloc, instance, *state, demand)
+        }
+    }
+}
+
+/// A walk to a position of the journal, or to its end.
+fn walk_to(instance: &Instance, entries: &[Entry], position: u64) -> Result<Walk, NoMemory>
+    requires needs { All HasSmallNeed entries.now }
+    requires few { length entries.now ≤ 65536 }
+    ensures { IfOk result (HasPassed (case_of instance.now) (take position entries.now)) }
+{
+    if position < entries.len() as u64 {
+        walk_past(instance, &entries[..position as usize])
+    } else {
+        walk_past(instance, entries)
+    }
+}
+
+/// Checks an outcome to whose position the walk has come.
+fn check_there(
+    alloc: Global,
+    instance: &Instance,
+    walk: &Walk,
+    report: &Report,
+    outcome: &Outcome,
+) -> Test
+    requires passed { HasPassed (case_of instance.now) (take (outcome_position outcome.now) report.now.entries) walk.now }
+    requires form { IsOutcomeInForm instance.now.net.now.nodes instance.now.net.now.links instance.now.states.now.listed report.now.pool outcome.now }
+    ensures told { TellFirst (findings_there (case_of instance.now) report.now outcome.now) result }
+    ensures sound { OnOk result (IsSaid (case_at (case_of instance.now) report.now.entries (outcome_position outcome.now)) outcome.now) }
+{
+    check_version(instance, walk, report, outcome)?;
+    let there = Instance {
+        net: instance.net,
+        states: instance.states,
+        demands: walk.book.demands(),
+    };
+    let full = report.pool.len() >= 4096;
+    check_said(alloc, &there, outcome, full, report.pool.items())
+}
+
+/// Checks an outcome by the demands at its position of the journal, which are found by a walk up to there.
+pub fn check_outcome(alloc: Global, instance: &Instance, report: &Report, outcome: &Outcome) -> Test
+    requires needs { All HasSmallNeed report.now.entries }
+    requires few { length report.now.entries ≤ 65536 }
+    requires form { IsOutcomeInForm instance.now.net.now.nodes instance.now.net.now.links instance.now.states.now.listed report.now.pool outcome.now }
+    ensures told { TellFirst (outcome_findings (case_of instance.now) report.now outcome.now) result }
+    ensures sound { OnOk result (IsAcceptedOutcome (case_of instance.now) report.now outcome.now) }
+{
+    let walk = walk_to(instance, report.entries.items(), position_of(outcome))?;
+    check_there(alloc, instance, &walk, report, outcome)
+}

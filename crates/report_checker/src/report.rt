@@ -1,0 +1,92 @@
+ghost use Rattle.std.specs.Prelude.{◌≡◌, ◌≤◌, All, OnOk, length};
+ghost use Rattle.net_core.specs.Demands.{AreDemands};
+ghost use Rattle.net_core.specs.Views.{case, case_of};
+ghost use Rattle.plan_report.specs.Forms.{IsReportInForm};
+ghost use Rattle.plan_checker.specs.inner.Tests.{TellFirst};
+ghost use Rattle.report_checker.specs.Outcomes.{IsAcceptedOutcome};
+ghost use Rattle.report_checker.specs.ReportFindings.{AnswersReport, whole_findings};
+ghost use Rattle.report_checker.specs.inner.Outcomes.{TellOutcomes, answer_of};
+
+use crate::journal::{check_entries, check_notes};
+use crate::outcomes::check_outcome;
+use crate::pool::{check_count, check_cuts, check_rights};
+use net_core::{Demands, Instance, Network, States};
+use plan_checker::{CheckAnswer, Stop, Test};
+use plan_types::Report;
+use std::alloc::Global;
+
+/// Checks the notes, the journal and the pool.
+fn check_whole(alloc: Global, instance: &Instance, report: &Report) -> Test
+    requires { IsReportInForm instance.now.net.now.nodes instance.now.net.now.links instance.now.states.now.listed report.now }
+    ensures { TellFirst (whole_findings instance.now.net.now.notes (case_of instance.now) report.now) result }
+{
+    check_notes(instance.net.notes(), report.notes)?;
+    let walk = check_entries(instance, report.entries.items())?;
+    check_count(report.pool.len() as u32, walk.cuts)?;
+    check_cuts(instance, report.pool.items())?;
+    let end = Instance {
+        net: instance.net,
+        states: instance.states,
+        demands: walk.book.demands(),
+    };
+    check_rights(alloc, &end, report.pool.items())
+}
+
+/// What a reason to stop comes to, on an outcome counted from 1, or on the whole report with 0.
+fn answer_of(outcome: u32, stop: Stop) -> CheckAnswer
+    ensures { result ≡ answer_of outcome stop }
+{
+    match stop {
+        Stop::Found(finding) => CheckAnswer::Rejected { outcome, finding },
+        Stop::NoMemory => CheckAnswer::NoMemory,
+    }
+}
+
+/// Checks the outcomes one after another.
+fn check_outcomes(alloc: Global, instance: &Instance, report: &Report) -> CheckAnswer
+    requires { IsReportInForm instance.now.net.now.nodes instance.now.net.now.links instance.now.states.now.listed report.now }
+    ensures told { TellOutcomes (case_of instance.now) report.now result }
+    ensures sound { result ≡ CheckAnswer.Accepted → All (IsAcceptedOutcome (case_of instance.now) report.now) report.now.outcomes }
+{
+    let outcomes = report.outcomes.items();
+    for j in 0..outcomes.len() {
+        match check_outcome(alloc, instance, report, &outcomes[j]) {
+            Ok(()) => {}
+            Err(stop) => return answer_of(j as u32 + 1, stop),
+        }
+    }
+    CheckAnswer::Accepted
+}
+
+/// Checks a report in form, trusting nothing of whoever made it: its journal, its pool, and what each outcome says of the demands
+/// at its position. The demands are those before the first entry.
+///
+/// It takes a search from each node for each line of the pool and of each certificate, a comparison of each line of the pool with
+/// those before it, a walk through the journal for each outcome, and else time in the size of the report.
+///
+/// ```text
+/// let answer = check_report(alloc, &net, &states, &opening, &report);
+/// // CheckAnswer::Accepted, or Rejected { outcome: 1, finding: Finding::RightDiffers(0, 24001, 24000) }
+/// ```
+pub fn check_report(
+    alloc: Global,
+    net: &Network,
+    states: &States,
+    opening: &Demands,
+    report: &Report,
+) -> CheckAnswer
+    requires belong { AreDemands (length net.now.nodes) opening.now }
+    requires form { IsReportInForm net.now.nodes net.now.links states.now.listed report.now }
+    ensures told { AnswersReport net.now.notes (case net.now states.now opening.now) report.now result }
+    ensures sound { result ≡ CheckAnswer.Accepted → All (IsAcceptedOutcome (case net.now states.now opening.now) report.now) report.now.outcomes }
+{
+    let instance = Instance {
+        net,
+        states,
+        demands: opening,
+    };
+    match check_whole(alloc, &instance, report) {
+        Ok(()) => check_outcomes(alloc, &instance, report),
+        Err(stop) => answer_of(0, stop),
+    }
+}
