@@ -2,7 +2,7 @@
 use Rattle.std.proofs.Common.{◌≡◌, ◌≢◌, ℕ, zero, suc, ◌+◌, ◌<◌, ◌≤◌, ◌==◌, Bool, true, false, cond, List, [], ◌∷◌, ◌++◌, All, Some, flat_map, if◌then◌else◌, length, length-append, ⊎_elim, refl, sym, ap, subst, ◌∙◌, arith}
 use Rattle.std.specs.Prelude.{count_by, filter}
 use Rattle.std.proofs.lemmas.List.Elements.{All-append, All-push, All-weaker, filter-append}
-use Rattle.std.proofs.lemmas.List.Sums.{count_by-append}
+use Rattle.std.proofs.lemmas.List.Sums.{sum_by-append}
 use Rattle.net_core.specs.declared.journal.Edit.{Edit}
 use Rattle.net_core.specs.declared.journal.Entry.{Entry}
 use Rattle.net_core.specs.declared.journal.Entry.TheVariants.{Edited, Pooled}
@@ -20,7 +20,7 @@ use Rattle.session_run.specs.Transcripts.{IsOutcomeAfter, RunsFrom, acts_of, cal
 use Rattle.session_run.specs.inner.Running.{HaveRun, IsEntryOfCaller}
 use Rattle.session_script.specs.Scripts.{asks_plan, is_plan}
 use Rattle.plan_report.specs.Forms.{IsEditedInForm}
-use Rattle.std.proofs.lemmas.Bool.{cases_eq}
+use Rattle.std.proofs.lemmas.Bool.{cases_eq, eq-eqb, ne_eqb}
 use Rattle.session_run.proofs.Runs.{run_edit, run_later, run_plan}
 
 -- ---- lists taken apart
@@ -39,14 +39,10 @@ no_more (x ∷ xs) = ap (λ ys. x ∷ ys) (no_more xs)
 
 -- a list for a number that is the same, and for one that isn't
 choose_same : {X : Type 0} (k : ℕ) (xs ys : List X) → (if k == k then xs else ys) ≡ xs
-choose_same zero xs ys = refl
-choose_same (suc k) xs ys = choose_same k xs ys
+choose_same k xs ys = ap (λ b. if b then xs else ys) (eq-eqb k k refl)
 
 choose_other : {X : Type 0} (k n : ℕ) (xs ys : List X) → k ≢ n → (if k == n then xs else ys) ≡ ys
-choose_other zero zero xs ys ne = absurd (ne refl)
-choose_other zero (suc n) xs ys ne = refl
-choose_other (suc k) zero xs ys ne = refl
-choose_other (suc k) (suc n) xs ys ne = choose_other k n xs ys (λ e. ne (ap suc e))
+choose_other k n xs ys ne = ap (λ b. if b then xs else ys) (ne_eqb k n ne)
 
 -- the acts of the command's caller, and of another
 acts_own : (commands : List Command) (c : Command) → acts_of c.caller (commands ++ c ∷ []) ≡ acts_of c.caller commands ++ c.act ∷ []
@@ -80,29 +76,19 @@ cuts_of_callers es all = All-weaker IsPooledEntry IsEntryOfCaller pooled es all
 
 -- ---- outcomes
 
-equal_same : (k : ℕ) → (k == k) ≡ true
-equal_same zero = refl
-equal_same (suc k) = equal_same k
-
-equal_other : (k n : ℕ) → k ≢ n → (k == n) ≡ false
-equal_other zero zero ne = absurd (ne refl)
-equal_other zero (suc n) ne = refl
-equal_other (suc k) zero ne = refl
-equal_other (suc k) (suc n) ne = equal_other k n (λ e. ne (ap suc e))
-
 caller_is : (p : Case) (before after : List Entry) (caller serial : ℕ) (o : Outcome) → IsOutcomeAfter p before after caller serial o → caller_of o ≡ caller
 caller_is p before after caller serial (Planned by number plan) is = is.0
 caller_is p before after caller serial (Unsurvivable by number version position state demand) is = is.0
 
 outcomes_own : (outcomes : List Outcome) (o : Outcome) (caller : ℕ) → caller_of o ≡ caller → outcomes_of caller (outcomes ++ o ∷ []) ≡ outcomes_of caller outcomes ++ o ∷ []
 outcomes_own outcomes o caller e =
-    let test : (caller_of o == caller) ≡ true = subst (λ k. (caller_of o == k) ≡ true) e (equal_same (caller_of o)) in
+    let test : (caller_of o == caller) ≡ true = subst (λ k. (caller_of o == k) ≡ true) e (eq-eqb (caller_of o) (caller_of o) refl) in
     filter-append (λ x. caller_of x == caller) outcomes (o ∷ []) ∙ ap (λ b. outcomes_of caller outcomes ++ cond b (o ∷ []) []) test
 
 outcomes_other : (outcomes : List Outcome) (o : Outcome) (caller : ℕ) → caller_of o ≢ caller → outcomes_of caller (outcomes ++ o ∷ []) ≡ outcomes_of caller outcomes
 outcomes_other outcomes o caller ne =
     filter-append (λ x. caller_of x == caller) outcomes (o ∷ [])
-    ∙ (ap (λ b. outcomes_of caller outcomes ++ cond b (o ∷ []) []) (equal_other (caller_of o) caller ne) ∙ no_more (outcomes_of caller outcomes))
+    ∙ (ap (λ b. outcomes_of caller outcomes ++ cond b (o ∷ []) []) (ne_eqb (caller_of o) caller ne) ∙ no_more (outcomes_of caller outcomes))
 
 -- ---- an edit more
 
@@ -129,13 +115,13 @@ module _ (p : Case) (es : List Entry) (commands : List Command) (outcomes : List
 
     runs_own : RunsFrom p (es ++ entry ∷ []) c.caller 0 1 (acts_of c.caller (commands ++ c ∷ [])) (outcomes_of c.caller outcomes)
     runs_own =
-        subst (λ as. RunsFrom p (es ++ entry ∷ []) c.caller 0 1 as (outcomes_of c.caller outcomes))
+        subst (λ asked. RunsFrom p (es ++ entry ∷ []) c.caller 0 1 asked (outcomes_of c.caller outcomes))
         (sym (acts_own commands c ∙ ap (λ a. acts_of c.caller commands ++ a ∷ []) act))
         (run_edit p es c.caller edit reply 0 1 (acts_of c.caller commands) (outcomes_of c.caller outcomes) (h.runs c.caller))
 
     runs_other : (caller : ℕ) → c.caller ≢ caller → RunsFrom p (es ++ entry ∷ []) caller 0 1 (acts_of caller (commands ++ c ∷ [])) (outcomes_of caller outcomes)
     runs_other caller ne =
-        subst (λ as. RunsFrom p (es ++ entry ∷ []) caller 0 1 as (outcomes_of caller outcomes)) (sym (acts_other commands c caller ne))
+        subst (λ asked. RunsFrom p (es ++ entry ∷ []) caller 0 1 asked (outcomes_of caller outcomes)) (sym (acts_other commands c caller ne))
         (run_later p es (entry ∷ []) caller 0 1 (acts_of caller commands) (outcomes_of caller outcomes) (h.runs caller))
 
     pub edited_run : HaveRun p (es ++ entry ∷ []) (commands ++ c ∷ []) outcomes
@@ -152,7 +138,7 @@ module _ (p : Case) (es : List Entry) (commands : List Command) (outcomes : List
           let few = h.few in
           let cuts = ap length (cuts_both es (entry ∷ [])) in
           omega (arith, few, cuts, length-append es (entry ∷ []), length-append commands (c ∷ []), length-append (cuts_of es) []);
-      count = h.count ∙ sym (count_by-append is_plan commands (c ∷ []) ∙ plus_none (count_by is_plan commands) c edit act);
+      count = h.count ∙ sym (sum_by-append (λ (k : Command). cond (is_plan k) 1 0) commands (c ∷ []) ∙ plus_none (count_by is_plan commands) c edit act);
       entries = All-push IsEntryOfCaller es entry h.entries form;
     }
       where
@@ -182,7 +168,7 @@ module _ (p : Case) (es : List Entry) (commands : List Command) (outcomes : List
     planned_own =
         let os = outcomes_of c.caller outcomes in
         let turned : length os + 1 ≡ 1 + length os = omega arith in
-        subst (λ as. RunsFrom p (es ++ more) c.caller 0 1 as (outcomes_of c.caller (outcomes ++ o ∷ [])))
+        subst (λ asked. RunsFrom p (es ++ more) c.caller 0 1 asked (outcomes_of c.caller (outcomes ++ o ∷ [])))
         (sym (acts_own commands c ∙ ap (λ a. acts_of c.caller commands ++ a ∷ []) act))
         (subst (λ all. RunsFrom p (es ++ more) c.caller 0 1 (acts_of c.caller commands ++ Plan ∷ []) all)
           (sym (outcomes_own outcomes o c.caller (caller_is p es (es ++ more) c.caller (length os + 1) o is)))
@@ -192,7 +178,7 @@ module _ (p : Case) (es : List Entry) (commands : List Command) (outcomes : List
     planned_other : (caller : ℕ) → c.caller ≢ caller → RunsFrom p (es ++ more) caller 0 1 (acts_of caller (commands ++ c ∷ [])) (outcomes_of caller (outcomes ++ o ∷ []))
     planned_other caller ne =
         let mine = caller_is p es (es ++ more) c.caller (length (outcomes_of c.caller outcomes) + 1) o is in
-        subst (λ as. RunsFrom p (es ++ more) caller 0 1 as (outcomes_of caller (outcomes ++ o ∷ []))) (sym (acts_other commands c caller ne))
+        subst (λ asked. RunsFrom p (es ++ more) caller 0 1 asked (outcomes_of caller (outcomes ++ o ∷ []))) (sym (acts_other commands c caller ne))
         (subst (λ all. RunsFrom p (es ++ more) caller 0 1 (acts_of caller commands) all) (sym (outcomes_other outcomes o caller (λ e. ne (sym mine ∙ e))))
           (run_later p es more caller 0 1 (acts_of caller commands) (outcomes_of caller outcomes) (h.runs caller)))
 
@@ -210,7 +196,7 @@ module _ (p : Case) (es : List Entry) (commands : List Command) (outcomes : List
           omega (arith, few, cuts, count, length-append es more, length-append commands (c ∷ []), length-append (cuts_of es) (cuts_of more));
       count =
           let count = h.count in
-          let one = count_by-append is_plan commands (c ∷ []) in
+          let one = sum_by-append (λ (k : Command). cond (is_plan k) 1 0) commands (c ∷ []) in
           omega (arith, count, one, plus_one (count_by is_plan commands) c act, length-append outcomes (o ∷ []));
       entries = All-append IsEntryOfCaller es more h.entries (cuts_of_callers more pooled);
     }

@@ -116,7 +116,7 @@ pub fn run_commands(
     requires states { board.old.states.now ≡ states.now }
     requires empty { board.old.entries ≡ [] }
     requires script { IsScript commands.now }
-    ensures opening { opening_case board.new ≡ opening_case board.old }
+    ensures opening { OnOk result (opening_case board.new ≡ opening_case board.old) }
     ensures run { IfOk result (HaveRun (opening_case board.old) board.new.entries commands.now) }
 {
     let mut outcomes = List::new(alloc);
