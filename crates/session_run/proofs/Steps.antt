@@ -10,6 +10,8 @@ use Rattle.net_core.specs.declared.journal.Reply.{Reply}
 use Rattle.net_core.specs.Cases.{Case}
 use Rattle.plan_types.specs.declared.report.Outcome.{Outcome}
 use Rattle.plan_types.specs.declared.report.Outcome.TheVariants.{Planned, Unsurvivable}
+use Rattle.cut_pool.specs.Boards.{opening_case}
+use Rattle.cut_pool.specs.declared.board.Board.{Board}
 use Rattle.cut_pool.specs.Histories.{cuts_of}
 use Rattle.session_script.specs.declared.script.Act.{Act}
 use Rattle.session_script.specs.declared.script.Act.TheVariants.{Change, Plan}
@@ -17,9 +19,8 @@ use Rattle.session_script.specs.declared.script.Command.{Command}
 use Rattle.planner.specs.SoundPlans.{IsPooledEntry}
 use Rattle.planner.proofs.Taking.{cuts_both}
 use Rattle.session_run.specs.Transcripts.{IsOutcomeAfter, RunsFrom, acts_of, caller_of, edit_asked, edit_made, outcomes_of}
-use Rattle.session_run.specs.inner.Running.{HaveRun, IsEntryOfCaller}
-use Rattle.session_script.specs.Scripts.{asks_plan, is_plan}
-use Rattle.plan_report.specs.Forms.{IsEditedInForm}
+use Rattle.session_run.specs.inner.Running.{DoesAct, HaveRun, IsEntryOfCaller}
+use Rattle.session_script.specs.Scripts.{IsActInForm, IsCommandInForm, asks_plan, is_plan}
 use Rattle.std.proofs.lemmas.Bool.{cases_eq, eq-eqb, ne_eqb}
 use Rattle.session_run.proofs.Runs.{run_edit, run_later, run_plan}
 
@@ -93,7 +94,7 @@ outcomes_other outcomes o caller ne =
 -- ---- an edit more
 
 module _ (p : Case) (es : List Entry) (commands : List Command) (outcomes : List Outcome) (h : HaveRun p es commands outcomes) (c : Command) where
-  module _ (edit : Edit) (reply : Reply) (act : c.act ≡ Change edit) (form : IsEditedInForm c.caller edit reply) where
+  module _ (edit : Edit) (reply : Reply) (act : c.act ≡ Change edit) (form : IsEntryOfCaller (Edited c.caller edit reply)) where
     abbrev entry : Entry
     entry = Edited c.caller edit reply
 
@@ -203,3 +204,22 @@ module _ (p : Case) (es : List Entry) (commands : List Command) (outcomes : List
       where
         plus_one : (n : ℕ) (k : Command) → k.act ≡ Plan → n + count_by is_plan (k ∷ []) ≡ n + 1
         plus_one n k is' = let b : is_plan k ≡ true = ap asks_plan is' in rw b (omega arith)
+
+-- ---- a command more
+
+pub command_run : (p : Case) (old new : Board) (commands : List Command) (before after : List Outcome) (c : Command) (act : Act) → c.act ≡ act → opening_case old ≡ p → HaveRun p old.entries commands before
+    → IsCommandInForm c → DoesAct c.caller act old before new after → HaveRun p new.entries (commands ++ c ∷ []) after
+command_run p old new commands before after c (Change edit) is same h form does =
+    let edited = subst IsActInForm is form.act in
+    subst (λ es. HaveRun p es (commands ++ c ∷ []) after) (sym does.0.1.entries)
+    (subst (HaveRun p (old.entries ++ Edited c.caller edit does.0.0 ∷ []) (commands ++ c ∷ [])) (sym does.1)
+      (edited_run p old.entries commands before h c edit does.0.0 is (form.some, form.most, edited)))
+command_run p old new commands before after c Plan is same h form does =
+    let further = does.0.further in
+    let outcome = does.1.0 in
+    let made : IsOutcomeAfter p old.entries (old.entries ++ further.more) c.caller (length (outcomes_of c.caller before) + 1) outcome =
+          subst (λ q. IsOutcomeAfter q old.entries (old.entries ++ further.more) c.caller (length (outcomes_of c.caller before) + 1) outcome) same
+          (subst (λ es. IsOutcomeAfter (opening_case old) old.entries es c.caller (length (outcomes_of c.caller before) + 1) outcome) further.entries does.1.1) in
+    subst (λ es. HaveRun p es (commands ++ c ∷ []) after) (sym further.entries)
+    (subst (HaveRun p (old.entries ++ further.more) (commands ++ c ∷ [])) (sym does.1.2)
+      (planned_run p old.entries commands before h c further.more further.pooled is outcome made))

@@ -6,14 +6,13 @@ use Rattle.net_core.specs.declared.journal.Entry.TheVariants.{Edited, Pooled}
 use Rattle.net_core.specs.declared.journal.Reply.{Reply}
 use Rattle.net_core.specs.Cases.{Case}
 use Rattle.plan_types.specs.declared.report.Outcome.{Outcome}
-use Rattle.plan_report.specs.Forms.{IsEditedInForm}
 use Rattle.cut_pool.specs.declared.board.Board.{Board}
 use Rattle.cut_pool.specs.Boards.{GrowsBy, opening_case}
 use Rattle.cut_pool.specs.Histories.{cuts_of}
 use Rattle.session_script.specs.declared.script.Act.{Act}
 use Rattle.session_script.specs.declared.script.Act.TheVariants.{Change, Plan}
 use Rattle.session_script.specs.declared.script.Command.{Command}
-use Rattle.session_script.specs.Scripts.{is_plan}
+use Rattle.session_script.specs.Scripts.{IsEditInForm, is_plan}
 use Rattle.planner.specs.SoundPlans.{GrowsByCuts}
 use Rattle.session_run.specs.Transcripts.{IsOutcomeAfter, RunsFrom, acts_of, edit_asked, edit_made, outcomes_of}
 
@@ -25,9 +24,9 @@ IsEditOf caller edit old new = (reply : Reply) × GrowsBy (Edited caller edit re
 abbrev pub IsOutcomeOf : ℕ → ℕ → Board → Board → Outcome → Type 0
 IsOutcomeOf caller serial old new outcome = IsOutcomeAfter (opening_case old) old.entries new.entries caller serial outcome
 
--- an edit of the journal is in form
+-- an edit of the journal is of a caller from 1 to 8, and in form
 abbrev pub IsEntryOfCaller : Entry → Type 0
-IsEntryOfCaller (Edited caller edit reply) = IsEditedInForm caller edit reply
+IsEntryOfCaller (Edited caller edit reply) = (1 ≤ caller) × (caller ≤ 8) × IsEditInForm edit
 IsEntryOfCaller (Pooled index state lengths) = Unit {0}
 
 -- These commands have run, with these outcomes in the order of the commands, and left these entries.
