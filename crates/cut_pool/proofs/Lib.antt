@@ -1,5 +1,5 @@
 mod Admitting
 mod Boards
-mod Growing
+pub mod Growing
 mod Places
 mod Told

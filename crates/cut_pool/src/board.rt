@@ -16,6 +16,7 @@ use metric_cut::Cut;
 use net_core::{Copied, CutLine, Demands, Edit, Entry, List, Network, NoMemory, States};
 use std::alloc::Global;
 use std::snapshot::Snapshot as Remembered;
+use turn_lock::Chronicle;
 
 /// So many entries are the most.
 const MOST_ENTRIES: usize = 65_536;
@@ -25,6 +26,12 @@ const MOST_CUTS: usize = 4096;
 
 /// One history of demand edits and pooled cuts, with what it leaves: the demands, their version, and each pooled cut with its
 /// right side at the demands now.
+///
+/// ```text
+/// let mut board = Board::new(alloc, &net, &states, opening)?;           // version 0, no entry
+/// let answer = board.edit(1, Edit::Set { name, need: 24000 });          // At { position: 1, reply: Accepted(1) }
+/// let answer = board.admit(cut);                                        // Admitted { index: 0, position: 2 }
+/// ```
 #[derive(Drop)]
 pub struct Board<'a> {
     net: &'a Network,
@@ -40,6 +47,23 @@ pub struct Board<'a> {
     pub ghost low: { All (λ c. c.right < 2 ^ 84) pool },
     pub ghost cuts_are: { ∥ ArePooledCuts (case net.now states.now opening.value) pool ∥₁ },
     pub ghost stands: { ∥ IsBoardAfter (case net.now states.now opening.value) entries book.demands book.version (map line_of_pooled pool) ∥₁ },
+}
+
+/// A board stands for its entries, and its origin is its network, states and opening demands.
+impl<'a> Chronicle for Board<'a> {
+    ghost use Rattle.cut_pool.specs.Boards.{origin_of};
+
+    type Item = Entry;
+
+    type Origin = (Network, States, Demands);
+
+    ghost history = { λ b. b.entries };
+
+    ghost origin = { origin_of };
+
+    fn count(&self) -> u64 {
+        self.entries.len() as u64
+    }
 }
 
 impl<'a> Board<'a> {
@@ -194,7 +218,7 @@ impl<'a> Board<'a> {
     {
         Ok(Snapshot {
             version: self.version(),
-            position: self.entries.len() as u64,
+            position: self.count(),
             demands: self.demands().copy()?,
             cuts: self.lines()?,
         })

@@ -6,6 +6,8 @@ mod board;
 mod history;
 mod pooled;
 mod snapshot;
+#[cfg(test)]
+mod tests;
 
 pub use answers::{AdmitAnswer, EditAnswer};
 pub use board::Board;

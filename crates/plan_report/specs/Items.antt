@@ -58,6 +58,7 @@ path_items links path = enclosed (flat_map (λ e. Verbatim (link_name links e) �
 
 -- ---- the journal
 
+-- a reply: one word, and the version or the total that it tells
 abbrev pub reply_items : Reply → List Item
 reply_items (Accepted version) = Verbatim (codes "accepted") ∷ Whole version ∷ []
 reply_items UnknownDemand = Verbatim (codes "unknown-demand") ∷ []
@@ -93,11 +94,13 @@ routings_items links listed demands routings = enclosed (flat_map (routing_items
 
 -- ---- how good a bound is
 
+-- a column of a program that routes: what a link has left, what of a demand is not carried, or a demand along a path
 abbrev pub route_column_items : List Link → List Demand → RouteColumn → List Item
 route_column_items links demands (route.LinkSlack e) = Verbatim (codes "link") ∷ Verbatim (link_name links e) ∷ []
 route_column_items links demands (route.DemandSlack k) = Verbatim (codes "demand") ∷ Verbatim (demand_name demands k) ∷ []
 route_column_items links demands (route.Carry k path) = Verbatim (codes "flow") ∷ Verbatim (demand_name demands k) ∷ path_items links path
 
+-- a column of a program that finds a certificate: what a link's price leaves of its cost, or a cut
 abbrev pub master_column_items : List Link → MasterColumn → List Item
 master_column_items links (master.LinkSlack e) = Verbatim (codes "link") ∷ Verbatim (link_name links e) ∷ []
 master_column_items links (master.Metric state lengths) = Verbatim (codes "cut") ∷ Whole state.0 ∷ numbers_items lengths
@@ -155,7 +158,7 @@ certificate_line_items l = enclosed (Whole l.num ∷ spot_items l.spot l.cut ++ 
 abbrev pub certificate_items : Certificate → List Item
 certificate_items c = section (codes "CERTIFICATE") (Whole c.den ∷ flat_map certificate_line_items c.lines)
 
--- whose plan command it was, the how manieth of that caller, and for which version and position
+-- whose plan command it was, which of that caller's, and for which version and position
 abbrev pub head_items : ℕ → ℕ → ℕ → ℕ → List Item
 head_items caller serial version position =
     Verbatim (codes "caller") ∷ Whole caller ∷ Verbatim (codes "plan") ∷ Whole serial

@@ -141,6 +141,7 @@ module _ (p : Case) (es : List Entry) (commands : List Command) (outcomes : List
           omega (arith, few, cuts, length-append es (entry ∷ []), length-append commands (c ∷ []), length-append (cuts_of es) []);
       count = h.count ∙ sym (sum_by-append (λ (k : Command). cond (is_plan k) 1 0) commands (c ∷ []) ∙ plus_none (count_by is_plan commands) c edit act);
       entries = All-push IsEntryOfCaller es entry h.entries form;
+      opening = h.opening;
     }
       where
         plus_none : (n : ℕ) (k : Command) (e : Edit) → k.act ≡ Change e → n + count_by is_plan (k ∷ []) ≡ n
@@ -200,6 +201,7 @@ module _ (p : Case) (es : List Entry) (commands : List Command) (outcomes : List
           let one = sum_by-append (λ (k : Command). cond (is_plan k) 1 0) commands (c ∷ []) in
           omega (arith, count, one, plus_one (count_by is_plan commands) c act, length-append outcomes (o ∷ []));
       entries = All-append IsEntryOfCaller es more h.entries (cuts_of_callers more pooled);
+      opening = h.opening;
     }
       where
         plus_one : (n : ℕ) (k : Command) → k.act ≡ Plan → n + count_by is_plan (k ∷ []) ≡ n + 1

@@ -5,6 +5,7 @@ use Rattle.net_core.specs.declared.journal.Entry.{Entry}
 use Rattle.net_core.specs.declared.journal.Entry.TheVariants.{Edited, Pooled}
 use Rattle.net_core.specs.declared.journal.Reply.{Reply}
 use Rattle.net_core.specs.Cases.{Case}
+use Rattle.net_core.specs.Demands.{AreDemands}
 use Rattle.plan_types.specs.declared.report.Outcome.{Outcome}
 use Rattle.cut_pool.specs.declared.board.Board.{Board}
 use Rattle.cut_pool.specs.Boards.{GrowsBy, opening_case}
@@ -36,6 +37,7 @@ pub record HaveRun (p : Case) (es : List Entry) (commands : List Command) (outco
   pub few : length es ≤ length commands + length (cuts_of es)
   pub count : length outcomes ≡ count_by is_plan commands
   pub entries : All IsEntryOfCaller es
+  pub opening : AreDemands (length p.nodes) p.demands
 
 -- what a command does to the board and the outcomes: an edit is one entry more, a plan one outcome more and further pooled cuts
 abbrev pub DoesAct : ℕ → Act → Board → List Outcome → Board → List Outcome → Type 0

@@ -12,7 +12,7 @@ returns c =
     let self = c.args.self.now in
     let copied : c.in_ok-copy.field-0 ≡ demands_left (opening_case self) self.entries = c.in_ok-copy.ensures ∙ c.demands.ensures.left in
     record {
-      position_is = c.len.ensures;
+      position_is = c.count.ensures.length;
       version_is = c.version.ensures;
       demands_are = copied;
       belong = subst (λ (ds : List Demand). AreDemands (length self.net.now.nodes) ds) (sym c.in_ok-copy.ensures) c.demands.ensures.belong;
