@@ -1,16 +1,21 @@
 -- one command more
-use Rattle.std.proofs.Common.{◌≡◌, ◌≢◌, ℕ, zero, suc, ◌+◌, ◌<◌, ◌≤◌, ◌==◌, Bool, true, false, cond, List, [], ◌∷◌, ◌++◌, All, Some, flat_map, if◌then◌else◌, length, length-append, ⊎_elim, refl, sym, ap, subst, ◌∙◌, arith}
+use Rattle.std.proofs.Common.{◌≡◌, ◌≢◌, ℕ, zero, suc, ◌+◌, ◌<◌, ◌≤◌, ◌==◌, Bool, true, false, cond, List, [], ◌∷◌, ◌++◌, All, Some, flat_map, if◌then◌else◌, length, length-append, get_or, take, add-one, ⊎_elim, refl, sym, ap, subst, ◌∙◌, arith}
 use Rattle.std.specs.Prelude.{count_by, filter}
 use Rattle.std.proofs.lemmas.List.Elements.{All-append, All-push, All-weaker, filter-append}
 use Rattle.std.proofs.lemmas.List.Sums.{sum_by-append}
+use Rattle.std.proofs.Math.Seq.{take-suc}
+use Rattle.net_core.specs.declared.demand.Demand.{Demand}
 use Rattle.net_core.specs.declared.journal.Edit.{Edit}
 use Rattle.net_core.specs.declared.journal.Entry.{Entry}
 use Rattle.net_core.specs.declared.journal.Entry.TheVariants.{Edited, Pooled}
 use Rattle.net_core.specs.declared.journal.Reply.{Reply}
+use Rattle.net_core.specs.declared.network.Network.{Network}
+use Rattle.net_core.specs.declared.states.States.{States}
 use Rattle.net_core.specs.Cases.{Case}
+use Rattle.net_core.specs.Views.{case}
 use Rattle.plan_types.specs.declared.report.Outcome.{Outcome}
 use Rattle.plan_types.specs.declared.report.Outcome.TheVariants.{Planned, Unsurvivable}
-use Rattle.cut_pool.specs.Boards.{opening_case}
+use Rattle.cut_pool.specs.Boards.{opening_case, origin_of}
 use Rattle.cut_pool.specs.declared.board.Board.{Board}
 use Rattle.cut_pool.specs.Histories.{cuts_of}
 use Rattle.session_script.specs.declared.script.Act.{Act}
@@ -225,3 +230,25 @@ command_run p old new commands before after c Plan is same h form does =
     subst (λ es. HaveRun p es (commands ++ c ∷ []) after) (sym further.entries)
     (subst (HaveRun p (old.entries ++ further.more) (commands ++ c ∷ [])) (sym does.1.2)
       (planned_run p old.entries commands before h c further.more further.pooled is outcome made))
+
+-- an act leaves the board's origin
+does_origin : (caller : ℕ) (act : Act) (old new : Board) (before after : List Outcome) → DoesAct caller act old before new after → origin_of new ≡ origin_of old
+does_origin caller (Change edit) old new before after does = does.0.1.origin
+does_origin caller Plan old new before after does = does.0.origin
+
+-- the next of a list of commands
+pub next_run : (opening old new : Board) (commands : List Command) (i : ℕ) (c : Command) (before after : List Outcome)
+    → i < length commands → c ≡ get_or commands i c → All IsCommandInForm commands → origin_of old ≡ origin_of opening
+    → HaveRun (opening_case opening) old.entries (take i commands) before → DoesAct c.caller c.act old before new after
+    → (origin_of new ≡ origin_of opening) × HaveRun (opening_case opening) new.entries (take (i + 1) commands) after
+next_run opening old new commands i c before after lt is each same h does =
+    let more : take (i + 1) commands ≡ take i commands ++ c ∷ [] =
+          rw add-one (take-suc commands i c lt) ∙ ap (λ k. take i commands ++ k ∷ []) (sym is) in
+    let form : IsCommandInForm c = subst IsCommandInForm (sym is) (each i c lt) in
+    let opened : opening_case old ≡ opening_case opening = ap case_of same in
+    (does_origin c.caller c.act old new before after does ∙ same,
+      subst (λ cs. HaveRun (opening_case opening) new.entries cs after) (sym more)
+      (command_run (opening_case opening) old new (take i commands) before after c c.act refl opened h form does))
+  where
+    case_of : Network × States × List Demand → Case
+    case_of o = case o.0 o.1 o.2
