@@ -1,6 +1,7 @@
 -- one command more
 use Rattle.std.proofs.Common.{◌≡◌, ◌≢◌, ℕ, zero, suc, ◌+◌, ◌<◌, ◌≤◌, ◌==◌, Bool, true, false, cond, List, [], ◌∷◌, ◌++◌, All, Some, flat_map, if◌then◌else◌, length, length-append, get_or, take, add-one, ⊎_elim, refl, sym, ap, subst, ◌∙◌, arith}
 use Rattle.std.specs.Prelude.{count_by, filter}
+use Rattle.std.proofs.lemmas.List.{length-take}
 use Rattle.std.proofs.lemmas.List.Elements.{All-append, All-push, All-weaker, filter-append}
 use Rattle.std.proofs.lemmas.List.Sums.{sum_by-append}
 use Rattle.std.proofs.Math.Seq.{take-suc}
@@ -12,6 +13,7 @@ use Rattle.net_core.specs.declared.journal.Reply.{Reply}
 use Rattle.net_core.specs.declared.network.Network.{Network}
 use Rattle.net_core.specs.declared.states.States.{States}
 use Rattle.net_core.specs.Cases.{Case}
+use Rattle.net_core.specs.Demands.{AreDemands}
 use Rattle.net_core.specs.Views.{case}
 use Rattle.plan_types.specs.declared.report.Outcome.{Outcome}
 use Rattle.plan_types.specs.declared.report.Outcome.TheVariants.{Planned, Unsurvivable}
@@ -22,6 +24,7 @@ use Rattle.session_script.specs.declared.script.Act.{Act}
 use Rattle.session_script.specs.declared.script.Act.TheVariants.{Change, Plan}
 use Rattle.session_script.specs.declared.script.Command.{Command}
 use Rattle.planner.specs.SoundPlans.{IsPooledEntry}
+use Rattle.planner.proofs.BoardPlans.{board_few}
 use Rattle.planner.proofs.Taking.{cuts_both}
 use Rattle.session_run.specs.Transcripts.{IsOutcomeAfter, RunsFrom, acts_of, caller_of, edit_asked, edit_made, outcomes_of}
 use Rattle.session_run.specs.inner.Running.{DoesAct, HaveRun, IsEntryOfCaller}
@@ -252,3 +255,24 @@ next_run opening old new commands i c before after lt is each same h does =
   where
     case_of : Network × States × List Demand → Case
     case_of o = case o.0 o.1 o.2
+
+-- before the first command
+pub none_run : (net : Network) (board : Board) → board.net.now ≡ net → board.entries ≡ [] → AreDemands (length net.nodes) board.opening.value → HaveRun (opening_case board) board.entries [] []
+none_run net board same empty belong =
+    subst (λ es. HaveRun (opening_case board) es [] []) (sym empty)
+    (record {
+      edits = λ caller. refl;
+      runs = λ caller. omega arith;
+      few = omega arith;
+      count = refl;
+      entries = λ k e lt. absurd (omega (arith, lt));
+      opening = subst (λ n. AreDemands (length n.nodes) board.opening.value) (sym same) belong;
+    })
+
+-- where fewer than all commands have run, there is room for an edit more
+pub room_left : (p : Case) (board : Board) (commands : List Command) (i : ℕ) (outcomes : List Outcome)
+    → HaveRun p board.entries (take i commands) outcomes → i < length commands → length commands ≤ 1000 → length board.entries < 65536
+room_left p board commands i outcomes h lt few =
+    let run = h.few in
+    let cuts = board_few board in
+    omega (arith, run, cuts, lt, few, length-take i commands)

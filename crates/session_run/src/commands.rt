@@ -1,4 +1,5 @@
 ghost use Rattle.std.specs.Prelude.{◌≡◌, ◌+◌, ◌<◌, ◌≤◌, ◌^◌, [], IfOk, OnOk, length};
+ghost use Rattle.net_core.specs.Demands.{AreDemands};
 ghost use Rattle.plan_terms.specs.Edits.{edit_need};
 ghost use Rattle.cut_pool.specs.Boards.{opening_case};
 ghost use Rattle.planner.specs.SoundPlans.{GrowsByCuts};
@@ -115,6 +116,7 @@ pub fn run_commands(
     requires net { board.old.net.now ≡ net.now }
     requires states { board.old.states.now ≡ states.now }
     requires empty { board.old.entries ≡ [] }
+    requires opening { AreDemands (length net.now.nodes) board.old.opening.value }
     requires script { IsScript commands.now }
     ensures opening { OnOk result (opening_case board.new ≡ opening_case board.old) }
     ensures run { IfOk result (HaveRun (opening_case board.old) board.new.entries commands.now) }
