@@ -2,6 +2,7 @@
 #![tactic(auto)]
 
 mod commands;
+mod ranges;
 mod reports;
 mod session;
 

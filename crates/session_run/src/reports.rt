@@ -4,6 +4,7 @@ ghost use Rattle.session_script.specs.Scripts.{IsScript};
 ghost use Rattle.session_run.specs.Transcripts.{IsTranscript, caller_of, outcomes_of};
 ghost use Rattle.session_run.specs.inner.Running.{HaveRun};
 
+use crate::ranges::{are_short_named, have_short_lengths};
 use cut_pool::Board;
 use net_core::{List, Network, NoMemory};
 use plan_types::{Outcome, Report};
@@ -43,10 +44,13 @@ pub fn report(
     requires run { HaveRun (opening_case board.now) board.now.entries commands.now outcomes }
     ensures { IfOk result (IsTranscript (opening_case board.now) net.now.notes commands.now) }
 {
+    let pool = board.lines()?;
+    have_short_lengths(pool.items());
+    are_short_named(outcomes.items());
     Ok(Report {
         notes: net.notes(),
         entries: List::from_slice(alloc, board.entries())?,
-        pool: board.lines()?,
+        pool,
         outcomes: by_caller(alloc, outcomes)?,
     })
 }
