@@ -1,5 +1,5 @@
 -- that a report is in form has one proof at most, so that it follows from what is known to hold without a witness
-use Rattle.std.proofs.Common.{◌≡◌, ℕ, ◌+◌, ◌<◌, List, [], ◌∷◌, ◌++◌, length}
+use Rattle.std.proofs.Common.{ℕ, ◌+◌, ◌<◌, List, [], ◌∷◌, ◌++◌, length}
 use Rattle.std.proofs.Props.{props}
 use Rattle.net_core.specs.declared.columns.Evidence.{Evidence}
 use Rattle.net_core.specs.declared.columns.Evidence.TheVariants.{Route, Master}

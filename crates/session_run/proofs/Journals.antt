@@ -1,8 +1,8 @@
 -- entries of a legal journal, and the lines of its pool, are in form
-use Rattle.std.proofs.Common.{◌≡◌, ℕ, zero, suc, ◌+◌, ◌^◌, ◌<◌, ◌≤◌, List, [], ◌∷◌, ◌++◌, All, Some, drop, length, map, slice_get, take, refl, sym, ap, subst, ◌∙◌, arith}
-use Rattle.std.proofs.lemmas.List.{length-map, length-take-le, take-append-drop}
-use Rattle.std.proofs.lemmas.List.Elements.{All-get_or, All-take, All-head, All-tail}
-use Rattle.std.proofs.lemmas.Option.{get_or_from_slice_get, slice_get-get_or, slice_get_within}
+use Rattle.std.proofs.Common.{◌≡◌, ℕ, zero, suc, ◌^◌, ◌<◌, ◌≤◌, List, [], ◌∷◌, ◌++◌, All, Some, drop, length, map, slice_get, take, sym, ap, subst, ◌∙◌, arith}
+use Rattle.std.proofs.lemmas.List.{length-map, length-take-le}
+use Rattle.std.proofs.lemmas.List.Elements.{All-take, All-head, All-tail}
+use Rattle.std.proofs.lemmas.Option.{slice_get-get_or, slice_get_within}
 use Rattle.net_core.specs.declared.journal.Edit.{Edit}
 use Rattle.net_core.specs.declared.journal.Edit.TheVariants.{Set, Add, Drop}
 use Rattle.net_core.specs.declared.journal.Entry.{Entry}
@@ -15,11 +15,10 @@ use Rattle.net_core.specs.Cases.{Case}
 use Rattle.net_core.specs.Demands.{AreDemands}
 use Rattle.plan_terms.specs.Certificates.{IsCut}
 use Rattle.plan_terms.specs.Edits.{edit_need, edit_reply, version_after}
-use Rattle.plan_report.specs.Forms.{IsCutInForm, IsEntryInForm, IsPooledInForm, IsReplyInForm, line_lengths, line_state}
+use Rattle.plan_report.specs.Forms.{HasPoolLine, IsCutInForm, IsEntryInForm, IsReplyInForm}
 use Rattle.plan_report.specs.Parts as report
-use Rattle.cut_pool.specs.Histories.{Dated, IsLegalAfter, IsLegalHistory, cut_of_line, cuts_of, demands_left, left_by, left_by_entry, version_left}
+use Rattle.cut_pool.specs.Histories.{Dated, IsLegalHistory, cut_of_line, cuts_of, demands_left, left_by, left_by_entry, version_left}
 use Rattle.session_script.specs.Scripts.{IsEditInForm}
-use Rattle.planner.specs.SoundPlans.{case_left}
 use Rattle.planner.proofs.BoardPlans.{reply_next, version_few}
 use Rattle.planner.proofs.Taking.{cuts_both, get_behind}
 use Rattle.session_run.specs.inner.Ranges.{HasShortLengths}
@@ -74,21 +73,16 @@ cut_at es n index state lengths at is =
     ∙ get_behind (cuts_of (take n es)) (state.0, lengths) (cuts_of (drop (suc n) es)))
 
 -- the line of this place has the state and the lengths of the cut
-pub record IsLineOf (lines : List CutLine) (index : ℕ) (cut : ℕ × List ℕ) : Type 0 where
-  pub there : index < length lines
-  pub same_state : cut.0 ≡ line_state (slice_get lines index)
-  pub same_lengths : cut.1 ≡ line_lengths (slice_get lines index)
-
-line_of_map : (lines : List CutLine) (index : ℕ) (cut : ℕ × List ℕ) → slice_get (map cut_of_line lines) index ≡ Some cut → IsLineOf lines index cut
-line_of_map [] index cut at = absurd (omega (arith, slice_get_within [] index cut at))
+line_of_map : (lines : List CutLine) (index : ℕ) (cut : CutLine) → slice_get (map cut_of_line lines) index ≡ Some (cut_of_line cut) → HasPoolLine lines index cut
+line_of_map [] index cut at = absurd (omega (arith, slice_get_within [] index (cut_of_line cut) at))
 line_of_map (l ∷ lines) zero cut at =
-    let is : cut_of_line l ≡ cut = cc at in
+    let is : cut_of_line l ≡ cut_of_line cut = cc at in
     record { there = omega arith; same_state = sym (ap (λ (c : ℕ × List ℕ). c.0) is); same_lengths = sym (ap (λ (c : ℕ × List ℕ). c.1) is) }
 line_of_map (l ∷ lines) (suc index) cut at =
     let rest = line_of_map lines index cut at in
     record { there = omega (arith, rest.there); same_state = rest.same_state; same_lengths = rest.same_lengths }
 
-pub line_at : (es : List Entry) (lines : List CutLine) (index : ℕ) (cut : ℕ × List ℕ) → map cut_of_line lines ≡ cuts_of es → slice_get (cuts_of es) index ≡ Some cut → IsLineOf lines index cut
+pub line_at : (es : List Entry) (lines : List CutLine) (index : ℕ) (cut : CutLine) → map cut_of_line lines ≡ cuts_of es → slice_get (cuts_of es) index ≡ Some (cut_of_line cut) → HasPoolLine lines index cut
 line_at es lines index cut same at = line_of_map lines index cut (ap (λ cuts. slice_get cuts index) same ∙ at)
 
 -- a pool has as many lines as there are cuts
@@ -123,7 +117,7 @@ module _ (p : Case) (es : List Entry) (lines : List CutLine) (callers : All IsEn
   entry_at n (Pooled index state lengths) at of =
       let is = legal n (Pooled index state lengths) at in
       let here = cut_at es n index state lengths at is.3 in
-      let line = line_at es lines index (state.0, lengths) same here in
+      let line = line_at es lines index (record { state = state; lengths = lengths; right = 0 }) same here in
       let within = slice_get_within (cuts_of es) index (state.0, lengths) here in
       record { most = omega (arith, within, few_cuts); same_state = line.same_state; same_lengths = line.same_lengths }
 

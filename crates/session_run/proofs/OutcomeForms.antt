@@ -1,6 +1,6 @@
 -- outcomes of commands that have run are in form
 use Rattle.std.proofs.Common.{◌≡◌, ℕ, zero, suc, ◌+◌, ◌<◌, ◌≤◌, ◌⊎◌, inl, inr, List, [], ◌∷◌, ◌++◌, All, Bool, true, false, cond, Some, ◌==◌, drop, get_or, if◌then◌else◌, length, map, slice_get, take, refl, sym, ap, subst, ◌∙◌, ⊎_elim, arith}
-use Rattle.std.specs.Prelude.{count_by, filter}
+use Rattle.std.specs.Prelude.{filter}
 use Rattle.std.proofs.Math.Logic.{∥∥₁_elim}
 use Rattle.std.proofs.lemmas.Bool.{cases_eq, cond-true, eq-eqb, ne_eqb}
 use Rattle.std.proofs.lemmas.List.{length-take-le, take-append-drop}
@@ -18,7 +18,7 @@ use Rattle.cut_pool.specs.Histories.{cut_of_line, cuts_of, version_left}
 use Rattle.session_script.specs.declared.script.Act.{Act}
 use Rattle.session_script.specs.declared.script.Act.TheVariants.{Change, Plan}
 use Rattle.session_script.specs.declared.script.Command.{Command}
-use Rattle.session_script.specs.Scripts.{IsCommandInForm, IsScript, is_plan}
+use Rattle.session_script.specs.Scripts.{IsCommandInForm, IsScript}
 use Rattle.planner.specs.SoundPlans.{StandsAt}
 use Rattle.planner.proofs.BoardPlans.{version_few}
 use Rattle.planner.proofs.Taking.{cuts_both, get_front}
@@ -66,8 +66,7 @@ module _ (p : Case) (es : List Entry) (lines : List CutLine) (few : length es �
   of_pool m cut (Pool i) stands =
       let all : cuts_of (take m es) ++ cuts_of (drop m es) ≡ cuts_of es = sym (cuts_both (take m es) (drop m es)) ∙ ap cuts_of (take-append-drop m es) in
       let at : slice_get (cuts_of es) i ≡ Some (cut_of_line cut) = sym (ap (λ cuts. slice_get cuts i) all) ∙ get_front (cuts_of (take m es)) (cuts_of (drop m es)) i (cut_of_line cut) stands in
-      let line = line_at es lines i (cut_of_line cut) same at in
-      record { there = line.there; same_state = line.same_state; same_lengths = line.same_lengths }
+      line_at es lines i cut same at
   of_pool m cut Local stands = tt
 
   module _ (caller : ℕ) (some : 1 ≤ caller) (most : caller ≤ 8) where

@@ -1,5 +1,5 @@
 -- what the types of a session's values say of them
-use Rattle.std.specs.Prelude.{ℕ, ◌≤◌, ◌<◌, ◌^◌, List, All, length}
+use Rattle.std.specs.Prelude.{◌≤◌, ◌<◌, ◌^◌, All, length}
 use Rattle.net_core.specs.declared.plan.CutLine.{CutLine}
 use Rattle.plan_types.specs.declared.report.Outcome.{Outcome}
 use Rattle.plan_types.specs.declared.report.Outcome.TheVariants.{Planned, Unsurvivable}
