@@ -67,7 +67,7 @@ cut_at : (es : List Entry) (n index : ℕ) (state : StateId) (lengths : List ℕ
     → slice_get (cuts_of es) index ≡ Some (state.0, lengths)
 cut_at es n index state lengths at is =
     let whole : cuts_of es ≡ cuts_of (take n es) ++ (state.0, lengths) ∷ cuts_of (drop (suc n) es) =
-        ap cuts_of (split_at es n (Pooled index state lengths) at) ∙ cuts_both (take n es) (Pooled index state lengths ∷ drop (suc n) es) in
+    ap cuts_of (split_at es n (Pooled index state lengths) at) ∙ cuts_both (take n es) (Pooled index state lengths ∷ drop (suc n) es) in
     ap (λ cuts. slice_get cuts index) whole
     ∙ (ap (λ k. slice_get (cuts_of (take n es) ++ (state.0, lengths) ∷ cuts_of (drop (suc n) es)) k) is
     ∙ get_behind (cuts_of (take n es)) (state.0, lengths) (cuts_of (drop (suc n) es)))

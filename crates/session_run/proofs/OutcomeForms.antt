@@ -35,12 +35,12 @@ callers_known : (commands : List Command) (caller : ℕ) → All IsCommandInForm
 callers_known [] caller each = inl refl
 callers_known (c ∷ cs) caller each = ⊎_elim
     (λ (e : c.caller ≡ caller).
-      let form = All-head IsCommandInForm c cs each in
-      inr (omega (arith, e, form.some), omega (arith, e, form.most)))
+    let form = All-head IsCommandInForm c cs each in
+    inr (omega (arith, e, form.some), omega (arith, e, form.most)))
     (λ ne. ⊎_elim
-      (λ (none : acts_of caller cs ≡ []). inl (ap (λ b. (if b then c.act ∷ [] else []) ++ acts_of caller cs) (ne_eqb c.caller caller ne) ∙ none))
-      inr
-      (callers_known cs caller (All-tail IsCommandInForm c cs each)))
+    (λ (none : acts_of caller cs ≡ []). inl (ap (λ b. (if b then c.act ∷ [] else []) ++ acts_of caller cs) (ne_eqb c.caller caller ne) ∙ none))
+    inr
+    (callers_known cs caller (All-tail IsCommandInForm c cs each)))
     (cases_eq c.caller caller)
 
 -- ---- lists
@@ -125,8 +125,8 @@ module _ (p : Case) (es : List Entry) (lines : List CutLine) (few : length es �
     caller_form caller = ⊎_elim
         (λ (none : acts_of caller commands ≡ []). none_form caller (outcomes_of caller outcomes) (subst (λ acts. RunsFrom p es caller 0 1 acts (outcomes_of caller outcomes)) none (h.runs caller)))
         (λ (known : (1 ≤ caller) × (caller ≤ 8)).
-          run_form caller known.0 known.1 0 1 (acts_of caller commands) (outcomes_of caller outcomes) (h.runs caller) (omega arith) (let most = few_of caller in omega (arith, most))
-          (All-filter (λ (o : Outcome). caller_of o == caller) IsShortNamed outcomes short))
+        run_form caller known.0 known.1 0 1 (acts_of caller commands) (outcomes_of caller outcomes) (h.runs caller) (omega arith) (let most = few_of caller in omega (arith, most))
+        (All-filter (λ (o : Outcome). caller_of o == caller) IsShortNamed outcomes short))
         (callers_known commands caller script.each)
 
     pub outcomes_form : (sorted : List Outcome) → ((caller : ℕ) → outcomes_of caller sorted ≡ outcomes_of caller outcomes) → All InForm sorted

@@ -66,15 +66,15 @@ set_total name need (d ∷ ds) all =
     let after = sum_by-cons (λ (x : Demand). x.need) (changed name need d) (set_need name need ds) in
     ⊎_elim
     (λ (same : are_same d.name name ≡ true).
-      let rest = others_same name need ds (λ k e lt. false_from_ne_true _ (λ also.
-          different_first d ds all k e lt ((bytes_eq-Decides d.name name).0 same ∙ sym ((bytes_eq-Decides (get_or ds k e).name name).0 also)))) in
-      let one : (changed name need d).need ≡ need = ap (λ (x : Demand). x.need) (cond-true (are_same d.name name) (with_need need d) d same) in
-      let others : total_need (set_need name need ds) ≡ total_need ds = ap (λ (xs : List Demand). total_need xs) rest in
-      omega (arith, before, after, one, others))
+    let rest = others_same name need ds (λ k e lt. false_from_ne_true _ (λ also.
+    different_first d ds all k e lt ((bytes_eq-Decides d.name name).0 same ∙ sym ((bytes_eq-Decides (get_or ds k e).name name).0 also)))) in
+    let one : (changed name need d).need ≡ need = ap (λ (x : Demand). x.need) (cond-true (are_same d.name name) (with_need need d) d same) in
+    let others : total_need (set_need name need ds) ≡ total_need ds = ap (λ (xs : List Demand). total_need xs) rest in
+    omega (arith, before, after, one, others))
     (λ (other : are_same d.name name ≡ false).
-      let one : (changed name need d).need ≡ d.need = ap (λ (x : Demand). x.need) (cond-false (are_same d.name name) (with_need need d) d other) in
-      let others = set_total name need ds (different_rest d ds all) in
-      omega (arith, before, after, one, others))
+    let one : (changed name need d).need ≡ d.need = ap (λ (x : Demand). x.need) (cond-false (are_same d.name name) (with_need need d) d other) in
+    let others = set_total name need ds (different_rest d ds all) in
+    omega (arith, before, after, one, others))
     (cases_Bool (are_same d.name name))
 
 -- ---- one demand less, and one more
