@@ -34,7 +34,7 @@ fn look(outcome: &Outcome) -> Option<Looked> {
     }
 }
 
-/// The report of a script's commands on a network of three nodes.
+/// The report of a script's commands on a network.
 fn report(
     alloc: Global,
     net: &Network,
@@ -48,7 +48,7 @@ fn report(
     let Ok(script) = read_script(alloc, text.items()) else {
         return Ok(None);
     };
-    let opening = demands(alloc, 3, opening)?;
+    let opening = demands(alloc, net.nodes().len(), opening)?;
     Ok(Some(run_session(alloc, net, states, opening, &script)?))
 }
 
