@@ -19,7 +19,7 @@ pub stays_same : (xs ys : List Outcome) → IsStableByKey caller_of nat_cmp xs y
 stays_same xs ys stable caller =
     let some : Outcome = Unsurvivable caller 0 0 0 (record { 0 = 0 }) [] in
     let test : (o : Outcome) → (caller_of o == caller) ≡ ties (λ x y. is_lt (nat_cmp (caller_of x) (caller_of y))) some o =
-          λ o. sym (ties_at caller (caller_of o)) in
+    λ o. sym (ties_at caller (caller_of o)) in
     filter_agree (λ o. caller_of o == caller) (ties (λ x y. is_lt (nat_cmp (caller_of x) (caller_of y))) some) test ys
     ∙ stable some
     ∙ sym (filter_agree (λ o. caller_of o == caller) (ties (λ x y. is_lt (nat_cmp (caller_of x) (caller_of y))) some) test xs)

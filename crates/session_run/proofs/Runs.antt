@@ -40,12 +40,17 @@ module _ (p : Case) (es more : List Entry) (caller : ℕ) where
       let all = length-append es more in
       let before : es ≡ take (length es) (es ++ more) = sym (take_front es more (length es) (omega arith) ∙ whole es) in
       let after : es ++ more ≡ take (length (es ++ more)) (es ++ more) = sym (whole (es ++ more)) in
-      let same : serial + 0 ≡ serial = omega arith in
-      (length es, length (es ++ more), h, omega (arith, all), omega arith,
+      let same : serial + 0 ≡ serial = omega arith in (
+        length es,
+        length (es ++ more),
+        h,
+        omega (arith, all),
+        omega arith,
         subst (λ k. IsOutcomeAfter p (take (length es) (es ++ more)) (take (length (es ++ more)) (es ++ more)) caller k o) same
-        (subst (λ xs. IsOutcomeAfter p xs (take (length (es ++ more)) (es ++ more)) caller (serial + 0) o) before
-        (subst (λ xs. IsOutcomeAfter p es xs caller (serial + 0) o) after is)),
-        omega arith)
+            (subst (λ xs. IsOutcomeAfter p xs (take (length (es ++ more)) (es ++ more)) caller (serial + 0) o) before
+            (subst (λ xs. IsOutcomeAfter p es xs caller (serial + 0) o) after is)),
+        omega arith,
+      )
     where
       whole : {X : Type 0} (xs : List X) → take (length xs) xs ≡ xs
       whole [] = refl
@@ -55,9 +60,15 @@ module _ (p : Case) (es more : List Entry) (caller : ℕ) where
       (h.0, h.1, h.2, get_front es more h.0 (Edited caller edit h.1) h.3, run_plan (h.0 + 1) serial acts os o h.4 is)
   run_plan at serial (Plan ∷ acts) [] o h is = absurd h
   run_plan at serial (Plan ∷ acts) (q ∷ os) o h is =
-      let same : serial + suc (length os) ≡ serial + 1 + length os = omega arith in
-      (h.0, h.1, h.2, h.3, omega (arith, h.4, length-append es more), outcome_later serial h.0 h.1 q h.3 h.4 h.5,
-        run_plan h.1 (serial + 1) acts os o h.6 (subst (λ k. IsOutcomeAfter p es (es ++ more) caller k o) same is))
+      let same : serial + suc (length os) ≡ serial + 1 + length os = omega arith in (
+        h.0,
+        h.1,
+        h.2,
+        h.3,
+        omega (arith, h.4, length-append es more),
+        outcome_later serial h.0 h.1 q h.3 h.4 h.5,
+        run_plan h.1 (serial + 1) acts os o h.6 (subst (λ k. IsOutcomeAfter p es (es ++ more) caller k o) same is),
+      )
 
 -- a run goes on with an edit, which is the next entry
 pub run_edit : (p : Case) (es : List Entry) (caller : ℕ) (edit : Edit) (reply : Reply) (at serial : ℕ) (acts : List Act) (os : List Outcome)
@@ -68,6 +79,12 @@ run_edit p es caller edit reply at serial [] (o ∷ os) h = absurd h
 run_edit p es caller edit reply at serial (Change other ∷ acts) os h =
     (h.0, h.1, h.2, get_front es (Edited caller edit reply ∷ []) h.0 (Edited caller other h.1) h.3, run_edit p es caller edit reply (h.0 + 1) serial acts os h.4)
 run_edit p es caller edit reply at serial (Plan ∷ acts) [] h = absurd h
-run_edit p es caller edit reply at serial (Plan ∷ acts) (o ∷ os) h =
-    (h.0, h.1, h.2, h.3, omega (arith, h.4, length-append es (Edited caller edit reply ∷ [])),
-      outcome_later p es (Edited caller edit reply ∷ []) caller serial h.0 h.1 o h.3 h.4 h.5, run_edit p es caller edit reply h.1 (serial + 1) acts os h.6)
+run_edit p es caller edit reply at serial (Plan ∷ acts) (o ∷ os) h = (
+  h.0,
+  h.1,
+  h.2,
+  h.3,
+  omega (arith, h.4, length-append es (Edited caller edit reply ∷ [])),
+  outcome_later p es (Edited caller edit reply ∷ []) caller serial h.0 h.1 o h.3 h.4 h.5,
+  run_edit p es caller edit reply h.1 (serial + 1) acts os h.6,
+)

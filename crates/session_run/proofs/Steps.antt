@@ -168,9 +168,9 @@ module _ (p : Case) (es : List Entry) (commands : List Command) (outcomes : List
     asked_same : (caller : ℕ) → flat_map edit_asked (acts_of caller (commands ++ c ∷ [])) ≡ flat_map edit_asked (acts_of caller commands)
     asked_same caller = ⊎_elim
         (λ (e : c.caller ≡ caller). subst (λ k. flat_map edit_asked (acts_of k (commands ++ c ∷ [])) ≡ flat_map edit_asked (acts_of k commands)) e
-          (ap (flat_map edit_asked) (acts_own commands c)
-          ∙ (flat_both edit_asked (acts_of c.caller commands) (c.act ∷ [])
-          ∙ (ap (λ a. flat_map edit_asked (acts_of c.caller commands) ++ (edit_asked a ++ [])) act ∙ no_more (flat_map edit_asked (acts_of c.caller commands))))))
+        (ap (flat_map edit_asked) (acts_own commands c)
+        ∙ (flat_both edit_asked (acts_of c.caller commands) (c.act ∷ [])
+        ∙ (ap (λ a. flat_map edit_asked (acts_of c.caller commands) ++ (edit_asked a ++ [])) act ∙ no_more (flat_map edit_asked (acts_of c.caller commands))))))
         (λ ne. ap (flat_map edit_asked) (acts_other commands c caller (λ e. omega (arith, ne, e))))
         (cases_eq c.caller caller)
 
@@ -181,16 +181,16 @@ module _ (p : Case) (es : List Entry) (commands : List Command) (outcomes : List
         subst (λ asked. RunsFrom p (es ++ more) c.caller 0 1 asked (outcomes_of c.caller (outcomes ++ o ∷ [])))
         (sym (acts_own commands c ∙ ap (λ a. acts_of c.caller commands ++ a ∷ []) act))
         (subst (λ all. RunsFrom p (es ++ more) c.caller 0 1 (acts_of c.caller commands ++ Plan ∷ []) all)
-          (sym (outcomes_own outcomes o c.caller (caller_is p es (es ++ more) c.caller (length os + 1) o is)))
-          (run_plan p es more c.caller 0 1 (acts_of c.caller commands) os o (h.runs c.caller)
-            (subst (λ k. IsOutcomeAfter p es (es ++ more) c.caller k o) turned is)))
+        (sym (outcomes_own outcomes o c.caller (caller_is p es (es ++ more) c.caller (length os + 1) o is)))
+        (run_plan p es more c.caller 0 1 (acts_of c.caller commands) os o (h.runs c.caller)
+        (subst (λ k. IsOutcomeAfter p es (es ++ more) c.caller k o) turned is)))
 
     planned_other : (caller : ℕ) → c.caller ≢ caller → RunsFrom p (es ++ more) caller 0 1 (acts_of caller (commands ++ c ∷ [])) (outcomes_of caller (outcomes ++ o ∷ []))
     planned_other caller ne =
         let mine = caller_is p es (es ++ more) c.caller (length (outcomes_of c.caller outcomes) + 1) o is in
         subst (λ asked. RunsFrom p (es ++ more) caller 0 1 asked (outcomes_of caller (outcomes ++ o ∷ []))) (sym (acts_other commands c caller ne))
         (subst (λ all. RunsFrom p (es ++ more) caller 0 1 (acts_of caller commands) all) (sym (outcomes_other outcomes o caller (λ e. ne (sym mine ∙ e))))
-          (run_later p es more caller 0 1 (acts_of caller commands) (outcomes_of caller outcomes) (h.runs caller)))
+        (run_later p es more caller 0 1 (acts_of caller commands) (outcomes_of caller outcomes) (h.runs caller)))
 
     pub planned_run : HaveRun p (es ++ more) (commands ++ c ∷ []) (outcomes ++ o ∷ [])
     planned_run = record {
@@ -223,16 +223,16 @@ command_run p old new commands before after c (Change edit) is same h form does 
     let edited = subst IsActInForm is form.act in
     subst (λ es. HaveRun p es (commands ++ c ∷ []) after) (sym does.0.1.entries)
     (subst (HaveRun p (old.entries ++ Edited c.caller edit does.0.0 ∷ []) (commands ++ c ∷ [])) (sym does.1)
-      (edited_run p old.entries commands before h c edit does.0.0 is (form.some, form.most, edited)))
+    (edited_run p old.entries commands before h c edit does.0.0 is (form.some, form.most, edited)))
 command_run p old new commands before after c Plan is same h form does =
     let further = does.0.further in
     let outcome = does.1.0 in
     let made : IsOutcomeAfter p old.entries (old.entries ++ further.more) c.caller (length (outcomes_of c.caller before) + 1) outcome =
-          subst (λ q. IsOutcomeAfter q old.entries (old.entries ++ further.more) c.caller (length (outcomes_of c.caller before) + 1) outcome) same
-          (subst (λ es. IsOutcomeAfter (opening_case old) old.entries es c.caller (length (outcomes_of c.caller before) + 1) outcome) further.entries does.1.1) in
+    subst (λ q. IsOutcomeAfter q old.entries (old.entries ++ further.more) c.caller (length (outcomes_of c.caller before) + 1) outcome) same
+    (subst (λ es. IsOutcomeAfter (opening_case old) old.entries es c.caller (length (outcomes_of c.caller before) + 1) outcome) further.entries does.1.1) in
     subst (λ es. HaveRun p es (commands ++ c ∷ []) after) (sym further.entries)
     (subst (HaveRun p (old.entries ++ further.more) (commands ++ c ∷ [])) (sym does.1.2)
-      (planned_run p old.entries commands before h c further.more further.pooled is outcome made))
+    (planned_run p old.entries commands before h c further.more further.pooled is outcome made))
 
 -- an act leaves the board's origin
 does_origin : (caller : ℕ) (act : Act) (old new : Board) (before after : List Outcome) → DoesAct caller act old before new after → origin_of new ≡ origin_of old
@@ -246,12 +246,13 @@ pub next_run : (opening old new : Board) (commands : List Command) (i : ℕ) (c 
     → (origin_of new ≡ origin_of opening) × HaveRun (opening_case opening) new.entries (take (i + 1) commands) after
 next_run opening old new commands i c before after lt is each same h does =
     let more : take (i + 1) commands ≡ take i commands ++ c ∷ [] =
-          rw add-one (take-suc commands i c lt) ∙ ap (λ k. take i commands ++ k ∷ []) (sym is) in
+    rw add-one (take-suc commands i c lt) ∙ ap (λ k. take i commands ++ k ∷ []) (sym is) in
     let form : IsCommandInForm c = subst IsCommandInForm (sym is) (each i c lt) in
-    let opened : opening_case old ≡ opening_case opening = ap case_of same in
-    (does_origin c.caller c.act old new before after does ∙ same,
+    let opened : opening_case old ≡ opening_case opening = ap case_of same in (
+      does_origin c.caller c.act old new before after does ∙ same,
       subst (λ cs. HaveRun (opening_case opening) new.entries cs after) (sym more)
-      (command_run (opening_case opening) old new (take i commands) before after c c.act refl opened h form does))
+          (command_run (opening_case opening) old new (take i commands) before after c c.act refl opened h form does),
+    )
   where
     case_of : Network × States × List Demand → Case
     case_of o = case o.0 o.1 o.2

@@ -11,9 +11,11 @@ loop-command-preserved c =
     c.loop-command.invariant.0 c.loop-command.invariant.1 c.in_ok-run_command.ensures
 
 pub loop-command-init : goal.loop-command-init
-loop-command-init c =
-    (refl, subst (HaveRun (opening_case c.args.board.now) c.args.board.now.entries []) (sym c.new-outcomes.ensures)
-    (none_run c.args.net.now c.args.board.now c.requires.net c.requires.empty c.requires.opening))
+loop-command-init c = (
+  refl,
+  subst (HaveRun (opening_case c.args.board.now) c.args.board.now.entries []) (sym c.new-outcomes.ensures)
+      (none_run c.args.net.now c.args.board.now c.requires.net c.requires.empty c.requires.opening),
+)
 
 pub run_command-requires-clause-room : goal.run_command-requires-clause-room
 run_command-requires-clause-room c =
