@@ -1,0 +1,141 @@
+-- that a report is in form has one proof at most, so that it follows from what is known to hold without a witness
+use Rattle.std.proofs.Common.{ℕ, ◌+◌, ◌<◌, List, [], ◌∷◌, ◌++◌, length}
+use Rattle.std.proofs.Props.{props}
+use Rattle.net_core.specs.declared.columns.Evidence.{Evidence}
+use Rattle.net_core.specs.declared.columns.Evidence.TheVariants.{Route, Master}
+use Rattle.net_core.specs.declared.columns.MasterColumn.{MasterColumn}
+use Rattle.net_core.specs.declared.columns.MasterColumn.TheVariants as master
+use Rattle.net_core.specs.declared.columns.RouteColumn.{RouteColumn}
+use Rattle.net_core.specs.declared.columns.RouteColumn.TheVariants as route
+use Rattle.net_core.specs.declared.columns.WideKind.{WideKind}
+use Rattle.net_core.specs.declared.columns.WideKind.TheVariants.{Number, Row, Product, Sum, Common, Value, Length}
+use Rattle.net_core.specs.declared.demand.Demand.{Demand}
+use Rattle.net_core.specs.declared.ids.LinkId.{LinkId}
+use Rattle.net_core.specs.declared.journal.Edit.{Edit}
+use Rattle.net_core.specs.declared.journal.Edit.TheVariants as edits
+use Rattle.net_core.specs.declared.journal.Entry.{Entry}
+use Rattle.net_core.specs.declared.journal.Entry.TheVariants.{Edited, Pooled}
+use Rattle.net_core.specs.declared.journal.Reply.{Reply}
+use Rattle.net_core.specs.declared.journal.Reply.TheVariants.{Accepted, UnknownDemand, KnownDemand, UnknownNode, SelfDemand, TooMany, TooMuch}
+use Rattle.net_core.specs.declared.network.Link.{Link}
+use Rattle.net_core.specs.declared.plan.CutLine.{CutLine}
+use Rattle.net_core.specs.declared.states.Listed.{Listed}
+use Rattle.plan_terms.specs.Capacities.{AreCounts}
+use Rattle.plan_types.specs.declared.certificate.Spot.{Spot}
+use Rattle.plan_types.specs.declared.certificate.Spot.TheVariants.{Pool, Local}
+use Rattle.plan_types.specs.declared.plan.Plan.{Plan}
+use Rattle.plan_types.specs.declared.quality.Cause.{Cause}
+use Rattle.plan_types.specs.declared.quality.Cause.TheVariants.{Wide, Cuts}
+use Rattle.plan_types.specs.declared.quality.Quality.{Quality}
+use Rattle.plan_types.specs.declared.quality.Quality.TheVariants.{Tight, Loose, Unsolved}
+use Rattle.plan_types.specs.declared.report.Outcome.{Outcome}
+use Rattle.plan_types.specs.declared.report.Outcome.TheVariants.{Planned, Unsurvivable}
+use Rattle.plan_types.specs.declared.report.Report.{Report}
+use Rattle.text_kit.specs.Items.{AreBehind}
+use Rattle.plan_report.specs.Forms.{IsCauseInForm, IsDemandInForm, IsEntryInForm, IsEvidenceInForm, IsKindInForm, IsMasterColumnInForm, IsOfPool, IsOutcomeInForm, IsPlanInForm, IsQualityInForm, IsReplyInForm, IsReportInForm, IsRouteColumnInForm, IsSpotInForm}
+use Rattle.plan_report.specs.Parts.{IsEditInForm}
+
+-- ---- lists
+
+behind_prop : {X : Type 0} (is : List X → X → Type 0) → ((sofar : List X) (x : X) → IsProp (is sofar x)) → (sofar xs : List X) → IsProp (AreBehind is sofar xs)
+behind_prop is one sofar [] = hlevel props
+behind_prop is one sofar (x ∷ xs) =
+    let rest : IsProp (AreBehind is (sofar ++ x ∷ []) xs) = behind_prop is one (sofar ++ x ∷ []) xs in
+    hlevel (one, rest, props)
+
+demands_prop : (nodes : List (List ℕ)) (sofar demands : List Demand) → IsProp (AreBehind (IsDemandInForm nodes) sofar demands)
+demands_prop nodes = behind_prop (IsDemandInForm nodes) (λ sofar d. hlevel props)
+
+counts_prop : (links : List Link) (counts : List (List ℕ)) → IsProp (AreCounts links counts)
+counts_prop [] [] = hlevel props
+counts_prop [] (c ∷ cs) = hlevel props
+counts_prop (l ∷ ls) [] = hlevel props
+counts_prop (l ∷ ls) (c ∷ cs) = let rest = counts_prop ls cs in hlevel (rest, props)
+
+-- ---- how good a bound is
+
+kind_prop : {C : Type 0} (column : C → Type 0) (value : Type 0) (length : LinkId → Type 0) (rows : ℕ) → ((c : C) → IsProp (column c)) → IsProp value → ((e : LinkId) → IsProp (length e))
+    → (kind : WideKind C) → IsProp (IsKindInForm column value length rows kind)
+kind_prop column value length rows columns values lengths (Number c) = columns c
+kind_prop column value length rows columns values lengths (Row i) = hlevel props
+kind_prop column value length rows columns values lengths (Product i c) = hlevel (columns, props)
+kind_prop column value length rows columns values lengths (Sum i) = hlevel props
+kind_prop column value length rows columns values lengths Common = hlevel props
+kind_prop column value length rows columns values lengths Value = values
+kind_prop column value length rows columns values lengths (Length e) = lengths e
+
+module _ (links : List Link) (listed : List Listed) (demands : List Demand) where
+  route_column_prop : (c : RouteColumn) → IsProp (IsRouteColumnInForm links demands c)
+  route_column_prop (route.LinkSlack e) = hlevel props
+  route_column_prop (route.DemandSlack k) = hlevel props
+  route_column_prop (route.Carry k path) = hlevel props
+
+  master_column_prop : (c : MasterColumn) → IsProp (IsMasterColumnInForm links listed c)
+  master_column_prop (master.LinkSlack e) = hlevel props
+  master_column_prop (master.Metric state lengths) = hlevel props
+
+  evidence_prop : (e : Evidence) → IsProp (IsEvidenceInForm links listed demands e)
+  evidence_prop (Route state caps basis kind) =
+      let wide = kind_prop (IsRouteColumnInForm links demands) ⊥ (λ e. e.0 < length links) (length links + length demands) route_column_prop (hlevel props) (λ e. hlevel props) kind in
+      hlevel (route_column_prop, wide, props)
+  evidence_prop (Master basis kind) =
+      let wide = kind_prop (IsMasterColumnInForm links listed) (Unit {0}) (λ e. ⊥) (length links) master_column_prop (hlevel props) (λ e. hlevel props) kind in
+      hlevel (master_column_prop, wide, props)
+
+  cause_prop : (c : Cause) → IsProp (IsCauseInForm links listed demands c)
+  cause_prop (Wide evidence) = evidence_prop evidence
+  cause_prop Cuts = hlevel props
+
+  quality_prop : (q : Quality) → IsProp (IsQualityInForm links listed demands q)
+  quality_prop (Tight f) = hlevel props
+  quality_prop (Loose cause) = cause_prop cause
+  quality_prop Unsolved = hlevel props
+
+-- ---- plans
+
+spot_prop : (spot : Spot) → IsProp (IsSpotInForm spot)
+spot_prop (Pool i) = hlevel props
+spot_prop Local = hlevel props
+
+plan_prop : (nodes : List (List ℕ)) (links : List Link) (listed : List Listed) (plan : Plan) → IsProp (IsPlanInForm nodes links listed plan)
+plan_prop nodes links listed plan =
+    let demands = demands_prop nodes [] plan.demands in
+    let counts = counts_prop links plan.counts in
+    let quality = quality_prop links listed plan.demands plan.quality in
+    hlevel (demands, counts, quality, spot_prop, props)
+
+of_pool_prop : (pool : List CutLine) (spot : Spot) (cut : CutLine) → IsProp (IsOfPool pool spot cut)
+of_pool_prop pool (Pool i) cut = hlevel props
+of_pool_prop pool Local cut = hlevel props
+
+pub outcome_prop : (nodes : List (List ℕ)) (links : List Link) (listed : List Listed) (pool : List CutLine) (o : Outcome) → IsProp (IsOutcomeInForm nodes links listed pool o)
+outcome_prop nodes links listed pool (Planned caller serial plan) =
+    let in_form = plan_prop nodes links listed plan in
+    hlevel (in_form, of_pool_prop, props)
+outcome_prop nodes links listed pool (Unsurvivable caller serial version position state demand) = hlevel props
+
+-- ---- reports
+
+edit_prop : (edit : Edit) → IsProp (IsEditInForm edit)
+edit_prop (edits.Set name need) = hlevel props
+edit_prop (edits.Add name from to need) = hlevel props
+edit_prop (edits.Drop name) = hlevel props
+
+reply_prop : (reply : Reply) → IsProp (IsReplyInForm reply)
+reply_prop (Accepted version) = hlevel props
+reply_prop UnknownDemand = hlevel props
+reply_prop KnownDemand = hlevel props
+reply_prop UnknownNode = hlevel props
+reply_prop SelfDemand = hlevel props
+reply_prop TooMany = hlevel props
+reply_prop (TooMuch total) = hlevel props
+
+entry_prop : (pool : List CutLine) (e : Entry) → IsProp (IsEntryInForm pool e)
+entry_prop pool (Edited caller edit reply) = hlevel (edit_prop, reply_prop, props)
+entry_prop pool (Pooled index state lengths) = hlevel props
+
+pub report_prop : (nodes : List (List ℕ)) (links : List Link) (listed : List Listed) (r : Report) → IsProp (IsReportInForm nodes links listed r)
+report_prop nodes links listed r =
+    let outcomes = outcome_prop nodes links listed r.pool in
+    let entries = entry_prop r.pool in
+    hlevel (outcomes, entries, props)

@@ -1,0 +1,8 @@
+pub mod Callers
+mod FormProps
+mod Journals
+mod OutcomeForms
+mod Replies
+mod ReportForms
+pub mod Runs
+pub mod Steps

@@ -1,0 +1,70 @@
+-- the report of a board and of the outcomes of commands that have run
+use Rattle.std.proofs.Common.{◌≡◌, ℕ, ◌^◌, ◌<◌, ◌≤◌, List, All, length, refl, sym, subst, arith}
+use Rattle.std.specs.Prelude.{AllPairs}
+use Rattle.std.proofs.Math.Logic.{∥∥₁_elim}
+use Rattle.std.proofs.Props.{props}
+use Rattle.net_core.specs.declared.journal.Entry.{Entry}
+use Rattle.net_core.specs.declared.network.Notes.{Notes}
+use Rattle.net_core.specs.declared.plan.CutLine.{CutLine}
+use Rattle.plan_terms.specs.Certificates.{IsCut}
+use Rattle.plan_types.specs.declared.report.Outcome.{Outcome}
+use Rattle.plan_types.specs.declared.report.Report.{Report}
+use Rattle.plan_report.specs.Forms.{IsReportInForm}
+use Rattle.cut_pool.specs.declared.board.Board.{Board}
+use Rattle.cut_pool.specs.Boards.{opening_case}
+use Rattle.cut_pool.specs.Histories.{IsLegalHistory, IsPoolAfter}
+use Rattle.planner.specs.SoundPlans.{case_left}
+use Rattle.planner.proofs.BoardPlans.{board_few}
+use Rattle.session_script.specs.declared.script.Command.{Command}
+use Rattle.session_script.specs.Scripts.{IsScript}
+use Rattle.session_run.specs.Transcripts.{IsTranscript, RunsFrom, acts_of, caller_of, outcomes_of}
+use Rattle.session_run.specs.inner.Ranges.{HasShortLengths, IsShortNamed}
+use Rattle.session_run.specs.inner.Running.{HaveRun}
+use Rattle.session_run.proofs.FormProps.{report_prop}
+use Rattle.session_run.proofs.Journals.{entries_form, lines_few, lines_form}
+use Rattle.session_run.proofs.OutcomeForms.{outcomes_form}
+
+module _ (b : Board) (notes : Notes) (commands : List Command) (outcomes sorted : List Outcome) (lines : List CutLine) (script : IsScript commands) (run : HaveRun (opening_case b) b.entries commands outcomes)
+    (pool : ∥ IsPoolAfter (opening_case b) b.entries lines ∥₁) (cuts : ∥ All (IsCut (case_left (opening_case b) b.entries)) lines ∥₁) (low : All (λ l. l.right < 2 ^ 84) lines)
+    (short : All HasShortLengths lines) (named : All IsShortNamed outcomes)
+    (ordered : AllPairs (λ x y. caller_of x ≤ caller_of y) sorted) (same : (caller : ℕ) → outcomes_of caller sorted ≡ outcomes_of caller outcomes) (count : length sorted ≡ length outcomes) where
+  abbrev all : Report
+  all = record { notes = notes; entries = b.entries; pool = lines; outcomes = sorted }
+
+  report_form : IsReportInForm b.net.now.nodes b.net.now.links b.states.now.listed all
+  report_form =
+      let p = opening_case b in
+      let one = report_prop p.nodes p.links p.listed all in
+      ∥∥₁_elim b.stands one (λ board. ∥∥₁_elim pool one (λ is. ∥∥₁_elim cuts one (λ of.
+      let commanded = run.count in
+      let plans = script.plans in
+      record {
+        few_entries = b.few;
+        entries = entries_form p b.entries lines run.entries run.opening b.few (board_few b) board.legal is.cuts;
+        few_lines = lines_few b.entries lines is.cuts (board_few b);
+        pool = lines_form (case_left p b.entries) lines of short low;
+        few_outcomes = omega (arith, commanded, plans, count);
+        outcomes = outcomes_form p b.entries lines b.few is.cuts commands outcomes script run named sorted same;
+      })))
+
+  legal : ∥ IsLegalHistory (opening_case b) b.entries ∥₁
+  legal = ∥∥₁_elim b.stands (hlevel props) (λ board. ∣ board.legal ∣₁)
+
+  transcript_same : IsTranscript (opening_case b) notes commands all
+  transcript_same = record {
+    notes_are = refl;
+    legal = legal;
+    edits = run.edits;
+    pool_is = pool;
+    runs = λ caller. subst (RunsFrom (opening_case b) b.entries caller 0 1 (acts_of caller commands)) (sym (same caller)) (run.runs caller);
+    ordered = ordered;
+    form = report_form;
+  }
+
+  -- what is read from the network and the board is equal to theirs
+  pub transcript : (noted : Notes) (entries : List Entry) (pooled : List CutLine) → noted ≡ notes → entries ≡ b.entries → pooled ≡ lines
+      → IsTranscript (opening_case b) notes commands (record { notes = noted; entries = entries; pool = pooled; outcomes = sorted })
+  transcript noted entries pooled one two three =
+      subst (λ n. IsTranscript (opening_case b) notes commands (record { notes = n; entries = entries; pool = pooled; outcomes = sorted })) (sym one)
+      (subst (λ es. IsTranscript (opening_case b) notes commands (record { notes = notes; entries = es; pool = pooled; outcomes = sorted })) (sym two)
+      (subst (λ ls. IsTranscript (opening_case b) notes commands (record { notes = notes; entries = b.entries; pool = ls; outcomes = sorted })) (sym three) transcript_same))

@@ -1,0 +1,86 @@
+-- transcripts of scripts: what a report of a session has to be
+use Rattle.std.specs.Prelude.{◌≡◌, ℕ, ◌+◌, ◌≤◌, ◌==◌, List, [], ◌∷◌, AllPairs, Some, filter, flat_map, if◌then◌else◌, length, slice_get, take}
+use Rattle.net_core.specs.declared.demand.Demand.{Demand}
+use Rattle.net_core.specs.declared.journal.Edit.{Edit}
+use Rattle.net_core.specs.declared.journal.Entry.{Entry}
+use Rattle.net_core.specs.declared.journal.Entry.TheVariants.{Edited, Pooled}
+use Rattle.net_core.specs.declared.journal.Reply.{Reply}
+use Rattle.net_core.specs.declared.network.Notes.{Notes}
+use Rattle.net_core.specs.Cases.{Case}
+use Rattle.plan_terms.specs.Separations.{IsFirstSeparation}
+use Rattle.plan_types.specs.declared.report.Outcome.{Outcome}
+use Rattle.plan_types.specs.declared.report.Outcome.TheVariants.{Planned, Unsurvivable}
+use Rattle.plan_types.specs.declared.report.Report.{Report}
+use Rattle.plan_report.specs.Forms.{IsReportInForm}
+use Rattle.cut_pool.specs.Histories.{IsLegalHistory, IsPoolAfter, demands_left, version_left}
+use Rattle.session_script.specs.declared.script.Act.{Act}
+use Rattle.session_script.specs.declared.script.Act.TheVariants as acts
+use Rattle.session_script.specs.declared.script.Command.{Command}
+use Rattle.planner.specs.SoundPlans.{IsPlanAfter, case_left}
+
+-- ---- what a caller asks for, and what it gets
+
+-- what a caller asks for, in its order
+abbrev pub acts_of : ℕ → List Command → List Act
+acts_of caller commands = flat_map (λ c. if c.caller == caller then c.act ∷ [] else []) commands
+
+-- an edit, if a command asks for one
+abbrev pub edit_asked : Act → List Edit
+edit_asked (acts.Change edit) = edit ∷ []
+edit_asked acts.Plan = []
+
+-- an edit of the caller, if the entry is one
+abbrev pub edit_made : ℕ → Entry → List Edit
+edit_made caller (Edited by edit reply) = if by == caller then edit ∷ [] else []
+edit_made caller (Pooled index state lengths) = []
+
+-- the caller of an outcome
+abbrev pub caller_of : Outcome → ℕ
+caller_of (Planned caller serial plan) = caller
+caller_of (Unsurvivable caller serial version position state demand) = caller
+
+abbrev pub outcomes_of : ℕ → List Outcome → List Outcome
+outcomes_of caller outcomes = filter (λ o. caller_of o == caller) outcomes
+
+-- ---- outcomes at their places
+
+-- the first separation of the demands that entries leave, by the demand's name
+pub record IsNamedSeparation (p : Case) (entries : List Entry) (state : ℕ) (name : List ℕ) : Type 0 where
+  pub place : ℕ
+  pub first : IsFirstSeparation (case_left p entries) state place
+  pub demand : Demand
+  pub at : slice_get (demands_left p entries) place ≡ Some demand
+  pub named : demand.name ≡ name
+
+-- The outcome is that of the caller's plan command of this serial: a sound plan of what the entries before it leave, whose cuts
+-- stand in the entries after it, or the first separation of the demands there.
+abbrev pub IsOutcomeAfter : Case → List Entry → List Entry → ℕ → ℕ → Outcome → Type 0
+IsOutcomeAfter p before after caller serial (Planned by number plan) =
+    (by ≡ caller) × (number ≡ serial) × ∥ IsPlanAfter p before after plan ∥₁
+IsOutcomeAfter p before after caller serial (Unsurvivable by number version position state demand) =
+    (by ≡ caller) × (number ≡ serial) × (version ≡ version_left p before) × (position ≡ length before) × IsNamedSeparation p before state.0 demand
+
+-- A caller's acts one after another, none before position `at`: each edit stands in the journal, and each plan command has the
+-- next outcome, at a position between the caller's earlier and its later commands and after the cuts that its earlier plans name.
+abbrev pub RunsFrom : Case → List Entry → ℕ → ℕ → ℕ → List Act → List Outcome → Type 0
+RunsFrom p entries caller at serial [] [] = at ≤ length entries
+RunsFrom p entries caller at serial [] (o ∷ os) = ⊥
+RunsFrom p entries caller at serial (acts.Change edit ∷ rest) os =
+    (n : ℕ) × (reply : Reply) × (at ≤ n) × (slice_get entries n ≡ Some (Edited caller edit reply)) × RunsFrom p entries caller (n + 1) serial rest os
+RunsFrom p entries caller at serial (acts.Plan ∷ rest) [] = ⊥
+RunsFrom p entries caller at serial (acts.Plan ∷ rest) (o ∷ os) =
+    (n : ℕ) × (m : ℕ) × (at ≤ n) × (n ≤ m) × (m ≤ length entries) × IsOutcomeAfter p (take n entries) (take m entries) caller serial o × RunsFrom p entries caller m (serial + 1) rest os
+
+-- ---- the report
+
+-- The report is a transcript of the commands, from the opening demands of the case: a legal journal in which each caller's edits
+-- stand once each, in its order; the pool with its right sides at the end; and the outcomes of each caller's plan commands, by
+-- caller and then by serial.
+pub record IsTranscript (p : Case) (notes : Notes) (commands : List Command) (r : Report) : Type 0 where
+  pub notes_are : r.notes ≡ notes
+  pub legal : ∥ IsLegalHistory p r.entries ∥₁
+  pub edits : (caller : ℕ) → flat_map (edit_made caller) r.entries ≡ flat_map edit_asked (acts_of caller commands)
+  pub pool_is : ∥ IsPoolAfter p r.entries r.pool ∥₁
+  pub runs : (caller : ℕ) → RunsFrom p r.entries caller 0 1 (acts_of caller commands) (outcomes_of caller r.outcomes)
+  pub ordered : AllPairs (λ a b. caller_of a ≤ caller_of b) r.outcomes
+  pub form : IsReportInForm p.nodes p.links p.listed r

@@ -1,0 +1,3 @@
+-- what only private functions and proofs cite
+pub mod Ranges
+pub mod Running

@@ -1,0 +1,14 @@
+-- what the types of a session's values say of them
+use Rattle.std.specs.Prelude.{◌≤◌, ◌<◌, ◌^◌, All, length}
+use Rattle.net_core.specs.declared.plan.CutLine.{CutLine}
+use Rattle.plan_types.specs.declared.report.Outcome.{Outcome}
+use Rattle.plan_types.specs.declared.report.Outcome.TheVariants.{Planned, Unsurvivable}
+
+-- the demand that an outcome names has at most 255 bytes in its name
+abbrev pub IsShortNamed : Outcome → Type 0
+IsShortNamed (Planned caller serial plan) = Unit {0}
+IsShortNamed (Unsurvivable caller serial version position state demand) = length demand ≤ 255
+
+-- lengths below 2^32
+abbrev pub HasShortLengths : CutLine → Type 0
+HasShortLengths line = All (λ x. x < 2 ^ 32) line.lengths

@@ -1,0 +1,39 @@
+ghost use Rattle.std.specs.Prelude.{◌<◌, ◌^◌, All};
+ghost use Rattle.session_run.specs.inner.Ranges.{HasShortLengths, IsShortNamed};
+
+use net_core::CutLine;
+use plan_types::Outcome;
+
+/// Lengths are below 2^32 by their type.
+fn are_short(lengths: &[u32])
+    ensures { All (λ x. x < 2 ^ 32) lengths.now }
+{
+    let _ = lengths;
+}
+
+/// So are those of each line.
+pub fn have_short_lengths(lines: &[CutLine])
+    ensures { All HasShortLengths lines.now }
+{
+    for line in lines {
+        are_short(line.lengths.items());
+    }
+}
+
+/// A name has at most 255 bytes by its type, where an outcome names a demand.
+fn is_short_named(outcome: &Outcome)
+    ensures { IsShortNamed outcome.now }
+{
+    if let Outcome::Unsurvivable { demand, .. } = outcome {
+        let _name = demand.bytes();
+    }
+}
+
+/// So have those of all outcomes.
+pub fn are_short_named(outcomes: &[Outcome])
+    ensures { All IsShortNamed outcomes.now }
+{
+    for outcome in outcomes {
+        is_short_named(outcome);
+    }
+}

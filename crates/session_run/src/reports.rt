@@ -1,0 +1,56 @@
+ghost use Rattle.std.specs.Prelude.{◌≡◌, ◌≤◌, ℕ, AllPairs, IfOk, length};
+ghost use Rattle.cut_pool.specs.Boards.{opening_case};
+ghost use Rattle.session_script.specs.Scripts.{IsScript};
+ghost use Rattle.session_run.specs.Transcripts.{IsTranscript, caller_of, outcomes_of};
+ghost use Rattle.session_run.specs.inner.Running.{HaveRun};
+
+use crate::ranges::{are_short_named, have_short_lengths};
+use cut_pool::Board;
+use net_core::{List, Network, NoMemory};
+use plan_types::{Outcome, Report};
+use session_script::Command;
+use std::alloc::Global;
+
+/// The caller of an outcome.
+pub fn caller_of(outcome: &Outcome) -> u32
+    ensures { result ≡ caller_of outcome.now }
+{
+    match outcome {
+        Outcome::Planned { caller, .. } => *caller,
+        Outcome::Unsurvivable { caller, .. } => *caller,
+    }
+}
+
+/// The outcomes by caller; those of one caller stay in their order.
+fn by_caller(alloc: Global, outcomes: List<Outcome>) -> Result<List<Outcome>, NoMemory>
+    ensures ordered { IfOk result (AllPairs (λ a b. caller_of a ≤ caller_of b)) }
+    ensures same { IfOk result (λ sorted. (caller : ℕ) → outcomes_of caller sorted ≡ outcomes_of caller outcomes) }
+    ensures count { IfOk result (λ sorted. length sorted ≡ length outcomes) }
+{
+    let mut sorted = outcomes;
+    sorted.items_mut().sort_by_key(alloc, |o| caller_of(o))?;
+    Ok(sorted)
+}
+
+/// The report of a board and the outcomes of its plans.
+pub fn report(
+    alloc: Global,
+    net: &Network,
+    board: &Board,
+    outcomes: List<Outcome>,
+    commands: &[Command],
+) -> Result<Report, NoMemory>
+    requires script { IsScript commands.now }
+    requires run { HaveRun (opening_case board.now) board.now.entries commands.now outcomes }
+    ensures { IfOk result (IsTranscript (opening_case board.now) net.now.notes commands.now) }
+{
+    let pool = board.lines()?;
+    have_short_lengths(pool.items());
+    are_short_named(outcomes.items());
+    Ok(Report {
+        notes: net.notes(),
+        entries: List::from_slice(alloc, board.entries())?,
+        pool,
+        outcomes: by_caller(alloc, outcomes)?,
+    })
+}
