@@ -15,7 +15,7 @@ use Rattle.text_kit.specs.Reading.{Reading, ◌>>=◌, give, list_at, no_fault, 
 use Rattle.report_reader.specs.declared.fault.ReportKind.{ReportKind}
 use Rattle.report_reader.specs.declared.fault.ReportKind.TheVariants.{Token}
 use Rattle.report_reader.specs.ReportWords.{amount_at, closing_at, has_room, keyword_at, money_at, name_at, number_at, opening_at, opening_within, this_number_at}
-use Rattle.report_reader.specs.ReportChoices.{branch_at, branch_or, numbers_at}
+use Rattle.report_reader.specs.ReportChoices.{Branches, branch_at, branch_or, numbers_at}
 
 -- ---- the notes: up to three words in order, and the closing parenthesis
 
@@ -27,17 +27,24 @@ unfoldable pub notes_end_at : Notes → Reading ReportKind Notes
 notes_end_at n = closing_at >>= λ _. give n
 
 -- the setup cost, or none
+abbrev pub setup_note_branches : Bool → Bool → Branches Notes
+setup_note_branches fixed routing = (codes "setup", notes_end_at (noted fixed routing true)) ∷ []
+
 unfoldable pub setup_note_at : Bool → Bool → Reading ReportKind Notes
-setup_note_at fixed routing = branch_or true (Ok (noted fixed routing false)) ((codes "setup", notes_end_at (noted fixed routing true)) ∷ [])
+setup_note_at fixed routing = branch_or true (Ok (noted fixed routing false)) (setup_note_branches fixed routing)
 
 -- the routing cost and what may follow it
+abbrev pub routing_note_branches : Bool → Branches Notes
+routing_note_branches fixed = (codes "routing", setup_note_at fixed true) ∷ (codes "setup", notes_end_at (noted fixed false true)) ∷ []
+
 unfoldable pub routing_note_at : Bool → Reading ReportKind Notes
-routing_note_at fixed = branch_or true (Ok (noted fixed false false))
-    ((codes "routing", setup_note_at fixed true) ∷ (codes "setup", notes_end_at (noted fixed false true)) ∷ [])
+routing_note_at fixed = branch_or true (Ok (noted fixed false false)) (routing_note_branches fixed)
+
+abbrev pub notes_branches : Branches Notes
+notes_branches = (codes "fixed", routing_note_at true) ∷ (codes "routing", setup_note_at false true) ∷ (codes "setup", notes_end_at (noted false false true)) ∷ []
 
 unfoldable pub notes_at : Reading ReportKind Notes
-notes_at = branch_or true (Ok (noted false false false))
-    ((codes "fixed", routing_note_at true) ∷ (codes "routing", setup_note_at false true) ∷ (codes "setup", notes_end_at (noted false false true)) ∷ [])
+notes_at = branch_or true (Ok (noted false false false)) notes_branches
 
 -- ---- the journal
 
@@ -68,8 +75,11 @@ drop_at = do
   name ← name_at
   give (Drop name)
 
+abbrev pub edit_branches : Branches Edit
+edit_branches = (codes "set", set_at) ∷ (codes "add", add_at) ∷ (codes "drop", drop_at) ∷ []
+
 abbrev pub edit_at : Reading ReportKind Edit
-edit_at = branch_at ((codes "set", set_at) ∷ (codes "add", add_at) ∷ (codes "drop", drop_at) ∷ [])
+edit_at = branch_at edit_branches
 
 unfoldable pub accepted_at : Reading ReportKind Reply
 accepted_at = do
@@ -81,9 +91,12 @@ too_much_at = do
   total ← money_at (2 ^ 45)
   give (TooMuch total)
 
+abbrev pub reply_branches : Branches Reply
+reply_branches = (codes "accepted", accepted_at) ∷ (codes "unknown-demand", give UnknownDemand) ∷ (codes "known-demand", give KnownDemand) ∷ (codes "unknown-node", give UnknownNode)
+    ∷ (codes "self-demand", give SelfDemand) ∷ (codes "too-many", give TooMany) ∷ (codes "too-much", too_much_at) ∷ []
+
 abbrev pub reply_at : Reading ReportKind Reply
-reply_at = branch_at ((codes "accepted", accepted_at) ∷ (codes "unknown-demand", give UnknownDemand) ∷ (codes "known-demand", give KnownDemand)
-    ∷ (codes "unknown-node", give UnknownNode) ∷ (codes "self-demand", give SelfDemand) ∷ (codes "too-many", give TooMany) ∷ (codes "too-much", too_much_at) ∷ [])
+reply_at = branch_at reply_branches
 
 unfoldable pub edited_at : Reading ReportKind Entry
 edited_at = do
@@ -98,8 +111,11 @@ pooled_at = do
   index ← number_at 0 4096
   give (Pooled index (record { 0 = 0 }) [])
 
+abbrev pub event_branches : Branches Entry
+event_branches = (codes "caller", edited_at) ∷ (codes "cut", pooled_at) ∷ []
+
 abbrev pub event_at : Reading ReportKind Entry
-event_at = branch_at ((codes "caller", edited_at) ∷ (codes "cut", pooled_at) ∷ [])
+event_at = branch_at event_branches
 
 -- an entry after earlier ones
 unfoldable pub entry_at : List Entry → Reading ReportKind Entry

@@ -19,7 +19,7 @@ use Rattle.report_reader.specs.declared.parts.Head.{Head}
 use Rattle.report_reader.specs.declared.parts.Placed.{Placed}
 use Rattle.report_reader.specs.declared.parts.Values.{Values}
 use Rattle.report_reader.specs.ReportWords.{amount_at, closing_at, has_room, keyword_at, money_at, new_demand, node_at, number_at, opening_at, opening_within, this_name_at, unknown_name, where_room, whole_within}
-use Rattle.report_reader.specs.ReportChoices.{branch_at, numbers_at}
+use Rattle.report_reader.specs.ReportChoices.{Branches, branch_at, numbers_at}
 use Rattle.report_reader.specs.ReadingQuality.{quality_at}
 use Rattle.report_reader.specs.ReadingRoutings.{routings_at}
 
@@ -105,8 +105,11 @@ local_spot_at links listed = do
   lengths ← numbers_at (length links) (2 ^ 32)
   give (record { spot = Local; state = record { 0 = state }; lengths = lengths })
 
+abbrev pub spot_branches : List Link → List Listed → List CutLine → Branches Placed
+spot_branches links listed pool = (codes "pool", pool_spot_at pool) ∷ (codes "local", local_spot_at links listed) ∷ []
+
 abbrev pub spot_at : List Link → List Listed → List CutLine → Reading ReportKind Placed
-spot_at links listed pool = branch_at ((codes "pool", pool_spot_at pool) ∷ (codes "local", local_spot_at links listed) ∷ [])
+spot_at links listed pool = branch_at (spot_branches links listed pool)
 
 -- a line after earlier ones
 unfoldable pub certificate_line_at : List Link → List Listed → List CutLine → List CertLine → Reading ReportKind CertLine

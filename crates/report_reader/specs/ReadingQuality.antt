@@ -41,9 +41,11 @@ carry_at links demands = do
   path ← path_at links
   give (route.Carry k path)
 
+abbrev pub route_column_branches : List Link → List Demand → Branches RouteColumn
+route_column_branches links demands = (codes "link", slack_at links) ∷ (codes "demand", left_at demands) ∷ (codes "flow", carry_at links demands) ∷ []
+
 abbrev pub route_column_at : List Link → List Demand → Bool → Reading ReportKind RouteColumn
-route_column_at links demands room =
-    branch_within room ((codes "link", slack_at links) ∷ (codes "demand", left_at demands) ∷ (codes "flow", carry_at links demands) ∷ [])
+route_column_at links demands room = branch_within room (route_column_branches links demands)
 
 unfoldable pub price_at : List Link → Reading ReportKind MasterColumn
 price_at links = do
@@ -56,8 +58,11 @@ metric_at links listed = do
   lengths ← numbers_at (length links) (2 ^ 32)
   give (master.Metric (record { 0 = state }) lengths)
 
+abbrev pub master_column_branches : List Link → List Listed → Branches MasterColumn
+master_column_branches links listed = (codes "link", price_at links) ∷ (codes "cut", metric_at links listed) ∷ []
+
 abbrev pub master_column_at : List Link → List Listed → Bool → Reading ReportKind MasterColumn
-master_column_at links listed room = branch_within room ((codes "link", price_at links) ∷ (codes "cut", metric_at links listed) ∷ [])
+master_column_at links listed room = branch_within room (master_column_branches links listed)
 
 -- a basis: as many columns as rows
 unfoldable pub basis_at : {C : Type 0} → (Bool → Reading ReportKind C) → ℕ → Reading ReportKind (List C)
@@ -91,13 +96,19 @@ wide_length_at links = do
   e ← link_at links
   give (wide.Length e)
 
+abbrev pub route_wide_branches : (Bool → Reading ReportKind RouteColumn) → List Link → ℕ → Branches (WideKind RouteColumn)
+route_wide_branches column links rows = (codes "number", wide_number_at column) ∷ (codes "row", wide_row_at rows) ∷ (codes "entry", wide_entry_at column rows) ∷ (codes "sum", wide_sum_at rows)
+    ∷ (codes "common", give wide.Common) ∷ (codes "length", wide_length_at links) ∷ []
+
 abbrev pub route_wide_at : (Bool → Reading ReportKind RouteColumn) → List Link → ℕ → Reading ReportKind (WideKind RouteColumn)
-route_wide_at column links rows = branch_at ((codes "number", wide_number_at column) ∷ (codes "row", wide_row_at rows) ∷ (codes "entry", wide_entry_at column rows)
-    ∷ (codes "sum", wide_sum_at rows) ∷ (codes "common", give wide.Common) ∷ (codes "length", wide_length_at links) ∷ [])
+route_wide_at column links rows = branch_at (route_wide_branches column links rows)
+
+abbrev pub master_wide_branches : (Bool → Reading ReportKind MasterColumn) → ℕ → Branches (WideKind MasterColumn)
+master_wide_branches column rows = (codes "number", wide_number_at column) ∷ (codes "row", wide_row_at rows) ∷ (codes "entry", wide_entry_at column rows) ∷ (codes "sum", wide_sum_at rows)
+    ∷ (codes "common", give wide.Common) ∷ (codes "value", give wide.Value) ∷ []
 
 abbrev pub master_wide_at : (Bool → Reading ReportKind MasterColumn) → ℕ → Reading ReportKind (WideKind MasterColumn)
-master_wide_at column rows = branch_at ((codes "number", wide_number_at column) ∷ (codes "row", wide_row_at rows) ∷ (codes "entry", wide_entry_at column rows)
-    ∷ (codes "sum", wide_sum_at rows) ∷ (codes "common", give wide.Common) ∷ (codes "value", give wide.Value) ∷ [])
+master_wide_at column rows = branch_at (master_wide_branches column rows)
 
 -- ---- evidence
 
@@ -122,8 +133,11 @@ master_at links listed = do
   kind ← master_wide_at (master_column_at links listed) (length links)
   give (Master basis kind)
 
+abbrev pub evidence_branches : List Link → List Listed → List Demand → Branches Evidence
+evidence_branches links listed demands = (codes "route", route_at links listed demands) ∷ (codes "master", master_at links listed) ∷ []
+
 abbrev pub evidence_at : List Link → List Listed → List Demand → Reading ReportKind Evidence
-evidence_at links listed demands = branch_at ((codes "route", route_at links listed demands) ∷ (codes "master", master_at links listed) ∷ [])
+evidence_at links listed demands = branch_at (evidence_branches links listed demands)
 
 -- ---- quality
 
@@ -145,9 +159,14 @@ too_wide_at links listed demands = do
   evidence ← evidence_at links listed demands
   give (Loose (Wide evidence))
 
+abbrev pub loose_branches : List Link → List Listed → List Demand → Branches Quality
+loose_branches links listed demands = (codes "cuts", give (Loose Cuts)) ∷ (codes "wide", too_wide_at links listed demands) ∷ []
+
 abbrev pub loose_at : List Link → List Listed → List Demand → Reading ReportKind Quality
-loose_at links listed demands = branch_at ((codes "cuts", give (Loose Cuts)) ∷ (codes "wide", too_wide_at links listed demands) ∷ [])
+loose_at links listed demands = branch_at (loose_branches links listed demands)
+
+abbrev pub quality_branches : List Link → List Listed → List Demand → Branches Quality
+quality_branches links listed demands = (codes "tight", tight_at links listed demands) ∷ (codes "loose", loose_at links listed demands) ∷ (codes "unsolved", give Unsolved) ∷ []
 
 abbrev pub quality_at : List Link → List Listed → List Demand → Reading ReportKind Quality
-quality_at links listed demands =
-    branch_at ((codes "tight", tight_at links listed demands) ∷ (codes "loose", loose_at links listed demands) ∷ (codes "unsolved", give Unsolved) ∷ [])
+quality_at links listed demands = branch_at (quality_branches links listed demands)

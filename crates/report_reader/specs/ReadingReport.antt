@@ -17,7 +17,7 @@ use Rattle.report_reader.specs.declared.fault.ReportKind.{ReportKind}
 use Rattle.report_reader.specs.declared.fault.ReportKind.TheVariants.{Header, Section, Ended}
 use Rattle.report_reader.specs.declared.parts.Head.{Head}
 use Rattle.report_reader.specs.ReportWords.{closing_at, has_room, keyword_at, name_at, number_at, opening_at, this_name_at}
-use Rattle.report_reader.specs.ReportChoices.{branch_within}
+use Rattle.report_reader.specs.ReportChoices.{Branches, branch_within}
 use Rattle.report_reader.specs.ReadingJournal.{entries_at, notes_at, pool_at}
 use Rattle.report_reader.specs.ReadingPlan.{plan_at}
 
@@ -56,9 +56,11 @@ unsurvivable_at listed = do
   give (Unsurvivable head.caller head.serial head.version head.position (record { 0 = state }) demand)
 
 -- an outcome after earlier ones
+abbrev pub outcome_branches : List (List ℕ) → List Link → List Listed → List CutLine → Branches Outcome
+outcome_branches nodes links listed pool = (codes "PLAN", planned_at nodes links listed pool) ∷ (codes "UNSURVIVABLE", unsurvivable_at listed) ∷ []
+
 abbrev pub outcome_at : List (List ℕ) → List Link → List Listed → List CutLine → List Outcome → Reading ReportKind Outcome
-outcome_at nodes links listed pool sofar =
-    branch_within (has_room 64 sofar) ((codes "PLAN", planned_at nodes links listed pool) ∷ (codes "UNSURVIVABLE", unsurvivable_at listed) ∷ [])
+outcome_at nodes links listed pool sofar = branch_within (has_room 64 sofar) (outcome_branches nodes links listed pool)
 
 abbrev pub outcomes_at : List (List ℕ) → List Link → List Listed → List CutLine → Reading ReportKind (List Outcome)
 outcomes_at nodes links listed pool = list_at Parenthesis no_fault (outcome_at nodes links listed pool) []
