@@ -3,6 +3,8 @@
 
 mod element;
 pub mod parts;
+mod numbers;
+mod words;
 pub mod fault;
 
 pub use fault::{ReportKind, ReportRefusal};
