@@ -3,7 +3,11 @@
 
 mod element;
 pub mod parts;
+mod edit;
+mod journal;
+mod notes;
 mod numbers;
+mod pool;
 mod words;
 pub mod fault;
 

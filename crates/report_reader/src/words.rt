@@ -1,4 +1,4 @@
-ghost use Rattle.std.specs.Prelude.{◌≡◌, ◌≤◌, ◌<◌, ◌^◌, ◌+◌, nat_lt, length, Ok, None, IfOk};
+ghost use Rattle.std.specs.Prelude.{◌≡◌, ◌≤◌, ◌<◌, ◌^◌, ◌+◌, nat_lt, length, true, Ok, None, IfOk};
 ghost use Rattle.snd_tokens.specs.Lexemes.{left};
 ghost use Rattle.snd_tokens.specs.Amounts.{amount_of, money_of};
 ghost use Rattle.text_kit.specs.Answers.{ReadsAs};
@@ -211,7 +211,8 @@ pub(crate) fn keyword_within(
     wanted: &[u8],
     text: &mut Cursor,
 ) -> Result<(), ReportRefusal>
-    ensures { ReadsAs (λ _. tt) result (left text.new) (keyword_within room wanted.now (left text.old)) }
+    ensures reads { ReadsAs (λ _. tt) result (left text.new) (keyword_within room wanted.now (left text.old)) }
+    ensures room { IfOk result (λ _. room ≡ true) }
 {
     let (at, word) = word(ReportKind::Token, ReportKind::Ended, text)?;
     if word != wanted {
@@ -232,7 +233,8 @@ pub(crate) fn opening(text: &mut Cursor) -> Result<(), ReportRefusal>
 
 /// Takes an opening parenthesis, where there is room for what it begins.
 pub(crate) fn opening_within(room: bool, text: &mut Cursor) -> Result<(), ReportRefusal>
-    ensures { ReadsAs (λ _. tt) result (left text.new) (opening_within room (left text.old)) }
+    ensures reads { ReadsAs (λ _. tt) result (left text.new) (opening_within room (left text.old)) }
+    ensures room { IfOk result (λ _. room ≡ true) }
 {
     match text.next() {
         Next::Open(at) => {
