@@ -3,6 +3,7 @@
 
 mod element;
 pub mod parts;
+mod places;
 mod edit;
 mod journal;
 mod notes;
