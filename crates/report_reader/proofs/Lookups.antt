@@ -49,3 +49,14 @@ new_by false added e is = refl
 pub old_by : {E : Type 0} (any added : Bool) → added ≡ not any → (let r : Result Bool E = Ok added in r ≡ Ok false) → any ≡ true
 old_by true added e is = refl
 old_by false added e is = absurd (let t : false ≡ true = sym (let s : added ≡ false = cc in s) ∙ e in cc)
+
+-- the place of what has the name is that of its name
+pub named_in : {X : Type 0} (name_of : X → List ℕ) (w : List ℕ) (xs : List X) (names : List (List ℕ)) (o : Option ℕ) → names ≡ map name_of xs → o ≡ position (λ n. are_same n w) names
+    → position (λ x. are_same (name_of x) w) xs ≡ o
+named_in name_of w xs names o same found =
+    sym (found ∙ (ap (λ (ns : List (List ℕ)). position (λ n. are_same n w) ns) same ∙ position_map (λ n. are_same n w) name_of xs))
+
+-- whether a name is one of them
+pub named_among : {X : Type 0} (name_of : X → List ℕ) (w : List ℕ) (xs : List X) (names : List (List ℕ)) (b : Bool) → names ≡ map name_of xs → is_named (λ n. n) w names ≡ b → is_named name_of w xs ≡ b
+named_among name_of w xs names b same known =
+    sym (any_map (λ n. are_same n w) name_of xs) ∙ (ap (λ (ns : List (List ℕ)). is_named (λ n. n) w ns) (sym same) ∙ known)

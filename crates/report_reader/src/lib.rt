@@ -4,11 +4,14 @@
 mod element;
 pub mod parts;
 mod places;
+mod context;
+mod demands;
 mod edit;
 mod journal;
 mod notes;
 mod numbers;
 mod pool;
+mod routing;
 mod words;
 pub mod fault;
 
