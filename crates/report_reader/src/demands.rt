@@ -1,7 +1,8 @@
-ghost use Rattle.std.specs.Prelude.{◌≡◌, ◌<◌, ◌≤◌, ◌^◌, ◌++◌, ◌∷◌, [], length, map, Ok, IsTrue, IfOk, OnOk};
+ghost use Rattle.std.specs.Prelude.{◌≡◌, ◌<◌, ◌≤◌, ◌^◌, ◌++◌, ◌∷◌, [], length, map, Ok, None, true, not, IsTrue, IfOk, OnOk};
+ghost use Rattle.net_core.specs.Tests.{is_named};
 ghost use Rattle.snd_tokens.specs.Lexemes.{left, size};
 ghost use Rattle.text_kit.specs.Answers.{ReadsAs, TakesElement};
-ghost use Rattle.text_kit.specs.Reading.{list_at, no_fault, Parenthesis, word_at};
+ghost use Rattle.text_kit.specs.Reading.{list_at, no_fault, Parenthesis, sound, word_at};
 ghost use Rattle.report_reader.specs.ReportWords.{demand_at, demand_of, new_demand, where_room};
 ghost use Rattle.report_reader.specs.ReadingPlan.{nodes_at, plan_demand_at, plan_demands_at};
 
@@ -9,7 +10,7 @@ use crate::context::Context;
 use crate::fault::{ReportKind, ReportRefusal};
 use crate::places::Places;
 use crate::words::{amount, closing, keyword, opening, unknown_name};
-use net_core::{Demand, Demands, List, Name, NodeId};
+use net_core::{Demand, Demands, List, Name, NoMemory, NodeId};
 use snd_tokens::Cursor;
 use std::alloc::Global;
 use text_kit::Refusal;
@@ -67,6 +68,43 @@ impl<'a> PlanDemands<'a> {
     }
 }
 
+/// Puts a name last, where none of these demands has it. It says whether that is so.
+fn put_name<'a>(
+    places: &mut Places<'a>,
+    sofar: &[Demand],
+    name: &'a [u8],
+) -> Result<bool, NoMemory>
+    requires { places.old ≡ map (λ d. d.name) sofar.now }
+    ensures new { IfOk result (λ new. new ≡ true → places.new ≡ places.old ++ name.now ∷ []) }
+    ensures known { IfOk result (λ new. is_named (λ d. d.name) name.now sofar.now ≡ not new) }
+{
+    if places.add(name)? {
+        return Ok(true);
+    }
+    Ok(false)
+}
+
+/// What is wrong with a word as the name of a demand after these ones. A name without fault is put
+/// last.
+fn name_fault<'a>(
+    places: &mut Places<'a>,
+    sofar: &[Demand],
+    word: &'a [u8],
+) -> Result<Option<ReportKind>, NoMemory>
+    requires { places.old ≡ map (λ d. d.name) sofar.now }
+    ensures fault { IfOk result (λ f. sound word.now f ≡ new_demand sofar.now word.now) }
+    ensures short { IfOk result (λ f. f ≡ None → length word.now ≤ 255) }
+    ensures places { IfOk result (λ f. f ≡ None → places.new ≡ places.old ++ word.now ∷ []) }
+{
+    if is_long(word) {
+        return Ok(Some(ReportKind::LimitName));
+    }
+    if !put_name(places, sofar, word)? {
+        return Ok(Some(ReportKind::DoubleName));
+    }
+    Ok(None)
+}
+
 /// Takes a name that none of these demands has, and puts it last.
 fn new_name<'a>(
     alloc: Global,
@@ -79,11 +117,8 @@ fn new_name<'a>(
     ensures places { IfOk result (λ n. places.new ≡ places.old ++ n ∷ []) }
 {
     let (at, word) = word(ReportKind::Token, ReportKind::Ended, text)?;
-    if is_long(word) {
-        return Err(bad(at, ReportKind::LimitName));
-    }
-    if !places.add(word)? {
-        return Err(bad(at, ReportKind::DoubleName));
+    if let Some(kind) = name_fault(places, sofar, word)? {
+        return Err(bad(at, kind));
     }
     named(alloc, at, word, None)
 }

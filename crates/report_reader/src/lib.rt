@@ -8,6 +8,7 @@ mod context;
 mod demands;
 mod edit;
 mod journal;
+mod modules;
 mod notes;
 mod numbers;
 mod pool;
