@@ -1,3 +1,4 @@
 pub mod Branching
 pub mod ReportOnline
 pub mod Lookups
+pub mod Counts
