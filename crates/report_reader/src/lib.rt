@@ -4,9 +4,12 @@
 mod element;
 pub mod parts;
 mod places;
+mod certificate;
+mod columns;
 mod context;
 mod demands;
 mod edit;
+mod evidence;
 mod journal;
 mod modules;
 mod notes;
