@@ -2,3 +2,4 @@ pub mod Branching
 pub mod ReportOnline
 pub mod Lookups
 pub mod Counts
+pub mod Whole

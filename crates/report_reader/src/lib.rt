@@ -10,6 +10,7 @@ mod context;
 mod demands;
 mod edit;
 mod evidence;
+mod filling;
 mod journal;
 mod modules;
 mod notes;
@@ -18,8 +19,10 @@ mod pool;
 mod outcome;
 mod plan;
 mod quality;
+mod reader;
 mod routing;
 mod words;
 pub mod fault;
 
 pub use fault::{ReportKind, ReportRefusal};
+pub use reader::read_report;
