@@ -26,3 +26,6 @@ pub mod fault;
 
 pub use fault::{ReportKind, ReportRefusal};
 pub use reader::read_report;
+
+#[cfg(test)]
+mod tests;
