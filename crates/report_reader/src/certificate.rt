@@ -58,11 +58,7 @@ fn pool_spot(pool: &[CutLine], text: &mut Cursor) -> Result<Placed, ReportRefusa
 
 /// Takes a cut that isn't in the pool.
 #[tactic(auto, unfolding(crate::specs::ReadingPlan::local_spot_at))]
-fn local_spot(
-    alloc: Global,
-    context: &Context,
-    text: &mut Cursor,
-) -> Result<Placed, ReportRefusal>
+fn local_spot(alloc: Global, context: &Context, text: &mut Cursor) -> Result<Placed, ReportRefusal>
     ensures { ReadsAs (λ p. p) result (left text.new) (local_spot_at context.now.net.now.links context.now.states.now.listed (left text.old)) }
 {
     let state = small(0, u128::from(context.states.count()), text)?;

@@ -109,7 +109,13 @@ impl<'a> Element for RouteBasis<'a> {
         sofar: &[RouteColumn],
         text: &mut Cursor,
     ) -> Result<RouteColumn, ReportRefusal> {
-        route_column(alloc, self.context, self.demands, sofar.len() < self.rows, text)
+        route_column(
+            alloc,
+            self.context,
+            self.demands,
+            sofar.len() < self.rows,
+            text,
+        )
     }
 
     fn fault(&self, all: &[RouteColumn]) -> Option<ReportKind> {
@@ -129,7 +135,15 @@ pub(crate) fn route_basis(
     ensures { ReadsAs (λ l. l) result (left text.new) (basis_at (route_column_at context.now.net.now.links demands.now.list) rows (left text.old)) }
 {
     opening(text)?;
-    list(alloc, &RouteBasis { context, demands, rows }, text)
+    list(
+        alloc,
+        &RouteBasis {
+            context,
+            demands,
+            rows,
+        },
+        text,
+    )
 }
 
 /// Takes what a link's price leaves of its cost.

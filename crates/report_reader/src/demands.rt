@@ -69,11 +69,7 @@ impl<'a> PlanDemands<'a> {
 }
 
 /// Puts a name last, where none of these demands has it. It says whether that is so.
-fn put_name<'a>(
-    places: &mut Places<'a>,
-    sofar: &[Demand],
-    name: &'a [u8],
-) -> Result<bool, NoMemory>
+fn put_name<'a>(places: &mut Places<'a>, sofar: &[Demand], name: &'a [u8]) -> Result<bool, NoMemory>
     requires { places.old ≡ map (λ d. d.name) sofar.now }
     ensures new { IfOk result (λ new. new ≡ true → places.new ≡ places.old ++ name.now ∷ []) }
     ensures known { IfOk result (λ new. is_named (λ d. d.name) name.now sofar.now ≡ not new) }

@@ -91,7 +91,12 @@ impl Element for EntryList {
 
     ghost fault = { λ _. no_fault };
 
-    fn take(&self, alloc: Global, sofar: &[Entry], text: &mut Cursor) -> Result<Entry, ReportRefusal> {
+    fn take(
+        &self,
+        alloc: Global,
+        sofar: &[Entry],
+        text: &mut Cursor,
+    ) -> Result<Entry, ReportRefusal> {
         entry(alloc, sofar, text)
     }
 

@@ -43,7 +43,14 @@ fn capacity(link: &Link, counts: &[u64]) -> u64
     requires { length counts.now ≤ length link.now.modules }
     ensures { result ≡ min (link.now.fixed + modules_capacity link.now.modules counts.now) (2 ^ 46) }
 {
-    let mut capacity = capped(0, Module { capacity: link.fixed, cost: 0 }, 1);
+    let mut capacity = capped(
+        0,
+        Module {
+            capacity: link.fixed,
+            cost: 0,
+        },
+        1,
+    );
     for i in 0..counts.len() {
         capacity = capped(capacity, link.modules.items()[i], counts[i]);
     }
@@ -56,7 +63,11 @@ fn fits(link: &Link, sofar: &[u64], count: u64) -> bool
     requires { length sofar.now < length link.now.modules }
     ensures { result ≡ nat_lt (link.now.fixed + modules_capacity link.now.modules (sofar.now ++ count ∷ [])) (2 ^ 46) }
 {
-    capped(capacity(link, sofar), link.modules.items()[sofar.len()], count) < CAPACITY_LIMIT
+    capped(
+        capacity(link, sofar),
+        link.modules.items()[sofar.len()],
+        count,
+    ) < CAPACITY_LIMIT
 }
 
 /// The count that a word writes after these ones.
@@ -103,11 +114,7 @@ impl<'a> Element for CountList<'a> {
 }
 
 /// Takes the counts of a link's modules, up to the closing parenthesis.
-fn link_counts(
-    alloc: Global,
-    link: &Link,
-    text: &mut Cursor,
-) -> Result<List<u64>, ReportRefusal>
+fn link_counts(alloc: Global, link: &Link, text: &mut Cursor) -> Result<List<u64>, ReportRefusal>
     ensures { ReadsAs (λ l. l) result (left text.new) (list_at Parenthesis (of_length (length link.now.modules) ReportKind.Limit) (count_at link.now) [] (left text.old)) }
 {
     list(alloc, &CountList { link }, text)
@@ -115,11 +122,7 @@ fn link_counts(
 
 /// Takes the name of the next link and the counts of its modules.
 #[tactic(auto, unfolding(crate::specs::ReadingPlan::counts_at))]
-fn known_counts(
-    alloc: Global,
-    link: &Link,
-    text: &mut Cursor,
-) -> Result<List<u64>, ReportRefusal>
+fn known_counts(alloc: Global, link: &Link, text: &mut Cursor) -> Result<List<u64>, ReportRefusal>
     ensures { ReadsAs (λ l. l) result (left text.new) (counts_at (Some link.now) (left text.old)) }
 {
     this_name(link.name.bytes(), text)?;

@@ -16,8 +16,6 @@ use net_core::{Flow, LinkId, List, Path, Routing, States};
 use snd_tokens::Cursor;
 use std::alloc::Global;
 
-
-
 const STATE: &[u8] = b"state";
 
 const NONE: &[u8] = b"none";
@@ -109,7 +107,12 @@ impl<'a> Element for FlowList<'a> {
 
     ghost fault = { λ _. no_fault };
 
-    fn take(&self, alloc: Global, sofar: &[Flow], text: &mut Cursor) -> Result<Flow, ReportRefusal> {
+    fn take(
+        &self,
+        alloc: Global,
+        sofar: &[Flow],
+        text: &mut Cursor,
+    ) -> Result<Flow, ReportRefusal> {
         flow(alloc, self.context, self.demands, sofar, text)
     }
 
@@ -142,7 +145,10 @@ pub(crate) fn state_name(
     if state == 0 {
         return this_name(NONE, text);
     }
-    this_name(states.listed().items()[state as usize - 1].name.bytes(), text)
+    this_name(
+        states.listed().items()[state as usize - 1].name.bytes(),
+        text,
+    )
 }
 
 /// Takes the routing of a state after those of the states before it.

@@ -73,11 +73,7 @@ pub(crate) fn medium(least: u128, limit: u128, text: &mut Cursor) -> Result<u64,
 }
 
 /// Takes a whole number below `limit`, where there is room for one.
-pub(crate) fn next_number(
-    room: bool,
-    limit: u128,
-    text: &mut Cursor,
-) -> Result<u128, ReportRefusal>
+pub(crate) fn next_number(room: bool, limit: u128, text: &mut Cursor) -> Result<u128, ReportRefusal>
     ensures reads { ReadsAs (λ n. n) result (left text.new) (word_at ReportKind.Token ReportKind.Ended (λ w. where_room room (whole_within 0 limit w)) (left text.old)) }
     ensures below { IfOk result (λ n. n < limit) }
 {
