@@ -2,7 +2,9 @@
 """Writes a network file as large as the limits allow: a ring of all nodes, further links and demands between random
 nodes, and 16 modules for each link. The same arguments always give the same file.
 
-Usage: generate.py [NODES LINKS MODULES DEMANDS]      128 256 16 2048 without arguments
+The modules of a link have 1, 2, .. times one capacity, which is given in thousandths.
+
+Usage: generate.py [NODES LINKS MODULES DEMANDS CAPACITY]      128 256 16 2048 10000 without arguments
 """
 import sys
 
@@ -15,7 +17,7 @@ def draws(seed):
 
 
 def main():
-    nodes, links, modules, demands = map(int, sys.argv[1:] or ["128", "256", "16", "2048"])
+    nodes, links, modules, demands, capacity = map(int, sys.argv[1:] or ["128", "256", "16", "2048", "10000"])
     numbers = draws(1)
     draw = lambda below: next(numbers) % below
 
@@ -30,7 +32,7 @@ def main():
     print(")\nLINKS (")
     for e in range(links):
         a, b = (e, (e + 1) % nodes) if e < nodes else ends()
-        kinds = " ".join(f"{10 * (k + 1)}.00 {5 * (k + 1) + draw(10)}.00" for k in range(modules))
+        kinds = " ".join(f"{capacity * (k + 1) / 1000:.2f} {5 * (k + 1) + draw(10)}.00" for k in range(modules))
         print(f"  l{e} ( n{a} n{b} ) 0 0 0 0 ( {kinds} )")
     print(")\nDEMANDS (")
     for k in range(demands):

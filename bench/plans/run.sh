@@ -1,5 +1,6 @@
 #!/usr/bin/env bash
-# Plans of the largest network file, without failures and with every single-link failure. Prints a table.
+# Plans of the largest network file, without failures and with every single-link failure, and of one whose links need up to
+# 100,000 steps of their modules' capacities. Prints a table.
 set -eu
 cd "$(dirname "$0")/../.."
 room=$(mktemp -d)
@@ -9,3 +10,5 @@ python3 bench/plans/generate.py >"$room/network.txt"
 heading
 measure 'without failures' "$program" plan "$room/network.txt"
 measure 'every single-link failure' "$program" plan "$room/network.txt" crates/planner_top/data/model.txt
+python3 bench/plans/generate.py 128 256 16 2048 30 >"$room/network.txt"
+measure 'every single-link failure, many steps' "$program" plan "$room/network.txt" crates/planner_top/data/model.txt

@@ -1,1 +1,4 @@
+pub mod Boards
 pub mod Histories
+pub mod Pools
+pub mod inner

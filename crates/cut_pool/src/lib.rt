@@ -1,2 +1,15 @@
 //! The board: one history of demand edits and pooled cuts, and what it leaves.
 #![tactic(auto)]
+
+mod answers;
+mod board;
+mod history;
+mod pooled;
+mod snapshot;
+#[cfg(test)]
+mod tests;
+
+pub use answers::{AdmitAnswer, EditAnswer};
+pub use board::Board;
+pub use net_core::CutLine;
+pub use snapshot::Snapshot;

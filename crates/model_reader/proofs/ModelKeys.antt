@@ -1,5 +1,6 @@
 -- Keys and their words.
 use Rattle.std.proofs.Common.{◌≡◌, ℕ, ◌<◌, Bool, true, false, cond, not, ◌&&◌, List, [], ◌∷◌, get_or, Option, None, Some, Result, Ok, Err, refl, sym, ap, subst, ◌∙◌, arith, ⊎_elim}
+use Rattle.std.specs.Prelude.{option_map}
 use Rattle.std.specs.List.{list_any}
 use Rattle.std.proofs.lemmas.Bool.{cases_Bool}
 use Rattle.std.proofs.lemmas.List.Folds.{Any-from_list_any, list_any-from_Any}
@@ -15,7 +16,7 @@ use Rattle.model_reader.specs.declared.model.ModelKind.TheVariants as kinds
 use Rattle.model_reader.specs.declared.model.Setting.{Setting}
 use Rattle.model_reader.specs.declared.model.Setting.TheVariants.{Plain, Reconfiguration}
 use Rattle.model_reader.specs.Models.{IsEachOnce, key_of, key_word, plain_word, reconfiguration_word, value_word}
-use Rattle.model_reader.specs.ModelReading.{all_keys, first_key, has_key, key_behind, missing, missing_or, new_key, value_of}
+use Rattle.model_reader.specs.ModelReading.{all_keys, first_key, has_key, key_behind, missing, new_key, value_of}
 
 abbrev key_of_word : List ℕ → Option ModelKey
 key_of_word w = first_key (λ k. are_same (key_word k) w) all_keys
@@ -112,7 +113,7 @@ at_place AdmissiblePath = (omega arith, refl)
 at_place HopLimit = (omega arith, refl)
 at_place Survivability = (omega arith, refl)
 
-no_fault_none : (o : Option ModelKey) → missing_or o ≡ None → o ≡ None
+no_fault_none : (o : Option ModelKey) → option_map (λ k. kinds.Missing k) o ≡ None → o ≡ None
 no_fault_none None e = refl
 no_fault_none (Some k) e = absurd cc
 
@@ -141,7 +142,7 @@ each_once settings h = record {
 
 pub complete : (settings : List Setting) → IsEachOnce settings → IsComplete settings
 complete settings once = (
-  ap missing_or (first_none (λ k. not (has_key settings k)) all_keys (λ k.
+  ap (option_map (λ k. kinds.Missing k)) (first_none (λ k. not (has_key settings k)) all_keys (λ k.
       let a = once.all k in
       ap not (list_any-from_Any (λ s. are_same (key_word (key_of s)) (key_word k)) settings (a.0, a.1, a.2, a.3, ap (λ x. are_same (key_word x) (key_word k)) a.4 ∙ is_same (key_word k))))),
   differ_behind (λ s. key_word (key_of s)) [] settings (λ i j d lt within same. once.different i j d lt within (words_apart _ _ same)),

@@ -1,45 +1,30 @@
 -- Reading a failure list from left to right: the tests of its words, and their order.
-use Rattle.std.specs.Prelude.{ℕ, Bool, true, false, nat_lt, if◌then◌else◌, List, [], length, Option, Some, None, Result, Ok, Err, position, codes}
-use Rattle.net_core.specs.Tests.{are_same, is_named}
+use Rattle.std.specs.Prelude.{ℕ, Bool, true, false, if◌then◌else◌, List, [], Result, Ok, Err, codes}
+use Rattle.net_core.specs.Tests.{are_same}
 use Rattle.net_core.specs.declared.ids.LinkId.{LinkId}
 use Rattle.net_core.specs.declared.network.Link.{Link}
 use Rattle.net_core.specs.declared.states.Listed.{Listed}
 use Rattle.text_kit.specs.Files.{file_at}
-use Rattle.text_kit.specs.Reading.{Read, Reading, ◌>>=◌, give, word_at, open_at, Parenthesis, list_at, mapped, no_fault, not_empty, sound, whole_at}
+use Rattle.text_kit.specs.Names.{named_place, new_name}
+use Rattle.text_kit.specs.Reading.{Read, Reading, ◌>>=◌, give, word_at, open_at, Parenthesis, list_at, mapped, no_fault, not_empty, whole_at}
 use Rattle.model_reader.specs.declared.failures.FailuresKind.{FailuresKind}
 use Rattle.model_reader.specs.declared.failures.FailuresKind.TheVariants.{Header, Section, Token, Ended, LimitName, UnknownLink, DoubleState, LimitStates}
 use Rattle.model_reader.specs.declared.failures.FailureList.{FailureList}
 use Rattle.model_reader.specs.declared.failures.FailureList.TheVariants.{OneByOne, EachAlone}
 use Rattle.model_reader.specs.Failures.{failures_header, states_of}
 
--- the place of a name among the links
-abbrev pub link_place : List Link → List ℕ → Option ℕ
-link_place links w = position (λ l. are_same l.name w) links
-
--- a link that is there
-abbrev pub known_or : Option ℕ → Result LinkId FailuresKind
-known_or None = Err UnknownLink
-known_or (Some i) = Ok (record { 0 = i })
-
--- the link that a word names
-abbrev pub link_of : List Link → List ℕ → Result LinkId FailuresKind
-link_of links w = if nat_lt 255 (length w) then Err LimitName else known_or (link_place links w)
+-- a link by its name
+abbrev pub failing_link_at : List Link → Reading FailuresKind LinkId
+failing_link_at links = mapped (λ i. record { 0 = i }) (word_at Token Ended (named_place (λ l. l.name) LimitName UnknownLink links))
 
 -- further links of a state
 abbrev pub links_at : List Link → List LinkId → Reading FailuresKind (List LinkId)
-links_at links sofar = list_at Parenthesis (not_empty Token) (λ before. word_at Token Ended (link_of links)) sofar
-
--- the fault of a word as a state's name after earlier states
-abbrev pub name_fault : List Listed → List ℕ → Option FailuresKind
-name_fault sofar w =
-    if nat_lt 255 (length w) then Some LimitName
-    else (if is_named (λ s. s.name) w sofar then Some DoubleState
-    else (if nat_lt (length sofar) 256 then None else Some LimitStates))
+links_at links sofar = list_at Parenthesis (not_empty Token) (λ before. failing_link_at links) sofar
 
 -- a state after earlier ones: its name, and its links between parentheses
 unfoldable pub state_at : List Link → List Listed → Reading FailuresKind Listed
 state_at links sofar = do
-  name ← word_at Token Ended (λ w. sound w (name_fault sofar w))
+  name ← word_at Token Ended (new_name (λ s. s.name) 256 LimitName DoubleState LimitStates sofar)
   _ ← open_at Token Ended
   failing ← links_at links []
   give (record { name = name; links = failing })

@@ -1,5 +1,5 @@
 -- Reading a model file from left to right: the tests of its words, and their order.
-use Rattle.std.specs.Prelude.{ℕ, Bool, cond, not, ◌&&◌, if◌then◌else◌, List, [], ◌∷◌, Option, Some, None, Result, Ok, Err, codes}
+use Rattle.std.specs.Prelude.{ℕ, Bool, cond, not, ◌&&◌, if◌then◌else◌, List, [], ◌∷◌, Option, Some, None, option_map, Result, Ok, Err, codes}
 use Rattle.net_core.specs.Tests.{are_same, is_named}
 use Rattle.text_kit.specs.Files.{file_at}
 use Rattle.text_kit.specs.Reading.{Read, Reading, ◌>>=◌, word_at, expected, TheEnd, list_at, mapped}
@@ -49,12 +49,8 @@ setting_at sofar = do
   word_at kinds.Token kinds.Ended (value_of k)
 
 -- the first key that is missing at the end
-abbrev pub missing_or : Option ModelKey → Option ModelKind
-missing_or None = None
-missing_or (Some k) = Some (kinds.Missing k)
-
 abbrev pub missing : List Setting → Option ModelKind
-missing settings = missing_or (first_key (λ k. not (has_key settings k)) all_keys)
+missing settings = option_map (λ k. kinds.Missing k) (first_key (λ k. not (has_key settings k)) all_keys)
 
 -- further settings, up to the end
 abbrev pub settings_at : List Setting → Reading ModelKind (List Setting)

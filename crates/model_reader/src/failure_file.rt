@@ -11,10 +11,9 @@ use crate::failure_list::states;
 use crate::failure_singles::single_links;
 use crate::failures::{FailureList, FailuresKind, FailuresRefusal};
 use net_core::{Link, Network, NoMemory, States};
-use snd_tokens::{Cursor, Next};
+use snd_tokens::Cursor;
 use std::alloc::Global;
-use text_kit::refusal::bad;
-use text_kit::steps::{behind_header, end, open, placed};
+use text_kit::steps::{behind_header, end, open, placed, word};
 
 const HEADER: &[u8] = b"?planner failures; version: 1";
 
@@ -39,11 +38,8 @@ fn is_list(word: &[u8]) -> Result<bool, FailuresKind>
 fn first_word(text: &mut Cursor) -> Result<bool, FailuresRefusal>
     ensures { ReadsAs (λ b. b) result (left text.new) (word_at FailuresKind.Section FailuresKind.Ended is_list (left text.old)) }
 {
-    match text.next() {
-        Next::Word(at, word) => placed(at, is_list(word)),
-        Next::Open(at) | Next::Close(at) => Err(bad(at, FailuresKind::Section)),
-        Next::End(at) => Err(bad(at, FailuresKind::Ended)),
-    }
+    let (at, word) = word(FailuresKind::Section, FailuresKind::Ended, text)?;
+    placed(at, is_list(word))
 }
 
 /// Takes what the file says, up to its end or something else.

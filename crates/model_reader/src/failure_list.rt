@@ -1,39 +1,38 @@
-ghost use Rattle.std.specs.Prelude.{◌≡◌, ◌≤◌, ◌<◌, [], length, IsTrue, IfOk, Ok};
-ghost use Rattle.net_core.specs.Tests.{is_named};
-ghost use Rattle.snd_tokens.specs.Lexemes.{EndAt, left, size};
+ghost use Rattle.std.specs.Prelude.{◌≡◌, ◌≤◌, ◌<◌, [], None, length, position, IsTrue, IfOk, Ok};
+ghost use Rattle.net_core.specs.Tests.{are_same, is_named};
+ghost use Rattle.snd_tokens.specs.Lexemes.{left, size};
 ghost use Rattle.text_kit.specs.Answers.{ReadsAs, TakesElement};
-ghost use Rattle.text_kit.specs.Reading.{placed, sound, word_at};
-ghost use Rattle.model_reader.specs.FailuresReading.{link_of, link_place, links_at, name_fault, state_at, states_at};
+ghost use Rattle.text_kit.specs.Reading.{sound, word_at};
+ghost use Rattle.text_kit.specs.Names.{named_place, new_name};
+ghost use Rattle.model_reader.specs.FailuresReading.{failing_link_at, links_at, state_at, states_at};
 
 use crate::failures::{FailuresKind, FailuresRefusal};
 use net_core::{Link, LinkId, List, Listed, Name};
-use snd_tokens::{Cursor, Next};
+use snd_tokens::Cursor;
 use std::alloc::Global;
-use text_kit::Refusal;
+use text_kit::names::{is_long, named, new_name_fault};
 use text_kit::refusal::bad;
-use text_kit::steps::{closes, open, placed};
-
-const MAX_NAME: usize = 255;
+use text_kit::steps::{closes, open, placed, word};
 
 const MAX_STATES: usize = 256;
 
 /// The place of a name among the links.
 fn place_of(links: &[Link], name: &[u8]) -> Option<usize>
-    ensures { result ≡ link_place links.now name.now }
+    ensures { result ≡ position (λ l. are_same l.name name.now) links.now }
 {
     links.iter().position(|l| l.name.bytes() == name)
 }
 
-/// The link that a word names.
-fn link_of(links: &[Link], word: &[u8]) -> Result<LinkId, FailuresKind>
+/// The place of the link that a word names.
+fn link_named(links: &[Link], word: &[u8]) -> Result<u32, FailuresKind>
     requires { length links.now ≤ 256 }
-    ensures { result ≡ link_of links.now word.now }
+    ensures { result ≡ named_place (λ l. l.name) FailuresKind.LimitName FailuresKind.UnknownLink links.now word.now }
 {
-    if word.len() > MAX_NAME {
+    if is_long(word) {
         return Err(FailuresKind::LimitName);
     }
     match place_of(links, word) {
-        Some(place) => Ok(LinkId(place as u32)),
+        Some(place) => Ok(place as u32),
         None => Err(FailuresKind::UnknownLink),
     }
 }
@@ -41,13 +40,11 @@ fn link_of(links: &[Link], word: &[u8]) -> Result<LinkId, FailuresKind>
 /// Takes a link.
 fn link(links: &[Link], text: &mut Cursor) -> Result<LinkId, FailuresRefusal>
     requires { length links.now ≤ 256 }
-    ensures { ReadsAs (λ e. e) result (left text.new) (word_at FailuresKind.Token FailuresKind.Ended (link_of links.now) (left text.old)) }
+    ensures { ReadsAs (λ e. e) result (left text.new) (failing_link_at links.now (left text.old)) }
 {
-    match text.next() {
-        Next::Word(at, word) => placed(at, link_of(links, word)),
-        Next::Open(at) | Next::Close(at) => Err(bad(at, FailuresKind::Token)),
-        Next::End(at) => Err(bad(at, FailuresKind::Ended)),
-    }
+    let (at, word) = word(FailuresKind::Token, FailuresKind::Ended, text)?;
+    let place = placed(at, link_named(links, word))?;
+    Ok(LinkId(place))
 }
 
 /// Takes one link more of a state, and says whether there was one.
@@ -94,42 +91,26 @@ fn is_listed(name: &[u8], listed: &[Listed]) -> bool
 
 /// What is wrong with a word as the name of a state after these ones.
 fn name_fault(listed: &[Listed], word: &[u8]) -> Option<FailuresKind>
-    ensures { result ≡ name_fault listed.now word.now }
+    ensures value { sound word.now result ≡ new_name (λ s. s.name) 256 FailuresKind.LimitName FailuresKind.DoubleState FailuresKind.LimitStates listed.now word.now }
+    ensures short { result ≡ None → length word.now ≤ 255 }
 {
-    if word.len() > MAX_NAME {
-        return Some(FailuresKind::LimitName);
-    }
-    if is_listed(word, listed) {
-        return Some(FailuresKind::DoubleState);
-    }
-    if listed.len() >= MAX_STATES {
-        return Some(FailuresKind::LimitStates);
-    }
-    None
-}
-
-/// The name that a word at a place is for a state after these ones.
-fn named(alloc: Global, listed: &[Listed], at: u64, word: &[u8]) -> Result<Name, FailuresRefusal>
-    ensures { ReadsAs (λ n. n) result (EndAt at) (placed at (EndAt at) (sound word.now (name_fault listed.now word.now))) }
-{
-    if let Some(kind) = name_fault(listed, word) {
-        return Err(bad(at, kind));
-    }
-    match Name::new(alloc, word) {
-        Ok(name) => Ok(name),
-        Err(_) => Err(Refusal::NoMemory),
-    }
+    new_name_fault(
+        FailuresKind::LimitName,
+        FailuresKind::DoubleState,
+        FailuresKind::LimitStates,
+        MAX_STATES,
+        listed.len(),
+        is_listed(word, listed),
+        word,
+    )
 }
 
 /// Takes the name of a state after these ones.
 fn name(alloc: Global, listed: &[Listed], text: &mut Cursor) -> Result<Name, FailuresRefusal>
-    ensures { ReadsAs (λ n. n) result (left text.new) (word_at FailuresKind.Token FailuresKind.Ended (λ w. sound w (name_fault listed.now w)) (left text.old)) }
+    ensures { ReadsAs (λ n. n) result (left text.new) (word_at FailuresKind.Token FailuresKind.Ended (new_name (λ s. s.name) 256 FailuresKind.LimitName FailuresKind.DoubleState FailuresKind.LimitStates listed.now) (left text.old)) }
 {
-    match text.next() {
-        Next::Word(at, word) => named(alloc, listed, at, word),
-        Next::Open(at) | Next::Close(at) => Err(bad(at, FailuresKind::Token)),
-        Next::End(at) => Err(bad(at, FailuresKind::Ended)),
-    }
+    let (at, word) = word(FailuresKind::Token, FailuresKind::Ended, text)?;
+    named(alloc, at, word, name_fault(listed, word))
 }
 
 /// Takes a state after these ones.

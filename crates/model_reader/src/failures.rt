@@ -1,5 +1,5 @@
-use net_core::{List, Listed};
-use text_kit::Refusal;
+use net_core::{Bytes, List, Listed, NoMemory};
+use text_kit::{FaultWord, Refusal};
 
 /// What is wrong with a failure list.
 #[derive(Clone, Copy, Debug, PartialEq, Eq)]
@@ -20,6 +20,26 @@ pub enum FailuresKind {
     DoubleState,
     /// More than 256 states.
     LimitStates,
+}
+
+impl FaultWord for FailuresKind {
+    ghost use Rattle.model_reader.specs.FaultWords.{failures_word};
+
+    ghost word = { failures_word };
+
+    fn put_word(&self, text: &mut Bytes) -> Result<(), NoMemory> {
+        let word: &[u8] = match *self {
+            FailuresKind::Header => b"header",
+            FailuresKind::Section => b"section",
+            FailuresKind::Token => b"token",
+            FailuresKind::Ended => b"ended",
+            FailuresKind::LimitName => b"limit-name",
+            FailuresKind::UnknownLink => b"unknown-link",
+            FailuresKind::DoubleState => b"double-state",
+            FailuresKind::LimitStates => b"limit-states",
+        };
+        text.append(word)
+    }
 }
 
 /// Why a failure list was not read.

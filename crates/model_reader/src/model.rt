@@ -1,4 +1,6 @@
-use text_kit::Refusal;
+use crate::model_file::key_word;
+use net_core::{Bytes, NoMemory};
+use text_kit::{FaultWord, Refusal};
 
 /// What a model file asks for.
 #[derive(Clone, Copy, Debug, PartialEq, Eq)]
@@ -46,6 +48,26 @@ pub enum ModelKind {
     Unsupported(ModelKey),
     /// The first key that doesn't stand in the file.
     Missing(ModelKey),
+}
+
+impl FaultWord for ModelKind {
+    ghost use Rattle.model_reader.specs.FaultWords.{model_word};
+
+    ghost word = { model_word };
+
+    fn put_word(&self, text: &mut Bytes) -> Result<(), NoMemory> {
+        let (front, key): (&[u8], &[u8]) = match *self {
+            ModelKind::Header => (b"header", b""),
+            ModelKind::Token => (b"token", b""),
+            ModelKind::Ended => (b"ended", b""),
+            ModelKind::Key => (b"key", b""),
+            ModelKind::DoubleKey => (b"double-key", b""),
+            ModelKind::Unsupported(key) => (b"unsupported-", key_word(key)),
+            ModelKind::Missing(key) => (b"missing-", key_word(key)),
+        };
+        text.append(front)?;
+        text.append(key)
+    }
 }
 
 /// Why a model file was not read.

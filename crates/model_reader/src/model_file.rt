@@ -11,10 +11,10 @@ ghost use Rattle.model_reader.specs.ModelReading.{all_keys, first_key, has_key, 
 
 use crate::model::{Model, ModelKey, ModelKind, ModelRefusal, Setting};
 use net_core::List;
-use snd_tokens::{Cursor, Next};
+use snd_tokens::Cursor;
 use std::alloc::Global;
 use text_kit::refusal::bad;
-use text_kit::steps::{behind_header, ends, expect, placed};
+use text_kit::steps::{behind_header, ends, expect, placed, word};
 
 const HEADER: &[u8] = b"?SNDlib native format; type: model; version: 1.0";
 
@@ -143,22 +143,16 @@ fn value_of(key: ModelKey, word: &[u8]) -> Result<Setting, ModelKind>
 fn key(sofar: &[Setting], text: &mut Cursor) -> Result<ModelKey, ModelRefusal>
     ensures { ReadsAs (λ k. k) result (left text.new) (word_at ModelKind.Token ModelKind.Ended (key_behind sofar.now) (left text.old)) }
 {
-    match text.next() {
-        Next::Word(at, word) => placed(at, key_behind(sofar, word)),
-        Next::Open(at) | Next::Close(at) => Err(bad(at, ModelKind::Token)),
-        Next::End(at) => Err(bad(at, ModelKind::Ended)),
-    }
+    let (at, word) = word(ModelKind::Token, ModelKind::Ended, text)?;
+    placed(at, key_behind(sofar, word))
 }
 
 /// Takes the value of a key.
 fn value(key: ModelKey, text: &mut Cursor) -> Result<Setting, ModelRefusal>
     ensures { ReadsAs (λ s. s) result (left text.new) (word_at ModelKind.Token ModelKind.Ended (value_of key) (left text.old)) }
 {
-    match text.next() {
-        Next::Word(at, word) => placed(at, value_of(key, word)),
-        Next::Open(at) | Next::Close(at) => Err(bad(at, ModelKind::Token)),
-        Next::End(at) => Err(bad(at, ModelKind::Ended)),
-    }
+    let (at, word) = word(ModelKind::Token, ModelKind::Ended, text)?;
+    placed(at, value_of(key, word))
 }
 
 /// Takes a setting after earlier ones.

@@ -1,5 +1,5 @@
 -- counts of one kind of module, and the best kind
-use Rattle.std.proofs.Common.{◌≡◌, ℕ, zero, suc, ◌+◌, ◌*◌, ◌^◌, ◌<◌, ◌≤◌, true, false, cond, nat_lt, List, [], ◌∷◌, All, Some, get_or, set, replicate, length, refl, sym, ◌∙◌, ap, subst, arith, sum_by, count_by, zip, slice_get, ⊎_elim, get_or-set_same, get_or-set_other}
+use Rattle.std.proofs.Common.{◌≡◌, ℕ, zero, suc, ◌+◌, ◌*◌, ◌^◌, ◌<◌, ◌≤◌, true, false, cond, nat_lt, List, [], ◌∷◌, All, Some, get_or, set, replicate, length, refl, sym, ◌∙◌, ap, subst, arith, sum_by, count_by, zip, slice_get, ⊎_elim, inr, get_or-set_same, get_or-set_other}
 use Rattle.std.proofs.lemmas.List.Sums.{sum_by-cons}
 use Rattle.std.proofs.lemmas.List.{get_or-replicate, length-replicate}
 use Rattle.std.proofs.Math.ListN.{length-set}
@@ -9,7 +9,7 @@ use Rattle.std.proofs.Math.Nat.{mul-le-mul_left}
 use Rattle.net_core.specs.declared.network.Module.{Module}
 use Rattle.net_core.specs.Network.{IsModule}
 use Rattle.plan_terms.specs.Capacities.{modules_capacity, modules_cost}
-use Rattle.plan_terms.specs.Covers.{AreOfOneKind, Covers, Reaches}
+use Rattle.plan_terms.specs.Covers.{AreOfOneKind, Covers, IsFewSteps, Reaches}
 use Rattle.module_choice.specs.Coverings.{IsCovering}
 use Rattle.module_choice.specs.inner.Kinds.{IsBestKind}
 use Rattle.module_choice.specs.declared.covers.Covering.{Covering}
@@ -17,10 +17,10 @@ use Rattle.module_choice.specs.declared.covers.Kind.{Kind}
 use Rattle.module_choice.proofs.Numbers.{one_if}
 
 -- a number for each kind times its count, added up
-abbrev value : (Module → ℕ) → List Module → List ℕ → ℕ
+abbrev pub value : (Module → ℕ) → List Module → List ℕ → ℕ
 value f modules counts = sum_by (λ p. f p.0 * p.1) (zip modules counts)
 
-value-cons : (f : Module → ℕ) (m : Module) (ms : List Module) (c : ℕ) (cs : List ℕ) → value f (m ∷ ms) (c ∷ cs) ≡ f m * c + value f ms cs
+pub value-cons : (f : Module → ℕ) (m : Module) (ms : List Module) (c : ℕ) (cs : List ℕ) → value f (m ∷ ms) (c ∷ cs) ≡ f m * c + value f ms cs
 value-cons f m ms c cs = sum_by-cons (λ (p : Module × ℕ). f p.0 * p.1) (m, c) (zip ms cs)
 
 one-suc : (c : ℕ) → one_if (nat_lt 0 (suc c)) ≡ 1
@@ -39,7 +39,7 @@ value-none f (m ∷ ms) (zero ∷ cs) h =
 value-none f (m ∷ ms) (suc c ∷ cs) h = absurd (omega (arith, positive-cons (suc c) cs, one-suc c, h))
 
 -- the sum of no modules
-value-zeros : (f : Module → ℕ) (ms : List Module) (n : ℕ) → value f ms (replicate n 0) ≡ 0
+pub value-zeros : (f : Module → ℕ) (ms : List Module) (n : ℕ) → value f ms (replicate n 0) ≡ 0
 value-zeros f [] n = refl
 value-zeros f (m ∷ ms) zero = refl
 value-zeros f (m ∷ ms) (suc n) = omega (arith, value-cons f m ms 0 (replicate n 0), value-zeros f ms n)
@@ -77,15 +77,18 @@ bounded need bound (m ∷ ms) (suc c ∷ cs) some each kind reach =
     let enough : need ≤ m.capacity * suc c = omega (arith, value-cons (λ m. m.capacity) m ms (suc c) cs, value-none (λ m. m.capacity) ms cs none, reach) in
     omega (arith, each zero (suc c) m refl enough, value-cons (λ m. m.cost) m ms (suc c) cs, value-none (λ m. m.cost) ms cs none)
 
--- counts of one kind that reach the need at the least cost of such counts cover it
-kind_covers : (ms : List Module) (need : ℕ) (cs : List ℕ) → AreOfOneKind cs → Reaches ms need cs → ((others : List ℕ) → AreOfOneKind others → Reaches ms need others → modules_cost ms cs ≤ modules_cost ms others) → Covers ms need cs
-kind_covers ms need cs kind reaches least = record { reaches = reaches; cheapest = record { counts = cs; kind = kind; reaches = reaches; paid = refl; least = least } }
-
--- no modules cover no need
-none_least : (ms : List Module) (need : ℕ) → need ≡ 0 → Covers ms need (replicate (length ms) 0)
-none_least ms need none = kind_covers ms need (replicate (length ms) 0) (omega (arith, positive-zeros (length ms)))
-    (record { shape = length-replicate (length ms) 0; reached = omega (arith, none) })
-    (λ others kind reaches. omega (arith, value-zeros (λ m. m.cost) ms (length ms)))
+-- where the need is more than few steps, counts of one kind that reach it at the least cost of such counts cover it
+kind_covers : (ms : List Module) (need : ℕ) (cs : List ℕ) → (IsFewSteps ms need → ⊥) → AreOfOneKind cs → Reaches ms need cs → ((others : List ℕ) → AreOfOneKind others → Reaches ms need others → modules_cost ms cs ≤ modules_cost ms others) → Covers ms need cs
+kind_covers ms need cs many kind reaches least = record {
+  reaches = reaches;
+  cheapest = record {
+    counts = cs;
+    may = inr kind;
+    reaches = reaches;
+    paid = refl;
+    least = λ others may reach. ⊎_elim (λ few. absurd (many few)) (λ one. least others one reach) may;
+  };
+}
 
 pub same_at : (ms : List Module) (j : ℕ) (m n : Module) → slice_get ms j ≡ Some m → slice_get ms j ≡ Some n → m ≡ n
 same_at ms j m n a b = cc (a, b)
@@ -105,8 +108,8 @@ needs_some capacity need zero some reaches = absurd (omega arith)
 needs_some capacity need (suc c) some reaches = omega arith
 
 -- so many of the best kind cover a need
-best_least : (ms : List Module) (need : ℕ) (kind : Kind) → 0 < need → IsBestKind ms need kind → Covers ms need (set (replicate (length ms) 0) kind.at kind.count)
-best_least ms need kind some best = kind_covers ms need (set (replicate (length ms) 0) kind.at kind.count) (positive-one (length ms) kind.at kind.count)
+best_least : (ms : List Module) (need : ℕ) (kind : Kind) → (IsFewSteps ms need → ⊥) → 0 < need → IsBestKind ms need kind → Covers ms need (set (replicate (length ms) 0) kind.at kind.count)
+best_least ms need kind many some best = kind_covers ms need (set (replicate (length ms) 0) kind.at kind.count) many (positive-one (length ms) kind.at kind.count)
     (record {
       shape = length-set (replicate (length ms) 0) kind.at kind.count ∙ length-replicate (length ms) 0;
       reached = omega (arith, value-one (λ m. m.capacity) ms kind.at kind.count best.module_at best.is, best.reaches);
@@ -124,32 +127,22 @@ one-below n at count limit small k d lt = ⊎_elim
     (cases_eq k at)
 
 -- no fewer modules reach the need, so their capacity passes it by less than one module
-fewest-capacity : (capacity need count : ℕ) → 0 < count → ((c : ℕ) → need ≤ capacity * c → count ≤ c) → capacity * count < need + capacity
+pub fewest-capacity : (capacity need count : ℕ) → 0 < count → ((c : ℕ) → need ≤ capacity * c → count ≤ c) → capacity * count < need + capacity
 fewest-capacity capacity need zero some fewest = absurd (omega arith)
 fewest-capacity capacity need (suc c) some fewest = ⊎_elim
     (λ short. omega (arith, short))
     (λ enough. omega (arith, fewest c enough))
     (cases_lt (capacity * c) need)
 
--- what `cover` answers for no need
-pub none_covers : (ms : List Module) (need : ℕ) (c : Covering) → need ≡ 0 → c.counts ≡ replicate (length ms) 0 → c.cost ≡ 0 → IsCovering ms need c
-none_covers ms need c none counts cost = record {
-  covers = subst (Covers ms need) (sym counts) (none_least ms need none);
-  kind = subst AreOfOneKind (sym counts) (omega (arith, positive-zeros (length ms)));
-  paid = omega (arith, cost, ap (modules_cost ms) counts, value-zeros (λ m. m.cost) ms (length ms));
-  small = subst (λ cs. All (λ n. n < 2 ^ 44) cs) (sym counts) (λ k d lt. omega (arith, get_or-replicate (length ms) k 0 d (omega (arith, lt, length-replicate {A = ℕ} (length ms) 0))));
-  narrow = omega (arith, ap (modules_capacity ms) counts, value-zeros (λ m. m.capacity) ms (length ms));
-}
-
--- what `cover` answers for a need
-pub best_covers : (ms : List Module) (need : ℕ) (kind : Kind) (m : Module) (c : Covering) → 0 < need → need < 2 ^ 44 → All IsModule ms → IsBestKind ms need kind → slice_get ms kind.at ≡ Some m → c.counts ≡ set (replicate (length ms) 0) kind.at kind.count → c.cost ≡ m.cost * kind.count → IsCovering ms need c
-best_covers ms need kind m c some limit sound best at counts cost =
+-- what `cover` answers for a need of more than few steps
+pub best_covers : (ms : List Module) (need : ℕ) (kind : Kind) (m : Module) (c : Covering) → (IsFewSteps ms need → ⊥) → 0 < need → need < 2 ^ 44 → All IsModule ms → IsBestKind ms need kind → slice_get ms kind.at ≡ Some m → c.counts ≡ set (replicate (length ms) 0) kind.at kind.count → c.cost ≡ m.cost * kind.count → IsCovering ms need c
+best_covers ms need kind m c many some limit sound best at counts cost =
     let one : m ≡ best.module_at = same_at ms kind.at m best.module_at at best.is in
     let is : IsModule best.module_at = all_read IsModule ms kind.at best.module_at sound best.is in
     let fewest : kind.count ≤ need = best.fewest need (factor_reaches best.module_at.capacity need is.carries) in
     record {
-      covers = subst (Covers ms need) (sym counts) (best_least ms need kind some best);
-      kind = subst AreOfOneKind (sym counts) (positive-one (length ms) kind.at kind.count);
+      covers = subst (Covers ms need) (sym counts) (best_least ms need kind many some best);
+      may = inr (subst AreOfOneKind (sym counts) (positive-one (length ms) kind.at kind.count));
       paid = omega (arith, cost, ap (λ (x : Module). x.cost * kind.count) one, ap (modules_cost ms) counts, value-one (λ m. m.cost) ms kind.at kind.count best.module_at best.is);
       small = subst (λ cs. All (λ n. n < 2 ^ 44) cs) (sym counts) (one-below (length ms) kind.at kind.count (2 ^ 44) (omega (arith, fewest, limit)));
       narrow = omega (arith, ap (modules_capacity ms) counts, value-one (λ m. m.capacity) ms kind.at kind.count best.module_at best.is, fewest-capacity best.module_at.capacity need kind.count (needs_some best.module_at.capacity need kind.count some best.reaches) best.fewest, limit, is.capacity);

@@ -4,7 +4,7 @@ use Rattle.std.proofs.lemmas.List.Sums.{sum_by-cons}
 use Rattle.std.proofs.lemmas.List.Elements.{All-cons, All-nil}
 use Rattle.std.proofs.lemmas.Bool.{cases_eq, cases_lt, eq-eqb, ne_eqb}
 use Rattle.std.proofs.lemmas.Option.{slice_get_within}
-use Rattle.net_core.specs.Network.{IsModule, IsNetwork}
+use Rattle.net_core.specs.Network.{IsLink, IsModule, IsNetwork}
 use Rattle.net_core.specs.declared.demand.Demand.{Demand}
 use Rattle.net_core.specs.declared.network.Link.{Link}
 use Rattle.net_core.specs.declared.plan.Flow.{Flow}
@@ -156,9 +156,9 @@ falls p prices rs peaks counts cost priced routed covered paid =
       paid = paid;
     }
 
--- each link of a network is sound
-pub links_sound : (nodes : List (List ℕ)) (links : List Link) → ∥ IsNetwork nodes links ∥₁ → All (λ l. (l.fixed < 2 ^ 40) × (length l.modules ≤ 16) × All IsModule l.modules) links
-links_sound nodes links checked k d lt = let sound = network_links nodes links checked k d lt in (sound.fixed, sound.few, sound.each)
+-- each module of a network is sound
+pub modules_sound : (nodes : List (List ℕ)) (links : List Link) → ∥ IsNetwork nodes links ∥₁ → All (λ l. (length l.modules ≤ 16) × All IsModule l.modules) links
+modules_sound nodes links checked k d lt = let sound = network_links nodes links checked k d lt in (sound.few, sound.each)
 
 pub fixed_small : (nodes : List (List ℕ)) (links : List Link) → ∥ IsNetwork nodes links ∥₁ → (e : ℕ) (l : Link) → slice_get links e ≡ Some l → l.fixed < 2 ^ 40
-fixed_small nodes links checked e l at = (all_read (λ l. (l.fixed < 2 ^ 40) × (length l.modules ≤ 16) × All IsModule l.modules) links e l (links_sound nodes links checked) at).0
+fixed_small nodes links checked e l at = (all_read (IsLink (length nodes)) links e l (network_links nodes links checked) at).fixed

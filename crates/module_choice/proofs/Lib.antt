@@ -1,7 +1,10 @@
+pub mod SameModules
 pub mod Carrying
 pub mod Choices
 pub mod Falling
+pub mod LeastCosts
 pub mod Numbers
 pub mod Pairs
 pub mod Routing
 pub mod Weights
+pub mod Steps

@@ -1,8 +1,11 @@
 ghost use Rattle.std.specs.Prelude.{◌≡◌, ℕ, ◌*◌, ◌^◌, ◌<◌, ◌≤◌, All, IfOk, [], length, replicate, slice_set};
 ghost use Rattle.net_core.specs.Network.{IsModule};
+ghost use Rattle.plan_terms.specs.Covers.{IsFewSteps};
 ghost use Rattle.module_choice.specs.Coverings.{IsCovering};
 ghost use Rattle.module_choice.specs.inner.Kinds.{IsBestKind};
+ghost use Rattle.module_choice.specs.inner.Tables.{Answers, IsTable};
 
+use crate::tables::{MOST_STEPS, Table, capacity_divisor, counts_for, few_steps, table_for};
 use net_core::{Copied, Link, List, Module, NoMemory};
 use std::alloc::Global;
 
@@ -77,12 +80,13 @@ fn one_kind(alloc: Global, kinds: usize, kind: Kind) -> Result<List<u64>, NoMemo
     Ok(List::from_vec(counts))
 }
 
-/// The cheapest counts of one kind of module that reach a need above 0.
-fn cover_some(alloc: Global, modules: &[Module], need: u64) -> Result<Covering, NoMemory>
+/// The cheapest counts of one kind of module that reach a need of more than few steps.
+fn cover_by_kind(alloc: Global, modules: &[Module], need: u64) -> Result<Covering, NoMemory>
     requires some { 0 < length modules.now }
     requires each { All IsModule modules.now }
     requires needed { 0 < need }
     requires limit { need < 2 ^ 44 }
+    requires many { IsFewSteps modules.now need → ⊥ }
     ensures { IfOk result (IsCovering modules.now need) }
 {
     let kind = best_kind(modules, need);
@@ -92,11 +96,37 @@ fn cover_some(alloc: Global, modules: &[Module], need: u64) -> Result<Covering, 
     })
 }
 
-/// Counts of the link's modules that cover a need, in thousandths: modules of one kind that reach it at the least cost of such
-/// modules. It takes time in the number of modules.
+/// Counts of modules that cover a need: by their table where it is few steps, else by one kind.
+pub(crate) fn cover_by(
+    alloc: Global,
+    modules: &[Module],
+    table: &Table,
+    need: u64,
+) -> Result<Covering, NoMemory>
+    requires each { All IsModule modules.now }
+    requires limit { need < 2 ^ 44 }
+    requires served { modules.now ≡ [] → need ≡ 0 }
+    requires table { IsTable modules.now table.now }
+    requires answers { Answers table.now need }
+    ensures { IfOk result (IsCovering modules.now need) }
+{
+    if need > MOST_STEPS * table.step {
+        return cover_by_kind(alloc, modules, need);
+    }
+    let steps = few_steps(table.step, need);
+    let entries = table.entries.items();
+    Ok(Covering {
+        counts: counts_for(alloc, table.modules.items(), entries, steps)?,
+        cost: entries[steps].cost as u128,
+    })
+}
+
+/// Counts of the link's modules that cover a need, in thousandths: the cheapest of all counts that reach it, where the need is
+/// at most 100,000 steps of the greatest common divisor of the modules' capacities, and the cheapest of one kind beyond that.
+/// It takes memory for each step, and time for each step and module.
 ///
-/// Modules of 155 for 100 and of 622 for 250: a need of 500 is covered by one of the second kind for 250, since four of the
-/// first would cost 400; a need of 180 by two of the first for 200.
+/// Modules of 155 for 100 and of 622 for 250: a need of 700 is covered by one of each for 350, since two of the second would
+/// cost 500 and five of the first as much; a need of 180 by two of the first for 200.
 pub fn cover(alloc: Global, link: &Link, need: u64) -> Result<Covering, NoMemory>
     requires few { length link.now.modules ≤ 16 }
     requires each { All IsModule link.now.modules }
@@ -105,11 +135,6 @@ pub fn cover(alloc: Global, link: &Link, need: u64) -> Result<Covering, NoMemory
     ensures { IfOk result (IsCovering link.now.modules need) }
 {
     let modules = link.modules.items();
-    if need > 0 {
-        return cover_some(alloc, modules, need);
-    }
-    Ok(Covering {
-        counts: List::filled(alloc, 0, modules.len())?,
-        cost: 0,
-    })
+    let table = table_for(alloc, modules, capacity_divisor(modules), need)?;
+    cover_by(alloc, modules, &table, need)
 }

@@ -10,7 +10,7 @@ ghost use Rattle.plan_terms.specs.Fallbacks.{IsFallback, raised};
 ghost use Rattle.plan_terms.specs.Separations.{IsSurvivable};
 ghost use Rattle.module_choice.specs.inner.Routes.{AreCovered, AreRouted};
 
-use crate::covers::cover;
+use crate::alike::cover_links;
 use crate::loads::{loads_of, raise};
 use crate::routes::route_state;
 use crate::totals::cost;
@@ -99,23 +99,6 @@ fn route_states(alloc: Global, problem: &Instance, lengths: &Lengths) -> Result<
     Ok(Routed { routings, peaks })
 }
 
-/// Counts that cover the greatest load of each link less its pre-installed capacity.
-fn cover_links(alloc: Global, links: &[Link], peaks: &[u64]) -> Result<Counts, NoMemory>
-    requires size { length peaks.now ≡ length links.now }
-    requires each { All (λ l. (l.fixed < 2 ^ 40) × (length l.modules ≤ 16) × All IsModule l.modules) links.now }
-    requires small { All (λ n. n < 2 ^ 44) peaks.now }
-    requires served { (e : ℕ) (l : Link) → slice_get links.now e ≡ Some l → l.modules ≡ [] → slice_index peaks.now e ≤ l.fixed }
-    ensures { IfOk result (AreCovered links.now (slice_index peaks.now)) }
-{
-    let mut counts = List::new(alloc);
-    for e in 0..links.len() {
-        let l = &links[e];
-        let covering = cover(alloc, l, peaks[e].saturating_sub(l.fixed))?;
-        counts.push(covering.counts)?;
-    }
-    Ok(counts)
-}
-
 /// The fallback plan of an instance.
 fn fallback_of(alloc: Global, problem: &Instance) -> Result<Fallback, NoMemory>
     requires { let p = case_of problem.now in IsSurvivable p }
@@ -138,7 +121,8 @@ fn fallback_of(alloc: Global, problem: &Instance) -> Result<Fallback, NoMemory>
 ///
 /// No state separates a demand. The flows of each routing are in the order of the demands. On a triangle AB, BC, AC with
 /// modules of 10 for 5, with every single-link failure, a demand of 12 from A to C takes AC, and AB, BC where AC fails: each link gets
-/// two modules, and the plan costs 30. It takes a search from each node for each state.
+/// two modules, and the plan costs 30. It takes a search from each node for each state,
+/// and for each different list of modules one table of up to 100,001 entries at a time.
 pub fn fallback_plan(
     alloc: Global,
     net: &Network,

@@ -1,10 +1,12 @@
 //! How many modules each link gets, what they cost, and the plan of one path for each demand in each state.
 #![tactic(auto)]
 
+mod alike;
 mod covers;
 mod fallback;
 mod loads;
 mod routes;
+mod tables;
 mod totals;
 
 pub use covers::{Covering, cover};

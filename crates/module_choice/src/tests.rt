@@ -1,8 +1,9 @@
-ghost use Rattle.std.specs.Prelude.{◌≡◌, ◌<◌, ◌^◌, IfOk, IsTrue};
+ghost use Rattle.std.specs.Prelude.{◌↔◌, All, IfOk, IsTrue};
+ghost use Rattle.net_core.specs.Network.{IsModule};
 ghost use Rattle.net_core.specs.Views.{case};
 ghost use Rattle.plan_terms.specs.Separations.{IsSurvivable};
 
-use crate::{capacities, cost, cover, fallback_plan};
+use crate::{Covering, capacities, cost, cover, fallback_plan};
 use failure_states::first_separated;
 use net_core::{Counts, Link, List, Module, Name, NoMemory, NodeId, Problem};
 use std::alloc::Global;
@@ -21,43 +22,118 @@ const TWO_KINDS: [Module; 2] = [
     },
 ];
 
-/// A link of the two kinds of module.
-fn link(alloc: Global) -> Result<Link, Fail>
-    ensures { IfOk result (λ l. l.modules ≡ TWO_KINDS) }
+/// Modules of 0.001 for 0.001 and of 1.000 for 0.500.
+const SMALL_STEPS: [Module; 2] = [
+    Module {
+        capacity: 1,
+        cost: 1,
+    },
+    Module {
+        capacity: 1000,
+        cost: 500,
+    },
+];
+
+/// Whether they are modules of a link.
+fn are_modules(modules: &[Module]) -> bool
+    ensures { IsTrue result ↔ All IsModule modules.now }
 {
-    Ok(Link {
+    modules.iter().all(|m| m.capacity > 0 && m.capacity < 1 << 40 && m.cost < 1 << 40)
+}
+
+/// The counts that cover a need, with their cost.
+fn covering(alloc: Global, modules: &[Module], need: u64) -> Result<Covering, Fail> {
+    if modules.is_empty() || modules.len() > 16 || !are_modules(modules) || need >= 1 << 44 {
+        return Err(Fail::from("modules or a need out of range"));
+    }
+    let link = Link {
         name: Name::new(alloc, b"L")?,
         a: NodeId(0),
         b: NodeId(1),
         fixed: 0,
         setup: 0,
-        modules: List::from_slice(alloc, &TWO_KINDS)?,
-    })
+        modules: List::from_slice(alloc, modules)?,
+    };
+    Ok(cover(alloc, &link, need)?)
 }
 
-/// The counts that cover a need by two kinds of module, and their cost.
-fn two_kinds(alloc: Global, need: u64) -> Result<(u64, u64, u128), Fail>
-    requires { need < 2 ^ 44 }
-{
-    let link = link(alloc)?;
-    let covering = cover(alloc, &link, need)?;
-    let counts = covering.counts.items();
-    Ok((counts[0], counts[1], covering.cost))
-}
-
+/// Up to 100,000 steps of the capacities' common divisor kinds are mixed, beyond that one kind is taken.
 #[test]
 fn covers(rt: HostRuntime) -> Result<(), Fail> {
-    for (need, want) in [
-        (0, (0, 0, 0)),
-        (1, (1, 0, 100000)),
-        (155000, (1, 0, 100000)),
-        (180000, (2, 0, 200000)),
-        (310001, (0, 1, 250000)),
-        (500000, (0, 1, 250000)),
-        (700000, (5, 0, 500000)),
-        (900000, (0, 2, 500000)),
+    for (modules, need, counts, cost) in [
+        (&TWO_KINDS, 0, [0, 0], 0),
+        (&TWO_KINDS, 1, [1, 0], 100000),
+        (&TWO_KINDS, 155000, [1, 0], 100000),
+        (&TWO_KINDS, 180000, [2, 0], 200000),
+        (&TWO_KINDS, 310001, [0, 1], 250000),
+        (&TWO_KINDS, 500000, [0, 1], 250000),
+        (&TWO_KINDS, 700000, [1, 1], 350000),
+        (&TWO_KINDS, 900000, [2, 1], 450000),
+        (&SMALL_STEPS, 99001, [1, 99], 49501),
+        (&SMALL_STEPS, 100000, [0, 100], 50000),
+        (&SMALL_STEPS, 100001, [0, 101], 50500),
+        (&SMALL_STEPS, 150100, [0, 151], 75500),
     ] {
-        assert_eq!(rt; two_kinds(rt.alloc(), need)?, want, "{need}");
+        let found = covering(rt.alloc(), modules, need)?;
+        assert_eq!(rt; found.counts.items(), counts.as_slice(), "{need}");
+        assert_eq!(rt; found.cost, cost, "{need}");
+    }
+    Ok(())
+}
+
+/// Capacities and costs of 16 kinds of module, of which none is the best for all needs.
+const SIXTEEN_KINDS: [(u64, u64); 16] = [
+    (2, 7),
+    (3, 9),
+    (4, 13),
+    (5, 14),
+    (6, 18),
+    (7, 19),
+    (8, 24),
+    (9, 25),
+    (10, 28),
+    (11, 29),
+    (12, 33),
+    (13, 34),
+    (14, 38),
+    (15, 39),
+    (16, 41),
+    (17, 44),
+];
+
+/// The least cost of all counts of these kinds that reach a need, by trying each.
+fn least_of_all(kinds: &[(u64, u64)], need: u64) -> u64 {
+    if need == 0 {
+        return 0;
+    }
+    let Some((kind, others)) = kinds.split_first() else {
+        return u64::MAX;
+    };
+    let (capacity, cost) = *kind;
+    let mut least = u64::MAX;
+    for count in 0..need.saturating_add(1) {
+        let left = need.saturating_sub(capacity.saturating_mul(count));
+        let rest = least_of_all(others, left);
+        least = least.min(cost.saturating_mul(count).saturating_add(rest));
+        if left == 0 {
+            break;
+        }
+    }
+    least
+}
+
+/// The cost of a cover is that of the cheapest of all counts.
+#[test]
+fn covers_of_sixteen_kinds(rt: HostRuntime) -> Result<(), Fail> {
+    let alloc = rt.alloc();
+    let mut modules = List::new(alloc);
+    for (capacity, cost) in SIXTEEN_KINDS {
+        modules.push(Module { capacity, cost })?;
+    }
+    for need in 0..41 {
+        let found = covering(alloc, modules.items(), need)?;
+        let least = least_of_all(&SIXTEEN_KINDS, need);
+        assert_eq!(rt; found.cost, least as u128, "{need}");
     }
     Ok(())
 }

@@ -12,13 +12,13 @@ use Rattle.net_core.specs.Network.{IsModule}
 use Rattle.plan_terms.specs.Bounds.{IsGreatestDivisor, module_costs}
 use Rattle.plan_terms.proofs.Bounds.{divisor_both, divisor_one, divisor_limit, costs_below}
 
--- one module's cost more
-pub module_divisor_step : (n : ℕ) (modules : List Module) (d : Module) (g h : ℕ) → n < length modules → IsGreatestDivisor (map (λ m. m.cost) (take n modules)) g → IsGcd g (get_or modules n d).cost h → IsGreatestDivisor (map (λ m. m.cost) (take (n + 1) modules)) h
-module_divisor_step n modules d g h lt before gcd =
+-- a number of one module more
+pub module_divisor_step : (f : Module → ℕ) (n : ℕ) (modules : List Module) (d : Module) (g h : ℕ) → n < length modules → IsGreatestDivisor (map f (take n modules)) g → IsGcd g (f (get_or modules n d)) h → IsGreatestDivisor (map f (take (n + 1) modules)) h
+module_divisor_step f n modules d g h lt before gcd =
     let m = get_or modules n d in
     let more : take (n + 1) modules ≡ take n modules ++ m ∷ [] = rw add-one (take-suc modules n d lt) in
-    let costs : map (λ (x : Module). x.cost) (take (n + 1) modules) ≡ map (λ (x : Module). x.cost) (take n modules) ++ m.cost ∷ [] = ap (map (λ (x : Module). x.cost)) more ∙ map-append (λ (x : Module). x.cost) (take n modules) (m ∷ []) in
-    subst (λ xs. IsGreatestDivisor xs h) (sym costs) (divisor_both (map (λ (x : Module). x.cost) (take n modules)) (m.cost ∷ []) g m.cost h before (divisor_one m.cost) gcd)
+    let numbers : map f (take (n + 1) modules) ≡ map f (take n modules) ++ f m ∷ [] = ap (map f) more ∙ map-append f (take n modules) (m ∷ []) in
+    subst (λ xs. IsGreatestDivisor xs h) (sym numbers) (divisor_both (map f (take n modules)) (f m ∷ []) g (f m) h before (divisor_one (f m)) gcd)
 
 -- the costs of one link's modules more
 pub link_divisor_step : (n : ℕ) (links : List Link) (d : Link) (g k h : ℕ) → n < length links → IsGreatestDivisor (module_costs (take n links)) g → IsGreatestDivisor (map (λ m. m.cost) (get_or links n d).modules) k → IsGcd g k h → IsGreatestDivisor (module_costs (take (n + 1) links)) h

@@ -93,11 +93,13 @@ pub record AreCapsInForm (links : List Link) (caps : Caps) : Type 0 where
   pub scale : caps.scale < 2 ^ 62
   pub nums : AreLinkNumbers links (2 ^ 126) caps.nums
 
+-- a link, a demand, or a demand along a path
 abbrev pub IsRouteColumnInForm : List Link → List Demand → RouteColumn → Type 0
 IsRouteColumnInForm links demands (route.LinkSlack e) = e.0 < length links
 IsRouteColumnInForm links demands (route.DemandSlack k) = k < length demands
 IsRouteColumnInForm links demands (route.Carry k path) = (k < length demands) × IsPathInForm links path
 
+-- a link, or one of the states with a length below 2^32 for each link
 abbrev pub IsMasterColumnInForm : List Link → List Listed → MasterColumn → Type 0
 IsMasterColumnInForm links listed (master.LinkSlack e) = e.0 < length links
 IsMasterColumnInForm links listed (master.Metric state lengths) = (state.0 ≤ length listed) × AreLinkNumbers links (2 ^ 32) lengths
@@ -126,14 +128,17 @@ pub record IsMasterEvidenceInForm (links : List Link) (listed : List Listed) (ba
   pub columns : All (IsMasterColumnInForm links listed) basis
   pub wide : IsKindInForm (IsMasterColumnInForm links listed) (Unit {0}) (λ e. ⊥) (length links) kind
 
+-- evidence on either program
 abbrev pub IsEvidenceInForm : List Link → List Listed → List Demand → Evidence → Type 0
 IsEvidenceInForm links listed demands (Route state caps basis kind) = IsRouteEvidenceInForm links listed demands state caps basis kind
 IsEvidenceInForm links listed demands (Master basis kind) = IsMasterEvidenceInForm links listed basis kind
 
+-- evidence, where a number grew too wide
 abbrev pub IsCauseInForm : List Link → List Listed → List Demand → Cause → Type 0
 IsCauseInForm links listed demands (Wide evidence) = IsEvidenceInForm links listed demands evidence
 IsCauseInForm links listed demands Cuts = Unit {0}
 
+-- a share with a routing for each state, or why there is no better bound
 abbrev pub IsQualityInForm : List Link → List Listed → List Demand → Quality → Type 0
 IsQualityInForm links listed demands (Tight f) = IsShareInForm links f.share × AreRoutingsInForm links listed demands f.routings
 IsQualityInForm links listed demands (Loose cause) = IsCauseInForm links listed demands cause
@@ -218,6 +223,7 @@ pub record IsPooledInForm (pool : List CutLine) (index : ℕ) (state : StateId) 
   pub same_state : state.0 ≡ line_state (slice_get pool index)
   pub same_lengths : lengths ≡ line_lengths (slice_get pool index)
 
+-- an edit, or a cut of the pool
 abbrev pub IsEntryInForm : List CutLine → Entry → Type 0
 IsEntryInForm pool (Edited caller edit reply) = IsEditedInForm caller edit reply
 IsEntryInForm pool (Pooled index state lengths) = IsPooledInForm pool index state lengths
@@ -228,6 +234,7 @@ pub record HasPoolLine (pool : List CutLine) (index : ℕ) (cut : CutLine) : Typ
   pub same_state : cut.state.0 ≡ line_state (slice_get pool index)
   pub same_lengths : cut.lengths ≡ line_lengths (slice_get pool index)
 
+-- a cut of a certificate is the pool's, where it is said to stand there
 abbrev pub IsOfPool : List CutLine → Spot → CutLine → Type 0
 IsOfPool pool (Pool i) cut = HasPoolLine pool i cut
 IsOfPool pool Local cut = Unit {0}
@@ -253,6 +260,7 @@ pub record IsUnsurvivableInForm (listed : List Listed) (caller serial version po
   pub state_listed : state.0 ≤ length listed
   pub short : length demand ≤ 255
 
+-- a plan, or a state that separates a demand
 abbrev pub IsOutcomeInForm : List (List ℕ) → List Link → List Listed → List CutLine → Outcome → Type 0
 IsOutcomeInForm nodes links listed pool (Planned caller serial plan) = IsPlannedInForm nodes links listed pool caller serial plan
 IsOutcomeInForm nodes links listed pool (Unsurvivable caller serial version position state demand) =

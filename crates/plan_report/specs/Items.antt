@@ -10,6 +10,7 @@ use Rattle.net_core.specs.declared.columns.WideKind.{WideKind}
 use Rattle.net_core.specs.declared.columns.WideKind.TheVariants.{Number, Row, Product, Sum, Common, Value, Length}
 use Rattle.net_core.specs.declared.demand.Demand.{Demand}
 use Rattle.net_core.specs.declared.ids.LinkId.{LinkId}
+use Rattle.net_core.specs.declared.ids.StateId.{StateId}
 use Rattle.net_core.specs.declared.journal.Entry.{Entry}
 use Rattle.net_core.specs.declared.journal.Entry.TheVariants.{Edited, Pooled}
 use Rattle.net_core.specs.declared.journal.Reply.{Reply}
@@ -25,6 +26,7 @@ use Rattle.plan_types.specs.declared.certificate.Certificate.{Certificate}
 use Rattle.plan_types.specs.declared.certificate.Spot.{Spot}
 use Rattle.plan_types.specs.declared.certificate.Spot.TheVariants.{Pool, Local}
 use Rattle.plan_types.specs.declared.plan.Plan.{Plan}
+use Rattle.plan_types.specs.declared.quality.Cause.{Cause}
 use Rattle.plan_types.specs.declared.quality.Cause.TheVariants.{Wide, Cuts}
 use Rattle.plan_types.specs.declared.quality.Quality.{Quality}
 use Rattle.plan_types.specs.declared.quality.Quality.TheVariants.{Tight, Loose, Unsolved}
@@ -56,6 +58,7 @@ path_items links path = enclosed (flat_map (λ e. Verbatim (link_name links e) �
 
 -- ---- the journal
 
+-- a reply: one word, and the version or the total that it tells
 abbrev pub reply_items : Reply → List Item
 reply_items (Accepted version) = Verbatim (codes "accepted") ∷ Whole version ∷ []
 reply_items UnknownDemand = Verbatim (codes "unknown-demand") ∷ []
@@ -91,11 +94,13 @@ routings_items links listed demands routings = enclosed (flat_map (routing_items
 
 -- ---- how good a bound is
 
+-- a column of a program that routes: what a link has left, what of a demand is not carried, or a demand along a path
 abbrev pub route_column_items : List Link → List Demand → RouteColumn → List Item
 route_column_items links demands (route.LinkSlack e) = Verbatim (codes "link") ∷ Verbatim (link_name links e) ∷ []
 route_column_items links demands (route.DemandSlack k) = Verbatim (codes "demand") ∷ Verbatim (demand_name demands k) ∷ []
 route_column_items links demands (route.Carry k path) = Verbatim (codes "flow") ∷ Verbatim (demand_name demands k) ∷ path_items links path
 
+-- a column of a program that finds a certificate: what a link's price leaves of its cost, or a cut
 abbrev pub master_column_items : List Link → MasterColumn → List Item
 master_column_items links (master.LinkSlack e) = Verbatim (codes "link") ∷ Verbatim (link_name links e) ∷ []
 master_column_items links (master.Metric state lengths) = Verbatim (codes "cut") ∷ Whole state.0 ∷ numbers_items lengths
@@ -118,12 +123,16 @@ evidence_items links demands (Route state caps basis kind) =
 evidence_items links demands (Master basis kind) =
     Verbatim (codes "master") ∷ enclosed (flat_map (master_column_items links) basis) ++ wide_items links (master_column_items links) kind
 
+-- why there is no better bound
+abbrev pub cause_items : List Link → List Demand → Cause → List Item
+cause_items links demands (Wide evidence) = Verbatim (codes "wide") ∷ evidence_items links demands evidence
+cause_items links demands Cuts = Verbatim (codes "cuts") ∷ []
+
 -- a share with the routings within it, why there is no better bound, or that none was looked for
 abbrev pub quality_items : List Link → List Listed → List Demand → Quality → List Item
 quality_items links listed demands (Tight f) =
     Verbatim (codes "tight") ∷ Whole f.share.scale ∷ numbers_items f.share.units ++ routings_items links listed demands f.routings
-quality_items links listed demands (Loose (Wide evidence)) = Verbatim (codes "loose") ∷ Verbatim (codes "wide") ∷ evidence_items links demands evidence
-quality_items links listed demands (Loose Cuts) = Verbatim (codes "loose") ∷ Verbatim (codes "cuts") ∷ []
+quality_items links listed demands (Loose cause) = Verbatim (codes "loose") ∷ cause_items links demands cause
 quality_items links listed demands Unsolved = Verbatim (codes "unsolved") ∷ []
 
 -- ---- plans
@@ -149,29 +158,36 @@ certificate_line_items l = enclosed (Whole l.num ∷ spot_items l.spot l.cut ++ 
 abbrev pub certificate_items : Certificate → List Item
 certificate_items c = section (codes "CERTIFICATE") (Whole c.den ∷ flat_map certificate_line_items c.lines)
 
--- whose plan command it was, the how manieth of that caller, and for which version and position
+-- whose plan command it was, which of that caller's, and for which version and position
 abbrev pub head_items : ℕ → ℕ → ℕ → ℕ → List Item
 head_items caller serial version position =
     Verbatim (codes "caller") ∷ Whole caller ∷ Verbatim (codes "plan") ∷ Whole serial
     ∷ Verbatim (codes "version") ∷ Whole version ∷ Verbatim (codes "position") ∷ Whole position ∷ []
 
--- a plan after its head
+-- the cost, the bound, and the raw value of the certificate as a fraction
+abbrev pub costs_items : Plan → List Item
+costs_items p = Verbatim (codes "cost") ∷ Money p.cost ∷ Verbatim (codes "bound") ∷ Money p.bound ∷ Verbatim (codes "raw") ∷ Whole p.raw_num ∷ Whole p.raw_den ∷ []
+
+-- a plan after its head: its demands, its costs, its modules, its certificate, its routings, and how good its bound is
 abbrev pub plan_items : List (List ℕ) → List Link → List Listed → Plan → List Item
 plan_items nodes links listed p =
     section (codes "DEMANDS") (flat_map (demand_items nodes) p.demands)
-    ++ Verbatim (codes "cost") ∷ Money p.cost ∷ Verbatim (codes "bound") ∷ Money p.bound ∷ Verbatim (codes "raw") ∷ Whole p.raw_num ∷ Whole p.raw_den
-    ∷ section (codes "MODULES") (flat_map modules_items (zip links p.counts))
+    ++ costs_items p
+    ++ section (codes "MODULES") (flat_map modules_items (zip links p.counts))
     ++ certificate_items p.certificate
     ++ Verbatim (codes "ROUTES") ∷ routings_items links listed p.demands p.routings
     ++ quality_items links listed p.demands p.quality
+
+-- the state that separates a demand, by its number and name, and the demand
+abbrev pub separation_items : List Listed → StateId → List ℕ → List Item
+separation_items listed state demand = Verbatim (codes "state") ∷ Whole state.0 ∷ Verbatim (state_name listed state.0) ∷ Verbatim (codes "demand") ∷ Verbatim demand ∷ []
 
 -- what a plan command came to
 abbrev pub outcome_items : List (List ℕ) → List Link → List Listed → Outcome → List Item
 outcome_items nodes links listed (Planned caller serial plan) =
     section (codes "PLAN") (head_items caller serial plan.version plan.position ++ plan_items nodes links listed plan)
 outcome_items nodes links listed (Unsurvivable caller serial version position state demand) =
-    section (codes "UNSURVIVABLE") (head_items caller serial version position
-    ++ Verbatim (codes "state") ∷ Whole state.0 ∷ Verbatim (state_name listed state.0) ∷ Verbatim (codes "demand") ∷ Verbatim demand ∷ [])
+    section (codes "UNSURVIVABLE") (head_items caller serial version position ++ separation_items listed state demand)
 
 -- ---- the report
 

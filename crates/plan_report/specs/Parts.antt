@@ -1,5 +1,5 @@
 -- parts of texts: names, edits, and what stands between parentheses
-use Rattle.std.specs.Prelude.{ℕ, zero, suc, ◌+◌, ◌≤◌, ◌<◌, ◌^◌, List, [], ◌∷◌, ◌++◌, length, get_or, slice_get, codes}
+use Rattle.std.specs.Prelude.{ℕ, zero, suc, ◌≤◌, ◌<◌, ◌^◌, List, [], ◌∷◌, ◌++◌, length, get_or, slice_get, codes}
 use Rattle.std.specs.Option.{option_map_or}
 use Rattle.net_core.specs.declared.demand.Demand.{Demand}
 use Rattle.net_core.specs.declared.ids.LinkId.{LinkId}
@@ -8,7 +8,7 @@ use Rattle.net_core.specs.declared.journal.Edit.{Edit}
 use Rattle.net_core.specs.declared.journal.Edit.TheVariants.{Set, Add, Drop}
 use Rattle.net_core.specs.declared.network.Link.{Link}
 use Rattle.net_core.specs.declared.states.Listed.{Listed}
-use Rattle.text_kit.specs.Items.{Item, Verbatim, Whole, Money, Opening, Closing}
+use Rattle.text_kit.specs.Items.{Item, Verbatim, Money, Opening, Closing}
 
 -- ---- names
 

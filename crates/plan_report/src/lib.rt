@@ -1,4 +1,20 @@
 //! Reports of plans: what their text is made of, which ones are in form, and how they are written.
 #![tactic(auto)]
 
+mod certificates;
+mod evidence;
+mod journal;
+mod lists;
+mod names;
+mod outcomes;
+mod plans;
+mod pool;
+mod puts;
+mod routings;
+mod writer;
+
 pub use plan_types::{Outcome, Report};
+pub use writer::write_report;
+
+#[cfg(test)]
+mod tests;

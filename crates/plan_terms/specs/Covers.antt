@@ -1,7 +1,8 @@
 -- the cheapest modules of a link for a need
-use Rattle.std.specs.Prelude.{◌≡◌, ℕ, ◌-◌, ◌≤◌, List, Some, count_by, nat_lt, length, slice_get}
+use Rattle.std.specs.Prelude.{◌≡◌, ℕ, ◌-◌, ◌*◌, ◌≤◌, ◌⊎◌, List, Some, count_by, map, nat_lt, length, slice_get}
 use Rattle.net_core.specs.declared.network.Module.{Module}
 use Rattle.net_core.specs.declared.network.Link.{Link}
+use Rattle.plan_terms.specs.Bounds.{IsGreatestDivisor}
 use Rattle.plan_terms.specs.Capacities.{modules_capacity, modules_cost}
 
 -- counts of a link's modules that reach a need
@@ -13,13 +14,23 @@ pub record Reaches (modules : List Module) (need : ℕ) (counts : List ℕ) : Ty
 abbrev pub AreOfOneKind : List ℕ → Type 0
 AreOfOneKind counts = count_by (λ n. nat_lt 0 n) counts ≤ 1
 
--- the cost of a cover: the least that counts of one kind of module cost which reach the need
+-- the need is at most 100,000 steps of the greatest common divisor of the modules' capacities
+pub record IsFewSteps (modules : List Module) (need : ℕ) : Type 0 where
+  pub step : ℕ
+  pub divisor : IsGreatestDivisor (map (λ m. m.capacity) modules) step
+  pub few : need ≤ 100000 * step
+
+-- the counts that a cover is chosen from: those of any kinds of module where the need is few steps, else those of one kind
+abbrev pub MayCover : List Module → ℕ → List ℕ → Type 0
+MayCover modules need counts = IsFewSteps modules need ⊎ AreOfOneKind counts
+
+-- the cost of a cover: the least that such counts cost which reach the need
 pub record IsCoverCost (modules : List Module) (need cost : ℕ) : Type 0 where
   pub counts : List ℕ
-  pub kind : AreOfOneKind counts
+  pub may : MayCover modules need counts
   pub reaches : Reaches modules need counts
   pub paid : modules_cost modules counts ≡ cost
-  pub least : (others : List ℕ) → AreOfOneKind others → Reaches modules need others → cost ≤ modules_cost modules others
+  pub least : (others : List ℕ) → MayCover modules need others → Reaches modules need others → cost ≤ modules_cost modules others
 
 -- counts cover a need: they reach it at the cost of its cover
 pub record Covers (modules : List Module) (need : ℕ) (counts : List ℕ) : Type 0 where

@@ -1,9 +1,8 @@
 -- the best bound of the unit cuts
-use Rattle.std.proofs.Common.{◌≡◌, ℕ, zero, suc, ◌*◌, ◌^◌, ◌+◌, ◌-◌, ◌<◌, ◌≤◌, List, [], ◌∷◌, ⊎_elim, ◌⊎◌, All, Option, Some, None, get_or, length, replicate, refl, sym, ap, subst, ◌∙◌, slice_get, arith, inl, inr}
+use Rattle.std.proofs.Common.{◌≡◌, ℕ, zero, suc, ◌*◌, ◌^◌, ◌+◌, ◌-◌, ◌<◌, ◌≤◌, List, [], ⊎_elim, All, Some, None, get_or, length, replicate, refl, sym, ap, subst, ◌∙◌, slice_get, arith, inl, inr}
 use Rattle.std.proofs.lemmas.Bool.{cases_eq, cases_lt}
 use Rattle.std.proofs.lemmas.Grind.{get_or_default_zero}
 use Rattle.std.proofs.lemmas.Nat.Gcd.{dvd-zero}
-use Rattle.std.proofs.lemmas.Option.{slice_get_read}
 use Rattle.std.proofs.Math.Nat.{eq-one_of_dvd-one, mul-le-mul_left}
 use Rattle.net_core.specs.Cases.{Case, graph_in}
 use Rattle.net_core.specs.Graphs.{Graph}
@@ -12,7 +11,7 @@ use Rattle.net_core.specs.declared.network.Link.{Link}
 use Rattle.net_core.specs.declared.plan.CutLine.{CutLine}
 use Rattle.plan_terms.specs.Bounds.{IsBound, IsLowest}
 use Rattle.plan_terms.specs.Certificates.{IsCertificate, IsCut, fixed_along, raw_value}
-use Rattle.plan_terms.specs.Keeping.{AreZero, Keeps}
+use Rattle.plan_terms.specs.Keeping.{Keeps}
 use Rattle.plan_terms.specs.OwnBounds.{IsBestOwn, IsOwnBound}
 use Rattle.plan_terms.proofs.Bounds.{lowest_positive}
 use Rattle.plan_terms.proofs.Duality.{weak_duality}
@@ -21,7 +20,6 @@ use Rattle.metric_cut.specs.declared.certificate.OwnCertificate.{OwnCertificate}
 use Rattle.planner.specs.Bounded.{IsBounded, IsCertified, IsUnitBound, unit_lengths}
 use Rattle.planner.specs.inner.UnitCuts.{AreUnitCuts, HasCut, IsBare, IsBoundCut, IsBoundedBy, IsCertificateOf}
 use Rattle.planner.specs.declared.bounded.Bounded.{Bounded}
-use Rattle.planner.specs.declared.bounded.CertifiedCut.{CertifiedCut}
 
 -- where the raw value is 0, so is the bound
 pub bound_zero : (links : List Link) (num den bound : ℕ) → IsBound links num den bound → num ≡ 0 → bound ≡ 0

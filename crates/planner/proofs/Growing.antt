@@ -11,7 +11,8 @@ use Rattle.metric_cut.specs.Bounded.{HaveBound}
 use Rattle.metric_cut.specs.Cuts.{IsCutOf}
 use Rattle.metric_cut.specs.declared.cut.Cut.{Cut}
 use Rattle.planner.specs.Bounded.{unit_lengths}
-use Rattle.planner.specs.inner.UnitCuts.{AreUnitCuts, HasCut, IsBoundCut, IsLineOf, IsUnitCutOf}
+use Rattle.planner.specs.inner.Candidates.{IsLineOf}
+use Rattle.planner.specs.inner.UnitCuts.{AreUnitCuts, HasCut, IsBoundCut, IsUnitCutOf}
 
 -- an item of a list with one more is one of the list, or the last
 get_push : {X : Type 0} → (xs : List X) (x : X) (i : ℕ) (c : X) → slice_get (xs ++ x ∷ []) i ≡ Some c → ((i < length xs) × (slice_get xs i ≡ Some c)) ⊎ ((i ≡ length xs) × (x ≡ c))

@@ -1,3 +1,5 @@
+pub mod Answers
 pub mod Bounded
 pub mod Plans
+pub mod SoundPlans
 pub mod inner

@@ -3,8 +3,17 @@
 #![tactic(auto)]
 
 pub mod bounded;
+mod candidates;
+mod certified;
+pub mod on_board;
+mod openings;
 pub mod plan;
+mod sound;
 mod unit_cuts;
 
 pub use bounded::{Bounded, CertifiedCut};
+pub use on_board::plan_board;
 pub use plan::{FirstPlan, PlanAnswer, plan_instance};
+
+#[cfg(test)]
+mod tests;

@@ -1,23 +1,11 @@
 ghost use Rattle.std.specs.Prelude.{◌≡◌, ◌+◌, ◌<◌, ◌^◌, IfOk, OnOk, length};
-ghost use Rattle.net_core.specs.Demands.{AreDemands};
 ghost use Rattle.net_core.specs.Views.{case_of};
-ghost use Rattle.planner.specs.inner.UnitCuts.{AreUnitCuts, IsLineOf, IsUnitCutOf};
+ghost use Rattle.planner.specs.inner.UnitCuts.{AreUnitCuts, IsUnitCutOf};
 
+use crate::candidates::line_of;
 use metric_cut::{Cut, CutFault};
-use net_core::{Copied, CutLine, Demands, Instance, List, NoMemory, StateId};
+use net_core::{CutLine, Instance, List, NoMemory, StateId};
 use std::alloc::Global;
-
-/// The cut with its right side, without its distances.
-fn line_of(cut: &Cut, demands: &Demands) -> Result<CutLine, NoMemory>
-    requires { AreDemands cut.now.table.nodes demands.now }
-    ensures { IfOk result (IsLineOf cut.now demands.now) }
-{
-    Ok(CutLine {
-        state: cut.state(),
-        lengths: cut.lengths().copy()?,
-        right: cut.right(demands),
-    })
-}
 
 /// The cut of unit lengths in a state, and none where no link survives.
 fn unit_cut(alloc: Global, instance: &Instance, state: StateId) -> Result<Option<CutLine>, NoMemory>

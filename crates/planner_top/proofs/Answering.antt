@@ -1,13 +1,13 @@
 -- how what one step comes to is what the run comes to
-use Rattle.std.proofs.Common.{◌≡◌, ◌≢◌, ℕ, Bool, List, [], Option, Result, Ok, Err, inl, inr}
+use Rattle.std.proofs.Common.{◌≢◌, ℕ, Bool, List, [], Option, Result, Ok, Err, inl, inr}
 use Rattle.std.specs.Global.{Global}
 use Rattle.std.specs.Prelude.{String}
 use Rattle.net_core.specs.declared.demand.Demand.{Demand}
 use Rattle.net_core.specs.declared.network.Network.{Network}
 use Rattle.outside_io.specs.Outside.{Files}
 use Rattle.planner_top.specs.Commands.{Command, IsCommand, Plan, PlanWords, default}
-use Rattle.planner_top.specs.Inputs.{StopsAtFile, Fetched, HasModel, RefusesModelFile, SpellsNetwork}
-use Rattle.planner_top.specs.Run.{Ends, EndsCommand, StopsAtFailures}
+use Rattle.planner_top.specs.Inputs.{Fetched, HasModel, RefusesModelFile, SpellsNetwork, StopsAtFailures, StopsAtFile, StopsAtInputs, input_limit}
+use Rattle.planner_top.specs.Run.{Ends, EndsCommand}
 use Rattle.planner_top.specs.inner.Steps.{HasCause, Stops}
 use Rattle.planner_top.specs.declared.answer.Answer.{Answer}
 use Rattle.planner_top.specs.declared.answer.Stop.{Stop}
@@ -21,19 +21,23 @@ stop_map P Q stop.NoMemory f h = tt
 stop_map P Q stop.ReadFault f h = f ReadFault [] h
 stop_map P Q (stop.Told a) f h = f a.status a.text h
 
--- a model that ends the run ends the plan
-pub model_ends : (files : Option Files) (w : PlanWords) (net : Network) (demands : List Demand) (s : Stop) → Fetched files w.network SpellsNetwork (net, demands)
-    → Stops (λ status text. (w.model ≢ default) × StopsAtFile files w.model BadModel RefusesModelFile status text) s → Stops (EndsCommand files (Plan w)) s
-model_ends files w net demands s has ends =
-    stop_map (λ status text. (w.model ≢ default) × StopsAtFile files w.model BadModel RefusesModelFile status text) (EndsCommand files (Plan w)) s
-    (λ status text e. inr (net, demands, has, inl e)) ends
+-- a model that ends the run
+pub model_ends : (files : Option Files) (w : PlanWords) (net : Network) (demands : List Demand) (s : Stop) → Fetched files input_limit w.network SpellsNetwork (net, demands)
+    → Stops (λ status text. (w.model ≢ default) × StopsAtFile files input_limit w.model BadModel RefusesModelFile status text) s → Stops (StopsAtInputs files w) s
+model_ends files w net demands s has =
+    stop_map (λ status text. (w.model ≢ default) × StopsAtFile files input_limit w.model BadModel RefusesModelFile status text) (StopsAtInputs files w) s
+    (λ status text e. inr (net, demands, has, inl e))
 
--- a failure list that ends the run ends the plan
-pub failures_end : (files : Option Files) (w : PlanWords) (net : Network) (demands : List Demand) (reconfigure : Bool) (s : Stop) → Fetched files w.network SpellsNetwork (net, demands) → HasModel files w reconfigure
-    → Stops (StopsAtFailures files w net.links reconfigure) s → Stops (EndsCommand files (Plan w)) s
-failures_end files w net demands reconfigure s has model ends =
-    stop_map (StopsAtFailures files w net.links reconfigure) (EndsCommand files (Plan w)) s
-    (λ status text e. inr (net, demands, has, inr (reconfigure, model, inl e))) ends
+-- a failure list that ends the run
+pub failures_end : (files : Option Files) (w : PlanWords) (net : Network) (demands : List Demand) (reconfigure : Bool) (s : Stop) → Fetched files input_limit w.network SpellsNetwork (net, demands) → HasModel files w reconfigure
+    → Stops (StopsAtFailures files w net.links reconfigure) s → Stops (StopsAtInputs files w) s
+failures_end files w net demands reconfigure s has model =
+    stop_map (StopsAtFailures files w net.links reconfigure) (StopsAtInputs files w) s
+    (λ status text e. inr (net, demands, has, inr (reconfigure, model, e)))
+
+-- a file that ends the run ends the plan
+pub inputs_end : (files : Option Files) (w : PlanWords) (s : Stop) → Stops (StopsAtInputs files w) s → Stops (EndsCommand files (Plan w)) s
+inputs_end files w s = stop_map (StopsAtInputs files w) (EndsCommand files (Plan w)) s (λ status text e. inl e)
 
 -- what a command comes to is what its words come to
 pub command_ends : (words : List (String Global)) (files : Option Files) (c : Command) (r : Result Answer Stop) → IsCommand words c → HasCause (EndsCommand files c) r → HasCause (Ends words files) r

@@ -20,7 +20,8 @@ use Rattle.text_kit.specs.Answers.{AnswersAs, Fails}
 use Rattle.text_kit.specs.declared.refusal.Refusal.{Refusal}
 use Rattle.text_kit.specs.declared.refusal.Refusal.TheVariants.{Bad}
 use Rattle.planner_top.specs.Inputs.{RefusesFailureFile, RefusesModelFile, RefusesNetworkFile}
-use Rattle.planner_top.specs.Refusals.{failures_word, model_word, refusal_line}
+use Rattle.model_reader.specs.FaultWords.{failures_word, model_word}
+use Rattle.planner_top.specs.Refusals.{refusal_line}
 use Rattle.planner_top.specs.inner.Steps.{Says, Stops}
 use Rattle.planner_top.specs.declared.answer.Stop.{Stop}
 use Rattle.planner_top.specs.declared.status.Status.TheVariants.{BadFailures, BadModel, BadNetwork}

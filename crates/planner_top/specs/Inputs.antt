@@ -8,35 +8,36 @@ use Rattle.outside_io.specs.Outside.{Fetches, Files}
 use Rattle.outside_io.specs.declared.shelf.Fetch.TheVariants as fetch
 use Rattle.model_reader.specs.Failures as failures
 use Rattle.model_reader.specs.FailuresReading.{failures_of}
+use Rattle.model_reader.specs.FaultWords.{failures_word, model_word}
 use Rattle.model_reader.specs.Models as models
 use Rattle.model_reader.specs.ModelReading.{model_of}
 use Rattle.sndlib_reader.specs.Kinds.{kind_word}
 use Rattle.sndlib_reader.specs.Reading.{IsFirstFault}
 use Rattle.sndlib_reader.specs.Spelling as networks
 use Rattle.planner_top.specs.Commands.{PlanWords, default}
-use Rattle.planner_top.specs.Refusals.{Refuses, failures_word, model_word}
+use Rattle.planner_top.specs.Refusals.{Refuses, unused_line}
 use Rattle.planner_top.specs.declared.status.Status.{Status}
-use Rattle.planner_top.specs.declared.status.Status.TheVariants.{NoFile, ReadFault, TooLong}
+use Rattle.planner_top.specs.declared.status.Status.TheVariants.{BadFailures, BadModel, BadNetwork, NoFile, ReadFault, TooLong}
 
 -- an input file has at most 16 MiB
-abbrev pub limit : ℕ
-limit = 2 ^ 24
+abbrev pub input_limit : ℕ
+input_limit = 2 ^ 24
 
--- the file is fetched, and this holds of its bytes
-abbrev pub Fetched : {X : Type 0} → Option Files → List ℕ → (List ℕ → X → Type 0) → X → Type 0
-Fetched files name Holds x = (bytes : List ℕ) × Fetches files name limit fetch.Found bytes × Holds bytes x
+-- the file is fetched, with at most so many bytes, and this holds of its bytes
+abbrev pub Fetched : {X : Type 0} → Option Files → ℕ → List ℕ → (List ℕ → X → Type 0) → X → Type 0
+Fetched files limit name Holds x = (bytes : List ℕ) × Fetches files name limit fetch.Found bytes × Holds bytes x
 
 -- A file can't be fetched: it isn't there, or is too long, or reading failed.
-abbrev pub StopsAtFetch : Option Files → List ℕ → Status → List ℕ → Type 0
-StopsAtFetch files name status text =
+abbrev pub StopsAtFetch : Option Files → ℕ → List ℕ → Status → List ℕ → Type 0
+StopsAtFetch files limit name status text =
     ((status ≡ NoFile) × Fetches files name limit fetch.Missing [] × (text ≡ codes "no file " ++ name ++ 10 ∷ []))
     ⊎ ((status ≡ TooLong) × Fetches files name limit fetch.TooLong [] × (text ≡ codes "too long " ++ name ++ 10 ∷ []))
     ⊎ ((status ≡ ReadFault) × (text ≡ []))
 
 -- A file ends the run: it can't be fetched, or its bytes are refused with the status and the text.
-abbrev pub StopsAtFile : Option Files → List ℕ → Status → (List ℕ → List ℕ → Type 0) → Status → List ℕ → Type 0
-StopsAtFile files name bad Refused status text =
-    StopsAtFetch files name status text ⊎ ((status ≡ bad) × Fetched files name Refused text)
+abbrev pub StopsAtFile : Option Files → ℕ → List ℕ → Status → (List ℕ → List ℕ → Type 0) → Status → List ℕ → Type 0
+StopsAtFile files limit name bad Refused status text =
+    StopsAtFetch files limit name status text ⊎ ((status ≡ bad) × Fetched files limit name Refused text)
 
 -- the bytes spell this network and these demands
 abbrev pub SpellsNetwork : List ℕ → Network × List Demand → Type 0
@@ -56,13 +57,35 @@ RefusesFailureFile links =
 -- Whether the model asks for reconfiguration: by its file; without one, where a failure file is named.
 abbrev pub HasModel : Option Files → PlanWords → Bool → Type 0
 HasModel files w reconfigure =
-    ((w.model ≢ default) × Fetched files w.model models.SpellsModel (record { reconfigure = reconfigure }))
+    ((w.model ≢ default) × Fetched files input_limit w.model models.SpellsModel (record { reconfigure = reconfigure }))
     ⊎ ((w.model ≡ default) × (w.failures ≢ default) × (reconfigure ≡ true))
     ⊎ ((w.model ≡ default) × (w.failures ≡ default) × (reconfigure ≡ false))
 
 -- The listed states: those of the failure file; without one, each link alone with reconfiguration, and none without.
 abbrev pub HasStates : Option Files → PlanWords → List Link → Bool → List Listed → Type 0
 HasStates files w links reconfigure listed =
-    ((w.failures ≢ default) × (reconfigure ≡ true) × Fetched files w.failures (failures.SpellsFailures links) listed)
+    ((w.failures ≢ default) × (reconfigure ≡ true) × Fetched files input_limit w.failures (failures.SpellsFailures links) listed)
     ⊎ ((w.failures ≡ default) × (reconfigure ≡ true) × (listed ≡ failures.single_states links))
     ⊎ ((w.failures ≡ default) × (reconfigure ≡ false) × (listed ≡ []))
+
+-- A failure list ends the run: it is named though the model has no survivability, or its file is not read.
+abbrev pub StopsAtFailures : Option Files → PlanWords → List Link → Bool → Status → List ℕ → Type 0
+StopsAtFailures files w links reconfigure status text =
+    (w.failures ≢ default)
+    × (((reconfigure ≡ false) × (status ≡ BadFailures) × (text ≡ unused_line))
+    ⊎ ((reconfigure ≡ true) × StopsAtFile files input_limit w.failures BadFailures (RefusesFailureFile links) status text))
+
+-- One of the files ends the run. They are read in their order: the network's, the model's, the failure list's.
+abbrev pub StopsAtInputs : Option Files → PlanWords → Status → List ℕ → Type 0
+StopsAtInputs files w status text =
+    StopsAtFile files input_limit w.network BadNetwork RefusesNetworkFile status text
+    ⊎ ((net : Network) × (demands : List Demand)
+    × Fetched files input_limit w.network SpellsNetwork (net, demands)
+    × (((w.model ≢ default) × StopsAtFile files input_limit w.model BadModel RefusesModelFile status text)
+    ⊎ ((reconfigure : Bool) × HasModel files w reconfigure × StopsAtFailures files w net.links reconfigure status text)))
+
+-- the files spell this network, these demands and these listed states
+abbrev pub HasInputs : Option Files → PlanWords → Network → List Demand → List Listed → Type 0
+HasInputs files w net demands listed =
+    Fetched files input_limit w.network SpellsNetwork (net, demands)
+    × ((reconfigure : Bool) × HasModel files w reconfigure × HasStates files w net.links reconfigure listed)

@@ -1,9 +1,8 @@
 -- what a run comes to: its status, and the text that it writes
-use Rattle.std.specs.Prelude.{◌≡◌, ◌≢◌, ℕ, zero, suc, ◌≤◌, ◌⊎◌, Bool, true, false, List, [], ◌∷◌, ◌++◌, Option, String, codes, decimal, slice_get}
+use Rattle.std.specs.Prelude.{◌≡◌, ◌≢◌, ℕ, zero, suc, ◌≤◌, ◌⊎◌, List, [], ◌∷◌, ◌++◌, Option, String, codes, decimal, slice_get}
 use Rattle.std.specs.Global.{Global}
 use Rattle.std.specs.Option.{option_map_or}
 use Rattle.net_core.specs.declared.demand.Demand.{Demand}
-use Rattle.net_core.specs.declared.network.Link.{Link}
 use Rattle.net_core.specs.declared.network.Network.{Network}
 use Rattle.net_core.specs.declared.states.Listed.{Listed}
 use Rattle.net_core.specs.Cases.{Case}
@@ -11,9 +10,8 @@ use Rattle.outside_io.specs.Outside.{Files, Rose, Takes, TakesPrefix}
 use Rattle.plan_terms.specs.Separations.{IsFirstSeparation}
 use Rattle.planner.specs.Plans.{IsFirstPlan}
 use Rattle.planner.specs.declared.plan.FirstPlan.{FirstPlan}
-use Rattle.planner_top.specs.Commands.{Command, IsCommand, Plan, PlanWords, default, usage}
-use Rattle.planner_top.specs.Inputs.{StopsAtFile, Fetched, HasModel, HasStates, RefusesFailureFile, RefusesModelFile, RefusesNetworkFile, SpellsNetwork}
-use Rattle.planner_top.specs.Refusals.{unused_line}
+use Rattle.planner_top.specs.Commands.{Command, IsCommand, Plan, usage}
+use Rattle.planner_top.specs.Inputs.{HasInputs, StopsAtInputs}
 use Rattle.planner_top.specs.Texts.{short_form}
 use Rattle.planner_top.specs.declared.status.Status.{Status}
 use Rattle.planner_top.specs.declared.status.Status.TheVariants.{Done, BadWords, NoFile, ReadFault, WriteFault, BadNetwork, BadModel, BadFailures, BadScript, NotSurvivable, Rejected, TooLong, BadReport, NoMemory}
@@ -57,34 +55,13 @@ EndsCase p status text =
     ((status ≡ Done) × IsPlanText p text)
     ⊎ ((status ≡ NotSurvivable) × NamesFirstSeparation p text)
 
--- A failure list ends the run: it is named though the model has no survivability, or its file is not read.
-abbrev pub StopsAtFailures : Option Files → PlanWords → List Link → Bool → Status → List ℕ → Type 0
-StopsAtFailures files w links reconfigure status text =
-    (w.failures ≢ default)
-    × (((reconfigure ≡ false) × (status ≡ BadFailures) × (text ≡ unused_line))
-    ⊎ ((reconfigure ≡ true) × StopsAtFile files w.failures BadFailures (RefusesFailureFile links) status text))
-
--- what a network and a model come to: the states are read, and the plan is made
-abbrev pub EndsModel : Option Files → PlanWords → Network → List Demand → Bool → Status → List ℕ → Type 0
-EndsModel files w net demands reconfigure status text =
-    StopsAtFailures files w net.links reconfigure status text
-    ⊎ ((listed : List Listed)
-    × HasStates files w net.links reconfigure listed
-    × EndsCase (record { nodes = net.nodes; links = net.links; listed = listed; demands = demands }) status text)
-
--- what a network comes to: the model is read next
-abbrev pub EndsNetwork : Option Files → PlanWords → Network → List Demand → Status → List ℕ → Type 0
-EndsNetwork files w net demands status text =
-    ((w.model ≢ default) × StopsAtFile files w.model BadModel RefusesModelFile status text)
-    ⊎ ((reconfigure : Bool) × HasModel files w reconfigure × EndsModel files w net demands reconfigure status text)
-
--- What a command comes to. A plan's files are read in their order, and the first that is not read ends the run.
+-- What a command comes to: one of its files ends the run, or they are all read, and the plan is made.
 abbrev pub EndsCommand : Option Files → Command → Status → List ℕ → Type 0
 EndsCommand files (Plan w) status text =
-    StopsAtFile files w.network BadNetwork RefusesNetworkFile status text
-    ⊎ ((net : Network) × (demands : List Demand)
-    × Fetched files w.network SpellsNetwork (net, demands)
-    × EndsNetwork files w net demands status text)
+    StopsAtInputs files w status text
+    ⊎ ((net : Network) × (demands : List Demand) × (listed : List Listed)
+    × HasInputs files w net demands listed
+    × EndsCase (record { nodes = net.nodes; links = net.links; listed = listed; demands = demands }) status text)
 
 -- What a run comes to, and its whole text: memory runs out, which needs no cause, or the words are no command, or they are one.
 abbrev pub Ends : List (String Global) → Option Files → Status → List ℕ → Type 0

@@ -6,16 +6,14 @@ ghost use Rattle.net_core.specs.Demands.{AreDemands};
 ghost use Rattle.outside_io.specs.Outside.{Fetches};
 ghost use Rattle.model_reader.specs.Failures as failures;
 ghost use Rattle.model_reader.specs.Models as models;
-ghost use Rattle.planner_top.specs.Commands as commands;
 ghost use Rattle.planner_top.specs.Commands.{default};
-ghost use Rattle.planner_top.specs.Inputs.{StopsAtFetch, StopsAtFile, Fetched, HasModel, HasStates, RefusesFailureFile, RefusesModelFile, RefusesNetworkFile, SpellsNetwork, limit};
-ghost use Rattle.planner_top.specs.Run.{EndsCommand, StopsAtFailures, KeepsShelf};
-ghost use Rattle.planner_top.specs.inner.Steps.{HasInputs, Stops, named};
+ghost use Rattle.planner_top.specs.Inputs.{Fetched, HasInputs, HasModel, HasStates, RefusesFailureFile, RefusesModelFile, RefusesNetworkFile, SpellsNetwork, StopsAtFailures, StopsAtFetch, StopsAtFile, StopsAtInputs, input_limit};
+ghost use Rattle.planner_top.specs.Run.{KeepsShelf};
+ghost use Rattle.planner_top.specs.inner.Steps.{Stops, named};
 
 use crate::answer::Stop;
 use crate::command::{DEFAULT, PlanFiles};
-use crate::fault_word::UnusedFailures;
-use crate::refusal::{not_fetched, refused};
+use crate::refusal::{UnusedFailures, not_fetched, refused};
 use crate::status::Status;
 use model_reader::{
     FailuresRefusal, ModelRefusal, only_none, read_failures, read_model, single_links,
@@ -26,16 +24,16 @@ use sndlib_reader::{ReadRefusal, read_network};
 use std::alloc::Global;
 
 /// How many bytes an input file may have.
-const LIMIT: u64 = 1 << 24;
+const INPUT_LIMIT: u64 = 1 << 24;
 
-/// The content of a file.
-fn fetch_file<S: Shelf>(alloc: Global, name: &str, shelf: &mut S) -> Result<Bytes, Stop>
+/// The content of a file of at most so many bytes.
+fn fetch_file<S: Shelf>(alloc: Global, limit: u64, name: &str, shelf: &mut S) -> Result<Bytes, Stop>
     ensures found { IfOk result (λ bytes. Fetches (S.files shelf.old) name.now limit Fetch.Found bytes) }
-    ensures ends { IfErr result (Stops (StopsAtFetch (S.files shelf.old) name.now)) }
+    ensures ends { IfErr result (Stops (StopsAtFetch (S.files shelf.old) limit name.now)) }
     ensures shelf { KeepsShelf S.files S.faults (IsErrOf result Stop.ReadFault) shelf.old shelf.new }
 {
     let mut bytes = List::new(alloc);
-    match shelf.fetch(name, LIMIT, &mut bytes) {
+    match shelf.fetch(name, limit, &mut bytes) {
         Fetch::Found => Ok(bytes),
         Fetch::Missing => Err(not_fetched(alloc, Status::NoFile, b"no file ", name)),
         Fetch::TooLong => Err(not_fetched(alloc, Status::TooLong, b"too long ", name)),
@@ -93,25 +91,25 @@ fn load_network<S: Shelf>(
     files: &PlanFiles,
     shelf: &mut S,
 ) -> Result<(Network, Demands), Stop>
-    ensures has { IfOk result (Fetched (S.files shelf.old) files.now.network.now SpellsNetwork) }
+    ensures has { IfOk result (Fetched (S.files shelf.old) input_limit files.now.network.now SpellsNetwork) }
     ensures belong { IfOk result (λ r. AreDemands (length r.0.nodes) r.1) }
-    ensures ends { IfErr result (Stops (StopsAtFile (S.files shelf.old) files.now.network.now Status.BadNetwork RefusesNetworkFile)) }
+    ensures ends { IfErr result (Stops (StopsAtFile (S.files shelf.old) input_limit files.now.network.now Status.BadNetwork RefusesNetworkFile)) }
     ensures shelf { KeepsShelf S.files S.faults (IsErrOf result Stop.ReadFault) shelf.old shelf.new }
 {
-    let bytes = fetch_file(alloc, files.network, shelf)?;
+    let bytes = fetch_file(alloc, INPUT_LIMIT, files.network, shelf)?;
     network_of(alloc, bytes.items())
 }
 
 /// Whether the model asks for reconfiguration. Without a file, a failure file asks for it.
 fn load_model<S: Shelf>(alloc: Global, files: &PlanFiles, shelf: &mut S) -> Result<bool, Stop>
     ensures has { IfOk result (HasModel (S.files shelf.old) (named files.now)) }
-    ensures ends { IfErr result (Stops (λ s text. (files.now.model.now ≢ default) × StopsAtFile (S.files shelf.old) files.now.model.now Status.BadModel RefusesModelFile s text)) }
+    ensures ends { IfErr result (Stops (λ s text. (files.now.model.now ≢ default) × StopsAtFile (S.files shelf.old) input_limit files.now.model.now Status.BadModel RefusesModelFile s text)) }
     ensures shelf { KeepsShelf S.files S.faults (IsErrOf result Stop.ReadFault) shelf.old shelf.new }
 {
     if files.model == DEFAULT {
         return Ok(files.failures != DEFAULT);
     }
-    let bytes = fetch_file(alloc, files.model, shelf)?;
+    let bytes = fetch_file(alloc, INPUT_LIMIT, files.model, shelf)?;
     model_of(alloc, bytes.items())
 }
 
@@ -134,11 +132,11 @@ fn load_failures<S: Shelf>(
     net: &Network,
     shelf: &mut S,
 ) -> Result<States, Stop>
-    ensures has { IfOk result (λ r. Fetched (S.files shelf.old) files.now.failures.now (failures.SpellsFailures net.now.links) r.listed) }
-    ensures ends { IfErr result (Stops (StopsAtFile (S.files shelf.old) files.now.failures.now Status.BadFailures (RefusesFailureFile net.now.links))) }
+    ensures has { IfOk result (λ r. Fetched (S.files shelf.old) input_limit files.now.failures.now (failures.SpellsFailures net.now.links) r.listed) }
+    ensures ends { IfErr result (Stops (StopsAtFile (S.files shelf.old) input_limit files.now.failures.now Status.BadFailures (RefusesFailureFile net.now.links))) }
     ensures shelf { KeepsShelf S.files S.faults (IsErrOf result Stop.ReadFault) shelf.old shelf.new }
 {
-    let bytes = fetch_file(alloc, files.failures, shelf)?;
+    let bytes = fetch_file(alloc, INPUT_LIMIT, files.failures, shelf)?;
     states_of(alloc, net, bytes.items())
 }
 
@@ -170,7 +168,7 @@ pub fn load_problem<S: Shelf>(
     shelf: &mut S,
 ) -> Result<Problem, Stop>
     ensures has { IfOk result (λ p. HasInputs (S.files shelf.old) (named files.now) p.net p.demands p.states.listed) }
-    ensures ends { IfErr result (Stops (EndsCommand (S.files shelf.old) (commands.Plan (named files.now)))) }
+    ensures ends { IfErr result (Stops (StopsAtInputs (S.files shelf.old) (named files.now))) }
     ensures shelf { KeepsShelf S.files S.faults (IsErrOf result Stop.ReadFault) shelf.old shelf.new }
 {
     let (net, demands) = load_network(alloc, files, shelf)?;

@@ -4,7 +4,6 @@
 mod answer;
 mod bound_text;
 mod command;
-mod fault_word;
 mod inputs;
 mod output;
 mod plan_text;

@@ -3,11 +3,25 @@ ghost use Rattle.planner_top.specs.Refusals.{refusal_line};
 ghost use Rattle.planner_top.specs.inner.Steps.{Says, Stops};
 
 use crate::answer::{Answer, Stop};
-use crate::fault_word::FaultWord;
 use crate::status::Status;
 use net_core::{Bytes, List, NoMemory};
 use std::alloc::Global;
+use text_kit::FaultWord;
 use text_kit::write::put_decimal;
+
+/// A failure list is named beside a model without survivability.
+#[derive(Clone, Copy)]
+pub struct UnusedFailures;
+
+impl FaultWord for UnusedFailures {
+    ghost use Rattle.std.specs.Prelude.{codes};
+
+    ghost word = { λ _. codes "unused" };
+
+    fn put_word(&self, text: &mut Bytes) -> Result<(), NoMemory> {
+        text.append(b"unused")
+    }
+}
 
 /// The end of a run with this text, if there was memory for it.
 fn told(status: Status, text: Result<Bytes, NoMemory>) -> Stop

@@ -40,7 +40,7 @@ all_met (suc q) f g low e k l =
     (λ g'. let at : q ≡ k = omega (arith, g', l) in subst (λ i. f i ≡ g i) at (omega (arith, rest, top, e)))
     (cases_lt k q)
 
-not_named : (n e : ℕ) (es : List LinkId) → n ≤ e → AllByRecursion (λ x. x.0 < n) es → names_link e es ≡ false
+pub not_named : (n e : ℕ) (es : List LinkId) → n ≤ e → AllByRecursion (λ x. x.0 < n) es → names_link e es ≡ false
 not_named n e [] le all = refl
 not_named n e (x ∷ xs) le all = ap (λ b. b || names_link e xs) (ne_eqb x.0 e (λ z. omega (arith, z, le, all.0))) ∙ not_named n e xs le all.1
 

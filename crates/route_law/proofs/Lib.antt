@@ -2,7 +2,10 @@ pub mod Carrying
 pub mod Kept
 pub mod LinkPrices
 pub mod Lowest
+pub mod Meeting
 pub mod Packing
 pub mod PathPrices
 pub mod Pushed
 pub mod Rows
+pub mod Slacks
+pub mod SomePrices

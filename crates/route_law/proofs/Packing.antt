@@ -79,7 +79,7 @@ module _ (g : Graph) where
       (cases_lt j (length g.links)))
       (cases_lt i (length g.links))
 
-  no_slack : (place : ℕ) (path : List LinkId) (k : ℕ) → Carry place path ≡ route_slack g k → ⊥
+  pub no_slack : (place : ℕ) (path : List LinkId) (k : ℕ) → Carry place path ≡ route_slack g k → ⊥
   no_slack place path k = beside_each (λ name. Carry place path ≡ name → ⊥) (length g.links) (λ e. LinkSlack (record { 0 = e })) (λ i. DemandSlack i) k (λ l e. cc e) (λ l e. cc e)
 
   narrow_entry : (place : ℕ) (path : List LinkId) (k : ℕ) → (pos 0 ≤ℤ path_entry g place path k) × IsNarrow (path_entry g place path k)
@@ -99,10 +99,14 @@ module _ (g : Graph) where
         let paths : is.path ≡ other.path = cc name in
         (is.gain ∙ sym other.gain, λ k l. is.entry k l ∙ (ap (λ p. path_entry g is.place p k) paths ∙ (ap (λ i. path_entry g i other.path k) places ∙ sym (other.entry k l))))
 
-    pub route_packing : ((e : ℕ) → slice_index caps.nums e < 2 ^ 62) → ((k : ℕ) → scaled_need demands caps k < 2 ^ 62)
+    -- no bound is negative
+    pub bound_nonneg : (k : ℕ) → pos 0 ≤ℤ route_bound g demands caps k
+    bound_nonneg k = beside_each (λ x. pos 0 ≤ℤ x) (length g.links) (λ e. pos (slice_index caps.nums e)) (λ i. pos (scaled_need demands caps i)) k (λ h. omega (arith, ints)) (λ h. omega (arith, ints))
+
+    pub route_packing : ((k : ℕ) → k < route_rows g demands → IsNarrow (route_bound g demands caps k))
         → IsPacking (route_rows g demands) (route_bound g demands caps) (IsRouteColumn g demands)
-    route_packing small_nums small_needs = program_packing (route_rows g demands) (route_bound g demands caps) (route_slack g) (IsCarrying g demands)
-        (λ k l. beside_each (λ x. (pos 0 ≤ℤ x) × IsNarrow x) (length g.links) (λ e. pos (slice_index caps.nums e)) (λ i. pos (scaled_need demands caps i)) k (λ h. (omega (arith, ints), small_nums k)) (λ h. (omega (arith, ints), small_needs (k - length g.links))))
+    route_packing narrow = program_packing (route_rows g demands) (route_bound g demands caps) (route_slack g) (IsCarrying g demands)
+        (λ k l. (bound_nonneg k, narrow k l))
         (λ c is. subst IsNarrow (sym is.gain) (omega arith))
         (λ c is k l. subst (λ x. (pos 0 ≤ℤ x) × IsNarrow x) (sym (is.entry k l)) (narrow_entry is.place is.path k))
         (λ c is. (length g.links + is.place, omega (arith, slice_get_within demands is.place is.demand is.at), subst (λ x. pos 0 <ℤ x) (sym (own_row c is)) (omega (arith, ints))))

@@ -11,12 +11,15 @@ use Rattle.text_kit.specs.Files.{IsNotTooEarly, body}
 use Rattle.text_kit.specs.Items.{AreBehind, Item, Verbatim, Whole, Money, Opening, Closing}
 use Rattle.text_kit.specs.Reading.{word_at, TheEnd, no_fault}
 use Rattle.text_kit.specs.declared.refusal.Refusal.{Refusal}
+use Rattle.text_kit.specs.Names.{any_name}
+use Rattle.text_kit.proofs.Amounts.{lawful_amount}
+use Rattle.text_kit.proofs.NameLaws.{lawful_any_name}
 use Rattle.text_kit.proofs.Behind.{all_behind, behind_all, behind_as, behind_both}
 use Rattle.text_kit.proofs.Files.{answer_found, answer_only, answer_first, file_read}
 use Rattle.text_kit.proofs.Lawful.{AnyText, IsEnd, Lawful, behind_few, few_behind, lawful_as, lawful_close, lawful_give, lawful_list, lawful_open, lawful_then, lawful_word}
 use Rattle.text_kit.proofs.Online.{IsOnline, TakesSome, online_close, online_give, online_list, online_open, online_then, online_word, takes_some}
 use Rattle.session_script.specs.declared.fault.ScriptKind.{ScriptKind}
-use Rattle.session_script.specs.declared.fault.ScriptKind.TheVariants.{Header, Token, Ended}
+use Rattle.session_script.specs.declared.fault.ScriptKind.TheVariants.{Header, Token, Ended, LimitName, Number}
 use Rattle.session_script.specs.declared.script.Act.{Act}
 use Rattle.session_script.specs.declared.script.Act.TheVariants.{Change, Plan}
 use Rattle.session_script.specs.declared.script.Command.{Command}
@@ -24,8 +27,8 @@ use Rattle.session_script.specs.declared.script.Script.{Script}
 use Rattle.session_script.specs.declared.script.Verb.{Verb}
 use Rattle.session_script.specs.declared.script.Verb.TheVariants as verbs
 use Rattle.session_script.specs.Scripts.{IsActInForm, IsCommandInForm, IsScript, SpellsScript, act_items, command_items, is_plan, script_header, script_of_commands}
-use Rattle.session_script.specs.ScriptReading.{act_at, begun_command, caller_of, command_at, commands_at, name_in_script, need_in_script, script_of, verb_behind}
-use Rattle.session_script.proofs.ScriptWords.{HasRoom, IsCallerNumber, begun_again, begun_takes, caller_again, caller_takes, name_again, name_takes, need_again, need_takes, verb_again, verb_takes, verb_word}
+use Rattle.session_script.specs.ScriptReading.{act_at, begun_command, caller_of, command_at, commands_at, need_in_script, script_of, verb_behind}
+use Rattle.session_script.proofs.ScriptWords.{HasRoom, IsCallerNumber, begun_again, begun_takes, caller_again, caller_takes, verb_again, verb_takes, verb_word}
 
 -- ---- words
 
@@ -38,11 +41,11 @@ caller_lawful = lawful_word Token Ended caller_of (λ n. Whole n) IsCallerNumber
 verb_lawful : (sofar : List Command) → Lawful (word_at Token Ended (verb_behind sofar)) (λ v. Verbatim (verb_word v) ∷ []) (HasRoom sofar) AnyText
 verb_lawful sofar = lawful_word Token Ended (verb_behind sofar) (λ v. Verbatim (verb_word v)) (HasRoom sofar) (λ v. tt) (verb_takes sofar) (verb_again sofar)
 
-name_lawful : Lawful (word_at Token Ended name_in_script) (λ n. Verbatim n ∷ []) (λ n. length n ≤ 255) AnyText
-name_lawful = lawful_word Token Ended name_in_script (λ n. Verbatim n) (λ n. length n ≤ 255) (λ n. tt) name_takes name_again
+name_lawful : Lawful (word_at Token Ended (any_name LimitName)) (λ n. Verbatim n ∷ []) (λ n. length n ≤ 255) AnyText
+name_lawful = lawful_any_name Token Ended LimitName
 
 need_lawful : Lawful (word_at Token Ended need_in_script) (λ n. Money n ∷ []) (λ n. n < 2 ^ 40) AnyText
-need_lawful = lawful_word Token Ended need_in_script (λ n. Money n) (λ n. n < 2 ^ 40) (λ n. tt) need_takes (λ w n is same. need_again w n is same)
+need_lawful = lawful_amount Token Ended Number
 
 -- ---- acts
 
@@ -226,19 +229,19 @@ commands_lawful = lawful_as (commands_at []) _ (λ cs. flat_map command_items cs
 act_online : (v : Verb) → IsOnline (act_at v)
 unfolding act_at
 act_online verbs.Set =
-    online_then _ _ (online_word Token Ended name_in_script) (λ name.
+    online_then _ _ (online_word Token Ended (any_name LimitName)) (λ name.
     online_then _ _ (online_word Token Ended need_in_script) (λ need.
     online_give (Change (edits.Set name need))))
 act_online verbs.Add =
-    online_then _ _ (online_word Token Ended name_in_script) (λ name.
+    online_then _ _ (online_word Token Ended (any_name LimitName)) (λ name.
     online_then _ _ (online_open Token Ended) (λ o.
-    online_then _ _ (online_word Token Ended name_in_script) (λ from.
-    online_then _ _ (online_word Token Ended name_in_script) (λ to.
+    online_then _ _ (online_word Token Ended (any_name LimitName)) (λ from.
+    online_then _ _ (online_word Token Ended (any_name LimitName)) (λ to.
     online_then _ _ (online_close Token Ended) (λ c.
     online_then _ _ (online_word Token Ended need_in_script) (λ need.
     online_give (Change (edits.Add name from to need))))))))
 act_online verbs.Drop =
-    online_then _ _ (online_word Token Ended name_in_script) (λ name.
+    online_then _ _ (online_word Token Ended (any_name LimitName)) (λ name.
     online_give (Change (edits.Drop name)))
 act_online verbs.Plan = online_give Plan
 

@@ -1,33 +1,19 @@
 -- What a word of a script says, and which words say it.
-use Rattle.std.proofs.Common.{◌≡◌, ℕ, ◌^◌, ◌<◌, ◌≤◌, ◌&&◌, Bool, true, false, cond, not, nat_lt, List, length, Option, None, Some, Result, Ok, Err, refl, ap, subst, ◌∙◌, arith, count_by}
+use Rattle.std.proofs.Common.{◌≡◌, ℕ, ◌<◌, ◌≤◌, ◌&&◌, Bool, true, false, cond, nat_lt, List, length, Result, Ok, Err, refl, ap, subst, ◌∙◌, arith, count_by}
 use Rattle.std.specs.Prelude.{codes}
-use Rattle.std.proofs.lemmas.Bool.{ltb-true, ltb-false, le-ltb, lt-ltb}
+use Rattle.std.proofs.lemmas.Bool.{ltb-true, lt-ltb}
 use Rattle.net_core.specs.Tests.{are_same}
-use Rattle.snd_tokens.specs.declared.amount.NumberFault.{NumberFault}
-use Rattle.snd_tokens.specs.declared.amount.NumberFault.TheVariants.{NotANumber, TooFine, TooLarge}
 use Rattle.snd_tokens.specs.declared.whole_number.WholeFault.{WholeFault}
-use Rattle.snd_tokens.specs.Amounts.{amount_of, money_of, decimal_below, is_coarse, is_decimal, units}
 use Rattle.snd_tokens.specs.Wholes.{whole_of}
-use Rattle.text_kit.proofs.Lawful.{same_is, sound_ok}
+use Rattle.text_kit.proofs.Lawful.{same_is}
+use Rattle.text_kit.proofs.Outcomes.{if_ok, ok_is}
 use Rattle.session_script.specs.declared.fault.ScriptKind.{ScriptKind}
-use Rattle.session_script.specs.declared.fault.ScriptKind.TheVariants.{Token, Caller, LimitName, LimitCommands, LimitPlans}
+use Rattle.session_script.specs.declared.fault.ScriptKind.TheVariants.{Token, Caller, LimitCommands, LimitPlans}
 use Rattle.session_script.specs.declared.script.Command.{Command}
 use Rattle.session_script.specs.declared.script.Verb.{Verb}
 use Rattle.session_script.specs.declared.script.Verb.TheVariants as verbs
 use Rattle.session_script.specs.Scripts.{is_plan}
-use Rattle.session_script.specs.ScriptReading.{begun_command, caller_within, caller_of, verb_of, verb_within, verb_behind, long_name_fault, name_in_script, need_or_fault, need_in_script}
-
--- a test that had to fail, and one that had to pass
-unless_ok : {A E : Type 0} (b : Bool) (d : E) (r : Result A E) (y : A) → cond b (Err d) r ≡ Ok y → (b ≡ false) × (r ≡ Ok y)
-unless_ok true d r y e = absurd cc
-unless_ok false d r y e = (refl, e)
-
-if_ok : {A E : Type 0} (b : Bool) (d : E) (r : Result A E) (y : A) → cond b r (Err d) ≡ Ok y → (b ≡ true) × (r ≡ Ok y)
-if_ok true d r y e = (refl, e)
-if_ok false d r y e = absurd cc
-
-ok_is : {A E : Type 0} (x y : A) → (let r : Result A E = Ok x in r ≡ Ok y) → x ≡ y
-ok_is x y e = cc
+use Rattle.session_script.specs.ScriptReading.{begun_command, caller_within, caller_of, verb_of, verb_within, verb_behind}
 
 -- ---- the word of a command
 
@@ -124,61 +110,3 @@ verb_takes sofar w v e = let r = room_takes sofar (verb_of w) v e in (r.0, word_
 pub verb_again : (sofar : List Command) (w : List ℕ) (v : Verb) → HasRoom sofar v → w ≡ verb_word v → verb_behind sofar w ≡ Ok v
 verb_again sofar w v room same =
     ap (verb_behind sofar) same ∙ (ap (verb_within (nat_lt (count_by is_plan sofar) 64)) (word_again v) ∙ room_again sofar v room)
-
--- ---- names
-
-long_none : (long : Bool) → (let o : Option ScriptKind = cond long (Some LimitName) None in o ≡ None) → long ≡ false
-long_none true e = absurd cc
-long_none false e = refl
-
-pub name_takes : (w n : List ℕ) → name_in_script w ≡ Ok n → (length n ≤ 255) × (w ≡ n)
-name_takes w n e =
-    let s = sound_ok w n (long_name_fault w) e in
-    (subst (λ (v : List ℕ). length v ≤ 255) s.1 (ltb-false 255 (length w) (long_none (nat_lt 255 (length w)) s.0)), s.1)
-
-pub name_again : (w n : List ℕ) → length n ≤ 255 → w ≡ n → name_in_script w ≡ Ok n
-name_again w n short same = ap name_in_script same ∙ rw (le-ltb 255 (length n) short) refl
-
--- ---- needs
-
-need_read : (r : Result ℕ NumberFault) (n : ℕ) → need_or_fault r ≡ Ok n → r ≡ Ok n
-need_read (Ok k) n e = ap (λ (i : ℕ). Ok i) (ok_is {E = ScriptKind} k n e)
-need_read (Err f) n e = absurd cc
-
--- a number that was read: its word is a decimal without digits that are too fine, and it is below the limit
-record IsBelow (limit : ℕ) (w : List ℕ) (n : ℕ) : Type 0 where
-  pub decimal : is_decimal w ≡ true
-  pub coarse : is_coarse 3 w ≡ true
-  pub value : units 3 w ≡ n
-  pub below : n < limit
-
-not_false : (b : Bool) → not b ≡ false → b ≡ true
-not_false true e = refl
-not_false false e = absurd cc
-
-below_takes : (limit : ℕ) (w : List ℕ) (n : ℕ) → decimal_below 3 limit w ≡ Ok n → IsBelow limit w n
-below_takes limit w n e =
-    let a = unless_ok (not (is_decimal w)) NotANumber (cond (not (is_coarse 3 w)) (Err TooFine) (cond (nat_lt (units 3 w) limit) (Ok (units 3 w)) (Err TooLarge))) n e in
-    let b = unless_ok (not (is_coarse 3 w)) TooFine (cond (nat_lt (units 3 w) limit) (Ok (units 3 w)) (Err TooLarge)) n a.1 in
-    let c = if_ok (nat_lt (units 3 w) limit) TooLarge (Ok (units 3 w)) n b.1 in
-    let is : units 3 w ≡ n = ok_is {E = NumberFault} (units 3 w) n c.1 in
-    record {
-      decimal = not_false (is_decimal w) a.0;
-      coarse = not_false (is_coarse 3 w) b.0;
-      value = is;
-      below = subst (λ (k : ℕ). k < limit) is (ltb-true (units 3 w) limit c.0);
-    }
-
-below_again : (limit other : ℕ) (w : List ℕ) (n : ℕ) → n < limit → IsBelow other w n → decimal_below 3 limit w ≡ Ok n
-below_again limit other w n lt is = rw (is.decimal, is.coarse, is.value, lt-ltb n limit lt) refl
-
-pub need_takes : (w : List ℕ) (n : ℕ) → need_in_script w ≡ Ok n → (n < 2 ^ 40) × (money_of w ≡ Ok n)
-unfolding amount_of money_of
-need_takes w n e =
-    let is = below_takes (2 ^ 40) w n (need_read (amount_of w) n e) in
-    let small = is.below in
-    (small, below_again (2 ^ 126) (2 ^ 40) w n (omega (arith, small)) is)
-
-pub need_again : (w : List ℕ) (n : ℕ) → n < 2 ^ 40 → money_of w ≡ Ok n → need_in_script w ≡ Ok n
-unfolding amount_of money_of
-need_again w n small e = ap need_or_fault (below_again (2 ^ 40) (2 ^ 126) w n small (below_takes (2 ^ 126) w n e))

@@ -1,6 +1,6 @@
 -- how the kinds of faults are written
 use Rattle.std.specs.Prelude.{ℕ, List, codes}
-use Rattle.snd_tokens.specs.declared.amount.NumberFault.TheVariants.{NotANumber, TooFine, TooLarge}
+use Rattle.text_kit.specs.Numbers.{number_word}
 use Rattle.session_script.specs.declared.fault.ScriptKind.{ScriptKind}
 use Rattle.session_script.specs.declared.fault.ScriptKind.TheVariants.{Header, Token, Ended, Caller, Number, LimitName, LimitCommands, LimitPlans}
 
@@ -10,9 +10,7 @@ script_kind_word Header = codes "header"
 script_kind_word Token = codes "token"
 script_kind_word Ended = codes "ended"
 script_kind_word Caller = codes "caller"
-script_kind_word (Number NotANumber) = codes "number-not"
-script_kind_word (Number TooFine) = codes "number-fine"
-script_kind_word (Number TooLarge) = codes "number-large"
+script_kind_word (Number fault) = number_word fault
 script_kind_word LimitName = codes "limit-name"
 script_kind_word LimitCommands = codes "limit-commands"
 script_kind_word LimitPlans = codes "limit-plans"

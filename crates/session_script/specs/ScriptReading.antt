@@ -1,13 +1,14 @@
 -- Reading a script from left to right: the tests of its words, and their order.
-use Rattle.std.specs.Prelude.{ℕ, Bool, nat_lt, ◌&&◌, if◌then◌else◌, List, [], length, count_by, Option, Some, None, Result, Ok, Err, codes}
+use Rattle.std.specs.Prelude.{ℕ, Bool, nat_lt, ◌&&◌, if◌then◌else◌, List, [], length, count_by, Result, Ok, Err, codes}
 use Rattle.net_core.specs.Tests.{are_same}
 use Rattle.net_core.specs.declared.journal.Edit.TheVariants as edits
-use Rattle.snd_tokens.specs.declared.amount.NumberFault.{NumberFault}
 use Rattle.snd_tokens.specs.declared.whole_number.WholeFault.{WholeFault}
 use Rattle.snd_tokens.specs.Amounts.{amount_of}
 use Rattle.snd_tokens.specs.Wholes.{whole_of}
 use Rattle.text_kit.specs.Files.{file_at}
-use Rattle.text_kit.specs.Reading.{Read, Reading, ◌>>=◌, give, word_at, open_at, close_at, TheEnd, list_at, mapped, no_fault, sound}
+use Rattle.text_kit.specs.Names.{any_name}
+use Rattle.text_kit.specs.Numbers.{number_or}
+use Rattle.text_kit.specs.Reading.{Read, Reading, ◌>>=◌, give, word_at, open_at, close_at, TheEnd, list_at, mapped, no_fault}
 use Rattle.session_script.specs.declared.fault.ScriptKind.{ScriptKind}
 use Rattle.session_script.specs.declared.fault.ScriptKind.TheVariants.{Header, Token, Ended, Caller, Number, LimitName, LimitCommands, LimitPlans}
 use Rattle.session_script.specs.declared.script.Act.{Act}
@@ -54,39 +55,28 @@ verb_within room (Err kind) = Err kind
 abbrev pub verb_behind : List Command → List ℕ → Result Verb ScriptKind
 verb_behind sofar w = verb_within (nat_lt (count_by is_plan sofar) 64) (verb_of w)
 
--- a name that isn't too long
-abbrev pub long_name_fault : List ℕ → Option ScriptKind
-long_name_fault w = if nat_lt 255 (length w) then Some LimitName else None
-
-abbrev pub name_in_script : List ℕ → Result (List ℕ) ScriptKind
-name_in_script w = sound w (long_name_fault w)
-
--- a need or its fault
-abbrev pub need_or_fault : Result ℕ NumberFault → Result ℕ ScriptKind
-need_or_fault (Ok n) = Ok n
-need_or_fault (Err f) = Err (Number f)
-
+-- a need
 abbrev pub need_in_script : List ℕ → Result ℕ ScriptKind
-need_in_script w = need_or_fault (amount_of w)
+need_in_script w = number_or Number (amount_of w)
 
 -- ---- the order of words
 
 -- what comes after the word that says what is asked for
 unfoldable pub act_at : Verb → Reading ScriptKind Act
 act_at verbs.Set = do
-  name ← word_at Token Ended name_in_script
+  name ← word_at Token Ended (any_name LimitName)
   need ← word_at Token Ended need_in_script
   give (Change (edits.Set name need))
 act_at verbs.Add = do
-  name ← word_at Token Ended name_in_script
+  name ← word_at Token Ended (any_name LimitName)
   _ ← open_at Token Ended
-  from ← word_at Token Ended name_in_script
-  to ← word_at Token Ended name_in_script
+  from ← word_at Token Ended (any_name LimitName)
+  to ← word_at Token Ended (any_name LimitName)
   _ ← close_at Token Ended
   need ← word_at Token Ended need_in_script
   give (Change (edits.Add name from to need))
 act_at verbs.Drop = do
-  name ← word_at Token Ended name_in_script
+  name ← word_at Token Ended (any_name LimitName)
   give (Change (edits.Drop name))
 act_at verbs.Plan = give Plan
 

@@ -1,8 +1,10 @@
 ghost use Rattle.std.specs.Prelude.{◌≡◌};
 ghost use Rattle.session_script.specs.ScriptKinds.{script_kind_word};
 
+use net_core::{Bytes, NoMemory};
 use snd_tokens::NumberFault;
 use text_kit::Refusal;
+use text_kit::fault_word::{FaultWord, number_word};
 
 /// What is wrong with a script.
 #[derive(Clone, Copy, Debug, PartialEq, Eq)]
@@ -43,13 +45,13 @@ impl ScriptKind {
     }
 }
 
-fn number_word(fault: NumberFault) -> &'static str
-    ensures { result.now ≡ script_kind_word (ScriptKind.Number fault) }
-{
-    match fault {
-        NumberFault::NotANumber => "number-not",
-        NumberFault::TooFine => "number-fine",
-        NumberFault::TooLarge => "number-large",
+impl FaultWord for ScriptKind {
+    ghost use Rattle.session_script.specs.ScriptKinds.{script_kind_word};
+
+    ghost word = { script_kind_word };
+
+    fn put_word(&self, text: &mut Bytes) -> Result<(), NoMemory> {
+        text.append(self.word().as_bytes())
     }
 }
 

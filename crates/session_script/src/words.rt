@@ -1,18 +1,18 @@
-ghost use Rattle.std.specs.Prelude.{◌≡◌, nat_lt, count_by, length};
-ghost use Rattle.snd_tokens.specs.Lexemes.{EndAt, left};
+ghost use Rattle.std.specs.Prelude.{◌≡◌, ◌≤◌, None, count_by, length};
+ghost use Rattle.snd_tokens.specs.Lexemes.{left};
 ghost use Rattle.text_kit.specs.Answers.{ReadsAs};
-ghost use Rattle.text_kit.specs.Reading.{placed, word_at};
+ghost use Rattle.text_kit.specs.Names.{any_name, long_name_fault};
+ghost use Rattle.text_kit.specs.Reading.{word_at};
 ghost use Rattle.session_script.specs.Scripts.{is_plan};
-ghost use Rattle.session_script.specs.ScriptReading.{begun_command, caller_of, long_name_fault, name_in_script, need_in_script, verb_behind, verb_of};
+ghost use Rattle.session_script.specs.ScriptReading.{begun_command, caller_of, need_in_script, verb_behind, verb_of};
 
 use crate::fault::{ScriptKind, ScriptRefusal};
 use crate::script::{Command, Verb};
 use net_core::Name;
-use snd_tokens::{Cursor, Next, milli, whole};
+use snd_tokens::{Cursor, milli, whole};
 use std::alloc::Global;
-use text_kit::Refusal;
-use text_kit::refusal::bad;
-use text_kit::steps::placed;
+use text_kit::names::{is_long, named};
+use text_kit::steps::{placed, word};
 
 const CALLER: &[u8] = b"caller";
 
@@ -23,8 +23,6 @@ const ADD: &[u8] = b"add";
 const DROP: &[u8] = b"drop";
 
 const PLAN: &[u8] = b"plan";
-
-const MAX_NAME: usize = 255;
 
 const MAX_CALLER: u128 = 8;
 
@@ -49,11 +47,8 @@ fn begun_command(sofar: &[Command], word: &[u8]) -> Result<(), ScriptKind>
 pub(crate) fn begin(sofar: &[Command], text: &mut Cursor) -> Result<(), ScriptRefusal>
     ensures { ReadsAs (λ _. tt) result (left text.new) (word_at ScriptKind.Token ScriptKind.Ended (begun_command sofar.now) (left text.old)) }
 {
-    match text.next() {
-        Next::Word(at, word) => placed(at, begun_command(sofar, word)),
-        Next::Open(at) | Next::Close(at) => Err(bad(at, ScriptKind::Token)),
-        Next::End(at) => Err(bad(at, ScriptKind::Ended)),
-    }
+    let (at, word) = word(ScriptKind::Token, ScriptKind::Ended, text)?;
+    placed(at, begun_command(sofar, word))
 }
 
 /// The caller of a word.
@@ -75,11 +70,8 @@ fn caller_of(word: &[u8]) -> Result<u32, ScriptKind>
 pub(crate) fn caller(text: &mut Cursor) -> Result<u32, ScriptRefusal>
     ensures { ReadsAs (λ n. n) result (left text.new) (word_at ScriptKind.Token ScriptKind.Ended caller_of (left text.old)) }
 {
-    match text.next() {
-        Next::Word(at, word) => placed(at, caller_of(word)),
-        Next::Open(at) | Next::Close(at) => Err(bad(at, ScriptKind::Token)),
-        Next::End(at) => Err(bad(at, ScriptKind::Ended)),
-    }
+    let (at, word) = word(ScriptKind::Token, ScriptKind::Ended, text)?;
+    placed(at, caller_of(word))
 }
 
 /// What a word asks for.
@@ -130,35 +122,27 @@ fn verb_behind(sofar: &[Command], word: &[u8]) -> Result<Verb, ScriptKind>
 pub(crate) fn verb(sofar: &[Command], text: &mut Cursor) -> Result<Verb, ScriptRefusal>
     ensures { ReadsAs (λ v. v) result (left text.new) (word_at ScriptKind.Token ScriptKind.Ended (verb_behind sofar.now) (left text.old)) }
 {
-    match text.next() {
-        Next::Word(at, word) => placed(at, verb_behind(sofar, word)),
-        Next::Open(at) | Next::Close(at) => Err(bad(at, ScriptKind::Token)),
-        Next::End(at) => Err(bad(at, ScriptKind::Ended)),
-    }
+    let (at, word) = word(ScriptKind::Token, ScriptKind::Ended, text)?;
+    placed(at, verb_behind(sofar, word))
 }
 
-/// The name that a word at a place is.
-fn named(alloc: Global, at: u64, word: &[u8]) -> Result<Name, ScriptRefusal>
-    ensures { ReadsAs (λ n. n) result (EndAt at) (placed at (EndAt at) (name_in_script word.now)) }
+/// What is wrong with a word as a name.
+fn name_fault(word: &[u8]) -> Option<ScriptKind>
+    ensures value { result ≡ long_name_fault ScriptKind.LimitName word.now }
+    ensures short { result ≡ None → length word.now ≤ 255 }
 {
-    if word.len() > MAX_NAME {
-        return Err(bad(at, ScriptKind::LimitName));
+    if is_long(word) {
+        return Some(ScriptKind::LimitName);
     }
-    match Name::new(alloc, word) {
-        Ok(name) => Ok(name),
-        Err(_) => Err(Refusal::NoMemory),
-    }
+    None
 }
 
 /// Takes a name.
 pub(crate) fn name(alloc: Global, text: &mut Cursor) -> Result<Name, ScriptRefusal>
-    ensures { ReadsAs (λ n. n) result (left text.new) (word_at ScriptKind.Token ScriptKind.Ended name_in_script (left text.old)) }
+    ensures { ReadsAs (λ n. n) result (left text.new) (word_at ScriptKind.Token ScriptKind.Ended (any_name ScriptKind.LimitName) (left text.old)) }
 {
-    match text.next() {
-        Next::Word(at, word) => named(alloc, at, word),
-        Next::Open(at) | Next::Close(at) => Err(bad(at, ScriptKind::Token)),
-        Next::End(at) => Err(bad(at, ScriptKind::Ended)),
-    }
+    let (at, word) = word(ScriptKind::Token, ScriptKind::Ended, text)?;
+    named(alloc, at, word, name_fault(word))
 }
 
 /// The need of a word, in thousandths.
@@ -175,9 +159,6 @@ fn need_of(word: &[u8]) -> Result<u64, ScriptKind>
 pub(crate) fn need(text: &mut Cursor) -> Result<u64, ScriptRefusal>
     ensures { ReadsAs (λ n. n) result (left text.new) (word_at ScriptKind.Token ScriptKind.Ended need_in_script (left text.old)) }
 {
-    match text.next() {
-        Next::Word(at, word) => placed(at, need_of(word)),
-        Next::Open(at) | Next::Close(at) => Err(bad(at, ScriptKind::Token)),
-        Next::End(at) => Err(bad(at, ScriptKind::Ended)),
-    }
+    let (at, word) = word(ScriptKind::Token, ScriptKind::Ended, text)?;
+    placed(at, need_of(word))
 }

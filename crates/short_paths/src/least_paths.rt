@@ -66,8 +66,23 @@ impl<'n> LeastPaths<'n> {
         ensures graph { let g = graph_of graph.now in IfOk result (λ p. graph_of p.graph ≡ g) }
         ensures lengths { IfOk result (λ p. p.lengths ≡ lengths.now) }
     {
+        let wide = widened(alloc, lengths)?;
+        LeastPaths::under(alloc, graph, wide)
+    }
+
+    /// The same under lengths in the width of a search.
+    pub(crate) fn under(
+        alloc: Global,
+        graph: &Surviving<'n>,
+        lengths: List<u128>,
+    ) -> Result<LeastPaths<'n>, NoMemory>
+        requires lengths { length lengths ≡ length graph.now.net.now.links }
+        requires short { (e : ℕ) → slice_index lengths e < 2 ^ 100 }
+        requires long { let g = graph_of graph.now in (e : ℕ) → Survives g e → 0 < slice_index lengths e }
+        ensures graph { let g = graph_of graph.now in IfOk result (λ p. graph_of p.graph ≡ g) }
+        ensures lengths { IfOk result (λ p. p.lengths ≡ lengths) }
+    {
         let star = ForwardStar::new(alloc, graph)?;
-        let lengths = widened(alloc, lengths)?;
         let rows = all_rows(alloc, &star, lengths.items(), graph.net.nodes().len())?;
         Ok(LeastPaths {
             alloc,

@@ -1,6 +1,7 @@
 //! Least lengths over all paths of surviving links, and the least of the shortest paths.
 #![tactic(auto)]
 
+mod cheapest_paths;
 mod dijkstra;
 mod distance_table;
 mod forward_star;
@@ -10,10 +11,11 @@ mod priced_paths;
 mod single_source;
 mod tight_links;
 
+pub use cheapest_paths::CheapestPaths;
 pub use distance_table::DistanceTable;
 pub use least_paths::{LeastPaths, least_path};
 pub use pairs::all_pairs;
-pub use priced_paths::{PricedPath, priced_path};
+pub use priced_paths::{PricedPath, priced_path, total_of};
 pub use single_source::distances;
 pub use tight_links::PathFault;
 

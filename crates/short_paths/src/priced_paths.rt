@@ -27,7 +27,7 @@ impl Copied for PricedPath {
 }
 
 /// Lengths above 0, under which a shortest path has the least price: a price counts more than all links of a path.
-fn scaled(alloc: Global, prices: &[u64]) -> Result<List<u128>, NoMemory>
+pub(crate) fn scaled(alloc: Global, prices: &[u64]) -> Result<List<u128>, NoMemory>
     ensures { IfOk result (λ lengths. lengths ≡ map scaled prices.now) }
 {
     let mut lengths = List::from_vec(Vec::with_capacity(alloc, prices.len())?);
@@ -38,7 +38,7 @@ fn scaled(alloc: Global, prices: &[u64]) -> Result<List<u128>, NoMemory>
 }
 
 /// The sum of a path's prices.
-fn total_of(prices: &[u64], path: &[LinkId]) -> u128
+pub fn total_of(prices: &[u64], path: &[LinkId]) -> u128
     requires known { All (λ e. e.0 < length prices.now) path.now }
     requires few { length path.now < 128 }
     ensures { result ≡ length_of prices.now path.now }

@@ -5,57 +5,48 @@ use Rattle.std.proofs.lemmas.Bool.{ltb-false}
 use Rattle.std.proofs.lemmas.List.Sums.{sum_by-cons, sum_by-append, sum_by_push}
 use Rattle.net_core.specs.Demands.{AreDemands, IsDemand}
 use Rattle.net_core.specs.Network.{IsLink, IsModule}
-use Rattle.net_core.specs.Tests.{is_named}
 use Rattle.net_core.specs.declared.demand.Demand.{Demand}
 use Rattle.net_core.specs.declared.ids.NodeId.{NodeId}
 use Rattle.net_core.specs.declared.network.Module.{Module}
 use Rattle.text_kit.specs.Items.{AreBehind, AreSpelled, Item, Verbatim, Money, Opening, Closing}
 use Rattle.text_kit.specs.Reading.{word_at, Parenthesis, no_fault}
-use Rattle.text_kit.proofs.Behind.{all_behind, behind_all, behind_as, behind_both, behind_differ, differ_behind}
+use Rattle.text_kit.proofs.Behind.{all_behind, behind_all, behind_as, behind_both}
+use Rattle.text_kit.specs.Numbers.{number_or}
+use Rattle.snd_tokens.specs.Amounts.{units_of}
+use Rattle.text_kit.proofs.Amounts.{lawful_amount, number_takes}
+use Rattle.text_kit.proofs.NameLaws.{IsNew, are_new, lawful_new_name, lawful_place, new_are}
 use Rattle.text_kit.proofs.Lawful.{AnyText, Lawful, Starts, behind_few, few_behind, lawful_as, lawful_close, lawful_give, lawful_list, lawful_open, lawful_then, lawful_word}
 use Rattle.text_kit.proofs.Spelled.{Spelled, behind_parts, parts_behind, spelled_as, spelled_give, spelled_law, spelled_list, spelled_then, spelled_word}
 use Rattle.sndlib_reader.specs.declared.costs.CostedLink.{CostedLink}
 use Rattle.sndlib_reader.specs.declared.fault.Limited.TheVariants as limits
 use Rattle.sndlib_reader.specs.declared.fault.ReadKind.{ReadKind}
-use Rattle.sndlib_reader.specs.declared.fault.ReadKind.TheVariants.{Token, Ended, SelfLink, SelfDemand, FixedLink}
+use Rattle.sndlib_reader.specs.declared.fault.ReadKind.TheVariants.{Token, Ended, Limit, Number, DoubleName, UnknownName, SelfLink, SelfDemand, FixedLink}
 use Rattle.sndlib_reader.specs.Spelling.{IsShortLink, SpellsDemand, ends_items, link_items, module_items}
-use Rattle.sndlib_reader.specs.Reading.{new_name, named_node, other_node, amount, unit, capacity, need, hops, ends_at, module_at, unserved, modules_at, link_at, costed_links_at, total, demand_at, demands_at}
-use Rattle.sndlib_reader.proofs.WordTests.{AreDifferent, IsCapacity, IsNew, IsNodeIn, amount_again, amount_takes, capacity_again, capacity_takes, hops_again, hops_takes, need_again, need_takes, new_again, new_takes, node_again, node_takes, other_again, other_takes, unit_again, unit_takes}
+use Rattle.sndlib_reader.specs.Reading.{other_node, amount, unit, capacity, need, hops, ends_at, module_at, unserved, modules_at, link_at, costed_links_at, total, demand_at, demands_at}
+use Rattle.sndlib_reader.proofs.WordTests.{IsCapacity, IsNodeIn, capacity_again, capacity_takes, hops_again, hops_takes, need_again, need_takes, other_again, other_takes}
 
--- ---- names that are new, all together
-
-pub are_new : {X : Type 0} (name_of : X → List ℕ) (most : ℕ) (xs : List X) → AreBehind (λ before x. IsNew name_of most before (name_of x)) [] xs → (length xs ≤ most) × AllPairs (λ x y. name_of x ≢ name_of y) xs × All (λ x. length (name_of x) ≤ 255) xs
-are_new {X} name_of most xs all = (
-  (few_behind most (λ before x. Unit {0}) [] xs (omega arith) (behind_as _ (λ before x. (length before < most) × Unit {0}) [] xs (λ before x h. (h.0, tt)) all)).0,
-  behind_differ name_of xs (behind_as _ (λ before x. is_named name_of (name_of x) before ≡ false) [] xs (λ before x h. h.1) all),
-  behind_all (λ x. length (name_of x) ≤ 255) [] xs (behind_as _ (λ before x. length (name_of x) ≤ 255) [] xs (λ before x h. h.2) all),
-)
-
-pub new_are : {X : Type 0} (name_of : X → List ℕ) (most : ℕ) (xs : List X) → length xs ≤ most → AllPairs (λ x y. name_of x ≢ name_of y) xs → All (λ x. length (name_of x) ≤ 255) xs → AreBehind (λ before x. IsNew name_of most before (name_of x)) [] xs
-new_are {X} name_of most xs few different short =
-    behind_as _ (λ before x. IsNew name_of most before (name_of x)) [] xs (λ before x h. (h.0.0, h.1.0, h.1.1))
-    (behind_both (λ before x. (length before < most) × Unit {0}) (λ before x. (is_named name_of (name_of x) before ≡ false) × (length (name_of x) ≤ 255)) [] xs (behind_few most (λ before x. Unit {0}) [] xs few (all_behind (λ x. Unit {0}) [] xs (λ k d lt. tt)))
-    (behind_both (λ before x. is_named name_of (name_of x) before ≡ false) (λ before x. length (name_of x) ≤ 255) [] xs (differ_behind name_of [] xs different) (all_behind (λ x. length (name_of x) ≤ 255) [] xs short)))
+abbrev pub AreDifferent : List (List ℕ) → Type 0
+AreDifferent nodes = AllPairs (λ x y. x ≢ y) nodes
 
 -- ---- ends
 
 -- two different nodes
 abbrev pub AreEnds : List (List ℕ) → NodeId → NodeId → Type 0
-AreEnds nodes a b = IsNodeIn nodes a × ((a.0 ≢ b.0) × IsNodeIn nodes b)
+AreEnds nodes a b = IsNodeIn nodes a.0 × ((a.0 ≢ b.0) × IsNodeIn nodes b.0)
 
 ends_lawful : (kind : ReadKind) (nodes : List (List ℕ)) → AreDifferent nodes → Lawful (ends_at kind nodes) (λ e. ends_items nodes e.0 e.1) (λ e. AreEnds nodes e.0 e.1) AnyText
 unfolding ends_at
 ends_lawful kind nodes pairs = lawful_as (ends_at kind nodes) _ (λ e. ends_items nodes e.0 e.1) _ (λ e. AreEnds nodes e.0 e.1) AnyText (λ e h. refl) (λ e h. (h.1.0, h.1.1.0)) (λ e h. (tt, (h.0, (h.1, (tt, refl)))))
     (lawful_then _ _ _ _ _ _ AnyText (λ e. tt) (λ a e h. refl) (lawful_open Token Ended) (λ o.
-    lawful_then _ _ _ _ _ _ AnyText (λ e. e.0) (λ a e h. ap (λ (x : NodeId × NodeId). x.0) h.1.1) (lawful_word Token Ended (named_node nodes) (λ a. Verbatim (get_or nodes a.0 [])) (IsNodeIn nodes) (λ a. tt) (node_takes nodes) (λ w a is same. node_again nodes pairs w a is same)) (λ a.
-    lawful_then _ _ _ _ _ _ AnyText (λ e. e.1) (λ b e h. ap (λ (x : NodeId × NodeId). x.1) h.1) (lawful_word Token Ended (other_node kind nodes a) (λ b. Verbatim (get_or nodes b.0 [])) (λ b. (a.0 ≢ b.0) × IsNodeIn nodes b) (λ b. tt) (other_takes kind nodes a) (λ w b is same. other_again kind nodes pairs a w b is same)) (λ b.
+    lawful_then _ _ _ _ _ _ AnyText (λ e. e.0.0) (λ a e h. ap (λ (x : NodeId × NodeId). x.0.0) h.1.1) (lawful_place (λ n. n) (Limit limits.Name) UnknownName nodes [] Token Ended pairs) (λ a.
+    lawful_then _ _ _ _ _ _ AnyText (λ e. e.1.0) (λ b e h. ap (λ (x : NodeId × NodeId). x.1.0) h.1) (lawful_word Token Ended (other_node kind nodes a) (λ b. Verbatim (get_or nodes b [])) (λ b. (a ≢ b) × IsNodeIn nodes b) (λ b. tt) (other_takes nodes kind a) (other_again nodes kind pairs a)) (λ b.
     lawful_then _ _ _ _ _ _ AnyText (λ e. tt) (λ c e h. refl) (lawful_close Token Ended) (λ c.
-    lawful_give (a, b))))))
+    lawful_give (record { 0 = a }, record { 0 = b }))))))
 
 -- ---- modules
 
 amount_lawful : Lawful (word_at Token Ended amount) (λ n. Money n ∷ []) (λ n. n < 2 ^ 40) AnyText
-amount_lawful = lawful_word Token Ended amount (λ n. Money n) (λ n. n < 2 ^ 40) (λ n. tt) amount_takes (λ w n is e. amount_again w n is e)
+amount_lawful = lawful_amount Token Ended Number
 
 capacity_lawful : (sofar : List Module) → Lawful (word_at Token Ended (capacity sofar)) (λ n. Money n ∷ []) (IsCapacity sofar) AnyText
 capacity_lawful sofar = lawful_word Token Ended (capacity sofar) (λ n. Money n) (IsCapacity sofar) (λ n. tt) (capacity_takes sofar) (λ w n is e. capacity_again sofar w n is e)
@@ -113,7 +104,7 @@ link_lawful nodes pairs sofar = lawful_as (link_at nodes sofar) _ (link_items no
     (λ l h. ap (λ (is : List Item). Verbatim l.link.name ∷ ends_items nodes l.link.a l.link.b ++ Money l.link.fixed ∷ Money l.fixed_cost ∷ Money l.routing_cost ∷ Money l.link.setup ∷ Opening ∷ is) (append-nil (flat_map module_items l.link.modules ++ Closing ∷ [])))
     (λ l h. record { new = h.0; ends = h.1.0; fixed = h.1.1.0; fixed_cost = h.1.1.1.0; routing_cost = h.1.1.1.1.0; setup = h.1.1.1.1.1.0; modules = h.1.1.1.1.1.1.1.0 })
     (λ l h. (h.new, (h.ends, (h.fixed, (h.fixed_cost, (h.routing_cost, (h.setup, (tt, (h.modules, refl)))))))))
-    (lawful_then _ _ _ _ _ _ AnyText (λ l. l.link.name) (λ a l h. ap (λ (x : CostedLink). x.link.name) h.1.1.1.1.1.1.1) (lawful_word Token Ended (new_name (λ x. x.link.name) limits.Links 256 sofar) (λ n. Verbatim n) (IsNew (λ x. x.link.name) 256 sofar) (λ n. tt) (new_takes (λ x. x.link.name) limits.Links 256 sofar) (λ w n is e. new_again (λ x. x.link.name) limits.Links 256 sofar w n is e)) (λ name.
+    (lawful_then _ _ _ _ _ _ AnyText (λ l. l.link.name) (λ a l h. ap (λ (x : CostedLink). x.link.name) h.1.1.1.1.1.1.1) (lawful_new_name (λ x. x.link.name) 256 (Limit limits.Name) DoubleName (Limit limits.Links) Token Ended sofar) (λ name.
     lawful_then _ _ _ _ _ _ AnyText (λ l. (l.link.a, l.link.b)) (λ a l h. ap (λ (x : CostedLink). (x.link.a, x.link.b)) h.1.1.1.1.1.1) (ends_lawful SelfLink nodes pairs) (λ ends.
     lawful_then _ _ _ _ _ _ AnyText (λ l. l.link.fixed) (λ a l h. ap (λ (x : CostedLink). x.link.fixed) h.1.1.1.1.1) amount_lawful (λ fixed.
     lawful_then _ _ _ _ _ _ AnyText (λ l. l.fixed_cost) (λ a l h. ap (λ (x : CostedLink). x.fixed_cost) h.1.1.1.1) amount_lawful (λ fixed_cost.
@@ -165,32 +156,30 @@ pub record IsDemandBehind (nodes : List (List ℕ)) (sofar : List Demand) (d : D
   pub need : d.need < 2 ^ 40
   pub below : total sofar + d.need < 2 ^ 44
 
-joined : (is js ks j2 k2 j3 k3 j4 k4 j5 k5 ends : List Item) (v n u a h : List ℕ) → is ≡ js ++ ks → js ≡ Verbatim v ∷ [] → v ≡ n → ks ≡ j2 ++ k2 → j2 ≡ ends → k2 ≡ j3 ++ k3 → j3 ≡ Verbatim u ∷ [] → k3 ≡ j4 ++ k4 → j4 ≡ Verbatim a ∷ [] → k4 ≡ j5 ++ k5 → j5 ≡ Verbatim h ∷ [] → k5 ≡ []
+joined : (is js ks j2 k2 j3 k3 j4 k4 j5 k5 ends : List Item) (n u a h : List ℕ) → is ≡ js ++ ks → js ≡ Verbatim n ∷ [] → ks ≡ j2 ++ k2 → j2 ≡ ends → k2 ≡ j3 ++ k3 → j3 ≡ Verbatim u ∷ [] → k3 ≡ j4 ++ k4 → j4 ≡ Verbatim a ∷ [] → k4 ≡ j5 ++ k5 → j5 ≡ Verbatim h ∷ [] → k5 ≡ []
     → is ≡ Verbatim n ∷ ends ++ Verbatim u ∷ Verbatim a ∷ Verbatim h ∷ []
-joined is js ks j2 k2 j3 k3 j4 k4 j5 k5 ends v n u a h e1 e2 e3 e4 e5 e6 e7 e8 e9 e10 e11 e12 = rw (e1, e2, e3, e4, e5, e6, e7, e8, e9, e10, e11, e12) refl
+joined is js ks j2 k2 j3 k3 j4 k4 j5 k5 ends n u a h e1 e2 e3 e4 e5 e6 e7 e8 e9 e10 e11 = rw (e1, e2, e3, e4, e5, e6, e7, e8, e9, e10, e11) refl
 
 demand_spelled : (nodes : List (List ℕ)) → AreDifferent nodes → (sofar : List Demand) → Spelled (demand_at nodes sofar) (λ d is. IsDemandBehind nodes sofar d × SpellsDemand nodes d is) AnyText
 unfolding demand_at
 demand_spelled nodes pairs sofar = spelled_as (demand_at nodes sofar) _ (λ d is. IsDemandBehind nodes sofar d × SpellsDemand nodes d is) AnyText
     (λ d is s.
-    let name = new_takes (λ x. x.name) limits.Demands 2048 sofar s.3.0 s.0 s.3.1 in
     let e = s.4 in
     let u = e.4 in
     let n = u.4 in
     let h = n.4 in
     let needed = need_takes (total sofar) u.0 n.3.0 n.0 n.3.1 in
-    let short = name.0.2 in
     subst (λ (x : Demand). IsDemandBehind nodes sofar x × SpellsDemand nodes x is) h.4.0 (
-      record { new = name.0; ends = e.3.0; need = needed.small; below = needed.below },
+      record { new = s.3.0; ends = e.3.0; need = needed.small; below = needed.below },
       record {
         unit = u.3.0;
         amount = n.3.0;
         hops = h.3.0;
         units = u.0;
         each = needed.each;
-        short = short;
-        items_are = joined is s.1 s.2 e.1 e.2 u.1 u.2 n.1 n.2 h.1 h.2 (ends_items nodes e.0.0 e.0.1) s.3.0 s.0 u.3.0 n.3.0 h.3.0 s.5 s.3.2 name.1 e.5 e.3.1 u.5 u.3.2 n.5 n.3.2 h.5 h.3.2 h.4.1;
-        unit_is = unit_takes u.3.0 u.0 u.3.1;
+        short = s.3.0.2;
+        items_are = joined is s.1 s.2 e.1 e.2 u.1 u.2 n.1 n.2 h.1 h.2 (ends_items nodes e.0.0 e.0.1) s.0 u.3.0 n.3.0 h.3.0 s.5 s.3.1 e.5 e.3.1 u.5 u.3.2 n.5 n.3.2 h.5 h.3.2 h.4.1;
+        unit_is = number_takes Number (units_of u.3.0) u.0 u.3.1;
         amount_is = needed.amount_is;
         need_is = needed.need_is;
         hops_are = hops_takes h.3.0 h.0 h.3.1;
@@ -202,7 +191,7 @@ demand_spelled nodes pairs sofar = spelled_as (demand_at nodes sofar) _ (λ d is
       d.name,
       Verbatim d.name ∷ [],
       ends_items nodes d.from d.to ++ Verbatim t.unit ∷ Verbatim t.amount ∷ Verbatim t.hops ∷ [],
-      (d.name, new_again (λ x. x.name) limits.Demands 2048 sofar d.name d.name b.new refl, refl),
+      (b.new, refl),
       (
         (d.from, d.to),
         ends_items nodes d.from d.to,
@@ -212,7 +201,7 @@ demand_spelled nodes pairs sofar = spelled_as (demand_at nodes sofar) _ (λ d is
           t.units,
           Verbatim t.unit ∷ [],
           Verbatim t.amount ∷ Verbatim t.hops ∷ [],
-          (t.unit, unit_again t.unit t.units t.unit_is, refl),
+          (t.unit, ap (number_or Number) t.unit_is, refl),
           (
             d.need,
             Verbatim t.amount ∷ [],
@@ -234,7 +223,7 @@ demand_spelled nodes pairs sofar = spelled_as (demand_at nodes sofar) _ (λ d is
       ),
       t.items_are,
     ))
-    (spelled_then _ _ _ _ AnyText (spelled_word Token Ended (new_name (λ x. x.name) limits.Demands 2048 sofar)) (λ name js s.
+    (spelled_then _ _ _ _ AnyText (spelled_law _ _ _ AnyText (lawful_new_name (λ x. x.name) 2048 (Limit limits.Name) DoubleName (Limit limits.Demands) Token Ended sofar)) (λ name js s.
     spelled_then _ _ _ _ AnyText (spelled_law (ends_at SelfDemand nodes) _ _ AnyText (ends_lawful SelfDemand nodes pairs)) (λ ends js s.
     spelled_then _ _ _ _ AnyText (spelled_word Token Ended unit) (λ units js s.
     spelled_then _ _ _ _ AnyText (spelled_word Token Ended (need (total sofar) units)) (λ needed js s.

@@ -12,11 +12,11 @@ use Rattle.text_kit.proofs.Spelled.{Spelled}
 use Rattle.text_kit.proofs.Turns.{list_fails, list_turn, lists_alike}
 use Rattle.sndlib_reader.specs.declared.fault.Limited.TheVariants as limits
 use Rattle.sndlib_reader.specs.declared.fault.ReadKind.{ReadKind}
-use Rattle.sndlib_reader.specs.declared.fault.ReadKind.TheVariants.{Token, Ended}
+use Rattle.sndlib_reader.specs.declared.fault.ReadKind.TheVariants.{Token, Ended, Limit, DoubleName}
 use Rattle.sndlib_reader.specs.Spelling.{NodePart, NodeName, Coordinates, names_of, ends_named, IsPartBehind, SpellsPart}
-use Rattle.sndlib_reader.specs.Reading.{new_name_fault, name_part, coordinates, part_behind, part_at, nodes_at, skipped_at}
+use Rattle.sndlib_reader.specs.Reading.{node_fault, name_part, coordinates, part_behind, part_at, nodes_at, skipped_at}
 use Rattle.sndlib_reader.specs.inner.Nodes.{parts_so_far}
-use Rattle.sndlib_reader.proofs.WordTests.{IsNew, fault_none, none_fault}
+use Rattle.text_kit.proofs.NameLaws.{IsNew, fault_none, none_fault}
 use Rattle.sndlib_reader.proofs.Skipped.{skipped_online, skipped_spelled}
 
 -- ---- one part more
@@ -63,7 +63,7 @@ Alike s t = (names_of s ≡ names_of t) × (ends_named false s ≡ ends_named fa
 alike_parts : (s t : List NodePart) → Alike s t → (text : Text) → part_at s text ≡ part_at t text
 unfolding part_at
 alike_parts s t alike text =
-    ap (λ (ns : List (List ℕ)). after (step_at (λ w. sound (NodeName w) (new_name_fault (λ n. n) limits.Nodes 128 ns w)) (coordinates s) (Err Token) (Err Ended) text) part_behind) alike.0
+    ap (λ (ns : List (List ℕ)). after (step_at (λ w. sound (NodeName w) (node_fault ns w)) (coordinates s) (Err Token) (Err Ended) text) part_behind) alike.0
     ∙ ap (λ (b : Bool). after (step_at (name_part t) (cond b (Ok Coordinates) (Err Token)) (Err Token) (Err Ended) text) part_behind) alike.1
 
 alike_longer : (s t : List NodePart) (x : NodePart) → Alike s t → Alike (s ++ x ∷ []) (t ++ x ∷ [])
@@ -96,11 +96,11 @@ nothing_so_far text = nodes_alike (Coordinates ∷ []) [] text (refl, refl)
 
 -- ---- turns of the list
 
-sound_turn : (names : List (List ℕ)) (named : Bool) (at : ℕ) (w : List ℕ) (rest : Text) → new_name_fault (λ n. n) limits.Nodes 128 names w ≡ None → nodes_at (parts_so_far names named) (WordAt at w rest) ≡ nodes_at (parts_so_far (names ++ w ∷ []) true) rest
+sound_turn : (names : List (List ℕ)) (named : Bool) (at : ℕ) (w : List ℕ) (rest : Text) → node_fault names w ≡ None → nodes_at (parts_so_far names named) (WordAt at w rest) ≡ nodes_at (parts_so_far (names ++ w ∷ []) true) rest
 unfolding part_at
 sound_turn names named at w rest sound_name =
     let sofar = parts_so_far names named in
-    let none : new_name_fault (λ n. n) limits.Nodes 128 (names_of sofar) w ≡ None = subst (λ (ns : List (List ℕ)). new_name_fault (λ n. n) limits.Nodes 128 ns w ≡ None) (sym (names_so_far names named)) sound_name in
+    let none : node_fault (names_of sofar) w ≡ None = subst (λ (ns : List (List ℕ)). node_fault ns w ≡ None) (sym (names_so_far names named)) sound_name in
     let read : part_at sofar (WordAt at w rest) ≡ Ok (NodeName w, rest) = ap (λ (o : Option ReadKind). after (placed at rest (sound (NodeName w) o)) part_behind) none in
     let some : IsTrue true → 1 ≤ length (names ++ w ∷ []) = λ t. longer names in
     ap (λ (q : Read ReadKind (List NodePart)). after q (λ ps. give (names_of ps))) (list_turn Parenthesis no_fault part_at part_some sofar (WordAt at w rest) rest (NodeName w) refl read)
@@ -115,22 +115,22 @@ passed_none : (at : ℕ) (w name : List ℕ) (o : Option ReadKind) → (let q : 
 passed_none at w name None e = (refl, (ok_parts {K = ReadKind} w name (EndAt at) (EndAt at) e).0)
 passed_none at w name (Some k) e = absurd cc
 
-pub name_turn : (names : List (List ℕ)) (named : Bool) (at : ℕ) (w name : List ℕ) (rest : Text) → (let q : Read ReadKind (List ℕ) = placed at (EndAt at) (sound w (new_name_fault (λ n. n) limits.Nodes 128 names w)) in q ≡ Ok (name, EndAt at))
+pub name_turn : (names : List (List ℕ)) (named : Bool) (at : ℕ) (w name : List ℕ) (rest : Text) → (let q : Read ReadKind (List ℕ) = placed at (EndAt at) (sound w (node_fault names w)) in q ≡ Ok (name, EndAt at))
     → nodes_at (parts_so_far names named) (WordAt at w rest) ≡ nodes_at (parts_so_far (names ++ name ∷ []) true) rest
 name_turn names named at w name rest passed =
-    let p = passed_none at w name (new_name_fault (λ n. n) limits.Nodes 128 names w) passed in
+    let p = passed_none at w name (node_fault names w) passed in
     subst (λ (v : List ℕ). nodes_at (parts_so_far names named) (WordAt at w rest) ≡ nodes_at (parts_so_far (names ++ v ∷ []) true) rest) p.1 (sound_turn names named at w rest p.0)
 
 -- a part that fails, and so the list
 part_fails : (sofar : List NodePart) (text : Text) (e : ℕ × ReadKind) → past_ending Parenthesis text ≡ None → part_at sofar text ≡ Err e → nodes_at sofar text ≡ Err e
 part_fails sofar text e open_text fails = ap (λ (q : Read ReadKind (List NodePart)). after q (λ ps. give (names_of ps))) (list_fails Parenthesis no_fault part_at sofar text e open_text fails)
 
-pub name_fails : (names : List (List ℕ)) (named : Bool) (at : ℕ) (w : List ℕ) (rest : Text) (e : Refusal ReadKind) → Fails {Y = List ℕ} e (placed at (EndAt at) (sound w (new_name_fault (λ n. n) limits.Nodes 128 names w))) → Fails e (nodes_at (parts_so_far names named) (WordAt at w rest))
+pub name_fails : (names : List (List ℕ)) (named : Bool) (at : ℕ) (w : List ℕ) (rest : Text) (e : Refusal ReadKind) → Fails {Y = List ℕ} e (placed at (EndAt at) (sound w (node_fault names w))) → Fails e (nodes_at (parts_so_far names named) (WordAt at w rest))
 unfolding part_at
 name_fails names named at w rest NoMemory h = tt
 name_fails names named at w rest (Bad place kind) h =
     part_fails (parts_so_far names named) (WordAt at w rest) (place, kind) refl
-    (ap (λ (ns : List (List ℕ)). after (placed at rest (sound (NodeName w) (new_name_fault (λ n. n) limits.Nodes 128 ns w))) part_behind) (names_so_far names named) ∙ by (new_name_fault (λ n. n) limits.Nodes 128 names w) h)
+    (ap (λ (ns : List (List ℕ)). after (placed at rest (sound (NodeName w) (node_fault ns w))) part_behind) (names_so_far names named) ∙ by (node_fault names w) h)
   where
     by : (o : Option ReadKind) → (let q : Read ReadKind (List ℕ) = placed at (EndAt at) (sound w o) in q ≡ Err (place, kind)) → after (placed at rest (sound (NodeName w) o)) part_behind ≡ Err (place, kind)
     by None e = absurd cc
@@ -179,10 +179,10 @@ IsNewPart sofar Coordinates = IsTrue (ends_named false sofar)
 abbrev Takes : List NodePart → Text → NodePart → Text → Type 0
 Takes sofar text x rest = (is : List Item) × (IsNewPart sofar x × SpellsPart x is) × Begins is text rest × AnyText rest
 
-name_takes : (sofar : List NodePart) (at : ℕ) (w : List ℕ) (t : Text) (o : Option ReadKind) (x : NodePart) (rest : Text) → new_name_fault (λ n. n) limits.Nodes 128 (names_of sofar) w ≡ o → after (placed at t (sound (NodeName w) o)) part_behind ≡ Ok (x, rest) → Takes sofar (WordAt at w t) x rest
+name_takes : (sofar : List NodePart) (at : ℕ) (w : List ℕ) (t : Text) (o : Option ReadKind) (x : NodePart) (rest : Text) → node_fault (names_of sofar) w ≡ o → after (placed at t (sound (NodeName w) o)) part_behind ≡ Ok (x, rest) → Takes sofar (WordAt at w t) x rest
 name_takes sofar at w t None x rest fault e =
     let p = ok_parts {K = ReadKind} (NodeName w) x t rest e in
-    subst (λ (y : NodePart). Takes sofar (WordAt at w t) y rest) p.0 (Verbatim w ∷ [], (fault_none (λ n. n) limits.Nodes 128 (names_of sofar) w fault, refl), (refl, p.1), tt)
+    subst (λ (y : NodePart). Takes sofar (WordAt at w t) y rest) p.0 (Verbatim w ∷ [], (fault_none (λ n. n) 128 (Limit limits.Name) DoubleName (Limit limits.Nodes) (names_of sofar) w fault, refl), (refl, p.1), tt)
 name_takes sofar at w t (Some k) x rest fault e = absurd cc
 
 skip_takes : (sofar : List NodePart) (at : ℕ) (t : Text) (q : Read ReadKind (Unit {0})) (x : NodePart) (rest : Text) → IsTrue (ends_named false sofar) → skipped_at 0 t ≡ q → after q (λ u. give Coordinates) ≡ Ok (x, rest) → Takes sofar (OpenAt at t) x rest
@@ -198,7 +198,7 @@ open_takes sofar at t false x rest named e = absurd cc
 
 part_takes : (sofar : List NodePart) (text : Text) (x : NodePart) (rest : Text) → part_at sofar text ≡ Ok (x, rest) → Takes sofar text x rest
 unfolding part_at
-part_takes sofar (WordAt at w t) x rest e = name_takes sofar at w t (new_name_fault (λ n. n) limits.Nodes 128 (names_of sofar) w) x rest refl e
+part_takes sofar (WordAt at w t) x rest e = name_takes sofar at w t (node_fault (names_of sofar) w) x rest refl e
 part_takes sofar (OpenAt at t) x rest e = open_takes sofar at t (ends_named false sofar) x rest refl e
 part_takes sofar (CloseAt at t) x rest e = absurd cc
 part_takes sofar (EndAt at) x rest e = absurd cc
@@ -208,7 +208,7 @@ unfolding part_at
 part_again sofar text (NodeName w) rest is s b = by text (subst (λ (js : List Item). Begins js text rest) s.1 b)
   where
     by : (text : Text) → Begins (Verbatim w ∷ []) text rest → part_at sofar text ≡ Ok (NodeName w, rest)
-    by (WordAt at v t) c = rw (c.0, none_fault (λ n. n) limits.Nodes 128 (names_of sofar) w s.0) (ap (λ (u : Text). Ok (NodeName w, u)) c.1)
+    by (WordAt at v t) c = rw (c.0, none_fault (λ n. n) 128 (Limit limits.Name) DoubleName (Limit limits.Nodes) (names_of sofar) w s.0) (ap (λ (u : Text). Ok (NodeName w, u)) c.1)
     by (OpenAt at t) c = absurd (let e : Verbatim w ≡ Opening = c.0 in cc)
     by (CloseAt at t) c = absurd (let e : Verbatim w ≡ Closing = c.0 in cc)
     by (EndAt at) c = absurd c

@@ -6,11 +6,10 @@ use Rattle.net_core.specs.declared.network.Module.{Module}
 use Rattle.text_kit.specs.Reading.{Reading, word_at, expected, Parenthesis, no_fault, list_at, each_at}
 use Rattle.text_kit.proofs.Online.{IsOnline, TakesSome, online_close, online_end, online_give, online_list, online_open, online_step, online_then, online_word, takes_some}
 use Rattle.sndlib_reader.specs.declared.costs.CostedLink.{CostedLink}
-use Rattle.sndlib_reader.specs.declared.fault.Limited.TheVariants as limits
 use Rattle.sndlib_reader.specs.declared.fault.ReadKind.{ReadKind}
 use Rattle.sndlib_reader.specs.declared.fault.ReadKind.TheVariants.{Section, Token, Ended, SelfLink, SelfDemand}
 use Rattle.sndlib_reader.specs.Spelling.{names_of}
-use Rattle.sndlib_reader.specs.Reading.{new_name, known_name, short_name, named_node, other_node, amount, unit, capacity, need, total, hops, section_at, part_at, nodes_at, ends_at, module_at, unserved, link_at, costed_links_at, demand_at, demands_at, some_at, path_at, line_at, is_meta, meta_behind, start_at, is_paths, paths_behind, paths_at, parts, sections_at}
+use Rattle.sndlib_reader.specs.Reading.{known_name, path_name, node_named, other_node, amount, unit, capacity, need, total, hops, section_at, part_at, nodes_at, ends_at, module_at, unserved, link_at, costed_links_at, demand_at, demands_at, some_at, path_at, line_at, is_meta, meta_behind, start_at, is_paths, paths_behind, paths_at, parts, sections_at}
 use Rattle.sndlib_reader.proofs.Nodes.{part_online, part_some}
 use Rattle.sndlib_reader.proofs.Skipped.{skipped_online}
 
@@ -18,10 +17,10 @@ ends_online : (kind : ReadKind) (nodes : List (List ℕ)) → IsOnline (ends_at 
 unfolding ends_at
 ends_online kind nodes =
     online_then _ _ (online_open Token Ended) (λ o.
-    online_then _ _ (online_word Token Ended (named_node nodes)) (λ a.
+    online_then _ _ (online_word Token Ended (node_named nodes)) (λ a.
     online_then _ _ (online_word Token Ended (other_node kind nodes a)) (λ b.
     online_then _ _ (online_close Token Ended) (λ c.
-    online_give (a, b)))))
+    online_give _))))
 
 module_online : (sofar : List Module) → IsOnline (module_at sofar)
 unfolding module_at
@@ -37,7 +36,7 @@ module_some sofar = takes_some (module_at sofar) (module_online sofar) (λ p. En
 link_online : (nodes : List (List ℕ)) (sofar : List CostedLink) → IsOnline (link_at nodes sofar)
 unfolding link_at
 link_online nodes sofar =
-    online_then _ _ (online_word Token Ended (new_name (λ l. l.link.name) limits.Links 256 sofar)) (λ name.
+    online_then _ _ (online_word Token Ended _) (λ name.
     online_then _ _ (ends_online SelfLink nodes) (λ ends.
     online_then _ _ (online_word Token Ended amount) (λ fixed.
     online_then _ _ (online_word Token Ended amount) (λ fixed_cost.
@@ -54,7 +53,7 @@ link_some nodes sofar = takes_some (link_at nodes sofar) (link_online nodes sofa
 demand_online : (nodes : List (List ℕ)) (sofar : List Demand) → IsOnline (demand_at nodes sofar)
 unfolding demand_at
 demand_online nodes sofar =
-    online_then _ _ (online_word Token Ended (new_name (λ d. d.name) limits.Demands 2048 sofar)) (λ name.
+    online_then _ _ (online_word Token Ended _) (λ name.
     online_then _ _ (ends_online SelfDemand nodes) (λ ends.
     online_then _ _ (online_word Token Ended unit) (λ units.
     online_then _ _ (online_word Token Ended (need (total sofar) units)) (λ needed.
@@ -77,26 +76,26 @@ some_online one on some =
     online_then one _ on (λ x.
     each_online one on some))
 
-pub known_some : {X : Type 0} (name_of : X → List ℕ) (xs : List X) → TakesSome (word_at Token Ended (known_name name_of xs))
-known_some name_of xs = takes_some (word_at Token Ended (known_name name_of xs)) (online_word Token Ended (known_name name_of xs)) (λ p. Ended) (λ p. refl)
+pub known_some : (names : List (List ℕ)) → TakesSome (word_at Token Ended (known_name names))
+known_some names = takes_some (word_at Token Ended (known_name names)) (online_word Token Ended (known_name names)) (λ p. Ended) (λ p. refl)
 
-path_online : (links : List CostedLink) → IsOnline (path_at links)
+path_online : (links : List (List ℕ)) → IsOnline (path_at links)
 path_online links =
-    online_then _ _ (online_word Token Ended short_name) (λ x.
-    some_online (word_at Token Ended (known_name (λ l. l.link.name) links)) (online_word Token Ended (known_name (λ l. l.link.name) links)) (known_some (λ l. l.link.name) links))
+    online_then _ _ (online_word Token Ended path_name) (λ x.
+    some_online (word_at Token Ended (known_name links)) (online_word Token Ended (known_name links)) (known_some links))
 
-pub path_some : (links : List CostedLink) → TakesSome (path_at links)
+pub path_some : (links : List (List ℕ)) → TakesSome (path_at links)
 path_some links = takes_some (path_at links) (path_online links) (λ p. Ended) (λ p. refl)
 
-line_online : (links : List CostedLink) (demands : List Demand) → IsOnline (line_at links demands)
+line_online : (links demands : List (List ℕ)) → IsOnline (line_at links demands)
 line_online links demands =
-    online_then _ _ (online_word Token Ended (known_name (λ d. d.name) demands)) (λ x.
+    online_then _ _ (online_word Token Ended (known_name demands)) (λ x.
     some_online (path_at links) (path_online links) (path_some links))
 
-pub line_some : (links : List CostedLink) (demands : List Demand) → TakesSome (line_at links demands)
+pub line_some : (links demands : List (List ℕ)) → TakesSome (line_at links demands)
 line_some links demands = takes_some (line_at links demands) (line_online links demands) (λ p. Ended) (λ p. refl)
 
-paths_behind_online : (links : List CostedLink) (demands : List Demand) (more : _) → IsOnline (paths_behind links demands more)
+paths_behind_online : (links demands : List (List ℕ)) (more : _) → IsOnline (paths_behind links demands more)
 unfolding paths_behind
 paths_behind_online links demands true =
     online_then _ _ (online_open Section Ended) (λ o.
@@ -104,7 +103,7 @@ paths_behind_online links demands true =
     online_end Section))
 paths_behind_online links demands false = online_give tt
 
-paths_online : (links : List CostedLink) (demands : List Demand) → IsOnline (paths_at links demands)
+paths_online : (links demands : List (List ℕ)) → IsOnline (paths_at links demands)
 paths_online links demands = online_then _ (paths_behind links demands) (online_step is_paths (Err Section) (Err Section) (Ok false)) (paths_behind_online links demands)
 
 -- ---- whole files
@@ -131,5 +130,5 @@ sections_online =
     online_then (nodes_at []) _ (online_then (list_at Parenthesis no_fault part_at []) _ (online_list Parenthesis no_fault part_at part_online part_some []) (λ xs. online_give (names_of xs))) (λ nodes.
     online_then _ _ (section_online (codes "LINKS") (costed_links_at nodes []) (online_list Parenthesis no_fault (link_at nodes) (link_online nodes) (link_some nodes) [])) (λ links.
     online_then _ _ (section_online (codes "DEMANDS") (demands_at nodes []) (online_list Parenthesis no_fault (demand_at nodes) (demand_online nodes) (demand_some nodes) [])) (λ demands.
-    online_then _ _ (paths_online links demands) (λ p.
+    online_then _ _ (paths_online _ _) (λ p.
     online_give (parts nodes links, demands)))))))

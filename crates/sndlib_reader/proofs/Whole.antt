@@ -26,13 +26,14 @@ use Rattle.sndlib_reader.specs.declared.costs.CostedLink.{CostedLink}
 use Rattle.sndlib_reader.specs.declared.fault.ReadKind.{ReadKind}
 use Rattle.sndlib_reader.specs.declared.fault.ReadKind.TheVariants.{Header, Section, Token, Ended}
 use Rattle.sndlib_reader.specs.Balance.{IsSkipped}
-use Rattle.sndlib_reader.specs.Paths.{AreMany, ArePaths, AreSome, IsKnownName, IsLine, IsNamedPath, IsShortName, section}
+use Rattle.sndlib_reader.specs.Paths.{AreMany, ArePaths, AreSome, IsKnownName, IsPathLine, IsNamedPath, IsShortName, section}
 use Rattle.sndlib_reader.specs.Spelling.{IsMeta, IsShortLink, NodePart, NodeName, Coordinates, Parts, Spells, SpellsDemand, SpellsParts, SpellsPart, header, link_items, names_of, notes_of, parts_of}
-use Rattle.sndlib_reader.specs.Reading.{IsFirstFault, short_name, known_name, section_at, part_at, nodes_at, costed_links_at, demands_at, some_at, path_at, line_at, is_meta, meta_behind, start_at, is_paths, paths_behind, paths_at, parts, sections_at, network_of}
-use Rattle.sndlib_reader.proofs.WordTests.{AreDifferent, IsNew, known_again, known_takes, short_again, short_takes}
+use Rattle.sndlib_reader.specs.Reading.{IsFirstFault, path_name, known_name, section_at, part_at, nodes_at, costed_links_at, demands_at, some_at, path_at, line_at, is_meta, meta_behind, start_at, is_paths, paths_behind, paths_at, parts, sections_at, network_of}
+use Rattle.sndlib_reader.proofs.WordTests.{known_again, known_takes, path_name_again, path_name_takes}
+use Rattle.text_kit.proofs.NameLaws.{IsNew, are_new, new_are}
 use Rattle.sndlib_reader.proofs.Skipped.{skipped_spelled}
 use Rattle.sndlib_reader.proofs.Nodes.{IsNewPart, are_parts, part_spelled, parts_are, parts_short}
-use Rattle.sndlib_reader.proofs.Laws.{AreLinks, IsDemandBehind, IsLinkBehind, are_demands, are_links, are_new, demands_are, demands_spelled, links_are, links_lawful, new_are}
+use Rattle.sndlib_reader.proofs.Laws.{AreDifferent, AreLinks, IsDemandBehind, IsLinkBehind, are_demands, are_links, demands_are, demands_spelled, links_are, links_lawful}
 use Rattle.sndlib_reader.proofs.Online.{sections_online}
 
 -- ---- what is given of what was read
@@ -56,11 +57,11 @@ module _ {K A B : Type 0} (r : Reading K A) (g : A → B) (Of : A → List Item 
 starts_named : (w : List ℕ) (is js : List Item) → is ≡ Verbatim w ∷ js → Starts is
 starts_named w is js e = subst Starts (sym e) tt
 
-short_spelled : Spelled (word_at Token Ended short_name) (λ x is. IsShortName is) AnyText
-short_spelled = spelled_as _ _ (λ x is. IsShortName is) AnyText (λ x is s. (s.0, short_takes s.0 x s.1, s.2)) (λ x is s. (s.0, short_again s.0 s.1, s.2)) (spelled_word Token Ended short_name)
+path_name_spelled : Spelled (word_at Token Ended path_name) (λ x is. IsShortName is) AnyText
+path_name_spelled = spelled_as _ _ (λ x is. IsShortName is) AnyText (λ x is s. (s.0, path_name_takes s.0 x s.1, s.2)) (λ x is s. (s.0, path_name_again s.0 s.1, s.2)) (spelled_word Token Ended path_name)
 
-known_spelled : {X : Type 0} (name_of : X → List ℕ) (xs : List X) → Spelled (word_at Token Ended (known_name name_of xs)) (λ x is. IsKnownName name_of xs is) AnyText
-known_spelled name_of xs = spelled_as _ _ (λ x is. IsKnownName name_of xs is) AnyText (λ x is s. (s.0, known_takes name_of xs s.0 x s.1, s.2)) (λ x is s. (s.0, known_again name_of xs s.0 s.1, s.2)) (spelled_word Token Ended (known_name name_of xs))
+known_spelled : (names : List (List ℕ)) → Spelled (word_at Token Ended (known_name names)) (λ x is. IsKnownName names is) AnyText
+known_spelled names = spelled_as _ _ (λ x is. IsKnownName names is) AnyText (λ x is s. (s.0, known_takes names s.0 x s.1, s.2)) (λ x is s. (s.0, known_again names s.0 s.1, s.2)) (spelled_word Token Ended (known_name names))
 
 -- things of a sort, of which none is kept
 module _ (one : Reading ReadKind (Unit {0})) (Is : List Item → Type 0) (starts : (is : List Item) → Is is → Starts is) (law : Spelled one (λ x is. Is is) AnyText) where
@@ -89,23 +90,23 @@ module _ (one : Reading ReadKind (Unit {0})) (Is : List Item → Type 0) (starts
       spelled_then _ _ _ _ AnyText law (λ y js s.
       each_spelled)))
 
-known_starts : {X : Type 0} (name_of : X → List ℕ) (xs : List X) (is : List Item) → IsKnownName name_of xs is → Starts is
-known_starts name_of xs is s = starts_named s.0 is [] s.2
+known_starts : (names : List (List ℕ)) (is : List Item) → IsKnownName names is → Starts is
+known_starts names is s = starts_named s.0 is [] s.2
 
-path_spelled : (links : List CostedLink) → Spelled (path_at links) (λ x is. IsNamedPath links is) AnyText
+path_spelled : (links : List (List ℕ)) → Spelled (path_at links) (λ x is. IsNamedPath links is) AnyText
 path_spelled links = spelled_as (path_at links) _ (λ x is. IsNamedPath links is) AnyText (λ x is s. (s.1, s.2, s.3, s.4, s.5)) (λ x is s. (tt, s.0, s.1, s.2, s.3, s.4))
-    (spelled_then _ _ _ _ AnyText short_spelled (λ n js s.
-    some_spelled (word_at Token Ended (known_name (λ l. l.link.name) links)) (IsKnownName (λ l. l.link.name) links) (known_starts (λ l. l.link.name) links) (known_spelled (λ l. l.link.name) links)))
+    (spelled_then _ _ _ _ AnyText path_name_spelled (λ n js s.
+    some_spelled (word_at Token Ended (known_name links)) (IsKnownName links) (known_starts links) (known_spelled links)))
 
-path_starts : (links : List CostedLink) (is : List Item) → IsNamedPath links is → Starts is
+path_starts : (links : List (List ℕ)) (is : List Item) → IsNamedPath links is → Starts is
 path_starts links is s = let n = s.2 in starts_named n.0 is s.1 (s.4 ∙ ap (λ (js : List Item). js ++ s.1) n.2)
 
-line_spelled : (links : List CostedLink) (demands : List Demand) → Spelled (line_at links demands) (λ x is. IsLine links demands is) AnyText
-line_spelled links demands = spelled_as (line_at links demands) _ (λ x is. IsLine links demands is) AnyText (λ x is s. (s.1, s.2, s.3, s.4, s.5)) (λ x is s. (tt, s.0, s.1, s.2, s.3, s.4))
-    (spelled_then _ _ _ _ AnyText (known_spelled (λ d. d.name) demands) (λ n js s.
+line_spelled : (links demands : List (List ℕ)) → Spelled (line_at links demands) (λ x is. IsPathLine links demands is) AnyText
+line_spelled links demands = spelled_as (line_at links demands) _ (λ x is. IsPathLine links demands is) AnyText (λ x is s. (s.1, s.2, s.3, s.4, s.5)) (λ x is s. (tt, s.0, s.1, s.2, s.3, s.4))
+    (spelled_then _ _ _ _ AnyText (known_spelled demands) (λ n js s.
     some_spelled (path_at links) (IsNamedPath links) (path_starts links) (path_spelled links)))
 
-line_starts : (links : List CostedLink) (demands : List Demand) (is : List Item) → IsLine links demands is → Starts is
+line_starts : (links demands : List (List ℕ)) (is : List Item) → IsPathLine links demands is → Starts is
 line_starts links demands is s = let n = s.2 in starts_named n.0 is s.1 (s.4 ∙ ap (λ (js : List Item). js ++ s.1) n.2)
 
 -- the end, after the section
@@ -119,26 +120,26 @@ end_spelled = record { takes = takes; again = λ text x rest is s b left. rw (su
     takes (EndAt at) x rest e = let p = ok_parts {K = ReadKind} tt x (EndAt at) rest e in ([], refl, p.1, (at, sym p.1))
 
 -- lines between parentheses, and the end
-abbrev AreLines : List CostedLink → List Demand → List Item → Type 0
-AreLines links demands is = (lines : List Item) × AreMany (IsLine links demands) lines × (is ≡ Opening ∷ (lines ++ Closing ∷ []))
+abbrev AreLines : List (List ℕ) → List (List ℕ) → List Item → Type 0
+AreLines links demands is = (lines : List Item) × AreMany (IsPathLine links demands) lines × (is ≡ Opening ∷ (lines ++ Closing ∷ []))
 
 lines_joined : (is js ks j2 k2 lines : List Item) → is ≡ js ++ ks → js ≡ Opening ∷ [] → ks ≡ j2 ++ k2 → j2 ≡ lines ++ Closing ∷ [] → k2 ≡ [] → is ≡ Opening ∷ (lines ++ Closing ∷ [])
 lines_joined is js ks j2 k2 lines a b c d e = rw (a, b, c, d, e) (ap (λ (l : List Item). Opening ∷ l) (append-nil (lines ++ Closing ∷ [])))
 
-lines_spelled : (links : List CostedLink) (demands : List Demand) → Spelled (paths_behind links demands true) (λ x is. AreLines links demands is) IsEnd
+lines_spelled : (links demands : List (List ℕ)) → Spelled (paths_behind links demands true) (λ x is. AreLines links demands is) IsEnd
 unfolding paths_behind
 lines_spelled links demands = spelled_as (paths_behind links demands true) _ (λ x is. AreLines links demands is) IsEnd
     (λ x is s. let f = s.4 in (f.3.0, f.3.1, lines_joined is s.1 s.2 f.1 f.2 f.3.0 s.5 s.3.1 f.5 f.3.2 f.4))
     (λ x is s. (tt, Opening ∷ [], s.0 ++ Closing ∷ [], (tt, refl), (tt, s.0 ++ Closing ∷ [], [], (s.0, s.1, refl), refl, sym (append-nil (s.0 ++ Closing ∷ []))), s.2))
     (spelled_then _ _ _ _ IsEnd (spelled_law (open_at Section Ended) _ _ AnyText (lawful_open Section Ended)) (λ o js s.
-    spelled_then _ _ _ _ IsEnd (each_spelled (line_at links demands) (IsLine links demands) (line_starts links demands) (line_spelled links demands)) (λ l js s.
+    spelled_then _ _ _ _ IsEnd (each_spelled (line_at links demands) (IsPathLine links demands) (line_starts links demands) (line_spelled links demands)) (λ l js s.
     end_spelled)))
 
 paths_if : (b : Bool) (w : List ℕ) (c : Bool) → are_same w (codes "ADMISSIBLE_PATHS") ≡ b → (let r : Result Bool ReadKind = cond b (Ok true) (Err Section) in r ≡ Ok c) → (w ≡ codes "ADMISSIBLE_PATHS") × (true ≡ c)
 paths_if true w c same e = (same_is w (codes "ADMISSIBLE_PATHS") same, cc)
 paths_if false w c same e = absurd cc
 
-module _ (links : List CostedLink) (demands : List Demand) where
+module _ (links demands : List (List ℕ)) where
   abbrev PathsTaken : Text → Text → Type 0
   PathsTaken text rest = (is : List Item) × ArePaths links demands is × Begins is text rest × IsEnd rest
 
@@ -337,7 +338,7 @@ record AreSections (x : Parts × List Demand) (is : List Item) : Type 0 where
   pub items_are : is ≡ whole_items meta nodes.1 (flat_map (link_items x.0.nodes) links) demand_items paths
   pub links_are : AreBehind (IsLinkBehind x.0.nodes) [] links
   pub demands_are : AreBehind (IsDemandBehind x.0.nodes) [] x.1 × AreSpelled (SpellsDemand x.0.nodes) x.1 demand_items
-  pub paths_are : ArePaths links x.1 paths
+  pub paths_are : ArePaths (map (λ l. l.link.name) links) (map (λ d. d.name) x.1) paths
   pub parts_are : parts x.0.nodes links ≡ x.0
 
 to_network : (x : Parts × List Demand) (is : List Item) → AreSections x is → SpellsParts x is
@@ -474,7 +475,7 @@ sections_spelled = spelled_as sections_at _ SpellsParts IsEnd
     let different : AreDifferent nodes = (nodes_new nodes js s).1 in
     spelled_then _ _ _ _ IsEnd (section_spelled (codes "LINKS") (costed_links_at nodes []) (AreLinkItems nodes) (spelled_law (costed_links_at nodes []) _ _ AnyText (links_lawful nodes different))) (λ links js s.
     spelled_then _ _ _ _ IsEnd (section_spelled (codes "DEMANDS") (demands_at nodes []) (AreDemandItems nodes) (demands_spelled nodes different)) (λ demands js s.
-    spelled_given (paths_at links demands) (λ u. (parts nodes links, demands)) _ IsEnd (paths_spelled links demands)))))))
+    spelled_given _ (λ u. (parts nodes links, demands)) _ IsEnd (paths_spelled _ _)))))))
 
 -- ---- what the code needs while it reads
 

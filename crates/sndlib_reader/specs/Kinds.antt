@@ -1,6 +1,6 @@
 -- how the kinds of faults are written
 use Rattle.std.specs.Prelude.{ℕ, List, codes}
-use Rattle.snd_tokens.specs.declared.amount.NumberFault.TheVariants.{NotANumber, TooFine, TooLarge}
+use Rattle.text_kit.specs.Numbers.{number_word}
 use Rattle.sndlib_reader.specs.declared.fault.Limited.TheVariants.{Name, Nodes, Links, Modules, Demands, Total}
 use Rattle.sndlib_reader.specs.declared.fault.ReadKind.{ReadKind}
 use Rattle.sndlib_reader.specs.declared.fault.ReadKind.TheVariants.{Header, Section, Token, Ended, Limit, Number, UnknownName, DoubleName, SelfLink, SelfDemand, ZeroModule, FixedLink}
@@ -17,9 +17,7 @@ kind_word (Limit Links) = codes "limit-links"
 kind_word (Limit Modules) = codes "limit-modules"
 kind_word (Limit Demands) = codes "limit-demands"
 kind_word (Limit Total) = codes "limit-total"
-kind_word (Number NotANumber) = codes "number-not"
-kind_word (Number TooFine) = codes "number-fine"
-kind_word (Number TooLarge) = codes "number-large"
+kind_word (Number fault) = number_word fault
 kind_word UnknownName = codes "unknown-name"
 kind_word DoubleName = codes "double-name"
 kind_word SelfLink = codes "self-link"

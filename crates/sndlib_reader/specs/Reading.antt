@@ -1,6 +1,5 @@
 -- Reading a network file from left to right: the tests of its words, and their order.
-use Rattle.std.specs.Prelude.{◌≡◌, ℕ, zero, suc, ◌+◌, ◌*◌, ◌^◌, ◌==◌, nat_lt, Bool, true, false, ◌||◌, ◌&&◌, if◌then◌else◌, List, [], length, map, Option, Some, None, Result, Ok, Err, position, sum_by, codes}
-use Rattle.snd_tokens.specs.declared.amount.NumberFault.{NumberFault}
+use Rattle.std.specs.Prelude.{◌≡◌, ℕ, zero, suc, ◌+◌, ◌*◌, ◌^◌, ◌==◌, nat_lt, Bool, true, false, ◌||◌, ◌&&◌, if◌then◌else◌, List, [], length, map, Option, Some, None, Result, Ok, Err, sum_by, codes}
 use Rattle.snd_tokens.specs.declared.amount.NumberFault.TheVariants.{NotANumber, TooLarge}
 use Rattle.snd_tokens.specs.Amounts.{amount_of, units_of}
 use Rattle.snd_tokens.specs.Digits.{are_digits}
@@ -10,8 +9,9 @@ use Rattle.net_core.specs.declared.ids.NodeId.{NodeId}
 use Rattle.net_core.specs.declared.network.Module.{Module}
 use Rattle.net_core.specs.declared.demand.Demand.{Demand}
 use Rattle.text_kit.specs.Files.{file_at}
+use Rattle.text_kit.specs.Names.{long_name_fault, named_place, new_name_fault}
+use Rattle.text_kit.specs.Numbers.{number_or}
 use Rattle.text_kit.specs.Reading.{Read, Reading, ◌>>=◌, give, step_at, word_at, open_at, close_at, end_at, expected, mapped, Parenthesis, sound, list_at, no_fault, each_at}
-use Rattle.sndlib_reader.specs.declared.fault.Limited.{Limited}
 use Rattle.sndlib_reader.specs.declared.fault.Limited.TheVariants as limits
 use Rattle.sndlib_reader.specs.declared.fault.ReadKind.{ReadKind}
 use Rattle.sndlib_reader.specs.declared.fault.ReadKind.TheVariants.{Header, Section, Token, Ended, Limit, Number, UnknownName, DoubleName, SelfLink, SelfDemand, ZeroModule, FixedLink}
@@ -20,64 +20,47 @@ use Rattle.sndlib_reader.specs.Spelling.{NodePart, NodeName, Coordinates, names_
 
 -- ---- what a word says
 
--- a name that is too long, that an earlier one has, or that is one too many
-abbrev pub taken_fault : Limited → ℕ → ℕ → Bool → List ℕ → Option ReadKind
-taken_fault kind most count taken w =
-    if nat_lt 255 (length w) then Some (Limit limits.Name)
-    else (if taken then Some DoubleName
-    else (if nat_lt count most then None else Some (Limit kind)))
+-- a node's name after earlier ones
+abbrev pub node_fault : List (List ℕ) → List ℕ → Option ReadKind
+node_fault sofar w = new_name_fault (Limit limits.Name) DoubleName (Limit limits.Nodes) 128 (length sofar) (is_named (λ n. n) w sofar) w
 
-abbrev pub new_name_fault : {X : Type 0} → (X → List ℕ) → Limited → ℕ → List X → List ℕ → Option ReadKind
-new_name_fault name_of kind most sofar w = taken_fault kind most (length sofar) (is_named name_of w sofar) w
+-- a link's name after earlier ones
+abbrev pub link_fault : List CostedLink → List ℕ → Option ReadKind
+link_fault sofar w = new_name_fault (Limit limits.Name) DoubleName (Limit limits.Links) 256 (length sofar) (is_named (λ l. l.link.name) w sofar) w
 
--- a new name
-abbrev pub new_name : {X : Type 0} → (X → List ℕ) → Limited → ℕ → List X → List ℕ → Result (List ℕ) ReadKind
-new_name name_of kind most sofar w = sound w (new_name_fault name_of kind most sofar w)
+-- a demand's name after earlier ones
+abbrev pub demand_fault : List Demand → List ℕ → Option ReadKind
+demand_fault sofar w = new_name_fault (Limit limits.Name) DoubleName (Limit limits.Demands) 2048 (length sofar) (is_named (λ d. d.name) w sofar) w
 
 -- any name
-abbrev pub short_name : List ℕ → Result (Unit {0}) ReadKind
-short_name w = if nat_lt 255 (length w) then Err (Limit limits.Name) else Ok tt
+abbrev pub path_name : List ℕ → Result (Unit {0}) ReadKind
+path_name w = sound tt (long_name_fault (Limit limits.Name) w)
 
--- a name that one of these has
-abbrev pub known_name : {X : Type 0} → (X → List ℕ) → List X → List ℕ → Result (Unit {0}) ReadKind
-known_name name_of xs w =
+-- one of these names
+abbrev pub known_name : List (List ℕ) → List ℕ → Result (Unit {0}) ReadKind
+known_name names w =
     if nat_lt 255 (length w) then Err (Limit limits.Name)
-    else (if is_named name_of w xs then Ok tt else Err UnknownName)
+    else (if is_named (λ n. n) w names then Ok tt else Err UnknownName)
 
--- the place of a name among the nodes
-abbrev pub node_place : List (List ℕ) → List ℕ → Option ℕ
-node_place nodes w = position (λ n. are_same n w) nodes
+-- the place of the node that has a name
+abbrev pub node_named : List (List ℕ) → List ℕ → Result ℕ ReadKind
+node_named nodes = named_place (λ n. n) (Limit limits.Name) UnknownName nodes
 
--- a node that is there
-abbrev pub node_or : Option ℕ → Result NodeId ReadKind
-node_or None = Err UnknownName
-node_or (Some i) = Ok (record { 0 = i })
-
--- the node of a name
-abbrev pub named_node : List (List ℕ) → List ℕ → Result NodeId ReadKind
-named_node nodes w = if nat_lt 255 (length w) then Err (Limit limits.Name) else node_or (node_place nodes w)
-
--- a node other than a
-abbrev pub apart : ReadKind → NodeId → Result NodeId ReadKind → Result NodeId ReadKind
-apart kind a (Ok b) = if a.0 == b.0 then Err kind else Ok b
+-- a place other than a
+abbrev pub apart : ReadKind → ℕ → Result ℕ ReadKind → Result ℕ ReadKind
+apart kind a (Ok b) = if a == b then Err kind else Ok b
 apart kind a (Err fault) = Err fault
 
--- the node of a name, other than a
-abbrev pub other_node : ReadKind → List (List ℕ) → NodeId → List ℕ → Result NodeId ReadKind
-other_node kind nodes a w = apart kind a (named_node nodes w)
+-- the place of the node that has a name, other than a
+abbrev pub other_node : ReadKind → List (List ℕ) → ℕ → List ℕ → Result ℕ ReadKind
+other_node kind nodes a w = apart kind a (node_named nodes w)
 
--- a number's value or its fault
-abbrev pub number : Result ℕ NumberFault → Result ℕ ReadKind
-number (Ok n) = Ok n
-number (Err f) = Err (Number f)
-
--- an amount
+-- an amount, and a whole number of units
 abbrev pub amount : List ℕ → Result ℕ ReadKind
-amount w = number (amount_of w)
+amount w = number_or Number (amount_of w)
 
--- a whole number of units
 abbrev pub unit : List ℕ → Result ℕ ReadKind
-unit w = number (units_of w)
+unit w = number_or Number (units_of w)
 
 -- the capacity of a further module
 abbrev pub carried : List Module → Result ℕ ReadKind → Result ℕ ReadKind
@@ -121,7 +104,7 @@ section_at name r = do
 
 -- a name in the list of nodes
 abbrev pub name_part : List NodePart → List ℕ → Result NodePart ReadKind
-name_part sofar w = sound (NodeName w) (new_name_fault (λ n. n) limits.Nodes 128 (names_of sofar) w)
+name_part sofar w = sound (NodeName w) (node_fault (names_of sofar) w)
 
 -- an opening parenthesis there, right after a name
 abbrev pub coordinates : List NodePart → Result NodePart ReadKind
@@ -144,10 +127,10 @@ nodes_at sofar = mapped names_of (list_at Parenthesis no_fault part_at sofar)
 unfoldable pub ends_at : ReadKind → List (List ℕ) → Reading ReadKind (NodeId × NodeId)
 ends_at kind nodes = do
   _ ← open_at Token Ended
-  a ← word_at Token Ended (named_node nodes)
+  a ← word_at Token Ended (node_named nodes)
   b ← word_at Token Ended (other_node kind nodes a)
   _ ← close_at Token Ended
-  give (a, b)
+  give (record { 0 = a }, record { 0 = b })
 
 -- a module after others
 unfoldable pub module_at : List Module → Reading ReadKind Module
@@ -167,7 +150,7 @@ modules_at fixed sofar = list_at Parenthesis (unserved fixed) module_at sofar
 -- a link after others, with the two costs that aren't kept
 unfoldable pub link_at : List (List ℕ) → List CostedLink → Reading ReadKind CostedLink
 link_at nodes sofar = do
-  name ← word_at Token Ended (new_name (λ l. l.link.name) limits.Links 256 sofar)
+  name ← word_at Token Ended (λ w. sound w (link_fault sofar w))
   ends ← ends_at SelfLink nodes
   fixed ← word_at Token Ended amount
   fixed_cost ← word_at Token Ended amount
@@ -192,7 +175,7 @@ total demands = sum_by (λ d. d.need) demands
 -- a demand after others
 unfoldable pub demand_at : List (List ℕ) → List Demand → Reading ReadKind Demand
 demand_at nodes sofar = do
-  name ← word_at Token Ended (new_name (λ d. d.name) limits.Demands 2048 sofar)
+  name ← word_at Token Ended (λ w. sound w (demand_fault sofar w))
   ends ← ends_at SelfDemand nodes
   units ← word_at Token Ended unit
   need ← word_at Token Ended (need (total sofar) units)
@@ -211,12 +194,12 @@ some_at one = do
   each_at one
 
 -- a path's name and its links
-abbrev pub path_at : List CostedLink → Reading ReadKind (Unit {0})
-path_at links = word_at Token Ended short_name >>= λ _. some_at (word_at Token Ended (known_name (λ l. l.link.name) links))
+abbrev pub path_at : List (List ℕ) → Reading ReadKind (Unit {0})
+path_at links = word_at Token Ended path_name >>= λ _. some_at (word_at Token Ended (known_name links))
 
 -- a demand's name and its paths
-abbrev pub line_at : List CostedLink → List Demand → Reading ReadKind (Unit {0})
-line_at links demands = word_at Token Ended (known_name (λ d. d.name) demands) >>= λ _. some_at (path_at links)
+abbrev pub line_at : List (List ℕ) → List (List ℕ) → Reading ReadKind (Unit {0})
+line_at links demands = word_at Token Ended (known_name demands) >>= λ _. some_at (path_at links)
 
 -- ---- whole files
 
@@ -241,7 +224,7 @@ abbrev pub is_paths : List ℕ → Result Bool ReadKind
 is_paths w = if are_same w (codes "ADMISSIBLE_PATHS") then Ok true else Err Section
 
 -- what comes after that word, or after the end
-unfoldable pub paths_behind : List CostedLink → List Demand → Bool → Reading ReadKind (Unit {0})
+unfoldable pub paths_behind : List (List ℕ) → List (List ℕ) → Bool → Reading ReadKind (Unit {0})
 paths_behind links demands true = do
   _ ← open_at Section Ended
   _ ← each_at (line_at links demands)
@@ -249,7 +232,7 @@ paths_behind links demands true = do
 paths_behind links demands false = give tt
 
 -- that section and the end, or the end alone
-abbrev pub paths_at : List CostedLink → List Demand → Reading ReadKind (Unit {0})
+abbrev pub paths_at : List (List ℕ) → List (List ℕ) → Reading ReadKind (Unit {0})
 paths_at links demands = step_at is_paths (Err Section) (Err Section) (Ok false) >>= paths_behind links demands
 
 -- the parts of these nodes and links
@@ -264,7 +247,7 @@ sections_at = do
   nodes ← nodes_at []
   links ← section_at (codes "LINKS") (costed_links_at nodes [])
   demands ← section_at (codes "DEMANDS") (demands_at nodes [])
-  _ ← paths_at links demands
+  _ ← paths_at (map (λ l. l.link.name) links) (map (λ d. d.name) demands)
   give (parts nodes links, demands)
 
 -- a whole file: its network and demands, or its first fault by place

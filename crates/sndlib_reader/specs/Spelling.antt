@@ -123,7 +123,7 @@ pub record SpellsParts (x : Parts × List Demand) (items : List Item) : Type 0 w
   pub network : IsNetwork x.0.nodes x.0.links
   pub demands_are : AreSpelled (SpellsDemand x.0.nodes) x.1 demand_items
   pub belong : AreDemands (length x.0.nodes) x.1
-  pub paths_are : ArePaths links x.1 paths
+  pub paths_are : ArePaths (map (λ l. l.link.name) links) (map (λ d. d.name) x.1) paths
 
 -- the first line of a network file
 abbrev pub header : List ℕ

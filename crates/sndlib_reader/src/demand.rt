@@ -1,19 +1,19 @@
-ghost use Rattle.std.specs.Prelude.{◌≡◌, ◌≤◌, ◌<◌, ◌^◌, ◌+◌, IsTrue, IfOk, OnOk, Ok, [], length};
+ghost use Rattle.std.specs.Prelude.{◌≡◌, ◌≤◌, ◌<◌, ◌^◌, ◌+◌, ◌++◌, ◌∷◌, None, false, IsTrue, IfOk, OnOk, Ok, [], length, map};
 ghost use Rattle.net_core.specs.Tests.{is_named};
 ghost use Rattle.snd_tokens.specs.Lexemes.{left, size};
 ghost use Rattle.text_kit.specs.Answers.{ReadsAs, TakesElement};
-ghost use Rattle.text_kit.specs.Reading.{word_at};
-ghost use Rattle.sndlib_reader.specs.Reading.{demand_at, demands_at, hops, new_name_fault, need, new_name, total, unit};
-ghost use Rattle.sndlib_reader.specs.declared.fault.Limited.TheVariants as limits;
+ghost use Rattle.text_kit.specs.Reading.{sound, word_at};
+ghost use Rattle.sndlib_reader.specs.Reading.{demand_at, demand_fault, demands_at, hops, need, total, unit};
 
 use crate::fault::{Limited, ReadKind, ReadRefusal};
+use crate::names::Names;
 use crate::node::ends;
-use crate::words::{amount_of, named, new_name_fault};
+use crate::words::amount_of;
 use net_core::{Demand, Demands, List, Name};
-use snd_tokens::{Cursor, Next, NumberFault, are_digits, units};
+use snd_tokens::{Cursor, NumberFault, are_digits, units};
 use std::alloc::Global;
-use text_kit::refusal::bad;
-use text_kit::steps::{closes, placed};
+use text_kit::names::new_name_fault;
+use text_kit::steps::{closes, placed, word};
 
 const MAX_DEMANDS: usize = 2048;
 
@@ -39,11 +39,8 @@ fn unit(text: &mut Cursor) -> Result<u64, ReadRefusal>
     ensures reads { ReadsAs (λ n. n) result (left text.new) (word_at ReadKind.Token ReadKind.Ended unit (left text.old)) }
     ensures small { IfOk result (λ n. n < 2 ^ 40) }
 {
-    match text.next() {
-        Next::Word(at, word) => placed(at, unit_of(word)),
-        Next::Open(at) | Next::Close(at) => Err(bad(at, ReadKind::Token)),
-        Next::End(at) => Err(bad(at, ReadKind::Ended)),
-    }
+    let (at, word) = word(ReadKind::Token, ReadKind::Ended, text)?;
+    placed(at, unit_of(word))
 }
 
 /// The need of so many units of a word's amount, after demands of this total, in thousandths.
@@ -71,11 +68,8 @@ fn need(before: u64, units: u64, text: &mut Cursor) -> Result<u64, ReadRefusal>
     ensures reads { ReadsAs (λ n. n) result (left text.new) (word_at ReadKind.Token ReadKind.Ended (need before units) (left text.old)) }
     ensures below { IfOk result (λ n. before + n < 2 ^ 44) }
 {
-    match text.next() {
-        Next::Word(at, word) => placed(at, need_of(before, units, word)),
-        Next::Open(at) | Next::Close(at) => Err(bad(at, ReadKind::Token)),
-        Next::End(at) => Err(bad(at, ReadKind::Ended)),
-    }
+    let (at, word) = word(ReadKind::Token, ReadKind::Ended, text)?;
+    placed(at, need_of(before, units, word))
 }
 
 /// Tests how many links a path may have.
@@ -92,60 +86,62 @@ fn hops_of(word: &[u8]) -> Result<(), ReadKind>
 fn hops(text: &mut Cursor) -> Result<(), ReadRefusal>
     ensures { ReadsAs (λ _. tt) result (left text.new) (word_at ReadKind.Token ReadKind.Ended hops (left text.old)) }
 {
-    match text.next() {
-        Next::Word(at, word) => placed(at, hops_of(word)),
-        Next::Open(at) | Next::Close(at) => Err(bad(at, ReadKind::Token)),
-        Next::End(at) => Err(bad(at, ReadKind::Ended)),
-    }
+    let (at, word) = word(ReadKind::Token, ReadKind::Ended, text)?;
+    placed(at, hops_of(word))
 }
 
-/// Whether one of these demands has the name.
-pub(crate) fn is_demand(demands: &[Demand], name: &[u8]) -> bool
-    ensures { result ≡ is_named (λ d. d.name) name.now demands.now }
-{
-    demands.iter().any(|d| d.name.bytes() == name)
-}
-
-/// What is wrong with a word as the name of a demand after these ones.
-fn demand_fault(demands: &[Demand], word: &[u8]) -> Option<ReadKind>
-    ensures { result ≡ new_name_fault (λ d. d.name) limits.Demands 2048 demands.now word.now }
+/// What is wrong with a word as the name of a demand after these ones, which have these names.
+fn demand_fault(demands: &[Demand], names: &Names, word: &[u8]) -> Option<ReadKind>
+    requires { names.now ≡ map (λ d. d.name) demands.now }
+    ensures value { result ≡ demand_fault demands.now word.now }
+    ensures short { result ≡ None → length word.now ≤ 255 }
+    ensures free { result ≡ None → is_named (λ n. n) word.now names.now ≡ false }
 {
     new_name_fault(
-        Limited::Demands,
+        ReadKind::Limit(Limited::Name),
+        ReadKind::DoubleName,
+        ReadKind::Limit(Limited::Demands),
         MAX_DEMANDS,
         demands.len(),
-        is_demand(demands, word),
+        names.has(word),
         word,
     )
 }
 
 /// Takes the name of a demand after these ones.
-fn demand_name(alloc: Global, demands: &[Demand], text: &mut Cursor) -> Result<Name, ReadRefusal>
-    ensures { ReadsAs (λ n. n) result (left text.new) (word_at ReadKind.Token ReadKind.Ended (new_name (λ d. d.name) limits.Demands 2048 demands.now) (left text.old)) }
+fn demand_name<'a>(
+    alloc: Global,
+    demands: &[Demand],
+    names: &mut Names<'a>,
+    text: &mut Cursor<'a>,
+) -> Result<Name, ReadRefusal>
+    requires { names.now ≡ map (λ d. d.name) demands.now }
+    ensures reads { ReadsAs (λ n. n) result (left text.new) (word_at ReadKind.Token ReadKind.Ended (λ w. sound w (demand_fault demands.now w)) (left text.old)) }
+    ensures last { IfOk result (λ n. names.new ≡ names.old ++ n ∷ []) }
 {
-    match text.next() {
-        Next::Word(at, word) => named(alloc, at, word, demand_fault(demands, word)),
-        Next::Open(at) | Next::Close(at) => Err(bad(at, ReadKind::Token)),
-        Next::End(at) => Err(bad(at, ReadKind::Ended)),
-    }
+    let (at, word) = word(ReadKind::Token, ReadKind::Ended, text)?;
+    names.put(alloc, at, word, demand_fault(demands, names, word))
 }
 
 /// Takes a demand after these ones, whose total is `before`.
 #[tactic(auto, unfolding(crate::specs::Reading::demand_at))]
-fn demand(
+fn demand<'a>(
     alloc: Global,
-    nodes: &[Name],
+    nodes: &Names,
     demands: &[Demand],
+    names: &mut Names<'a>,
     before: u64,
-    text: &mut Cursor,
+    text: &mut Cursor<'a>,
 ) -> Result<Demand, ReadRefusal>
     requires nodes { length nodes.now ≤ 128 }
+    requires named { names.now ≡ map (λ d. d.name) demands.now }
     requires sum { before ≡ total demands.now }
     requires below { before < 2 ^ 44 }
     ensures reads { ReadsAs (λ d. d) result (left text.new) (demand_at nodes.now demands.now (left text.old)) }
     ensures below { IfOk result (λ d. before + d.need < 2 ^ 44) }
+    ensures last { IfOk result (λ d. names.new ≡ names.old ++ d.name ∷ []) }
 {
-    let name = demand_name(alloc, demands, text)?;
+    let name = demand_name(alloc, demands, names, text)?;
     let (from, to) = ends(ReadKind::SelfDemand, nodes, text)?;
     let units = unit(text)?;
     let need = need(before, units, text)?;
@@ -159,41 +155,46 @@ fn demand(
 }
 
 /// Takes one demand more after these ones, whose total is `sum`, and says whether there was one.
-fn take_demand(
+fn take_demand<'a>(
     alloc: Global,
-    nodes: &[Name],
+    nodes: &Names,
     all: &mut Demands,
+    names: &mut Names<'a>,
     sum: &mut u64,
-    text: &mut Cursor,
+    text: &mut Cursor<'a>,
 ) -> Result<bool, ReadRefusal>
     requires nodes { length nodes.now ≤ 128 }
+    requires named { names.now ≡ map (λ d. d.name) all.now }
     requires sum { sum.now ≡ total all.now }
     requires below { sum.now < 2 ^ 44 }
     ensures turn { TakesElement result (demands_at nodes.now all.old (left text.old)) (demands_at nodes.now all.new (left text.new)) (Ok (all.new, left text.new)) }
     ensures shorter { IfOk result (λ more. IsTrue more → size (left text.new) < size (left text.old)) }
+    ensures named { OnOk result (names.new ≡ map (λ d. d.name) all.new) }
     ensures sum { OnOk result (sum.new ≡ total all.new) }
     ensures below { OnOk result (sum.new < 2 ^ 44) }
 {
     if let Some(_) = closes(text) {
         return Ok(false);
     }
-    let demand = demand(alloc, nodes, all.items(), *sum, text)?;
+    let demand = demand(alloc, nodes, all.items(), names, *sum, text)?;
     *sum += demand.need;
     all.push(demand)?;
     Ok(true)
 }
 
-/// Takes demands, up to the closing parenthesis.
-pub(crate) fn demands(
+/// Takes demands, up to the closing parenthesis. It gives their names for look-ups too.
+pub(crate) fn demands<'a>(
     alloc: Global,
-    nodes: &[Name],
-    text: &mut Cursor,
-) -> Result<Demands, ReadRefusal>
+    nodes: &Names,
+    text: &mut Cursor<'a>,
+) -> Result<(Demands, Names<'a>), ReadRefusal>
     requires { length nodes.now ≤ 128 }
-    ensures { ReadsAs (λ demands. demands) result (left text.new) (demands_at nodes.now [] (left text.old)) }
+    ensures reads { ReadsAs (λ r. r.0) result (left text.new) (demands_at nodes.now [] (left text.old)) }
+    ensures named { IfOk result (λ r. r.1 ≡ map (λ d. d.name) r.0) }
 {
     let mut all = List::new(alloc);
+    let mut names = Names::new(alloc);
     let mut sum = 0;
-    while take_demand(alloc, nodes, &mut all, &mut sum, text)? {}
-    Ok(all)
+    while take_demand(alloc, nodes, &mut all, &mut names, &mut sum, text)? {}
+    Ok((all, names))
 }

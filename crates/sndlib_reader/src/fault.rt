@@ -1,8 +1,10 @@
 ghost use Rattle.std.specs.Prelude.{◌≡◌};
 ghost use Rattle.sndlib_reader.specs.Kinds.{kind_word};
 
+use net_core::{Bytes, NoMemory};
 use snd_tokens::NumberFault;
 use text_kit::Refusal;
+use text_kit::fault_word::{FaultWord, number_word};
 
 /// What there may be only so many of, or so much.
 #[derive(Clone, Copy, Debug, PartialEq, Eq)]
@@ -85,13 +87,13 @@ fn limit_word(limited: Limited) -> &'static str
     }
 }
 
-fn number_word(fault: NumberFault) -> &'static str
-    ensures { result.now ≡ kind_word (ReadKind.Number fault) }
-{
-    match fault {
-        NumberFault::NotANumber => "number-not",
-        NumberFault::TooFine => "number-fine",
-        NumberFault::TooLarge => "number-large",
+impl FaultWord for ReadKind {
+    ghost use Rattle.sndlib_reader.specs.Kinds.{kind_word};
+
+    ghost word = { kind_word };
+
+    fn put_word(&self, text: &mut Bytes) -> Result<(), NoMemory> {
+        text.append(self.word().as_bytes())
     }
 }
 

@@ -5,6 +5,7 @@ mod costs;
 mod demand;
 pub mod fault;
 mod link;
+mod names;
 mod node;
 mod paths;
 mod reader;

@@ -1,20 +1,21 @@
-ghost use Rattle.std.specs.Prelude.{◌≡◌, ◌≤◌, ◌<◌, IsTrue, IfOk, Ok, [], length};
+ghost use Rattle.std.specs.Prelude.{◌≡◌, ◌≤◌, ◌<◌, ◌++◌, ◌∷◌, None, false, IsTrue, IfOk, OnOk, Ok, [], length, map};
 ghost use Rattle.net_core.specs.Tests.{is_named};
 ghost use Rattle.snd_tokens.specs.Lexemes.{left, size};
 ghost use Rattle.text_kit.specs.Answers.{ReadsAs, TakesElement};
-ghost use Rattle.text_kit.specs.Reading.{word_at};
-ghost use Rattle.sndlib_reader.specs.Reading.{capacity, link_at, costed_links_at, module_at, modules_at, new_name_fault, new_name};
-ghost use Rattle.sndlib_reader.specs.declared.fault.Limited.TheVariants as limits;
+ghost use Rattle.text_kit.specs.Reading.{sound, word_at};
+ghost use Rattle.sndlib_reader.specs.Reading.{capacity, link_at, link_fault, costed_links_at, module_at, modules_at};
 
 use crate::costs::CostedLink;
 use crate::fault::{Limited, ReadKind, ReadRefusal};
+use crate::names::Names;
 use crate::node::ends;
-use crate::words::{amount, amount_of, named, new_name_fault};
+use crate::words::{amount, amount_of};
 use net_core::{Link, List, Module, Name};
-use snd_tokens::{Cursor, Next};
+use snd_tokens::Cursor;
 use std::alloc::Global;
+use text_kit::names::new_name_fault;
 use text_kit::refusal::bad;
-use text_kit::steps::{closes, open, placed};
+use text_kit::steps::{closes, open, placed, word};
 
 const MAX_LINKS: usize = 256;
 
@@ -38,11 +39,8 @@ fn capacity_of(modules: &[Module], word: &[u8]) -> Result<u64, ReadKind>
 fn capacity(modules: &[Module], text: &mut Cursor) -> Result<u64, ReadRefusal>
     ensures { ReadsAs (λ n. n) result (left text.new) (word_at ReadKind.Token ReadKind.Ended (capacity modules.now) (left text.old)) }
 {
-    match text.next() {
-        Next::Word(at, word) => placed(at, capacity_of(modules, word)),
-        Next::Open(at) | Next::Close(at) => Err(bad(at, ReadKind::Token)),
-        Next::End(at) => Err(bad(at, ReadKind::Ended)),
-    }
+    let (at, word) = word(ReadKind::Token, ReadKind::Ended, text)?;
+    placed(at, capacity_of(modules, word))
 }
 
 /// Takes a module after these ones.
@@ -80,49 +78,54 @@ fn modules(alloc: Global, fixed: u64, text: &mut Cursor) -> Result<List<Module>,
     Ok(all)
 }
 
-/// Whether one of these links has the name.
-pub(crate) fn is_link(links: &[CostedLink], name: &[u8]) -> bool
-    ensures { result ≡ is_named (λ l. l.link.name) name.now links.now }
-{
-    links.iter().any(|l| l.link.name.bytes() == name)
-}
-
-/// What is wrong with a word as the name of a link after these ones.
-fn link_fault(links: &[CostedLink], word: &[u8]) -> Option<ReadKind>
-    ensures { result ≡ new_name_fault (λ l. l.link.name) limits.Links 256 links.now word.now }
+/// What is wrong with a word as the name of a link after these ones, which have these names.
+fn link_fault(links: &[CostedLink], names: &Names, word: &[u8]) -> Option<ReadKind>
+    requires { names.now ≡ map (λ l. l.link.name) links.now }
+    ensures value { result ≡ link_fault links.now word.now }
+    ensures short { result ≡ None → length word.now ≤ 255 }
+    ensures free { result ≡ None → is_named (λ n. n) word.now names.now ≡ false }
 {
     new_name_fault(
-        Limited::Links,
+        ReadKind::Limit(Limited::Name),
+        ReadKind::DoubleName,
+        ReadKind::Limit(Limited::Links),
         MAX_LINKS,
         links.len(),
-        is_link(links, word),
+        names.has(word),
         word,
     )
 }
 
 /// Takes the name of a link after these ones.
-fn link_name(alloc: Global, links: &[CostedLink], text: &mut Cursor) -> Result<Name, ReadRefusal>
-    ensures { ReadsAs (λ n. n) result (left text.new) (word_at ReadKind.Token ReadKind.Ended (new_name (λ l. l.link.name) limits.Links 256 links.now) (left text.old)) }
+fn link_name<'a>(
+    alloc: Global,
+    links: &[CostedLink],
+    names: &mut Names<'a>,
+    text: &mut Cursor<'a>,
+) -> Result<Name, ReadRefusal>
+    requires { names.now ≡ map (λ l. l.link.name) links.now }
+    ensures reads { ReadsAs (λ n. n) result (left text.new) (word_at ReadKind.Token ReadKind.Ended (λ w. sound w (link_fault links.now w)) (left text.old)) }
+    ensures last { IfOk result (λ n. names.new ≡ names.old ++ n ∷ []) }
 {
-    match text.next() {
-        Next::Word(at, word) => named(alloc, at, word, link_fault(links, word)),
-        Next::Open(at) | Next::Close(at) => Err(bad(at, ReadKind::Token)),
-        Next::End(at) => Err(bad(at, ReadKind::Ended)),
-    }
+    let (at, word) = word(ReadKind::Token, ReadKind::Ended, text)?;
+    names.put(alloc, at, word, link_fault(links, names, word))
 }
 
 /// Takes a link after these ones.
 #[tactic(auto, unfolding(crate::specs::Reading::link_at))]
-fn link(
+fn link<'a>(
     alloc: Global,
-    nodes: &[Name],
+    nodes: &Names,
     links: &[CostedLink],
-    text: &mut Cursor,
+    names: &mut Names<'a>,
+    text: &mut Cursor<'a>,
 ) -> Result<CostedLink, ReadRefusal>
-    requires { length nodes.now ≤ 128 }
-    ensures { ReadsAs (λ l. l) result (left text.new) (link_at nodes.now links.now (left text.old)) }
+    requires nodes { length nodes.now ≤ 128 }
+    requires named { names.now ≡ map (λ l. l.link.name) links.now }
+    ensures reads { ReadsAs (λ l. l) result (left text.new) (link_at nodes.now links.now (left text.old)) }
+    ensures last { IfOk result (λ l. names.new ≡ names.old ++ l.link.name ∷ []) }
 {
-    let name = link_name(alloc, links, text)?;
+    let name = link_name(alloc, links, names, text)?;
     let (a, b) = ends(ReadKind::SelfLink, nodes, text)?;
     let fixed = amount(text)?;
     let fixed_cost = amount(text)?;
@@ -145,34 +148,39 @@ fn link(
 }
 
 /// Takes one link more, and says whether there was one.
-fn take_link(
+fn take_link<'a>(
     alloc: Global,
-    nodes: &[Name],
+    nodes: &Names,
     all: &mut List<CostedLink>,
-    text: &mut Cursor,
+    names: &mut Names<'a>,
+    text: &mut Cursor<'a>,
 ) -> Result<bool, ReadRefusal>
-    requires { length nodes.now ≤ 128 }
+    requires nodes { length nodes.now ≤ 128 }
+    requires named { names.now ≡ map (λ l. l.link.name) all.now }
     ensures turn { TakesElement result (costed_links_at nodes.now all.old (left text.old)) (costed_links_at nodes.now all.new (left text.new)) (Ok (all.new, left text.new)) }
     ensures shorter { IfOk result (λ more. IsTrue more → size (left text.new) < size (left text.old)) }
+    ensures named { OnOk result (names.new ≡ map (λ l. l.link.name) all.new) }
 {
     if let Some(_) = closes(text) {
         return Ok(false);
     }
-    let link = link(alloc, nodes, all.items(), text)?;
+    let link = link(alloc, nodes, all.items(), names, text)?;
     all.push(link)?;
     Ok(true)
 }
 
-/// Takes links, up to the closing parenthesis.
-pub(crate) fn links(
+/// Takes links, up to the closing parenthesis. It gives their names for look-ups too.
+pub(crate) fn links<'a>(
     alloc: Global,
-    nodes: &[Name],
-    text: &mut Cursor,
-) -> Result<List<CostedLink>, ReadRefusal>
+    nodes: &Names,
+    text: &mut Cursor<'a>,
+) -> Result<(List<CostedLink>, Names<'a>), ReadRefusal>
     requires { length nodes.now ≤ 128 }
-    ensures { ReadsAs (λ links. links) result (left text.new) (costed_links_at nodes.now [] (left text.old)) }
+    ensures reads { ReadsAs (λ r. r.0) result (left text.new) (costed_links_at nodes.now [] (left text.old)) }
+    ensures named { IfOk result (λ r. r.1 ≡ map (λ l. l.link.name) r.0) }
 {
     let mut all = List::new(alloc);
-    while take_link(alloc, nodes, &mut all, text)? {}
-    Ok(all)
+    let mut names = Names::new(alloc);
+    while take_link(alloc, nodes, &mut all, &mut names, text)? {}
+    Ok((all, names))
 }

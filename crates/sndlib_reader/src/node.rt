@@ -1,59 +1,59 @@
-ghost use Rattle.std.specs.Prelude.{◌≡◌, ◌≤◌, ◌<◌, ◌+◌, IsTrue, IfOk, OnOk, Ok, [], length};
+ghost use Rattle.std.specs.Prelude.{◌≡◌, ◌≤◌, ◌<◌, None, false, IsTrue, IfOk, OnOk, Ok, [], length};
 ghost use Rattle.net_core.specs.Tests.{is_named};
 ghost use Rattle.snd_tokens.specs.Lexemes.{left, size};
 ghost use Rattle.text_kit.specs.Answers.{ReadsAs, TakesElement};
 ghost use Rattle.text_kit.specs.Reading.{word_at};
-ghost use Rattle.sndlib_reader.specs.Reading.{ends_at, new_name_fault, named_node, node_place, nodes_at, other_node};
-ghost use Rattle.sndlib_reader.specs.declared.fault.Limited.TheVariants as limits;
+ghost use Rattle.sndlib_reader.specs.Reading.{ends_at, node_fault, node_named, nodes_at, other_node};
 ghost use Rattle.sndlib_reader.specs.inner.Nodes.{parts_so_far};
 
 use crate::fault::{Limited, ReadKind, ReadRefusal};
+use crate::names::Names;
 use crate::skip::skip;
-use crate::words::{is_long, named, new_name_fault};
 use net_core::{List, Name, NodeId};
 use snd_tokens::{Cursor, Next};
 use std::alloc::Global;
+use text_kit::names::{is_long, new_name_fault};
 use text_kit::refusal::bad;
-use text_kit::steps::{close, open, placed};
+use text_kit::steps::{close, open, placed, word};
 
 const MAX_NODES: usize = 128;
 
-/// Whether one of these nodes has the name.
-fn is_node(nodes: &[Name], name: &[u8]) -> bool
-    ensures { result ≡ is_named (λ n. n) name.now nodes.now }
-{
-    nodes.iter().any(|n| n.bytes() == name)
-}
-
 /// What is wrong with a word as the name of a node after these ones.
-fn node_fault(nodes: &[Name], word: &[u8]) -> Option<ReadKind>
-    ensures { result ≡ new_name_fault (λ n. n) limits.Nodes 128 nodes.now word.now }
+fn node_fault(nodes: &Names, word: &[u8]) -> Option<ReadKind>
+    ensures value { result ≡ node_fault nodes.now word.now }
+    ensures short { result ≡ None → length word.now ≤ 255 }
+    ensures free { result ≡ None → is_named (λ n. n) word.now nodes.now ≡ false }
 {
     new_name_fault(
-        Limited::Nodes,
+        ReadKind::Limit(Limited::Name),
+        ReadKind::DoubleName,
+        ReadKind::Limit(Limited::Nodes),
         MAX_NODES,
         nodes.len(),
-        is_node(nodes, word),
+        nodes.has(word),
         word,
     )
 }
 
-/// Takes a node's name or coordinates after these nodes; `after_name` says that a name was taken
-/// last. It says whether there was one, or the closing parenthesis.
-fn take_part(
+/// Takes a node's name or coordinates after these nodes, which have these names; `after_name` says
+/// that a name was taken last. It says whether there was one, or the closing parenthesis.
+fn take_part<'a>(
     alloc: Global,
     nodes: &mut List<Name>,
+    names: &mut Names<'a>,
     after_name: &mut bool,
-    text: &mut Cursor,
+    text: &mut Cursor<'a>,
 ) -> Result<bool, ReadRefusal>
-    requires { IsTrue after_name.now → 1 ≤ length nodes.now }
+    requires some { IsTrue after_name.now → 1 ≤ length nodes.now }
+    requires named { names.now ≡ nodes.now }
     ensures turn { TakesElement result (nodes_at (parts_so_far nodes.old after_name.old) (left text.old)) (nodes_at (parts_so_far nodes.new after_name.new) (left text.new)) (Ok (nodes.new, left text.new)) }
     ensures shorter { IfOk result (λ more. IsTrue more → size (left text.new) < size (left text.old)) }
     ensures some { OnOk result (IsTrue after_name.new → 1 ≤ length nodes.new) }
+    ensures named { OnOk result (names.new ≡ nodes.new) }
 {
     match text.next() {
         Next::Word(at, word) => {
-            let name = named(alloc, at, word, node_fault(nodes.items(), word))?;
+            let name = names.put(alloc, at, word, node_fault(names, word))?;
             nodes.push(name)?;
             *after_name = true;
             Ok(true)
@@ -71,83 +71,70 @@ fn take_part(
     }
 }
 
-/// Takes nodes, up to the closing parenthesis.
-pub(crate) fn nodes(alloc: Global, text: &mut Cursor) -> Result<List<Name>, ReadRefusal>
-    ensures { ReadsAs (λ nodes. nodes) result (left text.new) (nodes_at [] (left text.old)) }
+/// Takes nodes, up to the closing parenthesis. It gives their names for look-ups too.
+pub(crate) fn nodes<'a>(
+    alloc: Global,
+    text: &mut Cursor<'a>,
+) -> Result<(List<Name>, Names<'a>), ReadRefusal>
+    ensures reads { ReadsAs (λ r. r.0) result (left text.new) (nodes_at [] (left text.old)) }
+    ensures named { IfOk result (λ r. r.1 ≡ r.0) }
 {
     let mut nodes = List::new(alloc);
+    let mut names = Names::new(alloc);
     let mut after_name = false;
-    while take_part(alloc, &mut nodes, &mut after_name, text)? {}
-    Ok(nodes)
+    while take_part(alloc, &mut nodes, &mut names, &mut after_name, text)? {}
+    Ok((nodes, names))
 }
 
-/// The place of a name among the nodes.
-fn place_of(nodes: &[Name], name: &[u8]) -> Option<usize>
-    ensures { result ≡ node_place nodes.now name.now }
-{
-    nodes.iter().position(|n| n.bytes() == name)
-}
-
-/// The node that a word names.
-fn named_node(nodes: &[Name], word: &[u8]) -> Result<NodeId, ReadKind>
+/// The place of the node that a word names.
+fn node_named(nodes: &Names, word: &[u8]) -> Result<u32, ReadKind>
     requires { length nodes.now ≤ 128 }
-    ensures { result ≡ named_node nodes.now word.now }
+    ensures { result ≡ node_named nodes.now word.now }
 {
     if is_long(word) {
         return Err(ReadKind::Limit(Limited::Name));
     }
-    match place_of(nodes, word) {
-        Some(place) => Ok(NodeId(place as u32)),
+    match nodes.place(word) {
+        Some(place) => Ok(place as u32),
         None => Err(ReadKind::UnknownName),
     }
 }
 
-/// Takes a node's name.
-fn node(nodes: &[Name], text: &mut Cursor) -> Result<NodeId, ReadRefusal>
+/// Takes a node's name, and gives its place.
+fn node(nodes: &Names, text: &mut Cursor) -> Result<u32, ReadRefusal>
     requires { length nodes.now ≤ 128 }
-    ensures { ReadsAs (λ id. id) result (left text.new) (word_at ReadKind.Token ReadKind.Ended (named_node nodes.now) (left text.old)) }
+    ensures { ReadsAs (λ a. a) result (left text.new) (word_at ReadKind.Token ReadKind.Ended (node_named nodes.now) (left text.old)) }
 {
-    match text.next() {
-        Next::Word(at, word) => placed(at, named_node(nodes, word)),
-        Next::Open(at) | Next::Close(at) => Err(bad(at, ReadKind::Token)),
-        Next::End(at) => Err(bad(at, ReadKind::Ended)),
-    }
+    let (at, word) = word(ReadKind::Token, ReadKind::Ended, text)?;
+    placed(at, node_named(nodes, word))
 }
 
-/// The node that a word names, where that is another one than `a`.
-fn other_of(kind: ReadKind, nodes: &[Name], a: NodeId, word: &[u8]) -> Result<NodeId, ReadKind>
+/// The place of the node that a word names, where that is another one than `a`.
+fn other_of(kind: ReadKind, nodes: &Names, a: u32, word: &[u8]) -> Result<u32, ReadKind>
     requires { length nodes.now ≤ 128 }
     ensures { result ≡ other_node kind nodes.now a word.now }
 {
-    let b = named_node(nodes, word)?;
-    if a.0 == b.0 {
+    let b = node_named(nodes, word)?;
+    if a == b {
         return Err(kind);
     }
     Ok(b)
 }
 
-/// Takes another node's name than that of `a`.
-fn other_node(
-    kind: ReadKind,
-    nodes: &[Name],
-    a: NodeId,
-    text: &mut Cursor,
-) -> Result<NodeId, ReadRefusal>
+/// Takes another node's name than that of `a`, and gives its place.
+fn other_node(kind: ReadKind, nodes: &Names, a: u32, text: &mut Cursor) -> Result<u32, ReadRefusal>
     requires { length nodes.now ≤ 128 }
-    ensures { ReadsAs (λ id. id) result (left text.new) (word_at ReadKind.Token ReadKind.Ended (other_node kind nodes.now a) (left text.old)) }
+    ensures { ReadsAs (λ b. b) result (left text.new) (word_at ReadKind.Token ReadKind.Ended (other_node kind nodes.now a) (left text.old)) }
 {
-    match text.next() {
-        Next::Word(at, word) => placed(at, other_of(kind, nodes, a, word)),
-        Next::Open(at) | Next::Close(at) => Err(bad(at, ReadKind::Token)),
-        Next::End(at) => Err(bad(at, ReadKind::Ended)),
-    }
+    let (at, word) = word(ReadKind::Token, ReadKind::Ended, text)?;
+    placed(at, other_of(kind, nodes, a, word))
 }
 
 /// Takes two nodes between parentheses; two equal ones have a fault of this kind.
 #[tactic(auto, unfolding(crate::specs::Reading::ends_at))]
 pub(crate) fn ends(
     kind: ReadKind,
-    nodes: &[Name],
+    nodes: &Names,
     text: &mut Cursor,
 ) -> Result<(NodeId, NodeId), ReadRefusal>
     requires { length nodes.now ≤ 128 }
@@ -157,5 +144,5 @@ pub(crate) fn ends(
     let a = node(nodes, text)?;
     let b = other_node(kind, nodes, a, text)?;
     close(ReadKind::Token, ReadKind::Ended, text)?;
-    Ok((a, b))
+    Ok((NodeId(a), NodeId(b)))
 }

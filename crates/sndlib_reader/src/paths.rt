@@ -2,71 +2,45 @@ ghost use Rattle.std.specs.Prelude.{◌≡◌, ◌<◌, false, IsTrue, IfOk, Ok,
 ghost use Rattle.snd_tokens.specs.Lexemes.{left, size};
 ghost use Rattle.text_kit.specs.Answers.{ReadsAs, TakesElement};
 ghost use Rattle.text_kit.specs.Reading.{each_at, step_at, word_at};
-ghost use Rattle.sndlib_reader.specs.Reading.{is_paths, known_name, line_at, path_at, paths_at, short_name, some_at};
+ghost use Rattle.sndlib_reader.specs.Reading.{is_paths, known_name, line_at, path_at, path_name, paths_at, some_at};
 
-use crate::costs::CostedLink;
-use crate::demand::is_demand;
 use crate::fault::{Limited, ReadKind, ReadRefusal};
-use crate::link::is_link;
-use crate::words::is_long;
-use net_core::Demand;
+use crate::names::Names;
+use crate::words::known;
 use snd_tokens::{Cursor, Next};
+use text_kit::names::is_long;
 use text_kit::refusal::bad;
-use text_kit::steps::{closes, end, open, placed};
+use text_kit::steps::{closes, end, open, placed, word};
 
 const PATHS: &[u8] = b"ADMISSIBLE_PATHS";
 
-/// Tests a word as the name of a link.
-fn known_link(links: &[CostedLink], word: &[u8]) -> Result<(), ReadKind>
-    ensures { result ≡ known_name (λ l. l.link.name) links.now word.now }
-{
-    if is_long(word) {
-        return Err(ReadKind::Limit(Limited::Name));
-    }
-    if !is_link(links, word) {
-        return Err(ReadKind::UnknownName);
-    }
-    Ok(())
-}
-
-/// Takes the name of a link.
-fn link(links: &[CostedLink], text: &mut Cursor) -> Result<(), ReadRefusal>
-    ensures { ReadsAs (λ _. tt) result (left text.new) (word_at ReadKind.Token ReadKind.Ended (known_name (λ l. l.link.name) links.now) (left text.old)) }
-{
-    match text.next() {
-        Next::Word(at, word) => placed(at, known_link(links, word)),
-        Next::Open(at) | Next::Close(at) => Err(bad(at, ReadKind::Token)),
-        Next::End(at) => Err(bad(at, ReadKind::Ended)),
-    }
-}
-
 /// Takes one link more of a path, and says whether there was one.
-fn take_link(links: &[CostedLink], text: &mut Cursor) -> Result<bool, ReadRefusal>
-    ensures turn { let costed_links_at = each_at (word_at ReadKind.Token ReadKind.Ended (known_name (λ l. l.link.name) links.now)) in
+fn take_link(links: &Names, text: &mut Cursor) -> Result<bool, ReadRefusal>
+    ensures turn { let costed_links_at = each_at (word_at ReadKind.Token ReadKind.Ended (known_name links.now)) in
         TakesElement result (costed_links_at (left text.old)) (costed_links_at (left text.new)) (Ok (tt, left text.new)) }
     ensures shorter { IfOk result (λ more. IsTrue more → size (left text.new) < size (left text.old)) }
 {
     if let Some(_) = closes(text) {
         return Ok(false);
     }
-    link(links, text)?;
+    known(links, text)?;
     Ok(true)
 }
 
-/// Takes the links of a path between parentheses.
+/// Takes the links of a path between parentheses; `links` are the names of all links.
 #[tactic(auto, unfolding(crate::specs::Reading::some_at))]
-fn path_links(links: &[CostedLink], text: &mut Cursor) -> Result<(), ReadRefusal>
-    ensures { ReadsAs (λ _. tt) result (left text.new) (some_at (word_at ReadKind.Token ReadKind.Ended (known_name (λ l. l.link.name) links.now)) (left text.old)) }
+fn path_links(links: &Names, text: &mut Cursor) -> Result<(), ReadRefusal>
+    ensures { ReadsAs (λ _. tt) result (left text.new) (some_at (word_at ReadKind.Token ReadKind.Ended (known_name links.now)) (left text.old)) }
 {
     open(ReadKind::Token, ReadKind::Ended, text)?;
-    link(links, text)?;
+    known(links, text)?;
     while take_link(links, text)? {}
     Ok(())
 }
 
-/// Tests a word as a name.
-fn short_name(word: &[u8]) -> Result<(), ReadKind>
-    ensures { result ≡ short_name word.now }
+/// Tests a word as any name.
+fn any_name(word: &[u8]) -> Result<(), ReadKind>
+    ensures { result ≡ path_name word.now }
 {
     if is_long(word) {
         return Err(ReadKind::Limit(Limited::Name));
@@ -76,17 +50,14 @@ fn short_name(word: &[u8]) -> Result<(), ReadKind>
 
 /// Takes a path's name, which may be any name.
 fn path_name(text: &mut Cursor) -> Result<(), ReadRefusal>
-    ensures { ReadsAs (λ _. tt) result (left text.new) (word_at ReadKind.Token ReadKind.Ended short_name (left text.old)) }
+    ensures { ReadsAs (λ _. tt) result (left text.new) (word_at ReadKind.Token ReadKind.Ended path_name (left text.old)) }
 {
-    match text.next() {
-        Next::Word(at, word) => placed(at, short_name(word)),
-        Next::Open(at) | Next::Close(at) => Err(bad(at, ReadKind::Token)),
-        Next::End(at) => Err(bad(at, ReadKind::Ended)),
-    }
+    let (at, word) = word(ReadKind::Token, ReadKind::Ended, text)?;
+    placed(at, any_name(word))
 }
 
 /// Takes a path: its name and its links.
-fn path(links: &[CostedLink], text: &mut Cursor) -> Result<(), ReadRefusal>
+fn path(links: &Names, text: &mut Cursor) -> Result<(), ReadRefusal>
     ensures { ReadsAs (λ _. tt) result (left text.new) (path_at links.now (left text.old)) }
 {
     path_name(text)?;
@@ -94,7 +65,7 @@ fn path(links: &[CostedLink], text: &mut Cursor) -> Result<(), ReadRefusal>
 }
 
 /// Takes one path more of a demand, and says whether there was one.
-fn take_path(links: &[CostedLink], text: &mut Cursor) -> Result<bool, ReadRefusal>
+fn take_path(links: &Names, text: &mut Cursor) -> Result<bool, ReadRefusal>
     ensures turn { TakesElement result (each_at (path_at links.now) (left text.old)) (each_at (path_at links.now) (left text.new)) (Ok (tt, left text.new)) }
     ensures shorter { IfOk result (λ more. IsTrue more → size (left text.new) < size (left text.old)) }
 {
@@ -107,7 +78,7 @@ fn take_path(links: &[CostedLink], text: &mut Cursor) -> Result<bool, ReadRefusa
 
 /// Takes the paths of a demand between parentheses.
 #[tactic(auto, unfolding(crate::specs::Reading::some_at))]
-fn demand_paths(links: &[CostedLink], text: &mut Cursor) -> Result<(), ReadRefusal>
+fn demand_paths(links: &Names, text: &mut Cursor) -> Result<(), ReadRefusal>
     ensures { ReadsAs (λ _. tt) result (left text.new) (some_at (path_at links.now) (left text.old)) }
 {
     open(ReadKind::Token, ReadKind::Ended, text)?;
@@ -116,44 +87,16 @@ fn demand_paths(links: &[CostedLink], text: &mut Cursor) -> Result<(), ReadRefus
     Ok(())
 }
 
-/// Tests a word as the name of a demand.
-fn known_demand(demands: &[Demand], word: &[u8]) -> Result<(), ReadKind>
-    ensures { result ≡ known_name (λ d. d.name) demands.now word.now }
-{
-    if is_long(word) {
-        return Err(ReadKind::Limit(Limited::Name));
-    }
-    if !is_demand(demands, word) {
-        return Err(ReadKind::UnknownName);
-    }
-    Ok(())
-}
-
-/// Takes the name of a demand.
-fn demand(demands: &[Demand], text: &mut Cursor) -> Result<(), ReadRefusal>
-    ensures { ReadsAs (λ _. tt) result (left text.new) (word_at ReadKind.Token ReadKind.Ended (known_name (λ d. d.name) demands.now) (left text.old)) }
-{
-    match text.next() {
-        Next::Word(at, word) => placed(at, known_demand(demands, word)),
-        Next::Open(at) | Next::Close(at) => Err(bad(at, ReadKind::Token)),
-        Next::End(at) => Err(bad(at, ReadKind::Ended)),
-    }
-}
-
 /// Takes a line: a demand's name and its paths.
-fn line(links: &[CostedLink], demands: &[Demand], text: &mut Cursor) -> Result<(), ReadRefusal>
+fn line(links: &Names, demands: &Names, text: &mut Cursor) -> Result<(), ReadRefusal>
     ensures { ReadsAs (λ _. tt) result (left text.new) (line_at links.now demands.now (left text.old)) }
 {
-    demand(demands, text)?;
+    known(demands, text)?;
     demand_paths(links, text)
 }
 
 /// Takes one line more, and says whether there was one.
-fn take_line(
-    links: &[CostedLink],
-    demands: &[Demand],
-    text: &mut Cursor,
-) -> Result<bool, ReadRefusal>
+fn take_line(links: &Names, demands: &Names, text: &mut Cursor) -> Result<bool, ReadRefusal>
     ensures turn { TakesElement result (each_at (line_at links.now demands.now) (left text.old)) (each_at (line_at links.now demands.now) (left text.new)) (Ok (tt, left text.new)) }
     ensures shorter { IfOk result (λ more. IsTrue more → size (left text.new) < size (left text.old)) }
 {
@@ -165,7 +108,7 @@ fn take_line(
 }
 
 /// Takes lines, up to the closing parenthesis.
-fn lines(links: &[CostedLink], demands: &[Demand], text: &mut Cursor) -> Result<(), ReadRefusal>
+fn lines(links: &Names, demands: &Names, text: &mut Cursor) -> Result<(), ReadRefusal>
     ensures { ReadsAs (λ _. tt) result (left text.new) (each_at (line_at links.now demands.now) (left text.old)) }
 {
     while take_line(links, demands, text)? {}
@@ -193,13 +136,10 @@ fn paths_word(text: &mut Cursor) -> Result<bool, ReadRefusal>
     }
 }
 
-/// Takes the section of admissible paths and finds the end, or finds the end at once.
+/// Takes the section of admissible paths and finds the end, or finds the end at once. Links and
+/// demands are given by their names.
 #[tactic(auto, unfolding(crate::specs::Reading::paths_behind))]
-pub(crate) fn paths(
-    links: &[CostedLink],
-    demands: &[Demand],
-    text: &mut Cursor,
-) -> Result<(), ReadRefusal>
+pub(crate) fn paths(links: &Names, demands: &Names, text: &mut Cursor) -> Result<(), ReadRefusal>
     ensures { ReadsAs (λ _. tt) result (left text.new) (paths_at links.now demands.now (left text.old)) }
 {
     if !paths_word(text)? {

@@ -15,14 +15,14 @@ use crate::costs::{CostedLink, links_of, notes_of};
 use crate::demand::demands;
 use crate::fault::{ReadKind, ReadRefusal};
 use crate::link::links;
+use crate::names::Names;
 use crate::node::nodes;
 use crate::paths::paths;
 use crate::skip::skip;
 use net_core::{Demands, List, Name, Network, NoMemory};
-use snd_tokens::{Cursor, Next};
+use snd_tokens::Cursor;
 use std::alloc::Global;
-use text_kit::refusal::bad;
-use text_kit::steps::{behind_header, expect, open, placed};
+use text_kit::steps::{behind_header, expect, open, placed, word};
 
 const HEADER: &[u8] = b"?SNDlib native format; type: network; version: 1.0";
 
@@ -47,11 +47,8 @@ fn is_meta(word: &[u8]) -> Result<bool, ReadKind>
 fn first_word(text: &mut Cursor) -> Result<bool, ReadRefusal>
     ensures { ReadsAs (λ b. b) result (left text.new) (word_at ReadKind.Section ReadKind.Ended is_meta (left text.old)) }
 {
-    match text.next() {
-        Next::Word(at, word) => placed(at, is_meta(word)),
-        Next::Open(at) | Next::Close(at) => Err(bad(at, ReadKind::Section)),
-        Next::End(at) => Err(bad(at, ReadKind::Ended)),
-    }
+    let (at, word) = word(ReadKind::Section, ReadKind::Ended, text)?;
+    placed(at, is_meta(word))
 }
 
 /// Takes all before the parenthesis of NODES.
@@ -67,26 +64,32 @@ fn start(text: &mut Cursor) -> Result<(), ReadRefusal>
     expect(ReadKind::Section, ReadKind::Ended, NODES, text)
 }
 
-/// Takes the section of links.
+/// Takes the section of links. It gives their names for look-ups too.
 #[tactic(auto, unfolding(crate::specs::Reading::section_at))]
-fn link_section(
+fn link_section<'a>(
     alloc: Global,
-    nodes: &[Name],
-    text: &mut Cursor,
-) -> Result<List<CostedLink>, ReadRefusal>
+    nodes: &Names,
+    text: &mut Cursor<'a>,
+) -> Result<(List<CostedLink>, Names<'a>), ReadRefusal>
     requires { length nodes.now ≤ 128 }
-    ensures { ReadsAs (λ links. links) result (left text.new) (section_at (codes "LINKS") (costed_links_at nodes.now []) (left text.old)) }
+    ensures reads { ReadsAs (λ r. r.0) result (left text.new) (section_at (codes "LINKS") (costed_links_at nodes.now []) (left text.old)) }
+    ensures named { IfOk result (λ r. r.1 ≡ map (λ l. l.link.name) r.0) }
 {
     expect(ReadKind::Section, ReadKind::Ended, b"LINKS", text)?;
     open(ReadKind::Section, ReadKind::Ended, text)?;
     links(alloc, nodes, text)
 }
 
-/// Takes the section of demands.
+/// Takes the section of demands. It gives their names for look-ups too.
 #[tactic(auto, unfolding(crate::specs::Reading::section_at))]
-fn demand_section(alloc: Global, nodes: &[Name], text: &mut Cursor) -> Result<Demands, ReadRefusal>
+fn demand_section<'a>(
+    alloc: Global,
+    nodes: &Names,
+    text: &mut Cursor<'a>,
+) -> Result<(Demands, Names<'a>), ReadRefusal>
     requires { length nodes.now ≤ 128 }
-    ensures { ReadsAs (λ demands. demands) result (left text.new) (section_at (codes "DEMANDS") (demands_at nodes.now []) (left text.old)) }
+    ensures reads { ReadsAs (λ r. r.0) result (left text.new) (section_at (codes "DEMANDS") (demands_at nodes.now []) (left text.old)) }
+    ensures named { IfOk result (λ r. r.1 ≡ map (λ d. d.name) r.0) }
 {
     expect(ReadKind::Section, ReadKind::Ended, b"DEMANDS", text)?;
     open(ReadKind::Section, ReadKind::Ended, text)?;
@@ -113,10 +116,10 @@ fn sections(alloc: Global, text: &mut Cursor) -> Result<(Network, Demands), Read
 {
     start(text)?;
     open(ReadKind::Section, ReadKind::Ended, text)?;
-    let nodes = nodes(alloc, text)?;
-    let links = link_section(alloc, nodes.items(), text)?;
-    let demands = demand_section(alloc, nodes.items(), text)?;
-    paths(links.items(), demands.items(), text)?;
+    let (nodes, node_names) = nodes(alloc, text)?;
+    let (links, link_names) = link_section(alloc, &node_names, text)?;
+    let (demands, demand_names) = demand_section(alloc, &node_names, text)?;
+    paths(&link_names, &demand_names, text)?;
     Ok((network(alloc, nodes, links)?, demands))
 }
 
@@ -129,8 +132,8 @@ fn file(alloc: Global, bytes: &[u8]) -> Result<(Network, Demands), ReadRefusal>
 }
 
 /// The network and the demands that a file spells. It takes time in proportion to the file's length,
-/// and for each name to the number of nodes, links or demands among which it is looked up; memory
-/// for what it gives.
+/// since names are looked up by their hashes; memory for what it gives, and for a table of the
+/// places of all names.
 pub fn read_network(alloc: Global, bytes: &[u8]) -> Result<(Network, Demands), ReadRefusal>
     // What is read is spelled.
     ensures read { IfOk result (λ r. Spells bytes.now r.0 r.1) }
@@ -140,7 +143,7 @@ pub fn read_network(alloc: Global, bytes: &[u8]) -> Result<(Network, Demands), R
     ensures refused { (at : ℕ) (kind : ReadKind) → result ≡ Err (Refusal.Bad at kind)
         → IsFirstFault bytes.now at kind × ((net : Net) (demands : List Dem) → Spells bytes.now net demands → ⊥) }
     // A fault doesn't stand too early: no bytes that agree past it are spelled right.
-    ensures first { IfErr result (IsNotTooEarly (λ other (r : Net × List Dem). Spells other r.0 r.1) bytes.now) }
+    ensures not_early { IfErr result (IsNotTooEarly (λ other (r : Net × List Dem). Spells other r.0 r.1) bytes.now) }
 {
     file(alloc, bytes)
 }

@@ -1,3 +1,7 @@
+use crate::fault::ReadKind::{
+    DoubleName, Ended, FixedLink, Limit, Section, SelfDemand, SelfLink, Token, UnknownName,
+    ZeroModule,
+};
 use crate::fault::{Limited, ReadKind, ReadRefusal};
 use crate::reader::read_network;
 use net_core::{Bytes, Demand, Link, List, NodeId};
@@ -9,6 +13,18 @@ const HEADER: &[u8] = b"?SNDlib native format; type: network; version: 1.0\n";
 
 const SMALL: &[u8] =
     b"?SNDlib native format; type: network; version: 1.0\n# network small4\n\nMETA (\n  granularity = instance\n)\n\n# NODE SECTION\n# <node_id> [(<longitude>, <latitude>)]\nNODES (\n  Bonn ( 7.10 50.73 )\n  Kiel ( 10.13 54.32 )\n  Ulm ( 9.99, 48.40 )\n  Jena\n)\n\n# LINK SECTION\nLINKS (\n  L1 ( Bonn Kiel ) 0.00 0.00 0.00 0.00 ( 155.00 100.00 622.00 250.00 )\n  L2 ( Kiel Jena ) 0.00 0.00 0.00 0.00 ( 155.00 100.00 622.00 250.00 )\n  L3 ( Jena Ulm ) 0.00 0.00 0.00 0.00 ( 155.00 100.00 622.00 250.00 )\n  L4 ( Ulm Bonn ) 0.00 0.00 0.00 0.00 ( 155.00 100.00 622.00 250.00 )\n  L5 ( Bonn Jena ) 0.00 0.00 0.00 0.00 ( 155.00 100.00 622.00 250.00 )\n)\n\n# DEMAND SECTION\nDEMANDS (\n  D1 ( Bonn Kiel ) 1 60.00 UNLIMITED\n  D2 ( Bonn Jena ) 1 80.00 UNLIMITED\n  D3 ( Kiel Ulm ) 1 40.00 UNLIMITED\n)\n\nADMISSIBLE_PATHS (\n  D1 ( P1 ( L1 ) P2 ( L5 L2 ) )\n)\n";
+
+const START: &[u8] = b"";
+
+const LINKS: &[u8] = b"NODES(A B)LINKS(";
+
+const LINK: &[u8] = b"NODES(A B)LINKS(L(A B)";
+
+const NO_LINKS: &[u8] = b"NODES(A B)LINKS()DEMANDS(";
+
+const DEMANDS: &[u8] = b"NODES(A B)LINKS(L(A B)0 0 0 0())DEMANDS(";
+
+const PATHS: &[u8] = b"NODES(A B)LINKS(L(A B)0 0 0 0())DEMANDS(D(A B)1 1 9)ADMISSIBLE_PATHS";
 
 const NOT_A_NUMBER: ReadKind = ReadKind::Number(NumberFault::NotANumber);
 
@@ -31,9 +47,11 @@ fn fault_of(alloc: Global, text: &[u8]) -> Option<(u64, ReadKind)> {
     }
 }
 
-/// The fault of the file of this body.
-fn fault(alloc: Global, body: &[u8]) -> Option<(u64, ReadKind)> {
-    fault_of(alloc, with_header(alloc, body)?.items())
+/// The fault of the file of a body, given by its front and the rest.
+fn fault_behind(alloc: Global, front: &[u8], rest: &[u8]) -> Option<(u64, ReadKind)> {
+    let mut text = with_header(alloc, front)?;
+    text.append(rest).ok()?;
+    fault_of(alloc, text.items())
 }
 
 /// Whether the file of this body is read.
@@ -55,200 +73,93 @@ fn headers_and_places(rt: HostRuntime) {
     assert_eq!(rt; fault_of(rt.alloc(), b""), Some((0, ReadKind::Header)));
 }
 
-#[test]
-fn faults_of_sections(rt: HostRuntime) {
-    let rows: [(&[u8], u64, ReadKind); 16] = [
-        (b"NODE()", 51, ReadKind::Section),
-        (b"()", 51, ReadKind::Section),
-        (b"NODES", 56, ReadKind::Ended),
-        (b"META NODES", 56, ReadKind::Section),
-        (b"META() META()", 58, ReadKind::Section),
-        (b"META(a))", 58, ReadKind::Section),
-        (b"META((a) b", 61, ReadKind::Ended),
-        (b"NODES()DEMANDS()", 58, ReadKind::Section),
-        (b"NODES() LINKS() DEMANDS() )", 77, ReadKind::Section),
-        (b"NODES() LINKS() DEMANDS() PATHS()", 77, ReadKind::Section),
+/// Files that are refused: what they begin with, what comes after it, and the first fault.
+fn refused() -> [(&'static [u8], &'static [u8], u64, ReadKind); 53] {
+    [
+        // Sections.
+        (START, b"NODE()", 51, Section),
+        (START, b"()", 51, Section),
+        (START, b"NODES", 56, Ended),
+        (START, b"META NODES", 56, Section),
+        (START, b"META() META()", 58, Section),
+        (START, b"META(a))", 58, Section),
+        (START, b"META((a) b", 61, Ended),
+        (START, b"NODES()DEMANDS()", 58, Section),
+        (START, b"NODES() LINKS() DEMANDS() )", 77, Section),
+        (START, b"NODES() LINKS() DEMANDS() PATHS()", 77, Section),
         (
+            START,
             b"NODES() LINKS() DEMANDS() ADMISSIBLE_PATHS() x",
             96,
-            ReadKind::Section,
+            Section,
         ),
-        (b"NODES() LINKS() DEMANDS(", 75, ReadKind::Ended),
-        (b"META", 55, ReadKind::Ended),
+        (START, b"NODES() LINKS() DEMANDS(", 75, Ended),
+        (START, b"META", 55, Ended),
+        (PATHS, b"", 119, Ended),
+        (PATHS, b" x", 120, Section),
+        (PATHS, b")", 119, Section),
+        // Tokens.
+        (START, b"NODES((1))", 57, Token),
+        (PATHS, b"(D(P)", 123, Token),
+        (PATHS, b"(D((", 122, Token),
+        (PATHS, b"((", 120, Token),
+        (NO_LINKS, b"D(A B)1 1 )", 86, Token),
+        (START, b"NODES(A(1)(2))", 61, Token),
+        (START, b"NODES(A #B)\n", 63, Ended),
+        (LINKS, b"L A", 69, Token),
+        (LINKS, b"L(A B A)", 73, Token),
+        (LINK, b"0 0 0()", 78, Token),
+        (LINK, b"0 0 0 0(1)", 82, Token),
+        (DEMANDS, b"D(A B)1 1)", 100, Token),
+        (PATHS, b"(D(P()", 124, Token),
+        (PATHS, b"(D()", 122, Token),
+        (PATHS, b"(D(P L", 124, Token),
+        (PATHS, b"(", 120, Ended),
+        // Names.
+        (START, b"NODES(A B A)", 61, DoubleName),
+        (LINK, b"0 0 0 0() L", 83, DoubleName),
+        (DEMANDS, b"D(A B)1 1 9 D", 103, DoubleName),
+        (LINKS, b"L(A X)", 71, UnknownName),
+        (DEMANDS, b"D(X A)", 93, UnknownName),
+        (PATHS, b"(E", 120, UnknownName),
+        (PATHS, b"(D(P(M", 124, UnknownName),
+        (LINKS, b"L(A A)", 71, SelfLink),
+        (DEMANDS, b"D(B B)", 95, SelfDemand),
+        // Numbers.
+        (LINK, b"+5", 73, NOT_A_NUMBER),
+        (LINK, b"0 0 0 0(0.0 1)", 81, ZeroModule),
+        (LINK, b"0.001 0 0 0()", 85, FixedLink),
         (
-            b"NODES(A B)LINKS(L(A B)0 0 0 0())DEMANDS(D(A B)1 1 9)ADMISSIBLE_PATHS",
-            119,
-            ReadKind::Ended,
-        ),
-        (
-            b"NODES(A B)LINKS(L(A B)0 0 0 0())DEMANDS(D(A B)1 1 9)ADMISSIBLE_PATHS x",
-            120,
-            ReadKind::Section,
-        ),
-        (
-            b"NODES(A B)LINKS(L(A B)0 0 0 0())DEMANDS(D(A B)1 1 9)ADMISSIBLE_PATHS)",
-            119,
-            ReadKind::Section,
-        ),
-    ];
-    for (body, at, kind) in rows {
-        assert_eq!(rt; fault(rt.alloc(), body), Some((at, kind)));
-    }
-}
-
-#[test]
-fn faults_of_tokens(rt: HostRuntime) {
-    let rows: [(&[u8], u64, ReadKind); 16] = [
-        (b"NODES((1))", 57, ReadKind::Token),
-        (
-            b"NODES(A B)LINKS(L(A B)0 0 0 0())DEMANDS(D(A B)1 1 9)ADMISSIBLE_PATHS(D(P)",
-            123,
-            ReadKind::Token,
-        ),
-        (
-            b"NODES(A B)LINKS(L(A B)0 0 0 0())DEMANDS(D(A B)1 1 9)ADMISSIBLE_PATHS(D((",
-            122,
-            ReadKind::Token,
-        ),
-        (
-            b"NODES(A B)LINKS(L(A B)0 0 0 0())DEMANDS(D(A B)1 1 9)ADMISSIBLE_PATHS((",
-            120,
-            ReadKind::Token,
-        ),
-        (b"NODES(A B)LINKS()DEMANDS(D(A B)1 1 )", 86, ReadKind::Token),
-        (b"NODES(A(1)(2))", 61, ReadKind::Token),
-        (b"NODES(A #B)\n", 63, ReadKind::Ended),
-        (b"NODES(A B)LINKS(L A", 69, ReadKind::Token),
-        (b"NODES(A B)LINKS(L(A B A)", 73, ReadKind::Token),
-        (b"NODES(A B)LINKS(L(A B)0 0 0()", 78, ReadKind::Token),
-        (b"NODES(A B)LINKS(L(A B)0 0 0 0(1)", 82, ReadKind::Token),
-        (
-            b"NODES(A B)LINKS(L(A B)0 0 0 0())DEMANDS(D(A B)1 1)",
-            100,
-            ReadKind::Token,
-        ),
-        (
-            b"NODES(A B)LINKS(L(A B)0 0 0 0())DEMANDS(D(A B)1 1 9)ADMISSIBLE_PATHS(D(P()",
-            124,
-            ReadKind::Token,
-        ),
-        (
-            b"NODES(A B)LINKS(L(A B)0 0 0 0())DEMANDS(D(A B)1 1 9)ADMISSIBLE_PATHS(D()",
-            122,
-            ReadKind::Token,
-        ),
-        (
-            b"NODES(A B)LINKS(L(A B)0 0 0 0())DEMANDS(D(A B)1 1 9)ADMISSIBLE_PATHS(D(P L",
-            124,
-            ReadKind::Token,
-        ),
-        (
-            b"NODES(A B)LINKS(L(A B)0 0 0 0())DEMANDS(D(A B)1 1 9)ADMISSIBLE_PATHS(",
-            120,
-            ReadKind::Ended,
-        ),
-    ];
-    for (body, at, kind) in rows {
-        assert_eq!(rt; fault(rt.alloc(), body), Some((at, kind)));
-    }
-}
-
-#[test]
-fn faults_of_names(rt: HostRuntime) {
-    let rows: [(&[u8], u64, ReadKind); 9] = [
-        (b"NODES(A B A)", 61, ReadKind::DoubleName),
-        (
-            b"NODES(A B)LINKS(L(A B)0 0 0 0() L",
-            83,
-            ReadKind::DoubleName,
-        ),
-        (
-            b"NODES(A B)LINKS(L(A B)0 0 0 0())DEMANDS(D(A B)1 1 9 D",
-            103,
-            ReadKind::DoubleName,
-        ),
-        (b"NODES(A B)LINKS(L(A X)", 71, ReadKind::UnknownName),
-        (
-            b"NODES(A B)LINKS(L(A B)0 0 0 0())DEMANDS(D(X A)",
-            93,
-            ReadKind::UnknownName,
-        ),
-        (
-            b"NODES(A B)LINKS(L(A B)0 0 0 0())DEMANDS(D(A B)1 1 9)ADMISSIBLE_PATHS(E",
-            120,
-            ReadKind::UnknownName,
-        ),
-        (
-            b"NODES(A B)LINKS(L(A B)0 0 0 0())DEMANDS(D(A B)1 1 9)ADMISSIBLE_PATHS(D(P(M",
-            124,
-            ReadKind::UnknownName,
-        ),
-        (b"NODES(A B)LINKS(L(A A)", 71, ReadKind::SelfLink),
-        (
-            b"NODES(A B)LINKS(L(A B)0 0 0 0())DEMANDS(D(B B)",
-            95,
-            ReadKind::SelfDemand,
-        ),
-    ];
-    for (body, at, kind) in rows {
-        assert_eq!(rt; fault(rt.alloc(), body), Some((at, kind)));
-    }
-}
-
-#[test]
-fn faults_of_numbers(rt: HostRuntime) {
-    let rows: [(&[u8], u64, ReadKind); 12] = [
-        (b"NODES(A B)LINKS(L(A B)+5", 73, NOT_A_NUMBER),
-        (
-            b"NODES(A B)LINKS(L(A B)0 0 0 0(0.0 1)",
-            81,
-            ReadKind::ZeroModule,
-        ),
-        (
-            b"NODES(A B)LINKS(L(A B)0.001 0 0 0()",
-            85,
-            ReadKind::FixedLink,
-        ),
-        (
-            b"NODES(A B)LINKS(L(A B)0 0 0 0(1 1 1 1 1 1 1 1 1 1 1 1 1 1 1 1 1 1 1 1 1 1 1 1 1 1 1 1 1 1 1 1 1 1)",
+            LINK,
+            b"0 0 0 0(1 1 1 1 1 1 1 1 1 1 1 1 1 1 1 1 1 1 1 1 1 1 1 1 1 1 1 1 1 1 1 1 1 1)",
             145,
-            ReadKind::Limit(Limited::Modules),
+            Limit(Limited::Modules),
         ),
         (
-            b"NODES(A B)LINKS(L(A B)0 0 0 0(1 1 1 1 1 1 1 1 1 1 1 1 1 1 1 1 1 1 1 1 1 1 1 1 1 1 1 1 1 1 1 1 0 1)",
+            LINK,
+            b"0 0 0 0(1 1 1 1 1 1 1 1 1 1 1 1 1 1 1 1 1 1 1 1 1 1 1 1 1 1 1 1 1 1 1 1 0 1)",
             145,
-            ReadKind::ZeroModule,
+            ZeroModule,
         ),
         (
-            b"NODES(A B)LINKS(L(A B)0 0 0 0(1 1 1 1 1 1 1 1 1 1 1 1 1 1 1 1 1 1 1 1 1 1 1 1 1 1 1 1 1 1 1 1 x 1)",
+            LINK,
+            b"0 0 0 0(1 1 1 1 1 1 1 1 1 1 1 1 1 1 1 1 1 1 1 1 1 1 1 1 1 1 1 1 1 1 1 1 x 1)",
             145,
             NOT_A_NUMBER,
         ),
-        (b"NODES(A B)LINKS()DEMANDS(D(A B)1.5 1 9)", 82, TOO_FINE),
-        (
-            b"NODES(A B)LINKS()DEMANDS(D(A B)1099511627776.5 1 9)",
-            82,
-            TOO_FINE,
-        ),
-        (
-            b"NODES(A B)LINKS()DEMANDS(D(A B)1099511628 0 9)",
-            82,
-            TOO_LARGE,
-        ),
-        (b"NODES(A B)LINKS()DEMANDS(D(A B)1 0.0001 9)", 84, TOO_FINE),
-        (
-            b"NODES(A B)LINKS()DEMANDS(D(A B)2 549755813.888 9)",
-            84,
-            TOO_LARGE,
-        ),
-        (
-            b"NODES(A B)LINKS()DEMANDS(D(A B)1 1 some)",
-            86,
-            NOT_A_NUMBER,
-        ),
-    ];
-    for (body, at, kind) in rows {
-        assert_eq!(rt; fault(rt.alloc(), body), Some((at, kind)));
+        (NO_LINKS, b"D(A B)1.5 1 9)", 82, TOO_FINE),
+        (NO_LINKS, b"D(A B)1099511627776.5 1 9)", 82, TOO_FINE),
+        (NO_LINKS, b"D(A B)1099511628 0 9)", 82, TOO_LARGE),
+        (NO_LINKS, b"D(A B)1 0.0001 9)", 84, TOO_FINE),
+        (NO_LINKS, b"D(A B)2 549755813.888 9)", 84, TOO_LARGE),
+        (NO_LINKS, b"D(A B)1 1 some)", 86, NOT_A_NUMBER),
+    ]
+}
+
+#[test]
+fn first_faults(rt: HostRuntime) {
+    for (front, rest, at, kind) in refused() {
+        assert_eq!(rt; fault_behind(rt.alloc(), front, rest), Some((at, kind)));
     }
 }
 

@@ -3,12 +3,13 @@ use Rattle.std.specs.Prelude.{◌≡◌, ℕ, ◌*◌, ◌^◌, ◌<◌, ◌==�
 use Rattle.net_core.specs.declared.demand.Demand.{Demand}
 use Rattle.net_core.specs.declared.ids.LinkId.{LinkId}
 use Rattle.net_core.specs.declared.network.Link.{Link}
+use Rattle.net_core.specs.declared.network.Module.{Module}
 use Rattle.net_core.specs.declared.plan.Flow.{Flow}
 use Rattle.net_core.specs.declared.plan.Routing.{Routing}
 use Rattle.net_core.specs.Cases.{Case, graph_in}
 use Rattle.net_core.specs.Graphs.{Joins}
 use Rattle.plan_terms.specs.Capacities.{modules_capacity}
-use Rattle.plan_terms.specs.Covers.{CoverLoads}
+use Rattle.plan_terms.specs.Covers.{CoverLoads, Covers}
 use Rattle.plan_terms.specs.Fallbacks.{IsLeastFlow, IsLeastRouting, peak}
 use Rattle.plan_terms.specs.LeastPaths.{IsLeastPath}
 
@@ -41,6 +42,27 @@ pub record AreRouted (p : Case) (lengths : List ℕ) (n : ℕ) (routings : List 
   pub size : length peaks ≡ length p.links
   pub greatest : (e : ℕ) → e < length p.links → slice_index peaks e ≡ peak routings e
   pub small : (e : ℕ) → peak routings e < 2 ^ 44
+
+-- counts that cover a need, within the limits
+pub record IsCovered (modules : List Module) (need : ℕ) (counts : List ℕ) : Type 0 where
+  pub covers : Covers modules need counts
+  pub few : All (λ n. n < 2 ^ 44) counts
+  pub narrow : modules_capacity modules counts < 2 ^ 45
+
+-- the counts of all links that have these modules cover their needs
+abbrev pub AlikeAreCovered : List Link → List ℕ → List (List ℕ) → List Module → Type 0
+AlikeAreCovered links needs counts modules =
+    (e : ℕ) (l : Link) (c : List ℕ) → slice_get links e ≡ Some l → slice_get counts e ≡ Some c → l.modules ≡ modules → IsCovered l.modules (slice_index needs e) c
+
+-- an earlier link has the modules of link e
+pub record HasEarlier (links : List Link) (e : ℕ) : Type 0 where
+  pub at : ℕ
+  pub before : at < e
+  pub earlier : Link
+  pub link : Link
+  pub is : slice_get links at ≡ Some earlier
+  pub is_link : slice_get links e ≡ Some link
+  pub alike : earlier.modules ≡ link.modules
 
 -- counts that cover each link's load less its pre-installed capacity, one covering after another
 pub record AreCovered (links : List Link) (loads : ℕ → ℕ) (counts : List (List ℕ)) : Type 0 where

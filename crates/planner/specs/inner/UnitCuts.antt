@@ -1,27 +1,16 @@
 -- the unit cuts of the states, and the bounds that they give alone
-use Rattle.std.specs.Prelude.{◌≡◌, ℕ, ◌-◌, ◌*◌, ◌^◌, ◌≤◌, ◌<◌, ◌⊎◌, List, All, Option, None, Some, length, slice_get}
-use Rattle.net_core.specs.declared.demand.Demand.{Demand}
+use Rattle.std.specs.Prelude.{◌≡◌, ℕ, ◌-◌, ◌*◌, ◌^◌, ◌≤◌, ◌<◌, ◌⊎◌, List, Option, None, Some, length, slice_get}
 use Rattle.net_core.specs.declared.network.Link.{Link}
 use Rattle.net_core.specs.declared.plan.CutLine.{CutLine}
 use Rattle.net_core.specs.Cases.{Case, graph_in}
-use Rattle.net_core.specs.Graphs.{Graph, Joins}
 use Rattle.plan_terms.specs.Bounds.{IsBound, IsLowest}
-use Rattle.plan_terms.specs.Certificates.{AreKept, IsRight, fixed_along}
+use Rattle.plan_terms.specs.Certificates.{AreKept, fixed_along}
 use Rattle.plan_terms.specs.Keeping.{AreZero}
 use Rattle.plan_terms.specs.OwnBounds.{IsMultiplier}
 use Rattle.metric_cut.specs.Bounded.{HaveBound}
-use Rattle.metric_cut.specs.Cuts.{IsCutOf}
 use Rattle.metric_cut.specs.declared.certificate.OwnCertificate.{OwnCertificate}
-use Rattle.metric_cut.specs.declared.cut.Cut.{Cut}
 use Rattle.planner.specs.Bounded.{IsUnitCut, unit_lengths}
 use Rattle.planner.specs.declared.bounded.Bounded.{Bounded}
-
--- state and lengths of the cut, with the right side at the demands
-pub record IsLineOf (cut : Cut) (demands : List Demand) (line : CutLine) : Type 0 where
-  pub state : line.state ≡ cut.state
-  pub lengths : line.lengths ≡ cut.lengths
-  pub right : (g : Graph) → IsCutOf g cut → IsRight (Joins g) cut.lengths demands line.right
-  pub low : line.right < 2 ^ 84
 
 -- a unit cut in a listed state, with a bound of its own
 pub record IsBoundCut (p : Case) (cut : CutLine) : Type 0 where

@@ -1,10 +1,10 @@
-use Rattle.std.proofs.Common.{◌≡◌, ◌<◌, ◌≤◌, ◌^◌, ◌∙◌, ◌+◌, All, Some, ap, arith, get_or, length, slice_get, slice_index, subst, sym}
+use Rattle.std.proofs.Common.{◌≡◌, ◌<◌, ◌≤◌, ◌∙◌, ◌+◌, All, Some, ap, arith, get_or, length, slice_get, slice_index, subst, sym}
 use Rattle.std.proofs.lemmas.Option.{slice_get_within}
 use Rattle.net_core.specs.Network.{IsModule}
 use Rattle.net_core.specs.Views.{case_of}
 use Rattle.plan_terms.specs.Fallbacks.{raised}
 use Rattle.module_choice.specs.inner.Routes.{AreCovered, AreRouted}
-use Rattle.module_choice.proofs.Falling.{covered_narrow, covered_shape, falls, fixed_small, links_sound, raised_positive, unserved}
+use Rattle.module_choice.proofs.Falling.{covered_narrow, covered_shape, falls, fixed_small, modules_sound, raised_positive, unserved}
 use Rattle.module_choice.proofs.fallback.fallback_of.Goals as goal
 
 pub route_states-requires-clause-long : goal.route_states-requires-clause-long
@@ -17,7 +17,7 @@ route_states-requires-clause-long c s e v =
 pub cover_links-requires-clause-each : goal.cover_links-requires-clause-each
 cover_links-requires-clause-each c =
     let net = c.args.problem.now.net.now in
-    subst (All (λ l. (l.fixed < 2 ^ 40) × (length l.modules ≤ 16) × All IsModule l.modules)) (sym (c.items-2.ensures ∙ c.links.ensures)) (links_sound net.nodes net.links net.checked)
+    subst (All (λ l. (length l.modules ≤ 16) × All IsModule l.modules)) (sym (c.items-2.ensures ∙ c.links.ensures)) (modules_sound net.nodes net.links net.checked)
 
 pub cover_links-requires-clause-served : goal.cover_links-requires-clause-served
 cover_links-requires-clause-served c e l at none =

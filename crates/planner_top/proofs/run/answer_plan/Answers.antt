@@ -4,16 +4,12 @@ use Rattle.planner_top.proofs.run.answer_plan.Goals as goal
 
 pub returns-clause-ends : goal.returns-clause-ends
 returns-clause-ends g c =
-    let has = c.in_ok-problem.ensures.has in
     let problem = c.in_ok-problem.problem in
     let answer = c.in_ok-answer_instance.field-0 in
     inr (
       problem.net,
       problem.demands,
-      has.0,
-      inr (
-        has.1.0,
-        has.1.1,
-        inr (problem.states.listed, has.1.2, subst (λ p. EndsCase p answer.status answer.text) c.instance.ensures c.in_ok-answer_instance.ensures),
-      ),
+      problem.states.listed,
+      c.in_ok-problem.ensures.has,
+      subst (λ p. EndsCase p answer.status answer.text) c.instance.ensures c.in_ok-answer_instance.ensures,
     )

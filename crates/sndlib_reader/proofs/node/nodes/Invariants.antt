@@ -4,8 +4,8 @@ use Rattle.sndlib_reader.specs.Reading.{nodes_at}
 use Rattle.sndlib_reader.specs.inner.Nodes.{parts_so_far}
 use Rattle.sndlib_reader.proofs.node.nodes.Given as goal
 
-abbrev pub invariant-loop-nodes : goal.invariant-loop-nodes
-invariant-loop-nodes l = (nodes_at (parts_so_far l.nodes l.after_name) (left l.text) ≡ nodes_at [] (left l.fn.text)) × (IsTrue l.after_name → 1 ≤ length l.nodes)
+abbrev pub invariant-loop-names : goal.invariant-loop-names
+invariant-loop-names l = (nodes_at (parts_so_far l.nodes l.after_name) (left l.text) ≡ nodes_at [] (left l.fn.text)) × (IsTrue l.after_name → 1 ≤ length l.nodes) × (l.names ≡ l.nodes)
 
-abbrev pub decreases-loop-nodes : goal.decreases-loop-nodes
-decreases-loop-nodes l = size (left l.text)
+abbrev pub decreases-loop-names : goal.decreases-loop-names
+decreases-loop-names l = size (left l.text)

@@ -6,7 +6,7 @@ use Rattle.sndlib_reader.specs.Reading.{known_name}
 use Rattle.sndlib_reader.proofs.paths.path_links.Given as goal
 
 abbrev pub invariant-loop : goal.invariant-loop
-invariant-loop l = each_at (word_at Token Ended (known_name (λ x. x.link.name) l.links)) (left l.text) ≡ each_at (word_at Token Ended (known_name (λ x. x.link.name) l.links)) (left l.initial.text)
+invariant-loop l = each_at (word_at Token Ended (known_name l.links)) (left l.text) ≡ each_at (word_at Token Ended (known_name l.links)) (left l.initial.text)
 
 abbrev pub decreases-loop : goal.decreases-loop
 decreases-loop l = size (left l.text)

@@ -10,5 +10,5 @@ returns-clause-only c = is_only c.args.bytes.now c.file.result c.file.ensures
 pub returns-clause-refused : goal.returns-clause-refused
 returns-clause-refused c = first_fault c.args.bytes.now c.file.result c.file.ensures
 
-pub returns-clause-first : goal.returns-clause-first
-returns-clause-first c = not_early c.args.bytes.now c.file.result c.file.ensures
+pub returns-clause-not_early : goal.returns-clause-not_early
+returns-clause-not_early c = not_early c.args.bytes.now c.file.result c.file.ensures

@@ -1,0 +1,5 @@
+mod Admitting
+mod Boards
+pub mod Growing
+mod Places
+mod Told

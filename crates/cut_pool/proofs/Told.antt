@@ -1,0 +1,77 @@
+-- what a board tells of itself
+use Rattle.std.proofs.Common.{◌≡◌, ◌≢◌, ◌∙◌, ℕ, ◌<◌, List, [], ◌∷◌, All, Some, None, length, map, get_or, slice_get, refl, sym, ap, subst, arith}
+use Rattle.std.specs.Prelude.{position}
+use Rattle.std.proofs.Math.Logic.{∥∥₁_elim}
+use Rattle.std.proofs.Props.{props}
+use Rattle.std.proofs.lemmas.List.{get_or-map, length-map}
+use Rattle.std.proofs.lemmas.List.Elements.{All-map}
+use Rattle.std.proofs.lemmas.Option.{slice_get-get_or}
+use Rattle.net_core.specs.declared.demand.Demand.{Demand}
+use Rattle.net_core.specs.declared.journal.Entry.{Entry}
+use Rattle.net_core.specs.Cases.{Case, graph_in}
+use Rattle.net_core.specs.Graphs.{Joins}
+use Rattle.plan_terms.specs.Certificates.{IsCut, IsRight}
+use Rattle.metric_cut.specs.declared.cut.Cut.{Cut}
+use Rattle.cut_pool.specs.declared.pooled.PooledCut.{PooledCut}
+use Rattle.cut_pool.specs.Histories.{IsBoardAfter, IsPoolAfter, cut_of_line, cuts_of, demands_left, version_left}
+use Rattle.cut_pool.specs.Pools.{ArePooledCuts, line_of_pooled}
+use Rattle.cut_pool.specs.inner.Pooling.{is_pooled_cut}
+use Rattle.cut_pool.proofs.Boards.{IsFollowed}
+use Rattle.cut_pool.proofs.Places.{known_at, new_of_all, with_state}
+
+-- the case with the demands that entries leave
+abbrev case_now : Case → List Entry → Case
+case_now p es = record { nodes = p.nodes; links = p.links; listed = p.listed; demands = demands_left p es }
+
+states_of : (pool : List PooledCut) → map cut_of_line (map line_of_pooled pool) ≡ map (λ c. with_state c.cut) pool
+states_of [] = refl
+states_of (c ∷ pool) = ap (λ (cuts : List (ℕ × List ℕ)). with_state c.cut ∷ cuts) (states_of pool)
+
+module _ (p : Case) (es : List Entry) (demands : List Demand) (version : ℕ) (pool : List PooledCut) (told : ∥ IsBoardAfter p es demands version (map line_of_pooled pool) ∥₁) where
+  pub demands_told : demands ≡ demands_left p es
+  demands_told = ∥∥₁_elim told (hlevel props) (λ b. b.demands_are)
+
+  pub version_told : version ≡ version_left p es
+  version_told = ∥∥₁_elim told (hlevel props) (λ b. b.version_is)
+
+  pub cuts_told : map (λ c. with_state c.cut) pool ≡ cuts_of es
+  cuts_told = ∥∥₁_elim told (hlevel props) (λ b. sym (states_of pool) ∙ b.pool.cuts)
+
+  pub count_told : length pool ≡ length (cuts_of es)
+  count_told = sym (length-map pool (λ (c : PooledCut). with_state c.cut)) ∙ ap length cuts_told
+
+  -- the cut of an index
+  pub cut_at : (k : ℕ) (d : PooledCut) → k < length pool → slice_get (cuts_of es) k ≡ Some (with_state (get_or pool k d).cut)
+  cut_at k d lt =
+      let v : PooledCut → ℕ × List ℕ = λ c. with_state c.cut in
+      ap (λ cuts. slice_get cuts k) (sym cuts_told) ∙ (slice_get-get_or (map v pool) k (v d) (omega (arith, lt, length-map pool v)) ∙ ap Some (get_or-map v pool k d (v d) lt))
+
+  -- a cut that has a place, and one that has none
+  pub known_told : (cut : Cut) (k : ℕ) → position (is_pooled_cut cut) pool ≡ Some k → slice_get (cuts_of es) k ≡ Some (with_state cut)
+  known_told cut k at = ap (λ cuts. slice_get cuts k) (sym cuts_told) ∙ known_at cut pool k at
+
+  pub new_told : (cut : Cut) → position (is_pooled_cut cut) pool ≡ None → All (λ c. c ≢ with_state cut) (cuts_of es)
+  new_told cut none = subst (All (λ c. c ≢ with_state cut)) cuts_told (new_of_all cut pool none)
+
+  pub pool_told : ∥ IsPoolAfter p es (map line_of_pooled pool) ∥₁
+  pool_told = ∥∥₁_elim told (hlevel props) (λ b. ∣ b.pool ∣₁)
+
+  -- the right side of a cut of the pool
+  pub side_told : (k : ℕ) (d : PooledCut) → k < length pool → ∥ IsFollowed p (demands_left p es) (line_of_pooled (get_or pool k d)) ∥₁
+  side_told k d lt = ∥∥₁_elim told (hlevel props) (λ b.
+      ∣ subst (IsFollowed p (demands_left p es)) (get_or-map line_of_pooled pool k d (line_of_pooled d) lt) (b.pool.rights k (line_of_pooled d) (omega (arith, lt, length-map pool line_of_pooled))) ∣₁)
+
+  pub right_told : (k : ℕ) (d : PooledCut) → k < length pool → (cut : ℕ × List ℕ) → slice_get (cuts_of es) k ≡ Some cut → ∥ IsRight (Joins (graph_in p cut.0)) cut.1 (demands_left p es) (get_or pool k d).right ∥₁
+  right_told k d lt cut at =
+      let both : Some (with_state (get_or pool k d).cut) ≡ Some cut = sym (cut_at k d lt) ∙ at in
+      let is : with_state (get_or pool k d).cut ≡ cut = cc both in
+      subst (λ (c : ℕ × List ℕ). ∥ IsRight (Joins (graph_in p c.0)) c.1 (demands_left p es) (get_or pool k d).right ∥₁) is (side_told k d lt)
+
+  -- the lines of the pool are cuts at the demands now
+  pub lines_told : ∥ ArePooledCuts p pool ∥₁ → ∥ All (IsCut (case_now p es)) (map line_of_pooled pool) ∥₁
+  lines_told all = ∥∥₁_elim all (hlevel props) (λ cuts. ∥∥₁_elim told (hlevel props) (λ b.
+      ∣ All-map (IsCut (case_now p es)) line_of_pooled pool (λ k d lt. record {
+        listed_state = (cuts k d lt).listed_state;
+        kept = (cuts k d lt).kept;
+        right = subst (IsFollowed p (demands_left p es)) (get_or-map line_of_pooled pool k d (line_of_pooled d) lt) (b.pool.rights k (line_of_pooled d) (omega (arith, lt, length-map pool line_of_pooled)));
+      }) ∣₁))

@@ -1,0 +1,25 @@
+use Rattle.std.proofs.Common.{◌≡◌, ◌<◌, List, Some, get_or, length, slice_get, subst, sym, arith}
+use Rattle.std.proofs.Math.Logic.{∥∥₁_elim}
+use Rattle.std.proofs.Props.{props}
+use Rattle.net_core.specs.Cases.{graph_in}
+use Rattle.metric_cut.specs.Cuts.{IsCutOf}
+use Rattle.cut_pool.specs.declared.pooled.PooledCut.{PooledCut}
+use Rattle.cut_pool.specs.Boards.{opening_case}
+use Rattle.cut_pool.specs.Histories.{cuts_of}
+use Rattle.cut_pool.proofs.Places.{with_state}
+use Rattle.cut_pool.proofs.Told.{count_told, cut_at}
+use Rattle.cut_pool.proofs.board.Board.cut.Goals as goal
+
+pub returns-clause-at : goal.returns-clause-at
+returns-clause-at c =
+    let self = c.args.self.now in
+    let lt : c.args.index < length self.pool = omega (arith, c.requires, count_told (opening_case self) self.entries self.book.demands self.book.version self.pool self.stands) in
+    subst (λ (pool : List PooledCut). slice_get (cuts_of self.entries) c.args.index ≡ Some (with_state (get_or pool c.args.index c.index-items-index.result).cut)) (sym c.items.ensures)
+    (cut_at (opening_case self) self.entries self.book.demands self.book.version self.pool self.stands c.args.index c.index-items-index.result lt)
+
+pub returns-clause-cut : goal.returns-clause-cut
+returns-clause-cut c =
+    let self = c.args.self.now in
+    let lt : c.args.index < length self.pool = omega (arith, c.requires, count_told (opening_case self) self.entries self.book.demands self.book.version self.pool self.stands) in
+    subst (λ (pool : List PooledCut). ∥ IsCutOf (graph_in (opening_case self) (get_or pool c.args.index c.index-items-index.result).cut.state.0) (get_or pool c.args.index c.index-items-index.result).cut ∥₁) (sym c.items.ensures)
+    (∥∥₁_elim self.cuts_are (hlevel props) (λ cuts. ∣ cuts c.args.index c.index-items-index.result lt ∣₁))

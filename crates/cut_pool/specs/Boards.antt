@@ -1,0 +1,86 @@
+-- boards: what they were made with, how they grow, and what they answer
+use Rattle.std.specs.Prelude.{◌≡◌, ◌≢◌, ℕ, ◌<◌, ◌^◌, ◌++◌, List, [], ◌∷◌, All, Some, length, slice_get}
+use Rattle.net_core.specs.declared.demand.Demand.{Demand}
+use Rattle.net_core.specs.declared.journal.Edit.{Edit}
+use Rattle.net_core.specs.declared.journal.Entry.{Entry}
+use Rattle.net_core.specs.declared.journal.Entry.TheVariants.{Edited, Pooled}
+use Rattle.net_core.specs.declared.network.Network.{Network}
+use Rattle.net_core.specs.declared.states.States.{States}
+use Rattle.net_core.specs.Cases.{Case, graph_in}
+use Rattle.net_core.specs.Demands.{AreDemands}
+use Rattle.net_core.specs.Graphs.{Joins}
+use Rattle.net_core.specs.Views.{case}
+use Rattle.metric_cut.specs.declared.cut.Cut.{Cut}
+use Rattle.cut_pool.specs.declared.answers.AdmitAnswer.{AdmitAnswer}
+use Rattle.cut_pool.specs.declared.answers.AdmitAnswer.TheVariants as admitting
+use Rattle.cut_pool.specs.declared.answers.EditAnswer.{EditAnswer}
+use Rattle.cut_pool.specs.declared.answers.EditAnswer.TheVariants as editing
+use Rattle.cut_pool.specs.declared.board.Board.{Board}
+use Rattle.cut_pool.specs.declared.snapshot.Snapshot.{Snapshot}
+use Rattle.plan_terms.specs.Certificates.{IsCut, IsRight}
+use Rattle.cut_pool.specs.Histories.{IsLegalAfter, IsPoolAfter, cuts_of, demands_left, version_left}
+
+-- what a board was made with: its network, its states and its opening demands
+abbrev pub origin_of : Board → Network × States × List Demand
+origin_of b = (b.net.now, b.states.now, b.opening.value)
+
+-- the same, as a case
+abbrev pub opening_case : Board → Case
+opening_case b = case b.net.now b.states.now b.opening.value
+
+-- the board has one entry more, which is legal after the others, and its origin is as it was
+pub record GrowsBy (entry : Entry) (old new : Board) : Type 0 where
+  pub legal : IsLegalAfter (opening_case old) old.entries entry
+  pub entries : new.entries ≡ old.entries ++ entry ∷ []
+  pub origin : origin_of new ≡ origin_of old
+
+-- nothing of the board has changed
+pub record IsSameBoard (old new : Board) : Type 0 where
+  pub entries : new.entries ≡ old.entries
+  pub book : new.book ≡ old.book
+  pub pool : new.pool ≡ old.pool
+  pub origin : origin_of new ≡ origin_of old
+
+-- the board's answer to a caller's edit, and what becomes of the board
+abbrev pub AnswersEdit : Board → ℕ → Edit → EditAnswer → Board → Type 0
+AnswersEdit old caller edit (editing.At position reply) new =
+    (length old.entries < 65536) × GrowsBy (Edited caller edit reply) old new × (position ≡ length new.entries)
+AnswersEdit old caller edit (editing.Full back) new = (length old.entries ≡ 65536) × (back ≡ edit) × IsSameBoard old new
+AnswersEdit old caller edit (editing.NoMemory back) new = (length old.entries < 65536) × (back ≡ edit) × IsSameBoard old new
+
+-- no cut that entries pool has this state and these lengths
+abbrev pub IsNew : Cut → List Entry → Type 0
+IsNew cut entries = All (λ c. c ≢ (cut.state.0, cut.lengths)) (cuts_of entries)
+
+-- the board's answer to a cut, and what becomes of the board
+abbrev pub AnswersAdmit : Board → Cut → AdmitAnswer → Board → Type 0
+AnswersAdmit old cut (admitting.Admitted index position) new =
+    IsNew cut old.entries
+    × (length (cuts_of old.entries) < 4096)
+    × (length old.entries < 65536)
+    × GrowsBy (Pooled index cut.state cut.lengths) old new
+    × (index ≡ length (cuts_of old.entries))
+    × (position ≡ length new.entries)
+AnswersAdmit old cut (admitting.Known index back) new =
+    (slice_get (cuts_of old.entries) index ≡ Some (cut.state.0, cut.lengths)) × (back ≡ cut) × IsSameBoard old new
+AnswersAdmit old cut (admitting.PoolFull back) new =
+    IsNew cut old.entries × (length (cuts_of old.entries) ≡ 4096) × (back ≡ cut) × IsSameBoard old new
+AnswersAdmit old cut (admitting.Full back) new =
+    IsNew cut old.entries × (length (cuts_of old.entries) < 4096) × (length old.entries ≡ 65536) × (back ≡ cut) × IsSameBoard old new
+AnswersAdmit old cut (admitting.NoMemory back) new =
+    IsNew cut old.entries × (length (cuts_of old.entries) < 4096) × (length old.entries < 65536) × (back ≡ cut) × IsSameBoard old new
+
+-- this is the right side of the cut of an index at the demands now
+abbrev pub IsRightNow : Board → ℕ → ℕ → Type 0
+IsRightNow b index right = (cut : ℕ × List ℕ) → slice_get (cuts_of b.entries) index ≡ Some cut
+    → ∥ IsRight (Joins (graph_in (opening_case b) cut.0)) cut.1 (demands_left (opening_case b) b.entries) right ∥₁
+
+-- the snapshot of a board: its position, the version and the demands, and the pool with right sides at these demands
+pub record IsSnapshotOf (b : Board) (s : Snapshot) : Type 0 where
+  pub position_is : s.position ≡ length b.entries
+  pub version_is : s.version ≡ version_left (opening_case b) b.entries
+  pub demands_are : s.demands ≡ demands_left (opening_case b) b.entries
+  pub belong : AreDemands (length b.net.now.nodes) s.demands
+  pub pool : ∥ IsPoolAfter (opening_case b) b.entries s.cuts ∥₁
+  pub cuts_are : ∥ All (IsCut (case b.net.now b.states.now s.demands)) s.cuts ∥₁
+  pub low : All (λ l. l.right < 2 ^ 84) s.cuts

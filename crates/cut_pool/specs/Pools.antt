@@ -1,0 +1,14 @@
+-- the cuts of a board's pool
+use Rattle.std.specs.Prelude.{List, All}
+use Rattle.net_core.specs.declared.plan.CutLine.{CutLine}
+use Rattle.net_core.specs.Cases.{Case, graph_in}
+use Rattle.metric_cut.specs.Cuts.{IsCutOf}
+use Rattle.cut_pool.specs.declared.pooled.PooledCut.{PooledCut}
+
+-- the line of a pooled cut
+abbrev pub line_of_pooled : PooledCut → CutLine
+line_of_pooled c = record { state = c.cut.state; lengths = c.cut.lengths; right = c.right }
+
+-- each cut of a pool is a cut of the case's network in one of its states
+abbrev pub ArePooledCuts : Case → List PooledCut → Type 0
+ArePooledCuts p pool = All (λ c. IsCutOf (graph_in p c.cut.state.0) c.cut) pool

@@ -1,0 +1,28 @@
+use metric_cut::Cut;
+use net_core::{Edit, Reply};
+
+/// What a board answers to an edit. An edit that wasn't committed comes back.
+#[derive(Drop)]
+pub enum EditAnswer {
+    /// It stands at this position of the history, with its reply; positions count from 1.
+    At { position: u64, reply: Reply },
+    /// The history has 65,536 entries.
+    Full(Edit),
+    /// The call ran out of memory.
+    NoMemory(Edit),
+}
+
+/// What a board answers to a cut. A cut that wasn't admitted comes back.
+#[derive(Drop)]
+pub enum AdmitAnswer {
+    /// It has this index in the pool, and its entry stands at this position of the history; positions count from 1.
+    Admitted { index: u32, position: u64 },
+    /// The pool has this cut already, at this index.
+    Known(u32, Cut),
+    /// The pool has 4,096 cuts.
+    PoolFull(Cut),
+    /// The history has 65,536 entries.
+    Full(Cut),
+    /// The call ran out of memory.
+    NoMemory(Cut),
+}

@@ -1,0 +1,226 @@
+ghost use Rattle.std.specs.Prelude.{◌≡◌, ◌≤◌, ◌<◌, ◌-◌, ◌^◌, [], All, IfOk, IfErr, Some, length, map, slice_get};
+ghost use Rattle.net_core.specs.Demands.{AreDemands};
+ghost use Rattle.net_core.specs.Views.{case, graph};
+ghost use Rattle.plan_terms.specs.Certificates.{IsCut};
+ghost use Rattle.plan_terms.specs.Edits.{edit_need};
+ghost use Rattle.metric_cut.specs.Cuts.{IsCutOf};
+ghost use Rattle.cut_pool.specs.Histories.{IsBoardAfter, IsPoolAfter, cuts_of, demands_left, version_left};
+ghost use Rattle.cut_pool.specs.Pools.{ArePooledCuts, line_of_pooled};
+
+use crate::answers::{AdmitAnswer, EditAnswer};
+use crate::history::History;
+use crate::pooled::{PooledCut, follow_all, lines_of, place_of};
+use crate::snapshot::Snapshot;
+use demand_book::Book;
+use metric_cut::Cut;
+use net_core::{Copied, CutLine, Demands, Edit, Entry, List, Network, NoMemory, States};
+use std::alloc::Global;
+use std::snapshot::Snapshot as Remembered;
+use turn_lock::Chronicle;
+
+/// So many entries are the most.
+const MOST_ENTRIES: usize = 65_536;
+
+/// So many cuts are the most.
+const MOST_CUTS: usize = 4096;
+
+/// One history of demand edits and pooled cuts, with what it leaves: the demands, their version, and each pooled cut with its
+/// right side at the demands now.
+///
+/// ```text
+/// let mut board = Board::new(alloc, &net, &states, opening)?;           // version 0, no entry
+/// let answer = board.edit(1, Edit::Set { name, need: 24000 });          // At { position: 1, reply: Accepted(1) }
+/// let answer = board.admit(cut);                                        // Admitted { index: 0, position: 2 }
+/// ```
+#[derive(Drop)]
+pub struct Board<'a> {
+    net: &'a Network,
+    states: &'a States,
+    opening: Remembered<Demands>,
+    book: Book,
+    entries: History,
+    pool: List<PooledCut>,
+    alloc: Global,
+    pub ghost nodes: { book.nodes ≡ net.now.nodes },
+    pub ghost few: { length entries ≤ 65536 },
+    pub ghost few_cuts: { length pool ≤ 4096 },
+    pub ghost low: { All (λ c. c.right < 2 ^ 84) pool },
+    pub ghost cuts_are: { ∥ ArePooledCuts (case net.now states.now opening.value) pool ∥₁ },
+    pub ghost stands: { ∥ IsBoardAfter (case net.now states.now opening.value) entries book.demands book.version (map line_of_pooled pool) ∥₁ },
+}
+
+/// A board stands for its entries, and its origin is its network, states and opening demands.
+impl<'a> Chronicle for Board<'a> {
+    ghost use Rattle.cut_pool.specs.Boards.{origin_of};
+
+    type Item = Entry;
+
+    type Origin = (Network, States, Demands);
+
+    ghost history = { λ b. b.entries };
+
+    ghost origin = { origin_of };
+
+    fn count(&self) -> u64 {
+        self.entries.len() as u64
+    }
+}
+
+impl<'a> Board<'a> {
+    ghost use Rattle.cut_pool.specs.Boards.{AnswersAdmit, AnswersEdit, IsRightNow, IsSnapshotOf, opening_case, origin_of};
+
+    /// The board of the network's opening demands, at version 0, with no entry. It copies the nodes' names; the demands come back
+    /// where memory runs out.
+    pub fn new(
+        alloc: Global,
+        net: &'a Network,
+        states: &'a States,
+        opening: Demands,
+    ) -> Result<Board<'a>, (Demands, NoMemory)>
+        requires { AreDemands (length net.now.nodes) opening }
+        ensures entries { IfOk result (λ b. b.entries ≡ []) }
+        ensures origin { IfOk result (λ b. origin_of b ≡ (net.now, states.now, opening)) }
+        ensures back { IfErr result (λ e. e.0 ≡ opening) }
+    {
+        let remembered = Remembered::of(&opening);
+        let book = match Book::new(net, opening) {
+            Ok(book) => book,
+            Err(refused) => return Err(refused),
+        };
+        Ok(Board {
+            net,
+            states,
+            opening: remembered,
+            book,
+            entries: History::new(alloc),
+            pool: List::new(alloc),
+            alloc,
+        })
+    }
+
+    /// Makes a caller's edit, whose need is in thousandths, and commits it with its reply, also where it is refused. Each right
+    /// side then follows, in time that grows with the cuts times the demands.
+    pub fn edit(&mut self, caller: u32, edit: Edit) -> EditAnswer
+        requires { edit_need edit < 2 ^ 40 }
+        ensures { AnswersEdit self.old caller edit result self.new }
+    {
+        if self.entries.len() >= MOST_ENTRIES {
+            return EditAnswer::Full(edit);
+        }
+        match self.entries.commit_edit(&mut self.book, caller, edit) {
+            Ok(reply) => {
+                follow_all(&mut self.pool, self.book.demands());
+                EditAnswer::At {
+                    position: self.entries.len() as u64,
+                    reply,
+                }
+            }
+            Err(edit) => EditAnswer::NoMemory(edit),
+        }
+    }
+
+    /// Puts a cut of the board's network and states last in the pool, with its right side at the demands now, and commits it. A cut
+    /// that stands there already isn't put again: its state is compared first, and lengths in one state alone.
+    pub fn admit(&mut self, cut: Cut) -> AdmitAnswer
+        requires { IsCutOf (graph self.old.net.now self.old.states.now cut.state.0) cut }
+        ensures { AnswersAdmit self.old cut result self.new }
+    {
+        if let Some(index) = place_of(self.pool.items(), &cut) {
+            return AdmitAnswer::Known(index as u32, cut);
+        }
+        if self.pool.len() >= MOST_CUTS {
+            return AdmitAnswer::PoolFull(cut);
+        }
+        if self.entries.len() >= MOST_ENTRIES {
+            return AdmitAnswer::Full(cut);
+        }
+        let right = cut.right(self.book.demands());
+        let index = self.pool.len() as u32;
+        match self
+            .entries
+            .commit_cut(&mut self.pool, PooledCut { cut, right })
+        {
+            Ok(()) => AdmitAnswer::Admitted {
+                index,
+                position: self.entries.len() as u64,
+            },
+            Err(cut) => AdmitAnswer::NoMemory(cut),
+        }
+    }
+
+    /// How many cuts the pool has.
+    pub fn cuts(&self) -> u32
+        ensures { result ≡ length (cuts_of self.now.entries) }
+    {
+        self.pool.len() as u32
+    }
+
+    /// The cut of this index, with its distances.
+    pub fn cut(&self, index: u32) -> &Cut
+        requires { index < length (cuts_of self.now.entries) }
+        ensures at { slice_get (cuts_of self.now.entries) index ≡ Some (result.now.state.0, result.now.lengths) }
+        ensures cut { ∥ IsCutOf (graph self.now.net.now self.now.states.now result.now.state.0) result.now ∥₁ }
+    {
+        &self.pool.items()[index as usize].cut
+    }
+
+    /// The right side of the cut of this index at the demands now, in thousandths.
+    pub fn right(&self, index: u32) -> u128
+        requires { index < length (cuts_of self.now.entries) }
+        ensures right { IsRightNow self.now index result }
+        ensures low { result < 2 ^ 84 }
+    {
+        self.pool.items()[index as usize].right
+    }
+
+    /// The version of the demands now: the number of accepted edits.
+    pub fn version(&self) -> u64
+        ensures { result ≡ version_left (opening_case self.now) self.now.entries }
+    {
+        self.book.version()
+    }
+
+    /// The demands now.
+    pub fn demands(&self) -> &Demands
+        ensures left { result.now ≡ demands_left (opening_case self.now) self.now.entries }
+        ensures belong { AreDemands (length self.now.net.now.nodes) result.now }
+    {
+        self.book.demands()
+    }
+
+    /// The entries, from position 1 on.
+    pub fn entries(&self) -> &[Entry]
+        ensures { result.now ≡ self.now.entries }
+    {
+        self.entries.entries()
+    }
+
+    /// The entry at this position; positions count from 1.
+    pub fn entry(&self, position: u64) -> &Entry
+        requires { (1 ≤ position) × (position ≤ length self.now.entries) }
+        ensures { slice_get self.now.entries (position - 1) ≡ Some result.now }
+    {
+        &self.entries.entries()[position as usize - 1]
+    }
+
+    /// The lines of the pool, with their right sides at the demands now.
+    pub fn lines(&self) -> Result<List<CutLine>, NoMemory>
+        ensures pool { IfOk result (λ lines. ∥ IsPoolAfter (opening_case self.now) self.now.entries lines ∥₁) }
+        ensures cuts { IfOk result (λ lines. ∥ All (IsCut (case self.now.net.now self.now.states.now (demands_left (opening_case self.now) self.now.entries))) lines ∥₁) }
+        ensures low { IfOk result (λ lines. All (λ l. l.right < 2 ^ 84) lines) }
+    {
+        lines_of(self.alloc, self.pool.items())
+    }
+
+    /// What the board is now. It copies the demands, and of each cut the lengths.
+    pub fn snapshot(&self) -> Result<Snapshot, NoMemory>
+        ensures { IfOk result (IsSnapshotOf self.now) }
+    {
+        Ok(Snapshot {
+            version: self.version(),
+            position: self.count(),
+            demands: self.demands().copy()?,
+            cuts: self.lines()?,
+        })
+    }
+}

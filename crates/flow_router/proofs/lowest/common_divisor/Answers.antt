@@ -1,0 +1,10 @@
+use Rattle.std.proofs.Common.{ap, get_or, subst}
+use Rattle.std.specs.Int.{IsGcd}
+use Rattle.net_core.specs.declared.plan.Flow.{Flow}
+use Rattle.flow_router.proofs.Dividing.{common_more}
+use Rattle.flow_router.proofs.lowest.common_divisor.Goals as goal
+
+pub loop-f-preserved : goal.loop-f-preserved
+loop-f-preserved c =
+    common_more c.args.den c.args.flows.now c.loop-f.f-index c.loop-f.common c.gcd-common.result c.f-item.result c.loop-f-test.true c.loop-f.invariant
+    (subst (λ (f : Flow). IsGcd c.loop-f.common f.num c.gcd-common.result) c.f-item.is c.gcd-common.ensures)

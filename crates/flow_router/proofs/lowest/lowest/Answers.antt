@@ -1,0 +1,13 @@
+use Rattle.std.proofs.Common.{All, subst}
+use Rattle.std.specs.Int.{◌∣◌}
+use Rattle.flow_router.specs.inner.Lowest.{IsCommonDivisor}
+use Rattle.flow_router.proofs.Dividing.{in_lowest}
+use Rattle.flow_router.proofs.lowest.lowest.Goals as goal
+
+pub divide_list-requires-clause-divides : goal.divide_list-requires-clause-divides
+divide_list-requires-clause-divides c = rw c.items.ensures at c.common_divisor-common.ensures.of_nums
+
+pub returns : goal.returns
+returns c =
+    in_lowest c.args.routing.den c.common_divisor-common.result c.args.routing.flows c.divide_list.new.flows c.requires
+    (subst (λ fs. IsCommonDivisor c.args.routing.den fs c.common_divisor-common.result) c.items.ensures c.common_divisor-common.ensures) c.divide_list.ensures

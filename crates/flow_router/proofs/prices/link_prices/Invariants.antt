@@ -1,0 +1,9 @@
+use Rattle.std.proofs.Common.{ℕ, ◌^◌, ◌≡◌, ◌<◌, All, length, slice_index}
+use Rattle.std.proofs.Math.IntN.{pos}
+use Rattle.checked_fraction.specs.Rows.{num}
+use Rattle.flow_router.specs.inner.Carriers.{AreLinkCosts}
+use Rattle.flow_router.proofs.prices.link_prices.Given as goal
+
+-- the prices so far
+abbrev pub invariant-loop-e : goal.invariant-loop-e
+invariant-loop-e l = AreLinkCosts l.e (num l.duals) l.prices

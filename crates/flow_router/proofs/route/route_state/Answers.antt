@@ -1,0 +1,19 @@
+use Rattle.std.proofs.Common.{Some, ap, arith, sym, subst, ◌∙◌, ◌≡◌}
+use Rattle.net_core.specs.declared.columns.WideKind.TheVariants.{Number}
+use Rattle.net_core.specs.Views.{graph}
+use Rattle.route_law.specs.RouteEvidence.{IsRouteEvidence}
+use Rattle.route_law.specs.RoutingPrograms.{route_slack}
+use Rattle.route_law.proofs.Slacks.{number_evidence}
+use Rattle.simplex_core.proofs.Starts.{each_at}
+use Rattle.flow_router.proofs.route.route_state.Goals as goal
+
+pub wide-requires : goal.wide-requires
+wide-requires c =
+    let g = graph c.args.net.now c.args.states.now c.args.state.0 in
+    let demands = c.args.demands.now in
+    let caps = c.args.caps.now in
+    let names = c.in_ok-names-in-Some.names in
+    let made = c.in_ok-names-in-Some.ensures in
+    subst (λ name. IsRouteEvidence g demands caps names (Number name)) (sym c.slack_of.ensures)
+    (number_evidence g demands caps c.in-Some.row names c.in-Some.ensures.0 c.in-Some.ensures.1
+    (record { count = made.count; each = λ j l. let x = each_at (λ i name. name ≡ route_slack g i) names j (omega (arith, l, made.count)) made.names in x.1 ∙ ap Some x.2 }))

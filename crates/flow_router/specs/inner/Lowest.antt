@@ -1,0 +1,20 @@
+-- routings and their lowest terms
+use Rattle.std.specs.Prelude.{◌≡◌, ℕ, ◌<◌, ◌≤◌, List, All}
+use Rattle.std.specs.Int.{◌∣◌}
+use Rattle.net_core.specs.declared.plan.Flow.{Flow}
+use Rattle.net_core.specs.declared.plan.Routing.{Routing}
+use Rattle.route_law.specs.Routings.{IsLowestRouting, over_times}
+
+-- the greatest number that divides the denominator and each numerator
+pub record IsCommonDivisor (den : ℕ) (flows : List Flow) (common : ℕ) : Type 0 where
+  pub positive : 0 < common
+  pub of_den : common ∣ den
+  pub of_nums : All (λ f. common ∣ f.num) flows
+  pub greatest : (d : ℕ) → d ∣ den → All (λ f. d ∣ f.num) flows → d ∣ common
+
+-- a routing, and the same in lowest terms
+pub record IsInLowest (routing lowest : Routing) : Type 0 where
+  pub common : ℕ
+  pub positive : 0 < common
+  pub is : routing ≡ over_times common lowest
+  pub lowest_terms : IsLowestRouting lowest

@@ -1,0 +1,30 @@
+//! Whether capacities carry all demands in one state: a routing, a metric inequality that shows why not, or evidence that a number grew
+//! too wide.
+//!
+//! ```text
+//! match route_state(alloc, &net, &states, StateId(0), &demands, &caps)? {
+//!     RouteAnswer::Routed(routing) => ..,     // flows over one denominator that carry the demands
+//!     RouteAnswer::Violated(cut) => ..,       // cut.right(&demands) is more than the capacities give along cut.lengths()
+//!     RouteAnswer::Wide(evidence) => ..,      // a basis of the routing program, and which of its numbers is too wide
+//! }
+//! ```
+#![tactic(auto)]
+
+mod answer;
+mod carrier;
+mod collecting;
+mod columns;
+mod cutting;
+mod flows;
+mod lowest;
+mod numbers;
+mod prices;
+mod program;
+mod route;
+mod task;
+
+pub use answer::RouteAnswer;
+pub use route::route_state;
+
+#[cfg(test)]
+mod tests;

@@ -1,0 +1,53 @@
+ghost use Rattle.std.specs.Prelude.{◌≡◌, ◌<◌, ◌≤◌, ◌^◌, All, map};
+ghost use Rattle.std.specs.Int.{◌∣◌};
+ghost use Rattle.route_law.specs.Routings.{flow_times};
+ghost use Rattle.flow_router.specs.inner.Lowest.{IsCommonDivisor, IsInLowest};
+
+use checked_fraction::gcd;
+use net_core::{Flow, List, Routing};
+
+/// The greatest common divisor of a denominator and the numerators of flows.
+fn common_divisor(den: u64, flows: &[Flow]) -> u128
+    requires { 0 < den }
+    ensures { IsCommonDivisor den flows.now result }
+{
+    let mut common = den as u128;
+    for f in flows {
+        common = gcd(common, f.num);
+    }
+    common
+}
+
+/// Divides each flow.
+fn divide(flows: &mut [Flow], common: u128)
+    requires positive { 0 < common }
+    requires divides { All (λ f. common ∣ f.num) flows.old }
+    ensures { flows.old ≡ map (flow_times common) flows.new }
+{
+    for i in 0..flows.len() {
+        flows[i].num /= common;
+    }
+}
+
+/// The same of a list.
+fn divide_list(flows: &mut List<Flow>, common: u128)
+    requires positive { 0 < common }
+    requires divides { All (λ f. common ∣ f.num) flows.old }
+    ensures { flows.old ≡ map (flow_times common) flows.new }
+{
+    divide(flows.items_mut(), common);
+}
+
+/// The same routing in lowest terms.
+pub(crate) fn lowest(routing: Routing) -> Routing
+    requires { 0 < routing.den }
+    ensures { IsInLowest routing result }
+{
+    let Routing { den, mut flows } = routing;
+    let common = common_divisor(den, flows.items());
+    divide_list(&mut flows, common);
+    Routing {
+        den: (den as u128 / common) as u64,
+        flows,
+    }
+}

@@ -1,0 +1,197 @@
+ghost use Rattle.std.specs.Prelude.{◌≡◌, ◌*◌, ◌+◌, ◌<◌, ◌^◌, ◌≤◌, ℕ, All, IfOk, length, slice_index, true, false, IsTrue, ◌↔◌};
+ghost use Rattle.checked_fraction.specs.Rows.{IsNarrow};
+ghost use Rattle.net_core.specs.Demands.{AreDemands};
+ghost use Rattle.net_core.specs.Graphs.{Graph};
+ghost use Rattle.net_core.specs.Views.{graph, graph_of};
+ghost use Rattle.route_law.specs.RouteEvidence.{IsRouteEvidence};
+ghost use Rattle.route_law.specs.Routings.{AreJoined};
+ghost use Rattle.route_law.specs.RoutingPrograms.{route_rows, route_bound};
+ghost use Rattle.flow_router.specs.Answers.{IsRouteAnswer};
+ghost use Rattle.flow_router.specs.inner.Flowing.{LeavesNeed};
+ghost use Rattle.flow_router.specs.inner.Solutions.{ArePricesBelow, IsSolution};
+
+use crate::answer::RouteAnswer;
+use crate::cutting::{LinkLengths, common_price, lengths_of};
+use crate::flows::{basis_flows, leaves_need};
+use crate::lowest::lowest;
+use crate::numbers::{slack_names, slack_of, wide_row};
+use crate::prices::link_prices;
+use crate::program::RouteProgram;
+use crate::task::Task;
+use greedy_router::greedy;
+use metric_cut::{Cut, CutFault};
+use net_core::{
+    Caps, Copied, Demands, Evidence, Lengths, List, Network, NoMemory, RouteColumn, Routing,
+    StateId, States, Surviving, WideKind,
+};
+use simplex_core::{Optimum, SimplexFault, solve};
+use std::alloc::Global;
+
+/// The answer that a number of a basis is too wide.
+fn wide(
+    task: &Task,
+    basis: List<RouteColumn>,
+    kind: WideKind<RouteColumn>,
+) -> Result<RouteAnswer, NoMemory>
+    requires { IsRouteEvidence (graph_of task.now.graph) task.now.demands.now task.now.caps.now basis kind }
+    ensures { IfOk result (IsRouteAnswer (graph_of task.now.graph) task.now.demands.now task.now.caps.now) }
+{
+    let caps = task.caps.copy()?;
+    Ok(RouteAnswer::Wide(Evidence::Route {
+        state: task.graph.state,
+        caps,
+        basis,
+        kind,
+    }))
+}
+
+/// The flows of a best basis that leaves nothing of any demand.
+fn routed(alloc: Global, task: &Task, best: &Optimum<RouteColumn>) -> Result<RouteAnswer, NoMemory>
+    requires solution { IsSolution task.now best.now }
+    requires met { LeavesNeed best.now.basis best.now.values → ⊥ }
+    ensures { IfOk result (IsRouteAnswer (graph_of task.now.graph) task.now.demands.now task.now.caps.now) }
+{
+    let flows = basis_flows(alloc, best.basis.items(), best.values.items())?;
+    let raw = Routing {
+        den: best.den,
+        flows,
+    };
+    Ok(RouteAnswer::Routed(lowest(raw)))
+}
+
+/// The cut of lengths that are link prices.
+fn cut_of(alloc: Global, task: &Task, lengths: Lengths) -> Result<RouteAnswer, NoMemory>
+    requires { ArePricesBelow task.now lengths }
+    ensures { IfOk result (IsRouteAnswer (graph_of task.now.graph) task.now.demands.now task.now.caps.now) }
+{
+    let graph = &task.graph;
+    match Cut::new(alloc, graph.net, graph.states, graph.state, lengths) {
+        Ok(cut) => Ok(RouteAnswer::Violated(cut)),
+        Err(CutFault::NoMemory) => Err(NoMemory),
+        Err(CutFault::UnknownState) => unreachable!(),
+        Err(CutFault::ZeroLengths) => unreachable!(),
+    }
+}
+
+/// The cut of the link prices of a best basis that leaves something of a demand, unless one of them is too long.
+fn violated(alloc: Global, task: &Task, best: Optimum<RouteColumn>) -> Result<RouteAnswer, NoMemory>
+    requires solution { IsSolution task.now best }
+    requires left { LeavesNeed best.basis best.values }
+    requires joined { AreJoined (graph_of task.now.graph) task.now.demands.now }
+    ensures { IfOk result (IsRouteAnswer (graph_of task.now.graph) task.now.demands.now task.now.caps.now) }
+{
+    let links = task.graph.net.links().len();
+    let prices = link_prices(alloc, best.duals.nums(), links)?;
+    let common = common_price(prices.items());
+    if common == 0 {
+        unreachable!();
+    }
+    match lengths_of(alloc, prices.items(), common)? {
+        LinkLengths::Fit(lengths) => cut_of(alloc, task, lengths),
+        LinkLengths::Long(link) => wide(task, best.basis, WideKind::Length(link)),
+    }
+}
+
+/// The answer that a best basis gives.
+fn answer_of(
+    alloc: Global,
+    task: &Task,
+    best: Optimum<RouteColumn>,
+) -> Result<RouteAnswer, NoMemory>
+    requires solution { IsSolution task.now best }
+    requires joined { AreJoined (graph_of task.now.graph) task.now.demands.now }
+    ensures { IfOk result (IsRouteAnswer (graph_of task.now.graph) task.now.demands.now task.now.caps.now) }
+{
+    if leaves_need(best.basis.items(), best.values.items()) {
+        violated(alloc, task, best)
+    } else {
+        routed(alloc, task, &best)
+    }
+}
+
+/// The answer that the routing program gives.
+fn solved(alloc: Global, task: &Task) -> Result<RouteAnswer, NoMemory>
+    requires narrow { (k : ℕ) → k < route_rows (graph_of task.now.graph) task.now.demands.now → IsNarrow (route_bound (graph_of task.now.graph) task.now.demands.now task.now.caps.now k) }
+    requires joined { AreJoined (graph_of task.now.graph) task.now.demands.now }
+    ensures { IfOk result (IsRouteAnswer (graph_of task.now.graph) task.now.demands.now task.now.caps.now) }
+{
+    let mut program = RouteProgram {
+        alloc,
+        task: *task,
+        waiting: List::new(alloc),
+    };
+    match solve(alloc, &mut program) {
+        Ok(best) => answer_of(alloc, task, best),
+        Err(SimplexFault::Wide { basis, kind }) => wide(task, basis, kind),
+        Err(SimplexFault::NoMemory) => Err(NoMemory),
+    }
+}
+
+/// Whether nothing is left.
+fn is_whole(rest: &[u128]) -> bool
+    ensures { IsTrue result ↔ All (λ r. r ≡ 0) rest.now }
+{
+    rest.iter().all(|r| *r == 0)
+}
+
+/// The answer to numbers that are narrow: a greedy routing that leaves nothing, or that of the routing program.
+fn routed_or_solved(alloc: Global, task: &Task) -> Result<RouteAnswer, NoMemory>
+    requires narrow { (k : ℕ) → k < route_rows (graph_of task.now.graph) task.now.demands.now → IsNarrow (route_bound (graph_of task.now.graph) task.now.demands.now task.now.caps.now k) }
+    requires joined { AreJoined (graph_of task.now.graph) task.now.demands.now }
+    ensures { IfOk result (IsRouteAnswer (graph_of task.now.graph) task.now.demands.now task.now.caps.now) }
+{
+    let graph = &task.graph;
+    let left = greedy(
+        alloc,
+        graph.net,
+        graph.states,
+        graph.state,
+        task.demands,
+        task.caps,
+    )?;
+    if is_whole(left.rest.items()) {
+        return Ok(RouteAnswer::Routed(left.routing));
+    }
+    solved(alloc, task)
+}
+
+/// Whether capacities, one number for each link over a scale, carry all demands in a state whose surviving links join the ends of
+/// each positive demand.
+///
+/// A routing is in lowest terms, with at most as many flows as links and demands together. A cut's right side at the demands is more
+/// than the capacities give along its lengths, so that no routing carries them; the lengths are prices of the links at an optimum.
+/// Evidence names a basis of the routing program, and what of it is too wide.
+///
+/// In the triangle AB, BC, AC with 6.00, 2.00 and 10.00 the demands of 12.00 from A to C and of 4.00 from A to B are routed. With
+/// 1.999 on BC they aren't: the links at C have 11.999 together, and the cut has the lengths 0, 1, 1.
+///
+/// It takes time that grows with the turns of the simplex method, each in the square of the count of links and demands, and as much
+/// memory as that square.
+pub fn route_state<'a>(
+    alloc: Global,
+    net: &'a Network,
+    states: &'a States,
+    state: StateId,
+    demands: &'a Demands,
+    caps: &'a Caps,
+) -> Result<RouteAnswer, NoMemory>
+    requires state { state.0 < length states.now.listed + 1 }
+    requires demands { AreDemands (length net.now.nodes) demands.now }
+    requires scale { 0 < caps.now.scale }
+    requires caps { length caps.now.nums ≡ length net.now.links }
+    requires joined { AreJoined (graph net.now states.now state.0) demands.now }
+    ensures { IfOk result (IsRouteAnswer (graph net.now states.now state.0) demands.now caps.now) }
+{
+    let task = Task {
+        graph: Surviving { net, states, state },
+        demands,
+        caps,
+    };
+    match wide_row(&task) {
+        Some(row) => {
+            let names = slack_names(alloc, &task)?;
+            wide(&task, names, WideKind::Number(slack_of(&task, row)))
+        }
+        None => routed_or_solved(alloc, &task),
+    }
+}

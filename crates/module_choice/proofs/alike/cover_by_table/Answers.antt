@@ -1,0 +1,38 @@
+use Rattle.std.proofs.Common.{◌≡◌, ◌∙◌, ◌+◌, Some, ap, arith, get_or, length, refl, slice_get, subst, sym}
+use Rattle.std.proofs.Math.ListN.{length-set}
+use Rattle.std.proofs.lemmas.Bool.{false≢true}
+use Rattle.std.proofs.lemmas.Option.{slice_get_read, slice_get_within}
+use Rattle.module_choice.specs.inner.Routes.{AlikeAreCovered, IsCovered}
+use Rattle.module_choice.proofs.SameModules.{TheseAreCovered, covered_set, these_set, these_skip}
+use Rattle.module_choice.proofs.alike.cover_by_table.Goals as goal
+use Rattle.module_choice.proofs.alike.cover_by_table.Goals.{then-has_modules+in_ok-counts, else-has_modules}
+
+pub loop-e-preserved : goal.loop-e-preserved
+loop-e-preserved c =
+    let links = c.args.links.now in
+    let needs = c.args.needs.now in
+    let modules = c.args.modules.now in
+    let e = c.loop-e.e in
+    let l = c.index-links-e.result in
+    let at : slice_get links e ≡ Some l = slice_get_read links (length links) e l refl c.loop-e-test.true c.index-links-e.is in
+    elim c.if-has_modules.branch [
+      | then-has_modules+in_ok-counts w ↦
+          let new = w.in_ok-counts.field-0.counts in
+          let is = w.in_ok-counts.ensures in
+          let alike : l.modules ≡ modules = w.if-has_modules.ensures.0 refl in
+          let covered : IsCovered l.modules (get_or needs e 0) new = subst (λ ms. IsCovered ms (get_or needs e 0) new) (sym alike) (record { covers = is.covers; few = is.small; narrow = is.narrow }) in
+          record {
+            count = ap length w.counts-is ∙ (length-set c.loop-e.counts e new ∙ c.loop-e.invariant.count);
+            these = subst (λ cs. TheseAreCovered links needs cs modules (e + 1)) (sym w.counts-is) (these_set links needs c.loop-e.counts e l new modules at covered c.loop-e.invariant.these);
+            others = λ ms before. subst (λ cs. AlikeAreCovered links needs cs ms) (sym w.counts-is) (covered_set links needs c.loop-e.counts e l new ms at covered (c.loop-e.invariant.others ms before));
+          }
+      | else-has_modules w ↦
+          record {
+            count = ap length w.counts-is ∙ c.loop-e.invariant.count;
+            these = subst (λ cs. TheseAreCovered links needs cs modules (e + 1)) (sym w.counts-is) (these_skip links needs c.loop-e.counts e l modules at (λ same. absurd (false≢true (w.if-has_modules.ensures.1 same))) c.loop-e.invariant.these);
+            others = λ ms before. subst (λ cs. AlikeAreCovered links needs cs ms) (sym w.counts-is) (c.loop-e.invariant.others ms before);
+          }
+    ]
+
+pub returns-clause-these : goal.returns-clause-these
+returns-clause-these c e l counts at got alike = c.loop-e.invariant.these e l counts (omega (arith, slice_get_within c.args.links.now e l at, c.loop-e-test.false)) at got alike

@@ -1,0 +1,7 @@
+use Rattle.std.proofs.Common.{map, take}
+use Rattle.plan_terms.specs.Bounds.{IsGreatestDivisor}
+use Rattle.module_choice.proofs.tables.capacity_divisor.Given as goal
+
+-- the divisor of the capacities so far
+abbrev pub invariant-loop-m : goal.invariant-loop-m
+invariant-loop-m l = IsGreatestDivisor (map (λ m. m.capacity) (take l.m-index l.modules)) l.common

@@ -1,0 +1,13 @@
+pub mod Carrying
+pub mod Certifying
+pub mod Firsts
+pub mod FlowSums
+pub mod KeptLengths
+pub mod LineSums
+pub mod MixedSums
+pub mod Places
+pub mod SharesKept
+pub mod Telling
+pub mod UnitPairs
+pub mod Walks
+pub mod Worths

@@ -1,0 +1,72 @@
+-- unit pairs are one, and no greater than the module that they come from
+use Rattle.std.proofs.Common.{ℕ, zero, suc, pos, ◌^◌, ◌≡◌, ◌*◌, ◌<◌, ◌≤◌, List, unsigned_abs, sym, ap, subst, ◌∙◌, arith}
+use Rattle.std.proofs.lemmas.Int.{ints, unsigned_abs-mul}
+use Rattle.std.proofs.Math.Nat.{mul-le-mul_left, le_of_mul-le-mul_left}
+use Rattle.net_core.specs.Network.{IsModule}
+use Rattle.net_core.specs.declared.network.Module.{Module}
+use Rattle.checked_fraction.specs.Rows.{IsReduced}
+use Rattle.checked_fraction.proofs.Once.{reduced_once, times_reduced}
+use Rattle.plan_terms.specs.Bounds.{IsLowest}
+use Rattle.plan_terms.specs.Prices.{HasLeastUnitCost, IsUnitPair}
+use Rattle.plan_terms.proofs.Bounds.{lowest_positive}
+use Rattle.module_prices.proofs.UnitCosts.{cheapest_sound}
+use Rattle.std.specs.List.{All}
+
+as_row : (a b c d : ℕ) → 0 < b → IsLowest a b c d → IsReduced 1 (λ k. pos a) (pos b) (λ k. pos c) (pos d)
+as_row a b c d some low = record {
+  positive = let p : 0 < d = lowest_positive a b c d some low in omega (arith, ints, p);
+  same = λ k lt. let e : c * b ≡ a * d = sym low.same in omega (arith, ints, e);
+  lowest = λ k den nums. low.lowest k (nums 0 (omega arith)) den;
+}
+
+-- a fraction has one form in lowest terms
+pub lowest_once : (a b c d e f : ℕ) → 0 < b → IsLowest a b c d → IsLowest a b e f → (c ≡ e) × (d ≡ f)
+lowest_once a b c d e f some first second =
+    let once = reduced_once 1 (λ k. pos a) (pos b) (λ k. pos c) (pos d) (λ k. pos e) (pos f) (omega (arith, ints, some)) (as_row a b c d some first) (as_row a b e f some second) in
+    (ap unsigned_abs (once.1 0 (omega arith)), ap unsigned_abs once.0)
+
+-- whose numerator is no greater than that of the fraction
+pub lowest_small : (a b c d : ℕ) → 0 < b → IsLowest a b c d → c ≤ a
+lowest_small a b c d some low =
+    let times = times_reduced 1 (λ k. pos a) (pos b) (λ k. pos c) (pos d) (omega (arith, ints, some)) (as_row a b c d some low) in
+    let g = times.0 in
+    let num : a ≡ g * c = ap unsigned_abs (times.2 0 (omega arith)) ∙ unsigned_abs-mul (pos g) (pos c) in
+    let den : b ≡ g * d = ap unsigned_abs times.1 ∙ unsigned_abs-mul (pos g) (pos d) in
+    small g num den
+  where
+    small : (g : ℕ) → a ≡ g * c → b ≡ g * d → c ≤ a
+    small zero num den = absurd (omega (arith, some, den))
+    small (suc n) num den = omega (arith, num, mul-le-mul_left c (let one : 1 ≤ suc n = omega arith in one))
+
+-- modules that cost as much per capacity
+module _ (modules : List Module) (sound : All IsModule modules) where
+  alike : (a b : Module) → HasLeastUnitCost modules a → HasLeastUnitCost modules b → a.cost * b.capacity ≤ b.cost * a.capacity
+  alike a b first second = subst (λ (m : Module). a.cost * m.capacity ≤ m.cost * a.capacity) second.one.2 (first.least second.one.0 b second.one.1)
+
+  same_ratio : (a b : Module) (k c : ℕ) → 0 < b.capacity → a.cost * b.capacity ≡ b.cost * a.capacity → IsLowest b.cost b.capacity k c → IsLowest a.cost a.capacity k c
+  same_ratio a b k c some cross low = record {
+    same = cancel (omega (arith, ap (λ x. x * c) cross, ap (λ x. x * a.capacity) low.same));
+    lowest = low.lowest;
+  }
+    where
+      cancel : b.capacity * (a.cost * c) ≡ b.capacity * (k * a.capacity) → a.cost * c ≡ k * a.capacity
+      cancel e =
+          let le : a.cost * c ≤ k * a.capacity = le_of_mul-le-mul_left (let h : b.capacity * (a.cost * c) ≤ b.capacity * (k * a.capacity) = omega (arith, e) in h) some in
+          let ge : k * a.capacity ≤ a.cost * c = le_of_mul-le-mul_left (let h : b.capacity * (k * a.capacity) ≤ b.capacity * (a.cost * c) = omega (arith, e) in h) some in
+          omega (arith, le, ge)
+
+  -- a link has one unit pair
+  pub pair_once : (capacity cost other_capacity other_cost : ℕ) → IsUnitPair modules capacity cost → IsUnitPair modules other_capacity other_cost → (cost ≡ other_cost) × (capacity ≡ other_capacity)
+  pair_once capacity cost other_capacity other_cost first second =
+      let a = first.cheapest in
+      let b = second.cheapest in
+      let a_sound = cheapest_sound modules a sound first.least in
+      let b_sound = cheapest_sound modules b sound second.least in
+      let cross : a.cost * b.capacity ≡ b.cost * a.capacity = omega (arith, alike a b first.least second.least, alike b a second.least first.least) in
+      lowest_once a.cost a.capacity cost capacity other_cost other_capacity a_sound.carries first.lowest (same_ratio a b other_cost other_capacity b_sound.carries cross second.lowest)
+
+  -- which costs no more than the module
+  pub pair_small : (capacity cost : ℕ) → IsUnitPair modules capacity cost → cost < 2 ^ 40
+  pair_small capacity cost pair =
+      let sound_one = cheapest_sound modules pair.cheapest sound pair.least in
+      omega (arith, lowest_small pair.cheapest.cost pair.cheapest.capacity cost capacity sound_one.carries pair.lowest, sound_one.cost)

@@ -1,0 +1,11 @@
+use Rattle.std.proofs.Common.{refl, eqb-true}
+use Rattle.std.proofs.lemmas.Bool.{eq-eqb}
+use Rattle.net_core.specs.Views.{graph_of}
+use Rattle.plan_checker.proofs.KeptLengths.{kept_by}
+use Rattle.plan_checker.proofs.kept.is_kept.Goals as goal
+
+pub returns-then-all_survive : goal.returns-then-all_survive
+returns-then-all_survive c = (
+  λ t. kept_by (graph_of c.args.graph.now) c.args.lengths.now c.divisor_of.result c.requires (c.if-all_survive.ensures.0 refl) c.divisor_of.ensures (eqb-true _ _ t),
+  λ kept. eq-eqb _ _ (kept.lowest c.divisor_of.result c.divisor_of.ensures.divides),
+)

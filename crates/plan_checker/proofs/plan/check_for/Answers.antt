@@ -1,0 +1,15 @@
+use Rattle.std.proofs.Common.{subst, sym}
+use Rattle.net_core.specs.Views.{case}
+use Rattle.plan_checker.specs.PlanFindings.{HoldsDemandsDiffer, own_findings}
+use Rattle.plan_checker.specs.inner.Tests.{TellFirst}
+use Rattle.plan_checker.proofs.Firsts.{told_later}
+use Rattle.plan_checker.proofs.plan.check_for.Goals as goal
+
+pub check_own-requires-clause-demands : goal.check_own-requires-clause-demands
+check_own-requires-clause-demands c = c.in_ok-check_demands.ensures.same
+
+pub returns-clause-told : goal.returns-clause-told
+returns-clause-told c =
+    let plan = c.args.plan.now in
+    told_later (HoldsDemandsDiffer (case c.args.net.now c.args.states.now c.args.demands.now) plan) (own_findings (case c.args.net.now c.args.states.now plan.demands) c.args.full plan) c.check_own.result c.in_ok-check_demands.ensures.told
+    (subst (λ ds. TellFirst (own_findings (case c.args.net.now c.args.states.now ds) c.args.full c.args.plan.now) c.check_own.result) (sym c.in_ok-check_demands.ensures.same) c.check_own.ensures.told)

@@ -1,0 +1,11 @@
+use Rattle.std.proofs.Common.{◌<◌, All, take}
+use Rattle.module_choice.specs.inner.Routes.{weight}
+use Rattle.plan_checker.specs.inner.Mixed.{AreMixed}
+use Rattle.plan_checker.proofs.sums.add_loads.Given as goal
+
+-- the flows so far are summed
+abbrev pub invariant-loop-f : goal.invariant-loop-f
+invariant-loop-f l = record {
+  each : All (λ m. m.rest < l.den) l.sums;
+  sum : AreMixed l.den (weight (take l.f-index l.flows)) l.sums;
+}

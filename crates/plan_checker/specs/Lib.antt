@@ -1,0 +1,7 @@
+pub mod Carried
+pub mod Certified
+pub mod Order
+pub mod Places
+pub mod PlanFindings
+pub mod Shares
+pub mod inner

@@ -1,0 +1,5 @@
+pub mod Lines
+pub mod Mixed
+pub mod Routes
+pub mod Tests
+pub mod Walks

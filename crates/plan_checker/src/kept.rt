@@ -1,0 +1,75 @@
+ghost use Rattle.std.specs.Prelude.{◌≡◌, ◌≢◌, ◌↔◌, ℕ, ◌<◌, ◌^◌, All, IfNone, IsTrue, IsFalse, length, slice_index};
+ghost use Rattle.net_core.specs.Cases.{graph_in};
+ghost use Rattle.net_core.specs.Graphs.{Survives};
+ghost use Rattle.net_core.specs.Views.{case_of, graph_of};
+ghost use Rattle.plan_report.specs.Forms.{IsCutInForm};
+ghost use Rattle.plan_terms.specs.Bounds.{IsGreatestDivisor};
+ghost use Rattle.plan_terms.specs.Certificates.{AreKept};
+ghost use Rattle.plan_checker.specs.Certified.{IsLocalCut};
+ghost use Rattle.plan_checker.specs.Places.{HoldsAt};
+ghost use Rattle.plan_checker.specs.inner.Tests.{IsFirstPlace};
+
+use checked_fraction::gcd;
+use net_core::{Instance, LinkId, Surviving};
+use plan_types::{CertLine, Spot};
+
+/// Whether each link of positive length survives.
+fn all_survive(graph: &Surviving, lengths: &[u32]) -> bool
+    requires { length lengths.now ≡ length graph.now.net.now.links }
+    ensures { let g = graph_of graph.now in IsTrue result ↔ ((e : ℕ) → slice_index lengths.now e ≢ 0 → Survives g e) }
+{
+    for e in 0..lengths.len() {
+        if lengths[e] != 0 && !graph.has(LinkId(e as u32)) {
+            return false;
+        }
+    }
+    true
+}
+
+/// The greatest common divisor of lengths.
+fn divisor_of(lengths: &[u32]) -> u128
+    ensures { IsGreatestDivisor lengths.now result }
+{
+    let mut common = 0;
+    for length in lengths {
+        common = gcd(common, *length as u128);
+    }
+    common
+}
+
+/// Whether the state keeps lengths, one per link, as they are.
+pub fn is_kept(graph: &Surviving, lengths: &[u32]) -> bool
+    requires { length lengths.now ≡ length graph.now.net.now.links }
+    ensures { let g = graph_of graph.now in IsTrue result ↔ AreKept g lengths.now }
+{
+    all_survive(graph, lengths) && divisor_of(lengths) == 1
+}
+
+/// Whether a line isn't in the pool, which has room, or its state doesn't keep its lengths.
+fn is_local(instance: &Instance, line: &CertLine, full: bool) -> bool
+    requires { IsCutInForm instance.now.net.now.links instance.now.states.now.listed line.now.cut }
+    ensures local { IsTrue result ↔ IsLocalCut (case_of instance.now) full line.now }
+    ensures kept { IsFalse result → AreKept (graph_in (case_of instance.now) line.now.cut.state.0) line.now.cut.lengths }
+{
+    let graph = Surviving {
+        net: instance.net,
+        states: instance.states,
+        state: line.cut.state,
+    };
+    (line.spot == Spot::Local && !full) || !is_kept(&graph, line.cut.lengths.items())
+}
+
+/// The first such line.
+pub(crate) fn first_local(instance: &Instance, lines: &[CertLine], full: bool) -> Option<u32>
+    requires few { length lines.now < 2 ^ 32 }
+    requires form { All (λ l. IsCutInForm instance.now.net.now.links instance.now.states.now.listed l.cut) lines.now }
+    ensures first { IsFirstPlace (λ k. HoldsAt lines.now k (IsLocalCut (case_of instance.now) full)) result }
+    ensures kept { IfNone result (All (λ l. AreKept (graph_in (case_of instance.now) l.cut.state.0) l.cut.lengths) lines.now) }
+{
+    for i in 0..lines.len() {
+        if is_local(instance, &lines[i], full) {
+            return Some(i as u32);
+        }
+    }
+    None
+}

@@ -1,0 +1,29 @@
+//! A plain walk through a plan or a report that trusts nothing of whoever made it.
+#![tactic(auto)]
+
+mod carried;
+mod certificate;
+mod cost;
+mod demands;
+pub mod finding;
+pub mod kept;
+mod mixed;
+mod paths;
+mod place;
+pub mod plan;
+mod prices;
+pub mod rights;
+mod routes;
+mod routings;
+mod share;
+pub mod stop;
+mod sums;
+mod tight;
+mod worth;
+
+pub use finding::{CheckAnswer, Finding};
+pub use plan::check_plan;
+pub use stop::{Stop, Test};
+
+#[cfg(test)]
+mod tests;

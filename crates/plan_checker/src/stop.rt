@@ -1,0 +1,23 @@
+use crate::finding::Finding;
+use net_core::NoMemory;
+
+/// Why a check ends early.
+#[derive(Clone, Copy, Debug, PartialEq, Eq)]
+pub enum Stop {
+    Found(Finding),
+    NoMemory,
+}
+
+/// What a test comes to: nothing found, or a reason to stop.
+pub type Test = Result<(), Stop>;
+
+impl From<NoMemory> for Stop {
+    ghost use Rattle.std.specs.Prelude.{◌≡◌};
+    ghost use Rattle.plan_checker.specs.declared.stop.Stop.{Stop};
+
+    ghost from_gives = { λ _ stop. stop ≡ Stop.NoMemory };
+
+    fn from(_error: NoMemory) -> Stop {
+        Stop::NoMemory
+    }
+}

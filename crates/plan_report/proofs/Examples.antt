@@ -1,0 +1,75 @@
+-- The report of a plan without demands on the triangle is in form.
+use Rattle.std.proofs.Common.{◌≡◌, ℕ, ◌<◌, ◌^◌, List, [], ◌∷◌, All, length, refl, sym, arith}
+use Rattle.std.proofs.lemmas.List.Elements.{All-cons, All-nil}
+use Rattle.net_core.specs.declared.network.Link.{Link}
+use Rattle.worked_networks.specs.Tables.{letters}
+use Rattle.worked_networks.specs.Triangle.{triangle_links}
+use Rattle.net_core.specs.declared.journal.Entry.TheVariants.{Pooled}
+use Rattle.plan_types.specs.declared.certificate.CertLine.{CertLine}
+use Rattle.plan_types.specs.declared.report.Outcome.TheVariants.{Planned}
+use Rattle.plan_report.specs.Forms.{AreLinkNumbers, IsCertificateInForm, IsCertificateLineInForm, IsCutInForm, IsEntryInForm, IsFlowInForm, IsOfPool, IsOutcomeInForm, IsPlanInForm, IsReportInForm, IsRoutingInForm}
+use Rattle.plan_report.specs.inner.Examples.{idle_certificate, idle_cut, idle_plan, idle_report, idle_routing}
+
+one : {X : Type 0} (P : X → Type 0) (x : X) → P x → All P (x ∷ [])
+one P x p = All-cons P x [] p (All-nil P)
+
+three : {X : Type 0} (P : X → Type 0) (x : X) → P x → All P (x ∷ x ∷ x ∷ [])
+three P x p = All-cons P x (x ∷ x ∷ []) p (All-cons P x (x ∷ []) p (one P x p))
+
+nothing : {X : Type 0} (P : X → Type 0) → All P []
+nothing P = All-nil P
+
+entry_in_form : IsEntryInForm (idle_cut ∷ []) (Pooled 0 idle_cut.state idle_cut.lengths)
+entry_in_form = record { most = omega arith; same_state = refl; same_lengths = refl }
+
+cut_in_form : IsCutInForm (triangle_links 0) [] idle_cut
+cut_in_form = record { state = omega arith; lengths = record { long = refl; each = three (λ n. n < 2 ^ 32) 1 (omega arith) }; right = omega arith }
+
+routing_in_form : IsRoutingInForm (triangle_links 0) [] idle_routing
+routing_in_form = record { positive = omega arith; den = omega arith; few = omega arith; flows = nothing (IsFlowInForm (triangle_links 0) []) }
+
+certificate_in_form : IsCertificateInForm (triangle_links 0) [] idle_certificate
+certificate_in_form = record { positive = omega arith; den = omega arith; few = omega arith; lines = nothing (IsCertificateLineInForm (triangle_links 0) []) }
+
+plan_in_form : IsPlanInForm (letters 65 3) (triangle_links 0) [] idle_plan
+plan_in_form = record {
+  version = omega arith;
+  position = omega arith;
+  demands = tt;
+  counts = (refl, (refl, (refl, tt)));
+  limits = record {
+    few = three (λ (c : List ℕ). All (λ n. n < 2 ^ 44) c) (0 ∷ []) (one (λ n. n < 2 ^ 44) 0 (omega arith));
+    small = three (λ n. n < 2 ^ 46) 0 (omega arith);
+  };
+  cost = omega arith;
+  routings = record { long = refl; each = one (IsRoutingInForm (triangle_links 0) []) idle_routing routing_in_form };
+  certificate = certificate_in_form;
+  raw_num = omega arith;
+  raw_positive = omega arith;
+  raw_den = omega arith;
+  bound = omega arith;
+  quality = tt;
+}
+
+outcome_in_form : IsOutcomeInForm (letters 65 3) (triangle_links 0) [] (idle_cut ∷ []) (Planned 1 1 idle_plan)
+outcome_in_form = record {
+  command = record { some_caller = omega arith; most_caller = omega arith; some_serial = omega arith; most_serial = omega arith; most_version = omega arith; most_position = omega arith };
+  plan = plan_in_form;
+  pooled = nothing (λ (l : CertLine). IsOfPool (idle_cut ∷ []) l.spot l.cut);
+}
+
+pub idle_in_form : IsReportInForm (letters 65 3) (triangle_links 0) [] idle_report
+idle_in_form = record {
+  few_entries = omega arith;
+  entries = one (IsEntryInForm (idle_cut ∷ [])) (Pooled 0 idle_cut.state idle_cut.lengths) entry_in_form;
+  few_lines = omega arith;
+  pool = one (IsCutInForm (triangle_links 0) []) idle_cut cut_in_form;
+  few_outcomes = omega arith;
+  outcomes = one (IsOutcomeInForm (letters 65 3) (triangle_links 0) [] (idle_cut ∷ [])) (Planned 1 1 idle_plan) outcome_in_form;
+}
+
+pub three_lengths : (links : List Link) → length links ≡ 3 → AreLinkNumbers links (2 ^ 32) (1 ∷ 0 ∷ 2 ∷ [])
+three_lengths links e = record {
+  long = sym e;
+  each = All-cons (λ n. n < 2 ^ 32) 1 (0 ∷ 2 ∷ []) (omega arith) (All-cons (λ n. n < 2 ^ 32) 0 (2 ∷ []) (omega arith) (one (λ n. n < 2 ^ 32) 2 (omega arith)));
+}

@@ -1,0 +1,11 @@
+use Rattle.plan_report.proofs.Putting.{on_ok, puts_enclosed, puts_then}
+use Rattle.plan_report.proofs.writer.put_report.Goals as goal
+
+pub put_journal-requires : goal.put_journal-requires
+put_journal-requires c = (c.args.report.now.pool, rw c.items.ensures c.requires.entries)
+
+pub put_outcomes-requires : goal.put_outcomes-requires
+put_outcomes-requires c = (c.args.report.now.pool, rw c.items-3.ensures c.requires.outcomes)
+
+pub returns : goal.returns
+returns c = on_ok _ (λ q. puts_then (puts_then (puts_then (puts_then c.in_ok-put_keyword.ensures (puts_enclosed c.in_ok-put_open.ensures c.in_ok-put_notes.ensures c.in_ok-put_close.ensures)) (puts_then c.in_ok-put_keyword-2.ensures (rw c.items.ensures at c.in_ok-put_journal.ensures))) (puts_then c.in_ok-put_keyword-3.ensures (rw c.items-2.ensures at c.in_ok-put_pool.ensures))) (puts_then c.in_ok-put_keyword-4.ensures q)) (rw c.items-3.ensures at c.put_outcomes.ensures)

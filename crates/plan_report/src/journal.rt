@@ -1,0 +1,100 @@
+ghost use Rattle.std.specs.Prelude.{List, All, OnOk, flat_map};
+ghost use Rattle.net_core.specs.declared.plan.CutLine.{CutLine};
+ghost use Rattle.plan_report.specs.Forms.{IsEditedInForm, IsEntryInForm, IsReplyInForm};
+ghost use Rattle.plan_report.specs.Items.{entry_items, event_items, numbered_from, reply_items};
+ghost use Rattle.plan_report.specs.Parts.{IsEditInForm, edit_items, enclosed};
+ghost use Rattle.plan_report.specs.inner.Puts.{Puts};
+
+use crate::names::put_ends;
+use crate::puts::{put_close, put_field, put_keyword, put_money, put_name, put_number, put_open};
+use net_core::{Bytes, Edit, Entry, NoMemory, Reply};
+
+/// Puts an edit last.
+fn put_edit(text: &mut Bytes, edit: &Edit) -> Result<(), NoMemory>
+    requires { IsEditInForm edit.now }
+    ensures { OnOk result (Puts text.old (edit_items edit.now) text.new) }
+{
+    match edit {
+        Edit::Set { name, need } => {
+            put_keyword(text, b"set")?;
+            put_name(text, name)?;
+            put_money(text, *need as u128)
+        }
+        Edit::Add {
+            name,
+            from,
+            to,
+            need,
+        } => {
+            put_keyword(text, b"add")?;
+            put_name(text, name)?;
+            put_ends(text, from, to)?;
+            put_money(text, *need as u128)
+        }
+        Edit::Drop { name } => {
+            put_keyword(text, b"drop")?;
+            put_name(text, name)
+        }
+    }
+}
+
+/// Puts a reply last.
+fn put_reply(text: &mut Bytes, reply: Reply) -> Result<(), NoMemory>
+    requires { IsReplyInForm reply }
+    ensures { OnOk result (Puts text.old (reply_items reply) text.new) }
+{
+    match reply {
+        Reply::Accepted(version) => put_field(text, b"accepted", version),
+        Reply::UnknownDemand => put_keyword(text, b"unknown-demand"),
+        Reply::KnownDemand => put_keyword(text, b"known-demand"),
+        Reply::UnknownNode => put_keyword(text, b"unknown-node"),
+        Reply::SelfDemand => put_keyword(text, b"self-demand"),
+        Reply::TooMany => put_keyword(text, b"too-many"),
+        Reply::TooMuch(total) => {
+            put_keyword(text, b"too-much")?;
+            put_money(text, total as u128)
+        }
+    }
+}
+
+/// Puts last what an entry has after its position.
+fn put_event(text: &mut Bytes, entry: &Entry) -> Result<(), NoMemory>
+    requires { (pool : List CutLine) × IsEntryInForm pool entry.now }
+    ensures { OnOk result (Puts text.old (event_items entry.now) text.new) }
+{
+    match entry {
+        Entry::Edited {
+            caller,
+            edit,
+            reply,
+        } => {
+            put_field(text, b"caller", *caller as u64)?;
+            put_edit(text, edit)?;
+            put_reply(text, *reply)
+        }
+        Entry::Pooled { index, .. } => put_field(text, b"cut", *index as u64),
+    }
+}
+
+/// Puts the entry at a position last.
+fn put_entry(text: &mut Bytes, position: u64, entry: &Entry) -> Result<(), NoMemory>
+    requires { (pool : List CutLine) × IsEntryInForm pool entry.now }
+    ensures { OnOk result (Puts text.old (entry_items (position, entry.now)) text.new) }
+{
+    put_open(text)?;
+    put_number(text, position)?;
+    put_event(text, entry)?;
+    put_close(text)
+}
+
+/// Puts a journal last, between parentheses.
+pub(crate) fn put_journal(text: &mut Bytes, entries: &[Entry]) -> Result<(), NoMemory>
+    requires { (pool : List CutLine) × All (IsEntryInForm pool) entries.now }
+    ensures { OnOk result (Puts text.old (enclosed (flat_map entry_items (numbered_from 1 entries.now))) text.new) }
+{
+    put_open(text)?;
+    for i in 0..entries.len() {
+        put_entry(text, i as u64 + 1, &entries[i])?;
+    }
+    put_close(text)
+}

@@ -1,0 +1,102 @@
+ghost use Rattle.std.specs.Prelude.{◌≤◌, List, All, OnOk, flat_map, length};
+ghost use Rattle.net_core.specs.declared.plan.CutLine.{CutLine};
+ghost use Rattle.plan_report.specs.Forms.{IsOutcomeInForm};
+ghost use Rattle.plan_report.specs.Items.{head_items, outcome_items, separation_items};
+ghost use Rattle.plan_report.specs.Parts.{enclosed};
+ghost use Rattle.plan_report.specs.inner.Puts.{Puts};
+
+use crate::names::put_state_name;
+use crate::plans::put_plan;
+use crate::puts::{put_close, put_field, put_keyword, put_name, put_open};
+use net_core::{Bytes, Link, Listed, Name, NoMemory, StateId};
+use plan_types::Outcome;
+
+/// Puts last which plan command an outcome is of, and for which version and position.
+fn put_head(
+    text: &mut Bytes,
+    caller: u32,
+    serial: u32,
+    version: u64,
+    position: u64,
+) -> Result<(), NoMemory>
+    ensures { OnOk result (Puts text.old (head_items caller serial version position) text.new) }
+{
+    put_field(text, b"caller", caller as u64)?;
+    put_field(text, b"plan", serial as u64)?;
+    put_field(text, b"version", version)?;
+    put_field(text, b"position", position)
+}
+
+/// Puts last which state separates which demand.
+fn put_separation(
+    text: &mut Bytes,
+    listed: &[Listed],
+    state: StateId,
+    demand: &Name,
+) -> Result<(), NoMemory>
+    requires { state.0 ≤ length listed.now }
+    ensures { OnOk result (Puts text.old (separation_items listed.now state demand.now) text.new) }
+{
+    put_field(text, b"state", state.0 as u64)?;
+    put_state_name(text, listed, state.0 as usize)?;
+    put_keyword(text, b"demand")?;
+    put_name(text, demand)
+}
+
+/// Puts an outcome last.
+fn put_outcome(
+    text: &mut Bytes,
+    nodes: &[Name],
+    links: &[Link],
+    listed: &[Listed],
+    outcome: &Outcome,
+) -> Result<(), NoMemory>
+    requires { (pool : List CutLine) × IsOutcomeInForm nodes.now links.now listed.now pool outcome.now }
+    ensures { OnOk result (Puts text.old (outcome_items nodes.now links.now listed.now outcome.now) text.new) }
+{
+    match outcome {
+        Outcome::Planned {
+            caller,
+            serial,
+            plan,
+        } => {
+            put_keyword(text, b"PLAN")?;
+            put_open(text)?;
+            put_head(text, *caller, *serial, plan.version, plan.position)?;
+            put_plan(text, nodes, links, listed, plan)?;
+            put_close(text)
+        }
+        Outcome::Unsurvivable {
+            caller,
+            serial,
+            version,
+            position,
+            state,
+            demand,
+        } => {
+            put_keyword(text, b"UNSURVIVABLE")?;
+            put_open(text)?;
+            put_head(text, *caller, *serial, *version, *position)?;
+            put_separation(text, listed, *state, demand)?;
+            put_close(text)
+        }
+    }
+}
+
+/// Puts outcomes last, between parentheses.
+pub(crate) fn put_outcomes(
+    text: &mut Bytes,
+    nodes: &[Name],
+    links: &[Link],
+    listed: &[Listed],
+    outcomes: &[Outcome],
+) -> Result<(), NoMemory>
+    requires { (pool : List CutLine) × All (IsOutcomeInForm nodes.now links.now listed.now pool) outcomes.now }
+    ensures { OnOk result (Puts text.old (enclosed (flat_map (outcome_items nodes.now links.now listed.now) outcomes.now)) text.new) }
+{
+    put_open(text)?;
+    for outcome in outcomes {
+        put_outcome(text, nodes, links, listed, outcome)?;
+    }
+    put_close(text)
+}

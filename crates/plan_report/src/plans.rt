@@ -1,0 +1,141 @@
+ghost use Rattle.std.specs.Prelude.{◌≡◌, ◌<◌, ◌^◌, ◌∷◌, ◌++◌, All, OnOk, flat_map, length, zip};
+ghost use Rattle.text_kit.specs.Items.{Whole};
+ghost use Rattle.plan_report.specs.Forms.{AreRoutingsInForm, IsPlanInForm, IsQualityInForm};
+ghost use Rattle.plan_report.specs.Items.{costs_items, demand_items, modules_items, numbers_items, plan_items, quality_items, routings_items};
+ghost use Rattle.plan_report.specs.Parts.{enclosed};
+ghost use Rattle.plan_report.specs.inner.Puts.{Puts};
+ghost use Rattle.plan_report.specs.inner.Writable.{IsWritableDemand};
+
+use crate::certificates::put_certificate;
+use crate::evidence::put_cause;
+use crate::lists::put_counts;
+use crate::names::put_ends;
+use crate::puts::{put_close, put_keyword, put_money, put_name, put_number, put_open, put_whole};
+use crate::routings::put_routings;
+use net_core::{Bytes, Demand, Link, List, Listed, Name, NoMemory};
+use plan_types::{Fractional, Plan, Quality};
+
+/// Puts a demand last.
+fn put_demand(text: &mut Bytes, nodes: &[Name], demand: &Demand) -> Result<(), NoMemory>
+    requires { IsWritableDemand nodes.now demand.now }
+    ensures { OnOk result (Puts text.old (demand_items nodes.now demand.now) text.new) }
+{
+    put_name(text, &demand.name)?;
+    put_ends(
+        text,
+        &nodes[demand.from.0 as usize],
+        &nodes[demand.to.0 as usize],
+    )?;
+    put_money(text, demand.need as u128)
+}
+
+/// Puts demands last, between parentheses.
+fn put_demands(text: &mut Bytes, nodes: &[Name], demands: &[Demand]) -> Result<(), NoMemory>
+    requires { All (IsWritableDemand nodes.now) demands.now }
+    ensures { OnOk result (Puts text.old (enclosed (flat_map (demand_items nodes.now) demands.now)) text.new) }
+{
+    put_open(text)?;
+    for demand in demands {
+        put_demand(text, nodes, demand)?;
+    }
+    put_close(text)
+}
+
+/// Puts the modules of a link last.
+fn put_link_modules(text: &mut Bytes, link: &Link, counts: &[u64]) -> Result<(), NoMemory>
+    ensures { OnOk result (Puts text.old (modules_items (link.now, counts.now)) text.new) }
+{
+    put_name(text, &link.name)?;
+    put_counts(text, counts)
+}
+
+/// Puts the modules of all links last, between parentheses.
+fn put_modules(text: &mut Bytes, links: &[Link], counts: &[List<u64>]) -> Result<(), NoMemory>
+    requires { length counts.now ≡ length links.now }
+    ensures { OnOk result (Puts text.old (enclosed (flat_map modules_items (zip links.now counts.now))) text.new) }
+{
+    put_open(text)?;
+    for e in 0..links.len() {
+        put_link_modules(text, &links[e], counts[e].items())?;
+    }
+    put_close(text)
+}
+
+/// Puts the cost of a plan, its bound and its raw value last.
+fn put_costs(text: &mut Bytes, plan: &Plan) -> Result<(), NoMemory>
+    requires cost { plan.now.cost < 2 ^ 126 }
+    requires bound { plan.now.bound < 2 ^ 126 }
+    requires raw { (plan.now.raw_num < 2 ^ 126) × (plan.now.raw_den < 2 ^ 72) }
+    ensures { OnOk result (Puts text.old (costs_items plan.now) text.new) }
+{
+    put_keyword(text, b"cost")?;
+    put_money(text, plan.cost)?;
+    put_keyword(text, b"bound")?;
+    put_money(text, plan.bound)?;
+    put_keyword(text, b"raw")?;
+    put_whole(text, plan.raw_num)?;
+    put_whole(text, plan.raw_den)
+}
+
+/// Puts last a share and the routings within it.
+fn put_fractional(
+    text: &mut Bytes,
+    links: &[Link],
+    listed: &[Listed],
+    demands: &[Demand],
+    fractional: &Fractional,
+) -> Result<(), NoMemory>
+    requires { AreRoutingsInForm links.now listed.now demands.now fractional.now.routings }
+    ensures { OnOk result (Puts text.old (Whole fractional.now.share.scale ∷ numbers_items fractional.now.share.units ++ routings_items links.now listed.now demands.now fractional.now.routings) text.new) }
+{
+    put_number(text, fractional.share.scale)?;
+    put_counts(text, fractional.share.units.items())?;
+    put_routings(text, links, listed, demands, fractional.routings.items())
+}
+
+/// Puts last how good a bound is.
+pub(crate) fn put_quality(
+    text: &mut Bytes,
+    links: &[Link],
+    listed: &[Listed],
+    demands: &[Demand],
+    quality: &Quality,
+) -> Result<(), NoMemory>
+    requires { IsQualityInForm links.now listed.now demands.now quality.now }
+    ensures { OnOk result (Puts text.old (quality_items links.now listed.now demands.now quality.now) text.new) }
+{
+    match quality {
+        Quality::Tight(fractional) => {
+            put_keyword(text, b"tight")?;
+            put_fractional(text, links, listed, demands, fractional)
+        }
+        Quality::Loose(cause) => {
+            put_keyword(text, b"loose")?;
+            put_cause(text, links, demands, cause)
+        }
+        Quality::Unsolved => put_keyword(text, b"unsolved"),
+    }
+}
+
+/// Puts last what a plan has after its head.
+pub(crate) fn put_plan(
+    text: &mut Bytes,
+    nodes: &[Name],
+    links: &[Link],
+    listed: &[Listed],
+    plan: &Plan,
+) -> Result<(), NoMemory>
+    requires { IsPlanInForm nodes.now links.now listed.now plan.now }
+    ensures { OnOk result (Puts text.old (plan_items nodes.now links.now listed.now plan.now) text.new) }
+{
+    let demands = plan.demands.items();
+    put_keyword(text, b"DEMANDS")?;
+    put_demands(text, nodes, demands)?;
+    put_costs(text, plan)?;
+    put_keyword(text, b"MODULES")?;
+    put_modules(text, links, plan.counts.items())?;
+    put_certificate(text, &plan.certificate)?;
+    put_keyword(text, b"ROUTES")?;
+    put_routings(text, links, listed, demands, plan.routings.items())?;
+    put_quality(text, links, listed, demands, &plan.quality)
+}

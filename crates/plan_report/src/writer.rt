@@ -1,0 +1,89 @@
+ghost use Rattle.std.specs.Prelude.{◌≡◌, ◌≤◌, ◌++◌, ◌∷◌, [], true, IfOk, OnOk, length};
+ghost use Rattle.net_core.specs.Names.{is_plain};
+ghost use Rattle.plan_report.specs.Forms.{IsReportInForm};
+ghost use Rattle.plan_report.specs.Items.{note_items, notes_items, report_items};
+ghost use Rattle.plan_report.specs.Parts.{section};
+ghost use Rattle.plan_report.specs.Texts.{SpellsReport, report_header, report_text};
+ghost use Rattle.plan_report.specs.inner.Puts.{Puts};
+
+use crate::journal::put_journal;
+use crate::outcomes::put_outcomes;
+use crate::pool::put_pool;
+use crate::puts::{put_close, put_keyword, put_open};
+use net_core::{Bytes, Link, Listed, Name, Network, NoMemory, Notes, States};
+use plan_types::Report;
+use std::alloc::Global;
+
+const HEADER: &[u8] = b"?planner report; version: 1\n";
+
+/// Puts a word last where something is noted.
+fn put_note(text: &mut Bytes, noted: bool, word: &[u8]) -> Result<(), NoMemory>
+    requires { (1 ≤ length word.now) × (is_plain word.now ≡ true) }
+    ensures { OnOk result (Puts text.old (note_items noted word.now) text.new) }
+{
+    if noted {
+        return put_keyword(text, word);
+    }
+    Ok(())
+}
+
+/// Puts notes last.
+pub(crate) fn put_notes(text: &mut Bytes, notes: Notes) -> Result<(), NoMemory>
+    ensures { OnOk result (Puts text.old (notes_items notes) text.new) }
+{
+    put_note(text, notes.fixed_cost, b"fixed")?;
+    put_note(text, notes.routing_cost, b"routing")?;
+    put_note(text, notes.setup_cost, b"setup")
+}
+
+/// Puts all of a report last.
+fn put_report(
+    text: &mut Bytes,
+    nodes: &[Name],
+    links: &[Link],
+    listed: &[Listed],
+    report: &Report,
+) -> Result<(), NoMemory>
+    requires { IsReportInForm nodes.now links.now listed.now report.now }
+    ensures { OnOk result (Puts text.old (report_items nodes.now links.now listed.now report.now) text.new) }
+{
+    put_keyword(text, b"NOTES")?;
+    put_open(text)?;
+    put_notes(text, report.notes)?;
+    put_close(text)?;
+    put_keyword(text, b"JOURNAL")?;
+    put_journal(text, report.entries.items())?;
+    put_keyword(text, b"POOL")?;
+    put_pool(text, report.pool.items())?;
+    put_keyword(text, b"OUTCOMES")?;
+    put_outcomes(text, nodes, links, listed, report.outcomes.items())
+}
+
+/// The text of a report that is in form. It takes time in the number of its bytes, since each name is found by its place.
+///
+/// ```text
+/// let text = write_report(alloc, &net, &states, &report)?;
+/// text.items();       // ?planner report; version: 1, and a line for each closing parenthesis
+/// ```
+pub fn write_report(
+    alloc: Global,
+    net: &Network,
+    states: &States,
+    report: &Report,
+) -> Result<Bytes, NoMemory>
+    requires { IsReportInForm net.now.nodes net.now.links states.now.listed report.now }
+    ensures text { IfOk result (λ text. text ≡ report_text net.now.nodes net.now.links states.now.listed report.now) }
+    // What is written spells the report, so that reading it gives the report again.
+    ensures spelled { IfOk result (λ text. SpellsReport net.now.nodes net.now.links states.now.listed text report.now) }
+{
+    let mut text = Bytes::new(alloc);
+    text.append(HEADER)?;
+    put_report(
+        &mut text,
+        net.nodes().items(),
+        net.links().items(),
+        states.listed().items(),
+        report,
+    )?;
+    Ok(text)
+}

@@ -1,0 +1,221 @@
+-- the bound of the best candidate is certified, and at least the own bound of each
+use Rattle.std.proofs.Common.{◌≡◌, ℕ, zero, suc, ◌+◌, ◌-◌, ◌*◌, ◌/◌, ◌%◌, ◌^◌, ◌<◌, ◌≤◌, ◌⊎◌, inl, inr, ⊎_elim, List, [], ◌∷◌, All, Any, Some, get_or, length, slice_get, refl, sym, ap, subst, ◌∙◌, arith}
+use Rattle.std.specs.Int.{◌∣◌}
+use Rattle.std.proofs.Math.Logic.{∥∥₁_elim, ∥∥₁_map}
+use Rattle.std.proofs.Props.{props}
+use Rattle.std.proofs.lemmas.List.Elements.{All-cons, All-nil, All-get_or, All-weaker}
+use Rattle.std.proofs.lemmas.Nat.{div-add-mod'}
+use Rattle.std.proofs.lemmas.Nat.Gcd.{dvd_refl, dvd-zero, le_of_dvd}
+use Rattle.std.proofs.lemmas.Option.{get_or_from_slice_get, slice_get_within}
+use Rattle.std.proofs.Math.Nat.{dvd-add, dvd-mul_left, dvd-mul_left_of_dvd, dvd-sub, eq-one_of_dvd-one, le_of_mul-le-mul_left, mul-le-mul_left}
+use Rattle.net_core.specs.declared.journal.Entry.{Entry}
+use Rattle.net_core.specs.declared.network.Link.{Link}
+use Rattle.net_core.specs.declared.plan.CutLine.{CutLine}
+use Rattle.net_core.specs.Cases.{Case}
+use Rattle.net_core.specs.Network.{IsNetwork}
+use Rattle.plan_terms.specs.Bounds.{IsBound, IsLowest}
+use Rattle.plan_terms.specs.Certificates.{IsCertificate, IsCut, fixed_along}
+use Rattle.plan_terms.specs.OwnBounds.{IsOwnBound}
+use Rattle.plan_terms.proofs.Bounds.{bound_same, lowest_positive}
+use Rattle.plan_terms.proofs.OwnBounds.{alone, certificate_alone, empty_certificate, empty_raw, own_bound_unique, product_below, raw_alone}
+use Rattle.plan_types.specs.declared.certificate.CertLine.{CertLine}
+use Rattle.plan_types.specs.declared.certificate.Spot.{Spot}
+use Rattle.plan_types.specs.declared.certificate.Spot.TheVariants.{Pool, Local}
+use Rattle.plan_report.specs.Forms.{IsCertificateLineInForm, IsSpotInForm}
+use Rattle.cut_pool.specs.Histories.{cut_of_line, cuts_of}
+use Rattle.metric_cut.specs.Bounded.{HaveBound}
+use Rattle.metric_cut.specs.declared.certificate.OwnCertificate.{OwnCertificate}
+use Rattle.planner.specs.SoundPlans.{IsOwnAtMost, StandsAt}
+use Rattle.planner.specs.inner.Candidates.{AreCandidates, IsBestBound, IsBoundOfBest, IsBoundOfCut, IsBoundOfNone, IsCandidate, IsCertifiedBound, IsOwnCertificate}
+use Rattle.planner.specs.declared.candidates.Candidates.{Candidates}
+use Rattle.planner.specs.declared.certified.CertifiedBound.{CertifiedBound}
+use Rattle.planner.proofs.Bests.{bound_zero}
+
+-- ---- lengths that a state keeps
+
+positive_or_none : (xs : List ℕ) → Any (λ x. 0 < x) xs ⊎ All (λ x. x ≡ 0) xs
+positive_or_none [] = inr (All-nil (λ x. x ≡ 0))
+positive_or_none (zero ∷ xs) = ⊎_elim
+    (λ (some : Any (λ x. 0 < x) xs). inl (suc some.0, some.1, omega (arith, some.2), some.3, some.4))
+    (λ none. inr (All-cons (λ x. x ≡ 0) 0 xs refl none))
+    (positive_or_none xs)
+positive_or_none (suc n ∷ xs) = inl (0, suc n, omega arith, refl, omega arith)
+
+-- a cut of the case has a bound of its own
+pub have_bound : (p : Case) (cut : CutLine) → ∥ IsCut p cut ∥₁ → HaveBound p.links cut.lengths
+have_bound p cut told = record {
+  count = ∥∥₁_elim told (hlevel props) (λ is. is.kept.count);
+  positive = ⊎_elim
+      (λ some. some)
+      (λ none. absurd (∥∥₁_elim told (hlevel props) (λ is.
+      let e : 0 ≡ 1 = is.kept.lowest 0 (All-weaker (λ x. x ≡ 0) (λ x. 0 ∣ x) (λ x z. subst (λ i. 0 ∣ i) (sym z) (dvd-zero 0)) cut.lengths none) in
+      omega (arith, e))))
+      (positive_or_none cut.lengths);
+  served = λ e l at ne none. ∥∥₁_elim told (hlevel props) (λ is.
+      let s = is.kept.zero e ne in
+      let same : s.link ≡ l = cc (s.at, at) in
+      s.has_module (subst (λ (x : Link). x.modules ≡ []) (sym same) none));
+}
+
+-- so has each candidate, with a right side below 2^84
+pub candidates_bound : (p : Case) (entries : List Entry) (c : Candidates) → ∥ AreCandidates p entries c ∥₁ → All (λ cut. HaveBound p.links cut.lengths) c.lines
+candidates_bound p entries c told k d lt = have_bound p (get_or c.lines k d) (∥∥₁_map told (λ are. (are.cuts k d lt).cut_is))
+
+pub candidates_low : (p : Case) (entries : List Entry) (c : Candidates) → ∥ AreCandidates p entries c ∥₁ → All (λ cut. cut.right < 2 ^ 84) c.lines
+candidates_low p entries c told k d lt = ∥∥₁_elim told (hlevel props) (λ are. (are.cuts k d lt).low)
+
+pub candidates_same : (p : Case) (entries : List Entry) (c : Candidates) → ∥ AreCandidates p entries c ∥₁ → length c.spots ≡ length c.lines
+candidates_same p entries c told = ∥∥₁_elim told (hlevel props) (λ are. are.same)
+
+-- ---- fractions in lowest terms
+
+divides_back : (g a b : ℕ) → g ∣ b → g ∣ a % b → g ∣ a
+divides_back g a b h r = subst (λ x. g ∣ x) (div-add-mod' a b) (dvd-add g (dvd-mul_left_of_dvd g h (a / b)) r)
+
+-- what two numbers are and rests keep, a common divisor of the two is
+shared : (P : ℕ → Type 0) → ((x y : ℕ) → P x → P y → P (x % y)) → (fuel a b : ℕ) → b < fuel → P a → P b → (g : ℕ) × (g ∣ a) × (g ∣ b) × P g
+shared P rest zero a b lt pa pb = absurd (omega (arith, lt))
+shared P rest (suc fuel) a zero lt pa pb = (a, dvd_refl a, dvd-zero a, pa)
+shared P rest (suc fuel) a (suc b) lt pa pb =
+    let s = shared P rest fuel (suc b) (a % suc b) (omega arith) pb (rest a (suc b) pa pb) in
+    (s.0, divides_back s.0 a (suc b) s.1 s.2, s.1, s.3)
+
+divides_rest : (n c x y : ℕ) → n ∣ c * x → n ∣ c * y → n ∣ c * (x % y)
+divides_rest n c x y dx dy =
+    let h : c * (x / y * y + x % y) ≡ c * x = ap (λ t. c * t) (div-add-mod' x y) in
+    let e : c * x - x / y * (c * y) ≡ c * (x % y) = omega (arith, h) in
+    subst (λ t. n ∣ t) e (dvd-sub n dx (dvd-mul_left_of_dvd n dy (x / y)))
+
+-- lowest terms are no greater
+lowest_small : (a b c d : ℕ) → 0 < b → IsLowest a b c d → (c ≤ a) × (d ≤ b)
+lowest_small a b c d some low =
+    let turned : c * b ≡ b * c = omega arith in
+    let s = shared (λ x. d ∣ b * x) (divides_rest d b) (suc d) c d (omega arith) (subst (λ x. d ∣ x) (low.same ∙ turned) (dvd-mul_left d a)) (dvd-mul_left d b) in
+    let one : s.0 ≡ 1 = low.lowest s.0 s.1 s.2 in
+    let same : b * 1 ≡ b = omega arith in
+    let divides : d ∣ b = subst (λ x. d ∣ x) same (subst (λ g. d ∣ b * g) one s.3) in
+    let den : d ≤ b = le_of_dvd some divides in
+    let more : c * d ≤ c * b = mul-le-mul_left c den in
+    let all : d * c ≤ d * a = omega (arith, more, low.same) in
+    (le_of_mul-le-mul_left all (lowest_positive a b c d some low), den)
+
+-- a product that isn't 0 has no factor 0
+factor_some : (a b : ℕ) → 0 < a * b → 0 < a
+factor_some zero b h = absurd (omega (arith, h))
+factor_some (suc a) b h = omega arith
+
+-- a positive fraction has a positive numerator
+raw_some : (num rest den raw raw_den : ℕ) → 0 < den → IsLowest (num * rest) den raw raw_den → 0 < raw → 0 < num
+raw_some num rest den raw raw_den positive low some =
+    let left : raw * 1 ≤ raw * den = mul-le-mul_left raw positive in
+    let all : 0 < num * rest * raw_den = omega (arith, left, low.same, some) in
+    factor_some num rest (factor_some (num * rest) raw_den all)
+
+-- ---- certificates
+
+spot_in_form : (entries : List Entry) (cut : ℕ × List ℕ) (spot : Spot) → length (cuts_of entries) ≤ 4096 → StandsAt entries cut spot → IsSpotInForm spot
+spot_in_form entries cut (Pool i) few at = let within = slice_get_within (cuts_of entries) i cut at in omega (arith, few, within)
+spot_in_form entries cut Local few at = tt
+
+one : {X : Type 0} (P : X → Type 0) (x : X) → P x → All P (x ∷ [])
+one P x is = All-cons P x [] is (All-nil P)
+
+module _ (p : Case) (checked : ∥ IsNetwork p.nodes p.links ∥₁) (entries : List Entry) where
+  none_certified : (b : CertifiedBound) → IsBoundOfNone p.links b → IsCertifiedBound p entries b
+  none_certified b none = subst (IsCertifiedBound p entries) (sym none.is) (record {
+    certificate = empty_certificate p;
+    raw = subst (λ n. IsLowest n 1 0 1) (sym (empty_raw p.links)) (record { same = refl; lowest = λ k zero' whole. eq-one_of_dvd-one whole });
+    rounded = subst (λ n. IsBound p.links n 1 0) (sym (empty_raw p.links)) none.rounded;
+    lowest = record { common = λ d whole all. eq-one_of_dvd-one whole; positive = All-nil (λ (l : CertLine). 0 < l.num) };
+    none = λ e. refl;
+    form = record { positive = omega arith; den = omega arith; few = omega arith; lines = All-nil (IsCertificateLineInForm p.links p.listed) };
+    raw_num = omega arith;
+    raw_den = omega arith;
+    spots = All-nil (λ (l : CertLine). StandsAt entries (cut_of_line l.cut) l.spot);
+  })
+
+  module _ (few : length (cuts_of entries) ≤ 4096) (cut : CutLine) (spot : Spot) (is : IsCandidate p cut) (at : StandsAt entries (cut_of_line cut) spot) where
+    alone_certified : (own : OwnCertificate) → 0 < own.raw.num → All (λ x. x < 2 ^ 32) cut.lengths → IsOwnCertificate p.links cut own
+        → IsCertifiedBound p entries (record { certificate = record { den = own.multiplier.den; lines = record { num = own.multiplier.num; spot = spot; cut = cut } ∷ [] }; raw = own.raw; bound = own.bound })
+    alone_certified own some small o =
+        let num = own.multiplier.num in
+        let den = own.multiplier.den in
+        let rest = cut.right - fixed_along cut.lengths p.links in
+        let raw = sym (raw_alone p.links cut num) in
+        let certificate : IsCertificate p den (alone cut num) = certificate_alone p cut num den checked is.cut_is small is.low o.multiplier.valid o.num o.den in
+        let line : CertLine = record { num = num; spot = spot; cut = cut } in
+        let positive = o.multiplier.valid.positive in
+        let below = lowest_small (num * rest) den own.raw.num own.raw.den positive o.raw in
+        let value : num * rest < 2 ^ 40 * 2 ^ 84 = product_below num rest (2 ^ 40) (2 ^ 84) o.num (omega arith) (omega (arith, is.low)) in
+        record {
+          certificate = certificate;
+          raw = subst (λ n. IsLowest n den own.raw.num own.raw.den) raw o.raw;
+          rounded = subst (λ n. IsBound p.links n den own.bound) raw o.rounded;
+          lowest = record {
+            common = λ d in_den all. o.multiplier.lowest d (All-get_or (λ (l : CertLine). d ∣ l.num) (line ∷ []) 0 line (omega arith) all) in_den;
+            positive = one (λ (l : CertLine). 0 < l.num) line (raw_some num rest den own.raw.num own.raw.den positive o.raw some);
+          };
+          none = λ e. absurd (omega (arith, e, some));
+          form = record {
+            positive = positive;
+            den = o.den;
+            few = omega arith;
+            lines = one (IsCertificateLineInForm p.links p.listed) line (record {
+              num = omega (arith, o.num);
+              spot = spot_in_form entries (cut_of_line cut) spot few at;
+              cut = record { state = is.cut_is.listed_state; lengths = record { long = is.cut_is.kept.count; each = small }; right = is.low };
+            });
+          };
+          raw_num = omega (arith, below.0, value);
+          raw_den = omega (arith, below.1, o.den);
+          spots = one (λ (l : CertLine). StandsAt entries (cut_of_line l.cut) l.spot) line at;
+        }
+
+    cut_certified : (b : CertifiedBound) → IsBoundOfCut p.links cut spot b → IsCertifiedBound p entries b
+    cut_certified b of_cut = ⊎_elim
+        (λ none. none_certified b none.1)
+        (λ some. subst (IsCertifiedBound p entries) (sym some.1) (alone_certified of_cut.own some.0 of_cut.small of_cut.certificate))
+        of_cut.is
+
+  -- the best bound is certified
+  pub best_certified : (few : length (cuts_of entries) ≤ 4096) (c : Candidates) (b : CertifiedBound) → AreCandidates p entries c → IsBestBound p.links c b → IsCertifiedBound p entries b
+  best_certified few c b h best = ⊎_elim
+      (λ none. none_certified b none.1)
+      (λ (some : (k : ℕ) × IsBoundOfBest p.links c k b).
+      let k = some.0 in
+      let is = some.1 in
+      let within = slice_get_within c.lines k is.cut is.at in
+      let candidate = subst (IsCandidate p) (get_or_from_slice_get c.lines k is.cut is.cut is.at) (h.cuts k is.cut within) in
+      cut_certified few is.cut is.spot candidate (h.stand k is.cut is.spot is.at is.spot_at) b is.of_cut)
+      best
+
+own_of : (links : List Link) (cut : CutLine) (own : OwnCertificate) → IsOwnCertificate links cut own → IsOwnBound links cut.lengths cut.right own.bound
+own_of links cut own o = record { num = own.multiplier.num; den = own.multiplier.den; multiplier = o.multiplier; rounded = o.rounded }
+
+-- the bound is the own bound of the best cut
+bound_of_best : (links : List Link) (cut : CutLine) (spot : Spot) (b : CertifiedBound) (best : ℕ) → IsOwnBound links cut.lengths cut.right best → IsBoundOfCut links cut spot b → best ≡ b.bound
+bound_of_best links cut spot b best own is =
+    let o = is.certificate in
+    let same : best ≡ is.own.bound = own_bound_unique links cut.lengths cut.right best is.own.bound own (own_of links cut is.own o) in
+    ⊎_elim
+    (λ none.
+    let value = is.own.multiplier.num * (cut.right - fixed_along cut.lengths links) in
+    let reduced = bound_same links value is.own.multiplier.den is.own.raw.num is.own.raw.den is.own.bound o.multiplier.valid.positive o.raw o.rounded in
+    same ∙ (bound_zero links is.own.raw.num is.own.raw.den is.own.bound reduced none.0 ∙ sym (ap (λ (x : CertifiedBound). x.bound) none.1.is)))
+    (λ some. same ∙ sym (ap (λ (x : CertifiedBound). x.bound) some.1))
+    is.is
+
+-- each candidate's own bound is at most the best one
+pub each_at_most : (p : Case) (entries : List Entry) (c : Candidates) (b : CertifiedBound) → AreCandidates p entries c → IsBestBound p.links c b
+    → (i : ℕ) (line : CutLine) → slice_get c.lines i ≡ Some line → IsOwnAtMost p b.bound line.state.0 line.lengths
+each_at_most p entries c b h best i line at = ⊎_elim
+    (λ none. absurd (let e : slice_get [] i ≡ Some line = subst (λ (xs : List CutLine). slice_get xs i ≡ Some line) none.0 at in cc e))
+    (λ (some : (k : ℕ) × IsBoundOfBest p.links c k b).
+    let is = some.1 in
+    let own = is.best.each i line at in
+    let same : is.best.cut ≡ is.cut = cc (is.best.at, is.at) in
+    let top = bound_of_best p.links is.cut is.spot b is.best.best (subst (λ (x : CutLine). IsOwnBound p.links x.lengths x.right is.best.best) same is.best.own) is.of_cut in
+    let within = slice_get_within c.lines i line at in
+    let candidate = subst (IsCandidate p) (get_or_from_slice_get c.lines i line line at) (h.cuts i line within) in
+    record { right = line.right; is_right = candidate.cut_is.right; own = own.0; is_own = own.1; at_most = omega (arith, own.2, top) })
+    best

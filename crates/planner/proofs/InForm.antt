@@ -1,0 +1,149 @@
+-- the plan of a fallback plan and a certified bound is in form and in lowest terms
+use Rattle.std.proofs.Common.{◌≡◌, ◌≢◌, ℕ, zero, suc, ◌*◌, ◌^◌, ◌<◌, ◌≤◌, List, [], ◌∷◌, ◌++◌, All, AllPairs, Some, get_or, length, slice_get, sym, subst, arith, zip}
+use Rattle.std.specs.Int.{◌∣◌}
+use Rattle.std.proofs.Math.Nat.{eq-one_of_dvd-one}
+use Rattle.std.proofs.lemmas.List.{append_assoc}
+use Rattle.std.proofs.lemmas.List.Elements.{All-cons, All-nil, All-weaker, All-head, All-tail}
+use Rattle.std.proofs.lemmas.List.Sums.{sum_by-cons}
+use Rattle.std.proofs.lemmas.Option.{slice_get_within, get_or_from_slice_get}
+use Rattle.net_core.specs.declared.demand.Demand.{Demand}
+use Rattle.net_core.specs.declared.ids.LinkId.{LinkId}
+use Rattle.net_core.specs.declared.network.Link.{Link}
+use Rattle.net_core.specs.declared.network.Module.{Module}
+use Rattle.net_core.specs.declared.plan.Flow.{Flow}
+use Rattle.net_core.specs.declared.plan.Routing.{Routing}
+use Rattle.net_core.specs.Demands.{AreDemands, IsDemand}
+use Rattle.net_core.specs.Graphs.{Graph, Joins}
+use Rattle.net_core.specs.Network.{IsModule, IsNetwork}
+use Rattle.net_core.proofs.Accepted.{new_name}
+use Rattle.plan_terms.specs.Capacities.{modules_cost, total_cost}
+use Rattle.plan_terms.specs.Fallbacks.{IsLeastFlow, IsLeastRouting}
+use Rattle.plan_terms.specs.Paths.{IsPath, Leads, last_node}
+use Rattle.plan_terms.proofs.OwnBounds.{product_below}
+use Rattle.plan_report.specs.Forms.{IsDemandInForm, IsFlowInForm, IsPathInForm, IsRoutingInForm}
+use Rattle.route_law.specs.Routings.{IsLowestRouting}
+use Rattle.text_kit.specs.Items.{AreBehind}
+
+-- ---- paths
+
+module _ (g : Graph) where
+  joined_known : (e x y : ℕ) → Joins g e x y → e < length g.links
+  joined_known e x y j = slice_get_within g.links e j.survives.link j.survives.at
+
+  leads_known : (a : ℕ) (es : List LinkId) (cs : List ℕ) → Leads (Joins g) a es cs → All (λ e. e.0 < length g.links) es
+  leads_known a [] cs leads = All-nil (λ (e : LinkId). e.0 < length g.links)
+  leads_known a (e ∷ es) [] leads = absurd leads
+  leads_known a (e ∷ es) (c ∷ cs) leads = All-cons (λ (x : LinkId). x.0 < length g.links) e es (joined_known e.0 a c leads.0) (leads_known c es cs leads.1)
+
+  -- a path between two different nodes has a link
+  path_some : (a b : ℕ) → a ≢ b → (es : List LinkId) (cs : List ℕ) → Leads (Joins g) a es cs → last_node a cs ≡ b → 1 ≤ length es
+  path_some a b ne [] [] leads last = absurd (ne last)
+  path_some a b ne [] (c ∷ cs) leads last = absurd leads
+  path_some a b ne (e ∷ es) cs leads last = omega arith
+
+  path_in_form : (a b : ℕ) → a ≢ b → (es : List LinkId) → IsPath (Joins g) a b es → IsPathInForm g.links es
+  path_in_form a b ne es path = record {
+    some = path_some a b ne es path.0 path.1 path.2;
+    known = leads_known a es path.0 path.1;
+  }
+
+-- ---- routings
+
+-- places that rise are no less than their numbers
+rising : (flows : List Flow) (f : Flow) → AllPairs (λ x y. x.demand < y.demand) flows → (i : ℕ) → i < length flows → i ≤ (get_or flows i f).demand
+rising flows f up zero lt = omega arith
+rising flows f up (suc i) lt =
+    let before = rising flows f up i (omega (arith, lt)) in
+    let more : (get_or flows i f).demand < (get_or flows (suc i) f).demand = up i (suc i) f (omega arith) lt in
+    omega (arith, before, more)
+
+few_flows : (n : ℕ) (flows : List Flow) → AllPairs (λ x y. x.demand < y.demand) flows → All (λ f. f.demand < n) flows → length flows ≤ n
+few_flows n [] up all = omega arith
+few_flows n (f ∷ fs) up all =
+    let last = rising (f ∷ fs) f up (length fs) (omega arith) in
+    let below : (get_or (f ∷ fs) (length fs) f).demand < n = all (length fs) f (omega arith) in
+    omega (arith, last, below)
+
+module _ (g : Graph) (demands : List Demand) (belong : AreDemands (length g.nodes) demands) where
+  of_list : (k : ℕ) (d : Demand) → slice_get demands k ≡ Some d → IsDemand (length g.nodes) d
+  of_list k d at = subst (IsDemand (length g.nodes)) (get_or_from_slice_get demands k d d at) (belong.each k d (slice_get_within demands k d at))
+
+  flow_in_form : (lengths : List ℕ) (f : Flow) → IsLeastFlow (Joins g) lengths demands f → IsFlowInForm g.links demands f
+  flow_in_form lengths f least =
+      let d = of_list f.demand least.of least.at in
+      let same = least.num in
+      let some = least.positive in
+      let need = d.need in
+      record {
+        demand = slice_get_within demands f.demand least.of least.at;
+        positive = omega (arith, same, some);
+        num = omega (arith, same, need);
+        path = path_in_form g least.of.from.0 least.of.to.0 d.different f.path least.path.path;
+      }
+
+  pub routing_in_form : (lengths : List ℕ) (r : Routing) → IsLeastRouting (Joins g) lengths demands r → IsRoutingInForm g.links demands r
+  routing_in_form lengths r least =
+      let flows = All-weaker (IsLeastFlow (Joins g) lengths demands) (IsFlowInForm g.links demands) (flow_in_form lengths) r.flows least.each in
+      let whole = least.whole in
+      let few = few_flows (length demands) r.flows least.ordered (All-weaker (IsFlowInForm g.links demands) (λ f. f.demand < length demands) (λ f is. is.demand) r.flows flows) in
+      let most = belong.few in
+      record { positive = omega (arith, whole); den = omega (arith, whole); few = omega (arith, few, most); flows = flows }
+
+pub lowest_whole : (r : Routing) → r.den ≡ 1 → IsLowestRouting r
+lowest_whole r whole d in_den all = eq-one_of_dvd-one (subst (λ n. d ∣ n) whole in_den)
+
+-- ---- demands
+
+behind_each : (nodes : List (List ℕ)) (sofar rest : List Demand) → AllPairs (λ x y. x.name ≢ y.name) (sofar ++ rest) → All (IsDemand (length nodes)) rest → All (λ d. length d.name ≤ 255) rest → AreBehind (IsDemandInForm nodes) sofar rest
+behind_each nodes sofar [] different each named = tt
+behind_each nodes sofar (d ∷ ds) different each named =
+    let is = All-head (IsDemand (length nodes)) d ds each in (
+      record {
+        short = All-head (λ (x : Demand). length x.name ≤ 255) d ds named;
+        new = new_name (λ (x : Demand). x.name) sofar d ds different;
+        from = is.from_known;
+        to = is.to_known;
+        need = is.need;
+      },
+      behind_each nodes (sofar ++ d ∷ []) ds
+          (subst (AllPairs (λ (x y : Demand). x.name ≢ y.name)) (sym (append_assoc sofar (d ∷ []) ds)) different)
+          (All-tail (IsDemand (length nodes)) d ds each)
+          (All-tail (λ (x : Demand). length x.name ≤ 255) d ds named),
+    )
+
+pub demands_in_form : (nodes : List (List ℕ)) (demands : List Demand) → AreDemands (length nodes) demands → All (λ d. length d.name ≤ 255) demands → AreBehind (IsDemandInForm nodes) [] demands
+demands_in_form nodes demands belong named = behind_each nodes [] demands belong.different belong.each named
+
+-- ---- costs
+
+modules_low : (modules : List Module) (counts : List ℕ) → All IsModule modules → All (λ n. n < 2 ^ 44) counts → modules_cost modules counts ≤ length modules * 2 ^ 84
+modules_low [] counts each few = omega arith
+modules_low (m ∷ ms) [] each few = omega arith
+modules_low (m ∷ ms) (n ∷ ns) each few =
+    let one = product_below m.cost n (2 ^ 40) (2 ^ 44) (All-head IsModule m ms each).cost (omega arith) (All-head (λ x. x < 2 ^ 44) n ns few) in
+    let rest = modules_low ms ns (All-tail IsModule m ms each) (All-tail (λ x. x < 2 ^ 44) n ns few) in
+    let all = sum_by-cons (λ (p : Module × ℕ). p.0.cost * p.1) (m, n) (zip ms ns) in
+    omega (arith, one, rest, all)
+
+-- a link with at most 16 modules, each of them sound
+abbrev Served : Link → Type 0
+Served l = (length l.modules ≤ 16) × All IsModule l.modules
+
+links_low : (links : List Link) (counts : List (List ℕ)) → All Served links → All (λ c. All (λ n. n < 2 ^ 44) c) counts → total_cost links counts ≤ length links * 2 ^ 88
+links_low [] counts each few = omega arith
+links_low (l ∷ ls) [] each few = omega arith
+links_low (l ∷ ls) (c ∷ cs) each few =
+    let served = All-head Served l ls each in
+    let one = modules_low l.modules c served.1 (All-head (λ (x : List ℕ). All (λ n. n < 2 ^ 44) x) c cs few) in
+    let rest = links_low ls cs (All-tail Served l ls each) (All-tail (λ (x : List ℕ). All (λ n. n < 2 ^ 44) x) c cs few) in
+    let all = sum_by-cons (λ (p : Link × List ℕ). modules_cost p.0.modules p.1) (l, c) (zip ls cs) in
+    let most : length l.modules * 2 ^ 84 ≤ 2 ^ 88 = omega (arith, served.0) in
+    omega (arith, one, rest, all, most)
+
+pub cost_low : (nodes : List (List ℕ)) (links : List Link) (counts : List (List ℕ)) → IsNetwork nodes links → All (λ c. All (λ n. n < 2 ^ 44) c) counts → total_cost links counts < 2 ^ 126
+cost_low nodes links counts net few =
+    let each : All Served links = λ k d lt. ((net.sound k d lt).few, (net.sound k d lt).each) in
+    let all = links_low links counts each few in
+    let links_few = net.few_links in
+    let most : length links * 2 ^ 88 ≤ 2 ^ 96 = omega (arith, links_few) in
+    omega (arith, all, most)

@@ -1,0 +1,52 @@
+-- evidence of the slack basis, and evidence of the routing program from that of a packing program
+use Rattle.std.proofs.Common.{◌≡◌, ℕ, ◌<◌, List, Some, length, slice_get, refl, ◌∙◌, ap, arith, inl}
+use Rattle.std.proofs.Math.IntN.{ℤ, pos}
+use Rattle.std.proofs.lemmas.Int.{ints}
+use Rattle.net_core.specs.declared.columns.RouteColumn.{RouteColumn}
+use Rattle.net_core.specs.declared.columns.WideKind.{WideKind}
+use Rattle.net_core.specs.declared.columns.WideKind.TheVariants.{Number, Row, Product, Sum, Common, Value, Length}
+use Rattle.net_core.specs.declared.demand.Demand.{Demand}
+use Rattle.net_core.specs.declared.plan.Caps.{Caps}
+use Rattle.net_core.specs.Graphs.{Graph}
+use Rattle.simplex_law.specs.Sums.{unit_vector}
+use Rattle.simplex_law.specs.Programs.{ColumnOf, slack_basis}
+use Rattle.simplex_law.specs.Bases.{AreNames}
+use Rattle.simplex_law.specs.Evidence.{HoldsKind, IsReachedEvidence, IsWide}
+use Rattle.simplex_law.proofs.Reached.{start_reached, started}
+use Rattle.route_law.specs.RouteEvidence.{HoldsOfRoute, IsRouteEvidence}
+use Rattle.route_law.specs.RoutingPrograms.{route_rows, route_bound, route_slack, IsCarrying, IsRouteColumn}
+use Rattle.route_law.proofs.Packing.{bound_nonneg}
+
+module _ (g : Graph) (demands : List Demand) (caps : Caps) where
+  -- a bound that is too wide
+  pub number_evidence : (row : ℕ) (names : List RouteColumn) → row < route_rows g demands → IsWide (route_bound g demands caps row)
+      → AreNames (route_rows g demands) (slack_basis (route_slack g)) names → IsRouteEvidence g demands caps names (Number (route_slack g row))
+  number_evidence row names inside wide named =
+      let start = started (route_rows g demands) (route_bound g demands caps) (route_slack g) unit_vector (λ i. pos 1) (λ k. pos 0) (pos 1)
+      (λ k l. bound_nonneg g demands caps k) (λ i k li lk. refl) (λ i l. refl) (λ k l. refl) refl in
+      let reached = start_reached (route_rows g demands) (route_bound g demands caps) (route_slack g) (IsCarrying g demands) unit_vector (λ i. pos 1) (λ k. pos 0) (pos 1) start in
+      record {
+        basis = slack_basis (route_slack g);
+        evidence = record { named = named; feasible = reached.here; holds = (λ j l. refl, inl (row, inside, refl, wide)) };
+        reached = reached;
+      }
+
+  holds : (basis : ℕ → ColumnOf RouteColumn) (kind : WideKind RouteColumn)
+      → HoldsKind (route_rows g demands) (route_bound g demands caps) (route_slack g) (IsRouteColumn g demands) basis kind → HoldsOfRoute g demands caps basis kind
+  holds basis (Number name) h = h
+  holds basis (Row i) h = h
+  holds basis (Product i name) h = h
+  holds basis (Sum i) h = h
+  holds basis Common h = h
+  holds basis Value h = h
+  holds basis (Length link) h = absurd h
+
+  -- what holds as of each packing program holds of the routing program
+  pub route_evidence : (names : List RouteColumn) (kind : WideKind RouteColumn)
+      → IsReachedEvidence (route_rows g demands) (route_bound g demands caps) (route_slack g) (IsRouteColumn g demands) (HoldsKind (route_rows g demands) (route_bound g demands caps) (route_slack g) (IsRouteColumn g demands)) names kind
+      → IsRouteEvidence g demands caps names kind
+  route_evidence names kind e = record {
+    basis = e.basis;
+    evidence = record { named = e.evidence.named; feasible = e.evidence.feasible; holds = holds e.basis kind e.evidence.holds };
+    reached = e.reached;
+  }

@@ -1,0 +1,6 @@
+use Rattle.std.proofs.Common.{refl}
+use Rattle.sndlib_reader.proofs.NamesLaws.{named_map}
+use Rattle.sndlib_reader.proofs.demand.demand_fault.Goals as goal
+
+pub returns-clause-value : goal.returns-clause-value
+returns-clause-value c = rw (c.new_name_fault.ensures.value, c.has.ensures, c.requires, named_map (λ d. d.name) c.args.word.now c.args.demands.now) refl
