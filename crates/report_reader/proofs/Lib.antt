@@ -1,4 +1,11 @@
 pub mod Branching
+pub mod Making
+pub mod BranchLaws
+pub mod WordLaws
+pub mod ListLaws
+pub mod RoutingLaws
+pub mod Variants
+pub mod QualityLaws
 pub mod ReportOnline
 pub mod Lookups
 pub mod Counts
