@@ -5,7 +5,7 @@ use Rattle.snd_tokens.specs.Lexemes.{Text, WordAt, OpenAt, CloseAt, EndAt}
 use Rattle.text_kit.specs.Items.{Item, Verbatim, Opening, Closing, Begins}
 use Rattle.text_kit.specs.Reading.{Read, Reading, placed}
 use Rattle.text_kit.proofs.Beginnings.{AnyText}
-use Rattle.text_kit.proofs.Lawful.{is_same, same_is}
+use Rattle.text_kit.proofs.Lawful.{is_same, lawful_as, same_is}
 use Rattle.text_kit.proofs.Online.{ok_parts, placed_ok}
 use Rattle.text_kit.proofs.Spelled.{Lawful, Spelled}
 use Rattle.report_reader.specs.declared.fault.ReportKind.{ReportKind}
@@ -26,9 +26,13 @@ no_word room (b ∷ bs) at w t none =
       | false ↦ λ e. no_word room bs at w t e
     ] none
 
+-- the law of these branches
+pub record Branched {X : Type 0} (room : Bool) (closing : Result X ReportKind) (bs : Branches X) (items : X → List Item) (is : X → Type 0) : Type 0 where
+  pub law : Lawful (branch_or room closing bs) items is AnyText
+
 -- no branch
-pub lawful_no_branch : {X : Type 0} (room : Bool) (kind : ReportKind) (items : X → List Item) → Lawful (branch_or room (Err kind) []) items (λ x. ⊥) AnyText
-lawful_no_branch {X} room kind items = record { takes = none_takes; again = λ text x rest is b left. absurd is }
+pub lawful_no_branch : {X : Type 0} (room : Bool) (kind : ReportKind) (items : X → List Item) → Branched room (Err kind) [] items (λ x. ⊥)
+lawful_no_branch {X} room kind items = record { law = record { takes = none_takes; again = λ text x rest is b left. absurd is } }
   where
     none_takes : (text : Text) (x : X) (rest : Text) → branch_or room (Err kind) [] text ≡ Ok (x, rest) → ⊥ × Begins (items x) text rest × AnyText rest
     none_takes (WordAt at w t) x rest e = absurd cc
@@ -52,14 +56,16 @@ module _ {X : Type 0} (room : Bool) (v : X) (items : X → List Item) (closes : 
   close_again (CloseAt at t) rest b = ap (λ (u : Text). Ok (v, u)) b.1
   close_again (EndAt at) rest b = absurd b
 
-  pub lawful_closed : Lawful (branch_or room (Ok v) []) items (λ x. v ≡ x) AnyText
+  pub lawful_closed : Branched room (Ok v) [] items (λ x. v ≡ x)
   lawful_closed = record {
-    takes = close_takes;
-    again = λ text x rest is b left. close_again text rest (subst (λ (js : List Item). Begins js text rest) (ap items (sym is) ∙ closes) b) ∙ ap (λ (y : X). Ok (y, rest)) is;
+    law = record {
+      takes = close_takes;
+      again = λ text x rest is b left. close_again text rest (subst (λ (js : List Item). Begins js text rest) (ap items (sym is) ∙ closes) b) ∙ ap (λ (y : X). Ok (y, rest)) is;
+    };
   }
 
 -- one branch more
-module _ {P X : Type 0} (room : Bool) (closing : Result X ReportKind) (key : List ℕ) (r : Reading ReportKind X) (bs : Branches X) (value : P → X) (each : P → List Item) (ok : P → Type 0) (items : X → List Item) (is : X → Type 0) (new : has_word key bs ≡ false) (same : (p : P) → ok p → Verbatim key ∷ each p ≡ items (value p)) (one : Spelled r (λ x js. Made value each ok x js) AnyText) (others : Lawful (branch_or room closing bs) items is AnyText) where
+module _ {P X : Type 0} (room : Bool) (closing : Result X ReportKind) (key : List ℕ) (r : Reading ReportKind X) (bs : Branches X) (value : P → X) (each : P → List Item) (ok : P → Type 0) (items : X → List Item) (is : X → Type 0) (new : has_word key bs ≡ false) (same : (p : P) → ok p → Verbatim key ∷ each p ≡ items (value p)) (one : Spelled r (λ x js. Made value each ok x js) AnyText) (others : Branched room closing bs items is) where
   abbrev IsEither : X → Type 0
   IsEither x = ((room ≡ true) × MadeOf value ok x) ⊎ is x
 
@@ -73,12 +79,12 @@ module _ {P X : Type 0} (room : Bool) (closing : Result X ReportKind) (key : Lis
         tt,
       )
   word_takes at w t x rest true false s m e = absurd cc
-  word_takes at w t x rest false u s m e = let h = others.takes (WordAt at w t) x rest e in (inr h.0, h.1, tt)
+  word_takes at w t x rest false u s m e = let h = others.law.takes (WordAt at w t) x rest e in (inr h.0, h.1, tt)
 
   more_takes : (text : Text) (x : X) (rest : Text) → branch_or room closing ((key, r) ∷ bs) text ≡ Ok (x, rest) → IsEither x × Begins (items x) text rest × AnyText rest
   more_takes (WordAt at w t) x rest e = word_takes at w t x rest (are_same w key) room refl refl e
   more_takes (OpenAt at t) x rest e = absurd cc
-  more_takes (CloseAt at t) x rest e = let h = others.takes (CloseAt at t) x rest e in (inr h.0, h.1, tt)
+  more_takes (CloseAt at t) x rest e = let h = others.law.takes (CloseAt at t) x rest e in (inr h.0, h.1, tt)
   more_takes (EndAt at) x rest e = absurd cc
 
   this_again : (text : Text) (p : P) (rest : Text) → room ≡ true → ok p → Begins (Verbatim key ∷ each p) text rest → branch_or room closing ((key, r) ∷ bs) text ≡ Ok (value p, rest)
@@ -103,11 +109,11 @@ module _ {P X : Type 0} (room : Bool) (closing : Result X ReportKind) (key : Lis
   more_again : (text : Text) (x : X) (rest : Text) → IsEither x → Begins (items x) text rest → branch_or room closing ((key, r) ∷ bs) text ≡ Ok (x, rest)
   more_again text x rest either b = elim either [
     | inl m ↦ this_again text m.1.parts rest m.0 m.1.right (subst (λ (js : List Item). Begins js text rest) (ap items (sym m.1.gives) ∙ sym (same m.1.parts m.1.right)) b) ∙ ap (λ (y : X). Ok (y, rest)) m.1.gives
-    | inr h ↦ others_again text x rest (others.again text x rest h b tt)
+    | inr h ↦ others_again text x rest (others.law.again text x rest h b tt)
   ]
 
-  pub lawful_branch : Lawful (branch_or room closing ((key, r) ∷ bs)) items IsEither AnyText
-  lawful_branch = record { takes = more_takes; again = λ text x rest either b left. more_again text x rest either b }
+  pub lawful_branch : Branched room closing ((key, r) ∷ bs) items IsEither
+  lawful_branch = record { law = record { takes = more_takes; again = λ text x rest either b left. more_again text x rest either b } }
 
 -- the form that a branch gives, or that the others give
 pub either_form : {P X : Type 0} (room : Bool) (value : P → X) (ok : P → Type 0) (is form : X → Type 0) → ((p : P) → room ≡ true → ok p → form (value p)) → ((x : X) → is x → form x) → (x : X) → ((room ≡ true) × MadeOf value ok x) ⊎ is x → form x
@@ -115,3 +121,7 @@ either_form room value ok is form this others x either = elim either [
   | inl m ↦ subst form m.1.gives (this m.1.parts m.0 m.1.right)
   | inr h ↦ others x h
 ]
+
+-- what branches give, said otherwise
+pub branches_law : {X : Type 0} (room : Bool) (closing : Result X ReportKind) (bs : Branches X) (items : X → List Item) (is form : X → Type 0) → ((x : X) → is x → form x) → ((x : X) → form x → is x) → Branched room closing bs items is → Lawful (branch_or room closing bs) items form AnyText
+branches_law room closing bs items is form to fro b = lawful_as (branch_or room closing bs) items items is form AnyText (λ x h. refl) to fro b.law

@@ -6,6 +6,7 @@ pub mod ListLaws
 pub mod RoutingLaws
 pub mod Variants
 pub mod QualityLaws
+pub mod JournalLaws
 pub mod ReportOnline
 pub mod Lookups
 pub mod Counts

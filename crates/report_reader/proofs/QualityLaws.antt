@@ -1,5 +1,5 @@
 -- The readings of how good a bound is take exactly their texts.
-use Rattle.std.proofs.Common.{◌≡◌, ◌⊎◌, inl, inr, ℕ, ◌+◌, ◌^◌, ◌<◌, ◌≤◌, Bool, true, List, [], ◌∷◌, ◌++◌, length, All, Err, refl, sym, ap, subst, ◌∙◌, arith}
+use Rattle.std.proofs.Common.{◌≡◌, ◌⊎◌, inl, inr, ℕ, ◌+◌, ◌^◌, ◌<◌, ◌≤◌, Bool, true, List, [], ◌∷◌, ◌++◌, length, All, Err, refl, sym, ap, subst, ◌∙◌, arith, append_assoc}
 use Rattle.std.specs.Prelude.{codes, flat_map}
 use Rattle.net_core.specs.declared.columns.Evidence.{Evidence}
 use Rattle.net_core.specs.declared.columns.Evidence.TheVariants.{Route, Master}
@@ -29,8 +29,8 @@ use Rattle.plan_report.specs.Parts.{enclosed, link_name}
 use Rattle.report_reader.specs.declared.fault.ReportKind.{ReportKind}
 use Rattle.report_reader.specs.declared.fault.ReportKind.TheVariants.{Token}
 use Rattle.report_reader.specs.ReportWords.{has_room, number_at}
-use Rattle.report_reader.specs.ReadingQuality.{basis_at, caps_at, carry_at, evidence_at, fractional_at, left_at, loose_at, master_at, master_column_at, master_wide_at, metric_at, price_at, quality_at, route_at, route_column_at, route_wide_at, slack_at, tight_at, too_wide_at, wide_entry_at, wide_length_at, wide_number_at, wide_row_at, wide_sum_at}
-use Rattle.report_reader.proofs.BranchLaws.{either_form, lawful_branch, lawful_no_branch}
+use Rattle.report_reader.specs.ReadingQuality.{evidence_branches, loose_branches, master_column_branches, master_wide_branches, quality_branches, route_column_branches, route_wide_branches, basis_at, caps_at, carry_at, evidence_at, fractional_at, left_at, loose_at, master_at, master_column_at, master_wide_at, metric_at, price_at, quality_at, route_at, route_column_at, route_wide_at, slack_at, tight_at, too_wide_at, wide_entry_at, wide_length_at, wide_number_at, wide_row_at, wide_sum_at}
+use Rattle.report_reader.proofs.BranchLaws.{branches_law, either_form, lawful_branch, lawful_no_branch}
 use Rattle.report_reader.proofs.ListLaws.{exact_law}
 use Rattle.report_reader.proofs.Making.{law_made, made_give, made_last, made_law, made_then}
 use Rattle.report_reader.proofs.RoutingLaws.{AreLinksApart, numbers_law, path_law, routings_law}
@@ -45,7 +45,7 @@ module _ (links : List Link) (listed : List Listed) (apart : AreLinksApart links
 
   master_column_law : (room : Bool) → Lawful (master_column_at links listed room) (master_column_items links) (IsMaster room) AnyText
   unfolding price_at metric_at
-  master_column_law room = lawful_as (master_column_at links listed room) (master_column_items links) (master_column_items links) _ (IsMaster room) AnyText (λ c h. refl)
+  master_column_law room = branches_law room (Err Token) (master_column_branches links listed) (master_column_items links) _ (IsMaster room)
       (either_form room _ _ _ (IsMaster room) (λ e m h. (m, h))
       (either_form room _ _ _ (IsMaster room) (λ q m h. (m, (omega (arith, h.0.1), record { long = h.1.0; each = h.1.1 })))
       (λ c n. absurd n)))
@@ -67,7 +67,7 @@ module _ (links : List Link) (listed : List Listed) (apart : AreLinksApart links
 
   master_wide_law : Lawful (master_wide_at (master_column_at links listed) (length links)) master_wide IsMasterWide AnyText
   unfolding wide_number_at wide_row_at wide_entry_at wide_sum_at
-  master_wide_law = lawful_as (master_wide_at (master_column_at links listed) (length links)) master_wide master_wide _ IsMasterWide AnyText (λ c h. refl)
+  master_wide_law = branches_law true (Err Token) (master_wide_branches (master_column_at links listed) (length links)) master_wide _ IsMasterWide
       (either_form true _ _ _ IsMasterWide (λ c m h. h.1)
       (either_form true _ _ _ IsMasterWide (λ i m h. omega (arith, h.1))
       (either_form true _ _ _ IsMasterWide (λ q m h. (omega (arith, h.0.1), h.1.1))
@@ -106,7 +106,7 @@ module _ (links : List Link) (listed : List Listed) (apart : AreLinksApart links
 
     route_column_law : (room : Bool) → Lawful (route_column_at links demands room) route_items (IsRoute room) AnyText
     unfolding slack_at left_at carry_at
-    route_column_law room = lawful_as (route_column_at links demands room) route_items route_items _ (IsRoute room) AnyText (λ c h. refl)
+    route_column_law room = branches_law room (Err Token) (route_column_branches links demands) route_items _ (IsRoute room)
         (either_form room _ _ _ (IsRoute room) (λ e m h. (m, h))
         (either_form room _ _ _ (IsRoute room) (λ k m h. (m, h))
         (either_form room _ _ _ (IsRoute room) (λ q m h. (m, (h.0, h.1)))
@@ -133,7 +133,7 @@ module _ (links : List Link) (listed : List Listed) (apart : AreLinksApart links
 
     route_wide_law : Lawful (route_wide_at (route_column_at links demands) links rows) route_wide IsRouteWide AnyText
     unfolding wide_number_at wide_row_at wide_entry_at wide_sum_at wide_length_at
-    route_wide_law = lawful_as (route_wide_at (route_column_at links demands) links rows) route_wide route_wide _ IsRouteWide AnyText (λ c h. refl)
+    route_wide_law = branches_law true (Err Token) (route_wide_branches (route_column_at links demands) links rows) route_wide _ IsRouteWide
         (either_form true _ _ _ IsRouteWide (λ c m h. h.1)
         (either_form true _ _ _ IsRouteWide (λ i m h. omega (arith, h.1))
         (either_form true _ _ _ IsRouteWide (λ q m h. (omega (arith, h.0.1), h.1.1))
@@ -180,14 +180,15 @@ module _ (links : List Link) (listed : List Listed) (apart : AreLinksApart links
 
     evidence_law : Lawful (evidence_at links listed demands) items_of IsEvidence AnyText
     unfolding route_at master_at
-    evidence_law = lawful_as (evidence_at links listed demands) items_of items_of _ IsEvidence AnyText (λ c h. refl)
+    evidence_law = branches_law true (Err Token) (evidence_branches links listed demands) items_of _ IsEvidence
         (either_form true _ _ _ IsEvidence (λ q m h. record { state_listed = omega (arith, h.0.1); capacities = h.1.0; long = h.1.1.0.0; columns = h.1.1.0.1; wide = h.1.1.1 })
         (either_form true _ _ _ IsEvidence (λ q m h. record { long = h.0.0; columns = h.0.1; wide = h.1 })
         (λ c n. absurd n)))
         (evidence_cases _
         (λ state caps basis kind h. inl (refl, record { parts = (state.0, (caps, (basis, kind))); right = ((omega arith, omega (arith, h.state_listed)), (h.capacities, ((h.long, h.columns), h.wide))); gives = refl }))
         (λ basis kind h. inr (inl (refl, record { parts = (basis, kind); right = ((h.long, h.columns), h.wide); gives = refl }))))
-        (lawful_branch true (Err Token) (codes "route") (route_at links listed demands) _ _ _ _ items_of _ refl (λ p h. refl)
+        (lawful_branch true (Err Token) (codes "route") (route_at links listed demands) _ _ _ _ items_of _ refl
+        (λ p h. ap (λ (is : List Item). Verbatim (codes "route") ∷ Whole p.0 ∷ Whole p.1.0.scale ∷ is) (sym (append_assoc (numbers_items p.1.0.nums) (enclosed (flat_map route_items p.1.1.0)) (route_wide p.1.1.1))))
         (made_then _ _ _ _ _ _ _ _ (number_law 0 (length listed + 1)) (λ state h.
         made_then _ _ _ _ _ _ _ _ caps_law (λ caps h.
         made_then _ _ _ _ _ _ _ _ route_basis_law (λ basis h.
@@ -221,7 +222,7 @@ module _ (links : List Link) (listed : List Listed) (apart : AreLinksApart links
 
     loose_law : Lawful (loose_at links listed demands) loose_items IsLoose AnyText
     unfolding too_wide_at
-    loose_law = lawful_as (loose_at links listed demands) loose_items loose_items _ IsLoose AnyText (λ c h. refl)
+    loose_law = branches_law true (Err Token) (loose_branches links listed demands) loose_items _ IsLoose
         (either_form true _ _ _ IsLoose (λ u m h. tt)
         (either_form true _ _ _ IsLoose (λ e m h. h)
         (λ c n. absurd n)))
@@ -248,7 +249,7 @@ module _ (links : List Link) (listed : List Listed) (apart : AreLinksApart links
 
     pub quality_law : Lawful (quality_at links listed demands) items_for IsQuality AnyText
     unfolding tight_at
-    quality_law = lawful_as (quality_at links listed demands) items_for items_for _ IsQuality AnyText (λ c h. refl)
+    quality_law = branches_law true (Err Token) (quality_branches links listed demands) items_for _ IsQuality
         (either_form true _ _ _ IsQuality (λ f m h. h)
         (either_form true _ _ _ IsQuality (λ q m h. loose_form q h)
         (either_form true _ _ _ IsQuality (λ u m h. tt)
