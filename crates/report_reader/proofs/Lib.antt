@@ -7,6 +7,10 @@ pub mod RoutingLaws
 pub mod Variants
 pub mod QualityLaws
 pub mod JournalLaws
+pub mod ModuleLaws
+pub mod PlanLaws
+pub mod OutcomeLaws
+pub mod ReportLaws
 pub mod ReportOnline
 pub mod Lookups
 pub mod Counts
