@@ -3,13 +3,13 @@ use Rattle.std.proofs.Common.{◌≡◌, ◌⊎◌, inl, inr, ℕ, Bool, true, f
 use Rattle.net_core.specs.Tests.{are_same}
 use Rattle.snd_tokens.specs.Lexemes.{Text, WordAt, OpenAt, CloseAt, EndAt}
 use Rattle.text_kit.specs.Items.{Item, Verbatim, Opening, Closing, Begins}
-use Rattle.text_kit.specs.Reading.{Read, Reading, placed}
+use Rattle.text_kit.specs.Reading.{Reading}
 use Rattle.text_kit.proofs.Beginnings.{AnyText}
 use Rattle.text_kit.proofs.Lawful.{is_same, lawful_as, same_is}
-use Rattle.text_kit.proofs.Online.{ok_parts, placed_ok}
+use Rattle.text_kit.proofs.Online.{ok_parts}
 use Rattle.text_kit.proofs.Spelled.{Lawful, Spelled}
 use Rattle.report_reader.specs.declared.fault.ReportKind.{ReportKind}
-use Rattle.report_reader.specs.declared.fault.ReportKind.TheVariants.{Token, Ended, Limit}
+use Rattle.report_reader.specs.declared.fault.ReportKind.TheVariants.{Token, Limit}
 use Rattle.report_reader.specs.ReportChoices.{Branches, branch_of, branch_or}
 use Rattle.report_reader.proofs.Making.{Made, MadeOf}
 
@@ -72,8 +72,7 @@ module _ {P X : Type 0} (room : Bool) (closing : Result X ReportKind) (key : Lis
   word_takes : (at : ℕ) (w : List ℕ) (t : Text) (x : X) (rest : Text) (v u : Bool) → are_same w key ≡ v → room ≡ u → cond v (cond u (r t) (Err (at, Limit))) (branch_of room bs at w t) ≡ Ok (x, rest) → IsEither x × Begins (items x) (WordAt at w t) rest × AnyText rest
   word_takes at w t x rest true true s m e =
       let h = one.takes t x rest e in
-      let b : Begins (each h.1.parts) t rest = subst (λ (js : List Item). Begins js t rest) h.1.spelled h.2 in
-      (
+      let b : Begins (each h.1.parts) t rest = subst (λ (js : List Item). Begins js t rest) h.1.spelled h.2 in (
         inl (m, record { parts = h.1.parts; right = h.1.right; gives = h.1.gives }),
         subst (λ (js : List Item). Begins js (WordAt at w t) rest) (same h.1.parts h.1.right ∙ ap items h.1.gives) (same_is w key s, b),
         tt,

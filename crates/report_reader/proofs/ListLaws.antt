@@ -1,5 +1,5 @@
 -- Lists between parentheses: of a length, of few elements, and of elements with their numbers.
-use Rattle.std.proofs.Common.{◌≡◌, ℕ, ◌+◌, ◌≤◌, ◌<◌, ◌==◌, Bool, true, false, cond, List, [], ◌∷◌, ◌++◌, length, All, Option, None, Some, refl, sym, ap, subst, ◌∙◌, arith, length-append}
+use Rattle.std.proofs.Common.{◌≡◌, ℕ, ◌+◌, ◌≤◌, ◌<◌, ◌==◌, true, false, cond, List, [], ◌∷◌, ◌++◌, length, All, Option, None, Some, refl, sym, ap, subst, ◌∙◌, arith, length-append}
 use Rattle.std.specs.Prelude.{flat_map}
 use Rattle.std.proofs.lemmas.Bool.{eqb-true, eq-eqb}
 use Rattle.text_kit.specs.Items.{AreBehind, Item, Closing}
@@ -13,7 +13,7 @@ use Rattle.plan_report.specs.Parts.{enclosed}
 use Rattle.report_reader.specs.declared.fault.ReportKind.{ReportKind}
 use Rattle.report_reader.specs.declared.fault.ReportKind.TheVariants.{Limit}
 use Rattle.report_reader.specs.ReportWords.{has_room, opening_at}
-use Rattle.report_reader.proofs.Making.{MadeOf, law_made, made_law, made_then}
+use Rattle.report_reader.proofs.Making.{law_made, made_law, made_then}
 use Rattle.report_reader.proofs.WordLaws.{few_so_far, opening_law, room_so_far}
 
 -- ---- lengths

@@ -1,5 +1,5 @@
 -- Readings whose answer is made of the parts that they read one after another.
-use Rattle.std.proofs.Common.{◌≡◌, List, [], ◌∷◌, ◌++◌, refl, sym, ap, subst, ◌∙◌, append-nil}
+use Rattle.std.proofs.Common.{◌≡◌, List, [], ◌++◌, refl, sym, ap, subst, ◌∙◌, append-nil}
 use Rattle.text_kit.specs.Items.{Item}
 use Rattle.text_kit.specs.Reading.{Reading, ◌>>=◌, give}
 use Rattle.text_kit.proofs.Beginnings.{AnyText}

@@ -1,5 +1,5 @@
 -- The readings of modules take exactly their texts.
-use Rattle.std.proofs.Common.{◌≡◌, ℕ, zero, suc, ◌+◌, ◌*◌, ◌^◌, ◌<◌, ◌≤◌, ◌&&◌, Bool, true, false, nat_lt, List, [], ◌∷◌, ◌++◌, length, All, Option, None, Some, Result, Ok, Err, refl, sym, ap, subst, ◌∙◌, arith, append-nil, append_assoc, length-append}
+use Rattle.std.proofs.Common.{◌≡◌, ℕ, suc, ◌+◌, ◌*◌, ◌^◌, ◌<◌, ◌≤◌, ◌&&◌, nat_lt, List, [], ◌∷◌, ◌++◌, length, All, Option, None, Some, Result, Ok, Err, refl, sym, ap, subst, ◌∙◌, arith, append-nil, append_assoc, length-append}
 use Rattle.std.specs.Prelude.{codes, flat_map, slice_get, zip}
 use Rattle.std.proofs.lemmas.Bool.{lt-ltb, ltb-true}
 use Rattle.std.proofs.lemmas.List.Elements.{All-cons, All-nil, All-head, All-tail}
@@ -7,14 +7,13 @@ use Rattle.std.proofs.lemmas.List.Sums.{sum_by-cons}
 use Rattle.net_core.specs.declared.network.Link.{Link}
 use Rattle.net_core.specs.declared.network.Module.{Module}
 use Rattle.snd_tokens.specs.Lexemes.{Text, WordAt, OpenAt, CloseAt, EndAt}
-use Rattle.snd_tokens.specs.Wholes.{whole_of}
-use Rattle.text_kit.specs.Items.{AreBehind, Begins, Item, Verbatim, Whole, Closing}
-use Rattle.text_kit.specs.Reading.{of_length, Parenthesis, list_at, word_at}
+use Rattle.text_kit.specs.Items.{AreBehind, Item, Verbatim, Whole}
+use Rattle.text_kit.specs.Reading.{of_length, Parenthesis, word_at}
 use Rattle.text_kit.proofs.Beginnings.{AnyText, Starts}
 use Rattle.text_kit.proofs.Lawful.{lawful_list, lawful_word}
 use Rattle.text_kit.proofs.Spelled.{Lawful}
 use Rattle.plan_terms.specs.Capacities.{AreCounts, AreWithinLimits, capacities, modules_capacity}
-use Rattle.plan_report.specs.Items.{modules_items, numbers_items}
+use Rattle.plan_report.specs.Items.{modules_items}
 use Rattle.plan_report.specs.Parts.{section}
 use Rattle.report_reader.specs.declared.fault.ReportKind.{ReportKind}
 use Rattle.report_reader.specs.declared.fault.ReportKind.TheVariants.{Token, Ended, Limit}
@@ -73,8 +72,7 @@ module _ (l : Link) where
   shrunk : (sofar cs : List ℕ) → IsSmall (sofar ++ cs) → length (sofar ++ cs) ≤ length l.modules → All (λ n. n < 2 ^ 44) cs → AreBehind IsCount sofar cs
   shrunk sofar [] small fits all = tt
   shrunk sofar (n ∷ cs) small fits all =
-      let whole : IsSmall ((sofar ++ n ∷ []) ++ cs) = subst IsSmall (sym (append_assoc sofar (n ∷ []) cs)) small in
-      (
+      let whole : IsSmall ((sofar ++ n ∷ []) ++ cs) = subst IsSmall (sym (append_assoc sofar (n ∷ []) cs)) small in (
         ((omega (arith, fits, length-append sofar (n ∷ cs)), omega (arith, whole, capacity_more l.modules (sofar ++ n ∷ []) cs)), All-head (λ n. n < 2 ^ 44) n cs all),
         shrunk (sofar ++ n ∷ []) cs whole (subst (λ (xs : List ℕ). length xs ≤ length l.modules) (sym (append_assoc sofar (n ∷ []) cs)) fits) (All-tail (λ n. n < 2 ^ 44) n cs all),
       )

@@ -1,5 +1,5 @@
 -- The readings of outcomes take exactly their texts.
-use Rattle.std.proofs.Common.{◌≡◌, ◌≢◌, ◌⊎◌, inl, inr, ℕ, ◌+◌, ◌<◌, ◌≤◌, Bool, true, List, [], ◌∷◌, ◌++◌, length, All, AllPairs, Option, Err, refl, sym, ap, subst, ◌∙◌, arith}
+use Rattle.std.proofs.Common.{◌≡◌, ◌≢◌, inl, inr, ℕ, ◌+◌, ◌≤◌, Bool, true, List, [], ◌∷◌, ◌++◌, length, All, AllPairs, Err, refl, ap, ◌∙◌, arith}
 use Rattle.std.specs.Prelude.{codes, flat_map, slice_get}
 use Rattle.net_core.specs.declared.network.Link.{Link}
 use Rattle.net_core.specs.declared.plan.CutLine.{CutLine}
@@ -7,14 +7,12 @@ use Rattle.net_core.specs.declared.states.Listed.{Listed}
 use Rattle.plan_types.specs.declared.plan.Plan.{Plan}
 use Rattle.plan_types.specs.declared.report.Outcome.{Outcome}
 use Rattle.plan_types.specs.declared.report.Outcome.TheVariants.{Planned, Unsurvivable}
-use Rattle.text_kit.specs.Items.{Item, Verbatim, Whole, Opening, Closing}
-use Rattle.text_kit.specs.Reading.{list_at, no_fault, Parenthesis}
+use Rattle.text_kit.specs.Items.{Item, Verbatim, Opening, Closing}
 use Rattle.text_kit.proofs.Beginnings.{AnyText}
 use Rattle.text_kit.proofs.Spelled.{Lawful}
 use Rattle.plan_report.specs.Forms.{IsHeadInForm, IsOutcomeInForm}
-use Rattle.plan_report.specs.Items.{head_items, outcome_items, plan_items, separation_items}
-use Rattle.plan_report.specs.Parts.{section, state_name}
-use Rattle.report_reader.specs.declared.fault.ReportKind.{ReportKind}
+use Rattle.plan_report.specs.Items.{head_items, outcome_items, plan_items}
+use Rattle.plan_report.specs.Parts.{state_name}
 use Rattle.report_reader.specs.declared.fault.ReportKind.TheVariants.{Token}
 use Rattle.report_reader.specs.declared.parts.Head.{Head}
 use Rattle.report_reader.specs.ReportWords.{closing_at, has_room}
@@ -22,7 +20,7 @@ use Rattle.report_reader.specs.ReportChoices.{branch_within}
 use Rattle.report_reader.specs.ReadingReport.{head_at, outcome_at, outcome_branches, outcomes_at, planned_at, unsurvivable_at}
 use Rattle.report_reader.proofs.BranchLaws.{branches_law, either_form, lawful_branch, lawful_no_branch}
 use Rattle.report_reader.proofs.ListLaws.{few_law}
-use Rattle.report_reader.proofs.Making.{law_made, made_last, made_law, made_then}
+use Rattle.report_reader.proofs.Making.{law_made, made_last, made_then}
 use Rattle.report_reader.proofs.ModuleLaws.{IsSound}
 use Rattle.report_reader.proofs.PlanLaws.{IsPlanOf, IsPoolInForm, form_plan, plan_form, plan_law}
 use Rattle.report_reader.proofs.RoutingLaws.{AreLinksApart}
@@ -90,16 +88,22 @@ module _ (nodes : List (List ℕ)) (links : List Link) (listed : List Listed) (p
       (either_form room _ _ _ (IsOutcome room) (λ q m h. (m, record { command = h.1.0; state_listed = omega (arith, h.1.1.1.0.1); short = h.1.1.1.1.1.1.0 }))
       (λ o n. absurd n)))
       (outcome_cases _
-      (λ caller serial p h. inl (h.0, record {
-        parts = (tt, (record { caller = caller; serial = serial; version = p.version; position = p.position }, (p, tt)));
-        right = (tt, (h.1.command, (form_plan nodes links listed pool (record { caller = caller; serial = serial; version = p.version; position = p.position }) p refl refl h.1.plan h.1.pooled, tt)));
-        gives = refl;
-      }))
-      (λ caller serial version position state demand h. inr (inl (h.0, record {
-        parts = (tt, (record { caller = caller; serial = serial; version = version; position = position }, (tt, (state.0, (tt, (tt, (demand, tt)))))));
-        right = (tt, (h.1.command, (tt, ((omega arith, omega (arith, h.1.state_listed)), (tt, (tt, (h.1.short, tt)))))));
-        gives = refl;
-      }))))
+      (λ caller serial p h. inl (
+        h.0,
+        record {
+          parts = (tt, (record { caller = caller; serial = serial; version = p.version; position = p.position }, (p, tt)));
+          right = (tt, (h.1.command, (form_plan nodes links listed pool (record { caller = caller; serial = serial; version = p.version; position = p.position }) p refl refl h.1.plan h.1.pooled, tt)));
+          gives = refl;
+        },
+      ))
+      (λ caller serial version position state demand h. inr (inl (
+        h.0,
+        record {
+          parts = (tt, (record { caller = caller; serial = serial; version = version; position = position }, (tt, (state.0, (tt, (tt, (demand, tt)))))));
+          right = (tt, (h.1.command, (tt, ((omega arith, omega (arith, h.1.state_listed)), (tt, (tt, (h.1.short, tt)))))));
+          gives = refl;
+        },
+      ))))
       (lawful_branch room (Err Token) (codes "PLAN") (planned_at nodes links listed pool) _ _ _ _ all_items _ refl (λ q h. same_head q.1.0 q.1.1.0 h.1.1.0)
       (made_then _ _ _ _ _ _ _ _ opening_law (λ x h.
       made_then _ _ _ _ _ _ _ _ head_law (λ head h.

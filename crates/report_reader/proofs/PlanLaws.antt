@@ -1,12 +1,10 @@
 -- The readings of plans take exactly their texts.
-use Rattle.std.proofs.Common.{◌≡◌, ◌≢◌, ◌⊎◌, inl, inr, ℕ, ◌+◌, ◌^◌, ◌<◌, ◌≤◌, Bool, true, false, List, [], ◌∷◌, ◌++◌, length, get_or, All, AllPairs, Option, None, Some, Err, refl, sym, ap, subst, ◌∙◌, arith, append_assoc}
+use Rattle.std.proofs.Common.{◌≡◌, ◌≢◌, ◌⊎◌, inl, inr, ℕ, ◌+◌, ◌^◌, ◌<◌, ◌≤◌, true, false, List, [], ◌∷◌, ◌++◌, length, All, AllPairs, Err, refl, sym, ap, subst, ◌∙◌, arith, append_assoc}
 use Rattle.std.specs.Prelude.{codes, flat_map, slice_get, zip}
 use Rattle.std.proofs.lemmas.Option.{slice_get-get_or}
 use Rattle.net_core.specs.declared.demand.Demand.{Demand}
-use Rattle.net_core.specs.declared.ids.NodeId.{NodeId}
 use Rattle.net_core.specs.declared.network.Link.{Link}
 use Rattle.net_core.specs.declared.plan.CutLine.{CutLine}
-use Rattle.net_core.specs.declared.plan.Routing.{Routing}
 use Rattle.net_core.specs.declared.states.Listed.{Listed}
 use Rattle.net_core.specs.Tests.{is_named}
 use Rattle.plan_terms.specs.Capacities.{AreCounts, AreWithinLimits}
@@ -17,15 +15,14 @@ use Rattle.plan_types.specs.declared.certificate.Spot.TheVariants.{Pool, Local}
 use Rattle.plan_types.specs.declared.plan.Plan.{Plan}
 use Rattle.plan_types.specs.declared.quality.Quality.{Quality}
 use Rattle.text_kit.specs.Items.{AreBehind, Item, Verbatim, Whole, Money, Opening, Closing}
-use Rattle.text_kit.specs.Reading.{list_at, no_fault, Parenthesis}
+use Rattle.text_kit.specs.Reading.{no_fault, Parenthesis}
 use Rattle.text_kit.proofs.Beginnings.{AnyText}
 use Rattle.text_kit.proofs.Behind.{behind_as, behind_differ}
-use Rattle.text_kit.proofs.Lawful.{lawful_as, lawful_list}
+use Rattle.text_kit.proofs.Lawful.{lawful_list}
 use Rattle.text_kit.proofs.Spelled.{Lawful}
-use Rattle.plan_report.specs.Forms.{AreLinkNumbers, AreRoutingsInForm, HasPoolLine, IsCertificateInForm, IsCertificateLineInForm, IsCutInForm, IsDemandInForm, IsOfPool, IsPlanInForm, IsQualityInForm, IsSpotInForm, line_lengths, line_state}
-use Rattle.plan_report.specs.Items.{certificate_items, certificate_line_items, costs_items, demand_items, modules_items, numbers_items, plan_items, quality_items, routings_items, spot_items}
-use Rattle.plan_report.specs.Parts.{ends_items, enclosed, node_name, section}
-use Rattle.report_reader.specs.declared.fault.ReportKind.{ReportKind}
+use Rattle.plan_report.specs.Forms.{AreLinkNumbers, AreRoutingsInForm, IsCertificateLineInForm, IsCutInForm, IsDemandInForm, IsOfPool, IsPlanInForm, IsQualityInForm, line_lengths, line_state}
+use Rattle.plan_report.specs.Items.{certificate_items, certificate_line_items, demand_items, modules_items, plan_items, quality_items, routings_items, spot_items}
+use Rattle.plan_report.specs.Parts.{ends_items, node_name, section}
 use Rattle.report_reader.specs.declared.fault.ReportKind.TheVariants.{Token}
 use Rattle.report_reader.specs.declared.parts.Head.{Head}
 use Rattle.report_reader.specs.declared.parts.Placed.{Placed}
@@ -124,11 +121,14 @@ module _ (links : List Link) (listed : List Listed) (pool : List CutLine) where
 
   find_spot : (p : Placed) (s : Spot) → p.spot ≡ s → IsPlacedAt s p → WasPool p ⊎ (WasLocal p ⊎ ⊥)
   find_spot p (Pool i) e h = inl (refl, record { parts = i; right = (omega arith, h.0); gives = h.1 })
-  find_spot p Local e h = inr (inl (refl, record {
-    parts = (p.state.0, p.lengths);
-    right = ((omega arith, omega (arith, h.0)), (h.1.long, h.1.each));
-    gives = ap (λ (s : Spot). record { spot = s; state = p.state; lengths = p.lengths }) (sym e);
-  }))
+  find_spot p Local e h = inr (inl (
+    refl,
+    record {
+      parts = (p.state.0, p.lengths);
+      right = ((omega arith, omega (arith, h.0)), (h.1.long, h.1.each));
+      gives = ap (λ (s : Spot). record { spot = s; state = p.state; lengths = p.lengths }) (sym e);
+    },
+  ))
 
   spot_law : Lawful (spot_at links listed pool) placed_cut IsPlaced AnyText
   unfolding pool_spot_at local_spot_at
@@ -268,5 +268,16 @@ module _ (nodes : List (List ℕ)) (links : List Link) (listed : List Listed) (p
   )
 
   pub form_plan : (head : Head) (p : Plan) → head.version ≡ p.version → head.position ≡ p.position → IsPlanInForm nodes links listed p → All (λ l. IsOfPool pool l.spot l.cut) p.certificate.lines → IsPlanOf head p
-  form_plan head p v w f pooled = ((v, w), (f.demands, (record { low = f.cost; bounded = f.bound; num = f.raw_num; positive = f.raw_positive; den = f.raw_den }, ((f.counts, f.limits),
-    (((f.certificate.positive, f.certificate.den), (f.certificate.few, λ k d lt. (f.certificate.lines k d lt, pooled k d lt))), (f.routings, f.quality))))))
+  form_plan head p v w f pooled = (
+    (v, w),
+    (
+      f.demands,
+      (
+        record { low = f.cost; bounded = f.bound; num = f.raw_num; positive = f.raw_positive; den = f.raw_den },
+        (
+          (f.counts, f.limits),
+          (((f.certificate.positive, f.certificate.den), (f.certificate.few, λ k d lt. (f.certificate.lines k d lt, pooled k d lt))), (f.routings, f.quality)),
+        ),
+      ),
+    ),
+  )

@@ -1,5 +1,5 @@
 -- The readings of how good a bound is take exactly their texts.
-use Rattle.std.proofs.Common.{◌≡◌, ◌⊎◌, inl, inr, ℕ, ◌+◌, ◌^◌, ◌<◌, ◌≤◌, Bool, true, List, [], ◌∷◌, ◌++◌, length, All, Err, refl, sym, ap, subst, ◌∙◌, arith, append_assoc}
+use Rattle.std.proofs.Common.{◌≡◌, inl, inr, ℕ, ◌+◌, ◌^◌, ◌<◌, Bool, true, List, [], ◌∷◌, ◌++◌, length, All, Err, refl, sym, ap, arith, append_assoc}
 use Rattle.std.specs.Prelude.{codes, flat_map}
 use Rattle.net_core.specs.declared.columns.Evidence.{Evidence}
 use Rattle.net_core.specs.declared.columns.Evidence.TheVariants.{Route, Master}
@@ -12,7 +12,6 @@ use Rattle.net_core.specs.declared.columns.WideKind.TheVariants as wide
 use Rattle.net_core.specs.declared.demand.Demand.{Demand}
 use Rattle.net_core.specs.declared.ids.LinkId.{LinkId}
 use Rattle.net_core.specs.declared.network.Link.{Link}
-use Rattle.net_core.specs.declared.plan.Caps.{Caps}
 use Rattle.net_core.specs.declared.plan.Routing.{Routing}
 use Rattle.net_core.specs.declared.states.Listed.{Listed}
 use Rattle.plan_types.specs.declared.quality.Cause.TheVariants.{Wide, Cuts}
@@ -20,15 +19,13 @@ use Rattle.plan_types.specs.declared.quality.Fractional.{Fractional}
 use Rattle.plan_types.specs.declared.quality.Quality.{Quality}
 use Rattle.plan_types.specs.declared.quality.Quality.TheVariants.{Tight, Loose, Unsolved}
 use Rattle.text_kit.specs.Items.{Item, Verbatim, Whole}
-use Rattle.text_kit.proofs.Beginnings.{AnyText, Starts}
-use Rattle.text_kit.proofs.Lawful.{lawful_as}
+use Rattle.text_kit.proofs.Beginnings.{AnyText}
 use Rattle.text_kit.proofs.Spelled.{Lawful}
 use Rattle.plan_report.specs.Forms.{AreCapsInForm, AreRoutingsInForm, IsCauseInForm, IsEvidenceInForm, IsKindInForm, IsMasterColumnInForm, IsQualityInForm, IsRouteColumnInForm, IsShareInForm}
 use Rattle.plan_report.specs.Items.{cause_items, evidence_items, master_column_items, numbers_items, quality_items, route_column_items, routings_items, wide_items}
-use Rattle.plan_report.specs.Parts.{enclosed, link_name}
-use Rattle.report_reader.specs.declared.fault.ReportKind.{ReportKind}
+use Rattle.plan_report.specs.Parts.{enclosed}
 use Rattle.report_reader.specs.declared.fault.ReportKind.TheVariants.{Token}
-use Rattle.report_reader.specs.ReportWords.{has_room, number_at}
+use Rattle.report_reader.specs.ReportWords.{has_room}
 use Rattle.report_reader.specs.ReadingQuality.{evidence_branches, loose_branches, master_column_branches, master_wide_branches, quality_branches, route_column_branches, route_wide_branches, basis_at, caps_at, carry_at, evidence_at, fractional_at, left_at, loose_at, master_at, master_column_at, master_wide_at, metric_at, price_at, quality_at, route_at, route_column_at, route_wide_at, slack_at, tight_at, too_wide_at, wide_entry_at, wide_length_at, wide_number_at, wide_row_at, wide_sum_at}
 use Rattle.report_reader.proofs.BranchLaws.{branches_law, either_form, lawful_branch, lawful_no_branch}
 use Rattle.report_reader.proofs.ListLaws.{exact_law}

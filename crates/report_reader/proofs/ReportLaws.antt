@@ -1,5 +1,5 @@
 -- The reading of a report takes exactly the texts of reports.
-use Rattle.std.proofs.Common.{◌≡◌, ◌≢◌, ℕ, ◌+◌, ◌^◌, ◌<◌, ◌≤◌, List, [], ◌∷◌, ◌++◌, length, map, get_or, All, AllPairs, Option, None, Some, ⊎_elim, Result, Ok, Err, IfOk, IfErr, refl, sym, ap, subst, ◌∙◌, arith, append_assoc}
+use Rattle.std.proofs.Common.{◌≡◌, ◌≢◌, ℕ, ◌+◌, ◌^◌, ◌<◌, ◌≤◌, List, [], ◌∷◌, ◌++◌, length, map, All, AllPairs, Option, ⊎_elim, Result, Ok, Err, IfOk, IfErr, refl, sym, ap, subst, ◌∙◌, arith, append_assoc}
 use Rattle.std.specs.Prelude.{codes, flat_map, slice_get}
 use Rattle.std.proofs.lemmas.List.Elements.{All-cons, All-nil, All-head, All-tail}
 use Rattle.std.proofs.lemmas.Bool.{cases_lt}
@@ -16,7 +16,7 @@ use Rattle.plan_types.specs.declared.report.Outcome.{Outcome}
 use Rattle.plan_types.specs.declared.report.Report.{Report}
 use Rattle.text_kit.specs.Answers.{AnswersAs, ReadsAllAs}
 use Rattle.text_kit.specs.Files.{IsFileOf, IsNotTooEarly, SpellsBy}
-use Rattle.text_kit.specs.Items.{Item, Verbatim, Opening, Closing}
+use Rattle.text_kit.specs.Items.{Item, Verbatim, Opening}
 use Rattle.text_kit.specs.declared.refusal.Refusal.{Refusal}
 use Rattle.text_kit.specs.declared.refusal.Refusal.TheVariants.{Bad, NoMemory}
 use Rattle.text_kit.proofs.Beginnings.{AnyText, IsEnd}
@@ -79,8 +79,7 @@ module _ (pool : List CutLine) where
   all_plain [] all = (refl, All-nil IsPlain, refl)
   all_plain (e ∷ es) all =
       let h = all_plain es (All-tail (IsEntryInForm pool) e es all) in
-      let p = plain_form e (All-head (IsEntryInForm pool) e es all) in
-      (
+      let p = plain_form e (All-head (IsEntryInForm pool) e es all) in (
         omega (arith, h.0),
         All-cons IsPlain (plain e) (map plain es) p.0 h.1,
         ap (λ (x : Entry). x ∷ map (filled pool) (map plain es)) p.1 ∙ ap (λ (xs : List Entry). e ∷ xs) h.2,

@@ -1,27 +1,26 @@
 -- The readings of numbers, paths and routings take exactly their texts.
-use Rattle.std.proofs.Common.{◌≡◌, ◌≢◌, ℕ, ◌+◌, ◌^◌, ◌<◌, ◌≤◌, true, List, [], ◌∷◌, ◌++◌, length, All, AllPairs, refl, sym, ap, subst, ◌∙◌, arith}
-use Rattle.std.specs.Prelude.{codes, flat_map}
+use Rattle.std.proofs.Common.{◌≡◌, ◌≢◌, ℕ, ◌+◌, ◌^◌, ◌<◌, true, List, [], ◌∷◌, length, All, AllPairs, refl, ap, arith}
+use Rattle.std.specs.Prelude.{codes}
 use Rattle.net_core.specs.declared.demand.Demand.{Demand}
 use Rattle.net_core.specs.declared.ids.LinkId.{LinkId}
 use Rattle.net_core.specs.declared.network.Link.{Link}
 use Rattle.net_core.specs.declared.plan.Flow.{Flow}
 use Rattle.net_core.specs.declared.plan.Routing.{Routing}
 use Rattle.net_core.specs.declared.states.Listed.{Listed}
-use Rattle.text_kit.specs.Items.{Item, Verbatim, Whole, Opening, Closing}
-use Rattle.text_kit.specs.Reading.{list_at, no_fault, of_length, Parenthesis}
+use Rattle.text_kit.specs.Items.{Verbatim, Whole}
+use Rattle.text_kit.specs.Reading.{of_length}
 use Rattle.text_kit.proofs.Beginnings.{AnyText}
 use Rattle.text_kit.proofs.Behind.{all_behind, behind_all}
 use Rattle.text_kit.proofs.Lawful.{lawful_as, lawful_some}
 use Rattle.text_kit.proofs.Spelled.{Lawful}
 use Rattle.plan_report.specs.Forms.{AreRoutingsInForm, IsFlowInForm, IsPathInForm, IsRoutingInForm}
-use Rattle.plan_report.specs.Items.{flow_items, numbered_from, numbers_items, path_items, routing_items, routings_items}
+use Rattle.plan_report.specs.Items.{flow_items, numbers_items, path_items, routing_items, routings_items}
 use Rattle.plan_report.specs.Parts.{enclosed, link_name, state_name}
-use Rattle.report_reader.specs.declared.fault.ReportKind.{ReportKind}
 use Rattle.report_reader.specs.declared.fault.ReportKind.TheVariants.{Token, Limit}
 use Rattle.report_reader.specs.ReportWords.{has_room, link_at}
 use Rattle.report_reader.specs.ReportChoices.{next_number_at, numbers_at}
 use Rattle.report_reader.specs.ReadingRoutings.{flow_at, path_at, routing_at, routings_at}
-use Rattle.report_reader.proofs.ListLaws.{exact_law, few_law, few_rooms, is_length, lawful_placed, length_is, numbered_items, placed_items, rooms_few}
+use Rattle.report_reader.proofs.ListLaws.{exact_law, few_law, few_rooms, is_length, lawful_placed, length_is, numbered_items, rooms_few}
 use Rattle.report_reader.proofs.Making.{law_made, made_last, made_law, made_then}
 use Rattle.report_reader.proofs.WordLaws.{AreApart, demand_within_law, keyword_within_law, link_law, number_law, number_within_law, opening_law, this_name_law, this_number_law}
 

@@ -1,6 +1,6 @@
 -- Which words say a number, an amount or a name of a report.
-use Rattle.std.proofs.Common.{◌≡◌, ◌≢◌, ℕ, ◌+◌, ◌^◌, ◌<◌, ◌≤◌, ◌&&◌, Bool, true, false, cond, nat_le, nat_lt, List, [], ◌∷◌, ◌++◌, length, get_or, AllPairs, Option, None, Some, Result, Ok, Err, refl, sym, ap, subst, ◌∙◌, arith}
-use Rattle.std.specs.Prelude.{position, slice_get}
+use Rattle.std.proofs.Common.{◌≡◌, ◌≢◌, ℕ, ◌+◌, ◌^◌, ◌<◌, ◌≤◌, ◌&&◌, Bool, true, false, cond, nat_le, nat_lt, List, [], ◌∷◌, length, get_or, AllPairs, Option, None, Some, Result, Ok, Err, refl, sym, ap, subst, ◌∙◌, arith}
+use Rattle.std.specs.Prelude.{position}
 use Rattle.std.specs.List.{position_or_len}
 use Rattle.std.proofs.lemmas.Bool.{leb-true, le-leb, ltb-true, ltb-false, lt-ltb, le-ltb}
 use Rattle.std.proofs.lemmas.List.Quantifiers.{position-Some}
@@ -15,18 +15,18 @@ use Rattle.net_core.proofs.Accepted.{differ}
 use Rattle.snd_tokens.specs.declared.amount.NumberFault.{NumberFault}
 use Rattle.snd_tokens.specs.declared.whole_number.WholeFault.{WholeFault}
 use Rattle.snd_tokens.specs.declared.whole_number.WholeFault.TheVariants.{NotANumber, TooLarge}
-use Rattle.snd_tokens.specs.Amounts.{amount_of, money_of}
+use Rattle.snd_tokens.specs.Amounts.{money_of}
 use Rattle.snd_tokens.specs.Lexemes.{Text, WordAt, OpenAt, CloseAt, EndAt}
 use Rattle.snd_tokens.specs.Wholes.{whole_of}
-use Rattle.text_kit.specs.Items.{Item, Verbatim, Whole, Money, Opening, Closing, Begins}
-use Rattle.text_kit.specs.Names.{any_name, found_or}
+use Rattle.text_kit.specs.Items.{Verbatim, Whole, Money, Opening, Closing, Begins}
+use Rattle.text_kit.specs.Names.{found_or}
 use Rattle.text_kit.specs.Numbers.{number_or}
-use Rattle.text_kit.specs.Reading.{Reading, expected, step_at, word_at}
+use Rattle.text_kit.specs.Reading.{expected, word_at}
 use Rattle.text_kit.proofs.Amounts.{lawful_amount, number_takes}
 use Rattle.text_kit.proofs.Beginnings.{AnyText}
 use Rattle.text_kit.proofs.Lawful.{is_same, lawful_close, lawful_key, lawful_open, lawful_word, same_is}
 use Rattle.text_kit.proofs.NameLaws.{lawful_any_name}
-use Rattle.text_kit.proofs.Online.{ok_parts, placed_ok}
+use Rattle.text_kit.proofs.Online.{ok_parts}
 use Rattle.text_kit.proofs.Outcomes.{if_ok, ok_is, unless_ok}
 use Rattle.text_kit.proofs.Spelled.{Lawful}
 use Rattle.plan_report.specs.Parts.{demand_name, link_name, node_name}

@@ -1,6 +1,9 @@
-ghost use Rattle.std.specs.Prelude.{◌≡◌, IfOk};
+ghost use Rattle.std.specs.Prelude.{◌≡◌, IfErr, IfOk};
+ghost use Rattle.plan_report.specs.Texts.{SpellsReport};
+ghost use Rattle.plan_types.specs.declared.report.Report.{Report as Rep};
 ghost use Rattle.snd_tokens.specs.Lexemes.{left};
-ghost use Rattle.text_kit.specs.Answers.{ReadsAllAs, ReadsAs};
+ghost use Rattle.text_kit.specs.Answers.{AnswersAs, ReadsAllAs, ReadsAs};
+ghost use Rattle.text_kit.specs.Files.{IsNotTooEarly};
 ghost use Rattle.report_reader.specs.ReadingReport.{report_at, report_of, section_at, sections_at};
 
 use crate::context::Context;
@@ -73,6 +76,20 @@ fn report(alloc: Global, context: &Context, text: &mut Cursor) -> Result<Report,
     Ok(report)
 }
 
+/// The whole file.
+fn file(
+    alloc: Global,
+    net: &Network,
+    states: &States,
+    bytes: &[u8],
+) -> Result<Report, ReportRefusal>
+    ensures { ReadsAllAs (λ r. r) result (report_of net.now.nodes net.now.links states.now.listed bytes.now) }
+{
+    let mut text = behind_header(ReportKind::Header, bytes, HEADER)?;
+    let context = Context::new(alloc, net, states)?;
+    report(alloc, &context, &mut text)
+}
+
 /// The report that a file spells, of plans for this network and these states. It takes memory for
 /// what is read, and time in proportion to the bytes.
 ///
@@ -84,11 +101,15 @@ pub fn read_report(
     states: &States,
     bytes: &[u8],
 ) -> Result<Report, ReportRefusal>
+    // What is read is in form and spelled.
+    ensures found { IfOk result (λ r. SpellsReport net.now.nodes net.now.links states.now.listed bytes.now r) }
+    // What is in form and spelled is read, unless memory runs out.
+    ensures only { (r : Rep) → SpellsReport net.now.nodes net.now.links states.now.listed bytes.now r → AnswersAs (λ x. x) result r }
     // What is read is what reading from left to right gives, and a fault is the first one that it
     // meets.
     ensures exact { ReadsAllAs (λ r. r) result (report_of net.now.nodes net.now.links states.now.listed bytes.now) }
+    // It doesn't stand too early: no bytes that agree past it are spelled right.
+    ensures not_early { IfErr result (IsNotTooEarly (SpellsReport net.now.nodes net.now.links states.now.listed) bytes.now) }
 {
-    let mut text = behind_header(ReportKind::Header, bytes, HEADER)?;
-    let context = Context::new(alloc, net, states)?;
-    report(alloc, &context, &mut text)
+    file(alloc, net, states, bytes)
 }
