@@ -3,3 +3,4 @@ pub mod ReportOnline
 pub mod Lookups
 pub mod Counts
 pub mod Whole
+pub mod Once
