@@ -15,3 +15,4 @@ pub mod ReportOnline
 pub mod Lookups
 pub mod Counts
 pub mod Whole
+pub mod Once

@@ -6,7 +6,7 @@ ghost use Rattle.report_reader.specs.ReportWords.{link_at, link_of, node_at, nod
 use crate::fault::{ReportKind, ReportRefusal};
 use crate::places::Places;
 use crate::words::unknown_name;
-use net_core::{Link, LinkId, Name, Network, NoMemory, NodeId, States};
+use net_core::{LinkId, Network, NoMemory, NodeId, States};
 use snd_tokens::Cursor;
 use std::alloc::Global;
 use text_kit::steps::{placed, word};
@@ -22,27 +22,29 @@ pub(crate) struct Context<'a> {
     ghost node_names: { nodes ≡ net.now.nodes },
 }
 
-/// The names of these links, which are all different.
-fn link_places(alloc: Global, links: &[Link]) -> Result<Places<'_>, NoMemory>
-    ensures { IfOk result (λ p. p ≡ map (λ l. l.name) links.now) }
+/// The names of a network's links, which are all different.
+fn link_places(alloc: Global, net: &Network) -> Result<Places<'_>, NoMemory>
+    ensures { IfOk result (λ p. p ≡ map (λ l. l.name) net.now.links) }
 {
     let mut places = Places::new(alloc);
+    let links = net.links().items();
     for link in links {
         if !places.add(link.name.bytes())? {
-            return Err(NoMemory);
+            unreachable!();
         }
     }
     Ok(places)
 }
 
-/// The names of these nodes, which are all different.
-fn node_places(alloc: Global, nodes: &[Name]) -> Result<Places<'_>, NoMemory>
-    ensures { IfOk result (λ p. p ≡ nodes.now) }
+/// The names of a network's nodes, which are all different.
+fn node_places(alloc: Global, net: &Network) -> Result<Places<'_>, NoMemory>
+    ensures { IfOk result (λ p. p ≡ net.now.nodes) }
 {
     let mut places = Places::new(alloc);
+    let nodes = net.nodes().items();
     for node in nodes {
         if !places.add(node.bytes())? {
-            return Err(NoMemory);
+            unreachable!();
         }
     }
     Ok(places)
@@ -58,8 +60,8 @@ impl<'a> Context<'a> {
         ensures net { IfOk result (λ c. c.net.now ≡ net.now) }
         ensures states { IfOk result (λ c. c.states.now ≡ states.now) }
     {
-        let links = link_places(alloc, net.links().items())?;
-        let nodes = node_places(alloc, net.nodes().items())?;
+        let links = link_places(alloc, net)?;
+        let nodes = node_places(alloc, net)?;
         Ok(Context {
             net,
             states,

@@ -24,8 +24,8 @@ fn pooled(alloc: Global, pool: &[CutLine], index: u32) -> Result<Entry, NoMemory
 }
 
 /// An entry with the cut that it names.
-fn filled(alloc: Global, pool: &[CutLine], entry: Entry) -> Result<Entry, NoMemory>
-    ensures { IfOk result (λ e. e ≡ filled pool.now entry) }
+fn filled(alloc: Global, pool: &[CutLine], entry: &Entry) -> Result<Entry, NoMemory>
+    ensures { IfOk result (λ e. e ≡ filled pool.now entry.now) }
 {
     match entry {
         Entry::Edited {
@@ -33,26 +33,25 @@ fn filled(alloc: Global, pool: &[CutLine], entry: Entry) -> Result<Entry, NoMemo
             edit,
             reply,
         } => Ok(Entry::Edited {
-            caller,
-            edit,
-            reply,
+            caller: *caller,
+            edit: edit.copy()?,
+            reply: *reply,
         }),
-        Entry::Pooled { index, .. } => pooled(alloc, pool, index),
+        Entry::Pooled { index, .. } => pooled(alloc, pool, *index),
     }
 }
 
-/// Entries with the cuts that they name. None is copied.
+/// Copies of entries with the cuts that they name, in time that grows with their number.
 pub(crate) fn fill(
     alloc: Global,
     pool: &[CutLine],
-    mut entries: List<Entry>,
+    entries: &[Entry],
 ) -> Result<List<Entry>, NoMemory>
-    ensures { IfOk result (λ l. l ≡ map (filled pool.now) entries) }
+    ensures { IfOk result (λ l. l ≡ map (filled pool.now) entries.now) }
 {
     let mut all = List::new(alloc);
-    while entries.len() > 0 {
-        let entry = filled(alloc, pool, entries.remove(0))?;
-        all.push(entry)?;
+    for entry in entries {
+        all.push(filled(alloc, pool, entry)?)?;
     }
     Ok(all)
 }

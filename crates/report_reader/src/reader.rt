@@ -58,7 +58,7 @@ fn sections(alloc: Global, context: &Context, text: &mut Cursor) -> Result<Repor
     }
     section(OUTCOMES, text)?;
     let outcomes = outcomes(alloc, context, pool.items(), text)?;
-    let entries = fill(alloc, pool.items(), entries)?;
+    let entries = fill(alloc, pool.items(), entries.items())?;
     Ok(Report {
         notes,
         entries,

@@ -1,9 +1,7 @@
-use Rattle.std.proofs.Common.{◌≡◌, ◌++◌, length, map}
+use Rattle.std.proofs.Common.{◌≡◌, map, take}
 use Rattle.report_reader.specs.ReadingReport.{filled}
 use Rattle.report_reader.proofs.filling.fill.Given as goal
 
-abbrev pub invariant-loop-alloc : goal.invariant-loop-alloc
-invariant-loop-alloc l = l.all ++ map (filled l.pool) l.entries ≡ map (filled l.pool) l.fn.entries
-
-abbrev pub decreases-loop-alloc : goal.decreases-loop-alloc
-decreases-loop-alloc l = length l.entries
+-- the entries so far
+abbrev pub invariant-loop-entry : goal.invariant-loop-entry
+invariant-loop-entry l = l.all ≡ map (filled l.pool) (take l.entry-index l.entries)
