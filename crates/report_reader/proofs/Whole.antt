@@ -1,0 +1,40 @@
+-- A whole report ends where its file does.
+use Rattle.std.proofs.Common.{◌≡◌, ℕ, Bool, true, cond, List, Result, Ok, Err, refl, sym, ap, ◌∙◌}
+use Rattle.net_core.specs.Tests.{are_same}
+use Rattle.net_core.specs.declared.network.Link.{Link}
+use Rattle.net_core.specs.declared.states.Listed.{Listed}
+use Rattle.plan_types.specs.declared.report.Report.{Report}
+use Rattle.plan_report.specs.Texts.{report_header}
+use Rattle.snd_tokens.specs.Header.{first_line, trimmed}
+use Rattle.snd_tokens.specs.Lexemes.{Text, WordAt, OpenAt, CloseAt, EndAt}
+use Rattle.text_kit.specs.Answers.{ReadsAllAs, ReadsAs}
+use Rattle.text_kit.specs.declared.refusal.Refusal.{Refusal}
+use Rattle.text_kit.specs.declared.refusal.Refusal.TheVariants.{Bad, NoMemory}
+use Rattle.text_kit.specs.Files.{body}
+use Rattle.text_kit.specs.Reading.{Read, Reading, after, end_at, give, whole_at}
+use Rattle.text_kit.proofs.Online.{ok_parts}
+use Rattle.report_reader.specs.declared.fault.ReportKind.{ReportKind}
+use Rattle.report_reader.specs.declared.fault.ReportKind.TheVariants.{Header, Section}
+use Rattle.report_reader.specs.ReadingReport.{report_at, report_of, sections_at}
+
+end_is : (x y : Report) (text rest : Text) → after (end_at Section text) (λ u. give x) ≡ Ok (y, rest) → (at : ℕ) × (rest ≡ EndAt at)
+end_is x y (WordAt at w t) rest e = absurd cc
+end_is x y (OpenAt at t) rest e = absurd cc
+end_is x y (CloseAt at t) rest e = absurd cc
+end_is x y (EndAt at) rest e = (at, sym (ok_parts {K = ReportKind} x y (EndAt at) rest e).1)
+
+whole_end : (q : Read ReportKind Report) (y : Report) (rest : Text) → after q (λ x t. after (end_at Section t) (λ u. give x)) ≡ Ok (y, rest) → (at : ℕ) × (rest ≡ EndAt at)
+whole_end (Ok p) y rest e = end_is p.0 y p.1 rest e
+whole_end (Err d) y rest e = absurd cc
+
+pub file_ok : (nodes : List (List ℕ)) (links : List Link) (listed : List Listed) (bytes : List ℕ) (r : Report) (rest : Text) → are_same (trimmed (first_line bytes)) report_header ≡ true
+    → report_at nodes links listed (body bytes) ≡ Ok (r, rest) → (at : ℕ) × (report_of nodes links listed bytes ≡ Ok (r, EndAt at))
+file_ok nodes links listed bytes r rest line read =
+    let e = whole_end (sections_at nodes links listed (body bytes)) r rest read in
+    (e.0, ap (λ (b : Bool). cond b (report_at nodes links listed (body bytes)) (Err (0, Header))) line ∙ (read ∙ ap (λ (t : Text). Ok (r, t)) e.1))
+
+pub file_answer : (nodes : List (List ℕ)) (links : List Link) (listed : List Listed) (bytes : List ℕ) (a : Result Report (Refusal ReportKind)) (rest : Text) → are_same (trimmed (first_line bytes)) report_header ≡ true
+    → ReadsAs (λ (r : Report). r) a rest (report_at nodes links listed (body bytes)) → ReadsAllAs (λ (r : Report). r) a (report_of nodes links listed bytes)
+file_answer nodes links listed bytes (Ok r) rest line read = file_ok nodes links listed bytes r rest line read
+file_answer nodes links listed bytes (Err (Bad at kind)) rest line read = ap (λ (b : Bool). cond b (report_at nodes links listed (body bytes)) (Err (0, Header))) line ∙ read
+file_answer nodes links listed bytes (Err NoMemory) rest line read = tt

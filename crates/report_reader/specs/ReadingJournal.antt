@@ -1,0 +1,148 @@
+-- Reading the notes, the journal and the pool of a report.
+use Rattle.std.specs.Prelude.{ℕ, ◌+◌, ◌^◌, Bool, true, false, List, [], ◌∷◌, length, Result, Ok, Err, codes}
+use Rattle.net_core.specs.declared.ids.StateId.{StateId}
+use Rattle.net_core.specs.declared.journal.Edit.{Edit}
+use Rattle.net_core.specs.declared.journal.Edit.TheVariants.{Set, Add, Drop}
+use Rattle.net_core.specs.declared.journal.Entry.{Entry}
+use Rattle.net_core.specs.declared.journal.Entry.TheVariants.{Edited, Pooled}
+use Rattle.net_core.specs.declared.journal.Reply.{Reply}
+use Rattle.net_core.specs.declared.journal.Reply.TheVariants.{Accepted, UnknownDemand, KnownDemand, UnknownNode, SelfDemand, TooMany, TooMuch}
+use Rattle.net_core.specs.declared.network.Link.{Link}
+use Rattle.net_core.specs.declared.network.Notes.{Notes}
+use Rattle.net_core.specs.declared.plan.CutLine.{CutLine}
+use Rattle.net_core.specs.declared.states.Listed.{Listed}
+use Rattle.text_kit.specs.Reading.{Reading, ◌>>=◌, give, list_at, no_fault, Parenthesis}
+use Rattle.report_reader.specs.declared.fault.ReportKind.{ReportKind}
+use Rattle.report_reader.specs.declared.fault.ReportKind.TheVariants.{Token}
+use Rattle.report_reader.specs.ReportWords.{amount_at, closing_at, has_room, keyword_at, money_at, name_at, number_at, opening_at, opening_within, this_number_at}
+use Rattle.report_reader.specs.ReportChoices.{Branches, branch_at, branch_or, numbers_at}
+
+-- ---- the notes: up to three words in order, and the closing parenthesis
+
+abbrev pub noted : Bool → Bool → Bool → Notes
+noted fixed routing setup = record { fixed_cost = fixed; routing_cost = routing; setup_cost = setup }
+
+-- nothing after the last word
+unfoldable pub notes_end_at : Notes → Reading ReportKind Notes
+notes_end_at n = closing_at >>= λ _. give n
+
+-- the setup cost, or none
+abbrev pub setup_note_branches : Bool → Bool → Branches Notes
+setup_note_branches fixed routing = (codes "setup", notes_end_at (noted fixed routing true)) ∷ []
+
+unfoldable pub setup_note_at : Bool → Bool → Reading ReportKind Notes
+setup_note_at fixed routing = branch_or true (Ok (noted fixed routing false)) (setup_note_branches fixed routing)
+
+-- the routing cost and what may follow it
+abbrev pub routing_note_branches : Bool → Branches Notes
+routing_note_branches fixed = (codes "routing", setup_note_at fixed true) ∷ (codes "setup", notes_end_at (noted fixed false true)) ∷ []
+
+unfoldable pub routing_note_at : Bool → Reading ReportKind Notes
+routing_note_at fixed = branch_or true (Ok (noted fixed false false)) (routing_note_branches fixed)
+
+abbrev pub notes_branches : Branches Notes
+notes_branches = (codes "fixed", routing_note_at true) ∷ (codes "routing", setup_note_at false true) ∷ (codes "setup", notes_end_at (noted false false true)) ∷ []
+
+unfoldable pub notes_at : Reading ReportKind Notes
+notes_at = branch_or true (Ok (noted false false false)) notes_branches
+
+-- ---- the journal
+
+unfoldable pub set_at : Reading ReportKind Edit
+set_at = do
+  name ← name_at
+  need ← amount_at
+  give (Set name need)
+
+-- two names between parentheses
+unfoldable pub two_names_at : Reading ReportKind (List ℕ × List ℕ)
+two_names_at = do
+  _ ← opening_at
+  from ← name_at
+  to ← name_at
+  _ ← closing_at
+  give (from, to)
+
+unfoldable pub add_at : Reading ReportKind Edit
+add_at = do
+  name ← name_at
+  ends ← two_names_at
+  need ← amount_at
+  give (Add name ends.0 ends.1 need)
+
+unfoldable pub drop_at : Reading ReportKind Edit
+drop_at = do
+  name ← name_at
+  give (Drop name)
+
+abbrev pub edit_branches : Branches Edit
+edit_branches = (codes "set", set_at) ∷ (codes "add", add_at) ∷ (codes "drop", drop_at) ∷ []
+
+abbrev pub edit_at : Reading ReportKind Edit
+edit_at = branch_at edit_branches
+
+unfoldable pub accepted_at : Reading ReportKind Reply
+accepted_at = do
+  version ← number_at 0 65537
+  give (Accepted version)
+
+unfoldable pub too_much_at : Reading ReportKind Reply
+too_much_at = do
+  total ← money_at (2 ^ 45)
+  give (TooMuch total)
+
+abbrev pub reply_branches : Branches Reply
+reply_branches = (codes "accepted", accepted_at) ∷ (codes "unknown-demand", give UnknownDemand) ∷ (codes "known-demand", give KnownDemand) ∷ (codes "unknown-node", give UnknownNode)
+    ∷ (codes "self-demand", give SelfDemand) ∷ (codes "too-many", give TooMany) ∷ (codes "too-much", too_much_at) ∷ []
+
+abbrev pub reply_at : Reading ReportKind Reply
+reply_at = branch_at reply_branches
+
+unfoldable pub edited_at : Reading ReportKind Entry
+edited_at = do
+  caller ← number_at 1 9
+  edit ← edit_at
+  reply ← reply_at
+  give (Edited caller edit reply)
+
+-- a cut of the pool, which comes later: its place alone
+unfoldable pub pooled_at : Reading ReportKind Entry
+pooled_at = do
+  index ← number_at 0 4096
+  give (Pooled index (record { 0 = 0 }) [])
+
+abbrev pub event_branches : Branches Entry
+event_branches = (codes "caller", edited_at) ∷ (codes "cut", pooled_at) ∷ []
+
+abbrev pub event_at : Reading ReportKind Entry
+event_at = branch_at event_branches
+
+-- an entry after earlier ones
+unfoldable pub entry_at : List Entry → Reading ReportKind Entry
+entry_at sofar = do
+  _ ← opening_within (has_room 65536 sofar)
+  _ ← this_number_at (length sofar + 1)
+  event ← event_at
+  _ ← closing_at
+  give event
+
+abbrev pub entries_at : Reading ReportKind (List Entry)
+entries_at = list_at Parenthesis no_fault entry_at []
+
+-- ---- the pool
+
+-- a line after earlier ones
+unfoldable pub pool_line_at : List Link → List Listed → List CutLine → Reading ReportKind CutLine
+pool_line_at links listed sofar = do
+  _ ← opening_within (has_room 4096 sofar)
+  _ ← this_number_at (length sofar)
+  _ ← keyword_at (codes "state")
+  state ← number_at 0 (length listed + 1)
+  _ ← keyword_at (codes "right")
+  right ← number_at 0 (2 ^ 84)
+  lengths ← numbers_at (length links) (2 ^ 32)
+  _ ← closing_at
+  give (record { state = record { 0 = state }; lengths = lengths; right = right })
+
+abbrev pub pool_at : List Link → List Listed → Reading ReportKind (List CutLine)
+pool_at links listed = list_at Parenthesis no_fault (pool_line_at links listed) []

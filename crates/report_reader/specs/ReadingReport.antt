@@ -1,0 +1,98 @@
+-- Reading a report from left to right: its parts in their order, and its first fault.
+use Rattle.std.specs.Prelude.{ℕ, ◌+◌, List, [], ◌∷◌, length, map, slice_get, Result, codes}
+use Rattle.net_core.specs.declared.journal.Entry.{Entry}
+use Rattle.net_core.specs.declared.journal.Entry.TheVariants.{Edited, Pooled}
+use Rattle.net_core.specs.declared.network.Link.{Link}
+use Rattle.net_core.specs.declared.plan.CutLine.{CutLine}
+use Rattle.net_core.specs.declared.states.Listed.{Listed}
+use Rattle.plan_types.specs.declared.report.Outcome.{Outcome}
+use Rattle.plan_types.specs.declared.report.Outcome.TheVariants.{Planned, Unsurvivable}
+use Rattle.plan_types.specs.declared.report.Report.{Report}
+use Rattle.text_kit.specs.Files.{file_at}
+use Rattle.text_kit.specs.Reading.{Read, Reading, ◌>>=◌, expected, give, list_at, no_fault, open_at, Parenthesis, whole_at, word_at}
+use Rattle.plan_report.specs.Forms.{line_lengths, line_state}
+use Rattle.plan_report.specs.Parts.{state_name}
+use Rattle.plan_report.specs.Texts.{report_header}
+use Rattle.report_reader.specs.declared.fault.ReportKind.{ReportKind}
+use Rattle.report_reader.specs.declared.fault.ReportKind.TheVariants.{Header, Section, Ended}
+use Rattle.report_reader.specs.declared.parts.Head.{Head}
+use Rattle.report_reader.specs.ReportWords.{closing_at, has_room, keyword_at, name_at, number_at, opening_at, this_name_at}
+use Rattle.report_reader.specs.ReportChoices.{Branches, branch_within}
+use Rattle.report_reader.specs.ReadingJournal.{entries_at, notes_at, pool_at}
+use Rattle.report_reader.specs.ReadingPlan.{plan_at}
+
+-- ---- outcomes
+
+unfoldable pub head_at : Reading ReportKind Head
+head_at = do
+  _ ← keyword_at (codes "caller")
+  caller ← number_at 1 9
+  _ ← keyword_at (codes "plan")
+  serial ← number_at 1 65
+  _ ← keyword_at (codes "version")
+  version ← number_at 0 65537
+  _ ← keyword_at (codes "position")
+  position ← number_at 0 65537
+  give (record { caller = caller; serial = serial; version = version; position = position })
+
+unfoldable pub planned_at : List (List ℕ) → List Link → List Listed → List CutLine → Reading ReportKind Outcome
+planned_at nodes links listed pool = do
+  _ ← opening_at
+  head ← head_at
+  plan ← plan_at nodes links listed pool head
+  _ ← closing_at
+  give (Planned head.caller head.serial plan)
+
+unfoldable pub unsurvivable_at : List Listed → Reading ReportKind Outcome
+unsurvivable_at listed = do
+  _ ← opening_at
+  head ← head_at
+  _ ← keyword_at (codes "state")
+  state ← number_at 0 (length listed + 1)
+  _ ← this_name_at (state_name listed state)
+  _ ← keyword_at (codes "demand")
+  demand ← name_at
+  _ ← closing_at
+  give (Unsurvivable head.caller head.serial head.version head.position (record { 0 = state }) demand)
+
+-- an outcome after earlier ones
+abbrev pub outcome_branches : List (List ℕ) → List Link → List Listed → List CutLine → Branches Outcome
+outcome_branches nodes links listed pool = (codes "PLAN", planned_at nodes links listed pool) ∷ (codes "UNSURVIVABLE", unsurvivable_at listed) ∷ []
+
+abbrev pub outcome_at : List (List ℕ) → List Link → List Listed → List CutLine → List Outcome → Reading ReportKind Outcome
+outcome_at nodes links listed pool sofar = branch_within (has_room 64 sofar) (outcome_branches nodes links listed pool)
+
+abbrev pub outcomes_at : List (List ℕ) → List Link → List Listed → List CutLine → Reading ReportKind (List Outcome)
+outcomes_at nodes links listed pool = list_at Parenthesis no_fault (outcome_at nodes links listed pool) []
+
+-- ---- the whole report
+
+-- a section's word and the parenthesis after it
+unfoldable pub section_at : List ℕ → Reading ReportKind (Unit {0})
+section_at w = word_at Section Ended (expected Section w) >>= λ _. open_at Section Ended
+
+-- an entry that names a line of the pool has that line's state and lengths; one whose line isn't there has state 0 and no lengths
+abbrev pub filled : List CutLine → Entry → Entry
+filled pool (Edited caller edit reply) = Edited caller edit reply
+filled pool (Pooled index state lengths) = Pooled index (record { 0 = line_state (slice_get pool index) }) (line_lengths (slice_get pool index))
+
+-- all sections after the first line
+unfoldable pub sections_at : List (List ℕ) → List Link → List Listed → Reading ReportKind Report
+sections_at nodes links listed = do
+  _ ← section_at (codes "NOTES")
+  notes ← notes_at
+  _ ← section_at (codes "JOURNAL")
+  entries ← entries_at
+  _ ← section_at (codes "POOL")
+  pool ← pool_at links listed
+  _ ← section_at (codes "OUTCOMES")
+  outcomes ← outcomes_at nodes links listed pool
+  give (record { notes = notes; entries = map (filled pool) entries; pool = pool; outcomes = outcomes })
+
+-- a whole text of a report
+abbrev pub report_at : List (List ℕ) → List Link → List Listed → Reading ReportKind Report
+report_at nodes links listed = whole_at Section (sections_at nodes links listed)
+
+-- a whole file: its report, or its first fault by place
+abbrev pub report_of : List (List ℕ) → List Link → List Listed → List ℕ → Read ReportKind Report
+report_of nodes links listed bytes = file_at Header report_header (report_at nodes links listed) bytes

@@ -1,0 +1,113 @@
+ghost use Rattle.std.specs.Prelude.{◌≡◌};
+ghost use Rattle.snd_tokens.specs.Lexemes.{left};
+ghost use Rattle.text_kit.specs.Answers.{ReadsAs};
+ghost use Rattle.report_reader.specs.ReadingJournal.{edited_at, entries_at, entry_at, event_at, pooled_at};
+
+use crate::edit::{edit, reply};
+use crate::element::{Element, list};
+use crate::fault::{ReportKind, ReportRefusal};
+use crate::words::{closing, opening_within, small, this};
+use net_core::{Entry, List, StateId};
+use snd_tokens::Cursor;
+use std::alloc::Global;
+use text_kit::refusal::bad;
+use text_kit::steps::word;
+
+const CALLER: &[u8] = b"caller";
+
+const CUT: &[u8] = b"cut";
+
+const MAX_ENTRIES: usize = 65_536;
+
+const CALLER_LIMIT: u128 = 9;
+
+const INDEX_LIMIT: u128 = 4_096;
+
+/// Takes a caller, an edit and its reply.
+#[tactic(auto, unfolding(crate::specs::ReadingJournal::edited_at))]
+fn edited(alloc: Global, text: &mut Cursor) -> Result<Entry, ReportRefusal>
+    ensures { ReadsAs (λ e. e) result (left text.new) (edited_at (left text.old)) }
+{
+    let caller = small(1, CALLER_LIMIT, text)?;
+    let edit = edit(alloc, text)?;
+    let reply = reply(text)?;
+    Ok(Entry::Edited {
+        caller,
+        edit,
+        reply,
+    })
+}
+
+/// Takes the place of a cut in the pool, whose line comes later.
+#[tactic(auto, unfolding(crate::specs::ReadingJournal::pooled_at))]
+fn pooled(alloc: Global, text: &mut Cursor) -> Result<Entry, ReportRefusal>
+    ensures { ReadsAs (λ e. e) result (left text.new) (pooled_at (left text.old)) }
+{
+    let index = small(0, INDEX_LIMIT, text)?;
+    Ok(Entry::Pooled {
+        index,
+        state: StateId(0),
+        lengths: List::new(alloc),
+    })
+}
+
+/// Takes what an entry says after its position.
+fn event(alloc: Global, text: &mut Cursor) -> Result<Entry, ReportRefusal>
+    ensures { ReadsAs (λ e. e) result (left text.new) (event_at (left text.old)) }
+{
+    let (at, word) = word(ReportKind::Token, ReportKind::Ended, text)?;
+    if word == CALLER {
+        return edited(alloc, text);
+    }
+    if word == CUT {
+        return pooled(alloc, text);
+    }
+    Err(bad(at, ReportKind::Token))
+}
+
+/// Takes an entry after these ones.
+#[tactic(auto, unfolding(crate::specs::ReadingJournal::entry_at))]
+fn entry(alloc: Global, sofar: &[Entry], text: &mut Cursor) -> Result<Entry, ReportRefusal>
+    ensures { ReadsAs (λ e. e) result (left text.new) (entry_at sofar.now (left text.old)) }
+{
+    opening_within(sofar.len() < MAX_ENTRIES, text)?;
+    this(sofar.len() as u64 + 1, text)?;
+    let event = event(alloc, text)?;
+    closing(text)?;
+    Ok(event)
+}
+
+/// Entries, whose cuts have no state and no lengths yet.
+#[derive(Clone, Copy)]
+struct EntryList;
+
+impl Element for EntryList {
+    ghost use Rattle.text_kit.specs.Reading.{no_fault};
+    ghost use Rattle.report_reader.specs.ReadingJournal.{entry_at};
+
+    type Item = Entry;
+
+    ghost reading = { λ _. entry_at };
+
+    ghost fault = { λ _. no_fault };
+
+    fn take(
+        &self,
+        alloc: Global,
+        sofar: &[Entry],
+        text: &mut Cursor,
+    ) -> Result<Entry, ReportRefusal> {
+        entry(alloc, sofar, text)
+    }
+
+    fn fault(&self, _all: &[Entry]) -> Option<ReportKind> {
+        None
+    }
+}
+
+/// Takes entries, up to the closing parenthesis.
+pub(crate) fn entries(alloc: Global, text: &mut Cursor) -> Result<List<Entry>, ReportRefusal>
+    ensures { ReadsAs (λ l. l) result (left text.new) (entries_at (left text.old)) }
+{
+    list(alloc, &EntryList, text)
+}

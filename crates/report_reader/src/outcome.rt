@@ -1,0 +1,175 @@
+ghost use Rattle.std.specs.Prelude.{◌≡◌, ◌<◌, ◌≤◌, ◌^◌, length, IfOk};
+ghost use Rattle.snd_tokens.specs.Lexemes.{left};
+ghost use Rattle.text_kit.specs.Answers.{ReadsAs};
+ghost use Rattle.report_reader.specs.ReadingReport.{head_at, outcome_at, outcomes_at, planned_at, unsurvivable_at};
+
+use crate::context::Context;
+use crate::element::{Element, list};
+use crate::fault::{ReportKind, ReportRefusal};
+use crate::parts::Head;
+use crate::plan::plan;
+use crate::routing::state_name;
+use crate::words::{closing, keyword, medium, name, opening, small};
+use net_core::{CutLine, List, StateId};
+use plan_types::Outcome;
+use snd_tokens::Cursor;
+use std::alloc::Global;
+use text_kit::refusal::bad;
+use text_kit::steps::word;
+
+const CALLER: &[u8] = b"caller";
+
+const SERIAL: &[u8] = b"plan";
+
+const VERSION: &[u8] = b"version";
+
+const POSITION: &[u8] = b"position";
+
+const STATE: &[u8] = b"state";
+
+const DEMAND: &[u8] = b"demand";
+
+const PLAN: &[u8] = b"PLAN";
+
+const UNSURVIVABLE: &[u8] = b"UNSURVIVABLE";
+
+const MAX_OUTCOMES: usize = 64;
+
+/// Takes whose plan command it was, and for which version and position.
+#[tactic(auto, unfolding(crate::specs::ReadingReport::head_at))]
+fn head(text: &mut Cursor) -> Result<Head, ReportRefusal>
+    ensures { ReadsAs (λ h. h) result (left text.new) (head_at (left text.old)) }
+{
+    keyword(CALLER, text)?;
+    let caller = small(1, 9, text)?;
+    keyword(SERIAL, text)?;
+    let serial = small(1, 65, text)?;
+    keyword(VERSION, text)?;
+    let version = medium(0, 65_537, text)?;
+    keyword(POSITION, text)?;
+    let position = medium(0, 65_537, text)?;
+    Ok(Head {
+        caller,
+        serial,
+        version,
+        position,
+    })
+}
+
+/// Takes a plan and its head.
+#[tactic(auto, unfolding(crate::specs::ReadingReport::planned_at))]
+fn planned(
+    alloc: Global,
+    context: &Context,
+    pool: &[CutLine],
+    text: &mut Cursor,
+) -> Result<Outcome, ReportRefusal>
+    requires { length pool.now < 2 ^ 32 }
+    ensures { ReadsAs (λ o. o) result (left text.new) (planned_at context.now.net.now.nodes context.now.net.now.links context.now.states.now.listed pool.now (left text.old)) }
+{
+    opening(text)?;
+    let head = head(text)?;
+    let plan = plan(alloc, context, pool, head, text)?;
+    closing(text)?;
+    Ok(Outcome::Planned {
+        caller: head.caller,
+        serial: head.serial,
+        plan,
+    })
+}
+
+/// Takes the state and the demand for which there is no plan.
+#[tactic(auto, unfolding(crate::specs::ReadingReport::unsurvivable_at))]
+fn unsurvivable(
+    alloc: Global,
+    context: &Context,
+    text: &mut Cursor,
+) -> Result<Outcome, ReportRefusal>
+    ensures { ReadsAs (λ o. o) result (left text.new) (unsurvivable_at context.now.states.now.listed (left text.old)) }
+{
+    opening(text)?;
+    let head = head(text)?;
+    keyword(STATE, text)?;
+    let state = small(0, u128::from(context.states.count()), text)?;
+    state_name(context.states, state, text)?;
+    keyword(DEMAND, text)?;
+    let demand = name(alloc, text)?;
+    closing(text)?;
+    Ok(Outcome::Unsurvivable {
+        caller: head.caller,
+        serial: head.serial,
+        version: head.version,
+        position: head.position,
+        state: StateId(state),
+        demand,
+    })
+}
+
+/// Takes an outcome after these ones.
+fn outcome(
+    alloc: Global,
+    context: &Context,
+    pool: &[CutLine],
+    sofar: &[Outcome],
+    text: &mut Cursor,
+) -> Result<Outcome, ReportRefusal>
+    requires { length pool.now < 2 ^ 32 }
+    ensures { ReadsAs (λ o. o) result (left text.new) (outcome_at context.now.net.now.nodes context.now.net.now.links context.now.states.now.listed pool.now sofar.now (left text.old)) }
+{
+    let (at, word) = word(ReportKind::Token, ReportKind::Ended, text)?;
+    if word != PLAN && word != UNSURVIVABLE {
+        return Err(bad(at, ReportKind::Token));
+    }
+    if sofar.len() >= MAX_OUTCOMES {
+        return Err(bad(at, ReportKind::Limit));
+    }
+    if word == PLAN {
+        return planned(alloc, context, pool, text);
+    }
+    unsurvivable(alloc, context, text)
+}
+
+/// The outcomes of a report.
+#[derive(Clone, Copy)]
+struct OutcomeList<'a> {
+    context: &'a Context<'a>,
+    pool: &'a [CutLine],
+    ghost few: { length pool.now < 2 ^ 32 },
+}
+
+impl<'a> Element for OutcomeList<'a> {
+    ghost use Rattle.text_kit.specs.Reading.{no_fault};
+    ghost use Rattle.report_reader.specs.ReadingReport.{outcome_at};
+
+    type Item = Outcome;
+
+    ghost reading = { λ l. outcome_at l.context.now.net.now.nodes l.context.now.net.now.links l.context.now.states.now.listed l.pool.now };
+
+    ghost fault = { λ _. no_fault };
+
+    fn take(
+        &self,
+        alloc: Global,
+        sofar: &[Outcome],
+        text: &mut Cursor,
+    ) -> Result<Outcome, ReportRefusal> {
+        outcome(alloc, self.context, self.pool, sofar, text)
+    }
+
+    fn fault(&self, _all: &[Outcome]) -> Option<ReportKind> {
+        None
+    }
+}
+
+/// Takes the outcomes of a report, up to the closing parenthesis.
+pub(crate) fn outcomes(
+    alloc: Global,
+    context: &Context,
+    pool: &[CutLine],
+    text: &mut Cursor,
+) -> Result<List<Outcome>, ReportRefusal>
+    requires { length pool.now < 2 ^ 32 }
+    ensures { ReadsAs (λ l. l) result (left text.new) (outcomes_at context.now.net.now.nodes context.now.net.now.links context.now.states.now.listed pool.now (left text.old)) }
+{
+    list(alloc, &OutcomeList { context, pool }, text)
+}

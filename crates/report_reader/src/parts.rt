@@ -1,0 +1,28 @@
+use net_core::{Lengths, StateId};
+use plan_types::Spot;
+
+/// Whose plan command it was, the how manieth of that caller, and for which version and position.
+#[derive(Clone, Copy)]
+pub struct Head {
+    pub caller: u32,
+    pub serial: u32,
+    pub version: u64,
+    pub position: u64,
+}
+
+/// What a plan costs, its bound, and the raw value of its certificate.
+#[derive(Clone, Copy)]
+pub struct Values {
+    pub cost: u128,
+    pub bound: u128,
+    pub raw_num: u128,
+    pub raw_den: u128,
+}
+
+/// The cut of a certificate's line: where it stands, its state and its lengths.
+#[derive(Drop)]
+pub struct Placed {
+    pub spot: Spot,
+    pub state: StateId,
+    pub lengths: Lengths,
+}

@@ -1,0 +1,84 @@
+ghost use Rattle.std.specs.Prelude.{◌≡◌, ◌<◌, ◌^◌, length};
+ghost use Rattle.snd_tokens.specs.Lexemes.{left};
+ghost use Rattle.text_kit.specs.Answers.{ReadsAs};
+ghost use Rattle.report_reader.specs.ReadingPlan.{plan_at, values_at};
+
+use crate::certificate::certificate;
+use crate::context::Context;
+use crate::demands::plan_demands;
+use crate::fault::ReportRefusal;
+use crate::modules::modules;
+use crate::parts::{Head, Values};
+use crate::quality::quality;
+use crate::routing::routings;
+use crate::words::{keyword, number, sum};
+use net_core::CutLine;
+use plan_types::Plan;
+use snd_tokens::Cursor;
+use std::alloc::Global;
+
+const COST: &[u8] = b"cost";
+
+const BOUND: &[u8] = b"bound";
+
+const RAW: &[u8] = b"raw";
+
+const ROUTES: &[u8] = b"ROUTES";
+
+const MONEY_LIMIT: u128 = 1 << 126;
+
+const DEN_LIMIT: u128 = 1 << 72;
+
+/// Takes what a plan costs, its bound, and the raw value of its certificate.
+#[tactic(auto, unfolding(crate::specs::ReadingPlan::values_at))]
+fn values(text: &mut Cursor) -> Result<Values, ReportRefusal>
+    ensures { ReadsAs (λ v. v) result (left text.new) (values_at (left text.old)) }
+{
+    keyword(COST, text)?;
+    let cost = sum(MONEY_LIMIT, text)?;
+    keyword(BOUND, text)?;
+    let bound = sum(MONEY_LIMIT, text)?;
+    keyword(RAW, text)?;
+    let raw_num = number(0, MONEY_LIMIT, text)?;
+    let raw_den = number(1, DEN_LIMIT, text)?;
+    Ok(Values {
+        cost,
+        bound,
+        raw_num,
+        raw_den,
+    })
+}
+
+/// Takes a plan after its head.
+#[tactic(auto, unfolding(crate::specs::ReadingPlan::plan_at))]
+pub(crate) fn plan(
+    alloc: Global,
+    context: &Context,
+    pool: &[CutLine],
+    head: Head,
+    text: &mut Cursor,
+) -> Result<Plan, ReportRefusal>
+    requires { length pool.now < 2 ^ 32 }
+    ensures { ReadsAs (λ p. p) result (left text.new) (plan_at context.now.net.now.nodes context.now.net.now.links context.now.states.now.listed pool.now head (left text.old)) }
+{
+    let demands = plan_demands(alloc, context, text)?;
+    let values = values(text)?;
+    let counts = modules(alloc, context.net.links().items(), text)?;
+    let certificate = certificate(alloc, context, pool, text)?;
+    keyword(ROUTES, text)?;
+    let routings = routings(alloc, context, &demands, text)?;
+    let quality = quality(alloc, context, &demands, text)?;
+    Ok(Plan {
+        version: head.version,
+        position: head.position,
+        demands: demands.list,
+        counts,
+        cost: values.cost,
+        routings,
+        certificate,
+        raw_num: values.raw_num,
+        raw_den: values.raw_den,
+        bound: values.bound,
+        quality,
+    })
+}

@@ -1,0 +1,89 @@
+ghost use Rattle.std.specs.Prelude.{◌≡◌};
+ghost use Rattle.snd_tokens.specs.Lexemes.{left};
+ghost use Rattle.text_kit.specs.Answers.{ReadsAs};
+ghost use Rattle.report_reader.specs.ReadingJournal.{pool_at, pool_line_at};
+
+use crate::element::{Element, list};
+use crate::fault::{ReportKind, ReportRefusal};
+use crate::numbers::lengths;
+use crate::words::{closing, keyword, number, opening_within, small, this};
+use net_core::{CutLine, List, Network, StateId, States};
+use snd_tokens::Cursor;
+use std::alloc::Global;
+
+const STATE: &[u8] = b"state";
+
+const RIGHT: &[u8] = b"right";
+
+const MAX_LINES: usize = 4_096;
+
+const RIGHT_LIMIT: u128 = 1 << 84;
+
+/// Takes a line of the pool after these ones.
+#[tactic(auto, unfolding(crate::specs::ReadingJournal::pool_line_at))]
+fn pool_line(
+    alloc: Global,
+    net: &Network,
+    states: &States,
+    sofar: &[CutLine],
+    text: &mut Cursor,
+) -> Result<CutLine, ReportRefusal>
+    ensures { ReadsAs (λ l. l) result (left text.new) (pool_line_at net.now.links states.now.listed sofar.now (left text.old)) }
+{
+    opening_within(sofar.len() < MAX_LINES, text)?;
+    this(sofar.len() as u64, text)?;
+    keyword(STATE, text)?;
+    let state = small(0, u128::from(states.count()), text)?;
+    keyword(RIGHT, text)?;
+    let right = number(0, RIGHT_LIMIT, text)?;
+    let lengths = lengths(alloc, net.links().len(), text)?;
+    closing(text)?;
+    Ok(CutLine {
+        state: StateId(state),
+        lengths,
+        right,
+    })
+}
+
+/// Lines of the pool of a network and its states.
+#[derive(Clone, Copy)]
+struct LineList<'a> {
+    net: &'a Network,
+    states: &'a States,
+}
+
+impl<'a> Element for LineList<'a> {
+    ghost use Rattle.text_kit.specs.Reading.{no_fault};
+    ghost use Rattle.report_reader.specs.ReadingJournal.{pool_line_at};
+
+    type Item = CutLine;
+
+    ghost reading = { λ l. pool_line_at l.net.now.links l.states.now.listed };
+
+    ghost fault = { λ _. no_fault };
+
+    fn take(
+        &self,
+        alloc: Global,
+        sofar: &[CutLine],
+        text: &mut Cursor,
+    ) -> Result<CutLine, ReportRefusal> {
+        pool_line(alloc, self.net, self.states, sofar, text)
+    }
+
+    fn fault(&self, _all: &[CutLine]) -> Option<ReportKind> {
+        None
+    }
+}
+
+/// Takes the lines of the pool, up to the closing parenthesis.
+pub(crate) fn pool(
+    alloc: Global,
+    net: &Network,
+    states: &States,
+    text: &mut Cursor,
+) -> Result<List<CutLine>, ReportRefusal>
+    ensures { ReadsAs (λ l. l) result (left text.new) (pool_at net.now.links states.now.listed (left text.old)) }
+{
+    list(alloc, &LineList { net, states }, text)
+}

@@ -1,0 +1,115 @@
+ghost use Rattle.std.specs.Prelude.{◌≡◌, IfErr, IfOk};
+ghost use Rattle.plan_report.specs.Texts.{SpellsReport};
+ghost use Rattle.plan_types.specs.declared.report.Report.{Report as Rep};
+ghost use Rattle.snd_tokens.specs.Lexemes.{left};
+ghost use Rattle.text_kit.specs.Answers.{AnswersAs, ReadsAllAs, ReadsAs};
+ghost use Rattle.text_kit.specs.Files.{IsNotTooEarly};
+ghost use Rattle.report_reader.specs.ReadingReport.{report_at, report_of, section_at, sections_at};
+
+use crate::context::Context;
+use crate::fault::{ReportKind, ReportRefusal};
+use crate::filling::fill;
+use crate::journal::entries;
+use crate::notes::notes;
+use crate::outcome::outcomes;
+use crate::pool::pool;
+use net_core::{Network, States};
+use plan_types::Report;
+use snd_tokens::Cursor;
+use std::alloc::Global;
+use text_kit::Refusal;
+use text_kit::steps::{behind_header, end, expect, open};
+
+const HEADER: &[u8] = b"?planner report; version: 1";
+
+const NOTES: &[u8] = b"NOTES";
+
+const JOURNAL: &[u8] = b"JOURNAL";
+
+const POOL: &[u8] = b"POOL";
+
+const OUTCOMES: &[u8] = b"OUTCOMES";
+
+/// There is no memory for so many lines of the pool.
+const MAX_LINES: usize = u32::MAX as usize;
+
+/// Takes the word of a section and the parenthesis after it.
+#[tactic(auto, unfolding(crate::specs::ReadingReport::section_at))]
+fn section(wanted: &[u8], text: &mut Cursor) -> Result<(), ReportRefusal>
+    ensures { ReadsAs (λ _. tt) result (left text.new) (section_at wanted.now (left text.old)) }
+{
+    expect(ReportKind::Section, ReportKind::Ended, wanted, text)?;
+    open(ReportKind::Section, ReportKind::Ended, text)
+}
+
+/// Takes all sections.
+#[tactic(auto, unfolding(crate::specs::ReadingReport::sections_at))]
+fn sections(alloc: Global, context: &Context, text: &mut Cursor) -> Result<Report, ReportRefusal>
+    ensures { ReadsAs (λ r. r) result (left text.new) (sections_at context.now.net.now.nodes context.now.net.now.links context.now.states.now.listed (left text.old)) }
+{
+    section(NOTES, text)?;
+    let notes = notes(text)?;
+    section(JOURNAL, text)?;
+    let entries = entries(alloc, text)?;
+    section(POOL, text)?;
+    let pool = pool(alloc, context.net, context.states, text)?;
+    if pool.len() >= MAX_LINES {
+        return Err(Refusal::NoMemory);
+    }
+    section(OUTCOMES, text)?;
+    let outcomes = outcomes(alloc, context, pool.items(), text)?;
+    let entries = fill(alloc, pool.items(), entries.items())?;
+    Ok(Report {
+        notes,
+        entries,
+        pool,
+        outcomes,
+    })
+}
+
+/// Takes a whole report, after which nothing is left.
+fn report(alloc: Global, context: &Context, text: &mut Cursor) -> Result<Report, ReportRefusal>
+    ensures { ReadsAs (λ r. r) result (left text.new) (report_at context.now.net.now.nodes context.now.net.now.links context.now.states.now.listed (left text.old)) }
+{
+    let report = sections(alloc, context, text)?;
+    end(ReportKind::Section, text)?;
+    Ok(report)
+}
+
+/// The whole file.
+fn file(
+    alloc: Global,
+    net: &Network,
+    states: &States,
+    bytes: &[u8],
+) -> Result<Report, ReportRefusal>
+    ensures { ReadsAllAs (λ r. r) result (report_of net.now.nodes net.now.links states.now.listed bytes.now) }
+{
+    let mut text = behind_header(ReportKind::Header, bytes, HEADER)?;
+    let context = Context::new(alloc, net, states)?;
+    report(alloc, &context, &mut text)
+}
+
+/// The report that a file spells, of plans for this network and these states. It takes memory for
+/// what is read, and time in proportion to the bytes.
+///
+/// A name of a link, node, demand or state that isn't known there is refused as `unknown-name`, at
+/// its place.
+pub fn read_report(
+    alloc: Global,
+    net: &Network,
+    states: &States,
+    bytes: &[u8],
+) -> Result<Report, ReportRefusal>
+    // What is read is in form and spelled.
+    ensures found { IfOk result (λ r. SpellsReport net.now.nodes net.now.links states.now.listed bytes.now r) }
+    // What is in form and spelled is read, unless memory runs out.
+    ensures only { (r : Rep) → SpellsReport net.now.nodes net.now.links states.now.listed bytes.now r → AnswersAs (λ x. x) result r }
+    // What is read is what reading from left to right gives, and a fault is the first one that it
+    // meets.
+    ensures exact { ReadsAllAs (λ r. r) result (report_of net.now.nodes net.now.links states.now.listed bytes.now) }
+    // It doesn't stand too early: no bytes that agree past it are spelled right.
+    ensures not_early { IfErr result (IsNotTooEarly (SpellsReport net.now.nodes net.now.links states.now.listed) bytes.now) }
+{
+    file(alloc, net, states, bytes)
+}
