@@ -14,6 +14,3 @@ mod unit_cuts;
 pub use bounded::{Bounded, CertifiedCut};
 pub use on_board::plan_board;
 pub use plan::{FirstPlan, PlanAnswer, plan_instance};
-
-#[cfg(test)]
-mod tests;
