@@ -30,7 +30,7 @@ use Rattle.simplex_core.specs.Programs.{Solves}
 use Rattle.simplex_core.specs.declared.optimum.Optimum.{Optimum}
 use Rattle.route_law.specs.BasisFlows.{AreFlowsOf}
 use Rattle.route_law.specs.Routings.{IsLowestRouting, flow_times, over_times}
-use Rattle.route_law.specs.RoutingPrograms.{scaled_need, total_need, route_rows, route_bound, route_slack, IsCarrying, IsRouteColumn}
+use Rattle.route_law.specs.RoutingPrograms.{scaled_need, total_scaled_need, route_rows, route_bound, route_slack, IsCarrying, IsRouteColumn}
 use Rattle.route_law.proofs.Carrying.{duals_below, flows_carry}
 use Rattle.route_law.proofs.Lowest.{carried_lowest}
 use Rattle.route_law.proofs.Meeting.{all_gained, some_left}
@@ -108,7 +108,7 @@ module _ (g : Graph) (demands : List Demand) (caps : Caps) where
         }
 
     -- a best basis that leaves something of a demand is worth less than the needs
-    pub optimum_below : LeavesNeed best.basis best.values → dot (route_rows g demands) (num best.duals.nums) (route_bound g demands caps) <ℤ (best.duals.den *ℤ pos (total_need demands caps))
+    pub optimum_below : LeavesNeed best.basis best.values → dot (route_rows g demands) (num best.duals.nums) (route_bound g demands caps) <ℤ (best.duals.den *ℤ pos (total_scaled_need demands caps))
     optimum_below left =
         let at = named_at left.place (DemandSlack left.demand) left.at in
         duals_below g demands caps s.basis amounts best.den (num best.duals.nums) best.duals.den s.optimum

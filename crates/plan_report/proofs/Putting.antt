@@ -8,7 +8,7 @@ use Rattle.std.specs.List.{AllByRecursion}
 use Rattle.text_kit.specs.Items.{Item, Opening, Closing}
 use Rattle.text_kit.specs.Written.{IsWritable, written}
 use Rattle.text_kit.proofs.Written.{written_both}
-use Rattle.plan_report.specs.Parts.{enclosed}
+use Rattle.text_kit.specs.Edits.{enclosed}
 use Rattle.plan_report.specs.Items.{numbered_from}
 use Rattle.plan_report.specs.inner.Puts.{Puts}
 

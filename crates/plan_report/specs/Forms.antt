@@ -38,7 +38,7 @@ use Rattle.plan_types.specs.declared.report.Outcome.{Outcome}
 use Rattle.plan_types.specs.declared.report.Outcome.TheVariants.{Planned, Unsurvivable}
 use Rattle.plan_types.specs.declared.report.Report.{Report}
 use Rattle.text_kit.specs.Items.{AreBehind}
-use Rattle.plan_report.specs.Parts.{IsEditInForm}
+use Rattle.text_kit.specs.Edits.{IsEditInForm}
 
 -- ---- numbers, cuts and paths
 

@@ -34,7 +34,8 @@ use Rattle.plan_types.specs.declared.report.Outcome.{Outcome}
 use Rattle.plan_types.specs.declared.report.Outcome.TheVariants.{Planned, Unsurvivable}
 use Rattle.plan_types.specs.declared.report.Report.{Report}
 use Rattle.text_kit.specs.Items.{Item, Verbatim, Whole, Money}
-use Rattle.plan_report.specs.Parts.{demand_name, edit_items, enclosed, ends_items, link_name, node_name, section, state_name}
+use Rattle.text_kit.specs.Edits.{edit_items, enclosed, ends_items, section}
+use Rattle.plan_report.specs.Names.{demand_name, link_name, node_name, state_name}
 
 -- ---- numbers, cuts and paths
 

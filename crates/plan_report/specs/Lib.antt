@@ -1,4 +1,4 @@
-pub mod Parts
+pub mod Names
 pub mod Items
 pub mod Forms
 pub mod Texts

@@ -3,7 +3,7 @@ ghost use Rattle.net_core.specs.declared.states.Listed.{Listed};
 ghost use Rattle.text_kit.specs.Items.{Whole};
 ghost use Rattle.plan_report.specs.Forms.{IsCauseInForm, IsEvidenceInForm, IsKindInForm, IsMasterColumnInForm, IsMasterEvidenceInForm, IsRouteColumnInForm, IsRouteEvidenceInForm};
 ghost use Rattle.plan_report.specs.Items.{cause_items, evidence_items, master_column_items, numbers_items, route_column_items, wide_items};
-ghost use Rattle.plan_report.specs.Parts.{enclosed};
+ghost use Rattle.text_kit.specs.Edits.{enclosed};
 ghost use Rattle.plan_report.specs.inner.Puts.{Puts};
 
 use crate::lists::{put_capacities, put_lengths, put_path};

@@ -2,7 +2,7 @@ ghost use Rattle.std.specs.Prelude.{List, All, OnOk, flat_map};
 ghost use Rattle.net_core.specs.declared.plan.CutLine.{CutLine};
 ghost use Rattle.plan_report.specs.Forms.{IsEditedInForm, IsEntryInForm, IsReplyInForm};
 ghost use Rattle.plan_report.specs.Items.{entry_items, event_items, numbered_from, reply_items};
-ghost use Rattle.plan_report.specs.Parts.{IsEditInForm, edit_items, enclosed};
+ghost use Rattle.text_kit.specs.Edits.{IsEditInForm, edit_items, enclosed};
 ghost use Rattle.plan_report.specs.inner.Puts.{Puts};
 
 use crate::names::put_ends;

@@ -1,6 +1,7 @@
 ghost use Rattle.std.specs.Prelude.{◌<◌, ◌≤◌, ◌∷◌, [], length, OnOk};
 ghost use Rattle.text_kit.specs.Items.{Item, Verbatim};
-ghost use Rattle.plan_report.specs.Parts.{demand_name, ends_items, link_name, state_name};
+ghost use Rattle.text_kit.specs.Edits.{ends_items};
+ghost use Rattle.plan_report.specs.Names.{demand_name, link_name, state_name};
 ghost use Rattle.plan_report.specs.inner.Puts.{Puts};
 
 use crate::puts::{put_close, put_keyword, put_name, put_open};

@@ -2,7 +2,7 @@ ghost use Rattle.std.specs.Prelude.{◌≤◌, List, All, OnOk, flat_map, length
 ghost use Rattle.net_core.specs.declared.plan.CutLine.{CutLine};
 ghost use Rattle.plan_report.specs.Forms.{IsOutcomeInForm};
 ghost use Rattle.plan_report.specs.Items.{head_items, outcome_items, separation_items};
-ghost use Rattle.plan_report.specs.Parts.{enclosed};
+ghost use Rattle.text_kit.specs.Edits.{enclosed};
 ghost use Rattle.plan_report.specs.inner.Puts.{Puts};
 
 use crate::names::put_state_name;

@@ -2,7 +2,7 @@ ghost use Rattle.std.specs.Prelude.{◌≡◌, ◌<◌, ◌^◌, ◌∷◌, ◌+
 ghost use Rattle.text_kit.specs.Items.{Whole};
 ghost use Rattle.plan_report.specs.Forms.{AreRoutingsInForm, IsPlanInForm, IsQualityInForm};
 ghost use Rattle.plan_report.specs.Items.{costs_items, demand_items, modules_items, numbers_items, plan_items, quality_items, routings_items};
-ghost use Rattle.plan_report.specs.Parts.{enclosed};
+ghost use Rattle.text_kit.specs.Edits.{enclosed};
 ghost use Rattle.plan_report.specs.inner.Puts.{Puts};
 ghost use Rattle.plan_report.specs.inner.Writable.{IsWritableDemand};
 

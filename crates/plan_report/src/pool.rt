@@ -1,6 +1,6 @@
 ghost use Rattle.std.specs.Prelude.{◌<◌, ◌^◌, All, OnOk, flat_map};
 ghost use Rattle.plan_report.specs.Items.{numbered_from, pool_line_items};
-ghost use Rattle.plan_report.specs.Parts.{enclosed};
+ghost use Rattle.text_kit.specs.Edits.{enclosed};
 ghost use Rattle.plan_report.specs.inner.Puts.{Puts};
 
 use crate::lists::put_lengths;

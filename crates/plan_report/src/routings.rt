@@ -1,7 +1,7 @@
 ghost use Rattle.std.specs.Prelude.{◌≤◌, All, OnOk, flat_map, length};
 ghost use Rattle.plan_report.specs.Forms.{AreRoutingsInForm, IsFlowInForm, IsRoutingInForm};
 ghost use Rattle.plan_report.specs.Items.{flow_items, routing_items, routings_items};
-ghost use Rattle.plan_report.specs.Parts.{enclosed};
+ghost use Rattle.text_kit.specs.Edits.{enclosed};
 ghost use Rattle.plan_report.specs.inner.Puts.{Puts};
 
 use crate::lists::put_path;

@@ -1,6 +1,6 @@
 ghost use Rattle.std.specs.Prelude.{◌≡◌, ◌++◌, ◌∷◌, ◌≤◌, ◌<◌, ◌^◌, [], All, IfOk, OnOk, length};
 ghost use Rattle.plan_report.specs.Forms.{IsEntryInForm, IsOutcomeInForm, IsReplyInForm};
-ghost use Rattle.plan_report.specs.Parts.{IsEditInForm};
+ghost use Rattle.text_kit.specs.Edits.{IsEditInForm};
 ghost use Rattle.plan_report.specs.inner.Examples.{idle_cut, idle_plan, idle_report};
 
 use crate::certificates::put_certificate_line;

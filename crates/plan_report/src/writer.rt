@@ -2,7 +2,7 @@ ghost use Rattle.std.specs.Prelude.{◌≡◌, ◌≤◌, ◌++◌, ◌∷◌, [
 ghost use Rattle.net_core.specs.Names.{is_plain};
 ghost use Rattle.plan_report.specs.Forms.{IsReportInForm};
 ghost use Rattle.plan_report.specs.Items.{note_items, notes_items, report_items};
-ghost use Rattle.plan_report.specs.Parts.{section};
+ghost use Rattle.text_kit.specs.Edits.{section};
 ghost use Rattle.plan_report.specs.Texts.{SpellsReport, report_header, report_text};
 ghost use Rattle.plan_report.specs.inner.Puts.{Puts};
 

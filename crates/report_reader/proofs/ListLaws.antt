@@ -9,7 +9,7 @@ use Rattle.text_kit.proofs.Behind.{all_behind, behind_all, behind_as}
 use Rattle.text_kit.proofs.Lawful.{behind_few, few_behind, lawful_as, lawful_list}
 use Rattle.text_kit.proofs.Spelled.{Lawful, SpelledBehind, law_spelled, spelled_as, spelled_law, spelled_list}
 use Rattle.plan_report.specs.Items.{numbered_from}
-use Rattle.plan_report.specs.Parts.{enclosed}
+use Rattle.text_kit.specs.Edits.{enclosed}
 use Rattle.report_reader.specs.declared.fault.ReportKind.{ReportKind}
 use Rattle.report_reader.specs.declared.fault.ReportKind.TheVariants.{Limit}
 use Rattle.report_reader.specs.ReportWords.{has_room, opening_at}

@@ -14,7 +14,7 @@ use Rattle.text_kit.proofs.Lawful.{lawful_list, lawful_word}
 use Rattle.text_kit.proofs.Spelled.{Lawful}
 use Rattle.plan_terms.specs.Capacities.{AreCounts, AreWithinLimits, capacities, modules_capacity}
 use Rattle.plan_report.specs.Items.{modules_items}
-use Rattle.plan_report.specs.Parts.{section}
+use Rattle.text_kit.specs.Edits.{section}
 use Rattle.report_reader.specs.declared.fault.ReportKind.{ReportKind}
 use Rattle.report_reader.specs.declared.fault.ReportKind.TheVariants.{Token, Ended, Limit}
 use Rattle.report_reader.specs.ReportWords.{has_room, unknown_name, whole_within}

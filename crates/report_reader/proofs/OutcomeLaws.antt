@@ -12,7 +12,7 @@ use Rattle.text_kit.proofs.Beginnings.{AnyText}
 use Rattle.text_kit.proofs.Spelled.{Lawful}
 use Rattle.plan_report.specs.Forms.{IsHeadInForm, IsOutcomeInForm}
 use Rattle.plan_report.specs.Items.{head_items, outcome_items, plan_items}
-use Rattle.plan_report.specs.Parts.{state_name}
+use Rattle.plan_report.specs.Names.{state_name}
 use Rattle.report_reader.specs.declared.fault.ReportKind.TheVariants.{Token}
 use Rattle.report_reader.specs.declared.parts.Head.{Head}
 use Rattle.report_reader.specs.ReportWords.{closing_at, has_room}

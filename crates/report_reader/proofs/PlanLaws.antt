@@ -22,7 +22,8 @@ use Rattle.text_kit.proofs.Lawful.{lawful_list}
 use Rattle.text_kit.proofs.Spelled.{Lawful}
 use Rattle.plan_report.specs.Forms.{AreLinkNumbers, AreRoutingsInForm, IsCertificateLineInForm, IsCutInForm, IsDemandInForm, IsOfPool, IsPlanInForm, IsQualityInForm, line_lengths, line_state}
 use Rattle.plan_report.specs.Items.{certificate_items, certificate_line_items, demand_items, modules_items, plan_items, quality_items, routings_items, spot_items}
-use Rattle.plan_report.specs.Parts.{ends_items, node_name, section}
+use Rattle.text_kit.specs.Edits.{ends_items, section}
+use Rattle.plan_report.specs.Names.{node_name}
 use Rattle.report_reader.specs.declared.fault.ReportKind.TheVariants.{Token}
 use Rattle.report_reader.specs.declared.parts.Head.{Head}
 use Rattle.report_reader.specs.declared.parts.Placed.{Placed}

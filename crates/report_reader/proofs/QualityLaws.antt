@@ -23,7 +23,7 @@ use Rattle.text_kit.proofs.Beginnings.{AnyText}
 use Rattle.text_kit.proofs.Spelled.{Lawful}
 use Rattle.plan_report.specs.Forms.{AreCapsInForm, AreRoutingsInForm, IsCauseInForm, IsEvidenceInForm, IsKindInForm, IsMasterColumnInForm, IsQualityInForm, IsRouteColumnInForm, IsShareInForm}
 use Rattle.plan_report.specs.Items.{cause_items, evidence_items, master_column_items, numbers_items, quality_items, route_column_items, routings_items, wide_items}
-use Rattle.plan_report.specs.Parts.{enclosed}
+use Rattle.text_kit.specs.Edits.{enclosed}
 use Rattle.report_reader.specs.declared.fault.ReportKind.TheVariants.{Token}
 use Rattle.report_reader.specs.ReportWords.{has_room}
 use Rattle.report_reader.specs.ReadingQuality.{evidence_branches, loose_branches, master_column_branches, master_wide_branches, quality_branches, route_column_branches, route_wide_branches, basis_at, caps_at, carry_at, evidence_at, fractional_at, left_at, loose_at, master_at, master_column_at, master_wide_at, metric_at, price_at, quality_at, route_at, route_column_at, route_wide_at, slack_at, tight_at, too_wide_at, wide_entry_at, wide_length_at, wide_number_at, wide_row_at, wide_sum_at}

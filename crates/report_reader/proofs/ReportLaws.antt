@@ -25,7 +25,7 @@ use Rattle.text_kit.proofs.Lawful.{lawful_key, lawful_open, lawful_whole}
 use Rattle.text_kit.proofs.Spelled.{Lawful, Spelled, spelled_law}
 use Rattle.plan_report.specs.Forms.{IsEntryInForm, IsReportInForm, line_lengths}
 use Rattle.plan_report.specs.Items.{entry_items, notes_items, numbered_from, outcome_items, pool_line_items, report_items}
-use Rattle.plan_report.specs.Parts.{section}
+use Rattle.text_kit.specs.Edits.{section}
 use Rattle.plan_report.specs.Texts.{SpellsReport, report_header}
 use Rattle.report_reader.specs.declared.fault.ReportKind.{ReportKind}
 use Rattle.report_reader.specs.declared.fault.ReportKind.TheVariants.{Header, Section, Ended}

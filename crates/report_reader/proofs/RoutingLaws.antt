@@ -15,7 +15,8 @@ use Rattle.text_kit.proofs.Lawful.{lawful_as, lawful_some}
 use Rattle.text_kit.proofs.Spelled.{Lawful}
 use Rattle.plan_report.specs.Forms.{AreRoutingsInForm, IsFlowInForm, IsPathInForm, IsRoutingInForm}
 use Rattle.plan_report.specs.Items.{flow_items, numbers_items, path_items, routing_items, routings_items}
-use Rattle.plan_report.specs.Parts.{enclosed, link_name, state_name}
+use Rattle.text_kit.specs.Edits.{enclosed}
+use Rattle.plan_report.specs.Names.{link_name, state_name}
 use Rattle.report_reader.specs.declared.fault.ReportKind.TheVariants.{Token, Limit}
 use Rattle.report_reader.specs.ReportWords.{has_room, link_at}
 use Rattle.report_reader.specs.ReportChoices.{next_number_at, numbers_at}

@@ -29,7 +29,7 @@ use Rattle.text_kit.proofs.NameLaws.{lawful_any_name}
 use Rattle.text_kit.proofs.Online.{ok_parts}
 use Rattle.text_kit.proofs.Outcomes.{if_ok, ok_is, unless_ok}
 use Rattle.text_kit.proofs.Spelled.{Lawful}
-use Rattle.plan_report.specs.Parts.{demand_name, link_name, node_name}
+use Rattle.plan_report.specs.Names.{demand_name, link_name, node_name}
 use Rattle.report_reader.specs.declared.fault.ReportKind.{ReportKind}
 use Rattle.report_reader.specs.declared.fault.ReportKind.TheVariants.{Token, Ended, Number, LimitName, DoubleName, Limit}
 use Rattle.report_reader.specs.ReportWords.{amount_at, as_link, as_node, below, closing_at, demand_at, demand_of, has_room, keyword_at, keyword_within, link_at, link_of, money_at, money_below, name_at, new_demand, node_at, node_of, number_at, opening_at, opening_within, passed, place_of, this_name, this_name_at, this_number, this_number_at, unknown_name, where_room, whole_within, within}

@@ -11,7 +11,7 @@ use Rattle.plan_types.specs.declared.report.Report.{Report}
 use Rattle.text_kit.specs.Files.{file_at}
 use Rattle.text_kit.specs.Reading.{Read, Reading, ◌>>=◌, expected, give, list_at, no_fault, open_at, Parenthesis, whole_at, word_at}
 use Rattle.plan_report.specs.Forms.{line_lengths, line_state}
-use Rattle.plan_report.specs.Parts.{state_name}
+use Rattle.plan_report.specs.Names.{state_name}
 use Rattle.plan_report.specs.Texts.{report_header}
 use Rattle.report_reader.specs.declared.fault.ReportKind.{ReportKind}
 use Rattle.report_reader.specs.declared.fault.ReportKind.TheVariants.{Header, Section, Ended}

@@ -3,7 +3,7 @@ ghost use Rattle.snd_tokens.specs.Lexemes.{left};
 ghost use Rattle.text_kit.specs.Answers.{ReadsAs};
 ghost use Rattle.report_reader.specs.ReadingRoutings.{flow_at, path_at, routing_at, routings_at};
 ghost use Rattle.text_kit.specs.Reading.{list_at, no_fault, Parenthesis};
-ghost use Rattle.plan_report.specs.Parts.{state_name};
+ghost use Rattle.plan_report.specs.Names.{state_name};
 ghost use Rattle.report_reader.specs.ReportWords.{this_name_at};
 
 use crate::context::Context;

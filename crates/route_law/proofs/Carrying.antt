@@ -26,7 +26,7 @@ use Rattle.simplex_law.proofs.Arithmetic.{le_times, lt_cancel, moved_out, distri
 use Rattle.simplex_law.proofs.Sums.{sum-same, sum-le}
 use Rattle.route_law.specs.BasisFlows.{is_of_demand, runs_over, AreFlowsOf}
 use Rattle.route_law.specs.Laws.{BasisFlowsCarry}
-use Rattle.route_law.specs.RoutingPrograms.{scaled_need, total_need, IsCarrying, route_rows, route_bound, route_slack, IsRouteColumn}
+use Rattle.route_law.specs.RoutingPrograms.{scaled_need, total_scaled_need, IsCarrying, route_rows, route_bound, route_slack, IsRouteColumn}
 use Rattle.route_law.proofs.Rows.{beside_first, beside_after, beside_each, below-both, sum-pos}
 
 -- numbers that are nowhere above others, and sum to no less, are the others
@@ -116,7 +116,7 @@ module _ (g : Graph) (demands : List Demand) where
 
     -- where the value isn't below the sum of the needs, the flows carry the demands
     pub flows_carry : (routing : Routing) → routing.den ≡ den → AreFlowsOf m basis amounts routing.flows → All (IsFlow (Joins g) demands) routing.flows
-        → pos (den * total_need demands caps) ≤ℤ int_sum m (λ j. pos (amounts j) *ℤ (basis j).gain)
+        → pos (den * total_scaled_need demands caps) ≤ℤ int_sum m (λ j. pos (amounts j) *ℤ (basis j).gain)
         → Carries (Joins g) demands caps.scale caps.nums routing
     flows_carry routing same of flows value = record {
       den = subst (λ d. 0 < d) (sym same) (some den o.positive);
@@ -165,10 +165,10 @@ module _ (g : Graph) (demands : List Demand) where
             omega (arith, ints, low, of.load_is e, ap (λ x. pos den *ℤ x) bound ∙ pos-*ℤ-pos den (slice_index caps.nums e), ap (λ x. slice_index caps.nums e * x) same)
 
     -- where it is below, so is the value of the duals
-    pub duals_below : int_sum m (λ j. pos (amounts j) *ℤ (basis j).gain) <ℤ pos (den * total_need demands caps)
-        → dot m duals (route_bound g demands caps) <ℤ (duals_den *ℤ pos (total_need demands caps))
+    pub duals_below : int_sum m (λ j. pos (amounts j) *ℤ (basis j).gain) <ℤ pos (den * total_scaled_need demands caps)
+        → dot m duals (route_bound g demands caps) <ℤ (duals_den *ℤ pos (total_scaled_need demands caps))
     duals_below below =
-        let total = total_need demands caps in
+        let total = total_scaled_need demands caps in
         let gained = int_sum m (λ j. pos (amounts j) *ℤ (basis j).gain) in
         let up : (duals_den *ℤ gained) <ℤ (duals_den *ℤ pos (den * total)) = lt_times_z duals_den gained (pos (den * total)) o.best.objective.0 below in
         let other : duals_den *ℤ pos (den * total) ≡ pos den *ℤ (duals_den *ℤ pos total) = ap (λ x. duals_den *ℤ x) (sym (pos-*ℤ-pos den total)) ∙ moved_out duals_den (pos den) (pos total) in

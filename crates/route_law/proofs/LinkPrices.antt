@@ -24,7 +24,7 @@ use Rattle.simplex_law.proofs.Arithmetic.{le_times, distribute_left}
 use Rattle.simplex_law.proofs.Sums.{sum-same, sum-le, sum-plus, sum-times}
 use Rattle.route_law.specs.PricedLengths.{AreLinkPrices}
 use Rattle.route_law.specs.Routings.{AreJoined}
-use Rattle.route_law.specs.RoutingPrograms.{scaled_need, total_need, path_entry, IsCarrying, route_rows, route_bound, IsRouteColumn}
+use Rattle.route_law.specs.RoutingPrograms.{scaled_need, total_scaled_need, path_entry, IsCarrying, route_rows, route_bound, IsRouteColumn}
 use Rattle.route_law.proofs.PathPrices.{path_price}
 use Rattle.route_law.proofs.Rows.{beside_first, beside_after, sum-split, sum-pos}
 
@@ -70,7 +70,7 @@ module _ (g : Graph) (demands : List Demand) (caps : Caps) (lengths : List ℕ) 
 
   -- where the value is below the needs, the capacities violate the cut of the prices
   pub prices_violate : (right : ℕ) → IsRight (Joins g) lengths demands right
-      → dot (route_rows g demands) duals (route_bound g demands caps) <ℤ (den *ℤ pos (total_need demands caps))
+      → dot (route_rows g demands) duals (route_bound g demands caps) <ℤ (den *ℤ pos (total_scaled_need demands caps))
       → along lengths caps.nums < right * caps.scale
   prices_violate right is below =
       let n = length g.links in

@@ -19,7 +19,7 @@ use Rattle.simplex_law.specs.Optima.{IsOptimum}
 use Rattle.simplex_law.proofs.Arithmetic.{distribute_left}
 use Rattle.simplex_law.proofs.Sums.{sum-plus, sum-times, sum-same, sum-none, sum-swapped, sum-one, unit-same, unit-other}
 use Rattle.route_law.specs.Laws.{basis_gain}
-use Rattle.route_law.specs.RoutingPrograms.{scaled_need, total_need, IsCarrying, route_rows, route_bound, route_slack, IsRouteColumn}
+use Rattle.route_law.specs.RoutingPrograms.{scaled_need, total_scaled_need, IsCarrying, route_rows, route_bound, route_slack, IsRouteColumn}
 use Rattle.route_law.proofs.Rows.{beside_first, beside_second, beside_after, sum-pos}
 
 -- 1 for the slack of a demand
@@ -73,13 +73,13 @@ module _ (g : Graph) (demands : List Demand) where
     m = route_rows g demands
 
     -- what is gained and what is left are the needs
-    value_left : basis_gain (route_rows g demands) basis amounts +ℤ pos (sum_below (route_rows g demands) (λ j. amounts j * left_of (basis j).name)) ≡ pos (den * total_need demands caps)
+    value_left : basis_gain (route_rows g demands) basis amounts +ℤ pos (sum_below (route_rows g demands) (λ j. amounts j * left_of (basis j).name)) ≡ pos (den * total_scaled_need demands caps)
     value_left =
         let q = length demands in
         let n = length g.links in
-        let filled : int_sum q (λ k. int_sum m (λ j. pos (amounts j) *ℤ (basis j).entry (n + k))) ≡ pos (den * total_need demands caps) =
+        let filled : int_sum q (λ k. int_sum m (λ j. pos (amounts j) *ℤ (basis j).entry (n + k))) ≡ pos (den * total_scaled_need demands caps) =
         sum-same q _ (λ k. pos den *ℤ pos (scaled_need demands caps k)) (λ k l. o.filled (n + k) (omega (arith, l)) ∙ ap (λ x. pos den *ℤ x) (beside_after n (λ e. pos (slice_index caps.nums e)) (λ i. pos (scaled_need demands caps i)) k))
-        ∙ (sum-times q (pos den) (λ k. pos (scaled_need demands caps k)) ∙ (ap (λ x. pos den *ℤ x) (sum-pos q (scaled_need demands caps)) ∙ pos-*ℤ-pos den (total_need demands caps))) in
+        ∙ (sum-times q (pos den) (λ k. pos (scaled_need demands caps k)) ∙ (ap (λ x. pos den *ℤ x) (sum-pos q (scaled_need demands caps)) ∙ pos-*ℤ-pos den (total_scaled_need demands caps))) in
         let columns : int_sum q (λ k. int_sum m (λ j. pos (amounts j) *ℤ (basis j).entry (n + k))) ≡ int_sum m (λ j. (pos (amounts j) *ℤ (basis j).gain) +ℤ pos (amounts j * left_of (basis j).name)) =
         sum-swapped q m (λ k j. pos (amounts j) *ℤ (basis j).entry (n + k))
         ∙ sum-same m _ _ (λ j l. sum-times q (pos (amounts j)) (λ k. (basis j).entry (n + k))
@@ -91,7 +91,7 @@ module _ (g : Graph) (demands : List Demand) where
         sym parts ∙ (sym columns ∙ filled)
 
     -- where nothing is left of any demand, all needs are met
-    pub all_gained : ((j k : ℕ) → j < m → (basis j).name ≡ DemandSlack k → amounts j ≡ 0) → pos (den * total_need demands caps) ≤ℤ basis_gain (route_rows g demands) basis amounts
+    pub all_gained : ((j k : ℕ) → j < m → (basis j).name ≡ DemandSlack k → amounts j ≡ 0) → pos (den * total_scaled_need demands caps) ≤ℤ basis_gain (route_rows g demands) basis amounts
     all_gained none =
         let nothing : sum_below m (λ j. amounts j * left_of (basis j).name) ≡ 0 = below-same m _ (λ j. 0) (λ j l. nil (basis j).name (amounts j) (λ k e. none j k l e)) ∙ below-none m in
         omega (arith, ints, value_left, nothing)
@@ -102,7 +102,7 @@ module _ (g : Graph) (demands : List Demand) where
         nil (Carry k path) a h = omega arith
 
     -- where something is left of a demand, they aren't
-    pub some_left : (j k : ℕ) → j < m → (basis j).name ≡ DemandSlack k → 0 < amounts j → basis_gain (route_rows g demands) basis amounts <ℤ pos (den * total_need demands caps)
+    pub some_left : (j k : ℕ) → j < m → (basis j).name ≡ DemandSlack k → 0 < amounts j → basis_gain (route_rows g demands) basis amounts <ℤ pos (den * total_scaled_need demands caps)
     some_left j k l named some =
         let term = below_term m (λ i. amounts i * left_of (basis i).name) j l in
         let one : amounts j * left_of (basis j).name ≡ amounts j = ap (λ name. amounts j * left_of name) named ∙ omega arith in

@@ -20,7 +20,7 @@ use Rattle.simplex_law.specs.Bases.{IsBest}
 use Rattle.simplex_law.proofs.Arithmetic.{le_times}
 use Rattle.simplex_law.proofs.Sums.{sum-le, sum-none, sum-times}
 use Rattle.route_law.specs.Routings.{AreJoined}
-use Rattle.route_law.specs.RoutingPrograms.{scaled_need, total_need, path_entry, IsCarrying, route_rows, route_bound, IsRouteColumn}
+use Rattle.route_law.specs.RoutingPrograms.{scaled_need, total_scaled_need, path_entry, IsCarrying, route_rows, route_bound, IsRouteColumn}
 use Rattle.route_law.proofs.PathPrices.{path_price}
 use Rattle.route_law.proofs.Rows.{beside_first, beside_after, sum-split, sum-pos}
 
@@ -70,14 +70,14 @@ module _ (g : Graph) (demands : List Demand) (caps : Caps) (basis : ℕ → Colu
           (λ some. much (duals (length g.links + k)) (scaled_need demands caps k) (full k (get_or demands k none_demand) at (omega (arith, some))))
           (cases_eq (get_or demands k none_demand).need 0)
 
-  pub some_price : dot (route_rows g demands) duals (route_bound g demands caps) <ℤ (den *ℤ pos (total_need demands caps)) → ⊥
+  pub some_price : dot (route_rows g demands) duals (route_bound g demands caps) <ℤ (den *ℤ pos (total_scaled_need demands caps)) → ⊥
   some_price below =
       let n = length g.links in
       let q = length demands in
       let links : pos 0 ≤ℤ int_sum n (λ e. duals e *ℤ route_bound g demands caps e) =
       subst (λ x. x ≤ℤ int_sum n (λ e. duals e *ℤ route_bound g demands caps e)) (sum-none n)
       (sum-le n (λ e. pos 0) (λ e. duals e *ℤ route_bound g demands caps e) (λ e l. at_least (duals e) (route_bound g demands caps e) (factor * slice_index lengths e) (slice_index caps.nums e) (same e l) (beside_first n (λ i. pos (slice_index caps.nums i)) (λ i. pos (scaled_need demands caps i)) e l))) in
-      let needs : (den *ℤ pos (total_need demands caps)) ≤ℤ int_sum q (λ k. duals (n + k) *ℤ route_bound g demands caps (n + k)) =
+      let needs : (den *ℤ pos (total_scaled_need demands caps)) ≤ℤ int_sum q (λ k. duals (n + k) *ℤ route_bound g demands caps (n + k)) =
       subst (λ x. x ≤ℤ int_sum q (λ k. duals (n + k) *ℤ route_bound g demands caps (n + k))) (sum-times q den (λ k. pos (scaled_need demands caps k)) ∙ ap (λ x. den *ℤ x) (sum-pos q (scaled_need demands caps)))
       (sum-le q (λ k. den *ℤ pos (scaled_need demands caps k)) (λ k. duals (n + k) *ℤ route_bound g demands caps (n + k))
       (λ k l. subst (λ x. (den *ℤ pos (scaled_need demands caps k)) ≤ℤ (duals (n + k) *ℤ x)) (sym (beside_after n (λ i. pos (slice_index caps.nums i)) (λ i. pos (scaled_need demands caps i)) k)) (priced k l))) in

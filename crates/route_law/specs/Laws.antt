@@ -16,7 +16,7 @@ use Rattle.simplex_law.specs.Optima.{IsOptimum}
 use Rattle.route_law.specs.BasisFlows.{AreFlowsOf}
 use Rattle.route_law.specs.PricedLengths.{ArePricedLengths}
 use Rattle.route_law.specs.Routings.{AreJoined}
-use Rattle.route_law.specs.RoutingPrograms.{total_need, route_rows, route_bound, IsRouteColumn}
+use Rattle.route_law.specs.RoutingPrograms.{total_scaled_need, route_rows, route_bound, IsRouteColumn}
 
 -- what the amounts of a basis gain
 abbrev pub basis_gain : ℕ → (ℕ → ColumnOf RouteColumn) → (ℕ → ℕ) → ℤ
@@ -29,7 +29,7 @@ BasisFlowsCarry = (g : Graph) (demands : List Demand) (caps : Caps) (basis : ℕ
     → routing.den ≡ den
     → AreFlowsOf (route_rows g demands) basis amounts routing.flows
     → All (IsFlow (Joins g) demands) routing.flows
-    → pos (den * total_need demands caps) ≤ℤ basis_gain (route_rows g demands) basis amounts
+    → pos (den * total_scaled_need demands caps) ≤ℤ basis_gain (route_rows g demands) basis amounts
     → Carries (Joins g) demands caps.scale caps.nums routing
 
 -- where the value of a best basis is below what the demands need, the capacities violate the cut of what the state keeps of its link prices
@@ -37,7 +37,7 @@ abbrev pub LinkPricesAreViolated : Type 0
 LinkPricesAreViolated = (g : Graph) (demands : List Demand) (caps : Caps) (lengths : List ℕ) (cut : CutLine)
     → AreJoined g demands
     → (p : ArePricedLengths g demands caps lengths)
-    → dot (route_rows g demands) p.duals (route_bound g demands caps) <ℤ (p.den *ℤ pos (total_need demands caps))
+    → dot (route_rows g demands) p.duals (route_bound g demands caps) <ℤ (p.den *ℤ pos (total_scaled_need demands caps))
     → Keeps g lengths cut.lengths
     → IsRight (Joins g) cut.lengths demands cut.right
     → Violates caps cut

@@ -11,7 +11,7 @@ use Rattle.simplex_law.specs.Programs.{ColumnOf}
 use Rattle.simplex_law.specs.Bases.{IsBest}
 use Rattle.simplex_law.specs.Evidence.{HoldsKind, IsReachedEvidence}
 use Rattle.route_law.specs.PricedLengths.{AreLinkPrices}
-use Rattle.route_law.specs.RoutingPrograms.{total_need, route_rows, route_bound, route_slack, IsRouteColumn}
+use Rattle.route_law.specs.RoutingPrograms.{total_scaled_need, route_rows, route_bound, route_slack, IsRouteColumn}
 
 module _ (g : Graph) (demands : List Demand) (caps : Caps) where
   -- no column gains, the value is below what the demands need, and the price of link e is 2^32 or more as a whole number
@@ -19,7 +19,7 @@ module _ (g : Graph) (demands : List Demand) (caps : Caps) where
     pub duals : ℕ → ℤ
     pub den : ℤ
     pub best : IsBest (route_rows g demands) (route_bound g demands caps) (IsRouteColumn g demands) basis duals den
-    pub below : dot (route_rows g demands) duals (route_bound g demands caps) <ℤ (den *ℤ pos (total_need demands caps))
+    pub below : dot (route_rows g demands) duals (route_bound g demands caps) <ℤ (den *ℤ pos (total_scaled_need demands caps))
     pub lengths : List ℕ
     pub prices : AreLinkPrices (length g.links) duals lengths
     pub wide : 2 ^ 32 ≤ slice_index lengths e

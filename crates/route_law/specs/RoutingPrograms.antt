@@ -21,8 +21,8 @@ abbrev pub scaled_need : List Demand → Caps → ℕ → ℕ
 scaled_need demands caps k = slice_index (map (λ d. d.need) demands) k * caps.scale
 
 -- what all demands need together
-abbrev pub total_need : List Demand → Caps → ℕ
-total_need demands caps = sum_below (length demands) (scaled_need demands caps)
+abbrev pub total_scaled_need : List Demand → Caps → ℕ
+total_scaled_need demands caps = sum_below (length demands) (scaled_need demands caps)
 
 -- the entries of a path of demand k: 1 for each of its links, and 1 for the demand
 abbrev pub path_entry : Graph → ℕ → List LinkId → ℕ → ℤ

@@ -33,7 +33,7 @@ use Rattle.plan_types.specs.declared.report.Outcome.TheVariants.{Planned, Unsurv
 use Rattle.plan_types.specs.declared.report.Report.{Report}
 use Rattle.text_kit.specs.Items.{AreBehind}
 use Rattle.plan_report.specs.Forms.{IsCauseInForm, IsDemandInForm, IsEntryInForm, IsEvidenceInForm, IsKindInForm, IsMasterColumnInForm, IsOfPool, IsOutcomeInForm, IsPlanInForm, IsQualityInForm, IsReplyInForm, IsReportInForm, IsRouteColumnInForm, IsSpotInForm}
-use Rattle.plan_report.specs.Parts.{IsEditInForm}
+use Rattle.text_kit.specs.Edits.{IsEditInForm}
 
 -- ---- lists
 

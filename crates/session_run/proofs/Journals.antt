@@ -16,9 +16,8 @@ use Rattle.net_core.specs.Demands.{AreDemands}
 use Rattle.plan_terms.specs.Certificates.{IsCut}
 use Rattle.plan_terms.specs.Edits.{edit_need, edit_reply, version_after}
 use Rattle.plan_report.specs.Forms.{HasPoolLine, IsCutInForm, IsEntryInForm, IsReplyInForm}
-use Rattle.plan_report.specs.Parts as report
 use Rattle.cut_pool.specs.Histories.{Dated, IsLegalHistory, cut_of_line, cuts_of, demands_left, left_by, left_by_entry, version_left}
-use Rattle.session_script.specs.Scripts.{IsEditInForm}
+use Rattle.text_kit.specs.Edits.{IsEditInForm}
 use Rattle.planner.proofs.BoardPlans.{reply_next, version_few}
 use Rattle.planner.proofs.Taking.{cuts_both, get_behind}
 use Rattle.session_run.specs.inner.Ranges.{HasShortLengths}
@@ -26,11 +25,6 @@ use Rattle.session_run.specs.inner.Running.{IsEntryOfCaller}
 use Rattle.session_run.proofs.Replies.{HasLowTotal, IsLow, reply_low}
 
 -- ---- edits
-
-edit_form : (edit : Edit) → IsEditInForm edit → report.IsEditInForm edit
-edit_form (Set name need) form = form
-edit_form (Add name from to need) form = form
-edit_form (Drop name) form = form
 
 need_low : (edit : Edit) → IsEditInForm edit → edit_need edit < 2 ^ 40
 need_low (Set name need) form = form.1
@@ -111,7 +105,7 @@ module _ (p : Case) (es : List Entry) (lines : List CutLine) (callers : All IsEn
   entry_at n (Edited caller edit reply) at of = record {
     some = of.0;
     most = of.1;
-    asked = edit_form edit of.2;
+    asked = of.2;
     answered = reply_at n caller edit reply at of.2;
   }
   entry_at n (Pooled index state lengths) at of =

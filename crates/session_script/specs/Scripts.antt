@@ -1,9 +1,8 @@
 -- the grammar of a script: commands one after another, each of a caller
-use Rattle.std.specs.Prelude.{ℕ, ◌≤◌, ◌<◌, ◌^◌, Bool, true, false, List, [], ◌∷◌, length, All, flat_map, count_by, codes}
-use Rattle.net_core.specs.declared.journal.Edit.{Edit}
-use Rattle.net_core.specs.declared.journal.Edit.TheVariants as edits
+use Rattle.std.specs.Prelude.{ℕ, ◌≤◌, Bool, true, false, List, [], ◌∷◌, length, All, flat_map, count_by, codes}
+use Rattle.text_kit.specs.Edits.{IsEditInForm, edit_items}
 use Rattle.text_kit.specs.Files.{SpellsAs}
-use Rattle.text_kit.specs.Items.{Item, Verbatim, Whole, Money, Opening, Closing}
+use Rattle.text_kit.specs.Items.{Item, Verbatim, Whole}
 use Rattle.session_script.specs.declared.script.Act.{Act}
 use Rattle.session_script.specs.declared.script.Act.TheVariants.{Change, Plan}
 use Rattle.session_script.specs.declared.script.Command.{Command}
@@ -21,12 +20,6 @@ asks_plan Plan = true
 abbrev pub is_plan : Command → Bool
 is_plan c = asks_plan c.act
 
--- an edit: its word, its name, the two nodes of a new demand between parentheses, and its need
-abbrev pub edit_items : Edit → List Item
-edit_items (edits.Set name need) = Verbatim (codes "set") ∷ Verbatim name ∷ Money need ∷ []
-edit_items (edits.Add name from to need) = Verbatim (codes "add") ∷ Verbatim name ∷ Opening ∷ Verbatim from ∷ Verbatim to ∷ Closing ∷ Money need ∷ []
-edit_items (edits.Drop name) = Verbatim (codes "drop") ∷ Verbatim name ∷ []
-
 -- an edit, or the one word for a plan
 abbrev pub act_items : Act → List Item
 act_items (Change edit) = edit_items edit
@@ -36,12 +29,7 @@ act_items Plan = Verbatim (codes "plan") ∷ []
 abbrev pub command_items : Command → List Item
 command_items c = Verbatim (codes "caller") ∷ Whole c.caller ∷ act_items c.act
 
--- names have at most 255 bytes, and a need is below 2^40 thousandths
-abbrev pub IsEditInForm : Edit → Type 0
-IsEditInForm (edits.Set name need) = (length name ≤ 255) × (need < 2 ^ 40)
-IsEditInForm (edits.Add name from to need) = (length name ≤ 255) × (length from ≤ 255) × (length to ≤ 255) × (need < 2 ^ 40)
-IsEditInForm (edits.Drop name) = length name ≤ 255
-
+-- an edit is in form, and a plan asks for nothing
 abbrev pub IsActInForm : Act → Type 0
 IsActInForm (Change edit) = IsEditInForm edit
 IsActInForm Plan = Unit {0}

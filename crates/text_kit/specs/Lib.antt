@@ -7,3 +7,4 @@ pub mod Numbers
 pub mod Answers
 pub mod Files
 pub mod Written
+pub mod Edits

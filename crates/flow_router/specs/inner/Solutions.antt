@@ -7,7 +7,7 @@ use Rattle.simplex_core.specs.Programs.{Solves}
 use Rattle.simplex_core.specs.declared.optimum.Optimum.{Optimum}
 use Rattle.route_law.specs.PricedLengths.{ArePricedLengths}
 use Rattle.route_law.specs.Routings.{AreJoined}
-use Rattle.route_law.specs.RoutingPrograms.{route_rows, route_bound, route_slack, total_need, IsCarrying}
+use Rattle.route_law.specs.RoutingPrograms.{route_rows, route_bound, route_slack, total_scaled_need, IsCarrying}
 use Rattle.flow_router.specs.declared.task.Task.{Task}
 
 -- an optimum of the task's routing program
@@ -18,4 +18,4 @@ IsSolution t = Solves (route_rows (graph_of t.graph) t.demands.now) (route_bound
 pub record ArePricesBelow (t : Task) (lengths : List ℕ) : Type 0 where
   pub joined : AreJoined (graph_of t.graph) t.demands.now
   pub priced : ArePricedLengths (graph_of t.graph) t.demands.now t.caps.now lengths
-  pub below : dot (route_rows (graph_of t.graph) t.demands.now) priced.duals (route_bound (graph_of t.graph) t.demands.now t.caps.now) <ℤ (priced.den *ℤ pos (total_need t.demands.now t.caps.now))
+  pub below : dot (route_rows (graph_of t.graph) t.demands.now) priced.duals (route_bound (graph_of t.graph) t.demands.now t.caps.now) <ℤ (priced.den *ℤ pos (total_scaled_need t.demands.now t.caps.now))

@@ -13,7 +13,8 @@ use Rattle.cut_pool.specs.Histories.{cuts_of}
 use Rattle.session_script.specs.declared.script.Act.{Act}
 use Rattle.session_script.specs.declared.script.Act.TheVariants.{Change, Plan}
 use Rattle.session_script.specs.declared.script.Command.{Command}
-use Rattle.session_script.specs.Scripts.{IsEditInForm, is_plan}
+use Rattle.text_kit.specs.Edits.{IsEditInForm}
+use Rattle.session_script.specs.Scripts.{is_plan}
 use Rattle.planner.specs.SoundPlans.{GrowsByCuts}
 use Rattle.session_run.specs.Transcripts.{IsOutcomeAfter, RunsFrom, acts_of, edit_asked, edit_made, outcomes_of}
 

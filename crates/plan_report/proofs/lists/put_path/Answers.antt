@@ -1,7 +1,7 @@
 use Rattle.std.proofs.Common.{◌∷◌, [], arith}
 use Rattle.text_kit.specs.Items.{Verbatim, Opening}
 use Rattle.plan_report.proofs.Putting.{puts_list, puts_more}
-use Rattle.plan_report.specs.Parts.{link_name}
+use Rattle.plan_report.specs.Names.{link_name}
 use Rattle.plan_report.proofs.lists.put_path.Goals as goal
 
 pub loop-e-preserved : goal.loop-e-preserved

@@ -1,7 +1,7 @@
 use Rattle.std.proofs.Common.{◌∷◌, [], take, flat_map}
 use Rattle.text_kit.specs.Items.{Verbatim, Opening}
 use Rattle.plan_report.specs.inner.Puts.{Puts}
-use Rattle.plan_report.specs.Parts.{link_name}
+use Rattle.plan_report.specs.Names.{link_name}
 use Rattle.plan_report.proofs.lists.put_path.Given as goal
 
 abbrev pub invariant-loop-e : goal.invariant-loop-e
