@@ -18,15 +18,15 @@ use Rattle.text_kit.proofs.Spelled.{Lawful}
 use Rattle.plan_report.specs.Forms.{IsCutInForm, IsEditedInForm, IsReplyInForm}
 use Rattle.plan_report.specs.Items.{entry_items, event_items, note_items, notes_items, numbered_from, pool_line_items, reply_items}
 use Rattle.text_kit.specs.Edits.{IsEditInForm, edit_items, ends_items}
-use Rattle.report_reader.specs.declared.fault.ReportKind.TheVariants.{Token}
-use Rattle.report_reader.specs.ReportWords.{closing_at, has_room}
+use Rattle.report_words.specs.declared.fault.ReportKind.TheVariants.{Token}
+use Rattle.report_words.specs.ReportWords.{closing_at, has_room}
 use Rattle.report_reader.specs.ReadingJournal.{edit_branches, event_branches, notes_branches, reply_branches, routing_note_branches, setup_note_branches, accepted_at, add_at, drop_at, edit_at, edited_at, entries_at, entry_at, event_at, noted, notes_at, notes_end_at, pool_at, pool_line_at, pooled_at, reply_at, routing_note_at, set_at, setup_note_at, too_much_at, two_names_at}
-use Rattle.report_reader.proofs.BranchLaws.{branches_law, either_form, lawful_branch, lawful_closed, lawful_no_branch}
-use Rattle.report_reader.proofs.ListLaws.{few_rooms, lawful_placed, numbered_items, rooms_few}
-use Rattle.report_reader.proofs.Making.{MadeOf, law_made, made_give, made_last, made_law, made_then}
-use Rattle.report_reader.proofs.RoutingLaws.{numbers_law}
+use Rattle.report_words.proofs.BranchLaws.{branches_law, either_form, lawful_branch, lawful_closed, lawful_no_branch}
+use Rattle.report_words.proofs.ListLaws.{few_rooms, lawful_placed, numbered_items, rooms_few}
+use Rattle.report_words.proofs.Making.{MadeOf, law_made, made_give, made_last, made_law, made_then}
+use Rattle.report_words.proofs.NumberLaws.{numbers_law}
 use Rattle.report_reader.proofs.Variants.{edit_cases, entry_cases, reply_cases}
-use Rattle.report_reader.proofs.WordLaws.{amount_law, closing_law, keyword_law, money_law, name_law, number_law, opening_law, opening_within_law, this_number_law}
+use Rattle.report_words.proofs.WordLaws.{amount_law, closing_law, keyword_law, money_law, name_law, number_law, opening_law, opening_within_law, this_number_law}
 
 -- ---- notes
 

@@ -13,19 +13,20 @@ use Rattle.text_kit.proofs.Spelled.{Lawful}
 use Rattle.plan_report.specs.Forms.{IsHeadInForm, IsOutcomeInForm}
 use Rattle.plan_report.specs.Items.{head_items, outcome_items, plan_items}
 use Rattle.plan_report.specs.Names.{state_name}
-use Rattle.report_reader.specs.declared.fault.ReportKind.TheVariants.{Token}
+use Rattle.report_words.specs.declared.fault.ReportKind.TheVariants.{Token}
 use Rattle.report_reader.specs.declared.parts.Head.{Head}
-use Rattle.report_reader.specs.ReportWords.{closing_at, has_room}
-use Rattle.report_reader.specs.ReportChoices.{branch_within}
+use Rattle.report_words.specs.ReportWords.{closing_at, has_room}
+use Rattle.report_words.specs.ReportChoices.{branch_within}
 use Rattle.report_reader.specs.ReadingReport.{head_at, outcome_at, outcome_branches, outcomes_at, planned_at, unsurvivable_at}
-use Rattle.report_reader.proofs.BranchLaws.{branches_law, either_form, lawful_branch, lawful_no_branch}
-use Rattle.report_reader.proofs.ListLaws.{few_law}
-use Rattle.report_reader.proofs.Making.{law_made, made_last, made_then}
-use Rattle.report_reader.proofs.ModuleLaws.{IsSound}
-use Rattle.report_reader.proofs.PlanLaws.{IsPlanOf, IsPoolInForm, form_plan, plan_form, plan_law}
-use Rattle.report_reader.proofs.RoutingLaws.{AreLinksApart}
+use Rattle.report_words.proofs.BranchLaws.{branches_law, either_form, lawful_branch, lawful_no_branch}
+use Rattle.report_words.proofs.ListLaws.{few_law}
+use Rattle.report_words.proofs.Making.{law_made, made_last, made_then}
+use Rattle.report_parts.proofs.ModuleLaws.{IsSound}
+use Rattle.report_reader.proofs.PlanLaws.{IsPlanOf, form_plan, plan_form, plan_law}
+use Rattle.report_parts.proofs.CertificateLaws.{IsPoolInForm}
+use Rattle.report_parts.proofs.RoutingLaws.{AreLinksApart}
 use Rattle.report_reader.proofs.Variants.{outcome_cases}
-use Rattle.report_reader.proofs.WordLaws.{closing_law, keyword_law, name_law, number_law, opening_law, this_name_law}
+use Rattle.report_words.proofs.WordLaws.{closing_law, keyword_law, name_law, number_law, opening_law, this_name_law}
 
 abbrev items_of : Head → List Item
 items_of h = head_items h.caller h.serial h.version h.position

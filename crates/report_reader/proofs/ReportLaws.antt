@@ -27,15 +27,15 @@ use Rattle.plan_report.specs.Forms.{IsEntryInForm, IsReportInForm, line_lengths}
 use Rattle.plan_report.specs.Items.{entry_items, notes_items, numbered_from, outcome_items, pool_line_items, report_items}
 use Rattle.text_kit.specs.Edits.{section}
 use Rattle.plan_report.specs.Texts.{SpellsReport, report_header}
-use Rattle.report_reader.specs.declared.fault.ReportKind.{ReportKind}
-use Rattle.report_reader.specs.declared.fault.ReportKind.TheVariants.{Header, Section, Ended}
+use Rattle.report_words.specs.declared.fault.ReportKind.{ReportKind}
+use Rattle.report_words.specs.declared.fault.ReportKind.TheVariants.{Header, Section, Ended}
 use Rattle.report_reader.specs.ReadingReport.{filled, report_at, report_of, section_at, sections_at}
 use Rattle.report_reader.proofs.JournalLaws.{IsPlain, entries_law, notes_law, pool_law}
-use Rattle.report_reader.proofs.Making.{law_made, made_last, made_law, made_then}
-use Rattle.report_reader.proofs.ModuleLaws.{IsSound}
+use Rattle.report_words.proofs.Making.{law_made, made_last, made_law, made_then}
+use Rattle.report_parts.proofs.ModuleLaws.{IsSound}
 use Rattle.report_reader.proofs.OutcomeLaws.{outcomes_law}
 use Rattle.report_reader.proofs.ReportOnline.{report_online}
-use Rattle.report_reader.proofs.RoutingLaws.{AreLinksApart}
+use Rattle.report_parts.proofs.RoutingLaws.{AreLinksApart}
 
 section_law : (w : List ℕ) → Lawful (section_at w) (λ x. Verbatim w ∷ Opening ∷ []) (λ x. Unit {0}) AnyText
 unfolding section_at
@@ -91,12 +91,23 @@ module _ (pool : List CutLine) where
       ap (λ (is : List Item). is ++ flat_map entry_items (numbered_from (n + 1) es)) (filled_items n e)
       ∙ ap (λ (js : List Item). entry_items (n, filled pool e) ++ js) (all_items (n + 1) es)
 
+-- ---- what a network tells
+
+nodes_differ : (nodes : List (List ℕ)) (links : List Link) → ∥ IsNetwork nodes links ∥₁ → AllPairs (λ x y. x ≢ y) nodes
+nodes_differ nodes links checked = λ i j d lt within same. ∥∥₁_elim checked (λ x y. absurd x) (λ (net : IsNetwork nodes links). net.different_nodes i j d lt within same)
+
+links_differ : (nodes : List (List ℕ)) (links : List Link) → ∥ IsNetwork nodes links ∥₁ → AreLinksApart links
+links_differ nodes links checked = λ i j d lt within same. ∥∥₁_elim checked (λ x y. absurd x) (λ (net : IsNetwork nodes links). net.different_links i j d lt within same)
+
+fixed_small : (nodes : List (List ℕ)) (links : List Link) → ∥ IsNetwork nodes links ∥₁ → All (λ l. l.fixed < 2 ^ 40) links
+fixed_small nodes links checked = λ k d lt. ∥∥₁_elim checked (hlevel props) (λ (net : IsNetwork nodes links). (net.sound k d lt).fixed)
+
 -- ---- the whole report
 
 four : (a b c d : List Item) → a ++ (b ++ (c ++ d)) ≡ ((a ++ b) ++ c) ++ d
 four a b c d = sym (append_assoc a b (c ++ d)) ∙ sym (append_assoc (a ++ b) c d)
 
-module _ (nodes : List (List ℕ)) (links : List Link) (listed : List Listed) (nodes_apart : AllPairs (λ x y. x ≢ y) nodes) (apart : AreLinksApart links) (small : All (λ l. l.fixed < 2 ^ 40) links) where
+module _ (nodes : List (List ℕ)) (links : List Link) (listed : List Listed) (checked : ∥ IsNetwork nodes links ∥₁) where
   abbrev IsReport : Report → Type 0
   IsReport r = IsReportInForm nodes links listed r
 
@@ -108,7 +119,7 @@ module _ (nodes : List (List ℕ)) (links : List Link) (listed : List Listed) (n
 
   sound_at : (k : ℕ) → IsSound (slice_get links k)
   sound_at k = ⊎_elim
-      (λ (within : k < length links). subst (λ (o : Option Link). IsSound o) (sym (slice_get-get_or links k no_link within)) (small k no_link within))
+      (λ (within : k < length links). subst (λ (o : Option Link). IsSound o) (sym (slice_get-get_or links k no_link within)) (fixed_small nodes links checked k no_link within))
       (λ (past : length links ≤ k). subst (λ (o : Option Link). IsSound o) (sym (slice_get_past links k past)) tt)
       (cases_lt k (length links))
 
@@ -150,7 +161,7 @@ module _ (nodes : List (List ℕ)) (links : List Link) (listed : List Listed) (n
       made_then _ _ _ _ _ _ _ _ (pool_law links listed) (λ pool h.
       made_then _ _ _ _ _ _ _ _ (section_law (codes "OUTCOMES")) (λ x u.
       made_last _ (λ (outcomes : List Outcome). record { notes = notes; entries = map (filled pool) entries; pool = pool; outcomes = outcomes }) _ _
-      (outcomes_law nodes links listed pool nodes_apart apart sound_at (record { few = h.0; each = h.1 }))))))))))
+      (outcomes_law nodes links listed pool (nodes_differ nodes links checked) (links_differ nodes links checked) sound_at (record { few = h.0; each = h.1 }))))))))))
 
   -- ---- files
 
@@ -178,14 +189,3 @@ module _ (nodes : List (List ℕ)) (links : List Link) (listed : List Listed) (n
   report_first bytes (Err (Bad at kind)) h = λ other n same ends r s.
       first_spelled Header report_header (report_at nodes links listed) Of report_law (λ (x : Report). x) (report_online nodes links listed) bytes (Err (Bad at kind)) h other n same ends r (from_report other r s)
   report_first bytes (Err NoMemory) h = tt
-
--- ---- what a network tells
-
-pub nodes_differ : (nodes : List (List ℕ)) (links : List Link) → ∥ IsNetwork nodes links ∥₁ → AllPairs (λ x y. x ≢ y) nodes
-nodes_differ nodes links checked = λ i j d lt within same. ∥∥₁_elim checked (λ x y. absurd x) (λ (net : IsNetwork nodes links). net.different_nodes i j d lt within same)
-
-pub links_differ : (nodes : List (List ℕ)) (links : List Link) → ∥ IsNetwork nodes links ∥₁ → AreLinksApart links
-links_differ nodes links checked = λ i j d lt within same. ∥∥₁_elim checked (λ x y. absurd x) (λ (net : IsNetwork nodes links). net.different_links i j d lt within same)
-
-pub fixed_small : (nodes : List (List ℕ)) (links : List Link) → ∥ IsNetwork nodes links ∥₁ → All (λ l. l.fixed < 2 ^ 40) links
-fixed_small nodes links checked = λ k d lt. ∥∥₁_elim checked (hlevel props) (λ (net : IsNetwork nodes links). (net.sound k d lt).fixed)

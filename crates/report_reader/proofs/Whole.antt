@@ -13,8 +13,8 @@ use Rattle.text_kit.specs.declared.refusal.Refusal.TheVariants.{Bad, NoMemory}
 use Rattle.text_kit.specs.Files.{body}
 use Rattle.text_kit.specs.Reading.{Read, Reading, after, end_at, give, whole_at}
 use Rattle.text_kit.proofs.Online.{ok_parts}
-use Rattle.report_reader.specs.declared.fault.ReportKind.{ReportKind}
-use Rattle.report_reader.specs.declared.fault.ReportKind.TheVariants.{Header, Section}
+use Rattle.report_words.specs.declared.fault.ReportKind.{ReportKind}
+use Rattle.report_words.specs.declared.fault.ReportKind.TheVariants.{Header, Section}
 use Rattle.report_reader.specs.ReadingReport.{report_at, report_of, sections_at}
 
 end_is : (x y : Report) (text rest : Text) → after (end_at Section text) (λ u. give x) ≡ Ok (y, rest) → (at : ℕ) × (rest ≡ EndAt at)

@@ -12,10 +12,9 @@ use Rattle.net_core.specs.declared.network.Notes.{Notes}
 use Rattle.net_core.specs.declared.plan.CutLine.{CutLine}
 use Rattle.net_core.specs.declared.states.Listed.{Listed}
 use Rattle.text_kit.specs.Reading.{Reading, ◌>>=◌, give, list_at, no_fault, Parenthesis}
-use Rattle.report_reader.specs.declared.fault.ReportKind.{ReportKind}
-use Rattle.report_reader.specs.declared.fault.ReportKind.TheVariants.{Token}
-use Rattle.report_reader.specs.ReportWords.{amount_at, closing_at, has_room, keyword_at, money_at, name_at, number_at, opening_at, opening_within, this_number_at}
-use Rattle.report_reader.specs.ReportChoices.{Branches, branch_at, branch_or, numbers_at}
+use Rattle.report_words.specs.declared.fault.ReportKind.{ReportKind}
+use Rattle.report_words.specs.ReportWords.{amount_at, closing_at, has_room, keyword_at, money_at, name_at, number_at, opening_at, opening_within, this_number_at}
+use Rattle.report_words.specs.ReportChoices.{Branches, branch_at, branch_or, numbers_at}
 
 -- ---- the notes: up to three words in order, and the closing parenthesis
 

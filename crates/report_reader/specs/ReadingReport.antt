@@ -13,11 +13,11 @@ use Rattle.text_kit.specs.Reading.{Read, Reading, ◌>>=◌, expected, give, lis
 use Rattle.plan_report.specs.Forms.{line_lengths, line_state}
 use Rattle.plan_report.specs.Names.{state_name}
 use Rattle.plan_report.specs.Texts.{report_header}
-use Rattle.report_reader.specs.declared.fault.ReportKind.{ReportKind}
-use Rattle.report_reader.specs.declared.fault.ReportKind.TheVariants.{Header, Section, Ended}
+use Rattle.report_words.specs.declared.fault.ReportKind.{ReportKind}
+use Rattle.report_words.specs.declared.fault.ReportKind.TheVariants.{Header, Section, Ended}
 use Rattle.report_reader.specs.declared.parts.Head.{Head}
-use Rattle.report_reader.specs.ReportWords.{closing_at, has_room, keyword_at, name_at, number_at, opening_at, this_name_at}
-use Rattle.report_reader.specs.ReportChoices.{Branches, branch_within}
+use Rattle.report_words.specs.ReportWords.{closing_at, has_room, keyword_at, name_at, number_at, opening_at, this_name_at}
+use Rattle.report_words.specs.ReportChoices.{Branches, branch_within}
 use Rattle.report_reader.specs.ReadingJournal.{entries_at, notes_at, pool_at}
 use Rattle.report_reader.specs.ReadingPlan.{plan_at}
 

@@ -3,9 +3,9 @@ ghost use Rattle.snd_tokens.specs.Lexemes.{left};
 ghost use Rattle.text_kit.specs.Answers.{ReadsAs};
 ghost use Rattle.report_reader.specs.ReadingJournal.{accepted_at, add_at, drop_at, edit_at, reply_at, set_at, too_much_at, two_names_at};
 
-use crate::fault::{ReportKind, ReportRefusal};
-use crate::words::{amount, closing, medium, name, opening, sum};
 use net_core::{Edit, Name, Reply};
+use report_words::fault::{ReportKind, ReportRefusal};
+use report_words::words::{amount, closing, medium, name, opening, sum};
 use snd_tokens::Cursor;
 use std::alloc::Global;
 use text_kit::refusal::bad;

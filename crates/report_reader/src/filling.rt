@@ -1,4 +1,4 @@
-ghost use Rattle.std.specs.Prelude.{◌≡◌, map, slice_get, IfOk};
+ghost use Rattle.std.specs.Prelude.{◌≡◌, map, slice_get, IfOk, OnOk};
 ghost use Rattle.plan_report.specs.Forms.{line_lengths, line_state};
 ghost use Rattle.report_reader.specs.ReadingReport.{filled};
 
@@ -23,35 +23,34 @@ fn pooled(alloc: Global, pool: &[CutLine], index: u32) -> Result<Entry, NoMemory
     }
 }
 
-/// An entry with the cut that it names.
-fn filled(alloc: Global, pool: &[CutLine], entry: &Entry) -> Result<Entry, NoMemory>
-    ensures { IfOk result (λ e. e ≡ filled pool.now entry.now) }
+/// Gives an entry the cut that it names.
+fn fill_entry(alloc: Global, pool: &[CutLine], entry: &mut Entry) -> Result<(), NoMemory>
+    ensures { OnOk result (entry.new ≡ filled pool.now entry.old) }
 {
-    match entry {
-        Entry::Edited {
-            caller,
-            edit,
-            reply,
-        } => Ok(Entry::Edited {
-            caller: *caller,
-            edit: edit.copy()?,
-            reply: *reply,
-        }),
-        Entry::Pooled { index, .. } => pooled(alloc, pool, *index),
+    if let Entry::Pooled { index, .. } = entry {
+        *entry = pooled(alloc, pool, *index)?;
     }
+    Ok(())
 }
 
-/// Copies of entries with the cuts that they name, in time that grows with their number.
+/// Gives each entry the cut that it names.
+fn fill_each(alloc: Global, pool: &[CutLine], entries: &mut [Entry]) -> Result<(), NoMemory>
+    ensures { OnOk result (entries.new ≡ map (filled pool.now) entries.old) }
+{
+    for k in 0..entries.len() {
+        fill_entry(alloc, pool, &mut entries[k])?;
+    }
+    Ok(())
+}
+
+/// The entries with the cuts that they name. What of them names none stays where it is.
 pub(crate) fn fill(
     alloc: Global,
     pool: &[CutLine],
-    entries: &[Entry],
+    mut entries: List<Entry>,
 ) -> Result<List<Entry>, NoMemory>
-    ensures { IfOk result (λ l. l ≡ map (filled pool.now) entries.now) }
+    ensures { IfOk result (λ l. l ≡ map (filled pool.now) entries) }
 {
-    let mut all = List::new(alloc);
-    for entry in entries {
-        all.push(filled(alloc, pool, entry)?)?;
-    }
-    Ok(all)
+    fill_each(alloc, pool, entries.items_mut())?;
+    Ok(entries)
 }

@@ -4,10 +4,10 @@ ghost use Rattle.text_kit.specs.Answers.{ReadsAs};
 ghost use Rattle.report_reader.specs.ReadingJournal.{edited_at, entries_at, entry_at, event_at, pooled_at};
 
 use crate::edit::{edit, reply};
-use crate::element::{Element, list};
-use crate::fault::{ReportKind, ReportRefusal};
-use crate::words::{closing, opening_within, small, this};
 use net_core::{Entry, List, StateId};
+use report_words::element::{Element, list};
+use report_words::fault::{ReportKind, ReportRefusal};
+use report_words::words::{closing, opening_within, small, this};
 use snd_tokens::Cursor;
 use std::alloc::Global;
 use text_kit::refusal::bad;

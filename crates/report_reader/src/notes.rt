@@ -3,9 +3,9 @@ ghost use Rattle.snd_tokens.specs.Lexemes.{left};
 ghost use Rattle.text_kit.specs.Answers.{ReadsAs};
 ghost use Rattle.report_reader.specs.ReadingJournal.{noted, notes_at, notes_end_at, routing_note_at, setup_note_at};
 
-use crate::fault::{ReportKind, ReportRefusal};
-use crate::words::closing;
 use net_core::Notes;
+use report_words::fault::{ReportKind, ReportRefusal};
+use report_words::words::closing;
 use snd_tokens::{Cursor, Next};
 use text_kit::refusal::bad;
 

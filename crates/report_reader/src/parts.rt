@@ -1,6 +1,3 @@
-use net_core::{Lengths, StateId};
-use plan_types::Spot;
-
 /// Whose plan command it was, the how manieth of that caller, and for which version and position.
 #[derive(Clone, Copy)]
 pub struct Head {
@@ -17,12 +14,4 @@ pub struct Values {
     pub bound: u128,
     pub raw_num: u128,
     pub raw_den: u128,
-}
-
-/// The cut of a certificate's line: where it stands, its state and its lengths.
-#[derive(Drop)]
-pub struct Placed {
-    pub spot: Spot,
-    pub state: StateId,
-    pub lengths: Lengths,
 }

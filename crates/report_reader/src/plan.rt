@@ -3,17 +3,17 @@ ghost use Rattle.snd_tokens.specs.Lexemes.{left};
 ghost use Rattle.text_kit.specs.Answers.{ReadsAs};
 ghost use Rattle.report_reader.specs.ReadingPlan.{plan_at, values_at};
 
-use crate::certificate::certificate;
-use crate::context::Context;
-use crate::demands::plan_demands;
-use crate::fault::ReportRefusal;
-use crate::modules::modules;
 use crate::parts::{Head, Values};
-use crate::quality::quality;
-use crate::routing::routings;
-use crate::words::{keyword, number, sum};
 use net_core::CutLine;
 use plan_types::Plan;
+use report_parts::certificate::certificate;
+use report_parts::demands::plan_demands;
+use report_parts::modules::modules;
+use report_parts::quality::quality;
+use report_parts::routing::routings;
+use report_words::context::Context;
+use report_words::fault::ReportRefusal;
+use report_words::words::{keyword, number, sum};
 use snd_tokens::Cursor;
 use std::alloc::Global;
 

@@ -3,11 +3,11 @@ ghost use Rattle.snd_tokens.specs.Lexemes.{left};
 ghost use Rattle.text_kit.specs.Answers.{ReadsAs};
 ghost use Rattle.report_reader.specs.ReadingJournal.{pool_at, pool_line_at};
 
-use crate::element::{Element, list};
-use crate::fault::{ReportKind, ReportRefusal};
-use crate::numbers::lengths;
-use crate::words::{closing, keyword, number, opening_within, small, this};
 use net_core::{CutLine, List, Network, StateId, States};
+use report_words::element::{Element, list};
+use report_words::fault::{ReportKind, ReportRefusal};
+use report_words::numbers::lengths;
+use report_words::words::{closing, keyword, number, opening_within, small, this};
 use snd_tokens::Cursor;
 use std::alloc::Global;
 

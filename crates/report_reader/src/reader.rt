@@ -6,8 +6,6 @@ ghost use Rattle.text_kit.specs.Answers.{AnswersAs, ReadsAllAs, ReadsAs};
 ghost use Rattle.text_kit.specs.Files.{IsNotTooEarly};
 ghost use Rattle.report_reader.specs.ReadingReport.{report_at, report_of, section_at, sections_at};
 
-use crate::context::Context;
-use crate::fault::{ReportKind, ReportRefusal};
 use crate::filling::fill;
 use crate::journal::entries;
 use crate::notes::notes;
@@ -15,6 +13,8 @@ use crate::outcome::outcomes;
 use crate::pool::pool;
 use net_core::{Network, States};
 use plan_types::Report;
+use report_words::context::Context;
+use report_words::fault::{ReportKind, ReportRefusal};
 use snd_tokens::Cursor;
 use std::alloc::Global;
 use text_kit::Refusal;
@@ -58,7 +58,7 @@ fn sections(alloc: Global, context: &Context, text: &mut Cursor) -> Result<Repor
     }
     section(OUTCOMES, text)?;
     let outcomes = outcomes(alloc, context, pool.items(), text)?;
-    let entries = fill(alloc, pool.items(), entries.items())?;
+    let entries = fill(alloc, pool.items(), entries)?;
     Ok(Report {
         notes,
         entries,

@@ -1,7 +1,7 @@
-use crate::fault::ReportRefusal;
 use crate::reader::read_report;
 use net_core::States;
 use plan_types::Report;
+use report_words::fault::ReportRefusal;
 use std::alloc::Global;
 use worked_networks::triangle;
 

@@ -1,0 +1,73 @@
+-- The readings of paths and routings take exactly their texts.
+use Rattle.std.proofs.Common.{◌≡◌, ◌≢◌, ℕ, ◌+◌, ◌^◌, ◌<◌, true, List, [], ◌∷◌, length, AllPairs, refl, ap, arith}
+use Rattle.std.specs.Prelude.{codes}
+use Rattle.net_core.specs.declared.demand.Demand.{Demand}
+use Rattle.net_core.specs.declared.ids.LinkId.{LinkId}
+use Rattle.net_core.specs.declared.network.Link.{Link}
+use Rattle.net_core.specs.declared.plan.Flow.{Flow}
+use Rattle.net_core.specs.declared.plan.Routing.{Routing}
+use Rattle.net_core.specs.declared.states.Listed.{Listed}
+use Rattle.text_kit.specs.Items.{Verbatim}
+use Rattle.text_kit.specs.Reading.{of_length}
+use Rattle.text_kit.proofs.Beginnings.{AnyText}
+use Rattle.text_kit.proofs.Behind.{all_behind, behind_all}
+use Rattle.text_kit.proofs.Lawful.{lawful_some}
+use Rattle.text_kit.proofs.Spelled.{Lawful}
+use Rattle.plan_report.specs.Forms.{AreRoutingsInForm, IsFlowInForm, IsPathInForm, IsRoutingInForm}
+use Rattle.plan_report.specs.Items.{flow_items, path_items, routing_items, routings_items}
+use Rattle.text_kit.specs.Edits.{enclosed}
+use Rattle.plan_report.specs.Names.{link_name, state_name}
+use Rattle.report_words.specs.declared.fault.ReportKind.TheVariants.{Token, Limit}
+use Rattle.report_words.specs.ReportWords.{has_room, link_at}
+use Rattle.report_parts.specs.ReadingRoutings.{flow_at, path_at, routing_at, routings_at}
+use Rattle.report_words.proofs.ListLaws.{few_law, few_rooms, is_length, lawful_placed, length_is, numbered_items, rooms_few}
+use Rattle.report_words.proofs.Making.{law_made, made_last, made_law, made_then}
+use Rattle.report_words.proofs.WordLaws.{AreApart, demand_within_law, keyword_within_law, link_law, number_law, opening_law, this_name_law, this_number_law}
+
+-- ---- paths and flows
+
+abbrev pub AreLinksApart : List Link → Type 0
+AreLinksApart links = AllPairs (λ x y. x.name ≢ y.name) links
+
+pub path_law : (links : List Link) → AreLinksApart links → Lawful (path_at links) (path_items links) (IsPathInForm links) AnyText
+unfolding path_at
+path_law links apart = law_made (path_at links) (λ (q : Unit {0} × List LinkId). q.1) _ _ (path_items links) (IsPathInForm links)
+    (λ q h. record { some = h.1.0; known = behind_all (λ e. e.0 < length links) [] q.1 h.1.1 })
+    (λ q h. refl)
+    (λ es h. record { parts = (tt, es); right = (tt, (h.some, all_behind (λ e. e.0 < length links) [] es h.known)); gives = refl })
+    (made_then _ _ _ _ _ _ _ _ opening_law (λ x h.
+    made_law _ _ _ (lawful_some Token (λ sofar. link_at links) (λ e. Verbatim (link_name links e) ∷ []) (λ sofar e. e.0 < length links) (λ e. tt) (λ sofar. link_law links apart))))
+
+flow_law : (links : List Link) (demands : List Demand) → AreLinksApart links → AreApart demands → (sofar : List Flow) → Lawful (flow_at links demands sofar) (flow_items links demands) (λ f. (has_room 65536 sofar ≡ true) × IsFlowInForm links demands f) AnyText
+unfolding flow_at
+flow_law links demands apart differ sofar = law_made (flow_at links demands sofar) _ _ _ (flow_items links demands) (λ f. (has_room 65536 sofar ≡ true) × IsFlowInForm links demands f)
+    (λ q h. (h.0.0, record { demand = h.0.1; positive = h.1.0.0; num = h.1.0.1; path = h.1.1 }))
+    (λ q h. refl)
+    (λ f h. record { parts = (f.demand, (f.num, f.path)); right = ((h.0, h.1.demand), ((h.1.positive, h.1.num), h.1.path)); gives = refl })
+    (made_then _ _ _ _ _ _ _ _ (demand_within_law (has_room 65536 sofar) demands differ) (λ demand h.
+    made_then _ _ _ _ _ _ _ _ (number_law 1 (2 ^ 124)) (λ num h.
+    made_last _ (λ (path : List LinkId). record { demand = demand; path = path; num = num }) _ _ (path_law links apart))))
+
+-- ---- routings
+
+routing_law : (links : List Link) (listed : List Listed) (demands : List Demand) → AreLinksApart links → AreApart demands → (sofar : List Routing) → Lawful (routing_at links listed demands sofar) (λ r. routing_items links listed demands (length sofar, r)) (λ r. (has_room (length listed + 1) sofar ≡ true) × IsRoutingInForm links demands r) AnyText
+unfolding routing_at
+routing_law links listed demands apart differ sofar = law_made (routing_at links listed demands sofar) _ _ _ (λ r. routing_items links listed demands (length sofar, r)) (λ r. (has_room (length listed + 1) sofar ≡ true) × IsRoutingInForm links demands r)
+    (λ q h. (h.0, record { positive = h.1.1.1.0.0; den = h.1.1.1.0.1; few = h.1.1.1.1.1.0; flows = h.1.1.1.1.1.1 }))
+    (λ q h. refl)
+    (λ r h. record { parts = (tt, (tt, (tt, (r.den, (tt, r.flows))))); right = (h.0, (tt, (tt, ((h.1.positive, h.1.den), (tt, (h.1.few, h.1.flows)))))); gives = refl })
+    (made_then _ _ _ _ _ _ _ _ (keyword_within_law (has_room (length listed + 1) sofar) (codes "state")) (λ x h.
+    made_then _ _ _ _ _ _ _ _ (this_number_law (length sofar)) (λ x h.
+    made_then _ _ _ _ _ _ _ _ (this_name_law (state_name listed (length sofar))) (λ x h.
+    made_then _ _ _ _ _ _ _ _ (number_law 1 (2 ^ 62)) (λ den h.
+    made_then _ _ _ _ _ _ _ _ opening_law (λ x h.
+    made_last _ (λ (flows : List Flow). record { den = den; flows = flows }) _ _ (few_law 65536 (flow_at links demands) (flow_items links demands) (IsFlowInForm links demands) (λ f. tt) (flow_law links demands apart differ))))))))
+
+pub routings_law : (links : List Link) (listed : List Listed) (demands : List Demand) → AreLinksApart links → AreApart demands → Lawful (routings_at links listed demands) (routings_items links listed demands) (AreRoutingsInForm links listed demands) AnyText
+unfolding routings_at
+routings_law links listed demands apart differ = law_made (routings_at links listed demands) (λ (q : Unit {0} × List Routing). q.1) _ _ (routings_items links listed demands) (AreRoutingsInForm links listed demands)
+    (λ q h. record { long = length_is (length listed + 1) Limit q.1 h.1.0; each = (rooms_few (length listed + 1) (IsRoutingInForm links demands) q.1 h.1.1).1 })
+    (λ q h. ap enclosed (numbered_items (λ k r. routing_items links listed demands (k, r)) (routing_items links listed demands) 0 (λ k r. ap (λ (i : ℕ). routing_items links listed demands (i, r)) (omega arith)) 0 0 q.1 (omega arith)))
+    (λ rs h. record { parts = (tt, rs); right = (tt, (is_length (length listed + 1) Limit rs h.long, few_rooms (length listed + 1) (IsRoutingInForm links demands) rs (omega (arith, h.long)) h.each)); gives = refl })
+    (made_then _ _ _ _ _ _ _ _ opening_law (λ x h.
+    made_law _ _ _ (lawful_placed (λ k r. routing_items links listed demands (k, r)) (λ sofar r. (has_room (length listed + 1) sofar ≡ true) × IsRoutingInForm links demands r) (of_length (length listed + 1) Limit) (routing_at links listed demands) (λ k r. tt) (routing_law links listed demands apart differ))))

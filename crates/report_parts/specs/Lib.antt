@@ -1,0 +1,3 @@
+pub mod ReadingRoutings
+pub mod ReadingQuality
+pub mod ReadingParts

@@ -1,0 +1,112 @@
+-- Reading the demands, the modules and the certificate of a plan.
+use Rattle.std.specs.Prelude.{ℕ, ◌+◌, ◌^◌, nat_lt, ◌&&◌, List, [], ◌∷◌, ◌++◌, length, Option, Some, None, Result, Ok, Err, slice_get, codes}
+use Rattle.net_core.specs.declared.demand.Demand.{Demand}
+use Rattle.net_core.specs.declared.ids.NodeId.{NodeId}
+use Rattle.net_core.specs.declared.network.Link.{Link}
+use Rattle.net_core.specs.declared.plan.CutLine.{CutLine}
+use Rattle.net_core.specs.declared.states.Listed.{Listed}
+use Rattle.plan_terms.specs.Capacities.{modules_capacity}
+use Rattle.plan_types.specs.declared.certificate.CertLine.{CertLine}
+use Rattle.plan_types.specs.declared.certificate.Certificate.{Certificate}
+use Rattle.plan_types.specs.declared.certificate.Spot.TheVariants.{Pool, Local}
+use Rattle.text_kit.specs.Reading.{Reading, ◌>>=◌, give, list_at, no_fault, of_length, Parenthesis, word_at}
+use Rattle.plan_report.specs.Forms.{line_lengths, line_state}
+use Rattle.report_words.specs.declared.fault.ReportKind.{ReportKind}
+use Rattle.report_words.specs.declared.fault.ReportKind.TheVariants.{Token, Ended, Limit}
+use Rattle.report_parts.specs.declared.placed.Placed.{Placed}
+use Rattle.report_words.specs.ReportWords.{amount_at, closing_at, has_room, keyword_at, new_demand, node_at, number_at, opening_at, opening_within, this_name_at, unknown_name, where_room, whole_within}
+use Rattle.report_words.specs.ReportChoices.{Branches, branch_at, numbers_at}
+
+-- ---- demands
+
+-- two nodes between parentheses
+unfoldable pub nodes_at : List (List ℕ) → Reading ReportKind (NodeId × NodeId)
+nodes_at nodes = do
+  _ ← opening_at
+  from ← node_at nodes
+  to ← node_at nodes
+  _ ← closing_at
+  give (from, to)
+
+-- a demand after earlier ones
+unfoldable pub plan_demand_at : List (List ℕ) → List Demand → Reading ReportKind Demand
+plan_demand_at nodes sofar = do
+  name ← word_at Token Ended (new_demand sofar)
+  ends ← nodes_at nodes
+  need ← amount_at
+  give (record { name = name; from = ends.0; to = ends.1; need = need })
+
+unfoldable pub plan_demands_at : List (List ℕ) → Reading ReportKind (List Demand)
+plan_demands_at nodes = do
+  _ ← keyword_at (codes "DEMANDS")
+  _ ← opening_at
+  list_at Parenthesis no_fault (plan_demand_at nodes) []
+
+-- ---- modules
+
+-- a count after those of the modules before it: the link has a further module, and less than 2^46 thousandths of capacity with it
+abbrev pub count_within : Link → List ℕ → Result ℕ ReportKind → Result ℕ ReportKind
+count_within l sofar (Ok n) = where_room (has_room (length l.modules) sofar && nat_lt (l.fixed + modules_capacity l.modules (sofar ++ n ∷ [])) (2 ^ 46)) (Ok n)
+count_within l sofar (Err kind) = Err kind
+
+abbrev pub count_at : Link → List ℕ → Reading ReportKind ℕ
+count_at l sofar = word_at Token Ended (λ w. count_within l sofar (whole_within 0 (2 ^ 44) w))
+
+-- the counts of the next link; after the last, no name is known
+unfoldable pub counts_at : Option Link → Reading ReportKind (List ℕ)
+counts_at None = word_at Token Ended (λ w. Err (unknown_name w))
+counts_at (Some l) = do
+  _ ← this_name_at l.name
+  _ ← opening_at
+  list_at Parenthesis (of_length (length l.modules) Limit) (count_at l) []
+
+abbrev pub next_counts_at : List Link → List (List ℕ) → Reading ReportKind (List ℕ)
+next_counts_at links sofar = counts_at (slice_get links (length sofar))
+
+unfoldable pub modules_at : List Link → Reading ReportKind (List (List ℕ))
+modules_at links = do
+  _ ← keyword_at (codes "MODULES")
+  _ ← opening_at
+  list_at Parenthesis (of_length (length links) Limit) (next_counts_at links) []
+
+-- ---- the certificate
+
+-- a cut of the pool, with the state and the lengths of its line
+abbrev pub of_line : List CutLine → ℕ → Placed
+of_line pool i = record { spot = Pool i; state = record { 0 = line_state (slice_get pool i) }; lengths = line_lengths (slice_get pool i) }
+
+unfoldable pub pool_spot_at : List CutLine → Reading ReportKind Placed
+pool_spot_at pool = do
+  i ← number_at 0 (length pool)
+  give (of_line pool i)
+
+unfoldable pub local_spot_at : List Link → List Listed → Reading ReportKind Placed
+local_spot_at links listed = do
+  state ← number_at 0 (length listed + 1)
+  lengths ← numbers_at (length links) (2 ^ 32)
+  give (record { spot = Local; state = record { 0 = state }; lengths = lengths })
+
+abbrev pub spot_branches : List Link → List Listed → List CutLine → Branches Placed
+spot_branches links listed pool = (codes "pool", pool_spot_at pool) ∷ (codes "local", local_spot_at links listed) ∷ []
+
+abbrev pub spot_at : List Link → List Listed → List CutLine → Reading ReportKind Placed
+spot_at links listed pool = branch_at (spot_branches links listed pool)
+
+-- a line after earlier ones
+unfoldable pub certificate_line_at : List Link → List Listed → List CutLine → List CertLine → Reading ReportKind CertLine
+certificate_line_at links listed pool sofar = do
+  _ ← opening_within (has_room 256 sofar)
+  num ← number_at 0 (2 ^ 62)
+  cut ← spot_at links listed pool
+  _ ← keyword_at (codes "right")
+  right ← number_at 0 (2 ^ 84)
+  _ ← closing_at
+  give (record { num = num; spot = cut.spot; cut = record { state = cut.state; lengths = cut.lengths; right = right } })
+
+unfoldable pub certificate_at : List Link → List Listed → List CutLine → Reading ReportKind Certificate
+certificate_at links listed pool = do
+  _ ← keyword_at (codes "CERTIFICATE")
+  _ ← opening_at
+  den ← number_at 1 (2 ^ 72)
+  lines ← list_at Parenthesis no_fault (certificate_line_at links listed pool) []
+  give (record { den = den; lines = lines })

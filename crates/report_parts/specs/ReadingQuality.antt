@@ -1,0 +1,172 @@
+-- Reading how good the bound of a plan is.
+use Rattle.std.specs.Prelude.{ℕ, ◌+◌, ◌^◌, Bool, true, List, [], ◌∷◌, length, Result, codes}
+use Rattle.net_core.specs.declared.columns.Evidence.{Evidence}
+use Rattle.net_core.specs.declared.columns.Evidence.TheVariants.{Route, Master}
+use Rattle.net_core.specs.declared.columns.MasterColumn.{MasterColumn}
+use Rattle.net_core.specs.declared.columns.MasterColumn.TheVariants as master
+use Rattle.net_core.specs.declared.columns.RouteColumn.{RouteColumn}
+use Rattle.net_core.specs.declared.columns.RouteColumn.TheVariants as route
+use Rattle.net_core.specs.declared.columns.WideKind.{WideKind}
+use Rattle.net_core.specs.declared.columns.WideKind.TheVariants as wide
+use Rattle.net_core.specs.declared.demand.Demand.{Demand}
+use Rattle.net_core.specs.declared.network.Link.{Link}
+use Rattle.net_core.specs.declared.plan.Caps.{Caps}
+use Rattle.net_core.specs.declared.states.Listed.{Listed}
+use Rattle.plan_types.specs.declared.quality.Cause.TheVariants.{Wide, Cuts}
+use Rattle.plan_types.specs.declared.quality.Fractional.{Fractional}
+use Rattle.plan_types.specs.declared.quality.Quality.{Quality}
+use Rattle.plan_types.specs.declared.quality.Quality.TheVariants.{Tight, Loose, Unsolved}
+use Rattle.text_kit.specs.Reading.{Reading, ◌>>=◌, give, list_at, of_length, Parenthesis}
+use Rattle.report_words.specs.declared.fault.ReportKind.{ReportKind}
+use Rattle.report_words.specs.declared.fault.ReportKind.TheVariants.{Limit}
+use Rattle.report_words.specs.ReportWords.{demand_at, has_room, link_at, number_at, opening_at}
+use Rattle.report_words.specs.ReportChoices.{Branches, branch_at, branch_within, numbers_at}
+use Rattle.report_parts.specs.ReadingRoutings.{path_at, routings_at}
+
+-- ---- columns
+
+unfoldable pub slack_at : List Link → Reading ReportKind RouteColumn
+slack_at links = do
+  e ← link_at links
+  give (route.LinkSlack e)
+
+unfoldable pub left_at : List Demand → Reading ReportKind RouteColumn
+left_at demands = do
+  k ← demand_at demands
+  give (route.DemandSlack k)
+
+unfoldable pub carry_at : List Link → List Demand → Reading ReportKind RouteColumn
+carry_at links demands = do
+  k ← demand_at demands
+  path ← path_at links
+  give (route.Carry k path)
+
+abbrev pub route_column_branches : List Link → List Demand → Branches RouteColumn
+route_column_branches links demands = (codes "link", slack_at links) ∷ (codes "demand", left_at demands) ∷ (codes "flow", carry_at links demands) ∷ []
+
+abbrev pub route_column_at : List Link → List Demand → Bool → Reading ReportKind RouteColumn
+route_column_at links demands room = branch_within room (route_column_branches links demands)
+
+unfoldable pub price_at : List Link → Reading ReportKind MasterColumn
+price_at links = do
+  e ← link_at links
+  give (master.LinkSlack e)
+
+unfoldable pub metric_at : List Link → List Listed → Reading ReportKind MasterColumn
+metric_at links listed = do
+  state ← number_at 0 (length listed + 1)
+  lengths ← numbers_at (length links) (2 ^ 32)
+  give (master.Metric (record { 0 = state }) lengths)
+
+abbrev pub master_column_branches : List Link → List Listed → Branches MasterColumn
+master_column_branches links listed = (codes "link", price_at links) ∷ (codes "cut", metric_at links listed) ∷ []
+
+abbrev pub master_column_at : List Link → List Listed → Bool → Reading ReportKind MasterColumn
+master_column_at links listed room = branch_within room (master_column_branches links listed)
+
+-- a basis: as many columns as rows
+unfoldable pub basis_at : {C : Type 0} → (Bool → Reading ReportKind C) → ℕ → Reading ReportKind (List C)
+basis_at column rows = opening_at >>= λ _. list_at Parenthesis (of_length rows Limit) (λ sofar. column (has_room rows sofar)) []
+
+-- ---- what is too wide
+
+unfoldable pub wide_number_at : {C : Type 0} → (Bool → Reading ReportKind C) → Reading ReportKind (WideKind C)
+wide_number_at column = do
+  c ← column true
+  give (wide.Number c)
+
+unfoldable pub wide_row_at : {C : Type 0} → ℕ → Reading ReportKind (WideKind C)
+wide_row_at rows = do
+  i ← number_at 0 (rows + 1)
+  give (wide.Row i)
+
+unfoldable pub wide_entry_at : {C : Type 0} → (Bool → Reading ReportKind C) → ℕ → Reading ReportKind (WideKind C)
+wide_entry_at column rows = do
+  i ← number_at 0 (rows + 1)
+  c ← column true
+  give (wide.Product i c)
+
+unfoldable pub wide_sum_at : {C : Type 0} → ℕ → Reading ReportKind (WideKind C)
+wide_sum_at rows = do
+  i ← number_at 0 (rows + 1)
+  give (wide.Sum i)
+
+unfoldable pub wide_length_at : List Link → Reading ReportKind (WideKind RouteColumn)
+wide_length_at links = do
+  e ← link_at links
+  give (wide.Length e)
+
+abbrev pub route_wide_branches : (Bool → Reading ReportKind RouteColumn) → List Link → ℕ → Branches (WideKind RouteColumn)
+route_wide_branches column links rows = (codes "number", wide_number_at column) ∷ (codes "row", wide_row_at rows) ∷ (codes "entry", wide_entry_at column rows) ∷ (codes "sum", wide_sum_at rows)
+    ∷ (codes "common", give wide.Common) ∷ (codes "length", wide_length_at links) ∷ []
+
+abbrev pub route_wide_at : (Bool → Reading ReportKind RouteColumn) → List Link → ℕ → Reading ReportKind (WideKind RouteColumn)
+route_wide_at column links rows = branch_at (route_wide_branches column links rows)
+
+abbrev pub master_wide_branches : (Bool → Reading ReportKind MasterColumn) → ℕ → Branches (WideKind MasterColumn)
+master_wide_branches column rows = (codes "number", wide_number_at column) ∷ (codes "row", wide_row_at rows) ∷ (codes "entry", wide_entry_at column rows) ∷ (codes "sum", wide_sum_at rows)
+    ∷ (codes "common", give wide.Common) ∷ (codes "value", give wide.Value) ∷ []
+
+abbrev pub master_wide_at : (Bool → Reading ReportKind MasterColumn) → ℕ → Reading ReportKind (WideKind MasterColumn)
+master_wide_at column rows = branch_at (master_wide_branches column rows)
+
+-- ---- evidence
+
+-- capacities: their scale, and one number for each link
+unfoldable pub caps_at : List Link → Reading ReportKind Caps
+caps_at links = do
+  scale ← number_at 1 (2 ^ 62)
+  nums ← numbers_at (length links) (2 ^ 126)
+  give (record { scale = scale; nums = nums })
+
+unfoldable pub route_at : List Link → List Listed → List Demand → Reading ReportKind Evidence
+route_at links listed demands = do
+  state ← number_at 0 (length listed + 1)
+  caps ← caps_at links
+  basis ← basis_at (route_column_at links demands) (length links + length demands)
+  kind ← route_wide_at (route_column_at links demands) links (length links + length demands)
+  give (Route (record { 0 = state }) caps basis kind)
+
+unfoldable pub master_at : List Link → List Listed → Reading ReportKind Evidence
+master_at links listed = do
+  basis ← basis_at (master_column_at links listed) (length links)
+  kind ← master_wide_at (master_column_at links listed) (length links)
+  give (Master basis kind)
+
+abbrev pub evidence_branches : List Link → List Listed → List Demand → Branches Evidence
+evidence_branches links listed demands = (codes "route", route_at links listed demands) ∷ (codes "master", master_at links listed) ∷ []
+
+abbrev pub evidence_at : List Link → List Listed → List Demand → Reading ReportKind Evidence
+evidence_at links listed demands = branch_at (evidence_branches links listed demands)
+
+-- ---- quality
+
+-- a share and the routings within it
+unfoldable pub fractional_at : List Link → List Listed → List Demand → Reading ReportKind Fractional
+fractional_at links listed demands = do
+  scale ← number_at 1 (2 ^ 62)
+  units ← numbers_at (length links) (2 ^ 62)
+  routings ← routings_at links listed demands
+  give (record { share = record { scale = scale; units = units }; routings = routings })
+
+unfoldable pub tight_at : List Link → List Listed → List Demand → Reading ReportKind Quality
+tight_at links listed demands = do
+  f ← fractional_at links listed demands
+  give (Tight f)
+
+unfoldable pub too_wide_at : List Link → List Listed → List Demand → Reading ReportKind Quality
+too_wide_at links listed demands = do
+  evidence ← evidence_at links listed demands
+  give (Loose (Wide evidence))
+
+abbrev pub loose_branches : List Link → List Listed → List Demand → Branches Quality
+loose_branches links listed demands = (codes "cuts", give (Loose Cuts)) ∷ (codes "wide", too_wide_at links listed demands) ∷ []
+
+abbrev pub loose_at : List Link → List Listed → List Demand → Reading ReportKind Quality
+loose_at links listed demands = branch_at (loose_branches links listed demands)
+
+abbrev pub quality_branches : List Link → List Listed → List Demand → Branches Quality
+quality_branches links listed demands = (codes "tight", tight_at links listed demands) ∷ (codes "loose", loose_at links listed demands) ∷ (codes "unsolved", give Unsolved) ∷ []
+
+abbrev pub quality_at : List Link → List Listed → List Demand → Reading ReportKind Quality
+quality_at links listed demands = branch_at (quality_branches links listed demands)

@@ -1,0 +1,39 @@
+-- Reading routings, one for each state.
+use Rattle.std.specs.Prelude.{ℕ, ◌+◌, ◌^◌, List, [], length, Result, codes}
+use Rattle.net_core.specs.declared.demand.Demand.{Demand}
+use Rattle.net_core.specs.declared.ids.LinkId.{LinkId}
+use Rattle.net_core.specs.declared.network.Link.{Link}
+use Rattle.net_core.specs.declared.plan.Flow.{Flow}
+use Rattle.net_core.specs.declared.plan.Routing.{Routing}
+use Rattle.net_core.specs.declared.states.Listed.{Listed}
+use Rattle.text_kit.specs.Reading.{Reading, ◌>>=◌, give, list_at, no_fault, not_empty, of_length, Parenthesis, word_at}
+use Rattle.plan_report.specs.Names.{state_name}
+use Rattle.report_words.specs.declared.fault.ReportKind.{ReportKind}
+use Rattle.report_words.specs.declared.fault.ReportKind.TheVariants.{Token, Ended, Limit}
+use Rattle.report_words.specs.ReportWords.{demand_of, has_room, keyword_within, link_at, number_at, opening_at, this_name_at, this_number_at, where_room}
+
+-- a path: one link or more
+unfoldable pub path_at : List Link → Reading ReportKind (List LinkId)
+path_at links = opening_at >>= λ _. list_at Parenthesis (not_empty Token) (λ sofar. link_at links) []
+
+-- a flow after earlier ones
+unfoldable pub flow_at : List Link → List Demand → List Flow → Reading ReportKind Flow
+flow_at links demands sofar = do
+  demand ← word_at Token Ended (λ w. where_room (has_room 65536 sofar) (demand_of demands w))
+  num ← number_at 1 (2 ^ 124)
+  path ← path_at links
+  give (record { demand = demand; path = path; num = num })
+
+-- the routing of a state, after those of the states before it
+unfoldable pub routing_at : List Link → List Listed → List Demand → List Routing → Reading ReportKind Routing
+routing_at links listed demands sofar = do
+  _ ← keyword_within (has_room (length listed + 1) sofar) (codes "state")
+  _ ← this_number_at (length sofar)
+  _ ← this_name_at (state_name listed (length sofar))
+  den ← number_at 1 (2 ^ 62)
+  _ ← opening_at
+  flows ← list_at Parenthesis no_fault (flow_at links demands) []
+  give (record { den = den; flows = flows })
+
+unfoldable pub routings_at : List Link → List Listed → List Demand → Reading ReportKind (List Routing)
+routings_at links listed demands = opening_at >>= λ _. list_at Parenthesis (of_length (length listed + 1) Limit) (routing_at links listed demands) []

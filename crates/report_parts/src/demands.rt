@@ -1,0 +1,209 @@
+ghost use Rattle.std.specs.Prelude.{◌≡◌, ◌<◌, ◌≤◌, ◌^◌, ◌++◌, ◌∷◌, [], length, map, Ok, None, true, not, IsTrue, IfOk, OnOk};
+ghost use Rattle.net_core.specs.Tests.{is_named};
+ghost use Rattle.snd_tokens.specs.Lexemes.{left, size};
+ghost use Rattle.text_kit.specs.Answers.{ReadsAs, TakesElement};
+ghost use Rattle.text_kit.specs.Reading.{list_at, no_fault, Parenthesis, sound, word_at};
+ghost use Rattle.report_words.specs.ReportWords.{demand_at, demand_of, new_demand, where_room};
+ghost use Rattle.report_parts.specs.ReadingParts.{nodes_at, plan_demand_at, plan_demands_at};
+
+use net_core::{Demand, Demands, List, Name, NoMemory, NodeId};
+use report_words::context::Context;
+use report_words::fault::{ReportKind, ReportRefusal};
+use report_words::places::Places;
+use report_words::words::{amount, closing, keyword, opening, unknown_name};
+use snd_tokens::Cursor;
+use std::alloc::Global;
+use text_kit::Refusal;
+use text_kit::names::{is_long, named};
+use text_kit::refusal::bad;
+use text_kit::steps::{closes, placed, word};
+
+const DEMANDS: &[u8] = b"DEMANDS";
+
+/// So many demands can be told apart by their places.
+const MAX_PLACES: usize = u32::MAX as usize;
+
+/// The demands of a plan, which are found by their names.
+#[derive(Drop)]
+pub struct PlanDemands<'a> {
+    pub list: Demands,
+    places: Places<'a>,
+    ghost names: { places ≡ map (λ d. d.name) list },
+    ghost few: { length list < 2 ^ 32 },
+}
+
+impl<'a> PlanDemands<'a> {
+    /// The demand that a word names.
+    fn demand_of(&self, word: &[u8]) -> Result<u32, ReportKind>
+        ensures { result ≡ demand_of self.now.list word.now }
+    {
+        match self.places.find(word) {
+            Some(place) => Ok(place as u32),
+            None => Err(unknown_name(word)),
+        }
+    }
+
+    /// Takes a demand, where there is room for what it begins.
+    pub fn next(&self, room: bool, text: &mut Cursor) -> Result<u32, ReportRefusal>
+        ensures { ReadsAs (λ k. k) result (left text.new) (word_at ReportKind.Token ReportKind.Ended (λ w. where_room room (demand_of self.now.list w)) (left text.old)) }
+    {
+        let (at, word) = word(ReportKind::Token, ReportKind::Ended, text)?;
+        match self.demand_of(word) {
+            Ok(place) => {
+                if room {
+                    return Ok(place);
+                }
+                Err(bad(at, ReportKind::Limit))
+            }
+            Err(kind) => Err(bad(at, kind)),
+        }
+    }
+
+    /// Takes a demand.
+    pub fn demand(&self, text: &mut Cursor) -> Result<u32, ReportRefusal>
+        ensures { ReadsAs (λ k. k) result (left text.new) (demand_at self.now.list (left text.old)) }
+    {
+        let (at, word) = word(ReportKind::Token, ReportKind::Ended, text)?;
+        placed(at, self.demand_of(word))
+    }
+}
+
+/// Puts a name last, where none of these demands has it. It says whether that is so.
+fn put_name<'a>(places: &mut Places<'a>, sofar: &[Demand], name: &'a [u8]) -> Result<bool, NoMemory>
+    requires { places.old ≡ map (λ d. d.name) sofar.now }
+    ensures new { IfOk result (λ new. new ≡ true → places.new ≡ places.old ++ name.now ∷ []) }
+    ensures known { IfOk result (λ new. is_named (λ d. d.name) name.now sofar.now ≡ not new) }
+{
+    if places.add(name)? {
+        return Ok(true);
+    }
+    Ok(false)
+}
+
+/// What is wrong with a word as the name of a demand after these ones. A name without fault is put
+/// last.
+fn name_fault<'a>(
+    places: &mut Places<'a>,
+    sofar: &[Demand],
+    word: &'a [u8],
+) -> Result<Option<ReportKind>, NoMemory>
+    requires { places.old ≡ map (λ d. d.name) sofar.now }
+    ensures fault { IfOk result (λ f. sound word.now f ≡ new_demand sofar.now word.now) }
+    ensures short { IfOk result (λ f. f ≡ None → length word.now ≤ 255) }
+    ensures places { IfOk result (λ f. f ≡ None → places.new ≡ places.old ++ word.now ∷ []) }
+{
+    if is_long(word) {
+        return Ok(Some(ReportKind::LimitName));
+    }
+    if !put_name(places, sofar, word)? {
+        return Ok(Some(ReportKind::DoubleName));
+    }
+    Ok(None)
+}
+
+/// Takes a name that none of these demands has, and puts it last.
+fn new_name<'a>(
+    alloc: Global,
+    places: &mut Places<'a>,
+    sofar: &[Demand],
+    text: &mut Cursor<'a>,
+) -> Result<Name, ReportRefusal>
+    requires { places.old ≡ map (λ d. d.name) sofar.now }
+    ensures reads { ReadsAs (λ n. n) result (left text.new) (word_at ReportKind.Token ReportKind.Ended (new_demand sofar.now) (left text.old)) }
+    ensures places { IfOk result (λ n. places.new ≡ places.old ++ n ∷ []) }
+{
+    let (at, word) = word(ReportKind::Token, ReportKind::Ended, text)?;
+    if let Some(kind) = name_fault(places, sofar, word)? {
+        return Err(bad(at, kind));
+    }
+    named(alloc, at, word, None)
+}
+
+/// Takes two nodes between parentheses.
+#[tactic(auto, unfolding(crate::specs::ReadingParts::nodes_at))]
+fn nodes(context: &Context, text: &mut Cursor) -> Result<(NodeId, NodeId), ReportRefusal>
+    ensures { ReadsAs (λ p. p) result (left text.new) (nodes_at context.now.net.now.nodes (left text.old)) }
+{
+    opening(text)?;
+    let from = context.node(text)?;
+    let to = context.node(text)?;
+    closing(text)?;
+    Ok((from, to))
+}
+
+/// Takes a demand after these ones.
+#[tactic(auto, unfolding(crate::specs::ReadingParts::plan_demand_at))]
+fn demand<'a>(
+    alloc: Global,
+    context: &Context,
+    places: &mut Places<'a>,
+    sofar: &[Demand],
+    text: &mut Cursor<'a>,
+) -> Result<Demand, ReportRefusal>
+    requires { places.old ≡ map (λ d. d.name) sofar.now }
+    ensures reads { ReadsAs (λ d. d) result (left text.new) (plan_demand_at context.now.net.now.nodes sofar.now (left text.old)) }
+    ensures places { IfOk result (λ d. places.new ≡ places.old ++ d.name ∷ []) }
+{
+    let name = new_name(alloc, places, sofar, text)?;
+    let (from, to) = nodes(context, text)?;
+    let need = amount(text)?;
+    Ok(Demand {
+        name,
+        from,
+        to,
+        need,
+    })
+}
+
+/// Takes one demand more, and says whether there was one. There is no memory for 2^32 demands.
+fn take_demand<'a>(
+    alloc: Global,
+    context: &Context,
+    places: &mut Places<'a>,
+    all: &mut Demands,
+    text: &mut Cursor<'a>,
+) -> Result<bool, ReportRefusal>
+    requires { places.old ≡ map (λ d. d.name) all.old }
+    ensures turn { TakesElement result (list_at Parenthesis no_fault (plan_demand_at context.now.net.now.nodes) all.old (left text.old)) (list_at Parenthesis no_fault (plan_demand_at context.now.net.now.nodes) all.new (left text.new)) (Ok (all.new, left text.new)) }
+    ensures shorter { IfOk result (λ more. IsTrue more → size (left text.new) < size (left text.old)) }
+    ensures places { OnOk result (places.new ≡ map (λ d. d.name) all.new) }
+    ensures few { OnOk result (length all.old < 2 ^ 32 → length all.new < 2 ^ 32) }
+{
+    if let Some(_) = closes(text) {
+        return Ok(false);
+    }
+    if all.len() >= MAX_PLACES {
+        return Err(Refusal::NoMemory);
+    }
+    let demand = demand(alloc, context, places, all.items(), text)?;
+    all.push(demand)?;
+    Ok(true)
+}
+
+/// Takes demands, up to the closing parenthesis.
+fn list<'a>(
+    alloc: Global,
+    context: &Context,
+    text: &mut Cursor<'a>,
+) -> Result<PlanDemands<'a>, ReportRefusal>
+    ensures { ReadsAs (λ d. d.list) result (left text.new) (list_at Parenthesis no_fault (plan_demand_at context.now.net.now.nodes) [] (left text.old)) }
+{
+    let mut places = Places::new(alloc);
+    let mut list = List::new(alloc);
+    while take_demand(alloc, context, &mut places, &mut list, text)? {}
+    Ok(PlanDemands { list, places })
+}
+
+/// Takes the demands of a plan.
+#[tactic(auto, unfolding(crate::specs::ReadingParts::plan_demands_at))]
+pub fn plan_demands<'a>(
+    alloc: Global,
+    context: &Context,
+    text: &mut Cursor<'a>,
+) -> Result<PlanDemands<'a>, ReportRefusal>
+    ensures { ReadsAs (λ d. d.list) result (left text.new) (plan_demands_at context.now.net.now.nodes (left text.old)) }
+{
+    keyword(DEMANDS, text)?;
+    opening(text)?;
+    list(alloc, context, text)
+}

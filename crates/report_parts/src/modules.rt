@@ -1,0 +1,199 @@
+ghost use Rattle.std.specs.Prelude.{◌≡◌, ◌+◌, ◌∷◌, ◌++◌, ◌<◌, ◌≤◌, ◌^◌, ◌*◌, [], ℕ, List, length, min, nat_lt, None, Some};
+ghost use Rattle.snd_tokens.specs.Lexemes.{left};
+ghost use Rattle.plan_terms.specs.Capacities.{modules_capacity};
+ghost use Rattle.text_kit.specs.Answers.{Fails, ReadsAs};
+ghost use Rattle.text_kit.specs.Reading.{list_at, of_length, Parenthesis};
+ghost use Rattle.report_words.specs.ReportWords.{whole_within};
+ghost use Rattle.report_parts.specs.ReadingParts.{count_at, count_within, counts_at, modules_at, next_counts_at};
+
+use net_core::{Counts, Link, List, Module};
+use report_words::element::{Element, list};
+use report_words::fault::{ReportKind, ReportRefusal};
+use report_words::numbers::of_length;
+use report_words::words::{keyword, opening, this_name, unknown_name, whole_within};
+use snd_tokens::Cursor;
+use std::alloc::Global;
+use text_kit::refusal::bad;
+use text_kit::steps::{placed, word};
+
+const MODULES: &[u8] = b"MODULES";
+
+const COUNT_LIMIT: u128 = 1 << 44;
+
+const CAPACITY_LIMIT: u64 = 1 << 46;
+
+/// The capacity with so many modules more; at most the limit.
+fn capped(before: u64, module: Module, count: u64) -> u64
+    requires { before ≤ 2 ^ 46 }
+    ensures { result ≡ min (before + module.capacity * count) (2 ^ 46) }
+{
+    let added = u128::from(module.capacity) * u128::from(count);
+    if added >= u128::from(CAPACITY_LIMIT) {
+        return CAPACITY_LIMIT;
+    }
+    let capacity = before + added as u64;
+    if capacity >= CAPACITY_LIMIT {
+        return CAPACITY_LIMIT;
+    }
+    capacity
+}
+
+/// The capacity of a link with so many of its first modules; at most the limit.
+fn capacity(link: &Link, counts: &[u64]) -> u64
+    requires { length counts.now ≤ length link.now.modules }
+    ensures { result ≡ min (link.now.fixed + modules_capacity link.now.modules counts.now) (2 ^ 46) }
+{
+    let mut capacity = capped(
+        0,
+        Module {
+            capacity: link.fixed,
+            cost: 0,
+        },
+        1,
+    );
+    for i in 0..counts.len() {
+        capacity = capped(capacity, link.modules.items()[i], counts[i]);
+    }
+    capacity
+}
+
+/// Whether a link with so many of its first modules and `count` of the next one stays below the
+/// limit of its capacity.
+fn fits(link: &Link, sofar: &[u64], count: u64) -> bool
+    requires { length sofar.now < length link.now.modules }
+    ensures { result ≡ nat_lt (link.now.fixed + modules_capacity link.now.modules (sofar.now ++ count ∷ [])) (2 ^ 46) }
+{
+    capped(
+        capacity(link, sofar),
+        link.modules.items()[sofar.len()],
+        count,
+    ) < CAPACITY_LIMIT
+}
+
+/// The count that a word writes after these ones.
+fn count_of(link: &Link, sofar: &[u64], word: &[u8]) -> Result<u64, ReportKind>
+    ensures { result ≡ count_within link.now sofar.now (whole_within 0 (2 ^ 44) word.now) }
+{
+    match whole_within(0, COUNT_LIMIT, word) {
+        Ok(count) => {
+            if sofar.len() < link.modules.len() && fits(link, sofar, count as u64) {
+                return Ok(count as u64);
+            }
+            Err(ReportKind::Limit)
+        }
+        Err(kind) => Err(kind),
+    }
+}
+
+/// The counts of a link's modules.
+#[derive(Clone, Copy)]
+struct CountList<'a> {
+    link: &'a Link,
+}
+
+impl<'a> Element for CountList<'a> {
+    ghost use Rattle.std.specs.Prelude.{length};
+    ghost use Rattle.text_kit.specs.Reading.{of_length};
+    ghost use Rattle.report_parts.specs.ReadingParts.{count_at};
+    ghost use Rattle.report_words.specs.declared.fault.ReportKind.TheVariants.{Limit};
+
+    type Item = u64;
+
+    ghost reading = { λ l. count_at l.link.now };
+
+    ghost fault = { λ l. of_length (length l.link.now.modules) Limit };
+
+    fn take(&self, alloc: Global, sofar: &[u64], text: &mut Cursor) -> Result<u64, ReportRefusal> {
+        let (at, word) = word(ReportKind::Token, ReportKind::Ended, text)?;
+        placed(at, count_of(self.link, sofar, word))
+    }
+
+    fn fault(&self, all: &[u64]) -> Option<ReportKind> {
+        of_length(self.link.modules.len(), all)
+    }
+}
+
+/// Takes the counts of a link's modules, up to the closing parenthesis.
+fn link_counts(alloc: Global, link: &Link, text: &mut Cursor) -> Result<List<u64>, ReportRefusal>
+    ensures { ReadsAs (λ l. l) result (left text.new) (list_at Parenthesis (of_length (length link.now.modules) ReportKind.Limit) (count_at link.now) [] (left text.old)) }
+{
+    list(alloc, &CountList { link }, text)
+}
+
+/// Takes the name of the next link and the counts of its modules.
+#[tactic(auto, unfolding(crate::specs::ReadingParts::counts_at))]
+fn known_counts(alloc: Global, link: &Link, text: &mut Cursor) -> Result<List<u64>, ReportRefusal>
+    ensures { ReadsAs (λ l. l) result (left text.new) (counts_at (Some link.now) (left text.old)) }
+{
+    this_name(link.name.bytes(), text)?;
+    opening(text)?;
+    link_counts(alloc, link, text)
+}
+
+/// Takes a name after that of the last link.
+#[tactic(auto, unfolding(crate::specs::ReadingParts::counts_at))]
+fn unknown_counts(text: &mut Cursor) -> ReportRefusal
+    ensures { Fails {Y = List ℕ} result (counts_at None (left text.old)) }
+{
+    match word(ReportKind::Token, ReportKind::Ended, text) {
+        Ok((at, word)) => bad(at, unknown_name(word)),
+        Err(refusal) => refusal,
+    }
+}
+
+/// Takes the counts of the link after so many others.
+fn next_counts(
+    alloc: Global,
+    links: &[Link],
+    sofar: &[List<u64>],
+    text: &mut Cursor,
+) -> Result<List<u64>, ReportRefusal>
+    ensures { ReadsAs (λ l. l) result (left text.new) (next_counts_at links.now sofar.now (left text.old)) }
+{
+    match links.get(sofar.len()) {
+        Some(link) => known_counts(alloc, link, text),
+        None => Err(unknown_counts(text)),
+    }
+}
+
+/// The counts of all links.
+#[derive(Clone, Copy)]
+struct ModuleList<'a> {
+    links: &'a [Link],
+}
+
+impl<'a> Element for ModuleList<'a> {
+    ghost use Rattle.std.specs.Prelude.{length};
+    ghost use Rattle.text_kit.specs.Reading.{of_length};
+    ghost use Rattle.report_parts.specs.ReadingParts.{next_counts_at};
+    ghost use Rattle.report_words.specs.declared.fault.ReportKind.TheVariants.{Limit};
+
+    type Item = List<u64>;
+
+    ghost reading = { λ l. next_counts_at l.links.now };
+
+    ghost fault = { λ l. of_length (length l.links.now) Limit };
+
+    fn take(
+        &self,
+        alloc: Global,
+        sofar: &[List<u64>],
+        text: &mut Cursor,
+    ) -> Result<List<u64>, ReportRefusal> {
+        next_counts(alloc, self.links, sofar, text)
+    }
+
+    fn fault(&self, all: &[List<u64>]) -> Option<ReportKind> {
+        of_length(self.links.len(), all)
+    }
+}
+
+/// Takes the modules of all links.
+#[tactic(auto, unfolding(crate::specs::ReadingParts::modules_at))]
+pub fn modules(alloc: Global, links: &[Link], text: &mut Cursor) -> Result<Counts, ReportRefusal>
+    ensures { ReadsAs (λ l. l) result (left text.new) (modules_at links.now (left text.old)) }
+{
+    keyword(MODULES, text)?;
+    opening(text)?;
+    list(alloc, &ModuleList { links }, text)
+}

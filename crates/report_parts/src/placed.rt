@@ -1,0 +1,10 @@
+use net_core::{Lengths, StateId};
+use plan_types::Spot;
+
+/// The cut of a certificate's line: where it stands, its state and its lengths.
+#[derive(Drop)]
+pub struct Placed {
+    pub spot: Spot,
+    pub state: StateId,
+    pub lengths: Lengths,
+}

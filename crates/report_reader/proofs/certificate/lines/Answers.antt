@@ -1,5 +1,0 @@
-use Rattle.report_reader.proofs.ReportOnline.{certificate_line_some}
-use Rattle.report_reader.proofs.certificate.lines.Goals as goal
-
-pub list-requires : goal.list-requires
-list-requires c = λ sofar t x rest. certificate_line_some c.args.context.now.net.now.links c.args.context.now.states.now.listed c.args.pool.now sofar t x rest

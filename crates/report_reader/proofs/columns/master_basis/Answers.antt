@@ -1,6 +1,0 @@
-use Rattle.report_reader.specs.ReportWords.{has_room}
-use Rattle.report_reader.proofs.ReportOnline.{master_column_some}
-use Rattle.report_reader.proofs.columns.master_basis.Goals as goal
-
-pub list-requires : goal.list-requires
-list-requires c = λ sofar t x rest. master_column_some c.args.context.now.net.now.links c.args.context.now.states.now.listed (has_room c.args.rows sofar) t x rest

@@ -1,5 +1,0 @@
-use Rattle.report_reader.proofs.ReportOnline.{count_some}
-use Rattle.report_reader.proofs.modules.link_counts.Goals as goal
-
-pub list-requires : goal.list-requires
-list-requires c = λ sofar t x rest. count_some c.args.link.now sofar t x rest

@@ -1,5 +1,0 @@
-use Rattle.report_reader.proofs.ReportOnline.{next_number_some}
-use Rattle.report_reader.proofs.numbers.capacities.Goals as goal
-
-pub list-requires : goal.list-requires
-list-requires c = λ sofar t x rest. next_number_some c.args.count _ sofar t x rest

@@ -1,5 +1,0 @@
-use Rattle.report_reader.proofs.ReportOnline.{routing_some}
-use Rattle.report_reader.proofs.routing.routings.Goals as goal
-
-pub list-requires : goal.list-requires
-list-requires c = λ sofar t x rest. routing_some c.args.context.now.net.now.links c.args.context.now.states.now.listed c.args.demands.now.list sofar t x rest

@@ -1,0 +1,9 @@
+pub mod Branching
+pub mod Making
+pub mod BranchLaws
+pub mod WordLaws
+pub mod ListLaws
+pub mod NumberLaws
+pub mod WordsOnline
+pub mod Lookups
+pub mod Once

@@ -1,0 +1,7 @@
+use Rattle.text_kit.specs.Reading.{Parenthesis}
+use Rattle.text_kit.proofs.Turns.{list_turn}
+use Rattle.report_words.proofs.element.take_element.Goals as goal
+
+pub returns-clause-turn : goal.returns-clause-turn
+returns-clause-turn g c =
+    rw c.in_ok-push.ensures.ok (list_turn Parenthesis (g.E.Element.fault c.args.element.now) (g.E.Element.reading c.args.element.now) c.requires c.args.all.now _ _ _ c.in_default.ensures.1 (rw (c.in_default.ensures.0, c.items-2.ensures) at c.in_ok-one.ensures))

@@ -1,0 +1,3 @@
+pub mod ReportKinds
+pub mod ReportWords
+pub mod ReportChoices

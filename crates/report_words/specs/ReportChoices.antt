@@ -1,0 +1,38 @@
+-- Words that say what comes after them, and lists of numbers.
+use Rattle.std.specs.Prelude.{ℕ, Bool, true, nat_lt, if◌then◌else◌, List, [], ◌∷◌, length, Result, Ok, Err}
+use Rattle.net_core.specs.Tests.{are_same}
+use Rattle.snd_tokens.specs.Lexemes.{Text, WordAt, OpenAt, CloseAt, EndAt}
+use Rattle.text_kit.specs.Reading.{Read, Reading, ◌>>=◌, list_at, of_length, Parenthesis, placed, word_at}
+use Rattle.report_words.specs.declared.fault.ReportKind.{ReportKind}
+use Rattle.report_words.specs.declared.fault.ReportKind.TheVariants.{Token, Ended, Limit}
+use Rattle.report_words.specs.ReportWords.{has_room, opening_at, where_room, whole_within}
+
+-- words, each with the reading of what comes after it
+abbrev pub Branches : Type 0 → Type 0
+Branches X = List (List ℕ × Reading ReportKind X)
+
+-- the reading after a word at a place, by the first branch that has it
+abbrev pub branch_of : {X : Type 0} → Bool → Branches X → ℕ → List ℕ → Reading ReportKind X
+branch_of room [] at w text = Err (at, Token)
+branch_of room (b ∷ bs) at w text = if are_same w b.0 then (if room then b.1 text else Err (at, Limit)) else branch_of room bs at w text
+
+-- a word of a branch, where there is room for what it begins, and what comes after it; or a closing parenthesis, if that may stand there
+abbrev pub branch_or : {X : Type 0} → Bool → Result X ReportKind → Branches X → Reading ReportKind X
+branch_or room closing branches (WordAt at w rest) = branch_of room branches at w rest
+branch_or room closing branches (OpenAt at rest) = Err (at, Token)
+branch_or room closing branches (CloseAt at rest) = placed at rest closing
+branch_or room closing branches (EndAt at) = Err (at, Ended)
+
+abbrev pub branch_within : {X : Type 0} → Bool → Branches X → Reading ReportKind X
+branch_within room branches = branch_or room (Err Token) branches
+
+abbrev pub branch_at : {X : Type 0} → Branches X → Reading ReportKind X
+branch_at branches = branch_within true branches
+
+-- a number below a limit, after others of which n are due
+abbrev pub next_number_at : ℕ → ℕ → List ℕ → Reading ReportKind ℕ
+next_number_at n limit sofar = word_at Token Ended (λ w. where_room (has_room n sofar) (whole_within 0 limit w))
+
+-- n numbers below a limit, between parentheses
+unfoldable pub numbers_at : ℕ → ℕ → Reading ReportKind (List ℕ)
+numbers_at n limit = opening_at >>= λ _. list_at Parenthesis (of_length n Limit) (next_number_at n limit) []

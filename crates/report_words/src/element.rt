@@ -1,0 +1,72 @@
+ghost use Rattle.std.specs.Prelude.{◌≡◌, ◌<◌, ℕ, List, [], Option, Ok, IfOk, IsTrue};
+ghost use Rattle.snd_tokens.specs.Lexemes.{Text, left, size};
+ghost use Rattle.text_kit.specs.Answers.{ReadsAs, TakesElement};
+ghost use Rattle.text_kit.specs.Reading.{Reading, Parenthesis, list_at};
+ghost use Rattle.report_words.specs.declared.fault.ReportKind.{ReportKind};
+
+use crate::fault::{ReportKind, ReportRefusal};
+use net_core::List;
+use snd_tokens::Cursor;
+use std::alloc::Global;
+use text_kit::refusal::bad;
+use text_kit::steps::closes;
+
+/// The elements of a list in a text, up to its closing parenthesis.
+pub trait Element {
+    type Item: Drop;
+
+    /// An element after earlier ones.
+    ghost reading: { Self → List Self.Item → Reading ReportKind Self.Item };
+
+    /// What is wrong with a list that ends.
+    ghost fault: { Self → List Self.Item → Option ReportKind };
+
+    /// Takes an element after these ones.
+    fn take(
+        &self,
+        alloc: Global,
+        sofar: &[Self::Item],
+        text: &mut Cursor,
+    ) -> Result<Self::Item, ReportRefusal>
+        ensures { ReadsAs (λ x. x) result (left text.new) (reading self.now sofar.now (left text.old)) };
+
+    /// What is wrong with a list that ends.
+    fn fault(&self, all: &[Self::Item]) -> Option<ReportKind>
+        ensures { result ≡ fault self.now all.now };
+}
+
+/// Takes one element more, and says whether there was one.
+fn take_element<E: Element>(
+    alloc: Global,
+    element: &E,
+    all: &mut List<E::Item>,
+    text: &mut Cursor,
+) -> Result<bool, ReportRefusal>
+    requires { (sofar : List E.Item) (t : Text) (x : E.Item) (rest : Text) → E.reading element.now sofar t ≡ Ok (x, rest) → size rest < size t }
+    ensures turn { TakesElement result (list_at Parenthesis (E.fault element.now) (E.reading element.now) all.old (left text.old)) (list_at Parenthesis (E.fault element.now) (E.reading element.now) all.new (left text.new)) (Ok (all.new, left text.new)) }
+    ensures shorter { IfOk result (λ more. IsTrue more → size (left text.new) < size (left text.old)) }
+{
+    if let Some(at) = closes(text) {
+        if let Some(kind) = element.fault(all.items()) {
+            return Err(bad(at, kind));
+        }
+        return Ok(false);
+    }
+    let one = element.take(alloc, all.items(), text)?;
+    all.push(one)?;
+    Ok(true)
+}
+
+/// Takes elements, up to the closing parenthesis.
+pub fn list<E: Element>(
+    alloc: Global,
+    element: &E,
+    text: &mut Cursor,
+) -> Result<List<E::Item>, ReportRefusal>
+    requires { (sofar : List E.Item) (t : Text) (x : E.Item) (rest : Text) → E.reading element.now sofar t ≡ Ok (x, rest) → size rest < size t }
+    ensures { ReadsAs (λ l. l) result (left text.new) (list_at Parenthesis (E.fault element.now) (E.reading element.now) [] (left text.old)) }
+{
+    let mut all = List::new(alloc);
+    while take_element(alloc, element, &mut all, text)? {}
+    Ok(all)
+}

@@ -1,0 +1,51 @@
+ghost use Rattle.std.specs.Prelude.{◌≡◌};
+ghost use Rattle.report_words.specs.ReportKinds.{report_kind_word};
+
+use snd_tokens::NumberFault;
+use text_kit::Refusal;
+use text_kit::fault_word::number_word;
+
+/// What is wrong with a report.
+#[derive(Clone, Copy, Debug, PartialEq, Eq)]
+pub enum ReportKind {
+    /// The first line is another.
+    Header,
+    /// Something other than a section's word, the parenthesis after it, or the end.
+    Section,
+    /// Any other token of the wrong sort, or another word than one that is expected.
+    Token,
+    /// The file ends where something is expected.
+    Ended,
+    /// A number is faulty.
+    Number(NumberFault),
+    /// No link, node, demand or state has the name, or another one than it is expected.
+    UnknownName,
+    /// An earlier demand of the plan has a demand's name.
+    DoubleName,
+    /// A name of more than 255 bytes.
+    LimitName,
+    /// A number that is out of its range, or something that is one too many or one too few.
+    Limit,
+}
+
+impl ReportKind {
+    /// How the kind is written.
+    pub fn word(&self) -> &'static str
+        ensures { result.now ≡ report_kind_word self.now }
+    {
+        match self {
+            ReportKind::Header => "header",
+            ReportKind::Section => "section",
+            ReportKind::Token => "token",
+            ReportKind::Ended => "ended",
+            ReportKind::Number(fault) => number_word(*fault),
+            ReportKind::UnknownName => "unknown-name",
+            ReportKind::DoubleName => "double-name",
+            ReportKind::LimitName => "limit-name",
+            ReportKind::Limit => "limit",
+        }
+    }
+}
+
+/// Why a report was not read.
+pub type ReportRefusal = Refusal<ReportKind>;

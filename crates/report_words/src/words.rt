@@ -1,0 +1,248 @@
+ghost use Rattle.std.specs.Prelude.{◌≡◌, ◌≤◌, ◌<◌, ◌^◌, ◌+◌, nat_lt, length, true, Ok, None, IfOk};
+ghost use Rattle.snd_tokens.specs.Lexemes.{left};
+ghost use Rattle.snd_tokens.specs.Amounts.{amount_of, money_of};
+ghost use Rattle.text_kit.specs.Answers.{ReadsAs};
+ghost use Rattle.text_kit.specs.Names.{long_name_fault};
+ghost use Rattle.text_kit.specs.Numbers.{number_or};
+ghost use Rattle.text_kit.specs.Reading.{expected, word_at};
+ghost use Rattle.report_words.specs.ReportWords.{amount_at, closing_at, keyword_at, keyword_within, money_at, money_below, name_at, number_at, opening_at, opening_within, this_name, this_name_at, this_number, this_number_at, unknown_name, where_room, whole_within, within};
+
+use crate::fault::{ReportKind, ReportRefusal};
+use net_core::Name;
+use snd_tokens::{Cursor, Next, NumberFault, WholeFault, milli, money, whole};
+use std::alloc::Global;
+use text_kit::names::{is_long, named};
+use text_kit::refusal::bad;
+use text_kit::steps::{close, expect, open, placed, word};
+
+/// A whole number from `least`, below `limit`, or its fault.
+fn within(least: u128, limit: u128, number: Result<u128, WholeFault>) -> Result<u128, ReportKind>
+    ensures value { result ≡ within least limit number }
+    ensures least { IfOk result (λ n. least ≤ n) }
+    ensures below { IfOk result (λ n. n < limit) }
+{
+    match number {
+        Ok(number) => {
+            if least <= number && number < limit {
+                return Ok(number);
+            }
+            Err(ReportKind::Limit)
+        }
+        Err(WholeFault::NotANumber) => Err(ReportKind::Number(NumberFault::NotANumber)),
+        Err(WholeFault::TooLarge) => Err(ReportKind::Number(NumberFault::TooLarge)),
+    }
+}
+
+/// The whole number that a word writes, from `least`, below `limit`.
+pub fn whole_within(least: u128, limit: u128, word: &[u8]) -> Result<u128, ReportKind>
+    ensures value { result ≡ whole_within least limit word.now }
+    ensures least { IfOk result (λ n. least ≤ n) }
+    ensures below { IfOk result (λ n. n < limit) }
+{
+    within(least, limit, whole(word))
+}
+
+/// Takes a whole number from `least`, below `limit`.
+pub fn number(least: u128, limit: u128, text: &mut Cursor) -> Result<u128, ReportRefusal>
+    ensures reads { ReadsAs (λ n. n) result (left text.new) (number_at least limit (left text.old)) }
+    ensures least { IfOk result (λ n. least ≤ n) }
+    ensures below { IfOk result (λ n. n < limit) }
+{
+    let (at, word) = word(ReportKind::Token, ReportKind::Ended, text)?;
+    match whole_within(least, limit, word) {
+        Ok(number) => Ok(number),
+        Err(kind) => Err(bad(at, kind)),
+    }
+}
+
+/// Takes a whole number from `least`, below `limit`, which is 2^32 at most.
+pub fn small(least: u128, limit: u128, text: &mut Cursor) -> Result<u32, ReportRefusal>
+    requires { limit ≤ 2 ^ 32 }
+    ensures reads { ReadsAs (λ n. n) result (left text.new) (number_at least limit (left text.old)) }
+    ensures below { IfOk result (λ n. n < limit) }
+{
+    Ok(number(least, limit, text)? as u32)
+}
+
+/// Takes a whole number from `least`, below `limit`, which is 2^64 at most.
+pub fn medium(least: u128, limit: u128, text: &mut Cursor) -> Result<u64, ReportRefusal>
+    requires { limit ≤ 2 ^ 64 }
+    ensures { ReadsAs (λ n. n) result (left text.new) (number_at least limit (left text.old)) }
+{
+    Ok(number(least, limit, text)? as u64)
+}
+
+/// Takes a whole number below `limit`, where there is room for one.
+pub fn next_number(room: bool, limit: u128, text: &mut Cursor) -> Result<u128, ReportRefusal>
+    ensures reads { ReadsAs (λ n. n) result (left text.new) (word_at ReportKind.Token ReportKind.Ended (λ w. where_room room (whole_within 0 limit w)) (left text.old)) }
+    ensures below { IfOk result (λ n. n < limit) }
+{
+    let (at, word) = word(ReportKind::Token, ReportKind::Ended, text)?;
+    match whole_within(0, limit, word) {
+        Ok(number) => {
+            if room {
+                return Ok(number);
+            }
+            Err(bad(at, ReportKind::Limit))
+        }
+        Err(kind) => Err(bad(at, kind)),
+    }
+}
+
+/// Tests that a word is this very number.
+fn this_number(expected: u64, word: &[u8]) -> Result<(), ReportKind>
+    ensures { result ≡ this_number expected word.now }
+{
+    let expected = u128::from(expected);
+    match whole_within(expected, expected + 1, word) {
+        Ok(_) => Ok(()),
+        Err(kind) => Err(kind),
+    }
+}
+
+/// Takes this very number.
+pub fn this(expected: u64, text: &mut Cursor) -> Result<(), ReportRefusal>
+    ensures { ReadsAs (λ _. tt) result (left text.new) (this_number_at expected (left text.old)) }
+{
+    let (at, word) = word(ReportKind::Token, ReportKind::Ended, text)?;
+    placed(at, this_number(expected, word))
+}
+
+/// The money that a word writes, below `limit`, in thousandths.
+fn money_below(limit: u128, word: &[u8]) -> Result<u128, ReportKind>
+    ensures value { result ≡ money_below limit word.now }
+    ensures below { IfOk result (λ n. n < limit) }
+{
+    match money(word) {
+        Ok(money) => {
+            if money < limit {
+                return Ok(money);
+            }
+            Err(ReportKind::Limit)
+        }
+        Err(fault) => Err(ReportKind::Number(fault)),
+    }
+}
+
+/// Takes money below `limit`, in thousandths.
+pub fn sum(limit: u128, text: &mut Cursor) -> Result<u128, ReportRefusal>
+    ensures reads { ReadsAs (λ n. n) result (left text.new) (money_at limit (left text.old)) }
+    ensures below { IfOk result (λ n. n < limit) }
+{
+    let (at, word) = word(ReportKind::Token, ReportKind::Ended, text)?;
+    match money_below(limit, word) {
+        Ok(money) => Ok(money),
+        Err(kind) => Err(bad(at, kind)),
+    }
+}
+
+/// The amount that a word writes, in thousandths.
+fn amount_of(word: &[u8]) -> Result<u64, ReportKind>
+    ensures { result ≡ number_or ReportKind.Number (amount_of word.now) }
+{
+    match milli(word) {
+        Ok(amount) => Ok(amount),
+        Err(fault) => Err(ReportKind::Number(fault)),
+    }
+}
+
+/// Takes an amount, in thousandths.
+pub fn amount(text: &mut Cursor) -> Result<u64, ReportRefusal>
+    ensures { ReadsAs (λ n. n) result (left text.new) (amount_at (left text.old)) }
+{
+    let (at, word) = word(ReportKind::Token, ReportKind::Ended, text)?;
+    placed(at, amount_of(word))
+}
+
+/// What is wrong with a word as a name.
+fn long_fault(word: &[u8]) -> Option<ReportKind>
+    ensures value { result ≡ long_name_fault ReportKind.LimitName word.now }
+    ensures short { result ≡ None → length word.now ≤ 255 }
+{
+    if is_long(word) {
+        return Some(ReportKind::LimitName);
+    }
+    None
+}
+
+/// Takes a name.
+pub fn name(alloc: Global, text: &mut Cursor) -> Result<Name, ReportRefusal>
+    ensures { ReadsAs (λ n. n) result (left text.new) (name_at (left text.old)) }
+{
+    let (at, word) = word(ReportKind::Token, ReportKind::Ended, text)?;
+    named(alloc, at, word, long_fault(word))
+}
+
+/// What is wrong with a word as a name that nothing has.
+pub fn unknown_name(word: &[u8]) -> ReportKind
+    ensures { result ≡ unknown_name word.now }
+{
+    if is_long(word) {
+        return ReportKind::LimitName;
+    }
+    ReportKind::UnknownName
+}
+
+/// Takes this very name.
+pub fn this_name(name: &[u8], text: &mut Cursor) -> Result<(), ReportRefusal>
+    ensures { ReadsAs (λ _. tt) result (left text.new) (this_name_at name.now (left text.old)) }
+{
+    let (at, word) = word(ReportKind::Token, ReportKind::Ended, text)?;
+    if word == name {
+        return Ok(());
+    }
+    Err(bad(at, unknown_name(word)))
+}
+
+/// Takes a word that is expected.
+pub fn keyword(wanted: &[u8], text: &mut Cursor) -> Result<(), ReportRefusal>
+    ensures { ReadsAs (λ _. tt) result (left text.new) (keyword_at wanted.now (left text.old)) }
+{
+    expect(ReportKind::Token, ReportKind::Ended, wanted, text)
+}
+
+/// Takes a word that is expected, where there is room for what it begins.
+pub fn keyword_within(room: bool, wanted: &[u8], text: &mut Cursor) -> Result<(), ReportRefusal>
+    ensures reads { ReadsAs (λ _. tt) result (left text.new) (keyword_within room wanted.now (left text.old)) }
+    ensures room { IfOk result (λ _. room ≡ true) }
+{
+    let (at, word) = word(ReportKind::Token, ReportKind::Ended, text)?;
+    if word != wanted {
+        return Err(bad(at, ReportKind::Token));
+    }
+    if room {
+        return Ok(());
+    }
+    Err(bad(at, ReportKind::Limit))
+}
+
+/// Takes an opening parenthesis.
+pub fn opening(text: &mut Cursor) -> Result<(), ReportRefusal>
+    ensures { ReadsAs (λ _. tt) result (left text.new) (opening_at (left text.old)) }
+{
+    open(ReportKind::Token, ReportKind::Ended, text)
+}
+
+/// Takes an opening parenthesis, where there is room for what it begins.
+pub fn opening_within(room: bool, text: &mut Cursor) -> Result<(), ReportRefusal>
+    ensures reads { ReadsAs (λ _. tt) result (left text.new) (opening_within room (left text.old)) }
+    ensures room { IfOk result (λ _. room ≡ true) }
+{
+    match text.next() {
+        Next::Open(at) => {
+            if room {
+                return Ok(());
+            }
+            Err(bad(at, ReportKind::Limit))
+        }
+        Next::Word(at, _) | Next::Close(at) => Err(bad(at, ReportKind::Token)),
+        Next::End(at) => Err(bad(at, ReportKind::Ended)),
+    }
+}
+
+/// Takes a closing parenthesis.
+pub fn closing(text: &mut Cursor) -> Result<(), ReportRefusal>
+    ensures { ReadsAs (λ _. tt) result (left text.new) (closing_at (left text.old)) }
+{
+    close(ReportKind::Token, ReportKind::Ended, text)
+}
