@@ -1,3 +1,4 @@
 pub mod Histories
 pub mod Reports
 pub mod Sound
+pub mod Transcripts

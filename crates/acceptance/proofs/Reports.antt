@@ -78,7 +78,7 @@ no_survivable : (p : Case) (state : ℕ) (name : List ℕ) → SeparatesNamed p 
 no_survivable p state name separates finding.Survivable h = h separates
 no_survivable p state name separates _ h = h
 
-outcome_none : (p : Case) (r : Report) (o : Outcome) → IsSoundOutcomeOf p r o → HoldNone (outcome_findings p r o)
+pub outcome_none : (p : Case) (r : Report) (o : Outcome) → IsSoundOutcomeOf p r o → HoldNone (outcome_findings p r o)
 outcome_none p r (Planned caller serial plan) sound = (
   no_version p r.entries plan.version plan.position sound.position sound.version,
   sound_plans_are_accepted (case_at p r.entries plan.position) (nat_le 4096 (length r.pool)) plan sound.demands sound.carrying sound.costed sound.certified sound.pooled sound.tight,

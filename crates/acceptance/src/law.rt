@@ -1,5 +1,6 @@
 ghost use Rattle.acceptance.specs.Laws.{SoundPlansAreAccepted};
 ghost use Rattle.acceptance.specs.Reports.{SoundReportsAreAccepted};
+ghost use Rattle.acceptance.specs.Transcripts.{TranscriptsAreAccepted};
 
 /// A plan whose parts are sound has no finding.
 pub fn sound_plans_are_accepted()
@@ -9,4 +10,9 @@ pub fn sound_plans_are_accepted()
 /// A report of a legal history whose outcomes are sound has no finding.
 pub fn sound_reports_are_accepted()
     ensures { SoundReportsAreAccepted }
+{}
+
+/// A transcript of at most 1,000 commands has no finding, and no counts that can carry a plan's demands cost less than its bound.
+pub fn transcripts_are_accepted()
+    ensures { TranscriptsAreAccepted }
 {}

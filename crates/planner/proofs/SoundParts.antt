@@ -1,5 +1,5 @@
 -- a fallback plan with a certified bound is a sound plan
-use Rattle.std.proofs.Common.{◌≡◌, ℕ, ◌^◌, ◌<◌, ◌≤◌, List, All, Contains, Some, get_or, length, slice_get, sym, subst, ◌∙◌, arith, inl, inr, ◌⊎◌}
+use Rattle.std.proofs.Common.{◌≡◌, ℕ, ◌^◌, ◌<◌, ◌≤◌, List, All, Contains, Some, get_or, length, slice_get, refl, sym, subst, ◌∙◌, arith, inl, inr, ◌⊎◌}
 use Rattle.std.proofs.lemmas.List.{get_or-map, length-map}
 use Rattle.std.proofs.lemmas.Option.{slice_get-get_or, slice_get_within, get_or_from_slice_get}
 use Rattle.net_core.specs.declared.journal.Entry.{Entry}
@@ -134,4 +134,5 @@ module _ (p : Case) (before after : List Entry) (at : Standing) (f : Fallback) (
         lowest = lowest certified;
         spots = certified.spots;
         opened = λ s le. opening_stands p before after c b are best s (opening s le);
+        unsolved = refl;
       }

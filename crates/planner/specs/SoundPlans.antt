@@ -15,6 +15,7 @@ use Rattle.plan_types.specs.declared.certificate.Certificate.{Certificate}
 use Rattle.plan_types.specs.declared.certificate.Spot.{Spot}
 use Rattle.plan_types.specs.declared.certificate.Spot.TheVariants.{Pool, Local}
 use Rattle.plan_types.specs.declared.plan.Plan.{Plan}
+use Rattle.plan_types.specs.declared.quality.Quality.TheVariants.{Unsolved}
 use Rattle.route_law.specs.Routings.{IsLowestRouting}
 use Rattle.plan_report.specs.Forms.{IsPlanInForm}
 use Rattle.cut_pool.specs.Boards.{origin_of}
@@ -108,7 +109,8 @@ pub record IsLowestPlan (plan : Plan) : Type 0 where
 
 -- The plan is sound for the demands, where these entries stand before it and those stand when it is made: it carries the demands
 -- in each state, its cost and its certificate are right, the bound is at least all own bounds, the cost at most that of the fallback
--- plan, and it is in form and in lowest terms. Each cut that it names, and each opening cut, stands where it says.
+-- plan, and it is in form and in lowest terms. Each cut that it names, and each opening cut, stands where it says. It says nothing of
+-- how far the bound is from the best.
 pub record IsSoundPlan (p : Case) (before after : List Entry) (plan : Plan) : Type 0 where
   pub carrying : IsCarryingPlan p plan
   pub costed : IsCostedPlan p plan
@@ -119,6 +121,7 @@ pub record IsSoundPlan (p : Case) (before after : List Entry) (plan : Plan) : Ty
   pub lowest : IsLowestPlan plan
   pub spots : All (λ l. StandsAt after (cut_of_line l.cut) l.spot) plan.certificate.lines
   pub opened : (s : ℕ) → s ≤ length p.listed → AreOpened p after s
+  pub unsolved : plan.quality ≡ Unsolved
 
 -- the case with the demands that entries leave of its own
 abbrev pub case_left : Case → List Entry → Case

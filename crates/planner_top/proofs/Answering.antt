@@ -3,11 +3,15 @@ use Rattle.std.proofs.Common.{◌≢◌, ℕ, Bool, List, [], Option, Result, Ok
 use Rattle.std.specs.Global.{Global}
 use Rattle.std.specs.Prelude.{String}
 use Rattle.net_core.specs.declared.demand.Demand.{Demand}
+use Rattle.net_core.specs.declared.instance.Problem.{Problem}
 use Rattle.net_core.specs.declared.network.Network.{Network}
+use Rattle.net_core.specs.declared.network.Notes.{Notes}
+use Rattle.net_core.specs.Cases.{Case}
+use Rattle.net_core.specs.Views.{case}
 use Rattle.outside_io.specs.Outside.{Files}
-use Rattle.planner_top.specs.Commands.{Command, IsCommand, Plan, PlanWords, default}
-use Rattle.planner_top.specs.Inputs.{Fetched, HasModel, RefusesModelFile, SpellsNetwork, StopsAtFailures, StopsAtFile, StopsAtInputs, input_limit}
-use Rattle.planner_top.specs.Run.{Ends, EndsCommand}
+use Rattle.planner_top.specs.Commands.{Command, IsCommand, PlanWords, default}
+use Rattle.planner_top.specs.Inputs.{Fetched, HasInputs, HasModel, RefusesModelFile, SpellsNetwork, StopsAtFailures, StopsAtFile, StopsAtInputs, input_limit}
+use Rattle.planner_top.specs.Run.{Ends, EndsAfterInputs, EndsCommand}
 use Rattle.planner_top.specs.inner.Steps.{HasCause, Stops}
 use Rattle.planner_top.specs.declared.answer.Answer.{Answer}
 use Rattle.planner_top.specs.declared.answer.Stop.{Stop}
@@ -35,9 +39,19 @@ failures_end files w net demands reconfigure s has model =
     stop_map (StopsAtFailures files w net.links reconfigure) (StopsAtInputs files w) s
     (λ status text e. inr (net, demands, has, inr (reconfigure, model, e)))
 
--- a file that ends the run ends the plan
-pub inputs_end : (files : Option Files) (w : PlanWords) (s : Stop) → Stops (StopsAtInputs files w) s → Stops (EndsCommand files (Plan w)) s
-inputs_end files w s = stop_map (StopsAtInputs files w) (EndsCommand files (Plan w)) s (λ status text e. inl e)
+-- one of the files that every command has ends the run
+pub inputs_end : (files : Option Files) (w : PlanWords) (EndsWith : Case → Notes → Status → List ℕ → Type 0) (s : Stop) → Stops (StopsAtInputs files w) s → Stops (EndsAfterInputs files w EndsWith) s
+inputs_end files w EndsWith s = stop_map (StopsAtInputs files w) (EndsAfterInputs files w EndsWith) s (λ status text e. inl e)
+
+-- they are all read, and it comes to this
+module _ (files : Option Files) (w : PlanWords) (EndsWith : Case → Notes → Status → List ℕ → Type 0) (problem : Problem) (has : HasInputs files w problem.net problem.demands problem.states.listed) where
+  pub after_inputs : (status : Status) (text : List ℕ) → EndsWith (case problem.net problem.states problem.demands) problem.net.notes status text → EndsAfterInputs files w EndsWith status text
+  after_inputs status text ends = inr (problem.net, problem.demands, problem.states.listed, has, ends)
+
+  -- a further file ends the run
+  pub last_ends : (Ends : Status → List ℕ → Type 0) → ((status : Status) (text : List ℕ) → Ends status text → EndsWith (case problem.net problem.states problem.demands) problem.net.notes status text)
+      → (s : Stop) → Stops Ends s → Stops (EndsAfterInputs files w EndsWith) s
+  last_ends Ends so s = stop_map Ends (EndsAfterInputs files w EndsWith) s (λ status text e. after_inputs status text (so status text e))
 
 -- what a command comes to is what its words come to
 pub command_ends : (words : List (String Global)) (files : Option Files) (c : Command) (r : Result Answer Stop) → IsCommand words c → HasCause (EndsCommand files c) r → HasCause (Ends words files) r

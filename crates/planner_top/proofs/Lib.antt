@@ -1,4 +1,5 @@
 pub mod Answering
-pub mod Pairs
 pub mod Refusing
 pub mod Taking
+pub mod SinglePlans
+pub mod Naming

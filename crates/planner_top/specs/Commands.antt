@@ -2,15 +2,17 @@
 use Rattle.std.specs.Prelude.{◌≡◌, ℕ, ◌==◌, Bool, true, false, not, List, [], ◌∷◌, String, string_bytes, codes, All, map}
 use Rattle.std.specs.Global.{Global}
 
--- the files of a plan: the network's, the model's and the failure list's, in the order in which they are read
+-- the files of a planning: the network's, the model's and the failure list's, in the order in which they are read
 pub record PlanWords : Type 0 where
   pub network : List ℕ
   pub model : List ℕ
   pub failures : List ℕ
 
--- a command and its words
+-- a command: a plan for files, a session of a script, or the check of a report
 pub data Command : Type 0 where
   Plan : PlanWords → Command
+  Session : PlanWords → List ℕ → Command
+  Check : PlanWords → List ℕ → Command
 
 -- the word for a model or a failure list that is in no file
 abbrev pub default : List ℕ
@@ -28,11 +30,25 @@ AreFiles (n ∷ m ∷ []) w = w ≡ record { network = n; model = m; failures = 
 AreFiles (n ∷ m ∷ f ∷ []) w = w ≡ record { network = n; model = m; failures = f }
 AreFiles _ w = ⊥
 
--- the words are those of the command: for a plan, `plan` and its files
+-- four words are the files and one file more
+abbrev pub AreFourFiles : List (List ℕ) → PlanWords → List ℕ → Type 0
+AreFourFiles (n ∷ m ∷ f ∷ l ∷ []) w last = (w ≡ record { network = n; model = m; failures = f }) × (last ≡ l)
+AreFourFiles _ w last = ⊥
+
+-- each of the words may stand for a file
+abbrev pub MayBeFiles : List (String Global) → Type 0
+MayBeFiles words = All (λ word. may_be_file (string_bytes word) ≡ true) words
+
+-- a command's name, and the words behind it, which are its files
+abbrev pub IsNamed : List ℕ → List (List ℕ) → Command → Type 0
+IsNamed name words (Plan w) = (name ≡ codes "plan") × AreFiles words w
+IsNamed name words (Session w script) = (name ≡ codes "session") × AreFourFiles words w script
+IsNamed name words (Check w report) = (name ≡ codes "check") × AreFourFiles words w report
+
+-- the words are those of the command
 abbrev pub IsCommand : List (String Global) → Command → Type 0
 IsCommand [] c = ⊥
-IsCommand (name ∷ words) (Plan w) =
-    (string_bytes name ≡ codes "plan") × All (λ word. may_be_file (string_bytes word) ≡ true) words × AreFiles (map string_bytes words) w
+IsCommand (name ∷ words) c = MayBeFiles words × IsNamed (string_bytes name) (map string_bytes words) c
 
 -- the line that answers words outside the grammar
 abbrev pub usage : List ℕ

@@ -14,14 +14,23 @@ use Rattle.model_reader.specs.ModelReading.{model_of}
 use Rattle.sndlib_reader.specs.Kinds.{kind_word}
 use Rattle.sndlib_reader.specs.Reading.{IsFirstFault}
 use Rattle.sndlib_reader.specs.Spelling as networks
+use Rattle.plan_report.specs.Texts.{SpellsReport}
+use Rattle.report_reader.specs.ReadingReport.{report_of}
+use Rattle.report_reader.specs.ReportKinds.{report_kind_word}
+use Rattle.session_script.specs.ScriptKinds.{script_kind_word}
+use Rattle.session_script.specs.ScriptReading.{script_of}
+use Rattle.session_script.specs.Scripts.{SpellsScript}
 use Rattle.planner_top.specs.Commands.{PlanWords, default}
 use Rattle.planner_top.specs.Refusals.{Refuses, unused_line}
 use Rattle.planner_top.specs.declared.status.Status.{Status}
 use Rattle.planner_top.specs.declared.status.Status.TheVariants.{BadFailures, BadModel, BadNetwork, NoFile, ReadFault, TooLong}
 
--- an input file has at most 16 MiB
+-- an input file has at most 16 MiB, and a report 256 MiB
 abbrev pub input_limit : ℕ
 input_limit = 2 ^ 24
+
+abbrev pub report_limit : ℕ
+report_limit = 2 ^ 28
 
 -- the file is fetched, with at most so many bytes, and this holds of its bytes
 abbrev pub Fetched : {X : Type 0} → Option Files → ℕ → List ℕ → (List ℕ → X → Type 0) → X → Type 0
@@ -53,6 +62,14 @@ RefusesModelFile = Refuses models.SpellsModel (λ bytes at kind. model_of bytes 
 abbrev pub RefusesFailureFile : List Link → List ℕ → List ℕ → Type 0
 RefusesFailureFile links =
     Refuses (failures.SpellsFailures links) (λ bytes at kind. failures_of links bytes ≡ Err (at, kind)) (codes "failures") failures_word
+
+-- the bytes spell no script, or no report of this network and these states, and the text names their first fault
+abbrev pub RefusesScriptFile : List ℕ → List ℕ → Type 0
+RefusesScriptFile = Refuses SpellsScript (λ bytes at kind. script_of bytes ≡ Err (at, kind)) (codes "script") script_kind_word
+
+abbrev pub RefusesReportFile : List (List ℕ) → List Link → List Listed → List ℕ → List ℕ → Type 0
+RefusesReportFile nodes links listed =
+    Refuses (SpellsReport nodes links listed) (λ bytes at kind. report_of nodes links listed bytes ≡ Err (at, kind)) (codes "report") report_kind_word
 
 -- Whether the model asks for reconfiguration: by its file; without one, where a failure file is named.
 abbrev pub HasModel : Option Files → PlanWords → Bool → Type 0

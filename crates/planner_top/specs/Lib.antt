@@ -1,6 +1,6 @@
 pub mod Commands
+pub mod Findings
 pub mod Inputs
 pub mod Refusals
 pub mod Run
-pub mod Texts
 pub mod inner

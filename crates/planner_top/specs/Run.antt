@@ -1,18 +1,30 @@
 -- what a run comes to: its status, and the text that it writes
-use Rattle.std.specs.Prelude.{◌≡◌, ◌≢◌, ℕ, zero, suc, ◌≤◌, ◌⊎◌, List, [], ◌∷◌, ◌++◌, Option, String, codes, decimal, slice_get}
+use Rattle.std.specs.Prelude.{◌≡◌, ◌≢◌, ℕ, ◌≤◌, ◌⊎◌, List, [], ◌∷◌, ◌++◌, All, Option, String, codes, decimal, length}
 use Rattle.std.specs.Global.{Global}
-use Rattle.std.specs.Option.{option_map_or}
 use Rattle.net_core.specs.declared.demand.Demand.{Demand}
 use Rattle.net_core.specs.declared.network.Network.{Network}
+use Rattle.net_core.specs.declared.network.Notes.{Notes}
 use Rattle.net_core.specs.declared.states.Listed.{Listed}
 use Rattle.net_core.specs.Cases.{Case}
 use Rattle.outside_io.specs.Outside.{Files, Rose, Takes, TakesPrefix}
 use Rattle.plan_terms.specs.Separations.{IsFirstSeparation}
-use Rattle.planner.specs.Plans.{IsFirstPlan}
-use Rattle.planner.specs.declared.plan.FirstPlan.{FirstPlan}
-use Rattle.planner_top.specs.Commands.{Command, IsCommand, Plan, usage}
-use Rattle.planner_top.specs.Inputs.{HasInputs, StopsAtInputs}
-use Rattle.planner_top.specs.Texts.{short_form}
+use Rattle.plan_types.specs.declared.plan.Plan.{Plan}
+use Rattle.plan_types.specs.declared.report.Outcome.TheVariants.{Planned}
+use Rattle.plan_types.specs.declared.report.Report.{Report}
+use Rattle.plan_report.specs.Names.{state_name}
+use Rattle.plan_report.specs.Texts.{SpellsReport, report_text}
+use Rattle.plan_checker.specs.declared.finding.Finding.{Finding}
+use Rattle.report_checker.specs.ReportFindings.{HasNoFinding, IsFirstOfReport}
+use Rattle.session_script.specs.declared.script.Act.TheVariants as act
+use Rattle.session_script.specs.declared.script.Command.{Command}
+use Rattle.session_script.specs.declared.script.Script.{Script}
+use Rattle.session_script.specs.Scripts.{SpellsScript}
+use Rattle.session_run.specs.Transcripts.{IsTranscript}
+use Rattle.acceptance.specs.Transcripts.{IsBelowAllAble}
+use Rattle.planner_top.specs.Commands as commands
+use Rattle.planner_top.specs.Commands.{IsCommand, PlanWords, usage}
+use Rattle.planner_top.specs.Findings.{accepted_line, rejected_line}
+use Rattle.planner_top.specs.Inputs.{Fetched, HasInputs, RefusesReportFile, RefusesScriptFile, StopsAtFile, StopsAtInputs, input_limit, report_limit}
 use Rattle.planner_top.specs.declared.status.Status.{Status}
 use Rattle.planner_top.specs.declared.status.Status.TheVariants.{Done, BadWords, NoFile, ReadFault, WriteFault, BadNetwork, BadModel, BadFailures, BadScript, NotSurvivable, Rejected, TooLong, BadReport, NoMemory}
 
@@ -33,14 +45,28 @@ status_number TooLong = 12
 status_number BadReport = 13
 status_number NoMemory = 14
 
--- the text is the short form of a plan of the case
-abbrev pub IsPlanText : Case → List ℕ → Type 0
-IsPlanText p text = (plan : FirstPlan) × IsFirstPlan p plan × (text ≡ short_form p.links plan)
+-- ---- reports
 
--- the name of a state
-abbrev pub state_name : List Listed → ℕ → List ℕ
-state_name listed zero = codes "none"
-state_name listed (suc i) = option_map_or (λ l. l.name) (slice_get listed i) []
+-- The text is that of this report, which is a transcript of the commands, from the opening demands of the case. No finding holds of
+-- it, and no counts that can carry the demands of a plan of it cost less than the plan's bound.
+pub record IsPrintedReport (p : Case) (notes : Notes) (commands : List Command) (r : Report) (text : List ℕ) : Type 0 where
+  pub transcript : IsTranscript p notes commands r
+  pub clean : HasNoFinding notes p r
+  pub bounded : All (IsBelowAllAble p r) r.outcomes
+  pub printed : text ≡ report_text p.nodes p.links p.listed r
+
+-- ---- a plan
+
+-- the script of a plan: one plan command, of caller 1
+abbrev pub plan_commands : List Command
+plan_commands = record { caller = 1; act = act.Plan } ∷ []
+
+-- the text is the report of a plan
+pub record IsPlanReport (p : Case) (notes : Notes) (text : List ℕ) : Type 0 where
+  pub report : Report
+  pub plan : Plan
+  pub alone : report.outcomes ≡ Planned 1 1 plan ∷ []
+  pub printed : IsPrintedReport p notes plan_commands report text
 
 -- the text names the first state that separates a demand which has a need, and the first such demand
 pub record NamesFirstSeparation (p : Case) (text : List ℕ) : Type 0 where
@@ -50,25 +76,62 @@ pub record NamesFirstSeparation (p : Case) (text : List ℕ) : Type 0 where
   pub printed : text ≡ codes "not survivable: state " ++ decimal state ++ 32 ∷ state_name p.listed state ++ codes " demand " ++ first.separates.demand.name ++ 10 ∷ []
 
 -- what planning comes to, unless memory runs out
-abbrev pub EndsCase : Case → Status → List ℕ → Type 0
-EndsCase p status text =
-    ((status ≡ Done) × IsPlanText p text)
+abbrev pub EndsPlan : Case → Notes → Status → List ℕ → Type 0
+EndsPlan p notes status text =
+    ((status ≡ Done) × IsPlanReport p notes text)
     ⊎ ((status ≡ NotSurvivable) × NamesFirstSeparation p text)
 
--- What a command comes to: one of its files ends the run, or they are all read, and the plan is made.
-abbrev pub EndsCommand : Option Files → Command → Status → List ℕ → Type 0
-EndsCommand files (Plan w) status text =
+-- ---- a session
+
+-- What a session comes to: its script ends the run, or the text is the report of the script's commands.
+abbrev pub EndsSession : Option Files → List ℕ → Case → Notes → Status → List ℕ → Type 0
+EndsSession files name p notes status text =
+    StopsAtFile files input_limit name BadScript RefusesScriptFile status text
+    ⊎ ((script : Script) × (report : Report)
+    × Fetched files input_limit name SpellsScript script
+    × (status ≡ Done) × IsPrintedReport p notes script.commands report text)
+
+-- ---- a check
+
+-- what a check says of a report: that no finding holds, or the first one
+abbrev pub IsJudged : Case → Notes → Report → Status → List ℕ → Type 0
+IsJudged p notes r status text =
+    ((status ≡ Done) × HasNoFinding notes p r × (text ≡ accepted_line (length r.outcomes)))
+    ⊎ ((status ≡ Rejected) × ((outcome : ℕ) × (finding : Finding)
+    × IsFirstOfReport notes p r outcome finding
+    × (text ≡ rejected_line p.links r.outcomes outcome finding)))
+
+-- What a check comes to: its report ends the run, or is judged.
+abbrev pub EndsCheck : Option Files → List ℕ → Case → Notes → Status → List ℕ → Type 0
+EndsCheck files name p notes status text =
+    StopsAtFile files report_limit name BadReport (RefusesReportFile p.nodes p.links p.listed) status text
+    ⊎ ((r : Report) × Fetched files report_limit name (SpellsReport p.nodes p.links p.listed) r × IsJudged p notes r status text)
+
+-- ---- commands
+
+-- One of the files that every command has ends the run, or they are all read, and it comes to this, of the case that they spell and
+-- the network's notes.
+abbrev pub EndsAfterInputs : Option Files → PlanWords → (Case → Notes → Status → List ℕ → Type 0) → Status → List ℕ → Type 0
+EndsAfterInputs files w EndsWith status text =
     StopsAtInputs files w status text
     ⊎ ((net : Network) × (demands : List Demand) × (listed : List Listed)
     × HasInputs files w net demands listed
-    × EndsCase (record { nodes = net.nodes; links = net.links; listed = listed; demands = demands }) status text)
+    × EndsWith (record { nodes = net.nodes; links = net.links; listed = listed; demands = demands }) net.notes status text)
+
+-- what a command comes to
+abbrev pub EndsCommand : Option Files → commands.Command → Status → List ℕ → Type 0
+EndsCommand files (commands.Plan w) = EndsAfterInputs files w EndsPlan
+EndsCommand files (commands.Session w script) = EndsAfterInputs files w (EndsSession files script)
+EndsCommand files (commands.Check w report) = EndsAfterInputs files w (EndsCheck files report)
+
+-- ---- a run
 
 -- What a run comes to, and its whole text: memory runs out, which needs no cause, or the words are no command, or they are one.
 abbrev pub Ends : List (String Global) → Option Files → Status → List ℕ → Type 0
 Ends words files status text =
     ((status ≡ NoMemory) × (text ≡ []))
-    ⊎ ((status ≡ BadWords) × ((c : Command) → IsCommand words c → ⊥) × (text ≡ usage))
-    ⊎ ((c : Command) × IsCommand words c × EndsCommand files c status text)
+    ⊎ ((status ≡ BadWords) × ((c : commands.Command) → IsCommand words c → ⊥) × (text ≡ usage))
+    ⊎ ((c : commands.Command) × IsCommand words c × EndsCommand files c status text)
 
 -- what reading leaves of a shelf: its files as they were, and a count of faults that hasn't fallen, and that has risen where reading failed
 pub record KeepsShelf {S : Type 0} (files : S → Option Files) (faults : S → ℕ) (failed : Type 0) (old new : S) : Type 0 where

@@ -24,10 +24,15 @@ use sndlib_reader::{ReadRefusal, read_network};
 use std::alloc::Global;
 
 /// How many bytes an input file may have.
-const INPUT_LIMIT: u64 = 1 << 24;
+pub const INPUT_LIMIT: u64 = 1 << 24;
 
 /// The content of a file of at most so many bytes.
-fn fetch_file<S: Shelf>(alloc: Global, limit: u64, name: &str, shelf: &mut S) -> Result<Bytes, Stop>
+pub fn fetch_file<S: Shelf>(
+    alloc: Global,
+    limit: u64,
+    name: &str,
+    shelf: &mut S,
+) -> Result<Bytes, Stop>
     ensures found { IfOk result (λ bytes. Fetches (S.files shelf.old) name.now limit Fetch.Found bytes) }
     ensures ends { IfErr result (Stops (StopsAtFetch (S.files shelf.old) limit name.now)) }
     ensures shelf { KeepsShelf S.files S.faults (IsErrOf result Stop.ReadFault) shelf.old shelf.new }
@@ -161,7 +166,7 @@ fn load_states<S: Shelf>(
     load_failures(alloc, files, net, shelf)
 }
 
-/// What the files of a plan spell. They are read one after another, and the first that is not read ends the run.
+/// What the files of a planning spell. They are read one after another, and the first that is not read ends the run.
 pub fn load_problem<S: Shelf>(
     alloc: Global,
     files: &PlanFiles,

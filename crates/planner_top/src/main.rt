@@ -2,15 +2,17 @@
 #![tactic(auto)]
 
 mod answer;
-mod bound_text;
+mod check;
 mod command;
+mod finding;
 mod inputs;
+mod last_file;
 mod output;
-mod plan_text;
+mod plan;
 mod refusal;
 mod run;
+mod session;
 mod status;
-mod text;
 
 use net_core::NoMemory;
 use outside_io::{FileShelf, OpenGate, StreamSink};

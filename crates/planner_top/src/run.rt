@@ -6,10 +6,13 @@ ghost use Rattle.planner_top.specs.inner.Steps.{HasCause, named};
 ghost use Rattle.planner_top.specs.declared.status.Status.{Status};
 
 use crate::answer::{Answer, Stop};
-use crate::command::{PlanFiles, command_of};
+use crate::check::answer_check;
+use crate::command::{Command, FourFiles, PlanFiles, command_of};
 use crate::inputs::load_problem;
+use crate::last_file::{load_report, load_script};
 use crate::output::say;
-use crate::plan_text::answer_instance;
+use crate::plan::answer_plan;
+use crate::session::answer_session;
 use crate::status::Status;
 use net_core::{List, NoMemory};
 use outside_io::{Gate, Shelf, Sink};
@@ -32,12 +35,32 @@ fn bad_words(alloc: Global) -> Result<Answer, NoMemory>
 }
 
 /// The answer to a plan of these files.
-fn answer_plan<S: Shelf>(alloc: Global, files: &PlanFiles, shelf: &mut S) -> Result<Answer, Stop>
+fn plan_files<S: Shelf>(alloc: Global, files: &PlanFiles, shelf: &mut S) -> Result<Answer, Stop>
     ensures ends { HasCause (EndsCommand (S.files shelf.old) (commands.Plan (named files.now))) result }
     ensures shelf { KeepsShelf S.files S.faults (IsErrOf result Stop.ReadFault) shelf.old shelf.new }
 {
     let problem = load_problem(alloc, files, shelf)?;
-    Ok(answer_instance(alloc, &problem.instance())?)
+    Ok(answer_plan(alloc, problem)?)
+}
+
+/// The answer to a session of these files.
+fn session_files<S: Shelf>(alloc: Global, four: &FourFiles, shelf: &mut S) -> Result<Answer, Stop>
+    ensures ends { HasCause (EndsCommand (S.files shelf.old) (commands.Session (named four.now.files) four.now.last.now)) result }
+    ensures shelf { KeepsShelf S.files S.faults (IsErrOf result Stop.ReadFault) shelf.old shelf.new }
+{
+    let problem = load_problem(alloc, &four.files, shelf)?;
+    let script = load_script(alloc, four.last, shelf)?;
+    Ok(answer_session(alloc, problem, &script)?)
+}
+
+/// The answer to a check of these files.
+fn check_files<S: Shelf>(alloc: Global, four: &FourFiles, shelf: &mut S) -> Result<Answer, Stop>
+    ensures ends { HasCause (EndsCommand (S.files shelf.old) (commands.Check (named four.now.files) four.now.last.now)) result }
+    ensures shelf { KeepsShelf S.files S.faults (IsErrOf result Stop.ReadFault) shelf.old shelf.new }
+{
+    let problem = load_problem(alloc, &four.files, shelf)?;
+    let report = load_report(alloc, &problem, four.last, shelf)?;
+    Ok(answer_check(alloc, &problem, &report)?)
 }
 
 /// The answer to words.
@@ -46,7 +69,9 @@ fn answer_words<S: Shelf>(alloc: Global, words: &[String], shelf: &mut S) -> Res
     ensures shelf { KeepsShelf S.files S.faults (IsErrOf result Stop.ReadFault) shelf.old shelf.new }
 {
     match command_of(words) {
-        Some(files) => answer_plan(alloc, &files, shelf),
+        Some(Command::Plan(files)) => plan_files(alloc, &files, shelf),
+        Some(Command::Session(four)) => session_files(alloc, &four, shelf),
+        Some(Command::Check(four)) => check_files(alloc, &four, shelf),
         None => Ok(bad_words(alloc)?),
     }
 }

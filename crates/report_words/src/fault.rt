@@ -1,9 +1,10 @@
 ghost use Rattle.std.specs.Prelude.{◌≡◌};
 ghost use Rattle.report_words.specs.ReportKinds.{report_kind_word};
 
+use net_core::{Bytes, NoMemory};
 use snd_tokens::NumberFault;
 use text_kit::Refusal;
-use text_kit::fault_word::number_word;
+use text_kit::fault_word::{FaultWord, number_word};
 
 /// What is wrong with a report.
 #[derive(Clone, Copy, Debug, PartialEq, Eq)]
@@ -44,6 +45,16 @@ impl ReportKind {
             ReportKind::LimitName => "limit-name",
             ReportKind::Limit => "limit",
         }
+    }
+}
+
+impl FaultWord for ReportKind {
+    ghost use Rattle.report_reader.specs.ReportKinds.{report_kind_word};
+
+    ghost word = { report_kind_word };
+
+    fn put_word(&self, text: &mut Bytes) -> Result<(), NoMemory> {
+        text.append(self.word().as_bytes())
     }
 }
 

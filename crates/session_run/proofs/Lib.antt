@@ -1,7 +1,7 @@
 pub mod Callers
 mod FormProps
 mod Journals
-mod OutcomeForms
+pub mod OutcomeForms
 mod Replies
 mod ReportForms
 pub mod Runs

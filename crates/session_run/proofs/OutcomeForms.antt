@@ -50,7 +50,7 @@ kept_rest : {X : Type 0} (P : X → Type 0) (b : Bool) (x : X) (xs : List X) →
 kept_rest P true x xs all = All-tail P x xs all
 kept_rest P false x xs all = all
 
-kept_one : {X : Type 0} (P : X → Type 0) (test : X → Bool) (xs : List X) → All P (filter test xs) → (k : ℕ) (d : X) → k < length xs → test (get_or xs k d) ≡ true → P (get_or xs k d)
+pub kept_one : {X : Type 0} (P : X → Type 0) (test : X → Bool) (xs : List X) → All P (filter test xs) → (k : ℕ) (d : X) → k < length xs → test (get_or xs k d) ≡ true → P (get_or xs k d)
 kept_one P test [] all k d lt passes = absurd (omega (arith, lt))
 kept_one P test (x ∷ xs) all zero d lt passes = All-head P x (filter test xs) (subst (All P) (cond-true (test x) (x ∷ filter test xs) (filter test xs) passes) all)
 kept_one P test (x ∷ xs) all (suc k) d lt passes = kept_one P test xs (kept_rest P (test x) x (filter test xs) all) k d (omega (arith, lt)) passes

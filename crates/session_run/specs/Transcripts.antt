@@ -74,12 +74,13 @@ RunsFrom p entries caller at serial (acts.Plan ∷ rest) (o ∷ os) =
 -- ---- the report
 
 -- The report is a transcript of the commands, from the opening demands of the case: a legal journal in which each caller's edits
--- stand once each, in its order; the pool with its right sides at the end; and the outcomes of each caller's plan commands, by
--- caller and then by serial.
+-- stand once each, in its order, and nothing else but the cuts of the pool; the pool with its right sides at the end; and the
+-- outcomes of each caller's plan commands, by caller and then by serial.
 pub record IsTranscript (p : Case) (notes : Notes) (commands : List Command) (r : Report) : Type 0 where
   pub notes_are : r.notes ≡ notes
   pub legal : ∥ IsLegalHistory p r.entries ∥₁
   pub edits : (caller : ℕ) → flat_map (edit_made caller) r.entries ≡ flat_map edit_asked (acts_of caller commands)
+  pub few : length r.entries ≤ length commands + length r.pool
   pub pool_is : ∥ IsPoolAfter p r.entries r.pool ∥₁
   pub runs : (caller : ℕ) → RunsFrom p r.entries caller 0 1 (acts_of caller commands) (outcomes_of caller r.outcomes)
   pub ordered : AllPairs (λ a b. caller_of a ≤ caller_of b) r.outcomes

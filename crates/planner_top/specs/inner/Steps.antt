@@ -1,9 +1,12 @@
 -- what the functions of a run answer to each other
 use Rattle.std.specs.Prelude.{◌≡◌, ℕ, List, [], Result, Ok, Err}
+use Rattle.planner_top.specs.Commands as commands
 use Rattle.planner_top.specs.Commands.{PlanWords}
 use Rattle.planner_top.specs.declared.answer.Answer.{Answer}
 use Rattle.planner_top.specs.declared.answer.Stop.{Stop}
 use Rattle.planner_top.specs.declared.answer.Stop.TheVariants as stop
+use Rattle.planner_top.specs.declared.command.Command.{Command}
+use Rattle.planner_top.specs.declared.command.Command.TheVariants.{Plan, Session, Check}
 use Rattle.planner_top.specs.declared.command.PlanFiles.{PlanFiles}
 use Rattle.planner_top.specs.declared.status.Status.{Status}
 use Rattle.planner_top.specs.declared.status.Status.TheVariants.{ReadFault}
@@ -11,6 +14,12 @@ use Rattle.planner_top.specs.declared.status.Status.TheVariants.{ReadFault}
 -- the files that the words name
 abbrev pub named : PlanFiles → PlanWords
 named f = record { network = f.network.now; model = f.model.now; failures = f.failures.now }
+
+-- the command that is asked for
+abbrev pub asked : Command → commands.Command
+asked (Plan files) = commands.Plan (named files)
+asked (Session four) = commands.Session (named four.files) four.last.now
+asked (Check four) = commands.Check (named four.files) four.last.now
 
 -- a stop has its cause, unless memory ran out
 abbrev pub Stops : (Status → List ℕ → Type 0) → Stop → Type 0

@@ -1,7 +1,0 @@
-use Rattle.std.proofs.Common.{◌≡◌, ◌++◌, take}
-use Rattle.planner_top.specs.Texts.{counts_text}
-use Rattle.planner_top.proofs.text.put_counts.Given as goal
-
--- the counts so far stand at the end
-abbrev pub invariant-loop-n : goal.invariant-loop-n
-invariant-loop-n l = l.text ≡ l.fn.text ++ counts_text (take l.n-index l.counts)
