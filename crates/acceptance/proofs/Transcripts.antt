@@ -1,15 +1,16 @@
 -- a transcript of commands has no finding, and the bounds of its plans hold
-use Rattle.std.proofs.Common.{◌≡◌, ◌∙◌, ℕ, ◌+◌, ◌≤◌, ◌<◌, List, [], ◌∷◌, All, Some, length, get_or, slice_get, take, drop, nat_le, true, sym, ap, subst, arith, cc, ⊎_elim}
+use Rattle.std.proofs.Common.{◌≡◌, ◌∙◌, ℕ, ◌+◌, ◌≤◌, ◌<◌, ◌++◌, ◌==◌, List, [], ◌∷◌, All, Some, length, get_or, slice_get, take, drop, nat_le, true, sym, ap, subst, arith, refl, ⊎_elim}
 use Rattle.std.proofs.Math.Logic.{∥∥₁_elim}
 use Rattle.std.proofs.Props.{props}
 use Rattle.std.proofs.lemmas.Bool.{eq-eqb}
 use Rattle.std.proofs.lemmas.Bool.Decides.{nat_tests}
 use Rattle.std.proofs.lemmas.List.{length-map, length-append, length-take-le, take-append-drop}
 use Rattle.std.proofs.lemmas.List.Elements.{All-cons, All-nil}
+use Rattle.net_core.specs.declared.demand.Demand.{Demand}
 use Rattle.net_core.specs.declared.journal.Entry.{Entry}
 use Rattle.net_core.specs.declared.network.Notes.{Notes}
 use Rattle.net_core.specs.Cases.{Case}
-use Rattle.plan_terms.specs.Capacities.{IsAble}
+use Rattle.plan_terms.specs.Capacities.{IsAble, total_cost}
 use Rattle.plan_terms.proofs.Duality.{weak_duality}
 use Rattle.plan_types.specs.Plans.{IsCarryingPlan, IsCertifiedPlan, IsCostedPlan, lines_of_certificate}
 use Rattle.plan_types.specs.declared.certificate.Spot.{Spot}
@@ -25,7 +26,7 @@ use Rattle.cut_pool.specs.Histories.{cut_of_line, cuts_of, demands_left, version
 use Rattle.planner.specs.SoundPlans.{HasNoRoom, IsPlanAfter, StandsAt, case_left}
 use Rattle.planner.proofs.Taking.{cuts_both}
 use Rattle.plan_checker.specs.Order.{HoldNone, Kind}
-use Rattle.report_checker.specs.Outcomes.{case_at, outcome_findings}
+use Rattle.report_checker.specs.Outcomes.{SeparatesNamed, case_at, outcome_findings}
 use Rattle.report_checker.specs.ReportFindings.{HasNoFinding, whole_findings}
 use Rattle.session_script.specs.declared.script.Act.{Act}
 use Rattle.session_script.specs.declared.script.Act.TheVariants as acts
@@ -72,15 +73,15 @@ module _ (p : Case) (notes : Notes) (commands : List Command) (r : Report) (few 
   module _ (caller n m serial : ℕ) (within : n ≤ m) (last : m ≤ length es) where
     -- the position of a plan, and what stands before it
     module _ (plan : Plan) (after : IsPlanAfter p (take n es) (take m es) plan) where
-      position : plan.position ≡ n
-      position = after.same_position ∙ length-take-le n es (omega (arith, within, last))
+      place : plan.position ≡ n
+      place = after.same_position ∙ length-take-le n es (omega (arith, within, last))
 
       before : take n es ≡ take plan.position es
-      before = ap (λ k. take k es) (sym position)
+      before = ap (λ k. take k es) (sym place)
 
       sound_plan : IsSoundPlanOf p r plan
       sound_plan = record {
-        position = let at = position in omega (arith, at, within, last);
+        position = let at = place in omega (arith, at, within, last);
         version = after.same_version ∙ ap (version_left p) before;
         demands = after.same_demands ∙ ap (demands_left p) before;
         carrying = subst (λ es'. IsCarryingPlan (case_left p es') plan) before after.sound.carrying;
@@ -124,19 +125,19 @@ module _ (p : Case) (notes : Notes) (commands : List Command) (r : Report) (few 
 
   -- what holds of each outcome at its place holds of all
   module _ (Q : Outcome → Type 0) (each : (caller n m serial : ℕ) → n ≤ m → m ≤ length es → (o : Outcome) → IsOutcomeAfter p (take n es) (take m es) caller serial o → Q o) where
-    of_run : (caller at serial : ℕ) (as : List Act) (os : List Outcome) → RunsFrom p es caller at serial as os → All Q os
+    of_run : (caller at serial : ℕ) (asked : List Act) (os : List Outcome) → RunsFrom p es caller at serial asked os → All Q os
     of_run caller at serial [] [] run = All-nil Q
     of_run caller at serial [] (o ∷ os) run = absurd run
-    of_run caller at serial (acts.Change edit ∷ as) os run = of_run caller (run.0 + 1) serial as os run.4
-    of_run caller at serial (acts.Plan ∷ as) [] run = absurd run
-    of_run caller at serial (acts.Plan ∷ as) (o ∷ os) run =
-        All-cons Q o os (each caller run.0 run.1 serial run.3 run.4 o run.5) (of_run caller run.1 (serial + 1) as os run.6)
+    of_run caller at serial (acts.Change edit ∷ asked) os run = of_run caller (run.0 + 1) serial asked os run.4
+    of_run caller at serial (acts.Plan ∷ asked) [] run = absurd run
+    of_run caller at serial (acts.Plan ∷ asked) (o ∷ os) run =
+        All-cons Q o os (each caller run.0 run.1 serial run.3 run.4 o run.5) (of_run caller run.1 (serial + 1) asked os run.6)
 
     of_all : All Q r.outcomes
     of_all = λ k d lt.
         let o = get_or r.outcomes k d in
         let caller = caller_of o in
-        kept_one Q (λ x. caller_of x == caller) r.outcomes (of_run caller 0 1 (acts_of caller commands) (outcomes_of caller r.outcomes) (t.runs caller)) k d lt (eq-eqb caller)
+        kept_one Q (λ x. caller_of x == caller) r.outcomes (of_run caller 0 1 (acts_of caller commands) (outcomes_of caller r.outcomes) (t.runs caller)) k d lt (eq-eqb caller caller refl)
 
   whole_clean : HoldNone (whole_findings notes p r)
   whole_clean =

@@ -1,5 +1,5 @@
 -- which words are no command
-use Rattle.std.proofs.Common.{◌≡◌, ◌≢◌, ℕ, List, codes, cc, sym, ◌∙◌}
+use Rattle.std.proofs.Common.{◌≡◌, ◌≢◌, ℕ, List, codes}
 use Rattle.planner_top.specs.Commands.{AreFiles, AreFourFiles, Command, IsNamed, Plan, PlanWords, Session, Check}
 
 pub no_plan : (name : List ℕ) (words : List (List ℕ)) → name ≡ codes "plan" → ((w : PlanWords) → AreFiles words w → ⊥) → (c : Command) → IsNamed name words c → ⊥

@@ -1,5 +1,5 @@
 -- the report of one plan command
-use Rattle.std.proofs.Common.{◌≡◌, ◌≢◌, ◌∙◌, ℕ, zero, suc, ◌≤◌, ◌==◌, ◌++◌, List, [], ◌∷◌, Some, cond, flat_map, get_or, if◌then◌else◌, length, refl, slice_get, take, sym, ap, subst, cc, ⊎_elim}
+use Rattle.std.proofs.Common.{◌≡◌, ◌≢◌, ◌∙◌, ℕ, zero, suc, ◌≤◌, ◌==◌, ◌++◌, List, [], ◌∷◌, Some, cond, flat_map, get_or, if◌then◌else◌, length, refl, slice_get, take, sym, ap, subst, ⊎_elim}
 use Rattle.std.specs.Prelude.{Bool, true, false}
 use Rattle.std.proofs.lemmas.Bool.{cases_eq, eq-eqb, ne_eqb}
 use Rattle.net_core.specs.declared.demand.Demand.{Demand}
@@ -39,7 +39,7 @@ unedited : (nodes : List (List ℕ)) (d : Dated) (es : List Entry) → ((caller 
 unedited nodes d es none zero = refl
 unedited nodes d [] none (suc n) = refl
 unedited nodes d (Edited by edit reply ∷ es) none (suc n) =
-    absurd (not_nothing edit (flat_map (edit_made by) es) (sym (ap (λ b. (if b then edit ∷ [] else []) ++ flat_map (edit_made by) es) (eq-eqb by)) ∙ none by))
+    absurd (not_nothing edit (flat_map (edit_made by) es) (sym (ap (λ b. (if b then edit ∷ [] else []) ++ flat_map (edit_made by) es) (eq-eqb by by refl)) ∙ none by))
 unedited nodes d (Pooled index state lengths ∷ es) none (suc n) = unedited nodes d es none n
 
 -- ---- the one outcome
@@ -56,10 +56,10 @@ module _ (p : Case) (es : List Entry) where
   -- a caller's run, if the caller asks for nothing
   idle : (caller : ℕ) (os : List Outcome) → 1 ≢ caller → RunsFrom p es caller 0 1 (acts_of caller plan_commands) os → os ≡ []
   idle caller [] other run = refl
-  idle caller (o ∷ os) other run = absurd (subst (λ as. RunsFrom p es caller 0 1 as (o ∷ os)) (none_else caller other) run)
+  idle caller (o ∷ os) other run = absurd (subst (λ asked. RunsFrom p es caller 0 1 asked (o ∷ os)) (none_else caller other) run)
 
   first_kept : (caller : ℕ) (o : Outcome) (os : List Outcome) → caller_of o ≡ caller → outcomes_of caller (o ∷ os) ≡ o ∷ outcomes_of caller os
-  first_kept caller o os is = ap (λ b. cond b (o ∷ outcomes_of caller os) (outcomes_of caller os)) (subst (λ n. (caller_of o == n) ≡ true) is (eq-eqb (caller_of o)))
+  first_kept caller o os is = ap (λ b. cond b (o ∷ outcomes_of caller os) (outcomes_of caller os)) (eq-eqb (caller_of o) caller is)
 
   first_left : (caller : ℕ) (o : Outcome) (os : List Outcome) → caller_of o ≢ caller → outcomes_of caller (o ∷ os) ≡ outcomes_of caller os
   first_left caller o os other = ap (λ b. cond b (o ∷ outcomes_of caller os) (outcomes_of caller os)) (ne_eqb (caller_of o) caller other)

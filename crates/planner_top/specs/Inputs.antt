@@ -16,7 +16,7 @@ use Rattle.sndlib_reader.specs.Reading.{IsFirstFault}
 use Rattle.sndlib_reader.specs.Spelling as networks
 use Rattle.plan_report.specs.Texts.{SpellsReport}
 use Rattle.report_reader.specs.ReadingReport.{report_of}
-use Rattle.report_reader.specs.ReportKinds.{report_kind_word}
+use Rattle.report_words.specs.ReportKinds.{report_kind_word}
 use Rattle.session_script.specs.ScriptKinds.{script_kind_word}
 use Rattle.session_script.specs.ScriptReading.{script_of}
 use Rattle.session_script.specs.Scripts.{SpellsScript}

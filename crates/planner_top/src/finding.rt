@@ -88,13 +88,13 @@ fn put_named(text: &mut Bytes, word: &[u8], state: u32, name: &[u8]) -> Result<(
     put_word(text, name)
 }
 
-/// Puts the words of a price above a cost last.
-fn put_price(text: &mut Bytes, name: &[u8], module: u32) -> Result<(), NoMemory>
-    ensures { OnOk result (text.new ≡ text.old ++ spaced (codes "price-exceeded" ∷ name.now ∷ decimal module ∷ [])) }
+/// Puts the words for the module at this place of a link, which is worth more than it costs, last.
+fn put_price(text: &mut Bytes, name: &[u8], place: u32) -> Result<(), NoMemory>
+    ensures { OnOk result (text.new ≡ text.old ++ spaced (codes "price-exceeded" ∷ name.now ∷ decimal place ∷ [])) }
 {
     put_word(text, b"price-exceeded")?;
     put_word(text, name)?;
-    put_number(text, module as u128)
+    put_number(text, place as u128)
 }
 
 /// Puts the words of a finding last.

@@ -49,7 +49,7 @@ impl ReportKind {
 }
 
 impl FaultWord for ReportKind {
-    ghost use Rattle.report_reader.specs.ReportKinds.{report_kind_word};
+    ghost use Rattle.report_words.specs.ReportKinds.{report_kind_word};
 
     ghost word = { report_kind_word };
 

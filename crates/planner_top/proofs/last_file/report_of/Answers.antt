@@ -2,7 +2,7 @@ use Rattle.std.proofs.Common.{codes}
 use Rattle.plan_report.specs.Texts.{SpellsReport}
 use Rattle.plan_types.specs.declared.report.Report.{Report}
 use Rattle.report_reader.specs.ReadingReport.{report_of}
-use Rattle.report_reader.specs.ReportKinds.{report_kind_word}
+use Rattle.report_words.specs.ReportKinds.{report_kind_word}
 use Rattle.planner_top.specs.declared.status.Status.TheVariants.{BadReport}
 use Rattle.planner_top.proofs.Refusing.{reading_refused}
 use Rattle.planner_top.proofs.last_file.report_of.Goals as goal
