@@ -45,15 +45,18 @@ def plain(text, crate, crates):
     text = re.sub(r"^ *#\[error\([^\n]*\n", "", text, flags=re.M)
     # Rust drops everything, and its own standard library takes no allocator.
     text = re.sub(r"#\[derive\(Drop\)\]\n", "", text)
+    text = re.sub(r" \+ Drop\b", "", text)
+    text = re.sub(r"(\w+): Drop(?=[,>])", r"\1", text)
     text = re.sub(r"\bDrop, |, Drop\b", "", text)
-    text = re.sub(r"(<\w+): Drop>", r"\1>", text)
     text = re.sub(r": Drop;", ";", text)
     text = re.sub(r": Drop \+ ", ": ", text)
     text = text.replace("use std::alloc::Global;", "use crate::net_core::Global;")
+    text = text.replace("use std::marker::Model;\n", "")
     text = re.sub(r"vec!\[in alloc; ([^;\]]*); ([^\]]*)\]", r"crate::net_core::filled(\1, \2)", text)
     text = re.sub(r"\bcrate::(?!net_core)", f"crate::{crate}::", text)
     for other in crates:
-        text = re.sub(rf"\buse {other}(::|;)", rf"use crate::{other}\1", text)
+        text = re.sub(rf"\buse {other};", rf"use crate::{other};", text)
+        text = re.sub(rf"(?<!::)\b{other}::", rf"crate::{other}::", text)
     return text
 
 
