@@ -154,10 +154,42 @@ FAILURES ( f ( BC ) )
 "
 }
 
+/// The triangle without demands.
+fn no_demands() -> &'static [u8] {
+    b"?SNDlib native format; type: network; version: 1.0
+NODES ( A B C )
+LINKS ( AB ( A B ) 0 0 0 0 ( 10.00 5.00 ) BC ( B C ) 0 0 0 0 ( 10.00 5.00 ) AC ( A C ) 0 0 0 0 ( 10.00 5.00 ) )
+DEMANDS ( )
+"
+}
+
+fn set_and_plan() -> &'static [u8] {
+    b"?planner script; version: 1
+caller 1 set D1 24
+caller 1 plan
+caller 2 add D2 ( A X ) 1
+"
+}
+
+fn no_commands() -> &'static [u8] {
+    b"?planner script; version: 1
+"
+}
+
+fn ninth_caller() -> &'static [u8] {
+    b"?planner script; version: 1
+caller 9 plan
+"
+}
+
 /// The name and the bytes of each file.
-fn files() -> [(&'static str, &'static [u8]); 14] {
+fn files() -> [(&'static str, &'static [u8]); 18] {
     [
         ("triangle", triangle()),
+        ("empty", no_demands()),
+        ("set", set_and_plan()),
+        ("idle-script", no_commands()),
+        ("ninth", ninth_caller()),
         ("fixed", fixed_triangle()),
         ("parallel", parallel()),
         ("chain", chain()),
@@ -181,45 +213,87 @@ fn usage() -> &'static str {
 /// Words, how many files they fetch, and the status and the text that they come to.
 type Row = (&'static str, u32, Status, &'static str);
 
-/// Networks with and without a plan.
-fn plans() -> [Row; 9] {
+/// The report of the triangle without demands.
+fn empty_report() -> &'static str {
+    "?planner report; version: 1
+NOTES ( )
+JOURNAL ( ( 1 cut 0 )
+)
+POOL ( ( 0 state 0 right 0 ( 1 1 1 )
+)
+)
+OUTCOMES ( PLAN ( caller 1 plan 1 version 0 position 0 DEMANDS ( )
+cost 0.000 bound 0.000 raw 0 1 MODULES ( AB ( 0 )
+BC ( 0 )
+AC ( 0 )
+)
+CERTIFICATE ( 1 )
+ROUTES ( state 0 none 1 ( )
+)
+unsolved )
+)
+"
+}
+
+/// The report of the triangle without failures.
+fn triangle_report() -> &'static str {
+    "?planner report; version: 1
+NOTES ( )
+JOURNAL ( ( 1 cut 0 )
+)
+POOL ( ( 0 state 0 right 12000 ( 1 1 1 )
+)
+)
+OUTCOMES ( PLAN ( caller 1 plan 1 version 0 position 0 DEMANDS ( D1 ( A C )
+12.000 )
+cost 10.000 bound 10.000 raw 6000 1 MODULES ( AB ( 0 )
+BC ( 0 )
+AC ( 2 )
+)
+CERTIFICATE ( 2 ( 1 pool 0 right 12000 )
+)
+ROUTES ( state 0 none 1 ( D1 12000 ( AC )
+)
+)
+unsolved )
+)
+"
+}
+
+/// The report of a session in which D1 is raised to 24 before the plan.
+fn session_report() -> &'static str {
+    "?planner report; version: 1
+NOTES ( )
+JOURNAL ( ( 1 caller 1 set D1 24.000 accepted 1 )
+( 2 cut 0 )
+( 3 caller 2 add D2 ( A X )
+1.000 unknown-node )
+)
+POOL ( ( 0 state 0 right 24000 ( 1 1 1 )
+)
+)
+OUTCOMES ( PLAN ( caller 1 plan 1 version 1 position 1 DEMANDS ( D1 ( A C )
+24.000 )
+cost 15.000 bound 15.000 raw 12000 1 MODULES ( AB ( 0 )
+BC ( 0 )
+AC ( 3 )
+)
+CERTIFICATE ( 2 ( 1 pool 0 right 24000 )
+)
+ROUTES ( state 0 none 1 ( D1 24000 ( AC )
+)
+)
+unsolved )
+)
+"
+}
+
+/// Networks with and without a plan, and scripts.
+fn plans() -> [Row; 8] {
     [
-        (
-            "plan triangle",
-            1,
-            Status::Done,
-            "cost 10.000\nlink AB 0\nlink BC 0\nlink AC 2\nbound 10.000\nraw 6000 1\ncut 0 2 1 12000 1 1 1\n",
-        ),
-        (
-            "plan triangle default",
-            1,
-            Status::Done,
-            "cost 10.000\nlink AB 0\nlink BC 0\nlink AC 2\nbound 10.000\nraw 6000 1\ncut 0 2 1 12000 1 1 1\n",
-        ),
-        (
-            "plan triangle reconfigure",
-            2,
-            Status::Done,
-            "cost 30.000\nlink AB 2\nlink BC 2\nlink AC 2\nbound 15.000\nraw 12000 1\ncut 3 2 1 24000 1 1 0\n",
-        ),
-        (
-            "plan parallel default single",
-            2,
-            Status::Done,
-            "cost 20.000\nlink L1 10\nlink L2 10\nlink L3 0\nbound 10.000\nraw 10000 1\ncut 0 1 1 10000 1 1 1\n",
-        ),
-        (
-            "plan towns reconfigure",
-            2,
-            Status::Done,
-            "cost 600.000\nlink L1 2 0\nlink L2 1 0\nlink L3 1 0\nlink L4 1 0\nlink L5 1 0\nbound 150.000\nraw 35000000 311\ncut 1 311 125 280000 0 1 1 1 1\n",
-        ),
-        (
-            "plan fixed plain",
-            2,
-            Status::Done,
-            "cost 0.000\nlink AB 0\nlink BC 0\nlink AC 0\nbound 0.000\nraw 0 1\n",
-        ),
+        ("plan triangle", 1, Status::Done, triangle_report()),
+        ("plan triangle default", 1, Status::Done, triangle_report()),
+        ("plan empty", 1, Status::Done, empty_report()),
         (
             "plan chain reconfigure last",
             3,
@@ -227,22 +301,34 @@ fn plans() -> [Row; 9] {
             "not survivable: state 1 f demand D1\n",
         ),
         (
-            "plan idle default last",
-            2,
-            Status::Done,
-            "cost 0.000\nlink AB 0\nlink BC 0\nbound 0.000\nraw 0 1\n",
-        ),
-        (
             "plan bare",
             1,
             Status::NotSurvivable,
             "not survivable: state 0 none demand D1\n",
         ),
+        (
+            "session triangle default default set",
+            2,
+            Status::Done,
+            session_report(),
+        ),
+        (
+            "session triangle reconfigure single idle-script",
+            4,
+            Status::Done,
+            "?planner report; version: 1\nNOTES ( )\nJOURNAL ( )\nPOOL ( )\nOUTCOMES ( )\n",
+        ),
+        (
+            "session triangle plain default ninth",
+            3,
+            Status::BadScript,
+            "refused script caller at 35\n",
+        ),
     ]
 }
 
 /// Files that are refused or missing, and words outside the grammar.
-fn refusals() -> [Row; 16] {
+fn refusals() -> [Row; 19] {
     [
         (
             "plan stuck",
@@ -301,6 +387,19 @@ fn refusals() -> [Row; 16] {
         ("plan X", 1, Status::NoFile, "no file X\n"),
         ("plan triangle X last", 2, Status::NoFile, "no file X\n"),
         ("plan triangle default X", 2, Status::NoFile, "no file X\n"),
+        (
+            "check triangle default default set",
+            2,
+            Status::BadReport,
+            "refused report header at 0\n",
+        ),
+        (
+            "session triangle default default X",
+            2,
+            Status::NoFile,
+            "no file X\n",
+        ),
+        ("check triangle default set", 0, Status::BadWords, usage()),
         ("plan", 0, Status::BadWords, usage()),
         ("plan triangle -reconfigure", 0, Status::BadWords, usage()),
         (
@@ -395,6 +494,19 @@ fn refusals_are_written_and_no_further_file_is_fetched(rt: HostRuntime) -> Resul
     Ok(())
 }
 
+/// The first half of the triangle's report, 184 of its 369 bytes.
+fn half_of_the_report() -> &'static str {
+    "?planner report; version: 1
+NOTES ( )
+JOURNAL ( ( 1 cut 0 )
+)
+POOL ( ( 0 state 0 right 12000 ( 1 1 1 )
+)
+)
+OUTCOMES ( PLAN ( caller 1 plan 1 version 0 position 0 DEMANDS ( D1 ( A C )
+1"
+}
+
 /// Words, the number of a fetch and of a put that fail, and the status, the text and the counts of faults after it.
 type Faulty = (&'static str, u32, u32, Status, &'static str, (u64, u64));
 
@@ -414,7 +526,7 @@ fn faulty() -> [Faulty; 3] {
             1,
             0,
             Status::WriteFault,
-            "cost 10.000\nlink AB 0\nlink BC 0\nlink AC 2\nbo",
+            half_of_the_report(),
             (0, 1),
         ),
     ]
@@ -449,24 +561,28 @@ fn long_network(alloc: Global) -> Result<Bytes, NoMemory> {
     Ok(text)
 }
 
-/// Its plan.
-fn long_plan(alloc: Global) -> Result<Bytes, NoMemory> {
+/// The report of its plan.
+fn long_report(alloc: Global) -> Result<Bytes, NoMemory> {
     let mut text = List::new(alloc);
-    text.append(b"cost 0.000\n")?;
-    for n in 0..20 {
-        text.append(b"link ")?;
-        text.append(long_name(alloc, n)?.items())?;
-        text.append(b" 0\n")?;
+    text.append(b"?planner report; version: 1\nNOTES ( )\nJOURNAL ( ( 1 cut 0 )\n)\nPOOL ( ( 0 state 0 right 0 ( ")?;
+    for _ in 0..20 {
+        text.append(b"1 ")?;
     }
-    text.append(b"bound 0.000\nraw 0 1\n")?;
+    text.append(b")\n)\n)\nOUTCOMES ( PLAN ( caller 1 plan 1 version 0 position 0 DEMANDS ( )\n")?;
+    text.append(b"cost 0.000 bound 0.000 raw 0 1 MODULES ( ")?;
+    for n in 0..20 {
+        text.append(long_name(alloc, n)?.items())?;
+        text.append(b" ( 0 )\n")?;
+    }
+    text.append(b")\nCERTIFICATE ( 1 )\nROUTES ( state 0 none 1 ( )\n)\nunsolved )\n)\n")?;
     Ok(text)
 }
 
 #[test]
 fn a_long_text_is_put_in_pieces(rt: HostRuntime) -> Result<(), Fail> {
     let alloc = rt.alloc();
-    let text = long_plan(alloc)?;
-    assert_eq!(rt; text.len(), 5191);
+    let text = long_report(alloc)?;
+    assert_eq!(rt; text.len(), 5448);
     let ended = runs(
         &rt,
         "plan long",
@@ -486,8 +602,68 @@ fn a_long_text_is_put_in_pieces(rt: HostRuntime) -> Result<(), Fail> {
     assert_eq!(rt; (ended.status, ended.faults), (Status::WriteFault, (0, 1)));
     assert_eq!(rt;
         Some(ended.out.bytes()),
-        text.items().get(..4096 + (5191 - 4096) / 2)
+        text.items().get(..4096 + (5448 - 4096) / 2)
     );
+    Ok(())
+}
+
+/// A report of the triangle with every single-link failure, whose plan has this bound and this certificate.
+fn report_with(alloc: Global, bound: &[u8], certificate: &[u8]) -> Result<Bytes, NoMemory> {
+    let mut text = List::new(alloc);
+    text.append(b"?planner report; version: 1 NOTES ( ) JOURNAL ( ( 1 cut 0 ) ( 2 cut 1 ) ( 3 cut 2 ) ( 4 cut 3 ) ) ")?;
+    text.append(b"POOL ( ( 0 state 0 right 12000 ( 1 1 1 ) ) ( 1 state 1 right 12000 ( 0 1 1 ) ) ( 2 state 2 right 12000 ( 1 0 1 ) ) ( 3 state 3 right 24000 ( 1 1 0 ) ) ) ")?;
+    text.append(b"OUTCOMES ( PLAN ( caller 1 plan 1 version 0 position 0 DEMANDS ( D1 ( A C ) 12.000 ) cost 30.000 bound ")?;
+    text.append(bound)?;
+    text.append(b" raw 12000 1 MODULES ( AB ( 2 ) BC ( 2 ) AC ( 2 ) ) CERTIFICATE ( ")?;
+    text.append(certificate)?;
+    text.append(b" ) ROUTES ( state 0 none 1 ( D1 12000 ( AC ) ) state 1 AB 1 ( D1 12000 ( AC ) ) state 2 BC 1 ( D1 12000 ( AC ) ) state 3 AC 1 ( D1 12000 ( AB BC ) ) ) unsolved ) )")?;
+    Ok(text)
+}
+
+/// A bound, a certificate, and the status and the line of a check.
+type Checked = (&'static [u8], &'static [u8], Status, &'static str);
+
+fn checked() -> [Checked; 4] {
+    [
+        (
+            b"15.000",
+            b"2 ( 1 pool 3 right 24000 )",
+            Status::Done,
+            "accepted 1\n",
+        ),
+        (
+            b"15.000",
+            b"2 ( 1 pool 3 right 24001 )",
+            Status::Rejected,
+            "rejected outcome 1 right-differs 0 24001 24000\n",
+        ),
+        (
+            b"15.000",
+            b"1 ( 1 pool 3 right 24000 )",
+            Status::Rejected,
+            "rejected outcome 1 price-exceeded AB 0\n",
+        ),
+        (
+            b"20.000",
+            b"2 ( 1 pool 3 right 24000 )",
+            Status::Rejected,
+            "rejected outcome 1 bound-differs 20.000 15.000\n",
+        ),
+    ]
+}
+
+#[test]
+fn a_check_tells_the_first_finding(rt: HostRuntime) -> Result<(), Fail> {
+    let alloc = rt.alloc();
+    for (bound, certificate, status, line) in checked() {
+        let mut files = all_files(alloc)?;
+        let name = Name::new(alloc, b"report")?;
+        let bytes = report_with(alloc, bound, certificate)?;
+        put(&mut files, MemFile { name, bytes })?;
+        let ended = runs(&rt, "check triangle reconfigure default report", files, &[3], &[])?;
+        assert_eq!(rt; ended.out.bytes(), line.as_bytes());
+        assert_eq!(rt; (ended.status, ended.faults), (status, (0, 0)));
+    }
     Ok(())
 }
 
