@@ -1,7 +1,8 @@
 -- samples are networks, and their demands belong to them
-use Rattle.std.proofs.Common.{◌≡◌, ◌≢◌, ℕ, zero, suc, ◌+◌, ◌-◌, ◌*◌, ◌/◌, ◌%◌, ◌≤◌, ◌<◌, ◌⊎◌, inl, inr, ⊎_elim, List, [], ◌∷◌, map, length, get_or, All, arith, ap, sym, subst, ◌∙◌, length-append}
-use Rattle.std.specs.List.{range_with_len}
+use Rattle.std.proofs.Common.{◌≡◌, ◌≢◌, ℕ, zero, suc, ◌+◌, ◌-◌, ◌*◌, ◌/◌, ◌%◌, ◌≤◌, ◌<◌, ◌==◌, not, false, ◌⊎◌, inl, inr, ⊎_elim, List, [], ◌∷◌, map, length, get_or, All, arith, ap, refl, sym, subst, ◌∙◌, length-append}
+use Rattle.std.specs.List.{list_any, range_with_len}
 use Rattle.std.proofs.lemmas.List.Elements.{All-append, All-cons, All-nil}
+use Rattle.std.proofs.lemmas.List.Folds.{list_any_none}
 use Rattle.std.proofs.lemmas.List.FromFn.{length-map-range_with_len}
 use Rattle.std.proofs.lemmas.List.Sums.{sum_by-le}
 use Rattle.std.proofs.lemmas.Nat.{div-add-mod', mod_below}
@@ -11,7 +12,7 @@ use Rattle.net_core.specs.declared.demand.Demand.{Demand}
 use Rattle.net_core.specs.declared.network.Link.{Link}
 use Rattle.net_core.specs.declared.network.Module.{Module}
 use Rattle.sample_net.specs.Draws.{nth_draw, nth_number}
-use Rattle.sample_net.specs.Samples.{chord_count, chord_ends, demands_between, link_count, numbered, ring_ends, sample_demand, sample_ends, sample_link, sample_links, sample_modules, sample_nodes, sample_pairs}
+use Rattle.sample_net.specs.Samples.{chord_count, chord_ends, demands_between, link_count, links_between, numbered, ring_ends, sample_demand, sample_ends, sample_link, sample_links, sample_modules, sample_nodes, sample_pairs}
 use Rattle.sample_net.proofs.Naming.{numbered_differ}
 use Rattle.sample_net.proofs.Pairs.{AreOrdered, pairs_few, pairs_ordered}
 use Rattle.sample_net.proofs.Sequence.{all_made, draw_below, pairs_made, steps_add}
@@ -118,6 +119,12 @@ links_long seed n =
     let x = nth_number seed (chord_count n) in
     let ends = sample_ends seed n in
     length-map-range_with_len (λ e. sample_link e (get_or ends e (0, 0)) (nth_draw x (2 * e) 80) (nth_draw x (2 * e + 1) 200)) 0 (length ends) ∙ ends_long seed n
+
+-- no link of a sample costs anything to set up
+pub no_setup : (x : ℕ) (ends : List (ℕ × ℕ)) → list_any (λ l. not (l.setup == 0)) (links_between x ends) ≡ false
+no_setup x ends =
+    let f : ℕ → Link = λ e. sample_link e (get_or ends e (0, 0)) (nth_draw x (2 * e) 80) (nth_draw x (2 * e + 1) 200) in
+    list_any_none (λ (l : Link). not (l.setup == 0)) (links_between x ends) (all_made (λ (l : Link). not (l.setup == 0) ≡ false) f 0 (length ends) (λ e lt. refl))
 
 -- ---- the demands
 

@@ -1,2 +1,4 @@
 pub mod Draws
 pub mod Samples
+pub mod Texts
+pub mod inner

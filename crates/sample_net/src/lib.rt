@@ -1,4 +1,5 @@
-//! Sample networks of any size from 4 to 40 nodes, drawn from a seed, to try and to compare planning methods on.
+//! Sample networks of any size from 4 to 40 nodes, drawn from a seed, to try and to compare planning methods on; and the text of a
+//! network as a file.
 #![tactic(auto)]
 
 mod demands;
@@ -7,8 +8,13 @@ mod ends;
 mod generator;
 mod links;
 mod names;
+mod puts;
+mod texts;
 
 pub use generator::sample;
+pub use texts::{has_writable_notes, network_text};
 
 #[cfg(test)]
 mod tests;
+#[cfg(test)]
+mod text_tests;

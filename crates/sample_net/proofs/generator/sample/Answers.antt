@@ -1,13 +1,22 @@
-use Rattle.std.proofs.Common.{ap, length, ◌∙◌}
+use Rattle.std.proofs.Common.{ap, length, not, sym, ◌==◌, ◌∙◌}
+use Rattle.std.specs.List.{list_any}
 use Rattle.std.proofs.lemmas.List.FromFn.{length-map-range_with_len}
-use Rattle.sample_net.specs.Samples.{numbered, sample_pairs}
+use Rattle.sample_net.specs.Draws.{nth_number}
+use Rattle.sample_net.specs.Samples.{chord_count, numbered, sample_ends, sample_pairs}
 use Rattle.sample_net.proofs.Pairs.{pairs_count}
-use Rattle.sample_net.proofs.Sound.{are_sample_demands, demands_long, is_sample_network, links_long}
+use Rattle.sample_net.proofs.Sound.{are_sample_demands, demands_long, is_sample_network, links_long, no_setup}
 use Rattle.sample_net.proofs.generator.sample.Goals as goal
 
 pub checked-requires : goal.checked-requires
 checked-requires c =
     rw (c.in_ok-nodes.ensures, c.in_ok-links.ensures.links, c.new-draws.ensures) (is_sample_network c.args.seed c.args.n c.requires.0 c.requires.1)
+
+pub returns-clause-writable : goal.returns-clause-writable
+returns-clause-writable c = record {
+  fixed_cost = ap (λ n. n.fixed_cost) c.checked.ensures.2;
+  routing_cost = ap (λ n. n.routing_cost) c.checked.ensures.2;
+  setup_cost = ap (λ n. n.setup_cost) c.checked.ensures.2 ∙ sym (ap (λ ls. list_any (λ l. not (l.setup == 0)) ls) (c.checked.ensures.1 ∙ c.in_ok-links.ensures.links) ∙ no_setup (nth_number c.new-draws.result.number (chord_count c.args.n)) (sample_ends c.new-draws.result.number c.args.n));
+}
 
 pub returns-clause-belong : goal.returns-clause-belong
 returns-clause-belong c = rw (c.in_ok-demands.ensures) (are_sample_demands c.links.new.draws.number c.args.n c.requires.1)

@@ -1,0 +1,8 @@
+use Rattle.std.proofs.Common.{◌∷◌, [], take, flat_map}
+use Rattle.std.specs.Prelude.{codes}
+use Rattle.text_kit.specs.Items.{Opening, Verbatim}
+use Rattle.sample_net.specs.inner.Adds.{AddsItems}
+use Rattle.sample_net.proofs.texts.put_nodes.Given as goal
+
+abbrev pub invariant-loop-node : goal.invariant-loop-node
+invariant-loop-node l = AddsItems l.fn.text (Verbatim (codes "NODES") ∷ Opening ∷ flat_map (λ n. Verbatim n ∷ []) (take l.node-index l.nodes)) l.text
