@@ -8,3 +8,4 @@ for arguments in "1 4" "18446744073709551615 5" "2 12" "3 40"; do
     # shellcheck disable=SC2086
     python3 sample.py $arguments | awk 'NR == 1 { print } /^l/ { link = $0 } /^d/ { demand = $0 } END { print link; print demand }'
 done
+python3 sample.py 1 4 file
