@@ -2,58 +2,29 @@ use crate::sample;
 use net_core::{Demand, Link};
 use std::test::Fail;
 
-/// A seed and a number of nodes, how many nodes, links and demands there are, the last link's ends with the costs of its modules,
-/// and the last demand's ends with its need. All but the name is what `bench/sample/sample.py` works out.
-struct Row {
-    name: &'static str,
-    seed: u64,
-    n: u32,
-    counts: (usize, usize, usize),
-    link: (u32, u32, u64, u64),
-    demand: (u32, u32, u64),
-}
+/// A seed and a number of nodes; how many nodes, links and demands there are; the last link's ends with the costs of its modules; the
+/// last demand's ends with its need.
+type Row = (
+    u64,
+    u32,
+    (usize, usize, usize),
+    (u32, u32, u64, u64),
+    (u32, u32, u64),
+);
 
+/// The fewest nodes and the most, an odd number, and the greatest seed, as `bench/sample/sample.py` works them out.
 const ROWS: [Row; 5] = [
-    Row {
-        name: "the fewest nodes",
-        seed: 1,
-        n: 4,
-        counts: (4, 6, 6),
-        link: (2, 0, 32000, 50000),
-        demand: (2, 3, 6000),
-    },
-    Row {
-        name: "an odd number of nodes, and the greatest seed",
-        seed: 18446744073709551615,
-        n: 5,
-        counts: (5, 8, 10),
-        link: (4, 2, 72000, 228000),
-        demand: (3, 4, 31000),
-    },
-    Row {
-        name: "eight nodes",
-        seed: 7,
-        n: 8,
-        counts: (8, 12, 28),
-        link: (6, 3, 60000, 195000),
-        demand: (6, 7, 12000),
-    },
-    Row {
-        name: "twelve nodes",
-        seed: 2,
-        n: 12,
-        counts: (12, 18, 66),
-        link: (10, 5, 35000, 166000),
-        demand: (10, 11, 28000),
-    },
-    Row {
-        name: "the most nodes",
-        seed: 3,
-        n: 40,
-        counts: (40, 60, 780),
-        link: (38, 3, 60000, 63000),
-        demand: (38, 39, 2000),
-    },
+    (1, 4, (4, 6, 6), (2, 0, 32000, 50000), (2, 3, 6000)),
+    (
+        18446744073709551615,
+        5,
+        (5, 8, 10),
+        (4, 2, 72000, 228000),
+        (3, 4, 31000),
+    ),
+    (7, 8, (8, 12, 28), (6, 3, 60000, 195000), (6, 7, 12000)),
+    (2, 12, (12, 18, 66), (10, 5, 35000, 166000), (10, 11, 28000)),
+    (3, 40, (40, 60, 780), (38, 3, 60000, 63000), (38, 39, 2000)),
 ];
 
 /// The ends of a link, and the costs of its two modules.
@@ -71,13 +42,14 @@ fn demand_row(d: &Demand) -> (u32, u32, u64) {
 #[test]
 fn samples_end_as_worked_out_apart(rt: HostRuntime) -> Result<(), Fail> {
     for row in &ROWS {
-        let (net, demands) = sample(rt.alloc(), row.seed, row.n)?;
-        let counts = (net.nodes().len(), net.links().len(), demands.len());
-        assert_eq!(rt; counts, row.counts, "{}", row.name);
-        let link = &net.links().items()[row.counts.1 - 1];
-        assert_eq!(rt; link_row(link), row.link, "{}", row.name);
-        let demand = &demands.items()[row.counts.2 - 1];
-        assert_eq!(rt; demand_row(demand), row.demand, "{}", row.name);
+        let (seed, n, counts, last_link, last_demand) = *row;
+        let (net, demands) = sample(rt.alloc(), seed, n)?;
+        let found = (net.nodes().len(), net.links().len(), demands.len());
+        assert_eq!(rt; found, counts, "{seed} {n}");
+        let link = link_row(&net.links().items()[counts.1 - 1]);
+        assert_eq!(rt; link, last_link, "{seed} {n}");
+        let demand = demand_row(&demands.items()[counts.2 - 1]);
+        assert_eq!(rt; demand, last_demand, "{seed} {n}");
     }
     Ok(())
 }
