@@ -20,6 +20,7 @@ pub record HasWritableNotes (net : Network) : Type 0 where
 abbrev pub costless : Link → CostedLink
 costless l = record { link = l; fixed_cost = 0; routing_cost = 0 }
 
+-- such a link as the file has it, its ends by the names of the nodes
 abbrev pub costless_items : List (List ℕ) → Link → List Item
 costless_items nodes l = link_items nodes (costless l)
 

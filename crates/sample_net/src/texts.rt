@@ -37,19 +37,19 @@ fn put_ends(text: &mut Bytes, nodes: &[Name], a: NodeId, b: NodeId) -> Result<()
 }
 
 /// Puts the capacity and the cost of a module last.
-fn put_module(text: &mut Bytes, module: &Module) -> Result<(), NoMemory>
-    ensures { OnOk result (AddsItems text.old (module_items module.now) text.new) }
+fn put_module(text: &mut Bytes, kind: &Module) -> Result<(), NoMemory>
+    ensures { OnOk result (AddsItems text.old (module_items kind.now) text.new) }
 {
-    put_amount(text, module.capacity)?;
-    put_amount(text, module.cost)
+    put_amount(text, kind.capacity)?;
+    put_amount(text, kind.cost)
 }
 
 /// Puts the capacities and costs of modules last.
 fn put_modules(text: &mut Bytes, modules: &[Module]) -> Result<(), NoMemory>
     ensures { OnOk result (AddsItems text.old (flat_map module_items modules.now) text.new) }
 {
-    for module in modules {
-        put_module(text, module)?;
+    for kind in modules {
+        put_module(text, kind)?;
     }
     Ok(())
 }

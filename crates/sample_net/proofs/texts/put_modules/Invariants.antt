@@ -3,5 +3,5 @@ use Rattle.sndlib_reader.specs.Spelling.{module_items}
 use Rattle.sample_net.specs.inner.Adds.{AddsItems}
 use Rattle.sample_net.proofs.texts.put_modules.Given as goal
 
-abbrev pub invariant-loop-module : goal.invariant-loop-module
-invariant-loop-module l = AddsItems l.fn.text (flat_map module_items (take l.module-index l.modules)) l.text
+abbrev pub invariant-loop-kind : goal.invariant-loop-kind
+invariant-loop-kind l = AddsItems l.fn.text (flat_map module_items (take l.kind-index l.modules)) l.text
