@@ -1,0 +1,36 @@
+-- A board may go to another thread, and so may a caller.
+use denote.Ref.{NamedLft}
+use denote.RattleType.{RattleType}
+use denote.Struct.Declared.{shape}
+use denote.Struct.Tuple.{Tuple}
+use denote.Param.Send.{IsSend, recorded_send, sendable, shr_send, struct_send}
+use Rattle.std.proofs.Common.{[], ◌∷◌}
+use Rattle.std.proofs.Crossing.{crosses}
+use Rattle.net_core.specs.contracts.demand.Demand as demand
+use Rattle.net_core.specs.contracts.journal.Entry as entry
+use Rattle.net_core.specs.contracts.list.List as list
+use Rattle.net_core.specs.contracts.network.Network as network
+use Rattle.net_core.specs.contracts.states.States as states
+use Rattle.net_core.proofs.list.List.TheSendSync as lists
+use Rattle.net_core.proofs.network.Network.TheSendSync as networks
+use Rattle.net_core.proofs.states.States.TheSendSync as all_states
+use Rattle.turn_lock.proofs.desk.Desk.TheSendSync as desks
+use Rattle.turn_lock.proofs.desk.Pass.TheSendSync as passes
+use Rattle.cut_pool.proofs.history.History.TheSendSync as histories
+use Rattle.cut_pool.proofs.pooled.PooledCut.TheSendSync as pools
+use Rattle.cut_pool.specs.contracts.board.Board as board
+use Rattle.cut_pool.specs.contracts.board.BoardChronicle.TheImpl.{ghosts}
+use Rattle.board_desk.specs.contracts.caller.Caller as caller
+
+-- the origin of a board, as a type of the language
+abbrev origin : RattleType
+origin = Tuple (network.the_row ∷ states.the_row ∷ list.the_row demand.the_row ∷ [])
+
+board_send : (κ : NamedLft) → IsSend (board.the_row κ)
+board_send κ = search (sendable, crosses, lists.the_send, networks.the_sync, all_states.the_sync, histories.the_send, pools.the_send) depth 20
+
+pub caller_send : (κ ν : NamedLft) → IsSend (caller.the_row κ ν)
+caller_send κ ν =
+    let to_desk = desks.the_sync (board.the_row ν) entry.the_row origin ghosts (board_send ν) in
+    let pass = passes.the_field_send (board.the_row ν) entry.the_row origin ghosts (board_send ν) in
+    recorded_send _ _ _ (caller.the_type κ ν).to_one (struct_send (shape (caller.the_type κ ν)) (search sendable, (shr_send _ _ _ to_desk, (pass, tt))))

@@ -1,0 +1,62 @@
+use Rattle.board_desk.proofs.Turns.{left_as_found, left_with}
+use Rattle.board_desk.proofs.caller.Caller.admit.Goals as goal
+
+pub returns-in-Admitted-clause-turn : goal.returns-in-Admitted-clause-turn
+returns-in-Admitted-clause-turn g c =
+    let e = c.enter-board.ensures in
+    let l = c.leave_with-pass.ensures in (
+      c.enter-board.result.0,
+      c.admit.new.self,
+      c.in-Admitted.ensures,
+      left_with c.args.self _ c.enter-board.result.1 c.enter-board.result.0 c.admit.new.self _
+          (record { origin = e.origin; stands = e.stands; begins = e.begins; places = e.places })
+          c.in-Admitted.ensures.3.entries l.seen l.places,
+    )
+
+pub returns-in-Known-clause-turn : goal.returns-in-Known-clause-turn
+returns-in-Known-clause-turn g c =
+    let e = c.enter-board.ensures in
+    let l = c.leave-pass.ensures in (
+      c.enter-board.result.0,
+      c.admit.new.self,
+      c.in-Known.ensures,
+      left_as_found c.args.self _ c.enter-board.result.1 c.enter-board.result.0 c.admit.new.self
+          (record { origin = e.origin; stands = e.stands; begins = e.begins; places = e.places })
+          c.in-Known.ensures.2.entries l.seen l.places,
+    )
+
+pub returns-in-PoolFull-clause-turn : goal.returns-in-PoolFull-clause-turn
+returns-in-PoolFull-clause-turn g c =
+    let e = c.enter-board.ensures in
+    let l = c.leave-pass-in-PoolFull.ensures in (
+      c.enter-board.result.0,
+      c.admit.new.self,
+      c.in-PoolFull.ensures,
+      left_as_found c.args.self _ c.enter-board.result.1 c.enter-board.result.0 c.admit.new.self
+          (record { origin = e.origin; stands = e.stands; begins = e.begins; places = e.places })
+          c.in-PoolFull.ensures.3.entries l.seen l.places,
+    )
+
+pub returns-in-Full-clause-turn : goal.returns-in-Full-clause-turn
+returns-in-Full-clause-turn g c =
+    let e = c.enter-board.ensures in
+    let l = c.leave-pass-in-Full.ensures in (
+      c.enter-board.result.0,
+      c.admit.new.self,
+      c.in-Full.ensures,
+      left_as_found c.args.self _ c.enter-board.result.1 c.enter-board.result.0 c.admit.new.self
+          (record { origin = e.origin; stands = e.stands; begins = e.begins; places = e.places })
+          c.in-Full.ensures.4.entries l.seen l.places,
+    )
+
+pub returns-in-NoMemory-clause-turn : goal.returns-in-NoMemory-clause-turn
+returns-in-NoMemory-clause-turn g c =
+    let e = c.enter-board.ensures in
+    let l = c.leave-pass-in-NoMemory.ensures in (
+      c.enter-board.result.0,
+      c.admit.new.self,
+      c.in-NoMemory.ensures,
+      left_as_found c.args.self _ c.enter-board.result.1 c.enter-board.result.0 c.admit.new.self
+          (record { origin = e.origin; stands = e.stands; begins = e.begins; places = e.places })
+          c.in-NoMemory.ensures.4.entries l.seen l.places,
+    )
