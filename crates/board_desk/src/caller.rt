@@ -49,8 +49,7 @@ impl<'d, 'a> Caller<'d, 'a> {
         ensures turn { EditsInTurn self.entry edit result.0 result.1 }
     {
         let Caller { number, desk, pass } = self;
-        let (board, turn) = desk.enter(rt, pass);
-        let mut board = board;
+        let (mut board, turn) = desk.enter(rt, pass);
         match board.edit(number, edit) {
             EditAnswer::At { position, reply } => {
                 let pass = turn.leave_with(board);
@@ -80,8 +79,7 @@ impl<'d, 'a> Caller<'d, 'a> {
         ensures turn { AdmitsInTurn self.entry cut result.0 result.1 }
     {
         let Caller { number, desk, pass } = self;
-        let (board, turn) = desk.enter(rt, pass);
-        let mut board = board;
+        let (mut board, turn) = desk.enter(rt, pass);
         match board.admit(cut) {
             AdmitAnswer::Admitted { index, position } => {
                 let pass = turn.leave_with(board);
