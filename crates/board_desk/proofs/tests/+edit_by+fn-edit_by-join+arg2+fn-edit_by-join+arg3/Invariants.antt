@@ -1,4 +1,4 @@
-use Rattle.std.proofs.Common.{ℕ, ◌+◌, ◌*◌}
+use Rattle.std.proofs.Common.{◌+◌, ◌*◌}
 use Rattle.board_desk.proofs.tests.+edit_by+fn-edit_by-join+arg2+fn-edit_by-join+arg3.Given as goal
 
 abbrev pub decreases-edit_by : goal.decreases-edit_by
