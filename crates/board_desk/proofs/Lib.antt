@@ -1,2 +1,2 @@
-mod Sent
+pub mod Sent
 mod Turns

@@ -1,4 +1,4 @@
--- A board may go to another thread, and so may a caller.
+-- What may go to another thread.
 use denote.Ref.{NamedLft}
 use denote.RattleType.{RattleType}
 use denote.Struct.Declared.{shape}
@@ -26,9 +26,11 @@ use Rattle.board_desk.specs.contracts.caller.Caller as caller
 abbrev origin : RattleType
 origin = Tuple (network.the_row ∷ states.the_row ∷ list.the_row demand.the_row ∷ [])
 
-board_send : (κ : NamedLft) → IsSend (board.the_row κ)
+-- a board may go to another thread
+pub board_send : (κ : NamedLft) → IsSend (board.the_row κ)
 board_send κ = search (sendable, crosses, lists.the_send, networks.the_sync, all_states.the_sync, histories.the_send, pools.the_send) depth 20
 
+-- a caller may go to another thread
 pub caller_send : (κ ν : NamedLft) → IsSend (caller.the_row κ ν)
 caller_send κ ν =
     let to_desk = desks.the_sync (board.the_row ν) entry.the_row origin ghosts (board_send ν) in
