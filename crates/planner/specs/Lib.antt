@@ -1,5 +1,3 @@
 pub mod Answers
-pub mod Bounded
-pub mod Plans
 pub mod SoundPlans
 pub mod inner

@@ -1,3 +1,2 @@
 -- what only private functions and proofs cite
 pub mod Candidates
-pub mod UnitCuts

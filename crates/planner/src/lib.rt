@@ -2,15 +2,10 @@
 //! what such counts cost.
 #![tactic(auto)]
 
-pub mod bounded;
 mod candidates;
 mod certified;
 pub mod on_board;
 mod openings;
-pub mod plan;
 mod sound;
-mod unit_cuts;
 
-pub use bounded::{Bounded, CertifiedCut};
-pub use on_board::plan_board;
-pub use plan::{FirstPlan, PlanAnswer, plan_instance};
+pub use on_board::{PlanAnswer, plan_board};
