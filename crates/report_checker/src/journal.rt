@@ -1,10 +1,9 @@
 ghost use Rattle.std.specs.Prelude.{◌≡◌, ◌≤◌, All, IfErr, IfOk, length};
 ghost use Rattle.net_core.specs.Views.{case_of};
-ghost use Rattle.plan_checker.specs.inner.Tests.{StopsBy};
+ghost use Rattle.plan_checker.specs.Order.{HoldsNone};
+ghost use Rattle.plan_checker.specs.inner.Tests.{StopsBy, Tells};
 ghost use Rattle.report_checker.specs.Journals.{HoldsEntryDiffers, HoldsNotesDiffer};
 ghost use Rattle.report_checker.specs.inner.Walks.{HasPassed, HasSmallNeed};
-ghost use Rattle.plan_checker.specs.Order.{HoldsNone};
-ghost use Rattle.plan_checker.specs.inner.Tests.{Tells};
 
 use crate::walk::{Walk, walk_from};
 use net_core::{Entry, Instance, NoMemory, Notes};

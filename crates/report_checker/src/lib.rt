@@ -4,7 +4,7 @@
 mod journal;
 mod outcomes;
 mod pool;
-pub mod report;
-pub mod walk;
+mod report;
+mod walk;
 
 pub use report::check_report;
