@@ -1,3 +1,4 @@
+pub mod Examples
 pub mod Lines
 pub mod Mixed
 pub mod Routes
