@@ -8,3 +8,6 @@ mod report;
 mod walk;
 
 pub use report::check_report;
+
+#[cfg(test)]
+mod tests;
