@@ -3,6 +3,7 @@ ghost use Rattle.metric_cut.specs.Bounded.{HaveBound};
 ghost use Rattle.planner.specs.inner.Candidates.{IsBestBound, IsBoundOfCut, IsBoundOfNone};
 
 use crate::candidates::Candidates;
+use crate::ranges::are_short;
 use master_bound::best_own;
 use metric_cut::{RawValue, own_certificate};
 use module_prices::bound_of;
@@ -30,13 +31,6 @@ fn bound_of_none(alloc: Global, net: &Network) -> CertifiedBound
         raw: RawValue { num: 0, den: 1 },
         bound: bound_of(net.links().items(), 0, 1),
     }
-}
-
-/// Lengths are below 2^32 by their type.
-fn are_short(lengths: &[u32])
-    ensures { All (λ x. x < 2 ^ 32) lengths.now }
-{
-    let _ = lengths;
 }
 
 /// A certificate's only line.

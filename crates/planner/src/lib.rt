@@ -6,6 +6,10 @@ mod candidates;
 mod certified;
 pub mod on_board;
 mod openings;
+pub mod ranges;
 mod sound;
 
 pub use on_board::{PlanAnswer, plan_board};
+
+#[cfg(test)]
+mod tests;
