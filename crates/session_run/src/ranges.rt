@@ -1,17 +1,11 @@
-ghost use Rattle.std.specs.Prelude.{◌<◌, ◌^◌, All};
+ghost use Rattle.std.specs.Prelude.{All};
 ghost use Rattle.session_run.specs.inner.Ranges.{HasShortLengths, IsShortNamed};
 
 use net_core::CutLine;
 use plan_types::Outcome;
+use planner::ranges::are_short;
 
-/// Lengths are below 2^32 by their type.
-fn are_short(lengths: &[u32])
-    ensures { All (λ x. x < 2 ^ 32) lengths.now }
-{
-    let _ = lengths;
-}
-
-/// So are those of each line.
+/// The lengths of each line are below 2^32 by their type.
 pub fn have_short_lengths(lines: &[CutLine])
     ensures { All HasShortLengths lines.now }
 {

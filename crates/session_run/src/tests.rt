@@ -70,8 +70,8 @@ fn plans_belong_to_their_versions(rt: HostRuntime) -> Result<(), Fail> {
     let alloc = rt.alloc();
     let net = triangle(alloc, 0)?;
     let states = States::only_none(alloc);
-    let cases: [(&[u8], &[Looked], usize, u128); 4] = [
-        (b"", &[], 0, 0),
+    let cases: [(&[u8], &[Looked], usize, Option<u128>); 4] = [
+        (b"", &[], 0, None),
         (
             b"caller 1 set A 24\ncaller 1 plan\ncaller 2 plan\n",
             &[
@@ -79,7 +79,7 @@ fn plans_belong_to_their_versions(rt: HostRuntime) -> Result<(), Fail> {
                 (2, 1, 1, 2, 15000, 15000, 24000),
             ],
             2,
-            24000,
+            Some(24000),
         ),
         (
             b"caller 1 plan\ncaller 1 set A 24\ncaller 1 plan\n",
@@ -88,7 +88,7 @@ fn plans_belong_to_their_versions(rt: HostRuntime) -> Result<(), Fail> {
                 (1, 2, 1, 2, 15000, 15000, 24000),
             ],
             2,
-            24000,
+            Some(24000),
         ),
         (
             b"caller 2 plan\ncaller 1 plan\n",
@@ -97,7 +97,7 @@ fn plans_belong_to_their_versions(rt: HostRuntime) -> Result<(), Fail> {
                 (2, 1, 0, 0, 10000, 10000, 12000),
             ],
             1,
-            12000,
+            Some(12000),
         ),
     ];
     for (commands, want, entries, right) in cases {
@@ -108,8 +108,8 @@ fn plans_belong_to_their_versions(rt: HostRuntime) -> Result<(), Fail> {
         assert!(rt; are_plans(&report, want));
         assert_eq!(rt; report.entries.len(), entries);
         let last = match report.pool.items() {
-            [line, ..] => line.right,
-            [] => 0,
+            [line, ..] => Some(line.right),
+            [] => None,
         };
         assert_eq!(rt; last, right);
     }
