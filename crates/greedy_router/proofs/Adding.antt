@@ -1,8 +1,11 @@
 -- flows of one demand are added to a routing
-use Rattle.std.proofs.Common.{◌≡◌, ℕ, ◌+◌, ◌*◌, ◌<◌, ◌≤◌, ◌==◌, ◌++◌, All, Some, if◌then◌else◌, List, [], ◌∷◌, get_or, length, length-append, map, slice_get, ⊎_elim, refl, sym, ap, subst, ◌∙◌, arith}
-use Rattle.std.proofs.lemmas.Bool.{cases_eq}
+use Rattle.std.proofs.Common.{◌≡◌, ℕ, ◌+◌, ◌*◌, ◌<◌, ◌≤◌, ◌==◌, ◌++◌, All, Some, if◌then◌else◌, List, [], ◌∷◌, get_or, length, length-append, map, slice_get, take, ⊎_elim, refl, sym, ap, subst, ◌∙◌, arith}
 use Rattle.std.proofs.lemmas.List.{append_assoc, append-nil, get_or-map, length-map}
-use Rattle.std.proofs.lemmas.List.Elements.{All-append, All-contains, All-nil, All-push, All-weaker}
+use Rattle.std.proofs.lemmas.List.Elements.{All-append, All-contains, All-more, All-nil, All-push, All-weaker}
+use Rattle.std.specs.List.{range_with_len}
+use Rattle.std.specs.List.Sorted.{IsPermutation}
+use Rattle.std.proofs.lemmas.List.FromFn.{get_or-range_with_len, length-range_with_len}
+use Rattle.std.proofs.lemmas.List.Sorted.{All-permutation, IsPermutation-sym}
 use Rattle.std.proofs.lemmas.List.Sums.{sum_by-append, sum_by_push}
 use Rattle.std.proofs.lemmas.Option.{get_or_from_slice_get, slice_get_within}
 use Rattle.net_core.specs.declared.demand.Demand.{Demand}
@@ -14,7 +17,7 @@ use Rattle.plan_terms.specs.Paths.{IsPath}
 use Rattle.greedy_router.specs.Blocked.{HasSpare, IsBlocked}
 use Rattle.greedy_router.specs.Left.{IsLeft}
 use Rattle.greedy_router.specs.declared.draft.Draft.{Draft}
-use Rattle.greedy_router.specs.inner.Drafts.{Adds, IsDraft, IsFlowOf, IsRoutedBelow, Sends}
+use Rattle.greedy_router.specs.inner.Drafts.{Adds, AreRouted, IsDraft, IsEnded, IsFlowOf, Sends}
 use Rattle.greedy_router.specs.inner.FullLinks.{positives}
 use Rattle.greedy_router.proofs.Positives.{few_positives, fewer, one_fewer}
 
@@ -83,8 +86,8 @@ module _ (joins : ℕ → ℕ → ℕ → Type 0) (demands : List Demand) (scale
   }
 
   -- nothing is routed yet
-  pub below_none : (draft : Draft) → draft.flows ≡ [] → draft.rest ≡ map (λ d. d.need * scale) demands → draft.spares ≡ nums → IsRoutedBelow joins demands scale nums 0 draft
-  below_none draft flows rest spares =
+  pub routed_none : (draft : Draft) → draft.flows ≡ [] → draft.rest ≡ map (λ d. d.need * scale) demands → draft.spares ≡ nums → AreRouted joins demands scale nums [] draft
+  routed_none draft flows rest spares =
       let none : length draft.flows ≡ 0 = ap length flows in
       let rests : length draft.rest ≡ length demands = ap length rest ∙ length-map demands (λ (d : Demand). d.need * scale) in
       let links : length draft.spares ≡ length nums = ap length spares in
@@ -104,27 +107,38 @@ module _ (joins : ℕ → ℕ → ℕ → Type 0) (demands : List Demand) (scale
               omega (arith, zero_load, is);
           few = omega (arith, none, rests, links, few_positives draft.spares, few_positives draft.rest);
         };
-        blocked = λ k d lt at some. absurd (omega (arith, lt));
+        ended = All-nil (IsEnded joins demands draft);
       }
 
-  -- a demand that was routed
-  pub below_more : (k : ℕ) (d : Demand) (old new : Draft) → slice_get demands k ≡ Some d → Adds joins k d old new
-      → (0 < get_or new.rest k 0 → IsBlocked joins (λ e. 0 < get_or new.spares e 0) d.from.0 d.to.0)
-      → IsRoutedBelow joins demands scale nums k old → IsRoutedBelow joins demands scale nums (k + 1) new
-  below_more k d old new at a blocked r = record {
-    whole = draft_added k d old new at a r.whole;
-    blocked = λ j e lt here some. ⊎_elim
-        (λ same.
-        let one : d ≡ e = cc (at, here, same) in
-        subst (λ (x : Demand). IsBlocked joins (λ e. 0 < get_or new.spares e 0) x.from.0 x.to.0) one (blocked (subst (λ i. 0 < get_or new.rest i 0) same some)))
-        (λ other. λ es q room.
-        r.blocked j e (omega (arith, lt, other)) here (omega (arith, some, a.rest j)) es q
-        (All-weaker (λ (x : LinkId). 0 < get_or new.spares x.0 0) (λ (x : LinkId). 0 < get_or old.spares x.0 0) (λ x h. omega (arith, h, a.spares x.0)) es room))
-        (cases_eq j k);
+  -- one demand more was routed
+  pub routed_more : (order : List ℕ) (i : ℕ) (d : Demand) (old new : Draft) → i < length order → slice_get demands (get_or order i 0) ≡ Some d → Adds joins (get_or order i 0) d old new
+      → (0 < get_or new.rest (get_or order i 0) 0 → IsBlocked joins (λ e. 0 < get_or new.spares e 0) d.from.0 d.to.0)
+      → AreRouted joins demands scale nums (take i order) old → AreRouted joins demands scale nums (take (i + 1) order) new
+  routed_more order i d old new lt at a blocked r =
+      let k : ℕ = get_or order i 0 in
+      let now : IsEnded joins demands new k = λ e here some. let one : d ≡ e = cc (at, here) in subst (λ (x : Demand). IsBlocked joins (λ e. 0 < get_or new.spares e 0) x.from.0 x.to.0) one (blocked some) in
+      let still : (j : ℕ) → IsEnded joins demands old j → IsEnded joins demands new j = λ j h e here some es q room.
+      h e here (omega (arith, some, a.rest j)) es q
+      (All-weaker (λ (x : LinkId). 0 < get_or new.spares x.0 0) (λ (x : LinkId). 0 < get_or old.spares x.0 0) (λ x g. omega (arith, g, a.spares x.0)) es room) in
+      record {
+        whole = draft_added k d old new at a r.whole;
+        ended = All-more (IsEnded joins demands new) order i 0 lt (All-weaker (IsEnded joins demands old) (IsEnded joins demands new) still (take i order) r.ended) now;
+      }
+
+  -- the same demands in another order
+  pub routed_all : (done all : List ℕ) (draft : Draft) → IsPermutation all done → AreRouted joins demands scale nums done draft → AreRouted joins demands scale nums all draft
+  routed_all done all draft moved r = record {
+    whole = r.whole;
+    ended = All-permutation (IsEnded joins demands draft) done all (IsPermutation-sym all done moved) r.ended;
   }
 
+  ended_at : (draft : Draft) → All (IsEnded joins demands draft) (range_with_len 0 (length demands)) → (k : ℕ) → k < length demands → IsEnded joins demands draft k
+  ended_at draft all k lt =
+      let place : get_or (range_with_len 0 (length demands)) k 0 ≡ k = omega (arith, get_or-range_with_len 0 (length demands) k 0 lt) in
+      subst (IsEnded joins demands draft) place (all k 0 (omega (arith, lt, length-range_with_len 0 (length demands))))
+
   -- all demands were routed
-  pub left_of : (draft : Draft) → IsRoutedBelow joins demands scale nums (length demands) draft → IsLeft joins demands scale nums (record { routing = record { den = 1; flows = draft.flows }; rest = draft.rest })
+  pub left_of : (draft : Draft) → AreRouted joins demands scale nums (range_with_len 0 (length demands)) draft → IsLeft joins demands scale nums (record { routing = record { den = 1; flows = draft.flows }; rest = draft.rest })
   left_of draft r = record {
     whole = refl;
     flows = r.whole.flows;
@@ -132,7 +146,7 @@ module _ (joins : ℕ → ℕ → ℕ → Type 0) (demands : List Demand) (scale
     met = r.whole.met;
     within = λ e. omega (arith, r.whole.spares e);
     blocked = λ k d at some. λ es q room.
-        r.blocked k d (slice_get_within demands k d at) at some es q
+        ended_at draft r.ended k (slice_get_within demands k d at) d at some es q
         (All-weaker (λ (x : LinkId). HasSpare nums draft.flows x.0) (λ (x : LinkId). 0 < get_or draft.spares x.0 0) (λ x h. omega (arith, h, r.whole.spares x.0)) es room);
     few = omega (arith, r.whole.few);
   }

@@ -1,5 +1,6 @@
 mod Adding
 mod Differing
+mod Falling
 mod FreePaths
 mod Positives
 mod Taking

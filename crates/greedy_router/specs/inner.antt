@@ -1,2 +1,3 @@
 pub mod Drafts
 pub mod FullLinks
+pub mod Orders

@@ -1,11 +1,13 @@
 ghost use Rattle.std.specs.Prelude.{◌≡◌, ◌+◌, ◌<◌, IfOk, length};
+ghost use Rattle.std.specs.List.{range_with_len};
 ghost use Rattle.net_core.specs.Demands.{AreDemands};
 ghost use Rattle.net_core.specs.Graphs.{Joins};
 ghost use Rattle.net_core.specs.Views.{graph, graph_of};
 ghost use Rattle.greedy_router.specs.Left.{IsLeft};
-ghost use Rattle.greedy_router.specs.inner.Drafts.{IsRoutedBelow};
+ghost use Rattle.greedy_router.specs.inner.Drafts.{AreRouted};
 
 use crate::draft::{Draft, empty_draft};
+use crate::order::by_falling_amount;
 use crate::routes::route_demand;
 use net_core::{
     Caps, Demand, Demands, List, Network, NoMemory, Routing, StateId, States, Surviving,
@@ -20,7 +22,7 @@ pub struct Left {
     pub rest: List<u128>,
 }
 
-/// Routes one demand after another.
+/// Routes one demand after another, those of greater need first.
 fn route_all(
     alloc: Global,
     graph: &Surviving,
@@ -29,16 +31,18 @@ fn route_all(
 ) -> Result<Draft, NoMemory>
     requires demands { AreDemands (length graph.now.net.now.nodes) demands.now }
     requires caps { length caps.now.nums ≡ length graph.now.net.now.links }
-    ensures { let g = graph_of graph.now in IfOk result (IsRoutedBelow (Joins g) demands.now caps.now.scale caps.now.nums (length demands.now)) }
+    ensures { let g = graph_of graph.now in IfOk result (AreRouted (Joins g) demands.now caps.now.scale caps.now.nums (range_with_len 0 (length demands.now))) }
 {
     let mut draft = empty_draft(alloc, demands, caps)?;
-    for k in 0..demands.len() {
-        route_demand(alloc, graph, &demands[k], k as u32, &mut draft)?;
+    let order = by_falling_amount(alloc, draft.rest.items())?;
+    for k in order.items() {
+        route_demand(alloc, graph, &demands[*k as usize], *k, &mut draft)?;
     }
     Ok(draft)
 }
 
-/// Routes the demands in a state within the capacities, one demand after another, as long as paths have spare capacity.
+/// Routes the demands in a state within the capacities, those of greater need first and of equal ones the earlier, each along
+/// paths of the fewest links that have spare capacity, until it is carried or no such path is left.
 ///
 /// There is one number for each link. A demand that is left with a rest has no path any more on which each link has spare
 /// capacity, though another routing may carry more. It takes one search of the paths for each flow and for each demand, and

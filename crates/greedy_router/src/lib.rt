@@ -1,4 +1,4 @@
-//! A greedy routing in one state: flows along paths with spare capacity, until none is left for what is missing.
+//! A greedy routing in one state: flows along the shortest paths with spare capacity, until none is left for what is missing.
 //!
 //! ```text
 //! let left = greedy(alloc, &net, &states, StateId(0), &demands, &caps)?;   // triangle, A to C needs 12.00, 4.00 on each link
@@ -9,6 +9,7 @@
 mod draft;
 mod left;
 mod opening;
+mod order;
 mod routes;
 mod sending;
 

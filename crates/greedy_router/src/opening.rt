@@ -1,22 +1,24 @@
-ghost use Rattle.std.specs.Prelude.{◌≡◌, ℕ, ◌+◌, ◌<◌, All, IfOk, MatchOption, length, map, slice_index};
+ghost use Rattle.std.specs.Prelude.{◌≡◌, ◌<◌, ◌≤◌, ◌^◌, IfOk, MatchOption, length, map, slice_index};
 ghost use Rattle.net_core.specs.Graphs.{Joins};
 ghost use Rattle.net_core.specs.Views.{graph_of};
-ghost use Rattle.plan_terms.specs.Paths.{IsPath};
 ghost use Rattle.greedy_router.specs.Blocked.{IsBlocked};
-ghost use Rattle.greedy_router.specs.inner.FullLinks.{full_price};
+ghost use Rattle.greedy_router.specs.inner.FullLinks.{IsOpenPath, full_price};
 
 use net_core::{List, NoMemory, NodeId, Path, Surviving};
 use short_paths::{PathFault, PricedPath, priced_path};
 use std::alloc::Global;
 
+/// The price of a full link. A path of links that aren't full costs less.
+const FULL: u64 = 1 << 32;
+
 /// The price of a link by what is left of its capacity.
 fn price_of(spare: u128) -> u64
     ensures { result ≡ full_price spare }
 {
-    if spare == 0 { 1 } else { 0 }
+    if spare == 0 { FULL } else { 1 }
 }
 
-/// The price 1 for full links and 0 for the others.
+/// The prices under which a cheapest path has no full link, if it can, and then the fewest links.
 fn full_prices(alloc: Global, spares: &[u128]) -> Result<List<u64>, NoMemory>
     ensures { IfOk result (λ prices. prices ≡ map full_price spares.now) }
 {
@@ -27,18 +29,18 @@ fn full_prices(alloc: Global, spares: &[u128]) -> Result<List<u64>, NoMemory>
     Ok(prices)
 }
 
-/// The path, if it costs nothing.
-fn free_path(priced: PricedPath) -> Option<Path>
-    ensures { MatchOption result (0 < priced.total) (λ path. (priced.total ≡ 0) × (path ≡ priced.path)) }
+/// The path, if it costs less than a full link.
+fn cheap_path(priced: PricedPath) -> Option<Path>
+    ensures { MatchOption result (2 ^ 32 ≤ priced.total) (λ path. (priced.total < 2 ^ 32) × (path ≡ priced.path)) }
 {
-    if priced.total == 0 {
+    if priced.total < FULL as u128 {
         Some(priced.path)
     } else {
         None
     }
 }
 
-/// A path of links that aren't full, if there is one.
+/// A path of the fewest links that aren't full, if there is one.
 pub fn open_path(
     alloc: Global,
     graph: &Surviving,
@@ -51,7 +53,7 @@ pub fn open_path(
     requires to { to.0 < length graph.now.net.now.nodes }
     ensures { let g = graph_of graph.now in IfOk result (λ found. MatchOption found
         (IsBlocked (Joins g) (λ e. 0 < slice_index spares.now e) from.0 to.0)
-        (λ path. IsPath (Joins g) from.0 to.0 path × All (λ e. 0 < slice_index spares.now e.0) path)) }
+        (IsOpenPath (Joins g) spares.now from.0 to.0)) }
 {
     let prices = full_prices(alloc, spares)?;
     match priced_path(
@@ -63,7 +65,7 @@ pub fn open_path(
         from,
         to,
     ) {
-        Ok(priced) => Ok(free_path(priced)),
+        Ok(priced) => Ok(cheap_path(priced)),
         Err(PathFault::Apart) => Ok(None),
         Err(PathFault::NoMemory) => Err(NoMemory),
     }

@@ -47,7 +47,11 @@ pub record IsDraft (joins : ℕ → ℕ → ℕ → Type 0) (demands : List Dema
   pub spares : (e : ℕ) → load draft.flows e + slice_index draft.spares e ≡ slice_index nums e
   pub few : length draft.flows + (positives draft.spares + positives draft.rest) ≤ length nums + length demands
 
--- a draft in which each of the first n demands is blocked or has no rest
-pub record IsRoutedBelow (joins : ℕ → ℕ → ℕ → Type 0) (demands : List Demand) (scale : ℕ) (nums : List ℕ) (n : ℕ) (draft : Draft) : Type 0 where
+-- demand k has no rest, or no path of links with spare capacity
+abbrev pub IsEnded : (ℕ → ℕ → ℕ → Type 0) → List Demand → Draft → ℕ → Type 0
+IsEnded joins demands draft k = (d : Demand) → slice_get demands k ≡ Some d → 0 < slice_index draft.rest k → IsBlocked joins (λ e. 0 < slice_index draft.spares e) d.from.0 d.to.0
+
+-- a draft in which these demands have been routed
+pub record AreRouted (joins : ℕ → ℕ → ℕ → Type 0) (demands : List Demand) (scale : ℕ) (nums : List ℕ) (done : List ℕ) (draft : Draft) : Type 0 where
   pub whole : IsDraft joins demands scale nums draft
-  pub blocked : (k : ℕ) (d : Demand) → k < n → slice_get demands k ≡ Some d → 0 < slice_index draft.rest k → IsBlocked joins (λ e. 0 < slice_index draft.spares e) d.from.0 d.to.0
+  pub ended : All (IsEnded joins demands draft) done

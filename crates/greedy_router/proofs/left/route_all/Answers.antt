@@ -1,27 +1,73 @@
-use Rattle.std.proofs.Common.{length, refl, arith, ◌≡◌, subst}
+use Rattle.std.proofs.Common.{List, ℕ, ◌*◌, get_or, length, map, refl, subst, sym, ap, take, ◌≡◌, ◌<◌, ◌∙◌, arith}
+use Rattle.std.specs.List.{range_with_len}
+use Rattle.std.specs.List.Sorted.{IsPermutation}
+use Rattle.std.proofs.Math.Seq.{take-length}
+use Rattle.std.proofs.lemmas.List.{length-map}
 use Rattle.std.proofs.lemmas.Option.{slice_get_read}
 use Rattle.net_core.specs.Graphs.{Joins}
 use Rattle.net_core.specs.Views.{graph_of}
-use Rattle.greedy_router.specs.inner.Drafts.{IsRoutedBelow}
-use Rattle.greedy_router.proofs.Adding.{below_more, below_none}
+use Rattle.net_core.specs.declared.demand.Demand.{Demand}
+use Rattle.greedy_router.specs.inner.Drafts.{AreRouted}
+use Rattle.greedy_router.proofs.Adding.{routed_all, routed_more, routed_none}
+use Rattle.greedy_router.proofs.Falling.{place_below}
 use Rattle.greedy_router.proofs.left.route_all.Goals as goal
+
+-- the order has the places of the demands
+moved_places : (amounts rest items order : List ℕ) (demands : List Demand) (scale : ℕ) → amounts ≡ rest → rest ≡ map (λ d. d.need * scale) demands → items ≡ order
+    → IsPermutation (range_with_len 0 (length amounts)) order → IsPermutation (range_with_len 0 (length demands)) items
+moved_places amounts rest items order demands scale same is listed moved =
+    subst (λ xs. IsPermutation (range_with_len 0 (length demands)) xs) (sym listed)
+    (subst (λ n. IsPermutation (range_with_len 0 n) order) (ap length same ∙ (ap length is ∙ length-map demands (λ (d : Demand). d.need * scale))) moved)
 
 pub loop-k-init : goal.loop-k-init
 loop-k-init c =
     let caps = c.args.caps.now in
     let e = c.in_ok-draft.ensures in
-    below_none (Joins (graph_of c.args.graph.now)) c.args.demands.now caps.scale caps.nums c.in_ok-draft.draft e.flows e.rest e.spares
+    routed_none (Joins (graph_of c.args.graph.now)) c.args.demands.now caps.scale caps.nums c.in_ok-draft.draft e.flows e.rest e.spares
+
+pub bounds-demands-k : goal.bounds-demands-k
+bounds-demands-k c =
+    let moved = moved_places c.items.result.now _ c.items-k-items.result.now _ c.args.demands.now c.args.caps.now.scale c.items.ensures c.in_ok-draft.ensures.rest c.items-k-items.ensures c.in_ok-order.ensures.places in
+    place_below (length c.args.demands.now) c.items-k-items.result.now c.loop-k.k-index moved c.loop-k-test.true
+
+pub route_demand-requires-clause-k : goal.route_demand-requires-clause-k
+route_demand-requires-clause-k c =
+    let moved = moved_places c.items.result.now _ c.items-k-items.result.now _ c.args.demands.now c.args.caps.now.scale c.items.ensures c.in_ok-draft.ensures.rest c.items-k-items.ensures c.in_ok-order.ensures.places in
+    let below = place_below (length c.args.demands.now) c.items-k-items.result.now c.loop-k.k-index moved c.loop-k-test.true in
+    subst (λ n. get_or c.items-k-items.result.now c.loop-k.k-index 0 < n) (sym c.loop-k.invariant.whole.rests) below
+
+pub route_demand-requires-clause-from : goal.route_demand-requires-clause-from
+route_demand-requires-clause-from c =
+    let moved = moved_places c.items.result.now _ c.items-k-items.result.now _ c.args.demands.now c.args.caps.now.scale c.items.ensures c.in_ok-draft.ensures.rest c.items-k-items.ensures c.in_ok-order.ensures.places in
+    let below = place_below (length c.args.demands.now) c.items-k-items.result.now c.loop-k.k-index moved c.loop-k-test.true in
+    let known = c.requires.demands.each (get_or c.items-k-items.result.now c.loop-k.k-index 0) c.index-demands-k.result below in
+    subst (λ (d : Demand). d.from.0 < length c.args.graph.now.net.now.nodes) (sym c.index-demands-k.is) known.from_known
+
+pub route_demand-requires-clause-to : goal.route_demand-requires-clause-to
+route_demand-requires-clause-to c =
+    let moved = moved_places c.items.result.now _ c.items-k-items.result.now _ c.args.demands.now c.args.caps.now.scale c.items.ensures c.in_ok-draft.ensures.rest c.items-k-items.ensures c.in_ok-order.ensures.places in
+    let below = place_below (length c.args.demands.now) c.items-k-items.result.now c.loop-k.k-index moved c.loop-k-test.true in
+    let known = c.requires.demands.each (get_or c.items-k-items.result.now c.loop-k.k-index 0) c.index-demands-k.result below in
+    subst (λ (d : Demand). d.to.0 < length c.args.graph.now.net.now.nodes) (sym c.index-demands-k.is) known.to_known
 
 pub loop-k-preserved : goal.loop-k-preserved
 loop-k-preserved c =
     let caps = c.args.caps.now in
     let demands = c.args.demands.now in
+    let order = c.items-k-items.result.now in
     let d = c.index-demands-k.result in
     let e = c.in_ok-route_demand.ensures in
-    below_more (Joins (graph_of c.args.graph.now)) demands caps.scale caps.nums c.loop-k.k d c.loop-k.draft c.route_demand.new.draft (slice_get_read demands (length demands) c.loop-k.k d refl c.loop-k-test.true c.index-demands-k.is) e.adds e.blocked c.loop-k.invariant
+    let moved = moved_places c.items.result.now _ order _ demands caps.scale c.items.ensures c.in_ok-draft.ensures.rest c.items-k-items.ensures c.in_ok-order.ensures.places in
+    let below = place_below (length demands) order c.loop-k.k-index moved c.loop-k-test.true in
+    routed_more (Joins (graph_of c.args.graph.now)) demands caps.scale caps.nums order c.loop-k.k-index d c.loop-k.draft c.route_demand.new.draft c.loop-k-test.true
+    (slice_get_read demands (length demands) (get_or order c.loop-k.k-index 0) d refl below c.index-demands-k.is) e.adds e.blocked c.loop-k.invariant
 
 pub returns : goal.returns
 returns c =
     let caps = c.args.caps.now in
-    let end : c.loop-k.k ≡ length c.args.demands.now = omega (arith, c.loop-k-test.false, c.loop-k.auto.k-end) in
-    subst (λ n. IsRoutedBelow (Joins (graph_of c.args.graph.now)) c.args.demands.now caps.scale caps.nums n c.loop-k.draft) end c.loop-k.invariant
+    let demands = c.args.demands.now in
+    let order = c.items-k-items.result.now in
+    let moved = moved_places c.items.result.now _ order _ demands caps.scale c.items.ensures c.in_ok-draft.ensures.rest c.items-k-items.ensures c.in_ok-order.ensures.places in
+    let end : c.loop-k.k-index ≡ length order = omega (arith, c.loop-k-test.false, c.loop-k.auto.k-index-end) in
+    routed_all (Joins (graph_of c.args.graph.now)) demands caps.scale caps.nums order (range_with_len 0 (length demands)) c.loop-k.draft moved
+    (subst (λ xs. AreRouted (Joins (graph_of c.args.graph.now)) demands caps.scale caps.nums xs c.loop-k.draft) (ap (λ n. take n order) end ∙ take-length order) c.loop-k.invariant)

@@ -12,7 +12,7 @@ pub returns-in-Ok : goal.returns-in-Ok
 returns-in-Ok c =
     let g = graph_of c.args.graph.now in
     let priced = subst (λ prices. IsPricedPath (Joins g) prices c.args.from.0 c.args.to.0 c.in-Ok.priced) c.in_ok-prices.ensures c.in-Ok.ensures.found in
-    opened g c.args.spares.now c.args.from.0 c.args.to.0 c.in-Ok.priced c.free_path.result c.requires.spares priced c.free_path.ensures
+    opened g c.args.spares.now c.args.from.0 c.args.to.0 c.in-Ok.priced c.cheap_path.result c.args.graph.now.net.now.checked c.requires.from c.requires.spares priced c.cheap_path.ensures
 
 pub returns-in-Err-Apart : goal.returns-in-Err-Apart
 returns-in-Err-Apart c = λ es path room. c.priced_path.ensures.apart (c.in-Err-Apart.is ∙ ap Err c.in-Err-Apart.field-0-is) es path

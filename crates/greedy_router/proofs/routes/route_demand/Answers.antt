@@ -7,19 +7,19 @@ use Rattle.greedy_router.proofs.routes.route_demand.Goals as goal
 pub send-requires-clause-distinct : goal.send-requires-clause-distinct
 send-requires-clause-distinct c =
     let found = rw (c.in-Some.is, c.items-in-loop-alloc.ensures) at c.in_ok-path.ensures in
-    path_differs (graph_of c.args.graph.now) c.args.d.now.from.0 c.args.d.now.to.0 c.in-Some.path found.0
+    path_differs (graph_of c.args.graph.now) c.args.d.now.from.0 c.args.d.now.to.0 c.in-Some.path found.leads
 
 pub loop-alloc-smaller : goal.loop-alloc-smaller
 loop-alloc-smaller c =
     let found = rw (c.in-Some.is, c.items-in-loop-alloc.ensures) at c.in_ok-path.ensures in
     let missing = rw c.items.ensures at c.loop-alloc-test.true in
-    sent_fewer c.args.k c.in-Some.path c.loop-alloc.draft c.send.new.draft c.in_ok-send-in-Some.ensures found.1 missing
+    sent_fewer c.args.k c.in-Some.path c.loop-alloc.draft c.send.new.draft c.in_ok-send-in-Some.ensures found.room missing
 
 pub loop-alloc-preserved : goal.loop-alloc-preserved
 loop-alloc-preserved c =
     let found = rw (c.in-Some.is, c.items-in-loop-alloc.ensures) at c.in_ok-path.ensures in
     let missing = rw c.items.ensures at c.loop-alloc-test.true in
-    adds_more (Joins (graph_of c.args.graph.now)) c.args.k c.args.d.now c.in-Some.path c.args.draft.now c.loop-alloc.draft c.send.new.draft c.loop-alloc.invariant found.0 found.1 missing c.in_ok-send-in-Some.ensures
+    adds_more (Joins (graph_of c.args.graph.now)) c.args.k c.args.d.now c.in-Some.path c.args.draft.now c.loop-alloc.draft c.send.new.draft c.loop-alloc.invariant found.leads found.room missing c.in_ok-send-in-Some.ensures
 
 pub returns-in-None-clause-blocked : goal.returns-in-None-clause-blocked
 returns-in-None-clause-blocked c = λ missing.
