@@ -25,6 +25,11 @@ impl<T> Vec<T> {
         Ok(())
     }
 
+    pub fn sort_by_key<K: Ord>(&mut self, key: impl FnMut(&T) -> K) -> Result<(), NoMemory> {
+        self.items.sort_by_key(key);
+        Ok(())
+    }
+
     pub fn sort_by(&mut self, compare: impl FnMut(&T, &T) -> std::cmp::Ordering) -> Result<(), NoMemory> {
         self.items.sort_by(compare);
         Ok(())
