@@ -1,20 +1,17 @@
 -- what an optimum of the routing program answers
-use Rattle.std.proofs.Common.{◌≡◌, ℕ, zero, suc, ◌+◌, ◌*◌, ◌/◌, ◌<◌, ◌≤◌, ◌^◌, List, [], ◌∷◌, All, Some, cond, eqb, get_or, length, map, slice_get, slice_index, inl, inr, ⊎_elim, refl, sym, ap, ◌∙◌, subst, arith}
+use Rattle.std.proofs.Common.{◌≡◌, ℕ, zero, suc, ◌+◌, ◌*◌, ◌<◌, ◌≤◌, ◌^◌, List, [], ◌∷◌, All, Some, cond, eqb, get_or, length, map, slice_get, slice_index, ⊎_elim, refl, sym, ap, ◌∙◌, subst, arith}
 use Rattle.std.specs.Int.{◌∣◌}
-use Rattle.std.proofs.Math.IntN.{ℤ, pos, ◌*ℤ◌}
-use Rattle.std.specs.Int.Signed.{◌<ℤ◌, ◌≤ℤ◌}
-use Rattle.std.proofs.lemmas.Int.{ints}
+use Rattle.std.proofs.Math.IntN.{pos, ◌*ℤ◌}
+use Rattle.std.specs.Int.Signed.{◌<ℤ◌}
 use Rattle.std.proofs.lemmas.Bool.{cases_eq, eq-eqb}
 use Rattle.std.proofs.lemmas.List.{get_or-map, length-map}
-use Rattle.std.proofs.lemmas.List.Elements.{All-from_recursion}
 use Rattle.std.proofs.lemmas.List.Sums.{sum_by-cons}
 use Rattle.std.proofs.lemmas.Option.{get_or_from_slice_get, slice_get_within}
-use Rattle.std.proofs.Math.Nat.{eq-one_of_dvd-one, le_of_mul-le-mul_left}
+use Rattle.std.proofs.Math.Nat.{eq-one_of_dvd-one}
 use Rattle.checked_fraction.specs.Rows.{num, IsNarrow}
 use Rattle.net_core.specs.declared.columns.RouteColumn.{RouteColumn}
-use Rattle.net_core.specs.declared.columns.RouteColumn.TheVariants.{LinkSlack, DemandSlack, Carry}
+use Rattle.net_core.specs.declared.columns.RouteColumn.TheVariants.{DemandSlack, Carry}
 use Rattle.net_core.specs.declared.demand.Demand.{Demand}
-use Rattle.net_core.specs.declared.ids.LinkId.{LinkId}
 use Rattle.net_core.specs.declared.plan.Caps.{Caps}
 use Rattle.net_core.specs.declared.plan.Flow.{Flow}
 use Rattle.net_core.specs.declared.plan.Routing.{Routing}
@@ -24,13 +21,13 @@ use Rattle.plan_terms.specs.Paths.{IsPath}
 use Rattle.greedy_router.specs.Left.{IsLeft}
 use Rattle.greedy_router.specs.declared.left.Left.{Left}
 use Rattle.simplex_law.specs.Sums.{dot}
-use Rattle.simplex_law.specs.Programs.{ColumnOf, IsSlack}
+use Rattle.simplex_law.specs.Programs.{IsSlack}
 use Rattle.simplex_law.specs.Bases.{AreNames}
 use Rattle.simplex_core.specs.Programs.{Solves}
 use Rattle.simplex_core.specs.declared.optimum.Optimum.{Optimum}
 use Rattle.route_law.specs.BasisFlows.{AreFlowsOf}
-use Rattle.route_law.specs.Routings.{IsLowestRouting, flow_times, over_times}
-use Rattle.route_law.specs.RoutingPrograms.{scaled_need, total_scaled_need, route_rows, route_bound, route_slack, IsCarrying, IsRouteColumn}
+use Rattle.route_law.specs.Routings.{flow_times}
+use Rattle.route_law.specs.RoutingPrograms.{scaled_need, total_scaled_need, route_rows, route_bound, route_slack, IsCarrying}
 use Rattle.route_law.proofs.Carrying.{duals_below, flows_carry}
 use Rattle.route_law.proofs.Lowest.{carried_lowest}
 use Rattle.route_law.proofs.Meeting.{all_gained, some_left}

@@ -1,7 +1,6 @@
 -- the entries of a path
-use Rattle.std.proofs.Common.{◌≡◌, ◌≢◌, ℕ, zero, suc, ◌+◌, ◌-◌, ◌<◌, ◌≤◌, ◌^◌, List, [], ◌∷◌, Bool, true, false, ◌||◌, cond, eqb, length, map, ⊎_elim, refl, sym, ap, ◌∙◌, subst, arith, unsigned_abs}
+use Rattle.std.proofs.Common.{◌≡◌, ◌≢◌, ℕ, ◌+◌, ◌-◌, ◌<◌, ◌≤◌, List, [], ◌∷◌, Bool, true, false, ◌||◌, cond, eqb, length, map, ⊎_elim, refl, sym, ap, ◌∙◌, subst, arith}
 use Rattle.std.proofs.Math.IntN.{ℤ, pos, ◌+ℤ◌}
-use Rattle.std.specs.Int.Signed.{◌≤ℤ◌}
 use Rattle.std.proofs.lemmas.Int.{ints}
 use Rattle.std.proofs.lemmas.Bool.{cases_eq, cases_lt, eq-eqb, ne_eqb, cases_Bool}
 use Rattle.std.specs.List.{AllByRecursion}

@@ -1,9 +1,7 @@
 -- the flows of a basis that is given by its names and values
-use Rattle.std.proofs.Common.{◌≡◌, ℕ, suc, ◌+◌, ◌<◌, ◌≤◌, ◌++◌, List, [], ◌∷◌, All, Option, None, Some, MatchOption, eqb, false, get_or, length, length-append, slice_get, inl, inr, ⊎_elim, refl, sym, ap, ◌∙◌, subst, arith, add-one}
+use Rattle.std.proofs.Common.{◌≡◌, ℕ, suc, ◌+◌, ◌<◌, ◌++◌, List, [], ◌∷◌, Option, None, Some, MatchOption, get_or, length, length-append, slice_get, ⊎_elim, sym, ap, ◌∙◌, subst, arith}
 use Rattle.net_core.specs.declared.columns.RouteColumn.{RouteColumn}
-use Rattle.net_core.specs.declared.columns.RouteColumn.TheVariants.{Carry}
 use Rattle.net_core.specs.declared.plan.Flow.{Flow}
-use Rattle.net_core.specs.States.{names_link}
 use Rattle.simplex_law.specs.Programs.{ColumnOf}
 use Rattle.simplex_law.specs.Bases.{AreNames}
 use Rattle.route_law.specs.BasisFlows.{is_of_demand, runs_over, AreFlowsOf}

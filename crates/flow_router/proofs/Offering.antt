@@ -1,11 +1,11 @@
 -- cheap paths collected demand by demand
-use Rattle.std.proofs.Common.{◌≡◌, ℕ, zero, suc, ◌+◌, ◌<◌, ◌≤◌, ◌++◌, List, [], ◌∷◌, All, Some, length, length-append, slice_get, inl, inr, ⊎_elim, refl, sym, ap, ◌∙◌, subst, arith}
+use Rattle.std.proofs.Common.{◌≡◌, ℕ, zero, suc, ◌+◌, ◌++◌, List, [], ◌∷◌, All, Some, length, length-append, slice_get, inl, inr, ⊎_elim, sym, ap, ◌∙◌, subst, arith}
 use Rattle.std.proofs.lemmas.Bool.{cases_eq}
 use Rattle.checked_fraction.specs.declared.row.Row.{Row}
 use Rattle.net_core.specs.declared.demand.Demand.{Demand}
 use Rattle.net_core.specs.Graphs.{Graph}
 use Rattle.flow_router.specs.declared.carrier.Carrier.{Carrier}
-use Rattle.flow_router.specs.inner.Carriers.{Adds, AreOffers, IsCarrier, IsCheap, NoneIsCheap, Offers}
+use Rattle.flow_router.specs.inner.Carriers.{AreOffers, IsCarrier, IsCheap, NoneIsCheap, Offers}
 
 -- what holds of all and of one more holds of all of them
 pub all_push : {X : Type 0} (P : X → Type 0) (xs : List X) (x : X) → All P xs → P x → All P (xs ++ x ∷ [])

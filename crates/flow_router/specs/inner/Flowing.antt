@@ -1,5 +1,5 @@
 -- the flows of a basis that is given by its names and values
-use Rattle.std.specs.Prelude.{◌≡◌, ℕ, ◌+◌, ◌≤◌, ◌<◌, ◌⊎◌, List, All, Option, None, Some, false, get_or, length, slice_get}
+use Rattle.std.specs.Prelude.{◌≡◌, ℕ, ◌≤◌, ◌<◌, ◌⊎◌, List, All, Option, None, Some, false, get_or, length, slice_get}
 use Rattle.net_core.specs.declared.columns.RouteColumn.{RouteColumn}
 use Rattle.net_core.specs.declared.columns.RouteColumn.TheVariants.{DemandSlack, Carry}
 use Rattle.net_core.specs.declared.plan.Flow.{Flow}

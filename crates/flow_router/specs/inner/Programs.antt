@@ -8,9 +8,8 @@ use Rattle.net_core.specs.declared.ids.LinkId.{LinkId}
 use Rattle.net_core.specs.Graphs.{Graph, Joins}
 use Rattle.plan_terms.specs.Paths.{IsPath}
 use Rattle.simplex_law.specs.Sums.{dot}
-use Rattle.simplex_law.specs.Programs.{ColumnOf}
 use Rattle.simplex_core.specs.declared.columns.Column.{Column}
-use Rattle.simplex_core.specs.Prices.{GainsAt, IsGainingColumn}
+use Rattle.simplex_core.specs.Prices.{IsGainingColumn}
 use Rattle.route_law.specs.RoutingPrograms.{path_entry, route_rows, IsCarrying}
 use Rattle.flow_router.specs.declared.carrier.Carrier.{Carrier}
 

@@ -1,5 +1,5 @@
 -- optima of the routing program of a task
-use Rattle.std.specs.Prelude.{ℕ, ℤ, ◌*ℤ◌, ◌<ℤ◌, List, pos}
+use Rattle.std.specs.Prelude.{ℕ, ◌*ℤ◌, ◌<ℤ◌, List, pos}
 use Rattle.net_core.specs.declared.columns.RouteColumn.{RouteColumn}
 use Rattle.net_core.specs.Views.{graph_of}
 use Rattle.simplex_law.specs.Sums.{dot}

@@ -1,4 +1,4 @@
-use Rattle.std.proofs.Common.{All, ◌-◌, ap, length, ◌∙◌, subst}
+use Rattle.std.proofs.Common.{◌-◌, ap, length, ◌∙◌, subst}
 use Rattle.std.proofs.lemmas.Option.{get_or_from_slice_get, slice_get_within}
 use Rattle.net_core.specs.Views.{graph_of}
 use Rattle.flow_router.specs.inner.Carriers.{IsCheap}

@@ -1,4 +1,4 @@
-use Rattle.std.proofs.Common.{ap, arith, length, ◌∙◌, subst, sym}
+use Rattle.std.proofs.Common.{ap, arith, length, ◌∙◌}
 use Rattle.net_core.specs.Views.{graph_of}
 use Rattle.flow_router.specs.declared.task.Task.{Task}
 use Rattle.flow_router.specs.inner.Carriers.{entries_of_path}

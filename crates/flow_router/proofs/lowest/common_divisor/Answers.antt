@@ -1,4 +1,4 @@
-use Rattle.std.proofs.Common.{ap, get_or, subst}
+use Rattle.std.proofs.Common.{subst}
 use Rattle.std.specs.Int.{IsGcd}
 use Rattle.net_core.specs.declared.plan.Flow.{Flow}
 use Rattle.flow_router.proofs.Dividing.{common_more}

@@ -1,5 +1,4 @@
-use Rattle.std.proofs.Common.{All, subst}
-use Rattle.std.specs.Int.{◌∣◌}
+use Rattle.std.proofs.Common.{subst}
 use Rattle.flow_router.specs.inner.Lowest.{IsCommonDivisor}
 use Rattle.flow_router.proofs.Dividing.{in_lowest}
 use Rattle.flow_router.proofs.lowest.lowest.Goals as goal

@@ -1,5 +1,3 @@
-use Rattle.std.proofs.Common.{ℕ, ◌^◌, ◌≡◌, ◌<◌, All, length, slice_index}
-use Rattle.std.proofs.Math.IntN.{pos}
 use Rattle.checked_fraction.specs.Rows.{num}
 use Rattle.flow_router.specs.inner.Carriers.{AreLinkCosts}
 use Rattle.flow_router.proofs.prices.link_prices.Given as goal

@@ -1,4 +1,4 @@
-use Rattle.std.proofs.Common.{length, subst, sym, ◌≡◌}
+use Rattle.std.proofs.Common.{length, subst}
 use Rattle.net_core.specs.Views.{graph_of}
 use Rattle.flow_router.specs.inner.Flowing.{AreBasisFlows}
 use Rattle.flow_router.proofs.Answering.{optimum_routed}
