@@ -3,3 +3,4 @@ pub mod Refusing
 pub mod Taking
 pub mod SinglePlans
 pub mod Naming
+pub mod Clauses

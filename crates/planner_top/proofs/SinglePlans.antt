@@ -131,14 +131,11 @@ module _ (p : Case) (notes : Notes) (r : Report) (t : IsTranscript p notes plan_
       let demand : first.separates.demand ≡ named.demand = let here = first.separates.at in cc (here, there) in
       record { place = named.place; first = first; named = ap (λ (d : Demand). d.name) demand ∙ named.named }
 
-  abbrev IsRefusal : Outcome → Type 0
-  IsRefusal (Planned by serial plan) = ⊥
-  IsRefusal (Unsurvivable by serial version position state name) = Unit {0}
+  pub planned : (by serial : ℕ) (plan : Plan) → r.outcomes ≡ Planned by serial plan ∷ [] → r.outcomes ≡ Planned 1 1 plan ∷ []
+  planned by serial plan same =
+      let found = is_one (Planned by serial plan) same in
+      same ∙ ap (λ o. o ∷ []) (let caller = found.is.0 in let number = found.is.1 in cc (caller, number))
 
-  -- the outcome is a plan unless it is a refusal
-  pub planned : ((o : Outcome) → r.outcomes ≡ o ∷ [] → IsRefusal o → ⊥) → (plan : Plan) × (r.outcomes ≡ Planned 1 1 plan ∷ [])
-  planned none = let found = one in planned_by found.0 found.1 found.2
-  where
-    planned_by : (o : Outcome) → r.outcomes ≡ o ∷ [] → IsAlone p r.entries o → (plan : Plan) × (r.outcomes ≡ Planned 1 1 plan ∷ [])
-    planned_by (Planned by serial plan) same is = (plan, same ∙ ap (λ o. o ∷ []) (let caller = is.is.0 in let number = is.is.1 in cc (caller, number)))
-    planned_by (Unsurvivable by serial version position state name) same is = absurd (none (Unsurvivable by serial version position state name) same tt)
+  -- there is one outcome
+  pub has_one : (o : Outcome) × (r.outcomes ≡ o ∷ [])
+  has_one = let found = one in (found.0, found.1)

@@ -84,7 +84,25 @@ pub fn reported(
     })
 }
 
-/// The answer of the report of one plan command.
+/// The answer of a report of one plan command, which has this outcome.
+fn answer_outcome(
+    alloc: Global,
+    net: &Network,
+    states: &States,
+    report: &Report,
+    outcome: &Outcome,
+) -> Result<Answer, NoMemory>
+    requires transcript { (demands : List Dem) × IsTranscript (case net.now states.now demands) net.now.notes plan_commands report.now }
+    requires alone { report.now.outcomes ≡ outcome.now ∷ [] }
+    ensures { IfOk result (λ a. (demands : List Dem) → IsTranscript (case net.now states.now demands) net.now.notes plan_commands report.now → EndsPlan (case net.now states.now demands) net.now.notes a.status a.text) }
+{
+    match outcome {
+        Outcome::Planned { .. } => reported(alloc, net, states, report),
+        Outcome::Unsurvivable { state, demand, .. } => separated(alloc, states, *state, demand),
+    }
+}
+
+/// The answer of a report of one plan command.
 fn answer_report(
     alloc: Global,
     net: &Network,
@@ -94,10 +112,7 @@ fn answer_report(
     requires { (demands : List Dem) × IsTranscript (case net.now states.now demands) net.now.notes plan_commands report.now }
     ensures { IfOk result (λ a. (demands : List Dem) → IsTranscript (case net.now states.now demands) net.now.notes plan_commands report.now → EndsPlan (case net.now states.now demands) net.now.notes a.status a.text) }
 {
-    match report.outcomes.items() {
-        [Outcome::Unsurvivable { state, demand, .. }] => separated(alloc, states, *state, demand),
-        _ => reported(alloc, net, states, report),
-    }
+    answer_outcome(alloc, net, states, report, &report.outcomes.items()[0])
 }
 
 /// The report of a plan of a problem, or the line of the first demand that a state separates.
