@@ -29,7 +29,11 @@ use Rattle.planner.specs.SoundPlans.{IsOwnAtMost, StandsAt}
 use Rattle.planner.specs.inner.Candidates.{AreCandidates, IsBestBound, IsBoundOfBest, IsBoundOfCut, IsBoundOfNone, IsCandidate, IsCertifiedBound, IsOwnCertificate}
 use Rattle.planner.specs.declared.candidates.Candidates.{Candidates}
 use Rattle.planner.specs.declared.certified.CertifiedBound.{CertifiedBound}
-use Rattle.planner.proofs.Bests.{bound_zero}
+
+-- where the raw value is 0, so is the bound
+bound_zero : (links : List Link) (num den bound : ℕ) → IsBound links num den bound → num ≡ 0 → bound ≡ 0
+bound_zero links num den bound b none =
+    let le : bound ≤ 0 = b.least 0 (dvd-zero b.divisor) (omega (arith, none)) in omega (arith, le)
 
 -- ---- lengths that a state keeps
 

@@ -1,10 +1,12 @@
 -- the sample network of a seed with n nodes: first come the draws of the chords, then those of the modules, then those of the needs
 use Rattle.std.specs.Prelude.{ℕ, ◌+◌, ◌-◌, ◌*◌, ◌/◌, ◌%◌, List, [], ◌∷◌, ◌++◌, false, flat_map, length, map, slice_index_or, decimal}
 use Rattle.std.specs.List.{range_with_len}
+use Rattle.net_core.specs.Cases.{Case}
 use Rattle.net_core.specs.declared.demand.Demand.{Demand}
 use Rattle.net_core.specs.declared.network.Link.{Link}
 use Rattle.net_core.specs.declared.network.Module.{Module}
 use Rattle.net_core.specs.declared.network.Notes.{Notes}
+use Rattle.model_reader.specs.Failures.{single_states}
 use Rattle.sample_net.specs.Draws.{nth_draw, nth_number}
 
 -- a letter with a number, as n0 (110 is `n`, 108 `l` and 100 `d`)
@@ -75,3 +77,7 @@ demands_between x pairs = map (λ k. sample_demand k (slice_index_or pairs k (0,
 -- the demands: their draws follow those of the chords and the two of each link
 abbrev pub sample_demands : ℕ → ℕ → List Demand
 sample_demands seed n = demands_between (nth_number seed (chord_count n + 2 * link_count n)) (sample_pairs n)
+
+-- a network and its demands, where each link fails alone
+abbrev pub with_single_failures : List (List ℕ) → List Link → List Demand → Case
+with_single_failures nodes links demands = record { nodes = nodes; links = links; listed = single_states links; demands = demands }

@@ -1,8 +1,9 @@
 ghost use Rattle.std.specs.Prelude.{◌≡◌, ◌≤◌, ◌+◌, ◌-◌, ◌*◌, ◌/◌, IfOk, OnOk, length};
 ghost use Rattle.net_core.specs.Demands.{AreDemands};
 ghost use Rattle.net_core.specs.Network.{IsNetwork};
+ghost use Rattle.plan_terms.specs.Separations.{IsSurvivable};
 ghost use Rattle.sample_net.specs.Draws.{nth_number};
-ghost use Rattle.sample_net.specs.Samples.{chord_count, demands_between, link_count, no_notes, sample_demands, sample_links, sample_nodes, sample_pairs};
+ghost use Rattle.sample_net.specs.Samples.{chord_count, demands_between, link_count, no_notes, sample_demands, sample_links, sample_nodes, sample_pairs, with_single_failures};
 ghost use Rattle.sample_net.specs.Texts.{HasWritableNotes};
 
 use crate::demands::demands_between;
@@ -76,6 +77,7 @@ pub fn sample(alloc: Global, seed: u64, n: u32) -> Result<(Network, Demands), No
     ensures demands { IfOk result (λ made. made.1 ≡ sample_demands seed n) }
     ensures writable { IfOk result (λ made. HasWritableNotes made.0) }
     ensures belong { IfOk result (λ made. AreDemands n made.1) }
+    ensures survivable { IfOk result (λ made. IsSurvivable (with_single_failures made.0.nodes made.0.links made.1)) }
     ensures counts { IfOk result (λ made. (length made.0.nodes ≡ n) × (length made.0.links ≡ n + (n + 1) / 2) × (length made.1 ≡ n * (n - 1) / 2)) }
 {
     let mut draws = Draws::new(seed);

@@ -2,9 +2,10 @@ use Rattle.std.proofs.Common.{ap, length, not, sym, ◌==◌, ◌∙◌}
 use Rattle.std.specs.List.{list_any}
 use Rattle.std.proofs.lemmas.List.FromFn.{length-map-range_with_len}
 use Rattle.sample_net.specs.Draws.{nth_number}
-use Rattle.sample_net.specs.Samples.{chord_count, numbered, sample_ends, sample_pairs}
+use Rattle.sample_net.specs.Samples.{chord_count, numbered, sample_ends, sample_nodes, sample_pairs}
 use Rattle.sample_net.proofs.Pairs.{pairs_count}
 use Rattle.sample_net.proofs.Sound.{are_sample_demands, demands_long, is_sample_network, links_long, no_setup}
+use Rattle.sample_net.proofs.Surviving.{is_survivable}
 use Rattle.sample_net.proofs.generator.sample.Goals as goal
 
 pub checked-requires : goal.checked-requires
@@ -20,6 +21,10 @@ returns-clause-writable c = record {
 
 pub returns-clause-belong : goal.returns-clause-belong
 returns-clause-belong c = rw (c.in_ok-demands.ensures) (are_sample_demands c.links.new.draws.number c.args.n c.requires.1)
+
+pub returns-clause-survivable : goal.returns-clause-survivable
+returns-clause-survivable c =
+    rw (c.checked.ensures.0, c.checked.ensures.1, c.in_ok-nodes.ensures, c.in_ok-links.ensures.links, c.in_ok-demands.ensures) (is_survivable (sample_nodes c.args.n) c.new-draws.result.number c.links.new.draws.number c.args.n)
 
 pub returns-clause-counts : goal.returns-clause-counts
 returns-clause-counts c = (
