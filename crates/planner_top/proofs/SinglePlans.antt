@@ -1,10 +1,9 @@
 -- the report of one plan command
-use Rattle.std.proofs.Common.{◌≡◌, ◌≢◌, ◌∙◌, ℕ, zero, suc, ◌≤◌, ◌==◌, ◌++◌, List, [], ◌∷◌, Some, cond, flat_map, get_or, if◌then◌else◌, length, refl, slice_get, take, sym, ap, subst, ⊎_elim}
+use Rattle.std.proofs.Common.{◌≡◌, ◌≢◌, ◌∙◌, ℕ, zero, suc, ◌≤◌, ◌==◌, ◌++◌, List, [], ◌∷◌, Some, cond, flat_map, if◌then◌else◌, length, refl, slice_get, take, sym, ap, subst, arith, codes, decimal, inl, inr, ⊎_elim}
 use Rattle.std.specs.Prelude.{Bool, true, false}
 use Rattle.std.proofs.lemmas.Bool.{cases_eq, eq-eqb, ne_eqb}
 use Rattle.net_core.specs.declared.demand.Demand.{Demand}
 use Rattle.net_core.specs.declared.ids.StateId.{StateId}
-use Rattle.net_core.specs.declared.journal.Edit.{Edit}
 use Rattle.net_core.specs.declared.journal.Entry.{Entry}
 use Rattle.net_core.specs.declared.journal.Entry.TheVariants.{Edited, Pooled}
 use Rattle.net_core.specs.declared.network.Notes.{Notes}
@@ -15,11 +14,14 @@ use Rattle.plan_types.specs.declared.report.Outcome.{Outcome}
 use Rattle.plan_types.specs.declared.report.Outcome.TheVariants.{Planned, Unsurvivable}
 use Rattle.plan_types.specs.declared.report.Report.{Report}
 use Rattle.cut_pool.specs.Histories.{Dated, demands_left, left_by}
-use Rattle.planner.specs.SoundPlans.{case_left}
-use Rattle.session_script.specs.declared.script.Act.{Act}
 use Rattle.session_script.specs.declared.script.Act.TheVariants as acts
-use Rattle.session_run.specs.Transcripts.{IsNamedSeparation, IsOutcomeAfter, IsTranscript, RunsFrom, acts_of, caller_of, edit_asked, edit_made, outcomes_of}
-use Rattle.planner_top.specs.Run.{plan_commands}
+use Rattle.session_run.specs.Transcripts.{IsOutcomeAfter, IsTranscript, RunsFrom, acts_of, caller_of, edit_asked, edit_made, outcomes_of}
+use Rattle.acceptance.proofs.Transcripts.{transcript_accepted}
+use Rattle.plan_report.specs.Names.{state_name}
+use Rattle.plan_report.specs.Texts.{report_text}
+use Rattle.planner_top.specs.Run.{EndsPlan, plan_commands}
+use Rattle.planner_top.specs.declared.status.Status.{Status}
+use Rattle.planner_top.specs.declared.status.Status.TheVariants.{Done, NotSurvivable}
 
 -- ---- callers
 
@@ -96,8 +98,7 @@ module _ (p : Case) (es : List Entry) where
   alone [] runs = absurd (runs 1)
   alone (o ∷ os) runs =
       let one = of_first o os runs in
-      let run = subst (RunsFrom p es 1 0 1 (acts.Plan ∷ [])) (first_kept 1 o os one) (runs 1) in
-      (
+      let run = subst (RunsFrom p es 1 0 1 (acts.Plan ∷ [])) (first_kept 1 o os one) (runs 1) in (
         o,
         ap (λ rest. o ∷ rest) (no_rest o os runs one (rest_of run.1 2 (outcomes_of 1 os) run.6)),
         record { n = run.0; m = run.1; within = run.3; last = run.4; is = run.5 },
@@ -126,7 +127,7 @@ module _ (p : Case) (notes : Notes) (r : Report) (t : IsTranscript p notes plan_
       let found = is_one (Unsurvivable by serial version position state name) same in
       let named = found.is.4 in
       let first : IsFirstSeparation p state.0 named.place =
-          subst (λ ds. IsFirstSeparation (record { nodes = p.nodes; links = p.links; listed = p.listed; demands = ds }) state.0 named.place) (unmoved found.n) named.first in
+      subst (λ ds. IsFirstSeparation (record { nodes = p.nodes; links = p.links; listed = p.listed; demands = ds }) state.0 named.place) (unmoved found.n) named.first in
       let there : slice_get p.demands named.place ≡ Some named.demand = subst (λ ds. slice_get ds named.place ≡ Some named.demand) (unmoved found.n) named.at in
       let demand : first.separates.demand ≡ named.demand = let here = first.separates.at in cc (here, there) in
       record { place = named.place; first = first; named = ap (λ (d : Demand). d.name) demand ∙ named.named }
@@ -139,3 +140,34 @@ module _ (p : Case) (notes : Notes) (r : Report) (t : IsTranscript p notes plan_
   -- there is one outcome
   pub has_one : (o : Outcome) × (r.outcomes ≡ o ∷ [])
   has_one = let found = one in (found.0, found.1)
+
+  -- a plan is what planning comes to, with its report
+  pub plan_ends : (by serial : ℕ) (plan : Plan) → r.outcomes ≡ Planned by serial plan ∷ [] → (status : Status) (text : List ℕ) → status ≡ Done → text ≡ report_text p.nodes p.links p.listed r → EndsPlan p notes status text
+  plan_ends by serial plan same status text done printed =
+      let accepted = transcript_accepted p notes plan_commands r (omega arith) t in
+      inl (
+        done,
+        record {
+          report = r;
+          plan = plan;
+          alone = planned by serial plan same;
+          printed = record { transcript = t; clean = accepted.0; bounded = accepted.1; printed = printed };
+        },
+      )
+
+  -- and so is a refusal, with its line
+  pub refusal_ends : (by serial version position : ℕ) (state : StateId) (name : List ℕ) → r.outcomes ≡ Unsurvivable by serial version position state name ∷ []
+      → (status : Status) (text : List ℕ) → status ≡ NotSurvivable
+      → text ≡ codes "not survivable: state " ++ decimal state.0 ++ 32 ∷ state_name p.listed state.0 ++ codes " demand " ++ name ++ 10 ∷ []
+      → EndsPlan p notes status text
+  refusal_ends by serial version position state name same status text is printed =
+      let found = refused by serial version position state name same in
+      inr (
+        is,
+        record {
+          state = state.0;
+          place = found.place;
+          first = found.first;
+          printed = subst (λ n. text ≡ codes "not survivable: state " ++ decimal state.0 ++ 32 ∷ state_name p.listed state.0 ++ codes " demand " ++ n ++ 10 ∷ []) (sym found.named) printed;
+        },
+      )

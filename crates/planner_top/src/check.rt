@@ -43,11 +43,7 @@ fn rejected(
 }
 
 /// Whether a report has a finding, as a line.
-pub fn answer_check(
-    alloc: Global,
-    problem: &Problem,
-    report: &Report,
-) -> Result<Answer, NoMemory>
+pub fn answer_check(alloc: Global, problem: &Problem, report: &Report) -> Result<Answer, NoMemory>
     requires { IsReportInForm problem.now.net.nodes problem.now.net.links problem.now.states.listed report.now }
     ensures { IfOk result (λ a. IsJudged (case problem.now.net problem.now.states problem.now.demands) problem.now.net.notes report.now a.status a.text) }
 {

@@ -13,11 +13,7 @@ use session_script::Script;
 use std::alloc::Global;
 
 /// The report of a script's commands.
-pub fn answer_session(
-    alloc: Global,
-    problem: Problem,
-    script: &Script,
-) -> Result<Answer, NoMemory>
+pub fn answer_session(alloc: Global, problem: Problem, script: &Script) -> Result<Answer, NoMemory>
     requires { IsScript script.now.commands }
     ensures status { IfOk result (λ a. a.status ≡ Status.Done) }
     ensures report { IfOk result (λ a. (r : Rep) × IsPrintedReport (case problem.net problem.states problem.demands) problem.net.notes script.now.commands r a.text) }

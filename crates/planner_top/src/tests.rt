@@ -564,7 +564,9 @@ fn long_network(alloc: Global) -> Result<Bytes, NoMemory> {
 /// The report of its plan.
 fn long_report(alloc: Global) -> Result<Bytes, NoMemory> {
     let mut text = List::new(alloc);
-    text.append(b"?planner report; version: 1\nNOTES ( )\nJOURNAL ( ( 1 cut 0 )\n)\nPOOL ( ( 0 state 0 right 0 ( ")?;
+    text.append(
+        b"?planner report; version: 1\nNOTES ( )\nJOURNAL ( ( 1 cut 0 )\n)\nPOOL ( ( 0 state 0 right 0 ( ",
+    )?;
     for _ in 0..20 {
         text.append(b"1 ")?;
     }
@@ -610,13 +612,21 @@ fn a_long_text_is_put_in_pieces(rt: HostRuntime) -> Result<(), Fail> {
 /// A report of the triangle with every single-link failure, whose plan has this bound and this certificate.
 fn report_with(alloc: Global, bound: &[u8], certificate: &[u8]) -> Result<Bytes, NoMemory> {
     let mut text = List::new(alloc);
-    text.append(b"?planner report; version: 1 NOTES ( ) JOURNAL ( ( 1 cut 0 ) ( 2 cut 1 ) ( 3 cut 2 ) ( 4 cut 3 ) ) ")?;
-    text.append(b"POOL ( ( 0 state 0 right 12000 ( 1 1 1 ) ) ( 1 state 1 right 12000 ( 0 1 1 ) ) ( 2 state 2 right 12000 ( 1 0 1 ) ) ( 3 state 3 right 24000 ( 1 1 0 ) ) ) ")?;
-    text.append(b"OUTCOMES ( PLAN ( caller 1 plan 1 version 0 position 0 DEMANDS ( D1 ( A C ) 12.000 ) cost 30.000 bound ")?;
+    text.append(
+        b"?planner report; version: 1\nNOTES ( ) JOURNAL ( ( 1 cut 0 ) ( 2 cut 1 ) ( 3 cut 2 ) ( 4 cut 3 ) ) ",
+    )?;
+    text.append(
+        b"POOL ( ( 0 state 0 right 12000 ( 1 1 1 ) ) ( 1 state 1 right 12000 ( 0 1 1 ) ) ( 2 state 2 right 12000 ( 1 0 1 ) ) ( 3 state 3 right 24000 ( 1 1 0 ) ) ) ",
+    )?;
+    text.append(
+        b"OUTCOMES ( PLAN ( caller 1 plan 1 version 0 position 0 DEMANDS ( D1 ( A C ) 12.000 ) cost 30.000 bound ",
+    )?;
     text.append(bound)?;
     text.append(b" raw 12000 1 MODULES ( AB ( 2 ) BC ( 2 ) AC ( 2 ) ) CERTIFICATE ( ")?;
     text.append(certificate)?;
-    text.append(b" ) ROUTES ( state 0 none 1 ( D1 12000 ( AC ) ) state 1 AB 1 ( D1 12000 ( AC ) ) state 2 BC 1 ( D1 12000 ( AC ) ) state 3 AC 1 ( D1 12000 ( AB BC ) ) ) unsolved ) )")?;
+    text.append(
+        b" ) ROUTES ( state 0 none 1 ( D1 12000 ( AC ) ) state 1 AB 1 ( D1 12000 ( AC ) ) state 2 BC 1 ( D1 12000 ( AC ) ) state 3 AC 1 ( D1 12000 ( AB BC ) ) ) unsolved ) )",
+    )?;
     Ok(text)
 }
 
@@ -660,7 +670,13 @@ fn a_check_tells_the_first_finding(rt: HostRuntime) -> Result<(), Fail> {
         let name = Name::new(alloc, b"report")?;
         let bytes = report_with(alloc, bound, certificate)?;
         put(&mut files, MemFile { name, bytes })?;
-        let ended = runs(&rt, "check triangle reconfigure default report", files, &[3], &[])?;
+        let ended = runs(
+            &rt,
+            "check triangle reconfigure default report",
+            files,
+            &[3],
+            &[],
+        )?;
         assert_eq!(rt; ended.out.bytes(), line.as_bytes());
         assert_eq!(rt; (ended.status, ended.faults), (status, (0, 0)));
     }
