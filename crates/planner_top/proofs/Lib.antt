@@ -2,5 +2,5 @@ pub mod Answering
 pub mod Refusing
 pub mod Taking
 pub mod SinglePlans
-pub mod Naming
 pub mod Clauses
+pub mod Sampled

@@ -1,6 +1,7 @@
 -- commands, and the words that give them
-use Rattle.std.specs.Prelude.{◌≡◌, ℕ, ◌==◌, Bool, true, false, not, List, [], ◌∷◌, String, string_bytes, codes, All, map}
+use Rattle.std.specs.Prelude.{◌≡◌, ℕ, ◌==◌, ◌≤◌, ◌<◌, ◌^◌, Bool, true, false, not, List, [], ◌∷◌, String, string_bytes, codes, All, length, map}
 use Rattle.std.specs.Global.{Global}
+use Rattle.std.specs.Str.Parse.{IsNumeral, digits_value}
 
 -- the files of a planning: the network's, the model's and the failure list's, in the order in which they are read
 pub record PlanWords : Type 0 where
@@ -8,11 +9,12 @@ pub record PlanWords : Type 0 where
   pub model : List ℕ
   pub failures : List ℕ
 
--- a command: a plan for files, a session of a script, or the check of a report
+-- a command: a plan for files, a session of a script, the check of a report, or a sample of a seed with so many nodes
 pub data Command : Type 0 where
   Plan : PlanWords → Command
   Session : PlanWords → List ℕ → Command
   Check : PlanWords → List ℕ → Command
+  Sample : ℕ → ℕ → Command
 
 -- the word for a model or a failure list that is in no file
 abbrev pub default : List ℕ
@@ -35,15 +37,27 @@ abbrev pub AreFourFiles : List (List ℕ) → PlanWords → List ℕ → Type 0
 AreFourFiles (n ∷ m ∷ f ∷ l ∷ []) w last = (w ≡ record { network = n; model = m; failures = f }) × (last ≡ l)
 AreFourFiles _ w last = ⊥
 
+-- one or more digits, at most so many, that write this number
+pub record IsNumberWord (most n : ℕ) (word : List ℕ) : Type 0 where
+  pub numeral : IsNumeral 10 word
+  pub short : length word ≤ most
+  pub value : digits_value 10 word ≡ n
+
+-- two words are the seed of a sample, below 2^64, and its number of nodes, from 4 to 40
+abbrev pub AreSample : List (List ℕ) → ℕ → ℕ → Type 0
+AreSample (s ∷ n ∷ []) seed nodes = IsNumberWord 20 seed s × (seed < 2 ^ 64) × IsNumberWord 2 nodes n × (4 ≤ nodes) × (nodes ≤ 40)
+AreSample _ seed nodes = ⊥
+
 -- each of the words may stand for a file
 abbrev pub MayBeFiles : List (String Global) → Type 0
 MayBeFiles words = All (λ word. may_be_file (string_bytes word) ≡ true) words
 
--- a command's name, and the words behind it, which are its files
+-- a command's name, and the words behind it
 abbrev pub IsNamed : List ℕ → List (List ℕ) → Command → Type 0
 IsNamed name words (Plan w) = (name ≡ codes "plan") × AreFiles words w
 IsNamed name words (Session w script) = (name ≡ codes "session") × AreFourFiles words w script
 IsNamed name words (Check w report) = (name ≡ codes "check") × AreFourFiles words w report
+IsNamed name words (Sample seed nodes) = (name ≡ codes "sample") × AreSample words seed nodes
 
 -- the words are those of the command
 abbrev pub IsCommand : List (String Global) → Command → Type 0

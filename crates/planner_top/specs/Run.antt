@@ -1,5 +1,5 @@
 -- what a run comes to: its status, and the text that it writes
-use Rattle.std.specs.Prelude.{◌≡◌, ◌≢◌, ℕ, ◌≤◌, ◌⊎◌, List, [], ◌∷◌, ◌++◌, All, Option, String, codes, decimal, length}
+use Rattle.std.specs.Prelude.{◌≡◌, ◌≢◌, ℕ, ◌+◌, ◌≤◌, ◌⊎◌, List, [], ◌∷◌, ◌++◌, All, Option, String, codes, decimal, length}
 use Rattle.std.specs.Global.{Global}
 use Rattle.net_core.specs.declared.demand.Demand.{Demand}
 use Rattle.net_core.specs.declared.network.Network.{Network}
@@ -21,6 +21,8 @@ use Rattle.session_script.specs.declared.script.Script.{Script}
 use Rattle.session_script.specs.Scripts.{SpellsScript}
 use Rattle.session_run.specs.Transcripts.{IsTranscript}
 use Rattle.acceptance.specs.Transcripts.{IsBelowAllAble}
+use Rattle.sample_net.specs.Samples.{no_notes, sample_demands, sample_links, sample_nodes, with_single_failures}
+use Rattle.text_kit.specs.Written.{money_word}
 use Rattle.planner_top.specs.Commands as commands
 use Rattle.planner_top.specs.Commands.{IsCommand, PlanWords, usage}
 use Rattle.planner_top.specs.Findings.{accepted_line, rejected_line}
@@ -107,6 +109,30 @@ EndsCheck files name p notes status text =
     StopsAtFile files report_limit name BadReport (RefusesReportFile p.nodes p.links p.listed) status text
     ⊎ ((r : Report) × Fetched files report_limit name (SpellsReport p.nodes p.links p.listed) r × IsJudged p notes r status text)
 
+-- ---- a sample
+
+-- the case of a sample: its network, where each link fails alone, and its demands
+abbrev pub sample_case : ℕ → ℕ → Case
+sample_case seed nodes = with_single_failures (sample_nodes nodes) (sample_links seed nodes) (sample_demands seed nodes)
+
+-- the line of a network's size
+abbrev pub size_line : Case → List ℕ
+size_line p =
+    codes "nodes " ++ decimal (length p.nodes) ++ codes " links " ++ decimal (length p.links)
+    ++ codes " demands " ++ decimal (length p.demands) ++ codes " states " ++ decimal (length p.listed + 1) ++ 10 ∷ []
+
+-- the lines of a plan of a sample
+abbrev pub summary : ℕ → ℕ → Case → Plan → List ℕ
+summary seed nodes p plan =
+    codes "sample " ++ decimal seed ++ 32 ∷ decimal nodes ++ 10 ∷ size_line p
+    ++ codes "cost " ++ money_word plan.cost ++ codes "\nbound " ++ money_word plan.bound ++ 10 ∷ []
+
+-- the text has the lines of a plan whose report is that of a plan of the case
+pub record IsSummary (seed nodes : ℕ) (p : Case) (notes : Notes) (text : List ℕ) : Type 0 where
+  pub report : List ℕ
+  pub planned : IsPlanReport p notes report
+  pub printed : text ≡ summary seed nodes p planned.plan
+
 -- ---- commands
 
 -- One of the files that every command has ends the run, or they are all read, and it comes to this, of the case that they spell and
@@ -123,6 +149,7 @@ abbrev pub EndsCommand : Option Files → commands.Command → Status → List �
 EndsCommand files (commands.Plan w) = EndsAfterInputs files w EndsPlan
 EndsCommand files (commands.Session w script) = EndsAfterInputs files w (EndsSession files script)
 EndsCommand files (commands.Check w report) = EndsAfterInputs files w (EndsCheck files report)
+EndsCommand files (commands.Sample seed nodes) = λ status text. (status ≡ Done) × IsSummary seed nodes (sample_case seed nodes) no_notes text
 
 -- ---- a run
 

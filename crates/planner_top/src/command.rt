@@ -1,36 +1,12 @@
-ghost use Rattle.std.specs.Prelude.{◌≡◌, ℕ, List, IsTrue, ◌↔◌, MatchOption, map, string_bytes};
+ghost use Rattle.std.specs.Prelude.{◌≡◌, ◌≤◌, ◌<◌, ◌^◌, ◌==◌, ◌∷◌, [], ℕ, List, IsTrue, ◌↔◌, MatchOption, map, slice_index, string_bytes};
 ghost use Rattle.planner_top.specs.Commands as commands;
-ghost use Rattle.planner_top.specs.Commands.{AreFiles, AreFourFiles, IsCommand, IsNamed, MayBeFiles, PlanWords, may_be_file};
+ghost use Rattle.planner_top.specs.Commands.{AreFiles, AreFourFiles, AreSample, IsCommand, IsNamed, IsNumberWord, MayBeFiles, PlanWords, may_be_file};
 ghost use Rattle.planner_top.specs.inner.Steps.{asked, named};
+
+use crate::words::{Command, FourFiles, PlanFiles, SampleWords};
 
 /// The word for a model or a failure list that is in no file.
 pub const DEFAULT: &str = "default";
-
-/// The files of a planning, by their names. A model or a failure list that is in no file is `default`.
-#[derive(Clone, Copy)]
-pub struct PlanFiles<'w> {
-    pub network: &'w str,
-    pub model: &'w str,
-    pub failures: &'w str,
-}
-
-/// The files of a planning, and one file more.
-#[derive(Clone, Copy)]
-pub struct FourFiles<'w> {
-    pub files: PlanFiles<'w>,
-    pub last: &'w str,
-}
-
-/// What a run is asked for.
-#[derive(Clone, Copy)]
-pub enum Command<'w> {
-    /// A plan, with the report of it.
-    Plan(PlanFiles<'w>),
-    /// The report of a script.
-    Session(FourFiles<'w>),
-    /// Whether a report has a finding.
-    Check(FourFiles<'w>),
-}
 
 /// Whether a word may stand for a file.
 fn may_be_file(word: &str) -> bool
@@ -90,6 +66,53 @@ fn four_of(words: &[String]) -> Option<FourFiles<'_>>
     }
 }
 
+/// Whether a word begins with a plus.
+fn begins_with_plus(word: &str) -> bool
+    ensures { result ≡ (slice_index word.now 0 == 43) }
+{
+    match word.as_bytes() {
+        [] => false,
+        [first, ..] => *first == b'+',
+    }
+}
+
+/// The number that a word of digits writes, of which there are at most so many; none where it is no such word, or the number is
+/// 2^64 or more.
+fn number_word(word: &str, most: usize) -> Option<u64>
+    ensures { MatchOption result ((n : ℕ) → n < 2 ^ 64 → IsNumberWord most n word.now → ⊥) (λ n. IsNumberWord most n word.now) }
+{
+    if word.len() > most || begins_with_plus(word) {
+        return None;
+    }
+    word.parse::<u64>().ok()
+}
+
+/// The seed that the one word writes, and the number of nodes that the other does.
+fn sample_words(seed: &str, nodes: &str) -> Option<SampleWords>
+    ensures { MatchOption result ((s n : ℕ) → AreSample (seed.now ∷ nodes.now ∷ []) s n → ⊥) (λ s. AreSample (seed.now ∷ nodes.now ∷ []) s.seed s.nodes) }
+{
+    let seed = number_word(seed, 20)?;
+    let nodes = number_word(nodes, 2)?;
+    if 4 <= nodes && nodes <= 40 {
+        Some(SampleWords {
+            seed,
+            nodes: nodes as u32,
+        })
+    } else {
+        None
+    }
+}
+
+/// The seed and the number of nodes that two words write.
+fn sample_of(words: &[String]) -> Option<SampleWords>
+    ensures { MatchOption result ((seed nodes : ℕ) → AreSample (map string_bytes words.now) seed nodes → ⊥) (λ s. AreSample (map string_bytes words.now) s.seed s.nodes) }
+{
+    match words {
+        [seed, nodes] => sample_words(seed.as_str(), nodes.as_str()),
+        _ => None,
+    }
+}
+
 /// Whether a word is the name of a command.
 fn is_named(word: &str, name: &str) -> bool
     ensures { IsTrue result ↔ (word.now ≡ name.now) }
@@ -97,7 +120,7 @@ fn is_named(word: &str, name: &str) -> bool
     word == name
 }
 
-/// The command of this name with these files; none where they are no files of such a command.
+/// The command of this name with these words behind it; none where they are no words of such a command.
 fn named_command<'w>(name: &str, words: &'w [String]) -> Option<Command<'w>>
     ensures { MatchOption result ((c : commands.Command) → IsNamed name.now (map string_bytes words.now) c → ⊥) (λ c. IsNamed name.now (map string_bytes words.now) (asked c)) }
 {
@@ -112,6 +135,10 @@ fn named_command<'w>(name: &str, words: &'w [String]) -> Option<Command<'w>>
     if is_named(name, "check") {
         let files = four_of(words)?;
         return Some(Command::Check(files));
+    }
+    if is_named(name, "sample") {
+        let words = sample_of(words)?;
+        return Some(Command::Sample(words));
     }
     None
 }

@@ -12,9 +12,10 @@ ghost use Rattle.planner_top.specs.Run.{KeepsShelf};
 ghost use Rattle.planner_top.specs.inner.Steps.{Stops, named};
 
 use crate::answer::Stop;
-use crate::command::{DEFAULT, PlanFiles};
+use crate::command::DEFAULT;
 use crate::refusal::{UnusedFailures, not_fetched, refused};
 use crate::status::Status;
+use crate::words::PlanFiles;
 use model_reader::{
     FailuresRefusal, ModelRefusal, only_none, read_failures, read_model, single_links,
 };

@@ -11,8 +11,10 @@ mod output;
 mod plan;
 mod refusal;
 mod run;
+mod sample;
 mod session;
 mod status;
+mod words;
 
 use net_core::NoMemory;
 use outside_io::{FileShelf, OpenGate, StreamSink};

@@ -1,19 +1,22 @@
 ghost use Rattle.std.specs.Prelude.{◌≡◌, ℕ, List, ◌≤◌, IfOk, IsErrOf};
+ghost use Rattle.sample_net.specs.Samples.{no_notes};
 ghost use Rattle.planner_top.specs.Commands as commands;
 ghost use Rattle.planner_top.specs.Commands.{usage};
-ghost use Rattle.planner_top.specs.Run.{Ends, EndsCommand, KeepsShelf, PutsText};
+ghost use Rattle.planner_top.specs.Run.{Ends, EndsCommand, IsSummary, KeepsShelf, PutsText, sample_case};
 ghost use Rattle.planner_top.specs.inner.Steps.{HasCause, named};
 ghost use Rattle.planner_top.specs.declared.status.Status.{Status};
 
 use crate::answer::{Answer, Stop};
 use crate::check::answer_check;
-use crate::command::{Command, FourFiles, PlanFiles, command_of};
+use crate::command::command_of;
 use crate::inputs::load_problem;
 use crate::last_file::{load_report, load_script};
 use crate::output::say;
 use crate::plan::answer_plan;
+use crate::sample::answer_sample;
 use crate::session::answer_session;
 use crate::status::Status;
+use crate::words::{Command, FourFiles, PlanFiles, SampleWords};
 use net_core::{List, NoMemory};
 use outside_io::{Gate, Shelf, Sink};
 use std::alloc::Global;
@@ -63,6 +66,14 @@ fn check_files<S: Shelf>(alloc: Global, four: &FourFiles, shelf: &mut S) -> Resu
     Ok(answer_check(alloc, &problem, &report)?)
 }
 
+/// The answer to a sample of these words.
+fn sample_words(alloc: Global, words: &SampleWords) -> Result<Answer, NoMemory>
+    ensures status { IfOk result (λ a. a.status ≡ Status.Done) }
+    ensures summary { IfOk result (λ a. IsSummary words.now.seed words.now.nodes (sample_case words.now.seed words.now.nodes) no_notes a.text) }
+{
+    answer_sample(alloc, words.seed, words.nodes)
+}
+
 /// The answer to words.
 fn answer_words<S: Shelf>(alloc: Global, words: &[String], shelf: &mut S) -> Result<Answer, Stop>
     ensures ends { HasCause (Ends words.now (S.files shelf.old)) result }
@@ -72,6 +83,7 @@ fn answer_words<S: Shelf>(alloc: Global, words: &[String], shelf: &mut S) -> Res
         Some(Command::Plan(files)) => plan_files(alloc, &files, shelf),
         Some(Command::Session(four)) => session_files(alloc, &four, shelf),
         Some(Command::Check(four)) => check_files(alloc, &four, shelf),
+        Some(Command::Sample(words)) => Ok(sample_words(alloc, &words)?),
         None => Ok(bad_words(alloc)?),
     }
 }

@@ -328,7 +328,7 @@ fn plans() -> [Row; 8] {
 }
 
 /// Files that are refused or missing, and words outside the grammar.
-fn refusals() -> [Row; 19] {
+fn refusals() -> [Row; 24] {
     [
         (
             "plan stuck",
@@ -400,6 +400,16 @@ fn refusals() -> [Row; 19] {
             "no file X\n",
         ),
         ("check triangle default set", 0, Status::BadWords, usage()),
+        ("sample 7", 0, Status::BadWords, usage()),
+        ("sample 7 3", 0, Status::BadWords, usage()),
+        ("sample 7 41", 0, Status::BadWords, usage()),
+        ("sample +7 8", 0, Status::BadWords, usage()),
+        (
+            "sample 18446744073709551616 8",
+            0,
+            Status::BadWords,
+            usage(),
+        ),
         ("plan", 0, Status::BadWords, usage()),
         ("plan triangle -reconfigure", 0, Status::BadWords, usage()),
         (
@@ -679,6 +689,17 @@ fn a_check_tells_the_first_finding(rt: HostRuntime) -> Result<(), Fail> {
         )?;
         assert_eq!(rt; ended.out.bytes(), line.as_bytes());
         assert_eq!(rt; (ended.status, ended.faults), (status, (0, 0)));
+    }
+    Ok(())
+}
+
+#[test]
+fn a_sample_says_its_size(rt: HostRuntime) -> Result<(), Fail> {
+    for words in ["sample 7 8", "sample 007 08"] {
+        let ended = runs(&rt, words, List::new(rt.alloc()), &[0], &[])?;
+        assert_eq!(rt; (ended.status, ended.faults), (Status::Done, (0, 0)));
+        let size: &[u8] = b"sample 7 8\nnodes 8 links 12 demands 28 states 13\n";
+        assert_eq!(rt; ended.out.bytes().get(..49), Some(size));
     }
     Ok(())
 }

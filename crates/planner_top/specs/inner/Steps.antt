@@ -5,9 +5,9 @@ use Rattle.planner_top.specs.Commands.{PlanWords}
 use Rattle.planner_top.specs.declared.answer.Answer.{Answer}
 use Rattle.planner_top.specs.declared.answer.Stop.{Stop}
 use Rattle.planner_top.specs.declared.answer.Stop.TheVariants as stop
-use Rattle.planner_top.specs.declared.command.Command.{Command}
-use Rattle.planner_top.specs.declared.command.Command.TheVariants.{Plan, Session, Check}
-use Rattle.planner_top.specs.declared.command.PlanFiles.{PlanFiles}
+use Rattle.planner_top.specs.declared.words.Command.{Command}
+use Rattle.planner_top.specs.declared.words.Command.TheVariants.{Plan, Session, Check, Sample}
+use Rattle.planner_top.specs.declared.words.PlanFiles.{PlanFiles}
 use Rattle.planner_top.specs.declared.status.Status.{Status}
 use Rattle.planner_top.specs.declared.status.Status.TheVariants.{ReadFault}
 
@@ -20,6 +20,7 @@ abbrev pub asked : Command → commands.Command
 asked (Plan files) = commands.Plan (named files)
 asked (Session four) = commands.Session (named four.files) four.last.now
 asked (Check four) = commands.Check (named four.files) four.last.now
+asked (Sample words) = commands.Sample words.seed words.nodes
 
 -- a stop has its cause, unless memory ran out
 abbrev pub Stops : (Status → List ℕ → Type 0) → Stop → Type 0

@@ -1,0 +1,37 @@
+ghost use Rattle.std.specs.Prelude.{◌≤◌};
+
+/// The files of a planning, by their names. A model or a failure list that is in no file is `default`.
+#[derive(Clone, Copy)]
+pub struct PlanFiles<'w> {
+    pub network: &'w str,
+    pub model: &'w str,
+    pub failures: &'w str,
+}
+
+/// The files of a planning, and one file more.
+#[derive(Clone, Copy)]
+pub struct FourFiles<'w> {
+    pub files: PlanFiles<'w>,
+    pub last: &'w str,
+}
+
+/// The seed of a sample, and its number of nodes, from 4 to 40.
+#[derive(Clone, Copy)]
+pub struct SampleWords {
+    pub seed: u64,
+    pub nodes: u32,
+    pub ghost range: { (4 ≤ nodes) × (nodes ≤ 40) },
+}
+
+/// What a run is asked for.
+#[derive(Clone, Copy)]
+pub enum Command<'w> {
+    /// A plan, with the report of it.
+    Plan(PlanFiles<'w>),
+    /// The report of a script.
+    Session(FourFiles<'w>),
+    /// Whether a report has a finding.
+    Check(FourFiles<'w>),
+    /// A summary of the plan of a sample network.
+    Sample(SampleWords),
+}
