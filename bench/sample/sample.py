@@ -55,4 +55,5 @@ def main():
         print(f"d{k} n{a} n{b} {need}.000")
 
 
-main()
+if __name__ == "__main__":
+    main()
