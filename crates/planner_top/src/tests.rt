@@ -693,13 +693,86 @@ fn a_check_tells_the_first_finding(rt: HostRuntime) -> Result<(), Fail> {
     Ok(())
 }
 
+/// Words of a plan or a session, the words that check its report, and the cost and the bound in it.
+type Accepted = (&'static str, &'static str, &'static str);
+
+fn accepted() -> [Accepted; 6] {
+    [
+        (
+            "plan triangle reconfigure",
+            "check triangle reconfigure default report",
+            "cost 30.000 bound 15.000 raw 12000 1 ",
+        ),
+        (
+            "plan parallel default single",
+            "check parallel default single report",
+            "cost 20.000 bound ",
+        ),
+        (
+            "plan towns reconfigure",
+            "check towns reconfigure default report",
+            "cost 600.000 bound ",
+        ),
+        (
+            "plan fixed plain",
+            "check fixed plain default report",
+            "cost 0.000 bound 0.000 raw 0 1 ",
+        ),
+        (
+            "plan idle default last",
+            "check idle default last report",
+            "cost 0.000 bound 0.000 raw 0 1 ",
+        ),
+        (
+            "session triangle default default set",
+            "check triangle default default report",
+            "cost 15.000 bound 15.000 raw 12000 1 ",
+        ),
+    ]
+}
+
+/// Whether a text has this part.
+fn contains(text: &[u8], part: &[u8]) -> bool {
+    for at in 0..text.len() {
+        if text[at..].starts_with(part) {
+            return true;
+        }
+    }
+    false
+}
+
 #[test]
-fn a_sample_says_its_size(rt: HostRuntime) -> Result<(), Fail> {
+fn a_printed_report_is_accepted(rt: HostRuntime) -> Result<(), Fail> {
+    let alloc = rt.alloc();
+    for (words, check, cost) in accepted() {
+        let ended = runs(&rt, words, all_files(alloc)?, &[], &[])?;
+        assert_eq!(rt; (words, ended.status), (words, Status::Done));
+        assert!(rt; contains(ended.out.bytes(), cost.as_bytes()));
+        let mut files = all_files(alloc)?;
+        let name = Name::new(alloc, b"report")?;
+        let bytes = List::from_slice(alloc, ended.out.bytes())?;
+        put(&mut files, MemFile { name, bytes })?;
+        let ended = runs(&rt, check, files, &[], &[])?;
+        assert_eq!(rt; ended.out.bytes(), b"accepted 1\n".as_slice());
+    }
+    Ok(())
+}
+
+/// The summary of the sample of 8 nodes that is drawn from 7.
+fn sample_of_8_nodes() -> &'static str {
+    "sample 7 8
+nodes 8 links 12 demands 28 states 13
+cost 1061.000
+bound 294.000
+"
+}
+
+#[test]
+fn a_sample_is_planned(rt: HostRuntime) -> Result<(), Fail> {
     for words in ["sample 7 8", "sample 007 08"] {
         let ended = runs(&rt, words, List::new(rt.alloc()), &[0], &[])?;
         assert_eq!(rt; (ended.status, ended.faults), (Status::Done, (0, 0)));
-        let size: &[u8] = b"sample 7 8\nnodes 8 links 12 demands 28 states 13\n";
-        assert_eq!(rt; ended.out.bytes().get(..49), Some(size));
+        assert_eq!(rt; ended.out.bytes(), sample_of_8_nodes().as_bytes());
     }
     Ok(())
 }
