@@ -1,0 +1,5 @@
+pub mod BasisLines
+pub mod LeastShares
+pub mod MasterEvidence
+pub mod MasterPrograms
+pub mod UnitPairs
