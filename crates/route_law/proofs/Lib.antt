@@ -9,3 +9,5 @@ pub mod Pushed
 pub mod Rows
 pub mod Slacks
 pub mod SomePrices
+pub mod TermSums
+pub mod ZerosAndOnes

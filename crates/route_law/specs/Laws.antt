@@ -1,5 +1,5 @@
 -- what routing in a state rests on
-use Rattle.std.specs.Prelude.{◌≡◌, ℕ, ℤ, ◌*◌, ◌*ℤ◌, ◌≤ℤ◌, ◌<ℤ◌, List, All, pos, length}
+use Rattle.std.specs.Prelude.{◌≡◌, ℕ, ℤ, ◌*◌, ◌*ℤ◌, ◌≤ℤ◌, ◌<ℤ◌, ◌≤◌, List, All, pos, length, slice_index}
 use Rattle.net_core.specs.declared.columns.RouteColumn.{RouteColumn}
 use Rattle.net_core.specs.declared.demand.Demand.{Demand}
 use Rattle.net_core.specs.declared.plan.Caps.{Caps}
@@ -14,7 +14,7 @@ use Rattle.simplex_law.specs.Sums.{int_sum, dot}
 use Rattle.simplex_law.specs.Programs.{ColumnOf}
 use Rattle.simplex_law.specs.Optima.{IsOptimum}
 use Rattle.route_law.specs.BasisFlows.{AreFlowsOf}
-use Rattle.route_law.specs.PricedLengths.{ArePricedLengths}
+use Rattle.route_law.specs.PricedLengths.{ArePricedLengths, ArePricedSomewhere}
 use Rattle.route_law.specs.Routings.{AreJoined}
 use Rattle.route_law.specs.RoutingPrograms.{total_scaled_need, route_rows, route_bound, IsRouteColumn}
 
@@ -51,3 +51,11 @@ ViolatedCarriesNothing = (g : Graph) (demands : List Demand) (caps : Caps) (rout
     → Carries (Joins g) demands caps.scale caps.nums routing
     → Violates caps cut
     → ⊥
+
+-- every vector of at most 256 zeros and ones with a one is priced
+abbrev pub ZerosAndOnesArePriced : Type 0
+ZerosAndOnesArePriced = (lengths : List ℕ) (e : ℕ)
+    → length lengths ≤ 256
+    → ((k : ℕ) → slice_index lengths k ≤ 1)
+    → slice_index lengths e ≡ 1
+    → ArePricedSomewhere lengths
