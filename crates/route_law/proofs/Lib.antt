@@ -1,12 +1,15 @@
 pub mod Carrying
+pub mod Divided
 pub mod Kept
 pub mod LinkPrices
 pub mod Lowest
 pub mod Meeting
+pub mod Multiples
 pub mod Packing
 pub mod PathPrices
 pub mod Pushed
 pub mod Rows
+pub mod Scaled
 pub mod Slacks
 pub mod SomePrices
 pub mod TermSums

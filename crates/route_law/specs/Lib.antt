@@ -1,4 +1,5 @@
 pub mod BasisFlows
+pub mod Divisions
 pub mod Laws
 pub mod PricedLengths
 pub mod RouteEvidence

@@ -1,3 +1,4 @@
+ghost use Rattle.route_law.specs.Divisions.{DividedAreCarried, DividedArePriced, DividedAreViolated, DividedAreWide};
 ghost use Rattle.route_law.specs.Laws.{BasisFlowsCarry, LinkPricesAreViolated, ViolatedCarriesNothing, ZerosAndOnesArePriced};
 
 /// Where the value of a best basis of the routing program isn't below the sum of the needs, its flows carry the demands.
@@ -19,4 +20,25 @@ pub fn violated_carries_nothing()
 /// number and one demand, it is the link prices of a best basis.
 pub fn zeros_and_ones_are_priced()
     ensures { ZerosAndOnesArePriced }
+{}
+
+/// Capacities violate a cut exactly where they do over a multiple of their scale.
+pub fn divided_are_violated()
+    ensures { DividedAreViolated }
+{}
+
+/// A routing that carries the demands within capacities carries them over a multiple of the scale, with flows that are as
+/// many times as large.
+pub fn divided_are_carried()
+    ensures { DividedAreCarried }
+{}
+
+/// Evidence that a number is too wide is evidence over a multiple of the scale, with the same basis and of the same kind.
+pub fn divided_are_wide()
+    ensures { DividedAreWide }
+{}
+
+/// Lengths are priced at capacities exactly where they are over a multiple of the scale.
+pub fn divided_are_priced()
+    ensures { DividedArePriced }
 {}

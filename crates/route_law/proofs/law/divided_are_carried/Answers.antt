@@ -1,0 +1,5 @@
+use Rattle.route_law.proofs.Multiples.{divided_are_carried}
+use Rattle.route_law.proofs.law.divided_are_carried.Goals as goal
+
+pub returns : goal.returns
+returns c = divided_are_carried
