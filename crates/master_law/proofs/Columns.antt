@@ -1,0 +1,63 @@
+-- columns of cuts, and sums over the links
+use Rattle.std.proofs.Common.{◌≡◌, ℕ, ◌*◌, ◌<◌, List, [], ◌∷◌, All, Contains, Some, length, zip, slice_get, slice_index, get_or, refl, sym, ◌∙◌, arith, subst}
+use Rattle.std.proofs.lemmas.List.{get_or-map}
+use Rattle.std.proofs.lemmas.List.Elements.{All-get_or}
+use Rattle.std.proofs.lemmas.List.Sums.{sum_by-cons}
+use Rattle.std.proofs.lemmas.Option.{slice_get-get_or, slice_get_within, get_or_from_slice_get}
+use Rattle.module_prices.specs.declared.cheapest.UnitPair.{UnitPair}
+use Rattle.net_core.specs.declared.columns.MasterColumn.{MasterColumn}
+use Rattle.net_core.specs.declared.columns.MasterColumn.TheVariants.{Metric}
+use Rattle.net_core.specs.declared.network.Link.{Link}
+use Rattle.net_core.specs.declared.plan.CutLine.{CutLine}
+use Rattle.net_core.specs.Network.{IsModule}
+use Rattle.net_core.specs.Sums.{sum_below}
+use Rattle.net_core.proofs.Sums.{below-same, below-first, below-none}
+use Rattle.plan_terms.specs.Certificates.{fixed_along}
+use Rattle.plan_terms.proofs.Duality.{fixed_of}
+use Rattle.simplex_law.specs.Programs.{ColumnOf}
+use Rattle.master_law.specs.MasterPrograms.{cut_gain, cut_entry, unit_capacities, unit_costs, IsCutColumn}
+use Rattle.master_law.specs.UnitPairs.{AreUnitPairs, IsPairOfLink}
+
+-- the column of a cut
+abbrev pub column_of : List Link → List UnitPair → CutLine → ColumnOf MasterColumn
+column_of links pairs cut = record { name = Metric cut.state cut.lengths; gain = cut_gain links cut; entry = cut_entry pairs cut }
+
+pub is_column_of : (links : List Link) (pairs : List UnitPair) (cuts : List CutLine) (cut : CutLine) → Contains cuts cut → IsCutColumn links pairs cuts (column_of links pairs cut)
+is_column_of links pairs cuts cut held = record { cut = cut; listed = held; named = refl; gain = refl; entry = λ e l. refl }
+
+-- what lengths give of the pre-installed capacities, link by link
+pub along_fixed : (lengths : List ℕ) (links : List Link) → fixed_along lengths links ≡ sum_below (length links) (λ e. slice_index lengths e * slice_index (fixed_of links) e)
+along_fixed [] links = sym (below-same (length links) (λ e. 0 * slice_index (fixed_of links) e) (λ e. 0) (λ e l. omega arith) ∙ below-none (length links))
+along_fixed (n ∷ ns) [] = refl
+along_fixed (n ∷ ns) (l ∷ ls) =
+    omega (arith, sum_by-cons (λ (q : ℕ × Link). q.0 * q.1.fixed) (n, l) (zip ns ls), below-first (length ls) (λ e. slice_index (n ∷ ns) e * slice_index (fixed_of (l ∷ ls)) e), along_fixed ns ls)
+
+-- the unit pair of link e
+pub record HasUnitPair (pairs : List UnitPair) (e : ℕ) (l : Link) : Type 0 where
+  pub modules : All IsModule l.modules
+  pub pair : UnitPair
+  pub is_pair : IsPairOfLink l.modules pair
+  pub capacity : slice_index (unit_capacities pairs) e ≡ pair.capacity
+  pub cost : slice_index (unit_costs pairs) e ≡ pair.cost
+
+module _ (links : List Link) (pairs : List UnitPair) (sound : All (λ l. All IsModule l.modules) links) (units : AreUnitPairs links pairs) where
+  pub link_at : (e : ℕ) (l : Link) → slice_get links e ≡ Some l → All IsModule l.modules
+  link_at e l at = subst (λ (k : Link). All IsModule k.modules) (get_or_from_slice_get links e l l at) (All-get_or (λ (k : Link). All IsModule k.modules) links e l (slice_get_within links e l at) sound)
+
+  pub pair_at : (e : ℕ) (l : Link) → slice_get links e ≡ Some l → HasUnitPair pairs e l
+  pair_at e l at =
+      let none : UnitPair = record { capacity = 0; cost = 0 } in
+      let here : e < length pairs = subst (λ n. e < n) (sym units.count) (slice_get_within links e l at) in
+      record {
+        modules = link_at e l at;
+        pair = get_or pairs e none;
+        is_pair = units.each e l (get_or pairs e none) at (slice_get-get_or pairs e none here);
+        capacity = get_or-map (λ (q : UnitPair). q.capacity) pairs e none 0 here;
+        cost = get_or-map (λ (q : UnitPair). q.cost) pairs e none 0 here;
+      }
+
+  pub pair_below : (e : ℕ) → e < length links → (l : Link) × (slice_get links e ≡ Some l) × HasUnitPair pairs e l
+  pair_below e l =
+      let none : Link = record { name = []; a = record { 0 = 0 }; b = record { 0 = 0 }; fixed = 0; setup = 0; modules = [] } in
+      let at = slice_get-get_or links e none l in
+      (get_or links e none, at, pair_at e (get_or links e none) at)
