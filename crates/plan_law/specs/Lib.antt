@@ -1,0 +1,3 @@
+pub mod LoosePlans
+pub mod TightPlans
+pub mod WorkedLists
