@@ -1,3 +1,4 @@
 pub mod Certified
 pub mod Columns
+pub mod Packing
 pub mod Shares
