@@ -1,4 +1,6 @@
 pub mod Certified
 pub mod Columns
+pub mod Lines
+pub mod Own
 pub mod Packing
 pub mod Shares
