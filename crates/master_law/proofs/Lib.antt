@@ -4,3 +4,5 @@ pub mod Lines
 pub mod Own
 pub mod Packing
 pub mod Shares
+pub mod Slacks
+pub mod Valued
