@@ -1,0 +1,4 @@
+pub mod Begun
+pub mod Pairs
+pub mod PublicLaws
+pub mod Rounds

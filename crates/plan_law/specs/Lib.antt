@@ -1,3 +1,5 @@
+pub mod Laws
 pub mod LoosePlans
 pub mod TightPlans
 pub mod WorkedLists
+pub mod inner

@@ -1,0 +1,117 @@
+-- a round behind a worked list makes a worked list
+use Rattle.std.proofs.Common.{◌≡◌, ◌≢◌, ℕ, ◌+◌, ◌*◌, ◌<◌, ◌≤◌, List, [], ◌∷◌, ◌++◌, Option, None, All, Contains, length, take, sum_by, zip, unwrap_or, get_or, refl, sym, ap, ◌∙◌, arith, subst}
+use Rattle.std.proofs.lemmas.List.{append_assoc, ext_get_or, length-append}
+use Rattle.std.proofs.lemmas.List.Elements.{All-append, All-take, All-weaker, Contains-append_right, Contains-get_or}
+use Rattle.std.proofs.lemmas.Option.{slice_get-get_or}
+use Rattle.net_core.specs.declared.demand.Demand.{Demand}
+use Rattle.net_core.specs.declared.plan.CutLine.{CutLine}
+use Rattle.net_core.specs.Cases.{Case, graph_in}
+use Rattle.net_core.specs.Graphs.{Joins}
+use Rattle.module_prices.specs.declared.cheapest.UnitPair.{UnitPair}
+use Rattle.plan_terms.specs.Certificates.{IsCut, IsRight}
+use Rattle.plan_terms.specs.Violations.{Violates}
+use Rattle.plan_terms.proofs.Distances.{distance_one}
+use Rattle.plan_types.specs.declared.quality.Share.{Share}
+use Rattle.master_law.specs.LeastShares.{IsLeastShare}
+use Rattle.master_law.specs.MasterPrograms.{IsSameCut}
+use Rattle.master_law.specs.UnitPairs.{AreUnitPairs, share_caps}
+use Rattle.master_law.proofs.Shares.{least_violates_none}
+use Rattle.plan_law.specs.WorkedLists.{Round, after_rounds, AreDifferentCuts, AreRounds, IsBeginning, IsFoundCut, IsRound, IsWorkedList}
+use Rattle.plan_law.proofs.Begun.{beginning_cuts, beginning_differ, opened_differ}
+use Rattle.plan_law.proofs.Pairs.{pairs_append, pairs_take}
+
+-- there is one right side
+right_once : (joins : ℕ → ℕ → ℕ → Type 0) (lengths : List ℕ) (demands : List Demand) (a b : ℕ) → IsRight joins lengths demands a → IsRight joins lengths demands b → a ≡ b
+right_once joins lengths demands a b first second =
+    first.sum ∙ (ap (λ far. sum_by (λ (p : Demand × Option ℕ). p.0.need * unwrap_or p.1 0) (zip demands far)) same ∙ sym second.sum)
+  where
+    no_demand : Demand
+    no_demand = record { name = []; from = record { 0 = 0 }; to = record { 0 = 0 }; need = 0 }
+
+    same : first.far ≡ second.far
+    same = ext_get_or None first.far second.far (first.count ∙ sym second.count) (λ k lt.
+        let at = slice_get-get_or demands k no_demand (subst (λ n. k < n) first.count lt) in
+        let d = get_or demands k no_demand in
+        distance_one joins lengths d.from.0 d.to.0 _ _ (first.each k d at) (second.each k d at))
+
+module _ (p : Case) (pairs : List UnitPair) (units : AreUnitPairs p.links pairs) where
+  -- a cut that is found at a least share of cuts isn't one of them
+  pub found_is_new : (cuts : List CutLine) (share : Share) (cut held : CutLine) → IsLeastShare p.links pairs cuts share → IsFoundCut p pairs share cut → Contains cuts held → IsCut p held → IsSameCut held cut → ⊥
+  found_is_new cuts share cut held least found inside is same = least_violates_none p.links pairs cuts share held units.count is.kept.count least inside violated
+    where
+      right : cut.right ≡ held.right
+      right = right_once (Joins (graph_in p cut.state.0)) cut.lengths p.demands cut.right held.right found.is_cut.right
+          (subst (λ s. IsRight (Joins (graph_in p s.0)) cut.lengths p.demands held.right) same.0 (subst (λ ls. IsRight (Joins (graph_in p held.state.0)) ls p.demands held.right) same.1 is.right))
+
+      short : List ℕ → ℕ → Type 0
+      short lengths side = sum_by (λ (q : ℕ × ℕ). q.0 * q.1) (zip lengths (share_caps p.links pairs share).nums) < side * share.scale
+
+      violated : Violates (share_caps p.links pairs share) held
+      violated = subst (λ r. short held.lengths r) right (subst (λ ls. short ls cut.right) (sym same.1) found.violated)
+
+  -- the cuts after rounds are cuts of the case
+  pub rounds_cuts : (start : List CutLine) (rounds : List Round) → All (IsCut p) start → AreRounds p pairs start rounds → All (IsCut p) (after_rounds start rounds)
+  rounds_cuts start [] cuts are = cuts
+  rounds_cuts start (last ∷ earlier) cuts are =
+      All-append (IsCut p) (after_rounds start earlier) last.cuts (rounds_cuts start earlier cuts are.1) (All-weaker (IsFoundCut p pairs last.share) (IsCut p) (λ c found. found.is_cut) last.cuts are.0.found)
+
+  -- the cuts of a round are different, and none is one of the list before it
+  round_differs : (before : List CutLine) (round : Round) (cuts : List CutLine) → All (IsCut p) before → IsRound p pairs before round → ((c : CutLine) → Contains cuts c → Contains before c) → AreDifferentCuts cuts → AreDifferentCuts (cuts ++ round.cuts)
+  round_differs before round cuts are is inside different = pairs_append (λ a b. IsSameCut a b → ⊥) cuts round.cuts different
+      (λ i j d ij lj same. is.states i j d ij lj same.0)
+      (λ i j d li lj same. let held = inside (get_or cuts i d) (Contains-get_or cuts i d li) in
+      found_is_new before round.share (get_or round.cuts j d) (get_or cuts i d) is.least (is.found j d lj) held (subst (IsCut p) held.2 (are held.0 (get_or cuts i d) held.1)) same)
+
+  -- and so are all cuts after rounds
+  pub rounds_differ : (start : List CutLine) (rounds : List Round) → All (IsCut p) start → AreDifferentCuts start → AreRounds p pairs start rounds → AreDifferentCuts (after_rounds start rounds)
+  rounds_differ start [] cuts different are = different
+  rounds_differ start (last ∷ earlier) cuts different are =
+      round_differs (after_rounds start earlier) last (after_rounds start earlier) (rounds_cuts start earlier cuts are.1) are.0 (λ c h. h) (rounds_differ start earlier cuts different are.1)
+
+  -- what a planning begins with is a worked list, of no round
+  pub begun_worked : (snapshot start : List CutLine) → IsBeginning p snapshot start → length start ≤ length snapshot + 4096 → IsWorkedList p pairs snapshot [] start
+  begun_worked snapshot start begins room = record {
+    units = units;
+    start = start;
+    begins = begins;
+    are_rounds = tt;
+    whole = refl;
+    added = begins.opened;
+    behind = begins.whole;
+    few = let long : length start ≡ length snapshot + length begins.opened = ap length begins.whole ∙ length-append snapshot begins.opened in omega (arith, long, room);
+    different = opened_differ p begins.opened begins.ordered;
+  }
+
+-- a round that is cut short is a round
+pub cut_short : (p : Case) (pairs : List UnitPair) (before : List CutLine) (round : Round) (n : ℕ) → IsRound p pairs before round → IsRound p pairs before (record { share = round.share; cuts = take n round.cuts })
+cut_short p pairs before round n is = record {
+  least = is.least;
+  found = All-take (IsFoundCut p pairs round.share) n round.cuts is.found;
+  states = pairs_take (λ a b. a.state ≢ b.state) n round.cuts is.states;
+}
+
+module _ (p : Case) (pairs : List UnitPair) (snapshot : List CutLine) (rounds : List Round) (cuts : List CutLine) (known : All (IsCut p) snapshot) (w : IsWorkedList p pairs snapshot rounds cuts) where
+  -- the cuts of a worked list are cuts of the case
+  pub worked_cuts : All (IsCut p) cuts
+  worked_cuts = subst (λ cs. All (IsCut p) cs) (sym w.whole) (rounds_cuts p pairs w.units w.start rounds (beginning_cuts p snapshot w.start known w.begins) w.are_rounds)
+
+  -- and all different, where those of the snapshot are
+  pub worked_differ : AreDifferentCuts snapshot → AreDifferentCuts cuts
+  worked_differ different = subst AreDifferentCuts (sym w.whole)
+      (rounds_differ p pairs w.units w.start rounds (beginning_cuts p snapshot w.start known w.begins) (beginning_differ p snapshot w.start different w.begins) w.are_rounds)
+
+  -- a worked list and a round behind it are a worked list, as long as there is room
+  pub worked_on : (round : Round) → IsRound p pairs cuts round → length cuts + length round.cuts ≤ length snapshot + 4096 → IsWorkedList p pairs snapshot (round ∷ rounds) (cuts ++ round.cuts)
+  worked_on round is room = record {
+    units = w.units;
+    start = w.start;
+    begins = w.begins;
+    are_rounds = (subst (λ cs. IsRound p pairs cs round) w.whole is, w.are_rounds);
+    whole = ap (λ cs. cs ++ round.cuts) w.whole;
+    added = w.added ++ round.cuts;
+    behind = ap (λ cs. cs ++ round.cuts) w.behind ∙ append_assoc snapshot w.added round.cuts;
+    few =
+        let long : length cuts ≡ length snapshot + length w.added = ap length w.behind ∙ length-append snapshot w.added in
+        omega (arith, long, room, length-append w.added round.cuts);
+    different = round_differs p pairs w.units cuts round w.added worked_cuts is (λ c h. subst (λ cs. Contains cs c) (sym w.behind) (Contains-append_right snapshot w.added c h)) w.different;
+  }

@@ -1,0 +1,5 @@
+use Rattle.plan_law.proofs.PublicLaws.{worked_lists_begin}
+use Rattle.plan_law.proofs.law.worked_lists_begin.Goals as goal
+
+pub returns : goal.returns
+returns c = worked_lists_begin

@@ -1,0 +1,44 @@
+-- what planning by rounds rests on
+use Rattle.std.specs.Prelude.{◌+◌, ◌≤◌, ◌++◌, List, [], ◌∷◌, All, length}
+use Rattle.net_core.specs.declared.plan.CutLine.{CutLine}
+use Rattle.net_core.specs.Cases.{Case}
+use Rattle.module_prices.specs.declared.cheapest.UnitPair.{UnitPair}
+use Rattle.plan_terms.specs.Certificates.{IsCut}
+use Rattle.plan_types.specs.declared.quality.Share.{Share}
+use Rattle.master_law.specs.LeastShares.{IsLeastShare}
+use Rattle.master_law.specs.UnitPairs.{AreUnitPairs}
+use Rattle.plan_law.specs.WorkedLists.{Round, AreDifferentCuts, IsBeginning, IsFoundCut, IsRound, IsWorkedList, Lacks}
+
+-- a cut that is found at a least share of cuts isn't one of them
+abbrev pub FoundCutsAreNew : Type 0
+FoundCutsAreNew = (p : Case) (pairs : List UnitPair) (cuts : List CutLine) (share : Share) (cut : CutLine)
+    → AreUnitPairs p.links pairs
+    → All (IsCut p) cuts
+    → IsLeastShare p.links pairs cuts share
+    → IsFoundCut p pairs share cut
+    → Lacks cuts cut
+
+-- what a planning begins with is a worked list without rounds
+abbrev pub WorkedListsBegin : Type 0
+WorkedListsBegin = (p : Case) (pairs : List UnitPair) (snapshot start : List CutLine)
+    → AreUnitPairs p.links pairs
+    → IsBeginning p snapshot start
+    → length start ≤ length snapshot + 4096
+    → IsWorkedList p pairs snapshot [] start
+
+-- a worked list and a round behind it are a worked list, as long as there is room
+abbrev pub WorkedListsGoOn : Type 0
+WorkedListsGoOn = (p : Case) (pairs : List UnitPair) (snapshot : List CutLine) (rounds : List Round) (cuts : List CutLine) (round : Round)
+    → All (IsCut p) snapshot
+    → IsWorkedList p pairs snapshot rounds cuts
+    → IsRound p pairs cuts round
+    → length cuts + length round.cuts ≤ length snapshot + 4096
+    → IsWorkedList p pairs snapshot (round ∷ rounds) (cuts ++ round.cuts)
+
+-- the cuts of a worked list are cuts of the case and all different, where those of the snapshot are
+abbrev pub WorkedListsDiffer : Type 0
+WorkedListsDiffer = (p : Case) (pairs : List UnitPair) (snapshot : List CutLine) (rounds : List Round) (cuts : List CutLine)
+    → All (IsCut p) snapshot
+    → AreDifferentCuts snapshot
+    → IsWorkedList p pairs snapshot rounds cuts
+    → All (IsCut p) cuts × AreDifferentCuts cuts

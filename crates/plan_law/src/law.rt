@@ -1,0 +1,21 @@
+ghost use Rattle.plan_law.specs.Laws.{FoundCutsAreNew, WorkedListsBegin, WorkedListsDiffer, WorkedListsGoOn};
+
+/// A cut that a least share of cuts violates isn't one of them.
+pub fn found_cuts_are_new()
+    ensures { FoundCutsAreNew }
+{}
+
+/// What a planning begins with is a worked list without rounds.
+pub fn worked_lists_begin()
+    ensures { WorkedListsBegin }
+{}
+
+/// A worked list and a round behind it are a worked list, as long as no more than 4,096 cuts are added.
+pub fn worked_lists_go_on()
+    ensures { WorkedListsGoOn }
+{}
+
+/// The cuts of a worked list are cuts of the case and all different, where those of the snapshot are.
+pub fn worked_lists_differ()
+    ensures { WorkedListsDiffer }
+{}
