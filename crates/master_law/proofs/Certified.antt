@@ -54,6 +54,22 @@ given_priced links lines =
           sum_times c e ls,
         )
 
+-- what the pre-installed capacities give along the lines of the first n columns of a basis
+pub given_is : (links : List Link) (n : ℕ) (basis : ℕ → ColumnOf MasterColumn) (amounts : ℕ → ℕ) (lines : List CertificateLine) → AreLinesOf links n basis amounts lines
+    → pos (given links lines) ≡ int_sum n (λ j. pos (amounts j) *ℤ pos (column_given links (basis j).name))
+given_is links n basis amounts lines of =
+    let m = length links in
+    let taken : ℕ → ℕ → ℕ = λ j e. slice_index (column_lengths (basis j).name) e in
+    let fixed : ℕ → ℕ = λ e. slice_index (fixed_of links) e in
+    ap pos (given_priced links lines
+    ∙ (below-same m (λ e. price lines e * fixed e) (λ e. sum_below n (λ j. amounts j * (taken j e * fixed e)))
+    (λ e l. ap (λ x. x * fixed e) (of.price_is e) ∙ sym (times_out n amounts (λ j. taken j e) (fixed e)))
+    ∙ (below-both m n (λ e j. amounts j * (taken j e * fixed e))
+    ∙ below-same n (λ j. sum_below m (λ e. amounts j * (taken j e * fixed e))) (λ j. amounts j * column_given links (basis j).name)
+    (λ j l. below-times m (amounts j) (λ e. taken j e * fixed e) ∙ ap (λ x. amounts j * x) (sym (along_fixed (column_lengths (basis j).name) links))))))
+    ∙ (sym (sum-pos n (λ j. amounts j * column_given links (basis j).name))
+    ∙ sum-same n (λ j. pos (amounts j * column_given links (basis j).name)) (λ j. pos (amounts j) *ℤ pos (column_given links (basis j).name)) (λ j l. sym (pos-*ℤ-pos (amounts j) (column_given links (basis j).name))))
+
 cost_sum : (pairs : List UnitPair) (units : List ℕ) → sum_by (λ p. p.0.cost * p.1) (zip pairs units) ≡ sum_below (length pairs) (λ e. slice_index units e * slice_index (unit_costs pairs) e)
 cost_sum [] units = refl
 cost_sum (p ∷ ps) [] = sym (below-same (suc (length ps)) (λ e. 0 * slice_index (unit_costs (p ∷ ps)) e) (λ e. 0) (λ e l. omega arith) ∙ below-none (suc (length ps)))
@@ -121,28 +137,13 @@ module _ (links : List Link) (pairs : List UnitPair) (cuts : List CutLine) where
         (All-get_or (λ m. cheapest.cost * m.capacity ≤ m.cost * cheapest.capacity) l.modules i cheapest li some.least.least)))
         q.is_pair
 
-    -- what the pre-installed capacities give
-    pub given_is : pos (given links lines) ≡ int_sum (length links) (λ j. pos (amounts j) *ℤ pos (column_given links (basis j).name))
-    given_is =
-        let m = length links in
-        let taken : ℕ → ℕ → ℕ = λ j e. slice_index (column_lengths (basis j).name) e in
-        let fixed : ℕ → ℕ = λ e. slice_index (fixed_of links) e in
-        ap pos (given_priced links lines
-        ∙ (below-same m (λ e. price lines e * fixed e) (λ e. sum_below m (λ j. amounts j * (taken j e * fixed e)))
-        (λ e l. ap (λ x. x * fixed e) (of.price_is e) ∙ sym (times_out m amounts (λ j. taken j e) (fixed e)))
-        ∙ (below-both m m (λ e j. amounts j * (taken j e * fixed e))
-        ∙ below-same m (λ j. sum_below m (λ e. amounts j * (taken j e * fixed e))) (λ j. amounts j * column_given links (basis j).name)
-        (λ j l. below-times m (amounts j) (λ e. taken j e * fixed e) ∙ ap (λ x. amounts j * x) (sym (along_fixed (column_lengths (basis j).name) links))))))
-        ∙ (sym (sum-pos m (λ j. amounts j * column_given links (basis j).name))
-        ∙ sum-same m (λ j. pos (amounts j * column_given links (basis j).name)) (λ j. pos (amounts j) *ℤ pos (column_given links (basis j).name)) (λ j l. sym (pos-*ℤ-pos (amounts j) (column_given links (basis j).name))))
-
     -- what is gained is what is asked for beyond what is given
     gained_is : pos (asked lines) ≡ int_sum (length links) (λ j. pos (amounts j) *ℤ (basis j).gain) +ℤ pos (given links lines)
     gained_is =
         let m = length links in
         let gained : ℤ = int_sum m (λ j. pos (amounts j) *ℤ (basis j).gain) in
         of.asked_is ∙ (sum-same m _ _ (λ j l. distribute_left (basis j).gain (pos (column_given links (basis j).name)) (pos (amounts j)))
-        ∙ (sum-plus m (λ j. pos (amounts j) *ℤ (basis j).gain) (λ j. pos (amounts j) *ℤ pos (column_given links (basis j).name)) ∙ ap (λ x. gained +ℤ x) (sym given_is)))
+        ∙ (sum-plus m (λ j. pos (amounts j) *ℤ (basis j).gain) (λ j. pos (amounts j) *ℤ pos (column_given links (basis j).name)) ∙ ap (λ x. gained +ℤ x) (sym (given_is links m basis amounts lines of))))
 
     -- the raw value of the certificate is the cost of the share, and never negative
     pub raw_is_cost : (share : Share) → length pairs ≡ length links → duals_den ≡ pos share.scale → ((e : ℕ) → e < length links → duals e ≡ pos (slice_index share.units e))

@@ -3,6 +3,8 @@ pub mod Columns
 pub mod Lines
 pub mod Own
 pub mod Packing
+pub mod Shared
 pub mod Shares
 pub mod Slacks
 pub mod Valued
+pub mod WideLines

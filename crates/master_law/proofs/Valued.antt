@@ -18,12 +18,12 @@ use Rattle.simplex_law.proofs.Sums.{sum-same, sum-times, sum-unit}
 use Rattle.master_law.specs.MasterEvidence.{IsRowsDenominator, FillRows, asked_sum, given_sum, AreWideAmounts, HasWideValue}
 use Rattle.master_law.specs.MasterPrograms.{master_bound, column_given, IsMasterColumn}
 
-size_times : (d : ℕ) (z : ℤ) → 0 < d → unsigned_abs z ≤ unsigned_abs (pos d *ℤ z)
+pub size_times : (d : ℕ) (z : ℤ) → 0 < d → unsigned_abs z ≤ unsigned_abs (pos d *ℤ z)
 size_times d z pd = let m : unsigned_abs z * 1 ≤ unsigned_abs z * d = mul-le-mul_left (unsigned_abs z) (omega (arith, pd)) in omega (arith, m, unsigned_abs-mul (pos d) z)
 
 module _ (links : List Link) (pairs : List UnitPair) (cuts : List CutLine) (basis : ℕ → ColumnOf MasterColumn) (duals : ℕ → ℤ) (duals_den : ℤ) (best : IsBest (length links) (master_bound pairs) (IsMasterColumn links pairs cuts) basis duals duals_den) where
   -- the amounts that fill the rows are those of the inverse
-  amount_is : (amounts : ℕ → ℤ) (den : ℕ) → FillRows links pairs cuts basis amounts den → (i : ℕ) (nums : ℕ → ℤ) (d : ℤ) → i < length links → IsRow (length links) (λ j. (basis j).entry) (unit_vector i) nums d
+  pub amount_is : (amounts : ℕ → ℤ) (den : ℕ) → FillRows links pairs cuts basis amounts den → (i : ℕ) (nums : ℕ → ℤ) (d : ℤ) → i < length links → IsRow (length links) (λ j. (basis j).entry) (unit_vector i) nums d
       → amounts i *ℤ d ≡ pos den *ℤ dot (length links) nums (master_bound pairs)
   amount_is amounts den fill i nums d l row =
       let m = length links in
