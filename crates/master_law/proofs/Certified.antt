@@ -5,7 +5,7 @@ use Rattle.std.proofs.lemmas.List.Elements.{All-from_recursion, All-contains, Al
 use Rattle.std.proofs.lemmas.Option.{slice_get_within}
 use Rattle.std.proofs.Math.Nat.{mul-le-mul_left, le_of_mul-le-mul_left}
 use Rattle.std.proofs.Math.IntN.{ℤ, pos, ◌+ℤ◌, ◌*ℤ◌, *ℤ-zero, pos-*ℤ-pos}
-use Rattle.std.specs.Int.Signed.{◌<ℤ◌, ◌≤ℤ◌}
+use Rattle.std.specs.Int.Signed.{◌≤ℤ◌}
 use Rattle.std.proofs.lemmas.Int.{ints}
 use Rattle.module_prices.specs.declared.cheapest.UnitPair.{UnitPair}
 use Rattle.net_core.specs.declared.columns.MasterColumn.{MasterColumn}
@@ -22,8 +22,9 @@ use Rattle.plan_types.specs.declared.quality.Share.{Share}
 use Rattle.route_law.proofs.Rows.{sum-pos, below-both}
 use Rattle.simplex_law.specs.Sums.{int_sum, dot, unit_vector}
 use Rattle.simplex_law.specs.Programs.{ColumnOf, IsSlack}
-use Rattle.simplex_law.specs.Optima.{IsOptimum}
-use Rattle.simplex_law.proofs.Arithmetic.{distribute_left, le_times, le_cancel}
+use Rattle.simplex_law.specs.Optima.{IsOptimum, FitBounds}
+use Rattle.simplex_law.proofs.Optimal.{greatest}
+use Rattle.simplex_law.proofs.Arithmetic.{distribute_left, le_times}
 use Rattle.simplex_law.proofs.Sums.{sum-same, sum-le, sum-plus}
 use Rattle.master_law.specs.BasisLines.{AreLinesOf}
 use Rattle.master_law.specs.MasterPrograms.{master_bound, master_slack, unit_capacities, unit_costs, column_lengths, column_given, IsCutColumn, IsMasterColumn}
@@ -34,15 +35,13 @@ times_out : (n : ℕ) (v f : ℕ → ℕ) (c : ℕ) → sum_below n (λ j. v j *
 times_out zero v f c = omega arith
 times_out (suc n) v f c = omega (arith, times_out n v f c)
 
--- what the pre-installed capacities give at the prices of the lines
-pub given_priced : (links : List Link) (lines : List CertificateLine) → given links lines ≡ sum_below (length links) (λ e. price lines e * slice_index (fixed_of links) e)
-given_priced links lines =
-    sums-equal (λ (l : CertificateLine). l.num * fixed_along l.cut.lengths links) (λ l. sum_below (length links) (λ e. l.num * slice_index l.cut.lengths e * slice_index (fixed_of links) e)) lines
-    (λ l. ap (λ s. l.num * s) (along_fixed l.cut.lengths links)
-    ∙ (sym (below-times (length links) l.num (λ e. slice_index l.cut.lengths e * slice_index (fixed_of links) e))
-    ∙ below-same (length links) _ (λ e. l.num * slice_index l.cut.lengths e * slice_index (fixed_of links) e) (λ e h. omega arith)))
-    ∙ (sym (below-swapped (length links) (λ e l. l.num * slice_index l.cut.lengths e * slice_index (fixed_of links) e) lines)
-    ∙ below-same (length links) _ (λ e. price lines e * slice_index (fixed_of links) e) (λ e h. sum_times (slice_index (fixed_of links) e) e lines))
+-- a sum along the lengths of lines is one at their prices
+pub priced_sum : (n : ℕ) (f : ℕ → ℕ) (lines : List CertificateLine) → sum_by (λ l. l.num * sum_below n (λ e. slice_index l.cut.lengths e * f e)) lines ≡ sum_below n (λ e. price lines e * f e)
+priced_sum n f lines =
+    sums-equal (λ (l : CertificateLine). l.num * sum_below n (λ e. slice_index l.cut.lengths e * f e)) (λ l. sum_below n (λ e. l.num * slice_index l.cut.lengths e * f e)) lines
+    (λ l. sym (below-times n l.num (λ e. slice_index l.cut.lengths e * f e)) ∙ below-same n _ (λ e. l.num * slice_index l.cut.lengths e * f e) (λ e h. omega arith))
+    ∙ (sym (below-swapped n (λ e l. l.num * slice_index l.cut.lengths e * f e) lines)
+    ∙ below-same n _ (λ e. price lines e * f e) (λ e h. sum_times (f e) e lines))
   where
     sum_times : (c e : ℕ) (ls : List CertificateLine) → sum_by (λ l. l.num * slice_index l.cut.lengths e * c) ls ≡ price ls e * c
     sum_times c e [] = omega arith
@@ -53,6 +52,12 @@ given_priced links lines =
           ap (λ s. s * c) (sum_by-cons (λ (k : CertificateLine). k.num * slice_index k.cut.lengths e) l ls),
           sum_times c e ls,
         )
+
+-- what the pre-installed capacities give at the prices of the lines
+given_priced : (links : List Link) (lines : List CertificateLine) → given links lines ≡ sum_below (length links) (λ e. price lines e * slice_index (fixed_of links) e)
+given_priced links lines =
+    sums-equal (λ (l : CertificateLine). l.num * fixed_along l.cut.lengths links) (λ l. l.num * sum_below (length links) (λ e. slice_index l.cut.lengths e * slice_index (fixed_of links) e)) lines (λ l. ap (λ s. l.num * s) (along_fixed l.cut.lengths links))
+    ∙ priced_sum (length links) (λ e. slice_index (fixed_of links) e) lines
 
 -- what the pre-installed capacities give along the lines of the first n columns of a basis
 pub given_is : (links : List Link) (n : ℕ) (basis : ℕ → ColumnOf MasterColumn) (amounts : ℕ → ℕ) (lines : List CertificateLine) → AreLinesOf links n basis amounts lines
@@ -70,7 +75,7 @@ given_is links n basis amounts lines of =
     ∙ (sym (sum-pos n (λ j. amounts j * column_given links (basis j).name))
     ∙ sum-same n (λ j. pos (amounts j * column_given links (basis j).name)) (λ j. pos (amounts j) *ℤ pos (column_given links (basis j).name)) (λ j l. sym (pos-*ℤ-pos (amounts j) (column_given links (basis j).name))))
 
-cost_sum : (pairs : List UnitPair) (units : List ℕ) → sum_by (λ p. p.0.cost * p.1) (zip pairs units) ≡ sum_below (length pairs) (λ e. slice_index units e * slice_index (unit_costs pairs) e)
+pub cost_sum : (pairs : List UnitPair) (units : List ℕ) → sum_by (λ p. p.0.cost * p.1) (zip pairs units) ≡ sum_below (length pairs) (λ e. slice_index units e * slice_index (unit_costs pairs) e)
 cost_sum [] units = refl
 cost_sum (p ∷ ps) [] = sym (below-same (suc (length ps)) (λ e. 0 * slice_index (unit_costs (p ∷ ps)) e) (λ e. 0) (λ e l. omega arith) ∙ below-none (suc (length ps)))
 cost_sum (p ∷ ps) (u ∷ us) = omega (arith, sum_by-cons (λ (q : UnitPair × ℕ). q.0.cost * q.1) (p, u) (zip ps us), below-first (length ps) (λ e. slice_index (u ∷ us) e * slice_index (unit_costs (p ∷ ps)) e), cost_sum ps us)
@@ -145,7 +150,19 @@ module _ (links : List Link) (pairs : List UnitPair) (cuts : List CutLine) where
         of.asked_is ∙ (sum-same m _ _ (λ j l. distribute_left (basis j).gain (pos (column_given links (basis j).name)) (pos (amounts j)))
         ∙ (sum-plus m (λ j. pos (amounts j) *ℤ (basis j).gain) (λ j. pos (amounts j) *ℤ pos (column_given links (basis j).name)) ∙ ap (λ x. gained +ℤ x) (sym (given_is links m basis amounts lines of))))
 
-    -- the raw value of the certificate is the cost of the share, and never negative
+    -- the gain is the raw value, and never negative
+    pub raw_is_gained : (given links lines ≤ asked lines) × (int_sum (length links) (λ j. pos (amounts j) *ℤ (basis j).gain) ≡ pos (raw_value links lines))
+    raw_is_gained =
+        let m = length links in
+        let gained : ℤ = int_sum m (λ j. pos (amounts j) *ℤ (basis j).gain) in
+        let nothing : FitBounds 0 m (λ c. (basis c).entry) (master_bound pairs) (λ c. pos 0) (pos 1) =
+        record { positive = omega (arith, ints); amounts_positive = λ c l. absurd (omega (arith, l)); within = λ e l. omega (arith, ints) } in
+        let best = greatest m (master_bound pairs) master_slack (IsCutColumn links pairs cuts) basis (λ j. pos (amounts j)) duals (pos den) duals_den o 0 basis (λ c. pos 0) (pos 1) (λ c l. absurd (omega (arith, l))) nothing in
+        let high : pos 0 ≤ℤ gained = omega (arith, ints, best, *ℤ-zero (pos den)) in
+        let le : given links lines ≤ asked lines = omega (arith, ints, gained_is, high) in
+        (le, omega (arith, ints, gained_is, le))
+
+    -- the raw value of the certificate is the cost of the share
     pub raw_is_cost : (share : Share) → length pairs ≡ length links → duals_den ≡ pos share.scale → ((e : ℕ) → e < length links → duals e ≡ pos (slice_index share.units e))
         → (given links lines ≤ asked lines) × (raw_value links lines * share.scale ≡ share_cost pairs share * den)
     raw_is_cost share count_pairs scale units =
@@ -159,10 +176,6 @@ module _ (links : List Link) (pairs : List UnitPair) (cuts : List CutLine) where
         ∙ ap pos (ap (λ n. sum_below n (λ e. slice_index share.units e * slice_index (unit_costs pairs) e)) (sym count_pairs) ∙ sym (cost_sum pairs share.units))) in
         let equal : pos share.scale *ℤ gained ≡ pos (den * cost) =
         ap (λ x. x *ℤ gained) (sym scale) ∙ (o.equal ∙ (ap (λ x. pos den *ℤ x) worth ∙ pos-*ℤ-pos den cost)) in
-        let over : pos 0 <ℤ pos share.scale = subst (λ x. pos 0 <ℤ x) scale o.best.objective.0 in
-        let high : pos 0 ≤ℤ gained = le_cancel (pos share.scale) (pos 0) gained over (subst (λ x. x ≤ℤ (pos share.scale *ℤ gained)) (sym (*ℤ-zero (pos share.scale))) (subst (λ x. pos 0 ≤ℤ x) (sym equal) (omega (arith, ints)))) in
-        let le : given links lines ≤ asked lines = omega (arith, ints, gained_is, high) in
-        let raw : gained ≡ pos (raw_value links lines) = omega (arith, ints, gained_is, le) in
         let whole : pos (share.scale * raw_value links lines) ≡ pos (den * cost) =
-        sym (pos-*ℤ-pos share.scale (raw_value links lines)) ∙ (ap (λ x. pos share.scale *ℤ x) (sym raw) ∙ equal) in
-        (le, omega (arith, ints, whole))
+        sym (pos-*ℤ-pos share.scale (raw_value links lines)) ∙ (ap (λ x. pos share.scale *ℤ x) (sym raw_is_gained.1) ∙ equal) in
+        (raw_is_gained.0, omega (arith, ints, whole))

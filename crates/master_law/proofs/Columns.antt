@@ -1,7 +1,8 @@
 -- columns of cuts, and sums over the links
-use Rattle.std.proofs.Common.{◌≡◌, ℕ, ◌*◌, ◌<◌, List, [], ◌∷◌, All, Contains, Some, length, zip, slice_get, slice_index, get_or, refl, sym, ◌∙◌, arith, subst}
+use Rattle.std.proofs.Common.{◌≡◌, ℕ, ◌*◌, ◌<◌, ◌≤◌, List, [], ◌∷◌, All, Contains, Some, length, zip, slice_get, slice_index, get_or, refl, sym, ap, ◌∙◌, arith, subst, ⊎_elim}
 use Rattle.std.proofs.lemmas.List.{get_or-map}
-use Rattle.std.proofs.lemmas.List.Elements.{All-get_or}
+use Rattle.std.proofs.lemmas.List.Elements.{All-contains, All-get_or}
+use Rattle.std.proofs.Math.Nat.{mul-le-mul_left, le_of_mul-le-mul_left}
 use Rattle.std.proofs.lemmas.List.Sums.{sum_by-cons}
 use Rattle.std.proofs.lemmas.Option.{slice_get-get_or, slice_get_within, get_or_from_slice_get}
 use Rattle.module_prices.specs.declared.cheapest.UnitPair.{UnitPair}
@@ -61,3 +62,26 @@ module _ (links : List Link) (pairs : List UnitPair) (sound : All (λ l. All IsM
       let none : Link = record { name = []; a = record { 0 = 0 }; b = record { 0 = 0 }; fixed = 0; setup = 0; modules = [] } in
       let at = slice_get-get_or links e none l in
       (get_or links e none, at, pair_at e (get_or links e none) at)
+
+-- a unit's price is at most its cost where a cheapest module's is
+unit_valid : (x den c k capacity cost : ℕ) → x * capacity ≤ den * cost → cost * c ≡ k * capacity → 0 < capacity → x * c ≤ den * k
+unit_valid x den c k capacity cost low same pa =
+    let m : c * (x * capacity) ≤ c * (den * cost) = mul-le-mul_left c low in
+    let n : capacity * (x * c) ≤ capacity * (den * k) = omega (arith, m, ap (λ s. den * s) same) in
+    le_of_mul-le-mul_left n pa
+
+-- where no module's price exceeds its cost, no unit's does
+pub unit_at_most : (links : List Link) (pairs : List UnitPair) → All (λ l. All IsModule l.modules) links → AreUnitPairs links pairs → (x : ℕ → ℕ) (den : ℕ)
+    → ((e : ℕ) (l : Link) → slice_get links e ≡ Some l → All (λ m. x e * m.capacity ≤ den * m.cost) l.modules)
+    → (e : ℕ) → e < length links → x e * slice_index (unit_capacities pairs) e ≤ den * slice_index (unit_costs pairs) e
+unit_at_most links pairs sound units x den priced e inside =
+    let q = pair_below links pairs sound units e inside in
+    let l : Link = q.0 in
+    let p : UnitPair = q.2.pair in
+    let low : x e * p.capacity ≤ den * p.cost = ⊎_elim
+    (λ empty. let z : x e * p.capacity ≡ 0 = ap (λ y. x e * y) empty.1 ∙ omega arith in omega (arith, z))
+    (λ some. let cheapest = some.cheapest in
+    let pa : 0 < cheapest.capacity = (All-contains IsModule l.modules cheapest q.2.modules some.least.one).carries in
+    unit_valid (x e) den p.capacity p.cost cheapest.capacity cheapest.cost (All-contains (λ m. x e * m.capacity ≤ den * m.cost) l.modules cheapest (priced e l q.1) some.least.one) some.lowest.same pa)
+    q.2.is_pair in
+    omega (arith, low, ap (λ y. x e * y) q.2.capacity, ap (λ y. den * y) q.2.cost)

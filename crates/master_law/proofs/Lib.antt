@@ -1,5 +1,7 @@
 pub mod Certified
 pub mod Columns
+pub mod Greatest
+pub mod Laws
 pub mod Lines
 pub mod Own
 pub mod Packing

@@ -2,7 +2,6 @@
 use Rattle.std.proofs.Common.{◌≡◌, ◌≢◌, ℕ, ◌-◌, ◌*◌, ◌<◌, ◌≤◌, ◌⊎◌, List, All, Contains, length, slice_index, ap, ◌∙◌, arith, subst, inl, inr, ⊎_elim}
 use Rattle.std.specs.Int.{◌∣◌}
 use Rattle.std.proofs.lemmas.Bool.{cases_eq, cases_lt}
-use Rattle.std.proofs.lemmas.List.Elements.{All-contains}
 use Rattle.std.proofs.lemmas.Nat.Gcd.{dvd_trans}
 use Rattle.std.proofs.Math.Nat.{mul-le-mul_left, le_of_mul-le-mul_left, eq-zero_of_zero-dvd, mul-sub}
 use Rattle.std.proofs.Math.IntN.{ℤ, pos, ◌-ℤ◌, ◌*ℤ◌, pos-*ℤ-pos}
@@ -23,29 +22,11 @@ use Rattle.simplex_law.proofs.Arithmetic.{minus_left}
 use Rattle.simplex_law.proofs.Optimal.{greatest}
 use Rattle.master_law.specs.MasterPrograms.{master_bound, master_slack, unit_capacities, unit_costs, IsCutColumn, IsMasterColumn}
 use Rattle.master_law.specs.UnitPairs.{AreUnitPairs}
-use Rattle.master_law.proofs.Columns.{column_of, is_column_of, pair_below}
-
--- a unit's price is at most its cost where a cheapest module's is
-unit_valid : (x den c k capacity cost : ℕ) → x * capacity ≤ den * cost → cost * c ≡ k * capacity → 0 < capacity → x * c ≤ den * k
-unit_valid x den c k capacity cost low same pa =
-    let m : c * (x * capacity) ≤ c * (den * cost) = mul-le-mul_left c low in
-    let n : capacity * (x * c) ≤ capacity * (den * k) = omega (arith, m, ap (λ s. den * s) same) in
-    le_of_mul-le-mul_left n pa
+use Rattle.master_law.proofs.Columns.{column_of, is_column_of, unit_at_most}
 
 module _ (links : List Link) (pairs : List UnitPair) (cuts : List CutLine) (sound : All (λ l. All IsModule l.modules) links) (units : AreUnitPairs links pairs) (cut : CutLine) (held : Contains cuts cut) (num over : ℕ) (valid : IsValid links cut.lengths num over) where
   unit_low : (e : ℕ) → e < length links → num * slice_index cut.lengths e * slice_index (unit_capacities pairs) e ≤ over * slice_index (unit_costs pairs) e
-  unit_low e inside =
-      let q = pair_below links pairs sound units e inside in
-      let l : Link = q.0 in
-      let p : UnitPair = q.2.pair in
-      let low : num * slice_index cut.lengths e * p.capacity ≤ over * p.cost = ⊎_elim
-      (λ empty. let z : num * slice_index cut.lengths e * p.capacity ≡ 0 = ap (λ x. num * slice_index cut.lengths e * x) empty.1 ∙ omega arith in omega (arith, z))
-      (λ some. let cheapest = some.cheapest in
-      let pa : 0 < cheapest.capacity = (All-contains IsModule l.modules cheapest q.2.modules some.least.one).carries in
-      unit_valid (num * slice_index cut.lengths e) over p.capacity p.cost cheapest.capacity cheapest.cost
-      (All-contains (λ m. num * slice_index cut.lengths e * m.capacity ≤ over * m.cost) l.modules cheapest (valid.priced e l q.1) some.least.one) some.lowest.same pa)
-      q.2.is_pair in
-      omega (arith, low, ap (λ x. num * slice_index cut.lengths e * x) q.2.capacity, ap (λ x. over * x) q.2.cost)
+  unit_low e inside = unit_at_most links pairs sound units (λ e. num * slice_index cut.lengths e) over valid.priced e inside
 
   -- the cut's multiplier fits
   fits : FitBounds 1 (length links) (λ c. (column_of links pairs cut).entry) (master_bound pairs) (λ c. pos num) (pos over)

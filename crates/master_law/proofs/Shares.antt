@@ -30,7 +30,7 @@ abbrev capacity_of : ℕ → Link × (UnitPair × ℕ) → ℕ
 capacity_of scale p = p.0.fixed * scale + p.1.0.capacity * p.1.1
 
 -- the capacities of a share along lengths
-along_share : (scale : ℕ) (links : List Link) (pairs : List UnitPair) (units lengths : List ℕ) → length pairs ≡ length links → length units ≡ length links → length lengths ≡ length links
+pub along_share : (scale : ℕ) (links : List Link) (pairs : List UnitPair) (units lengths : List ℕ) → length pairs ≡ length links → length units ≡ length links → length lengths ≡ length links
     → sum_by (λ p. p.0 * p.1) (zip lengths (map (λ p. p.0.fixed * scale + p.1.0.capacity * p.1.1) (zip links (zip pairs units))))
     ≡ scale * fixed_along lengths links + sum_below (length links) (λ e. slice_index units e * (slice_index lengths e * slice_index (unit_capacities pairs) e))
 along_share scale [] pairs units [] cp cu cl = omega arith

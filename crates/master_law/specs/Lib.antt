@@ -1,4 +1,5 @@
 pub mod BasisLines
+pub mod Laws
 pub mod LeastShares
 pub mod MasterEvidence
 pub mod MasterPrograms

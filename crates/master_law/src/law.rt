@@ -1,0 +1,26 @@
+ghost use Rattle.master_law.specs.Laws.{BasisLinesCertify, BoundRises, LeastShareViolatesNone, NoCertificateIsGreater, RawValueIsShareCost};
+
+/// A least share of cuts violates none of them.
+pub fn least_share_violates_none()
+    ensures { LeastShareViolatesNone }
+{}
+
+/// The cuts of a best basis of the master program, with their amounts, are a valid certificate.
+pub fn basis_lines_certify()
+    ensures { BasisLinesCertify }
+{}
+
+/// The raw value of that certificate is the cost of the share of the basis, and isn't below 0.
+pub fn raw_value_is_share_cost()
+    ensures { RawValueIsShareCost }
+{}
+
+/// The bound of that certificate is at least the own bound of each cut of the list.
+pub fn bound_rises()
+    ensures { BoundRises }
+{}
+
+/// No certificate over the cuts of a list has a greater raw value than a least share of them costs.
+pub fn no_certificate_is_greater()
+    ensures { NoCertificateIsGreater }
+{}
