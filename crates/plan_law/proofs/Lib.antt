@@ -1,4 +1,5 @@
 pub mod Begun
+pub mod Greatest
 pub mod Pairs
 pub mod PublicLaws
 pub mod Rounds

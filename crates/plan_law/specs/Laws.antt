@@ -1,12 +1,16 @@
 -- what planning by rounds rests on
-use Rattle.std.specs.Prelude.{◌+◌, ◌≤◌, ◌++◌, List, [], ◌∷◌, All, length}
+use Rattle.std.specs.Prelude.{ℕ, ◌+◌, ◌*◌, ◌≤◌, ◌++◌, List, [], ◌∷◌, All, length}
 use Rattle.net_core.specs.declared.plan.CutLine.{CutLine}
 use Rattle.net_core.specs.Cases.{Case}
 use Rattle.module_prices.specs.declared.cheapest.UnitPair.{UnitPair}
-use Rattle.plan_terms.specs.Certificates.{IsCut}
+use Rattle.net_core.specs.Network.{IsModule}
+use Rattle.plan_terms.specs.Certificates.{CertificateLine, IsCertificate, IsCut, raw_value}
+use Rattle.plan_types.specs.declared.plan.Plan.{Plan}
+use Rattle.plan_types.specs.declared.quality.Fractional.{Fractional}
 use Rattle.plan_types.specs.declared.quality.Share.{Share}
 use Rattle.master_law.specs.LeastShares.{IsLeastShare}
 use Rattle.master_law.specs.UnitPairs.{AreUnitPairs}
+use Rattle.plan_law.specs.TightPlans.{IsTightPlan}
 use Rattle.plan_law.specs.WorkedLists.{Round, AreDifferentCuts, IsBeginning, IsFoundCut, IsRound, IsWorkedList, Lacks}
 
 -- a cut that is found at a least share of cuts isn't one of them
@@ -42,3 +46,11 @@ WorkedListsDiffer = (p : Case) (pairs : List UnitPair) (snapshot : List CutLine)
     → AreDifferentCuts snapshot
     → IsWorkedList p pairs snapshot rounds cuts
     → All (IsCut p) cuts × AreDifferentCuts cuts
+
+-- no certificate, of any cuts, has a greater raw value than a tight plan
+abbrev pub TightIsGreatest : Type 0
+TightIsGreatest = (p : Case) (pairs : List UnitPair) (plan : Plan) (fractional : Fractional) (den : ℕ) (lines : List CertificateLine)
+    → All (λ l. All IsModule l.modules) p.links
+    → IsTightPlan p pairs plan fractional
+    → IsCertificate p den lines
+    → raw_value p.links lines * plan.raw_den ≤ plan.raw_num * den

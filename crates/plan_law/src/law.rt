@@ -1,4 +1,4 @@
-ghost use Rattle.plan_law.specs.Laws.{FoundCutsAreNew, WorkedListsBegin, WorkedListsDiffer, WorkedListsGoOn};
+ghost use Rattle.plan_law.specs.Laws.{FoundCutsAreNew, TightIsGreatest, WorkedListsBegin, WorkedListsDiffer, WorkedListsGoOn};
 
 /// A cut that a least share of cuts violates isn't one of them.
 pub fn found_cuts_are_new()
@@ -18,4 +18,9 @@ pub fn worked_lists_go_on()
 /// The cuts of a worked list are cuts of the case and all different, where those of the snapshot are.
 pub fn worked_lists_differ()
     ensures { WorkedListsDiffer }
+{}
+
+/// No certificate, of whatever cuts, has a greater raw value than a tight plan.
+pub fn tight_is_greatest()
+    ensures { TightIsGreatest }
 {}
