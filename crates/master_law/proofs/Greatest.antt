@@ -1,5 +1,5 @@
 -- no certificate over the cuts of a list has a raw value above what a least share of them costs
-use Rattle.std.proofs.Common.{◌≡◌, ℕ, ◌+◌, ◌-◌, ◌*◌, ◌≤◌, List, [], ◌∷◌, All, Contains, length, sum_by, slice_index, sym, ap, ◌∙◌, arith, ⊎_elim}
+use Rattle.std.proofs.Common.{◌≡◌, ℕ, ◌+◌, ◌-◌, ◌*◌, ◌≤◌, List, [], ◌∷◌, All, Contains, length, sum_by, get_or, slice_index, sym, ap, ◌∙◌, arith, ⊎_elim}
 use Rattle.std.proofs.lemmas.Bool.{cases_lt}
 use Rattle.std.proofs.lemmas.List.Sums.{sum_by-cons}
 use Rattle.std.proofs.lemmas.List.Elements.{recursion_from_All}
@@ -13,10 +13,11 @@ use Rattle.net_core.specs.Network.{IsModule}
 use Rattle.net_core.specs.Sums.{sum_below}
 use Rattle.net_core.proofs.Sums.{below-same, below-le, below-times}
 use Rattle.plan_terms.specs.Certificates.{CertificateLine, IsCertificate, price, asked, fixed_along, given, raw_value}
+use Rattle.plan_terms.specs.Violations.{Violates}
 use Rattle.plan_types.specs.declared.quality.Share.{Share}
 use Rattle.master_law.specs.LeastShares.{IsLeastShare}
 use Rattle.master_law.specs.MasterPrograms.{unit_capacities, unit_costs}
-use Rattle.master_law.specs.UnitPairs.{AreUnitPairs, share_cost}
+use Rattle.master_law.specs.UnitPairs.{AreUnitPairs, share_caps, share_cost}
 use Rattle.master_law.proofs.Certified.{cost_sum, priced_sum}
 use Rattle.master_law.proofs.Columns.{unit_at_most}
 use Rattle.master_law.proofs.Shares.{along_share, least_violates_none}
@@ -43,23 +44,24 @@ module _ (links : List Link) (pairs : List UnitPair) (share : Share) where
         sum_by-cons (λ (k : CertificateLine). k.num * taken k.cut) l ls,
       )
 
-  meets : (cuts : List CutLine) (cut : CutLine) → length pairs ≡ length links → length cut.lengths ≡ length links → IsLeastShare links pairs cuts share → Contains cuts cut → Meets cut
-  meets cuts cut count_pairs count least held = ⊎_elim
-      (λ less. absurd (least_violates_none links pairs cuts share cut count_pairs count least held (omega (arith, less, along_share share.scale links pairs share.units cut.lengths count_pairs least.count count, order))))
+  meets : (cut : CutLine) → length pairs ≡ length links → length share.units ≡ length links → length cut.lengths ≡ length links → (Violates (share_caps links pairs share) cut → ⊥) → Meets cut
+  meets cut count_pairs count_units count unviolated = ⊎_elim
+      (λ less. absurd (unviolated (omega (arith, less, along_share share.scale links pairs share.units cut.lengths count_pairs count_units count, order))))
       (λ more. omega (arith, more))
       (cases_lt (share.scale * fixed_along cut.lengths links + taken cut) (cut.right * share.scale))
     where
       order : sum_below (length links) (λ e. slice_index share.units e * (slice_index cut.lengths e * slice_index (unit_capacities pairs) e)) ≡ taken cut
       order = below-same (length links) _ _ (λ e l. omega arith)
 
-pub greatest_raw : (p : Case) (pairs : List UnitPair) (cuts : List CutLine) (share : Share) (den : ℕ) (lines : List CertificateLine) → All (λ l. All IsModule l.modules) p.links → AreUnitPairs p.links pairs
-    → IsLeastShare p.links pairs cuts share → IsCertificate p den lines → All (λ l. Contains cuts l.cut) lines → raw_value p.links lines * share.scale ≤ share_cost pairs share * den
-greatest_raw p pairs cuts share den lines sound units least is listed =
+-- no certificate of cuts that a share doesn't violate has a raw value above what the share costs
+pub unviolated_raw : (p : Case) (pairs : List UnitPair) (share : Share) (den : ℕ) (lines : List CertificateLine) → All (λ l. All IsModule l.modules) p.links → AreUnitPairs p.links pairs → length share.units ≡ length p.links
+    → IsCertificate p den lines → All (λ l. Violates (share_caps p.links pairs share) l.cut → ⊥) lines → raw_value p.links lines * share.scale ≤ share_cost pairs share * den
+unviolated_raw p pairs share den lines sound units count is unviolated =
     let n = length p.links in
     let capacity : ℕ → ℕ = λ e. slice_index (unit_capacities pairs) e in
     let cost : ℕ → ℕ = λ e. slice_index (unit_costs pairs) e in
     let unit : ℕ → ℕ = λ e. slice_index share.units e in
-    let met = all_meet p.links pairs share lines (recursion_from_All (λ l. Meets p.links pairs share l.cut) lines (λ k d lt. meets p.links pairs share cuts _ units.count (is.each k d lt).kept.count least (listed k d lt))) in
+    let met = all_meet p.links pairs share lines (recursion_from_All (λ l. Meets p.links pairs share l.cut) lines (λ k d lt. meets p.links pairs share (get_or lines k d).cut units.count count (is.each k d lt).kept.count (unviolated k d lt))) in
     let sums = priced_sum n (λ e. unit e * capacity e) lines in
     let low = below-le n (λ e. price lines e * (unit e * capacity e)) (λ e. den * (unit e * cost e)) (λ e l. times (price lines e) (capacity e) den (cost e) (unit e) (unit_at_most p.links pairs sound units (price lines) den is.priced e l)) in
     let paid : sum_below n (λ e. den * (unit e * cost e)) ≡ den * share_cost pairs share = below-times n den (λ e. unit e * cost e) ∙ ap (λ s. den * s) (ap (λ m. sum_below m (λ e. unit e * cost e)) (sym units.count) ∙ sym (cost_sum pairs share.units)) in
@@ -70,3 +72,8 @@ greatest_raw p pairs cuts share den lines sound units least is listed =
 
     minus : (a b c : ℕ) → a * share.scale ≤ share.scale * b + c → (a - b) * share.scale ≤ c
     minus a b c h = omega (arith, h, mul-sub share.scale a b)
+
+pub greatest_raw : (p : Case) (pairs : List UnitPair) (cuts : List CutLine) (share : Share) (den : ℕ) (lines : List CertificateLine) → All (λ l. All IsModule l.modules) p.links → AreUnitPairs p.links pairs
+    → IsLeastShare p.links pairs cuts share → IsCertificate p den lines → All (λ l. Contains cuts l.cut) lines → raw_value p.links lines * share.scale ≤ share_cost pairs share * den
+greatest_raw p pairs cuts share den lines sound units least is listed =
+    unviolated_raw p pairs share den lines sound units least.count is (λ k d lt v. least_violates_none p.links pairs cuts share (get_or lines k d).cut units.count (is.each k d lt).kept.count least (listed k d lt) v)

@@ -1,4 +1,5 @@
 pub mod Begun
+pub mod Covering
 pub mod Greatest
 pub mod Pairs
 pub mod PublicLaws

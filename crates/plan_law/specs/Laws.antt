@@ -1,16 +1,21 @@
 -- what planning by rounds rests on
 use Rattle.std.specs.Prelude.{ℕ, ◌+◌, ◌*◌, ◌≤◌, ◌++◌, List, [], ◌∷◌, All, length}
 use Rattle.net_core.specs.declared.plan.CutLine.{CutLine}
-use Rattle.net_core.specs.Cases.{Case}
+use Rattle.net_core.specs.declared.plan.Routing.{Routing}
+use Rattle.net_core.specs.Cases.{Case, graph_in}
+use Rattle.net_core.specs.Demands.{AreDemands}
+use Rattle.net_core.specs.Graphs.{Joins}
 use Rattle.module_prices.specs.declared.cheapest.UnitPair.{UnitPair}
 use Rattle.net_core.specs.Network.{IsModule}
+use Rattle.plan_terms.specs.Capacities.{capacities}
 use Rattle.plan_terms.specs.Certificates.{CertificateLine, IsCertificate, IsCut, raw_value}
+use Rattle.plan_terms.specs.Flows.{Carries}
 use Rattle.plan_types.specs.declared.plan.Plan.{Plan}
 use Rattle.plan_types.specs.declared.quality.Fractional.{Fractional}
 use Rattle.plan_types.specs.declared.quality.Share.{Share}
 use Rattle.master_law.specs.LeastShares.{IsLeastShare}
-use Rattle.master_law.specs.UnitPairs.{AreUnitPairs}
-use Rattle.plan_law.specs.TightPlans.{IsTightPlan}
+use Rattle.master_law.specs.UnitPairs.{AreUnitPairs, share_caps}
+use Rattle.plan_law.specs.TightPlans.{CoversShare, IsProperShare, IsTightPlan}
 use Rattle.plan_law.specs.WorkedLists.{Round, AreDifferentCuts, IsBeginning, IsFoundCut, IsRound, IsWorkedList, Lacks}
 
 -- a cut that is found at a least share of cuts isn't one of them
@@ -54,3 +59,13 @@ TightIsGreatest = (p : Case) (pairs : List UnitPair) (plan : Plan) (fractional :
     → IsTightPlan p pairs plan fractional
     → IsCertificate p den lines
     → raw_value p.links lines * plan.raw_den ≤ plan.raw_num * den
+
+-- counts that cover a share carry what the share carries, over a denominator that is its scale times as large
+abbrev pub CoversCarry : Type 0
+CoversCarry = (p : Case) (pairs : List UnitPair) (share : Share) (counts : List (List ℕ)) (s : ℕ) (routing : Routing)
+    → AreUnitPairs p.links pairs
+    → AreDemands (length p.nodes) p.demands
+    → IsProperShare p.links share
+    → CoversShare p.links pairs share counts
+    → Carries (Joins (graph_in p s)) p.demands share.scale (share_caps p.links pairs share).nums routing
+    → Carries (Joins (graph_in p s)) p.demands 1 (capacities p.links counts) (record { den = share.scale * routing.den; flows = routing.flows })

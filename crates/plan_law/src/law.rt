@@ -1,4 +1,4 @@
-ghost use Rattle.plan_law.specs.Laws.{FoundCutsAreNew, TightIsGreatest, WorkedListsBegin, WorkedListsDiffer, WorkedListsGoOn};
+ghost use Rattle.plan_law.specs.Laws.{CoversCarry, FoundCutsAreNew, TightIsGreatest, WorkedListsBegin, WorkedListsDiffer, WorkedListsGoOn};
 
 /// A cut that a least share of cuts violates isn't one of them.
 pub fn found_cuts_are_new()
@@ -23,4 +23,9 @@ pub fn worked_lists_differ()
 /// No certificate, of whatever cuts, has a greater raw value than a tight plan.
 pub fn tight_is_greatest()
     ensures { TightIsGreatest }
+{}
+
+/// Counts that cover a share carry the demands in each state in which the share does, so their capacities violate no cut of it.
+pub fn covers_carry()
+    ensures { CoversCarry }
 {}
