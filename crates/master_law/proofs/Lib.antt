@@ -1,5 +1,6 @@
 pub mod Certified
 pub mod Columns
+pub mod Examples
 pub mod Greatest
 pub mod Laws
 pub mod Lines
