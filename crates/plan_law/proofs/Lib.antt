@@ -1,5 +1,6 @@
 pub mod Begun
 pub mod Covering
+pub mod Examples
 pub mod Greatest
 pub mod Pairs
 pub mod PublicLaws

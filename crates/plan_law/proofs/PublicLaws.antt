@@ -1,8 +1,8 @@
 -- the laws of the crate, from its lemmas
 use Rattle.std.proofs.Common.{get_or, sym}
 use Rattle.std.proofs.lemmas.List.Elements.{Contains-get_or}
-use Rattle.plan_law.specs.Laws.{FoundCutsAreNew, WorkedListsBegin, WorkedListsDiffer, WorkedListsGoOn}
-use Rattle.plan_law.proofs.Rounds.{begun_worked, found_is_new, worked_cuts, worked_differ, worked_on}
+use Rattle.plan_law.specs.Laws.{FoundCutsAreNew, WorkedListsBegin, WorkedListsDiffer, WorkedListsFill, WorkedListsGoOn}
+use Rattle.plan_law.proofs.Rounds.{begun_worked, found_is_new, worked_cuts, worked_differ, worked_on, worked_short}
 
 pub found_cuts_are_new : FoundCutsAreNew
 found_cuts_are_new p pairs cuts share cut units known least found k d lt same =
@@ -13,6 +13,9 @@ worked_lists_begin p pairs snapshot start units begins room = begun_worked p pai
 
 pub worked_lists_go_on : WorkedListsGoOn
 worked_lists_go_on p pairs snapshot rounds cuts round known worked is room = worked_on p pairs snapshot rounds cuts known worked round is room
+
+pub worked_lists_fill : WorkedListsFill
+worked_lists_fill p pairs snapshot rounds cuts round n known worked is room = worked_short p pairs snapshot rounds cuts known worked round n is room
 
 pub worked_lists_differ : WorkedListsDiffer
 worked_lists_differ p pairs snapshot rounds cuts known different worked = (worked_cuts p pairs snapshot rounds cuts known worked, worked_differ p pairs snapshot rounds cuts known worked different)

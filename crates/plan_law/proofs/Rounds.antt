@@ -1,6 +1,6 @@
 -- a round behind a worked list makes a worked list
-use Rattle.std.proofs.Common.{◌≡◌, ◌≢◌, ℕ, ◌+◌, ◌*◌, ◌<◌, ◌≤◌, List, [], ◌∷◌, ◌++◌, Option, None, All, Contains, length, take, sum_by, zip, unwrap_or, get_or, refl, sym, ap, ◌∙◌, arith, subst}
-use Rattle.std.proofs.lemmas.List.{append_assoc, ext_get_or, length-append}
+use Rattle.std.proofs.Common.{◌≡◌, ◌≢◌, ℕ, ◌+◌, ◌*◌, ◌<◌, ◌≤◌, List, [], ◌∷◌, ◌++◌, Option, None, All, Contains, length, min, take, sum_by, zip, unwrap_or, get_or, refl, sym, ap, ◌∙◌, arith, subst}
+use Rattle.std.proofs.lemmas.List.{append_assoc, ext_get_or, length-append, length-take}
 use Rattle.std.proofs.lemmas.List.Elements.{All-append, All-take, All-weaker, Contains-append_right, Contains-get_or}
 use Rattle.std.proofs.lemmas.Option.{slice_get-get_or}
 use Rattle.net_core.specs.declared.demand.Demand.{Demand}
@@ -16,7 +16,7 @@ use Rattle.master_law.specs.LeastShares.{IsLeastShare}
 use Rattle.master_law.specs.MasterPrograms.{IsSameCut}
 use Rattle.master_law.specs.UnitPairs.{AreUnitPairs, share_caps}
 use Rattle.master_law.proofs.Shares.{least_violates_none}
-use Rattle.plan_law.specs.WorkedLists.{Round, after_rounds, AreDifferentCuts, AreRounds, IsBeginning, IsFoundCut, IsRound, IsWorkedList}
+use Rattle.plan_law.specs.WorkedLists.{Round, after_rounds, AreDifferentCuts, AreRounds, cut_short, IsBeginning, IsFoundCut, IsRound, IsWorkedList}
 use Rattle.plan_law.proofs.Begun.{beginning_cuts, beginning_differ, opened_differ}
 use Rattle.plan_law.proofs.Pairs.{pairs_append, pairs_take}
 
@@ -83,8 +83,8 @@ module _ (p : Case) (pairs : List UnitPair) (units : AreUnitPairs p.links pairs)
   }
 
 -- a round that is cut short is a round
-pub cut_short : (p : Case) (pairs : List UnitPair) (before : List CutLine) (round : Round) (n : ℕ) → IsRound p pairs before round → IsRound p pairs before (record { share = round.share; cuts = take n round.cuts })
-cut_short p pairs before round n is = record {
+pub short_round : (p : Case) (pairs : List UnitPair) (before : List CutLine) (round : Round) (n : ℕ) → IsRound p pairs before round → IsRound p pairs before (cut_short n round)
+short_round p pairs before round n is = record {
   least = is.least;
   found = All-take (IsFoundCut p pairs round.share) n round.cuts is.found;
   states = pairs_take (λ a b. a.state ≢ b.state) n round.cuts is.states;
@@ -115,3 +115,10 @@ module _ (p : Case) (pairs : List UnitPair) (snapshot : List CutLine) (rounds : 
         omega (arith, long, room, length-append w.added round.cuts);
     different = round_differs p pairs w.units cuts round w.added worked_cuts is (λ c h. subst (λ cs. Contains cs c) (sym w.behind) (Contains-append_right snapshot w.added c h)) w.different;
   }
+
+  -- and so are as many cuts of the round as there is room for
+  pub worked_short : (round : Round) (n : ℕ) → IsRound p pairs cuts round → length cuts + n ≤ length snapshot + 4096 → IsWorkedList p pairs snapshot (cut_short n round ∷ rounds) (cuts ++ take n round.cuts)
+  worked_short round n is room = worked_on (cut_short n round) (short_round p pairs cuts round n is) (fits (length cuts) (length snapshot) n (length round.cuts) (length (take n round.cuts)) (length-take n round.cuts) room)
+    where
+      fits : (c s n l t : ℕ) → t ≡ min n l → c + n ≤ s + 4096 → c + t ≤ s + 4096
+      fits c s n l t e h = omega (arith, e, h)

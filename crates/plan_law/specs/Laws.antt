@@ -1,5 +1,5 @@
 -- what planning by rounds rests on
-use Rattle.std.specs.Prelude.{ℕ, ◌+◌, ◌*◌, ◌≤◌, ◌++◌, List, [], ◌∷◌, All, length}
+use Rattle.std.specs.Prelude.{ℕ, ◌+◌, ◌*◌, ◌≤◌, ◌++◌, List, [], ◌∷◌, All, length, take}
 use Rattle.net_core.specs.declared.plan.CutLine.{CutLine}
 use Rattle.net_core.specs.declared.plan.Routing.{Routing}
 use Rattle.net_core.specs.Cases.{Case, graph_in}
@@ -16,7 +16,7 @@ use Rattle.plan_types.specs.declared.quality.Share.{Share}
 use Rattle.master_law.specs.LeastShares.{IsLeastShare}
 use Rattle.master_law.specs.UnitPairs.{AreUnitPairs, share_caps}
 use Rattle.plan_law.specs.TightPlans.{CoversShare, IsProperShare, IsTightPlan}
-use Rattle.plan_law.specs.WorkedLists.{Round, AreDifferentCuts, IsBeginning, IsFoundCut, IsRound, IsWorkedList, Lacks}
+use Rattle.plan_law.specs.WorkedLists.{Round, cut_short, AreDifferentCuts, IsBeginning, IsFoundCut, IsRound, IsWorkedList, Lacks}
 
 -- a cut that is found at a least share of cuts isn't one of them
 abbrev pub FoundCutsAreNew : Type 0
@@ -43,6 +43,15 @@ WorkedListsGoOn = (p : Case) (pairs : List UnitPair) (snapshot : List CutLine) (
     → IsRound p pairs cuts round
     → length cuts + length round.cuts ≤ length snapshot + 4096
     → IsWorkedList p pairs snapshot (round ∷ rounds) (cuts ++ round.cuts)
+
+-- and so are a worked list and as many cuts of the round as there is room for
+abbrev pub WorkedListsFill : Type 0
+WorkedListsFill = (p : Case) (pairs : List UnitPair) (snapshot : List CutLine) (rounds : List Round) (cuts : List CutLine) (round : Round) (n : ℕ)
+    → All (IsCut p) snapshot
+    → IsWorkedList p pairs snapshot rounds cuts
+    → IsRound p pairs cuts round
+    → length cuts + n ≤ length snapshot + 4096
+    → IsWorkedList p pairs snapshot (cut_short n round ∷ rounds) (cuts ++ take n round.cuts)
 
 -- the cuts of a worked list are cuts of the case and all different, where those of the snapshot are
 abbrev pub WorkedListsDiffer : Type 0

@@ -1,5 +1,5 @@
 -- the cuts of one planning: those that it begins with, and what its rounds find (cutting planes by rounds)
-use Rattle.std.specs.Prelude.{◌≡◌, ◌≢◌, ℕ, ◌<◌, ◌≤◌, ◌⊎◌, ◌++◌, List, [], ◌∷◌, All, AllPairs, Any, Contains, length}
+use Rattle.std.specs.Prelude.{◌≡◌, ◌≢◌, ℕ, ◌<◌, ◌≤◌, ◌⊎◌, ◌++◌, List, [], ◌∷◌, All, AllPairs, Any, Contains, length, take}
 use Rattle.net_core.specs.declared.plan.CutLine.{CutLine}
 use Rattle.net_core.specs.Cases.{Case, graph_in}
 use Rattle.module_prices.specs.declared.cheapest.UnitPair.{UnitPair}
@@ -61,6 +61,10 @@ pub record Round : Type 0 where
 abbrev pub after_rounds : List CutLine → List Round → List CutLine
 after_rounds start [] = start
 after_rounds start (last ∷ earlier) = after_rounds start earlier ++ last.cuts
+
+-- the first n cuts of a round
+abbrev pub cut_short : ℕ → Round → Round
+cut_short n round = record { share = round.share; cuts = take n round.cuts }
 
 -- a cut of the case that the share's capacities violate, with lengths that its state keeps of priced ones
 pub record IsFoundCut (p : Case) (pairs : List UnitPair) (share : Share) (cut : CutLine) : Type 0 where

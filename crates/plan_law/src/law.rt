@@ -1,4 +1,4 @@
-ghost use Rattle.plan_law.specs.Laws.{CoversCarry, FoundCutsAreNew, TightIsGreatest, WorkedListsBegin, WorkedListsDiffer, WorkedListsGoOn};
+ghost use Rattle.plan_law.specs.Laws.{CoversCarry, FoundCutsAreNew, TightIsGreatest, WorkedListsBegin, WorkedListsDiffer, WorkedListsFill, WorkedListsGoOn};
 
 /// A cut that a least share of cuts violates isn't one of them.
 pub fn found_cuts_are_new()
@@ -13,6 +13,11 @@ pub fn worked_lists_begin()
 /// A worked list and a round behind it are a worked list, as long as no more than 4,096 cuts are added.
 pub fn worked_lists_go_on()
     ensures { WorkedListsGoOn }
+{}
+
+/// A worked list and as many cuts of a round as there is room for are a worked list.
+pub fn worked_lists_fill()
+    ensures { WorkedListsFill }
 {}
 
 /// The cuts of a worked list are cuts of the case and all different, where those of the snapshot are.
