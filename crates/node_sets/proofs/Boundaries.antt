@@ -1,0 +1,69 @@
+-- what the state keeps of a boundary is kept of priced lengths, and one violated right side is each
+use Rattle.std.proofs.Common.{◌≡◌, ◌≢◌, ℕ, zero, suc, ◌*◌, ◌<◌, ◌≤◌, List, [], ◌∷◌, Option, None, Some, Bool, true, false, cond, length, get_or, slice_index, refl, sym, ap, subst, ◌∙◌, arith, slice_get, sum_by, zip, unwrap_or}
+use Rattle.std.proofs.lemmas.List.{ext_get_or, get_or_default, length-map}
+use Rattle.net_core.specs.declared.demand.Demand.{Demand}
+use Rattle.net_core.specs.declared.network.Link.{Link}
+use Rattle.net_core.specs.declared.plan.Caps.{Caps}
+use Rattle.net_core.specs.Graphs.{Graph, Joins}
+use Rattle.plan_terms.specs.Certificates.{IsRight}
+use Rattle.plan_terms.specs.Keeping.{Keeps}
+use Rattle.plan_terms.specs.Violations.{Violates}
+use Rattle.plan_terms.proofs.Distances.{distance_one}
+use Rattle.metric_cut.specs.Bounded.{HaveBound}
+use Rattle.metric_cut.specs.declared.cut.Cut.{Cut}
+use Rattle.route_law.specs.PricedLengths.{ArePricedSomewhere}
+use Rattle.route_law.proofs.ZerosAndOnes.{zeros_and_ones_are_priced}
+use Rattle.node_sets.specs.Boundaries.{IsViolatedAt, crosses_boundary, boundary_lengths}
+
+-- an item at each place
+item_at : {X : Type 0} (xs : List X) (k : ℕ) → k < length xs → (x : X) × (slice_get xs k ≡ Some x)
+item_at [] k lt = absurd (omega (arith, lt))
+item_at (x ∷ xs) zero lt = (x, refl)
+item_at (x ∷ xs) (suc k) lt = item_at xs k (omega (arith, lt))
+
+-- lengths have one right side at demands
+one_right : (joins : ℕ → ℕ → ℕ → Type 0) (lengths : List ℕ) (demands : List Demand) (a b : ℕ) → IsRight joins lengths demands a → IsRight joins lengths demands b → a ≡ b
+one_right joins lengths demands a b first second =
+    first.sum
+    ∙ ap (λ far. sum_by (λ (p : Demand × Option ℕ). p.0.need * unwrap_or p.1 0) (zip demands far)) same
+    ∙ sym second.sum
+  where
+    same : first.far ≡ second.far
+    same = ext_get_or None first.far second.far (first.count ∙ sym second.count) (λ k lt.
+        let d = item_at demands k (omega (arith, lt, first.count)) in
+        distance_one joins lengths d.0.from.0 d.0.to.0 _ _ (first.each k d.0 d.1) (second.each k d.0 d.1))
+
+pub violated_at : (g : Graph) (demands : List Demand) (caps : Caps) (cut : Cut) (right : ℕ) → IsRight (Joins g) cut.lengths demands right
+    → Violates caps (record { state = cut.state; lengths = cut.lengths; right = right }) → IsViolatedAt g demands caps cut
+violated_at g demands caps cut right is violates other is_other =
+    subst (λ r. Violates caps (record { state = cut.state; lengths = cut.lengths; right = r })) (one_right (Joins g) cut.lengths demands right other is is_other) violates
+
+bit_low : (b : Bool) → cond b 1 0 ≤ 1
+bit_low true = omega arith
+bit_low false = omega arith
+
+-- the lengths of a boundary are zeros and ones
+boundary_low : (is_member : ℕ → Bool) (links : List Link) (e : ℕ) → slice_index (boundary_lengths is_member links) e ≤ 1
+boundary_low is_member [] e = omega arith
+boundary_low is_member (l ∷ ls) zero = bit_low (crosses_boundary is_member l)
+boundary_low is_member (l ∷ ls) (suc e) = boundary_low is_member ls e
+
+-- a boundary of which the state keeps something is priced
+pub boundary_priced : (g : Graph) (is_member : ℕ → Bool) (kept : List ℕ) → length g.links ≤ 256 → Keeps g (boundary_lengths is_member g.links) kept → HaveBound g.links kept
+    → ArePricedSomewhere (boundary_lengths is_member g.links)
+boundary_priced g is_member kept few keeps bound =
+    let some = bound.positive in
+    let e = some.0 in
+    let kept_there : get_or kept e 0 ≡ some.1 = get_or_default kept e 0 some.1 some.2 ∙ some.3 in
+    let positive : get_or kept e 0 ≢ 0 = λ z. omega (arith, z, kept_there, some.4) in
+    let survives = keeps.zero e positive in
+    let given = keeps.divided e survives in
+    let low = boundary_low is_member g.links e in
+    zeros_and_ones_are_priced (boundary_lengths is_member g.links) e
+    (subst (λ n. n ≤ 256) (sym (length-map g.links (λ (l : Link). cond (crosses_boundary is_member l) 1 0))) few)
+    (boundary_low is_member g.links)
+    (one_of (get_or kept e 0) keeps.common (slice_index (boundary_lengths is_member g.links) e) positive keeps.positive given low)
+  where
+    one_of : (k c l : ℕ) → k ≢ 0 → 0 < c → k * c ≡ l → l ≤ 1 → l ≡ 1
+    one_of zero c l ne pc is low = absurd (ne refl)
+    one_of (suc k) c l ne pc is low = omega (arith, pc, is, low)

@@ -1,0 +1,90 @@
+ghost use Rattle.std.specs.Prelude.{◌≡◌, ◌≤◌, ◌<◌, All, IfOk, IfSome, cond, length, true};
+ghost use Rattle.net_core.specs.Views.{graph_of};
+ghost use Rattle.plan_terms.specs.Keeping.{Keeps};
+ghost use Rattle.metric_cut.specs.Bounded.{HaveBound};
+ghost use Rattle.metric_cut.specs.Cuts.{IsCutOf};
+ghost use Rattle.node_sets.specs.Boundaries.{IsBoundaryCut, IsViolatedAt, boundary_lengths, crosses_boundary};
+ghost use Rattle.node_sets.specs.inner.Members.{is_in};
+
+use crate::deepest::Deepest;
+use crate::node_set::NodeSet;
+use crate::task::Task;
+use metric_cut::{Cut, CutFault, violated_by};
+use net_core::{Copied, CutLine, Lengths, Link, List, NoMemory};
+use std::alloc::Global;
+
+/// 1 for a link that crosses the boundary of a set, and 0 for another.
+fn boundary_length(set: NodeSet, link: &Link) -> u32
+    requires first { link.now.a.0 < 128 }
+    requires second { link.now.b.0 < 128 }
+    ensures { result ≡ cond (crosses_boundary (is_in set) link.now) 1 0 }
+{
+    if set.is_left_by(link) { 1 } else { 0 }
+}
+
+/// The length of each link.
+fn lengths_of(alloc: Global, set: NodeSet, links: &[Link]) -> Result<Lengths, NoMemory>
+    requires { All (λ l. (l.a.0 < 128) × (l.b.0 < 128)) links.now }
+    ensures { IfOk result (λ lengths. lengths ≡ boundary_lengths (is_in set) links.now) }
+{
+    let mut lengths = List::from_vec(Vec::with_capacity(alloc, links.len())?);
+    for link in links {
+        lengths.push(boundary_length(set, link))?;
+    }
+    Ok(lengths)
+}
+
+/// Whether the capacities violate a cut by its right side at the demands.
+fn is_violated(task: &Task, cut: &Cut) -> Result<bool, NoMemory>
+    requires { IsCutOf (graph_of task.now.graph) cut.now }
+    ensures { IfOk result (λ b. b ≡ true → IsViolatedAt (graph_of task.now.graph) task.now.demands.now task.now.caps.now cut.now) }
+{
+    let line = CutLine {
+        state: cut.state(),
+        lengths: cut.lengths().copy()?,
+        right: cut.right(task.demands),
+    };
+    Ok(violated_by(&line, task.caps))
+}
+
+/// The cut of what the state keeps of a set's boundary, where the capacities violate it.
+fn if_violated(task: &Task, set: NodeSet, cut: Cut) -> Result<Option<Cut>, NoMemory>
+    requires few { length task.now.graph.net.now.links ≤ 256 }
+    requires of { IsCutOf (graph_of task.now.graph) cut }
+    requires keeps { Keeps (graph_of task.now.graph) (boundary_lengths (is_in set) task.now.graph.net.now.links) cut.lengths }
+    requires bound { HaveBound task.now.graph.net.now.links cut.lengths }
+    ensures { IfOk result (λ o. IfSome o (IsBoundaryCut (graph_of task.now.graph) task.now.demands.now task.now.caps.now)) }
+{
+    if is_violated(task, &cut)? {
+        Ok(Some(cut))
+    } else {
+        Ok(None)
+    }
+}
+
+/// The cut of a set's boundary, where the capacities violate it.
+fn boundary_cut(alloc: Global, task: &Task, set: NodeSet) -> Result<Option<Cut>, NoMemory>
+    ensures { IfOk result (λ o. IfSome o (IsBoundaryCut (graph_of task.now.graph) task.now.demands.now task.now.caps.now)) }
+{
+    let graph = &task.graph;
+    let lengths = lengths_of(alloc, set, graph.net.links().items())?;
+    match Cut::new(alloc, graph.net, graph.states, graph.state, lengths) {
+        Ok(cut) => if_violated(task, set, cut),
+        Err(CutFault::NoMemory) => Err(NoMemory),
+        Err(_) => Ok(None),
+    }
+}
+
+/// The cut of the set that is chosen.
+pub(crate) fn cut_of_chosen(
+    alloc: Global,
+    task: &Task,
+    deepest: &Deepest,
+) -> Result<Option<Cut>, NoMemory>
+    ensures { IfOk result (λ o. IfSome o (IsBoundaryCut (graph_of task.now.graph) task.now.demands.now task.now.caps.now)) }
+{
+    match deepest.choose(task) {
+        Some(set) => boundary_cut(alloc, task, set),
+        None => Ok(None),
+    }
+}

@@ -1,0 +1,27 @@
+ghost use Rattle.std.specs.Prelude.{◌<◌, ◌^◌, All, IsTrue};
+
+use net_core::{Caps, Demand};
+
+/// Numbers of a program that routes demands are below this.
+const WIDE: u128 = 1 << 62;
+
+/// Whether all numbers are below 2^62.
+fn are_nums_narrow(nums: &[u128]) -> bool
+    ensures { IsTrue result → All (λ n. n < 2 ^ 62) nums.now }
+{
+    nums.iter().all(|n| *n < WIDE)
+}
+
+/// Whether what each demand needs over a scale is below 2^62.
+fn are_needs_narrow(demands: &[Demand], scale: u64) -> bool {
+    demands
+        .iter()
+        .all(|d| (d.need as u128 * scale as u128) < WIDE)
+}
+
+/// Whether each link's number, and what each demand needs over the scale, is below 2^62.
+pub(crate) fn are_narrow(demands: &[Demand], caps: &Caps) -> bool
+    ensures { IsTrue result → All (λ n. n < 2 ^ 62) caps.now.nums }
+{
+    are_nums_narrow(caps.nums.items()) && are_needs_narrow(demands, caps.scale)
+}

@@ -1,0 +1,138 @@
+ghost use Rattle.std.specs.Prelude.{◌≡◌, ◌+◌, ◌*◌, ◌<◌, ◌≤◌, IfOk, length};
+
+use crate::crossing::{Crossing, NOTHING};
+use crate::task::Task;
+use net_core::{LinkId, NoMemory, NodeId};
+use std::alloc::Global;
+
+/// What runs between each two nodes of a surviving graph, and between each node and all others. It takes 32 bytes
+/// times the square of the nodes.
+#[derive(Drop)]
+pub(crate) struct PairTable {
+    nodes: u32,
+    /// Row by row: what runs from a node to each.
+    pairs: Vec<Crossing>,
+    totals: Vec<Crossing>,
+    pub ghost few: { nodes ≤ 128 },
+    pub ghost size: { length pairs.items ≡ nodes * nodes },
+    pub ghost count: { length totals.items ≡ nodes },
+}
+
+/// Where the row of a node begins.
+fn row_start(nodes: u32, node: NodeId) -> usize
+    requires few { nodes ≤ 128 }
+    requires node { node.0 < nodes }
+    ensures start { result ≡ node.0 * nodes }
+    ensures room { result + nodes ≤ nodes * nodes }
+{
+    (node.0 * nodes) as usize
+}
+
+/// Adds what runs from one node to another.
+fn add_one(nodes: u32, pairs: &mut [Crossing], from: NodeId, to: NodeId, more: &Crossing)
+    requires few { nodes ≤ 128 }
+    requires size { length pairs.old ≡ nodes * nodes }
+    requires from { from.0 < nodes }
+    requires to { to.0 < nodes }
+    ensures { length pairs.new ≡ length pairs.old }
+{
+    let place = row_start(nodes, from) + to.0 as usize;
+    pairs[place] = pairs[place].plus(more);
+}
+
+impl PairTable {
+    /// The table of nodes between which nothing runs.
+    fn bare(alloc: Global, nodes: u32) -> Result<PairTable, NoMemory>
+        requires { nodes ≤ 128 }
+        ensures { IfOk result (λ t. t.nodes ≡ nodes) }
+    {
+        let pairs = vec![in alloc; NOTHING; (nodes * nodes) as usize]?;
+        let totals = vec![in alloc; NOTHING; nodes as usize]?;
+        Ok(PairTable {
+            nodes,
+            pairs,
+            totals,
+        })
+    }
+
+    /// Adds what runs between two nodes.
+    fn add(&mut self, a: NodeId, b: NodeId, more: Crossing)
+        requires first { a.0 < self.old.nodes }
+        requires second { b.0 < self.old.nodes }
+        ensures { self.new.nodes ≡ self.old.nodes }
+    {
+        add_one(self.nodes, &mut self.pairs, a, b, &more);
+        add_one(self.nodes, &mut self.pairs, b, a, &more);
+        let first = a.0 as usize;
+        let second = b.0 as usize;
+        self.totals[first] = self.totals[first].plus(&more);
+        self.totals[second] = self.totals[second].plus(&more);
+    }
+
+    /// Adds the surviving links.
+    fn add_links(&mut self, task: &Task)
+        requires { self.old.nodes ≡ length task.now.graph.net.now.nodes }
+        ensures { self.new.nodes ≡ self.old.nodes }
+    {
+        let links = task.graph.net.links().items();
+        let nums = task.caps.nums.items();
+        for e in 0..links.len() {
+            if task.graph.has(LinkId(e as u32)) {
+                let more = Crossing {
+                    links: 1,
+                    capacity: nums[e],
+                    demand: 0,
+                };
+                self.add(links[e].a, links[e].b, more);
+            }
+        }
+    }
+
+    /// Adds the demands.
+    fn add_demands(&mut self, task: &Task)
+        requires { self.old.nodes ≡ length task.now.graph.net.now.nodes }
+        ensures { self.new.nodes ≡ self.old.nodes }
+    {
+        for d in task.demands.items() {
+            let more = Crossing {
+                links: 0,
+                capacity: 0,
+                demand: d.need,
+            };
+            self.add(d.from, d.to, more);
+        }
+    }
+
+    /// The table of a task. It takes time in the links, each by the links that the state fails, and in the demands.
+    pub(crate) fn new(alloc: Global, task: &Task) -> Result<PairTable, NoMemory>
+        ensures { IfOk result (λ t. t.nodes ≡ length task.now.graph.net.now.nodes) }
+    {
+        let mut table = PairTable::bare(alloc, task.graph.net.nodes().len() as u32)?;
+        table.add_links(task);
+        table.add_demands(task);
+        Ok(table)
+    }
+
+    /// How many nodes there are.
+    pub(crate) fn nodes(&self) -> u32
+        ensures { result ≡ self.now.nodes }
+    {
+        self.nodes
+    }
+
+    /// What runs between a node and each.
+    pub(crate) fn row(&self, node: NodeId) -> &[Crossing]
+        requires { node.0 < self.now.nodes }
+        ensures { length result.now ≡ self.now.nodes }
+    {
+        let start = row_start(self.nodes, node);
+        &self.pairs[start..start + self.nodes as usize]
+    }
+
+    /// What runs between a node and all others.
+    pub(crate) fn total(&self, node: NodeId) -> Crossing
+        requires { node.0 < self.now.nodes }
+    {
+        self.totals[node.0 as usize]
+    }
+}
