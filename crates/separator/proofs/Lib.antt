@@ -1,0 +1,3 @@
+mod Pooling
+mod Answering
+mod Somewhere

@@ -1,0 +1,15 @@
+use Rattle.std.proofs.Common.{[], ◌∷◌, ⊎_elim}
+use Rattle.separator.specs.inner.Working.{PoolsMore, state_and_lengths}
+use Rattle.separator.proofs.Answering.{sees_more}
+use Rattle.separator.proofs.one_by_one.OneByOneSeparate.admit.Goals as goal
+
+pub returns-clause-more : goal.returns-clause-more
+returns-clause-more c =
+    let self = c.args.self.now in
+    let old = self.board in
+    let now = c.spot_of.new.board in
+    let cut = state_and_lengths c.args.cut in
+    ⊎_elim
+    (λ (none : PoolsMore old now []). sees_more self.began.value old now [] self.began_before none)
+    (λ (one : PoolsMore old now (cut ∷ [])). sees_more self.began.value old now (cut ∷ []) self.began_before one)
+    c.spot_of.ensures.only

@@ -1,0 +1,29 @@
+-- what is found of a state at some capacities: that they carry the demands, a cut that they violate, or evidence
+use Rattle.std.specs.Prelude.{ℕ, List}
+use Rattle.net_core.specs.declared.demand.Demand.{Demand}
+use Rattle.net_core.specs.declared.plan.Caps.{Caps}
+use Rattle.net_core.specs.Graphs.{Graph, Joins}
+use Rattle.plan_terms.specs.Certificates.{IsRight}
+use Rattle.plan_terms.specs.Keeping.{Keeps}
+use Rattle.plan_terms.specs.Violations.{Violates}
+use Rattle.metric_cut.specs.Cuts.{IsCutOf}
+use Rattle.metric_cut.specs.declared.cut.Cut.{Cut}
+use Rattle.route_law.specs.PricedLengths.{ArePricedSomewhere}
+use Rattle.flow_router.specs.Answers.{IsEvidenceHere, IsRouted}
+use Rattle.flow_router.specs.declared.answer.RouteAnswer.{RouteAnswer}
+use Rattle.flow_router.specs.declared.answer.RouteAnswer.TheVariants.{Routed, Violated, Wide}
+
+module _ (g : Graph) (demands : List Demand) (caps : Caps) where
+  -- a cut that the capacities violate, by its right side at the demands; its lengths are what the state keeps of priced ones
+  pub record IsFoundCutOf (cut : Cut) : Type 0 where
+    pub of : IsCutOf g cut
+    pub lengths : List ℕ
+    pub priced : ArePricedSomewhere lengths
+    pub keeps : Keeps g lengths cut.lengths
+    pub violated : (right : ℕ) → IsRight (Joins g) cut.lengths demands right → Violates caps (record { state = cut.state; lengths = cut.lengths; right = right })
+
+  -- a routing, a cut that the capacities violate, or evidence of this state and these capacities
+  abbrev pub IsFinding : RouteAnswer → Type 0
+  IsFinding (Routed routing) = IsRouted g demands caps routing
+  IsFinding (Violated cut) = IsFoundCutOf cut
+  IsFinding (Wide evidence) = IsEvidenceHere g demands caps evidence

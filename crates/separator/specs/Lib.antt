@@ -1,0 +1,4 @@
+pub mod Findings
+pub mod Separators
+pub mod OneByOnes
+pub mod inner

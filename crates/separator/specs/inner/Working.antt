@@ -1,0 +1,59 @@
+-- a board while cuts are put into its pool
+use Rattle.std.specs.Prelude.{◌≡◌, ◌≢◌, ℕ, ◌≤◌, ◌<◌, ◌⊎◌, ◌++◌, List, [], ◌∷◌, All, AllPairs, Contains, Some, length, slice_get}
+use Rattle.net_core.specs.declared.demand.Demand.{Demand}
+use Rattle.net_core.specs.declared.journal.Entry.{Entry}
+use Rattle.net_core.specs.declared.plan.Caps.{Caps}
+use Rattle.net_core.specs.declared.plan.CutLine.{CutLine}
+use Rattle.net_core.specs.Cases.{Case}
+use Rattle.net_core.specs.Graphs.{Graph, Joins}
+use Rattle.plan_terms.specs.Certificates.{IsRight}
+use Rattle.metric_cut.specs.Cuts.{IsCutOf}
+use Rattle.metric_cut.specs.declared.cut.Cut.{Cut}
+use Rattle.cut_pool.specs.declared.board.Board.{Board}
+use Rattle.cut_pool.specs.Boards.{origin_of}
+use Rattle.cut_pool.specs.Histories.{cuts_of}
+use Rattle.separator.specs.declared.answers.StateAnswer.{StateAnswer}
+use Rattle.separator.specs.Separators.{IsAnswerOf, IsCutEntry, IsFullHistory, SeparatesAt, cuts_answered}
+
+-- state and lengths of a cut
+abbrev pub state_and_lengths : Cut → ℕ × List ℕ
+state_and_lengths cut = (cut.state.0, cut.lengths)
+
+-- the line has the state and lengths of the cut, and its right side at the demands
+pub record IsLineAt (demands : List Demand) (cut : Cut) (line : CutLine) : Type 0 where
+  pub state : line.state ≡ cut.state
+  pub lengths : line.lengths ≡ cut.lengths
+  pub right : (g : Graph) → IsCutOf g cut → IsRight (Joins g) cut.lengths demands line.right
+
+-- The board has some more entries, which pool these cuts, and its origin is as it was. A full history gets no entry.
+pub record PoolsMore (old new : Board) (cuts : List (ℕ × List ℕ)) : Type 0 where
+  pub origin : origin_of new ≡ origin_of old
+  pub more : List Entry
+  pub entries : new.entries ≡ old.entries ++ more
+  pub pooled : All IsCutEntry more
+  pub are : cuts_of more ≡ cuts
+  pub full : IsFullHistory old.entries → more ≡ []
+
+-- the board pools nothing more, or this cut
+abbrev pub PoolsOnly : Board → Board → ℕ × List ℕ → Type 0
+PoolsOnly old new cut = PoolsMore old new [] ⊎ PoolsMore old new (cut ∷ [])
+
+-- the board pools cuts of the states below n, at most one of each, which the capacities violate
+pub record PoolsBelow (p : Case) (caps : Caps) (n : ℕ) (old new : Board) (cuts : List (ℕ × List ℕ)) : Type 0 where
+  pub pools : PoolsMore old new cuts
+  pub below : All (λ c. c.0 < n) cuts
+  pub different : AllPairs (λ x y. x.0 ≢ y.0) cuts
+  pub separating : All (SeparatesAt p caps) cuts
+
+-- so it does for state s alone
+pub record PoolsOf (p : Case) (caps : Caps) (s : ℕ) (old new : Board) (cuts : List (ℕ × List ℕ)) : Type 0 where
+  pub pools : PoolsMore old new cuts
+  pub few : length cuts ≤ 1
+  pub of : All (λ c. c.0 ≡ s) cuts
+  pub separating : All (SeparatesAt p caps) cuts
+
+-- the answers of the states below n, among which each of these cuts is
+pub record AreAnswersBelow (p : Case) (caps : Caps) (n : ℕ) (history : List Entry) (cuts : List (ℕ × List ℕ)) (answers : List StateAnswer) : Type 0 where
+  pub count : length answers ≡ n
+  pub each : (s : ℕ) (a : StateAnswer) → slice_get answers s ≡ Some a → (a.state.0 ≡ s) × IsAnswerOf p caps history s a.answer
+  pub among : All (Contains (cuts_answered answers)) cuts

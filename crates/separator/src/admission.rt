@@ -1,0 +1,57 @@
+ghost use Rattle.std.specs.Prelude.{◌≡◌, [], IfOk, OnErr};
+ghost use Rattle.net_core.specs.Demands.{AreDemands};
+ghost use Rattle.net_core.specs.Views.{graph};
+ghost use Rattle.metric_cut.specs.Cuts.{IsCutOf};
+ghost use Rattle.separator.specs.Separators.{IsSpotIn};
+ghost use Rattle.separator.specs.inner.Working.{IsLineAt, PoolsMore, PoolsOnly, state_and_lengths};
+
+use cut_pool::{AdmitAnswer, Board};
+use metric_cut::Cut;
+use net_core::{Copied, CutLine, Demands, NoMemory};
+use plan_types::Spot;
+
+/// The cut with its right side at the demands, without its distances.
+fn line_of(cut: &Cut, demands: &Demands) -> Result<CutLine, NoMemory>
+    requires { AreDemands cut.now.table.nodes demands.now }
+    ensures { IfOk result (IsLineAt demands.now cut.now) }
+{
+    Ok(CutLine {
+        state: cut.state(),
+        lengths: cut.lengths().copy()?,
+        right: cut.right(demands),
+    })
+}
+
+/// Admits a cut to the board's pool, where there is room for it, and says where it stands.
+pub fn spot_of(board: &mut Board, cut: Cut) -> Result<Spot, NoMemory>
+    requires { IsCutOf (graph board.old.net.now board.old.states.now cut.state.0) cut }
+    ensures only { PoolsOnly board.old board.new (state_and_lengths cut) }
+    ensures spot { IfOk result (IsSpotIn board.new.entries (state_and_lengths cut)) }
+    ensures none { OnErr result (PoolsMore board.old board.new []) }
+{
+    match board.admit(cut) {
+        AdmitAnswer::Admitted { index, .. } => Ok(Spot::Pool(index)),
+        AdmitAnswer::Known(index, _) => Ok(Spot::Pool(index)),
+        AdmitAnswer::PoolFull(_) => Ok(Spot::Local),
+        AdmitAnswer::Full(_) => Ok(Spot::Local),
+        AdmitAnswer::NoMemory(_) => Err(NoMemory),
+    }
+}
+
+/// The line of a cut of the board's network and states, and where it stands, once it is admitted where there is room for it.
+pub fn line_and_spot(
+    demands: &Demands,
+    cut: Cut,
+    board: &mut Board,
+) -> Result<(CutLine, Spot), NoMemory>
+    requires demands { AreDemands cut.table.nodes demands.now }
+    requires cut { IsCutOf (graph board.old.net.now board.old.states.now cut.state.0) cut }
+    ensures only { PoolsOnly board.old board.new (state_and_lengths cut) }
+    ensures line { IfOk result (λ r. IsLineAt demands.now cut r.0) }
+    ensures spot { IfOk result (λ r. IsSpotIn board.new.entries (state_and_lengths cut) r.1) }
+    ensures none { OnErr result (PoolsMore board.old board.new []) }
+{
+    let line = line_of(&cut, demands)?;
+    let spot = spot_of(board, cut)?;
+    Ok((line, spot))
+}

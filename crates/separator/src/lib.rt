@@ -1,0 +1,27 @@
+//! Asks of each state whether capacities carry the demands there: a separator, which also keeps the cuts that it finds in a pool.
+//!
+//! ```text
+//! let mut separator = OneByOne::new(alloc, board);
+//! for answer in separator.separate(&instance, &caps)?.items() {            // one answer for each state, in their order
+//!     match &answer.answer {
+//!         Separated::Routed(routing) => ..,                                // the capacities carry the demands
+//!         Separated::Violated(line, Spot::Pool(index)) => ..,              // they violate this cut, which the pool now has
+//!         Separated::Violated(line, Spot::Local) => ..,                    // they violate it, and the pool had no room for it
+//!         Separated::Wide(evidence) => ..,                                 // a number of the routing program is too wide
+//!     }
+//! }
+//! let board = separator.into_board();
+//! ```
+#![tactic(auto)]
+
+mod admission;
+pub mod answers;
+pub mod one_by_one;
+pub mod one_state;
+mod ranges;
+pub mod separating;
+
+pub use answers::{Separated, StateAnswer};
+pub use one_by_one::OneByOne;
+pub use one_state::separate_state;
+pub use separating::Separate;

@@ -1,0 +1,142 @@
+ghost use Rattle.std.specs.Prelude.{◌≡◌, ◌≤◌, ◌<◌, ◌+◌, [], List as Seq, All, Contains, IfOk, ℕ, length};
+ghost use Rattle.net_core.specs.Views.{case_of};
+ghost use Rattle.plan_terms.specs.Separations.{IsSurvivable};
+ghost use Rattle.separator.specs.Separators.{IsAnswerOf, cut_answered, cuts_since};
+ghost use Rattle.separator.specs.inner.Working.{AreAnswersBelow, PoolsBelow, PoolsOf};
+
+use crate::admission::{line_and_spot, spot_of};
+use crate::answers::{Separated, StateAnswer};
+use crate::one_state::separate_state;
+use crate::separating::Separate;
+use cut_pool::Board;
+use flow_router::RouteAnswer;
+use metric_cut::Cut;
+use net_core::{Caps, Demands, Instance, List, NoMemory, StateId};
+use plan_types::Spot;
+use std::alloc::Global;
+use std::snapshot::Snapshot as Remembered;
+use turn_lock::Chronicle;
+
+/// A separator on one thread, which takes the states one after another. Its history is that of its board.
+#[derive(Drop)]
+pub struct OneByOne<'a> {
+    board: Board<'a>,
+    alloc: Global,
+    began: Remembered<u64>,
+    pub ghost began_before: { began.value ≤ length board.entries },
+}
+
+impl<'a> OneByOne<'a> {
+    ghost use Rattle.separator.specs.OneByOnes.{own_of};
+
+    /// A separator over a board. Its own entries are those that the board gets from now on.
+    pub fn new(alloc: Global, board: Board<'a>) -> OneByOne<'a>
+        ensures board { result.board ≡ board.entry }
+        ensures own { own_of result ≡ [] }
+    {
+        let began = Remembered::of(&board.count());
+        OneByOne {
+            board,
+            alloc,
+            began,
+        }
+    }
+
+    /// The board, as the separator leaves it.
+    pub fn into_board(self) -> Board<'a>
+        ensures { result ≡ self.entry.board }
+    {
+        self.board
+    }
+}
+
+/// What is found of a state, its cut admitted to the board's pool.
+fn answer_state(
+    alloc: Global,
+    instance: &Instance,
+    state: StateId,
+    caps: &Caps,
+    board: &mut Board,
+) -> Result<StateAnswer, NoMemory>
+    requires net { board.old.net.now ≡ instance.now.net.now }
+    requires listed { board.old.states.now ≡ instance.now.states.now }
+    requires state { state.0 < length instance.now.states.now.listed + 1 }
+    requires survivable { IsSurvivable (case_of instance.now) }
+    requires scale { 0 < caps.now.scale }
+    requires caps { length caps.now.nums ≡ length instance.now.net.now.links }
+    ensures pools { PoolsOf (case_of instance.now) caps.now state.0 board.old board.new (cuts_since board.old.entries board.new.entries) }
+    ensures state { IfOk result (λ a. a.state ≡ state) }
+    ensures answer { IfOk result (λ a. IsAnswerOf (case_of instance.now) caps.now board.new.entries state.0 a.answer) }
+    ensures among { IfOk result (λ a. All (Contains (cut_answered a.answer)) (cuts_since board.old.entries board.new.entries)) }
+{
+    match separate_state(alloc, instance, state, caps)? {
+        RouteAnswer::Routed(routing) => Ok(StateAnswer {
+            state,
+            answer: Separated::Routed(routing),
+        }),
+        RouteAnswer::Violated(cut) => {
+            let (line, spot) = line_and_spot(instance.demands, cut, board)?;
+            Ok(StateAnswer {
+                state,
+                answer: Separated::Violated(line, spot),
+            })
+        }
+        RouteAnswer::Wide(evidence) => Ok(StateAnswer {
+            state,
+            answer: Separated::Wide(evidence),
+        }),
+    }
+}
+
+/// What is found of each state, the cuts admitted to the board's pool.
+fn answer_states(
+    alloc: Global,
+    instance: &Instance,
+    caps: &Caps,
+    board: &mut Board,
+) -> Result<List<StateAnswer>, NoMemory>
+    requires net { board.old.net.now ≡ instance.now.net.now }
+    requires listed { board.old.states.now ≡ instance.now.states.now }
+    requires survivable { IsSurvivable (case_of instance.now) }
+    requires scale { 0 < caps.now.scale }
+    requires caps { length caps.now.nums ≡ length instance.now.net.now.links }
+    ensures pools { PoolsBelow (case_of instance.now) caps.now (length instance.now.states.now.listed + 1) board.old board.new (cuts_since board.old.entries board.new.entries) }
+    ensures answers { IfOk result (AreAnswersBelow (case_of instance.now) caps.now (length instance.now.states.now.listed + 1) board.new.entries (cuts_since board.old.entries board.new.entries)) }
+{
+    let mut answers = List::new(alloc);
+    for s in 0..instance.states.count() {
+        answers.push(answer_state(alloc, instance, StateId(s), caps, board)?)?;
+    }
+    Ok(answers)
+}
+
+impl<'a> Separate for OneByOne<'a> {
+    ghost use Rattle.separator.specs.OneByOnes.{own_of};
+    ghost use Rattle.separator.specs.inner.Seen.{board_is_seen};
+
+    type Mark = Demands;
+
+    ghost network = { λ s. s.board.net.now };
+
+    ghost states = { λ s. s.board.states.now };
+
+    ghost mark = { λ s. s.board.opening.value };
+
+    ghost history = { λ s. s.board.entries };
+
+    ghost own = { own_of };
+
+    ghost seen = { λ s. board_is_seen s.began.value s.board.net.now s.board.states.now s.board.opening.value s.board.entries s.board.book.demands s.board.book.version s.board.pool s.board.few s.board.few_cuts s.board.stands };
+
+    fn admit(&mut self, cut: Cut) -> Result<Spot, NoMemory> {
+        spot_of(&mut self.board, cut)
+    }
+
+    fn separate(
+        &mut self,
+        instance: &Instance,
+        caps: &Caps,
+    ) -> Result<List<StateAnswer>, NoMemory> {
+        answer_states(self.alloc, instance, caps, &mut self.board)
+    }
+}
