@@ -1,4 +1,5 @@
 pub mod Apart
+pub mod OnOneWalk
 pub mod PoolLines
 pub mod Reports
 pub mod Telling

@@ -9,7 +9,7 @@ use Rattle.plan_checker.proofs.Places.{each_read, holds_read, none_read}
 use Rattle.report_checker.specs.Pools.{IsBadCut}
 
 -- a list that has a place has an item for it
-some_item : {X : Type 0} (xs : List X) (k : ℕ) → k < length xs → X
+pub some_item : {X : Type 0} (xs : List X) (k : ℕ) → k < length xs → X
 some_item [] k lt = absurd (omega (arith, lt))
 some_item (x ∷ xs) k lt = x
 

@@ -1,5 +1,5 @@
 -- outcomes, and the case at their positions
-use Rattle.std.proofs.Common.{◌≡◌, ◌∙◌, ℕ, Bool, List, length, nat_le, refl, sym, ap, subst, take}
+use Rattle.std.proofs.Common.{◌≡◌, ◌∙◌, List, length, nat_le, refl, ap, subst, take}
 use Rattle.std.specs.Prelude.{OnOk, Result, Ok, Err, ⊤}
 use Rattle.net_core.specs.declared.demand.Demand.{Demand}
 use Rattle.net_core.specs.Cases.{Case}
@@ -23,7 +23,7 @@ all_there p r (Unsurvivable caller serial version position state demand) = refl
 pub told_outcome : (p : Case) (r : Report) (o : Outcome) (t : Result ⊤ Stop) → TellFirst (findings_there p r o) t → TellFirst (outcome_findings p r o) t
 told_outcome p r o t = subst (λ ks. TellFirst ks t) (all_there p r o)
 
-accepted : (p : Case) (r : Report) (o : Outcome) → IsSaid (case_at p r.entries (outcome_position o)) o → IsAcceptedOutcome p r o
+pub accepted : (p : Case) (r : Report) (o : Outcome) → IsSaid (case_at p r.entries (outcome_position o)) o → IsAcceptedOutcome p r o
 accepted p r (Planned caller serial plan) said = said
 accepted p r (Unsurvivable caller serial version position state demand) said = said
 

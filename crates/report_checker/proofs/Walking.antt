@@ -1,5 +1,5 @@
 -- a walk with one entry more
-use Rattle.std.proofs.Common.{◌≡◌, ◌∙◌, ℕ, ◌+◌, ◌-◌, ◌^◌, ◌<◌, ◌≤◌, suc, Bool, true, false, List, [], ◌∷◌, ◌++◌, IsTrue, ◌↔◌, length, get_or, take, take-suc, nat_eq, refl, sym, ap, subst, arith}
+use Rattle.std.proofs.Common.{◌≡◌, ◌∙◌, ℕ, ◌+◌, ◌-◌, ◌^◌, ◌<◌, ◌≤◌, suc, Bool, List, [], ◌∷◌, ◌++◌, IsTrue, ◌↔◌, length, get_or, take, take-suc, nat_eq, sym, ap, subst, arith}
 use Rattle.std.specs.Prelude.{IfOk, OnOk, Result, Ok, Err}
 use Rattle.std.proofs.lemmas.Bool.{eq-eqb, eqb-true}
 use Rattle.std.proofs.lemmas.Grind.{flat_map-append}
@@ -14,7 +14,6 @@ use Rattle.net_core.specs.Cases.{Case}
 use Rattle.plan_terms.specs.Edits.{edit_reply, version_after}
 use Rattle.cut_pool.specs.Histories.{Dated, cuts_of, demands_left, left_by, left_by_entry, pooled_by, version_left}
 use Rattle.cut_pool.proofs.Growing.{left_more}
-use Rattle.report_checker.specs.Journals.{IsOtherEntry}
 use Rattle.report_checker.specs.inner.Walks.{HasPassed, Passes}
 use Rattle.report_checker.specs.declared.walk.Walk.{Walk}
 

@@ -1,3 +1,4 @@
+pub mod Along
 pub mod Outcomes
 pub mod Said
 pub mod Walks

@@ -6,7 +6,7 @@ ghost use Rattle.report_checker.specs.Journals.{HoldsEntryDiffers, HoldsNotesDif
 ghost use Rattle.report_checker.specs.inner.Walks.{HasPassed, HasSmallNeed};
 
 use crate::walk::{Walk, walk_from};
-use net_core::{Entry, Instance, NoMemory, Notes};
+use net_core::{Entry, Instance, Notes};
 use plan_checker::{Finding, Stop, Test};
 
 /// Whether the notes are the network's.
@@ -17,19 +17,6 @@ pub fn check_notes(own: Notes, printed: Notes) -> Test
         return Err(Stop::Found(Finding::NotesDiffer));
     }
     Ok(())
-}
-
-/// A walk past these entries, whatever replies they have.
-pub fn walk_past(instance: &Instance, entries: &[Entry]) -> Result<Walk, NoMemory>
-    requires needs { All HasSmallNeed entries.now }
-    requires few { length entries.now ≤ 65536 }
-    ensures { IfOk result (HasPassed (case_of instance.now) entries.now) }
-{
-    let mut walk = walk_from(instance)?;
-    for k in 0..entries.len() {
-        walk.pass(&entries[k])?;
-    }
-    Ok(walk)
 }
 
 /// A walk past these entries, each of which is the one that is expected there.

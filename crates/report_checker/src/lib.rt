@@ -1,6 +1,7 @@
 //! A plain walk through a report that trusts nothing of whoever made it.
 #![tactic(auto)]
 
+mod along;
 mod journal;
 mod outcomes;
 mod pool;

@@ -1,17 +1,17 @@
-ghost use Rattle.std.specs.Prelude.{◌≡◌, ◌+◌, ◌≤◌, ◌<◌, ◌↔◌, All, IfOk, IsTrue, None, OnOk, length, take};
+ghost use Rattle.std.specs.Prelude.{◌≡◌, ◌+◌, ◌<◌, ◌↔◌, IfErr, IfOk, IsTrue, None, OnOk, length, min, take};
 ghost use Rattle.net_core.specs.Graphs.{Joins};
 ghost use Rattle.net_core.specs.Views.{case_of, graph};
 ghost use Rattle.plan_report.specs.Forms.{IsOutcomeInForm, IsPlanInForm};
 ghost use Rattle.plan_terms.specs.Paths.{AreApart};
 ghost use Rattle.plan_checker.specs.PlanFindings.{IsAcceptedPlan, plan_findings};
-ghost use Rattle.plan_checker.specs.inner.Tests.{TellFirst, Tells};
-ghost use Rattle.report_checker.specs.Outcomes.{HoldsSurvivable, HoldsVersionDiffers, IsAcceptedOutcome, SeparatesNamed, case_at, outcome_findings};
+ghost use Rattle.plan_checker.specs.inner.Tests.{StopsFirst, TellFirst, Tells};
+ghost use Rattle.report_checker.specs.Outcomes.{HoldsSurvivable, HoldsVersionDiffers, SeparatesNamed, case_at, outcome_findings};
+ghost use Rattle.report_checker.specs.inner.Along.{IsSoundOutcome, outcome_place};
 ghost use Rattle.report_checker.specs.inner.Said.{IsNamedSeparation, IsSaid, findings_there, outcome_position, outcome_version, said_findings};
-ghost use Rattle.report_checker.specs.inner.Walks.{HasPassed, HasSmallNeed};
+ghost use Rattle.report_checker.specs.inner.Walks.{HasPassed};
 
-use crate::journal::walk_past;
 use crate::walk::Walk;
-use net_core::{CutLine, Demand, Entry, Instance, List, Name, NoMemory, StateId};
+use net_core::{CutLine, Demand, Instance, List, Name, NoMemory, StateId};
 use plan_checker::{CheckAnswer, Finding, Stop, Test, check_plan};
 use plan_types::{Outcome, Plan, Report};
 use short_paths::distances;
@@ -161,19 +161,6 @@ fn check_said(
     }
 }
 
-/// A walk to a position of the journal, or to its end.
-fn walk_to(instance: &Instance, entries: &[Entry], position: u64) -> Result<Walk, NoMemory>
-    requires needs { All HasSmallNeed entries.now }
-    requires few { length entries.now ≤ 65536 }
-    ensures { IfOk result (HasPassed (case_of instance.now) (take position entries.now)) }
-{
-    if position < entries.len() as u64 {
-        walk_past(instance, &entries[..position as usize])
-    } else {
-        walk_past(instance, entries)
-    }
-}
-
 /// Checks an outcome to whose position the walk has come.
 fn check_there(
     alloc: Global,
@@ -197,14 +184,34 @@ fn check_there(
     check_said(alloc, &there, outcome, full, report.pool.items())
 }
 
-/// Checks an outcome by the demands at its position of the journal, which are found by a walk up to there.
-pub fn check_outcome(alloc: Global, instance: &Instance, report: &Report, outcome: &Outcome) -> Test
-    requires needs { All HasSmallNeed report.now.entries }
-    requires few { length report.now.entries ≤ 65536 }
-    requires form { IsOutcomeInForm instance.now.net.now.nodes instance.now.net.now.links instance.now.states.now.listed report.now.pool outcome.now }
-    ensures told { TellFirst (outcome_findings (case_of instance.now) report.now outcome.now) result }
-    ensures sound { OnOk result (IsAcceptedOutcome (case_of instance.now) report.now outcome.now) }
+/// The number of entries before an outcome, which are all where its position is past the journal.
+fn place_of(outcome: &Outcome, entries: usize) -> usize
+    ensures { result ≡ min (outcome_position outcome.now) entries }
 {
-    let walk = walk_to(instance, report.entries.items(), position_of(outcome))?;
-    check_there(alloc, instance, &walk, report, outcome)
+    let position = position_of(outcome);
+    if position < entries as u64 {
+        position as usize
+    } else {
+        entries
+    }
+}
+
+/// Checks an outcome if it is of this place of the journal, to which the walk has come.
+pub fn check_met(
+    alloc: Global,
+    instance: &Instance,
+    walk: &Walk,
+    report: &Report,
+    outcome: &Outcome,
+    place: usize,
+) -> Test
+    requires passed { HasPassed (case_of instance.now) (take place report.now.entries) walk.now }
+    requires form { IsOutcomeInForm instance.now.net.now.nodes instance.now.net.now.links instance.now.states.now.listed report.now.pool outcome.now }
+    ensures sound { OnOk result (outcome_place report.now outcome.now ≡ place → IsSoundOutcome (case_of instance.now) report.now outcome.now) }
+    ensures stopped { IfErr result (StopsFirst (outcome_findings (case_of instance.now) report.now outcome.now)) }
+{
+    if place_of(outcome, report.entries.len()) != place {
+        return Ok(());
+    }
+    check_there(alloc, instance, walk, report, outcome)
 }

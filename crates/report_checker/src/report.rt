@@ -7,8 +7,8 @@ ghost use Rattle.report_checker.specs.Outcomes.{IsAcceptedOutcome};
 ghost use Rattle.report_checker.specs.ReportFindings.{AnswersReport, whole_findings};
 ghost use Rattle.report_checker.specs.inner.Outcomes.{TellOutcomes, answer_of};
 
+use crate::along::check_outcomes;
 use crate::journal::{check_entries, check_notes};
-use crate::outcomes::check_outcome;
 use crate::pool::{check_count, check_cuts, check_rights};
 use net_core::{Demands, Instance, Network, States};
 use plan_checker::{CheckAnswer, Stop, Test};
@@ -32,37 +32,25 @@ fn check_whole(alloc: Global, instance: &Instance, report: &Report) -> Test
     check_rights(alloc, &end, report.pool.items())
 }
 
-/// What a reason to stop comes to, on an outcome counted from 1, or on the whole report with 0.
-fn answer_of(outcome: u32, stop: Stop) -> CheckAnswer
-    ensures { result ≡ answer_of outcome stop }
+/// What a reason to stop on the whole report comes to.
+fn answer_of(stop: Stop) -> CheckAnswer
+    ensures { result ≡ answer_of stop }
 {
     match stop {
-        Stop::Found(finding) => CheckAnswer::Rejected { outcome, finding },
+        Stop::Found(finding) => CheckAnswer::Rejected {
+            outcome: 0,
+            finding,
+        },
         Stop::NoMemory => CheckAnswer::NoMemory,
     }
-}
-
-/// Checks the outcomes one after another.
-fn check_outcomes(alloc: Global, instance: &Instance, report: &Report) -> CheckAnswer
-    requires { IsReportInForm instance.now.net.now.nodes instance.now.net.now.links instance.now.states.now.listed report.now }
-    ensures told { TellOutcomes (case_of instance.now) report.now result }
-    ensures sound { result ≡ CheckAnswer.Accepted → All (IsAcceptedOutcome (case_of instance.now) report.now) report.now.outcomes }
-{
-    let outcomes = report.outcomes.items();
-    for j in 0..outcomes.len() {
-        match check_outcome(alloc, instance, report, &outcomes[j]) {
-            Ok(()) => {}
-            Err(stop) => return answer_of(j as u32 + 1, stop),
-        }
-    }
-    CheckAnswer::Accepted
 }
 
 /// Checks a report in form, trusting nothing of whoever made it: its journal, its pool, and what each outcome says of the demands
 /// at its position. The demands are those before the first entry.
 ///
 /// It takes a search from each node for each line of the pool and of each certificate, a comparison of each line of the pool with
-/// those before it, a walk through the journal for each outcome, and else time in the size of the report.
+/// those before it, two walks through the journal, on which each edit looks its demand up through the list, and else time in the
+/// size of the report. It takes memory for a copy of the demands, and for what the check of one plan takes.
 ///
 /// ```text
 /// let answer = check_report(alloc, &net, &states, &opening, &report);
@@ -87,6 +75,6 @@ pub fn check_report(
     };
     match check_whole(alloc, &instance, report) {
         Ok(()) => check_outcomes(alloc, &instance, report),
-        Err(stop) => answer_of(0, stop),
+        Err(stop) => answer_of(stop),
     }
 }

@@ -1,5 +1,5 @@
 -- what tests of outcomes come to
-use Rattle.std.specs.Prelude.{ℕ, zero, suc, ◌<◌, List, All}
+use Rattle.std.specs.Prelude.{ℕ, zero, suc, ◌<◌, All}
 use Rattle.net_core.specs.Cases.{Case}
 use Rattle.plan_types.specs.declared.report.Report.{Report}
 use Rattle.plan_checker.specs.Order.{HoldNone, IsFirstFinding}
@@ -11,10 +11,10 @@ use Rattle.plan_checker.specs.declared.stop.Stop.{Stop}
 use Rattle.plan_checker.specs.declared.stop.Stop.TheVariants as stops
 use Rattle.report_checker.specs.Outcomes.{outcome_findings}
 
--- the answer of a reason to stop
-abbrev pub answer_of : ℕ → Stop → CheckAnswer
-answer_of outcome (stops.Found finding) = Rejected outcome finding
-answer_of outcome stops.NoMemory = NoMemory
+-- the answer of a reason to stop on the whole report
+abbrev pub answer_of : Stop → CheckAnswer
+answer_of (stops.Found finding) = Rejected 0 finding
+answer_of stops.NoMemory = NoMemory
 
 -- the first finding on outcome j, from 1, where those before it have none
 abbrev pub IsFirstOfOutcomes : Case → Report → ℕ → Finding → Type 0

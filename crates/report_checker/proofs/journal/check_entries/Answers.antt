@@ -1,4 +1,4 @@
-use Rattle.std.proofs.Common.{ℕ, refl, take}
+use Rattle.std.proofs.Common.{refl, take}
 use Rattle.net_core.specs.declared.journal.Entry.{Entry}
 use Rattle.net_core.specs.Views.{case_of}
 use Rattle.plan_checker.proofs.Places.{holds_here, none_at_all, none_more}

@@ -1,5 +1,3 @@
-use Rattle.std.proofs.Common.{ℕ}
-use Rattle.std.proofs.lemmas.Option.{slice_get_read}
 use Rattle.net_core.specs.declared.plan.CutLine.{CutLine}
 use Rattle.net_core.specs.Cases.{graph_in}
 use Rattle.net_core.specs.Views.{case_of}

@@ -1,8 +1,8 @@
-use Rattle.std.proofs.Common.{ℕ, ◌∙◌, refl, sym}
+use Rattle.std.proofs.Common.{◌∙◌, sym}
 use Rattle.net_core.specs.declared.plan.CutLine.{CutLine}
 use Rattle.net_core.specs.Views.{case_of}
 use Rattle.plan_checker.proofs.KeptLengths.{right_one}
-use Rattle.plan_checker.proofs.Places.{holds_here, none_at_all, none_more}
+use Rattle.plan_checker.proofs.Places.{none_at_all, none_more}
 use Rattle.report_checker.specs.Pools.{HasStaleRight}
 use Rattle.report_checker.proofs.Telling.{no_stale}
 use Rattle.report_checker.proofs.pool.check_rights.Goals as goal

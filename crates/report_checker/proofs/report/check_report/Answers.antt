@@ -11,4 +11,4 @@ returns-in-Err-clause-told c =
     whole_stops c.args.net.now.notes (case c.args.net.now c.args.states.now c.args.opening.now) c.args.report.now c.in-Err.stop c.answer_of.result c.in-Err.ensures c.answer_of.ensures
 
 pub returns-in-Err-clause-sound : goal.returns-in-Err-clause-sound
-returns-in-Err-clause-sound c = λ accepted. absurd (never_accepted 0 c.in-Err.stop c.answer_of.result c.answer_of.ensures accepted)
+returns-in-Err-clause-sound c = λ accepted. absurd (never_accepted c.in-Err.stop c.answer_of.result c.answer_of.ensures accepted)
