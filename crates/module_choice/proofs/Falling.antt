@@ -69,13 +69,13 @@ met joins lengths demands r least k d at =
     (λ none. let zero' : d.need ≡ 0 = omega (arith, none) in sent_none r.flows k (λ i f lt here. omega (arith, (of_one i f lt here).1, zero')) ∙ sym zero')
     (cases_lt 0 d.need)
 
-get_some : {X : Type 0} → (xs : List X) (i : ℕ) → i < length xs → (x : X) × (slice_get xs i ≡ Some x)
+pub get_some : {X : Type 0} → (xs : List X) (i : ℕ) → i < length xs → (x : X) × (slice_get xs i ≡ Some x)
 get_some [] i lt = absurd (omega arith)
 get_some (x ∷ xs) zero lt = (x, refl)
 get_some (x ∷ xs) (suc i) lt = get_some xs i (omega arith)
 
 -- the capacity of link e is its pre-installed one and that of its counts
-capacity_at : (links : List Link) (counts : List (List ℕ)) (e : ℕ) (l : Link) (c : List ℕ) → slice_get links e ≡ Some l → slice_get counts e ≡ Some c → get_or (capacities links counts) e 0 ≡ l.fixed + modules_capacity l.modules c
+pub capacity_at : (links : List Link) (counts : List (List ℕ)) (e : ℕ) (l : Link) (c : List ℕ) → slice_get links e ≡ Some l → slice_get counts e ≡ Some c → get_or (capacities links counts) e 0 ≡ l.fixed + modules_capacity l.modules c
 capacity_at [] counts e l c p q = absurd (cc)
 capacity_at (k ∷ ks) [] e l c p q = absurd (cc)
 capacity_at (k ∷ ks) (d ∷ ds) zero l c p q =
@@ -103,7 +103,7 @@ carried p s lengths rs r counts covers at least =
     }
 
 -- counts of the right shape, link by link
-all_shaped : (links : List Link) (counts : List (List ℕ)) → length counts ≡ length links → ((e : ℕ) (l : Link) (c : List ℕ) → slice_get links e ≡ Some l → slice_get counts e ≡ Some c → length c ≡ length l.modules) → AreCounts links counts
+pub all_shaped : (links : List Link) (counts : List (List ℕ)) → length counts ≡ length links → ((e : ℕ) (l : Link) (c : List ℕ) → slice_get links e ≡ Some l → slice_get counts e ≡ Some c → length c ≡ length l.modules) → AreCounts links counts
 all_shaped [] [] long each = tt
 all_shaped [] (c ∷ cs) long each = absurd (omega (arith, long))
 all_shaped (l ∷ ls) [] long each = absurd (omega (arith, long))
@@ -112,7 +112,7 @@ all_shaped (l ∷ ls) (c ∷ cs) long each = (each 0 l c refl refl, all_shaped l
 pub covered_shape : (links : List Link) (loads : ℕ → ℕ) (counts : List (List ℕ)) → AreCovered links loads counts → AreCounts links counts
 covered_shape links loads counts covered = all_shaped links counts covered.covers.long (λ e l c p q. (covered.covers.each e l c p q).reaches.shape)
 
-capacities_small : (links : List Link) (counts : List (List ℕ)) → ((e : ℕ) (l : Link) (c : List ℕ) → slice_get links e ≡ Some l → slice_get counts e ≡ Some c → l.fixed + modules_capacity l.modules c < 2 ^ 46) → All (λ n. n < 2 ^ 46) (capacities links counts)
+pub capacities_small : (links : List Link) (counts : List (List ℕ)) → ((e : ℕ) (l : Link) (c : List ℕ) → slice_get links e ≡ Some l → slice_get counts e ≡ Some c → l.fixed + modules_capacity l.modules c < 2 ^ 46) → All (λ n. n < 2 ^ 46) (capacities links counts)
 capacities_small [] counts each = All-nil (λ n. n < 2 ^ 46)
 capacities_small (l ∷ ls) [] each = All-nil (λ n. n < 2 ^ 46)
 capacities_small (l ∷ ls) (c ∷ cs) each = All-cons (λ n. n < 2 ^ 46) (l.fixed + modules_capacity l.modules c) (capacities ls cs) (each 0 l c refl refl) (capacities_small ls cs (λ e k d p q. each (suc e) k d p q))

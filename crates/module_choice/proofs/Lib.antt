@@ -8,3 +8,4 @@ pub mod Pairs
 pub mod Routing
 pub mod Weights
 pub mod Steps
+pub mod UnitPairs

@@ -1,7 +1,8 @@
 -- two lists taken together, so far and with the next elements
 use Rattle.std.proofs.Common.{◌≡◌, ℕ, zero, suc, ◌+◌, ◌*◌, ◌<◌, ◌≤◌, List, [], ◌∷◌, ◌++◌, get_or, length, refl, ◌∙◌, ap, arith, take, map, sum_by, zip, add-one}
-use Rattle.std.proofs.lemmas.List.{map-append, take_all}
+use Rattle.std.proofs.lemmas.List.{length-map, map-append, take_all}
 use Rattle.std.proofs.lemmas.List.Sums.{sum_by-append}
+use Rattle.std.proofs.lemmas.Slice.Zip.{length-zip}
 use Rattle.net_core.specs.declared.network.Module.{Module}
 use Rattle.net_core.specs.declared.network.Link.{Link}
 use Rattle.plan_terms.specs.Capacities.{AreCounts, capacities, modules_capacity, modules_cost, total_cost}
@@ -54,6 +55,15 @@ counts_shape [] counts are i l c lt = absurd (omega arith)
 counts_shape (k ∷ ks) [] are i l c lt = absurd are
 counts_shape (k ∷ ks) (d ∷ ds) are zero l c lt = are.0
 counts_shape (k ∷ ks) (d ∷ ds) are (suc i) l c lt = counts_shape ks ds are.1 i l c (omega arith)
+
+-- each link has a capacity
+pub capacities_long : (links : List Link) (counts : List (List ℕ)) → AreCounts links counts → length (capacities links counts) ≡ length links
+capacities_long links counts are = omega (
+  arith,
+  length-map (zip links counts) (λ (p : Link × List ℕ). p.0.fixed + modules_capacity p.0.modules p.1),
+  length-zip links counts,
+  counts_long links counts are,
+)
 
 -- all links, with all their counts
 pub all_taken : {X : Type 0} (f : List Link → List (List ℕ) → X) (links : List Link) (counts : List (List ℕ)) (i : ℕ) → AreCounts links counts → length links ≤ i → f (take i links) (take i counts) ≡ f links counts

@@ -8,7 +8,8 @@ use Rattle.std.proofs.lemmas.Option.{slice_get-get_or}
 use Rattle.std.proofs.lemmas.Bool.Decides.{Decides-and, Decides-eqb, Decides-like}
 use Rattle.net_core.specs.declared.network.Link.{Link}
 use Rattle.net_core.specs.declared.network.Module.{Module}
-use Rattle.module_choice.specs.inner.Routes.{AlikeAreCovered, AreCovered, HasEarlier, IsCovered}
+use Rattle.module_choice.specs.Coverings.{CoverNeeds, IsCovered}
+use Rattle.module_choice.specs.inner.Routes.{AlikeAreCovered, AreCovered, HasEarlier}
 
 -- two modules are one where their numbers are
 pub module_decides : (a b : Module) → Decides ((a.capacity == b.capacity) && (a.cost == b.cost)) (a ≡ b)
@@ -85,23 +86,27 @@ all_written old new count = ap (λ xs. take (length old) (new ++ xs)) (drop_all 
 abbrev default : Link
 default = record { name = []; a = record { 0 = 0 }; b = record { 0 = 0 }; fixed = 0; setup = 0; modules = [] }
 
+-- counts of which all that have the same modules cover their needs cover each need
+pub needs_covered : (links : List Link) (needs : List ℕ) (counts : List (List ℕ)) → length counts ≡ length links → ((e : ℕ) (l : Link) → slice_get links e ≡ Some l → AlikeAreCovered links needs counts l.modules) → CoverNeeds links needs counts
+needs_covered links needs counts count all = record { long = count; each = λ e l c at got. all e l at e l c at got refl }
+
 -- counts that cover each need cover each load less the fixed capacity
-pub loads_covered : (links : List Link) (needs peaks : List ℕ) (counts : List (List ℕ)) → length counts ≡ length links → ((e : ℕ) (l : Link) → slice_get links e ≡ Some l → get_or needs e 0 ≡ get_or peaks e 0 - l.fixed) → ((e : ℕ) (l : Link) → slice_get links e ≡ Some l → AlikeAreCovered links needs counts l.modules) → AreCovered links (slice_index peaks) counts
-loads_covered links needs peaks counts count each all =
+pub loads_covered : (links : List Link) (needs peaks : List ℕ) (counts : List (List ℕ)) → ((e : ℕ) (l : Link) → slice_get links e ≡ Some l → get_or needs e 0 ≡ get_or peaks e 0 - l.fixed) → CoverNeeds links needs counts → AreCovered links (slice_index peaks) counts
+loads_covered links needs peaks counts each all =
     let here : (e : ℕ) (l : Link) (c : List ℕ) → slice_get links e ≡ Some l → slice_get counts e ≡ Some c → IsCovered l.modules (get_or peaks e 0 - l.fixed) c =
-    λ e l c at got. subst (λ n. IsCovered l.modules n c) (each e l at) (all e l at e l c at got refl) in
+    λ e l c at got. subst (λ n. IsCovered l.modules n c) (each e l at) (all.each e l c at got) in
     record {
-      covers = record { long = count; each = λ e l c at got. (here e l c at got).covers };
+      covers = record { long = all.long; each = λ e l c at got. (here e l c at got).covers };
       few = λ e d lt.
-          let link = slice_get-get_or links e default (omega (arith, lt, count)) in
+          let link = slice_get-get_or links e default (omega (arith, lt, all.long)) in
           (here e (get_or links e default) (get_or counts e d) link (slice_get-get_or counts e d lt)).few;
       small = λ e l c at got. (here e l c at got).narrow;
     }
 
 -- the same of what a call answers
-pub all_loads_covered : {E : Type 0} (links : List Link) (needs peaks : List ℕ) (answer : Result (List (List ℕ)) E) → ((e : ℕ) (l : Link) → slice_get links e ≡ Some l → get_or needs e 0 ≡ get_or peaks e 0 - l.fixed) → IfOk answer (λ counts. length counts ≡ length links) → IfOk answer (λ counts. (e : ℕ) (l : Link) → slice_get links e ≡ Some l → AlikeAreCovered links needs counts l.modules) → IfOk answer (AreCovered links (slice_index peaks))
-all_loads_covered links needs peaks (Ok counts) each count all = loads_covered links needs peaks counts count each all
-all_loads_covered links needs peaks (Err e) each count all = tt
+pub all_loads_covered : {E : Type 0} (links : List Link) (needs peaks : List ℕ) (answer : Result (List (List ℕ)) E) → ((e : ℕ) (l : Link) → slice_get links e ≡ Some l → get_or needs e 0 ≡ get_or peaks e 0 - l.fixed) → IfOk answer (CoverNeeds links needs) → IfOk answer (AreCovered links (slice_index peaks))
+all_loads_covered links needs peaks (Ok counts) each all = loads_covered links needs peaks counts each all
+all_loads_covered links needs peaks (Err e) each all = tt
 
 -- needs are as small as the loads
 pub needs_small : (links : List Link) (peaks needs : List ℕ) → length needs ≡ length links → ((e : ℕ) (l : Link) → slice_get links e ≡ Some l → get_or needs e 0 ≡ get_or peaks e 0 - l.fixed) → length peaks ≡ length links → All (λ n. n < 2 ^ 44) peaks → All (λ n. n < 2 ^ 44) needs

@@ -2,12 +2,13 @@ ghost use Rattle.std.specs.Prelude.{◌≡◌, ℕ, ◌-◌, ◌*◌, ◌^◌, �
 ghost use Rattle.net_core.specs.Network.{IsModule};
 ghost use Rattle.net_core.specs.declared.network.Link.{Link as L};
 ghost use Rattle.net_core.specs.declared.network.Module.{Module as M};
+ghost use Rattle.module_choice.specs.Coverings.{CoverNeeds};
 ghost use Rattle.module_choice.specs.inner.Routes.{AlikeAreCovered, AreCovered, HasEarlier};
 ghost use Rattle.module_choice.specs.inner.Tables.{Answers, IsTable};
 
 use crate::covers::cover_by;
 use crate::tables::{MOST_STEPS, Table, capacity_divisor, table_for};
-use net_core::{Counts, Link, List, Module, NoMemory};
+use net_core::{Counts, Link, List, Module, Network, NoMemory};
 use std::alloc::Global;
 
 /// What each link needs beyond its pre-installed capacity, in thousandths.
@@ -120,13 +121,12 @@ fn no_counts(alloc: Global, links: usize) -> Result<Counts, NoMemory>
 }
 
 /// Counts that cover each need. Links with the same modules share one table.
-fn cover_needs(alloc: Global, links: &[Link], needs: &[u64]) -> Result<Counts, NoMemory>
+fn cover_each(alloc: Global, links: &[Link], needs: &[u64]) -> Result<Counts, NoMemory>
     requires size { length needs.now ≡ length links.now }
     requires each { All (λ l. (length l.modules ≤ 16) × All IsModule l.modules) links.now }
     requires small { All (λ n. n < 2 ^ 44) needs.now }
     requires served { (e : ℕ) (l : L) → slice_get links.now e ≡ Some l → l.modules ≡ [] → slice_index needs.now e ≡ 0 }
-    ensures count { IfOk result (λ counts. length counts ≡ length links.now) }
-    ensures covered { IfOk result (λ counts. (e : ℕ) (l : L) → slice_get links.now e ≡ Some l → AlikeAreCovered links.now needs.now counts l.modules) }
+    ensures { IfOk result (CoverNeeds links.now needs.now) }
 {
     let mut counts = no_counts(alloc, links.len())?;
     for e in 0..links.len() {
@@ -147,5 +147,19 @@ pub(crate) fn cover_links(alloc: Global, links: &[Link], peaks: &[u64]) -> Resul
     ensures { IfOk result (AreCovered links.now (slice_index peaks.now)) }
 {
     let needs = needs_of(alloc, links, peaks)?;
-    cover_needs(alloc, links, needs.items())
+    cover_each(alloc, links, needs.items())
+}
+
+/// Counts of modules that cover what each link needs, in thousandths, as `cover` does. Links with the same modules share one table,
+/// so it takes time and memory for each different list of modules.
+///
+/// With needs of 180 and 700 on two links, both with modules of 155 for 100 and of 622 for 250, the first link gets two of the first
+/// module, and the second one of each.
+pub fn cover_needs(alloc: Global, net: &Network, needs: &List<u64>) -> Result<Counts, NoMemory>
+    requires size { length needs.now ≡ length net.now.links }
+    requires small { All (λ n. n < 2 ^ 44) needs.now }
+    requires served { (e : ℕ) (l : L) → slice_get net.now.links e ≡ Some l → l.modules ≡ [] → slice_index needs.now e ≡ 0 }
+    ensures { IfOk result (CoverNeeds net.now.links needs.now) }
+{
+    cover_each(alloc, net.links().items(), needs.items())
 }

@@ -9,6 +9,7 @@ mod routes;
 mod tables;
 mod totals;
 
+pub use alike::cover_needs;
 pub use covers::{Covering, cover};
 pub use fallback::{Fallback, fallback_plan};
 pub use totals::{capacities, cost};

@@ -1,8 +1,7 @@
 -- from what the tests find to what a plan carries
-use Rattle.std.proofs.Common.{◌≡◌, ℕ, ◌+◌, ◌*◌, ◌<◌, ◌≤◌, List, Some, All, length, get_or, refl, ap, subst, arith, slice_get, zip, ⊎_elim}
+use Rattle.std.proofs.Common.{◌≡◌, ℕ, ◌*◌, ◌<◌, ◌≤◌, List, Some, All, length, get_or, refl, ap, subst, arith, slice_get, ⊎_elim}
 use Rattle.std.proofs.lemmas.Bool.{cases_eq, cases_lt}
-use Rattle.std.proofs.lemmas.List.{get_or_default, length-map}
-use Rattle.std.proofs.lemmas.Slice.Zip.{length-zip}
+use Rattle.std.proofs.lemmas.List.{get_or_default}
 use Rattle.std.proofs.lemmas.Option.{get_or_from_slice_get, slice_get_read, slice_get_within}
 use Rattle.net_core.specs.Cases.{Case, graph_in}
 use Rattle.net_core.specs.Graphs.{Joins}
@@ -10,9 +9,6 @@ use Rattle.net_core.specs.declared.plan.Routing.{Routing}
 use Rattle.plan_terms.specs.Flows.{Carries, IsFlow, load, sent}
 use Rattle.module_choice.specs.inner.Routes.{weight}
 use Rattle.module_choice.proofs.Carrying.{load_is_weight, load_none}
-use Rattle.module_choice.proofs.Pairs.{counts_long}
-use Rattle.net_core.specs.declared.network.Link.{Link}
-use Rattle.plan_terms.specs.Capacities.{AreCounts, capacities, modules_capacity}
 use Rattle.plan_report.specs.Forms.{AreRoutingsInForm, IsFlowInForm}
 use Rattle.plan_checker.specs.Carried.{HasBadPath, IsOverloaded, IsUncarried}
 use Rattle.plan_checker.specs.Shares.{AreCarried}
@@ -36,15 +32,6 @@ are_flows p routings form paths s r at k d lt =
 pub loads_are : (p : Case) (routings : List Routing) → AreRoutingsInForm p.links p.listed p.demands routings → FollowPaths p routings → (s : ℕ) (d : Routing) → s < length routings → (e : ℕ) → load (get_or routings s d).flows e ≡ weight (get_or routings s d).flows e
 loads_are p routings form paths s d lt e =
     load_is_weight (graph_in p s) p.demands (get_or routings s d).flows e (are_flows p routings form paths s (get_or routings s d) (read_at routings s d lt))
-
--- each link has a capacity
-pub capacities_long : (links : List Link) (counts : List (List ℕ)) → AreCounts links counts → length (capacities links counts) ≡ length links
-capacities_long links counts are = omega (
-  arith,
-  length-map (zip links counts) (λ (p : Link × List ℕ). p.0.fixed + modules_capacity p.0.modules p.1),
-  length-zip links counts,
-  counts_long links counts are,
-)
 
 -- routings whose flows follow paths, which are met and within numbers, carry the demands
 pub carries_by : (p : Case) (scale : ℕ) (nums : List ℕ) (routings : List Routing) → length nums ≡ length p.links → AreRoutingsInForm p.links p.listed p.demands routings → FollowPaths p routings

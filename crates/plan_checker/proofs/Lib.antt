@@ -8,6 +8,5 @@ pub mod MixedSums
 pub mod Places
 pub mod SharesKept
 pub mod Telling
-pub mod UnitPairs
 pub mod Walks
 pub mod Worths

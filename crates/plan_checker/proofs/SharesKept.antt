@@ -17,7 +17,7 @@ use Rattle.plan_types.specs.declared.quality.Fractional.{Fractional}
 use Rattle.plan_types.specs.declared.quality.Share.{Share}
 use Rattle.plan_checker.specs.Shares.{AreCarried, GivesShare, IsShareOf, IsTight}
 use Rattle.plan_checker.proofs.KeptLengths.{item_at}
-use Rattle.plan_checker.proofs.UnitPairs.{pair_once}
+use Rattle.module_choice.proofs.UnitPairs.{pair_once}
 
 no_pair : (modules : List Module) (capacity cost : ℕ) → IsUnitPair modules capacity cost → modules ≡ [] → ⊥
 no_pair [] capacity cost pair none = let lt = pair.least.one.1 in omega (arith, lt)

@@ -9,9 +9,10 @@ use Rattle.net_core.specs.declared.plan.Routing.{Routing}
 use Rattle.net_core.specs.Cases.{Case, graph_in}
 use Rattle.net_core.specs.Graphs.{Joins}
 use Rattle.plan_terms.specs.Capacities.{modules_capacity}
-use Rattle.plan_terms.specs.Covers.{CoverLoads, Covers}
+use Rattle.plan_terms.specs.Covers.{CoverLoads}
 use Rattle.plan_terms.specs.Fallbacks.{IsLeastFlow, IsLeastRouting, peak}
 use Rattle.plan_terms.specs.LeastPaths.{IsLeastPath}
+use Rattle.module_choice.specs.Coverings.{IsCovered}
 
 -- how often link e stands on the path
 abbrev pub times : ℕ → List LinkId → ℕ
@@ -42,12 +43,6 @@ pub record AreRouted (p : Case) (lengths : List ℕ) (n : ℕ) (routings : List 
   pub size : length peaks ≡ length p.links
   pub greatest : (e : ℕ) → e < length p.links → slice_index peaks e ≡ peak routings e
   pub small : (e : ℕ) → peak routings e < 2 ^ 44
-
--- counts that cover a need, within the limits
-pub record IsCovered (modules : List Module) (need : ℕ) (counts : List ℕ) : Type 0 where
-  pub covers : Covers modules need counts
-  pub few : All (λ n. n < 2 ^ 44) counts
-  pub narrow : modules_capacity modules counts < 2 ^ 45
 
 -- the counts of all links that have these modules cover their needs
 abbrev pub AlikeAreCovered : List Link → List ℕ → List (List ℕ) → List Module → Type 0

@@ -2,7 +2,8 @@ use Rattle.std.proofs.Common.{◌≡◌, ◌∙◌, ◌+◌, Some, ap, arith, ge
 use Rattle.std.proofs.Math.ListN.{length-set}
 use Rattle.std.proofs.lemmas.Bool.{false≢true}
 use Rattle.std.proofs.lemmas.Option.{slice_get_read, slice_get_within}
-use Rattle.module_choice.specs.inner.Routes.{AlikeAreCovered, IsCovered}
+use Rattle.module_choice.specs.Coverings.{IsCovered}
+use Rattle.module_choice.specs.inner.Routes.{AlikeAreCovered}
 use Rattle.module_choice.proofs.SameModules.{TheseAreCovered, covered_set, these_set, these_skip}
 use Rattle.module_choice.proofs.alike.cover_by_table.Goals as goal
 use Rattle.module_choice.proofs.alike.cover_by_table.Goals.{then-has_modules+in_ok-counts, else-has_modules}

@@ -3,7 +3,8 @@ use Rattle.net_core.specs.Views.{case_of}
 use Rattle.net_core.specs.declared.plan.Routing.{Routing}
 use Rattle.plan_report.specs.Forms.{AreRoutingsInForm}
 use Rattle.plan_terms.specs.Capacities.{capacities}
-use Rattle.plan_checker.proofs.Carrying.{capacities_long, carries_by}
+use Rattle.module_choice.proofs.Pairs.{capacities_long}
+use Rattle.plan_checker.proofs.Carrying.{carries_by}
 use Rattle.plan_checker.proofs.Firsts.{on_ok}
 use Rattle.plan_checker.proofs.plan.check_own.Goals as goal
 

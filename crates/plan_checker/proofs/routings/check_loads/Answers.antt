@@ -3,7 +3,7 @@ use Rattle.net_core.specs.declared.plan.Routing.{Routing}
 use Rattle.plan_checker.specs.Carried.{IsOverloaded}
 use Rattle.plan_checker.specs.inner.Tests.{IsFirstPair}
 use Rattle.plan_checker.specs.declared.place.Place.{Place}
-use Rattle.plan_checker.proofs.Carrying.{capacities_long}
+use Rattle.module_choice.proofs.Pairs.{capacities_long}
 use Rattle.plan_checker.proofs.Telling.{no_overloaded}
 use Rattle.plan_checker.proofs.routings.check_loads.Goals as goal
 

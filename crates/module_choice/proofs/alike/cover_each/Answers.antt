@@ -2,9 +2,9 @@ use Rattle.std.proofs.Common.{◌≡◌, ◌∙◌, ◌+◌, Some, ap, arith, le
 use Rattle.std.proofs.lemmas.Option.{slice_get_read, slice_get_within}
 use Rattle.net_core.specs.declared.network.Link.{Link}
 use Rattle.module_choice.specs.inner.Routes.{AlikeAreCovered}
-use Rattle.module_choice.proofs.SameModules.{AllCovered, all_written, covered_again, covered_next}
-use Rattle.module_choice.proofs.alike.cover_needs.Goals as goal
-use Rattle.module_choice.proofs.alike.cover_needs.Goals.{then-not-has_earlier+in_ok-cover_alike, else-not-has_earlier}
+use Rattle.module_choice.proofs.SameModules.{AllCovered, all_written, covered_again, covered_next, needs_covered}
+use Rattle.module_choice.proofs.alike.cover_each.Goals as goal
+use Rattle.module_choice.proofs.alike.cover_each.Goals.{then-not-has_earlier+in_ok-cover_alike, else-not-has_earlier}
 
 pub loop-e-preserved : goal.loop-e-preserved
 loop-e-preserved c =
@@ -31,5 +31,5 @@ loop-e-preserved c =
           }
     ]
 
-pub returns-clause-covered : goal.returns-clause-covered
-returns-clause-covered c e l at = c.loop-e.invariant.covered e l (omega (arith, slice_get_within c.args.links.now e l at, c.loop-e-test.false)) at
+pub returns : goal.returns
+returns c = needs_covered c.args.links.now c.args.needs.now c.loop-e.counts c.loop-e.invariant.count (λ e l at. c.loop-e.invariant.covered e l (omega (arith, slice_get_within c.args.links.now e l at, c.loop-e-test.false)) at)
