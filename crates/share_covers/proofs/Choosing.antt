@@ -1,0 +1,122 @@
+-- the fallback plan, or the covers of a share
+use Rattle.std.proofs.Common.{◌≡◌, ℕ, ◌+◌, ◌*◌, ◌^◌, ◌≤◌, ◌<◌, ◌⊎◌, inl, inr, List, [], All, Some, get_or, length, refl, sym, ap, subst, ◌∙◌, arith, slice_get}
+use Rattle.std.proofs.lemmas.Option.{slice_get-get_or}
+use Rattle.std.proofs.Math.Nat.{eq-one_of_dvd-one}
+use Rattle.std.specs.Int.{◌∣◌}
+use Rattle.module_choice.specs.declared.fallback.Fallback.{Fallback}
+use Rattle.module_choice.proofs.Carrying.{few_flows, flows_small}
+use Rattle.module_prices.specs.declared.cheapest.UnitPair.{UnitPair}
+use Rattle.net_core.specs.Cases.{Case, graph_in}
+use Rattle.net_core.specs.Demands.{AreDemands}
+use Rattle.net_core.specs.Graphs.{Joins}
+use Rattle.net_core.specs.Network.{IsLink}
+use Rattle.net_core.specs.declared.columns.Evidence.{Evidence}
+use Rattle.net_core.specs.declared.plan.Routing.{Routing}
+use Rattle.plan_terms.specs.Capacities.{AreWithinLimits, capacities}
+use Rattle.plan_terms.specs.Fallbacks.{IsFallback, raised}
+use Rattle.plan_terms.specs.Flows.{Carries}
+use Rattle.plan_types.specs.declared.quality.Cause.TheVariants.{Wide}
+use Rattle.plan_types.specs.declared.quality.Quality.{Quality}
+use Rattle.plan_types.specs.declared.quality.Quality.TheVariants.{Tight, Loose, Unsolved}
+use Rattle.plan_types.specs.declared.quality.Share.{Share}
+use Rattle.route_law.specs.Routings.{IsLowestRouting}
+use Rattle.master_law.specs.UnitPairs.{AreUnitPairs, share_caps}
+use Rattle.plan_law.specs.TightPlans.{CostsAtMostCover}
+use Rattle.plan_law.proofs.Covering.{covers_carry}
+use Rattle.flow_router.specs.Answers.{IsRouted}
+use Rattle.share_covers.specs.Choices.{HasCause, IsChosen, IsQualityAfter, IsQualityOfShare, IsWideAtCovers}
+use Rattle.share_covers.specs.InstalledRoutes.{AreRoutedWithin, IsShortWithin, IsWideWithin, installed_caps}
+use Rattle.share_covers.specs.ShareCovers.{AreShareCovers}
+use Rattle.share_covers.specs.declared.covers.Installed.{Installed}
+use Rattle.share_covers.specs.inner.Widened.{widened}
+
+no_routing : Routing
+no_routing = record { den = 1; flows = [] }
+
+module _ (p : Case) (demands : AreDemands (length p.nodes) p.demands) (few : length p.nodes ≤ 128) (sound : All (IsLink (length p.nodes)) p.links) (fallback : Fallback) (falls : IsFallback p fallback.counts fallback.routings fallback.cost) where
+  -- the routings of the fallback plan are those of its counts' capacities
+  fallback_routed : AreRoutedWithin p (installed_caps p.links fallback.counts) fallback.routings
+  fallback_routed = record {
+    states = falls.states;
+    each = λ s r at.
+        let least = falls.routed s r at in
+        record {
+          carries = falls.carries s r at;
+          lowest = λ d of_den of_nums. eq-one_of_dvd-one (subst (λ n. d ∣ n) least.whole of_den);
+          few = omega (arith, few_flows (Joins (graph_in p s)) (raised falls.prices) p.demands r least);
+          den_limit = omega (arith, least.whole);
+          nums_limit = λ k d lt. let small = flows_small (graph_in p s) (length p.nodes) (raised falls.prices) p.demands r few sound demands least k d lt in omega (arith, small.0);
+        };
+  }
+
+  module _ (narrow : AreWithinLimits p.links fallback.counts) (share : Share) (before : Quality) (installed : Installed) (covers : AreShareCovers p.links share installed) where
+    -- what costs no more than the covers
+    covered_cost : (cost : ℕ) → cost ≤ installed.cost → (pairs : List UnitPair) → AreUnitPairs p.links pairs → CostsAtMostCover p.links pairs share cost
+    covered_cost cost le pairs units = record { counts = installed.counts; covers = covers.covers pairs units; at_most = omega (arith, le, covers.paid) }
+
+    -- a quality stays where the cost is no more than that of the covers
+    stays : (cost : ℕ) → cost ≤ installed.cost → (q : Quality) → IsQualityAfter p share cost q q
+    stays cost le (Tight fractional) = inl (refl, covered_cost cost le)
+    stays cost le (Loose cause) = refl
+    stays cost le Unsolved = refl
+
+    -- the covers
+    pub taken : (routings : List Routing) → AreRoutedWithin p (installed_caps p.links installed.counts) routings → installed.cost ≤ fallback.cost
+        → IsChosen p share fallback before (record { counts = installed.counts; routings = routings; cost = installed.cost; quality = before })
+    taken routings routed le = record {
+      shape = covers.shape;
+      limits = covers.limits;
+      routed = routed;
+      paid = covers.paid;
+      at_most = le;
+      origin = inl (λ pairs units. covers.covers pairs units);
+      quality = stays installed.cost (omega arith) before;
+    }
+
+    -- the fallback plan
+    kept : (after : Quality) → HasCause p fallback.cost installed.counts installed.cost → IsQualityAfter p share fallback.cost before after
+        → IsChosen p share fallback before (record { counts = fallback.counts; routings = fallback.routings; cost = fallback.cost; quality = after })
+    kept after cause quality = record {
+      shape = falls.shape;
+      limits = narrow;
+      routed = fallback_routed;
+      paid = falls.paid;
+      at_most = omega arith;
+      origin = inr (record { same = (refl, refl); installed = installed; covers = covers; cause = cause });
+      quality = quality;
+    }
+
+    -- which costs less than the covers
+    pub kept_cheaper : fallback.cost < installed.cost → IsChosen p share fallback before (record { counts = fallback.counts; routings = fallback.routings; cost = fallback.cost; quality = before })
+    kept_cheaper lt = kept before (inl lt) (stays fallback.cost (omega (arith, lt)) before)
+
+    -- which costs as much as covers that are too wide
+    pub kept_equal : fallback.cost ≤ installed.cost → (evidence : Evidence) → IsWideWithin p (installed_caps p.links installed.counts) evidence → IsChosen p share fallback before (record { counts = fallback.counts; routings = fallback.routings; cost = fallback.cost; quality = before })
+    kept_equal le evidence wide = kept before (inr (inl (evidence, wide))) (stays fallback.cost le before)
+
+    quality_widened : (evidence : Evidence) → IsWideAtCovers p share fallback.cost evidence → (q : Quality) → IsQualityAfter p share fallback.cost q (widened evidence q)
+    quality_widened evidence wide (Tight fractional) = inr (evidence, refl, wide)
+    quality_widened evidence wide (Loose cause) = refl
+    quality_widened evidence wide Unsolved = refl
+
+    -- which costs more than covers that are too wide
+    pub kept_wide : installed.cost < fallback.cost → (evidence : Evidence) → IsWideWithin p (installed_caps p.links installed.counts) evidence
+        → IsChosen p share fallback before (record { counts = fallback.counts; routings = fallback.routings; cost = fallback.cost; quality = widened evidence before })
+    kept_wide lt evidence wide =
+        kept (widened evidence before) (inr (inl (evidence, wide))) (quality_widened evidence (record { installed = installed; covers = covers; cheaper = lt; wide = wide }) before)
+
+    -- covers of a share that carries the demands aren't short
+    quality_short : (s : ℕ) → IsShortWithin p (installed_caps p.links installed.counts) s → (q : Quality) → IsQualityOfShare p share q → IsQualityAfter p share fallback.cost q q
+    quality_short s short (Tight fractional) of_share =
+        let r = get_or fractional.routings s no_routing in
+        let at : slice_get fractional.routings s ≡ Some r = slice_get-get_or fractional.routings s no_routing (omega (arith, of_share.carried.states, short.listed_state)) in
+        let here : Carries (Joins (graph_in p s)) p.demands share.scale (share_caps p.links of_share.pairs share).nums r =
+        subst (λ (x : Share). Carries (Joins (graph_in p s)) p.demands x.scale (share_caps p.links of_share.pairs x).nums r) of_share.same (of_share.carried.each s r at) in
+        absurd (short.none (record { den = share.scale * r.den; flows = r.flows }) (covers_carry p of_share.pairs share installed.counts s r of_share.units demands of_share.proper (covers.covers of_share.pairs of_share.units) here))
+    quality_short s short (Loose cause) of_share = refl
+    quality_short s short Unsolved of_share = refl
+
+    -- which is there where the covers are short
+    pub kept_short : IsQualityOfShare p share before → (s : ℕ) → IsShortWithin p (installed_caps p.links installed.counts) s
+        → IsChosen p share fallback before (record { counts = fallback.counts; routings = fallback.routings; cost = fallback.cost; quality = before })
+    kept_short of_share s short = kept before (inr (inr (s, short))) (quality_short s short before of_share)

@@ -1,0 +1,37 @@
+-- a link has one unit pair
+use Rattle.std.proofs.Common.{◌≡◌, ℕ, suc, ◌<◌, inl, inr, List, [], ◌∷◌, All, length, get_or, sym, ap, ◌∙◌, arith}
+use Rattle.std.proofs.lemmas.List.{ext_get_or}
+use Rattle.std.proofs.lemmas.Option.{slice_get-get_or}
+use Rattle.net_core.specs.Network.{IsLink, IsModule}
+use Rattle.net_core.specs.declared.network.Module.{Module}
+use Rattle.module_prices.specs.declared.cheapest.UnitPair.{UnitPair}
+use Rattle.plan_terms.specs.Prices.{IsUnitPair}
+use Rattle.master_law.specs.UnitPairs.{AreUnitPairs, IsPairOfLink}
+use Rattle.module_choice.proofs.Choices.{all_read}
+use Rattle.module_choice.proofs.Falling.{get_some}
+use Rattle.module_choice.proofs.UnitPairs.{pair_once}
+use Rattle.share_covers.specs.Laws.{UnitPairsAreOne}
+
+same_pair : (a b : UnitPair) → a.capacity ≡ b.capacity → a.cost ≡ b.cost → a ≡ b
+same_pair a b h k = ap (λ x. record { capacity = x; cost = a.cost }) h ∙ ap (λ x. record { capacity = b.capacity; cost = x }) k
+
+no_pair : (modules : List Module) (pair : UnitPair) → modules ≡ [] → IsUnitPair modules pair.capacity pair.cost → ⊥
+no_pair [] pair none is = let lt = is.least.one.1 in omega (arith, lt)
+no_pair (m ∷ ms) pair none is = absurd (let e : suc (length ms) ≡ 0 = ap (λ (xs : List Module). length xs) none in omega (arith, e))
+
+pub pairs_once : (modules : List Module) → All IsModule modules → (a b : UnitPair) → IsPairOfLink modules a → IsPairOfLink modules b → a ≡ b
+pairs_once modules sound a b (inl p) (inl q) = same_pair a b (p.1 ∙ sym q.1) (p.2 ∙ sym q.2)
+pairs_once modules sound a b (inl p) (inr q) = absurd (no_pair modules b p.0 q)
+pairs_once modules sound a b (inr p) (inl q) = absurd (no_pair modules a q.0 p)
+pairs_once modules sound a b (inr p) (inr q) = let once = pair_once modules sound a.capacity a.cost b.capacity b.cost p q in same_pair a b once.1 once.0
+
+no_units : UnitPair
+no_units = record { capacity = 0; cost = 0 }
+
+pub unit_pairs_are_one : UnitPairsAreOne
+unit_pairs_are_one nodes links pairs others net first second =
+    ext_get_or no_units pairs others (first.count ∙ sym second.count) (λ e lt.
+    let l = get_some links e (omega (arith, lt, first.count)) in
+    pairs_once l.0.modules (all_read (IsLink (length nodes)) links e l.0 net.sound l.1).each _ _
+    (first.each e l.0 _ l.1 (slice_get-get_or pairs e no_units lt))
+    (second.each e l.0 _ l.1 (slice_get-get_or others e no_units (omega (arith, lt, first.count, second.count)))))

@@ -1,0 +1,5 @@
+pub mod Choices
+pub mod InstalledRoutes
+pub mod Laws
+pub mod ShareCovers
+pub mod inner

@@ -1,0 +1,11 @@
+-- qualities where a state is too wide
+use Rattle.net_core.specs.declared.columns.Evidence.{Evidence}
+use Rattle.plan_types.specs.declared.quality.Cause.TheVariants.{Wide}
+use Rattle.plan_types.specs.declared.quality.Quality.{Quality}
+use Rattle.plan_types.specs.declared.quality.Quality.TheVariants.{Tight, Loose, Unsolved}
+
+-- a tight quality becomes loose by this evidence, any other stays
+abbrev pub widened : Evidence → Quality → Quality
+widened evidence (Tight fractional) = Loose (Wide evidence)
+widened evidence (Loose cause) = Loose cause
+widened evidence Unsolved = Unsolved

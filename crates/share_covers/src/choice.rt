@@ -1,0 +1,91 @@
+ghost use Rattle.std.specs.Prelude.{◌≡◌, ◌<◌, ◌≤◌, IfOk, length};
+ghost use Rattle.net_core.specs.Views.{case_of};
+ghost use Rattle.plan_terms.specs.Capacities.{AreWithinLimits};
+ghost use Rattle.plan_terms.specs.Fallbacks.{IsFallback};
+ghost use Rattle.plan_terms.specs.Separations.{IsSurvivable};
+ghost use Rattle.share_covers.specs.Choices.{IsChosen, IsQualityOfShare};
+ghost use Rattle.share_covers.specs.inner.Widened.{widened};
+
+use crate::covers::cover_share;
+use crate::routes::{InstalledRoutes, route_installed};
+use module_choice::Fallback;
+use net_core::{Counts, Evidence, Instance, List, NoMemory, Routing};
+use plan_types::{Cause, Quality, Share};
+use std::alloc::Global;
+
+/// Counts of modules with a routing for each state, what they cost, and how good the bound beside them is.
+#[derive(Drop)]
+pub struct Chosen {
+    /// One count for each module of each link.
+    pub counts: Counts,
+    /// One routing for each state, the one without failures first.
+    pub routings: List<Routing>,
+    /// What the modules cost, in thousandths.
+    pub cost: u128,
+    pub quality: Quality,
+}
+
+/// The fallback plan.
+fn keep_fallback(fallback: Fallback, quality: Quality) -> Chosen
+    ensures { result ≡ record { counts = fallback.counts; routings = fallback.routings; cost = fallback.cost; quality = quality } }
+{
+    Chosen {
+        counts: fallback.counts,
+        routings: fallback.routings,
+        cost: fallback.cost,
+        quality,
+    }
+}
+
+/// A quality where covers that cost less are too wide in a state: a loose one stays as it is.
+fn widened(quality: Quality, evidence: Evidence) -> Quality
+    ensures { result ≡ widened evidence quality }
+{
+    match quality {
+        Quality::Tight(_) => Quality::Loose(Cause::Wide(evidence)),
+        Quality::Loose(cause) => Quality::Loose(cause),
+        Quality::Unsolved => Quality::Unsolved,
+    }
+}
+
+/// The modules that cover a share where they carry the demands in each state and cost no more than the fallback plan, else the
+/// fallback plan. No state separates a demand. A tight quality is one by this share; it becomes loose where covers that cost less than the
+/// fallback plan are too wide in a state.
+///
+/// On three parallel links of modules of 1.00 for 1.00 the fallback plan for a demand of 10.00 costs 20.00; for a share of 5000 units on
+/// each link the covers are chosen, five modules each for 15.00. It takes time and memory as `cover_share` and `route_installed` do.
+pub fn choose(
+    alloc: Global,
+    problem: &Instance,
+    fallback: Fallback,
+    share: &Share,
+    quality: Quality,
+) -> Result<Chosen, NoMemory>
+    requires survivable { let p = case_of problem.now in IsSurvivable p }
+    requires fallback { let p = case_of problem.now in IsFallback p fallback.counts fallback.routings fallback.cost }
+    requires narrow { AreWithinLimits problem.now.net.now.links fallback.counts }
+    requires scale { 0 < share.now.scale }
+    requires units { length share.now.units ≡ length problem.now.net.now.links }
+    requires quality { let p = case_of problem.now in IsQualityOfShare p share.now quality }
+    ensures { let p = case_of problem.now in IfOk result (IsChosen p share.now fallback quality) }
+{
+    let installed = cover_share(alloc, problem.net, share)?;
+    if fallback.cost < installed.cost {
+        return Ok(keep_fallback(fallback, quality));
+    }
+    match route_installed(alloc, problem, &installed.counts)? {
+        InstalledRoutes::Routed(routings) => Ok(Chosen {
+            counts: installed.counts,
+            routings,
+            cost: installed.cost,
+            quality,
+        }),
+        InstalledRoutes::Wide(evidence) => {
+            if installed.cost < fallback.cost {
+                return Ok(keep_fallback(fallback, widened(quality, evidence)));
+            }
+            Ok(keep_fallback(fallback, quality))
+        }
+        InstalledRoutes::Short(_) => Ok(keep_fallback(fallback, quality)),
+    }
+}
