@@ -20,6 +20,10 @@ impl<T> From<(T, NoMemory)> for NoMemory {
 pub struct Vec<T>(std::vec::Vec<T>);
 
 impl<T> Vec<T> {
+    pub fn new(_alloc: Global) -> Vec<T> {
+        Vec(std::vec::Vec::new())
+    }
+
     pub fn with_capacity(_alloc: Global, count: usize) -> Result<Vec<T>, NoMemory> {
         Ok(Vec(std::vec::Vec::with_capacity(count)))
     }
@@ -27,6 +31,14 @@ impl<T> Vec<T> {
     pub fn push(&mut self, item: T) -> Result<(), NoMemory> {
         self.0.push(item);
         Ok(())
+    }
+
+    pub fn as_slice(&self) -> &[T] {
+        &self.0
+    }
+
+    pub fn shrink_to_fit(&mut self) {
+        self.0.shrink_to_fit();
     }
 }
 

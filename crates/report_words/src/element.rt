@@ -5,7 +5,7 @@ ghost use Rattle.text_kit.specs.Reading.{Reading, Parenthesis, list_at};
 ghost use Rattle.report_words.specs.declared.fault.ReportKind.{ReportKind};
 
 use crate::fault::{ReportKind, ReportRefusal};
-use net_core::List;
+use net_core::{List, NoMemory};
 use snd_tokens::Cursor;
 use std::alloc::Global;
 use text_kit::refusal::bad;
@@ -39,25 +39,27 @@ pub trait Element {
 fn take_element<E: Element>(
     alloc: Global,
     element: &E,
-    all: &mut List<E::Item>,
+    all: &mut Vec<E::Item>,
     text: &mut Cursor,
 ) -> Result<bool, ReportRefusal>
     requires { (sofar : List E.Item) (t : Text) (x : E.Item) (rest : Text) → E.reading element.now sofar t ≡ Ok (x, rest) → size rest < size t }
-    ensures turn { TakesElement result (list_at Parenthesis (E.fault element.now) (E.reading element.now) all.old (left text.old)) (list_at Parenthesis (E.fault element.now) (E.reading element.now) all.new (left text.new)) (Ok (all.new, left text.new)) }
+    ensures turn { TakesElement result (list_at Parenthesis (E.fault element.now) (E.reading element.now) all.old.items (left text.old)) (list_at Parenthesis (E.fault element.now) (E.reading element.now) all.new.items (left text.new)) (Ok (all.new.items, left text.new)) }
     ensures shorter { IfOk result (λ more. IsTrue more → size (left text.new) < size (left text.old)) }
 {
     if let Some(at) = closes(text) {
-        if let Some(kind) = element.fault(all.items()) {
+        if let Some(kind) = element.fault(all.as_slice()) {
             return Err(bad(at, kind));
         }
         return Ok(false);
     }
-    let one = element.take(alloc, all.items(), text)?;
-    all.push(one)?;
+    let one = element.take(alloc, all.as_slice(), text)?;
+    let Ok(()) = all.push(one) else {
+        return Err(NoMemory.into());
+    };
     Ok(true)
 }
 
-/// Takes elements, up to the closing parenthesis.
+/// Takes elements, up to the closing parenthesis. The list keeps memory for no more than its elements.
 pub fn list<E: Element>(
     alloc: Global,
     element: &E,
@@ -66,7 +68,8 @@ pub fn list<E: Element>(
     requires { (sofar : List E.Item) (t : Text) (x : E.Item) (rest : Text) → E.reading element.now sofar t ≡ Ok (x, rest) → size rest < size t }
     ensures { ReadsAs (λ l. l) result (left text.new) (list_at Parenthesis (E.fault element.now) (E.reading element.now) [] (left text.old)) }
 {
-    let mut all = List::new(alloc);
+    let mut all = Vec::new(alloc);
     while take_element(alloc, element, &mut all, text)? {}
-    Ok(all)
+    all.shrink_to_fit();
+    Ok(List::from_vec(all))
 }

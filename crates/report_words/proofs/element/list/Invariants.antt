@@ -4,7 +4,7 @@ use Rattle.text_kit.specs.Reading.{Parenthesis, list_at}
 use Rattle.report_words.proofs.element.list.Given as goal
 
 abbrev pub invariant-loop-all : goal.invariant-loop-all
-invariant-loop-all g l = list_at Parenthesis (g.E.Element.fault l.element) (g.E.Element.reading l.element) l.all (left l.text) ≡ list_at Parenthesis (g.E.Element.fault l.element) (g.E.Element.reading l.element) [] (left l.fn.text)
+invariant-loop-all g l = list_at Parenthesis (g.E.Element.fault l.element) (g.E.Element.reading l.element) l.all.items (left l.text) ≡ list_at Parenthesis (g.E.Element.fault l.element) (g.E.Element.reading l.element) [] (left l.fn.text)
 
 abbrev pub decreases-loop-all : goal.decreases-loop-all
 decreases-loop-all g l = size (left l.text)

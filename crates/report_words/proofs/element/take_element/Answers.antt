@@ -4,4 +4,4 @@ use Rattle.report_words.proofs.element.take_element.Goals as goal
 
 pub returns-clause-turn : goal.returns-clause-turn
 returns-clause-turn g c =
-    rw c.in_ok-push.ensures.ok (list_turn Parenthesis (g.E.Element.fault c.args.element.now) (g.E.Element.reading c.args.element.now) c.requires c.args.all.now _ _ _ c.in_default.ensures.1 (rw (c.in_default.ensures.0, c.items-2.ensures) at c.in_ok-one.ensures))
+    rw c.in-Ok.ensures.items (list_turn Parenthesis (g.E.Element.fault c.args.element.now) (g.E.Element.reading c.args.element.now) c.requires c.args.all.now.items _ _ _ c.in_default.ensures.1 (rw (c.in_default.ensures.0, c.as_slice-2.ensures.value) at c.in_ok-one.ensures))
