@@ -1,7 +1,9 @@
 -- the fallback plan, or the covers of a share
-use Rattle.std.proofs.Common.{◌≡◌, ℕ, ◌+◌, ◌*◌, ◌^◌, ◌≤◌, ◌<◌, ◌⊎◌, inl, inr, List, [], All, Some, get_or, length, refl, sym, ap, subst, ◌∙◌, arith, slice_get}
+use Rattle.std.proofs.Common.{◌≡◌, ℕ, ◌*◌, ◌≤◌, ◌<◌, inl, inr, List, [], All, Some, get_or, length, refl, subst, arith, slice_get}
 use Rattle.std.proofs.lemmas.Option.{slice_get-get_or}
+use Rattle.std.proofs.Math.Logic.{∥∥₁_elim}
 use Rattle.std.proofs.Math.Nat.{eq-one_of_dvd-one}
+use Rattle.std.proofs.Props.{props}
 use Rattle.std.specs.Int.{◌∣◌}
 use Rattle.module_choice.specs.declared.fallback.Fallback.{Fallback}
 use Rattle.module_choice.proofs.Carrying.{few_flows, flows_small}
@@ -15,16 +17,14 @@ use Rattle.net_core.specs.declared.plan.Routing.{Routing}
 use Rattle.plan_terms.specs.Capacities.{AreWithinLimits, capacities}
 use Rattle.plan_terms.specs.Fallbacks.{IsFallback, raised}
 use Rattle.plan_terms.specs.Flows.{Carries}
-use Rattle.plan_types.specs.declared.quality.Cause.TheVariants.{Wide}
+use Rattle.plan_types.specs.declared.quality.Fractional.{Fractional}
 use Rattle.plan_types.specs.declared.quality.Quality.{Quality}
 use Rattle.plan_types.specs.declared.quality.Quality.TheVariants.{Tight, Loose, Unsolved}
 use Rattle.plan_types.specs.declared.quality.Share.{Share}
-use Rattle.route_law.specs.Routings.{IsLowestRouting}
 use Rattle.master_law.specs.UnitPairs.{AreUnitPairs, share_caps}
 use Rattle.plan_law.specs.TightPlans.{CostsAtMostCover}
 use Rattle.plan_law.proofs.Covering.{covers_carry}
-use Rattle.flow_router.specs.Answers.{IsRouted}
-use Rattle.share_covers.specs.Choices.{HasCause, IsChosen, IsQualityAfter, IsQualityOfShare, IsWideAtCovers}
+use Rattle.share_covers.specs.Choices.{CarriesShare, IsChosen, IsQualityAfter, IsQualityOfShare, IsWideAtCovers, RulesOutCovers}
 use Rattle.share_covers.specs.InstalledRoutes.{AreRoutedWithin, IsShortWithin, IsWideWithin, installed_caps}
 use Rattle.share_covers.specs.ShareCovers.{AreShareCovers}
 use Rattle.share_covers.specs.declared.covers.Installed.{Installed}
@@ -74,7 +74,7 @@ module _ (p : Case) (demands : AreDemands (length p.nodes) p.demands) (few : len
     }
 
     -- the fallback plan
-    kept : (after : Quality) → HasCause p fallback.cost installed.counts installed.cost → IsQualityAfter p share fallback.cost before after
+    kept : (after : Quality) → RulesOutCovers p fallback.cost installed.counts installed.cost → IsQualityAfter p share fallback.cost before after
         → IsChosen p share fallback before (record { counts = fallback.counts; routings = fallback.routings; cost = fallback.cost; quality = after })
     kept after cause quality = record {
       shape = falls.shape;
@@ -106,17 +106,20 @@ module _ (p : Case) (demands : AreDemands (length p.nodes) p.demands) (few : len
         kept (widened evidence before) (inr (inl (evidence, wide))) (quality_widened evidence (record { installed = installed; covers = covers; cheaper = lt; wide = wide }) before)
 
     -- covers of a share that carries the demands aren't short
-    quality_short : (s : ℕ) → IsShortWithin p (installed_caps p.links installed.counts) s → (q : Quality) → IsQualityOfShare p share q → IsQualityAfter p share fallback.cost q q
-    quality_short s short (Tight fractional) of_share =
+    never_short : (s : ℕ) → IsShortWithin p (installed_caps p.links installed.counts) s → (fractional : Fractional) → CarriesShare p share fractional → ⊥
+    never_short s short fractional of_share =
         let r = get_or fractional.routings s no_routing in
         let at : slice_get fractional.routings s ≡ Some r = slice_get-get_or fractional.routings s no_routing (omega (arith, of_share.carried.states, short.listed_state)) in
         let here : Carries (Joins (graph_in p s)) p.demands share.scale (share_caps p.links of_share.pairs share).nums r =
         subst (λ (x : Share). Carries (Joins (graph_in p s)) p.demands x.scale (share_caps p.links of_share.pairs x).nums r) of_share.same (of_share.carried.each s r at) in
-        absurd (short.none (record { den = share.scale * r.den; flows = r.flows }) (covers_carry p of_share.pairs share installed.counts s r of_share.units demands of_share.proper (covers.covers of_share.pairs of_share.units) here))
+        short.none (record { den = share.scale * r.den; flows = r.flows }) (covers_carry p of_share.pairs share installed.counts s r of_share.units demands of_share.proper (covers.covers of_share.pairs of_share.units) here)
+
+    quality_short : (s : ℕ) → IsShortWithin p (installed_caps p.links installed.counts) s → (q : Quality) → ∥ IsQualityOfShare p share q ∥₁ → IsQualityAfter p share fallback.cost q q
+    quality_short s short (Tight fractional) of_share = absurd (∥∥₁_elim of_share (hlevel props) (λ (is : CarriesShare p share fractional). never_short s short fractional is))
     quality_short s short (Loose cause) of_share = refl
     quality_short s short Unsolved of_share = refl
 
     -- which is there where the covers are short
-    pub kept_short : IsQualityOfShare p share before → (s : ℕ) → IsShortWithin p (installed_caps p.links installed.counts) s
+    pub kept_short : ∥ IsQualityOfShare p share before ∥₁ → (s : ℕ) → IsShortWithin p (installed_caps p.links installed.counts) s
         → IsChosen p share fallback before (record { counts = fallback.counts; routings = fallback.routings; cost = fallback.cost; quality = before })
     kept_short of_share s short = kept before (inr (inr (s, short))) (quality_short s short before of_share)

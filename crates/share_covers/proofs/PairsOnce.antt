@@ -1,12 +1,12 @@
 -- a link has one unit pair
-use Rattle.std.proofs.Common.{◌≡◌, ℕ, suc, ◌<◌, inl, inr, List, [], ◌∷◌, All, length, get_or, sym, ap, ◌∙◌, arith}
+use Rattle.std.proofs.Common.{◌≡◌, suc, inl, inr, List, [], ◌∷◌, All, length, get_or, sym, ap, ◌∙◌, arith}
 use Rattle.std.proofs.lemmas.List.{ext_get_or}
 use Rattle.std.proofs.lemmas.Option.{slice_get-get_or}
 use Rattle.net_core.specs.Network.{IsLink, IsModule}
 use Rattle.net_core.specs.declared.network.Module.{Module}
 use Rattle.module_prices.specs.declared.cheapest.UnitPair.{UnitPair}
 use Rattle.plan_terms.specs.Prices.{IsUnitPair}
-use Rattle.master_law.specs.UnitPairs.{AreUnitPairs, IsPairOfLink}
+use Rattle.master_law.specs.UnitPairs.{IsPairOfLink}
 use Rattle.module_choice.proofs.Choices.{all_read}
 use Rattle.module_choice.proofs.Falling.{get_some}
 use Rattle.module_choice.proofs.UnitPairs.{pair_once}

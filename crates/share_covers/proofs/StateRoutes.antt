@@ -1,13 +1,11 @@
 -- routings of one state after another
-use Rattle.std.proofs.Common.{◌≡◌, ℕ, ◌+◌, ◌≤◌, ◌<◌, ◌++◌, List, [], ◌∷◌, All, Some, length, length-append, refl, sym, ap, subst, ◌∙◌, arith, slice_get, sum_by, ⊎_elim}
+use Rattle.std.proofs.Common.{◌≡◌, ℕ, ◌+◌, ◌≤◌, ◌++◌, List, [], ◌∷◌, All, Some, length, length-append, refl, sym, subst, ◌∙◌, arith, slice_get, sum_by, ⊎_elim}
 use Rattle.net_core.specs.Cases.{Case, graph_in}
 use Rattle.net_core.specs.Demands.{AreDemands, IsDemand}
 use Rattle.net_core.specs.Graphs.{Joins}
-use Rattle.net_core.specs.declared.demand.Demand.{Demand}
 use Rattle.net_core.specs.declared.plan.Caps.{Caps}
 use Rattle.net_core.specs.declared.plan.Routing.{Routing}
 use Rattle.plan_terms.specs.Flows.{Carries}
-use Rattle.plan_terms.specs.Paths.{AreApart}
 use Rattle.plan_terms.specs.Separations.{IsSurvivable}
 use Rattle.metric_cut.specs.declared.cut.Cut.{Cut}
 use Rattle.metric_cut.specs.inner.Rights.{part_of}

@@ -1,10 +1,9 @@
 -- evidence at the covers of a share
-use Rattle.std.proofs.Common.{◌≡◌, ℕ, ◌≤◌, inr, length, sym, subst}
+use Rattle.std.proofs.Common.{◌≤◌, inr, length, sym, subst}
 use Rattle.net_core.specs.Cases.{graph_in}
 use Rattle.net_core.specs.declared.columns.Evidence.TheVariants.{Route, Master}
 use Rattle.net_core.specs.declared.plan.Caps.{Caps}
 use Rattle.route_law.specs.RouteEvidence.{IsRouteEvidence}
-use Rattle.share_covers.specs.InstalledRoutes.{installed_caps}
 use Rattle.share_covers.specs.Laws.{WideCoversAreLoose}
 
 pub wide_covers_are_loose : WideCoversAreLoose

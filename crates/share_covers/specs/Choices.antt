@@ -32,8 +32,8 @@ IsQualityOfShare p share (Loose cause) = Unit {0}
 IsQualityOfShare p share Unsolved = Unit {0}
 
 -- why covers aren't taken: the fallback plan costs less, or some state is too wide within them, or it is short
-abbrev pub HasCause : Case → ℕ → List (List ℕ) → ℕ → Type 0
-HasCause p fallback_cost counts cost =
+abbrev pub RulesOutCovers : Case → ℕ → List (List ℕ) → ℕ → Type 0
+RulesOutCovers p fallback_cost counts cost =
     (fallback_cost < cost)
     ⊎ (((evidence : Evidence) × IsWideWithin p (installed_caps p.links counts) evidence)
     ⊎ ((s : ℕ) × IsShortWithin p (installed_caps p.links counts) s))
@@ -43,7 +43,7 @@ pub record KeepsFallback (p : Case) (share : Share) (fallback : Fallback) (chose
   pub same : (chosen.counts ≡ fallback.counts) × (chosen.routings ≡ fallback.routings)
   pub installed : Installed
   pub covers : AreShareCovers p.links share installed
-  pub cause : HasCause p fallback.cost installed.counts installed.cost
+  pub cause : RulesOutCovers p fallback.cost installed.counts installed.cost
 
 -- evidence of a state at covers of the share that cost less than the plan
 pub record IsWideAtCovers (p : Case) (share : Share) (cost : ℕ) (evidence : Evidence) : Type 0 where

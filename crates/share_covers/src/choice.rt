@@ -66,7 +66,7 @@ pub fn choose(
     requires narrow { AreWithinLimits problem.now.net.now.links fallback.counts }
     requires scale { 0 < share.now.scale }
     requires units { length share.now.units ≡ length problem.now.net.now.links }
-    requires quality { let p = case_of problem.now in IsQualityOfShare p share.now quality }
+    requires quality { let p = case_of problem.now in ∥ IsQualityOfShare p share.now quality ∥₁ }
     ensures { let p = case_of problem.now in IfOk result (IsChosen p share.now fallback quality) }
 {
     let installed = cover_share(alloc, problem.net, share)?;

@@ -3,7 +3,6 @@ use Rattle.net_core.specs.Views.{case_of}
 use Rattle.module_choice.proofs.Carrying.{few_nodes, network_links}
 use Rattle.share_covers.specs.Choices.{IsChosen}
 use Rattle.share_covers.specs.InstalledRoutes.{IsRoutesAnswer, installed_caps}
-use Rattle.share_covers.specs.declared.choice.Chosen.{Chosen}
 use Rattle.share_covers.specs.inner.Widened.{widened}
 use Rattle.share_covers.proofs.Choosing.{kept_cheaper, kept_equal, kept_short, kept_wide}
 use Rattle.share_covers.proofs.choice.choose.Goals as goal
