@@ -18,11 +18,9 @@ use Rattle.plan_terms.proofs.Distances.{path_alike}
 use Rattle.simplex_law.specs.Programs.{ColumnOf}
 use Rattle.route_law.specs.PricedLengths.{ArePricedLengths, ArePricedSomewhere}
 use Rattle.route_law.specs.RoutingPrograms.{IsCarrying, IsRouteColumn}
-use Rattle.flow_router.specs.Answers.{IsRouteAnswer, IsViolatedCut}
-use Rattle.flow_router.specs.declared.answer.RouteAnswer.{RouteAnswer}
-use Rattle.flow_router.specs.declared.answer.RouteAnswer.TheVariants.{Routed, Violated, Wide}
+use Rattle.flow_router.specs.Answers.{IsViolatedCut}
 use Rattle.metric_cut.specs.declared.cut.Cut.{Cut}
-use Rattle.separator.specs.Findings.{IsFinding, IsFoundCutOf}
+use Rattle.separator.specs.Findings.{IsFoundCutOf}
 
 -- ---- the same links under other states
 
@@ -184,13 +182,13 @@ module _ (g : Graph) (network : ∥ IsNetwork g.nodes g.links ∥₁) (demands :
       (omega arith)
       (λ e lt. sym (is e lt))
 
-  pub priced_somewhere : (lengths : List ℕ) → ArePricedLengths g demands caps lengths → ArePricedSomewhere lengths
+  priced_somewhere : (lengths : List ℕ) → ArePricedLengths g demands caps lengths → ArePricedSomewhere lengths
   priced_somewhere = somewhere_by (failed_below g.listed g.state (length g.links))
       (failed_known g.listed g.state (length g.links) (length g.links) (omega arith))
       (λ e lt. named_below g.listed g.state (length g.links) e lt)
 
   -- so a cut of a state, as routing finds it
-  found_cut : (cut : Cut) → IsViolatedCut g demands caps cut → IsFoundCutOf g demands caps cut
+  pub found_cut : (cut : Cut) → IsViolatedCut g demands caps cut → IsFoundCutOf g demands caps cut
   found_cut cut is = record {
     of = is.of;
     lengths = is.lengths;
@@ -198,9 +196,3 @@ module _ (g : Graph) (network : ∥ IsNetwork g.nodes g.links ∥₁) (demands :
     keeps = is.keeps;
     violated = is.violated;
   }
-
-  -- and whatever routing finds
-  pub finding : (answer : RouteAnswer) → IsRouteAnswer g demands caps answer → IsFinding g demands caps answer
-  finding (Routed routing) is = is
-  finding (Violated cut) is = found_cut cut is
-  finding (Wide evidence) is = is

@@ -2,13 +2,12 @@
 use Rattle.std.specs.Prelude.{ℕ, List}
 use Rattle.net_core.specs.declared.demand.Demand.{Demand}
 use Rattle.net_core.specs.declared.plan.Caps.{Caps}
-use Rattle.net_core.specs.Graphs.{Graph, Joins}
-use Rattle.plan_terms.specs.Certificates.{IsRight}
+use Rattle.net_core.specs.Graphs.{Graph}
 use Rattle.plan_terms.specs.Keeping.{Keeps}
-use Rattle.plan_terms.specs.Violations.{Violates}
 use Rattle.metric_cut.specs.Cuts.{IsCutOf}
 use Rattle.metric_cut.specs.declared.cut.Cut.{Cut}
 use Rattle.route_law.specs.PricedLengths.{ArePricedSomewhere}
+use Rattle.node_sets.specs.Boundaries.{IsViolatedAt}
 use Rattle.flow_router.specs.Answers.{IsEvidenceHere, IsRouted}
 use Rattle.flow_router.specs.declared.answer.RouteAnswer.{RouteAnswer}
 use Rattle.flow_router.specs.declared.answer.RouteAnswer.TheVariants.{Routed, Violated, Wide}
@@ -20,7 +19,7 @@ module _ (g : Graph) (demands : List Demand) (caps : Caps) where
     pub lengths : List ℕ
     pub priced : ArePricedSomewhere lengths
     pub keeps : Keeps g lengths cut.lengths
-    pub violated : (right : ℕ) → IsRight (Joins g) cut.lengths demands right → Violates caps (record { state = cut.state; lengths = cut.lengths; right = right })
+    pub violated : IsViolatedAt g demands caps cut
 
   -- a routing, a cut that the capacities violate, or evidence of this state and these capacities
   abbrev pub IsFinding : RouteAnswer → Type 0

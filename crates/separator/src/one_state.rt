@@ -1,21 +1,48 @@
 ghost use Rattle.std.specs.Prelude.{◌≡◌, ◌<◌, ◌+◌, IfOk, length};
 ghost use Rattle.net_core.specs.Cases.{graph_in};
-ghost use Rattle.net_core.specs.Views.{case_of};
+ghost use Rattle.net_core.specs.Demands.{AreDemands};
+ghost use Rattle.net_core.specs.Views.{case_of, graph_of};
 ghost use Rattle.route_law.specs.Routings.{AreJoined};
-ghost use Rattle.separator.specs.Findings.{IsFinding};
+ghost use Rattle.separator.specs.Findings.{IsFinding, IsFoundCutOf};
 
 use crate::ranges::are_caps;
 use flow_router::{RouteAnswer, route_state};
-use net_core::{Caps, Instance, NoMemory, StateId};
+use metric_cut::Cut;
+use net_core::{Caps, Demands, Instance, NoMemory, StateId, Surviving};
+use node_sets::{grown_set, threshold_set};
 use std::alloc::Global;
+
+/// The cut of a set of nodes that lie near to each other under the lengths of a violated cut, and that cut itself where no such set is
+/// violated.
+fn nearest_set<'a>(
+    alloc: Global,
+    graph: &Surviving<'a>,
+    demands: &'a Demands,
+    caps: &'a Caps,
+    cut: Cut,
+) -> Result<Cut, NoMemory>
+    requires demands { AreDemands (length graph.now.net.now.nodes) demands.now }
+    requires scale { 0 < caps.now.scale }
+    requires caps { length caps.now.nums ≡ length graph.now.net.now.links }
+    requires cut { IsFoundCutOf (graph_of graph.now) demands.now caps.now cut }
+    ensures { IfOk result (IsFoundCutOf (graph_of graph.now) demands.now caps.now) }
+{
+    match threshold_set(alloc, graph, demands, caps, cut.lengths())? {
+        Some(set) => Ok(set),
+        None => Ok(cut),
+    }
+}
 
 /// Whether capacities, one number for each link over a scale, carry all demands in a state whose surviving links join the ends of
 /// each positive demand: a routing, a cut that they violate, or evidence that a number grew too wide.
 ///
+/// A cut is that of a set of nodes where a violated one is found: first of sets that grow from a node, then of sets that are near
+/// under the lengths of the cut that routing finds.
+///
 /// In the triangle AB, BC, AC with 6.00, 1.999 and 10.00 the demands of 12.00 from A to C and of 4.00 from A to B aren't routed: the
 /// links at C have 11.999 together, and the cut has the lengths 0, 1, 1.
 ///
-/// It takes the time and memory of `route_state`.
+/// It takes the time and memory of `route_state`, and time in the cube of the nodes.
 pub fn separate_state(
     alloc: Global,
     instance: &Instance,
@@ -29,12 +56,21 @@ pub fn separate_state(
     ensures { IfOk result (IsFinding (graph_in (case_of instance.now) state.0) instance.now.demands.now caps.now) }
 {
     are_caps(caps);
-    route_state(
-        alloc,
-        instance.net,
-        instance.states,
-        state,
-        instance.demands,
-        caps,
-    )
+    let Instance {
+        net,
+        states,
+        demands,
+        ..
+    } = *instance;
+    let graph = Surviving { net, states, state };
+    if let Some(set) = grown_set(alloc, &graph, demands, caps)? {
+        return Ok(RouteAnswer::Violated(set));
+    }
+    match route_state(alloc, net, states, state, demands, caps)? {
+        RouteAnswer::Violated(cut) => {
+            let nearest = nearest_set(alloc, &graph, demands, caps, cut)?;
+            Ok(RouteAnswer::Violated(nearest))
+        }
+        answer => Ok(answer),
+    }
 }
