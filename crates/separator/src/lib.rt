@@ -25,3 +25,6 @@ pub use answers::{Separated, StateAnswer};
 pub use one_by_one::OneByOne;
 pub use one_state::separate_state;
 pub use separating::Separate;
+
+#[cfg(test)]
+mod tests;
