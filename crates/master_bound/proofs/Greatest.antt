@@ -5,7 +5,7 @@ use Rattle.std.proofs.lemmas.Option.{slice_get_within}
 use Rattle.net_core.specs.declared.network.Link.{Link}
 use Rattle.net_core.specs.declared.plan.CutLine.{CutLine}
 use Rattle.plan_terms.specs.OwnBounds.{IsBestOwn, IsOwnBound}
-use Rattle.master_bound.specs.declared.best.Best.{Best}
+use Rattle.master_bound.specs.declared.best.GreatestOwn.{GreatestOwn}
 use Rattle.master_bound.specs.inner.Bests.{IsBestBelow, IsBetterOwn}
 
 same_cut : (cuts : List CutLine) (i : ℕ) (a b : CutLine) → slice_get cuts i ≡ Some a → slice_get cuts i ≡ Some b → a ≡ b
@@ -13,7 +13,7 @@ same_cut cuts i a b first second = cc (first, second)
 
 module _ (links : List Link) (cuts : List CutLine) where
   -- the first cut alone
-  pub best_first : (c : CutLine) (best : Best) → slice_get cuts 0 ≡ Some c → best.cut ≡ 0 → IsOwnBound links c.lengths c.right best.bound → IsBestBelow links cuts 1 best
+  pub best_first : (c : CutLine) (best : GreatestOwn) → slice_get cuts 0 ≡ Some c → best.cut ≡ 0 → IsOwnBound links c.lengths c.right best.bound → IsBestBelow links cuts 1 best
   best_first c best at is own =
       let own_of : (d : CutLine) → slice_get cuts 0 ≡ Some d → IsOwnBound links d.lengths d.right best.bound = λ d got. subst (λ (x : CutLine). IsOwnBound links x.lengths x.right best.bound) (same_cut cuts 0 c d at got) own in
       record {
@@ -31,7 +31,7 @@ module _ (links : List Link) (cuts : List CutLine) where
       zero_of i lt = omega (arith, lt)
 
   -- the best so far stays
-  best_stays : (k b : ℕ) (c : CutLine) (best : Best) → slice_get cuts k ≡ Some c → IsOwnBound links c.lengths c.right b → b ≤ best.bound → IsBestBelow links cuts k best → IsBestBelow links cuts (k + 1) best
+  best_stays : (k b : ℕ) (c : CutLine) (best : GreatestOwn) → slice_get cuts k ≡ Some c → IsOwnBound links c.lengths c.right b → b ≤ best.bound → IsBestBelow links cuts k best → IsBestBelow links cuts (k + 1) best
   best_stays k b c best at own less so_far = record {
     below = omega (arith, so_far.below);
     own = so_far.own;
@@ -47,7 +47,7 @@ module _ (links : List Link) (cuts : List CutLine) where
   }
 
   -- the next cut is the best
-  best_moves : (k b : ℕ) (c : CutLine) (old : Best) → slice_get cuts k ≡ Some c → IsOwnBound links c.lengths c.right b → old.bound < b → IsBestBelow links cuts k old → IsBestBelow links cuts (k + 1) (record { cut = k; bound = b })
+  best_moves : (k b : ℕ) (c : CutLine) (old : GreatestOwn) → slice_get cuts k ≡ Some c → IsOwnBound links c.lengths c.right b → old.bound < b → IsBestBelow links cuts k old → IsBestBelow links cuts (k + 1) (record { cut = k; bound = b })
   best_moves k b c old at own more so_far =
       let own_of : (d : CutLine) → slice_get cuts k ≡ Some d → IsOwnBound links d.lengths d.right b = λ d got. subst (λ (x : CutLine). IsOwnBound links x.lengths x.right b) (same_cut cuts k c d at got) own in
       record {
@@ -67,14 +67,14 @@ module _ (links : List Link) (cuts : List CutLine) where
       }
 
   -- one cut more
-  pub best_more : (k : ℕ) (c : CutLine) (old new : Best) → slice_get cuts k ≡ Some c → IsBestBelow links cuts k old → IsBetterOwn links old k c new → IsBestBelow links cuts (k + 1) new
+  pub best_more : (k : ℕ) (c : CutLine) (old new : GreatestOwn) → slice_get cuts k ≡ Some c → IsBestBelow links cuts k old → IsBetterOwn links old k c new → IsBestBelow links cuts (k + 1) new
   best_more k c old new at so_far better = ⊎_elim
       (λ stays. subst (IsBestBelow links cuts (k + 1)) (sym stays.1) (best_stays k better.bound c old at better.own stays.0 so_far))
       (λ moves. subst (IsBestBelow links cuts (k + 1)) (sym moves.1) (best_moves k better.bound c old at better.own moves.0 so_far))
       better.is
 
   -- the best of all
-  pub best_of_all : (c : CutLine) (best : Best) → slice_get cuts best.cut ≡ Some c → IsBestBelow links cuts (length cuts) best → IsBestOwn links cuts best.cut
+  pub best_of_all : (c : CutLine) (best : GreatestOwn) → slice_get cuts best.cut ≡ Some c → IsBestBelow links cuts (length cuts) best → IsBestOwn links cuts best.cut
   best_of_all c best at is = record {
     cut = c;
     at = at;

@@ -1,2 +1,11 @@
-pub mod Adding
+mod Adding
+mod Amounts
+mod Asked
+mod Certifying
+mod Costs
+mod Entering
 pub mod Greatest
+mod Lowest
+mod Multipliers
+mod Networks
+mod Optima

@@ -8,34 +8,34 @@ use net_core::{CutLine, List, Network};
 
 /// A cut's place in its list, and its own bound in thousandths.
 #[derive(Clone, Copy)]
-pub struct Best {
+pub struct GreatestOwn {
     pub cut: u32,
     pub bound: u128,
 }
 
 /// The cut of a greater own bound: the one so far, or the cut at place `k`, which has to exceed it.
-fn better(net: &Network, best: Best, k: u32, cut: &CutLine) -> Best
+fn better(net: &Network, best: GreatestOwn, k: u32, cut: &CutLine) -> GreatestOwn
     requires lengths { HaveBound net.now.links cut.now.lengths }
     requires right { cut.now.right < 2 ^ 84 }
     ensures { IsBetterOwn net.now.links best k cut.now result }
 {
     let bound = own_bound(net, cut);
     if bound > best.bound {
-        Best { cut: k, bound }
+        GreatestOwn { cut: k, bound }
     } else {
         best
     }
 }
 
 /// The first cut of greatest own bound.
-fn best_of(net: &Network, cuts: &[CutLine]) -> Best
+fn best_of(net: &Network, cuts: &[CutLine]) -> GreatestOwn
     requires some { 0 < length cuts.now }
     requires few { length cuts.now < 2 ^ 32 }
     requires lengths { All (λ cut. HaveBound net.now.links cut.lengths) cuts.now }
     requires right { All (λ cut. cut.right < 2 ^ 84) cuts.now }
     ensures { IsBestBelow net.now.links cuts.now (length cuts.now) result }
 {
-    let mut best = Best {
+    let mut best = GreatestOwn {
         cut: 0,
         bound: own_bound(net, &cuts[0]),
     };

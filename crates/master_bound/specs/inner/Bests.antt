@@ -3,23 +3,23 @@ use Rattle.std.specs.Prelude.{◌≡◌, ℕ, ◌<◌, ◌≤◌, ◌⊎◌, Lis
 use Rattle.net_core.specs.declared.network.Link.{Link}
 use Rattle.net_core.specs.declared.plan.CutLine.{CutLine}
 use Rattle.plan_terms.specs.OwnBounds.{IsOwnBound}
-use Rattle.master_bound.specs.declared.best.Best.{Best}
+use Rattle.master_bound.specs.declared.best.GreatestOwn.{GreatestOwn}
 
 -- the cut at place k takes the place of another where its own bound is greater
-pub record IsBetterOwn (links : List Link) (old : Best) (k : ℕ) (cut : CutLine) (new : Best) : Type 0 where
+pub record IsBetterOwn (links : List Link) (old : GreatestOwn) (k : ℕ) (cut : CutLine) (new : GreatestOwn) : Type 0 where
   pub bound : ℕ
   pub own : IsOwnBound links cut.lengths cut.right bound
   pub is : ((bound ≤ old.bound) × (new ≡ old)) ⊎ ((old.bound < bound) × (new ≡ record { cut = k; bound = bound }))
 
 -- a cut has an own bound that is at most the best one, and less where the cut stands before the best one
-pub record IsNoBetter (links : List Link) (cut : CutLine) (i : ℕ) (best : Best) : Type 0 where
+pub record IsNoBetter (links : List Link) (cut : CutLine) (i : ℕ) (best : GreatestOwn) : Type 0 where
   pub bound : ℕ
   pub own : IsOwnBound links cut.lengths cut.right bound
   pub most : bound ≤ best.bound
   pub less : i < best.cut → bound < best.bound
 
 -- the first of greatest own bound among the first n cuts
-pub record IsBestBelow (links : List Link) (cuts : List CutLine) (n : ℕ) (best : Best) : Type 0 where
+pub record IsBestBelow (links : List Link) (cuts : List CutLine) (n : ℕ) (best : GreatestOwn) : Type 0 where
   pub below : best.cut < n
   pub own : (c : CutLine) → slice_get cuts best.cut ≡ Some c → IsOwnBound links c.lengths c.right best.bound
   pub each : (i : ℕ) (c : CutLine) → i < n → slice_get cuts i ≡ Some c → IsNoBetter links c i best

@@ -1,0 +1,18 @@
+use Rattle.std.proofs.Common.{sym}
+use Rattle.std.proofs.Math.Nat.{div-mul_cancel}
+use Rattle.plan_terms.proofs.Multipliers.{lowest_terms}
+use Rattle.plan_terms.proofs.Bounds.{divisor_positive}
+use Rattle.master_bound.proofs.share.raw_value.Goals as goal
+
+pub nonzero_div-result : goal.nonzero_div-result
+nonzero_div-result c = divisor_positive c.gcd-common.result c.args.share.now.scale c.requires.scale c.gcd-common.ensures.1
+
+pub nonzero_div-result-2 : goal.nonzero_div-result-2
+nonzero_div-result-2 c = divisor_positive c.gcd-common.result c.args.share.now.scale c.requires.scale c.gcd-common.ensures.1
+
+pub returns : goal.returns
+returns c =
+    let gcd = c.gcd-common.ensures in
+    let cost = c.cost_of-cost.result in
+    rw (sym (rw c.items.ensures at c.cost_of-cost.ensures))
+    (lowest_terms cost c.args.share.now.scale c.gcd-common.result _ _ c.requires.scale gcd (sym (div-mul_cancel c.gcd-common.result gcd.0)) (sym (div-mul_cancel c.gcd-common.result gcd.1)))

@@ -1,0 +1,190 @@
+ghost use Rattle.std.specs.Prelude.{◌≡◌, ◌≤◌, ◌<◌, ◌^◌, All, AllPairs, Err, IfOk, Some, length, slice_get};
+ghost use Rattle.net_core.specs.declared.plan.CutLine.{CutLine};
+ghost use Rattle.net_core.specs.declared.columns.MasterColumn.TheVariants.{Metric};
+ghost use Rattle.net_core.specs.declared.columns.WideKind.TheVariants.{Number};
+ghost use Rattle.plan_terms.specs.Bounds.{IsLowest};
+ghost use Rattle.metric_cut.specs.Bounded.{HaveBound};
+ghost use Rattle.simplex_core.specs.inner.Shapes.{AtEach};
+ghost use Rattle.simplex_law.specs.Programs.{IsPacking};
+ghost use Rattle.master_law.specs.MasterEvidence.{IsMasterEvidence};
+ghost use Rattle.master_law.specs.MasterPrograms.{IsMasterColumn, IsSameCut, master_bound, master_slack};
+ghost use Rattle.master_law.specs.UnitPairs.{AreUnitPairs, share_cost};
+ghost use Rattle.master_bound.specs.Answers.{IsEvidenceOf, IsMasterAnswer};
+ghost use Rattle.master_bound.specs.inner.Narrow.{IsNarrowCut, IsWideCut};
+ghost use Rattle.master_bound.specs.inner.Programs.{IsMasterSolution, IsWideAnswer};
+ghost use Rattle.master_bound.specs.inner.Shares.{IsShareOf};
+
+use crate::answer::{Best, MasterFault};
+use crate::lines::{amounts_of, asks_too_much, common_divisor, has_wide, multipliers_of};
+use crate::numbers::wide_cut;
+use crate::program::MasterProgram;
+use crate::rating::ratings_of;
+use crate::share::{RawValue, raw_value, share_of};
+use crate::task::Task;
+use crate::units::unit_pairs;
+use module_prices::UnitPair;
+use net_core::{
+    Copied, CutLine, Evidence, LinkId, List, MasterColumn, Network, NoMemory, WideKind,
+};
+use plan_types::Share;
+use simplex_core::{Optimum, SimplexFault, solve};
+use std::alloc::Global;
+
+/// The answer that a number of a basis is too wide.
+fn wide(basis: List<MasterColumn>, kind: WideKind<MasterColumn>) -> MasterFault
+    ensures { IsWideAnswer basis kind result }
+{
+    MasterFault::Wide(Evidence::Master { basis, kind })
+}
+
+/// The names of all slacks, in the order of their rows.
+fn slack_names(alloc: Global, rows: usize) -> Result<List<MasterColumn>, NoMemory>
+    requires { rows < 2 ^ 32 }
+    ensures count { IfOk result (λ names. length names ≡ rows) }
+    ensures names { IfOk result (AtEach (λ i name. name ≡ master_slack i)) }
+{
+    let mut names = List::from_vec(Vec::with_capacity(alloc, rows)?);
+    for row in 0..rows {
+        names.push(MasterColumn::LinkSlack(LinkId(row as u32)))?;
+    }
+    Ok(names)
+}
+
+/// The answer that a number of this cut is 2^62 or more.
+fn wide_number(
+    alloc: Global,
+    net: &Network,
+    pairs: &[UnitPair],
+    cuts: &[CutLine],
+    k: usize,
+) -> Result<MasterFault, NoMemory>
+    requires inside { k < length cuts.now }
+    requires units { AreUnitPairs net.now.links pairs.now }
+    requires counts { All (λ cut. length cut.lengths ≡ length net.now.links) cuts.now }
+    requires wide { (cut : CutLine) → slice_get cuts.now k ≡ Some cut → IsWideCut net.now.links pairs.now cut }
+    ensures { IfOk result (λ fault. IsMasterAnswer net.now.links cuts.now (Err fault)) }
+{
+    let cut = &cuts[k];
+    let name = MasterColumn::Metric(cut.state, cut.lengths.copy()?);
+    let names = slack_names(alloc, net.links().len())?;
+    Ok(wide(names, WideKind::Number(name)))
+}
+
+/// The certificate of an optimum whose share costs something.
+fn certified(
+    alloc: Global,
+    task: &Task,
+    optimum: Optimum<MasterColumn>,
+    share: Share,
+    raw: RawValue,
+) -> Result<Best, MasterFault>
+    requires units { AreUnitPairs task.now.net.now.links task.now.pairs.now }
+    requires different { AllPairs (λ a b. IsSameCut a b → ⊥) task.now.cuts.now }
+    requires packing { IsPacking (length task.now.net.now.links) (master_bound task.now.pairs.now) (IsMasterColumn task.now.net.now.links task.now.pairs.now task.now.cuts.now) }
+    requires solution { IsMasterSolution task.now.net.now.links task.now.pairs.now task.now.cuts.now optimum }
+    requires share { IsShareOf optimum.duals share }
+    requires raw { IsLowest (share_cost task.now.pairs.now share) share.scale raw.num raw.den }
+    requires some { 0 < raw.num }
+    ensures { IsMasterAnswer task.now.net.now.links task.now.cuts.now result }
+{
+    let basis = optimum.basis.items();
+    let amounts = amounts_of(alloc, basis, optimum.values.items())?;
+    let common = common_divisor(optimum.den, amounts.items());
+    if has_wide(amounts.items(), common) {
+        return Err(wide(optimum.basis, WideKind::Value));
+    }
+    let cuts = task.cuts.items();
+    let multipliers = multipliers_of(alloc, cuts, basis, amounts.items(), common)?;
+    if asks_too_much(cuts, multipliers.items()) {
+        return Err(wide(optimum.basis, WideKind::Value));
+    }
+    Ok(Best {
+        den: optimum.den as u128 / common,
+        multipliers,
+        share,
+        raw_num: raw.num,
+        raw_den: raw.den,
+    })
+}
+
+/// The answer that an optimum gives.
+fn best_of(alloc: Global, task: &Task, optimum: Optimum<MasterColumn>) -> Result<Best, MasterFault>
+    requires units { AreUnitPairs task.now.net.now.links task.now.pairs.now }
+    requires different { AllPairs (λ a b. IsSameCut a b → ⊥) task.now.cuts.now }
+    requires packing { IsPacking (length task.now.net.now.links) (master_bound task.now.pairs.now) (IsMasterColumn task.now.net.now.links task.now.pairs.now task.now.cuts.now) }
+    requires solution { IsMasterSolution task.now.net.now.links task.now.pairs.now task.now.cuts.now optimum }
+    ensures { IsMasterAnswer task.now.net.now.links task.now.cuts.now result }
+{
+    let share = share_of(alloc, &optimum.duals)?;
+    let raw = raw_value(task.pairs.items(), &share);
+    if raw.num > 0 {
+        return certified(alloc, task, optimum, share, raw);
+    }
+    Ok(Best {
+        den: 1,
+        multipliers: List::new(alloc),
+        share,
+        raw_num: raw.num,
+        raw_den: raw.den,
+    })
+}
+
+/// The answer of cuts whose numbers are below 2^62.
+fn solved(alloc: Global, task: &Task) -> Result<Best, MasterFault>
+    requires units { AreUnitPairs task.now.net.now.links task.now.pairs.now }
+    requires different { AllPairs (λ a b. IsSameCut a b → ⊥) task.now.cuts.now }
+    requires narrow { All (IsNarrowCut task.now.net.now.links task.now.pairs.now) task.now.cuts.now }
+    requires lengths { All (λ cut. HaveBound task.now.net.now.links cut.lengths) task.now.cuts.now }
+    ensures { IsMasterAnswer task.now.net.now.links task.now.cuts.now result }
+{
+    let ratings = ratings_of(
+        alloc,
+        task.net.links().items(),
+        task.pairs.items(),
+        task.cuts.items(),
+    )?;
+    let mut program = MasterProgram {
+        alloc,
+        task: *task,
+        ratings,
+    };
+    match solve(alloc, &mut program) {
+        Ok(optimum) => best_of(alloc, task, optimum),
+        Err(SimplexFault::Wide { basis, kind }) => Err(wide(basis, kind)),
+        Err(SimplexFault::NoMemory) => Err(MasterFault::NoMemory),
+    }
+}
+
+/// The best certificate of cuts, and a share of each link's unit pair that costs as much. No certificate of these cuts has a greater
+/// raw value, and the share violates none of them. The certificate has at most 256 lines, of different cuts, in lowest terms; where
+/// the raw value is 0 it has none. Where a number is 2^62 or more, the answer names a basis and what of it is too wide.
+///
+/// There are at most 8,192 cuts, of which no two have the same state and lengths, each with lengths that have a bound of their own
+/// and a right side below 2^84.
+///
+/// Three parallel links of 1.00 for 1.00 each, and of any two of them the cut that they carry 10.00: each cut has the multiplier 1 / 2,
+/// the raw value is 15.00, and the share has 5.00 on each link.
+///
+/// It takes time that grows with the turns of the simplex method, each in the square of the count of links and in the number of cuts
+/// times the count of links, and memory in the square of the count of links and in the number of cuts.
+pub fn master(alloc: Global, net: &Network, cuts: &List<CutLine>) -> Result<Best, MasterFault>
+    requires few { length cuts.now ≤ 8192 }
+    requires lengths { All (λ cut. HaveBound net.now.links cut.lengths) cuts.now }
+    requires right { All (λ cut. cut.right < 2 ^ 84) cuts.now }
+    requires different { AllPairs (λ a b. IsSameCut a b → ⊥) cuts.now }
+    ensures { IsMasterAnswer net.now.links cuts.now result }
+{
+    let links = net.links().items();
+    let pairs = unit_pairs(alloc, links)?;
+    match wide_cut(links, pairs.items(), cuts.items()) {
+        Some(k) => Err(wide_number(alloc, net, pairs.items(), cuts.items(), k)?),
+        None => {
+            let task = Task {
+                net,
+                cuts,
+                pairs: &pairs,
+            };
+            solved(alloc, &task)
+        }
+    }
+}

@@ -1,0 +1,92 @@
+ghost use Rattle.std.specs.Prelude.{◌≡◌, ◌≤◌, ◌<◌, ◌^◌, All, length, true, false};
+ghost use Rattle.plan_terms.specs.Certificates.{fixed_along};
+ghost use Rattle.master_law.specs.MasterPrograms.{cut_gain};
+ghost use Rattle.master_bound.specs.inner.Narrow.{length_entry, HaveNarrowEntries, HaveWideEntry, IsNarrowCut, IsWideCut, FindsWideCut};
+
+use module_prices::UnitPair;
+use net_core::{CutLine, Link};
+
+/// Numbers of a program that is solved are below this.
+const WIDE: u128 = 1 << 62;
+
+/// What the pre-installed capacities give along lengths.
+fn fixed_along(links: &[Link], lengths: &[u32]) -> u128
+    requires few { length links.now ≤ 256 }
+    requires sound { All (λ l. l.fixed < 2 ^ 40) links.now }
+    requires count { length lengths.now ≡ length links.now }
+    ensures exact { result ≡ fixed_along lengths.now links.now }
+    ensures low { result ≤ 2 ^ 80 }
+{
+    let mut sum = 0;
+    for e in 0..links.len() {
+        sum += lengths[e] as u128 * links[e].fixed as u128;
+    }
+    sum
+}
+
+/// What a cut asks for beyond what the pre-installed capacities give.
+pub(crate) fn gain_of(links: &[Link], cut: &CutLine) -> i128
+    requires few { length links.now ≤ 256 }
+    requires sound { All (λ l. l.fixed < 2 ^ 40) links.now }
+    requires count { length cut.now.lengths ≡ length links.now }
+    requires right { cut.now.right < 2 ^ 84 }
+    ensures { result ≡ cut_gain links.now cut.now }
+{
+    let fixed = fixed_along(links, cut.lengths.items());
+    cut.right as i128 - fixed as i128
+}
+
+/// What a unit of a cut takes of the row of link `e`.
+pub(crate) fn entry_of(pairs: &[UnitPair], lengths: &[u32], e: usize) -> u128
+    requires pairs { e < length pairs.now }
+    requires lengths { e < length lengths.now }
+    ensures { result ≡ length_entry pairs.now lengths.now e }
+{
+    lengths[e] as u128 * pairs[e].capacity as u128
+}
+
+/// Whether an entry of a cut is 2^62 or more.
+fn has_wide_entry(pairs: &[UnitPair], lengths: &[u32]) -> bool
+    requires { length lengths.now ≡ length pairs.now }
+    ensures yes { result ≡ true → HaveWideEntry pairs.now lengths.now }
+    ensures no { result ≡ false → HaveNarrowEntries pairs.now lengths.now }
+{
+    for e in 0..lengths.len() {
+        if entry_of(pairs, lengths, e) >= WIDE {
+            return true;
+        }
+    }
+    false
+}
+
+/// Whether a number of a cut is 2^62 or more.
+fn is_wide(links: &[Link], pairs: &[UnitPair], cut: &CutLine) -> bool
+    requires few { length links.now ≤ 256 }
+    requires sound { All (λ l. l.fixed < 2 ^ 40) links.now }
+    requires count { length cut.now.lengths ≡ length links.now }
+    requires pairs { length pairs.now ≡ length links.now }
+    requires right { cut.now.right < 2 ^ 84 }
+    ensures yes { result ≡ true → IsWideCut links.now pairs.now cut.now }
+    ensures no { result ≡ false → IsNarrowCut links.now pairs.now cut.now }
+{
+    cut.right >= WIDE
+        || gain_of(links, cut).unsigned_abs() >= WIDE
+        || has_wide_entry(pairs, cut.lengths.items())
+}
+
+/// The place of the first cut of which a number is 2^62 or more.
+pub(crate) fn wide_cut(links: &[Link], pairs: &[UnitPair], cuts: &[CutLine]) -> Option<usize>
+    requires few { length links.now ≤ 256 }
+    requires sound { All (λ l. l.fixed < 2 ^ 40) links.now }
+    requires counts { All (λ cut. length cut.lengths ≡ length links.now) cuts.now }
+    requires pairs { length pairs.now ≡ length links.now }
+    requires right { All (λ cut. cut.right < 2 ^ 84) cuts.now }
+    ensures { FindsWideCut links.now pairs.now cuts.now result }
+{
+    for k in 0..cuts.len() {
+        if is_wide(links, pairs, &cuts[k]) {
+            return Some(k);
+        }
+    }
+    None
+}
