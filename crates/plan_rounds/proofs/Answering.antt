@@ -1,0 +1,97 @@
+-- the answers of all states, sorted
+use Rattle.std.proofs.Common.{◌≡◌, ◌≢◌, ℕ, ◌+◌, ◌<◌, ◌≤◌, ⊎_elim, List, [], ◌∷◌, Some, None, get_or, length, slice_get, refl, sym, ap, subst, ◌∙◌, arith, suc}
+use Rattle.std.proofs.lemmas.List.{length-append}
+use Rattle.std.proofs.lemmas.List.Elements.{All-nil, All-push, All-weaker}
+use Rattle.std.proofs.lemmas.List.Quantifiers.{all_pairs_push}
+use Rattle.net_core.specs.declared.journal.Entry.{Entry}
+use Rattle.net_core.specs.declared.plan.Caps.{Caps}
+use Rattle.net_core.specs.declared.plan.CutLine.{CutLine}
+use Rattle.net_core.specs.declared.plan.Routing.{Routing}
+use Rattle.net_core.specs.Cases.{Case, graph_in}
+use Rattle.flow_router.specs.Answers.{IsRouted}
+use Rattle.separator.specs.Separators.{AreStateAnswers, IsAnswerOf, IsSeparatingCut}
+use Rattle.separator.specs.declared.answers.Separated.{Separated}
+use Rattle.separator.specs.declared.answers.Separated.TheVariants.{Routed, Violated, Wide}
+use Rattle.separator.specs.declared.answers.StateAnswer.{StateAnswer}
+use Rattle.plan_rounds.specs.inner.Answered.{AnswersShort, AreAnswersFrom, AreSorted, HasShort, PutsAnswer}
+use Rattle.plan_rounds.specs.declared.sorting.Answered.{Answered}
+use Rattle.plan_rounds.proofs.Seeing.{get_more, stand_more}
+
+module _ (p : Case) (caps : Caps) (history : List Entry) where
+  pub answers_all : (answers : List StateAnswer) → AreStateAnswers p caps history answers → AreAnswersFrom p caps history 0 answers
+  answers_all answers are = record {
+    count = omega (arith, are.count);
+    each = λ i a at.
+        let h = are.each i a at in
+        let same : i ≡ 0 + i = omega arith in
+        (h.0 ∙ same, subst (λ s. IsAnswerOf p caps history s a.answer) same h.1);
+  }
+
+  -- the first answer, and the others
+  pub answers_rest : (n : ℕ) (a : StateAnswer) (rest : List StateAnswer) → AreAnswersFrom p caps history n (a ∷ rest) → IsAnswerOf p caps history n a.answer × AreAnswersFrom p caps history (n + 1) rest
+  answers_rest n a rest are = (
+    subst (λ s. IsAnswerOf p caps history s a.answer) (let same : n + 0 ≡ n = omega arith in same) (are.each 0 a refl).1,
+    record {
+      count = omega (arith, are.count);
+      each = λ i x at.
+          let h = are.each (suc i) x at in
+          let same : n + suc i ≡ n + 1 + i = omega arith in
+          (h.0 ∙ same, subst (λ s. IsAnswerOf p caps history s x.answer) same h.1);
+    },
+  )
+
+  pub answers_some : (n : ℕ) (a : StateAnswer) (rest : List StateAnswer) → AreAnswersFrom p caps history n (a ∷ rest) → n ≤ length p.listed
+  answers_some n a rest are = omega (arith, are.count)
+
+  pub sorted_none : AreSorted p caps history 0 (record { routings = []; found = record { lines = []; spots = [] }; wide = None })
+  sorted_none = record {
+    cuts = All-nil (IsSeparatingCut p caps);
+    short = All-nil HasShort;
+    states = λ i j d ij lj. absurd (omega (arith, lj));
+    before = All-nil (λ (c : CutLine). c.state.0 < 0);
+    spots = record { count = refl; each = λ i line spot one two. absurd (let e : None ≡ Some line = one in cc e) };
+    wide = tt;
+    routed = λ none not_wide. record { count = refl; each = λ s r at. absurd (let e : None ≡ Some r = at in cc e) };
+  }
+
+  -- one answer more
+  pub sorted_more : (n : ℕ) (answer : Separated) (old new : Answered) → n ≤ length p.listed → AreSorted p caps history n old → IsAnswerOf p caps history n answer → AnswersShort answer → PutsAnswer answer old new → AreSorted p caps history (n + 1) new
+  sorted_more n (Routed routing) old new inside are is short puts = subst (AreSorted p caps history (n + 1)) (sym puts) (record {
+    cuts = are.cuts;
+    short = are.short;
+    states = are.states;
+    before = All-weaker (λ (c : CutLine). c.state.0 < n) (λ c. c.state.0 < n + 1) (λ c lt. omega (arith, lt)) old.found.lines are.before;
+    spots = are.spots;
+    wide = are.wide;
+    routed = λ none not_wide.
+        let before = are.routed none not_wide in
+        record {
+          count = let same = before.count in omega (arith, same, length-append old.routings (routing ∷ []));
+          each = λ s r at. ⊎_elim
+              (λ (front : (s < length old.routings) × (slice_get old.routings s ≡ Some r)). before.each s r front.1)
+              (λ (last : (s ≡ length old.routings) × (routing ≡ r)).
+              subst (λ (x : Routing). IsRouted (graph_in p s) p.demands caps x) last.1
+              (subst (λ k. IsRouted (graph_in p k) p.demands caps routing) (sym (last.0 ∙ before.count)) is))
+              (get_more old.routings routing s r at);
+        };
+  })
+  sorted_more n (Violated line spot) old new inside are is short puts = subst (AreSorted p caps history (n + 1)) (sym puts) (record {
+    cuts = All-push (IsSeparatingCut p caps) old.found.lines line are.cuts is.1;
+    short = All-push HasShort old.found.lines line are.short short;
+    states = all_pairs_push (λ x y. x.state ≢ y.state) old.found.lines line are.states
+        (λ k d lt same. let back : (get_or old.found.lines k d).state.0 ≡ line.state.0 = ap (λ st. st.0) same in omega (arith, are.before k d lt, back, is.0));
+    before = All-push (λ (c : CutLine). c.state.0 < n + 1) old.found.lines line
+        (All-weaker (λ (c : CutLine). c.state.0 < n) (λ c. c.state.0 < n + 1) (λ c lt. omega (arith, lt)) old.found.lines are.before) (omega (arith, is.0));
+    spots = stand_more history old.found.lines old.found.spots line spot are.spots is.2;
+    wide = are.wide;
+    routed = λ none. absurd (omega (arith, none, length-append old.found.lines (line ∷ [])));
+  })
+  sorted_more n (Wide evidence) old new inside are is short puts = subst (AreSorted p caps history (n + 1)) (sym puts) (record {
+    cuts = are.cuts;
+    short = are.short;
+    states = are.states;
+    before = All-weaker (λ (c : CutLine). c.state.0 < n) (λ c. c.state.0 < n + 1) (λ c lt. omega (arith, lt)) old.found.lines are.before;
+    spots = are.spots;
+    wide = (n, inside, is);
+    routed = λ none not_wide. absurd (let e : Some evidence ≡ None = not_wide in cc e);
+  })

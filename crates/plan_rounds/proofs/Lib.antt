@@ -1,0 +1,12 @@
+pub mod Answering
+pub mod Bounding
+pub mod Listing
+pub mod Multiplying
+pub mod Opening
+pub mod Pairs
+pub mod Results
+pub mod Rights
+pub mod Seeing
+pub mod Sharing
+pub mod Turning
+pub mod Undividing

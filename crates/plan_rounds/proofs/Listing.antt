@@ -1,0 +1,103 @@
+-- cuts as they come to the list
+use Rattle.std.proofs.Common.{◌≡◌, ◌≢◌, ◌^◌, ◌<◌, ◌≤◌, inl, inr, ⊎_elim, List, [], ◌++◌, AllPairs, Some, get_or, length, map, take, drop, slice_get, sym, ap, subst, ◌∙◌, arith}
+use Rattle.std.specs.Option.{option_map}
+use Rattle.std.proofs.lemmas.List.{get_or-map, length-map, take-append-drop}
+use Rattle.std.proofs.lemmas.List.Elements.{All-push}
+use Rattle.std.proofs.lemmas.List.Quantifiers.{all_pairs_push}
+use Rattle.std.proofs.lemmas.Option.{slice_get-map, slice_get_within}
+use Rattle.net_core.specs.declared.demand.Demand.{Demand}
+use Rattle.net_core.specs.declared.journal.Entry.{Entry}
+use Rattle.net_core.specs.declared.network.Network.{Network}
+use Rattle.net_core.specs.declared.plan.CutLine.{CutLine}
+use Rattle.net_core.specs.declared.states.States.{States}
+use Rattle.net_core.specs.Cases.{Case, graph_in}
+use Rattle.net_core.specs.Graphs.{Joins}
+use Rattle.net_core.specs.Views.{case}
+use Rattle.plan_terms.specs.Certificates.{AreKept, IsCut, IsRight}
+use Rattle.plan_types.specs.declared.certificate.Spot.{Spot}
+use Rattle.plan_types.specs.declared.certificate.Spot.TheVariants.{Pool}
+use Rattle.metric_cut.specs.Cuts.{IsCutOf}
+use Rattle.metric_cut.specs.declared.cut.Cut.{Cut}
+use Rattle.cut_pool.specs.Histories.{cut_of_line, cuts_of}
+use Rattle.master_law.specs.MasterPrograms.{IsSameCut}
+use Rattle.plan_law.specs.WorkedLists.{AreDifferentCuts, HasCut}
+use Rattle.separator.specs.Separators.{IsSeenHistory, IsSpotIn, SeesMore}
+use Rattle.plan_rounds.specs.WorkedRounds.{IsPoolOf, StandAtSpots}
+use Rattle.plan_rounds.specs.inner.Listing.{AreFirstSpots, AreListed, IsLineFor, PutsLine, TakesCut}
+use Rattle.plan_rounds.specs.declared.candidates.Candidates.{Candidates}
+use Rattle.plan_rounds.proofs.Seeing.{cuts_both, cuts_differ, get_front, stand_later, stand_more}
+
+line_cut : (cut : Cut) (demands : List Demand) (line : CutLine) → IsLineFor cut demands line → cut_of_line line ≡ (cut.state.0, cut.lengths)
+line_cut cut demands line is = let one = ap (λ st. st.0) is.state in let two = is.lengths in cc (one, two)
+
+-- the line of a cut of the case's network is a cut of the case
+pub line_is_cut : (p : Case) (cut : Cut) (line : CutLine) → IsCutOf (graph_in p cut.state.0) cut → IsLineFor cut p.demands line → IsCut p line
+line_is_cut p cut line of is =
+    let back = sym (ap (λ st. st.0) is.state) in
+    let same = sym is.lengths in
+    record {
+      listed_state = subst (λ k. k ≤ length p.listed) back of.listed_state;
+      kept = subst (λ k. AreKept (graph_in p k) line.lengths) back (subst (λ ls. AreKept (graph_in p cut.state.0) ls) same of.kept);
+      right = subst (λ k. IsRight (Joins (graph_in p k)) line.lengths p.demands line.right) back
+          (subst (λ ls. IsRight (Joins (graph_in p cut.state.0)) ls p.demands line.right) same (is.right (graph_in p cut.state.0) of));
+    }
+
+listed_put : (p : Case) (h : List Entry) (line : CutLine) (spot : Spot) (old new : Candidates) → IsCut p line → line.right < 2 ^ 84 → IsSpotIn h (cut_of_line line) spot → AreListed p h old → PutsLine line spot old new → AreListed p h new
+listed_put p h line spot old new is low at are puts = ⊎_elim
+    (λ known. subst (AreListed p h) (sym known.1) are)
+    (λ lacks. subst (AreListed p h) (sym lacks.1) (record {
+      cuts = All-push (IsCut p) old.lines line are.cuts is;
+      low = All-push (λ (l : CutLine). l.right < 2 ^ 84) old.lines line are.low low;
+      different = all_pairs_push (λ a b. IsSameCut a b → ⊥) old.lines line are.different (λ k d lt same. lacks.0 k d lt (sym same.0, sym same.1));
+      spots = stand_more h old.lines old.spots line spot are.spots at;
+    }))
+    puts
+
+-- the list as a separator has seen more
+pub listed_later : (p : Case) (net : Network) (states : States) (h own h_now own_now : List Entry) (c : Candidates) → SeesMore h own h_now own_now → IsSeenHistory net states h_now own_now → AreListed p h c → AreListed p h_now c
+listed_later p net states h own h_now own_now c more seen are = record {
+  cuts = are.cuts;
+  low = are.low;
+  different = are.different;
+  spots = subst (λ es. StandAtSpots es c.lines c.spots) (sym more.seen)
+      (stand_later net states h own_now more.further c.lines c.spots (subst (λ es. IsSeenHistory net states es own_now) more.seen seen) are.spots);
+}
+
+-- a cut that is admitted comes to the list
+pub listed_take : (p : Case) (h : List Entry) (cut : Cut) (line : CutLine) (spot : Spot) (old new : Candidates) → IsCutOf (graph_in p cut.state.0) cut → IsLineFor cut p.demands line → IsSpotIn h (cut.state.0, cut.lengths) spot → AreListed p h old → PutsLine line spot old new → AreListed p h new
+listed_take p h cut line spot old new of is at are puts =
+    listed_put p h line spot old new (line_is_cut p cut line of is) is.low (subst (λ c. IsSpotIn h c spot) (sym (line_cut cut p.demands line is)) at) are puts
+
+pub takes_put : (demands : List Demand) (cut : Cut) (line : CutLine) (spot : Spot) (old new : Candidates) → IsLineFor cut demands line → PutsLine line spot old new → TakesCut demands cut old.lines new.lines
+takes_put demands cut line spot old new is puts = ⊎_elim
+    (λ known. inl (subst (λ s. HasCut old.lines s cut.lengths) (ap (λ st. st.0) is.state) (subst (λ ls. HasCut old.lines line.state.0 ls) is.lengths known.0), ap (λ (c : Candidates). c.lines) known.1))
+    (λ lacks. inr (line, is, lacks.0, ap (λ (c : Candidates). c.lines) lacks.1))
+    puts
+
+-- ---- the pool
+
+-- cuts that differ as pairs of state and lengths differ as cuts
+lines_differ : (lines : List CutLine) → AllPairs (λ a b. a ≢ b) (map cut_of_line lines) → AreDifferentCuts lines
+lines_differ lines all i j d ij lj same =
+    let pair : cut_of_line (get_or lines i d) ≡ cut_of_line (get_or lines j d) = let one = ap (λ st. st.0) same.0 in let two = same.1 in cc (one, two) in
+    all i j (cut_of_line d) ij (subst (λ n. j < n) (sym (length-map lines cut_of_line)) lj)
+    (get_or-map cut_of_line lines i d (cut_of_line d) (omega (arith, ij, lj)) ∙ (pair ∙ sym (get_or-map cut_of_line lines j d (cut_of_line d) lj)))
+
+pub pool_listed : (p : Case) (net : Network) (states : States) (h own : List Entry) (lines : List CutLine) (spots : List Spot) → IsSeenHistory net states h own → IsPoolOf p h lines → AreFirstSpots (length lines) spots
+    → AreListed p h (record { lines = lines; spots = spots })
+pool_listed p net states h own lines spots seen pool are = record {
+  cuts = pool.cuts;
+  low = pool.low;
+  different = lines_differ lines (subst (AllPairs (λ a b. a ≢ b)) (sym pool.pooled) (cuts_differ (case net states []) h seen.legal pool.position));
+  spots = record {
+    count = are.count;
+    each = λ i line spot one two.
+        let within = slice_get_within lines i line one in
+        let same : Some (Pool i) ≡ Some spot = sym (are.each i within) ∙ two in
+        let is : Pool i ≡ spot = cc same in
+        let at : slice_get (cuts_of (take pool.position h)) i ≡ Some (cut_of_line line) =
+        ap (λ cuts. slice_get cuts i) (sym pool.pooled) ∙ (slice_get-map cut_of_line lines i ∙ ap (option_map cut_of_line) one) in
+        let whole : cuts_of (take pool.position h) ++ cuts_of (drop pool.position h) ≡ cuts_of h = sym (cuts_both (take pool.position h) (drop pool.position h)) ∙ ap cuts_of (take-append-drop pool.position h) in
+        subst (IsSpotIn h (cut_of_line line)) is (subst (λ cs. slice_get cs i ≡ Some (cut_of_line line)) whole (get_front (cuts_of (take pool.position h)) (cuts_of (drop pool.position h)) i (cut_of_line line) at));
+  };
+}

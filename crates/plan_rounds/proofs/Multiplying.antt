@@ -1,0 +1,79 @@
+-- flows that are multiplied one after another
+use Rattle.std.proofs.Common.{◌≡◌, ℕ, zero, suc, ◌+◌, ◌-◌, ◌*◌, ◌^◌, ◌<◌, ◌≤◌, ◌⊎◌, ◌++◌, List, [], ◌∷◌, All, None, Some, length, get_or, map, take, slice_get, slice_set, remove, refl, sym, ap, ◌∙◌, subst, arith, ⊎_elim}
+use Rattle.std.proofs.lemmas.List.{append_assoc, append-nil, get_or-set_other, length-set, map-append, take_more, take_more_set}
+use Rattle.net_core.specs.declared.plan.Flow.{Flow}
+use Rattle.route_law.specs.Routings.{flow_times}
+
+-- the first n flows are multiplied, and the others are as they were
+pub record AreMultiplied (factor n : ℕ) (old new : List Flow) : Type 0 where
+  pub count : length new ≡ length old
+  pub done : take n new ≡ map (flow_times factor) (take n old)
+  pub rest : (k : ℕ) (d : Flow) → n ≤ k → get_or new k d ≡ get_or old k d
+
+pub multiplied_none : (factor : ℕ) (flows : List Flow) → AreMultiplied factor 0 flows flows
+multiplied_none factor flows = record { count = refl; done = refl; rest = λ k d le. refl }
+
+get_any : {X : Type 0} (xs : List X) (i : ℕ) (d e : X) → i < length xs → get_or xs i d ≡ get_or xs i e
+get_any [] i d e lt = absurd (omega (arith, lt))
+get_any (x ∷ xs) zero d e lt = refl
+get_any (x ∷ xs) (suc i) d e lt = get_any xs i d e (omega (arith, lt))
+
+swap : (a b : ℕ) → a * b ≡ b * a
+swap a b = omega arith
+
+-- the flow as it is written
+pub multiplied_write : (factor n : ℕ) (old new : List Flow) (d e : Flow) → n < length new → AreMultiplied factor n old new
+    → AreMultiplied factor (n + 1) old (slice_set new n (record { demand = (get_or new n d).demand; path = (get_or new n d).path; num = (get_or new n e).num * factor }))
+multiplied_write factor n old new d e lt sofar =
+    let inside : n < length old = omega (arith, lt, sofar.count) in
+    let here : get_or new n d ≡ get_or old n d = sofar.rest n d (omega arith) in
+    let there : get_or new n e ≡ get_or old n d = get_any new n e d lt ∙ here in
+    let num : (get_or new n e).num * factor ≡ factor * (get_or old n d).num = ap (λ (f : Flow). f.num * factor) there ∙ swap (get_or old n d).num factor in
+    let written : record { demand = (get_or new n d).demand; path = (get_or new n d).path; num = (get_or new n e).num * factor } ≡ flow_times factor (get_or old n d) =
+    ap (λ m. record { demand = (get_or new n d).demand; path = (get_or new n d).path; num = m }) num ∙ ap (λ (f : Flow). record { demand = f.demand; path = f.path; num = factor * (get_or old n d).num }) here in
+    subst (λ f. AreMultiplied factor (n + 1) old (slice_set new n f)) (sym written) (record {
+      count = length-set new n (flow_times factor (get_or old n d)) ∙ sofar.count;
+      done = take_more_set new n (flow_times factor (get_or old n d)) lt
+          ∙ (ap (λ fs. fs ++ flow_times factor (get_or old n d) ∷ []) sofar.done
+          ∙ (sym (map-append (flow_times factor) (take n old) (get_or old n d ∷ [])) ∙ ap (map (flow_times factor)) (sym (take_more old n d inside))));
+      rest = λ k x le. get_or-set_other new n k (flow_times factor (get_or old n d)) x (λ same. omega (arith, same, le)) ∙ sofar.rest k x (omega (arith, le));
+    })
+
+pub take_all : {X : Type 0} (n : ℕ) (xs : List X) → length xs ≤ n → take n xs ≡ xs
+take_all zero [] le = refl
+take_all zero (x ∷ xs) le = absurd (omega (arith, le))
+take_all (suc n) [] le = refl
+take_all (suc n) (x ∷ xs) le = ap (λ ys. x ∷ ys) (take_all n xs (omega (arith, le)))
+
+pub multiplied_end : (factor n : ℕ) (old new : List Flow) → length new ≤ n → AreMultiplied factor n old new → new ≡ map (flow_times factor) old
+multiplied_end factor n old new le sofar = sym (take_all n new le) ∙ (sofar.done ∙ ap (map (flow_times factor)) (take_all n old (omega (arith, le, sofar.count))))
+
+-- a flow that is still to be multiplied stays narrow
+pub multiplied_fits : (factor n : ℕ) (old new : List Flow) (d : Flow) → n < length new → AreMultiplied factor n old new → All (λ f. factor * f.num < 2 ^ 124) old → (get_or new n d).num * factor < 2 ^ 124
+multiplied_fits factor n old new d lt sofar all =
+    let at = all n d (omega (arith, lt, sofar.count)) in
+    let same : (get_or new n d).num * factor ≡ factor * (get_or old n d).num = ap (λ (f : Flow). f.num * factor) (sofar.rest n d (omega arith)) ∙ swap (get_or old n d).num factor in
+    omega (arith, at, same)
+
+-- the first item, and the others
+pub first_of : {X : Type 0} (xs rest : List X) (x : X) → slice_get xs 0 ≡ Some x → rest ≡ remove xs 0 → xs ≡ x ∷ rest
+first_of [] rest x at is = absurd (let e : None ≡ Some x = at in cc e)
+first_of (y ∷ ys) rest x at is = let e : Some y ≡ Some x = at in let r : rest ≡ ys = is in cc (e, r)
+
+-- ---- the first items of a list, moved one by one
+
+pub take_step : {X : Type 0} (x : X) (rest : List X) (n : ℕ) → 0 < n → take n (x ∷ rest) ≡ x ∷ take (n - 1) rest
+take_step x rest zero some = absurd (omega (arith, some))
+take_step x rest (suc n) some = let same : suc n - 1 ≡ n = omega arith in ap (λ k. x ∷ take k rest) (sym same)
+
+pub take_moved : {X : Type 0} (into rest all : List X) (x : X) (n : ℕ) → 0 < n → into ++ take n (x ∷ rest) ≡ all → (into ++ x ∷ []) ++ take (n - 1) rest ≡ all
+take_moved into rest all x n some is = append_assoc into (x ∷ []) (take (n - 1) rest) ∙ (ap (λ xs. into ++ xs) (sym (take_step x rest n some)) ∙ is)
+
+pub take_nothing : {X : Type 0} (into left all : List X) (n : ℕ) → (length left ≡ 0) ⊎ (n ≡ 0) → into ++ take n left ≡ all → into ≡ all
+take_nothing into left all n none is = sym (append-nil into) ∙ (ap (λ xs. into ++ xs) (sym (nothing left n none)) ∙ is)
+  where
+    nothing : {X : Type 0} (left : List X) (n : ℕ) → (length left ≡ 0) ⊎ (n ≡ 0) → take n left ≡ []
+    nothing [] zero none = refl
+    nothing [] (suc n) none = refl
+    nothing (x ∷ xs) zero none = refl
+    nothing (x ∷ xs) (suc n) none = absurd (⊎_elim (λ l. omega (arith, l)) (λ r. omega (arith, r)) none)

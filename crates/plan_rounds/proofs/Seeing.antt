@@ -1,0 +1,143 @@
+-- histories that a separator has seen, as they grow, and where cuts stand in them
+use Rattle.std.proofs.Common.{◌≡◌, ◌≢◌, ℕ, zero, suc, ◌<◌, ◌≤◌, ◌⊎◌, inl, inr, ⊎_elim, List, [], ◌∷◌, ◌++◌, All, AllPairs, Some, None, length, take, slice_get, refl, sym, ap, subst, ◌∙◌, arith}
+use Rattle.std.proofs.lemmas.List.{append_assoc, append-nil, length-append}
+use Rattle.std.proofs.lemmas.List.Elements.{All-append, All-nil}
+use Rattle.std.proofs.lemmas.List.Quantifiers.{all_pairs_push}
+use Rattle.net_core.specs.declared.journal.Entry.{Entry}
+use Rattle.net_core.specs.declared.journal.Entry.TheVariants.{Edited, Pooled}
+use Rattle.net_core.specs.declared.network.Network.{Network}
+use Rattle.net_core.specs.declared.plan.CutLine.{CutLine}
+use Rattle.net_core.specs.declared.states.States.{States}
+use Rattle.net_core.specs.Cases.{Case}
+use Rattle.plan_types.specs.declared.certificate.Spot.{Spot}
+use Rattle.plan_types.specs.declared.certificate.Spot.TheVariants.{Pool, Local}
+use Rattle.cut_pool.specs.Histories.{IsLegalAfter, cut_of_line, cuts_of}
+use Rattle.separator.specs.Separators.{IsCutEntry, IsPartOf, IsSeenHistory, IsSpotIn, SeesMore}
+use Rattle.plan_rounds.specs.WorkedRounds.{StandAtSpots}
+use Rattle.plan_rounds.specs.inner.Listing.{GoesOn}
+
+-- what is read of a list's beginning
+pub get_front : {X : Type 0} (xs ys : List X) (i : ℕ) (x : X) → slice_get xs i ≡ Some x → slice_get (xs ++ ys) i ≡ Some x
+get_front [] ys i x at = absurd (let e : None ≡ Some x = at in cc e)
+get_front (y ∷ xs) ys zero x at = at
+get_front (y ∷ xs) ys (suc i) x at = get_front xs ys i x at
+
+-- an item of a list with one more is one of the list, or the last
+pub get_more : {X : Type 0} (xs : List X) (x : X) (i : ℕ) (c : X) → slice_get (xs ++ x ∷ []) i ≡ Some c → ((i < length xs) × (slice_get xs i ≡ Some c)) ⊎ ((i ≡ length xs) × (x ≡ c))
+get_more [] x zero c at = inr (refl, let e : Some x ≡ Some c = at in cc e)
+get_more [] x (suc i) c at = absurd (let e : None ≡ Some c = at in cc e)
+get_more (y ∷ xs) x zero c at = inl (omega arith, at)
+get_more (y ∷ xs) x (suc i) c at = ⊎_elim
+    (λ p. inl (omega (arith, p.0), p.1))
+    (λ p. inr (omega (arith, p.0), p.1))
+    (get_more xs x i c at)
+
+empty : {X : Type 0} (xs : List X) → length xs ≡ 0 → xs ≡ []
+empty [] none = refl
+empty (x ∷ xs) none = absurd (omega (arith, none))
+
+pub cuts_both : (xs ys : List Entry) → cuts_of (xs ++ ys) ≡ cuts_of xs ++ cuts_of ys
+cuts_both [] ys = refl
+cuts_both (Edited caller edit reply ∷ xs) ys = cuts_both xs ys
+cuts_both (Pooled index state lengths ∷ xs) ys = ap (λ cuts. (state.0, lengths) ∷ cuts) (cuts_both xs ys)
+
+-- ---- some more entries
+
+part_both : {X : Type 0} (xs ys us vs : List X) → IsPartOf xs ys → IsPartOf us vs → IsPartOf (xs ++ us) (ys ++ vs)
+part_both [] [] us vs first second = second
+part_both [] (y ∷ ys) [] vs first second = tt
+part_both [] (y ∷ ys) (u ∷ us) vs first second = inr (part_both [] ys (u ∷ us) vs tt second)
+part_both (x ∷ xs) [] us vs first second = absurd first
+part_both (x ∷ xs) (y ∷ ys) us vs first second = ⊎_elim
+    (λ l. inl (l.0, part_both xs ys us vs l.1 second))
+    (λ r. inr (part_both (x ∷ xs) ys us vs r second))
+    first
+
+sees_none : (history own : List Entry) → SeesMore history own history own
+sees_none history own = record { further = []; seen = sym (append-nil history); committed = []; own_is = sym (append-nil own); among = tt; pooled = All-nil IsCutEntry }
+
+sees_both : (h o h1 o1 h2 o2 : List Entry) → SeesMore h o h1 o1 → SeesMore h1 o1 h2 o2 → SeesMore h o h2 o2
+sees_both h o h1 o1 h2 o2 a b = record {
+  further = a.further ++ b.further;
+  seen = b.seen ∙ (ap (λ es. es ++ b.further) a.seen ∙ append_assoc h a.further b.further);
+  committed = a.committed ++ b.committed;
+  own_is = b.own_is ∙ (ap (λ es. es ++ b.committed) a.own_is ∙ append_assoc o a.committed b.committed);
+  among = part_both a.committed a.further b.committed b.further a.among b.among;
+  pooled = All-append IsCutEntry a.committed b.committed a.pooled b.pooled;
+}
+
+pub goes_none : {M : Type 0} (net : Network) (states : States) (mark : M) (history own : List Entry) → GoesOn net net states states mark mark history own history own
+goes_none net states mark history own = record { network = refl; listed = refl; same_mark = refl; more = sees_none history own }
+
+pub goes_both : {M : Type 0} (n0 n1 n2 : Network) (s0 s1 s2 : States) (m0 m1 m2 : M) (h0 o0 h1 o1 h2 o2 : List Entry)
+    → GoesOn n0 n1 s0 s1 m0 m1 h0 o0 h1 o1 → GoesOn n1 n2 s1 s2 m1 m2 h1 o1 h2 o2 → GoesOn n0 n2 s0 s2 m0 m2 h0 o0 h2 o2
+goes_both n0 n1 n2 s0 s1 s2 m0 m1 m2 h0 o0 h1 o1 h2 o2 a b = record {
+  network = b.network ∙ a.network;
+  listed = b.listed ∙ a.listed;
+  same_mark = b.same_mark ∙ a.same_mark;
+  more = sees_both h0 o0 h1 o1 h2 o2 a.more b.more;
+}
+
+-- ---- what stands, stands later
+
+spot_later : (h f : List Entry) (cut : ℕ × List ℕ) (spot : Spot) → length (h ++ f) ≤ 65536 → length (cuts_of (h ++ f)) ≤ 4096 → IsSpotIn h cut spot → IsSpotIn (h ++ f) cut spot
+spot_later h f cut (Pool i) few few_cuts at = subst (λ cuts. slice_get cuts i ≡ Some cut) (sym (cuts_both h f)) (get_front (cuts_of h) (cuts_of f) i cut at)
+spot_later h f cut Local few few_cuts at = ⊎_elim
+    (λ (full : length (cuts_of h) ≡ 4096).
+    let long = ap length (cuts_both h f) in
+    let no_more : cuts_of f ≡ [] = empty (cuts_of f) (omega (arith, full, few_cuts, long, length-append (cuts_of h) (cuts_of f))) in
+    let same : cuts_of (h ++ f) ≡ cuts_of h = cuts_both h f ∙ (ap (λ cs. cuts_of h ++ cs) no_more ∙ append-nil (cuts_of h)) in
+    (inl (ap length same ∙ full), subst (λ cs. All (λ c. c ≢ cut) cs) (sym same) at.1))
+    (λ (full : length h ≡ 65536).
+    let no_more : f ≡ [] = empty f (omega (arith, full, few, length-append h f)) in
+    let same : h ++ f ≡ h = ap (λ es. h ++ es) no_more ∙ append-nil h in
+    subst (λ es. IsSpotIn es cut Local) (sym same) at)
+    at.0
+
+pub stand_later : (net : Network) (states : States) (h own f : List Entry) (lines : List CutLine) (spots : List Spot) → IsSeenHistory net states (h ++ f) own → StandAtSpots h lines spots → StandAtSpots (h ++ f) lines spots
+stand_later net states h own f lines spots seen s = record {
+  count = s.count;
+  each = λ i line spot one two. spot_later h f (cut_of_line line) spot seen.few seen.few_cuts (s.each i line spot one two);
+}
+
+-- one line more
+pub stand_more : (h : List Entry) (lines : List CutLine) (spots : List Spot) (line : CutLine) (spot : Spot) → StandAtSpots h lines spots → IsSpotIn h (cut_of_line line) spot → StandAtSpots h (lines ++ line ∷ []) (spots ++ spot ∷ [])
+stand_more h lines spots line spot s at = record {
+  count = let same = s.count in omega (arith, same, length-append lines (line ∷ []), length-append spots (spot ∷ []));
+  each = λ i l x one two. ⊎_elim
+      (λ (before : (i < length lines) × (slice_get lines i ≡ Some l)). ⊎_elim
+      (λ (front : (i < length spots) × (slice_get spots i ≡ Some x)). s.each i l x before.1 front.1)
+      (λ (last : (i ≡ length spots) × (spot ≡ x)). absurd (let same = s.count in omega (arith, before.0, last.0, same)))
+      (get_more spots spot i x two))
+      (λ (last : (i ≡ length lines) × (line ≡ l)). ⊎_elim
+      (λ (front : (i < length spots) × (slice_get spots i ≡ Some x)). absurd (let same = s.count in omega (arith, front.0, last.0, same)))
+      (λ (both : (i ≡ length spots) × (spot ≡ x)). subst (λ (y : CutLine). IsSpotIn h (cut_of_line y) x) last.1 (subst (IsSpotIn h (cut_of_line line)) both.1 at))
+      (get_more spots spot i x two))
+      (get_more lines line i l one);
+}
+
+-- ---- the cuts that a history pools are all different
+
+module _ (q : Case) where
+  differ_on : (before after : List Entry) → ((n : ℕ) (e : Entry) → slice_get after n ≡ Some e → IsCutEntry e → IsLegalAfter q (before ++ take n after) e)
+      → AllPairs (λ a b. a ≢ b) (cuts_of before) → (m : ℕ) → AllPairs (λ a b. a ≢ b) (cuts_of (before ++ take m after))
+  differ_on before [] legal different m = subst (λ es. AllPairs (λ a b. a ≢ b) (cuts_of es)) (sym (ends m)) different
+    where
+      ends : (m : ℕ) → before ++ take m [] ≡ before
+      ends zero = append-nil before
+      ends (suc m) = append-nil before
+  differ_on before (e ∷ es) legal different zero = subst (λ es. AllPairs (λ a b. a ≢ b) (cuts_of es)) (sym (append-nil before)) different
+  differ_on before (e ∷ es) legal different (suc m) =
+      subst (λ xs. AllPairs (λ a b. a ≢ b) (cuts_of xs)) (append_assoc before (e ∷ []) (take m es))
+      (differ_on (before ++ e ∷ []) es
+      (λ n x at is. subst (λ xs. IsLegalAfter q xs x) (sym (append_assoc before (e ∷ []) (take n es))) (legal (suc n) x at is))
+      (one_more e (λ is. subst (λ xs. IsLegalAfter q xs e) (append-nil before) (legal 0 e refl is)))
+      m)
+    where
+      one_more : (e : Entry) → (IsCutEntry e → IsLegalAfter q before e) → AllPairs (λ a b. a ≢ b) (cuts_of (before ++ e ∷ []))
+      one_more (Edited caller edit reply) is = subst (AllPairs (λ a b. a ≢ b)) (sym (cuts_both before (Edited caller edit reply ∷ []) ∙ append-nil (cuts_of before))) different
+      one_more (Pooled index state lengths) is = subst (AllPairs (λ a b. a ≢ b)) (sym (cuts_both before (Pooled index state lengths ∷ [])))
+          (all_pairs_push (λ a b. a ≢ b) (cuts_of before) (state.0, lengths) different (is tt).2)
+
+  pub cuts_differ : (history : List Entry) → ((n : ℕ) (e : Entry) → slice_get history n ≡ Some e → IsCutEntry e → IsLegalAfter q (take n history) e) → (m : ℕ) → AllPairs (λ a b. a ≢ b) (cuts_of (take m history))
+  cuts_differ history legal m = differ_on [] history legal (λ i j d ij lj. absurd (omega (arith, lj))) m

@@ -1,0 +1,77 @@
+-- the capacities of a share, over a common divisor of theirs
+use Rattle.std.proofs.Common.{◌≡◌, ℕ, zero, suc, ◌+◌, ◌*◌, ◌/◌, ◌<◌, List, [], ◌∷◌, ◌++◌, All, get_or, length, map, take, zip, sym, ap, subst, ◌∙◌, arith}
+use Rattle.std.specs.Int.{IsGcd, ◌∣◌}
+use Rattle.std.proofs.lemmas.List.{get_or-map, length-map, map-append, take_more}
+use Rattle.std.proofs.lemmas.List.Elements.{All-push}
+use Rattle.std.proofs.lemmas.Slice.Zip.{get_or-zip, length-zip}
+use Rattle.std.proofs.lemmas.Nat.Gcd.{dvd_trans}
+use Rattle.std.proofs.Math.Nat.{mul-div_cancel'}
+use Rattle.checked_fraction.proofs.Divisors.{positive_divisor}
+use Rattle.net_core.specs.declared.network.Link.{Link}
+use Rattle.module_prices.specs.declared.cheapest.UnitPair.{UnitPair}
+use Rattle.plan_types.specs.declared.quality.Share.{Share}
+use Rattle.master_law.specs.UnitPairs.{share_capacities}
+use Rattle.plan_rounds.specs.inner.Sharing.{DividesAll, IsDividedShare}
+use Rattle.plan_rounds.specs.declared.shares.ShareCaps.{ShareCaps}
+
+-- the capacity of one link more
+pub number_more : (links : List Link) (pairs : List UnitPair) (share : Share) (e : ℕ) (l : Link) (p : UnitPair) (u : ℕ) → length pairs ≡ length links → length share.units ≡ length links → e < length links
+    → take (e + 1) (share_capacities links pairs share) ≡ take e (share_capacities links pairs share) ++ ((get_or links e l).fixed * share.scale + (get_or pairs e p).capacity * get_or share.units e u) ∷ []
+number_more links pairs share e l p u same units inside =
+    take_more (share_capacities links pairs share) e 0 (subst (λ n. e < n) (sym (length-map rows number)) in_rows)
+    ∙ ap (λ n. take e (share_capacities links pairs share) ++ n ∷ []) (get_or-map number rows e (l, (p, u)) 0 in_rows ∙ ap number here)
+  where
+    rows : List (Link × (UnitPair × ℕ))
+    rows = zip links (zip pairs share.units)
+
+    number : Link × (UnitPair × ℕ) → ℕ
+    number r = r.0.fixed * share.scale + r.1.0.capacity * r.1.1
+
+    in_pairs : e < length (zip pairs share.units)
+    in_pairs = omega (arith, inside, same, units, length-zip pairs share.units)
+
+    in_rows : e < length rows
+    in_rows = omega (arith, inside, in_pairs, length-zip links (zip pairs share.units))
+
+    here : get_or rows e (l, (p, u)) ≡ (get_or links e l, (get_or pairs e p, get_or share.units e u))
+    here = get_or-zip links (zip pairs share.units) e (l, (p, u)) inside in_pairs
+        ∙ ap (λ q. (get_or links e l, q)) (get_or-zip pairs share.units e (p, u) (omega (arith, inside, same)) (omega (arith, inside, units)))
+
+pub capacities_count : (links : List Link) (pairs : List UnitPair) (share : Share) → length pairs ≡ length links → length share.units ≡ length links → length (share_capacities links pairs share) ≡ length links
+capacities_count links pairs share same units =
+    length-map (zip links (zip pairs share.units)) (λ r. r.0.fixed * share.scale + r.1.0.capacity * r.1.1)
+    ∙ omega (arith, same, units, length-zip pairs share.units, length-zip links (zip pairs share.units))
+
+-- one number more
+pub divides_more : (scale : ℕ) (nums : List ℕ) (n g h d : ℕ) → n < length nums → DividesAll scale (take n nums) g → IsGcd g (get_or nums n d) h → DividesAll scale (take (n + 1) nums) h
+divides_more scale nums n g h d lt all gcd = record {
+  positive = positive_divisor h g all.positive gcd.0;
+  of_scale = dvd_trans h gcd.0 all.of_scale;
+  of_nums = subst (All (λ x. h ∣ x)) (sym (take_more nums n d lt)) (All-push (λ x. h ∣ x) (take n nums) (get_or nums n d) (λ k e l. dvd_trans h gcd.0 (all.of_nums k e l)) gcd.1);
+}
+
+pub over_more : (divisor : ℕ) (nums divided : List ℕ) (n d : ℕ) → n < length nums → divisor ∣ get_or nums n d → map (λ x. divisor * x) divided ≡ take n nums → map (λ x. divisor * x) (divided ++ get_or nums n d / divisor ∷ []) ≡ take (n + 1) nums
+over_more divisor nums divided n d lt divides sofar =
+    map-append (λ x. divisor * x) divided (get_or nums n d / divisor ∷ [])
+    ∙ (ap (λ xs. xs ++ divisor * (get_or nums n d / divisor) ∷ []) sofar
+    ∙ (ap (λ x. take n nums ++ x ∷ []) (mul-div_cancel' divisor divides) ∙ sym (take_more nums n d lt)))
+
+pub divided_share : (links : List Link) (pairs : List UnitPair) (share : Share) (nums divided : List ℕ) (divisor : ℕ) → nums ≡ share_capacities links pairs share → DividesAll share.scale nums divisor → map (λ x. divisor * x) divided ≡ nums
+    → IsDividedShare links pairs share (record { whole = record { scale = share.scale; nums = nums }; divided = record { scale = share.scale / divisor; nums = divided }; divisor = divisor })
+divided_share links pairs share nums divided divisor are all times = record {
+  whole = ap (λ xs. record { scale = share.scale; nums = xs }) are;
+  positive = all.positive;
+  times = let scale = mul-div_cancel' divisor all.of_scale in cc (scale, times);
+}
+
+-- the divided capacities have a positive scale and a number for each link
+pub divided_scale : (links : List Link) (pairs : List UnitPair) (share : Share) (c : ShareCaps) → 0 < share.scale → IsDividedShare links pairs share c → 0 < c.divided.scale
+divided_scale links pairs share c some is = positive c.divisor c.divided.scale (ap (λ k. k.scale) is.times ∙ ap (λ k. k.scale) is.whole)
+  where
+    positive : (d s : ℕ) → d * s ≡ share.scale → 0 < s
+    positive d zero e = absurd (omega (arith, e, some))
+    positive d (suc s) e = omega arith
+
+pub divided_count : (links : List Link) (pairs : List UnitPair) (share : Share) (c : ShareCaps) → length pairs ≡ length links → length share.units ≡ length links → IsDividedShare links pairs share c → length c.divided.nums ≡ length links
+divided_count links pairs share c same units is =
+    sym (length-map c.divided.nums (λ n. c.divisor * n)) ∙ (ap (λ k. length k.nums) is.times ∙ (ap (λ k. length k.nums) is.whole ∙ capacities_count links pairs share same units))

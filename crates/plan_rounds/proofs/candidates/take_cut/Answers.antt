@@ -1,0 +1,30 @@
+use Rattle.std.proofs.Math.Logic.{∥∥₁_elim, ∥∥₁_map}
+use Rattle.std.proofs.Props.{props}
+use Rattle.net_core.specs.Views.{case_of}
+use Rattle.plan_rounds.proofs.Listing.{listed_later, listed_take, takes_put}
+use Rattle.plan_rounds.proofs.Results.{on_ok}
+use Rattle.plan_rounds.proofs.Seeing.{goes_none}
+use Rattle.plan_rounds.proofs.candidates.take_cut.Goals as goal
+
+pub returns-in_err-line-clause-on : goal.returns-in_err-line-clause-on
+returns-in_err-line-clause-on g c = goes_none _ _ _ _ _
+
+pub returns-clause-listed : goal.returns-clause-listed
+returns-clause-listed g c =
+    let p = case_of c.args.instance.now in
+    let before = c.args.separator.now in
+    let now = c.admit.new.self in
+    let admitted = c.in_ok-spot.ensures in
+    let old = c.args.candidates.now in
+    on_ok c.put_line.result _ _
+    (λ puts. ∥∥₁_elim c.requires.listed (hlevel props) (λ are.
+    ∥∥₁_map (g.met.S.Separate.seen now) (λ seen.
+    listed_take p (g.S.Separate.history now) c.args.cut c.in_ok-line.line c.in_ok-spot.spot old c.put_line.new.candidates c.requires.cut c.in_ok-line.ensures admitted.spot
+    (listed_later p (g.S.Separate.network now) (g.S.Separate.states now) (g.S.Separate.history before) (g.S.Separate.own before) (g.S.Separate.history now) (g.S.Separate.own now) old admitted.more seen are) puts)))
+    c.put_line.ensures
+
+pub returns-clause-taken : goal.returns-clause-taken
+returns-clause-taken g c =
+    on_ok c.put_line.result _ _
+    (λ puts. takes_put c.args.instance.now.demands.now c.args.cut c.in_ok-line.line c.in_ok-spot.spot c.args.candidates.now c.put_line.new.candidates c.in_ok-line.ensures puts)
+    c.put_line.ensures

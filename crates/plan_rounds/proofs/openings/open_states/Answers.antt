@@ -1,0 +1,35 @@
+use Rattle.std.proofs.Common.{arith, subst}
+use Rattle.std.proofs.Math.Logic.{∥∥₁_elim, ∥∥₁_map}
+use Rattle.std.proofs.Props.{props}
+use Rattle.net_core.specs.Views.{case_of}
+use Rattle.plan_law.proofs.Begun.{opened_none}
+use Rattle.plan_rounds.specs.inner.Listing.{AreFirstSpots}
+use Rattle.plan_rounds.proofs.Listing.{pool_listed}
+use Rattle.plan_rounds.proofs.Seeing.{goes_both, goes_none}
+use Rattle.plan_rounds.proofs.openings.open_states.Goals as goal
+
+pub returns-in_err-spots-clause-on : goal.returns-in_err-spots-clause-on
+returns-in_err-spots-clause-on g c = goes_none _ _ _ _ _
+
+pub loop-s-init : goal.loop-s-init
+loop-s-init g c =
+    let p = case_of c.args.instance.now in
+    let now = c.args.separator.now in (
+      goes_none _ _ _ _ _,
+      ∥∥₁_elim c.requires.pool (hlevel props) (λ pool. ∥∥₁_map (g.met.S.Separate.seen now) (λ seen.
+          pool_listed p (g.S.Separate.network now) (g.S.Separate.states now) (g.S.Separate.history now) (g.S.Separate.own now) c.args.pool c.in_ok-spots.spots seen pool (subst (λ n. AreFirstSpots n c.in_ok-spots.spots) c.len.ensures c.in_ok-spots.ensures))),
+      opened_none p c.args.pool,
+      omega arith,
+    )
+
+pub returns-in_err-open_state-clause-on : goal.returns-in_err-open_state-clause-on
+returns-in_err-open_state-clause-on g c = goes_both _ _ _ _ _ _ _ _ _ _ _ _ _ _ _ c.loop-s.invariant.0 c.in_err-open_state.ensures.on
+
+pub loop-s-preserved : goal.loop-s-preserved
+loop-s-preserved g c =
+    let so_far = c.loop-s.invariant in (
+      goes_both _ _ _ _ _ _ _ _ _ _ _ _ _ _ _ so_far.0 c.in_ok-open_state.ensures.on,
+      c.in_ok-open_state.ensures.listed,
+      c.in_ok-open_state.ensures.opened c.args.pool so_far.2,
+      omega (arith, so_far.3, c.in_ok-open_state.ensures.few),
+    )

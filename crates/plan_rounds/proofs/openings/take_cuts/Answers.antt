@@ -1,0 +1,36 @@
+use Rattle.std.proofs.Common.{All, List, arith, subst, sym}
+use Rattle.std.proofs.lemmas.List.Elements.{All-tail}
+use Rattle.net_core.specs.Cases.{graph_in}
+use Rattle.net_core.specs.Views.{case_of}
+use Rattle.metric_cut.specs.Cuts.{IsCutOf}
+use Rattle.metric_cut.specs.declared.cut.Cut.{Cut}
+use Rattle.plan_rounds.specs.inner.Listing.{TakesCuts}
+use Rattle.plan_rounds.proofs.Multiplying.{first_of}
+use Rattle.plan_rounds.proofs.Seeing.{goes_both, goes_none}
+use Rattle.plan_rounds.proofs.openings.take_cuts.Goals as goal
+
+pub loop-left-init : goal.loop-left-init
+loop-left-init g c = (c.requires.cuts, goes_none _ _ _ _ _, c.requires.listed, λ end takes. takes)
+
+pub take_cut-requires-clause-cut : goal.take_cut-requires-clause-cut
+take_cut-requires-clause-cut g c =
+    let cut = c.remove-cut.result in
+    let is : Cut → Type 0 = λ x. IsCutOf (graph_in (case_of c.args.instance.now) x.state.0) x in
+    let first = first_of c.loop-left.left c.remove-cut.new.self cut c.remove-cut.ensures.item c.remove-cut.ensures.items in
+    subst (All is) first c.loop-left.invariant.0 0 cut (omega arith)
+
+pub returns-in_err-take_cut-clause-on : goal.returns-in_err-take_cut-clause-on
+returns-in_err-take_cut-clause-on g c = goes_both _ _ _ _ _ _ _ _ _ _ _ _ _ _ _ c.loop-left.invariant.1 c.in_err-take_cut.ensures.on
+
+pub loop-left-preserved : goal.loop-left-preserved
+loop-left-preserved g c =
+    let rest = c.remove-cut.new.self in
+    let cut = c.remove-cut.result in
+    let is : Cut → Type 0 = λ x. IsCutOf (graph_in (case_of c.args.instance.now) x.state.0) x in
+    let first = first_of c.loop-left.left rest cut c.remove-cut.ensures.item c.remove-cut.ensures.items in
+    let so_far = c.loop-left.invariant in (
+      All-tail is cut rest (subst (All is) first so_far.0),
+      goes_both _ _ _ _ _ _ _ _ _ _ _ _ _ _ _ so_far.1 c.in_ok-take_cut.ensures.on,
+      c.in_ok-take_cut.ensures.listed,
+      λ end takes. so_far.3 end (subst (λ (cs : List Cut). TakesCuts c.args.instance.now.demands.now cs c.loop-left.candidates.lines end) (sym first) (c.take_cut.new.candidates.lines, c.in_ok-take_cut.ensures.taken, takes)),
+    )

@@ -1,0 +1,21 @@
+use Rattle.std.proofs.Common.{List, All, length}
+use Rattle.net_core.specs.declared.plan.CutLine.{CutLine}
+use Rattle.net_core.specs.Cases.{graph_in}
+use Rattle.net_core.specs.Views.{case_of}
+use Rattle.metric_cut.specs.Cuts.{IsCutOf}
+use Rattle.plan_rounds.specs.inner.Listing.{AreListed, GoesOn, TakesCuts}
+use Rattle.plan_rounds.proofs.openings.take_cuts.Given as goal
+
+-- the cuts that are left
+abbrev pub decreases-loop-left : goal.decreases-loop-left
+decreases-loop-left g l = length l.left
+
+-- what is left leads from here to where all lead from the start
+abbrev pub invariant-loop-left : goal.invariant-loop-left
+invariant-loop-left g l =
+    let before = l.fn.separator in
+    let now = l.separator in
+    All (λ c. IsCutOf (graph_in (case_of l.instance) c.state.0) c) l.left
+    × GoesOn (g.S.Separate.network before) (g.S.Separate.network now) (g.S.Separate.states before) (g.S.Separate.states now) (g.S.Separate.mark before) (g.S.Separate.mark now) (g.S.Separate.history before) (g.S.Separate.own before) (g.S.Separate.history now) (g.S.Separate.own now)
+    × ∥ AreListed (case_of l.instance) (g.S.Separate.history now) l.candidates ∥₁
+    × ((end : List CutLine) → TakesCuts l.instance.demands.now l.left l.candidates.lines end → TakesCuts l.instance.demands.now l.fn.cuts l.fn.candidates.lines end)

@@ -1,0 +1,55 @@
+use Rattle.std.proofs.Common.{◌+◌, ◌≤◌, None, length}
+use Rattle.std.proofs.Math.Logic.{∥∥₁_elim, ∥∥₁_map}
+use Rattle.std.proofs.Props.{props}
+use Rattle.net_core.specs.Views.{case_of}
+use Rattle.plan_rounds.proofs.Listing.{listed_later}
+use Rattle.plan_rounds.proofs.Results.{if_ok, on_if}
+use Rattle.plan_rounds.proofs.Seeing.{goes_none}
+use Rattle.plan_rounds.proofs.Sharing.{divided_count}
+use Rattle.plan_rounds.proofs.Turning.{judged_listed, judged_turn}
+use Rattle.plan_rounds.proofs.rounds.ask.Goals as goal
+
+pub returns-in_err-caps-clause-on : goal.returns-in_err-caps-clause-on
+returns-in_err-caps-clause-on g c = goes_none _ _ _ _ _
+
+pub separate-requires-clause-caps : goal.separate-requires-clause-caps
+separate-requires-clause-caps g c = divided_count c.args.instance.now.net.now.links c.args.pairs.now c.args.best.share c.in_ok-caps.caps c.requires.pairs.count c.requires.best.least.count c.in_ok-caps.ensures
+
+pub judge-requires-clause-routed : goal.judge-requires-clause-routed
+judge-requires-clause-routed g c none not_wide =
+    ∥∥₁_map c.in_ok-answers.ensures.answers (λ are. (c.in_ok-answered.ensures (case_of c.args.instance.now) c.in_ok-caps.caps.divided (g.S.Separate.history c.separate.new.self) are).routed none not_wide)
+
+pub judge-requires-clause-wide : goal.judge-requires-clause-wide
+judge-requires-clause-wide g c =
+    ∥∥₁_map c.in_ok-answers.ensures.answers (λ are. (c.in_ok-answered.ensures (case_of c.args.instance.now) c.in_ok-caps.caps.divided (g.S.Separate.history c.separate.new.self) are).wide)
+
+pub returns-clause-listed : goal.returns-clause-listed
+returns-clause-listed g c =
+    let p = case_of c.args.instance.now in
+    let before = c.args.separator.now in
+    let now = c.separate.new.self in
+    let old = c.args.candidates.now in
+    let n = length c.args.instance.now.states.now.listed + 1 in
+    let net = c.args.instance.now.net.now in
+    let few : length net.nodes ≤ 128 = ∥∥₁_elim net.checked (hlevel props) (λ k. k.few_nodes) in
+    on_if c.judge.result _ _
+    (λ turn told. ∥∥₁_elim told (hlevel props) (λ judges.
+    ∥∥₁_elim c.in_ok-answers.ensures.answers (hlevel props) (λ are_answers.
+    ∥∥₁_elim c.requires.listed (hlevel props) (λ are.
+    ∥∥₁_map (g.met.S.Separate.seen now) (λ seen.
+    judged_listed p c.args.pairs.now (g.S.Separate.history now) n c.args.room None c.args.best c.in_ok-caps.caps c.in_ok-answered.answered old c.requires.pairs c.requires.best c.in_ok-caps.ensures
+    (c.in_ok-answered.ensures p c.in_ok-caps.caps.divided (g.S.Separate.history now) are_answers) c.judge.new.candidates turn net.checked few c.args.instance.now.belong
+    (listed_later p (g.S.Separate.network now) (g.S.Separate.states now) (g.S.Separate.history before) (g.S.Separate.own before) (g.S.Separate.history now) (g.S.Separate.own now) old c.in_ok-answers.ensures.more seen are) judges)))))
+    c.judge.ensures
+
+pub returns-clause-turn : goal.returns-clause-turn
+returns-clause-turn g c =
+    let p = case_of c.args.instance.now in
+    let now = c.separate.new.self in
+    let n = length c.args.instance.now.states.now.listed + 1 in
+    if_ok c.judge.result _ _
+    (λ turn told before. ∥∥₁_elim told (hlevel props) (λ judges.
+    ∥∥₁_map c.in_ok-answers.ensures.answers (λ are_answers.
+    judged_turn p c.args.pairs.now (g.S.Separate.history now) n c.args.room before c.args.best c.in_ok-caps.caps c.in_ok-answered.answered c.args.candidates.now c.requires.pairs c.requires.best c.in_ok-caps.ensures
+    (c.in_ok-answered.ensures p c.in_ok-caps.caps.divided (g.S.Separate.history now) are_answers) c.judge.new.candidates turn judges)))
+    c.judge.ensures

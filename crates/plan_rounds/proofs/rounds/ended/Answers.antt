@@ -1,0 +1,6 @@
+use Rattle.std.proofs.Common.{refl}
+use Rattle.std.proofs.Math.Logic.{∥∥₁_map}
+use Rattle.plan_rounds.proofs.rounds.ended.Goals as goal
+
+pub returns : goal.returns
+returns c = ∥∥₁_map c.in_ok-quality.ensures (λ q. (c.in_ok-quality.quality, refl, q))

@@ -1,0 +1,10 @@
+use Rattle.std.proofs.Common.{inr, refl}
+use Rattle.std.proofs.Math.Logic.{∥∥₁_map}
+use Rattle.plan_rounds.proofs.Results.{if_ok}
+use Rattle.plan_rounds.proofs.rounds.judge.Goals as goal
+
+pub returns-then-len-eq0 : goal.returns-then-len-eq0
+returns-then-len-eq0 c = if_ok c.ended.result _ _ (λ turn told. ∥∥₁_map told (λ ends. inr (inr (refl, ends)))) c.ended.ensures
+
+pub returns-then-is_some : goal.returns-then-is_some
+returns-then-is_some c = if_ok c.ended-then-is_some.result _ _ (λ turn told. ∥∥₁_map told (λ ends. inr (inr (refl, ends)))) c.ended-then-is_some.ensures

@@ -1,0 +1,32 @@
+use Rattle.std.proofs.Common.{Err, subst, sym}
+use Rattle.net_core.specs.Views.{case_of}
+use Rattle.master_bound.specs.Answers.{IsMasterAnswer}
+use Rattle.master_bound.specs.declared.answer.MasterFault.{MasterFault}
+use Rattle.plan_rounds.specs.inner.Turns.{IsTurnOf}
+use Rattle.plan_rounds.proofs.Results.{if_ok}
+use Rattle.plan_rounds.proofs.Bounding.{have_bounds, modules_sound}
+use Rattle.plan_rounds.proofs.Seeing.{goes_none}
+use Rattle.plan_rounds.proofs.Turning.{best_at, wide_turn}
+use Rattle.plan_rounds.proofs.rounds.take_turn.Goals as goal
+
+pub master-requires-clause-lengths : goal.master-requires-clause-lengths
+master-requires-clause-lengths g c = have_bounds (case_of c.args.instance.now) (g.S.Separate.history c.args.separator.now) c.args.candidates.now c.requires.listed
+
+pub ask-requires-clause-best : goal.ask-requires-clause-best
+ask-requires-clause-best g c =
+    let net = c.args.instance.now.net.now in
+    best_at (case_of c.args.instance.now) c.args.pairs.now (modules_sound net.nodes net.links net.checked) c.requires.pairs c.args.candidates.now.lines c.in-Ok.best c.in-Ok.ensures
+
+pub returns-in-Err-clause-on : goal.returns-in-Err-clause-on
+returns-in-Err-clause-on g c = goes_none _ _ _ _ _
+
+pub returns-in-Err-clause-turn : goal.returns-in-Err-clause-turn
+returns-in-Err-clause-turn g c =
+    let p = case_of c.args.instance.now in
+    let net = c.args.instance.now.net.now in
+    let lines = c.args.candidates.now.lines in
+    if_ok c.unsolved.result _ _
+    (λ turn made. ∣ subst (IsTurnOf p c.args.pairs.now c.args.room c.args.before lines lines) (sym made.2)
+    (wide_turn p c.args.pairs.now (modules_sound net.nodes net.links net.checked) c.requires.pairs c.args.room c.args.before lines made.0
+    (subst (λ (f : MasterFault). IsMasterAnswer net.links lines (Err f)) made.1 c.in-Err.ensures)) ∣₁)
+    c.unsolved.ensures

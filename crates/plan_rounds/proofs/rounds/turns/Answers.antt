@@ -1,0 +1,87 @@
+use Rattle.std.proofs.Common.{◌≡◌, ◌-◌, ◌≤◌, List, ap, arith, length, subst, sym, ◌∙◌}
+use Rattle.std.proofs.Math.Logic.{∥∥₁_elim, ∥∥₁_map}
+use Rattle.std.proofs.Props.{props}
+use Rattle.net_core.specs.declared.plan.CutLine.{CutLine}
+use Rattle.net_core.specs.Views.{case_of}
+use Rattle.plan_rounds.specs.WorkedRounds.{EndsBy}
+use Rattle.plan_rounds.specs.inner.Turns.{IsTurnOf, IsWorking}
+use Rattle.plan_rounds.proofs.Seeing.{goes_both, goes_none}
+use Rattle.plan_rounds.proofs.Turning.{further_room, working_begins, working_ends, working_on}
+use Rattle.plan_rounds.proofs.rounds.turns.Goals as goal
+
+pub loop-candidates-init : goal.loop-candidates-init
+loop-candidates-init g c = (
+  goes_none _ _ _ _ _,
+  c.requires.listed,
+  c.requires.room,
+  λ pool same known begins. ∣ working_begins (case_of c.args.instance.now) c.args.pairs.now pool c.args.candidates.lines c.requires.pairs begins (omega (arith, same, c.requires.room)) ∣₁,
+)
+
+pub take_turn-requires-clause-network : goal.take_turn-requires-clause-network
+take_turn-requires-clause-network g c = c.requires.network ∙ sym c.loop-candidates.invariant.0.network
+
+pub take_turn-requires-clause-states : goal.take_turn-requires-clause-states
+take_turn-requires-clause-states g c = c.requires.states ∙ sym c.loop-candidates.invariant.0.listed
+
+pub take_turn-requires-clause-listed : goal.take_turn-requires-clause-listed
+take_turn-requires-clause-listed g c = c.loop-candidates.invariant.1
+
+pub take_turn-requires-clause-few : goal.take_turn-requires-clause-few
+take_turn-requires-clause-few g c = let le : length c.loop-candidates.candidates.lines ≤ 8192 = omega (arith, c.loop-candidates.invariant.2, c.requires.few) in le
+
+pub returns-in_err-best-clause-on : goal.returns-in_err-best-clause-on
+returns-in_err-best-clause-on g c = goes_both _ _ _ _ _ _ _ _ _ _ _ _ _ _ _ c.loop-candidates.invariant.0 c.in_err-best.ensures.on
+
+pub loop-candidates-preserved : goal.loop-candidates-preserved
+loop-candidates-preserved g c =
+    let p = case_of c.args.instance.now in
+    let pairs = c.args.pairs.now in
+    let so_far = c.loop-candidates.invariant in
+    let old = c.loop-candidates.candidates.lines in
+    let new = c.take_turn.new.candidates.lines in
+    let before = c.loop-candidates.before in
+    let best = c.in-Further.best in
+    let room = c.args.most - c.len.result in
+    let is : room ≡ c.args.most - length old = ap (λ n. c.args.most - n) c.len.ensures in
+    let further = subst (λ t. ∥ IsTurnOf p pairs room before old new t ∥₁) c.in-Further.is c.in_ok-best.ensures.turn in (
+      goes_both _ _ _ _ _ _ _ _ _ _ _ _ _ _ _ so_far.0 c.in_ok-best.ensures.on,
+      c.in_ok-best.ensures.listed,
+      ∥∥₁_elim further (hlevel props) (λ f. (further_room p pairs room c.args.most before old new best is so_far.2 f).0),
+      λ pool same known begins. ∥∥₁_elim further (hlevel props) (λ f.
+          ∥∥₁_map (so_far.3 pool same known begins) (λ w. working_on p pairs pool old new before room best known (omega (arith, same, is, so_far.2)) w f)),
+    )
+
+pub loop-candidates-smaller : goal.loop-candidates-smaller
+loop-candidates-smaller g c =
+    let p = case_of c.args.instance.now in
+    let pairs = c.args.pairs.now in
+    let old = c.loop-candidates.candidates.lines in
+    let new = c.take_turn.new.candidates.lines in
+    let before = c.loop-candidates.before in
+    let room = c.args.most - c.len.result in
+    let is : room ≡ c.args.most - length old = ap (λ n. c.args.most - n) c.len.ensures in
+    let further = subst (λ t. ∥ IsTurnOf p pairs room before old new t ∥₁) c.in-Further.is c.in_ok-best.ensures.turn in
+    ∥∥₁_elim further (hlevel props) (λ f. (further_room p pairs room c.args.most before old new c.in-Further.best is c.loop-candidates.invariant.2 f).1)
+
+pub returns-in-Last-clause-on : goal.returns-in-Last-clause-on
+returns-in-Last-clause-on g c = goes_both _ _ _ _ _ _ _ _ _ _ _ _ _ _ _ c.loop-candidates.invariant.0 c.in_ok-best.ensures.on
+
+pub returns-in-Last-clause-worked : goal.returns-in-Last-clause-worked
+returns-in-Last-clause-worked g c pool same known begins =
+    let p = case_of c.args.instance.now in
+    let pairs = c.args.pairs.now in
+    let so_far = c.loop-candidates.invariant in
+    let old = c.loop-candidates.candidates.lines in
+    let new = c.take_turn.new.candidates in
+    let before = c.loop-candidates.before in
+    let best = c.in-Last.best in
+    let quality = c.in-Last.quality in
+    let room = c.args.most - c.len.result in
+    let is : room ≡ c.args.most - length old = ap (λ n. c.args.most - n) c.len.ensures in
+    let last = subst (λ t. ∥ IsTurnOf p pairs room before old new.lines t ∥₁) c.in-Last.is c.in_ok-best.ensures.turn in
+    ∥∥₁_elim last (hlevel props) (λ e. ∥∥₁_elim c.in_ok-best.ensures.listed (hlevel props) (λ are.
+    ∥∥₁_map (so_far.3 pool same known begins) (λ w.
+    working_ends p pairs (g.S.Separate.history c.take_turn.new.separator) pool new before best room quality are
+    (let long = ap length e.0 in omega (arith, long, is, same, so_far.2))
+    (subst (λ (ls : List CutLine). IsWorking p pairs pool ls before) (sym e.0) w)
+    (subst (λ (ls : List CutLine). EndsBy p pairs ls (room ≡ 0) (λ b. b ≡ before) best quality) (sym e.0) e.1))))

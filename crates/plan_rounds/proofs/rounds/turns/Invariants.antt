@@ -1,0 +1,23 @@
+use Rattle.std.proofs.Common.{◌≡◌, ◌+◌, ◌-◌, ◌≤◌, List, All, length}
+use Rattle.net_core.specs.declared.plan.CutLine.{CutLine}
+use Rattle.net_core.specs.Views.{case_of}
+use Rattle.plan_terms.specs.Certificates.{IsCut}
+use Rattle.plan_law.specs.WorkedLists.{IsBeginning}
+use Rattle.plan_rounds.specs.inner.Listing.{AreListed, GoesOn}
+use Rattle.plan_rounds.specs.inner.Turns.{IsWorking}
+use Rattle.plan_rounds.proofs.rounds.turns.Given as goal
+
+-- the room that is left
+abbrev pub decreases-loop-candidates : goal.decreases-loop-candidates
+decreases-loop-candidates g l = l.most - length l.candidates.lines
+
+-- the cuts so far are a worked list of each pool that the list begins, listed with their spots
+abbrev pub invariant-loop-candidates : goal.invariant-loop-candidates
+invariant-loop-candidates g l =
+    let before = l.fn.separator in
+    let now = l.separator in
+    let p = case_of l.instance in
+    GoesOn (g.S.Separate.network before) (g.S.Separate.network now) (g.S.Separate.states before) (g.S.Separate.states now) (g.S.Separate.mark before) (g.S.Separate.mark now) (g.S.Separate.history before) (g.S.Separate.own before) (g.S.Separate.history now) (g.S.Separate.own now)
+    × ∥ AreListed p (g.S.Separate.history now) l.candidates ∥₁
+    × (length l.candidates.lines ≤ l.most)
+    × ((pool : List CutLine) → length pool + 4096 ≡ l.most → All (IsCut p) pool → IsBeginning p pool l.fn.candidates.lines → ∥ IsWorking p l.pairs pool l.candidates.lines l.before ∥₁)

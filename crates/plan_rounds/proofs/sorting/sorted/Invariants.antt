@@ -1,0 +1,16 @@
+use Rattle.std.proofs.Common.{ℕ, List, length}
+use Rattle.net_core.specs.declared.journal.Entry.{Entry}
+use Rattle.net_core.specs.declared.plan.Caps.{Caps}
+use Rattle.net_core.specs.Cases.{Case}
+use Rattle.separator.specs.Separators.{AreStateAnswers}
+use Rattle.plan_rounds.specs.inner.Answered.{AreAnswersFrom, AreSorted}
+use Rattle.plan_rounds.proofs.sorting.sorted.Given as goal
+
+-- the answers that are left
+abbrev pub decreases-loop-left : goal.decreases-loop-left
+decreases-loop-left l = length l.left
+
+-- those before them are sorted
+abbrev pub invariant-loop-left : goal.invariant-loop-left
+invariant-loop-left l =
+    (p : Case) (caps : Caps) (history : List Entry) → AreStateAnswers p caps history l.fn.answers → (n : ℕ) × AreAnswersFrom p caps history n l.left × AreSorted p caps history n l.answered

@@ -1,0 +1,2 @@
+pub mod WorkedRounds
+pub mod inner

@@ -1,0 +1,106 @@
+-- what the rounds of a planning come to
+use Rattle.std.specs.Prelude.{◌≡◌, ℕ, ◌+◌, ◌*◌, ◌^◌, ◌<◌, ◌≤◌, List, [], ◌∷◌, Option, None, Some, All, IsSomeAnd, length, map, slice_get, take}
+use Rattle.net_core.specs.declared.columns.Evidence.{Evidence}
+use Rattle.net_core.specs.declared.columns.Evidence.TheVariants.{Route, Master}
+use Rattle.net_core.specs.declared.columns.RouteColumn.{RouteColumn}
+use Rattle.net_core.specs.declared.columns.WideKind.{WideKind}
+use Rattle.net_core.specs.declared.journal.Entry.{Entry}
+use Rattle.net_core.specs.declared.plan.Caps.{Caps}
+use Rattle.net_core.specs.declared.plan.CutLine.{CutLine}
+use Rattle.net_core.specs.declared.plan.Routing.{Routing}
+use Rattle.net_core.specs.Cases.{Case, graph_in}
+use Rattle.module_prices.specs.declared.cheapest.UnitPair.{UnitPair}
+use Rattle.plan_terms.specs.Certificates.{IsCut}
+use Rattle.plan_types.specs.declared.certificate.Spot.{Spot}
+use Rattle.plan_types.specs.declared.quality.Cause.{Cause}
+use Rattle.plan_types.specs.declared.quality.Cause.TheVariants.{Wide, Cuts}
+use Rattle.plan_types.specs.declared.quality.Fractional.{Fractional}
+use Rattle.plan_types.specs.declared.quality.Quality.{Quality}
+use Rattle.plan_types.specs.declared.quality.Quality.TheVariants.{Tight, Loose, Unsolved}
+use Rattle.route_law.specs.RouteEvidence.{IsRouteEvidence}
+use Rattle.flow_router.specs.Answers.{IsRouted}
+use Rattle.cut_pool.specs.Histories.{cut_of_line, cuts_of}
+use Rattle.master_law.specs.LeastShares.{IsLeastShare}
+use Rattle.master_law.specs.MasterEvidence.{IsMasterEvidence}
+use Rattle.master_law.specs.UnitPairs.{share_caps, share_cost}
+use Rattle.master_bound.specs.Answers.{IsBestOf}
+use Rattle.master_bound.specs.declared.answer.Best.{Best}
+use Rattle.plan_law.specs.TightPlans.{IsProperShare}
+use Rattle.plan_law.specs.WorkedLists.{Round, after_rounds, IsFoundCut, IsWorkedList}
+use Rattle.separator.specs.Separators.{IsSpotIn}
+use Rattle.plan_rounds.specs.declared.rounds.Worked.{Worked}
+
+-- ---- cuts and where they stand
+
+-- The lines are the cuts that the first entries of a history pool, in their order: cuts of the case, with right sides below 2^84.
+pub record IsPoolOf (p : Case) (history : List Entry) (lines : List CutLine) : Type 0 where
+  pub position : ℕ
+  pub pooled : map cut_of_line lines ≡ cuts_of (take position history)
+  pub cuts : All (IsCut p) lines
+  pub low : All (λ c. c.right < 2 ^ 84) lines
+
+-- one spot for each line: where its cut stands in the history
+pub record StandAtSpots (history : List Entry) (lines : List CutLine) (spots : List Spot) : Type 0 where
+  pub count : length spots ≡ length lines
+  pub each : (i : ℕ) (line : CutLine) (spot : Spot) → slice_get lines i ≡ Some line → slice_get spots i ≡ Some spot → IsSpotIn history (cut_of_line line) spot
+
+-- ---- what the best certificate of a list shows
+
+module _ (p : Case) (pairs : List UnitPair) (cuts : List CutLine) where
+  -- the best certificate of the cuts, with a least share of theirs that costs its raw value
+  pub record IsBestAt (best : Best) : Type 0 where
+    pub of : IsBestOf p.links cuts best
+    pub least : IsLeastShare p.links pairs cuts best.share
+    pub raw : share_cost pairs best.share * best.raw_den ≡ best.raw_num * best.share.scale
+
+  -- the share carries the demands: in each state a routing in lowest terms, at the share's own scale
+  pub record IsCarriedAt (best : Best) (fractional : Fractional) : Type 0 where
+    pub best_of : IsBestAt best
+    pub share : fractional.share ≡ best.share
+    pub proper : IsProperShare p.links fractional.share
+    pub states : length fractional.routings ≡ length p.listed + 1
+    pub routed : (s : ℕ) (r : Routing) → slice_get fractional.routings s ≡ Some r → IsRouted (graph_in p s) p.demands (share_caps p.links pairs fractional.share) r
+
+  -- a number is too wide where a state is routed within the share
+  pub record IsWideAt (best : Best) (s : ℕ) (caps : Caps) (basis : List RouteColumn) (kind : WideKind RouteColumn) : Type 0 where
+    pub best_of : IsBestAt best
+    pub listed_state : s ≤ length p.listed
+    pub of_share : caps ≡ share_caps p.links pairs best.share
+    pub evidence : IsRouteEvidence (graph_in p s) p.demands caps basis kind
+
+  -- the share violates a further cut
+  pub record ViolatesFurther (best : Best) : Type 0 where
+    pub best_of : IsBestAt best
+    pub further : CutLine
+    pub found : IsFoundCut p pairs best.share further
+
+  -- ---- how the rounds end; Full says that no cut may be added, and IsLast what is known of the best certificate before this list's
+
+  abbrev pub EndsByWidth : (Option Best → Type 0) → Option Best → Evidence → Type 0
+  EndsByWidth IsLast best (Route state caps basis kind) = IsSomeAnd best (λ b. IsWideAt b state.0 caps basis kind)
+  EndsByWidth IsLast best (Master basis kind) = IsMasterEvidence p.links pairs cuts basis kind × IsLast best
+
+  abbrev pub EndsLoose : Type 0 → (Option Best → Type 0) → Option Best → Cause → Type 0
+  EndsLoose Full IsLast best (Wide evidence) = EndsByWidth IsLast best evidence
+  EndsLoose Full IsLast best Cuts = Full × IsSomeAnd best ViolatesFurther
+
+  abbrev pub EndsBy : Type 0 → (Option Best → Type 0) → Option Best → Quality → Type 0
+  EndsBy Full IsLast best (Tight fractional) = IsSomeAnd best (λ b. IsCarriedAt b fractional)
+  EndsBy Full IsLast best (Loose cause) = EndsLoose Full IsLast best cause
+  EndsBy Full IsLast best Unsolved = ⊥
+
+-- ---- the whole
+
+-- the best certificate of the cuts before the last round, whose share found that round's cuts; none where there is no round
+abbrev pub IsBestOfLast : Case → List UnitPair → List CutLine → List Round → Option Best → Type 0
+IsBestOfLast p pairs start [] best = best ≡ None
+IsBestOfLast p pairs start (last ∷ earlier) best = IsSomeAnd best (λ b. (b.share ≡ last.share) × IsBestAt p pairs (after_rounds start earlier) b)
+
+-- Rounds from the pool's cuts on: a worked list, where its cuts stand in the history, and how the rounds end, tight or loose.
+pub record AreWorkedRounds (p : Case) (history : List Entry) (pool : List CutLine) (w : Worked) : Type 0 where
+  pub pairs : List UnitPair
+  pub rounds : List Round
+  pub list : IsWorkedList p pairs pool rounds w.lines
+  pub low : All (λ c. c.right < 2 ^ 84) w.lines
+  pub spots : StandAtSpots history w.lines w.spots
+  pub ends : EndsBy p pairs w.lines (length w.lines ≡ length pool + 4096) (IsBestOfLast p pairs list.start rounds) w.best w.quality

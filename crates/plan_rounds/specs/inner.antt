@@ -1,0 +1,4 @@
+pub mod Answered
+pub mod Listing
+pub mod Sharing
+pub mod Turns

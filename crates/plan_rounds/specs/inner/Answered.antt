@@ -1,0 +1,59 @@
+-- what the answers of all states come to
+use Rattle.std.specs.Prelude.{◌≡◌, ◌≢◌, ℕ, ◌+◌, ◌^◌, ◌<◌, ◌≤◌, ◌++◌, List, [], ◌∷◌, None, Some, All, AllPairs, IfSome, length, slice_get}
+use Rattle.net_core.specs.declared.columns.Evidence.{Evidence}
+use Rattle.net_core.specs.declared.journal.Entry.{Entry}
+use Rattle.net_core.specs.declared.plan.Caps.{Caps}
+use Rattle.net_core.specs.declared.plan.CutLine.{CutLine}
+use Rattle.net_core.specs.declared.plan.Routing.{Routing}
+use Rattle.net_core.specs.Cases.{Case, graph_in}
+use Rattle.flow_router.specs.Answers.{IsEvidenceHere, IsRouted}
+use Rattle.separator.specs.Separators.{IsAnswerOf, IsSeparatingCut}
+use Rattle.separator.specs.declared.answers.Separated.{Separated}
+use Rattle.separator.specs.declared.answers.Separated.TheVariants.{Routed, Violated, Wide}
+use Rattle.separator.specs.declared.answers.StateAnswer.{StateAnswer}
+use Rattle.plan_rounds.specs.WorkedRounds.{StandAtSpots}
+use Rattle.plan_rounds.specs.declared.sorting.Answered.{Answered}
+
+-- the answer of one state goes to those before it
+abbrev pub PutsAnswer : Separated → Answered → Answered → Type 0
+PutsAnswer (Routed routing) old new = new ≡ record { routings = old.routings ++ routing ∷ []; found = old.found; wide = old.wide }
+PutsAnswer (Violated line spot) old new =
+    new ≡ record { routings = old.routings; found = record { lines = old.found.lines ++ line ∷ []; spots = old.found.spots ++ spot ∷ [] }; wide = old.wide }
+PutsAnswer (Wide evidence) old new = new ≡ record { routings = old.routings; found = old.found; wide = Some evidence }
+
+-- its lengths are below 2^32
+abbrev pub HasShort : CutLine → Type 0
+HasShort line = All (λ x. x < 2 ^ 32) line.lengths
+
+-- so are those of a cut that is answered
+abbrev pub AnswersShort : Separated → Type 0
+AnswersShort (Routed routing) = Unit {0}
+AnswersShort (Violated line spot) = HasShort line
+AnswersShort (Wide evidence) = Unit {0}
+
+module _ (p : Case) (caps : Caps) where
+  -- the evidence is of some listed state at the capacities
+  abbrev pub IsEvidenceOfState : Evidence → Type 0
+  IsEvidenceOfState evidence = (s : ℕ) × (s ≤ length p.listed) × IsEvidenceHere (graph_in p s) p.demands caps evidence
+
+  -- a routing for each of n states
+  pub record AreRoutedStates (n : ℕ) (routings : List Routing) : Type 0 where
+    pub count : length routings ≡ n
+    pub each : (s : ℕ) (r : Routing) → slice_get routings s ≡ Some r → IsRouted (graph_in p s) p.demands caps r
+
+module _ (p : Case) (caps : Caps) (history : List Entry) where
+  -- The answers of the first n states: cuts of different states, each with the spot where it stands, and evidence of one state where
+  -- one is wide. Where there is neither, each state is routed.
+  pub record AreSorted (n : ℕ) (a : Answered) : Type 0 where
+    pub cuts : All (IsSeparatingCut p caps) a.found.lines
+    pub short : All HasShort a.found.lines
+    pub states : AllPairs (λ x y. x.state ≢ y.state) a.found.lines
+    pub before : All (λ c. c.state.0 < n) a.found.lines
+    pub spots : StandAtSpots history a.found.lines a.found.spots
+    pub wide : IfSome a.wide (IsEvidenceOfState p caps)
+    pub routed : length a.found.lines ≡ 0 → a.wide ≡ None → AreRoutedStates p caps n a.routings
+
+  -- the answers of the states from n on
+  pub record AreAnswersFrom (n : ℕ) (answers : List StateAnswer) : Type 0 where
+    pub count : n + length answers ≡ length p.listed + 1
+    pub each : (i : ℕ) (a : StateAnswer) → slice_get answers i ≡ Some a → (a.state.0 ≡ n + i) × IsAnswerOf p caps history (n + i) a.answer

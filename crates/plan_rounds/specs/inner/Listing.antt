@@ -1,0 +1,61 @@
+-- the cuts of a planning, as they come to its list
+use Rattle.std.specs.Prelude.{◌≡◌, ℕ, ◌^◌, ◌<◌, ◌⊎◌, ◌++◌, List, [], ◌∷◌, All, Some, length, slice_get}
+use Rattle.net_core.specs.declared.demand.Demand.{Demand}
+use Rattle.net_core.specs.declared.journal.Entry.{Entry}
+use Rattle.net_core.specs.declared.network.Network.{Network}
+use Rattle.net_core.specs.declared.plan.CutLine.{CutLine}
+use Rattle.net_core.specs.declared.states.States.{States}
+use Rattle.net_core.specs.Cases.{Case}
+use Rattle.net_core.specs.Graphs.{Graph, Joins}
+use Rattle.plan_terms.specs.Certificates.{IsCut, IsRight}
+use Rattle.plan_types.specs.declared.certificate.Spot.{Spot}
+use Rattle.plan_types.specs.declared.certificate.Spot.TheVariants.{Pool}
+use Rattle.metric_cut.specs.Cuts.{IsCutOf}
+use Rattle.metric_cut.specs.declared.cut.Cut.{Cut}
+use Rattle.plan_law.specs.WorkedLists.{AreDifferentCuts, HasCut, Lacks}
+use Rattle.separator.specs.Separators.{SeesMore}
+use Rattle.plan_rounds.specs.WorkedRounds.{StandAtSpots}
+use Rattle.plan_rounds.specs.declared.candidates.Candidates.{Candidates}
+
+-- a separator has the network, states and mark that it had, and has seen some more entries, of which its own pool cuts
+pub record GoesOn {M : Type 0} (net net_now : Network) (states states_now : States) (mark mark_now : M) (history own history_now own_now : List Entry) : Type 0 where
+  pub network : net_now ≡ net
+  pub listed : states_now ≡ states
+  pub same_mark : mark_now ≡ mark
+  pub more : SeesMore history own history_now own_now
+
+-- cuts of the case with right sides below 2^84, no two the same, each with the spot where it stands in the history
+pub record AreListed (p : Case) (history : List Entry) (c : Candidates) : Type 0 where
+  pub cuts : All (IsCut p) c.lines
+  pub low : All (λ l. l.right < 2 ^ 84) c.lines
+  pub different : AreDifferentCuts c.lines
+  pub spots : StandAtSpots history c.lines c.spots
+
+-- the first n places of a pool
+pub record AreFirstSpots (n : ℕ) (spots : List Spot) : Type 0 where
+  pub count : length spots ≡ n
+  pub each : (i : ℕ) → i < n → slice_get spots i ≡ Some (Pool i)
+
+-- state and lengths of the cut, with its right side at the demands
+pub record IsLineFor (cut : Cut) (demands : List Demand) (line : CutLine) : Type 0 where
+  pub state : line.state ≡ cut.state
+  pub lengths : line.lengths ≡ cut.lengths
+  pub right : (g : Graph) → IsCutOf g cut → IsRight (Joins g) cut.lengths demands line.right
+  pub low : line.right < 2 ^ 84
+
+-- the line goes behind the others, with its spot, unless its cut stands among them
+abbrev pub PutsLine : CutLine → Spot → Candidates → Candidates → Type 0
+PutsLine line spot old new =
+    (HasCut old.lines line.state.0 line.lengths × (new ≡ old))
+    ⊎ (Lacks old.lines line × (new ≡ record { lines = old.lines ++ line ∷ []; spots = old.spots ++ spot ∷ [] }))
+
+-- the cut's line goes behind the others, unless the cut stands among them
+abbrev pub TakesCut : List Demand → Cut → List CutLine → List CutLine → Type 0
+TakesCut demands cut old new =
+    (HasCut old cut.state.0 cut.lengths × (new ≡ old))
+    ⊎ ((line : CutLine) × IsLineFor cut demands line × Lacks old line × (new ≡ old ++ line ∷ []))
+
+-- one cut after another
+abbrev pub TakesCuts : List Demand → List Cut → List CutLine → List CutLine → Type 0
+TakesCuts demands [] old new = old ≡ new
+TakesCuts demands (cut ∷ cuts) old new = (between : List CutLine) × TakesCut demands cut old between × TakesCuts demands cuts between new

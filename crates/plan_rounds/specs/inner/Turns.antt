@@ -1,0 +1,70 @@
+-- one turn of the rounds: the best certificate of the cuts, and what the states answer at its share
+use Rattle.std.specs.Prelude.{◌≡◌, ℕ, ◌+◌, ◌<◌, ◌≤◌, ◌⊎◌, ◌++◌, List, All, Option, Some, length, take}
+use Rattle.net_core.specs.declared.columns.Evidence.{Evidence}
+use Rattle.net_core.specs.declared.journal.Entry.{Entry}
+use Rattle.net_core.specs.declared.plan.Caps.{Caps}
+use Rattle.net_core.specs.declared.plan.CutLine.{CutLine}
+use Rattle.net_core.specs.Cases.{Case}
+use Rattle.module_prices.specs.declared.cheapest.UnitPair.{UnitPair}
+use Rattle.plan_terms.specs.Certificates.{IsCut}
+use Rattle.plan_types.specs.declared.quality.Cause.TheVariants as causes
+use Rattle.plan_types.specs.declared.quality.Cause.TheVariants.{Cuts}
+use Rattle.plan_types.specs.declared.quality.Quality.{Quality}
+use Rattle.plan_types.specs.declared.quality.Quality.TheVariants.{Loose}
+use Rattle.master_bound.specs.declared.answer.Best.{Best}
+use Rattle.master_bound.specs.declared.answer.MasterFault.{MasterFault}
+use Rattle.master_bound.specs.declared.answer.MasterFault.TheVariants.{Wide}
+use Rattle.plan_law.specs.WorkedLists.{Round, IsBeginning, IsRound, IsWorkedList}
+use Rattle.plan_rounds.specs.WorkedRounds.{AreWorkedRounds, EndsBy, IsBestAt, IsBestOfLast}
+use Rattle.plan_rounds.specs.inner.Sharing.{IsQualityAt}
+use Rattle.plan_rounds.specs.declared.candidates.Candidates.{Candidates}
+use Rattle.plan_rounds.specs.declared.rounds.Turn.{Turn}
+use Rattle.plan_rounds.specs.declared.rounds.Turn.TheVariants.{Further, Last}
+use Rattle.plan_rounds.specs.declared.rounds.Worked.{Worked}
+use Rattle.plan_rounds.specs.declared.sorting.Answered.{Answered}
+
+-- the first cuts, as many as there is room for, have come to the list with their spots
+pub record AddsFirst (room : ℕ) (found old new : Candidates) : Type 0 where
+  pub lines : new.lines ≡ old.lines ++ take room found.lines
+  pub spots : new.spots ≡ old.spots ++ take room found.spots
+
+-- the end at a share that violates nothing that is known
+abbrev pub EndsAt : Case → Caps → Best → Turn → Type 0
+EndsAt p caps best turn = (quality : Quality) × (turn ≡ Last (Some best) quality) × IsQualityAt p caps best.share quality
+
+-- What follows from the answers of the states: the end where there is no room for a cut that was found, a further round where none is
+-- too wide and there is room, or the end at the share.
+abbrev pub Judges : Case → ℕ → Caps → Answered → Best → Candidates → Candidates → Turn → Type 0
+Judges p room caps a best old new turn =
+    ((0 < length a.found.lines) × (room ≡ 0) × (new ≡ old) × (turn ≡ Last (Some best) (Loose Cuts)))
+    ⊎ ((0 < length a.found.lines) × (0 < room) × AddsFirst room a.found old new × (turn ≡ Further best))
+    ⊎ ((new ≡ old) × EndsAt p caps best turn)
+
+module _ (p : Case) (pairs : List UnitPair) (room : ℕ) (before : Option Best) (old : List CutLine) where
+  -- a round that finds cuts at the share of the best, no more than there is room for
+  pub record IsFurther (new : List CutLine) (best : Best) : Type 0 where
+    pub best_of : IsBestAt p pairs old best
+    pub found : List CutLine
+    pub lines : new ≡ old ++ found
+    pub some : 0 < length found
+    pub few : length found ≤ room
+    pub round : IsRound p pairs old (record { share = best.share; cuts = found })
+
+  -- further cuts, or the end at the cuts as they are
+  abbrev pub IsTurnOf : List CutLine → Turn → Type 0
+  IsTurnOf new (Further best) = IsFurther new best
+  IsTurnOf new (Last best quality) = (new ≡ old) × EndsBy p pairs old (room ≡ 0) (λ b. b ≡ before) best quality
+
+-- a worked list of the pool, and what is known of the best certificate before it
+pub record IsWorking (p : Case) (pairs : List UnitPair) (pool lines : List CutLine) (before : Option Best) : Type 0 where
+  pub rounds : List Round
+  pub list : IsWorkedList p pairs pool rounds lines
+  pub last : IsBestOfLast p pairs list.start rounds before
+
+-- where the master's number is too wide, the best certificate before it is the last
+abbrev pub EndsUnsolved : MasterFault → Option Best → Turn → Type 0
+EndsUnsolved fault before turn = (evidence : Evidence) × (fault ≡ Wide evidence) × (turn ≡ Last before (Loose (causes.Wide evidence)))
+
+-- from a beginning of any pool that leaves room for 4,096 cuts, the rounds of that pool
+abbrev pub WorksOn : Case → List Entry → ℕ → List CutLine → Worked → Type 0
+WorksOn p history most lines worked = (pool : List CutLine) → length pool + 4096 ≡ most → All (IsCut p) pool → IsBeginning p pool lines → ∥ AreWorkedRounds p history pool worked ∥₁

@@ -1,0 +1,31 @@
+ghost use Rattle.std.specs.Prelude.{◌≡◌, ◌++◌, OnOk, take};
+ghost use Rattle.plan_rounds.specs.inner.Turns.{AddsFirst};
+
+use crate::candidates::Candidates;
+use net_core::{List, NoMemory};
+
+/// Puts the first items of a list behind those of another.
+fn add_items<T: Drop>(items: List<T>, most: usize, into: &mut List<T>) -> Result<(), NoMemory>
+    ensures { OnOk result (into.new ≡ into.old ++ take most items) }
+{
+    let mut left = items;
+    let mut room = most;
+    while left.len() > 0 && room > 0 {
+        into.push(left.remove(0))?;
+        room -= 1;
+    }
+    Ok(())
+}
+
+/// Puts the first cuts, as many as there is room for, behind others, with their spots.
+pub fn add_first(
+    found: Candidates,
+    room: usize,
+    candidates: &mut Candidates,
+) -> Result<(), NoMemory>
+    ensures { OnOk result (AddsFirst room found candidates.old candidates.new) }
+{
+    let Candidates { lines, spots } = found;
+    add_items(lines, room, &mut candidates.lines)?;
+    add_items(spots, room, &mut candidates.spots)
+}

@@ -1,0 +1,97 @@
+ghost use Rattle.std.specs.Prelude.{◌≡◌, ◌↔◌, ◌≤◌, IfOk, IsTrue, OnOk, false};
+ghost use Rattle.net_core.specs.Cases.{graph_in};
+ghost use Rattle.net_core.specs.Demands.{AreDemands};
+ghost use Rattle.net_core.specs.Views.{case_of};
+ghost use Rattle.metric_cut.specs.Cuts.{IsCutOf};
+ghost use Rattle.master_law.specs.MasterPrograms.{IsSameCut};
+ghost use Rattle.plan_law.specs.WorkedLists.{HasCut, Lacks};
+ghost use Rattle.plan_rounds.specs.inner.Listing.{AreFirstSpots, AreListed, GoesOn, IsLineFor, PutsLine, TakesCut};
+
+use metric_cut::Cut;
+use net_core::{Copied, CutLine, Demands, Instance, List, NoMemory};
+use plan_types::Spot;
+use separator::Separate;
+use std::alloc::Global;
+
+/// The cuts of a planning so far, each with the spot where it stands: as many spots as lines.
+#[derive(Drop)]
+pub struct Candidates {
+    pub lines: List<CutLine>,
+    pub spots: List<Spot>,
+}
+
+/// The first places of a pool.
+pub fn pool_spots(alloc: Global, cuts: usize) -> Result<List<Spot>, NoMemory>
+    requires { cuts ≤ 4096 }
+    ensures { IfOk result (AreFirstSpots cuts) }
+{
+    let mut spots = List::new(alloc);
+    for i in 0..cuts {
+        spots.push(Spot::Pool(i as u32))?;
+    }
+    Ok(spots)
+}
+
+/// The cut with its right side, without its distances.
+fn line_of(cut: &Cut, demands: &Demands) -> Result<CutLine, NoMemory>
+    requires { AreDemands cut.now.table.nodes demands.now }
+    ensures { IfOk result (IsLineFor cut.now demands.now) }
+{
+    Ok(CutLine {
+        state: cut.state(),
+        lengths: cut.lengths().copy()?,
+        right: cut.right(demands),
+    })
+}
+
+/// Whether two cuts have the same state and lengths.
+fn is_same(a: &CutLine, b: &CutLine) -> bool
+    ensures { IsTrue result ↔ IsSameCut a.now b.now }
+{
+    a.state == b.state && a.lengths.items() == b.lengths.items()
+}
+
+/// Whether a cut stands among others.
+fn stands(lines: &[CutLine], line: &CutLine) -> bool
+    ensures there { IsTrue result → HasCut lines.now line.now.state.0 line.now.lengths }
+    ensures lacks { result ≡ false → Lacks lines.now line.now }
+{
+    for l in lines {
+        if is_same(line, l) {
+            return true;
+        }
+    }
+    false
+}
+
+/// Puts a line behind the others, with its spot, unless its cut stands among them.
+fn put_line(line: CutLine, spot: Spot, candidates: &mut Candidates) -> Result<(), NoMemory>
+    ensures { OnOk result (PutsLine line spot candidates.old candidates.new) }
+{
+    if stands(candidates.lines.items(), &line) {
+        return Ok(());
+    }
+    candidates.lines.push(line)?;
+    candidates.spots.push(spot)?;
+    Ok(())
+}
+
+/// Admits a cut to the pool, and puts it behind the others, unless it stands among them.
+pub fn take_cut<S: Separate>(
+    instance: &Instance,
+    cut: Cut,
+    separator: &mut S,
+    candidates: &mut Candidates,
+) -> Result<(), NoMemory>
+    requires network { instance.now.net.now ≡ S.network separator.old }
+    requires states { instance.now.states.now ≡ S.states separator.old }
+    requires cut { IsCutOf (graph_in (case_of instance.now) cut.state.0) cut }
+    requires listed { ∥ AreListed (case_of instance.now) (S.history separator.old) candidates.old ∥₁ }
+    ensures on { GoesOn (S.network separator.old) (S.network separator.new) (S.states separator.old) (S.states separator.new) (S.mark separator.old) (S.mark separator.new) (S.history separator.old) (S.own separator.old) (S.history separator.new) (S.own separator.new) }
+    ensures listed { OnOk result ∥ AreListed (case_of instance.now) (S.history separator.new) candidates.new ∥₁ }
+    ensures taken { OnOk result (TakesCut instance.now.demands.now cut candidates.old.lines candidates.new.lines) }
+{
+    let line = line_of(&cut, instance.demands)?;
+    let spot = separator.admit(cut)?;
+    put_line(line, spot, candidates)
+}

@@ -1,0 +1,24 @@
+//! The rounds of a planning: opening cuts, and then the best certificate of the cuts so far and the cuts that its share violates, turn
+//! by turn.
+//!
+//! ```text
+//! let worked = work_rounds(alloc, &instance, snapshot.cuts, &mut separator)?;
+//! match worked.quality {
+//!     Quality::Tight(fractional) => ..,                // the share of worked.best, with a routing of each state within it
+//!     Quality::Loose(Cause::Wide(evidence)) => ..,     // a number of a program grew too wide
+//!     Quality::Loose(Cause::Cuts) => ..,               // 4,096 cuts were added, and the share violates a further one
+//!     Quality::Unsolved => unreachable!(),
+//! }
+//! ```
+#![tactic(auto)]
+
+mod adding;
+mod candidates;
+mod fractional;
+mod openings;
+mod rounds;
+mod shares;
+mod sorting;
+mod undivided;
+
+pub use rounds::{Worked, work_rounds};

@@ -1,0 +1,83 @@
+ghost use Rattle.std.specs.Prelude.{◌≡◌, ◌+◌, ◌*◌, ◌<◌, ◌≤◌, List as Seq, [], All, IfOk, OnOk, ℕ, length};
+ghost use Rattle.net_core.specs.declared.plan.CutLine.{CutLine};
+ghost use Rattle.net_core.specs.Cases.{graph_in};
+ghost use Rattle.net_core.specs.Views.{case_of};
+ghost use Rattle.metric_cut.specs.Cuts.{IsCutOf};
+ghost use Rattle.plan_law.specs.inner.Openings.{IsOpenedTo};
+ghost use Rattle.plan_law.specs.WorkedLists.{IsBeginning};
+ghost use Rattle.plan_rounds.specs.WorkedRounds.{IsPoolOf};
+ghost use Rattle.plan_rounds.specs.inner.Listing.{AreListed, GoesOn, TakesCuts};
+
+use crate::candidates::{Candidates, pool_spots, take_cut};
+use metric_cut::{Cut, opening};
+use net_core::{CutLine, Instance, List, NoMemory, StateId};
+use separator::Separate;
+use std::alloc::Global;
+
+/// Takes cuts, in their order.
+fn take_cuts<S: Separate>(
+    instance: &Instance,
+    cuts: List<Cut>,
+    separator: &mut S,
+    candidates: &mut Candidates,
+) -> Result<(), NoMemory>
+    requires network { instance.now.net.now ≡ S.network separator.old }
+    requires states { instance.now.states.now ≡ S.states separator.old }
+    requires cuts { All (λ c. IsCutOf (graph_in (case_of instance.now) c.state.0) c) cuts }
+    requires listed { ∥ AreListed (case_of instance.now) (S.history separator.old) candidates.old ∥₁ }
+    ensures on { GoesOn (S.network separator.old) (S.network separator.new) (S.states separator.old) (S.states separator.new) (S.mark separator.old) (S.mark separator.new) (S.history separator.old) (S.own separator.old) (S.history separator.new) (S.own separator.new) }
+    ensures listed { OnOk result ∥ AreListed (case_of instance.now) (S.history separator.new) candidates.new ∥₁ }
+    ensures taken { OnOk result (TakesCuts instance.now.demands.now cuts candidates.old.lines candidates.new.lines) }
+{
+    let mut left = cuts;
+    while left.len() > 0 {
+        let cut = left.remove(0);
+        take_cut(instance, cut, separator, candidates)?;
+    }
+    Ok(())
+}
+
+/// Takes the opening cuts of a state.
+fn open_state<S: Separate>(
+    alloc: Global,
+    instance: &Instance,
+    state: StateId,
+    separator: &mut S,
+    candidates: &mut Candidates,
+) -> Result<(), NoMemory>
+    requires network { instance.now.net.now ≡ S.network separator.old }
+    requires states { instance.now.states.now ≡ S.states separator.old }
+    requires state { state.0 < length instance.now.states.now.listed + 1 }
+    requires listed { ∥ AreListed (case_of instance.now) (S.history separator.old) candidates.old ∥₁ }
+    ensures on { GoesOn (S.network separator.old) (S.network separator.new) (S.states separator.old) (S.states separator.new) (S.mark separator.old) (S.mark separator.new) (S.history separator.old) (S.own separator.old) (S.history separator.new) (S.own separator.new) }
+    ensures listed { OnOk result ∥ AreListed (case_of instance.now) (S.history separator.new) candidates.new ∥₁ }
+    ensures opened { OnOk result ((pool : Seq CutLine) → IsOpenedTo (case_of instance.now) pool state.0 [] candidates.old.lines → IsOpenedTo (case_of instance.now) pool (state.0 + 1) [] candidates.new.lines) }
+    ensures few { OnOk result (length candidates.new.lines ≤ length candidates.old.lines + 2) }
+{
+    let cuts = opening(alloc, instance.net, instance.states, state)?;
+    take_cuts(instance, cuts, separator, candidates)
+}
+
+/// The cuts of the pool, and the opening cuts of each state that they lack, in state order; each of these is admitted to the pool.
+pub fn open_states<S: Separate>(
+    alloc: Global,
+    instance: &Instance,
+    pool: List<CutLine>,
+    separator: &mut S,
+) -> Result<Candidates, NoMemory>
+    requires network { instance.now.net.now ≡ S.network separator.old }
+    requires states { instance.now.states.now ≡ S.states separator.old }
+    requires few { length pool ≤ 4096 }
+    requires pool { ∥ IsPoolOf (case_of instance.now) (S.history separator.old) pool ∥₁ }
+    ensures on { GoesOn (S.network separator.old) (S.network separator.new) (S.states separator.old) (S.states separator.new) (S.mark separator.old) (S.mark separator.new) (S.history separator.old) (S.own separator.old) (S.history separator.new) (S.own separator.new) }
+    ensures listed { IfOk result (λ c. ∥ AreListed (case_of instance.now) (S.history separator.new) c ∥₁) }
+    ensures begins { IfOk result (λ c. IsBeginning (case_of instance.now) pool c.lines) }
+    ensures few { IfOk result (λ c. length c.lines ≤ length pool + 2 * (length instance.now.states.now.listed + 1)) }
+{
+    let spots = pool_spots(alloc, pool.len())?;
+    let mut candidates = Candidates { lines: pool, spots };
+    for s in 0..instance.states.count() {
+        open_state(alloc, instance, StateId(s), separator, &mut candidates)?;
+    }
+    Ok(candidates)
+}

@@ -1,0 +1,265 @@
+ghost use Rattle.std.specs.Prelude.{◌≡◌, ◌+◌, ◌≤◌, ◌<◌, ℕ, List as Seq, Option as Maybe, None, IfOk, IfSome, OnOk, length};
+ghost use Rattle.net_core.specs.Views.{case_of};
+ghost use Rattle.plan_terms.specs.Separations.{IsSurvivable};
+ghost use Rattle.route_law.specs.Divisions.{caps_times};
+ghost use Rattle.master_law.specs.UnitPairs.{AreUnitPairs};
+ghost use Rattle.master_bound.specs.declared.answer.Best.{Best};
+ghost use Rattle.separator.specs.Separators.{SeesMore};
+ghost use Rattle.plan_rounds.specs.WorkedRounds.{AreWorkedRounds, IsBestAt, IsPoolOf};
+ghost use Rattle.plan_rounds.specs.inner.Answered.{AreRoutedStates, IsEvidenceOfState};
+ghost use Rattle.plan_rounds.specs.inner.Listing.{AreListed, GoesOn};
+ghost use Rattle.plan_rounds.specs.inner.Turns.{EndsAt, EndsUnsolved, IsTurnOf, Judges, WorksOn};
+
+use crate::adding::add_first;
+use crate::candidates::Candidates;
+use crate::fractional::quality_at;
+use crate::openings::open_states;
+use crate::shares::{ShareCaps, link_pairs, share_caps};
+use crate::sorting::{Answered, sorted};
+use master_bound::{Best, MasterFault, master};
+use module_prices::UnitPair;
+use net_core::{CutLine, Evidence, Instance, List, NoMemory, Routing};
+use plan_types::{Cause, Quality, Spot};
+use separator::Separate;
+use std::alloc::Global;
+
+/// So many cuts are added at most.
+const MOST_ADDED: usize = 4096;
+
+/// What the rounds of a planning come to.
+#[derive(Drop)]
+pub struct Worked {
+    /// The pool's cuts, and then those that were added.
+    pub lines: List<CutLine>,
+    /// Where each of them stands.
+    pub spots: List<Spot>,
+    /// The best certificate, if there is one: that of these cuts, or, where theirs is too wide, that of the cuts before the last round.
+    pub best: Option<Best>,
+    pub quality: Quality,
+}
+
+/// What one turn of the rounds comes to.
+#[derive(Drop)]
+pub enum Turn {
+    /// It has found further cuts at the share of this certificate.
+    Further(Best),
+    /// It is the last one.
+    Last(Option<Best>, Quality),
+}
+
+/// The end at a share that violates no cut that was found.
+fn ended(
+    alloc: Global,
+    instance: &Instance,
+    best: Best,
+    caps: ShareCaps,
+    routings: List<Routing>,
+    wide: Option<Evidence>,
+) -> Result<Turn, NoMemory>
+    requires positive { 0 < caps.divisor }
+    requires times { caps_times caps.divisor caps.divided ≡ caps.whole }
+    requires routed { wide ≡ None → ∥ AreRoutedStates (case_of instance.now) caps.divided (length instance.now.states.now.listed + 1) routings ∥₁ }
+    requires wide { ∥ IfSome wide (IsEvidenceOfState (case_of instance.now) caps.divided) ∥₁ }
+    ensures { IfOk result (λ turn. ∥ EndsAt (case_of instance.now) caps.whole best turn ∥₁) }
+{
+    let quality = quality_at(alloc, instance, &best.share, caps, routings, wide)?;
+    Ok(Turn::Last(Some(best), quality))
+}
+
+/// Goes on with the cuts that the share of the best certificate violates, as many as there is room for, or ends with what the states
+/// answer.
+fn judge(
+    alloc: Global,
+    instance: &Instance,
+    room: usize,
+    best: Best,
+    caps: ShareCaps,
+    answered: Answered,
+    candidates: &mut Candidates,
+) -> Result<Turn, NoMemory>
+    requires positive { 0 < caps.divisor }
+    requires times { caps_times caps.divisor caps.divided ≡ caps.whole }
+    requires routed { length answered.found.lines ≡ 0 → answered.wide ≡ None → ∥ AreRoutedStates (case_of instance.now) caps.divided (length instance.now.states.now.listed + 1) answered.routings ∥₁ }
+    requires wide { ∥ IfSome answered.wide (IsEvidenceOfState (case_of instance.now) caps.divided) ∥₁ }
+    ensures { IfOk result (λ turn. ∥ Judges (case_of instance.now) room caps.whole answered best candidates.old candidates.new turn ∥₁) }
+{
+    let Answered {
+        routings,
+        found,
+        wide,
+    } = answered;
+    if found.lines.len() == 0 {
+        return ended(alloc, instance, best, caps, routings, wide);
+    }
+    if room == 0 {
+        return Ok(Turn::Last(Some(best), Quality::Loose(Cause::Cuts)));
+    }
+    if wide.is_some() {
+        return ended(alloc, instance, best, caps, routings, wide);
+    }
+    add_first(found, room, candidates)?;
+    Ok(Turn::Further(best))
+}
+
+/// Asks each state about the share of the best certificate of the cuts so far.
+fn ask<S: Separate>(
+    alloc: Global,
+    instance: &Instance,
+    pairs: &List<UnitPair>,
+    room: usize,
+    best: Best,
+    separator: &mut S,
+    candidates: &mut Candidates,
+) -> Result<Turn, NoMemory>
+    requires network { instance.now.net.now ≡ S.network separator.old }
+    requires states { instance.now.states.now ≡ S.states separator.old }
+    requires survivable { IsSurvivable (case_of instance.now) }
+    requires pairs { AreUnitPairs instance.now.net.now.links pairs.now }
+    requires listed { ∥ AreListed (case_of instance.now) (S.history separator.old) candidates.old ∥₁ }
+    requires best { IsBestAt (case_of instance.now) pairs.now candidates.old.lines best }
+    ensures on { GoesOn (S.network separator.old) (S.network separator.new) (S.states separator.old) (S.states separator.new) (S.mark separator.old) (S.mark separator.new) (S.history separator.old) (S.own separator.old) (S.history separator.new) (S.own separator.new) }
+    ensures listed { OnOk result ∥ AreListed (case_of instance.now) (S.history separator.new) candidates.new ∥₁ }
+    ensures turn { IfOk result (λ turn. (before : Maybe Best) → ∥ IsTurnOf (case_of instance.now) pairs.now room before candidates.old.lines candidates.new.lines turn ∥₁) }
+{
+    let caps = share_caps(alloc, instance.net, pairs, &best.share)?;
+    let answers = separator.separate(instance, &caps.divided)?;
+    let answered = sorted(alloc, answers)?;
+    judge(alloc, instance, room, best, caps, answered, candidates)
+}
+
+/// The end where there is no best certificate: a number is too wide for it, and the one before it stays.
+fn unsolved(fault: MasterFault, before: Option<Best>) -> Result<Turn, NoMemory>
+    ensures { IfOk result (λ turn. EndsUnsolved fault before turn) }
+{
+    match fault {
+        MasterFault::Wide(evidence) => {
+            Ok(Turn::Last(before, Quality::Loose(Cause::Wide(evidence))))
+        }
+        MasterFault::NoMemory => Err(NoMemory),
+    }
+}
+
+/// One turn: the best certificate of the cuts so far, and what the states answer at its share. The one before is for the end where
+/// this one is too wide.
+fn take_turn<S: Separate>(
+    alloc: Global,
+    instance: &Instance,
+    pairs: &List<UnitPair>,
+    room: usize,
+    before: Option<Best>,
+    separator: &mut S,
+    candidates: &mut Candidates,
+) -> Result<Turn, NoMemory>
+    requires network { instance.now.net.now ≡ S.network separator.old }
+    requires states { instance.now.states.now ≡ S.states separator.old }
+    requires survivable { IsSurvivable (case_of instance.now) }
+    requires pairs { AreUnitPairs instance.now.net.now.links pairs.now }
+    requires listed { ∥ AreListed (case_of instance.now) (S.history separator.old) candidates.old ∥₁ }
+    requires few { length candidates.old.lines ≤ 8192 }
+    ensures on { GoesOn (S.network separator.old) (S.network separator.new) (S.states separator.old) (S.states separator.new) (S.mark separator.old) (S.mark separator.new) (S.history separator.old) (S.own separator.old) (S.history separator.new) (S.own separator.new) }
+    ensures listed { OnOk result ∥ AreListed (case_of instance.now) (S.history separator.new) candidates.new ∥₁ }
+    ensures turn { IfOk result (λ turn. ∥ IsTurnOf (case_of instance.now) pairs.now room before candidates.old.lines candidates.new.lines turn ∥₁) }
+{
+    match master(alloc, instance.net, &candidates.lines) {
+        Ok(best) => ask(alloc, instance, pairs, room, best, separator, candidates),
+        Err(fault) => unsolved(fault, before),
+    }
+}
+
+/// Turn by turn, until one is the last; the list may grow to so many cuts.
+fn turns<S: Separate>(
+    alloc: Global,
+    instance: &Instance,
+    pairs: &List<UnitPair>,
+    most: usize,
+    candidates: Candidates,
+    separator: &mut S,
+) -> Result<Worked, NoMemory>
+    requires network { instance.now.net.now ≡ S.network separator.old }
+    requires states { instance.now.states.now ≡ S.states separator.old }
+    requires survivable { IsSurvivable (case_of instance.now) }
+    requires pairs { AreUnitPairs instance.now.net.now.links pairs.now }
+    requires listed { ∥ AreListed (case_of instance.now) (S.history separator.old) candidates ∥₁ }
+    requires few { most ≤ 8192 }
+    requires room { length candidates.lines ≤ most }
+    ensures on { GoesOn (S.network separator.old) (S.network separator.new) (S.states separator.old) (S.states separator.new) (S.mark separator.old) (S.mark separator.new) (S.history separator.old) (S.own separator.old) (S.history separator.new) (S.own separator.new) }
+    ensures worked { IfOk result (λ worked. WorksOn (case_of instance.now) (S.history separator.new) most candidates.lines worked) }
+{
+    let mut candidates = candidates;
+    let mut before = None;
+    loop {
+        let room = most - candidates.lines.len();
+        match take_turn(
+            alloc,
+            instance,
+            pairs,
+            room,
+            before,
+            separator,
+            &mut candidates,
+        )? {
+            Turn::Further(best) => before = Some(best),
+            Turn::Last(best, quality) => {
+                let Candidates { lines, spots } = candidates;
+                return Ok(Worked {
+                    lines,
+                    spots,
+                    best,
+                    quality,
+                });
+            }
+        }
+    }
+}
+
+/// Opens the states, and then goes on turn by turn.
+fn opened_turns<S: Separate>(
+    alloc: Global,
+    instance: &Instance,
+    pool: List<CutLine>,
+    separator: &mut S,
+) -> Result<Worked, NoMemory>
+    requires network { instance.now.net.now ≡ S.network separator.old }
+    requires states { instance.now.states.now ≡ S.states separator.old }
+    requires survivable { IsSurvivable (case_of instance.now) }
+    requires few { length pool ≤ 4096 }
+    requires pool { ∥ IsPoolOf (case_of instance.now) (S.history separator.old) pool ∥₁ }
+    ensures on { GoesOn (S.network separator.old) (S.network separator.new) (S.states separator.old) (S.states separator.new) (S.mark separator.old) (S.mark separator.new) (S.history separator.old) (S.own separator.old) (S.history separator.new) (S.own separator.new) }
+    ensures worked { IfOk result (λ worked. ∥ AreWorkedRounds (case_of instance.now) (S.history separator.new) pool worked ∥₁) }
+{
+    let most = pool.len() + MOST_ADDED;
+    let pairs = link_pairs(alloc, instance.net)?;
+    let candidates = open_states(alloc, instance, pool, separator)?;
+    turns(alloc, instance, &pairs, most, candidates, separator)
+}
+
+/// Works on the cuts of a pool: puts the opening cuts of each state behind them, and then, turn by turn, the cuts that the share of the
+/// best certificate so far violates, until it violates none, a number is too wide, or 4,096 cuts were added and it violates a further one.
+///
+/// The separator is one of the instance's network and states, no state separates a demand, and the pool is what the separator's history
+/// had pooled at some time, with right sides at the instance's demands.
+///
+/// In the triangle with a demand of 12.00 the unit cut of state `none` is the first opening cut. It asks for 12.00, its share costs
+/// 6.00, which carries the demand, and the quality is `Tight`.
+///
+/// It takes a simplex run over the cuts and one over the paths of each state for each turn, and memory for two cuts of each state, for
+/// those of the turns, and for one routing of each state.
+pub fn work_rounds<S: Separate>(
+    alloc: Global,
+    instance: &Instance,
+    pool: List<CutLine>,
+    separator: &mut S,
+) -> Result<Worked, NoMemory>
+    requires network { instance.now.net.now ≡ S.network separator.old }
+    requires states { instance.now.states.now ≡ S.states separator.old }
+    requires survivable { IsSurvivable (case_of instance.now) }
+    requires few { length pool ≤ 4096 }
+    requires pool { ∥ IsPoolOf (case_of instance.now) (S.history separator.old) pool ∥₁ }
+    ensures network { S.network separator.new ≡ S.network separator.old }
+    ensures states { S.states separator.new ≡ S.states separator.old }
+    ensures mark { S.mark separator.new ≡ S.mark separator.old }
+    ensures more { SeesMore (S.history separator.old) (S.own separator.old) (S.history separator.new) (S.own separator.new) }
+    ensures worked { IfOk result (λ worked. ∥ AreWorkedRounds (case_of instance.now) (S.history separator.new) pool worked ∥₁) }
+{
+    opened_turns(alloc, instance, pool, separator)
+}

@@ -1,0 +1,129 @@
+ghost use Rattle.std.specs.Prelude.{◌≡◌, ◌+◌, ◌*◌, ◌<◌, ◌≤◌, ◌^◌, All, IfOk, length, map};
+ghost use Rattle.std.specs.Int.{◌∣◌};
+ghost use Rattle.net_core.specs.Network.{IsModule};
+ghost use Rattle.master_law.specs.UnitPairs.{AreUnitPairs, IsPairOfLink, share_capacities};
+ghost use Rattle.plan_rounds.specs.inner.Sharing.{DividesAll, IsDividedShare};
+
+use checked_fraction::gcd;
+use module_prices::{UnitPair, unit_pair};
+use net_core::{Caps, Link, List, Module, Network, NoMemory};
+use plan_types::Share;
+use std::alloc::Global;
+
+/// The capacities of a share, and the same in lowest terms: scale and numbers over the divisor.
+#[derive(Drop)]
+pub struct ShareCaps {
+    pub whole: Caps,
+    pub divided: Caps,
+    pub divisor: u64,
+}
+
+/// The unit pair of a link with these modules; 0 for 0 where it has none.
+fn pair_of(modules: &[Module]) -> UnitPair
+    requires { All IsModule modules.now }
+    ensures { IsPairOfLink modules.now result }
+{
+    match unit_pair(modules) {
+        Some(pair) => pair,
+        None => UnitPair {
+            capacity: 0,
+            cost: 0,
+        },
+    }
+}
+
+/// The unit pair of each link.
+pub fn link_pairs(alloc: Global, net: &Network) -> Result<List<UnitPair>, NoMemory>
+    ensures { IfOk result (AreUnitPairs net.now.links) }
+{
+    let mut pairs = List::new(alloc);
+    let links = net.links().items();
+    for e in 0..links.len() {
+        pairs.push(pair_of(links[e].modules.items()))?;
+    }
+    Ok(pairs)
+}
+
+/// What a link has in a share, over its scale: the pre-installed capacity, and its units of the unit pair.
+fn share_number(link: &Link, pair: &UnitPair, units: u64, scale: u64) -> u128
+    requires fixed { link.now.fixed < 2 ^ 40 }
+    requires units { units < 2 ^ 62 }
+    ensures { result ≡ link.now.fixed * scale + pair.now.capacity * units }
+{
+    link.fixed as u128 * scale as u128 + pair.capacity as u128 * units as u128
+}
+
+/// The capacity of each link in a share, over its scale.
+fn share_numbers(
+    alloc: Global,
+    links: &[Link],
+    pairs: &[UnitPair],
+    share: &Share,
+) -> Result<List<u128>, NoMemory>
+    requires fixed { All (λ l. l.fixed < 2 ^ 40) links.now }
+    requires pairs { length pairs.now ≡ length links.now }
+    requires count { length share.now.units ≡ length links.now }
+    requires units { All (λ u. u < 2 ^ 62) share.now.units }
+    ensures { IfOk result (λ nums. nums ≡ share_capacities links.now pairs.now share.now) }
+{
+    let mut nums = List::new(alloc);
+    for e in 0..links.len() {
+        let units = share.units.items()[e];
+        nums.push(share_number(&links[e], &pairs[e], units, share.scale))?;
+    }
+    Ok(nums)
+}
+
+/// The greatest common divisor of a scale and numbers.
+fn common_divisor(scale: u64, nums: &[u128]) -> u64
+    requires { 0 < scale }
+    ensures { DividesAll scale nums.now result }
+{
+    let mut common = scale as u128;
+    for n in nums {
+        common = gcd(common, *n);
+    }
+    common as u64
+}
+
+/// Numbers over a divisor of theirs.
+fn numbers_over(alloc: Global, nums: &[u128], divisor: u64) -> Result<List<u128>, NoMemory>
+    requires positive { 0 < divisor }
+    requires divides { All (λ n. divisor ∣ n) nums.now }
+    ensures { IfOk result (λ divided. map (λ n. divisor * n) divided ≡ nums.now) }
+{
+    let mut divided = List::new(alloc);
+    for n in nums {
+        divided.push(*n / divisor as u128)?;
+    }
+    Ok(divided)
+}
+
+/// The capacities of a share: each link has its pre-installed capacity and its units of its unit pair.
+pub fn share_caps(
+    alloc: Global,
+    net: &Network,
+    pairs: &List<UnitPair>,
+    share: &Share,
+) -> Result<ShareCaps, NoMemory>
+    requires pairs { AreUnitPairs net.now.links pairs.now }
+    requires scale { 0 < share.now.scale }
+    requires count { length share.now.units ≡ length net.now.links }
+    requires units { All (λ u. u < 2 ^ 62) share.now.units }
+    ensures { IfOk result (IsDividedShare net.now.links pairs.now share.now) }
+{
+    let nums = share_numbers(alloc, net.links().items(), pairs.items(), share)?;
+    let divisor = common_divisor(share.scale, nums.items());
+    let divided = numbers_over(alloc, nums.items(), divisor)?;
+    Ok(ShareCaps {
+        whole: Caps {
+            scale: share.scale,
+            nums,
+        },
+        divided: Caps {
+            scale: share.scale / divisor,
+            nums: divided,
+        },
+        divisor,
+    })
+}

@@ -1,0 +1,63 @@
+ghost use Rattle.std.specs.Prelude.{◌≡◌, ◌+◌, ◌<◌, ◌^◌, ℕ, List as Seq, All, IfOk, OnOk, length};
+ghost use Rattle.net_core.specs.declared.journal.Entry.{Entry};
+ghost use Rattle.net_core.specs.declared.plan.Caps.{Caps};
+ghost use Rattle.net_core.specs.Cases.{Case};
+ghost use Rattle.separator.specs.Separators.{AreStateAnswers};
+ghost use Rattle.plan_rounds.specs.inner.Answered.{AnswersShort, AreSorted, PutsAnswer};
+
+use crate::candidates::Candidates;
+use net_core::{Evidence, List, NoMemory, Routing};
+use separator::{Separated, StateAnswer};
+use std::alloc::Global;
+
+/// The answers of states, sorted: routings, cuts that the capacities violate, and evidence that a number of a state grew too wide.
+#[derive(Drop)]
+pub struct Answered {
+    pub routings: List<Routing>,
+    pub found: Candidates,
+    pub wide: Option<Evidence>,
+}
+
+/// Lengths are below 2^32 by their type.
+fn are_short(lengths: &[u32])
+    ensures { All (λ x. x < 2 ^ 32) lengths.now }
+{
+    let _ = lengths;
+}
+
+/// Puts the answer of one state to those of the states before it.
+fn put_answer(answer: Separated, answered: &mut Answered) -> Result<(), NoMemory>
+    ensures puts { OnOk result (PutsAnswer answer answered.old answered.new) }
+    ensures short { OnOk result (AnswersShort answer) }
+{
+    match answer {
+        Separated::Routed(routing) => answered.routings.push(routing)?,
+        Separated::Violated(line, spot) => {
+            are_short(line.lengths.items());
+            answered.found.lines.push(line)?;
+            answered.found.spots.push(spot)?;
+        }
+        Separated::Wide(evidence) => answered.wide = Some(evidence),
+    }
+    Ok(())
+}
+
+/// Sorts the answers of all states.
+pub fn sorted(alloc: Global, answers: List<StateAnswer>) -> Result<Answered, NoMemory>
+    ensures { IfOk result (λ a. (p : Case) (caps : Caps) (history : Seq Entry) → AreStateAnswers p caps history answers → AreSorted p caps history (length p.listed + 1) a) }
+{
+    let mut answered = Answered {
+        routings: List::new(alloc),
+        found: Candidates {
+            lines: List::new(alloc),
+            spots: List::new(alloc),
+        },
+        wide: None,
+    };
+    let mut left = answers;
+    while left.len() > 0 {
+        let StateAnswer { answer, .. } = left.remove(0);
+        put_answer(answer, &mut answered)?;
+    }
+    Ok(answered)
+}
