@@ -14,7 +14,7 @@ use Rattle.net_core.specs.Graphs.{Joins}
 use Rattle.net_core.specs.Network.{IsLink}
 use Rattle.net_core.specs.declared.columns.Evidence.{Evidence}
 use Rattle.net_core.specs.declared.plan.Routing.{Routing}
-use Rattle.plan_terms.specs.Capacities.{AreWithinLimits, capacities}
+use Rattle.plan_terms.specs.Capacities.{AreWithinLimits}
 use Rattle.plan_terms.specs.Fallbacks.{IsFallback, raised}
 use Rattle.plan_terms.specs.Flows.{Carries}
 use Rattle.plan_types.specs.declared.quality.Fractional.{Fractional}

@@ -1,5 +1,5 @@
 -- a link has one unit pair
-use Rattle.std.proofs.Common.{◌≡◌, suc, inl, inr, List, [], ◌∷◌, All, length, get_or, sym, ap, ◌∙◌, arith}
+use Rattle.std.proofs.Common.{◌≡◌, suc, inl, inr, List, [], ◌∷◌, All, length, sym, ap, ◌∙◌, arith}
 use Rattle.std.proofs.lemmas.List.{ext_get_or}
 use Rattle.std.proofs.lemmas.Option.{slice_get-get_or}
 use Rattle.net_core.specs.Network.{IsLink, IsModule}
