@@ -1,6 +1,6 @@
 -- the answers of all states, sorted
-use Rattle.std.proofs.Common.{◌≡◌, ◌≢◌, ℕ, ◌+◌, ◌<◌, ◌≤◌, ⊎_elim, List, [], ◌∷◌, Some, None, get_or, length, slice_get, refl, sym, ap, subst, ◌∙◌, arith, suc}
-use Rattle.std.proofs.lemmas.List.{length-append}
+use Rattle.std.proofs.Common.{◌≡◌, ◌≢◌, ℕ, ◌+◌, ◌<◌, ◌≤◌, ⊎_elim, List, [], ◌∷◌, ◌++◌, Some, None, get_or, length, map, slice_get, refl, sym, ap, subst, ◌∙◌, arith, suc}
+use Rattle.std.proofs.lemmas.List.{append-nil, append_assoc, length-append, map-append}
 use Rattle.std.proofs.lemmas.List.Elements.{All-nil, All-push, All-weaker}
 use Rattle.std.proofs.lemmas.List.Quantifiers.{all_pairs_push}
 use Rattle.net_core.specs.declared.journal.Entry.{Entry}
@@ -9,7 +9,8 @@ use Rattle.net_core.specs.declared.plan.CutLine.{CutLine}
 use Rattle.net_core.specs.declared.plan.Routing.{Routing}
 use Rattle.net_core.specs.Cases.{Case, graph_in}
 use Rattle.flow_router.specs.Answers.{IsRouted}
-use Rattle.separator.specs.Separators.{AreStateAnswers, IsAnswerOf, IsSeparatingCut}
+use Rattle.cut_pool.specs.Histories.{cut_of_line}
+use Rattle.separator.specs.Separators.{AreStateAnswers, IsAnswerOf, IsSeparatingCut, cut_answered, cuts_answered}
 use Rattle.separator.specs.declared.answers.Separated.{Separated}
 use Rattle.separator.specs.declared.answers.Separated.TheVariants.{Routed, Violated, Wide}
 use Rattle.separator.specs.declared.answers.StateAnswer.{StateAnswer}
@@ -95,3 +96,12 @@ module _ (p : Case) (caps : Caps) (history : List Entry) where
     wide = (n, inside, is);
     routed = λ none not_wide. absurd (let e : Some evidence ≡ None = not_wide in cc e);
   })
+
+-- the cuts that are found, one answer after another
+pub found_more : (a : StateAnswer) (rest : List StateAnswer) (old new : Answered) → PutsAnswer a.answer old new → map cut_of_line new.found.lines ++ cuts_answered rest ≡ map cut_of_line old.found.lines ++ cuts_answered (a ∷ rest)
+found_more a rest old new puts = ap (λ xs. xs ++ cuts_answered rest) (found_put a.answer old new puts) ∙ append_assoc (map cut_of_line old.found.lines) (cut_answered a.answer) (cuts_answered rest)
+  where
+    found_put : (answer : Separated) (old new : Answered) → PutsAnswer answer old new → map cut_of_line new.found.lines ≡ map cut_of_line old.found.lines ++ cut_answered answer
+    found_put (Routed routing) old new puts = ap (λ (x : Answered). map cut_of_line x.found.lines) puts ∙ sym (append-nil (map cut_of_line old.found.lines))
+    found_put (Violated line spot) old new puts = ap (λ (x : Answered). map cut_of_line x.found.lines) puts ∙ map-append cut_of_line old.found.lines (line ∷ [])
+    found_put (Wide evidence) old new puts = ap (λ (x : Answered). map cut_of_line x.found.lines) puts ∙ sym (append-nil (map cut_of_line old.found.lines))

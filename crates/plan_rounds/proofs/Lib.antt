@@ -3,6 +3,8 @@ pub mod Bounding
 pub mod Listing
 pub mod Multiplying
 pub mod Opening
+pub mod OwnPool
+pub mod OwnTurns
 pub mod Pairs
 pub mod Results
 pub mod Rights

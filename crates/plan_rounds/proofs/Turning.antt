@@ -98,7 +98,7 @@ module _ (p : Case) (pairs : List UnitPair) where
   best_scale cuts best at = (proper cuts best.share at.least).positive
 
   -- a cut that the divided capacities violate is found at the share
-  found_of : (share : Share) (c : ShareCaps) (line : CutLine) → IsDividedShare p.links pairs share c → IsSeparatingCut p c.divided line → IsFoundCut p pairs share line
+  pub found_of : (share : Share) (c : ShareCaps) (line : CutLine) → IsDividedShare p.links pairs share c → IsSeparatingCut p c.divided line → IsFoundCut p pairs share line
   found_of share c line is cut = record {
     is_cut = cut.cut;
     violated = subst (λ k. Violates k line) (is.times ∙ is.whole) ((divided_are_violated c.divisor c.divided line is.positive).0 cut.violated);

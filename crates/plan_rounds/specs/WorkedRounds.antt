@@ -104,3 +104,11 @@ pub record AreWorkedRounds (p : Case) (history : List Entry) (pool : List CutLin
   pub low : All (λ c. c.right < 2 ^ 84) w.lines
   pub spots : StandAtSpots history w.lines w.spots
   pub ends : EndsBy p pairs w.lines (length w.lines ≡ length pool + 4096) (IsBestOfLast p pairs list.start rounds) w.best w.quality
+
+-- the cuts that a history pools are, in their order, a worked list of no snapshot
+pub record IsWorkedPool (p : Case) (history : List Entry) : Type 0 where
+  pub pairs : List UnitPair
+  pub rounds : List Round
+  pub lines : List CutLine
+  pub list : IsWorkedList p pairs [] rounds lines
+  pub pooled : map cut_of_line lines ≡ cuts_of history

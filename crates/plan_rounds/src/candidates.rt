@@ -5,6 +5,7 @@ ghost use Rattle.net_core.specs.Views.{case_of};
 ghost use Rattle.metric_cut.specs.Cuts.{IsCutOf};
 ghost use Rattle.master_law.specs.MasterPrograms.{IsSameCut};
 ghost use Rattle.plan_law.specs.WorkedLists.{HasCut, Lacks};
+ghost use Rattle.plan_rounds.specs.inner.Alone.{PoolsOpening};
 ghost use Rattle.plan_rounds.specs.inner.Listing.{AreFirstSpots, AreListed, GoesOn, IsLineFor, PutsLine, TakesCut};
 
 use metric_cut::Cut;
@@ -90,6 +91,7 @@ pub fn take_cut<S: Separate>(
     ensures on { GoesOn (S.network separator.old) (S.network separator.new) (S.states separator.old) (S.states separator.new) (S.mark separator.old) (S.mark separator.new) (S.history separator.old) (S.own separator.old) (S.history separator.new) (S.own separator.new) }
     ensures listed { OnOk result ∥ AreListed (case_of instance.now) (S.history separator.new) candidates.new ∥₁ }
     ensures taken { OnOk result (TakesCut instance.now.demands.now cut candidates.old.lines candidates.new.lines) }
+    ensures alone { OnOk result ∥ PoolsOpening (S.history separator.old) (S.history separator.new) (S.own separator.new) candidates.old.lines candidates.new.lines ∥₁ }
 {
     let line = line_of(&cut, instance.demands)?;
     let spot = separator.admit(cut)?;

@@ -6,6 +6,7 @@ ghost use Rattle.metric_cut.specs.Cuts.{IsCutOf};
 ghost use Rattle.plan_law.specs.inner.Openings.{IsOpenedTo};
 ghost use Rattle.plan_law.specs.WorkedLists.{IsBeginning};
 ghost use Rattle.plan_rounds.specs.WorkedRounds.{IsPoolOf};
+ghost use Rattle.plan_rounds.specs.inner.Alone.{PoolsOpening};
 ghost use Rattle.plan_rounds.specs.inner.Listing.{AreListed, GoesOn, TakesCuts};
 
 use crate::candidates::{Candidates, pool_spots, take_cut};
@@ -28,6 +29,7 @@ fn take_cuts<S: Separate>(
     ensures on { GoesOn (S.network separator.old) (S.network separator.new) (S.states separator.old) (S.states separator.new) (S.mark separator.old) (S.mark separator.new) (S.history separator.old) (S.own separator.old) (S.history separator.new) (S.own separator.new) }
     ensures listed { OnOk result ∥ AreListed (case_of instance.now) (S.history separator.new) candidates.new ∥₁ }
     ensures taken { OnOk result (TakesCuts instance.now.demands.now cuts candidates.old.lines candidates.new.lines) }
+    ensures alone { OnOk result ∥ PoolsOpening (S.history separator.old) (S.history separator.new) (S.own separator.new) candidates.old.lines candidates.new.lines ∥₁ }
 {
     let mut left = cuts;
     while left.len() > 0 {
@@ -53,6 +55,7 @@ fn open_state<S: Separate>(
     ensures listed { OnOk result ∥ AreListed (case_of instance.now) (S.history separator.new) candidates.new ∥₁ }
     ensures opened { OnOk result ((pool : Seq CutLine) → IsOpenedTo (case_of instance.now) pool state.0 [] candidates.old.lines → IsOpenedTo (case_of instance.now) pool (state.0 + 1) [] candidates.new.lines) }
     ensures few { OnOk result (length candidates.new.lines ≤ length candidates.old.lines + 2) }
+    ensures alone { OnOk result ∥ PoolsOpening (S.history separator.old) (S.history separator.new) (S.own separator.new) candidates.old.lines candidates.new.lines ∥₁ }
 {
     let cuts = opening(alloc, instance.net, instance.states, state)?;
     take_cuts(instance, cuts, separator, candidates)
@@ -73,6 +76,7 @@ pub fn open_states<S: Separate>(
     ensures listed { IfOk result (λ c. ∥ AreListed (case_of instance.now) (S.history separator.new) c ∥₁) }
     ensures begins { IfOk result (λ c. IsBeginning (case_of instance.now) pool c.lines) }
     ensures few { IfOk result (λ c. length c.lines ≤ length pool + 2 * (length instance.now.states.now.listed + 1)) }
+    ensures alone { IfOk result (λ c. ∥ PoolsOpening (S.history separator.old) (S.history separator.new) (S.own separator.new) pool c.lines ∥₁) }
 {
     let spots = pool_spots(alloc, pool.len())?;
     let mut candidates = Candidates { lines: pool, spots };

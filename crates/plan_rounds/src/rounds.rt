@@ -1,11 +1,12 @@
-ghost use Rattle.std.specs.Prelude.{◌≡◌, ◌+◌, ◌≤◌, ◌<◌, ℕ, List as Seq, Option as Maybe, None, IfOk, IfSome, OnOk, length};
+ghost use Rattle.std.specs.Prelude.{◌≡◌, [], ◌+◌, ◌≤◌, ◌<◌, ℕ, List as Seq, Option as Maybe, None, IfOk, IfSome, OnOk, length};
 ghost use Rattle.net_core.specs.Views.{case_of};
 ghost use Rattle.plan_terms.specs.Separations.{IsSurvivable};
 ghost use Rattle.route_law.specs.Divisions.{caps_times};
 ghost use Rattle.master_law.specs.UnitPairs.{AreUnitPairs};
 ghost use Rattle.master_bound.specs.declared.answer.Best.{Best};
 ghost use Rattle.separator.specs.Separators.{SeesMore};
-ghost use Rattle.plan_rounds.specs.WorkedRounds.{AreWorkedRounds, IsBestAt, IsPoolOf};
+ghost use Rattle.plan_rounds.specs.WorkedRounds.{AreWorkedRounds, IsBestAt, IsPoolOf, IsWorkedPool};
+ghost use Rattle.plan_rounds.specs.inner.Alone.{PoolsRounds, PoolsTurn};
 ghost use Rattle.plan_rounds.specs.inner.Answered.{AreRoutedStates, IsEvidenceOfState};
 ghost use Rattle.plan_rounds.specs.inner.Listing.{AreListed, GoesOn};
 ghost use Rattle.plan_rounds.specs.inner.Turns.{EndsAt, EndsUnsolved, IsTurnOf, Judges, WorksOn};
@@ -120,6 +121,7 @@ fn ask<S: Separate>(
     ensures on { GoesOn (S.network separator.old) (S.network separator.new) (S.states separator.old) (S.states separator.new) (S.mark separator.old) (S.mark separator.new) (S.history separator.old) (S.own separator.old) (S.history separator.new) (S.own separator.new) }
     ensures listed { OnOk result ∥ AreListed (case_of instance.now) (S.history separator.new) candidates.new ∥₁ }
     ensures turn { IfOk result (λ turn. (before : Maybe Best) → ∥ IsTurnOf (case_of instance.now) pairs.now room before candidates.old.lines candidates.new.lines turn ∥₁) }
+    ensures alone { IfOk result (λ turn. PoolsTurn (case_of instance.now) pairs.now room (S.history separator.old) (S.history separator.new) (S.own separator.new) candidates.old.lines candidates.new.lines turn) }
 {
     let caps = share_caps(alloc, instance.net, pairs, &best.share)?;
     let answers = separator.separate(instance, &caps.divided)?;
@@ -159,6 +161,7 @@ fn take_turn<S: Separate>(
     ensures on { GoesOn (S.network separator.old) (S.network separator.new) (S.states separator.old) (S.states separator.new) (S.mark separator.old) (S.mark separator.new) (S.history separator.old) (S.own separator.old) (S.history separator.new) (S.own separator.new) }
     ensures listed { OnOk result ∥ AreListed (case_of instance.now) (S.history separator.new) candidates.new ∥₁ }
     ensures turn { IfOk result (λ turn. ∥ IsTurnOf (case_of instance.now) pairs.now room before candidates.old.lines candidates.new.lines turn ∥₁) }
+    ensures alone { IfOk result (λ turn. PoolsTurn (case_of instance.now) pairs.now room (S.history separator.old) (S.history separator.new) (S.own separator.new) candidates.old.lines candidates.new.lines turn) }
 {
     match master(alloc, instance.net, &candidates.lines) {
         Ok(best) => ask(alloc, instance, pairs, room, best, separator, candidates),
@@ -184,6 +187,7 @@ fn turns<S: Separate>(
     requires room { length candidates.lines ≤ most }
     ensures on { GoesOn (S.network separator.old) (S.network separator.new) (S.states separator.old) (S.states separator.new) (S.mark separator.old) (S.mark separator.new) (S.history separator.old) (S.own separator.old) (S.history separator.new) (S.own separator.new) }
     ensures worked { IfOk result (λ worked. WorksOn (case_of instance.now) (S.history separator.new) most candidates.lines worked) }
+    ensures alone { OnOk result (PoolsRounds (case_of instance.now) most (S.history separator.old) (S.history separator.new) (S.own separator.new) candidates.lines) }
 {
     let mut candidates = candidates;
     let mut before = None;
@@ -226,6 +230,7 @@ fn opened_turns<S: Separate>(
     requires pool { ∥ IsPoolOf (case_of instance.now) (S.history separator.old) pool ∥₁ }
     ensures on { GoesOn (S.network separator.old) (S.network separator.new) (S.states separator.old) (S.states separator.new) (S.mark separator.old) (S.mark separator.new) (S.history separator.old) (S.own separator.old) (S.history separator.new) (S.own separator.new) }
     ensures worked { IfOk result (λ worked. ∥ AreWorkedRounds (case_of instance.now) (S.history separator.new) pool worked ∥₁) }
+    ensures alone { OnOk result (S.history separator.old ≡ [] → S.history separator.new ≡ S.own separator.new → ∥ IsWorkedPool (case_of instance.now) (S.history separator.new) ∥₁) }
 {
     let most = pool.len() + MOST_ADDED;
     let pairs = link_pairs(alloc, instance.net)?;
@@ -237,7 +242,8 @@ fn opened_turns<S: Separate>(
 /// best certificate so far violates, until it violates none, a number is too wide, or 4,096 cuts were added and it violates a further one.
 ///
 /// The separator is one of the instance's network and states, no state separates a demand, and the pool is what the separator's history
-/// had pooled at some time, with right sides at the instance's demands.
+/// had pooled at some time, with right sides at the instance's demands. Where that history was empty, and the separator
+/// alone has written it, what it has pooled is a worked list by itself, in its order.
 ///
 /// In the triangle with a demand of 12.00 the unit cut of state `none` is the first opening cut. It asks for 12.00, its share costs
 /// 6.00, which carries the demand, and the quality is `Tight`.
@@ -260,6 +266,7 @@ pub fn work_rounds<S: Separate>(
     ensures mark { S.mark separator.new ≡ S.mark separator.old }
     ensures more { SeesMore (S.history separator.old) (S.own separator.old) (S.history separator.new) (S.own separator.new) }
     ensures worked { IfOk result (λ worked. ∥ AreWorkedRounds (case_of instance.now) (S.history separator.new) pool worked ∥₁) }
+    ensures alone { OnOk result (S.history separator.old ≡ [] → S.history separator.new ≡ S.own separator.new → ∥ IsWorkedPool (case_of instance.now) (S.history separator.new) ∥₁) }
 {
     opened_turns(alloc, instance, pool, separator)
 }

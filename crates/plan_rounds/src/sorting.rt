@@ -1,8 +1,9 @@
-ghost use Rattle.std.specs.Prelude.{◌≡◌, ◌+◌, ◌<◌, ◌^◌, ℕ, List as Seq, All, IfOk, OnOk, length};
+ghost use Rattle.std.specs.Prelude.{◌≡◌, ◌+◌, ◌<◌, ◌^◌, ℕ, List as Seq, All, IfOk, OnOk, length, map};
 ghost use Rattle.net_core.specs.declared.journal.Entry.{Entry};
 ghost use Rattle.net_core.specs.declared.plan.Caps.{Caps};
 ghost use Rattle.net_core.specs.Cases.{Case};
-ghost use Rattle.separator.specs.Separators.{AreStateAnswers};
+ghost use Rattle.cut_pool.specs.Histories.{cut_of_line};
+ghost use Rattle.separator.specs.Separators.{AreStateAnswers, cuts_answered};
 ghost use Rattle.plan_rounds.specs.inner.Answered.{AnswersShort, AreSorted, PutsAnswer};
 
 use crate::candidates::Candidates;
@@ -44,7 +45,8 @@ fn put_answer(answer: Separated, answered: &mut Answered) -> Result<(), NoMemory
 
 /// Sorts the answers of all states.
 pub fn sorted(alloc: Global, answers: List<StateAnswer>) -> Result<Answered, NoMemory>
-    ensures { IfOk result (λ a. (p : Case) (caps : Caps) (history : Seq Entry) → AreStateAnswers p caps history answers → AreSorted p caps history (length p.listed + 1) a) }
+    ensures sorted { IfOk result (λ a. (p : Case) (caps : Caps) (history : Seq Entry) → AreStateAnswers p caps history answers → AreSorted p caps history (length p.listed + 1) a) }
+    ensures found { IfOk result (λ a. map cut_of_line a.found.lines ≡ cuts_answered answers) }
 {
     let mut answered = Answered {
         routings: List::new(alloc),

@@ -2,6 +2,7 @@ use Rattle.std.proofs.Math.Logic.{∥∥₁_elim, ∥∥₁_map}
 use Rattle.std.proofs.Props.{props}
 use Rattle.net_core.specs.Views.{case_of}
 use Rattle.plan_rounds.proofs.Listing.{listed_later, listed_take, takes_put}
+use Rattle.plan_rounds.proofs.OwnPool.{opening_taken}
 use Rattle.plan_rounds.proofs.Results.{on_ok}
 use Rattle.plan_rounds.proofs.Seeing.{goes_none}
 use Rattle.plan_rounds.proofs.candidates.take_cut.Goals as goal
@@ -27,4 +28,14 @@ pub returns-clause-taken : goal.returns-clause-taken
 returns-clause-taken g c =
     on_ok c.put_line.result _ _
     (λ puts. takes_put c.args.instance.now.demands.now c.args.cut c.in_ok-line.line c.in_ok-spot.spot c.args.candidates.now c.put_line.new.candidates c.in_ok-line.ensures puts)
+    c.put_line.ensures
+
+pub returns-clause-alone : goal.returns-clause-alone
+returns-clause-alone g c =
+    let before = c.args.separator.now in
+    let now = c.admit.new.self in
+    on_ok c.put_line.result _ _
+    (λ puts. ∥∥₁_elim (g.met.S.Separate.seen before) (hlevel props) (λ seen_before. ∥∥₁_map (g.met.S.Separate.seen now) (λ seen.
+    opening_taken (g.S.Separate.network now) (g.S.Separate.states now) (g.S.Separate.history before) (g.S.Separate.own before) (g.S.Separate.history now) (g.S.Separate.own now) c.args.cut c.args.instance.now.demands.now c.in_ok-line.line c.in_ok-spot.spot c.args.candidates.now c.put_line.new.candidates
+    seen_before.own_among c.in_ok-spot.ensures.more seen c.in_ok-spot.ensures.only c.in_ok-spot.ensures.spot c.in_ok-line.ensures puts)))
     c.put_line.ensures

@@ -5,6 +5,7 @@ use Rattle.net_core.specs.Views.{case_of}
 use Rattle.plan_law.proofs.Begun.{opened_none}
 use Rattle.plan_rounds.specs.inner.Listing.{AreFirstSpots}
 use Rattle.plan_rounds.proofs.Listing.{pool_listed}
+use Rattle.plan_rounds.proofs.OwnPool.{pools_both, pools_none}
 use Rattle.plan_rounds.proofs.Seeing.{goes_both, goes_none}
 use Rattle.plan_rounds.proofs.openings.open_states.Goals as goal
 
@@ -20,6 +21,7 @@ loop-s-init g c =
           pool_listed p (g.S.Separate.network now) (g.S.Separate.states now) (g.S.Separate.history now) (g.S.Separate.own now) c.args.pool c.in_ok-spots.spots seen pool (subst (λ n. AreFirstSpots n c.in_ok-spots.spots) c.len.ensures c.in_ok-spots.ensures))),
       opened_none p c.args.pool,
       omega arith,
+      ∣ pools_none (g.S.Separate.history c.args.separator.now) (g.S.Separate.own c.args.separator.now) c.args.pool ∣₁,
     )
 
 pub returns-in_err-open_state-clause-on : goal.returns-in_err-open_state-clause-on
@@ -32,4 +34,7 @@ loop-s-preserved g c =
       c.in_ok-open_state.ensures.listed,
       c.in_ok-open_state.ensures.opened c.args.pool so_far.2,
       omega (arith, so_far.3, c.in_ok-open_state.ensures.few),
+      ∥∥₁_elim (g.met.S.Separate.seen c.loop-s.separator) (hlevel props) (λ seen. ∥∥₁_elim so_far.4 (hlevel props) (λ first. ∥∥₁_map c.in_ok-open_state.ensures.alone (λ second.
+          pools_both (g.S.Separate.history c.args.separator.now) (g.S.Separate.history c.loop-s.separator) (g.S.Separate.own c.loop-s.separator) (g.S.Separate.history c.open_state.new.separator) (g.S.Separate.own c.open_state.new.separator)
+          c.args.pool c.loop-s.candidates.lines c.open_state.new.candidates.lines seen.own_among c.in_ok-open_state.ensures.on.more first second))),
     )

@@ -1,6 +1,7 @@
 use Rattle.std.proofs.Common.{◌+◌, ◌*◌, ◌≤◌, [], length}
 use Rattle.net_core.specs.Views.{case_of}
 use Rattle.plan_law.specs.inner.Openings.{IsOpenedTo}
+use Rattle.plan_rounds.specs.inner.Alone.{PoolsOpening}
 use Rattle.plan_rounds.specs.inner.Listing.{AreListed, GoesOn}
 use Rattle.plan_rounds.proofs.openings.open_states.Given as goal
 
@@ -13,3 +14,4 @@ invariant-loop-s g l =
     × ∥ AreListed (case_of l.instance) (g.S.Separate.history now) l.candidates ∥₁
     × IsOpenedTo (case_of l.instance) l.fn.pool l.s [] l.candidates.lines
     × (length l.candidates.lines ≤ length l.fn.pool + 2 * l.s)
+    × ∥ PoolsOpening (g.S.Separate.history before) (g.S.Separate.history now) (g.S.Separate.own now) l.fn.pool l.candidates.lines ∥₁

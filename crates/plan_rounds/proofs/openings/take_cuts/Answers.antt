@@ -1,3 +1,5 @@
+use Rattle.std.proofs.Math.Logic.{∥∥₁_elim, ∥∥₁_map}
+use Rattle.std.proofs.Props.{props}
 use Rattle.std.proofs.Common.{All, List, arith, subst, sym}
 use Rattle.std.proofs.lemmas.List.Elements.{All-tail}
 use Rattle.net_core.specs.Cases.{graph_in}
@@ -6,11 +8,12 @@ use Rattle.metric_cut.specs.Cuts.{IsCutOf}
 use Rattle.metric_cut.specs.declared.cut.Cut.{Cut}
 use Rattle.plan_rounds.specs.inner.Listing.{TakesCuts}
 use Rattle.plan_rounds.proofs.Multiplying.{first_of}
+use Rattle.plan_rounds.proofs.OwnPool.{pools_both, pools_none}
 use Rattle.plan_rounds.proofs.Seeing.{goes_both, goes_none}
 use Rattle.plan_rounds.proofs.openings.take_cuts.Goals as goal
 
 pub loop-left-init : goal.loop-left-init
-loop-left-init g c = (c.requires.cuts, goes_none _ _ _ _ _, c.requires.listed, λ end takes. takes)
+loop-left-init g c = (c.requires.cuts, goes_none _ _ _ _ _, c.requires.listed, λ end takes. takes, ∣ pools_none (g.S.Separate.history c.args.separator.now) (g.S.Separate.own c.args.separator.now) c.args.candidates.now.lines ∣₁)
 
 pub take_cut-requires-clause-cut : goal.take_cut-requires-clause-cut
 take_cut-requires-clause-cut g c =
@@ -33,4 +36,7 @@ loop-left-preserved g c =
       goes_both _ _ _ _ _ _ _ _ _ _ _ _ _ _ _ so_far.1 c.in_ok-take_cut.ensures.on,
       c.in_ok-take_cut.ensures.listed,
       λ end takes. so_far.3 end (subst (λ (cs : List Cut). TakesCuts c.args.instance.now.demands.now cs c.loop-left.candidates.lines end) (sym first) (c.take_cut.new.candidates.lines, c.in_ok-take_cut.ensures.taken, takes)),
+      ∥∥₁_elim (g.met.S.Separate.seen c.loop-left.separator) (hlevel props) (λ seen. ∥∥₁_elim so_far.4 (hlevel props) (λ first. ∥∥₁_map c.in_ok-take_cut.ensures.alone (λ second.
+          pools_both (g.S.Separate.history c.args.separator.now) (g.S.Separate.history c.loop-left.separator) (g.S.Separate.own c.loop-left.separator) (g.S.Separate.history c.take_cut.new.separator) (g.S.Separate.own c.take_cut.new.separator)
+          c.args.candidates.now.lines c.loop-left.candidates.lines c.take_cut.new.candidates.lines seen.own_among c.in_ok-take_cut.ensures.on.more first second))),
     )

@@ -3,6 +3,7 @@ use Rattle.net_core.specs.declared.plan.CutLine.{CutLine}
 use Rattle.net_core.specs.Cases.{graph_in}
 use Rattle.net_core.specs.Views.{case_of}
 use Rattle.metric_cut.specs.Cuts.{IsCutOf}
+use Rattle.plan_rounds.specs.inner.Alone.{PoolsOpening}
 use Rattle.plan_rounds.specs.inner.Listing.{AreListed, GoesOn, TakesCuts}
 use Rattle.plan_rounds.proofs.openings.take_cuts.Given as goal
 
@@ -19,3 +20,4 @@ invariant-loop-left g l =
     × GoesOn (g.S.Separate.network before) (g.S.Separate.network now) (g.S.Separate.states before) (g.S.Separate.states now) (g.S.Separate.mark before) (g.S.Separate.mark now) (g.S.Separate.history before) (g.S.Separate.own before) (g.S.Separate.history now) (g.S.Separate.own now)
     × ∥ AreListed (case_of l.instance) (g.S.Separate.history now) l.candidates ∥₁
     × ((end : List CutLine) → TakesCuts l.instance.demands.now l.left l.candidates.lines end → TakesCuts l.instance.demands.now l.fn.cuts l.fn.candidates.lines end)
+    × ∥ PoolsOpening (g.S.Separate.history before) (g.S.Separate.history now) (g.S.Separate.own now) l.fn.candidates.lines l.candidates.lines ∥₁

@@ -3,6 +3,8 @@ use Rattle.std.proofs.Math.Logic.{∥∥₁_elim, ∥∥₁_map}
 use Rattle.std.proofs.Props.{props}
 use Rattle.net_core.specs.Views.{case_of}
 use Rattle.plan_rounds.proofs.Listing.{listed_later}
+use Rattle.separator.specs.Separators.{cuts_answered}
+use Rattle.plan_rounds.proofs.OwnTurns.{after_told, judged_pool}
 use Rattle.plan_rounds.proofs.Results.{if_ok, on_if}
 use Rattle.plan_rounds.proofs.Seeing.{goes_none}
 use Rattle.plan_rounds.proofs.Sharing.{divided_count}
@@ -17,11 +19,11 @@ separate-requires-clause-caps g c = divided_count c.args.instance.now.net.now.li
 
 pub judge-requires-clause-routed : goal.judge-requires-clause-routed
 judge-requires-clause-routed g c none not_wide =
-    ∥∥₁_map c.in_ok-answers.ensures.answers (λ are. (c.in_ok-answered.ensures (case_of c.args.instance.now) c.in_ok-caps.caps.divided (g.S.Separate.history c.separate.new.self) are).routed none not_wide)
+    ∥∥₁_map c.in_ok-answers.ensures.answers (λ are. (c.in_ok-answered.ensures.sorted (case_of c.args.instance.now) c.in_ok-caps.caps.divided (g.S.Separate.history c.separate.new.self) are).routed none not_wide)
 
 pub judge-requires-clause-wide : goal.judge-requires-clause-wide
 judge-requires-clause-wide g c =
-    ∥∥₁_map c.in_ok-answers.ensures.answers (λ are. (c.in_ok-answered.ensures (case_of c.args.instance.now) c.in_ok-caps.caps.divided (g.S.Separate.history c.separate.new.self) are).wide)
+    ∥∥₁_map c.in_ok-answers.ensures.answers (λ are. (c.in_ok-answered.ensures.sorted (case_of c.args.instance.now) c.in_ok-caps.caps.divided (g.S.Separate.history c.separate.new.self) are).wide)
 
 pub returns-clause-listed : goal.returns-clause-listed
 returns-clause-listed g c =
@@ -38,7 +40,7 @@ returns-clause-listed g c =
     ∥∥₁_elim c.requires.listed (hlevel props) (λ are.
     ∥∥₁_map (g.met.S.Separate.seen now) (λ seen.
     judged_listed p c.args.pairs.now (g.S.Separate.history now) n c.args.room None c.args.best c.in_ok-caps.caps c.in_ok-answered.answered old c.requires.pairs c.requires.best c.in_ok-caps.ensures
-    (c.in_ok-answered.ensures p c.in_ok-caps.caps.divided (g.S.Separate.history now) are_answers) c.judge.new.candidates turn net.checked few c.args.instance.now.belong
+    (c.in_ok-answered.ensures.sorted p c.in_ok-caps.caps.divided (g.S.Separate.history now) are_answers) c.judge.new.candidates turn net.checked few c.args.instance.now.belong
     (listed_later p (g.S.Separate.network now) (g.S.Separate.states now) (g.S.Separate.history before) (g.S.Separate.own before) (g.S.Separate.history now) (g.S.Separate.own now) old c.in_ok-answers.ensures.more seen are) judges)))))
     c.judge.ensures
 
@@ -51,5 +53,28 @@ returns-clause-turn g c =
     (λ turn told before. ∥∥₁_elim told (hlevel props) (λ judges.
     ∥∥₁_map c.in_ok-answers.ensures.answers (λ are_answers.
     judged_turn p c.args.pairs.now (g.S.Separate.history now) n c.args.room before c.args.best c.in_ok-caps.caps c.in_ok-answered.answered c.args.candidates.now c.requires.pairs c.requires.best c.in_ok-caps.ensures
-    (c.in_ok-answered.ensures p c.in_ok-caps.caps.divided (g.S.Separate.history now) are_answers) c.judge.new.candidates turn judges)))
+    (c.in_ok-answered.ensures.sorted p c.in_ok-caps.caps.divided (g.S.Separate.history now) are_answers) c.judge.new.candidates turn judges)))
+    c.judge.ensures
+
+pub returns-clause-alone : goal.returns-clause-alone
+returns-clause-alone g c =
+    let p = case_of c.args.instance.now in
+    let pairs = c.args.pairs.now in
+    let before = c.args.separator.now in
+    let now = c.separate.new.self in
+    let n = length c.args.instance.now.states.now.listed + 1 in
+    let answers = c.in_ok-answers.ensures in
+    if_ok c.judge.result _ _
+    (λ turn told alone full known.
+    after_told p pairs (g.S.Separate.history now) c.judge.new.candidates.lines turn
+    (∥∥₁_elim told (hlevel props) (λ judges.
+    ∥∥₁_elim known (hlevel props) (λ pool.
+    ∥∥₁_elim answers.answers (hlevel props) (λ are_answers.
+    ∥∥₁_elim answers.separating (hlevel props) (λ separates.
+    ∥∥₁_elim c.requires.listed (hlevel props) (λ listed.
+    ∥∥₁_elim (g.met.S.Separate.seen before) (hlevel props) (λ seen_before.
+    ∥∥₁_map (g.met.S.Separate.seen now) (λ seen.
+    judged_pool p pairs c.requires.pairs (g.S.Separate.network now) (g.S.Separate.states now) (g.S.Separate.history before) (g.S.Separate.own before) (g.S.Separate.history now) (g.S.Separate.own now) seen_before.own_among answers.more seen alone
+    c.args.best c.in_ok-caps.caps c.in_ok-answered.answered c.args.candidates.now (cuts_answered c.in_ok-answers.answers) n c.requires.best c.in_ok-caps.ensures separates answers.different answers.answered c.in_ok-answered.ensures.found
+    (c.in_ok-answered.ensures.sorted p c.in_ok-caps.caps.divided (g.S.Separate.history now) are_answers) listed pool c.args.room c.judge.new.candidates turn full judges)))))))))
     c.judge.ensures

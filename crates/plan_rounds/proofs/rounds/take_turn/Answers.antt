@@ -1,8 +1,11 @@
 use Rattle.std.proofs.Common.{Err, subst, sym}
+use Rattle.std.proofs.Math.Logic.{∥∥₁_map}
 use Rattle.net_core.specs.Views.{case_of}
 use Rattle.master_bound.specs.Answers.{IsMasterAnswer}
 use Rattle.master_bound.specs.declared.answer.MasterFault.{MasterFault}
+use Rattle.plan_rounds.specs.inner.Alone.{IsPoolAfterTurn}
 use Rattle.plan_rounds.specs.inner.Turns.{IsTurnOf}
+use Rattle.plan_rounds.proofs.OwnTurns.{pool_worked}
 use Rattle.plan_rounds.proofs.Results.{if_ok}
 use Rattle.plan_rounds.proofs.Bounding.{have_bounds, modules_sound}
 use Rattle.plan_rounds.proofs.Seeing.{goes_none}
@@ -29,4 +32,13 @@ returns-in-Err-clause-turn g c =
     (λ turn made. ∣ subst (IsTurnOf p c.args.pairs.now c.args.room c.args.before lines lines) (sym made.2)
     (wide_turn p c.args.pairs.now (modules_sound net.nodes net.links net.checked) c.requires.pairs c.args.room c.args.before lines made.0
     (subst (λ (f : MasterFault). IsMasterAnswer net.links lines (Err f)) made.1 c.in-Err.ensures)) ∣₁)
+    c.unsolved.ensures
+
+pub returns-in-Err-clause-alone : goal.returns-in-Err-clause-alone
+returns-in-Err-clause-alone g c =
+    let p = case_of c.args.instance.now in
+    let h = g.S.Separate.history c.args.separator.now in
+    let lines = c.args.candidates.now.lines in
+    if_ok c.unsolved.result _ _
+    (λ turn made alone full known. subst (IsPoolAfterTurn p c.args.pairs.now h lines) (sym made.2) (∥∥₁_map known (pool_worked p c.args.pairs.now h lines)))
     c.unsolved.ensures

@@ -4,7 +4,11 @@ use Rattle.std.proofs.Props.{props}
 use Rattle.net_core.specs.declared.plan.CutLine.{CutLine}
 use Rattle.net_core.specs.Views.{case_of}
 use Rattle.plan_rounds.specs.WorkedRounds.{EndsBy}
+use Rattle.plan_rounds.specs.inner.Alone.{PoolsTurn}
 use Rattle.plan_rounds.specs.inner.Turns.{IsTurnOf, IsWorking}
+use Rattle.plan_rounds.specs.declared.rounds.Turn.TheVariants.{Further, Last}
+use Rattle.plan_rounds.proofs.OwnPool.{alone_before}
+use Rattle.plan_rounds.proofs.OwnTurns.{pool_begins}
 use Rattle.plan_rounds.proofs.Seeing.{goes_both, goes_none}
 use Rattle.plan_rounds.proofs.Turning.{further_room, working_begins, working_ends, working_on}
 use Rattle.plan_rounds.proofs.rounds.turns.Goals as goal
@@ -15,6 +19,7 @@ loop-candidates-init g c = (
   c.requires.listed,
   c.requires.room,
   λ pool same known begins. ∣ working_begins (case_of c.args.instance.now) c.args.pairs.now pool c.args.candidates.lines c.requires.pairs begins (omega (arith, same, c.requires.room)) ∣₁,
+  λ alone most begins same. ∣ pool_begins (case_of c.args.instance.now) c.args.pairs.now (g.S.Separate.history c.args.separator.now) c.args.candidates.lines c.requires.pairs begins (omega (arith, most, c.requires.room)) same ∣₁,
 )
 
 pub take_turn-requires-clause-network : goal.take_turn-requires-clause-network
@@ -49,6 +54,14 @@ loop-candidates-preserved g c =
       ∥∥₁_elim further (hlevel props) (λ f. (further_room p pairs room c.args.most before old new best is so_far.2 f).0),
       λ pool same known begins. ∥∥₁_elim further (hlevel props) (λ f.
           ∥∥₁_map (so_far.3 pool same known begins) (λ w. working_on p pairs pool old new before room best known (omega (arith, same, is, so_far.2)) w f)),
+      λ alone most begins same.
+          let here = c.loop-candidates.separator in
+          let now = c.take_turn.new.separator in
+          let pools : PoolsTurn p pairs room (g.S.Separate.history here) (g.S.Separate.history now) (g.S.Separate.own now) old new (Further best) =
+          subst (PoolsTurn p pairs room (g.S.Separate.history here) (g.S.Separate.history now) (g.S.Separate.own now) old new) c.in-Further.is c.in_ok-best.ensures.alone in
+          ∥∥₁_elim (g.met.S.Separate.seen here) (hlevel props) (λ seen.
+          pools alone (omega (arith, most, is, so_far.2))
+          (so_far.4 (alone_before (g.S.Separate.history here) (g.S.Separate.own here) (g.S.Separate.history now) (g.S.Separate.own now) seen.own_among c.in_ok-best.ensures.on.more alone) most begins same)),
     )
 
 pub loop-candidates-smaller : goal.loop-candidates-smaller
@@ -85,3 +98,20 @@ returns-in-Last-clause-worked g c pool same known begins =
     (let long = ap length e.0 in omega (arith, long, is, same, so_far.2))
     (subst (λ (ls : List CutLine). IsWorking p pairs pool ls before) (sym e.0) w)
     (subst (λ (ls : List CutLine). EndsBy p pairs ls (room ≡ 0) (λ b. b ≡ before) best quality) (sym e.0) e.1))))
+
+pub returns-in-Last-clause-alone : goal.returns-in-Last-clause-alone
+returns-in-Last-clause-alone g c alone most begins same =
+    let p = case_of c.args.instance.now in
+    let pairs = c.args.pairs.now in
+    let so_far = c.loop-candidates.invariant in
+    let old = c.loop-candidates.candidates.lines in
+    let new = c.take_turn.new.candidates.lines in
+    let room = c.args.most - c.len.result in
+    let is : room ≡ c.args.most - length old = ap (λ n. c.args.most - n) c.len.ensures in
+    let here = c.loop-candidates.separator in
+    let now = c.take_turn.new.separator in
+    let pools : PoolsTurn p pairs room (g.S.Separate.history here) (g.S.Separate.history now) (g.S.Separate.own now) old new (Last c.in-Last.best c.in-Last.quality) =
+    subst (PoolsTurn p pairs room (g.S.Separate.history here) (g.S.Separate.history now) (g.S.Separate.own now) old new) c.in-Last.is c.in_ok-best.ensures.alone in
+    ∥∥₁_elim (g.met.S.Separate.seen here) (hlevel props) (λ seen.
+    pools alone (omega (arith, most, is, so_far.2))
+    (so_far.4 (alone_before (g.S.Separate.history here) (g.S.Separate.own here) (g.S.Separate.history now) (g.S.Separate.own now) seen.own_among c.in_ok-best.ensures.on.more alone) most begins same))

@@ -1,8 +1,10 @@
-use Rattle.std.proofs.Common.{◌≡◌, ◌+◌, ◌-◌, ◌≤◌, List, All, length}
+use Rattle.std.proofs.Common.{◌≡◌, ◌+◌, ◌-◌, ◌≤◌, List, [], All, length, map}
 use Rattle.net_core.specs.declared.plan.CutLine.{CutLine}
 use Rattle.net_core.specs.Views.{case_of}
 use Rattle.plan_terms.specs.Certificates.{IsCut}
 use Rattle.plan_law.specs.WorkedLists.{IsBeginning}
+use Rattle.cut_pool.specs.Histories.{cut_of_line, cuts_of}
+use Rattle.plan_rounds.specs.inner.Alone.{IsAlone, IsPoolOfList}
 use Rattle.plan_rounds.specs.inner.Listing.{AreListed, GoesOn}
 use Rattle.plan_rounds.specs.inner.Turns.{IsWorking}
 use Rattle.plan_rounds.proofs.rounds.turns.Given as goal
@@ -21,3 +23,5 @@ invariant-loop-candidates g l =
     × ∥ AreListed p (g.S.Separate.history now) l.candidates ∥₁
     × (length l.candidates.lines ≤ l.most)
     × ((pool : List CutLine) → length pool + 4096 ≡ l.most → All (IsCut p) pool → IsBeginning p pool l.fn.candidates.lines → ∥ IsWorking p l.pairs pool l.candidates.lines l.before ∥₁)
+    × (IsAlone (g.S.Separate.history now) (g.S.Separate.own now) → l.most ≡ 4096 → IsBeginning p [] l.fn.candidates.lines → cuts_of (g.S.Separate.history before) ≡ map cut_of_line l.fn.candidates.lines
+    → ∥ IsPoolOfList p l.pairs (cuts_of (g.S.Separate.history now)) l.candidates.lines ∥₁)

@@ -1,8 +1,9 @@
-use Rattle.std.proofs.Common.{ℕ, List, length}
+use Rattle.std.proofs.Common.{◌≡◌, ℕ, List, ◌++◌, length, map}
 use Rattle.net_core.specs.declared.journal.Entry.{Entry}
 use Rattle.net_core.specs.declared.plan.Caps.{Caps}
 use Rattle.net_core.specs.Cases.{Case}
-use Rattle.separator.specs.Separators.{AreStateAnswers}
+use Rattle.cut_pool.specs.Histories.{cut_of_line}
+use Rattle.separator.specs.Separators.{AreStateAnswers, cuts_answered}
 use Rattle.plan_rounds.specs.inner.Answered.{AreAnswersFrom, AreSorted}
 use Rattle.plan_rounds.proofs.sorting.sorted.Given as goal
 
@@ -13,4 +14,5 @@ decreases-loop-left l = length l.left
 -- those before them are sorted
 abbrev pub invariant-loop-left : goal.invariant-loop-left
 invariant-loop-left l =
-    (p : Case) (caps : Caps) (history : List Entry) → AreStateAnswers p caps history l.fn.answers → (n : ℕ) × AreAnswersFrom p caps history n l.left × AreSorted p caps history n l.answered
+    ((p : Case) (caps : Caps) (history : List Entry) → AreStateAnswers p caps history l.fn.answers → (n : ℕ) × AreAnswersFrom p caps history n l.left × AreSorted p caps history n l.answered)
+    × (map cut_of_line l.answered.found.lines ++ cuts_answered l.left ≡ cuts_answered l.fn.answers)

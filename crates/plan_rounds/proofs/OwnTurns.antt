@@ -1,0 +1,254 @@
+-- a turn of a separator that alone writes its history
+use Rattle.std.proofs.Common.{◌≡◌, ◌≢◌, ℕ, zero, suc, ◌+◌, ◌*◌, ◌<◌, ◌≤◌, ◌⊎◌, inl, inr, ⊎_elim, List, [], ◌∷◌, ◌++◌, All, AllPairs, Contains, Option, None, get_or, length, map, take, unwrap_or, sum_by, zip, refl, sym, ap, subst, ◌∙◌, arith}
+use Rattle.std.proofs.Math.Logic.{∥∥₁_elim}
+use Rattle.std.proofs.Props.{props}
+use Rattle.std.proofs.lemmas.Bool.{cases_eq}
+use Rattle.std.proofs.lemmas.List.{ext_get_or, get_or-map, length-append, length-map}
+use Rattle.std.proofs.lemmas.List.Elements.{All-append, All-contains, All-map, All-nil, All-weaker, Contains-append_cases, Contains-append_left, Contains-append_right, Contains-get_or}
+use Rattle.std.proofs.lemmas.Option.{get_or_from_slice_get, slice_get-get_or, slice_get_within}
+use Rattle.net_core.specs.declared.demand.Demand.{Demand}
+use Rattle.net_core.specs.declared.journal.Entry.{Entry}
+use Rattle.net_core.specs.declared.network.Network.{Network}
+use Rattle.net_core.specs.declared.plan.CutLine.{CutLine}
+use Rattle.net_core.specs.declared.states.States.{States}
+use Rattle.net_core.specs.Cases.{Case, graph_in}
+use Rattle.net_core.specs.Graphs.{Joins}
+use Rattle.module_prices.specs.declared.cheapest.UnitPair.{UnitPair}
+use Rattle.plan_terms.specs.Certificates.{IsCut, IsRight}
+use Rattle.plan_terms.proofs.Distances.{distance_one}
+use Rattle.plan_types.specs.declared.certificate.Spot.{Spot}
+use Rattle.plan_types.specs.declared.certificate.Spot.TheVariants.{Pool, Local}
+use Rattle.cut_pool.specs.Histories.{cut_of_line, cuts_of}
+use Rattle.master_law.specs.MasterPrograms.{IsSameCut}
+use Rattle.master_law.specs.UnitPairs.{AreUnitPairs}
+use Rattle.master_bound.specs.declared.answer.Best.{Best}
+use Rattle.plan_law.specs.WorkedLists.{AreDifferentCuts, IsBeginning}
+use Rattle.plan_law.proofs.Pairs.{pairs_append}
+use Rattle.plan_law.proofs.Rounds.{begun_worked, found_is_new, worked_cuts}
+use Rattle.separator.specs.Separators.{IsCutEntry, IsFullHistory, IsPartOf, IsSeenHistory, IsSeparatingCut, IsSpotIn, SeesMore, SeparatesAt, cuts_since}
+use Rattle.plan_rounds.specs.WorkedRounds.{IsBestAt, IsPoolOf, IsWorkedPool}
+use Rattle.plan_rounds.specs.inner.Alone.{HasSameCuts, IsAlone, IsPoolAfterTurn, IsPoolOfList}
+use Rattle.plan_rounds.specs.inner.Answered.{AreSorted}
+use Rattle.plan_rounds.specs.inner.Listing.{AreListed}
+use Rattle.plan_rounds.specs.inner.Sharing.{IsDividedShare}
+use Rattle.plan_rounds.specs.inner.Turns.{AddsFirst, Judges}
+use Rattle.plan_rounds.specs.declared.candidates.Candidates.{Candidates}
+use Rattle.plan_rounds.specs.declared.rounds.Turn.{Turn}
+use Rattle.plan_rounds.specs.declared.rounds.Turn.TheVariants.{Further, Last}
+use Rattle.plan_rounds.specs.declared.shares.ShareCaps.{ShareCaps}
+use Rattle.plan_rounds.specs.declared.sorting.Answered.{Answered}
+use Rattle.plan_rounds.proofs.OwnPool.{IsRoundOfPool, all_cuts, alone_since, few_within, pool_round}
+use Rattle.plan_rounds.proofs.Turning.{found_of}
+
+-- there is one right side
+right_once : (joins : ℕ → ℕ → ℕ → Type 0) (lengths : List ℕ) (demands : List Demand) (a b : ℕ) → IsRight joins lengths demands a → IsRight joins lengths demands b → a ≡ b
+right_once joins lengths demands a b first second =
+    first.sum ∙ (ap (λ far. sum_by (λ (p : Demand × Option ℕ). p.0.need * unwrap_or p.1 0) (zip demands far)) same ∙ sym second.sum)
+  where
+    no_demand : Demand
+    no_demand = record { name = []; from = record { 0 = 0 }; to = record { 0 = 0 }; need = 0 }
+
+    same : first.far ≡ second.far
+    same = ext_get_or None first.far second.far (first.count ∙ sym second.count) (λ k lt.
+        let at = slice_get-get_or demands k no_demand (subst (λ n. k < n) first.count lt) in
+        let d = get_or demands k no_demand in
+        distance_one joins lengths d.from.0 d.to.0 _ _ (first.each k d at) (second.each k d at))
+
+-- and so one line for a state and lengths
+line_once : (p : Case) (a b : CutLine) → IsCut p a → IsCut p b → cut_of_line a ≡ cut_of_line b → a ≡ b
+line_once p a b first second same =
+    let state : a.state.0 ≡ b.state.0 = ap (λ x. x.0) same in
+    let lengths : a.lengths ≡ b.lengths = ap (λ x. x.1) same in
+    let other : IsRight (Joins (graph_in p b.state.0)) b.lengths p.demands a.right =
+    subst (λ s. IsRight (Joins (graph_in p s)) b.lengths p.demands a.right) state (subst (λ ls. IsRight (Joins (graph_in p a.state.0)) ls p.demands a.right) lengths first.right) in
+    let right = right_once (Joins (graph_in p b.state.0)) b.lengths p.demands a.right b.right other second.right in
+    ap (λ s. record { state = record { 0 = s }; lengths = a.lengths; right = a.right }) state
+    ∙ (ap (λ ls. record { state = b.state; lengths = ls; right = a.right }) lengths
+    ∙ ap (λ r. record { state = b.state; lengths = b.lengths; right = r }) right)
+
+no_line : CutLine
+no_line = record { state = record { 0 = 0 }; lengths = []; right = 0 }
+
+-- the line of a cut that is among those of lines
+line_of_cut : (lines : List CutLine) (cut : ℕ × List ℕ) → Contains (map cut_of_line lines) cut → (line : CutLine) × Contains lines line × (cut_of_line line ≡ cut)
+line_of_cut lines cut at =
+    let inside : at.0 < length lines = subst (λ n. at.0 < n) (length-map lines cut_of_line) at.1 in
+    let line : CutLine = get_or lines at.0 (record { state = record { 0 = 0 }; lengths = []; right = 0 }) in
+    (line, Contains-get_or lines at.0 (record { state = record { 0 = 0 }; lengths = []; right = 0 }) inside, sym (get_or-map cut_of_line lines at.0 (record { state = record { 0 = 0 }; lengths = []; right = 0 }) cut inside) ∙ at.2)
+
+cut_among : (lines : List CutLine) (line : CutLine) → Contains lines line → Contains (map cut_of_line lines) (cut_of_line line)
+cut_among lines line at = (at.0, subst (λ n. at.0 < n) (sym (length-map lines cut_of_line)) at.1, get_or-map cut_of_line lines at.0 line (cut_of_line line) at.1 ∙ ap cut_of_line at.2)
+
+-- different cuts have different states and lengths
+pairs_differ : (lines : List CutLine) → AreDifferentCuts lines → AllPairs (λ a b. a ≢ b) (map cut_of_line lines)
+pairs_differ lines different i j d ij lj same =
+    let none : CutLine = record { state = record { 0 = d.0 }; lengths = d.1; right = 0 } in
+    let inside : j < length lines = subst (λ n. j < n) (length-map lines cut_of_line) lj in
+    let at : (k : ℕ) → k < length lines → get_or (map cut_of_line lines) k d ≡ cut_of_line (get_or lines k none) = λ k lt. get_or-map cut_of_line lines k none d lt in
+    let pair : cut_of_line (get_or lines i none) ≡ cut_of_line (get_or lines j none) = sym (at i (omega (arith, ij, inside))) ∙ (same ∙ at j inside) in
+    let state : (get_or lines i none).state.0 ≡ (get_or lines j none).state.0 = ap (λ x. x.0) pair in
+    different i j none ij inside (ap (λ n. record { 0 = n }) state, ap (λ x. x.1) pair)
+
+take_whole : {X : Type 0} (n : ℕ) (xs : List X) → length xs ≤ n → take n xs ≡ xs
+take_whole zero [] le = refl
+take_whole (suc n) [] le = refl
+take_whole zero (x ∷ xs) le = absurd (omega (arith, le))
+take_whole (suc n) (x ∷ xs) le = ap (λ ys. x ∷ ys) (take_whole n xs (omega (arith, le)))
+
+module _ (p : Case) (pairs : List UnitPair) (units : AreUnitPairs p.links pairs) (net : Network) (states : States) (h o h1 o1 : List Entry) (part : IsPartOf o h) (more : SeesMore h o h1 o1) (seen : IsSeenHistory net states h1 o1) (alone : IsAlone h1 o1)
+    (best : Best) (c : ShareCaps) (a : Answered) (old : Candidates) (answered : List (ℕ × List ℕ)) (n : ℕ) (at : IsBestAt p pairs old.lines best) (is : IsDividedShare p.links pairs best.share c)
+    (separates : All (SeparatesAt p c.divided) (cuts_since o o1)) (apart : AllPairs (λ x y. x.0 ≢ y.0) (cuts_since o o1)) (inside : All (Contains answered) (cuts_since o o1)) (found_is : map cut_of_line a.found.lines ≡ answered)
+    (sorted : AreSorted p c.divided h1 n a) (listed : AreListed p h old) (pool : IsPoolOfList p pairs (cuts_of h) old.lines) where
+  abbrev cs : List (ℕ × List ℕ)
+  cs = cuts_since o o1
+
+  since : cuts_of h1 ≡ cuts_of h ++ cuts_since o o1
+  since = alone_since h o h1 o1 part more alone
+
+  round : IsRoundOfPool p pairs pool.made (cuts_of h) (cuts_since o o1)
+  round = pool_round p pairs c.divided (cuts_of h) old.lines best.share (cuts_since o o1) pool at.least (λ line cut. found_of p pairs best.share c line is cut) separates apart (subst (λ xs. length xs ≤ 4096) since seen.few_cuts)
+
+  worked : IsWorkedPool p h1
+  worked = record { pairs = pairs; rounds = round.rounds; lines = round.made; list = round.list; pooled = round.pooled ∙ sym since }
+
+  made_cuts : All (IsCut p) round.made
+  made_cuts = worked_cuts p pairs [] round.rounds round.made (All-nil (IsCut p)) round.list
+
+  found_cuts : All (IsCut p) a.found.lines
+  found_cuts = All-weaker (IsSeparatingCut p c.divided) (IsCut p) (λ line cut. cut.cut) a.found.lines sorted.cuts
+
+  both_differ : AreDifferentCuts (old.lines ++ a.found.lines)
+  both_differ = pairs_append (λ x y. IsSameCut x y → ⊥) old.lines a.found.lines listed.different
+      (λ i j d ij lj same. sorted.states i j d ij lj same.0)
+      (λ i j d li lj same. found_is_new p pairs units old.lines best.share (get_or a.found.lines j d) (get_or old.lines i d) at.least (found_of p pairs best.share c (get_or a.found.lines j d) is (sorted.cuts j d lj)) (Contains-get_or old.lines i d li) (listed.cuts i d li) same)
+
+  module _ (room : length (cuts_of h1) ≢ 4096) (same : HasSameCuts old.lines pool.made) where
+    open_history : IsFullHistory h1 → ⊥
+    open_history full = ⊎_elim room (λ entries. let count = all_cuts h1 alone.pooled in let few = seen.few_cuts in omega (arith, entries, count, few)) full
+
+    stands : (cut : ℕ × List ℕ) (spot : Spot) → IsSpotIn h1 cut spot → Contains (cuts_of h1) cut
+    stands cut (Pool i) here = (i, slice_get_within (cuts_of h1) i cut here, get_or_from_slice_get (cuts_of h1) i cut cut here)
+    stands cut Local here = absurd (open_history here.0)
+
+    found_stands : All (λ line. Contains (cuts_of h1) (cut_of_line line)) a.found.lines
+    found_stands k d lt =
+        let count = sorted.spots.count in
+        let spot : Spot = get_or a.found.spots k Local in
+        stands (cut_of_line (get_or a.found.lines k d)) spot (sorted.spots.each k (get_or a.found.lines k d) spot (slice_get-get_or a.found.lines k d lt) (slice_get-get_or a.found.spots k Local (omega (arith, lt, count))))
+
+    of_made : (line : CutLine) → IsCut p line → Contains (cuts_of h1) (cut_of_line line) → Contains round.made line
+    of_made line cut here =
+        let found = line_of_cut round.made (cut_of_line line) (subst (λ xs. Contains xs (cut_of_line line)) (since ∙ sym round.pooled) here) in
+        subst (Contains round.made) (line_once p found.0 line (All-contains (IsCut p) round.made found.0 made_cuts found.1) cut found.2) found.1
+
+    old_stands : All (λ line. Contains (cuts_of h1) (cut_of_line line)) old.lines
+    old_stands k d lt =
+        let line : CutLine = get_or old.lines k d in
+        let held : Contains round.made line = subst (λ xs. Contains xs line) (sym round.behind) (Contains-append_left pool.made round.found line (same.to line (Contains-get_or old.lines k d lt))) in
+        subst (λ xs. Contains xs (cut_of_line line)) (round.pooled ∙ sym since) (cut_among round.made line held)
+
+    few_both : length old.lines + length a.found.lines ≤ length (cuts_of h1)
+    few_both =
+        let most = few_within (map cut_of_line (old.lines ++ a.found.lines)) (cuts_of h1) (pairs_differ (old.lines ++ a.found.lines) both_differ)
+        (All-map (Contains (cuts_of h1)) cut_of_line (old.lines ++ a.found.lines) (All-append (λ line. Contains (cuts_of h1) (cut_of_line line)) old.lines a.found.lines old_stands found_stands)) in
+        omega (arith, most, length-map (old.lines ++ a.found.lines) cut_of_line, length-append old.lines a.found.lines)
+
+    few_since : length (cuts_since o o1) ≤ length a.found.lines
+    few_since =
+        let most = few_within (cuts_since o o1) answered (λ i j d ij lj e. apart i j d ij lj (ap (λ x. x.0) e)) inside in
+        let long = ap length found_is in
+        omega (arith, most, long, length-map a.found.lines cut_of_line)
+
+    all_found : (room_left : ℕ) → length old.lines + room_left ≡ 4096 → take room_left a.found.lines ≡ a.found.lines
+    all_found room_left full = take_whole room_left a.found.lines (let few = few_both in let limit = seen.few_cuts in omega (arith, few, limit, full))
+
+    same_after : HasSameCuts (old.lines ++ a.found.lines) round.made
+    same_after = record {
+      count =
+          let one = few_both in
+          let two = few_since in
+          let all = ap length since in
+          let behind = ap length round.behind in
+          let are = ap length round.are in
+          let before = ap length pool.pooled in
+          let count = same.count in
+          omega (arith, one, two, all, behind, are, before, count, length-append old.lines a.found.lines, length-append (cuts_of h) (cuts_since o o1), length-append pool.made round.found, length-map round.found cut_of_line, length-map pool.made cut_of_line);
+      to = λ line here. ⊎_elim
+          (λ first. subst (λ xs. Contains xs line) (sym round.behind) (Contains-append_left pool.made round.found line (same.to line first)))
+          (λ second. of_made line (All-contains (IsCut p) a.found.lines line found_cuts second) (All-contains (λ x. Contains (cuts_of h1) (cut_of_line x)) a.found.lines line found_stands second))
+          (Contains-append_cases old.lines a.found.lines line here);
+      back = λ line here. ⊎_elim
+          (λ first. Contains-append_left old.lines a.found.lines line (same.back line first))
+          (λ second.
+          let of : Contains (cuts_since o o1) (cut_of_line line) = subst (λ xs. Contains xs (cut_of_line line)) round.are (cut_among round.found line second) in
+          let told : Contains (map cut_of_line a.found.lines) (cut_of_line line) = subst (λ xs. Contains xs (cut_of_line line)) (sym found_is) (All-contains (Contains answered) (cuts_since o o1) (cut_of_line line) inside of) in
+          let found = line_of_cut a.found.lines (cut_of_line line) told in
+          let once = line_once p found.0 line (All-contains (IsCut p) a.found.lines found.0 found_cuts found.1) (All-contains (IsCut p) round.found line round.are_cuts second) found.2 in
+          Contains-append_right old.lines a.found.lines line (subst (Contains a.found.lines) once found.1))
+          (Contains-append_cases pool.made round.found line (subst (λ xs. Contains xs line) round.behind here));
+    }
+
+  same_or_full : (room : ℕ) (new : Candidates) → length old.lines + room ≡ 4096 → AddsFirst room a.found old new → HasSameCuts new.lines round.made ⊎ (length (cuts_of h1) ≡ 4096)
+  same_or_full room new full adds = ⊎_elim
+      (λ (is_full : length (cuts_of h1) ≡ 4096). inr is_full)
+      (λ (left : length (cuts_of h1) ≢ 4096). ⊎_elim
+      (λ (same : HasSameCuts old.lines pool.made).
+      inl (subst (λ ls. HasSameCuts ls round.made) (sym (adds.lines ∙ ap (λ ls. old.lines ++ ls) (all_found left same room full))) (same_after left same)))
+      (λ (before : length (cuts_of h) ≡ 4096).
+      absurd (left (let all = ap length since in let few = seen.few_cuts in omega (arith, all, few, before, length-append (cuts_of h) (cuts_since o o1)))))
+      pool.same)
+      (cases_eq (length (cuts_of h1)) 4096)
+
+  pub judged_pool : (room : ℕ) (new : Candidates) (turn : Turn) → length old.lines + room ≡ 4096 → Judges p room c.whole a best old new turn → IsPoolAfterTurn p pairs h1 new.lines turn
+  judged_pool room new turn full judges = ⊎_elim
+      (λ end. subst (IsPoolAfterTurn p pairs h1 new.lines) (sym end.3) ∣ worked ∣₁)
+      (⊎_elim
+      (λ further. subst (IsPoolAfterTurn p pairs h1 new.lines) (sym further.3) ∣ record {
+        rounds = round.rounds;
+        made = round.made;
+        list = round.list;
+        pooled = round.pooled ∙ sym since;
+        same = same_or_full room new full further.2;
+      } ∣₁)
+      (λ end. subst (IsPoolAfterTurn p pairs h1 new.lines) (sym end.1.1) ∣ worked ∣₁))
+      judges
+
+-- what is told of a turn's pool, known once
+pub after_told : (p : Case) (pairs : List UnitPair) (h : List Entry) (lines : List CutLine) (turn : Turn) → ∥ IsPoolAfterTurn p pairs h lines turn ∥₁ → IsPoolAfterTurn p pairs h lines turn
+after_told p pairs h lines (Further best) told = ∥∥₁_elim told (hlevel props) (λ x. x)
+after_told p pairs h lines (Last best quality) told = ∥∥₁_elim told (hlevel props) (λ x. x)
+
+-- ---- the whole of the rounds
+
+-- what a worked list begins with is pooled, where the list's cuts are
+pub pool_begins : (p : Case) (pairs : List UnitPair) (h : List Entry) (lines : List CutLine) → AreUnitPairs p.links pairs → IsBeginning p [] lines → length lines ≤ 4096 → cuts_of h ≡ map cut_of_line lines → IsPoolOfList p pairs (cuts_of h) lines
+pool_begins p pairs h lines units begins few same = record {
+  rounds = [];
+  made = lines;
+  list = begun_worked p pairs units [] lines begins few;
+  pooled = sym same;
+  same = inl (record { count = refl; to = λ c here. here; back = λ c here. here });
+}
+
+pub pool_worked : (p : Case) (pairs : List UnitPair) (h : List Entry) (lines : List CutLine) → IsPoolOfList p pairs (cuts_of h) lines → IsWorkedPool p h
+pool_worked p pairs h lines pool = record { pairs = pairs; rounds = pool.rounds; lines = pool.made; list = pool.list; pooled = pool.pooled }
+
+-- a separator whose history was empty, and is its own, is alone
+pub alone_from_none : (o h1 o1 : List Entry) → IsPartOf o [] → SeesMore [] o h1 o1 → h1 ≡ o1 → IsAlone h1 o1
+alone_from_none [] h1 o1 part more same = record { same = same; pooled = subst (All IsCutEntry) (sym (same ∙ more.own_is)) more.pooled }
+alone_from_none (e ∷ es) h1 o1 part more same = absurd part
+
+-- no cuts are pooled before the first entry
+pub pool_none : (p : Case) (pool : List CutLine) → IsPoolOf p [] pool → pool ≡ []
+pool_none p pool is = empty pool (ap length (is.pooled ∙ ap cuts_of (none is.position)))
+  where
+    nothing : List Entry
+    nothing = []
+
+    none : (n : ℕ) → take n [] ≡ nothing
+    none zero = refl
+    none (suc n) = refl
+
+    empty : (pool : List CutLine) → length (map cut_of_line pool) ≡ 0 → pool ≡ []
+    empty [] e = refl
+    empty (l ∷ ls) e = absurd (omega (arith, e))

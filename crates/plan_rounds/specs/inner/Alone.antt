@@ -1,0 +1,54 @@
+-- a history that a separator writes alone
+use Rattle.std.specs.Prelude.{◌≡◌, ℕ, ◌+◌, ◌≤◌, ◌⊎◌, List, [], All, Contains, length, map}
+use Rattle.net_core.specs.declared.journal.Entry.{Entry}
+use Rattle.net_core.specs.declared.plan.CutLine.{CutLine}
+use Rattle.net_core.specs.Cases.{Case}
+use Rattle.module_prices.specs.declared.cheapest.UnitPair.{UnitPair}
+use Rattle.cut_pool.specs.Histories.{cut_of_line, cuts_of}
+use Rattle.plan_law.specs.WorkedLists.{IsBeginning, IsWorkedList, Round}
+use Rattle.separator.specs.Separators.{IsCutEntry}
+use Rattle.plan_rounds.specs.WorkedRounds.{IsWorkedPool}
+use Rattle.plan_rounds.specs.declared.rounds.Turn.{Turn}
+use Rattle.plan_rounds.specs.declared.rounds.Turn.TheVariants.{Further, Last}
+
+-- all entries are the separator's own, and pool cuts
+pub record IsAlone (history own : List Entry) : Type 0 where
+  pub same : history ≡ own
+  pub pooled : All IsCutEntry history
+
+-- the list has grown by opening cuts; a separator that is alone has pooled them
+pub record PoolsOpening (h h_now own_now : List Entry) (lines lines_now : List CutLine) : Type 0 where
+  pub grows : length lines ≤ length lines_now
+  pub pools : IsAlone h_now own_now → length lines_now ≤ 4000 → cuts_of h ≡ map cut_of_line lines → cuts_of h_now ≡ map cut_of_line lines_now
+
+-- each cut of the one list is one of the other
+abbrev pub Within : List CutLine → List CutLine → Type 0
+Within xs ys = (c : CutLine) → Contains xs c → Contains ys c
+
+-- as many cuts, and the same
+pub record HasSameCuts (lines made : List CutLine) : Type 0 where
+  pub count : length lines ≡ length made
+  pub to : Within lines made
+  pub back : Within made lines
+
+-- A worked list of no snapshot, whose cuts are those of a pool; it has the cuts of the given list, or the pool is full.
+pub record IsPoolOfList (p : Case) (pairs : List UnitPair) (pool : List (ℕ × List ℕ)) (lines : List CutLine) : Type 0 where
+  pub rounds : List Round
+  pub made : List CutLine
+  pub list : IsWorkedList p pairs [] rounds made
+  pub pooled : map cut_of_line made ≡ pool
+  pub same : HasSameCuts lines made ⊎ (length pool ≡ 4096)
+
+-- what is pooled of a list after a turn
+abbrev pub IsPoolAfterTurn : Case → List UnitPair → List Entry → List CutLine → Turn → Type 0
+IsPoolAfterTurn p pairs h lines (Further best) = ∥ IsPoolOfList p pairs (cuts_of h) lines ∥₁
+IsPoolAfterTurn p pairs h lines (Last best quality) = ∥ IsWorkedPool p h ∥₁
+
+-- and what a separator that is alone makes of it
+abbrev pub PoolsTurn : Case → List UnitPair → ℕ → (h h_now own_now : List Entry) → (lines lines_now : List CutLine) → Turn → Type 0
+PoolsTurn p pairs room h h_now own_now lines lines_now turn =
+    IsAlone h_now own_now → length lines + room ≡ 4096 → ∥ IsPoolOfList p pairs (cuts_of h) lines ∥₁ → IsPoolAfterTurn p pairs h_now lines_now turn
+
+-- and what of all turns behind what the list begins with
+abbrev pub PoolsRounds : Case → ℕ → (h h_now own_now : List Entry) → List CutLine → Type 0
+PoolsRounds p most h h_now own_now lines = IsAlone h_now own_now → most ≡ 4096 → IsBeginning p [] lines → cuts_of h ≡ map cut_of_line lines → ∥ IsWorkedPool p h_now ∥₁
