@@ -91,7 +91,7 @@ divides_rest n c x y dx dy =
     subst (λ t. n ∣ t) e (dvd-sub n dx (dvd-mul_left_of_dvd n dy (x / y)))
 
 -- lowest terms are no greater
-lowest_small : (a b c d : ℕ) → 0 < b → IsLowest a b c d → (c ≤ a) × (d ≤ b)
+pub lowest_small : (a b c d : ℕ) → 0 < b → IsLowest a b c d → (c ≤ a) × (d ≤ b)
 lowest_small a b c d some low =
     let turned : c * b ≡ b * c = omega arith in
     let s = shared (λ x. d ∣ b * x) (divides_rest d b) (suc d) c d (omega arith) (subst (λ x. d ∣ x) (low.same ∙ turned) (dvd-mul_left d a)) (dvd-mul_left d b) in
@@ -117,7 +117,7 @@ raw_some num rest den raw raw_den positive low some =
 
 -- ---- certificates
 
-spot_in_form : (entries : List Entry) (cut : ℕ × List ℕ) (spot : Spot) → length (cuts_of entries) ≤ 4096 → StandsAt entries cut spot → IsSpotInForm spot
+pub spot_in_form : (entries : List Entry) (cut : ℕ × List ℕ) (spot : Spot) → length (cuts_of entries) ≤ 4096 → StandsAt entries cut spot → IsSpotInForm spot
 spot_in_form entries cut (Pool i) few at = let within = slice_get_within (cuts_of entries) i cut at in omega (arith, few, within)
 spot_in_form entries cut Local few at = tt
 

@@ -41,7 +41,7 @@ module _ (g : Graph) where
   path_some a b ne [] (c ∷ cs) leads last = absurd leads
   path_some a b ne (e ∷ es) cs leads last = omega arith
 
-  path_in_form : (a b : ℕ) → a ≢ b → (es : List LinkId) → IsPath (Joins g) a b es → IsPathInForm g.links es
+  pub path_in_form : (a b : ℕ) → a ≢ b → (es : List LinkId) → IsPath (Joins g) a b es → IsPathInForm g.links es
   path_in_form a b ne es path = record {
     some = path_some a b ne es path.0 path.1 path.2;
     known = leads_known a es path.0 path.1;
@@ -65,7 +65,7 @@ few_flows n (f ∷ fs) up all =
     omega (arith, last, below)
 
 module _ (g : Graph) (demands : List Demand) (belong : AreDemands (length g.nodes) demands) where
-  of_list : (k : ℕ) (d : Demand) → slice_get demands k ≡ Some d → IsDemand (length g.nodes) d
+  pub of_list : (k : ℕ) (d : Demand) → slice_get demands k ≡ Some d → IsDemand (length g.nodes) d
   of_list k d at = subst (IsDemand (length g.nodes)) (get_or_from_slice_get demands k d d at) (belong.each k d (slice_get_within demands k d at))
 
   flow_in_form : (lengths : List ℕ) (f : Flow) → IsLeastFlow (Joins g) lengths demands f → IsFlowInForm g.links demands f

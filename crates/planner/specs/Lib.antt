@@ -1,3 +1,4 @@
 pub mod Answers
+pub mod SnapshotPlans
 pub mod SoundPlans
 pub mod inner

@@ -1,2 +1,3 @@
 -- what only private functions and proofs cite
 pub mod Candidates
+pub mod Finishing

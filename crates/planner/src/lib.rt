@@ -2,14 +2,19 @@
 //! what such counts cost.
 #![tactic(auto)]
 
+mod better;
 mod candidates;
 mod certified;
+mod chosen;
+mod made;
 pub mod on_board;
+mod on_snapshot;
 mod openings;
 pub mod ranges;
 mod sound;
 
 pub use on_board::{PlanAnswer, plan_board};
+pub use on_snapshot::plan_snapshot;
 
 #[cfg(test)]
 mod tests;

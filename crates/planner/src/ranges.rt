@@ -1,8 +1,20 @@
 ghost use Rattle.std.specs.Prelude.{◌<◌, ◌^◌, All};
+ghost use Rattle.planner.specs.inner.Finishing.{HasShortLengths};
+
+use net_core::CutLine;
 
 /// Lengths are below 2^32 by their type.
 pub fn are_short(lengths: &[u32])
     ensures { All (λ x. x < 2 ^ 32) lengths.now }
 {
     let _ = lengths;
+}
+
+/// So are those of cuts.
+pub fn are_short_cuts(cuts: &[CutLine])
+    ensures { All HasShortLengths cuts.now }
+{
+    for cut in cuts {
+        are_short(cut.lengths.items());
+    }
 }

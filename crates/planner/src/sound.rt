@@ -17,7 +17,7 @@ pub struct Standing {
 }
 
 /// A name has at most 255 bytes by its type.
-fn are_named(demands: &[Demand])
+pub fn are_named(demands: &[Demand])
     ensures { All (λ d. length d.name ≤ 255) demands.now }
 {
     for d in demands {

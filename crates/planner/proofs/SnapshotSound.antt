@@ -1,0 +1,169 @@
+-- a plan of a snapshot is sound
+use Rattle.std.proofs.Common.{◌≡◌, ℕ, ◌+◌, ◌^◌, ◌<◌, ◌≤◌, List, All, Option, Some, None, get_or, length, slice_get, refl, sym, ap, subst, arith}
+use Rattle.std.proofs.lemmas.Option.{slice_get-get_or}
+use Rattle.net_core.specs.declared.journal.Entry.{Entry}
+use Rattle.net_core.specs.declared.plan.Routing.{Routing}
+use Rattle.net_core.specs.Cases.{Case, graph_in}
+use Rattle.net_core.specs.Demands.{AreDemands}
+use Rattle.net_core.specs.Graphs.{Joins}
+use Rattle.net_core.specs.Network.{IsNetwork}
+use Rattle.plan_terms.specs.Capacities.{AreCounts, AreWithinLimits, capacities, total_cost}
+use Rattle.plan_terms.specs.Certificates.{IsCut, raw_value}
+use Rattle.plan_terms.specs.Fallbacks.{IsFallback, raised}
+use Rattle.plan_terms.specs.Flows.{Carries}
+use Rattle.plan_terms.proofs.Bounds.{lowest_positive}
+use Rattle.plan_terms.proofs.Duality.{weak_duality}
+use Rattle.plan_types.specs.Plans.{lines_of_certificate}
+use Rattle.plan_types.specs.declared.plan.Plan.{Plan}
+use Rattle.plan_types.specs.declared.quality.Quality.{Quality}
+use Rattle.plan_report.specs.Forms.{IsPlanInForm, IsQualityInForm, IsRoutingInForm}
+use Rattle.route_law.specs.Routings.{IsLowestRouting}
+use Rattle.cut_pool.specs.Histories.{cuts_of}
+use Rattle.cut_pool.specs.declared.snapshot.Snapshot.{Snapshot}
+use Rattle.module_choice.specs.declared.fallback.Fallback.{Fallback}
+use Rattle.master_bound.specs.declared.answer.Best.{Best}
+use Rattle.plan_law.specs.LoosePlans.{HasQuality}
+use Rattle.plan_rounds.specs.WorkedRounds.{AreWorkedRounds, EndsBy, IsBestOfLast}
+use Rattle.plan_rounds.specs.declared.rounds.Worked.{Worked}
+use Rattle.share_covers.specs.InstalledRoutes.{installed_caps}
+use Rattle.share_covers.specs.declared.choice.Chosen.{Chosen}
+use Rattle.planner.specs.SnapshotPlans.{IsSnapshotPlan}
+use Rattle.planner.specs.declared.certified.CertifiedBound.{CertifiedBound}
+use Rattle.planner.specs.inner.Candidates.{IsCertifiedBound}
+use Rattle.planner.specs.inner.Finishing.{HasShortLengths, IsBetterBound, IsChosenFor, IsGreaterBound, plan_made}
+use Rattle.planner.proofs.Carrying.{able}
+use Rattle.planner.proofs.GreaterBounds.{best_multipliers}
+use Rattle.planner.proofs.InForm.{cost_low, demands_in_form, lowest_whole, routing_in_form}
+use Rattle.planner.proofs.QualityForms.{routed_form}
+use Rattle.planner.proofs.SnapshotBounds.{above_own, bound_certified, candidates_are, certificate_cuts, certificate_spots, has_best, lines_are, lines_held, raw_at, raw_more}
+use Rattle.planner.proofs.SnapshotQuality.{form_none, form_some, quality_none, quality_some}
+
+-- ---- the counts
+
+-- counts with a routing for each state, at no more than the fallback plan's cost
+record AreChosenCounts (p : Case) (fallback : Fallback) (chosen : Chosen) : Type 0 where
+  pub shape : AreCounts p.links chosen.counts
+  pub limits : AreWithinLimits p.links chosen.counts
+  pub states : length chosen.routings ≡ length p.listed + 1
+  pub carries : (s : ℕ) (r : Routing) → slice_get chosen.routings s ≡ Some r → Carries (Joins (graph_in p s)) p.demands 1 (capacities p.links chosen.counts) r
+  pub forms : All (IsRoutingInForm p.links p.demands) chosen.routings
+  pub lowest : All IsLowestRouting chosen.routings
+  pub paid : chosen.cost ≡ total_cost p.links chosen.counts
+  pub at_most : chosen.cost ≤ fallback.cost
+
+module _ (p : Case) (net : IsNetwork p.nodes p.links) (belong : AreDemands (length p.nodes) p.demands) (fallback : Fallback)
+    (is_fallback : IsFallback p fallback.counts fallback.routings fallback.cost) (limits : AreWithinLimits p.links fallback.counts) where
+  fallback_counts : (q : Quality) → AreChosenCounts p fallback (record { counts = fallback.counts; routings = fallback.routings; cost = fallback.cost; quality = q })
+  fallback_counts q = record {
+    shape = is_fallback.shape;
+    limits = limits;
+    states = is_fallback.states;
+    carries = is_fallback.carries;
+    forms = λ s d lt. routing_in_form (graph_in p s) p.demands belong (raised is_fallback.prices) (get_or fallback.routings s d) (is_fallback.routed s (get_or fallback.routings s d) (slice_get-get_or fallback.routings s d lt));
+    lowest = λ s d lt. lowest_whole (get_or fallback.routings s d) (is_fallback.routed s (get_or fallback.routings s d) (slice_get-get_or fallback.routings s d lt)).whole;
+    paid = is_fallback.paid;
+    at_most = omega arith;
+  }
+
+  chosen_counts : (o : Option Best) (q : Quality) (chosen : Chosen) → IsChosenFor p o fallback q chosen → AreChosenCounts p fallback chosen
+  chosen_counts None q chosen same = subst (AreChosenCounts p fallback) (sym same) (fallback_counts q)
+  chosen_counts (Some best) q chosen is = record {
+    shape = is.shape;
+    limits = is.limits;
+    states = is.routed.states;
+    carries = λ s r at. (is.routed.each s r at).carries;
+    forms = λ s d lt. routed_form (graph_in p s) p.demands belong net.few_links (installed_caps p.links chosen.counts) (get_or chosen.routings s d) (is.routed.each s (get_or chosen.routings s d) (slice_get-get_or chosen.routings s d lt));
+    lowest = λ s d lt. (is.routed.each s (get_or chosen.routings s d) (slice_get-get_or chosen.routings s d lt)).lowest;
+    paid = is.paid;
+    at_most = is.at_most;
+  }
+
+  fallback_low : fallback.cost < 2 ^ 126
+  fallback_low = let paid = is_fallback.paid in omega (arith, paid, cost_low p.nodes p.links fallback.counts net limits.few)
+
+  -- ---- the whole
+
+  module _ (snapshot : Snapshot) (history : List Entry) (w : Worked) (b : CertifiedBound) (chosen : Chosen)
+      (are : AreWorkedRounds p history snapshot.cuts w) (known : All (IsCut p) snapshot.cuts) (few : length (cuts_of history) ≤ 4096) (short : All HasShortLengths w.lines)
+      (better : IsBetterBound p.links (record { lines = w.lines; spots = w.spots }) w.best b) (is : IsChosenFor p w.best fallback w.quality chosen) where
+    abbrev whole : Plan
+    whole = plan_made (record { version = snapshot.version; position = snapshot.position }) p.demands chosen b
+
+    abbrev EndsAs : Option Best → Type 0
+    EndsAs o = EndsBy p are.pairs w.lines (length w.lines ≡ length snapshot.cuts + 4096) (IsBestOfLast p are.pairs are.list.start are.rounds) o w.quality
+
+    certified : IsCertifiedBound p history b
+    certified = bound_certified p net history snapshot.cuts w are known few short b better
+
+    quality_by : (o : Option Best) → w.best ≡ o → EndsAs o → IsChosenFor p o fallback w.quality chosen → IsGreaterBound p.links (record { lines = w.lines; spots = w.spots }) better.own o b
+        → HasQuality p are.pairs snapshot.cuts whole are.rounds w.lines chosen.quality
+    quality_by None same ends made greater = quality_none p are.pairs snapshot.cuts w.lines are.rounds are.list whole w.quality chosen.quality ends (ap (λ (x : Chosen). x.quality) made)
+    quality_by (Some best) same ends made greater =
+        let h = has_best p net history snapshot.cuts w are known few best same in
+        quality_some p are.pairs snapshot.cuts w.lines are.rounds are.list best chosen whole refl
+        (raw_at p net history snapshot.cuts w are known few short b better best greater)
+        (best_multipliers p history (record { lines = w.lines; spots = w.spots }) (candidates_are p net history snapshot.cuts w are known few) h.cuts h.more h.behind best h.of).positive
+        (raw_more p net history snapshot.cuts w are known few short b better best greater)
+        w.quality chosen.quality ends made.quality
+
+    form_by : (o : Option Best) → EndsAs o → IsChosenFor p o fallback w.quality chosen → IsQualityInForm p.links p.listed p.demands chosen.quality
+    form_by None ends made = form_none p are.pairs snapshot.cuts w.lines are.rounds are.list net belong (lines_are p net history snapshot.cuts w are known few) short w.quality chosen.quality ends (ap (λ (x : Chosen). x.quality) made)
+    form_by (Some best) ends made = form_some p are.pairs snapshot.cuts w.lines are.rounds are.list net belong (lines_are p net history snapshot.cuts w are known few) short best chosen.cost w.quality chosen.quality ends made.quality
+
+    bound_low : b.bound < 2 ^ 126
+    bound_low =
+        let made = certified in
+        let le = weak_duality p b.certificate.den (lines_of_certificate b.certificate) b.bound fallback.counts made.certificate made.rounded (able p fallback.counts fallback.routings fallback.cost is_fallback) in
+        let paid = is_fallback.paid in
+        let most = fallback_low in
+        omega (arith, le, paid, most)
+
+    raw_positive : 1 ≤ b.raw.den
+    raw_positive = let made = certified in lowest_positive (raw_value p.links (lines_of_certificate b.certificate)) b.certificate.den b.raw.num b.raw.den made.certificate.positive made.raw
+
+    form : snapshot.version ≤ 65536 → snapshot.position ≤ 65536 → All (λ d. length d.name ≤ 255) p.demands → IsPlanInForm p.nodes p.links p.listed whole
+    form version position named =
+        let counts = chosen_counts w.best w.quality chosen is in
+        let made = certified in
+        record {
+          version = version;
+          position = position;
+          demands = demands_in_form p.nodes p.demands belong named;
+          counts = counts.shape;
+          limits = counts.limits;
+          cost = let le = counts.at_most in let low = fallback_low in omega (arith, le, low);
+          routings = record { long = counts.states; each = counts.forms };
+          certificate = made.form;
+          raw_num = made.raw_num;
+          raw_positive = raw_positive;
+          raw_den = made.raw_den;
+          bound = bound_low;
+          quality = form_by w.best are.ends is;
+        }
+
+    pub plan_sound : snapshot.version ≤ 65536 → snapshot.position ≤ 65536 → All (λ d. length d.name ≤ 255) p.demands → p.demands ≡ snapshot.demands → IsSnapshotPlan p snapshot history (plan_made (record { version = snapshot.version; position = snapshot.position }) p.demands chosen b)
+    plan_sound version position named same =
+        let counts = chosen_counts w.best w.quality chosen is in
+        let made = certified in
+        record {
+          same_version = refl;
+          same_position = refl;
+          same_demands = same;
+          carrying = record { states = counts.states; each = counts.carries };
+          costed = counts.paid;
+          certified = record { certificate = made.certificate; raw = made.raw; rounded = made.rounded };
+          above = above_own p net history snapshot.cuts w are known few short b better;
+          below = record { counts = fallback.counts; routings = fallback.routings; fallback_cost = fallback.cost; fallback = is_fallback; at_most = counts.at_most };
+          form = form version position named;
+          lowest = record { certificate = made.lowest; none = made.none; routings = counts.lowest };
+          spots = certificate_spots p net history snapshot.cuts w are known few short b better;
+          cuts = w.lines;
+          worked = record {
+            pairs = are.pairs;
+            rounds = are.rounds;
+            worked = are.list;
+            certificate = certificate_cuts p net history snapshot.cuts w are known few short b better;
+            quality = quality_by w.best refl are.ends is better.greater;
+          };
+          held = lines_held p net history snapshot.cuts w are known few;
+        }

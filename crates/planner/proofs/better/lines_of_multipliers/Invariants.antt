@@ -1,0 +1,7 @@
+use Rattle.std.proofs.Common.{◌≡◌, map, take}
+use Rattle.planner.specs.inner.Finishing.{line_at}
+use Rattle.planner.proofs.better.lines_of_multipliers.Given as goal
+
+-- the lines of the multipliers so far
+abbrev pub invariant-loop-i : goal.invariant-loop-i
+invariant-loop-i l = l.lines ≡ map (line_at l.candidates) (take l.i l.multipliers)

@@ -1,0 +1,8 @@
+use Rattle.std.proofs.Math.Logic.{∥∥₁_map}
+use Rattle.std.proofs.Common.{IfSome, subst}
+use Rattle.net_core.specs.Views.{case_of}
+use Rattle.planner.specs.inner.Finishing.{IsShareFor}
+use Rattle.planner.proofs.chosen.choose_counts.Goals as goal
+
+pub choose-requires-clause-quality : goal.choose-requires-clause-quality
+choose-requires-clause-quality c = ∥∥₁_map c.requires.best (λ some. (subst (λ o. IfSome o (IsShareFor (case_of c.args.instance.now) c.args.quality)) c.in-Some.is some).of_share)

@@ -1,0 +1,7 @@
+use Rattle.std.proofs.Common.{All, take}
+use Rattle.planner.specs.inner.Finishing.{HasShortLengths}
+use Rattle.planner.proofs.ranges.are_short_cuts.Given as goal
+
+-- the cuts so far
+abbrev pub invariant-loop-cut : goal.invariant-loop-cut
+invariant-loop-cut l = All HasShortLengths (take l.cut-index l.cuts)

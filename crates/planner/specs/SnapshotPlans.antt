@@ -1,0 +1,59 @@
+-- plans of a snapshot, which come of a worked list of its cuts
+use Rattle.std.specs.Prelude.{◌≡◌, ◌≤◌, ◌⊎◌, List, [], All, Contains, length, map, take}
+use Rattle.net_core.specs.declared.journal.Entry.{Entry}
+use Rattle.net_core.specs.declared.plan.CutLine.{CutLine}
+use Rattle.net_core.specs.Cases.{Case}
+use Rattle.plan_terms.specs.Certificates.{IsCut}
+use Rattle.plan_terms.specs.Separations.{IsFirstSeparation}
+use Rattle.plan_types.specs.Plans.{IsCarryingPlan, IsCertifiedPlan, IsCostedPlan}
+use Rattle.plan_types.specs.declared.plan.Plan.{Plan}
+use Rattle.plan_report.specs.Forms.{IsPlanInForm}
+use Rattle.cut_pool.specs.Histories.{cut_of_line, cuts_of}
+use Rattle.cut_pool.specs.declared.snapshot.Snapshot.{Snapshot}
+use Rattle.plan_law.specs.LoosePlans.{IsWorkedPlan}
+use Rattle.plan_rounds.specs.WorkedRounds.{IsWorkedPool}
+use Rattle.separator.specs.Separators.{IsFullHistory, IsSpotIn}
+use Rattle.planner.specs.SoundPlans.{IsAboveOwnBounds, IsBelowFallback, IsLowestPlan}
+use Rattle.planner.specs.declared.on_board.PlanAnswer.{PlanAnswer}
+use Rattle.planner.specs.declared.on_board.PlanAnswer.TheVariants.{Planned, NotSurvivable}
+
+-- a snapshot of the first entries of a history: its cuts are those that they pool, in their order, with right sides at its demands
+pub record IsSnapshotIn (p : Case) (history : List Entry) (snapshot : Snapshot) : Type 0 where
+  pub version : snapshot.version ≤ snapshot.position
+  pub position : snapshot.position ≤ length history
+  pub pooled : map cut_of_line snapshot.cuts ≡ cuts_of (take snapshot.position history)
+  pub cuts : All (IsCut p) snapshot.cuts
+
+-- each of the cuts stands in the history, or that takes no further cut
+abbrev pub AreHeld : List Entry → List CutLine → Type 0
+AreHeld history cuts = All (λ c. Contains (cuts_of history) (cut_of_line c)) cuts ⊎ IsFullHistory history
+
+-- The plan is sound for a snapshot, where this history stands when it is made: it is of the snapshot's version, position and demands; it
+-- carries the demands in each state, its cost and its certificate are right, its bound is at least the own bound of each cut of the snapshot
+-- and of each opening cut, its cost at most that of the fallback plan, and it is in form and in lowest terms. It comes of one worked list of
+-- the snapshot, whose cuts stand in the history, and it is tight, or loose by that list.
+pub record IsSnapshotPlan (p : Case) (snapshot : Snapshot) (history : List Entry) (plan : Plan) : Type 0 where
+  pub same_version : plan.version ≡ snapshot.version
+  pub same_position : plan.position ≡ snapshot.position
+  pub same_demands : plan.demands ≡ snapshot.demands
+  pub carrying : IsCarryingPlan p plan
+  pub costed : IsCostedPlan p plan
+  pub certified : IsCertifiedPlan p plan
+  pub above : IsAboveOwnBounds p (map cut_of_line snapshot.cuts) plan.bound
+  pub below : IsBelowFallback p plan.cost
+  pub form : IsPlanInForm p.nodes p.links p.listed plan
+  pub lowest : IsLowestPlan plan
+  pub spots : All (λ l. IsSpotIn history (cut_of_line l.cut) l.spot) plan.certificate.lines
+  pub cuts : List CutLine
+  pub worked : IsWorkedPlan p snapshot.cuts cuts plan
+  pub held : AreHeld history cuts
+
+-- a sound plan of the snapshot, or the first separation of its demands, for which no entry is looked at or added
+abbrev pub IsSnapshotAnswer : Case → Snapshot → List Entry → List Entry → PlanAnswer → Type 0
+IsSnapshotAnswer p snapshot before after (Planned plan) = ∥ IsSnapshotPlan p snapshot after plan ∥₁
+IsSnapshotAnswer p snapshot before after (NotSurvivable s) = IsFirstSeparation p s.state.0 s.demand × (after ≡ before)
+
+-- where a plan is made over a history that was empty, and that the separator alone has written, the pool is a worked list in its order
+abbrev pub PoolsAlone : Case → (before after own : List Entry) → PlanAnswer → Type 0
+PoolsAlone p before after own (Planned plan) = before ≡ [] → after ≡ own → ∥ IsWorkedPool p after ∥₁
+PoolsAlone p before after own (NotSurvivable s) = Unit {0}

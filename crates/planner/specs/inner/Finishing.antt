@@ -1,0 +1,94 @@
+-- the parts that a plan of a snapshot is put together of: the greater bound, and the counts that are chosen
+use Rattle.std.specs.Prelude.{◌≡◌, ℕ, ◌*◌, ◌^◌, ◌<◌, ◌≤◌, ◌⊎◌, List, Option, None, Some, All, get_or, length, map}
+use Rattle.net_core.specs.declared.demand.Demand.{Demand}
+use Rattle.net_core.specs.declared.network.Link.{Link}
+use Rattle.net_core.specs.declared.plan.CutLine.{CutLine}
+use Rattle.net_core.specs.Cases.{Case}
+use Rattle.plan_terms.specs.Bounds.{IsBound}
+use Rattle.plan_types.specs.declared.certificate.CertLine.{CertLine}
+use Rattle.plan_types.specs.declared.certificate.Spot.TheVariants.{Local}
+use Rattle.plan_types.specs.declared.plan.Plan.{Plan}
+use Rattle.plan_types.specs.declared.quality.Quality.{Quality}
+use Rattle.module_choice.specs.declared.fallback.Fallback.{Fallback}
+use Rattle.master_bound.specs.Answers.{cut_at}
+use Rattle.master_bound.specs.declared.answer.Best.{Best}
+use Rattle.master_bound.specs.declared.answer.Multiplier.{Multiplier}
+use Rattle.share_covers.specs.Choices.{IsChosen, IsQualityOfShare}
+use Rattle.share_covers.specs.declared.choice.Chosen.{Chosen}
+use Rattle.planner.specs.declared.candidates.Candidates.{Candidates}
+use Rattle.planner.specs.declared.certified.CertifiedBound.{CertifiedBound}
+use Rattle.planner.specs.declared.sound.Standing.{Standing}
+use Rattle.planner.specs.inner.Candidates.{IsBestBound}
+
+-- lengths below 2^32
+abbrev pub HasShortLengths : CutLine → Type 0
+HasShortLengths cut = All (λ x. x < 2 ^ 32) cut.lengths
+
+-- ---- the bound
+
+-- the line of a multiplier: the cut at its place, with the spot where that stands
+abbrev pub line_at : Candidates → Multiplier → CertLine
+line_at c m = record { num = m.num; spot = get_or c.spots m.cut Local; cut = cut_at c.lines m.cut }
+
+-- a best certificate with its raw value, and a bound
+abbrev pub bound_made : Candidates → Best → ℕ → CertifiedBound
+bound_made c best bound = record {
+  certificate = record { den = best.den; lines = map (line_at c) best.multipliers };
+  raw = record { num = best.raw_num; den = best.raw_den };
+  bound = bound;
+}
+
+-- its own bound
+pub record IsBoundOfMaster (links : List Link) (c : Candidates) (best : Best) (b : CertifiedBound) : Type 0 where
+  pub bound : ℕ
+  pub is : b ≡ bound_made c best bound
+  pub rounded : IsBound links best.raw_num best.raw_den bound
+
+-- the bound of the best certificate, or that of the best cut alone where its raw value is greater
+abbrev pub IsGreaterBound : List Link → Candidates → CertifiedBound → Option Best → CertifiedBound → Type 0
+IsGreaterBound links c own None b = b ≡ own
+IsGreaterBound links c own (Some best) b =
+    (IsBoundOfMaster links c best b × (own.raw.num * best.raw_den ≤ best.raw_num * own.raw.den))
+    ⊎ ((b ≡ own) × (best.raw_num * own.raw.den < own.raw.num * best.raw_den))
+
+pub record IsBetterBound (links : List Link) (c : Candidates) (best : Option Best) (b : CertifiedBound) : Type 0 where
+  pub own : CertifiedBound
+  pub of_own : IsBestBound links c own
+  pub greater : IsGreaterBound links c own best b
+
+-- a raw value within its limits, and multipliers of cuts that are there
+pub record AreMultipliersOf (c : Candidates) (best : Best) : Type 0 where
+  pub num : best.raw_num < 2 ^ 126
+  pub positive : 0 < best.raw_den
+  pub den : best.raw_den < 2 ^ 72
+  pub listed : All (λ m. m.cut < length c.lines) best.multipliers
+
+-- ---- the counts
+
+-- a share with a number of units for each link, of which a tight quality is
+pub record IsShareFor (p : Case) (quality : Quality) (best : Best) : Type 0 where
+  pub scale : 0 < best.share.scale
+  pub units : length best.share.units ≡ length p.links
+  pub of_share : IsQualityOfShare p best.share quality
+
+-- what is chosen for the share of a best certificate, and the fallback plan where there is none
+abbrev pub IsChosenFor : Case → Option Best → Fallback → Quality → Chosen → Type 0
+IsChosenFor p None fallback quality chosen =
+    chosen ≡ record { counts = fallback.counts; routings = fallback.routings; cost = fallback.cost; quality = quality }
+IsChosenFor p (Some best) fallback quality chosen = IsChosen p best.share fallback quality chosen
+
+-- the plan of counts that were chosen and a certified bound
+abbrev pub plan_made : Standing → List Demand → Chosen → CertifiedBound → Plan
+plan_made at demands chosen b = record {
+  version = at.version;
+  position = at.position;
+  demands = demands;
+  counts = chosen.counts;
+  cost = chosen.cost;
+  routings = chosen.routings;
+  certificate = b.certificate;
+  raw_num = b.raw.num;
+  raw_den = b.raw.den;
+  bound = b.bound;
+  quality = chosen.quality;
+}

@@ -1,0 +1,29 @@
+ghost use Rattle.std.specs.Prelude.{◌≡◌, ◌≤◌, All, length};
+ghost use Rattle.planner.specs.inner.Finishing.{plan_made};
+
+use crate::certified::CertifiedBound;
+use crate::sound::{Standing, are_named};
+use net_core::Demands;
+use plan_types::Plan;
+use share_covers::Chosen;
+
+/// The plan of counts that were chosen, with a certified bound.
+pub fn make_plan(at: Standing, demands: Demands, chosen: Chosen, bound: CertifiedBound) -> Plan
+    ensures plan { result ≡ plan_made at demands chosen bound }
+    ensures named { All (λ d. length d.name ≤ 255) demands }
+{
+    are_named(demands.items());
+    Plan {
+        version: at.version,
+        position: at.position,
+        demands,
+        counts: chosen.counts,
+        cost: chosen.cost,
+        routings: chosen.routings,
+        certificate: bound.certificate,
+        raw_num: bound.raw.num,
+        raw_den: bound.raw.den,
+        bound: bound.bound,
+        quality: chosen.quality,
+    }
+}

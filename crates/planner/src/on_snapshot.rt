@@ -1,0 +1,107 @@
+ghost use Rattle.std.specs.Prelude.{◌≡◌, [], IfOk, OnOk, length};
+ghost use Rattle.net_core.specs.Demands.{AreDemands};
+ghost use Rattle.net_core.specs.Views.{case};
+ghost use Rattle.plan_terms.specs.Separations.{IsSurvivable};
+ghost use Rattle.plan_rounds.specs.WorkedRounds.{IsWorkedPool};
+ghost use Rattle.separator.specs.Separators.{SeesMore};
+ghost use Rattle.planner.specs.SnapshotPlans.{IsSnapshotAnswer, IsSnapshotIn, IsSnapshotPlan, PoolsAlone};
+
+use crate::better::better_bound;
+use crate::candidates::Candidates;
+use crate::chosen::choose_counts;
+use crate::made::make_plan;
+use crate::on_board::PlanAnswer;
+use crate::ranges::are_short_cuts;
+use crate::sound::Standing;
+use cut_pool::Snapshot;
+use failure_states::first_separated;
+use module_choice::fallback_plan;
+use net_core::{Instance, Network, NoMemory, States};
+use plan_rounds::{Worked, work_rounds};
+use plan_types::Plan;
+use separator::Separate;
+use std::alloc::Global;
+
+/// The plan for a snapshot where no state separates a demand.
+fn plan_survivable<S: Separate>(
+    alloc: Global,
+    net: &Network,
+    states: &States,
+    snapshot: Snapshot,
+    separator: &mut S,
+) -> Result<Plan, NoMemory>
+    requires network { S.network separator.old ≡ net.now }
+    requires states { S.states separator.old ≡ states.now }
+    requires belong { AreDemands (length net.now.nodes) snapshot.demands }
+    requires snapshot { ∥ IsSnapshotIn (case net.now states.now snapshot.demands) (S.history separator.old) snapshot ∥₁ }
+    requires survivable { IsSurvivable (case net.now states.now snapshot.demands) }
+    ensures network { S.network separator.new ≡ S.network separator.old }
+    ensures states { S.states separator.new ≡ S.states separator.old }
+    ensures mark { S.mark separator.new ≡ S.mark separator.old }
+    ensures more { SeesMore (S.history separator.old) (S.own separator.old) (S.history separator.new) (S.own separator.new) }
+    ensures plan { IfOk result (λ plan. ∥ IsSnapshotPlan (case net.now states.now snapshot.demands) snapshot (S.history separator.new) plan ∥₁) }
+    ensures alone { OnOk result (S.history separator.old ≡ [] → S.history separator.new ≡ S.own separator.new → ∥ IsWorkedPool (case net.now states.now snapshot.demands) (S.history separator.new) ∥₁) }
+{
+    are_short_cuts(snapshot.cuts.items());
+    let Snapshot {
+        version,
+        position,
+        demands,
+        cuts,
+    } = snapshot;
+    let fallback = fallback_plan(alloc, net, states, &demands)?;
+    let instance = Instance {
+        net,
+        states,
+        demands: &demands,
+    };
+    let Worked {
+        lines,
+        spots,
+        best,
+        quality,
+    } = work_rounds(alloc, &instance, cuts, separator)?;
+    are_short_cuts(lines.items());
+    let candidates = Candidates { lines, spots };
+    let bound = better_bound(alloc, net, &best, &candidates)?;
+    let chosen = choose_counts(alloc, &instance, fallback, &best, quality)?;
+    let at = Standing { version, position };
+    Ok(make_plan(at, demands, chosen, bound))
+}
+
+/// The plan for a snapshot, or the first demand that a state separates.
+///
+/// The separator is one of this network and these states, and the snapshot is of the first entries of the history that it has seen, with right
+/// sides at the snapshot's demands. Where no state separates a demand, the opening cuts of each state are admitted first, in state order, and
+/// then come rounds: the best certificate of the cuts so far, and the cuts that its share violates. The counts cover the last share, or are those
+/// of the fallback plan where that costs less or some state is too wide or short within the covers. What the separator commits are cuts alone,
+/// also where memory runs out; where its history was empty, and it alone has written it, the pool is a worked list in its order.
+///
+/// On the triangle with modules of 10.00 for 5.00 that has to carry 12.00 from A to C the plan costs 10.00, its raw value is 6.00 and its
+/// bound 10.00, and it is tight. With the failures of the three links it costs 30.00, and the bound is 20.00.
+///
+/// It takes a simplex run over the cuts, and one over the paths of each state, for each round; and memory for the cuts' lengths, and a routing
+/// for each state.
+pub fn plan_snapshot<S: Separate>(
+    alloc: Global,
+    net: &Network,
+    states: &States,
+    snapshot: Snapshot,
+    separator: &mut S,
+) -> Result<PlanAnswer, NoMemory>
+    requires network { S.network separator.old ≡ net.now }
+    requires states { S.states separator.old ≡ states.now }
+    requires belong { AreDemands (length net.now.nodes) snapshot.demands }
+    requires snapshot { ∥ IsSnapshotIn (case net.now states.now snapshot.demands) (S.history separator.old) snapshot ∥₁ }
+    ensures network { S.network separator.new ≡ S.network separator.old }
+    ensures states { S.states separator.new ≡ S.states separator.old }
+    ensures mark { S.mark separator.new ≡ S.mark separator.old }
+    ensures more { SeesMore (S.history separator.old) (S.own separator.old) (S.history separator.new) (S.own separator.new) }
+    ensures answer { IfOk result (IsSnapshotAnswer (case net.now states.now snapshot.demands) snapshot (S.history separator.old) (S.history separator.new)) }
+    ensures alone { IfOk result (PoolsAlone (case net.now states.now snapshot.demands) (S.history separator.old) (S.history separator.new) (S.own separator.new)) }
+{
+    match first_separated(alloc, net, states, &snapshot.demands)? {
+        Some(separation) => Ok(PlanAnswer::NotSurvivable(separation)),
+        None => Ok(PlanAnswer::Planned(plan_survivable(alloc, net, states, snapshot, separator)?)),
+    }
+}
