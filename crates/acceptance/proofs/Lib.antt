@@ -1,4 +1,6 @@
 pub mod Histories
 pub mod Reports
+pub mod Shares
+pub mod Snapshots
 pub mod Sound
 pub mod Transcripts

@@ -1,5 +1,6 @@
 -- a sound plan has no finding, kind by kind
-use Rattle.std.proofs.Common.{◌≡◌, ℕ, ◌*◌, ◌≤◌, Bool, true, List, Some, All, get_or, sym, ◌∙◌, ap, subst, arith, slice_get, ⊎_elim}
+use Rattle.std.proofs.Common.{◌≡◌, ℕ, ◌*◌, ◌≤◌, Bool, true, List, [], ◌∷◌, Some, All, get_or, sym, ◌∙◌, ap, subst, arith, slice_get, ⊎_elim}
+use Rattle.std.proofs.Props.{props}
 use Rattle.std.proofs.lemmas.Option.{get_or_from_slice_get, slice_get-map, slice_get_within}
 use Rattle.std.specs.Option.{option_map}
 use Rattle.net_core.specs.declared.network.Module.{Module}
@@ -17,7 +18,7 @@ use Rattle.plan_types.specs.declared.quality.Fractional.{Fractional}
 use Rattle.plan_types.specs.declared.quality.Quality.TheVariants.{Tight}
 use Rattle.plan_checker.specs.Carried.{HasBadPath, IsOverloaded, IsUncarried}
 use Rattle.plan_checker.specs.Certified.{HasOtherRight, HoldsCostDiffers, IsLocalCut, IsOverpriced}
-use Rattle.plan_checker.specs.Order.{HoldsNone}
+use Rattle.plan_checker.specs.Order.{HoldNone, HoldsNone, Kind}
 use Rattle.plan_checker.specs.Places.{HoldsAt}
 use Rattle.plan_checker.specs.PlanFindings.{HoldsDemandsDiffer, plan_case}
 use Rattle.plan_checker.specs.Shares.{HoldsNotTight, IsTight}
@@ -25,6 +26,11 @@ use Rattle.plan_checker.specs.declared.finding.Finding.TheVariants as finding
 use Rattle.plan_checker.proofs.KeptLengths.{right_one}
 use Rattle.plan_checker.proofs.Telling.{no_bound, no_local, no_overloaded, no_place, no_price, no_raw, no_right, no_uncarried, no_wide}
 use Rattle.acceptance.specs.Laws.{SoundPlansAreAccepted}
+
+-- that no finding holds has one proof at most
+pub none_prop : (kinds : List Kind) → IsProp (HoldNone kinds)
+none_prop [] = hlevel props
+none_prop (kind ∷ kinds) = let rest = none_prop kinds in hlevel (rest, props)
 
 -- what holds of all holds of the one at a place
 pub at_place : {X : Type 0} (P : X → Type 0) (xs : List X) (k : ℕ) (x : X) → All P xs → slice_get xs k ≡ Some x → P x

@@ -1,5 +1,5 @@
 -- a transcript of commands has no finding, and the bounds of its plans hold
-use Rattle.std.proofs.Common.{◌≡◌, ◌∙◌, ℕ, ◌+◌, ◌≤◌, ◌<◌, ◌++◌, ◌==◌, List, [], ◌∷◌, All, Some, length, get_or, slice_get, take, drop, nat_le, true, sym, ap, subst, arith, refl, ⊎_elim}
+use Rattle.std.proofs.Common.{◌≡◌, ◌∙◌, ℕ, ◌+◌, ◌≤◌, ◌++◌, ◌==◌, List, [], ◌∷◌, All, length, get_or, take, drop, sym, ap, subst, arith, refl, ⊎_elim}
 use Rattle.std.proofs.Math.Logic.{∥∥₁_elim}
 use Rattle.std.proofs.Props.{props}
 use Rattle.std.proofs.lemmas.Bool.{eq-eqb}
@@ -12,20 +12,18 @@ use Rattle.net_core.specs.declared.network.Notes.{Notes}
 use Rattle.net_core.specs.Cases.{Case}
 use Rattle.plan_terms.specs.Capacities.{IsAble, total_cost}
 use Rattle.plan_terms.proofs.Duality.{weak_duality}
-use Rattle.plan_types.specs.Plans.{IsCarryingPlan, IsCertifiedPlan, IsCostedPlan, lines_of_certificate}
-use Rattle.plan_types.specs.declared.certificate.Spot.{Spot}
-use Rattle.plan_types.specs.declared.certificate.Spot.TheVariants.{Pool, Local}
+use Rattle.plan_types.specs.Plans.{IsCarryingPlan, IsCertifiedPlan, lines_of_certificate}
 use Rattle.plan_types.specs.declared.plan.Plan.{Plan}
 use Rattle.plan_types.specs.declared.quality.Fractional.{Fractional}
 use Rattle.plan_types.specs.declared.quality.Quality.{Quality}
-use Rattle.plan_types.specs.declared.quality.Quality.TheVariants.{Tight, Loose, Unsolved}
+use Rattle.plan_types.specs.declared.quality.Quality.TheVariants.{Tight, Unsolved}
 use Rattle.plan_types.specs.declared.report.Outcome.{Outcome}
 use Rattle.plan_types.specs.declared.report.Outcome.TheVariants.{Planned, Unsurvivable}
 use Rattle.plan_types.specs.declared.report.Report.{Report}
 use Rattle.cut_pool.specs.Histories.{cut_of_line, cuts_of, demands_left, version_left}
 use Rattle.planner.specs.SoundPlans.{HasNoRoom, IsPlanAfter, StandsAt, case_left}
 use Rattle.planner.proofs.Taking.{cuts_both}
-use Rattle.plan_checker.specs.Order.{HoldNone, Kind}
+use Rattle.plan_checker.specs.Order.{HoldNone}
 use Rattle.report_checker.specs.Outcomes.{SeparatesNamed, case_at, outcome_findings}
 use Rattle.report_checker.specs.ReportFindings.{HasNoFinding, whole_findings}
 use Rattle.session_script.specs.declared.script.Act.{Act}
@@ -36,11 +34,7 @@ use Rattle.session_run.proofs.OutcomeForms.{kept_one}
 use Rattle.acceptance.specs.Reports.{IsSoundPlanOf, IsSoundRefusalOf}
 use Rattle.acceptance.specs.Transcripts.{IsBelowAllAble, TranscriptsAreAccepted}
 use Rattle.acceptance.proofs.Reports.{outcome_none, sound_reports_are_accepted}
-
--- that no finding holds has one proof at most
-none_prop : (kinds : List Kind) → IsProp (HoldNone kinds)
-none_prop [] = hlevel props
-none_prop (kind ∷ kinds) = let rest = none_prop kinds in hlevel (rest, props)
+use Rattle.acceptance.proofs.Sound.{none_prop}
 
 not_tight : (q : Quality) (f : Fractional) → q ≡ Unsolved → q ≡ Tight f → ⊥
 not_tight q f one two = cc (one, two)

@@ -1,11 +1,14 @@
 -- which plans have no finding
-use Rattle.std.specs.Prelude.{◌≡◌, Bool, true, All}
+use Rattle.std.specs.Prelude.{◌≡◌, Bool, true, List, All}
+use Rattle.net_core.specs.declared.journal.Entry.{Entry}
 use Rattle.net_core.specs.Cases.{Case}
 use Rattle.plan_types.specs.Plans.{IsCarryingPlan, IsCertifiedPlan, IsCostedPlan}
 use Rattle.plan_types.specs.declared.certificate.Spot.TheVariants.{Local}
 use Rattle.plan_types.specs.declared.plan.Plan.{Plan}
 use Rattle.plan_types.specs.declared.quality.Fractional.{Fractional}
 use Rattle.plan_types.specs.declared.quality.Quality.TheVariants.{Tight}
+use Rattle.cut_pool.specs.declared.snapshot.Snapshot.{Snapshot}
+use Rattle.planner.specs.SnapshotPlans.{IsSnapshotPlan}
 use Rattle.plan_checker.specs.Order.{HoldNone}
 use Rattle.plan_checker.specs.PlanFindings.{plan_findings}
 use Rattle.plan_checker.specs.Shares.{IsTight}
@@ -21,3 +24,10 @@ SoundPlansAreAccepted = (p : Case) (full : Bool) (plan : Plan)
     → All (λ l. l.spot ≡ Local → full ≡ true) plan.certificate.lines
     → ((f : Fractional) → plan.quality ≡ Tight f → IsTight p plan f)
     → HoldNone (plan_findings p full plan)
+
+-- A plan of a snapshot has no finding for the snapshot's demands where the pool counts as full, wherever the cuts of its certificate stand.
+abbrev pub SnapshotPlansAreAccepted : Type 0
+SnapshotPlansAreAccepted = (p : Case) (snapshot : Snapshot) (history : List Entry) (plan : Plan)
+    → snapshot.demands ≡ p.demands
+    → ∥ IsSnapshotPlan p snapshot history plan ∥₁
+    → HoldNone (plan_findings p true plan)

@@ -1,10 +1,15 @@
-ghost use Rattle.acceptance.specs.Laws.{SoundPlansAreAccepted};
+ghost use Rattle.acceptance.specs.Laws.{SnapshotPlansAreAccepted, SoundPlansAreAccepted};
 ghost use Rattle.acceptance.specs.Reports.{SoundReportsAreAccepted};
 ghost use Rattle.acceptance.specs.Transcripts.{TranscriptsAreAccepted};
 
 /// A plan whose parts are sound has no finding.
 pub fn sound_plans_are_accepted()
     ensures { SoundPlansAreAccepted }
+{}
+
+/// A plan of a snapshot has no finding for the snapshot's demands where the pool counts as full.
+pub fn snapshot_plans_are_accepted()
+    ensures { SnapshotPlansAreAccepted }
 {}
 
 /// A report of a legal history whose outcomes are sound has no finding.
