@@ -17,4 +17,6 @@ pub use on_board::{PlanAnswer, plan_board};
 pub use on_snapshot::plan_snapshot;
 
 #[cfg(test)]
+mod snapshot_tests;
+#[cfg(test)]
 mod tests;
