@@ -4,8 +4,8 @@ use Rattle.net_core.specs.declared.journal.Entry.{Entry}
 use Rattle.net_core.specs.Cases.{Case}
 use Rattle.plan_terms.specs.Separations.{IsFirstSeparation}
 use Rattle.planner.specs.SoundPlans.{IsPlanAfter, case_left}
-use Rattle.planner.specs.declared.on_board.PlanAnswer.{PlanAnswer}
-use Rattle.planner.specs.declared.on_board.PlanAnswer.TheVariants.{Planned, NotSurvivable}
+use Rattle.planner.specs.declared.answer.PlanAnswer.{PlanAnswer}
+use Rattle.planner.specs.declared.answer.PlanAnswer.TheVariants.{Planned, NotSurvivable}
 
 -- a sound plan of what the entries left, or the first separation of the demands there, which adds no entry
 abbrev pub IsPlannedAfter : Case → List Entry → List Entry → PlanAnswer → Type 0

@@ -14,8 +14,8 @@ use Rattle.plan_law.specs.LoosePlans.{IsWorkedPlan}
 use Rattle.plan_rounds.specs.WorkedRounds.{IsWorkedPool}
 use Rattle.separator.specs.Separators.{IsFullHistory, IsSpotIn}
 use Rattle.planner.specs.SoundPlans.{IsAboveOwnBounds, IsBelowFallback, IsLowestPlan}
-use Rattle.planner.specs.declared.on_board.PlanAnswer.{PlanAnswer}
-use Rattle.planner.specs.declared.on_board.PlanAnswer.TheVariants.{Planned, NotSurvivable}
+use Rattle.planner.specs.declared.answer.PlanAnswer.{PlanAnswer}
+use Rattle.planner.specs.declared.answer.PlanAnswer.TheVariants.{Planned, NotSurvivable}
 
 -- a snapshot of the first entries of a history: its cuts are those that they pool, in their order, with right sides at its demands
 pub record IsSnapshotIn (p : Case) (history : List Entry) (snapshot : Snapshot) : Type 0 where

@@ -2,6 +2,7 @@
 //! what such counts cost.
 #![tactic(auto)]
 
+pub mod answer;
 mod better;
 mod candidates;
 mod certified;
@@ -13,7 +14,8 @@ mod openings;
 pub mod ranges;
 mod sound;
 
-pub use on_board::{PlanAnswer, plan_board};
+pub use answer::PlanAnswer;
+pub use on_board::plan_board;
 pub use on_snapshot::plan_snapshot;
 
 #[cfg(test)]

@@ -6,23 +6,16 @@ ghost use Rattle.cut_pool.specs.Boards.{IsSnapshotOf, opening_case};
 ghost use Rattle.planner.specs.Answers.{IsPlannedAfter};
 ghost use Rattle.planner.specs.SoundPlans.{GrowsByCuts, IsPlanAfter};
 
+use crate::answer::PlanAnswer;
 use crate::certified::best_bound;
 use crate::openings::open_states;
 use crate::sound::{Standing, put_together};
 use cut_pool::{Board, Snapshot};
-use failure_states::{Separation, first_separated};
+use failure_states::first_separated;
 use module_choice::fallback_plan;
 use net_core::{Instance, Network, NoMemory, States};
 use plan_types::Plan;
 use std::alloc::Global;
-
-/// What planning on a board comes to.
-#[derive(Drop)]
-pub enum PlanAnswer {
-    Planned(Plan),
-    /// No counts carry the demands: the state separates the demand.
-    NotSurvivable(Separation),
-}
 
 /// The plan of a board where no state separates a demand.
 fn planned(

@@ -10,7 +10,7 @@ use crate::better::better_bound;
 use crate::candidates::Candidates;
 use crate::chosen::choose_counts;
 use crate::made::make_plan;
-use crate::on_board::PlanAnswer;
+use crate::answer::PlanAnswer;
 use crate::ranges::are_short_cuts;
 use crate::sound::Standing;
 use cut_pool::Snapshot;

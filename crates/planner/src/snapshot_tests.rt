@@ -1,7 +1,7 @@
 ghost use Rattle.std.specs.Prelude.{length};
 ghost use Rattle.net_core.specs.Demands.{AreDemands};
 
-use crate::on_board::PlanAnswer;
+use crate::answer::PlanAnswer;
 use crate::on_snapshot::plan_snapshot;
 use cut_pool::Board;
 use net_core::{Demands, Network, NoMemory, States};

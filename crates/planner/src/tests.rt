@@ -1,7 +1,8 @@
 ghost use Rattle.std.specs.Prelude.{length};
 ghost use Rattle.net_core.specs.Demands.{AreDemands};
 
-use crate::on_board::{PlanAnswer, plan_board};
+use crate::answer::PlanAnswer;
+use crate::on_board::plan_board;
 use cut_pool::Board;
 use net_core::{Demands, Network, NoMemory, States};
 use plan_types::{Plan, Spot};
