@@ -66,6 +66,9 @@ times_nonneg a b ha hb = subst (λ z. z ≤ℤ (a *ℤ b)) (*ℤ-zero a) (le_tim
 pub times_nonpositive : (a b : ℤ) → pos 0 ≤ℤ a → b ≤ℤ pos 0 → (a *ℤ b) ≤ℤ pos 0
 times_nonpositive a b ha hb = subst (λ z. (a *ℤ b) ≤ℤ z) (*ℤ-zero a) (le_times a b (pos 0) ha hb)
 
+pub times_less : (c a b : ℤ) → pos 0 <ℤ c → a <ℤ b → (c *ℤ a) <ℤ (c *ℤ b)
+times_less c a b pc l = omega (arith, ints, times_positive c (b -ℤ a) pc (omega (arith, ints, l)), minus_left b a c)
+
 -- a positive factor may be taken away
 pub lt_cancel : (g a b : ℤ) → pos 0 <ℤ g → (g *ℤ a) <ℤ (g *ℤ b) → a <ℤ b
 lt_cancel g a b pg h = by_lt_z a b (λ lt. lt)

@@ -1,15 +1,14 @@
 -- the inverse from the other side: the columns times the rows
-use Rattle.std.proofs.Common.{◌≡◌, ℕ, zero, suc, ◌<◌, refl, sym, ap, ◌∙◌, arith, ⊎_elim, subst, cond, eqb, Bool, true, false}
+use Rattle.std.proofs.Common.{◌≡◌, ℕ, ◌<◌, refl, sym, ap, ◌∙◌, arith, ⊎_elim, subst, cond, eqb, Bool, true, false}
 use Rattle.std.proofs.Math.IntN.{ℤ, pos, ◌+ℤ◌, ◌-ℤ◌, ◌*ℤ◌, *ℤ_comm, *ℤ-zero, zero-*ℤ}
 use Rattle.std.specs.Int.Signed.{◌<ℤ◌}
 use Rattle.std.proofs.lemmas.Int.{ints}
 use Rattle.std.proofs.lemmas.Bool.{cases_eq, eq-eqb, ne_eqb}
 use Rattle.checked_fraction.specs.Mixed.{combined}
 use Rattle.simplex_law.specs.Sums.{int_sum, dot, unit_vector, put}
-use Rattle.simplex_law.proofs.Tableaux.{IsFilling}
+use Rattle.simplex_law.specs.inner.Tableaux.{IsFilling}
 use Rattle.simplex_law.proofs.Arithmetic.{distribute_minus, minus_left, regroup, swap_last, moved_out, times_positive, same_cancel}
 use Rattle.simplex_law.proofs.Sums.{sum-same, sum-times, sum-minus, sum-swapped, sum-put, sum-unit}
-use Rattle.simplex_law.proofs.Rows.{IsMultiple}
 
 -- any right side is filled
 pub fills : (m : ℕ) (basic nums : ℕ → ℕ → ℤ) (den w b : ℕ → ℤ) (all : ℤ) → IsFilling m basic nums den w all
@@ -84,36 +83,6 @@ next_filling m r basic nums den w a all q rm pq h is_q = record {
     by_place : (k l j : ℕ) (b : Bool) → eqb r j ≡ b → (put w r all j *ℤ next_nums nums (λ i. dot m (nums i) a) r q j l) *ℤ put basic r a j k ≡ put (λ i. (w i *ℤ combined (nums i) (dot m (nums i) a) (nums r) q l) *ℤ basic i k) r ((all *ℤ nums r l) *ℤ a k) j
     by_place k l j true e = rw e refl
     by_place k l j false e = rw e refl
-
--- what there is for each place below n, there is as a function
-choice : (n : ℕ) (P : ℕ → ℤ → Type 0) → ((j : ℕ) → j < n → (g : ℤ) × P j g) → (f : ℕ → ℤ) × ((j : ℕ) → j < n → P j (f j))
-choice zero P each = ((λ j. pos 0), λ j l. absurd (omega arith))
-choice (suc n) P each =
-    let before = choice n P (λ j l. each j (omega arith)) in
-    let last = each n (omega arith) in (
-      put before.0 n last.0,
-      λ j l. ⊎_elim
-          (λ e. subst (λ t. P j (cond t last.0 (before.0 j))) (sym (eq-eqb n j e)) (subst (λ i. P i last.0) e last.1))
-          (λ ne. subst (λ t. P j (cond t last.0 (before.0 j))) (sym (ne_eqb n j ne)) (before.1 j (omega (arith, l, ne))))
-          (cases_eq n j),
-    )
-
--- rows in lowest terms have greater weights
-pub reduced_filling : (m : ℕ) (basic raw nums : ℕ → ℕ → ℤ) (whole den w : ℕ → ℤ) (all : ℤ) → ((j : ℕ) → j < m → (g : ℤ) × IsMultiple m (raw j) (whole j) (nums j) (den j) g)
-    → IsFilling m basic raw whole w all → (v : ℕ → ℤ) × (total : ℤ) × IsFilling m basic nums den v total
-reduced_filling m basic raw nums whole den w all each h =
-    let factors = choice m (λ j g. IsMultiple m (raw j) (whole j) (nums j) (den j) g) each in
-    let g = factors.0 in (
-      (λ j. w j *ℤ g j),
-      all,
-      record {
-        positive = h.positive;
-        weights = λ j lj. regroup (w j) (g j) (den j) ∙ (ap (λ s. w j *ℤ s) (sym ((factors.1 j lj).of_den)) ∙ h.weights j lj);
-        filled = λ k l lk ll. sum-same m _ (λ j. (w j *ℤ raw j l) *ℤ basic j k)
-            (λ j lj. ap (λ s. s *ℤ basic j k) (regroup (w j) (g j) (nums j l) ∙ ap (λ s. w j *ℤ s) (sym ((factors.1 j lj).of_nums l ll))))
-            ∙ h.filled k l lk ll;
-      },
-    )
 
 -- the same at columns that agree below m
 pub same_filling : (m : ℕ) (basic others nums : ℕ → ℕ → ℤ) (den w : ℕ → ℤ) (all : ℤ) → ((j k : ℕ) → j < m → others j k ≡ basic j k)

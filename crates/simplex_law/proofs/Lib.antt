@@ -4,6 +4,8 @@ pub mod Duality
 pub mod Examples
 pub mod Filling
 pub mod Limited
+pub mod LowestTerms
+pub mod NoLater
 pub mod Numbers
 pub mod Optimal
 pub mod Order
@@ -13,5 +15,6 @@ pub mod Sparse
 pub mod Sums
 pub mod Tableaux
 pub mod Turned
+pub mod Unique
 pub mod Values
 pub mod Widths

@@ -6,7 +6,7 @@ use Rattle.std.proofs.lemmas.Int.{ints, by_lt_z}
 use Rattle.simplex_law.specs.Sums.{dot}
 use Rattle.simplex_law.specs.Programs.{ColumnOf, IsPacking}
 use Rattle.simplex_law.specs.Bases.{Gains}
-use Rattle.simplex_law.proofs.Tableaux.{IsTableau}
+use Rattle.simplex_law.specs.inner.Tableaux.{IsTableau}
 use Rattle.simplex_law.proofs.Arithmetic.{times_nonpositive, positive_cancel, le_cancel}
 use Rattle.simplex_law.proofs.Sums.{sum-le, sum-none, dot-none-column}
 use Rattle.simplex_law.proofs.Filling.{fills}

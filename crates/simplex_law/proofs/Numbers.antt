@@ -3,11 +3,11 @@ use Rattle.std.proofs.Common.{◌≡◌, ℕ, zero, suc, ◌<◌, ◌≤◌, ◌
 use Rattle.std.proofs.Math.IntN.{ℤ, pos, ◌+ℤ◌, ◌*ℤ◌}
 use Rattle.std.proofs.Math.Nat.{mul-le-mul_right, div-mul-le_self, le-div_iff_mul-le, div-lt_iff_lt-mul, le_of_mul-le-mul_left, pow-zero, pow-succ'}
 use Rattle.std.specs.Int.Signed.{◌<ℤ◌}
-use Rattle.std.proofs.lemmas.Int.{ints}
+use Rattle.std.proofs.lemmas.Int.{ints, unsigned_abs-mul}
 use Rattle.std.proofs.lemmas.Nat.{mul-le}
 use borrow.Author.Differences.{up, down}
-use Rattle.simplex_law.specs.inner.Lexicographic.{valued}
-use Rattle.simplex_law.proofs.Order.{IsLexBelow, Rises}
+use Rattle.simplex_law.specs.inner.Lexicographic.{valued, IsLexBelow, Rises}
+use Rattle.simplex_law.specs.inner.Measures.{AreNarrowDuals, digit, lex_number, left_below, left_over}
 use Rattle.simplex_law.specs.Sums.{dot}
 use Rattle.checked_fraction.specs.Rows.{IsNarrow}
 
@@ -18,19 +18,9 @@ pub record AreNumberedDuals (m : ℕ) (bound duals : ℕ → ℤ) (den : ℤ) : 
   pub narrow : (k : ℕ) → k < m → IsNarrow (duals k)
   pub value : unsigned_abs (dot m duals bound) < 2 ^ 126
 
--- for v over d between -edge and edge, with d at most the root of square: a number that is larger for a larger fraction
-unfoldable pub digit : ℕ → ℕ → ℤ → ℕ → ℕ
-digit edge square v d = (unsigned_abs (v +ℤ pos (edge * d)) * square) / d
-
--- the same of n numbers in lexicographic order
-unfoldable pub lex_number : ℕ → ℕ → ℕ → ℕ → (ℕ → ℤ) → ℕ → ℕ
-lex_number base edge square zero v d = 0
-lex_number base edge square (suc n) v d = digit edge square (v 0) d * base ^ n + lex_number base edge square n (λ k. v (suc k)) d
-
 -- what is left above the duals of m rows and their value: it falls where they rise
-unfoldable pub left_above : ℕ → (ℕ → ℤ) → (ℕ → ℤ) → ℤ → ℕ
-left_above m bound duals den =
-    (2 * 2 ^ 126 * 2 ^ 124 + 1) ^ (m + 1) - lex_number (2 * 2 ^ 126 * 2 ^ 124 + 1) (2 ^ 126) (2 ^ 124) (m + 1) (valued m bound duals) (unsigned_abs den)
+abbrev pub left_above : ℕ → (ℕ → ℤ) → (ℕ → ℤ) → ℤ → ℕ
+left_above m = left_below (2 ^ 126) m
 
 -- a * q / d against b * q / e, by cross products
 div_le : (a b d e q : ℕ) → 0 < d → 0 < e → a * e ≤ b * d → (a * q) / d ≤ (b * q) / e
@@ -117,28 +107,40 @@ lex_climbs base edge square (suc n) y z d e is pd pe big hy hz h = ⊎_elim
 size_positive : (d : ℤ) → pos 0 <ℤ d → 0 < unsigned_abs d
 size_positive d p = omega (arith, ints, p)
 
-within : (m : ℕ) (bound y : ℕ → ℤ) (d : ℤ) → AreNumberedDuals m bound y d → (k : ℕ) → k < m + 1 → unsigned_abs (valued m bound y k) ≤ 2 ^ 126 * unsigned_abs d
-within m bound y d h zero l = let v = h.value in omega (arith, v, size_positive d h.positive)
-within m bound y d h (suc k) l = let v = h.narrow k (omega arith) in omega (arith, v, size_positive d h.positive)
+-- the value and the duals, over their denominator, don't pass the edge
+pub record AreWithin (edge m : ℕ) (bound duals : ℕ → ℤ) (den : ℤ) : Type 0 where
+  pub narrow : AreNarrowDuals m duals den
+  pub wide_edge : 2 ^ 62 ≤ edge
+  pub value : unsigned_abs (dot m duals bound) ≤ edge
+
+within : (edge m : ℕ) (bound y : ℕ → ℤ) (d : ℤ) → AreWithin edge m bound y d → (k : ℕ) → k < m + 1 → unsigned_abs (valued m bound y k) ≤ edge * unsigned_abs d
+within edge m bound y d h k l = times (unsigned_abs (valued m bound y k)) (each k l)
+  where
+    times : (v : ℕ) → v ≤ edge → v ≤ edge * unsigned_abs d
+    times v le = let t : edge * 1 ≤ edge * unsigned_abs d = mul-le edge 1 edge (unsigned_abs d) (omega arith) (size_positive d h.narrow.positive) in omega (arith, le, t)
+
+    each : (k : ℕ) → k < m + 1 → unsigned_abs (valued m bound y k) ≤ edge
+    each zero l = h.value
+    each (suc k) l = let v : unsigned_abs (y k) < 2 ^ 62 = h.narrow.narrow k (omega (arith, l)) in omega (arith, v, h.wide_edge)
 
 -- where the duals and their value rise, less is left above them
-pub left_falls : (m : ℕ) (bound y : ℕ → ℤ) (d : ℤ) (z : ℕ → ℤ) (e : ℤ) → AreNumberedDuals m bound y d → AreNumberedDuals m bound z e → Rises m bound y d z e
-    → left_above m bound z e < left_above m bound y d
-unfolding left_above
-left_falls m bound y d z e hy hz rises =
-    let pd = size_positive d hy.positive in
-    let pe = size_positive e hz.positive in
-    let nd : unsigned_abs d < 2 ^ 62 = hy.narrow_den in
-    let ne : unsigned_abs e < 2 ^ 62 = hz.narrow_den in
+left_below_falls : (edge m : ℕ) (bound y : ℕ → ℤ) (d : ℤ) (z : ℕ → ℤ) (e : ℤ) → AreWithin edge m bound y d → AreWithin edge m bound z e → Rises m bound y d z e
+    → left_below edge m bound z e < left_below edge m bound y d
+unfolding left_below
+left_below_falls edge m bound y d z e hy hz rises =
+    let pd = size_positive d hy.narrow.positive in
+    let pe = size_positive e hz.narrow.positive in
+    let nd : unsigned_abs d < 2 ^ 62 = hy.narrow.narrow_den in
+    let ne : unsigned_abs e < 2 ^ 62 = hz.narrow.narrow_den in
     let big : unsigned_abs d * unsigned_abs e ≤ 2 ^ 62 * 2 ^ 62 = mul-le (unsigned_abs d) (unsigned_abs e) (2 ^ 62) (2 ^ 62) (omega (arith, nd)) (omega (arith, ne)) in
     let below : IsLexBelow (m + 1) (valued m bound y) (pos (unsigned_abs d)) (valued m bound z) (pos (unsigned_abs e)) =
     subst (λ n. IsLexBelow n (valued m bound y) (pos (unsigned_abs d)) (valued m bound z) (pos (unsigned_abs e))) (one_more m)
-    (subst (λ x. IsLexBelow (suc m) (valued m bound y) x (valued m bound z) (pos (unsigned_abs e))) (of_size d hy.positive)
-    (subst (λ x. IsLexBelow (suc m) (valued m bound y) d (valued m bound z) x) (of_size e hz.positive) rises)) in
+    (subst (λ x. IsLexBelow (suc m) (valued m bound y) x (valued m bound z) (pos (unsigned_abs e))) (of_size d hy.narrow.positive)
+    (subst (λ x. IsLexBelow (suc m) (valued m bound y) d (valued m bound z) x) (of_size e hz.narrow.positive) rises)) in
     let climbs =
-    lex_climbs (2 * 2 ^ 126 * 2 ^ 124 + 1) (2 ^ 126) (2 ^ 124) (m + 1) (valued m bound y) (valued m bound z) (unsigned_abs d) (unsigned_abs e) refl pd pe (omega (arith, big))
-    (within m bound y d hy) (within m bound z e hz) below in
-    let most = lex_most (2 * 2 ^ 126 * 2 ^ 124 + 1) (2 ^ 126) (2 ^ 124) (m + 1) (valued m bound z) (unsigned_abs e) refl pe (within m bound z e hz) in
+    lex_climbs (2 * edge * 2 ^ 124 + 1) edge (2 ^ 124) (m + 1) (valued m bound y) (valued m bound z) (unsigned_abs d) (unsigned_abs e) refl pd pe (omega (arith, big))
+    (within edge m bound y d hy) (within edge m bound z e hz) below in
+    let most = lex_most (2 * edge * 2 ^ 124 + 1) edge (2 ^ 124) (m + 1) (valued m bound z) (unsigned_abs e) refl pe (within edge m bound z e hz) in
     falls _ _ _ climbs most
   where
     of_size : (d : ℤ) → pos 0 <ℤ d → d ≡ pos (unsigned_abs d)
@@ -149,3 +151,36 @@ left_falls m bound y d z e hy hz rises =
 
     falls : (top a b : ℕ) → a < b → b < top → top - b < top - a
     falls top a b h i = omega (arith, h, i)
+
+-- for duals whose value is small enough
+pub left_falls : (m : ℕ) (bound y : ℕ → ℤ) (d : ℤ) (z : ℕ → ℤ) (e : ℤ) → AreNumberedDuals m bound y d → AreNumberedDuals m bound z e → Rises m bound y d z e
+    → left_above m bound z e < left_above m bound y d
+left_falls m bound y d z e hy hz rises = left_below_falls (2 ^ 126) m bound y d z e (small hy) (small hz) rises
+  where
+    small : {y : ℕ → ℤ} {d : ℤ} → AreNumberedDuals m bound y d → AreWithin (2 ^ 126) m bound y d
+    small {y} {d} h = let v : unsigned_abs (dot m y bound) < 2 ^ 126 = h.value in
+        record { narrow = record { positive = h.positive; narrow_den = h.narrow_den; narrow = h.narrow }; wide_edge = omega arith; value = omega (arith, v) }
+
+-- a product of narrow numbers is no more than 2 ^ 124 for each of them
+dot_narrow : (m : ℕ) (y b : ℕ → ℤ) → ((k : ℕ) → k < m → IsNarrow (y k)) → ((k : ℕ) → k < m → IsNarrow (b k)) → unsigned_abs (dot m y b) ≤ m * 2 ^ 124
+dot_narrow zero y b ny nb = omega (arith, ints)
+dot_narrow (suc m) y b ny nb =
+    let before = dot_narrow m y b (λ k l. ny k (omega (arith, l))) (λ k l. nb k (omega (arith, l))) in
+    let y' : unsigned_abs (y m) < 2 ^ 62 = ny m (omega arith) in
+    let b' : unsigned_abs (b m) < 2 ^ 62 = nb m (omega arith) in
+    let t : unsigned_abs (y m) * unsigned_abs (b m) ≤ 2 ^ 62 * 2 ^ 62 = mul-le (unsigned_abs (y m)) (unsigned_abs (b m)) (2 ^ 62) (2 ^ 62) (omega (arith, y')) (omega (arith, b')) in
+    both (dot m y b) (y m *ℤ b m) (unsigned_abs (y m) * unsigned_abs (b m)) m before (unsigned_abs-mul (y m) (b m)) t
+  where
+    both : (x z : ℤ) (p m : ℕ) → unsigned_abs x ≤ m * 2 ^ 124 → unsigned_abs z ≡ p → p ≤ 2 ^ 62 * 2 ^ 62 → unsigned_abs (x +ℤ z) ≤ suc m * 2 ^ 124
+    both x z p m a e l = omega (arith, ints, a, e, l)
+
+-- for narrow duals at narrow bounds, whatever their value
+pub left_over_falls : (m : ℕ) (bound y : ℕ → ℤ) (d : ℤ) (z : ℕ → ℤ) (e : ℤ) → ((k : ℕ) → k < m → IsNarrow (bound k)) → AreNarrowDuals m y d → AreNarrowDuals m z e → Rises m bound y d z e
+    → left_over m bound z e < left_over m bound y d
+left_over_falls m bound y d z e nb hy hz rises = left_below_falls ((m + 1) * 2 ^ 124) m bound y d z e (small hy) (small hz) rises
+  where
+    small : {y : ℕ → ℤ} {d : ℤ} → AreNarrowDuals m y d → AreWithin ((m + 1) * 2 ^ 124) m bound y d
+    small {y} {d} h = record { narrow = h; wide_edge = omega arith; value = up (unsigned_abs (dot m y bound)) (dot_narrow m y bound h.narrow nb) }
+      where
+        up : (v : ℕ) → v ≤ m * 2 ^ 124 → v ≤ (m + 1) * 2 ^ 124
+        up v le = omega (arith, le)

@@ -8,7 +8,7 @@ use Rattle.simplex_law.specs.Sums.{int_sum, dot, unit_vector}
 use Rattle.simplex_law.specs.Programs.{ColumnOf, IsSlack, slack_basis, IsProgramColumn}
 use Rattle.simplex_law.specs.Bases.{Gains}
 use Rattle.simplex_law.specs.Optima.{IsOptimum, IsGreatestGain}
-use Rattle.simplex_law.proofs.Tableaux.{IsTableau}
+use Rattle.simplex_law.specs.inner.Tableaux.{IsTableau}
 use Rattle.simplex_law.proofs.Arithmetic.{moved_out, le_times, le_cancel}
 use Rattle.simplex_law.proofs.Sums.{dot-unit}
 use Rattle.simplex_law.proofs.Duality.{packing_duality, equal_value}

@@ -1,27 +1,16 @@
 -- the lexicographic order of rows
-use Rattle.std.proofs.Common.{◌≡◌, ◌⊎◌, ℕ, zero, suc, ◌<◌, sym, ap, ◌∙◌, arith, inl, inr, ⊎_elim, subst}
+use Rattle.std.proofs.Common.{◌≡◌, ◌⊎◌, ℕ, zero, suc, ◌<◌, ◌≤◌, ◌+◌, sym, ap, ◌∙◌, arith, inl, inr, ⊎_elim, subst}
 use Rattle.std.proofs.Math.IntN.{ℤ, pos, ◌+ℤ◌, ◌-ℤ◌, ◌*ℤ◌, *ℤ_comm, *ℤ-zero}
 use Rattle.std.specs.Int.Signed.{◌<ℤ◌, ◌≤ℤ◌}
-use Rattle.std.proofs.lemmas.Int.{ints}
+use Rattle.std.proofs.lemmas.Int.{ints, by_lt_z}
 use Rattle.checked_fraction.specs.Mixed.{combined}
-use Rattle.simplex_law.specs.inner.Lexicographic.{IsLexNonneg, valued}
-use Rattle.simplex_law.proofs.Arithmetic.{distribute_minus, minus_left, regroup, swap_last, moved_out, times_positive, times_negative, times_nonneg, positive_cancel, zero_cancel, lt_cancel, same_cancel}
-use Rattle.simplex_law.proofs.Sums.{sum-same, dot-times}
-use Rattle.simplex_law.proofs.Rows.{IsMultiple}
+use Rattle.simplex_law.specs.inner.Lexicographic.{IsLexNonneg, IsLexBelow}
+use Rattle.simplex_law.proofs.Arithmetic.{distribute_minus, minus_left, regroup, swap_last, moved_out, times_positive, times_negative, times_nonneg, times_less, positive_cancel, zero_cancel, lt_cancel, same_cancel}
 
 -- the first of n numbers that isn't 0 is positive
 abbrev pub IsLexPositive : ℕ → (ℕ → ℤ) → Type 0
 IsLexPositive zero v = ⊥
 IsLexPositive (suc n) v = (pos 0 <ℤ v 0) ⊎ ((v 0 ≡ pos 0) × IsLexPositive n (λ k. v (suc k)))
-
--- n numbers y over d come before the numbers z over e
-abbrev pub IsLexBelow : ℕ → (ℕ → ℤ) → ℤ → (ℕ → ℤ) → ℤ → Type 0
-IsLexBelow zero y d z e = ⊥
-IsLexBelow (suc n) y d z e = ((y 0 *ℤ e) <ℤ (z 0 *ℤ d)) ⊎ ((y 0 *ℤ e ≡ z 0 *ℤ d) × IsLexBelow n (λ k. y (suc k)) d (λ k. z (suc k)) e)
-
--- the duals and their value rise
-abbrev pub Rises : ℕ → (ℕ → ℤ) → (ℕ → ℤ) → ℤ → (ℕ → ℤ) → ℤ → Type 0
-Rises m bound duals den later later_den = IsLexBelow (suc m) (valued m bound duals) den (valued m bound later) later_den
 
 -- a row whose number p is negative stays 0 or more
 pub lex_negative : (n : ℕ) (u w : ℕ → ℤ) (p q : ℤ) → p <ℤ pos 0 → pos 0 <ℤ q → IsLexNonneg n u → IsLexNonneg n w → IsLexNonneg n (combined u p w q)
@@ -66,28 +55,30 @@ lex_rises (suc n) y w p q d less more over h =
     (λ z. inr (sym (ap (λ s. ((y 0 *ℤ q) -ℤ (p *ℤ s)) *ℤ d) z.0 ∙ (ap (λ s. s *ℤ d) (omega (arith, ints)) ∙ f)), lex_rises n (λ k. y (suc k)) (λ k. w (suc k)) p q d less more over z.1))
     h
 
--- numbers that are a positive multiple of others
-pub lex_reduced : (n : ℕ) (u v : ℕ → ℤ) (g : ℤ) → pos 0 <ℤ g → ((k : ℕ) → k < n → u k ≡ g *ℤ v k) → IsLexNonneg n u → IsLexNonneg n v
-lex_reduced zero u v g pg e h = tt
-lex_reduced (suc n) u v g pg e h = ⊎_elim
-    (λ l. inl (positive_cancel g (v 0) pg (subst (λ x. pos 0 <ℤ x) (e 0 (omega arith)) l)))
-    (λ z. inr (zero_cancel g (v 0) pg (sym (e 0 (omega arith)) ∙ z.0), lex_reduced n (λ k. u (suc k)) (λ k. v (suc k)) g pg (λ k l. e (suc k) (omega arith)) z.1))
-    h
+-- numbers that are the same as others but for positive factors
+pub lex_scaled : (n : ℕ) (u v : ℕ → ℤ) (g h : ℤ) → pos 0 <ℤ g → pos 0 <ℤ h → ((k : ℕ) → k < n → g *ℤ u k ≡ h *ℤ v k) → IsLexNonneg n u → IsLexNonneg n v
+lex_scaled zero u v g h pg ph e lex = tt
+lex_scaled (suc n) u v g h pg ph e lex = ⊎_elim
+    (λ above. inl (positive_cancel h (v 0) ph (subst (λ x. pos 0 <ℤ x) (e 0 (omega arith)) (times_positive g (u 0) pg above))))
+    (λ none. inr (
+      zero_cancel h (v 0) ph (sym (e 0 (omega arith)) ∙ (ap (λ x. g *ℤ x) none.0 ∙ *ℤ-zero g)),
+      lex_scaled n (λ k. u (suc k)) (λ k. v (suc k)) g h pg ph (λ k l. e (suc k) (omega (arith, l))) none.1,
+    ))
+    lex
 
-pub below_reduced : (n : ℕ) (y u v : ℕ → ℤ) (d whole den g : ℤ) → pos 0 <ℤ g → whole ≡ g *ℤ den → ((k : ℕ) → k < n → u k ≡ g *ℤ v k)
-    → IsLexBelow n y d u whole → IsLexBelow n y d v den
-below_reduced zero y u v d whole den g pg ew e h = h
-below_reduced (suc n) y u v d whole den g pg ew e h =
-    let left : y 0 *ℤ whole ≡ g *ℤ (y 0 *ℤ den) = ap (λ s. y 0 *ℤ s) ew ∙ moved_out (y 0) g den in
-    let right : u 0 *ℤ d ≡ g *ℤ (v 0 *ℤ d) = ap (λ s. s *ℤ d) (e 0 (omega arith)) ∙ regroup g (v 0) d in
+pub below_scaled : (n : ℕ) (y u v : ℕ → ℤ) (d whole e : ℤ) → pos 0 <ℤ whole → pos 0 <ℤ e → ((k : ℕ) → k < n → e *ℤ u k ≡ whole *ℤ v k)
+    → IsLexBelow n y d u whole → IsLexBelow n y d v e
+below_scaled zero y u v d whole e pw pe same h = h
+below_scaled (suc n) y u v d whole e pw pe same h =
+    let left : e *ℤ (y 0 *ℤ whole) ≡ whole *ℤ (y 0 *ℤ e) = moved_out e (y 0) whole ∙ (ap (λ s. y 0 *ℤ s) (*ℤ_comm e whole) ∙ moved_out (y 0) whole e) in
+    let right : e *ℤ (u 0 *ℤ d) ≡ whole *ℤ (v 0 *ℤ d) = sym (regroup e (u 0) d) ∙ (ap (λ s. s *ℤ d) (same 0 (omega arith)) ∙ regroup whole (v 0) d) in
     ⊎_elim
-    (λ l. inl (lt_cancel g (y 0 *ℤ den) (v 0 *ℤ d) pg (omega (arith, ints, l, left, right))))
-    (λ s. inr (same_cancel g (y 0 *ℤ den) (v 0 *ℤ d) pg (sym left ∙ (s.0 ∙ right)), below_reduced n (λ k. y (suc k)) (λ k. u (suc k)) (λ k. v (suc k)) d whole den g pg ew (λ k l. e (suc k) (omega arith)) s.1))
+    (λ l. inl (lt_cancel whole (y 0 *ℤ e) (v 0 *ℤ d) pw (omega (arith, ints, left, right, times_less e (y 0 *ℤ whole) (u 0 *ℤ d) pe l))))
+    (λ s. inr (
+      same_cancel whole (y 0 *ℤ e) (v 0 *ℤ d) pw (sym left ∙ (ap (λ x. e *ℤ x) s.0 ∙ right)),
+      below_scaled n (λ k. y (suc k)) (λ k. u (suc k)) (λ k. v (suc k)) d whole e pw pe (λ k l. same (suc k) (omega (arith, l))) s.1,
+    ))
     h
-
-pub valued_multiple : (m : ℕ) (b raw nums : ℕ → ℤ) (whole den g : ℤ) → IsMultiple m raw whole nums den g → (k : ℕ) → k < suc m → valued m b raw k ≡ g *ℤ valued m b nums k
-valued_multiple m b raw nums whole den g r zero l = sum-same m _ _ (λ k h. ap (λ s. s *ℤ b k) (r.of_nums k h)) ∙ dot-times m g nums b
-valued_multiple m b raw nums whole den g r (suc k) l = r.of_nums k (omega arith)
 
 -- what is, but for a positive factor, a sum of positive multiples of two
 pub lex_sum : (n : ℕ) (v x y : ℕ → ℤ) (g a b : ℤ) → pos 0 <ℤ g → pos 0 <ℤ a → pos 0 <ℤ b → ((k : ℕ) → k < n → g *ℤ v k ≡ (a *ℤ x k) +ℤ (b *ℤ y k))
@@ -132,3 +123,39 @@ lex_at (suc n) (suc at) v lt none above = inr (none 0 (omega arith), lex_at n at
 pub lex_none : (n : ℕ) (v : ℕ → ℤ) → ((k : ℕ) → k < n → v k ≡ pos 0) → IsLexNonneg n v
 lex_none zero v none = tt
 lex_none (suc n) v none = inr (none 0 (omega arith), lex_none n (λ k. v (suc k)) (λ k l. none (suc k) (omega arith)))
+
+-- nothing stands before some place, and nothing is negative from there on
+pub lex_rest : (n at : ℕ) (v : ℕ → ℤ) → ((k : ℕ) → k < at → k < n → v k ≡ pos 0) → ((k : ℕ) → at ≤ k → k < n → pos 0 ≤ℤ v k) → IsLexNonneg n v
+lex_rest zero at v none high = tt
+lex_rest (suc n) zero v none high = by_lt_z (pos 0) (v 0)
+    (λ above. inl above)
+    (λ low. inr (both (v 0) (high 0 (omega arith) (omega arith)) low, lex_rest n zero (λ k. v (suc k)) (λ k l lk. absurd (omega (arith, l))) (λ k g l. high (suc k) (omega arith) (omega (arith, l)))))
+  where
+    both : (x : ℤ) → pos 0 ≤ℤ x → x ≤ℤ pos 0 → x ≡ pos 0
+    both x a b = omega (arith, ints, a, b)
+lex_rest (suc n) (suc at) v none high = inr (
+  none 0 (omega arith) (omega arith),
+  lex_rest n at (λ k. v (suc k)) (λ k l lk. none (suc k) (omega (arith, l)) (omega (arith, lk))) (λ k g l. high (suc k) (omega (arith, g)) (omega (arith, l))),
+)
+
+-- further numbers, which are 0 where the first n are
+pub lex_more : (n r : ℕ) (u v : ℕ → ℤ) → ((k : ℕ) → k < n → u k ≡ v k) → (((k : ℕ) → k < n → u k ≡ pos 0) → (k : ℕ) → k < r → v (n + k) ≡ pos 0) → IsLexNonneg n u → IsLexNonneg (n + r) v
+lex_more zero r u v same rest h = subst (λ m. IsLexNonneg m v) (zero_first r) (lex_none r v (λ k l. subst (λ m. v m ≡ pos 0) (sym (zero_first k)) (rest (λ j lj. absurd (omega (arith, lj))) k l)))
+  where
+    zero_first : (r : ℕ) → r ≡ 0 + r
+    zero_first r = omega arith
+lex_more (suc n) r u v same rest h = subst (λ m. IsLexNonneg m v) (suc_first n r) (⊎_elim
+    (λ above. inl (subst (λ x. pos 0 <ℤ x) (same 0 (omega arith)) above))
+    (λ none. inr (
+      sym (same 0 (omega arith)) ∙ none.0,
+      lex_more n r (λ k. u (suc k)) (λ k. v (suc k)) (λ k l. same (suc k) (omega (arith, l)))
+          (λ zero_there k l. subst (λ m. v m ≡ pos 0) (sym (suc_first n k)) (rest (from_front none.0 zero_there) k l)) none.1,
+    ))
+    h)
+  where
+    suc_first : (n r : ℕ) → suc (n + r) ≡ suc n + r
+    suc_first n r = omega arith
+
+    from_front : u 0 ≡ pos 0 → ((k : ℕ) → k < n → u (suc k) ≡ pos 0) → (k : ℕ) → k < suc n → u k ≡ pos 0
+    from_front z all zero l = z
+    from_front z all (suc k) l = all k (omega (arith, l))

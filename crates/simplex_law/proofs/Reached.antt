@@ -7,7 +7,7 @@ use Rattle.simplex_law.specs.Sums.{dot, put, unit_vector}
 use Rattle.simplex_law.specs.Programs.{ColumnOf, IsSlack, slack_basis, IsProgramColumn}
 use Rattle.simplex_law.specs.Bases.{IsFeasible, GainingStep, IsReached}
 use Rattle.simplex_law.specs.inner.Lexicographic.{IsLexNonneg, valued}
-use Rattle.simplex_law.proofs.Tableaux.{IsTableau}
+use Rattle.simplex_law.specs.inner.Tableaux.{IsTableau}
 use Rattle.simplex_law.specs.inner.Pivots.{IsPick}
 use Rattle.simplex_law.proofs.Sums.{sum-one, unit-same, unit-other, dot-unit, dot-of-unit}
 use Rattle.simplex_law.proofs.Order.{lex_at}

@@ -8,14 +8,15 @@ use Rattle.checked_fraction.specs.Mixed.{combined}
 use Rattle.simplex_law.specs.Sums.{dot, unit_vector, put}
 use Rattle.simplex_law.specs.Programs.{ColumnOf}
 use Rattle.simplex_law.specs.Bases.{IsRow}
-use Rattle.simplex_law.specs.inner.Lexicographic.{IsLexNonneg, valued}
-use Rattle.simplex_law.proofs.Order.{IsLexBelow, Rises, lex_negative, lex_zero, lex_positive, lex_rises, lex_reduced, below_reduced, valued_multiple}
-use Rattle.simplex_law.proofs.Tableaux.{IsTableau}
+use Rattle.simplex_law.specs.inner.Lexicographic.{IsLexNonneg, IsLexBelow, Rises, valued}
+use Rattle.simplex_law.proofs.Order.{lex_negative, lex_zero, lex_positive, lex_rises, below_scaled}
+use Rattle.simplex_law.specs.inner.Tableaux.{IsTableau}
 use Rattle.simplex_law.specs.inner.Pivots.{IsPick, IsTurned}
-use Rattle.simplex_law.proofs.Arithmetic.{times_positive, positive_cancel}
+use Rattle.simplex_law.proofs.Arithmetic.{times_positive}
 use Rattle.simplex_law.proofs.Sums.{unit-same, unit-other, dot-none}
-use Rattle.simplex_law.proofs.Rows.{IsMultiple, multiple, dot-combined, next_row, pivot_row, reduced_row}
-use Rattle.simplex_law.proofs.Filling.{next_nums, next_den, next_filling, reduced_filling, same_filling}
+use Rattle.simplex_law.proofs.Rows.{multiple, dot-combined, next_row, pivot_row, reduced_row}
+use Rattle.simplex_law.proofs.Unique.{valued_scaled, row_unique, same_tableau}
+use Rattle.simplex_law.proofs.Filling.{next_nums, next_den, next_filling, same_filling}
 
 -- the columns of the next basis
 entry_put : {N : Type 0} (basis : ℕ → ColumnOf N) (c : ColumnOf N) (r j : ℕ) → (put basis r c j).entry ≡ put (λ i. (basis i).entry) r c.entry j
@@ -36,7 +37,7 @@ to_basis : {N : Type 0} (m : ℕ) (basis : ℕ → ColumnOf N) (c : ColumnOf N) 
     → IsRow m (λ j. (put basis r c j).entry) target nums den
 to_basis m basis c r target nums den row j lt = ap (λ v. dot m nums v) (entry_put basis c r j) ∙ row j lt
 
--- the rows of the next basis before they are reduced
+-- the rows of the next basis before they come to lowest terms
 pub other_row : {N : Type 0} (m : ℕ) (bound : ℕ → ℤ) (basis : ℕ → ColumnOf N) (nums : ℕ → ℕ → ℤ) (den duals : ℕ → ℤ) (duals_den : ℤ) (c : ColumnOf N) (r i : ℕ)
     → IsTableau m bound basis nums den duals duals_den → IsPick m bound nums duals duals_den c r → i < m → i ≢ r
     → IsRow m (λ j. (put basis r c j).entry) (unit_vector i) (combined (nums i) (dot m (nums i) c.entry) (nums r) (dot m (nums r) c.entry)) (den i *ℤ dot m (nums r) c.entry)
@@ -54,7 +55,7 @@ other_row m bound basis nums den duals duals_den c r i s k l ne = to_basis m bas
         (λ n. ap (λ t. cond t (pos 0) (unit_vector i j)) (ne_eqb r j n))
         (cases_eq r j)
 
-first_row : {N : Type 0} (m : ℕ) (bound : ℕ → ℤ) (basis : ℕ → ColumnOf N) (nums : ℕ → ℕ → ℤ) (den duals : ℕ → ℤ) (duals_den : ℤ) (c : ColumnOf N) (r : ℕ)
+pub first_row : {N : Type 0} (m : ℕ) (bound : ℕ → ℤ) (basis : ℕ → ColumnOf N) (nums : ℕ → ℕ → ℤ) (den duals : ℕ → ℤ) (duals_den : ℤ) (c : ColumnOf N) (r : ℕ)
     → IsTableau m bound basis nums den duals duals_den → IsPick m bound nums duals duals_den c r
     → IsRow m (λ j. (put basis r c j).entry) (unit_vector r) (nums r) (dot m (nums r) c.entry)
 first_row m bound basis nums den duals duals_den c r s k = to_basis m basis c r (unit_vector r) _ _
@@ -80,7 +81,7 @@ row_lex m b u w p q more hu hw ratio = front m b u w p q (by_lt_z (pos 0) p rati
     (λ less. lex_negative (suc m) (valued m b u) (valued m b w) p q less more hu hw)
     (λ ge. let e : pos 0 ≡ p = omega (arith, ints, le, ge) in subst (λ x. IsLexNonneg (suc m) (combined (valued m b u) x (valued m b w) q)) e (lex_zero (suc m) (valued m b u) (valued m b w) q more hu))))
 
--- the state after a turn, before the rows are reduced
+-- the tableau after a turn, before the rows come to lowest terms
 pub turned_raw : {N : Type 0} (m : ℕ) (bound : ℕ → ℤ) (basis : ℕ → ColumnOf N) (nums : ℕ → ℕ → ℤ) (den duals : ℕ → ℤ) (duals_den : ℤ) (c : ColumnOf N) (r : ℕ)
     → IsTableau m bound basis nums den duals duals_den → IsPick m bound nums duals duals_den c r
     → IsTableau m bound (put basis r c)
@@ -115,61 +116,64 @@ turned_raw m bound basis nums den duals duals_den c r s k = record {
         (λ ne. subst (λ t. P i (cond t (nums r) (mixed i)) (cond t q (den i *ℤ q))) (sym (ne_eqb r i ne)) (other (λ e. ne (sym e))))
         (cases_eq r i)
 
--- a state keeps its facts when its rows go to lowest terms
-reduced_state : {N : Type 0} (m : ℕ) (bound : ℕ → ℤ) (basis : ℕ → ColumnOf N) (raw nums : ℕ → ℕ → ℤ) (whole den z y : ℕ → ℤ) (dz dy g : ℤ)
-    → ((i : ℕ) → i < m → (f : ℤ) × IsMultiple m (raw i) (whole i) (nums i) (den i) f) → IsMultiple m z dz y dy g
-    → IsTableau m bound basis raw whole z dz → IsTableau m bound basis nums den y dy
-reduced_state m bound basis raw nums whole den z y dz dy g each own s = record {
-  rows = λ i l. let f = each i l in reduced_row m (λ j. (basis j).entry) (unit_vector i) (raw i) (nums i) (whole i) (den i) f.0 f.1 (s.rows i l);
-  over = λ i l. let f = each i l in positive_cancel f.0 (den i) f.1.positive (subst (λ x. pos 0 <ℤ x) f.1.of_den (s.over i l));
-  lex = λ i l. let f = each i l in
-      lex_reduced (suc m) (valued m bound (raw i)) (valued m bound (nums i)) f.0 f.1.positive (valued_multiple m bound (raw i) (nums i) (whole i) (den i) f.0 f.1) (s.lex i l);
-  objective = reduced_row m (λ j. (basis j).entry) (λ j. (basis j).gain) z y dz dy g own s.objective;
-  above = positive_cancel g dy own.positive (subst (λ x. pos 0 <ℤ x) own.of_den s.above);
-  filling = reduced_filling m (λ j. (basis j).entry) raw nums whole den s.filling.0 s.filling.1 each s.filling.2;
-}
+-- the duals after a turn
+next_objective : {N : Type 0} (m : ℕ) (bound : ℕ → ℤ) (basis : ℕ → ColumnOf N) (nums next : ℕ → ℕ → ℤ) (den next_dens duals next_duals : ℕ → ℤ) (duals_den next_duals_den : ℤ) (c : ColumnOf N) (r : ℕ)
+    → IsTableau m bound basis nums den duals duals_den → IsPick m bound nums duals duals_den c r → IsTurned m c r nums next den next_dens duals next_duals duals_den next_duals_den
+    → IsRow m (λ j. (put basis r c j).entry) (λ j. (put basis r c j).gain) next_duals next_duals_den
+next_objective m bound basis nums next den next_dens duals next_duals duals_den next_duals_den c r s k t =
+    let f = multiple m _ _ next_duals next_duals_den (times_positive duals_den (dot m (nums r) c.entry) s.above k.positive) t.objective in
+    reduced_row m _ _ _ _ _ _ f.0 f.1 (objective_row m bound basis nums den duals duals_den c r s k)
 
--- the state after a turn
+-- the tableau after a turn
 pub turned : {N : Type 0} (m : ℕ) (bound : ℕ → ℤ) (basis : ℕ → ColumnOf N) (nums next : ℕ → ℕ → ℤ) (den next_dens duals next_duals : ℕ → ℤ) (duals_den next_duals_den : ℤ) (c : ColumnOf N) (r : ℕ)
     → IsTableau m bound basis nums den duals duals_den → IsPick m bound nums duals duals_den c r → IsTurned m c r nums next den next_dens duals next_duals duals_den next_duals_den
     → IsTableau m bound (put basis r c) next next_dens next_duals next_duals_den
 turned m bound basis nums next den next_dens duals next_duals duals_den next_duals_den c r s k t =
-    let own = multiple m _ _ next_duals next_duals_den (times_positive duals_den q s.above k.positive) t.objective in
-    reduced_state m bound (put basis r c) (next_nums nums (λ i. dot m (nums i) c.entry) r q) next (next_den den r q) next_dens
-    (combined duals (dot m duals c.entry -ℤ (duals_den *ℤ c.gain)) (nums r) q) next_duals (duals_den *ℤ q) next_duals_den own.0
-    each own.1 (turned_raw m bound basis nums den duals duals_den c r s k)
+    same_tableau m bound (put basis r c) _ _ _ _ (turned_raw m bound basis nums den duals duals_den c r s k) next next_dens next_duals next_duals_den
+    (λ i l. (each i l).0) (λ i l. (each i l).1) (next_objective m bound basis nums next den next_dens duals next_duals duals_den next_duals_den c r s k t) t.objective.positive
   where
     q : ℤ
     q = dot m (nums r) c.entry
 
-    mixed : ℕ → ℕ → ℤ
-    mixed i = combined (nums i) (dot m (nums i) c.entry) (nums r) q
-
-    each : (i : ℕ) → i < m → (f : ℤ) × IsMultiple m (cond (eqb r i) (nums r) (mixed i)) (cond (eqb r i) q (den i *ℤ q)) (next i) (next_dens i) f
+    each : (i : ℕ) → i < m → IsRow m (λ j. (put basis r c j).entry) (unit_vector i) (next i) (next_dens i) × (pos 0 <ℤ next_dens i)
     each i l = ⊎_elim
-        (λ e. subst (λ b. (f : ℤ) × IsMultiple m (cond b (nums r) (mixed i)) (cond b q (den i *ℤ q)) (next i) (next_dens i) f) (sym (eq-eqb r i e))
-        (subst (λ x. (f : ℤ) × IsMultiple m (nums r) q (next x) (next_dens x) f) e (multiple m (nums r) q (next r) (next_dens r) k.positive t.pivot)))
-        (λ ne. subst (λ b. (f : ℤ) × IsMultiple m (cond b (nums r) (mixed i)) (cond b q (den i *ℤ q)) (next i) (next_dens i) f) (sym (ne_eqb r i ne))
-        (multiple m (mixed i) (den i *ℤ q) (next i) (next_dens i) (times_positive (den i) q (s.over i l) k.positive) (t.others i l (λ e. ne (sym e)))))
+        (λ e. subst (λ x. IsRow m (λ j. (put basis r c j).entry) (unit_vector x) (next x) (next_dens x) × (pos 0 <ℤ next_dens x)) e
+        (let f = multiple m _ _ (next r) (next_dens r) k.positive t.pivot in
+        (reduced_row m _ _ _ _ _ _ f.0 f.1 (first_row m bound basis nums den duals duals_den c r s k), t.pivot.positive)))
+        (λ ne. let own = t.others i l (λ e. ne (sym e)) in
+        let f = multiple m _ _ (next i) (next_dens i) (times_positive (den i) q (s.over i l) k.positive) own in
+        (reduced_row m _ _ _ _ _ _ f.0 f.1 (other_row m bound basis nums den duals duals_den c r i s k l (λ e. ne (sym e))), own.positive))
         (cases_eq r i)
 
-some_number : (m r : ℕ) (b : ℕ → ℤ) (basic : ℕ → ℕ → ℤ) (w : ℕ → ℤ) (e : ℤ) → r < m → IsRow m basic (unit_vector r) w e → pos 0 <ℤ e → ((k : ℕ) → k < suc m → valued m b w k ≡ pos 0) → ⊥
+-- the numbers of a row of the inverse aren't all 0
+pub some_number : (m r : ℕ) (b : ℕ → ℤ) (basic : ℕ → ℕ → ℤ) (w : ℕ → ℤ) (e : ℤ) → r < m → IsRow m basic (unit_vector r) w e → pos 0 <ℤ e → ((k : ℕ) → k < suc m → valued m b w k ≡ pos 0) → ⊥
 some_number m r b basic w e rm row pe all =
     let z = dot-none m w (basic r) (λ k l. all (suc k) (omega arith)) in
     let one : e *ℤ unit_vector r r ≡ e = ap (λ t. e *ℤ t) (unit-same r) ∙ omega (arith, ints) in
     let is = row r rm in omega (arith, ints, z, one, is, pe)
 
--- the duals and their value rise
-pub rises : {N : Type 0} (m : ℕ) (bound : ℕ → ℤ) (basis : ℕ → ColumnOf N) (nums next : ℕ → ℕ → ℤ) (den next_dens duals next_duals : ℕ → ℤ) (duals_den next_duals_den : ℤ) (c : ColumnOf N) (r : ℕ)
-    → IsTableau m bound basis nums den duals duals_den → IsPick m bound nums duals duals_den c r → IsTurned m c r nums next den next_dens duals next_duals duals_den next_duals_den
-    → Rises m bound duals duals_den next_duals next_duals_den
-rises m bound basis nums next den next_dens duals next_duals duals_den next_duals_den c r s k t =
+-- any duals of the next basis, with their value, stand above those of the basis before
+pub rises_to : {N : Type 0} (m : ℕ) (bound : ℕ → ℤ) (basis : ℕ → ColumnOf N) (nums : ℕ → ℕ → ℤ) (den duals : ℕ → ℤ) (duals_den : ℤ) (c : ColumnOf N) (r : ℕ) (later : ℕ → ℤ) (later_den : ℤ)
+    → IsTableau m bound basis nums den duals duals_den → IsPick m bound nums duals duals_den c r
+    → IsRow m (λ j. (put basis r c j).entry) (λ j. (put basis r c j).gain) later later_den → pos 0 <ℤ later_den
+    → Rises m bound duals duals_den later later_den
+rises_to m bound basis nums den duals duals_den c r later later_den s k row above =
     let p = dot m duals c.entry -ℤ (duals_den *ℤ c.gain) in let q = dot m (nums r) c.entry in
     let h = lex_rises (suc m) (valued m bound duals) (valued m bound (nums r)) p q duals_den k.gains k.positive s.above
     (lex_positive (suc m) (valued m bound (nums r)) (s.lex r k.inside) (some_number m r bound (λ j. (basis j).entry) (nums r) (den r) k.inside (s.rows r k.inside) (s.over r k.inside))) in
     let raw : IsLexBelow (suc m) (valued m bound duals) duals_den (valued m bound (combined duals p (nums r) q)) (duals_den *ℤ q) =
     subst (λ x. ((dot m duals bound *ℤ (duals_den *ℤ q)) <ℤ (x *ℤ duals_den)) ⊎ ((dot m duals bound *ℤ (duals_den *ℤ q) ≡ x *ℤ duals_den) × IsLexBelow m duals duals_den (combined duals p (nums r) q) (duals_den *ℤ q)))
     (sym (dot-combined m duals (nums r) bound p q)) h in
-    let own = multiple m _ _ next_duals next_duals_den (times_positive duals_den q s.above k.positive) t.objective in
-    below_reduced (suc m) (valued m bound duals) (valued m bound (combined duals p (nums r) q)) (valued m bound next_duals) duals_den (duals_den *ℤ q) next_duals_den own.0 own.1.positive own.1.of_den
-    (valued_multiple m bound (combined duals p (nums r) q) next_duals (duals_den *ℤ q) next_duals_den own.0 own.1) raw
+    let next = turned_raw m bound basis nums den duals duals_den c r s k in
+    below_scaled (suc m) (valued m bound duals) (valued m bound (combined duals p (nums r) q)) (valued m bound later) duals_den (duals_den *ℤ q) later_den
+    (times_positive duals_den q s.above k.positive) above
+    (valued_scaled m bound (combined duals p (nums r) q) later (duals_den *ℤ q) later_den (λ y ly.
+    row_unique m (λ j. (put basis r c j).entry) _ _ next.filling.0 next.filling.1 (λ j. (put basis r c j).gain) (combined duals p (nums r) q) later (duals_den *ℤ q) later_den y next.filling.2 next.objective row ly))
+    raw
+
+-- so do those in lowest terms
+pub rises : {N : Type 0} (m : ℕ) (bound : ℕ → ℤ) (basis : ℕ → ColumnOf N) (nums next : ℕ → ℕ → ℤ) (den next_dens duals next_duals : ℕ → ℤ) (duals_den next_duals_den : ℤ) (c : ColumnOf N) (r : ℕ)
+    → IsTableau m bound basis nums den duals duals_den → IsPick m bound nums duals duals_den c r → IsTurned m c r nums next den next_dens duals next_duals duals_den next_duals_den
+    → Rises m bound duals duals_den next_duals next_duals_den
+rises m bound basis nums next den next_dens duals next_duals duals_den next_duals_den c r s k t = rises_to m bound basis nums den duals duals_den c r next_duals next_duals_den s k
+    (next_objective m bound basis nums next den next_dens duals next_duals duals_den next_duals_den c r s k t) t.objective.positive

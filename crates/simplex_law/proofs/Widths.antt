@@ -1,12 +1,13 @@
 -- where a number is too wide, its kind holds of the basis
-use Rattle.std.proofs.Common.{◌≡◌, ◌≢◌, ℕ, ◌<◌, ◌≤◌, ◌*◌, ◌^◌, refl, sym, ap, ◌∙◌, arith, inl, inr, ⊎_elim, cond, subst, unsigned_abs}
-use Rattle.std.proofs.lemmas.Bool.{eq-eqb, ne_eqb}
+use Rattle.std.proofs.Common.{◌≡◌, ◌≢◌, ℕ, ◌<◌, ◌≤◌, ◌-◌, ◌*◌, ◌^◌, refl, sym, ap, ◌∙◌, arith, inl, inr, ⊎_elim, cond, subst, unsigned_abs}
+use Rattle.std.proofs.lemmas.Bool.{cases_lt, eq-eqb, ne_eqb}
 use Rattle.std.proofs.Math.IntN.{ℤ, pos, ◌-ℤ◌, ◌*ℤ◌}
 use Rattle.std.specs.Int.Signed.{◌<ℤ◌}
 use Rattle.std.specs.Int.{◌∣◌}
-use Rattle.std.proofs.lemmas.Int.{ints}
+use Rattle.std.proofs.lemmas.Int.{ints, unsigned_abs-mul}
+use Rattle.std.proofs.lemmas.Nat.{mul-le}
 use Rattle.std.proofs.lemmas.Nat.Gcd.{le_of_dvd}
-use Rattle.checked_fraction.specs.Rows.{IsInLowestTerms}
+use Rattle.checked_fraction.specs.Rows.{IsInLowestTerms, IsNarrow}
 use Rattle.checked_fraction.specs.Mixed.{combined, IsTooWide, IsFirstWide}
 use Rattle.checked_fraction.specs.declared.wide.WideNumber.{WideNumber}
 use Rattle.net_core.specs.Sums.{sum_below}
@@ -14,15 +15,34 @@ use Rattle.simplex_law.specs.Sums.{dot, unit_vector, put}
 use Rattle.simplex_law.specs.Programs.{ColumnOf}
 use Rattle.simplex_law.specs.Bases.{IsRow}
 use Rattle.simplex_law.specs.Evidence.{IsWide, IsRowOf, HoldsRow, HoldsProduct, HoldsSum, HoldsCommon}
-use Rattle.simplex_law.proofs.Tableaux.{IsTableau}
+use Rattle.simplex_law.specs.inner.Tableaux.{IsTableau}
 use Rattle.simplex_law.specs.inner.Pivots.{IsPick}
 use Rattle.simplex_law.proofs.Arithmetic.{times_positive}
+use Rattle.simplex_law.proofs.LowestTerms.{some_lowest}
+use Rattle.simplex_law.proofs.Sums.{sum-same, dot-times}
 use Rattle.simplex_law.proofs.Rows.{multiple, reduced_row}
 use Rattle.simplex_law.proofs.Turned.{other_row, objective_row}
 
+-- a multiple by a divisor of a narrow number that has 2 ^ 124 or more is one of a wide number
+pub large_part : (g : ℕ) (den whole x : ℤ) → pos 0 <ℤ den → whole ≡ pos g *ℤ den → IsNarrow whole → 2 ^ 124 ≤ unsigned_abs (pos g *ℤ x) → 2 ^ 62 ≤ unsigned_abs x
+large_part g den whole x pd e narrow high = large g (unsigned_abs x) (subst (λ y. 2 ^ 124 ≤ y) (unsigned_abs-mul (pos g) x) high)
+    (short (unsigned_abs whole) (unsigned_abs den) narrow (ap unsigned_abs e ∙ unsigned_abs-mul (pos g) den) (some_size den pd))
+  where
+    some_size : (den : ℤ) → pos 0 <ℤ den → 1 ≤ unsigned_abs den
+    some_size den pd = omega (arith, ints, pd)
+
+    short : (w d : ℕ) → w < 2 ^ 62 → w ≡ g * d → 1 ≤ d → g < 2 ^ 62
+    short w d l e s = let t : g * 1 ≤ g * d = mul-le g 1 g d (omega arith) s in omega (arith, t, e, l)
+
+    large : (g x : ℕ) → 2 ^ 124 ≤ g * x → g < 2 ^ 62 → 2 ^ 62 ≤ x
+    large g x h l = ⊎_elim
+        (λ small. let t : g * x ≤ (2 ^ 62 - 1) * (2 ^ 62 - 1) = mul-le g x (2 ^ 62 - 1) (2 ^ 62 - 1) (omega (arith, l)) (omega (arith, small)) in absurd (omega (arith, t, h)))
+        (λ ge. ge)
+        (cases_lt x (2 ^ 62))
+
 module _ {N : Type 0} (m : ℕ) (bound : ℕ → ℤ) (is_column : ColumnOf N → Type 0) where
   -- a row of the inverse, and the objective row, in lowest terms
-  inverse_row : (basis : ℕ → ColumnOf N) (i : ℕ) (nums : ℕ → ℤ) (den : ℤ) → i < m → pos 0 <ℤ den → IsRow m (λ j. (basis j).entry) (unit_vector i) nums den → IsInLowestTerms m nums den
+  pub inverse_row : (basis : ℕ → ColumnOf N) (i : ℕ) (nums : ℕ → ℤ) (den : ℤ) → i < m → pos 0 <ℤ den → IsRow m (λ j. (basis j).entry) (unit_vector i) nums den → IsInLowestTerms m nums den
       → IsRowOf m basis i nums den
   inverse_row basis i nums den lt pd row lowest = record {
     place = omega (arith, lt);
@@ -30,7 +50,7 @@ module _ {N : Type 0} (m : ℕ) (bound : ℕ → ℤ) (is_column : ColumnOf N �
     lowest = lowest;
   }
 
-  last_row : (basis : ℕ → ColumnOf N) (nums : ℕ → ℤ) (den : ℤ) → pos 0 <ℤ den → IsRow m (λ j. (basis j).entry) (λ j. (basis j).gain) nums den → IsInLowestTerms m nums den
+  pub last_row : (basis : ℕ → ColumnOf N) (nums : ℕ → ℤ) (den : ℤ) → pos 0 <ℤ den → IsRow m (λ j. (basis j).entry) (λ j. (basis j).gain) nums den → IsInLowestTerms m nums den
       → IsRowOf m basis m nums den
   last_row basis nums den pd row lowest = record {
     place = omega arith;
@@ -126,3 +146,25 @@ module _ {N : Type 0} (m : ℕ) (bound : ℕ → ℤ) (is_column : ColumnOf N �
       (λ i l. all i (nums i) (den i) (state_row basis nums den duals duals_den i s l (lowest i l)))
       (all m duals duals_den (state_objective basis nums den duals duals_den s lowest_duals))) in
       omega (arith, low, high)
+
+  -- a product that is wide for its row's lowest terms, from any multiple of the row whose denominator is narrow
+  pub wide_multiple : (basis : ℕ → ColumnOf N) (i : ℕ) (raw : ℕ → ℤ) (whole : ℤ) (c : ColumnOf N) → i < m → pos 0 <ℤ whole → IsNarrow whole → IsRow m (λ j. (basis j).entry) (unit_vector i) raw whole
+      → is_column c → 2 ^ 124 ≤ unsigned_abs (dot m raw c.entry) → HoldsProduct m is_column basis i c.name
+  wide_multiple basis i raw whole c lt pw narrow row is_c wide =
+      let low = some_lowest m raw whole pw in
+      let nums = low.0 in let den = low.1 in let g = low.2 in
+      let is = reduced_row m (λ j. (basis j).entry) (unit_vector i) raw nums whole den (pos g) low.3 row in
+      let product : dot m raw c.entry ≡ pos g *ℤ dot m nums c.entry = sum-same m _ _ (λ k l. ap (λ s. s *ℤ c.entry k) (low.3.of_nums k l)) ∙ dot-times m (pos g) nums c.entry in (
+        nums,
+        den,
+        c,
+        inverse_row basis i nums den lt low.4 is low.5,
+        is_c,
+        refl,
+        subst (λ t. 2 ^ 62 ≤ unsigned_abs (dot m nums c.entry -ℤ cond t (den *ℤ c.gain) (pos 0))) (sym (ne_eqb i m (λ e. omega (arith, e, lt))))
+            (subst (λ x. 2 ^ 62 ≤ unsigned_abs x) (less_none (dot m nums c.entry))
+            (large_part g den whole (dot m nums c.entry) low.4 (sym low.6) narrow (subst (λ x. 2 ^ 124 ≤ unsigned_abs x) product wide))),
+      )
+    where
+      less_none : (x : ℤ) → x ≡ x -ℤ pos 0
+      less_none x = omega (arith, ints)

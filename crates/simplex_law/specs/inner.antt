@@ -1,2 +1,4 @@
 pub mod Lexicographic
+pub mod Measures
 pub mod Pivots
+pub mod Tableaux

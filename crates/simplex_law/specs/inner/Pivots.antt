@@ -6,9 +6,13 @@ use Rattle.simplex_law.specs.Sums.{dot}
 use Rattle.simplex_law.specs.Programs.{ColumnOf}
 use Rattle.simplex_law.specs.inner.Lexicographic.{IsLexNonneg, valued}
 
--- row r stands at most where row i stands by the ratio test of column a
+-- the numbers u with their value in front, over p, come no later than those of v over q
+abbrev pub IsNoLater : ℕ → (ℕ → ℤ) → (ℕ → ℤ) → ℤ → (ℕ → ℤ) → ℤ → Type 0
+IsNoLater m bound u p v q = IsLexNonneg (suc m) (combined (valued m bound v) q (valued m bound u) p)
+
+-- the first row comes no later than the second by the ratio test of column a
 abbrev pub IsRatioLe : ℕ → (ℕ → ℤ) → (ℕ → ℤ) → (ℕ → ℤ) → (ℕ → ℤ) → Type 0
-IsRatioLe m bound a first second = IsLexNonneg (suc m) (combined (valued m bound second) (dot m second a) (valued m bound first) (dot m first a))
+IsRatioLe m bound a first second = IsNoLater m bound first (dot m first a) second (dot m second a)
 
 -- column c enters at row r: it gains, and r is first by the ratio test
 pub record IsPick {N : Type 0} (m : ℕ) (bound : ℕ → ℤ) (nums : ℕ → ℕ → ℤ) (duals : ℕ → ℤ) (duals_den : ℤ) (c : ColumnOf N) (r : ℕ) : Type 0 where
