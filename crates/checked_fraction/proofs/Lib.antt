@@ -1,8 +1,10 @@
 pub mod Divisors
 pub mod Fractions
+pub mod Lowering
 pub mod Once
 pub mod Products
 pub mod Quotients
+pub mod Parts
 pub mod Reduced
 pub mod Units
 pub mod Writing

@@ -1,9 +1,9 @@
 -- products of signed numbers
 use Rattle.std.proofs.Common.{◌≡◌, ℕ, zero, suc, ◌+◌, ◌*◌, ap, sym, ◌∙◌, arith}
-use Rattle.std.proofs.Math.IntN.{ℤ, pos, negsuc, ◌-ℤ◌, ◌*ℤ◌, *ℤ_comm, zero-*ℤ}
+use Rattle.std.proofs.Math.IntN.{ℤ, pos, negsuc, ◌+ℤ◌, ◌-ℤ◌, ◌*ℤ◌, *ℤ_comm, zero-*ℤ}
 use Rattle.std.specs.Int.Signed.{◌<ℤ◌}
 use Rattle.std.proofs.lemmas.Int.{ints, by_lt_z}
-use borrow.Author.Differences.{up, down, product_is}
+use borrow.Author.Differences.{up, down, sum_is_lem, product_is}
 
 pub regroup : (a b c : ℤ) → (a *ℤ b) *ℤ c ≡ a *ℤ (b *ℤ c)
 regroup a b c =
@@ -47,6 +47,12 @@ times_minus g x y =
     let e : up z + down x + up y ≡ down z + up x + down y = omega (arith, ints) in
     let u = ap (λ t. up g * t) e in
     let d = ap (λ t. down g * t) e in
+    omega (arith, ints)
+
+pub times_plus : (g x y : ℤ) → g *ℤ (x +ℤ y) ≡ (g *ℤ x) +ℤ (g *ℤ y)
+times_plus g x y =
+    let u = ap (λ t. up g * t) (sum_is_lem x y) in
+    let d = ap (λ t. down g * t) (sum_is_lem x y) in
     omega (arith, ints)
 
 -- both factors times d: so is the number

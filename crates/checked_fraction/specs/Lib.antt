@@ -1,3 +1,4 @@
 pub mod Rows
 pub mod Mixed
+pub mod Totals
 pub mod inner

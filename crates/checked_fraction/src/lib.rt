@@ -3,16 +3,20 @@
 
 mod divisor;
 pub mod fraction;
+pub mod lowest;
 mod mix;
 pub mod pivot;
 pub mod row;
 pub mod scale;
+pub mod sum;
 pub mod wide;
 
 pub use fraction::{cmp, gcd, mul_div};
+pub use lowest::lower;
 pub use pivot::combine;
 pub use row::Row;
 pub use scale::rescale;
+pub use sum::{Sum, product};
 pub use wide::WideNumber;
 
 #[cfg(test)]

@@ -3,6 +3,7 @@ ghost use Rattle.checked_fraction.specs.Rows.{IsNarrow};
 ghost use Rattle.checked_fraction.specs.inner.Passes.{CanMix, raw, over};
 
 use crate::divisor::Divisor;
+use crate::sum::product;
 
 /// What a row is combined by: `p` times the pivot row is taken from `q` times the row.
 #[derive(Clone, Copy)]
@@ -13,21 +14,6 @@ pub(crate) struct Mix {
 
 /// The least size of a wide number.
 pub(crate) const WIDE: u128 = 1 << 62;
-
-fn widen(a: i64) -> i128
-    ensures { result ≡ a }
-{
-    a as i128
-}
-
-fn product(a: i64, b: i64) -> i128
-    requires a { IsNarrow a }
-    requires b { IsNarrow b }
-    ensures value { result ≡ a *ℤ b }
-    ensures bound { unsigned_abs result < 2 ^ 124 }
-{
-    widen(a) * widen(b)
-}
 
 fn difference(a: i128, b: i128) -> i128
     requires a { unsigned_abs a < 2 ^ 124 }
@@ -46,7 +32,7 @@ fn mixed(a: i64, b: i64, p: i64, q: i64) -> i128
     ensures value { result ≡ (a *ℤ q) -ℤ (p *ℤ b) }
     ensures bound { unsigned_abs result < 2 ^ 125 }
 {
-    difference(product(a, q), product(p, b))
+    difference(product(&a, &q), product(&p, &b))
 }
 
 /// Number `k` of the combined row.
@@ -68,7 +54,8 @@ pub(crate) fn size_at(nums: &[i64], pivot: &[i64], mix: &Mix, k: usize) -> u128
     raw_at(nums, pivot, mix, k).unsigned_abs()
 }
 
-fn divided(a: i128, divisor: &Divisor) -> i128
+/// A number divided, rounded towards 0.
+pub(crate) fn divided(a: i128, divisor: &Divisor) -> i128
     requires { unsigned_abs a < 2 ^ 125 }
     ensures value { result ≡ int_div a (pos divisor.now.value) }
     ensures bound { unsigned_abs result < 2 ^ 125 }
@@ -93,7 +80,7 @@ pub(crate) fn reduced_at(
     divided(raw_at(nums, pivot, mix, k), divisor)
 }
 
-fn narrowed(a: i128) -> i64
+pub(crate) fn narrowed(a: i128) -> i64
     requires { IsNarrow a }
     ensures { result ≡ a }
 {

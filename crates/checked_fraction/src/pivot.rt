@@ -26,7 +26,7 @@ struct Found {
 }
 
 /// The greatest common divisor, in most cases without a division.
-fn joined(common: &Divisor, size: u128) -> Divisor
+pub(crate) fn joined(common: &Divisor, size: u128) -> Divisor
     ensures { IsGcd common.now.value size result.value }
 {
     if common.divides(size) {

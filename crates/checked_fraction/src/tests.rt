@@ -2,9 +2,11 @@ ghost use Rattle.std.specs.Prelude.{◌≡◌, length, IfOk};
 ghost use Rattle.checked_fraction.specs.Rows.{IsNarrow};
 
 use crate::fraction::{cmp, gcd, mul_div};
+use crate::lowest::lower;
 use crate::pivot::combine;
 use crate::row::Row;
 use crate::scale::rescale;
+use crate::sum::Sum;
 use crate::wide::WideNumber;
 use net_core::list::NoMemory;
 use std::alloc::Global;
@@ -98,4 +100,36 @@ fn rows_in_lowest_terms(rt: HostRuntime) -> Result<(), Fail> {
     assert_eq!(rt; row.nums(), [-1, 5].as_slice());
     assert_eq!(rt; row.den(), 9);
     Ok(())
+}
+
+#[test]
+fn given_numbers_in_lowest_terms(rt: HostRuntime) -> Result<(), Fail> {
+    let mut row = Row::unit(rt.alloc(), 2, 0)?;
+    assert_eq!(rt; lower(&mut row, &[6, -4], &10), Ok(()));
+    assert_eq!(rt; row.nums(), [3, -2].as_slice());
+    assert_eq!(rt; row.den(), 5);
+    let wide = WideNumber {
+        at: 1,
+        value: -(1 << 62),
+    };
+    assert_eq!(rt; lower(&mut row, &[3, -3 << 62], &3), Err(wide));
+    assert_eq!(rt; row.nums(), [3, -2].as_slice());
+    assert_eq!(rt; row.den(), 5);
+    Ok(())
+}
+
+#[test]
+fn sums_past_128_bits(rt: HostRuntime) {
+    let top = (1 << 62) - 1;
+    let mut sum = Sum::new();
+    sum.add(&top, &top);
+    sum.add(&top, &top);
+    assert_eq!(rt; sum.within(), None);
+    sum.subtract(&top, &top);
+    sum.subtract(&top, &top);
+    sum.add_wide(&-3, &(1 << 70));
+    assert_eq!(rt; sum.within(), Some(-3 << 70));
+    assert!(rt; sum.is_negative());
+    sum.add_wide(&4, &(1 << 70));
+    assert_eq!(rt; sum.size(), 1 << 70);
 }

@@ -1,11 +1,12 @@
 -- what the passes over a combined row find and write
-use Rattle.std.specs.Prelude.{ℕ, ℤ, List, pos, ◌≡◌, ◌<◌, ◌≤◌, ◌/◌, ◌*ℤ◌, length, unsigned_abs, int_div}
+use Rattle.std.specs.Prelude.{ℕ, ℤ, List, pos, ◌≡◌, ◌<◌, ◌≤◌, ◌/◌, ◌*ℤ◌, ◌^◌, length, unsigned_abs, int_div}
 use Rattle.std.specs.Int.{◌∣◌}
 use Rattle.checked_fraction.specs.Rows.{num, IsNarrow}
 use Rattle.checked_fraction.specs.Mixed.{combined}
 use Rattle.checked_fraction.specs.declared.mix.Mix.{Mix}
 use Rattle.checked_fraction.specs.declared.pivot.Survey.{Survey}
 use Rattle.checked_fraction.specs.declared.pivot.Found.{Found}
+use Rattle.checked_fraction.specs.declared.wide.WideNumber.{WideNumber}
 
 -- rows of equal length, and factors, all narrow
 pub record CanMix (nums pivot : List ℤ) (mix : Mix) : Type 0 where
@@ -37,6 +38,13 @@ pub record IsSurvey (f : ℕ → ℤ) (n whole : ℕ) (survey : Survey) : Type 0
 -- the first n numbers are narrow
 abbrev pub IsWithin : (ℕ → ℤ) → ℕ → Type 0
 IsWithin f n = (k : ℕ) → k < n → IsNarrow (f k)
+
+-- the first of n numbers that is wide
+pub record IsFirstOver (f : ℕ → ℤ) (n : ℕ) (wide : WideNumber) : Type 0 where
+  pub inside : wide.at < n
+  pub value : wide.value ≡ f wide.at
+  pub is_wide : 2 ^ 62 ≤ unsigned_abs wide.value
+  pub before : IsWithin f wide.at
 
 -- the greatest common divisor makes all numbers and the denominator narrow
 pub record IsFoundDivisor (f : ℕ → ℤ) (n whole : ℕ) (found : Found) : Type 0 where
