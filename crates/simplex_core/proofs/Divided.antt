@@ -6,7 +6,8 @@ use Rattle.checked_fraction.specs.Rows.{num, IsReduced}
 use Rattle.checked_fraction.specs.Mixed.{combined}
 use Rattle.checked_fraction.proofs.Products.{mixed_times, moved, regroup}
 use Rattle.checked_fraction.proofs.Reduced.{scaled}
-use Rattle.simplex_core.specs.inner.Factors.{AreFactorsOf, HavePivot, FindsWideProduct}
+use Rattle.simplex_core.specs.inner.Factors.{AreFactorsOf}
+use Rattle.simplex_core.specs.Turned.{HavePivot, FindsWideProduct}
 use Rattle.simplex_core.specs.declared.factors.Factors.{Factors}
 
 -- the factors without their common divisor combine to the same row

@@ -16,7 +16,7 @@ use Rattle.simplex_law.proofs.Reached.{value_nonneg}
 use Rattle.simplex_law.proofs.Values.{value_low}
 use Rattle.simplex_core.specs.inner.Commons.{IsFractionOf, AreFractionsOf, num_of_fraction, den_of_fraction, fraction_den, DivideAll, value_at}
 use Rattle.simplex_core.specs.Prices.{GainsAt}
-use Rattle.simplex_core.specs.inner.Products.{nums_at, den_at}
+use Rattle.simplex_core.specs.Tables.{nums_at, den_at}
 use Rattle.simplex_law.specs.Bases.{AreNames}
 use Rattle.simplex_core.specs.Programs.{IsSameProgram, Solves, IsSimplexAnswer}
 use Rattle.simplex_core.proofs.Solving.{IsAt}

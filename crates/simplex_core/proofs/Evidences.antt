@@ -15,7 +15,7 @@ use Rattle.simplex_law.specs.Evidence.{HoldsRow, HoldsProduct, HoldsSum, HoldsKi
 use Rattle.simplex_law.proofs.Bounds.{sizes}
 use Rattle.simplex_law.proofs.Reached.{turn_reached}
 use Rattle.simplex_law.proofs.Widths.{wide_row, wide_duals, wide_product, wide_price, wide_sum, wide_value, wide_common}
-use Rattle.simplex_core.specs.inner.Products.{nums_at, den_at}
+use Rattle.simplex_core.specs.Tables.{nums_at, den_at}
 use Rattle.simplex_core.proofs.Solving.{IsAt, names_turn, lowest_at, pick_at, state_turn, bounds_turn}
 use Rattle.simplex_core.specs.inner.Outcomes.{IsWideEnd}
 use Rattle.simplex_core.specs.inner.Turns.{Picks, GetsWide}

@@ -6,7 +6,7 @@ use Rattle.checked_fraction.specs.Rows.{num}
 use Rattle.checked_fraction.specs.declared.row.Row.{Row}
 use Rattle.simplex_law.specs.Sums.{dot}
 use Rattle.simplex_core.specs.inner.Commons.{IsFractionOf}
-use Rattle.simplex_core.specs.inner.Products.{nums_of, den_of, nums_at, den_at}
+use Rattle.simplex_core.specs.Tables.{nums_of, den_of, nums_at, den_at}
 use Rattle.simplex_core.specs.inner.Shapes.{AtEach}
 use Rattle.simplex_core.specs.declared.fraction.Fraction.{Fraction}
 use Rattle.simplex_core.proofs.Starts.{each_push}

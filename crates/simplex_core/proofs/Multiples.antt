@@ -5,7 +5,8 @@ use Rattle.std.proofs.lemmas.Bool.{cases_lt}
 use Rattle.std.proofs.lemmas.Nat.{div-add-mod'}
 use Rattle.std.proofs.lemmas.Nat.Gcd.{dvd_refl, dvd-zero, dvd_trans}
 use Rattle.std.proofs.Math.Nat.{one-dvd, dvd-mul_left, dvd-add, dvd-sub, dvd-mul_right, dvd-mul_left_of_dvd, dvd_of_mul-dvd-mul_left, mul-dvd-mul_left, mul-dvd-mul_right, mul-div_cancel'}
-use Rattle.simplex_core.specs.inner.Commons.{IsLeastMultiple, IsDenominator, HaveNoMultiple, HaveNoDenominator}
+use Rattle.simplex_core.specs.Multiples.{IsLeastMultiple, HaveNoMultiple}
+use Rattle.simplex_core.specs.inner.Commons.{IsDenominator, HaveNoDenominator}
 
 divides_back : (g a b : ℕ) → g ∣ b → g ∣ a % b → g ∣ a
 divides_back g a b h r = subst (λ x. g ∣ x) (div-add-mod' a b) (dvd-add g (dvd-mul_left_of_dvd g h (a / b)) r)

@@ -8,8 +8,9 @@ use Rattle.checked_fraction.specs.Rows.{num, IsInLowestTerms, IsReduced}
 use Rattle.checked_fraction.specs.Mixed.{combined}
 use Rattle.checked_fraction.specs.declared.row.Row.{Row}
 use Rattle.simplex_law.proofs.Arithmetic.{regroup}
-use Rattle.simplex_core.specs.inner.Products.{nums_of, den_of, IsRectangle}
-use Rattle.simplex_core.specs.inner.Pivots.{IsCombinedRow, IsCombined, IsTooWideRow, IsTooWideAt, CombinesAt, AreCombined, AreTurned, IsWideRow}
+use Rattle.simplex_core.specs.Tables.{nums_of, den_of, IsRectangle}
+use Rattle.simplex_core.specs.Turned.{IsCombinedRow, IsCombined, IsTooWideRow, IsTooWideAt, AreTurned, IsWideRow}
+use Rattle.simplex_core.specs.inner.Pivots.{CombinesAt, AreCombined}
 use Rattle.simplex_core.proofs.Lists.{get_same, get_other}
 
 kept_number : (u d q w : ℤ) → u *ℤ (d *ℤ q) ≡ ((u *ℤ q) -ℤ (pos 0 *ℤ w)) *ℤ d

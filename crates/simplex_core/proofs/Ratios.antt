@@ -13,8 +13,10 @@ use Rattle.checked_fraction.specs.declared.row.Row.{Row}
 use Rattle.simplex_law.specs.Sums.{dot}
 use Rattle.simplex_law.specs.inner.Lexicographic.{valued}
 use Rattle.simplex_law.proofs.Order.{lex_at, lex_none, lex_sum, crossed}
-use Rattle.simplex_core.specs.inner.Products.{nums_at}
-use Rattle.simplex_core.specs.inner.Ratios.{IsCandidate, IsNoLater, IsFirstLess, ComparesNumbers, ComparesRatios, IsFirstOf, IsBetter, IsRowNoLater, IsBestBefore, IsLeavingRow}
+use Rattle.simplex_core.specs.Tables.{nums_at}
+use Rattle.simplex_core.specs.inner.Ratios.{IsCandidate, ComparesRatios, IsFirstOf, IsBetter, IsRowNoLater, IsBestBefore, IsLeavingRow}
+use Rattle.simplex_law.specs.inner.Pivots.{IsNoLater}
+use Rattle.simplex_core.specs.Orders.{IsFirstLess, ComparesNumbers}
 use Rattle.simplex_core.specs.declared.ratio_test.Candidate.{Candidate}
 
 gone : (u v p q : ℤ) → u *ℤ q ≡ v *ℤ p → (v *ℤ p) -ℤ (q *ℤ u) ≡ pos 0

@@ -15,7 +15,7 @@ use Rattle.simplex_law.proofs.Sums.{dot-same, dot-none}
 use Rattle.simplex_law.proofs.Bounds.{same_pick}
 use Rattle.simplex_law.proofs.Reached.{started, start_reached, turn_reached, value_nonneg}
 use Rattle.simplex_law.proofs.Turned.{turned, rises}
-use Rattle.simplex_core.specs.inner.Products.{nums_of, den_of, nums_at, den_at, IsRectangle}
+use Rattle.simplex_core.specs.Tables.{nums_of, den_of, nums_at, den_at, IsRectangle}
 use Rattle.simplex_core.specs.inner.Shapes.{IsStartBasis, IsShaped}
 use Rattle.simplex_law.specs.Bases.{AreNames, IsReached}
 use Rattle.simplex_core.specs.inner.Turns.{Picks, TurnsTo}

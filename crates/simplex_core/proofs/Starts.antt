@@ -9,7 +9,7 @@ use Rattle.checked_fraction.specs.Rows.{num, IsNarrow}
 use Rattle.checked_fraction.specs.declared.row.Row.{Row}
 use Rattle.simplex_law.specs.Sums.{unit_vector}
 use Rattle.simplex_law.proofs.Sums.{unit-same, unit-other}
-use Rattle.simplex_core.specs.inner.Products.{nums_of, den_of}
+use Rattle.simplex_core.specs.Tables.{nums_of, den_of}
 use Rattle.simplex_core.specs.inner.Shapes.{AtEach, IsUnit, IsStartBasis}
 use Rattle.simplex_core.specs.declared.basis.Basis.{Basis}
 

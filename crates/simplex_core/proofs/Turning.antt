@@ -13,9 +13,10 @@ use Rattle.simplex_law.specs.Programs.{ColumnOf, IsSlack}
 use Rattle.simplex_law.proofs.Sums.{dot-unit}
 use Rattle.simplex_core.specs.Columns.{column_from, entry_of}
 use Rattle.simplex_core.specs.Prices.{GainsAt}
-use Rattle.simplex_core.specs.inner.Products.{nums_at, den_at}
-use Rattle.simplex_core.specs.inner.Pivots.{IsWideRow}
-use Rattle.simplex_core.specs.inner.Ratios.{IsNoLater, IsRowNoLater}
+use Rattle.simplex_core.specs.Tables.{nums_at, den_at}
+use Rattle.simplex_core.specs.Turned.{IsWideRow}
+use Rattle.simplex_law.specs.inner.Pivots.{IsNoLater}
+use Rattle.simplex_core.specs.inner.Ratios.{IsRowNoLater}
 use Rattle.simplex_core.specs.inner.Turns.{reduced_cost, Picks, TurnsTo, IsWideOther, GetsWide, Enters, Chooses, HasEntered, IsTurnOutcome}
 use Rattle.simplex_core.specs.declared.basis.Basis.{Basis}
 use Rattle.simplex_core.specs.declared.solver.Turn.{Turn}

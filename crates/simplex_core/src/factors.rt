@@ -1,7 +1,8 @@
 ghost use Rattle.std.specs.Prelude.{◌≡◌, ◌<◌, ◌≤◌, ◌^◌, ◌/◌, ◌<ℤ◌, ◌↔◌, ℕ, pos, length, int_div, unsigned_abs, IsTrue, false};
 ghost use Rattle.std.specs.Int.{IsGcd};
 ghost use Rattle.checked_fraction.specs.Rows.{num, IsNarrow};
-ghost use Rattle.simplex_core.specs.inner.Factors.{IsNarrowOver, AreFactorsOf, FindsWideProduct};
+ghost use Rattle.simplex_core.specs.Turned.{IsNarrowOver, FindsWideProduct};
+ghost use Rattle.simplex_core.specs.inner.Factors.{AreFactorsOf};
 
 use checked_fraction::gcd;
 
@@ -116,9 +117,9 @@ pub(crate) fn factors_of(p: &i128, q: &i128) -> Factors
     over(p, q, g)
 }
 
-/// A row whose product stays wide when the pivot of row `r` is divided: row `r` itself, the objective row
+/// A row whose product with a column stays wide when the pivot of row `r` is divided: row `r` itself, the objective row
 /// with its reduced cost, numbered by the count of rows, or another row.
-pub(crate) fn wide_product(products: &[i128], cost: &i128, r: usize) -> Option<u32>
+pub fn wide_product(products: &[i128], cost: &i128, r: usize) -> Option<u32>
     requires short { length products.now < 2 ^ 32 }
     requires inside { r < length products.now }
     requires positive { pos 0 <ℤ num products.now r }

@@ -3,19 +3,21 @@
 
 mod basis;
 pub mod columns;
-mod factors;
+pub mod factors;
 mod fraction;
 pub mod optimum;
-mod pivot;
+pub mod pivot;
 pub mod product;
-mod ratio_test;
+pub mod ratio_test;
 pub mod solver;
-mod sum;
 mod value;
 
 pub use columns::{Column, Columns, Entry, Price};
-pub use optimum::Optimum;
+pub use factors::wide_product;
+pub use optimum::{Optimum, common_multiple};
+pub use pivot::{turn_list, turn_objective};
 pub use product::gains;
+pub use ratio_test::compare_numbers;
 pub use solver::{SimplexFault, solve};
 
 #[cfg(test)]

@@ -1,6 +1,7 @@
 ghost use Rattle.std.specs.Prelude.{◌≡◌, ◌*◌, ◌/◌, ◌<◌, ◌^◌, ℕ, length, IfOk};
 ghost use Rattle.std.specs.Int.{◌∣◌};
-ghost use Rattle.simplex_core.specs.inner.Commons.{IsCommonMultiple, IsCommonDenominator, fraction_den, value_at};
+ghost use Rattle.simplex_core.specs.Multiples.{IsCommonMultiple};
+ghost use Rattle.simplex_core.specs.inner.Commons.{IsCommonDenominator, fraction_den, value_at};
 ghost use Rattle.simplex_core.specs.inner.Shapes.{AtEach};
 
 use crate::fraction::Fraction;
@@ -33,8 +34,8 @@ fn multiple(a: u64, b: u64) -> u128
     (a as u128 / gcd(a as u128, b as u128)) * b as u128
 }
 
-/// The least common multiple, where it is narrow.
-fn common_multiple(a: u64, b: u64) -> Option<u64>
+/// The least common multiple, where it is below 2^62.
+pub fn common_multiple(a: u64, b: u64) -> Option<u64>
     requires a { (0 < a) × (a < 2 ^ 62) }
     requires b { (0 < b) × (b < 2 ^ 62) }
     ensures { IsCommonMultiple a b result }

@@ -1,9 +1,10 @@
 ghost use Rattle.std.specs.Prelude.{◌≡◌, ◌≢◌, ◌<◌, ◌^◌, ◌*ℤ◌, ◌<ℤ◌, ℕ, pos, length, OnOk, IfErr};
 ghost use Rattle.checked_fraction.specs.Rows.{num, IsNarrow, IsReduced};
 ghost use Rattle.checked_fraction.specs.Mixed.{combined, IsTooWide};
-ghost use Rattle.simplex_core.specs.inner.Products.{nums_at, IsRectangle};
-ghost use Rattle.simplex_core.specs.inner.Factors.{IsNarrowOver, HavePivot};
-ghost use Rattle.simplex_core.specs.inner.Pivots.{CombinesAt, AreCombined, IsTooWideAt, AreTurned, IsWideRow};
+ghost use Rattle.simplex_core.specs.Tables.{nums_at, IsRectangle};
+ghost use Rattle.simplex_core.specs.Turned.{IsNarrowOver, HavePivot};
+ghost use Rattle.simplex_core.specs.inner.Pivots.{CombinesAt, AreCombined};
+ghost use Rattle.simplex_core.specs.Turned.{IsTooWideAt, AreTurned, IsWideRow};
 
 use crate::factors::{Factors, factors_of, narrowed};
 use checked_fraction::{Row, WideNumber, combine, rescale};
@@ -110,8 +111,12 @@ fn turn_rows(rows: &mut [Row], products: &[i128], spare: &mut Row, r: usize) -> 
     Ok(())
 }
 
-/// The same of a list of rows.
-pub(crate) fn turn_list(
+/// Makes the rows of an inverse those of the next basis, in which row `r` has left for a column with these
+/// products. An error names a row that gets too wide; the rows are then half written. It takes no memory,
+/// and time by the square of the count of rows at most: a row of product 0 costs nothing.
+///
+/// `spare` stands in for the pivot row while that is lent, and its numbers don't matter.
+pub fn turn_list(
     rows: &mut List<Row>,
     products: &List<i128>,
     spare: &mut Row,
@@ -146,8 +151,9 @@ fn combine_objective(
     combine_row(duals, cost, &rows[r], &products[r])
 }
 
-/// The same of lists.
-pub(crate) fn turn_objective(
+/// Makes the objective row that of the next basis, before the rows are turned. `cost` is its product with the
+/// column that enters, less the column's gain. An error says where it gets too wide; it takes no memory.
+pub fn turn_objective(
     duals: &mut Row,
     cost: &i128,
     rows: &List<Row>,

@@ -3,11 +3,12 @@ ghost use Rattle.std.specs.List.{AllByRecursion};
 ghost use Rattle.checked_fraction.specs.Rows.{num, IsNarrow};
 ghost use Rattle.simplex_law.specs.Sums.{dot};
 ghost use Rattle.simplex_core.specs.Columns.{entry_of, IsEntry};
-ghost use Rattle.simplex_core.specs.inner.Products.{sum_value, IsHeldOf, HasRoom, HaveProducts, IsRectangle};
+ghost use Rattle.checked_fraction.specs.Totals.{total, IsExact, HasRoom};
+ghost use Rattle.simplex_core.specs.inner.Products.{HaveProducts};
+ghost use Rattle.simplex_core.specs.Tables.{IsRectangle};
 
 use crate::columns::Entry;
-use crate::sum::Sum;
-use checked_fraction::Row;
+use checked_fraction::{Row, Sum};
 use net_core::List;
 
 /// Adds the product of each entry with the row's number there.
@@ -16,7 +17,7 @@ fn add_entries(sum: &mut Sum, nums: &[i64], entries: &[Entry])
     requires low { sum.old.low ≤ 2 ^ 62 }
     requires entries { AllByRecursion (IsEntry (length nums.now)) entries.now }
     requires nums { (k : ℕ) → IsNarrow (num nums.now k) }
-    ensures total { sum_value sum.new ≡ sum_value sum.old +ℤ dot (length nums.now) (num nums.now) (entry_of entries.now) }
+    ensures total { total sum.new ≡ total sum.old +ℤ dot (length nums.now) (num nums.now) (entry_of entries.now) }
     ensures room { HasRoom sum.new }
 {
     for entry in entries {
@@ -28,18 +29,18 @@ fn add_entries(sum: &mut Sum, nums: &[i64], entries: &[Entry])
 fn row_product(nums: &[i64], entries: &[Entry]) -> Option<i128>
     requires entries { AllByRecursion (IsEntry (length nums.now)) entries.now }
     requires nums { (k : ℕ) → IsNarrow (num nums.now k) }
-    ensures { IsHeldOf (dot (length nums.now) (num nums.now) (entry_of entries.now)) result }
+    ensures { IsExact (dot (length nums.now) (num nums.now) (entry_of entries.now)) result }
 {
     let mut sum = Sum::new();
     add_entries(&mut sum, nums, entries);
-    sum.exact()
+    sum.within()
 }
 
 /// The product of the objective row with a column, less the column's gain over the row's denominator.
 fn reduced_cost_sum(duals: &Row, gain: &i64, entries: &[Entry]) -> Sum
     requires gain { IsNarrow gain.now }
     requires entries { AllByRecursion (IsEntry (length duals.now.nums)) entries.now }
-    ensures total { sum_value result ≡ dot (length duals.now.nums) (num duals.now.nums) (entry_of entries.now) -ℤ duals.now.den *ℤ gain.now }
+    ensures total { total result ≡ dot (length duals.now.nums) (num duals.now.nums) (entry_of entries.now) -ℤ duals.now.den *ℤ gain.now }
     ensures room { HasRoom result }
 {
     let mut sum = Sum::new();
@@ -52,9 +53,9 @@ fn reduced_cost_sum(duals: &Row, gain: &i64, entries: &[Entry]) -> Sum
 pub(crate) fn reduced_cost_of(duals: &Row, gain: &i64, entries: &[Entry]) -> Option<i128>
     requires gain { IsNarrow gain.now }
     requires entries { AllByRecursion (IsEntry (length duals.now.nums)) entries.now }
-    ensures { IsHeldOf (dot (length duals.now.nums) (num duals.now.nums) (entry_of entries.now) -ℤ duals.now.den *ℤ gain.now) result }
+    ensures { IsExact (dot (length duals.now.nums) (num duals.now.nums) (entry_of entries.now) -ℤ duals.now.den *ℤ gain.now) result }
 {
-    reduced_cost_sum(duals, gain, entries).exact()
+    reduced_cost_sum(duals, gain, entries).within()
 }
 
 /// Writes the product of each row with entries, up to the first that 128 bits don't hold.

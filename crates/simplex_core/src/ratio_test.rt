@@ -2,14 +2,15 @@ ghost use Rattle.std.specs.Prelude.{◌≡◌, ◌+◌, ◌<◌, ◌≤◌, ◌^
 ghost use Rattle.std.specs.Option.{ForSome, option_map};
 ghost use Rattle.checked_fraction.specs.Rows.{num, IsNarrow};
 ghost use Rattle.simplex_law.specs.Sums.{dot};
-ghost use Rattle.simplex_core.specs.inner.Products.{nums_at, IsRectangle, AreBoundedRows};
-ghost use Rattle.simplex_core.specs.inner.Ratios.{HasOrder, IsPlaced, IsCandidate, ComparesNumbers, HaveRowValues, ComparesRows, IsFirstOf, IsBetter, IsBestBefore, IsLeavingRow};
+ghost use Rattle.simplex_core.specs.Tables.{nums_at, IsRectangle};
+ghost use Rattle.simplex_core.specs.inner.Products.{AreBoundedRows};
+ghost use Rattle.simplex_core.specs.Orders.{HasOrder, ComparesNumbers};
+ghost use Rattle.simplex_core.specs.inner.Ratios.{IsPlaced, IsCandidate, HaveRowValues, ComparesRows, IsFirstOf, IsBetter, IsBestBefore, IsLeavingRow};
 ghost use Rattle.simplex_core.specs.inner.Values.{sizes_of};
 
 use crate::factors::{is_narrow, narrowed};
-use crate::sum::product;
 use crate::value::row_value;
-use checked_fraction::{Row, cmp};
+use checked_fraction::{Row, cmp, product};
 use net_core::List;
 use std::cmp::Ordering;
 
@@ -91,7 +92,9 @@ fn compare_ratios(a: &i64, p: &i128, b: &i64, q: &i128) -> Ordering
 }
 
 /// How the numbers `first / p` compare with `second / q`, by the first that differs.
-fn compare_numbers(first: &[i64], p: &i128, second: &[i64], q: &i128) -> Ordering
+///
+/// The numbers 1, 3 over 2 compare with 1, 2 over 2 as greater.
+pub fn compare_numbers(first: &[i64], p: &i128, second: &[i64], q: &i128) -> Ordering
     requires equal { length first.now ≡ length second.now }
     requires first { (k : ℕ) → IsNarrow (num first.now k) }
     requires second { (k : ℕ) → IsNarrow (num second.now k) }

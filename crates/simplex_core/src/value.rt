@@ -6,8 +6,7 @@ ghost use Rattle.simplex_core.specs.inner.Products.{AreBoundedRows};
 ghost use Rattle.simplex_core.specs.inner.Values.{sizes_of, IsValueOf};
 
 use crate::fraction::{Fraction, fraction_of};
-use crate::sum::product;
-use checked_fraction::Row;
+use checked_fraction::{Row, product};
 use net_core::{List, NoMemory};
 use std::alloc::Global;
 

@@ -4,29 +4,12 @@ use Rattle.std.specs.Int.{◌∣◌}
 use Rattle.std.specs.List.{slice_get}
 use Rattle.checked_fraction.specs.declared.row.Row.{Row}
 use Rattle.simplex_law.specs.Sums.{dot}
-use Rattle.simplex_core.specs.inner.Products.{nums_at, den_at}
+use Rattle.simplex_core.specs.Tables.{nums_at, den_at}
 use Rattle.simplex_core.specs.inner.Shapes.{AtEach}
 use Rattle.simplex_core.specs.inner.Values.{sizes_of}
 use Rattle.simplex_core.specs.declared.fraction.Fraction.{Fraction}
 use Rattle.simplex_core.specs.declared.value.ValueFault.{ValueFault}
 use Rattle.simplex_core.specs.declared.value.ValueFault.TheVariants.{Sum, NoMemory}
-
--- the least common multiple of both, which is narrow
-pub record IsLeastMultiple (a b multiple : ℕ) : Type 0 where
-  pub some : 0 < multiple
-  pub narrow : multiple < 2 ^ 62
-  pub first : a ∣ multiple
-  pub second : b ∣ multiple
-  pub least : (c : ℕ) → a ∣ c → b ∣ c → multiple ∣ c
-
--- a wide number that divides each common multiple
-abbrev pub HaveNoMultiple : ℕ → ℕ → Type 0
-HaveNoMultiple a b = (part : ℕ) × (2 ^ 62 ≤ part) × ((c : ℕ) → a ∣ c → b ∣ c → part ∣ c)
-
--- the least common multiple of two numbers where it is narrow
-abbrev pub IsCommonMultiple : ℕ → ℕ → Option ℕ → Type 0
-IsCommonMultiple a b None = HaveNoMultiple a b
-IsCommonMultiple a b (Some multiple) = IsLeastMultiple a b multiple
 
 -- the size of value over den, as a fraction whose denominator divides den
 pub record IsFractionOf (value den : ℤ) (f : Fraction) : Type 0 where

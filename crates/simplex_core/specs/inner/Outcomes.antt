@@ -4,7 +4,7 @@ use Rattle.checked_fraction.specs.Rows.{num}
 use Rattle.net_core.specs.declared.columns.WideKind.{WideKind}
 use Rattle.net_core.specs.declared.columns.WideKind.TheVariants.{Number, Row as RowOf, Product, Sum, Common, Value, Length}
 use Rattle.simplex_core.specs.inner.Commons.{AreFractionsOf, fraction_den, IsDenominator, HaveNoDenominator, DivideAll, value_at}
-use Rattle.simplex_core.specs.inner.Products.{nums_at}
+use Rattle.simplex_core.specs.Tables.{nums_at}
 use Rattle.simplex_core.specs.inner.Shapes.{AtEach}
 use Rattle.simplex_core.specs.inner.Values.{sizes_of}
 use Rattle.simplex_core.specs.declared.basis.Basis.{Basis}

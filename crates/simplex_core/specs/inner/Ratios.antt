@@ -1,13 +1,12 @@
 -- which row leaves when a column enters
-use Rattle.std.specs.Prelude.{ℕ, ℤ, suc, pos, List, length, Option, Some, None, Result, Ok, Err, ◌≡◌, ◌<◌, ◌≤◌, ◌^◌, ◌<ℤ◌, unsigned_abs, ◌≤ℤ◌, ◌⊎◌}
+use Rattle.std.specs.Prelude.{ℕ, ℤ, pos, List, length, Option, Some, None, Result, Ok, Err, ◌≡◌, ◌<◌, ◌≤◌, ◌^◌, ◌<ℤ◌, unsigned_abs, ◌≤ℤ◌, ◌⊎◌}
 use Rattle.std.specs.declared.cmp.Ordering.{Ordering}
 use Rattle.std.specs.declared.cmp.Ordering.TheVariants.{Less, Equal, Greater}
+use Rattle.simplex_law.specs.inner.Pivots.{IsNoLater}
 use Rattle.checked_fraction.specs.Rows.{num}
-use Rattle.checked_fraction.specs.Mixed.{combined}
 use Rattle.checked_fraction.specs.declared.row.Row.{Row}
 use Rattle.simplex_law.specs.Sums.{dot}
-use Rattle.simplex_law.specs.inner.Lexicographic.{IsLexNonneg, valued}
-use Rattle.simplex_core.specs.inner.Products.{nums_at}
+use Rattle.simplex_core.specs.Tables.{nums_at}
 use Rattle.simplex_core.specs.inner.Values.{sizes_of}
 use Rattle.simplex_core.specs.declared.ratio_test.Candidate.{Candidate}
 
@@ -22,26 +21,6 @@ pub record IsCandidate (m : ℕ) (rows : List Row) (bounds products : List ℤ) 
   pub placed : IsPlaced m c
   pub value : pos c.value ≡ dot m (nums_at rows c.row) (num bounds)
   pub product : c.product ≡ num products c.row
-
--- the numbers u with their value in front, over p, come no later than those of v over q
-abbrev pub IsNoLater : ℕ → (ℕ → ℤ) → (ℕ → ℤ) → ℤ → (ℕ → ℤ) → ℤ → Type 0
-IsNoLater m bound u p v q = IsLexNonneg (suc m) (combined (valued m bound v) q (valued m bound u) p)
-
--- how x stands to y
-abbrev pub HasOrder : ℤ → ℤ → Ordering → Type 0
-HasOrder x y Less = x <ℤ y
-HasOrder x y Equal = x ≡ y
-HasOrder x y Greater = y <ℤ x
-
--- u and v are equal before a place, and u is less there
-abbrev pub IsFirstLess : ℕ → (ℕ → ℤ) → (ℕ → ℤ) → Type 0
-IsFirstLess m u v = (at : ℕ) × (at < m) × ((k : ℕ) → k < at → u k ≡ v k) × (u at <ℤ v at)
-
--- how m numbers u compare with v, by the first that differs
-abbrev pub ComparesNumbers : ℕ → (ℕ → ℤ) → (ℕ → ℤ) → Ordering → Type 0
-ComparesNumbers m u v Less = IsFirstLess m u v
-ComparesNumbers m u v Equal = (k : ℕ) → k < m → u k ≡ v k
-ComparesNumbers m u v Greater = IsFirstLess m v u
 
 -- how the ratio of u and p stands to that of v and q
 abbrev pub ComparesRatios : ℕ → (ℕ → ℤ) → (ℕ → ℤ) → ℤ → (ℕ → ℤ) → ℤ → Ordering → Type 0

@@ -4,7 +4,7 @@ use Rattle.std.specs.List.{slice_get}
 use Rattle.checked_fraction.specs.Rows.{num, IsNarrow}
 use Rattle.checked_fraction.specs.declared.row.Row.{Row}
 use Rattle.simplex_law.specs.Sums.{unit_vector}
-use Rattle.simplex_core.specs.inner.Products.{nums_at, den_at, IsRectangle}
+use Rattle.simplex_core.specs.Tables.{nums_at, den_at, IsRectangle}
 use Rattle.simplex_core.specs.declared.basis.Basis.{Basis}
 
 -- each list of a basis of m rows has m items

@@ -10,7 +10,7 @@ use Rattle.simplex_law.specs.Sums.{dot}
 use Rattle.simplex_law.specs.Programs.{ColumnOf, IsProgramColumn}
 use Rattle.simplex_law.specs.Evidence.{IsWide}
 use Rattle.simplex_law.specs.inner.Pivots.{IsPick, IsTurned}
-use Rattle.simplex_core.specs.inner.Products.{nums_at, den_at}
+use Rattle.simplex_core.specs.Tables.{nums_at, den_at}
 use Rattle.simplex_core.specs.Prices.{GainsAt}
 use Rattle.simplex_core.specs.inner.Shapes.{IsShaped}
 use Rattle.simplex_core.specs.inner.Values.{sizes_of}

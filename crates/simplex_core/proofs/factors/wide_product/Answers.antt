@@ -1,7 +1,7 @@
 use Rattle.std.proofs.Common.{◌≡◌, arith, subst, refl, ⊎_elim}
 use Rattle.std.proofs.lemmas.Bool.{cases_lt}
 use Rattle.checked_fraction.specs.Rows.{num}
-use Rattle.simplex_core.specs.inner.Factors.{IsNarrowOver}
+use Rattle.simplex_core.specs.Turned.{IsNarrowOver}
 use Rattle.simplex_core.proofs.factors.wide_product.Goals as goal
 
 pub loop-i-preserved : goal.loop-i-preserved

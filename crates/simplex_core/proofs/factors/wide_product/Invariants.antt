@@ -1,6 +1,6 @@
 use Rattle.std.proofs.Common.{ℕ, ◌<◌}
 use Rattle.checked_fraction.specs.Rows.{num}
-use Rattle.simplex_core.specs.inner.Factors.{IsNarrowOver}
+use Rattle.simplex_core.specs.Turned.{IsNarrowOver}
 use Rattle.simplex_core.proofs.factors.wide_product.Given as goal
 
 -- the products so far are narrow when they are divided

@@ -1,5 +1,6 @@
 use Rattle.std.proofs.Common.{subst, length}
-use Rattle.simplex_core.specs.inner.Commons.{fraction_den, IsLeastMultiple, HaveNoMultiple}
+use Rattle.simplex_core.specs.inner.Commons.{fraction_den}
+use Rattle.simplex_core.specs.Multiples.{IsLeastMultiple, HaveNoMultiple}
 use Rattle.simplex_core.proofs.Multiples.{denominator_first, denominator_next, denominator_none}
 use Rattle.simplex_core.proofs.optimum.common_denominator.Goals as goal
 

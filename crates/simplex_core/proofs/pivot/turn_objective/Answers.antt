@@ -1,6 +1,6 @@
 use Rattle.std.proofs.Common.{subst, sym}
 use Rattle.checked_fraction.specs.Rows.{num}
-use Rattle.simplex_core.specs.inner.Factors.{IsNarrowOver}
+use Rattle.simplex_core.specs.Turned.{IsNarrowOver}
 use Rattle.simplex_core.proofs.pivot.turn_objective.Goals as goal
 
 pub combine_objective-requires-clause-over : goal.combine_objective-requires-clause-over

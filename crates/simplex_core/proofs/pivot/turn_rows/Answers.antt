@@ -1,7 +1,7 @@
 use Rattle.std.proofs.Common.{length, refl, ◌≡◌, ◌∙◌, ap, Some, slice_get, slice_set, length-set, subst, sym, arith}
 use Rattle.std.proofs.lemmas.Option.{slice_get-get_or}
 use Rattle.checked_fraction.specs.Rows.{num}
-use Rattle.simplex_core.specs.inner.Pivots.{AreTurned}
+use Rattle.simplex_core.specs.Turned.{AreTurned}
 use Rattle.simplex_core.proofs.Pivots.{turned_rows, spare_size}
 use Rattle.simplex_core.proofs.pivot.turn_rows.Goals as goal
 

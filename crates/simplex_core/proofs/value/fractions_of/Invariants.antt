@@ -2,7 +2,7 @@ use Rattle.std.proofs.Common.{◌≡◌, length}
 use Rattle.checked_fraction.specs.Rows.{num}
 use Rattle.simplex_law.specs.Sums.{dot}
 use Rattle.simplex_core.specs.inner.Commons.{IsFractionOf}
-use Rattle.simplex_core.specs.inner.Products.{nums_at, den_at}
+use Rattle.simplex_core.specs.Tables.{nums_at, den_at}
 use Rattle.simplex_core.specs.inner.Shapes.{AtEach}
 use Rattle.simplex_core.proofs.value.fractions_of.Given as goal
 
