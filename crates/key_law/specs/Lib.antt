@@ -1,0 +1,9 @@
+pub mod Keys
+pub mod Kept
+pub mod KeyRows
+pub mod Turns
+pub mod Ties
+pub mod KeyedBases
+pub mod RowLaws
+pub mod TurnLaws
+pub mod WideLaws
