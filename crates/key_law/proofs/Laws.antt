@@ -4,11 +4,12 @@ use Rattle.simplex_law.specs.inner.Pivots.{IsPick}
 use Rattle.key_law.specs.Keys.{key_part}
 use Rattle.key_law.specs.KeyRows.{role_nums}
 use Rattle.key_law.specs.KeyedBases.{IsColumnBy, KeyedTurn, whole_rows, whole_prices}
-use Rattle.key_law.specs.RowLaws.{FullRows, BlockRows, KeyRows, KeptProducts, KeyProducts, KeptCosts, KeptValues, KeyValues, SlacksAreKept, KeptOptimum, OwnProducts}
-use Rattle.key_law.specs.TurnLaws.{BlockTurns, KeyTurns, Exchanges, ExchangedTurns, ExchangedProducts, KeyTurnedProducts, TurnsReach, TurnsFall, SomeRoleLimits, BlockOrder, RolesInOrder}
+use Rattle.key_law.specs.RowLaws.{FullRows, BlockRows, RowsOfKeys, KeptProducts, KeyProducts, KeptCosts, KeptValues, KeyValues, SlacksAreKept, KeptOptimum, OwnProducts}
+use Rattle.key_law.specs.TurnLaws.{BlockTurns, KeyTurns, Exchanges, ExchangedTurns, ExchangedProducts, ExchangedPrices, KeyTurnedProducts, TurnsReach, TurnsFall, SomeRoleLimits, FirstRoleLeaves, BlockOrder, RolesInOrder}
 use Rattle.key_law.specs.WideLaws.{WideProducts, WideCosts, WideKeyProducts, WideKeyRows, WideKeyNumbers, WideDemandPrices, WideTurnedRows, WideTurnedPrices, WideCommons}
 use Rattle.key_law.proofs.Amounts
 use Rattle.key_law.proofs.Blocks
+use Rattle.key_law.proofs.Candidates
 use Rattle.key_law.proofs.Ends
 use Rattle.key_law.proofs.Exchange
 use Rattle.key_law.proofs.Firsts
@@ -37,8 +38,8 @@ module _ {N : Type 0} where
   block_rows links demands basis place role target full den roles keys row =
       (Blocks.block_of links demands basis place role target full den roles keys row, Blocks.spread_row links demands basis place role target full den roles keys row)
 
-  pub key_rows : KeyRows N
-  key_rows k weight all d l weights = Kept.key_row k.is_kept weight all d l weights
+  pub rows_of_keys : RowsOfKeys N
+  rows_of_keys k weight all d l weights = Kept.key_row k.is_kept weight all d l weights
 
   pub kept_products : KeptProducts N
   kept_products k i a = Kept.row_product k.is_kept i a
@@ -86,6 +87,9 @@ module _ {N : Type 0} where
   pub exchanged_products : ExchangedProducts N
   exchanged_products k i d next next_den weight all a x = (Leaving.exchanged_product k.is_kept x a, Leaving.exchanged_key_product k.is_kept x a)
 
+  pub exchanged_prices : ExchangedPrices N
+  exchanged_prices k i d next next_den weight all j x l = Leaving.exchanged_prices k.is_kept x j l
+
   pub key_turned_products : KeyTurnedProducts N
   key_turned_products t d nums a is lone = Leaving.key_turned_product t.before.is_kept t.key_rows t.enters t.leaves t.pick.inside (turn_pick t) d is lone nums a
 
@@ -97,6 +101,9 @@ module _ {N : Type 0} where
 
   pub some_role_limits : SomeRoleLimits N
   some_role_limits k test of_keys of_den c key_rows packing columns is_c gains none = Amounts.some_limit (IsColumnBy test) k.is_kept key_rows c packing columns is_c gains none
+
+  pub first_role_leaves : FirstRoleLeaves N
+  first_role_leaves k weight all c r positive gains l some first = Candidates.picked_role k.is_kept weight all positive c r l gains some first
 
   pub block_order : BlockOrder N
   block_order k i j p q h = Short.short_no_later k.links k.demands k.basis k.place k.role k.is_kept.roles k.is_kept.keys k.bound (k.kept i) (k.den i) p (k.kept j) (k.den j) q h

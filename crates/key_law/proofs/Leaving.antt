@@ -5,7 +5,10 @@ use Rattle.simplex_law.specs.Sums.{dot, put}
 use Rattle.simplex_law.specs.Programs.{ColumnOf}
 use Rattle.simplex_law.specs.inner.Pivots.{IsPick}
 use Rattle.simplex_law.proofs.NoLater.{pick_again}
+use Rattle.simplex_law.proofs.Arithmetic.{same_cancel}
 use Rattle.simplex_law.proofs.Sums.{dot-same}
+use Rattle.simplex_law.proofs.Unique.{row_unique}
+use Rattle.key_law.proofs.Kept.{prices_row}
 use Rattle.key_law.specs.Keys.{swap, key_part, left_column}
 use Rattle.key_law.specs.Kept.{IsKept}
 use Rattle.key_law.specs.KeyRows.{full_prices, key_nums, key_dot, role_nums, AreKeyRows}
@@ -40,7 +43,7 @@ module _ {N : Type 0} {links demands : ℕ} {bound : ℕ → ℤ} {basis : ℕ �
 
 -- what an exchange and a new key do to products, and so to values
 module _ {N : Type 0} {links demands : ℕ} {bound : ℕ → ℤ} {basis : ℕ → ColumnOf N} {place role : ℕ → ℕ} {kept next : ℕ → ℕ → ℤ} {den next_den prices weight : ℕ → ℤ} {prices_den all : ℤ}
-    {i d : ℕ} (h : IsKept links demands bound basis place role kept den prices prices_den) (x : IsExchanged links demands basis place i d kept next den next_den weight all) (a : ℕ → ℤ) where
+    {i d : ℕ} (h : IsKept links demands bound basis place role kept den prices prices_den) (x : IsExchanged links demands basis place i d kept next den next_den weight all) where
   abbrev others : ℕ → ℕ → ℤ
   others = key_part links demands basis (λ r. place (swap i (links + d) r))
 
@@ -51,12 +54,18 @@ module _ {N : Type 0} {links demands : ℕ} {bound : ℕ → ℤ} {basis : ℕ �
   same_other e k le ne = ap (λ y. (basis y).entry k) (key_at h x e le ne)
 
   -- the other rows keep theirs
-  pub exchanged_product : (j : ℕ) → j < links → j ≢ i → dot links (next j) (left_column links demands basis (λ r. place (swap i (links + d) r)) a) ≡ dot links (kept j) (left_column links demands basis place a)
-  exchanged_product j lj ne = dot-same links (next j) (kept j) _ _ (λ k lk. x.rest j k lj ne lk) (λ k lk. refl) ∙ exchange_product h i d x.row_in x.demand_in x.owned others is_other same_other j a lj ne
+  pub exchanged_product : (a : ℕ → ℤ) (j : ℕ) → j < links → j ≢ i → dot links (next j) (left_column links demands basis (λ r. place (swap i (links + d) r)) a) ≡ dot links (kept j) (left_column links demands basis place a)
+  exchanged_product a j lj ne = dot-same links (next j) (kept j) _ _ (λ k lk. x.rest j k lj ne lk) (λ k lk. refl) ∙ exchange_product h i d x.row_in x.demand_in x.owned others is_other same_other j a lj ne
+
+  -- the prices of all rows stay
+  pub exchanged_prices : (k : ℕ) → k < links + demands → full_prices links demands basis (λ r. place (swap i (links + d) r)) prices prices_den k ≡ full_prices links demands basis place prices prices_den k
+  exchanged_prices k lk = same_cancel prices_den _ _ h.above
+      (row_unique (links + demands) (λ j. (basis j).entry) h.whole.nums h.whole.den h.whole.tableau.filling.0 h.whole.tableau.filling.1 (λ j. (basis j).gain) _ _ prices_den prices_den k
+      h.whole.tableau.filling.2 (prices_row (exchanged h x)) (prices_row h) lk)
 
   -- and the old key's row has those of the key
-  pub exchanged_key_product : dot links (key_nums links demands basis place kept weight d) (left_column links demands basis (λ r. place (swap i (links + d) r)) a) ≡ key_dot links demands basis place kept weight all d a
-  exchanged_key_product = exchange_key_product h i d x.row_in x.demand_in x.owned others is_other same_other weight all a x.weights
+  pub exchanged_key_product : (a : ℕ → ℤ) → dot links (key_nums links demands basis place kept weight d) (left_column links demands basis (λ r. place (swap i (links + d) r)) a) ≡ key_dot links demands basis place kept weight all d a
+  exchanged_key_product a = exchange_key_product h i d x.row_in x.demand_in x.owned others is_other same_other weight all a x.weights
 
 module _ {N : Type 0} {links demands : ℕ} {bound : ℕ → ℤ} {basis : ℕ → ColumnOf N} {place role : ℕ → ℕ} {kept : ℕ → ℕ → ℤ} {den prices : ℕ → ℤ} {prices_den : ℤ}
     {of_keys : ℕ → ℕ → ℤ} {of_den : ℕ → ℤ} (h : IsKept links demands bound basis place role kept den prices prices_den) (k : AreKeyRows links demands basis place of_keys of_den)

@@ -1,5 +1,6 @@
 pub mod Amounts
 pub mod Blocks
+pub mod Candidates
 pub mod Change
 pub mod Crossed
 pub mod Ends

@@ -18,12 +18,12 @@ module _ {N : Type 0} (links demands : ℕ) (basis : ℕ → ColumnOf N) (place 
   abbrev pub full_key : ℕ → (ℕ → ℤ) → ℤ → ℕ → ℤ
   full_key d = spread links (key_part links demands basis place) (unit_vector d)
 
-  -- what a column costs at the prices, over prices_den, less its gain
+  -- what a column costs at the prices of the links over den, less its gain: a column that gains has a negative cost
   abbrev pub cost : (ℕ → ℤ) → ℤ → ColumnOf N → ℤ
   cost prices den c = dot links prices (left_column links demands basis place c.entry)
       -ℤ (den *ℤ left_target links demands (λ d. (key links demands basis place d).gain) c.entry c.gain)
 
-  -- weights bring the rows of demand d's columns over one denominator
+  -- weights bring the rows of demand d's columns in the block over the denominator all
   abbrev pub HaveWeights : (ℕ → ℤ) → (ℕ → ℤ) → ℕ → ℤ → Type 0
   HaveWeights den weight d all = (i : ℕ) → i < links → (basis (place i)).entry (links + d) *ℤ (weight i *ℤ den i) ≡ (basis (place i)).entry (links + d) *ℤ all
 
@@ -31,15 +31,15 @@ module _ {N : Type 0} (links demands : ℕ) (basis : ℕ → ColumnOf N) (place 
   abbrev pub key_times : (ℕ → ℤ) → ℕ → ℕ → ℤ
   key_times weight d i = (basis (place i)).entry (links + d) *ℤ weight i
 
-  -- the link entries of the key's row: less each row of a column of the demand
+  -- the link entries of its key's row over all: less the rows of the demand's columns
   abbrev pub key_nums : (ℕ → ℕ → ℤ) → (ℕ → ℤ) → ℕ → ℕ → ℤ
   key_nums kept weight d k = pos 0 -ℤ int_sum links (λ i. key_times weight d i *ℤ kept i k)
 
-  -- the product of the key's row, over all, with a column, or its value
+  -- the product of that row with a column, or, with the bounds, its value
   abbrev pub key_dot : (ℕ → ℕ → ℤ) → (ℕ → ℤ) → ℤ → ℕ → (ℕ → ℤ) → ℤ
   key_dot kept weight all d a = (all *ℤ a (links + d)) -ℤ int_sum links (λ i. key_times weight d i *ℤ dot links (kept i) (left_column links demands basis place a))
 
-  -- all rows of the inverse by their roles, with rows of the keys, which may be any multiples
+  -- the rows of the inverse by role; those of the keys are given, over any denominators
   abbrev pub role_nums : (ℕ → ℕ → ℤ) → (ℕ → ℤ) → (ℕ → ℕ → ℤ) → (ℕ → ℤ) → ℕ → ℕ → ℤ
   role_nums kept den of_keys of_den r = cond (ltb r links) (full_kept (kept r) (den r)) (full_key (r - links) (of_keys (r - links)) (of_den (r - links)))
 
@@ -47,7 +47,15 @@ module _ {N : Type 0} (links demands : ℕ) (basis : ℕ → ColumnOf N) (place 
   abbrev pub role_den : (ℕ → ℤ) → (ℕ → ℤ) → ℕ → ℤ
   role_den den of_den r = cond (ltb r links) (den r) (of_den (r - links))
 
-  -- the values of all roles over a common denominator of the block
+  -- the link entries of a role's row, where weights bring each demand's columns over a denominator of the demand's own
+  abbrev pub role_links : (ℕ → ℕ → ℤ) → (ℕ → ℕ → ℤ) → ℕ → ℕ → ℤ
+  role_links kept weight r = cond (ltb r links) (kept r) (key_nums kept (weight (r - links)) (r - links))
+
+  -- the product of that row with a column, or, with the bounds, its value
+  abbrev pub role_dot : (ℕ → ℕ → ℤ) → (ℕ → ℕ → ℤ) → (ℕ → ℤ) → ℕ → (ℕ → ℤ) → ℤ
+  role_dot kept weight all r a = cond (ltb r links) (dot links (kept r) (left_column links demands basis place a)) (key_dot kept (weight (r - links)) (all (r - links)) (r - links) a)
+
+  -- the value of a role over a common denominator of the block
   abbrev pub role_value : (ℕ → ℕ → ℤ) → (ℕ → ℤ) → ℤ → (ℕ → ℤ) → ℕ → ℤ
   role_value kept weight all bound r = cond (ltb r links) (weight r *ℤ dot links (kept r) (left_column links demands basis place bound)) (key_dot kept weight all (r - links) bound)
 

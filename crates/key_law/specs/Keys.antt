@@ -3,12 +3,16 @@ use Rattle.std.specs.Prelude.{ℕ, ℤ, ◌≡◌, ◌<◌, ◌+◌, ◌-◌, �
 use Rattle.simplex_law.specs.Sums.{int_sum, dot, unit_vector}
 use Rattle.simplex_law.specs.Programs.{ColumnOf}
 
--- Rows 0 to links - 1 are those of links, and row links + d is that of demand d. Of a basis of as many columns, the key of a demand
--- is one that stands in the demand's row. Differences are taken against the keys, so that the rows of links are left.
+-- Rows 0 to links - 1 are those of links, and row links + d is that of demand d. In a basis, one column of each demand is its key, a
+-- path or the demand's slack. Of the other columns only what differs from the keys is kept: where the key of a demand runs over link 2,
+-- a path of it over links 0 and 1 leaves 1, 1 and -1.
 
 -- a column in the rows of links, less each key as often as the column stands in the key's demand
 abbrev pub difference : ℕ → ℕ → (ℕ → ℕ → ℤ) → (ℕ → ℤ) → ℕ → ℤ
 difference links demands keys a k = a k -ℤ int_sum demands (λ d. a (links + d) *ℤ keys d k)
+
+-- A row over den takes a number at a column where their product is den times that number. A row of the inverse takes 1 at its own
+-- column and 0 at the others of the basis, and the prices take each column's gain.
 
 -- what a row takes at a column, less what it takes at each key as often
 abbrev pub left_target : ℕ → ℕ → (ℕ → ℤ) → (ℕ → ℤ) → ℤ → ℤ
@@ -23,8 +27,8 @@ pub record IsSpread (links demands : ℕ) (keys : ℕ → ℕ → ℤ) (key_targ
 abbrev pub spread : ℕ → (ℕ → ℕ → ℤ) → (ℕ → ℤ) → (ℕ → ℤ) → ℤ → ℕ → ℤ
 spread links keys key_target nums den k = cond (ltb k links) (nums k) ((den *ℤ key_target (k - links)) -ℤ dot links nums (keys (k - links)))
 
--- The columns of a basis keep their places, and what each is for is its role: role i below links is row i of the block, which the
--- columns that aren't keys make, and role links + d is the key of demand d.
+-- Columns keep their places in a basis, and what a column is there for is its role. Role links + d is the key of demand d. The columns
+-- that aren't keys make a square block, what the keys leave of them, and role i below links is row i of the block's inverse.
 
 -- the place of each of m roles, and the role at each place
 pub record AreRoles (m : ℕ) (place role : ℕ → ℕ) : Type 0 where
@@ -33,7 +37,7 @@ pub record AreRoles (m : ℕ) (place role : ℕ → ℕ) : Type 0 where
   pub there : (r : ℕ) → r < m → role (place r) ≡ r
   pub back : (j : ℕ) → j < m → place (role j) ≡ j
 
--- a and b for each other
+-- each of a and b in place of the other
 abbrev pub swap : ℕ → ℕ → ℕ → ℕ
 swap a b r = cond (eqb a r) b (cond (eqb b r) a r)
 

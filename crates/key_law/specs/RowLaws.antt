@@ -28,8 +28,8 @@ module _ (N : Type 0) where
       → IsBlockRow links demands basis place target full den × IsSpread links demands (key_part links demands basis place) (λ d. target (place (links + d))) full den full
 
   -- the rows of a demand's columns give that of its key
-  abbrev pub KeyRows : Type 0
-  KeyRows = (k : KeyedBasis N) (weight : ℕ → ℤ) (all : ℤ) (d : ℕ)
+  abbrev pub RowsOfKeys : Type 0
+  RowsOfKeys = (k : KeyedBasis N) (weight : ℕ → ℤ) (all : ℤ) (d : ℕ)
       → d < k.demands
       → HaveWeights k.links k.demands k.basis k.place k.den weight d all
       → IsRow (whole_rows k) (λ j. (k.basis j).entry) (unit_vector (k.place (k.links + d))) (whole_key_row k weight all d) all

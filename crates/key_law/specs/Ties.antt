@@ -11,13 +11,16 @@ IsRoleFirst links a b = (a < links) ⊎ ((links ≤ b) × (b < a))
 abbrev pub AreLinksFirst : ℕ → (ℕ → ℤ) → ℤ → (ℕ → ℤ) → ℤ → Type 0
 AreLinksFirst links n r o s = (at : ℕ) × (at < links) × ((k : ℕ) → k < at → n k *ℤ s ≡ o k *ℤ r) × ((n at *ℤ s) <ℤ (o at *ℤ r))
 
--- role a, of the value x over p and the link entries n over r, comes before role b, of y over q and o over s: by values, or else by
--- link entries, or else by roles
-abbrev pub ComesFirst : ℕ → ℤ → ℤ → ℤ → ℤ → (ℕ → ℤ) → ℤ → (ℕ → ℤ) → ℤ → ℕ → ℕ → Type 0
-ComesFirst links x p y q n r o s a b = ((x *ℤ q) <ℤ (y *ℤ p))
-    ⊎ ((x *ℤ q ≡ y *ℤ p) × (AreLinksFirst links n r o s ⊎ (((k : ℕ) → k < links → n k *ℤ s ≡ o k *ℤ r) × IsRoleFirst links a b)))
+-- of two roles with equal values, a and the link entries n over r come before b and o over s: by link entries, or else by roles
+abbrev pub IsTieFirst : ℕ → (ℕ → ℤ) → ℤ → (ℕ → ℤ) → ℤ → ℕ → ℕ → Type 0
+IsTieFirst links n r o s a b = AreLinksFirst links n r o s ⊎ (((k : ℕ) → k < links → n k *ℤ s ≡ o k *ℤ r) × IsRoleFirst links a b)
 
--- a row of a role over den with its value and its product with a; its link entries and product are the same as nums and lowest but for factors
+-- role a, of the value x over p, comes before role b, of the value y over q: by values, or else by what decides ties
+abbrev pub ComesFirst : ℕ → ℤ → ℤ → ℤ → ℤ → (ℕ → ℤ) → ℤ → (ℕ → ℤ) → ℤ → ℕ → ℕ → Type 0
+ComesFirst links x p y q n r o s a b = ((x *ℤ q) <ℤ (y *ℤ p)) ⊎ ((x *ℤ q ≡ y *ℤ p) × IsTieFirst links n r o s a b)
+
+-- the row of a role over den, its value, and its product with a, which is positive; nums and lowest are its link entries and its product
+-- but for a positive factor, as in lowest terms
 pub record IsRoleRow (links demands : ℕ) (keys : ℕ → ℕ → ℤ) (bound a : ℕ → ℤ) (role : ℕ) (value product : ℤ) (nums : ℕ → ℤ) (lowest : ℤ) (target : ℕ → ℤ) (u : ℕ → ℤ) (den : ℤ) (full : ℕ → ℤ) : Type 0 where
   pub inside : role < links + demands
   pub spreads : IsSpread links demands keys target u den full

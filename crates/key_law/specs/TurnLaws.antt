@@ -1,5 +1,5 @@
 -- turns of a basis, by what is kept of it
-use Rattle.std.specs.Prelude.{Bool, ℕ, ℤ, pos, ◌≡◌, ◌≢◌, ◌<◌, ◌+◌, ◌-ℤ◌, ◌*ℤ◌, ◌≤ℤ◌}
+use Rattle.std.specs.Prelude.{Bool, ℕ, ℤ, pos, ◌≡◌, ◌≢◌, ◌<◌, ◌+◌, ◌-ℤ◌, ◌*ℤ◌, ◌<ℤ◌, ◌≤ℤ◌}
 use Rattle.checked_fraction.specs.Rows.{IsNarrow}
 use Rattle.simplex_law.specs.Sums.{dot}
 use Rattle.simplex_law.specs.Programs.{ColumnOf, IsPacking}
@@ -9,9 +9,9 @@ use Rattle.simplex_law.specs.inner.Pivots.{IsNoLater}
 use Rattle.key_law.specs.Keys.{swap, left_column}
 use Rattle.key_law.specs.Kept.{IsKept}
 use Rattle.key_law.specs.KeyRows.{full_prices, key_nums, key_dot, role_nums, AreKeyRows}
-use Rattle.key_law.specs.Turns.{IsBlockTurned, IsLoneKey, IsExchanged}
+use Rattle.key_law.specs.Turns.{IsKeyPick, IsBlockTurned, IsLoneKey, IsExchanged}
 use Rattle.key_law.specs.Ties.{ComesFirst, IsRoleRow}
-use Rattle.key_law.specs.KeyedBases.{IsColumnBy, KeyedBasis, whole_rows, left_of, whole_row, whole_prices, KeyedTurn, basis_after}
+use Rattle.key_law.specs.KeyedBases.{IsColumnBy, KeyedBasis, whole_rows, left_of, whole_row, whole_product, whole_links, whole_prices, whole_cost, KeyedTurn, basis_after}
 
 module _ (N : Type 0) where
   -- a column of the block leaves: the rows and prices that the turn gives are kept of the next basis, with the same roles
@@ -51,6 +51,13 @@ module _ (N : Type 0) where
       → ((j : ℕ) → j < k.links → j ≢ i → dot k.links (next j) (left_column k.links k.demands k.basis (λ r. k.place (swap i (k.links + d) r)) a) ≡ dot k.links (k.kept j) (left_of k a))
       × (dot k.links (key_nums k.links k.demands k.basis k.place k.kept weight d) (left_column k.links k.demands k.basis (λ r. k.place (swap i (k.links + d) r)) a) ≡ key_dot k.links k.demands k.basis k.place k.kept weight all d a)
 
+  -- and the prices of the demands stay as well
+  abbrev pub ExchangedPrices : Type 0
+  ExchangedPrices = (k : KeyedBasis N) (i d : ℕ) (next : ℕ → ℕ → ℤ) (next_den weight : ℕ → ℤ) (all : ℤ) (j : ℕ)
+      → IsExchanged k.links k.demands k.basis k.place i d k.kept next k.den next_den weight all
+      → j < whole_rows k
+      → full_prices k.links k.demands k.basis (λ r. k.place (swap i (k.links + d) r)) k.prices k.prices_den j ≡ whole_prices k j
+
   -- where a key leaves, a product falls by that with the entering column, as often as a column stands in the demand
   abbrev pub KeyTurnedProducts : Type 0
   KeyTurnedProducts = (t : KeyedTurn N) (d : ℕ) (nums a : ℕ → ℤ)
@@ -86,6 +93,18 @@ module _ (N : Type 0) where
       → Gains (whole_rows k) (whole_prices k) k.prices_den c
       → ((r : ℕ) → r < whole_rows k → dot (whole_rows k) (role_nums k.links k.demands k.basis k.place k.kept k.den of_keys of_den r) c.entry ≤ℤ pos 0)
       → ⊥
+
+  -- a column that gains enters for the role that comes before all others with a positive product, by values, link entries and roles
+  abbrev pub FirstRoleLeaves : Type 0
+  FirstRoleLeaves = (k : KeyedBasis N) (weight : ℕ → ℕ → ℤ) (all : ℕ → ℤ) (c : ColumnOf N) (r : ℕ)
+      → ((d : ℕ) → d < k.demands → pos 0 <ℤ all d)
+      → whole_cost k c <ℤ pos 0
+      → r < whole_rows k
+      → pos 0 <ℤ whole_product k weight all r c.entry
+      → ((i : ℕ) → i < whole_rows k → i ≢ r → pos 0 <ℤ whole_product k weight all i c.entry
+      → ComesFirst k.links (whole_product k weight all r k.bound) (whole_product k weight all r c.entry) (whole_product k weight all i k.bound) (whole_product k weight all i c.entry)
+      (whole_links k weight r) (whole_product k weight all r c.entry) (whole_links k weight i) (whole_product k weight all i c.entry) r i)
+      → IsKeyPick k.links k.demands k.bound k.basis k.place k.kept k.den k.prices k.prices_den (λ d. key_nums k.links k.demands k.basis k.place k.kept (weight d) d) all c r
 
   -- rows of the block stand to each other as the whole rows do
   abbrev pub BlockOrder : Type 0

@@ -1,4 +1,4 @@
-ghost use Rattle.key_law.specs.RowLaws.{BlockRows, FullRows, KeptCosts, KeptOptimum, KeptProducts, KeptValues, KeyProducts, KeyRows, KeyValues, OwnProducts, SlacksAreKept};
+ghost use Rattle.key_law.specs.RowLaws.{BlockRows, FullRows, KeptCosts, KeptOptimum, KeptProducts, KeptValues, KeyProducts, KeyValues, OwnProducts, RowsOfKeys, SlacksAreKept};
 
 use net_core::RouteColumn;
 
@@ -13,8 +13,8 @@ pub fn block_rows()
 {}
 
 /// The rows of a demand's other columns give the row of its key.
-pub fn key_rows()
-    ensures { KeyRows RouteColumn }
+pub fn rows_of_keys()
+    ensures { RowsOfKeys RouteColumn }
 {}
 
 /// A row of the block times what the keys leave of a column, or of the bounds, is the whole row's product.

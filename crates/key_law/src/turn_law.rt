@@ -1,4 +1,4 @@
-ghost use Rattle.key_law.specs.TurnLaws.{BlockOrder, BlockTurns, ExchangedProducts, ExchangedTurns, Exchanges, KeyTurnedProducts, KeyTurns, RolesInOrder, SomeRoleLimits, TurnsFall, TurnsReach};
+ghost use Rattle.key_law.specs.TurnLaws.{BlockOrder, BlockTurns, ExchangedPrices, ExchangedProducts, ExchangedTurns, Exchanges, FirstRoleLeaves, KeyTurnedProducts, KeyTurns, RolesInOrder, SomeRoleLimits, TurnsFall, TurnsReach};
 
 use net_core::RouteColumn;
 
@@ -27,6 +27,11 @@ pub fn exchanged_products()
     ensures { ExchangedProducts RouteColumn }
 {}
 
+/// An exchange changes no price.
+pub fn exchanged_prices()
+    ensures { ExchangedPrices RouteColumn }
+{}
+
 /// A turn in which a key leaves that has other basic columns of its demand. One of them takes its role first, which needs no second
 /// ratio test.
 ///
@@ -52,12 +57,17 @@ pub fn some_role_limits()
     ensures { SomeRoleLimits RouteColumn }
 {}
 
-/// Among rows of the block, the ratio test may look at the link entries alone.
+/// The ratio test may look at values, then at link entries, then at roles: no demand entry is formed.
+pub fn first_role_leaves()
+    ensures { FirstRoleLeaves RouteColumn }
+{}
+
+/// Rows of the block may be compared among themselves as if they were whole.
 pub fn block_order()
     ensures { BlockOrder RouteColumn }
 {}
 
-/// With keys, it may look at values, then at link entries, then at roles: no demand entry is formed.
+/// Any multiples of roles' rows and their products may be compared, as those in lowest terms.
 pub fn roles_in_order()
     ensures { RolesInOrder }
 {}
