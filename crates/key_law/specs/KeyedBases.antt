@@ -43,10 +43,11 @@ module _ {N : Type 0} (k : KeyedBasis N) where
   abbrev pub whole_key_row : (ℕ → ℤ) → ℤ → ℕ → ℕ → ℤ
   whole_key_row weight all d = full_key k.links k.demands k.basis k.place d (key_nums k.links k.demands k.basis k.place k.kept weight d) all
 
-  -- the product of a role's row with a column, or, with the bounds, its value; and its link entries
+  -- the product of a role's row with a column, or, with the bounds, its value
   abbrev pub whole_product : (ℕ → ℕ → ℤ) → (ℕ → ℤ) → ℕ → (ℕ → ℤ) → ℤ
   whole_product = role_dot k.links k.demands k.basis k.place k.kept
 
+  -- the link entries of a role's row
   abbrev pub whole_links : (ℕ → ℕ → ℤ) → ℕ → ℕ → ℤ
   whole_links = role_links k.links k.demands k.basis k.place k.kept
 
