@@ -15,29 +15,26 @@ use Rattle.plan_terms.proofs.Duality.{weak_duality}
 use Rattle.plan_types.specs.Plans.{IsCarryingPlan, IsCertifiedPlan, lines_of_certificate}
 use Rattle.plan_types.specs.declared.plan.Plan.{Plan}
 use Rattle.plan_types.specs.declared.quality.Fractional.{Fractional}
-use Rattle.plan_types.specs.declared.quality.Quality.{Quality}
-use Rattle.plan_types.specs.declared.quality.Quality.TheVariants.{Tight, Unsolved}
 use Rattle.plan_types.specs.declared.report.Outcome.{Outcome}
 use Rattle.plan_types.specs.declared.report.Outcome.TheVariants.{Planned, Unsurvivable}
 use Rattle.plan_types.specs.declared.report.Report.{Report}
 use Rattle.cut_pool.specs.Histories.{cut_of_line, cuts_of, demands_left, version_left}
-use Rattle.planner.specs.SoundPlans.{HasNoRoom, IsPlanAfter, StandsAt, case_left}
+use Rattle.separator.specs.Separators.{IsFullHistory, IsSpotIn}
 use Rattle.planner.proofs.Taking.{cuts_both}
 use Rattle.plan_checker.specs.Order.{HoldNone}
+use Rattle.plan_checker.specs.Shares.{IsTight}
 use Rattle.report_checker.specs.Outcomes.{SeparatesNamed, case_at, outcome_findings}
 use Rattle.report_checker.specs.ReportFindings.{HasNoFinding, whole_findings}
 use Rattle.session_script.specs.declared.script.Act.{Act}
 use Rattle.session_script.specs.declared.script.Act.TheVariants as acts
 use Rattle.session_script.specs.declared.script.Command.{Command}
-use Rattle.session_run.specs.Transcripts.{IsNamedSeparation, IsOutcomeAfter, IsTranscript, RunsFrom, acts_of, caller_of, outcomes_of}
+use Rattle.session_run.specs.Transcripts.{IsNamedSeparation, IsOutcomeAfter, IsPlanBetween, IsTranscript, RunsFrom, acts_of, caller_of, case_left, outcomes_of}
 use Rattle.session_run.proofs.OutcomeForms.{kept_one}
 use Rattle.acceptance.specs.Reports.{IsSoundPlanOf, IsSoundRefusalOf}
 use Rattle.acceptance.specs.Transcripts.{IsBelowAllAble, TranscriptsAreAccepted}
 use Rattle.acceptance.proofs.Reports.{outcome_none, sound_reports_are_accepted}
+use Rattle.acceptance.proofs.Snapshots.{tight_where_claimed}
 use Rattle.acceptance.proofs.Sound.{none_prop}
-
-not_tight : (q : Quality) (f : Fractional) → q ≡ Unsolved → q ≡ Tight f → ⊥
-not_tight q f one two = cc (one, two)
 
 module _ (p : Case) (notes : Notes) (commands : List Command) (r : Report) (few : length commands ≤ 1000) (t : IsTranscript p notes commands r) where
   abbrev es : List Entry
@@ -54,7 +51,7 @@ module _ (p : Case) (notes : Notes) (commands : List Command) (r : Report) (few 
       omega (arith, sum, parts)
 
   -- a cut outside the pool has found it full
-  pool_full : (m : ℕ) → m ≤ length es → HasNoRoom (take m es) → 4096 ≤ length r.pool
+  pool_full : (m : ℕ) → m ≤ length es → IsFullHistory (take m es) → 4096 ≤ length r.pool
   pool_full m le none =
       let pooled = pooled_cuts in
       let lines = t.form.few_lines in
@@ -66,9 +63,9 @@ module _ (p : Case) (notes : Notes) (commands : List Command) (r : Report) (few 
 
   module _ (caller n m serial : ℕ) (within : n ≤ m) (last : m ≤ length es) where
     -- the position of a plan, and what stands before it
-    module _ (plan : Plan) (after : IsPlanAfter p (take n es) (take m es) plan) where
+    module _ (plan : Plan) (after : IsPlanBetween p (take n es) (take m es) plan) where
       place : plan.position ≡ n
-      place = after.same_position ∙ length-take-le n es (omega (arith, within, last))
+      place = after.sound.same_position ∙ (after.left.position ∙ length-take-le n es (omega (arith, within, last)))
 
       before : take n es ≡ take plan.position es
       before = ap (λ k. take k es) (sym place)
@@ -76,16 +73,16 @@ module _ (p : Case) (notes : Notes) (commands : List Command) (r : Report) (few 
       sound_plan : IsSoundPlanOf p r plan
       sound_plan = record {
         position = let at = place in omega (arith, at, within, last);
-        version = after.same_version ∙ ap (version_left p) before;
-        demands = after.same_demands ∙ ap (demands_left p) before;
+        version = after.sound.same_version ∙ (after.left.version ∙ ap (version_left p) before);
+        demands = after.sound.same_demands ∙ (after.left.demands ∙ ap (demands_left p) before);
         carrying = subst (λ es'. IsCarryingPlan (case_left p es') plan) before after.sound.carrying;
         costed = after.sound.costed;
         certified = subst (λ es'. IsCertifiedPlan (case_left p es') plan) before after.sound.certified;
         pooled = λ k d lt is.
             let line = get_or plan.certificate.lines k d in
-            let full : 4096 ≤ length r.pool = pool_full m last (subst (StandsAt (take m es) (cut_of_line line.cut)) is (after.sound.spots k d lt)) in
+            let full : 4096 ≤ length r.pool = pool_full m last (subst (IsSpotIn (take m es) (cut_of_line line.cut)) is (after.sound.spots k d lt)).0 in
             grind (arith, nat_tests, full);
-        tight = λ f is. absurd (not_tight plan.quality f after.sound.unsolved is);
+        tight = λ f is. subst (λ es'. IsTight (case_left p es') plan f) before (tight_where_claimed (case_left p (take n es)) after.snapshot (take m es) plan after.sound f is);
       }
 
       bound_holds : (counts : List (List ℕ)) → IsAble (case_at p es plan.position) counts → plan.bound ≤ total_cost p.links counts

@@ -9,6 +9,8 @@ use Rattle.net_core.specs.Cases.{Case}
 use Rattle.outside_io.specs.Outside.{Files, Rose, Takes, TakesPrefix}
 use Rattle.plan_terms.specs.Separations.{IsFirstSeparation}
 use Rattle.plan_types.specs.declared.plan.Plan.{Plan}
+use Rattle.plan_types.specs.declared.quality.Quality.{Quality}
+use Rattle.plan_types.specs.declared.quality.Quality.TheVariants.{Tight, Loose}
 use Rattle.plan_types.specs.declared.report.Outcome.TheVariants.{Planned}
 use Rattle.plan_types.specs.declared.report.Report.{Report}
 use Rattle.plan_report.specs.Names.{state_name}
@@ -121,11 +123,20 @@ size_line p =
     codes "nodes " ++ decimal (length p.nodes) ++ codes " links " ++ decimal (length p.links)
     ++ codes " demands " ++ decimal (length p.demands) ++ codes " states " ++ decimal (length p.listed + 1) ++ 10 ∷ []
 
+-- the word of a plan's quality
+abbrev pub quality_word : Quality → List ℕ
+quality_word (Tight f) = codes "tight"
+quality_word (Loose cause) = codes "loose"
+
+-- the end of a line, and the lines of a plan's raw value and quality
+abbrev pub raw_lines : Plan → List ℕ
+raw_lines plan = codes "\nraw " ++ decimal plan.raw_num ++ 32 ∷ decimal plan.raw_den ++ codes "\nquality " ++ quality_word plan.quality ++ 10 ∷ []
+
 -- the lines of a plan of a sample
 abbrev pub summary : ℕ → ℕ → Case → Plan → List ℕ
 summary seed nodes p plan =
     codes "sample " ++ decimal seed ++ 32 ∷ decimal nodes ++ 10 ∷ size_line p
-    ++ codes "cost " ++ money_word plan.cost ++ codes "\nbound " ++ money_word plan.bound ++ 10 ∷ []
+    ++ codes "cost " ++ money_word plan.cost ++ codes "\nbound " ++ money_word plan.bound ++ raw_lines plan
 
 -- the text has the lines of a plan whose report is that of a plan of the case
 pub record IsSummary (seed nodes : ℕ) (p : Case) (notes : Notes) (text : List ℕ) : Type 0 where

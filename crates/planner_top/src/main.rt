@@ -43,4 +43,8 @@ fn main(rt: HostRuntime) -> ExitCode {
 }
 
 #[cfg(test)]
+mod check_tests;
+#[cfg(test)]
+mod test_files;
+#[cfg(test)]
 mod tests;

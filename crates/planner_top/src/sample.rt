@@ -5,7 +5,7 @@ ghost use Rattle.plan_terms.specs.Separations.{IsSurvivable};
 ghost use Rattle.sample_net.specs.Samples.{no_notes, sample_demands, sample_links, sample_nodes, with_single_failures};
 ghost use Rattle.session_run.specs.Transcripts.{IsTranscript};
 ghost use Rattle.text_kit.specs.Written.{money_word};
-ghost use Rattle.planner_top.specs.Run.{IsSummary, plan_commands, sample_case, size_line, summary};
+ghost use Rattle.planner_top.specs.Run.{IsSummary, plan_commands, quality_word, raw_lines, sample_case, size_line, summary};
 ghost use Rattle.planner_top.specs.declared.status.Status.{Status};
 ghost use Rattle.plan_types.specs.declared.report.Outcome.TheVariants.{Planned};
 
@@ -13,7 +13,7 @@ use crate::answer::Answer;
 use crate::status::Status;
 use model_reader::single_links;
 use net_core::{Bytes, Copied, Demands, Instance, List, Network, NoMemory};
-use plan_types::{Outcome, Plan, Report};
+use plan_types::{Outcome, Plan, Quality, Report};
 use sample_net::{network_text, sample};
 use session_run::{run_session, single_plan};
 use sndlib_reader::{ReadRefusal, read_network};
@@ -83,6 +83,28 @@ fn put_size(text: &mut Bytes, instance: &Instance) -> Result<(), NoMemory>
     text.append(b"\n")
 }
 
+/// The word of a plan's quality.
+fn quality_word(quality: &Quality) -> &'static [u8]
+    ensures { result.now ≡ quality_word quality.now }
+{
+    match quality {
+        Quality::Tight(_) => b"tight",
+        Quality::Loose(_) => b"loose",
+        Quality::Unsolved => b"loose",
+    }
+}
+
+/// Puts the lines of a raw value and of how good it is last.
+fn put_raw(text: &mut Bytes, plan: &Plan) -> Result<(), NoMemory>
+    ensures { OnOk result (text.new ≡ text.old ++ raw_lines plan.now) }
+{
+    put_counted(text, b"\nraw ", plan.raw_num)?;
+    put_counted(text, b" ", plan.raw_den)?;
+    text.append(b"\nquality ")?;
+    text.append(quality_word(&plan.quality))?;
+    text.append(b"\n")
+}
+
 /// The lines of a plan of a sample.
 fn summary_of(
     alloc: Global,
@@ -100,7 +122,7 @@ fn summary_of(
     put_size(&mut text, instance)?;
     put_cost(&mut text, b"cost ", plan.cost)?;
     put_cost(&mut text, b"\nbound ", plan.bound)?;
-    text.append(b"\n")?;
+    put_raw(&mut text, plan)?;
     Ok(text)
 }
 

@@ -1,210 +1,11 @@
-use crate::run::run;
 use crate::status::Status;
-use net_core::{Bytes, List, Name, NoMemory};
-use outside_io::{MemFile, MemShelf, MemSink, OpenGate, Shelf, Sink, have_different_names};
+use crate::test_files::{all_files, one_file, runs};
+use net_core::{Bytes, List, NoMemory};
 use std::alloc::Global;
 use std::process::Abort;
 use std::sync::Wait;
 use std::test::Fail;
 use std::thread::Threads;
-
-fn triangle() -> &'static [u8] {
-    b"?SNDlib native format; type: network; version: 1.0
-NODES ( A B C )
-LINKS ( AB ( A B ) 0 0 0 0 ( 10.00 5.00 ) BC ( B C ) 0 0 0 0 ( 10.00 5.00 ) AC ( A C ) 0 0 0 0 ( 10.00 5.00 ) )
-DEMANDS ( D1 ( A C ) 1 12.00 UNLIMITED )
-"
-}
-
-fn fixed_triangle() -> &'static [u8] {
-    b"?SNDlib native format; type: network; version: 1.0
-NODES ( A B C )
-LINKS ( AB ( A B ) 20.00 0 0 0 ( 10.00 5.00 ) BC ( B C ) 20.00 0 0 0 ( 10.00 5.00 ) AC ( A C ) 20.00 0 0 0 ( 10.00 5.00 ) )
-DEMANDS ( D1 ( A C ) 1 12.00 UNLIMITED )
-"
-}
-
-fn parallel() -> &'static [u8] {
-    b"?SNDlib native format; type: network; version: 1.0
-NODES ( A B )
-LINKS ( L1 ( A B ) 0 0 0 0 ( 1.00 1.00 ) L2 ( A B ) 0 0 0 0 ( 1.00 1.00 ) L3 ( A B ) 0 0 0 0 ( 1.00 1.00 ) )
-DEMANDS ( D1 ( A B ) 1 10.00 UNLIMITED )
-"
-}
-
-fn chain() -> &'static [u8] {
-    b"?SNDlib native format; type: network; version: 1.0
-NODES ( A B C )
-LINKS ( AB ( A B ) 0 0 0 0 ( 10.00 5.00 ) BC ( B C ) 0 0 0 0 ( 10.00 5.00 ) )
-DEMANDS ( D1 ( A C ) 1 12.00 UNLIMITED )
-"
-}
-
-fn idle_chain() -> &'static [u8] {
-    b"?SNDlib native format; type: network; version: 1.0
-NODES ( A B C )
-LINKS ( AB ( A B ) 0 0 0 0 ( 10.00 5.00 ) BC ( B C ) 0 0 0 0 ( 10.00 5.00 ) )
-DEMANDS ( D1 ( A C ) 1 0.00 UNLIMITED )
-"
-}
-
-fn no_module() -> &'static [u8] {
-    b"?SNDlib native format; type: network; version: 1.0
-NODES ( A B )
-LINKS ( L ( A B ) 0 0 0 0 ( ) )
-DEMANDS ( D1 ( A B ) 1 1.00 UNLIMITED )
-"
-}
-
-fn fixed_link() -> &'static [u8] {
-    b"?SNDlib native format; type: network; version: 1.0
-NODES ( A B )
-LINKS ( L ( A B ) 5 0 0 0 ( ) )
-DEMANDS ( )
-"
-}
-
-fn cut_off() -> &'static [u8] {
-    b"?SNDlib native format; type: network; version: 1.0
-NODES ( A B )
-LINKS ( L ( A"
-}
-
-/// A file as users have it: comments, a section of notes, coordinates, two kinds of modules, and admissible paths.
-fn four_towns() -> &'static [u8] {
-    b"?SNDlib native format; type: network; version: 1.0
-# network small4
-
-META (
-  granularity = instance
-)
-
-# NODE SECTION
-# <node_id> [(<longitude>, <latitude>)]
-NODES (
-  Bonn ( 7.10 50.73 )
-  Kiel ( 10.13 54.32 )
-  Ulm ( 9.99, 48.40 )
-  Jena
-)
-
-# LINK SECTION
-LINKS (
-  L1 ( Bonn Kiel ) 0.00 0.00 0.00 0.00 ( 155.00 100.00 622.00 250.00 )
-  L2 ( Kiel Jena ) 0.00 0.00 0.00 0.00 ( 155.00 100.00 622.00 250.00 )
-  L3 ( Jena Ulm ) 0.00 0.00 0.00 0.00 ( 155.00 100.00 622.00 250.00 )
-  L4 ( Ulm Bonn ) 0.00 0.00 0.00 0.00 ( 155.00 100.00 622.00 250.00 )
-  L5 ( Bonn Jena ) 0.00 0.00 0.00 0.00 ( 155.00 100.00 622.00 250.00 )
-)
-
-# DEMAND SECTION
-DEMANDS (
-  D1 ( Bonn Kiel ) 1 60.00 UNLIMITED
-  D2 ( Bonn Jena ) 1 80.00 UNLIMITED
-  D3 ( Kiel Ulm ) 1 40.00 UNLIMITED
-)
-
-ADMISSIBLE_PATHS (
-  D1 ( P1 ( L1 ) P2 ( L5 L2 ) )
-)
-"
-}
-
-fn reconfigure() -> &'static [u8] {
-    b"?SNDlib native format; type: model; version: 1.0
-DEMAND_MODEL = UNDIRECTED
-LINK_MODEL = UNDIRECTED
-LINK_CAPACITY_MODEL = MODULAR_CAPACITIES
-FIXED_CHARGE_MODEL = NO
-ROUTING_MODEL = CONTINUOUS
-ADMISSIBLE_PATH_MODEL = ALL_PATHS
-HOP_LIMIT_MODEL = NO
-SURVIVABILITY_MODEL = UNRESTRICTED_FLOW_RECONFIGURATION
-"
-}
-
-fn no_survivability() -> &'static [u8] {
-    b"?SNDlib native format; type: model; version: 1.0
-DEMAND_MODEL = UNDIRECTED
-LINK_MODEL = UNDIRECTED
-LINK_CAPACITY_MODEL = MODULAR_CAPACITIES
-FIXED_CHARGE_MODEL = NO
-ROUTING_MODEL = CONTINUOUS
-ADMISSIBLE_PATH_MODEL = ALL_PATHS
-HOP_LIMIT_MODEL = NO
-SURVIVABILITY_MODEL = NO_SURVIVABILITY
-"
-}
-
-fn hop_limits() -> &'static [u8] {
-    b"?SNDlib native format; type: model; version: 1.0
-HOP_LIMIT_MODEL = INDIVIDUAL
-"
-}
-
-fn single() -> &'static [u8] {
-    b"?planner failures; version: 1
-ALL_SINGLE_LINKS
-"
-}
-
-fn last_fails() -> &'static [u8] {
-    b"?planner failures; version: 1
-FAILURES ( f ( BC ) )
-"
-}
-
-/// The triangle without demands.
-fn no_demands() -> &'static [u8] {
-    b"?SNDlib native format; type: network; version: 1.0
-NODES ( A B C )
-LINKS ( AB ( A B ) 0 0 0 0 ( 10.00 5.00 ) BC ( B C ) 0 0 0 0 ( 10.00 5.00 ) AC ( A C ) 0 0 0 0 ( 10.00 5.00 ) )
-DEMANDS ( )
-"
-}
-
-fn set_and_plan() -> &'static [u8] {
-    b"?planner script; version: 1
-caller 1 set D1 24
-caller 1 plan
-caller 2 add D2 ( A X ) 1
-"
-}
-
-fn no_commands() -> &'static [u8] {
-    b"?planner script; version: 1
-"
-}
-
-fn ninth_caller() -> &'static [u8] {
-    b"?planner script; version: 1
-caller 9 plan
-"
-}
-
-/// The name and the bytes of each file.
-fn files() -> [(&'static str, &'static [u8]); 18] {
-    [
-        ("triangle", triangle()),
-        ("empty", no_demands()),
-        ("set", set_and_plan()),
-        ("idle-script", no_commands()),
-        ("ninth", ninth_caller()),
-        ("fixed", fixed_triangle()),
-        ("parallel", parallel()),
-        ("chain", chain()),
-        ("idle", idle_chain()),
-        ("bare", no_module()),
-        ("stuck", fixed_link()),
-        ("cut", cut_off()),
-        ("towns", four_towns()),
-        ("reconfigure", reconfigure()),
-        ("plain", no_survivability()),
-        ("hops", hop_limits()),
-        ("single", single()),
-        ("last", last_fails()),
-    ]
-}
 
 fn usage() -> &'static str {
     "usage: plan NET [MODEL [FAILURES]] | session NET MODEL FAILURES SCRIPT | check NET MODEL FAILURES REPORT | sample SEED N\n"
@@ -230,7 +31,10 @@ AC ( 0 )
 CERTIFICATE ( 1 )
 ROUTES ( state 0 none 1 ( )
 )
-unsolved )
+tight 1 ( 0 0 0 )
+( state 0 none 1 ( )
+)
+)
 )
 "
 }
@@ -255,7 +59,11 @@ CERTIFICATE ( 2 ( 1 pool 0 right 12000 )
 ROUTES ( state 0 none 1 ( D1 12000 ( AC )
 )
 )
-unsolved )
+tight 1 ( 0 0 6000 )
+( state 0 none 1 ( D1 12000 ( AC )
+)
+)
+)
 )
 "
 }
@@ -283,7 +91,11 @@ CERTIFICATE ( 2 ( 1 pool 0 right 24000 )
 ROUTES ( state 0 none 1 ( D1 24000 ( AC )
 )
 )
-unsolved )
+tight 1 ( 0 0 12000 )
+( state 0 none 1 ( D1 24000 ( AC )
+)
+)
+)
 )
 "
 }
@@ -422,62 +234,6 @@ fn refusals() -> [Row; 24] {
     ]
 }
 
-fn put<T: Drop>(items: &mut List<T>, item: T) -> Result<(), NoMemory> {
-    items.push(item)?;
-    Ok(())
-}
-
-fn all_files(alloc: Global) -> Result<List<MemFile>, Fail> {
-    let mut held = List::new(alloc);
-    for (name, bytes) in files() {
-        let name = Name::new(alloc, name.as_bytes())?;
-        let bytes = List::from_slice(alloc, bytes)?;
-        put(&mut held, MemFile { name, bytes })?;
-    }
-    Ok(held)
-}
-
-/// One file, alone.
-fn one_file(alloc: Global, name: &str, bytes: Bytes) -> Result<List<MemFile>, Fail> {
-    let mut held = List::new(alloc);
-    let name = Name::new(alloc, name.as_bytes())?;
-    put(&mut held, MemFile { name, bytes })?;
-    Ok(held)
-}
-
-/// How a run ended, what it wrote, and how often the shelf and the sink failed.
-#[derive(Drop)]
-struct Ended {
-    status: Status,
-    out: MemSink,
-    faults: (u64, u64),
-}
-
-/// A run with these words and files, in which the fetches and puts of these numbers fail, counted from 0.
-fn runs<R: AllocGlobal + Abort + Threads + Wait + Sync>(
-    rt: &R,
-    words: &str,
-    files: List<MemFile>,
-    fetches: &[u32],
-    puts: &[u32],
-) -> Result<Ended, Fail> {
-    let mut list = Vec::new(rt.alloc());
-    for word in words.split(' ') {
-        list.push(word.to_string(rt.alloc())?)?;
-    }
-    assert!(rt; have_different_names(files.items()));
-    let mut shelf = MemShelf::new(files, List::from_slice(rt.alloc(), fetches)?);
-    let failing = List::from_slice(rt.alloc(), puts)?;
-    let mut out = MemSink::new(rt.alloc(), 10000, failing)?;
-    let status = run(rt, rt.alloc(), &list, &mut shelf, &mut out, &OpenGate);
-    let faults = (shelf.faults(), out.faults());
-    Ok(Ended {
-        status,
-        out,
-        faults,
-    })
-}
-
 /// Runs the words of a row. The fetch after its last would fail, and is not made.
 fn comes_to<R: AllocGlobal + Abort + Threads + Wait + Sync>(rt: &R, row: Row) -> Result<(), Fail> {
     let (words, fetched, status, text) = row;
@@ -504,7 +260,7 @@ fn refusals_are_written_and_no_further_file_is_fetched(rt: HostRuntime) -> Resul
     Ok(())
 }
 
-/// The first half of the triangle's report, 184 of its 369 bytes.
+/// The first half of the triangle's report, 210 of its 420 bytes.
 fn half_of_the_report() -> &'static str {
     "?planner report; version: 1
 NOTES ( )
@@ -514,7 +270,8 @@ POOL ( ( 0 state 0 right 12000 ( 1 1 1 )
 )
 )
 OUTCOMES ( PLAN ( caller 1 plan 1 version 0 position 0 DEMANDS ( D1 ( A C )
-1"
+12.000 )
+cost 10.000 bound "
 }
 
 /// Words, the number of a fetch and of a put that fail, and the status, the text and the counts of faults after it.
@@ -586,7 +343,11 @@ fn long_report(alloc: Global) -> Result<Bytes, NoMemory> {
         text.append(long_name(alloc, n)?.items())?;
         text.append(b" ( 0 )\n")?;
     }
-    text.append(b")\nCERTIFICATE ( 1 )\nROUTES ( state 0 none 1 ( )\n)\nunsolved )\n)\n")?;
+    text.append(b")\nCERTIFICATE ( 1 )\nROUTES ( state 0 none 1 ( )\n)\ntight 1 ( ")?;
+    for _ in 0..20 {
+        text.append(b"0 ")?;
+    }
+    text.append(b")\n( state 0 none 1 ( )\n)\n)\n)\n")?;
     Ok(text)
 }
 
@@ -594,7 +355,7 @@ fn long_report(alloc: Global) -> Result<Bytes, NoMemory> {
 fn a_long_text_is_put_in_pieces(rt: HostRuntime) -> Result<(), Fail> {
     let alloc = rt.alloc();
     let text = long_report(alloc)?;
-    assert_eq!(rt; text.len(), 5448);
+    assert_eq!(rt; text.len(), 5514);
     let ended = runs(
         &rt,
         "plan long",
@@ -614,166 +375,8 @@ fn a_long_text_is_put_in_pieces(rt: HostRuntime) -> Result<(), Fail> {
     assert_eq!(rt; (ended.status, ended.faults), (Status::WriteFault, (0, 1)));
     assert_eq!(rt;
         Some(ended.out.bytes()),
-        text.items().get(..4096 + (5448 - 4096) / 2)
+        text.items().get(..4096 + (5514 - 4096) / 2)
     );
-    Ok(())
-}
-
-/// A report of the triangle with every single-link failure, whose plan has this bound and this certificate.
-fn report_with(alloc: Global, bound: &[u8], certificate: &[u8]) -> Result<Bytes, NoMemory> {
-    let mut text = List::new(alloc);
-    text.append(
-        b"?planner report; version: 1\nNOTES ( ) JOURNAL ( ( 1 cut 0 ) ( 2 cut 1 ) ( 3 cut 2 ) ( 4 cut 3 ) ) ",
-    )?;
-    text.append(
-        b"POOL ( ( 0 state 0 right 12000 ( 1 1 1 ) ) ( 1 state 1 right 12000 ( 0 1 1 ) ) ( 2 state 2 right 12000 ( 1 0 1 ) ) ( 3 state 3 right 24000 ( 1 1 0 ) ) ) ",
-    )?;
-    text.append(
-        b"OUTCOMES ( PLAN ( caller 1 plan 1 version 0 position 0 DEMANDS ( D1 ( A C ) 12.000 ) cost 30.000 bound ",
-    )?;
-    text.append(bound)?;
-    text.append(b" raw 12000 1 MODULES ( AB ( 2 ) BC ( 2 ) AC ( 2 ) ) CERTIFICATE ( ")?;
-    text.append(certificate)?;
-    text.append(
-        b" ) ROUTES ( state 0 none 1 ( D1 12000 ( AC ) ) state 1 AB 1 ( D1 12000 ( AC ) ) state 2 BC 1 ( D1 12000 ( AC ) ) state 3 AC 1 ( D1 12000 ( AB BC ) ) ) unsolved ) )",
-    )?;
-    Ok(text)
-}
-
-/// A bound, a certificate, and the status and the line of a check.
-type Checked = (&'static [u8], &'static [u8], Status, &'static str);
-
-fn checked() -> [Checked; 4] {
-    [
-        (
-            b"15.000",
-            b"2 ( 1 pool 3 right 24000 )",
-            Status::Done,
-            "accepted 1\n",
-        ),
-        (
-            b"15.000",
-            b"2 ( 1 pool 3 right 24001 )",
-            Status::Rejected,
-            "rejected outcome 1 right-differs 0 24001 24000\n",
-        ),
-        (
-            b"15.000",
-            b"1 ( 1 pool 3 right 24000 )",
-            Status::Rejected,
-            "rejected outcome 1 price-exceeded AB 0\n",
-        ),
-        (
-            b"20.000",
-            b"2 ( 1 pool 3 right 24000 )",
-            Status::Rejected,
-            "rejected outcome 1 bound-differs 20.000 15.000\n",
-        ),
-    ]
-}
-
-#[test]
-fn a_check_tells_the_first_finding(rt: HostRuntime) -> Result<(), Fail> {
-    let alloc = rt.alloc();
-    for (bound, certificate, status, line) in checked() {
-        let mut files = all_files(alloc)?;
-        let name = Name::new(alloc, b"report")?;
-        let bytes = report_with(alloc, bound, certificate)?;
-        put(&mut files, MemFile { name, bytes })?;
-        let ended = runs(
-            &rt,
-            "check triangle reconfigure default report",
-            files,
-            &[3],
-            &[],
-        )?;
-        assert_eq!(rt; ended.out.bytes(), line.as_bytes());
-        assert_eq!(rt; (ended.status, ended.faults), (status, (0, 0)));
-    }
-    Ok(())
-}
-
-/// Words of a plan or a session, the words that check its report, and the cost and the bound in it.
-type Accepted = (&'static str, &'static str, &'static str);
-
-fn accepted() -> [Accepted; 6] {
-    [
-        (
-            "plan triangle reconfigure",
-            "check triangle reconfigure default report",
-            "cost 30.000 bound 15.000 raw 12000 1 ",
-        ),
-        (
-            "plan parallel default single",
-            "check parallel default single report",
-            "cost 20.000 bound ",
-        ),
-        (
-            "plan towns reconfigure",
-            "check towns reconfigure default report",
-            "cost 600.000 bound ",
-        ),
-        (
-            "plan fixed plain",
-            "check fixed plain default report",
-            "cost 0.000 bound 0.000 raw 0 1 ",
-        ),
-        (
-            "plan idle default last",
-            "check idle default last report",
-            "cost 0.000 bound 0.000 raw 0 1 ",
-        ),
-        (
-            "session triangle default default set",
-            "check triangle default default report",
-            "cost 15.000 bound 15.000 raw 12000 1 ",
-        ),
-    ]
-}
-
-/// Whether a text has this part.
-fn contains(text: &[u8], part: &[u8]) -> bool {
-    for at in 0..text.len() {
-        if text[at..].starts_with(part) {
-            return true;
-        }
-    }
-    false
-}
-
-#[test]
-fn a_printed_report_is_accepted(rt: HostRuntime) -> Result<(), Fail> {
-    let alloc = rt.alloc();
-    for (words, check, cost) in accepted() {
-        let ended = runs(&rt, words, all_files(alloc)?, &[], &[])?;
-        assert_eq!(rt; (words, ended.status), (words, Status::Done));
-        assert!(rt; contains(ended.out.bytes(), cost.as_bytes()));
-        let mut files = all_files(alloc)?;
-        let name = Name::new(alloc, b"report")?;
-        let bytes = List::from_slice(alloc, ended.out.bytes())?;
-        put(&mut files, MemFile { name, bytes })?;
-        let ended = runs(&rt, check, files, &[], &[])?;
-        assert_eq!(rt; ended.out.bytes(), b"accepted 1\n".as_slice());
-    }
-    Ok(())
-}
-
-/// The summary of the sample of 8 nodes that is drawn from 7.
-fn sample_of_8_nodes() -> &'static str {
-    "sample 7 8
-nodes 8 links 12 demands 28 states 13
-cost 1061.000
-bound 294.000
-"
-}
-
-#[test]
-fn a_sample_is_planned(rt: HostRuntime) -> Result<(), Fail> {
-    for words in ["sample 7 8", "sample 007 08"] {
-        let ended = runs(&rt, words, List::new(rt.alloc()), &[0], &[])?;
-        assert_eq!(rt; (ended.status, ended.faults), (Status::Done, (0, 0)));
-        assert_eq!(rt; ended.out.bytes(), sample_of_8_nodes().as_bytes());
-    }
     Ok(())
 }
 

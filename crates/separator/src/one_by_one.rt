@@ -17,6 +17,13 @@ use std::alloc::Global;
 use std::snapshot::Snapshot as Remembered;
 use turn_lock::Chronicle;
 
+/// What a separator over a board begins with: the board's opening demands, and the number of its entries. It is there for contracts.
+#[derive(Drop)]
+pub struct Beginning {
+    pub opening: Demands,
+    pub entries: u64,
+}
+
 /// A separator on one thread, which takes the states one after another. Its history is that of its board.
 #[derive(Drop)]
 pub struct OneByOne<'a> {
@@ -114,13 +121,13 @@ impl<'a> Separate for OneByOne<'a> {
     ghost use Rattle.separator.specs.OneByOnes.{own_of};
     ghost use Rattle.separator.specs.inner.Seen.{board_is_seen};
 
-    type Mark = Demands;
+    type Mark = Beginning;
 
     ghost network = { λ s. s.board.net.now };
 
     ghost states = { λ s. s.board.states.now };
 
-    ghost mark = { λ s. s.board.opening.value };
+    ghost mark = { λ s. record { opening = s.board.opening.value; entries = s.began.value } };
 
     ghost history = { λ s. s.board.entries };
 

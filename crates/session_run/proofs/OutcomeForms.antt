@@ -19,7 +19,7 @@ use Rattle.session_script.specs.declared.script.Act.{Act}
 use Rattle.session_script.specs.declared.script.Act.TheVariants.{Change, Plan}
 use Rattle.session_script.specs.declared.script.Command.{Command}
 use Rattle.session_script.specs.Scripts.{IsCommandInForm, IsScript}
-use Rattle.planner.specs.SoundPlans.{StandsAt}
+use Rattle.separator.specs.Separators.{IsSpotIn}
 use Rattle.planner.proofs.BoardPlans.{version_few}
 use Rattle.planner.proofs.Taking.{cuts_both, get_front}
 use Rattle.session_run.specs.Transcripts.{IsOutcomeAfter, RunsFrom, acts_of, caller_of, outcomes_of}
@@ -62,7 +62,7 @@ module _ (p : Case) (es : List Entry) (lines : List CutLine) (few : length es �
   InForm o = IsOutcomeInForm p.nodes p.links p.listed lines o
 
   -- a cut that stands in the pool of first entries stands in the pool
-  of_pool : (m : ℕ) (cut : CutLine) (spot : Spot) → StandsAt (take m es) (cut_of_line cut) spot → IsOfPool lines spot cut
+  of_pool : (m : ℕ) (cut : CutLine) (spot : Spot) → IsSpotIn (take m es) (cut_of_line cut) spot → IsOfPool lines spot cut
   of_pool m cut (Pool i) stands =
       let all : cuts_of (take m es) ++ cuts_of (drop m es) ≡ cuts_of es = sym (cuts_both (take m es) (drop m es)) ∙ ap cuts_of (take-append-drop m es) in
       let at : slice_get (cuts_of es) i ≡ Some (cut_of_line cut) = sym (ap (λ cuts. slice_get cuts i) all) ∙ get_front (cuts_of (take m es)) (cuts_of (drop m es)) i (cut_of_line cut) stands in
@@ -88,7 +88,7 @@ module _ (p : Case) (es : List Entry) (lines : List CutLine) (few : length es �
     outcome_form n m serial (Planned by number plan) le first last short is =
         ∥∥₁_elim is.2 (outcome_prop p.nodes p.links p.listed lines (Planned by number plan)) (λ after.
         record {
-          command = head_form by serial number plan.version n is.0 is.1 first last le after.same_version plan.position after.same_position;
+          command = head_form by serial number plan.version n is.0 is.1 first last le (after.sound.same_version ∙ after.left.version) plan.position (after.sound.same_position ∙ after.left.position);
           plan = after.sound.form;
           pooled = λ k d lt. of_pool m _ _ (after.sound.spots k d lt);
         })

@@ -1,9 +1,11 @@
 -- the report of a board and of the outcomes of commands that have run
-use Rattle.std.proofs.Common.{◌≡◌, ℕ, ◌+◌, ◌^◌, ◌<◌, ◌≤◌, List, All, length, refl, sym, ap, subst, ◌∙◌, arith}
+use Rattle.std.proofs.Common.{◌≡◌, ℕ, ◌+◌, ◌^◌, ◌<◌, ◌≤◌, ◌==◌, List, All, get_or, length, refl, sym, ap, subst, ◌∙◌, arith}
 use Rattle.std.specs.Prelude.{AllPairs}
 use Rattle.std.proofs.Math.Logic.{∥∥₁_elim}
 use Rattle.std.proofs.Props.{props}
+use Rattle.std.proofs.lemmas.Bool.{eq-eqb}
 use Rattle.std.proofs.lemmas.List.{length-map}
+use Rattle.std.proofs.lemmas.List.Elements.{All-filter}
 use Rattle.net_core.specs.declared.journal.Entry.{Entry}
 use Rattle.net_core.specs.declared.network.Notes.{Notes}
 use Rattle.net_core.specs.declared.plan.CutLine.{CutLine}
@@ -14,16 +16,21 @@ use Rattle.plan_report.specs.Forms.{IsReportInForm}
 use Rattle.cut_pool.specs.declared.board.Board.{Board}
 use Rattle.cut_pool.specs.Boards.{opening_case}
 use Rattle.cut_pool.specs.Histories.{IsLegalHistory, IsPoolAfter, cut_of_line, cuts_of}
-use Rattle.planner.specs.SoundPlans.{case_left}
 use Rattle.planner.proofs.BoardPlans.{board_few}
 use Rattle.session_script.specs.declared.script.Command.{Command}
 use Rattle.session_script.specs.Scripts.{IsScript}
-use Rattle.session_run.specs.Transcripts.{IsTranscript, RunsFrom, acts_of, caller_of, outcomes_of}
+use Rattle.session_run.specs.Transcripts.{IsPlanned, IsTranscript, RunsFrom, acts_of, caller_of, case_left, outcomes_of, position_of}
 use Rattle.session_run.specs.inner.Ranges.{HasShortLengths, IsShortNamed}
 use Rattle.session_run.specs.inner.Running.{HaveRun}
 use Rattle.session_run.proofs.FormProps.{report_prop}
 use Rattle.session_run.proofs.Journals.{entries_form, lines_few, lines_form}
-use Rattle.session_run.proofs.OutcomeForms.{outcomes_form}
+use Rattle.session_run.proofs.OutcomeForms.{kept_one, outcomes_form}
+
+-- what holds of each of a caller's outcomes, for each caller, holds of all
+of_all : (P : Outcome → Type 0) (xs ys : List Outcome) → ((caller : ℕ) → outcomes_of caller xs ≡ outcomes_of caller ys) → All P xs → All P ys
+of_all P xs ys same all k d lt =
+    let caller = caller_of (get_or ys k d) in
+    kept_one P (λ (o : Outcome). caller_of o == caller) ys (subst (All P) (same caller) (All-filter (λ (o : Outcome). caller_of o == caller) P xs all)) k d lt (eq-eqb caller caller refl)
 
 module _ (b : Board) (notes : Notes) (commands : List Command) (outcomes sorted : List Outcome) (lines : List CutLine) (script : IsScript commands) (run : HaveRun (opening_case b) b.entries commands outcomes)
     (pool : ∥ IsPoolAfter (opening_case b) b.entries lines ∥₁) (cuts : ∥ All (IsCut (case_left (opening_case b) b.entries)) lines ∥₁) (low : All (λ l. l.right < 2 ^ 84) lines)
@@ -58,6 +65,13 @@ module _ (b : Board) (notes : Notes) (commands : List Command) (outcomes sorted 
       let same : length lines ≡ length (cuts_of b.entries) = sym (length-map lines cut_of_line) ∙ ap length is.cuts in
       omega (arith, few, same))
 
+  -- what holds of all outcomes once they are sorted held before, and the other way round
+  planned_before : All IsPlanned sorted → All IsPlanned outcomes
+  planned_before = of_all IsPlanned sorted outcomes same
+
+  first_after : All (λ o. position_of o ≡ 0) outcomes → All (λ o. position_of o ≡ 0) sorted
+  first_after = of_all (λ o. position_of o ≡ 0) outcomes sorted (λ caller. sym (same caller))
+
   transcript_same : IsTranscript (opening_case b) notes commands all
   transcript_same = record {
     notes_are = refl;
@@ -68,6 +82,7 @@ module _ (b : Board) (notes : Notes) (commands : List Command) (outcomes sorted 
     runs = λ caller. subst (RunsFrom (opening_case b) b.entries caller 0 1 (acts_of caller commands)) (sym (same caller)) (run.runs caller);
     ordered = ordered;
     form = report_form;
+    alone = λ one planned. let first = run.alone one (planned_before planned) in (first_after first.0, first.1);
   }
 
   -- what is read from the network and the board is equal to theirs

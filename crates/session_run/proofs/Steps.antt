@@ -1,8 +1,10 @@
 -- one command more
 use Rattle.std.proofs.Common.{◌≡◌, ◌≢◌, ℕ, zero, suc, ◌+◌, ◌<◌, ◌≤◌, ◌==◌, Bool, true, false, cond, List, [], ◌∷◌, ◌++◌, All, Some, flat_map, if◌then◌else◌, length, length-append, get_or, take, add-one, ⊎_elim, refl, sym, ap, subst, ◌∙◌, arith}
 use Rattle.std.specs.Prelude.{count_by, filter}
+use Rattle.std.proofs.Math.Logic.{∥∥₁_elim}
+use Rattle.std.proofs.Props.{props}
 use Rattle.std.proofs.lemmas.List.{length-take}
-use Rattle.std.proofs.lemmas.List.Elements.{All-append, All-push, All-weaker, filter-append}
+use Rattle.std.proofs.lemmas.List.Elements.{All-append, All-head, All-push, All-tail, All-weaker, filter-append}
 use Rattle.std.proofs.lemmas.List.Sums.{sum_by-append}
 use Rattle.std.proofs.Math.Seq.{take-suc}
 use Rattle.net_core.specs.declared.demand.Demand.{Demand}
@@ -23,10 +25,11 @@ use Rattle.cut_pool.specs.Histories.{cuts_of}
 use Rattle.session_script.specs.declared.script.Act.{Act}
 use Rattle.session_script.specs.declared.script.Act.TheVariants.{Change, Plan}
 use Rattle.session_script.specs.declared.script.Command.{Command}
-use Rattle.planner.specs.SoundPlans.{IsPooledEntry}
+use Rattle.plan_rounds.specs.WorkedRounds.{IsWorkedPool}
+use Rattle.separator.specs.Separators.{IsCutEntry}
 use Rattle.planner.proofs.BoardPlans.{board_few}
 use Rattle.planner.proofs.Taking.{cuts_both}
-use Rattle.session_run.specs.Transcripts.{IsOutcomeAfter, RunsFrom, acts_of, caller_of, edit_asked, edit_made, outcomes_of}
+use Rattle.session_run.specs.Transcripts.{IsOnePlan, IsOutcomeAfter, IsPlanned, RunsFrom, acts_of, caller_of, edit_asked, edit_made, outcomes_of, position_of}
 use Rattle.session_run.specs.inner.Running.{DoesAct, HaveRun, IsEntryOfCaller}
 use Rattle.session_script.specs.Scripts.{IsActInForm, IsCommandInForm, asks_plan, is_plan}
 use Rattle.std.proofs.lemmas.Bool.{cases_eq, eq-eqb, ne_eqb}
@@ -62,24 +65,36 @@ acts_other : (commands : List Command) (c : Command) (caller : ℕ) → c.caller
 acts_other commands c caller ne =
     flat_both _ commands (c ∷ []) ∙ (ap (λ xs. acts_of caller commands ++ xs) (no_more (if c.caller == caller then c.act ∷ [] else []) ∙ choose_other c.caller caller (c.act ∷ []) [] ne) ∙ no_more (acts_of caller commands))
 
+-- a list with a last item that is a list of one item
+snoc_one : {X : Type 0} (xs : List X) (x k : X) → xs ++ x ∷ [] ≡ k ∷ [] → (xs ≡ []) × (x ≡ k)
+snoc_one [] x k e = (refl, cc e)
+snoc_one (y ∷ ys) x k e = let count = ap length e in absurd (omega (arith, count, length-append ys (x ∷ [])))
+
+last_holds : {X : Type 0} (P : X → Type 0) (xs : List X) (x : X) → All P (xs ++ x ∷ []) → P x
+last_holds P [] x all = All-head P x [] all
+last_holds P (y ∷ ys) x all = last_holds P ys x (All-tail P y (ys ++ x ∷ []) all)
+
+snoc_some : {X : Type 0} (xs : List X) (x : X) → xs ++ x ∷ [] ≢ []
+snoc_some xs x e = let count = ap length e in omega (arith, count, length-append xs (x ∷ []))
+
 -- ---- edits
 
 -- further cuts are no edits
-cuts_no_edits : (caller : ℕ) (es : List Entry) → All IsPooledEntry es → flat_map (edit_made caller) es ≡ []
+cuts_no_edits : (caller : ℕ) (es : List Entry) → All IsCutEntry es → flat_map (edit_made caller) es ≡ []
 cuts_no_edits caller [] all = refl
 cuts_no_edits caller (Edited by edit reply ∷ es) all = absurd (all 0 (Edited by edit reply) (omega arith))
 cuts_no_edits caller (Pooled index state lengths ∷ es) all = cuts_no_edits caller es (λ k d lt. all (suc k) d (omega (arith, lt)))
 
 -- further cuts are as many as their entries
-cuts_count : (es : List Entry) → All IsPooledEntry es → length (cuts_of es) ≡ length es
+cuts_count : (es : List Entry) → All IsCutEntry es → length (cuts_of es) ≡ length es
 cuts_count [] all = refl
 cuts_count (Edited by edit reply ∷ es) all = absurd (all 0 (Edited by edit reply) (omega arith))
 cuts_count (Pooled index state lengths ∷ es) all = ap suc (cuts_count es (λ k d lt. all (suc k) d (omega (arith, lt))))
 
-pub cuts_of_callers : (es : List Entry) → All IsPooledEntry es → All IsEntryOfCaller es
-cuts_of_callers es all = All-weaker IsPooledEntry IsEntryOfCaller pooled es all
+pub cuts_of_callers : (es : List Entry) → All IsCutEntry es → All IsEntryOfCaller es
+cuts_of_callers es all = All-weaker IsCutEntry IsEntryOfCaller pooled es all
   where
-    pooled : (e : Entry) → IsPooledEntry e → IsEntryOfCaller e
+    pooled : (e : Entry) → IsCutEntry e → IsEntryOfCaller e
     pooled (Edited by edit reply) is = absurd is
     pooled (Pooled index state lengths) is = tt
 
@@ -88,6 +103,10 @@ cuts_of_callers es all = All-weaker IsPooledEntry IsEntryOfCaller pooled es all
 caller_is : (p : Case) (before after : List Entry) (caller serial : ℕ) (o : Outcome) → IsOutcomeAfter p before after caller serial o → caller_of o ≡ caller
 caller_is p before after caller serial (Planned by number plan) is = is.0
 caller_is p before after caller serial (Unsurvivable by number version position state demand) is = is.0
+
+position_is : (p : Case) (before after : List Entry) (caller serial : ℕ) (o : Outcome) → IsOutcomeAfter p before after caller serial o → position_of o ≡ length before
+position_is p before after caller serial (Planned by number plan) is = ∥∥₁_elim is.2 (hlevel props) (λ between. between.sound.same_position ∙ between.left.position)
+position_is p before after caller serial (Unsurvivable by number version position state demand) is = is.3
 
 outcomes_own : (outcomes : List Outcome) (o : Outcome) (caller : ℕ) → caller_of o ≡ caller → outcomes_of caller (outcomes ++ o ∷ []) ≡ outcomes_of caller outcomes ++ o ∷ []
 outcomes_own outcomes o caller e =
@@ -150,15 +169,21 @@ module _ (p : Case) (es : List Entry) (commands : List Command) (outcomes : List
       count = h.count ∙ sym (sum_by-append (λ (k : Command). cond (is_plan k) 1 0) commands (c ∷ []) ∙ plus_none (count_by is_plan commands) c edit act);
       entries = All-push IsEntryOfCaller es entry h.entries form;
       opening = h.opening;
+      none = λ e. absurd (snoc_some commands c e);
+      alone = λ is. absurd (no_plan is.command (snoc_one commands c is.command is.alone).1 is.plans);
     }
       where
+        no_plan : (k : Command) → c ≡ k → k.act ≡ Plan → ⊥
+        no_plan k same plan = cc (same, plan, act)
+
         plus_none : (n : ℕ) (k : Command) (e : Edit) → k.act ≡ Change e → n + count_by is_plan (k ∷ []) ≡ n
         plus_none n k e is = let b : is_plan k ≡ false = ap asks_plan is in rw b (omega arith)
 
   -- ---- a plan more
 
-  module _ (more : List Entry) (pooled : All IsPooledEntry more) (act : c.act ≡ Plan) (o : Outcome)
-      (is : IsOutcomeAfter p es (es ++ more) c.caller (length (outcomes_of c.caller outcomes) + 1) o) where
+  module _ (more : List Entry) (pooled : All IsCutEntry more) (act : c.act ≡ Plan) (o : Outcome)
+      (is : IsOutcomeAfter p es (es ++ more) c.caller (length (outcomes_of c.caller outcomes) + 1) o)
+      (first : es ≡ [] → IsPlanned o → ∥ IsWorkedPool p (es ++ more) ∥₁) where
     edits_same : (caller : ℕ) → flat_map (edit_made caller) (es ++ more) ≡ flat_map edit_asked (acts_of caller commands)
     edits_same caller =
         flat_both (edit_made caller) es more
@@ -210,6 +235,15 @@ module _ (p : Case) (es : List Entry) (commands : List Command) (outcomes : List
           omega (arith, count, one, plus_one (count_by is_plan commands) c act, length-append outcomes (o ∷ []));
       entries = All-append IsEntryOfCaller es more h.entries (cuts_of_callers more pooled);
       opening = h.opening;
+      none = λ e. absurd (snoc_some commands c e);
+      alone = λ is' planned.
+          let before = (snoc_one commands c is'.command is'.alone).0 in
+          let count = h.count in
+          let none : length outcomes ≡ 0 = count ∙ ap (count_by is_plan) before in
+          (
+            All-push (λ x. position_of x ≡ 0) outcomes o (λ k d lt. absurd (omega (arith, none, lt))) (position_is p es (es ++ more) c.caller (length (outcomes_of c.caller outcomes) + 1) o is ∙ ap length (h.none before)),
+            first (h.none before) (last_holds IsPlanned outcomes o planned),
+          );
     }
       where
         plus_one : (n : ℕ) (k : Command) → k.act ≡ Plan → n + count_by is_plan (k ∷ []) ≡ n + 1
@@ -225,14 +259,16 @@ command_run p old new commands before after c (Change edit) is same h form does 
     (subst (HaveRun p (old.entries ++ Edited c.caller edit does.0.0 ∷ []) (commands ++ c ∷ [])) (sym does.1)
     (edited_run p old.entries commands before h c edit does.0.0 is (form.some, form.most, edited)))
 command_run p old new commands before after c Plan is same h form does =
-    let further = does.0.further in
+    let grown = does.0 in
     let outcome = does.1.0 in
-    let made : IsOutcomeAfter p old.entries (old.entries ++ further.more) c.caller (length (outcomes_of c.caller before) + 1) outcome =
-    subst (λ q. IsOutcomeAfter q old.entries (old.entries ++ further.more) c.caller (length (outcomes_of c.caller before) + 1) outcome) same
-    (subst (λ es. IsOutcomeAfter (opening_case old) old.entries es c.caller (length (outcomes_of c.caller before) + 1) outcome) further.entries does.1.1) in
-    subst (λ es. HaveRun p es (commands ++ c ∷ []) after) (sym further.entries)
-    (subst (HaveRun p (old.entries ++ further.more) (commands ++ c ∷ [])) (sym does.1.2)
-    (planned_run p old.entries commands before h c further.more further.pooled is outcome made))
+    let made : IsOutcomeAfter p old.entries (old.entries ++ grown.more) c.caller (length (outcomes_of c.caller before) + 1) outcome =
+    subst (λ q. IsOutcomeAfter q old.entries (old.entries ++ grown.more) c.caller (length (outcomes_of c.caller before) + 1) outcome) same
+    (subst (λ es. IsOutcomeAfter (opening_case old) old.entries es c.caller (length (outcomes_of c.caller before) + 1) outcome) grown.entries does.1.1) in
+    let first : old.entries ≡ [] → IsPlanned outcome → ∥ IsWorkedPool p (old.entries ++ grown.more) ∥₁ = λ empty planned.
+    subst (λ q. ∥ IsWorkedPool q (old.entries ++ grown.more) ∥₁) same (subst (λ es. ∥ IsWorkedPool (opening_case old) es ∥₁) grown.entries (does.1.2 empty planned)) in
+    subst (λ es. HaveRun p es (commands ++ c ∷ []) after) (sym grown.entries)
+    (subst (HaveRun p (old.entries ++ grown.more) (commands ++ c ∷ [])) (sym does.1.3)
+    (planned_run p old.entries commands before h c grown.more grown.pooled is outcome made first))
 
 -- an act leaves the board's origin
 does_origin : (caller : ℕ) (act : Act) (old new : Board) (before after : List Outcome) → DoesAct caller act old before new after → origin_of new ≡ origin_of old
@@ -268,6 +304,8 @@ none_run net board same empty belong =
       count = refl;
       entries = λ k e lt. absurd (omega (arith, lt));
       opening = subst (λ n. AreDemands (length n.nodes) board.opening.value) (sym same) belong;
+      none = λ e. refl;
+      alone = λ one. let count = ap length one.alone in absurd (omega (arith, count));
     })
 
 -- where fewer than all commands have run, there is room for an edit more

@@ -1,5 +1,5 @@
 -- transcripts of scripts: what a report of a session has to be
-use Rattle.std.specs.Prelude.{◌≡◌, ℕ, ◌+◌, ◌≤◌, ◌==◌, List, [], ◌∷◌, AllPairs, Some, filter, flat_map, if◌then◌else◌, length, slice_get, take}
+use Rattle.std.specs.Prelude.{◌≡◌, ℕ, ◌+◌, ◌≤◌, ◌==◌, List, [], ◌∷◌, All, AllPairs, Some, filter, flat_map, if◌then◌else◌, length, slice_get, take}
 use Rattle.net_core.specs.declared.demand.Demand.{Demand}
 use Rattle.net_core.specs.declared.journal.Edit.{Edit}
 use Rattle.net_core.specs.declared.journal.Entry.{Entry}
@@ -8,15 +8,18 @@ use Rattle.net_core.specs.declared.journal.Reply.{Reply}
 use Rattle.net_core.specs.declared.network.Notes.{Notes}
 use Rattle.net_core.specs.Cases.{Case}
 use Rattle.plan_terms.specs.Separations.{IsFirstSeparation}
+use Rattle.plan_types.specs.declared.plan.Plan.{Plan}
 use Rattle.plan_types.specs.declared.report.Outcome.{Outcome}
 use Rattle.plan_types.specs.declared.report.Outcome.TheVariants.{Planned, Unsurvivable}
 use Rattle.plan_types.specs.declared.report.Report.{Report}
 use Rattle.plan_report.specs.Forms.{IsReportInForm}
+use Rattle.cut_pool.specs.declared.snapshot.Snapshot.{Snapshot}
 use Rattle.cut_pool.specs.Histories.{IsLegalHistory, IsPoolAfter, demands_left, version_left}
 use Rattle.session_script.specs.declared.script.Act.{Act}
 use Rattle.session_script.specs.declared.script.Act.TheVariants as acts
 use Rattle.session_script.specs.declared.script.Command.{Command}
-use Rattle.planner.specs.SoundPlans.{IsPlanAfter, case_left}
+use Rattle.plan_rounds.specs.WorkedRounds.{IsWorkedPool}
+use Rattle.planner.specs.SnapshotPlans.{IsSnapshotPlan}
 
 -- ---- what a caller asks for, and what it gets
 
@@ -42,7 +45,40 @@ caller_of (Unsurvivable caller serial version position state demand) = caller
 abbrev pub outcomes_of : ℕ → List Outcome → List Outcome
 outcomes_of caller outcomes = filter (λ o. caller_of o == caller) outcomes
 
+-- an outcome with a plan
+abbrev pub IsPlanned : Outcome → Type 0
+IsPlanned (Planned caller serial plan) = Unit {0}
+IsPlanned (Unsurvivable caller serial version position state demand) = ⊥
+
+-- the number of entries that an outcome is of
+abbrev pub position_of : Outcome → ℕ
+position_of (Planned caller serial plan) = plan.position
+position_of (Unsurvivable caller serial version position state demand) = position
+
+-- one plan command and nothing else
+pub record IsOnePlan (commands : List Command) : Type 0 where
+  pub command : Command
+  pub alone : commands ≡ command ∷ []
+  pub plans : command.act ≡ acts.Plan
+
 -- ---- outcomes at their places
+
+-- the case with the demands that entries leave
+abbrev pub case_left : Case → List Entry → Case
+case_left p entries = record { nodes = p.nodes; links = p.links; listed = p.listed; demands = demands_left p entries }
+
+-- the snapshot of the entries: their number, and the version, the demands and the pool that they leave
+pub record IsSnapshotLeft (p : Case) (entries : List Entry) (snapshot : Snapshot) : Type 0 where
+  pub position : snapshot.position ≡ length entries
+  pub version : snapshot.version ≡ version_left p entries
+  pub demands : snapshot.demands ≡ demands_left p entries
+  pub pool : IsPoolAfter p entries snapshot.cuts
+
+-- a sound plan of the snapshot of the entries before it, made where those after it stand
+pub record IsPlanBetween (p : Case) (before after : List Entry) (plan : Plan) : Type 0 where
+  pub snapshot : Snapshot
+  pub left : IsSnapshotLeft p before snapshot
+  pub sound : IsSnapshotPlan (case_left p before) snapshot after plan
 
 -- the first separation of the demands that entries leave, by the demand's name
 pub record IsNamedSeparation (p : Case) (entries : List Entry) (state : ℕ) (name : List ℕ) : Type 0 where
@@ -52,11 +88,11 @@ pub record IsNamedSeparation (p : Case) (entries : List Entry) (state : ℕ) (na
   pub at : slice_get (demands_left p entries) place ≡ Some demand
   pub named : demand.name ≡ name
 
--- The outcome is that of the caller's plan command of this serial: a sound plan of what the entries before it leave, whose cuts
--- stand in the entries after it, or the first separation of the demands there.
+-- The outcome is that of the caller's plan command of this serial: a sound plan of what the entries before it leave, whose worked list
+-- stands in the entries after it, or the first separation of the demands there.
 abbrev pub IsOutcomeAfter : Case → List Entry → List Entry → ℕ → ℕ → Outcome → Type 0
 IsOutcomeAfter p before after caller serial (Planned by number plan) =
-    (by ≡ caller) × (number ≡ serial) × ∥ IsPlanAfter p before after plan ∥₁
+    (by ≡ caller) × (number ≡ serial) × ∥ IsPlanBetween p before after plan ∥₁
 IsOutcomeAfter p before after caller serial (Unsurvivable by number version position state demand) =
     (by ≡ caller) × (number ≡ serial) × (version ≡ version_left p before) × (position ≡ length before) × IsNamedSeparation p before state.0 demand
 
@@ -75,7 +111,8 @@ RunsFrom p entries caller at serial (acts.Plan ∷ rest) (o ∷ os) =
 
 -- The report is a transcript of the commands, from the opening demands of the case: a legal journal in which each caller's edits
 -- stand once each, in its order, and nothing else but the cuts of the pool; the pool with its right sides at the end; and the
--- outcomes of each caller's plan commands, by caller and then by serial.
+-- outcomes of each caller's plan commands, by caller and then by serial. Where one plan command is all, and a plan its outcome, that is
+-- made before any entry, and the pool is a worked list of no cuts, in its order.
 pub record IsTranscript (p : Case) (notes : Notes) (commands : List Command) (r : Report) : Type 0 where
   pub notes_are : r.notes ≡ notes
   pub legal : ∥ IsLegalHistory p r.entries ∥₁
@@ -85,3 +122,4 @@ pub record IsTranscript (p : Case) (notes : Notes) (commands : List Command) (r 
   pub runs : (caller : ℕ) → RunsFrom p r.entries caller 0 1 (acts_of caller commands) (outcomes_of caller r.outcomes)
   pub ordered : AllPairs (λ a b. caller_of a ≤ caller_of b) r.outcomes
   pub form : IsReportInForm p.nodes p.links p.listed r
+  pub alone : IsOnePlan commands → All IsPlanned r.outcomes → All (λ o. position_of o ≡ 0) r.outcomes × ∥ IsWorkedPool p r.entries ∥₁

@@ -1,17 +1,17 @@
-ghost use Rattle.std.specs.Prelude.{◌≡◌, ◌+◌, ◌<◌, ◌≤◌, ◌^◌, [], IfOk, OnOk, length};
+ghost use Rattle.std.specs.Prelude.{◌≡◌, ◌+◌, ◌<◌, ◌≤◌, ◌^◌, [], IfOk, length};
 ghost use Rattle.net_core.specs.Demands.{AreDemands};
 ghost use Rattle.plan_terms.specs.Edits.{edit_need};
 ghost use Rattle.cut_pool.specs.Boards.{opening_case};
-ghost use Rattle.planner.specs.SoundPlans.{GrowsByCuts};
 ghost use Rattle.session_script.specs.Scripts.{IsCommandInForm, IsScript};
 ghost use Rattle.session_run.specs.Transcripts.{outcomes_of};
-ghost use Rattle.session_run.specs.inner.Running.{DoesAct, HaveRun, IsEditOf, IsOutcomeOf};
+ghost use Rattle.session_run.specs.inner.Running.{DoesAct, GrowsByCuts, HaveRun, IsAnswerOn, IsEditOf, IsOutcomeOf, PoolsFirst};
 
 use crate::reports::caller_of;
 use cut_pool::{Board, EditAnswer};
 use net_core::{Copied, Edit, List, Network, NoMemory, States};
 use plan_types::Outcome;
-use planner::on_board::{PlanAnswer, plan_board};
+use planner::{PlanAnswer, plan_snapshot};
+use separator::OneByOne;
 use session_script::{Act, Command};
 use std::alloc::Global;
 
@@ -30,39 +30,60 @@ fn next_serial(outcomes: &[Outcome], caller: u32) -> u32
 }
 
 /// Makes a caller's edit on the board, which has room for it.
-fn make_edit(caller: u32, edit: Edit, board: &mut Board) -> Result<(), NoMemory>
+fn make_edit<'a>(caller: u32, edit: Edit, board: Board<'a>) -> Result<Board<'a>, NoMemory>
     requires need { edit_need edit < 2 ^ 40 }
-    requires room { length board.old.entries < 65536 }
-    ensures { OnOk result (IsEditOf caller edit board.old board.new) }
+    requires room { length board.entries < 65536 }
+    ensures { IfOk result (IsEditOf caller edit board.entry) }
 {
+    let mut board = board;
     match board.edit(caller, edit) {
-        EditAnswer::At { .. } => Ok(()),
+        EditAnswer::At { .. } => Ok(board),
         EditAnswer::Full(_) => unreachable!(),
         EditAnswer::NoMemory(_) => Err(NoMemory),
     }
 }
 
+/// Plans on the board, by rounds over its pool.
+fn plan_on<'a>(
+    alloc: Global,
+    net: &Network,
+    states: &States,
+    board: Board<'a>,
+) -> Result<(PlanAnswer, Board<'a>), NoMemory>
+    requires net { board.net.now ≡ net.now }
+    requires states { board.states.now ≡ states.now }
+    ensures grown { IfOk result (λ made. GrowsByCuts board.entry made.1) }
+    ensures answer { IfOk result (λ made. IsAnswerOn board.entry made.1 made.0) }
+{
+    let snapshot = board.snapshot()?;
+    let mut separator = OneByOne::new(alloc, board);
+    let answer = plan_snapshot(alloc, net, states, snapshot, &mut separator)?;
+    Ok((answer, separator.into_board()))
+}
+
 /// Plans for a caller on the board.
-fn make_plan(
+fn make_plan<'a>(
     alloc: Global,
     net: &Network,
     states: &States,
     caller: u32,
     serial: u32,
-    board: &mut Board,
-) -> Result<Outcome, NoMemory>
-    requires net { board.old.net.now ≡ net.now }
-    requires states { board.old.states.now ≡ states.now }
-    ensures grown { GrowsByCuts board.old board.new }
-    ensures outcome { IfOk result (IsOutcomeOf caller serial board.old board.new) }
+    board: Board<'a>,
+) -> Result<(Outcome, Board<'a>), NoMemory>
+    requires net { board.net.now ≡ net.now }
+    requires states { board.states.now ≡ states.now }
+    ensures grown { IfOk result (λ made. GrowsByCuts board.entry made.1) }
+    ensures outcome { IfOk result (λ made. IsOutcomeOf caller serial board.entry made.1 made.0) }
+    ensures first { IfOk result (λ made. PoolsFirst board.entry made.1 made.0) }
 {
-    match plan_board(alloc, net, states, board)? {
-        PlanAnswer::Planned(plan) => Ok(Outcome::Planned {
+    let (answer, board) = plan_on(alloc, net, states, board)?;
+    let outcome = match answer {
+        PlanAnswer::Planned(plan) => Outcome::Planned {
             caller,
             serial,
             plan,
-        }),
-        PlanAnswer::NotSurvivable(separation) => Ok(Outcome::Unsurvivable {
+        },
+        PlanAnswer::NotSurvivable(separation) => Outcome::Unsurvivable {
             caller,
             serial,
             version: board.version(),
@@ -71,59 +92,59 @@ fn make_plan(
             demand: board.demands().items()[separation.demand as usize]
                 .name
                 .copy()?,
-        }),
-    }
+        },
+    };
+    Ok((outcome, board))
 }
 
 /// Runs the next command.
-fn run_command(
+fn run_command<'a>(
     alloc: Global,
     net: &Network,
     states: &States,
     command: &Command,
-    board: &mut Board,
+    board: Board<'a>,
     outcomes: &mut List<Outcome>,
-) -> Result<(), NoMemory>
-    requires net { board.old.net.now ≡ net.now }
-    requires states { board.old.states.now ≡ states.now }
+) -> Result<Board<'a>, NoMemory>
+    requires net { board.net.now ≡ net.now }
+    requires states { board.states.now ≡ states.now }
     requires form { IsCommandInForm command.now }
-    requires room { length board.old.entries < 65536 }
+    requires room { length board.entries < 65536 }
     requires few { length outcomes.old ≤ 1000 }
-    ensures { OnOk result (DoesAct command.now.caller command.now.act board.old outcomes.old board.new outcomes.new) }
+    ensures { IfOk result (λ left. DoesAct command.now.caller command.now.act board.entry outcomes.old left outcomes.new) }
 {
     match &command.act {
-        Act::Change(edit) => {
-            make_edit(command.caller, edit.copy()?, board)?;
-            Ok(())
-        }
+        Act::Change(edit) => make_edit(command.caller, edit.copy()?, board),
         Act::Plan => {
             let serial = next_serial(outcomes.items(), command.caller);
-            let outcome = make_plan(alloc, net, states, command.caller, serial, board)?;
+            let (outcome, board) =
+                make_plan(alloc, net, states, command.caller, serial, board)?;
             outcomes.push(outcome)?;
-            Ok(())
+            Ok(board)
         }
     }
 }
 
-/// Runs commands in their order, and gives the outcomes of those that ask for a plan.
-pub fn run_commands(
+/// Runs commands in their order, and gives the outcomes of those that ask for a plan, and the board that they leave.
+pub fn run_commands<'a>(
     alloc: Global,
     net: &Network,
     states: &States,
     commands: &[Command],
-    board: &mut Board,
-) -> Result<List<Outcome>, NoMemory>
-    requires net { board.old.net.now ≡ net.now }
-    requires states { board.old.states.now ≡ states.now }
-    requires empty { board.old.entries ≡ [] }
-    requires opening { AreDemands (length net.now.nodes) board.old.opening.value }
+    board: Board<'a>,
+) -> Result<(List<Outcome>, Board<'a>), NoMemory>
+    requires net { board.net.now ≡ net.now }
+    requires states { board.states.now ≡ states.now }
+    requires empty { board.entries ≡ [] }
+    requires opening { AreDemands (length net.now.nodes) board.opening.value }
     requires script { IsScript commands.now }
-    ensures opening { OnOk result (opening_case board.new ≡ opening_case board.old) }
-    ensures run { IfOk result (HaveRun (opening_case board.old) board.new.entries commands.now) }
+    ensures opening { IfOk result (λ left. opening_case left.1 ≡ opening_case board.entry) }
+    ensures run { IfOk result (λ left. HaveRun (opening_case board.entry) left.1.entries commands.now left.0) }
 {
     let mut outcomes = List::new(alloc);
+    let mut board = board;
     for command in commands {
-        run_command(alloc, net, states, command, board, &mut outcomes)?;
+        board = run_command(alloc, net, states, command, board, &mut outcomes)?;
     }
-    Ok(outcomes)
+    Ok((outcomes, board))
 }

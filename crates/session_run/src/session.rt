@@ -17,10 +17,10 @@ use std::alloc::Global;
 /// with its right sides at the end, and the outcomes, by caller and then by serial.
 ///
 /// The script's callers, needs and numbers of commands are in their ranges. A plan that isn't possible is an outcome of the
-/// report. An edit takes time in the cuts of the pool times the demands, and a plan a search from each node for each state.
+/// report. An edit takes time in the cuts of the pool times the demands, and a plan that of `plan_snapshot`.
 ///
 /// On the triangle with a demand D1 of 12 from A to C the commands `caller 1 set D1 24` and `caller 1 plan` give a journal of
-/// the edit, accepted as version 1, and of the opening cut, and a plan of version 1 at position 1.
+/// the edit, accepted as version 1, and of the opening cut, and a tight plan of version 1 at position 1, which costs 15.
 pub fn run_session(
     alloc: Global,
     net: &Network,
@@ -32,8 +32,8 @@ pub fn run_session(
     requires script { IsScript script.now.commands }
     ensures { IfOk result (IsTranscript (case net.now states.now opening) net.now.notes script.now.commands) }
 {
-    let mut board = Board::new(alloc, net, states, opening)?;
-    let outcomes = run_commands(alloc, net, states, script.commands.items(), &mut board)?;
+    let board = Board::new(alloc, net, states, opening)?;
+    let (outcomes, board) = run_commands(alloc, net, states, script.commands.items(), board)?;
     report(alloc, net, &board, outcomes, script.commands.items())
 }
 
