@@ -53,7 +53,7 @@ part_both (x ∷ xs) (y ∷ ys) us vs first second = ⊎_elim
     (λ r. inr (part_both (x ∷ xs) ys us vs r second))
     first
 
-sees_none : (history own : List Entry) → SeesMore history own history own
+pub sees_none : (history own : List Entry) → SeesMore history own history own
 sees_none history own = record { further = []; seen = sym (append-nil history); committed = []; own_is = sym (append-nil own); among = tt; pooled = All-nil IsCutEntry }
 
 sees_both : (h o h1 o1 h2 o2 : List Entry) → SeesMore h o h1 o1 → SeesMore h1 o1 h2 o2 → SeesMore h o h2 o2

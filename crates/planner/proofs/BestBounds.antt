@@ -25,9 +25,10 @@ use Rattle.plan_report.specs.Forms.{IsCertificateLineInForm, IsSpotInForm}
 use Rattle.cut_pool.specs.Histories.{cut_of_line, cuts_of}
 use Rattle.metric_cut.specs.Bounded.{HaveBound}
 use Rattle.metric_cut.specs.declared.certificate.OwnCertificate.{OwnCertificate}
-use Rattle.planner.specs.SoundPlans.{IsOwnAtMost, StandsAt}
-use Rattle.planner.specs.inner.Candidates.{AreCandidates, IsBestBound, IsBoundOfBest, IsBoundOfCut, IsBoundOfNone, IsCandidate, IsCertifiedBound, IsOwnCertificate}
-use Rattle.planner.specs.declared.candidates.Candidates.{Candidates}
+use Rattle.separator.specs.Separators.{IsSpotIn}
+use Rattle.plan_rounds.specs.declared.rounds.Worked.{Worked}
+use Rattle.planner.specs.SoundPlans.{IsOwnAtMost}
+use Rattle.planner.specs.inner.Candidates.{AreCandidates, HaveBounds, IsBestBound, IsBoundOfBest, IsBoundOfCut, IsBoundOfNone, IsCandidate, IsCertifiedBound, IsOwnCertificate}
 use Rattle.planner.specs.declared.certified.CertifiedBound.{CertifiedBound}
 
 -- where the raw value is 0, so is the bound
@@ -46,7 +47,7 @@ positive_or_none (zero ∷ xs) = ⊎_elim
 positive_or_none (suc n ∷ xs) = inl (0, suc n, omega arith, refl, omega arith)
 
 -- a cut of the case has a bound of its own
-pub have_bound : (p : Case) (cut : CutLine) → ∥ IsCut p cut ∥₁ → HaveBound p.links cut.lengths
+have_bound : (p : Case) (cut : CutLine) → ∥ IsCut p cut ∥₁ → HaveBound p.links cut.lengths
 have_bound p cut told = record {
   count = ∥∥₁_elim told (hlevel props) (λ is. is.kept.count);
   positive = ⊎_elim
@@ -62,14 +63,13 @@ have_bound p cut told = record {
 }
 
 -- so has each candidate, with a right side below 2^84
-pub candidates_bound : (p : Case) (entries : List Entry) (c : Candidates) → ∥ AreCandidates p entries c ∥₁ → All (λ cut. HaveBound p.links cut.lengths) c.lines
-candidates_bound p entries c told k d lt = have_bound p (get_or c.lines k d) (∥∥₁_map told (λ are. (are.cuts k d lt).cut_is))
-
-pub candidates_low : (p : Case) (entries : List Entry) (c : Candidates) → ∥ AreCandidates p entries c ∥₁ → All (λ cut. cut.right < 2 ^ 84) c.lines
-candidates_low p entries c told k d lt = ∥∥₁_elim told (hlevel props) (λ are. (are.cuts k d lt).low)
-
-pub candidates_same : (p : Case) (entries : List Entry) (c : Candidates) → ∥ AreCandidates p entries c ∥₁ → length c.spots ≡ length c.lines
-candidates_same p entries c told = ∥∥₁_elim told (hlevel props) (λ are. are.same)
+pub have_bounds : (p : Case) (history : List Entry) (w : Worked) → ∥ AreCandidates p history w ∥₁ → length w.lines < 2 ^ 32 → HaveBounds p.links w
+have_bounds p history w told few = record {
+  same = ∥∥₁_elim told (hlevel props) (λ are. are.stand.count);
+  few = few;
+  lengths = λ k d lt. have_bound p (get_or w.lines k d) (∥∥₁_map told (λ are. (are.cuts k d lt).cut_is));
+  right = λ k d lt. ∥∥₁_elim told (hlevel props) (λ are. (are.cuts k d lt).low);
+}
 
 -- ---- fractions in lowest terms
 
@@ -117,16 +117,16 @@ raw_some num rest den raw raw_den positive low some =
 
 -- ---- certificates
 
-pub spot_in_form : (entries : List Entry) (cut : ℕ × List ℕ) (spot : Spot) → length (cuts_of entries) ≤ 4096 → StandsAt entries cut spot → IsSpotInForm spot
-spot_in_form entries cut (Pool i) few at = let within = slice_get_within (cuts_of entries) i cut at in omega (arith, few, within)
-spot_in_form entries cut Local few at = tt
+pub spot_in_form : (history : List Entry) (cut : ℕ × List ℕ) (spot : Spot) → length (cuts_of history) ≤ 4096 → IsSpotIn history cut spot → IsSpotInForm spot
+spot_in_form history cut (Pool i) few at = let within = slice_get_within (cuts_of history) i cut at in omega (arith, few, within)
+spot_in_form history cut Local few at = tt
 
 one : {X : Type 0} (P : X → Type 0) (x : X) → P x → All P (x ∷ [])
 one P x is = All-cons P x [] is (All-nil P)
 
-module _ (p : Case) (checked : ∥ IsNetwork p.nodes p.links ∥₁) (entries : List Entry) where
-  none_certified : (b : CertifiedBound) → IsBoundOfNone p.links b → IsCertifiedBound p entries b
-  none_certified b none = subst (IsCertifiedBound p entries) (sym none.is) (record {
+module _ (p : Case) (checked : ∥ IsNetwork p.nodes p.links ∥₁) (history : List Entry) where
+  none_certified : (b : CertifiedBound) → IsBoundOfNone p.links b → IsCertifiedBound p history b
+  none_certified b none = subst (IsCertifiedBound p history) (sym none.is) (record {
     certificate = empty_certificate p;
     raw = subst (λ n. IsLowest n 1 0 1) (sym (empty_raw p.links)) (record { same = refl; lowest = λ k zero' whole. eq-one_of_dvd-one whole });
     rounded = subst (λ n. IsBound p.links n 1 0) (sym (empty_raw p.links)) none.rounded;
@@ -135,12 +135,12 @@ module _ (p : Case) (checked : ∥ IsNetwork p.nodes p.links ∥₁) (entries : 
     form = record { positive = omega arith; den = omega arith; few = omega arith; lines = All-nil (IsCertificateLineInForm p.links p.listed) };
     raw_num = omega arith;
     raw_den = omega arith;
-    spots = All-nil (λ (l : CertLine). StandsAt entries (cut_of_line l.cut) l.spot);
+    spots = All-nil (λ (l : CertLine). IsSpotIn history (cut_of_line l.cut) l.spot);
   })
 
-  module _ (few : length (cuts_of entries) ≤ 4096) (cut : CutLine) (spot : Spot) (is : IsCandidate p cut) (at : StandsAt entries (cut_of_line cut) spot) where
+  module _ (few : length (cuts_of history) ≤ 4096) (cut : CutLine) (spot : Spot) (is : IsCandidate p cut) (at : IsSpotIn history (cut_of_line cut) spot) where
     alone_certified : (own : OwnCertificate) → 0 < own.raw.num → All (λ x. x < 2 ^ 32) cut.lengths → IsOwnCertificate p.links cut own
-        → IsCertifiedBound p entries (record { certificate = record { den = own.multiplier.den; lines = record { num = own.multiplier.num; spot = spot; cut = cut } ∷ [] }; raw = own.raw; bound = own.bound })
+        → IsCertifiedBound p history (record { certificate = record { den = own.multiplier.den; lines = record { num = own.multiplier.num; spot = spot; cut = cut } ∷ [] }; raw = own.raw; bound = own.bound })
     alone_certified own some small o =
         let num = own.multiplier.num in
         let den = own.multiplier.den in
@@ -166,31 +166,31 @@ module _ (p : Case) (checked : ∥ IsNetwork p.nodes p.links ∥₁) (entries : 
             few = omega arith;
             lines = one (IsCertificateLineInForm p.links p.listed) line (record {
               num = omega (arith, o.num);
-              spot = spot_in_form entries (cut_of_line cut) spot few at;
+              spot = spot_in_form history (cut_of_line cut) spot few at;
               cut = record { state = is.cut_is.listed_state; lengths = record { long = is.cut_is.kept.count; each = small }; right = is.low };
             });
           };
           raw_num = omega (arith, below.0, value);
           raw_den = omega (arith, below.1, o.den);
-          spots = one (λ (l : CertLine). StandsAt entries (cut_of_line l.cut) l.spot) line at;
+          spots = one (λ (l : CertLine). IsSpotIn history (cut_of_line l.cut) l.spot) line at;
         }
 
-    cut_certified : (b : CertifiedBound) → IsBoundOfCut p.links cut spot b → IsCertifiedBound p entries b
+    cut_certified : (b : CertifiedBound) → IsBoundOfCut p.links cut spot b → IsCertifiedBound p history b
     cut_certified b of_cut = ⊎_elim
         (λ none. none_certified b none.1)
-        (λ some. subst (IsCertifiedBound p entries) (sym some.1) (alone_certified of_cut.own some.0 of_cut.small of_cut.certificate))
+        (λ some. subst (IsCertifiedBound p history) (sym some.1) (alone_certified of_cut.own some.0 of_cut.small of_cut.certificate))
         of_cut.is
 
   -- the best bound is certified
-  pub best_certified : (few : length (cuts_of entries) ≤ 4096) (c : Candidates) (b : CertifiedBound) → AreCandidates p entries c → IsBestBound p.links c b → IsCertifiedBound p entries b
-  best_certified few c b h best = ⊎_elim
+  pub best_certified : (few : length (cuts_of history) ≤ 4096) (w : Worked) (b : CertifiedBound) → AreCandidates p history w → IsBestBound p.links w b → IsCertifiedBound p history b
+  best_certified few w b h best = ⊎_elim
       (λ none. none_certified b none.1)
-      (λ (some : (k : ℕ) × IsBoundOfBest p.links c k b).
+      (λ (some : (k : ℕ) × IsBoundOfBest p.links w k b).
       let k = some.0 in
       let is = some.1 in
-      let within = slice_get_within c.lines k is.cut is.at in
-      let candidate = subst (IsCandidate p) (get_or_from_slice_get c.lines k is.cut is.cut is.at) (h.cuts k is.cut within) in
-      cut_certified few is.cut is.spot candidate (h.stand k is.cut is.spot is.at is.spot_at) b is.of_cut)
+      let within = slice_get_within w.lines k is.cut is.at in
+      let candidate = subst (IsCandidate p) (get_or_from_slice_get w.lines k is.cut is.cut is.at) (h.cuts k is.cut within) in
+      cut_certified few is.cut is.spot candidate (h.stand.each k is.cut is.spot is.at is.spot_at) b is.of_cut)
       best
 
 own_of : (links : List Link) (cut : CutLine) (own : OwnCertificate) → IsOwnCertificate links cut own → IsOwnBound links cut.lengths cut.right own.bound
@@ -210,16 +210,16 @@ bound_of_best links cut spot b best own is =
     is.is
 
 -- each candidate's own bound is at most the best one
-pub each_at_most : (p : Case) (entries : List Entry) (c : Candidates) (b : CertifiedBound) → AreCandidates p entries c → IsBestBound p.links c b
-    → (i : ℕ) (line : CutLine) → slice_get c.lines i ≡ Some line → IsOwnAtMost p b.bound line.state.0 line.lengths
-each_at_most p entries c b h best i line at = ⊎_elim
+pub each_at_most : (p : Case) (history : List Entry) (w : Worked) (b : CertifiedBound) → AreCandidates p history w → IsBestBound p.links w b
+    → (i : ℕ) (line : CutLine) → slice_get w.lines i ≡ Some line → IsOwnAtMost p b.bound line.state.0 line.lengths
+each_at_most p history w b h best i line at = ⊎_elim
     (λ none. absurd (let e : slice_get [] i ≡ Some line = subst (λ (xs : List CutLine). slice_get xs i ≡ Some line) none.0 at in cc e))
-    (λ (some : (k : ℕ) × IsBoundOfBest p.links c k b).
+    (λ (some : (k : ℕ) × IsBoundOfBest p.links w k b).
     let is = some.1 in
     let own = is.best.each i line at in
     let same : is.best.cut ≡ is.cut = cc (is.best.at, is.at) in
     let top = bound_of_best p.links is.cut is.spot b is.best.best (subst (λ (x : CutLine). IsOwnBound p.links x.lengths x.right is.best.best) same is.best.own) is.of_cut in
-    let within = slice_get_within c.lines i line at in
-    let candidate = subst (IsCandidate p) (get_or_from_slice_get c.lines i line line at) (h.cuts i line within) in
+    let within = slice_get_within w.lines i line at in
+    let candidate = subst (IsCandidate p) (get_or_from_slice_get w.lines i line line at) (h.cuts i line within) in
     record { right = line.right; is_right = candidate.cut_is.right; own = own.0; is_own = own.1; at_most = omega (arith, own.2, top) })
     best

@@ -1,8 +1,8 @@
 -- the greater of two bounds, that of a best certificate and that of the best cut alone, is certified
-use Rattle.std.proofs.Common.{◌≡◌, ℕ, zero, suc, ◌*◌, ◌^◌, ◌<◌, ◌≤◌, ⊎_elim, List, [], ◌∷◌, ◌++◌, All, Some, get_or, length, map, slice_get, refl, sym, ap, subst, ◌∙◌, arith}
+use Rattle.std.proofs.Common.{◌≡◌, ℕ, ◌*◌, ◌^◌, ◌<◌, ◌≤◌, ⊎_elim, List, [], ◌∷◌, ◌++◌, All, Some, get_or, length, map, slice_get, refl, sym, ap, subst, ◌∙◌, arith}
 use Rattle.std.specs.Int.{◌∣◌}
 use Rattle.std.proofs.Math.Nat.{le_of_mul-le-mul_left, mul-le-mul_left}
-use Rattle.std.proofs.lemmas.List.{length-map, length-append}
+use Rattle.std.proofs.lemmas.List.{get_or_append_left, length-map, length-append}
 use Rattle.std.proofs.lemmas.List.Elements.{All-cons, All-head, All-map, All-nil, All-tail}
 use Rattle.std.proofs.lemmas.Option.{get_or_from_slice_get, slice_get-get_or, slice_get_within}
 use Rattle.net_core.specs.declared.journal.Entry.{Entry}
@@ -20,8 +20,8 @@ use Rattle.cut_pool.specs.Histories.{cut_of_line, cuts_of}
 use Rattle.master_bound.specs.Answers.{IsBestOf, cut_at, lines_of}
 use Rattle.master_bound.specs.declared.answer.Best.{Best}
 use Rattle.master_bound.specs.declared.answer.Multiplier.{Multiplier}
-use Rattle.planner.specs.SoundPlans.{StandsAt}
-use Rattle.planner.specs.declared.candidates.Candidates.{Candidates}
+use Rattle.separator.specs.Separators.{IsSpotIn}
+use Rattle.plan_rounds.specs.declared.rounds.Worked.{Worked}
 use Rattle.planner.specs.declared.certified.CertifiedBound.{CertifiedBound}
 use Rattle.planner.specs.inner.Candidates.{AreCandidates, IsBestBound, IsBoundOfBest, IsCandidate, IsCertifiedBound}
 use Rattle.planner.specs.inner.Finishing.{AreMultipliersOf, HasShortLengths, bound_made, line_at}
@@ -32,12 +32,7 @@ unmap : {X Y : Type 0} (P : Y → Type 0) (f : X → Y) (xs : List X) → All P 
 unmap P f [] all = All-nil (λ x. P (f x))
 unmap P f (x ∷ xs) all = All-cons (λ x. P (f x)) x xs (All-head P (f x) (map f xs) all) (unmap P f xs (All-tail P (f x) (map f xs) all))
 
-front_or : {X : Type 0} (xs ys : List X) (k : ℕ) (d : X) → k < length xs → get_or (xs ++ ys) k d ≡ get_or xs k d
-front_or [] ys k d lt = absurd (omega (arith, lt))
-front_or (x ∷ xs) ys zero d lt = refl
-front_or (x ∷ xs) ys (suc k) d lt = front_or xs ys k d (omega (arith, lt))
-
-none_cut : CutLine
+abbrev none_cut : CutLine
 none_cut = record { state = record { 0 = 0 }; lengths = []; right = 0 }
 
 -- a fraction and the same in lowest terms have the same bounds
@@ -58,35 +53,35 @@ bound_back links a b c d bound some_b some_d same is = record {
 
 -- ---- best certificates
 
-module _ (c : Candidates) (cuts more : List CutLine) (behind : c.lines ≡ cuts ++ more) where
+module _ (w : Worked) (cuts more : List CutLine) (behind : w.lines ≡ cuts ++ more) where
   -- the cut at a place of the cuts before is that at the same place of all
-  cut_before : (k : ℕ) → k < length cuts → cut_at c.lines k ≡ cut_at cuts k
-  cut_before k lt = ap (λ xs. cut_at xs k) behind ∙ front_or cuts more k (record { state = record { 0 = 0 }; lengths = []; right = 0 }) lt
+  cut_before : (k : ℕ) → k < length cuts → cut_at w.lines k ≡ cut_at cuts k
+  cut_before k lt = ap (λ xs. cut_at xs k) behind ∙ get_or_append_left cuts more none_cut k lt
 
-  same_lines : (ms : List Multiplier) → All (λ m. m.cut < length cuts) ms → map (λ (l : CertLine). record { cut = l.cut; num = l.num }) (map (line_at c) ms) ≡ lines_of cuts ms
+  same_lines : (ms : List Multiplier) → All (λ m. m.cut < length cuts) ms → map (λ (l : CertLine). record { cut = l.cut; num = l.num }) (map (line_at w) ms) ≡ lines_of cuts ms
   same_lines [] all = refl
   same_lines (m ∷ ms) all =
-      let first : CertificateLine = record { cut = cut_at c.lines m.cut; num = m.num } in
+      let first : CertificateLine = record { cut = cut_at w.lines m.cut; num = m.num } in
       let second : CertificateLine = record { cut = cut_at cuts m.cut; num = m.num } in
       let head : first ≡ second = ap (λ (x : CutLine). record { cut = x; num = m.num }) (cut_before m.cut (All-head (λ (x : Multiplier). x.cut < length cuts) m ms all)) in
       let tail = same_lines ms (All-tail (λ (x : Multiplier). x.cut < length cuts) m ms all) in
-      ap (λ (x : CertificateLine). x ∷ map (λ (l : CertLine). record { cut = l.cut; num = l.num }) (map (line_at c) ms)) head ∙ ap (λ xs. second ∷ xs) tail
+      ap (λ (x : CertificateLine). x ∷ map (λ (l : CertLine). record { cut = l.cut; num = l.num }) (map (line_at w) ms)) head ∙ ap (λ xs. second ∷ xs) tail
 
-  places_before : (ms : List Multiplier) → All (λ m. m.cut < length cuts) ms → All (λ m. m.cut < length c.lines) ms
+  places_before : (ms : List Multiplier) → All (λ m. m.cut < length cuts) ms → All (λ m. m.cut < length w.lines) ms
   places_before ms all k d lt =
       let long = ap length behind in
       let one = all k d lt in
       omega (arith, one, long, length-append cuts more)
 
-module _ (p : Case) (history : List Entry) (c : Candidates) (are : AreCandidates p history c) (cuts more : List CutLine) (behind : c.lines ≡ cuts ++ more) (best : Best) (of : IsBestOf p.links cuts best) where
+module _ (p : Case) (history : List Entry) (w : Worked) (are : AreCandidates p history w) (cuts more : List CutLine) (behind : w.lines ≡ cuts ++ more) (best : Best) (of : IsBestOf p.links cuts best) where
   ms : List Multiplier
   ms = best.multipliers
 
   cuts_are : All (IsCut p) cuts
   cuts_are k d lt =
       let long = ap length behind in
-      let inside : k < length c.lines = omega (arith, lt, long, length-append cuts more) in
-      subst (IsCut p) (ap (λ xs. get_or xs k d) behind ∙ front_or cuts more k d lt) (are.cuts k d inside).cut_is
+      let inside : k < length w.lines = omega (arith, lt, long, length-append cuts more) in
+      subst (IsCut p) (ap (λ xs. get_or xs k d) behind ∙ get_or_append_left cuts more d k lt) (are.cuts k d inside).cut_is
 
   certificate_before : IsCertificate p best.den (lines_of cuts best.multipliers)
   certificate_before = of.certificate p refl cuts_are
@@ -98,43 +93,43 @@ module _ (p : Case) (history : List Entry) (c : Candidates) (are : AreCandidates
       let small = lowest_small (raw_value p.links (lines_of cuts best.multipliers)) best.den best.raw_num best.raw_den is.positive of.raw in
       (omega (arith, small.0, is.asked_limit), lowest_positive (raw_value p.links (lines_of cuts best.multipliers)) best.den best.raw_num best.raw_den is.positive of.raw, omega (arith, small.1, is.den_limit))
 
-  pub best_multipliers : AreMultipliersOf c best
-  best_multipliers = record { num = raw_limits.0; positive = raw_limits.1; den = raw_limits.2; listed = places_before c cuts more behind best.multipliers of.multipliers.listed }
+  pub best_multipliers : AreMultipliersOf w best
+  best_multipliers = record { num = raw_limits.0; positive = raw_limits.1; den = raw_limits.2; listed = places_before w cuts more behind best.multipliers of.multipliers.listed }
 
   -- what holds of each cut with its spot holds of each line
-  pub lines_of_best : (P : CutLine → Spot → Type 0) → ((i : ℕ) (line : CutLine) (spot : Spot) → slice_get c.lines i ≡ Some line → slice_get c.spots i ≡ Some spot → P line spot)
-      → All (λ (l : CertLine). P l.cut l.spot) (map (line_at c) best.multipliers)
-  lines_of_best P each = All-map (λ (l : CertLine). P l.cut l.spot) (line_at c) best.multipliers (λ k d lt.
+  pub lines_of_best : (P : CutLine → Spot → Type 0) → ((i : ℕ) (line : CutLine) (spot : Spot) → slice_get w.lines i ≡ Some line → slice_get w.spots i ≡ Some spot → P line spot)
+      → All (λ (l : CertLine). P l.cut l.spot) (map (line_at w) best.multipliers)
+  lines_of_best P each = All-map (λ (l : CertLine). P l.cut l.spot) (line_at w) best.multipliers (λ k d lt.
       let m : Multiplier = get_or best.multipliers k d in
-      let inside : m.cut < length c.lines = places_before c cuts more behind best.multipliers of.multipliers.listed k d lt in
-      each m.cut (cut_at c.lines m.cut) (get_or c.spots m.cut Local)
-      (slice_get-get_or c.lines m.cut (record { state = record { 0 = 0 }; lengths = []; right = 0 }) inside)
-      (slice_get-get_or c.spots m.cut Local (omega (arith, inside, are.same))))
+      let inside : m.cut < length w.lines = places_before w cuts more behind best.multipliers of.multipliers.listed k d lt in
+      each m.cut (cut_at w.lines m.cut) (get_or w.spots m.cut Local)
+      (slice_get-get_or w.lines m.cut none_cut inside)
+      (slice_get-get_or w.spots m.cut Local (omega (arith, inside, are.stand.count))))
 
-  lowest_common : (d : ℕ) → d ∣ best.den → All (λ (l : CertLine). d ∣ l.num) (map (line_at c) best.multipliers) → d ≡ 1
-  lowest_common d in_den all = of.lowest d in_den (unmap (λ (l : CertLine). d ∣ l.num) (line_at c) best.multipliers all)
+  lowest_common : (d : ℕ) → d ∣ best.den → All (λ (l : CertLine). d ∣ l.num) (map (line_at w) best.multipliers) → d ≡ 1
+  lowest_common d in_den all = of.lowest d in_den (unmap (λ (l : CertLine). d ∣ l.num) (line_at w) best.multipliers all)
 
-  module _ (few : length (cuts_of history) ≤ 4096) (short : All HasShortLengths c.lines) (bound : ℕ) (rounded : IsBound p.links best.raw_num best.raw_den bound) where
-    line_forms : All (IsCertificateLineInForm p.links p.listed) (map (line_at c) best.multipliers)
+  module _ (few : length (cuts_of history) ≤ 4096) (short : All HasShortLengths w.lines) (bound : ℕ) (rounded : IsBound p.links best.raw_num best.raw_den bound) where
+    line_forms : All (IsCertificateLineInForm p.links p.listed) (map (line_at w) best.multipliers)
     line_forms k d lt =
         let nums = unmap (λ (l : CertificateLine). l.num < 2 ^ 62) (λ (m : Multiplier). record { cut = cut_at cuts m.cut; num = m.num }) best.multipliers certificate_before.nums in
-        let num_all : All (λ (l : CertLine). l.num < 2 ^ 62) (map (line_at c) best.multipliers) = All-map (λ (l : CertLine). l.num < 2 ^ 62) (line_at c) best.multipliers nums in
-        let spot_all = lines_of_best (λ line spot. StandsAt history (cut_of_line line) spot) are.stand in
+        let num_all : All (λ (l : CertLine). l.num < 2 ^ 62) (map (line_at w) best.multipliers) = All-map (λ (l : CertLine). l.num < 2 ^ 62) (line_at w) best.multipliers nums in
+        let spot_all = lines_of_best (λ line spot. IsSpotIn history (cut_of_line line) spot) are.stand.each in
         let cut_all = lines_of_best (λ line spot. IsCandidate p line × HasShortLengths line) (λ i line spot at at_spot.
-        let within = slice_get_within c.lines i line at in
-        let got = get_or_from_slice_get c.lines i line line at in
+        let within = slice_get_within w.lines i line at in
+        let got = get_or_from_slice_get w.lines i line line at in
         (subst (IsCandidate p) got (are.cuts i line within), subst HasShortLengths got (short i line within))) in
         let is = cut_all k d lt in
-        let l : CertLine = get_or (map (line_at c) best.multipliers) k d in
+        let l : CertLine = get_or (map (line_at w) best.multipliers) k d in
         record {
           num = num_all k d lt;
           spot = spot_in_form history (cut_of_line l.cut) l.spot few (spot_all k d lt);
           cut = record { state = is.0.cut_is.listed_state; lengths = record { long = is.0.cut_is.kept.count; each = is.1 }; right = is.0.low };
         }
 
-    pub best_is_certified : IsCertifiedBound p history (bound_made c best bound)
+    pub best_is_certified : IsCertifiedBound p history (bound_made w best bound)
     best_is_certified =
-        let same = same_lines c cuts more behind best.multipliers of.multipliers.listed in
+        let same = same_lines w cuts more behind best.multipliers of.multipliers.listed in
         let is = certificate_before in
         record {
           certificate = subst (IsCertificate p best.den) (sym same) is;
@@ -143,32 +138,32 @@ module _ (p : Case) (history : List Entry) (c : Candidates) (are : AreCandidates
               (bound_back p.links (raw_value p.links (lines_of cuts best.multipliers)) best.den best.raw_num best.raw_den bound is.positive raw_limits.1 of.raw.same rounded);
           lowest = record {
             common = lowest_common;
-            positive = All-map (λ (l : CertLine). 0 < l.num) (line_at c) best.multipliers of.multipliers.positive;
+            positive = All-map (λ (l : CertLine). 0 < l.num) (line_at w) best.multipliers of.multipliers.positive;
           };
-          none = λ e. ap (map (line_at c)) (of.empty e);
+          none = λ e. ap (map (line_at w)) (of.empty e);
           form = record {
             positive = is.positive;
             den = is.den_limit;
-            few = omega (arith, of.multipliers.few, length-map best.multipliers (line_at c));
+            few = omega (arith, of.multipliers.few, length-map best.multipliers (line_at w));
             lines = line_forms;
           };
           raw_num = raw_limits.0;
           raw_den = raw_limits.2;
-          spots = lines_of_best (λ line spot. StandsAt history (cut_of_line line) spot) are.stand;
+          spots = lines_of_best (λ line spot. IsSpotIn history (cut_of_line line) spot) are.stand.each;
         }
 
 -- ---- the best cut alone
 
 -- what holds of each cut with its spot holds of the lines of the best cut's certificate
-pub lines_of_own : (links : List Link) (c : Candidates) (b : CertifiedBound) (P : CutLine → Spot → Type 0)
-    → ((i : ℕ) (line : CutLine) (spot : Spot) → slice_get c.lines i ≡ Some line → slice_get c.spots i ≡ Some spot → P line spot)
-    → IsBestBound links c b → All (λ (l : CertLine). P l.cut l.spot) b.certificate.lines
-lines_of_own links c b P each best =
+pub lines_of_own : (links : List Link) (w : Worked) (b : CertifiedBound) (P : CutLine → Spot → Type 0)
+    → ((i : ℕ) (line : CutLine) (spot : Spot) → slice_get w.lines i ≡ Some line → slice_get w.spots i ≡ Some spot → P line spot)
+    → IsBestBound links w b → All (λ (l : CertLine). P l.cut l.spot) b.certificate.lines
+lines_of_own links w b P each best =
     let Q : CertifiedBound → Type 0 = λ x. All (λ (l : CertLine). P l.cut l.spot) x.certificate.lines in
     let nothing : All (λ (l : CertLine). P l.cut l.spot) [] = All-nil (λ (l : CertLine). P l.cut l.spot) in
     ⊎_elim
     (λ none. subst Q (sym none.1.is) nothing)
-    (λ (some : (k : ℕ) × IsBoundOfBest links c k b).
+    (λ (some : (k : ℕ) × IsBoundOfBest links w k b).
     let is = some.1 in
     ⊎_elim
     (λ none. subst Q (sym none.1.is) nothing)
@@ -177,13 +172,13 @@ lines_of_own links c b P each best =
     best
 
 -- its raw value has a positive denominator
-pub own_positive : (links : List Link) (c : Candidates) (b : CertifiedBound) → IsBestBound links c b → 0 < b.raw.den
-own_positive links c b best =
+pub own_positive : (links : List Link) (w : Worked) (b : CertifiedBound) → IsBestBound links w b → 0 < b.raw.den
+own_positive links w b best =
     let Q : CertifiedBound → Type 0 = λ x. 0 < x.raw.den in
     let nothing : 0 < 1 = omega arith in
     ⊎_elim
     (λ none. subst Q (sym none.1.is) nothing)
-    (λ (some : (k : ℕ) × IsBoundOfBest links c k b).
+    (λ (some : (k : ℕ) × IsBoundOfBest links w k b).
     let is = some.1.of_cut in
     ⊎_elim
     (λ none. subst Q (sym none.1.is) nothing)

@@ -1,13 +1,11 @@
 pub mod BestBounds
-pub mod BoardPlans
 pub mod Carrying
 pub mod EvidenceForms
 pub mod GreaterBounds
+pub mod Histories
 pub mod InForm
 pub mod QualityForms
 pub mod SnapshotBounds
 pub mod SnapshotGiven
 pub mod SnapshotQuality
 pub mod SnapshotSound
-pub mod SoundParts
-pub mod Taking

@@ -1,15 +1,16 @@
 -- what planning for a snapshot knows, from what it was given
-use Rattle.std.proofs.Common.{◌≡◌, ℕ, ◌^◌, ◌<◌, ◌≤◌, List, [], ◌∷◌, All, IfSome, get_or, length, take, drop, refl, sym, ap, subst, ◌∙◌, arith}
+use Rattle.std.proofs.Common.{◌≡◌, ℕ, ◌≤◌, List, All, IfSome, get_or, length, take, drop, sym, ap, subst, ◌∙◌, arith}
 use Rattle.std.proofs.Math.Logic.{∥∥₁_elim, ∥∥₁_map}
+use Rattle.std.proofs.Math.Seq.{take-length}
 use Rattle.std.proofs.Props.{props}
-use Rattle.std.proofs.lemmas.List.{append-nil, length-append, length-map, take-append-drop}
-use Rattle.std.proofs.lemmas.List.Elements.{All-nil}
+use Rattle.std.proofs.lemmas.List.{length-append, length-map, take-append-drop}
 use Rattle.net_core.specs.declared.journal.Entry.{Entry}
 use Rattle.net_core.specs.declared.network.Network.{Network}
 use Rattle.net_core.specs.declared.plan.CutLine.{CutLine}
 use Rattle.net_core.specs.declared.states.States.{States}
 use Rattle.net_core.specs.Cases.{Case, graph_in}
 use Rattle.net_core.specs.Demands.{AreDemands}
+use Rattle.net_core.specs.Network.{IsNetwork}
 use Rattle.net_core.specs.Views.{case}
 use Rattle.plan_terms.specs.Capacities.{AreWithinLimits}
 use Rattle.plan_terms.specs.Certificates.{IsCut}
@@ -24,19 +25,15 @@ use Rattle.plan_rounds.specs.WorkedRounds.{AreWorkedRounds, IsPoolOf}
 use Rattle.plan_rounds.specs.declared.rounds.Worked.{Worked}
 use Rattle.plan_rounds.proofs.Rights.{right_low}
 use Rattle.share_covers.specs.declared.choice.Chosen.{Chosen}
-use Rattle.separator.specs.Separators.{IsCutEntry, IsSeenHistory, SeesMore}
+use Rattle.separator.specs.Separators.{IsSeenHistory}
 use Rattle.planner.specs.SnapshotPlans.{IsSnapshotIn, IsSnapshotPlan}
 use Rattle.planner.specs.declared.certified.CertifiedBound.{CertifiedBound}
-use Rattle.planner.specs.inner.Candidates.{AreCandidates}
+use Rattle.planner.specs.inner.Candidates.{HaveBounds}
 use Rattle.planner.specs.inner.Finishing.{AreMultipliersOf, HasShortLengths, IsBetterBound, IsChosenFor, IsShareFor, plan_made}
-use Rattle.planner.proofs.BoardPlans.{version_few}
-use Rattle.planner.proofs.SnapshotBounds.{candidates_are, multipliers_are, shares_are}
+use Rattle.planner.proofs.BestBounds.{have_bounds}
+use Rattle.planner.proofs.Histories.{cuts_both, version_few}
+use Rattle.planner.proofs.SnapshotBounds.{IsWorkedFor, candidates_are, multipliers_are, shares_are}
 use Rattle.planner.proofs.SnapshotSound.{plan_sound}
-use Rattle.planner.proofs.Taking.{cuts_both}
-
--- nothing more is seen
-pub sees_none : (history own : List Entry) → SeesMore history own history own
-sees_none history own = record { further = []; seen = sym (append-nil history); committed = []; own_is = sym (append-nil own); among = tt; pooled = All-nil IsCutEntry }
 
 -- the first entries pool no more cuts than all
 first_few : (n : ℕ) (history : List Entry) → length (cuts_of (take n history)) ≤ length (cuts_of history)
@@ -45,8 +42,8 @@ first_few n history =
     let both = ap length (cuts_both (take n history) (drop n history)) in
     omega (arith, parts, both, length-append (cuts_of (take n history)) (cuts_of (drop n history)))
 
-pub snapshot_cuts_few : (p : Case) (net : Network) (states : States) (history own : List Entry) (s : Snapshot) → ∥ IsSnapshotIn p history s ∥₁ → ∥ IsSeenHistory net states history own ∥₁ → length s.cuts ≤ 4096
-snapshot_cuts_few p net states history own s given seen =
+pub pool_few : {p : Case} {net : Network} {states : States} {history own : List Entry} {s : Snapshot} → ∥ IsSnapshotIn p history s ∥₁ → ∥ IsSeenHistory net states history own ∥₁ → length s.cuts ≤ 4096
+pool_few {history = history} {s = s} given seen =
     ∥∥₁_elim given (hlevel props) (λ is. ∥∥₁_elim seen (hlevel props) (λ kept.
     let same = ap length is.pooled in
     let few = first_few s.position history in
@@ -65,52 +62,48 @@ pool_known net states history s belong given short =
           right_low (graph_in p cut.state.0) ∣ checked ∣₁ checked.few_nodes s.demands belong cut.lengths (short k d lt) cut.right (is.cuts k d lt).right;
     }))
 
-module _ (net net_before net_after : Network) (states states_before states_after : States) (before own_before history own : List Entry) (s : Snapshot) (w : Worked)
-    (given : ∥ IsSnapshotIn (case net states s.demands) before s ∥₁) (worked : ∥ AreWorkedRounds (case net states s.demands) history s.cuts w ∥₁)
-    (seen_before : ∥ IsSeenHistory net_before states_before before own_before ∥₁) (seen : ∥ IsSeenHistory net_after states_after history own ∥₁) where
-  pub lines_known : ∥ AreCandidates (case net states s.demands) history (record { lines = w.lines; spots = w.spots }) ∥₁
-  lines_known = ∥∥₁_elim net.checked (hlevel props) (λ checked. ∥∥₁_elim given (hlevel props) (λ is. ∥∥₁_elim seen (hlevel props) (λ kept. ∥∥₁_map worked (λ are.
-      candidates_are (case net states s.demands) checked history s.cuts w are is.cuts kept.few_cuts))))
+-- ---- behind the rounds
 
-  pub lines_few : length w.lines < 2 ^ 32
-  lines_few = ∥∥₁_elim worked (hlevel props) (λ are.
-      let long = ap length are.list.behind in
-      let few = are.list.few in
-      let pool = snapshot_cuts_few (case net states s.demands) net_before states_before before own_before s given seen_before in
-      omega (arith, long, few, pool, length-append s.cuts are.list.added))
+pub worked_for : {p : Case} {net_before net_after : Network} {states_before states_after : States} {before own_before history own : List Entry} {s : Snapshot} {w : Worked}
+    → ∥ IsSnapshotIn p before s ∥₁ → ∥ AreWorkedRounds p history s.cuts w ∥₁ → ∥ IsNetwork p.nodes p.links ∥₁
+    → ∥ IsSeenHistory net_before states_before before own_before ∥₁ → ∥ IsSeenHistory net_after states_after history own ∥₁ → ∥ IsWorkedFor p before history s w ∥₁
+worked_for given worked checked seen_before seen =
+    ∥∥₁_elim given (hlevel props) (λ is. ∥∥₁_elim checked (hlevel props) (λ net. ∥∥₁_elim seen_before (hlevel props) (λ kept_before. ∥∥₁_elim seen (hlevel props) (λ kept. ∥∥₁_map worked (λ are. record {
+      net = net;
+      given = is;
+      low_position = let inside = is.position in omega (arith, inside, kept_before.few);
+      few_pool = pool_few given seen_before;
+      few = kept.few_cuts;
+      are = are;
+    })))))
 
-  pub multipliers_known : ∥ IfSome w.best (AreMultipliersOf (record { lines = w.lines; spots = w.spots })) ∥₁
-  multipliers_known = ∥∥₁_elim net.checked (hlevel props) (λ checked. ∥∥₁_elim given (hlevel props) (λ is. ∥∥₁_elim seen (hlevel props) (λ kept. ∥∥₁_map worked (λ are.
-      multipliers_are (case net states s.demands) checked history s.cuts w are is.cuts kept.few_cuts))))
+module _ {p : Case} {before history : List Entry} {s : Snapshot} {w : Worked} (told : ∥ IsWorkedFor p before history s w ∥₁) where
+  pub bounds_known : HaveBounds p.links w
+  bounds_known = have_bounds p history w (∥∥₁_map told (λ f. candidates_are f)) (∥∥₁_elim told (hlevel props) (λ f.
+      let long = ap length f.are.list.behind in
+      omega (arith, long, f.are.list.few, f.few_pool, length-append s.cuts f.are.list.added)))
 
-  pub shares_known : ∥ IfSome w.best (IsShareFor (case net states s.demands) w.quality) ∥₁
-  shares_known = ∥∥₁_elim net.checked (hlevel props) (λ checked. ∥∥₁_elim given (hlevel props) (λ is. ∥∥₁_elim seen (hlevel props) (λ kept. ∥∥₁_map worked (λ are.
-      shares_are (case net states s.demands) checked history s.cuts w are is.cuts kept.few_cuts))))
+  pub multipliers_known : ∥ IfSome w.best (AreMultipliersOf w) ∥₁
+  multipliers_known = ∥∥₁_map told (λ f. multipliers_are f)
+
+  pub shares_known : ∥ IfSome w.best (IsShareFor p w.quality) ∥₁
+  shares_known = ∥∥₁_map told (λ f. shares_are f)
 
   -- the plan that is made is sound
-  pub made_sound : (fallback : Fallback) (b : CertifiedBound) (chosen : Chosen) (plan : Plan) → AreDemands (length net.nodes) s.demands
-      → IsFallback (case net states s.demands) fallback.counts fallback.routings fallback.cost → AreWithinLimits net.links fallback.counts → All HasShortLengths w.lines
-      → IsBetterBound net.links (record { lines = w.lines; spots = w.spots }) w.best b → IsChosenFor (case net states s.demands) w.best fallback w.quality chosen
-      → All (λ d. length d.name ≤ 255) s.demands → plan ≡ plan_made (record { version = s.version; position = s.position }) s.demands chosen b
-      → ∥ IsSnapshotPlan (case net states s.demands) s history plan ∥₁
-  made_sound fallback b chosen plan belong is_fallback limits short better is_chosen named same =
-      let p = case net states s.demands in
-      ∥∥₁_elim net.checked (hlevel props) (λ checked. ∥∥₁_elim given (hlevel props) (λ is. ∥∥₁_elim seen_before (hlevel props) (λ kept_before. ∥∥₁_elim seen (hlevel props) (λ kept. ∥∥₁_map worked (λ are.
-      let position : s.position ≤ 65536 = let inside = is.position in omega (arith, inside, kept_before.few) in
-      let version : s.version ≤ 65536 = let le = is.version in omega (arith, le, position) in
-      subst (IsSnapshotPlan p s history) (sym same) (plan_sound p checked belong fallback is_fallback limits s history w b chosen are is.cuts kept.few_cuts short better is_chosen version position named refl))))))
+  pub made_sound : (fallback : Fallback) (b : CertifiedBound) (chosen : Chosen) (plan : Plan) → AreDemands (length p.nodes) p.demands
+      → IsFallback p fallback.counts fallback.routings fallback.cost → AreWithinLimits p.links fallback.counts → All HasShortLengths w.lines
+      → IsBetterBound p.links w b → IsChosenFor p w.best fallback w.quality chosen → All (λ d. length d.name ≤ 255) p.demands → p.demands ≡ s.demands
+      → plan ≡ plan_made (record { version = s.version; position = s.position }) p.demands chosen b → ∥ IsSnapshotPlan p s history plan ∥₁
+  made_sound fallback b chosen plan belong is_fallback limits short better is_chosen named demands same =
+      ∥∥₁_map told (λ f. subst (IsSnapshotPlan p s history) (sym same) (plan_sound p f.net belong fallback is_fallback limits f b chosen short better is_chosen named demands))
 
 -- ---- snapshots of a board
-
-take_all : {X : Type 0} (xs : List X) → take (length xs) xs ≡ xs
-take_all [] = refl
-take_all (x ∷ xs) = ap (λ ys. x ∷ ys) (take_all xs)
 
 -- the snapshot of a board is one of its history
 pub board_snapshot : (net : Network) (states : States) (b : Board) (s : Snapshot) → b.net.now ≡ net → b.states.now ≡ states → IsSnapshotOf b s → ∥ IsSnapshotIn (case net states s.demands) b.entries s ∥₁
 board_snapshot net states b s one two is = ∥∥₁_elim is.pool (hlevel props) (λ pool. ∥∥₁_map is.cuts_are (λ cuts. record {
   version = let v = version_few (opening_case b) b.entries in let e = is.version_is in let p = is.position_is in omega (arith, v, e, p);
   position = let e = is.position_is in omega (arith, e);
-  pooled = pool.cuts ∙ ap cuts_of (sym (take_all b.entries)) ∙ ap (λ n. cuts_of (take n b.entries)) (sym is.position_is);
+  pooled = pool.cuts ∙ ap cuts_of (sym (take-length b.entries)) ∙ ap (λ n. cuts_of (take n b.entries)) (sym is.position_is);
   cuts = subst (λ (q : Case). All (IsCut q) s.cuts) (ap (λ n. case n b.states.now s.demands) one ∙ ap (λ x. case net x s.demands) two) cuts;
 }))

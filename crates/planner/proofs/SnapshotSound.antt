@@ -8,7 +8,7 @@ use Rattle.net_core.specs.Demands.{AreDemands}
 use Rattle.net_core.specs.Graphs.{Joins}
 use Rattle.net_core.specs.Network.{IsNetwork}
 use Rattle.plan_terms.specs.Capacities.{AreCounts, AreWithinLimits, capacities, total_cost}
-use Rattle.plan_terms.specs.Certificates.{IsCut, raw_value}
+use Rattle.plan_terms.specs.Certificates.{raw_value}
 use Rattle.plan_terms.specs.Fallbacks.{IsFallback, raised}
 use Rattle.plan_terms.specs.Flows.{Carries}
 use Rattle.plan_terms.proofs.Bounds.{lowest_positive}
@@ -18,12 +18,11 @@ use Rattle.plan_types.specs.declared.plan.Plan.{Plan}
 use Rattle.plan_types.specs.declared.quality.Quality.{Quality}
 use Rattle.plan_report.specs.Forms.{IsPlanInForm, IsQualityInForm, IsRoutingInForm}
 use Rattle.route_law.specs.Routings.{IsLowestRouting}
-use Rattle.cut_pool.specs.Histories.{cuts_of}
 use Rattle.cut_pool.specs.declared.snapshot.Snapshot.{Snapshot}
 use Rattle.module_choice.specs.declared.fallback.Fallback.{Fallback}
 use Rattle.master_bound.specs.declared.answer.Best.{Best}
 use Rattle.plan_law.specs.LoosePlans.{HasQuality}
-use Rattle.plan_rounds.specs.WorkedRounds.{AreWorkedRounds, EndsBy, IsBestOfLast}
+use Rattle.plan_rounds.specs.WorkedRounds.{AreWorkedRounds}
 use Rattle.plan_rounds.specs.declared.rounds.Worked.{Worked}
 use Rattle.share_covers.specs.InstalledRoutes.{installed_caps}
 use Rattle.share_covers.specs.declared.choice.Chosen.{Chosen}
@@ -35,7 +34,7 @@ use Rattle.planner.proofs.Carrying.{able}
 use Rattle.planner.proofs.GreaterBounds.{best_multipliers}
 use Rattle.planner.proofs.InForm.{cost_low, demands_in_form, lowest_whole, routing_in_form}
 use Rattle.planner.proofs.QualityForms.{routed_form}
-use Rattle.planner.proofs.SnapshotBounds.{above_own, bound_certified, candidates_are, certificate_cuts, certificate_spots, has_best, lines_are, lines_held, raw_at, raw_more}
+use Rattle.planner.proofs.SnapshotBounds.{EndsAs, IsWorkedFor, above_own, bound_certified, candidates_are, certificate_cuts, has_best, lines_are, lines_held, raw_at, raw_more}
 use Rattle.planner.proofs.SnapshotQuality.{form_none, form_some, quality_none, quality_some}
 
 -- ---- the counts
@@ -83,32 +82,31 @@ module _ (p : Case) (net : IsNetwork p.nodes p.links) (belong : AreDemands (leng
 
   -- ---- the whole
 
-  module _ (snapshot : Snapshot) (history : List Entry) (w : Worked) (b : CertifiedBound) (chosen : Chosen)
-      (are : AreWorkedRounds p history snapshot.cuts w) (known : All (IsCut p) snapshot.cuts) (few : length (cuts_of history) ≤ 4096) (short : All HasShortLengths w.lines)
-      (better : IsBetterBound p.links (record { lines = w.lines; spots = w.spots }) w.best b) (is : IsChosenFor p w.best fallback w.quality chosen) where
-    abbrev whole : Plan
-    whole = plan_made (record { version = snapshot.version; position = snapshot.position }) p.demands chosen b
+  module _ {before history : List Entry} {s : Snapshot} {w : Worked} (f : IsWorkedFor p before history s w) (b : CertifiedBound) (chosen : Chosen) (short : All HasShortLengths w.lines)
+      (better : IsBetterBound p.links w b) (is : IsChosenFor p w.best fallback w.quality chosen) where
+    abbrev are : AreWorkedRounds p history s.cuts w
+    are = f.are
 
-    abbrev EndsAs : Option Best → Type 0
-    EndsAs o = EndsBy p are.pairs w.lines (length w.lines ≡ length snapshot.cuts + 4096) (IsBestOfLast p are.pairs are.list.start are.rounds) o w.quality
+    abbrev whole : Plan
+    whole = plan_made (record { version = s.version; position = s.position }) p.demands chosen b
 
     certified : IsCertifiedBound p history b
-    certified = bound_certified p net history snapshot.cuts w are known few short b better
+    certified = bound_certified f short b better
 
-    quality_by : (o : Option Best) → w.best ≡ o → EndsAs o → IsChosenFor p o fallback w.quality chosen → IsGreaterBound p.links (record { lines = w.lines; spots = w.spots }) better.own o b
-        → HasQuality p are.pairs snapshot.cuts whole are.rounds w.lines chosen.quality
-    quality_by None same ends made greater = quality_none p are.pairs snapshot.cuts w.lines are.rounds are.list whole w.quality chosen.quality ends (ap (λ (x : Chosen). x.quality) made)
+    quality_by : (o : Option Best) → w.best ≡ o → EndsAs f o → IsChosenFor p o fallback w.quality chosen → IsGreaterBound p.links w better.own o b
+        → HasQuality p are.pairs s.cuts whole are.rounds w.lines chosen.quality
+    quality_by None same ends made greater = quality_none p are.pairs s.cuts w.lines are.rounds are.list whole w.quality chosen.quality ends (ap (λ (x : Chosen). x.quality) made)
     quality_by (Some best) same ends made greater =
-        let h = has_best p net history snapshot.cuts w are known few best same in
-        quality_some p are.pairs snapshot.cuts w.lines are.rounds are.list best chosen whole refl
-        (raw_at p net history snapshot.cuts w are known few short b better best greater)
-        (best_multipliers p history (record { lines = w.lines; spots = w.spots }) (candidates_are p net history snapshot.cuts w are known few) h.cuts h.more h.behind best h.of).positive
-        (raw_more p net history snapshot.cuts w are known few short b better best greater)
+        let h = has_best f best same in
+        quality_some p are.pairs s.cuts w.lines are.rounds are.list best chosen whole refl
+        (raw_at f short b better best greater)
+        (best_multipliers p history w (candidates_are f) h.cuts h.more h.behind best h.of).positive
+        (raw_more f short b better best greater)
         w.quality chosen.quality ends made.quality
 
-    form_by : (o : Option Best) → EndsAs o → IsChosenFor p o fallback w.quality chosen → IsQualityInForm p.links p.listed p.demands chosen.quality
-    form_by None ends made = form_none p are.pairs snapshot.cuts w.lines are.rounds are.list net belong (lines_are p net history snapshot.cuts w are known few) short w.quality chosen.quality ends (ap (λ (x : Chosen). x.quality) made)
-    form_by (Some best) ends made = form_some p are.pairs snapshot.cuts w.lines are.rounds are.list net belong (lines_are p net history snapshot.cuts w are known few) short best chosen.cost w.quality chosen.quality ends made.quality
+    form_by : (o : Option Best) → EndsAs f o → IsChosenFor p o fallback w.quality chosen → IsQualityInForm p.links p.listed p.demands chosen.quality
+    form_by None ends made = form_none p are.pairs s.cuts w.lines are.rounds are.list net belong (lines_are f) short w.quality chosen.quality ends (ap (λ (x : Chosen). x.quality) made)
+    form_by (Some best) ends made = form_some p are.pairs s.cuts w.lines are.rounds are.list net belong (lines_are f) short best chosen.cost w.quality chosen.quality ends made.quality
 
     bound_low : b.bound < 2 ^ 126
     bound_low =
@@ -121,13 +119,13 @@ module _ (p : Case) (net : IsNetwork p.nodes p.links) (belong : AreDemands (leng
     raw_positive : 1 ≤ b.raw.den
     raw_positive = let made = certified in lowest_positive (raw_value p.links (lines_of_certificate b.certificate)) b.certificate.den b.raw.num b.raw.den made.certificate.positive made.raw
 
-    form : snapshot.version ≤ 65536 → snapshot.position ≤ 65536 → All (λ d. length d.name ≤ 255) p.demands → IsPlanInForm p.nodes p.links p.listed whole
-    form version position named =
+    form : All (λ d. length d.name ≤ 255) p.demands → IsPlanInForm p.nodes p.links p.listed whole
+    form named =
         let counts = chosen_counts w.best w.quality chosen is in
         let made = certified in
         record {
-          version = version;
-          position = position;
+          version = let le = f.given.version in omega (arith, le, f.low_position);
+          position = f.low_position;
           demands = demands_in_form p.nodes p.demands belong named;
           counts = counts.shape;
           limits = counts.limits;
@@ -141,8 +139,8 @@ module _ (p : Case) (net : IsNetwork p.nodes p.links) (belong : AreDemands (leng
           quality = form_by w.best are.ends is;
         }
 
-    pub plan_sound : snapshot.version ≤ 65536 → snapshot.position ≤ 65536 → All (λ d. length d.name ≤ 255) p.demands → p.demands ≡ snapshot.demands → IsSnapshotPlan p snapshot history (plan_made (record { version = snapshot.version; position = snapshot.position }) p.demands chosen b)
-    plan_sound version position named same =
+    pub plan_sound : All (λ d. length d.name ≤ 255) p.demands → p.demands ≡ s.demands → IsSnapshotPlan p s history whole
+    plan_sound named same =
         let counts = chosen_counts w.best w.quality chosen is in
         let made = certified in
         record {
@@ -152,18 +150,18 @@ module _ (p : Case) (net : IsNetwork p.nodes p.links) (belong : AreDemands (leng
           carrying = record { states = counts.states; each = counts.carries };
           costed = counts.paid;
           certified = record { certificate = made.certificate; raw = made.raw; rounded = made.rounded };
-          above = above_own p net history snapshot.cuts w are known few short b better;
+          above = above_own f short b better;
           below = record { counts = fallback.counts; routings = fallback.routings; fallback_cost = fallback.cost; fallback = is_fallback; at_most = counts.at_most };
-          form = form version position named;
+          form = form named;
           lowest = record { certificate = made.lowest; none = made.none; routings = counts.lowest };
-          spots = certificate_spots p net history snapshot.cuts w are known few short b better;
+          spots = made.spots;
           cuts = w.lines;
           worked = record {
             pairs = are.pairs;
             rounds = are.rounds;
             worked = are.list;
-            certificate = certificate_cuts p net history snapshot.cuts w are known few short b better;
+            certificate = certificate_cuts f short b better;
             quality = quality_by w.best refl are.ends is better.greater;
           };
-          held = lines_held p net history snapshot.cuts w are known few;
+          held = lines_held f;
         }

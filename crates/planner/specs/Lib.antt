@@ -1,4 +1,3 @@
-pub mod Answers
 pub mod SnapshotPlans
 pub mod SoundPlans
 pub mod inner

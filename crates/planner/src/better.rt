@@ -1,28 +1,28 @@
-ghost use Rattle.std.specs.Prelude.{◌≡◌, ◌*◌, ◌<◌, ◌≤◌, ◌^◌, All, IfOk, IfSome, IsTrue, false, length, map};
-ghost use Rattle.metric_cut.specs.Bounded.{HaveBound};
+ghost use Rattle.std.specs.Prelude.{◌≡◌, ◌*◌, ◌<◌, ◌≤◌, All, IfOk, IfSome, IsTrue, false, length, map};
+ghost use Rattle.planner.specs.inner.Candidates.{HaveBounds};
 ghost use Rattle.planner.specs.inner.Finishing.{AreMultipliersOf, IsBetterBound, IsBoundOfMaster, line_at};
 
-use crate::candidates::Candidates;
 use crate::certified::{CertifiedBound, best_bound};
 use checked_fraction::cmp;
 use master_bound::{Best, Multiplier};
 use metric_cut::RawValue;
 use module_prices::bound_of;
 use net_core::{Copied, List, Network, NoMemory};
+use plan_rounds::Worked;
 use plan_types::{CertLine, Certificate};
 use std::alloc::Global;
 use std::cmp::Ordering;
 
 /// The line of a multiplier.
-fn line_of_multiplier(m: Multiplier, candidates: &Candidates) -> Result<CertLine, NoMemory>
-    requires same { length candidates.now.spots ≡ length candidates.now.lines }
-    requires listed { m.cut < length candidates.now.lines }
-    ensures { IfOk result (λ line. line ≡ line_at candidates.now m) }
+fn line_of_multiplier(m: Multiplier, worked: &Worked) -> Result<CertLine, NoMemory>
+    requires same { length worked.now.spots ≡ length worked.now.lines }
+    requires listed { m.cut < length worked.now.lines }
+    ensures { IfOk result (λ line. line ≡ line_at worked.now m) }
 {
     Ok(CertLine {
         num: m.num,
-        spot: candidates.spots.items()[m.cut as usize],
-        cut: candidates.lines.items()[m.cut as usize].copy()?,
+        spot: worked.spots.items()[m.cut as usize],
+        cut: worked.lines.items()[m.cut as usize].copy()?,
     })
 }
 
@@ -30,15 +30,15 @@ fn line_of_multiplier(m: Multiplier, candidates: &Candidates) -> Result<CertLine
 fn lines_of_multipliers(
     alloc: Global,
     multipliers: &[Multiplier],
-    candidates: &Candidates,
+    worked: &Worked,
 ) -> Result<List<CertLine>, NoMemory>
-    requires same { length candidates.now.spots ≡ length candidates.now.lines }
-    requires listed { All (λ m. m.cut < length candidates.now.lines) multipliers.now }
-    ensures { IfOk result (λ lines. lines ≡ map (line_at candidates.now) multipliers.now) }
+    requires same { length worked.now.spots ≡ length worked.now.lines }
+    requires listed { All (λ m. m.cut < length worked.now.lines) multipliers.now }
+    ensures { IfOk result (λ lines. lines ≡ map (line_at worked.now) multipliers.now) }
 {
     let mut lines = List::new(alloc);
     for i in 0..multipliers.len() {
-        lines.push(line_of_multiplier(multipliers[i], candidates)?)?;
+        lines.push(line_of_multiplier(multipliers[i], worked)?)?;
     }
     Ok(lines)
 }
@@ -48,16 +48,16 @@ fn bound_of_master(
     alloc: Global,
     net: &Network,
     best: &Best,
-    candidates: &Candidates,
+    worked: &Worked,
 ) -> Result<CertifiedBound, NoMemory>
-    requires same { length candidates.now.spots ≡ length candidates.now.lines }
-    requires best { ∥ AreMultipliersOf candidates.now best.now ∥₁ }
-    ensures { IfOk result (IsBoundOfMaster net.now.links candidates.now best.now) }
+    requires same { length worked.now.spots ≡ length worked.now.lines }
+    requires best { ∥ AreMultipliersOf worked.now best.now ∥₁ }
+    ensures { IfOk result (IsBoundOfMaster net.now.links worked.now best.now) }
 {
     Ok(CertifiedBound {
         certificate: Certificate {
             den: best.den,
-            lines: lines_of_multipliers(alloc, best.multipliers.items(), candidates)?,
+            lines: lines_of_multipliers(alloc, best.multipliers.items(), worked)?,
         },
         raw: RawValue {
             num: best.raw_num,
@@ -82,20 +82,16 @@ fn is_at_least(best: &Best, raw: &RawValue) -> bool
 pub fn better_bound(
     alloc: Global,
     net: &Network,
-    best: &Option<Best>,
-    candidates: &Candidates,
+    worked: &Worked,
 ) -> Result<CertifiedBound, NoMemory>
-    requires same { length candidates.now.spots ≡ length candidates.now.lines }
-    requires few { length candidates.now.lines < 2 ^ 32 }
-    requires lengths { All (λ cut. HaveBound net.now.links cut.lengths) candidates.now.lines }
-    requires right { All (λ cut. cut.right < 2 ^ 84) candidates.now.lines }
-    requires best { ∥ IfSome best.now (AreMultipliersOf candidates.now) ∥₁ }
-    ensures { IfOk result (IsBetterBound net.now.links candidates.now best.now) }
+    requires cuts { HaveBounds net.now.links worked.now }
+    requires best { ∥ IfSome worked.now.best (AreMultipliersOf worked.now) ∥₁ }
+    ensures { IfOk result (IsBetterBound net.now.links worked.now) }
 {
-    let own = best_bound(alloc, net, candidates)?;
-    if let Some(best) = best {
+    let own = best_bound(alloc, net, worked)?;
+    if let Some(best) = &worked.best {
         if is_at_least(best, &own.raw) {
-            return bound_of_master(alloc, net, best, candidates);
+            return bound_of_master(alloc, net, best, worked);
         }
     }
     Ok(own)

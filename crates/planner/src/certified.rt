@@ -1,13 +1,13 @@
-ghost use Rattle.std.specs.Prelude.{◌≡◌, ◌<◌, ◌^◌, [], ◌∷◌, All, IfOk, length};
+ghost use Rattle.std.specs.Prelude.{◌≡◌, ◌<◌, ◌^◌, [], ◌∷◌, IfOk};
 ghost use Rattle.metric_cut.specs.Bounded.{HaveBound};
-ghost use Rattle.planner.specs.inner.Candidates.{IsBestBound, IsBoundOfCut, IsBoundOfNone};
+ghost use Rattle.planner.specs.inner.Candidates.{HaveBounds, IsBestBound, IsBoundOfCut, IsBoundOfNone};
 
-use crate::candidates::Candidates;
 use crate::ranges::are_short;
 use master_bound::best_own;
 use metric_cut::{RawValue, own_certificate};
 use module_prices::bound_of;
 use net_core::{Copied, CutLine, List, Network, NoMemory};
+use plan_rounds::Worked;
 use plan_types::{CertLine, Certificate, Spot};
 use std::alloc::Global;
 
@@ -72,20 +72,17 @@ fn bound_of_cut(
 pub fn best_bound(
     alloc: Global,
     net: &Network,
-    candidates: &Candidates,
+    worked: &Worked,
 ) -> Result<CertifiedBound, NoMemory>
-    requires same { length candidates.now.spots ≡ length candidates.now.lines }
-    requires few { length candidates.now.lines < 2 ^ 32 }
-    requires lengths { All (λ cut. HaveBound net.now.links cut.lengths) candidates.now.lines }
-    requires right { All (λ cut. cut.right < 2 ^ 84) candidates.now.lines }
-    ensures { IfOk result (IsBestBound net.now.links candidates.now) }
+    requires cuts { HaveBounds net.now.links worked.now }
+    ensures { IfOk result (IsBestBound net.now.links worked.now) }
 {
-    match best_own(net, &candidates.lines) {
+    match best_own(net, &worked.lines) {
         Some(k) => bound_of_cut(
             alloc,
             net,
-            &candidates.lines.items()[k as usize],
-            candidates.spots.items()[k as usize],
+            &worked.lines.items()[k as usize],
+            worked.spots.items()[k as usize],
         ),
         None => Ok(bound_of_none(alloc, net)),
     }

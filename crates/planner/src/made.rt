@@ -2,10 +2,17 @@ ghost use Rattle.std.specs.Prelude.{◌≡◌, ◌≤◌, All, length};
 ghost use Rattle.planner.specs.inner.Finishing.{plan_made};
 
 use crate::certified::CertifiedBound;
-use crate::sound::{Standing, are_named};
+use crate::ranges::are_named;
 use net_core::Demands;
 use plan_types::Plan;
 use share_covers::Chosen;
+
+/// Where a plan stands: the version of the demands, and the position in the history.
+#[derive(Clone, Copy)]
+pub struct Standing {
+    pub version: u64,
+    pub position: u64,
+}
 
 /// The plan of counts that were chosen, with a certified bound.
 pub fn make_plan(at: Standing, demands: Demands, chosen: Chosen, bound: CertifiedBound) -> Plan

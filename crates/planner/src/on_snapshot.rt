@@ -7,12 +7,10 @@ ghost use Rattle.separator.specs.Separators.{SeesMore};
 ghost use Rattle.planner.specs.SnapshotPlans.{IsSnapshotAnswer, IsSnapshotIn, IsSnapshotPlan, PoolsAlone};
 
 use crate::better::better_bound;
-use crate::candidates::Candidates;
 use crate::chosen::choose_counts;
-use crate::made::make_plan;
+use crate::made::{Standing, make_plan};
 use crate::answer::PlanAnswer;
 use crate::ranges::are_short_cuts;
-use crate::sound::Standing;
 use cut_pool::Snapshot;
 use failure_states::first_separated;
 use module_choice::fallback_plan;
@@ -55,15 +53,10 @@ fn plan_survivable<S: Separate>(
         states,
         demands: &demands,
     };
-    let Worked {
-        lines,
-        spots,
-        best,
-        quality,
-    } = work_rounds(alloc, &instance, cuts, separator)?;
-    are_short_cuts(lines.items());
-    let candidates = Candidates { lines, spots };
-    let bound = better_bound(alloc, net, &best, &candidates)?;
+    let worked = work_rounds(alloc, &instance, cuts, separator)?;
+    are_short_cuts(worked.lines.items());
+    let bound = better_bound(alloc, net, &worked)?;
+    let Worked { best, quality, .. } = worked;
     let chosen = choose_counts(alloc, &instance, fallback, &best, quality)?;
     let at = Standing { version, position };
     Ok(make_plan(at, demands, chosen, bound))

@@ -1,7 +1,7 @@
-ghost use Rattle.std.specs.Prelude.{◌<◌, ◌^◌, All};
+ghost use Rattle.std.specs.Prelude.{◌<◌, ◌≤◌, ◌^◌, All, length};
 ghost use Rattle.planner.specs.inner.Finishing.{HasShortLengths};
 
-use net_core::CutLine;
+use net_core::{CutLine, Demand};
 
 /// Lengths are below 2^32 by their type.
 pub fn are_short(lengths: &[u32])
@@ -16,5 +16,14 @@ pub fn are_short_cuts(cuts: &[CutLine])
 {
     for cut in cuts {
         are_short(cut.lengths.items());
+    }
+}
+
+/// A name has at most 255 bytes by its type.
+pub fn are_named(demands: &[Demand])
+    ensures { All (λ d. length d.name ≤ 255) demands.now }
+{
+    for d in demands {
+        let _name = d.name.bytes();
     }
 }

@@ -2,76 +2,100 @@ ghost use Rattle.std.specs.Prelude.{length};
 ghost use Rattle.net_core.specs.Demands.{AreDemands};
 
 use crate::answer::PlanAnswer;
-use crate::on_board::plan_board;
+use crate::on_snapshot::plan_snapshot;
 use cut_pool::Board;
 use net_core::{Demands, Network, NoMemory, States};
-use plan_types::{Plan, Spot};
+use plan_types::{Plan, Quality, Spot};
+use separator::OneByOne;
 use std::alloc::Global;
 use std::test::Fail;
-use worked_networks::{CHAIN, demands, failing, network, single_failures, triangle};
+use worked_networks::{CHAIN, DemandRow, PARALLEL, WorkedFault, demands, failing, network, triangle};
 
-/// What is looked at of a plan: cost, bound, raw value, and the certificate's denominator and pool index.
-type Looked = (u128, u128, (u128, u128), u128, Option<u32>);
+/// What is looked at of a plan: cost, raw value, bound, and whether it is tight.
+type Looked = (u128, (u128, u128), u128, bool);
 
-fn look(plan: &Plan) -> Looked {
-    let spot = match plan.certificate.lines.items() {
-        [line, ..] => match line.spot {
-            Spot::Pool(i) => Some(i),
-            Spot::Local => None,
-        },
-        [] => None,
-    };
+fn look(plan: &Option<Plan>) -> Option<Looked> {
+    let plan = plan.as_ref()?;
     let raw = (plan.raw_num, plan.raw_den);
-    (plan.cost, plan.bound, raw, plan.certificate.den, spot)
+    let tight = match &plan.quality {
+        Quality::Tight(_) => true,
+        _ => false,
+    };
+    Some((plan.cost, raw, plan.bound, tight))
 }
 
-/// The plan on a new board, and how many opening cuts it leaves there; no plan where a state separates a demand.
+/// The numerator and the spot of a line of the certificate, if it has so many.
+fn line(plan: &Option<Plan>, at: usize) -> Option<(u64, Spot)> {
+    let line = plan.as_ref()?.certificate.lines.items().get(at)?;
+    Some((line.num, line.spot))
+}
+
+/// The plan for a new board; none where a state separates a demand.
 fn planned(
     alloc: Global,
     net: &Network,
     states: &States,
     opening: Demands,
-) -> Result<(Option<Looked>, usize), NoMemory>
+) -> Result<Option<Plan>, NoMemory>
     requires { AreDemands (length net.now.nodes) opening }
 {
-    let mut board = Board::new(alloc, net, states, opening)?;
-    let plan = match plan_board(alloc, net, states, &mut board)? {
-        PlanAnswer::Planned(plan) => Some(look(&plan)),
-        PlanAnswer::NotSurvivable(_) => None,
+    let Ok(board) = Board::new(alloc, net, states, opening) else {
+        return Err(NoMemory)
     };
-    Ok((plan, board.entries().len()))
+    let snapshot = board.snapshot()?;
+    let mut separator = OneByOne::new(alloc, board);
+    match plan_snapshot(alloc, net, states, snapshot, &mut separator)? {
+        PlanAnswer::Planned(plan) => Ok(Some(plan)),
+        PlanAnswer::NotSurvivable(_) => Ok(None),
+    }
+}
+
+/// The plan of a network for one demand, where a state fails the links of each row.
+fn plan_of(
+    alloc: Global,
+    net: Network,
+    fail: &[&[u32]],
+    demand: DemandRow,
+) -> Result<Option<Plan>, WorkedFault> {
+    let states = failing(alloc, &net, fail)?;
+    let opening = demands(alloc, net.nodes().len(), &[demand])?;
+    Ok(planned(alloc, &net, &states, opening)?)
 }
 
 #[test]
-fn a_plan_costs_the_fallback_and_has_the_best_own_bound(rt: HostRuntime) -> Result<(), Fail> {
+fn small_networks_have_tight_plans(rt: HostRuntime) -> Result<(), Fail> {
     let alloc = rt.alloc();
-    let cases: [(u64, bool, u64, (Looked, usize)); 4] = [
-        (0, false, 12000, ((10000, 10000, (6000, 1), 2, Some(0)), 1)),
-        (0, true, 12000, ((30000, 15000, (12000, 1), 2, Some(3)), 4)),
-        (0, true, 0, ((0, 0, (0, 1), 1, None), 4)),
-        (20000, false, 12000, ((0, 0, (0, 1), 1, None), 1)),
-    ];
-    for (fixed, fail, need, (plan, cuts)) in cases {
-        let net = triangle(alloc, fixed)?;
-        let states = if fail {
-            single_failures(alloc, &net)?
-        } else {
-            States::only_none(alloc)
-        };
-        let opening = demands(alloc, net.nodes().len(), &[(0, 2, need)])?;
-        let got = planned(alloc, &net, &states, opening)?;
-        assert_eq!(rt; got, (Some(plan), cuts));
-    }
+    let t = (0, 2, 12000);
+    let p = (0, 1, 10000);
+    let alone = plan_of(alloc, triangle(alloc, 0)?, &[], t)?;
+    assert_eq!(rt; look(&alone), Some((10000, (6000, 1), 10000, true)));
+    let failing = plan_of(alloc, triangle(alloc, 0)?, &[&[0], &[1], &[2]], t)?;
+    assert_eq!(rt; look(&failing), Some((30000, (18000, 1), 20000, true)));
+    let four = plan_of(alloc, network(alloc, 2, &PARALLEL)?, &[&[0], &[1], &[2], &[3]], p)?;
+    assert_eq!(rt; look(&four), Some((16000, (40000, 3), 14000, true)));
+    let installed = plan_of(alloc, triangle(alloc, 20000)?, &[], t)?;
+    assert_eq!(rt; look(&installed), Some((0, (0, 1), 0, true)));
+    assert_eq!(rt; line(&installed, 0), None);
     Ok(())
 }
 
 #[test]
-fn a_separated_demand_has_no_plan(rt: HostRuntime) -> Result<(), Fail> {
+fn a_certificate_names_the_pooled_cuts_of_the_failures(rt: HostRuntime) -> Result<(), Fail> {
     let alloc = rt.alloc();
-    let net = network(alloc, 3, &CHAIN[..2])?;
-    let states = failing(alloc, &net, &[&[1]])?;
-    let opening = demands(alloc, net.nodes().len(), &[(0, 2, 12000)])?;
-    let got = planned(alloc, &net, &states, opening)?;
-    assert_eq!(rt; got, (None, 0));
+    let three = network(alloc, 2, &PARALLEL[..3])?;
+    let got = plan_of(alloc, three, &[&[0], &[1], &[2]], (0, 1, 10000))?;
+    assert_eq!(rt; look(&got), Some((15000, (15000, 1), 15000, true)));
+    let lines = [line(&got, 0), line(&got, 1), line(&got, 2), line(&got, 3)];
+    assert_eq!(rt; lines, [Some((1, Spot::Pool(1))), Some((1, Spot::Pool(2))), Some((1, Spot::Pool(3))), None]);
+    Ok(())
+}
+
+#[test]
+fn a_chain_that_fails_carries_a_demand_of_0_alone(rt: HostRuntime) -> Result<(), Fail> {
+    let alloc = rt.alloc();
+    let some = plan_of(alloc, network(alloc, 3, &CHAIN[..2])?, &[&[1]], (0, 2, 12000))?;
+    assert_eq!(rt; look(&some), None);
+    let none = plan_of(alloc, network(alloc, 3, &CHAIN[..2])?, &[&[1]], (0, 2, 0))?;
+    assert_eq!(rt; look(&none), Some((0, (0, 1), 0, true)));
     Ok(())
 }

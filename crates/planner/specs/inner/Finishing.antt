@@ -15,9 +15,9 @@ use Rattle.master_bound.specs.declared.answer.Best.{Best}
 use Rattle.master_bound.specs.declared.answer.Multiplier.{Multiplier}
 use Rattle.share_covers.specs.Choices.{IsChosen, IsQualityOfShare}
 use Rattle.share_covers.specs.declared.choice.Chosen.{Chosen}
-use Rattle.planner.specs.declared.candidates.Candidates.{Candidates}
+use Rattle.plan_rounds.specs.declared.rounds.Worked.{Worked}
 use Rattle.planner.specs.declared.certified.CertifiedBound.{CertifiedBound}
-use Rattle.planner.specs.declared.sound.Standing.{Standing}
+use Rattle.planner.specs.declared.made.Standing.{Standing}
 use Rattle.planner.specs.inner.Candidates.{IsBestBound}
 
 -- lengths below 2^32
@@ -27,41 +27,42 @@ HasShortLengths cut = All (λ x. x < 2 ^ 32) cut.lengths
 -- ---- the bound
 
 -- the line of a multiplier: the cut at its place, with the spot where that stands
-abbrev pub line_at : Candidates → Multiplier → CertLine
-line_at c m = record { num = m.num; spot = get_or c.spots m.cut Local; cut = cut_at c.lines m.cut }
+abbrev pub line_at : Worked → Multiplier → CertLine
+line_at w m = record { num = m.num; spot = get_or w.spots m.cut Local; cut = cut_at w.lines m.cut }
 
 -- a best certificate with its raw value, and a bound
-abbrev pub bound_made : Candidates → Best → ℕ → CertifiedBound
-bound_made c best bound = record {
-  certificate = record { den = best.den; lines = map (line_at c) best.multipliers };
+abbrev pub bound_made : Worked → Best → ℕ → CertifiedBound
+bound_made w best bound = record {
+  certificate = record { den = best.den; lines = map (line_at w) best.multipliers };
   raw = record { num = best.raw_num; den = best.raw_den };
   bound = bound;
 }
 
 -- its own bound
-pub record IsBoundOfMaster (links : List Link) (c : Candidates) (best : Best) (b : CertifiedBound) : Type 0 where
+pub record IsBoundOfMaster (links : List Link) (w : Worked) (best : Best) (b : CertifiedBound) : Type 0 where
   pub bound : ℕ
-  pub is : b ≡ bound_made c best bound
+  pub is : b ≡ bound_made w best bound
   pub rounded : IsBound links best.raw_num best.raw_den bound
 
--- the bound of the best certificate, or that of the best cut alone where its raw value is greater
-abbrev pub IsGreaterBound : List Link → Candidates → CertifiedBound → Option Best → CertifiedBound → Type 0
-IsGreaterBound links c own None b = b ≡ own
-IsGreaterBound links c own (Some best) b =
-    (IsBoundOfMaster links c best b × (own.raw.num * best.raw_den ≤ best.raw_num * own.raw.den))
+-- the bound of a best certificate, or that of the best cut alone where its raw value is greater
+abbrev pub IsGreaterBound : List Link → Worked → CertifiedBound → Option Best → CertifiedBound → Type 0
+IsGreaterBound links w own None b = b ≡ own
+IsGreaterBound links w own (Some best) b =
+    (IsBoundOfMaster links w best b × (own.raw.num * best.raw_den ≤ best.raw_num * own.raw.den))
     ⊎ ((b ≡ own) × (best.raw_num * own.raw.den < own.raw.num * best.raw_den))
 
-pub record IsBetterBound (links : List Link) (c : Candidates) (best : Option Best) (b : CertifiedBound) : Type 0 where
+-- the greater of the two bounds of the rounds' cuts
+pub record IsBetterBound (links : List Link) (w : Worked) (b : CertifiedBound) : Type 0 where
   pub own : CertifiedBound
-  pub of_own : IsBestBound links c own
-  pub greater : IsGreaterBound links c own best b
+  pub of_own : IsBestBound links w own
+  pub greater : IsGreaterBound links w own w.best b
 
 -- a raw value within its limits, and multipliers of cuts that are there
-pub record AreMultipliersOf (c : Candidates) (best : Best) : Type 0 where
+pub record AreMultipliersOf (w : Worked) (best : Best) : Type 0 where
   pub num : best.raw_num < 2 ^ 126
   pub positive : 0 < best.raw_den
   pub den : best.raw_den < 2 ^ 72
-  pub listed : All (λ m. m.cut < length c.lines) best.multipliers
+  pub listed : All (λ m. m.cut < length w.lines) best.multipliers
 
 -- ---- the counts
 

@@ -2,4 +2,4 @@ use Rattle.planner.proofs.GreaterBounds.{own_positive}
 use Rattle.planner.proofs.better.better_bound.Goals as goal
 
 pub is_at_least-requires-clause-raw : goal.is_at_least-requires-clause-raw
-is_at_least-requires-clause-raw c = own_positive c.args.net.now.links c.args.candidates.now c.in_ok-own.own c.in_ok-own.ensures
+is_at_least-requires-clause-raw c = own_positive c.args.net.now.links c.args.worked.now c.in_ok-own.own c.in_ok-own.ensures

@@ -4,4 +4,4 @@ use Rattle.planner.proofs.better.lines_of_multipliers.Given as goal
 
 -- the lines of the multipliers so far
 abbrev pub invariant-loop-i : goal.invariant-loop-i
-invariant-loop-i l = l.lines ≡ map (line_at l.candidates) (take l.i l.multipliers)
+invariant-loop-i l = l.lines ≡ map (line_at l.worked) (take l.i l.multipliers)

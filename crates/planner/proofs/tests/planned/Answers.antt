@@ -1,9 +1,9 @@
-use Rattle.std.proofs.Common.{ap, sym, subst, ◌≡◌}
+use Rattle.std.proofs.Common.{ap, sym, subst}
 use Rattle.net_core.specs.Views.{case}
 use Rattle.cut_pool.specs.declared.board.Board.{Board}
 use Rattle.planner.specs.SnapshotPlans.{IsSnapshotIn}
 use Rattle.planner.proofs.SnapshotGiven.{board_snapshot}
-use Rattle.planner.proofs.snapshot_tests.planned.Goals as goal
+use Rattle.planner.proofs.tests.planned.Goals as goal
 
 pub plan_snapshot-requires-clause-snapshot : goal.plan_snapshot-requires-clause-snapshot
 plan_snapshot-requires-clause-snapshot c =

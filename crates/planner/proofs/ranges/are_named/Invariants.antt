@@ -1,5 +1,5 @@
 use Rattle.std.proofs.Common.{◌≤◌, All, length, take}
-use Rattle.planner.proofs.sound.are_named.Given as goal
+use Rattle.planner.proofs.ranges.are_named.Given as goal
 
 -- the names so far
 abbrev pub invariant-loop-d : goal.invariant-loop-d
