@@ -20,7 +20,7 @@ use Rattle.plan_types.specs.declared.report.Outcome.TheVariants.{Planned, Unsurv
 use Rattle.plan_types.specs.declared.report.Report.{Report}
 use Rattle.cut_pool.specs.Histories.{cut_of_line, cuts_of, demands_left, version_left}
 use Rattle.separator.specs.Separators.{IsFullHistory, IsSpotIn}
-use Rattle.planner.proofs.Taking.{cuts_both}
+use Rattle.planner.proofs.Histories.{cuts_both}
 use Rattle.plan_checker.specs.Order.{HoldNone}
 use Rattle.plan_checker.specs.Shares.{IsTight}
 use Rattle.report_checker.specs.Outcomes.{SeparatesNamed, case_at, outcome_findings}

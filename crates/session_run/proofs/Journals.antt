@@ -18,8 +18,7 @@ use Rattle.plan_terms.specs.Edits.{edit_need, edit_reply, version_after}
 use Rattle.plan_report.specs.Forms.{HasPoolLine, IsCutInForm, IsEntryInForm, IsReplyInForm}
 use Rattle.cut_pool.specs.Histories.{Dated, IsLegalHistory, cut_of_line, cuts_of, demands_left, left_by, left_by_entry, version_left}
 use Rattle.text_kit.specs.Edits.{IsEditInForm}
-use Rattle.planner.proofs.BoardPlans.{reply_next, version_few}
-use Rattle.planner.proofs.Taking.{cuts_both, get_behind}
+use Rattle.planner.proofs.Histories.{cuts_both, get_behind, reply_next, version_few}
 use Rattle.session_run.specs.inner.Ranges.{HasShortLengths}
 use Rattle.session_run.specs.inner.Running.{IsEntryOfCaller}
 use Rattle.session_run.proofs.Replies.{HasLowTotal, IsLow, reply_low}

@@ -16,7 +16,6 @@ use Rattle.cut_pool.specs.declared.snapshot.Snapshot.{Snapshot}
 use Rattle.plan_rounds.specs.WorkedRounds.{IsWorkedPool}
 use Rattle.separator.specs.OneByOnes.{own_of}
 use Rattle.separator.specs.Separators.{IsCutEntry, SeesMore}
-use Rattle.separator.specs.declared.one_by_one.Beginning.{Beginning}
 use Rattle.separator.specs.declared.one_by_one.OneByOne.{OneByOne}
 use Rattle.planner.specs.SnapshotPlans.{IsSnapshotAnswer, IsSnapshotPlan, PoolsAlone}
 use Rattle.planner.specs.declared.answer.PlanAnswer.{PlanAnswer}
@@ -43,9 +42,6 @@ same_case net states b s one two is =
     ap (λ n. case n states s.demands) (sym one) ∙ (ap (λ x. case b.net.now x s.demands) (sym two) ∙ ap (λ d. case b.net.now b.states.now d) is.demands_are)
 
 -- ---- a separator over a board that was handed to it
-
-abbrev mark_of : OneByOne → List Demand × ℕ
-mark_of s = (s.board.opening.value, s.began.value)
 
 module _ (b : Board) (old new : OneByOne) (begun : old.board ≡ b) (none : own_of old ≡ []) (net : new.board.net.now ≡ old.board.net.now) (states : new.board.states.now ≡ old.board.states.now)
     (opening : new.board.opening.value ≡ old.board.opening.value) (began : new.began.value ≡ old.began.value)
@@ -78,7 +74,7 @@ module _ (b : Board) (old new : OneByOne) (begun : old.board ≡ b) (none : own_
   own_first empty = more.seen ∙ (ap (λ es. es ++ more.further) empty ∙ sym own_all)
 
   module _ (snapshot : Snapshot) (is : IsSnapshotOf b snapshot) (p : Case) (same : p ≡ case_left (opening_case b) b.entries) where
-    answered : (answer : PlanAnswer) → IsSnapshotAnswer p snapshot old.board.entries new.board.entries answer → PoolsAlone p old.board.entries new.board.entries (own_of new) answer → IsAnswerOn b new.board answer
+    pub answered : (answer : PlanAnswer) → IsSnapshotAnswer p snapshot old.board.entries new.board.entries answer → PoolsAlone p old.board.entries new.board.entries (own_of new) answer → IsAnswerOn b new.board answer
     answered (Planned plan) planned alone = (
       ∥∥₁_elim is.pool (hlevel props) (λ pool. ∥∥₁_map planned (λ sound. record {
         snapshot = snapshot;

@@ -16,7 +16,7 @@ use Rattle.plan_report.specs.Forms.{IsReportInForm}
 use Rattle.cut_pool.specs.declared.board.Board.{Board}
 use Rattle.cut_pool.specs.Boards.{opening_case}
 use Rattle.cut_pool.specs.Histories.{IsLegalHistory, IsPoolAfter, cut_of_line, cuts_of}
-use Rattle.planner.proofs.BoardPlans.{board_few}
+use Rattle.planner.proofs.Histories.{board_few}
 use Rattle.session_script.specs.declared.script.Command.{Command}
 use Rattle.session_script.specs.Scripts.{IsScript}
 use Rattle.session_run.specs.Transcripts.{IsPlanned, IsTranscript, RunsFrom, acts_of, caller_of, case_left, outcomes_of, position_of}

@@ -27,8 +27,7 @@ use Rattle.session_script.specs.declared.script.Act.TheVariants.{Change, Plan}
 use Rattle.session_script.specs.declared.script.Command.{Command}
 use Rattle.plan_rounds.specs.WorkedRounds.{IsWorkedPool}
 use Rattle.separator.specs.Separators.{IsCutEntry}
-use Rattle.planner.proofs.BoardPlans.{board_few}
-use Rattle.planner.proofs.Taking.{cuts_both}
+use Rattle.planner.proofs.Histories.{board_few, cuts_both}
 use Rattle.session_run.specs.Transcripts.{IsOnePlan, IsOutcomeAfter, IsPlanned, RunsFrom, acts_of, caller_of, edit_asked, edit_made, outcomes_of, position_of}
 use Rattle.session_run.specs.inner.Running.{DoesAct, HaveRun, IsEntryOfCaller}
 use Rattle.session_script.specs.Scripts.{IsActInForm, IsCommandInForm, asks_plan, is_plan}

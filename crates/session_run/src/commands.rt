@@ -77,24 +77,29 @@ fn make_plan<'a>(
     ensures first { IfOk result (λ made. PoolsFirst board.entry made.1 made.0) }
 {
     let (answer, board) = plan_on(alloc, net, states, board)?;
-    let outcome = match answer {
-        PlanAnswer::Planned(plan) => Outcome::Planned {
-            caller,
-            serial,
-            plan,
-        },
-        PlanAnswer::NotSurvivable(separation) => Outcome::Unsurvivable {
-            caller,
-            serial,
-            version: board.version(),
-            position: board.entries().len() as u64,
-            state: separation.state,
-            demand: board.demands().items()[separation.demand as usize]
-                .name
-                .copy()?,
-        },
-    };
-    Ok((outcome, board))
+    match answer {
+        PlanAnswer::Planned(plan) => {
+            let outcome = Outcome::Planned {
+                caller,
+                serial,
+                plan,
+            };
+            Ok((outcome, board))
+        }
+        PlanAnswer::NotSurvivable(separation) => {
+            let outcome = Outcome::Unsurvivable {
+                caller,
+                serial,
+                version: board.version(),
+                position: board.entries().len() as u64,
+                state: separation.state,
+                demand: board.demands().items()[separation.demand as usize]
+                    .name
+                    .copy()?,
+            };
+            Ok((outcome, board))
+        }
+    }
 }
 
 /// Runs the next command.

@@ -1,6 +1,5 @@
-use Rattle.std.proofs.Common.{◌≡◌, ℕ, ◌≤◌, List, AllPairs, length, rules, arith, ap, subst, sym, ◌∙◌}
+use Rattle.std.proofs.Common.{◌≤◌, AllPairs, length, rules, arith, ap, subst, sym, ◌∙◌}
 use Rattle.std.proofs.lemmas.List.Sorted.{IsNonDecreasingBy-from_sort_by_key, answers_always}
-use Rattle.plan_types.specs.declared.report.Outcome.{Outcome}
 use Rattle.session_run.specs.Transcripts.{caller_of, outcomes_of}
 use Rattle.session_run.proofs.Callers.{stays_same, written_whole}
 use Rattle.session_run.proofs.reports.by_caller.Goals as goal
