@@ -69,11 +69,7 @@ fn bound_of_cut(
 }
 
 /// The bound of the first cut of greatest own bound.
-pub fn best_bound(
-    alloc: Global,
-    net: &Network,
-    worked: &Worked,
-) -> Result<CertifiedBound, NoMemory>
+pub fn best_bound(alloc: Global, net: &Network, worked: &Worked) -> Result<CertifiedBound, NoMemory>
     requires cuts { HaveBounds net.now.links worked.now }
     ensures { IfOk result (IsBestBound net.now.links worked.now) }
 {

@@ -6,10 +6,10 @@ ghost use Rattle.plan_rounds.specs.WorkedRounds.{IsWorkedPool};
 ghost use Rattle.separator.specs.Separators.{SeesMore};
 ghost use Rattle.planner.specs.SnapshotPlans.{IsSnapshotAnswer, IsSnapshotIn, IsSnapshotPlan, PoolsAlone};
 
+use crate::answer::PlanAnswer;
 use crate::better::better_bound;
 use crate::chosen::choose_counts;
 use crate::made::{Standing, make_plan};
-use crate::answer::PlanAnswer;
 use crate::ranges::are_short_cuts;
 use cut_pool::Snapshot;
 use failure_states::first_separated;
