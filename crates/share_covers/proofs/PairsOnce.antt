@@ -2,11 +2,12 @@
 use Rattle.std.proofs.Common.{◌≡◌, suc, inl, inr, List, [], ◌∷◌, All, length, sym, ap, ◌∙◌, arith}
 use Rattle.std.proofs.lemmas.List.{ext_get_or}
 use Rattle.std.proofs.lemmas.Option.{slice_get-get_or}
-use Rattle.net_core.specs.Network.{IsLink, IsModule}
+use Rattle.net_core.specs.Network.{IsModule}
+use Rattle.net_core.specs.declared.network.Link.{Link}
 use Rattle.net_core.specs.declared.network.Module.{Module}
 use Rattle.module_prices.specs.declared.cheapest.UnitPair.{UnitPair}
 use Rattle.plan_terms.specs.Prices.{IsUnitPair}
-use Rattle.master_law.specs.UnitPairs.{IsPairOfLink}
+use Rattle.master_law.specs.UnitPairs.{AreUnitPairs, IsPairOfLink}
 use Rattle.module_choice.proofs.Choices.{all_read}
 use Rattle.module_choice.proofs.Falling.{get_some}
 use Rattle.module_choice.proofs.UnitPairs.{pair_once}
@@ -28,10 +29,14 @@ pairs_once modules sound a b (inr p) (inr q) = let once = pair_once modules soun
 no_units : UnitPair
 no_units = record { capacity = 0; cost = 0 }
 
-pub unit_pairs_are_one : UnitPairsAreOne
-unit_pairs_are_one nodes links pairs others net first second =
-    ext_get_or no_units pairs others (first.count ∙ sym second.count) (λ e lt.
+-- so has each of some links
+pub links_once : (links : List Link) → All (λ l. All IsModule l.modules) links → (xs ys : List UnitPair) → AreUnitPairs links xs → AreUnitPairs links ys → xs ≡ ys
+links_once links sound xs ys first second =
+    ext_get_or no_units xs ys (first.count ∙ sym second.count) (λ e lt.
     let l = get_some links e (omega (arith, lt, first.count)) in
-    pairs_once l.0.modules (all_read (IsLink (length nodes)) links e l.0 net.sound l.1).each _ _
-    (first.each e l.0 _ l.1 (slice_get-get_or pairs e no_units lt))
-    (second.each e l.0 _ l.1 (slice_get-get_or others e no_units (omega (arith, lt, first.count, second.count)))))
+    pairs_once l.0.modules (all_read (λ (x : Link). All IsModule x.modules) links e l.0 sound l.1) _ _
+    (first.each e l.0 _ l.1 (slice_get-get_or xs e no_units lt))
+    (second.each e l.0 _ l.1 (slice_get-get_or ys e no_units (omega (arith, lt, first.count, second.count)))))
+
+pub unit_pairs_are_one : UnitPairsAreOne
+unit_pairs_are_one nodes links pairs others net first second = links_once links (λ k d lt. (net.sound k d lt).each) pairs others first second

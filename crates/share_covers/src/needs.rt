@@ -1,29 +1,15 @@
 ghost use Rattle.std.specs.Prelude.{◌≡◌, ℕ, ◌*◌, ◌<◌, ◌≤◌, All, IfOk, length};
 ghost use Rattle.net_core.specs.Network.{IsModule};
-ghost use Rattle.master_law.specs.UnitPairs.{IsPairOfLink, IsShareNeed};
+ghost use Rattle.master_law.specs.UnitPairs.{IsShareNeed};
 ghost use Rattle.share_covers.specs.ShareCovers.{AreShareNeeds, IsNeedOfLink};
 
-use module_prices::{UnitPair, unit_pair};
+use module_prices::unit_pair;
 use net_core::{List, Module, Network, NoMemory};
 use plan_types::Share;
 use std::alloc::Global;
 
 /// No link needs more, in thousandths: all demands together need less than one more.
 const MOST_NEED: u64 = (1 << 44) - 1;
-
-/// The unit pair of a link with these modules; 0 and 0 where there is none.
-fn pair_of(modules: &[Module]) -> UnitPair
-    requires { All IsModule modules.now }
-    ensures { IsPairOfLink modules.now result }
-{
-    match unit_pair(modules) {
-        Some(pair) => pair,
-        None => UnitPair {
-            capacity: 0,
-            cost: 0,
-        },
-    }
-}
 
 /// A number over a scale, rounded up.
 fn whole(number: u128, scale: u64) -> u128
@@ -49,7 +35,10 @@ fn link_need(modules: &[Module], units: u64, scale: u64) -> u64
     requires scale { 0 < scale }
     ensures { IsNeedOfLink modules.now scale units result }
 {
-    need_of(pair_of(modules).capacity, units, scale)
+    match unit_pair(modules) {
+        Some(pair) => need_of(pair.capacity, units, scale),
+        None => 0,
+    }
 }
 
 /// What each link needs of its modules in a share, in whole thousandths: its units of its unit pair, rounded up, and 2^44 - 1 where that
