@@ -175,7 +175,7 @@ pub fn master(alloc: Global, net: &Network, cuts: &List<CutLine>) -> Result<Best
     ensures { IsMasterAnswer net.now.links cuts.now result }
 {
     let links = net.links().items();
-    let pairs = unit_pairs(alloc, links)?;
+    let pairs = unit_pairs(alloc, net)?;
     match wide_cut(links, pairs.items(), cuts.items()) {
         Some(k) => Err(wide_number(alloc, net, pairs.items(), cuts.items(), k)?),
         None => {

@@ -3,7 +3,7 @@ ghost use Rattle.net_core.specs.Network.{IsModule};
 ghost use Rattle.master_law.specs.UnitPairs.{AreUnitPairs, IsPairOfLink};
 
 use module_prices::{UnitPair, unit_pair};
-use net_core::{Link, List, Module, NoMemory};
+use net_core::{List, Module, Network, NoMemory};
 use std::alloc::Global;
 
 /// The unit pair of a link with these modules; 0 and 0 where there is none.
@@ -21,12 +21,14 @@ fn pair_of(modules: &[Module]) -> UnitPair
     }
 }
 
-/// The unit pair of each link.
-pub(crate) fn unit_pairs(alloc: Global, links: &[Link]) -> Result<List<UnitPair>, NoMemory>
-    requires { All (λ l. All IsModule l.modules) links.now }
-    ensures pairs { IfOk result (AreUnitPairs links.now) }
+/// The unit pair of each link, in their order; 0 and 0 where a link has no module.
+///
+/// A link with a module of 10.00 for 5.00 has the pair of 2 for 1. It takes time in the number of modules, and memory for a pair of each link.
+pub fn unit_pairs(alloc: Global, net: &Network) -> Result<List<UnitPair>, NoMemory>
+    ensures pairs { IfOk result (AreUnitPairs net.now.links) }
     ensures costs { IfOk result (All (λ p. p.cost < 2 ^ 40)) }
 {
+    let links = net.links().items();
     let mut pairs = List::from_vec(Vec::with_capacity(alloc, links.len())?);
     for l in links {
         pairs.push(pair_of(l.modules.items()))?;
