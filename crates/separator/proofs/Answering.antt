@@ -5,6 +5,7 @@ use Rattle.std.proofs.lemmas.List.Concat.{flat_map-append}
 use Rattle.std.proofs.lemmas.List.Elements.{All-append, All-cons, All-nil, All-weaker, Contains-append_left, Contains-append_right}
 use Rattle.std.proofs.lemmas.List.Prefix.{front_rest}
 use Rattle.std.proofs.lemmas.List.Quantifiers.{all_pairs_push}
+use Rattle.net_core.specs.declared.demand.Demand.{Demand}
 use Rattle.net_core.specs.declared.journal.Entry.{Entry}
 use Rattle.net_core.specs.declared.plan.Caps.{Caps}
 use Rattle.net_core.specs.declared.plan.CutLine.{CutLine}
@@ -20,16 +21,16 @@ use Rattle.separator.specs.declared.answers.Separated.{Separated}
 use Rattle.separator.specs.declared.answers.Separated.TheVariants.{Routed, Violated, Wide}
 use Rattle.separator.specs.declared.answers.StateAnswer.{StateAnswer}
 use Rattle.separator.specs.Findings.{IsFoundCutOf}
-use Rattle.separator.specs.Separators.{IsAnswerOf, IsSeparatingCut, IsSpotIn, SeparatesAt, SeesMore, cut_answered, cuts_answered, cuts_since}
+use Rattle.separator.specs.Separators.{IsAnswerOf, IsLineAt, IsSeparatingCut, IsSpotIn, SeparatesAt, SeesMore, cut_answered, cuts_answered, cuts_since}
 use Rattle.separator.specs.inner.Seen.{drop_is_part}
-use Rattle.separator.specs.inner.Working.{AreAnswersBelow, IsLineAt, PoolsBelow, PoolsMore, PoolsOf, PoolsOnly, state_and_lengths}
+use Rattle.separator.specs.inner.Working.{AreAnswersBelow, PoolsBelow, PoolsMore, PoolsOf, PoolsOnly, state_and_lengths}
 use Rattle.separator.proofs.Pooling.{pools_both, pools_none, pools_since, spot_later}
 
 -- ---- the cut of a state
 
 -- the line of a cut has its state and its lengths
-line_is : (p : Case) (cut : Cut) (line : CutLine) → IsLineAt p.demands cut line → cut_of_line line ≡ state_and_lengths cut
-line_is p cut line is = let one = ap (λ st. st.0) is.state in let two = is.lengths in cc (one, two)
+pub line_is : (demands : List Demand) (cut : Cut) (line : CutLine) → IsLineAt demands cut line → cut_of_line line ≡ state_and_lengths cut
+line_is demands cut line is = let one = ap (λ st. st.0) is.state in let two = is.lengths in cc (one, two)
 
 module _ (p : Case) (caps : Caps) (s : ℕ) (cut : Cut) (line : CutLine) (found : IsFoundCutOf (graph_in p s) p.demands caps cut) (is : IsLineAt p.demands cut line) where
   -- its state is the one that was asked
@@ -57,11 +58,11 @@ module _ (p : Case) (caps : Caps) (s : ℕ) (cut : Cut) (line : CutLine) (found 
       }
 
   pub cut_separates : SeparatesAt p caps (state_and_lengths cut)
-  cut_separates = record { line = line; same = line_is p cut line is; separating = line_separates }
+  cut_separates = record { line = line; same = line_is p.demands cut line is; separating = line_separates }
 
   -- what is answered of the state, where the cut stands somewhere
   pub violated_answer : (history : List Entry) (spot : Spot) → IsSpotIn history (state_and_lengths cut) spot → IsAnswerOf p caps history s (Violated line spot)
-  violated_answer history spot at = (state_asked, line_separates, subst (λ c. IsSpotIn history c spot) (sym (line_is p cut line is)) at)
+  violated_answer history spot at = (state_asked, line_separates, subst (λ c. IsSpotIn history c spot) (sym (line_is p.demands cut line is)) at)
 
   -- what the board pools for the state
   pub pools_only : (old new : Board) → PoolsOnly old new (state_and_lengths cut) → PoolsOf p caps s old new (cuts_since old.entries new.entries)
@@ -84,7 +85,7 @@ module _ (p : Case) (caps : Caps) (s : ℕ) (cut : Cut) (line : CutLine) (found 
       ⊎_elim
       (λ (none : PoolsMore old new []). subst (All (Contains named)) (sym (pools_since old new [] none)) (All-nil (Contains named)))
       (λ (one : PoolsMore old new (state_and_lengths cut ∷ [])). subst (All (Contains named)) (sym (pools_since old new (state_and_lengths cut ∷ []) one))
-      (All-cons (Contains named) (state_and_lengths cut) [] (0, omega arith, line_is p cut line is) (All-nil (Contains named))))
+      (All-cons (Contains named) (state_and_lengths cut) [] (0, omega arith, line_is p.demands cut line is) (All-nil (Contains named))))
       only
 
 -- a board whose pool stays as it is

@@ -1,3 +1,3 @@
-mod Pooling
-mod Answering
+pub mod Pooling
+pub mod Answering
 mod Somewhere

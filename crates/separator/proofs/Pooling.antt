@@ -1,34 +1,36 @@
 -- boards whose pool grows, and what stands in it
 use Rattle.std.proofs.Common.{◌≡◌, ◌∙◌, ℕ, zero, suc, ◌<◌, ⊎_elim, List, [], ◌∷◌, ◌++◌, None, Some, length, slice_get, refl, sym, ap, subst, arith}
+use Rattle.std.proofs.lemmas.Grind.{flat_map-append}
 use Rattle.std.proofs.lemmas.List.{append-nil, append_assoc}
 use Rattle.std.proofs.lemmas.List.Elements.{All-append, All-nil, All-push}
 use Rattle.std.proofs.lemmas.List.Prefix.{front_rest}
 use Rattle.net_core.specs.declared.journal.Entry.{Entry}
-use Rattle.net_core.specs.declared.journal.Entry.TheVariants.{Edited, Pooled}
+use Rattle.net_core.specs.declared.journal.Entry.TheVariants.{Pooled}
 use Rattle.metric_cut.specs.declared.cut.Cut.{Cut}
 use Rattle.plan_types.specs.declared.certificate.Spot.{Spot}
 use Rattle.plan_types.specs.declared.certificate.Spot.TheVariants.{Pool, Local}
 use Rattle.cut_pool.specs.declared.board.Board.{Board}
 use Rattle.cut_pool.specs.Boards.{GrowsBy, IsSameBoard}
-use Rattle.cut_pool.specs.Histories.{cuts_of}
+use Rattle.cut_pool.specs.Histories.{cuts_of, pooled_by}
 use Rattle.separator.specs.Separators.{IsCutEntry, IsFullHistory, IsSpotIn, cuts_since}
 use Rattle.separator.specs.inner.Working.{PoolsMore, state_and_lengths}
 
 -- ---- lists
 
-get_front : {X : Type 0} (xs ys : List X) (i : ℕ) (x : X) → slice_get xs i ≡ Some x → slice_get (xs ++ ys) i ≡ Some x
+-- what is read of a list's beginning
+pub get_front : {X : Type 0} (xs ys : List X) (i : ℕ) (x : X) → slice_get xs i ≡ Some x → slice_get (xs ++ ys) i ≡ Some x
 get_front [] ys i x at = absurd (let e : None ≡ Some x = at in cc e)
 get_front (y ∷ xs) ys zero x at = at
 get_front (y ∷ xs) ys (suc i) x at = get_front xs ys i x at
 
-get_behind : {X : Type 0} (xs : List X) (x : X) (ys : List X) → slice_get (xs ++ x ∷ ys) (length xs) ≡ Some x
+-- and of the item behind it
+pub get_behind : {X : Type 0} (xs : List X) (x : X) (ys : List X) → slice_get (xs ++ x ∷ ys) (length xs) ≡ Some x
 get_behind [] x ys = refl
 get_behind (y ∷ xs) x ys = get_behind xs x ys
 
-cuts_both : (xs ys : List Entry) → cuts_of (xs ++ ys) ≡ cuts_of xs ++ cuts_of ys
-cuts_both [] ys = refl
-cuts_both (Edited caller edit reply ∷ xs) ys = cuts_both xs ys
-cuts_both (Pooled index state lengths ∷ xs) ys = ap (λ cuts. (state.0, lengths) ∷ cuts) (cuts_both xs ys)
+-- the cuts of two histories, one behind the other
+pub cuts_both : (xs ys : List Entry) → cuts_of (xs ++ ys) ≡ cuts_of xs ++ cuts_of ys
+cuts_both xs ys = flat_map-append pooled_by xs ys
 
 -- ---- boards
 

@@ -1,6 +1,7 @@
 -- what a separator has seen of a history, what of it the separator has committed, and what it answers
-use Rattle.std.specs.Prelude.{◌≡◌, ◌≢◌, ℕ, ◌+◌, ◌≤◌, ◌⊎◌, ◌++◌, List, [], ◌∷◌, All, Some, drop, length, slice_get, take}
+use Rattle.std.specs.Prelude.{◌≡◌, ◌≢◌, ℕ, ◌+◌, ◌^◌, ◌<◌, ◌≤◌, ◌⊎◌, ◌++◌, List, [], ◌∷◌, All, Some, drop, length, slice_get, take}
 use Rattle.std.specs.List.{flat_map}
+use Rattle.net_core.specs.declared.demand.Demand.{Demand}
 use Rattle.net_core.specs.declared.journal.Entry.{Entry}
 use Rattle.net_core.specs.declared.journal.Entry.TheVariants.{Edited, Pooled}
 use Rattle.net_core.specs.declared.network.Network.{Network}
@@ -8,14 +9,17 @@ use Rattle.net_core.specs.declared.plan.Caps.{Caps}
 use Rattle.net_core.specs.declared.plan.CutLine.{CutLine}
 use Rattle.net_core.specs.declared.states.States.{States}
 use Rattle.net_core.specs.Cases.{Case, graph_in}
+use Rattle.net_core.specs.Graphs.{Graph, Joins}
 use Rattle.net_core.specs.Views.{case}
-use Rattle.plan_terms.specs.Certificates.{IsCut}
+use Rattle.plan_terms.specs.Certificates.{IsCut, IsRight}
 use Rattle.plan_terms.specs.Keeping.{Keeps}
 use Rattle.plan_terms.specs.Violations.{Violates}
 use Rattle.plan_types.specs.declared.certificate.Spot.{Spot}
 use Rattle.plan_types.specs.declared.certificate.Spot.TheVariants.{Pool, Local}
 use Rattle.route_law.specs.PricedLengths.{ArePricedSomewhere}
 use Rattle.flow_router.specs.Answers.{IsEvidenceHere, IsRouted}
+use Rattle.metric_cut.specs.Cuts.{IsCutOf}
+use Rattle.metric_cut.specs.declared.cut.Cut.{Cut}
 use Rattle.cut_pool.specs.Histories.{IsLegalAfter, cut_of_line, cuts_of}
 use Rattle.separator.specs.declared.answers.Separated.{Separated}
 use Rattle.separator.specs.declared.answers.Separated.TheVariants.{Routed, Violated, Wide}
@@ -65,6 +69,15 @@ IsFullHistory history = (length (cuts_of history) ≡ 4096) ⊎ (length history 
 abbrev pub IsSpotIn : List Entry → ℕ × List ℕ → Spot → Type 0
 IsSpotIn history cut (Pool i) = slice_get (cuts_of history) i ≡ Some cut
 IsSpotIn history cut Local = IsFullHistory history × All (λ c. c ≢ cut) (cuts_of history)
+
+-- ---- the line of a cut
+
+-- state and lengths of the cut, with the right side at the demands
+pub record IsLineAt (demands : List Demand) (cut : Cut) (line : CutLine) : Type 0 where
+  pub state : line.state ≡ cut.state
+  pub lengths : line.lengths ≡ cut.lengths
+  pub right : (g : Graph) → IsCutOf g cut → IsRight (Joins g) cut.lengths demands line.right
+  pub low : line.right < 2 ^ 84
 
 -- ---- what is answered
 

@@ -2,8 +2,8 @@ ghost use Rattle.std.specs.Prelude.{◌≡◌, [], IfOk, OnErr};
 ghost use Rattle.net_core.specs.Demands.{AreDemands};
 ghost use Rattle.net_core.specs.Views.{graph};
 ghost use Rattle.metric_cut.specs.Cuts.{IsCutOf};
-ghost use Rattle.separator.specs.Separators.{IsSpotIn};
-ghost use Rattle.separator.specs.inner.Working.{IsLineAt, PoolsMore, PoolsOnly, state_and_lengths};
+ghost use Rattle.separator.specs.Separators.{IsLineAt, IsSpotIn};
+ghost use Rattle.separator.specs.inner.Working.{PoolsMore, PoolsOnly, state_and_lengths};
 
 use cut_pool::{AdmitAnswer, Board};
 use metric_cut::Cut;
@@ -11,7 +11,9 @@ use net_core::{Copied, CutLine, Demands, NoMemory};
 use plan_types::Spot;
 
 /// The cut with its right side at the demands, without its distances.
-fn line_of(cut: &Cut, demands: &Demands) -> Result<CutLine, NoMemory>
+///
+/// In the triangle the unit cut of state `none` has the right side 12.00 for a demand of 12.00. It takes memory for a copy of the lengths.
+pub fn line_of(cut: &Cut, demands: &Demands) -> Result<CutLine, NoMemory>
     requires { AreDemands cut.now.table.nodes demands.now }
     ensures { IfOk result (IsLineAt demands.now cut.now) }
 {

@@ -21,6 +21,7 @@ pub mod one_state;
 mod ranges;
 pub mod separating;
 
+pub use admission::line_of;
 pub use answers::{Separated, StateAnswer};
 pub use one_by_one::OneByOne;
 pub use one_state::separate_state;

@@ -1,13 +1,8 @@
 -- a board while cuts are put into its pool
 use Rattle.std.specs.Prelude.{◌≡◌, ◌≢◌, ℕ, ◌≤◌, ◌<◌, ◌⊎◌, ◌++◌, List, [], ◌∷◌, All, AllPairs, Contains, Some, length, slice_get}
-use Rattle.net_core.specs.declared.demand.Demand.{Demand}
 use Rattle.net_core.specs.declared.journal.Entry.{Entry}
 use Rattle.net_core.specs.declared.plan.Caps.{Caps}
-use Rattle.net_core.specs.declared.plan.CutLine.{CutLine}
 use Rattle.net_core.specs.Cases.{Case}
-use Rattle.net_core.specs.Graphs.{Graph, Joins}
-use Rattle.plan_terms.specs.Certificates.{IsRight}
-use Rattle.metric_cut.specs.Cuts.{IsCutOf}
 use Rattle.metric_cut.specs.declared.cut.Cut.{Cut}
 use Rattle.cut_pool.specs.declared.board.Board.{Board}
 use Rattle.cut_pool.specs.Boards.{origin_of}
@@ -18,12 +13,6 @@ use Rattle.separator.specs.Separators.{IsAnswerOf, IsCutEntry, IsFullHistory, Se
 -- state and lengths of a cut
 abbrev pub state_and_lengths : Cut → ℕ × List ℕ
 state_and_lengths cut = (cut.state.0, cut.lengths)
-
--- the line has the state and lengths of the cut, and its right side at the demands
-pub record IsLineAt (demands : List Demand) (cut : Cut) (line : CutLine) : Type 0 where
-  pub state : line.state ≡ cut.state
-  pub lengths : line.lengths ≡ cut.lengths
-  pub right : (g : Graph) → IsCutOf g cut → IsRight (Joins g) cut.lengths demands line.right
 
 -- The board has some more entries, which pool these cuts, and its origin is as it was. A full history gets no entry.
 pub record PoolsMore (old new : Board) (cuts : List (ℕ × List ℕ)) : Type 0 where
