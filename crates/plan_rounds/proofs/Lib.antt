@@ -5,7 +5,6 @@ pub mod Multiplying
 pub mod Opening
 pub mod OwnPool
 pub mod OwnTurns
-pub mod Pairs
 pub mod Results
 pub mod Rights
 pub mod Seeing

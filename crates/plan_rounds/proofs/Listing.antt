@@ -21,17 +21,16 @@ use Rattle.metric_cut.specs.declared.cut.Cut.{Cut}
 use Rattle.cut_pool.specs.Histories.{cut_of_line, cuts_of}
 use Rattle.master_law.specs.MasterPrograms.{IsSameCut}
 use Rattle.plan_law.specs.WorkedLists.{AreDifferentCuts, HasCut}
-use Rattle.separator.specs.Separators.{IsSeenHistory, IsSpotIn, SeesMore}
+use Rattle.separator.specs.Separators.{IsLineAt, IsSeenHistory, IsSpotIn, SeesMore}
+use Rattle.separator.proofs.Answering.{line_is}
 use Rattle.plan_rounds.specs.WorkedRounds.{IsPoolOf, StandAtSpots}
-use Rattle.plan_rounds.specs.inner.Listing.{AreFirstSpots, AreListed, IsLineFor, PutsLine, TakesCut}
+use Rattle.plan_rounds.specs.inner.Listing.{AreFirstSpots, AreListed, PutsLine, TakesCut}
 use Rattle.plan_rounds.specs.declared.candidates.Candidates.{Candidates}
-use Rattle.plan_rounds.proofs.Seeing.{cuts_both, cuts_differ, get_front, stand_later, stand_more}
-
-line_cut : (cut : Cut) (demands : List Demand) (line : CutLine) → IsLineFor cut demands line → cut_of_line line ≡ (cut.state.0, cut.lengths)
-line_cut cut demands line is = let one = ap (λ st. st.0) is.state in let two = is.lengths in cc (one, two)
+use Rattle.separator.proofs.Pooling.{cuts_both, get_front}
+use Rattle.plan_rounds.proofs.Seeing.{cuts_differ, stand_later, stand_more}
 
 -- the line of a cut of the case's network is a cut of the case
-pub line_is_cut : (p : Case) (cut : Cut) (line : CutLine) → IsCutOf (graph_in p cut.state.0) cut → IsLineFor cut p.demands line → IsCut p line
+pub line_is_cut : (p : Case) (cut : Cut) (line : CutLine) → IsCutOf (graph_in p cut.state.0) cut → IsLineAt p.demands cut line → IsCut p line
 line_is_cut p cut line of is =
     let back = sym (ap (λ st. st.0) is.state) in
     let same = sym is.lengths in
@@ -64,11 +63,11 @@ listed_later p net states h own h_now own_now c more seen are = record {
 }
 
 -- a cut that is admitted comes to the list
-pub listed_take : (p : Case) (h : List Entry) (cut : Cut) (line : CutLine) (spot : Spot) (old new : Candidates) → IsCutOf (graph_in p cut.state.0) cut → IsLineFor cut p.demands line → IsSpotIn h (cut.state.0, cut.lengths) spot → AreListed p h old → PutsLine line spot old new → AreListed p h new
+pub listed_take : (p : Case) (h : List Entry) (cut : Cut) (line : CutLine) (spot : Spot) (old new : Candidates) → IsCutOf (graph_in p cut.state.0) cut → IsLineAt p.demands cut line → IsSpotIn h (cut.state.0, cut.lengths) spot → AreListed p h old → PutsLine line spot old new → AreListed p h new
 listed_take p h cut line spot old new of is at are puts =
-    listed_put p h line spot old new (line_is_cut p cut line of is) is.low (subst (λ c. IsSpotIn h c spot) (sym (line_cut cut p.demands line is)) at) are puts
+    listed_put p h line spot old new (line_is_cut p cut line of is) is.low (subst (λ c. IsSpotIn h c spot) (sym (line_is p.demands cut line is)) at) are puts
 
-pub takes_put : (demands : List Demand) (cut : Cut) (line : CutLine) (spot : Spot) (old new : Candidates) → IsLineFor cut demands line → PutsLine line spot old new → TakesCut demands cut old.lines new.lines
+pub takes_put : (demands : List Demand) (cut : Cut) (line : CutLine) (spot : Spot) (old new : Candidates) → IsLineAt demands cut line → PutsLine line spot old new → TakesCut demands cut old.lines new.lines
 takes_put demands cut line spot old new is puts = ⊎_elim
     (λ known. inl (subst (λ s. HasCut old.lines s cut.lengths) (ap (λ st. st.0) is.state) (subst (λ ls. HasCut old.lines line.state.0 ls) is.lengths known.0), ap (λ (c : Candidates). c.lines) known.1))
     (λ lacks. inr (line, is, lacks.0, ap (λ (c : Candidates). c.lines) lacks.1))

@@ -1,6 +1,6 @@
 -- flows that are multiplied one after another
 use Rattle.std.proofs.Common.{◌≡◌, ℕ, zero, suc, ◌+◌, ◌-◌, ◌*◌, ◌^◌, ◌<◌, ◌≤◌, ◌⊎◌, ◌++◌, List, [], ◌∷◌, All, None, Some, length, get_or, map, take, slice_get, slice_set, remove, refl, sym, ap, ◌∙◌, subst, arith, ⊎_elim}
-use Rattle.std.proofs.lemmas.List.{append_assoc, append-nil, get_or-set_other, length-set, map-append, take_more, take_more_set}
+use Rattle.std.proofs.lemmas.List.{append_assoc, append-nil, get_or-set_other, length-set, map-append, take_more, take_more_set, take_all}
 use Rattle.net_core.specs.declared.plan.Flow.{Flow}
 use Rattle.route_law.specs.Routings.{flow_times}
 
@@ -38,12 +38,6 @@ multiplied_write factor n old new d e lt sofar =
           ∙ (sym (map-append (flow_times factor) (take n old) (get_or old n d ∷ [])) ∙ ap (map (flow_times factor)) (sym (take_more old n d inside))));
       rest = λ k x le. get_or-set_other new n k (flow_times factor (get_or old n d)) x (λ same. omega (arith, same, le)) ∙ sofar.rest k x (omega (arith, le));
     })
-
-pub take_all : {X : Type 0} (n : ℕ) (xs : List X) → length xs ≤ n → take n xs ≡ xs
-take_all zero [] le = refl
-take_all zero (x ∷ xs) le = absurd (omega (arith, le))
-take_all (suc n) [] le = refl
-take_all (suc n) (x ∷ xs) le = ap (λ ys. x ∷ ys) (take_all n xs (omega (arith, le)))
 
 pub multiplied_end : (factor n : ℕ) (old new : List Flow) → length new ≤ n → AreMultiplied factor n old new → new ≡ map (flow_times factor) old
 multiplied_end factor n old new le sofar = sym (take_all n new le) ∙ (sofar.done ∙ ap (map (flow_times factor)) (take_all n old (omega (arith, le, sofar.count))))

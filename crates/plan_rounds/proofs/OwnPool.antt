@@ -1,7 +1,10 @@
 -- a separator that alone writes its history: what it pools is a worked list
-use Rattle.std.proofs.Common.{◌≡◌, ◌≢◌, ℕ, zero, suc, ◌+◌, ◌<◌, ◌≤◌, ◌⊎◌, inl, inr, ⊎_elim, List, [], ◌∷◌, ◌++◌, All, AllPairs, Contains, get_or, length, map, take, drop, refl, sym, ap, subst, ◌∙◌, arith}
+use Rattle.std.proofs.Common.{◌≡◌, ◌≢◌, ℕ, zero, suc, ◌+◌, ◌<◌, ◌≤◌, ◌⊎◌, inl, inr, ⊎_elim, List, [], ◌∷◌, ◌++◌, All, AllPairs, Contains, get_or, length, map, drop, refl, sym, ap, subst, ◌∙◌, arith}
+use Rattle.std.proofs.Math.Seq.{take-length}
 use Rattle.std.proofs.lemmas.List.{append-nil, get_or_append_left, get_or-append-add, get_or-map, length-append, length-map, map-append}
+use Rattle.std.proofs.Math.Seq.{take-length}
 use Rattle.std.proofs.lemmas.List.Elements.{All-cons, All-head, All-nil, All-tail, All-weaker}
+use Rattle.std.proofs.Math.Seq.{take-length}
 use Rattle.std.proofs.lemmas.Option.{get_or_from_slice_get, slice_get_within}
 use Rattle.net_core.specs.declared.demand.Demand.{Demand}
 use Rattle.net_core.specs.declared.journal.Entry.{Entry}
@@ -26,11 +29,13 @@ use Rattle.master_law.specs.LeastShares.{IsLeastShare}
 use Rattle.master_law.specs.MasterPrograms.{IsCutColumn, IsMasterColumn}
 use Rattle.plan_law.specs.WorkedLists.{HasCut, IsFoundCut, IsRound, IsWorkedList, Lacks, Round}
 use Rattle.plan_law.proofs.Rounds.{worked_on}
-use Rattle.separator.specs.Separators.{IsCutEntry, IsFullHistory, IsPartOf, IsSeenHistory, IsSeparatingCut, IsSpotIn, SeesMore, SeparatesAt, cuts_since}
+use Rattle.separator.specs.Separators.{IsLineAt, IsCutEntry, IsFullHistory, IsPartOf, IsSeenHistory, IsSeparatingCut, IsSpotIn, SeesMore, SeparatesAt, cuts_since}
+use Rattle.separator.proofs.Answering.{line_is}
 use Rattle.plan_rounds.specs.inner.Alone.{HasSameCuts, IsAlone, IsPoolOfList, PoolsOpening, Within}
-use Rattle.plan_rounds.specs.inner.Listing.{IsLineFor, PutsLine}
+use Rattle.plan_rounds.specs.inner.Listing.{PutsLine}
 use Rattle.plan_rounds.specs.declared.candidates.Candidates.{Candidates}
-use Rattle.plan_rounds.proofs.Seeing.{cuts_both, cuts_differ}
+use Rattle.separator.proofs.Pooling.{cuts_both}
+use Rattle.plan_rounds.proofs.Seeing.{cuts_differ}
 
 -- ---- what is the separator's own
 
@@ -87,12 +92,8 @@ all_cuts [] all = refl
 all_cuts (Edited caller edit reply ∷ es) all = absurd (All-head IsCutEntry (Edited caller edit reply) es all)
 all_cuts (Pooled index state lengths ∷ es) all = ap suc (all_cuts es (All-tail IsCutEntry (Pooled index state lengths) es all))
 
-take_all : {X : Type 0} (xs : List X) → take (length xs) xs ≡ xs
-take_all [] = refl
-take_all (x ∷ xs) = ap (λ ys. x ∷ ys) (take_all xs)
-
 pub seen_differ : (net : Network) (states : States) (h own : List Entry) → IsSeenHistory net states h own → AllPairs (λ a b. a ≢ b) (cuts_of h)
-seen_differ net states h own seen = subst (λ es. AllPairs (λ a b. a ≢ b) (cuts_of es)) (take_all h) (cuts_differ (case net states []) h seen.legal (length h))
+seen_differ net states h own seen = subst (λ es. AllPairs (λ a b. a ≢ b) (cuts_of es)) (take-length h) (cuts_differ (case net states []) h seen.legal (length h))
 
 -- ---- opening cuts
 
@@ -275,12 +276,9 @@ pool_round p pairs caps pool lines share cuts old least found separates differen
 
 -- ---- opening cuts that come to the list
 
-line_pair : (cut : Cut) (demands : List Demand) (line : CutLine) → IsLineFor cut demands line → cut_of_line line ≡ (cut.state.0, cut.lengths)
-line_pair cut demands line is = let one = ap (λ st. st.0) is.state in let two = is.lengths in cc (one, two)
-
 -- a cut that is admitted is pooled where it comes to the list
 pub opening_taken : (net : Network) (states : States) (h o h1 o1 : List Entry) (cut : Cut) (demands : List Demand) (line : CutLine) (spot : Spot) (old new : Candidates) → IsPartOf o h → SeesMore h o h1 o1 → IsSeenHistory net states h1 o1
-    → All (λ c. c ≡ (cut.state.0, cut.lengths)) (cuts_since o o1) → IsSpotIn h1 (cut.state.0, cut.lengths) spot → IsLineFor cut demands line → PutsLine line spot old new → PoolsOpening h h1 o1 old.lines new.lines
+    → All (λ c. c ≡ (cut.state.0, cut.lengths)) (cuts_since o o1) → IsSpotIn h1 (cut.state.0, cut.lengths) spot → IsLineAt demands cut line → PutsLine line spot old new → PoolsOpening h h1 o1 old.lines new.lines
 opening_taken net states h o h1 o1 cut demands line spot old new part more seen only at is puts = record { grows = grows; pools = pools }
   where
     grows : length old.lines ≤ length new.lines
@@ -294,15 +292,15 @@ opening_taken net states h o h1 o1 cut demands line spot old new part more seen 
         (λ known.
         let lines : new.lines ≡ old.lines = ap (λ (x : Candidates). x.lines) known.1 in
         let few_old : length old.lines ≤ 4000 = subst (λ ls. length ls ≤ 4000) lines few in
-        let stood : Contains (cuts_of h) (cut.state.0, cut.lengths) = subst (λ xs. Contains xs (cut.state.0, cut.lengths)) (sym same) (subst (Contains (map cut_of_line old.lines)) (line_pair cut demands line is) (among_cuts old.lines line known.0)) in
+        let stood : Contains (cuts_of h) (cut.state.0, cut.lengths) = subst (λ xs. Contains xs (cut.state.0, cut.lengths)) (sym same) (subst (Contains (map cut_of_line old.lines)) (line_is demands cut line is) (among_cuts old.lines line known.0)) in
         stood_before net states h o h1 o1 (cut.state.0, cut.lengths) spot old.lines part more seen only at alone few_old same stood ∙ (same ∙ ap (map cut_of_line) (sym lines)))
         (λ lacks.
         let lines : new.lines ≡ old.lines ++ line ∷ [] = ap (λ (x : Candidates). x.lines) lacks.1 in
         let few_old : length old.lines ≤ 4000 = let long = ap length lines in omega (arith, few, long, length-append old.lines (line ∷ [])) in
-        let unknown : Contains (cuts_of h) (cut.state.0, cut.lengths) → ⊥ = λ has. not_among old.lines line lacks.0 (subst (Contains (map cut_of_line old.lines)) (sym (line_pair cut demands line is)) (subst (λ xs. Contains xs (cut.state.0, cut.lengths)) same has)) in
+        let unknown : Contains (cuts_of h) (cut.state.0, cut.lengths) → ⊥ = λ has. not_among old.lines line lacks.0 (subst (Contains (map cut_of_line old.lines)) (sym (line_is demands cut line is)) (subst (λ xs. Contains xs (cut.state.0, cut.lengths)) same has)) in
         stands_new net states h o h1 o1 (cut.state.0, cut.lengths) spot old.lines part more seen only at alone few_old same unknown
         ∙ (ap (λ xs. xs ++ (cut.state.0, cut.lengths) ∷ []) same
-        ∙ (ap (λ x. map cut_of_line old.lines ++ x ∷ []) (sym (line_pair cut demands line is))
+        ∙ (ap (λ x. map cut_of_line old.lines ++ x ∷ []) (sym (line_is demands cut line is))
         ∙ (sym (map-append cut_of_line old.lines (line ∷ [])) ∙ ap (map cut_of_line) (sym lines)))))
         puts
 

@@ -13,14 +13,9 @@ use Rattle.plan_types.specs.declared.certificate.Spot.{Spot}
 use Rattle.plan_types.specs.declared.certificate.Spot.TheVariants.{Pool, Local}
 use Rattle.cut_pool.specs.Histories.{IsLegalAfter, cut_of_line, cuts_of}
 use Rattle.separator.specs.Separators.{IsCutEntry, IsPartOf, IsSeenHistory, IsSpotIn, SeesMore}
+use Rattle.separator.proofs.Pooling.{cuts_both, get_front}
 use Rattle.plan_rounds.specs.WorkedRounds.{StandAtSpots}
 use Rattle.plan_rounds.specs.inner.Listing.{GoesOn}
-
--- what is read of a list's beginning
-pub get_front : {X : Type 0} (xs ys : List X) (i : ℕ) (x : X) → slice_get xs i ≡ Some x → slice_get (xs ++ ys) i ≡ Some x
-get_front [] ys i x at = absurd (let e : None ≡ Some x = at in cc e)
-get_front (y ∷ xs) ys zero x at = at
-get_front (y ∷ xs) ys (suc i) x at = get_front xs ys i x at
 
 -- an item of a list with one more is one of the list, or the last
 pub get_more : {X : Type 0} (xs : List X) (x : X) (i : ℕ) (c : X) → slice_get (xs ++ x ∷ []) i ≡ Some c → ((i < length xs) × (slice_get xs i ≡ Some c)) ⊎ ((i ≡ length xs) × (x ≡ c))
@@ -35,11 +30,6 @@ get_more (y ∷ xs) x (suc i) c at = ⊎_elim
 empty : {X : Type 0} (xs : List X) → length xs ≡ 0 → xs ≡ []
 empty [] none = refl
 empty (x ∷ xs) none = absurd (omega (arith, none))
-
-pub cuts_both : (xs ys : List Entry) → cuts_of (xs ++ ys) ≡ cuts_of xs ++ cuts_of ys
-cuts_both [] ys = refl
-cuts_both (Edited caller edit reply ∷ xs) ys = cuts_both xs ys
-cuts_both (Pooled index state lengths ∷ xs) ys = ap (λ cuts. (state.0, lengths) ∷ cuts) (cuts_both xs ys)
 
 -- ---- some more entries
 

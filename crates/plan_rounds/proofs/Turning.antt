@@ -42,7 +42,7 @@ use Rattle.plan_rounds.specs.declared.rounds.Turn.{Turn}
 use Rattle.plan_rounds.specs.declared.rounds.Turn.TheVariants.{Last}
 use Rattle.plan_rounds.specs.declared.shares.ShareCaps.{ShareCaps}
 use Rattle.plan_rounds.specs.declared.sorting.Answered.{Answered}
-use Rattle.plan_rounds.proofs.Pairs.{pairs_once}
+use Rattle.share_covers.proofs.PairsOnce.{links_once}
 use Rattle.plan_rounds.proofs.Rights.{right_low}
 
 -- ---- spots of two lists
@@ -211,7 +211,7 @@ module _ (p : Case) (pairs : List UnitPair) where
   module _ (sound : All (λ l. All IsModule l.modules) p.links) (units : AreUnitPairs p.links pairs) where
     pub best_at : (cuts : List CutLine) (best : Best) → IsBestOf p.links cuts best → IsBestAt p pairs cuts best
     best_at cuts best is =
-        let same = pairs_once p.links sound is.pairs pairs is.units units in
+        let same = links_once p.links sound is.pairs pairs is.units units in
         record {
           of = is;
           least = subst (λ ps. IsLeastShare p.links ps cuts best.share) same is.least;
@@ -221,7 +221,7 @@ module _ (p : Case) (pairs : List UnitPair) where
     pub wide_turn : (room : ℕ) (before : Option Best) (cuts : List CutLine) (evidence : Evidence) → IsEvidenceOf p.links cuts evidence → IsTurnOf p pairs room before cuts cuts (Last before (Loose (Wide evidence)))
     wide_turn room before cuts (Route state caps basis kind) is = absurd is
     wide_turn room before cuts (Master basis kind) is =
-        (refl, (subst (λ ps. IsMasterEvidence p.links ps cuts basis kind) (pairs_once p.links sound is.0 pairs is.1 units) is.2, refl))
+        (refl, (subst (λ ps. IsMasterEvidence p.links ps cuts basis kind) (links_once p.links sound is.0 pairs is.1 units) is.2, refl))
 
   -- ---- turn by turn
 

@@ -1,17 +1,16 @@
 ghost use Rattle.std.specs.Prelude.{◌≡◌, ◌↔◌, ◌≤◌, IfOk, IsTrue, OnOk, false};
 ghost use Rattle.net_core.specs.Cases.{graph_in};
-ghost use Rattle.net_core.specs.Demands.{AreDemands};
 ghost use Rattle.net_core.specs.Views.{case_of};
 ghost use Rattle.metric_cut.specs.Cuts.{IsCutOf};
 ghost use Rattle.master_law.specs.MasterPrograms.{IsSameCut};
 ghost use Rattle.plan_law.specs.WorkedLists.{HasCut, Lacks};
 ghost use Rattle.plan_rounds.specs.inner.Alone.{PoolsOpening};
-ghost use Rattle.plan_rounds.specs.inner.Listing.{AreFirstSpots, AreListed, GoesOn, IsLineFor, PutsLine, TakesCut};
+ghost use Rattle.plan_rounds.specs.inner.Listing.{AreFirstSpots, AreListed, GoesOn, PutsLine, TakesCut};
 
 use metric_cut::Cut;
-use net_core::{Copied, CutLine, Demands, Instance, List, NoMemory};
+use net_core::{CutLine, Instance, List, NoMemory};
 use plan_types::Spot;
-use separator::Separate;
+use separator::{Separate, line_of};
 use std::alloc::Global;
 
 /// The cuts of a planning so far, each with the spot where it stands: as many spots as lines.
@@ -31,18 +30,6 @@ pub fn pool_spots(alloc: Global, cuts: usize) -> Result<List<Spot>, NoMemory>
         spots.push(Spot::Pool(i as u32))?;
     }
     Ok(spots)
-}
-
-/// The cut with its right side, without its distances.
-fn line_of(cut: &Cut, demands: &Demands) -> Result<CutLine, NoMemory>
-    requires { AreDemands cut.now.table.nodes demands.now }
-    ensures { IfOk result (IsLineFor cut.now demands.now) }
-{
-    Ok(CutLine {
-        state: cut.state(),
-        lengths: cut.lengths().copy()?,
-        right: cut.right(demands),
-    })
 }
 
 /// Whether two cuts have the same state and lengths.

@@ -15,9 +15,9 @@ use crate::adding::add_first;
 use crate::candidates::Candidates;
 use crate::fractional::quality_at;
 use crate::openings::open_states;
-use crate::shares::{ShareCaps, link_pairs, share_caps};
+use crate::shares::{ShareCaps, share_caps};
 use crate::sorting::{Answered, sorted};
-use master_bound::{Best, MasterFault, master};
+use master_bound::{Best, MasterFault, master, unit_pairs};
 use module_prices::UnitPair;
 use net_core::{CutLine, Evidence, Instance, List, NoMemory, Routing};
 use plan_types::{Cause, Quality, Spot};
@@ -233,7 +233,7 @@ fn opened_turns<S: Separate>(
     ensures alone { OnOk result (S.history separator.old ≡ [] → S.history separator.new ≡ S.own separator.new → ∥ IsWorkedPool (case_of instance.now) (S.history separator.new) ∥₁) }
 {
     let most = pool.len() + MOST_ADDED;
-    let pairs = link_pairs(alloc, instance.net)?;
+    let pairs = unit_pairs(alloc, instance.net)?;
     let candidates = open_states(alloc, instance, pool, separator)?;
     turns(alloc, instance, &pairs, most, candidates, separator)
 }

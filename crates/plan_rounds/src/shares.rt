@@ -1,12 +1,11 @@
 ghost use Rattle.std.specs.Prelude.{◌≡◌, ◌+◌, ◌*◌, ◌<◌, ◌≤◌, ◌^◌, All, IfOk, length, map};
 ghost use Rattle.std.specs.Int.{◌∣◌};
-ghost use Rattle.net_core.specs.Network.{IsModule};
-ghost use Rattle.master_law.specs.UnitPairs.{AreUnitPairs, IsPairOfLink, share_capacities};
+ghost use Rattle.master_law.specs.UnitPairs.{AreUnitPairs, share_capacities};
 ghost use Rattle.plan_rounds.specs.inner.Sharing.{DividesAll, IsDividedShare};
 
 use checked_fraction::gcd;
-use module_prices::{UnitPair, unit_pair};
-use net_core::{Caps, Link, List, Module, Network, NoMemory};
+use module_prices::UnitPair;
+use net_core::{Caps, Link, List, Network, NoMemory};
 use plan_types::Share;
 use std::alloc::Global;
 
@@ -16,32 +15,6 @@ pub struct ShareCaps {
     pub whole: Caps,
     pub divided: Caps,
     pub divisor: u64,
-}
-
-/// The unit pair of a link with these modules; 0 for 0 where it has none.
-fn pair_of(modules: &[Module]) -> UnitPair
-    requires { All IsModule modules.now }
-    ensures { IsPairOfLink modules.now result }
-{
-    match unit_pair(modules) {
-        Some(pair) => pair,
-        None => UnitPair {
-            capacity: 0,
-            cost: 0,
-        },
-    }
-}
-
-/// The unit pair of each link.
-pub fn link_pairs(alloc: Global, net: &Network) -> Result<List<UnitPair>, NoMemory>
-    ensures { IfOk result (AreUnitPairs net.now.links) }
-{
-    let mut pairs = List::new(alloc);
-    let links = net.links().items();
-    for e in 0..links.len() {
-        pairs.push(pair_of(links[e].modules.items()))?;
-    }
-    Ok(pairs)
 }
 
 /// What a link has in a share, over its scale: the pre-installed capacity, and its units of the unit pair.

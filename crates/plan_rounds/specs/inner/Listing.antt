@@ -6,14 +6,12 @@ use Rattle.net_core.specs.declared.network.Network.{Network}
 use Rattle.net_core.specs.declared.plan.CutLine.{CutLine}
 use Rattle.net_core.specs.declared.states.States.{States}
 use Rattle.net_core.specs.Cases.{Case}
-use Rattle.net_core.specs.Graphs.{Graph, Joins}
-use Rattle.plan_terms.specs.Certificates.{IsCut, IsRight}
+use Rattle.plan_terms.specs.Certificates.{IsCut}
 use Rattle.plan_types.specs.declared.certificate.Spot.{Spot}
 use Rattle.plan_types.specs.declared.certificate.Spot.TheVariants.{Pool}
-use Rattle.metric_cut.specs.Cuts.{IsCutOf}
 use Rattle.metric_cut.specs.declared.cut.Cut.{Cut}
 use Rattle.plan_law.specs.WorkedLists.{AreDifferentCuts, HasCut, Lacks}
-use Rattle.separator.specs.Separators.{SeesMore}
+use Rattle.separator.specs.Separators.{IsLineAt, SeesMore}
 use Rattle.plan_rounds.specs.WorkedRounds.{StandAtSpots}
 use Rattle.plan_rounds.specs.declared.candidates.Candidates.{Candidates}
 
@@ -36,13 +34,6 @@ pub record AreFirstSpots (n : ℕ) (spots : List Spot) : Type 0 where
   pub count : length spots ≡ n
   pub each : (i : ℕ) → i < n → slice_get spots i ≡ Some (Pool i)
 
--- state and lengths of the cut, with its right side at the demands
-pub record IsLineFor (cut : Cut) (demands : List Demand) (line : CutLine) : Type 0 where
-  pub state : line.state ≡ cut.state
-  pub lengths : line.lengths ≡ cut.lengths
-  pub right : (g : Graph) → IsCutOf g cut → IsRight (Joins g) cut.lengths demands line.right
-  pub low : line.right < 2 ^ 84
-
 -- the line goes behind the others, with its spot, unless its cut stands among them
 abbrev pub PutsLine : CutLine → Spot → Candidates → Candidates → Type 0
 PutsLine line spot old new =
@@ -53,7 +44,7 @@ PutsLine line spot old new =
 abbrev pub TakesCut : List Demand → Cut → List CutLine → List CutLine → Type 0
 TakesCut demands cut old new =
     (HasCut old cut.state.0 cut.lengths × (new ≡ old))
-    ⊎ ((line : CutLine) × IsLineFor cut demands line × Lacks old line × (new ≡ old ++ line ∷ []))
+    ⊎ ((line : CutLine) × IsLineAt demands cut line × Lacks old line × (new ≡ old ++ line ∷ []))
 
 -- one cut after another
 abbrev pub TakesCuts : List Demand → List Cut → List CutLine → List CutLine → Type 0
