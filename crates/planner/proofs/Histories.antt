@@ -1,5 +1,5 @@
 -- histories, and the boards that they leave
-use Rattle.std.proofs.Common.{◌≡◌, ℕ, ◌+◌, ◌^◌, ◌≤◌, List, [], ◌∷◌, ◌++◌, Bool, true, false, Option, Some, None, cond, length, slice_get, map, refl, ap, arith}
+use Rattle.std.proofs.Common.{◌≡◌, ℕ, ◌+◌, ◌^◌, ◌≤◌, List, [], ◌∷◌, ◌++◌, Bool, true, false, Option, Some, None, cond, length, map, refl, ap, arith}
 use Rattle.std.specs.Prelude.{nat_le, nat_lt, not, ◌&&◌}
 use Rattle.std.proofs.Math.Logic.{∥∥₁_elim}
 use Rattle.std.proofs.Props.{props}
@@ -17,13 +17,7 @@ use Rattle.plan_terms.specs.Edits.{Answered, added, edit_reply, is_demand, next_
 use Rattle.cut_pool.specs.declared.board.Board.{Board}
 use Rattle.cut_pool.specs.Histories.{Dated, cut_of_line, cuts_of, left_by, left_by_entry, version_left}
 use Rattle.cut_pool.specs.Pools.{line_of_pooled}
-pub use Rattle.plan_rounds.proofs.Seeing.{cuts_both, get_front}
-
--- ---- lists that grow
-
-pub get_behind : {X : Type 0} (xs : List X) (x : X) (ys : List X) → slice_get (xs ++ x ∷ ys) (length xs) ≡ Some x
-get_behind [] x ys = refl
-get_behind (y ∷ xs) x ys = get_behind xs x ys
+pub use Rattle.separator.proofs.Pooling.{cuts_both, get_behind, get_front}
 
 -- ---- versions
 
