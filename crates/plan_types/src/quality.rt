@@ -32,8 +32,6 @@ pub enum Quality {
     Tight(Fractional),
     /// The search for a better bound ended early.
     Loose(Cause),
-    /// No better bound was looked for.
-    Unsolved,
 }
 
 impl Copied for Share {
@@ -68,7 +66,6 @@ impl Copied for Quality {
         Ok(match self {
             Quality::Tight(fractional) => Quality::Tight(fractional.copy()?),
             Quality::Loose(cause) => Quality::Loose(cause.copy()?),
-            Quality::Unsolved => Quality::Unsolved,
         })
     }
 }
