@@ -7,7 +7,7 @@ use Rattle.worked_networks.specs.Triangle.{triangle_links}
 use Rattle.net_core.specs.declared.journal.Entry.TheVariants.{Pooled}
 use Rattle.plan_types.specs.declared.certificate.CertLine.{CertLine}
 use Rattle.plan_types.specs.declared.report.Outcome.TheVariants.{Planned}
-use Rattle.plan_report.specs.Forms.{AreLinkNumbers, IsCertificateInForm, IsCertificateLineInForm, IsCutInForm, IsEntryInForm, IsFlowInForm, IsOfPool, IsOutcomeInForm, IsPlanInForm, IsReportInForm, IsRoutingInForm}
+use Rattle.plan_report.specs.Forms.{AreLinkNumbers, AreRoutingsInForm, IsCertificateInForm, IsCertificateLineInForm, IsCutInForm, IsEntryInForm, IsFlowInForm, IsOfPool, IsOutcomeInForm, IsPlanInForm, IsReportInForm, IsRoutingInForm, IsShareInForm}
 use Rattle.plan_report.specs.inner.Examples.{idle_certificate, idle_cut, idle_plan, idle_report, idle_routing}
 
 one : {X : Type 0} (P : X → Type 0) (x : X) → P x → All P (x ∷ [])
@@ -28,6 +28,12 @@ cut_in_form = record { state = omega arith; lengths = record { long = refl; each
 routing_in_form : IsRoutingInForm (triangle_links 0) [] idle_routing
 routing_in_form = record { positive = omega arith; den = omega arith; few = omega arith; flows = nothing (IsFlowInForm (triangle_links 0) []) }
 
+idle_routings_in_form : AreRoutingsInForm (triangle_links 0) [] [] (idle_routing ∷ [])
+idle_routings_in_form = record { long = refl; each = one (IsRoutingInForm (triangle_links 0) []) idle_routing routing_in_form }
+
+share_in_form : IsShareInForm (triangle_links 0) (record { scale = 1; units = 0 ∷ 0 ∷ 0 ∷ [] })
+share_in_form = record { positive = omega arith; scale = omega arith; units = record { long = refl; each = three (λ n. n < 2 ^ 62) 0 (omega arith) } }
+
 certificate_in_form : IsCertificateInForm (triangle_links 0) [] idle_certificate
 certificate_in_form = record { positive = omega arith; den = omega arith; few = omega arith; lines = nothing (IsCertificateLineInForm (triangle_links 0) []) }
 
@@ -42,13 +48,13 @@ plan_in_form = record {
     small = three (λ n. n < 2 ^ 46) 0 (omega arith);
   };
   cost = omega arith;
-  routings = record { long = refl; each = one (IsRoutingInForm (triangle_links 0) []) idle_routing routing_in_form };
+  routings = idle_routings_in_form;
   certificate = certificate_in_form;
   raw_num = omega arith;
   raw_positive = omega arith;
   raw_den = omega arith;
   bound = omega arith;
-  quality = tt;
+  quality = (share_in_form, idle_routings_in_form);
 }
 
 outcome_in_form : IsOutcomeInForm (letters 65 3) (triangle_links 0) [] (idle_cut ∷ []) (Planned 1 1 idle_plan)

@@ -32,7 +32,7 @@ use Rattle.plan_types.specs.declared.plan.Plan.{Plan}
 use Rattle.plan_types.specs.declared.quality.Cause.{Cause}
 use Rattle.plan_types.specs.declared.quality.Cause.TheVariants.{Wide, Cuts}
 use Rattle.plan_types.specs.declared.quality.Quality.{Quality}
-use Rattle.plan_types.specs.declared.quality.Quality.TheVariants.{Tight, Loose, Unsolved}
+use Rattle.plan_types.specs.declared.quality.Quality.TheVariants.{Tight, Loose}
 use Rattle.plan_types.specs.declared.quality.Share.{Share}
 use Rattle.plan_types.specs.declared.report.Outcome.{Outcome}
 use Rattle.plan_types.specs.declared.report.Outcome.TheVariants.{Planned, Unsurvivable}
@@ -142,7 +142,6 @@ IsCauseInForm links listed demands Cuts = Unit {0}
 abbrev pub IsQualityInForm : List Link → List Listed → List Demand → Quality → Type 0
 IsQualityInForm links listed demands (Tight f) = IsShareInForm links f.share × AreRoutingsInForm links listed demands f.routings
 IsQualityInForm links listed demands (Loose cause) = IsCauseInForm links listed demands cause
-IsQualityInForm links listed demands Unsolved = Unit {0}
 
 -- ---- plans
 

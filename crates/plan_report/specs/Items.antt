@@ -29,7 +29,7 @@ use Rattle.plan_types.specs.declared.plan.Plan.{Plan}
 use Rattle.plan_types.specs.declared.quality.Cause.{Cause}
 use Rattle.plan_types.specs.declared.quality.Cause.TheVariants.{Wide, Cuts}
 use Rattle.plan_types.specs.declared.quality.Quality.{Quality}
-use Rattle.plan_types.specs.declared.quality.Quality.TheVariants.{Tight, Loose, Unsolved}
+use Rattle.plan_types.specs.declared.quality.Quality.TheVariants.{Tight, Loose}
 use Rattle.plan_types.specs.declared.report.Outcome.{Outcome}
 use Rattle.plan_types.specs.declared.report.Outcome.TheVariants.{Planned, Unsurvivable}
 use Rattle.plan_types.specs.declared.report.Report.{Report}
@@ -129,12 +129,11 @@ abbrev pub cause_items : List Link → List Demand → Cause → List Item
 cause_items links demands (Wide evidence) = Verbatim (codes "wide") ∷ evidence_items links demands evidence
 cause_items links demands Cuts = Verbatim (codes "cuts") ∷ []
 
--- a share with the routings within it, why there is no better bound, or that none was looked for
+-- a share with the routings within it, or why there is no better bound
 abbrev pub quality_items : List Link → List Listed → List Demand → Quality → List Item
 quality_items links listed demands (Tight f) =
     Verbatim (codes "tight") ∷ Whole f.share.scale ∷ numbers_items f.share.units ++ routings_items links listed demands f.routings
 quality_items links listed demands (Loose cause) = Verbatim (codes "loose") ∷ cause_items links demands cause
-quality_items links listed demands Unsolved = Verbatim (codes "unsolved") ∷ []
 
 -- ---- plans
 

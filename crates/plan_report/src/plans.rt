@@ -113,7 +113,6 @@ pub(crate) fn put_quality(
             put_keyword(text, b"loose")?;
             put_cause(text, links, demands, cause)
         }
-        Quality::Unsolved => put_keyword(text, b"unsolved"),
     }
 }
 

@@ -1,7 +1,7 @@
 ghost use Rattle.std.specs.Prelude.{◌≡◌, ◌++◌, ◌∷◌, ◌≤◌, ◌<◌, ◌^◌, [], All, IfOk, OnOk, length};
 ghost use Rattle.plan_report.specs.Forms.{IsEntryInForm, IsOutcomeInForm, IsReplyInForm};
 ghost use Rattle.text_kit.specs.Edits.{IsEditInForm};
-ghost use Rattle.plan_report.specs.inner.Examples.{idle_cut, idle_plan, idle_report};
+ghost use Rattle.plan_report.specs.inner.Examples.{idle_cut, idle_plan, idle_report, idle_routing};
 
 use crate::certificates::put_certificate_line;
 use crate::evidence::{put_master_kind, put_route_kind};
@@ -15,7 +15,9 @@ use net_core::{
     Bytes, Copied, CutLine, Demand, Edit, Entry, Flow, Link, LinkId, List, MasterColumn, Name,
     NameFault, NoMemory, Notes, Reply, RouteColumn, Routing, StateId, States, WideKind,
 };
-use plan_types::{Cause, CertLine, Certificate, Outcome, Plan, Quality, Report, Spot};
+use plan_types::{
+    Cause, CertLine, Certificate, Fractional, Outcome, Plan, Quality, Report, Share, Spot,
+};
 use std::alloc::Global;
 use std::test::Fail;
 use worked_networks::{demands, triangle};
@@ -36,7 +38,10 @@ AC ( 0 )
 CERTIFICATE ( 1 )
 ROUTES ( state 0 none 1 ( )
 )
-unsolved )
+tight 1 ( 0 0 0 )
+( state 0 none 1 ( )
+)
+)
 )
 ";
 
@@ -129,6 +134,15 @@ fn idle_counts(alloc: Global) -> Result<List<List<u64>>, NoMemory>
     Ok(counts)
 }
 
+fn idle_routing(alloc: Global) -> Routing
+    ensures { result ≡ idle_routing }
+{
+    Routing {
+        den: 1,
+        flows: List::new(alloc),
+    }
+}
+
 fn idle_plan(alloc: Global) -> Result<Plan, NoMemory>
     ensures { IfOk result (λ plan. plan ≡ idle_plan) }
 {
@@ -138,13 +152,7 @@ fn idle_plan(alloc: Global) -> Result<Plan, NoMemory>
         demands: List::new(alloc),
         counts: idle_counts(alloc)?,
         cost: 0,
-        routings: one(
-            alloc,
-            Routing {
-                den: 1,
-                flows: List::new(alloc),
-            },
-        )?,
+        routings: one(alloc, idle_routing(alloc))?,
         certificate: Certificate {
             den: 1,
             lines: List::new(alloc),
@@ -152,7 +160,13 @@ fn idle_plan(alloc: Global) -> Result<Plan, NoMemory>
         raw_num: 0,
         raw_den: 1,
         bound: 0,
-        quality: Quality::Unsolved,
+        quality: Quality::Tight(Fractional {
+            share: Share {
+                scale: 1,
+                units: List::from_slice(alloc, &[0, 0, 0])?,
+            },
+            routings: one(alloc, idle_routing(alloc))?,
+        }),
     })
 }
 
@@ -311,8 +325,8 @@ fn put_lines(alloc: Global, text: &mut Bytes) -> Result<(), NoMemory> {
     Ok(())
 }
 
-/// Puts a flow, and how good a bound is: in a share, with no room for a further cut, and with no search for a better one.
-fn put_qualities(
+/// Puts a flow, and that there was no room for a further cut.
+fn put_flow_and_quality(
     alloc: Global,
     text: &mut Bytes,
     links: &[Link],
@@ -326,8 +340,7 @@ fn put_qualities(
         num: 5,
     };
     put_flow(text, links, demands, &flow)?;
-    put_quality(text, links, &[], demands, &Quality::Loose(Cause::Cuts))?;
-    put_quality(text, links, &[], demands, &Quality::Unsolved)
+    put_quality(text, links, &[], demands, &Quality::Loose(Cause::Cuts))
 }
 
 /// A demand that a state separates.
@@ -348,7 +361,7 @@ const PARTS: &[u8] = b"fixed setup ( 4 pool 3 right 0 )
 ( 4 local 0 ( 1 1 1 )
 right 0 )
 A 5 ( AC )
-loose cuts unsolved ( UNSURVIVABLE ( caller 2 plan 64 version 1 position 5 state 0 none demand D1 )
+loose cuts ( UNSURVIVABLE ( caller 2 plan 64 version 1 position 5 state 0 none demand D1 )
 )
 ";
 
@@ -359,7 +372,7 @@ fn other_parts_of_a_report(rt: HostRuntime) -> Result<(), Fail> {
     let demands = demands(alloc, 3, &[(0, 2, 12000)])?;
     let mut text = Bytes::new(alloc);
     put_lines(alloc, &mut text)?;
-    put_qualities(alloc, &mut text, net.links().items(), demands.items())?;
+    put_flow_and_quality(alloc, &mut text, net.links().items(), demands.items())?;
     put_outcomes(
         &mut text,
         &[],

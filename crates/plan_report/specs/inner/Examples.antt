@@ -5,7 +5,7 @@ use Rattle.net_core.specs.declared.plan.CutLine.{CutLine}
 use Rattle.net_core.specs.declared.plan.Routing.{Routing}
 use Rattle.plan_types.specs.declared.certificate.Certificate.{Certificate}
 use Rattle.plan_types.specs.declared.plan.Plan.{Plan}
-use Rattle.plan_types.specs.declared.quality.Quality.TheVariants.{Unsolved}
+use Rattle.plan_types.specs.declared.quality.Quality.TheVariants.{Tight}
 use Rattle.plan_types.specs.declared.report.Outcome.TheVariants.{Planned}
 use Rattle.plan_types.specs.declared.report.Report.{Report}
 
@@ -31,7 +31,7 @@ idle_plan = record {
   raw_num = 0;
   raw_den = 1;
   bound = 0;
-  quality = Unsolved;
+  quality = Tight (record { share = record { scale = 1; units = 0 ∷ 0 ∷ 0 ∷ [] }; routings = idle_routing ∷ [] });
 }
 
 abbrev pub idle_report : Report
