@@ -14,7 +14,7 @@ use Rattle.net_core.specs.declared.plan.Caps.{Caps}
 use Rattle.plan_types.specs.declared.quality.Cause.TheVariants.{Wide, Cuts}
 use Rattle.plan_types.specs.declared.quality.Fractional.{Fractional}
 use Rattle.plan_types.specs.declared.quality.Quality.{Quality}
-use Rattle.plan_types.specs.declared.quality.Quality.TheVariants.{Tight, Loose, Unsolved}
+use Rattle.plan_types.specs.declared.quality.Quality.TheVariants.{Tight, Loose}
 
 pub route_cases : (M : RouteColumn → Type 0) → ((e : LinkId) → M (route.LinkSlack e)) → ((k : ℕ) → M (route.DemandSlack k)) → ((k : ℕ) (path : List LinkId) → M (route.Carry k path)) → (c : RouteColumn) → M c
 route_cases M link demand carry (route.LinkSlack e) = link e
@@ -38,8 +38,7 @@ pub evidence_cases : (M : Evidence → Type 0) → ((state : StateId) (caps : Ca
 evidence_cases M a b (Route state caps basis kind) = a state caps basis kind
 evidence_cases M a b (Master basis kind) = b basis kind
 
-pub quality_cases : (M : Quality → Type 0) → ((f : Fractional) → M (Tight f)) → ((e : Evidence) → M (Loose (Wide e))) → M (Loose Cuts) → M Unsolved → (q : Quality) → M q
-quality_cases M a b c d (Tight f) = a f
-quality_cases M a b c d (Loose (Wide e)) = b e
-quality_cases M a b c d (Loose Cuts) = c
-quality_cases M a b c d Unsolved = d
+pub quality_cases : (M : Quality → Type 0) → ((f : Fractional) → M (Tight f)) → ((e : Evidence) → M (Loose (Wide e))) → M (Loose Cuts) → (q : Quality) → M q
+quality_cases M a b c (Tight f) = a f
+quality_cases M a b c (Loose (Wide e)) = b e
+quality_cases M a b c (Loose Cuts) = c

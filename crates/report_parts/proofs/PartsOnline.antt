@@ -194,7 +194,7 @@ pub loose_online : (links : List Link) (listed : List Listed) (demands : List De
 loose_online links listed demands = online_branch true (Err Token) (loose_branches links listed demands) (online_give _, (too_wide_online links listed demands, tt))
 
 pub quality_online : (links : List Link) (listed : List Listed) (demands : List Demand) → IsOnline (quality_at links listed demands)
-quality_online links listed demands = online_branch true (Err Token) (quality_branches links listed demands) (tight_online links listed demands, (loose_online links listed demands, (online_give _, tt)))
+quality_online links listed demands = online_branch true (Err Token) (quality_branches links listed demands) (tight_online links listed demands, (loose_online links listed demands, tt))
 
 -- ---- demands, modules and certificates
 

@@ -17,7 +17,7 @@ use Rattle.net_core.specs.declared.states.Listed.{Listed}
 use Rattle.plan_types.specs.declared.quality.Cause.TheVariants.{Wide, Cuts}
 use Rattle.plan_types.specs.declared.quality.Fractional.{Fractional}
 use Rattle.plan_types.specs.declared.quality.Quality.{Quality}
-use Rattle.plan_types.specs.declared.quality.Quality.TheVariants.{Tight, Loose, Unsolved}
+use Rattle.plan_types.specs.declared.quality.Quality.TheVariants.{Tight, Loose}
 use Rattle.text_kit.specs.Items.{Item, Verbatim, Whole}
 use Rattle.text_kit.proofs.Beginnings.{AnyText}
 use Rattle.text_kit.proofs.Spelled.{Lawful}
@@ -211,12 +211,10 @@ module _ (links : List Link) (listed : List Listed) (apart : AreLinksApart links
     abbrev loose_items : Quality → List Item
     loose_items (Tight f) = []
     loose_items (Loose cause) = cause_items links demands cause
-    loose_items Unsolved = []
 
     abbrev IsLoose : Quality → Type 0
     IsLoose (Tight f) = ⊥
     IsLoose (Loose cause) = IsCauseInForm links listed demands cause
-    IsLoose Unsolved = ⊥
 
     loose_law : Lawful (loose_at links listed demands) loose_items IsLoose AnyText
     unfolding too_wide_at
@@ -227,8 +225,7 @@ module _ (links : List Link) (listed : List Listed) (apart : AreLinksApart links
         (quality_cases _
         (λ f h. absurd h)
         (λ e h. inr (inl (refl, record { parts = e; right = h; gives = refl })))
-        (λ h. inl (refl, record { parts = tt; right = tt; gives = refl }))
-        (λ h. absurd h))
+        (λ h. inl (refl, record { parts = tt; right = tt; gives = refl })))
         (lawful_branch true (Err Token) (codes "cuts") _ _ _ _ _ loose_items _ refl (λ p h. refl) (made_give (Loose Cuts))
         (lawful_branch true (Err Token) (codes "wide") (too_wide_at links listed demands) _ _ _ _ loose_items _ refl (λ p h. refl) (made_last _ (λ (e : Evidence). Loose (Wide e)) _ _ evidence_law)
         (lawful_no_branch true Token loose_items)))
@@ -240,24 +237,21 @@ module _ (links : List Link) (listed : List Listed) (apart : AreLinksApart links
     items_for q = quality_items links listed demands q
 
     loose_same : (q : Quality) → IsLoose q → Verbatim (codes "loose") ∷ loose_items q ≡ items_for q
-    loose_same = quality_cases _ (λ f h. absurd h) (λ e h. refl) (λ h. refl) (λ h. absurd h)
+    loose_same = quality_cases _ (λ f h. absurd h) (λ e h. refl) (λ h. refl)
 
     loose_form : (q : Quality) → IsLoose q → IsQuality q
-    loose_form = quality_cases _ (λ f h. absurd h) (λ e h. h) (λ h. h) (λ h. absurd h)
+    loose_form = quality_cases _ (λ f h. absurd h) (λ e h. h) (λ h. h)
 
     pub quality_law : Lawful (quality_at links listed demands) items_for IsQuality AnyText
     unfolding tight_at
     quality_law = branches_law true (Err Token) (quality_branches links listed demands) items_for _ IsQuality
         (either_form true _ _ _ IsQuality (λ f m h. h)
         (either_form true _ _ _ IsQuality (λ q m h. loose_form q h)
-        (either_form true _ _ _ IsQuality (λ u m h. tt)
-        (λ c n. absurd n))))
+        (λ c n. absurd n)))
         (quality_cases _
         (λ f h. inl (refl, record { parts = f; right = h; gives = refl }))
         (λ e h. inr (inl (refl, record { parts = Loose (Wide e); right = h; gives = refl })))
-        (λ h. inr (inl (refl, record { parts = Loose Cuts; right = h; gives = refl })))
-        (λ h. inr (inr (inl (refl, record { parts = tt; right = tt; gives = refl })))))
+        (λ h. inr (inl (refl, record { parts = Loose Cuts; right = h; gives = refl }))))
         (lawful_branch true (Err Token) (codes "tight") (tight_at links listed demands) _ _ _ _ items_for _ refl (λ p h. refl) (made_last _ (λ (f : Fractional). Tight f) _ _ fractional_law)
         (lawful_branch true (Err Token) (codes "loose") (loose_at links listed demands) _ _ _ _ items_for _ refl loose_same (made_law _ _ _ loose_law)
-        (lawful_branch true (Err Token) (codes "unsolved") _ _ _ _ _ items_for _ refl (λ p h. refl) (made_give Unsolved)
-        (lawful_no_branch true Token items_for))))
+        (lawful_no_branch true Token items_for)))

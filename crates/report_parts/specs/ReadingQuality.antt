@@ -1,5 +1,5 @@
 -- Reading how good the bound of a plan is.
-use Rattle.std.specs.Prelude.{ℕ, ◌+◌, ◌^◌, Bool, true, List, [], ◌∷◌, length, Result, codes}
+use Rattle.std.specs.Prelude.{ℕ, ◌+◌, ◌^◌, Bool, true, List, [], ◌∷◌, length, codes}
 use Rattle.net_core.specs.declared.columns.Evidence.{Evidence}
 use Rattle.net_core.specs.declared.columns.Evidence.TheVariants.{Route, Master}
 use Rattle.net_core.specs.declared.columns.MasterColumn.{MasterColumn}
@@ -15,7 +15,7 @@ use Rattle.net_core.specs.declared.states.Listed.{Listed}
 use Rattle.plan_types.specs.declared.quality.Cause.TheVariants.{Wide, Cuts}
 use Rattle.plan_types.specs.declared.quality.Fractional.{Fractional}
 use Rattle.plan_types.specs.declared.quality.Quality.{Quality}
-use Rattle.plan_types.specs.declared.quality.Quality.TheVariants.{Tight, Loose, Unsolved}
+use Rattle.plan_types.specs.declared.quality.Quality.TheVariants.{Tight, Loose}
 use Rattle.text_kit.specs.Reading.{Reading, ◌>>=◌, give, list_at, of_length, Parenthesis}
 use Rattle.report_words.specs.declared.fault.ReportKind.{ReportKind}
 use Rattle.report_words.specs.declared.fault.ReportKind.TheVariants.{Limit}
@@ -166,7 +166,7 @@ abbrev pub loose_at : List Link → List Listed → List Demand → Reading Repo
 loose_at links listed demands = branch_at (loose_branches links listed demands)
 
 abbrev pub quality_branches : List Link → List Listed → List Demand → Branches Quality
-quality_branches links listed demands = (codes "tight", tight_at links listed demands) ∷ (codes "loose", loose_at links listed demands) ∷ (codes "unsolved", give Unsolved) ∷ []
+quality_branches links listed demands = (codes "tight", tight_at links listed demands) ∷ (codes "loose", loose_at links listed demands) ∷ []
 
 abbrev pub quality_at : List Link → List Listed → List Demand → Reading ReportKind Quality
 quality_at links listed demands = branch_at (quality_branches links listed demands)

@@ -1,5 +1,5 @@
 -- Reading routings, one for each state.
-use Rattle.std.specs.Prelude.{ℕ, ◌+◌, ◌^◌, List, [], length, Result, codes}
+use Rattle.std.specs.Prelude.{◌+◌, ◌^◌, List, [], length, codes}
 use Rattle.net_core.specs.declared.demand.Demand.{Demand}
 use Rattle.net_core.specs.declared.ids.LinkId.{LinkId}
 use Rattle.net_core.specs.declared.network.Link.{Link}

@@ -20,8 +20,6 @@ const TIGHT: &[u8] = b"tight";
 
 const LOOSE: &[u8] = b"loose";
 
-const UNSOLVED: &[u8] = b"unsolved";
-
 const CUTS: &[u8] = b"cuts";
 
 const WIDE: &[u8] = b"wide";
@@ -109,9 +107,6 @@ pub fn quality(
     }
     if word == LOOSE {
         return loose(alloc, context, demands, text);
-    }
-    if word == UNSOLVED {
-        return Ok(Quality::Unsolved);
     }
     Err(bad(at, ReportKind::Token))
 }
