@@ -14,7 +14,7 @@ use Rattle.plan_types.specs.declared.plan.Plan.{Plan}
 use Rattle.plan_types.specs.declared.quality.Cause.{Cause}
 use Rattle.plan_types.specs.declared.quality.Cause.TheVariants.{Wide, Cuts}
 use Rattle.plan_types.specs.declared.quality.Quality.{Quality}
-use Rattle.plan_types.specs.declared.quality.Quality.TheVariants.{Tight, Loose, Unsolved}
+use Rattle.plan_types.specs.declared.quality.Quality.TheVariants.{Tight, Loose}
 use Rattle.plan_types.specs.declared.quality.Share.{Share}
 use Rattle.route_law.specs.RouteEvidence.{IsRouteEvidence}
 use Rattle.master_law.specs.LeastShares.{IsLeastShare}
@@ -77,7 +77,6 @@ IsLooseBy p pairs snapshot plan rounds cuts Cuts = IsLooseByCuts p pairs snapsho
 abbrev pub HasQuality : Case → List UnitPair → List CutLine → Plan → List Round → List CutLine → Quality → Type 0
 HasQuality p pairs snapshot plan rounds cuts (Tight fractional) = IsTightPlan p pairs plan fractional
 HasQuality p pairs snapshot plan rounds cuts (Loose cause) = IsLooseBy p pairs snapshot plan rounds cuts cause
-HasQuality p pairs snapshot plan rounds cuts Unsolved = ⊥
 
 -- The plan comes of this worked list of the snapshot: all cuts of its certificate stand there, and it is tight, or loose by that list.
 pub record IsWorkedPlan (p : Case) (snapshot cuts : List CutLine) (plan : Plan) : Type 0 where
