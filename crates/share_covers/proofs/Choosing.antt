@@ -19,7 +19,7 @@ use Rattle.plan_terms.specs.Fallbacks.{IsFallback, raised}
 use Rattle.plan_terms.specs.Flows.{Carries}
 use Rattle.plan_types.specs.declared.quality.Fractional.{Fractional}
 use Rattle.plan_types.specs.declared.quality.Quality.{Quality}
-use Rattle.plan_types.specs.declared.quality.Quality.TheVariants.{Tight, Loose, Unsolved}
+use Rattle.plan_types.specs.declared.quality.Quality.TheVariants.{Tight, Loose}
 use Rattle.plan_types.specs.declared.quality.Share.{Share}
 use Rattle.master_law.specs.UnitPairs.{AreUnitPairs, share_caps}
 use Rattle.plan_law.specs.TightPlans.{CostsAtMostCover}
@@ -58,7 +58,6 @@ module _ (p : Case) (demands : AreDemands (length p.nodes) p.demands) (few : len
     stays : (cost : ℕ) → cost ≤ installed.cost → (q : Quality) → IsQualityAfter p share cost q q
     stays cost le (Tight fractional) = inl (refl, covered_cost cost le)
     stays cost le (Loose cause) = refl
-    stays cost le Unsolved = refl
 
     -- the covers
     pub taken : (routings : List Routing) → AreRoutedWithin p (installed_caps p.links installed.counts) routings → installed.cost ≤ fallback.cost
@@ -97,7 +96,6 @@ module _ (p : Case) (demands : AreDemands (length p.nodes) p.demands) (few : len
     quality_widened : (evidence : Evidence) → IsWideAtCovers p share fallback.cost evidence → (q : Quality) → IsQualityAfter p share fallback.cost q (widened evidence q)
     quality_widened evidence wide (Tight fractional) = inr (evidence, refl, wide)
     quality_widened evidence wide (Loose cause) = refl
-    quality_widened evidence wide Unsolved = refl
 
     -- which costs more than covers that are too wide
     pub kept_wide : installed.cost < fallback.cost → (evidence : Evidence) → IsWideWithin p (installed_caps p.links installed.counts) evidence
@@ -117,7 +115,6 @@ module _ (p : Case) (demands : AreDemands (length p.nodes) p.demands) (few : len
     quality_short : (s : ℕ) → IsShortWithin p (installed_caps p.links installed.counts) s → (q : Quality) → ∥ IsQualityOfShare p share q ∥₁ → IsQualityAfter p share fallback.cost q q
     quality_short s short (Tight fractional) of_share = absurd (∥∥₁_elim of_share (hlevel props) (λ (is : CarriesShare p share fractional). never_short s short fractional is))
     quality_short s short (Loose cause) of_share = refl
-    quality_short s short Unsolved of_share = refl
 
     -- which is there where the covers are short
     pub kept_short : ∥ IsQualityOfShare p share before ∥₁ → (s : ℕ) → IsShortWithin p (installed_caps p.links installed.counts) s

@@ -8,7 +8,7 @@ use Rattle.plan_terms.specs.Capacities.{AreCounts, AreWithinLimits, total_cost}
 use Rattle.plan_types.specs.declared.quality.Cause.TheVariants.{Wide}
 use Rattle.plan_types.specs.declared.quality.Fractional.{Fractional}
 use Rattle.plan_types.specs.declared.quality.Quality.{Quality}
-use Rattle.plan_types.specs.declared.quality.Quality.TheVariants.{Tight, Loose, Unsolved}
+use Rattle.plan_types.specs.declared.quality.Quality.TheVariants.{Tight, Loose}
 use Rattle.plan_types.specs.declared.quality.Share.{Share}
 use Rattle.master_law.specs.UnitPairs.{AreUnitPairs}
 use Rattle.plan_law.specs.TightPlans.{AreCarriedByShare, CostsAtMostCover, CoversShare, IsProperShare}
@@ -29,7 +29,6 @@ pub record CarriesShare (p : Case) (share : Share) (fractional : Fractional) : T
 abbrev pub IsQualityOfShare : Case → Share → Quality → Type 0
 IsQualityOfShare p share (Tight fractional) = CarriesShare p share fractional
 IsQualityOfShare p share (Loose cause) = Unit {0}
-IsQualityOfShare p share Unsolved = Unit {0}
 
 -- why covers aren't taken: the fallback plan costs less, or some state is too wide within them, or it is short
 abbrev pub RulesOutCovers : Case → ℕ → List (List ℕ) → ℕ → Type 0
@@ -59,7 +58,6 @@ IsQualityAfter p share cost (Tight fractional) after =
     ((after ≡ Tight fractional) × ((pairs : List UnitPair) → AreUnitPairs p.links pairs → CostsAtMostCover p.links pairs share cost))
     ⊎ ((evidence : Evidence) × (after ≡ Loose (Wide evidence)) × IsWideAtCovers p share cost evidence)
 IsQualityAfter p share cost (Loose cause) after = after ≡ Loose cause
-IsQualityAfter p share cost Unsolved after = after ≡ Unsolved
 
 -- Counts that cover the share, or for a cause the fallback plan: with a routing for each state, at no more than the fallback plan's cost.
 pub record IsChosen (p : Case) (share : Share) (fallback : Fallback) (before : Quality) (chosen : Chosen) : Type 0 where

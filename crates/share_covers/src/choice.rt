@@ -44,7 +44,6 @@ fn widened(quality: Quality, evidence: Evidence) -> Quality
     match quality {
         Quality::Tight(_) => Quality::Loose(Cause::Wide(evidence)),
         Quality::Loose(cause) => Quality::Loose(cause),
-        Quality::Unsolved => Quality::Unsolved,
     }
 }
 

@@ -2,10 +2,9 @@
 use Rattle.net_core.specs.declared.columns.Evidence.{Evidence}
 use Rattle.plan_types.specs.declared.quality.Cause.TheVariants.{Wide}
 use Rattle.plan_types.specs.declared.quality.Quality.{Quality}
-use Rattle.plan_types.specs.declared.quality.Quality.TheVariants.{Tight, Loose, Unsolved}
+use Rattle.plan_types.specs.declared.quality.Quality.TheVariants.{Tight, Loose}
 
--- a tight quality becomes loose by this evidence, any other stays
+-- a tight quality becomes loose by this evidence, a loose one stays
 abbrev pub widened : Evidence → Quality → Quality
 widened evidence (Tight fractional) = Loose (Wide evidence)
 widened evidence (Loose cause) = Loose cause
-widened evidence Unsolved = Unsolved
