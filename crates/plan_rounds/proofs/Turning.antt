@@ -16,7 +16,7 @@ use Rattle.plan_terms.specs.Violations.{Violates}
 use Rattle.plan_types.specs.declared.certificate.Spot.{Spot}
 use Rattle.plan_types.specs.declared.quality.Cause.TheVariants.{Wide, Cuts}
 use Rattle.plan_types.specs.declared.quality.Quality.{Quality}
-use Rattle.plan_types.specs.declared.quality.Quality.TheVariants.{Tight, Loose, Unsolved}
+use Rattle.plan_types.specs.declared.quality.Quality.TheVariants.{Tight, Loose}
 use Rattle.plan_types.specs.declared.quality.Share.{Share}
 use Rattle.route_law.specs.RouteEvidence.{IsRouteEvidence}
 use Rattle.route_law.proofs.Multiples.{divided_are_violated}
@@ -126,7 +126,6 @@ module _ (p : Case) (pairs : List UnitPair) where
   }
   ends_at cuts Full IsLast best c (Loose (Wide (Master basis kind))) at is q = absurd q.2
   ends_at cuts Full IsLast best c (Loose Cuts) at is q = absurd q
-  ends_at cuts Full IsLast best c Unsolved at is q = absurd q
 
   ends_as : (cuts : List CutLine) (Full Other : Type 0) (IsLast IsAfter : Option Best → Type 0) (best : Option Best) (quality : Quality) → (Full → Other) → ((b : Option Best) → IsLast b → IsAfter b)
       → EndsBy p pairs cuts Full IsLast best quality → EndsBy p pairs cuts Other IsAfter best quality
@@ -134,7 +133,6 @@ module _ (p : Case) (pairs : List UnitPair) where
   ends_as cuts Full Other IsLast IsAfter best (Loose (Wide (Route state caps basis kind))) full last e = e
   ends_as cuts Full Other IsLast IsAfter best (Loose (Wide (Master basis kind))) full last e = (e.0, last best e.1)
   ends_as cuts Full Other IsLast IsAfter best (Loose Cuts) full last e = (full e.0, e.1)
-  ends_as cuts Full Other IsLast IsAfter best Unsolved full last e = e
 
   -- ---- what the answers of the states come to
 

@@ -16,7 +16,7 @@ use Rattle.plan_types.specs.declared.quality.Cause.{Cause}
 use Rattle.plan_types.specs.declared.quality.Cause.TheVariants.{Wide, Cuts}
 use Rattle.plan_types.specs.declared.quality.Fractional.{Fractional}
 use Rattle.plan_types.specs.declared.quality.Quality.{Quality}
-use Rattle.plan_types.specs.declared.quality.Quality.TheVariants.{Tight, Loose, Unsolved}
+use Rattle.plan_types.specs.declared.quality.Quality.TheVariants.{Tight, Loose}
 use Rattle.route_law.specs.RouteEvidence.{IsRouteEvidence}
 use Rattle.flow_router.specs.Answers.{IsRouted}
 use Rattle.cut_pool.specs.Histories.{cut_of_line, cuts_of}
@@ -87,7 +87,6 @@ module _ (p : Case) (pairs : List UnitPair) (cuts : List CutLine) where
   abbrev pub EndsBy : Type 0 → (Option Best → Type 0) → Option Best → Quality → Type 0
   EndsBy Full IsLast best (Tight fractional) = IsSomeAnd best (λ b. IsCarriedAt b fractional)
   EndsBy Full IsLast best (Loose cause) = EndsLoose Full IsLast best cause
-  EndsBy Full IsLast best Unsolved = ⊥
 
 -- ---- the whole
 

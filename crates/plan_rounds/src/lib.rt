@@ -7,7 +7,6 @@
 //!     Quality::Tight(fractional) => ..,                // the share of worked.best, with a routing of each state within it
 //!     Quality::Loose(Cause::Wide(evidence)) => ..,     // a number of a program grew too wide
 //!     Quality::Loose(Cause::Cuts) => ..,               // 4,096 cuts were added, and the share violates a further one
-//!     Quality::Unsolved => unreachable!(),
 //! }
 //! ```
 #![tactic(auto)]

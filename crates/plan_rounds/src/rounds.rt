@@ -9,7 +9,7 @@ ghost use Rattle.plan_rounds.specs.WorkedRounds.{AreWorkedRounds, IsBestAt, IsPo
 ghost use Rattle.plan_rounds.specs.inner.Alone.{PoolsRounds, PoolsTurn};
 ghost use Rattle.plan_rounds.specs.inner.Answered.{AreRoutedStates, IsEvidenceOfState};
 ghost use Rattle.plan_rounds.specs.inner.Listing.{AreListed, GoesOn};
-ghost use Rattle.plan_rounds.specs.inner.Turns.{EndsAt, EndsUnsolved, IsTurnOf, Judges, WorksOn};
+ghost use Rattle.plan_rounds.specs.inner.Turns.{EndsAt, EndsTooWide, IsTurnOf, Judges, WorksOn};
 
 use crate::adding::add_first;
 use crate::candidates::Candidates;
@@ -130,8 +130,8 @@ fn ask<S: Separate>(
 }
 
 /// The end where there is no best certificate: a number is too wide for it, and the one before it stays.
-fn unsolved(fault: MasterFault, before: Option<Best>) -> Result<Turn, NoMemory>
-    ensures { IfOk result (λ turn. EndsUnsolved fault before turn) }
+fn too_wide(fault: MasterFault, before: Option<Best>) -> Result<Turn, NoMemory>
+    ensures { IfOk result (λ turn. EndsTooWide fault before turn) }
 {
     match fault {
         MasterFault::Wide(evidence) => {
@@ -165,7 +165,7 @@ fn take_turn<S: Separate>(
 {
     match master(alloc, instance.net, &candidates.lines) {
         Ok(best) => ask(alloc, instance, pairs, room, best, separator, candidates),
-        Err(fault) => unsolved(fault, before),
+        Err(fault) => too_wide(fault, before),
     }
 }
 

@@ -13,7 +13,7 @@ use Rattle.net_core.specs.Cases.{Case}
 use Rattle.module_prices.specs.declared.cheapest.UnitPair.{UnitPair}
 use Rattle.plan_types.specs.declared.quality.Cause.TheVariants.{Wide, Cuts}
 use Rattle.plan_types.specs.declared.quality.Quality.{Quality}
-use Rattle.plan_types.specs.declared.quality.Quality.TheVariants.{Tight, Loose, Unsolved}
+use Rattle.plan_types.specs.declared.quality.Quality.TheVariants.{Tight, Loose}
 use Rattle.plan_types.specs.declared.quality.Share.{Share}
 use Rattle.route_law.specs.Divisions.{caps_times}
 use Rattle.route_law.specs.Routings.{flow_times}
@@ -71,4 +71,3 @@ abbrev pub IsQualityAt : Case → Caps → Share → Quality → Type 0
 IsQualityAt p caps share (Tight fractional) = (fractional.share ≡ share) × AreRoutedStates p caps (length p.listed + 1) fractional.routings
 IsQualityAt p caps share (Loose (Wide evidence)) = IsEvidenceOfState p caps evidence
 IsQualityAt p caps share (Loose Cuts) = ⊥
-IsQualityAt p caps share Unsolved = ⊥

@@ -62,8 +62,8 @@ pub record IsWorking (p : Case) (pairs : List UnitPair) (pool lines : List CutLi
   pub last : IsBestOfLast p pairs list.start rounds before
 
 -- where the master's number is too wide, the best certificate before it is the last
-abbrev pub EndsUnsolved : MasterFault → Option Best → Turn → Type 0
-EndsUnsolved fault before turn = (evidence : Evidence) × (fault ≡ Wide evidence) × (turn ≡ Last before (Loose (causes.Wide evidence)))
+abbrev pub EndsTooWide : MasterFault → Option Best → Turn → Type 0
+EndsTooWide fault before turn = (evidence : Evidence) × (fault ≡ Wide evidence) × (turn ≡ Last before (Loose (causes.Wide evidence)))
 
 -- from a beginning of any pool that leaves room for 4,096 cuts, the rounds of that pool
 abbrev pub WorksOn : Case → List Entry → ℕ → List CutLine → Worked → Type 0

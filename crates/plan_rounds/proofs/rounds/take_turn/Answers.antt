@@ -28,17 +28,17 @@ returns-in-Err-clause-turn g c =
     let p = case_of c.args.instance.now in
     let net = c.args.instance.now.net.now in
     let lines = c.args.candidates.now.lines in
-    if_ok c.unsolved.result _ _
+    if_ok c.too_wide.result _ _
     (λ turn made. ∣ subst (IsTurnOf p c.args.pairs.now c.args.room c.args.before lines lines) (sym made.2)
     (wide_turn p c.args.pairs.now (modules_sound net.nodes net.links net.checked) c.requires.pairs c.args.room c.args.before lines made.0
     (subst (λ (f : MasterFault). IsMasterAnswer net.links lines (Err f)) made.1 c.in-Err.ensures)) ∣₁)
-    c.unsolved.ensures
+    c.too_wide.ensures
 
 pub returns-in-Err-clause-alone : goal.returns-in-Err-clause-alone
 returns-in-Err-clause-alone g c =
     let p = case_of c.args.instance.now in
     let h = g.S.Separate.history c.args.separator.now in
     let lines = c.args.candidates.now.lines in
-    if_ok c.unsolved.result _ _
+    if_ok c.too_wide.result _ _
     (λ turn made alone full known. subst (IsPoolAfterTurn p c.args.pairs.now h lines) (sym made.2) (∥∥₁_map known (pool_worked p c.args.pairs.now h lines)))
-    c.unsolved.ensures
+    c.too_wide.ensures
