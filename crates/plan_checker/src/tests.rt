@@ -12,7 +12,7 @@ use net_core::{
     Counts, CutLine, Demand, Demands, Flow, LinkId, List, Module, Name, NameFault, NoMemory,
     NodeId, Routing, StateId, States,
 };
-use plan_types::{CertLine, Certificate, Fractional, Plan, Quality, Share, Spot};
+use plan_types::{Cause, CertLine, Certificate, Fractional, Plan, Quality, Share, Spot};
 use std::alloc::Global;
 use std::test::Fail;
 use worked_networks::{demands, failing, network, triangle};
@@ -391,7 +391,7 @@ fn large_plan(alloc: Global) -> Result<Plan, Fail>
         raw_num: 0,
         raw_den: 1,
         bound: 0,
-        quality: Quality::Unsolved,
+        quality: Quality::Loose(Cause::Cuts),
     })
 }
 
