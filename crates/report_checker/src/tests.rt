@@ -11,7 +11,7 @@ use net_core::{
     StateId,
 };
 use plan_checker::{CheckAnswer, Finding};
-use plan_types::{Certificate, Outcome, Plan, Quality, Report};
+use plan_types::{Cause, Certificate, Outcome, Plan, Quality, Report};
 use std::alloc::Global;
 use std::test::Fail;
 use worked_networks::{WorkedFault, demands, failing, triangle};
@@ -276,7 +276,7 @@ fn plan(alloc: Global, said: &Said) -> Result<Plan, NoMemory>
         raw_num: 0,
         raw_den: 1,
         bound: 0,
-        quality: Quality::Unsolved,
+        quality: Quality::Loose(Cause::Cuts),
     })
 }
 
