@@ -20,7 +20,7 @@ use Rattle.plan_types.specs.declared.plan.Plan.{Plan}
 use Rattle.plan_types.specs.declared.quality.Cause.TheVariants.{Wide, Cuts}
 use Rattle.plan_types.specs.declared.quality.Fractional.{Fractional}
 use Rattle.plan_types.specs.declared.quality.Quality.{Quality}
-use Rattle.plan_types.specs.declared.quality.Quality.TheVariants.{Tight, Loose, Unsolved}
+use Rattle.plan_types.specs.declared.quality.Quality.TheVariants.{Tight, Loose}
 use Rattle.plan_types.specs.declared.quality.Share.{Share}
 use Rattle.plan_report.specs.Forms.{AreCapsInForm, IsEvidenceInForm, IsQualityInForm, IsShareInForm}
 use Rattle.route_law.specs.RouteEvidence.{IsRouteEvidence}
@@ -77,7 +77,6 @@ module _ (p : Case) (pairs : List UnitPair) (pool lines : List CutLine) (rounds 
   best_there (Loose (Wide (Route state caps basis kind))) best ends = of_all best ends.best_of
   best_there (Loose (Wide (Master basis kind))) best ends = of_last rounds list.start best list.whole ends.1
   best_there (Loose Cuts) best ends = of_all best ends.1.best_of
-  best_there Unsolved best ends = absurd ends
 
   -- ---- what counts are chosen for
 
@@ -91,7 +90,6 @@ module _ (p : Case) (pairs : List UnitPair) (pool lines : List CutLine) (rounds 
   pub quality_of_share : (q : Quality) (best : Best) → Ends (Some best) q → IsQualityOfShare p best.share q
   quality_of_share (Tight fractional) best ends = record { same = ends.share; proper = subst (IsProperShare p.links) ends.share ends.proper; pairs = pairs; units = list.units; carried = carried_by best fractional ends }
   quality_of_share (Loose cause) best ends = tt
-  quality_of_share Unsolved best ends = tt
 
   pub share_for : (q : Quality) (best : Best) → Ends (Some best) q → IsShareFor p q best
   share_for q best ends =
@@ -162,7 +160,6 @@ module _ (p : Case) (pairs : List UnitPair) (pool lines : List CutLine) (rounds 
       further = ends.1.further;
       found = ends.1.found;
     })
-    quality_some Unsolved after ends h = absurd ends
 
   no_last : (plan : Plan) (rounds : List Round) (start : List CutLine) → IsBestOfLast p pairs start rounds None → KeepsUp pairs rounds plan
   no_last plan [] start last = tt
@@ -173,7 +170,6 @@ module _ (p : Case) (pairs : List UnitPair) (pool lines : List CutLine) (rounds 
   quality_none plan (Loose (Wide (Route state caps basis kind))) after ends same = absurd ends
   quality_none plan (Loose (Wide (Master basis kind))) after ends same = subst (HasQuality p pairs pool plan rounds lines) (sym same) (ends.0, no_last plan rounds list.start ends.1)
   quality_none plan (Loose Cuts) after ends same = absurd ends.1
-  quality_none plan Unsolved after ends same = absurd ends
 
   -- ---- in form
 
@@ -217,11 +213,9 @@ module _ (p : Case) (pairs : List UnitPair) (pool lines : List CutLine) (rounds 
         ends.evidence)
     form_some best cost (Loose (Wide (Master basis kind))) after ends h = subst InForm (sym h) (master_evidence_form p pairs lines are short basis kind ends.0)
     form_some best cost (Loose Cuts) after ends h = subst InForm (sym h) tt
-    form_some best cost Unsolved after ends h = absurd ends
 
     pub form_none : (q after : Quality) → Ends None q → after ≡ q → InForm after
     form_none (Tight fractional) after ends same = absurd ends
     form_none (Loose (Wide (Route state caps basis kind))) after ends same = absurd ends
     form_none (Loose (Wide (Master basis kind))) after ends same = subst InForm (sym same) (master_evidence_form p pairs lines are short basis kind ends.0)
     form_none (Loose Cuts) after ends same = absurd ends.1
-    form_none Unsolved after ends same = absurd ends

@@ -90,7 +90,6 @@ fn quality_word(quality: &Quality) -> &'static [u8]
     match quality {
         Quality::Tight(_) => b"tight",
         Quality::Loose(_) => b"loose",
-        Quality::Unsolved => b"loose",
     }
 }
 

@@ -46,7 +46,7 @@ fn a_report_is_written_as_it_was_read(rt: HostRuntime) {
 }
 
 /// Texts that end with their first fault: what they begin with, what comes after it, and the place and the kind of the fault.
-fn refused() -> [(&'static [u8], &'static [u8], u64, &'static str); 15] {
+fn refused() -> [(&'static [u8], &'static [u8], u64, &'static str); 16] {
     [
         (NOTHING, b"?planner report; version: 2\n", 0, "header"),
         (START, b"NOTES()POOL", 35, "section"),
@@ -78,6 +78,12 @@ fn refused() -> [(&'static [u8], &'static [u8], u64, &'static str); 15] {
         (JOURNAL, b"(2", 44, "limit"),
         (MODULES, b")", 149, "limit"),
         (MODULES, b"a(0))CERTIFICATE(1(0 pool 0", 175, "limit"),
+        (
+            MODULES,
+            b"a(0))CERTIFICATE(1)ROUTES(state 0 none 1())unsolved",
+            192,
+            "token",
+        ),
     ]
 }
 

@@ -27,7 +27,7 @@ use Rattle.plan_types.specs.declared.plan.Plan.{Plan}
 use Rattle.plan_types.specs.declared.quality.Cause.{Cause}
 use Rattle.plan_types.specs.declared.quality.Cause.TheVariants.{Wide, Cuts}
 use Rattle.plan_types.specs.declared.quality.Quality.{Quality}
-use Rattle.plan_types.specs.declared.quality.Quality.TheVariants.{Tight, Loose, Unsolved}
+use Rattle.plan_types.specs.declared.quality.Quality.TheVariants.{Tight, Loose}
 use Rattle.plan_types.specs.declared.report.Outcome.{Outcome}
 use Rattle.plan_types.specs.declared.report.Outcome.TheVariants.{Planned, Unsurvivable}
 use Rattle.plan_types.specs.declared.report.Report.{Report}
@@ -89,7 +89,6 @@ module _ (links : List Link) (listed : List Listed) (demands : List Demand) wher
   quality_prop : (q : Quality) → IsProp (IsQualityInForm links listed demands q)
   quality_prop (Tight f) = hlevel props
   quality_prop (Loose cause) = cause_prop cause
-  quality_prop Unsolved = hlevel props
 
 -- ---- plans
 
