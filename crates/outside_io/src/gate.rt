@@ -1,5 +1,6 @@
-/// Where callers and workers announce what they are about to do, so that a test may hold them there. No answer depends on it.
-pub trait Gate: Sync {
+/// Where callers and workers announce what they are about to do, so that a test may hold them there. No answer depends on it. Threads
+/// that share a gate ask that it is `Sync` too.
+pub trait Gate {
     /// The caller is about to enter the desk for an edit.
     fn editing(&self, caller: u32);
 
