@@ -171,6 +171,14 @@ impl<'d, 'a> Caller<'d, 'a> {
         Caller { number, desk, pass }
     }
 
+    /// The caller's number, its desk, and its pass.
+    pub fn into_parts(self) -> (u32, &'d Desk<Board<'a>>, Pass<Board<'a>>)
+        ensures { (result.0 ≡ self.entry.number) × (result.1.now ≡ self.entry.desk.now) × (result.2 ≡ self.entry.pass) }
+    {
+        let Caller { number, desk, pass } = self;
+        (number, desk, pass)
+    }
+
     /// The caller's pass, with which the desk may be closed.
     pub fn into_pass(self) -> Pass<Board<'a>>
         ensures { result ≡ self.entry.pass }
