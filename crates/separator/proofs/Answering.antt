@@ -1,5 +1,5 @@
 -- what is answered of the states, one after another
-use Rattle.std.proofs.Common.{◌≡◌, ◌≢◌, ◌∙◌, ℕ, zero, suc, ◌+◌, ◌*◌, ◌<◌, ◌≤◌, ◌⊎◌, inl, inr, ⊎_elim, List, [], ◌∷◌, ◌++◌, All, AllPairs, Contains, None, Some, drop, get_or, length, slice_get, refl, sym, ap, subst, arith, sum_by, zip}
+use Rattle.std.proofs.Common.{◌≡◌, ◌≢◌, ◌∙◌, ℕ, ◌+◌, ◌*◌, ◌<◌, ◌≤◌, ◌⊎◌, inl, inr, ⊎_elim, List, [], ◌∷◌, ◌++◌, All, AllPairs, Contains, None, Some, drop, get_or, length, slice_get, sym, ap, subst, arith, sum_by, zip}
 use Rattle.std.proofs.lemmas.List.{append-nil, drop-append-le, length-append}
 use Rattle.std.proofs.lemmas.List.Concat.{flat_map-append}
 use Rattle.std.proofs.lemmas.List.Elements.{All-append, All-cons, All-nil, All-weaker, Contains-append_left, Contains-append_right}
@@ -23,14 +23,26 @@ use Rattle.separator.specs.declared.answers.StateAnswer.{StateAnswer}
 use Rattle.separator.specs.Findings.{IsFoundCutOf}
 use Rattle.separator.specs.Separators.{IsAnswerOf, IsLineAt, IsSeparatingCut, IsSpotIn, SeparatesAt, SeesMore, cut_answered, cuts_answered, cuts_since}
 use Rattle.separator.specs.inner.Seen.{drop_is_part}
-use Rattle.separator.specs.inner.Working.{AreAnswersBelow, PoolsBelow, PoolsMore, PoolsOf, PoolsOnly, state_and_lengths}
+use Rattle.separator.specs.inner.Working.{AreAnswersBelow, AreCutsBelow, AreCutsOf, PoolsBelow, PoolsMore, PoolsOf, PoolsOnly, state_and_lengths}
 use Rattle.separator.proofs.Pooling.{pools_both, pools_none, pools_since, spot_later}
+use Rattle.separator.proofs.Seeing.{get_more}
 
 -- ---- the cut of a state
 
 -- the line of a cut has its state and its lengths
 pub line_is : (demands : List Demand) (cut : Cut) (line : CutLine) → IsLineAt demands cut line → cut_of_line line ≡ state_and_lengths cut
 line_is demands cut line is = let one = ap (λ st. st.0) is.state in let two = is.lengths in cc (one, two)
+
+-- no cuts
+pub no_cuts : (p : Case) (caps : Caps) (s : ℕ) → AreCutsOf p caps s []
+no_cuts p caps s = record { few = omega arith; of = All-nil (λ (c : ℕ × List ℕ). c.0 ≡ s); separating = All-nil (SeparatesAt p caps) }
+
+-- the cuts of a board that pools nothing more, or this cut
+at_most_since : (old new : Board) (cut : ℕ × List ℕ) → PoolsOnly old new cut → (cuts_since old.entries new.entries ≡ []) ⊎ (cuts_since old.entries new.entries ≡ cut ∷ [])
+at_most_since old new cut only = ⊎_elim
+    (λ (none : PoolsMore old new []). inl (pools_since old new [] none))
+    (λ (one : PoolsMore old new (cut ∷ [])). inr (pools_since old new (cut ∷ []) one))
+    only
 
 module _ (p : Case) (caps : Caps) (s : ℕ) (cut : Cut) (line : CutLine) (found : IsFoundCutOf (graph_in p s) p.demands caps cut) (is : IsLineAt p.demands cut line) where
   -- its state is the one that was asked
@@ -64,14 +76,11 @@ module _ (p : Case) (caps : Caps) (s : ℕ) (cut : Cut) (line : CutLine) (found 
   pub violated_answer : (history : List Entry) (spot : Spot) → IsSpotIn history (state_and_lengths cut) spot → IsAnswerOf p caps history s (Violated line spot)
   violated_answer history spot at = (state_asked, line_separates, subst (λ c. IsSpotIn history c spot) (sym (line_is p.demands cut line is)) at)
 
-  -- what the board pools for the state
-  pub pools_only : (old new : Board) → PoolsOnly old new (state_and_lengths cut) → PoolsOf p caps s old new (cuts_since old.entries new.entries)
-  pools_only old new only = ⊎_elim
-      (λ (none : PoolsMore old new []). subst (PoolsOf p caps s old new) (sym (pools_since old new [] none))
-      (record { pools = none; few = omega arith; of = All-nil (λ (c : ℕ × List ℕ). c.0 ≡ s); separating = All-nil (SeparatesAt p caps) }))
-      (λ (one : PoolsMore old new (state_and_lengths cut ∷ [])). subst (PoolsOf p caps s old new) (sym (pools_since old new (state_and_lengths cut ∷ []) one))
-      (record {
-        pools = one;
+  -- what is pooled for the state: nothing, or this cut
+  pub cuts_at_most : (cuts : List (ℕ × List ℕ)) → (cuts ≡ []) ⊎ (cuts ≡ state_and_lengths cut ∷ []) → AreCutsOf p caps s cuts
+  cuts_at_most cuts only = ⊎_elim
+      (λ none. subst (AreCutsOf p caps s) (sym none) (no_cuts p caps s))
+      (λ one. subst (AreCutsOf p caps s) (sym one) (record {
         few = omega arith;
         of = All-cons (λ (c : ℕ × List ℕ). c.0 ≡ s) (state_and_lengths cut) [] (sym found.of.state) (All-nil (λ (c : ℕ × List ℕ). c.0 ≡ s));
         separating = All-cons (SeparatesAt p caps) (state_and_lengths cut) [] cut_separates (All-nil (SeparatesAt p caps));
@@ -79,19 +88,32 @@ module _ (p : Case) (caps : Caps) (s : ℕ) (cut : Cut) (line : CutLine) (found 
       only
 
   -- it is the cut that is answered
-  pub among_answered : (old new : Board) (spot : Spot) → PoolsOnly old new (state_and_lengths cut) → All (Contains (cut_answered (Violated line spot))) (cuts_since old.entries new.entries)
-  among_answered old new spot only =
+  pub at_most_answered : (spot : Spot) (cuts : List (ℕ × List ℕ)) → (cuts ≡ []) ⊎ (cuts ≡ state_and_lengths cut ∷ []) → All (Contains (cut_answered (Violated line spot))) cuts
+  at_most_answered spot cuts only =
       let named = cut_answered (Violated line spot) in
       ⊎_elim
-      (λ (none : PoolsMore old new []). subst (All (Contains named)) (sym (pools_since old new [] none)) (All-nil (Contains named)))
-      (λ (one : PoolsMore old new (state_and_lengths cut ∷ [])). subst (All (Contains named)) (sym (pools_since old new (state_and_lengths cut ∷ []) one))
-      (All-cons (Contains named) (state_and_lengths cut) [] (0, omega arith, line_is p.demands cut line is) (All-nil (Contains named))))
+      (λ none. subst (All (Contains named)) (sym none) (All-nil (Contains named)))
+      (λ one. subst (All (Contains named)) (sym one) (All-cons (Contains named) (state_and_lengths cut) [] (0, omega arith, line_is p.demands cut line is) (All-nil (Contains named))))
       only
+
+  -- so it is on a board
+  pub pools_only : (old new : Board) → PoolsOnly old new (state_and_lengths cut) → PoolsOf p caps s old new (cuts_since old.entries new.entries)
+  pools_only old new only =
+      let since = cuts_since old.entries new.entries in
+      record {
+        pools = ⊎_elim
+            (λ (none : PoolsMore old new []). subst (PoolsMore old new) (sym (pools_since old new [] none)) none)
+            (λ (one : PoolsMore old new (state_and_lengths cut ∷ [])). subst (PoolsMore old new) (sym (pools_since old new (state_and_lengths cut ∷ []) one)) one)
+            only;
+        cuts_are = cuts_at_most since (at_most_since old new (state_and_lengths cut) only);
+      }
+
+  pub among_answered : (old new : Board) (spot : Spot) → PoolsOnly old new (state_and_lengths cut) → All (Contains (cut_answered (Violated line spot))) (cuts_since old.entries new.entries)
+  among_answered old new spot only = at_most_answered spot (cuts_since old.entries new.entries) (at_most_since old new (state_and_lengths cut) only)
 
 -- a board whose pool stays as it is
 pub of_same : (p : Case) (caps : Caps) (s : ℕ) (old new : Board) → PoolsMore old new [] → PoolsOf p caps s old new (cuts_since old.entries new.entries)
-of_same p caps s old new pools = subst (PoolsOf p caps s old new) (sym (pools_since old new [] pools))
-    (record { pools = pools; few = omega arith; of = All-nil (λ (c : ℕ × List ℕ). c.0 ≡ s); separating = All-nil (SeparatesAt p caps) })
+of_same p caps s old new pools = subst (PoolsOf p caps s old new) (sym (pools_since old new [] pools)) (record { pools = pools; cuts_are = no_cuts p caps s })
 
 pub of_none : (p : Case) (caps : Caps) (s : ℕ) (b : Board) → PoolsOf p caps s b b (cuts_since b.entries b.entries)
 of_none p caps s b = of_same p caps s b b (pools_none b)
@@ -101,16 +123,6 @@ none_among b named = subst (All (Contains named)) (sym (pools_since b b [] (pool
 
 -- ---- one state after another
 
--- an item of a list with one more is one of the list, or the last
-get_more : {X : Type 0} (xs : List X) (x : X) (i : ℕ) (c : X) → slice_get (xs ++ x ∷ []) i ≡ Some c → ((i < length xs) × (slice_get xs i ≡ Some c)) ⊎ ((i ≡ length xs) × (x ≡ c))
-get_more [] x zero c at = inr (refl, let e : Some x ≡ Some c = at in cc e)
-get_more [] x (suc i) c at = absurd (let e : None ≡ Some c = at in cc e)
-get_more (y ∷ xs) x zero c at = inl (omega arith, at)
-get_more (y ∷ xs) x (suc i) c at = ⊎_elim
-    (λ p. inl (omega (arith, p.0), p.1))
-    (λ p. inr (omega (arith, p.0), p.1))
-    (get_more xs x i c at)
-
 -- cuts of different states, and at most one of a further state
 different_more : (n : ℕ) (xs ys : List (ℕ × List ℕ)) → All (λ c. c.0 < n) xs → AllPairs (λ x y. x.0 ≢ y.0) xs → length ys ≤ 1 → All (λ c. c.0 ≡ n) ys → AllPairs (λ x y. x.0 ≢ y.0) (xs ++ ys)
 different_more n xs [] below different few of = subst (AllPairs (λ x y. x.0 ≢ y.0)) (sym (append-nil xs)) different
@@ -119,14 +131,31 @@ different_more n xs (y ∷ []) below different few of = all_pairs_push (λ x y. 
 different_more n xs (y ∷ z ∷ ys) below different few of = absurd (omega (arith, few))
 
 module _ (p : Case) (caps : Caps) where
+  pub cuts_none : AreCutsBelow p caps 0 []
+  cuts_none = record {
+    below = All-nil (λ (c : ℕ × List ℕ). c.0 < 0);
+    different = λ i j d lt within. absurd (omega (arith, within));
+    separating = All-nil (SeparatesAt p caps);
+  }
+
+  pub cuts_more : (n : ℕ) (xs ys : List (ℕ × List ℕ)) → AreCutsBelow p caps n xs → AreCutsOf p caps n ys → AreCutsBelow p caps (n + 1) (xs ++ ys)
+  cuts_more n xs ys one two = record {
+    below = All-append (λ (x : ℕ × List ℕ). x.0 < n + 1) xs ys
+        (All-weaker (λ (x : ℕ × List ℕ). x.0 < n) (λ (x : ℕ × List ℕ). x.0 < n + 1) (λ x lt. omega (arith, lt)) xs one.below)
+        (All-weaker (λ (x : ℕ × List ℕ). x.0 ≡ n) (λ (x : ℕ × List ℕ). x.0 < n + 1) (λ x is. omega (arith, is)) ys two.of);
+    different = different_more n xs ys one.below one.different two.few two.of;
+    separating = All-append (SeparatesAt p caps) xs ys one.separating two.separating;
+  }
+
+  pub cuts_weaker : (m n : ℕ) (cuts : List (ℕ × List ℕ)) → m ≤ n → AreCutsBelow p caps m cuts → AreCutsBelow p caps n cuts
+  cuts_weaker m n cuts le one = record {
+    below = All-weaker (λ (x : ℕ × List ℕ). x.0 < m) (λ (x : ℕ × List ℕ). x.0 < n) (λ x lt. omega (arith, lt, le)) cuts one.below;
+    different = one.different;
+    separating = one.separating;
+  }
+
   pub below_none : (b : Board) → PoolsBelow p caps 0 b b (cuts_since b.entries b.entries)
-  below_none b = subst (PoolsBelow p caps 0 b b) (sym (pools_since b b [] (pools_none b)))
-      (record {
-        pools = pools_none b;
-        below = All-nil (λ (c : ℕ × List ℕ). c.0 < 0);
-        different = λ i j d lt within. absurd (omega (arith, within));
-        separating = All-nil (SeparatesAt p caps);
-      })
+  below_none b = subst (PoolsBelow p caps 0 b b) (sym (pools_since b b [] (pools_none b))) (record { pools = pools_none b; cuts_are = cuts_none })
 
   pub below_more : (n : ℕ) (a b c : Board) → PoolsBelow p caps n a b (cuts_since a.entries b.entries) → PoolsOf p caps n b c (cuts_since b.entries c.entries)
       → PoolsBelow p caps (n + 1) a c (cuts_since a.entries c.entries)
@@ -134,62 +163,61 @@ module _ (p : Case) (caps : Caps) where
       let xs = cuts_since a.entries b.entries in
       let ys = cuts_since b.entries c.entries in
       let both = pools_both a b c xs ys one.pools two.pools in
-      subst (PoolsBelow p caps (n + 1) a c) (sym (pools_since a c (xs ++ ys) both))
-      (record {
-        pools = both;
-        below = All-append (λ (x : ℕ × List ℕ). x.0 < n + 1) xs ys
-            (All-weaker (λ (x : ℕ × List ℕ). x.0 < n) (λ (x : ℕ × List ℕ). x.0 < n + 1) (λ x lt. omega (arith, lt)) xs one.below)
-            (All-weaker (λ (x : ℕ × List ℕ). x.0 ≡ n) (λ (x : ℕ × List ℕ). x.0 < n + 1) (λ x is. omega (arith, is)) ys two.of);
-        different = different_more n xs ys one.below one.different two.few two.of;
-        separating = All-append (SeparatesAt p caps) xs ys one.separating two.separating;
-      })
+      subst (PoolsBelow p caps (n + 1) a c) (sym (pools_since a c (xs ++ ys) both)) (record { pools = both; cuts_are = cuts_more n xs ys one.cuts_are two.cuts_are })
 
   pub below_weaker : (m n : ℕ) (a b : Board) → m ≤ n → PoolsBelow p caps m a b (cuts_since a.entries b.entries) → PoolsBelow p caps n a b (cuts_since a.entries b.entries)
-  below_weaker m n a b le one = record {
-    pools = one.pools;
-    below = All-weaker (λ (x : ℕ × List ℕ). x.0 < m) (λ (x : ℕ × List ℕ). x.0 < n) (λ x lt. omega (arith, lt, le)) (cuts_since a.entries b.entries) one.below;
-    different = one.different;
-    separating = one.separating;
-  }
+  below_weaker m n a b le one = record { pools = one.pools; cuts_are = cuts_weaker m n (cuts_since a.entries b.entries) le one.cuts_are }
 
-  pub answers_none : (b : Board) (answers : List StateAnswer) → answers ≡ [] → AreAnswersBelow p caps 0 b.entries (cuts_since b.entries b.entries) answers
-  answers_none b answers is = record {
+  pub answers_none : (history : List Entry) (answers : List StateAnswer) → answers ≡ [] → AreAnswersBelow p caps 0 history [] answers
+  answers_none history answers is = record {
     count = ap length is;
     each = λ s a at. absurd (let e : None ≡ Some a = ap (λ (xs : List StateAnswer). slice_get xs s) (sym is) ∙ at in cc e);
-    among = none_among b (cuts_answered answers);
+    among = All-nil (Contains (cuts_answered answers));
   }
 
-  answer_later : (s : ℕ) (answer : Separated) (old new : Board) (cuts : List (ℕ × List ℕ)) → PoolsMore old new cuts → IsAnswerOf p caps old.entries s answer → IsAnswerOf p caps new.entries s answer
-  answer_later s (Routed routing) old new cuts pools is = is
-  answer_later s (Violated line spot) old new cuts pools is = (is.0, is.1, spot_later old new cuts (cut_of_line line) spot pools is.2)
-  answer_later s (Wide evidence) old new cuts pools is = is
+  -- in a history in which each cut stands where it stood
+  module _ (h later : List Entry) (stands : (cut : ℕ × List ℕ) (spot : Spot) → IsSpotIn h cut spot → IsSpotIn later cut spot) where
+    answer_later : (s : ℕ) (answer : Separated) → IsAnswerOf p caps h s answer → IsAnswerOf p caps later s answer
+    answer_later s (Routed routing) is = is
+    answer_later s (Violated line spot) is = (is.0, is.1, stands (cut_of_line line) spot is.2)
+    answer_later s (Wide evidence) is = is
 
-  pub answers_more : (n : ℕ) (a b c : Board) (answers : List StateAnswer) (answer : StateAnswer) → PoolsMore a b (cuts_since a.entries b.entries) → PoolsMore b c (cuts_since b.entries c.entries)
+    pub answers_more : (n : ℕ) (xs ys : List (ℕ × List ℕ)) (answers : List StateAnswer) (answer : StateAnswer) → AreAnswersBelow p caps n h xs answers
+        → answer.state.0 ≡ n → IsAnswerOf p caps later n answer.answer → All (Contains (cut_answered answer.answer)) ys
+        → AreAnswersBelow p caps (n + 1) later (xs ++ ys) (answers ++ answer ∷ [])
+    answers_more n xs ys answers answer so_far state is named =
+        let all = cuts_answered (answers ++ answer ∷ []) in
+        let both : all ≡ cuts_answered answers ++ (cut_answered answer.answer ++ []) = flat_map-append (λ (x : StateAnswer). cut_answered x.answer) answers (answer ∷ []) in
+        record {
+          count = let few = so_far.count in omega (arith, few, length-append answers (answer ∷ []));
+          each = λ s x at. ⊎_elim
+              (λ (before : (s < length answers) × (slice_get answers s ≡ Some x)).
+              let old = so_far.each s x before.1 in (old.0, answer_later s x.answer old.1))
+              (λ (last : (s ≡ length answers) × (answer ≡ x)).
+              let here : s ≡ n = last.0 ∙ so_far.count in
+              let there : (answer.state.0 ≡ s) × IsAnswerOf p caps later s answer.answer = (state ∙ sym here, subst (λ k. IsAnswerOf p caps later k answer.answer) (sym here) is) in
+              subst (λ (y : StateAnswer). (y.state.0 ≡ s) × IsAnswerOf p caps later s y.answer) last.1 there)
+              (get_more answers answer s x at);
+          among = subst (λ (cs : List (ℕ × List ℕ)). All (Contains cs) (xs ++ ys)) (sym both)
+              (All-append (Contains (cuts_answered answers ++ (cut_answered answer.answer ++ []))) xs ys
+              (λ k d lt. Contains-append_left (cuts_answered answers) (cut_answered answer.answer ++ []) (get_or xs k d) (so_far.among k d lt))
+              (λ k d lt. Contains-append_right (cuts_answered answers) (cut_answered answer.answer ++ []) (get_or ys k d)
+              (Contains-append_left (cut_answered answer.answer) [] (get_or ys k d) (named k d lt))));
+        }
+
+  -- so it is on boards
+  pub board_answers_none : (b : Board) (answers : List StateAnswer) → answers ≡ [] → AreAnswersBelow p caps 0 b.entries (cuts_since b.entries b.entries) answers
+  board_answers_none b answers is = subst (λ cuts. AreAnswersBelow p caps 0 b.entries cuts answers) (sym (pools_since b b [] (pools_none b))) (answers_none b.entries answers is)
+
+  pub board_answers_more : (n : ℕ) (a b c : Board) (answers : List StateAnswer) (answer : StateAnswer) → PoolsMore a b (cuts_since a.entries b.entries) → PoolsMore b c (cuts_since b.entries c.entries)
       → AreAnswersBelow p caps n b.entries (cuts_since a.entries b.entries) answers
       → answer.state.0 ≡ n → IsAnswerOf p caps c.entries n answer.answer → All (Contains (cut_answered answer.answer)) (cuts_since b.entries c.entries)
       → AreAnswersBelow p caps (n + 1) c.entries (cuts_since a.entries c.entries) (answers ++ answer ∷ [])
-  answers_more n a b c answers answer first second so_far state is named =
+  board_answers_more n a b c answers answer first second so_far state is named =
       let xs = cuts_since a.entries b.entries in
       let ys = cuts_since b.entries c.entries in
-      let all = cuts_answered (answers ++ answer ∷ []) in
-      let both : all ≡ cuts_answered answers ++ (cut_answered answer.answer ++ []) = flat_map-append (λ (x : StateAnswer). cut_answered x.answer) answers (answer ∷ []) in
-      record {
-        count = let few = so_far.count in omega (arith, few, length-append answers (answer ∷ []));
-        each = λ s x at. ⊎_elim
-            (λ (before : (s < length answers) × (slice_get answers s ≡ Some x)).
-            let old = so_far.each s x before.1 in (old.0, answer_later s x.answer b c ys second old.1))
-            (λ (last : (s ≡ length answers) × (answer ≡ x)).
-            let here : s ≡ n = last.0 ∙ so_far.count in
-            let there : (answer.state.0 ≡ s) × IsAnswerOf p caps c.entries s answer.answer = (state ∙ sym here, subst (λ k. IsAnswerOf p caps c.entries k answer.answer) (sym here) is) in
-            subst (λ (y : StateAnswer). (y.state.0 ≡ s) × IsAnswerOf p caps c.entries s y.answer) last.1 there)
-            (get_more answers answer s x at);
-        among = subst (All (Contains all)) (sym (pools_since a c (xs ++ ys) (pools_both a b c xs ys first second)))
-            (subst (λ (cs : List (ℕ × List ℕ)). All (Contains cs) (xs ++ ys)) (sym both)
-            (All-append (Contains (cuts_answered answers ++ (cut_answered answer.answer ++ []))) xs ys
-            (λ k d lt. Contains-append_left (cuts_answered answers) (cut_answered answer.answer ++ []) (get_or xs k d) (so_far.among k d lt))
-            (λ k d lt. Contains-append_right (cuts_answered answers) (cut_answered answer.answer ++ []) (get_or ys k d)
-            (Contains-append_left (cut_answered answer.answer) [] (get_or ys k d) (named k d lt)))));
-      }
+      subst (λ cuts. AreAnswersBelow p caps (n + 1) c.entries cuts (answers ++ answer ∷ [])) (sym (pools_since a c (xs ++ ys) (pools_both a b c xs ys first second)))
+      (answers_more b.entries c.entries (λ cut spot. spot_later b c ys cut spot second) n xs ys answers answer so_far state is named)
 
 -- ---- the separator
 

@@ -1,3 +1,4 @@
-pub mod Pooling
 pub mod Answering
+pub mod Pooling
+pub mod Seeing
 mod Somewhere

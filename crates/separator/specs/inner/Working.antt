@@ -27,19 +27,26 @@ pub record PoolsMore (old new : Board) (cuts : List (ℕ × List ℕ)) : Type 0 
 abbrev pub PoolsOnly : Board → Board → ℕ × List ℕ → Type 0
 PoolsOnly old new cut = PoolsMore old new [] ⊎ PoolsMore old new (cut ∷ [])
 
--- the board pools cuts of the states below n, at most one of each, which the capacities violate
-pub record PoolsBelow (p : Case) (caps : Caps) (n : ℕ) (old new : Board) (cuts : List (ℕ × List ℕ)) : Type 0 where
-  pub pools : PoolsMore old new cuts
+-- cuts of state s, at most one, which the capacities violate
+pub record AreCutsOf (p : Case) (caps : Caps) (s : ℕ) (cuts : List (ℕ × List ℕ)) : Type 0 where
+  pub few : length cuts ≤ 1
+  pub of : All (λ c. c.0 ≡ s) cuts
+  pub separating : All (SeparatesAt p caps) cuts
+
+-- cuts of the states below n, at most one of each, which the capacities violate
+pub record AreCutsBelow (p : Case) (caps : Caps) (n : ℕ) (cuts : List (ℕ × List ℕ)) : Type 0 where
   pub below : All (λ c. c.0 < n) cuts
   pub different : AllPairs (λ x y. x.0 ≢ y.0) cuts
   pub separating : All (SeparatesAt p caps) cuts
 
--- so it does for state s alone
+-- the board pools such cuts
+pub record PoolsBelow (p : Case) (caps : Caps) (n : ℕ) (old new : Board) (cuts : List (ℕ × List ℕ)) : Type 0 where
+  pub pools : PoolsMore old new cuts
+  pub cuts_are : AreCutsBelow p caps n cuts
+
 pub record PoolsOf (p : Case) (caps : Caps) (s : ℕ) (old new : Board) (cuts : List (ℕ × List ℕ)) : Type 0 where
   pub pools : PoolsMore old new cuts
-  pub few : length cuts ≤ 1
-  pub of : All (λ c. c.0 ≡ s) cuts
-  pub separating : All (SeparatesAt p caps) cuts
+  pub cuts_are : AreCutsOf p caps s cuts
 
 -- the answers of the states below n, among which each of these cuts is
 pub record AreAnswersBelow (p : Case) (caps : Caps) (n : ℕ) (history : List Entry) (cuts : List (ℕ × List ℕ)) (answers : List StateAnswer) : Type 0 where

@@ -1,6 +1,6 @@
 use Rattle.std.proofs.Common.{◌+◌, ap, arith, length}
 use Rattle.net_core.specs.Views.{case_of}
-use Rattle.separator.proofs.Answering.{answers_more, below_more, below_weaker}
+use Rattle.separator.proofs.Answering.{board_answers_more, below_more, below_weaker}
 use Rattle.separator.proofs.one_by_one.answer_states.Goals as goal
 
 pub returns-in_err-answer_state-clause-pools : goal.returns-in_err-answer_state-clause-pools
@@ -31,6 +31,6 @@ loop-s-preserved c =
     let now = c.answer_state.new.board in (
       below_more p caps s a b now c.loop-s.invariant.0 c.answer_state.ensures.pools,
       rw c.in_ok-push.ensures.ok
-          (answers_more p caps s a b now c.loop-s.answers c.in_ok-answer_state.field-0 c.loop-s.invariant.0.pools c.answer_state.ensures.pools.pools c.loop-s.invariant.1
+          (board_answers_more p caps s a b now c.loop-s.answers c.in_ok-answer_state.field-0 c.loop-s.invariant.0.pools c.answer_state.ensures.pools.pools c.loop-s.invariant.1
           (ap (λ st. st.0) c.in_ok-answer_state.ensures.state) c.in_ok-answer_state.ensures.answer c.in_ok-answer_state.ensures.among),
     )

@@ -16,7 +16,7 @@ returns-clause-separating c =
     let self = c.args.self.now in
     let now = c.answer_states.new.board in
     let same = own_cuts self.began.value self.board now (cuts_since self.board.entries now.entries) self.began_before c.answer_states.ensures.pools.pools in
-    ∣ subst (All (SeparatesAt (case_of c.args.instance.now) c.args.caps.now)) (sym same) c.answer_states.ensures.pools.separating ∣₁
+    ∣ subst (All (SeparatesAt (case_of c.args.instance.now) c.args.caps.now)) (sym same) c.answer_states.ensures.pools.cuts_are.separating ∣₁
 
 pub returns-clause-answered : goal.returns-clause-answered
 returns-clause-answered c =
