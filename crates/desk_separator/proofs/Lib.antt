@@ -1,0 +1,6 @@
+pub mod Places
+pub mod Seen
+mod Desks
+mod Pooling
+mod Sent
+mod Working

@@ -1,0 +1,4 @@
+pub mod Callers
+pub mod Places
+pub mod TurnTakers
+pub mod inner
