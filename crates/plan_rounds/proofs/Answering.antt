@@ -16,7 +16,8 @@ use Rattle.separator.specs.declared.answers.Separated.TheVariants.{Routed, Viola
 use Rattle.separator.specs.declared.answers.StateAnswer.{StateAnswer}
 use Rattle.plan_rounds.specs.inner.Answered.{AnswersShort, AreAnswersFrom, AreSorted, HasShort, PutsAnswer}
 use Rattle.plan_rounds.specs.declared.sorting.Answered.{Answered}
-use Rattle.plan_rounds.proofs.Seeing.{get_more, stand_more}
+use Rattle.separator.proofs.Seeing.{get_more}
+use Rattle.plan_rounds.proofs.Seeing.{stand_more}
 
 module _ (p : Case) (caps : Caps) (history : List Entry) where
   pub answers_all : (answers : List StateAnswer) → AreStateAnswers p caps history answers → AreAnswersFrom p caps history 0 answers

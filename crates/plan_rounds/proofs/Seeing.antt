@@ -1,7 +1,6 @@
 -- histories that a separator has seen, as they grow, and where cuts stand in them
-use Rattle.std.proofs.Common.{◌≡◌, ◌≢◌, ℕ, zero, suc, ◌<◌, ◌≤◌, ◌⊎◌, inl, inr, ⊎_elim, List, [], ◌∷◌, ◌++◌, All, AllPairs, Some, None, length, take, slice_get, refl, sym, ap, subst, ◌∙◌, arith}
+use Rattle.std.proofs.Common.{◌≡◌, ◌≢◌, ℕ, zero, suc, ◌<◌, ⊎_elim, List, [], ◌∷◌, ◌++◌, AllPairs, Some, length, take, slice_get, refl, sym, subst, ◌∙◌, arith}
 use Rattle.std.proofs.lemmas.List.{append_assoc, append-nil, length-append}
-use Rattle.std.proofs.lemmas.List.Elements.{All-append, All-nil}
 use Rattle.std.proofs.lemmas.List.Quantifiers.{all_pairs_push}
 use Rattle.net_core.specs.declared.journal.Entry.{Entry}
 use Rattle.net_core.specs.declared.journal.Entry.TheVariants.{Edited, Pooled}
@@ -10,51 +9,14 @@ use Rattle.net_core.specs.declared.plan.CutLine.{CutLine}
 use Rattle.net_core.specs.declared.states.States.{States}
 use Rattle.net_core.specs.Cases.{Case}
 use Rattle.plan_types.specs.declared.certificate.Spot.{Spot}
-use Rattle.plan_types.specs.declared.certificate.Spot.TheVariants.{Pool, Local}
 use Rattle.cut_pool.specs.Histories.{IsLegalAfter, cut_of_line, cuts_of}
-use Rattle.separator.specs.Separators.{IsCutEntry, IsPartOf, IsSeenHistory, IsSpotIn, SeesMore}
-use Rattle.separator.proofs.Pooling.{cuts_both, get_front}
+use Rattle.separator.specs.Separators.{IsCutEntry, IsSeenHistory, IsSpotIn}
+use Rattle.separator.proofs.Pooling.{cuts_both}
+use Rattle.separator.proofs.Seeing.{get_more, sees_both, sees_none, spot_later}
 use Rattle.plan_rounds.specs.WorkedRounds.{StandAtSpots}
 use Rattle.plan_rounds.specs.inner.Listing.{GoesOn}
 
--- an item of a list with one more is one of the list, or the last
-pub get_more : {X : Type 0} (xs : List X) (x : X) (i : ℕ) (c : X) → slice_get (xs ++ x ∷ []) i ≡ Some c → ((i < length xs) × (slice_get xs i ≡ Some c)) ⊎ ((i ≡ length xs) × (x ≡ c))
-get_more [] x zero c at = inr (refl, let e : Some x ≡ Some c = at in cc e)
-get_more [] x (suc i) c at = absurd (let e : None ≡ Some c = at in cc e)
-get_more (y ∷ xs) x zero c at = inl (omega arith, at)
-get_more (y ∷ xs) x (suc i) c at = ⊎_elim
-    (λ p. inl (omega (arith, p.0), p.1))
-    (λ p. inr (omega (arith, p.0), p.1))
-    (get_more xs x i c at)
-
-empty : {X : Type 0} (xs : List X) → length xs ≡ 0 → xs ≡ []
-empty [] none = refl
-empty (x ∷ xs) none = absurd (omega (arith, none))
-
 -- ---- some more entries
-
-part_both : {X : Type 0} (xs ys us vs : List X) → IsPartOf xs ys → IsPartOf us vs → IsPartOf (xs ++ us) (ys ++ vs)
-part_both [] [] us vs first second = second
-part_both [] (y ∷ ys) [] vs first second = tt
-part_both [] (y ∷ ys) (u ∷ us) vs first second = inr (part_both [] ys (u ∷ us) vs tt second)
-part_both (x ∷ xs) [] us vs first second = absurd first
-part_both (x ∷ xs) (y ∷ ys) us vs first second = ⊎_elim
-    (λ l. inl (l.0, part_both xs ys us vs l.1 second))
-    (λ r. inr (part_both (x ∷ xs) ys us vs r second))
-    first
-
-pub sees_none : (history own : List Entry) → SeesMore history own history own
-sees_none history own = record { further = []; seen = sym (append-nil history); committed = []; own_is = sym (append-nil own); among = tt; pooled = All-nil IsCutEntry }
-
-sees_both : (h o h1 o1 h2 o2 : List Entry) → SeesMore h o h1 o1 → SeesMore h1 o1 h2 o2 → SeesMore h o h2 o2
-sees_both h o h1 o1 h2 o2 a b = record {
-  further = a.further ++ b.further;
-  seen = b.seen ∙ (ap (λ es. es ++ b.further) a.seen ∙ append_assoc h a.further b.further);
-  committed = a.committed ++ b.committed;
-  own_is = b.own_is ∙ (ap (λ es. es ++ b.committed) a.own_is ∙ append_assoc o a.committed b.committed);
-  among = part_both a.committed a.further b.committed b.further a.among b.among;
-  pooled = All-append IsCutEntry a.committed b.committed a.pooled b.pooled;
-}
 
 pub goes_none : {M : Type 0} (net : Network) (states : States) (mark : M) (history own : List Entry) → GoesOn net net states states mark mark history own history own
 goes_none net states mark history own = record { network = refl; listed = refl; same_mark = refl; more = sees_none history own }
@@ -69,20 +31,6 @@ goes_both n0 n1 n2 s0 s1 s2 m0 m1 m2 h0 o0 h1 o1 h2 o2 a b = record {
 }
 
 -- ---- what stands, stands later
-
-spot_later : (h f : List Entry) (cut : ℕ × List ℕ) (spot : Spot) → length (h ++ f) ≤ 65536 → length (cuts_of (h ++ f)) ≤ 4096 → IsSpotIn h cut spot → IsSpotIn (h ++ f) cut spot
-spot_later h f cut (Pool i) few few_cuts at = subst (λ cuts. slice_get cuts i ≡ Some cut) (sym (cuts_both h f)) (get_front (cuts_of h) (cuts_of f) i cut at)
-spot_later h f cut Local few few_cuts at = ⊎_elim
-    (λ (full : length (cuts_of h) ≡ 4096).
-    let long = ap length (cuts_both h f) in
-    let no_more : cuts_of f ≡ [] = empty (cuts_of f) (omega (arith, full, few_cuts, long, length-append (cuts_of h) (cuts_of f))) in
-    let same : cuts_of (h ++ f) ≡ cuts_of h = cuts_both h f ∙ (ap (λ cs. cuts_of h ++ cs) no_more ∙ append-nil (cuts_of h)) in
-    (inl (ap length same ∙ full), subst (λ cs. All (λ c. c ≢ cut) cs) (sym same) at.1))
-    (λ (full : length h ≡ 65536).
-    let no_more : f ≡ [] = empty f (omega (arith, full, few, length-append h f)) in
-    let same : h ++ f ≡ h = ap (λ es. h ++ es) no_more ∙ append-nil h in
-    subst (λ es. IsSpotIn es cut Local) (sym same) at)
-    at.0
 
 pub stand_later : (net : Network) (states : States) (h own f : List Entry) (lines : List CutLine) (spots : List Spot) → IsSeenHistory net states (h ++ f) own → StandAtSpots h lines spots → StandAtSpots (h ++ f) lines spots
 stand_later net states h own f lines spots seen s = record {

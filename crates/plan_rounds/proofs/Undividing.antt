@@ -35,7 +35,7 @@ use Rattle.master_law.proofs.Shared.{divides_common}
 use Rattle.flow_router.specs.Answers.{IsRouted}
 use Rattle.plan_rounds.specs.inner.Answered.{AreRoutedStates, IsEvidenceOfState}
 use Rattle.plan_rounds.specs.inner.Sharing.{AreSlackNames, AreUndivided, HasWideNeed, IsUndivided, at_caps}
-use Rattle.plan_rounds.proofs.Seeing.{get_more}
+use Rattle.separator.proofs.Seeing.{get_more}
 
 -- ---- flows are small where needs are
 
