@@ -48,12 +48,12 @@ pub record IsSnapshotPlan (p : Case) (snapshot : Snapshot) (history : List Entry
   pub worked : IsWorkedPlan p snapshot.cuts cuts plan
   pub held : AreHeld history cuts
 
--- a sound plan of the snapshot, or the first separation of its demands, for which no entry is looked at or added
+-- a sound plan of the snapshot, or the first separation of its demands, for which no entry is looked at or added and they are handed back
 abbrev pub IsSnapshotAnswer : Case → Snapshot → List Entry → List Entry → PlanAnswer → Type 0
 IsSnapshotAnswer p snapshot before after (Planned plan) = ∥ IsSnapshotPlan p snapshot after plan ∥₁
-IsSnapshotAnswer p snapshot before after (NotSurvivable s) = IsFirstSeparation p s.state.0 s.demand × (after ≡ before)
+IsSnapshotAnswer p snapshot before after (NotSurvivable s demands) = IsFirstSeparation p s.state.0 s.demand × (after ≡ before) × (demands ≡ snapshot.demands)
 
 -- where a plan is made over a history that was empty, and that the separator alone has written, the pool is a worked list in its order
 abbrev pub PoolsAlone : Case → (before after own : List Entry) → PlanAnswer → Type 0
 PoolsAlone p before after own (Planned plan) = before ≡ [] → after ≡ own → ∥ IsWorkedPool p after ∥₁
-PoolsAlone p before after own (NotSurvivable s) = Unit {0}
+PoolsAlone p before after own (NotSurvivable s demands) = Unit {0}

@@ -94,7 +94,7 @@ pub fn plan_snapshot<S: Separate>(
     ensures alone { IfOk result (PoolsAlone (case net.now states.now snapshot.demands) (S.history separator.old) (S.history separator.new) (S.own separator.new)) }
 {
     match first_separated(alloc, net, states, &snapshot.demands)? {
-        Some(separation) => Ok(PlanAnswer::NotSurvivable(separation)),
+        Some(separation) => Ok(PlanAnswer::NotSurvivable(separation, snapshot.demands)),
         None => Ok(PlanAnswer::Planned(plan_survivable(alloc, net, states, snapshot, separator)?)),
     }
 }

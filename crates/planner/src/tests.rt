@@ -56,7 +56,7 @@ fn planned(
     let mut separator = OneByOne::new(alloc, board);
     match plan_snapshot(alloc, net, states, snapshot, &mut separator)? {
         PlanAnswer::Planned(plan) => Ok(Some(plan)),
-        PlanAnswer::NotSurvivable(_) => Ok(None),
+        PlanAnswer::NotSurvivable(..) => Ok(None),
     }
 }
 
