@@ -1,9 +1,16 @@
 pub mod Callers
+mod Closing
+mod Dealt
 mod FormProps
 mod Journals
+mod Meeting
+mod Merging
 pub mod OutcomeForms
-pub mod Planning
+mod Planning
 mod Replies
 mod ReportForms
 pub mod Runs
-pub mod Steps
+mod Sent
+mod Sofar
+mod Steps
+mod Turns

@@ -113,7 +113,7 @@ module _ (p : Case) (es : List Entry) (lines : List CutLine) (few : length es �
   none_form caller [] run = All-nil InForm
   none_form caller (o ∷ os) run = absurd run
 
-  module _ (commands : List Command) (outcomes : List Outcome) (script : IsScript commands) (h : HaveRun p es commands outcomes) (short : All IsShortNamed outcomes) where
+  module _ (commands : List Command) (outcomes : List Outcome) (script : IsScript commands) (h : HaveRun p es es commands outcomes) (short : All IsShortNamed outcomes) where
     few_of : (caller : ℕ) → length (outcomes_of caller outcomes) ≤ 64
     few_of caller =
         let count = h.count in

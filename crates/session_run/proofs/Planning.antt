@@ -1,92 +1,147 @@
--- planning on a board through a separator
-use Rattle.std.proofs.Common.{◌≡◌, ℕ, zero, suc, ◌+◌, ◌≤◌, List, [], ◌∷◌, ◌++◌, All, drop, length, refl, sym, ap, subst, ◌∙◌, arith}
+-- a caller's plan: the snapshot that it takes in a turn, and what comes of it
+use Rattle.std.proofs.Common.{◌≡◌, ◌∙◌, ◌<◌, [], ◌∷◌, List, All, Some, length, slice_get, take, refl, sym, ap, subst, arith}
+use Rattle.std.specs.Prelude.{IfOk, Result, Ok, Err}
 use Rattle.std.proofs.Math.Logic.{∥∥₁_elim, ∥∥₁_map}
 use Rattle.std.proofs.Props.{props}
+use Rattle.std.proofs.lemmas.Option.{slice_get_within}
 use Rattle.net_core.specs.declared.demand.Demand.{Demand}
 use Rattle.net_core.specs.declared.journal.Entry.{Entry}
+use Rattle.net_core.specs.declared.list.NoMemory.{NoMemory}
 use Rattle.net_core.specs.declared.network.Network.{Network}
 use Rattle.net_core.specs.declared.states.States.{States}
 use Rattle.net_core.specs.Cases.{Case}
+use Rattle.net_core.specs.Demands.{AreDemands}
 use Rattle.net_core.specs.Views.{case}
+use Rattle.plan_terms.specs.Certificates.{IsCut}
 use Rattle.plan_terms.specs.Separations.{IsFirstSeparation}
-use Rattle.cut_pool.specs.Boards.{IsSnapshotOf, opening_case, origin_of}
-use Rattle.cut_pool.specs.Histories.{demands_left}
+use Rattle.plan_types.specs.declared.report.Outcome.{Outcome}
+use Rattle.plan_rounds.specs.WorkedRounds.{IsWorkedPool}
 use Rattle.cut_pool.specs.declared.board.Board.{Board}
 use Rattle.cut_pool.specs.declared.snapshot.Snapshot.{Snapshot}
-use Rattle.plan_rounds.specs.WorkedRounds.{IsWorkedPool}
-use Rattle.separator.specs.OneByOnes.{own_of}
-use Rattle.separator.specs.Separators.{IsCutEntry, SeesMore}
-use Rattle.separator.specs.declared.one_by_one.OneByOne.{OneByOne}
-use Rattle.planner.specs.SnapshotPlans.{IsSnapshotAnswer, IsSnapshotPlan, PoolsAlone}
+use Rattle.cut_pool.specs.Boards.{IsSnapshotOf, opening_case, origin_of}
+use Rattle.cut_pool.specs.Histories.{cuts_of}
+use Rattle.separator.specs.Separators.{SeesMore}
 use Rattle.planner.specs.declared.answer.PlanAnswer.{PlanAnswer}
 use Rattle.planner.specs.declared.answer.PlanAnswer.TheVariants.{Planned, NotSurvivable}
-use Rattle.session_run.specs.Transcripts.{IsPlanBetween, case_left}
-use Rattle.session_run.specs.inner.Running.{GrowsByCuts, IsAnswerOn}
+use Rattle.planner.specs.SnapshotPlans.{IsSnapshotAnswer, IsSnapshotIn, IsSnapshotPlan, PoolsAlone}
+use Rattle.planner.proofs.Histories.{version_few}
+use Rattle.separator.proofs.Seeing.{sees_none}
+use Rattle.turn_lock.specs.Passes.{opening_of, seen_by}
+use Rattle.board_desk.specs.declared.caller.Caller.{Caller}
+use Rattle.board_desk.specs.Turns.{AreAtOneDesk, HasTurn, board_made}
+use Rattle.desk_separator.specs.Places.{own_items}
+use Rattle.session_run.specs.declared.plans.Asked.{Asked}
+use Rattle.session_run.specs.Transcripts.{IsOutcomeAfter, IsPlanned, case_left}
+use Rattle.session_run.specs.inner.Turns.{IsOutcomeFor, IsSnapshotHere, NamesDemand, PlansAt, PlansSince}
+use Rattle.session_run.proofs.Turns.{own_same}
 
--- ---- lists
+-- ---- the snapshot
 
-drop_front : {X : Type 0} (xs ys : List X) → drop (length xs) (xs ++ ys) ≡ ys
-drop_front [] ys = refl
-drop_front (x ∷ xs) ys = drop_front xs ys
+-- the case of a board is told by its origin
+pub same_opening : (a b : Board) → origin_of a ≡ origin_of b → opening_case a ≡ opening_case b
+same_opening a b same = ap case_at same
+  where
+    case_at : Network × States × List Demand → Case
+    case_at o = case o.0 o.1 o.2
 
-drop_none : {X : Type 0} (n : ℕ) (xs : List X) → drop n xs ≡ [] → length xs ≤ n
-drop_none zero xs none = let count = ap length none in omega (arith, count)
-drop_none (suc n) [] none = omega arith
-drop_none (suc n) (x ∷ xs) none = omega (arith, drop_none n xs none)
+-- a snapshot that was taken in a turn is of all that its caller has then seen
+pub snapshot_here : (old new : Caller) (found : Board) (snapshot : Snapshot) → HasTurn old found found new → IsSnapshotOf found snapshot → IsSnapshotHere (opening_case (board_made old)) (seen_by new.pass) snapshot
+snapshot_here old new found snapshot turn is =
+    let cuts : ∥ All (IsCut (case_left (opening_case found) found.entries)) snapshot.cuts ∥₁ =
+    subst (λ d. ∥ All (IsCut (case found.net.now found.states.now d)) snapshot.cuts ∥₁) is.demands_are is.cuts_are in
+    subst (λ p. IsSnapshotHere p (seen_by new.pass) snapshot) (same_opening found (board_made old) turn.origin)
+    (subst (λ es. IsSnapshotHere (opening_case found) es snapshot) (sym turn.seen)
+    (record { position = is.position_is; version = is.version_is; demands = is.demands_are; belong = is.belong; pool = is.pool; cuts = cuts }))
 
--- ---- the case
+module _ (net : Network) (states : States) (b : Board) (seen : List Entry) (snapshot : Snapshot) (one : b.net.now ≡ net) (two : b.states.now ≡ states)
+    (here : IsSnapshotHere (opening_case b) seen snapshot) where
+  -- the case of its demands
+  pub snapshot_case : case net states snapshot.demands ≡ case_left (opening_case b) seen
+  snapshot_case =
+      ap (λ n. case n states snapshot.demands) (sym one)
+      ∙ (ap (λ x. case b.net.now x snapshot.demands) (sym two) ∙ ap (λ d. case b.net.now b.states.now d) here.demands)
 
--- the case of a snapshot of the board
-pub same_case : (net : Network) (states : States) (b : Board) (s : Snapshot) → b.net.now ≡ net → b.states.now ≡ states → IsSnapshotOf b s → case net states s.demands ≡ case_left (opening_case b) b.entries
-same_case net states b s one two is =
-    ap (λ n. case n states s.demands) (sym one) ∙ (ap (λ x. case b.net.now x s.demands) (sym two) ∙ ap (λ d. case b.net.now b.states.now d) is.demands_are)
+  pub snapshot_belongs : AreDemands (length net.nodes) snapshot.demands
+  snapshot_belongs = subst (λ (n : Network). AreDemands (length n.nodes) snapshot.demands) one here.belong
 
--- ---- a separator over a board that was handed to it
+  pub snapshot_seen : ∥ IsSnapshotIn (case net states snapshot.demands) seen snapshot ∥₁
+  snapshot_seen =
+      subst (λ q. ∥ IsSnapshotIn q seen snapshot ∥₁) (sym snapshot_case)
+      (∥∥₁_elim here.pool (hlevel props) (λ pool. ∥∥₁_map here.cuts (λ cuts. record {
+        version = omega (arith, here.version, here.position, version_few (opening_case b) seen);
+        position = omega (arith, here.position);
+        pooled = pool.cuts ∙ ap cuts_of (sym (ap (λ n. take n seen) here.position ∙ whole seen));
+        cuts = cuts;
+      })))
+    where
+      whole : {X : Type 0} (xs : List X) → take (length xs) xs ≡ xs
+      whole [] = refl
+      whole (x ∷ xs) = ap (λ ys. x ∷ ys) (whole xs)
 
-module _ (b : Board) (old new : OneByOne) (begun : old.board ≡ b) (none : own_of old ≡ []) (net : new.board.net.now ≡ old.board.net.now) (states : new.board.states.now ≡ old.board.states.now)
-    (opening : new.board.opening.value ≡ old.board.opening.value) (began : new.began.value ≡ old.began.value)
-    (more : SeesMore old.board.entries (own_of old) new.board.entries (own_of new)) where
-  began_at : old.began.value ≡ length old.board.entries
-  began_at = let most = old.began_before in omega (arith, most, drop_none old.began.value old.board.entries none)
+-- ---- what comes of it
 
-  own_all : own_of new ≡ more.further
-  own_all =
-      ap (λ n. drop n new.board.entries) (began ∙ began_at)
-      ∙ (ap (drop (length old.board.entries)) more.seen ∙ drop_front old.board.entries more.further)
+module _ (p q : Case) (asked : Asked) (seen own seen_now own_now : List Entry) (snapshot : Snapshot) (here : IsSnapshotHere p seen snapshot) (same : q ≡ case_left p seen)
+    (more : SeesMore seen own seen_now own_now) where
+  outcome_made : (answer : PlanAnswer) (o : Outcome) → IsSnapshotAnswer q snapshot seen seen_now answer → IsOutcomeFor asked snapshot.version snapshot.position answer o
+      → IsOutcomeAfter p seen seen_now asked.caller asked.serial o
+  outcome_made (Planned plan) o planned is =
+      subst (IsOutcomeAfter p seen seen_now asked.caller asked.serial) (sym is) (
+        refl,
+        refl,
+        ∥∥₁_elim here.pool (hlevel props) (λ pool. ∥∥₁_map planned (λ sound. record {
+          snapshot = snapshot;
+          left = record { position = here.position; version = here.version; demands = here.demands; pool = pool };
+          sound = subst (λ r. IsSnapshotPlan r snapshot seen_now plan) same sound;
+        })),
+      )
+  outcome_made (NotSurvivable s demands) o found is =
+      subst (IsOutcomeAfter p seen seen_now asked.caller asked.serial) (sym is.2) (
+        refl,
+        refl,
+        here.version,
+        here.position,
+        record {
+          place = s.demand;
+          first = subst (λ r. IsFirstSeparation r s.state.0 s.demand) same found.0;
+          demand = is.0;
+          at = subst (λ ds. slice_get ds s.demand ≡ Some is.0) (found.2 ∙ here.demands) is.1;
+          named = refl;
+        },
+      )
 
-  same_origin : origin_of new.board ≡ origin_of old.board
-  same_origin = cc (net, states, opening)
+  pool_made : (answer : PlanAnswer) (o : Outcome) → PoolsAlone q seen seen_now own_now answer → IsOutcomeFor asked snapshot.version snapshot.position answer o
+      → seen ≡ [] → seen_now ≡ own_now → IsPlanned o → ∥ IsWorkedPool p seen_now ∥₁
+  pool_made (Planned plan) o alone is none all planned = subst (λ r. ∥ IsWorkedPool r seen_now ∥₁) (same ∙ ap (case_left p) none) (alone none all)
+  pool_made (NotSurvivable s demands) o alone is none all planned = absurd (subst IsPlanned is.2 planned)
 
-  -- what it commits are cuts alone, and nobody else commits anything
-  grown : GrowsByCuts old.board new.board
-  grown = record {
-    more = more.further;
-    entries = more.seen;
-    pooled = subst (All IsCutEntry) (sym more.own_is ∙ own_all) (subst (λ es. All IsCutEntry (es ++ more.committed)) (sym none) more.pooled);
-    origin = same_origin;
-  }
+  pub plan_made : (answer : PlanAnswer) (made : Result Outcome NoMemory) → IsSnapshotAnswer q snapshot seen seen_now answer → PoolsAlone q seen seen_now own_now answer
+      → IfOk made (IsOutcomeFor asked snapshot.version snapshot.position answer) → PlansAt p asked seen own seen_now own_now made
+  plan_made answer (Ok o) answered alone is = record { more = more; outcome = outcome_made answer o answered is; alone = pool_made answer o alone is }
+  plan_made answer (Err fault) answered alone is = record { more = more; outcome = tt; alone = tt }
 
-  pub board_grown : GrowsByCuts b new.board
-  board_grown = subst (λ x. GrowsByCuts x new.board) begun grown
+-- what was taken in the snapshot's turn and after it
+module _ (old new : Caller) (found : Board) (turn : HasTurn old found found new) (same : AreAtOneDesk old new) (asked : Asked) where
+  pub snapshot_at_desk : (snapshot : Snapshot) → IsSnapshotOf found snapshot → IsSnapshotHere (opening_case (board_made new)) (seen_by new.pass) snapshot
+  snapshot_at_desk snapshot is =
+      subst (λ d. IsSnapshotHere (opening_case (opening_of d)) (seen_by new.pass) snapshot) same.0 (snapshot_here old new found snapshot turn is)
 
-  -- where there was no entry, all are its own
-  own_first : old.board.entries ≡ [] → new.board.entries ≡ own_of new
-  own_first empty = more.seen ∙ (ap (λ es. es ++ more.further) empty ∙ sym own_all)
+  pub plan_since : (seen_now own_now : List Entry) (made : Result Outcome NoMemory) → PlansAt (opening_case (board_made new)) asked (seen_by new.pass) (own_items new.pass) seen_now own_now made
+      → PlansSince (opening_case (board_made old)) asked (seen_by old.pass) (own_items old.pass) seen_now own_now made
+  plan_since seen_now own_now made at = (
+    seen_by new.pass,
+    (turn.begins.0, turn.begins.1 ∙ sym turn.seen),
+    subst (λ d. PlansAt (opening_case (opening_of d)) asked (seen_by new.pass) (own_items old.pass) seen_now own_now made) (sym same.0)
+        (subst (λ es. PlansAt (opening_case (board_made new)) asked (seen_by new.pass) es seen_now own_now made) (own_same old new found found turn refl) at),
+  )
 
-  module _ (snapshot : Snapshot) (is : IsSnapshotOf b snapshot) (p : Case) (same : p ≡ case_left (opening_case b) b.entries) where
-    pub answered : (answer : PlanAnswer) → IsSnapshotAnswer p snapshot old.board.entries new.board.entries answer → PoolsAlone p old.board.entries new.board.entries (own_of new) answer → IsAnswerOn b new.board answer
-    answered (Planned plan) planned alone = (
-      ∥∥₁_elim is.pool (hlevel props) (λ pool. ∥∥₁_map planned (λ sound. record {
-        snapshot = snapshot;
-        left = record { position = is.position_is; version = is.version_is; demands = is.demands_are; pool = pool };
-        sound = subst (λ q. IsSnapshotPlan q snapshot new.board.entries plan) same sound;
-      })),
-      λ empty.
-          let none_before = ap (λ (x : Board). x.entries) begun ∙ empty in
-          let worked = alone none_before (own_first none_before) in
-          subst (λ q. ∥ IsWorkedPool q new.board.entries ∥₁) (same ∙ ap (case_left (opening_case b)) empty) worked,
-    )
-    answered (NotSurvivable s) found alone = (
-      subst (λ q. IsFirstSeparation q s.state.0 s.demand) same found.0,
-      found.1 ∙ ap (λ (x : Board). x.entries) begun,
-    )
+  pub stopped_since : (fault : NoMemory) → PlansSince (opening_case (board_made old)) asked (seen_by old.pass) (own_items old.pass) (seen_by new.pass) (own_items new.pass) (Err fault)
+  stopped_since fault =
+      plan_since (seen_by new.pass) (own_items new.pass) (Err fault) (record { more = sees_none (seen_by new.pass) (own_items new.pass); outcome = tt; alone = tt })
+
+-- the demand that a separation names is one of those handed back
+pub names_one : (q : Case) (snapshot : Snapshot) (seen seen_now : List Entry) (answer : PlanAnswer) → q.demands ≡ snapshot.demands → IsSnapshotAnswer q snapshot seen seen_now answer → NamesDemand answer
+names_one q snapshot seen seen_now (Planned plan) same answered = tt
+names_one q snapshot seen seen_now (NotSurvivable s demands) same answered =
+    let named = answered.0.separates in
+    let within : s.demand < length q.demands = slice_get_within q.demands s.demand named.demand named.at in
+    omega (arith, within, ap length same, ap length answered.2)

@@ -9,6 +9,7 @@ use Rattle.std.proofs.lemmas.List.Elements.{All-filter}
 use Rattle.net_core.specs.declared.journal.Entry.{Entry}
 use Rattle.net_core.specs.declared.network.Notes.{Notes}
 use Rattle.net_core.specs.declared.plan.CutLine.{CutLine}
+use Rattle.net_core.specs.Demands.{AreDemands}
 use Rattle.plan_terms.specs.Certificates.{IsCut}
 use Rattle.plan_types.specs.declared.report.Outcome.{Outcome}
 use Rattle.plan_types.specs.declared.report.Report.{Report}
@@ -32,7 +33,8 @@ of_all P xs ys same all k d lt =
     let caller = caller_of (get_or ys k d) in
     kept_one P (λ (o : Outcome). caller_of o == caller) ys (subst (All P) (same caller) (All-filter (λ (o : Outcome). caller_of o == caller) P xs all)) k d lt (eq-eqb caller caller refl)
 
-module _ (b : Board) (notes : Notes) (commands : List Command) (outcomes sorted : List Outcome) (lines : List CutLine) (script : IsScript commands) (run : HaveRun (opening_case b) b.entries commands outcomes)
+module _ (b : Board) (notes : Notes) (commands : List Command) (outcomes sorted : List Outcome) (lines : List CutLine) (opening : AreDemands (length b.net.now.nodes) b.opening.value) (script : IsScript commands)
+    (run : HaveRun (opening_case b) b.entries b.entries commands outcomes)
     (pool : ∥ IsPoolAfter (opening_case b) b.entries lines ∥₁) (cuts : ∥ All (IsCut (case_left (opening_case b) b.entries)) lines ∥₁) (low : All (λ l. l.right < 2 ^ 84) lines)
     (short : All HasShortLengths lines) (named : All IsShortNamed outcomes)
     (ordered : AllPairs (λ x y. caller_of x ≤ caller_of y) sorted) (same : (caller : ℕ) → outcomes_of caller sorted ≡ outcomes_of caller outcomes) (count : length sorted ≡ length outcomes) where
@@ -48,7 +50,7 @@ module _ (b : Board) (notes : Notes) (commands : List Command) (outcomes sorted 
       let plans = script.plans in
       record {
         few_entries = b.few;
-        entries = entries_form p b.entries lines run.entries run.opening b.few (board_few b) board.legal is.cuts;
+        entries = entries_form p b.entries lines run.entries opening b.few (board_few b) board.legal is.cuts;
         few_lines = lines_few b.entries lines is.cuts (board_few b);
         pool = lines_form (case_left p b.entries) lines of short low;
         few_outcomes = omega (arith, commanded, plans, count);
@@ -82,7 +84,7 @@ module _ (b : Board) (notes : Notes) (commands : List Command) (outcomes sorted 
     runs = λ caller. subst (RunsFrom (opening_case b) b.entries caller 0 1 (acts_of caller commands)) (sym (same caller)) (run.runs caller);
     ordered = ordered;
     form = report_form;
-    alone = λ one planned. let first = run.alone one (planned_before planned) in (first_after first.0, first.1);
+    alone = λ one planned. let first = run.alone one refl (planned_before planned) in (first_after first.0, first.1);
   }
 
   -- what is read from the network and the board is equal to theirs

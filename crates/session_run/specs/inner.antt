@@ -1,3 +1,4 @@
 -- what only private functions and proofs cite
 pub mod Ranges
 pub mod Running
+pub mod Turns

@@ -1,4 +1,5 @@
 ghost use Rattle.std.specs.Prelude.{◌≡◌, ◌≤◌, ℕ, AllPairs, IfOk, length};
+ghost use Rattle.net_core.specs.Demands.{AreDemands};
 ghost use Rattle.cut_pool.specs.Boards.{opening_case};
 ghost use Rattle.session_script.specs.Scripts.{IsScript};
 ghost use Rattle.session_run.specs.Transcripts.{IsTranscript, caller_of, outcomes_of};
@@ -40,8 +41,9 @@ pub fn report(
     outcomes: List<Outcome>,
     commands: &[Command],
 ) -> Result<Report, NoMemory>
+    requires opening { AreDemands (length board.now.net.now.nodes) board.now.opening.value }
     requires script { IsScript commands.now }
-    requires run { HaveRun (opening_case board.now) board.now.entries commands.now outcomes }
+    requires run { HaveRun (opening_case board.now) board.now.entries board.now.entries commands.now outcomes }
     ensures { IfOk result (IsTranscript (opening_case board.now) net.now.notes commands.now) }
 {
     let pool = board.lines()?;

@@ -1,39 +1,96 @@
-ghost use Rattle.std.specs.Prelude.{◌≡◌, [], ◌∷◌, IfOk, length};
+ghost use Rattle.std.specs.Prelude.{◌≡◌, ◌≢◌, [], ◌∷◌, IfOk, length};
 ghost use Rattle.net_core.specs.Demands.{AreDemands};
 ghost use Rattle.net_core.specs.Views.{case};
+ghost use Rattle.cut_pool.specs.Boards.{opening_case, origin_of};
 ghost use Rattle.session_script.specs.Scripts.{IsScript};
 ghost use Rattle.session_script.specs.declared.script.Act.TheVariants.{Plan};
 ghost use Rattle.session_run.specs.Transcripts.{IsTranscript};
+ghost use Rattle.session_run.specs.inner.Running.{HaveRun};
 
-use crate::commands::run_commands;
+use crate::groups::run_callers;
 use crate::reports::report;
+use crate::setting::{Setting, Stop};
+use board_desk::Caller;
 use cut_pool::Board;
 use net_core::{Demands, List, Network, NoMemory, States};
-use plan_types::Report;
+use outside_io::Gate;
+use plan_types::{Outcome, Report};
 use session_script::{Act, Command, Script};
 use std::alloc::Global;
+use std::sync::Wait;
+use std::thread::Threads;
+use turn_lock::Desk;
 
-/// Runs the commands of a script in their order, on one board of the network's opening demands, and reports the journal, the pool
-/// with its right sides at the end, and the outcomes, by caller and then by serial.
+/// Callers stop for want of memory alone.
+fn no_memory(stop: Stop) -> NoMemory
+    requires { stop ≢ Stop.Full }
+{
+    match stop {
+        Stop::NoMemory => NoMemory,
+        Stop::Full => unreachable!(),
+    }
+}
+
+/// Runs the commands on a new board, those of each caller in their order, and gives the outcomes and the board at the end.
+fn run_on<'a, R: Threads + Wait + Sync, G: Gate + Sync>(
+    rt: &R,
+    gate: &G,
+    setting: &Setting,
+    board: Board<'a>,
+) -> Result<(List<Outcome>, Board<'a>), NoMemory>
+    requires net { board.net.now ≡ setting.now.net.now }
+    requires states { board.states.now ≡ setting.now.states.now }
+    requires empty { board.entries ≡ [] }
+    requires script { IsScript setting.now.commands.now }
+    ensures origin { IfOk result (λ ran. origin_of ran.1 ≡ origin_of board.entry) }
+    ensures run { IfOk result (λ ran. HaveRun (opening_case ran.1) ran.1.entries ran.1.entries setting.now.commands.now ran.0) }
+{
+    let Ok((desk, pass)) = Desk::new(setting.alloc, board) else {
+        return Err(NoMemory);
+    };
+    let (outcomes, caller) = run_callers(rt, gate, setting, 1, 9, Caller::new(1, &desk, pass));
+    let pass = caller.into_pass();
+    let board = desk.close(pass);
+    match outcomes {
+        Ok(outcomes) => Ok((List::from_vec(outcomes), board)),
+        Err(stop) => Err(no_memory(stop)),
+    }
+}
+
+/// Runs the commands of a script on one board of the network's opening demands, and reports the journal, the pool with its right
+/// sides at the end, and the outcomes, by caller and then by serial. It may never return.
+///
+/// Each caller that the script names has a thread of its own, and its commands run in their order. The order in which callers come
+/// to the board is open; the journal tells it. An edit is a turn at the board. A plan is of a snapshot, which its caller takes in a turn
+/// that commits nothing, and each cut that it pools is a turn again, so that other callers edit and plan meanwhile. The gate hears of
+/// both. Where a thread can't be started, its work is done by the one that would start it.
 ///
 /// The script's callers, needs and numbers of commands are in their ranges. A plan that isn't possible is an outcome of the
 /// report. An edit takes time in the cuts of the pool times the demands, and a plan that of `plan_snapshot`.
 ///
 /// On the triangle with a demand D1 of 12 from A to C the commands `caller 1 set D1 24` and `caller 1 plan` give a journal of
 /// the edit, accepted as version 1, and of the opening cut, and a tight plan of version 1 at position 1, which costs 15.
-pub fn run_session(
+pub fn run_session<R: Threads + Wait + Sync, G: Gate + Sync>(
+    rt: &R,
     alloc: Global,
     net: &Network,
     states: &States,
     opening: Demands,
     script: &Script,
+    gate: &G,
 ) -> Result<Report, NoMemory>
     requires opening { AreDemands (length net.now.nodes) opening }
     requires script { IsScript script.now.commands }
     ensures { IfOk result (IsTranscript (case net.now states.now opening) net.now.notes script.now.commands) }
 {
     let board = Board::new(alloc, net, states, opening)?;
-    let (outcomes, board) = run_commands(alloc, net, states, script.commands.items(), board)?;
+    let setting = Setting {
+        alloc,
+        net,
+        states,
+        commands: script.commands.items(),
+    };
+    let (outcomes, board) = run_on(rt, gate, &setting, board)?;
     report(alloc, net, &board, outcomes, script.commands.items())
 }
 

@@ -1,0 +1,110 @@
+ghost use Rattle.std.specs.Prelude.{◌≡◌, ◌≤◌, ◌<◌, ◌+◌};
+ghost use Rattle.std.specs.List.{list_any};
+ghost use Rattle.std.specs.Thread.{IsSync};
+ghost use Rattle.cut_pool.specs.Boards.{opening_case};
+ghost use Rattle.turn_lock.specs.Passes.{own_units, seen_by};
+ghost use Rattle.board_desk.specs.Turns.{AreAtOneDesk, IsAtDesk, board_made};
+ghost use Rattle.desk_separator.specs.Places.{own_items};
+ghost use Rattle.session_run.specs.inner.Running.{AreBoth, CanRun, EndsRun, commands_of, is_of};
+
+use crate::one_caller::run_caller;
+use crate::setting::{Setting, Stop};
+use board_desk::Caller;
+use outside_io::Gate;
+use plan_types::Outcome;
+use session_script::Command;
+use std::sync::Wait;
+use std::thread;
+use std::thread::Threads;
+
+/// Whether the command is of a caller from `low` on and below `high`.
+fn is_of(command: &Command, low: u32, high: u32) -> bool
+    ensures { result ≡ is_of low high command.now }
+{
+    low <= command.caller && command.caller < high
+}
+
+/// Whether any command is.
+fn names_any(commands: &[Command], low: u32, high: u32) -> bool
+    ensures { result ≡ list_any (is_of low high) commands.now }
+{
+    commands.iter().any(|command| is_of(command, low, high))
+}
+
+/// The caller, under another number.
+fn numbered<'d, 'a>(caller: Caller<'d, 'a>, number: u32) -> Caller<'d, 'a>
+    requires { IsAtDesk caller }
+    ensures number { result.number ≡ number }
+    ensures desk { AreAtOneDesk caller.entry result }
+    ensures pass { result.pass ≡ caller.entry.pass }
+{
+    let (_, desk, pass) = caller.into_parts();
+    Caller::new(number, desk, pass)
+}
+
+/// The outcomes of two groups.
+fn both(
+    one: Result<Vec<Outcome>, Stop>,
+    two: Result<Vec<Outcome>, Stop>,
+) -> Result<Vec<Outcome>, Stop>
+    ensures { AreBoth one two result }
+{
+    let mut all = one?;
+    let mut more = two?;
+    match all.append(&mut more) {
+        Ok(()) => Ok(all),
+        Err(_) => Err(Stop::NoMemory),
+    }
+}
+
+/// Runs the callers from `low` on and below `high`, each that a command names on a thread of its own, and gives their outcomes. Where
+/// a thread can't be started, its work is done by the one that would start it. It may never return.
+pub fn run_callers<'d, 'a, R: Threads + Wait + Sync, G: Gate + Sync>(
+    rt: &R,
+    gate: &G,
+    setting: &Setting,
+    low: u32,
+    high: u32,
+    caller: Caller<'d, 'a>,
+) -> (Result<Vec<Outcome>, Stop>, Caller<'d, 'a>)
+    requires some { low < high }
+    requires units { high ≤ low + own_units caller.pass }
+    requires ready { CanRun setting.now caller }
+    ensures desk { AreAtOneDesk caller.entry result.1 }
+    ensures units { own_units result.1.pass ≡ own_units caller.entry.pass }
+    ensures run { EndsRun (opening_case (board_made caller.entry)) (commands_of low high setting.now.commands.now) (seen_by result.1.pass) (own_items result.1.pass) result.0 }
+{
+    if high - low <= 1 {
+        return run_caller(rt, gate, setting, low, numbered(caller, low));
+    }
+    let middle = high - (high - low) / 2;
+    if !names_any(setting.commands, middle, high) {
+        return run_callers(rt, gate, setting, low, middle, caller);
+    }
+    if !names_any(setting.commands, low, middle) {
+        return run_callers(rt, gate, setting, middle, high, caller);
+    }
+    let (one, two) = caller.split(middle);
+    let ((first, one), (second, two)) = thread::join(
+        rt,
+        move || -> (Result<Vec<Outcome>, Stop>, Caller)
+            requires sync { IsSync R.row × IsSync G.row }
+            requires some { low < middle }
+            requires units { middle ≤ low + own_units one.pass }
+            requires ready { CanRun setting.now one }
+            ensures desk { AreAtOneDesk one.entry result.1 }
+            ensures units { own_units result.1.pass ≡ own_units one.entry.pass }
+            ensures run { EndsRun (opening_case (board_made one.entry)) (commands_of low middle setting.entry.now.commands.now) (seen_by result.1.pass) (own_items result.1.pass) result.0 }
+        { run_callers(rt, gate, setting, low, middle, one) },
+        move || -> (Result<Vec<Outcome>, Stop>, Caller)
+            requires sync { IsSync R.row × IsSync G.row }
+            requires some { middle < high }
+            requires units { high ≤ middle + own_units two.pass }
+            requires ready { CanRun setting.now two }
+            ensures desk { AreAtOneDesk two.entry result.1 }
+            ensures units { own_units result.1.pass ≡ own_units two.entry.pass }
+            ensures run { EndsRun (opening_case (board_made two.entry)) (commands_of middle high setting.entry.now.commands.now) (seen_by result.1.pass) (own_items result.1.pass) result.0 }
+        { run_callers(rt, gate, setting, middle, high, two) },
+    );
+    (both(first, second), one.meet(two))
+}
