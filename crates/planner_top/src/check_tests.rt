@@ -97,7 +97,13 @@ fn other_certificates() -> [(&'static [u8], &'static str); 2] {
 #[test]
 fn a_damaged_certificate_is_rejected(rt: HostRuntime) -> Result<(), Fail> {
     let alloc = rt.alloc();
-    let plan = runs(&rt, "plan parallel default single", all_files(alloc)?, &[], &[])?;
+    let plan = runs(
+        &rt,
+        "plan parallel default single",
+        all_files(alloc)?,
+        &[],
+        &[],
+    )?;
     for (certificate, line) in other_certificates() {
         let mut files = all_files(alloc)?;
         let name = Name::new(alloc, b"report")?;

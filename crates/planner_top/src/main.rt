@@ -45,6 +45,8 @@ fn main(rt: HostRuntime) -> ExitCode {
 #[cfg(test)]
 mod check_tests;
 #[cfg(test)]
+mod session_tests;
+#[cfg(test)]
 mod test_files;
 #[cfg(test)]
 mod tests;

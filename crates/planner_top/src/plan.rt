@@ -10,10 +10,13 @@ ghost use Rattle.planner_top.specs.Run.{EndsPlan, plan_commands};
 use crate::answer::Answer;
 use crate::status::Status;
 use net_core::{Bytes, List as Items, Name, Network, NoMemory, Problem, StateId, States};
+use outside_io::Gate;
 use plan_report::write_report;
 use plan_types::{Outcome, Report};
 use session_run::{run_session, single_plan};
 use std::alloc::Global;
+use std::sync::Wait;
+use std::thread::Threads;
 use text_kit::write::put_decimal;
 
 /// The name of a state.
@@ -115,8 +118,13 @@ fn answer_report(
     answer_outcome(alloc, net, states, report, &report.outcomes.items()[0])
 }
 
-/// The report of a plan of a problem, or the line of the first demand that a state separates.
-pub fn answer_plan(alloc: Global, problem: Problem) -> Result<Answer, NoMemory>
+/// The report of a plan of a problem, or the line of the first demand that a state separates. It may never return.
+pub fn answer_plan<R: Threads + Wait + Sync, G: Gate + Sync>(
+    rt: &R,
+    alloc: Global,
+    problem: Problem,
+    gate: &G,
+) -> Result<Answer, NoMemory>
     ensures { IfOk result (λ a. EndsPlan (case problem.net problem.states problem.demands) problem.net.notes a.status a.text) }
 {
     let Problem {
@@ -125,6 +133,6 @@ pub fn answer_plan(alloc: Global, problem: Problem) -> Result<Answer, NoMemory>
         demands,
     } = problem;
     let script = single_plan(alloc)?;
-    let report = run_session(alloc, &net, &states, demands, &script)?;
+    let report = run_session(rt, alloc, &net, &states, demands, &script, gate)?;
     answer_report(alloc, &net, &states, &report)
 }

@@ -38,22 +38,34 @@ fn bad_words(alloc: Global) -> Result<Answer, NoMemory>
 }
 
 /// The answer to a plan of these files.
-fn plan_files<S: Shelf>(alloc: Global, files: &PlanFiles, shelf: &mut S) -> Result<Answer, Stop>
+fn plan_files<Rt: Threads + Wait + Sync, S: Shelf, G: Gate + Sync>(
+    rt: &Rt,
+    alloc: Global,
+    files: &PlanFiles,
+    shelf: &mut S,
+    gate: &G,
+) -> Result<Answer, Stop>
     ensures ends { HasCause (EndsCommand (S.files shelf.old) (commands.Plan (named files.now))) result }
     ensures shelf { KeepsShelf S.files S.faults (IsErrOf result Stop.ReadFault) shelf.old shelf.new }
 {
     let problem = load_problem(alloc, files, shelf)?;
-    Ok(answer_plan(alloc, problem)?)
+    Ok(answer_plan(rt, alloc, problem, gate)?)
 }
 
 /// The answer to a session of these files.
-fn session_files<S: Shelf>(alloc: Global, four: &FourFiles, shelf: &mut S) -> Result<Answer, Stop>
+fn session_files<Rt: Threads + Wait + Sync, S: Shelf, G: Gate + Sync>(
+    rt: &Rt,
+    alloc: Global,
+    four: &FourFiles,
+    shelf: &mut S,
+    gate: &G,
+) -> Result<Answer, Stop>
     ensures ends { HasCause (EndsCommand (S.files shelf.old) (commands.Session (named four.now.files) four.now.last.now)) result }
     ensures shelf { KeepsShelf S.files S.faults (IsErrOf result Stop.ReadFault) shelf.old shelf.new }
 {
     let problem = load_problem(alloc, &four.files, shelf)?;
     let script = load_script(alloc, four.last, shelf)?;
-    Ok(answer_session(alloc, problem, &script)?)
+    Ok(answer_session(rt, alloc, problem, &script, gate)?)
 }
 
 /// The answer to a check of these files.
@@ -67,36 +79,46 @@ fn check_files<S: Shelf>(alloc: Global, four: &FourFiles, shelf: &mut S) -> Resu
 }
 
 /// The answer to a sample of these words.
-fn sample_words(alloc: Global, words: &SampleWords) -> Result<Answer, NoMemory>
+fn sample_words<Rt: Threads + Wait + Sync>(
+    rt: &Rt,
+    alloc: Global,
+    words: &SampleWords,
+) -> Result<Answer, NoMemory>
     ensures status { IfOk result (λ a. a.status ≡ Status.Done) }
     ensures summary { IfOk result (λ a. IsSummary words.now.seed words.now.nodes (sample_case words.now.seed words.now.nodes) no_notes a.text) }
 {
-    answer_sample(alloc, words.seed, words.nodes)
+    answer_sample(rt, alloc, words.seed, words.nodes)
 }
 
 /// The answer to words.
-fn answer_words<S: Shelf>(alloc: Global, words: &[String], shelf: &mut S) -> Result<Answer, Stop>
+fn answer_words<Rt: Threads + Wait + Sync, S: Shelf, G: Gate + Sync>(
+    rt: &Rt,
+    alloc: Global,
+    words: &[String],
+    shelf: &mut S,
+    gate: &G,
+) -> Result<Answer, Stop>
     ensures ends { HasCause (Ends words.now (S.files shelf.old)) result }
     ensures shelf { KeepsShelf S.files S.faults (IsErrOf result Stop.ReadFault) shelf.old shelf.new }
 {
     match command_of(words) {
-        Some(Command::Plan(files)) => plan_files(alloc, &files, shelf),
-        Some(Command::Session(four)) => session_files(alloc, &four, shelf),
+        Some(Command::Plan(files)) => plan_files(rt, alloc, &files, shelf, gate),
+        Some(Command::Session(four)) => session_files(rt, alloc, &four, shelf, gate),
         Some(Command::Check(four)) => check_files(alloc, &four, shelf),
-        Some(Command::Sample(words)) => Ok(sample_words(alloc, &words)?),
+        Some(Command::Sample(words)) => Ok(sample_words(rt, alloc, &words)?),
         None => Ok(bad_words(alloc)?),
     }
 }
 
 /// Carries out the command that the words give: reads its files from the shelf, and writes its text to the sink. Nothing is
 /// written where reading failed or memory ran out.
-pub fn run<Rt: Threads + Wait + Sync, S: Shelf, K: Sink, G: Gate>(
-    _rt: &Rt,
+pub fn run<Rt: Threads + Wait + Sync, S: Shelf, K: Sink, G: Gate + Sync>(
+    rt: &Rt,
     alloc: Global,
     words: &[String],
     shelf: &mut S,
     out: &mut K,
-    _gate: &G,
+    gate: &G,
 ) -> Status
     // What the run comes to has its cause in the words and the files, reading fails only where the shelf counts it, and the
     // text is written. The files stay as they are, and no count of faults falls.
@@ -105,7 +127,7 @@ pub fn run<Rt: Threads + Wait + Sync, S: Shelf, K: Sink, G: Gate>(
         × PutsText K.taken K.faults status text result out.old out.new }
     ensures later { K.faults out.old ≤ K.faults out.new }
 {
-    match answer_words(alloc, words, shelf) {
+    match answer_words(rt, alloc, words, shelf, gate) {
         Ok(answer) => say(out, answer.text.items(), answer.status),
         Err(Stop::Told(answer)) => say(out, answer.text.items(), answer.status),
         Err(Stop::ReadFault) => say(out, b"", Status::ReadFault),

@@ -13,11 +13,14 @@ use crate::answer::Answer;
 use crate::status::Status;
 use model_reader::single_links;
 use net_core::{Bytes, Copied, Demands, Instance, List, Network, NoMemory};
+use outside_io::OpenGate;
 use plan_types::{Outcome, Plan, Quality, Report};
 use sample_net::{network_text, sample};
 use session_run::{run_session, single_plan};
 use sndlib_reader::{ReadRefusal, read_network};
 use std::alloc::Global;
+use std::sync::Wait;
+use std::thread::Threads;
 use text_kit::write::{put_decimal, put_money_word};
 
 /// Puts words and a number last.
@@ -146,8 +149,13 @@ fn summarized(
     })
 }
 
-/// The summary of the plan of a sample, with each single-link failure.
-pub fn answer_sample(alloc: Global, seed: u64, nodes: u32) -> Result<Answer, NoMemory>
+/// The summary of the plan of a sample, with each single-link failure. Nobody is held: a sample has one caller. It may never return.
+pub fn answer_sample<R: Threads + Wait + Sync>(
+    rt: &R,
+    alloc: Global,
+    seed: u64,
+    nodes: u32,
+) -> Result<Answer, NoMemory>
     requires { (4 ≤ nodes) × (nodes ≤ 40) }
     ensures status { IfOk result (λ a. a.status ≡ Status.Done) }
     ensures summary { IfOk result (λ a. IsSummary seed nodes (sample_case seed nodes) no_notes a.text) }
@@ -155,7 +163,15 @@ pub fn answer_sample(alloc: Global, seed: u64, nodes: u32) -> Result<Answer, NoM
     let (net, demands) = read_back(alloc, seed, nodes)?;
     let states = single_links(alloc, &net)?;
     let script = single_plan(alloc)?;
-    let report = run_session(alloc, &net, &states, demands.copy()?, &script)?;
+    let report = run_session(
+        rt,
+        alloc,
+        &net,
+        &states,
+        demands.copy()?,
+        &script,
+        &OpenGate,
+    )?;
     let instance = Instance {
         net: &net,
         states: &states,

@@ -175,7 +175,7 @@ fn set_and_plan() -> &'static [u8] {
     b"?planner script; version: 1
 caller 1 set D1 24
 caller 1 plan
-caller 2 add D2 ( A X ) 1
+caller 1 add D2 ( A X ) 1
 "
 }
 
@@ -261,7 +261,7 @@ pub(crate) fn runs<R: AllocGlobal + Abort + Threads + Wait + Sync>(
     assert!(rt; have_different_names(files.items()));
     let mut shelf = MemShelf::new(files, List::from_slice(rt.alloc(), fetches)?);
     let failing = List::from_slice(rt.alloc(), puts)?;
-    let mut out = MemSink::new(rt.alloc(), 10000, failing)?;
+    let mut out = MemSink::new(rt.alloc(), 1000000, failing)?;
     let status = run(rt, rt.alloc(), &list, &mut shelf, &mut out, &OpenGate);
     let faults = (shelf.faults(), out.faults());
     Ok(Ended {

@@ -74,7 +74,7 @@ fn session_report() -> &'static str {
 NOTES ( )
 JOURNAL ( ( 1 caller 1 set D1 24.000 accepted 1 )
 ( 2 cut 0 )
-( 3 caller 2 add D2 ( A X )
+( 3 caller 1 add D2 ( A X )
 1.000 unknown-node )
 )
 POOL ( ( 0 state 0 right 24000 ( 1 1 1 )

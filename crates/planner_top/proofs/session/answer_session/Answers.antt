@@ -10,7 +10,7 @@ use Rattle.planner_top.proofs.Clauses.{both_ok}
 use Rattle.planner_top.proofs.session.answer_session.Goals as goal
 
 pub returns-clause-report : goal.returns-clause-report
-returns-clause-report c =
+returns-clause-report g c =
     let problem = c.args.problem in
     let p = case problem.net problem.states problem.demands in
     let notes = problem.net.notes in

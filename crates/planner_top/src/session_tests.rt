@@ -1,0 +1,66 @@
+use crate::status::Status;
+use crate::test_files::{all_files, put, runs};
+use net_core::{Bytes, List, Name, NoMemory};
+use outside_io::MemFile;
+use std::alloc::Global;
+use std::test::Fail;
+
+/// The words before a command, of each caller.
+fn callers() -> [&'static [u8]; 8] {
+    [
+        b"caller 1 ",
+        b"caller 2 ",
+        b"caller 3 ",
+        b"caller 4 ",
+        b"caller 5 ",
+        b"caller 6 ",
+        b"caller 7 ",
+        b"caller 8 ",
+    ]
+}
+
+/// Edits of the four towns' demands. Which of them are refused depends on those before.
+fn edits() -> [&'static [u8]; 7] {
+    [
+        b"set D1 24\n",
+        b"add D4 ( Bonn Ulm ) 7.25\n",
+        b"set D2 36.5\n",
+        b"drop D4\n",
+        b"add D4 ( Ulm Jena ) 0\n",
+        b"set D3 0.001\n",
+        b"set D4 12\n",
+    ]
+}
+
+/// A script of 1,000 commands of eight callers, 64 of which are plans.
+fn eight_callers(alloc: Global) -> Result<Bytes, NoMemory> {
+    let mut text = List::new(alloc);
+    text.append(b"?planner script; version: 1\n")?;
+    for i in 0..1000usize {
+        text.append(callers()[i % 8])?;
+        if i % 15 == 14 && i < 960 {
+            text.append(b"plan\n")?;
+        } else {
+            text.append(edits()[i % 7])?;
+        }
+    }
+    Ok(text)
+}
+
+#[test]
+fn a_report_of_eight_callers_is_accepted(rt: HostRuntime) -> Result<(), Fail> {
+    let alloc = rt.alloc();
+    let mut files = all_files(alloc)?;
+    let name = Name::new(alloc, b"eight")?;
+    let bytes = eight_callers(alloc)?;
+    put(&mut files, MemFile { name, bytes })?;
+    let session = runs(&rt, "session towns default single eight", files, &[], &[])?;
+    assert_eq!(rt; session.status, Status::Done);
+    let mut files = all_files(alloc)?;
+    let name = Name::new(alloc, b"report")?;
+    let bytes = List::from_slice(alloc, session.out.bytes())?;
+    put(&mut files, MemFile { name, bytes })?;
+    let checked = runs(&rt, "check towns default single report", files, &[], &[])?;
+    assert_eq!(rt; checked.out.bytes(), b"accepted 64\n".as_slice());
+    Ok(())
+}
