@@ -1,0 +1,100 @@
+-- the lists of the slack basis
+use Rattle.std.proofs.Common.{◌≡◌, ℕ, ℤ, zero, suc, List, Some, length, length-set, pos, get_or, slice_get, slice_set, replicate, ◌+◌, ◌-◌, ◌<◌, ◌^◌, sym, ap, ◌∙◌, subst, refl, arith, ⊎_elim}
+use Rattle.std.proofs.lemmas.Bool.{cases_eq, cases_lt}
+use Rattle.std.proofs.lemmas.Int.{ints}
+use Rattle.std.proofs.lemmas.List.{get_or-set_same, get_or-set_other}
+use Rattle.std.proofs.lemmas.Option.{get_or_from_slice_get}
+use Rattle.checked_fraction.specs.Rows.{num, IsNarrow}
+use Rattle.checked_fraction.specs.declared.row.Row.{Row}
+use Rattle.net_core.specs.Graphs.{Graph}
+use Rattle.net_core.specs.declared.columns.RouteColumn.TheVariants.{DemandSlack}
+use Rattle.route_law.specs.RoutingPrograms.{route_slack}
+use Rattle.simplex_law.specs.Sums.{unit_vector}
+use Rattle.simplex_law.proofs.Sums.{unit-same, unit-other}
+use Rattle.simplex_core.specs.Tables.{nums_of, den_of}
+use Rattle.simplex_core.specs.inner.Shapes.{AtEach, IsUnit}
+use Rattle.simplex_core.proofs.Starts.{each_at, zeros_num, zeros_length, num_past}
+use Rattle.key_paths.specs.inner.Bases.{IsStart}
+use Rattle.key_paths.specs.inner.Names.{name_at, IsNameWithin}
+use Rattle.key_paths.specs.declared.keyed.Keyed.{Keyed}
+use Rattle.key_paths.proofs.Starting.{first, second}
+
+unit_num : (m i k : ℕ) → i < m → num (slice_set (replicate m (pos 0)) i (pos 1)) k ≡ unit_vector i k
+unit_num m i k lt = ⊎_elim
+    (λ e. subst (λ j. num (slice_set (replicate m (pos 0)) i (pos 1)) j ≡ unit_vector i j) (sym e)
+    (get_or-set_same (replicate m (pos 0)) i (pos 1) (pos 0) (omega (arith, zeros_length m)) ∙ sym (unit-same i)))
+    (λ ne. get_or-set_other (replicate m (pos 0)) i k (pos 1) (pos 0) ne ∙ (zeros_num m k ∙ sym (unit-other i k (λ e. ne (sym e)))))
+    (cases_eq k i)
+
+same_length : (n x : ℕ) → length (replicate n x) ≡ n
+same_length zero x = refl
+same_length (suc n) x = omega (arith, same_length n x)
+
+same_at : (n x i : ℕ) → i < n → get_or (replicate n x) i 0 ≡ x
+same_at zero x i l = absurd (omega (arith, l))
+same_at (suc n) x zero l = refl
+same_at (suc n) x (suc i) l = same_at n x i (omega (arith, l))
+
+pub number_at : (f : ℕ → ℤ) (xs : List ℤ) (k : ℕ) → AtEach (λ i x. x ≡ f i) xs → k < length xs → num xs k ≡ f k
+number_at f xs k all l = let x = each_at (λ i x. x ≡ f i) xs k l all in get_or_from_slice_get xs k x.0 (pos 0) x.1 ∙ x.2
+
+zeros_narrow : (n k : ℕ) → IsNarrow (num (replicate n (pos 0)) k)
+zeros_narrow n k = subst IsNarrow (sym (zeros_num n k)) (omega (arith, ints))
+
+-- the parts make the slack basis
+pub start_of : (g : Graph) (demands : ℕ) (bound : ℕ → ℤ) (b : Keyed) → length g.links + demands < 2 ^ 32 → ((k : ℕ) → k < length g.links + demands → IsNarrow (bound k))
+    → length b.names ≡ length g.links + demands → AtEach (λ i name. name ≡ route_slack g i) b.names
+    → length b.places ≡ length g.links + demands → AtEach (λ i k. k ≡ i) b.places
+    → b.owners ≡ replicate (length g.links) demands → length b.rows ≡ length g.links → AtEach (IsUnit (length g.links)) b.rows
+    → b.prices.nums ≡ replicate (length g.links) (pos 0) → b.prices.den ≡ pos 1 → b.duals ≡ replicate demands (pos 0)
+    → length b.bounds ≡ length g.links + demands → AtEach (λ i x. x ≡ bound i) b.bounds
+    → length b.rest ≡ length g.links → AtEach (λ k x. x ≡ num b.bounds k) b.rest
+    → length b.values ≡ length g.links → AtEach (λ k x. pos x ≡ num b.bounds k) b.values → length b.products ≡ length g.links
+    → IsStart (length g.links) demands bound (route_slack g) b
+start_of g demands bound b short narrow count_names names count_places places owners count_rows rows prices den duals count_bounds bounds count_rest rest count_values values products =
+    let n = length g.links in
+    let row : (i : ℕ) → i < n → (r : Row) × (slice_get b.rows i ≡ Some r) × IsUnit n i r = λ i l. each_at (IsUnit n) b.rows i (omega (arith, count_rows, l)) rows in
+    let name : (j : ℕ) → j < n + demands → name_at b.names j ≡ route_slack g j = λ j l.
+    let x = each_at (λ i x. x ≡ route_slack g i) b.names j (omega (arith, count_names, l)) names in get_or_from_slice_get b.names j x.0 (DemandSlack 0) x.1 ∙ x.2 in
+    let place : (r : ℕ) → r < n + demands → get_or b.places r 0 ≡ r = λ r l.
+    let x = each_at (λ i k. k ≡ i) b.places r (omega (arith, count_places, l)) places in get_or_from_slice_get b.places r x.0 0 x.1 ∙ x.2 in
+    let at : (k : ℕ) → k < n + demands → num b.bounds k ≡ bound k = λ k l. number_at bound b.bounds k bounds (omega (arith, count_bounds, l)) in
+    record {
+      shaped = record {
+        names = count_names;
+        places = count_places;
+        owners = ap length owners ∙ same_length n demands;
+        rows = count_rows;
+        rectangle = λ i l. let r = row i (omega (arith, count_rows, l)) in
+            ap (λ o. length (nums_of o)) r.1 ∙ (ap length r.2.0 ∙ (length-set (replicate n (pos 0)) i (pos 1) ∙ zeros_length n));
+        prices = ap length prices ∙ zeros_length n;
+        duals = ap length duals ∙ zeros_length demands;
+        bounds = count_bounds;
+        rest = count_rest;
+        values = count_values;
+        products = products;
+        narrow_bounds = λ k. ⊎_elim
+            (λ l. subst IsNarrow (sym (at k l)) (narrow k l))
+            (λ ge. subst IsNarrow (sym (num_past b.bounds k (omega (arith, count_bounds, ge)))) (omega (arith, ints)))
+            (cases_lt k (n + demands));
+        narrow_duals = λ d. subst (λ xs. IsNarrow (num xs d)) (sym duals) (zeros_narrow demands d);
+        inside = λ r l. omega (arith, place r l, l);
+        within = λ j l. subst (IsNameWithin n) (sym (name j l)) (⊎_elim
+            (λ low. subst (IsNameWithin n) (sym (first g demands j low)) low)
+            (λ ge. let back : n + (j - n) ≡ j = omega (arith, ge) in subst (λ x. IsNameWithin n (route_slack g x)) back (subst (IsNameWithin n) (sym (second g demands (j - n))) tt))
+            (cases_lt j n));
+        short = short;
+      };
+      names = name;
+      places = place;
+      owners = λ i l. ap (λ xs. get_or xs i 0) owners ∙ same_at n demands i l;
+      units = λ i k li lk. let r = row i li in ap (λ o. num (nums_of o) k) r.1 ∙ (ap (λ xs. num xs k) r.2.0 ∙ unit_num n i k li);
+      ones = λ i l. let r = row i l in ap den_of r.1 ∙ r.2.1;
+      zeros = λ k l. ap (λ xs. num xs k) prices ∙ zeros_num n k;
+      one = den;
+      free = λ d l. ap (λ xs. num xs d) duals ∙ zeros_num demands d;
+      bounds = at;
+      rest = λ k l. number_at (num b.bounds) b.rest k rest (omega (arith, count_rest, l)) ∙ at k (omega (arith, l));
+      values = λ i l. let x = each_at (λ k x. pos x ≡ num b.bounds k) b.values i (omega (arith, count_values, l)) values in
+          ap pos (get_or_from_slice_get b.values i x.0 0 x.1) ∙ (x.2 ∙ at i (omega (arith, l)));
+    }

@@ -1,0 +1,63 @@
+use Rattle.std.proofs.Common.{◌≡◌, ◌≤ℤ◌, ◌^◌, ◌<◌, length, pos, unsigned_abs, to_z, of_z, slice_set, sym, subst, ap, ◌∙◌, arith}
+use Rattle.std.specs.Int.{w128}
+use Rattle.std.proofs.lemmas.Int.{ints}
+use Rattle.simplex_law.specs.Sums.{dot}
+use Rattle.simplex_core.specs.Tables.{nums_at}
+use Rattle.checked_fraction.specs.Rows.{num}
+use Rattle.key_paths.specs.inner.Names.{demand_in, key_links, left_uses}
+use Rattle.key_paths.proofs.Exchanging.{shaped, rest_less, value_high, value_less, next_entering}
+use Rattle.key_paths.proofs.Holding.{rest_low, shaped_here, has_key, key_short}
+use Rattle.key_paths.proofs.change_key.change_key.Goals as goal
+
+pub swap_roles-requires-clause-rest : goal.swap_roles-requires-clause-rest
+swap_roles-requires-clause-rest c = λ k. omega (arith, rest_low c.requires.enters.entering.held k)
+
+pub row_value-value-requires-clause-shaped : goal.row_value-value-requires-clause-shaped
+row_value-value-requires-clause-shaped c =
+    shaped_here (shaped c.args.i c.args.demand c.requires.enters.entering c.requires.inside c.requires.own c.swap_roles.new.keyed c.in_ok-swap_roles.ensures.swapped)
+
+pub row_value-value-requires-clause-rest : goal.row_value-value-requires-clause-rest
+row_value-value-requires-clause-rest c =
+    rest_less c.args.i c.args.demand c.requires.enters.entering c.requires.inside c.requires.own c.swap_roles.new.keyed c.in_ok-swap_roles.ensures.swapped
+
+pub row_value-value-requires-clause-high : goal.row_value-value-requires-clause-high
+row_value-value-requires-clause-high c =
+    let s = c.swap_roles.new.keyed in
+    subst (λ n. pos 0 ≤ℤ dot n (nums_at s.rows c.args.i) (num s.rest)) (sym c.in_ok-swap_roles.ensures.swapped.rows)
+    (value_high c.args.i c.args.demand c.requires.enters.entering c.requires.inside c.requires.own s c.in_ok-swap_roles.ensures.swapped)
+
+pub row_value-value-requires-clause-low : goal.row_value-value-requires-clause-low
+row_value-value-requires-clause-low c =
+    let s = c.swap_roles.new.keyed in
+    subst (λ n. unsigned_abs (dot n (nums_at s.rows c.args.i) (num s.rest)) < 2 ^ 124) (sym c.in_ok-swap_roles.ensures.swapped.rows)
+    (value_less c.args.i c.args.demand c.requires.enters.entering c.requires.inside c.requires.own s c.in_ok-swap_roles.ensures.swapped)
+
+pub row_product-product-requires-clause-shaped : goal.row_product-product-requires-clause-shaped
+row_product-product-requires-clause-shaped c =
+    shaped_here (shaped c.args.i c.args.demand c.requires.enters.entering c.requires.inside c.requires.own c.swap_roles.new.keyed c.in_ok-swap_roles.ensures.swapped)
+
+pub row_product-product-requires-clause-key : goal.row_product-product-requires-clause-key
+row_product-product-requires-clause-key c =
+    let e = c.requires.enters.entering in
+    let w = c.in_ok-swap_roles.ensures.swapped in
+    λ d is. has_key (shaped_here (shaped c.args.i c.args.demand e c.requires.inside c.requires.own c.swap_roles.new.keyed w)) d (omega (arith, e.sound.demand d is, ap length w.duals))
+
+pub row_product-product-requires-clause-short : goal.row_product-product-requires-clause-short
+row_product-product-requires-clause-short c =
+    let e = c.requires.enters.entering in
+    let w = c.in_ok-swap_roles.ensures.swapped in
+    key_short (shaped_here (shaped c.args.i c.args.demand e c.requires.inside c.requires.own c.swap_roles.new.keyed w)) (demand_in c.args.name.now) (λ d is. omega (arith, e.sound.demand d is, ap length w.duals))
+
+pub returns-clause-enters : goal.returns-clause-enters
+returns-clause-enters c =
+    let s = c.swap_roles.new.keyed in
+    let w = c.in_ok-swap_roles.ensures.swapped in
+    let i = c.args.i in
+    let product = c.row_product-product.result in
+    let back : to_z w128 (of_z w128 product) ≡ product = omega (arith, ints, c.row_product-product.type_inv) in
+    λ bound basis place role column e.
+    next_entering i c.args.demand e c.requires.inside c.requires.own s w c.set_value.new.values c.set_product.new.products c.row_value-value.result product
+    c.set_value.ensures
+    (c.set_product.ensures ∙ ap (λ x. slice_set s.products i x) back)
+    (c.row_value-value.ensures ∙ ap (λ n. dot n (nums_at s.rows i) (num s.rest)) w.rows)
+    (c.row_product-product.ensures.value ∙ ap (λ n. dot n (nums_at s.rows i) (left_uses c.args.name.now (key_links s.names s.places n (demand_in c.args.name.now)))) w.rows)

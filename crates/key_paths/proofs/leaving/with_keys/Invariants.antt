@@ -1,0 +1,14 @@
+use Rattle.std.specs.Option.{ForSome}
+use Rattle.std.proofs.Common.{length}
+use Rattle.key_paths.specs.inner.Bases.{IsRoom}
+use Rattle.key_paths.specs.inner.FirstRoles.{role_in, IsFirstOfRoles, IsTried}
+use Rattle.key_paths.specs.inner.KeyTests.{IsPlacedCandidate}
+use Rattle.key_paths.proofs.leaving.with_keys.Given as goal
+
+-- the first of the rows and of the keys that the rows so far touch
+abbrev pub invariant-loop-i : goal.invariant-loop-i
+invariant-loop-i l = record {
+  room : IsRoom (length l.keyed.rows) l.room;
+  placed : ForSome l.best (IsPlacedCandidate l.keyed l.name);
+  first : IsFirstOfRoles l.keyed l.name (IsTried l.keyed l.name l.i) (role_in l.best);
+}

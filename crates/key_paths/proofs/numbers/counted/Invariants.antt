@@ -1,0 +1,7 @@
+use Rattle.std.proofs.Common.{◌≡◌, length}
+use Rattle.simplex_core.specs.inner.Shapes.{AtEach}
+use Rattle.key_paths.proofs.numbers.counted.Given as goal
+
+-- the numbers so far
+abbrev pub invariant-loop-k : goal.invariant-loop-k
+invariant-loop-k l = (length l.numbers ≡ l.k) × AtEach (λ i k. k ≡ i) l.numbers

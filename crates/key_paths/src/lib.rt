@@ -1,0 +1,33 @@
+//! The greatest flow of a state's demands over all their paths, by a simplex method that keeps rows of links alone.
+//!
+//! A basis has a key for each demand: one of its paths, or its slack. Each other column stands as its difference
+//! from the key of its demand, so that the rows of demands need not be kept.
+#![tactic(auto)]
+
+mod carrier;
+mod change_key;
+mod collecting;
+mod entering;
+mod exchange;
+mod finish;
+mod key_row;
+mod keyed;
+mod keys;
+mod leaving;
+mod move_rest;
+mod numbers;
+mod order;
+mod path_sum;
+mod pricing;
+mod rest;
+mod solver;
+mod task;
+mod tie;
+mod turn_at_key;
+mod turn_key;
+mod turn_rows;
+mod turns;
+mod values;
+mod weights;
+
+pub use solver::solve_routes;

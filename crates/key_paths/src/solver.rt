@@ -1,0 +1,80 @@
+ghost use Rattle.std.specs.Prelude.{◌≡◌, ◌<◌, ◌+◌, ℕ, length};
+ghost use Rattle.checked_fraction.specs.Rows.{IsNarrow};
+ghost use Rattle.net_core.specs.Demands.{AreDemands};
+ghost use Rattle.net_core.specs.Views.{graph, graph_of};
+ghost use Rattle.route_law.specs.RoutingPrograms.{route_rows, route_bound, route_slack, IsCarrying};
+ghost use Rattle.simplex_core.specs.Programs.{IsSimplexAnswer};
+ghost use Rattle.key_paths.specs.inner.Bases.{IsRoom, IsStart};
+
+use crate::entering::enter;
+use crate::finish::finish;
+use crate::keyed::{Keyed, Room, room_of, slack_keyed};
+use crate::numbers::links_of;
+use crate::pricing::price;
+use crate::task::Task;
+use crate::turns::Turn;
+use net_core::{Caps, Demands, List, Network, RouteColumn, StateId, States, Surviving};
+use simplex_core::{Optimum, SimplexFault};
+use std::alloc::Global;
+
+/// An optimum of the program, or a basis on which a number is too wide, by turns from the slack basis on.
+fn solved(
+    alloc: Global,
+    task: &Task,
+    mut keyed: Keyed,
+    mut room: Room,
+) -> Result<Optimum<RouteColumn>, SimplexFault<RouteColumn>>
+    requires narrow { (k : ℕ) → k < route_rows (graph_of task.now.graph) task.now.demands.now → IsNarrow (route_bound (graph_of task.now.graph) task.now.demands.now task.now.caps.now k) }
+    requires start { IsStart (length task.now.graph.net.now.links) (length task.now.demands.now) (route_bound (graph_of task.now.graph) task.now.demands.now task.now.caps.now) (route_slack (graph_of task.now.graph)) keyed }
+    requires room { IsRoom (length keyed.rows) room }
+    ensures { IsSimplexAnswer (route_rows (graph_of task.now.graph) task.now.demands.now) (route_bound (graph_of task.now.graph) task.now.demands.now task.now.caps.now) (route_slack (graph_of task.now.graph)) (IsCarrying (graph_of task.now.graph) task.now.demands.now) result }
+{
+    let mut waiting = List::new(alloc);
+    loop {
+        let Some(name) = price(alloc, task, &keyed, &mut waiting)? else {
+            return finish(alloc, keyed);
+        };
+        match enter(&mut keyed, &mut room, name) {
+            Turn::Again => {}
+            Turn::Unbounded => unreachable!(),
+            Turn::Wide(kind) => {
+                return Err(SimplexFault::Wide {
+                    basis: keyed.names,
+                    kind,
+                });
+            }
+        }
+    }
+}
+
+/// An optimum of the program that routes the demands of a state within capacities, or a basis of it, reached by
+/// gaining steps, on which a number is too wide.
+///
+/// A basis keeps as many rows as there are links. A turn takes time that grows with the square of the count of links, and
+/// a search from each node where no path at hand gains.
+///
+/// The triangle AB, BC, AC with 10.00, 2.00 and 6.00 carries 8.00 of a demand of 12.00 from A to C. The prices of BC
+/// and AC are 1.
+pub fn solve_routes<'a>(
+    alloc: Global,
+    net: &'a Network,
+    states: &'a States,
+    state: StateId,
+    demands: &'a Demands,
+    caps: &'a Caps,
+) -> Result<Optimum<RouteColumn>, SimplexFault<RouteColumn>>
+    requires state { state.0 < length states.now.listed + 1 }
+    requires belong { AreDemands (length net.now.nodes) demands.now }
+    requires count { length caps.now.nums ≡ length net.now.links }
+    requires narrow { (k : ℕ) → k < route_rows (graph net.now states.now state.0) demands.now → IsNarrow (route_bound (graph net.now states.now state.0) demands.now caps.now k) }
+    ensures { IsSimplexAnswer (route_rows (graph net.now states.now state.0) demands.now) (route_bound (graph net.now states.now state.0) demands.now caps.now) (route_slack (graph net.now states.now state.0)) (IsCarrying (graph net.now states.now state.0) demands.now) result }
+{
+    let task = Task {
+        graph: Surviving { net, states, state },
+        demands,
+        caps,
+    };
+    let keyed = slack_keyed(alloc, &task)?;
+    let room = room_of(alloc, links_of(&task))?;
+    solved(alloc, &task, keyed, room)
+}

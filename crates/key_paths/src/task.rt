@@ -1,0 +1,14 @@
+ghost use Rattle.std.specs.Prelude.{◌≡◌, length};
+ghost use Rattle.net_core.specs.Demands.{AreDemands};
+
+use net_core::{Caps, Demands, Surviving};
+
+/// What is to be routed: demands within capacities, one for each link, in a surviving graph.
+#[derive(Clone, Copy)]
+pub(crate) struct Task<'a> {
+    pub(crate) graph: Surviving<'a>,
+    pub(crate) demands: &'a Demands,
+    pub(crate) caps: &'a Caps,
+    pub ghost belong: { AreDemands (length graph.net.now.nodes) demands.now },
+    pub ghost count: { length caps.now.nums ≡ length graph.net.now.links },
+}
