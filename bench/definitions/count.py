@@ -23,7 +23,7 @@ def imports(lines, prefix):
         if not line.startswith(prefix + "use Rattle."):
             continue
         path = line[len(prefix) + len("use Rattle."):]
-        if " as " in path:
+        if " as " in path and ".{" not in path:
             module, alias = path.split(" as ")
             aliases[alias.strip()] = module.strip()
         elif ".{" in path:
