@@ -141,7 +141,7 @@ fn a_check_tells_the_first_finding(rt: HostRuntime) -> Result<(), Fail> {
 /// tight it is.
 type Accepted = (&'static str, &'static str, &'static str, &'static str);
 
-fn accepted() -> [Accepted; 7] {
+fn accepted() -> [Accepted; 10] {
     [
         (
             "plan triangle reconfigure",
@@ -160,6 +160,24 @@ fn accepted() -> [Accepted; 7] {
             "check four default single report",
             "cost 16.000 bound 14.000 raw 40000 3 ",
             ")\ntight 3 ( 10000 10000 10000 10000 )\n",
+        ),
+        (
+            "plan free reconfigure",
+            "check free reconfigure default report",
+            "cost 0.000 bound 0.000 raw 0 1 ",
+            ")\ntight ",
+        ),
+        (
+            "plan bare-link reconfigure",
+            "check bare-link reconfigure default report",
+            "cost 30.000 bound 20.000 raw 18000 1 ",
+            ")\ntight 1 ( 6000 6000 6000 0 )\n",
+        ),
+        (
+            "plan large default single",
+            "check large default single report",
+            "cost 2.000 bound 1.000 raw 150 1 ",
+            ")\ntight 1 ( 50 50 50 )\n",
         ),
         (
             "plan towns reconfigure",

@@ -40,6 +40,33 @@ DEMANDS ( D1 ( A B ) 1 10.00 UNLIMITED )
 "
 }
 
+/// The triangle with modules that cost nothing.
+fn free_triangle() -> &'static [u8] {
+    b"?SNDlib native format; type: network; version: 1.0
+NODES ( A B C )
+LINKS ( AB ( A B ) 0 0 0 0 ( 10.00 0.00 ) BC ( B C ) 0 0 0 0 ( 10.00 0.00 ) AC ( A C ) 0 0 0 0 ( 10.00 0.00 ) )
+DEMANDS ( D1 ( A C ) 1 12.00 UNLIMITED )
+"
+}
+
+/// The triangle with a further link that has no module.
+fn triangle_and_a_bare_link() -> &'static [u8] {
+    b"?SNDlib native format; type: network; version: 1.0
+NODES ( A B C )
+LINKS ( AB ( A B ) 0 0 0 0 ( 10.00 5.00 ) BC ( B C ) 0 0 0 0 ( 10.00 5.00 ) AC ( A C ) 0 0 0 0 ( 10.00 5.00 ) XX ( A C ) 0 0 0 0 ( ) )
+DEMANDS ( D1 ( A C ) 1 12.00 UNLIMITED )
+"
+}
+
+/// Links of which two carry all, whichever fails, though a share is spread over three.
+fn large_modules() -> &'static [u8] {
+    b"?SNDlib native format; type: network; version: 1.0
+NODES ( A B )
+LINKS ( L1 ( A B ) 0 0 0 0 ( 100.00 1.00 ) L2 ( A B ) 0 0 0 0 ( 100.00 1.00 ) L3 ( A B ) 0 0 0 0 ( 100.00 1.00 ) )
+DEMANDS ( D1 ( A B ) 1 10.00 UNLIMITED )
+"
+}
+
 fn chain() -> &'static [u8] {
     b"?SNDlib native format; type: network; version: 1.0
 NODES ( A B C )
@@ -191,7 +218,7 @@ caller 9 plan
 }
 
 /// The name and the bytes of each file.
-fn files() -> [(&'static str, &'static [u8]); 19] {
+fn files() -> [(&'static str, &'static [u8]); 22] {
     [
         ("triangle", triangle()),
         ("empty", no_demands()),
@@ -201,6 +228,9 @@ fn files() -> [(&'static str, &'static [u8]); 19] {
         ("fixed", fixed_triangle()),
         ("parallel", parallel()),
         ("four", four_parallel()),
+        ("free", free_triangle()),
+        ("bare-link", triangle_and_a_bare_link()),
+        ("large", large_modules()),
         ("chain", chain()),
         ("idle", idle_chain()),
         ("bare", no_module()),
