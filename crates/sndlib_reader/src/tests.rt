@@ -74,7 +74,7 @@ fn headers_and_places(rt: HostRuntime) {
 }
 
 /// Files that are refused: what they begin with, what comes after it, and the first fault.
-fn refused() -> [(&'static [u8], &'static [u8], u64, ReadKind); 53] {
+fn refused() -> [(&'static [u8], &'static [u8], u64, ReadKind); 59] {
     [
         // Sections.
         (START, b"NODE()", 51, Section),
@@ -127,6 +127,12 @@ fn refused() -> [(&'static [u8], &'static [u8], u64, ReadKind); 53] {
         (DEMANDS, b"D(B B)", 95, SelfDemand),
         // Numbers.
         (LINK, b"+5", 73, NOT_A_NUMBER),
+        (LINK, b"1099511627.776", 73, TOO_LARGE),
+        (LINK, b"0 1099511627.776", 75, TOO_LARGE),
+        (LINK, b"0 0 1099511627.776", 77, TOO_LARGE),
+        (LINK, b"0 0 0 1099511627.776", 79, TOO_LARGE),
+        (LINK, b"0 0 0 0(1099511627.776", 81, TOO_LARGE),
+        (LINK, b"0 0 0 0(1 1099511627.776", 83, TOO_LARGE),
         (LINK, b"0 0 0 0(0.0 1)", 81, ZeroModule),
         (LINK, b"0.001 0 0 0()", 85, FixedLink),
         (
@@ -173,6 +179,20 @@ fn put_many(text: &mut Bytes, count: u32, tail: &[u8]) -> Option<()> {
         text.append(tail).ok()?;
     }
     Some(())
+}
+
+/// Whether the file is read that has so many items after this front, before this end.
+fn is_read_with_many(
+    alloc: Global,
+    front: &[u8],
+    count: u32,
+    tail: &[u8],
+    end: &[u8],
+) -> Option<bool> {
+    let mut text = with_header(alloc, front)?;
+    put_many(&mut text, count, tail)?;
+    text.append(end).ok()?;
+    Some(read_network(alloc, text.items()).is_ok())
 }
 
 /// The fault of a file that has so many items after this front, before this end.
@@ -225,6 +245,21 @@ fn counts(rt: HostRuntime) {
         assert_eq!(rt;
             fault_of_many(rt.alloc(), front, count, tail, end),
             Some((at, kind))
+        );
+    }
+}
+
+#[test]
+fn last_counts_are_read(rt: HostRuntime) {
+    let rows: [(&[u8], u32, &[u8], &[u8]); 3] = [
+        (b"NODES(", 128, b"", b")LINKS()DEMANDS()"),
+        (b"NODES(A B)LINKS(", 256, b"(A B)0 0 0 0()", b")DEMANDS()"),
+        (b"NODES(A B)LINKS()DEMANDS(", 2048, b"(A B)1 0 9", b")"),
+    ];
+    for (front, count, tail, end) in rows {
+        assert_eq!(rt;
+            is_read_with_many(rt.alloc(), front, count, tail, end),
+            Some(true)
         );
     }
 }
@@ -287,15 +322,71 @@ fn long_names(rt: HostRuntime) {
     );
 }
 
+/// Whether the file is read that has a name of 255 bytes after this front.
+fn is_read_with_long(alloc: Global, front: &[u8], end: &[u8]) -> Option<bool> {
+    let mut text = with_header(alloc, front)?;
+    text.append(List::filled(alloc, b'n', 255).ok()?.items())
+        .ok()?;
+    text.append(end).ok()?;
+    Some(read_network(alloc, text.items()).is_ok())
+}
+
+#[test]
+fn names_of_255_bytes_are_read(rt: HostRuntime) {
+    let rows: [(&[u8], &[u8]); 4] = [
+        (b"NODES(", b")LINKS()DEMANDS()"),
+        (b"NODES(A B)LINKS(", b"(A B)0 0 0 0())DEMANDS()"),
+        (b"NODES(A B)LINKS()DEMANDS(", b"(A B)1 1 9)"),
+        (
+            b"NODES(A B)LINKS(L(A B)0 0 0 0())DEMANDS(D(A B)1 1 9)ADMISSIBLE_PATHS(D(",
+            b"(L)))",
+        ),
+    ];
+    for (front, end) in rows {
+        assert_eq!(rt; is_read_with_long(rt.alloc(), front, end), Some(true));
+    }
+}
+
+#[test]
+fn a_section_of_opening_parentheses_ends_at_the_files_length(rt: HostRuntime) -> Result<(), Fail> {
+    let mut text = with_header(rt.alloc(), b"META").ok_or("memory")?;
+    text.append(List::filled(rt.alloc(), b'(', 1000000)?.items())?;
+    assert_eq!(rt;
+        fault_of(rt.alloc(), text.items()),
+        Some((1000055, ReadKind::Ended))
+    );
+    Ok(())
+}
+
+/// Whether a file is read or has a fault.
+fn is_read_whole(alloc: Global, text: &[u8]) -> Option<bool> {
+    match read_network(alloc, text) {
+        Ok(_) => Some(true),
+        Err(ReadRefusal::Bad { .. }) => Some(false),
+        Err(ReadRefusal::NoMemory) => None,
+    }
+}
+
+#[test]
+fn a_cut_file_is_read_behind_its_demands_and_outside_its_paths(rt: HostRuntime) {
+    for length in 0..=SMALL.len() {
+        let is_whole = length >= 761 && length <= 763 || length >= 815;
+        let is_read = is_read_whole(rt.alloc(), &SMALL[..length]);
+        assert_eq!(rt; (length, is_read), (length, Some(is_whole)));
+    }
+}
+
 #[test]
 fn reads_what_is_allowed(rt: HostRuntime) {
-    let bodies: [&[u8]; 6] = [
+    let bodies: [&[u8]; 8] = [
         b"NODES()LINKS()DEMANDS()",
         b"META()NODES()LINKS()DEMANDS()ADMISSIBLE_PATHS()",
         b"# ( ( (\nMETA((a)(b # )\n))NODES(A# B C)LINKS()DEMANDS()#",
         b"NODES(A# B(()META(NODES)))LINKS(B(A# B)0 0 0 0())DEMANDS(B(B A#)0 0 007)",
         b"NODES(A B)LINKS(L(A B)5 0 0 0(0.001 0))DEMANDS(D(A B)1 1 UNLIMITED)ADMISSIBLE_PATHS(D(P(L L)P(L))D(L(L)))",
         b"NODES(A B)LINKS()DEMANDS(D(A B)1.000 1099511627.775 9 E(A B)1099511627 0.001 9)",
+        b"NODES(A B)LINKS(L(A B)1099511627.775 1099511627.775 1099511627.775 1099511627.775(1099511627.775 1099511627.775))DEMANDS()",
+        b"NODES(A B)LINKS(L(A B)0 0 0 0(1 1 1 1 1 1 1 1 1 1 1 1 1 1 1 1 1 1 1 1 1 1 1 1 1 1 1 1 1 1 1 1))DEMANDS()",
     ];
     for body in bodies {
         assert_eq!(rt; is_read(rt.alloc(), body), Some(true));
