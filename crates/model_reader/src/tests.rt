@@ -117,37 +117,54 @@ fn failure_faults(rt: HostRuntime) {
     }
 }
 
-/// A list of 257 states of names of two letters.
-fn many(alloc: Global) -> Option<Bytes> {
+/// A list of so many states with names of two letters, and this end.
+fn many(alloc: Global, count: u32, end: &[u8]) -> Option<Bytes> {
     let mut text = List::new(alloc);
     text.append(b"FAILURES ( ").ok()?;
-    for i in 0..257u32 {
-        text.push(b'a' + (i / 16) as u8).ok()?;
+    for i in 0..count {
+        text.push(b'a' + (i / 16 % 26) as u8).ok()?;
         text.push(b'a' + (i % 16) as u8).ok()?;
         text.append(b" ( AB ) ").ok()?;
     }
-    text.append(b")").ok()?;
+    text.append(end).ok()?;
     Some(text)
 }
 
-/// A state's name of 256 bytes.
-fn long(alloc: Global) -> Option<Bytes> {
+/// A list of one state whose name has so many bytes.
+fn long(alloc: Global, count: usize) -> Option<Bytes> {
     let mut text = List::new(alloc);
     text.append(b"FAILURES ( ").ok()?;
-    for _ in 0..256u32 {
-        text.push(b'x').ok()?;
-    }
+    text.append(List::filled(alloc, b'x', count).ok()?.items())
+        .ok()?;
+    text.append(b" ( AB ) )").ok()?;
     Some(text)
+}
+
+/// How many states the failure file of this body has, for the triangle.
+fn states_of(alloc: Global, body: &[u8]) -> Option<u32> {
+    let net = triangle(alloc, 0).ok()?;
+    let text = joined(alloc, FAILURES, body)?;
+    Some(read_failures(alloc, &net, text.items()).ok()?.count())
 }
 
 #[test]
 fn limits(rt: HostRuntime) -> Result<(), Fail> {
-    let many = many(rt.alloc()).ok_or("memory")?;
-    assert_eq!(rt;
-        failures_fault(rt.alloc(), many.items()),
-        Some((2_601, FailuresKind::LimitStates))
-    );
-    let long = long(rt.alloc()).ok_or("memory")?;
+    let last = many(rt.alloc(), 256, b")").ok_or("memory")?;
+    assert_eq!(rt; states_of(rt.alloc(), last.items()), Some(257));
+    let rows: [(u32, &[u8], FailuresKind); 2] = [
+        (257, b")", FailuresKind::LimitStates),
+        (256, b"aa ( AB ) )", FailuresKind::DoubleState),
+    ];
+    for (count, end, kind) in rows {
+        let many = many(rt.alloc(), count, end).ok_or("memory")?;
+        assert_eq!(rt;
+            failures_fault(rt.alloc(), many.items()),
+            Some((2_601, kind))
+        );
+    }
+    let last = long(rt.alloc(), 255).ok_or("memory")?;
+    assert_eq!(rt; states_of(rt.alloc(), last.items()), Some(2));
+    let long = long(rt.alloc(), 256).ok_or("memory")?;
     assert_eq!(rt;
         failures_fault(rt.alloc(), long.items()),
         Some((41, FailuresKind::LimitName))

@@ -86,7 +86,7 @@ fn each_command(rt: HostRuntime) -> Result<(), Fail> {
 
 #[test]
 fn first_faults(rt: HostRuntime) {
-    let rows: [(&[u8], u64, &str); 24] = [
+    let rows: [(&[u8], u64, &str); 25] = [
         (b"(", 28, "token"),
         (b"plan", 28, "token"),
         (b"caller", 34, "ended"),
@@ -108,6 +108,11 @@ fn first_faults(rt: HostRuntime) {
         (b"caller 1 set D1 1,5", 44, "number-not"),
         (b"caller 1 set D1 1.0001", 44, "number-fine"),
         (b"caller 1 set D1 1099511627.776", 44, "number-large"),
+        (
+            b"caller 1 add D4 ( A C ) 1099511627.776",
+            52,
+            "number-large",
+        ),
         (b"caller 1 add D4 A C 1", 44, "token"),
         (b"caller 1 add D4 ( A ) 1", 48, "token"),
         (b"caller 1 add D4 ( A C 1", 50, "token"),
@@ -163,8 +168,43 @@ fn limits(rt: HostRuntime) -> Result<(), Fail> {
         let body = repeated(rt.alloc(), piece, times, last).ok_or("memory")?;
         assert_eq!(rt; fault(rt.alloc(), body.items()), Some((at, word)));
     }
-    let name = repeated(rt.alloc(), b"x", 256, b"").ok_or("memory")?;
-    let set = repeated(rt.alloc(), b"caller 1 set ", 1, name.items()).ok_or("memory")?;
-    assert_eq!(rt; fault(rt.alloc(), set.items()), Some((41, "limit-name")));
     Ok(())
+}
+
+/// A body with a name of so many bytes after this front.
+fn with_long_name(alloc: Global, front: &[u8], length: usize, end: &[u8]) -> Option<Bytes> {
+    let mut text = List::from_slice(alloc, front).ok()?;
+    text.append(List::filled(alloc, b'x', length).ok()?.items())
+        .ok()?;
+    text.append(end).ok()?;
+    Some(text)
+}
+
+#[test]
+fn long_names(rt: HostRuntime) -> Result<(), Fail> {
+    let rows: [(&[u8], &[u8], u64); 5] = [
+        (b"caller 1 set ", b" 1", 41),
+        (b"caller 1 add ", b" ( A B ) 1", 41),
+        (b"caller 1 add D ( ", b" B ) 1", 45),
+        (b"caller 1 add D ( A ", b" ) 1", 47),
+        (b"caller 1 drop ", b"", 42),
+    ];
+    for (front, end, at) in rows {
+        let last = with_long_name(rt.alloc(), front, 255, end).ok_or("memory")?;
+        assert_eq!(rt; count(rt.alloc(), last.items()), Some(1));
+        let long = with_long_name(rt.alloc(), front, 256, end).ok_or("memory")?;
+        assert_eq!(rt; fault(rt.alloc(), long.items()), Some((at, "limit-name")));
+    }
+    Ok(())
+}
+
+#[test]
+fn greatest_amounts_are_read(rt: HostRuntime) {
+    let rows: [&[u8]; 2] = [
+        b"caller 1 set D1 1099511627.775",
+        b"caller 8 add D4 ( A C ) 1099511627.775",
+    ];
+    for body in rows {
+        assert_eq!(rt; count(rt.alloc(), body), Some(1));
+    }
 }
