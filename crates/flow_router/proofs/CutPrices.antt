@@ -19,11 +19,13 @@ use Rattle.route_law.specs.RouteEvidence.{IsRouteEvidence}
 use Rattle.route_law.specs.Routings.{AreJoined}
 use Rattle.route_law.proofs.SomePrices.{some_price}
 use Rattle.flow_router.specs.declared.task.Task.{Task}
-use Rattle.flow_router.specs.inner.Carriers.{AreLinkCosts}
 use Rattle.flow_router.specs.inner.Flowing.{LeavesNeed}
-use Rattle.flow_router.specs.inner.Lengths.{each_over}
+use Rattle.flow_router.specs.inner.Lengths.{AreLinkCosts, each_over}
 use Rattle.flow_router.specs.inner.Solutions.{ArePricesBelow, IsSolution}
 use Rattle.flow_router.proofs.Answering.{optimum_below}
+
+pub link_costs : (n m : ℕ) (nums others : List ℤ) (prices : List ℕ) → n ≡ m → others ≡ nums → AreLinkCosts n (num others) prices → AreLinkCosts m (num nums) prices
+link_costs n m nums others prices count same costs = subst (λ x. AreLinkCosts x (num nums) prices) count (subst (λ xs. AreLinkCosts n (num xs) prices) same costs)
 
 positive : (n : ℕ) → n ≢ 0 → 0 < n
 positive zero ne = absurd (ne refl)

@@ -4,11 +4,11 @@ use Rattle.std.specs.Int.{IsGcd, ◌∣◌}
 use Rattle.std.proofs.lemmas.List.{get_or-set_other, length-set, take_more, take_more_set}
 use Rattle.std.proofs.lemmas.Nat.Gcd.{dvd_trans}
 use Rattle.std.proofs.Math.Nat.{div-mul_cancel, mul-dvd-mul_left, dvd_of_mul-dvd-mul_left, eq-one_of_dvd-one}
+use Rattle.std.proofs.lemmas.List.Elements.{All-push}
 use Rattle.checked_fraction.proofs.Divisors.{positive_divisor}
 use Rattle.net_core.specs.declared.plan.Flow.{Flow}
 use Rattle.route_law.specs.Routings.{flow_times}
 use Rattle.flow_router.specs.inner.Lowest.{IsCommonDivisor, IsInLowest}
-use Rattle.flow_router.proofs.Offering.{all_push}
 
 all_cons : {X : Type 0} (P : X → Type 0) (x : X) (xs : List X) → P x → All P xs → All P (x ∷ xs)
 all_cons P x xs first all zero d lt = first
@@ -28,7 +28,7 @@ common_more den flows n g h d lt c gcd =
     record {
       positive = positive_divisor h g c.positive gcd.0;
       of_den = dvd_trans h gcd.0 c.of_den;
-      of_nums = subst (All (λ f. h ∣ f.num)) (sym more) (all_push (λ f. h ∣ f.num) (take n flows) (get_or flows n d) (λ k e l. dvd_trans h gcd.0 (c.of_nums k e l)) gcd.1);
+      of_nums = subst (All (λ f. h ∣ f.num)) (sym more) (All-push (λ f. h ∣ f.num) (take n flows) (get_or flows n d) (λ k e l. dvd_trans h gcd.0 (c.of_nums k e l)) gcd.1);
       greatest = λ x of_den all.
           let parts = all_parts (λ f. x ∣ f.num) (take n flows) (get_or flows n d) (subst (All (λ f. x ∣ f.num)) more all) in
           gcd.2 x (c.greatest x of_den parts.0) parts.1;

@@ -1,5 +1,6 @@
 -- the flows of a basis that is given by its names and values
 use Rattle.std.proofs.Common.{◌≡◌, ℕ, suc, ◌+◌, ◌<◌, ◌++◌, List, [], ◌∷◌, Option, None, Some, MatchOption, get_or, length, length-append, slice_get, ⊎_elim, sym, ap, ◌∙◌, subst, arith}
+use Rattle.std.proofs.lemmas.List.Elements.{All-push}
 use Rattle.net_core.specs.declared.columns.RouteColumn.{RouteColumn}
 use Rattle.net_core.specs.declared.plan.Flow.{Flow}
 use Rattle.simplex_law.specs.Programs.{ColumnOf}
@@ -7,7 +8,6 @@ use Rattle.simplex_law.specs.Bases.{AreNames}
 use Rattle.route_law.specs.BasisFlows.{is_of_demand, runs_over, AreFlowsOf}
 use Rattle.route_law.proofs.Pushed.{flows_none, flows_pass, flows_push, flows_slack}
 use Rattle.flow_router.specs.inner.Flowing.{AreBasisFlows, IsBasisFlow, IsFlowOfColumn}
-use Rattle.flow_router.proofs.Offering.{all_push}
 
 pub basis_flows_none : (names : List RouteColumn) (values : List ℕ) → AreBasisFlows names values 0 []
 basis_flows_none names values = record {
@@ -42,7 +42,7 @@ pub basis_flows_push : (names : List RouteColumn) (values : List ℕ) (n v : ℕ
     → IsFlowOfColumn name v (Some f) → AreBasisFlows names values n flows → AreBasisFlows names values (n + 1) (flows ++ f ∷ [])
 basis_flows_push names values n v name flows f lt at is flow sofar = record {
   few = omega (arith, sofar.few, length-append flows (f ∷ []));
-  each = all_push (IsBasisFlow names values) flows f sofar.each (record { place = n; at = at ∙ ap Some flow.1; positive = omega (arith, flow.0, flow.2); num = flow.2 ∙ is });
+  each = All-push (IsBasisFlow names values) flows f sofar.each (record { place = n; at = at ∙ ap Some flow.1; positive = omega (arith, flow.0, flow.2); num = flow.2 ∙ is });
   sums = λ basis named. subst (λ k. AreFlowsOf k basis (λ j. get_or values j 0) (flows ++ f ∷ [])) next (flows_push basis (λ j. get_or values j 0) n flows f (flow.2 ∙ is)
       (λ k. ap (λ x. is_of_demand x k) (name_at names basis n name lt named at ∙ flow.1))
       (λ e. ap (λ x. runs_over x e) (name_at names basis n name lt named at ∙ flow.1))

@@ -11,15 +11,11 @@
 #![tactic(auto)]
 
 mod answer;
-mod carrier;
-mod collecting;
-mod columns;
 mod cutting;
 mod flows;
 mod lowest;
 mod numbers;
 mod prices;
-mod program;
 mod route;
 mod task;
 

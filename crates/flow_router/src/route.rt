@@ -16,15 +16,15 @@ use crate::flows::{basis_flows, leaves_need};
 use crate::lowest::lowest;
 use crate::numbers::{slack_names, slack_of, wide_row};
 use crate::prices::link_prices;
-use crate::program::RouteProgram;
 use crate::task::Task;
 use greedy_router::greedy;
+use key_paths::solve_routes;
 use metric_cut::{Cut, CutFault};
 use net_core::{
     Caps, Copied, Demands, Evidence, Lengths, List, Network, NoMemory, RouteColumn, Routing,
     StateId, States, Surviving, WideKind,
 };
-use simplex_core::{Optimum, SimplexFault, solve};
+use simplex_core::{Optimum, SimplexFault};
 use std::alloc::Global;
 
 /// The answer that a number of a basis is too wide.
@@ -115,12 +115,15 @@ fn solved(alloc: Global, task: &Task) -> Result<RouteAnswer, NoMemory>
     requires joined { AreJoined (graph_of task.now.graph) task.now.demands.now }
     ensures { IfOk result (IsRouteAnswer (graph_of task.now.graph) task.now.demands.now task.now.caps.now) }
 {
-    let mut program = RouteProgram {
+    let graph = &task.graph;
+    match solve_routes(
         alloc,
-        task: *task,
-        waiting: List::new(alloc),
-    };
-    match solve(alloc, &mut program) {
+        graph.net,
+        graph.states,
+        graph.state,
+        task.demands,
+        task.caps,
+    ) {
         Ok(best) => answer_of(alloc, task, best),
         Err(SimplexFault::Wide { basis, kind }) => wide(task, basis, kind),
         Err(SimplexFault::NoMemory) => Err(NoMemory),

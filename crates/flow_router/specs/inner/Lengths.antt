@@ -1,7 +1,12 @@
--- prices over a common divisor
-use Rattle.std.specs.Prelude.{◌≡◌, ℕ, ◌/◌, ◌^◌, ◌≤◌, ◌<◌, List, length, map, slice_index}
+-- prices, and the same over a common divisor
+use Rattle.std.specs.Prelude.{◌≡◌, ℕ, ℤ, ◌/◌, ◌^◌, ◌≤◌, ◌<◌, List, length, map, pos, slice_index}
 use Rattle.flow_router.specs.declared.cutting.LinkLengths.{LinkLengths}
 use Rattle.flow_router.specs.declared.cutting.LinkLengths.TheVariants.{Fit, Long}
+
+-- the prices are the first n duals, none of which is negative
+pub record AreLinkCosts (n : ℕ) (duals : ℕ → ℤ) (prices : List ℕ) : Type 0 where
+  pub count : length prices ≡ n
+  pub same : (e : ℕ) → e < n → duals e ≡ pos (slice_index prices e)
 
 -- each number over the divisor
 abbrev pub each_over : ℕ → List ℕ → List ℕ

@@ -1,5 +1,5 @@
 use Rattle.checked_fraction.specs.Rows.{num}
-use Rattle.flow_router.specs.inner.Carriers.{AreLinkCosts}
+use Rattle.flow_router.specs.inner.Lengths.{AreLinkCosts}
 use Rattle.flow_router.proofs.prices.link_prices.Given as goal
 
 -- the prices so far

@@ -1,7 +1,6 @@
 use Rattle.std.proofs.Common.{ap, length, subst, ◌∙◌}
 use Rattle.plan_terms.specs.Bounds.{IsGreatestDivisor}
-use Rattle.flow_router.proofs.CutPrices.{price_long, prices_below, prices_some}
-use Rattle.flow_router.proofs.Gaining.{link_costs}
+use Rattle.flow_router.proofs.CutPrices.{link_costs, price_long, prices_below, prices_some}
 use Rattle.flow_router.proofs.route.violated.Goals as goal
 
 pub unreachable-requires : goal.unreachable-requires
