@@ -5,6 +5,7 @@
 mod checked_fraction;
 mod flow_router;
 mod greedy_router;
+mod key_paths;
 mod net_core;
 mod short_paths;
 mod simplex_core;
@@ -18,7 +19,7 @@ mod metric_cut {
 
 /// What run.sh has the crates count.
 pub mod counts {
-    use crate::net_core::LinkId;
+    use crate::net_core::RouteColumn;
     use std::cell::RefCell;
 
     #[derive(Default)]
@@ -33,16 +34,17 @@ pub mod counts {
         pub static COUNTS: RefCell<Counts> = RefCell::default();
     }
 
-    pub fn turn() {
-        COUNTS.with_borrow_mut(|c| c.turns += 1);
+    pub fn turn(name: &RouteColumn) {
+        COUNTS.with_borrow_mut(|c| {
+            c.turns += 1;
+            if let RouteColumn::Carry(demand, path) = name {
+                c.columns.push((*demand, path.items().iter().map(|e| e.0).collect()));
+            }
+        });
     }
 
     pub fn search() {
         COUNTS.with_borrow_mut(|c| c.searches += 1);
-    }
-
-    pub fn column(demand: u32, path: &[LinkId]) {
-        COUNTS.with_borrow_mut(|c| c.columns.push((demand, path.iter().map(|e| e.0).collect())));
     }
 }
 

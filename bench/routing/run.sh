@@ -5,7 +5,7 @@ set -eu
 cd "$(dirname "$0")/../.."
 room=$(mktemp -d)
 trap 'rm -r "$room"' EXIT
-python3 bench/plain/plain.py "$room" checked_fraction simplex_core short_paths metric_cut greedy_router flow_router
+python3 bench/plain/plain.py "$room" checked_fraction simplex_core short_paths key_paths metric_cut greedy_router flow_router
 cp bench/routing/main.rs bench/routing/net_core.rs "$room"
 grep -lE '\bVec\b' "$room"/*/*.rs | xargs sed -i '1i use crate::net_core::Vec;'
 # Each search, each turn and each column that enters is counted.
@@ -14,10 +14,9 @@ count() {
   sed -i "/$2/,/^ *{/s/^\( *\){/&\n\1    crate::counts::$3;/" "$room/$1"
 }
 count short_paths/dijkstra.rs 'pub fn run(' 'search()'
-count simplex_core/solver.rs 'fn enter<N>' 'turn()'
-count flow_router/columns.rs 'fn column_of' 'column(c.demand, c.path.items())'
+count key_paths/entering.rs 'pub(crate) fn enter(' 'turn(\&name)'
 rustc -O --edition 2024 -o "$room/routing" "$room/main.rs"
-for nodes in 12 20 30; do
+for nodes in 12 20 30 40; do
   python3 bench/sample/sample.py 1 "$nodes" >"$room/network"
   "$room/routing" "$room/network" "$room"
   python3 bench/routing/exact.py "$room" "$room/$nodes"-*.lp

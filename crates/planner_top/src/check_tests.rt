@@ -245,6 +245,17 @@ quality tight
 "
 }
 
+/// The summary of the sample of 12 nodes that is drawn from 7.
+fn sample_of_12_nodes() -> &'static str {
+    "sample 7 12
+nodes 12 links 18 demands 66 states 19
+cost 2166.000
+bound 1289.000
+raw 12420570700 9641
+quality tight
+"
+}
+
 /// Words of a sample, and the end of its summary: the least cost of fractional modules, rounded up and as it is.
 fn tight_samples() -> [(&'static str, &'static str); 10] {
     [
@@ -293,10 +304,14 @@ fn tight_samples() -> [(&'static str, &'static str); 10] {
 
 #[test]
 fn a_sample_is_planned(rt: HostRuntime) -> Result<(), Fail> {
-    for words in ["sample 7 8", "sample 007 08"] {
+    for (words, summary) in [
+        ("sample 7 8", sample_of_8_nodes()),
+        ("sample 007 08", sample_of_8_nodes()),
+        ("sample 7 12", sample_of_12_nodes()),
+    ] {
         let ended = runs(&rt, words, List::new(rt.alloc()), &[0], &[])?;
         assert_eq!(rt; (ended.status, ended.faults), (Status::Done, (0, 0)));
-        assert_eq!(rt; ended.out.bytes(), sample_of_8_nodes().as_bytes());
+        assert_eq!(rt; ended.out.bytes(), summary.as_bytes());
     }
     for (words, end) in tight_samples() {
         let ended = runs(&rt, words, List::new(rt.alloc()), &[], &[])?;
