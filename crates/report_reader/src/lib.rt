@@ -15,4 +15,6 @@ pub use reader::read_report;
 pub use report_words::fault::{ReportKind, ReportRefusal};
 
 #[cfg(test)]
+mod limit_tests;
+#[cfg(test)]
 mod tests;
