@@ -31,3 +31,6 @@ mod values;
 mod weights;
 
 pub use solver::solve_routes;
+
+#[cfg(test)]
+mod tests;

@@ -42,7 +42,7 @@ fn need_over(d: &Demand, scale: u64) -> u128
 }
 
 /// The bound of a row: the number of a link, or what a demand needs over the scale.
-fn bound_of(task: &Task, row: u32) -> u128
+pub(crate) fn bound_of(task: &Task, row: u32) -> u128
     requires { row < route_rows (graph_of task.now.graph) task.now.demands.now }
     ensures { route_bound (graph_of task.now.graph) task.now.demands.now task.now.caps.now row ≡ pos result }
 {
