@@ -8,5 +8,4 @@ pub mod MixedSums
 pub mod Places
 pub mod SharesKept
 pub mod Telling
-pub mod Walks
 pub mod Worths

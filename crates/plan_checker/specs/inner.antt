@@ -3,4 +3,3 @@ pub mod Lines
 pub mod Mixed
 pub mod Routes
 pub mod Tests
-pub mod Walks

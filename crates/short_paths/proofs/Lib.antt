@@ -8,3 +8,4 @@ pub mod Relaxing
 pub mod Settling
 pub mod Tables
 pub mod TightLinks
+pub mod Walks

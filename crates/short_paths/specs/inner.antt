@@ -3,3 +3,4 @@ pub mod Pairs
 pub mod Scales
 pub mod Tables
 pub mod TightLinks
+pub mod Walks

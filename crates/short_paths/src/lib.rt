@@ -10,6 +10,7 @@ mod pairs;
 mod priced_paths;
 mod single_source;
 mod tight_links;
+mod walk;
 
 pub use cheapest_paths::CheapestPaths;
 pub use distance_table::DistanceTable;
@@ -18,6 +19,7 @@ pub use pairs::all_pairs;
 pub use priced_paths::{PricedPath, priced_path, total_of};
 pub use single_source::distances;
 pub use tight_links::PathFault;
+pub use walk::is_path;
 
 #[cfg(test)]
 mod tests;

@@ -5,9 +5,9 @@ use Rattle.net_core.specs.Graphs.{Joins}
 use Rattle.net_core.specs.Views.{graph_of}
 use Rattle.net_core.specs.declared.ids.LinkId.{LinkId}
 use Rattle.plan_terms.proofs.Joining.{joins_inside}
-use Rattle.plan_checker.specs.inner.Walks.{IsUnseenPath}
-use Rattle.plan_checker.proofs.Walks.{walk_off, walk_on, walk_stops}
-use Rattle.plan_checker.proofs.paths.leads_unseen.Goals as goal
+use Rattle.short_paths.specs.inner.Walks.{IsUnseenPath}
+use Rattle.short_paths.proofs.Walks.{walk_off, walk_on, walk_stops}
+use Rattle.short_paths.proofs.walk.leads_unseen.Goals as goal
 
 abbrev first_link : LinkId
 first_link = record { 0 = 0 }

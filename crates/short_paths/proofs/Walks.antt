@@ -9,7 +9,7 @@ use Rattle.net_core.specs.Graphs.{Graph, HasEnds, Joins, Survives}
 use Rattle.net_core.specs.Network.{IsNetwork}
 use Rattle.plan_terms.specs.Paths.{IsPath, Leads}
 use Rattle.plan_terms.proofs.Joining.{joins_from, joins_inside, joins_one}
-use Rattle.plan_checker.specs.inner.Walks.{IsUnseen, IsUnseenPath, far_end}
+use Rattle.short_paths.specs.inner.Walks.{IsUnseen, IsUnseenPath, far_end}
 
 some_by : (b : Bool) (y : NodeId) (o : Option NodeId) (P : NodeId → Type 0) → (b ≡ true → P y) → IfSome o P → IfSome (cond b (Some y) o) P
 some_by true y o P here rest = here refl

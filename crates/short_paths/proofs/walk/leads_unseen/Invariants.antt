@@ -1,8 +1,8 @@
 use Rattle.std.proofs.Common.{◌≡◌, ◌↔◌, drop, length}
 use Rattle.net_core.specs.Graphs.{Joins}
 use Rattle.net_core.specs.Views.{graph_of}
-use Rattle.plan_checker.specs.inner.Walks.{IsUnseenPath}
-use Rattle.plan_checker.proofs.paths.leads_unseen.Given as goal
+use Rattle.short_paths.specs.inner.Walks.{IsUnseenPath}
+use Rattle.short_paths.proofs.walk.leads_unseen.Given as goal
 
 -- the rest of the links leads on from here exactly where all of them do from the start
 abbrev pub invariant-loop-e : goal.invariant-loop-e

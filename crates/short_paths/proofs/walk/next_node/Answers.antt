@@ -1,7 +1,7 @@
 use Rattle.std.proofs.Common.{◌≡◌, ◌∙◌, get_or, refl, subst}
 use Rattle.net_core.specs.Views.{graph_of}
-use Rattle.plan_checker.proofs.Walks.{far_joins}
-use Rattle.plan_checker.proofs.paths.next_node.Goals as goal
+use Rattle.short_paths.proofs.Walks.{far_joins}
+use Rattle.short_paths.proofs.walk.next_node.Goals as goal
 
 pub returns-clause-some : goal.returns-clause-some
 returns-clause-some c =

@@ -1,7 +1,7 @@
 use Rattle.std.proofs.Common.{arith}
 use Rattle.net_core.specs.Views.{graph_of}
-use Rattle.plan_checker.proofs.Walks.{unseen_paths}
-use Rattle.plan_checker.proofs.paths.is_path.Goals as goal
+use Rattle.short_paths.proofs.Walks.{unseen_paths}
+use Rattle.short_paths.proofs.walk.is_path.Goals as goal
 
 pub returns : goal.returns
 returns c =
