@@ -13,6 +13,7 @@ mod finish;
 mod key_row;
 mod keyed;
 mod keys;
+mod known;
 mod leaving;
 mod move_rest;
 mod numbers;
@@ -30,7 +31,7 @@ mod turns;
 mod values;
 mod weights;
 
-pub use solver::solve_routes;
+pub use solver::{solve_routes, solve_routes_from};
 
 #[cfg(test)]
 mod tests;

@@ -1,14 +1,17 @@
-ghost use Rattle.std.specs.Prelude.{◌≡◌, ◌<◌, ◌+◌, ℕ, length};
+ghost use Rattle.std.specs.Prelude.{◌≡◌, ◌<◌, ◌+◌, ℕ, All, length};
 ghost use Rattle.checked_fraction.specs.Rows.{IsNarrow};
 ghost use Rattle.net_core.specs.Demands.{AreDemands};
 ghost use Rattle.net_core.specs.Views.{graph, graph_of};
 ghost use Rattle.route_law.specs.RoutingPrograms.{route_rows, route_bound, route_slack, IsCarrying};
 ghost use Rattle.simplex_core.specs.Programs.{IsSimplexAnswer};
 ghost use Rattle.key_paths.specs.inner.Bases.{IsRoom, IsStart};
+ghost use Rattle.key_paths.specs.inner.Gaining.{IsCarrier};
 
+use crate::carrier::Carrier;
 use crate::entering::enter;
 use crate::finish::finish;
 use crate::keyed::{Keyed, Room, room_of, slack_keyed};
+use crate::known::known_carriers;
 use crate::numbers::links_of;
 use crate::pricing::price;
 use crate::task::Task;
@@ -23,13 +26,14 @@ fn solved(
     task: &Task,
     mut keyed: Keyed,
     mut room: Room,
+    mut waiting: List<Carrier>,
 ) -> Result<Optimum<RouteColumn>, SimplexFault<RouteColumn>>
     requires narrow { (k : ℕ) → k < route_rows (graph_of task.now.graph) task.now.demands.now → IsNarrow (route_bound (graph_of task.now.graph) task.now.demands.now task.now.caps.now k) }
     requires start { IsStart (length task.now.graph.net.now.links) (length task.now.demands.now) (route_bound (graph_of task.now.graph) task.now.demands.now task.now.caps.now) (route_slack (graph_of task.now.graph)) keyed }
     requires room { IsRoom (length keyed.rows) room }
+    requires waiting { All (IsCarrier (graph_of task.now.graph) task.now.demands.now) waiting }
     ensures { IsSimplexAnswer (route_rows (graph_of task.now.graph) task.now.demands.now) (route_bound (graph_of task.now.graph) task.now.demands.now task.now.caps.now) (route_slack (graph_of task.now.graph)) (IsCarrying (graph_of task.now.graph) task.now.demands.now) result }
 {
-    let mut waiting = List::new(alloc);
     loop {
         let Some(name) = price(alloc, task, &keyed, &mut waiting)? else {
             return finish(alloc, keyed);
@@ -45,6 +49,34 @@ fn solved(
             }
         }
     }
+}
+
+/// The same as `solve_routes`, with paths at hand: those of `known` that are paths of the demands in this state enter first, as
+/// long as they gain. The columns of an optimum at other capacities save most of the searches. Any other column is passed over.
+pub fn solve_routes_from<'a>(
+    alloc: Global,
+    net: &'a Network,
+    states: &'a States,
+    state: StateId,
+    demands: &'a Demands,
+    caps: &'a Caps,
+    known: &[RouteColumn],
+) -> Result<Optimum<RouteColumn>, SimplexFault<RouteColumn>>
+    requires state { state.0 < length states.now.listed + 1 }
+    requires belong { AreDemands (length net.now.nodes) demands.now }
+    requires count { length caps.now.nums ≡ length net.now.links }
+    requires narrow { (k : ℕ) → k < route_rows (graph net.now states.now state.0) demands.now → IsNarrow (route_bound (graph net.now states.now state.0) demands.now caps.now k) }
+    ensures { IsSimplexAnswer (route_rows (graph net.now states.now state.0) demands.now) (route_bound (graph net.now states.now state.0) demands.now caps.now) (route_slack (graph net.now states.now state.0)) (IsCarrying (graph net.now states.now state.0) demands.now) result }
+{
+    let task = Task {
+        graph: Surviving { net, states, state },
+        demands,
+        caps,
+    };
+    let keyed = slack_keyed(alloc, &task)?;
+    let room = room_of(alloc, links_of(&task))?;
+    let waiting = known_carriers(alloc, &task, known)?;
+    solved(alloc, &task, keyed, room, waiting)
 }
 
 /// An optimum of the program that routes the demands of a state within capacities, or a basis of it, reached by
@@ -69,12 +101,5 @@ pub fn solve_routes<'a>(
     requires narrow { (k : ℕ) → k < route_rows (graph net.now states.now state.0) demands.now → IsNarrow (route_bound (graph net.now states.now state.0) demands.now caps.now k) }
     ensures { IsSimplexAnswer (route_rows (graph net.now states.now state.0) demands.now) (route_bound (graph net.now states.now state.0) demands.now caps.now) (route_slack (graph net.now states.now state.0)) (IsCarrying (graph net.now states.now state.0) demands.now) result }
 {
-    let task = Task {
-        graph: Surviving { net, states, state },
-        demands,
-        caps,
-    };
-    let keyed = slack_keyed(alloc, &task)?;
-    let room = room_of(alloc, links_of(&task))?;
-    solved(alloc, &task, keyed, room)
+    solve_routes_from(alloc, net, states, state, demands, caps, &[])
 }

@@ -15,7 +15,7 @@ loop-waiting-init c =
     record {
       at = at_start g task.demands.now task.caps.now task.graph.net.now.checked task.belong (route_packing g task.demands.now task.caps.now c.requires.narrow) c.args.keyed c.requires.start;
       room = c.requires.room;
-      waiting = λ k d l. absurd (omega (arith, l, ap length c.new-waiting.ensures));
+      waiting = c.requires.waiting;
     }
 
 pub finish-requires-clause-apart : goal.finish-requires-clause-apart

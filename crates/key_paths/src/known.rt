@@ -1,0 +1,77 @@
+ghost use Rattle.std.specs.Prelude.{◌≡◌, ◌<◌, All, IfOk, IsTrue, length, true};
+ghost use Rattle.net_core.specs.Views.{graph_of};
+ghost use Rattle.key_paths.specs.inner.Gaining.{IsCarried, IsCarrier};
+
+use crate::carrier::Carrier;
+use crate::task::Task;
+use net_core::{Copied, LinkId, List, NoMemory, Path, RouteColumn};
+use short_paths::is_path;
+use std::alloc::Global;
+
+/// Whether all links are among the first ones.
+fn are_links(path: &[LinkId], links: usize) -> bool
+    ensures { IsTrue result → All (λ e. e.0 < links) path.now }
+{
+    path.iter().all(|e| (e.0 as usize) < links)
+}
+
+/// Whether a path is one of a demand that has a need. `seen` is room for a mark of each node.
+fn carries(task: &Task, demand: u32, path: &[LinkId], seen: &mut [bool]) -> bool
+    requires { length seen.old ≡ length task.now.graph.net.now.nodes }
+    ensures { IsTrue result → IsCarried (graph_of task.now.graph) task.now.demands.now demand path.now }
+{
+    let Some(d) = task.demands.items().get(demand as usize) else {
+        return false;
+    };
+    d.need > 0
+        && are_links(path, task.graph.net.links().len())
+        && is_path(&task.graph, path, d.from, d.to, seen)
+}
+
+/// The same with room in a list.
+fn carries_by(task: &Task, demand: u32, path: &Path, seen: &mut List<bool>) -> bool
+    requires { length seen.old ≡ length task.now.graph.net.now.nodes }
+    ensures size { length seen.new ≡ length task.now.graph.net.now.nodes }
+    ensures carried { IsTrue result → IsCarried (graph_of task.now.graph) task.now.demands.now demand path.now }
+{
+    carries(task, demand, path.items(), seen.items_mut())
+}
+
+/// A column comes to the carriers if it is a path of one of the demands.
+fn offer_known(
+    task: &Task,
+    column: &RouteColumn,
+    seen: &mut List<bool>,
+    waiting: &mut List<Carrier>,
+) -> Result<(), NoMemory>
+    requires size { length seen.old ≡ length task.now.graph.net.now.nodes }
+    requires carriers { All (IsCarrier (graph_of task.now.graph) task.now.demands.now) waiting.old }
+    ensures size { length seen.new ≡ length task.now.graph.net.now.nodes }
+    ensures carriers { All (IsCarrier (graph_of task.now.graph) task.now.demands.now) waiting.new }
+{
+    if let RouteColumn::Carry(demand, path) = column {
+        if carries_by(task, *demand, path, seen) {
+            waiting.push(Carrier {
+                demand: *demand,
+                path: path.copy()?,
+            })?;
+        }
+    }
+    Ok(())
+}
+
+/// Those columns that are paths of the demands in their state, whatever the others are.
+pub(crate) fn known_carriers(
+    alloc: Global,
+    task: &Task,
+    known: &[RouteColumn],
+) -> Result<List<Carrier>, NoMemory>
+    ensures { IfOk result (All (IsCarrier (graph_of task.now.graph) task.now.demands.now)) }
+{
+    let mut seen = List::filled(alloc, false, task.graph.net.nodes().len())?;
+    let mut waiting = List::new(alloc);
+    for column in known {
+        offer_known(task, column, &mut seen, &mut waiting)?;
+    }
+    Ok(waiting)
+}
