@@ -20,7 +20,7 @@ mod route;
 mod task;
 
 pub use answer::RouteAnswer;
-pub use route::route_state;
+pub use route::{route_state, route_state_from};
 
 #[cfg(test)]
 mod tests;

@@ -18,7 +18,7 @@ use crate::numbers::{slack_names, slack_of, wide_row};
 use crate::prices::link_prices;
 use crate::task::Task;
 use greedy_router::greedy;
-use key_paths::solve_routes;
+use key_paths::solve_routes_from;
 use metric_cut::{Cut, CutFault};
 use net_core::{
     Caps, Copied, Demands, Evidence, Lengths, List, Network, NoMemory, RouteColumn, Routing,
@@ -74,9 +74,13 @@ fn cut_of(alloc: Global, task: &Task, lengths: Lengths) -> Result<RouteAnswer, N
 }
 
 /// The cut of the link prices of a best basis that leaves something of a demand, unless one of them is too long.
-fn violated(alloc: Global, task: &Task, best: Optimum<RouteColumn>) -> Result<RouteAnswer, NoMemory>
-    requires solution { IsSolution task.now best }
-    requires left { LeavesNeed best.basis best.values }
+fn violated(
+    alloc: Global,
+    task: &Task,
+    best: &Optimum<RouteColumn>,
+) -> Result<RouteAnswer, NoMemory>
+    requires solution { IsSolution task.now best.now }
+    requires left { LeavesNeed best.now.basis best.now.values }
     requires joined { AreJoined (graph_of task.now.graph) task.now.demands.now }
     ensures { IfOk result (IsRouteAnswer (graph_of task.now.graph) task.now.demands.now task.now.caps.now) }
 {
@@ -88,7 +92,7 @@ fn violated(alloc: Global, task: &Task, best: Optimum<RouteColumn>) -> Result<Ro
     }
     match lengths_of(alloc, prices.items(), common)? {
         LinkLengths::Fit(lengths) => cut_of(alloc, task, lengths),
-        LinkLengths::Long(link) => wide(task, best.basis, WideKind::Length(link)),
+        LinkLengths::Long(link) => wide(task, best.basis.copy()?, WideKind::Length(link)),
     }
 }
 
@@ -96,35 +100,44 @@ fn violated(alloc: Global, task: &Task, best: Optimum<RouteColumn>) -> Result<Ro
 fn answer_of(
     alloc: Global,
     task: &Task,
-    best: Optimum<RouteColumn>,
+    best: &Optimum<RouteColumn>,
 ) -> Result<RouteAnswer, NoMemory>
-    requires solution { IsSolution task.now best }
+    requires solution { IsSolution task.now best.now }
     requires joined { AreJoined (graph_of task.now.graph) task.now.demands.now }
     ensures { IfOk result (IsRouteAnswer (graph_of task.now.graph) task.now.demands.now task.now.caps.now) }
 {
     if leaves_need(best.basis.items(), best.values.items()) {
         violated(alloc, task, best)
     } else {
-        routed(alloc, task, &best)
+        routed(alloc, task, best)
     }
 }
 
-/// The answer that the routing program gives.
-fn solved(alloc: Global, task: &Task) -> Result<RouteAnswer, NoMemory>
+/// The answer that the routing program gives, with known columns at hand. They become those of the optimum, if there is one.
+fn solved(
+    alloc: Global,
+    task: &Task,
+    known: &mut List<RouteColumn>,
+) -> Result<RouteAnswer, NoMemory>
     requires narrow { (k : ℕ) → k < route_rows (graph_of task.now.graph) task.now.demands.now → IsNarrow (route_bound (graph_of task.now.graph) task.now.demands.now task.now.caps.now k) }
     requires joined { AreJoined (graph_of task.now.graph) task.now.demands.now }
     ensures { IfOk result (IsRouteAnswer (graph_of task.now.graph) task.now.demands.now task.now.caps.now) }
 {
     let graph = &task.graph;
-    match solve_routes(
+    match solve_routes_from(
         alloc,
         graph.net,
         graph.states,
         graph.state,
         task.demands,
         task.caps,
+        known.items(),
     ) {
-        Ok(best) => answer_of(alloc, task, best),
+        Ok(best) => {
+            let answer = answer_of(alloc, task, &best)?;
+            *known = best.basis;
+            Ok(answer)
+        }
         Err(SimplexFault::Wide { basis, kind }) => wide(task, basis, kind),
         Err(SimplexFault::NoMemory) => Err(NoMemory),
     }
@@ -138,7 +151,11 @@ fn is_whole(rest: &[u128]) -> bool
 }
 
 /// The answer to numbers that are narrow: a greedy routing that leaves nothing, or that of the routing program.
-fn routed_or_solved(alloc: Global, task: &Task) -> Result<RouteAnswer, NoMemory>
+fn routed_or_solved(
+    alloc: Global,
+    task: &Task,
+    known: &mut List<RouteColumn>,
+) -> Result<RouteAnswer, NoMemory>
     requires narrow { (k : ℕ) → k < route_rows (graph_of task.now.graph) task.now.demands.now → IsNarrow (route_bound (graph_of task.now.graph) task.now.demands.now task.now.caps.now k) }
     requires joined { AreJoined (graph_of task.now.graph) task.now.demands.now }
     ensures { IfOk result (IsRouteAnswer (graph_of task.now.graph) task.now.demands.now task.now.caps.now) }
@@ -155,28 +172,20 @@ fn routed_or_solved(alloc: Global, task: &Task) -> Result<RouteAnswer, NoMemory>
     if is_whole(left.rest.items()) {
         return Ok(RouteAnswer::Routed(left.routing));
     }
-    solved(alloc, task)
+    solved(alloc, task, known)
 }
 
-/// Whether capacities, one number for each link over a scale, carry all demands in a state whose surviving links join the ends of
-/// each positive demand.
-///
-/// A routing is in lowest terms, with at most as many flows as links and demands together. A cut's right side at the demands is more
-/// than the capacities give along its lengths, so that no routing carries them; the lengths are prices of the links at an optimum.
-/// Evidence names a basis of the routing program, and what of it is too wide.
-///
-/// In the triangle AB, BC, AC with 6.00, 2.00 and 10.00 the demands of 12.00 from A to C and of 4.00 from A to B are routed. With
-/// 1.999 on BC they aren't: the links at C have 11.999 together, and the cut has the lengths 0, 1, 1.
-///
-/// It takes time that grows with the turns of the simplex method, each in the square of the count of links and demands, and as much
-/// memory as that square.
-pub fn route_state<'a>(
+/// The same as `route_state`, with known columns at hand, whatever they are: those of `known` that are paths of the demands in this
+/// state enter the routing program first, as long as they gain. Where an optimum is found, `known` becomes its columns, which save
+/// most of the searches at the state's next capacities; else it stays as it is.
+pub fn route_state_from<'a>(
     alloc: Global,
     net: &'a Network,
     states: &'a States,
     state: StateId,
     demands: &'a Demands,
     caps: &'a Caps,
+    known: &mut List<RouteColumn>,
 ) -> Result<RouteAnswer, NoMemory>
     requires state { state.0 < length states.now.listed + 1 }
     requires demands { AreDemands (length net.now.nodes) demands.now }
@@ -195,6 +204,44 @@ pub fn route_state<'a>(
             let names = slack_names(alloc, &task)?;
             wide(&task, names, WideKind::Number(slack_of(&task, row)))
         }
-        None => routed_or_solved(alloc, &task),
+        None => routed_or_solved(alloc, &task, known),
     }
+}
+
+/// Whether capacities, one number for each link over a scale, carry all demands in a state whose surviving links join the ends of
+/// each positive demand.
+///
+/// A routing is in lowest terms, with at most as many flows as links and demands together. A cut's right side at the demands is more
+/// than the capacities give along its lengths, so that no routing carries them; the lengths are prices of the links at an optimum.
+/// Evidence names a basis of the routing program, and what of it is too wide.
+///
+/// In the triangle AB, BC, AC with 6.00, 2.00 and 10.00 the demands of 12.00 from A to C and of 4.00 from A to B are routed. With
+/// 1.999 on BC they aren't: the links at C have 11.999 together, and the cut has the lengths 0, 1, 1.
+///
+/// It takes time that grows with the turns of the simplex method, each in the square of the count of links at most, with a search from
+/// each node where no path at hand gains, and memory by that square and by the links of one path for each demand.
+pub fn route_state<'a>(
+    alloc: Global,
+    net: &'a Network,
+    states: &'a States,
+    state: StateId,
+    demands: &'a Demands,
+    caps: &'a Caps,
+) -> Result<RouteAnswer, NoMemory>
+    requires state { state.0 < length states.now.listed + 1 }
+    requires demands { AreDemands (length net.now.nodes) demands.now }
+    requires scale { 0 < caps.now.scale }
+    requires caps { length caps.now.nums ≡ length net.now.links }
+    requires joined { AreJoined (graph net.now states.now state.0) demands.now }
+    ensures { IfOk result (IsRouteAnswer (graph net.now states.now state.0) demands.now caps.now) }
+{
+    route_state_from(
+        alloc,
+        net,
+        states,
+        state,
+        demands,
+        caps,
+        &mut List::new(alloc),
+    )
 }

@@ -1,6 +1,6 @@
 ghost use Rattle.std.specs.Prelude.{length};
 
-use crate::{RouteAnswer, route_state};
+use crate::{RouteAnswer, route_state, route_state_from};
 use failure_states::first_separated;
 use net_core::{Caps, Evidence, LinkId, List, NoMemory, Problem, RouteColumn, StateId, WideKind};
 use std::alloc::Global;
@@ -133,14 +133,14 @@ const BLOCKED: [Row; 8] = [
     ),
 ];
 
-/// The answer, where the row fits and no demand is separated.
-fn answer(
+/// The answers without and with known columns, where the row fits and no demand is separated.
+fn answers(
     alloc: Global,
     p: &Problem,
-    state: u32,
-    scale: u64,
-    nums: &[u128],
-) -> Result<Option<RouteAnswer>, NoMemory> {
+    row: Row,
+    known: &mut List<RouteColumn>,
+) -> Result<Option<(RouteAnswer, RouteAnswer)>, NoMemory> {
+    let (state, scale, nums, _) = row;
     let nums = List::from_slice(alloc, nums)?;
     if state >= p.states.count() || scale == 0 || nums.len() != p.net.links().len() {
         return Ok(None);
@@ -148,7 +148,12 @@ fn answer(
     let caps = Caps { scale, nums };
     match first_separated(alloc, &p.net, &p.states, &p.demands)? {
         Some(_) => Ok(None),
-        None => Ok(Some(route_state(alloc, &p.net, &p.states, StateId(state), &p.demands, &caps)?)),
+        None => {
+            let at = StateId(state);
+            let first = route_state(alloc, &p.net, &p.states, at, &p.demands, &caps)?;
+            let again = route_state_from(alloc, &p.net, &p.states, at, &p.demands, &caps, known)?;
+            Ok(Some((first, again)))
+        }
     }
 }
 
@@ -189,19 +194,24 @@ fn meets(answer: &RouteAnswer, want: Want) -> bool {
     }
 }
 
-/// Whether the row's answer is as expected.
-fn is_met(alloc: Global, p: &Problem, row: Row) -> Result<bool, NoMemory> {
-    let (state, scale, nums, want) = row;
-    match answer(alloc, p, state, scale, nums)? {
-        Some(found) => Ok(meets(&found, want)),
+/// Whether the row's answers are as expected.
+fn is_met(
+    alloc: Global,
+    p: &Problem,
+    row: Row,
+    known: &mut List<RouteColumn>,
+) -> Result<bool, NoMemory> {
+    match answers(alloc, p, row, known)? {
+        Some((first, again)) => Ok(meets(&first, row.3) && meets(&again, row.3)),
         None => Ok(false),
     }
 }
 
-/// The first row of a table that isn't as expected.
+/// The first row of a table that isn't as expected. The columns that each row ends with are known to the next, in whatever state.
 fn first_miss(alloc: Global, p: &Problem, rows: &[Row]) -> Result<Option<usize>, NoMemory> {
+    let mut known = List::new(alloc);
     for i in 0..rows.len() {
-        if !is_met(alloc, p, rows[i])? {
+        if !is_met(alloc, p, rows[i], &mut known)? {
             return Ok(Some(i));
         }
     }

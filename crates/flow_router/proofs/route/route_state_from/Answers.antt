@@ -5,7 +5,7 @@ use Rattle.route_law.specs.RouteEvidence.{IsRouteEvidence}
 use Rattle.route_law.specs.RoutingPrograms.{route_slack}
 use Rattle.route_law.proofs.Slacks.{number_evidence}
 use Rattle.simplex_core.proofs.Starts.{each_at}
-use Rattle.flow_router.proofs.route.route_state.Goals as goal
+use Rattle.flow_router.proofs.route.route_state_from.Goals as goal
 
 pub wide-requires : goal.wide-requires
 wide-requires c =
