@@ -34,8 +34,8 @@ pub pair_place_within : (low high n : ℕ) → low < high → high < n → pair_
 pair_place_within low high n lt within = omega (arith, pair_count_more high, pair_count_rises (high + 1) n (omega arith))
 
 -- a number that is narrowed says what it said
-narrowed_low : (d : ℕ) → d ≤ FAR → (d < FAR → d < 2 ^ 39) → narrowed d < APART → narrowed d < 2 ^ 39
-narrowed_low d most low near = ⊎_elim (λ less. omega (arith, low less)) (λ more. omega arith) (cases_lt d FAR)
+narrowed_low : (d : ℕ) → d ≤ FAR → (d < FAR → d < 2 ^ 39) → narrowed d ≢ APART → narrowed d < 2 ^ 39
+narrowed_low d most low near = ⊎_elim (λ less. omega (arith, low less)) (λ more. absurd (near (omega arith))) (cases_lt d FAR)
 
 narrowed_answer : (d : ℕ) → d ≤ FAR → (d < FAR → d < 2 ^ 39) → answer_of APART (narrowed d) ≡ answer_of FAR d
 narrowed_answer d most low = ⊎_elim
@@ -54,7 +54,7 @@ pub pairs_none : (joins : ℕ → ℕ → ℕ → Type 0) (lengths : List ℕ) �
 pairs_none joins lengths = record {
   size = omega arith;
   each = λ low high lt within. absurd (omega arith);
-  low = All-nil (λ d. d < APART → d < 2 ^ 39);
+  low = All-nil (λ d. d ≢ APART → d < 2 ^ 39);
 }
 
 module _ (joins : ℕ → ℕ → ℕ → Type 0) (lengths : List ℕ) (short : (e : ℕ) → get_or lengths e 0 < 2 ^ 32) where
@@ -85,9 +85,9 @@ module _ (joins : ℕ → ℕ → ℕ → Type 0) (lengths : List ℕ) (short : 
             subst (λ k. IsDistance joins lengths k low (answer_of APART (get_or new (pair_place low high) 0))) (sym same)
             (subst (IsDistance joins lengths n low) (sym answer) (table_distance joins lengths FAR n adds.found adds.table low (omega (arith, adds.within)))))
             (cases_lt high n);
-        low = All-same (λ d. d < APART → d < 2 ^ 39) new (old ++ added) adds.is (All-append (λ d. d < APART → d < 2 ^ 39) old added are.low
-            (All-map (λ d. d < APART → d < 2 ^ 39) narrowed (take n adds.found) (All-take (λ d. narrowed d < APART → narrowed d < 2 ^ 39) n adds.found
-            (All-from_get_or (λ d. narrowed d < APART → narrowed d < 2 ^ 39) adds.found 0 (λ k lt. narrowed_low (get_or adds.found k 0) (adds.table.most k) (low k))))));
+        low = All-same (λ d. d ≢ APART → d < 2 ^ 39) new (old ++ added) adds.is (All-append (λ d. d ≢ APART → d < 2 ^ 39) old added are.low
+            (All-map (λ d. d ≢ APART → d < 2 ^ 39) narrowed (take n adds.found) (All-take (λ d. narrowed d ≢ APART → narrowed d < 2 ^ 39) n adds.found
+            (All-from_get_or (λ d. narrowed d ≢ APART → narrowed d < 2 ^ 39) adds.found 0 (λ k lt. narrowed_low (get_or adds.found k 0) (adds.table.most k) (low k))))));
       }
 
 -- the distance of each two nodes, either way round

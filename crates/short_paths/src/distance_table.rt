@@ -1,4 +1,4 @@
-ghost use Rattle.std.specs.Prelude.{◌≡◌, ◌+◌, ◌-◌, ◌*◌, ◌/◌, ◌<◌, ◌≤◌, ◌^◌, All, IfSome, length};
+ghost use Rattle.std.specs.Prelude.{◌≡◌, ◌≢◌, ◌+◌, ◌-◌, ◌*◌, ◌/◌, ◌<◌, ◌≤◌, ◌^◌, All, IfSome, length};
 ghost use Rattle.short_paths.specs.declared.distance_table.TheConstants.{APART};
 ghost use Rattle.short_paths.specs.inner.Pairs.{narrowed, pair_count, pair_place};
 ghost use Rattle.short_paths.specs.inner.Tables.{answer_of};
@@ -15,7 +15,7 @@ pub struct DistanceTable {
     pairs: List<u64>,
     pub ghost few: { nodes ≤ 128 },
     pub ghost size: { length pairs ≡ pair_count nodes },
-    pub ghost low: { All (λ d. d < APART → d < 2 ^ 39) pairs },
+    pub ghost low: { All (λ d. d ≢ APART → d < 2 ^ 39) pairs },
 }
 
 /// How many pairs the nodes have.
@@ -56,7 +56,7 @@ impl DistanceTable {
     pub(crate) fn of_pairs(nodes: u32, pairs: List<u64>) -> DistanceTable
         requires few { nodes ≤ 128 }
         requires size { length pairs ≡ pair_count nodes }
-        requires low { All (λ d. d < APART → d < 2 ^ 39) pairs }
+        requires low { All (λ d. d ≢ APART → d < 2 ^ 39) pairs }
         ensures nodes { result.nodes ≡ nodes }
         ensures pairs { result.pairs ≡ pairs }
     {

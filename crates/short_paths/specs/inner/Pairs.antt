@@ -1,5 +1,5 @@
 -- the numbers of each two of some nodes, in the order of the higher node and then of the lower one
-use Rattle.std.specs.Prelude.{◌≡◌, ℕ, ◌+◌, ◌-◌, ◌*◌, ◌/◌, ◌^◌, ◌<◌, ◌≤◌, ◌++◌, List, All, length, map, min, slice_index, take}
+use Rattle.std.specs.Prelude.{◌≡◌, ◌≢◌, ℕ, ◌+◌, ◌-◌, ◌*◌, ◌/◌, ◌^◌, ◌<◌, ◌≤◌, ◌++◌, List, All, length, map, min, slice_index, take}
 use Rattle.plan_terms.specs.Paths.{IsDistance}
 use Rattle.short_paths.specs.declared.distance_table.TheConstants.{APART}
 use Rattle.short_paths.specs.inner.Tables.{IsTable, answer_of}
@@ -28,4 +28,4 @@ pub record AddsRow (joins : ℕ → ℕ → ℕ → Type 0) (lengths : List ℕ)
 pub record ArePairs (joins : ℕ → ℕ → ℕ → Type 0) (lengths : List ℕ) (n : ℕ) (pairs : List ℕ) : Type 0 where
   pub size : length pairs ≡ pair_count n
   pub each : (low high : ℕ) → low < high → high < n → IsDistance joins lengths high low (answer_of APART (slice_index pairs (pair_place low high)))
-  pub low : All (λ d. d < APART → d < 2 ^ 39) pairs
+  pub low : All (λ d. d ≢ APART → d < 2 ^ 39) pairs
