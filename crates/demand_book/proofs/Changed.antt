@@ -137,7 +137,7 @@ set_demands n before name need are small total =
 
 -- ---- one demand less
 
-all_kept : (name : List ℕ) (xs : List Demand) → ((j : ℕ) (d : Demand) → j < length xs → are_same (get_or xs j d).name name ≡ false) → without name xs ≡ xs
+pub all_kept : (name : List ℕ) (xs : List Demand) → ((j : ℕ) (d : Demand) → j < length xs → are_same (get_or xs j d).name name ≡ false) → without name xs ≡ xs
 all_kept name [] h = refl
 all_kept name (x ∷ xs) h =
     cond-true _ (x ∷ without name xs) (without name xs) (not_from_false _ (h 0 blank (omega arith)))
