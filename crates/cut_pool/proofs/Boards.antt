@@ -1,9 +1,9 @@
 -- boards with one entry more
 use Rattle.std.proofs.Common.{◌≡◌, ◌∙◌, ℕ, ◌<◌, ◌++◌, List, [], ◌∷◌, All, length, map, get_or, refl, sym, ap, subst, arith}
-use Rattle.std.specs.Prelude.{IfErr, OnOk, Ok, Err, Result}
+use Rattle.std.specs.Prelude.{◌≤◌, ◌+◌, ◌^◌, IfErr, IfOk, OnOk, Ok, Err, Result}
 use Rattle.std.proofs.Math.Logic.{∥∥₁_elim}
 use Rattle.std.proofs.Props.{props}
-use Rattle.std.proofs.lemmas.List.{append-nil, get_or-map, length-map, map-append}
+use Rattle.std.proofs.lemmas.List.{append-nil, get_or-map, length-append, length-map, map-append}
 use Rattle.std.proofs.lemmas.List.Elements.{All-map, All-push}
 use Rattle.net_core.specs.declared.demand.Demand.{Demand}
 use Rattle.net_core.specs.declared.journal.Edit.{Edit}
@@ -12,25 +12,18 @@ use Rattle.net_core.specs.declared.journal.Entry.TheVariants.{Edited, Pooled}
 use Rattle.net_core.specs.declared.journal.Reply.{Reply}
 use Rattle.net_core.specs.declared.plan.CutLine.{CutLine}
 use Rattle.net_core.specs.Cases.{Case, graph_in}
-use Rattle.net_core.specs.Demands.{AreDemands}
 use Rattle.net_core.specs.Graphs.{Joins}
 use Rattle.plan_terms.specs.Certificates.{IsRight}
 use Rattle.plan_terms.specs.Edits.{Answered, edit_reply, version_after}
+use Rattle.demand_book.specs.declared.book.Book.{Book}
 use Rattle.metric_cut.specs.Cuts.{IsCutOf}
 use Rattle.metric_cut.specs.declared.cut.Cut.{Cut}
 use Rattle.cut_pool.specs.declared.pooled.PooledCut.{PooledCut}
 use Rattle.cut_pool.specs.Histories.{Dated, IsBoardAfter, IsLegalAfter, cut_of_line, cuts_of, demands_left, left_by, left_by_entry, version_left}
 use Rattle.cut_pool.specs.Pools.{ArePooledCuts, line_of_pooled}
-use Rattle.cut_pool.specs.inner.Pooling.{IsAtDemands}
+use Rattle.cut_pool.specs.inner.Pooling.{IsAtDemands, StandsAt}
+use Rattle.cut_pool.proofs.Following.{stands_now}
 use Rattle.cut_pool.proofs.Growing.{cuts_more, left_more, legal_more}
-
--- the tables of pooled cuts are of the network's nodes
-pub tables_told : (p : Case) (pool : List PooledCut) → ∥ ArePooledCuts p pool ∥₁ → All (λ c. c.cut.table.nodes ≡ length p.nodes) pool
-tables_told p pool told k c lt = ∥∥₁_elim told (hlevel props) (λ all. (all k c lt).distances.count)
-
--- demands of the network's nodes are demands of each table
-pub of_tables : (p : Case) (demands : List Demand) (pool : List PooledCut) → ∥ ArePooledCuts p pool ∥₁ → AreDemands (length p.nodes) demands → All (λ c. AreDemands c.cut.table.nodes demands) pool
-of_tables p demands pool told are k c lt = subst (λ n. AreDemands n demands) (sym (tables_told p pool told k c lt)) are
 
 -- what holds of the cuts of a pool holds of the same cuts with other right sides
 same_cuts : (P : Cut → Type 0) (old new : List PooledCut) → map (λ c. c.cut) new ≡ map (λ c. c.cut) old → All (λ c. P c.cut) old → All (λ c. P c.cut) new
@@ -137,6 +130,43 @@ pub edited_told : (p : Case) (es : List Entry) (demands : List Demand) (version 
 edited_told p es demands version old cuts told caller edit reply after next new answer counted same at =
     ∥∥₁_elim cuts (hlevel props) (λ all. ∥∥₁_elim told (hlevel props) (λ board.
     ∣ edited p es demands version old board caller edit reply after next new answer counted same (still_cuts p old new same all) at ∣₁))
+
+-- what a history and a pool are after an edit was committed, or refused with nothing changed
+pub edit_committed : (p : Case) (es es' : List Entry) (old book : Book) (pool pool' : List PooledCut) → ∥ ArePooledCuts p pool ∥₁ → ∥ IsBoardAfter p es old.demands old.version (map line_of_pooled pool) ∥₁
+    → (caller : ℕ) (edit : Edit) (r : Result Reply Edit) → IfOk r (λ reply. es' ≡ es ++ Edited caller edit reply ∷ []) → IfOk r (λ reply. (reply, book.demands) ≡ edit_reply p.nodes old.demands old.version edit)
+    → IfOk r (λ reply. book.version ≡ version_after old.version reply) → IfErr r (λ e. (e ≡ edit) × (es' ≡ es) × (book ≡ old) × (pool' ≡ pool))
+    → map (λ c. c.cut) pool' ≡ map (λ c. c.cut) pool → All (IsAtDemands book.demands) pool'
+    → ∥ IsBoardAfter p es' book.demands book.version (map line_of_pooled pool') ∥₁
+edit_committed p es es' old book pool pool' cuts told caller edit (Ok reply) entries answer version same still at =
+    subst (λ xs. ∥ IsBoardAfter p xs book.demands book.version (map line_of_pooled pool') ∥₁) (sym entries)
+    (edited_told p es old.demands old.version pool cuts told caller edit reply book.demands book.version pool' answer version still at)
+edit_committed p es es' old book pool pool' cuts told caller edit (Err e) entries answer version same still at =
+    subst (λ xs. ∥ IsBoardAfter p xs book.demands book.version (map line_of_pooled pool') ∥₁) (sym same.1)
+    (subst (λ (b : Book). ∥ IsBoardAfter p es b.demands b.version (map line_of_pooled pool') ∥₁) (sym same.2)
+    (subst (λ (cs : List PooledCut). ∥ IsBoardAfter p es old.demands old.version (map line_of_pooled cs) ∥₁) (sym same.3) told))
+
+-- a history has at most one entry more
+pub one_more : (es es' : List Entry) (caller : ℕ) (edit : Edit) (book old : Book) (pool pool' : List PooledCut) (r : Result Reply Edit) → IfOk r (λ reply. es' ≡ es ++ Edited caller edit reply ∷ [])
+    → IfErr r (λ e. (e ≡ edit) × (es' ≡ es) × (book ≡ old) × (pool' ≡ pool)) → length es' ≤ length es + 1
+one_more es es' caller edit book old pool pool' (Ok reply) entries same = omega (arith, ap length entries, length-append es (Edited caller edit reply ∷ []))
+one_more es es' caller edit book old pool pool' (Err e) entries same = omega (arith, ap length same.1)
+
+-- each pooled cut of a board stands at its demands
+pub standing : (p : Case) (es : List Entry) (book : Book) (pool : List PooledCut) → length p.nodes ≡ length book.nodes → ∥ ArePooledCuts p pool ∥₁ → ∥ IsBoardAfter p es book.demands book.version (map line_of_pooled pool) ∥₁
+    → All (λ c. c.right < 2 ^ 84) pool → All (StandsAt (length book.nodes) book.demands) pool
+standing p es book pool nodes cuts told low k d lt =
+    let c = get_or pool k d in
+    let right : IsBoardAfter p es book.demands book.version (map line_of_pooled pool) → IsRight (Joins (graph_in p c.cut.state.0)) c.cut.lengths book.demands c.right = λ board.
+    subst (λ (ds : List Demand). IsFollowed p ds (line_of_pooled c)) (sym board.demands_are)
+    (subst (IsFollowed p (demands_left p es)) (get_or-map line_of_pooled pool k d (line_of_pooled d) lt) (board.pool.rights k (line_of_pooled d) (omega (arith, lt, length-map pool line_of_pooled)))) in
+    let at : ArePooledCuts p pool → IsBoardAfter p es book.demands book.version (map line_of_pooled pool) → StandsAt (length book.nodes) book.demands c = λ all board.
+    stands_now (graph_in p c.cut.state.0) (length book.nodes) book.demands c (all k d lt) nodes book.belong (right board) (low k d lt) in
+    record {
+      cut = ∥∥₁_elim cuts (hlevel props) (λ all. ∥∥₁_elim told (hlevel props) (λ board. (at all board).cut));
+      nodes = ∥∥₁_elim cuts (hlevel props) (λ all. ∥∥₁_elim told (hlevel props) (λ board. (at all board).nodes));
+      right = ∥∥₁_elim cuts (hlevel props) (λ all. ∥∥₁_elim told (hlevel props) (λ board. (at all board).right));
+      low = low k d lt;
+    }
 
 pub pooled_told : (p : Case) (es : List Entry) (demands : List Demand) (version : ℕ) (old : List PooledCut) → ∥ IsBoardAfter p es demands version (map line_of_pooled old) ∥₁
     → (index : ℕ) (new : PooledCut) → IsLegalAfter p es (Pooled index new.cut.state new.cut.lengths) → IsCutOf (graph_in p new.cut.state.0) new.cut → IsAtDemands demands new

@@ -1,5 +1,7 @@
 mod Admitting
 mod Boards
+mod Following
 pub mod Growing
+mod Leaving
 mod Places
 mod Told

@@ -40,6 +40,10 @@ none_passes test [] i h k d lt = absurd (omega (arith, lt))
 none_passes test (x ∷ xs) i h zero d lt = (not_first (test x) i (position_from test (i + 1) xs) h).0
 none_passes test (x ∷ xs) i h (suc k) d lt = none_passes test xs (i + 1) (not_first (test x) i (position_from test (i + 1) xs) h).1 k d (omega (arith, lt))
 
+-- what has no place passes nowhere
+pub passes_nowhere : {X : Type 0} (test : X → Bool) (xs : List X) → position test xs ≡ None → (k : ℕ) (d : X) → k < length xs → test (get_or xs k d) ≡ false
+passes_nowhere test xs none = none_passes test xs 0 (sym (position_from-zero test xs) ∙ none)
+
 -- a cut that has a place stands there
 pub known_at : (cut : Cut) (pool : List PooledCut) (k : ℕ) → position (is_pooled_cut cut) pool ≡ Some k → slice_get (map (λ c. with_state c.cut) pool) k ≡ Some (with_state cut)
 known_at cut pool k at =
@@ -54,5 +58,4 @@ new_of_all cut pool none = λ k d lt same.
     let blank : PooledCut = record { cut = cut; right = 0 } in
     let within : k < length pool = omega (arith, lt, length-map pool v) in
     let here : with_state (get_or pool k blank).cut ≡ with_state cut = sym (get_or-map v pool k blank d within) ∙ same in
-    let found : position_from (is_pooled_cut cut) 0 pool ≡ None = sym (position_from-zero (is_pooled_cut cut) pool) ∙ none in
-    false≢true (sym (none_passes (is_pooled_cut cut) pool 0 found k blank within) ∙ cut_same cut (get_or pool k blank) here)
+    false≢true (sym (passes_nowhere (is_pooled_cut cut) pool none k blank within) ∙ cut_same cut (get_or pool k blank) here)

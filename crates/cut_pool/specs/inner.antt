@@ -1,1 +1,2 @@
 pub mod Pooling
+pub mod Shares

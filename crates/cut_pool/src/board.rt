@@ -9,7 +9,7 @@ ghost use Rattle.cut_pool.specs.Pools.{ArePooledCuts, line_of_pooled};
 
 use crate::answers::{AdmitAnswer, EditAnswer};
 use crate::history::History;
-use crate::pooled::{PooledCut, follow_all, lines_of, place_of};
+use crate::pooled::{PooledCut, lines_of, place_of};
 use crate::snapshot::Snapshot;
 use demand_book::Book;
 use metric_cut::Cut;
@@ -99,7 +99,7 @@ impl<'a> Board<'a> {
     }
 
     /// Makes a caller's edit, whose need is in thousandths, and commits it with its reply, also where it is refused. Each right
-    /// side then follows, in time that grows with the cuts times the demands.
+    /// side then follows by the distances that its cut keeps, in time that grows with the cuts and with the demands.
     pub fn edit(&mut self, caller: u32, edit: Edit) -> EditAnswer
         requires { edit_need edit < 2 ^ 40 }
         ensures { AnswersEdit self.old caller edit result self.new }
@@ -107,14 +107,14 @@ impl<'a> Board<'a> {
         if self.entries.len() >= MOST_ENTRIES {
             return EditAnswer::Full(edit);
         }
-        match self.entries.commit_edit(&mut self.book, caller, edit) {
-            Ok(reply) => {
-                follow_all(&mut self.pool, self.book.demands());
-                EditAnswer::At {
-                    position: self.entries.len() as u64,
-                    reply,
-                }
-            }
+        match self
+            .entries
+            .commit_edit(&mut self.book, &mut self.pool, caller, edit)
+        {
+            Ok(reply) => EditAnswer::At {
+                position: self.entries.len() as u64,
+                reply,
+            },
             Err(edit) => EditAnswer::NoMemory(edit),
         }
     }

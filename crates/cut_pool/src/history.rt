@@ -1,7 +1,9 @@
-ghost use Rattle.std.specs.Prelude.{◌≡◌, ◌<◌, ◌^◌, ◌++◌, [], ◌∷◌, IfOk, IfErr, OnOk, length};
+ghost use Rattle.std.specs.Prelude.{◌≡◌, ◌<◌, ◌^◌, ◌++◌, [], ◌∷◌, All, IfOk, IfErr, OnOk, length, map};
 ghost use Rattle.net_core.specs.declared.journal.Entry.TheVariants.{Edited, Pooled};
 ghost use Rattle.plan_terms.specs.Edits.{edit_need, edit_reply, version_after};
+ghost use Rattle.cut_pool.specs.inner.Pooling.{StandsAt};
 
+use crate::follow::make_edit;
 use crate::pooled::PooledCut;
 use demand_book::Book;
 use metric_cut::Cut;
@@ -48,19 +50,29 @@ impl History {
         self.entries.len()
     }
 
-    /// Makes an edit and commits it with its reply. Memory for the entry is taken first, since a made edit isn't undone.
-    pub fn commit_edit(&mut self, book: &mut Book, caller: u32, edit: Edit) -> Result<Reply, Edit>
-        requires { edit_need edit < 2 ^ 40 }
+    /// Makes an edit, which the right sides follow, and commits it with its reply. Memory for the entry is taken first, since a
+    /// made edit isn't undone.
+    pub fn commit_edit(
+        &mut self,
+        book: &mut Book,
+        pool: &mut List<PooledCut>,
+        caller: u32,
+        edit: Edit,
+    ) -> Result<Reply, Edit>
+        requires need { edit_need edit < 2 ^ 40 }
+        requires pool { All (StandsAt (length book.old.nodes) book.old.demands) pool.old }
         ensures entries { IfOk result (λ r. self.new ≡ self.old ++ Edited caller edit r ∷ []) }
         ensures answer { IfOk result (λ r. (r, book.new.demands) ≡ edit_reply book.old.nodes book.old.demands book.old.version edit) }
         ensures version { IfOk result (λ r. book.new.version ≡ version_after book.old.version r) }
         ensures nodes { book.new.nodes ≡ book.old.nodes }
-        ensures same { IfErr result (λ e. (e ≡ edit) × (self.new ≡ self.old) × (book.new ≡ book.old)) }
+        ensures same { IfErr result (λ e. (e ≡ edit) × (self.new ≡ self.old) × (book.new ≡ book.old) × (pool.new ≡ pool.old)) }
+        ensures cuts { map (λ c. c.cut) pool.new ≡ map (λ c. c.cut) pool.old }
+        ensures pool { All (StandsAt (length book.new.nodes) book.new.demands) pool.new }
     {
         if self.entries.reserve(1).is_err() {
             return Err(edit);
         }
-        let Ok(reply) = book.apply(&edit) else {
+        let Ok(reply) = make_edit(book, pool, &edit) else {
             return Err(edit);
         };
         self.entries.push_reserved(Entry::Edited {

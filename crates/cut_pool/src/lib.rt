@@ -3,8 +3,10 @@
 
 mod answers;
 mod board;
+mod follow;
 mod history;
 mod pooled;
+mod shares;
 mod snapshot;
 #[cfg(test)]
 mod tests;

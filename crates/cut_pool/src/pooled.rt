@@ -1,11 +1,12 @@
 ghost use Rattle.std.specs.Prelude.{◌≡◌, ◌<◌, ◌^◌, All, IfOk, length, map, position};
 ghost use Rattle.net_core.specs.declared.journal.Entry.TheVariants.{Pooled};
-ghost use Rattle.net_core.specs.Demands.{AreDemands};
 ghost use Rattle.cut_pool.specs.Pools.{line_of_pooled};
-ghost use Rattle.cut_pool.specs.inner.Pooling.{IsAtDemands, is_pooled_cut};
+ghost use Rattle.cut_pool.specs.inner.Pooling.{CanFollow, IsSomeCut, followed, is_pooled_cut};
+ghost use Rattle.cut_pool.specs.inner.Shares.{IsShareOf, asked_by};
 
+use crate::shares::{DemandShare, NeedChange};
 use metric_cut::Cut;
-use net_core::{Copied, CutLine, Demands, Entry, List, NoMemory};
+use net_core::{Copied, CutLine, Entry, List, NoMemory};
 use std::alloc::Global;
 
 /// A cut of the pool, with its right side at the demands now.
@@ -16,13 +17,27 @@ pub struct PooledCut {
 }
 
 impl PooledCut {
-    /// The right side at these demands.
-    fn follow(&mut self, demands: &Demands)
-        requires { AreDemands self.old.cut.table.nodes demands.now }
-        ensures cut { self.new.cut ≡ self.old.cut }
-        ensures right { IsAtDemands demands.now self.new }
+    /// What a share asks for: its need times the distance of its ends, and 0 where they are apart.
+    fn asked(&self, share: Option<DemandShare>) -> u128
+        requires cut { IsSomeCut self.now.cut }
+        requires share { IsShareOf self.now.cut.table.nodes share }
+        ensures value { result ≡ asked_by self.now.cut.table share }
+        ensures low { result < 2 ^ 104 }
     {
-        self.right = self.cut.right(demands);
+        let Some(DemandShare { from, to, need }) = share else {
+            return 0;
+        };
+        need as u128 * self.cut.distance(from, to).unwrap_or(0) as u128
+    }
+
+    /// Takes off what the share before asks for, and adds what the share after does.
+    fn follow(&mut self, change: &NeedChange)
+        requires { CanFollow change.now self.old }
+        ensures { self.new ≡ followed change.now self.old }
+    {
+        let taken = self.asked(change.before);
+        let added = self.asked(change.after);
+        self.right = self.right - taken + added;
     }
 
     /// Whether this is the cut. Lengths are compared in one state alone.
@@ -62,24 +77,24 @@ pub fn place_of(pool: &[PooledCut], cut: &Cut) -> Option<usize>
     pool.iter().position(|pooled| pooled.is(cut))
 }
 
-/// Each right side at these demands.
-fn follow_each(pool: &mut [PooledCut], demands: &Demands)
-    requires { All (λ c. AreDemands c.cut.table.nodes demands.now) pool.old }
-    ensures cuts { map (λ c. c.cut) pool.new ≡ map (λ c. c.cut) pool.old }
-    ensures rights { All (IsAtDemands demands.now) pool.new }
+/// Each right side follows.
+fn follow_each(pool: &mut [PooledCut], change: &NeedChange)
+    requires { All (CanFollow change.now) pool.old }
+    ensures { pool.new ≡ map (followed change.now) pool.old }
 {
     for k in 0..pool.len() {
-        pool[k].follow(demands);
+        pool[k].follow(change);
     }
 }
 
-/// Each right side of the pool at these demands.
-pub fn follow_all(pool: &mut List<PooledCut>, demands: &Demands)
-    requires { All (λ c. AreDemands c.cut.table.nodes demands.now) pool.old }
-    ensures cuts { map (λ c. c.cut) pool.new ≡ map (λ c. c.cut) pool.old }
-    ensures rights { All (IsAtDemands demands.now) pool.new }
+/// Each right side of the pool follows; where the shares are the same, none is touched.
+pub fn follow_all(pool: &mut List<PooledCut>, change: &NeedChange)
+    requires { All (CanFollow change.now) pool.old }
+    ensures { pool.new ≡ map (followed change.now) pool.old }
 {
-    follow_each(pool.items_mut(), demands);
+    if !change.is_none() {
+        follow_each(pool.items_mut(), change);
+    }
 }
 
 /// The lines of the pool.

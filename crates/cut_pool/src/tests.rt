@@ -178,6 +178,68 @@ fn an_equal_cut_is_known(rt: HostRuntime) -> Result<(), Fail> {
     Ok(())
 }
 
+/// The right sides must be these, in the pool's order.
+fn check_sides<R: AllocGlobal + Abort>(rt: &R, board: &Board, want: &[u128]) -> Result<(), Fail> {
+    let lines = board.lines()?;
+    assert_eq!(rt; lines.items().len(), want.len());
+    for k in 0..want.len() {
+        assert_eq!(rt; lines.items().get(k).map(|line| line.right), Some(want[k]));
+    }
+    Ok(())
+}
+
+/// Admits the unit cut of each state of the triangle.
+fn admit_all<R: AllocGlobal + Abort>(
+    rt: &R,
+    board: &mut Board,
+    net: &Network,
+    states: &States,
+) -> Result<(), Fail>
+    requires links { length net.now.links ≡ 3 }
+    requires net { board.old.net.now ≡ net.now }
+    requires states { board.old.states.now ≡ states.now }
+{
+    check_admit(rt, board, net, states, 0, (false, 0))?;
+    check_admit(rt, board, net, states, 1, (false, 1))?;
+    check_admit(rt, board, net, states, 2, (false, 2))?;
+    check_admit(rt, board, net, states, 3, (false, 3))
+}
+
+/// The need that the demand A gets, if it isn't dropped, and the four right sides after that.
+type Step = (Option<u32>, [u128; 4]);
+
+/// Makes an edit of the demand A, which is accepted as this version and leaves these right sides.
+fn check_step<R: AllocGlobal + Abort>(
+    rt: &R,
+    board: &mut Board,
+    step: &Step,
+    version: u64,
+) -> Result<(), Fail> {
+    let edit = match step.0 {
+        Some(need) => set(rt.alloc(), b"A", need)?,
+        None => taken_out(rt.alloc(), b"A")?,
+    };
+    check_edit(rt, board, edit, Reply::Accepted(version), version)?;
+    check_sides(rt, board, &step.1)
+}
+
+#[test]
+fn each_right_side_follows_by_the_distance_in_its_state(rt: HostRuntime) -> Result<(), Fail> {
+    let alloc = rt.alloc();
+    let net = triangle(alloc, 0)?;
+    let states = single_failures(alloc, &net)?;
+    let mut board = board(alloc, &net, &states, &ONE)?;
+    admit_all(&rt, &mut board, &net, &states)?;
+    check_step(
+        &rt,
+        &mut board,
+        &(Some(24000), [24000, 24000, 24000, 48000]),
+        1,
+    )?;
+    check_step(&rt, &mut board, &(Some(0), [0, 0, 0, 0]), 2)?;
+    check_step(&rt, &mut board, &(None, [0, 0, 0, 0]), 3)
+}
+
 /// The right side at a place of a snapshot.
 fn side(snapshot: &Snapshot, k: usize) -> Option<u128> {
     snapshot.cuts.items().get(k).map(|line| line.right)

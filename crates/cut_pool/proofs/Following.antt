@@ -1,0 +1,153 @@
+-- right sides that follow an edit
+use Rattle.std.proofs.Common.{◌≡◌, ◌∙◌, ℕ, ◌+◌, ◌-◌, ◌*◌, ◌≤◌, ◌<◌, ◌^◌, List, [], ◌∷◌, ◌++◌, All, Option, None, Some, cond, eqb, length, map, get_or, take, drop, slice_get, slice_index, slice_index_or, sum_by, unwrap_or, zip, zero, suc, refl, sym, ap, subst, arith, ⊎_elim}
+use Rattle.std.specs.Prelude.{◌==◌, min, max}
+use Rattle.std.proofs.Math.Logic.{∥∥₁_elim}
+use Rattle.std.proofs.Math.Nat.{mul-le-mul_left}
+use Rattle.std.proofs.Props.{props}
+use Rattle.std.proofs.lemmas.Bool.{cases_lt, cond_both, eqb-false}
+use Rattle.std.proofs.lemmas.List.{get_or-append-add, get_or-drop, get_or-map, get_or_past, length-map, length-take-le, same_lists}
+use Rattle.std.proofs.lemmas.List.Elements.{All-map}
+use Rattle.std.proofs.lemmas.List.Sums.{sum_by-cons}
+use Rattle.std.proofs.lemmas.Option.{get_or_from_slice_get, slice_get_within}
+use Rattle.net_core.specs.declared.demand.Demand.{Demand}
+use Rattle.net_core.specs.Demands.{AreDemands, IsDemand}
+use Rattle.net_core.specs.Graphs.{Graph, Joins}
+use Rattle.plan_terms.specs.Certificates.{IsRight}
+use Rattle.plan_terms.specs.Edits.{total_need, without}
+use Rattle.plan_terms.specs.Paths.{IsDistance}
+use Rattle.plan_terms.proofs.Distances.{distance_one}
+use Rattle.short_paths.specs.declared.distance_table.DistanceTable.{DistanceTable}
+use Rattle.short_paths.specs.declared.distance_table.TheConstants.{APART}
+use Rattle.short_paths.specs.inner.Pairs.{pair_place}
+use Rattle.short_paths.specs.inner.Tables.{answer_of}
+use Rattle.short_paths.specs.DistanceTables.{AreAllDistances, distance_at}
+use Rattle.metric_cut.specs.declared.cut.Cut.{Cut}
+use Rattle.metric_cut.specs.Cuts.{IsCutOf}
+use Rattle.metric_cut.specs.inner.Rights.{part_of}
+use Rattle.metric_cut.proofs.Sides.{sum_is_right}
+use Rattle.cut_pool.specs.declared.pooled.PooledCut.{PooledCut}
+use Rattle.cut_pool.specs.declared.shares.DemandShare.{DemandShare}
+use Rattle.cut_pool.specs.declared.shares.NeedChange.{NeedChange}
+use Rattle.cut_pool.specs.inner.Pooling.{CanFollow, IsAtDemands, IsSomeCut, StandsAt, followed}
+use Rattle.cut_pool.specs.inner.Shares.{IsShareIn, IsShareOf, asked_by}
+
+-- ---- a right side is the sum of what the demands ask for by the kept distances
+
+zip_parts : (table : DistanceTable) (demands : List Demand) (far : List (Option ℕ)) → length far ≡ length demands
+    → ((k : ℕ) (d : Demand) → slice_get demands k ≡ Some d → slice_index_or far k None ≡ distance_at table d.from.0 d.to.0)
+    → sum_by (λ p. p.0.need * unwrap_or p.1 0) (zip demands far) ≡ sum_by (part_of table) demands
+zip_parts table [] far count each = refl
+zip_parts table (d ∷ ds) [] count each = absurd (omega (arith, count))
+zip_parts table (d ∷ ds) (o ∷ os) count each = omega (
+  arith,
+  sum_by-cons (λ (p : Demand × Option ℕ). p.0.need * unwrap_or p.1 0) (d, o) (zip ds os),
+  sum_by-cons (part_of table) d ds,
+  ap (λ x. d.need * unwrap_or x 0) (each 0 d refl),
+  zip_parts table ds os (omega (arith, count)) (λ k e at. each (suc k) e at),
+)
+
+right_sum : (joins : ℕ → ℕ → ℕ → Type 0) (lengths : List ℕ) (n : ℕ) (table : DistanceTable) (demands : List Demand) (right : ℕ)
+    → AreAllDistances joins lengths n table → All (IsDemand n) demands → IsRight joins lengths demands right → right ≡ sum_by (part_of table) demands
+right_sum joins lengths n table demands right distances known is = is.sum ∙ zip_parts table demands is.far is.count (λ k d at.
+    let demand : IsDemand n d = subst (IsDemand n) (get_or_from_slice_get demands k d d at) (known k d (slice_get_within demands k d at)) in
+    distance_one joins lengths d.from.0 d.to.0 _ _ (is.each k d at) (distances.each d.from.0 d.to.0 demand.from_known demand.to_known))
+
+-- the distance that a cut answers is the one that it keeps
+pub kept_distance : (cut : Cut) → IsSomeCut cut → (a b : ℕ) → a < cut.table.nodes → b < cut.table.nodes → (found : Option ℕ)
+    → ((g : Graph) → IsCutOf g cut → IsDistance (Joins g) cut.lengths a b found) → unwrap_or found 0 ≡ unwrap_or (distance_at cut.table a b) 0
+kept_distance cut some a b first second found is = ∥∥₁_elim some (hlevel props) (λ known.
+    let of = known.1 in
+    let each = of.distances.each a b (omega (arith, first, of.distances.count)) (omega (arith, second, of.distances.count)) in
+    ap (λ o. unwrap_or o 0) (distance_one (Joins known.0) cut.lengths a b found (distance_at cut.table a b) (is known.0 of) each))
+
+-- ---- and it is below 2^84
+
+answer_low : (table : DistanceTable) (k : ℕ) → unwrap_or (answer_of APART (slice_index table.pairs k)) 0 ≤ 2 ^ 39
+answer_low table k =
+    let x = slice_index table.pairs k in
+    ⊎_elim
+    (λ (lt : k < length table.pairs). cond_both (eqb x APART) None (Some x) (λ o. unwrap_or o 0 ≤ 2 ^ 39) (λ _. omega arith) (λ far. omega (arith, table.low k 0 lt (eqb-false x APART far))))
+    (λ past. let none : x ≡ 0 = get_or_past table.pairs k 0 past in rw none (omega arith))
+    (cases_lt k (length table.pairs))
+
+part_low : (table : DistanceTable) (d : Demand) → part_of table d ≤ d.need * 2 ^ 39
+part_low table d =
+    let far = distance_at table d.from.0 d.to.0 in
+    let low : unwrap_or far 0 ≤ 2 ^ 39 = cond_both (d.from.0 == d.to.0) (Some 0) (answer_of APART (slice_index table.pairs (pair_place (min d.from.0 d.to.0) (max d.from.0 d.to.0)))) (λ o. unwrap_or o 0 ≤ 2 ^ 39)
+    (λ _. omega arith) (λ _. answer_low table (pair_place (min d.from.0 d.to.0) (max d.from.0 d.to.0))) in
+    mul-le-mul_left d.need low
+
+sum_low : (table : DistanceTable) (demands : List Demand) → sum_by (part_of table) demands ≤ total_need demands * 2 ^ 39
+sum_low table [] = omega arith
+sum_low table (d ∷ ds) = omega (arith, sum_by-cons (part_of table) d ds, sum_by-cons (λ (x : Demand). x.need) d ds, part_low table d, sum_low table ds)
+
+-- ---- one right side
+
+-- a right side that stands can follow a change of one name's share
+pub can_follow : (n : ℕ) (demands : List Demand) (name : List ℕ) (change : NeedChange) (c : PooledCut) → StandsAt n demands c → IsShareIn name demands change.before
+    → IsShareOf n change.before → IsShareOf n change.after → CanFollow change c
+can_follow n demands name change c at share before after = record {
+  cut = at.cut;
+  before = subst (λ m. IsShareOf m change.before) (sym at.nodes) before;
+  after = subst (λ m. IsShareOf m change.after) (sym at.nodes) after;
+  low = at.low;
+  part = omega (arith, at.right, share c.cut.table);
+}
+
+-- where the shares are the same, nothing follows
+pub followed_same : (change : NeedChange) (pool : List PooledCut) → change.before ≡ change.after → All (CanFollow change) pool → pool ≡ map (followed change) pool
+followed_same change pool same can = same_lists pool (map (followed change) pool) (sym (length-map pool (followed change))) (λ k d lt.
+    let c = get_or pool k d in
+    let back : c.right ≡ (followed change c).right = omega (arith, (can k d lt).part, ap (asked_by c.cut.table) same) in
+    ap (λ right. record { cut = c.cut; right = right }) back ∙ sym (get_or-map (followed change) pool k d d lt))
+
+-- and stands at the demands after it, of which the other names' are the same
+pub stands_after : (n : ℕ) (old new : List Demand) (name : List ℕ) (change : NeedChange) (c : PooledCut) → StandsAt n old c → IsShareIn name old change.before → IsShareIn name new change.after
+    → without name new ≡ without name old → total_need new < 2 ^ 44 → StandsAt n new (followed change c)
+stands_after n old new name change c at before after others total =
+    let table = c.cut.table in
+    let right : (followed change c).right ≡ sum_by (part_of table) new =
+    omega (arith, at.right, before table, after table, ap (sum_by (part_of table)) others) in
+    record {
+      cut = at.cut;
+      nodes = at.nodes;
+      right = right;
+      low = omega (arith, right, sum_low table new, total);
+    }
+
+-- the next right side in a pool of which some have followed is the old one
+pub next_right : {X : Type 0} (f : X → X) (xs ys : List X) (k : ℕ) (d : X) → k < length xs → ys ≡ map f (take k xs) ++ drop k xs → get_or ys k d ≡ get_or xs k d
+next_right f xs ys k d lt is =
+    let front = map f (take k xs) in
+    let count : length front ≡ k = length-map (take k xs) f ∙ length-take-le k xs (omega (arith, lt)) in
+    ap (λ zs. get_or zs k d) is
+    ∙ (ap (λ n. get_or (front ++ drop k xs) n d) (let at : k ≡ length front + 0 = omega (arith, count) in at)
+    ∙ (get_or-append-add front (drop k xs) 0 d
+    ∙ (get_or-drop k xs 0 d ∙ ap (λ n. get_or xs n d) (let at : k + 0 ≡ k = omega arith in at))))
+
+-- each right side of a pool stands after it has followed
+pub all_after : (n : ℕ) (old new : List Demand) (name : List ℕ) (change : NeedChange) (pool : List PooledCut) → All (StandsAt n old) pool → IsShareIn name old change.before → IsShareIn name new change.after
+    → without name new ≡ without name old → total_need new < 2 ^ 44 → All (StandsAt n new) (map (followed change) pool)
+all_after n old new name change pool at before after others total =
+    All-map (StandsAt n new) (followed change) pool (λ k d lt. stands_after n old new name change (get_or pool k d) (at k d lt) before after others total)
+
+pub cuts_same : (change : NeedChange) (pool : List PooledCut) → map (λ c. c.cut) (map (followed change) pool) ≡ map (λ c. c.cut) pool
+cuts_same change [] = refl
+cuts_same change (c ∷ pool) = ap (λ (cuts : List Cut). c.cut ∷ cuts) (cuts_same change pool)
+
+-- ---- what a board tells of its cuts, and what it is told again
+
+-- a pooled cut with its right side stands at the demands
+pub stands_now : (g : Graph) (n : ℕ) (demands : List Demand) (c : PooledCut) → IsCutOf g c.cut → length g.nodes ≡ n → AreDemands n demands → IsRight (Joins g) c.cut.lengths demands c.right → c.right < 2 ^ 84 → StandsAt n demands c
+stands_now g n demands c of nodes are right low = record {
+  cut = ∣ (g, of) ∣₁;
+  nodes = of.distances.count ∙ nodes;
+  right = right_sum (Joins g) c.cut.lengths (length g.nodes) c.cut.table demands c.right of.distances (subst (λ m. All (IsDemand m) demands) (sym nodes) are.each) right;
+  low = low;
+}
+
+pub at_demands : (n : ℕ) (demands : List Demand) (c : PooledCut) → AreDemands n demands → StandsAt n demands c → IsAtDemands demands c
+at_demands n demands c are at = record {
+  right_is = λ g of. sum_is_right (Joins g) c.cut.lengths (length g.nodes) c.cut.table demands c.right of.distances (subst (λ m. All (IsDemand m) demands) (sym at.nodes) are.each) at.right;
+  low = at.low;
+}
