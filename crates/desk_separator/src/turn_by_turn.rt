@@ -19,7 +19,7 @@ use metric_cut::Cut;
 use net_core::{Caps, Instance, List, NoMemory, StateId};
 use outside_io::Gate;
 use plan_types::Spot;
-use separator::{Separate, Separated, StateAnswer, line_of, separate_state};
+use separator::{KnownColumns, Separate, Separated, StateAnswer, line_of};
 use std::alloc::Global;
 use std::sync::Wait;
 use turn_lock::Desk;
@@ -41,6 +41,7 @@ pub struct TurnByTurn<'r, 'd, 'a, R, G> {
     gate: &'r G,
     alloc: Global,
     taker: TurnTaker<'d, 'a>,
+    known: KnownColumns,
 }
 
 impl<'r, 'd, 'a, R: Wait, G: Gate> TurnByTurn<'r, 'd, 'a, R, G> {
@@ -62,6 +63,7 @@ impl<'r, 'd, 'a, R: Wait, G: Gate> TurnByTurn<'r, 'd, 'a, R, G> {
             gate,
             alloc,
             taker: TurnTaker::new(caller),
+            known: KnownColumns::new(alloc),
         }
     }
 
@@ -85,6 +87,7 @@ fn look_at<G: Gate>(
     instance: &Instance,
     state: StateId,
     caps: &Caps,
+    known: &mut KnownColumns,
 ) -> Result<RouteAnswer, NoMemory>
     requires state { state.0 < length instance.now.states.now.listed + 1 }
     requires survivable { IsSurvivable (case_of instance.now) }
@@ -93,7 +96,7 @@ fn look_at<G: Gate>(
     ensures { IfOk result (IsFinding (graph_in (case_of instance.now) state.0) instance.now.demands.now caps.now) }
 {
     gate.before(caller, state.0);
-    let found = separate_state(alloc, instance, state, caps);
+    let found = known.separate_state(alloc, instance, state, caps);
     gate.after(caller, state.0);
     found
 }
@@ -107,6 +110,7 @@ fn answer_state<R: Wait, G: Gate>(
     state: StateId,
     caps: &Caps,
     taker: &mut TurnTaker,
+    known: &mut KnownColumns,
 ) -> Result<StateAnswer, NoMemory>
     requires net { desk_network taker.old ≡ instance.now.net.now }
     requires listed { desk_states taker.old ≡ instance.now.states.now }
@@ -121,7 +125,7 @@ fn answer_state<R: Wait, G: Gate>(
     ensures answer { IfOk result (λ a. IsAnswerOf (case_of instance.now) caps.now (history_seen taker.new) state.0 a.answer) }
     ensures among { IfOk result (λ a. All (Contains (cut_answered a.answer)) (cuts_since (own_entries taker.old) (own_entries taker.new))) }
 {
-    match look_at(gate, alloc, taker.number(), instance, state, caps)? {
+    match look_at(gate, alloc, taker.number(), instance, state, caps, known)? {
         RouteAnswer::Routed(routing) => Ok(StateAnswer {
             state,
             answer: Separated::Routed(routing),
@@ -149,6 +153,7 @@ fn answer_states<R: Wait, G: Gate>(
     instance: &Instance,
     caps: &Caps,
     taker: &mut TurnTaker,
+    known: &mut KnownColumns,
 ) -> Result<List<StateAnswer>, NoMemory>
     requires net { desk_network taker.old ≡ instance.now.net.now }
     requires listed { desk_states taker.old ≡ instance.now.states.now }
@@ -162,7 +167,7 @@ fn answer_states<R: Wait, G: Gate>(
 {
     let mut answers = List::new(alloc);
     for s in 0..instance.states.count() {
-        answers.push(answer_state(rt, gate, alloc, instance, StateId(s), caps, taker)?)?;
+        answers.push(answer_state(rt, gate, alloc, instance, StateId(s), caps, taker, known)?)?;
     }
     Ok(answers)
 }
@@ -198,6 +203,7 @@ impl<'r, 'd, 'a, R: Wait, G: Gate> Separate for TurnByTurn<'r, 'd, 'a, R, G> {
             instance,
             caps,
             &mut self.taker,
+            &mut self.known,
         )
     }
 }

@@ -16,15 +16,16 @@
 
 mod admission;
 pub mod answers;
+pub mod known;
 pub mod one_by_one;
-pub mod one_state;
+mod one_state;
 mod ranges;
 pub mod separating;
 
 pub use admission::line_of;
 pub use answers::{Separated, StateAnswer};
+pub use known::KnownColumns;
 pub use one_by_one::OneByOne;
-pub use one_state::separate_state;
 pub use separating::Separate;
 
 #[cfg(test)]

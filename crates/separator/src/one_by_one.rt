@@ -6,7 +6,7 @@ ghost use Rattle.separator.specs.inner.Working.{AreAnswersBelow, PoolsBelow, Poo
 
 use crate::admission::{line_and_spot, spot_of};
 use crate::answers::{Separated, StateAnswer};
-use crate::one_state::separate_state;
+use crate::known::KnownColumns;
 use crate::separating::Separate;
 use cut_pool::Board;
 use flow_router::RouteAnswer;
@@ -30,6 +30,7 @@ pub struct OneByOne<'a> {
     board: Board<'a>,
     alloc: Global,
     began: Remembered<u64>,
+    known: KnownColumns,
     pub ghost began_before: { began.value ≤ length board.entries },
 }
 
@@ -46,6 +47,7 @@ impl<'a> OneByOne<'a> {
             board,
             alloc,
             began,
+            known: KnownColumns::new(alloc),
         }
     }
 
@@ -64,6 +66,7 @@ fn answer_state(
     state: StateId,
     caps: &Caps,
     board: &mut Board,
+    known: &mut KnownColumns,
 ) -> Result<StateAnswer, NoMemory>
     requires net { board.old.net.now ≡ instance.now.net.now }
     requires listed { board.old.states.now ≡ instance.now.states.now }
@@ -76,7 +79,7 @@ fn answer_state(
     ensures answer { IfOk result (λ a. IsAnswerOf (case_of instance.now) caps.now board.new.entries state.0 a.answer) }
     ensures among { IfOk result (λ a. All (Contains (cut_answered a.answer)) (cuts_since board.old.entries board.new.entries)) }
 {
-    match separate_state(alloc, instance, state, caps)? {
+    match known.separate_state(alloc, instance, state, caps)? {
         RouteAnswer::Routed(routing) => Ok(StateAnswer {
             state,
             answer: Separated::Routed(routing),
@@ -101,6 +104,7 @@ fn answer_states(
     instance: &Instance,
     caps: &Caps,
     board: &mut Board,
+    known: &mut KnownColumns,
 ) -> Result<List<StateAnswer>, NoMemory>
     requires net { board.old.net.now ≡ instance.now.net.now }
     requires listed { board.old.states.now ≡ instance.now.states.now }
@@ -112,7 +116,7 @@ fn answer_states(
 {
     let mut answers = List::new(alloc);
     for s in 0..instance.states.count() {
-        answers.push(answer_state(alloc, instance, StateId(s), caps, board)?)?;
+        answers.push(answer_state(alloc, instance, StateId(s), caps, board, known)?)?;
     }
     Ok(answers)
 }
@@ -144,6 +148,6 @@ impl<'a> Separate for OneByOne<'a> {
         instance: &Instance,
         caps: &Caps,
     ) -> Result<List<StateAnswer>, NoMemory> {
-        answer_states(self.alloc, instance, caps, &mut self.board)
+        answer_states(self.alloc, instance, caps, &mut self.board, &mut self.known)
     }
 }

@@ -6,9 +6,9 @@ ghost use Rattle.route_law.specs.Routings.{AreJoined};
 ghost use Rattle.separator.specs.Findings.{IsFinding, IsFoundCutOf};
 
 use crate::ranges::are_caps;
-use flow_router::{RouteAnswer, route_state};
+use flow_router::{RouteAnswer, route_state_from};
 use metric_cut::Cut;
-use net_core::{Caps, Demands, Instance, NoMemory, StateId, Surviving};
+use net_core::{Caps, Demands, Instance, List, NoMemory, RouteColumn, StateId, Surviving};
 use node_sets::{grown_set, threshold_set};
 use std::alloc::Global;
 
@@ -42,12 +42,15 @@ fn nearest_set<'a>(
 /// In the triangle AB, BC, AC with 6.00, 1.999 and 10.00 the demands of 12.00 from A to C and of 4.00 from A to B aren't routed: the
 /// links at C have 11.999 together, and the cut has the lengths 0, 1, 1.
 ///
-/// It takes the time and memory of `route_state`, and time in the cube of the nodes.
+/// `known` are columns at hand, whatever they are, and become those that the state's routing program ends with.
+///
+/// It takes the time and memory of `route_state_from`, and time in the cube of the nodes.
 pub fn separate_state(
     alloc: Global,
     instance: &Instance,
     state: StateId,
     caps: &Caps,
+    known: &mut List<RouteColumn>,
 ) -> Result<RouteAnswer, NoMemory>
     requires state { state.0 < length instance.now.states.now.listed + 1 }
     requires scale { 0 < caps.now.scale }
@@ -66,7 +69,7 @@ pub fn separate_state(
     if let Some(set) = grown_set(alloc, &graph, demands, caps)? {
         return Ok(RouteAnswer::Violated(set));
     }
-    match route_state(alloc, net, states, state, demands, caps)? {
+    match route_state_from(alloc, net, states, state, demands, caps, known)? {
         RouteAnswer::Violated(cut) => {
             let nearest = nearest_set(alloc, &graph, demands, caps, cut)?;
             Ok(RouteAnswer::Violated(nearest))

@@ -1,0 +1,67 @@
+ghost use Rattle.std.specs.Prelude.{◌≡◌, ◌<◌, ◌+◌, IfOk, length};
+ghost use Rattle.net_core.specs.Cases.{graph_in};
+ghost use Rattle.net_core.specs.Views.{case_of};
+ghost use Rattle.route_law.specs.Routings.{AreJoined};
+ghost use Rattle.separator.specs.Findings.{IsFinding};
+
+use crate::one_state::separate_state;
+use flow_router::RouteAnswer;
+use net_core::{Caps, Instance, List, NoMemory, RouteColumn, StateId};
+use std::alloc::Global;
+
+/// The columns that the routing programs of the states ended with, one list for each state from state 0 on. They save work and
+/// change no answer's meaning, so that nothing need be known of them.
+#[derive(Drop)]
+pub struct KnownColumns {
+    by_state: List<List<RouteColumn>>,
+}
+
+impl KnownColumns {
+    /// No columns at all.
+    pub fn new(alloc: Global) -> KnownColumns {
+        KnownColumns {
+            by_state: List::new(alloc),
+        }
+    }
+
+    /// The same as `separate_state`, with what is known of the state at hand. What its program ends with is known then.
+    pub fn separate_state(
+        &mut self,
+        alloc: Global,
+        instance: &Instance,
+        state: StateId,
+        caps: &Caps,
+    ) -> Result<RouteAnswer, NoMemory>
+        requires state { state.0 < length instance.now.states.now.listed + 1 }
+        requires scale { 0 < caps.now.scale }
+        requires caps { length caps.now.nums ≡ length instance.now.net.now.links }
+        requires joined { AreJoined (graph_in (case_of instance.now) state.0) instance.now.demands.now }
+        ensures { IfOk result (IsFinding (graph_in (case_of instance.now) state.0) instance.now.demands.now caps.now) }
+    {
+        separate_known(alloc, instance, state, caps, &mut self.by_state)
+    }
+}
+
+/// The same over the lists themselves.
+fn separate_known(
+    alloc: Global,
+    instance: &Instance,
+    state: StateId,
+    caps: &Caps,
+    by_state: &mut List<List<RouteColumn>>,
+) -> Result<RouteAnswer, NoMemory>
+    requires state { state.0 < length instance.now.states.now.listed + 1 }
+    requires scale { 0 < caps.now.scale }
+    requires caps { length caps.now.nums ≡ length instance.now.net.now.links }
+    requires joined { AreJoined (graph_in (case_of instance.now) state.0) instance.now.demands.now }
+    ensures { IfOk result (IsFinding (graph_in (case_of instance.now) state.0) instance.now.demands.now caps.now) }
+{
+    let at = state.0 as usize;
+    if at < by_state.len() {
+        return separate_state(alloc, instance, state, caps, &mut by_state.items_mut()[at]);
+    }
+    let mut known = List::new(alloc);
+    let found = separate_state(alloc, instance, state, caps, &mut known)?;
+    by_state.push(known)?;
+    Ok(found)
+}
