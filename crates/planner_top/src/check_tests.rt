@@ -59,7 +59,12 @@ fn checked() -> [Checked; 4] {
 }
 
 /// The text with one part in place of another, from where that stands first.
-fn replaced(alloc: Global, text: &[u8], part: &[u8], by: &[u8]) -> Result<Bytes, NoMemory> {
+pub(crate) fn replaced(
+    alloc: Global,
+    text: &[u8],
+    part: &[u8],
+    by: &[u8],
+) -> Result<Bytes, NoMemory> {
     let mut new = List::new(alloc);
     for at in 0..text.len() {
         if text[at..].starts_with(part) {

@@ -45,6 +45,10 @@ fn main(rt: HostRuntime) -> ExitCode {
 #[cfg(test)]
 mod check_tests;
 #[cfg(test)]
+mod damaged_tests;
+#[cfg(test)]
+mod fault_tests;
+#[cfg(test)]
 mod session_tests;
 #[cfg(test)]
 mod test_files;

@@ -8,7 +8,7 @@ use std::sync::Wait;
 use std::test::Fail;
 use std::thread::Threads;
 
-fn triangle() -> &'static [u8] {
+pub(crate) fn triangle() -> &'static [u8] {
     b"?SNDlib native format; type: network; version: 1.0
 NODES ( A B C )
 LINKS ( AB ( A B ) 0 0 0 0 ( 10.00 5.00 ) BC ( B C ) 0 0 0 0 ( 10.00 5.00 ) AC ( A C ) 0 0 0 0 ( 10.00 5.00 ) )

@@ -1,5 +1,5 @@
 use crate::status::Status;
-use crate::test_files::{all_files, one_file, runs};
+use crate::test_files::{all_files, one_file, runs, triangle};
 use net_core::{Bytes, List, NoMemory};
 use std::alloc::Global;
 use std::process::Abort;
@@ -40,7 +40,7 @@ tight 1 ( 0 0 0 )
 }
 
 /// The report of the triangle without failures.
-fn triangle_report() -> &'static str {
+pub(crate) fn triangle_report() -> &'static str {
     "?planner report; version: 1
 NOTES ( )
 JOURNAL ( ( 1 cut 0 )
@@ -377,6 +377,25 @@ fn a_long_text_is_put_in_pieces(rt: HostRuntime) -> Result<(), Fail> {
         Some(ended.out.bytes()),
         text.items().get(..4096 + (5514 - 4096) / 2)
     );
+    Ok(())
+}
+
+/// The triangle's network file, with as many spaces behind it as a file may have.
+fn longest_triangle(alloc: Global) -> Result<Bytes, NoMemory> {
+    let mut text = List::from_slice(alloc, triangle())?;
+    let spaces = 16777216usize.saturating_sub(text.len());
+    text.append(List::filled(alloc, b' ', spaces)?.items())?;
+    Ok(text)
+}
+
+#[test]
+fn the_longest_file_is_read(rt: HostRuntime) -> Result<(), Fail> {
+    let text = longest_triangle(rt.alloc())?;
+    assert_eq!(rt; text.len(), 16777216);
+    let files = one_file(rt.alloc(), "long", text)?;
+    let ended = runs(&rt, "plan long", files, &[], &[])?;
+    assert_eq!(rt; (ended.status, ended.faults), (Status::Done, (0, 0)));
+    assert_eq!(rt; ended.out.bytes(), triangle_report().as_bytes());
     Ok(())
 }
 
