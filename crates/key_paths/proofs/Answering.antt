@@ -30,10 +30,10 @@ use Rattle.key_law.specs.KeyRows.{full_prices, role_value}
 use Rattle.key_law.proofs.Ends.{kept_optimum}
 use Rattle.key_law.proofs.Spread.{is_spread}
 use Rattle.key_law.proofs.Wide.{wide_block_common}
-use Rattle.key_paths.specs.inner.Bases.{IsKeyed}
+use Rattle.key_rows.specs.Bases.{IsKeyed}
 use Rattle.key_paths.specs.inner.Ends.{shares, role_over, IsEnded, IsWideEnd, IsKeyedEnd}
 use Rattle.key_paths.specs.inner.Gaining.{NoneGains}
-use Rattle.key_paths.specs.declared.keyed.Keyed.{Keyed}
+use Rattle.key_rows.specs.declared.keyed.Keyed.{Keyed}
 use Rattle.key_paths.proofs.Costs.{none_gains}
 use Rattle.key_paths.proofs.Fitting.{above, share_times, role_over_is, role_low}
 

@@ -20,9 +20,9 @@ use Rattle.plan_terms.proofs.Joining.{joins_inside}
 use Rattle.short_paths.proofs.Pricing.{few_nodes}
 use Rattle.simplex_law.proofs.Sparse.{sparse}
 use Rattle.key_paths.specs.declared.carrier.Carrier.{Carrier}
-use Rattle.key_paths.specs.declared.keyed.Keyed.{Keyed}
+use Rattle.key_rows.specs.declared.keyed.Keyed.{Keyed}
 use Rattle.key_paths.specs.inner.Gaining.{cost_at, AreLinkCosts, AreOffers, IsCarried, IsCarrier, IsGaining, NoneGains, NoneIsCheap, Offers}
-use Rattle.key_paths.specs.inner.Names.{path_total, IsShort}
+use Rattle.key_rows.specs.Names.{path_total, IsShortPath}
 
 prices_along : (n : ℕ) (nums : ℕ → ℤ) (prices : List ℕ) (path : List LinkId) → AllByRecursion (λ l. l.0 < n) path → ((e : ℕ) → e < n → nums e ≡ pos (slice_index prices e))
     → path_total nums path ≡ pos (length_of prices path)
@@ -30,7 +30,7 @@ prices_along n nums prices [] all same = refl
 prices_along n nums prices (e ∷ es) all same = omega (arith, ints, same e.0 all.0, prices_along n nums prices es all.1 same)
 
 -- the links of a demand's path are known, and few
-pub carried_short : (g : Graph) (demands : List Demand) (k : ℕ) (path : List LinkId) → ∥ IsNetwork g.nodes g.links ∥₁ → AreDemands (length g.nodes) demands → IsCarried g demands k path → IsShort (length g.links) path
+pub carried_short : (g : Graph) (demands : List Demand) (k : ℕ) (path : List LinkId) → ∥ IsNetwork g.nodes g.links ∥₁ → AreDemands (length g.nodes) demands → IsCarried g demands k path → IsShortPath (length g.links) path
 carried_short g demands k path checked belong h =
     let known : IsDemand (length g.nodes) h.demand = subst (IsDemand (length g.nodes)) (get_or_from_slice_get demands k h.demand h.demand h.at) (belong.each k h.demand (slice_get_within demands k h.demand h.at)) in
     let short = path_few (Joins g) (length g.nodes) (λ e x y j. (joins_inside g e x y checked j).1) h.demand.from.0 h.demand.to.0 known.from_known path h.leads in

@@ -17,10 +17,10 @@ use Rattle.key_law.specs.Keys.{key, key_part}
 use Rattle.key_law.specs.KeyRows.{cost, full_prices}
 use Rattle.key_law.proofs.Kept.{cost_product}
 use Rattle.key_law.proofs.Spread.{sum-split, is_spread}
-use Rattle.key_paths.specs.inner.Bases.{IsColumnNamed, IsKeyed}
+use Rattle.key_rows.specs.Bases.{IsColumnNamed, IsKeyed}
+use Rattle.key_rows.specs.Names.{path_uses, uses, own_entry, gain_in}
 use Rattle.key_paths.specs.inner.Gaining.{cost_at, IsGaining, IsRouteName, NoneGains}
-use Rattle.key_paths.specs.inner.Names.{path_uses, uses, own_entry, gain_in}
-use Rattle.key_paths.specs.declared.keyed.Keyed.{Keyed}
+use Rattle.key_rows.specs.declared.keyed.Keyed.{Keyed}
 use Rattle.key_paths.proofs.Carried.{carried_place}
 use Rattle.key_paths.proofs.RouteNames.{route_name, route_named}
 

@@ -11,8 +11,8 @@ use Rattle.checked_fraction.specs.declared.row.Row.{Row}
 use Rattle.simplex_law.specs.Sums.{unit_vector}
 use Rattle.simplex_core.specs.Tables.{den_of}
 use Rattle.key_paths.specs.inner.Ends.{row_den, shares, key_over, FitOver}
-use Rattle.key_paths.specs.inner.KeyRows.{amounts, times_at, weighted}
-use Rattle.key_paths.specs.declared.keyed.Keyed.{Keyed}
+use Rattle.key_rows.specs.KeyRows.{amounts, times_taken, weighted}
+use Rattle.key_rows.specs.declared.keyed.Keyed.{Keyed}
 
 -- the denominator of a row at hand
 pub row_den_at : (rows : List Row) (i : ℕ) (row : Row) → slice_get rows i ≡ Some row → unsigned_abs row.den ≡ row_den rows i
@@ -25,9 +25,9 @@ share_at (row ∷ rows) all (suc i) l = share_at rows all i (omega (arith, l))
 
 module _ (b : Keyed) (all d : ℕ) where
   -- one row more
-  key_more : (n : ℕ) → key_over b all d (n + 1) ≡ key_over b all d n -ℤ (times_at b.owners (shares b.rows all) d n *ℤ amounts b.values n)
-  key_more n = subst (λ m. key_over b all d m ≡ key_over b all d n -ℤ (times_at b.owners (shares b.rows all) d n *ℤ amounts b.values n)) (one_more n)
-      (apart (pos all *ℤ num b.bounds (length b.rows + d)) (weighted b.owners (shares b.rows all) d (amounts b.values) n) (times_at b.owners (shares b.rows all) d n *ℤ amounts b.values n))
+  key_more : (n : ℕ) → key_over b all d (n + 1) ≡ key_over b all d n -ℤ (times_taken b.owners (shares b.rows all) d n *ℤ amounts b.values n)
+  key_more n = subst (λ m. key_over b all d m ≡ key_over b all d n -ℤ (times_taken b.owners (shares b.rows all) d n *ℤ amounts b.values n)) (one_more n)
+      (apart (pos all *ℤ num b.bounds (length b.rows + d)) (weighted b.owners (shares b.rows all) d (amounts b.values) n) (times_taken b.owners (shares b.rows all) d n *ℤ amounts b.values n))
     where
       one_more : (n : ℕ) → suc n ≡ n + 1
       one_more n = omega arith
@@ -37,14 +37,14 @@ module _ (b : Keyed) (all d : ℕ) where
 
   -- what a row takes of the bound
   pub own_is : (n : ℕ) (row : Row) (owner value own : ℕ) → n < length b.rows → slice_get b.rows n ≡ Some row → owner ≡ get_or b.owners n 0 → value ≡ get_or b.values n 0
-      → pos own ≡ (unit_vector owner d *ℤ pos (all / unsigned_abs row.den)) *ℤ pos value → pos own ≡ times_at b.owners (shares b.rows all) d n *ℤ amounts b.values n
+      → pos own ≡ (unit_vector owner d *ℤ pos (all / unsigned_abs row.den)) *ℤ pos value → pos own ≡ times_taken b.owners (shares b.rows all) d n *ℤ amounts b.values n
   own_is n row owner value own l at of is e =
       let share : pos (all / unsigned_abs row.den) ≡ num (shares b.rows all) n = ap (λ x. pos (all / x)) (row_den_at b.rows n row at) ∙ sym (share_at b.rows all n l) in
       e ∙ (ap (λ x. (unit_vector x d *ℤ pos (all / unsigned_abs row.den)) *ℤ pos value) of
       ∙ (ap (λ x. (unit_vector (get_or b.owners n 0) d *ℤ x) *ℤ pos value) share ∙ ap (λ x. (unit_vector (get_or b.owners n 0) d *ℤ num (shares b.rows all) n) *ℤ pos x) is))
 
   module _ (n own left : ℕ) (fit : FitOver b all) (ld : d < length b.duals) (l : n < length b.rows)
-      (own_is : pos own ≡ times_at b.owners (shares b.rows all) d n *ℤ amounts b.values n) (left_is : pos left ≡ key_over b all d n) where
+      (own_is : pos own ≡ times_taken b.owners (shares b.rows all) d n *ℤ amounts b.values n) (left_is : pos left ≡ key_over b all d n) where
     -- a row takes no more than is left
     pub takes_less : own ≤ left
     takes_less = below (fit.keys d (n + 1) ld (omega (arith, l))) (key_more n) own_is left_is

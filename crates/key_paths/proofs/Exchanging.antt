@@ -22,13 +22,13 @@ use Rattle.key_law.proofs.Change.{new_difference}
 use Rattle.key_law.proofs.Exchange.{exchanged, swap_first, swap_second, different, key_at}
 use Rattle.key_law.proofs.Leaving.{exchanged_pick, exchanged_product, exchanged_prices}
 use Rattle.key_law.proofs.Roles.{some_key_rows}
-use Rattle.key_paths.specs.inner.Bases.{IsShaped, IsColumnNamed, IsKeyed}
+use Rattle.key_rows.specs.Bases.{IsShapedBasis, IsColumnNamed, IsKeyed}
+use Rattle.key_rows.specs.KeyRows.{amounts, less_rows, IsOwn}
+use Rattle.key_rows.specs.Names.{demand_in, links_in, column_name, key_name, key_links, left_uses, own_entry, owner_in, path_uses, IsNameWithin}
 use Rattle.key_paths.specs.inner.Held.{IsNameOf, IsNamedColumn, IsHeld, IsEntering, HaveProducts}
-use Rattle.key_paths.specs.inner.KeyRows.{amounts, less_rows, IsOwn}
-use Rattle.key_paths.specs.inner.Names.{demand_in, links_in, name_at, key_name, key_links, left_uses, own_entry, owner_in, path_uses, IsNameWithin}
 use Rattle.key_paths.specs.inner.Turning.{key_takes, with_numbers, IsRoleSwap}
-use Rattle.key_paths.specs.declared.keyed.Keyed.{Keyed}
-use Rattle.key_paths.proofs.Columns.{owner_entry, times_are, have_weights}
+use Rattle.key_rows.specs.declared.keyed.Keyed.{Keyed}
+use Rattle.key_rows.proofs.Columns.{owner_entry, times_are, have_weights}
 use Rattle.key_paths.proofs.Holding.{den_narrow, bound_narrow, held_packing, held_columns, key_named, key_own, left_low, left_of_name}
 use Rattle.key_paths.proofs.Named.{uses_path, own_owner}
 
@@ -98,24 +98,24 @@ module _ {links demands : ℕ} {bound : ℕ → ℤ} {basis : ℕ → ColumnOf R
   row_in_place : place i < links + demands
   row_in_place = h.keyed.kept.roles.place_in i (omega (arith, li))
 
-  row_named : IsColumnNamed links demands (name_at b.names (place i)) (basis (place i))
+  row_named : IsColumnNamed links demands (column_name b.names (place i)) (basis (place i))
   row_named = h.keyed.named (place i) row_in_place
 
-  row_own : own_entry (name_at b.names (place i)) d ≡ pos 1
+  row_own : own_entry (column_name b.names (place i)) d ≡ pos 1
   row_own = sym (row_named.demand d low) ∙ (is_exchanged.owned d low ∙ unit-same d)
 
   old_takes : (k : ℕ) → k < links → key_takes b d k ≡ bound (links + d) *ℤ key_part links demands basis place d k
   old_takes k lk = subst (λ n. num b.bounds (n + d) *ℤ path_uses (links_in (key_name b.names b.places n d)) k ≡ bound (links + d) *ℤ key_part links demands basis place d k) (sym rows_are)
       (times_same (h.keyed.bounds (links + d) e.inside) (sym ((key_named h d low).link k lk ∙ uses_path (key_name b.names b.places links d) d (key_own h d low) k)))
 
-  new_name : name_at s.names (get_or s.places (length s.rows + d) 0) ≡ name_at b.names (place i)
-  new_name = ap (λ xs. name_at xs (get_or s.places (length s.rows + d) 0)) w.names
-      ∙ (ap (λ n. name_at b.names (get_or s.places (n + d) 0)) (w.rows ∙ rows_are) ∙ ap (λ p. name_at b.names p) (placed (links + d) e.inside ∙ new_place))
+  new_name : column_name s.names (get_or s.places (length s.rows + d) 0) ≡ column_name b.names (place i)
+  new_name = ap (λ xs. column_name xs (get_or s.places (length s.rows + d) 0)) w.names
+      ∙ (ap (λ n. column_name b.names (get_or s.places (n + d) 0)) (w.rows ∙ rows_are) ∙ ap (λ p. column_name b.names p) (placed (links + d) e.inside ∙ new_place))
 
   new_takes : (k : ℕ) → k < links → key_takes s d k ≡ bound (links + d) *ℤ key_part links demands basis next_place d k
   new_takes k lk = times_same
       (ap (λ xs. num xs (length s.rows + d)) w.bounds ∙ (ap (λ n. num b.bounds (n + d)) (w.rows ∙ rows_are) ∙ h.keyed.bounds (links + d) e.inside))
-      (ap (λ x. path_uses (links_in x) k) new_name ∙ (sym (row_named.link k lk ∙ uses_path (name_at b.names (place i)) d row_own k) ∙ ap (λ p. (basis p).entry k) (sym new_place)))
+      (ap (λ x. path_uses (links_in x) k) new_name ∙ (sym (row_named.link k lk ∙ uses_path (column_name b.names (place i)) d row_own k) ∙ ap (λ p. (basis p).entry k) (sym new_place)))
 
   pub rest_is : (k : ℕ) → k < links → num s.rest k ≡ left_column links demands basis next_place bound k
   rest_is k lk = given (bound (links + d)) (key_part links demands basis place d k) (key_part links demands basis next_place d k) (w.rest k) (h.keyed.rest k lk) (old_takes k lk) (new_takes k lk)
@@ -132,7 +132,7 @@ module _ {links demands : ℕ} {bound : ℕ → ℤ} {basis : ℕ → ColumnOf R
       (cases_lt k links)
 
   -- the lists after it
-  pub shaped : IsShaped links demands s
+  pub shaped : IsShapedBasis links demands s
   shaped = let o = h.keyed.shaped in record {
     names = ap length w.names ∙ o.names;
     places = w.count ∙ o.places;
@@ -151,7 +151,7 @@ module _ {links demands : ℕ} {bound : ℕ → ℤ} {basis : ℕ → ColumnOf R
     narrow_bounds = λ k. subst (λ xs. IsNarrow (num xs k)) (sym w.bounds) (o.narrow_bounds k);
     narrow_duals = λ k. subst (λ xs. IsNarrow (num xs k)) (sym w.duals) (o.narrow_duals k);
     inside = λ r l. subst (λ x. x < links + demands) (sym (placed r l)) (kept.roles.place_in r l);
-    within = λ j l. subst (λ xs. IsNameWithin links (name_at xs j)) (sym w.names) (o.within j l);
+    within = λ j l. subst (λ xs. IsNameWithin links (column_name xs j)) (sym w.names) (o.within j l);
     short = o.short;
   }
 
@@ -171,7 +171,7 @@ module _ {links demands : ℕ} {bound : ℕ → ℤ} {basis : ℕ → ColumnOf R
     abbrev next : Keyed
     next = with_numbers s values products
 
-    next_shaped : IsShaped links demands next
+    next_shaped : IsShapedBasis links demands next
     next_shaped = record {
       names = shaped.names;
       places = shaped.places;
@@ -191,15 +191,15 @@ module _ {links demands : ℕ} {bound : ℕ → ℤ} {basis : ℕ → ColumnOf R
       short = shaped.short;
     }
 
-    owned : (j : ℕ) → j < links → get_or s.owners j 0 ≡ owner_in demands (name_at s.names (next_place j))
+    owned : (j : ℕ) → j < links → get_or s.owners j 0 ≡ owner_in demands (column_name s.names (next_place j))
     owned j lj = ap (λ xs. get_or xs j 0) w.owners ∙ (⊎_elim
-        (λ f. subst (λ y. get_or b.owners y 0 ≡ owner_in demands (name_at b.names (next_place y))) (sym f)
-        (own ∙ sym (ap (λ x. owner_in demands (name_at b.names (place x))) (swap_first i (links + d)) ∙ own_owner (name_at b.names (place (links + d))) demands d key_own_at)))
-        (λ ne. h.keyed.owned j lj ∙ sym (ap (λ x. owner_in demands (name_at b.names x)) (row_place j lj ne)))
-        (cases_eq j i) ∙ ap (λ xs. owner_in demands (name_at xs (next_place j))) (sym w.names))
+        (λ f. subst (λ y. get_or b.owners y 0 ≡ owner_in demands (column_name b.names (next_place y))) (sym f)
+        (own ∙ sym (ap (λ x. owner_in demands (column_name b.names (place x))) (swap_first i (links + d)) ∙ own_owner (column_name b.names (place (links + d))) demands d key_own_at)))
+        (λ ne. h.keyed.owned j lj ∙ sym (ap (λ x. owner_in demands (column_name b.names x)) (row_place j lj ne)))
+        (cases_eq j i) ∙ ap (λ xs. owner_in demands (column_name xs (next_place j))) (sym w.names))
       where
-        key_own_at : own_entry (name_at b.names (place (links + d))) d ≡ pos 1
-        key_own_at = subst (λ x. own_entry (name_at b.names x) d ≡ pos 1) (h.keyed.placed (links + d) e.inside) (key_own h d low)
+        key_own_at : own_entry (column_name b.names (place (links + d))) d ≡ pos 1
+        key_own_at = subst (λ x. own_entry (column_name b.names x) d ≡ pos 1) (h.keyed.placed (links + d) e.inside) (key_own h d low)
 
         row_place : (j : ℕ) → j < links → j ≢ i → next_place j ≡ place j
         row_place j lj ne = ap place (swap_other i (links + d) j (λ f. ne (sym f)) (λ f. omega (arith, f, lj)))
@@ -207,7 +207,7 @@ module _ {links demands : ℕ} {bound : ℕ → ℤ} {basis : ℕ → ColumnOf R
     next_keyed : IsKeyed links demands bound basis next_place next_role next
     next_keyed = record {
       shaped = next_shaped;
-      named = λ j l. subst (λ xs. IsColumnNamed links demands (name_at xs j) (basis j)) (sym w.names) (h.keyed.named j l);
+      named = λ j l. subst (λ xs. IsColumnNamed links demands (column_name xs j) (basis j)) (sym w.names) (h.keyed.named j l);
       placed = placed;
       owned = owned;
       kept = subst (λ q. IsKept links demands bound basis next_place next_role (nums_at s.rows) (den_at s.rows) (num q.nums) q.den) (sym w.prices) kept;
@@ -241,7 +241,7 @@ module _ {links demands : ℕ} {bound : ℕ → ℤ} {basis : ℕ → ColumnOf R
             keyed = next_keyed;
             few = h.few;
             positive = h.positive;
-            names = λ j l. subst (λ xs. IsNameOf links demands (name_at xs j)) (sym w.names) (h.names j l);
+            names = λ j l. subst (λ xs. IsNameOf links demands (column_name xs j)) (sym w.names) (h.names j l);
           };
           named = e.named;
           sound = e.sound;

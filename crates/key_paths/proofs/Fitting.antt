@@ -16,17 +16,17 @@ use Rattle.key_law.specs.Keys.{left_column}
 use Rattle.key_law.specs.KeyRows.{full_kept, key_dot, role_value}
 use Rattle.key_law.proofs.Amounts.{key_value_low}
 use Rattle.key_law.proofs.Kept.{kept_row, row_product}
-use Rattle.key_paths.specs.inner.Bases.{IsKeyed, IsShaped}
+use Rattle.key_rows.specs.Bases.{IsKeyed, IsShapedBasis}
+use Rattle.key_rows.specs.KeyRows.{amounts, times_taken, weighted, AreWeights, left_over_rows}
 use Rattle.key_paths.specs.inner.Ends.{row_den, shares, row_over, key_over, role_over, FitOver, HasFittingValues, AreApartPlaces}
-use Rattle.key_paths.specs.inner.KeyRows.{amounts, times_at, weighted, AreWeights, left_over_rows}
-use Rattle.key_paths.specs.declared.keyed.Keyed.{Keyed}
-use Rattle.key_paths.proofs.Columns.{times_are, have_weights, left_nonneg}
+use Rattle.key_rows.specs.declared.keyed.Keyed.{Keyed}
+use Rattle.key_rows.proofs.Columns.{times_are, have_weights, left_nonneg}
 use Rattle.key_paths.proofs.Ending.{share_at}
-use Rattle.key_paths.proofs.Weighing.{times_back}
+use Rattle.key_rows.proofs.Weighing.{times_back}
 
 -- a basis that is shaped has as many links as rows, and as many demands as prices of demands
-pub reshaped : (links demands : ℕ) (b : Keyed) → IsShaped links demands b → IsShaped (length b.rows) (length b.duals) b
-reshaped links demands b s = subst (λ n. IsShaped n (length b.duals) b) (sym s.rows) (subst (λ q. IsShaped links q b) (sym s.duals) s)
+pub reshaped : (links demands : ℕ) (b : Keyed) → IsShapedBasis links demands b → IsShapedBasis (length b.rows) (length b.duals) b
+reshaped links demands b s = subst (λ n. IsShapedBasis n (length b.duals) b) (sym s.rows) (subst (λ q. IsShapedBasis links q b) (sym s.duals) s)
 
 module _ {links demands : ℕ} {bound : ℕ → ℤ} {basis : ℕ → ColumnOf RouteColumn} {place role : ℕ → ℕ} {b : Keyed} (h : IsKeyed links demands bound basis place role b) where
   -- no two roles have one place
@@ -63,7 +63,7 @@ module _ {links demands : ℕ} {bound : ℕ → ℤ} {basis : ℕ → ColumnOf R
     key_over_is d ld =
         ap (λ n. left_over_rows b.owners (shares b.rows all) d (pos all) (num b.bounds (n + d)) (amounts b.values) links) h.shaped.rows
         ∙ (ap (λ z. (pos all *ℤ z) -ℤ weighted b.owners (shares b.rows all) d (amounts b.values) links) (h.bounds (links + d) (omega (arith, ld)))
-        ∙ ap (λ s. (pos all *ℤ bound (links + d)) -ℤ s) (sum-same links _ _ (λ i l. ap (λ z. times_at b.owners (shares b.rows all) d i *ℤ z) (h.values i l)
+        ∙ ap (λ s. (pos all *ℤ bound (links + d)) -ℤ s) (sum-same links _ _ (λ i l. ap (λ z. times_taken b.owners (shares b.rows all) d i *ℤ z) (h.values i l)
         ∙ ap (λ z. z *ℤ dot links (nums_at b.rows i) (left_column links demands basis place bound)) (sym (times_are h (shares b.rows all) d i ld l)))))
 
     -- and of any role

@@ -14,12 +14,12 @@ use Rattle.simplex_law.proofs.Sums.{unit-same}
 use Rattle.simplex_core.specs.Tables.{nums_at, den_of}
 use Rattle.key_law.specs.Keys.{key_part, left_column}
 use Rattle.key_law.proofs.Amounts.{kept_value_low}
-use Rattle.key_paths.specs.inner.Bases.{IsShaped, IsColumnNamed, IsKeyed}
+use Rattle.key_rows.specs.Bases.{IsShapedBasis, IsColumnNamed, IsKeyed}
+use Rattle.key_rows.specs.KeyRows.{amounts}
+use Rattle.key_rows.specs.Names.{demand_in, links_in, left_uses, HasKey, IsShortPath, key_links, column_name, key_name, own_entry}
 use Rattle.key_paths.specs.inner.Held.{IsZeroOrOne, IsNameOf, IsNamedColumn, IsOnce, AreColumnNames, IsHeld}
-use Rattle.key_paths.specs.inner.KeyRows.{amounts}
-use Rattle.key_paths.specs.inner.Names.{demand_in, links_in, left_uses, HasKey, IsShort, key_links, name_at, key_name, own_entry}
-use Rattle.key_paths.specs.declared.keyed.Keyed.{Keyed}
-use Rattle.key_paths.proofs.Columns.{left_is, left_is_free}
+use Rattle.key_rows.specs.declared.keyed.Keyed.{Keyed}
+use Rattle.key_rows.proofs.Columns.{left_is, left_is_free}
 use Rattle.key_paths.proofs.Named.{entry_01, once_links, short_links, named_packing}
 
 pub den_narrow : (row : Option Row) → IsNarrow (den_of row)
@@ -73,7 +73,7 @@ module _ {links demands : ℕ} {bound : ℕ → ℤ} {basis : ℕ → ColumnOf R
   held_packing = named_packing links demands bound (λ k l. (h.positive k l, bound_narrow k l))
 
   pub held_columns : (j : ℕ) → j < links + demands → IsNamedColumn links demands (basis j)
-  held_columns j l = (name_at b.names j, h.names j l, h.keyed.named j l)
+  held_columns j l = (column_name b.names j, h.names j l, h.keyed.named j l)
 
   pub held_names : AreColumnNames links demands basis b.names
   held_names = record { count = h.keyed.shaped.names; each = h.keyed.named }
@@ -82,8 +82,8 @@ module _ {links demands : ℕ} {bound : ℕ → ℤ} {basis : ℕ → ColumnOf R
   key_in d ld = h.keyed.kept.roles.place_in (links + d) (omega (arith, ld))
 
   -- the name of a key
-  pub key_name_is : (d : ℕ) → d < demands → key_name b.names b.places links d ≡ name_at b.names (place (links + d))
-  key_name_is d ld = ap (λ x. name_at b.names x) (h.keyed.placed (links + d) (omega (arith, ld)))
+  pub key_name_is : (d : ℕ) → d < demands → key_name b.names b.places links d ≡ column_name b.names (place (links + d))
+  key_name_is d ld = ap (λ x. column_name b.names x) (h.keyed.placed (links + d) (omega (arith, ld)))
 
   pub key_named : (d : ℕ) → d < demands → IsColumnNamed links demands (key_name b.names b.places links d) (basis (place (links + d)))
   key_named d ld = subst (λ x. IsColumnNamed links demands x (basis (place (links + d)))) (sym (key_name_is d ld)) (h.keyed.named (place (links + d)) (key_in d ld))
@@ -117,14 +117,14 @@ module _ {links demands : ℕ} {bound : ℕ → ℤ} {basis : ℕ → ColumnOf R
       below {n} {x} e lt = omega (arith, ints, e, lt)
 
 -- lists that are shaped tell how many links and demands there are
-pub shaped_here : {links demands : ℕ} {b : Keyed} → IsShaped links demands b → IsShaped (length b.rows) (length b.duals) b
-shaped_here {links} {demands} {b} s = subst (λ n. IsShaped n (length b.duals) b) (sym s.rows) (subst (λ n. IsShaped links n b) (sym s.duals) s)
+pub shaped_here : {links demands : ℕ} {b : Keyed} → IsShapedBasis links demands b → IsShapedBasis (length b.rows) (length b.duals) b
+shaped_here {links} {demands} {b} s = subst (λ n. IsShapedBasis n (length b.duals) b) (sym s.rows) (subst (λ n. IsShapedBasis links n b) (sym s.duals) s)
 
 -- the key of a demand stands in the lists, along links that there are
-pub has_key : {links demands : ℕ} {b : Keyed} → IsShaped links demands b → (d : ℕ) → d < demands → HasKey b.names b.places links d
+pub has_key : {links demands : ℕ} {b : Keyed} → IsShapedBasis links demands b → (d : ℕ) → d < demands → HasKey b.names b.places links d
 has_key {links} {demands} {b} s d l = (omega (arith, l, s.places), omega (arith, s.inside (links + d) (omega (arith, l)), s.names))
 
-pub key_short : {links demands : ℕ} {b : Keyed} → IsShaped links demands b → (o : Option ℕ) → ((d : ℕ) → o ≡ Some d → d < demands) → IsShort links (key_links b.names b.places links o)
+pub key_short : {links demands : ℕ} {b : Keyed} → IsShapedBasis links demands b → (o : Option ℕ) → ((d : ℕ) → o ≡ Some d → d < demands) → IsShortPath links (key_links b.names b.places links o)
 key_short s None h = (tt, omega arith)
 key_short {links} {demands} {b} s (Some d) h =
     let at : get_or b.places (links + d) 0 < links + demands = s.inside (links + d) (omega (arith, h d refl)) in

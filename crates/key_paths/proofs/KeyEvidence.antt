@@ -12,14 +12,14 @@ use Rattle.simplex_law.proofs.Sums.{sum-same}
 use Rattle.simplex_core.specs.Tables.{nums_at, den_at}
 use Rattle.key_law.specs.KeyRows.{key_nums}
 use Rattle.key_law.proofs.Wide.{wide_block_common, wide_key_row, wide_key_number}
-use Rattle.key_paths.specs.inner.Bases.{IsKeyed}
-use Rattle.key_paths.specs.inner.KeyRows.{less_rows}
-use Rattle.key_paths.specs.inner.KeyTests.{IsWideSpread}
+use Rattle.key_rows.specs.Bases.{IsKeyed}
+use Rattle.key_rows.specs.KeyRows.{less_rows}
+use Rattle.key_rows.specs.KeyTests.{IsWideSpread}
 use Rattle.key_paths.specs.inner.Outcomes.{wide_spread, HoldsWide}
-use Rattle.key_paths.specs.declared.key_row.WideKey.{WideKey}
-use Rattle.key_paths.specs.declared.key_row.WideKey.TheVariants.{Common, Row as RowOf}
-use Rattle.key_paths.specs.declared.keyed.Keyed.{Keyed}
-use Rattle.key_paths.proofs.Columns.{times_are, have_weights}
+use Rattle.key_rows.specs.declared.key_row.WideKey.{WideKey}
+use Rattle.key_rows.specs.declared.key_row.WideKey.TheVariants.{Common, Row as RowOf}
+use Rattle.key_rows.specs.declared.keyed.Keyed.{Keyed}
+use Rattle.key_rows.proofs.Columns.{times_are, have_weights}
 
 module _ {links demands : ℕ} {bound : ℕ → ℤ} {basis : ℕ → ColumnOf RouteColumn} {place role : ℕ → ℕ} {b : Keyed} (h : IsKeyed links demands bound basis place role b)
     (is_column : ColumnOf RouteColumn → Type 0) (d : ℕ) (ld : d < demands) where

@@ -20,8 +20,8 @@ use Rattle.key_law.specs.Kept.{IsKept}
 use Rattle.key_law.proofs.Kept.{prices_row, cost_product, key_row_product, alone_key_dot}
 use Rattle.key_law.proofs.Roles.{role_tableau, demand_rows}
 use Rattle.key_paths.specs.inner.Held.{IsEntering, IsPriced, HasPriced, IsAlone}
-use Rattle.key_paths.specs.inner.Names.{demand_in, name_at, own_entry}
-use Rattle.key_paths.specs.declared.keyed.Keyed.{Keyed}
+use Rattle.key_rows.specs.Names.{demand_in, column_name, own_entry}
+use Rattle.key_rows.specs.declared.keyed.Keyed.{Keyed}
 use Rattle.key_paths.proofs.Named.{own_none}
 
 -- a column that stands in a demand is one of it
@@ -47,7 +47,7 @@ module _ {links demands : ℕ} {bound : ℕ → ℤ} {basis : ℕ → ColumnOf R
 
   none_stands : (j : ℕ) → j < links → (basis (place j)).entry (links + d) ≡ pos 0
   none_stands j lj = (e.held.keyed.named (place j) (kept.roles.place_in j (omega (arith, lj)))).demand d low
-      ∙ own_none (name_at b.names (place j)) demands d (λ f. alone j lj (e.held.keyed.owned j lj ∙ f))
+      ∙ own_none (column_name b.names (place j)) demands d (λ f. alone j lj (e.held.keyed.owned j lj ∙ f))
 
   -- over any weights its row takes of the column what stands in the demand
   module _ (weight : ℕ → ℤ) (all : ℤ) (positive : pos 0 <ℤ all) (weights_are : (i : ℕ) → i < links → weight i *ℤ den_at b.rows i ≡ all) where

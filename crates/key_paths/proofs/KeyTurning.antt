@@ -23,11 +23,11 @@ use Rattle.key_law.proofs.Leaving.{key_turned_product}
 use Rattle.key_law.proofs.Spread.{is_spread}
 use Rattle.key_law.proofs.Turns.{key_turned, new_key, old_key}
 use Rattle.key_law.proofs.Wide.{wide_demand}
-use Rattle.key_paths.specs.inner.Bases.{IsShaped, IsColumnNamed, IsKeyed}
+use Rattle.key_rows.specs.Bases.{IsShapedBasis, IsColumnNamed, IsKeyed}
+use Rattle.key_rows.specs.KeyRows.{amounts}
+use Rattle.key_rows.specs.Names.{demand_in, links_in, column_name, key_name, own_entry, owner_in, path_uses, key_dual, IsNameWithin}
 use Rattle.key_paths.specs.inner.Held.{IsNameOf, IsNamedColumn, IsOnce, IsHeld, IsEntering, IsAlone, IsWideNext}
-use Rattle.key_paths.specs.inner.KeyRows.{amounts}
-use Rattle.key_paths.specs.inner.Names.{demand_in, links_in, name_at, key_name, own_entry, owner_in, path_uses, key_dual, IsNameWithin}
-use Rattle.key_paths.specs.declared.keyed.Keyed.{Keyed}
+use Rattle.key_rows.specs.declared.keyed.Keyed.{Keyed}
 use Rattle.key_paths.proofs.Named.{own_is, own_none, uses_path, once_links, named_price, put_each}
 use Rattle.key_paths.proofs.Holding.{den_narrow, held_packing, held_columns, key_named, key_own, amount_low}
 
@@ -54,7 +54,7 @@ module _ {links demands : ℕ} {bound : ℕ → ℤ} {basis : ℕ → ColumnOf R
     inside = low;
     owned = λ x lx. e.named.demand x lx ∙ own_is name d x own;
     alone = λ j lj. (h.keyed.named (place j) (h.keyed.kept.roles.place_in j (omega (arith, lj)))).demand d low
-        ∙ own_none (name_at b.names (place j)) demands d (λ f. alone j lj (h.keyed.owned j lj ∙ f));
+        ∙ own_none (column_name b.names (place j)) demands d (λ f. alone j lj (h.keyed.owned j lj ∙ f));
   }
 
   pub next_kept : IsKept links demands bound after place role (nums_at b.rows) (den_at b.rows) (num b.prices.nums) b.prices.den
@@ -116,10 +116,10 @@ module _ {links demands : ℕ} {bound : ℕ → ℤ} {basis : ℕ → ColumnOf R
     names_count : length names ≡ links + demands
     names_count = ap length named_at ∙ (length-set b.names (place (links + d)) name ∙ h.keyed.shaped.names)
 
-    next_each : (Q : RouteColumn → ColumnOf RouteColumn → Type 0) (j : ℕ) → Q name c → Q (name_at b.names j) (basis j) → Q (name_at names j) (after j)
-    next_each Q j here there = subst (λ x. Q (name_at x j) (after j)) (sym named_at) (put_each Q b.names basis (place (links + d)) name c j (omega (arith, h.keyed.shaped.names, place_in)) here there)
+    next_each : (Q : RouteColumn → ColumnOf RouteColumn → Type 0) (j : ℕ) → Q name c → Q (column_name b.names j) (basis j) → Q (column_name names j) (after j)
+    next_each Q j here there = subst (λ x. Q (column_name x j) (after j)) (sym named_at) (put_each Q b.names basis (place (links + d)) name c j (omega (arith, h.keyed.shaped.names, place_in)) here there)
 
-    next_named : (j : ℕ) → j < links + demands → IsColumnNamed links demands (name_at names j) (after j)
+    next_named : (j : ℕ) → j < links + demands → IsColumnNamed links demands (column_name names j) (after j)
     next_named j l = next_each (λ x y. IsColumnNamed links demands x y) j e.named (h.keyed.named j l)
 
     -- a price of the demand that is too wide
@@ -147,7 +147,7 @@ module _ {links demands : ℕ} {bound : ℕ → ℤ} {basis : ℕ → ColumnOf R
           (λ ne. subst P (sym (get_or-set_other b.duals d x v (pos 0) ne)) (there ne))
           (cases_eq x d))
 
-      shaped : IsShaped links demands next
+      shaped : IsShapedBasis links demands next
       shaped = let s = h.keyed.shaped in record {
         names = names_count;
         places = s.places;
@@ -175,7 +175,7 @@ module _ {links demands : ℕ} {bound : ℕ → ℤ} {basis : ℕ → ColumnOf R
         shaped = shaped;
         named = next_named;
         placed = h.keyed.placed;
-        owned = λ i l. h.keyed.owned i l ∙ sym (ap (λ x. owner_in demands x) (subst (λ y. name_at y (place i) ≡ name_at b.names (place i)) (sym named_at)
+        owned = λ i l. h.keyed.owned i l ∙ sym (ap (λ x. owner_in demands x) (subst (λ y. column_name y (place i) ≡ column_name b.names (place i)) (sym named_at)
             (get_or-set_other b.names (place (links + d)) (place i) name (DemandSlack 0) (apart i l))));
         kept = next_kept;
         bounds = h.keyed.bounds;

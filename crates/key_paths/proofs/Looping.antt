@@ -31,12 +31,13 @@ use Rattle.key_law.proofs.Amounts.{some_limit}
 use Rattle.key_law.proofs.Roles.{role_tableau, some_key_rows}
 use Rattle.key_law.proofs.Spread.{is_spread}
 use Rattle.key_law.proofs.Steps.{key_reached, key_falls}
-use Rattle.key_paths.specs.inner.Bases.{IsColumnNamed, IsStart}
+use Rattle.key_paths.specs.inner.Starts.{IsStart}
+use Rattle.key_rows.specs.Bases.{IsColumnNamed}
 use Rattle.key_paths.specs.inner.Entering.{IsGainingIn, IsPicked, HasGaining, Enters, EntersAs}
 use Rattle.key_paths.specs.inner.Gaining.{IsGaining, IsRouteName}
 use Rattle.key_paths.specs.inner.Held.{IsHeld, IsNameOf, IsZeroOrOne}
 use Rattle.key_paths.specs.inner.Outcomes.{HoldsWide, IsWideBasis}
-use Rattle.key_paths.specs.declared.keyed.Keyed.{Keyed}
+use Rattle.key_rows.specs.declared.keyed.Keyed.{Keyed}
 use Rattle.key_paths.specs.declared.turns.Turn.{Turn}
 use Rattle.key_paths.specs.declared.turns.Turn.TheVariants.{Again, Unbounded, Wide}
 use Rattle.key_paths.proofs.Costs.{key_cost_named, gains_named}

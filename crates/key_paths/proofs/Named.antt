@@ -14,9 +14,9 @@ use Rattle.simplex_law.proofs.Sums.{unit-same, unit-other, dot-same}
 use Rattle.key_law.specs.Keys.{key, key_part}
 use Rattle.key_law.specs.KeyRows.{full_prices}
 use Rattle.key_law.proofs.Spread.{is_spread}
-use Rattle.key_paths.specs.inner.Bases.{IsColumnNamed}
+use Rattle.key_rows.specs.Bases.{IsColumnNamed}
+use Rattle.key_rows.specs.Names.{demand_in, gain_in, links_in, column_name, own_entry, owner_in, path_uses, uses, key_dual, IsShortPath, IsNameWithin}
 use Rattle.key_paths.specs.inner.Held.{IsZeroOrOne, IsNameOf, IsNamedColumn, IsOnce}
-use Rattle.key_paths.specs.inner.Names.{demand_in, gain_in, links_in, name_at, own_entry, owner_in, path_uses, uses, key_dual, IsShort, IsNameWithin}
 
 -- entries are 0 or 1
 unit_01 : (i k : ℕ) → IsZeroOrOne (unit_vector i k)
@@ -66,7 +66,7 @@ uses_path (LinkSlack l) d e k = absurd (cc)
 uses_path (DemandSlack f) d e k = refl
 uses_path (Carry f path) d e k = refl
 
-pub short_links : (n : ℕ) (name : RouteColumn) → IsNameWithin n name → IsShort n (links_in name)
+pub short_links : (n : ℕ) (name : RouteColumn) → IsNameWithin n name → IsShortPath n (links_in name)
 short_links n (LinkSlack l) h = (tt, omega arith)
 short_links n (DemandSlack d) h = (tt, omega arith)
 short_links n (Carry d path) h = h
@@ -126,11 +126,11 @@ named_price links demands basis place prices den d name ld named own =
 
 -- one more name and its column
 pub put_each : (Q : RouteColumn → ColumnOf RouteColumn → Type 0) (names : List RouteColumn) (basis : ℕ → ColumnOf RouteColumn) (p : ℕ) (name : RouteColumn) (c : ColumnOf RouteColumn) (j : ℕ) → p < length names
-    → Q name c → Q (name_at names j) (basis j) → Q (name_at (slice_set names p name) j) (put basis p c j)
+    → Q name c → Q (column_name names j) (basis j) → Q (column_name (slice_set names p name) j) (put basis p c j)
 put_each Q names basis p name c j lt here there = ⊎_elim
-    (λ e. subst (λ x. Q (name_at (slice_set names p name) x) (put basis p c x)) e
+    (λ e. subst (λ x. Q (column_name (slice_set names p name) x) (put basis p c x)) e
     (subst (λ x. Q x (put basis p c p)) (sym (get_or-set_same names p name (DemandSlack 0) lt)) (subst (λ x. Q name x) (sym (ap (λ t. cond t c (basis p)) (eq-eqb p p refl))) here)))
-    (λ ne. subst (λ x. Q x (put basis p c j)) (sym (get_or-set_other names p j name (DemandSlack 0) (λ e. ne (sym e)))) (subst (λ x. Q (name_at names j) x) (sym (ap (λ t. cond t c (basis j)) (ne_eqb p j ne))) there))
+    (λ ne. subst (λ x. Q x (put basis p c j)) (sym (get_or-set_other names p j name (DemandSlack 0) (λ e. ne (sym e)))) (subst (λ x. Q (column_name names j) x) (sym (ap (λ t. cond t c (basis j)) (ne_eqb p j ne))) there))
     (cases_eq p j)
 
 -- the owner of a column of demand d

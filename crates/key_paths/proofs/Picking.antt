@@ -14,26 +14,25 @@ use Rattle.key_law.specs.KeyRows.{role_nums, role_den, cost, key_dot}
 use Rattle.key_law.proofs.Kept.{cost_product}
 use Rattle.key_law.proofs.Roles.{role_tableau, some_key_rows}
 use Rattle.key_law.proofs.Wide.{wide_key_product}
-use Rattle.key_paths.specs.inner.Bases.{IsKeyed, IsShaped}
+use Rattle.key_rows.specs.Bases.{IsKeyed, IsShapedBasis}
+use Rattle.key_rows.specs.FirstRoles.{IsAsked, IsFirstRole, IsFirstOfRoles, LeaveSomething}
+use Rattle.key_rows.specs.KeyRows.{weighted, HaveValues}
+use Rattle.key_rows.specs.KeyTests.{HaveColumnProducts, IsWideTest, product_over}
+use Rattle.key_rows.specs.Names.{demand_in, key_links, own_entry, IsShortPath}
 use Rattle.key_paths.specs.inner.Entering.{with_products, wide_kind, IsGainingIn, IsPicked, Enters}
-use Rattle.key_paths.specs.inner.FirstRoles.{IsAsked, IsFirstRole, IsFirstOfRoles, LeaveSomething}
 use Rattle.key_paths.specs.inner.Gaining.{cost_at}
 use Rattle.key_paths.specs.inner.Held.{IsHeld, IsEntering, HasPriced}
-use Rattle.key_paths.specs.inner.KeyRows.{weighted}
-use Rattle.key_paths.specs.inner.KeyTests.{HaveColumnProducts, IsWideTest, product_over}
-use Rattle.key_paths.specs.inner.Names.{demand_in, key_links, own_entry, IsShort}
-use Rattle.key_paths.specs.inner.Orders.{HaveValues}
 use Rattle.key_paths.specs.inner.Outcomes.{HoldsWide, ComesOf, TurnsAt}
-use Rattle.key_paths.specs.declared.keyed.Keyed.{Keyed}
-use Rattle.key_paths.specs.declared.leaving.WideTest.{WideTest}
-use Rattle.key_paths.specs.declared.leaving.WideTest.TheVariants.{Common as TestCommon, Product as TestProduct, Row as TestRow}
+use Rattle.key_rows.specs.declared.keyed.Keyed.{Keyed}
+use Rattle.key_rows.specs.declared.ratio_test.WideTest.{WideTest}
+use Rattle.key_rows.specs.declared.ratio_test.WideTest.TheVariants.{Common as TestCommon, Product as TestProduct, Row as TestRow}
 use Rattle.key_paths.specs.declared.turns.Turn.{Turn}
 use Rattle.key_paths.specs.declared.turns.Turn.TheVariants.{Again, Unbounded, Wide}
-use Rattle.key_paths.proofs.Columns.{have_weights, left_nonneg}
-use Rattle.key_paths.proofs.FirstRoles.{positive_again}
+use Rattle.key_rows.proofs.Columns.{have_weights, left_nonneg}
+use Rattle.key_rows.proofs.FirstRoles.{positive_again}
 use Rattle.key_paths.proofs.Holding.{held_names, key_short, left_of_name}
 use Rattle.key_paths.proofs.KeyEvidence.{spread_common, spread_row}
-use Rattle.key_paths.proofs.Leavers.{key_dot_is}
+use Rattle.key_rows.proofs.Leavers.{key_dot_is}
 
 module _ {links demands : ℕ} {bound : ℕ → ℤ} {basis : ℕ → ColumnOf RouteColumn} {place role : ℕ → ℕ} {b : Keyed} where
   -- products are room, of which a held basis asks nothing
@@ -171,11 +170,11 @@ module _ (b new : Keyed) (name : RouteColumn) (e : new ≡ with_products b new.p
   asked_here : IsAsked bound basis place role (with_products b new.products) name c
   asked_here = asked bound basis place role b new.products name c count_is have_here g
 
-  pub new_shaped : IsShaped (length new.rows) (length new.duals) new
-  new_shaped = subst (λ k. IsShaped (length k.rows) (length k.duals) k) (sym e) here.shaped
+  pub new_shaped : IsShapedBasis (length new.rows) (length new.duals) new
+  new_shaped = subst (λ k. IsShapedBasis (length k.rows) (length k.duals) k) (sym e) here.shaped
 
-  pub new_key : IsShort (length new.rows) (key_links new.names new.places (length new.rows) (demand_in name))
-  new_key = subst (λ k. IsShort (length k.rows) (key_links k.names k.places (length k.rows) (demand_in name))) (sym e) (key_short here.shaped (demand_in name) g.sound.demand)
+  pub new_key : IsShortPath (length new.rows) (key_links new.names new.places (length new.rows) (demand_in name))
+  new_key = subst (λ k. IsShortPath (length k.rows) (key_links k.names k.places (length k.rows) (demand_in name))) (sym e) (key_short here.shaped (demand_in name) g.sound.demand)
 
   pub new_bounds : (r : ℕ) → r < length new.bounds → pos 0 ≤ℤ num new.bounds r
   new_bounds = subst (λ k. (r : ℕ) → r < length k.bounds → pos 0 ≤ℤ num k.bounds r) (sym e)

@@ -17,11 +17,11 @@ use Rattle.simplex_law.specs.Sums.{unit_vector}
 use Rattle.simplex_law.specs.Programs.{ColumnOf, IsSlack, slack_basis}
 use Rattle.route_law.specs.RoutingPrograms.{path_entry, route_rows, route_slack, IsCarrying, IsRouteColumn}
 use Rattle.route_law.proofs.Rows.{beside_first, beside_after}
-use Rattle.key_paths.specs.inner.Bases.{IsColumnNamed}
+use Rattle.key_rows.specs.Bases.{IsColumnNamed}
+use Rattle.key_rows.specs.Names.{path_uses, demand_in, IsNameWithin}
 use Rattle.key_paths.specs.inner.Gaining.{IsRouteName}
-use Rattle.key_paths.specs.inner.Names.{path_uses, demand_in, IsNameWithin}
 use Rattle.key_paths.proofs.Carried.{carried_short, carried_place}
-use Rattle.key_paths.proofs.Columns.{own_demand, own_none}
+use Rattle.key_rows.proofs.Columns.{own_demand, own_none}
 use Rattle.key_paths.proofs.Starting.{slack_named, first, second}
 
 -- a path without a link twice uses each of its links once

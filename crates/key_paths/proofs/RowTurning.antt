@@ -28,15 +28,15 @@ use Rattle.key_law.specs.Turns.{IsBlockTurned}
 use Rattle.key_law.proofs.Amounts.{kept_value_nonneg, kept_value_low}
 use Rattle.key_law.proofs.Turns.{block_turned, some_pivot}
 use Rattle.key_law.proofs.Wide.{wide_demand, wide_cost, wide_kept_product, wide_turned, wide_turned_prices}
-use Rattle.key_paths.specs.inner.Bases.{IsShaped, IsColumnNamed}
+use Rattle.key_rows.specs.Bases.{IsShapedBasis, IsColumnNamed}
+use Rattle.key_rows.specs.KeyRows.{amounts}
+use Rattle.key_rows.specs.Names.{column_name, key_name, owner_in, key_dual, IsNameWithin}
 use Rattle.key_paths.specs.inner.Held.{IsNameOf, IsNamedColumn, AreColumnNames, IsHeld, IsEntering, IsPriced}
-use Rattle.key_paths.specs.inner.KeyRows.{amounts}
-use Rattle.key_paths.specs.inner.Names.{name_at, key_name, owner_in, key_dual, IsNameWithin}
 use Rattle.key_paths.specs.inner.Outcomes.{wide_place, IsProductPlace, IsWideBasis}
 use Rattle.key_paths.specs.inner.Turning.{AreRowsTurned, IsWideTurn}
 use Rattle.key_paths.specs.declared.turn_rows.WideTurn.{WideTurn}
 use Rattle.key_paths.specs.declared.turn_rows.WideTurn.TheVariants.{Prices, Row as RowAt}
-use Rattle.key_paths.specs.declared.keyed.Keyed.{Keyed}
+use Rattle.key_rows.specs.declared.keyed.Keyed.{Keyed}
 use Rattle.key_paths.proofs.Holding.{den_narrow, held_packing, held_columns, held_names, rest_low}
 use Rattle.key_paths.proofs.Named.{named_price, put_each}
 
@@ -158,8 +158,8 @@ module _ {links demands : ℕ} {bound : ℕ → ℤ} {basis : ℕ → ColumnOf R
     named_at : names ≡ slice_set b.names (place r) name
     named_at = is_names ∙ ap (λ y. slice_set b.names y name) (h.keyed.placed r e.inside)
 
-    next_each : (Q : RouteColumn → ColumnOf RouteColumn → Type 0) (j : ℕ) → Q name c → Q (name_at b.names j) (basis j) → Q (name_at names j) (after j)
-    next_each Q j here there = subst (λ y. Q (name_at y j) (after j)) (sym named_at) (put_each Q b.names basis (place r) name c j (omega (arith, h.keyed.shaped.names, place_in)) here there)
+    next_each : (Q : RouteColumn → ColumnOf RouteColumn → Type 0) (j : ℕ) → Q name c → Q (column_name b.names j) (basis j) → Q (column_name names j) (after j)
+    next_each Q j here there = subst (λ y. Q (column_name y j) (after j)) (sym named_at) (put_each Q b.names basis (place r) name c j (omega (arith, h.keyed.shaped.names, place_in)) here there)
 
     pub next_names : AreColumnNames links demands after names
     next_names = record {
@@ -226,7 +226,7 @@ module _ {links demands : ℕ} {bound : ℕ → ℤ} {basis : ℕ → ColumnOf R
         contra : {y : ℤ} → y ≡ pos 0 → pos 0 <ℤ y → ⊥
         contra {y} f g = omega (arith, ints, f, g)
 
-    pub shaped : IsShaped links demands mid
+    pub shaped : IsShapedBasis links demands mid
     shaped = let s = h.keyed.shaped in record {
       names = (next_names mid.names t.names).count;
       places = ap length t.places ∙ s.places;
@@ -251,7 +251,7 @@ module _ {links demands : ℕ} {bound : ℕ → ℤ} {basis : ℕ → ColumnOf R
 
     -- prices of demands by the keys
     key_is : (d : ℕ) → d < demands → IsColumnNamed links demands (key_name mid.names mid.places links d) (after (place (links + d)))
-    key_is d ld = subst (λ p. IsColumnNamed links demands (name_at mid.names p) (after (place (links + d)))) (sym (placed (links + d) (omega (arith, ld))))
+    key_is d ld = subst (λ p. IsColumnNamed links demands (column_name mid.names p) (after (place (links + d)))) (sym (placed (links + d) (omega (arith, ld))))
         ((next_names mid.names t.names).each (place (links + d)) (h.keyed.kept.roles.place_in (links + d) (omega (arith, ld))))
 
     pub price_is : (d : ℕ) → d < demands
@@ -274,14 +274,14 @@ module _ {links demands : ℕ} {bound : ℕ → ℤ} {basis : ℕ → ColumnOf R
       abbrev next : Keyed
       next = record { names = mid.names; places = mid.places; owners = mid.owners; rows = mid.rows; prices = mid.prices; duals = duals; bounds = mid.bounds; rest = mid.rest; values = values; products = mid.products }
 
-      owned : (i : ℕ) → i < links → get_or mid.owners i 0 ≡ owner_in demands (name_at mid.names (place i))
+      owned : (i : ℕ) → i < links → get_or mid.owners i 0 ≡ owner_in demands (column_name mid.names (place i))
       owned i l = ap (λ xs. get_or xs i 0) t.owners ∙ (⊎_elim
-          (λ f. subst (λ y. get_or (slice_set b.owners r (owner_in (length b.duals) name)) y 0 ≡ owner_in demands (name_at (slice_set b.names (place r) name) (place y))) (sym f)
+          (λ f. subst (λ y. get_or (slice_set b.owners r (owner_in (length b.duals) name)) y 0 ≡ owner_in demands (column_name (slice_set b.names (place r) name) (place y))) (sym f)
           (get_or-set_same b.owners r (owner_in (length b.duals) name) 0 (omega (arith, rl, h.keyed.shaped.owners)) ∙ (ap (λ n. owner_in n name) h.keyed.shaped.duals
           ∙ sym (ap (owner_in demands) (get_or-set_same b.names (place r) name (DemandSlack 0) (omega (arith, place_in, h.keyed.shaped.names)))))))
           (λ ne. get_or-set_other b.owners r i (owner_in (length b.duals) name) 0 ne ∙ (h.keyed.owned i l
           ∙ sym (ap (owner_in demands) (get_or-set_other b.names (place r) (place i) name (DemandSlack 0) (apart i (omega (arith, l)) ne)))))
-          (cases_eq i r) ∙ sym (ap (λ xs. owner_in demands (name_at xs (place i))) (named_at mid.names t.names)))
+          (cases_eq i r) ∙ sym (ap (λ xs. owner_in demands (column_name xs (place i))) (named_at mid.names t.names)))
 
       pub next_held : IsHeld links demands bound after place role next
       next_held = record {

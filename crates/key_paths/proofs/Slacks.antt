@@ -14,9 +14,9 @@ use Rattle.simplex_law.proofs.Sums.{unit-same, unit-other}
 use Rattle.simplex_core.specs.Tables.{nums_of, den_of}
 use Rattle.simplex_core.specs.inner.Shapes.{AtEach, IsUnit}
 use Rattle.simplex_core.proofs.Starts.{each_at, zeros_num, zeros_length, num_past}
-use Rattle.key_paths.specs.inner.Bases.{IsStart}
-use Rattle.key_paths.specs.inner.Names.{name_at, IsNameWithin}
-use Rattle.key_paths.specs.declared.keyed.Keyed.{Keyed}
+use Rattle.key_paths.specs.inner.Starts.{IsStart}
+use Rattle.key_rows.specs.Names.{column_name, IsNameWithin}
+use Rattle.key_rows.specs.declared.keyed.Keyed.{Keyed}
 use Rattle.key_paths.proofs.Starting.{first, second}
 
 unit_num : (m i k : ℕ) → i < m → num (slice_set (replicate m (pos 0)) i (pos 1)) k ≡ unit_vector i k
@@ -54,7 +54,7 @@ pub start_of : (g : Graph) (demands : ℕ) (bound : ℕ → ℤ) (b : Keyed) →
 start_of g demands bound b short narrow count_names names count_places places owners count_rows rows prices den duals count_bounds bounds count_rest rest count_values values products =
     let n = length g.links in
     let row : (i : ℕ) → i < n → (r : Row) × (slice_get b.rows i ≡ Some r) × IsUnit n i r = λ i l. each_at (IsUnit n) b.rows i (omega (arith, count_rows, l)) rows in
-    let name : (j : ℕ) → j < n + demands → name_at b.names j ≡ route_slack g j = λ j l.
+    let name : (j : ℕ) → j < n + demands → column_name b.names j ≡ route_slack g j = λ j l.
     let x = each_at (λ i x. x ≡ route_slack g i) b.names j (omega (arith, count_names, l)) names in get_or_from_slice_get b.names j x.0 (DemandSlack 0) x.1 ∙ x.2 in
     let place : (r : ℕ) → r < n + demands → get_or b.places r 0 ≡ r = λ r l.
     let x = each_at (λ i k. k ≡ i) b.places r (omega (arith, count_places, l)) places in get_or_from_slice_get b.places r x.0 0 x.1 ∙ x.2 in

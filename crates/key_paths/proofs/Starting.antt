@@ -17,9 +17,10 @@ use Rattle.simplex_core.specs.Tables.{nums_at, den_at}
 use Rattle.key_law.specs.Keys.{left_column}
 use Rattle.key_law.proofs.Spread.{is_spread}
 use Rattle.key_law.proofs.Ends.{kept_start}
-use Rattle.key_paths.specs.inner.Bases.{IsStart, IsColumnNamed, IsKeyed}
-use Rattle.key_paths.specs.inner.Names.{gain_in, uses, own_entry, owner_in, name_at}
-use Rattle.key_paths.specs.declared.keyed.Keyed.{Keyed}
+use Rattle.key_paths.specs.inner.Starts.{IsStart}
+use Rattle.key_rows.specs.Bases.{IsColumnNamed, IsKeyed}
+use Rattle.key_rows.specs.Names.{gain_in, uses, own_entry, owner_in, column_name}
+use Rattle.key_rows.specs.declared.keyed.Keyed.{Keyed}
 
 plain : (x : ℤ) → x -ℤ pos 0 ≡ x
 plain x = omega (arith, ints)
@@ -81,7 +82,7 @@ module _ (g : Graph) (demands : ℕ) where
     pub start_keyed : IsKeyed links demands bound (slack_basis slack) (λ r. r) (λ j. j) b
     start_keyed = record {
       shaped = s.shaped;
-      named = λ j l. slack_named j (name_at b.names j) l (s.names j l);
+      named = λ j l. slack_named j (column_name b.names j) l (s.names j l);
       placed = s.places;
       owned = λ i l. s.owners i l ∙ sym (ap (λ n. owner_in demands n) (s.names i (omega (arith, l)) ∙ first i l));
       kept = kept_start links demands bound slack (nums_at b.rows) (den_at b.rows) (num b.prices.nums) b.prices.den bounds s.units s.ones s.zeros s.one;

@@ -1,12 +1,7 @@
-pub mod Bases
 pub mod Ends
 pub mod Entering
-pub mod FirstRoles
 pub mod Gaining
 pub mod Held
-pub mod KeyRows
-pub mod KeyTests
-pub mod Names
-pub mod Orders
 pub mod Outcomes
+pub mod Starts
 pub mod Turning

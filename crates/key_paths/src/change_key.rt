@@ -6,19 +6,15 @@ ghost use Rattle.simplex_law.specs.Sums.{dot};
 ghost use Rattle.simplex_law.specs.Programs.{ColumnOf};
 ghost use Rattle.simplex_core.specs.Tables.{nums_at};
 ghost use Rattle.key_law.specs.Keys.{swap};
-ghost use Rattle.key_paths.specs.inner.Bases.{IsShaped, IsRoom};
+ghost use Rattle.key_rows.specs.Bases.{IsShapedBasis, IsRoom};
+ghost use Rattle.key_rows.specs.KeyRows.{amounts, IsOwn};
+ghost use Rattle.key_rows.specs.KeyTests.{IsWideSpread};
+ghost use Rattle.key_rows.specs.Names.{demand_in, key_links, left_uses, HasKey, IsNameWithin, IsShortPath};
 ghost use Rattle.key_paths.specs.inner.Held.{IsEntering, HasEntering};
-ghost use Rattle.key_paths.specs.inner.KeyRows.{amounts, IsOwn};
-ghost use Rattle.key_paths.specs.inner.KeyTests.{IsWideSpread};
-ghost use Rattle.key_paths.specs.inner.Names.{demand_in, key_links, left_uses, HasKey, IsNameWithin, IsShort};
 ghost use Rattle.key_paths.specs.inner.Turning.{with_numbers};
 
 use crate::exchange::swap_roles;
-use crate::key_row::WideKey;
-use crate::keyed::{Keyed, Room};
-use crate::keys::key_path;
-use crate::path_sum::{column_product, demand_of};
-use crate::values::worth;
+use key_rows::{Keyed, Room, WideKey, column_product, demand_of, key_path, worth};
 use net_core::{List, RouteColumn};
 
 fn set_value(values: &mut List<u128>, i: usize, value: u128)
@@ -37,7 +33,7 @@ fn set_product(products: &mut List<i128>, i: usize, product: &i128)
 
 /// The value of row `i`.
 fn row_value(keyed: &Keyed, i: usize) -> u128
-    requires shaped { IsShaped (length keyed.now.rows) (length keyed.now.duals) keyed.now }
+    requires shaped { IsShapedBasis (length keyed.now.rows) (length keyed.now.duals) keyed.now }
     requires inside { i < length keyed.now.rows }
     requires rest { (k : ℕ) → unsigned_abs (num keyed.now.rest k) < 2 ^ 76 }
     requires high { pos 0 ≤ℤ dot (length keyed.now.rows) (nums_at keyed.now.rows i) (num keyed.now.rest) }
@@ -49,11 +45,11 @@ fn row_value(keyed: &Keyed, i: usize) -> u128
 
 /// The product of row `i` with a column.
 fn row_product(keyed: &Keyed, name: &RouteColumn, i: usize) -> i128
-    requires shaped { IsShaped (length keyed.now.rows) (length keyed.now.duals) keyed.now }
+    requires shaped { IsShapedBasis (length keyed.now.rows) (length keyed.now.duals) keyed.now }
     requires inside { i < length keyed.now.rows }
     requires name { IsNameWithin (length keyed.now.rows) name.now }
     requires key { ForSome (demand_in name.now) (HasKey keyed.now.names keyed.now.places (length keyed.now.rows)) }
-    requires short { IsShort (length keyed.now.rows) (key_links keyed.now.names keyed.now.places (length keyed.now.rows) (demand_in name.now)) }
+    requires short { IsShortPath (length keyed.now.rows) (key_links keyed.now.names keyed.now.places (length keyed.now.rows) (demand_in name.now)) }
     ensures value { result ≡ dot (length keyed.now.rows) (nums_at keyed.now.rows i) (left_uses name.now (key_links keyed.now.names keyed.now.places (length keyed.now.rows) (demand_in name.now))) }
     ensures bound { unsigned_abs result ≤ 2 ^ 71 }
 {

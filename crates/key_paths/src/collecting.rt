@@ -7,9 +7,9 @@ ghost use Rattle.net_core.specs.Views.{graph_of};
 ghost use Rattle.key_paths.specs.inner.Gaining.{cost_at, AreLinkCosts, AreOffers, IsCarrier, IsGaining, NoneIsCheap, Offers};
 
 use crate::carrier::Carrier;
-use crate::keyed::Keyed;
 use crate::pricing::{gains, is_cheap};
 use crate::task::Task;
+use key_rows::Keyed;
 use net_core::{Demand, List, NoMemory};
 use short_paths::{CheapestPaths, PathFault, PricedPath};
 use std::alloc::Global;

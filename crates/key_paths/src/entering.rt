@@ -1,20 +1,19 @@
 ghost use Rattle.std.specs.Prelude.{◌≡◌, ◌<◌, ◌≤◌, ◌+◌, ◌^◌, ◌+ℤ◌, ◌-ℤ◌, ℕ, length, unsigned_abs};
 ghost use Rattle.std.specs.Option.{ForSome};
 ghost use Rattle.checked_fraction.specs.Rows.{num, IsNarrow};
-ghost use Rattle.key_paths.specs.inner.Bases.{IsShaped, IsRoom};
+ghost use Rattle.key_rows.specs.Bases.{IsShapedBasis, IsRoom};
+ghost use Rattle.key_rows.specs.KeyTests.{HaveColumnProducts, IsWideTest};
+ghost use Rattle.key_rows.specs.Names.{demand_in, key_links, IsNameWithin};
 ghost use Rattle.key_paths.specs.inner.Entering.{with_products, wide_kind as kind_of, HasGaining, EntersAs};
 ghost use Rattle.key_paths.specs.inner.Gaining.{cost_at};
 ghost use Rattle.key_paths.specs.inner.Held.{HasPriced};
-ghost use Rattle.key_paths.specs.inner.KeyTests.{HaveColumnProducts, IsWideTest};
-ghost use Rattle.key_paths.specs.inner.Names.{demand_in, key_links, IsNameWithin};
 ghost use Rattle.key_paths.specs.inner.Outcomes.{TurnsAt};
 
-use crate::keyed::{Keyed, Room};
-use crate::keys::{key_path, write_product_list};
-use crate::leaving::{WideTest, leaving};
-use crate::path_sum::{demand_of, path_sum, widen};
 use crate::turn_at_key::turn_at_key;
 use crate::turns::{Turn, turn_row};
+use key_rows::{
+    Keyed, Room, WideTest, demand_of, key_path, leaving, path_sum, widen, write_product_list,
+};
 use net_core::{RouteColumn, WideKind};
 
 /// What a path costs, with the price of its demand, less what it gains, over the denominator of the prices.
@@ -29,7 +28,7 @@ fn path_cost(sum: &i128, dual: &i64, den: &i64) -> i128
 
 /// What a column costs at the prices, less what it gains, over their denominator.
 fn cost_of(keyed: &Keyed, name: &RouteColumn) -> i128
-    requires shaped { IsShaped (length keyed.now.rows) (length keyed.now.duals) keyed.now }
+    requires shaped { IsShapedBasis (length keyed.now.rows) (length keyed.now.duals) keyed.now }
     requires name { IsNameWithin (length keyed.now.rows) name.now }
     requires demand { ForSome (demand_in name.now) (λ d. d < length keyed.now.duals) }
     ensures { result ≡ cost_at keyed.now name.now }
@@ -49,7 +48,7 @@ fn cost_of(keyed: &Keyed, name: &RouteColumn) -> i128
 
 /// Writes the products of the rows with a column.
 fn take_products(keyed: &mut Keyed, name: &RouteColumn)
-    requires shaped { IsShaped (length keyed.old.rows) (length keyed.old.duals) keyed.old }
+    requires shaped { IsShapedBasis (length keyed.old.rows) (length keyed.old.duals) keyed.old }
     requires name { IsNameWithin (length keyed.old.rows) name.now }
     requires demand { ForSome (demand_in name.now) (λ d. d < length keyed.old.duals) }
     ensures same { keyed.new ≡ with_products keyed.old keyed.new.products }
@@ -68,7 +67,7 @@ fn take_products(keyed: &mut Keyed, name: &RouteColumn)
 
 /// What is too wide when it is decided which column leaves, by places.
 fn wide_kind(keyed: &Keyed, name: RouteColumn, wide: WideTest) -> WideKind<RouteColumn>
-    requires shaped { IsShaped (length keyed.now.rows) (length keyed.now.duals) keyed.now }
+    requires shaped { IsShapedBasis (length keyed.now.rows) (length keyed.now.duals) keyed.now }
     requires wide { IsWideTest keyed.now name wide }
     ensures { result ≡ kind_of keyed.now name wide }
 {
@@ -83,7 +82,7 @@ fn wide_kind(keyed: &Keyed, name: RouteColumn, wide: WideTest) -> WideKind<Route
 /// A column of this cost, whose products are at hand, enters for that of a role.
 fn turn_at(keyed: &mut Keyed, room: &mut Room, name: RouteColumn, cost: &i128, role: u32) -> Turn
     requires enters { HasPriced (length keyed.old.rows) (length keyed.old.duals) keyed.old name cost.now role }
-    requires shaped { IsShaped (length keyed.old.rows) (length keyed.old.duals) keyed.old }
+    requires shaped { IsShapedBasis (length keyed.old.rows) (length keyed.old.duals) keyed.old }
     requires room { IsRoom (length keyed.old.rows) room.old }
     ensures room { result ≡ Turn.Again → IsRoom (length keyed.old.rows) room.new }
     ensures turned { TurnsAt (length keyed.old.rows) (length keyed.old.duals) keyed.old name cost.now role result keyed.new }

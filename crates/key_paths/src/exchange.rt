@@ -1,24 +1,20 @@
 ghost use Rattle.std.specs.Prelude.{◌≡◌, ◌≢◌, ◌<◌, ◌≤◌, ◌+◌, ◌^◌, ◌+ℤ◌, ◌-ℤ◌, ◌*ℤ◌, ◌≤ℤ◌, ℕ, pos, length, get_or, unsigned_abs, Some, slice_get, MatchOption, OnOk, OnErr, IfErr};
 ghost use Rattle.checked_fraction.specs.Rows.{num, IsNarrow};
-ghost use Rattle.key_paths.specs.inner.Bases.{IsShaped, IsRoom};
-ghost use Rattle.key_paths.specs.inner.KeyRows.{IsOwn};
-ghost use Rattle.key_paths.specs.inner.KeyTests.{IsWideSpread};
-ghost use Rattle.key_paths.specs.inner.Names.{HasKey, IsShort, key_name, links_in, name_at};
+ghost use Rattle.key_rows.specs.Bases.{IsShapedBasis, IsRoom};
+ghost use Rattle.key_rows.specs.KeyRows.{IsOwn};
+ghost use Rattle.key_rows.specs.KeyTests.{IsWideSpread};
+ghost use Rattle.key_rows.specs.Names.{HasKey, IsShortPath, key_name, links_in, column_name};
 ghost use Rattle.key_paths.specs.inner.Turning.{key_takes, with_rest, AreSwapped, IsRoleSwap};
 
-use crate::key_row::{WideKey, spread_key};
-use crate::keyed::{Keyed, Room};
-use crate::keys::key_of;
-use crate::path_sum::path_of;
-use crate::rest::{shift_back_list, shift_list};
 use checked_fraction::Row;
+use key_rows::{Keyed, Room, WideKey, key_of, path_of, shift_back_list, shift_list, spread_key};
 use net_core::List;
 use std::mem;
 
 /// Gives back what the key of a demand takes of the links, before it is another.
 pub(crate) fn give_back(keyed: &mut Keyed, demand: u32)
     requires key { HasKey keyed.old.names keyed.old.places (length keyed.old.rows) demand }
-    requires short { IsShort (length keyed.old.rest) (links_in (key_name keyed.old.names keyed.old.places (length keyed.old.rows) demand)) }
+    requires short { IsShortPath (length keyed.old.rest) (links_in (key_name keyed.old.names keyed.old.places (length keyed.old.rows) demand)) }
     requires bounds { length keyed.old.bounds ≡ length keyed.old.places }
     requires few { length keyed.old.places < 2 ^ 32 }
     requires narrow { (r : ℕ) → IsNarrow (num keyed.old.bounds r) }
@@ -37,7 +33,7 @@ pub(crate) fn give_back(keyed: &mut Keyed, demand: u32)
 /// Takes away what the key of a demand takes of the links, after it was another.
 pub(crate) fn take_away(keyed: &mut Keyed, demand: u32)
     requires key { HasKey keyed.old.names keyed.old.places (length keyed.old.rows) demand }
-    requires short { IsShort (length keyed.old.rest) (links_in (key_name keyed.old.names keyed.old.places (length keyed.old.rows) demand)) }
+    requires short { IsShortPath (length keyed.old.rest) (links_in (key_name keyed.old.names keyed.old.places (length keyed.old.rows) demand)) }
     requires bounds { length keyed.old.bounds ≡ length keyed.old.places }
     requires few { length keyed.old.places < 2 ^ 32 }
     requires narrow { (r : ℕ) → IsNarrow (num keyed.old.bounds r) }
@@ -106,12 +102,12 @@ pub(crate) fn swap_roles(
     i: usize,
     demand: u32,
 ) -> Result<(), WideKey>
-    requires shaped { IsShaped (length keyed.old.rows) (length keyed.old.duals) keyed.old }
+    requires shaped { IsShapedBasis (length keyed.old.rows) (length keyed.old.duals) keyed.old }
     requires room { IsRoom (length keyed.old.rows) room.old }
     requires inside { i < length keyed.old.rows }
     requires demand { demand < length keyed.old.duals }
-    requires old_key { IsShort (length keyed.old.rows) (links_in (key_name keyed.old.names keyed.old.places (length keyed.old.rows) demand)) }
-    requires new_key { IsShort (length keyed.old.rows) (links_in (name_at keyed.old.names (get_or keyed.old.places i 0))) }
+    requires old_key { IsShortPath (length keyed.old.rows) (links_in (key_name keyed.old.names keyed.old.places (length keyed.old.rows) demand)) }
+    requires new_key { IsShortPath (length keyed.old.rows) (links_in (column_name keyed.old.names (get_or keyed.old.places i 0))) }
     requires rest { (k : ℕ) → unsigned_abs (num keyed.old.rest k) ≤ 2 ^ 100 }
     ensures room { IsRoom (length keyed.old.rows) room.new }
     ensures swapped { OnOk result (IsRoleSwap keyed.old i demand keyed.new) }

@@ -3,12 +3,11 @@ ghost use Rattle.std.specs.Int.{◌∣◌};
 ghost use Rattle.checked_fraction.specs.Rows.{num, IsNarrow, IsInLowestTerms};
 ghost use Rattle.simplex_law.specs.Sums.{unit_vector};
 ghost use Rattle.simplex_core.specs.inner.Commons.{IsDenominator, HaveNoDenominator};
-ghost use Rattle.key_paths.specs.inner.Bases.{IsShaped};
+ghost use Rattle.key_rows.specs.Bases.{IsShapedBasis};
 ghost use Rattle.key_paths.specs.inner.Ends.{row_den, key_over, role_over, FitOver, HasFittingValues, AreApartPlaces, AreValuesOver, IsKeyedEnd};
 
-use crate::keyed::Keyed;
-use crate::weights::{joined_common, size_of_den};
 use checked_fraction::Row;
+use key_rows::{Keyed, joined_common, size_of_den};
 use net_core::{List, NoMemory, RouteColumn, WideKind};
 use simplex_core::{Optimum, SimplexFault};
 use std::alloc::Global;
@@ -60,7 +59,7 @@ fn bound_over(bound: &i64, all: u64) -> u128
 
 /// What a demand's rows leave of its bound, over the common denominator.
 fn key_left(keyed: &Keyed, demand: u32, all: u64) -> u128
-    requires shaped { IsShaped (length keyed.now.rows) (length keyed.now.duals) keyed.now }
+    requires shaped { IsShapedBasis (length keyed.now.rows) (length keyed.now.duals) keyed.now }
     requires demand { demand < length keyed.now.duals }
     requires low { all < 2 ^ 62 }
     requires fit { FitOver keyed.now all }
@@ -83,7 +82,7 @@ fn key_left(keyed: &Keyed, demand: u32, all: u64) -> u128
 
 /// The value of the column in a role, over the common denominator.
 fn value_in_role(keyed: &Keyed, role: usize, all: u64) -> u128
-    requires shaped { IsShaped (length keyed.now.rows) (length keyed.now.duals) keyed.now }
+    requires shaped { IsShapedBasis (length keyed.now.rows) (length keyed.now.duals) keyed.now }
     requires role { role < length keyed.now.places }
     requires low { all < 2 ^ 62 }
     requires fit { FitOver keyed.now all }
@@ -99,7 +98,7 @@ fn value_in_role(keyed: &Keyed, role: usize, all: u64) -> u128
 
 /// Writes the values of all columns at their places.
 fn write_values(values: &mut [u128], keyed: &Keyed, all: u64)
-    requires shaped { IsShaped (length keyed.now.rows) (length keyed.now.duals) keyed.now }
+    requires shaped { IsShapedBasis (length keyed.now.rows) (length keyed.now.duals) keyed.now }
     requires count { length values.old ≡ length keyed.now.places }
     requires apart { AreApartPlaces keyed.now.places }
     requires low { all < 2 ^ 62 }
@@ -115,7 +114,7 @@ fn write_values(values: &mut [u128], keyed: &Keyed, all: u64)
 
 /// The values of all columns, by place.
 fn values_over(alloc: Global, keyed: &Keyed, all: u64) -> Result<List<u128>, NoMemory>
-    requires shaped { IsShaped (length keyed.now.rows) (length keyed.now.duals) keyed.now }
+    requires shaped { IsShapedBasis (length keyed.now.rows) (length keyed.now.duals) keyed.now }
     requires apart { AreApartPlaces keyed.now.places }
     requires low { all < 2 ^ 62 }
     requires fit { FitOver keyed.now all }
@@ -142,7 +141,7 @@ fn row_of(nums: List<i64>, den: &i64) -> Row
 
 /// The prices of the links and then those of the demands, in one row.
 fn whole_duals(alloc: Global, keyed: &Keyed) -> Result<Row, NoMemory>
-    requires { IsShaped (length keyed.now.rows) (length keyed.now.duals) keyed.now }
+    requires { IsShapedBasis (length keyed.now.rows) (length keyed.now.duals) keyed.now }
     ensures nums { IfOk result (λ row. row.nums ≡ keyed.now.prices.nums ++ keyed.now.duals) }
     ensures den { IfOk result (λ row. row.den ≡ keyed.now.prices.den) }
 {
@@ -157,7 +156,7 @@ pub(crate) fn finish(
     alloc: Global,
     keyed: Keyed,
 ) -> Result<Optimum<RouteColumn>, SimplexFault<RouteColumn>>
-    requires shaped { IsShaped (length keyed.rows) (length keyed.duals) keyed }
+    requires shaped { IsShapedBasis (length keyed.rows) (length keyed.duals) keyed }
     requires apart { AreApartPlaces keyed.places }
     requires fit { HasFittingValues keyed }
     ensures { IsKeyedEnd keyed result }

@@ -10,26 +10,17 @@ mod collecting;
 mod entering;
 mod exchange;
 mod finish;
-mod key_row;
-mod keyed;
-mod keys;
 mod known;
-mod leaving;
 mod move_rest;
 mod numbers;
-mod order;
-mod path_sum;
 mod pricing;
-mod rest;
 mod solver;
+mod start;
 mod task;
-mod tie;
 mod turn_at_key;
 mod turn_key;
 mod turn_rows;
 mod turns;
-mod values;
-mod weights;
 
 pub use solver::{solve_routes, solve_routes_from};
 

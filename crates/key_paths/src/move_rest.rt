@@ -1,9 +1,9 @@
 ghost use Rattle.std.specs.Prelude.{◌≡◌, ◌<◌, ◌^◌, ◌-ℤ◌, ◌*ℤ◌, ℕ, length, unsigned_abs};
 ghost use Rattle.checked_fraction.specs.Rows.{num, IsNarrow};
 ghost use Rattle.key_paths.specs.inner.Held.{IsOnce};
-ghost use Rattle.key_paths.specs.inner.Names.{path_uses};
+ghost use Rattle.key_rows.specs.Names.{path_uses};
 
-use crate::rest::{shift_back_list, shift_list};
+use key_rows::{shift_back_list, shift_list};
 use net_core::{LinkId, List};
 
 /// Moves a demand's bound from one path to another, in what the keys leave of the links.

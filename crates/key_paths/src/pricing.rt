@@ -2,14 +2,13 @@ ghost use Rattle.std.specs.Prelude.{◌≡◌, ◌<◌, ◌≤◌, ◌+◌, ◌^
 ghost use Rattle.checked_fraction.specs.Rows.{num};
 ghost use Rattle.net_core.specs.Views.{graph_of};
 ghost use Rattle.net_core.specs.declared.columns.RouteColumn.TheVariants.{Carry};
-ghost use Rattle.key_paths.specs.inner.Names.{IsShort};
+ghost use Rattle.key_rows.specs.Names.{IsShortPath};
 ghost use Rattle.key_paths.specs.inner.Gaining.{cost_at, IsCarrier, IsGaining, NoneGains};
 
 use crate::carrier::Carrier;
 use crate::collecting::find;
-use crate::keyed::Keyed;
-use crate::path_sum::path_sum;
 use crate::task::Task;
+use key_rows::{Keyed, path_sum};
 use net_core::{LinkId, List, NoMemory, RouteColumn};
 use std::alloc::Global;
 
@@ -61,7 +60,7 @@ pub(crate) fn is_cheap(keyed: &Keyed, demand: u32, total: u128) -> bool
 /// Whether a flow along a path gains more than the path's links and its demand's row cost.
 pub(crate) fn gains(keyed: &Keyed, demand: u32, path: &[LinkId]) -> bool
     requires demand { demand < length keyed.now.duals }
-    requires path { IsShort (length keyed.now.prices.nums) path.now }
+    requires path { IsShortPath (length keyed.now.prices.nums) path.now }
     ensures { IsTrue result ↔ (cost_at keyed.now (Carry demand path.now) <ℤ pos 0) }
 {
     path_sum(keyed.prices.nums(), path) < margin(keyed, demand)

@@ -4,9 +4,9 @@ ghost use Rattle.net_core.specs.Views.{graph_of};
 ghost use Rattle.route_law.specs.RoutingPrograms.{route_bound, route_rows};
 
 use crate::numbers::{bound_of, rows_of};
-use crate::path_sum::path_of;
 use crate::solver::solve_routes;
 use crate::task::Task;
+use key_rows::path_of;
 use net_core::{Caps, LinkId, List, NoMemory, Problem, RouteColumn, StateId, Surviving};
 use simplex_core::{Optimum, SimplexFault};
 use std::alloc::Global;

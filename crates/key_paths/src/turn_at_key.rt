@@ -1,18 +1,17 @@
 ghost use Rattle.std.specs.Prelude.{◌≡◌, ◌<◌, ◌+◌, ◌^◌, ℕ, ℤ, length, Some};
 ghost use Rattle.net_core.specs.declared.columns.RouteColumn.{RouteColumn as Name};
 ghost use Rattle.simplex_law.specs.Programs.{ColumnOf};
-ghost use Rattle.key_paths.specs.inner.Bases.{IsRoom};
+ghost use Rattle.key_rows.specs.Bases.{IsRoom};
+ghost use Rattle.key_rows.specs.KeyRows.{IsOwn};
+ghost use Rattle.key_rows.specs.Names.{demand_in};
 ghost use Rattle.key_paths.specs.inner.Held.{IsEntering, HasEntering, HasPriced, IsAlone};
-ghost use Rattle.key_paths.specs.inner.KeyRows.{IsOwn};
-ghost use Rattle.key_paths.specs.inner.Names.{demand_in};
 ghost use Rattle.key_paths.specs.inner.Outcomes.{wide_spread, ComesOf, TurnsAt};
 
 use crate::change_key::change_key;
 use crate::exchange::row_of;
-use crate::key_row::WideKey;
-use crate::keyed::{Keyed, Room};
 use crate::turn_key::turn_key;
 use crate::turns::{Turn, turn_row};
+use key_rows::{Keyed, Room, WideKey};
 use net_core::{RouteColumn, WideKind};
 
 /// The column takes the place of the key of its demand, which has no other column in the basis.

@@ -3,14 +3,11 @@ ghost use Rattle.net_core.specs.declared.columns.RouteColumn.{RouteColumn as Nam
 ghost use Rattle.simplex_law.specs.Sums.{put};
 ghost use Rattle.simplex_law.specs.Programs.{ColumnOf};
 ghost use Rattle.key_paths.specs.inner.Held.{IsHeld, IsEntering, HasEntering, IsAlone, IsWideNext};
-ghost use Rattle.key_paths.specs.inner.Names.{demand_in};
+ghost use Rattle.key_rows.specs.Names.{demand_in};
 
-use crate::keyed::Keyed;
-use crate::keys::{key_of, next_dual};
 use crate::move_rest::move_rest;
-use crate::path_sum::path_of;
 use crate::turn_rows::set_name;
-use crate::values::lower_value_list;
+use key_rows::{Keyed, key_of, lower_value_list, next_dual, path_of};
 use net_core::{List, RouteColumn};
 
 pub(crate) fn set_number(numbers: &mut List<i64>, at: usize, number: &i64)

@@ -1,11 +1,11 @@
 ghost use Rattle.std.specs.Prelude.{◌≡◌, ◌<◌, ◌+◌, length, get_or, slice_set, OnOk, OnErr, IfErr};
 ghost use Rattle.checked_fraction.specs.Rows.{num};
 ghost use Rattle.simplex_core.specs.Turned.{HavePivot, IsNarrowOver};
-ghost use Rattle.key_paths.specs.inner.Bases.{IsShaped, IsRoom};
-ghost use Rattle.key_paths.specs.inner.Names.{owner_in};
+ghost use Rattle.key_rows.specs.Bases.{IsShapedBasis, IsRoom};
+ghost use Rattle.key_rows.specs.Names.{owner_in};
 ghost use Rattle.key_paths.specs.inner.Turning.{AreRowsTurned, IsWideTurn};
 
-use crate::keyed::{Keyed, Room};
+use key_rows::{Keyed, Room};
 use net_core::{List, RouteColumn};
 use simplex_core::{turn_list, turn_objective};
 
@@ -51,7 +51,7 @@ pub(crate) fn turn_rows(
     cost: &i128,
     i: usize,
 ) -> Result<(), WideTurn>
-    requires shaped { IsShaped (length keyed.old.rows) (length keyed.old.duals) keyed.old }
+    requires shaped { IsShapedBasis (length keyed.old.rows) (length keyed.old.duals) keyed.old }
     requires room { IsRoom (length keyed.old.rows) room.old }
     requires pivot { HavePivot keyed.old.products (length keyed.old.rows) i }
     requires over { IsNarrowOver (num keyed.old.products i) cost.now }

@@ -1,15 +1,13 @@
 ghost use Rattle.std.specs.Prelude.{◌≡◌, ◌<◌, ◌≤◌, ◌^◌, ℕ, length};
 ghost use Rattle.checked_fraction.specs.Rows.{num};
 ghost use Rattle.simplex_core.specs.Turned.{HavePivot, IsNarrowOver};
-ghost use Rattle.key_paths.specs.inner.Bases.{IsRoom};
+ghost use Rattle.key_rows.specs.Bases.{IsRoom};
 ghost use Rattle.key_paths.specs.inner.Held.{HasPriced};
 ghost use Rattle.key_paths.specs.inner.Outcomes.{wide_place, IsProductPlace, TurnsAt};
 ghost use Rattle.key_paths.specs.declared.turn_rows.WideTurn.{WideTurn as Found};
 
-use crate::keyed::{Keyed, Room};
-use crate::keys::renew_dual_list;
 use crate::turn_rows::{WideTurn, turn_rows};
-use crate::values::renew_value_list;
+use key_rows::{Keyed, Room, renew_dual_list, renew_value_list};
 use net_core::{RouteColumn, WideKind};
 use simplex_core::wide_product;
 

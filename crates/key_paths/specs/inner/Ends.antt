@@ -10,8 +10,8 @@ use Rattle.simplex_core.specs.inner.Commons.{DivideAll, IsDenominator, HaveNoDen
 use Rattle.simplex_core.specs.declared.optimum.Optimum.{Optimum}
 use Rattle.simplex_core.specs.declared.solver.SimplexFault.{SimplexFault}
 use Rattle.simplex_core.specs.declared.solver.SimplexFault.TheVariants.{Wide, NoMemory}
-use Rattle.key_paths.specs.inner.KeyRows.{amounts, left_over_rows}
-use Rattle.key_paths.specs.declared.keyed.Keyed.{Keyed}
+use Rattle.key_rows.specs.KeyRows.{amounts, left_over_rows}
+use Rattle.key_rows.specs.declared.keyed.Keyed.{Keyed}
 
 -- the denominator of row i
 abbrev pub row_den : List Row → ℕ → ℕ

@@ -9,14 +9,14 @@ use Rattle.simplex_law.specs.Sums.{put}
 use Rattle.simplex_law.specs.inner.Pivots.{IsPick}
 use Rattle.simplex_core.specs.Tables.{nums_at, den_at}
 use Rattle.key_law.specs.KeyRows.{cost, full_prices, role_nums, AreKeyRows}
-use Rattle.key_paths.specs.inner.Bases.{IsColumnNamed}
-use Rattle.key_paths.specs.inner.FirstRoles.{LimitsNothing}
+use Rattle.key_rows.specs.Bases.{IsColumnNamed}
+use Rattle.key_rows.specs.FirstRoles.{LimitsNothing}
 use Rattle.key_paths.specs.inner.Gaining.{cost_at}
 use Rattle.key_paths.specs.inner.Held.{IsHeld, IsNameOf}
 use Rattle.key_paths.specs.inner.Outcomes.{IsWideBasis}
-use Rattle.key_paths.specs.declared.keyed.Keyed.{Keyed}
-use Rattle.key_paths.specs.declared.leaving.WideTest.{WideTest}
-use Rattle.key_paths.specs.declared.leaving.WideTest.TheVariants.{Common as TestCommon, Product as TestProduct, Row as TestRow}
+use Rattle.key_rows.specs.declared.keyed.Keyed.{Keyed}
+use Rattle.key_rows.specs.declared.ratio_test.WideTest.{WideTest}
+use Rattle.key_rows.specs.declared.ratio_test.WideTest.TheVariants.{Common as TestCommon, Product as TestProduct, Row as TestRow}
 use Rattle.key_paths.specs.declared.turns.Turn.{Turn}
 use Rattle.key_paths.specs.declared.turns.Turn.TheVariants.{Again, Unbounded, Wide}
 

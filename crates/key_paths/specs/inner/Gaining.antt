@@ -9,8 +9,8 @@ use Rattle.net_core.specs.Graphs.{Graph, Joins}
 use Rattle.plan_terms.specs.Paths.{IsPath}
 use Rattle.simplex_law.specs.Sums.{dot}
 use Rattle.key_paths.specs.declared.carrier.Carrier.{Carrier}
-use Rattle.key_paths.specs.declared.keyed.Keyed.{Keyed}
-use Rattle.key_paths.specs.inner.Names.{path_uses}
+use Rattle.key_rows.specs.declared.keyed.Keyed.{Keyed}
+use Rattle.key_rows.specs.Names.{path_uses}
 
 -- the path joins the ends of demand k, which has a need
 pub record IsCarried (g : Graph) (demands : List Demand) (k : ℕ) (path : List LinkId) : Type 0 where

@@ -10,9 +10,9 @@ use Rattle.simplex_law.specs.inner.Pivots.{IsPick}
 use Rattle.simplex_core.specs.Tables.{nums_at, den_at}
 use Rattle.key_law.specs.Keys.{left_column}
 use Rattle.key_law.specs.KeyRows.{cost, full_prices, role_nums, AreKeyRows}
-use Rattle.key_paths.specs.inner.Bases.{IsColumnNamed, IsKeyed}
-use Rattle.key_paths.specs.inner.Names.{demand_in, name_at, uses, path_uses, IsNameWithin, IsShort}
-use Rattle.key_paths.specs.declared.keyed.Keyed.{Keyed}
+use Rattle.key_rows.specs.Bases.{IsColumnNamed, IsKeyed}
+use Rattle.key_rows.specs.Names.{demand_in, column_name, uses, path_uses, IsNameWithin, IsShortPath}
+use Rattle.key_rows.specs.declared.keyed.Keyed.{Keyed}
 
 -- 0 or 1
 abbrev pub IsZeroOrOne : ℤ → Type 0
@@ -26,7 +26,7 @@ pub record IsNameOf (links demands : ℕ) (name : RouteColumn) : Type 0 where
 
 -- a path along links that there are, of which none is taken twice
 pub record IsOnce (links : ℕ) (path : List LinkId) : Type 0 where
-  pub short : IsShort links path
+  pub short : IsShortPath links path
   pub once : (k : ℕ) → k < links → IsZeroOrOne (path_uses path k)
 
 -- a column of such a name
@@ -36,14 +36,14 @@ IsNamedColumn links demands c = (name : RouteColumn) × IsNameOf links demands n
 -- as many names as there are columns, each that of its column
 pub record AreColumnNames (links demands : ℕ) (basis : ℕ → ColumnOf RouteColumn) (names : List RouteColumn) : Type 0 where
   pub count : length names ≡ links + demands
-  pub each : (j : ℕ) → j < links + demands → IsColumnNamed links demands (name_at names j) (basis j)
+  pub each : (j : ℕ) → j < links + demands → IsColumnNamed links demands (column_name names j) (basis j)
 
 -- a basis of such columns for few demands and bounds that aren't negative, and what is kept of it
 pub record IsHeld (links demands : ℕ) (bound : ℕ → ℤ) (basis : ℕ → ColumnOf RouteColumn) (place role : ℕ → ℕ) (b : Keyed) : Type 0 where
   pub keyed : IsKeyed links demands bound basis place role b
   pub few : demands ≤ 2048
   pub positive : (r : ℕ) → r < links + demands → pos 0 ≤ℤ bound r
-  pub names : (j : ℕ) → j < links + demands → IsNameOf links demands (name_at b.names j)
+  pub names : (j : ℕ) → j < links + demands → IsNameOf links demands (column_name b.names j)
 
 -- what is left of a column when the keys are taken away, times each row
 abbrev pub HaveProducts : ℕ → List ℤ → (ℕ → ℕ → ℤ) → (ℕ → ℤ) → Type 0

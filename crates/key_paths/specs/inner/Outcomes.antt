@@ -7,9 +7,9 @@ use Rattle.simplex_law.specs.Evidence.{HoldsRow, HoldsProduct, HoldsCommon}
 use Rattle.simplex_law.specs.Programs.{ColumnOf}
 use Rattle.simplex_law.specs.Sums.{put}
 use Rattle.key_paths.specs.inner.Held.{AreColumnNames, IsHeld, IsEntering, IsPriced}
-use Rattle.key_paths.specs.declared.key_row.WideKey.{WideKey}
-use Rattle.key_paths.specs.declared.key_row.WideKey.TheVariants.{Common as KeyCommon, Row as KeyRow}
-use Rattle.key_paths.specs.declared.keyed.Keyed.{Keyed}
+use Rattle.key_rows.specs.declared.key_row.WideKey.{WideKey}
+use Rattle.key_rows.specs.declared.key_row.WideKey.TheVariants.{Common as KeyCommon, Row as KeyRow}
+use Rattle.key_rows.specs.declared.keyed.Keyed.{Keyed}
 use Rattle.key_paths.specs.declared.turn_rows.WideTurn.{WideTurn}
 use Rattle.key_paths.specs.declared.turn_rows.WideTurn.TheVariants.{Prices, Row as RowAt}
 use Rattle.key_paths.specs.declared.turns.Turn.{Turn}

@@ -11,9 +11,9 @@ use Rattle.net_core.specs.declared.columns.RouteColumn.{RouteColumn}
 use Rattle.simplex_core.specs.Tables.{nums_at}
 use Rattle.simplex_core.specs.Turned.{AreTurned, IsWideRow}
 use Rattle.key_law.specs.Keys.{swap}
-use Rattle.key_paths.specs.inner.KeyTests.{IsKeyRow}
-use Rattle.key_paths.specs.inner.Names.{path_uses, links_in, key_name, owner_in}
-use Rattle.key_paths.specs.declared.keyed.Keyed.{Keyed}
+use Rattle.key_rows.specs.KeyTests.{IsKeyRow}
+use Rattle.key_rows.specs.Names.{path_uses, links_in, key_name, owner_in}
+use Rattle.key_rows.specs.declared.keyed.Keyed.{Keyed}
 
 -- what the key of demand d takes of link k at its bound
 abbrev pub key_takes : Keyed → ℕ → ℕ → ℤ

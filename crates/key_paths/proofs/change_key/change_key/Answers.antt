@@ -4,7 +4,7 @@ use Rattle.std.proofs.lemmas.Int.{ints}
 use Rattle.simplex_law.specs.Sums.{dot}
 use Rattle.simplex_core.specs.Tables.{nums_at}
 use Rattle.checked_fraction.specs.Rows.{num}
-use Rattle.key_paths.specs.inner.Names.{demand_in, key_links, left_uses}
+use Rattle.key_rows.specs.Names.{demand_in, key_links, left_uses}
 use Rattle.key_paths.proofs.Exchanging.{shaped, rest_less, value_high, value_less, next_entering}
 use Rattle.key_paths.proofs.Holding.{rest_low, shaped_here, has_key, key_short}
 use Rattle.key_paths.proofs.change_key.change_key.Goals as goal

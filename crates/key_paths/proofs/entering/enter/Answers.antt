@@ -2,7 +2,7 @@ use Rattle.std.proofs.Common.{◌≡◌, ◌∙◌, length, subst, sym, arith, t
 use Rattle.std.specs.Int.{w128}
 use Rattle.std.proofs.lemmas.Int.{ints}
 use Rattle.key_paths.specs.inner.Entering.{Enters}
-use Rattle.key_paths.specs.inner.FirstRoles.{IsFirstOfRoles}
+use Rattle.key_rows.specs.FirstRoles.{IsFirstOfRoles}
 use Rattle.key_paths.specs.inner.Gaining.{cost_at}
 use Rattle.key_paths.specs.declared.turns.Turn.TheVariants.{Wide}
 use Rattle.key_paths.proofs.Picking.{new_shaped, new_key, new_bounds, new_values, new_row_values, new_priced, ends_wide, ends_unbounded, ends_turned}

@@ -1,11 +1,11 @@
 use Rattle.std.proofs.Common.{◌≡◌, length, slice_get, get_or, Some, pos, ◌*ℤ◌, ap, sym, ◌∙◌, arith}
 use Rattle.std.proofs.lemmas.Option.{slice_get-get_or}
 use Rattle.key_paths.specs.inner.Ends.{shares}
-use Rattle.key_paths.specs.inner.KeyRows.{amounts, times_at}
+use Rattle.key_rows.specs.KeyRows.{amounts, times_taken}
 use Rattle.key_paths.proofs.Ending.{own_is, takes_less, left_next}
 use Rattle.key_paths.proofs.finish.key_left.Goals as goal
 
-own_taken : (c : goal.After-own_over-own) → pos c.own_over-own.result ≡ times_at c.args.keyed.now.owners (shares c.args.keyed.now.rows c.args.all) c.args.demand c.loop-i.i *ℤ amounts c.args.keyed.now.values c.loop-i.i
+own_taken : (c : goal.After-own_over-own) → pos c.own_over-own.result ≡ times_taken c.args.keyed.now.owners (shares c.args.keyed.now.rows c.args.all) c.args.demand c.loop-i.i *ℤ amounts c.args.keyed.now.values c.loop-i.i
 own_taken c =
     let b = c.args.keyed.now in
     let row = c.index-rows-i.result in

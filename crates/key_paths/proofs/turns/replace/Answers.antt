@@ -3,8 +3,8 @@ use Rattle.checked_fraction.specs.Rows.{num}
 use Rattle.net_core.specs.declared.columns.WideKind.TheVariants.{Row as RowOf}
 use Rattle.simplex_law.specs.Sums.{dot, put}
 use Rattle.simplex_core.specs.Tables.{nums_at}
-use Rattle.key_paths.specs.inner.KeyRows.{amounts}
-use Rattle.key_paths.specs.inner.Names.{key_name, key_dual}
+use Rattle.key_rows.specs.KeyRows.{amounts}
+use Rattle.key_rows.specs.Names.{key_name, key_dual}
 use Rattle.key_paths.specs.inner.Outcomes.{IsWideBasis}
 use Rattle.key_paths.proofs.RowTurning.{turn_wide, shaped, rest_less, value_high, value_less, value_kept, demand_wide, next_held}
 use Rattle.key_paths.proofs.turns.replace.Goals as goal

@@ -1,7 +1,0 @@
-use Rattle.std.proofs.Common.{length}
-use Rattle.key_paths.specs.inner.KeyRows.{less_rows, AreRaw}
-use Rattle.key_paths.proofs.key_row.write_raw.Given as goal
-
--- the numbers so far
-abbrev pub invariant-loop-k : goal.invariant-loop-k
-invariant-loop-k l = AreRaw (less_rows l.rows l.owners l.weights l.demand (length l.rows)) l.k l.raw

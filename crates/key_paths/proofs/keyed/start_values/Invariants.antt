@@ -1,8 +1,0 @@
-use Rattle.std.proofs.Common.{◌≡◌, length, pos}
-use Rattle.checked_fraction.specs.Rows.{num}
-use Rattle.simplex_core.specs.inner.Shapes.{AtEach}
-use Rattle.key_paths.proofs.keyed.start_values.Given as goal
-
--- the values so far
-abbrev pub invariant-loop-k : goal.invariant-loop-k
-invariant-loop-k l = (length l.values ≡ l.k) × AtEach (λ k x. pos x ≡ num l.bounds k) l.values

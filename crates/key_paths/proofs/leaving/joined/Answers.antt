@@ -1,4 +1,0 @@
-use Rattle.key_paths.proofs.leaving.joined.Goals as goal
-
-pub better_key-requires-clause-best : goal.better_key-requires-clause-best
-better_key-requires-clause-best c = c.requires.best c.in-Some.best c.in-Some.is

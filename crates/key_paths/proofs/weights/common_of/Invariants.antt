@@ -1,7 +1,0 @@
-use Rattle.simplex_core.specs.inner.Commons.{IsDenominator}
-use Rattle.key_paths.specs.inner.KeyRows.{own_den}
-use Rattle.key_paths.proofs.weights.common_of.Given as goal
-
--- the denominator of the rows so far
-abbrev pub invariant-loop-i : goal.invariant-loop-i
-invariant-loop-i l = IsDenominator (own_den l.rows l.owners l.demand) l.i l.all

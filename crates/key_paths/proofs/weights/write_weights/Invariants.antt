@@ -1,6 +1,0 @@
-use Rattle.key_paths.specs.inner.KeyRows.{AreWritten}
-use Rattle.key_paths.proofs.weights.write_weights.Given as goal
-
--- the weights so far
-abbrev pub invariant-loop-i : goal.invariant-loop-i
-invariant-loop-i l = AreWritten l.rows l.owners l.weights l.demand l.all l.i

@@ -1,0 +1,28 @@
+-- a row's numbers along a path, one after another
+use Rattle.std.proofs.Common.{◌≡◌, ℕ, zero, suc, ◌<◌, ◌≤◌, ◌+◌, List, [], ◌∷◌, length, drop, get_or, refl, subst, arith}
+use Rattle.std.proofs.Math.IntN.{ℤ, pos, ◌+ℤ◌}
+use Rattle.std.proofs.lemmas.Int.{ints}
+use Rattle.std.specs.List.{AllByRecursion}
+use Rattle.net_core.specs.declared.ids.LinkId.{LinkId}
+use Rattle.key_rows.specs.Names.{path_total}
+
+sum_behind : (nums : ℕ → ℤ) (path : List LinkId) (k : ℕ) (d : LinkId) → k < length path → path_total nums (drop k path) ≡ nums (get_or path k d).0 +ℤ path_total nums (drop (suc k) path)
+sum_behind nums [] k d lt = absurd (omega arith)
+sum_behind nums (l ∷ path) zero d lt = omega (arith, ints)
+sum_behind nums (l ∷ path) (suc k) d lt = sum_behind nums path k d (omega arith)
+
+pub sum_rest : (nums : ℕ → ℤ) (path : List LinkId) (k : ℕ) (d : LinkId) → k < length path → path_total nums (drop k path) ≡ nums (get_or path k d).0 +ℤ path_total nums (drop (k + 1) path)
+sum_rest nums path k d lt =
+    let next : suc k ≡ k + 1 = omega arith in
+    subst (λ n. path_total nums (drop k path) ≡ nums (get_or path k d).0 +ℤ path_total nums (drop n path)) next (sum_behind nums path k d lt)
+
+pub sum_end : (nums : ℕ → ℤ) (path : List LinkId) (k : ℕ) → length path ≤ k → path_total nums (drop k path) ≡ pos 0
+sum_end nums [] zero le = refl
+sum_end nums [] (suc k) le = refl
+sum_end nums (l ∷ path) zero le = absurd (omega arith)
+sum_end nums (l ∷ path) (suc k) le = sum_end nums path k (omega arith)
+
+pub link_inside : (m : ℕ) (path : List LinkId) (k : ℕ) (d : LinkId) → AllByRecursion (λ l. l.0 < m) path → k < length path → (get_or path k d).0 < m
+link_inside m [] k d all lt = absurd (omega arith)
+link_inside m (l ∷ path) zero d all lt = all.0
+link_inside m (l ∷ path) (suc k) d all lt = link_inside m path k d all.1 (omega arith)

@@ -1,0 +1,31 @@
+-- rows that are taken away
+use Rattle.std.proofs.Common.{◌≡◌, ℕ, suc, ◌+◌, List, Some, get_or, slice_get, sym, ap, ◌∙◌, subst, arith}
+use Rattle.std.proofs.Math.IntN.{ℤ, pos, ◌+ℤ◌, ◌-ℤ◌, ◌*ℤ◌}
+use Rattle.std.proofs.lemmas.Int.{ints}
+use Rattle.checked_fraction.specs.Rows.{num}
+use Rattle.checked_fraction.specs.declared.row.Row.{Row}
+use Rattle.simplex_law.specs.Sums.{unit_vector, int_sum}
+use Rattle.simplex_law.proofs.Sums.{unit-same}
+use Rattle.simplex_core.specs.Tables.{nums_of, nums_at}
+use Rattle.key_rows.specs.KeyRows.{times_taken, less_rows}
+
+pub one_time : (new old : ℤ) (owner d : ℕ) (weight x y : ℤ) → owner ≡ d → new ≡ old -ℤ (weight *ℤ x) → x ≡ y → new ≡ old -ℤ ((unit_vector owner d *ℤ weight) *ℤ y)
+one_time new old owner d weight x y same e is =
+    let one : unit_vector owner d ≡ pos 1 = subst (λ z. unit_vector owner z ≡ pos 1) same (unit-same owner) in
+    e ∙ (ap (λ z. old -ℤ (weight *ℤ z)) is ∙ sym (ap (λ z. old -ℤ ((z *ℤ weight) *ℤ y)) one ∙ ap (λ z. old -ℤ (z *ℤ y)) (once weight)))
+  where
+    once : (x : ℤ) → pos 1 *ℤ x ≡ x
+    once x = omega (arith, ints)
+
+pub row_more : (rows : List Row) (owners : List ℕ) (weights : List ℤ) (d n k : ℕ) (row : Row) (new old : ℤ) → slice_get rows n ≡ Some row → old ≡ less_rows rows owners weights d n k
+    → new ≡ old -ℤ ((unit_vector (get_or owners n 0) d *ℤ num weights n) *ℤ num row.nums k) → new ≡ less_rows rows owners weights d (n + 1) k
+row_more rows owners weights d n k row new old at before after =
+    let here : num row.nums k ≡ nums_at rows n k = ap (λ o. num (nums_of o) k) (sym at) in
+    let e = after ∙ ap (λ x. old -ℤ ((unit_vector (get_or owners n 0) d *ℤ num weights n) *ℤ x)) here in
+    subst (λ m. new ≡ less_rows rows owners weights d m k) (one_more n) (less _ e before)
+  where
+    one_more : (n : ℕ) → suc n ≡ n + 1
+    one_more n = omega arith
+
+    less : (x : ℤ) → new ≡ old -ℤ x → old ≡ pos 0 -ℤ int_sum n (λ i. times_taken owners weights d i *ℤ nums_at rows i k) → new ≡ pos 0 -ℤ (int_sum n (λ i. times_taken owners weights d i *ℤ nums_at rows i k) +ℤ x)
+    less x a b = omega (arith, ints, a, b)

@@ -1,0 +1,29 @@
+-- what is too wide of a key when it is decided which column leaves
+use Rattle.std.proofs.Common.{◌≡◌, ℕ, length, Err, ◌+◌, ◌-◌, ◌<◌, ◌≤◌, ◌⊎◌, ◌∙◌, arith, ⊎_elim}
+use Rattle.net_core.specs.declared.columns.RouteColumn.{RouteColumn}
+use Rattle.key_rows.specs.KeyTests.{IsWideTest}
+use Rattle.key_rows.specs.Names.{own_entry}
+use Rattle.key_rows.specs.inner.Candidates.{IsKeyTest, IsWideRowTest}
+use Rattle.key_rows.specs.declared.keyed.Keyed.{Keyed}
+use Rattle.key_rows.specs.declared.ratio_test.WideTest.{WideTest}
+use Rattle.key_rows.specs.declared.ratio_test.WideTest.TheVariants.{Common, Product, Row}
+use Rattle.key_rows.specs.declared.order.Candidate.{Candidate}
+
+-- of a key's row
+pub row_test : (b : Keyed) (name : RouteColumn) (d role : ℕ) (wide : WideTest) → d < length b.duals → role ≡ length b.rows + d → IsWideRowTest b d role wide → IsWideTest b name wide
+row_test b name d role Common l at h = (d, l, h)
+row_test b name d role (Product r) l at h = absurd h
+row_test b name d role (Row r) l at h = (d, l, (h.0 ∙ at, h.1))
+
+-- of its product
+pub key_test : (b : Keyed) (name : RouteColumn) (d : ℕ) (wide : WideTest) → d < length b.duals → IsKeyTest b d (own_entry name d) (Err wide) → IsWideTest b name wide
+key_test b name d Common l h = (d, l, h)
+key_test b name d (Product r) l h = (d, l, h)
+key_test b name d (Row r) l h = absurd h
+
+-- of a key, or of the best so far, which is another
+pub pair_test : (b : Keyed) (name : RouteColumn) (d n : ℕ) (x best : Candidate) (wide : WideTest) → d < length b.duals → x.role ≡ length b.rows + d → n ≡ length b.rows → n ≤ best.role → best.role < length b.rows + length b.duals
+    → IsWideRowTest b d x.role wide ⊎ IsWideRowTest b (best.role - n) best.role wide → IsWideTest b name wide
+pair_test b name d n x best wide l at is ge lt = ⊎_elim
+    (λ one. row_test b name d x.role wide l at one)
+    (λ other. row_test b name (best.role - n) best.role wide (omega (arith, is, ge, lt)) (omega (arith, is, ge)) other)

@@ -1,0 +1,15 @@
+use Rattle.std.specs.Option.{ForSome}
+use Rattle.std.proofs.Common.{length}
+use Rattle.key_rows.specs.Bases.{IsRoom}
+use Rattle.key_rows.specs.FirstRoles.{IsFirstOfRoles}
+use Rattle.key_rows.specs.inner.Candidates.{IsPlacedCandidate}
+use Rattle.key_rows.specs.inner.Tried.{role_in, IsTried}
+use Rattle.key_rows.proofs.ratio_test.with_keys.Given as goal
+
+-- the first of the rows and of the keys that the rows so far touch
+abbrev pub invariant-loop-i : goal.invariant-loop-i
+invariant-loop-i l = record {
+  room : IsRoom (length l.keyed.rows) l.room;
+  placed : ForSome l.best (IsPlacedCandidate l.keyed l.name);
+  first : IsFirstOfRoles l.keyed l.name (IsTried l.keyed l.name l.i) (role_in l.best);
+}

@@ -1,0 +1,25 @@
+use Rattle.std.proofs.Common.{◌≡◌, length, to_z, of_z, slice_get, Some, inl, refl, sym, ap, ◌∙◌, subst, arith}
+use Rattle.std.specs.Int.{w128}
+use Rattle.std.proofs.lemmas.Int.{ints}
+use Rattle.std.proofs.lemmas.Option.{slice_get-get_or}
+use Rattle.simplex_core.specs.Tables.{nums_of}
+use Rattle.key_rows.specs.inner.Candidates.{IsLowered}
+use Rattle.key_rows.proofs.Stepping.{decided}
+use Rattle.key_rows.proofs.tie.tie_with_row.Goals as goal
+
+pub returns-clause-tie : goal.returns-clause-tie
+returns-clause-tie c =
+    let b = c.args.keyed.now in
+    let name = c.args.name.now in
+    let key = c.args.key.now in
+    let x = c.args.x.now in
+    let best = c.args.best.now in
+    let spare = c.positive_step.new.room.spare in
+    let p = c.in_ok-product.product in
+    let row = c.index-items-best.result in
+    let back : to_z w128 (of_z w128 p) ≡ p = omega (arith, ints, c.positive_step.type_inv) in
+    let is = rw c.items.ensures at c.index-items-best.is in
+    let at : slice_get b.rows best.role ≡ Some row = slice_get-get_or b.rows best.role row c.requires.best.0 ∙ ap Some (sym is) in
+    let first = subst (λ z. IsLowered b name key x z (to_z w128 (of_z w128 p))) (sym c.nums.ensures) (subst (λ z. IsLowered b name key x spare.nums z) (sym back) c.in_ok-product.ensures.lowered) in
+    decided b name key x best c.nums.result.now c.nums-2.result.now (to_z w128 (of_z w128 p)) best.product (length c.nums.result.now) (ap length c.nums.ensures ∙ c.in_ok-product.ensures.room.spare)
+    first (inl (c.requires.best.0, c.nums-2.ensures ∙ ap nums_of (sym at), refl)) c.tie_first.result c.tie_first.ensures.yes c.tie_first.ensures.no

@@ -1,0 +1,13 @@
+use Rattle.std.proofs.Common.{◌≡◌, ◌≤◌, ◌*◌, ◌^◌, unsigned_abs}
+use Rattle.checked_fraction.specs.Rows.{num}
+use Rattle.simplex_law.specs.Sums.{dot}
+use Rattle.checked_fraction.specs.Totals.{total}
+use Rattle.key_rows.proofs.values.worth.Given as goal
+
+-- the sum of the products so far
+abbrev pub invariant-loop-k : goal.invariant-loop-k
+invariant-loop-k l = record {
+  sum : total l.sum ≡ dot l.k (num l.nums) (num l.rest);
+  high : unsigned_abs l.sum.high ≤ l.k * 2 ^ 77;
+  low : l.sum.low ≤ l.k * 2 ^ 62;
+}

@@ -1,0 +1,4 @@
+pub mod Candidates
+pub mod Orders
+pub mod Tried
+pub mod Written
