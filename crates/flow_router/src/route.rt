@@ -1,4 +1,4 @@
-ghost use Rattle.std.specs.Prelude.{◌≡◌, ◌*◌, ◌+◌, ◌<◌, ◌^◌, ◌≤◌, ℕ, All, IfOk, length, slice_index, true, false, IsTrue, ◌↔◌};
+ghost use Rattle.std.specs.Prelude.{◌≡◌, ◌*◌, ◌+◌, ◌<◌, ◌^◌, ◌≤◌, ℕ, All, IfOk, OnErr, length, slice_index, true, false, IsTrue, ◌↔◌};
 ghost use Rattle.checked_fraction.specs.Rows.{IsNarrow};
 ghost use Rattle.net_core.specs.Demands.{AreDemands};
 ghost use Rattle.net_core.specs.Graphs.{Graph};
@@ -121,7 +121,8 @@ fn solved(
 ) -> Result<RouteAnswer, NoMemory>
     requires narrow { (k : ℕ) → k < route_rows (graph_of task.now.graph) task.now.demands.now → IsNarrow (route_bound (graph_of task.now.graph) task.now.demands.now task.now.caps.now k) }
     requires joined { AreJoined (graph_of task.now.graph) task.now.demands.now }
-    ensures { IfOk result (IsRouteAnswer (graph_of task.now.graph) task.now.demands.now task.now.caps.now) }
+    ensures answer { IfOk result (IsRouteAnswer (graph_of task.now.graph) task.now.demands.now task.now.caps.now) }
+    ensures same { OnErr result (known.new ≡ known.old) }
 {
     let graph = &task.graph;
     match solve_routes_from(
@@ -158,7 +159,8 @@ fn routed_or_solved(
 ) -> Result<RouteAnswer, NoMemory>
     requires narrow { (k : ℕ) → k < route_rows (graph_of task.now.graph) task.now.demands.now → IsNarrow (route_bound (graph_of task.now.graph) task.now.demands.now task.now.caps.now k) }
     requires joined { AreJoined (graph_of task.now.graph) task.now.demands.now }
-    ensures { IfOk result (IsRouteAnswer (graph_of task.now.graph) task.now.demands.now task.now.caps.now) }
+    ensures answer { IfOk result (IsRouteAnswer (graph_of task.now.graph) task.now.demands.now task.now.caps.now) }
+    ensures same { OnErr result (known.new ≡ known.old) }
 {
     let graph = &task.graph;
     let left = greedy(
@@ -192,7 +194,8 @@ pub fn route_state_from<'a>(
     requires scale { 0 < caps.now.scale }
     requires caps { length caps.now.nums ≡ length net.now.links }
     requires joined { AreJoined (graph net.now states.now state.0) demands.now }
-    ensures { IfOk result (IsRouteAnswer (graph net.now states.now state.0) demands.now caps.now) }
+    ensures answer { IfOk result (IsRouteAnswer (graph net.now states.now state.0) demands.now caps.now) }
+    ensures same { OnErr result (known.new ≡ known.old) }
 {
     let task = Task {
         graph: Surviving { net, states, state },

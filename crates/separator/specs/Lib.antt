@@ -1,4 +1,5 @@
 pub mod Findings
+pub mod Known
 pub mod Separators
 pub mod OneByOnes
 pub mod inner

@@ -16,7 +16,7 @@
 
 mod admission;
 pub mod answers;
-pub mod known;
+mod known;
 pub mod one_by_one;
 mod one_state;
 mod ranges;
@@ -24,7 +24,7 @@ pub mod separating;
 
 pub use admission::line_of;
 pub use answers::{Separated, StateAnswer};
-pub use known::KnownColumns;
+pub use one_state::separate_state;
 pub use one_by_one::OneByOne;
 pub use separating::Separate;
 

@@ -6,5 +6,8 @@ use Rattle.flow_router.proofs.route.routed_or_solved.Goals as goal
 pub returns-then-is_whole : goal.returns-then-is_whole
 returns-then-is_whole c =
     let task = c.args.task.now in
-    greedy_routed (graph_of task.graph) task.demands.now task.caps.now c.in_ok-left.left task.count c.requires.narrow c.in_ok-left.ensures
-    (subst (All (λ r. r ≡ 0)) c.items.ensures (c.is_whole.ensures.0 c.if-is_whole.true))
+    record {
+      answer = greedy_routed (graph_of task.graph) task.demands.now task.caps.now c.in_ok-left.left task.count c.requires.narrow c.in_ok-left.ensures
+          (subst (All (λ r. r ≡ 0)) c.items.ensures (c.is_whole.ensures.0 c.if-is_whole.true));
+      same = tt;
+    }

@@ -17,7 +17,7 @@ pub returns-in_ok-line-in-Violated-clause-pools : goal.returns-in_ok-line-in-Vio
 returns-in_ok-line-in-Violated-clause-pools c =
     let p = case_of c.args.instance.now in
     let s = c.args.state.0 in
-    let found : IsFoundCutOf (graph_in p s) p.demands c.args.caps.now c.in-Violated.cut = subst (IsFinding (graph_in p s) p.demands c.args.caps.now) c.in-Violated.is c.in_ok-routing.ensures in
+    let found : IsFoundCutOf (graph_in p s) p.demands c.args.caps.now c.in-Violated.cut = subst (IsFinding (graph_in p s) p.demands c.args.caps.now) c.in-Violated.is c.in_ok-routing.ensures.found in
     pools_only p c.args.caps.now s c.in-Violated.cut c.in_ok-line-in-Violated.line found c.in_ok-line-in-Violated.ensures.line
     c.args.board.now c.line_and_spot.new.board c.in_ok-line-in-Violated.ensures.only
 
@@ -25,7 +25,7 @@ pub returns-in_ok-line-in-Violated-clause-answer : goal.returns-in_ok-line-in-Vi
 returns-in_ok-line-in-Violated-clause-answer c =
     let p = case_of c.args.instance.now in
     let s = c.args.state.0 in
-    let found : IsFoundCutOf (graph_in p s) p.demands c.args.caps.now c.in-Violated.cut = subst (IsFinding (graph_in p s) p.demands c.args.caps.now) c.in-Violated.is c.in_ok-routing.ensures in
+    let found : IsFoundCutOf (graph_in p s) p.demands c.args.caps.now c.in-Violated.cut = subst (IsFinding (graph_in p s) p.demands c.args.caps.now) c.in-Violated.is c.in_ok-routing.ensures.found in
     violated_answer p c.args.caps.now s c.in-Violated.cut c.in_ok-line-in-Violated.line found c.in_ok-line-in-Violated.ensures.line
     c.line_and_spot.new.board.entries c.in_ok-line-in-Violated.spot c.in_ok-line-in-Violated.ensures.spot
 
@@ -33,6 +33,6 @@ pub returns-in_ok-line-in-Violated-clause-among : goal.returns-in_ok-line-in-Vio
 returns-in_ok-line-in-Violated-clause-among c =
     let p = case_of c.args.instance.now in
     let s = c.args.state.0 in
-    let found : IsFoundCutOf (graph_in p s) p.demands c.args.caps.now c.in-Violated.cut = subst (IsFinding (graph_in p s) p.demands c.args.caps.now) c.in-Violated.is c.in_ok-routing.ensures in
+    let found : IsFoundCutOf (graph_in p s) p.demands c.args.caps.now c.in-Violated.cut = subst (IsFinding (graph_in p s) p.demands c.args.caps.now) c.in-Violated.is c.in_ok-routing.ensures.found in
     among_answered p c.args.caps.now s c.in-Violated.cut c.in_ok-line-in-Violated.line found c.in_ok-line-in-Violated.ensures.line
     c.args.board.now c.line_and_spot.new.board c.in_ok-line-in-Violated.spot c.in_ok-line-in-Violated.ensures.only

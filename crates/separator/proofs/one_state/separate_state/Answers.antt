@@ -11,4 +11,4 @@ nearest_set-requires-clause-cut c =
     let g = graph_in (case_of instance) c.args.state.0 in
     let caps = c.args.caps.now in
     found_cut g instance.net.now.checked instance.demands.now instance.belong caps (c.requires.scale, c.are_caps.ensures.scale) (c.requires.caps, c.are_caps.ensures.nums)
-    c.in-Violated.cut (subst (IsRouteAnswer g instance.demands.now caps) c.in-Violated.is c.in_ok-answer.ensures)
+    c.in-Violated.cut (subst (IsRouteAnswer g instance.demands.now caps) c.in-Violated.is c.in_ok-answer.ensures.answer)
