@@ -16,9 +16,9 @@ use Rattle.net_core.proofs.network.Network.TheSendSync as networks
 use Rattle.net_core.proofs.states.States.TheSendSync as all_states
 use Rattle.turn_lock.proofs.desk.Desk.TheSendSync as desks
 use Rattle.turn_lock.proofs.desk.Pass.TheSendSync as passes
-use Rattle.cut_pool.proofs.history.History.TheSendSync as histories
 use Rattle.cut_pool.proofs.pooled.PooledCut.TheSendSync as pools
 use Rattle.cut_pool.specs.contracts.board.Board as board
+use Rattle.cut_pool.specs.contracts.entries.Told as told
 use Rattle.cut_pool.specs.contracts.board.BoardChronicle.TheImpl.{ghosts}
 use Rattle.board_desk.specs.contracts.caller.Caller as caller
 
@@ -26,9 +26,13 @@ use Rattle.board_desk.specs.contracts.caller.Caller as caller
 abbrev origin : RattleType
 origin = Tuple (network.the_row ∷ states.the_row ∷ list.the_row demand.the_row ∷ [])
 
+-- the entries that a board tells have no bytes, and may go to any thread
+told_send : IsSend told.the_row
+told_send = search (sendable, crosses) depth 20
+
 -- a board may go to another thread
 pub board_send : (κ : NamedLft) → IsSend (board.the_row κ)
-board_send κ = search (sendable, crosses, lists.the_send, networks.the_sync, all_states.the_sync, histories.the_send, pools.the_send) depth 20
+board_send κ = search (sendable, crosses, lists.the_send, networks.the_sync, all_states.the_sync, told_send, pools.the_send) depth 30 fits 20000
 
 -- a caller may go to another thread
 pub caller_send : (κ ν : NamedLft) → IsSend (caller.the_row κ ν)

@@ -1,5 +1,5 @@
 -- right sides that follow an edit
-use Rattle.std.proofs.Common.{◌≡◌, ◌∙◌, ℕ, ◌+◌, ◌-◌, ◌*◌, ◌≤◌, ◌<◌, ◌^◌, List, [], ◌∷◌, ◌++◌, All, Option, None, Some, cond, eqb, length, map, get_or, take, drop, slice_get, slice_index, slice_index_or, sum_by, unwrap_or, zip, zero, suc, refl, sym, ap, subst, arith, ⊎_elim}
+use Rattle.std.proofs.Common.{◌≡◌, ◌∙◌, ℕ, ◌+◌, ◌*◌, ◌≤◌, ◌<◌, ◌^◌, List, [], ◌∷◌, ◌++◌, All, Option, None, Some, eqb, length, map, get_or, take, drop, slice_get, slice_index, slice_index_or, sum_by, unwrap_or, zip, suc, refl, sym, ap, subst, arith, ⊎_elim}
 use Rattle.std.specs.Prelude.{◌==◌, min, max}
 use Rattle.std.proofs.Math.Logic.{∥∥₁_elim}
 use Rattle.std.proofs.Math.Nat.{mul-le-mul_left}
@@ -26,7 +26,6 @@ use Rattle.metric_cut.specs.Cuts.{IsCutOf}
 use Rattle.metric_cut.specs.inner.Rights.{part_of}
 use Rattle.metric_cut.proofs.Sides.{sum_is_right}
 use Rattle.cut_pool.specs.declared.pooled.PooledCut.{PooledCut}
-use Rattle.cut_pool.specs.declared.shares.DemandShare.{DemandShare}
 use Rattle.cut_pool.specs.declared.shares.NeedChange.{NeedChange}
 use Rattle.cut_pool.specs.inner.Pooling.{CanFollow, IsAtDemands, IsSomeCut, StandsAt, followed}
 use Rattle.cut_pool.specs.inner.Shares.{IsShareIn, IsShareOf, asked_by}

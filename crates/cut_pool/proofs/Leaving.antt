@@ -1,6 +1,6 @@
 -- the share of a name, and edits of it
-use Rattle.std.proofs.Common.{◌≡◌, ◌∙◌, ℕ, ◌+◌, ◌<◌, ◌^◌, Bool, true, false, cond, not, List, [], ◌∷◌, ◌++◌, length, map, get_or, sum_by, Option, None, Some, refl, sym, ap, subst, arith}
-use Rattle.std.specs.Prelude.{filter, nat_lt, position, remove}
+use Rattle.std.proofs.Common.{◌≡◌, ◌∙◌, ℕ, ◌^◌, Bool, true, false, cond, not, List, [], ◌∷◌, ◌++◌, get_or, sum_by, Option, None, Some, refl, sym, ap, arith}
+use Rattle.std.specs.Prelude.{nat_lt, position}
 use Rattle.std.proofs.lemmas.Bool.{cond-false, cond-true, cond_both, not_from_false, not_from_true}
 use Rattle.std.proofs.lemmas.List.{append-nil}
 use Rattle.std.proofs.lemmas.List.Elements.{filter-append}
@@ -13,11 +13,10 @@ use Rattle.net_core.specs.declared.journal.Reply.TheVariants.{Accepted, TooMuch,
 use Rattle.net_core.specs.Demands.{AreDemands}
 use Rattle.net_core.specs.Tests.{are_same}
 use Rattle.plan_terms.specs.Edits.{Answered, add_fault, added, edit_reply, is_demand, next_version, node_of, set_need, total_need, within_total, without}
-use Rattle.short_paths.specs.declared.distance_table.DistanceTable.{DistanceTable}
 use Rattle.metric_cut.specs.inner.Rights.{part_of}
 use Rattle.demand_book.proofs.Changed.{all_kept, alone, is_same, remove_is}
 use Rattle.cut_pool.specs.declared.shares.DemandShare.{DemandShare}
-use Rattle.cut_pool.specs.inner.Shares.{IsShareIn, asked_by, edit_name}
+use Rattle.cut_pool.specs.inner.Shares.{IsShareIn, edit_name}
 use Rattle.cut_pool.proofs.Places.{passes_nowhere}
 
 -- the share of a demand

@@ -1,5 +1,5 @@
 -- boards: what they were made with, how they grow, and what they answer
-use Rattle.std.specs.Prelude.{◌≡◌, ◌≢◌, ℕ, ◌<◌, ◌^◌, ◌++◌, List, [], ◌∷◌, All, Some, length, slice_get}
+use Rattle.std.specs.Prelude.{◌≡◌, ◌≢◌, ℕ, ◌<◌, ◌^◌, ◌++◌, List, [], ◌∷◌, All, Some, length, slice_get, true}
 use Rattle.net_core.specs.declared.demand.Demand.{Demand}
 use Rattle.net_core.specs.declared.journal.Edit.{Edit}
 use Rattle.net_core.specs.declared.journal.Entry.{Entry}
@@ -19,6 +19,7 @@ use Rattle.cut_pool.specs.declared.board.Board.{Board}
 use Rattle.cut_pool.specs.declared.snapshot.Snapshot.{Snapshot}
 use Rattle.plan_terms.specs.Certificates.{IsCut, IsRight}
 use Rattle.cut_pool.specs.Histories.{IsLegalAfter, IsPoolAfter, cuts_of, demands_left, version_left}
+use Rattle.cut_pool.specs.Rooms.{left_spare, sets_known}
 
 -- what a board was made with: its network, its states and its opening demands
 abbrev pub origin_of : Board → Network × States × List Demand
@@ -27,6 +28,10 @@ origin_of b = (b.net.now, b.states.now, b.opening.value)
 -- the same, as a case
 abbrev pub opening_case : Board → Case
 opening_case b = case b.net.now b.states.now b.opening.value
+
+-- for so many edits that set the need of a known demand the board has memory
+abbrev pub spare_of : Board → ℕ
+spare_of b = b.storage.spare
 
 -- the board has one entry more, which is legal after the others, and its origin is as it was
 pub record GrowsBy (entry : Entry) (old new : Board) : Type 0 where
@@ -47,6 +52,13 @@ AnswersEdit old caller edit (editing.At position reply) new =
     (length old.entries < 65536) × GrowsBy (Edited caller edit reply) old new × (position ≡ length new.entries)
 AnswersEdit old caller edit (editing.Full back) new = (length old.entries ≡ 65536) × (back ≡ edit) × IsSameBoard old new
 AnswersEdit old caller edit (editing.NoMemory back) new = (length old.entries < 65536) × (back ≡ edit) × IsSameBoard old new
+
+-- what an edit leaves of that memory: setting a known demand's need takes from it, and runs out only where none is spared
+abbrev pub SparesEdit : Board → Edit → EditAnswer → Board → Type 0
+SparesEdit old edit (editing.At position reply) new = spare_of new ≡ left_spare (demands_left (opening_case old) old.entries) edit (spare_of old)
+SparesEdit old edit (editing.Full back) new = spare_of new ≡ spare_of old
+SparesEdit old edit (editing.NoMemory back) new =
+    (spare_of new ≡ spare_of old) × (sets_known (demands_left (opening_case old) old.entries) edit ≡ true → spare_of old ≡ 0)
 
 -- no cut that entries pool has this state and these lengths
 abbrev pub IsNew : Cut → List Entry → Type 0

@@ -1,4 +1,5 @@
 pub mod Boards
 pub mod Histories
 pub mod Pools
+pub mod Rooms
 pub mod inner

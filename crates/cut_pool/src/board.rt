@@ -1,4 +1,4 @@
-ghost use Rattle.std.specs.Prelude.{◌≡◌, ◌≤◌, ◌<◌, ◌-◌, ◌^◌, [], All, IfOk, IfErr, Some, length, map, slice_get};
+ghost use Rattle.std.specs.Prelude.{◌≡◌, ◌≤◌, ◌<◌, ◌-◌, ◌^◌, [], All, IfOk, IfErr, OnErr, OnOk, Some, length, map, max, slice_get};
 ghost use Rattle.net_core.specs.Demands.{AreDemands};
 ghost use Rattle.net_core.specs.Views.{case, graph};
 ghost use Rattle.plan_terms.specs.Certificates.{IsCut};
@@ -8,6 +8,7 @@ ghost use Rattle.cut_pool.specs.Histories.{IsBoardAfter, IsPoolAfter, cuts_of, d
 ghost use Rattle.cut_pool.specs.Pools.{ArePooledCuts, line_of_pooled};
 
 use crate::answers::{AdmitAnswer, EditAnswer};
+use crate::entries::Told;
 use crate::history::History;
 use crate::pooled::{PooledCut, lines_of, place_of};
 use crate::snapshot::Snapshot;
@@ -31,6 +32,7 @@ const MOST_CUTS: usize = 4096;
 /// let mut board = Board::new(alloc, &net, &states, opening)?;           // version 0, no entry
 /// let answer = board.edit(1, Edit::Set { name, need: 24000 });          // At { position: 1, reply: Accepted(1) }
 /// let answer = board.admit(cut);                                        // Admitted { index: 0, position: 2 }
+/// board.reserve(100)?;                                                  // for a hundred edits that set a known demand's need
 /// ```
 #[derive(Drop)]
 pub struct Board<'a> {
@@ -38,9 +40,11 @@ pub struct Board<'a> {
     states: &'a States,
     opening: Remembered<Demands>,
     book: Book,
-    entries: History,
+    entries: Told,
+    storage: History,
     pool: List<PooledCut>,
     alloc: Global,
+    pub ghost told: { entries ≡ storage.entries.items },
     pub ghost nodes: { book.nodes ≡ net.now.nodes },
     pub ghost few: { length entries ≤ 65536 },
     pub ghost few_cuts: { length pool ≤ 4096 },
@@ -62,12 +66,12 @@ impl<'a> Chronicle for Board<'a> {
     ghost origin = { origin_of };
 
     fn count(&self) -> u64 {
-        self.entries.len() as u64
+        self.storage.len() as u64
     }
 }
 
 impl<'a> Board<'a> {
-    ghost use Rattle.cut_pool.specs.Boards.{AnswersAdmit, AnswersEdit, IsRightNow, IsSnapshotOf, opening_case, origin_of};
+    ghost use Rattle.cut_pool.specs.Boards.{AnswersAdmit, AnswersEdit, IsRightNow, IsSameBoard, IsSnapshotOf, SparesEdit, opening_case, origin_of, spare_of};
 
     /// The board of the network's opening demands, at version 0, with no entry. It copies the nodes' names; the demands come back
     /// where memory runs out.
@@ -79,10 +83,12 @@ impl<'a> Board<'a> {
     ) -> Result<Board<'a>, (Demands, NoMemory)>
         requires { AreDemands (length net.now.nodes) opening }
         ensures entries { IfOk result (λ b. b.entries ≡ []) }
+        ensures spare { IfOk result (λ b. spare_of b ≡ 0) }
         ensures origin { IfOk result (λ b. origin_of b ≡ (net.now, states.now, opening)) }
         ensures back { IfErr result (λ e. e.0 ≡ opening) }
     {
         let remembered = Remembered::of(&opening);
+        let storage = History::new(alloc);
         let book = match Book::new(net, opening) {
             Ok(book) => book,
             Err(refused) => return Err(refused),
@@ -92,7 +98,8 @@ impl<'a> Board<'a> {
             states,
             opening: remembered,
             book,
-            entries: History::new(alloc),
+            entries: storage.told(),
+            storage,
             pool: List::new(alloc),
             alloc,
         })
@@ -100,19 +107,24 @@ impl<'a> Board<'a> {
 
     /// Makes a caller's edit, whose need is in thousandths, and commits it with its reply, also where it is refused. Each right
     /// side then follows by the distances that its cut keeps, in time that grows with the cuts and with the demands.
+    /// Where there is memory to spare, an edit that sets the need of a known demand takes what it needs of it, and never runs out.
     pub fn edit(&mut self, caller: u32, edit: Edit) -> EditAnswer
         requires { edit_need edit < 2 ^ 40 }
-        ensures { AnswersEdit self.old caller edit result self.new }
+        ensures answer { AnswersEdit self.old caller edit result self.new }
+        ensures spare { SparesEdit self.old edit result self.new }
     {
-        if self.entries.len() >= MOST_ENTRIES {
+        if self.len() >= MOST_ENTRIES {
             return EditAnswer::Full(edit);
         }
-        match self
-            .entries
-            .commit_edit(&mut self.book, &mut self.pool, caller, edit)
-        {
+        match self.storage.commit_edit(
+            &mut self.entries,
+            &mut self.book,
+            &mut self.pool,
+            caller,
+            edit,
+        ) {
             Ok(reply) => EditAnswer::At {
-                position: self.entries.len() as u64,
+                position: self.len() as u64,
                 reply,
             },
             Err(edit) => EditAnswer::NoMemory(edit),
@@ -123,7 +135,8 @@ impl<'a> Board<'a> {
     /// that stands there already isn't put again: its state is compared first, and lengths in one state alone.
     pub fn admit(&mut self, cut: Cut) -> AdmitAnswer
         requires { IsCutOf (graph self.old.net.now self.old.states.now cut.state.0) cut }
-        ensures { AnswersAdmit self.old cut result self.new }
+        ensures answer { AnswersAdmit self.old cut result self.new }
+        ensures spare { spare_of self.new ≡ spare_of self.old }
     {
         if let Some(index) = place_of(self.pool.items(), &cut) {
             return AdmitAnswer::Known(index as u32, cut);
@@ -131,21 +144,41 @@ impl<'a> Board<'a> {
         if self.pool.len() >= MOST_CUTS {
             return AdmitAnswer::PoolFull(cut);
         }
-        if self.entries.len() >= MOST_ENTRIES {
+        if self.len() >= MOST_ENTRIES {
             return AdmitAnswer::Full(cut);
         }
         let right = cut.right(self.book.demands());
         let index = self.pool.len() as u32;
-        match self
-            .entries
-            .commit_cut(&mut self.pool, PooledCut { cut, right })
-        {
+        match self.storage.commit_cut(&mut self.entries, &mut self.pool, PooledCut { cut, right }) {
             Ok(()) => AdmitAnswer::Admitted {
                 index,
-                position: self.entries.len() as u64,
+                position: self.len() as u64,
             },
             Err(cut) => AdmitAnswer::NoMemory(cut),
         }
+    }
+
+    /// Takes memory for the entries of so many edits, each of which sets the need of a known demand.
+    pub fn reserve(&mut self, edits: u32) -> Result<(), NoMemory>
+        ensures same { IsSameBoard self.old self.new }
+        ensures ok { OnOk result (spare_of self.new ≡ max (spare_of self.old) edits) }
+        ensures err { OnErr result (spare_of self.new ≡ spare_of self.old) }
+    {
+        self.storage.reserve(edits)
+    }
+
+    /// For so many edits that set the need of a known demand the board has memory.
+    pub fn spare(&self) -> u32
+        ensures { result ≡ spare_of self.now }
+    {
+        self.storage.spare()
+    }
+
+    /// How many entries there are.
+    fn len(&self) -> usize
+        ensures { result ≡ length self.now.entries }
+    {
+        self.storage.len()
     }
 
     /// How many cuts the pool has.
@@ -192,7 +225,7 @@ impl<'a> Board<'a> {
     pub fn entries(&self) -> &[Entry]
         ensures { result.now ≡ self.now.entries }
     {
-        self.entries.entries()
+        self.storage.entries()
     }
 
     /// The entry at this position; positions count from 1.
@@ -200,7 +233,7 @@ impl<'a> Board<'a> {
         requires { (1 ≤ position) × (position ≤ length self.now.entries) }
         ensures { slice_get self.now.entries (position - 1) ≡ Some result.now }
     {
-        &self.entries.entries()[position as usize - 1]
+        &self.storage.entries()[position as usize - 1]
     }
 
     /// The lines of the pool, with their right sides at the demands now.

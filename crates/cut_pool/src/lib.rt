@@ -3,6 +3,7 @@
 
 mod answers;
 mod board;
+mod entries;
 mod follow;
 mod history;
 mod pooled;

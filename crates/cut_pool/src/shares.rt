@@ -1,4 +1,5 @@
 ghost use Rattle.std.specs.Prelude.{◌≡◌, ◌↔◌, IsTrue, length};
+ghost use Rattle.cut_pool.specs.Rooms.{sets_known};
 ghost use Rattle.cut_pool.specs.inner.Shares.{IsShareIn, IsShareOf, edit_name};
 
 use demand_book::Book;
@@ -55,4 +56,14 @@ pub fn share_of(book: &Book, name: &Name) -> Option<DemandShare>
 {
     let k = book.find(name)?;
     Some(share(&book.demands().items()[k as usize]))
+}
+
+/// Whether the edit sets the need of a demand that the book has.
+pub fn sets_known(book: &Book, edit: &Edit) -> bool
+    ensures { result ≡ sets_known book.now.demands edit.now }
+{
+    match edit {
+        Edit::Set { name, .. } => book.find(name).is_some(),
+        Edit::Add { .. } | Edit::Drop { .. } => false,
+    }
 }

@@ -240,6 +240,82 @@ fn each_right_side_follows_by_the_distance_in_its_state(rt: HostRuntime) -> Resu
     check_step(&rt, &mut board, &(None, [0, 0, 0, 0]), 3)
 }
 
+/// An edit of a board whose one demand is A.
+#[derive(Clone, Copy)]
+enum Kind {
+    Set,
+    SetUnknown,
+    Add,
+    Drop,
+}
+
+/// The edits after memory for two was taken, and for how many there is memory after each.
+const SPARES: [(Kind, u32); 7] = [
+    (Kind::Set, 1),
+    (Kind::SetUnknown, 1),
+    (Kind::Add, 1),
+    (Kind::Drop, 1),
+    (Kind::Add, 1),
+    (Kind::Set, 0),
+    (Kind::Set, 0),
+];
+
+fn edit_of(alloc: Global, kind: &Kind) -> Result<Edit, Fail>
+    ensures { IfOk result (λ e. edit_need e < 2 ^ 40) }
+{
+    match kind {
+        Kind::Set => set(alloc, b"A", 24000),
+        Kind::SetUnknown => set(alloc, b"Z", 24000),
+        Kind::Add => add(alloc, b"D2", [b"A", b"B"], 5000),
+        Kind::Drop => taken_out(alloc, b"D2"),
+    }
+}
+
+/// Makes an edit, after which the board must have memory for so many.
+fn check_left<R: AllocGlobal + Abort>(
+    rt: &R,
+    board: &mut Board,
+    edit: Edit,
+    left: u32,
+) -> Result<(), Fail>
+    requires { edit_need edit < 2 ^ 40 }
+{
+    match board.edit(1, edit) {
+        EditAnswer::At { .. } => assert_eq!(rt; board.spare(), left),
+        EditAnswer::Full(_) => panic!(rt; "full"),
+        EditAnswer::NoMemory(_) => return Err(NoMemory.into()),
+    }
+    Ok(())
+}
+
+#[test]
+fn each_set_of_a_known_demand_takes_one_of_the_spare(rt: HostRuntime) -> Result<(), Fail> {
+    let alloc = rt.alloc();
+    let net = triangle(alloc, 0)?;
+    let states = single_failures(alloc, &net)?;
+    let mut board = board(alloc, &net, &states, &ONE)?;
+    assert_eq!(rt; board.spare(), 0);
+    board.reserve(2)?;
+    for (kind, left) in &SPARES {
+        check_left(&rt, &mut board, edit_of(alloc, kind)?, *left)?;
+    }
+    Ok(())
+}
+
+#[test]
+fn a_cut_leaves_the_spare_as_it_was(rt: HostRuntime) -> Result<(), Fail> {
+    let alloc = rt.alloc();
+    let net = triangle(alloc, 0)?;
+    let states = single_failures(alloc, &net)?;
+    let mut board = board(alloc, &net, &states, &ONE)?;
+    board.reserve(3)?;
+    board.reserve(2)?;
+    check_admit(&rt, &mut board, &net, &states, 0, (false, 0))?;
+    check_admit(&rt, &mut board, &net, &states, 0, (true, 0))?;
+    assert_eq!(rt; (board.spare(), board.count()), (3, 1));
+    Ok(())
+}
+
 /// The right side at a place of a snapshot.
 fn side(snapshot: &Snapshot, k: usize) -> Option<u128> {
     snapshot.cuts.items().get(k).map(|line| line.right)

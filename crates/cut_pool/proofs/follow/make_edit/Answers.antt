@@ -1,6 +1,5 @@
 use Rattle.std.proofs.Common.{◌≡◌, ◌∙◌, All, List, ap, length, map, sym, subst}
-use Rattle.net_core.specs.declared.demand.Demand.{Demand}
-use Rattle.plan_terms.specs.Edits.{Answered, edit_reply, without}
+use Rattle.plan_terms.specs.Edits.{Answered, without}
 use Rattle.cut_pool.specs.declared.pooled.PooledCut.{PooledCut}
 use Rattle.cut_pool.specs.declared.shares.NeedChange.{NeedChange}
 use Rattle.cut_pool.specs.inner.Pooling.{StandsAt}

@@ -1,4 +1,4 @@
-use Rattle.std.proofs.Common.{get_or, subst, sym, rules}
+use Rattle.std.proofs.Common.{subst, sym, rules}
 use Rattle.std.proofs.lemmas.List.Edits.{map_over_more}
 use Rattle.cut_pool.specs.inner.Pooling.{CanFollow, followed}
 use Rattle.cut_pool.proofs.Following.{next_right}

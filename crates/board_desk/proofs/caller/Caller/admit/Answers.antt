@@ -7,10 +7,10 @@ returns-in-Admitted-clause-turn g c =
     let l = c.leave_with-pass.ensures in (
       c.enter-board.result.0,
       c.admit.new.self,
-      c.in-Admitted.ensures,
+      c.in-Admitted.ensures.answer,
       left_with c.args.self _ c.enter-board.result.1 c.enter-board.result.0 c.admit.new.self _
           (record { origin = e.origin; stands = e.stands; begins = e.begins; places = e.places })
-          c.in-Admitted.ensures.3.entries l.seen l.places,
+          c.in-Admitted.ensures.answer.3.entries l.seen l.places,
     )
 
 pub returns-in-Known-clause-turn : goal.returns-in-Known-clause-turn
@@ -19,10 +19,10 @@ returns-in-Known-clause-turn g c =
     let l = c.leave-pass.ensures in (
       c.enter-board.result.0,
       c.admit.new.self,
-      c.in-Known.ensures,
+      c.in-Known.ensures.answer,
       left_as_found c.args.self _ c.enter-board.result.1 c.enter-board.result.0 c.admit.new.self
           (record { origin = e.origin; stands = e.stands; begins = e.begins; places = e.places })
-          c.in-Known.ensures.2.entries l.seen l.places,
+          c.in-Known.ensures.answer.2.entries l.seen l.places,
     )
 
 pub returns-in-PoolFull-clause-turn : goal.returns-in-PoolFull-clause-turn
@@ -31,10 +31,10 @@ returns-in-PoolFull-clause-turn g c =
     let l = c.leave-pass-in-PoolFull.ensures in (
       c.enter-board.result.0,
       c.admit.new.self,
-      c.in-PoolFull.ensures,
+      c.in-PoolFull.ensures.answer,
       left_as_found c.args.self _ c.enter-board.result.1 c.enter-board.result.0 c.admit.new.self
           (record { origin = e.origin; stands = e.stands; begins = e.begins; places = e.places })
-          c.in-PoolFull.ensures.3.entries l.seen l.places,
+          c.in-PoolFull.ensures.answer.3.entries l.seen l.places,
     )
 
 pub returns-in-Full-clause-turn : goal.returns-in-Full-clause-turn
@@ -43,10 +43,10 @@ returns-in-Full-clause-turn g c =
     let l = c.leave-pass-in-Full.ensures in (
       c.enter-board.result.0,
       c.admit.new.self,
-      c.in-Full.ensures,
+      c.in-Full.ensures.answer,
       left_as_found c.args.self _ c.enter-board.result.1 c.enter-board.result.0 c.admit.new.self
           (record { origin = e.origin; stands = e.stands; begins = e.begins; places = e.places })
-          c.in-Full.ensures.4.entries l.seen l.places,
+          c.in-Full.ensures.answer.4.entries l.seen l.places,
     )
 
 pub returns-in-NoMemory-clause-turn : goal.returns-in-NoMemory-clause-turn
@@ -55,8 +55,8 @@ returns-in-NoMemory-clause-turn g c =
     let l = c.leave-pass-in-NoMemory.ensures in (
       c.enter-board.result.0,
       c.admit.new.self,
-      c.in-NoMemory.ensures,
+      c.in-NoMemory.ensures.answer,
       left_as_found c.args.self _ c.enter-board.result.1 c.enter-board.result.0 c.admit.new.self
           (record { origin = e.origin; stands = e.stands; begins = e.begins; places = e.places })
-          c.in-NoMemory.ensures.4.entries l.seen l.places,
+          c.in-NoMemory.ensures.answer.4.entries l.seen l.places,
     )

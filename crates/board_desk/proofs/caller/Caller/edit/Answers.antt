@@ -7,10 +7,10 @@ returns-in-At-clause-turn g c =
     let l = c.leave_with-pass.ensures in (
       c.enter-board.result.0,
       c.edit.new.self,
-      c.in-At.ensures,
+      c.in-At.ensures.answer,
       left_with c.args.self _ c.enter-board.result.1 c.enter-board.result.0 c.edit.new.self _
           (record { origin = e.origin; stands = e.stands; begins = e.begins; places = e.places })
-          c.in-At.ensures.1.entries l.seen l.places,
+          c.in-At.ensures.answer.1.entries l.seen l.places,
     )
 
 pub returns-in-Full-clause-turn : goal.returns-in-Full-clause-turn
@@ -19,10 +19,10 @@ returns-in-Full-clause-turn g c =
     let l = c.leave-pass.ensures in (
       c.enter-board.result.0,
       c.edit.new.self,
-      c.in-Full.ensures,
+      c.in-Full.ensures.answer,
       left_as_found c.args.self _ c.enter-board.result.1 c.enter-board.result.0 c.edit.new.self
           (record { origin = e.origin; stands = e.stands; begins = e.begins; places = e.places })
-          c.in-Full.ensures.2.entries l.seen l.places,
+          c.in-Full.ensures.answer.2.entries l.seen l.places,
     )
 
 pub returns-in-NoMemory-clause-turn : goal.returns-in-NoMemory-clause-turn
@@ -31,8 +31,8 @@ returns-in-NoMemory-clause-turn g c =
     let l = c.leave-pass-in-NoMemory.ensures in (
       c.enter-board.result.0,
       c.edit.new.self,
-      c.in-NoMemory.ensures,
+      c.in-NoMemory.ensures.answer,
       left_as_found c.args.self _ c.enter-board.result.1 c.enter-board.result.0 c.edit.new.self
           (record { origin = e.origin; stands = e.stands; begins = e.begins; places = e.places })
-          c.in-NoMemory.ensures.2.entries l.seen l.places,
+          c.in-NoMemory.ensures.answer.2.entries l.seen l.places,
     )

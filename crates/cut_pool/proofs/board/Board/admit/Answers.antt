@@ -15,8 +15,8 @@ use Rattle.cut_pool.proofs.Boards.{committed, more_cuts, pooled_told}
 use Rattle.cut_pool.proofs.Told.{known_told}
 use Rattle.cut_pool.proofs.board.Board.admit.Goals as goal
 
-pub returns-in-Some : goal.returns-in-Some
-returns-in-Some c =
+pub returns-in-Some-clause-answer : goal.returns-in-Some-clause-answer
+returns-in-Some-clause-answer c =
     let self = c.args.self.now in (
       known_told (opening_case self) self.entries self.book.demands self.book.version self.pool self.stands c.args.cut c.in-Some.index
           (ap (position (is_pooled_cut c.args.cut)) (sym c.items.ensures) ∙ (sym c.place_of.ensures ∙ c.in-Some.is)),
@@ -24,8 +24,8 @@ returns-in-Some c =
       record { entries = refl; book = refl; pool = refl; origin = refl },
     )
 
-pub returns-then-len-ge-MOST_CUTS : goal.returns-then-len-ge-MOST_CUTS
-returns-then-len-ge-MOST_CUTS c =
+pub returns-then-len-ge-MOST_CUTS-clause-answer : goal.returns-then-len-ge-MOST_CUTS-clause-answer
+returns-then-len-ge-MOST_CUTS-clause-answer c =
     let self = c.args.self.now in (
       is_new self c.args.cut c.items.result.now c.place_of.result c.items.ensures c.place_of.ensures c.in_default.is,
       omega (arith, c.if-len-ge-MOST_CUTS.true, c.len.ensures, board_count self, self.few_cuts),
@@ -33,8 +33,8 @@ returns-then-len-ge-MOST_CUTS c =
       record { entries = refl; book = refl; pool = refl; origin = refl },
     )
 
-pub returns-then-len-ge-MOST_ENTRIES : goal.returns-then-len-ge-MOST_ENTRIES
-returns-then-len-ge-MOST_ENTRIES c =
+pub returns-then-len-ge-MOST_ENTRIES-clause-answer : goal.returns-then-len-ge-MOST_ENTRIES-clause-answer
+returns-then-len-ge-MOST_ENTRIES-clause-answer c =
     let self = c.args.self.now in (
       is_new self c.args.cut c.items.result.now c.place_of.result c.items.ensures c.place_of.ensures c.in_default.is,
       omega (arith, c.if-len-ge-MOST_CUTS.false, c.len.ensures, board_count self),
@@ -53,10 +53,10 @@ at_now c = subst (λ (ds : List Demand). IsAtDemands ds (new_of c)) c.demands.en
 -- what holds before and with one cut more holds after
 after : (c : goal.After-commit_cut) (P : List Entry → List PooledCut → Type 0)
     → P (c.args.self.now.entries ++ Pooled (length c.args.self.now.pool) c.args.cut.state c.args.cut.lengths ∷ []) (c.args.self.now.pool ++ new_of c ∷ [])
-    → P c.args.self.now.entries c.args.self.now.pool → P c.commit_cut.new.self c.commit_cut.new.pool
+    → P c.args.self.now.entries c.args.self.now.pool → P c.commit_cut.new.told c.commit_cut.new.pool
 after c P =
     let self = c.args.self.now in
-    committed P c.commit_cut.result self.entries c.commit_cut.new.self (Pooled (length self.pool) c.args.cut.state c.args.cut.lengths) self.pool c.commit_cut.new.pool (new_of c)
+    committed P c.commit_cut.result self.entries c.commit_cut.new.told (Pooled (length self.pool) c.args.cut.state c.args.cut.lengths) self.pool c.commit_cut.new.pool (new_of c)
     c.commit_cut.ensures.entries c.commit_cut.ensures.pool c.commit_cut.ensures.same
 
 pub invariant_of-self-clause-few : goal.invariant_of-self-clause-few
@@ -90,8 +90,8 @@ invariant_of-self-clause-stands c =
     (is_legal self c.args.cut (length self.pool) c.requires new refl) c.requires (at_now c))
     self.stands
 
-pub returns-in-Ok : goal.returns-in-Ok
-returns-in-Ok c =
+pub returns-in-Ok-clause-answer : goal.returns-in-Ok-clause-answer
+returns-in-Ok-clause-answer c =
     let self = c.args.self.now in
     let new = is_new self c.args.cut c.items.result.now c.place_of.result c.items.ensures c.place_of.ensures c.in_default.is in (
       new,
@@ -106,8 +106,8 @@ returns-in-Ok c =
       c.len-in-Ok.ensures,
     )
 
-pub returns-in-Err : goal.returns-in-Err
-returns-in-Err c =
+pub returns-in-Err-clause-answer : goal.returns-in-Err-clause-answer
+returns-in-Err-clause-answer c =
     let self = c.args.self.now in (
       is_new self c.args.cut c.items.result.now c.place_of.result c.items.ensures c.place_of.ensures c.in_default.is,
       omega (arith, c.if-len-ge-MOST_CUTS.false, c.len.ensures, board_count self),

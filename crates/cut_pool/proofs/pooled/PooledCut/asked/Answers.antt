@@ -1,6 +1,4 @@
-use Rattle.std.proofs.Common.{◌≡◌, ◌∙◌, ◌*◌, ap, sym, unwrap_or, subst}
-use Rattle.std.specs.Prelude.{Some}
-use Rattle.short_paths.specs.DistanceTables.{distance_at}
+use Rattle.std.proofs.Common.{◌∙◌, ◌*◌, ap, sym, subst}
 use Rattle.cut_pool.specs.inner.Shares.{IsShareOf, asked_by}
 use Rattle.cut_pool.proofs.Following.{kept_distance}
 use Rattle.cut_pool.proofs.pooled.PooledCut.asked.Goals as goal
