@@ -7,10 +7,10 @@ pub trait Gate {
     /// The caller has left the desk after an edit.
     fn edited(&self, caller: u32);
 
-    /// A worker of the caller begins with a state.
+    /// Work on a state of a round of the caller is about to begin.
     fn before(&self, caller: u32, state: u32);
 
-    /// A worker of the caller has solved a state, and has admitted no cut of it yet.
+    /// The state is solved, and no cut of it has been put into the pool yet.
     fn after(&self, caller: u32, state: u32);
 }
 

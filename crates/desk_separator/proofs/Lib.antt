@@ -1,6 +1,0 @@
-pub mod Places
-pub mod Seen
-mod Desks
-mod Pooling
-mod Sent
-mod Working

@@ -1,0 +1,5 @@
+pub mod Callers
+pub mod Places
+pub mod Rounds
+pub mod TurnTakers
+pub mod inner

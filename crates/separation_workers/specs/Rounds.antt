@@ -1,0 +1,20 @@
+-- what the workers of a round find
+use Rattle.std.specs.Prelude.{ℕ, ◌<◌, ◌+◌, List, Option, All, IfSome, length}
+use Rattle.net_core.specs.Cases.{graph_in}
+use Rattle.net_core.specs.Views.{case_of}
+use Rattle.flow_router.specs.declared.answer.RouteAnswer.{RouteAnswer}
+use Rattle.separator.specs.Findings.{IsFinding}
+use Rattle.separation_workers.specs.declared.round.Round.{Round}
+use Rattle.separation_workers.specs.declared.round.StateFound.{StateFound}
+
+-- it is found of state s of the round
+abbrev pub IsFoundOf : Round → ℕ → RouteAnswer → Type 0
+IsFoundOf r s answer = IsFinding (graph_in (case_of r.instance) s) r.instance.demands.now r.caps.now answer
+
+-- it is found of a state of the round
+abbrev pub IsStateFound : Round → StateFound → Type 0
+IsStateFound r found = (found.state.0 < length r.instance.states.now.listed + 1) × IsFoundOf r found.state.0 found.answer
+
+-- what is found of some states of the round, and nothing of others
+abbrev pub AreFound : Round → List (Option StateFound) → Type 0
+AreFound r places = All (λ place. IfSome place (IsStateFound r)) places

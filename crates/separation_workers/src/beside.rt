@@ -1,0 +1,129 @@
+ghost use Rattle.std.specs.Prelude.{◌<◌, ◌+◌, All, IfOk, length};
+ghost use Rattle.std.specs.Thread.{IsSync};
+ghost use Rattle.separation_workers.specs.Rounds.{AreFound, IsFoundOf, IsStateFound};
+
+use crate::hints::hinted_cut;
+use crate::round::{Round, StateFound};
+use flow_router::RouteAnswer;
+use net_core::{List, NoMemory, StateId};
+use outside_io::Gate;
+use separator::separate_state;
+use std::thread;
+use std::thread::Threads;
+
+/// Routes a state with what is known of it. Where another worker has that in hand, it is routed without.
+fn route(round: &Round, state: StateId) -> Result<RouteAnswer, NoMemory>
+    requires { state.0 < length round.now.instance.states.now.listed + 1 }
+    ensures { IfOk result (IsFoundOf round.now state.0) }
+{
+    let instance = &round.instance;
+    if let Some(columns) = round.columns.get(state.0 as usize) {
+        if let Some(mut known) = columns.try_lock() {
+            return separate_state(round.alloc, instance, state, round.caps, &mut known);
+        }
+    }
+    separate_state(
+        round.alloc,
+        instance,
+        state,
+        round.caps,
+        &mut List::new(round.alloc),
+    )
+}
+
+/// What is found of a state: first by the lengths that are shown, then by routing.
+pub fn find_state(round: &Round, state: StateId) -> Result<RouteAnswer, NoMemory>
+    requires { state.0 < length round.now.instance.states.now.listed + 1 }
+    ensures { IfOk result (IsFoundOf round.now state.0) }
+{
+    match hinted_cut(round, state)? {
+        Some(cut) => Ok(RouteAnswer::Violated(cut)),
+        None => route(round, state),
+    }
+}
+
+/// What is found of a state. Where memory runs out, no worker takes a further state.
+fn find_or_stop(round: &Round, state: StateId) -> Result<RouteAnswer, NoMemory>
+    requires { state.0 < length round.now.instance.states.now.listed + 1 }
+    ensures { IfOk result (IsFoundOf round.now state.0) }
+{
+    let found = find_state(round, state);
+    if found.is_err() {
+        round.stop();
+    }
+    found
+}
+
+/// What one worker finds of the states that it takes. The gate hears of each.
+fn find_some<G: Gate>(gate: &G, round: &Round) -> Result<Vec<StateFound>, NoMemory>
+    ensures { IfOk result (λ found. All (IsStateFound round.now) found.items) }
+{
+    let mut found = Vec::new(round.alloc);
+    for _ in 0..round.instance.states.count() {
+        let Some(state) = round.take() else {
+            break;
+        };
+        gate.before(round.caller, state.0);
+        let answer = find_or_stop(round, state)?;
+        gate.after(round.caller, state.0);
+        found.push(StateFound { state, answer })?;
+    }
+    Ok(found)
+}
+
+/// What this thread and so many helpers find, each on a thread of its own. A worker takes the next state that nobody has taken, so
+/// that one slow state holds nobody up. Where a thread can't be started, its work is done by this one.
+pub fn find_beside<R: Threads, G: Gate + Sync>(
+    rt: &R,
+    gate: &G,
+    round: &Round,
+    helpers: u32,
+) -> Result<Vec<StateFound>, NoMemory>
+    ensures { IfOk result (λ found. All (IsStateFound round.now) found.items) }
+{
+    if helpers == 0 {
+        return find_some(gate, round);
+    }
+    let here = move || -> Result<Vec<StateFound>, NoMemory>
+        requires sync { IsSync G.row }
+        ensures { IfOk result (λ v. All (IsStateFound round.entry.now) v.items) }
+    { find_some(gate, round) };
+    let beside = move || -> Result<Vec<StateFound>, NoMemory>
+        requires sync { IsSync G.row }
+        requires some { 0 < helpers }
+        ensures { IfOk result (λ v. All (IsStateFound round.entry.now) v.items) }
+    { find_beside(rt, gate, round, helpers - 1) };
+    let (one, rest) = thread::join(rt, here, beside);
+    let mut found = one?;
+    let mut others = rest?;
+    found.append(&mut others)?;
+    Ok(found)
+}
+
+/// Puts what is found of a state at the state's place.
+fn place(round: &Round, places: &mut [Option<StateFound>], found: StateFound)
+    requires found { IsStateFound round.now found }
+    requires before { AreFound round.now places.old }
+    ensures { AreFound round.now places.new }
+{
+    let at = found.state.0 as usize;
+    if at < places.len() {
+        places[at] = Some(found);
+    }
+}
+
+/// What is found, each at the place of its state.
+pub fn by_state(round: &Round, found: Vec<StateFound>) -> Result<List<Option<StateFound>>, NoMemory>
+    requires { All (IsStateFound round.now) found.items }
+    ensures { IfOk result (AreFound round.now) }
+{
+    let count = round.instance.states.count() as usize;
+    let mut places: Vec<Option<StateFound>> = Vec::with_capacity(round.alloc, count)?;
+    for _ in 0..count {
+        places.push(None)?;
+    }
+    for one in found {
+        place(round, places.as_mut_slice(), one);
+    }
+    Ok(List::from_vec(places))
+}

@@ -1,0 +1,127 @@
+ghost use Rattle.std.specs.Prelude.{◌≡◌, ◌<◌, ◌≤◌, ◌+◌, ◌^◌, All, Contains, IfOk, IfSome, IsTrue, length};
+ghost use Rattle.net_core.specs.Cases.{graph_in};
+ghost use Rattle.net_core.specs.Demands.{AreDemands};
+ghost use Rattle.net_core.specs.Views.{case_of};
+ghost use Rattle.hint_board.specs.Hints.{hint_links};
+ghost use Rattle.hint_board.specs.Priced.{AreHintLengths};
+ghost use Rattle.route_law.specs.PricedLengths.{ArePricedSomewhere};
+ghost use Rattle.separator.specs.Findings.{IsFoundCutOf};
+
+use crate::depths::depth;
+use crate::round::Round;
+use hint_board::HintBoard;
+use metric_cut::{Cut, CutFault, violated_by};
+use net_core::{Copied, Instance, Lengths, List, NoMemory, StateId, Surviving};
+use route_law::law::zeros_and_ones_are_priced;
+use separator::line_of;
+use std::sync::Wait;
+
+/// So many shown vectors are looked at, at most.
+const MOST_HINTS: u64 = 8192;
+
+/// Whether there is a depth, and it is less than the least so far.
+fn is_deeper(depth: Option<u128>, least: Option<u128>) -> bool {
+    match (depth, least) {
+        (Some(depth), Some(least)) => depth < least,
+        (Some(_), None) => true,
+        _ => false,
+    }
+}
+
+/// Of the lengths that are shown and positive on a link that the state fails (any lengths where none fails), those along which the
+/// links give least for what they ask for.
+fn deepest(round: &Round, state: StateId) -> Result<Option<Lengths>, NoMemory>
+    requires { state.0 < length round.now.instance.states.now.listed + 1 }
+    ensures { IfOk result (λ o. IfSome o (AreHintLengths (hint_links round.now.hints.now))) }
+{
+    let Instance { net, states, .. } = round.instance;
+    let graph = Surviving { net, states, state };
+    let mut parts = List::filled(round.alloc, 0, net.nodes().len())?;
+    let mut least: Option<u128> = None;
+    let mut best: Option<&Lengths> = None;
+    for at in 0..MOST_HINTS {
+        let Some(lengths) = round.hints.get(at) else {
+            break;
+        };
+        let depth = depth(round, &graph, lengths.items(), parts.items_mut());
+        if is_deeper(depth, least) {
+            least = depth;
+            best = Some(lengths);
+        }
+    }
+    match best {
+        Some(lengths) => Ok(Some(lengths.copy()?)),
+        None => Ok(None),
+    }
+}
+
+/// The cut, where the capacities violate it.
+fn if_violated(round: &Round, state: StateId, lengths: Lengths) -> Result<Option<Cut>, NoMemory>
+    requires state { state.0 < length round.now.instance.states.now.listed + 1 }
+    requires narrow { All (λ n. n < 2 ^ 62) round.now.caps.now.nums }
+    requires lengths { AreHintLengths (hint_links round.now.hints.now) lengths }
+    ensures { IfOk result (λ o. IfSome o (IsFoundCutOf (graph_in (case_of round.now.instance) state.0) round.now.instance.demands.now round.now.caps.now)) }
+{
+    let instance = &round.instance;
+    let cut = match Cut::new(round.alloc, instance.net, instance.states, state, lengths) {
+        Ok(cut) => cut,
+        Err(CutFault::NoMemory) => return Err(NoMemory),
+        Err(_) => return Ok(None),
+    };
+    let line = line_of(&cut, instance.demands)?;
+    if violated_by(&line, round.caps) {
+        Ok(Some(cut))
+    } else {
+        Ok(None)
+    }
+}
+
+/// Whether each number is below 2^62, as a test of a cut wants.
+fn are_narrow(nums: &[u128]) -> bool
+    ensures { IsTrue result → All (λ n. n < 2 ^ 62) nums.now }
+{
+    nums.iter().all(|n| *n < 1 << 62)
+}
+
+/// The cut of lengths that are shown, where the capacities violate one. A vector is tested cheaply before its cut is made, which takes
+/// a search from each node.
+pub fn hinted_cut(round: &Round, state: StateId) -> Result<Option<Cut>, NoMemory>
+    requires { state.0 < length round.now.instance.states.now.listed + 1 }
+    ensures { IfOk result (λ o. IfSome o (IsFoundCutOf (graph_in (case_of round.now.instance) state.0) round.now.instance.demands.now round.now.caps.now)) }
+{
+    if !are_narrow(round.caps.nums.items()) {
+        return Ok(None);
+    }
+    match deepest(round, state)? {
+        Some(lengths) => if_violated(round, state, lengths),
+        None => Ok(None),
+    }
+}
+
+/// Whether the lengths are shown.
+fn is_shown(hints: &HintBoard, lengths: &[u32]) -> bool {
+    (0..MOST_HINTS)
+        .map_while(|at| hints.get(at))
+        .any(|shown| shown.items() == lengths)
+}
+
+/// Whether the lengths are zeros and ones, with a one.
+fn are_zeros_and_ones(lengths: &[u32]) -> bool
+    ensures { IsTrue result → All (λ l. l ≤ 1) lengths.now × Contains lengths.now 1 }
+{
+    lengths.iter().all(|l| *l <= 1) && lengths.contains(&1)
+}
+
+/// Shows lengths of 0 and 1, if they aren't shown. Where memory runs out, they stay unshown.
+pub fn post<R: Wait>(rt: &R, hints: &HintBoard, lengths: &Lengths)
+    requires count { length lengths.now ≡ hint_links hints.now }
+    requires few { length lengths.now ≤ 256 }
+{
+    if !are_zeros_and_ones(lengths.items()) || is_shown(hints, lengths.items()) {
+        return;
+    }
+    if let Ok(lengths) = lengths.copy() {
+        zeros_and_ones_are_priced();
+        let _ = hints.post(rt, lengths);
+    }
+}

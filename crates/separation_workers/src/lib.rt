@@ -1,0 +1,22 @@
+//! A separator for a caller at a desk. Its workers separate the states of a round beside each other; the caller puts each cut that they
+//! find into the pool in a turn of its own, so that other callers may edit and plan meanwhile.
+//!
+//! ```text
+//! let mut separator = Workers::new(&rt, &gate, alloc, &hints, caller);
+//! let answers = separator.separate(&instance, &caps)?;              // one answer for each state, in their order
+//! let caller = separator.into_caller();                             // it has seen all that was pooled, and its cuts are its own entries
+//! ```
+#![tactic(auto)]
+
+mod beside;
+mod depths;
+mod hints;
+mod round;
+mod turn_taker;
+mod turns;
+mod workers;
+
+pub use workers::{DeskMark, Workers};
+
+#[cfg(test)]
+mod tests;

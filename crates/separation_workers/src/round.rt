@@ -1,0 +1,60 @@
+ghost use Rattle.std.specs.Prelude.{◌≡◌, ◌<◌, ◌+◌, IfSome, length};
+ghost use Rattle.net_core.specs.Views.{case_of};
+ghost use Rattle.plan_terms.specs.Separations.{IsSurvivable};
+ghost use Rattle.hint_board.specs.Hints.{hint_links};
+
+use flow_router::RouteAnswer;
+use hint_board::HintBoard;
+use net_core::{Caps, Instance, List, RouteColumn, StateId};
+use std::alloc::Global;
+use std::sync::Mutex;
+use std::sync::atomic::{AtomicU32, Ordering};
+
+/// The columns that a state's routing program ended with, for the worker that has the state.
+pub type StateColumns = Mutex<List<RouteColumn>>;
+
+/// A round of separation: what all its workers share.
+#[derive(Drop)]
+pub struct Round<'i, 'c, 'h, 'k> {
+    pub alloc: Global,
+    pub instance: Instance<'i>,
+    pub caps: &'c Caps,
+    /// The caller's number.
+    pub caller: u32,
+    pub hints: &'h HintBoard,
+    /// What is known of each state, from state 0 on; where there is nothing, a state is routed without.
+    pub columns: &'k [StateColumns],
+    /// The first state that nobody has taken.
+    pub next: AtomicU32,
+    pub ghost survivable: { IsSurvivable (case_of instance) },
+    pub ghost scale: { 0 < caps.now.scale },
+    pub ghost count: { length caps.now.nums ≡ length instance.net.now.links },
+    pub ghost links: { hint_links hints.now ≡ length instance.net.now.links },
+}
+
+/// What is found of a state of a round.
+#[derive(Drop)]
+pub struct StateFound {
+    pub state: StateId,
+    pub answer: RouteAnswer,
+}
+
+impl<'i, 'c, 'h, 'k> Round<'i, 'c, 'h, 'k> {
+    /// Takes the next state that nobody has taken.
+    pub fn take(&self) -> Option<StateId>
+        ensures { IfSome result (λ s. s.0 < length self.now.instance.states.now.listed + 1) }
+    {
+        let next = self.next.fetch_add(1, Ordering::SeqCst);
+        if next < self.instance.states.count() {
+            Some(StateId(next))
+        } else {
+            None
+        }
+    }
+
+    /// Leaves no state to take.
+    pub fn stop(&self) {
+        self.next
+            .store(self.instance.states.count(), Ordering::SeqCst);
+    }
+}

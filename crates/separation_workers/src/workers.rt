@@ -1,0 +1,270 @@
+ghost use Rattle.std.specs.Prelude.{◌≡◌, ℕ, ◌≤◌, ◌<◌, ◌+◌, All, Contains, IfOk, IfSome, Some, length, slice_get};
+ghost use Rattle.net_core.specs.Views.{case_of};
+ghost use Rattle.plan_terms.specs.Separations.{IsSurvivable};
+ghost use Rattle.turn_lock.specs.Passes.{opening_of};
+ghost use Rattle.board_desk.specs.Turns.{IsAtDesk, board_made};
+ghost use Rattle.separator.specs.Separators.{IsAnswerOf, SeesMore, cut_answered, cuts_since};
+ghost use Rattle.separator.specs.inner.Working.{AreAnswersBelow, AreCutsBelow, AreCutsOf};
+ghost use Rattle.hint_board.specs.Hints.{hint_links};
+ghost use Rattle.separation_workers.specs.Callers.{HasSeenHistory};
+ghost use Rattle.separation_workers.specs.Rounds.{AreFound, IsFoundOf, IsStateFound};
+ghost use Rattle.separation_workers.specs.Places.{units_in};
+ghost use Rattle.separation_workers.specs.TurnTakers.{IsSameCaller, desk_network, desk_states, history_seen, own_entries};
+
+use crate::beside::{by_state, find_beside, find_state};
+use crate::hints::post;
+use crate::round::{Round, StateColumns, StateFound};
+use crate::turn_taker::TurnTaker;
+use board_desk::Caller;
+use cut_pool::Board;
+use flow_router::RouteAnswer;
+use hint_board::HintBoard;
+use metric_cut::Cut;
+use net_core::{Caps, Instance, List, NoMemory, StateId};
+use outside_io::{Gate, OpenGate};
+use plan_types::Spot;
+use separator::{Separate, Separated, StateAnswer, line_of};
+use std::alloc::Global;
+use std::sync::atomic::AtomicU32;
+use std::sync::{Mutex, Wait};
+use std::thread::Threads;
+use turn_lock::Desk;
+
+/// What no call of a separator at a desk changes. No value of it is made.
+pub struct DeskMark<'a> {
+    pub desk: Desk<Board<'a>>,
+    /// The caller's number.
+    pub number: u32,
+    /// The units of its pass.
+    pub units: u64,
+}
+
+/// So many threads work for a caller beside its own.
+const HELPERS: u32 = 3;
+
+/// A separator for a caller at a desk, by up to four workers. They separate the states of a round beside each other, and the caller then
+/// puts their cuts into the pool, in the order of the states and in a turn for each, so that other callers edit and plan meanwhile. It
+/// waits for these turns, and may never return.
+///
+/// The gate hears on the caller's own thread: of each state before a round, and of each state again when all are solved and before its
+/// cut is put into the pool.
+#[derive(Drop)]
+pub struct Workers<'r, 'd, 'a, R, G> {
+    rt: &'r R,
+    gate: &'r G,
+    alloc: Global,
+    hints: &'r HintBoard,
+    taker: TurnTaker<'d, 'a>,
+    columns: List<StateColumns>,
+    pub ghost links: { hint_links hints.now ≡ length (desk_network taker).links },
+}
+
+impl<'r, 'd, 'a, R, G> Workers<'r, 'd, 'a, R, G> {
+    /// A separator for the caller, with a board of hints that has as many lengths as the network has links. What the separator has seen
+    /// and committed goes on from what the caller has.
+    pub fn new(
+        rt: &'r R,
+        gate: &'r G,
+        alloc: Global,
+        hints: &'r HintBoard,
+        caller: Caller<'d, 'a>,
+    ) -> Workers<'r, 'd, 'a, R, G>
+        requires own { IsAtDesk caller }
+        requires seen { HasSeenHistory caller }
+        requires hints { hint_links hints.now ≡ length (board_made caller).net.now.links }
+        ensures number { result.taker.number ≡ caller.entry.number }
+        ensures desk { result.taker.desk.now ≡ caller.entry.desk.now }
+        ensures pass { result.taker.pass ≡ Some caller.entry.pass }
+    {
+        Workers {
+            rt,
+            gate,
+            alloc,
+            hints,
+            taker: TurnTaker::new(caller),
+            columns: List::new(alloc),
+        }
+    }
+
+    /// The caller, as the separator leaves it.
+    pub fn into_caller(self) -> Caller<'d, 'a>
+        ensures own { IsAtDesk result }
+        ensures seen { HasSeenHistory result }
+        ensures number { result.number ≡ self.entry.taker.number }
+        ensures desk { result.desk.now ≡ self.entry.taker.desk.now }
+        ensures pass { Some result.pass ≡ self.entry.taker.pass }
+    {
+        self.taker.into_caller()
+    }
+}
+
+/// A place for what is known of each of so many states.
+fn reach(alloc: Global, columns: &mut List<StateColumns>, states: u32) -> Result<(), NoMemory> {
+    for _ in columns.len()..states as usize {
+        columns.push(Mutex::new(List::new(alloc)))?;
+    }
+    Ok(())
+}
+
+/// What stands at the place of a state, taken out of it.
+fn taken(round: &Round, places: &mut [Option<StateFound>], state: StateId) -> Option<StateFound>
+    requires { AreFound round.now places.old }
+    ensures found { IfSome result (IsStateFound round.now) }
+    ensures left { AreFound round.now places.new }
+{
+    let at = state.0 as usize;
+    if at < places.len() {
+        places[at].take()
+    } else {
+        None
+    }
+}
+
+/// What is found of a state of the round, also where no worker has told of it.
+fn found_of(
+    round: &Round,
+    places: &mut [Option<StateFound>],
+    state: StateId,
+) -> Result<RouteAnswer, NoMemory>
+    requires state { state.0 < length round.now.instance.states.now.listed + 1 }
+    requires found { AreFound round.now places.old }
+    ensures left { AreFound round.now places.new }
+    ensures of { IfOk result (IsFoundOf round.now state.0) }
+{
+    match taken(round, places, state) {
+        Some(found) if found.state == state => Ok(found.answer),
+        _ => find_state(round, state),
+    }
+}
+
+/// What is answered of a state, its cut put into the pool, and its lengths shown.
+fn answer_state<R: Wait, G: Gate>(
+    rt: &R,
+    gate: &G,
+    round: &Round,
+    state: StateId,
+    found: RouteAnswer,
+    taker: &mut TurnTaker,
+) -> Result<StateAnswer, NoMemory>
+    requires net { desk_network taker.old ≡ round.now.instance.net.now }
+    requires listed { desk_states taker.old ≡ round.now.instance.states.now }
+    requires state { state.0 < length round.now.instance.states.now.listed + 1 }
+    requires found { IsFoundOf round.now state.0 found }
+    ensures same { IsSameCaller taker.old taker.new }
+    ensures more { SeesMore (history_seen taker.old) (own_entries taker.old) (history_seen taker.new) (own_entries taker.new) }
+    ensures cuts { AreCutsOf (case_of round.now.instance) round.now.caps.now state.0 (cuts_since (own_entries taker.old) (own_entries taker.new)) }
+    ensures state { IfOk result (λ a. a.state ≡ state) }
+    ensures answer { IfOk result (λ a. IsAnswerOf (case_of round.now.instance) round.now.caps.now (history_seen taker.new) state.0 a.answer) }
+    ensures among { IfOk result (λ a. All (Contains (cut_answered a.answer)) (cuts_since (own_entries taker.old) (own_entries taker.new))) }
+{
+    gate.after(round.caller, state.0);
+    match found {
+        RouteAnswer::Routed(routing) => Ok(StateAnswer {
+            state,
+            answer: Separated::Routed(routing),
+        }),
+        RouteAnswer::Violated(cut) => {
+            let line = line_of(&cut, round.instance.demands)?;
+            post(rt, round.hints, cut.lengths());
+            let spot = taker.admit(rt, cut)?;
+            Ok(StateAnswer {
+                state,
+                answer: Separated::Violated(line, spot),
+            })
+        }
+        RouteAnswer::Wide(evidence) => Ok(StateAnswer {
+            state,
+            answer: Separated::Wide(evidence),
+        }),
+    }
+}
+
+/// What is answered of each state, the cuts put into the pool in the order of the states.
+fn answer_states<R: Wait, G: Gate>(
+    rt: &R,
+    gate: &G,
+    round: &Round,
+    places: &mut [Option<StateFound>],
+    taker: &mut TurnTaker,
+) -> Result<List<StateAnswer>, NoMemory>
+    requires net { desk_network taker.old ≡ round.now.instance.net.now }
+    requires listed { desk_states taker.old ≡ round.now.instance.states.now }
+    requires found { AreFound round.now places.old }
+    ensures same { IsSameCaller taker.old taker.new }
+    ensures more { SeesMore (history_seen taker.old) (own_entries taker.old) (history_seen taker.new) (own_entries taker.new) }
+    ensures cuts { AreCutsBelow (case_of round.now.instance) round.now.caps.now (length round.now.instance.states.now.listed + 1) (cuts_since (own_entries taker.old) (own_entries taker.new)) }
+    ensures answers { IfOk result (AreAnswersBelow (case_of round.now.instance) round.now.caps.now (length round.now.instance.states.now.listed + 1) (history_seen taker.new) (cuts_since (own_entries taker.old) (own_entries taker.new))) }
+{
+    let mut answers = List::new(round.alloc);
+    for s in 0..round.instance.states.count() {
+        let state = StateId(s);
+        let found = found_of(round, places, state)?;
+        answers.push(answer_state(rt, gate, round, state, found, taker)?)?;
+    }
+    Ok(answers)
+}
+
+/// Separates the states of a round beside each other, and puts their cuts into the pool.
+fn answer_round<R: Threads + Wait, G: Gate>(
+    rt: &R,
+    gate: &G,
+    round: &Round,
+    taker: &mut TurnTaker,
+) -> Result<List<StateAnswer>, NoMemory>
+    requires net { desk_network taker.old ≡ round.now.instance.net.now }
+    requires listed { desk_states taker.old ≡ round.now.instance.states.now }
+    ensures same { IsSameCaller taker.old taker.new }
+    ensures more { SeesMore (history_seen taker.old) (own_entries taker.old) (history_seen taker.new) (own_entries taker.new) }
+    ensures cuts { AreCutsBelow (case_of round.now.instance) round.now.caps.now (length round.now.instance.states.now.listed + 1) (cuts_since (own_entries taker.old) (own_entries taker.new)) }
+    ensures answers { IfOk result (AreAnswersBelow (case_of round.now.instance) round.now.caps.now (length round.now.instance.states.now.listed + 1) (history_seen taker.new) (cuts_since (own_entries taker.old) (own_entries taker.new))) }
+{
+    let states = round.instance.states.count();
+    for state in 0..states {
+        gate.before(round.caller, state);
+    }
+    let found = find_beside(rt, &OpenGate, round, HELPERS.min(states - 1))?;
+    let mut places = by_state(round, found)?;
+    answer_states(rt, gate, round, places.items_mut(), taker)
+}
+
+impl<'r, 'd, 'a, R: Threads + Wait, G: Gate> Separate for Workers<'r, 'd, 'a, R, G> {
+    type Mark = DeskMark<'a>;
+
+    ghost network = { λ s. desk_network s.taker };
+
+    ghost states = { λ s. desk_states s.taker };
+
+    ghost mark = { λ s. record { desk = s.taker.desk.now; number = s.taker.number; units = units_in s.taker.pass } };
+
+    ghost history = { λ s. history_seen s.taker };
+
+    ghost own = { λ s. own_entries s.taker };
+
+    ghost seen = { λ s. s.taker.seen };
+
+    fn admit(&mut self, cut: Cut) -> Result<Spot, NoMemory> {
+        self.taker.admit(self.rt, cut)
+    }
+
+    fn separate(
+        &mut self,
+        instance: &Instance,
+        caps: &Caps,
+    ) -> Result<List<StateAnswer>, NoMemory> {
+        reach(self.alloc, &mut self.columns, instance.states.count())?;
+        let round = Round {
+            alloc: self.alloc,
+            instance: Instance {
+                net: instance.net,
+                states: instance.states,
+                demands: instance.demands,
+            },
+            caps,
+            caller: self.taker.number(),
+            hints: self.hints,
+            columns: self.columns.items(),
+            next: AtomicU32::new(0),
+        };
+        answer_round(self.rt, self.gate, &round, &mut self.taker)
+    }
+}
