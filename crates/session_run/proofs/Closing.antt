@@ -11,8 +11,8 @@ use Rattle.session_script.specs.declared.script.Command.{Command}
 use Rattle.session_script.specs.Scripts.{IsScript}
 use Rattle.turn_lock.specs.Passes.{own_places, seen_by}
 use Rattle.board_desk.specs.declared.caller.Caller.{Caller}
-use Rattle.desk_separator.specs.Places.{items_at, own_items}
-use Rattle.desk_separator.proofs.Places.{items_added}
+use Rattle.separation_workers.specs.Places.{items_at, own_items}
+use Rattle.separation_workers.proofs.Places.{items_added}
 use Rattle.session_run.specs.inner.Running.{EndsRun, HaveRun, commands_of}
 use Rattle.session_run.specs.declared.setting.Stop.{Stop}
 use Rattle.session_run.specs.declared.setting.Stop.TheVariants.{Full}

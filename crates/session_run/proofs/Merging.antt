@@ -4,7 +4,7 @@ use Rattle.std.proofs.lemmas.Bool.{and_parts, cond_both, leb-true, ltb-false, lt
 use Rattle.std.proofs.lemmas.List.{length-append}
 use Rattle.std.proofs.lemmas.List.Elements.{All-append, All-cons, All-head, All-nil, All-tail}
 use Rattle.turn_lock.specs.Histories.{are_places, merged, with_place}
-use Rattle.desk_separator.specs.Places.{items_at}
+use Rattle.separation_workers.specs.Places.{items_at}
 use Rattle.session_run.proofs.Steps.{flat_both}
 
 place_parts : (low high p : ℕ) (ps : List ℕ) → are_places low high (p ∷ ps) ≡ true → (low ≤ p) × (p < high) × (are_places (p + 1) high ps ≡ true)

@@ -29,7 +29,7 @@ use Rattle.separator.proofs.Seeing.{sees_none}
 use Rattle.turn_lock.specs.Passes.{opening_of, seen_by}
 use Rattle.board_desk.specs.declared.caller.Caller.{Caller}
 use Rattle.board_desk.specs.Turns.{AreAtOneDesk, HasTurn, board_made}
-use Rattle.desk_separator.specs.Places.{own_items}
+use Rattle.separation_workers.specs.Places.{own_items}
 use Rattle.session_run.specs.declared.plans.Asked.{Asked}
 use Rattle.session_run.specs.Transcripts.{IsOutcomeAfter, IsPlanned, case_left}
 use Rattle.session_run.specs.inner.Turns.{IsOutcomeFor, IsSnapshotHere, NamesDemand, PlansAt, PlansSince}

@@ -2,6 +2,7 @@
 use denote.Ref.{NamedLft}
 use denote.Param.Send.{IsSend, IsSync, sendable}
 use Rattle.std.proofs.Crossing.{crosses}
+use Rattle.hint_board.proofs.board.HintBoard.TheSendSync as hint_boards
 use Rattle.net_core.proofs.list.List.TheSendSync as lists
 use Rattle.net_core.proofs.name.Name.TheSendSync as names
 use Rattle.net_core.proofs.network.Network.TheSendSync as networks
@@ -59,4 +60,4 @@ command_sync = search (sendable, crosses, names.the_sync) depth 30
 
 -- what callers share may be lent to several threads
 pub setting_sync : (κ : NamedLft) → IsSync (setting.the_row κ)
-setting_sync κ = search (sendable, crosses, command_sync, networks.the_sync, all_states.the_sync) depth 30
+setting_sync κ = search (sendable, crosses, command_sync, hint_boards.the_sync, networks.the_sync, all_states.the_sync) depth 30

@@ -13,7 +13,7 @@ use Rattle.session_script.specs.Scripts.{IsCommandInForm}
 use Rattle.turn_lock.specs.Passes.{opening_of, own_units, seen_by}
 use Rattle.board_desk.specs.declared.caller.Caller.{Caller}
 use Rattle.board_desk.specs.Turns.{AreAtOneDesk, board_made}
-use Rattle.desk_separator.specs.Places.{own_items}
+use Rattle.separation_workers.specs.Places.{own_items}
 use Rattle.session_run.specs.Transcripts.{outcomes_of}
 use Rattle.session_run.specs.inner.Running.{HaveRun, IsFullAt, commands_of}
 use Rattle.session_run.specs.inner.Turns.{HasActed, HasStopped}

@@ -12,8 +12,8 @@ use Rattle.cut_pool.specs.declared.board.Board.{Board}
 use Rattle.turn_lock.specs.Passes.{own_places, seen_by}
 use Rattle.board_desk.specs.declared.caller.Caller.{Caller}
 use Rattle.board_desk.specs.Turns.{EditsInTurn, HasTurn}
-use Rattle.desk_separator.specs.Places.{items_at, own_items}
-use Rattle.desk_separator.proofs.Places.{items_after}
+use Rattle.separation_workers.specs.Places.{items_at, own_items}
+use Rattle.separation_workers.proofs.Places.{items_after}
 use Rattle.session_run.specs.declared.setting.Stop.{Stop}
 use Rattle.session_run.specs.inner.Turns.{EndsEdit, IsDoneBy}
 

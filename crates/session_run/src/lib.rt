@@ -1,6 +1,7 @@
 //! Runs the commands of a script on one board, each caller on a thread of its own, and reports what came of them.
 #![tactic(auto)]
 
+mod boards;
 mod edits;
 mod groups;
 mod one_caller;

@@ -2,7 +2,7 @@ ghost use Rattle.std.specs.Prelude.{◌≡◌, ◌≤◌, ◌+◌, [], All, leng
 ghost use Rattle.cut_pool.specs.Boards.{opening_case};
 ghost use Rattle.turn_lock.specs.Passes.{own_places, own_units, seen_by};
 ghost use Rattle.board_desk.specs.Turns.{AreAtOneDesk, IsAtDesk, board_made};
-ghost use Rattle.desk_separator.specs.Places.{own_items};
+ghost use Rattle.separation_workers.specs.Places.{own_items};
 ghost use Rattle.session_script.specs.Scripts.{IsCommandInForm};
 ghost use Rattle.session_run.specs.inner.Running.{EndsRun, commands_of};
 ghost use Rattle.session_run.specs.inner.Turns.{EndsAct, Keeps};
@@ -16,6 +16,7 @@ use outside_io::Gate;
 use plan_types::Outcome;
 use session_script::{Act, Command};
 use std::sync::Wait;
+use std::thread::Threads;
 
 /// Keeps the outcome of a plan command behind the earlier ones.
 fn keep(outcome: Result<Outcome, NoMemory>, outcomes: &mut Vec<Outcome>) -> Result<(), Stop>
@@ -31,7 +32,7 @@ fn keep(outcome: Result<Outcome, NoMemory>, outcomes: &mut Vec<Outcome>) -> Resu
 }
 
 /// Runs a caller's next command, after those with these outcomes.
-fn run_command<'d, 'a, R: Wait, G: Gate>(
+fn run_command<'d, 'a, R: Threads + Wait, G: Gate>(
     rt: &R,
     gate: &G,
     setting: &Setting,
@@ -67,7 +68,7 @@ fn run_command<'d, 'a, R: Wait, G: Gate>(
 }
 
 /// Runs the commands of one caller, in their order, and gives the outcomes of its plan commands. It may never return.
-pub fn run_caller<'d, 'a, R: Wait, G: Gate>(
+pub fn run_caller<'d, 'a, R: Threads + Wait, G: Gate>(
     rt: &R,
     gate: &G,
     setting: &Setting,

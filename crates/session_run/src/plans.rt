@@ -5,20 +5,21 @@ ghost use Rattle.cut_pool.specs.Boards.{opening_case};
 ghost use Rattle.turn_lock.specs.Passes.{own_units, seen_by};
 ghost use Rattle.board_desk.specs.Turns.{AreAtOneDesk, IsAtDesk, board_made};
 ghost use Rattle.separator.specs.Separators.{SeesMore};
-ghost use Rattle.desk_separator.specs.Callers.{HasSeenHistory};
-ghost use Rattle.desk_separator.specs.Places.{own_items};
+ghost use Rattle.separation_workers.specs.Callers.{HasSeenHistory};
+ghost use Rattle.separation_workers.specs.Places.{own_items};
 ghost use Rattle.planner.specs.SnapshotPlans.{IsSnapshotAnswer, IsSnapshotIn, PoolsAlone};
 ghost use Rattle.session_run.specs.inner.Turns.{IsOutcomeFor, IsSnapshotHere, NamesDemand, PlansAt, PlansSince};
 
 use crate::setting::Setting;
 use board_desk::Caller;
 use cut_pool::Snapshot;
-use desk_separator::TurnByTurn;
 use net_core::{Copied, NoMemory};
 use outside_io::Gate;
 use plan_types::Outcome;
 use planner::{PlanAnswer, plan_snapshot};
+use separation_workers::Workers;
 use std::sync::Wait;
+use std::thread::Threads;
 
 /// A caller's next plan command.
 #[derive(Clone, Copy)]
@@ -28,7 +29,7 @@ pub struct Asked {
 }
 
 /// Plans for a snapshot of what the caller has seen, outside the desk; each cut that it pools takes a turn. It may never return.
-fn plan_beside<'d, 'a, R: Wait, G: Gate>(
+fn plan_beside<'d, 'a, R: Threads + Wait, G: Gate>(
     rt: &R,
     gate: &G,
     setting: &Setting,
@@ -48,7 +49,7 @@ fn plan_beside<'d, 'a, R: Wait, G: Gate>(
     ensures answer { IfOk result.0 (IsSnapshotAnswer (case setting.now.net.now setting.now.states.now snapshot.demands) snapshot (seen_by caller.entry.pass) (seen_by result.1.pass)) }
     ensures alone { IfOk result.0 (PoolsAlone (case setting.now.net.now setting.now.states.now snapshot.demands) (seen_by caller.entry.pass) (seen_by result.1.pass) (own_items result.1.pass)) }
 {
-    let mut separator = TurnByTurn::new(rt, gate, setting.alloc, caller);
+    let mut separator = Workers::new(rt, gate, setting.alloc, setting.hints, caller);
     let answer = plan_snapshot(
         setting.alloc,
         setting.net,
@@ -87,7 +88,7 @@ fn outcome_for(
 }
 
 /// Plans for a caller that stands at the snapshot that it has taken.
-fn plan_at<'d, 'a, R: Wait, G: Gate>(
+fn plan_at<'d, 'a, R: Threads + Wait, G: Gate>(
     rt: &R,
     gate: &G,
     setting: &Setting,
@@ -114,7 +115,7 @@ fn plan_at<'d, 'a, R: Wait, G: Gate>(
 }
 
 /// Takes a snapshot for a caller in a turn that commits nothing, and plans for it outside the desk. It may never return.
-pub fn make_plan<'d, 'a, R: Wait, G: Gate>(
+pub fn make_plan<'d, 'a, R: Threads + Wait, G: Gate>(
     rt: &R,
     gate: &G,
     setting: &Setting,

@@ -7,11 +7,13 @@ ghost use Rattle.session_script.specs.declared.script.Act.TheVariants.{Plan};
 ghost use Rattle.session_run.specs.Transcripts.{IsTranscript};
 ghost use Rattle.session_run.specs.inner.Running.{HaveRun};
 
+use crate::boards::board_for;
 use crate::groups::run_callers;
 use crate::reports::report;
 use crate::setting::{Setting, Stop};
 use board_desk::Caller;
 use cut_pool::Board;
+use hint_board::HintBoard;
 use net_core::{Demands, List, Network, NoMemory, States};
 use outside_io::Gate;
 use plan_types::{Outcome, Report};
@@ -83,12 +85,14 @@ pub fn run_session<R: Threads + Wait + Sync, G: Gate + Sync>(
     requires script { IsScript script.now.commands }
     ensures { IfOk result (IsTranscript (case net.now states.now opening) net.now.notes script.now.commands) }
 {
-    let board = Board::new(alloc, net, states, opening)?;
+    let hints = HintBoard::new(alloc, net.links().len() as u32)?;
+    let board = board_for(alloc, net, states, opening, script.commands.items())?;
     let setting = Setting {
         alloc,
         net,
         states,
         commands: script.commands.items(),
+        hints: &hints,
     };
     let (outcomes, board) = run_on(rt, gate, &setting, board)?;
     report(alloc, net, &board, outcomes, script.commands.items())

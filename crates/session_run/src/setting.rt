@@ -1,3 +1,7 @@
+ghost use Rattle.std.specs.Prelude.{◌≡◌, length};
+ghost use Rattle.hint_board.specs.Hints.{hint_links};
+
+use hint_board::HintBoard;
 use net_core::{Network, States};
 use session_script::Command;
 use std::alloc::Global;
@@ -9,6 +13,9 @@ pub struct Setting<'s> {
     pub net: &'s Network,
     pub states: &'s States,
     pub commands: &'s [Command],
+    /// Lengths that the callers' workers show each other.
+    pub hints: &'s HintBoard,
+    pub ghost links: { hint_links hints.now ≡ length net.now.links },
 }
 
 /// Why a caller stops before its last command.

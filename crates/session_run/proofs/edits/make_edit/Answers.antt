@@ -1,6 +1,6 @@
 use Rattle.std.proofs.Common.{subst}
 use Rattle.turn_lock.specs.Passes.{seen_by}
-use Rattle.desk_separator.specs.Places.{own_items}
+use Rattle.separation_workers.specs.Places.{own_items}
 use Rattle.session_run.specs.inner.Turns.{EndsEdit}
 use Rattle.session_run.proofs.Turns.{edit_ends}
 use Rattle.session_run.proofs.edits.make_edit.Goals as goal

@@ -1,8 +1,8 @@
 use Rattle.std.proofs.Common.{IfOk, refl, subst}
 use Rattle.turn_lock.specs.Passes.{seen_by}
 use Rattle.cut_pool.specs.Boards.{IsSnapshotOf}
-use Rattle.desk_separator.specs.Places.{own_items}
-use Rattle.desk_separator.proofs.Seen.{seen_after_turn}
+use Rattle.separation_workers.specs.Places.{own_items}
+use Rattle.separation_workers.proofs.Seen.{seen_after_turn}
 use Rattle.session_run.proofs.Planning.{plan_since, snapshot_at_desk, stopped_since}
 use Rattle.session_run.proofs.plans.make_plan.Goals as goal
 

@@ -3,7 +3,7 @@ use Rattle.net_core.specs.Views.{case}
 use Rattle.cut_pool.specs.Boards.{opening_case}
 use Rattle.turn_lock.specs.Passes.{seen_by}
 use Rattle.board_desk.specs.Turns.{board_made}
-use Rattle.desk_separator.specs.Places.{own_items}
+use Rattle.separation_workers.specs.Places.{own_items}
 use Rattle.planner.specs.SnapshotPlans.{IsSnapshotAnswer, PoolsAlone}
 use Rattle.session_run.proofs.Planning.{names_one, plan_made, snapshot_case, snapshot_seen}
 use Rattle.session_run.proofs.plans.plan_at.Goals as goal
