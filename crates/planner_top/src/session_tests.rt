@@ -1,6 +1,7 @@
 use crate::status::Status;
 use crate::test_files::{all_files, put, runs};
 use net_core::{Bytes, List, Name, NoMemory};
+use sample_net::{network_text, sample};
 use outside_io::MemFile;
 use std::alloc::Global;
 use std::test::Fail;
@@ -62,5 +63,61 @@ fn a_report_of_eight_callers_is_accepted(rt: HostRuntime) -> Result<(), Fail> {
     put(&mut files, MemFile { name, bytes })?;
     let checked = runs(&rt, "check towns default single report", files, &[], &[])?;
     assert_eq!(rt; checked.out.bytes(), b"accepted 64\n".as_slice());
+    Ok(())
+}
+
+/// The network of `sample 7 8`, and twenty plans of four callers.
+fn sample_files(alloc: Global) -> Result<List<MemFile>, Fail> {
+    let mut files = all_files(alloc)?;
+    let (net, demands) = sample(alloc, 7, 8)?;
+    let name = Name::new(alloc, b"sample")?;
+    let bytes = network_text(alloc, &net, &demands)?;
+    put(&mut files, MemFile { name, bytes })?;
+    let mut bytes = List::new(alloc);
+    bytes.append(b"?planner script; version: 1\n")?;
+    for i in 0..20usize {
+        bytes.append(callers()[i % 4])?;
+        bytes.append(b"plan\n")?;
+    }
+    let name = Name::new(alloc, b"twenty")?;
+    put(&mut files, MemFile { name, bytes })?;
+    Ok(files)
+}
+
+/// How often a word stands in a text.
+fn count(text: &[u8], word: &[u8]) -> usize {
+    (0..text.len())
+        .filter(|at| text[*at..].starts_with(word))
+        .count()
+}
+
+#[test]
+fn plans_at_once_have_the_value_of_a_plan_alone(rt: HostRuntime) -> Result<(), Fail> {
+    let alloc = rt.alloc();
+    let files = sample_files(alloc)?;
+    let session = runs(&rt, "session sample default single twenty", files, &[], &[])?;
+    assert_eq!(rt; session.status, Status::Done);
+    let raw = count(session.out.bytes(), b" raw 3869385800 9641 ");
+    assert_eq!(rt; (raw, count(session.out.bytes(), b"\ntight ")), (20, 20));
+    let mut files = sample_files(alloc)?;
+    let name = Name::new(alloc, b"report")?;
+    let bytes = List::from_slice(alloc, session.out.bytes())?;
+    put(&mut files, MemFile { name, bytes })?;
+    let checked = runs(&rt, "check sample default single report", files, &[], &[])?;
+    assert_eq!(rt; checked.out.bytes(), b"accepted 20\n".as_slice());
+    Ok(())
+}
+
+#[test]
+fn a_session_of_one_plan_reports_what_a_plan_does(rt: HostRuntime) -> Result<(), Fail> {
+    let alloc = rt.alloc();
+    let plan = runs(&rt, "plan parallel default single", all_files(alloc)?, &[], &[])?;
+    let mut files = all_files(alloc)?;
+    let name = Name::new(alloc, b"one")?;
+    let bytes = List::from_slice(alloc, b"?planner script; version: 1\ncaller 1 plan\n")?;
+    put(&mut files, MemFile { name, bytes })?;
+    let session = runs(&rt, "session parallel default single one", files, &[], &[])?;
+    assert_eq!(rt; session.status, Status::Done);
+    assert_eq!(rt; session.out.bytes(), plan.out.bytes());
     Ok(())
 }

@@ -291,7 +291,7 @@ pub(crate) fn runs<R: AllocGlobal + Abort + Threads + Wait + Sync>(
     assert!(rt; have_different_names(files.items()));
     let mut shelf = MemShelf::new(files, List::from_slice(rt.alloc(), fetches)?);
     let failing = List::from_slice(rt.alloc(), puts)?;
-    let mut out = MemSink::new(rt.alloc(), 1000000, failing)?;
+    let mut out = MemSink::new(rt.alloc(), 4000000, failing)?;
     let status = run(rt, rt.alloc(), &list, &mut shelf, &mut out, &OpenGate);
     let faults = (shelf.faults(), out.faults());
     Ok(Ended {
