@@ -1,10 +1,12 @@
 // The rounds of a planning with every single-link failure, by the code of the crates without its contracts: the best certificate of
 // the cuts so far, all states at its share, and the cuts that they find, until no state finds one. Prints processor time.
-// Usage: rounds NETWORK, with a network as sample.py prints it
+// Usage: rounds NETWORK [forget], with a network as sample.py prints it; with `forget` each state is routed with no known column
 #![allow(dead_code, unused)]
 mod checked_fraction;
 mod flow_router;
 mod greedy_router;
+mod key_paths;
+mod key_rows;
 mod master_bound;
 mod module_prices;
 mod net_core;
@@ -109,6 +111,8 @@ fn main() {
             cuts.push(line_of(cut, &demands)).ok();
         }
     }
+    let forget = words.get(2).is_some_and(|word| word == "forget");
+    let mut known: std::vec::Vec<_> = (0..states.count()).map(|_| List::new(Global)).collect();
     let (opening, mut rounds, mut bounding, mut separating) = (cuts.len(), 0, 0, 0);
     loop {
         let begin = clock();
@@ -117,7 +121,10 @@ fn main() {
         let caps = caps_of(&net, &best);
         let mut further = vec![];
         for s in 0..states.count() {
-            match separate_state(Global, &instance, StateId(s), &caps).unwrap() {
+            if forget {
+                known[s as usize] = List::new(Global);
+            }
+            match separate_state(Global, &instance, StateId(s), &caps, &mut known[s as usize]).unwrap() {
                 RouteAnswer::Routed(_) => {}
                 RouteAnswer::Violated(cut) => further.push(line_of(&cut, &demands)),
                 RouteAnswer::Wide(_) => panic!("state {s} is wide"),

@@ -140,6 +140,11 @@ impl<T: Clone> List<T> {
         Ok(List { items: vec![item; count] })
     }
 
+    pub fn append(&mut self, items: &[T]) -> Result<(), NoMemory> {
+        self.items.extend_from_slice(items);
+        Ok(())
+    }
+
     pub fn from_slice(_alloc: Global, items: &[T]) -> Result<List<T>, NoMemory> {
         Ok(List { items: items.to_vec() })
     }

@@ -6,6 +6,7 @@ mod checked_fraction;
 mod flow_router;
 mod greedy_router;
 mod key_paths;
+mod key_rows;
 mod net_core;
 mod short_paths;
 mod simplex_core;
