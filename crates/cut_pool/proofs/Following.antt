@@ -27,7 +27,7 @@ use Rattle.metric_cut.specs.inner.Rights.{part_of}
 use Rattle.metric_cut.proofs.Sides.{sum_is_right}
 use Rattle.cut_pool.specs.declared.pooled.PooledCut.{PooledCut}
 use Rattle.cut_pool.specs.declared.shares.NeedChange.{NeedChange}
-use Rattle.cut_pool.specs.inner.Pooling.{CanFollow, IsAtDemands, IsSomeCut, StandsAt, followed}
+use Rattle.cut_pool.specs.inner.Pooling.{CanFollow, IsAtDemands, IsSomeCut, StandsAmong, StandsAt, followed}
 use Rattle.cut_pool.specs.inner.Shares.{IsShareIn, IsShareOf, asked_by}
 
 -- ---- a right side is the sum of what the demands ask for by the kept distances
@@ -150,3 +150,15 @@ at_demands n demands c are at = record {
   right_is = λ g of. sum_is_right (Joins g) c.cut.lengths (length g.nodes) c.cut.table demands c.right of.distances (subst (λ m. All (IsDemand m) demands) (sym at.nodes) are.each) at.right;
   low = at.low;
 }
+
+-- ---- right sides that are summed anew
+
+pub stands_among : (n : ℕ) (demands : List Demand) (c : PooledCut) → AreDemands n demands → StandsAt n demands c → StandsAmong demands c
+stands_among n demands c are at = (subst (λ m. AreDemands m demands) (sym at.nodes) are, subst (λ m. StandsAt m demands c) (sym at.nodes) at)
+
+-- such a right side is the one that stands
+pub summed_anew : (demands : List Demand) (c : PooledCut) (right : ℕ) → StandsAmong demands c → ((g : Graph) → IsCutOf g c.cut → IsRight (Joins g) c.cut.lengths demands right) → right ≡ c.right
+summed_anew demands c right stands is = ∥∥₁_elim stands.1.cut (hlevel props) (λ known.
+    let of = known.1 in
+    right_sum (Joins known.0) c.cut.lengths (length known.0.nodes) c.cut.table demands right of.distances (subst (λ m. All (IsDemand m) demands) of.distances.count stands.0.each) (is known.0 of)
+    ∙ sym stands.1.right)

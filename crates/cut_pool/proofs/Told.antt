@@ -1,18 +1,21 @@
 -- what a board tells of itself
-use Rattle.std.proofs.Common.{◌≡◌, ◌≢◌, ◌∙◌, ℕ, ◌<◌, List, [], ◌∷◌, All, Some, None, length, map, get_or, slice_get, refl, sym, ap, subst, arith}
-use Rattle.std.specs.Prelude.{position}
+use Rattle.std.proofs.Common.{◌≡◌, ◌≢◌, ◌∙◌, ℕ, ◌<◌, ◌^◌, List, [], ◌∷◌, All, Some, None, length, map, get_or, slice_get, refl, sym, ap, subst, arith}
+use Rattle.std.specs.Prelude.{Option, option_map, position}
 use Rattle.std.proofs.Math.Logic.{∥∥₁_elim}
 use Rattle.std.proofs.Props.{props}
 use Rattle.std.proofs.lemmas.List.{get_or-map, length-map}
 use Rattle.std.proofs.lemmas.List.Elements.{All-map}
-use Rattle.std.proofs.lemmas.Option.{slice_get-get_or}
+use Rattle.std.proofs.lemmas.Option.{get_or_from_slice_get, slice_get-get_or, slice_get-map, slice_get_within}
 use Rattle.net_core.specs.declared.demand.Demand.{Demand}
 use Rattle.net_core.specs.declared.journal.Entry.{Entry}
+use Rattle.net_core.specs.declared.plan.CutLine.{CutLine}
 use Rattle.net_core.specs.Cases.{Case, graph_in}
 use Rattle.net_core.specs.Graphs.{Joins}
 use Rattle.plan_terms.specs.Certificates.{IsCut, IsRight}
 use Rattle.metric_cut.specs.declared.cut.Cut.{Cut}
 use Rattle.cut_pool.specs.declared.pooled.PooledCut.{PooledCut}
+use Rattle.cut_pool.specs.declared.board.Board.{Board}
+use Rattle.cut_pool.specs.Boards.{AreLinesNow, opening_case}
 use Rattle.cut_pool.specs.Histories.{IsBoardAfter, IsPoolAfter, cut_of_line, cuts_of, demands_left, version_left}
 use Rattle.cut_pool.specs.Pools.{ArePooledCuts, line_of_pooled}
 use Rattle.cut_pool.specs.inner.Pooling.{is_pooled_cut}
@@ -67,6 +70,22 @@ module _ (p : Case) (es : List Entry) (demands : List Demand) (version : ℕ) (p
       let is : with_state (get_or pool k d).cut ≡ cut = cc both in
       subst (λ (c : ℕ × List ℕ). ∥ IsRight (Joins (graph_in p c.0)) c.1 (demands_left p es) (get_or pool k d).right ∥₁) is (side_told k d lt)
 
+  -- the right sides of the pool, in its order
+  pub rights_told : (rights : List ℕ) → rights ≡ map (λ c. c.right) pool → (k right : ℕ) → slice_get rights k ≡ Some right → (cut : ℕ × List ℕ) → slice_get (cuts_of es) k ≡ Some cut
+      → ∥ IsRight (Joins (graph_in p cut.0)) cut.1 (demands_left p es) right ∥₁
+  rights_told rights is k right at cut there = of (slice_get pool k) refl
+    where
+      shown : option_map (λ (c : PooledCut). c.right) (slice_get pool k) ≡ Some right
+      shown = sym (slice_get-map (λ (c : PooledCut). c.right) pool k) ∙ (ap (λ (all : List ℕ). slice_get all k) (sym is) ∙ at)
+
+      of : (found : Option PooledCut) → slice_get pool k ≡ found → ∥ IsRight (Joins (graph_in p cut.0)) cut.1 (demands_left p es) right ∥₁
+      of None none = let no : None ≡ Some right = ap (option_map (λ (c : PooledCut). c.right)) (sym none) ∙ shown in absurd (cc no)
+      of (Some c) some =
+          let same : Some c.right ≡ Some right = ap (option_map (λ (d : PooledCut). d.right)) (sym some) ∙ shown in
+          let right_is : c.right ≡ right = cc same in
+          subst (λ (n : ℕ). ∥ IsRight (Joins (graph_in p cut.0)) cut.1 (demands_left p es) n ∥₁) (ap (λ (d : PooledCut). d.right) (get_or_from_slice_get pool k c c some) ∙ right_is)
+          (right_told k c (slice_get_within pool k c some) cut there)
+
   -- the lines of the pool are cuts at the demands now
   pub lines_told : ∥ ArePooledCuts p pool ∥₁ → ∥ All (IsCut (case_now p es)) (map line_of_pooled pool) ∥₁
   lines_told all = ∥∥₁_elim all (hlevel props) (λ cuts. ∥∥₁_elim told (hlevel props) (λ b.
@@ -75,3 +94,13 @@ module _ (p : Case) (es : List Entry) (demands : List Demand) (version : ℕ) (p
         kept = (cuts k d lt).kept;
         right = subst (IsFollowed p (demands_left p es)) (get_or-map line_of_pooled pool k d (line_of_pooled d) lt) (b.pool.rights k (line_of_pooled d) (omega (arith, lt, length-map pool line_of_pooled)));
       }) ∣₁))
+
+-- the lines of a board's pool
+pub lines_now : (b : Board) (lines : List CutLine) → lines ≡ map line_of_pooled b.pool → AreLinesNow b lines
+lines_now b lines is =
+    let p = opening_case b in
+    subst (AreLinesNow b) (sym is) (record {
+      pool = pool_told p b.entries b.book.demands b.book.version b.pool b.stands;
+      cuts = lines_told p b.entries b.book.demands b.book.version b.pool b.stands b.cuts_are;
+      low = All-map (λ (l : CutLine). l.right < 2 ^ 84) line_of_pooled b.pool b.low;
+    })

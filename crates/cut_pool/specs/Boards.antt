@@ -6,6 +6,7 @@ use Rattle.net_core.specs.declared.journal.Entry.{Entry}
 use Rattle.net_core.specs.declared.journal.Entry.TheVariants.{Edited, Pooled}
 use Rattle.net_core.specs.declared.network.Network.{Network}
 use Rattle.net_core.specs.declared.states.States.{States}
+use Rattle.net_core.specs.declared.plan.CutLine.{CutLine}
 use Rattle.net_core.specs.Cases.{Case, graph_in}
 use Rattle.net_core.specs.Demands.{AreDemands}
 use Rattle.net_core.specs.Graphs.{Joins}
@@ -86,6 +87,17 @@ AnswersAdmit old cut (admitting.NoMemory back) new =
 abbrev pub IsRightNow : Board → ℕ → ℕ → Type 0
 IsRightNow b index right = (cut : ℕ × List ℕ) → slice_get (cuts_of b.entries) index ≡ Some cut
     → ∥ IsRight (Joins (graph_in (opening_case b) cut.0)) cut.1 (demands_left (opening_case b) b.entries) right ∥₁
+
+-- the lines of the board's pool, with right sides at the demands now
+pub record AreLinesNow (b : Board) (lines : List CutLine) : Type 0 where
+  pub pool : ∥ IsPoolAfter (opening_case b) b.entries lines ∥₁
+  pub cuts : ∥ All (IsCut (case b.net.now b.states.now (demands_left (opening_case b) b.entries))) lines ∥₁
+  pub low : All (λ l. l.right < 2 ^ 84) lines
+
+-- these are the right sides of the pool's cuts at the demands now, in their order
+pub record IsAudit (b : Board) (rights : List ℕ) : Type 0 where
+  pub count : length rights ≡ length (cuts_of b.entries)
+  pub each : (k right : ℕ) → slice_get rights k ≡ Some right → IsRightNow b k right
 
 -- the snapshot of a board: its position, the version and the demands, and the pool with right sides at these demands
 pub record IsSnapshotOf (b : Board) (s : Snapshot) : Type 0 where

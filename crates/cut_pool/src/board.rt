@@ -1,13 +1,13 @@
 ghost use Rattle.std.specs.Prelude.{◌≡◌, ◌≤◌, ◌<◌, ◌-◌, ◌^◌, [], All, IfOk, IfErr, OnErr, OnOk, Some, length, map, max, slice_get};
 ghost use Rattle.net_core.specs.Demands.{AreDemands};
 ghost use Rattle.net_core.specs.Views.{case, graph};
-ghost use Rattle.plan_terms.specs.Certificates.{IsCut};
 ghost use Rattle.plan_terms.specs.Edits.{edit_need};
 ghost use Rattle.metric_cut.specs.Cuts.{IsCutOf};
-ghost use Rattle.cut_pool.specs.Histories.{IsBoardAfter, IsPoolAfter, cuts_of, demands_left, version_left};
+ghost use Rattle.cut_pool.specs.Histories.{IsBoardAfter, cuts_of, demands_left, version_left};
 ghost use Rattle.cut_pool.specs.Pools.{ArePooledCuts, line_of_pooled};
 
 use crate::answers::{AdmitAnswer, EditAnswer};
+use crate::audit::{lines_with, rights_of};
 use crate::entries::Told;
 use crate::history::History;
 use crate::pooled::{PooledCut, lines_of, place_of};
@@ -17,6 +17,7 @@ use metric_cut::Cut;
 use net_core::{Copied, CutLine, Demands, Edit, Entry, List, Network, NoMemory, States};
 use std::alloc::Global;
 use std::snapshot::Snapshot as Remembered;
+use std::thread::Threads;
 use turn_lock::Chronicle;
 
 /// So many entries are the most.
@@ -71,7 +72,7 @@ impl<'a> Chronicle for Board<'a> {
 }
 
 impl<'a> Board<'a> {
-    ghost use Rattle.cut_pool.specs.Boards.{AnswersAdmit, AnswersEdit, IsRightNow, IsSameBoard, IsSnapshotOf, SparesEdit, opening_case, origin_of, spare_of};
+    ghost use Rattle.cut_pool.specs.Boards.{AnswersAdmit, AnswersEdit, AreLinesNow, IsAudit, IsRightNow, IsSameBoard, IsSnapshotOf, SparesEdit, opening_case, origin_of, spare_of};
 
     /// The board of the network's opening demands, at version 0, with no entry. It copies the nodes' names; the demands come back
     /// where memory runs out.
@@ -238,11 +239,26 @@ impl<'a> Board<'a> {
 
     /// The lines of the pool, with their right sides at the demands now.
     pub fn lines(&self) -> Result<List<CutLine>, NoMemory>
-        ensures pool { IfOk result (λ lines. ∥ IsPoolAfter (opening_case self.now) self.now.entries lines ∥₁) }
-        ensures cuts { IfOk result (λ lines. ∥ All (IsCut (case self.now.net.now self.now.states.now (demands_left (opening_case self.now) self.now.entries))) lines ∥₁) }
-        ensures low { IfOk result (λ lines. All (λ l. l.right < 2 ^ 84) lines) }
+        ensures { IfOk result (AreLinesNow self.now) }
     {
         lines_of(self.alloc, self.pool.items())
+    }
+
+    /// The right side of each cut, in the pool's order, summed anew from the demands now. Threads share the cuts; all in all it takes time
+    /// in the cuts times the demands, and 16 bytes a cut.
+    pub fn audit<R: Threads + Sync>(&self, rt: &R) -> Result<List<u128>, NoMemory>
+        ensures kept { IfOk result (λ rights. rights ≡ map (λ c. c.right) self.now.pool) }
+        ensures now { IfOk result (IsAudit self.now) }
+    {
+        rights_of(rt, self.alloc, self.pool.items(), self.book.demands())
+    }
+
+    /// The lines of the pool, with right sides that are summed anew.
+    pub fn audited_lines<R: Threads + Sync>(&self, rt: &R) -> Result<List<CutLine>, NoMemory>
+        ensures { IfOk result (AreLinesNow self.now) }
+    {
+        let rights = self.audit(rt)?;
+        lines_with(self.alloc, self.pool.items(), rights.items())
     }
 
     /// What the board is now. It copies the demands, and of each cut the lengths.

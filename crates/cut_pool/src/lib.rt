@@ -2,6 +2,7 @@
 #![tactic(auto)]
 
 mod answers;
+mod audit;
 mod board;
 mod entries;
 mod follow;

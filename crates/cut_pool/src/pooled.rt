@@ -1,12 +1,12 @@
 ghost use Rattle.std.specs.Prelude.{◌≡◌, ◌<◌, ◌^◌, All, IfOk, length, map, position};
 ghost use Rattle.net_core.specs.declared.journal.Entry.TheVariants.{Pooled};
 ghost use Rattle.cut_pool.specs.Pools.{line_of_pooled};
-ghost use Rattle.cut_pool.specs.inner.Pooling.{CanFollow, IsSomeCut, followed, is_pooled_cut};
+ghost use Rattle.cut_pool.specs.inner.Pooling.{CanFollow, IsSomeCut, StandsAmong, followed, is_pooled_cut};
 ghost use Rattle.cut_pool.specs.inner.Shares.{IsShareOf, asked_by};
 
 use crate::shares::{DemandShare, NeedChange};
 use metric_cut::Cut;
-use net_core::{Copied, CutLine, Entry, List, NoMemory};
+use net_core::{Copied, CutLine, Demands, Entry, List, NoMemory};
 use std::alloc::Global;
 
 /// A cut of the pool, with its right side at the demands now.
@@ -40,6 +40,14 @@ impl PooledCut {
         self.right = self.right - taken + added;
     }
 
+    /// The right side, summed anew from the demands.
+    pub fn summed(&self, demands: &Demands) -> u128
+        requires { StandsAmong demands.now self.now }
+        ensures { result ≡ self.now.right }
+    {
+        self.cut.right(demands)
+    }
+
     /// Whether this is the cut. Lengths are compared in one state alone.
     fn is(&self, cut: &Cut) -> bool
         ensures { result ≡ is_pooled_cut cut.now self.now }
@@ -58,14 +66,15 @@ impl PooledCut {
         })
     }
 
-    /// Its line.
-    fn line(&self) -> Result<CutLine, NoMemory>
+    /// Its line, with this right side, which is its own.
+    pub fn line(&self, right: u128) -> Result<CutLine, NoMemory>
+        requires { right ≡ self.now.right }
         ensures { IfOk result (λ line. line ≡ line_of_pooled self.now) }
     {
         Ok(CutLine {
             state: self.cut.state(),
             lengths: self.cut.lengths().copy()?,
-            right: self.right,
+            right,
         })
     }
 }
@@ -103,7 +112,7 @@ pub fn lines_of(alloc: Global, pool: &[PooledCut]) -> Result<List<CutLine>, NoMe
 {
     let mut lines = List::new(alloc);
     for pooled in pool {
-        lines.push(pooled.line()?)?;
+        lines.push(pooled.line(pooled.right)?)?;
     }
     Ok(lines)
 }

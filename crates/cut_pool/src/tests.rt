@@ -9,6 +9,7 @@ use net_core::{Copied, Edit, List, Name, Network, NoMemory, Reply, StateId, Stat
 use std::alloc::Global;
 use std::process::Abort;
 use std::test::Fail;
+use std::thread::Threads;
 use turn_lock::Chronicle;
 use worked_networks::{DemandRow, demands, single_failures, triangle};
 
@@ -178,12 +179,23 @@ fn an_equal_cut_is_known(rt: HostRuntime) -> Result<(), Fail> {
     Ok(())
 }
 
-/// The right sides must be these, in the pool's order.
-fn check_sides<R: AllocGlobal + Abort>(rt: &R, board: &Board, want: &[u128]) -> Result<(), Fail> {
-    let lines = board.lines()?;
-    assert_eq!(rt; lines.items().len(), want.len());
+/// The right sides must be these, in the pool's order, kept or summed anew.
+fn check_sides<R: AllocGlobal + Abort + Threads + Sync>(
+    rt: &R,
+    board: &Board,
+    want: &[u128],
+) -> Result<(), Fail> {
+    let kept = board.lines()?;
+    let summed = board.audit(rt)?;
+    let audited = board.audited_lines(rt)?;
+    assert_eq!(rt; kept.items().len(), want.len());
     for k in 0..want.len() {
-        assert_eq!(rt; lines.items().get(k).map(|line| line.right), Some(want[k]));
+        assert_eq!(rt; kept.items().get(k).map(|line| line.right), Some(want[k]));
+        assert_eq!(rt; summed.items().get(k).copied(), Some(want[k]));
+        assert_eq!(rt;
+            audited.items().get(k).map(|line| line.right),
+            Some(want[k])
+        );
     }
     Ok(())
 }
@@ -209,7 +221,7 @@ fn admit_all<R: AllocGlobal + Abort>(
 type Step = (Option<u32>, [u128; 4]);
 
 /// Makes an edit of the demand A, which is accepted as this version and leaves these right sides.
-fn check_step<R: AllocGlobal + Abort>(
+fn check_step<R: AllocGlobal + Abort + Threads + Sync>(
     rt: &R,
     board: &mut Board,
     step: &Step,

@@ -2,6 +2,7 @@
 use Rattle.std.specs.Prelude.{◌≡◌, ◌==◌, ℕ, ◌+◌, ◌-◌, ◌≤◌, ◌<◌, ◌^◌, ◌&&◌, Bool, List, sum_by}
 use Rattle.std.specs.Cmp.Lexicographic.{pointwise}
 use Rattle.net_core.specs.declared.demand.Demand.{Demand}
+use Rattle.net_core.specs.Demands.{AreDemands}
 use Rattle.net_core.specs.Graphs.{Graph, Joins}
 use Rattle.plan_terms.specs.Certificates.{IsRight}
 use Rattle.metric_cut.specs.Cuts.{IsCutOf}
@@ -30,6 +31,10 @@ pub record StandsAt (n : ℕ) (demands : List Demand) (c : PooledCut) : Type 0 w
   pub nodes : c.cut.table.nodes ≡ n
   pub right : c.right ≡ sum_by (part_of c.cut.table) demands
   pub low : c.right < 2 ^ 84
+
+-- the cut has its right side at these demands of its nodes
+abbrev pub StandsAmong : List Demand → PooledCut → Type 0
+StandsAmong demands c = AreDemands c.cut.table.nodes demands × StandsAt c.cut.table.nodes demands c
 
 -- a right side of which the old share is a part can follow
 pub record CanFollow (change : NeedChange) (c : PooledCut) : Type 0 where
