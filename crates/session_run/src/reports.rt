@@ -11,6 +11,7 @@ use net_core::{List, Network, NoMemory};
 use plan_types::{Outcome, Report};
 use session_script::Command;
 use std::alloc::Global;
+use std::thread::Threads;
 
 /// The caller of an outcome.
 pub fn caller_of(outcome: &Outcome) -> u32
@@ -33,8 +34,9 @@ fn by_caller(alloc: Global, outcomes: List<Outcome>) -> Result<List<Outcome>, No
     Ok(sorted)
 }
 
-/// The report of a board and the outcomes of its plans.
-pub fn report(
+/// The report of a board and the outcomes of its plans. The right sides of the pool are summed anew.
+pub fn report<R: Threads + Sync>(
+    rt: &R,
     alloc: Global,
     net: &Network,
     board: &Board,
@@ -46,7 +48,7 @@ pub fn report(
     requires run { HaveRun (opening_case board.now) board.now.entries board.now.entries commands.now outcomes }
     ensures { IfOk result (IsTranscript (opening_case board.now) net.now.notes commands.now) }
 {
-    let pool = board.lines()?;
+    let pool = board.audited_lines(rt)?;
     have_short_lengths(pool.items());
     are_short_named(outcomes.items());
     Ok(Report {

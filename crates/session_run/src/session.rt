@@ -95,7 +95,7 @@ pub fn run_session<R: Threads + Wait + Sync, G: Gate + Sync>(
         hints: &hints,
     };
     let (outcomes, board) = run_on(rt, gate, &setting, board)?;
-    report(alloc, net, &board, outcomes, script.commands.items())
+    report(rt, alloc, net, &board, outcomes, script.commands.items())
 }
 
 /// The script of one plan command, of caller 1.
