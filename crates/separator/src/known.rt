@@ -1,4 +1,4 @@
-ghost use Rattle.std.specs.Prelude.{◌≡◌, ◌≢◌, ◌<◌, ◌+◌, ℕ, [], IfOk, OnErr, get_or, length};
+ghost use Rattle.std.specs.Prelude.{◌≡◌, ◌<◌, ◌+◌, IfOk, OnErr, length};
 ghost use Rattle.net_core.specs.Cases.{graph_in};
 ghost use Rattle.net_core.specs.Views.{case_of};
 ghost use Rattle.route_law.specs.Routings.{AreJoined};
@@ -17,8 +17,6 @@ pub struct KnownColumns {
 }
 
 impl KnownColumns {
-    ghost use Rattle.separator.specs.Known.{AreOthersKnown};
-
     /// No columns at all.
     pub fn new(alloc: Global) -> KnownColumns {
         KnownColumns {
@@ -26,8 +24,8 @@ impl KnownColumns {
         }
     }
 
-    /// The same as `separate_state`, with what is known of the state at hand. What its program ends with is known then, also where
-    /// memory runs out after it has ended.
+    /// The same as `separate_state`, with what is known of the state at hand. What its program ends with is known then; where memory
+    /// runs out, the same is known as before.
     pub fn separate_state(
         &mut self,
         alloc: Global,
@@ -40,7 +38,7 @@ impl KnownColumns {
         requires caps { length caps.now.nums ≡ length instance.now.net.now.links }
         requires joined { AreJoined (graph_in (case_of instance.now) state.0) instance.now.demands.now }
         ensures found { IfOk result (IsFinding (graph_in (case_of instance.now) state.0) instance.now.demands.now caps.now) }
-        ensures others { OnErr result (AreOthersKnown state.0 self.old self.new) }
+        ensures same { OnErr result (self.new ≡ self.old) }
     {
         separate_known(alloc, instance, state, caps, &mut self.by_state)
     }
@@ -59,7 +57,7 @@ fn separate_known(
     requires caps { length caps.now.nums ≡ length instance.now.net.now.links }
     requires joined { AreJoined (graph_in (case_of instance.now) state.0) instance.now.demands.now }
     ensures found { IfOk result (IsFinding (graph_in (case_of instance.now) state.0) instance.now.demands.now caps.now) }
-    ensures others { OnErr result ((k : ℕ) → k ≢ state.0 → get_or by_state.new k [] ≡ get_or by_state.old k []) }
+    ensures same { OnErr result (by_state.new ≡ by_state.old) }
 {
     let at = state.0 as usize;
     if at < by_state.len() {

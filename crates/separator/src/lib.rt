@@ -24,8 +24,8 @@ pub mod separating;
 
 pub use admission::line_of;
 pub use answers::{Separated, StateAnswer};
-pub use one_state::separate_state;
 pub use one_by_one::OneByOne;
+pub use one_state::separate_state;
 pub use separating::Separate;
 
 #[cfg(test)]

@@ -1,4 +1,4 @@
-ghost use Rattle.std.specs.Prelude.{◌≡◌, ◌<◌, ◌+◌, IfOk, length};
+ghost use Rattle.std.specs.Prelude.{◌≡◌, ◌<◌, ◌+◌, IfOk, OnErr, length};
 ghost use Rattle.net_core.specs.Cases.{graph_in};
 ghost use Rattle.net_core.specs.Demands.{AreDemands};
 ghost use Rattle.net_core.specs.Views.{case_of, graph_of};
@@ -13,23 +13,23 @@ use node_sets::{grown_set, threshold_set};
 use std::alloc::Global;
 
 /// The cut of a set of nodes that lie near to each other under the lengths of a violated cut, and that cut itself where no such set is
-/// violated.
+/// violated or memory runs out.
 fn nearest_set<'a>(
     alloc: Global,
     graph: &Surviving<'a>,
     demands: &'a Demands,
     caps: &'a Caps,
     cut: Cut,
-) -> Result<Cut, NoMemory>
+) -> Cut
     requires demands { AreDemands (length graph.now.net.now.nodes) demands.now }
     requires scale { 0 < caps.now.scale }
     requires caps { length caps.now.nums ≡ length graph.now.net.now.links }
     requires cut { IsFoundCutOf (graph_of graph.now) demands.now caps.now cut }
-    ensures { IfOk result (IsFoundCutOf (graph_of graph.now) demands.now caps.now) }
+    ensures { IsFoundCutOf (graph_of graph.now) demands.now caps.now result }
 {
-    match threshold_set(alloc, graph, demands, caps, cut.lengths())? {
-        Some(set) => Ok(set),
-        None => Ok(cut),
+    match threshold_set(alloc, graph, demands, caps, cut.lengths()) {
+        Ok(Some(set)) => set,
+        Ok(None) | Err(NoMemory) => cut,
     }
 }
 
@@ -42,7 +42,8 @@ fn nearest_set<'a>(
 /// In the triangle AB, BC, AC with 6.00, 1.999 and 10.00 the demands of 12.00 from A to C and of 4.00 from A to B aren't routed: the
 /// links at C have 11.999 together, and the cut has the lengths 0, 1, 1.
 ///
-/// `known` are columns at hand, whatever they are, and become those that the state's routing program ends with.
+/// `known` are columns at hand, whatever they are, and become those that the state's routing program ends with; where memory runs out,
+/// they stay as they are.
 ///
 /// It takes the time and memory of `route_state_from`, and time in the cube of the nodes.
 pub fn separate_state(
@@ -56,7 +57,8 @@ pub fn separate_state(
     requires scale { 0 < caps.now.scale }
     requires caps { length caps.now.nums ≡ length instance.now.net.now.links }
     requires joined { AreJoined (graph_in (case_of instance.now) state.0) instance.now.demands.now }
-    ensures { IfOk result (IsFinding (graph_in (case_of instance.now) state.0) instance.now.demands.now caps.now) }
+    ensures found { IfOk result (IsFinding (graph_in (case_of instance.now) state.0) instance.now.demands.now caps.now) }
+    ensures same { OnErr result (known.new ≡ known.old) }
 {
     are_caps(caps);
     let Instance {
@@ -71,7 +73,7 @@ pub fn separate_state(
     }
     match route_state_from(alloc, net, states, state, demands, caps, known)? {
         RouteAnswer::Violated(cut) => {
-            let nearest = nearest_set(alloc, &graph, demands, caps, cut)?;
+            let nearest = nearest_set(alloc, &graph, demands, caps, cut);
             Ok(RouteAnswer::Violated(nearest))
         }
         answer => Ok(answer),
