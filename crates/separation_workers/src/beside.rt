@@ -1,6 +1,6 @@
 ghost use Rattle.std.specs.Prelude.{◌<◌, ◌+◌, All, IfOk, length};
 ghost use Rattle.std.specs.Thread.{IsSync};
-ghost use Rattle.separation_workers.specs.Rounds.{AreFound, IsFoundOf, IsStateFound};
+ghost use Rattle.separation_workers.specs.inner.Rounds.{AreFound, IsFoundOf, IsStateFound};
 
 use crate::hints::hinted_cut;
 use crate::round::{Round, StateFound};

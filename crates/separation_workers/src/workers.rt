@@ -7,7 +7,7 @@ ghost use Rattle.separator.specs.Separators.{IsAnswerOf, SeesMore, cut_answered,
 ghost use Rattle.separator.specs.inner.Working.{AreAnswersBelow, AreCutsBelow, AreCutsOf};
 ghost use Rattle.hint_board.specs.Hints.{hint_links};
 ghost use Rattle.separation_workers.specs.Callers.{HasSeenHistory};
-ghost use Rattle.separation_workers.specs.Rounds.{AreFound, IsFoundOf, IsStateFound};
+ghost use Rattle.separation_workers.specs.inner.Rounds.{AreFound, IsFoundOf, IsStateFound};
 ghost use Rattle.separation_workers.specs.Places.{units_in};
 ghost use Rattle.separation_workers.specs.TurnTakers.{IsSameCaller, desk_network, desk_states, history_seen, own_entries};
 

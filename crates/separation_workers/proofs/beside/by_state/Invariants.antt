@@ -1,4 +1,4 @@
-use Rattle.separation_workers.specs.Rounds.{AreFound}
+use Rattle.separation_workers.specs.inner.Rounds.{AreFound}
 use Rattle.separation_workers.proofs.beside.by_state.Given as goal
 
 abbrev pub invariant-loop : goal.invariant-loop

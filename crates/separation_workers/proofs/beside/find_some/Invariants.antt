@@ -1,5 +1,5 @@
 use Rattle.std.proofs.Common.{All}
-use Rattle.separation_workers.specs.Rounds.{IsStateFound}
+use Rattle.separation_workers.specs.inner.Rounds.{IsStateFound}
 use Rattle.separation_workers.proofs.beside.find_some.Given as goal
 
 abbrev pub invariant-loop : goal.invariant-loop

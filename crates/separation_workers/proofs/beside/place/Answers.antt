@@ -1,6 +1,6 @@
 use Rattle.std.proofs.Common.{IfSome, Some}
 use Rattle.std.proofs.lemmas.List.Elements.{All-set}
-use Rattle.separation_workers.specs.Rounds.{IsStateFound}
+use Rattle.separation_workers.specs.inner.Rounds.{IsStateFound}
 use Rattle.separation_workers.proofs.beside.place.Goals as goal
 
 pub returns-then-at-places : goal.returns-then-at-places

@@ -1,7 +1,7 @@
 use Rattle.net_core.specs.Views.{case_of}
 use Rattle.separator.specs.Separators.{SeesMore, cuts_since}
 use Rattle.separator.specs.inner.Working.{AreAnswersBelow, AreCutsBelow}
-use Rattle.separation_workers.specs.Rounds.{AreFound}
+use Rattle.separation_workers.specs.inner.Rounds.{AreFound}
 use Rattle.separation_workers.specs.TurnTakers.{IsSameCaller, history_seen, own_entries}
 use Rattle.separation_workers.proofs.workers.answer_states.Given as goal
 
