@@ -1,8 +1,8 @@
 use crate::status::Status;
 use crate::test_files::{all_files, put, runs};
 use net_core::{Bytes, List, Name, NoMemory};
-use sample_net::{network_text, sample};
 use outside_io::MemFile;
+use sample_net::{network_text, sample};
 use std::alloc::Global;
 use std::test::Fail;
 
@@ -111,7 +111,13 @@ fn plans_at_once_have_the_value_of_a_plan_alone(rt: HostRuntime) -> Result<(), F
 #[test]
 fn a_session_of_one_plan_reports_what_a_plan_does(rt: HostRuntime) -> Result<(), Fail> {
     let alloc = rt.alloc();
-    let plan = runs(&rt, "plan parallel default single", all_files(alloc)?, &[], &[])?;
+    let plan = runs(
+        &rt,
+        "plan parallel default single",
+        all_files(alloc)?,
+        &[],
+        &[],
+    )?;
     let mut files = all_files(alloc)?;
     let name = Name::new(alloc, b"one")?;
     let bytes = List::from_slice(alloc, b"?planner script; version: 1\ncaller 1 plan\n")?;
