@@ -27,6 +27,8 @@ pub mod counts {
     pub struct Counts {
         pub turns: u64,
         pub searches: u64,
+        /// The processor time of the searches, in millionths of a second.
+        pub searching: i64,
         /// The columns that entered: a demand and the links of its path.
         pub columns: Vec<(u32, Vec<u32>)>,
     }
@@ -46,6 +48,22 @@ pub mod counts {
 
     pub fn search() {
         COUNTS.with_borrow_mut(|c| c.searches += 1);
+    }
+
+    /// Takes the time until it is dropped.
+    pub struct Timer(i64);
+
+    impl Timer {
+        pub fn new() -> Timer {
+            Timer(crate::clock())
+        }
+    }
+
+    impl Drop for Timer {
+        fn drop(&mut self) {
+            let time = crate::clock() - self.0;
+            COUNTS.with_borrow_mut(|c| c.searching += time);
+        }
     }
 }
 
@@ -138,14 +156,16 @@ fn main() {
             RouteAnswer::Wide(_) => "wide".into(),
         };
         println!(
-            "{} nodes, {} links, {} demands, capacity {capacity}: {said}; {} turns, {} searches, {:.1} ms, {:.0} microseconds a turn",
+            "{} nodes, {} links, {} demands, capacity {capacity}: {said}; {} turns, {} searches, {:.1} ms, {:.1} of them in searches, {:.0} microseconds a turn, {:.0} without searches",
             net.nodes.len(),
             net.links.len(),
             demands.len(),
             counts.turns,
             counts.searches,
             time as f64 / 1000.0,
+            counts.searching as f64 / 1000.0,
             time as f64 / counts.turns.max(1) as f64,
+            (time - counts.searching) as f64 / counts.turns.max(1) as f64,
         );
         let file = format!("{}/{}-{}.lp", words[2], net.nodes.len(), capacity);
         std::fs::write(file, program(&net, &demands, capacity, &counts.columns)).unwrap();

@@ -8,12 +8,12 @@ trap 'rm -r "$room"' EXIT
 python3 bench/plain/plain.py "$room" checked_fraction simplex_core short_paths key_rows key_paths metric_cut greedy_router flow_router
 cp bench/routing/main.rs bench/routing/net_core.rs "$room"
 grep -lE '\bVec\b' "$room"/*/*.rs | xargs sed -i '1i use crate::net_core::Vec;'
-# Each search, each turn and each column that enters is counted.
+# Each search, each turn and each column that enters is counted, and the time of searches is taken.
 count() {
   grep -q "$2" "$room/$1"
   sed -i "/$2/,/^ *{/s/^\( *\){/&\n\1    crate::counts::$3;/" "$room/$1"
 }
-count short_paths/dijkstra.rs 'pub fn run(' 'search()'
+count short_paths/dijkstra.rs 'pub fn run(' 'search(); let _timer = crate::counts::Timer::new()'
 count key_paths/entering.rs 'pub(crate) fn enter(' 'turn(\&name)'
 rustc -O --edition 2024 -o "$room/routing" "$room/main.rs"
 for nodes in 12 20 30 40; do

@@ -6,8 +6,11 @@ ghost use Rattle.route_law.specs.RoutingPrograms.{route_bound, route_rows};
 use crate::numbers::{bound_of, rows_of};
 use crate::solver::solve_routes;
 use crate::task::Task;
-use key_rows::path_of;
-use net_core::{Caps, LinkId, List, NoMemory, Problem, RouteColumn, StateId, Surviving};
+use key_rows::{demand_of, path_of};
+use net_core::{
+    Caps, Link, LinkId, List, Name, NameFault, Network, NoMemory, NodeId, Notes, Problem,
+    RouteColumn, StateId, Surviving, WideKind,
+};
 use simplex_core::{Optimum, SimplexFault};
 use std::alloc::Global;
 use std::test::Fail;
@@ -96,6 +99,19 @@ const ON_SIX_NODES: [Row; 6] = [
     (2, 1, &[4, 1, 3, 4, 7, 1, 7, 6], (7, 1)),
 ];
 
+/// How many stages the chain has, each of two links.
+const STAGES: u32 = 60;
+
+/// The demands of the chain. Each two of them fill their stages.
+const ON_CHAIN: [DemandRow; 6] = [
+    (0, 20, 303),
+    (0, 20, 202),
+    (20, 40, 303),
+    (20, 40, 202),
+    (40, 60, 303),
+    (40, 60, 202),
+];
+
 /// Whether all bounds are below 2^62.
 fn are_narrow(task: &Task) -> bool
     ensures { IsTrue result → (k : ℕ) → k < route_rows (graph_of task.now.graph) task.now.demands.now → IsNarrow (route_bound (graph_of task.now.graph) task.now.demands.now task.now.caps.now k) }
@@ -108,15 +124,15 @@ fn are_narrow(task: &Task) -> bool
     true
 }
 
-/// An optimum, where the row fits and no number is too wide.
-fn best<'a>(
+/// What `solve_routes` answers, where the row fits and its bounds are narrow.
+fn answer<'a>(
     alloc: Global,
     p: &'a Problem,
     state: u32,
     caps: &'a Caps,
-) -> Result<Option<Optimum<RouteColumn>>, NoMemory> {
+) -> Option<Result<Optimum<RouteColumn>, SimplexFault<RouteColumn>>> {
     if state >= p.states.count() || caps.nums.len() != p.net.links().len() {
-        return Ok(None);
+        return None;
     }
     let state = StateId(state);
     let task = Task {
@@ -129,12 +145,22 @@ fn best<'a>(
         caps,
     };
     if !are_narrow(&task) {
-        return Ok(None);
+        return None;
     }
-    match solve_routes(alloc, &p.net, &p.states, state, &p.demands, caps) {
-        Ok(best) => Ok(Some(best)),
-        Err(SimplexFault::Wide { .. }) => Ok(None),
-        Err(SimplexFault::NoMemory) => Err(NoMemory),
+    Some(solve_routes(alloc, &p.net, &p.states, state, &p.demands, caps))
+}
+
+/// An optimum, where the row fits and no number is too wide.
+fn best<'a>(
+    alloc: Global,
+    p: &'a Problem,
+    state: u32,
+    caps: &'a Caps,
+) -> Result<Option<Optimum<RouteColumn>>, NoMemory> {
+    match answer(alloc, p, state, caps) {
+        Some(Ok(best)) => Ok(Some(best)),
+        Some(Err(SimplexFault::NoMemory)) => Err(NoMemory),
+        Some(Err(SimplexFault::Wide { .. })) | None => Ok(None),
     }
 }
 
@@ -270,5 +296,96 @@ fn greatest_flows(rt: HostRuntime) -> Result<(), Fail> {
         first_miss_on(alloc, 6, &SIX_NODES, &NEEDS, &ON_SIX_NODES)?,
         None
     );
+    Ok(())
+}
+
+/// A name of three digits.
+fn numbered(alloc: Global, k: u32) -> Result<Name, NameFault>
+    requires { k < 1000 }
+{
+    Name::new(
+        alloc,
+        &[
+            b'0' + (k / 100) as u8,
+            b'0' + (k / 10 % 10) as u8,
+            b'0' + (k % 10) as u8,
+        ],
+    )
+}
+
+/// A link of the chain, of which two are a stage.
+fn chain_link(alloc: Global, k: u32) -> Result<Link, NameFault>
+    requires { k < 1000 }
+{
+    Ok(Link {
+        name: numbered(alloc, k)?,
+        a: NodeId(k / 2),
+        b: NodeId(k / 2 + 1),
+        fixed: 0,
+        setup: 0,
+        modules: List::from_slice(alloc, &TEN)?,
+    })
+}
+
+/// Puts an item at the end of a list.
+fn put<T: Drop>(list: &mut List<T>, item: T) -> Result<(), NoMemory> {
+    list.push(item)?;
+    Ok(())
+}
+
+/// A chain of nodes, with two links from each one to the next.
+fn chain(alloc: Global) -> Result<Network, Fail> {
+    let mut nodes = List::new(alloc);
+    for k in 0..STAGES + 1 {
+        put(&mut nodes, numbered(alloc, k)?)?;
+    }
+    let mut links = List::new(alloc);
+    for k in 0..2 * STAGES {
+        put(&mut links, chain_link(alloc, k)?)?;
+    }
+    let notes = Notes {
+        fixed_cost: false,
+        routing_cost: false,
+        setup_cost: false,
+    };
+    Ok(Network::check(nodes, links, notes)?)
+}
+
+/// Each stage carries 505 thousandths over two links, in shares that differ from stage to stage.
+fn shares(alloc: Global) -> Result<List<u128>, NoMemory> {
+    let mut nums = List::new(alloc);
+    for i in 0..STAGES {
+        let share = (1u128 << i) % 101;
+        nums.push(202 + share)?;
+        nums.push(303 - share)?;
+    }
+    Ok(nums)
+}
+
+/// How many of the places of the demands' slacks have columns of other demands. Such a place has none but columns of its demand until
+/// the demand's key is exchanged for a column in another place.
+fn exchanged(basis: &[RouteColumn], links: usize) -> usize {
+    basis
+        .iter()
+        .skip(links)
+        .zip(0..6)
+        .filter(|(name, demand)| demand_of(name) != Some(*demand))
+        .count()
+}
+
+/// Each two demands fill their stages, which takes many paths, so that the determinants of bases grow large.
+#[test]
+fn a_common_denominator_is_too_wide_after_exchanges_of_keys(rt: HostRuntime) -> Result<(), Fail> {
+    let alloc = rt.alloc();
+    let p = problem(alloc, chain(alloc)?, &ON_CHAIN)?;
+    let caps = Caps {
+        scale: 1,
+        nums: shares(alloc)?,
+    };
+    let Some(Err(SimplexFault::Wide { basis, kind })) = answer(alloc, &p, 0, &caps) else {
+        return Err(Fail::new("no number is too wide"));
+    };
+    assert!(rt; matches!(kind, WideKind::Common));
+    assert_eq!(rt; exchanged(basis.items(), p.net.links().len()), 5);
     Ok(())
 }
