@@ -104,7 +104,7 @@ pub record AreWorkedRounds (p : Case) (history : List Entry) (pool : List CutLin
   pub spots : StandAtSpots history w.lines w.spots
   pub ends : EndsBy p pairs w.lines (length w.lines ≡ length pool + 4096) (IsBestOfLast p pairs list.start rounds) w.best w.quality
 
--- the cuts that a history pools are, in their order, a worked list of no snapshot
+-- the cuts that a history pools are, in their order, a worked list that begins with no known cut
 pub record IsWorkedPool (p : Case) (history : List Entry) : Type 0 where
   pub pairs : List UnitPair
   pub rounds : List Round

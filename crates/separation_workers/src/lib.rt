@@ -2,7 +2,7 @@
 //! find into the pool in a turn of its own, so that other callers may edit and plan meanwhile.
 //!
 //! ```text
-//! let mut separator = Workers::new(&rt, &gate, alloc, &hints, caller);
+//! let mut separator = Workers::new(&rt, alloc, &gate, &hints, caller);
 //! let answers = separator.separate(&instance, &caps)?;              // one answer for each state, in their order
 //! let caller = separator.into_caller();                             // it has seen all that was pooled, and its cuts are its own entries
 //! ```

@@ -95,7 +95,7 @@ fn answered<'d, 'a, R: Threads + Wait>(
     ensures units { own_units result.1.pass ≡ own_units caller.entry.pass }
 {
     let (_, caller) = caller.snapshot(rt);
-    let mut separator = Workers::new(rt, &OpenGate, alloc, hints, caller);
+    let mut separator = Workers::new(rt, alloc, &OpenGate, hints, caller);
     let answers = found(alloc, &mut separator, p, caps);
     (answers, separator.into_caller())
 }

@@ -64,8 +64,8 @@ impl<'r, 'd, 'a, R, G> Workers<'r, 'd, 'a, R, G> {
     /// and committed goes on from what the caller has.
     pub fn new(
         rt: &'r R,
-        gate: &'r G,
         alloc: Global,
+        gate: &'r G,
         hints: &'r HintBoard,
         caller: Caller<'d, 'a>,
     ) -> Workers<'r, 'd, 'a, R, G>

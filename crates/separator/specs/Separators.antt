@@ -39,7 +39,7 @@ IsCutEntry (Edited caller edit reply) = ⊥
 IsCutEntry (Pooled index state lengths) = Unit {0}
 
 -- A history that a separator has seen, and the separator's own entries in it. It keeps its limits, and each cut that it pools has
--- lengths that a listed state keeps, differs in state or lengths from all before it, and has their number as its index.
+-- lengths that a state of the case keeps, differs in state or lengths from all before it, and has their number as its index.
 pub record IsSeenHistory (net : Network) (states : States) (history own : List Entry) : Type 0 where
   pub few : length history ≤ 65536
   pub few_cuts : length (cuts_of history) ≤ 4096

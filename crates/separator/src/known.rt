@@ -24,8 +24,7 @@ impl KnownColumns {
         }
     }
 
-    /// The same as `separate_state`, with what is known of the state at hand. What its program ends with is known then; where memory
-    /// runs out, the same is known as before.
+    /// The same as `separate_state`, with what is known of the state at hand. Where memory runs out, the same is known as before.
     pub fn separate_state(
         &mut self,
         alloc: Global,

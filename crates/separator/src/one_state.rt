@@ -42,8 +42,8 @@ fn nearest_set<'a>(
 /// In the triangle AB, BC, AC with 6.00, 1.999 and 10.00 the demands of 12.00 from A to C and of 4.00 from A to B aren't routed: the
 /// links at C have 11.999 together, and the cut has the lengths 0, 1, 1.
 ///
-/// `known` are columns at hand, whatever they are, and become those that the state's routing program ends with; where memory runs out,
-/// they stay as they are.
+/// `known` are columns at hand, whatever they are. Where a routing program is solved, they become those that it ends with, of which
+/// nothing is promised; where memory runs out, they stay as they are.
 ///
 /// It takes the time and memory of `route_state_from`, and time in the cube of the nodes.
 pub fn separate_state(

@@ -42,8 +42,8 @@ pub trait Separate {
         ensures only { All (λ c. c ≡ (cut.state.0, cut.lengths)) (cuts_since (own self.old) (own self.new)) }
         ensures spot { IfOk result (IsSpotIn (history self.new) (cut.state.0, cut.lengths)) };
 
-    /// Asks of each state whether the capacities, one number for each link over a scale, carry the demands there, and puts each cut
-    /// that they violate into the pool. Out of memory, some of the cuts may have been put there all the same.
+    /// Asks of each state whether the capacities, one number for each link over a scale, carry the demands there. Where they don't, one
+    /// cut that they violate is put into the pool, while there is room. Out of memory, some cuts may have been put there all the same.
     fn separate(&mut self, instance: &Instance, caps: &Caps) -> Result<List<StateAnswer>, NoMemory>
         requires net { instance.now.net.now ≡ network self.old }
         requires listed { instance.now.states.now ≡ states self.old }

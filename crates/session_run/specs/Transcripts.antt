@@ -74,7 +74,7 @@ pub record IsSnapshotLeft (p : Case) (entries : List Entry) (snapshot : Snapshot
   pub demands : snapshot.demands ≡ demands_left p entries
   pub pool : IsPoolAfter p entries snapshot.cuts
 
--- a sound plan of the snapshot of the entries before it, made where those after it stand
+-- a sound plan of the snapshot that the entries `before` leave, made by the time that the entries are `after`
 pub record IsPlanBetween (p : Case) (before after : List Entry) (plan : Plan) : Type 0 where
   pub snapshot : Snapshot
   pub left : IsSnapshotLeft p before snapshot
@@ -88,8 +88,8 @@ pub record IsNamedSeparation (p : Case) (entries : List Entry) (state : ℕ) (na
   pub at : slice_get (demands_left p entries) place ≡ Some demand
   pub named : demand.name ≡ name
 
--- The outcome is that of the caller's plan command of this serial: a sound plan of what the entries before it leave, whose worked list
--- stands in the entries after it, or the first separation of the demands there.
+-- The outcome is that of the caller's plan command of this serial: a sound plan of what the entries `before` leave, whose cuts stand in
+-- the entries `after`, those before among them, unless there is no room; or the first separation of the demands that `before` leaves.
 abbrev pub IsOutcomeAfter : Case → List Entry → List Entry → ℕ → ℕ → Outcome → Type 0
 IsOutcomeAfter p before after caller serial (Planned by number plan) =
     (by ≡ caller) × (number ≡ serial) × ∥ IsPlanBetween p before after plan ∥₁
@@ -98,6 +98,7 @@ IsOutcomeAfter p before after caller serial (Unsurvivable by number version posi
 
 -- A caller's acts one after another, none before position `at`: each edit stands in the journal, and each plan command has the
 -- next outcome, at a position between the caller's earlier and its later commands and after the cuts that its earlier plans name.
+-- Here n entries stand before the act; a plan is made by the time that there are m.
 abbrev pub RunsFrom : Case → List Entry → ℕ → ℕ → ℕ → List Act → List Outcome → Type 0
 RunsFrom p entries caller at serial [] [] = at ≤ length entries
 RunsFrom p entries caller at serial [] (o ∷ os) = ⊥
@@ -112,7 +113,7 @@ RunsFrom p entries caller at serial (acts.Plan ∷ rest) (o ∷ os) =
 -- The report is a transcript of the commands, from the opening demands of the case: a legal journal in which each caller's edits
 -- stand once each, in its order, and nothing else but the cuts of the pool; the pool with its right sides at the end; and the
 -- outcomes of each caller's plan commands, by caller and then by serial. Where one plan command is all, and a plan its outcome, that is
--- made before any entry, and the pool is a worked list of no cuts, in its order.
+-- made before any entry, and the pool is a worked list that begins with no known cut, in its order.
 pub record IsTranscript (p : Case) (notes : Notes) (commands : List Command) (r : Report) : Type 0 where
   pub notes_are : r.notes ≡ notes
   pub legal : ∥ IsLegalHistory p r.entries ∥₁

@@ -15,8 +15,7 @@ fn changes(commands: &[Command]) -> usize
     commands.iter().filter(|c| !c.is_plan()).count()
 }
 
-/// The board of the network's opening demands, with memory for as many edits as commands change the demands: at the journal
-/// those of them that set the need of a known demand then don't run out of it.
+/// The board of the network's opening demands, with memory to spare for as many edits as commands change the demands.
 pub fn board_for<'a>(
     alloc: Global,
     net: &'a Network,

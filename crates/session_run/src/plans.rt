@@ -49,7 +49,7 @@ fn plan_beside<'d, 'a, R: Threads + Wait, G: Gate>(
     ensures answer { IfOk result.0 (IsSnapshotAnswer (case setting.now.net.now setting.now.states.now snapshot.demands) snapshot (seen_by caller.entry.pass) (seen_by result.1.pass)) }
     ensures alone { IfOk result.0 (PoolsAlone (case setting.now.net.now setting.now.states.now snapshot.demands) (seen_by caller.entry.pass) (seen_by result.1.pass) (own_items result.1.pass)) }
 {
-    let mut separator = Workers::new(rt, gate, setting.alloc, setting.hints, caller);
+    let mut separator = Workers::new(rt, setting.alloc, gate, setting.hints, caller);
     let answer = plan_snapshot(
         setting.alloc,
         setting.net,

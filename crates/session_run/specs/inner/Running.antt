@@ -40,12 +40,12 @@ pub record HaveRun (p : Case) (seen own : List Entry) (commands : List Command) 
   pub none : commands ≡ [] → own ≡ []
   pub alone : IsOnePlan commands → seen ≡ own → All IsPlanned outcomes → All (λ o. position_of o ≡ 0) outcomes × ∥ IsWorkedPool p seen ∥₁
 
--- What running these commands comes to: they have run, or their callers have stopped. There are few own entries beside pooled cuts, and they
--- stop for want of room only where the history has 65,536 entries.
+-- a caller stops for want of room only where the history has 65,536 entries
 abbrev pub IsFullAt : List Entry → Stop → Type 0
 IsFullAt seen NoMemory = Unit {0}
 IsFullAt seen Full = 65536 ≤ length seen
 
+-- What running these commands comes to: they have run, or their callers have stopped, with few own entries beside pooled cuts.
 abbrev pub EndsRun : {A : Type 0} → Case → List Command → List Entry → List Entry → Result (Vec Outcome A) Stop → Type 0
 EndsRun p commands seen own (Ok outcomes) = HaveRun p seen own commands outcomes.items
 EndsRun p commands seen own (Err stop) = (length own ≤ length commands + length (cuts_of own)) × IsFullAt seen stop
