@@ -12,7 +12,7 @@ import re
 import sys
 
 WORD = re.compile(r"[^\s(){}\[\],;]+")
-HEAD = re.compile(r"(?:pub )?(?:abbrev|unfoldable|opaque|record|data) (?:pub )?(\S+)(?=\s|$)")
+HEAD = re.compile(r"(?:pub )?(?:abbrev|unfoldable|opaque|record|data) (?:pub )?(?!\{)(\S+)(?=\s|$)")
 
 
 def imports(lines, prefix):
