@@ -34,7 +34,7 @@ fn told(status: Status, text: Result<Bytes, NoMemory>) -> Stop
     }
 }
 
-/// A line: a front, a name, and the end of the line.
+/// A line: its beginning, a name, and the end of the line.
 fn name_line(alloc: Global, front: &[u8], name: &[u8]) -> Result<Bytes, NoMemory>
     ensures { IfOk result (λ text. text ≡ front.now ++ name.now ++ 10 ∷ []) }
 {
@@ -45,7 +45,7 @@ fn name_line(alloc: Global, front: &[u8], name: &[u8]) -> Result<Bytes, NoMemory
     Ok(text)
 }
 
-/// The end of a run at a file that isn't there or is too long: a line of this front and the file's name.
+/// The end of a run at a file that isn't there or is too long: a line of this beginning and the file's name.
 pub fn not_fetched(alloc: Global, status: Status, front: &[u8], name: &str) -> Stop
     requires { status ≢ Status.ReadFault }
     ensures { Stops (Says status (front.now ++ name.now ++ 10 ∷ [])) result }

@@ -111,7 +111,13 @@ fn answer_words<Rt: Threads + Wait + Sync, S: Shelf, G: Gate + Sync>(
 }
 
 /// Carries out the command that the words give: reads its files from the shelf, and writes its text to the sink. Nothing is
-/// written where reading failed or memory ran out.
+/// written where reading failed or memory ran out. It may never return, since callers wait for each other.
+///
+/// ```text
+/// let mut shelf = MemShelf::new(files, List::new(alloc));                 // with the triangle's network under the name t.txt
+/// let status = run(&rt, alloc, &words, &mut shelf, &mut out, &OpenGate);  // the words are plan t.txt
+/// // Done, and `out` has taken the report; for a network that isn't there NoFile, and a line with its name
+/// ```
 pub fn run<Rt: Threads + Wait + Sync, S: Shelf, K: Sink, G: Gate + Sync>(
     rt: &Rt,
     alloc: Global,

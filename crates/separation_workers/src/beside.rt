@@ -11,6 +11,9 @@ use separator::separate_state;
 use std::thread;
 use std::thread::Threads;
 
+/// So many threads work for a caller beside its own.
+const HELPERS: u32 = 3;
+
 /// Routes a state with what is known of it. Where another worker has that in hand, it is routed without.
 fn route(round: &Round, state: StateId) -> Result<RouteAnswer, NoMemory>
     requires { state.0 < length round.now.instance.states.now.listed + 1 }
@@ -73,7 +76,7 @@ fn find_some<G: Gate>(gate: &G, round: &Round) -> Result<Vec<StateFound>, NoMemo
 
 /// What this thread and so many helpers find, each on a thread of its own. A worker takes the next state that nobody has taken, so
 /// that one slow state holds nobody up. Where a thread can't be started, its work is done by this one.
-pub fn find_beside<R: Threads, G: Gate + Sync>(
+fn find_beside<R: Threads, G: Gate + Sync>(
     rt: &R,
     gate: &G,
     round: &Round,
@@ -113,7 +116,7 @@ fn place(round: &Round, places: &mut [Option<StateFound>], found: StateFound)
 }
 
 /// What is found, each at the place of its state.
-pub fn by_state(round: &Round, found: Vec<StateFound>) -> Result<List<Option<StateFound>>, NoMemory>
+fn by_state(round: &Round, found: Vec<StateFound>) -> Result<List<Option<StateFound>>, NoMemory>
     requires { All (IsStateFound round.now) found.items }
     ensures { IfOk result (AreFound round.now) }
 {
@@ -126,4 +129,16 @@ pub fn by_state(round: &Round, found: Vec<StateFound>) -> Result<List<Option<Sta
         place(round, places.as_mut_slice(), one);
     }
     Ok(List::from_vec(places))
+}
+
+/// What the workers of a round find, each at the place of its state. The gate hears of a state on the thread that works on it.
+pub fn find_states<R: Threads, G: Gate + Sync>(
+    rt: &R,
+    gate: &G,
+    round: &Round,
+) -> Result<List<Option<StateFound>>, NoMemory>
+    ensures { IfOk result (AreFound round.now) }
+{
+    let helpers = HELPERS.min(round.instance.states.count() - 1);
+    by_state(round, find_beside(rt, gate, round, helpers)?)
 }

@@ -5,7 +5,7 @@ ghost use Rattle.turn_lock.specs.Passes.{IsPassOf, opening_of, own_places, own_u
 ghost use Rattle.board_desk.specs.Turns.{AreAtOneDesk, IsAtDesk, board_made};
 
 use crate::Workers;
-use crate::beside::find_beside;
+use crate::beside::find_states;
 use crate::hints::post;
 use crate::round::Round;
 use board_desk::Caller;
@@ -327,7 +327,7 @@ impl Gate for OneBehindTwo {
     }
 }
 
-/// How many states two workers tell of, whom the gate may hold.
+/// Of how many states the workers of a round tell, whom the gate may hold.
 fn told<R: Threads, G: Gate + Sync>(
     rt: &R,
     alloc: Global,
@@ -355,7 +355,14 @@ fn told<R: Threads, G: Gate + Sync>(
                 columns: &[],
                 next: AtomicU32::new(0),
             };
-            Ok(find_beside(rt, gate, &round, 1)?.len())
+            let places = find_states(rt, gate, &round)?;
+            Ok(
+                places
+                    .items()
+                    .iter()
+                    .filter(|place| place.is_some())
+                    .count(),
+            )
         }
     }
 }

@@ -11,7 +11,7 @@ ghost use Rattle.separation_workers.specs.inner.Rounds.{AreFound, IsFoundOf, IsS
 ghost use Rattle.separation_workers.specs.Places.{units_in};
 ghost use Rattle.separation_workers.specs.TurnTakers.{IsSameCaller, desk_network, desk_states, history_seen, own_entries};
 
-use crate::beside::{by_state, find_beside, find_state};
+use crate::beside::{find_state, find_states};
 use crate::hints::post;
 use crate::round::{Round, StateColumns, StateFound};
 use crate::turn_taker::TurnTaker;
@@ -38,9 +38,6 @@ pub struct DeskMark<'a> {
     /// The units of its pass.
     pub units: u64,
 }
-
-/// So many threads work for a caller beside its own.
-const HELPERS: u32 = 3;
 
 /// A separator for a caller at a desk, by up to four workers. They separate the states of a round beside each other, and the caller then
 /// puts their cuts into the pool, in the order of the states and in a turn for each, so that other callers edit and plan meanwhile. It
@@ -222,8 +219,7 @@ fn answer_round<R: Threads + Wait, G: Gate>(
     for state in 0..states {
         gate.before(round.caller, state);
     }
-    let found = find_beside(rt, &OpenGate, round, HELPERS.min(states - 1))?;
-    let mut places = by_state(round, found)?;
+    let mut places = find_states(rt, &OpenGate, round)?;
     answer_states(rt, gate, round, places.items_mut(), taker)
 }
 

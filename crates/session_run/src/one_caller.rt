@@ -18,7 +18,7 @@ use session_script::{Act, Command};
 use std::sync::Wait;
 use std::thread::Threads;
 
-/// Keeps the outcome of a plan command behind the earlier ones.
+/// Keeps the outcome of a plan command after the earlier ones.
 fn keep(outcome: Result<Outcome, NoMemory>, outcomes: &mut Vec<Outcome>) -> Result<(), Stop>
     ensures { Keeps outcome outcomes.old.items outcomes.new.items result }
 {

@@ -23,7 +23,7 @@ use std::sync::Wait;
 use std::thread::Threads;
 use turn_lock::Desk;
 
-/// Callers stop for want of memory alone.
+/// Callers stop where memory runs out, and for no other reason.
 fn no_memory(stop: Stop) -> NoMemory
     requires { stop ≢ Stop.Full }
 {

@@ -40,7 +40,7 @@ pub record HaveRun (p : Case) (seen own : List Entry) (commands : List Command) 
   pub none : commands ≡ [] → own ≡ []
   pub alone : IsOnePlan commands → seen ≡ own → All IsPlanned outcomes → All (λ o. position_of o ≡ 0) outcomes × ∥ IsWorkedPool p seen ∥₁
 
--- a caller stops for want of room only where the history has 65,536 entries
+-- a caller finds no room only where the history has 65,536 entries
 abbrev pub IsFullAt : List Entry → Stop → Type 0
 IsFullAt seen NoMemory = Unit {0}
 IsFullAt seen Full = 65536 ≤ length seen
@@ -59,7 +59,7 @@ pub record CanRun (setting : Setting) (caller : Caller) : Type 0 where
   pub few : length setting.commands.now ≤ 1000
   pub form : All IsCommandInForm setting.commands.now
 
--- the outcomes of two groups, one after another; or a reason why one of them stopped, or want of memory
+-- the outcomes of two groups, one after another; or a reason why one of them stopped, or that memory ran out
 abbrev pub AreBoth : {A : Type 0} → Result (Vec Outcome A) Stop → Result (Vec Outcome A) Stop → Result (Vec Outcome A) Stop → Type 0
 AreBoth (Ok one) (Ok two) (Ok all) = all.items ≡ one.items ++ two.items
 AreBoth (Ok one) (Ok two) (Err stop) = stop ≡ NoMemory
