@@ -15,8 +15,8 @@ abbrev pub failures_header : List ℕ
 failures_header = codes "?planner failures; version: 1"
 
 -- a link's name
-abbrev pub link_name : List Link → LinkId → List ℕ
-link_name links e = option_map_or (λ l. l.name) (slice_get links e.0) []
+abbrev pub failing_link_name : List Link → LinkId → List ℕ
+failing_link_name links e = option_map_or (λ l. l.name) (slice_get links e.0) []
 
 -- the state of this name, which fails the one link of this place
 abbrev pub single : ℕ → List ℕ → Listed
@@ -38,7 +38,7 @@ states_of links EachAlone = single_states links
 
 -- a state's name, and its links between parentheses
 abbrev pub state_items : List Link → Listed → List Item
-state_items links s = Verbatim s.name ∷ Opening ∷ (flat_map (λ e. Verbatim (link_name links e) ∷ []) s.links ++ Closing ∷ [])
+state_items links s = Verbatim s.name ∷ Opening ∷ (flat_map (λ e. Verbatim (failing_link_name links e) ∷ []) s.links ++ Closing ∷ [])
 
 -- all states between parentheses, or one word
 abbrev pub list_items : List Link → FailureList → List Item
@@ -47,7 +47,7 @@ list_items links EachAlone = Verbatim (codes "ALL_SINGLE_LINKS") ∷ []
 
 -- a state's name and those of its links have at most 255 bytes
 abbrev pub IsShort : List Link → Listed → Type 0
-IsShort links s = (length s.name ≤ 255) × All (λ e. length (link_name links e) ≤ 255) s.links
+IsShort links s = (length s.name ≤ 255) × All (λ e. length (failing_link_name links e) ≤ 255) s.links
 
 -- states of the network, whose names aren't too long
 abbrev pub IsListInForm : List Link → FailureList → Type 0

@@ -15,7 +15,7 @@ use Rattle.plan_types.specs.declared.report.Outcome.TheVariants.{Planned, Unsurv
 use Rattle.plan_types.specs.declared.report.Report.{Report}
 use Rattle.cut_pool.specs.Histories.{Dated, demands_left, left_by}
 use Rattle.session_script.specs.declared.script.Act.TheVariants as acts
-use Rattle.session_run.specs.Transcripts.{IsOutcomeAfter, IsTranscript, RunsFrom, acts_of, caller_of, edit_asked, edit_made, outcomes_of}
+use Rattle.session_run.specs.Transcripts.{IsOutcomeAfter, IsTranscript, RunsFrom, acts_of, outcome_caller, edit_asked, edit_made, outcomes_of}
 use Rattle.acceptance.proofs.Transcripts.{transcript_accepted}
 use Rattle.plan_report.specs.Names.{state_name}
 use Rattle.plan_report.specs.Texts.{report_text}
@@ -60,23 +60,23 @@ module _ (p : Case) (es : List Entry) where
   idle caller [] other run = refl
   idle caller (o ∷ os) other run = absurd (subst (λ asked. RunsFrom p es caller 0 1 asked (o ∷ os)) (none_else caller other) run)
 
-  first_kept : (caller : ℕ) (o : Outcome) (os : List Outcome) → caller_of o ≡ caller → outcomes_of caller (o ∷ os) ≡ o ∷ outcomes_of caller os
-  first_kept caller o os is = ap (λ b. cond b (o ∷ outcomes_of caller os) (outcomes_of caller os)) (eq-eqb (caller_of o) caller is)
+  first_kept : (caller : ℕ) (o : Outcome) (os : List Outcome) → outcome_caller o ≡ caller → outcomes_of caller (o ∷ os) ≡ o ∷ outcomes_of caller os
+  first_kept caller o os is = ap (λ b. cond b (o ∷ outcomes_of caller os) (outcomes_of caller os)) (eq-eqb (outcome_caller o) caller is)
 
-  first_left : (caller : ℕ) (o : Outcome) (os : List Outcome) → caller_of o ≢ caller → outcomes_of caller (o ∷ os) ≡ outcomes_of caller os
-  first_left caller o os other = ap (λ b. cond b (o ∷ outcomes_of caller os) (outcomes_of caller os)) (ne_eqb (caller_of o) caller other)
+  first_left : (caller : ℕ) (o : Outcome) (os : List Outcome) → outcome_caller o ≢ caller → outcomes_of caller (o ∷ os) ≡ outcomes_of caller os
+  first_left caller o os other = ap (λ b. cond b (o ∷ outcomes_of caller os) (outcomes_of caller os)) (ne_eqb (outcome_caller o) caller other)
 
   abbrev AllRun : List Outcome → Type 0
   AllRun os = (caller : ℕ) → RunsFrom p es caller 0 1 (acts_of caller plan_commands) (outcomes_of caller os)
 
   -- each outcome is of caller 1
-  of_first : (o : Outcome) (os : List Outcome) → AllRun (o ∷ os) → caller_of o ≡ 1
+  of_first : (o : Outcome) (os : List Outcome) → AllRun (o ∷ os) → outcome_caller o ≡ 1
   of_first o os runs = ⊎_elim
       (λ is. is)
       (λ other.
-      let caller = caller_of o in
+      let caller = outcome_caller o in
       absurd (not_nothing o (outcomes_of caller os) (sym (first_kept caller o os refl) ∙ idle caller (outcomes_of caller (o ∷ os)) (λ same. other (sym same)) (runs caller))))
-      (cases_eq (caller_of o) 1)
+      (cases_eq (outcome_caller o) 1)
 
   -- what follows the outcome of caller 1 is no outcome of caller 1
   rest_of : (at serial : ℕ) (os : List Outcome) → RunsFrom p es 1 at serial [] os → os ≡ []
@@ -84,14 +84,14 @@ module _ (p : Case) (es : List Entry) where
   rest_of at serial (o ∷ os) run = absurd run
 
   -- and none of another
-  no_rest : (o : Outcome) (os : List Outcome) → AllRun (o ∷ os) → caller_of o ≡ 1 → outcomes_of 1 os ≡ [] → os ≡ []
+  no_rest : (o : Outcome) (os : List Outcome) → AllRun (o ∷ os) → outcome_caller o ≡ 1 → outcomes_of 1 os ≡ [] → os ≡ []
   no_rest o [] runs one none = refl
   no_rest o (q ∷ os) runs one none = ⊎_elim
       (λ is. absurd (not_nothing q (outcomes_of 1 os) (sym (first_kept 1 q os is) ∙ none)))
       (λ other.
-      let caller = caller_of q in
+      let caller = outcome_caller q in
       absurd (not_nothing q (outcomes_of caller os) (sym (first_left caller o (q ∷ os) (λ same. other (sym same ∙ one)) ∙ first_kept caller q os refl) ∙ idle caller (outcomes_of caller (o ∷ q ∷ os)) (λ same. other (sym same)) (runs caller))))
-      (cases_eq (caller_of q) 1)
+      (cases_eq (outcome_caller q) 1)
 
   -- there is one outcome
   pub alone : (os : List Outcome) → AllRun os → (o : Outcome) × (os ≡ o ∷ []) × IsAlone o

@@ -20,7 +20,7 @@ use Rattle.plan_report.specs.Items.{entry_items, event_items, note_items, notes_
 use Rattle.text_kit.specs.Edits.{IsEditInForm, edit_items, ends_items}
 use Rattle.report_words.specs.declared.fault.ReportKind.TheVariants.{Token}
 use Rattle.report_words.specs.ReportWords.{closing_at, has_room}
-use Rattle.report_reader.specs.ReadingJournal.{edit_branches, event_branches, notes_branches, reply_branches, routing_note_branches, setup_note_branches, accepted_at, add_at, drop_at, edit_at, edited_at, entries_at, entry_at, event_at, noted, notes_at, notes_end_at, pool_at, pool_line_at, pooled_at, reply_at, routing_note_at, set_at, setup_note_at, too_much_at, two_names_at}
+use Rattle.report_reader.specs.ReadingJournal.{edit_branches, event_branches, notes_branches, reply_branches, routing_note_branches, setup_note_branches, accepted_at, add_at, drop_at, edit_at, edited_at, entries_at, journal_entry_at, event_at, noted, notes_at, notes_end_at, pool_at, pool_line_at, pooled_at, reply_at, routing_note_at, set_at, setup_note_at, too_much_at, two_names_at}
 use Rattle.report_words.proofs.BranchLaws.{branches_law, either_form, lawful_branch, lawful_closed, lawful_no_branch}
 use Rattle.report_words.proofs.ListLaws.{few_rooms, lawful_placed, numbered_items, rooms_few}
 use Rattle.report_words.proofs.Making.{MadeOf, law_made, made_give, made_last, made_law, made_then}
@@ -192,9 +192,9 @@ event_law = branches_law true (Err Token) event_branches event_items _ IsPlain
     (made_last _ (λ (index : ℕ). Pooled index (record { 0 = 0 }) []) _ _ (number_law 0 4096))
     (lawful_no_branch true Token event_items)))
 
-entry_law : (sofar : List Entry) → Lawful (entry_at sofar) (λ e. entry_items (length sofar + 1, e)) (λ e. (has_room 65536 sofar ≡ true) × IsPlain e) AnyText
-unfolding entry_at
-entry_law sofar = law_made (entry_at sofar) _ _ _ (λ e. entry_items (length sofar + 1, e)) (λ e. (has_room 65536 sofar ≡ true) × IsPlain e)
+entry_law : (sofar : List Entry) → Lawful (journal_entry_at sofar) (λ e. entry_items (length sofar + 1, e)) (λ e. (has_room 65536 sofar ≡ true) × IsPlain e) AnyText
+unfolding journal_entry_at
+entry_law sofar = law_made (journal_entry_at sofar) _ _ _ (λ e. entry_items (length sofar + 1, e)) (λ e. (has_room 65536 sofar ≡ true) × IsPlain e)
     (λ q h. (h.0, h.1.1.0))
     (λ q h. refl)
     (λ e h. record { parts = (tt, (tt, (e, tt))); right = (h.0, (tt, (h.1, tt))); gives = refl })
@@ -208,7 +208,7 @@ entries_law = lawful_as entries_at _ (λ es. flat_map entry_items (numbered_from
     (λ es h. ap (λ (is : List Item). is ++ Closing ∷ []) (numbered_items (λ k e. entry_items (k + 1, e)) entry_items 1 (λ k e. refl) 0 1 es (omega arith)))
     (λ es h. rooms_few 65536 IsPlain es h.1)
     (λ es h. (refl, few_rooms 65536 IsPlain es h.0 h.1))
-    (lawful_placed (λ k e. entry_items (k + 1, e)) (λ sofar e. (has_room 65536 sofar ≡ true) × IsPlain e) no_fault entry_at (λ k e. tt) entry_law)
+    (lawful_placed (λ k e. entry_items (k + 1, e)) (λ sofar e. (has_room 65536 sofar ≡ true) × IsPlain e) no_fault journal_entry_at (λ k e. tt) entry_law)
 
 -- ---- the pool
 

@@ -12,7 +12,7 @@ use Rattle.text_kit.proofs.Online.{IsOnline, TakesSome, online_close, online_giv
 use Rattle.report_words.specs.declared.fault.ReportKind.TheVariants.{Section, Token, Ended}
 use Rattle.report_reader.specs.declared.parts.Head.{Head}
 use Rattle.report_words.specs.ReportWords.{has_room}
-use Rattle.report_reader.specs.ReadingJournal.{accepted_at, add_at, drop_at, edit_at, edited_at, entries_at, entry_at, event_at, notes_at, notes_end_at, pool_at, pool_line_at, pooled_at, reply_at, routing_note_at, set_at, setup_note_at, too_much_at, two_names_at, edit_branches, event_branches, noted, notes_branches, reply_branches, routing_note_branches, setup_note_branches}
+use Rattle.report_reader.specs.ReadingJournal.{accepted_at, add_at, drop_at, edit_at, edited_at, entries_at, journal_entry_at, event_at, notes_at, notes_end_at, pool_at, pool_line_at, pooled_at, reply_at, routing_note_at, set_at, setup_note_at, too_much_at, two_names_at, edit_branches, event_branches, noted, notes_branches, reply_branches, routing_note_branches, setup_note_branches}
 use Rattle.report_reader.specs.ReadingPlan.{plan_at, values_at}
 use Rattle.report_reader.specs.ReadingReport.{head_at, outcome_at, outcome_branches, outcomes_at, planned_at, report_at, section_at, sections_at, unsurvivable_at}
 use Rattle.report_words.proofs.Branching.{online_branch}
@@ -104,8 +104,8 @@ pooled_online =
 pub event_online : IsOnline event_at
 event_online = online_branch true (Err Token) event_branches (edited_online, (pooled_online, tt))
 
-pub entry_online : (sofar : List Entry) → IsOnline (entry_at sofar)
-unfolding entry_at
+pub entry_online : (sofar : List Entry) → IsOnline (journal_entry_at sofar)
+unfolding journal_entry_at
 entry_online sofar =
     online_then _ _ (opening_within_online (has_room 65536 sofar)) (λ x.
     online_then _ _ (online_word Token Ended _) (λ x.
@@ -113,12 +113,12 @@ entry_online sofar =
     online_then _ _ (online_close Token Ended) (λ x.
     online_give _))))
 
-pub entry_some : (sofar : List Entry) → TakesSome (entry_at sofar)
-unfolding entry_at
-entry_some sofar = takes_some (entry_at sofar) (entry_online sofar) (λ p. Ended) (λ p. refl)
+pub entry_some : (sofar : List Entry) → TakesSome (journal_entry_at sofar)
+unfolding journal_entry_at
+entry_some sofar = takes_some (journal_entry_at sofar) (entry_online sofar) (λ p. Ended) (λ p. refl)
 
 pub entries_online : IsOnline entries_at
-entries_online = online_list Parenthesis no_fault entry_at entry_online entry_some []
+entries_online = online_list Parenthesis no_fault journal_entry_at entry_online entry_some []
 
 pub pool_line_online : (links : List Link) (listed : List Listed) (sofar : List CutLine) → IsOnline (pool_line_at links listed sofar)
 unfolding pool_line_at

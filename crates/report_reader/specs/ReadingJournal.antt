@@ -117,8 +117,8 @@ abbrev pub event_at : Reading ReportKind Entry
 event_at = branch_at event_branches
 
 -- an entry after earlier ones
-unfoldable pub entry_at : List Entry → Reading ReportKind Entry
-entry_at sofar = do
+unfoldable pub journal_entry_at : List Entry → Reading ReportKind Entry
+journal_entry_at sofar = do
   _ ← opening_within (has_room 65536 sofar)
   _ ← this_number_at (length sofar + 1)
   event ← event_at
@@ -126,7 +126,7 @@ entry_at sofar = do
   give event
 
 abbrev pub entries_at : Reading ReportKind (List Entry)
-entries_at = list_at Parenthesis no_fault entry_at []
+entries_at = list_at Parenthesis no_fault journal_entry_at []
 
 -- ---- the pool
 

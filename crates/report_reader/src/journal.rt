@@ -1,7 +1,7 @@
 ghost use Rattle.std.specs.Prelude.{◌≡◌};
 ghost use Rattle.snd_tokens.specs.Lexemes.{left};
 ghost use Rattle.text_kit.specs.Answers.{ReadsAs};
-ghost use Rattle.report_reader.specs.ReadingJournal.{edited_at, entries_at, entry_at, event_at, pooled_at};
+ghost use Rattle.report_reader.specs.ReadingJournal.{edited_at, entries_at, journal_entry_at, event_at, pooled_at};
 
 use crate::edit::{edit, reply};
 use net_core::{Entry, List, StateId};
@@ -66,9 +66,9 @@ fn event(alloc: Global, text: &mut Cursor) -> Result<Entry, ReportRefusal>
 }
 
 /// Takes an entry after these ones.
-#[tactic(auto, unfolding(crate::specs::ReadingJournal::entry_at))]
+#[tactic(auto, unfolding(crate::specs::ReadingJournal::journal_entry_at))]
 fn entry(alloc: Global, sofar: &[Entry], text: &mut Cursor) -> Result<Entry, ReportRefusal>
-    ensures { ReadsAs (λ e. e) result (left text.new) (entry_at sofar.now (left text.old)) }
+    ensures { ReadsAs (λ e. e) result (left text.new) (journal_entry_at sofar.now (left text.old)) }
 {
     opening_within(sofar.len() < MAX_ENTRIES, text)?;
     this(sofar.len() as u64 + 1, text)?;
@@ -83,11 +83,11 @@ struct EntryList;
 
 impl Element for EntryList {
     ghost use Rattle.text_kit.specs.Reading.{no_fault};
-    ghost use Rattle.report_reader.specs.ReadingJournal.{entry_at};
+    ghost use Rattle.report_reader.specs.ReadingJournal.{journal_entry_at};
 
     type Item = Entry;
 
-    ghost reading = { λ _. entry_at };
+    ghost reading = { λ _. journal_entry_at };
 
     ghost fault = { λ _. no_fault };
 

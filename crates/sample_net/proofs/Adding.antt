@@ -10,7 +10,7 @@ use Rattle.text_kit.specs.Items.{Item, Verbatim, Opening, Closing}
 use Rattle.text_kit.specs.Written.{last_digit, money_word, written}
 use Rattle.text_kit.proofs.Numerals.{money_plain}
 use Rattle.text_kit.proofs.Written.{written_both}
-use Rattle.sndlib_reader.specs.Paths.{section}
+use Rattle.sndlib_reader.specs.Paths.{section_items}
 use Rattle.sample_net.specs.inner.Adds.{AddsItems, IsShortItem}
 
 -- an amount's word is as short as a name
@@ -62,5 +62,5 @@ adds_all {X} before f xs k {a} {b} le p = subst (λ (ys : List X). AddsItems a (
 
 -- a section whose elements have all been added, and the parenthesis that closes it
 pub adds_section : {X E Y : Type 0} (word : List ℕ) (f : X → List Item) (xs : List X) (k : ℕ) (r : Result Y E) {a b : List ℕ} (c : List ℕ) → length xs ≤ k
-    → AddsItems a (Verbatim word ∷ Opening ∷ flat_map f (take k xs)) b → OnOk r (AddsItems b (Closing ∷ []) c) → OnOk r (AddsItems a (section word (flat_map f xs)) c)
+    → AddsItems a (Verbatim word ∷ Opening ∷ flat_map f (take k xs)) b → OnOk r (AddsItems b (Closing ∷ []) c) → OnOk r (AddsItems a (section_items word (flat_map f xs)) c)
 adds_section word f xs k r c le p closed = on_ok r (λ q. adds_then (adds_all (Verbatim word ∷ Opening ∷ []) f xs k le p) q) closed

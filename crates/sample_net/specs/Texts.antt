@@ -5,8 +5,8 @@ use Rattle.net_core.specs.declared.demand.Demand.{Demand}
 use Rattle.net_core.specs.declared.network.Link.{Link}
 use Rattle.net_core.specs.declared.network.Network.{Network}
 use Rattle.sndlib_reader.specs.declared.costs.CostedLink.{CostedLink}
-use Rattle.sndlib_reader.specs.Paths.{section}
-use Rattle.sndlib_reader.specs.Spelling.{ends_items, header, link_items}
+use Rattle.sndlib_reader.specs.Paths.{section_items}
+use Rattle.sndlib_reader.specs.Spelling.{node_pair_items, header, link_items}
 use Rattle.text_kit.specs.Items.{Item, Verbatim}
 use Rattle.text_kit.specs.Written.{money_word, written}
 
@@ -27,13 +27,13 @@ costless_items nodes l = link_items nodes (costless l)
 -- a demand of one unit, on paths of any length: its name, its ends, the unit and its need
 abbrev pub unit_demand_items : List (List ℕ) → Demand → List Item
 unit_demand_items nodes d =
-    Verbatim d.name ∷ ends_items nodes d.from d.to ++ Verbatim (codes "1") ∷ Verbatim (money_word d.need) ∷ Verbatim (codes "UNLIMITED") ∷ []
+    Verbatim d.name ∷ node_pair_items nodes d.from d.to ++ Verbatim (codes "1") ∷ Verbatim (money_word d.need) ∷ Verbatim (codes "UNLIMITED") ∷ []
 
 -- the sections of nodes, links and demands
 abbrev pub network_items : List (List ℕ) → List Link → List Demand → List Item
 network_items nodes links demands =
-    section (codes "NODES") (flat_map (λ n. Verbatim n ∷ []) nodes)
-    ++ (section (codes "LINKS") (flat_map (costless_items nodes) links) ++ section (codes "DEMANDS") (flat_map (unit_demand_items nodes) demands))
+    section_items (codes "NODES") (flat_map (λ n. Verbatim n ∷ []) nodes)
+    ++ (section_items (codes "LINKS") (flat_map (costless_items nodes) links) ++ section_items (codes "DEMANDS") (flat_map (unit_demand_items nodes) demands))
 
 -- the text of a network: the first line, and after it the sections as they are written
 abbrev pub network_text : Network → List Demand → List ℕ

@@ -6,7 +6,7 @@ use Rattle.std.proofs.lemmas.List.Elements.{filter_agree}
 use Rattle.std.specs.List.Sorted.{ties, IsStableByKey}
 use Rattle.plan_types.specs.declared.report.Outcome.{Outcome}
 use Rattle.plan_types.specs.declared.report.Outcome.TheVariants.{Unsurvivable}
-use Rattle.session_run.specs.Transcripts.{caller_of, outcomes_of}
+use Rattle.session_run.specs.Transcripts.{outcome_caller, outcomes_of}
 
 -- what is written back to the whole of a list
 pub written_whole : {X : Type 0} (xs ys : List X) → length ys ≡ length xs → take (length xs) (ys ++ drop (length ys) xs) ≡ ys
@@ -15,11 +15,11 @@ written_whole xs ys same = ap (λ n. take n (ys ++ drop (length ys) xs)) (sym sa
 ties_at : (m n : ℕ) → ties (λ x y. is_lt (nat_cmp x y)) m n ≡ (n == m)
 ties_at m n = grind (arith, nat_tests)
 
-pub stays_same : (xs ys : List Outcome) → IsStableByKey caller_of nat_cmp xs ys → (caller : ℕ) → outcomes_of caller ys ≡ outcomes_of caller xs
+pub stays_same : (xs ys : List Outcome) → IsStableByKey outcome_caller nat_cmp xs ys → (caller : ℕ) → outcomes_of caller ys ≡ outcomes_of caller xs
 stays_same xs ys stable caller =
     let some : Outcome = Unsurvivable caller 0 0 0 (record { 0 = 0 }) [] in
-    let test : (o : Outcome) → (caller_of o == caller) ≡ ties (λ x y. is_lt (nat_cmp (caller_of x) (caller_of y))) some o =
-    λ o. sym (ties_at caller (caller_of o)) in
-    filter_agree (λ o. caller_of o == caller) (ties (λ x y. is_lt (nat_cmp (caller_of x) (caller_of y))) some) test ys
+    let test : (o : Outcome) → (outcome_caller o == caller) ≡ ties (λ x y. is_lt (nat_cmp (outcome_caller x) (outcome_caller y))) some o =
+    λ o. sym (ties_at caller (outcome_caller o)) in
+    filter_agree (λ o. outcome_caller o == caller) (ties (λ x y. is_lt (nat_cmp (outcome_caller x) (outcome_caller y))) some) test ys
     ∙ stable some
-    ∙ sym (filter_agree (λ o. caller_of o == caller) (ties (λ x y. is_lt (nat_cmp (caller_of x) (caller_of y))) some) test xs)
+    ∙ sym (filter_agree (λ o. outcome_caller o == caller) (ties (λ x y. is_lt (nat_cmp (outcome_caller x) (outcome_caller y))) some) test xs)

@@ -16,7 +16,7 @@ use Rattle.turn_lock.proofs.Places.{prefix_le, wider}
 use Rattle.board_desk.specs.declared.caller.Caller.{Caller}
 use Rattle.separation_workers.specs.Places.{items_at, own_items}
 use Rattle.separation_workers.proofs.Places.{items_front}
-use Rattle.session_run.specs.Transcripts.{RunsFrom, acts_of, caller_of, edit_asked, edit_made, outcomes_of}
+use Rattle.session_run.specs.Transcripts.{RunsFrom, acts_of, outcome_caller, edit_asked, edit_made, outcomes_of}
 use Rattle.session_run.specs.inner.Running.{AreBoth, EndsRun, HaveRun, IsEntryOfCaller, IsFullAt, commands_of, is_of}
 use Rattle.session_run.specs.declared.setting.Stop.{Stop}
 use Rattle.session_run.specs.declared.setting.Stop.TheVariants.{NoMemory, Full}
@@ -73,7 +73,7 @@ module _ (p : Case) (one two all : List Command) (dealt : IsDealt one two all) (
         (dealt.acts caller)
 
     outcomes_both : (caller : ℕ) → outcomes_of caller (o1 ++ o2) ≡ outcomes_of caller o1 ++ outcomes_of caller o2
-    outcomes_both caller = filter-append (λ o. caller_of o == caller) o1 o2
+    outcomes_both caller = filter-append (λ o. outcome_caller o == caller) o1 o2
 
     runs_both : (caller : ℕ) → RunsFrom p h caller 0 1 (acts_of caller all) (outcomes_of caller (o1 ++ o2))
     runs_both caller = ⊎_elim

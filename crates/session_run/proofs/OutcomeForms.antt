@@ -21,7 +21,7 @@ use Rattle.session_script.specs.declared.script.Command.{Command}
 use Rattle.session_script.specs.Scripts.{IsCommandInForm, IsScript}
 use Rattle.separator.specs.Separators.{IsSpotIn}
 use Rattle.planner.proofs.Histories.{cuts_both, get_front, version_few}
-use Rattle.session_run.specs.Transcripts.{IsOutcomeAfter, RunsFrom, acts_of, caller_of, outcomes_of}
+use Rattle.session_run.specs.Transcripts.{IsOutcomeAfter, RunsFrom, acts_of, outcome_caller, outcomes_of}
 use Rattle.session_run.specs.inner.Ranges.{IsShortNamed}
 use Rattle.session_run.specs.inner.Running.{HaveRun}
 use Rattle.session_run.proofs.FormProps.{outcome_prop}
@@ -118,17 +118,17 @@ module _ (p : Case) (es : List Entry) (lines : List CutLine) (few : length es �
     few_of caller =
         let count = h.count in
         let plans = script.plans in
-        omega (arith, count, plans, length-filter (λ (o : Outcome). caller_of o == caller) outcomes, count_by-le-length (λ (o : Outcome). caller_of o == caller) outcomes)
+        omega (arith, count, plans, length-filter (λ (o : Outcome). outcome_caller o == caller) outcomes, count_by-le-length (λ (o : Outcome). outcome_caller o == caller) outcomes)
 
     caller_form : (caller : ℕ) → All InForm (outcomes_of caller outcomes)
     caller_form caller = ⊎_elim
         (λ (none : acts_of caller commands ≡ []). none_form caller (outcomes_of caller outcomes) (subst (λ acts. RunsFrom p es caller 0 1 acts (outcomes_of caller outcomes)) none (h.runs caller)))
         (λ (known : (1 ≤ caller) × (caller ≤ 8)).
         run_form caller known.0 known.1 0 1 (acts_of caller commands) (outcomes_of caller outcomes) (h.runs caller) (omega arith) (let most = few_of caller in omega (arith, most))
-        (All-filter (λ (o : Outcome). caller_of o == caller) IsShortNamed outcomes short))
+        (All-filter (λ (o : Outcome). outcome_caller o == caller) IsShortNamed outcomes short))
         (callers_known commands caller script.each)
 
     pub outcomes_form : (sorted : List Outcome) → ((caller : ℕ) → outcomes_of caller sorted ≡ outcomes_of caller outcomes) → All InForm sorted
     outcomes_form sorted kept k d lt =
-        let caller = caller_of (get_or sorted k d) in
-        kept_one InForm (λ (o : Outcome). caller_of o == caller) sorted (subst (All InForm) (sym (kept caller)) (caller_form caller)) k d lt (eq-eqb caller caller refl)
+        let caller = outcome_caller (get_or sorted k d) in
+        kept_one InForm (λ (o : Outcome). outcome_caller o == caller) sorted (subst (All InForm) (sym (kept caller)) (caller_form caller)) k d lt (eq-eqb caller caller refl)

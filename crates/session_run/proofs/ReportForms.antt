@@ -20,7 +20,7 @@ use Rattle.cut_pool.specs.Histories.{IsLegalHistory, IsPoolAfter, cut_of_line, c
 use Rattle.planner.proofs.Histories.{board_few}
 use Rattle.session_script.specs.declared.script.Command.{Command}
 use Rattle.session_script.specs.Scripts.{IsScript}
-use Rattle.session_run.specs.Transcripts.{IsPlanned, IsTranscript, RunsFrom, acts_of, caller_of, case_left, outcomes_of, position_of}
+use Rattle.session_run.specs.Transcripts.{IsPlanned, IsTranscript, RunsFrom, acts_of, outcome_caller, case_left, outcomes_of, position_of}
 use Rattle.session_run.specs.inner.Ranges.{HasShortLengths, IsShortNamed}
 use Rattle.session_run.specs.inner.Running.{HaveRun}
 use Rattle.session_run.proofs.FormProps.{report_prop}
@@ -30,14 +30,14 @@ use Rattle.session_run.proofs.OutcomeForms.{kept_one, outcomes_form}
 -- what holds of each of a caller's outcomes, for each caller, holds of all
 of_all : (P : Outcome → Type 0) (xs ys : List Outcome) → ((caller : ℕ) → outcomes_of caller xs ≡ outcomes_of caller ys) → All P xs → All P ys
 of_all P xs ys same all k d lt =
-    let caller = caller_of (get_or ys k d) in
-    kept_one P (λ (o : Outcome). caller_of o == caller) ys (subst (All P) (same caller) (All-filter (λ (o : Outcome). caller_of o == caller) P xs all)) k d lt (eq-eqb caller caller refl)
+    let caller = outcome_caller (get_or ys k d) in
+    kept_one P (λ (o : Outcome). outcome_caller o == caller) ys (subst (All P) (same caller) (All-filter (λ (o : Outcome). outcome_caller o == caller) P xs all)) k d lt (eq-eqb caller caller refl)
 
 module _ (b : Board) (notes : Notes) (commands : List Command) (outcomes sorted : List Outcome) (lines : List CutLine) (opening : AreDemands (length b.net.now.nodes) b.opening.value) (script : IsScript commands)
     (run : HaveRun (opening_case b) b.entries b.entries commands outcomes)
     (pool : ∥ IsPoolAfter (opening_case b) b.entries lines ∥₁) (cuts : ∥ All (IsCut (case_left (opening_case b) b.entries)) lines ∥₁) (low : All (λ l. l.right < 2 ^ 84) lines)
     (short : All HasShortLengths lines) (named : All IsShortNamed outcomes)
-    (ordered : AllPairs (λ x y. caller_of x ≤ caller_of y) sorted) (same : (caller : ℕ) → outcomes_of caller sorted ≡ outcomes_of caller outcomes) (count : length sorted ≡ length outcomes) where
+    (ordered : AllPairs (λ x y. outcome_caller x ≤ outcome_caller y) sorted) (same : (caller : ℕ) → outcomes_of caller sorted ≡ outcomes_of caller outcomes) (count : length sorted ≡ length outcomes) where
   abbrev all : Report
   all = record { notes = notes; entries = b.entries; pool = lines; outcomes = sorted }
 

@@ -19,7 +19,7 @@ use Rattle.session_script.specs.declared.script.Command.{Command}
 use Rattle.plan_rounds.specs.WorkedRounds.{IsWorkedPool}
 use Rattle.separator.specs.Separators.{IsCutEntry, IsPartOf}
 use Rattle.planner.proofs.Histories.{cuts_both}
-use Rattle.session_run.specs.Transcripts.{IsOutcomeAfter, IsPlanned, RunsFrom, acts_of, caller_of, edit_asked, edit_made, outcomes_of, position_of}
+use Rattle.session_run.specs.Transcripts.{IsOutcomeAfter, IsPlanned, RunsFrom, acts_of, outcome_caller, edit_asked, edit_made, outcomes_of, position_of}
 use Rattle.session_run.specs.inner.Running.{HaveRun, IsEntryOfCaller}
 use Rattle.session_run.specs.inner.Turns.{HasActed, PlansAt}
 use Rattle.session_script.specs.Scripts.{IsActInForm, IsCommandInForm, asks_plan, is_plan}
@@ -108,7 +108,7 @@ cuts_of_callers es all = All-weaker IsCutEntry IsEntryOfCaller pooled es all
 
 -- ---- outcomes
 
-pub caller_is : (p : Case) (before after : List Entry) (caller serial : ℕ) (o : Outcome) → IsOutcomeAfter p before after caller serial o → caller_of o ≡ caller
+pub caller_is : (p : Case) (before after : List Entry) (caller serial : ℕ) (o : Outcome) → IsOutcomeAfter p before after caller serial o → outcome_caller o ≡ caller
 caller_is p before after caller serial (Planned by number plan) is = is.0
 caller_is p before after caller serial (Unsurvivable by number version position state demand) is = is.0
 
@@ -116,15 +116,15 @@ position_is : (p : Case) (before after : List Entry) (caller serial : ℕ) (o : 
 position_is p before after caller serial (Planned by number plan) is = ∥∥₁_elim is.2 (hlevel props) (λ between. between.sound.same_position ∙ between.left.position)
 position_is p before after caller serial (Unsurvivable by number version position state demand) is = is.3
 
-pub outcomes_own : (outcomes : List Outcome) (o : Outcome) (caller : ℕ) → caller_of o ≡ caller → outcomes_of caller (outcomes ++ o ∷ []) ≡ outcomes_of caller outcomes ++ o ∷ []
+pub outcomes_own : (outcomes : List Outcome) (o : Outcome) (caller : ℕ) → outcome_caller o ≡ caller → outcomes_of caller (outcomes ++ o ∷ []) ≡ outcomes_of caller outcomes ++ o ∷ []
 outcomes_own outcomes o caller e =
-    let test : (caller_of o == caller) ≡ true = subst (λ k. (caller_of o == k) ≡ true) e (eq-eqb (caller_of o) (caller_of o) refl) in
-    filter-append (λ x. caller_of x == caller) outcomes (o ∷ []) ∙ ap (λ b. outcomes_of caller outcomes ++ cond b (o ∷ []) []) test
+    let test : (outcome_caller o == caller) ≡ true = subst (λ k. (outcome_caller o == k) ≡ true) e (eq-eqb (outcome_caller o) (outcome_caller o) refl) in
+    filter-append (λ x. outcome_caller x == caller) outcomes (o ∷ []) ∙ ap (λ b. outcomes_of caller outcomes ++ cond b (o ∷ []) []) test
 
-outcomes_other : (outcomes : List Outcome) (o : Outcome) (caller : ℕ) → caller_of o ≢ caller → outcomes_of caller (outcomes ++ o ∷ []) ≡ outcomes_of caller outcomes
+outcomes_other : (outcomes : List Outcome) (o : Outcome) (caller : ℕ) → outcome_caller o ≢ caller → outcomes_of caller (outcomes ++ o ∷ []) ≡ outcomes_of caller outcomes
 outcomes_other outcomes o caller ne =
-    filter-append (λ x. caller_of x == caller) outcomes (o ∷ [])
-    ∙ (ap (λ b. outcomes_of caller outcomes ++ cond b (o ∷ []) []) (ne_eqb (caller_of o) caller ne) ∙ no_more (outcomes_of caller outcomes))
+    filter-append (λ x. outcome_caller x == caller) outcomes (o ∷ [])
+    ∙ (ap (λ b. outcomes_of caller outcomes ++ cond b (o ∷ []) []) (ne_eqb (outcome_caller o) caller ne) ∙ no_more (outcomes_of caller outcomes))
 
 -- ---- an edit more
 

@@ -38,12 +38,12 @@ edit_made caller (Edited by edit reply) = if by == caller then edit ∷ [] else 
 edit_made caller (Pooled index state lengths) = []
 
 -- the caller of an outcome
-abbrev pub caller_of : Outcome → ℕ
-caller_of (Planned caller serial plan) = caller
-caller_of (Unsurvivable caller serial version position state demand) = caller
+abbrev pub outcome_caller : Outcome → ℕ
+outcome_caller (Planned caller serial plan) = caller
+outcome_caller (Unsurvivable caller serial version position state demand) = caller
 
 abbrev pub outcomes_of : ℕ → List Outcome → List Outcome
-outcomes_of caller outcomes = filter (λ o. caller_of o == caller) outcomes
+outcomes_of caller outcomes = filter (λ o. outcome_caller o == caller) outcomes
 
 -- an outcome with a plan
 abbrev pub IsPlanned : Outcome → Type 0
@@ -121,6 +121,6 @@ pub record IsTranscript (p : Case) (notes : Notes) (commands : List Command) (r 
   pub few : length r.entries ≤ length commands + length r.pool
   pub pool_is : ∥ IsPoolAfter p r.entries r.pool ∥₁
   pub runs : (caller : ℕ) → RunsFrom p r.entries caller 0 1 (acts_of caller commands) (outcomes_of caller r.outcomes)
-  pub ordered : AllPairs (λ a b. caller_of a ≤ caller_of b) r.outcomes
+  pub ordered : AllPairs (λ a b. outcome_caller a ≤ outcome_caller b) r.outcomes
   pub form : IsReportInForm p.nodes p.links p.listed r
   pub alone : IsOnePlan commands → All IsPlanned r.outcomes → All (λ o. position_of o ≡ 0) r.outcomes × ∥ IsWorkedPool p r.entries ∥₁

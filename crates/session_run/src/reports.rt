@@ -2,7 +2,7 @@ ghost use Rattle.std.specs.Prelude.{◌≡◌, ◌≤◌, ℕ, AllPairs, IfOk, l
 ghost use Rattle.net_core.specs.Demands.{AreDemands};
 ghost use Rattle.cut_pool.specs.Boards.{opening_case};
 ghost use Rattle.session_script.specs.Scripts.{IsScript};
-ghost use Rattle.session_run.specs.Transcripts.{IsTranscript, caller_of, outcomes_of};
+ghost use Rattle.session_run.specs.Transcripts.{IsTranscript, outcome_caller, outcomes_of};
 ghost use Rattle.session_run.specs.inner.Running.{HaveRun};
 
 use crate::ranges::{are_short_named, have_short_lengths};
@@ -15,7 +15,7 @@ use std::thread::Threads;
 
 /// The caller of an outcome.
 pub fn caller_of(outcome: &Outcome) -> u32
-    ensures { result ≡ caller_of outcome.now }
+    ensures { result ≡ outcome_caller outcome.now }
 {
     match outcome {
         Outcome::Planned { caller, .. } => *caller,
@@ -25,7 +25,7 @@ pub fn caller_of(outcome: &Outcome) -> u32
 
 /// The outcomes by caller; those of one caller stay in their order.
 fn by_caller(alloc: Global, outcomes: List<Outcome>) -> Result<List<Outcome>, NoMemory>
-    ensures ordered { IfOk result (AllPairs (λ a b. caller_of a ≤ caller_of b)) }
+    ensures ordered { IfOk result (AllPairs (λ a b. outcome_caller a ≤ outcome_caller b)) }
     ensures same { IfOk result (λ sorted. (caller : ℕ) → outcomes_of caller sorted ≡ outcomes_of caller outcomes) }
     ensures count { IfOk result (λ sorted. length sorted ≡ length outcomes) }
 {

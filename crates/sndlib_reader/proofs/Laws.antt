@@ -21,8 +21,8 @@ use Rattle.sndlib_reader.specs.declared.costs.CostedLink.{CostedLink}
 use Rattle.sndlib_reader.specs.declared.fault.Limited.TheVariants as limits
 use Rattle.sndlib_reader.specs.declared.fault.ReadKind.{ReadKind}
 use Rattle.sndlib_reader.specs.declared.fault.ReadKind.TheVariants.{Token, Ended, Limit, Number, DoubleName, UnknownName, SelfLink, SelfDemand, FixedLink}
-use Rattle.sndlib_reader.specs.Spelling.{IsShortLink, SpellsDemand, ends_items, link_items, module_items}
-use Rattle.sndlib_reader.specs.Reading.{other_node, amount, unit, capacity, need, hops, ends_at, module_at, unserved, modules_at, link_at, costed_links_at, total, demand_at, demands_at}
+use Rattle.sndlib_reader.specs.Spelling.{IsShortLink, SpellsDemand, node_pair_items, link_items, module_items}
+use Rattle.sndlib_reader.specs.Reading.{other_node, amount, unit, capacity, need, hops, ends_at, module_at, unserved, native_modules_at, native_link_at, costed_links_at, needs_in_all, native_demand_at, native_demands_at}
 use Rattle.sndlib_reader.proofs.WordTests.{IsCapacity, IsNodeIn, capacity_again, capacity_takes, hops_again, hops_takes, need_again, need_takes, other_again, other_takes}
 
 abbrev pub AreDifferent : List (List ℕ) → Type 0
@@ -34,9 +34,9 @@ AreDifferent nodes = AllPairs (λ x y. x ≢ y) nodes
 abbrev pub AreEnds : List (List ℕ) → NodeId → NodeId → Type 0
 AreEnds nodes a b = IsNodeIn nodes a.0 × ((a.0 ≢ b.0) × IsNodeIn nodes b.0)
 
-ends_lawful : (kind : ReadKind) (nodes : List (List ℕ)) → AreDifferent nodes → Lawful (ends_at kind nodes) (λ e. ends_items nodes e.0 e.1) (λ e. AreEnds nodes e.0 e.1) AnyText
+ends_lawful : (kind : ReadKind) (nodes : List (List ℕ)) → AreDifferent nodes → Lawful (ends_at kind nodes) (λ e. node_pair_items nodes e.0 e.1) (λ e. AreEnds nodes e.0 e.1) AnyText
 unfolding ends_at
-ends_lawful kind nodes pairs = lawful_as (ends_at kind nodes) _ (λ e. ends_items nodes e.0 e.1) _ (λ e. AreEnds nodes e.0 e.1) AnyText (λ e h. refl) (λ e h. (h.1.0, h.1.1.0)) (λ e h. (tt, (h.0, (h.1, (tt, refl)))))
+ends_lawful kind nodes pairs = lawful_as (ends_at kind nodes) _ (λ e. node_pair_items nodes e.0 e.1) _ (λ e. AreEnds nodes e.0 e.1) AnyText (λ e h. refl) (λ e h. (h.1.0, h.1.1.0)) (λ e h. (tt, (h.0, (h.1, (tt, refl)))))
     (lawful_then _ _ _ _ _ _ AnyText (λ e. tt) (λ a e h. refl) (lawful_open Token Ended) (λ o.
     lawful_then _ _ _ _ _ _ AnyText (λ e. e.0.0) (λ a e h. ap (λ (x : NodeId × NodeId). x.0.0) h.1.1) (lawful_place (λ n. n) (Limit limits.Name) UnknownName nodes [] Token Ended pairs) (λ a.
     lawful_then _ _ _ _ _ _ AnyText (λ e. e.1.0) (λ b e h. ap (λ (x : NodeId × NodeId). x.1.0) h.1) (lawful_word Token Ended (other_node kind nodes a) (λ b. Verbatim (get_or nodes b [])) (λ b. (a ≢ b) × IsNodeIn nodes b) (λ b. tt) (other_takes nodes kind a) (other_again nodes kind pairs a)) (λ b.
@@ -80,8 +80,8 @@ served_again : (fixed : ℕ) (ms : List Module) → (ms ≡ [] → fixed ≡ 0) 
 served_again fixed [] h = rw (h refl) refl
 served_again fixed (m ∷ ms) h = rw (has_some m ms) refl
 
-modules_lawful : (fixed : ℕ) → Lawful (modules_at fixed []) (λ ms. flat_map module_items ms ++ Closing ∷ []) (AreModules fixed) AnyText
-modules_lawful fixed = lawful_as (modules_at fixed []) _ (λ ms. flat_map module_items ms ++ Closing ∷ []) _ (AreModules fixed) AnyText (λ ms h. refl)
+modules_lawful : (fixed : ℕ) → Lawful (native_modules_at fixed []) (λ ms. flat_map module_items ms ++ Closing ∷ []) (AreModules fixed) AnyText
+modules_lawful fixed = lawful_as (native_modules_at fixed []) _ (λ ms. flat_map module_items ms ++ Closing ∷ []) _ (AreModules fixed) AnyText (λ ms h. refl)
     (λ ms h. let f = few_behind 16 (λ before m. IsModule m) [] ms (omega arith) h.1 in record { few = f.0; each = behind_all IsModule [] ms f.1; served = served_takes fixed ms h.0 })
     (λ ms h. (served_again fixed ms h.served, behind_few 16 (λ before m. IsModule m) [] ms h.few (all_behind IsModule [] ms h.each)))
     (lawful_list Parenthesis (unserved fixed) module_at module_items (λ sofar m. (length sofar < 16) × IsModule m) (λ m. tt) module_lawful)
@@ -98,10 +98,10 @@ pub record IsLinkBehind (nodes : List (List ℕ)) (sofar : List CostedLink) (l :
   pub setup : l.link.setup < 2 ^ 40
   pub modules : AreModules l.link.fixed l.link.modules
 
-link_lawful : (nodes : List (List ℕ)) → AreDifferent nodes → (sofar : List CostedLink) → Lawful (link_at nodes sofar) (link_items nodes) (IsLinkBehind nodes sofar) AnyText
-unfolding link_at
-link_lawful nodes pairs sofar = lawful_as (link_at nodes sofar) _ (link_items nodes) _ (IsLinkBehind nodes sofar) AnyText
-    (λ l h. ap (λ (is : List Item). Verbatim l.link.name ∷ ends_items nodes l.link.a l.link.b ++ Money l.link.fixed ∷ Money l.fixed_cost ∷ Money l.routing_cost ∷ Money l.link.setup ∷ Opening ∷ is) (append-nil (flat_map module_items l.link.modules ++ Closing ∷ [])))
+link_lawful : (nodes : List (List ℕ)) → AreDifferent nodes → (sofar : List CostedLink) → Lawful (native_link_at nodes sofar) (link_items nodes) (IsLinkBehind nodes sofar) AnyText
+unfolding native_link_at
+link_lawful nodes pairs sofar = lawful_as (native_link_at nodes sofar) _ (link_items nodes) _ (IsLinkBehind nodes sofar) AnyText
+    (λ l h. ap (λ (is : List Item). Verbatim l.link.name ∷ node_pair_items nodes l.link.a l.link.b ++ Money l.link.fixed ∷ Money l.fixed_cost ∷ Money l.routing_cost ∷ Money l.link.setup ∷ Opening ∷ is) (append-nil (flat_map module_items l.link.modules ++ Closing ∷ [])))
     (λ l h. record { new = h.0; ends = h.1.0; fixed = h.1.1.0; fixed_cost = h.1.1.1.0; routing_cost = h.1.1.1.1.0; setup = h.1.1.1.1.1.0; modules = h.1.1.1.1.1.1.1.0 })
     (λ l h. (h.new, (h.ends, (h.fixed, (h.fixed_cost, (h.routing_cost, (h.setup, (tt, (h.modules, refl)))))))))
     (lawful_then _ _ _ _ _ _ AnyText (λ l. l.link.name) (λ a l h. ap (λ (x : CostedLink). x.link.name) h.1.1.1.1.1.1.1) (lawful_new_name (λ x. x.link.name) 256 (Limit limits.Name) DoubleName (Limit limits.Links) Token Ended sofar) (λ name.
@@ -116,7 +116,7 @@ link_lawful nodes pairs sofar = lawful_as (link_at nodes sofar) _ (link_items no
 
 pub links_lawful : (nodes : List (List ℕ)) → AreDifferent nodes → Lawful (costed_links_at nodes []) (λ ls. flat_map (link_items nodes) ls ++ Closing ∷ []) (λ ls. AreBehind (IsLinkBehind nodes) [] ls) AnyText
 links_lawful nodes pairs = lawful_as (costed_links_at nodes []) _ (λ ls. flat_map (link_items nodes) ls ++ Closing ∷ []) _ (λ ls. AreBehind (IsLinkBehind nodes) [] ls) AnyText (λ ls h. refl) (λ ls h. h.1) (λ ls h. (refl, h))
-    (lawful_list Parenthesis no_fault (link_at nodes) (link_items nodes) (IsLinkBehind nodes) (λ l. tt) (link_lawful nodes pairs))
+    (lawful_list Parenthesis no_fault (native_link_at nodes) (link_items nodes) (IsLinkBehind nodes) (λ l. tt) (link_lawful nodes pairs))
 
 -- all links together
 pub record AreLinks (nodes : List (List ℕ)) (links : List CostedLink) : Type 0 where
@@ -154,21 +154,21 @@ pub record IsDemandBehind (nodes : List (List ℕ)) (sofar : List Demand) (d : D
   pub new : IsNew (λ x. x.name) 2048 sofar d.name
   pub ends : AreEnds nodes d.from d.to
   pub need : d.need < 2 ^ 40
-  pub below : total sofar + d.need < 2 ^ 44
+  pub below : needs_in_all sofar + d.need < 2 ^ 44
 
 joined : (is js ks j2 k2 j3 k3 j4 k4 j5 k5 ends : List Item) (n u a h : List ℕ) → is ≡ js ++ ks → js ≡ Verbatim n ∷ [] → ks ≡ j2 ++ k2 → j2 ≡ ends → k2 ≡ j3 ++ k3 → j3 ≡ Verbatim u ∷ [] → k3 ≡ j4 ++ k4 → j4 ≡ Verbatim a ∷ [] → k4 ≡ j5 ++ k5 → j5 ≡ Verbatim h ∷ [] → k5 ≡ []
     → is ≡ Verbatim n ∷ ends ++ Verbatim u ∷ Verbatim a ∷ Verbatim h ∷ []
 joined is js ks j2 k2 j3 k3 j4 k4 j5 k5 ends n u a h e1 e2 e3 e4 e5 e6 e7 e8 e9 e10 e11 = rw (e1, e2, e3, e4, e5, e6, e7, e8, e9, e10, e11) refl
 
-demand_spelled : (nodes : List (List ℕ)) → AreDifferent nodes → (sofar : List Demand) → Spelled (demand_at nodes sofar) (λ d is. IsDemandBehind nodes sofar d × SpellsDemand nodes d is) AnyText
-unfolding demand_at
-demand_spelled nodes pairs sofar = spelled_as (demand_at nodes sofar) _ (λ d is. IsDemandBehind nodes sofar d × SpellsDemand nodes d is) AnyText
+demand_spelled : (nodes : List (List ℕ)) → AreDifferent nodes → (sofar : List Demand) → Spelled (native_demand_at nodes sofar) (λ d is. IsDemandBehind nodes sofar d × SpellsDemand nodes d is) AnyText
+unfolding native_demand_at
+demand_spelled nodes pairs sofar = spelled_as (native_demand_at nodes sofar) _ (λ d is. IsDemandBehind nodes sofar d × SpellsDemand nodes d is) AnyText
     (λ d is s.
     let e = s.4 in
     let u = e.4 in
     let n = u.4 in
     let h = n.4 in
-    let needed = need_takes (total sofar) u.0 n.3.0 n.0 n.3.1 in
+    let needed = need_takes (needs_in_all sofar) u.0 n.3.0 n.0 n.3.1 in
     subst (λ (x : Demand). IsDemandBehind nodes sofar x × SpellsDemand nodes x is) h.4.0 (
       record { new = s.3.0; ends = e.3.0; need = needed.small; below = needed.below },
       record {
@@ -178,7 +178,7 @@ demand_spelled nodes pairs sofar = spelled_as (demand_at nodes sofar) _ (λ d is
         units = u.0;
         each = needed.each;
         short = s.3.0.2;
-        items_are = joined is s.1 s.2 e.1 e.2 u.1 u.2 n.1 n.2 h.1 h.2 (ends_items nodes e.0.0 e.0.1) s.0 u.3.0 n.3.0 h.3.0 s.5 s.3.1 e.5 e.3.1 u.5 u.3.2 n.5 n.3.2 h.5 h.3.2 h.4.1;
+        items_are = joined is s.1 s.2 e.1 e.2 u.1 u.2 n.1 n.2 h.1 h.2 (node_pair_items nodes e.0.0 e.0.1) s.0 u.3.0 n.3.0 h.3.0 s.5 s.3.1 e.5 e.3.1 u.5 u.3.2 n.5 n.3.2 h.5 h.3.2 h.4.1;
         unit_is = number_takes Number (units_of u.3.0) u.0 u.3.1;
         amount_is = needed.amount_is;
         need_is = needed.need_is;
@@ -190,11 +190,11 @@ demand_spelled nodes pairs sofar = spelled_as (demand_at nodes sofar) _ (λ d is
     let b = s.0 in (
       d.name,
       Verbatim d.name ∷ [],
-      ends_items nodes d.from d.to ++ Verbatim t.unit ∷ Verbatim t.amount ∷ Verbatim t.hops ∷ [],
+      node_pair_items nodes d.from d.to ++ Verbatim t.unit ∷ Verbatim t.amount ∷ Verbatim t.hops ∷ [],
       (b.new, refl),
       (
         (d.from, d.to),
-        ends_items nodes d.from d.to,
+        node_pair_items nodes d.from d.to,
         Verbatim t.unit ∷ Verbatim t.amount ∷ Verbatim t.hops ∷ [],
         (b.ends, refl),
         (
@@ -206,7 +206,7 @@ demand_spelled nodes pairs sofar = spelled_as (demand_at nodes sofar) _ (λ d is
             d.need,
             Verbatim t.amount ∷ [],
             Verbatim t.hops ∷ [],
-            (t.amount, need_again (total sofar) t.units t.amount t.each d.need t.amount_is t.need_is b.need b.below, refl),
+            (t.amount, need_again (needs_in_all sofar) t.units t.amount t.each d.need t.amount_is t.need_is b.need b.below, refl),
             (
               tt,
               Verbatim t.hops ∷ [],
@@ -226,31 +226,31 @@ demand_spelled nodes pairs sofar = spelled_as (demand_at nodes sofar) _ (λ d is
     (spelled_then _ _ _ _ AnyText (spelled_law _ _ _ AnyText (lawful_new_name (λ x. x.name) 2048 (Limit limits.Name) DoubleName (Limit limits.Demands) Token Ended sofar)) (λ name js s.
     spelled_then _ _ _ _ AnyText (spelled_law (ends_at SelfDemand nodes) _ _ AnyText (ends_lawful SelfDemand nodes pairs)) (λ ends js s.
     spelled_then _ _ _ _ AnyText (spelled_word Token Ended unit) (λ units js s.
-    spelled_then _ _ _ _ AnyText (spelled_word Token Ended (need (total sofar) units)) (λ needed js s.
+    spelled_then _ _ _ _ AnyText (spelled_word Token Ended (need (needs_in_all sofar) units)) (λ needed js s.
     spelled_then _ _ _ _ AnyText (spelled_word Token Ended hops) (λ h js s.
     spelled_give _))))))
 
 demand_starts : (nodes : List (List ℕ)) (sofar : List Demand) (d : Demand) (is : List Item) → IsDemandBehind nodes sofar d × SpellsDemand nodes d is → Starts is
 demand_starts nodes sofar d is s = let t = s.1 in subst Starts (sym t.items_are) tt
 
-pub demands_spelled : (nodes : List (List ℕ)) → AreDifferent nodes → Spelled (demands_at nodes []) (λ ds is. (js : List Item) × AreBehind (IsDemandBehind nodes) [] ds × AreSpelled (SpellsDemand nodes) ds js × (is ≡ js ++ Closing ∷ [])) AnyText
-demands_spelled nodes pairs = spelled_as (demands_at nodes []) _ _ AnyText
+pub demands_spelled : (nodes : List (List ℕ)) → AreDifferent nodes → Spelled (native_demands_at nodes []) (λ ds is. (js : List Item) × AreBehind (IsDemandBehind nodes) [] ds × AreSpelled (SpellsDemand nodes) ds js × (is ≡ js ++ Closing ∷ [])) AnyText
+demands_spelled nodes pairs = spelled_as (native_demands_at nodes []) _ _ AnyText
     (λ ds is s. let p = behind_parts (IsDemandBehind nodes) (SpellsDemand nodes) [] ds s.1.0 s.1.1 in (s.1.0, p.0, p.1, s.1.2))
     (λ ds is s. (refl, (s.0, parts_behind (IsDemandBehind nodes) (SpellsDemand nodes) [] ds s.0 s.1 s.2, s.3)))
-    (spelled_list no_fault (demand_at nodes) (λ sofar d is. IsDemandBehind nodes sofar d × SpellsDemand nodes d is) (demand_starts nodes) (demand_spelled nodes pairs))
+    (spelled_list no_fault (native_demand_at nodes) (λ sofar d is. IsDemandBehind nodes sofar d × SpellsDemand nodes d is) (demand_starts nodes) (demand_spelled nodes pairs))
 
 -- the need of all, one by one
-total_below : (sofar ds : List Demand) → total sofar < 2 ^ 44 → AreBehind (λ before d. total before + d.need < 2 ^ 44) sofar ds → total (sofar ++ ds) < 2 ^ 44
-total_below sofar [] small all = subst (λ (xs : List Demand). total xs < 2 ^ 44) (sym (append-nil sofar)) small
+total_below : (sofar ds : List Demand) → needs_in_all sofar < 2 ^ 44 → AreBehind (λ before d. needs_in_all before + d.need < 2 ^ 44) sofar ds → needs_in_all (sofar ++ ds) < 2 ^ 44
+total_below sofar [] small all = subst (λ (xs : List Demand). needs_in_all xs < 2 ^ 44) (sym (append-nil sofar)) small
 total_below sofar (d ∷ ds) small all =
-    subst (λ (xs : List Demand). total xs < 2 ^ 44) (append_assoc sofar (d ∷ []) ds)
+    subst (λ (xs : List Demand). needs_in_all xs < 2 ^ 44) (append_assoc sofar (d ∷ []) ds)
     (total_below (sofar ++ d ∷ []) ds (subst (λ (k : ℕ). k < 2 ^ 44) (sym (sum_by_push (λ x. x.need) sofar d)) all.0) all.1)
 
-below_total : (sofar ds : List Demand) → total (sofar ++ ds) < 2 ^ 44 → AreBehind (λ before d. total before + d.need < 2 ^ 44) sofar ds
+below_total : (sofar ds : List Demand) → needs_in_all (sofar ++ ds) < 2 ^ 44 → AreBehind (λ before d. needs_in_all before + d.need < 2 ^ 44) sofar ds
 below_total sofar [] small = tt
 below_total sofar (d ∷ ds) small =
-    let sum : total (sofar ++ d ∷ ds) ≡ total sofar + (d.need + total ds) = sum_by-append (λ x. x.need) sofar (d ∷ ds) ∙ ap (λ (k : ℕ). total sofar + k) (sum_by-cons (λ x. x.need) d ds) in
-    (omega (arith, sum, small), below_total (sofar ++ d ∷ []) ds (subst (λ (xs : List Demand). total xs < 2 ^ 44) (sym (append_assoc sofar (d ∷ []) ds)) small))
+    let sum : needs_in_all (sofar ++ d ∷ ds) ≡ needs_in_all sofar + (d.need + needs_in_all ds) = sum_by-append (λ x. x.need) sofar (d ∷ ds) ∙ ap (λ (k : ℕ). needs_in_all sofar + k) (sum_by-cons (λ x. x.need) d ds) in
+    (omega (arith, sum, small), below_total (sofar ++ d ∷ []) ds (subst (λ (xs : List Demand). needs_in_all xs < 2 ^ 44) (sym (append_assoc sofar (d ∷ []) ds)) small))
 
 pub are_demands : (nodes : List (List ℕ)) (ds : List Demand) → AreBehind (IsDemandBehind nodes) [] ds → AreDemands (length nodes) ds
 are_demands nodes ds all =
@@ -259,7 +259,7 @@ are_demands nodes ds all =
       few = new.0;
       different = new.1;
       each = behind_all (IsDemand (length nodes)) [] ds (behind_as (IsDemandBehind nodes) (λ before d. IsDemand (length nodes) d) [] ds (λ before d h. record { from_known = h.ends.0.0; to_known = h.ends.1.1.0; different = h.ends.1.0; need = h.need }) all);
-      total = total_below [] ds (omega arith) (behind_as (IsDemandBehind nodes) (λ before d. total before + d.need < 2 ^ 44) [] ds (λ before d h. h.below) all);
+      total = total_below [] ds (omega arith) (behind_as (IsDemandBehind nodes) (λ before d. needs_in_all before + d.need < 2 ^ 44) [] ds (λ before d h. h.below) all);
     }
 
 spelled_short : (nodes : List (List ℕ)) (ds : List Demand) (is : List Item) → AreSpelled (SpellsDemand nodes) ds is → (sofar : List Demand) → AreBehind (λ before d. length d.name ≤ 255) sofar ds
@@ -272,6 +272,6 @@ demands_are nodes ds is short are spelled =
     (λ before d h.
     let one = h.1.1 in
     record { new = h.0; ends = ((one.from_known, short d.from.0 [] one.from_known), (one.different, (one.to_known, short d.to.0 [] one.to_known))); need = one.need; below = h.1.0 })
-    (behind_both (λ before d. IsNew (λ x. x.name) 2048 before d.name) (λ before d. (total before + d.need < 2 ^ 44) × IsDemand (length nodes) d) [] ds
+    (behind_both (λ before d. IsNew (λ x. x.name) 2048 before d.name) (λ before d. (needs_in_all before + d.need < 2 ^ 44) × IsDemand (length nodes) d) [] ds
     (new_are (λ (x : Demand). x.name) 2048 ds are.few are.different (behind_all (λ (d : Demand). length d.name ≤ 255) [] ds (spelled_short nodes ds is spelled [])))
-    (behind_both (λ before d. total before + d.need < 2 ^ 44) (λ before d. IsDemand (length nodes) d) [] ds (below_total [] ds are.total) (all_behind (IsDemand (length nodes)) [] ds are.each)))
+    (behind_both (λ before d. needs_in_all before + d.need < 2 ^ 44) (λ before d. IsDemand (length nodes) d) [] ds (below_total [] ds are.total) (all_behind (IsDemand (length nodes)) [] ds are.each)))

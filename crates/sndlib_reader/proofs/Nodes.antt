@@ -14,7 +14,7 @@ use Rattle.sndlib_reader.specs.declared.fault.Limited.TheVariants as limits
 use Rattle.sndlib_reader.specs.declared.fault.ReadKind.{ReadKind}
 use Rattle.sndlib_reader.specs.declared.fault.ReadKind.TheVariants.{Token, Ended, Limit, DoubleName}
 use Rattle.sndlib_reader.specs.Spelling.{NodePart, NodeName, Coordinates, names_of, ends_named, IsPartBehind, SpellsPart}
-use Rattle.sndlib_reader.specs.Reading.{node_fault, name_part, coordinates, part_behind, part_at, nodes_at, skipped_at}
+use Rattle.sndlib_reader.specs.Reading.{node_fault, name_part, coordinates, part_behind, part_at, native_nodes_at, skipped_at}
 use Rattle.sndlib_reader.specs.inner.Nodes.{parts_so_far}
 use Rattle.text_kit.proofs.NameLaws.{IsNew, fault_none, none_fault}
 use Rattle.sndlib_reader.proofs.Skipped.{skipped_online, skipped_spelled}
@@ -70,7 +70,7 @@ alike_longer : (s t : List NodePart) (x : NodePart) → Alike s t → Alike (s +
 alike_longer s t (NodeName w) alike = (name_more s w ∙ (ap (λ (ns : List (List ℕ)). ns ++ w ∷ []) alike.0 ∙ sym (name_more t w)), ends_by_name false s w ∙ sym (ends_by_name false t w))
 alike_longer s t Coordinates alike = (same_names s ∙ (alike.0 ∙ sym (same_names t)), ends_by_coordinates false s ∙ sym (ends_by_coordinates false t))
 
-nodes_alike : (s t : List NodePart) (text : Text) → Alike s t → nodes_at s text ≡ nodes_at t text
+nodes_alike : (s t : List NodePart) (text : Text) → Alike s t → native_nodes_at s text ≡ native_nodes_at t text
 nodes_alike s t text alike = lists_alike Parenthesis part_at names_of Alike alike_parts alike_longer (λ s t a. a.0) s t text alike
 
 -- the parts that stand for names so far
@@ -91,12 +91,12 @@ ends_so_far [] true some = absurd (let h : 1 ≤ length {A = List ℕ} [] = some
 ends_so_far (n ∷ ns) true some = all_named ns
 ends_so_far names false some = ends_by_coordinates false (map NodeName names)
 
-pub nothing_so_far : (text : Text) → nodes_at (parts_so_far [] false) text ≡ nodes_at [] text
+pub nothing_so_far : (text : Text) → native_nodes_at (parts_so_far [] false) text ≡ native_nodes_at [] text
 nothing_so_far text = nodes_alike (Coordinates ∷ []) [] text (refl, refl)
 
 -- ---- turns of the list
 
-sound_turn : (names : List (List ℕ)) (named : Bool) (at : ℕ) (w : List ℕ) (rest : Text) → node_fault names w ≡ None → nodes_at (parts_so_far names named) (WordAt at w rest) ≡ nodes_at (parts_so_far (names ++ w ∷ []) true) rest
+sound_turn : (names : List (List ℕ)) (named : Bool) (at : ℕ) (w : List ℕ) (rest : Text) → node_fault names w ≡ None → native_nodes_at (parts_so_far names named) (WordAt at w rest) ≡ native_nodes_at (parts_so_far (names ++ w ∷ []) true) rest
 unfolding part_at
 sound_turn names named at w rest sound_name =
     let sofar = parts_so_far names named in
@@ -116,16 +116,16 @@ passed_none at w name None e = (refl, (ok_parts {K = ReadKind} w name (EndAt at)
 passed_none at w name (Some k) e = absurd cc
 
 pub name_turn : (names : List (List ℕ)) (named : Bool) (at : ℕ) (w name : List ℕ) (rest : Text) → (let q : Read ReadKind (List ℕ) = placed at (EndAt at) (sound w (node_fault names w)) in q ≡ Ok (name, EndAt at))
-    → nodes_at (parts_so_far names named) (WordAt at w rest) ≡ nodes_at (parts_so_far (names ++ name ∷ []) true) rest
+    → native_nodes_at (parts_so_far names named) (WordAt at w rest) ≡ native_nodes_at (parts_so_far (names ++ name ∷ []) true) rest
 name_turn names named at w name rest passed =
     let p = passed_none at w name (node_fault names w) passed in
-    subst (λ (v : List ℕ). nodes_at (parts_so_far names named) (WordAt at w rest) ≡ nodes_at (parts_so_far (names ++ v ∷ []) true) rest) p.1 (sound_turn names named at w rest p.0)
+    subst (λ (v : List ℕ). native_nodes_at (parts_so_far names named) (WordAt at w rest) ≡ native_nodes_at (parts_so_far (names ++ v ∷ []) true) rest) p.1 (sound_turn names named at w rest p.0)
 
 -- a part that fails, and so the list
-part_fails : (sofar : List NodePart) (text : Text) (e : ℕ × ReadKind) → past_ending Parenthesis text ≡ None → part_at sofar text ≡ Err e → nodes_at sofar text ≡ Err e
+part_fails : (sofar : List NodePart) (text : Text) (e : ℕ × ReadKind) → past_ending Parenthesis text ≡ None → part_at sofar text ≡ Err e → native_nodes_at sofar text ≡ Err e
 part_fails sofar text e open_text fails = ap (λ (q : Read ReadKind (List NodePart)). after q (λ ps. give (names_of ps))) (list_fails Parenthesis no_fault part_at sofar text e open_text fails)
 
-pub name_fails : (names : List (List ℕ)) (named : Bool) (at : ℕ) (w : List ℕ) (rest : Text) (e : Refusal ReadKind) → Fails {Y = List ℕ} e (placed at (EndAt at) (sound w (node_fault names w))) → Fails e (nodes_at (parts_so_far names named) (WordAt at w rest))
+pub name_fails : (names : List (List ℕ)) (named : Bool) (at : ℕ) (w : List ℕ) (rest : Text) (e : Refusal ReadKind) → Fails {Y = List ℕ} e (placed at (EndAt at) (sound w (node_fault names w))) → Fails e (native_nodes_at (parts_so_far names named) (WordAt at w rest))
 unfolding part_at
 name_fails names named at w rest NoMemory h = tt
 name_fails names named at w rest (Bad place kind) h =
@@ -136,7 +136,7 @@ name_fails names named at w rest (Bad place kind) h =
     by None e = absurd cc
     by (Some k) e = let same : (at, k) ≡ (place, kind) = cc in ap (λ (i : ℕ × ReadKind). Err i) same
 
-pub coordinates_turn : (names : List (List ℕ)) (at : ℕ) (t rest : Text) → 1 ≤ length names → skipped_at 0 t ≡ Ok (tt, rest) → nodes_at (parts_so_far names true) (OpenAt at t) ≡ nodes_at (parts_so_far names false) rest
+pub coordinates_turn : (names : List (List ℕ)) (at : ℕ) (t rest : Text) → 1 ≤ length names → skipped_at 0 t ≡ Ok (tt, rest) → native_nodes_at (parts_so_far names true) (OpenAt at t) ≡ native_nodes_at (parts_so_far names false) rest
 unfolding part_at
 coordinates_turn names at t rest some skip =
     let sofar = parts_so_far names true in
@@ -145,20 +145,20 @@ coordinates_turn names at t rest some skip =
     ap (λ (q : Read ReadKind (List NodePart)). after q (λ ps. give (names_of ps))) (list_turn Parenthesis no_fault part_at part_some sofar (OpenAt at t) rest Coordinates refl read)
     ∙ nodes_alike (sofar ++ Coordinates ∷ []) (parts_so_far names false) rest (refl, refl)
 
-pub coordinates_fail : (names : List (List ℕ)) (at : ℕ) (t : Text) (e : Refusal ReadKind) → 1 ≤ length names → Fails e (skipped_at 0 t) → Fails e (nodes_at (parts_so_far names true) (OpenAt at t))
+pub coordinates_fail : (names : List (List ℕ)) (at : ℕ) (t : Text) (e : Refusal ReadKind) → 1 ≤ length names → Fails e (skipped_at 0 t) → Fails e (native_nodes_at (parts_so_far names true) (OpenAt at t))
 unfolding part_at
 coordinates_fail names at t NoMemory some h = tt
 coordinates_fail names at t (Bad place kind) some h =
     part_fails (parts_so_far names true) (OpenAt at t) (place, kind) refl
     (ap (λ (b : Bool). after (placed at t (cond b (Ok Coordinates) (Err Token))) part_behind) (ends_so_far names true (λ u. some)) ∙ ap (λ (q : Read ReadKind (Unit {0})). after q (λ u. give Coordinates)) h)
 
-pub no_coordinates : (names : List (List ℕ)) (at : ℕ) (t : Text) → nodes_at (parts_so_far names false) (OpenAt at t) ≡ Err (at, Token)
+pub no_coordinates : (names : List (List ℕ)) (at : ℕ) (t : Text) → native_nodes_at (parts_so_far names false) (OpenAt at t) ≡ Err (at, Token)
 unfolding part_at
 no_coordinates names at t =
     part_fails (parts_so_far names false) (OpenAt at t) (at, Token) refl
     (ap (λ (b : Bool). after (placed at t (cond b (Ok Coordinates) (Err Token))) part_behind) (ends_by_coordinates false (map NodeName names)))
 
-pub nodes_ended : (names : List (List ℕ)) (named : Bool) (at : ℕ) → nodes_at (parts_so_far names named) (EndAt at) ≡ Err (at, Ended)
+pub nodes_ended : (names : List (List ℕ)) (named : Bool) (at : ℕ) → native_nodes_at (parts_so_far names named) (EndAt at) ≡ Err (at, Ended)
 unfolding part_at
 nodes_ended names named at = part_fails (parts_so_far names named) (EndAt at) (at, Ended) refl refl
 
@@ -166,7 +166,7 @@ pub skip_shorter : (at : ℕ) (t rest : Text) → skipped_at 0 t ≡ Ok (tt, res
 unfolding part_at
 skip_shorter at t rest skip = part_some (NodeName [] ∷ []) (OpenAt at t) Coordinates rest (ap (λ (q : Read ReadKind (Unit {0})). after q (λ u. give Coordinates)) skip)
 
-pub nodes_end : (names : List (List ℕ)) (named : Bool) (at : ℕ) (t : Text) → nodes_at (parts_so_far names named) (CloseAt at t) ≡ Ok (names, t)
+pub nodes_end : (names : List (List ℕ)) (named : Bool) (at : ℕ) (t : Text) → native_nodes_at (parts_so_far names named) (CloseAt at t) ≡ Ok (names, t)
 nodes_end names named at t = ap (λ (ns : List (List ℕ)). Ok (ns, t)) (names_so_far names named)
 
 -- ---- the law of a part

@@ -9,7 +9,7 @@ use Rattle.sndlib_reader.specs.declared.costs.CostedLink.{CostedLink}
 use Rattle.sndlib_reader.specs.declared.fault.ReadKind.{ReadKind}
 use Rattle.sndlib_reader.specs.declared.fault.ReadKind.TheVariants.{Section, Token, Ended, SelfLink, SelfDemand}
 use Rattle.sndlib_reader.specs.Spelling.{names_of}
-use Rattle.sndlib_reader.specs.Reading.{known_name, path_name, node_named, other_node, amount, unit, capacity, need, total, hops, section_at, part_at, nodes_at, ends_at, module_at, unserved, link_at, costed_links_at, demand_at, demands_at, some_at, path_at, line_at, is_meta, meta_behind, start_at, is_paths, paths_behind, paths_at, parts, sections_at}
+use Rattle.sndlib_reader.specs.Reading.{known_name, path_name, node_named, other_node, amount, unit, capacity, need, needs_in_all, hops, native_section_at, part_at, native_nodes_at, ends_at, module_at, unserved, native_link_at, costed_links_at, native_demand_at, native_demands_at, some_at, native_path_at, path_line_at, is_meta, meta_behind, start_at, is_paths, paths_behind, paths_at, parts, native_sections_at}
 use Rattle.sndlib_reader.proofs.Nodes.{part_online, part_some}
 use Rattle.sndlib_reader.proofs.Skipped.{skipped_online}
 
@@ -33,8 +33,8 @@ pub module_some : (sofar : List Module) → TakesSome (module_at sofar)
 unfolding module_at
 module_some sofar = takes_some (module_at sofar) (module_online sofar) (λ p. Ended) (λ p. refl)
 
-link_online : (nodes : List (List ℕ)) (sofar : List CostedLink) → IsOnline (link_at nodes sofar)
-unfolding link_at
+link_online : (nodes : List (List ℕ)) (sofar : List CostedLink) → IsOnline (native_link_at nodes sofar)
+unfolding native_link_at
 link_online nodes sofar =
     online_then _ _ (online_word Token Ended _) (λ name.
     online_then _ _ (ends_online SelfLink nodes) (λ ends.
@@ -46,23 +46,23 @@ link_online nodes sofar =
     online_then _ _ (online_list Parenthesis (unserved fixed) module_at module_online module_some []) (λ modules.
     online_give _))))))))
 
-pub link_some : (nodes : List (List ℕ)) (sofar : List CostedLink) → TakesSome (link_at nodes sofar)
-unfolding link_at
-link_some nodes sofar = takes_some (link_at nodes sofar) (link_online nodes sofar) (λ p. Ended) (λ p. refl)
+pub link_some : (nodes : List (List ℕ)) (sofar : List CostedLink) → TakesSome (native_link_at nodes sofar)
+unfolding native_link_at
+link_some nodes sofar = takes_some (native_link_at nodes sofar) (link_online nodes sofar) (λ p. Ended) (λ p. refl)
 
-demand_online : (nodes : List (List ℕ)) (sofar : List Demand) → IsOnline (demand_at nodes sofar)
-unfolding demand_at
+demand_online : (nodes : List (List ℕ)) (sofar : List Demand) → IsOnline (native_demand_at nodes sofar)
+unfolding native_demand_at
 demand_online nodes sofar =
     online_then _ _ (online_word Token Ended _) (λ name.
     online_then _ _ (ends_online SelfDemand nodes) (λ ends.
     online_then _ _ (online_word Token Ended unit) (λ units.
-    online_then _ _ (online_word Token Ended (need (total sofar) units)) (λ needed.
+    online_then _ _ (online_word Token Ended (need (needs_in_all sofar) units)) (λ needed.
     online_then _ _ (online_word Token Ended hops) (λ h.
     online_give _)))))
 
-pub demand_some : (nodes : List (List ℕ)) (sofar : List Demand) → TakesSome (demand_at nodes sofar)
-unfolding demand_at
-demand_some nodes sofar = takes_some (demand_at nodes sofar) (demand_online nodes sofar) (λ p. Ended) (λ p. refl)
+pub demand_some : (nodes : List (List ℕ)) (sofar : List Demand) → TakesSome (native_demand_at nodes sofar)
+unfolding native_demand_at
+demand_some nodes sofar = takes_some (native_demand_at nodes sofar) (demand_online nodes sofar) (λ p. Ended) (λ p. refl)
 
 -- ---- paths
 
@@ -79,27 +79,27 @@ some_online one on some =
 pub known_some : (names : List (List ℕ)) → TakesSome (word_at Token Ended (known_name names))
 known_some names = takes_some (word_at Token Ended (known_name names)) (online_word Token Ended (known_name names)) (λ p. Ended) (λ p. refl)
 
-path_online : (links : List (List ℕ)) → IsOnline (path_at links)
+path_online : (links : List (List ℕ)) → IsOnline (native_path_at links)
 path_online links =
     online_then _ _ (online_word Token Ended path_name) (λ x.
     some_online (word_at Token Ended (known_name links)) (online_word Token Ended (known_name links)) (known_some links))
 
-pub path_some : (links : List (List ℕ)) → TakesSome (path_at links)
-path_some links = takes_some (path_at links) (path_online links) (λ p. Ended) (λ p. refl)
+pub path_some : (links : List (List ℕ)) → TakesSome (native_path_at links)
+path_some links = takes_some (native_path_at links) (path_online links) (λ p. Ended) (λ p. refl)
 
-line_online : (links demands : List (List ℕ)) → IsOnline (line_at links demands)
+line_online : (links demands : List (List ℕ)) → IsOnline (path_line_at links demands)
 line_online links demands =
     online_then _ _ (online_word Token Ended (known_name demands)) (λ x.
-    some_online (path_at links) (path_online links) (path_some links))
+    some_online (native_path_at links) (path_online links) (path_some links))
 
-pub line_some : (links demands : List (List ℕ)) → TakesSome (line_at links demands)
-line_some links demands = takes_some (line_at links demands) (line_online links demands) (λ p. Ended) (λ p. refl)
+pub line_some : (links demands : List (List ℕ)) → TakesSome (path_line_at links demands)
+line_some links demands = takes_some (path_line_at links demands) (line_online links demands) (λ p. Ended) (λ p. refl)
 
 paths_behind_online : (links demands : List (List ℕ)) (more : _) → IsOnline (paths_behind links demands more)
 unfolding paths_behind
 paths_behind_online links demands true =
     online_then _ _ (online_open Section Ended) (λ o.
-    online_then _ _ (each_online (line_at links demands) (line_online links demands) (line_some links demands)) (λ x.
+    online_then _ _ (each_online (path_line_at links demands) (line_online links demands) (line_some links demands)) (λ x.
     online_end Section))
 paths_behind_online links demands false = online_give tt
 
@@ -108,8 +108,8 @@ paths_online links demands = online_then _ (paths_behind links demands) (online_
 
 -- ---- whole files
 
-section_online : {X : Type 0} (name : List ℕ) (r : Reading ReadKind X) → IsOnline r → IsOnline (section_at name r)
-unfolding section_at
+section_online : {X : Type 0} (name : List ℕ) (r : Reading ReadKind X) → IsOnline r → IsOnline (native_section_at name r)
+unfolding native_section_at
 section_online name r on =
     online_then _ _ (online_word Section Ended (expected Section name)) (λ x.
     online_then _ _ (online_open Section Ended) (λ o. on))
@@ -122,13 +122,13 @@ meta_online true =
     online_word Section Ended (expected Section (codes "NODES"))))
 meta_online false = online_give tt
 
-pub sections_online : IsOnline sections_at
-unfolding sections_at
+pub sections_online : IsOnline native_sections_at
+unfolding native_sections_at
 sections_online =
     online_then start_at _ (online_then _ meta_behind (online_word Section Ended is_meta) meta_online) (λ s.
     online_then _ _ (online_open Section Ended) (λ o.
-    online_then (nodes_at []) _ (online_then (list_at Parenthesis no_fault part_at []) _ (online_list Parenthesis no_fault part_at part_online part_some []) (λ xs. online_give (names_of xs))) (λ nodes.
-    online_then _ _ (section_online (codes "LINKS") (costed_links_at nodes []) (online_list Parenthesis no_fault (link_at nodes) (link_online nodes) (link_some nodes) [])) (λ links.
-    online_then _ _ (section_online (codes "DEMANDS") (demands_at nodes []) (online_list Parenthesis no_fault (demand_at nodes) (demand_online nodes) (demand_some nodes) [])) (λ demands.
+    online_then (native_nodes_at []) _ (online_then (list_at Parenthesis no_fault part_at []) _ (online_list Parenthesis no_fault part_at part_online part_some []) (λ xs. online_give (names_of xs))) (λ nodes.
+    online_then _ _ (section_online (codes "LINKS") (costed_links_at nodes []) (online_list Parenthesis no_fault (native_link_at nodes) (link_online nodes) (link_some nodes) [])) (λ links.
+    online_then _ _ (section_online (codes "DEMANDS") (native_demands_at nodes []) (online_list Parenthesis no_fault (native_demand_at nodes) (demand_online nodes) (demand_some nodes) [])) (λ demands.
     online_then _ _ (paths_online _ _) (λ p.
     online_give (parts nodes links, demands)))))))

@@ -26,9 +26,9 @@ use Rattle.sndlib_reader.specs.declared.costs.CostedLink.{CostedLink}
 use Rattle.sndlib_reader.specs.declared.fault.ReadKind.{ReadKind}
 use Rattle.sndlib_reader.specs.declared.fault.ReadKind.TheVariants.{Header, Section, Token, Ended}
 use Rattle.sndlib_reader.specs.Balance.{IsSkipped}
-use Rattle.sndlib_reader.specs.Paths.{AreMany, ArePaths, AreSome, IsKnownName, IsPathLine, IsNamedPath, IsShortName, section}
+use Rattle.sndlib_reader.specs.Paths.{AreMany, ArePaths, AreSome, IsKnownName, IsPathLine, IsNamedPath, IsShortName, section_items}
 use Rattle.sndlib_reader.specs.Spelling.{IsMeta, IsShortLink, NodePart, NodeName, Coordinates, Parts, Spells, SpellsDemand, SpellsParts, SpellsPart, header, link_items, names_of, notes_of, parts_of}
-use Rattle.sndlib_reader.specs.Reading.{IsFirstFault, path_name, known_name, section_at, part_at, nodes_at, costed_links_at, demands_at, some_at, path_at, line_at, is_meta, meta_behind, start_at, is_paths, paths_behind, paths_at, parts, sections_at, network_of}
+use Rattle.sndlib_reader.specs.Reading.{IsFirstFault, path_name, known_name, native_section_at, part_at, native_nodes_at, costed_links_at, native_demands_at, some_at, native_path_at, path_line_at, is_meta, meta_behind, start_at, is_paths, paths_behind, paths_at, parts, native_sections_at, network_of}
 use Rattle.sndlib_reader.proofs.WordTests.{known_again, known_takes, path_name_again, path_name_takes}
 use Rattle.text_kit.proofs.NameLaws.{IsNew, are_new, new_are}
 use Rattle.sndlib_reader.proofs.Skipped.{skipped_spelled}
@@ -93,18 +93,18 @@ module _ (one : Reading ReadKind (Unit {0})) (Is : List Item → Type 0) (starts
 known_starts : (names : List (List ℕ)) (is : List Item) → IsKnownName names is → Starts is
 known_starts names is s = starts_named s.0 is [] s.2
 
-path_spelled : (links : List (List ℕ)) → Spelled (path_at links) (λ x is. IsNamedPath links is) AnyText
-path_spelled links = spelled_as (path_at links) _ (λ x is. IsNamedPath links is) AnyText (λ x is s. (s.1, s.2, s.3, s.4, s.5)) (λ x is s. (tt, s.0, s.1, s.2, s.3, s.4))
+path_spelled : (links : List (List ℕ)) → Spelled (native_path_at links) (λ x is. IsNamedPath links is) AnyText
+path_spelled links = spelled_as (native_path_at links) _ (λ x is. IsNamedPath links is) AnyText (λ x is s. (s.1, s.2, s.3, s.4, s.5)) (λ x is s. (tt, s.0, s.1, s.2, s.3, s.4))
     (spelled_then _ _ _ _ AnyText path_name_spelled (λ n js s.
     some_spelled (word_at Token Ended (known_name links)) (IsKnownName links) (known_starts links) (known_spelled links)))
 
 path_starts : (links : List (List ℕ)) (is : List Item) → IsNamedPath links is → Starts is
 path_starts links is s = let n = s.2 in starts_named n.0 is s.1 (s.4 ∙ ap (λ (js : List Item). js ++ s.1) n.2)
 
-line_spelled : (links demands : List (List ℕ)) → Spelled (line_at links demands) (λ x is. IsPathLine links demands is) AnyText
-line_spelled links demands = spelled_as (line_at links demands) _ (λ x is. IsPathLine links demands is) AnyText (λ x is s. (s.1, s.2, s.3, s.4, s.5)) (λ x is s. (tt, s.0, s.1, s.2, s.3, s.4))
+line_spelled : (links demands : List (List ℕ)) → Spelled (path_line_at links demands) (λ x is. IsPathLine links demands is) AnyText
+line_spelled links demands = spelled_as (path_line_at links demands) _ (λ x is. IsPathLine links demands is) AnyText (λ x is s. (s.1, s.2, s.3, s.4, s.5)) (λ x is s. (tt, s.0, s.1, s.2, s.3, s.4))
     (spelled_then _ _ _ _ AnyText (known_spelled demands) (λ n js s.
-    some_spelled (path_at links) (IsNamedPath links) (path_starts links) (path_spelled links)))
+    some_spelled (native_path_at links) (IsNamedPath links) (path_starts links) (path_spelled links)))
 
 line_starts : (links demands : List (List ℕ)) (is : List Item) → IsPathLine links demands is → Starts is
 line_starts links demands is s = let n = s.2 in starts_named n.0 is s.1 (s.4 ∙ ap (λ (js : List Item). js ++ s.1) n.2)
@@ -132,7 +132,7 @@ lines_spelled links demands = spelled_as (paths_behind links demands true) _ (λ
     (λ x is s. let f = s.4 in (f.3.0, f.3.1, lines_joined is s.1 s.2 f.1 f.2 f.3.0 s.5 s.3.1 f.5 f.3.2 f.4))
     (λ x is s. (tt, Opening ∷ [], s.0 ++ Closing ∷ [], (tt, refl), (tt, s.0 ++ Closing ∷ [], [], (s.0, s.1, refl), refl, sym (append-nil (s.0 ++ Closing ∷ []))), s.2))
     (spelled_then _ _ _ _ IsEnd (spelled_law (open_at Section Ended) _ _ AnyText (lawful_open Section Ended)) (λ o js s.
-    spelled_then _ _ _ _ IsEnd (each_spelled (line_at links demands) (IsPathLine links demands) (line_starts links demands) (line_spelled links demands)) (λ l js s.
+    spelled_then _ _ _ _ IsEnd (each_spelled (path_line_at links demands) (IsPathLine links demands) (line_starts links demands) (line_spelled links demands)) (λ l js s.
     end_spelled)))
 
 paths_if : (b : Bool) (w : List ℕ) (c : Bool) → are_same w (codes "ADMISSIBLE_PATHS") ≡ b → (let r : Result Bool ReadKind = cond b (Ok true) (Err Section) in r ≡ Ok c) → (w ≡ codes "ADMISSIBLE_PATHS") × (true ≡ c)
@@ -173,9 +173,9 @@ module _ (links demands : List (List ℕ)) where
 
 -- ---- sections
 
-section_spelled : {X : Type 0} (name : List ℕ) (r : Reading ReadKind X) (Of : X → List Item → Type 0) → Spelled r Of AnyText → Spelled (section_at name r) (λ x is. (js : List Item) × Of x js × (is ≡ Verbatim name ∷ Opening ∷ js)) AnyText
-unfolding section_at
-section_spelled name r Of law = spelled_as (section_at name r) _ _ AnyText
+section_spelled : {X : Type 0} (name : List ℕ) (r : Reading ReadKind X) (Of : X → List Item → Type 0) → Spelled r Of AnyText → Spelled (native_section_at name r) (λ x is. (js : List Item) × Of x js × (is ≡ Verbatim name ∷ Opening ∷ js)) AnyText
+unfolding native_section_at
+section_spelled name r Of law = spelled_as (native_section_at name r) _ _ AnyText
     (λ x is s.
     let f = s.4 in
     (f.2, f.4, s.5 ∙ (ap (λ (js : List Item). js ++ s.2) s.3.1 ∙ ap (λ (js : List Item). Verbatim name ∷ js) (f.5 ∙ ap (λ (js : List Item). js ++ f.2) f.3.1))))
@@ -251,8 +251,8 @@ part_starts : (sofar : List NodePart) (part : NodePart) (is : List Item) → IsN
 part_starts sofar (NodeName w) is s = subst Starts (sym s.1) tt
 part_starts sofar Coordinates is s = subst Starts (sym s.1.2) tt
 
-nodes_spelled : Spelled (nodes_at []) AreNodes AnyText
-nodes_spelled = spelled_as (nodes_at []) _ AreNodes AnyText
+nodes_spelled : Spelled (native_nodes_at []) AreNodes AnyText
+nodes_spelled = spelled_as (native_nodes_at []) _ AreNodes AnyText
     (λ nodes is s.
     let l = s.1.1 in
     let p = behind_parts IsNewPart SpellsPart [] s.0 l.0 l.1 in
@@ -274,12 +274,12 @@ AreDemandItems nodes demands is = (js : List Item) × AreBehind (IsDemandBehind 
 
 -- sections one after another
 abbrev whole_items : List Item → List Item → List Item → List Item → List Item → List Item
-whole_items meta ps ls ds paths = meta ++ (section (codes "NODES") ps ++ (section (codes "LINKS") ls ++ (section (codes "DEMANDS") ds ++ paths)))
+whole_items meta ps ls ds paths = meta ++ (section_items (codes "NODES") ps ++ (section_items (codes "LINKS") ls ++ (section_items (codes "DEMANDS") ds ++ paths)))
 
 all_joined : (is j1 k1 j2 k2 j3 k3 j4 k4 l4 j5 k5 l5 meta ps ls ds : List Item) → is ≡ j1 ++ k1 → j1 ≡ meta ++ Verbatim (codes "NODES") ∷ [] → k1 ≡ j2 ++ k2 → j2 ≡ Opening ∷ [] → k2 ≡ j3 ++ k3 → j3 ≡ ps ++ Closing ∷ [] → k3 ≡ j4 ++ k4 → j4 ≡ Verbatim (codes "LINKS") ∷ Opening ∷ l4 → l4 ≡ ls ++ Closing ∷ []
     → k4 ≡ j5 ++ k5 → j5 ≡ Verbatim (codes "DEMANDS") ∷ Opening ∷ l5 → l5 ≡ ds ++ Closing ∷ [] → is ≡ whole_items meta ps ls ds k5
 all_joined is j1 k1 j2 k2 j3 k3 j4 k4 l4 j5 k5 l5 meta ps ls ds a b c d e f g h i j k l =
-    rw (a, b, c, d, e, f, g, h, i, j, k, l) (append_assoc meta (Verbatim (codes "NODES") ∷ []) (Opening ∷ ((ps ++ Closing ∷ []) ++ (section (codes "LINKS") ls ++ (section (codes "DEMANDS") ds ++ k5)))))
+    rw (a, b, c, d, e, f, g, h, i, j, k, l) (append_assoc meta (Verbatim (codes "NODES") ∷ []) (Opening ∷ ((ps ++ Closing ∷ []) ++ (section_items (codes "LINKS") ls ++ (section_items (codes "DEMANDS") ds ++ k5)))))
 
 -- names of links, with their costs and without
 named_link : (w : List ℕ) (links : List CostedLink) → is_named (λ x. x.name) w (map (λ l. l.link) links) ≡ is_named (λ l. l.link.name) w links
@@ -393,9 +393,9 @@ of_network x is s =
       parts_are = parts_equal x.0.nodes s.links x.0 refl s.links_are s.notes_are;
     }
 
-pub sections_spelled : Spelled sections_at SpellsParts IsEnd
-unfolding sections_at
-sections_spelled = spelled_as sections_at _ SpellsParts IsEnd
+pub sections_spelled : Spelled native_sections_at SpellsParts IsEnd
+unfolding native_sections_at
+sections_spelled = spelled_as native_sections_at _ SpellsParts IsEnd
     (λ x is s.
     let m = s.3 in
     let o = s.4 in
@@ -471,18 +471,18 @@ sections_spelled = spelled_as sections_at _ SpellsParts IsEnd
     ))
     (spelled_then start_at _ _ _ IsEnd start_spelled (λ m js s.
     spelled_then (open_at Section Ended) _ _ _ IsEnd (spelled_law (open_at Section Ended) _ _ AnyText (lawful_open Section Ended)) (λ o js s.
-    spelled_then (nodes_at []) _ AreNodes _ IsEnd nodes_spelled (λ nodes js s.
+    spelled_then (native_nodes_at []) _ AreNodes _ IsEnd nodes_spelled (λ nodes js s.
     let different : AreDifferent nodes = (nodes_new nodes js s).1 in
     spelled_then _ _ _ _ IsEnd (section_spelled (codes "LINKS") (costed_links_at nodes []) (AreLinkItems nodes) (spelled_law (costed_links_at nodes []) _ _ AnyText (links_lawful nodes different))) (λ links js s.
-    spelled_then _ _ _ _ IsEnd (section_spelled (codes "DEMANDS") (demands_at nodes []) (AreDemandItems nodes) (demands_spelled nodes different)) (λ demands js s.
+    spelled_then _ _ _ _ IsEnd (section_spelled (codes "DEMANDS") (native_demands_at nodes []) (AreDemandItems nodes) (demands_spelled nodes different)) (λ demands js s.
     spelled_given _ (λ u. (parts nodes links, demands)) _ IsEnd (paths_spelled _ _)))))))
 
 -- ---- what the code needs while it reads
 
-pub few_nodes : (text : Text) (nodes : List (List ℕ)) (rest : Text) → nodes_at [] text ≡ Ok (nodes, rest) → length nodes ≤ 128
+pub few_nodes : (text : Text) (nodes : List (List ℕ)) (rest : Text) → native_nodes_at [] text ≡ Ok (nodes, rest) → length nodes ≤ 128
 few_nodes text nodes rest e = let h = nodes_spelled.takes text nodes rest e in (nodes_new nodes h.0 h.1).0
 
-pub read_is_network : (text mid : Text) (nodes : List (List ℕ)) (a b : Text) (links : List CostedLink) → nodes_at [] text ≡ Ok (nodes, a) → section_at (codes "LINKS") (costed_links_at nodes []) mid ≡ Ok (links, b) → IsNetwork nodes (map (λ l. l.link) links)
+pub read_is_network : (text mid : Text) (nodes : List (List ℕ)) (a b : Text) (links : List CostedLink) → native_nodes_at [] text ≡ Ok (nodes, a) → native_section_at (codes "LINKS") (costed_links_at nodes []) mid ≡ Ok (links, b) → IsNetwork nodes (map (λ l. l.link) links)
 read_is_network text mid nodes a b links first second =
     let n = nodes_spelled.takes text nodes a first in
     let law = section_spelled (codes "LINKS") (costed_links_at nodes []) (AreLinkItems nodes) (spelled_law (costed_links_at nodes []) _ _ AnyText (links_lawful nodes (nodes_new nodes n.0 n.1).1)) in
@@ -498,26 +498,26 @@ abbrev seen : Network × List Demand → Parts × List Demand
 seen r = (parts_of r.0, r.1)
 
 -- what reading the sections gave is what the file gives
-pub file_answers : (bytes : List ℕ) (r : Answer) (rest : Text) → are_same (trimmed (first_line bytes)) header ≡ true → ReadsAs seen r rest (sections_at (body bytes)) → ReadsAllAs seen r (network_of bytes)
-file_answers bytes (Ok x) rest line read = spelled_read Header header sections_at SpellsParts sections_spelled bytes (seen x) rest line read
-file_answers bytes (Err (Bad at kind)) rest line read = ap (λ (b : Bool). cond b (sections_at (body bytes)) (Err (0, Header))) line ∙ read
+pub file_answers : (bytes : List ℕ) (r : Answer) (rest : Text) → are_same (trimmed (first_line bytes)) header ≡ true → ReadsAs seen r rest (native_sections_at (body bytes)) → ReadsAllAs seen r (network_of bytes)
+file_answers bytes (Ok x) rest line read = spelled_read Header header native_sections_at SpellsParts sections_spelled bytes (seen x) rest line read
+file_answers bytes (Err (Bad at kind)) rest line read = ap (λ (b : Bool). cond b (native_sections_at (body bytes)) (Err (0, Header))) line ∙ read
 file_answers bytes (Err NoMemory) rest line read = tt
 
 pub is_spelled : (bytes : List ℕ) (r : Answer) → ReadsAllAs seen r (network_of bytes) → IfOk r (λ x. Spells bytes x.0 x.1)
-is_spelled bytes r h = found_spelled Header header sections_at SpellsParts sections_spelled seen bytes r h
+is_spelled bytes r h = found_spelled Header header native_sections_at SpellsParts sections_spelled seen bytes r h
 
 pub is_only : (bytes : List ℕ) (r : Answer) → ReadsAllAs seen r (network_of bytes) → IfOk r (λ x. (net : Network) (demands : List Demand) → Spells bytes net demands → (net.nodes ≡ x.0.nodes) × (net.links ≡ x.0.links) × (net.notes ≡ x.0.notes) × (demands ≡ x.1))
 is_only bytes (Ok x) h = λ net demands s.
-    let same : seen x ≡ (parts_of net, demands) = only_spelled Header header sections_at SpellsParts sections_spelled seen bytes (Ok x) h (parts_of net, demands) s in
+    let same : seen x ≡ (parts_of net, demands) = only_spelled Header header native_sections_at SpellsParts sections_spelled seen bytes (Ok x) h (parts_of net, demands) s in
     (sym (ap (λ (y : Parts × List Demand). y.0.nodes) same), sym (ap (λ (y : Parts × List Demand). y.0.links) same), sym (ap (λ (y : Parts × List Demand). y.0.notes) same), sym (ap (λ (y : Parts × List Demand). y.1) same))
 is_only bytes (Err e) h = tt
 
 pub first_fault : (bytes : List ℕ) (r : Answer) → ReadsAllAs seen r (network_of bytes) → (at : ℕ) (kind : ReadKind) → r ≡ Err (Bad at kind) → IsFirstFault bytes at kind × ((net : Network) (demands : List Demand) → Spells bytes net demands → ⊥)
 first_fault bytes r h at kind e =
     let f : ReadsAllAs seen (Err (Bad at kind)) (network_of bytes) = subst (λ (x : Answer). ReadsAllAs seen x (network_of bytes)) e h in
-    (f, λ net demands s. only_spelled Header header sections_at SpellsParts sections_spelled seen bytes (Err (Bad at kind)) f (parts_of net, demands) s)
+    (f, λ net demands s. only_spelled Header header native_sections_at SpellsParts sections_spelled seen bytes (Err (Bad at kind)) f (parts_of net, demands) s)
 
 pub not_early : (bytes : List ℕ) (r : Answer) → ReadsAllAs seen r (network_of bytes) → IfErr r (IsNotTooEarly (λ other (x : Network × List Demand). Spells other x.0 x.1) bytes)
 not_early bytes (Ok x) h = tt
-not_early bytes (Err (Bad at kind)) h = λ other n same ends x s. first_spelled Header header sections_at SpellsParts sections_spelled seen sections_online bytes (Err (Bad at kind)) h other n same ends (seen x) s
+not_early bytes (Err (Bad at kind)) h = λ other n same ends x s. first_spelled Header header native_sections_at SpellsParts sections_spelled seen sections_online bytes (Err (Bad at kind)) h other n same ends (seen x) s
 not_early bytes (Err NoMemory) h = tt

@@ -96,8 +96,8 @@ skipped_at (suc n) (CloseAt at rest) = skipped_at n rest
 skipped_at n (EndAt at) = Err (at, Ended)
 
 -- a section's word, the parenthesis after it, and what stands there
-unfoldable pub section_at : {X : Type 0} → List ℕ → Reading ReadKind X → Reading ReadKind X
-section_at name r = do
+unfoldable pub native_section_at : {X : Type 0} → List ℕ → Reading ReadKind X → Reading ReadKind X
+native_section_at name r = do
   _ ← word_at Section Ended (expected Section name)
   _ ← open_at Section Ended
   r
@@ -120,8 +120,8 @@ unfoldable pub part_at : List NodePart → Reading ReadKind NodePart
 part_at sofar = step_at (name_part sofar) (coordinates sofar) (Err Token) (Err Ended) >>= part_behind
 
 -- further nodes
-abbrev pub nodes_at : List NodePart → Reading ReadKind (List (List ℕ))
-nodes_at sofar = mapped names_of (list_at Parenthesis no_fault part_at sofar)
+abbrev pub native_nodes_at : List NodePart → Reading ReadKind (List (List ℕ))
+native_nodes_at sofar = mapped names_of (list_at Parenthesis no_fault part_at sofar)
 
 -- two different nodes between parentheses
 unfoldable pub ends_at : ReadKind → List (List ℕ) → Reading ReadKind (NodeId × NodeId)
@@ -144,12 +144,12 @@ abbrev pub unserved : ℕ → List Module → Option ReadKind
 unserved fixed modules = if (length modules == 0) && nat_lt 0 fixed then Some FixedLink else None
 
 -- further modules of a link
-abbrev pub modules_at : ℕ → List Module → Reading ReadKind (List Module)
-modules_at fixed sofar = list_at Parenthesis (unserved fixed) module_at sofar
+abbrev pub native_modules_at : ℕ → List Module → Reading ReadKind (List Module)
+native_modules_at fixed sofar = list_at Parenthesis (unserved fixed) module_at sofar
 
 -- a link after others, with the two costs that aren't kept
-unfoldable pub link_at : List (List ℕ) → List CostedLink → Reading ReadKind CostedLink
-link_at nodes sofar = do
+unfoldable pub native_link_at : List (List ℕ) → List CostedLink → Reading ReadKind CostedLink
+native_link_at nodes sofar = do
   name ← word_at Token Ended (λ w. sound w (link_fault sofar w))
   ends ← ends_at SelfLink nodes
   fixed ← word_at Token Ended amount
@@ -157,7 +157,7 @@ link_at nodes sofar = do
   routing_cost ← word_at Token Ended amount
   setup ← word_at Token Ended amount
   _ ← open_at Token Ended
-  modules ← modules_at fixed []
+  modules ← native_modules_at fixed []
   give (record {
     link = record { name = name; a = ends.0; b = ends.1; fixed = fixed; setup = setup; modules = modules };
     fixed_cost = fixed_cost;
@@ -166,25 +166,25 @@ link_at nodes sofar = do
 
 -- further links
 abbrev pub costed_links_at : List (List ℕ) → List CostedLink → Reading ReadKind (List CostedLink)
-costed_links_at nodes sofar = list_at Parenthesis no_fault (link_at nodes) sofar
+costed_links_at nodes sofar = list_at Parenthesis no_fault (native_link_at nodes) sofar
 
 -- the need of all demands
-abbrev pub total : List Demand → ℕ
-total demands = sum_by (λ d. d.need) demands
+abbrev pub needs_in_all : List Demand → ℕ
+needs_in_all demands = sum_by (λ d. d.need) demands
 
 -- a demand after others
-unfoldable pub demand_at : List (List ℕ) → List Demand → Reading ReadKind Demand
-demand_at nodes sofar = do
+unfoldable pub native_demand_at : List (List ℕ) → List Demand → Reading ReadKind Demand
+native_demand_at nodes sofar = do
   name ← word_at Token Ended (λ w. sound w (demand_fault sofar w))
   ends ← ends_at SelfDemand nodes
   units ← word_at Token Ended unit
-  need ← word_at Token Ended (need (total sofar) units)
+  need ← word_at Token Ended (need (needs_in_all sofar) units)
   _ ← word_at Token Ended hops
   give (record { name = name; from = ends.0; to = ends.1; need = need })
 
 -- further demands
-abbrev pub demands_at : List (List ℕ) → List Demand → Reading ReadKind (List Demand)
-demands_at nodes sofar = list_at Parenthesis no_fault (demand_at nodes) sofar
+abbrev pub native_demands_at : List (List ℕ) → List Demand → Reading ReadKind (List Demand)
+native_demands_at nodes sofar = list_at Parenthesis no_fault (native_demand_at nodes) sofar
 
 -- one or more of a sort between parentheses, of which none is kept
 unfoldable pub some_at : Reading ReadKind (Unit {0}) → Reading ReadKind (Unit {0})
@@ -194,12 +194,12 @@ some_at one = do
   each_at one
 
 -- a path's name and its links
-abbrev pub path_at : List (List ℕ) → Reading ReadKind (Unit {0})
-path_at links = word_at Token Ended path_name >>= λ _. some_at (word_at Token Ended (known_name links))
+abbrev pub native_path_at : List (List ℕ) → Reading ReadKind (Unit {0})
+native_path_at links = word_at Token Ended path_name >>= λ _. some_at (word_at Token Ended (known_name links))
 
 -- a demand's name and its paths
-abbrev pub line_at : List (List ℕ) → List (List ℕ) → Reading ReadKind (Unit {0})
-line_at links demands = word_at Token Ended (known_name demands) >>= λ _. some_at (path_at links)
+abbrev pub path_line_at : List (List ℕ) → List (List ℕ) → Reading ReadKind (Unit {0})
+path_line_at links demands = word_at Token Ended (known_name demands) >>= λ _. some_at (native_path_at links)
 
 -- ---- whole files
 
@@ -227,7 +227,7 @@ is_paths w = if are_same w (codes "ADMISSIBLE_PATHS") then Ok true else Err Sect
 unfoldable pub paths_behind : List (List ℕ) → List (List ℕ) → Bool → Reading ReadKind (Unit {0})
 paths_behind links demands true = do
   _ ← open_at Section Ended
-  _ ← each_at (line_at links demands)
+  _ ← each_at (path_line_at links demands)
   end_at Section
 paths_behind links demands false = give tt
 
@@ -240,19 +240,19 @@ abbrev pub parts : List (List ℕ) → List CostedLink → Parts
 parts nodes links = record { nodes = nodes; links = map (λ l. l.link) links; notes = notes_of links }
 
 -- all sections, and nothing after them
-unfoldable pub sections_at : Reading ReadKind (Parts × List Demand)
-sections_at = do
+unfoldable pub native_sections_at : Reading ReadKind (Parts × List Demand)
+native_sections_at = do
   _ ← start_at
   _ ← open_at Section Ended
-  nodes ← nodes_at []
-  links ← section_at (codes "LINKS") (costed_links_at nodes [])
-  demands ← section_at (codes "DEMANDS") (demands_at nodes [])
+  nodes ← native_nodes_at []
+  links ← native_section_at (codes "LINKS") (costed_links_at nodes [])
+  demands ← native_section_at (codes "DEMANDS") (native_demands_at nodes [])
   _ ← paths_at (map (λ l. l.link.name) links) (map (λ d. d.name) demands)
   give (parts nodes links, demands)
 
 -- a whole file: its network and demands, or its first fault by place
 abbrev pub network_of : List ℕ → Read ReadKind (Parts × List Demand)
-network_of bytes = file_at Header header sections_at bytes
+network_of bytes = file_at Header header native_sections_at bytes
 
 -- the first fault by place of these bytes
 abbrev pub IsFirstFault : List ℕ → ℕ → ReadKind → Type 0

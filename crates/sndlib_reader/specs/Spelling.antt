@@ -15,7 +15,7 @@ use Rattle.sndlib_reader.specs.declared.costs.CostedLink.{CostedLink}
 use Rattle.text_kit.specs.Files.{SpellsBy}
 use Rattle.text_kit.specs.Items.{Item, Verbatim, Money, Opening, Closing, AreBehind, AreSpelled}
 use Rattle.sndlib_reader.specs.Balance.{IsSkipped}
-use Rattle.sndlib_reader.specs.Paths.{section, ArePaths}
+use Rattle.sndlib_reader.specs.Paths.{section_items, ArePaths}
 
 -- what stands in the list of nodes: a node's name, or the coordinates of the node before them
 pub data NodePart : Type 0 where
@@ -45,8 +45,8 @@ SpellsPart (NodeName name) items = items ≡ Verbatim name ∷ []
 SpellsPart Coordinates items = (inside : List Item) × IsSkipped inside × (items ≡ Opening ∷ inside)
 
 -- the names of two nodes between parentheses
-abbrev pub ends_items : List (List ℕ) → NodeId → NodeId → List Item
-ends_items nodes a b = Opening ∷ Verbatim (get_or nodes a.0 []) ∷ Verbatim (get_or nodes b.0 []) ∷ Closing ∷ []
+abbrev pub node_pair_items : List (List ℕ) → NodeId → NodeId → List Item
+node_pair_items nodes a b = Opening ∷ Verbatim (get_or nodes a.0 []) ∷ Verbatim (get_or nodes b.0 []) ∷ Closing ∷ []
 
 -- a module: its capacity and its cost
 abbrev pub module_items : Module → List Item
@@ -55,7 +55,7 @@ module_items m = Money m.capacity ∷ Money m.cost ∷ []
 -- a link: its name, its ends, its pre-installed capacity and the cost of that, its routing cost, its setup cost, and its modules
 abbrev pub link_items : List (List ℕ) → CostedLink → List Item
 link_items nodes l =
-    Verbatim l.link.name ∷ ends_items nodes l.link.a l.link.b
+    Verbatim l.link.name ∷ node_pair_items nodes l.link.a l.link.b
     ++ Money l.link.fixed ∷ Money l.fixed_cost ∷ Money l.routing_cost ∷ Money l.link.setup ∷ Opening ∷ (flat_map module_items l.link.modules ++ Closing ∷ [])
 
 -- what isn't kept of a link is in its range: its name and the two further costs
@@ -76,7 +76,7 @@ pub record SpellsDemand (nodes : List (List ℕ)) (d : Demand) (items : List Ite
   pub units : ℕ
   pub each : ℕ
   pub short : length d.name ≤ 255
-  pub items_are : items ≡ Verbatim d.name ∷ ends_items nodes d.from d.to ++ Verbatim unit ∷ Verbatim amount ∷ Verbatim hops ∷ []
+  pub items_are : items ≡ Verbatim d.name ∷ node_pair_items nodes d.from d.to ++ Verbatim unit ∷ Verbatim amount ∷ Verbatim hops ∷ []
   pub unit_is : units_of unit ≡ Ok units
   pub amount_is : amount_of amount ≡ Ok each
   pub need_is : d.need ≡ units * each
@@ -112,7 +112,7 @@ pub record SpellsParts (x : Parts × List Demand) (items : List Item) : Type 0 w
   pub links : List CostedLink
   pub demand_items : List Item
   pub paths : List Item
-  pub items_are : items ≡ meta ++ (section (codes "NODES") part_items ++ (section (codes "LINKS") (flat_map (link_items x.0.nodes) links) ++ (section (codes "DEMANDS") demand_items ++ paths)))
+  pub items_are : items ≡ meta ++ (section_items (codes "NODES") part_items ++ (section_items (codes "LINKS") (flat_map (link_items x.0.nodes) links) ++ (section_items (codes "DEMANDS") demand_items ++ paths)))
   pub meta_is : IsMeta meta
   pub parts_are : AreSpelled SpellsPart parts part_items
   pub parts_in_order : AreBehind IsPartBehind [] parts

@@ -3,7 +3,7 @@ ghost use Rattle.net_core.specs.Tests.{is_named};
 ghost use Rattle.snd_tokens.specs.Lexemes.{left, size};
 ghost use Rattle.text_kit.specs.Answers.{ReadsAs, TakesElement};
 ghost use Rattle.text_kit.specs.Reading.{sound, word_at};
-ghost use Rattle.sndlib_reader.specs.Reading.{demand_at, demand_fault, demands_at, hops, need, total, unit};
+ghost use Rattle.sndlib_reader.specs.Reading.{native_demand_at, demand_fault, native_demands_at, hops, need, needs_in_all, unit};
 
 use crate::fault::{Limited, ReadKind, ReadRefusal};
 use crate::names::Names;
@@ -124,7 +124,7 @@ fn demand_name<'a>(
 }
 
 /// Takes a demand after these ones, whose total is `before`.
-#[tactic(auto, unfolding(crate::specs::Reading::demand_at))]
+#[tactic(auto, unfolding(crate::specs::Reading::native_demand_at))]
 fn demand<'a>(
     alloc: Global,
     nodes: &Names,
@@ -135,9 +135,9 @@ fn demand<'a>(
 ) -> Result<Demand, ReadRefusal>
     requires nodes { length nodes.now ≤ 128 }
     requires named { names.now ≡ map (λ d. d.name) demands.now }
-    requires sum { before ≡ total demands.now }
+    requires sum { before ≡ needs_in_all demands.now }
     requires below { before < 2 ^ 44 }
-    ensures reads { ReadsAs (λ d. d) result (left text.new) (demand_at nodes.now demands.now (left text.old)) }
+    ensures reads { ReadsAs (λ d. d) result (left text.new) (native_demand_at nodes.now demands.now (left text.old)) }
     ensures below { IfOk result (λ d. before + d.need < 2 ^ 44) }
     ensures last { IfOk result (λ d. names.new ≡ names.old ++ d.name ∷ []) }
 {
@@ -165,12 +165,12 @@ fn take_demand<'a>(
 ) -> Result<bool, ReadRefusal>
     requires nodes { length nodes.now ≤ 128 }
     requires named { names.now ≡ map (λ d. d.name) all.now }
-    requires sum { sum.now ≡ total all.now }
+    requires sum { sum.now ≡ needs_in_all all.now }
     requires below { sum.now < 2 ^ 44 }
-    ensures turn { TakesElement result (demands_at nodes.now all.old (left text.old)) (demands_at nodes.now all.new (left text.new)) (Ok (all.new, left text.new)) }
+    ensures turn { TakesElement result (native_demands_at nodes.now all.old (left text.old)) (native_demands_at nodes.now all.new (left text.new)) (Ok (all.new, left text.new)) }
     ensures shorter { IfOk result (λ more. IsTrue more → size (left text.new) < size (left text.old)) }
     ensures named { OnOk result (names.new ≡ map (λ d. d.name) all.new) }
-    ensures sum { OnOk result (sum.new ≡ total all.new) }
+    ensures sum { OnOk result (sum.new ≡ needs_in_all all.new) }
     ensures below { OnOk result (sum.new < 2 ^ 44) }
 {
     if let Some(_) = closes(text) {
@@ -189,7 +189,7 @@ pub(crate) fn demands<'a>(
     text: &mut Cursor<'a>,
 ) -> Result<(Demands, Names<'a>), ReadRefusal>
     requires { length nodes.now ≤ 128 }
-    ensures reads { ReadsAs (λ r. r.0) result (left text.new) (demands_at nodes.now [] (left text.old)) }
+    ensures reads { ReadsAs (λ r. r.0) result (left text.new) (native_demands_at nodes.now [] (left text.old)) }
     ensures named { IfOk result (λ r. r.1 ≡ map (λ d. d.name) r.0) }
 {
     let mut all = List::new(alloc);

@@ -3,7 +3,7 @@ ghost use Rattle.net_core.specs.Tests.{is_named};
 ghost use Rattle.snd_tokens.specs.Lexemes.{left, size};
 ghost use Rattle.text_kit.specs.Answers.{ReadsAs, TakesElement};
 ghost use Rattle.text_kit.specs.Reading.{sound, word_at};
-ghost use Rattle.sndlib_reader.specs.Reading.{capacity, link_at, link_fault, costed_links_at, module_at, modules_at};
+ghost use Rattle.sndlib_reader.specs.Reading.{capacity, native_link_at, link_fault, costed_links_at, module_at, native_modules_at};
 
 use crate::costs::CostedLink;
 use crate::fault::{Limited, ReadKind, ReadRefusal};
@@ -55,7 +55,7 @@ fn module(modules: &[Module], text: &mut Cursor) -> Result<Module, ReadRefusal>
 
 /// Takes one module more of a link with this pre-installed capacity, and says whether there was one.
 fn take_module(fixed: u64, all: &mut List<Module>, text: &mut Cursor) -> Result<bool, ReadRefusal>
-    ensures turn { TakesElement result (modules_at fixed all.old (left text.old)) (modules_at fixed all.new (left text.new)) (Ok (all.new, left text.new)) }
+    ensures turn { TakesElement result (native_modules_at fixed all.old (left text.old)) (native_modules_at fixed all.new (left text.new)) (Ok (all.new, left text.new)) }
     ensures shorter { IfOk result (λ more. IsTrue more → size (left text.new) < size (left text.old)) }
 {
     if let Some(at) = closes(text) {
@@ -71,7 +71,7 @@ fn take_module(fixed: u64, all: &mut List<Module>, text: &mut Cursor) -> Result<
 
 /// Takes the modules of a link with this pre-installed capacity, up to the closing parenthesis.
 fn modules(alloc: Global, fixed: u64, text: &mut Cursor) -> Result<List<Module>, ReadRefusal>
-    ensures { ReadsAs (λ modules. modules) result (left text.new) (modules_at fixed [] (left text.old)) }
+    ensures { ReadsAs (λ modules. modules) result (left text.new) (native_modules_at fixed [] (left text.old)) }
 {
     let mut all = List::new(alloc);
     while take_module(fixed, &mut all, text)? {}
@@ -112,7 +112,7 @@ fn link_name<'a>(
 }
 
 /// Takes a link after these ones.
-#[tactic(auto, unfolding(crate::specs::Reading::link_at))]
+#[tactic(auto, unfolding(crate::specs::Reading::native_link_at))]
 fn link<'a>(
     alloc: Global,
     nodes: &Names,
@@ -122,7 +122,7 @@ fn link<'a>(
 ) -> Result<CostedLink, ReadRefusal>
     requires nodes { length nodes.now ≤ 128 }
     requires named { names.now ≡ map (λ l. l.link.name) links.now }
-    ensures reads { ReadsAs (λ l. l) result (left text.new) (link_at nodes.now links.now (left text.old)) }
+    ensures reads { ReadsAs (λ l. l) result (left text.new) (native_link_at nodes.now links.now (left text.old)) }
     ensures last { IfOk result (λ l. names.new ≡ names.old ++ l.link.name ∷ []) }
 {
     let name = link_name(alloc, links, names, text)?;

@@ -3,7 +3,7 @@ ghost use Rattle.net_core.specs.Tests.{is_named};
 ghost use Rattle.snd_tokens.specs.Lexemes.{left, size};
 ghost use Rattle.text_kit.specs.Answers.{ReadsAs, TakesElement};
 ghost use Rattle.text_kit.specs.Reading.{word_at};
-ghost use Rattle.sndlib_reader.specs.Reading.{ends_at, node_fault, node_named, nodes_at, other_node};
+ghost use Rattle.sndlib_reader.specs.Reading.{ends_at, node_fault, node_named, native_nodes_at, other_node};
 ghost use Rattle.sndlib_reader.specs.inner.Nodes.{parts_so_far};
 
 use crate::fault::{Limited, ReadKind, ReadRefusal};
@@ -46,7 +46,7 @@ fn take_part<'a>(
 ) -> Result<bool, ReadRefusal>
     requires some { IsTrue after_name.now → 1 ≤ length nodes.now }
     requires named { names.now ≡ nodes.now }
-    ensures turn { TakesElement result (nodes_at (parts_so_far nodes.old after_name.old) (left text.old)) (nodes_at (parts_so_far nodes.new after_name.new) (left text.new)) (Ok (nodes.new, left text.new)) }
+    ensures turn { TakesElement result (native_nodes_at (parts_so_far nodes.old after_name.old) (left text.old)) (native_nodes_at (parts_so_far nodes.new after_name.new) (left text.new)) (Ok (nodes.new, left text.new)) }
     ensures shorter { IfOk result (λ more. IsTrue more → size (left text.new) < size (left text.old)) }
     ensures some { OnOk result (IsTrue after_name.new → 1 ≤ length nodes.new) }
     ensures named { OnOk result (names.new ≡ nodes.new) }
@@ -76,7 +76,7 @@ pub(crate) fn nodes<'a>(
     alloc: Global,
     text: &mut Cursor<'a>,
 ) -> Result<(List<Name>, Names<'a>), ReadRefusal>
-    ensures reads { ReadsAs (λ r. r.0) result (left text.new) (nodes_at [] (left text.old)) }
+    ensures reads { ReadsAs (λ r. r.0) result (left text.new) (native_nodes_at [] (left text.old)) }
     ensures named { IfOk result (λ r. r.1 ≡ r.0) }
 {
     let mut nodes = List::new(alloc);

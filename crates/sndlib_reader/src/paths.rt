@@ -2,7 +2,7 @@ ghost use Rattle.std.specs.Prelude.{◌≡◌, ◌<◌, false, IsTrue, IfOk, Ok,
 ghost use Rattle.snd_tokens.specs.Lexemes.{left, size};
 ghost use Rattle.text_kit.specs.Answers.{ReadsAs, TakesElement};
 ghost use Rattle.text_kit.specs.Reading.{each_at, step_at, word_at};
-ghost use Rattle.sndlib_reader.specs.Reading.{is_paths, known_name, line_at, path_at, path_name, paths_at, some_at};
+ghost use Rattle.sndlib_reader.specs.Reading.{is_paths, known_name, path_line_at, native_path_at, path_name, paths_at, some_at};
 
 use crate::fault::{Limited, ReadKind, ReadRefusal};
 use crate::names::Names;
@@ -58,7 +58,7 @@ fn path_name(text: &mut Cursor) -> Result<(), ReadRefusal>
 
 /// Takes a path: its name and its links.
 fn path(links: &Names, text: &mut Cursor) -> Result<(), ReadRefusal>
-    ensures { ReadsAs (λ _. tt) result (left text.new) (path_at links.now (left text.old)) }
+    ensures { ReadsAs (λ _. tt) result (left text.new) (native_path_at links.now (left text.old)) }
 {
     path_name(text)?;
     path_links(links, text)
@@ -66,7 +66,7 @@ fn path(links: &Names, text: &mut Cursor) -> Result<(), ReadRefusal>
 
 /// Takes one path more of a demand, and says whether there was one.
 fn take_path(links: &Names, text: &mut Cursor) -> Result<bool, ReadRefusal>
-    ensures turn { TakesElement result (each_at (path_at links.now) (left text.old)) (each_at (path_at links.now) (left text.new)) (Ok (tt, left text.new)) }
+    ensures turn { TakesElement result (each_at (native_path_at links.now) (left text.old)) (each_at (native_path_at links.now) (left text.new)) (Ok (tt, left text.new)) }
     ensures shorter { IfOk result (λ more. IsTrue more → size (left text.new) < size (left text.old)) }
 {
     if let Some(_) = closes(text) {
@@ -79,7 +79,7 @@ fn take_path(links: &Names, text: &mut Cursor) -> Result<bool, ReadRefusal>
 /// Takes the paths of a demand between parentheses.
 #[tactic(auto, unfolding(crate::specs::Reading::some_at))]
 fn demand_paths(links: &Names, text: &mut Cursor) -> Result<(), ReadRefusal>
-    ensures { ReadsAs (λ _. tt) result (left text.new) (some_at (path_at links.now) (left text.old)) }
+    ensures { ReadsAs (λ _. tt) result (left text.new) (some_at (native_path_at links.now) (left text.old)) }
 {
     open(ReadKind::Token, ReadKind::Ended, text)?;
     path(links, text)?;
@@ -89,7 +89,7 @@ fn demand_paths(links: &Names, text: &mut Cursor) -> Result<(), ReadRefusal>
 
 /// Takes a line: a demand's name and its paths.
 fn line(links: &Names, demands: &Names, text: &mut Cursor) -> Result<(), ReadRefusal>
-    ensures { ReadsAs (λ _. tt) result (left text.new) (line_at links.now demands.now (left text.old)) }
+    ensures { ReadsAs (λ _. tt) result (left text.new) (path_line_at links.now demands.now (left text.old)) }
 {
     known(demands, text)?;
     demand_paths(links, text)
@@ -97,7 +97,7 @@ fn line(links: &Names, demands: &Names, text: &mut Cursor) -> Result<(), ReadRef
 
 /// Takes one line more, and says whether there was one.
 fn take_line(links: &Names, demands: &Names, text: &mut Cursor) -> Result<bool, ReadRefusal>
-    ensures turn { TakesElement result (each_at (line_at links.now demands.now) (left text.old)) (each_at (line_at links.now demands.now) (left text.new)) (Ok (tt, left text.new)) }
+    ensures turn { TakesElement result (each_at (path_line_at links.now demands.now) (left text.old)) (each_at (path_line_at links.now demands.now) (left text.new)) (Ok (tt, left text.new)) }
     ensures shorter { IfOk result (λ more. IsTrue more → size (left text.new) < size (left text.old)) }
 {
     if let Some(_) = closes(text) {
@@ -109,7 +109,7 @@ fn take_line(links: &Names, demands: &Names, text: &mut Cursor) -> Result<bool, 
 
 /// Takes lines, up to the closing parenthesis.
 fn lines(links: &Names, demands: &Names, text: &mut Cursor) -> Result<(), ReadRefusal>
-    ensures { ReadsAs (λ _. tt) result (left text.new) (each_at (line_at links.now demands.now) (left text.old)) }
+    ensures { ReadsAs (λ _. tt) result (left text.new) (each_at (path_line_at links.now demands.now) (left text.old)) }
 {
     while take_line(links, demands, text)? {}
     Ok(())

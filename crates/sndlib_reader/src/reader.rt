@@ -9,7 +9,7 @@ ghost use Rattle.text_kit.specs.Reading.{word_at};
 ghost use Rattle.text_kit.specs.declared.refusal.Refusal.{Refusal};
 ghost use Rattle.sndlib_reader.specs.declared.fault.ReadKind.{ReadKind};
 ghost use Rattle.sndlib_reader.specs.Spelling.{Spells, parts_of};
-ghost use Rattle.sndlib_reader.specs.Reading.{IsFirstFault, demands_at, is_meta, costed_links_at, network_of, parts, section_at, sections_at, start_at};
+ghost use Rattle.sndlib_reader.specs.Reading.{IsFirstFault, native_demands_at, is_meta, costed_links_at, network_of, parts, native_section_at, native_sections_at, start_at};
 
 use crate::costs::{CostedLink, links_of, notes_of};
 use crate::demand::demands;
@@ -65,14 +65,14 @@ fn start(text: &mut Cursor) -> Result<(), ReadRefusal>
 }
 
 /// Takes the section of links. It gives their names for look-ups too.
-#[tactic(auto, unfolding(crate::specs::Reading::section_at))]
+#[tactic(auto, unfolding(crate::specs::Reading::native_section_at))]
 fn link_section<'a>(
     alloc: Global,
     nodes: &Names,
     text: &mut Cursor<'a>,
 ) -> Result<(List<CostedLink>, Names<'a>), ReadRefusal>
     requires { length nodes.now ≤ 128 }
-    ensures reads { ReadsAs (λ r. r.0) result (left text.new) (section_at (codes "LINKS") (costed_links_at nodes.now []) (left text.old)) }
+    ensures reads { ReadsAs (λ r. r.0) result (left text.new) (native_section_at (codes "LINKS") (costed_links_at nodes.now []) (left text.old)) }
     ensures named { IfOk result (λ r. r.1 ≡ map (λ l. l.link.name) r.0) }
 {
     expect(ReadKind::Section, ReadKind::Ended, b"LINKS", text)?;
@@ -81,14 +81,14 @@ fn link_section<'a>(
 }
 
 /// Takes the section of demands. It gives their names for look-ups too.
-#[tactic(auto, unfolding(crate::specs::Reading::section_at))]
+#[tactic(auto, unfolding(crate::specs::Reading::native_section_at))]
 fn demand_section<'a>(
     alloc: Global,
     nodes: &Names,
     text: &mut Cursor<'a>,
 ) -> Result<(Demands, Names<'a>), ReadRefusal>
     requires { length nodes.now ≤ 128 }
-    ensures reads { ReadsAs (λ r. r.0) result (left text.new) (section_at (codes "DEMANDS") (demands_at nodes.now []) (left text.old)) }
+    ensures reads { ReadsAs (λ r. r.0) result (left text.new) (native_section_at (codes "DEMANDS") (native_demands_at nodes.now []) (left text.old)) }
     ensures named { IfOk result (λ r. r.1 ≡ map (λ d. d.name) r.0) }
 {
     expect(ReadKind::Section, ReadKind::Ended, b"DEMANDS", text)?;
@@ -110,9 +110,9 @@ fn network(alloc: Global, nodes: List<Name>, links: List<CostedLink>) -> Result<
 }
 
 /// Takes all sections, and finds that nothing is after them.
-#[tactic(auto, unfolding(crate::specs::Reading::sections_at))]
+#[tactic(auto, unfolding(crate::specs::Reading::native_sections_at))]
 fn sections(alloc: Global, text: &mut Cursor) -> Result<(Network, Demands), ReadRefusal>
-    ensures { ReadsAs (λ r. (parts_of r.0, r.1)) result (left text.new) (sections_at (left text.old)) }
+    ensures { ReadsAs (λ r. (parts_of r.0, r.1)) result (left text.new) (native_sections_at (left text.old)) }
 {
     start(text)?;
     open(ReadKind::Section, ReadKind::Ended, text)?;

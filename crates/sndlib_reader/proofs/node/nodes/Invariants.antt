@@ -1,11 +1,11 @@
 use Rattle.std.proofs.Common.{◌≡◌, ◌≤◌, [], length, IsTrue}
 use Rattle.snd_tokens.specs.Lexemes.{left, size}
-use Rattle.sndlib_reader.specs.Reading.{nodes_at}
+use Rattle.sndlib_reader.specs.Reading.{native_nodes_at}
 use Rattle.sndlib_reader.specs.inner.Nodes.{parts_so_far}
 use Rattle.sndlib_reader.proofs.node.nodes.Given as goal
 
 abbrev pub invariant-loop-names : goal.invariant-loop-names
-invariant-loop-names l = (nodes_at (parts_so_far l.nodes l.after_name) (left l.text) ≡ nodes_at [] (left l.fn.text)) × (IsTrue l.after_name → 1 ≤ length l.nodes) × (l.names ≡ l.nodes)
+invariant-loop-names l = (native_nodes_at (parts_so_far l.nodes l.after_name) (left l.text) ≡ native_nodes_at [] (left l.fn.text)) × (IsTrue l.after_name → 1 ≤ length l.nodes) × (l.names ≡ l.nodes)
 
 abbrev pub decreases-loop-names : goal.decreases-loop-names
 decreases-loop-names l = size (left l.text)
