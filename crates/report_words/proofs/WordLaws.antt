@@ -32,7 +32,7 @@ use Rattle.text_kit.proofs.Spelled.{Lawful}
 use Rattle.plan_report.specs.Names.{demand_name, link_name, node_name}
 use Rattle.report_words.specs.declared.fault.ReportKind.{ReportKind}
 use Rattle.report_words.specs.declared.fault.ReportKind.TheVariants.{Token, Ended, Number, LimitName, DoubleName, Limit}
-use Rattle.report_words.specs.ReportWords.{amount_at, as_link, as_node, below, closing_at, demand_at, demand_of, has_room, keyword_at, keyword_within, link_at, link_of, money_at, money_below, name_at, new_demand, node_at, node_of, number_at, opening_at, opening_within, passed, place_of, this_name, this_name_at, this_number, this_number_at, unknown_name, where_room, whole_within, within}
+use Rattle.report_words.specs.ReportWords.{amount_at, as_link, as_node, below, closing_at, demand_at, demand_of, has_room, keyword_at, keyword_within, link_at, link_of, money_at, money_below, name_at, new_demand, node_at, node_of_word, number_at, opening_at, opening_within, passed, place_of, this_name, this_name_at, this_number, this_number_at, unknown_name, where_room, whole_within, within}
 
 -- ---- room
 
@@ -197,7 +197,7 @@ as_node_takes (Ok i) n h = ap (λ (x : NodeId). Ok x.0) (ok_is {E = ReportKind} 
 as_node_takes (Err kind) n h = absurd cc
 
 pub node_law : (nodes : List (List ℕ)) → AllPairs (λ x y. x ≢ y) nodes → Lawful (node_at nodes) (λ n. Verbatim (node_name nodes n) ∷ []) (λ n. n.0 < length nodes) AnyText
-node_law nodes pairs = lawful_word Token Ended (node_of nodes) (λ n. Verbatim (node_name nodes n)) (λ n. n.0 < length nodes) (λ n. tt)
+node_law nodes pairs = lawful_word Token Ended (node_of_word nodes) (λ n. Verbatim (node_name nodes n)) (λ n. n.0 < length nodes) (λ n. tt)
     (λ w n h. place_takes (λ (x : List ℕ). x) nodes [] w n.0 (as_node_takes (place_of (λ x. x) nodes w) n h))
     (λ w n lt same. ap as_node (place_again (λ (x : List ℕ). x) nodes [] pairs w n.0 lt same))
 

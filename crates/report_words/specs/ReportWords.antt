@@ -81,8 +81,8 @@ as_node (Err kind) = Err kind
 abbrev pub link_of : List Link → List ℕ → Result LinkId ReportKind
 link_of links w = as_link (place_of (λ l. l.name) links w)
 
-abbrev pub node_of : List (List ℕ) → List ℕ → Result NodeId ReportKind
-node_of nodes w = as_node (place_of (λ n. n) nodes w)
+abbrev pub node_of_word : List (List ℕ) → List ℕ → Result NodeId ReportKind
+node_of_word nodes w = as_node (place_of (λ n. n) nodes w)
 
 abbrev pub demand_of : List Demand → List ℕ → Result ℕ ReportKind
 demand_of demands w = place_of (λ d. d.name) demands w
@@ -116,7 +116,7 @@ abbrev pub link_at : List Link → Reading ReportKind LinkId
 link_at links = word_at Token Ended (link_of links)
 
 abbrev pub node_at : List (List ℕ) → Reading ReportKind NodeId
-node_at nodes = word_at Token Ended (node_of nodes)
+node_at nodes = word_at Token Ended (node_of_word nodes)
 
 abbrev pub demand_at : List Demand → Reading ReportKind ℕ
 demand_at demands = word_at Token Ended (demand_of demands)

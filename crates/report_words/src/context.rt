@@ -1,7 +1,7 @@
 ghost use Rattle.std.specs.Prelude.{◌≡◌, map, IfOk};
 ghost use Rattle.snd_tokens.specs.Lexemes.{left};
 ghost use Rattle.text_kit.specs.Answers.{ReadsAs};
-ghost use Rattle.report_words.specs.ReportWords.{link_at, link_of, node_at, node_of};
+ghost use Rattle.report_words.specs.ReportWords.{link_at, link_of, node_at, node_of_word};
 
 use crate::fault::{ReportKind, ReportRefusal};
 use crate::places::Places;
@@ -86,7 +86,7 @@ impl<'a> Context<'a> {
 
     /// The node that a word names.
     fn node_of(&self, word: &[u8]) -> Result<NodeId, ReportKind>
-        ensures { result ≡ node_of self.now.net.now.nodes word.now }
+        ensures { result ≡ node_of_word self.now.net.now.nodes word.now }
     {
         match self.nodes.find(word) {
             Some(place) => Ok(NodeId(place as u32)),
