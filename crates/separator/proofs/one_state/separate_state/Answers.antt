@@ -5,8 +5,8 @@ use Rattle.flow_router.specs.Answers.{IsRouteAnswer}
 use Rattle.separator.proofs.Somewhere.{found_cut}
 use Rattle.separator.proofs.one_state.separate_state.Goals as goal
 
-pub nearest_set-requires-clause-cut : goal.nearest_set-requires-clause-cut
-nearest_set-requires-clause-cut c =
+pub nearest_set-nearest-requires-clause-cut : goal.nearest_set-nearest-requires-clause-cut
+nearest_set-nearest-requires-clause-cut c =
     let instance = c.args.instance.now in
     let g = graph_in (case_of instance) c.args.state.0 in
     let caps = c.args.caps.now in
