@@ -28,7 +28,7 @@ use Rattle.report_checker.specs.ReportFindings.{HasNoFinding, whole_findings}
 use Rattle.session_script.specs.declared.script.Act.{Act}
 use Rattle.session_script.specs.declared.script.Act.TheVariants as acts
 use Rattle.session_script.specs.declared.script.Command.{Command}
-use Rattle.session_run.specs.Transcripts.{IsNamedSeparation, IsOutcomeAfter, IsPlanBetween, IsTranscript, RunsFrom, acts_of, caller_of, case_left, outcomes_of}
+use Rattle.session_run.specs.Transcripts.{IsNamedSeparation, IsOutcomeAfter, IsPlanBetween, IsTranscript, RunsFrom, acts_of, outcome_caller, case_left, outcomes_of}
 use Rattle.session_run.proofs.OutcomeForms.{kept_one}
 use Rattle.acceptance.specs.Reports.{IsSoundPlanOf, IsSoundRefusalOf}
 use Rattle.acceptance.specs.Transcripts.{IsBelowAllAble, TranscriptsAreAccepted}
@@ -127,8 +127,8 @@ module _ (p : Case) (notes : Notes) (commands : List Command) (r : Report) (few 
     of_all : All Q r.outcomes
     of_all = λ k d lt.
         let o = get_or r.outcomes k d in
-        let caller = caller_of o in
-        kept_one Q (λ x. caller_of x == caller) r.outcomes (of_run caller 0 1 (acts_of caller commands) (outcomes_of caller r.outcomes) (t.runs caller)) k d lt (eq-eqb caller caller refl)
+        let caller = outcome_caller o in
+        kept_one Q (λ x. outcome_caller x == caller) r.outcomes (of_run caller 0 1 (acts_of caller commands) (outcomes_of caller r.outcomes) (t.runs caller)) k d lt (eq-eqb caller caller refl)
 
   whole_clean : HoldNone (whole_findings notes p r)
   whole_clean =
