@@ -1,7 +1,8 @@
 """Refuses each allocation of a command in turn, and looks at what the program then says.
 
 The program may end with the status of no memory and nothing written, or say what it says without a refusal. The callers of a session run beside
-each other, so that its report may differ from run to run: there it may write a report that `check` accepts.
+each other, so that its report may differ from run to run; and where memory runs out for the set of nodes near to a cut, the cut itself is taken,
+so that a plan may become another. There it may write a report that `check` accepts.
 
 Ends with status 1 where the program ends in another way.
 """
@@ -33,14 +34,15 @@ def refused(program, words, library, work, number):
     return ended
 
 
-def is_other_session(program, words, work, ended):
-    """Whether a session wrote a whole report, as `check` says."""
-    if words[0] != "session" or ended[0] != 0:
+def is_other_report(program, words, work, ended):
+    """Whether a plan or a session wrote a whole report, as `check` says."""
+    if words[0] not in ("plan", "session") or ended[0] != 0:
         return False
-    report = os.path.join(work, "session-report")
+    report = os.path.join(work, "other-report")
     with open(report, "wb") as out:
         out.write(ended[1])
-    return run(program, ["check", *words[1:4], report])[0] == 0
+    files = (words[1:4] + ["default", "default"])[:3]
+    return run(program, ["check", *files, report])[0] == 0
 
 
 def answers(program, words, library, work):
@@ -59,7 +61,7 @@ def answers(program, words, library, work):
                     counts["no memory"] += 1
                 elif ended == plain:
                     counts["the same answer"] += 1
-                elif is_other_session(program, words, work, ended):
+                elif is_other_report(program, words, work, ended):
                     counts["another report that is accepted"] += 1
                 else:
                     wrong.append(f"allocation {number}: status {ended[0]}, {len(ended[1])} bytes")
