@@ -1,4 +1,4 @@
--- the bytes that a name may have
+-- the bytes that a word of a file, and so a name, may have
 use Rattle.std.specs.Prelude.{ℕ, ◌≤◌, List, [], ◌∷◌, length, IsTrue, Bool, false, ◌||◌, ◌&&◌, not, ◌==◌}
 use Rattle.std.specs.List.{list_all}
 

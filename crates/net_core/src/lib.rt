@@ -14,6 +14,7 @@ pub mod plan;
 pub mod problem;
 pub mod states;
 pub mod surviving;
+pub mod word_bytes;
 
 pub use columns::{Evidence, MasterColumn, RouteColumn, WideKind};
 pub use demand::{Demand, Demands};

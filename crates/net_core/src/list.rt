@@ -37,7 +37,8 @@ impl<T: Drop> From<(T, NoMemory)> for NoMemory {
     }
 }
 
-/// A list, which keeps the allocator that it was made with.
+/// A list, which keeps the allocator that it was made with. Its items lie side by side in one block of memory,
+/// which is given back when the list is dropped.
 #[derive(Drop)]
 pub struct List<T> {
     items: Vec<T>,
@@ -55,7 +56,7 @@ impl<T> List<T> {
     ghost use Rattle.std.specs.Borrow.{sem};
     ghost use Rattle.net_core.specs.Lists.{LendsItems};
 
-    /// The empty list, which takes no memory.
+    /// The empty list. It asks for no memory, and takes constant time.
     pub fn new(alloc: Global) -> List<T>
         ensures { result ≡ [] }
     {
@@ -64,7 +65,8 @@ impl<T> List<T> {
         }
     }
 
-    /// Puts an item last, or hands it back.
+    /// Puts an item last, or hands it back. Only where the list has no room left does it ask for memory, for
+    /// twice as many items at least, and the items may move there: so a push takes constant time on average.
     pub fn push(&mut self, item: T) -> Result<(), (T, NoMemory)>
         ensures ok { OnOk result (self.new ≡ self.old ++ item ∷ []) }
         ensures same { OnErr result (self.new ≡ self.old) }
@@ -76,14 +78,14 @@ impl<T> List<T> {
         }
     }
 
-    /// The items, as a slice.
+    /// The items, as a slice. It takes constant time.
     pub fn items(&self) -> &[T]
         ensures { result.now ≡ self.now }
     {
         self.items.as_slice()
     }
 
-    /// The items, for writing.
+    /// The items, for writing. It takes constant time.
     pub fn items_mut(&mut self) -> &mut [T]
         ensures* writes_back { sem 𝓛 (LendsItems T.row self.entry result) }
         ensures value { result.now ≡ self.old }
@@ -91,14 +93,15 @@ impl<T> List<T> {
         self.items.as_mut_slice()
     }
 
-    /// How many items there are.
+    /// How many items there are. It takes constant time.
     pub fn len(&self) -> usize
         ensures { result ≡ length self.now }
     {
         self.items.len()
     }
 
-    /// Takes an item out; those after it move up, in time that grows with their number.
+    /// Takes an item out; those after it move up, in time that grows with their number. The list keeps its room,
+    /// and asks for no memory.
     pub fn remove(&mut self, at: usize) -> T
         requires { at < length self.old }
         ensures item { slice_get self.old at ≡ Some result }
@@ -107,7 +110,7 @@ impl<T> List<T> {
         self.items.remove(at)
     }
 
-    /// The list of a vector's items.
+    /// The list of a vector's items. They stay where they are, in the vector's memory.
     pub fn from_vec(items: Vec<T>) -> List<T>
         ensures { result ≡ items.items }
     {
@@ -116,7 +119,7 @@ impl<T> List<T> {
 }
 
 impl<T: Drop> List<T> {
-    /// Drops all items.
+    /// Drops all items, one after another. The list keeps its room for later ones.
     pub fn clear(&mut self)
         ensures { self.new ≡ [] }
     {
@@ -125,7 +128,8 @@ impl<T: Drop> List<T> {
 }
 
 impl<T: Copy> List<T> {
-    /// As many copies of one item, in one allocation.
+    /// As many copies of one item, in time that grows with their number. It asks for memory once, for exactly
+    /// so many items, and not at all for none.
     pub fn filled(alloc: Global, item: T, count: usize) -> Result<List<T>, NoMemory>
         ensures { IfOk result (λ l. l ≡ replicate count item) }
     {
@@ -136,7 +140,8 @@ impl<T: Copy> List<T> {
         Ok(all)
     }
 
-    /// Puts all items last, or none.
+    /// Puts all items last, or none, in time that grows with their number. It asks for memory at most once, where
+    /// they don't fit: for all items, or for twice the room that the list had if that is more.
     pub fn append(&mut self, items: &[T]) -> Result<(), NoMemory>
         ensures ok { OnOk result (self.new ≡ self.old ++ items.now) }
         ensures same { OnErr result (self.new ≡ self.old) }
@@ -146,7 +151,8 @@ impl<T: Copy> List<T> {
     }
 }
 
-/// A value that can be copied. The copy equals the original.
+/// A value that can be copied. The copy equals the original. A copy takes time in the size of the original, and
+/// asks for memory once for each list in it that isn't empty; if that fails, what was copied so far is dropped.
 pub trait Copied: Drop + Sized {
     /// A copy, on the allocator that the original keeps.
     fn copy(&self) -> Result<Self, NoMemory>
@@ -160,7 +166,8 @@ impl<T: Copy> Copied for T {
 }
 
 impl<T: Copied> List<T> {
-    /// The list of copies of the items.
+    /// The list of copies of the items, in time in their size. It asks for memory once for the list, and for
+    /// what each item's copy takes.
     pub fn from_slice(alloc: Global, items: &[T]) -> Result<List<T>, NoMemory>
         ensures { IfOk result (λ l. l ≡ items.now) }
     {

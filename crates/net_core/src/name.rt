@@ -3,6 +3,7 @@ ghost use Rattle.std.specs.List.{list_all};
 ghost use Rattle.net_core.specs.Names.{IsName, is_word_byte, begins_comment, is_plain};
 
 use crate::list::{Copied, List, NoMemory};
+use crate::word_bytes::is_word_byte;
 use std::alloc::Global;
 use std::marker::Model;
 use thiserror::Error;
@@ -54,12 +55,6 @@ impl From<NoMemory> for NameFault {
     }
 }
 
-fn is_word_byte(b: u8) -> bool
-    ensures { result ≡ is_word_byte b }
-{
-    !(b == 9 || b == 10 || b == 13 || b == 32 || b == b'(' || b == b')')
-}
-
 fn are_word_bytes(bytes: &[u8]) -> bool
     ensures { result ≡ list_all is_word_byte bytes.now }
 {
@@ -82,7 +77,8 @@ fn is_plain(bytes: &[u8]) -> bool
 }
 
 impl Name {
-    /// The name of these bytes. The faults are tested in the order of `NameFault`.
+    /// The name of these bytes, which it copies. The faults are tested in the order of `NameFault`, before
+    /// any memory is asked for. It takes time in the number of the bytes.
     pub fn new(alloc: Global, bytes: &[u8]) -> Result<Name, NameFault>
         ensures ok { IfOk result (λ n. n ≡ bytes.now) }
         ensures empty { IsErrOf result NameFault.Empty ↔ (bytes.now ≡ []) }
@@ -104,7 +100,7 @@ impl Name {
         })
     }
 
-    /// The bytes of the name.
+    /// The bytes of the name. They stay where they are.
     pub fn bytes(&self) -> &[u8]
         ensures value { result.now ≡ self.now }
         ensures valid { IsName self.now }
@@ -112,7 +108,7 @@ impl Name {
         self.bytes.items()
     }
 
-    /// Whether two names are one.
+    /// Whether two names are one. It takes time in the length of the name, and no memory.
     pub fn same(&self, other: &Name) -> bool
         ensures { IsTrue result ↔ (self.now ≡ other.now) }
     {

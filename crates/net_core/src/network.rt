@@ -215,7 +215,8 @@ fn network_fault(nodes: &[Name], links: &[Link]) -> Option<NetFault>
 }
 
 impl Network {
-    /// The network of these parts, which are dropped at a refusal.
+    /// The network of these parts, which are dropped at a refusal. It compares each name with all before it, so
+    /// it takes time in the squares of the numbers of nodes and links. It asks for no memory.
     pub fn check(nodes: List<Name>, links: List<Link>, notes: Notes) -> Result<Network, NetFault>
         ensures faults { MatchResult result (λ _. network_fault nodes links ≡ None) (λ f. network_fault nodes links ≡ Some f) }
         ensures accepted { IsNetwork nodes links → IsOk result }
@@ -231,14 +232,14 @@ impl Network {
         }
     }
 
-    /// The names of the nodes.
+    /// The names of the nodes, without a copy.
     pub fn nodes(&self) -> &List<Name>
         ensures { result.now ≡ self.now.nodes }
     {
         &self.nodes
     }
 
-    /// The links.
+    /// The links, without a copy.
     pub fn links(&self) -> &List<Link>
         ensures { result.now ≡ self.now.links }
     {

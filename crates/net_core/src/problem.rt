@@ -5,7 +5,7 @@ use crate::instance::{Instance, Problem};
 use crate::list::{Copied, NoMemory};
 
 impl Problem {
-    /// The instance, borrowed.
+    /// The instance, borrowed. It takes constant time and no memory.
     pub fn instance(&self) -> Instance<'_>
         ensures { case_of result ≡ case self.now.net self.now.states self.now.demands }
     {

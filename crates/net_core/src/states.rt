@@ -111,7 +111,8 @@ fn states_fault(links: usize, listed: &[Listed]) -> Option<StatesFault>
 }
 
 impl States {
-    /// The states of this list, which is dropped at a refusal.
+    /// The states of this list, which is dropped at a refusal. It compares each name with all before it, so it
+    /// takes time in the square of the number of states. It asks for no memory.
     pub fn new(net: &Network, listed: List<Listed>) -> Result<States, StatesFault>
         ensures faults { MatchResult result (λ _. states_fault (length net.now.links) listed ≡ None) (λ f. states_fault (length net.now.links) listed ≡ Some f) }
         ensures accepted { AreStates (length net.now.links) listed → IsOk result }
@@ -123,7 +124,7 @@ impl States {
         }
     }
 
-    /// The state without failures alone. It takes no memory.
+    /// The state without failures alone. It asks for no memory.
     pub fn only_none(alloc: Global) -> States
         ensures { result.listed ≡ [] }
     {
@@ -132,7 +133,7 @@ impl States {
         }
     }
 
-    /// The list.
+    /// The list, without a copy.
     pub fn listed(&self) -> &List<Listed>
         ensures { result.now ≡ self.now.listed }
     {
@@ -146,7 +147,7 @@ impl States {
         self.listed.len() as u32 + 1
     }
 
-    /// Whether the state fails the link.
+    /// Whether the state fails the link. It goes through the links that the state fails, and asks for no memory.
     pub fn fails(&self, state: StateId, link: LinkId) -> bool
         requires { state.0 < length self.now.listed + 1 }
         ensures { result ≡ fails self.now.listed state.0 link.0 }

@@ -13,7 +13,7 @@ fn has_module(link: &Link) -> bool
 }
 
 impl<'a> Surviving<'a> {
-    /// Whether the link survives. It takes time in the links that the state fails.
+    /// Whether the link survives. It takes time in the links that the state fails, and no memory.
     pub fn has(&self, link: LinkId) -> bool
         requires { link.0 < length self.now.net.now.links }
         ensures { IsTrue result ↔ Survives (graph_of self.now) link.0 }
