@@ -26,7 +26,7 @@ use Rattle.model_reader.specs.declared.failures.FailureList.TheVariants.{OneByOn
 use Rattle.model_reader.specs.declared.failures.FailuresKind.{FailuresKind}
 use Rattle.model_reader.specs.declared.failures.FailuresKind.TheVariants.{Header, Section, Token, Ended, LimitName, UnknownLink, DoubleState, LimitStates}
 use Rattle.model_reader.specs.Failures.{IsListInForm, IsShort, SpellsFailures, failures_header, failing_link_name, list_items, state_items, states_of}
-use Rattle.model_reader.specs.FailuresReading.{behind_word, failure_list_at, failures_at, failures_of, failing_link_at, is_list, links_at, state_at, states_at}
+use Rattle.model_reader.specs.FailuresReading.{after_word, failure_list_at, failures_at, failures_of, failing_link_at, is_list, links_at, state_at, states_at}
 use Rattle.model_reader.proofs.FailureSingles.{network_differs}
 
 -- ---- links by name
@@ -47,13 +47,13 @@ name_at_place links e lt = rw (slice_get-get_or links e.0 no_link lt) refl
 -- ---- states
 
 -- a state that may stand after earlier ones
-abbrev IsStateBehind : List Link → List Listed → Listed → Type 0
-IsStateBehind links sofar s = IsNew (λ x. x.name) 256 sofar s.name × ((1 ≤ length s.links) × AreBehind (λ before e. IsLinkIn links e) [] s.links)
+abbrev IsStateAfter : List Link → List Listed → Listed → Type 0
+IsStateAfter links sofar s = IsNew (λ x. x.name) 256 sofar s.name × ((1 ≤ length s.links) × AreBehind (λ before e. IsLinkIn links e) [] s.links)
 
-are_states : (links : List Link) (listed : List Listed) → AreBehind (IsStateBehind links) [] listed → AreStates (length links) listed × All (IsShort links) listed
+are_states : (links : List Link) (listed : List Listed) → AreBehind (IsStateAfter links) [] listed → AreStates (length links) listed × All (IsShort links) listed
 are_states links listed all =
-    let new = are_new (λ (s : Listed). s.name) 256 listed (behind_as (IsStateBehind links) (λ before s. IsNew (λ x. x.name) 256 before s.name) [] listed (λ before s h. h.0) all) in
-    let each : (P : Listed → Type 0) → ((before : List Listed) (s : Listed) → IsStateBehind links before s → P s) → All P listed = λ P to. behind_all P [] listed (behind_as (IsStateBehind links) (λ before s. P s) [] listed to all) in
+    let new = are_new (λ (s : Listed). s.name) 256 listed (behind_as (IsStateAfter links) (λ before s. IsNew (λ x. x.name) 256 before s.name) [] listed (λ before s h. h.0) all) in
+    let each : (P : Listed → Type 0) → ((before : List Listed) (s : Listed) → IsStateAfter links before s → P s) → All P listed = λ P to. behind_all P [] listed (behind_as (IsStateAfter links) (λ before s. P s) [] listed to all) in
     let of_links : (P : LinkId → Type 0) (s : Listed) → ((e : LinkId) → IsLinkIn links e → P e) → AreBehind (λ before e. IsLinkIn links e) [] s.links → All P s.links = λ P s to h. behind_all P [] s.links (behind_as (λ before e. IsLinkIn links e) (λ before e. P e) [] s.links (λ before e i. to e i) h) in (
       record {
         checked = record { few = new.0; some = each (λ s. 1 ≤ length s.links) (λ before s h. h.1.0); different = new.1 };
@@ -62,9 +62,9 @@ are_states links listed all =
       each (IsShort links) (λ before s h. (h.0.2, of_links (λ e. length (failing_link_name links e) ≤ 255) s (λ e i. i.1) h.1.1)),
     )
 
-are_behind : (links : List Link) (listed : List Listed) → AreStates (length links) listed × All (IsShort links) listed → AreBehind (IsStateBehind links) [] listed
+are_behind : (links : List Link) (listed : List Listed) → AreStates (length links) listed × All (IsShort links) listed → AreBehind (IsStateAfter links) [] listed
 are_behind links listed h =
-    behind_as _ (IsStateBehind links) [] listed
+    behind_as _ (IsStateAfter links) [] listed
     (λ before s i. (i.0, (i.1.0, all_behind (IsLinkIn links) [] s.links (λ k d lt. (i.1.1 k d lt, i.1.2.1 k d lt)))))
     (behind_both (λ before s. IsNew (λ x. x.name) 256 before s.name) _ [] listed
     (new_are (λ (s : Listed). s.name) 256 listed h.0.checked.few h.0.checked.different (λ k d lt. (h.1 k d lt).0))
@@ -80,9 +80,9 @@ link_lawful links pairs = lawful_as (failing_link_at links) _ (λ e. Verbatim (f
     (lawful_then _ _ _ _ _ _ AnyText (λ e. e.0) (λ i e h. ap (λ (x : LinkId). x.0) h) (lawful_place (λ l. l.name) LimitName UnknownLink links no_link Token Ended pairs) (λ i.
     lawful_give (record { 0 = i })))
 
-state_lawful : (links : List Link) → AreDifferent links → (sofar : List Listed) → Lawful (state_at links sofar) (state_items links) (IsStateBehind links sofar) AnyText
+state_lawful : (links : List Link) → AreDifferent links → (sofar : List Listed) → Lawful (state_at links sofar) (state_items links) (IsStateAfter links sofar) AnyText
 unfolding state_at
-state_lawful links pairs sofar = lawful_as (state_at links sofar) _ (state_items links) _ (IsStateBehind links sofar) AnyText
+state_lawful links pairs sofar = lawful_as (state_at links sofar) _ (state_items links) _ (IsStateAfter links sofar) AnyText
     (λ s h. ap (λ (is : List Item). Verbatim s.name ∷ Opening ∷ is) (append-nil (flat_map (λ e. Verbatim (failing_link_name links e) ∷ []) s.links ++ Closing ∷ [])))
     (λ s h. (h.0, h.1.1.0))
     (λ s h. (h.0, (tt, (h.1, refl))))
@@ -93,7 +93,7 @@ state_lawful links pairs sofar = lawful_as (state_at links sofar) _ (state_items
 
 states_lawful : (links : List Link) → AreDifferent links → Lawful (states_at links []) (λ xs. flat_map (state_items links) xs ++ Closing ∷ []) (λ xs. AreStates (length links) xs × All (IsShort links) xs) AnyText
 states_lawful links pairs = lawful_as (states_at links []) _ (λ xs. flat_map (state_items links) xs ++ Closing ∷ []) _ _ AnyText (λ xs h. refl) (λ xs h. are_states links xs h.1) (λ xs h. (refl, are_behind links xs h))
-    (lawful_list Parenthesis no_fault (state_at links) (state_items links) (IsStateBehind links) (λ s. tt) (state_lawful links pairs))
+    (lawful_list Parenthesis no_fault (state_at links) (state_items links) (IsStateAfter links) (λ s. tt) (state_lawful links pairs))
 
 -- the first word, and what comes after it
 abbrev is_one_by_one : FailureList → Bool
@@ -150,13 +150,13 @@ form_alone : (links : List Link) (l : FailureList) → IsOf links false l → Ea
 form_alone links (OneByOne listed) h = absurd (let e : false ≡ true = h.0 in cc)
 form_alone links EachAlone h = refl
 
-behind_lawful : (links : List Link) → AreDifferent links → (b : Bool) → Lawful (behind_word links b) (items_behind links) (IsOf links b) AnyText
-unfolding behind_word
-behind_lawful links pairs true = lawful_as (behind_word links true) _ (items_behind links) (WasListed links) (IsOf links true) AnyText (listed_items links) (listed_form links) (form_listed links)
+behind_lawful : (links : List Link) → AreDifferent links → (b : Bool) → Lawful (after_word links b) (items_behind links) (IsOf links b) AnyText
+unfolding after_word
+behind_lawful links pairs true = lawful_as (after_word links true) _ (items_behind links) (WasListed links) (IsOf links true) AnyText (listed_items links) (listed_form links) (form_listed links)
     (lawful_then _ _ _ _ _ _ AnyText (λ l. tt) (λ a l h. refl) (lawful_open Section Ended) (λ a.
     lawful_then _ _ _ _ _ _ AnyText listed_of (λ a l h. ap listed_of h) (states_lawful links pairs) (λ listed.
     lawful_give (OneByOne listed))))
-behind_lawful links pairs false = lawful_as (behind_word links false) _ (items_behind links) _ (IsOf links false) AnyText
+behind_lawful links pairs false = lawful_as (after_word links false) _ (items_behind links) _ (IsOf links false) AnyText
     (λ l e. ap (items_behind links) e) (λ l e. subst (λ (x : FailureList). IsOf links false x) e (refl, tt)) (form_alone links) (lawful_give EachAlone)
 
 all_items : (links : List Link) (l : FailureList) → Verbatim (word_for (is_one_by_one l)) ∷ items_behind links l ≡ list_items links l
@@ -191,8 +191,8 @@ pub state_some : (links : List Link) (sofar : List Listed) → TakesSome (state_
 unfolding state_at
 state_some links sofar = takes_some (state_at links sofar) (state_online links sofar) (λ p. Ended) (λ p. refl)
 
-behind_online : (links : List Link) (b : Bool) → IsOnline (behind_word links b)
-unfolding behind_word
+behind_online : (links : List Link) (b : Bool) → IsOnline (after_word links b)
+unfolding after_word
 behind_online links true =
     online_then _ _ (online_open Section Ended) (λ a.
     online_then _ _ (online_list Parenthesis no_fault (state_at links) (state_online links) (state_some links) []) (λ listed.

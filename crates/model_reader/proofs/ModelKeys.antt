@@ -16,7 +16,7 @@ use Rattle.model_reader.specs.declared.model.ModelKind.TheVariants as kinds
 use Rattle.model_reader.specs.declared.model.Setting.{Setting}
 use Rattle.model_reader.specs.declared.model.Setting.TheVariants.{Plain, Reconfiguration}
 use Rattle.model_reader.specs.Models.{IsEachOnce, key_of, key_word, plain_word, reconfiguration_word, value_word}
-use Rattle.model_reader.specs.ModelReading.{all_keys, first_key, has_key, key_behind, missing, new_key, value_of}
+use Rattle.model_reader.specs.ModelReading.{all_keys, first_key, has_key, key_after, missing, new_key, value_of}
 
 abbrev key_of_word : List ℕ → Option ModelKey
 key_of_word w = first_key (λ k. are_same (key_word k) w) all_keys
@@ -56,13 +56,13 @@ new_takes sofar (Some x) k e = by (has_key sofar x) refl e
     by true new h = absurd cc
     by false new h = let is : x ≡ k = cc in (ap (λ (y : ModelKey). Some y) is, subst (λ (y : ModelKey). has_key sofar y ≡ false) is new)
 
-pub key_takes : (sofar : List Setting) (w : List ℕ) (k : ModelKey) → key_behind sofar w ≡ Ok k → (has_key sofar k ≡ false) × (w ≡ key_word k)
+pub key_takes : (sofar : List Setting) (w : List ℕ) (k : ModelKey) → key_after sofar w ≡ Ok k → (has_key sofar k ≡ false) × (w ≡ key_word k)
 key_takes sofar w k e =
     let t = new_takes sofar (key_of_word w) k e in
     (t.1, sym (same_is (key_word k) w (first_passes (λ x. are_same (key_word x) w) all_keys k t.0)))
 
-pub key_behind_again : (sofar : List Setting) (w : List ℕ) (k : ModelKey) → has_key sofar k ≡ false → w ≡ key_word k → key_behind sofar w ≡ Ok k
-key_behind_again sofar w k new is = ap (key_behind sofar) is ∙ (ap (new_key sofar) (key_again k) ∙ ap (λ (b : Bool). cond b (Err kinds.DoubleKey) (Ok k)) new)
+pub key_behind_again : (sofar : List Setting) (w : List ℕ) (k : ModelKey) → has_key sofar k ≡ false → w ≡ key_word k → key_after sofar w ≡ Ok k
+key_behind_again sofar w k new is = ap (key_after sofar) is ∙ (ap (new_key sofar) (key_again k) ∙ ap (λ (b : Bool). cond b (Err kinds.DoubleKey) (Ok k)) new)
 
 -- ---- a value of a key
 

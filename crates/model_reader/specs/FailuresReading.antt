@@ -40,16 +40,16 @@ is_list w =
     else (if are_same w (codes "ALL_SINGLE_LINKS") then Ok false else Err Section)
 
 -- what comes after that word
-unfoldable pub behind_word : List Link → Bool → Reading FailuresKind FailureList
-behind_word links true = do
+unfoldable pub after_word : List Link → Bool → Reading FailuresKind FailureList
+after_word links true = do
   _ ← open_at Section Ended
   listed ← states_at links []
   give (OneByOne listed)
-behind_word links false = give EachAlone
+after_word links false = give EachAlone
 
 -- that word and what comes after it
 abbrev pub failure_list_at : List Link → Reading FailuresKind FailureList
-failure_list_at links = word_at Section Ended is_list >>= behind_word links
+failure_list_at links = word_at Section Ended is_list >>= after_word links
 
 -- all after the header
 abbrev pub failures_at : List Link → Reading FailuresKind FailureList

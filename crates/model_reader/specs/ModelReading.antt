@@ -31,8 +31,8 @@ new_key sofar None = Err kinds.Key
 new_key sofar (Some k) = if has_key sofar k then Err kinds.DoubleKey else Ok k
 
 -- a word as a key after earlier settings
-abbrev pub key_behind : List Setting → List ℕ → Result ModelKey ModelKind
-key_behind sofar w = new_key sofar (first_key (λ k. are_same (key_word k) w) all_keys)
+abbrev pub key_after : List Setting → List ℕ → Result ModelKey ModelKind
+key_after sofar w = new_key sofar (first_key (λ k. are_same (key_word k) w) all_keys)
 
 -- a word as the value of a key
 abbrev pub value_of : ModelKey → List ℕ → Result Setting ModelKind
@@ -44,7 +44,7 @@ value_of k w =
 -- a key, the sign after it, and its value
 unfoldable pub setting_at : List Setting → Reading ModelKind Setting
 setting_at sofar = do
-  k ← word_at kinds.Token kinds.Ended (key_behind sofar)
+  k ← word_at kinds.Token kinds.Ended (key_after sofar)
   _ ← word_at kinds.Token kinds.Ended (expected kinds.Token (codes "="))
   word_at kinds.Token kinds.Ended (value_of k)
 

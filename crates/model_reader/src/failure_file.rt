@@ -13,7 +13,7 @@ use crate::failures::{FailureList, FailuresKind, FailuresRefusal};
 use net_core::{Link, Network, NoMemory, States};
 use snd_tokens::Cursor;
 use std::alloc::Global;
-use text_kit::steps::{behind_header, end, open, placed, word};
+use text_kit::steps::{end, open, placed, text_after_header, word};
 
 const HEADER: &[u8] = b"?planner failures; version: 1";
 
@@ -43,7 +43,7 @@ fn first_word(text: &mut Cursor) -> Result<bool, FailuresRefusal>
 }
 
 /// Takes what the file says, up to its end or something else.
-#[tactic(auto, unfolding(crate::specs::FailuresReading::behind_word))]
+#[tactic(auto, unfolding(crate::specs::FailuresReading::after_word))]
 fn list(alloc: Global, links: &[Link], text: &mut Cursor) -> Result<FailureList, FailuresRefusal>
     requires { length links.now ≤ 256 }
     ensures { ReadsAs (λ l. l) result (left text.new) (failure_list_at links.now (left text.old)) }
@@ -88,7 +88,7 @@ fn states_of(alloc: Global, net: &Network, list: FailureList) -> Result<States, 
 fn file(alloc: Global, net: &Network, bytes: &[u8]) -> Result<States, FailuresRefusal>
     ensures { ReadsAllAs (λ s. s.listed) result (failures_of net.now.links bytes.now) }
 {
-    let mut text = behind_header(FailuresKind::Header, bytes, HEADER)?;
+    let mut text = text_after_header(FailuresKind::Header, bytes, HEADER)?;
     let list = whole_list(alloc, net.links().items(), &mut text)?;
     Ok(states_of(alloc, net, list)?)
 }

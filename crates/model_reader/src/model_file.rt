@@ -7,14 +7,14 @@ ghost use Rattle.text_kit.specs.Files.{IsNotTooEarly};
 ghost use Rattle.text_kit.specs.Reading.{word_at};
 ghost use Rattle.model_reader.specs.declared.model.Model.{Model as Mod};
 ghost use Rattle.model_reader.specs.Models.{SpellsModel, asks, key_of, key_word, model_of_settings, plain_word};
-ghost use Rattle.model_reader.specs.ModelReading.{all_keys, first_key, has_key, key_behind, missing, model_of, setting_at, settings_at, value_of};
+ghost use Rattle.model_reader.specs.ModelReading.{all_keys, first_key, has_key, key_after, missing, model_of, setting_at, settings_at, value_of};
 
 use crate::model::{Model, ModelKey, ModelKind, ModelRefusal, Setting};
 use net_core::List;
 use snd_tokens::Cursor;
 use std::alloc::Global;
 use text_kit::refusal::bad;
-use text_kit::steps::{behind_header, ends, expect, placed, word};
+use text_kit::steps::{ends, expect, placed, text_after_header, word};
 
 const HEADER: &[u8] = b"?SNDlib native format; type: model; version: 1.0";
 
@@ -114,8 +114,8 @@ fn has_key(settings: &[Setting], key: ModelKey) -> bool
 }
 
 /// A word as a key after earlier settings.
-fn key_behind(sofar: &[Setting], word: &[u8]) -> Result<ModelKey, ModelKind>
-    ensures { result ≡ key_behind sofar.now word.now }
+fn key_after(sofar: &[Setting], word: &[u8]) -> Result<ModelKey, ModelKind>
+    ensures { result ≡ key_after sofar.now word.now }
 {
     let Some(key) = key_of_word(word) else {
         return Err(ModelKind::Key);
@@ -141,10 +141,10 @@ fn value_of(key: ModelKey, word: &[u8]) -> Result<Setting, ModelKind>
 
 /// Takes a key that no earlier setting has.
 fn key(sofar: &[Setting], text: &mut Cursor) -> Result<ModelKey, ModelRefusal>
-    ensures { ReadsAs (λ k. k) result (left text.new) (word_at ModelKind.Token ModelKind.Ended (key_behind sofar.now) (left text.old)) }
+    ensures { ReadsAs (λ k. k) result (left text.new) (word_at ModelKind.Token ModelKind.Ended (key_after sofar.now) (left text.old)) }
 {
     let (at, word) = word(ModelKind::Token, ModelKind::Ended, text)?;
-    placed(at, key_behind(sofar, word))
+    placed(at, key_after(sofar, word))
 }
 
 /// Takes the value of a key.
@@ -232,7 +232,7 @@ fn model_of_settings(settings: &[Setting]) -> Model
 fn file(alloc: Global, bytes: &[u8]) -> Result<Model, ModelRefusal>
     ensures { ReadsAllAs (λ m. m) result (model_of bytes.now) }
 {
-    let mut text = behind_header(ModelKind::Header, bytes, HEADER)?;
+    let mut text = text_after_header(ModelKind::Header, bytes, HEADER)?;
     let settings = settings(alloc, &mut text)?;
     Ok(model_of_settings(settings.items()))
 }

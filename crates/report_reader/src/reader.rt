@@ -18,7 +18,7 @@ use report_words::fault::{ReportKind, ReportRefusal};
 use snd_tokens::Cursor;
 use std::alloc::Global;
 use text_kit::Refusal;
-use text_kit::steps::{behind_header, end, expect, open};
+use text_kit::steps::{end, expect, open, text_after_header};
 
 const HEADER: &[u8] = b"?planner report; version: 1";
 
@@ -85,7 +85,7 @@ fn file(
 ) -> Result<Report, ReportRefusal>
     ensures { ReadsAllAs (λ r. r) result (report_of net.now.nodes net.now.links states.now.listed bytes.now) }
 {
-    let mut text = behind_header(ReportKind::Header, bytes, HEADER)?;
+    let mut text = text_after_header(ReportKind::Header, bytes, HEADER)?;
     let context = Context::new(alloc, net, states)?;
     report(alloc, &context, &mut text)
 }

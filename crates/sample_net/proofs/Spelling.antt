@@ -19,7 +19,7 @@ use Rattle.text_kit.proofs.Amounts.{amount_again, number_takes}
 use Rattle.text_kit.proofs.Files.{written_is_read}
 use Rattle.text_kit.proofs.Numerals.{money_again}
 use Rattle.sndlib_reader.specs.Paths.{section_items}
-use Rattle.sndlib_reader.specs.Spelling.{IsPartBehind, IsShortLink, NodeName, NodePart, Spells, SpellsDemand, SpellsPart, SpellsParts, header, link_items, names_of, notes_of, parts_of}
+use Rattle.sndlib_reader.specs.Spelling.{IsPartAfter, IsShortLink, NodeName, NodePart, Spells, SpellsDemand, SpellsPart, SpellsParts, header, link_items, names_of, notes_of, parts_of}
 use Rattle.sample_net.specs.Texts.{HasWritableNotes, costless, costless_items, network_items, unit_demand_items}
 use Rattle.sample_net.specs.inner.Adds.{AddsItems, IsShortItem}
 
@@ -62,7 +62,7 @@ nodes_spelled : (nodes : List (List ℕ)) → AreSpelled SpellsPart (map NodeNam
 nodes_spelled [] = refl
 nodes_spelled (n ∷ ns) = (Verbatim n ∷ [], flat_map (λ m. Verbatim m ∷ []) ns, refl, nodes_spelled ns, refl)
 
-nodes_in_order : (sofar : List NodePart) (nodes : List (List ℕ)) → AllByRecursion IsShortItem (flat_map (λ n. Verbatim n ∷ []) nodes) → AreBehind IsPartBehind sofar (map NodeName nodes)
+nodes_in_order : (sofar : List NodePart) (nodes : List (List ℕ)) → AllByRecursion IsShortItem (flat_map (λ n. Verbatim n ∷ []) nodes) → AreBehind IsPartAfter sofar (map NodeName nodes)
 nodes_in_order sofar [] all = tt
 nodes_in_order sofar (n ∷ ns) all = (all.0.short, nodes_in_order (sofar ++ NodeName n ∷ []) ns all.1)
 

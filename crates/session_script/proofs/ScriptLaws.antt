@@ -27,7 +27,7 @@ use Rattle.session_script.specs.declared.script.Script.{Script}
 use Rattle.session_script.specs.declared.script.Verb.{Verb}
 use Rattle.session_script.specs.declared.script.Verb.TheVariants as verbs
 use Rattle.session_script.specs.Scripts.{IsActInForm, IsCommandInForm, IsScript, SpellsScript, act_items, command_items, is_plan, script_header, script_of_commands}
-use Rattle.session_script.specs.ScriptReading.{act_at, begun_command, caller_of, command_at, commands_at, need_in_script, script_of, verb_behind}
+use Rattle.session_script.specs.ScriptReading.{act_at, begun_command, caller_of, command_at, commands_at, need_in_script, script_of, verb_after}
 use Rattle.session_script.proofs.ScriptWords.{HasRoom, IsCallerNumber, begun_again, begun_takes, caller_again, caller_takes, verb_again, verb_takes, verb_word}
 
 -- ---- words
@@ -38,8 +38,8 @@ begun_lawful sofar = lawful_word Token Ended (begun_command sofar) (λ x. Verbat
 caller_lawful : Lawful (word_at Token Ended caller_of) (λ n. Whole n ∷ []) IsCallerNumber AnyText
 caller_lawful = lawful_word Token Ended caller_of (λ n. Whole n) IsCallerNumber (λ n. tt) caller_takes (λ w n is same. caller_again w n is same)
 
-verb_lawful : (sofar : List Command) → Lawful (word_at Token Ended (verb_behind sofar)) (λ v. Verbatim (verb_word v) ∷ []) (HasRoom sofar) AnyText
-verb_lawful sofar = lawful_word Token Ended (verb_behind sofar) (λ v. Verbatim (verb_word v)) (HasRoom sofar) (λ v. tt) (verb_takes sofar) (verb_again sofar)
+verb_lawful : (sofar : List Command) → Lawful (word_at Token Ended (verb_after sofar)) (λ v. Verbatim (verb_word v) ∷ []) (HasRoom sofar) AnyText
+verb_lawful sofar = lawful_word Token Ended (verb_after sofar) (λ v. Verbatim (verb_word v)) (HasRoom sofar) (λ v. tt) (verb_takes sofar) (verb_again sofar)
 
 name_lawful : Lawful (word_at Token Ended (any_name LimitName)) (λ n. Verbatim n ∷ []) (λ n. length n ≤ 255) AnyText
 name_lawful = lawful_any_name Token Ended LimitName
@@ -250,7 +250,7 @@ unfolding command_at
 command_online sofar =
     online_then _ _ (online_word Token Ended (begun_command sofar)) (λ x.
     online_then _ _ (online_word Token Ended caller_of) (λ caller.
-    online_then _ _ (online_word Token Ended (verb_behind sofar)) (λ verb.
+    online_then _ _ (online_word Token Ended (verb_after sofar)) (λ verb.
     online_then _ _ (act_online verb) (λ act.
     online_give (record { caller = caller; act = act })))))
 

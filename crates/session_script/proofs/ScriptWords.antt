@@ -13,7 +13,7 @@ use Rattle.session_script.specs.declared.script.Command.{Command}
 use Rattle.session_script.specs.declared.script.Verb.{Verb}
 use Rattle.session_script.specs.declared.script.Verb.TheVariants as verbs
 use Rattle.session_script.specs.Scripts.{is_plan}
-use Rattle.session_script.specs.ScriptReading.{begun_command, caller_within, caller_of, verb_of, verb_within, verb_behind}
+use Rattle.session_script.specs.ScriptReading.{begun_command, caller_within, caller_of, verb_of, verb_within, verb_after}
 
 -- ---- the word of a command
 
@@ -104,9 +104,9 @@ room_again sofar verbs.Set room = refl
 room_again sofar verbs.Add room = refl
 room_again sofar verbs.Drop room = refl
 
-pub verb_takes : (sofar : List Command) (w : List ℕ) (v : Verb) → verb_behind sofar w ≡ Ok v → HasRoom sofar v × (w ≡ verb_word v)
+pub verb_takes : (sofar : List Command) (w : List ℕ) (v : Verb) → verb_after sofar w ≡ Ok v → HasRoom sofar v × (w ≡ verb_word v)
 verb_takes sofar w v e = let r = room_takes sofar (verb_of w) v e in (r.0, word_is w v r.1)
 
-pub verb_again : (sofar : List Command) (w : List ℕ) (v : Verb) → HasRoom sofar v → w ≡ verb_word v → verb_behind sofar w ≡ Ok v
+pub verb_again : (sofar : List Command) (w : List ℕ) (v : Verb) → HasRoom sofar v → w ≡ verb_word v → verb_after sofar w ≡ Ok v
 verb_again sofar w v room same =
-    ap (verb_behind sofar) same ∙ (ap (verb_within (nat_lt (count_by is_plan sofar) 64)) (word_again v) ∙ room_again sofar v room)
+    ap (verb_after sofar) same ∙ (ap (verb_within (nat_lt (count_by is_plan sofar) 64)) (word_again v) ∙ room_again sofar v room)

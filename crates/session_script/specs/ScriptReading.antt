@@ -52,8 +52,8 @@ verb_within room (Ok verbs.Drop) = Ok verbs.Drop
 verb_within room (Err kind) = Err kind
 
 -- what a word asks for after earlier commands
-abbrev pub verb_behind : List Command → List ℕ → Result Verb ScriptKind
-verb_behind sofar w = verb_within (nat_lt (count_by is_plan sofar) 64) (verb_of w)
+abbrev pub verb_after : List Command → List ℕ → Result Verb ScriptKind
+verb_after sofar w = verb_within (nat_lt (count_by is_plan sofar) 64) (verb_of w)
 
 -- a need
 abbrev pub need_in_script : List ℕ → Result ℕ ScriptKind
@@ -85,7 +85,7 @@ unfoldable pub command_at : List Command → Reading ScriptKind Command
 command_at sofar = do
   _ ← word_at Token Ended (begun_command sofar)
   caller ← word_at Token Ended caller_of
-  verb ← word_at Token Ended (verb_behind sofar)
+  verb ← word_at Token Ended (verb_after sofar)
   act ← act_at verb
   give (record { caller = caller; act = act })
 

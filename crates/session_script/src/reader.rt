@@ -12,7 +12,7 @@ use crate::script::{Command, Script};
 use net_core::List;
 use snd_tokens::Cursor;
 use std::alloc::Global;
-use text_kit::steps::{behind_header, ends};
+use text_kit::steps::{ends, text_after_header};
 
 const HEADER: &[u8] = b"?planner script; version: 1";
 
@@ -46,7 +46,7 @@ fn commands(alloc: Global, text: &mut Cursor) -> Result<List<Command>, ScriptRef
 fn file(alloc: Global, bytes: &[u8]) -> Result<Script, ScriptRefusal>
     ensures { ReadsAllAs (λ s. s) result (script_of bytes.now) }
 {
-    let mut text = behind_header(ScriptKind::Header, bytes, HEADER)?;
+    let mut text = text_after_header(ScriptKind::Header, bytes, HEADER)?;
     let commands = commands(alloc, &mut text)?;
     Ok(Script { commands })
 }

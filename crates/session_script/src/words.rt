@@ -4,7 +4,7 @@ ghost use Rattle.text_kit.specs.Answers.{ReadsAs};
 ghost use Rattle.text_kit.specs.Names.{any_name, long_name_fault};
 ghost use Rattle.text_kit.specs.Reading.{word_at};
 ghost use Rattle.session_script.specs.Scripts.{is_plan};
-ghost use Rattle.session_script.specs.ScriptReading.{begun_command, caller_of, need_in_script, verb_behind, verb_of};
+ghost use Rattle.session_script.specs.ScriptReading.{begun_command, caller_of, need_in_script, verb_after, verb_of};
 
 use crate::fault::{ScriptKind, ScriptRefusal};
 use crate::script::{Command, Verb};
@@ -101,8 +101,8 @@ fn plans(commands: &[Command]) -> usize
 }
 
 /// What a word asks for after these commands.
-fn verb_behind(sofar: &[Command], word: &[u8]) -> Result<Verb, ScriptKind>
-    ensures { result ≡ verb_behind sofar.now word.now }
+fn verb_after(sofar: &[Command], word: &[u8]) -> Result<Verb, ScriptKind>
+    ensures { result ≡ verb_after sofar.now word.now }
 {
     match verb_of(word) {
         Ok(Verb::Plan) => {
@@ -120,10 +120,10 @@ fn verb_behind(sofar: &[Command], word: &[u8]) -> Result<Verb, ScriptKind>
 
 /// Takes the word that says what is asked for, after these commands.
 pub(crate) fn verb(sofar: &[Command], text: &mut Cursor) -> Result<Verb, ScriptRefusal>
-    ensures { ReadsAs (λ v. v) result (left text.new) (word_at ScriptKind.Token ScriptKind.Ended (verb_behind sofar.now) (left text.old)) }
+    ensures { ReadsAs (λ v. v) result (left text.new) (word_at ScriptKind.Token ScriptKind.Ended (verb_after sofar.now) (left text.old)) }
 {
     let (at, word) = word(ScriptKind::Token, ScriptKind::Ended, text)?;
-    placed(at, verb_behind(sofar, word))
+    placed(at, verb_after(sofar, word))
 }
 
 /// What is wrong with a word as a name.

@@ -5,7 +5,8 @@ use Rattle.std.proofs.lemmas.Bool.{false≢true, eqb-true, ne_eqb, not-true, or_
 use Rattle.std.proofs.lemmas.List.{drop-drop}
 use Rattle.std.proofs.lemmas.List.Sums.{prefix_len-le-length}
 use Rattle.std.specs.List.{list_all, prefix_len}
-use Rattle.snd_tokens.specs.Tokens.{Token, TokenKind, is_space, is_word_byte, starts_token, line_length, run_length, extent, token_of, begun, tokens_past, tokens_from, token_bytes, is_plain, IsTokenOf}
+use Rattle.net_core.specs.Names.{is_space, is_word_byte, is_plain}
+use Rattle.snd_tokens.specs.Tokens.{Token, TokenKind, starts_token, line_length, run_length, extent, token_of, begun, tokens_past, tokens_from, token_bytes, IsTokenOf}
 use Rattle.snd_tokens.specs.declared.token.TokenKind.TheVariants.{Word, Open, Close}
 
 -- what is skipped is as good as not there

@@ -3,7 +3,8 @@ use Rattle.std.specs.Prelude.{◌≡◌, ℕ, ◌≤◌, List, [], ◌∷◌, le
 use Rattle.snd_tokens.specs.declared.token.Token.{Token}
 use Rattle.snd_tokens.specs.declared.token.TokenKind.{TokenKind}
 use Rattle.snd_tokens.specs.declared.token.TokenKind.TheVariants as kinds
-use Rattle.snd_tokens.specs.Tokens.{is_plain, token_bytes, tokens_from}
+use Rattle.net_core.specs.Names.{is_plain}
+use Rattle.snd_tokens.specs.Tokens.{token_bytes, tokens_from}
 use Rattle.snd_tokens.specs.declared.cursor.Cursor.{Cursor}
 use Rattle.snd_tokens.specs.declared.lexeme.Next.{Next}
 use Rattle.snd_tokens.specs.declared.lexeme.Next.TheVariants as next

@@ -1,17 +1,10 @@
 -- the tokens of a text: words, and parentheses, each a token of its own
-use Rattle.std.specs.Prelude.{◌≡◌, ℕ, zero, suc, ◌+◌, ◌≤◌, ◌==◌, Bool, false, cond, not, ◌||◌, ◌&&◌, IsTrue, List, [], ◌∷◌, ◌++◌, length, drop, slice_range}
-use Rattle.std.specs.List.{prefix_len, position_or_len, list_all}
+use Rattle.std.specs.Prelude.{◌≡◌, ℕ, zero, suc, ◌+◌, ◌≤◌, ◌==◌, Bool, cond, not, ◌||◌, IsTrue, List, [], ◌∷◌, ◌++◌, length, drop, slice_range}
+use Rattle.std.specs.List.{prefix_len, position_or_len}
+use Rattle.net_core.specs.Names.{is_space, is_word_byte, is_plain}
 pub use Rattle.snd_tokens.specs.declared.token.Token.{Token}
 pub use Rattle.snd_tokens.specs.declared.token.TokenKind.{TokenKind}
 use Rattle.snd_tokens.specs.declared.token.TokenKind.TheVariants.{Word, Open, Close}
-
--- white space is tab, line feed, carriage return and space
-abbrev pub is_space : ℕ → Bool
-is_space b = b == 9 || b == 10 || b == 13 || b == 32
-
--- neither white space nor a parenthesis
-abbrev pub is_word_byte : ℕ → Bool
-is_word_byte b = not (is_space b || b == 40 || b == 41)
 
 -- neither white space nor the sign of a comment
 abbrev pub starts_token : ℕ → Bool
@@ -56,15 +49,6 @@ tokens_from from bytes = tokens_past 0 from (drop from bytes)
 -- the bytes of a token
 abbrev pub token_bytes : List ℕ → Token → List ℕ
 token_bytes bytes t = slice_range bytes t.at (t.at + t.len)
-
--- `#` begins a comment
-abbrev pub begins_comment : List ℕ → Bool
-begins_comment [] = false
-begins_comment (b ∷ bytes) = b == 35
-
--- the bytes of a word are neither white space nor parentheses, and the first is no `#`
-abbrev pub is_plain : List ℕ → Bool
-is_plain bytes = not (begins_comment bytes) && list_all is_word_byte bytes
 
 -- what the bytes of a token of each kind are
 abbrev pub IsSpelled : TokenKind → List ℕ → Type 0

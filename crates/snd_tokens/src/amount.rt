@@ -93,7 +93,7 @@ fn decimal(word: &[u8], limit: u128) -> Result<u128, NumberFault>
     thousandths(whole, places, limit).ok_or(NumberFault::TooLarge)
 }
 
-/// The value of an amount in thousandths.
+/// The value of an amount in thousandths. It goes over the word at most four times, and asks for no memory.
 #[tactic(auto, unfolding(crate::specs::Amounts::amount_of))]
 pub fn milli(word: &[u8]) -> Result<u64, NumberFault>
     ensures value { result ≡ amount_of word.now }
@@ -103,7 +103,7 @@ pub fn milli(word: &[u8]) -> Result<u64, NumberFault>
     Ok(number as u64)
 }
 
-/// The value of money in thousandths.
+/// The value of money in thousandths. It costs what `milli` does.
 #[tactic(auto, unfolding(crate::specs::Amounts::money_of))]
 pub fn money(word: &[u8]) -> Result<u128, NumberFault>
     ensures value { result ≡ money_of word.now }
@@ -112,7 +112,7 @@ pub fn money(word: &[u8]) -> Result<u128, NumberFault>
     decimal(word, MONEY_LIMIT)
 }
 
-/// The value of an amount that is a whole number.
+/// The value, in units, of an amount that is a whole number. It costs what `milli` does.
 #[tactic(auto, unfolding(crate::specs::Amounts::units_of))]
 pub fn units(word: &[u8]) -> Result<u64, NumberFault>
     ensures value { result ≡ units_of word.now }

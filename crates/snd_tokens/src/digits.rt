@@ -1,6 +1,6 @@
 ghost use Rattle.std.specs.Prelude.{◌≡◌, ◌+◌, ◌-◌, ◌*◌, ◌^◌, ◌<◌, ◌≤◌, ◌&&◌, IsTrue, MatchOption};
 ghost use Rattle.std.specs.List.{list_all};
-ghost use Rattle.snd_tokens.specs.Digits.{are_digits, is_digit, number_behind};
+ghost use Rattle.snd_tokens.specs.Digits.{are_digits, is_digit, number_after};
 
 fn is_digit(b: u8) -> bool
     ensures { result ≡ is_digit b }
@@ -14,7 +14,7 @@ fn all_digits(bytes: &[u8]) -> bool
     bytes.iter().all(|b| is_digit(*b))
 }
 
-/// Whether a word is one or more digits, and nothing else.
+/// Whether a word is one or more digits, and nothing else. It goes over the word once, and asks for no memory.
 pub fn are_digits(bytes: &[u8]) -> bool
     ensures { result ≡ are_digits bytes.now }
 {
@@ -37,8 +37,8 @@ fn with_digit(number: u128, digit: u8, limit: u128) -> Option<u128>
 pub(crate) fn number_below(number: u128, digits: &[u8], limit: u128) -> Option<u128>
     requires digits { IsTrue (list_all is_digit digits.now) }
     requires below { number < limit }
-    ensures { MatchOption result (limit ≤ number_behind number digits.now)
-        (λ n. (n ≡ number_behind number digits.now) × (n < limit)) }
+    ensures { MatchOption result (limit ≤ number_after number digits.now)
+        (λ n. (n ≡ number_after number digits.now) × (n < limit)) }
 {
     let mut so_far = number;
     for digit in digits {

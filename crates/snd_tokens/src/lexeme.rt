@@ -39,7 +39,7 @@ fn next_from(bytes: &[u8], from: u64) -> (Next<'_>, u64)
 }
 
 impl<'a> Cursor<'a> {
-    /// The text from a place on.
+    /// The text from a place on, without a copy, in constant time.
     pub fn new(bytes: &'a [u8], at: u64) -> Cursor<'a>
         requires { at ≤ length bytes.now }
         ensures { left result ≡ text_from at bytes.now }
@@ -47,7 +47,8 @@ impl<'a> Cursor<'a> {
         Cursor { bytes, at }
     }
 
-    /// Takes what comes next; at the end it stays.
+    /// Takes what comes next; at the end it stays. It goes over the bytes up to the place after what it takes, and
+    /// asks for no memory.
     pub fn next(&mut self) -> Next<'a>
         ensures { IsNext result (left self.old) (left self.new) }
     {

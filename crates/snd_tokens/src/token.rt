@@ -1,7 +1,8 @@
-ghost use Rattle.std.specs.Prelude.{◌≡◌, ◌+◌, ◌-◌, ◌≤◌, ◌<◌, ◌&&◌, ◌==◌, not, ◌∷◌, [], drop, length, slice_index, IsTrue, MatchOption, IfSome};
-ghost use Rattle.snd_tokens.specs.Tokens.{IsTokenOf, is_space, is_word_byte, run_length, starts_token, token_of, tokens_from};
+ghost use Rattle.std.specs.Prelude.{◌≡◌, ◌+◌, ◌-◌, ◌≤◌, ◌<◌, ◌==◌, ◌∷◌, [], drop, length, slice_index, IsTrue, MatchOption, IfSome};
+ghost use Rattle.snd_tokens.specs.Tokens.{IsTokenOf, run_length, starts_token, token_of, tokens_from};
 
 use crate::find::find_byte;
+use net_core::word_bytes::{is_space, is_word_byte};
 
 /// What a token is.
 #[derive(Clone, Copy, Debug, PartialEq, Eq)]
@@ -20,18 +21,6 @@ pub struct Token {
     pub kind: TokenKind,
     pub at: u64,
     pub len: u64,
-}
-
-fn is_space(b: u8) -> bool
-    ensures { result ≡ is_space b }
-{
-    b == 9 || b == 10 || b == 13 || b == 32
-}
-
-fn is_word_byte(b: u8) -> bool
-    ensures { result ≡ is_word_byte b }
-{
-    !(is_space(b) || b == b'(' || b == b')')
 }
 
 /// The place after the word bytes from `from` on.
@@ -98,7 +87,8 @@ fn token_between(kind: TokenKind, at: usize, end: usize) -> Token
     }
 }
 
-/// The first token of what is left from a place on, read as if the text began there.
+/// The first token of what is left from a place on, read as if the text began there. It goes over the bytes from
+/// there to the end of the token, and asks for no memory.
 pub fn next_token(bytes: &[u8], from: u64) -> Option<Token>
     requires { from ≤ length bytes.now }
     ensures first { MatchOption result (tokens_from from bytes.now ≡ [])

@@ -40,7 +40,7 @@ fn is_whole(word: &[u8]) -> bool
     is_zero(word) || are_digits(word) && !begins_with_zero(word)
 }
 
-/// The value of a whole number.
+/// The value of a whole number. It goes over the word at most three times, and asks for no memory.
 #[tactic(auto, unfolding(crate::specs::Wholes::whole_of))]
 pub fn whole(word: &[u8]) -> Result<u128, WholeFault>
     ensures value { result ≡ whole_of word.now }

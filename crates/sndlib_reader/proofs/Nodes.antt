@@ -13,8 +13,8 @@ use Rattle.text_kit.proofs.Turns.{list_fails, list_turn, lists_alike}
 use Rattle.sndlib_reader.specs.declared.fault.Limited.TheVariants as limits
 use Rattle.sndlib_reader.specs.declared.fault.ReadKind.{ReadKind}
 use Rattle.sndlib_reader.specs.declared.fault.ReadKind.TheVariants.{Token, Ended, Limit, DoubleName}
-use Rattle.sndlib_reader.specs.Spelling.{NodePart, NodeName, Coordinates, names_of, ends_named, IsPartBehind, SpellsPart}
-use Rattle.sndlib_reader.specs.Reading.{node_fault, name_part, coordinates, part_behind, part_at, native_nodes_at, skipped_at}
+use Rattle.sndlib_reader.specs.Spelling.{NodePart, NodeName, Coordinates, names_of, ends_named, IsPartAfter, SpellsPart}
+use Rattle.sndlib_reader.specs.Reading.{node_fault, name_part, coordinates, part_after, part_at, native_nodes_at, skipped_at}
 use Rattle.sndlib_reader.specs.inner.Nodes.{parts_so_far}
 use Rattle.text_kit.proofs.NameLaws.{IsNew, fault_none, none_fault}
 use Rattle.sndlib_reader.proofs.Skipped.{skipped_online, skipped_spelled}
@@ -43,13 +43,13 @@ ends_by_coordinates b (Coordinates ∷ parts) = ends_by_coordinates false parts
 
 -- ---- it depends on no later lexeme
 
-behind_online : (part : NodePart) → IsOnline (part_behind part)
+behind_online : (part : NodePart) → IsOnline (part_after part)
 behind_online (NodeName w) = online_give (NodeName w)
 behind_online Coordinates = online_then (skipped_at 0) _ skipped_online (λ u. online_give Coordinates)
 
 pub part_online : (sofar : List NodePart) → IsOnline (part_at sofar)
 unfolding part_at
-part_online sofar = online_then _ part_behind (online_step (name_part sofar) (coordinates sofar) (Err Token) (Err Ended)) behind_online
+part_online sofar = online_then _ part_after (online_step (name_part sofar) (coordinates sofar) (Err Token) (Err Ended)) behind_online
 
 pub part_some : (sofar : List NodePart) → TakesSome (part_at sofar)
 unfolding part_at
@@ -63,8 +63,8 @@ Alike s t = (names_of s ≡ names_of t) × (ends_named false s ≡ ends_named fa
 alike_parts : (s t : List NodePart) → Alike s t → (text : Text) → part_at s text ≡ part_at t text
 unfolding part_at
 alike_parts s t alike text =
-    ap (λ (ns : List (List ℕ)). after (step_at (λ w. sound (NodeName w) (node_fault ns w)) (coordinates s) (Err Token) (Err Ended) text) part_behind) alike.0
-    ∙ ap (λ (b : Bool). after (step_at (name_part t) (cond b (Ok Coordinates) (Err Token)) (Err Token) (Err Ended) text) part_behind) alike.1
+    ap (λ (ns : List (List ℕ)). after (step_at (λ w. sound (NodeName w) (node_fault ns w)) (coordinates s) (Err Token) (Err Ended) text) part_after) alike.0
+    ∙ ap (λ (b : Bool). after (step_at (name_part t) (cond b (Ok Coordinates) (Err Token)) (Err Token) (Err Ended) text) part_after) alike.1
 
 alike_longer : (s t : List NodePart) (x : NodePart) → Alike s t → Alike (s ++ x ∷ []) (t ++ x ∷ [])
 alike_longer s t (NodeName w) alike = (name_more s w ∙ (ap (λ (ns : List (List ℕ)). ns ++ w ∷ []) alike.0 ∙ sym (name_more t w)), ends_by_name false s w ∙ sym (ends_by_name false t w))
@@ -101,7 +101,7 @@ unfolding part_at
 sound_turn names named at w rest sound_name =
     let sofar = parts_so_far names named in
     let none : node_fault (names_of sofar) w ≡ None = subst (λ (ns : List (List ℕ)). node_fault ns w ≡ None) (sym (names_so_far names named)) sound_name in
-    let read : part_at sofar (WordAt at w rest) ≡ Ok (NodeName w, rest) = ap (λ (o : Option ReadKind). after (placed at rest (sound (NodeName w) o)) part_behind) none in
+    let read : part_at sofar (WordAt at w rest) ≡ Ok (NodeName w, rest) = ap (λ (o : Option ReadKind). after (placed at rest (sound (NodeName w) o)) part_after) none in
     let some : IsTrue true → 1 ≤ length (names ++ w ∷ []) = λ t. longer names in
     ap (λ (q : Read ReadKind (List NodePart)). after q (λ ps. give (names_of ps))) (list_turn Parenthesis no_fault part_at part_some sofar (WordAt at w rest) rest (NodeName w) refl read)
     ∙ nodes_alike (sofar ++ NodeName w ∷ []) (parts_so_far (names ++ w ∷ []) true) rest
@@ -130,9 +130,9 @@ unfolding part_at
 name_fails names named at w rest NoMemory h = tt
 name_fails names named at w rest (Bad place kind) h =
     part_fails (parts_so_far names named) (WordAt at w rest) (place, kind) refl
-    (ap (λ (ns : List (List ℕ)). after (placed at rest (sound (NodeName w) (node_fault ns w))) part_behind) (names_so_far names named) ∙ by (node_fault names w) h)
+    (ap (λ (ns : List (List ℕ)). after (placed at rest (sound (NodeName w) (node_fault ns w))) part_after) (names_so_far names named) ∙ by (node_fault names w) h)
   where
-    by : (o : Option ReadKind) → (let q : Read ReadKind (List ℕ) = placed at (EndAt at) (sound w o) in q ≡ Err (place, kind)) → after (placed at rest (sound (NodeName w) o)) part_behind ≡ Err (place, kind)
+    by : (o : Option ReadKind) → (let q : Read ReadKind (List ℕ) = placed at (EndAt at) (sound w o) in q ≡ Err (place, kind)) → after (placed at rest (sound (NodeName w) o)) part_after ≡ Err (place, kind)
     by None e = absurd cc
     by (Some k) e = let same : (at, k) ≡ (place, kind) = cc in ap (λ (i : ℕ × ReadKind). Err i) same
 
@@ -141,7 +141,7 @@ unfolding part_at
 coordinates_turn names at t rest some skip =
     let sofar = parts_so_far names true in
     let after_name : ends_named false sofar ≡ true = ends_so_far names true (λ u. some) in
-    let read : part_at sofar (OpenAt at t) ≡ Ok (Coordinates, rest) = ap (λ (b : Bool). after (placed at t (cond b (Ok Coordinates) (Err Token))) part_behind) after_name ∙ ap (λ (q : Read ReadKind (Unit {0})). after q (λ u. give Coordinates)) skip in
+    let read : part_at sofar (OpenAt at t) ≡ Ok (Coordinates, rest) = ap (λ (b : Bool). after (placed at t (cond b (Ok Coordinates) (Err Token))) part_after) after_name ∙ ap (λ (q : Read ReadKind (Unit {0})). after q (λ u. give Coordinates)) skip in
     ap (λ (q : Read ReadKind (List NodePart)). after q (λ ps. give (names_of ps))) (list_turn Parenthesis no_fault part_at part_some sofar (OpenAt at t) rest Coordinates refl read)
     ∙ nodes_alike (sofar ++ Coordinates ∷ []) (parts_so_far names false) rest (refl, refl)
 
@@ -150,13 +150,13 @@ unfolding part_at
 coordinates_fail names at t NoMemory some h = tt
 coordinates_fail names at t (Bad place kind) some h =
     part_fails (parts_so_far names true) (OpenAt at t) (place, kind) refl
-    (ap (λ (b : Bool). after (placed at t (cond b (Ok Coordinates) (Err Token))) part_behind) (ends_so_far names true (λ u. some)) ∙ ap (λ (q : Read ReadKind (Unit {0})). after q (λ u. give Coordinates)) h)
+    (ap (λ (b : Bool). after (placed at t (cond b (Ok Coordinates) (Err Token))) part_after) (ends_so_far names true (λ u. some)) ∙ ap (λ (q : Read ReadKind (Unit {0})). after q (λ u. give Coordinates)) h)
 
 pub no_coordinates : (names : List (List ℕ)) (at : ℕ) (t : Text) → native_nodes_at (parts_so_far names false) (OpenAt at t) ≡ Err (at, Token)
 unfolding part_at
 no_coordinates names at t =
     part_fails (parts_so_far names false) (OpenAt at t) (at, Token) refl
-    (ap (λ (b : Bool). after (placed at t (cond b (Ok Coordinates) (Err Token))) part_behind) (ends_by_coordinates false (map NodeName names)))
+    (ap (λ (b : Bool). after (placed at t (cond b (Ok Coordinates) (Err Token))) part_after) (ends_by_coordinates false (map NodeName names)))
 
 pub nodes_ended : (names : List (List ℕ)) (named : Bool) (at : ℕ) → native_nodes_at (parts_so_far names named) (EndAt at) ≡ Err (at, Ended)
 unfolding part_at
@@ -179,7 +179,7 @@ IsNewPart sofar Coordinates = IsTrue (ends_named false sofar)
 abbrev Takes : List NodePart → Text → NodePart → Text → Type 0
 Takes sofar text x rest = (is : List Item) × (IsNewPart sofar x × SpellsPart x is) × Begins is text rest × AnyText rest
 
-name_takes : (sofar : List NodePart) (at : ℕ) (w : List ℕ) (t : Text) (o : Option ReadKind) (x : NodePart) (rest : Text) → node_fault (names_of sofar) w ≡ o → after (placed at t (sound (NodeName w) o)) part_behind ≡ Ok (x, rest) → Takes sofar (WordAt at w t) x rest
+name_takes : (sofar : List NodePart) (at : ℕ) (w : List ℕ) (t : Text) (o : Option ReadKind) (x : NodePart) (rest : Text) → node_fault (names_of sofar) w ≡ o → after (placed at t (sound (NodeName w) o)) part_after ≡ Ok (x, rest) → Takes sofar (WordAt at w t) x rest
 name_takes sofar at w t None x rest fault e =
     let p = ok_parts {K = ReadKind} (NodeName w) x t rest e in
     subst (λ (y : NodePart). Takes sofar (WordAt at w t) y rest) p.0 (Verbatim w ∷ [], (fault_none (λ n. n) 128 (Limit limits.Name) DoubleName (Limit limits.Nodes) (names_of sofar) w fault, refl), (refl, p.1), tt)
@@ -192,7 +192,7 @@ skip_takes sofar at t (Ok u) x rest named skip e =
     subst (λ (y : NodePart). Takes sofar (OpenAt at t) y rest) p.0 (Opening ∷ s.0, (named, (s.0, s.1, refl)), (refl, subst (λ (v : Text). Begins s.0 t v) p.1 s.2), tt)
 skip_takes sofar at t (Err d) x rest named skip e = absurd cc
 
-open_takes : (sofar : List NodePart) (at : ℕ) (t : Text) (b : Bool) (x : NodePart) (rest : Text) → ends_named false sofar ≡ b → after (placed at t (cond b (Ok Coordinates) (Err Token))) part_behind ≡ Ok (x, rest) → Takes sofar (OpenAt at t) x rest
+open_takes : (sofar : List NodePart) (at : ℕ) (t : Text) (b : Bool) (x : NodePart) (rest : Text) → ends_named false sofar ≡ b → after (placed at t (cond b (Ok Coordinates) (Err Token))) part_after ≡ Ok (x, rest) → Takes sofar (OpenAt at t) x rest
 open_takes sofar at t true x rest named e = skip_takes sofar at t (skipped_at 0 t) x rest named refl e
 open_takes sofar at t false x rest named e = absurd cc
 
@@ -216,7 +216,7 @@ part_again sofar text Coordinates rest is s b = by text (subst (λ (js : List It
   where
     by : (text : Text) → Begins (Opening ∷ s.1.0) text rest → part_at sofar text ≡ Ok (Coordinates, rest)
     by (OpenAt at t) c =
-        ap (λ (b : Bool). after (placed at t (cond b (Ok Coordinates) (Err Token))) part_behind) s.0
+        ap (λ (b : Bool). after (placed at t (cond b (Ok Coordinates) (Err Token))) part_after) s.0
         ∙ ap (λ (q : Read ReadKind (Unit {0})). after q (λ u. give Coordinates)) (skipped_spelled.again t tt rest s.1.0 s.1.1 c.1 tt)
     by (WordAt at v t) c = absurd c.0
     by (CloseAt at t) c = absurd (let e : Opening ≡ Closing = c.0 in cc)
@@ -228,7 +228,7 @@ part_spelled sofar = record { takes = part_takes sofar; again = λ text x rest i
 -- ---- all parts
 
 -- new names, after parts whose coordinates are in order
-pub parts_are : (sofar parts : List NodePart) → AreBehind IsNewPart sofar parts → AreBehind (IsNew (λ n. n) 128) (names_of sofar) (names_of parts) × AreBehind IsPartBehind sofar parts
+pub parts_are : (sofar parts : List NodePart) → AreBehind IsNewPart sofar parts → AreBehind (IsNew (λ n. n) 128) (names_of sofar) (names_of parts) × AreBehind IsPartAfter sofar parts
 parts_are sofar [] h = (tt, tt)
 parts_are sofar (NodeName w ∷ parts) h =
     let r = parts_are (sofar ++ NodeName w ∷ []) parts h.1 in
@@ -237,7 +237,7 @@ parts_are sofar (Coordinates ∷ parts) h =
     let r = parts_are (sofar ++ Coordinates ∷ []) parts h.1 in
     (subst (λ (ns : List (List ℕ)). AreBehind (IsNew (λ n. n) 128) ns (names_of parts)) (same_names sofar) r.0, (h.0, r.1))
 
-pub are_parts : (sofar parts : List NodePart) → AreBehind (IsNew (λ n. n) 128) (names_of sofar) (names_of parts) → AreBehind IsPartBehind sofar parts → AreBehind IsNewPart sofar parts
+pub are_parts : (sofar parts : List NodePart) → AreBehind (IsNew (λ n. n) 128) (names_of sofar) (names_of parts) → AreBehind IsPartAfter sofar parts → AreBehind IsNewPart sofar parts
 are_parts sofar [] names order = tt
 are_parts sofar (NodeName w ∷ parts) names order =
     (names.0, are_parts (sofar ++ NodeName w ∷ []) parts (subst (λ (ns : List (List ℕ)). AreBehind (IsNew (λ n. n) 128) ns (names_of parts)) (sym (name_more sofar w)) names.1) order.1)
@@ -245,7 +245,7 @@ are_parts sofar (Coordinates ∷ parts) names order =
     (order.0, are_parts (sofar ++ Coordinates ∷ []) parts (subst (λ (ns : List (List ℕ)). AreBehind (IsNew (λ n. n) 128) ns (names_of parts)) (sym (same_names sofar)) names) order.1)
 
 -- names in order are short
-pub parts_short : (sofar parts : List NodePart) → AreBehind IsPartBehind sofar parts → AreBehind (λ (before : List (List ℕ)) w. length w ≤ 255) (names_of sofar) (names_of parts)
+pub parts_short : (sofar parts : List NodePart) → AreBehind IsPartAfter sofar parts → AreBehind (λ (before : List (List ℕ)) w. length w ≤ 255) (names_of sofar) (names_of parts)
 parts_short sofar [] order = tt
 parts_short sofar (NodeName w ∷ parts) order = (order.0, subst (λ (ns : List (List ℕ)). AreBehind (λ (before : List (List ℕ)) v. length v ≤ 255) ns (names_of parts)) (name_more sofar w) (parts_short (sofar ++ NodeName w ∷ []) parts order.1))
 parts_short sofar (Coordinates ∷ parts) order = subst (λ (ns : List (List ℕ)). AreBehind (λ (before : List (List ℕ)) v. length v ≤ 255) ns (names_of parts)) (same_names sofar) (parts_short (sofar ++ Coordinates ∷ []) parts order.1)

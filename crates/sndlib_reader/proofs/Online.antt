@@ -9,7 +9,7 @@ use Rattle.sndlib_reader.specs.declared.costs.CostedLink.{CostedLink}
 use Rattle.sndlib_reader.specs.declared.fault.ReadKind.{ReadKind}
 use Rattle.sndlib_reader.specs.declared.fault.ReadKind.TheVariants.{Section, Token, Ended, SelfLink, SelfDemand}
 use Rattle.sndlib_reader.specs.Spelling.{names_of}
-use Rattle.sndlib_reader.specs.Reading.{known_name, path_name, node_named, other_node, amount, unit, capacity, need, needs_in_all, hops, native_section_at, part_at, native_nodes_at, ends_at, module_at, unserved, native_link_at, costed_links_at, native_demand_at, native_demands_at, some_at, native_path_at, path_line_at, is_meta, meta_behind, start_at, is_paths, paths_behind, paths_at, parts, native_sections_at}
+use Rattle.sndlib_reader.specs.Reading.{known_name, path_name, node_named, other_node, amount, unit, capacity, need, needs_in_all, hops, native_section_at, part_at, native_nodes_at, ends_at, module_at, unserved, native_link_at, costed_links_at, native_demand_at, native_demands_at, some_at, native_path_at, path_line_at, is_meta, after_meta, start_at, is_paths, after_paths, paths_at, parts, native_sections_at}
 use Rattle.sndlib_reader.proofs.Nodes.{part_online, part_some}
 use Rattle.sndlib_reader.proofs.Skipped.{skipped_online}
 
@@ -95,16 +95,16 @@ line_online links demands =
 pub line_some : (links demands : List (List ℕ)) → TakesSome (path_line_at links demands)
 line_some links demands = takes_some (path_line_at links demands) (line_online links demands) (λ p. Ended) (λ p. refl)
 
-paths_behind_online : (links demands : List (List ℕ)) (more : _) → IsOnline (paths_behind links demands more)
-unfolding paths_behind
-paths_behind_online links demands true =
+after_paths_online : (links demands : List (List ℕ)) (more : _) → IsOnline (after_paths links demands more)
+unfolding after_paths
+after_paths_online links demands true =
     online_then _ _ (online_open Section Ended) (λ o.
     online_then _ _ (each_online (path_line_at links demands) (line_online links demands) (line_some links demands)) (λ x.
     online_end Section))
-paths_behind_online links demands false = online_give tt
+after_paths_online links demands false = online_give tt
 
 paths_online : (links demands : List (List ℕ)) → IsOnline (paths_at links demands)
-paths_online links demands = online_then _ (paths_behind links demands) (online_step is_paths (Err Section) (Err Section) (Ok false)) (paths_behind_online links demands)
+paths_online links demands = online_then _ (after_paths links demands) (online_step is_paths (Err Section) (Err Section) (Ok false)) (after_paths_online links demands)
 
 -- ---- whole files
 
@@ -114,8 +114,8 @@ section_online name r on =
     online_then _ _ (online_word Section Ended (expected Section name)) (λ x.
     online_then _ _ (online_open Section Ended) (λ o. on))
 
-meta_online : (meta : _) → IsOnline (meta_behind meta)
-unfolding meta_behind
+meta_online : (meta : _) → IsOnline (after_meta meta)
+unfolding after_meta
 meta_online true =
     online_then _ _ (online_open Section Ended) (λ o.
     online_then _ _ skipped_online (λ s.
@@ -125,7 +125,7 @@ meta_online false = online_give tt
 pub sections_online : IsOnline native_sections_at
 unfolding native_sections_at
 sections_online =
-    online_then start_at _ (online_then _ meta_behind (online_word Section Ended is_meta) meta_online) (λ s.
+    online_then start_at _ (online_then _ after_meta (online_word Section Ended is_meta) meta_online) (λ s.
     online_then _ _ (online_open Section Ended) (λ o.
     online_then (native_nodes_at []) _ (online_then (list_at Parenthesis no_fault part_at []) _ (online_list Parenthesis no_fault part_at part_online part_some []) (λ xs. online_give (names_of xs))) (λ nodes.
     online_then _ _ (section_online (codes "LINKS") (costed_links_at nodes []) (online_list Parenthesis no_fault (native_link_at nodes) (link_online nodes) (link_some nodes) [])) (λ links.

@@ -28,7 +28,7 @@ use Rattle.sndlib_reader.specs.declared.fault.ReadKind.TheVariants.{Header, Sect
 use Rattle.sndlib_reader.specs.Balance.{IsSkipped}
 use Rattle.sndlib_reader.specs.Paths.{AreMany, ArePaths, AreSome, IsKnownName, IsPathLine, IsNamedPath, IsShortName, section_items}
 use Rattle.sndlib_reader.specs.Spelling.{IsMeta, IsShortLink, NodePart, NodeName, Coordinates, Parts, Spells, SpellsDemand, SpellsParts, SpellsPart, header, link_items, names_of, notes_of, parts_of}
-use Rattle.sndlib_reader.specs.Reading.{IsFirstFault, path_name, known_name, native_section_at, part_at, native_nodes_at, costed_links_at, native_demands_at, some_at, native_path_at, path_line_at, is_meta, meta_behind, start_at, is_paths, paths_behind, paths_at, parts, native_sections_at, network_of}
+use Rattle.sndlib_reader.specs.Reading.{IsFirstFault, path_name, known_name, native_section_at, part_at, native_nodes_at, costed_links_at, native_demands_at, some_at, native_path_at, path_line_at, is_meta, after_meta, start_at, is_paths, after_paths, paths_at, parts, native_sections_at, network_of}
 use Rattle.sndlib_reader.proofs.WordTests.{known_again, known_takes, path_name_again, path_name_takes}
 use Rattle.text_kit.proofs.NameLaws.{IsNew, are_new, new_are}
 use Rattle.sndlib_reader.proofs.Skipped.{skipped_spelled}
@@ -126,9 +126,9 @@ AreLines links demands is = (lines : List Item) × AreMany (IsPathLine links dem
 lines_joined : (is js ks j2 k2 lines : List Item) → is ≡ js ++ ks → js ≡ Opening ∷ [] → ks ≡ j2 ++ k2 → j2 ≡ lines ++ Closing ∷ [] → k2 ≡ [] → is ≡ Opening ∷ (lines ++ Closing ∷ [])
 lines_joined is js ks j2 k2 lines a b c d e = rw (a, b, c, d, e) (ap (λ (l : List Item). Opening ∷ l) (append-nil (lines ++ Closing ∷ [])))
 
-lines_spelled : (links demands : List (List ℕ)) → Spelled (paths_behind links demands true) (λ x is. AreLines links demands is) IsEnd
-unfolding paths_behind
-lines_spelled links demands = spelled_as (paths_behind links demands true) _ (λ x is. AreLines links demands is) IsEnd
+lines_spelled : (links demands : List (List ℕ)) → Spelled (after_paths links demands true) (λ x is. AreLines links demands is) IsEnd
+unfolding after_paths
+lines_spelled links demands = spelled_as (after_paths links demands true) _ (λ x is. AreLines links demands is) IsEnd
     (λ x is s. let f = s.4 in (f.3.0, f.3.1, lines_joined is s.1 s.2 f.1 f.2 f.3.0 s.5 s.3.1 f.5 f.3.2 f.4))
     (λ x is s. (tt, Opening ∷ [], s.0 ++ Closing ∷ [], (tt, refl), (tt, s.0 ++ Closing ∷ [], [], (s.0, s.1, refl), refl, sym (append-nil (s.0 ++ Closing ∷ []))), s.2))
     (spelled_then _ _ _ _ IsEnd (spelled_law (open_at Section Ended) _ _ AnyText (lawful_open Section Ended)) (λ o js s.
@@ -143,15 +143,15 @@ module _ (links demands : List (List ℕ)) where
   abbrev PathsTaken : Text → Text → Type 0
   PathsTaken text rest = (is : List Item) × ArePaths links demands is × Begins is text rest × IsEnd rest
 
-  word_takes : (at : ℕ) (w : List ℕ) (t : Text) (q : Result Bool ReadKind) (x : Unit {0}) (rest : Text) → is_paths w ≡ q → after (placed at t q) (paths_behind links demands) ≡ Ok (x, rest) → PathsTaken (WordAt at w t) rest
+  word_takes : (at : ℕ) (w : List ℕ) (t : Text) (q : Result Bool ReadKind) (x : Unit {0}) (rest : Text) → is_paths w ≡ q → after (placed at t q) (after_paths links demands) ≡ Ok (x, rest) → PathsTaken (WordAt at w t) rest
   word_takes at w t (Ok c) x rest is e =
       let p = paths_if (are_same w (codes "ADMISSIBLE_PATHS")) w c refl is in
-      let h = (lines_spelled links demands).takes t x rest (subst (λ (d : Bool). paths_behind links demands d t ≡ Ok (x, rest)) (sym p.1) e) in
+      let h = (lines_spelled links demands).takes t x rest (subst (λ (d : Bool). after_paths links demands d t ≡ Ok (x, rest)) (sym p.1) e) in
       (Verbatim (codes "ADMISSIBLE_PATHS") ∷ h.0, inr (h.1.0, h.1.1, ap (λ (js : List Item). Verbatim (codes "ADMISSIBLE_PATHS") ∷ js) h.1.2), (p.0, h.2), h.3)
   word_takes at w t (Err k) x rest is e = absurd cc
 
   paths_take : (text : Text) (x : Unit {0}) (rest : Text) → paths_at links demands text ≡ Ok (x, rest) → PathsTaken text rest
-  unfolding paths_behind
+  unfolding after_paths
   paths_take (WordAt at w t) x rest e = word_takes at w t (is_paths w) x rest refl e
   paths_take (OpenAt at t) x rest e = absurd cc
   paths_take (CloseAt at t) x rest e = absurd cc
@@ -164,7 +164,7 @@ module _ (links demands : List (List ℕ)) where
   lines_again (EndAt at) rest js s b left = absurd b
 
   paths_again : (text rest : Text) (is : List Item) → ArePaths links demands is → Begins is text rest → IsEnd rest → paths_at links demands text ≡ Ok (tt, rest)
-  unfolding paths_behind
+  unfolding after_paths
   paths_again text rest is (inl none) b left = rw (subst (λ (js : List Item). Begins js text rest) none b, left.1) refl
   paths_again text rest is (inr s) b left = lines_again text rest (Opening ∷ (s.0 ++ Closing ∷ [])) (s.0, s.1, refl) (subst (λ (js : List Item). Begins js text rest) s.2 b) left
 
@@ -192,9 +192,9 @@ abbrev first_word : Bool → List ℕ
 first_word true = codes "META"
 first_word false = codes "NODES"
 
-behind_spelled : (meta : Bool) → Spelled (meta_behind meta) (λ x is. Behind meta is) AnyText
-unfolding meta_behind
-behind_spelled true = spelled_as (meta_behind true) _ (λ x is. Behind true is) AnyText
+behind_spelled : (meta : Bool) → Spelled (after_meta meta) (λ x is. Behind meta is) AnyText
+unfolding after_meta
+behind_spelled true = spelled_as (after_meta true) _ (λ x is. Behind true is) AnyText
     (λ x is s.
     let f = s.4 in
     (f.1, f.3, s.5 ∙ (ap (λ (js : List Item). js ++ s.2) s.3.1 ∙ ap (λ (js : List Item). Opening ∷ js) (f.5 ∙ ap (λ (js : List Item). f.1 ++ js) f.4.1))))
@@ -202,7 +202,7 @@ behind_spelled true = spelled_as (meta_behind true) _ (λ x is. Behind true is) 
     (spelled_then _ _ _ _ AnyText (spelled_law (open_at Section Ended) _ _ AnyText (lawful_open Section Ended)) (λ o js s.
     spelled_then _ _ _ _ AnyText skipped_spelled (λ k js s.
     spelled_law (word_at Section Ended (expected Section (codes "NODES"))) _ _ AnyText (lawful_key Section Ended Section (codes "NODES")))))
-behind_spelled false = spelled_as (meta_behind false) _ (λ x is. Behind false is) AnyText (λ x is s. s.1) (λ x is s. (refl, s)) (spelled_give tt)
+behind_spelled false = spelled_as (after_meta false) _ (λ x is. Behind false is) AnyText (λ x is s. s.1) (λ x is s. (refl, s)) (spelled_give tt)
 
 word_is : (w : List ℕ) (meta nodes b : Bool) → are_same w (codes "META") ≡ meta → are_same w (codes "NODES") ≡ nodes → (let r : Result Bool ReadKind = cond meta (Ok true) (cond nodes (Ok false) (Err Section)) in r ≡ Ok b) → w ≡ first_word b
 word_is w true nodes true m n e = same_is w (codes "META") m

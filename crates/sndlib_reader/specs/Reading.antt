@@ -111,13 +111,13 @@ abbrev pub coordinates : List NodePart → Result NodePart ReadKind
 coordinates sofar = if ends_named false sofar then Ok Coordinates else Err Token
 
 -- what comes after it
-abbrev pub part_behind : NodePart → Reading ReadKind NodePart
-part_behind (NodeName name) = give (NodeName name)
-part_behind Coordinates = mapped (λ _. Coordinates) (skipped_at 0)
+abbrev pub part_after : NodePart → Reading ReadKind NodePart
+part_after (NodeName name) = give (NodeName name)
+part_after Coordinates = mapped (λ _. Coordinates) (skipped_at 0)
 
 -- a further part of the list of nodes
 unfoldable pub part_at : List NodePart → Reading ReadKind NodePart
-part_at sofar = step_at (name_part sofar) (coordinates sofar) (Err Token) (Err Ended) >>= part_behind
+part_at sofar = step_at (name_part sofar) (coordinates sofar) (Err Token) (Err Ended) >>= part_after
 
 -- further nodes
 abbrev pub native_nodes_at : List NodePart → Reading ReadKind (List (List ℕ))
@@ -208,32 +208,32 @@ abbrev pub is_meta : List ℕ → Result Bool ReadKind
 is_meta w = if are_same w (codes "META") then Ok true else (if are_same w (codes "NODES") then Ok false else Err Section)
 
 -- what comes after that word
-unfoldable pub meta_behind : Bool → Reading ReadKind (Unit {0})
-meta_behind true = do
+unfoldable pub after_meta : Bool → Reading ReadKind (Unit {0})
+after_meta true = do
   _ ← open_at Section Ended
   _ ← skipped_at 0
   word_at Section Ended (expected Section (codes "NODES"))
-meta_behind false = give tt
+after_meta false = give tt
 
 -- all before the parenthesis of NODES
 abbrev pub start_at : Reading ReadKind (Unit {0})
-start_at = word_at Section Ended is_meta >>= meta_behind
+start_at = word_at Section Ended is_meta >>= after_meta
 
 -- the word of the section of paths
 abbrev pub is_paths : List ℕ → Result Bool ReadKind
 is_paths w = if are_same w (codes "ADMISSIBLE_PATHS") then Ok true else Err Section
 
 -- what comes after that word, or after the end
-unfoldable pub paths_behind : List (List ℕ) → List (List ℕ) → Bool → Reading ReadKind (Unit {0})
-paths_behind links demands true = do
+unfoldable pub after_paths : List (List ℕ) → List (List ℕ) → Bool → Reading ReadKind (Unit {0})
+after_paths links demands true = do
   _ ← open_at Section Ended
   _ ← each_at (path_line_at links demands)
   end_at Section
-paths_behind links demands false = give tt
+after_paths links demands false = give tt
 
 -- that section and the end, or the end alone
 abbrev pub paths_at : List (List ℕ) → List (List ℕ) → Reading ReadKind (Unit {0})
-paths_at links demands = step_at is_paths (Err Section) (Err Section) (Ok false) >>= paths_behind links demands
+paths_at links demands = step_at is_paths (Err Section) (Err Section) (Ok false) >>= after_paths links demands
 
 -- the parts of these nodes and links
 abbrev pub parts : List (List ℕ) → List CostedLink → Parts

@@ -35,9 +35,9 @@ ends_named named (NodeName name ∷ parts) = ends_named true parts
 ends_named named (Coordinates ∷ parts) = ends_named false parts
 
 -- names have at most 255 bytes, and coordinates come right after a name
-abbrev pub IsPartBehind : List NodePart → NodePart → Type 0
-IsPartBehind sofar (NodeName name) = length name ≤ 255
-IsPartBehind sofar Coordinates = IsTrue (ends_named false sofar)
+abbrev pub IsPartAfter : List NodePart → NodePart → Type 0
+IsPartAfter sofar (NodeName name) = length name ≤ 255
+IsPartAfter sofar Coordinates = IsTrue (ends_named false sofar)
 
 -- coordinates are anything that balances, between parentheses
 abbrev pub SpellsPart : NodePart → List Item → Type 0
@@ -115,7 +115,7 @@ pub record SpellsParts (x : Parts × List Demand) (items : List Item) : Type 0 w
   pub items_are : items ≡ meta ++ (section_items (codes "NODES") part_items ++ (section_items (codes "LINKS") (flat_map (link_items x.0.nodes) links) ++ (section_items (codes "DEMANDS") demand_items ++ paths)))
   pub meta_is : IsMeta meta
   pub parts_are : AreSpelled SpellsPart parts part_items
-  pub parts_in_order : AreBehind IsPartBehind [] parts
+  pub parts_in_order : AreBehind IsPartAfter [] parts
   pub nodes_are : names_of parts ≡ x.0.nodes
   pub links_are : map (λ l. l.link) links ≡ x.0.links
   pub links_short : All IsShortLink links

@@ -1,7 +1,7 @@
 ghost use Rattle.std.specs.Prelude.{◌≡◌, ◌≤◌, ◌++◌, ◌∷◌, [], None, false, length, position, IfOk, IsTrue, OnOk};
 ghost use Rattle.net_core.specs.Tests.{are_same, is_named};
 ghost use Rattle.snd_tokens.specs.Lexemes.{EndAt};
-ghost use Rattle.snd_tokens.specs.Tokens.{is_plain};
+ghost use Rattle.net_core.specs.Names.{is_plain};
 ghost use Rattle.text_kit.specs.Answers.{ReadsAs};
 ghost use Rattle.text_kit.specs.Reading.{placed, sound};
 

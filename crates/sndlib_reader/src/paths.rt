@@ -138,7 +138,7 @@ fn paths_word(text: &mut Cursor) -> Result<bool, ReadRefusal>
 
 /// Takes the section of admissible paths and finds the end, or finds the end at once. Links and
 /// demands are given by their names.
-#[tactic(auto, unfolding(crate::specs::Reading::paths_behind))]
+#[tactic(auto, unfolding(crate::specs::Reading::after_paths))]
 pub(crate) fn paths(links: &Names, demands: &Names, text: &mut Cursor) -> Result<(), ReadRefusal>
     ensures { ReadsAs (λ _. tt) result (left text.new) (paths_at links.now demands.now (left text.old)) }
 {

@@ -22,7 +22,7 @@ use crate::skip::skip;
 use net_core::{Demands, List, Name, Network, NoMemory};
 use snd_tokens::Cursor;
 use std::alloc::Global;
-use text_kit::steps::{behind_header, expect, open, placed, word};
+use text_kit::steps::{expect, open, placed, text_after_header, word};
 
 const HEADER: &[u8] = b"?SNDlib native format; type: network; version: 1.0";
 
@@ -52,7 +52,7 @@ fn first_word(text: &mut Cursor) -> Result<bool, ReadRefusal>
 }
 
 /// Takes all before the parenthesis of NODES.
-#[tactic(auto, unfolding(crate::specs::Reading::meta_behind))]
+#[tactic(auto, unfolding(crate::specs::Reading::after_meta))]
 fn start(text: &mut Cursor) -> Result<(), ReadRefusal>
     ensures { ReadsAs (λ _. tt) result (left text.new) (start_at (left text.old)) }
 {
@@ -127,13 +127,17 @@ fn sections(alloc: Global, text: &mut Cursor) -> Result<(Network, Demands), Read
 fn file(alloc: Global, bytes: &[u8]) -> Result<(Network, Demands), ReadRefusal>
     ensures { ReadsAllAs (λ r. (parts_of r.0, r.1)) result (network_of bytes.now) }
 {
-    let mut text = behind_header(ReadKind::Header, bytes, HEADER)?;
+    let mut text = text_after_header(ReadKind::Header, bytes, HEADER)?;
     sections(alloc, &mut text)
 }
 
 /// The network and the demands that a file spells. It takes time in proportion to the file's length,
 /// since names are looked up by their hashes; memory for what it gives, and for a table of the
 /// places of all names.
+///
+/// After the header, `NODES ( A B ) LINKS ( L ( A B ) 0 0 0 0 ( 10 5 ) ) DEMANDS ( D ( A B ) 1 2.5 UNLIMITED )` spells
+/// two nodes, a link between them that takes modules of 10,000 thousandths for 5,000 each, and a demand that needs
+/// 2,500. With `( A C )` after `L` it is refused: `UnknownName`, at the place of the C.
 pub fn read_network(alloc: Global, bytes: &[u8]) -> Result<(Network, Demands), ReadRefusal>
     // What is read is spelled.
     ensures read { IfOk result (λ r. Spells bytes.now r.0 r.1) }

@@ -6,7 +6,8 @@ use Rattle.std.proofs.lemmas.List.{drop-drop, drop-take}
 use Rattle.std.proofs.lemmas.List.Sums.{prefix_len-le-length}
 use Rattle.snd_tokens.specs.declared.token.Token.{Token}
 use Rattle.snd_tokens.specs.declared.token.TokenKind.TheVariants as kinds
-use Rattle.snd_tokens.specs.Tokens.{starts_token, is_space, is_word_byte, line_length, run_length, extent, token_of, token_bytes, begun, tokens_past, tokens_from}
+use Rattle.net_core.specs.Names.{is_space, is_word_byte}
+use Rattle.snd_tokens.specs.Tokens.{starts_token, line_length, run_length, extent, token_of, token_bytes, begun, tokens_past, tokens_from}
 use Rattle.snd_tokens.specs.Lexemes.{WordAt, OpenAt, CloseAt, text_of, text_from}
 use Rattle.text_kit.specs.Places.{EndsBefore}
 use Rattle.text_kit.proofs.Alike.{AgreeThrough}

@@ -1,13 +1,12 @@
 -- Readings that take exactly the texts of what they give.
-use Rattle.std.proofs.Common.{◌≡◌, ℕ, ◌<◌, ◌≤◌, ◌==◌, Bool, true, false, cond, nat_lt, List, [], ◌∷◌, ◌++◌, length, Option, None, Some, Result, Ok, Err, refl, sym, ap, subst, ◌∙◌, arith, append-nil, length-append}
+use Rattle.std.proofs.Common.{◌≡◌, ℕ, ◌<◌, ◌≤◌, Bool, true, false, cond, List, [], ◌∷◌, ◌++◌, length, Option, None, Result, Ok, Err, refl, sym, ap, subst, ◌∙◌, arith, append-nil, length-append}
 use Rattle.std.specs.Prelude.{flat_map}
-use Rattle.std.proofs.lemmas.Bool.{eqb-true, eq-eqb, lt-ltb, ltb-true}
 use Rattle.std.proofs.lemmas.Bool.Decides.{Decides-eqb}
 use Rattle.std.proofs.lemmas.Slice.Eq.{slice_eq-Decides}
 use Rattle.net_core.specs.Tests.{are_same}
 use Rattle.snd_tokens.specs.Lexemes.{Text, WordAt, OpenAt, CloseAt, EndAt}
 use Rattle.text_kit.specs.Items.{AreBehind, AreSpelled, Item, Verbatim, Whole, Money, Opening, Closing, SpellsItem, Begins}
-use Rattle.text_kit.specs.Reading.{Read, Reading, after, ◌>>=◌, give, word_at, open_at, close_at, end_at, over_at, expected, Ending, Parenthesis, list_at, up_to, of_length, exactly_at, no_fault, not_empty, whole_at}
+use Rattle.text_kit.specs.Reading.{Read, Reading, after, ◌>>=◌, give, word_at, open_at, close_at, end_at, expected, Ending, Parenthesis, list_at, not_empty, whole_at}
 pub use Rattle.text_kit.proofs.Beginnings.{AnyText, IsEnd, IsLeftBy, Starts, begins_both, begins_parts, ending_again, ending_items, ending_takes, no_ending, sound_ok, starts_less}
 use Rattle.text_kit.proofs.Online.{ok_parts, placed_ok}
 pub use Rattle.text_kit.proofs.Spelled.{Lawful}
@@ -162,24 +161,6 @@ lawful_list {X} ending fault one items is starts law = law_spelled _ _ _ _ (spel
 
 -- ---- limits
 
-over_fails : {K X : Type 0} (limit ended : K) (text : Text) (x : X) (rest : Text) → over_at limit ended text ≡ Ok (x, rest) → ⊥
-over_fails limit ended (WordAt at w t) x rest e = cc
-over_fails limit ended (OpenAt at t) x rest e = cc
-over_fails limit ended (CloseAt at t) x rest e = cc
-over_fails limit ended (EndAt at) x rest e = cc
-
--- an element where fewer than n stand before it
-pub lawful_up_to : {K X : Type 0} (n : ℕ) (limit ended : K) (one : List X → Reading K X) (items : X → List Item) (is : List X → X → Type 0) (sofar : List X)
-    → Lawful (one sofar) items (is sofar) AnyText → Lawful (up_to n limit ended one sofar) items (λ x. (length sofar < n) × is sofar x) AnyText
-lawful_up_to {K} {X} n limit ended one items is sofar law = record {
-  takes = λ text x rest e. by (nat_lt (length sofar) n) refl text x rest e;
-  again = λ text x rest form b left. rw (lt-ltb (length sofar) n form.0) (law.again text x rest form.1 b left);
-}
-  where
-    by : (v : Bool) → nat_lt (length sofar) n ≡ v → (text : Text) (x : X) (rest : Text) → cond v (one sofar) (over_at {K = K} {X = X} limit ended) text ≡ Ok (x, rest) → ((length sofar < n) × is sofar x) × Begins (items x) text rest × AnyText rest
-    by true v text x rest e = let h = law.takes text x rest e in ((ltb-true (length sofar) n v, h.0), h.1, h.2)
-    by false v text x rest e = absurd (over_fails limit ended text x rest e)
-
 -- so there are n at most
 pub few_behind : {X : Type 0} (n : ℕ) (is : List X → X → Type 0) (sofar xs : List X) → length sofar ≤ n → AreBehind (λ before x. (length before < n) × is before x) sofar xs → (length (sofar ++ xs) ≤ n) × AreBehind is sofar xs
 few_behind n is sofar [] le all = (omega (arith, le, length-append sofar []), tt)
@@ -193,26 +174,6 @@ behind_few n is sofar (x ∷ xs) le all = (
   (omega (arith, le, length-append sofar (x ∷ xs)), all.0),
   behind_few n is (sofar ++ x ∷ []) xs (omega (arith, le, length-append (sofar ++ x ∷ []) xs, length-append sofar (x ∷ []), length-append sofar (x ∷ xs))) all.1,
 )
-
--- an element where fewer than n stand before it, in a list of n at most
-pub lawful_few : {K X : Type 0} (ending : Ending) (n : ℕ) (limit ended : K) (one : List X → Reading K X) (items : X → List Item) (is : List X → X → Type 0) (starts : (x : X) → Starts (items x)) (law : (sofar : List X) → Lawful (one sofar) items (is sofar) AnyText)
-    → Lawful (list_at ending no_fault (up_to n limit ended one) []) (λ xs. flat_map items xs ++ ending_items ending) (λ xs. (length xs ≤ n) × AreBehind is [] xs) (IsLeftBy ending)
-lawful_few ending n limit ended one items is starts law = lawful_as (list_at ending no_fault (up_to n limit ended one) []) _ (λ xs. flat_map items xs ++ ending_items ending) _ _ (IsLeftBy ending)
-    (λ xs h. refl) (λ xs h. few_behind n is [] xs (omega arith) h.1) (λ xs h. (refl, behind_few n is [] xs h.0 h.1))
-    (lawful_list ending no_fault (up_to n limit ended one) items (λ sofar x. (length sofar < n) × is sofar x) starts (λ sofar. lawful_up_to n limit ended one items is sofar (law sofar)))
-
-right_length : {K X : Type 0} (n : ℕ) (kind : K) (xs : List X) (b : Bool) → (length xs == n) ≡ b → (let o : Option K = cond b None (Some kind) in o ≡ None) → length xs ≡ n
-right_length n kind xs true same e = eqb-true (length xs) n same
-right_length n kind xs false same e = absurd cc
-
--- a list of exactly n elements
-pub lawful_exactly : {K X : Type 0} (n : ℕ) (limit ended : K) (one : List X → Reading K X) (items : X → List Item) (is : List X → X → Type 0) (starts : (x : X) → Starts (items x)) (law : (sofar : List X) → Lawful (one sofar) items (is sofar) AnyText)
-    → Lawful (exactly_at n limit ended one) (λ xs. flat_map items xs ++ Closing ∷ []) (λ xs. (length xs ≡ n) × AreBehind is [] xs) AnyText
-lawful_exactly n limit ended one items is starts law = lawful_as (exactly_at n limit ended one) _ (λ xs. flat_map items xs ++ Closing ∷ []) _ _ AnyText
-    (λ xs h. refl)
-    (λ xs h. (right_length n limit xs (length xs == n) refl h.0, (few_behind n is [] xs (omega arith) h.1).1))
-    (λ xs h. (rw (eq-eqb (length xs) n h.0) refl, behind_few n is [] xs (omega (arith, h.0)) h.1))
-    (lawful_list Parenthesis (of_length n limit) (up_to n limit ended one) items (λ sofar x. (length sofar < n) × is sofar x) starts (λ sofar. lawful_up_to n limit ended one items is sofar (law sofar)))
 
 some_there : {K X : Type 0} (kind : K) (xs : List X) → not_empty kind xs ≡ None → 1 ≤ length xs
 some_there kind [] e = absurd cc

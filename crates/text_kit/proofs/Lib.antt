@@ -10,6 +10,7 @@ pub mod Agreeing
 pub mod Numerals
 pub mod Amounts
 pub mod Written
+pub mod Adding
 pub mod Files
 pub mod Behind
 pub mod NameLaws

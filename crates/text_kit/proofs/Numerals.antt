@@ -9,7 +9,7 @@ use Rattle.std.proofs.lemmas.List.Folds.{list_all-append}
 use Rattle.std.proofs.lemmas.Fmt.{decimal_by_steps_wide}
 use Rattle.snd_tokens.specs.Amounts.{decimal_below, first_places, is_coarse, is_decimal, is_point, money_of, places_of, units, whole_part}
 use Rattle.snd_tokens.specs.Digits.{is_digit, are_digits, number_of}
-use Rattle.snd_tokens.specs.Tokens.{is_plain, is_word_byte}
+use Rattle.net_core.specs.Names.{is_plain, is_word_byte}
 use Rattle.snd_tokens.specs.Wholes.{begins_with_zero, whole_of}
 use Rattle.text_kit.specs.Written.{last_digit, money_word}
 

@@ -1,8 +1,8 @@
 -- Readings whose answer depends on no lexeme after what they take, nor after the place of their fault.
-use Rattle.std.proofs.Common.{◌≡◌, ℕ, zero, suc, ◌<◌, ◌≤◌, true, false, cond, nat_lt, List, [], ◌∷◌, ◌++◌, length, Option, None, Some, Result, Ok, Err, refl, sym, ap, subst, ◌∙◌, arith}
+use Rattle.std.proofs.Common.{◌≡◌, ℕ, zero, suc, ◌<◌, ◌≤◌, List, [], ◌∷◌, ◌++◌, Option, None, Some, Result, Ok, Err, refl, sym, ap, subst, ◌∙◌, arith}
 use Rattle.snd_tokens.specs.Lexemes.{Text, WordAt, OpenAt, CloseAt, EndAt, size}
 use Rattle.text_kit.specs.Places.{place}
-use Rattle.text_kit.specs.Reading.{Read, Reading, after, ◌>>=◌, give, placed, step_at, word_at, open_at, close_at, end_at, over_at, Ending, Parenthesis, TheEnd, past_ending, sound, ended_or, elements_at, list_at, up_to, whole_at}
+use Rattle.text_kit.specs.Reading.{Read, Reading, after, ◌>>=◌, give, placed, step_at, word_at, open_at, close_at, end_at, over_at, Ending, Parenthesis, TheEnd, past_ending, sound, ended_or, elements_at, list_at, whole_at}
 use Rattle.text_kit.proofs.Alike.{AgreeThrough, Rises, Same, agree_same, past, past_size, past_sum, plus, plus_plus, plus_suc, same_all}
 
 -- what was read, by how many lexemes
@@ -153,13 +153,6 @@ online_over limit ended = online_step (λ w. Err limit) (Err limit) (Err limit) 
 
 pub online_whole : {K X : Type 0} (other : K) (r : Reading K X) → IsOnline r → IsOnline (whole_at other r)
 online_whole other r on = online_then r _ on (λ x. online_then (end_at other) _ (online_end other) (λ a. online_give x))
-
-pub online_up_to : {K X : Type 0} (n : ℕ) (limit ended : K) (one : List X → Reading K X) (sofar : List X) → IsOnline (one sofar) → IsOnline (up_to n limit ended one sofar)
-online_up_to {K} {X} n limit ended one sofar on =
-    elim (nat_lt (length sofar) n) as (λ v. IsOnline (cond v (one sofar) (over_at {K = K} {X = X} limit ended))) [
-      | true ↦ on
-      | false ↦ online_over limit ended
-    ]
 
 -- ---- readings that take a lexeme at least
 

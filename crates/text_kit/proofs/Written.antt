@@ -4,11 +4,12 @@ use Rattle.std.specs.Prelude.{decimal, flat_map}
 use Rattle.std.specs.List.{AllByRecursion, list_all}
 use Rattle.std.proofs.lemmas.List.{drop-drop}
 use Rattle.snd_tokens.specs.declared.token.TokenKind.TheVariants as kinds
-use Rattle.snd_tokens.specs.Tokens.{is_plain, is_space, is_word_byte, run_length, starts_token, token_of, token_bytes, tokens_from}
+use Rattle.net_core.specs.Names.{is_plain, is_space, is_word_byte}
+use Rattle.snd_tokens.specs.Tokens.{run_length, starts_token, token_of, token_bytes, tokens_from}
 use Rattle.snd_tokens.specs.Lexemes.{Text, WordAt, OpenAt, CloseAt, EndAt, text_of, text_from}
 use Rattle.snd_tokens.proofs.Scan.{tokens_from-close, tokens_from-end, tokens_from-open, tokens_from-space, tokens_from-word}
 use Rattle.text_kit.specs.Items.{Item, Verbatim, Whole, Money, Opening, Closing, SpellsItem, Begins}
-use Rattle.text_kit.specs.Written.{IsWritable, byte_behind, money_word, word_of, written}
+use Rattle.text_kit.specs.Written.{IsWritable, byte_after, money_word, word_of, written}
 use Rattle.text_kit.proofs.Numerals.{and_parts, decimal_plain, decimal_writes, drop_first, money_again, money_plain, take_first, whole_again}
 
 -- a byte at a place, and the bytes after it
@@ -120,7 +121,7 @@ written_begins (Money n ∷ is) whole at all within e =
 -- items after items, and the items of a list
 pub written_both : (a b : List Item) → written (a ++ b) ≡ written a ++ written b
 written_both [] b = refl
-written_both (i ∷ a) b = ap (λ (t : List ℕ). word_of i ++ byte_behind i ∷ t) (written_both a b) ∙ sym (append_assoc (word_of i) (byte_behind i ∷ written a) (written b))
+written_both (i ∷ a) b = ap (λ (t : List ℕ). word_of i ++ byte_after i ∷ t) (written_both a b) ∙ sym (append_assoc (word_of i) (byte_after i ∷ written a) (written b))
 
 pub written_all : {X : Type 0} (f : X → List Item) (xs : List X) → written (flat_map f xs) ≡ flat_map (λ x. written (f x)) xs
 written_all f [] = refl

@@ -1,5 +1,5 @@
 -- Reading a text from left to right: what was read and what is left, or the first fault with its place.
-use Rattle.std.specs.Prelude.{ℕ, zero, suc, ◌==◌, nat_lt, if◌then◌else◌, List, [], ◌∷◌, ◌++◌, length, Option, None, Some, Result, Ok, Err}
+use Rattle.std.specs.Prelude.{ℕ, zero, suc, ◌==◌, if◌then◌else◌, List, [], ◌∷◌, ◌++◌, length, Option, None, Some, Result, Ok, Err}
 use Rattle.net_core.specs.Tests.{are_same}
 use Rattle.snd_tokens.specs.Lexemes.{Text, WordAt, OpenAt, CloseAt, EndAt, size}
 use Rattle.text_kit.specs.Places.{place}
@@ -100,10 +100,6 @@ elements_at ending fault one (suc n) sofar text =
 abbrev pub list_at : {K X : Type 0} → Ending → (List X → Option K) → (List X → Reading K X) → List X → Reading K (List X)
 list_at ending fault one sofar text = elements_at ending fault one (suc (size text)) sofar text
 
--- an element where fewer than n stand before it; the one too many has the fault of the limit
-abbrev pub up_to : {K X : Type 0} → ℕ → K → K → (List X → Reading K X) → List X → Reading K X
-up_to n limit ended one sofar = if nat_lt (length sofar) n then one sofar else over_at limit ended
-
 -- no list has a fault
 abbrev pub no_fault : {K X : Type 0} → List X → Option K
 no_fault xs = None
@@ -116,10 +112,6 @@ not_empty kind (x ∷ xs) = None
 -- a list of another length than n has this fault
 abbrev pub of_length : {K X : Type 0} → ℕ → K → List X → Option K
 of_length n kind xs = if length xs == n then None else Some kind
-
--- a list of exactly n elements up to the closing parenthesis: too few have the fault at the parenthesis, too many at the first of them
-abbrev pub exactly_at : {K X : Type 0} → ℕ → K → K → (List X → Reading K X) → Reading K (List X)
-exactly_at n limit ended one = list_at Parenthesis (of_length n limit) (up_to n limit ended one) []
 
 -- elements of which none is kept, up to the closing parenthesis
 abbrev pub each_at : {K X : Type 0} → Reading K X → Reading K (Unit {0})

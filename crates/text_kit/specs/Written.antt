@@ -1,6 +1,7 @@
 -- the text of items, as it is written
 use Rattle.std.specs.Prelude.{◌≡◌, ℕ, ◌+◌, ◌/◌, ◌%◌, ◌<◌, ◌≤◌, ◌^◌, true, List, [], ◌∷◌, ◌++◌, length, decimal}
-use Rattle.snd_tokens.specs.Tokens.{is_plain}
+use Rattle.std.specs.List.{AllByRecursion}
+use Rattle.net_core.specs.Names.{IsName, is_plain}
 use Rattle.text_kit.specs.Items.{Item, Verbatim, Whole, Money, Opening, Closing}
 
 -- the last digit of a number
@@ -20,17 +21,17 @@ word_of Opening = 40 ∷ []
 word_of Closing = 41 ∷ []
 
 -- a line ends after a closing parenthesis, and a space stands after all else
-abbrev pub byte_behind : Item → ℕ
-byte_behind (Verbatim w) = 32
-byte_behind (Whole n) = 32
-byte_behind (Money n) = 32
-byte_behind Opening = 32
-byte_behind Closing = 10
+abbrev pub byte_after : Item → ℕ
+byte_after (Verbatim w) = 32
+byte_after (Whole n) = 32
+byte_after (Money n) = 32
+byte_after Opening = 32
+byte_after Closing = 10
 
 -- all items, one after another
 abbrev pub written : List Item → List ℕ
 written [] = []
-written (i ∷ is) = word_of i ++ byte_behind i ∷ written is
+written (i ∷ is) = word_of i ++ byte_after i ∷ written is
 
 -- a name is a word, and a number isn't too large
 abbrev pub IsWritable : Item → Type 0
@@ -39,3 +40,16 @@ IsWritable (Whole n) = n < 2 ^ 126
 IsWritable (Money n) = n < 2 ^ 126
 IsWritable Opening = Unit {0}
 IsWritable Closing = Unit {0}
+
+-- a word of at most 255 bytes, or a number that isn't too large
+abbrev pub IsShortItem : Item → Type 0
+IsShortItem (Verbatim w) = IsName w
+IsShortItem (Whole n) = n < 2 ^ 126
+IsShortItem (Money n) = n < 2 ^ 126
+IsShortItem Opening = Unit {0}
+IsShortItem Closing = Unit {0}
+
+-- these items were written after what stood there, each of them short
+pub record AddsItems (old : List ℕ) (items : List Item) (new : List ℕ) : Type 0 where
+  pub text : new ≡ old ++ written items
+  pub each : AllByRecursion IsShortItem items

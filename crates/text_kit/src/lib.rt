@@ -5,6 +5,7 @@
 pub mod fault_word;
 pub mod law;
 pub mod names;
+pub mod puts;
 pub mod refusal;
 pub mod steps;
 pub mod write;

@@ -1,6 +1,6 @@
 ghost use Rattle.std.specs.Prelude.{◌≡◌, ◌≤◌, false, nat_lt, length, None, IfOk, IsTrue};
 ghost use Rattle.snd_tokens.specs.Lexemes.{EndAt};
-ghost use Rattle.snd_tokens.specs.Tokens.{is_plain};
+ghost use Rattle.net_core.specs.Names.{is_plain};
 ghost use Rattle.text_kit.specs.Answers.{ReadsAs};
 ghost use Rattle.text_kit.specs.Names.{new_name_fault};
 ghost use Rattle.text_kit.specs.Reading.{placed, sound};
@@ -12,7 +12,7 @@ use std::fmt::Debug;
 
 const MAX_NAME: usize = 255;
 
-/// Whether a word is too long for a name.
+/// Whether a word is too long for a name, in constant time.
 pub fn is_long(word: &[u8]) -> bool
     ensures value { result ≡ nat_lt 255 (length word.now) }
     ensures short { result ≡ false → length word.now ≤ 255 }
@@ -22,7 +22,7 @@ pub fn is_long(word: &[u8]) -> bool
 
 /// What is wrong with a word as a new name, of which there are `most` at most: it is too `long`,
 /// or it is a `double` since it is `taken`, or `count` others before it are as many as the `limit`
-/// allows.
+/// allows. It takes constant time and no memory.
 pub fn new_name_fault<K: Debug + Drop>(
     long: K,
     double: K,
@@ -61,7 +61,8 @@ fn name_of(alloc: Global, word: &[u8]) -> Result<Name, NoMemory>
     }
 }
 
-/// The name that a word of a text is, at a place, if it has no fault.
+/// The name that a word of a text is, at a place, if it has no fault. The name is a copy: it asks for memory once, for
+/// the bytes of the word.
 pub fn named<K: Debug + Drop>(
     alloc: Global,
     at: u64,

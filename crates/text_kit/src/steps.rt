@@ -2,7 +2,7 @@ ghost use Rattle.std.specs.Prelude.{◌≡◌, ◌≤◌, true, false, length, I
 ghost use Rattle.net_core.specs.Tests.{are_same};
 ghost use Rattle.snd_tokens.specs.Header.{first_line, trimmed};
 ghost use Rattle.snd_tokens.specs.Lexemes.{EndAt, WordAt, left};
-ghost use Rattle.snd_tokens.specs.Tokens.{is_plain};
+ghost use Rattle.net_core.specs.Names.{is_plain};
 ghost use Rattle.text_kit.specs.Answers.{Closes, Fails, ReadsAs, IsAtEnd, LacksWord};
 ghost use Rattle.text_kit.specs.Files.{body};
 ghost use Rattle.text_kit.specs.Reading.{close_at, end_at, expected, open_at, over_at, placed, word_at};
@@ -11,7 +11,7 @@ use crate::refusal::{Refusal, bad};
 use snd_tokens::{Cursor, Next};
 use std::fmt::Debug;
 
-/// The outcome of a test of the word at a place.
+/// The outcome of a test of the word at a place. It takes constant time and no memory.
 pub fn placed<K: Debug + Drop, X: Drop>(at: u64, outcome: Result<X, K>) -> Result<X, Refusal<K>>
     ensures { ReadsAs (λ x. x) result (EndAt at) (placed at (EndAt at) outcome) }
 {
@@ -21,7 +21,8 @@ pub fn placed<K: Debug + Drop, X: Drop>(at: u64, outcome: Result<X, K>) -> Resul
     }
 }
 
-/// Takes a word, and gives its place and its bytes.
+/// Takes a word, and gives its place and its bytes, which stay in the text. This and the other steps of this module
+/// cost what `Cursor::next` does, and ask for no memory.
 pub fn word<'a, K: Debug + Drop>(
     other: K,
     ended: K,
@@ -121,8 +122,8 @@ pub fn over<K: Debug + Drop>(limit: K, ended: K, text: &mut Cursor) -> Refusal<K
     }
 }
 
-/// The text after the header of a file.
-pub fn behind_header<'a, K: Debug + Drop>(
+/// The text after the header of a file, without a copy. It goes over the first line alone, and asks for no memory.
+pub fn text_after_header<'a, K: Debug + Drop>(
     other: K,
     bytes: &'a [u8],
     header: &[u8],

@@ -5,7 +5,9 @@ ghost use Rattle.text_kit.specs.Written.{last_digit, money_word, written};
 use itoa::Buffer;
 use net_core::{Bytes, NoMemory};
 
-/// Puts a number last, without a space after it.
+/// Puts a number last, without a space after it, in time that grows with its digits. It asks for memory only
+/// where the text has no room left for them, as all functions of this module do: then for twice the room at least,
+/// and the bytes before may move. Where memory runs out, the text may end in part of what was to be put.
 pub fn put_decimal(text: &mut Bytes, n: u128) -> Result<(), NoMemory>
     ensures { OnOk result (text.new ≡ text.old ++ decimal n) }
 {
@@ -20,7 +22,8 @@ fn last_digit(n: u128) -> u8
     b'0' + (n % 10) as u8
 }
 
-/// Puts thousandths last as money, without a space after it.
+/// Puts thousandths last as money, without a space after it: the digits of the whole part, a point and three digits.
+/// It takes time in these digits, and asks for memory as `put_decimal` does, at most twice.
 pub fn put_money_word(text: &mut Bytes, n: u128) -> Result<(), NoMemory>
     ensures { OnOk result (text.new ≡ text.old ++ money_word n) }
 {
@@ -28,7 +31,7 @@ pub fn put_money_word(text: &mut Bytes, n: u128) -> Result<(), NoMemory>
     text.append(&[b'.', last_digit(n / 100), last_digit(n / 10), last_digit(n)])
 }
 
-/// Puts a word last.
+/// Puts a word last, and a space. It takes time in the word's length, and asks for memory at most twice.
 pub fn put_word(text: &mut Bytes, word: &[u8]) -> Result<(), NoMemory>
     ensures { OnOk result (text.new ≡ text.old ++ written (Verbatim word.now ∷ [])) }
 {
@@ -36,7 +39,7 @@ pub fn put_word(text: &mut Bytes, word: &[u8]) -> Result<(), NoMemory>
     text.append(b" ")
 }
 
-/// Puts a whole number last.
+/// Puts a whole number last, and a space. It takes time in the digits, and asks for memory at most twice.
 pub fn put_whole(text: &mut Bytes, n: u128) -> Result<(), NoMemory>
     ensures { OnOk result (text.new ≡ text.old ++ written (Whole n ∷ [])) }
 {
@@ -44,7 +47,8 @@ pub fn put_whole(text: &mut Bytes, n: u128) -> Result<(), NoMemory>
     text.append(b" ")
 }
 
-/// Puts thousandths last, as an amount or money.
+/// Puts thousandths last, as an amount or money, and a space. It takes time in the digits, and asks for memory at
+/// most three times.
 pub fn put_money(text: &mut Bytes, n: u128) -> Result<(), NoMemory>
     ensures { OnOk result (text.new ≡ text.old ++ written (Money n ∷ [])) }
 {
@@ -52,14 +56,14 @@ pub fn put_money(text: &mut Bytes, n: u128) -> Result<(), NoMemory>
     text.append(b" ")
 }
 
-/// Puts an opening parenthesis last.
+/// Puts an opening parenthesis last, and a space, in constant time but for the move of a text that has no room left.
 pub fn put_open(text: &mut Bytes) -> Result<(), NoMemory>
     ensures { OnOk result (text.new ≡ text.old ++ written (Opening ∷ [])) }
 {
     text.append(b"( ")
 }
 
-/// Puts a closing parenthesis last, and ends the line.
+/// Puts a closing parenthesis last, and ends the line. It costs as much as an opening one.
 pub fn put_close(text: &mut Bytes) -> Result<(), NoMemory>
     ensures { OnOk result (text.new ≡ text.old ++ written (Closing ∷ [])) }
 {
