@@ -17,13 +17,15 @@ use Rattle.cut_pool.specs.Histories.{IsLegalHistory, IsPoolAfter, cut_of_line, c
 use Rattle.plan_checker.specs.Order.{HoldNone, HoldsNone}
 use Rattle.plan_checker.specs.Places.{HoldsAt}
 use Rattle.plan_checker.specs.declared.finding.Finding.TheVariants as finding
-use Rattle.plan_checker.proofs.KeptLengths.{right_one}
 use Rattle.report_checker.specs.Journals.{HoldsEntryDiffers, HoldsNotesDiffer, IsOtherEntry, case_after}
-use Rattle.report_checker.specs.Outcomes.{HoldsSurvivable, HoldsVersionDiffers, SeparatesNamed, case_at, outcome_findings}
+use Rattle.report_checker.specs.Outcomes.{HoldsVersionDiffers, case_at, outcome_findings}
 use Rattle.report_checker.specs.Pools.{HoldsBadCut, HoldsPoolCount, HoldsPoolDiffers, IsBadCut}
 use Rattle.acceptance.specs.Reports.{IsSoundOutcomeOf, SoundReportsAreAccepted}
 use Rattle.acceptance.proofs.Histories.{history_cuts}
-use Rattle.acceptance.proofs.Sound.{at_place, sound_plans_are_accepted}
+use Rattle.acceptance.proofs.Sound.{sound_plans_are_accepted}
+use Rattle.net_core.proofs.Lists.{all_at}
+use Rattle.report_checker.proofs.Apart.{no_survivable}
+use Rattle.plan_terms.proofs.Distances.{right_once}
 
 no_notes : (own printed : Notes) → printed ≡ own → HoldsNone (HoldsNotesDiffer own printed)
 no_notes own printed same finding.NotesDiffer h = h same
@@ -49,7 +51,7 @@ module _ (p : Case) (entries : List Entry) (legal : IsLegalHistory p entries) wh
 
     no_bad : (k : ℕ) → HoldsAt pool k (IsBadCut p pool k) → ⊥
     no_bad k bad = ⊎_elim
-        (λ lost. lost (at_place (λ (c : ℕ × List ℕ). AreKept (graph_in p c.0) c.1) (cuts_of entries) k (cut_of_line bad.item) (history_cuts p entries legal).kept (cut_there k bad.item bad.at)))
+        (λ lost. lost (all_at (λ (c : ℕ × List ℕ). AreKept (graph_in p c.0) c.1) (cuts_of entries) k (cut_of_line bad.item) (history_cuts p entries legal).kept (cut_there k bad.item bad.at)))
         (λ twice.
         let j = twice.0 in
         let line = cut_of_line bad.item in
@@ -66,17 +68,13 @@ module _ (p : Case) (entries : List Entry) (legal : IsLegalHistory p entries) wh
     no_stale : HoldsNone (HoldsPoolDiffers (case_after p entries) pool)
     no_stale (finding.PoolDiffers i a b) h =
         let bad = h.0 in
-        let right = at_place (λ (l : CutLine). IsRight (Joins (graph_in p l.state.0)) l.lengths (demands_left p entries) l.right) pool i bad.item is.rights bad.at in
-        bad.holds.differ (sym bad.holds.printed ∙ right_one (Joins (graph_in p bad.item.state.0)) bad.item.lengths (demands_left p entries) bad.item.right b right bad.holds.right)
+        let right = all_at (λ (l : CutLine). IsRight (Joins (graph_in p l.state.0)) l.lengths (demands_left p entries) l.right) pool i bad.item is.rights bad.at in
+        bad.holds.differ (sym bad.holds.printed ∙ right_once (Joins (graph_in p bad.item.state.0)) bad.item.lengths (demands_left p entries) bad.item.right b right bad.holds.right)
     no_stale _ h = h
 
 no_version : (p : Case) (entries : List Entry) (version position : ℕ) → position ≤ length entries → version ≡ version_at p entries position → HoldsNone (HoldsVersionDiffers p entries version position)
 no_version p entries version position within same (finding.VersionDiffers a b) h = ⊎_elim (λ differ. differ (sym h.0 ∙ (same ∙ h.1))) (λ past. omega (arith, within, past)) h.2
 no_version p entries version position within same _ h = h
-
-no_survivable : (p : Case) (state : ℕ) (name : List ℕ) → SeparatesNamed p state name → HoldsNone (HoldsSurvivable p state name)
-no_survivable p state name separates finding.Survivable h = h separates
-no_survivable p state name separates _ h = h
 
 pub outcome_none : (p : Case) (r : Report) (o : Outcome) → IsSoundOutcomeOf p r o → HoldNone (outcome_findings p r o)
 outcome_none p r (Planned caller serial plan) sound = (

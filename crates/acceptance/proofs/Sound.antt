@@ -1,7 +1,7 @@
 -- a sound plan has no finding, kind by kind
 use Rattle.std.proofs.Common.{◌≡◌, ℕ, ◌*◌, ◌≤◌, Bool, true, List, [], ◌∷◌, Some, All, get_or, sym, ◌∙◌, ap, subst, arith, slice_get, ⊎_elim}
 use Rattle.std.proofs.Props.{props}
-use Rattle.std.proofs.lemmas.Option.{get_or_from_slice_get, slice_get-map, slice_get_within}
+use Rattle.std.proofs.lemmas.Option.{get_or_from_slice_get, slice_get-map}
 use Rattle.std.specs.Option.{option_map}
 use Rattle.net_core.specs.declared.network.Module.{Module}
 use Rattle.net_core.specs.declared.plan.Flow.{Flow}
@@ -23,24 +23,21 @@ use Rattle.plan_checker.specs.Places.{HoldsAt}
 use Rattle.plan_checker.specs.PlanFindings.{HoldsDemandsDiffer, plan_case}
 use Rattle.plan_checker.specs.Shares.{HoldsNotTight, IsTight}
 use Rattle.plan_checker.specs.declared.finding.Finding.TheVariants as finding
-use Rattle.plan_checker.proofs.KeptLengths.{right_one}
 use Rattle.plan_checker.proofs.Telling.{no_bound, no_local, no_overloaded, no_place, no_price, no_raw, no_right, no_uncarried, no_wide}
 use Rattle.acceptance.specs.Laws.{SoundPlansAreAccepted}
+use Rattle.net_core.proofs.Lists.{all_at}
+use Rattle.plan_terms.proofs.Distances.{right_once}
 
 -- that no finding holds has one proof at most
 pub none_prop : (kinds : List Kind) → IsProp (HoldNone kinds)
 none_prop [] = hlevel props
 none_prop (kind ∷ kinds) = let rest = none_prop kinds in hlevel (rest, props)
 
--- what holds of all holds of the one at a place
-pub at_place : {X : Type 0} (P : X → Type 0) (xs : List X) (k : ℕ) (x : X) → All P xs → slice_get xs k ≡ Some x → P x
-at_place P xs k x all at = subst P (get_or_from_slice_get xs k x x at) (all k x (slice_get_within xs k x at))
-
 module _ (p : Case) (plan : Plan) (carrying : IsCarryingPlan p plan) where
   no_bad_path : (s f : ℕ) → HasBadPath p plan.routings s f → ⊥
   no_bad_path s f bad =
       let flow : Flow = bad.holds.item in
-      let is = at_place (IsFlow (Joins (graph_in p s)) p.demands) bad.item.flows f flow (carrying.each s bad.item bad.at).flows bad.holds.at in
+      let is = all_at (IsFlow (Joins (graph_in p s)) p.demands) bad.item.flows f flow (carrying.each s bad.item bad.at).flows bad.holds.at in
       bad.holds.holds (record { of = is.of; at = is.at; path = is.path })
 
   uncarried : (s k : ℕ) → IsUncarried p 1 plan.routings s k → ⊥
@@ -60,24 +57,24 @@ cut_line l = record { cut = l.cut; num = l.num }
 module _ (p : Case) (plan : Plan) (certified : IsCertifiedPlan p plan) where
   line_is_cut : (k : ℕ) (l : CertLine) → slice_get plan.certificate.lines k ≡ Some l → IsCut p l.cut
   line_is_cut k l at =
-      at_place (λ (c : CertificateLine). IsCut p c.cut) (lines_of_certificate plan.certificate) k (cut_line l) certified.certificate.each
+      all_at (λ (c : CertificateLine). IsCut p c.cut) (lines_of_certificate plan.certificate) k (cut_line l) certified.certificate.each
       (slice_get-map cut_line plan.certificate.lines k ∙ ap (option_map cut_line) at)
 
   local_cut : (full : Bool) (k : ℕ) → All (λ l. l.spot ≡ Local → full ≡ true) plan.certificate.lines → HoldsAt plan.certificate.lines k (IsLocalCut p full) → ⊥
   local_cut full k spots bad = ⊎_elim
-      (λ apart. let yes : full ≡ true = at_place (λ (l : CertLine). l.spot ≡ Local → full ≡ true) plan.certificate.lines k bad.item spots bad.at apart.0 in absurd cc (yes, apart.1))
+      (λ apart. let yes : full ≡ true = all_at (λ (l : CertLine). l.spot ≡ Local → full ≡ true) plan.certificate.lines k bad.item spots bad.at apart.0 in absurd cc (yes, apart.1))
       (λ lost. lost (line_is_cut k bad.item bad.at).kept)
       bad.holds
 
   other_right : (k a b : ℕ) → HoldsAt plan.certificate.lines k (λ l. HasOtherRight p l a b) → ⊥
   other_right k a b bad =
       let is = line_is_cut k bad.item bad.at in
-      bad.holds.differ (sym bad.holds.printed ∙ right_one (Joins (graph_in p bad.item.cut.state.0)) bad.item.cut.lengths p.demands bad.item.cut.right b is.right bad.holds.right)
+      bad.holds.differ (sym bad.holds.printed ∙ right_once (Joins (graph_in p bad.item.cut.state.0)) bad.item.cut.lengths p.demands bad.item.cut.right b is.right bad.holds.right)
 
   overpriced : (e m : ℕ) → IsOverpriced p.links plan.certificate.den (lines_of_certificate plan.certificate) e m → ⊥
   overpriced e m bad =
       let lines = lines_of_certificate plan.certificate in
-      let priced = at_place (λ (x : Module). price lines e * x.capacity ≤ plan.certificate.den * x.cost) bad.item.modules m bad.holds.item (certified.certificate.priced e bad.item bad.at) bad.holds.at in
+      let priced = all_at (λ (x : Module). price lines e * x.capacity ≤ plan.certificate.den * x.cost) bad.item.modules m bad.holds.item (certified.certificate.priced e bad.item bad.at) bad.holds.at in
       omega (arith, priced, bad.holds.holds)
 
 -- the case is the one with the plan's own demands

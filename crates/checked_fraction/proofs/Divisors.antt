@@ -1,7 +1,7 @@
 -- common divisors of rows
-use Rattle.std.proofs.Common.{ℕ, ℤ, zero, suc, ◌≡◌, ◌+◌, ◌<◌, ◌≤◌, unsigned_abs, sym, subst, arith, ⊎_elim}
+use Rattle.std.proofs.Common.{ℕ, ℤ, ◌≡◌, ◌+◌, ◌<◌, ◌≤◌, unsigned_abs, sym, subst, arith, ⊎_elim}
 use Rattle.std.proofs.lemmas.Nat.Gcd.{dvd_refl, dvd_trans}
-use Rattle.std.proofs.Math.Nat.{zero-dvd, one-dvd}
+use Rattle.std.proofs.Math.Nat.{one-dvd}
 use Rattle.std.proofs.lemmas.Bool.{cases_lt}
 use Rattle.std.specs.Int.{IsGcd, ◌∣◌}
 use Rattle.checked_fraction.specs.inner.Passes.{IsRowGcd}
@@ -26,10 +26,6 @@ row_gcd_more f n whole g x h row e both = record {
       (row.greatest d of_whole (λ k l. all k (omega arith)))
       (subst (λ y. d ∣ y) (sym e) (all n (omega arith)));
 }
-
-pub positive_divisor : (g n : ℕ) → 0 < n → g ∣ n → 0 < g
-positive_divisor zero n p h = let e : n ≡ 0 = zero-dvd.0 h in absurd (omega arith)
-positive_divisor (suc g) n p h = omega arith
 
 -- one size more
 pub sizes_more : (f : ℕ → ℤ) (n t u : ℕ) → ((k : ℕ) → k < n → unsigned_abs (f k) ≤ t) → t ≤ u → unsigned_abs (f n) ≤ u → (k : ℕ) → k < n + 1 → unsigned_abs (f k) ≤ u

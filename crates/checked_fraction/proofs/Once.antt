@@ -10,36 +10,40 @@ use Rattle.std.proofs.Math.Nat.{dvd-add, dvd-sub, dvd-mul_left, dvd-mul_left_of_
 use Rattle.checked_fraction.specs.Rows.{IsNarrow, IsReduced}
 use Rattle.checked_fraction.specs.Mixed.{IsTooWide}
 use Rattle.checked_fraction.specs.declared.wide.WideNumber.{WideNumber}
-use Rattle.checked_fraction.proofs.Divisors.{positive_divisor}
 use Rattle.checked_fraction.proofs.Products.{regroup, moved, cancelled}
+use Rattle.net_core.proofs.Numbers.{positive_divisor}
 
-divides_back : (g a b : ℕ) → g ∣ b → g ∣ a % b → g ∣ a
+pub divides_back : (g a b : ℕ) → g ∣ b → g ∣ a % b → g ∣ a
 divides_back g a b h r = subst (λ x. g ∣ x) (div-add-mod' a b) (dvd-add g (dvd-mul_left_of_dvd g h (a / b)) r)
 
 -- what two numbers are and rests keep, a common divisor of the two is
-shared : (P : ℕ → Type 0) → ((x y : ℕ) → P x → P y → P (x % y)) → (fuel a b : ℕ) → b < fuel → P a → P b → (g : ℕ) × (g ∣ a) × (g ∣ b) × P g
-shared P rest zero a b lt pa pb = absurd (omega arith)
-shared P rest (suc fuel) a zero lt pa pb = (a, dvd_refl a, dvd-zero a, pa)
-shared P rest (suc fuel) a (suc b) lt pa pb =
-    let s = shared P rest fuel (suc b) (a % suc b) (omega arith) pb (rest a (suc b) pa pb) in
+pub shared_divisor : (P : ℕ → Type 0) → ((x y : ℕ) → P x → P y → P (x % y)) → (fuel a b : ℕ) → b < fuel → P a → P b → (g : ℕ) × (g ∣ a) × (g ∣ b) × P g
+shared_divisor P rest zero a b lt pa pb = absurd (omega arith)
+shared_divisor P rest (suc fuel) a zero lt pa pb = (a, dvd_refl a, dvd-zero a, pa)
+shared_divisor P rest (suc fuel) a (suc b) lt pa pb =
+    let s = shared_divisor P rest fuel (suc b) (a % suc b) (omega arith) pb (rest a (suc b) pa pb) in
     (s.0, divides_back s.0 a (suc b) s.1 s.2, s.1, s.3)
+
+-- what divides multiples of two numbers divides that multiple of their rest
+pub divides_rest : (n c x y : ℕ) → n ∣ c * x → n ∣ c * y → n ∣ c * (x % y)
+divides_rest n c x y dx dy =
+    let h : c * (x / y * y + x % y) ≡ c * x = ap (λ t. c * t) (div-add-mod' x y) in
+    let e : c * x - x / y * (c * y) ≡ c * (x % y) = omega arith in
+    subst (λ t. n ∣ t) e (dvd-sub n dx (dvd-mul_left_of_dvd n dy (x / y)))
 
 -- d divides each number times m
 Divides : ℕ → (ℕ → ℕ) → ℕ → ℕ → Type 0
 Divides n sizes d m = (k : ℕ) → k < n → d ∣ sizes k * m
 
-divides_rest : (n : ℕ) (sizes : ℕ → ℕ) (d x y : ℕ) → Divides n sizes d x → Divides n sizes d y → Divides n sizes d (x % y)
+all_divide_rest : (n : ℕ) (sizes : ℕ → ℕ) (d x y : ℕ) → Divides n sizes d x → Divides n sizes d y → Divides n sizes d (x % y)
 unfolding Divides
-divides_rest n sizes d x y dx dy k lt =
-    let h : sizes k * (x / y * y + x % y) ≡ sizes k * x = ap (λ t. sizes k * t) (div-add-mod' x y) in
-    let e : sizes k * x - x / y * (sizes k * y) ≡ sizes k * (x % y) = omega arith in
-    subst (λ t. d ∣ t) e (dvd-sub d (dx k lt) (dvd-mul_left_of_dvd d (dy k lt) (x / y)))
+all_divide_rest n sizes d x y dx dy k lt = divides_rest d (sizes k) x y (dx k lt) (dy k lt)
 
 -- a divisor of the numbers times w that is lowest beside them divides w
 lowest_divides : (n : ℕ) (sizes : ℕ → ℕ) (d w : ℕ) → 0 < d → Divides n sizes d w → ((e : ℕ) → e ∣ d → ((k : ℕ) → k < n → e ∣ sizes k) → e ≡ 1) → d ∣ w
 unfolding Divides
 lowest_divides n sizes d w pd all lowest =
-    let s = shared (Divides n sizes d) (divides_rest n sizes d) (suc w) d w (omega arith) (λ k l. dvd-mul_left d (sizes k)) all in
+    let s = shared_divisor (Divides n sizes d) (all_divide_rest n sizes d) (suc w) d w (omega arith) (λ k l. dvd-mul_left d (sizes k)) all in
     let g = s.0 in
     let back : g * (d / g) ≡ d = mul-div_cancel' g s.1 in
     let pg : 0 < g = positive_divisor g d pd s.1 in

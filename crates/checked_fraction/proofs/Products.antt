@@ -1,9 +1,10 @@
 -- products of signed numbers
-use Rattle.std.proofs.Common.{◌≡◌, ℕ, zero, suc, ◌+◌, ◌*◌, ap, sym, ◌∙◌, arith}
+use Rattle.std.proofs.Common.{◌≡◌, ℕ, zero, suc, ◌+◌, ◌*◌, ◌<◌, ◌≤◌, unsigned_abs, ap, sym, ◌∙◌, arith}
 use Rattle.std.proofs.Math.IntN.{ℤ, pos, negsuc, ◌+ℤ◌, ◌-ℤ◌, ◌*ℤ◌, *ℤ_comm, zero-*ℤ}
 use Rattle.std.specs.Int.Signed.{◌<ℤ◌}
-use Rattle.std.proofs.lemmas.Int.{ints, by_lt_z}
+use Rattle.std.proofs.lemmas.Int.{ints, by_lt_z, unsigned_abs-mul}
 use borrow.Author.Differences.{up, down, sum_is_lem, product_is}
+use Rattle.std.proofs.Math.Nat.{mul-le-mul_left}
 
 pub regroup : (a b c : ℤ) → (a *ℤ b) *ℤ c ≡ a *ℤ (b *ℤ c)
 regroup a b c =
@@ -65,3 +66,7 @@ cancelled g x y pg e = by_lt_z x y
     (λ ge. by_lt_z y x
     (λ l. let more : pos 0 <ℤ (x -ℤ y) = omega (arith, ints) in let t = positive_product g (x -ℤ y) pg more in absurd (omega (arith, ints, times_minus g x y, t, e)))
     (λ le. omega (arith, ints, ge, le)))
+
+-- a multiple is at least as large
+pub size_times : (d : ℕ) (z : ℤ) → 0 < d → unsigned_abs z ≤ unsigned_abs (pos d *ℤ z)
+size_times d z pd = let m : unsigned_abs z * 1 ≤ unsigned_abs z * d = mul-le-mul_left (unsigned_abs z) (omega (arith, pd)) in omega (arith, m, unsigned_abs-mul (pos d) z)

@@ -9,9 +9,9 @@ use Rattle.checked_fraction.specs.Mixed.{combined}
 use Rattle.checked_fraction.specs.inner.Passes.{IsRowGcd, IsFoundDivisor, IsTimes, raw, over}
 use Rattle.checked_fraction.specs.declared.mix.Mix.{Mix}
 use Rattle.checked_fraction.specs.declared.pivot.Found.{Found}
-use Rattle.checked_fraction.proofs.Divisors.{positive_divisor}
 use Rattle.checked_fraction.proofs.Products.{regroup, moved, mixed_times, nothing_taken}
 use Rattle.checked_fraction.proofs.Quotients.{exact_quotient}
+use Rattle.net_core.proofs.Numbers.{positive_divisor}
 
 -- each number divided by the greatest common divisor
 pub reduces : (f : ℕ → ℤ) (n whole g : ℕ) → 0 < whole → IsRowGcd f n whole g → IsReduced n f (pos whole) (over f g) (pos (whole / g))

@@ -4,7 +4,7 @@ use Rattle.std.proofs.lemmas.Bool.{cases_eq, cases_lt}
 use Rattle.std.proofs.lemmas.List.{get_or-set_same, get_or-set_other, get_or-replicate, get_or_past, length-replicate}
 use Rattle.checked_fraction.specs.Rows.{num, IsNarrow}
 
-zeros_narrow : (n k : ℕ) → IsNarrow (num (replicate n (pos 0)) k)
+pub zeros_narrow : (n k : ℕ) → IsNarrow (num (replicate n (pos 0)) k)
 zeros_narrow n k = subst IsNarrow
     (sym (⊎_elim
     (λ l. get_or-replicate n k (pos 0) (pos 0) l)

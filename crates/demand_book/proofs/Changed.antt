@@ -19,6 +19,7 @@ use Rattle.net_core.specs.Tests.{are_same}
 use Rattle.net_core.specs.declared.demand.Demand.{Demand}
 use Rattle.plan_terms.specs.Edits.{is_demand, set_need, total_need, without}
 use Rattle.demand_book.specs.inner.Places.{IsPlaceOf}
+use Rattle.net_core.proofs.Checks.{same_is}
 
 suc_lt : (a b : ℕ) → nat_lt (1 + a) (suc b) ≡ nat_lt a b
 suc_lt a b =
@@ -42,9 +43,6 @@ is_some_cond false k = refl
 -- a place is found exactly where an element passes
 pub place_known : {X : Type 0} (p : X → Bool) (xs : List X) → is_some (position p xs) ≡ list_any p xs
 place_known p xs = is_some_cond (nat_lt (position_or_len p xs) (length xs)) (position_or_len p xs) ∙ place_within p xs
-
-pub same_is : (a b : List ℕ) → are_same a b ≡ true → a ≡ b
-same_is a b h = (bytes_eq-Decides a b).0 h
 
 pub is_same : (a b : List ℕ) → a ≡ b → are_same a b ≡ true
 is_same a b h = (bytes_eq-Decides a b).1 h

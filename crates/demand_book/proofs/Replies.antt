@@ -10,7 +10,8 @@ use Rattle.net_core.specs.declared.journal.Edit.TheVariants.{Set, Drop}
 use Rattle.net_core.specs.declared.journal.Reply.{Reply}
 use Rattle.net_core.specs.declared.journal.Reply.TheVariants.{Accepted, UnknownDemand, TooMuch}
 use Rattle.plan_terms.specs.Edits.{Answered, add_fault, edit_reply, is_demand, next_version, node_of, set_need, total_need, within_total, without}
-use Rattle.demand_book.proofs.Changed.{is_same, same_is}
+use Rattle.demand_book.proofs.Changed.{is_same}
+use Rattle.net_core.proofs.Checks.{same_is}
 
 too_much : (before new : List Demand) (version total : ℕ) → total_need new ≡ total → 2 ^ 44 ≤ total → within_total before version new ≡ (TooMuch total, before)
 too_much before new version total sum much =

@@ -1,7 +1,6 @@
 -- the components once a link is taken
-use Rattle.std.proofs.Common.{◌≡◌, ℕ, ◌+◌, ◌<◌, List, length, get_or, inl, refl, ◌≤◌}
+use Rattle.std.proofs.Common.{◌≡◌, ℕ, ◌+◌, ◌<◌, List, length, get_or, inl, refl}
 use Rattle.std.proofs.Math.Logic.{∥∥₁_elim}
-use Rattle.std.proofs.Props.{props}
 use Rattle.net_core.specs.declared.network.Link.{Link}
 use Rattle.net_core.specs.Graphs.{Graph, Joins, Survives}
 use Rattle.net_core.specs.Network.{IsNetwork}
@@ -23,7 +22,3 @@ take_survivor g e l old new checked lt is alive m h =
 -- any other
 pub take_other : (g : Graph) (n e : ℕ) (labels : List ℕ) → (Survives g e → ⊥) → AreComponents (Joins g) n e labels → AreComponents (Joins g) n (e + 1) labels
 take_other g n e labels dead h = components_skip (Joins g) n e labels (λ x y j. dead j.survives) h
-
--- a network has few links
-pub few_links : (nodes : List (List ℕ)) (links : List Link) → ∥ IsNetwork nodes links ∥₁ → length links ≤ 256
-few_links nodes links checked = ∥∥₁_elim checked (hlevel props) (λ net. net.few_links)

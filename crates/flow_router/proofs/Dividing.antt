@@ -1,25 +1,21 @@
 -- flows over a common divisor of their numerators
 use Rattle.std.proofs.Common.{◌≡◌, ℕ, zero, suc, ◌+◌, ◌*◌, ◌/◌, ◌<◌, ◌≤◌, ◌++◌, List, [], ◌∷◌, All, length, get_or, map, take, slice_set, refl, sym, ap, ◌∙◌, subst, arith}
 use Rattle.std.specs.Int.{IsGcd, ◌∣◌}
-use Rattle.std.proofs.lemmas.List.{get_or-set_other, length-set, take_more, take_more_set}
+use Rattle.std.proofs.lemmas.List.{get_or-set_other, length-set, take_more, take_more_set, take_all, get_or_default}
 use Rattle.std.proofs.lemmas.Nat.Gcd.{dvd_trans}
 use Rattle.std.proofs.Math.Nat.{div-mul_cancel, mul-dvd-mul_left, dvd_of_mul-dvd-mul_left, eq-one_of_dvd-one}
-use Rattle.std.proofs.lemmas.List.Elements.{All-push}
-use Rattle.checked_fraction.proofs.Divisors.{positive_divisor}
+use Rattle.std.proofs.lemmas.List.Elements.{All-push, All-cons}
 use Rattle.net_core.specs.declared.plan.Flow.{Flow}
 use Rattle.route_law.specs.Routings.{flow_times}
 use Rattle.flow_router.specs.inner.Lowest.{IsCommonDivisor, IsInLowest}
-
-all_cons : {X : Type 0} (P : X → Type 0) (x : X) (xs : List X) → P x → All P xs → All P (x ∷ xs)
-all_cons P x xs first all zero d lt = first
-all_cons P x xs first all (suc k) d lt = all k d (omega (arith, lt))
+use Rattle.net_core.proofs.Numbers.{positive_divisor}
 
 -- what holds of all holds of those before the last, and of the last
 all_parts : {X : Type 0} (P : X → Type 0) (xs : List X) (x : X) → All P (xs ++ x ∷ []) → All P xs × P x
 all_parts P [] x all = (λ k d lt. absurd (omega (arith, lt)), all 0 x (omega arith))
 all_parts P (y ∷ ys) x all =
     let rest = all_parts P ys x (λ k d lt. all (suc k) d (omega (arith, lt))) in
-    (all_cons P y ys (all 0 y (omega arith)) rest.0, rest.1)
+    (All-cons P y ys (all 0 y (omega arith)) rest.0, rest.1)
 
 -- one flow more
 pub common_more : (den : ℕ) (flows : List Flow) (n g h : ℕ) (d : Flow) → n < length flows → IsCommonDivisor den (take n flows) g → IsGcd g (get_or flows n d).num h → IsCommonDivisor den (take (n + 1) flows) h
@@ -72,23 +68,12 @@ divided_more common n old new d lt divides sofar =
         swap : (a b : ℕ) → a * b ≡ b * a
         swap a b = omega arith
 
-get_any : {X : Type 0} (xs : List X) (i : ℕ) (d e : X) → i < length xs → get_or xs i d ≡ get_or xs i e
-get_any [] i d e lt = absurd (omega (arith, lt))
-get_any (x ∷ xs) zero d e lt = refl
-get_any (x ∷ xs) (suc i) d e lt = get_any xs i d e (omega (arith, lt))
-
 -- the flow as it is written
 pub divided_write : (common n : ℕ) (old new : List Flow) (d e : Flow) → n < length new → All (λ f. common ∣ f.num) old → AreDividedFlows common n old new
     → AreDividedFlows common (n + 1) old (slice_set new n (record { demand = (get_or new n d).demand; path = (get_or new n d).path; num = (get_or new n e).num / common }))
 divided_write common n old new d e lt divides sofar =
     subst (λ m. AreDividedFlows common (n + 1) old (slice_set new n (record { demand = (get_or new n d).demand; path = (get_or new n d).path; num = m / common })))
-    (ap (λ (f : Flow). f.num) (get_any new n d e lt)) (divided_more common n old new d lt divides sofar)
-
-take_all : {X : Type 0} (n : ℕ) (xs : List X) → length xs ≤ n → take n xs ≡ xs
-take_all zero [] le = refl
-take_all zero (x ∷ xs) le = absurd (omega (arith, le))
-take_all (suc n) [] le = refl
-take_all (suc n) (x ∷ xs) le = ap (λ ys. x ∷ ys) (take_all n xs (omega (arith, le)))
+    (ap (λ (f : Flow). f.num) (get_or_default new n d e lt)) (divided_more common n old new d lt divides sofar)
 
 pub divided_end : (common n : ℕ) (old new : List Flow) → length new ≤ n → AreDividedFlows common n old new → old ≡ map (flow_times common) new
 divided_end common n old new le sofar =

@@ -2,7 +2,8 @@
 use Rattle.std.proofs.Common.{◌≡◌, sym, ap, ◌∙◌, subst}
 use Rattle.std.proofs.Math.IntN.{ℤ, pos, ◌*ℤ◌, *ℤ_comm}
 use Rattle.std.specs.Int.Signed.{◌<ℤ◌}
-use Rattle.simplex_law.proofs.Arithmetic.{regroup, moved_out, times_positive, times_less, lt_cancel, same_cancel}
+use Rattle.simplex_law.proofs.Arithmetic.{moved_out, times_less, lt_cancel}
+use Rattle.checked_fraction.proofs.Products.{regroup, positive_product, cancelled}
 
 -- u over p stands to n over r as d and g to e and f
 crossed : (e d u n f g p r : ℤ) → e *ℤ u ≡ d *ℤ n → f *ℤ p ≡ g *ℤ r → (e *ℤ f) *ℤ (u *ℤ p) ≡ (d *ℤ g) *ℤ (n *ℤ r)
@@ -20,8 +21,8 @@ module _ (e d f g : ℤ) (pe : pos 0 <ℤ e) (pd : pos 0 <ℤ d) (pf : pos 0 <�
   right = ap (λ x. x *ℤ (v *ℤ p)) (*ℤ_comm e f) ∙ (crossed f g v o e d p r second first_product ∙ ap (λ x. x *ℤ (o *ℤ r)) (*ℤ_comm g d))
 
   pub less_again : (n *ℤ s) <ℤ (o *ℤ r) → (u *ℤ q) <ℤ (v *ℤ p)
-  less_again l = lt_cancel (e *ℤ f) (u *ℤ q) (v *ℤ p) (times_positive e f pe pf)
-      (subst (λ x. x <ℤ ((e *ℤ f) *ℤ (v *ℤ p))) (sym left) (subst (λ x. ((d *ℤ g) *ℤ (n *ℤ s)) <ℤ x) (sym right) (times_less (d *ℤ g) (n *ℤ s) (o *ℤ r) (times_positive d g pd pg) l)))
+  less_again l = lt_cancel (e *ℤ f) (u *ℤ q) (v *ℤ p) (positive_product e f pe pf)
+      (subst (λ x. x <ℤ ((e *ℤ f) *ℤ (v *ℤ p))) (sym left) (subst (λ x. ((d *ℤ g) *ℤ (n *ℤ s)) <ℤ x) (sym right) (times_less (d *ℤ g) (n *ℤ s) (o *ℤ r) (positive_product d g pd pg) l)))
 
   pub same_again : n *ℤ s ≡ o *ℤ r → u *ℤ q ≡ v *ℤ p
-  same_again e' = same_cancel (e *ℤ f) (u *ℤ q) (v *ℤ p) (times_positive e f pe pf) (left ∙ (ap (λ x. (d *ℤ g) *ℤ x) e' ∙ sym right))
+  same_again e' = cancelled (e *ℤ f) (u *ℤ q) (v *ℤ p) (positive_product e f pe pf) (left ∙ (ap (λ x. (d *ℤ g) *ℤ x) e' ∙ sym right))

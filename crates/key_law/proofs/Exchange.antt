@@ -24,7 +24,7 @@ swap_first a b = ap (λ t. cond t b (cond (eqb b a) a a)) (eq-eqb a a refl)
 pub swap_second : (a b : ℕ) → a ≢ b → swap a b b ≡ a
 swap_second a b ne = ap (λ t. cond t b (cond (eqb b b) a b)) (ne_eqb a b ne) ∙ ap (λ t. cond t a b) (eq-eqb b b refl)
 
-swap_other : (a b r : ℕ) → a ≢ r → b ≢ r → swap a b r ≡ r
+pub swap_other : (a b r : ℕ) → a ≢ r → b ≢ r → swap a b r ≡ r
 swap_other a b r na nb = ap (λ t. cond t b (cond (eqb b r) a r)) (ne_eqb a r na) ∙ ap (λ t. cond t a r) (ne_eqb b r nb)
 
 -- a role is the one, or the other, or neither

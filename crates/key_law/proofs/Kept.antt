@@ -6,7 +6,7 @@ use Rattle.std.proofs.lemmas.Int.{ints}
 use Rattle.simplex_law.specs.Sums.{int_sum, dot, unit_vector}
 use Rattle.simplex_law.specs.Programs.{ColumnOf}
 use Rattle.simplex_law.specs.Bases.{IsRow}
-use Rattle.simplex_law.proofs.Arithmetic.{regroup, minus_left, distribute_minus}
+use Rattle.simplex_law.proofs.Arithmetic.{minus_left, distribute_minus}
 use Rattle.simplex_law.proofs.Sums.{sum-same, sum-none, sum-unit, sum-one, sum-minus, unit-same, unit-other}
 use Rattle.simplex_law.proofs.Duality.{priced}
 use Rattle.key_law.specs.Keys.{left_target, IsSpread, AreRoles, AreKeys, IsBlockRow, key, key_part, left_column, block}
@@ -14,6 +14,7 @@ use Rattle.key_law.specs.KeyRows.{full_kept, full_prices, full_key, cost, key_ti
 use Rattle.key_law.specs.Kept.{IsKept}
 use Rattle.key_law.proofs.Spread.{dot-spread, is_spread}
 use Rattle.key_law.proofs.Blocks.{full_of, block_of}
+use Rattle.checked_fraction.proofs.Products.{regroup}
 
 -- places are apart as roles keys_are
 pub unit_place : (m : ℕ) (place role : ℕ → ℕ) (r s : ℕ) → AreRoles m place role → r < m → s < m → unit_vector (place r) (place s) ≡ unit_vector r s

@@ -5,7 +5,6 @@ use Rattle.simplex_law.specs.Sums.{dot, put}
 use Rattle.simplex_law.specs.Programs.{ColumnOf}
 use Rattle.simplex_law.specs.inner.Pivots.{IsPick}
 use Rattle.simplex_law.proofs.NoLater.{pick_again}
-use Rattle.simplex_law.proofs.Arithmetic.{same_cancel}
 use Rattle.simplex_law.proofs.Sums.{dot-same}
 use Rattle.simplex_law.proofs.Unique.{row_unique}
 use Rattle.key_law.proofs.Kept.{prices_row}
@@ -17,6 +16,7 @@ use Rattle.key_law.proofs.Exchange.{exchanged, swap_first, swap_second, differen
 use Rattle.key_law.proofs.Change.{key_turn_product, exchange_product, exchange_key_product}
 use Rattle.key_law.proofs.Roles.{role_tableau}
 use Rattle.key_law.proofs.Turns.{block_turned, new_key, old_key}
+use Rattle.checked_fraction.proofs.Products.{cancelled}
 
 module _ {N : Type 0} {links demands : ℕ} {bound : ℕ → ℤ} {basis : ℕ → ColumnOf N} {place role : ℕ → ℕ} {kept next : ℕ → ℕ → ℤ} {den next_den prices weight : ℕ → ℤ} {prices_den all : ℤ}
     {of_keys other_keys : ℕ → ℕ → ℤ} {of_den other_den : ℕ → ℤ} {i d : ℕ}
@@ -59,7 +59,7 @@ module _ {N : Type 0} {links demands : ℕ} {bound : ℕ → ℤ} {basis : ℕ �
 
   -- the prices of all rows stay
   pub exchanged_prices : (k : ℕ) → k < links + demands → full_prices links demands basis (λ r. place (swap i (links + d) r)) prices prices_den k ≡ full_prices links demands basis place prices prices_den k
-  exchanged_prices k lk = same_cancel prices_den _ _ h.above
+  exchanged_prices k lk = cancelled prices_den _ _ h.above
       (row_unique (links + demands) (λ j. (basis j).entry) h.whole.nums h.whole.den h.whole.tableau.filling.0 h.whole.tableau.filling.1 (λ j. (basis j).gain) _ _ prices_den prices_den k
       h.whole.tableau.filling.2 (prices_row (exchanged h x)) (prices_row h) lk)
 

@@ -6,10 +6,11 @@ use Rattle.std.proofs.lemmas.Bool.{lt-ltb, le-ltb}
 use Rattle.std.proofs.Math.IntN.{ℤ, ◌+ℤ◌, ◌-ℤ◌, ◌*ℤ◌, *ℤ_comm}
 use Rattle.std.proofs.lemmas.Int.{ints}
 use Rattle.simplex_law.specs.Sums.{int_sum, dot, unit_vector}
-use Rattle.simplex_law.proofs.Arithmetic.{distribute_minus, minus_left, regroup}
+use Rattle.simplex_law.proofs.Arithmetic.{distribute_minus, minus_left}
 use Rattle.simplex_law.proofs.Sums.{sum-minus, sum-times, sum-same, dot-same, sum-unit}
 use Rattle.simplex_law.proofs.Duality.{priced}
 use Rattle.key_law.specs.Keys.{difference, IsSpread, spread}
+use Rattle.checked_fraction.proofs.Products.{regroup}
 
 -- a sum over rows and further rows
 pub sum-split : (n m : ℕ) (f : ℕ → ℤ) → int_sum (n + m) f ≡ int_sum n f +ℤ int_sum m (λ d. f (n + d))

@@ -8,12 +8,13 @@ use Rattle.checked_fraction.specs.Mixed.{combined}
 use Rattle.simplex_law.specs.Sums.{dot, unit_vector}
 use Rattle.simplex_law.specs.inner.Lexicographic.{valued}
 use Rattle.simplex_law.specs.inner.Pivots.{IsNoLater}
-use Rattle.simplex_law.proofs.Arithmetic.{distribute_minus, minus_left, times_positive, times_nonneg}
+use Rattle.simplex_law.proofs.Arithmetic.{distribute_minus, minus_left, times_nonneg}
 use Rattle.simplex_law.proofs.Sums.{dot-none, unit-same, unit-other}
 use Rattle.simplex_law.proofs.Rows.{dot-combined}
 use Rattle.simplex_law.proofs.Order.{lex_at, lex_rest}
 use Rattle.simplex_law.proofs.NoLater.{gone, over}
 use Rattle.key_law.specs.Keys.{IsSpread}
+use Rattle.checked_fraction.proofs.Products.{positive_product}
 
 module _ {links demands : ℕ} {keys : ℕ → ℕ → ℤ} (bound : ℕ → ℤ) {t u : ℕ → ℤ} {d : ℤ} {first : ℕ → ℤ} (first_is : IsSpread links demands keys t u d first) (p : ℤ)
     {s v : ℕ → ℤ} {e : ℤ} {second : ℕ → ℤ} (second_is : IsSpread links demands keys s v e second) (q : ℤ)
@@ -83,7 +84,7 @@ module _ {links demands : ℕ} {keys : ℕ → ℕ → ℤ} (bound : ℕ → ℤ
         here {x} {y} one none =
             let z : q *ℤ (d *ℤ y) ≡ pos 0 = ap (λ w. q *ℤ (d *ℤ w)) none ∙ (ap (λ w. q *ℤ w) (*ℤ-zero d) ∙ *ℤ-zero q) in
             let o : p *ℤ (e *ℤ x) ≡ p *ℤ e = ap (λ w. p *ℤ (e *ℤ w)) one ∙ ap (λ w. p *ℤ w) (times_one e) in
-            omega (arith, ints, z, o, times_positive p e pp pe)
+            omega (arith, ints, z, o, positive_product p e pp pe)
           where
             times_one : (w : ℤ) → w *ℤ pos 1 ≡ w
             times_one w = omega (arith, ints)

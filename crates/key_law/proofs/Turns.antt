@@ -10,7 +10,6 @@ use Rattle.simplex_law.specs.Programs.{ColumnOf}
 use Rattle.simplex_law.specs.Bases.{IsRow}
 use Rattle.simplex_law.specs.inner.Tableaux.{IsTableau, HasTableau}
 use Rattle.simplex_law.specs.inner.Pivots.{IsPick}
-use Rattle.simplex_law.proofs.Arithmetic.{times_positive}
 use Rattle.simplex_law.proofs.Sums.{sum-same, dot-same}
 use Rattle.simplex_law.proofs.Rows.{multiple, reduced_row}
 use Rattle.simplex_law.proofs.Turned.{first_row, other_row, objective_row, turned_raw}
@@ -22,6 +21,7 @@ use Rattle.key_law.proofs.Spread.{is_spread}
 use Rattle.key_law.proofs.Blocks.{block_of}
 use Rattle.key_law.proofs.Kept.{inverse_block, row_product, cost_product}
 use Rattle.key_law.proofs.Roles.{role_tableau}
+use Rattle.checked_fraction.proofs.Products.{positive_product}
 
 -- numbers that agree below m are the same row
 row_same : (m : ℕ) (basic : ℕ → ℕ → ℤ) (target u v : ℕ → ℤ) (d : ℤ) → ((k : ℕ) → k < m → u k ≡ v k) → IsRow m basic target u d → IsRow m basic target v d
@@ -134,7 +134,7 @@ module _ {N : Type 0} {links demands : ℕ} {bound : ℕ → ℤ} {basis : ℕ �
           (let f = multiple links (kept r) q (next r) (next_den r) some_pivot t.pivot in
           (reduced_row links (block links demands after place) (unit_vector r) (kept r) (next r) q (next_den r) f.0 f.1 next_first, t.pivot.positive, t.pivot.lowest)))
           (λ ne. let own = t.others i l (λ e. ne (sym e)) in
-          let f = multiple links _ _ (next i) (next_den i) (times_positive (den i) q (h.over i l) some_pivot) own in
+          let f = multiple links _ _ (next i) (next_den i) (positive_product (den i) q (h.over i l) some_pivot) own in
           (reduced_row links (block links demands after place) (unit_vector i) _ (next i) _ (next_den i) f.0 f.1 (next_other i l (λ e. ne (sym e))), own.positive, own.lowest))
           (cases_eq r i)
 
@@ -148,7 +148,7 @@ module _ {N : Type 0} {links demands : ℕ} {bound : ℕ → ℤ} {basis : ℕ �
         over = λ i li. (next_row i li).1;
         lowest = λ i li. (next_row i li).2;
         objective =
-            let f = multiple links _ _ later later_den (times_positive prices_den q h.above some_pivot) t.prices_are in
+            let f = multiple links _ _ later later_den (positive_product prices_den q h.above some_pivot) t.prices_are in
             reduced_row links (block links demands after place) (λ j. left_target links demands (λ d. (after (place (links + d))).gain) ((after (place j)).entry) ((after (place j)).gain)) _ later _ later_den f.0 f.1 next_prices;
         above = t.prices_are.positive;
         prices_lowest = t.prices_are.lowest;

@@ -14,7 +14,6 @@ use Rattle.simplex_law.specs.Programs.{ColumnOf}
 use Rattle.simplex_law.specs.Bases.{IsRow}
 use Rattle.simplex_law.specs.Evidence.{IsWide, IsRowOf, HoldsRow, HoldsProduct, HoldsCommon}
 use Rattle.simplex_law.specs.inner.Pivots.{IsPick}
-use Rattle.simplex_law.proofs.Arithmetic.{times_positive}
 use Rattle.simplex_law.proofs.LowestTerms.{some_lowest}
 use Rattle.simplex_law.proofs.Rows.{multiple, reduced_row}
 use Rattle.simplex_law.proofs.Widths.{large_part, inverse_row, last_row, wide_multiple}
@@ -25,6 +24,7 @@ use Rattle.key_law.proofs.Spread.{is_spread, full_lowest}
 use Rattle.key_law.proofs.Blocks.{full_of}
 use Rattle.key_law.proofs.Kept.{unit_target, key_block, kept_row, prices_row, row_product, cost_product, key_row, key_row_product}
 use Rattle.key_law.proofs.Turns.{next_other, next_prices, next_keys, some_pivot}
+use Rattle.checked_fraction.proofs.Products.{positive_product}
 
 -- a row whose link entries have a wide number is a wide row
 found : {N : Type 0} (links demands : ℕ) (basis : ℕ → ColumnOf N) (full : ℕ → ℤ) (den : ℤ) (i : ℕ) (nums : ℕ → ℤ) (wide : WideNumber) → IsRowOf (links + demands) basis i full den
@@ -167,7 +167,7 @@ module _ {N : Type 0} {links demands : ℕ} {bound : ℕ → ℤ} {basis : ℕ �
         → IsTooWide links (combined (kept i) (dot links (kept i) (left_column links demands basis place c.entry)) (kept r) q) (den i *ℤ q) wide
         → HoldsRow m after (place i)
     wide_turned i wide l ne too = wide_row_of links demands after place role h.roles keys_are (unit_vector (place i)) _ (den i *ℤ q) (place i) wide
-        (times_positive (den i) q (h.over i l) (some_pivot h k c r inside pick rl))
+        (positive_product (den i) q (h.over i l) (some_pivot h k c r inside pick rl))
         (λ j lj. next_other h k c r inside pick rl i l ne j lj ∙ ap (λ x. (den i *ℤ q) *ℤ x) (sym (unit_target links demands after place role h.roles keys_are i j l lj)))
         (λ nums e pe row low. inverse_row m bound is_column after (place i) nums e (h.roles.place_in i (omega (arith, l))) pe row low)
         too
@@ -175,6 +175,6 @@ module _ {N : Type 0} {links demands : ℕ} {bound : ℕ → ℤ} {basis : ℕ �
     -- prices that are
     pub wide_turned_prices : (wide : WideNumber) → IsTooWide links (combined prices (cost links demands basis place prices prices_den c) (kept r) q) (prices_den *ℤ q) wide → HoldsRow m after m
     wide_turned_prices wide too = wide_row_of links demands after place role h.roles keys_are (λ j. (after j).gain) _ (prices_den *ℤ q) m wide
-        (times_positive prices_den q h.above (some_pivot h k c r inside pick rl)) (next_prices h k c r inside pick rl)
+        (positive_product prices_den q h.above (some_pivot h k c r inside pick rl)) (next_prices h k c r inside pick rl)
         (λ nums e pe row low. last_row m bound is_column after nums e pe row low)
         too

@@ -17,12 +17,13 @@ use Rattle.plan_terms.specs.Paths.{IsPath, length_of}
 use Rattle.plan_terms.proofs.Distinct.{path_links_inside}
 use Rattle.plan_terms.proofs.Few.{path_few}
 use Rattle.plan_terms.proofs.Joining.{joins_inside}
-use Rattle.short_paths.proofs.Pricing.{few_nodes}
 use Rattle.simplex_law.proofs.Sparse.{sparse}
 use Rattle.key_paths.specs.declared.carrier.Carrier.{Carrier}
 use Rattle.key_rows.specs.declared.keyed.Keyed.{Keyed}
 use Rattle.key_paths.specs.inner.Gaining.{cost_at, AreLinkCosts, AreOffers, IsCarried, IsCarrier, IsGaining, NoneGains, NoneIsCheap, Offers}
 use Rattle.key_rows.specs.Names.{path_total, IsShortPath}
+use Rattle.std.proofs.lemmas.List.Elements.{All-push}
+use Rattle.net_core.proofs.Networks.{few_nodes}
 
 prices_along : (n : ℕ) (nums : ℕ → ℤ) (prices : List ℕ) (path : List LinkId) → AllByRecursion (λ l. l.0 < n) path → ((e : ℕ) → e < n → nums e ≡ pos (slice_index prices e))
     → path_total nums path ≡ pos (length_of prices path)
@@ -70,13 +71,6 @@ module _ (g : Graph) (b : Keyed) (prices : List ℕ) (count : length b.prices.nu
       above : {c den : ℤ} {t n : ℕ} (y : ℤ) → c ≡ (pos n +ℤ y) -ℤ den → t ≤ n → den ≤ℤ (pos t +ℤ y) → pos 0 ≤ℤ c
       above {c} {den} {t} {n} y e le l = omega (arith, ints, e, le, l)
 
--- what holds of all and of one more holds of all of them
-pub all_push : {X : Type 0} (P : X → Type 0) (xs : List X) (x : X) → All P xs → P x → All P (xs ++ x ∷ [])
-all_push P [] x all last zero d lt = last
-all_push P [] x all last (suc k) d lt = absurd (omega (arith, lt))
-all_push P (y ∷ ys) x all last zero d lt = all 0 d (omega arith)
-all_push P (y ∷ ys) x all last (suc k) d lt = all_push P ys x (λ j e l. all (suc j) e (omega (arith, l))) last k d (omega (arith, lt))
-
 none_left : (X : Type 0) (i k : ℕ) → k < length (remove {X = X} [] i) → ⊥
 none_left X zero k l = omega (arith, l)
 none_left X (suc i) k l = omega (arith, l)
@@ -104,8 +98,8 @@ pub offers_more : (g : Graph) (demands : List Demand) (b : Keyed) (n : ℕ) (d :
 offers_more g demands b n d old new at (inl adds) sofar =
     let c : Carrier = record { demand = n; path = adds.path } in
     record {
-      each = subst (All (IsCarrier g demands)) (sym adds.is) (all_push (IsCarrier g demands) old c sofar.each (record { demand = d; at = at; needed = adds.needed; leads = adds.leads }));
-      cheap = subst (All (λ x. cost_at b (Carry x.demand x.path) <ℤ pos 0)) (sym adds.is) (all_push (λ x. cost_at b (Carry x.demand x.path) <ℤ pos 0) old c sofar.cheap adds.cheap);
+      each = subst (All (IsCarrier g demands)) (sym adds.is) (All-push (IsCarrier g demands) old c sofar.each (record { demand = d; at = at; needed = adds.needed; leads = adds.leads }));
+      cheap = subst (All (λ x. cost_at b (Carry x.demand x.path) <ℤ pos 0)) (sym adds.is) (All-push (λ x. cost_at b (Carry x.demand x.path) <ℤ pos 0) old c sofar.cheap adds.cheap);
       none = λ empty. absurd (omega (arith, empty, ap length adds.is, length-append old (c ∷ [])));
     }
 offers_more g demands b n d old new at (inr same) sofar = record {

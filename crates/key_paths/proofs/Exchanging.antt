@@ -2,7 +2,7 @@
 use Rattle.std.proofs.Common.{◌≡◌, ◌≢◌, ℕ, List, true, false, pos, length, get_or, slice_get, slice_set, cond, eqb, ◌<◌, ◌+◌, ◌^◌, refl, sym, ap, ◌∙◌, subst, arith, ⊎_elim, unsigned_abs, length-set}
 use Rattle.std.proofs.Math.IntN.{ℤ, ◌+ℤ◌, ◌-ℤ◌, ◌*ℤ◌}
 use Rattle.std.specs.Int.Signed.{◌≤ℤ◌}
-use Rattle.std.proofs.lemmas.Bool.{cases_eq, cases_lt, ne_eqb}
+use Rattle.std.proofs.lemmas.Bool.{cases_eq, cases_lt}
 use Rattle.std.proofs.lemmas.Int.{ints}
 use Rattle.std.proofs.lemmas.List.{get_or-set_same, get_or-set_other, get_or_past}
 use Rattle.checked_fraction.specs.Rows.{num, IsNarrow, IsReduced}
@@ -19,7 +19,7 @@ use Rattle.key_law.specs.Kept.{IsKept}
 use Rattle.key_law.specs.Turns.{IsExchanged}
 use Rattle.key_law.proofs.Amounts.{kept_value_nonneg, kept_value_low}
 use Rattle.key_law.proofs.Change.{new_difference}
-use Rattle.key_law.proofs.Exchange.{exchanged, swap_first, swap_second, different, key_at}
+use Rattle.key_law.proofs.Exchange.{exchanged, swap_first, swap_second, different, key_at, swap_other}
 use Rattle.key_law.proofs.Leaving.{exchanged_pick, exchanged_product, exchanged_prices}
 use Rattle.key_law.proofs.Roles.{some_key_rows}
 use Rattle.key_rows.specs.Bases.{IsShapedBasis, IsColumnNamed, IsKeyed}
@@ -35,9 +35,6 @@ use Rattle.key_paths.proofs.Named.{uses_path, own_owner}
 swap_in : (a b r m : ℕ) → a < m → b < m → r < m → swap a b r < m
 swap_in a b r m la lb lr =
     elim (eqb a r) as (λ t. cond t b (cond (eqb b r) a r) < m) [ true ↦ lb | false ↦ elim (eqb b r) as (λ t. cond t a r < m) [ true ↦ la | false ↦ lr ] ]
-
-swap_other : (a b r : ℕ) → a ≢ r → b ≢ r → swap a b r ≡ r
-swap_other a b r na nb = ap (λ t. cond t b (cond (eqb b r) a r)) (ne_eqb a r na) ∙ ap (λ t. cond t a r) (ne_eqb b r nb)
 
 times_same : {x y u v : ℤ} → x ≡ y → u ≡ v → x *ℤ u ≡ y *ℤ v
 times_same {x} {y} {u} {v} e f = ap (λ z. z *ℤ u) e ∙ ap (λ z. y *ℤ z) f

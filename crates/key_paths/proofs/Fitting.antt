@@ -7,7 +7,6 @@ use Rattle.checked_fraction.specs.Rows.{num}
 use Rattle.net_core.specs.declared.columns.RouteColumn.{RouteColumn}
 use Rattle.simplex_law.specs.Sums.{dot, unit_vector}
 use Rattle.simplex_law.specs.Programs.{ColumnOf, IsPacking}
-use Rattle.simplex_law.proofs.Arithmetic.{regroup}
 use Rattle.simplex_law.proofs.Sums.{sum-same, dot-times}
 use Rattle.simplex_law.proofs.Values.{row_value_low}
 use Rattle.simplex_core.specs.Tables.{nums_at, den_at}
@@ -23,6 +22,7 @@ use Rattle.key_rows.specs.declared.keyed.Keyed.{Keyed}
 use Rattle.key_rows.proofs.Columns.{times_are, have_weights, left_nonneg}
 use Rattle.key_paths.proofs.Ending.{share_at}
 use Rattle.key_rows.proofs.Weighing.{times_back}
+use Rattle.checked_fraction.proofs.Products.{regroup}
 
 -- a basis that is shaped has as many links as rows, and as many demands as prices of demands
 pub reshaped : (links demands : ℕ) (b : Keyed) → IsShapedBasis links demands b → IsShapedBasis (length b.rows) (length b.duals) b

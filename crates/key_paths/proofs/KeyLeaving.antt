@@ -10,7 +10,7 @@ use Rattle.net_core.specs.declared.columns.RouteColumn.TheVariants.{LinkSlack, D
 use Rattle.simplex_law.specs.Sums.{dot, unit_vector}
 use Rattle.simplex_law.specs.Programs.{ColumnOf}
 use Rattle.simplex_law.specs.inner.Pivots.{IsPick}
-use Rattle.simplex_law.proofs.Arithmetic.{positive_cancel, same_cancel}
+use Rattle.simplex_law.proofs.Arithmetic.{positive_cancel}
 use Rattle.simplex_law.proofs.NoLater.{pick_again}
 use Rattle.simplex_law.proofs.Sums.{dot-same, unit-other}
 use Rattle.simplex_law.proofs.Unique.{row_unique, weights}
@@ -23,6 +23,7 @@ use Rattle.key_paths.specs.inner.Held.{IsEntering, IsPriced, HasPriced, IsAlone}
 use Rattle.key_rows.specs.Names.{demand_in, column_name, own_entry}
 use Rattle.key_rows.specs.declared.keyed.Keyed.{Keyed}
 use Rattle.key_paths.proofs.Named.{own_none}
+use Rattle.checked_fraction.proofs.Products.{cancelled}
 
 -- a column that stands in a demand is one of it
 unit_at : (f d : ℕ) → pos 0 <ℤ unit_vector f d → f ≡ d
@@ -85,7 +86,7 @@ pub same_priced : {links demands : ℕ} {bound : ℕ → ℤ} {basis : ℕ → C
 same_priced {links} {demands} {bound} {basis} {place} {role} {other_place} {other_role} {b} {other} {name} {c} {x} r i e o same priced =
     let h = e.held.keyed.kept in
     let g = subst (λ p. IsKept links demands bound basis other_place other_role (nums_at other.rows) (den_at other.rows) (num p.nums) p.den) same o.held.keyed.kept in
-    let rows = λ (k : ℕ) (lk : k < links + demands). same_cancel b.prices.den _ _ h.above
+    let rows = λ (k : ℕ) (lk : k < links + demands). cancelled b.prices.den _ _ h.above
     (row_unique (links + demands) (λ j. (basis j).entry) h.whole.nums h.whole.den h.whole.tableau.filling.0 h.whole.tableau.filling.1 (λ j. (basis j).gain) _ _ b.prices.den b.prices.den k
     h.whole.tableau.filling.2 (prices_row h) (prices_row g) lk) in
     subst (λ p. x ≡ cost links demands basis other_place (num p.nums) p.den c) (sym same)

@@ -28,8 +28,9 @@ use Rattle.key_rows.specs.KeyRows.{amounts}
 use Rattle.key_rows.specs.Names.{demand_in, links_in, column_name, key_name, own_entry, owner_in, path_uses, key_dual, IsNameWithin}
 use Rattle.key_paths.specs.inner.Held.{IsNameOf, IsNamedColumn, IsOnce, IsHeld, IsEntering, IsAlone, IsWideNext}
 use Rattle.key_rows.specs.declared.keyed.Keyed.{Keyed}
-use Rattle.key_paths.proofs.Named.{own_is, own_none, uses_path, once_links, named_price, put_each}
+use Rattle.key_paths.proofs.Named.{own_none, uses_path, once_links, named_price, put_each}
 use Rattle.key_paths.proofs.Holding.{den_narrow, held_packing, held_columns, key_named, key_own, amount_low}
+use Rattle.key_rows.proofs.Columns.{own_demand}
 
 module _ {links demands : ℕ} {bound : ℕ → ℤ} {basis : ℕ → ColumnOf RouteColumn} {place role : ℕ → ℕ} {b : Keyed} {name : RouteColumn} {c : ColumnOf RouteColumn}
     (d : ℕ) (e : IsEntering links demands bound basis place role b name c (links + d)) (own : demand_in name ≡ Some d) (alone : IsAlone b.owners links d) where
@@ -44,7 +45,7 @@ module _ {links demands : ℕ} {bound : ℕ → ℤ} {basis : ℕ → ColumnOf R
 
   -- the name is one of the demand
   pub name_own : own_entry name d ≡ pos 1
-  name_own = own_is name d d own ∙ unit-same d
+  name_own = own_demand name d d own ∙ unit-same d
 
   pub name_once : IsOnce links (links_in name)
   name_once = once_links links demands name d name_own e.sound
@@ -52,7 +53,7 @@ module _ {links demands : ℕ} {bound : ℕ → ℤ} {basis : ℕ → ColumnOf R
   pub lone : IsLoneKey links demands basis place c d
   lone = record {
     inside = low;
-    owned = λ x lx. e.named.demand x lx ∙ own_is name d x own;
+    owned = λ x lx. e.named.demand x lx ∙ own_demand name d x own;
     alone = λ j lj. (h.keyed.named (place j) (h.keyed.kept.roles.place_in j (omega (arith, lj)))).demand d low
         ∙ own_none (column_name b.names (place j)) demands d (λ f. alone j lj (h.keyed.owned j lj ∙ f));
   }

@@ -48,12 +48,6 @@ entry_01 links demands name c of named k l = ⊎_elim
 pub small : (x : ℤ) → IsZeroOrOne x → (pos 0 ≤ℤ x) × IsNarrow x
 small x h = ⊎_elim (λ e. (omega (arith, ints, e), omega (arith, ints, e))) (λ e. (omega (arith, ints, e), omega (arith, ints, e))) h
 
--- the demand of a name
-pub own_is : (name : RouteColumn) (d k : ℕ) → demand_in name ≡ Some d → own_entry name k ≡ unit_vector d k
-own_is (LinkSlack l) d k e = absurd (cc)
-own_is (DemandSlack f) d k e = let same : f ≡ d = cc in ap (λ x. unit_vector x k) same
-own_is (Carry f path) d k e = let same : f ≡ d = cc in ap (λ x. unit_vector x k) same
-
 -- a column that isn't one of demand d
 pub own_none : (name : RouteColumn) (demands d : ℕ) → owner_in demands name ≢ d → own_entry name d ≡ pos 0
 own_none (LinkSlack l) demands d ne = refl

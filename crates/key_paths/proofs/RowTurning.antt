@@ -16,7 +16,6 @@ use Rattle.net_core.specs.declared.columns.WideKind.TheVariants.{Row as RowOf, P
 use Rattle.simplex_law.specs.Evidence.{IsWide, HoldsRow, HoldsProduct}
 use Rattle.simplex_law.specs.Sums.{dot, put}
 use Rattle.simplex_law.specs.Programs.{ColumnOf}
-use Rattle.simplex_law.proofs.Arithmetic.{regroup, same_cancel}
 use Rattle.simplex_law.proofs.Rows.{multiple}
 use Rattle.simplex_law.proofs.Sums.{sum-same, dot-same, unit-same}
 use Rattle.simplex_core.specs.Tables.{nums_at, den_at}
@@ -39,6 +38,7 @@ use Rattle.key_paths.specs.declared.turn_rows.WideTurn.TheVariants.{Prices, Row 
 use Rattle.key_rows.specs.declared.keyed.Keyed.{Keyed}
 use Rattle.key_paths.proofs.Holding.{den_narrow, held_packing, held_columns, held_names, rest_low}
 use Rattle.key_paths.proofs.Named.{named_price, put_each}
+use Rattle.checked_fraction.proofs.Products.{regroup, cancelled}
 
 -- a row in lowest terms that is reduced again stays
 reduced_same : (n : ℕ) (u v : ℕ → ℤ) (d e : ℤ) → pos 0 <ℤ d → IsInLowestTerms n u d → IsReduced n u d v e → (k : ℕ) → k < n → v k ≡ u k
@@ -63,7 +63,7 @@ reduced_same n u v d e positive low r k lk =
 turned_same : (n : ℕ) (u w v : ℕ → ℤ) (p d q e : ℤ) → p ≡ pos 0 → pos 0 <ℤ d → pos 0 <ℤ q → IsInLowestTerms n u d → IsReduced n (combined u p w q) (d *ℤ q) v e → (k : ℕ) → k < n → v k ≡ u k
 turned_same n u w v p d q e none pd pq low r = reduced_same n u v d e pd low (record {
   positive = r.positive;
-  same = λ k l. same_cancel q (v k *ℤ d) (u k *ℤ e) pq (left k ∙ (r.same k l ∙ right k));
+  same = λ k l. cancelled q (v k *ℤ d) (u k *ℤ e) pq (left k ∙ (r.same k l ∙ right k));
   lowest = r.lowest;
 })
   where

@@ -1,30 +1,21 @@
 -- the lists of the slack basis
-use Rattle.std.proofs.Common.{◌≡◌, ℕ, ℤ, zero, suc, List, Some, length, length-set, pos, get_or, slice_get, slice_set, replicate, ◌+◌, ◌-◌, ◌<◌, ◌^◌, sym, ap, ◌∙◌, subst, refl, arith, ⊎_elim}
-use Rattle.std.proofs.lemmas.Bool.{cases_eq, cases_lt}
+use Rattle.std.proofs.Common.{◌≡◌, ℕ, ℤ, zero, suc, List, Some, length, length-set, pos, get_or, slice_get, replicate, ◌+◌, ◌-◌, ◌<◌, ◌^◌, sym, ap, ◌∙◌, subst, refl, arith, ⊎_elim}
+use Rattle.std.proofs.lemmas.Bool.{cases_lt}
 use Rattle.std.proofs.lemmas.Int.{ints}
-use Rattle.std.proofs.lemmas.List.{get_or-set_same, get_or-set_other}
 use Rattle.std.proofs.lemmas.Option.{get_or_from_slice_get}
 use Rattle.checked_fraction.specs.Rows.{num, IsNarrow}
 use Rattle.checked_fraction.specs.declared.row.Row.{Row}
 use Rattle.net_core.specs.Graphs.{Graph}
 use Rattle.net_core.specs.declared.columns.RouteColumn.TheVariants.{DemandSlack}
 use Rattle.route_law.specs.RoutingPrograms.{route_slack}
-use Rattle.simplex_law.specs.Sums.{unit_vector}
-use Rattle.simplex_law.proofs.Sums.{unit-same, unit-other}
 use Rattle.simplex_core.specs.Tables.{nums_of, den_of}
 use Rattle.simplex_core.specs.inner.Shapes.{AtEach, IsUnit}
-use Rattle.simplex_core.proofs.Starts.{each_at, zeros_num, zeros_length, num_past}
+use Rattle.simplex_core.proofs.Starts.{each_at, zeros_num, zeros_length, num_past, unit_num}
 use Rattle.key_paths.specs.inner.Starts.{IsStart}
 use Rattle.key_rows.specs.Names.{column_name, IsNameWithin}
 use Rattle.key_rows.specs.declared.keyed.Keyed.{Keyed}
 use Rattle.key_paths.proofs.Starting.{first, second}
-
-unit_num : (m i k : ℕ) → i < m → num (slice_set (replicate m (pos 0)) i (pos 1)) k ≡ unit_vector i k
-unit_num m i k lt = ⊎_elim
-    (λ e. subst (λ j. num (slice_set (replicate m (pos 0)) i (pos 1)) j ≡ unit_vector i j) (sym e)
-    (get_or-set_same (replicate m (pos 0)) i (pos 1) (pos 0) (omega (arith, zeros_length m)) ∙ sym (unit-same i)))
-    (λ ne. get_or-set_other (replicate m (pos 0)) i k (pos 1) (pos 0) ne ∙ (zeros_num m k ∙ sym (unit-other i k (λ e. ne (sym e)))))
-    (cases_eq k i)
+use Rattle.checked_fraction.proofs.Units.{zeros_narrow}
 
 same_length : (n x : ℕ) → length (replicate n x) ≡ n
 same_length zero x = refl
@@ -37,9 +28,6 @@ same_at (suc n) x (suc i) l = same_at n x i (omega (arith, l))
 
 pub number_at : (f : ℕ → ℤ) (xs : List ℤ) (k : ℕ) → AtEach (λ i x. x ≡ f i) xs → k < length xs → num xs k ≡ f k
 number_at f xs k all l = let x = each_at (λ i x. x ≡ f i) xs k l all in get_or_from_slice_get xs k x.0 (pos 0) x.1 ∙ x.2
-
-zeros_narrow : (n k : ℕ) → IsNarrow (num (replicate n (pos 0)) k)
-zeros_narrow n k = subst IsNarrow (sym (zeros_num n k)) (omega (arith, ints))
 
 -- the parts make the slack basis
 pub start_of : (g : Graph) (demands : ℕ) (bound : ℕ → ℤ) (b : Keyed) → length g.links + demands < 2 ^ 32 → ((k : ℕ) → k < length g.links + demands → IsNarrow (bound k))

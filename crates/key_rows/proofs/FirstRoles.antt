@@ -6,12 +6,13 @@ use Rattle.simplex_law.specs.Bases.{IsInverseRow}
 use Rattle.simplex_law.specs.Programs.{ColumnOf}
 use Rattle.simplex_law.specs.Sums.{dot, unit_vector}
 use Rattle.simplex_law.specs.inner.Pivots.{IsRatioLe}
-use Rattle.simplex_law.proofs.Arithmetic.{positive_cancel, times_positive}
+use Rattle.simplex_law.proofs.Arithmetic.{positive_cancel}
 use Rattle.simplex_law.proofs.NoLater.{first_scaled, second_scaled}
 use Rattle.simplex_law.proofs.Unique.{dot_scaled, row_unique, valued_scaled}
 use Rattle.simplex_core.proofs.Ratios.{no_later_trans, no_later_same}
 use Rattle.key_law.specs.Kept.{IsKept}
 use Rattle.key_rows.specs.FirstRoles.{HasStep, LimitsNothing, IsNoLaterRole}
+use Rattle.checked_fraction.proofs.Products.{positive_product}
 
 module _ {links demands : ℕ} {bound : ℕ → ℤ} {basis : ℕ → ColumnOf RouteColumn} {place role : ℕ → ℕ} {kept : ℕ → ℕ → ℤ} {den prices : ℕ → ℤ} {prices_den : ℤ}
     (h : IsKept links demands bound basis place role kept den prices prices_den) (a : ℕ → ℤ) where
@@ -27,7 +28,7 @@ module _ {links demands : ℕ} {bound : ℕ → ℤ} {basis : ℕ → ColumnOf R
   same_products r u v d e hu hv = dot_scaled m u v a d e (same_rows r u v d e hu hv)
 
   pub positive_again : (r : ℕ) (u v : ℕ → ℤ) (d e : ℤ) → IsInverseRow m basis (place r) u d → IsInverseRow m basis (place r) v e → pos 0 <ℤ dot m u a → pos 0 <ℤ dot m v a
-  positive_again r u v d e hu hv p = positive_cancel d (dot m v a) hu.0 (subst (λ x. pos 0 <ℤ x) (same_products r u v d e hu hv) (times_positive e (dot m u a) hv.0 p))
+  positive_again r u v d e hu hv p = positive_cancel d (dot m v a) hu.0 (subst (λ x. pos 0 <ℤ x) (same_products r u v d e hu hv) (positive_product e (dot m u a) hv.0 p))
 
   -- one row that doesn't limit the column tells of all
   pub limits_nothing : (r : ℕ) (u : ℕ → ℤ) (d : ℤ) → IsInverseRow m basis (place r) u d → (pos 0 <ℤ dot m u a → ⊥) → LimitsNothing m bound basis place a r

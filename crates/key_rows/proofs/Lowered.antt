@@ -8,7 +8,7 @@ use Rattle.net_core.specs.declared.ids.LinkId.{LinkId}
 use Rattle.simplex_law.specs.Sums.{dot, unit_vector}
 use Rattle.simplex_law.specs.Programs.{ColumnOf}
 use Rattle.simplex_law.specs.inner.Pivots.{IsNoLater}
-use Rattle.simplex_law.proofs.Arithmetic.{moved_out, same_cancel}
+use Rattle.simplex_law.proofs.Arithmetic.{moved_out}
 use Rattle.simplex_law.proofs.Sums.{sum-same}
 use Rattle.simplex_core.specs.Tables.{nums_at, den_at}
 use Rattle.key_law.specs.Keys.{key_part, left_column}
@@ -29,10 +29,11 @@ use Rattle.key_law.proofs.Short.{short_no_later}
 use Rattle.simplex_core.proofs.Ratios.{no_later_trans}
 use Rattle.key_rows.proofs.Products.{key_scaled}
 use Rattle.key_rows.proofs.Weighted.{left_crossed}
+use Rattle.checked_fraction.proofs.Products.{cancelled}
 
 -- the same number over three denominators
 same_over : (den all whole q r s : ℤ) → pos 0 <ℤ whole → whole *ℤ q ≡ all *ℤ r → whole *ℤ s ≡ den *ℤ r → den *ℤ q ≡ all *ℤ s
-same_over den all whole q r s pw e f = same_cancel whole (den *ℤ q) (all *ℤ s) pw
+same_over den all whole q r s pw e f = cancelled whole (den *ℤ q) (all *ℤ s) pw
     (moved_out whole den q ∙ (ap (λ x. den *ℤ x) e ∙ (moved_out den all r ∙ (ap (λ x. all *ℤ x) (sym f) ∙ moved_out all whole s))))
 
 module _ {links demands : ℕ} {bound : ℕ → ℤ} {basis : ℕ → ColumnOf RouteColumn} {place role : ℕ → ℕ} {b : Keyed} (h : IsKeyed links demands bound basis place role b)

@@ -6,11 +6,12 @@ use Rattle.std.proofs.lemmas.Int.{ints}
 use Rattle.checked_fraction.specs.Rows.{num, IsReduced}
 use Rattle.checked_fraction.specs.declared.row.Row.{Row}
 use Rattle.simplex_law.specs.Sums.{int_sum, dot}
-use Rattle.simplex_law.proofs.Arithmetic.{minus_left, distribute_minus, distribute_left, regroup, moved_out, times_positive, positive_cancel}
+use Rattle.simplex_law.proofs.Arithmetic.{minus_left, distribute_minus, distribute_left, moved_out, positive_cancel}
 use Rattle.simplex_law.proofs.Duality.{priced}
 use Rattle.simplex_law.proofs.Sums.{sum-same, sum-minus, sum-none, sum-times}
 use Rattle.simplex_core.specs.Tables.{nums_at}
 use Rattle.key_rows.specs.KeyRows.{times_taken, weighted, less_rows, left_over_rows}
+use Rattle.checked_fraction.proofs.Products.{regroup, positive_product}
 
 -- a difference of products is the product with the difference
 pub left_product : (n : ℕ) (u a b : ℕ → ℤ) (x y : ℤ) → x ≡ dot n u a → y ≡ dot n u b → x -ℤ y ≡ dot n u (λ k. a k -ℤ b k)
@@ -54,4 +55,4 @@ key_scaled rows owners weights products d m x nums all den own p reduced are is 
 
 -- so it is positive where that is
 pub key_positive : (all den p q : ℤ) → pos 0 <ℤ all → pos 0 <ℤ den → all *ℤ p ≡ den *ℤ q → pos 0 <ℤ q → pos 0 <ℤ p
-key_positive all den p q pa pd e pq = positive_cancel all p pa (subst (λ z. pos 0 <ℤ z) (sym e) (times_positive den q pd pq))
+key_positive all den p q pa pd e pq = positive_cancel all p pa (subst (λ z. pos 0 <ℤ z) (sym e) (positive_product den q pd pq))

@@ -6,11 +6,12 @@ use Rattle.std.proofs.lemmas.Bool.{cases_eq}
 use Rattle.checked_fraction.specs.Rows.{num}
 use Rattle.checked_fraction.specs.declared.row.Row.{Row}
 use Rattle.simplex_law.specs.Sums.{unit_vector}
-use Rattle.simplex_law.proofs.Arithmetic.{minus_left, moved_out, regroup, positive_cancel, times_positive}
+use Rattle.simplex_law.proofs.Arithmetic.{minus_left, moved_out, positive_cancel}
 use Rattle.simplex_law.proofs.Sums.{unit-other}
 use Rattle.simplex_core.specs.Tables.{den_at}
 use Rattle.key_rows.specs.KeyRows.{IsOwn, AreWeights, times_taken, left_over_rows}
 use Rattle.key_rows.proofs.Left.{left_more, left_none}
+use Rattle.checked_fraction.proofs.Products.{regroup, positive_product}
 
 module _ (rows : List Row) (owners : List ℕ) (weights others : List ℤ) (d : ℕ) (all whole : ℤ) (are : AreWeights rows owners weights d all) (be : AreWeights rows owners others d whole) where
   cross : (i : ℕ) → i < length rows → IsOwn owners d i → whole *ℤ num weights i ≡ all *ℤ num others i
@@ -45,4 +46,4 @@ module _ (rows : List Row) (owners : List ℕ) (weights others : List ℤ) (d : 
 
   -- so it is positive over both or over none
   pub left_positive : (own : ℤ) (f : ℕ → ℤ) → pos 0 <ℤ left_over_rows owners weights d all own f (length rows) → pos 0 <ℤ left_over_rows owners others d whole own f (length rows)
-  left_positive own f h = positive_cancel all _ are.positive (subst (λ z. pos 0 <ℤ z) (left_crossed own f (length rows) (omega arith)) (times_positive whole _ be.positive h))
+  left_positive own f h = positive_cancel all _ are.positive (subst (λ z. pos 0 <ℤ z) (left_crossed own f (length rows) (omega arith)) (positive_product whole _ be.positive h))

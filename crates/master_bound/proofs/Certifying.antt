@@ -17,7 +17,7 @@ use Rattle.net_core.specs.Network.{IsModule}
 use Rattle.plan_terms.specs.Bounds.{IsBound, IsGreatestDivisor, IsLowest}
 use Rattle.plan_terms.specs.Certificates.{CertificateLine, IsCut, asked, fixed_along, given, price, raw_value}
 use Rattle.plan_terms.specs.OwnBounds.{IsOwnBound}
-use Rattle.plan_terms.proofs.Bounds.{divisor_positive, lowest_positive}
+use Rattle.plan_terms.proofs.Bounds.{lowest_positive}
 use Rattle.plan_types.specs.declared.quality.Share.{Share}
 use Rattle.simplex_law.specs.Programs.{IsPacking}
 use Rattle.simplex_law.specs.Bases.{AreNames}
@@ -38,6 +38,7 @@ use Rattle.master_bound.specs.inner.Programs.{IsMasterSolution}
 use Rattle.master_bound.specs.inner.Shares.{IsShareOf}
 use Rattle.master_bound.proofs.Lowest.{common_some, in_lowest, part_some, whole_den}
 use Rattle.master_bound.proofs.Optima.{all_named, gains_as_cut, lines_whole, some_lines}
+use Rattle.net_core.proofs.Numbers.{positive_divisor}
 
 cancel : (k a b : ℕ) → 0 < k → k * a ≡ k * b → a ≡ b
 cancel k a b some e =
@@ -96,7 +97,7 @@ some_den n h = omega (arith, ints, h)
 one_divides : (d : ℕ) → d ∣ 1 → d ≡ 1
 one_divides d h =
     let low : d ≤ 1 = le_of_dvd (let one : 0 < 1 = omega arith in one) h in
-    let high : 0 < d = divisor_positive d 1 (omega arith) h in
+    let high : 0 < d = positive_divisor d 1 (omega arith) h in
     omega (arith, low, high)
 
 module _ (links : List Link) (pairs : List UnitPair) (cuts : List CutLine) (sound : All (λ l. All IsModule l.modules) links) (units : AreUnitPairs links pairs) (best : Optimum MasterColumn) (solution : IsMasterSolution links pairs cuts best)

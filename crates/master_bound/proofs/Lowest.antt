@@ -1,44 +1,22 @@
 -- fractions in lowest terms
-use Rattle.std.proofs.Common.{ℕ, zero, suc, pos, ◌^◌, ◌≡◌, ◌*◌, ◌/◌, ◌<◌, ◌≤◌, List, ◌∷◌, All, get_or, length, refl, unsigned_abs, sym, ap, subst, ◌∙◌, arith}
+use Rattle.std.proofs.Common.{ℕ, zero, suc, ◌^◌, ◌≡◌, ◌*◌, ◌/◌, ◌<◌, ◌≤◌, List, ◌∷◌, All, get_or, length, refl, sym, ap, subst, arith}
 use Rattle.std.specs.Int.{◌∣◌}
-use Rattle.std.proofs.lemmas.Int.{ints, unsigned_abs-mul}
 use Rattle.std.proofs.lemmas.List.Elements.{All-cons, All-get_or, All-head, All-tail, All-from_get_or}
 use Rattle.std.proofs.Math.Nat.{mul-le-mul_left, mul-div_cancel', dvd-mul_left}
 use Rattle.std.proofs.lemmas.Nat.Gcd.{le_of_dvd}
 use Rattle.net_core.specs.Network.{IsModule}
 use Rattle.net_core.specs.declared.network.Module.{Module}
-use Rattle.checked_fraction.specs.Rows.{IsReduced}
-use Rattle.checked_fraction.proofs.Once.{times_reduced}
-use Rattle.plan_terms.specs.Bounds.{IsGreatestDivisor, IsLowest}
+use Rattle.plan_terms.specs.Bounds.{IsGreatestDivisor}
 use Rattle.plan_terms.specs.Prices.{IsUnitPair}
-use Rattle.plan_terms.proofs.Bounds.{divisor_positive, lowest_positive}
 use Rattle.module_prices.proofs.UnitCosts.{cheapest_sound}
-
-as_row : (a b c d : ℕ) → 0 < b → IsLowest a b c d → IsReduced 1 (λ k. pos a) (pos b) (λ k. pos c) (pos d)
-as_row a b c d some low = record {
-  positive = let p : 0 < d = lowest_positive a b c d some low in omega (arith, ints, p);
-  same = λ k lt. let e : c * b ≡ a * d = sym low.same in omega (arith, ints, e);
-  lowest = λ k den nums. low.lowest k (nums 0 (omega arith)) den;
-}
-
--- the numerator is no greater than that of the fraction
-num_low : (a b c d : ℕ) → 0 < b → IsLowest a b c d → c ≤ a
-num_low a b c d some low =
-    let times = times_reduced 1 (λ k. pos a) (pos b) (λ k. pos c) (pos d) (omega (arith, ints, some)) (as_row a b c d some low) in
-    let g = times.0 in
-    let num : a ≡ g * c = ap unsigned_abs (times.2 0 (omega arith)) ∙ unsigned_abs-mul (pos g) (pos c) in
-    let den : b ≡ g * d = ap unsigned_abs times.1 ∙ unsigned_abs-mul (pos g) (pos d) in
-    small g num den
-  where
-    small : (g : ℕ) → a ≡ g * c → b ≡ g * d → c ≤ a
-    small zero num den = absurd (omega (arith, some, den))
-    small (suc n) num den = omega (arith, num, mul-le-mul_left c (let one : 1 ≤ suc n = omega arith in one))
+use Rattle.net_core.proofs.Numbers.{positive_divisor}
+use Rattle.module_prices.proofs.LowestTerms.{lowest_small}
 
 -- what a unit costs is no more than what a module may cost
 pub unit_cost_low : (modules : List Module) (capacity cost : ℕ) → All IsModule modules → IsUnitPair modules capacity cost → cost < 2 ^ 40
 unit_cost_low modules capacity cost each is =
     let m = cheapest_sound modules is.cheapest each is.least in
-    omega (arith, num_low is.cheapest.cost is.cheapest.capacity cost capacity m.carries is.lowest, m.cost)
+    omega (arith, lowest_small is.cheapest.cost is.cheapest.capacity cost capacity m.carries is.lowest, m.cost)
 
 -- amounts and a denominator over their greatest common divisor are in lowest terms
 module _ (den : ℕ) (amounts : List ℕ) (common : ℕ) (some : 0 < den) (is : IsGreatestDivisor (den ∷ amounts) common) where
@@ -46,7 +24,7 @@ module _ (den : ℕ) (amounts : List ℕ) (common : ℕ) (some : 0 < den) (is : 
   of_den = All-head (λ x. common ∣ x) den amounts is.divides
 
   pub common_some : 0 < common
-  common_some = divisor_positive common den some of_den
+  common_some = positive_divisor common den some of_den
 
   pub whole_den : common * (den / common) ≡ den
   whole_den = mul-div_cancel' common of_den
@@ -66,7 +44,7 @@ module _ (den : ℕ) (amounts : List ℕ) (common : ℕ) (some : 0 < den) (is : 
       let times : (x y : ℕ) → common * y ≡ x → d ∣ y → common * d ∣ x = λ x y e h. subst (λ z. common * d ∣ z) e (dvd_times common d y h) in
       let all : All (λ x. common * d ∣ x) (den ∷ amounts) = All-cons (λ x. common * d ∣ x) den amounts (times den (den / common) whole_den of_part)
       (All-from_get_or (λ x. common * d ∣ x) amounts 0 (λ j lt. times (get_or amounts j 0) (get_or amounts j 0 / common) (whole_amount j lt) (of_nums j lt))) in
-      one_of d (le_of_dvd common_some (is.greatest (common * d) all)) (divisor_positive d (den / common) part_some of_part)
+      one_of d (le_of_dvd common_some (is.greatest (common * d) all)) (positive_divisor d (den / common) part_some of_part)
     where
       dvd_times : (g a b : ℕ) → a ∣ b → g * a ∣ g * b
       dvd_times g a b h = let e : (b / a) * (g * a) ≡ g * b = omega (arith, ap (λ x. g * x) (mul-div_cancel' a h)) in subst (λ x. g * a ∣ x) e (dvd-mul_left (g * a) (b / a))

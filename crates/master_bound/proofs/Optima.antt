@@ -17,7 +17,6 @@ use Rattle.plan_terms.specs.Bounds.{IsGreatestDivisor}
 use Rattle.plan_terms.specs.Certificates.{CertificateLine, asked}
 use Rattle.simplex_law.specs.Sums.{dot}
 use Rattle.simplex_law.specs.Programs.{IsPacking, IsSlack}
-use Rattle.simplex_law.proofs.Arithmetic.{regroup}
 use Rattle.simplex_law.proofs.Sums.{dot-same, sum-same, sum-times, unit-other, unit-same}
 use Rattle.simplex_core.specs.declared.optimum.Optimum.{Optimum}
 use Rattle.master_law.specs.BasisLines.{AreLinesOf}
@@ -30,6 +29,7 @@ use Rattle.master_bound.specs.Answers.{cut_at}
 use Rattle.master_bound.specs.inner.Lines.{AreAmounts, GainsAsCut, HaveOneName, IsListedCut, amount_of}
 use Rattle.master_bound.specs.inner.Programs.{IsMasterSolution}
 use Rattle.master_bound.proofs.Lowest.{common_some, in_lowest, whole_amount, whole_den}
+use Rattle.checked_fraction.proofs.Products.{regroup}
 
 no_metric : (cut : CutLine) (k : ℕ) → Metric cut.state cut.lengths ≡ master_slack k → ⊥
 no_metric cut k e = cc e

@@ -1,6 +1,6 @@
 -- the lines of one basic column more, and lines in lowest terms
-use Rattle.std.proofs.Common.{◌≡◌, ℕ, suc, ◌+◌, ◌-◌, ◌*◌, ◌<◌, ◌≤◌, List, [], ◌∷◌, ◌++◌, All, Some, map, sum_by, slice_get, slice_index, get_or, refl, sym, ap, ◌∙◌, arith}
-use Rattle.std.proofs.lemmas.List.Sums.{sum_by-cons}
+use Rattle.std.proofs.Common.{◌≡◌, ℕ, suc, ◌-◌, ◌*◌, ◌<◌, ◌≤◌, List, [], ◌∷◌, ◌++◌, All, Some, map, sum_by, slice_get, slice_index, get_or, refl, sym, ap, ◌∙◌, arith}
+use Rattle.std.proofs.lemmas.List.Sums.{sum_by-cons, sum_by_push}
 use Rattle.std.proofs.Math.Nat.{le_of_mul-le-mul_left, mul-sub}
 use Rattle.std.proofs.Math.IntN.{pos, ◌+ℤ◌, ◌*ℤ◌, zero-*ℤ, pos-*ℤ-pos}
 use Rattle.std.proofs.lemmas.Int.{ints}
@@ -12,10 +12,6 @@ use Rattle.plan_terms.specs.Certificates.{CertificateLine, price, asked, fixed_a
 use Rattle.simplex_law.specs.Programs.{ColumnOf}
 use Rattle.master_law.specs.BasisLines.{AreLinesOf}
 use Rattle.master_law.specs.MasterPrograms.{cut_gain, column_lengths, column_given}
-
-sums_push : {X : Type 0} (f : X → ℕ) (xs : List X) (x : X) → sum_by f (xs ++ x ∷ []) ≡ sum_by f xs + f x
-sums_push f [] x = sum_by-cons f x [] ∙ omega arith
-sums_push f (y ∷ ys) x = omega (arith, sum_by-cons f y (ys ++ x ∷ []), sum_by-cons f y ys, sums_push f ys x)
 
 module _ (links : List Link) (basis : ℕ → ColumnOf MasterColumn) (amounts : ℕ → ℕ) where
   pub lines_none : AreLinesOf links 0 basis amounts []
@@ -46,12 +42,12 @@ module _ (links : List Link) (basis : ℕ → ColumnOf MasterColumn) (amounts : 
       let given : column_given links (basis n).name ≡ fixed_along line.cut.lengths links = ap (λ ls. fixed_along ls links) lengths in
       let right : pos line.cut.right ≡ (basis n).gain +ℤ pos (column_given links (basis n).name) = omega (arith, ints, gain, given) in
       record {
-        price_is = λ e. sums_push (λ (l : CertificateLine). l.num * slice_index l.cut.lengths e) lines line
+        price_is = λ e. sum_by_push (λ (l : CertificateLine). l.num * slice_index l.cut.lengths e) lines line
             ∙ omega (arith, of.price_is e, ap (λ a. a * slice_index line.cut.lengths e) num, ap (λ ls. amounts n * slice_index ls e) lengths);
         asked_is =
             let one : pos (line.num * line.cut.right) ≡ pos (amounts n) *ℤ ((basis n).gain +ℤ pos (column_given links (basis n).name)) =
             sym (pos-*ℤ-pos line.num line.cut.right) ∙ (ap (λ a. pos a *ℤ pos line.cut.right) num ∙ ap (λ x. pos (amounts n) *ℤ x) right) in
-            ap pos (sums_push (λ (l : CertificateLine). l.num * l.cut.right) lines line) ∙ omega (arith, ints, of.asked_is, one);
+            ap pos (sum_by_push (λ (l : CertificateLine). l.num * l.cut.right) lines line) ∙ omega (arith, ints, of.asked_is, one);
       }
 
 -- the line with its numerator g times

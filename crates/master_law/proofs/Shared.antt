@@ -1,19 +1,10 @@
 -- a number that divides the same number of times all numbers without a common divisor divides that number
-use Rattle.std.proofs.Common.{◌≡◌, ℕ, zero, suc, ◌+◌, ◌-◌, ◌*◌, ◌/◌, ◌%◌, ◌<◌, ap, subst, ◌∙◌, arith, ⊎_elim}
+use Rattle.std.proofs.Common.{◌≡◌, ℕ, zero, suc, ◌*◌, ◌%◌, ◌<◌, ap, subst, ◌∙◌, arith, ⊎_elim}
 use Rattle.std.specs.Int.{◌∣◌}
 use Rattle.std.proofs.lemmas.Bool.{cases_lt}
-use Rattle.std.proofs.lemmas.Nat.{div-add-mod'}
 use Rattle.std.proofs.lemmas.Nat.Gcd.{dvd_refl, dvd-zero, dvd_trans}
-use Rattle.std.proofs.Math.Nat.{dvd-add, dvd-sub, dvd-mul_left, dvd-mul_left_of_dvd}
-
-divides_back : (g a b : ℕ) → g ∣ b → g ∣ a % b → g ∣ a
-divides_back g a b h r = subst (λ x. g ∣ x) (div-add-mod' a b) (dvd-add g (dvd-mul_left_of_dvd g h (a / b)) r)
-
-divides_rest : (n c x y : ℕ) → n ∣ c * x → n ∣ c * y → n ∣ c * (x % y)
-divides_rest n c x y dx dy =
-    let h : c * (x / y * y + x % y) ≡ c * x = ap (λ t. c * t) (div-add-mod' x y) in
-    let e : c * x - x / y * (c * y) ≡ c * (x % y) = omega arith in
-    subst (λ t. n ∣ t) e (dvd-sub n dx (dvd-mul_left_of_dvd n dy (x / y)))
+use Rattle.std.proofs.Math.Nat.{dvd-mul_left}
+use Rattle.checked_fraction.proofs.Once.{divides_back, divides_rest}
 
 module _ (part c : ℕ) where
   -- of two numbers, by Euclid's steps

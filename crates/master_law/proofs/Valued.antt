@@ -1,9 +1,8 @@
 -- where amounts over a part of the common denominator are wide, so they are over each common denominator
 use Rattle.std.proofs.Common.{◌≡◌, ℕ, zero, suc, ◌*◌, ◌/◌, ◌<◌, ◌≤◌, ◌^◌, List, length, sym, ap, ◌∙◌, arith, subst, inl, inr, ⊎_elim, unsigned_abs}
 use Rattle.std.specs.Int.{◌∣◌}
-use Rattle.std.proofs.Math.Nat.{mul-div_cancel', mul-le-mul_left}
+use Rattle.std.proofs.Math.Nat.{mul-div_cancel'}
 use Rattle.std.proofs.Math.IntN.{ℤ, pos, ◌+ℤ◌, ◌*ℤ◌, *ℤ_comm, pos-*ℤ-pos}
-use Rattle.std.proofs.lemmas.Int.{unsigned_abs-mul}
 use Rattle.module_prices.specs.declared.cheapest.UnitPair.{UnitPair}
 use Rattle.net_core.specs.declared.columns.MasterColumn.{MasterColumn}
 use Rattle.net_core.specs.declared.network.Link.{Link}
@@ -12,14 +11,12 @@ use Rattle.simplex_law.specs.Sums.{int_sum, dot, unit_vector}
 use Rattle.simplex_law.specs.Programs.{ColumnOf}
 use Rattle.simplex_law.specs.Bases.{IsRow, IsBest}
 use Rattle.simplex_law.specs.Evidence.{IsWide}
-use Rattle.simplex_law.proofs.Arithmetic.{regroup, moved_out, same_cancel}
+use Rattle.simplex_law.proofs.Arithmetic.{moved_out}
 use Rattle.simplex_law.proofs.Duality.{priced}
 use Rattle.simplex_law.proofs.Sums.{sum-same, sum-times, sum-unit}
 use Rattle.master_law.specs.MasterEvidence.{IsRowsDenominator, FillRows, asked_sum, given_sum, AreWideAmounts, HasWideValue}
 use Rattle.master_law.specs.MasterPrograms.{master_bound, column_given, IsMasterColumn}
-
-pub size_times : (d : ℕ) (z : ℤ) → 0 < d → unsigned_abs z ≤ unsigned_abs (pos d *ℤ z)
-size_times d z pd = let m : unsigned_abs z * 1 ≤ unsigned_abs z * d = mul-le-mul_left (unsigned_abs z) (omega (arith, pd)) in omega (arith, m, unsigned_abs-mul (pos d) z)
+use Rattle.checked_fraction.proofs.Products.{regroup, cancelled, size_times}
 
 module _ (links : List Link) (pairs : List UnitPair) (cuts : List CutLine) (basis : ℕ → ColumnOf MasterColumn) (duals : ℕ → ℤ) (duals_den : ℤ) (best : IsBest (length links) (master_bound pairs) (IsMasterColumn links pairs cuts) basis duals duals_den) where
   -- the amounts that fill the rows are those of the inverse
@@ -42,7 +39,7 @@ module _ (links : List Link) (pairs : List UnitPair) (cuts : List CutLine) (basi
         let value = dot (length links) r.0 (master_bound pairs) in
         let one : many i *ℤ d ≡ pos (g * part) *ℤ value = amount_is many (g * part) fill_many i r.0 d l r.2.1 in
         let two : few i *ℤ d ≡ pos part *ℤ value = amount_is few part fill_few i r.0 d l r.2.1 in
-        same_cancel d (many i) (pos g *ℤ few i) r.2.0
+        cancelled d (many i) (pos g *ℤ few i) r.2.0
         (*ℤ_comm d (many i) ∙ (one ∙ (ap (λ x. x *ℤ value) (sym (pos-*ℤ-pos g part)) ∙ (regroup (pos g) (pos part) value ∙ (ap (λ x. pos g *ℤ x) (sym two) ∙ (sym (regroup (pos g) (few i) d) ∙ *ℤ_comm (pos g *ℤ few i) d))))))
 
     sums_times : (f : ℕ → ℤ) → int_sum (length links) (λ j. many j *ℤ f j) ≡ pos g *ℤ int_sum (length links) (λ j. few j *ℤ f j)

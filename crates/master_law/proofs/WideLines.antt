@@ -1,7 +1,6 @@
 -- a certificate in lowest terms of which a number is too wide
 use Rattle.std.proofs.Common.{◌≡◌, ℕ, zero, suc, ◌*◌, ◌/◌, ◌<◌, ◌≤◌, ◌^◌, ◌⊎◌, List, length, sym, ap, ◌∙◌, arith, subst, inl, inr, ⊎_elim, unsigned_abs}
 use Rattle.std.specs.Int.{◌∣◌}
-use Rattle.std.proofs.lemmas.Bool.{cases_lt}
 use Rattle.std.proofs.lemmas.Nat.Gcd.{dvd-zero}
 use Rattle.std.proofs.Math.Nat.{mul-div_cancel', dvd-mul_left}
 use Rattle.std.proofs.Math.IntN.{ℤ, pos, ◌+ℤ◌, ◌*ℤ◌, *ℤ_comm, *ℤ-zero, pos-*ℤ-pos}
@@ -15,30 +14,17 @@ use Rattle.plan_terms.specs.Certificates.{CertificateLine, asked, fixed_along, g
 use Rattle.simplex_law.specs.Sums.{int_sum, dot}
 use Rattle.simplex_law.specs.Programs.{ColumnOf, IsSlack}
 use Rattle.simplex_law.specs.Optima.{IsOptimum}
-use Rattle.simplex_law.proofs.Arithmetic.{regroup, moved_out, swap_last, same_cancel, times_nonneg}
+use Rattle.simplex_law.proofs.Arithmetic.{moved_out, swap_last, times_nonneg}
 use Rattle.simplex_law.proofs.Sums.{sum-same, sum-times}
 use Rattle.master_law.specs.BasisLines.{AreLinesOf}
 use Rattle.master_law.specs.MasterEvidence.{FillRows, HasWideValue}
 use Rattle.master_law.specs.MasterPrograms.{master_bound, master_slack, column_given, IsCutColumn, IsMasterColumn}
 use Rattle.master_law.proofs.Certified.{given_is}
 use Rattle.master_law.proofs.Shared.{divides_common}
-use Rattle.master_law.proofs.Valued.{amount_is, size_times}
-
--- more terms of 0 or more sum to no less
-sum_more : (m n : ℕ) (f : ℕ → ℤ) → ((j : ℕ) → j < m → pos 0 ≤ℤ f j) → n ≤ m → int_sum n f ≤ℤ int_sum m f
-sum_more zero n f high le = let z : n ≡ 0 = omega (arith, le) in subst (λ k. int_sum k f ≤ℤ pos 0) (sym z) (omega (arith, ints))
-sum_more (suc m) n f high le = ⊎_elim
-    (λ l. omega (arith, ints, sum_more m n f (λ j h. high j (omega (arith, h))) (omega (arith, l)), high m (omega arith)))
-    (λ g. let e : n ≡ suc m = omega (arith, le, g) in subst (λ k. int_sum k f ≤ℤ int_sum (suc m) f) (sym e) (same (int_sum (suc m) f)))
-    (cases_lt n (suc m))
-  where
-    same : (x : ℤ) → x ≤ℤ x
-    same x = omega (arith, ints)
-
-some_of : (a b : ℕ) → 0 < a * b → (0 < a) × (0 < b)
-some_of zero b h = absurd (omega (arith, h))
-some_of (suc a) zero h = absurd (omega (arith, h))
-some_of (suc a) (suc b) h = (omega arith, omega arith)
+use Rattle.master_law.proofs.Valued.{amount_is}
+use Rattle.net_core.proofs.Numbers.{positive_factors}
+use Rattle.checked_fraction.proofs.Products.{regroup, cancelled, size_times}
+use Rattle.simplex_law.proofs.Values.{sum_grows}
 
 over_zero : (n : ℕ) → pos 0 <ℤ pos n → 0 < n
 over_zero zero h = absurd (omega (arith, ints, h))
@@ -49,7 +35,7 @@ module _ (links : List Link) (pairs : List UnitPair) (cuts : List CutLine) (basi
     (g part : ℕ) (few : ℕ → ℕ) (whole : g * part ≡ den) (of_cut : (j : ℕ) → j < length links → IsCutColumn links pairs cuts (basis j) → values j ≡ g * few j)
     (of_slack : (j : ℕ) → j < length links → IsSlack (length links) master_slack (basis j) → few j ≡ 0) (lowest : (d : ℕ) → d ∣ part → ((j : ℕ) → j < length links → d ∣ few j) → d ≡ 1) where
   positive : (0 < g) × (0 < part)
-  positive = some_of g part (subst (λ n. 0 < n) (sym whole) (over_zero den o.positive))
+  positive = positive_factors g part (subst (λ n. 0 < n) (sym whole) (over_zero den o.positive))
 
   module _ (many : ℕ → ℤ) (c : ℕ) (fill : FillRows links pairs cuts basis many c) where
     -- amounts over one denominator and over another
@@ -60,13 +46,13 @@ module _ (links : List Link) (pairs : List UnitPair) (cuts : List CutLine) (basi
         let value = dot (length links) r.0 (master_bound pairs) in
         let one : many j *ℤ d ≡ pos c *ℤ value = amount_is links pairs cuts basis duals duals_den o.best many c fill j r.0 d l r.2.1 in
         let two : pos (values j) *ℤ d ≡ pos den *ℤ value = amount_is links pairs cuts basis duals duals_den o.best (λ i. pos (values i)) den o.filled j r.0 d l r.2.1 in
-        same_cancel d (many j *ℤ pos den) (pos c *ℤ pos (values j)) r.2.0
+        cancelled d (many j *ℤ pos den) (pos c *ℤ pos (values j)) r.2.0
         (*ℤ_comm d (many j *ℤ pos den) ∙ (swap_last (many j) (pos den) d ∙ (ap (λ x. x *ℤ pos den) one
         ∙ (swap_last (pos c) value (pos den) ∙ (regroup (pos c) (pos den) value ∙ (ap (λ x. pos c *ℤ x) (sym two) ∙ (sym (regroup (pos c) (pos (values j)) d) ∙ *ℤ_comm (pos c *ℤ pos (values j)) d)))))))
 
     cut_is : (j : ℕ) → j < length links → IsCutColumn links pairs cuts (basis j) → many j *ℤ pos part ≡ pos (c * few j)
     cut_is j l is =
-        same_cancel (pos g) (many j *ℤ pos part) (pos (c * few j)) (some g positive.0)
+        cancelled (pos g) (many j *ℤ pos part) (pos (c * few j)) (some g positive.0)
         (moved_out (pos g) (many j) (pos part) ∙ (ap (λ x. many j *ℤ x) (pos-*ℤ-pos g part ∙ ap pos whole) ∙ (both j l
         ∙ (ap (λ x. pos c *ℤ pos x) (of_cut j l is) ∙ (pos-*ℤ-pos c (g * few j) ∙ (ap pos (moved c g (few j)) ∙ sym (pos-*ℤ-pos g (c * few j))))))))
       where
@@ -91,7 +77,7 @@ module _ (links : List Link) (pairs : List UnitPair) (cuts : List CutLine) (basi
     cut_times : (j : ℕ) → j < length links → IsCutColumn links pairs cuts (basis j) → many j ≡ pos times *ℤ pos (few j)
     cut_times j l is =
         let e : part * times ≡ c = mul-div_cancel' part part_divides in
-        same_cancel (pos part) (many j) (pos times *ℤ pos (few j)) (some part positive.1)
+        cancelled (pos part) (many j) (pos times *ℤ pos (few j)) (some part positive.1)
         (*ℤ_comm (pos part) (many j) ∙ (cut_is j l is ∙ (ap (λ x. pos (x * few j)) (sym e) ∙ (sym (pos-*ℤ-pos (part * times) (few j)) ∙ (ap (λ x. x *ℤ pos (few j)) (sym (pos-*ℤ-pos part times)) ∙ regroup (pos part) (pos times) (pos (few j)))))))
       where
         some : (n : ℕ) → 0 < n → pos 0 <ℤ pos n
@@ -99,7 +85,7 @@ module _ (links : List Link) (pairs : List UnitPair) (cuts : List CutLine) (basi
 
     module _ (pc : 0 < c) where
       times_some : 0 < times
-      times_some = (some_of part times (subst (λ x. 0 < x) (sym (mul-div_cancel' part part_divides)) pc)).1
+      times_some = (positive_factors part times (subst (λ x. 0 < x) (sym (mul-div_cancel' part part_divides)) pc)).1
 
       -- a sum over the cuts is as many times as large
       wide_sum : (w : ℕ → ℤ) → ((j : ℕ) → j < length links → pos 0 ≤ℤ w j) → ((j : ℕ) → j < length links → IsSlack (length links) master_slack (basis j) → w j ≡ pos 0)
@@ -113,7 +99,7 @@ module _ (links : List Link) (pairs : List UnitPair) (cuts : List CutLine) (basi
           (λ of. ap (λ x. many j *ℤ x) (none j l of) ∙ (*ℤ-zero (many j) ∙ sym (ap (λ x. pos times *ℤ (pos (few j) *ℤ x)) (none j l of) ∙ (ap (λ x. pos times *ℤ x) (*ℤ-zero (pos (few j))) ∙ *ℤ-zero (pos times)))))
           (o.best.feasible.columns j l))
           ∙ sum-times m (pos times) (λ j. pos (few j) *ℤ w j) in
-          let more = sum_more m n (λ j. pos (few j) *ℤ w j) (λ j l. times_nonneg (pos (few j)) (w j) (omega (arith, ints)) (high j l)) le in
+          let more = sum_grows m n (λ j. pos (few j) *ℤ w j) (λ j l. times_nonneg (pos (few j)) (w j) (omega (arith, ints)) (high j l)) le in
           let size : s ≤ unsigned_abs total = above s total (omega (arith, ints, more, is)) in
           omega (arith, wide, size, size_times times total times_some, ap unsigned_abs same)
         where

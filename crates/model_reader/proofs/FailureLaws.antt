@@ -19,7 +19,7 @@ use Rattle.text_kit.specs.declared.refusal.Refusal.{Refusal}
 use Rattle.text_kit.proofs.Behind.{all_behind, behind_all, behind_as, behind_both}
 use Rattle.text_kit.proofs.NameLaws.{IsNew, are_new, lawful_new_name, lawful_place, new_are}
 use Rattle.text_kit.proofs.Files.{answer_found, answer_only, answer_first, file_read}
-use Rattle.text_kit.proofs.Lawful.{AnyText, IsEnd, Lawful, lawful_as, lawful_give, lawful_list, lawful_open, lawful_some, lawful_then, lawful_whole, lawful_word, same_is}
+use Rattle.text_kit.proofs.Lawful.{AnyText, IsEnd, Lawful, lawful_as, lawful_give, lawful_list, lawful_open, lawful_some, lawful_then, lawful_whole, lawful_word}
 use Rattle.text_kit.proofs.Online.{IsOnline, TakesSome, online_give, online_list, online_open, online_then, online_whole, online_word, takes_some}
 use Rattle.model_reader.specs.declared.failures.FailureList.{FailureList}
 use Rattle.model_reader.specs.declared.failures.FailureList.TheVariants.{OneByOne, EachAlone}
@@ -28,6 +28,7 @@ use Rattle.model_reader.specs.declared.failures.FailuresKind.TheVariants.{Header
 use Rattle.model_reader.specs.Failures.{IsListInForm, IsShort, SpellsFailures, failures_header, failing_link_name, list_items, state_items, states_of}
 use Rattle.model_reader.specs.FailuresReading.{after_word, failure_list_at, failures_at, failures_of, failing_link_at, is_list, links_at, state_at, states_at}
 use Rattle.model_reader.proofs.FailureSingles.{network_differs}
+use Rattle.net_core.proofs.Checks.{same_is}
 
 -- ---- links by name
 

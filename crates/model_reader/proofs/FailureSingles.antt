@@ -3,7 +3,6 @@ use Rattle.std.proofs.Common.{◌≡◌, ◌≢◌, ℕ, zero, suc, ◌+◌, ◌
 use Rattle.std.proofs.Math.Seq.{take-suc}
 use Rattle.std.proofs.lemmas.List.{length-take}
 use Rattle.std.proofs.Math.Logic.{∥∥₁_elim}
-use Rattle.std.proofs.lemmas.Bool.{cases_lt}
 use Rattle.std.proofs.lemmas.List.Elements.{All-cons, All-nil}
 use Rattle.net_core.specs.declared.ids.LinkId.{LinkId}
 use Rattle.net_core.specs.declared.network.Link.{Link}
@@ -13,6 +12,7 @@ use Rattle.net_core.specs.Network.{IsNetwork}
 use Rattle.net_core.specs.States.{AreStates, states_fault}
 use Rattle.model_reader.specs.Failures.{single, single_states, singles_from}
 use Rattle.net_core.proofs.Accepted.{states_accepted}
+use Rattle.net_core.proofs.Networks.{few_links}
 
 singles_push : (at : ℕ) (ls : List Link) (l : Link) → singles_from at (ls ++ l ∷ []) ≡ singles_from at ls ++ single (at + length ls) l.name ∷ []
 singles_push at [] l = ap (λ (k : ℕ). single k l.name ∷ []) (omega arith)
@@ -77,12 +77,8 @@ network_differs nodes links net i j d lt within same = ∥∥₁_elim net (λ x 
 too_many : (nodes : List (List ℕ)) (links : List Link) → ∥ IsNetwork nodes links ∥₁ → 256 < length links → ⊥
 too_many nodes links net many = ∥∥₁_elim net (λ x y. absurd x) (λ (sound : IsNetwork nodes links). let few : length links ≤ 256 = sound.few_links in omega (arith, few, many))
 
--- and there are few
-pub network_few : (nodes : List (List ℕ)) (links : List Link) → ∥ IsNetwork nodes links ∥₁ → length links ≤ 256
-network_few nodes links net = ⊎_elim (λ (many : 256 < length links). absurd (too_many nodes links net many)) (λ few. few) (cases_lt 256 (length links))
-
 pub network_singles : (nodes : List (List ℕ)) (links : List Link) → ∥ IsNetwork nodes links ∥₁ → AreStates (length links) (single_states links)
-network_singles nodes links net = singles_are_states links (network_few nodes links net) (network_differs nodes links net)
+network_singles nodes links net = singles_are_states links (few_links nodes links net) (network_differs nodes links net)
 
 -- so they are never refused
 pub singles_pass : (nodes : List (List ℕ)) (links : List Link) (f : StatesFault) (listed : List Listed) → ∥ IsNetwork nodes links ∥₁ → listed ≡ single_states links → states_fault (length links) listed ≡ Some f → ⊥

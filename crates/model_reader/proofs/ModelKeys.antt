@@ -5,10 +5,10 @@ use Rattle.std.specs.List.{list_any}
 use Rattle.std.proofs.lemmas.Bool.{cases_Bool}
 use Rattle.std.proofs.lemmas.List.Folds.{Any-from_list_any, list_any-from_Any}
 use Rattle.net_core.specs.Tests.{are_same}
-use Rattle.net_core.proofs.Checks.{none_passes, not_true}
+use Rattle.net_core.proofs.Checks.{none_passes, not_true, same_is}
 use Rattle.text_kit.specs.Items.{AreBehind}
 use Rattle.text_kit.proofs.Behind.{behind_differ, differ_behind}
-use Rattle.text_kit.proofs.Lawful.{is_same, same_is}
+use Rattle.text_kit.proofs.Lawful.{is_same}
 use Rattle.model_reader.specs.declared.model.ModelKey.{ModelKey}
 use Rattle.model_reader.specs.declared.model.ModelKey.TheVariants.{Demand, Link, LinkCapacity, FixedCharge, Routing, AdmissiblePath, HopLimit, Survivability}
 use Rattle.model_reader.specs.declared.model.ModelKind.{ModelKind}

@@ -171,10 +171,6 @@ routed_more p lengths n routings r peaks loads raised so_far least total loaded 
   small = λ e. omega (arith, peak_more routings r e, so_far.small e, load_all r.flows e, total);
 }
 
--- a network has few nodes
-pub few_nodes : (nodes : List (List ℕ)) (links : List Link) → ∥ IsNetwork nodes links ∥₁ → length nodes ≤ 128
-few_nodes nodes links checked = ∥∥₁_elim checked (hlevel props) (λ net. net.few_nodes)
-
 -- one more link's counts
 pub each_more : (P : ℕ → Link → List ℕ → Type 0) (links : List Link) (counts : List (List ℕ)) (k : Link) (c : List ℕ) (e : ℕ) → length counts ≡ e → slice_get links e ≡ Some k → P e k c
     → ((i : ℕ) (l : Link) (d : List ℕ) → slice_get links i ≡ Some l → slice_get counts i ≡ Some d → P i l d)

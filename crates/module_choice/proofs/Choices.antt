@@ -4,7 +4,7 @@ use Rattle.std.proofs.lemmas.List.Sums.{sum_by-cons}
 use Rattle.std.proofs.lemmas.List.{get_or-replicate, length-replicate}
 use Rattle.std.proofs.Math.ListN.{length-set}
 use Rattle.std.proofs.lemmas.Bool.{cases_eq, cases_lt, lt-ltb}
-use Rattle.std.proofs.lemmas.Option.{get_or_from_slice_get, slice_get_within}
+use Rattle.std.proofs.lemmas.Option.{slice_get_within}
 use Rattle.std.proofs.Math.Nat.{mul-le-mul_left}
 use Rattle.net_core.specs.declared.network.Module.{Module}
 use Rattle.net_core.specs.Network.{IsModule}
@@ -15,6 +15,7 @@ use Rattle.module_choice.specs.inner.Kinds.{IsBestKind}
 use Rattle.module_choice.specs.declared.covers.Covering.{Covering}
 use Rattle.module_choice.specs.declared.covers.Kind.{Kind}
 use Rattle.module_choice.proofs.Numbers.{one_if}
+use Rattle.net_core.proofs.Lists.{all_at}
 
 -- a number for each kind times its count, added up
 abbrev pub value : (Module → ℕ) → List Module → List ℕ → ℕ
@@ -93,10 +94,6 @@ kind_covers ms need cs many kind reaches least = record {
 pub same_at : (ms : List Module) (j : ℕ) (m n : Module) → slice_get ms j ≡ Some m → slice_get ms j ≡ Some n → m ≡ n
 same_at ms j m n a b = cc (a, b)
 
--- what holds of all holds of the one at a place
-pub all_read : {X : Type 0} (P : X → Type 0) (xs : List X) (k : ℕ) (x : X) → All P xs → slice_get xs k ≡ Some x → P x
-all_read P xs k x all at = subst P (get_or_from_slice_get xs k x x at) (all k x (slice_get_within xs k x at))
-
 -- as many modules as the need reach it
 factor_reaches : (capacity need : ℕ) → 0 < capacity → need ≤ capacity * need
 factor_reaches zero need some = absurd (omega arith)
@@ -138,7 +135,7 @@ fewest-capacity capacity need (suc c) some fewest = ⊎_elim
 pub best_covers : (ms : List Module) (need : ℕ) (kind : Kind) (m : Module) (c : Covering) → (IsFewSteps ms need → ⊥) → 0 < need → need < 2 ^ 44 → All IsModule ms → IsBestKind ms need kind → slice_get ms kind.at ≡ Some m → c.counts ≡ set (replicate (length ms) 0) kind.at kind.count → c.cost ≡ m.cost * kind.count → IsCovering ms need c
 best_covers ms need kind m c many some limit sound best at counts cost =
     let one : m ≡ best.module_at = same_at ms kind.at m best.module_at at best.is in
-    let is : IsModule best.module_at = all_read IsModule ms kind.at best.module_at sound best.is in
+    let is : IsModule best.module_at = all_at IsModule ms kind.at best.module_at sound best.is in
     let fewest : kind.count ≤ need = best.fewest need (factor_reaches best.module_at.capacity need is.carries) in
     record {
       covers = subst (Covers ms need) (sym counts) (best_least ms need kind many some best);

@@ -18,7 +18,7 @@ use Rattle.plan_terms.specs.Covers.{CoverLoads, Covers}
 use Rattle.plan_terms.specs.Prices.{ArePriceLengths}
 use Rattle.module_choice.specs.inner.Routes.{AreCovered, AreRouted}
 use Rattle.module_choice.proofs.Carrying.{least_flows, load_none, network_links, peak_above}
-use Rattle.module_choice.proofs.Choices.{all_read}
+use Rattle.net_core.proofs.Lists.{all_at, get_some}
 
 -- price lengths plus 1 are positive
 pub raised_positive : (prices : List ℕ) (e : ℕ) → e < length prices → 0 < get_or (raised prices) e 0
@@ -68,11 +68,6 @@ met joins lengths demands r least k d at =
     (λ some. sent_once r.flows k d.need least.ordered (λ i f lt here. (of_one i f lt here).0) (least.every k d at some))
     (λ none. let zero' : d.need ≡ 0 = omega (arith, none) in sent_none r.flows k (λ i f lt here. omega (arith, (of_one i f lt here).1, zero')) ∙ sym zero')
     (cases_lt 0 d.need)
-
-pub get_some : {X : Type 0} → (xs : List X) (i : ℕ) → i < length xs → (x : X) × (slice_get xs i ≡ Some x)
-get_some [] i lt = absurd (omega arith)
-get_some (x ∷ xs) zero lt = (x, refl)
-get_some (x ∷ xs) (suc i) lt = get_some xs i (omega arith)
 
 -- the capacity of link e is its pre-installed one and that of its counts
 pub capacity_at : (links : List Link) (counts : List (List ℕ)) (e : ℕ) (l : Link) (c : List ℕ) → slice_get links e ≡ Some l → slice_get counts e ≡ Some c → get_or (capacities links counts) e 0 ≡ l.fixed + modules_capacity l.modules c
@@ -161,4 +156,4 @@ pub modules_sound : (nodes : List (List ℕ)) (links : List Link) → ∥ IsNetw
 modules_sound nodes links checked k d lt = let sound = network_links nodes links checked k d lt in (sound.few, sound.each)
 
 pub fixed_small : (nodes : List (List ℕ)) (links : List Link) → ∥ IsNetwork nodes links ∥₁ → (e : ℕ) (l : Link) → slice_get links e ≡ Some l → l.fixed < 2 ^ 40
-fixed_small nodes links checked e l at = (all_read (IsLink (length nodes)) links e l (network_links nodes links checked) at).fixed
+fixed_small nodes links checked e l at = (all_at (IsLink (length nodes)) links e l (network_links nodes links checked) at).fixed

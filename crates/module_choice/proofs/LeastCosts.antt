@@ -11,7 +11,8 @@ use Rattle.plan_terms.specs.Covers.{Reaches}
 use Rattle.module_choice.specs.declared.tables.Entry.{Entry}
 use Rattle.module_choice.specs.inner.Tables.{AreLeastCosts, AreTaken, IsLeastCost, IsNext, IsOneMore}
 use Rattle.module_choice.proofs.Carrying.{get_cases}
-use Rattle.module_choice.proofs.Choices.{all_read, value, value-cons, value-zeros}
+use Rattle.module_choice.proofs.Choices.{value, value-cons, value-zeros}
+use Rattle.net_core.proofs.Lists.{all_at, get_front}
 
 -- the sum with another count of one kind
 value-set : (f : Module → ℕ) (ms : List Module) (cs : List ℕ) (i v : ℕ) (m : Module) → slice_get ms i ≡ Some m → i < length cs → value f ms (set cs i v) + f m * get_or cs i 0 ≡ value f ms cs + f m * v
@@ -68,7 +69,7 @@ least_next ms entries x sound least next =
       least = λ others reaches.
           let some = some_count ms others (omega (arith, least.some, reaches.reached)) in
           let k = some.module_at in
-          let is : IsModule k = all_read IsModule ms some.kind k sound some.is in
+          let is : IsModule k = all_at IsModule ms some.kind k sound some.is in
           let rest : slice_get entries (n - k.capacity) ≡ Some (get_or entries (n - k.capacity) nothing) = slice_get-get_or entries (n - k.capacity) nothing (omega (arith, is.carries, least.some)) in
           let fewer : Reaches ms (n - k.capacity) (set others some.kind some.count) = record {
             shape = length-set others some.kind some.count ∙ reaches.shape;
@@ -77,19 +78,14 @@ least_next ms entries x sound least next =
           omega (arith, next.least some.kind k (get_or entries (n - k.capacity) nothing) some.is rest, (least.least (n - k.capacity) (get_or entries (n - k.capacity) nothing) rest).least (set others some.kind some.count) fewer, value-less (λ y. y.cost) ms others some.kind some.count k some.is some.inside some.counted);
     }
 
-get_longer : {X : Type 0} (xs ys : List X) (i : ℕ) (x : X) → slice_get xs i ≡ Some x → slice_get (xs ++ ys) i ≡ Some x
-get_longer [] ys i x at = absurd (cc)
-get_longer (y ∷ xs) ys zero x at = at
-get_longer (y ∷ xs) ys (suc i) x at = get_longer xs ys i x at
-
 -- an entry stays what it is where the table grows
 longer : (ms : List Module) (entries more : List Entry) (n : ℕ) (x : Entry) → IsOneMore ms entries n x → IsOneMore ms (entries ++ more) n x
-longer ms entries more n x is = record { module_at = is.module_at; is = is.is; rest = is.rest; left = get_longer entries more (n - is.module_at.capacity) is.rest is.left; paid = is.paid }
+longer ms entries more n x is = record { module_at = is.module_at; is = is.is; rest = is.rest; left = get_front entries more (n - is.module_at.capacity) is.rest is.left; paid = is.paid }
 
 -- a cost is small where those before it are
 small_next : (ms : List Module) (entries : List Entry) (x : Entry) → All IsModule ms → AreLeastCosts ms entries → IsOneMore ms entries (length entries) x → x.cost ≤ length entries * 2 ^ 40
 small_next ms entries x sound least more =
-    let is : IsModule more.module_at = all_read IsModule ms x.kind more.module_at sound more.is in
+    let is : IsModule more.module_at = all_at IsModule ms x.kind more.module_at sound more.is in
     omega (arith, more.paid, is.cost, is.carries, least.some, least.small (length entries - more.module_at.capacity) more.rest more.left)
 
 -- a table with its next entry
@@ -170,7 +166,7 @@ pub taken_more : (ms : List Module) (entries : List Entry) (steps left after : �
 taken_more ms entries steps left after cs x m sound least some at is less taken =
     let more = least.more left x some at in
     let one : more.module_at ≡ m = cc (more.is, is) in
-    let carries = (all_read IsModule ms x.kind m sound is).carries in
+    let carries = (all_at IsModule ms x.kind m sound is).carries in
     let inside : x.kind < length cs = omega (arith, slice_get_within ms x.kind m is, taken.shape) in
     let capacity = value-more (λ y. y.capacity) ms cs x.kind m is inside in
     let cost = value-more (λ y. y.cost) ms cs x.kind m is inside in
@@ -183,7 +179,7 @@ taken_more ms entries steps left after cs x m sound least some at is less taken 
           omega (arith, cost, more.paid, ap (λ (z : Module). z.cost) one, ap (λ (z : Entry). z.cost) same, taken.paid y x first at);
       reached = omega (arith, capacity, less, taken.reached);
       exact = λ some'. omega (arith, capacity, less, some', taken.exact some);
-      narrow = λ limit each. omega (arith, capacity, less, taken.exact some, all_read (λ y. y.capacity ≤ limit) ms x.kind m each is);
+      narrow = λ limit each. omega (arith, capacity, less, taken.exact some, all_at (λ y. y.capacity ≤ limit) ms x.kind m each is);
       few = few_more cs x.kind steps left after inside (omega (arith, less, carries, some)) taken.few;
     }
 
@@ -228,7 +224,7 @@ IsCostWith ms entries k m cost = (slice_get ms k ≡ Some m) × ((r : Entry) →
 
 one_more : (ms : List Module) (entries : List Entry) (k cost : ℕ) (m : Module) → All IsModule ms → 0 < length entries → IsCostWith ms entries k m cost → IsOneMore ms entries (length entries) (record { cost = cost; kind = k })
 one_more ms entries k cost m sound some with' =
-    let is : IsModule m = all_read IsModule ms k m sound with'.0 in
+    let is : IsModule m = all_at IsModule ms k m sound with'.0 in
     let at = length entries - m.capacity in
     let rest : slice_get entries at ≡ Some (get_or entries at nothing) = slice_get-get_or entries at nothing (omega (arith, is.carries, some)) in
     record { module_at = m; is = with'.0; rest = get_or entries at nothing; left = rest; paid = with'.1 (get_or entries at nothing) rest }

@@ -1,9 +1,8 @@
 -- links with the same modules, covered from one table
-use Rattle.std.proofs.Common.{◌≡◌, ◌≢◌, ℕ, zero, suc, ◌+◌, ◌-◌, ◌<◌, ◌==◌, ◌&&◌, ◌⊎◌, ◌^◌, List, [], ◌∷◌, ◌++◌, All, Err, IfOk, Ok, Result, Some, ap, append-nil, arith, drop, get_or, inl, inr, length, refl, set, slice_get, slice_index, subst, sym, take, ◌∙◌, ⊎_elim}
+use Rattle.std.proofs.Common.{◌≡◌, ◌≢◌, ℕ, zero, suc, ◌+◌, ◌-◌, ◌<◌, ◌==◌, ◌&&◌, ◌⊎◌, ◌^◌, List, [], ◌∷◌, All, Err, IfOk, Ok, Result, Some, ap, arith, get_or, inl, inr, length, refl, set, slice_get, slice_index, subst, sym, ◌∙◌, ⊎_elim}
 use Rattle.std.specs.Bool.{Decides}
 use Rattle.std.proofs.lemmas.Bool.{cases_eq}
 use Rattle.std.proofs.lemmas.Grind.{get_or_default_zero}
-use Rattle.std.proofs.lemmas.List.{drop_all, take_all}
 use Rattle.std.proofs.lemmas.Option.{slice_get-get_or}
 use Rattle.std.proofs.lemmas.Bool.Decides.{Decides-and, Decides-eqb, Decides-like}
 use Rattle.net_core.specs.declared.network.Link.{Link}
@@ -78,10 +77,6 @@ covered_again links needs counts e has all i k lt is = ⊎_elim
     subst (AlikeAreCovered links needs counts) (has.alike ∙ ap (λ (x : Link). x.modules) one) (all has.at has.earlier has.before has.is))
     (λ other. all i k (omega (arith, lt, other)) is)
     (cases_eq i e)
-
--- where each item was written, the list is what was written
-pub all_written : {X : Type 0} (old new : List X) → length new ≡ length old → take (length old) (new ++ drop (length new) old) ≡ new
-all_written old new count = ap (λ xs. take (length old) (new ++ xs)) (drop_all (length new) old (omega (arith, count))) ∙ (ap (take (length old)) (append-nil new) ∙ take_all (length old) new (omega (arith, count)))
 
 abbrev default : Link
 default = record { name = []; a = record { 0 = 0 }; b = record { 0 = 0 }; fixed = 0; setup = 0; modules = [] }

@@ -13,13 +13,14 @@ use Rattle.net_core.specs.Network.{IsModule}
 use Rattle.plan_terms.specs.Bounds.{IsGreatestDivisor}
 use Rattle.plan_terms.specs.Capacities.{modules_capacity, modules_cost}
 use Rattle.plan_terms.specs.Covers.{IsFewSteps, Reaches}
-use Rattle.plan_terms.proofs.Bounds.{divisor_limit, divisor_positive, divisor_unique}
+use Rattle.plan_terms.proofs.Bounds.{divisor_limit, divisor_unique}
 use Rattle.module_choice.specs.Coverings.{IsCovering}
 use Rattle.module_choice.specs.declared.covers.Covering.{Covering}
 use Rattle.module_choice.specs.declared.tables.Entry.{Entry}
 use Rattle.module_choice.specs.declared.tables.Table.{Table}
 use Rattle.module_choice.specs.inner.Tables.{AreTaken, IsTable, in_thousandths}
 use Rattle.module_choice.proofs.Choices.{fewest-capacity, value-cons}
+use Rattle.net_core.proofs.Numbers.{positive_divisor}
 
 capacities_small : (ms : List Module) → All IsModule ms → AllByRecursion (λ x. x < 2 ^ 40) (map (λ m. m.capacity) ms)
 capacities_small [] sound = tt
@@ -37,7 +38,7 @@ factor_positive a (suc b) n is some = omega arith
 pub quotient_sound : (m : Module) (step : ℕ) → IsModule m → step ∣ m.capacity → IsModule (record { capacity = m.capacity / step; cost = m.cost })
 quotient_sound m step sound divides =
     let whole : step * (m.capacity / step) ≡ m.capacity = mul-div_cancel' step divides in
-    let some = divisor_positive step m.capacity sound.carries divides in
+    let some = positive_divisor step m.capacity sound.carries divides in
     let more : m.capacity / step * 1 ≤ m.capacity / step * step = mul-le-mul_left (m.capacity / step) some in
     record {
       carries = factor_positive step (m.capacity / step) m.capacity whole sound.carries;

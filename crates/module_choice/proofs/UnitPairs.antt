@@ -1,42 +1,21 @@
 -- unit pairs are one, and no greater than the module that they come from
-use Rattle.std.proofs.Common.{ℕ, zero, suc, pos, ◌^◌, ◌≡◌, ◌*◌, ◌<◌, ◌≤◌, List, unsigned_abs, sym, ap, subst, ◌∙◌, arith}
-use Rattle.std.proofs.lemmas.Int.{ints, unsigned_abs-mul}
-use Rattle.std.proofs.Math.Nat.{mul-le-mul_left, le_of_mul-le-mul_left}
+use Rattle.std.proofs.Common.{ℕ, pos, ◌^◌, ◌≡◌, ◌*◌, ◌<◌, ◌≤◌, List, unsigned_abs, ap, subst, arith}
+use Rattle.std.proofs.lemmas.Int.{ints}
+use Rattle.std.proofs.Math.Nat.{le_of_mul-le-mul_left}
 use Rattle.net_core.specs.Network.{IsModule}
 use Rattle.net_core.specs.declared.network.Module.{Module}
-use Rattle.checked_fraction.specs.Rows.{IsReduced}
-use Rattle.checked_fraction.proofs.Once.{reduced_once, times_reduced}
+use Rattle.checked_fraction.proofs.Once.{reduced_once}
 use Rattle.plan_terms.specs.Bounds.{IsLowest}
 use Rattle.plan_terms.specs.Prices.{HasLeastUnitCost, IsUnitPair}
-use Rattle.plan_terms.proofs.Bounds.{lowest_positive}
 use Rattle.module_prices.proofs.UnitCosts.{cheapest_sound}
 use Rattle.std.specs.List.{All}
-
-as_row : (a b c d : ℕ) → 0 < b → IsLowest a b c d → IsReduced 1 (λ k. pos a) (pos b) (λ k. pos c) (pos d)
-as_row a b c d some low = record {
-  positive = let p : 0 < d = lowest_positive a b c d some low in omega (arith, ints, p);
-  same = λ k lt. let e : c * b ≡ a * d = sym low.same in omega (arith, ints, e);
-  lowest = λ k den nums. low.lowest k (nums 0 (omega arith)) den;
-}
+use Rattle.module_prices.proofs.LowestTerms.{as_row, lowest_small}
 
 -- a fraction has one form in lowest terms
 pub lowest_once : (a b c d e f : ℕ) → 0 < b → IsLowest a b c d → IsLowest a b e f → (c ≡ e) × (d ≡ f)
 lowest_once a b c d e f some first second =
     let once = reduced_once 1 (λ k. pos a) (pos b) (λ k. pos c) (pos d) (λ k. pos e) (pos f) (omega (arith, ints, some)) (as_row a b c d some first) (as_row a b e f some second) in
     (ap unsigned_abs (once.1 0 (omega arith)), ap unsigned_abs once.0)
-
--- whose numerator is no greater than that of the fraction
-pub lowest_small : (a b c d : ℕ) → 0 < b → IsLowest a b c d → c ≤ a
-lowest_small a b c d some low =
-    let times = times_reduced 1 (λ k. pos a) (pos b) (λ k. pos c) (pos d) (omega (arith, ints, some)) (as_row a b c d some low) in
-    let g = times.0 in
-    let num : a ≡ g * c = ap unsigned_abs (times.2 0 (omega arith)) ∙ unsigned_abs-mul (pos g) (pos c) in
-    let den : b ≡ g * d = ap unsigned_abs times.1 ∙ unsigned_abs-mul (pos g) (pos d) in
-    small g num den
-  where
-    small : (g : ℕ) → a ≡ g * c → b ≡ g * d → c ≤ a
-    small zero num den = absurd (omega (arith, some, den))
-    small (suc n) num den = omega (arith, num, mul-le-mul_left c (let one : 1 ≤ suc n = omega arith in one))
 
 -- modules that cost as much per capacity
 module _ (modules : List Module) (sound : All IsModule modules) where

@@ -8,8 +8,9 @@ use Rattle.net_core.specs.Network.{IsModule}
 use Rattle.net_core.specs.declared.network.Link.{Link}
 use Rattle.net_core.specs.declared.network.Module.{Module}
 use Rattle.plan_terms.specs.Prices.{ArePriceLengths, HasLeastUnitCost, IsPriceLength}
-use Rattle.plan_terms.proofs.Multipliers.{factor_positive, smaller_ratio}
+use Rattle.plan_terms.proofs.Multipliers.{smaller_ratio}
 use Rattle.module_prices.specs.inner.Dearest.{ArePriced, IsDearer, IsDearestSoFar, IsGreatest, IsNoDearer}
+use Rattle.net_core.proofs.Numbers.{positive_factors}
 
 -- what is no dearer than a module that is no dearer than a third, is no dearer than that one
 pub no_dearer : (a b c : Module) → 0 < b.capacity → IsNoDearer a b → IsNoDearer b c → IsNoDearer a c
@@ -52,7 +53,7 @@ cheapest_sound modules m each is = subst IsModule is.one.2 (each is.one.0 m is.o
 
 -- what is dearer than another costs something
 costly : (m other : Module) → m.cost * other.capacity < other.cost * m.capacity → 0 < other.cost
-costly m other less = (factor_positive other.cost m.capacity (omega (arith, less))).0
+costly m other less = (positive_factors other.cost m.capacity (omega (arith, less))).0
 
 -- cheapest modules of one link cost as much per capacity
 cheapest_alike : (modules : List Module) (a b : Module) → HasLeastUnitCost modules a → HasLeastUnitCost modules b → IsNoDearer a b

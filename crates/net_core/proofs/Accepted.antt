@@ -2,7 +2,7 @@
 use Rattle.std.proofs.Common.{◌≡◌, ◌≢◌, ℕ, ◌+◌, ◌<◌, ◌≤◌, ◌^◌, Bool, true, false, cond, not, ◌||◌, ◌&&◌, ◌==◌, nat_lt, List, [], ◌∷◌, ◌++◌, All, AllPairs, Option, None, Some, get_or, length, refl, sym, ◌∙◌, ap, subst, arith, ⊎_elim, append_assoc}
 use Rattle.std.specs.Option.{option_or}
 use Rattle.std.specs.List.{list_any}
-use Rattle.std.proofs.lemmas.List.{append-nil, length-append, get_or_append_left}
+use Rattle.std.proofs.lemmas.List.{append-nil, length-append, get_or_append_left, nil_from_length}
 use Rattle.std.proofs.Math.Seq.{get_or-append_seam}
 use Rattle.std.proofs.lemmas.List.Elements.{recursion_from_All, All-from_recursion}
 use Rattle.std.specs.List.{AllByRecursion}
@@ -53,14 +53,10 @@ small n lt = lt-leb (2 ^ 40) n lt
 module_small : (m : Module) → IsModule m → (is_large m.capacity || is_large m.cost) ≡ false
 module_small m is = or_from (is_large m.capacity) (is_large m.cost) (small m.capacity is.capacity) (small m.cost is.cost)
 
-no_elements : {X : Type 0} → (xs : List X) → length xs ≡ 0 → xs ≡ []
-no_elements [] h = refl
-no_elements (x ∷ xs) h = absurd (omega (arith, h))
-
 -- pre-installed capacity comes with a module
 fixed_served : (l : Link) → (l.modules ≡ [] → l.fixed ≡ 0) → ((length l.modules == 0) && nat_lt 0 l.fixed) ≡ false
 fixed_served l served = ⊎_elim
-    (λ none. and_right (length l.modules == 0) (nat_lt 0 l.fixed) (le-ltb 0 l.fixed (let zero = served (no_elements l.modules none) in omega (arith, zero))))
+    (λ none. and_right (length l.modules == 0) (nat_lt 0 l.fixed) (le-ltb 0 l.fixed (let zero = served (nil_from_length l.modules none) in omega (arith, zero))))
     (λ some. and_left (length l.modules == 0) (nat_lt 0 l.fixed) (ne_eqb (length l.modules) 0 some))
     (cases_eq (length l.modules) 0)
 

@@ -1,11 +1,12 @@
 -- tests that are made in order
-use Rattle.std.proofs.Common.{◌≡◌, ◌≢◌, ℕ, ◌<◌, Bool, true, false, cond, not, ◌||◌, List, [], ◌∷◌, ◌++◌, All, AllPairs, Option, None, Some, is_some, get_or, length, refl, arith}
+use Rattle.std.proofs.Common.{◌≡◌, ◌≢◌, ℕ, ◌<◌, Bool, true, false, cond, not, List, [], ◌∷◌, ◌++◌, All, AllPairs, Option, None, Some, is_some, get_or, length, refl, arith}
 use Rattle.std.specs.Option.{option_or}
 use Rattle.std.specs.List.{list_any}
 use Rattle.std.proofs.lemmas.List.Elements.{All-cons, All-nil}
 use Rattle.std.proofs.lemmas.Bool.Decides.{Decides-eqb}
 use Rattle.std.proofs.lemmas.Slice.Eq.{slice_eq-Decides}
 use Rattle.net_core.specs.Tests.{first_fault, are_same, is_named}
+use Rattle.std.proofs.lemmas.Bool.{or_parts}
 
 -- no test before finds anything, so the later ones tell
 pub first_fault-append : {F : Type 0} → (a b : List (Bool × F)) → first_fault (a ++ b) ≡ option_or (first_fault a) (first_fault b)
@@ -25,15 +26,11 @@ pub none_or : {F : Type 0} → (a b : Option F) → option_or a b ≡ None → (
 none_or None b h = (refl, h)
 none_or (Some x) b h = absurd (cc)
 
-pub or_false : (a b : Bool) → (a || b) ≡ false → (a ≡ false) × (b ≡ false)
-or_false true b h = absurd (cc)
-or_false false b h = (refl, h)
-
 -- where none passes the test, each fails it
 pub none_passes : {X : Type 0} (p : X → Bool) → (xs : List X) → list_any p xs ≡ false → All (λ x. p x ≡ false) xs
 none_passes p [] h = All-nil (λ x. p x ≡ false)
 none_passes p (x ∷ xs) h =
-    let both : (p x ≡ false) × (list_any p xs ≡ false) = or_false (p x) (list_any p xs) h in
+    let both : (p x ≡ false) × (list_any p xs ≡ false) = or_parts (p x) (list_any p xs) h in
     All-cons (λ y. p y ≡ false) x xs both.0 (none_passes p xs both.1)
 
 pub not_same : (a b : List ℕ) → are_same a b ≡ false → a ≢ b
@@ -62,3 +59,7 @@ or_some (Some x) b h = refl
 pub or_none : {F : Type 0} → (a b : Option F) → is_some a ≡ false → option_or a b ≡ b
 or_none None b h = refl
 or_none (Some x) b h = absurd (cc)
+
+-- words are the same by their bytes
+pub same_is : (a b : List ℕ) → are_same a b ≡ true → a ≡ b
+same_is a b h = (slice_eq-Decides Decides-eqb a b (are_same a b) refl).0 h

@@ -1,19 +1,19 @@
 -- what the tests of a network tell
-use Rattle.std.proofs.Common.{◌≡◌, ◌≢◌, ℕ, ◌+◌, ◌<◌, ◌≤◌, ◌^◌, Bool, true, false, cond, not, ◌||◌, ◌&&◌, ◌==◌, nat_lt, List, [], ◌∷◌, ◌++◌, All, AllPairs, Option, None, Some, is_some, get_or, length, refl, sym, ◌∙◌, ap, subst, arith, take, drop, add-one, append_assoc, append-nil}
+use Rattle.std.proofs.Common.{◌≡◌, ◌≢◌, ℕ, ◌+◌, ◌<◌, ◌≤◌, ◌^◌, true, false, cond, not, ◌||◌, ◌&&◌, ◌==◌, nat_lt, List, [], ◌∷◌, ◌++◌, All, AllPairs, Option, None, Some, is_some, get_or, length, sym, ◌∙◌, ap, subst, arith, take, drop, add-one, append_assoc, append-nil}
 use Rattle.std.specs.Option.{option_or}
 use Rattle.std.specs.List.{list_any}
 use Rattle.std.proofs.Math.Seq.{drop-cons, take-suc}
 use Rattle.std.proofs.lemmas.List.{length-take-le}
 use Rattle.std.proofs.lemmas.List.Elements.{All-cons, All-nil, All-append}
 use Rattle.std.proofs.lemmas.List.Quantifiers.{all_pairs_push}
-use Rattle.std.proofs.lemmas.Bool.{leb-false, ltb-false, ltb-true, eqb-false, le-ltb}
+use Rattle.std.proofs.lemmas.Bool.{leb-false, ltb-false, ltb-true, eqb-false, le-ltb, or_parts, and_parts}
 use Rattle.net_core.specs.declared.network.Module.{Module}
 use Rattle.net_core.specs.declared.network.Link.{Link}
 use Rattle.net_core.specs.declared.network.NetFault.{NetFault}
 use Rattle.net_core.specs.declared.network.NetFault.TheVariants.{Nodes, Links, DoubleNode, DoubleLink, UnknownEnd, SelfLink, Amount, Modules, ZeroModule, FixedLink}
 use Rattle.net_core.specs.Tests.{first_fault, is_named, is_large}
 use Rattle.net_core.specs.Network.{IsModule, IsLink, IsNetwork, has_large_amount, link_tests, links_tests, nodes_tests, network_fault}
-use Rattle.net_core.proofs.Checks.{first_fault-append, none_head, none_or, or_false, none_passes, none_named, not_true, no_pairs, or_some, or_none}
+use Rattle.net_core.proofs.Checks.{first_fault-append, none_head, none_or, none_passes, none_named, not_true, no_pairs, or_some, or_none}
 
 -- the tests of the nodes from i on begin with that of i
 pub nodes_step : (names : List (List ℕ)) (i : ℕ) → i < length names → first_fault (nodes_tests (take i names) (drop i names)) ≡ cond (is_named (λ x. x) (get_or names i []) (take i names)) (Some (DoubleNode i)) (first_fault (nodes_tests (take (i + 1) names) (drop (i + 1) names)))
@@ -46,7 +46,7 @@ nodes_differ earlier (name ∷ names) pairs h =
 -- a module that passes its tests is sound
 sound_module : (m : Module) → (is_large m.capacity || is_large m.cost) ≡ false → (m.capacity == 0) ≡ false → IsModule m
 sound_module m large zero =
-    let both = or_false (is_large m.capacity) (is_large m.cost) large in
+    let both = or_parts (is_large m.capacity) (is_large m.cost) large in
     record {
       carries = let some : m.capacity ≡ 0 → ⊥ = eqb-false m.capacity 0 zero in omega arith;
       capacity = leb-false (2 ^ 40) m.capacity both.0;
@@ -57,10 +57,6 @@ sound_module m large zero =
 sound_modules : (modules : List Module) → list_any (λ m. is_large m.capacity || is_large m.cost) modules ≡ false → list_any (λ m. m.capacity == 0) modules ≡ false → All IsModule modules
 sound_modules modules large zero k d lt =
     sound_module (get_or modules k d) (none_passes (λ m. is_large m.capacity || is_large m.cost) modules large k d lt) (none_passes (λ m. m.capacity == 0) modules zero k d lt)
-
-both_true : (a b : Bool) → (a && b) ≡ true → (a ≡ true) × (b ≡ true)
-both_true true b h = (refl, h)
-both_true false b h = absurd (cc)
 
 -- what serves no link with pre-installed capacity and no module
 served_link : (l : Link) → ((length l.modules == 0) && nat_lt 0 l.fixed) ≡ false → l.modules ≡ [] → l.fixed ≡ 0
@@ -81,9 +77,9 @@ sound_link n earlier l h =
     let few = none_head (nat_lt 16 (length l.modules)) (Modules at) _ amounts.1 in
     let zero = none_head (list_any (λ m. m.capacity == 0) l.modules) (ZeroModule at) _ few.1 in
     let served = none_head ((length l.modules == 0) && nat_lt 0 l.fixed) (FixedLink at) _ zero.1 in
-    let known = both_true (nat_lt l.a.0 n) (nat_lt l.b.0 n) (not_true (nat_lt l.a.0 n && nat_lt l.b.0 n) ends.0) in
-    let large = or_false (is_large l.fixed || is_large l.setup) (list_any (λ m. is_large m.capacity || is_large m.cost) l.modules) amounts.0 in
-    let costs = or_false (is_large l.fixed) (is_large l.setup) large.0 in (
+    let known = and_parts (nat_lt l.a.0 n) (nat_lt l.b.0 n) (not_true (nat_lt l.a.0 n && nat_lt l.b.0 n) ends.0) in
+    let large = or_parts (is_large l.fixed || is_large l.setup) (list_any (λ m. is_large m.capacity || is_large m.cost) l.modules) amounts.0 in
+    let costs = or_parts (is_large l.fixed) (is_large l.setup) large.0 in (
       double.0,
       record {
         from = ltb-true l.a.0 n known.0;

@@ -1,6 +1,6 @@
 -- what the state keeps of a boundary is kept of priced lengths, and one violated right side is each
-use Rattle.std.proofs.Common.{◌≡◌, ◌≢◌, ℕ, zero, suc, ◌*◌, ◌<◌, ◌≤◌, List, [], ◌∷◌, Option, None, Some, Bool, true, false, cond, length, get_or, slice_index, refl, sym, ap, subst, ◌∙◌, arith, slice_get, sum_by, zip, unwrap_or}
-use Rattle.std.proofs.lemmas.List.{ext_get_or, get_or_default, length-map}
+use Rattle.std.proofs.Common.{◌≡◌, ◌≢◌, ℕ, zero, suc, ◌*◌, ◌<◌, ◌≤◌, List, [], ◌∷◌, Bool, true, false, cond, length, get_or, slice_index, refl, sym, subst, ◌∙◌, arith}
+use Rattle.std.proofs.lemmas.List.{get_or_default, length-map}
 use Rattle.net_core.specs.declared.demand.Demand.{Demand}
 use Rattle.net_core.specs.declared.network.Link.{Link}
 use Rattle.net_core.specs.declared.plan.Caps.{Caps}
@@ -8,35 +8,18 @@ use Rattle.net_core.specs.Graphs.{Graph, Joins}
 use Rattle.plan_terms.specs.Certificates.{IsRight}
 use Rattle.plan_terms.specs.Keeping.{Keeps}
 use Rattle.plan_terms.specs.Violations.{Violates}
-use Rattle.plan_terms.proofs.Distances.{distance_one}
+use Rattle.plan_terms.proofs.Distances.{right_once}
 use Rattle.metric_cut.specs.Bounded.{HaveBound}
 use Rattle.metric_cut.specs.declared.cut.Cut.{Cut}
 use Rattle.route_law.specs.PricedLengths.{ArePricedSomewhere}
 use Rattle.route_law.proofs.ZerosAndOnes.{zeros_and_ones_are_priced}
 use Rattle.node_sets.specs.Boundaries.{IsViolatedAt, crosses_boundary, boundary_lengths}
-
--- an item at each place
-item_at : {X : Type 0} (xs : List X) (k : ℕ) → k < length xs → (x : X) × (slice_get xs k ≡ Some x)
-item_at [] k lt = absurd (omega (arith, lt))
-item_at (x ∷ xs) zero lt = (x, refl)
-item_at (x ∷ xs) (suc k) lt = item_at xs k (omega (arith, lt))
-
--- lengths have one right side at demands
-one_right : (joins : ℕ → ℕ → ℕ → Type 0) (lengths : List ℕ) (demands : List Demand) (a b : ℕ) → IsRight joins lengths demands a → IsRight joins lengths demands b → a ≡ b
-one_right joins lengths demands a b first second =
-    first.sum
-    ∙ ap (λ far. sum_by (λ (p : Demand × Option ℕ). p.0.need * unwrap_or p.1 0) (zip demands far)) same
-    ∙ sym second.sum
-  where
-    same : first.far ≡ second.far
-    same = ext_get_or None first.far second.far (first.count ∙ sym second.count) (λ k lt.
-        let d = item_at demands k (omega (arith, lt, first.count)) in
-        distance_one joins lengths d.0.from.0 d.0.to.0 _ _ (first.each k d.0 d.1) (second.each k d.0 d.1))
+use Rattle.net_core.proofs.Lists.{get_some}
 
 pub violated_at : (g : Graph) (demands : List Demand) (caps : Caps) (cut : Cut) (right : ℕ) → IsRight (Joins g) cut.lengths demands right
     → Violates caps (record { state = cut.state; lengths = cut.lengths; right = right }) → IsViolatedAt g demands caps cut
 violated_at g demands caps cut right is violates other is_other =
-    subst (λ r. Violates caps (record { state = cut.state; lengths = cut.lengths; right = r })) (one_right (Joins g) cut.lengths demands right other is is_other) violates
+    subst (λ r. Violates caps (record { state = cut.state; lengths = cut.lengths; right = r })) (right_once (Joins g) cut.lengths demands right other is is_other) violates
 
 bit_low : (b : Bool) → cond b 1 0 ≤ 1
 bit_low true = omega arith

@@ -1,8 +1,7 @@
 -- from what the tests find to what a plan carries
-use Rattle.std.proofs.Common.{◌≡◌, ℕ, ◌*◌, ◌<◌, ◌≤◌, List, Some, All, length, get_or, refl, ap, subst, arith, slice_get, ⊎_elim}
+use Rattle.std.proofs.Common.{◌≡◌, ℕ, ◌*◌, ◌<◌, ◌≤◌, List, Some, All, length, get_or, ap, subst, arith, slice_get, ⊎_elim}
 use Rattle.std.proofs.lemmas.Bool.{cases_eq, cases_lt}
-use Rattle.std.proofs.lemmas.List.{get_or_default}
-use Rattle.std.proofs.lemmas.Option.{get_or_from_slice_get, slice_get_read, slice_get_within}
+use Rattle.std.proofs.lemmas.Option.{get_or_from_slice_get, slice_get_within, slice_get-get_or}
 use Rattle.net_core.specs.Cases.{Case, graph_in}
 use Rattle.net_core.specs.Graphs.{Joins}
 use Rattle.net_core.specs.declared.plan.Routing.{Routing}
@@ -12,13 +11,9 @@ use Rattle.module_choice.proofs.Carrying.{load_is_weight, load_none}
 use Rattle.plan_report.specs.Forms.{AreRoutingsInForm, IsFlowInForm}
 use Rattle.plan_checker.specs.Carried.{HasBadPath, IsOverloaded, IsUncarried}
 use Rattle.plan_checker.specs.Shares.{AreCarried}
-use Rattle.plan_checker.proofs.KeptLengths.{item_at}
 use Rattle.plan_checker.proofs.Places.{holds_read}
 use Rattle.plan_checker.specs.inner.Routes.{FollowPaths}
-
--- an item that is read stands there
-pub read_at : {X : Type 0} (xs : List X) (k : ℕ) (d : X) → k < length xs → slice_get xs k ≡ Some (get_or xs k d)
-read_at xs k d lt = slice_get_read xs (length xs) k (get_or xs k d) refl lt (get_or_default xs k d (get_or xs k d) lt)
+use Rattle.net_core.proofs.Lists.{get_some}
 
 -- flows in form that follow paths are flows
 pub are_flows : (p : Case) (routings : List Routing) → AreRoutingsInForm p.links p.listed p.demands routings → FollowPaths p routings → (s : ℕ) (r : Routing) → slice_get routings s ≡ Some r → All (IsFlow (Joins (graph_in p s)) p.demands) r.flows
@@ -31,7 +26,7 @@ are_flows p routings form paths s r at k d lt =
 -- what such flows bring onto links
 pub loads_are : (p : Case) (routings : List Routing) → AreRoutingsInForm p.links p.listed p.demands routings → FollowPaths p routings → (s : ℕ) (d : Routing) → s < length routings → (e : ℕ) → load (get_or routings s d).flows e ≡ weight (get_or routings s d).flows e
 loads_are p routings form paths s d lt e =
-    load_is_weight (graph_in p s) p.demands (get_or routings s d).flows e (are_flows p routings form paths s (get_or routings s d) (read_at routings s d lt))
+    load_is_weight (graph_in p s) p.demands (get_or routings s d).flows e (are_flows p routings form paths s (get_or routings s d) (slice_get-get_or routings s d lt))
 
 -- routings whose flows follow paths, which are met and within numbers, carry the demands
 pub carries_by : (p : Case) (scale : ℕ) (nums : List ℕ) (routings : List Routing) → length nums ≡ length p.links → AreRoutingsInForm p.links p.listed p.demands routings → FollowPaths p routings
@@ -62,7 +57,7 @@ carries_by p scale nums routings long form paths met within s r at =
 module _ (p : Case) (scale : ℕ) (nums : List ℕ) (routings : List Routing) (form : AreRoutingsInForm p.links p.listed p.demands routings) where
   pub carried_by : length nums ≡ length p.links → FollowPaths p routings → ((s k : ℕ) → IsUncarried p scale routings s k → ⊥) → ((s e : ℕ) → IsOverloaded nums routings s e → ⊥) → AreCarried p scale nums routings
   carried_by long paths met within s le =
-      let r = item_at routings s (omega (arith, le, form.long)) in
+      let r = get_some routings s (omega (arith, le, form.long)) in
       record { item = r.0; at = r.1; holds = carries_by p scale nums routings long form paths met within s r.0 r.1 }
 
   module _ (carried : AreCarried p scale nums routings) where

@@ -1,16 +1,15 @@
 -- lengths that a state keeps as they are, and their one right side
-use Rattle.std.proofs.Common.{◌≡◌, ◌≢◌, ℕ, zero, suc, ◌*◌, ◌<◌, List, [], ◌∷◌, Option, None, Some, All, length, get_or, refl, sym, ap, subst, ◌∙◌, arith, slice_get, sum_by, zip, unwrap_or, ⊎_elim}
+use Rattle.std.proofs.Common.{◌≡◌, ◌≢◌, ℕ, zero, ◌*◌, List, [], All, length, get_or, sym, ap, subst, arith, ⊎_elim}
 use Rattle.std.proofs.Math.Nat.{dvd-mul_right}
 use Rattle.std.proofs.lemmas.Bool.{cases_eq}
 use Rattle.std.proofs.lemmas.List.{ext_get_or, get_or_default}
 use Rattle.std.proofs.lemmas.Nat.Gcd.{dvd-zero, dvd_antisymm}
 use Rattle.std.specs.Int.{◌∣◌}
 use Rattle.net_core.specs.Graphs.{Graph, Survives}
-use Rattle.net_core.specs.declared.demand.Demand.{Demand}
 use Rattle.plan_terms.specs.Bounds.{IsGreatestDivisor}
-use Rattle.plan_terms.specs.Certificates.{AreKept, IsRight}
+use Rattle.plan_terms.specs.Certificates.{AreKept}
 use Rattle.plan_terms.specs.Keeping.{AreZero, Keeps}
-use Rattle.plan_terms.proofs.Distances.{distance_one}
+use Rattle.net_core.proofs.Lists.{get_some}
 
 module _ (g : Graph) (lengths : List ℕ) (kept : AreKept g lengths) where
   each_divided : (d : ℕ) → ((e : ℕ) → Survives g e → d ∣ get_or lengths e 0) → All (λ l. d ∣ l) lengths
@@ -45,24 +44,6 @@ module _ (g : Graph) (lengths : List ℕ) (kept : AreKept g lengths) where
           (λ zero. omega (arith, none, zero))
           (λ some. undivided e (kept.zero e some))
           (cases_eq (get_or lengths e 0) 0)
-
--- an item at each place
-pub item_at : {X : Type 0} (xs : List X) (k : ℕ) → k < length xs → (x : X) × (slice_get xs k ≡ Some x)
-item_at [] k lt = absurd (omega (arith, lt))
-item_at (x ∷ xs) zero lt = (x, refl)
-item_at (x ∷ xs) (suc k) lt = item_at xs k (omega (arith, lt))
-
--- a cut has one right side at demands
-pub right_one : (joins : ℕ → ℕ → ℕ → Type 0) (lengths : List ℕ) (demands : List Demand) (a b : ℕ) → IsRight joins lengths demands a → IsRight joins lengths demands b → a ≡ b
-right_one joins lengths demands a b first second =
-    first.sum
-    ∙ ap (λ far. sum_by (λ (p : Demand × Option ℕ). p.0.need * unwrap_or p.1 0) (zip demands far)) same
-    ∙ sym second.sum
-  where
-    same : first.far ≡ second.far
-    same = ext_get_or None first.far second.far (first.count ∙ sym second.count) (λ k lt.
-        let d = item_at demands k (omega (arith, lt, first.count)) in
-        distance_one joins lengths d.0.from.0 d.0.to.0 _ _ (first.each k d.0 d.1) (second.each k d.0 d.1))
 
 -- lengths of surviving links are kept where their greatest common divisor is 1
 pub kept_by : (g : Graph) (lengths : List ℕ) (d : ℕ) → length lengths ≡ length g.links → ((e : ℕ) → get_or lengths e 0 ≢ 0 → Survives g e) → IsGreatestDivisor lengths d → d ≡ 1 → AreKept g lengths

@@ -6,8 +6,7 @@ use Rattle.std.proofs.lemmas.List.Sums.{sum_by_push}
 use Rattle.std.proofs.lemmas.Option.{get_or_from_slice_get, slice_get_within}
 use Rattle.net_core.specs.Cases.{Case}
 use Rattle.std.proofs.Math.Logic.{∥∥₁_elim}
-use Rattle.std.proofs.Props.{props}
-use Rattle.net_core.specs.Network.{IsModule, IsNetwork}
+use Rattle.net_core.specs.Network.{IsModule}
 use Rattle.net_core.specs.declared.list.NoMemory.{NoMemory}
 use Rattle.net_core.specs.declared.network.Link.{Link}
 use Rattle.net_core.specs.declared.network.Module.{Module}
@@ -16,8 +15,8 @@ use Rattle.plan_types.specs.declared.plan.Plan.{Plan}
 use Rattle.plan_types.specs.declared.quality.Fractional.{Fractional}
 use Rattle.plan_types.specs.declared.quality.Share.{Share}
 use Rattle.plan_checker.specs.Shares.{AreCarried, GivesShare, IsShareOf, IsTight}
-use Rattle.plan_checker.proofs.KeptLengths.{item_at}
 use Rattle.module_choice.proofs.UnitPairs.{pair_once}
+use Rattle.net_core.proofs.Lists.{get_some}
 
 no_pair : (modules : List Module) (capacity cost : ℕ) → IsUnitPair modules capacity cost → modules ≡ [] → ⊥
 no_pair [] capacity cost pair none = let lt = pair.least.one.1 in omega (arith, lt)
@@ -47,7 +46,7 @@ module _ (links : List Link) (sound : All (λ l. All IsModule l.modules) links) 
     where
       alike : (e : ℕ) → e < length links → (get_or nums e 0 ≡ get_or others e 0) × (get_or first.costs e 0 ≡ get_or second.costs e 0)
       alike e lt =
-          let l = item_at links e lt in
+          let l = get_some links e lt in
           let same : get_or links e l.0 ≡ l.0 = get_or_from_slice_get links e l.0 l.0 l.1 in
           share_alike l.0 share.scale (get_or share.units e 0) _ _ _ _ (subst (λ (x : Link). All IsModule x.modules) same (sound e l.0 lt)) (first.each e l.0 l.1) (second.each e l.0 l.1)
 
@@ -122,7 +121,3 @@ tight_by p plan f nums cost sound given raw (Err e) h = tt
 pub not_tight : (p : Case) (plan : Plan) (f : Fractional) (nums : List ℕ) (cost : ℕ) → All (λ l. All IsModule l.modules) p.links → GivesShare p.links f.share nums cost → (cost * plan.raw_den ≡ plan.raw_num * f.share.scale → ⊥) → IsTight p plan f → ⊥
 not_tight p plan f nums cost sound given other tight =
     other (subst (λ c. c * plan.raw_den ≡ plan.raw_num * f.share.scale) (share_once p.links sound f.share tight.nums nums tight.cost cost tight.given given).1 tight.raw)
-
--- the modules of a network are sound
-pub modules_sound : (nodes : List (List ℕ)) (links : List Link) → ∥ IsNetwork nodes links ∥₁ → All (λ l. All IsModule l.modules) links
-modules_sound nodes links checked = ∥∥₁_elim checked (hlevel props) (λ net. λ k d lt. (net.sound k d lt).each)

@@ -38,7 +38,7 @@ once_differ None (Some price) x y e same = absurd (let n : 2 ≡ 1 = ap length e
 once_differ (Some unit) None x y e same = absurd (let n : 2 ≡ 1 = ap length e in omega (arith, n))
 once_differ (Some unit) (Some price) x y e same = pairwise (pointwise ◌==◌ unit price) unit price x y refl e same
 
-once_few : (unit price : Option (List ℕ)) → length (each_once unit price) ≤ 2
+pub once_few : (unit price : Option (List ℕ)) → length (each_once unit price) ≤ 2
 once_few None None = omega arith
 once_few None (Some price) = omega arith
 once_few (Some unit) None = omega arith

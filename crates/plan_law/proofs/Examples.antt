@@ -1,8 +1,7 @@
 -- the definitions on a network of one link, worked out by hand
-use Rattle.std.proofs.Common.{◌≡◌, ◌≢◌, ℕ, zero, suc, ◌+◌, ◌*◌, ◌<◌, ◌≤◌, ◌⊎◌, List, [], ◌∷◌, All, Some, None, Contains, false, ◌||◌, cond, length, get_or, slice_get, slice_index, refl, sym, ap, arith, subst, inl, inr}
+use Rattle.std.proofs.Common.{◌≡◌, ◌≢◌, ℕ, zero, suc, ◌+◌, ◌*◌, ◌<◌, ◌≤◌, ◌⊎◌, List, [], ◌∷◌, Some, None, Contains, false, ◌||◌, cond, length, get_or, slice_get, slice_index, refl, sym, ap, arith, subst, inl, inr}
 use Rattle.std.proofs.Math.Nat.{eq-one_of_dvd-one}
 use Rattle.std.proofs.lemmas.Bool.{ne_eqb}
-use Rattle.std.proofs.lemmas.List.Elements.{All-cons, All-nil}
 use Rattle.module_prices.specs.declared.cheapest.UnitPair.{UnitPair}
 use Rattle.net_core.specs.declared.demand.Demand.{Demand}
 use Rattle.net_core.specs.declared.ids.LinkId.{LinkId}
@@ -32,6 +31,7 @@ use Rattle.plan_law.specs.LoosePlans.{IsWorkedPlan}
 use Rattle.plan_law.specs.TightPlans.{CoversShare, IsTightPlan}
 use Rattle.plan_law.specs.WorkedLists.{HasCut, HasOpeningOf, IsBeginning, IsOpeningCut, IsWorkedList, Lacks}
 use Rattle.plan_law.proofs.Rounds.{begun_worked}
+use Rattle.net_core.proofs.Lists.{all_one}
 
 -- ---- a link between two nodes, with a module of 10000 for 5000, and a demand of 12000 across it
 
@@ -57,12 +57,8 @@ the_path = record { 0 = 0 } ∷ []
 abbrev the_pairs : List UnitPair
 the_pairs = record { capacity = 2; cost = 1 } ∷ []
 
--- what holds of the one item of a list
-first : {X : Type 0} (P : X → Type 0) (x : X) → P x → All P (x ∷ [])
-first P x p = All-cons P x [] p (All-nil P)
-
 least_module : HasLeastUnitCost (the_module ∷ []) the_module
-least_module = record { one = (0, omega arith, refl); least = first (λ o. 5000 * o.capacity ≤ o.cost * 10000) the_module (omega arith) }
+least_module = record { one = (0, omega arith, refl); least = all_one (λ o. 5000 * o.capacity ≤ o.cost * 10000) the_module (omega arith) }
 
 units : AreUnitPairs the_case.links the_pairs
 units = record { count = refl; each = λ e l p at of. pair e l p at of }
@@ -167,10 +163,10 @@ begins : IsBeginning the_case [] (the_cut ∷ [])
 begins = record {
   opened = the_cut ∷ [];
   whole = refl;
-  opening = first (IsOpeningCut the_case) the_cut (record { is_cut = is_cut; lengths = (1 ∷ []) ∷ []; opening = opening; among = (0, omega arith, refl) });
-  lacking = first (Lacks []) the_cut (λ k d lt. absurd (omega (arith, lt)));
+  opening = all_one (IsOpeningCut the_case) the_cut (record { is_cut = is_cut; lengths = (1 ∷ []) ∷ []; opening = opening; among = (0, omega arith, refl) });
+  lacking = all_one (Lacks []) the_cut (λ k d lt. absurd (omega (arith, lt)));
   ordered = λ i j d ij lj. absurd (omega (arith, ij, lj));
-  every = λ s le. subst (λ t. HasOpeningOf the_case (the_cut ∷ []) t) (none s le) (record { lengths = (1 ∷ []) ∷ []; opening = opening; each = first (λ ls. HasCut (the_cut ∷ []) 0 ls) (1 ∷ []) (0, the_cut, omega arith, refl, (refl, refl)) });
+  every = λ s le. subst (λ t. HasOpeningOf the_case (the_cut ∷ []) t) (none s le) (record { lengths = (1 ∷ []) ∷ []; opening = opening; each = all_one (λ ls. HasCut (the_cut ∷ []) 0 ls) (1 ∷ []) (0, the_cut, omega arith, refl, (refl, refl)) });
 }
   where
     none : (s : ℕ) → s ≤ 0 → 0 ≡ s
@@ -211,7 +207,7 @@ the_plan = record {
 carries : Carries (Joins here) (the_demand ∷ []) 1 (12000 ∷ []) the_routing
 carries = record {
   den = omega arith;
-  flows = first (IsFlow (Joins here) (the_demand ∷ [])) the_flow (record { positive = omega arith; of = the_demand; at = refl; path = path });
+  flows = all_one (IsFlow (Joins here) (the_demand ∷ [])) the_flow (record { positive = omega arith; of = the_demand; at = refl; path = path });
   met = met;
   within = within;
 }
@@ -259,9 +255,9 @@ tight = record {
   units = units;
   share = record { positive = omega arith; long = refl; lowest = λ d scale all. eq-one_of_dvd-one scale };
   raw = refl;
-  carried = record { states = refl; lowest = first IsLowestRouting the_routing (λ d den all. eq-one_of_dvd-one den); each = carried };
+  carried = record { states = refl; lowest = all_one IsLowestRouting the_routing (λ d den all. eq-one_of_dvd-one den); each = carried };
   cost = record { counts = (2 ∷ []) ∷ []; covers = covers; at_most = omega arith };
 }
 
 worked_plan : IsWorkedPlan the_case [] (the_cut ∷ []) the_plan
-worked_plan = record { pairs = the_pairs; rounds = []; worked = worked; certificate = first (λ (l : CertLine). Contains (the_cut ∷ []) l.cut) the_line (0, omega arith, refl); quality = tight }
+worked_plan = record { pairs = the_pairs; rounds = []; worked = worked; certificate = all_one (λ (l : CertLine). Contains (the_cut ∷ []) l.cut) the_line (0, omega arith, refl); quality = tight }

@@ -1,16 +1,14 @@
 -- a round behind a worked list makes a worked list
-use Rattle.std.proofs.Common.{◌≡◌, ◌≢◌, ℕ, ◌+◌, ◌*◌, ◌<◌, ◌≤◌, List, [], ◌∷◌, ◌++◌, Option, None, All, Contains, length, min, take, sum_by, zip, unwrap_or, get_or, refl, sym, ap, ◌∙◌, arith, subst}
-use Rattle.std.proofs.lemmas.List.{append_assoc, ext_get_or, length-append, length-take}
+use Rattle.std.proofs.Common.{◌≡◌, ◌≢◌, ℕ, ◌+◌, ◌*◌, ◌<◌, ◌≤◌, List, [], ◌∷◌, ◌++◌, All, Contains, length, min, take, sum_by, zip, get_or, refl, sym, ap, ◌∙◌, arith, subst}
+use Rattle.std.proofs.lemmas.List.{append_assoc, length-append, length-take}
 use Rattle.std.proofs.lemmas.List.Elements.{All-append, All-take, All-weaker, Contains-append_right, Contains-get_or}
-use Rattle.std.proofs.lemmas.Option.{slice_get-get_or}
-use Rattle.net_core.specs.declared.demand.Demand.{Demand}
 use Rattle.net_core.specs.declared.plan.CutLine.{CutLine}
 use Rattle.net_core.specs.Cases.{Case, graph_in}
 use Rattle.net_core.specs.Graphs.{Joins}
 use Rattle.module_prices.specs.declared.cheapest.UnitPair.{UnitPair}
 use Rattle.plan_terms.specs.Certificates.{IsCut, IsRight}
 use Rattle.plan_terms.specs.Violations.{Violates}
-use Rattle.plan_terms.proofs.Distances.{distance_one}
+use Rattle.plan_terms.proofs.Distances.{right_once}
 use Rattle.plan_types.specs.declared.quality.Share.{Share}
 use Rattle.master_law.specs.LeastShares.{IsLeastShare}
 use Rattle.master_law.specs.MasterPrograms.{IsSameCut}
@@ -19,20 +17,6 @@ use Rattle.master_law.proofs.Shares.{least_violates_none}
 use Rattle.plan_law.specs.WorkedLists.{Round, after_rounds, AreDifferentCuts, AreRounds, cut_short, IsBeginning, IsFoundCut, IsRound, IsWorkedList}
 use Rattle.plan_law.proofs.Begun.{beginning_cuts, beginning_differ, opened_differ}
 use Rattle.plan_law.proofs.Pairs.{pairs_append, pairs_take}
-
--- there is one right side
-right_once : (joins : ℕ → ℕ → ℕ → Type 0) (lengths : List ℕ) (demands : List Demand) (a b : ℕ) → IsRight joins lengths demands a → IsRight joins lengths demands b → a ≡ b
-right_once joins lengths demands a b first second =
-    first.sum ∙ (ap (λ far. sum_by (λ (p : Demand × Option ℕ). p.0.need * unwrap_or p.1 0) (zip demands far)) same ∙ sym second.sum)
-  where
-    no_demand : Demand
-    no_demand = record { name = []; from = record { 0 = 0 }; to = record { 0 = 0 }; need = 0 }
-
-    same : first.far ≡ second.far
-    same = ext_get_or None first.far second.far (first.count ∙ sym second.count) (λ k lt.
-        let at = slice_get-get_or demands k no_demand (subst (λ n. k < n) first.count lt) in
-        let d = get_or demands k no_demand in
-        distance_one joins lengths d.from.0 d.to.0 _ _ (first.each k d at) (second.each k d at))
 
 module _ (p : Case) (pairs : List UnitPair) (units : AreUnitPairs p.links pairs) where
   -- a cut that is found at a least share of cuts isn't one of them

@@ -9,15 +9,10 @@ use Rattle.plan_types.specs.declared.certificate.CertLine.{CertLine}
 use Rattle.plan_types.specs.declared.report.Outcome.TheVariants.{Planned}
 use Rattle.plan_report.specs.Forms.{AreLinkNumbers, AreRoutingsInForm, IsCertificateInForm, IsCertificateLineInForm, IsCutInForm, IsEntryInForm, IsFlowInForm, IsOfPool, IsOutcomeInForm, IsPlanInForm, IsReportInForm, IsRoutingInForm, IsShareInForm}
 use Rattle.plan_report.specs.inner.Examples.{idle_certificate, idle_cut, idle_plan, idle_report, idle_routing}
-
-one : {X : Type 0} (P : X → Type 0) (x : X) → P x → All P (x ∷ [])
-one P x p = All-cons P x [] p (All-nil P)
+use Rattle.net_core.proofs.Lists.{all_one}
 
 three : {X : Type 0} (P : X → Type 0) (x : X) → P x → All P (x ∷ x ∷ x ∷ [])
-three P x p = All-cons P x (x ∷ x ∷ []) p (All-cons P x (x ∷ []) p (one P x p))
-
-nothing : {X : Type 0} (P : X → Type 0) → All P []
-nothing P = All-nil P
+three P x p = All-cons P x (x ∷ x ∷ []) p (All-cons P x (x ∷ []) p (all_one P x p))
 
 entry_in_form : IsEntryInForm (idle_cut ∷ []) (Pooled 0 idle_cut.state idle_cut.lengths)
 entry_in_form = record { most = omega arith; same_state = refl; same_lengths = refl }
@@ -26,16 +21,16 @@ cut_in_form : IsCutInForm (triangle_links 0) [] idle_cut
 cut_in_form = record { state = omega arith; lengths = record { long = refl; each = three (λ n. n < 2 ^ 32) 1 (omega arith) }; right = omega arith }
 
 routing_in_form : IsRoutingInForm (triangle_links 0) [] idle_routing
-routing_in_form = record { positive = omega arith; den = omega arith; few = omega arith; flows = nothing (IsFlowInForm (triangle_links 0) []) }
+routing_in_form = record { positive = omega arith; den = omega arith; few = omega arith; flows = All-nil (IsFlowInForm (triangle_links 0) []) }
 
 idle_routings_in_form : AreRoutingsInForm (triangle_links 0) [] [] (idle_routing ∷ [])
-idle_routings_in_form = record { long = refl; each = one (IsRoutingInForm (triangle_links 0) []) idle_routing routing_in_form }
+idle_routings_in_form = record { long = refl; each = all_one (IsRoutingInForm (triangle_links 0) []) idle_routing routing_in_form }
 
 share_in_form : IsShareInForm (triangle_links 0) (record { scale = 1; units = 0 ∷ 0 ∷ 0 ∷ [] })
 share_in_form = record { positive = omega arith; scale = omega arith; units = record { long = refl; each = three (λ n. n < 2 ^ 62) 0 (omega arith) } }
 
 certificate_in_form : IsCertificateInForm (triangle_links 0) [] idle_certificate
-certificate_in_form = record { positive = omega arith; den = omega arith; few = omega arith; lines = nothing (IsCertificateLineInForm (triangle_links 0) []) }
+certificate_in_form = record { positive = omega arith; den = omega arith; few = omega arith; lines = All-nil (IsCertificateLineInForm (triangle_links 0) []) }
 
 plan_in_form : IsPlanInForm (letters 65 3) (triangle_links 0) [] idle_plan
 plan_in_form = record {
@@ -44,7 +39,7 @@ plan_in_form = record {
   demands = tt;
   counts = (refl, (refl, (refl, tt)));
   limits = record {
-    few = three (λ (c : List ℕ). All (λ n. n < 2 ^ 44) c) (0 ∷ []) (one (λ n. n < 2 ^ 44) 0 (omega arith));
+    few = three (λ (c : List ℕ). All (λ n. n < 2 ^ 44) c) (0 ∷ []) (all_one (λ n. n < 2 ^ 44) 0 (omega arith));
     small = three (λ n. n < 2 ^ 46) 0 (omega arith);
   };
   cost = omega arith;
@@ -61,21 +56,21 @@ outcome_in_form : IsOutcomeInForm (letters 65 3) (triangle_links 0) [] (idle_cut
 outcome_in_form = record {
   command = record { some_caller = omega arith; most_caller = omega arith; some_serial = omega arith; most_serial = omega arith; most_version = omega arith; most_position = omega arith };
   plan = plan_in_form;
-  pooled = nothing (λ (l : CertLine). IsOfPool (idle_cut ∷ []) l.spot l.cut);
+  pooled = All-nil (λ (l : CertLine). IsOfPool (idle_cut ∷ []) l.spot l.cut);
 }
 
 pub idle_in_form : IsReportInForm (letters 65 3) (triangle_links 0) [] idle_report
 idle_in_form = record {
   few_entries = omega arith;
-  entries = one (IsEntryInForm (idle_cut ∷ [])) (Pooled 0 idle_cut.state idle_cut.lengths) entry_in_form;
+  entries = all_one (IsEntryInForm (idle_cut ∷ [])) (Pooled 0 idle_cut.state idle_cut.lengths) entry_in_form;
   few_lines = omega arith;
-  pool = one (IsCutInForm (triangle_links 0) []) idle_cut cut_in_form;
+  pool = all_one (IsCutInForm (triangle_links 0) []) idle_cut cut_in_form;
   few_outcomes = omega arith;
-  outcomes = one (IsOutcomeInForm (letters 65 3) (triangle_links 0) [] (idle_cut ∷ [])) (Planned 1 1 idle_plan) outcome_in_form;
+  outcomes = all_one (IsOutcomeInForm (letters 65 3) (triangle_links 0) [] (idle_cut ∷ [])) (Planned 1 1 idle_plan) outcome_in_form;
 }
 
 pub three_lengths : (links : List Link) → length links ≡ 3 → AreLinkNumbers links (2 ^ 32) (1 ∷ 0 ∷ 2 ∷ [])
 three_lengths links e = record {
   long = sym e;
-  each = All-cons (λ n. n < 2 ^ 32) 1 (0 ∷ 2 ∷ []) (omega arith) (All-cons (λ n. n < 2 ^ 32) 0 (2 ∷ []) (omega arith) (one (λ n. n < 2 ^ 32) 2 (omega arith)));
+  each = All-cons (λ n. n < 2 ^ 32) 1 (0 ∷ 2 ∷ []) (omega arith) (All-cons (λ n. n < 2 ^ 32) 0 (2 ∷ []) (omega arith) (all_one (λ n. n < 2 ^ 32) 2 (omega arith)));
 }

@@ -1,36 +1,21 @@
 -- cuts of the case have bounds of their own, and the modules of a network are sound
-use Rattle.std.proofs.Common.{◌≡◌, ℕ, zero, suc, ◌<◌, ◌⊎◌, inl, inr, ⊎_elim, List, [], ◌∷◌, All, Any, get_or, refl, subst, sym, arith}
+use Rattle.std.proofs.Common.{◌≡◌, zero, ⊎_elim, List, [], All, get_or, subst, sym, arith}
 use Rattle.std.specs.Int.{◌∣◌}
 use Rattle.std.proofs.Math.Logic.{∥∥₁_elim}
 use Rattle.std.proofs.Props.{props}
-use Rattle.std.proofs.lemmas.List.Elements.{All-cons, All-nil, All-weaker}
+use Rattle.std.proofs.lemmas.List.Elements.{All-weaker}
 use Rattle.std.proofs.lemmas.Nat.Gcd.{dvd-zero}
 use Rattle.net_core.specs.declared.journal.Entry.{Entry}
 use Rattle.net_core.specs.declared.network.Link.{Link}
 use Rattle.net_core.specs.declared.plan.CutLine.{CutLine}
 use Rattle.net_core.specs.Cases.{Case}
-use Rattle.net_core.specs.Network.{IsModule, IsNetwork}
 use Rattle.plan_terms.specs.Certificates.{IsCut}
 use Rattle.metric_cut.specs.Bounded.{HaveBound}
 use Rattle.plan_rounds.specs.inner.Listing.{AreListed}
 use Rattle.plan_rounds.specs.declared.candidates.Candidates.{Candidates}
+use Rattle.net_core.proofs.Lists.{positive_or_none}
 
-pub modules_sound : (nodes : List (List ℕ)) (links : List Link) → ∥ IsNetwork nodes links ∥₁ → All (λ l. All IsModule l.modules) links
-modules_sound nodes links checked e l lt k m inside = record {
-  carries = ∥∥₁_elim checked (hlevel props) (λ net. ((net.sound e l lt).each k m inside).carries);
-  capacity = ∥∥₁_elim checked (hlevel props) (λ net. ((net.sound e l lt).each k m inside).capacity);
-  cost = ∥∥₁_elim checked (hlevel props) (λ net. ((net.sound e l lt).each k m inside).cost);
-}
-
-positive_or_none : (xs : List ℕ) → Any (λ x. 0 < x) xs ⊎ All (λ x. x ≡ 0) xs
-positive_or_none [] = inr (All-nil (λ x. x ≡ 0))
-positive_or_none (zero ∷ xs) = ⊎_elim
-    (λ (some : Any (λ x. 0 < x) xs). inl (suc some.0, some.1, omega (arith, some.2), some.3, some.4))
-    (λ none. inr (All-cons (λ x. x ≡ 0) 0 xs refl none))
-    (positive_or_none xs)
-positive_or_none (suc n ∷ xs) = inl (0, suc n, omega arith, refl, omega arith)
-
-has_bound : (p : Case) (cut : CutLine) → ∥ IsCut p cut ∥₁ → HaveBound p.links cut.lengths
+pub has_bound : (p : Case) (cut : CutLine) → ∥ IsCut p cut ∥₁ → HaveBound p.links cut.lengths
 has_bound p cut told = record {
   count = ∥∥₁_elim told (hlevel props) (λ is. is.kept.count);
   positive = ⊎_elim

@@ -26,8 +26,9 @@ use Rattle.separator.proofs.Answering.{line_is}
 use Rattle.plan_rounds.specs.WorkedRounds.{IsPoolOf, StandAtSpots}
 use Rattle.plan_rounds.specs.inner.Listing.{AreFirstSpots, AreListed, PutsLine, TakesCut}
 use Rattle.plan_rounds.specs.declared.candidates.Candidates.{Candidates}
-use Rattle.separator.proofs.Pooling.{cuts_both, get_front}
+use Rattle.separator.proofs.Pooling.{cuts_both}
 use Rattle.plan_rounds.proofs.Seeing.{cuts_differ, stand_later, stand_more}
+use Rattle.net_core.proofs.Lists.{get_front}
 
 -- the line of a cut of the case's network is a cut of the case
 pub line_is_cut : (p : Case) (cut : Cut) (line : CutLine) → IsCutOf (graph_in p cut.state.0) cut → IsLineAt p.demands cut line → IsCut p line

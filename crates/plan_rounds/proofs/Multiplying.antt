@@ -1,6 +1,6 @@
 -- flows that are multiplied one after another
 use Rattle.std.proofs.Common.{◌≡◌, ℕ, zero, suc, ◌+◌, ◌-◌, ◌*◌, ◌^◌, ◌<◌, ◌≤◌, ◌⊎◌, ◌++◌, List, [], ◌∷◌, All, None, Some, length, get_or, map, take, slice_get, slice_set, remove, refl, sym, ap, ◌∙◌, subst, arith, ⊎_elim}
-use Rattle.std.proofs.lemmas.List.{append_assoc, append-nil, get_or-set_other, length-set, map-append, take_more, take_more_set, take_all}
+use Rattle.std.proofs.lemmas.List.{append_assoc, append-nil, get_or-set_other, length-set, map-append, take_more, take_more_set, take_all, get_or_default}
 use Rattle.net_core.specs.declared.plan.Flow.{Flow}
 use Rattle.route_law.specs.Routings.{flow_times}
 
@@ -13,11 +13,6 @@ pub record AreMultiplied (factor n : ℕ) (old new : List Flow) : Type 0 where
 pub multiplied_none : (factor : ℕ) (flows : List Flow) → AreMultiplied factor 0 flows flows
 multiplied_none factor flows = record { count = refl; done = refl; rest = λ k d le. refl }
 
-get_any : {X : Type 0} (xs : List X) (i : ℕ) (d e : X) → i < length xs → get_or xs i d ≡ get_or xs i e
-get_any [] i d e lt = absurd (omega (arith, lt))
-get_any (x ∷ xs) zero d e lt = refl
-get_any (x ∷ xs) (suc i) d e lt = get_any xs i d e (omega (arith, lt))
-
 swap : (a b : ℕ) → a * b ≡ b * a
 swap a b = omega arith
 
@@ -27,7 +22,7 @@ pub multiplied_write : (factor n : ℕ) (old new : List Flow) (d e : Flow) → n
 multiplied_write factor n old new d e lt sofar =
     let inside : n < length old = omega (arith, lt, sofar.count) in
     let here : get_or new n d ≡ get_or old n d = sofar.rest n d (omega arith) in
-    let there : get_or new n e ≡ get_or old n d = get_any new n e d lt ∙ here in
+    let there : get_or new n e ≡ get_or old n d = get_or_default new n e d lt ∙ here in
     let num : (get_or new n e).num * factor ≡ factor * (get_or old n d).num = ap (λ (f : Flow). f.num * factor) there ∙ swap (get_or old n d).num factor in
     let written : record { demand = (get_or new n d).demand; path = (get_or new n d).path; num = (get_or new n e).num * factor } ≡ flow_times factor (get_or old n d) =
     ap (λ m. record { demand = (get_or new n d).demand; path = (get_or new n d).path; num = m }) num ∙ ap (λ (f : Flow). record { demand = f.demand; path = f.path; num = factor * (get_or old n d).num }) here in

@@ -1,6 +1,5 @@
 -- opening cuts, taken one after another
-use Rattle.std.proofs.Common.{◌≡◌, ℕ, ◌+◌, ◌≤◌, ⊎_elim, List, [], ◌∷◌, ◌++◌, All, Bool, true, false, cond, Option, Some, None, ◌==◌, length, map, sym, ap, subst, ◌∙◌, arith}
-use Rattle.std.specs.Cmp.Lexicographic.{pointwise}
+use Rattle.std.proofs.Common.{◌≡◌, ℕ, ◌+◌, ◌≤◌, ⊎_elim, List, [], ◌∷◌, ◌++◌, All, Bool, true, false, cond, length, map, sym, ap, subst, ◌∙◌, arith}
 use Rattle.std.proofs.lemmas.List.{append_assoc, append-nil, length-append, length-map}
 use Rattle.std.proofs.lemmas.List.Elements.{All-tail}
 use Rattle.net_core.specs.declared.demand.Demand.{Demand}
@@ -12,7 +11,7 @@ use Rattle.metric_cut.specs.Cuts.{IsCutOf}
 use Rattle.metric_cut.specs.declared.cut.Cut.{Cut}
 use Rattle.plan_law.specs.WorkedLists.{HasCut}
 use Rattle.plan_law.specs.inner.Openings.{IsOpenedTo}
-use Rattle.plan_law.proofs.Begun.{opened_known, opened_new, opened_state}
+use Rattle.plan_law.proofs.Begun.{opened_known, opened_new, opened_state, once_few}
 use Rattle.plan_rounds.specs.inner.Listing.{TakesCut, TakesCuts}
 use Rattle.plan_rounds.proofs.Listing.{line_is_cut}
 
@@ -55,12 +54,6 @@ cond_few : {X : Type 0} (b : Bool) (xs ys : List X) → length xs ≤ 2 → leng
 cond_few true xs ys one two = one
 cond_few false xs ys one two = two
 
-each_few : (unit price : Option (List ℕ)) → length (each_once unit price) ≤ 2
-each_few None None = omega arith
-each_few None (Some p) = omega arith
-each_few (Some u) None = omega arith
-each_few (Some u) (Some p) = cond_few (pointwise ◌==◌ u p) (u ∷ []) (u ∷ p ∷ []) (omega arith) (omega arith)
-
 takes_few : (demands : List Demand) (cuts : List Cut) (old new : List CutLine) → TakesCuts demands cuts old new → length new ≤ length old + length cuts
 takes_few demands [] old new takes = let same : length old ≡ length new = ap length takes in omega (arith, same)
 takes_few demands (cut ∷ cuts) old new takes =
@@ -75,4 +68,4 @@ pub state_few : (g : Graph) (demands : List Demand) (cuts : List Cut) (old new :
 state_few g demands cuts old new opening takes =
     let lengths : Cut → List ℕ = λ c. c.lengths in
     let same : length (lengths_of_cuts cuts) ≡ length (each_once opening.unit opening.price) = ap length opening.are in
-    omega (arith, takes_few demands cuts old new takes, each_few opening.unit opening.price, same, length-map cuts lengths)
+    omega (arith, takes_few demands cuts old new takes, once_few opening.unit opening.price, same, length-map cuts lengths)

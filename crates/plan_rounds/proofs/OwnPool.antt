@@ -1,7 +1,7 @@
 -- a separator that alone writes its history: what it pools is a worked list
 use Rattle.std.proofs.Common.{◌≡◌, ◌≢◌, ℕ, zero, suc, ◌+◌, ◌<◌, ◌≤◌, ◌⊎◌, inl, inr, ⊎_elim, List, [], ◌∷◌, ◌++◌, All, AllPairs, Contains, get_or, length, map, drop, refl, sym, ap, subst, ◌∙◌, arith}
 use Rattle.std.proofs.Math.Seq.{take-length}
-use Rattle.std.proofs.lemmas.List.{append-nil, get_or_append_left, get_or-append-add, get_or-map, length-append, length-map, map-append}
+use Rattle.std.proofs.lemmas.List.{append-nil, get_or_append_left, get_or-append-add, get_or-map, length-append, length-map, map-append, nil_from_length}
 use Rattle.std.proofs.Math.Seq.{take-length}
 use Rattle.std.proofs.lemmas.List.Elements.{All-cons, All-head, All-nil, All-tail, All-weaker}
 use Rattle.std.proofs.Math.Seq.{take-length}
@@ -36,6 +36,7 @@ use Rattle.plan_rounds.specs.inner.Listing.{PutsLine}
 use Rattle.plan_rounds.specs.declared.candidates.Candidates.{Candidates}
 use Rattle.separator.proofs.Pooling.{cuts_both}
 use Rattle.plan_rounds.proofs.Seeing.{cuts_differ}
+use Rattle.net_core.proofs.Lists.{front_all}
 
 -- ---- what is the separator's own
 
@@ -60,10 +61,6 @@ part_whole (x ∷ xs) (y ∷ ys) part le = ⊎_elim
 drop_front : {X : Type 0} (xs ys : List X) → drop (length xs) (xs ++ ys) ≡ ys
 drop_front [] ys = refl
 drop_front (x ∷ xs) ys = drop_front xs ys
-
-front_all : {X : Type 0} (P : X → Type 0) (xs ys : List X) → All P (xs ++ ys) → All P xs
-front_all P [] ys all = All-nil P
-front_all P (x ∷ xs) ys all = All-cons P x xs (All-head P x (xs ++ ys) all) (front_all P xs ys (All-tail P x (xs ++ ys) all))
 
 module _ (h o h1 o1 : List Entry) (part : IsPartOf o h) (more : SeesMore h o h1 o1) (alone : IsAlone h1 o1) where
   long : length h + length more.further ≡ length o + length more.committed
@@ -110,9 +107,6 @@ none_more : (xs : List (ℕ × List ℕ)) (cut : ℕ × List ℕ) → AllPairs (
 none_more xs cut different at =
     different at.0 (length xs + 0) cut (omega (arith, at.1)) (omega (arith, length-append xs (cut ∷ [])))
     (get_or_append_left xs (cut ∷ []) cut at.0 at.1 ∙ (at.2 ∙ sym (get_or-append-add xs (cut ∷ []) 0 cut)))
-
-nothing_within : {X : Type 0} (x : X) → Contains [] x → ⊥
-nothing_within x at = omega (arith, at.1)
 
 module _ (net : Network) (states : States) (h o h1 o1 : List Entry) (cut : ℕ × List ℕ) (spot : Spot) (lines : List CutLine) (part : IsPartOf o h) (more : SeesMore h o h1 o1)
     (seen : IsSeenHistory net states h1 o1) (only : All (λ c. c ≡ cut) (cuts_since o o1)) (at : IsSpotIn h1 cut spot) (alone : IsAlone h1 o1) (few : length lines ≤ 4000) (same : cuts_of h ≡ map cut_of_line lines) where
@@ -228,10 +222,6 @@ pub record IsRoundOfPool (p : Case) (pairs : List UnitPair) (old_made : List Cut
   pub are : map cut_of_line found ≡ cuts
   pub are_cuts : All (IsCut p) found
 
-nothing_more : {X : Type 0} (xs : List X) → length xs ≡ 0 → xs ≡ []
-nothing_more [] none = refl
-nothing_more (x ∷ xs) none = absurd (omega (arith, none))
-
 -- the cuts that are committed at a least share of the list are a round of the pool's own list
 pub pool_round : (p : Case) (pairs : List UnitPair) (caps : Caps) (pool : List (ℕ × List ℕ)) (lines : List CutLine) (share : Share) (cuts : List (ℕ × List ℕ))
     → (old : IsPoolOfList p pairs pool lines) → IsLeastShare p.links pairs lines share → ((line : CutLine) → IsSeparatingCut p caps line → IsFoundCut p pairs share line)
@@ -261,7 +251,7 @@ pool_round p pairs caps pool lines share cuts old least found separates differen
       are_cuts = All-weaker (IsFoundCut p pairs share) (IsCut p) (λ l f. f.is_cut) ls is_found;
     })
     (λ full.
-    let none : cuts ≡ [] = nothing_more cuts (omega (arith, few, full, length-append pool cuts)) in
+    let none : cuts ≡ [] = nil_from_length cuts (omega (arith, few, full, length-append pool cuts)) in
     record {
       rounds = old.rounds;
       made = old.made;

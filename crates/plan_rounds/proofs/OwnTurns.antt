@@ -1,12 +1,11 @@
 -- a turn of a separator that alone writes its history
-use Rattle.std.proofs.Common.{◌≡◌, ◌≢◌, ℕ, zero, suc, ◌+◌, ◌*◌, ◌<◌, ◌≤◌, ◌⊎◌, inl, inr, ⊎_elim, List, [], ◌∷◌, ◌++◌, All, AllPairs, Contains, Option, None, get_or, length, map, take, unwrap_or, sum_by, zip, refl, sym, ap, subst, ◌∙◌, arith}
+use Rattle.std.proofs.Common.{◌≡◌, ◌≢◌, ℕ, zero, suc, ◌+◌, ◌<◌, ◌≤◌, ◌⊎◌, inl, inr, ⊎_elim, List, [], ◌∷◌, ◌++◌, All, AllPairs, Contains, get_or, length, map, take, refl, sym, ap, subst, ◌∙◌, arith}
 use Rattle.std.proofs.Math.Logic.{∥∥₁_elim}
 use Rattle.std.proofs.Props.{props}
 use Rattle.std.proofs.lemmas.Bool.{cases_eq}
-use Rattle.std.proofs.lemmas.List.{ext_get_or, get_or-map, length-append, length-map}
+use Rattle.std.proofs.lemmas.List.{get_or-map, length-append, length-map, take_all}
 use Rattle.std.proofs.lemmas.List.Elements.{All-append, All-contains, All-map, All-nil, All-weaker, Contains-append_cases, Contains-append_left, Contains-append_right, Contains-get_or}
 use Rattle.std.proofs.lemmas.Option.{get_or_from_slice_get, slice_get-get_or, slice_get_within}
-use Rattle.net_core.specs.declared.demand.Demand.{Demand}
 use Rattle.net_core.specs.declared.journal.Entry.{Entry}
 use Rattle.net_core.specs.declared.network.Network.{Network}
 use Rattle.net_core.specs.declared.plan.CutLine.{CutLine}
@@ -15,7 +14,7 @@ use Rattle.net_core.specs.Cases.{Case, graph_in}
 use Rattle.net_core.specs.Graphs.{Joins}
 use Rattle.module_prices.specs.declared.cheapest.UnitPair.{UnitPair}
 use Rattle.plan_terms.specs.Certificates.{IsCut, IsRight}
-use Rattle.plan_terms.proofs.Distances.{distance_one}
+use Rattle.plan_terms.proofs.Distances.{right_once}
 use Rattle.plan_types.specs.declared.certificate.Spot.{Spot}
 use Rattle.plan_types.specs.declared.certificate.Spot.TheVariants.{Pool, Local}
 use Rattle.cut_pool.specs.Histories.{cut_of_line, cuts_of}
@@ -39,20 +38,6 @@ use Rattle.plan_rounds.specs.declared.shares.ShareCaps.{ShareCaps}
 use Rattle.plan_rounds.specs.declared.sorting.Answered.{Answered}
 use Rattle.plan_rounds.proofs.OwnPool.{IsRoundOfPool, all_cuts, alone_since, few_within, pool_round}
 use Rattle.plan_rounds.proofs.Turning.{found_of}
-
--- there is one right side
-right_once : (joins : ℕ → ℕ → ℕ → Type 0) (lengths : List ℕ) (demands : List Demand) (a b : ℕ) → IsRight joins lengths demands a → IsRight joins lengths demands b → a ≡ b
-right_once joins lengths demands a b first second =
-    first.sum ∙ (ap (λ far. sum_by (λ (p : Demand × Option ℕ). p.0.need * unwrap_or p.1 0) (zip demands far)) same ∙ sym second.sum)
-  where
-    no_demand : Demand
-    no_demand = record { name = []; from = record { 0 = 0 }; to = record { 0 = 0 }; need = 0 }
-
-    same : first.far ≡ second.far
-    same = ext_get_or None first.far second.far (first.count ∙ sym second.count) (λ k lt.
-        let at = slice_get-get_or demands k no_demand (subst (λ n. k < n) first.count lt) in
-        let d = get_or demands k no_demand in
-        distance_one joins lengths d.from.0 d.to.0 _ _ (first.each k d at) (second.each k d at))
 
 -- and so one line for a state and lengths
 line_once : (p : Case) (a b : CutLine) → IsCut p a → IsCut p b → cut_of_line a ≡ cut_of_line b → a ≡ b
@@ -88,12 +73,6 @@ pairs_differ lines different i j d ij lj same =
     let pair : cut_of_line (get_or lines i none) ≡ cut_of_line (get_or lines j none) = sym (at i (omega (arith, ij, inside))) ∙ (same ∙ at j inside) in
     let state : (get_or lines i none).state.0 ≡ (get_or lines j none).state.0 = ap (λ x. x.0) pair in
     different i j none ij inside (ap (λ n. record { 0 = n }) state, ap (λ x. x.1) pair)
-
-take_whole : {X : Type 0} (n : ℕ) (xs : List X) → length xs ≤ n → take n xs ≡ xs
-take_whole zero [] le = refl
-take_whole (suc n) [] le = refl
-take_whole zero (x ∷ xs) le = absurd (omega (arith, le))
-take_whole (suc n) (x ∷ xs) le = ap (λ ys. x ∷ ys) (take_whole n xs (omega (arith, le)))
 
 module _ (p : Case) (pairs : List UnitPair) (units : AreUnitPairs p.links pairs) (net : Network) (states : States) (h o h1 o1 : List Entry) (part : IsPartOf o h) (more : SeesMore h o h1 o1) (seen : IsSeenHistory net states h1 o1) (alone : IsAlone h1 o1)
     (best : Best) (c : ShareCaps) (a : Answered) (old : Candidates) (answered : List (ℕ × List ℕ)) (n : ℕ) (at : IsBestAt p pairs old.lines best) (is : IsDividedShare p.links pairs best.share c)
@@ -160,7 +139,7 @@ module _ (p : Case) (pairs : List UnitPair) (units : AreUnitPairs p.links pairs)
         omega (arith, most, long, length-map a.found.lines cut_of_line)
 
     all_found : (room_left : ℕ) → length old.lines + room_left ≡ 4096 → take room_left a.found.lines ≡ a.found.lines
-    all_found room_left full = take_whole room_left a.found.lines (let few = few_both in let limit = seen.few_cuts in omega (arith, few, limit, full))
+    all_found room_left full = take_all room_left a.found.lines (let few = few_both in let limit = seen.few_cuts in omega (arith, few, limit, full))
 
     same_after : HasSameCuts (old.lines ++ a.found.lines) round.made
     same_after = record {

@@ -6,13 +6,13 @@ use Rattle.std.proofs.lemmas.List.Elements.{All-push}
 use Rattle.std.proofs.lemmas.Slice.Zip.{get_or-zip, length-zip}
 use Rattle.std.proofs.lemmas.Nat.Gcd.{dvd_trans}
 use Rattle.std.proofs.Math.Nat.{mul-div_cancel'}
-use Rattle.checked_fraction.proofs.Divisors.{positive_divisor}
 use Rattle.net_core.specs.declared.network.Link.{Link}
 use Rattle.module_prices.specs.declared.cheapest.UnitPair.{UnitPair}
 use Rattle.plan_types.specs.declared.quality.Share.{Share}
 use Rattle.master_law.specs.UnitPairs.{share_capacities}
 use Rattle.plan_rounds.specs.inner.Sharing.{DividesAll, IsDividedShare}
 use Rattle.plan_rounds.specs.declared.shares.ShareCaps.{ShareCaps}
+use Rattle.net_core.proofs.Numbers.{positive_divisor}
 
 -- the capacity of one link more
 pub number_more : (links : List Link) (pairs : List UnitPair) (share : Share) (e : ℕ) (l : Link) (p : UnitPair) (u : ℕ) → length pairs ≡ length links → length share.units ≡ length links → e < length links

@@ -7,7 +7,6 @@ use Rattle.std.proofs.lemmas.List.Sums.{get_or-le-sum_by}
 use Rattle.std.proofs.lemmas.Nat.Gcd.{dvd_trans}
 use Rattle.std.proofs.lemmas.Option.{get_or_from_slice_get, slice_get-get_or, slice_get_within}
 use Rattle.std.proofs.Math.Nat.{dvd-mul_left_of_dvd, dvd_of_mul-dvd-mul_left, eq-one_of_dvd-one, mul-div_cancel', mul-dvd-mul_left, mul-le-mul_right}
-use Rattle.checked_fraction.proofs.Divisors.{positive_divisor}
 use Rattle.net_core.specs.declared.columns.Evidence.{Evidence}
 use Rattle.net_core.specs.declared.columns.Evidence.TheVariants.{Route, Master}
 use Rattle.net_core.specs.declared.columns.RouteColumn.{RouteColumn}
@@ -36,6 +35,7 @@ use Rattle.flow_router.specs.Answers.{IsRouted}
 use Rattle.plan_rounds.specs.inner.Answered.{AreRoutedStates, IsEvidenceOfState}
 use Rattle.plan_rounds.specs.inner.Sharing.{AreSlackNames, AreUndivided, HasWideNeed, IsUndivided, at_caps}
 use Rattle.separator.proofs.Seeing.{get_more}
+use Rattle.net_core.proofs.Numbers.{positive_divisor}
 
 -- ---- flows are small where needs are
 

@@ -97,11 +97,6 @@ divisor_unique xs g h first second = dvd_antisymm (second.greatest g first.divid
 zero_divides : (x : ℕ) → 0 ∣ x → x ≡ 0
 zero_divides x h = let whole = mul-div_cancel' 0 h in omega (arith, whole)
 
--- a divisor of a positive number is positive
-pub divisor_positive : (g n : ℕ) → 0 < n → g ∣ n → 0 < g
-divisor_positive zero n some divides = absurd (omega (arith, some, zero_divides n divides))
-divisor_positive (suc g) n some divides = omega arith
-
 -- a bound of a fraction is no more than one of the same fraction
 bound_least : (links : List Link) (a b c d x y : ℕ) → 0 < d → a * d ≡ c * b → IsBound links a b x → IsBound links c d y → x ≤ y
 bound_least links a b c d x y some same first second =

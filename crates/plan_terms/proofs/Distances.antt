@@ -1,7 +1,11 @@
 -- what holds of each distance
-use Rattle.std.proofs.Common.{◌≡◌, ℕ, ◌≤◌, List, [], ◌∷◌, Option, None, Some, ap, refl, subst, arith}
+use Rattle.std.proofs.Common.{◌≡◌, ℕ, ◌+◌, ◌*◌, ◌≤◌, List, [], ◌∷◌, Option, None, Some, length, get_or, sum_by, zip, unwrap_or, ap, refl, sym, subst, ◌∙◌, arith}
+use Rattle.std.proofs.lemmas.List.{ext_get_or}
+use Rattle.net_core.specs.declared.demand.Demand.{Demand}
 use Rattle.net_core.specs.declared.ids.LinkId.{LinkId}
+use Rattle.plan_terms.specs.Certificates.{IsRight}
 use Rattle.plan_terms.specs.Paths.{Leads, last_node, length_of, IsPath, IsDistance}
+use Rattle.net_core.proofs.Lists.{get_some}
 use Rattle.plan_terms.proofs.Walks.{walk_back}
 use Rattle.plan_terms.proofs.Shortcuts.{Way, shortcut}
 
@@ -49,3 +53,15 @@ pub distance_alike : (joins others : ℕ → ℕ → ℕ → Type 0) → ((e x y
 distance_alike joins others to fro lengths a b None h = λ es p. h es (path_alike others joins fro a b es p)
 distance_alike joins others to fro lengths a b (Some d) h =
     ((h.0.0, path_alike joins others to a b h.0.0 h.0.1, h.0.2), λ es p. h.1 es (path_alike others joins fro a b es p))
+
+-- a cut has one right side at demands
+pub right_once : (joins : ℕ → ℕ → ℕ → Type 0) (lengths : List ℕ) (demands : List Demand) (a b : ℕ) → IsRight joins lengths demands a → IsRight joins lengths demands b → a ≡ b
+right_once joins lengths demands a b first second =
+    first.sum
+    ∙ ap (λ far. sum_by (λ (p : Demand × Option ℕ). p.0.need * unwrap_or p.1 0) (zip demands far)) same
+    ∙ sym second.sum
+  where
+    same : first.far ≡ second.far
+    same = ext_get_or None first.far second.far (first.count ∙ sym second.count) (λ k lt.
+        let d = get_some demands k (omega (arith, lt, first.count)) in
+        distance_one joins lengths d.0.from.0 d.0.to.0 _ _ (first.each k d.0 d.1) (second.each k d.0 d.1))

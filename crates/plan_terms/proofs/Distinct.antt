@@ -1,7 +1,6 @@
 -- the links of a path: each is a link of the network, and none stands twice
 use Rattle.std.proofs.Common.{◌≡◌, ◌≢◌, ℕ, ◌<◌, List, [], ◌∷◌, length, get_or, true, false, eqb, eqb-true, ◌⊎◌, inl, inr, ⊎_elim, refl, sym, subst, ◌∙◌}
 use Rattle.std.proofs.lemmas.Bool.{cases_Bool, false≢true}
-use Rattle.std.proofs.lemmas.Option.{slice_get_within}
 use Rattle.std.proofs.lemmas.List.Elements.{All-from_recursion}
 use Rattle.std.specs.List.{AllByRecursion}
 use Rattle.net_core.specs.declared.ids.LinkId.{LinkId}
@@ -9,6 +8,7 @@ use Rattle.net_core.specs.declared.network.Link.{Link}
 use Rattle.net_core.specs.States.{names_link}
 use Rattle.net_core.specs.Graphs.{Graph, HasEnds, Joins}
 use Rattle.plan_terms.specs.Paths.{Leads, AreDifferent, IsPath}
+use Rattle.plan_terms.proofs.Joining.{joins_below}
 
 -- no link stands twice
 abbrev pub DistinctLinks : List LinkId → Type 0
@@ -68,10 +68,6 @@ same_ends l x y p q (inl s) (inr t) = inr (sym s.0 ∙ t.1)
 same_ends l x y p q (inr s) (inl t) = inr (sym s.0 ∙ t.1)
 same_ends l x y p q (inr s) (inr t) = inl (sym s.0 ∙ t.0)
 
--- what joins nodes is a link of the network
-pub joining_known : (g : Graph) (e x y : ℕ) → Joins g e x y → e < length g.links
-joining_known g e x y j = slice_get_within g.links e j.survives.link j.survives.at
-
 -- a link joins the same two nodes wherever it stands
 pub joins_again : (g : Graph) (e x y p q : ℕ) → Joins g e x y → Joins g e p q → (x ≡ p) ⊎ (x ≡ q)
 joins_again g e x y p q i j =
@@ -81,7 +77,7 @@ joins_again g e x y p q i j =
 -- each link of a path is one of the network
 pub path_links_inside : (g : Graph) (a b : ℕ) (es : List LinkId) → IsPath (Joins g) a b es → AllByRecursion (λ e. e.0 < length g.links) es
 path_links_inside g a b es p =
-    links_inside (Joins g) (length g.links) (joining_known g) (joins_again g) a es p.0 p.1
+    links_inside (Joins g) (length g.links) (joins_below g) (joins_again g) a es p.0 p.1
 
 pub path_links_known : (g : Graph) (a b : ℕ) (es : List LinkId) → IsPath (Joins g) a b es → (k : ℕ) (d : LinkId) → k < length es → (get_or es k d).0 < length g.links
 path_links_known g a b es p =
@@ -102,4 +98,4 @@ path_names_known g a b es e p named =
 -- on a path no link stands twice
 pub path_links_differ : (g : Graph) (a b : ℕ) (es : List LinkId) → IsPath (Joins g) a b es → DistinctLinks es
 path_links_differ g a b es p =
-    distinct_links (Joins g) (length g.links) (joining_known g) (joins_again g) a es p.0 p.1 p.3
+    distinct_links (Joins g) (length g.links) (joins_below g) (joins_again g) a es p.0 p.1 p.3

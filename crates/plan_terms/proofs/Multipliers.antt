@@ -7,6 +7,7 @@ use Rattle.net_core.specs.declared.network.Link.{Link}
 use Rattle.plan_terms.specs.Bounds.{IsLowest}
 use Rattle.plan_terms.specs.OwnBounds.{IsValid, IsMultiplier}
 use Rattle.plan_terms.specs.inner.Ratios.{IsLeastRatio}
+use Rattle.net_core.proofs.Numbers.{positive_factors}
 
 -- What is no less than a ratio c / s is no less than a lesser one. A size of 0 makes a ratio that is greater than all.
 pub smaller_ratio : (c s less less_size other other_size : ℕ) → less * s < c * less_size → c * other_size ≤ other * s → less * other_size ≤ other * less_size
@@ -18,16 +19,10 @@ smaller_ratio (suc n) s less less_size other other_size lower before =
     let all : c * (less * other_size) ≤ c * (other * less_size) = omega arith in
     le_of_mul-le-mul_left all (omega arith)
 
--- a factor of a positive number is positive
-pub factor_positive : (a b : ℕ) → 0 < a * b → (0 < a) × (0 < b)
-factor_positive zero b h = absurd (omega arith)
-factor_positive (suc n) zero h = absurd (omega arith)
-factor_positive (suc n) (suc m) h = (omega arith, omega arith)
-
 -- over their greatest common divisor two numbers have no common divisor above 1
 pub lowest_terms : (a b g num den : ℕ) → 0 < b → IsGcd a b g → a ≡ num * g → b ≡ den * g → IsLowest a b num den
 lowest_terms a b g num den some gcd first second =
-    let positive = factor_positive den g (omega arith) in
+    let positive = positive_factors den g (omega arith) in
     record {
       same = omega (arith, ap (λ i. i * den) first, ap (λ i. num * i) second);
       lowest = λ k in_num in_den.
@@ -39,7 +34,7 @@ lowest_terms a b g num den some gcd first second =
 
 module _ (links : List Link) (lengths : List ℕ) (cost size : ℕ) (ratio : IsLeastRatio links lengths cost size) (g num den : ℕ) (first : cost ≡ num * g) (second : size ≡ den * g) where
   denominator_positive : (0 < den) × (0 < g)
-  denominator_positive = let p = ratio.positive in factor_positive den g (omega (arith, p, second))
+  denominator_positive = let p = ratio.positive in positive_factors den g (omega (arith, p, second))
 
   -- the least ratio, reduced, is a valid multiplier
   pub ratio_valid : IsValid links lengths num den
@@ -71,5 +66,5 @@ pub ratio_quotient : (links : List Link) (lengths : List ℕ) (cost size g : ℕ
 ratio_quotient links lengths cost size g ratio gcd =
     let first = sym (div-mul_cancel g gcd.0) in
     let second = sym (div-mul_cancel g gcd.1) in
-    let positive = factor_positive (size / g) g (omega (arith, second, ratio.positive)) in
+    let positive = positive_factors (size / g) g (omega (arith, second, ratio.positive)) in
     (positive.1, ratio_multiplier links lengths cost size ratio g (cost / g) (size / g) first second gcd)

@@ -1,20 +1,19 @@
 -- the bound of the best candidate is certified, and at least the own bound of each
-use Rattle.std.proofs.Common.{◌≡◌, ℕ, zero, suc, ◌+◌, ◌-◌, ◌*◌, ◌/◌, ◌%◌, ◌^◌, ◌<◌, ◌≤◌, ◌⊎◌, inl, inr, ⊎_elim, List, [], ◌∷◌, All, Any, Some, get_or, length, slice_get, refl, sym, ap, subst, ◌∙◌, arith}
+use Rattle.std.proofs.Common.{◌≡◌, ℕ, zero, suc, ◌-◌, ◌*◌, ◌^◌, ◌<◌, ◌≤◌, ⊎_elim, List, [], ◌∷◌, All, Some, get_or, length, slice_get, refl, sym, ap, subst, ◌∙◌, arith}
 use Rattle.std.specs.Int.{◌∣◌}
 use Rattle.std.proofs.Math.Logic.{∥∥₁_elim, ∥∥₁_map}
 use Rattle.std.proofs.Props.{props}
-use Rattle.std.proofs.lemmas.List.Elements.{All-cons, All-nil, All-get_or, All-weaker}
-use Rattle.std.proofs.lemmas.Nat.{div-add-mod'}
-use Rattle.std.proofs.lemmas.Nat.Gcd.{dvd_refl, dvd-zero, le_of_dvd}
+use Rattle.std.proofs.lemmas.List.Elements.{All-nil, All-get_or}
+use Rattle.std.proofs.lemmas.Nat.Gcd.{dvd-zero, le_of_dvd}
 use Rattle.std.proofs.lemmas.Option.{get_or_from_slice_get, slice_get_within}
-use Rattle.std.proofs.Math.Nat.{dvd-add, dvd-mul_left, dvd-mul_left_of_dvd, dvd-sub, eq-one_of_dvd-one, le_of_mul-le-mul_left, mul-le-mul_left}
+use Rattle.std.proofs.Math.Nat.{dvd-mul_left, eq-one_of_dvd-one, le_of_mul-le-mul_left, mul-le-mul_left}
 use Rattle.net_core.specs.declared.journal.Entry.{Entry}
 use Rattle.net_core.specs.declared.network.Link.{Link}
 use Rattle.net_core.specs.declared.plan.CutLine.{CutLine}
 use Rattle.net_core.specs.Cases.{Case}
 use Rattle.net_core.specs.Network.{IsNetwork}
 use Rattle.plan_terms.specs.Bounds.{IsBound, IsLowest}
-use Rattle.plan_terms.specs.Certificates.{IsCertificate, IsCut, fixed_along}
+use Rattle.plan_terms.specs.Certificates.{IsCertificate, fixed_along}
 use Rattle.plan_terms.specs.OwnBounds.{IsOwnBound}
 use Rattle.plan_terms.proofs.Bounds.{bound_same, lowest_positive}
 use Rattle.plan_terms.proofs.OwnBounds.{alone, certificate_alone, empty_certificate, empty_raw, own_bound_unique, product_below, raw_alone}
@@ -23,13 +22,15 @@ use Rattle.plan_types.specs.declared.certificate.Spot.{Spot}
 use Rattle.plan_types.specs.declared.certificate.Spot.TheVariants.{Pool, Local}
 use Rattle.plan_report.specs.Forms.{IsCertificateLineInForm, IsSpotInForm}
 use Rattle.cut_pool.specs.Histories.{cut_of_line, cuts_of}
-use Rattle.metric_cut.specs.Bounded.{HaveBound}
 use Rattle.metric_cut.specs.declared.certificate.OwnCertificate.{OwnCertificate}
 use Rattle.separator.specs.Separators.{IsSpotIn}
 use Rattle.plan_rounds.specs.declared.rounds.Worked.{Worked}
 use Rattle.planner.specs.SoundPlans.{IsOwnAtMost}
 use Rattle.planner.specs.inner.Candidates.{AreCandidates, HaveBounds, IsBestBound, IsBoundOfBest, IsBoundOfCut, IsBoundOfNone, IsCandidate, IsCertifiedBound, IsOwnCertificate}
 use Rattle.planner.specs.declared.certified.CertifiedBound.{CertifiedBound}
+use Rattle.net_core.proofs.Lists.{all_one}
+use Rattle.checked_fraction.proofs.Once.{divides_rest, shared_divisor}
+use Rattle.plan_rounds.proofs.Bounding.{has_bound}
 
 -- where the raw value is 0, so is the bound
 bound_zero : (links : List Link) (num den bound : ℕ) → IsBound links num den bound → num ≡ 0 → bound ≡ 0
@@ -38,66 +39,25 @@ bound_zero links num den bound b none =
 
 -- ---- lengths that a state keeps
 
-positive_or_none : (xs : List ℕ) → Any (λ x. 0 < x) xs ⊎ All (λ x. x ≡ 0) xs
-positive_or_none [] = inr (All-nil (λ x. x ≡ 0))
-positive_or_none (zero ∷ xs) = ⊎_elim
-    (λ (some : Any (λ x. 0 < x) xs). inl (suc some.0, some.1, omega (arith, some.2), some.3, some.4))
-    (λ none. inr (All-cons (λ x. x ≡ 0) 0 xs refl none))
-    (positive_or_none xs)
-positive_or_none (suc n ∷ xs) = inl (0, suc n, omega arith, refl, omega arith)
-
--- a cut of the case has a bound of its own
-have_bound : (p : Case) (cut : CutLine) → ∥ IsCut p cut ∥₁ → HaveBound p.links cut.lengths
-have_bound p cut told = record {
-  count = ∥∥₁_elim told (hlevel props) (λ is. is.kept.count);
-  positive = ⊎_elim
-      (λ some. some)
-      (λ none. absurd (∥∥₁_elim told (hlevel props) (λ is.
-      let e : 0 ≡ 1 = is.kept.lowest 0 (All-weaker (λ x. x ≡ 0) (λ x. 0 ∣ x) (λ x z. subst (λ i. 0 ∣ i) (sym z) (dvd-zero 0)) cut.lengths none) in
-      omega (arith, e))))
-      (positive_or_none cut.lengths);
-  served = λ e l at ne none. ∥∥₁_elim told (hlevel props) (λ is.
-      let s = is.kept.zero e ne in
-      let same : s.link ≡ l = cc (s.at, at) in
-      s.has_module (subst (λ (x : Link). x.modules ≡ []) (sym same) none));
-}
-
 -- so has each candidate, with a right side below 2^84
 pub have_bounds : (p : Case) (history : List Entry) (w : Worked) → ∥ AreCandidates p history w ∥₁ → length w.lines < 2 ^ 32 → HaveBounds p.links w
 have_bounds p history w told few = record {
   same = ∥∥₁_elim told (hlevel props) (λ are. are.stand.count);
   few = few;
-  lengths = λ k d lt. have_bound p (get_or w.lines k d) (∥∥₁_map told (λ are. (are.cuts k d lt).cut_is));
+  lengths = λ k d lt. has_bound p (get_or w.lines k d) (∥∥₁_map told (λ are. (are.cuts k d lt).cut_is));
   right = λ k d lt. ∥∥₁_elim told (hlevel props) (λ are. (are.cuts k d lt).low);
 }
 
 -- ---- fractions in lowest terms
 
-divides_back : (g a b : ℕ) → g ∣ b → g ∣ a % b → g ∣ a
-divides_back g a b h r = subst (λ x. g ∣ x) (div-add-mod' a b) (dvd-add g (dvd-mul_left_of_dvd g h (a / b)) r)
-
--- what two numbers are and rests keep, a common divisor of the two is
-shared : (P : ℕ → Type 0) → ((x y : ℕ) → P x → P y → P (x % y)) → (fuel a b : ℕ) → b < fuel → P a → P b → (g : ℕ) × (g ∣ a) × (g ∣ b) × P g
-shared P rest zero a b lt pa pb = absurd (omega (arith, lt))
-shared P rest (suc fuel) a zero lt pa pb = (a, dvd_refl a, dvd-zero a, pa)
-shared P rest (suc fuel) a (suc b) lt pa pb =
-    let s = shared P rest fuel (suc b) (a % suc b) (omega arith) pb (rest a (suc b) pa pb) in
-    (s.0, divides_back s.0 a (suc b) s.1 s.2, s.1, s.3)
-
-divides_rest : (n c x y : ℕ) → n ∣ c * x → n ∣ c * y → n ∣ c * (x % y)
-divides_rest n c x y dx dy =
-    let h : c * (x / y * y + x % y) ≡ c * x = ap (λ t. c * t) (div-add-mod' x y) in
-    let e : c * x - x / y * (c * y) ≡ c * (x % y) = omega (arith, h) in
-    subst (λ t. n ∣ t) e (dvd-sub n dx (dvd-mul_left_of_dvd n dy (x / y)))
-
 -- lowest terms are no greater
 pub lowest_small : (a b c d : ℕ) → 0 < b → IsLowest a b c d → (c ≤ a) × (d ≤ b)
 lowest_small a b c d some low =
     let turned : c * b ≡ b * c = omega arith in
-    let s = shared (λ x. d ∣ b * x) (divides_rest d b) (suc d) c d (omega arith) (subst (λ x. d ∣ x) (low.same ∙ turned) (dvd-mul_left d a)) (dvd-mul_left d b) in
-    let one : s.0 ≡ 1 = low.lowest s.0 s.1 s.2 in
+    let s = shared_divisor (λ x. d ∣ b * x) (divides_rest d b) (suc d) c d (omega arith) (subst (λ x. d ∣ x) (low.same ∙ turned) (dvd-mul_left d a)) (dvd-mul_left d b) in
+    let all_one : s.0 ≡ 1 = low.lowest s.0 s.1 s.2 in
     let same : b * 1 ≡ b = omega arith in
-    let divides : d ∣ b = subst (λ x. d ∣ x) same (subst (λ g. d ∣ b * g) one s.3) in
+    let divides : d ∣ b = subst (λ x. d ∣ x) same (subst (λ g. d ∣ b * g) all_one s.3) in
     let den : d ≤ b = le_of_dvd some divides in
     let more : c * d ≤ c * b = mul-le-mul_left c den in
     let all : d * c ≤ d * a = omega (arith, more, low.same) in
@@ -120,9 +80,6 @@ raw_some num rest den raw raw_den positive low some =
 pub spot_in_form : (history : List Entry) (cut : ℕ × List ℕ) (spot : Spot) → length (cuts_of history) ≤ 4096 → IsSpotIn history cut spot → IsSpotInForm spot
 spot_in_form history cut (Pool i) few at = let within = slice_get_within (cuts_of history) i cut at in omega (arith, few, within)
 spot_in_form history cut Local few at = tt
-
-one : {X : Type 0} (P : X → Type 0) (x : X) → P x → All P (x ∷ [])
-one P x is = All-cons P x [] is (All-nil P)
 
 module _ (p : Case) (checked : ∥ IsNetwork p.nodes p.links ∥₁) (history : List Entry) where
   none_certified : (b : CertifiedBound) → IsBoundOfNone p.links b → IsCertifiedBound p history b
@@ -157,14 +114,14 @@ module _ (p : Case) (checked : ∥ IsNetwork p.nodes p.links ∥₁) (history : 
           rounded = subst (λ n. IsBound p.links n den own.bound) raw o.rounded;
           lowest = record {
             common = λ d in_den all. o.multiplier.lowest d (All-get_or (λ (l : CertLine). d ∣ l.num) (line ∷ []) 0 line (omega arith) all) in_den;
-            positive = one (λ (l : CertLine). 0 < l.num) line (raw_some num rest den own.raw.num own.raw.den positive o.raw some);
+            positive = all_one (λ (l : CertLine). 0 < l.num) line (raw_some num rest den own.raw.num own.raw.den positive o.raw some);
           };
           none = λ e. absurd (omega (arith, e, some));
           form = record {
             positive = positive;
             den = o.den;
             few = omega arith;
-            lines = one (IsCertificateLineInForm p.links p.listed) line (record {
+            lines = all_one (IsCertificateLineInForm p.links p.listed) line (record {
               num = omega (arith, o.num);
               spot = spot_in_form history (cut_of_line cut) spot few at;
               cut = record { state = is.cut_is.listed_state; lengths = record { long = is.cut_is.kept.count; each = small }; right = is.low };
@@ -172,7 +129,7 @@ module _ (p : Case) (checked : ∥ IsNetwork p.nodes p.links ∥₁) (history : 
           };
           raw_num = omega (arith, below.0, value);
           raw_den = omega (arith, below.1, o.den);
-          spots = one (λ (l : CertLine). IsSpotIn history (cut_of_line l.cut) l.spot) line at;
+          spots = all_one (λ (l : CertLine). IsSpotIn history (cut_of_line l.cut) l.spot) line at;
         }
 
     cut_certified : (b : CertifiedBound) → IsBoundOfCut p.links cut spot b → IsCertifiedBound p history b

@@ -25,6 +25,7 @@ use Rattle.master_law.specs.UnitPairs.{AreUnitPairs, IsPairOfLink, share_capacit
 use Rattle.share_covers.specs.InstalledRoutes.{installed_caps}
 use Rattle.planner.proofs.BestBounds.{lowest_small}
 use Rattle.planner.proofs.InForm.{of_list, path_in_form}
+use Rattle.module_choice.proofs.Pairs.{capacities_long}
 
 -- ---- routings
 
@@ -85,14 +86,9 @@ share_caps_form nodes links pairs share net units form = record {
   };
 }
 
-counts_long : (links : List Link) (counts : List (List ℕ)) → AreCounts links counts → length (capacities links counts) ≡ length links
-counts_long [] counts are = refl
-counts_long (l ∷ ls) [] are = absurd are
-counts_long (l ∷ ls) (c ∷ cs) are = omega (arith, counts_long ls cs are.1)
-
 pub installed_form : (links : List Link) (counts : List (List ℕ)) → AreCounts links counts → AreWithinLimits links counts → AreCapsInForm links (installed_caps links counts)
 installed_form links counts are limits = record {
   positive = omega arith;
   scale = omega arith;
-  nums = record { long = counts_long links counts are; each = All-weaker (λ n. n < 2 ^ 46) (λ n. n < 2 ^ 126) (λ n lt. omega (arith, lt)) (capacities links counts) limits.small };
+  nums = record { long = capacities_long links counts are; each = All-weaker (λ n. n < 2 ^ 46) (λ n. n < 2 ^ 126) (λ n lt. omega (arith, lt)) (capacities links counts) limits.small };
 }

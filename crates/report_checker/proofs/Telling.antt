@@ -1,6 +1,5 @@
 -- that no finding of a kind holds
-use Rattle.std.proofs.Common.{ℕ, ◌≡◌, List, All, Some, slice_get, subst, take}
-use Rattle.std.proofs.lemmas.Option.{get_or_from_slice_get, slice_get_within}
+use Rattle.std.proofs.Common.{ℕ, List, take}
 use Rattle.net_core.specs.declared.journal.Entry.{Entry}
 use Rattle.net_core.specs.declared.plan.CutLine.{CutLine}
 use Rattle.net_core.specs.Cases.{Case}
@@ -9,10 +8,6 @@ use Rattle.plan_checker.specs.Places.{HoldsAt}
 use Rattle.plan_checker.specs.declared.finding.Finding.TheVariants.{BadCut, EntryDiffers, PoolDiffers}
 use Rattle.report_checker.specs.Journals.{HoldsEntryDiffers, IsOtherEntry}
 use Rattle.report_checker.specs.Pools.{HasStaleRight, HoldsBadCut, HoldsPoolDiffers, IsBadCut}
-
--- what holds of all holds of the one at a place
-pub all_at : {X : Type 0} (P : X → Type 0) (xs : List X) (k : ℕ) (x : X) → All P xs → slice_get xs k ≡ Some x → P x
-all_at P xs k x all at = subst P (get_or_from_slice_get xs k x x at) (all k x (slice_get_within xs k x at))
 
 pub no_entry : (p : Case) (entries : List Entry) → ((k : ℕ) → HoldsAt entries k (IsOtherEntry p (take k entries)) → ⊥) → HoldsNone (HoldsEntryDiffers p entries)
 no_entry p entries none (EntryDiffers position) h = none h.0 h.2.0

@@ -1,7 +1,7 @@
 -- The readings of modules take exactly their texts.
 use Rattle.std.proofs.Common.{◌≡◌, ℕ, suc, ◌+◌, ◌*◌, ◌^◌, ◌<◌, ◌≤◌, ◌&&◌, nat_lt, List, [], ◌∷◌, ◌++◌, length, All, Option, None, Some, Result, Ok, Err, refl, sym, ap, subst, ◌∙◌, arith, append-nil, append_assoc, length-append}
 use Rattle.std.specs.Prelude.{codes, flat_map, slice_get, zip}
-use Rattle.std.proofs.lemmas.Bool.{lt-ltb, ltb-true}
+use Rattle.std.proofs.lemmas.Bool.{lt-ltb, ltb-true, and_parts}
 use Rattle.std.proofs.lemmas.List.Elements.{All-cons, All-nil, All-head, All-tail}
 use Rattle.std.proofs.lemmas.List.Sums.{sum_by-cons}
 use Rattle.net_core.specs.declared.network.Link.{Link}
@@ -22,7 +22,7 @@ use Rattle.report_parts.specs.ReadingParts.{count_at, count_within, counts_at, m
 use Rattle.report_parts.proofs.Counts.{capacity_none}
 use Rattle.report_words.proofs.ListLaws.{is_length, lawful_placed, length_is, placed_items}
 use Rattle.report_words.proofs.Making.{law_made, made_law, made_then}
-use Rattle.report_words.proofs.WordLaws.{both_true, few_so_far, keyword_law, opening_law, room_so_far, room_takes, this_name_law, whole_again, whole_takes}
+use Rattle.report_words.proofs.WordLaws.{few_so_far, keyword_law, opening_law, room_so_far, room_takes, this_name_law, whole_again, whole_takes}
 
 -- ---- capacities
 
@@ -47,7 +47,7 @@ module _ (l : Link) where
   within_takes : (sofar : List ℕ) (q : Result ℕ ReportKind) (n : ℕ) → count_within l sofar q ≡ Ok n → ((length sofar < length l.modules) × IsSmall (sofar ++ n ∷ [])) × (q ≡ Ok n)
   within_takes sofar (Ok k) n e =
       let t = room_takes (has_room (length l.modules) sofar && nat_lt (l.fixed + modules_capacity l.modules (sofar ++ k ∷ [])) (2 ^ 46)) (Ok k) n e in
-      let b = both_true (has_room (length l.modules) sofar) (nat_lt (l.fixed + modules_capacity l.modules (sofar ++ k ∷ [])) (2 ^ 46)) t.0 in
+      let b = and_parts (has_room (length l.modules) sofar) (nat_lt (l.fixed + modules_capacity l.modules (sofar ++ k ∷ [])) (2 ^ 46)) t.0 in
       let is : k ≡ n = let q : Ok k ≡ Ok n = t.1 in cc in
       ((few_so_far (length l.modules) sofar b.0, subst (λ (i : ℕ). IsSmall (sofar ++ i ∷ [])) is (ltb-true (l.fixed + modules_capacity l.modules (sofar ++ k ∷ [])) (2 ^ 46) b.1)), t.1)
   within_takes sofar (Err kind) n e = absurd cc

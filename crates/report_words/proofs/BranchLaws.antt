@@ -5,13 +5,14 @@ use Rattle.snd_tokens.specs.Lexemes.{Text, WordAt, OpenAt, CloseAt, EndAt}
 use Rattle.text_kit.specs.Items.{Item, Verbatim, Opening, Closing, Begins}
 use Rattle.text_kit.specs.Reading.{Reading}
 use Rattle.text_kit.proofs.Beginnings.{AnyText}
-use Rattle.text_kit.proofs.Lawful.{is_same, lawful_as, same_is}
+use Rattle.text_kit.proofs.Lawful.{is_same, lawful_as}
 use Rattle.text_kit.proofs.Online.{ok_parts}
 use Rattle.text_kit.proofs.Spelled.{Lawful, Spelled}
 use Rattle.report_words.specs.declared.fault.ReportKind.{ReportKind}
 use Rattle.report_words.specs.declared.fault.ReportKind.TheVariants.{Token, Limit}
 use Rattle.report_words.specs.ReportChoices.{Branches, branch_of, branch_or}
 use Rattle.report_words.proofs.Making.{Made, MadeOf}
+use Rattle.net_core.proofs.Checks.{same_is}
 
 -- a branch has this word
 abbrev pub has_word : {X : Type 0} → List ℕ → Branches X → Bool

@@ -4,7 +4,8 @@ use Rattle.std.specs.Prelude.{position, ◌||◌}
 use Rattle.std.specs.List.{list_any, position_or_len, prefix_len}
 use mathlib.Core.Path.{fun_ext}
 use Rattle.net_core.specs.Tests.{are_same, is_named}
-use Rattle.text_kit.proofs.Lawful.{is_same, same_is}
+use Rattle.text_kit.proofs.Lawful.{is_same}
+use Rattle.net_core.proofs.Checks.{same_is}
 
 same_both : (a b : List ℕ) (v w : Bool) → are_same a b ≡ v → are_same b a ≡ w → v ≡ w
 same_both a b true true p q = refl

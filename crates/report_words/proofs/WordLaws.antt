@@ -1,8 +1,8 @@
 -- Which words say a number, an amount or a name of a report.
-use Rattle.std.proofs.Common.{◌≡◌, ◌≢◌, ℕ, ◌+◌, ◌^◌, ◌<◌, ◌≤◌, ◌&&◌, Bool, true, false, cond, nat_le, nat_lt, List, [], ◌∷◌, length, get_or, AllPairs, Option, None, Some, Result, Ok, Err, refl, sym, ap, subst, ◌∙◌, arith}
+use Rattle.std.proofs.Common.{◌≡◌, ◌≢◌, ℕ, ◌+◌, ◌^◌, ◌<◌, ◌≤◌, ◌&&◌, Bool, true, false, cond, nat_le, nat_lt, List, [], ◌∷◌, length, get_or, AllPairs, Result, Ok, Err, refl, sym, ap, subst, ◌∙◌, arith}
 use Rattle.std.specs.Prelude.{position}
 use Rattle.std.specs.List.{position_or_len}
-use Rattle.std.proofs.lemmas.Bool.{leb-true, le-leb, ltb-true, ltb-false, lt-ltb, le-ltb}
+use Rattle.std.proofs.lemmas.Bool.{leb-true, le-leb, ltb-true, ltb-false, lt-ltb, le-ltb, and_parts}
 use Rattle.std.proofs.lemmas.List.Quantifiers.{position-Some}
 use Rattle.std.proofs.lemmas.List.Sums.{position_or_len_is}
 use Rattle.std.proofs.lemmas.Option.{slice_get-get_or}
@@ -19,13 +19,12 @@ use Rattle.snd_tokens.specs.Amounts.{money_of}
 use Rattle.snd_tokens.specs.Lexemes.{Text, WordAt, OpenAt, CloseAt, EndAt}
 use Rattle.snd_tokens.specs.Wholes.{whole_of}
 use Rattle.text_kit.specs.Items.{Verbatim, Whole, Money, Opening, Closing, Begins}
-use Rattle.text_kit.specs.Names.{found_or}
 use Rattle.text_kit.specs.Numbers.{number_or}
 use Rattle.text_kit.specs.Reading.{expected, word_at}
 use Rattle.text_kit.proofs.Amounts.{lawful_amount, number_takes}
 use Rattle.text_kit.proofs.Beginnings.{AnyText}
-use Rattle.text_kit.proofs.Lawful.{is_same, lawful_close, lawful_key, lawful_open, lawful_word, same_is}
-use Rattle.text_kit.proofs.NameLaws.{lawful_any_name}
+use Rattle.text_kit.proofs.Lawful.{is_same, lawful_close, lawful_key, lawful_open, lawful_word, key_if}
+use Rattle.text_kit.proofs.NameLaws.{lawful_any_name, found_takes}
 use Rattle.text_kit.proofs.Online.{ok_parts}
 use Rattle.text_kit.proofs.Outcomes.{if_ok, ok_is, unless_ok}
 use Rattle.text_kit.proofs.Spelled.{Lawful}
@@ -33,6 +32,7 @@ use Rattle.plan_report.specs.Names.{demand_name, link_name, node_name}
 use Rattle.report_words.specs.declared.fault.ReportKind.{ReportKind}
 use Rattle.report_words.specs.declared.fault.ReportKind.TheVariants.{Token, Ended, Number, LimitName, DoubleName, Limit}
 use Rattle.report_words.specs.ReportWords.{amount_at, as_link, as_node, below, closing_at, demand_at, demand_of, has_room, keyword_at, keyword_within, link_at, link_of, money_at, money_below, name_at, new_demand, node_at, node_of_word, number_at, opening_at, opening_within, passed, place_of, this_name, this_name_at, this_number, this_number_at, unknown_name, where_room, whole_within, within}
+use Rattle.net_core.proofs.Checks.{same_is}
 
 -- ---- room
 
@@ -60,18 +60,14 @@ closing_law = lawful_close Token Ended
 pub keyword_law : (w : List ℕ) → Lawful (keyword_at w) (λ x. Verbatim w ∷ []) (λ x. Unit {0}) AnyText
 keyword_law w = lawful_key Token Ended Token w
 
-key_ok : {K : Type 0} (other : K) (b : Bool) (x : Unit {0}) → (let r : Result (Unit {0}) K = cond b (Ok tt) (Err other) in r ≡ Ok x) → b ≡ true
-key_ok other true x e = refl
-key_ok other false x e = absurd cc
-
 pub keyword_within_law : (room : Bool) (w : List ℕ) → Lawful (keyword_within room w) (λ x. Verbatim w ∷ []) (λ x. room ≡ true) AnyText
 keyword_within_law room w = lawful_word Token Ended (λ v. where_room room (expected Token w v)) (λ x. Verbatim w) (λ x. room ≡ true) (λ x. tt)
-    (λ v x e. let t = room_takes room (expected Token w v) x e in (t.0, same_is v w (key_ok Token (are_same v w) x t.1)))
+    (λ v x e. let t = room_takes room (expected Token w v) x e in (t.0, same_is v w (key_if Token (are_same v w) x t.1)))
     (λ v x m same. room_again room (expected Token w v) x m (ap (expected Token w) same ∙ rw (is_same w) refl))
 
 pub this_name_law : (name : List ℕ) → Lawful (this_name_at name) (λ x. Verbatim name ∷ []) (λ x. Unit {0}) AnyText
 this_name_law name = lawful_word Token Ended (this_name name) (λ x. Verbatim name) (λ x. Unit {0}) (λ x. tt)
-    (λ v x e. (tt, same_is v name (key_ok (unknown_name v) (are_same v name) x e)))
+    (λ v x e. (tt, same_is v name (key_if (unknown_name v) (are_same v name) x e)))
     (λ v x is same. ap (this_name name) same ∙ rw (is_same name) refl)
 
 opened : (room : Bool) (at : ℕ) (t : Text) (x : Unit {0}) (rest : Text) → opening_within room (OpenAt at t) ≡ Ok (x, rest) → (room ≡ true) × (t ≡ rest)
@@ -95,15 +91,10 @@ opening_within_law room = record { takes = opening_takes room; again = λ text x
 
 -- ---- numbers
 
-pub both_true : (a b : Bool) → a && b ≡ true → (a ≡ true) × (b ≡ true)
-both_true true true e = (refl, refl)
-both_true true false e = absurd cc
-both_true false b e = absurd cc
-
 within_takes : (least limit : ℕ) (r : Result ℕ WholeFault) (n : ℕ) → within least limit r ≡ Ok n → ((least ≤ n) × (n < limit)) × (r ≡ Ok n)
 within_takes least limit (Ok k) n e =
     let a = room_takes (nat_le least k && nat_lt k limit) (Ok k) n e in
-    let b = both_true (nat_le least k) (nat_lt k limit) a.0 in
+    let b = and_parts (nat_le least k) (nat_lt k limit) a.0 in
     let is : k ≡ n = ok_is {E = ReportKind} k n a.1 in
     (subst (λ (i : ℕ). (least ≤ i) × (i < limit)) is (leb-true least k b.0, ltb-true k limit b.1), ap (λ (i : ℕ). Ok i) is)
 within_takes least limit (Err NotANumber) n e = absurd cc
@@ -155,15 +146,11 @@ amount_law = lawful_amount Token Ended Number
 pub name_law : Lawful name_at (λ n. Verbatim n ∷ []) (λ n. length n ≤ 255) AnyText
 name_law = lawful_any_name Token Ended LimitName
 
-found_at : {K : Type 0} (unknown : K) (o : Option ℕ) (i : ℕ) → found_or unknown o ≡ Ok i → o ≡ Some i
-found_at unknown None i e = absurd cc
-found_at unknown (Some k) i e = cc
-
 -- a place of a name, where no two are the same
 module _ {X : Type 0} (name_of : X → List ℕ) (xs : List X) (d : X) where
   pub place_takes : (w : List ℕ) (i : ℕ) → place_of name_of xs w ≡ Ok i → (i < length xs) × (w ≡ name_of (get_or xs i d))
   place_takes w i e =
-      let p = position-Some (λ x. are_same (name_of x) w) xs i d (found_at (unknown_name w) (position (λ x. are_same (name_of x) w) xs) i e) in
+      let p = position-Some (λ x. are_same (name_of x) w) xs i d (found_takes (unknown_name w) (position (λ x. are_same (name_of x) w) xs) i e) in
       (p.0, sym (same_is (name_of (get_or xs i d)) w p.1))
 
   pub place_again : AllPairs (λ x y. name_of x ≢ name_of y) xs → (w : List ℕ) (i : ℕ) → i < length xs → w ≡ name_of (get_or xs i d) → place_of name_of xs w ≡ Ok i

@@ -1,15 +1,11 @@
 -- the flows of one basic column more
-use Rattle.std.proofs.Common.{◌≡◌, ℕ, suc, ◌+◌, List, [], ◌∷◌, ◌++◌, Bool, true, false, cond, eqb, sum_by, refl, ap, ◌∙◌, arith}
-use Rattle.std.proofs.lemmas.List.Sums.{sum_by-cons}
+use Rattle.std.proofs.Common.{◌≡◌, ℕ, suc, List, [], ◌∷◌, ◌++◌, Bool, true, false, cond, eqb, refl, ap, ◌∙◌, arith}
+use Rattle.std.proofs.lemmas.List.Sums.{sum_by_push}
 use Rattle.net_core.specs.declared.columns.RouteColumn.{RouteColumn}
 use Rattle.net_core.specs.declared.plan.Flow.{Flow}
 use Rattle.net_core.specs.States.{names_link}
 use Rattle.simplex_law.specs.Programs.{ColumnOf}
 use Rattle.route_law.specs.BasisFlows.{is_of_demand, runs_over, AreFlowsOf}
-
-sums_push : {X : Type 0} (f : X → ℕ) (xs : List X) (x : X) → sum_by f (xs ++ x ∷ []) ≡ sum_by f xs + f x
-sums_push f [] x = sum_by-cons f x [] ∙ omega arith
-sums_push f (y ∷ ys) x = omega (arith, sum_by-cons f y (ys ++ x ∷ []), sum_by-cons f y ys, sums_push f ys x)
 
 module _ (basis : ℕ → ColumnOf RouteColumn) (amounts : ℕ → ℕ) where
   pub flows_none : AreFlowsOf 0 basis amounts []
@@ -34,6 +30,6 @@ module _ (basis : ℕ → ColumnOf RouteColumn) (amounts : ℕ → ℕ) where
   pub flows_push : (n : ℕ) (flows : List Flow) (f : Flow) → f.num ≡ amounts n → ((k : ℕ) → is_of_demand (basis n).name k ≡ eqb f.demand k) → ((e : ℕ) → runs_over (basis n).name e ≡ names_link e f.path)
       → AreFlowsOf n basis amounts flows → AreFlowsOf (suc n) basis amounts (flows ++ f ∷ [])
   flows_push n flows f num demand path of = record {
-    sent_is = λ k. sums_push (λ g. cond (eqb g.demand k) g.num 0) flows f ∙ omega (arith, of.sent_is k, ap (λ a. cond (eqb f.demand k) a 0) num, ap (λ b. cond b (amounts n) 0) (demand k));
-    load_is = λ e. sums_push (λ g. cond (names_link e g.path) g.num 0) flows f ∙ omega (arith, of.load_is e, ap (λ a. cond (names_link e f.path) a 0) num, ap (λ b. cond b (amounts n) 0) (path e));
+    sent_is = λ k. sum_by_push (λ g. cond (eqb g.demand k) g.num 0) flows f ∙ omega (arith, of.sent_is k, ap (λ a. cond (eqb f.demand k) a 0) num, ap (λ b. cond b (amounts n) 0) (demand k));
+    load_is = λ e. sum_by_push (λ g. cond (names_link e g.path) g.num 0) flows f ∙ omega (arith, of.load_is e, ap (λ a. cond (names_link e f.path) a 0) num, ap (λ b. cond b (amounts n) 0) (path e));
   }

@@ -3,7 +3,7 @@ use Rattle.std.proofs.Common.{◌≡◌, ℕ, zero, suc, ◌*◌, ◌<◌, ◌�
 use Rattle.std.proofs.Math.Nat.{mul-le-mul_left}
 use Rattle.std.proofs.Math.IntN.{ℤ, pos, ◌+ℤ◌, ◌*ℤ◌, *ℤ-zero}
 use Rattle.std.specs.Int.Signed.{◌<ℤ◌, ◌≤ℤ◌}
-use Rattle.std.proofs.lemmas.Int.{ints, unsigned_abs-mul}
+use Rattle.std.proofs.lemmas.Int.{ints}
 use Rattle.net_core.specs.Sums.{sum_below}
 use Rattle.simplex_law.specs.Sums.{dot}
 use Rattle.simplex_law.specs.Programs.{ColumnOf}
@@ -11,10 +11,7 @@ use Rattle.simplex_law.specs.Bases.{IsFeasible, IsBest, AreGainingSteps, IsReach
 use Rattle.simplex_law.specs.Evidence.{IsWide, HoldsNumber, HoldsSum}
 use Rattle.simplex_law.proofs.Arithmetic.{distribute_left, le_times, moved_out, times_nonneg, le_cancel}
 use Rattle.simplex_law.proofs.Sums.{sum-same, sum-times}
-
--- a multiple is at least as large
-size_times : (d : ℕ) (z : ℤ) → 0 < d → unsigned_abs z ≤ unsigned_abs (pos d *ℤ z)
-size_times d z pd = let m : unsigned_abs z * 1 ≤ unsigned_abs z * d = mul-le-mul_left (unsigned_abs z) (omega (arith, pd)) in omega (arith, m, unsigned_abs-mul (pos d) z)
+use Rattle.checked_fraction.proofs.Products.{size_times}
 
 wide_times : (d : ℕ) (z : ℤ) → 0 < d → IsWide z → IsWide (pos d *ℤ z)
 wide_times d z pd w = omega (arith, w, size_times d z pd)

@@ -19,9 +19,10 @@ use Rattle.text_kit.proofs.Amounts.{amount_again, number_takes}
 use Rattle.text_kit.proofs.Files.{written_is_read}
 use Rattle.text_kit.proofs.Numerals.{money_again}
 use Rattle.sndlib_reader.specs.Paths.{section_items}
-use Rattle.sndlib_reader.specs.Spelling.{IsPartAfter, IsShortLink, NodeName, NodePart, Spells, SpellsDemand, SpellsPart, SpellsParts, header, link_items, names_of, notes_of, parts_of}
+use Rattle.sndlib_reader.specs.Spelling.{IsPartAfter, IsShortLink, NodeName, NodePart, Spells, SpellsDemand, SpellsPart, SpellsParts, header, link_items, notes_of, parts_of}
 use Rattle.sample_net.specs.Texts.{HasWritableNotes, costless, costless_items, network_items, unit_demand_items}
 use Rattle.sample_net.specs.inner.Adds.{AddsItems, IsShortItem}
+use Rattle.sndlib_reader.proofs.Nodes.{all_names}
 
 -- what is told of a network's check is so
 network_told : (nodes : List (List ℕ)) (links : List Link) → ∥ IsNetwork nodes links ∥₁ → IsNetwork nodes links
@@ -53,10 +54,6 @@ inside_section word inside rest all = (
 )
 
 -- ---- nodes
-
-named : (nodes : List (List ℕ)) → names_of (map NodeName nodes) ≡ nodes
-named [] = refl
-named (n ∷ ns) = ap (λ (ws : List (List ℕ)). n ∷ ws) (named ns)
 
 nodes_spelled : (nodes : List (List ℕ)) → AreSpelled SpellsPart (map NodeName nodes) (flat_map (λ n. Verbatim n ∷ []) nodes)
 nodes_spelled [] = refl
@@ -162,7 +159,7 @@ text_spells net demands text notes belong added =
       meta_is = inl refl;
       parts_are = nodes_spelled nodes;
       parts_in_order = nodes_in_order [] nodes first.0;
-      nodes_are = named nodes;
+      nodes_are = all_names nodes;
       links_are = links_kept links;
       links_short = All-from_recursion IsShortLink (map costless links) (links_short nodes links second.0);
       notes_are = notes_written net notes;

@@ -1,20 +1,13 @@
 -- the items that stand at places of a history
-use Rattle.std.proofs.Common.{◌≡◌, ◌∙◌, ℕ, zero, suc, ◌+◌, ◌<◌, ◌≤◌, ◌&&◌, List, [], ◌∷◌, ◌++◌, drop, take, length, leb, ltb, true, inl, inr, refl, sym, ap, subst, arith}
+use Rattle.std.proofs.Common.{◌≡◌, ◌∙◌, ℕ, zero, suc, ◌+◌, ◌<◌, ◌≤◌, List, [], ◌∷◌, ◌++◌, drop, take, length, true, inl, inr, refl, sym, ap, subst, arith}
 use Rattle.std.specs.List.{range_with_len}
-use Rattle.std.proofs.lemmas.Bool.{and_parts, leb-true, ltb-true}
 use Rattle.std.proofs.lemmas.List.{append_assoc, drop-append-le, length-append}
 use Rattle.std.proofs.lemmas.List.Concat.{flat_map-append}
 use Rattle.std.proofs.lemmas.List.Prefix.{front_rest}
 use Rattle.turn_lock.specs.Histories.{are_places}
 use Rattle.separator.specs.Separators.{IsPartOf}
 use Rattle.separation_workers.specs.Places.{items_at}
-
--- the first place, and those behind it
-place_parts : (low high p : ℕ) (ps : List ℕ) → are_places low high (p ∷ ps) ≡ true → (low ≤ p) × (p < high) × (are_places (p + 1) high ps ≡ true)
-place_parts low high p ps placed =
-    let first = and_parts (leb low p) (ltb p high && are_places (p + 1) high ps) placed in
-    let second = and_parts (ltb p high) (are_places (p + 1) high ps) first.1 in
-    (leb-true low p first.0, ltb-true p high second.0, second.1)
+use Rattle.turn_lock.proofs.Places.{first_place}
 
 module _ {I : Type 0} where
   -- ---- parts of a list
@@ -65,7 +58,7 @@ module _ {I : Type 0} where
   pub items_front : (history more : List I) (low : ℕ) (places : List ℕ) → are_places low (length history) places ≡ true → items_at (history ++ more) places ≡ items_at history places
   items_front history more low [] placed = refl
   items_front history more low (p ∷ ps) placed =
-      let parts = place_parts low (length history) p ps placed in
+      let parts = first_place low (length history) p ps placed in
       ap (λ xs. xs ++ items_at (history ++ more) ps) (item_front history more p parts.1)
       ∙ ap (λ xs. take 1 (drop p history) ++ xs) (items_front history more (p + 1) ps parts.2)
 
@@ -73,7 +66,7 @@ module _ {I : Type 0} where
   items_behind : (history : List I) (low : ℕ) (places : List ℕ) → are_places low (length history) places ≡ true → IsPartOf (items_at history places) (drop low history)
   items_behind history low [] placed = none_part (drop low history)
   items_behind history low (p ∷ ps) placed =
-      let parts = place_parts low (length history) p ps placed in
+      let parts = first_place low (length history) p ps placed in
       let found = from_item history p parts.1 in
       let next : p + 1 ≡ suc p = omega arith in
       let rest : IsPartOf (items_at history ps) (drop (suc p) history) = subst (λ k. IsPartOf (items_at history ps) (drop k history)) next (items_behind history (p + 1) ps parts.2) in

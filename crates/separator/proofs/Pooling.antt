@@ -1,5 +1,5 @@
 -- boards whose pool grows, and what stands in it
-use Rattle.std.proofs.Common.{◌≡◌, ◌∙◌, ℕ, zero, suc, ◌<◌, ⊎_elim, List, [], ◌∷◌, ◌++◌, None, Some, length, slice_get, refl, sym, ap, subst, arith}
+use Rattle.std.proofs.Common.{◌≡◌, ◌∙◌, ℕ, ◌<◌, ⊎_elim, List, [], ◌∷◌, ◌++◌, Some, length, slice_get, refl, sym, ap, subst, arith}
 use Rattle.std.proofs.lemmas.Grind.{flat_map-append}
 use Rattle.std.proofs.lemmas.List.{append-nil, append_assoc}
 use Rattle.std.proofs.lemmas.List.Elements.{All-append, All-nil, All-push}
@@ -14,14 +14,9 @@ use Rattle.cut_pool.specs.Boards.{GrowsBy, IsSameBoard}
 use Rattle.cut_pool.specs.Histories.{cuts_of, pooled_by}
 use Rattle.separator.specs.Separators.{IsCutEntry, IsFullHistory, IsSpotIn, cuts_since}
 use Rattle.separator.specs.inner.Working.{PoolsMore, state_and_lengths}
+use Rattle.net_core.proofs.Lists.{get_front}
 
 -- ---- lists
-
--- what is read of a list's beginning
-pub get_front : {X : Type 0} (xs ys : List X) (i : ℕ) (x : X) → slice_get xs i ≡ Some x → slice_get (xs ++ ys) i ≡ Some x
-get_front [] ys i x at = absurd (let e : None ≡ Some x = at in cc e)
-get_front (y ∷ xs) ys zero x at = at
-get_front (y ∷ xs) ys (suc i) x at = get_front xs ys i x at
 
 -- and of the item behind it
 pub get_behind : {X : Type 0} (xs : List X) (x : X) (ys : List X) → slice_get (xs ++ x ∷ ys) (length xs) ≡ Some x

@@ -1,13 +1,14 @@
 -- histories that a separator has seen, as they grow, and where cuts stand in them
 use Rattle.std.proofs.Common.{◌≡◌, ◌≢◌, ℕ, zero, suc, ◌<◌, ◌≤◌, ◌⊎◌, inl, inr, ⊎_elim, List, [], ◌∷◌, ◌++◌, All, Some, None, length, slice_get, refl, sym, ap, subst, ◌∙◌, arith}
-use Rattle.std.proofs.lemmas.List.{append_assoc, append-nil, length-append}
+use Rattle.std.proofs.lemmas.List.{append_assoc, append-nil, length-append, nil_from_length}
 use Rattle.std.proofs.lemmas.List.Elements.{All-append, All-nil}
 use Rattle.net_core.specs.declared.journal.Entry.{Entry}
 use Rattle.plan_types.specs.declared.certificate.Spot.{Spot}
 use Rattle.plan_types.specs.declared.certificate.Spot.TheVariants.{Pool, Local}
 use Rattle.cut_pool.specs.Histories.{cuts_of}
 use Rattle.separator.specs.Separators.{IsCutEntry, IsPartOf, IsSpotIn, SeesMore}
-use Rattle.separator.proofs.Pooling.{cuts_both, get_front}
+use Rattle.separator.proofs.Pooling.{cuts_both}
+use Rattle.net_core.proofs.Lists.{get_front}
 
 -- an item of a list with one more is one of the list, or the last
 pub get_more : {X : Type 0} (xs : List X) (x : X) (i : ℕ) (c : X) → slice_get (xs ++ x ∷ []) i ≡ Some c → ((i < length xs) × (slice_get xs i ≡ Some c)) ⊎ ((i ≡ length xs) × (x ≡ c))
@@ -18,10 +19,6 @@ get_more (y ∷ xs) x (suc i) c at = ⊎_elim
     (λ p. inl (omega (arith, p.0), p.1))
     (λ p. inr (omega (arith, p.0), p.1))
     (get_more xs x i c at)
-
-empty : {X : Type 0} (xs : List X) → length xs ≡ 0 → xs ≡ []
-empty [] none = refl
-empty (x ∷ xs) none = absurd (omega (arith, none))
 
 -- ---- some more entries
 
@@ -56,11 +53,11 @@ spot_later h f cut (Pool i) few few_cuts at = subst (λ cuts. slice_get cuts i �
 spot_later h f cut Local few few_cuts at = ⊎_elim
     (λ (full : length (cuts_of h) ≡ 4096).
     let long = ap length (cuts_both h f) in
-    let no_more : cuts_of f ≡ [] = empty (cuts_of f) (omega (arith, full, few_cuts, long, length-append (cuts_of h) (cuts_of f))) in
+    let no_more : cuts_of f ≡ [] = nil_from_length (cuts_of f) (omega (arith, full, few_cuts, long, length-append (cuts_of h) (cuts_of f))) in
     let same : cuts_of (h ++ f) ≡ cuts_of h = cuts_both h f ∙ (ap (λ cs. cuts_of h ++ cs) no_more ∙ append-nil (cuts_of h)) in
     (inl (ap length same ∙ full), subst (λ cs. All (λ c. c ≢ cut) cs) (sym same) at.1))
     (λ (full : length h ≡ 65536).
-    let no_more : f ≡ [] = empty f (omega (arith, full, few, length-append h f)) in
+    let no_more : f ≡ [] = nil_from_length f (omega (arith, full, few, length-append h f)) in
     let same : h ++ f ≡ h = ap (λ es. h ++ es) no_more ∙ append-nil h in
     subst (λ es. IsSpotIn es cut Local) (sym same) at)
     at.0

@@ -2,7 +2,7 @@
 use Rattle.std.proofs.Common.{◌≡◌, ◌∙◌, ℕ, zero, suc, ◌+◌, ◌<◌, ◌≤◌, ◌==◌, ◌&&◌, ◌||◌, ◌⊎◌, inl, inr, ⊎_elim, Bool, true, false, cond, List, [], ◌∷◌, ◌++◌, All, filter, if◌then◌else◌, length, leb, ltb, get_or, take, add-one, refl, sym, ap, subst, arith}
 use Rattle.std.specs.Prelude.{count_by}
 use Rattle.std.specs.List.{list_any}
-use Rattle.std.proofs.lemmas.Bool.{cases_lt, cond_both, le-leb, le-ltb, lt-leb, lt-ltb}
+use Rattle.std.proofs.lemmas.Bool.{cases_lt, cond_both, le-leb, le-ltb, lt-leb, lt-ltb, or_parts}
 use Rattle.std.proofs.lemmas.List.{length-append}
 use Rattle.std.proofs.lemmas.List.Elements.{All-head, All-tail, filter-append}
 use Rattle.std.proofs.lemmas.List.Sums.{sum_by-append}
@@ -48,10 +48,6 @@ acts_gone test caller fails (k ∷ ks) =
     (λ _. acts_gone test caller fails ks)
 
 -- ---- two groups
-
-neither : (a b : Bool) → (a || b) ≡ false → (a ≡ false) × (b ≡ false)
-neither true b none = absurd (let z : true ≡ false = none in cc z)
-neither false b none = (refl, none)
 
 chosen : (one two : Command → Bool) (k : Command) (ks : List Command) (b : Bool) → one k ≡ b → two k ≡ b → filter one ks ≡ filter two ks → filter one (k ∷ ks) ≡ filter two (k ∷ ks)
 chosen one two k ks b a c same =
@@ -139,7 +135,7 @@ module _ (low middle high : ℕ) (first : low < middle) (second : middle < high)
   pub all_first : (cs : List Command) → list_any (is_of middle high) cs ≡ false → commands_of low high cs ≡ commands_of low middle cs
   all_first [] none = refl
   all_first (k ∷ ks) none =
-      let parts = neither (is_of middle high k) (list_any (is_of middle high) ks) none in
+      let parts = or_parts (is_of middle high k) (list_any (is_of middle high) ks) none in
       ⊎_elim
       (λ c. chosen (is_of low high) (is_of low middle) k ks true c.2 c.0 (all_first ks parts.1))
       (λ other. ⊎_elim
@@ -151,7 +147,7 @@ module _ (low middle high : ℕ) (first : low < middle) (second : middle < high)
   pub all_second : (cs : List Command) → list_any (is_of low middle) cs ≡ false → commands_of low high cs ≡ commands_of middle high cs
   all_second [] none = refl
   all_second (k ∷ ks) none =
-      let parts = neither (is_of low middle k) (list_any (is_of low middle) ks) none in
+      let parts = or_parts (is_of low middle k) (list_any (is_of low middle) ks) none in
       ⊎_elim
       (λ c. absurd (not_both (is_of low middle k) c.0 parts.0))
       (λ other. ⊎_elim

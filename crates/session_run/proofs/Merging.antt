@@ -1,17 +1,13 @@
 -- the own entries of two passes that have met
-use Rattle.std.proofs.Common.{◌≡◌, ◌∙◌, ℕ, ◌+◌, ◌<◌, ◌≤◌, ◌&&◌, ◌⊎◌, inl, inr, ⊎_elim, List, [], ◌∷◌, ◌++◌, All, drop, flat_map, length, leb, ltb, take, true, refl, sym, ap, arith}
-use Rattle.std.proofs.lemmas.Bool.{and_parts, cond_both, leb-true, ltb-false, ltb-true}
+use Rattle.std.proofs.Common.{◌≡◌, ◌∙◌, ℕ, ◌+◌, ◌<◌, ◌⊎◌, inl, inr, ⊎_elim, List, [], ◌∷◌, ◌++◌, All, drop, flat_map, length, ltb, take, true, refl, sym, ap, arith}
+use Rattle.std.proofs.lemmas.Bool.{cond_both, ltb-false}
 use Rattle.std.proofs.lemmas.List.{length-append}
-use Rattle.std.proofs.lemmas.List.Elements.{All-append, All-cons, All-head, All-nil, All-tail}
+use Rattle.std.proofs.lemmas.List.Elements.{All-append, All-tail}
 use Rattle.turn_lock.specs.Histories.{are_places, merged, with_place}
 use Rattle.separation_workers.specs.Places.{items_at}
-use Rattle.session_run.proofs.Steps.{flat_both}
-
-place_parts : (low high p : ℕ) (ps : List ℕ) → are_places low high (p ∷ ps) ≡ true → (low ≤ p) × (p < high) × (are_places (p + 1) high ps ≡ true)
-place_parts low high p ps placed =
-    let first = and_parts (leb low p) (ltb p high && are_places (p + 1) high ps) placed in
-    let second = and_parts (ltb p high) (are_places (p + 1) high ps) first.1 in
-    (leb-true low p first.0, ltb-true p high second.0, second.1)
+use Rattle.std.proofs.lemmas.Grind.{flat_map-append}
+use Rattle.net_core.proofs.Lists.{front_all}
+use Rattle.turn_lock.proofs.Places.{first_place}
 
 front_none : {Y : Type 0} (xs ys : List Y) → xs ++ ys ≡ [] → xs ≡ []
 front_none [] ys none = refl
@@ -20,10 +16,6 @@ front_none (x ∷ xs) ys none = let count = ap length none in absurd (omega (ari
 back_none : {Y : Type 0} (xs ys : List Y) → xs ++ ys ≡ [] → ys ≡ []
 back_none [] ys none = none
 back_none (x ∷ xs) ys none = let count = ap length none in absurd (omega (arith, count))
-
-front_all : {Y : Type 0} (P : Y → Type 0) (xs ys : List Y) → All P (xs ++ ys) → All P xs
-front_all P [] ys all = All-nil P
-front_all P (x ∷ xs) ys all = All-cons P x xs (All-head P x (xs ++ ys) all) (front_all P xs ys (All-tail P x (xs ++ ys) all))
 
 back_all : {Y : Type 0} (P : Y → Type 0) (xs ys : List Y) → All P (xs ++ ys) → All P ys
 back_all P [] ys all = all
@@ -64,7 +56,7 @@ module _ {Y : Type 0} (g : ℕ → List Y) where
   clear_merged : (q low high : ℕ) (ps qs : List ℕ) → q < low → flat_map g ps ≡ [] → are_places low high qs ≡ true → Clear q (merged ps qs)
   clear_merged q low high ps [] lt none placed = clear_none q ps none
   clear_merged q low high ps (r ∷ rs) lt none placed =
-      let parts = place_parts low high r rs placed in
+      let parts = first_place low high r rs placed in
       clear_with q r (merged ps rs) (omega (arith, lt, parts.0)) (clear_merged q (r + 1) high ps rs (omega (arith, lt, parts.0)) none parts.2)
 
   merged_first : (ps qs : List ℕ) → flat_map g qs ≡ [] → flat_map g (merged ps qs) ≡ flat_map g ps
@@ -75,7 +67,7 @@ module _ {Y : Type 0} (g : ℕ → List Y) where
   merged_second : (low high : ℕ) (ps qs : List ℕ) → are_places low high qs ≡ true → flat_map g ps ≡ [] → flat_map g (merged ps qs) ≡ flat_map g qs
   merged_second low high ps [] placed none = none
   merged_second low high ps (q ∷ qs) placed none =
-      let parts = place_parts low high q qs placed in
+      let parts = first_place low high q qs placed in
       with_clear q (merged ps qs) (clear_merged q (q + 1) high ps qs (omega arith) none parts.2)
       ∙ ap (λ ys. g q ++ ys) (merged_second (q + 1) high ps qs parts.2 none)
 
@@ -111,7 +103,7 @@ module _ {X : Type 0} (h : List X) where
 
   through : {Y : Type 0} (f : X → List Y) (ps : List ℕ) → flat_map f (items_at h ps) ≡ flat_map (λ p. flat_map f (at p)) ps
   through f [] = refl
-  through f (p ∷ ps) = flat_both f (at p) (items_at h ps) ∙ ap (λ ys. flat_map f (at p) ++ ys) (through f ps)
+  through f (p ∷ ps) = flat_map-append f (at p) (items_at h ps) ∙ ap (λ ys. flat_map f (at p) ++ ys) (through f ps)
 
   module _ (ps qs : List ℕ) where
     -- where the one's items give nothing, those of both give what the other's give, in their order

@@ -25,20 +25,10 @@ use Rattle.session_run.specs.inner.Turns.{HasActed, PlansAt}
 use Rattle.session_script.specs.Scripts.{IsActInForm, IsCommandInForm, asks_plan, is_plan}
 use Rattle.std.proofs.lemmas.Bool.{cases_eq, eq-eqb, ne_eqb}
 use Rattle.session_run.proofs.Runs.{run_edit, run_later, run_plan}
+use Rattle.std.proofs.lemmas.List.{nil_from_length, append-nil}
+use Rattle.std.proofs.lemmas.Grind.{flat_map-append}
 
 -- ---- lists taken apart
-
-pub flat_both : {X Y : Type 0} (f : X → List Y) (xs ys : List X) → flat_map f (xs ++ ys) ≡ flat_map f xs ++ flat_map f ys
-flat_both f [] ys = refl
-flat_both f (x ∷ xs) ys = ap (λ zs. f x ++ zs) (flat_both f xs ys) ∙ sym (grouped (f x) (flat_map f xs) (flat_map f ys))
-  where
-    grouped : {Z : Type 0} (a b c : List Z) → (a ++ b) ++ c ≡ a ++ (b ++ c)
-    grouped [] b c = refl
-    grouped (z ∷ a) b c = ap (λ zs. z ∷ zs) (grouped a b c)
-
-pub no_more : {X : Type 0} (xs : List X) → xs ++ [] ≡ xs
-no_more [] = refl
-no_more (x ∷ xs) = ap (λ ys. x ∷ ys) (no_more xs)
 
 -- a list for a number that is the same, and for one that isn't
 choose_same : {X : Type 0} (k : ℕ) (xs ys : List X) → (if k == k then xs else ys) ≡ xs
@@ -50,11 +40,11 @@ choose_other k n xs ys ne = ap (λ b. if b then xs else ys) (ne_eqb k n ne)
 -- the acts of the command's caller, and of another
 acts_own : (commands : List Command) (c : Command) → acts_of c.caller (commands ++ c ∷ []) ≡ acts_of c.caller commands ++ c.act ∷ []
 acts_own commands c =
-    flat_both _ commands (c ∷ []) ∙ ap (λ xs. acts_of c.caller commands ++ xs) (no_more (if c.caller == c.caller then c.act ∷ [] else []) ∙ choose_same c.caller (c.act ∷ []) [])
+    flat_map-append _ commands (c ∷ []) ∙ ap (λ xs. acts_of c.caller commands ++ xs) (append-nil (if c.caller == c.caller then c.act ∷ [] else []) ∙ choose_same c.caller (c.act ∷ []) [])
 
 acts_other : (commands : List Command) (c : Command) (caller : ℕ) → c.caller ≢ caller → acts_of caller (commands ++ c ∷ []) ≡ acts_of caller commands
 acts_other commands c caller ne =
-    flat_both _ commands (c ∷ []) ∙ (ap (λ xs. acts_of caller commands ++ xs) (no_more (if c.caller == caller then c.act ∷ [] else []) ∙ choose_other c.caller caller (c.act ∷ []) [] ne) ∙ no_more (acts_of caller commands))
+    flat_map-append _ commands (c ∷ []) ∙ (ap (λ xs. acts_of caller commands ++ xs) (append-nil (if c.caller == caller then c.act ∷ [] else []) ∙ choose_other c.caller caller (c.act ∷ []) [] ne) ∙ append-nil (acts_of caller commands))
 
 -- a list with a last item that is a list of one item
 snoc_one : {X : Type 0} (xs : List X) (x k : X) → xs ++ x ∷ [] ≡ k ∷ [] → (xs ≡ []) × (x ≡ k)
@@ -95,10 +85,6 @@ part_length (x ∷ xs) (y ∷ ys) part = ⊎_elim
     (λ r. let rest = part_length (x ∷ xs) ys r in omega (arith, rest))
     part
 
-empty : {X : Type 0} (xs : List X) → length xs ≡ 0 → xs ≡ []
-empty [] none = refl
-empty (x ∷ xs) none = absurd (omega (arith, none))
-
 pub cuts_of_callers : (es : List Entry) → All IsCutEntry es → All IsEntryOfCaller es
 cuts_of_callers es all = All-weaker IsCutEntry IsEntryOfCaller pooled es all
   where
@@ -124,7 +110,7 @@ outcomes_own outcomes o caller e =
 outcomes_other : (outcomes : List Outcome) (o : Outcome) (caller : ℕ) → outcome_caller o ≢ caller → outcomes_of caller (outcomes ++ o ∷ []) ≡ outcomes_of caller outcomes
 outcomes_other outcomes o caller ne =
     filter-append (λ x. outcome_caller x == caller) outcomes (o ∷ [])
-    ∙ (ap (λ b. outcomes_of caller outcomes ++ cond b (o ∷ []) []) (ne_eqb (outcome_caller o) caller ne) ∙ no_more (outcomes_of caller outcomes))
+    ∙ (ap (λ b. outcomes_of caller outcomes ++ cond b (o ∷ []) []) (ne_eqb (outcome_caller o) caller ne) ∙ append-nil (outcomes_of caller outcomes))
 
 -- ---- an edit more
 
@@ -135,18 +121,18 @@ module _ (p : Case) (seen own : List Entry) (commands : List Command) (outcomes 
 
     edits_own : flat_map (edit_made c.caller) (own ++ entry ∷ []) ≡ flat_map edit_asked (acts_of c.caller (commands ++ c ∷ []))
     edits_own =
-        flat_both (edit_made c.caller) own (entry ∷ [])
-        ∙ (ap (λ xs. flat_map (edit_made c.caller) own ++ xs) (no_more (edit_made c.caller entry) ∙ choose_same c.caller (edit ∷ []) [])
+        flat_map-append (edit_made c.caller) own (entry ∷ [])
+        ∙ (ap (λ xs. flat_map (edit_made c.caller) own ++ xs) (append-nil (edit_made c.caller entry) ∙ choose_same c.caller (edit ∷ []) [])
         ∙ (ap (λ xs. xs ++ edit ∷ []) (h.edits c.caller)
         ∙ sym (ap (flat_map edit_asked) (acts_own commands c)
-        ∙ (flat_both edit_asked (acts_of c.caller commands) (c.act ∷ [])
+        ∙ (flat_map-append edit_asked (acts_of c.caller commands) (c.act ∷ [])
         ∙ ap (λ a. flat_map edit_asked (acts_of c.caller commands) ++ (edit_asked a ++ [])) act))))
 
     edits_other : (caller : ℕ) → c.caller ≢ caller → flat_map (edit_made caller) (own ++ entry ∷ []) ≡ flat_map edit_asked (acts_of caller (commands ++ c ∷ []))
     edits_other caller ne =
-        flat_both (edit_made caller) own (entry ∷ [])
-        ∙ (ap (λ xs. flat_map (edit_made caller) own ++ xs) (no_more (edit_made caller entry) ∙ choose_other c.caller caller (edit ∷ []) [] ne)
-        ∙ (no_more (flat_map (edit_made caller) own)
+        flat_map-append (edit_made caller) own (entry ∷ [])
+        ∙ (ap (λ xs. flat_map (edit_made caller) own ++ xs) (append-nil (edit_made caller entry) ∙ choose_other c.caller caller (edit ∷ []) [] ne)
+        ∙ (append-nil (flat_map (edit_made caller) own)
         ∙ (h.edits caller ∙ sym (ap (flat_map edit_asked) (acts_other commands c caller ne)))))
 
     runs_own : RunsFrom p ((seen ++ waited) ++ entry ∷ []) c.caller 0 1 (acts_of c.caller (commands ++ c ∷ [])) (outcomes_of c.caller outcomes)
@@ -198,16 +184,16 @@ module _ (p : Case) (seen own : List Entry) (commands : List Command) (outcomes 
 
     edits_same : (caller : ℕ) → flat_map (edit_made caller) (own ++ committed) ≡ flat_map edit_asked (acts_of caller commands)
     edits_same caller =
-        flat_both (edit_made caller) own committed
+        flat_map-append (edit_made caller) own committed
         ∙ (ap (λ xs. flat_map (edit_made caller) own ++ xs) (cuts_no_edits caller committed pooled)
-        ∙ (no_more (flat_map (edit_made caller) own) ∙ h.edits caller))
+        ∙ (append-nil (flat_map (edit_made caller) own) ∙ h.edits caller))
 
     asked_same : (caller : ℕ) → flat_map edit_asked (acts_of caller (commands ++ c ∷ [])) ≡ flat_map edit_asked (acts_of caller commands)
     asked_same caller = ⊎_elim
         (λ (e : c.caller ≡ caller). subst (λ k. flat_map edit_asked (acts_of k (commands ++ c ∷ [])) ≡ flat_map edit_asked (acts_of k commands)) e
         (ap (flat_map edit_asked) (acts_own commands c)
-        ∙ (flat_both edit_asked (acts_of c.caller commands) (c.act ∷ [])
-        ∙ (ap (λ a. flat_map edit_asked (acts_of c.caller commands) ++ (edit_asked a ++ [])) act ∙ no_more (flat_map edit_asked (acts_of c.caller commands))))))
+        ∙ (flat_map-append edit_asked (acts_of c.caller commands) (c.act ∷ [])
+        ∙ (ap (λ a. flat_map edit_asked (acts_of c.caller commands) ++ (edit_asked a ++ [])) act ∙ append-nil (flat_map edit_asked (acts_of c.caller commands))))))
         (λ ne. ap (flat_map edit_asked) (acts_other commands c caller (λ e. omega (arith, ne, e))))
         (cases_eq c.caller caller)
 
@@ -235,7 +221,7 @@ module _ (p : Case) (seen own : List Entry) (commands : List Command) (outcomes 
     nothing_before none same =
         let some = part_length committed further among in
         let own_none = ap length none in
-        empty before (omega (arith, some, own_none, ap length same, length-append before further, length-append own committed))
+        nil_from_length before (omega (arith, some, own_none, ap length same, length-append before further, length-append own committed))
 
     pub planned_run : HaveRun p (before ++ further) (own ++ committed) (commands ++ c ∷ []) (outcomes ++ o ∷ [])
     planned_run = record {

@@ -1,11 +1,10 @@
 -- What a word of a script says, and which words say it.
 use Rattle.std.proofs.Common.{◌≡◌, ℕ, ◌<◌, ◌≤◌, ◌&&◌, Bool, true, false, cond, nat_lt, List, length, Result, Ok, Err, refl, ap, subst, ◌∙◌, arith, count_by}
 use Rattle.std.specs.Prelude.{codes}
-use Rattle.std.proofs.lemmas.Bool.{ltb-true, lt-ltb}
+use Rattle.std.proofs.lemmas.Bool.{ltb-true, lt-ltb, and_parts}
 use Rattle.net_core.specs.Tests.{are_same}
 use Rattle.snd_tokens.specs.declared.whole_number.WholeFault.{WholeFault}
 use Rattle.snd_tokens.specs.Wholes.{whole_of}
-use Rattle.text_kit.proofs.Lawful.{same_is}
 use Rattle.text_kit.proofs.Outcomes.{if_ok, ok_is}
 use Rattle.session_script.specs.declared.fault.ScriptKind.{ScriptKind}
 use Rattle.session_script.specs.declared.fault.ScriptKind.TheVariants.{Token, Caller, LimitCommands, LimitPlans}
@@ -14,6 +13,7 @@ use Rattle.session_script.specs.declared.script.Verb.{Verb}
 use Rattle.session_script.specs.declared.script.Verb.TheVariants as verbs
 use Rattle.session_script.specs.Scripts.{is_plan}
 use Rattle.session_script.specs.ScriptReading.{begun_command, caller_within, caller_of, verb_of, verb_within, verb_after}
+use Rattle.net_core.proofs.Checks.{same_is}
 
 -- ---- the word of a command
 
@@ -32,15 +32,10 @@ begun_again sofar w x few same = ap (begun_command sofar) same ∙ rw (lt-ltb (l
 abbrev pub IsCallerNumber : ℕ → Type 0
 IsCallerNumber n = (1 ≤ n) × (n ≤ 8)
 
-both_true : (a b : Bool) → a && b ≡ true → (a ≡ true) × (b ≡ true)
-both_true true true e = (refl, refl)
-both_true true false e = absurd cc
-both_true false b e = absurd cc
-
 within_takes : (r : Result ℕ WholeFault) (n : ℕ) → caller_within r ≡ Ok n → IsCallerNumber n × (r ≡ Ok n)
 within_takes (Ok k) n e =
     let a = if_ok (nat_lt 0 k && nat_lt k 9) Caller (Ok k) n e in
-    let b = both_true (nat_lt 0 k) (nat_lt k 9) a.0 in
+    let b = and_parts (nat_lt 0 k) (nat_lt k 9) a.0 in
     let is : k ≡ n = ok_is {E = ScriptKind} k n a.1 in
     let low = ltb-true 0 k b.0 in
     let high = ltb-true k 9 b.1 in

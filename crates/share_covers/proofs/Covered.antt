@@ -11,14 +11,14 @@ use Rattle.master_law.specs.UnitPairs.{AreUnitPairs, IsShareNeed}
 use Rattle.plan_law.specs.TightPlans.{CoversShare}
 use Rattle.module_choice.specs.Coverings.{CoverNeeds}
 use Rattle.module_choice.proofs.Carrying.{network_links}
-use Rattle.module_choice.proofs.Choices.{all_read}
 use Rattle.module_choice.proofs.Falling.{all_shaped, capacities_small}
 use Rattle.share_covers.specs.ShareCovers.{AreShareCovers, AreShareNeeds}
 use Rattle.share_covers.proofs.PairsOnce.{pairs_once}
+use Rattle.net_core.proofs.Lists.{all_at}
 
 -- the modules of a link of a network are sound
 pub link_sound : (nodes : List (List ℕ)) (links : List Link) → ∥ IsNetwork nodes links ∥₁ → (e : ℕ) (l : Link) → slice_get links e ≡ Some l → All IsModule l.modules
-link_sound nodes links checked e l at = (all_read (IsLink (length nodes)) links e l (network_links nodes links checked) at).each
+link_sound nodes links checked e l at = (all_at (IsLink (length nodes)) links e l (network_links nodes links checked) at).each
 
 abbrev default : Link
 default = record { name = []; a = record { 0 = 0 }; b = record { 0 = 0 }; fixed = 0; setup = 0; modules = [] }

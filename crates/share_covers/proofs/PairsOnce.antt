@@ -8,10 +8,9 @@ use Rattle.net_core.specs.declared.network.Module.{Module}
 use Rattle.module_prices.specs.declared.cheapest.UnitPair.{UnitPair}
 use Rattle.plan_terms.specs.Prices.{IsUnitPair}
 use Rattle.master_law.specs.UnitPairs.{AreUnitPairs, IsPairOfLink}
-use Rattle.module_choice.proofs.Choices.{all_read}
-use Rattle.module_choice.proofs.Falling.{get_some}
 use Rattle.module_choice.proofs.UnitPairs.{pair_once}
 use Rattle.share_covers.specs.Laws.{UnitPairsAreOne}
+use Rattle.net_core.proofs.Lists.{all_at, get_some}
 
 same_pair : (a b : UnitPair) → a.capacity ≡ b.capacity → a.cost ≡ b.cost → a ≡ b
 same_pair a b h k = ap (λ x. record { capacity = x; cost = a.cost }) h ∙ ap (λ x. record { capacity = b.capacity; cost = x }) k
@@ -34,7 +33,7 @@ pub links_once : (links : List Link) → All (λ l. All IsModule l.modules) link
 links_once links sound xs ys first second =
     ext_get_or no_units xs ys (first.count ∙ sym second.count) (λ e lt.
     let l = get_some links e (omega (arith, lt, first.count)) in
-    pairs_once l.0.modules (all_read (λ (x : Link). All IsModule x.modules) links e l.0 sound l.1) _ _
+    pairs_once l.0.modules (all_at (λ (x : Link). All IsModule x.modules) links e l.0 sound l.1) _ _
     (first.each e l.0 _ l.1 (slice_get-get_or xs e no_units lt))
     (second.each e l.0 _ l.1 (slice_get-get_or ys e no_units (omega (arith, lt, first.count, second.count)))))
 

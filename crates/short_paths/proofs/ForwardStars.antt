@@ -8,18 +8,16 @@ use Rattle.std.proofs.lemmas.List.Elements.{All-contains, Contains-append_left, 
 use Rattle.std.proofs.lemmas.List.Sorted.{Contains-permutation, IsPermutation-sym}
 use Rattle.short_paths.specs.declared.forward_star.Arc.{Arc}
 use Rattle.short_paths.specs.inner.ForwardStars.{AddsArcs, AreArcs, AreStarts, IsStartOf, HasArc}
+use Rattle.net_core.proofs.Lists.{none_within}
 
 -- the arc over link e from x to y
 abbrev pub arc : ℕ → ℕ → ℕ → Arc
 arc e x y = record { link = record { 0 = e }; from = record { 0 = x }; to = record { 0 = y } }
 
-one_of_none : {X : Type 0} (x : X) → Contains [] x → ⊥
-one_of_none x h = omega (arith, h.1)
-
 one_of_two : (a b x : Arc) → Contains (a ∷ b ∷ []) x → (a ≡ x) ⊎ (b ≡ x)
 one_of_two a b x h =
     ⊎_elim
-    (λ first. ⊎_elim (λ none. absurd (one_of_none x none)) (λ e. inl e) (Contains-push_cases [] a x first))
+    (λ first. ⊎_elim (λ none. absurd (none_within x none)) (λ e. inl e) (Contains-push_cases [] a x first))
     (λ e. inr e)
     (Contains-push_cases (a ∷ []) b x h)
 
@@ -63,7 +61,7 @@ pub record ArcsBelow (joins : ℕ → ℕ → ℕ → Type 0) (n : ℕ) (arcs : 
 
 pub arcs_none : (joins : ℕ → ℕ → ℕ → Type 0) → ArcsBelow joins 0 []
 arcs_none joins = record {
-  sound = λ e x y h. absurd (one_of_none (arc e x y) h);
+  sound = λ e x y h. absurd (none_within (arc e x y) h);
   whole = λ e x y lt j. absurd (omega arith);
 }
 

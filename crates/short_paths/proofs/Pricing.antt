@@ -2,11 +2,8 @@
 use Rattle.std.proofs.Common.{◌≡◌, ℕ, ◌+◌, ◌*◌, ◌^◌, ◌<◌, ◌≤◌, List, [], ◌∷◌, length, get_or, map, take, ⊎_elim, ap, ◌∙◌, arith}
 use Rattle.std.specs.List.{All}
 use Rattle.std.proofs.Math.Logic.{∥∥₁_elim}
-use Rattle.std.proofs.Props.{props}
 use Rattle.std.proofs.lemmas.Bool.{cases_lt}
 use Rattle.std.proofs.lemmas.List.{get_or-map, get_or_past, length-map, take_more}
-use Rattle.net_core.specs.Network.{IsNetwork}
-use Rattle.net_core.specs.declared.network.Link.{Link}
 use Rattle.net_core.specs.declared.ids.LinkId.{LinkId}
 use Rattle.plan_terms.specs.LeastPaths.{IsLeastPath}
 use Rattle.plan_terms.specs.Paths.{IsPath, Leads, length_of}
@@ -29,10 +26,6 @@ scaled_short prices low e = ⊎_elim
     omega arith)
     (λ past. let none = get_or_past (map scaled prices) e 0 (omega (arith, length-map prices scaled)) in omega (arith, none))
     (cases_lt e (length prices))
-
--- a network has few nodes
-pub few_nodes : (nodes : List (List ℕ)) (links : List Link) → ∥ IsNetwork nodes links ∥₁ → length nodes ≤ 128
-few_nodes nodes links checked = ∥∥₁_elim checked (hlevel props) (λ net. net.few_nodes)
 
 -- the length of a path is its price 2^20 times, and its number of links
 led_scaled : (joins : ℕ → ℕ → ℕ → Type 0) (prices : List ℕ) → ((e x y : ℕ) → joins e x y → e < length prices) → (a : ℕ) (es : List LinkId) (cs : List ℕ) → Leads joins a es cs → length_of (map scaled prices) es ≡ 2 ^ 20 * length_of prices es + length es

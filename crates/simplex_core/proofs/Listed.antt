@@ -16,6 +16,7 @@ use Rattle.simplex_core.specs.Prices.{Finds}
 use Rattle.simplex_core.specs.inner.Listed.{three, entries_of, IsPackingNumber, IsListedColumn, Copies}
 use Rattle.simplex_core.specs.declared.columns.Price.{Price}
 use Rattle.simplex_core.specs.declared.columns.Price.TheVariants.{Gain, Optimal, NoMemory}
+use Rattle.net_core.proofs.Lists.{some_same}
 
 pub entry_is : (a b c : ℤ) (k : ℕ) → k < 3 → entry_of (entries_of a b c) k ≡ three a b c k
 entry_is a b c zero lt = omega (arith, ints)
@@ -72,9 +73,6 @@ found_copy name gain first second third items duals i x (Gain c) at narrow fa fb
     }
 found_copy name gain first second third items duals i x Optimal at narrow fa fb fc gains copy = absurd copy
 found_copy name gain first second third items duals i x NoMemory at narrow fa fb fc gains copy = tt
-
-some_same : {X : Type 0} (x y : X) → Some x ≡ Some y → x ≡ y
-some_same x y e = cc
 
 -- one item more is not of a kind
 pub none_next : {X : Type 0} (P : X → Type 0) (items : List X) (n : ℕ) (y : X) → ((k : ℕ) (x : X) → k < n → slice_get items k ≡ Some x → P x → ⊥) → slice_get items n ≡ Some y → (P y → ⊥)

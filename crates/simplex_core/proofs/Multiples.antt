@@ -1,37 +1,16 @@
 -- least common multiples
-use Rattle.std.proofs.Common.{◌≡◌, ℕ, zero, suc, ◌+◌, ◌-◌, ◌*◌, ◌/◌, ◌%◌, ◌<◌, sym, ap, subst, ◌∙◌, arith, ⊎_elim}
+use Rattle.std.proofs.Common.{◌≡◌, ℕ, zero, suc, ◌+◌, ◌*◌, ◌/◌, ◌<◌, sym, ap, subst, ◌∙◌, arith, ⊎_elim}
 use Rattle.std.specs.Int.{◌∣◌, IsGcd}
 use Rattle.std.proofs.lemmas.Bool.{cases_lt}
-use Rattle.std.proofs.lemmas.Nat.{div-add-mod'}
-use Rattle.std.proofs.lemmas.Nat.Gcd.{dvd_refl, dvd-zero, dvd_trans}
-use Rattle.std.proofs.Math.Nat.{one-dvd, dvd-mul_left, dvd-add, dvd-sub, dvd-mul_right, dvd-mul_left_of_dvd, dvd_of_mul-dvd-mul_left, mul-dvd-mul_left, mul-dvd-mul_right, mul-div_cancel'}
+use Rattle.std.proofs.lemmas.Nat.Gcd.{dvd_trans}
+use Rattle.std.proofs.Math.Nat.{one-dvd, dvd-mul_left, dvd-mul_right, dvd_of_mul-dvd-mul_left, mul-dvd-mul_left, mul-dvd-mul_right, mul-div_cancel'}
 use Rattle.simplex_core.specs.Multiples.{IsLeastMultiple, HaveNoMultiple}
 use Rattle.simplex_core.specs.inner.Commons.{IsDenominator, HaveNoDenominator}
-
-divides_back : (g a b : ℕ) → g ∣ b → g ∣ a % b → g ∣ a
-divides_back g a b h r = subst (λ x. g ∣ x) (div-add-mod' a b) (dvd-add g (dvd-mul_left_of_dvd g h (a / b)) r)
-
--- what two numbers are and rests keep, a common divisor of the two is
-shared : (P : ℕ → Type 0) → ((x y : ℕ) → P x → P y → P (x % y)) → (fuel a b : ℕ) → b < fuel → P a → P b → (g : ℕ) × (g ∣ a) × (g ∣ b) × P g
-shared P rest zero a b lt pa pb = absurd (omega arith)
-shared P rest (suc fuel) a zero lt pa pb = (a, dvd_refl a, dvd-zero a, pa)
-shared P rest (suc fuel) a (suc b) lt pa pb =
-    let s = shared P rest fuel (suc b) (a % suc b) (omega arith) pb (rest a (suc b) pa pb) in
-    (s.0, divides_back s.0 a (suc b) s.1 s.2, s.1, s.3)
-
-divides_rest : (n c x y : ℕ) → n ∣ c * x → n ∣ c * y → n ∣ c * (x % y)
-divides_rest n c x y dx dy =
-    let h : c * (x / y * y + x % y) ≡ c * x = ap (λ t. c * t) (div-add-mod' x y) in
-    let e : c * x - x / y * (c * y) ≡ c * (x % y) = omega arith in
-    subst (λ t. n ∣ t) e (dvd-sub n dx (dvd-mul_left_of_dvd n dy (x / y)))
+use Rattle.net_core.proofs.Numbers.{positive_divisor}
+use Rattle.checked_fraction.proofs.Once.{divides_rest, shared_divisor}
 
 swapped : (a b : ℕ) → a * b ≡ b * a
 swapped a b = omega arith
-
--- a divisor of a positive number is positive
-pub divisor_some : (g n : ℕ) → 0 < n → g ∣ n → 0 < g
-divisor_some zero n p h = let e : n ≡ 0 = sym (mul-div_cancel' 0 h) ∙ omega arith in absurd (omega arith)
-divisor_some (suc g) n p h = omega arith
 
 pub quotient_some : (g a : ℕ) → 0 < a → g ∣ a → 0 < a / g
 quotient_some g a p h = some (a / g) (mul-div_cancel' g h)
@@ -60,8 +39,8 @@ multiple_first a b g gcd =
 
 pub multiple_least : (a b g c : ℕ) → 0 < a → IsGcd a b g → a ∣ c → b ∣ c → a / g * b ∣ c
 multiple_least a b g c pa gcd ac bc =
-    let pg = divisor_some g a pa gcd.0 in
-    let s = shared (λ x. a * b ∣ c * x) (divides_rest (a * b) c) (suc b) a b (omega arith)
+    let pg = positive_divisor g a pa gcd.0 in
+    let s = shared_divisor (λ x. a * b ∣ c * x) (divides_rest (a * b) c) (suc b) a b (omega arith)
     (subst (λ x. x ∣ c * a) (swapped b a) (mul-dvd-mul_right b bc a)) (mul-dvd-mul_right a ac b) in
     let all : a * b ∣ c * g = dvd_trans (a * b) s.3 (mul-dvd-mul_left s.0 c (gcd.2 s.0 s.1 s.2)) in
     let ea : g * (a / g) ≡ a = mul-div_cancel' g gcd.0 in

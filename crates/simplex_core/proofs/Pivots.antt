@@ -7,11 +7,11 @@ use Rattle.std.proofs.lemmas.Bool.{cases_eq}
 use Rattle.checked_fraction.specs.Rows.{num, IsInLowestTerms, IsReduced}
 use Rattle.checked_fraction.specs.Mixed.{combined}
 use Rattle.checked_fraction.specs.declared.row.Row.{Row}
-use Rattle.simplex_law.proofs.Arithmetic.{regroup}
 use Rattle.simplex_core.specs.Tables.{nums_of, den_of, IsRectangle}
 use Rattle.simplex_core.specs.Turned.{IsCombinedRow, IsCombined, IsTooWideRow, IsTooWideAt, AreTurned, IsWideRow}
 use Rattle.simplex_core.specs.inner.Pivots.{CombinesAt, AreCombined}
 use Rattle.simplex_core.proofs.Lists.{get_same, get_other}
+use Rattle.checked_fraction.proofs.Products.{regroup}
 
 kept_number : (u d q w : ℤ) → u *ℤ (d *ℤ q) ≡ ((u *ℤ q) -ℤ (pos 0 *ℤ w)) *ℤ d
 kept_number u d q w =

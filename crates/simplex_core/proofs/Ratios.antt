@@ -1,6 +1,6 @@
 -- the order of the ratio test over the rows that the code has
 use Rattle.std.proofs.Common.{◌≡◌, ◌≢◌, ℕ, suc, ◌<◌, ◌+◌, List, length, Option, Some, None, Ok, refl, sym, ap, subst, ◌∙◌, arith, ⊎_elim, inl, inr}
-use Rattle.std.proofs.Math.IntN.{ℤ, pos, ◌-ℤ◌, ◌*ℤ◌, *ℤ_comm}
+use Rattle.std.proofs.Math.IntN.{ℤ, pos, ◌*ℤ◌, *ℤ_comm}
 use Rattle.std.specs.Int.Signed.{◌<ℤ◌, ◌≤ℤ◌}
 use Rattle.std.proofs.lemmas.Int.{ints}
 use Rattle.std.proofs.lemmas.Bool.{cases_lt}
@@ -18,12 +18,7 @@ use Rattle.simplex_core.specs.inner.Ratios.{IsCandidate, ComparesRatios, IsFirst
 use Rattle.simplex_law.specs.inner.Pivots.{IsNoLater}
 use Rattle.simplex_core.specs.Orders.{IsFirstLess, ComparesNumbers}
 use Rattle.simplex_core.specs.declared.ratio_test.Candidate.{Candidate}
-
-gone : (u v p q : ℤ) → u *ℤ q ≡ v *ℤ p → (v *ℤ p) -ℤ (q *ℤ u) ≡ pos 0
-gone u v p q e = omega (arith, ints, e, *ℤ_comm u q)
-
-over : (u v p q : ℤ) → (u *ℤ q) <ℤ (v *ℤ p) → pos 0 <ℤ ((v *ℤ p) -ℤ (q *ℤ u))
-over u v p q e = omega (arith, ints, e, *ℤ_comm u q)
+use Rattle.simplex_law.proofs.NoLater.{gone, over}
 
 pub no_later_trans : (m : ℕ) (bound u : ℕ → ℤ) (p : ℤ) (v : ℕ → ℤ) (q : ℤ) (w : ℕ → ℤ) (r : ℤ) → pos 0 <ℤ p → pos 0 <ℤ q → pos 0 <ℤ r
     → IsNoLater m bound u p v q → IsNoLater m bound v q w r → IsNoLater m bound u p w r

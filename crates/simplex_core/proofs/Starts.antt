@@ -49,7 +49,7 @@ num_past [] (suc k) le = refl
 num_past (x ∷ xs) zero le = absurd (omega arith)
 num_past (x ∷ xs) (suc k) le = num_past xs k (omega arith)
 
-unit_num : (m i k : ℕ) → i < m → num (slice_set (replicate m (pos 0)) i (pos 1)) k ≡ unit_vector i k
+pub unit_num : (m i k : ℕ) → i < m → num (slice_set (replicate m (pos 0)) i (pos 1)) k ≡ unit_vector i k
 unit_num m i k lt = ⊎_elim
     (λ e. subst (λ j. num (slice_set (replicate m (pos 0)) i (pos 1)) j ≡ unit_vector i j) (sym e)
     (get_or-set_same (replicate m (pos 0)) i (pos 1) (pos 0) (omega (arith, zeros_length m)) ∙ sym (unit-same i)))

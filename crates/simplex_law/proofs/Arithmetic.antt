@@ -4,7 +4,8 @@ use Rattle.std.proofs.Math.IntN.{ℤ, pos, negsuc, ◌+ℤ◌, ◌-ℤ◌, ◌*�
 use Rattle.std.proofs.Math.Nat.{mul-le-mul_left}
 use Rattle.std.specs.Int.Signed.{◌<ℤ◌, ◌≤ℤ◌}
 use Rattle.std.proofs.lemmas.Int.{ints, by_lt_z}
-use borrow.Author.Differences.{up, down, sum_is_lem, product_is}
+use borrow.Author.Differences.{up, down, sum_is_lem}
+use Rattle.checked_fraction.proofs.Products.{regroup, positive_product, cancelled}
 
 pub distribute : (a b c : ℤ) → (a +ℤ b) *ℤ c ≡ (a *ℤ c) +ℤ (b *ℤ c)
 distribute a b c = let u = ap (λ t. t * up c) (sum_is_lem a b) in let d = ap (λ t. t * down c) (sum_is_lem a b) in omega (arith, ints)
@@ -21,15 +22,6 @@ distribute_left a b c = let u = ap (λ t. t * up c) (sum_is_lem a b) in let d = 
 pub minus_left : (a b c : ℤ) → c *ℤ (a -ℤ b) ≡ (c *ℤ a) -ℤ (c *ℤ b)
 minus_left a b c = *ℤ_comm c (a -ℤ b) ∙ (distribute_minus a b c ∙ omega (arith, ints))
 
-pub regroup : (a b c : ℤ) → (a *ℤ b) *ℤ c ≡ a *ℤ (b *ℤ c)
-regroup a b c =
-    let p = product_is a b in let r = product_is b c in
-    let u = ap (λ t. t * up c) p.0 in let u' = ap (λ t. t * down c) p.0 in
-    let d = ap (λ t. t * up c) p.1 in let d' = ap (λ t. t * down c) p.1 in
-    let x = ap (λ t. up a * t) r.0 in let x' = ap (λ t. down a * t) r.0 in
-    let y = ap (λ t. up a * t) r.1 in let y' = ap (λ t. down a * t) r.1 in
-    omega (arith, ints)
-
 ruleset ring = (distribute, distribute_left, distribute_minus, regroup, *ℤ_comm)
 
 -- the factors of a product of three in other orders
@@ -41,14 +33,6 @@ moved_out a b c = sym (regroup a b c) ∙ (ap (λ s. s *ℤ c) (*ℤ_comm a b) �
 
 pub combined_times : (a q p b c : ℤ) → ((a *ℤ q) -ℤ (p *ℤ b)) *ℤ c ≡ ((a *ℤ c) *ℤ q) -ℤ (p *ℤ (b *ℤ c))
 combined_times a q p b c = grind (arith, ints, ring)
-
--- signs of products
-pub times_positive : (a b : ℤ) → pos 0 <ℤ a → pos 0 <ℤ b → pos 0 <ℤ (a *ℤ b)
-times_positive (pos zero) b x y = absurd (omega (arith, ints))
-times_positive (negsuc a) b x y = absurd (omega (arith, ints))
-times_positive (pos (suc a)) (pos zero) x y = absurd (omega (arith, ints))
-times_positive (pos (suc a)) (negsuc b) x y = absurd (omega (arith, ints))
-times_positive (pos (suc a)) (pos (suc b)) x y = omega (arith, ints)
 
 pub times_negative : (a b : ℤ) → a <ℤ pos 0 → pos 0 <ℤ b → (a *ℤ b) <ℤ pos 0
 times_negative (pos a) b x y = absurd (omega (arith, ints))
@@ -67,7 +51,7 @@ pub times_nonpositive : (a b : ℤ) → pos 0 ≤ℤ a → b ≤ℤ pos 0 → (a
 times_nonpositive a b ha hb = subst (λ z. (a *ℤ b) ≤ℤ z) (*ℤ-zero a) (le_times a b (pos 0) ha hb)
 
 pub times_less : (c a b : ℤ) → pos 0 <ℤ c → a <ℤ b → (c *ℤ a) <ℤ (c *ℤ b)
-times_less c a b pc l = omega (arith, ints, times_positive c (b -ℤ a) pc (omega (arith, ints, l)), minus_left b a c)
+times_less c a b pc l = omega (arith, ints, positive_product c (b -ℤ a) pc (omega (arith, ints, l)), minus_left b a c)
 
 -- a positive factor may be taken away
 pub lt_cancel : (g a b : ℤ) → pos 0 <ℤ g → (g *ℤ a) <ℤ (g *ℤ b) → a <ℤ b
@@ -77,18 +61,12 @@ lt_cancel g a b pg h = by_lt_z a b (λ lt. lt)
 pub le_cancel : (g a b : ℤ) → pos 0 <ℤ g → (g *ℤ a) ≤ℤ (g *ℤ b) → a ≤ℤ b
 le_cancel g a b pg h = by_lt_z b a
     (λ lt. let more : pos 0 <ℤ (a -ℤ b) = omega (arith, ints) in
-    let t = times_positive g (a -ℤ b) pg more in
+    let t = positive_product g (a -ℤ b) pg more in
     absurd (omega (arith, ints, minus_left a b g, h, t)))
     (λ le. le)
-
-pub same_cancel : (g a b : ℤ) → pos 0 <ℤ g → g *ℤ a ≡ g *ℤ b → a ≡ b
-same_cancel g a b pg h =
-    let l : a ≤ℤ b = le_cancel g a b pg (omega (arith, ints, h)) in
-    let r : b ≤ℤ a = le_cancel g b a pg (omega (arith, ints, h)) in
-    omega (arith, ints, l, r)
 
 pub positive_cancel : (g a : ℤ) → pos 0 <ℤ g → pos 0 <ℤ (g *ℤ a) → pos 0 <ℤ a
 positive_cancel g a pg h = lt_cancel g (pos 0) a pg (subst (λ z. z <ℤ (g *ℤ a)) (sym (*ℤ-zero g)) h)
 
 pub zero_cancel : (g a : ℤ) → pos 0 <ℤ g → g *ℤ a ≡ pos 0 → a ≡ pos 0
-zero_cancel g a pg h = same_cancel g a (pos 0) pg (h ∙ sym (*ℤ-zero g))
+zero_cancel g a pg h = cancelled g a (pos 0) pg (h ∙ sym (*ℤ-zero g))

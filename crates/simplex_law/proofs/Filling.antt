@@ -7,8 +7,9 @@ use Rattle.std.proofs.lemmas.Bool.{cases_eq, eq-eqb, ne_eqb}
 use Rattle.checked_fraction.specs.Mixed.{combined}
 use Rattle.simplex_law.specs.Sums.{int_sum, dot, unit_vector, put}
 use Rattle.simplex_law.specs.inner.Tableaux.{IsFilling}
-use Rattle.simplex_law.proofs.Arithmetic.{distribute_minus, minus_left, regroup, swap_last, moved_out, times_positive, same_cancel}
+use Rattle.simplex_law.proofs.Arithmetic.{distribute_minus, minus_left, swap_last, moved_out}
 use Rattle.simplex_law.proofs.Sums.{sum-same, sum-times, sum-minus, sum-swapped, sum-put, sum-unit}
+use Rattle.checked_fraction.proofs.Products.{regroup, positive_product, cancelled}
 
 -- any right side is filled
 pub fills : (m : ℕ) (basic nums : ℕ → ℕ → ℤ) (den w b : ℕ → ℤ) (all : ℤ) → IsFilling m basic nums den w all
@@ -56,7 +57,7 @@ last_step s x f n all q a u e ex ef =
 pub next_filling : (m r : ℕ) (basic nums : ℕ → ℕ → ℤ) (den w a : ℕ → ℤ) (all q : ℤ) → r < m → pos 0 <ℤ q → IsFilling m basic nums den w all → dot m (nums r) a ≡ q
     → IsFilling m (put basic r a) (next_nums nums (λ j. dot m (nums j) a) r q) (next_den den r q) (put w r all) (all *ℤ q)
 next_filling m r basic nums den w a all q rm pq h is_q = record {
-  positive = times_positive all q h.positive pq;
+  positive = positive_product all q h.positive pq;
   weights = λ j lj. ⊎_elim
       (λ e. subst (λ t. cond t all (w j) *ℤ cond t q (den j *ℤ q) ≡ all *ℤ q) (sym (eq-eqb r j e)) refl)
       (λ ne. subst (λ t. cond t all (w j) *ℤ cond t q (den j *ℤ q) ≡ all *ℤ q) (sym (ne_eqb r j ne))
@@ -98,7 +99,7 @@ pub filled_over : (m : ℕ) (basic nums : ℕ → ℕ → ℤ) (den w b values :
     → ((j : ℕ) → j < m → values j *ℤ den j ≡ common *ℤ dot m (nums j) b)
     → (k : ℕ) → k < m → int_sum m (λ j. values j *ℤ basic j k) ≡ common *ℤ b k
 filled_over m basic nums den w b values all common h are k lk =
-    same_cancel all (int_sum m (λ j. values j *ℤ basic j k)) (common *ℤ b k) h.positive
+    cancelled all (int_sum m (λ j. values j *ℤ basic j k)) (common *ℤ b k) h.positive
     (sym (sum-times m all (λ j. values j *ℤ basic j k))
     ∙ (sum-same m _ (λ j. common *ℤ ((w j *ℤ dot m (nums j) b) *ℤ basic j k)) (λ j lj. each (w j) (den j) (values j) (dot m (nums j) b) (basic j k) (h.weights j lj) (are j lj))
     ∙ (sum-times m common (λ j. (w j *ℤ dot m (nums j) b) *ℤ basic j k)

@@ -8,9 +8,10 @@ use Rattle.std.proofs.lemmas.Nat.Gcd.{IsGcd-from_zero, IsGcd-from_mod}
 use Rattle.std.proofs.Math.Nat.{mul-div_cancel', mul-dvd-mul_left, dvd_of_mul-dvd-mul_left, dvd-one}
 use Rattle.checked_fraction.specs.Rows.{IsInLowestTerms}
 use Rattle.checked_fraction.specs.inner.Passes.{IsRowGcd}
-use Rattle.checked_fraction.proofs.Divisors.{row_gcd_none, row_gcd_more, positive_divisor}
+use Rattle.checked_fraction.proofs.Divisors.{row_gcd_none, row_gcd_more}
 use Rattle.simplex_law.proofs.Rows.{IsMultiple}
 use Rattle.simplex_law.proofs.Arithmetic.{positive_cancel, minus_left}
+use Rattle.net_core.proofs.Numbers.{positive_divisor}
 
 -- two numbers have a greatest common divisor, and so have all numbers of a row
 some_gcd : (fuel a b : ℕ) → b < fuel → (g : ℕ) × IsGcd a b g

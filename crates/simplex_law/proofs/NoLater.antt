@@ -9,9 +9,10 @@ use Rattle.simplex_law.specs.Programs.{ColumnOf}
 use Rattle.simplex_law.specs.inner.Lexicographic.{valued}
 use Rattle.simplex_law.specs.inner.Pivots.{IsNoLater, IsPick}
 use Rattle.simplex_law.specs.inner.Tableaux.{IsTableau}
-use Rattle.simplex_law.proofs.Arithmetic.{minus_left, regroup, moved_out, times_positive, positive_cancel}
+use Rattle.simplex_law.proofs.Arithmetic.{minus_left, moved_out, positive_cancel}
 use Rattle.simplex_law.proofs.Order.{lex_scaled}
 use Rattle.simplex_law.proofs.Unique.{dot_scaled, row_unique, inverse_unique, value_unique}
+use Rattle.checked_fraction.proofs.Products.{regroup, positive_product}
 
 -- at one place of two rows
 pub gone : (u v p q : ℤ) → u *ℤ q ≡ v *ℤ p → (v *ℤ p) -ℤ (q *ℤ u) ≡ pos 0
@@ -69,14 +70,14 @@ pick_again m bound basis nums others den dens duals prices duals_den prices_den 
     products i l = dot_scaled m (nums i) (others i) c.entry (den i) (dens i) (λ k lk. inverse_unique m bound basis nums den duals duals_den s i (others i) (dens i) k l (o.rows i l) lk)
 
     positive_of : (i : ℕ) → i < m → pos 0 <ℤ dot m (nums i) c.entry → pos 0 <ℤ dot m (others i) c.entry
-    positive_of i l h = positive_cancel (den i) (dot m (others i) c.entry) (s.over i l) (subst (λ x. pos 0 <ℤ x) (products i l) (times_positive (dens i) (dot m (nums i) c.entry) (o.over i l) h))
+    positive_of i l h = positive_cancel (den i) (dot m (others i) c.entry) (s.over i l) (subst (λ x. pos 0 <ℤ x) (products i l) (positive_product (dens i) (dot m (nums i) c.entry) (o.over i l) h))
 
     back : (i : ℕ) → i < m → pos 0 <ℤ dot m (others i) c.entry → pos 0 <ℤ dot m (nums i) c.entry
-    back i l h = positive_cancel (dens i) (dot m (nums i) c.entry) (o.over i l) (subst (λ x. pos 0 <ℤ x) (sym (products i l)) (times_positive (den i) (dot m (others i) c.entry) (s.over i l) h))
+    back i l h = positive_cancel (dens i) (dot m (nums i) c.entry) (o.over i l) (subst (λ x. pos 0 <ℤ x) (sym (products i l)) (positive_product (den i) (dot m (others i) c.entry) (s.over i l) h))
 
     less : (x y g : ℤ) → prices_den *ℤ x ≡ duals_den *ℤ y → (x -ℤ (duals_den *ℤ g)) <ℤ pos 0 → (y -ℤ (prices_den *ℤ g)) <ℤ pos 0
     less x y g e h =
-        let t = times_positive prices_den ((duals_den *ℤ g) -ℤ x) o.above (omega (arith, ints, h)) in
+        let t = positive_product prices_den ((duals_den *ℤ g) -ℤ x) o.above (omega (arith, ints, h)) in
         let one = minus_left (duals_den *ℤ g) x prices_den in
         let two = minus_left (prices_den *ℤ g) y duals_den in
         let three = moved_out prices_den duals_den g in

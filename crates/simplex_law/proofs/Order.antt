@@ -5,7 +5,8 @@ use Rattle.std.specs.Int.Signed.{◌<ℤ◌, ◌≤ℤ◌}
 use Rattle.std.proofs.lemmas.Int.{ints, by_lt_z}
 use Rattle.checked_fraction.specs.Mixed.{combined}
 use Rattle.simplex_law.specs.inner.Lexicographic.{IsLexNonneg, IsLexBelow}
-use Rattle.simplex_law.proofs.Arithmetic.{distribute_minus, minus_left, regroup, swap_last, moved_out, times_positive, times_negative, times_nonneg, times_less, positive_cancel, zero_cancel, lt_cancel, same_cancel}
+use Rattle.simplex_law.proofs.Arithmetic.{distribute_minus, minus_left, swap_last, moved_out, times_negative, times_nonneg, times_less, positive_cancel, zero_cancel, lt_cancel}
+use Rattle.checked_fraction.proofs.Products.{regroup, positive_product, cancelled}
 
 -- the first of n numbers that isn't 0 is positive
 abbrev pub IsLexPositive : ℕ → (ℕ → ℤ) → Type 0
@@ -16,7 +17,7 @@ IsLexPositive (suc n) v = (pos 0 <ℤ v 0) ⊎ ((v 0 ≡ pos 0) × IsLexPositive
 pub lex_negative : (n : ℕ) (u w : ℕ → ℤ) (p q : ℤ) → p <ℤ pos 0 → pos 0 <ℤ q → IsLexNonneg n u → IsLexNonneg n w → IsLexNonneg n (combined u p w q)
 lex_negative zero u w p q less more hu hw = tt
 lex_negative (suc n) u w p q less more hu hw = ⊎_elim
-    (λ above. let here : pos 0 <ℤ (u 0 *ℤ q) = times_positive (u 0) q above more in ⊎_elim
+    (λ above. let here : pos 0 <ℤ (u 0 *ℤ q) = positive_product (u 0) q above more in ⊎_elim
     (λ a. inl (omega (arith, ints, here, times_negative p (w 0) less a)))
     (λ z. inl (rw (z.0) (omega (arith, ints, here))))
     hw)
@@ -29,7 +30,7 @@ lex_negative (suc n) u w p q less more hu hw = ⊎_elim
 pub lex_zero : (n : ℕ) (u w : ℕ → ℤ) (q : ℤ) → pos 0 <ℤ q → IsLexNonneg n u → IsLexNonneg n (combined u (pos 0) w q)
 lex_zero zero u w q more hu = tt
 lex_zero (suc n) u w q more hu = ⊎_elim
-    (λ above. inl (omega (arith, ints, times_positive (u 0) q above more)))
+    (λ above. inl (omega (arith, ints, positive_product (u 0) q above more)))
     (λ none. inr (rw (none.0) (omega (arith, ints)), lex_zero n (λ k. u (suc k)) (λ k. w (suc k)) q more none.1))
     hu
 
@@ -59,7 +60,7 @@ lex_rises (suc n) y w p q d less more over h =
 pub lex_scaled : (n : ℕ) (u v : ℕ → ℤ) (g h : ℤ) → pos 0 <ℤ g → pos 0 <ℤ h → ((k : ℕ) → k < n → g *ℤ u k ≡ h *ℤ v k) → IsLexNonneg n u → IsLexNonneg n v
 lex_scaled zero u v g h pg ph e lex = tt
 lex_scaled (suc n) u v g h pg ph e lex = ⊎_elim
-    (λ above. inl (positive_cancel h (v 0) ph (subst (λ x. pos 0 <ℤ x) (e 0 (omega arith)) (times_positive g (u 0) pg above))))
+    (λ above. inl (positive_cancel h (v 0) ph (subst (λ x. pos 0 <ℤ x) (e 0 (omega arith)) (positive_product g (u 0) pg above))))
     (λ none. inr (
       zero_cancel h (v 0) ph (sym (e 0 (omega arith)) ∙ (ap (λ x. g *ℤ x) none.0 ∙ *ℤ-zero g)),
       lex_scaled n (λ k. u (suc k)) (λ k. v (suc k)) g h pg ph (λ k l. e (suc k) (omega (arith, l))) none.1,
@@ -75,7 +76,7 @@ below_scaled (suc n) y u v d whole e pw pe same h =
     ⊎_elim
     (λ l. inl (lt_cancel whole (y 0 *ℤ e) (v 0 *ℤ d) pw (omega (arith, ints, left, right, times_less e (y 0 *ℤ whole) (u 0 *ℤ d) pe l))))
     (λ s. inr (
-      same_cancel whole (y 0 *ℤ e) (v 0 *ℤ d) pw (sym left ∙ (ap (λ x. e *ℤ x) s.0 ∙ right)),
+      cancelled whole (y 0 *ℤ e) (v 0 *ℤ d) pw (sym left ∙ (ap (λ x. e *ℤ x) s.0 ∙ right)),
       below_scaled n (λ k. y (suc k)) (λ k. u (suc k)) (λ k. v (suc k)) d whole e pw pe (λ k l. same (suc k) (omega (arith, l))) s.1,
     ))
     h
@@ -87,9 +88,9 @@ lex_sum zero v x y g a b pg pa pb e hx hy = tt
 lex_sum (suc n) v x y g a b pg pa pb e hx hy =
     let here = e 0 (omega arith) in
     ⊎_elim
-    (λ above. inl (positive_cancel g (v 0) pg (omega (arith, ints, here, times_positive a (x 0) pa above, times_nonneg b (y 0) (weaken b pb) (first_nonneg hy)))))
+    (λ above. inl (positive_cancel g (v 0) pg (omega (arith, ints, here, positive_product a (x 0) pa above, times_nonneg b (y 0) (weaken b pb) (first_nonneg hy)))))
     (λ none. ⊎_elim
-    (λ above. inl (positive_cancel g (v 0) pg (omega (arith, ints, here, times_positive b (y 0) pb above, ap (λ t. a *ℤ t) none.0 ∙ *ℤ-zero a))))
+    (λ above. inl (positive_cancel g (v 0) pg (omega (arith, ints, here, positive_product b (y 0) pb above, ap (λ t. a *ℤ t) none.0 ∙ *ℤ-zero a))))
     (λ z. inr (
       zero_cancel g (v 0) pg (omega (arith, ints, here, ap (λ t. a *ℤ t) none.0 ∙ *ℤ-zero a, ap (λ t. b *ℤ t) z.0 ∙ *ℤ-zero b)),
       lex_sum n (λ k. v (suc k)) (λ k. x (suc k)) (λ k. y (suc k)) g a b pg pa pb (λ k l. e (suc k) (omega arith)) none.1 z.1,

@@ -9,8 +9,9 @@ use Rattle.checked_fraction.specs.Mixed.{combined}
 use Rattle.checked_fraction.proofs.Once.{times_reduced}
 use Rattle.simplex_law.specs.Sums.{dot, unit_vector, put}
 use Rattle.simplex_law.specs.Bases.{IsRow}
-use Rattle.simplex_law.proofs.Arithmetic.{distribute, distribute_left, distribute_minus, regroup, swap_last, combined_times, same_cancel}
+use Rattle.simplex_law.proofs.Arithmetic.{distribute, distribute_left, distribute_minus, swap_last, combined_times}
 use Rattle.simplex_law.proofs.Sums.{sum-same, dot-times}
+use Rattle.checked_fraction.proofs.Products.{regroup, cancelled}
 
 pub dot-combined : (m : ℕ) (u w v : ℕ → ℤ) (p q : ℤ) → dot m (combined u p w q) v ≡ (dot m u v *ℤ q) -ℤ (p *ℤ dot m w v)
 dot-combined zero u w v p q = omega (arith, ints)
@@ -74,7 +75,7 @@ multiple m raw whole nums den pw r =
 -- a row in lowest terms takes the same values
 pub reduced_row : (m : ℕ) (basic : ℕ → ℕ → ℤ) (target raw nums : ℕ → ℤ) (whole den g : ℤ) → IsMultiple m raw whole nums den g → IsRow m basic target raw whole → IsRow m basic target nums den
 reduced_row m basic target raw nums whole den g r row j lt =
-    same_cancel g (dot m nums (basic j)) (den *ℤ target j) r.positive
+    cancelled g (dot m nums (basic j)) (den *ℤ target j) r.positive
     (sym (dot-times m g nums (basic j))
     ∙ (sum-same m _ _ (λ k l. ap (λ s. s *ℤ basic j k) (sym (r.of_nums k l)))
     ∙ (row j lt ∙ (ap (λ s. s *ℤ target j) r.of_den ∙ regroup g den (target j)))))

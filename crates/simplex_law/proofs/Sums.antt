@@ -5,7 +5,8 @@ use Rattle.std.proofs.Math.IntN.{ℤ, pos, ◌+ℤ◌, ◌-ℤ◌, ◌*ℤ◌, *
 use Rattle.std.specs.Int.Signed.{◌≤ℤ◌}
 use Rattle.std.proofs.lemmas.Int.{ints}
 use Rattle.simplex_law.specs.Sums.{int_sum, dot, unit_vector, put}
-use Rattle.simplex_law.proofs.Arithmetic.{distribute_left, regroup}
+use Rattle.simplex_law.proofs.Arithmetic.{distribute_left}
+use Rattle.checked_fraction.proofs.Products.{regroup}
 
 pub sum-plus : (n : ℕ) (f g : ℕ → ℤ) → int_sum n (λ k. f k +ℤ g k) ≡ int_sum n f +ℤ int_sum n g
 sum-plus zero f g = refl

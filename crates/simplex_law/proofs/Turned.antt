@@ -12,11 +12,11 @@ use Rattle.simplex_law.specs.inner.Lexicographic.{IsLexNonneg, IsLexBelow, Rises
 use Rattle.simplex_law.proofs.Order.{lex_negative, lex_zero, lex_positive, lex_rises, below_scaled}
 use Rattle.simplex_law.specs.inner.Tableaux.{IsTableau}
 use Rattle.simplex_law.specs.inner.Pivots.{IsPick, IsTurned}
-use Rattle.simplex_law.proofs.Arithmetic.{times_positive}
 use Rattle.simplex_law.proofs.Sums.{unit-same, unit-other, dot-none}
 use Rattle.simplex_law.proofs.Rows.{multiple, dot-combined, next_row, pivot_row, reduced_row}
 use Rattle.simplex_law.proofs.Unique.{valued_scaled, row_unique, same_tableau}
 use Rattle.simplex_law.proofs.Filling.{next_nums, next_den, next_filling, same_filling}
+use Rattle.checked_fraction.proofs.Products.{positive_product}
 
 -- the columns of the next basis
 entry_put : {N : Type 0} (basis : ℕ → ColumnOf N) (c : ColumnOf N) (r j : ℕ) → (put basis r c j).entry ≡ put (λ i. (basis i).entry) r c.entry j
@@ -91,11 +91,11 @@ turned_raw m bound basis nums den duals duals_den c r s k = record {
   rows = λ i l. at_row (λ i u d. IsRow m (λ j. (put basis r c j).entry) (unit_vector i) u d) i
       (first_row m bound basis nums den duals duals_den c r s k)
       (λ ne. other_row m bound basis nums den duals duals_den c r i s k l ne);
-  over = λ i l. at_row (λ i u d. pos 0 <ℤ d) i k.positive (λ ne. times_positive (den i) q (s.over i l) k.positive);
+  over = λ i l. at_row (λ i u d. pos 0 <ℤ d) i k.positive (λ ne. positive_product (den i) q (s.over i l) k.positive);
   lex = λ i l. at_row (λ i u d. IsLexNonneg (suc m) (valued m bound u)) i (s.lex r k.inside)
       (λ ne. row_lex m bound (nums i) (nums r) (dot m (nums i) c.entry) q k.positive (s.lex i l) (s.lex r k.inside) (k.ratio i l ne));
   objective = objective_row m bound basis nums den duals duals_den c r s k;
-  above = times_positive duals_den q s.above k.positive;
+  above = positive_product duals_den q s.above k.positive;
   filling = (
     put s.filling.0 r s.filling.1,
     s.filling.1 *ℤ q,
@@ -121,7 +121,7 @@ next_objective : {N : Type 0} (m : ℕ) (bound : ℕ → ℤ) (basis : ℕ → C
     → IsTableau m bound basis nums den duals duals_den → IsPick m bound nums duals duals_den c r → IsTurned m c r nums next den next_dens duals next_duals duals_den next_duals_den
     → IsRow m (λ j. (put basis r c j).entry) (λ j. (put basis r c j).gain) next_duals next_duals_den
 next_objective m bound basis nums next den next_dens duals next_duals duals_den next_duals_den c r s k t =
-    let f = multiple m _ _ next_duals next_duals_den (times_positive duals_den (dot m (nums r) c.entry) s.above k.positive) t.objective in
+    let f = multiple m _ _ next_duals next_duals_den (positive_product duals_den (dot m (nums r) c.entry) s.above k.positive) t.objective in
     reduced_row m _ _ _ _ _ _ f.0 f.1 (objective_row m bound basis nums den duals duals_den c r s k)
 
 -- the tableau after a turn
@@ -141,7 +141,7 @@ turned m bound basis nums next den next_dens duals next_duals duals_den next_dua
         (let f = multiple m _ _ (next r) (next_dens r) k.positive t.pivot in
         (reduced_row m _ _ _ _ _ _ f.0 f.1 (first_row m bound basis nums den duals duals_den c r s k), t.pivot.positive)))
         (λ ne. let own = t.others i l (λ e. ne (sym e)) in
-        let f = multiple m _ _ (next i) (next_dens i) (times_positive (den i) q (s.over i l) k.positive) own in
+        let f = multiple m _ _ (next i) (next_dens i) (positive_product (den i) q (s.over i l) k.positive) own in
         (reduced_row m _ _ _ _ _ _ f.0 f.1 (other_row m bound basis nums den duals duals_den c r i s k l (λ e. ne (sym e))), own.positive))
         (cases_eq r i)
 
@@ -166,7 +166,7 @@ rises_to m bound basis nums den duals duals_den c r later later_den s k row abov
     (sym (dot-combined m duals (nums r) bound p q)) h in
     let next = turned_raw m bound basis nums den duals duals_den c r s k in
     below_scaled (suc m) (valued m bound duals) (valued m bound (combined duals p (nums r) q)) (valued m bound later) duals_den (duals_den *ℤ q) later_den
-    (times_positive duals_den q s.above k.positive) above
+    (positive_product duals_den q s.above k.positive) above
     (valued_scaled m bound (combined duals p (nums r) q) later (duals_den *ℤ q) later_den (λ y ly.
     row_unique m (λ j. (put basis r c j).entry) _ _ next.filling.0 next.filling.1 (λ j. (put basis r c j).gain) (combined duals p (nums r) q) later (duals_den *ℤ q) later_den y next.filling.2 next.objective row ly))
     raw

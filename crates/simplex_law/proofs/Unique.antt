@@ -9,10 +9,11 @@ use Rattle.simplex_law.specs.Programs.{ColumnOf}
 use Rattle.simplex_law.specs.Bases.{IsRow}
 use Rattle.simplex_law.specs.inner.Lexicographic.{valued}
 use Rattle.simplex_law.specs.inner.Tableaux.{IsFilling, IsTableau}
-use Rattle.simplex_law.proofs.Arithmetic.{regroup, swap_last, moved_out, times_positive, same_cancel}
+use Rattle.simplex_law.proofs.Arithmetic.{swap_last, moved_out}
 use Rattle.simplex_law.proofs.Sums.{sum-same, sum-times, sum-one, unit-same, unit-other, dot-times}
 use Rattle.simplex_law.proofs.Duality.{priced}
 use Rattle.simplex_law.proofs.Order.{lex_scaled}
+use Rattle.checked_fraction.proofs.Products.{regroup, positive_product, cancelled}
 
 -- products with numbers that are the same but for factors
 pub dot_scaled : (m : ℕ) (u v a : ℕ → ℤ) (d e : ℤ) → ((l : ℕ) → l < m → e *ℤ u l ≡ d *ℤ v l) → e *ℤ dot m u a ≡ d *ℤ dot m v a
@@ -30,7 +31,7 @@ weights (suc n) den over =
     let w = before.0 in let all = before.1 in (
       put (λ j. w j *ℤ den n) n all,
       all *ℤ den n,
-      times_positive all (den n) before.2 (over n (omega arith)),
+      positive_product all (den n) before.2 (over n (omega arith)),
       λ j l. ⊎_elim
           (λ e. subst (λ t. cond t all (w j *ℤ den n) *ℤ den j ≡ all *ℤ den n) (sym (eq-eqb n j e)) (ap (λ x. all *ℤ den x) (sym e)))
           (λ ne. subst (λ t. cond t all (w j *ℤ den n) *ℤ den j ≡ all *ℤ den n) (sym (ne_eqb n j ne))
@@ -57,7 +58,7 @@ module _ (m : ℕ) (basic nums : ℕ → ℕ → ℤ) (den w : ℕ → ℤ) (all
   pub row_unique : (target u v : ℕ → ℤ) (d e : ℤ) (l : ℕ) → IsFilling m basic nums den w all → IsRow m basic target u d → IsRow m basic target v e → l < m
       → e *ℤ u l ≡ d *ℤ v l
   row_unique target u v d e l h row other lt =
-      same_cancel all (e *ℤ u l) (d *ℤ v l) h.positive
+      cancelled all (e *ℤ u l) (d *ℤ v l) h.positive
       (moved_out all e (u l) ∙ (ap (λ x. e *ℤ x) (by_filling target u d l h row lt) ∙ (moved_out e d (int_sum m (λ j. (w j *ℤ nums j l) *ℤ target j))
       ∙ (ap (λ x. d *ℤ x) (sym (by_filling target v e l h other lt)) ∙ moved_out d all (v l)))))
 
@@ -73,7 +74,7 @@ other_rows m basic nums others den dens w v all total over same pt are h = recor
       sym (sum-times m all (λ j. (v j *ℤ others j l) *ℤ basic j k))
       ∙ (sum-same m _ _ (λ j lj. crossed (w j) (v j) (den j) (dens j) (nums j l) (others j l) (basic j k) (h.weights j lj) (are j lj) (same j l lj ll))
       ∙ sum-times m total (λ j. (w j *ℤ nums j l) *ℤ basic j k)) in
-      same_cancel all (int_sum m (λ j. (v j *ℤ others j l) *ℤ basic j k)) (total *ℤ unit_vector k l) h.positive
+      cancelled all (int_sum m (λ j. (v j *ℤ others j l) *ℤ basic j k)) (total *ℤ unit_vector k l) h.positive
       (scaled ∙ (ap (λ s. total *ℤ s) (h.filled k l lk ll) ∙ moved_out total all (unit_vector k l)));
 }
   where

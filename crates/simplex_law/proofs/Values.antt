@@ -10,12 +10,13 @@ use Rattle.simplex_law.specs.Sums.{int_sum, dot, unit_vector}
 use Rattle.simplex_law.specs.Programs.{ColumnOf, IsPacking}
 use Rattle.simplex_law.specs.Bases.{IsRow}
 use Rattle.simplex_law.specs.inner.Tableaux.{IsTableau, HasTableau}
-use Rattle.simplex_law.proofs.Arithmetic.{regroup, moved_out, le_times, times_nonneg, le_cancel}
+use Rattle.simplex_law.proofs.Arithmetic.{moved_out, le_times, times_nonneg, le_cancel}
 use Rattle.simplex_law.proofs.Sums.{dot-none-column, unit-same}
 use Rattle.simplex_law.proofs.Filling.{fills}
 use Rattle.simplex_law.proofs.Limited.{weight_positive}
 use Rattle.simplex_law.proofs.Reached.{value_nonneg}
 use Rattle.simplex_law.proofs.Unique.{value_unique}
+use Rattle.checked_fraction.proofs.Products.{regroup}
 
 -- one of n numbers that aren't negative is positive, or all are 0
 pub some_positive : (n : ℕ) (v : ℕ → ℤ) → ((k : ℕ) → k < n → pos 0 ≤ℤ v k) → ((k : ℕ) × (k < n) × (pos 0 <ℤ v k)) ⊎ ((k : ℕ) → k < n → v k ≡ pos 0)

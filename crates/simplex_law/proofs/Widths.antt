@@ -17,11 +17,11 @@ use Rattle.simplex_law.specs.Bases.{IsRow}
 use Rattle.simplex_law.specs.Evidence.{IsWide, IsRowOf, HoldsRow, HoldsProduct, HoldsSum, HoldsCommon}
 use Rattle.simplex_law.specs.inner.Tableaux.{IsTableau}
 use Rattle.simplex_law.specs.inner.Pivots.{IsPick}
-use Rattle.simplex_law.proofs.Arithmetic.{times_positive}
 use Rattle.simplex_law.proofs.LowestTerms.{some_lowest}
 use Rattle.simplex_law.proofs.Sums.{sum-same, dot-times}
 use Rattle.simplex_law.proofs.Rows.{multiple, reduced_row}
 use Rattle.simplex_law.proofs.Turned.{other_row, objective_row}
+use Rattle.checked_fraction.proofs.Products.{positive_product}
 
 -- a multiple by a divisor of a narrow number that has 2 ^ 124 or more is one of a wide number
 pub large_part : (g : ℕ) (den whole x : ℤ) → pos 0 <ℤ den → whole ≡ pos g *ℤ den → IsNarrow whole → 2 ^ 124 ≤ unsigned_abs (pos g *ℤ x) → 2 ^ 62 ≤ unsigned_abs x
@@ -84,7 +84,7 @@ module _ {N : Type 0} (m : ℕ) (bound : ℕ → ℤ) (is_column : ColumnOf N �
       → IsTooWide m (combined (nums i) (dot m (nums i) c.entry) (nums r) (dot m (nums r) c.entry)) (den i *ℤ dot m (nums r) c.entry) wide
       → HoldsRow m (put basis r c) i
   wide_row basis nums den duals duals_den c r i wide s k lt ne too =
-      let f = multiple m _ _ too.0 too.1 (times_positive (den i) (dot m (nums r) c.entry) (s.over i lt) k.positive) too.2 in
+      let f = multiple m _ _ too.0 too.1 (positive_product (den i) (dot m (nums r) c.entry) (s.over i lt) k.positive) too.2 in
       let row = reduced_row m (λ j. (put basis r c j).entry) (unit_vector i) _ too.0 _ too.1 f.0 f.1 (other_row m bound basis nums den duals duals_den c r i s k lt ne) in
       found (put basis r c) i too.0 too.1 wide (inverse_row (put basis r c) i too.0 too.1 lt too.2.positive row too.2.lowest) too.3
 
@@ -94,7 +94,7 @@ module _ {N : Type 0} (m : ℕ) (bound : ℕ → ℤ) (is_column : ColumnOf N �
       → IsTooWide m (combined duals (dot m duals c.entry -ℤ (duals_den *ℤ c.gain)) (nums r) (dot m (nums r) c.entry)) (duals_den *ℤ dot m (nums r) c.entry) wide
       → HoldsRow m (put basis r c) m
   wide_duals basis nums den duals duals_den c r wide s k too =
-      let f = multiple m _ _ too.0 too.1 (times_positive duals_den (dot m (nums r) c.entry) s.above k.positive) too.2 in
+      let f = multiple m _ _ too.0 too.1 (positive_product duals_den (dot m (nums r) c.entry) s.above k.positive) too.2 in
       let row = reduced_row m (λ j. (put basis r c j).entry) (λ j. (put basis r c j).gain) _ too.0 _ too.1 f.0 f.1 (objective_row m bound basis nums den duals duals_den c r s k) in
       found (put basis r c) m too.0 too.1 wide (last_row (put basis r c) too.0 too.1 too.2.positive row too.2.lowest) too.3
 

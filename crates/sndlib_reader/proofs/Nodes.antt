@@ -74,7 +74,7 @@ nodes_alike : (s t : List NodePart) (text : Text) → Alike s t → native_nodes
 nodes_alike s t text alike = lists_alike Parenthesis part_at names_of Alike alike_parts alike_longer (λ s t a. a.0) s t text alike
 
 -- the parts that stand for names so far
-all_names : (names : List (List ℕ)) → names_of (map NodeName names) ≡ names
+pub all_names : (names : List (List ℕ)) → names_of (map NodeName names) ≡ names
 all_names [] = refl
 all_names (n ∷ ns) = ap (λ (is : List (List ℕ)). n ∷ is) (all_names ns)
 

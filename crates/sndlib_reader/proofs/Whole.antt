@@ -19,7 +19,7 @@ use Rattle.text_kit.specs.declared.refusal.Refusal.{Refusal}
 use Rattle.text_kit.specs.declared.refusal.Refusal.TheVariants.{Bad, NoMemory}
 use Rattle.text_kit.proofs.Behind.{behind_all, behind_differ, differ_behind}
 use Rattle.text_kit.proofs.Files.{first_spelled, found_spelled, only_spelled, spelled_read}
-use Rattle.text_kit.proofs.Lawful.{AnyText, IsEnd, Starts, lawful_key, lawful_open, same_is}
+use Rattle.text_kit.proofs.Lawful.{AnyText, IsEnd, Starts, lawful_key, lawful_open}
 use Rattle.text_kit.proofs.Online.{ok_parts}
 use Rattle.text_kit.proofs.Spelled.{Spelled, behind_parts, parts_behind, spelled_as, spelled_give, spelled_law, spelled_list, spelled_then, spelled_word}
 use Rattle.sndlib_reader.specs.declared.costs.CostedLink.{CostedLink}
@@ -35,6 +35,7 @@ use Rattle.sndlib_reader.proofs.Skipped.{skipped_spelled}
 use Rattle.sndlib_reader.proofs.Nodes.{IsNewPart, are_parts, part_spelled, parts_are, parts_short}
 use Rattle.sndlib_reader.proofs.Laws.{AreDifferent, AreLinks, IsDemandBehind, IsLinkBehind, are_demands, are_links, demands_are, demands_spelled, links_are, links_lawful}
 use Rattle.sndlib_reader.proofs.Online.{sections_online}
+use Rattle.net_core.proofs.Checks.{same_is}
 
 -- ---- what is given of what was read
 

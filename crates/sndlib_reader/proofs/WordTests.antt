@@ -9,7 +9,6 @@ use Rattle.net_core.specs.declared.network.Module.{Module}
 use Rattle.net_core.specs.Tests.{are_same, is_named}
 use Rattle.text_kit.specs.Reading.{sound}
 use Rattle.text_kit.proofs.Amounts.{amount_again, amount_takes, number_takes}
-use Rattle.text_kit.proofs.Lawful.{same_is}
 use Rattle.text_kit.proofs.NameLaws.{IsPlaceIn, place_again, place_takes}
 use Rattle.text_kit.proofs.Outcomes.{if_ok, ok_is, unless_ok}
 use Rattle.sndlib_reader.specs.declared.fault.Limited.TheVariants as limits
@@ -17,6 +16,7 @@ use Rattle.sndlib_reader.specs.declared.fault.ReadKind.{ReadKind}
 use Rattle.sndlib_reader.specs.declared.fault.ReadKind.TheVariants.{Limit, Number, UnknownName, ZeroModule}
 use Rattle.sndlib_reader.specs.Spelling.{IsHops}
 use Rattle.sndlib_reader.specs.Reading.{path_name, known_name, node_named, apart, other_node, amount, carried, capacity, wanted, need, hops}
+use Rattle.net_core.proofs.Checks.{same_is}
 
 -- ---- names
 

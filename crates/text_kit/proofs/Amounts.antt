@@ -8,7 +8,8 @@ use Rattle.text_kit.specs.Items.{Money}
 use Rattle.text_kit.specs.Numbers.{number_or}
 use Rattle.text_kit.specs.Reading.{word_at}
 use Rattle.text_kit.proofs.Lawful.{AnyText, Lawful, lawful_word}
-use Rattle.text_kit.proofs.Outcomes.{unless_ok, if_ok, ok_is, not_false}
+use Rattle.text_kit.proofs.Outcomes.{unless_ok, if_ok, ok_is}
+use Rattle.net_core.proofs.Checks.{not_true}
 
 -- a number that was read: its word is a decimal without digits that are too fine, and it is below the limit
 record IsBelow (places limit : ℕ) (w : List ℕ) (n : ℕ) : Type 0 where
@@ -24,8 +25,8 @@ below_takes places limit w n e =
     let c = if_ok (nat_lt (units places w) limit) TooLarge (Ok (units places w)) n b.1 in
     let is : units places w ≡ n = ok_is {E = NumberFault} (units places w) n c.1 in
     record {
-      decimal = not_false (is_decimal w) a.0;
-      coarse = not_false (is_coarse places w) b.0;
+      decimal = not_true (is_decimal w) a.0;
+      coarse = not_true (is_coarse places w) b.0;
       value = is;
       below = subst (λ (k : ℕ). k < limit) is (ltb-true (units places w) limit c.0);
     }

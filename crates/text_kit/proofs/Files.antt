@@ -19,12 +19,13 @@ use Rattle.text_kit.specs.Written.{written}
 use Rattle.text_kit.specs.declared.refusal.Refusal.{Refusal}
 use Rattle.text_kit.specs.declared.refusal.Refusal.TheVariants.{Bad, NoMemory}
 use Rattle.text_kit.proofs.Agreeing.{files_agree, run_same, take_less}
-use Rattle.text_kit.proofs.Lawful.{IsEnd, Lawful, is_same, same_is}
+use Rattle.text_kit.proofs.Lawful.{IsEnd, Lawful, is_same}
 use Rattle.text_kit.proofs.Numerals.{drop_first, take_first}
 use Rattle.text_kit.proofs.Online.{IsOnline, err_parts, ok_parts, online_give, online_then, same_fault}
 use Rattle.text_kit.proofs.Spelled.{Spelled}
 use Rattle.text_kit.proofs.Rising.{RisesFrom, file_rises}
 use Rattle.text_kit.proofs.Written.{written_begins}
+use Rattle.net_core.proofs.Checks.{same_is}
 
 -- ---- first lines
 

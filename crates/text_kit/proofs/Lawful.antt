@@ -11,6 +11,7 @@ pub use Rattle.text_kit.proofs.Beginnings.{AnyText, IsEnd, IsLeftBy, Starts, beg
 use Rattle.text_kit.proofs.Online.{ok_parts, placed_ok}
 pub use Rattle.text_kit.proofs.Spelled.{Lawful}
 use Rattle.text_kit.proofs.Spelled.{behind_parts, law_spelled, parts_behind, spelled_as, spelled_elements, spelled_law}
+use Rattle.net_core.proofs.Checks.{same_is}
 
 pub lawful_give : {K X : Type 0} (v : X) → Lawful {K = K} (give v) (λ x. []) (λ x. v ≡ x) AnyText
 lawful_give {K} v = record {
@@ -93,14 +94,10 @@ module _ {K X : Type 0} (other ended : K) (test : List ℕ → Result X K) (item
   pub lawful_word : Lawful (word_at other ended test) (λ x. item x ∷ []) is AnyText
   lawful_word = record { takes = word_takes; again = λ text x rest form b left. word_again text x rest form b }
 
--- words are the same by their bytes
-pub same_is : (a b : List ℕ) → are_same a b ≡ true → a ≡ b
-same_is a b h = (slice_eq-Decides Decides-eqb a b (are_same a b) refl).0 h
-
 pub is_same : (a : List ℕ) → are_same a a ≡ true
 is_same a = (slice_eq-Decides Decides-eqb a a (are_same a a) refl).1 refl
 
-key_if : {K : Type 0} (other : K) (b : Bool) (x : Unit {0}) → (let r : Result (Unit {0}) K = cond b (Ok tt) (Err other) in r ≡ Ok x) → b ≡ true
+pub key_if : {K : Type 0} (other : K) (b : Bool) (x : Unit {0}) → (let r : Result (Unit {0}) K = cond b (Ok tt) (Err other) in r ≡ Ok x) → b ≡ true
 key_if other true x e = refl
 key_if other false x e = absurd cc
 

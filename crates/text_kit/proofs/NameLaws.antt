@@ -11,8 +11,9 @@ use Rattle.text_kit.specs.Items.{AreBehind, Verbatim}
 use Rattle.text_kit.specs.Names.{any_name, found_or, long_name_fault, named_place, new_name, new_name_fault}
 use Rattle.text_kit.specs.Reading.{sound, word_at}
 use Rattle.text_kit.proofs.Behind.{all_behind, behind_all, behind_as, behind_both, behind_differ, differ_behind}
-use Rattle.text_kit.proofs.Lawful.{AnyText, Lawful, behind_few, few_behind, is_same, lawful_word, same_is, sound_ok}
+use Rattle.text_kit.proofs.Lawful.{AnyText, Lawful, behind_few, few_behind, is_same, lawful_word, sound_ok}
 use Rattle.text_kit.proofs.Outcomes.{unless_ok}
+use Rattle.net_core.proofs.Checks.{same_is}
 
 -- ---- any name
 
@@ -83,7 +84,7 @@ new_are {X} name_of most xs few different short =
 
 -- ---- the place of a name; `d` is read where there is none
 
-found_takes : {K : Type 0} (unknown : K) (o : Option ℕ) (i : ℕ) → found_or unknown o ≡ Ok i → o ≡ Some i
+pub found_takes : {K : Type 0} (unknown : K) (o : Option ℕ) (i : ℕ) → found_or unknown o ≡ Ok i → o ≡ Some i
 found_takes unknown None i e = absurd cc
 found_takes unknown (Some k) i e = cc
 

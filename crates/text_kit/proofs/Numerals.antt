@@ -1,8 +1,8 @@
 -- Numbers and money as they are written, and read again.
-use Rattle.std.proofs.Common.{◌≡◌, ℕ, zero, suc, ◌+◌, ◌-◌, ◌*◌, ◌^◌, ◌/◌, ◌%◌, ◌≤◌, ◌<◌, ◌==◌, ◌&&◌, ◌||◌, Bool, true, false, nat_le, List, [], ◌∷◌, ◌++◌, length, take, drop, Ok, refl, sym, ap, ◌∙◌, arith, append-nil, length-append, subst}
+use Rattle.std.proofs.Common.{◌≡◌, ℕ, zero, suc, ◌+◌, ◌-◌, ◌*◌, ◌^◌, ◌/◌, ◌%◌, ◌≤◌, ◌<◌, ◌==◌, ◌||◌, Bool, true, false, nat_le, List, [], ◌∷◌, ◌++◌, length, take, drop, Ok, refl, sym, ap, ◌∙◌, arith, append-nil, length-append, subst}
 use Rattle.std.specs.Prelude.{decimal, bytes_eq}
 use Rattle.std.specs.List.{list_all, position_or_len}
-use Rattle.std.proofs.lemmas.Bool.{and_from, or_right, ne_eqb, lt-ltb, le-leb, leb-true}
+use Rattle.std.proofs.lemmas.Bool.{and_from, or_right, ne_eqb, lt-ltb, le-leb, leb-true, and_parts}
 use Rattle.std.proofs.Math.Nat.{pow-suc}
 use Rattle.std.proofs.lemmas.List.{drop-drop}
 use Rattle.std.proofs.lemmas.List.Folds.{list_all-append}
@@ -12,10 +12,6 @@ use Rattle.snd_tokens.specs.Digits.{is_digit, are_digits, number_of}
 use Rattle.net_core.specs.Names.{is_plain, is_word_byte}
 use Rattle.snd_tokens.specs.Wholes.{begins_with_zero, whole_of}
 use Rattle.text_kit.specs.Written.{last_digit, money_word}
-
-pub and_parts : (a b : Bool) → (a && b) ≡ true → (a ≡ true) × (b ≡ true)
-and_parts true b e = (refl, e)
-and_parts false b e = absurd cc
 
 or_true : (a : Bool) → (a || true) ≡ true
 or_true true = refl

@@ -10,7 +10,8 @@ use Rattle.snd_tokens.specs.Lexemes.{Text, WordAt, OpenAt, CloseAt, EndAt, text_
 use Rattle.snd_tokens.proofs.Scan.{tokens_from-close, tokens_from-end, tokens_from-open, tokens_from-space, tokens_from-word}
 use Rattle.text_kit.specs.Items.{Item, Verbatim, Whole, Money, Opening, Closing, SpellsItem, Begins}
 use Rattle.text_kit.specs.Written.{IsWritable, byte_after, money_word, word_of, written}
-use Rattle.text_kit.proofs.Numerals.{and_parts, decimal_plain, decimal_writes, drop_first, money_again, money_plain, take_first, whole_again}
+use Rattle.text_kit.proofs.Numerals.{decimal_plain, decimal_writes, drop_first, money_again, money_plain, take_first, whole_again}
+use Rattle.std.proofs.lemmas.Bool.{and_parts}
 
 -- a byte at a place, and the bytes after it
 record From (whole : List ℕ) (at b : ℕ) (bytes : List ℕ) : Type 0 where

@@ -49,7 +49,3 @@ module _ {A : Type 0} where
   pub sum_zero : (f : A → ℕ) (l : List A) → ((j : ℕ) (x : A) → get_elem? l j ≡ some x → f x ≡ 0) → sum_by f l ≡ 0
   sum_zero f [] h = refl
   sum_zero f (x ∷ xs) h = omega (arith, sum_by-cons f x xs, h 0 x refl, sum_zero f xs (λ j y e. h (suc j) y e))
-
-pub no_items : {A : Type 0} (xs : List A) → length xs ≡ 0 → xs ≡ []
-no_items [] e = refl
-no_items (x ∷ xs) e = absurd (omega arith)

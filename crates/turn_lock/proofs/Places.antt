@@ -1,10 +1,9 @@
 -- Prefixes, ascending places, how often a place stands among them, and numbers in a range.
 use Rattle.std.proofs.Common.{◌≡◌, ℕ, zero, suc, ◌+◌, ◌<◌, ◌≤◌, List, [], ◌∷◌, ◌++◌, length, eqb, ltb, leb, true, ◌&&◌, ⊎_elim, refl, sym, ap, ◌∙◌, arith, append_assoc, length-append}
-use Rattle.std.proofs.lemmas.List.{append-nil}
+use Rattle.std.proofs.lemmas.List.{append-nil, nil_from_length}
 use Rattle.std.proofs.lemmas.List.Sums.{sum_by-cons}
 use Rattle.std.proofs.lemmas.Bool.{and_parts, and_from, and_left, and_right, cases_eq, cases_lt, lt-ltb, le-ltb, le-leb, lt-leb, eq-eqb, ne_eqb, leb-true, ltb-true, ltb-false, cond_both}
 use Rattle.std.specs.List.{range_with_len}
-use Rattle.turn_lock.proofs.Lists.{no_items}
 use Rattle.turn_lock.specs.Histories.{IsPrefix, longer, are_places, with_place, merged}
 use Rattle.turn_lock.specs.inner.Rule.{one_where, within, times_at}
 
@@ -74,7 +73,7 @@ module _ {I : Type 0} where
 
   -- a prefix that isn't shorter is the whole list
   pub prefix_all : (xs ys : List I) → IsPrefix xs ys → length ys ≤ length xs → ys ≡ xs
-  prefix_all xs ys b le = sym b.1 ∙ (ap (λ rest. xs ++ rest) (no_items b.0 (omega (arith, length-append xs b.0, ap length b.1, le))) ∙ append-nil xs)
+  prefix_all xs ys b le = sym b.1 ∙ (ap (λ rest. xs ++ rest) (nil_from_length b.0 (omega (arith, length-append xs b.0, ap length b.1, le))) ∙ append-nil xs)
 
   -- of two prefixes of one list the shorter is a prefix of the longer
   shorter_begins : (log xs ys : List I) → IsPrefix xs log → IsPrefix ys log → length xs ≤ length ys → IsPrefix xs ys
@@ -102,7 +101,7 @@ module _ {I : Type 0} where
       (λ e. (omega arith, omega (arith, ltb-false (length xs) (length ys) e)))
 
 -- the first place, and the others
-first_place : (low high p : ℕ) (ps : List ℕ) → are_places low high (p ∷ ps) ≡ true → (low ≤ p) × (p < high) × (are_places (p + 1) high ps ≡ true)
+pub first_place : (low high p : ℕ) (ps : List ℕ) → are_places low high (p ∷ ps) ≡ true → (low ≤ p) × (p < high) × (are_places (p + 1) high ps ≡ true)
 first_place low high p ps h =
     let a = and_parts (leb low p) (ltb p high && are_places (p + 1) high ps) h in
     let b = and_parts (ltb p high) (are_places (p + 1) high ps) a.1 in

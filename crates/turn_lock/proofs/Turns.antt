@@ -16,6 +16,7 @@ use Rattle.turn_lock.specs.inner.Rule.{one_where, within, times_at, tickets_of, 
 use Rattle.turn_lock.specs.inner.Plays.{Awaits, Draws, Looks, TakesValue, Commits, Serves}
 use Rattle.turn_lock.proofs.Lists.{each_set, sum_set, one_below, two_below, sums_le, sums_lt}
 use Rattle.turn_lock.proofs.Places.{one_if, within_after, within_few, within_some, within_more, within_less, prefix_same, prefix_le, prefix_more, wider, place_last}
+use Rattle.net_core.proofs.Lists.{some_same}
 
 module _ {I : Type 0} where
   pub idle_from_number : (st : Stage I) → stage_number st ≡ 0 → st ≡ Idle
@@ -49,9 +50,6 @@ carried_same {T} x y cs ds same =
     let head : (0, Some x) ≡ (0, Some y) = cc same in
     let inner : Some x ≡ Some y = ap (λ (p : ℕ × Option T). p.1) head in
     cc inner
-
-pub some_same : {A : Type 0} (a b : A) → Some a ≡ Some b → a ≡ b
-some_same a b e = cc e
 
 module _ {T I O : Type 0} (history : T → List I) (made : T → O) (origin : O) where
   Rules : State (Option T) (View I O) → Type 0

@@ -6,8 +6,9 @@ use Rattle.net_core.specs.declared.plan.Flow.{Flow}
 use Rattle.net_core.specs.declared.ids.LinkId.{LinkId}
 use Rattle.plan_terms.specs.Fallbacks.{IsLeastRouting}
 use Rattle.module_choice.specs.inner.Routes.{AreRouted, weight}
-use Rattle.module_choice.proofs.Carrying.{few_flows, few_nodes, flows_small, least_flows, links_known, network_links, routed_more}
+use Rattle.module_choice.proofs.Carrying.{few_flows, flows_small, least_flows, links_known, network_links, routed_more}
 use Rattle.module_choice.proofs.fallback.route_next.Goals as goal
+use Rattle.net_core.proofs.Networks.{few_nodes}
 
 pub route_state-requires-clause-long : goal.route_state-requires-clause-long
 route_state-requires-clause-long c = c.requires.long c.len.result

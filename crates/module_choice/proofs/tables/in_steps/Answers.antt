@@ -1,11 +1,11 @@
 use Rattle.std.proofs.Common.{sym}
 use Rattle.std.proofs.Math.Nat.{mul-div_cancel'}
-use Rattle.plan_terms.proofs.Bounds.{divisor_positive}
 use Rattle.module_choice.proofs.Steps.{quotient_sound}
 use Rattle.module_choice.proofs.tables.in_steps.Goals as goal
+use Rattle.net_core.proofs.Numbers.{positive_divisor}
 
 pub nonzero_div-result : goal.nonzero_div-result
-nonzero_div-result c = divisor_positive c.args.step c.args.m.now.capacity c.requires.sound.carries c.requires.divides
+nonzero_div-result c = positive_divisor c.args.step c.args.m.now.capacity c.requires.sound.carries c.requires.divides
 
 pub returns-clause-capacity : goal.returns-clause-capacity
 returns-clause-capacity c = sym (mul-div_cancel' c.args.step c.requires.divides)

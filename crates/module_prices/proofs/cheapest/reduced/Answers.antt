@@ -1,14 +1,14 @@
 use Rattle.std.proofs.Common.{sym}
 use Rattle.std.proofs.Math.Nat.{div-mul_cancel}
-use Rattle.plan_terms.proofs.Bounds.{divisor_positive}
 use Rattle.plan_terms.proofs.Multipliers.{lowest_terms}
 use Rattle.module_prices.proofs.cheapest.reduced.Goals as goal
+use Rattle.net_core.proofs.Numbers.{positive_divisor}
 
 pub nonzero_div-result : goal.nonzero_div-result
-nonzero_div-result c = divisor_positive _ c.args.m.now.capacity c.requires.carries c.gcd-common.ensures.1
+nonzero_div-result c = positive_divisor _ c.args.m.now.capacity c.requires.carries c.gcd-common.ensures.1
 
 pub nonzero_div-result-2 : goal.nonzero_div-result-2
-nonzero_div-result-2 c = divisor_positive _ c.args.m.now.capacity c.requires.carries c.gcd-common.ensures.1
+nonzero_div-result-2 c = positive_divisor _ c.args.m.now.capacity c.requires.carries c.gcd-common.ensures.1
 
 pub returns : goal.returns
 returns c =

@@ -5,10 +5,10 @@ use Rattle.net_core.specs.Views.{case_of}
 use Rattle.plan_terms.specs.Certificates.{IsRight}
 use Rattle.plan_types.specs.declared.certificate.CertLine.{CertLine}
 use Rattle.plan_checker.specs.Certified.{HasOtherRight}
-use Rattle.plan_checker.proofs.KeptLengths.{right_one}
 use Rattle.plan_checker.proofs.Places.{all_held, each_read, none_at_all, none_read}
 use Rattle.plan_checker.proofs.Telling.{no_right}
 use Rattle.plan_checker.proofs.rights.check_rights.Goals as goal
+use Rattle.plan_terms.proofs.Distances.{right_once}
 
 pub loop-i-preserved : goal.loop-i-preserved
 loop-i-preserved c =
@@ -18,7 +18,7 @@ loop-i-preserved c =
     let same = c.if-cut-right.false in
     record {
       none = λ j x y lt. none_read c.args.lines.now (λ k (line : CertLine). HasOtherRight p line x y) i d c.loop-i-test.true (λ k lt'. c.loop-i.invariant.none k x y lt')
-          (λ other. other.differ (sym other.printed ∙ same ∙ right_one _ _ _ _ _ c.in_ok-right.ensures other.right)) j lt;
+          (λ other. other.differ (sym other.printed ∙ same ∙ right_once _ _ _ _ _ c.in_ok-right.ensures other.right)) j lt;
       rights = each_read c.args.lines.now (λ k (line : CertLine). IsRight (Joins (graph_in p line.cut.state.0)) line.cut.lengths p.demands line.cut.right) i d c.loop-i-test.true c.loop-i.invariant.rights
           (subst (IsRight _ _ _) (sym same) c.in_ok-right.ensures);
     }

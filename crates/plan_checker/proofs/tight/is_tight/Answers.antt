@@ -4,8 +4,9 @@ use Rattle.net_core.specs.Views.{case_of}
 use Rattle.net_core.specs.declared.network.Link.{Link}
 use Rattle.net_core.specs.declared.plan.Routing.{Routing}
 use Rattle.plan_checker.specs.Shares.{AreCarried, GivesShare}
-use Rattle.plan_checker.proofs.SharesKept.{modules_sound, not_tight, tight_by}
+use Rattle.plan_checker.proofs.SharesKept.{not_tight, tight_by}
 use Rattle.plan_checker.proofs.tight.is_tight.Goals as goal
+use Rattle.net_core.proofs.Networks.{modules_sound}
 
 pub returns-then-not-costs_raw : goal.returns-then-not-costs_raw
 returns-then-not-costs_raw c =

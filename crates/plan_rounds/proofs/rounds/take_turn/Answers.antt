@@ -7,10 +7,11 @@ use Rattle.plan_rounds.specs.inner.Alone.{IsPoolAfterTurn}
 use Rattle.plan_rounds.specs.inner.Turns.{IsTurnOf}
 use Rattle.plan_rounds.proofs.OwnTurns.{pool_worked}
 use Rattle.plan_rounds.proofs.Results.{if_ok}
-use Rattle.plan_rounds.proofs.Bounding.{have_bounds, modules_sound}
+use Rattle.plan_rounds.proofs.Bounding.{have_bounds}
 use Rattle.plan_rounds.proofs.Seeing.{goes_none}
 use Rattle.plan_rounds.proofs.Turning.{best_at, wide_turn}
 use Rattle.plan_rounds.proofs.rounds.take_turn.Goals as goal
+use Rattle.net_core.proofs.Networks.{modules_sound}
 
 pub master-requires-clause-lengths : goal.master-requires-clause-lengths
 master-requires-clause-lengths g c = have_bounds (case_of c.args.instance.now) (g.S.Separate.history c.args.separator.now) c.args.candidates.now c.requires.listed

@@ -1,16 +1,16 @@
 use Rattle.std.proofs.Common.{◌∙◌, sym}
 use Rattle.net_core.specs.declared.plan.CutLine.{CutLine}
 use Rattle.net_core.specs.Views.{case_of}
-use Rattle.plan_checker.proofs.KeptLengths.{right_one}
 use Rattle.plan_checker.proofs.Places.{none_at_all, none_more}
 use Rattle.report_checker.specs.Pools.{HasStaleRight}
 use Rattle.report_checker.proofs.Telling.{no_stale}
 use Rattle.report_checker.proofs.pool.check_rights.Goals as goal
+use Rattle.plan_terms.proofs.Distances.{right_once}
 
 pub loop-k-preserved : goal.loop-k-preserved
 loop-k-preserved c j x y lt =
     none_more c.args.pool.now (λ _ (line : CutLine). HasStaleRight (case_of c.args.instance.now) line x y) c.loop-k.k c.index-pool-k.result c.index-pool-k.is (λ i before. c.loop-k.invariant i x y before)
-    (λ other. other.differ (sym other.printed ∙ (c.if-line-right.false ∙ right_one _ _ _ _ _ c.in_ok-right.ensures other.right))) j lt
+    (λ other. other.differ (sym other.printed ∙ (c.if-line-right.false ∙ right_once _ _ _ _ _ c.in_ok-right.ensures other.right))) j lt
 
 pub returns : goal.returns
 returns c = record {

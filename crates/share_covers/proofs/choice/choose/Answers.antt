@@ -1,11 +1,12 @@
 use Rattle.std.proofs.Common.{ap, sym, subst, ◌∙◌, ◌≡◌}
 use Rattle.net_core.specs.Views.{case_of}
-use Rattle.module_choice.proofs.Carrying.{few_nodes, network_links}
+use Rattle.module_choice.proofs.Carrying.{network_links}
 use Rattle.share_covers.specs.Choices.{IsChosen}
 use Rattle.share_covers.specs.InstalledRoutes.{IsRoutesAnswer, installed_caps}
 use Rattle.share_covers.specs.inner.Widened.{widened}
 use Rattle.share_covers.proofs.Choosing.{kept_cheaper, kept_equal, kept_short, kept_wide}
 use Rattle.share_covers.proofs.choice.choose.Goals as goal
+use Rattle.net_core.proofs.Networks.{few_nodes}
 
 pub returns-then-fallback-installed : goal.returns-then-fallback-installed
 returns-then-fallback-installed c =

@@ -2,8 +2,8 @@ use Rattle.std.proofs.Common.{◌≡◌, ◌≤◌, unsigned_abs, subst, arith}
 use Rattle.std.proofs.lemmas.Int.{ints}
 use Rattle.std.proofs.lemmas.Nat.Gcd.{le_of_dvd}
 use Rattle.std.specs.Int.{IsGcd}
-use Rattle.checked_fraction.proofs.Divisors.{positive_divisor}
 use Rattle.simplex_core.proofs.factors.common_divisor.Goals as goal
+use Rattle.net_core.proofs.Numbers.{positive_divisor}
 
 pub returns-clause-gcd : goal.returns-clause-gcd
 returns-clause-gcd c =

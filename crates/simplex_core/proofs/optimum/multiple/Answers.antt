@@ -1,7 +1,8 @@
 use Rattle.std.proofs.Common.{◌/◌}
 use Rattle.std.proofs.Math.Nat.{dvd-mul_left}
-use Rattle.simplex_core.proofs.Multiples.{divisor_some, multiple_some, multiple_first, multiple_least}
+use Rattle.simplex_core.proofs.Multiples.{multiple_some, multiple_first, multiple_least}
 use Rattle.simplex_core.proofs.optimum.multiple.Goals as goal
+use Rattle.net_core.proofs.Numbers.{positive_divisor}
 
 pub returns-clause-some : goal.returns-clause-some
 returns-clause-some c = multiple_some c.args.a c.args.b c.gcd.result c.requires.a.0 c.requires.b.0 c.gcd.ensures
@@ -16,4 +17,4 @@ pub returns-clause-second : goal.returns-clause-second
 returns-clause-second c = dvd-mul_left c.args.b (c.args.a / c.gcd.result)
 
 pub nonzero_div-result : goal.nonzero_div-result
-nonzero_div-result c = divisor_some c.gcd.result c.args.a c.requires.a.0 c.gcd.ensures.0
+nonzero_div-result c = positive_divisor c.gcd.result c.args.a c.requires.a.0 c.gcd.ensures.0

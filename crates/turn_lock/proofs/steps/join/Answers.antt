@@ -1,13 +1,13 @@
 use Rattle.std.proofs.Common.{arith, ap, ◌∙◌}
-use Rattle.turn_lock.proofs.Lists.{no_items}
 use Rattle.turn_lock.proofs.Passing.{joins, settle_allows}
 use Rattle.turn_lock.proofs.steps.join.Goals as goal
+use Rattle.std.proofs.lemmas.List.{nil_from_length}
 
 pub join_seat-requires : goal.join_seat-requires
 join_seat-requires g c = (
   c.requires.own,
   c.requires.same,
-  no_items c.args.other.me.1 c.requires.hand,
+  nil_from_length c.args.other.me.1 c.requires.hand,
   omega (arith, c.requires.sizes),
   joins g.T.Chronicle.history g.T.Chronicle.origin _ _ c.args.seat.now.me.0 _ c.args.other.me.0 c.requires.idle.0 c.requires.idle.1 c.requires.units,
 )

@@ -4,8 +4,9 @@ use Rattle.net_core.specs.Views.{graph_of}
 use Rattle.plan_terms.proofs.Distinct.{path_links_known}
 use Rattle.plan_terms.proofs.Few.{path_few}
 use Rattle.plan_terms.proofs.Joining.{joins_below, joins_inside}
-use Rattle.short_paths.proofs.Pricing.{few_nodes, least_priced}
+use Rattle.short_paths.proofs.Pricing.{least_priced}
 use Rattle.short_paths.proofs.cheapest_paths.CheapestPaths.path.Goals as goal
+use Rattle.net_core.proofs.Networks.{few_nodes}
 
 pub total_of-total-requires-clause-known : goal.total_of-total-requires-clause-known
 total_of-total-requires-clause-known c =
