@@ -16,12 +16,12 @@ use Rattle.simplex_law.proofs.Sums.{dot-same, unit-same, unit-other}
 use Rattle.simplex_law.proofs.Reached.{started}
 use Rattle.simplex_law.proofs.Optimal.{optimum}
 use Rattle.key_law.specs.Keys.{left_target, AreRoles, AreKeys, key, key_part, left_column}
-use Rattle.key_law.specs.KeyRows.{full_kept, full_prices, full_key, key_nums, key_dot, role_nums, role_den, role_value, AreKeyRows}
+use Rattle.key_law.specs.KeyRows.{full_kept, full_prices, full_key, key_nums, key_dot, role_nums, role_value, AreKeyRows}
 use Rattle.key_law.specs.Kept.{IsKept}
 use Rattle.key_law.proofs.Spread.{is_spread, full_lowest}
 use Rattle.key_law.proofs.Blocks.{block_of}
 use Rattle.key_law.proofs.Kept.{inverse_block, row_product, key_row_product}
-use Rattle.key_law.proofs.Roles.{demand_rows, role_tableau}
+use Rattle.key_law.proofs.Roles.{demand_rows, role_tableau, role_den}
 
 module _ {N : Type 0} (links demands : ℕ) (bound : ℕ → ℤ) (slack : ℕ → N) (kept : ℕ → ℕ → ℤ) (den prices : ℕ → ℤ) (prices_den : ℤ)
     (bounds : (k : ℕ) → k < links + demands → pos 0 ≤ℤ bound k)
@@ -74,7 +74,7 @@ module _ {N : Type 0} {links demands : ℕ} {bound : ℕ → ℤ} {basis : ℕ �
   abbrev role_weight : ℕ → ℤ
   role_weight r = cond (ltb r links) (weight r) (pos 1)
 
-  over_all : (r : ℕ) → r < links + demands → role_weight r *ℤ role_den links demands basis place den (λ d. all) r ≡ all
+  over_all : (r : ℕ) → r < links + demands → role_weight r *ℤ role_den links den (λ d. all) r ≡ all
   over_all r l = ⊎_elim
       (λ lt. subst (λ t. cond t (weight r) (pos 1) *ℤ cond t (den r) all ≡ all) (sym (lt-ltb r links lt)) (weights r lt))
       (λ ge. subst (λ t. cond t (weight r) (pos 1) *ℤ cond t (den r) all ≡ all) (sym (le-ltb r links ge)) (once all))
@@ -110,12 +110,12 @@ module _ {N : Type 0} {links demands : ℕ} {bound : ℕ → ℤ} {basis : ℕ �
   pub kept_optimum : (is_column : ColumnOf N → Type 0) → ((j : ℕ) → j < links + demands → is_column (basis j))
       → ((c : ColumnOf N) → is_column c → Gains (links + demands) (full_prices links demands basis place prices prices_den) prices_den c → ⊥)
       → IsOptimum (links + demands) bound is_column basis (λ j. role_value links demands basis place kept weight all bound (role j)) all (full_prices links demands basis place prices prices_den) prices_den
-  kept_optimum is_column columns best = optimum (links + demands) bound is_column basis (λ j. nums_of (role j)) (λ j. role_den links demands basis place den (λ d. all) (role j))
+  kept_optimum is_column columns best = optimum (links + demands) bound is_column basis (λ j. nums_of (role j)) (λ j. role_den links den (λ d. all) (role j))
       (full_prices links demands basis place prices prices_den) prices_den _ all columns (role_tableau h key_rows)
       (full_lowest links demands (key_part links demands basis place) (λ d. (key links demands basis place d).gain) prices prices_den _
       (is_spread links demands (key_part links demands basis place) (λ d. (key links demands basis place d).gain) prices prices_den) h.prices_lowest)
       best positive (λ j l. whole_value (role j) (h.roles.role_in j l))
     where
-      whole_value : (r : ℕ) → r < links + demands → role_value links demands basis place kept weight all bound r *ℤ role_den links demands basis place den (λ d. all) r ≡ all *ℤ dot (links + demands) (nums_of r) bound
-      whole_value r l = ap (λ x. x *ℤ role_den links demands basis place den (λ d. all) r) (values_are r l)
-          ∙ (swap_last (role_weight r) (dot (links + demands) (nums_of r) bound) (role_den links demands basis place den (λ d. all) r) ∙ ap (λ x. x *ℤ dot (links + demands) (nums_of r) bound) (over_all r l))
+      whole_value : (r : ℕ) → r < links + demands → role_value links demands basis place kept weight all bound r *ℤ role_den links den (λ d. all) r ≡ all *ℤ dot (links + demands) (nums_of r) bound
+      whole_value r l = ap (λ x. x *ℤ role_den links den (λ d. all) r) (values_are r l)
+          ∙ (swap_last (role_weight r) (dot (links + demands) (nums_of r) bound) (role_den links den (λ d. all) r) ∙ ap (λ x. x *ℤ dot (links + demands) (nums_of r) bound) (over_all r l))

@@ -1,5 +1,5 @@
 -- rows by their roles make a tableau, and a pick over the roles is a pick over its rows
-use Rattle.std.proofs.Common.{◌≡◌, ℕ, ◌<◌, ◌≤◌, ◌+◌, ◌-◌, sym, ap, ◌∙◌, arith, cond, ⊎_elim, subst}
+use Rattle.std.proofs.Common.{◌≡◌, ℕ, ◌<◌, ◌≤◌, ◌+◌, ◌-◌, sym, ap, ◌∙◌, arith, cond, ltb, ⊎_elim, subst}
 use Rattle.std.proofs.lemmas.Bool.{cases_lt, lt-ltb, le-ltb}
 use Rattle.std.proofs.Math.IntN.{ℤ, pos, ◌*ℤ◌}
 use Rattle.std.specs.Int.Signed.{◌<ℤ◌}
@@ -10,9 +10,13 @@ use Rattle.simplex_law.specs.inner.Tableaux.{IsTableau}
 use Rattle.simplex_law.specs.inner.Pivots.{IsPick, IsRatioLe}
 use Rattle.simplex_law.proofs.Unique.{same_tableau, weights}
 use Rattle.key_law.specs.Kept.{IsKept}
-use Rattle.key_law.specs.KeyRows.{full_kept, full_prices, full_key, key_nums, HaveWeights, role_nums, role_den, AreKeyRows}
+use Rattle.key_law.specs.KeyRows.{full_kept, full_prices, full_key, key_nums, HaveWeights, role_nums, AreKeyRows}
 use Rattle.key_law.specs.Turns.{IsKeyPick}
 use Rattle.key_law.proofs.Kept.{kept_row, prices_row, cost_product, key_row}
+
+-- the denominators of the rows by role; those of the keys are given
+abbrev pub role_den : ℕ → (ℕ → ℤ) → (ℕ → ℤ) → ℕ → ℤ
+role_den links den of_den r = cond (ltb r links) (den r) (of_den (r - links))
 
 -- each demand's columns brought over a denominator of its own
 pub demand_rows : {N : Type 0} {links demands : ℕ} {bound : ℕ → ℤ} {basis : ℕ → ColumnOf N} {place role : ℕ → ℕ} {kept : ℕ → ℕ → ℤ} {den prices : ℕ → ℤ} {prices_den : ℤ}
@@ -34,7 +38,7 @@ module _ {N : Type 0} {links demands : ℕ} {bound : ℕ → ℤ} {basis : ℕ �
   rows_of = role_nums links demands basis place kept den of_keys of_den
 
   abbrev dens_of : ℕ → ℤ
-  dens_of = role_den links demands basis place den of_den
+  dens_of = role_den links den of_den
 
   at_link : (P : (ℕ → ℤ) → ℤ → Type 0) (r : ℕ) → r < links → P (full_kept links demands basis place (kept r) (den r)) (den r) → P (rows_of r) (dens_of r)
   at_link P r l p = subst (λ t. P (cond t (full_kept links demands basis place (kept r) (den r)) (full_key links demands basis place (r - links) (of_keys (r - links)) (of_den (r - links)))) (cond t (den r) (of_den (r - links))))

@@ -14,13 +14,13 @@ use Rattle.simplex_law.proofs.Sums.{sum-same, dot-same}
 use Rattle.simplex_law.proofs.Rows.{multiple, reduced_row}
 use Rattle.simplex_law.proofs.Turned.{first_row, other_row, objective_row, turned_raw}
 use Rattle.key_law.specs.Keys.{left_target, AreKeys, IsBlockRow, key, key_part, left_column, block}
-use Rattle.key_law.specs.KeyRows.{full_kept, full_prices, full_key, cost, role_nums, role_den, AreKeyRows}
+use Rattle.key_law.specs.KeyRows.{full_kept, full_prices, full_key, cost, role_nums, AreKeyRows}
 use Rattle.key_law.specs.Kept.{IsKept}
 use Rattle.key_law.specs.Turns.{IsBlockTurned, IsLoneKey}
 use Rattle.key_law.proofs.Spread.{is_spread}
 use Rattle.key_law.proofs.Blocks.{block_of}
 use Rattle.key_law.proofs.Kept.{inverse_block, row_product, cost_product}
-use Rattle.key_law.proofs.Roles.{role_tableau}
+use Rattle.key_law.proofs.Roles.{role_tableau, role_den}
 use Rattle.checked_fraction.proofs.Products.{positive_product}
 
 -- numbers that agree below m are the same row
@@ -41,7 +41,7 @@ module _ {N : Type 0} {links demands : ℕ} {bound : ℕ → ℤ} {basis : ℕ �
   nums_at j = role_nums links demands basis place kept den of_keys of_den (role j)
 
   abbrev dens_at : ℕ → ℤ
-  dens_at j = role_den links demands basis place den of_den (role j)
+  dens_at j = role_den links den of_den (role j)
 
   abbrev full : ℕ → ℤ
   full = full_prices links demands basis place prices prices_den
@@ -75,7 +75,7 @@ module _ {N : Type 0} {links demands : ℕ} {bound : ℕ → ℤ} {basis : ℕ �
       ∙ ap (λ t. cond t (full_kept links demands basis place (kept i) (den i)) (full_key links demands basis place (i - links) (of_keys (i - links)) (of_den (i - links)))) (lt-ltb i links l)
 
   den_at : (i : ℕ) → i < links → dens_at (place i) ≡ den i
-  den_at i l = ap (λ x. role_den links demands basis place den of_den x) (h.roles.there i (omega (arith, l))) ∙ ap (λ t. cond t (den i) (of_den (i - links))) (lt-ltb i links l)
+  den_at i l = ap (λ x. role_den links den of_den x) (h.roles.there i (omega (arith, l))) ∙ ap (λ t. cond t (den i) (of_den (i - links))) (lt-ltb i links l)
 
   number_at : (i x : ℕ) → i < links → x < links → nums_at (place i) x ≡ kept i x
   number_at i x l lx = ap (λ u. u x) (row_at i l) ∙ (is_spread links demands (key_part links demands basis place) (λ d. pos 0) (kept i) (den i)).link x lx

@@ -43,10 +43,6 @@ module _ {N : Type 0} (links demands : ℕ) (basis : ℕ → ColumnOf N) (place 
   abbrev pub role_nums : (ℕ → ℕ → ℤ) → (ℕ → ℤ) → (ℕ → ℕ → ℤ) → (ℕ → ℤ) → ℕ → ℕ → ℤ
   role_nums kept den of_keys of_den r = cond (ltb r links) (full_kept (kept r) (den r)) (full_key (r - links) (of_keys (r - links)) (of_den (r - links)))
 
-  -- and their denominators
-  abbrev pub role_den : (ℕ → ℤ) → (ℕ → ℤ) → ℕ → ℤ
-  role_den den of_den r = cond (ltb r links) (den r) (of_den (r - links))
-
   -- the link entries of a role's row, where weights bring each demand's columns over a denominator of the demand's own
   abbrev pub role_links : (ℕ → ℕ → ℤ) → (ℕ → ℕ → ℤ) → ℕ → ℕ → ℤ
   role_links kept weight r = cond (ltb r links) (kept r) (key_nums kept (weight (r - links)) (r - links))

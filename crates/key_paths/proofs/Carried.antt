@@ -21,9 +21,10 @@ use Rattle.simplex_law.proofs.Sparse.{sparse}
 use Rattle.key_paths.specs.declared.carrier.Carrier.{Carrier}
 use Rattle.key_rows.specs.declared.keyed.Keyed.{Keyed}
 use Rattle.key_paths.specs.inner.Gaining.{cost_at, AreLinkCosts, AreOffers, IsCarried, IsCarrier, IsGaining, NoneGains, NoneIsCheap, Offers}
-use Rattle.key_rows.specs.Names.{path_total, IsShortPath}
+use Rattle.key_rows.specs.Names.{IsShortPath}
 use Rattle.std.proofs.lemmas.List.Elements.{All-push}
 use Rattle.net_core.proofs.Networks.{few_nodes}
+use Rattle.key_rows.proofs.Paths.{path_total}
 
 prices_along : (n : ℕ) (nums : ℕ → ℤ) (prices : List ℕ) (path : List LinkId) → AllByRecursion (λ l. l.0 < n) path → ((e : ℕ) → e < n → nums e ≡ pos (slice_index prices e))
     → path_total nums path ≡ pos (length_of prices path)

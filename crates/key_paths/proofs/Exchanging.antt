@@ -25,12 +25,12 @@ use Rattle.key_law.proofs.Roles.{some_key_rows}
 use Rattle.key_rows.specs.Bases.{IsShapedBasis, IsColumnNamed, IsKeyed}
 use Rattle.key_rows.specs.KeyRows.{amounts, less_rows, IsOwn}
 use Rattle.key_rows.specs.Names.{demand_in, links_in, column_name, key_name, key_links, left_uses, own_entry, owner_in, path_uses, IsNameWithin}
-use Rattle.key_paths.specs.inner.Held.{IsNameOf, IsNamedColumn, IsHeld, IsEntering, HaveProducts}
+use Rattle.key_paths.specs.inner.Held.{IsNameOf, IsHeld, IsEntering, HaveProducts}
 use Rattle.key_paths.specs.inner.Turning.{key_takes, with_numbers, IsRoleSwap}
 use Rattle.key_rows.specs.declared.keyed.Keyed.{Keyed}
 use Rattle.key_rows.proofs.Columns.{owner_entry, times_are, have_weights}
 use Rattle.key_paths.proofs.Holding.{den_narrow, bound_narrow, held_packing, held_columns, key_named, key_own, left_low, left_of_name}
-use Rattle.key_paths.proofs.Named.{uses_path, own_owner}
+use Rattle.key_paths.proofs.Named.{uses_path, own_owner, IsNamedColumn}
 
 swap_in : (a b r m : ℕ) → a < m → b < m → r < m → swap a b r < m
 swap_in a b r m la lb lr =

@@ -17,10 +17,10 @@ use Rattle.key_law.proofs.Amounts.{kept_value_low}
 use Rattle.key_rows.specs.Bases.{IsShapedBasis, IsColumnNamed, IsKeyed}
 use Rattle.key_rows.specs.KeyRows.{amounts}
 use Rattle.key_rows.specs.Names.{demand_in, links_in, left_uses, HasKey, IsShortPath, key_links, column_name, key_name, own_entry}
-use Rattle.key_paths.specs.inner.Held.{IsZeroOrOne, IsNameOf, IsNamedColumn, IsOnce, AreColumnNames, IsHeld}
+use Rattle.key_paths.specs.inner.Held.{IsZeroOrOne, IsNameOf, IsOnce, AreColumnNames, IsHeld}
 use Rattle.key_rows.specs.declared.keyed.Keyed.{Keyed}
 use Rattle.key_rows.proofs.Columns.{left_is, left_is_free}
-use Rattle.key_paths.proofs.Named.{entry_01, once_links, short_links, named_packing}
+use Rattle.key_paths.proofs.Named.{entry_01, once_links, short_links, named_packing, IsNamedColumn}
 
 pub den_narrow : (row : Option Row) → IsNarrow (den_of row)
 den_narrow None = omega (arith, ints)

@@ -26,9 +26,9 @@ use Rattle.key_law.proofs.Wide.{wide_demand}
 use Rattle.key_rows.specs.Bases.{IsShapedBasis, IsColumnNamed, IsKeyed}
 use Rattle.key_rows.specs.KeyRows.{amounts}
 use Rattle.key_rows.specs.Names.{demand_in, links_in, column_name, key_name, own_entry, owner_in, path_uses, key_dual, IsNameWithin}
-use Rattle.key_paths.specs.inner.Held.{IsNameOf, IsNamedColumn, IsOnce, IsHeld, IsEntering, IsAlone, IsWideNext}
+use Rattle.key_paths.specs.inner.Held.{IsNameOf, IsOnce, IsHeld, IsEntering, IsAlone, IsWideNext}
 use Rattle.key_rows.specs.declared.keyed.Keyed.{Keyed}
-use Rattle.key_paths.proofs.Named.{own_none, uses_path, once_links, named_price, put_each}
+use Rattle.key_paths.proofs.Named.{own_none, uses_path, once_links, named_price, put_each, IsNamedColumn}
 use Rattle.key_paths.proofs.Holding.{den_narrow, held_packing, held_columns, key_named, key_own, amount_low}
 use Rattle.key_rows.proofs.Columns.{own_demand}
 

@@ -28,7 +28,7 @@ use Rattle.simplex_law.proofs.Sums.{dot-same, unit-same, unit-other}
 use Rattle.key_law.specs.Keys.{key, key_part}
 use Rattle.key_law.specs.KeyRows.{full_prices, role_nums}
 use Rattle.key_law.proofs.Amounts.{some_limit}
-use Rattle.key_law.proofs.Roles.{role_tableau, some_key_rows}
+use Rattle.key_law.proofs.Roles.{role_tableau, some_key_rows, role_den}
 use Rattle.key_law.proofs.Spread.{is_spread}
 use Rattle.key_law.proofs.Steps.{key_reached, key_falls}
 use Rattle.key_paths.specs.inner.Starts.{IsStart}
@@ -189,7 +189,7 @@ module _ (g : Graph) (demands : List Demand) (caps : Caps) where
           not_positive _ (e r l (role_nums links count at.basis at.place (Rattle.simplex_core.specs.Tables.nums_at b.rows) (Rattle.simplex_core.specs.Tables.den_at b.rows) k.0 k.1 r) _
           (subst (λ x. Rattle.simplex_law.specs.Bases.IsInverseRow rows at.basis (at.place r)
           (role_nums links count at.basis at.place (Rattle.simplex_core.specs.Tables.nums_at b.rows) (Rattle.simplex_core.specs.Tables.den_at b.rows) k.0 k.1 x)
-          (Rattle.key_law.specs.KeyRows.role_den links count at.basis at.place (Rattle.simplex_core.specs.Tables.den_at b.rows) k.1 x)) (kept.roles.there r l) (t.over (at.place r) p, t.rows (at.place r) p))))
+          (role_den links (Rattle.simplex_core.specs.Tables.den_at b.rows) k.1 x)) (kept.roles.there r l) (t.over (at.place r) p, t.rows (at.place r) p))))
 
       -- evidence of a basis, this one or the next
       holds_kind : (basis : ℕ → ColumnOf RouteColumn) (kind : WideKind RouteColumn) → HoldsWide links count column basis kind → HoldsKind rows bound (route_slack g) is_column basis kind

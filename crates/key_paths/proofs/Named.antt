@@ -16,7 +16,11 @@ use Rattle.key_law.specs.KeyRows.{full_prices}
 use Rattle.key_law.proofs.Spread.{is_spread}
 use Rattle.key_rows.specs.Bases.{IsColumnNamed}
 use Rattle.key_rows.specs.Names.{demand_in, gain_in, links_in, column_name, own_entry, owner_in, path_uses, uses, key_dual, IsShortPath, IsNameWithin}
-use Rattle.key_paths.specs.inner.Held.{IsZeroOrOne, IsNameOf, IsNamedColumn, IsOnce}
+use Rattle.key_paths.specs.inner.Held.{IsZeroOrOne, IsNameOf, IsOnce}
+
+-- a column of a name of links and a demand that there are
+abbrev pub IsNamedColumn : ℕ → ℕ → ColumnOf RouteColumn → Type 0
+IsNamedColumn links demands c = (name : RouteColumn) × IsNameOf links demands name × IsColumnNamed links demands name c
 
 -- entries are 0 or 1
 unit_01 : (i k : ℕ) → IsZeroOrOne (unit_vector i k)

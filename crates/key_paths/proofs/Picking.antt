@@ -10,9 +10,9 @@ use Rattle.simplex_law.specs.Sums.{dot}
 use Rattle.simplex_law.proofs.Sums.{dot-same}
 use Rattle.simplex_core.specs.Tables.{nums_at, den_at}
 use Rattle.key_law.specs.Keys.{left_column}
-use Rattle.key_law.specs.KeyRows.{role_nums, role_den, cost, key_dot}
+use Rattle.key_law.specs.KeyRows.{role_nums, cost, key_dot}
 use Rattle.key_law.proofs.Kept.{cost_product}
-use Rattle.key_law.proofs.Roles.{role_tableau, some_key_rows}
+use Rattle.key_law.proofs.Roles.{role_tableau, some_key_rows, role_den}
 use Rattle.key_law.proofs.Wide.{wide_key_product}
 use Rattle.key_rows.specs.Bases.{IsKeyed, IsShapedBasis}
 use Rattle.key_rows.specs.FirstRoles.{IsAsked, IsFirstRole, IsFirstOfRoles, LeaveSomething}
@@ -76,7 +76,7 @@ module _ {links demands : ℕ} {bound : ℕ → ℤ} {basis : ℕ → ColumnOf R
       let k = some_key_rows h.kept in
       let t = role_tableau h.kept k.2 in
       let nums : ℕ → ℕ → ℤ = λ j. role_nums links demands basis place (nums_at b.rows) (den_at b.rows) k.0 k.1 (role j) in
-      let den : ℕ → ℤ = λ j. role_den links demands basis place (den_at b.rows) k.1 (role j) in
+      let den : ℕ → ℤ = λ j. role_den links (den_at b.rows) k.1 (role j) in
       let inside = h.kept.roles.place_in r first.0 in
       let row : (j : ℕ) → j < links + demands → IsInverseRow (links + demands) basis j (nums j) (den j) = λ j l. (t.over j l, t.rows j l) in
       let some : pos 0 <ℤ dot (links + demands) (nums (place r)) c.entry =

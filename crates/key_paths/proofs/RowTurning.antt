@@ -30,14 +30,14 @@ use Rattle.key_law.proofs.Wide.{wide_demand, wide_cost, wide_kept_product, wide_
 use Rattle.key_rows.specs.Bases.{IsShapedBasis, IsColumnNamed}
 use Rattle.key_rows.specs.KeyRows.{amounts}
 use Rattle.key_rows.specs.Names.{column_name, key_name, owner_in, key_dual, IsNameWithin}
-use Rattle.key_paths.specs.inner.Held.{IsNameOf, IsNamedColumn, AreColumnNames, IsHeld, IsEntering, IsPriced}
+use Rattle.key_paths.specs.inner.Held.{IsNameOf, AreColumnNames, IsHeld, IsEntering, IsPriced}
 use Rattle.key_paths.specs.inner.Outcomes.{wide_place, IsProductPlace, IsWideBasis}
 use Rattle.key_paths.specs.inner.Turning.{AreRowsTurned, IsWideTurn}
 use Rattle.key_paths.specs.declared.turn_rows.WideTurn.{WideTurn}
 use Rattle.key_paths.specs.declared.turn_rows.WideTurn.TheVariants.{Prices, Row as RowAt}
 use Rattle.key_rows.specs.declared.keyed.Keyed.{Keyed}
 use Rattle.key_paths.proofs.Holding.{den_narrow, held_packing, held_columns, held_names, rest_low}
-use Rattle.key_paths.proofs.Named.{named_price, put_each}
+use Rattle.key_paths.proofs.Named.{named_price, put_each, IsNamedColumn}
 use Rattle.checked_fraction.proofs.Products.{regroup, cancelled}
 
 -- a row in lowest terms that is reduced again stays

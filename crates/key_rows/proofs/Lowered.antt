@@ -19,7 +19,7 @@ use Rattle.key_rows.specs.Bases.{IsKeyed}
 use Rattle.key_rows.specs.KeyRows.{AreWeights, weighted, less_rows}
 use Rattle.key_rows.specs.KeyTests.{HaveColumnProducts, IsKeyRow}
 use Rattle.key_rows.specs.Names.{left_uses, own_entry}
-use Rattle.key_rows.specs.inner.Candidates.{IsLeavingCandidate, IsKeyCandidate, IsLowered, IsLoweredKey, LeavesFirst, IsWholeRow, ComesNoLater, lowered_step}
+use Rattle.key_rows.specs.inner.Candidates.{IsLeavingCandidate, IsKeyCandidate, IsLowered, IsLoweredKey, LeavesFirst, lowered_step}
 use Rattle.key_rows.specs.inner.Orders.{IsRowCandidate, IsFirstInTie, IsNoLaterRow}
 use Rattle.key_rows.specs.declared.keyed.Keyed.{Keyed}
 use Rattle.key_rows.specs.declared.order.Candidate.{Candidate}
@@ -30,6 +30,18 @@ use Rattle.simplex_core.proofs.Ratios.{no_later_trans}
 use Rattle.key_rows.proofs.Products.{key_scaled}
 use Rattle.key_rows.proofs.Weighted.{left_crossed}
 use Rattle.checked_fraction.proofs.Products.{cancelled}
+
+-- a candidate's row of the whole inverse, over the denominator of its value and its product
+abbrev pub IsWholeRow : ℕ → ℕ → (ℕ → ColumnOf RouteColumn) → (ℕ → ℕ) → Keyed → RouteColumn → Candidate → (ℕ → ℤ) → Type 0
+IsWholeRow links demands basis place b name x full =
+    (IsRowCandidate links b.values b.products x × (full ≡ full_kept links demands basis place (nums_at b.rows x.role) (den_at b.rows x.role)))
+    ⊎ ((d : ℕ) × (d < demands) × (x.role ≡ links + d) × (c : IsKeyCandidate b d (own_entry name d) x)
+    × (full ≡ full_key links demands basis place d (key_nums links demands basis place (nums_at b.rows) (num c.weights) d) c.all))
+
+-- in the whole inverse, the first comes no later than the second
+abbrev pub ComesNoLater : ℕ → ℕ → (ℕ → ℤ) → (ℕ → ColumnOf RouteColumn) → (ℕ → ℕ) → Keyed → RouteColumn → Candidate → Candidate → Type 0
+ComesNoLater links demands bound basis place b name x y = (full others : ℕ → ℤ) → IsWholeRow links demands basis place b name x full → IsWholeRow links demands basis place b name y others
+    → IsNoLater (links + demands) bound full x.product others y.product
 
 -- the same number over three denominators
 same_over : (den all whole q r s : ℤ) → pos 0 <ℤ whole → whole *ℤ q ≡ all *ℤ r → whole *ℤ s ≡ den *ℤ r → den *ℤ q ≡ all *ℤ s

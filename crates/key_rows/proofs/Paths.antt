@@ -4,7 +4,11 @@ use Rattle.std.proofs.Math.IntN.{ℤ, pos, ◌+ℤ◌}
 use Rattle.std.proofs.lemmas.Int.{ints}
 use Rattle.std.specs.List.{AllByRecursion}
 use Rattle.net_core.specs.declared.ids.LinkId.{LinkId}
-use Rattle.key_rows.specs.Names.{path_total}
+use Rattle.simplex_law.specs.Programs.{entry_dot}
+
+-- the sum of numbers at the links of a path
+abbrev pub path_total : (ℕ → ℤ) → List LinkId → ℤ
+path_total = entry_dot (λ l. l.0) (λ l. pos 1)
 
 sum_behind : (nums : ℕ → ℤ) (path : List LinkId) (k : ℕ) (d : LinkId) → k < length path → path_total nums (drop k path) ≡ nums (get_or path k d).0 +ℤ path_total nums (drop (suc k) path)
 sum_behind nums [] k d lt = absurd (omega arith)

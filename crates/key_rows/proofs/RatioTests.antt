@@ -23,7 +23,7 @@ use Rattle.key_rows.specs.FirstRoles.{HasStep, LimitsNothing, IsNoLaterRole, IsF
 use Rattle.key_rows.specs.KeyRows.{AreWeights, IsOwn, weighted}
 use Rattle.key_rows.specs.KeyTests.{HaveColumnProducts, product_over}
 use Rattle.key_rows.specs.Names.{own_entry}
-use Rattle.key_rows.specs.inner.Candidates.{HasNoStep, IsLeavingCandidate, IsKeyCandidate, LeavesFirst, IsJoined, IsWholeRow, IsWithKey}
+use Rattle.key_rows.specs.inner.Candidates.{HasNoStep, IsLeavingCandidate, IsKeyCandidate, LeavesFirst, IsJoined, IsWithKey}
 use Rattle.key_rows.specs.inner.Orders.{IsRowCandidate, IsBestRow}
 use Rattle.key_rows.specs.inner.Tried.{role_in}
 use Rattle.key_rows.specs.declared.keyed.Keyed.{Keyed}
@@ -31,7 +31,7 @@ use Rattle.key_rows.specs.declared.order.Candidate.{Candidate}
 use Rattle.key_rows.proofs.Columns.{have_weights, owner_entry}
 use Rattle.key_rows.proofs.FirstRoles.{positive_again, limits_nothing, no_later_role, no_later_itself, no_later_over}
 use Rattle.key_rows.proofs.Leavers.{key_dot_is}
-use Rattle.key_rows.proofs.Lowered.{first_comes}
+use Rattle.key_rows.proofs.Lowered.{first_comes, IsWholeRow}
 
 module _ {links demands : ℕ} {bound : ℕ → ℤ} {basis : ℕ → ColumnOf RouteColumn} {place role : ℕ → ℕ} {b : Keyed} (h : IsKeyed links demands bound basis place role b)
     (name : RouteColumn) (key : List LinkId) (a : ℕ → ℤ) (have : (i : ℕ) → i < links → num b.products i ≡ dot links (nums_at b.rows i) (left_column links demands basis place a))

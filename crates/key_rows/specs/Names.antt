@@ -5,15 +5,11 @@ use Rattle.net_core.specs.declared.columns.RouteColumn.{RouteColumn}
 use Rattle.net_core.specs.declared.columns.RouteColumn.TheVariants.{LinkSlack, DemandSlack, Carry}
 use Rattle.net_core.specs.declared.ids.LinkId.{LinkId}
 use Rattle.simplex_law.specs.Sums.{dot, unit_vector}
-use Rattle.simplex_law.specs.Programs.{entry_at, entry_dot}
+use Rattle.simplex_law.specs.Programs.{entry_at}
 
 -- how often a path uses link k
 abbrev pub path_uses : List LinkId → ℕ → ℤ
 path_uses = entry_at (λ l. l.0) (λ l. pos 1)
-
--- the sum of numbers at the links of a path
-abbrev pub path_total : (ℕ → ℤ) → List LinkId → ℤ
-path_total = entry_dot (λ l. l.0) (λ l. pos 1)
 
 -- the links that a column runs over
 abbrev pub links_in : RouteColumn → List LinkId

@@ -29,10 +29,6 @@ pub record IsOnce (links : ℕ) (path : List LinkId) : Type 0 where
   pub short : IsShortPath links path
   pub once : (k : ℕ) → k < links → IsZeroOrOne (path_uses path k)
 
--- a column of such a name
-abbrev pub IsNamedColumn : ℕ → ℕ → ColumnOf RouteColumn → Type 0
-IsNamedColumn links demands c = (name : RouteColumn) × IsNameOf links demands name × IsColumnNamed links demands name c
-
 -- as many names as there are columns, each that of its column
 pub record AreColumnNames (links demands : ℕ) (basis : ℕ → ColumnOf RouteColumn) (names : List RouteColumn) : Type 0 where
   pub count : length names ≡ links + demands

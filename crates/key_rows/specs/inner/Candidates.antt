@@ -3,10 +3,7 @@ use Rattle.std.specs.Prelude.{ℕ, ℤ, List, length, Option, Some, None, Result
 use Rattle.checked_fraction.specs.Rows.{num}
 use Rattle.checked_fraction.specs.declared.row.Row.{Row}
 use Rattle.simplex_core.specs.inner.Commons.{HaveNoDenominator}
-use Rattle.simplex_core.specs.Tables.{nums_of, nums_at, den_at}
-use Rattle.simplex_law.specs.Programs.{ColumnOf}
-use Rattle.simplex_law.specs.inner.Pivots.{IsNoLater}
-use Rattle.key_law.specs.KeyRows.{full_kept, full_key, key_nums}
+use Rattle.simplex_core.specs.Tables.{nums_of}
 use Rattle.simplex_law.specs.Sums.{dot}
 use Rattle.std.specs.List.{slice_get}
 use Rattle.net_core.specs.declared.columns.RouteColumn.{RouteColumn}
@@ -110,18 +107,6 @@ module _ (b : Keyed) (name : RouteColumn) (key : List LinkId) where
   -- a key, or that one of demand d, is the better of two of which it is one
   abbrev pub IsBetterKey : Candidate → Candidate → Candidate → Type 0
   IsBetterKey best x better = ((better ≡ best) × LeavesFirst best x) ⊎ ((better ≡ x) × LeavesFirst x best)
-
--- a candidate's row of the whole inverse, over the denominator of its value and its product
-abbrev pub IsWholeRow : ℕ → ℕ → (ℕ → ColumnOf RouteColumn) → (ℕ → ℕ) → Keyed → RouteColumn → Candidate → (ℕ → ℤ) → Type 0
-IsWholeRow links demands basis place b name x full =
-    (IsRowCandidate links b.values b.products x × (full ≡ full_kept links demands basis place (nums_at b.rows x.role) (den_at b.rows x.role)))
-    ⊎ ((d : ℕ) × (d < demands) × (x.role ≡ links + d) × (c : IsKeyCandidate b d (own_entry name d) x)
-    × (full ≡ full_key links demands basis place d (key_nums links demands basis place (nums_at b.rows) (num c.weights) d) c.all))
-
--- in the whole inverse, the first comes no later than the second
-abbrev pub ComesNoLater : ℕ → ℕ → (ℕ → ℤ) → (ℕ → ColumnOf RouteColumn) → (ℕ → ℕ) → Keyed → RouteColumn → Candidate → Candidate → Type 0
-ComesNoLater links demands bound basis place b name x y = (full others : ℕ → ℤ) → IsWholeRow links demands basis place b name x full → IsWholeRow links demands basis place b name y others
-    → IsNoLater (links + demands) bound full x.product others y.product
 
 -- the best so far and a candidate more
 abbrev pub IsJoined : Keyed → RouteColumn → List LinkId → Option Candidate → Candidate → Option Candidate → Type 0

@@ -1,6 +1,6 @@
 use Rattle.std.proofs.Common.{◌≡◌, ◌≤◌, ◌*◌, ◌^◌, ◌+ℤ◌, unsigned_abs, drop}
 use Rattle.checked_fraction.specs.Rows.{num}
-use Rattle.key_rows.specs.Names.{path_total}
+use Rattle.key_rows.proofs.Paths.{path_total}
 use Rattle.key_rows.proofs.sums.path_sum.Given as goal
 
 -- the sum so far and what is left of the path make the whole
