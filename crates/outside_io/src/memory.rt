@@ -4,7 +4,7 @@ ghost use Rattle.outside_io.specs.Held.{HaveDifferentNames, files_of, after_fetc
 
 use crate::shelf::{Fetch, Shelf};
 use crate::sink::{Failed, Sink};
-use net_core::{Bytes, List, Name, NoMemory};
+use net_core::{Bytes, Copied, List, Name, NoMemory};
 use std::alloc::Global;
 use std::marker::Model;
 
@@ -15,6 +15,15 @@ pub struct MemFile {
     pub name: Name,
     /// Its whole content.
     pub bytes: Bytes,
+}
+
+impl Copied for MemFile {
+    fn copy(&self) -> Result<MemFile, NoMemory> {
+        Ok(MemFile {
+            name: self.name.copy()?,
+            bytes: self.bytes.copy()?,
+        })
+    }
 }
 
 /// Files in memory. Exactly those calls of `fetch` fail whose numbers stand in its list, counted from 0. A fetch takes time in
