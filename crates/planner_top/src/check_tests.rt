@@ -1,7 +1,6 @@
 use crate::status::Status;
-use crate::test_files::{all_files, put, runs};
-use net_core::{Bytes, List, Name, NoMemory};
-use outside_io::MemFile;
+use crate::test_files::{all_files, runs, with_file};
+use net_core::{Bytes, List, NoMemory};
 use std::alloc::Global;
 use std::test::Fail;
 
@@ -110,10 +109,8 @@ fn a_damaged_certificate_is_rejected(rt: HostRuntime) -> Result<(), Fail> {
         &[],
     )?;
     for (certificate, line) in other_certificates() {
-        let mut files = all_files(alloc)?;
-        let name = Name::new(alloc, b"report")?;
         let bytes = replaced(alloc, plan.out.bytes(), parallel_certificate(), certificate)?;
-        put(&mut files, MemFile { name, bytes })?;
+        let files = with_file(alloc, "report", bytes)?;
         let ended = runs(&rt, "check parallel default single report", files, &[], &[])?;
         assert_eq!(rt; ended.out.bytes(), line.as_bytes());
         assert_eq!(rt; ended.status, Status::Rejected);
@@ -125,10 +122,7 @@ fn a_damaged_certificate_is_rejected(rt: HostRuntime) -> Result<(), Fail> {
 fn a_check_tells_the_first_finding(rt: HostRuntime) -> Result<(), Fail> {
     let alloc = rt.alloc();
     for (bound, certificate, status, line) in checked() {
-        let mut files = all_files(alloc)?;
-        let name = Name::new(alloc, b"report")?;
-        let bytes = report_with(alloc, bound, certificate)?;
-        put(&mut files, MemFile { name, bytes })?;
+        let files = with_file(alloc, "report", report_with(alloc, bound, certificate)?)?;
         let ended = runs(
             &rt,
             "check triangle reconfigure default report",
@@ -229,10 +223,8 @@ fn a_printed_report_is_accepted(rt: HostRuntime) -> Result<(), Fail> {
         assert_eq!(rt; (words, ended.status), (words, Status::Done));
         assert!(rt; contains(ended.out.bytes(), cost.as_bytes()));
         assert!(rt; contains(ended.out.bytes(), quality.as_bytes()));
-        let mut files = all_files(alloc)?;
-        let name = Name::new(alloc, b"report")?;
         let bytes = List::from_slice(alloc, ended.out.bytes())?;
-        put(&mut files, MemFile { name, bytes })?;
+        let files = with_file(alloc, "report", bytes)?;
         let ended = runs(&rt, check, files, &[], &[])?;
         assert_eq!(rt; ended.out.bytes(), b"accepted 1\n".as_slice());
     }

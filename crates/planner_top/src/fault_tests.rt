@@ -1,6 +1,6 @@
 use crate::status::Status;
-use crate::test_files::{all_files, put, runs};
-use net_core::{List, Name, NoMemory};
+use crate::test_files::{all_files, runs, with_file};
+use net_core::List;
 use outside_io::MemFile;
 use std::alloc::Global;
 use std::process::Abort;
@@ -32,11 +32,7 @@ fn commands() -> [(&'static str, u32, Status); 12] {
 
 /// All files, and the report of a plan.
 fn with_report(alloc: Global, report: &[u8]) -> Result<List<MemFile>, Fail> {
-    let mut files = all_files(alloc)?;
-    let name = Name::new(alloc, b"report")?;
-    let bytes = List::from_slice(alloc, report)?;
-    put(&mut files, MemFile { name, bytes })?;
-    Ok(files)
+    with_file(alloc, "report", List::from_slice(alloc, report)?)
 }
 
 /// What a sink holds in which the put of this number failed: the pieces before it, and half of this one.

@@ -1,5 +1,5 @@
 use crate::status::Status;
-use crate::test_files::{all_files, put, runs};
+use crate::test_files::{all_files, put, runs, with_file};
 use net_core::{Bytes, List, Name, NoMemory};
 use outside_io::MemFile;
 use sample_net::{network_text, sample};
@@ -51,16 +51,11 @@ fn eight_callers(alloc: Global) -> Result<Bytes, NoMemory> {
 #[test]
 fn a_report_of_eight_callers_is_accepted(rt: HostRuntime) -> Result<(), Fail> {
     let alloc = rt.alloc();
-    let mut files = all_files(alloc)?;
-    let name = Name::new(alloc, b"eight")?;
-    let bytes = eight_callers(alloc)?;
-    put(&mut files, MemFile { name, bytes })?;
+    let files = with_file(alloc, "eight", eight_callers(alloc)?)?;
     let session = runs(&rt, "session towns default single eight", files, &[], &[])?;
     assert_eq!(rt; session.status, Status::Done);
-    let mut files = all_files(alloc)?;
-    let name = Name::new(alloc, b"report")?;
     let bytes = List::from_slice(alloc, session.out.bytes())?;
-    put(&mut files, MemFile { name, bytes })?;
+    let files = with_file(alloc, "report", bytes)?;
     let checked = runs(&rt, "check towns default single report", files, &[], &[])?;
     assert_eq!(rt; checked.out.bytes(), b"accepted 64\n".as_slice());
     Ok(())
@@ -68,11 +63,8 @@ fn a_report_of_eight_callers_is_accepted(rt: HostRuntime) -> Result<(), Fail> {
 
 /// The network of `sample 7 8`, and twenty plans of four callers.
 fn sample_files(alloc: Global) -> Result<List<MemFile>, Fail> {
-    let mut files = all_files(alloc)?;
     let (net, demands) = sample(alloc, 7, 8)?;
-    let name = Name::new(alloc, b"sample")?;
-    let bytes = network_text(alloc, &net, &demands)?;
-    put(&mut files, MemFile { name, bytes })?;
+    let mut files = with_file(alloc, "sample", network_text(alloc, &net, &demands)?)?;
     let mut bytes = List::new(alloc);
     bytes.append(b"?planner script; version: 1\n")?;
     for i in 0..20usize {
@@ -118,10 +110,8 @@ fn a_session_of_one_plan_reports_what_a_plan_does(rt: HostRuntime) -> Result<(),
         &[],
         &[],
     )?;
-    let mut files = all_files(alloc)?;
-    let name = Name::new(alloc, b"one")?;
     let bytes = List::from_slice(alloc, b"?planner script; version: 1\ncaller 1 plan\n")?;
-    put(&mut files, MemFile { name, bytes })?;
+    let files = with_file(alloc, "one", bytes)?;
     let session = runs(&rt, "session parallel default single one", files, &[], &[])?;
     assert_eq!(rt; session.status, Status::Done);
     assert_eq!(rt; session.out.bytes(), plan.out.bytes());

@@ -260,6 +260,14 @@ pub(crate) fn all_files(alloc: Global) -> Result<List<MemFile>, Fail> {
     Ok(held)
 }
 
+/// All files, and one more.
+pub(crate) fn with_file(alloc: Global, name: &str, bytes: Bytes) -> Result<List<MemFile>, Fail> {
+    let mut held = all_files(alloc)?;
+    let name = Name::new(alloc, name.as_bytes())?;
+    put(&mut held, MemFile { name, bytes })?;
+    Ok(held)
+}
+
 /// One file, alone.
 pub(crate) fn one_file(alloc: Global, name: &str, bytes: Bytes) -> Result<List<MemFile>, Fail> {
     let mut held = List::new(alloc);
