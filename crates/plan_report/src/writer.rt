@@ -59,7 +59,8 @@ fn put_report(
     put_outcomes(text, nodes, links, listed, report.outcomes.items())
 }
 
-/// The text of a report that is in form. It takes time in the number of its bytes, since each name is found by its place.
+/// The text of a report that is in form. It takes time in the number of its bytes, since each name is found by its place, and
+/// memory for the text alone; it fails only where memory runs out.
 ///
 /// ```text
 /// let text = write_report(alloc, &net, &states, &report)?;

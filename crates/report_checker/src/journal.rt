@@ -19,7 +19,8 @@ pub fn check_notes(own: Notes, printed: Notes) -> Test
     Ok(())
 }
 
-/// A walk past these entries, each of which is the one that is expected there.
+/// A walk past these entries, each of which is the one that is expected there, or the first that isn't. It takes memory for the
+/// walk's demands, and for each edit time in their number.
 pub fn check_entries(instance: &Instance, entries: &[Entry]) -> Result<Walk, Stop>
     requires needs { All HasSmallNeed entries.now }
     requires few { length entries.now ≤ 65536 }

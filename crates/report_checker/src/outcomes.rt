@@ -196,7 +196,8 @@ fn place_of(outcome: &Outcome, entries: usize) -> usize
     }
 }
 
-/// Checks an outcome if it is of this place of the journal, to which the walk has come.
+/// Checks an outcome if it is of this place of the journal, to which the walk has come. An unsurvivable outcome takes a search for
+/// each demand of its name, and a plan what the check of a plan takes.
 pub fn check_met(
     alloc: Global,
     instance: &Instance,

@@ -68,7 +68,8 @@ fn is_bad(instance: &Instance, pool: &[CutLine], k: usize) -> bool
     !is_kept(&graph, pool[k].lengths.items()) || stands_before(pool, k)
 }
 
-/// Whether the lines are cuts of their states, all different. Each is compared with those before it.
+/// Whether the lines are cuts of their states, all different. Each is compared with those before it, which takes time in the square
+/// of their number, and for lines of one state in their links too. It takes no memory.
 pub fn check_cuts(instance: &Instance, pool: &[CutLine]) -> Test
     requires few { length pool.now ≤ 4096 }
     requires form { All (IsCutInForm instance.now.net.now.links instance.now.states.now.listed) pool.now }
@@ -83,7 +84,8 @@ pub fn check_cuts(instance: &Instance, pool: &[CutLine]) -> Test
     Ok(())
 }
 
-/// Whether the lines have the right sides of their cuts at the instance's demands. It takes a search from each node for each line.
+/// Whether the lines have the right sides of their cuts at the instance's demands. It takes a search from each node for each line,
+/// and memory for the distances of all pairs of nodes.
 pub fn check_rights(alloc: Global, instance: &Instance, pool: &[CutLine]) -> Test
     requires few { length pool.now ≤ 4096 }
     requires form { All (IsCutInForm instance.now.net.now.links instance.now.states.now.listed) pool.now }

@@ -15,15 +15,14 @@ pub struct Walk {
     pub cuts: u32,
 }
 
-/// A walk before the first entry, with the instance's demands.
+/// A walk before the first entry, with the instance's demands. It takes time and memory for a copy of
+/// these, and of the nodes' names, and fails only where memory runs out.
 pub fn walk_from(instance: &Instance) -> Result<Walk, NoMemory>
     ensures { IfOk result (HasPassed (case_of instance.now) []) }
 {
     let opening = instance.demands.copy()?;
-    match Book::new(instance.net, opening) {
-        Ok(book) => Ok(Walk { book, cuts: 0 }),
-        Err(_) => Err(NoMemory),
-    }
+    let book = Book::new(instance.net, opening)?;
+    Ok(Walk { book, cuts: 0 })
 }
 
 impl Walk {
@@ -40,6 +39,7 @@ impl Walk {
     }
 
     /// Passes one entry, and says whether it is the one that is expected: an edit with the reply that it gets, or the next cut.
+    /// An edit looks its demand up through the list, which takes time in the number of demands; it fails where memory runs out.
     pub fn pass(&mut self, entry: &Entry) -> Result<bool, NoMemory>
         requires need { HasSmallNeed entry.now }
         requires few { self.old.cuts < 2 ^ 32 - 1 }

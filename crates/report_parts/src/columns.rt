@@ -57,7 +57,8 @@ fn carry(
     Ok(RouteColumn::Carry(demand, path))
 }
 
-/// Takes a column of the routing program, where there is room for one.
+/// Takes a column of the routing program, where there is room for one. Where there is none, its word is
+/// `limit`; an unknown link or demand is `unknown-name`. It takes memory for the links of a path.
 pub fn route_column(
     alloc: Global,
     context: &Context,
@@ -123,7 +124,8 @@ impl<'a> Element for RouteBasis<'a> {
     }
 }
 
-/// Takes a basis of the routing program.
+/// Takes a basis of the routing program, as many columns as rows, between parentheses. A column too many
+/// or too few is `limit`.
 #[tactic(auto, unfolding(crate::specs::ReadingQuality::basis_at))]
 pub fn route_basis(
     alloc: Global,
@@ -169,7 +171,9 @@ fn metric(
     Ok(MasterColumn::Metric(StateId(state), lengths))
 }
 
-/// Takes a column of the program of a certificate, where there is room for one.
+/// Takes a column of the program of a certificate, where there is room for one. Where there is none, its
+/// word is `limit`; an unknown link is `unknown-name`. It takes memory for the lengths of a cut, one for
+/// each link.
 pub fn master_column(
     alloc: Global,
     context: &Context,
@@ -224,7 +228,8 @@ impl<'a> Element for MasterBasis<'a> {
     }
 }
 
-/// Takes a basis of the program of a certificate.
+/// Takes a basis of the program of a certificate, as many columns as rows, between parentheses. A column
+/// too many or too few is `limit`.
 #[tactic(auto, unfolding(crate::specs::ReadingQuality::basis_at))]
 pub fn master_basis(
     alloc: Global,

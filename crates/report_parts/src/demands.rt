@@ -23,7 +23,8 @@ const DEMANDS: &[u8] = b"DEMANDS";
 /// So many demands can be told apart by their places.
 const MAX_PLACES: usize = u32::MAX as usize;
 
-/// The demands of a plan, which are found by their names.
+/// The demands of a plan, which are found by their names, in time that doesn't grow with their number.
+/// The names stand in the text, which is lent.
 #[derive(Drop)]
 pub struct PlanDemands<'a> {
     pub list: Demands,
@@ -43,7 +44,9 @@ impl<'a> PlanDemands<'a> {
         }
     }
 
-    /// Takes a demand, where there is room for what it begins.
+    /// Takes the name of a demand and gives its place, from 0, where there is room for what it begins;
+    /// where there is none, it is `limit`. A name that no demand has is `unknown-name`, or `limit-name`
+    /// if it has more than 255 bytes.
     pub fn next(&self, room: bool, text: &mut Cursor) -> Result<u32, ReportRefusal>
         ensures { ReadsAs (λ k. k) result (left text.new) (word_at ReportKind.Token ReportKind.Ended (λ w. where_room room (demand_of self.now.list w)) (left text.old)) }
     {
@@ -59,7 +62,8 @@ impl<'a> PlanDemands<'a> {
         }
     }
 
-    /// Takes a demand.
+    /// Takes the name of a demand and gives its place, from 0. A name that no demand has is
+    /// `unknown-name`, or `limit-name` if it has more than 255 bytes.
     pub fn demand(&self, text: &mut Cursor) -> Result<u32, ReportRefusal>
         ensures { ReadsAs (λ k. k) result (left text.new) (demand_at self.now.list (left text.old)) }
     {
@@ -194,7 +198,10 @@ fn list<'a>(
     Ok(PlanDemands { list, places })
 }
 
-/// Takes the demands of a plan.
+/// Takes the demands of a plan: each one's name, its two nodes between parentheses, and its need in thousandths.
+///
+/// A name that an earlier demand has is `double-name`, one of more than 255 bytes `limit-name`, and an unknown node `unknown-name`.
+/// It takes time in the bytes, and memory for the demands with their names and for the places of these.
 #[tactic(auto, unfolding(crate::specs::ReadingParts::plan_demands_at))]
 pub fn plan_demands<'a>(
     alloc: Global,

@@ -252,7 +252,10 @@ fn master(alloc: Global, context: &Context, text: &mut Cursor) -> Result<Evidenc
     Ok(Evidence::Master { basis, kind })
 }
 
-/// Takes evidence.
+/// Takes evidence of what was too wide: of the routing of a state, or of a certificate.
+///
+/// A state, a row or a number that is out of its range, or a column too many or too few is `limit`. It takes memory for the
+/// capacities and the basis, which has a column for each link, and on a routing for each demand too.
 pub fn evidence(
     alloc: Global,
     context: &Context,

@@ -6,7 +6,7 @@ ghost use Rattle.text_kit.specs.Reading.{list_at, of_length, Parenthesis};
 ghost use Rattle.report_words.specs.ReportWords.{whole_within};
 ghost use Rattle.report_parts.specs.ReadingParts.{count_at, count_within, counts_at, modules_at, next_counts_at};
 
-use net_core::{Counts, Link, List, Module};
+use net_core::{Counts, Link, List};
 use report_words::element::{Element, list};
 use report_words::fault::{ReportKind, ReportRefusal};
 use report_words::numbers::of_length;
@@ -22,12 +22,12 @@ const COUNT_LIMIT: u128 = 1 << 44;
 
 const CAPACITY_LIMIT: u64 = 1 << 46;
 
-/// The capacity with so many modules more; at most the limit.
-fn capped(before: u64, module: Module, count: u64) -> u64
+/// The capacity with `count` modules of capacity `each` more; at most the limit.
+fn capped(before: u64, each: u64, count: u64) -> u64
     requires { before ≤ 2 ^ 46 }
-    ensures { result ≡ min (before + module.capacity * count) (2 ^ 46) }
+    ensures { result ≡ min (before + each * count) (2 ^ 46) }
 {
-    let added = u128::from(module.capacity) * u128::from(count);
+    let added = u128::from(each) * u128::from(count);
     if added >= u128::from(CAPACITY_LIMIT) {
         return CAPACITY_LIMIT;
     }
@@ -43,16 +43,9 @@ fn capacity(link: &Link, counts: &[u64]) -> u64
     requires { length counts.now ≤ length link.now.modules }
     ensures { result ≡ min (link.now.fixed + modules_capacity link.now.modules counts.now) (2 ^ 46) }
 {
-    let mut capacity = capped(
-        0,
-        Module {
-            capacity: link.fixed,
-            cost: 0,
-        },
-        1,
-    );
+    let mut capacity = capped(0, link.fixed, 1);
     for i in 0..counts.len() {
-        capacity = capped(capacity, link.modules.items()[i], counts[i]);
+        capacity = capped(capacity, link.modules.items()[i].capacity, counts[i]);
     }
     capacity
 }
@@ -65,7 +58,7 @@ fn fits(link: &Link, sofar: &[u64], count: u64) -> bool
 {
     capped(
         capacity(link, sofar),
-        link.modules.items()[sofar.len()],
+        link.modules.items()[sofar.len()].capacity,
         count,
     ) < CAPACITY_LIMIT
 }
@@ -74,15 +67,11 @@ fn fits(link: &Link, sofar: &[u64], count: u64) -> bool
 fn count_of(link: &Link, sofar: &[u64], word: &[u8]) -> Result<u64, ReportKind>
     ensures { result ≡ count_within link.now sofar.now (whole_within 0 (2 ^ 44) word.now) }
 {
-    match whole_within(0, COUNT_LIMIT, word) {
-        Ok(count) => {
-            if sofar.len() < link.modules.len() && fits(link, sofar, count as u64) {
-                return Ok(count as u64);
-            }
-            Err(ReportKind::Limit)
-        }
-        Err(kind) => Err(kind),
+    let count = whole_within(0, COUNT_LIMIT, word)? as u64;
+    if sofar.len() < link.modules.len() && fits(link, sofar, count) {
+        return Ok(count);
     }
+    Err(ReportKind::Limit)
 }
 
 /// The counts of a link's modules.
@@ -188,7 +177,11 @@ impl<'a> Element for ModuleList<'a> {
     }
 }
 
-/// Takes the modules of all links.
+/// Takes the modules of all links: for each link, in the network's order, its name and how many of each of its modules there are.
+///
+/// A name other than the next link's is `unknown-name`. A count of 2^44 or more, one with which the link's capacity would reach
+/// 2^46 thousandths, and one too many or too few are `limit`. For each count it sums up the link's capacity from the first one,
+/// which takes time in the square of the link's modules. It takes memory for 8 bytes a count.
 #[tactic(auto, unfolding(crate::specs::ReadingParts::modules_at))]
 pub fn modules(alloc: Global, links: &[Link], text: &mut Cursor) -> Result<Counts, ReportRefusal>
     ensures { ReadsAs (λ l. l) result (left text.new) (modules_at links.now (left text.old)) }

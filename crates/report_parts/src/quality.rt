@@ -92,7 +92,10 @@ fn loose(
     Err(bad(at, ReportKind::Token))
 }
 
-/// Takes how good the bound of a plan is.
+/// Takes how good the bound of a plan is: a share with its routings where it is tight, or why there is no better bound.
+///
+/// The share has a scale from 1 to below 2^62, and a number of units below 2^62 for each link. It takes the memory of the routings,
+/// or of the evidence.
 pub fn quality(
     alloc: Global,
     context: &Context,

@@ -60,7 +60,8 @@ impl<'a> Element for LinkList<'a> {
     }
 }
 
-/// Takes a path.
+/// Takes a path: the names of its links, one or more, between parentheses. An empty path is `token`, at
+/// its closing parenthesis, and an unknown link `unknown-name`. It takes memory for 4 bytes a link.
 #[tactic(auto, unfolding(crate::specs::ReadingRoutings::path_at))]
 pub fn path(alloc: Global, context: &Context, text: &mut Cursor) -> Result<Path, ReportRefusal>
     ensures { ReadsAs (λ p. p) result (left text.new) (path_at context.now.net.now.links (left text.old)) }
@@ -129,7 +130,7 @@ fn flows(
     list(alloc, &FlowList { context, demands }, text)
 }
 
-/// Takes the name of a state.
+/// Takes the name of a state, `none` for state 0; another one is `unknown-name` or `limit-name`.
 pub fn state_name(states: &States, state: u32, text: &mut Cursor) -> Result<(), ReportRefusal>
     requires { state ≤ length states.now.listed }
     ensures { ReadsAs (λ _. tt) result (left text.new) (this_name_at (state_name states.now.listed state) (left text.old)) }
@@ -196,7 +197,11 @@ impl<'a> Element for RoutingList<'a> {
     }
 }
 
-/// Takes routings, one for each state, between parentheses.
+/// Takes routings, one for each state in their order, between parentheses. Each has a denominator from 1 to below 2^62, and up to
+/// 65,536 flows: a demand's name, a numerator from 1 to below 2^124, and a path.
+///
+/// A number that is out of its range, and a routing or flow too many or too few is `limit`. It takes memory for the flows and the
+/// links of their paths.
 #[tactic(auto, unfolding(crate::specs::ReadingRoutings::routings_at))]
 pub fn routings(
     alloc: Global,

@@ -1,4 +1,5 @@
-/// Whose plan command it was, the how manieth of that caller, and for which version and position.
+/// Whose plan command it was, its number among that caller's, both from 1, and for which version of the
+/// demands and which position in the journal.
 #[derive(Clone, Copy)]
 pub struct Head {
     pub caller: u32,
@@ -7,7 +8,8 @@ pub struct Head {
     pub position: u64,
 }
 
-/// What a plan costs, its bound, and the raw value of its certificate.
+/// What a plan costs and its bound, in thousandths, and the raw value of its certificate, a fraction of
+/// thousandths.
 #[derive(Clone, Copy)]
 pub struct Values {
     pub cost: u128,

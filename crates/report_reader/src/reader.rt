@@ -90,11 +90,14 @@ fn file(
     report(alloc, &context, &mut text)
 }
 
-/// The report that a file spells, of plans for this network and these states. It takes memory for
-/// what is read, and time in proportion to the bytes.
+/// The report that a file spells, of plans for this network and these states.
 ///
-/// A name of a link, node, demand or state that isn't known there is refused as `unknown-name`, at
-/// its place.
+/// The first fault is told with its place in bytes from 0, which is the length of the file where this ends too early. A name of a
+/// link, node, demand or state that isn't known there is refused as `unknown-name`, at its place.
+///
+/// It takes memory for what is read, where each entry and certificate line that names a line of the pool gets a copy of that line's
+/// lengths, and for the places of the names. It takes time in the bytes, for these copies, and for each link in the square of its
+/// modules.
 pub fn read_report(
     alloc: Global,
     net: &Network,

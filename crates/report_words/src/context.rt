@@ -11,7 +11,8 @@ use snd_tokens::Cursor;
 use std::alloc::Global;
 use text_kit::steps::{placed, word};
 
-/// A network and its states, whose links and nodes are found by their names.
+/// A network and its states, whose links and nodes are found by their names, in time that doesn't
+/// grow with their number.
 #[derive(Drop)]
 pub struct Context<'a> {
     pub net: &'a Network,
@@ -51,7 +52,8 @@ fn node_places(alloc: Global, net: &Network) -> Result<Places<'_>, NoMemory>
 }
 
 impl<'a> Context<'a> {
-    /// A network and its states. It takes memory for the places of the names.
+    /// A network and its states. It takes time and memory in the number of nodes and links, whose
+    /// names it lends, and fails only where memory runs out.
     pub fn new(alloc: Global, net: &'a Network, states: &'a States) -> Result<Context<'a>, NoMemory>
         ensures net { IfOk result (λ c. c.net.now ≡ net.now) }
         ensures states { IfOk result (λ c. c.states.now ≡ states.now) }
@@ -76,7 +78,8 @@ impl<'a> Context<'a> {
         }
     }
 
-    /// Takes a link.
+    /// Takes the name of a link, and gives the link's number, from 0. A name that no link has is
+    /// `unknown-name`, or `limit-name` if it has more than 255 bytes.
     pub fn link(&self, text: &mut Cursor) -> Result<LinkId, ReportRefusal>
         ensures { ReadsAs (λ e. e) result (left text.new) (link_at self.now.net.now.links (left text.old)) }
     {
@@ -94,7 +97,8 @@ impl<'a> Context<'a> {
         }
     }
 
-    /// Takes a node.
+    /// Takes the name of a node, and gives the node's number, from 0. A name that no node has is
+    /// `unknown-name`, or `limit-name` if it has more than 255 bytes.
     pub fn node(&self, text: &mut Cursor) -> Result<NodeId, ReportRefusal>
         ensures { ReadsAs (λ n. n) result (left text.new) (node_at self.now.net.now.nodes (left text.old)) }
     {

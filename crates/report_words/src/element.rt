@@ -21,7 +21,7 @@ pub trait Element {
     /// What is wrong with a list that ends.
     ghost fault: { Self → List Self.Item → Option ReportKind };
 
-    /// Takes an element after these ones.
+    /// Takes an element after these ones. A fault of the text is told at its place.
     fn take(
         &self,
         alloc: Global,
@@ -59,7 +59,11 @@ fn take_element<E: Element>(
     Ok(true)
 }
 
-/// Takes elements, up to the closing parenthesis. The list keeps memory for no more than its elements.
+/// Takes elements, up to the closing parenthesis, after an opening one that is taken already.
+///
+/// The first fault of an element ends it, and so does what is wrong with the list as a whole, which is told at the closing
+/// parenthesis. It takes the time of its elements' readings. While it grows, the list may have memory for twice its elements;
+/// in the end it keeps memory for no more than these.
 pub fn list<E: Element>(
     alloc: Global,
     element: &E,

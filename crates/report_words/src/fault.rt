@@ -30,7 +30,7 @@ pub enum ReportKind {
 }
 
 impl ReportKind {
-    /// How the kind is written.
+    /// How the kind is written, in a line of a refusal. It takes no memory.
     pub fn word(&self) -> &'static str
         ensures { result.now ≡ report_kind_word self.now }
     {
@@ -58,5 +58,6 @@ impl FaultWord for ReportKind {
     }
 }
 
-/// Why a report was not read.
+/// Why a report was not read: its first fault and the place of that in bytes from 0, or that memory
+/// ran out.
 pub type ReportRefusal = Refusal<ReportKind>;

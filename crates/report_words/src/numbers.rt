@@ -17,7 +17,7 @@ const UNIT_LIMIT: u128 = 1 << 62;
 
 const CAPACITY_LIMIT: u128 = 1 << 126;
 
-/// The fault of a list that has another number of elements.
+/// The fault of a list that has another number of elements: `limit`.
 pub fn of_length<X>(count: usize, all: &[X]) -> Option<ReportKind>
     ensures { result ≡ of_length count ReportKind.Limit all.now }
 {
@@ -54,7 +54,8 @@ impl Element for LengthList {
     }
 }
 
-/// Takes lengths, one for each of so many links, between parentheses.
+/// Takes lengths, one below 2^32 for each of so many links, between parentheses. A length that is out
+/// of that range, or one too many or too few, is `limit`. It takes memory for 4 bytes a link.
 #[tactic(auto, unfolding(crate::specs::ReportChoices::numbers_at))]
 pub fn lengths(alloc: Global, count: usize, text: &mut Cursor) -> Result<Lengths, ReportRefusal>
     ensures { ReadsAs (λ l. l) result (left text.new) (numbers_at count (2 ^ 32) (left text.old)) }
@@ -90,7 +91,9 @@ impl Element for UnitList {
     }
 }
 
-/// Takes units, for each of so many links, between parentheses.
+/// Takes units of a share's scale, a number below 2^62 for each of so many links, between parentheses.
+/// A number that is out of that range, or one too many or too few, is `limit`. It takes memory for 8
+/// bytes a link.
 #[tactic(auto, unfolding(crate::specs::ReportChoices::numbers_at))]
 pub fn units(alloc: Global, count: usize, text: &mut Cursor) -> Result<List<u64>, ReportRefusal>
     ensures { ReadsAs (λ l. l) result (left text.new) (numbers_at count (2 ^ 62) (left text.old)) }
@@ -131,7 +134,9 @@ impl Element for CapacityList {
     }
 }
 
-/// Takes capacities, for each of so many links, between parentheses.
+/// Takes capacities in parts of their scale, a number below 2^126 for each of so many links, between
+/// parentheses. A number that is out of that range, or one too many or too few, is `limit`. It takes
+/// memory for 16 bytes a link.
 #[tactic(auto, unfolding(crate::specs::ReportChoices::numbers_at))]
 pub fn capacities(
     alloc: Global,

@@ -7,7 +7,7 @@ use std::alloc::Global;
 use std::marker::Model;
 
 /// Different names in the order in which they came, numbered from 0. A name is found in time that
-/// doesn't grow with their number.
+/// doesn't grow with their number. The names are lent: memory is kept for their places alone.
 #[derive(Drop)]
 pub struct Places<'a> {
     names: IndexSet<&'a [u8]>,
@@ -22,7 +22,7 @@ impl<'a> Model for Places<'a> {
 }
 
 impl<'a> Places<'a> {
-    /// No names.
+    /// No names, which take no memory.
     pub fn new(alloc: Global) -> Places<'a>
         ensures { result ≡ [] }
     {
@@ -31,7 +31,7 @@ impl<'a> Places<'a> {
         }
     }
 
-    /// The place of a name.
+    /// The place of a name, from 0, if it is one of these.
     pub fn find(&self, name: &[u8]) -> Option<usize>
         ensures place { result ≡ position (λ n. are_same n name.now) self.now }
         ensures within { IfSome result (λ i. i < length self.now) }
@@ -39,7 +39,7 @@ impl<'a> Places<'a> {
         self.names.get_index_of(name)
     }
 
-    /// Puts a name last, where it is new. It says whether it was.
+    /// Puts a name last, where it is new, and says whether it was. It fails where memory runs out.
     pub fn add(&mut self, name: &'a [u8]) -> Result<bool, NoMemory>
         ensures new { result ≡ Ok true → self.new ≡ self.old ++ name.now ∷ [] }
         ensures fresh { result ≡ Ok true → is_named (λ n. n) name.now self.old ≡ false }

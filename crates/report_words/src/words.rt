@@ -33,7 +33,8 @@ fn within(least: u128, limit: u128, number: Result<u128, WholeFault>) -> Result<
     }
 }
 
-/// The whole number that a word writes, from `least`, below `limit`.
+/// The whole number that a word writes, from `least`, below `limit`. One that is out of this range is
+/// `limit`, one of 2^126 or more `number-large`, and any other word `number-not`.
 pub fn whole_within(least: u128, limit: u128, word: &[u8]) -> Result<u128, ReportKind>
     ensures value { result ≡ whole_within least limit word.now }
     ensures least { IfOk result (λ n. least ≤ n) }
@@ -42,7 +43,7 @@ pub fn whole_within(least: u128, limit: u128, word: &[u8]) -> Result<u128, Repor
     within(least, limit, whole(word))
 }
 
-/// Takes a whole number from `least`, below `limit`.
+/// Takes a whole number from `least`, below `limit`, with the faults of `whole_within`.
 pub fn number(least: u128, limit: u128, text: &mut Cursor) -> Result<u128, ReportRefusal>
     ensures reads { ReadsAs (λ n. n) result (left text.new) (number_at least limit (left text.old)) }
     ensures least { IfOk result (λ n. least ≤ n) }
@@ -72,7 +73,7 @@ pub fn medium(least: u128, limit: u128, text: &mut Cursor) -> Result<u64, Report
     Ok(number(least, limit, text)? as u64)
 }
 
-/// Takes a whole number below `limit`, where there is room for one.
+/// Takes a whole number below `limit`, where there is room for one; a number that has none is `limit`.
 pub fn next_number(room: bool, limit: u128, text: &mut Cursor) -> Result<u128, ReportRefusal>
     ensures reads { ReadsAs (λ n. n) result (left text.new) (word_at ReportKind.Token ReportKind.Ended (λ w. where_room room (whole_within 0 limit w)) (left text.old)) }
     ensures below { IfOk result (λ n. n < limit) }
@@ -94,13 +95,11 @@ fn this_number(expected: u64, word: &[u8]) -> Result<(), ReportKind>
     ensures { result ≡ this_number expected word.now }
 {
     let expected = u128::from(expected);
-    match whole_within(expected, expected + 1, word) {
-        Ok(_) => Ok(()),
-        Err(kind) => Err(kind),
-    }
+    whole_within(expected, expected + 1, word)?;
+    Ok(())
 }
 
-/// Takes this very number.
+/// Takes this very number; another one is `limit`.
 pub fn this(expected: u64, text: &mut Cursor) -> Result<(), ReportRefusal>
     ensures { ReadsAs (λ _. tt) result (left text.new) (this_number_at expected (left text.old)) }
 {
@@ -124,7 +123,9 @@ fn money_below(limit: u128, word: &[u8]) -> Result<u128, ReportKind>
     }
 }
 
-/// Takes money below `limit`, in thousandths.
+/// Takes money and gives it in thousandths. Money of `limit` thousandths or more is `limit`, and of
+/// 2^126 or more `number-large`; a place after the third that isn't 0 is `number-fine`, and any other
+/// word `number-not`.
 pub fn sum(limit: u128, text: &mut Cursor) -> Result<u128, ReportRefusal>
     ensures reads { ReadsAs (λ n. n) result (left text.new) (money_at limit (left text.old)) }
     ensures below { IfOk result (λ n. n < limit) }
@@ -146,7 +147,9 @@ fn amount_of(word: &[u8]) -> Result<u64, ReportKind>
     }
 }
 
-/// Takes an amount, in thousandths.
+/// Takes an amount and gives it in thousandths. An amount of 2^40 thousandths or more is
+/// `number-large`; a place after the third that isn't 0 is `number-fine`, and any other word
+/// `number-not`.
 pub fn amount(text: &mut Cursor) -> Result<u64, ReportRefusal>
     ensures { ReadsAs (λ n. n) result (left text.new) (amount_at (left text.old)) }
 {
@@ -165,7 +168,7 @@ fn long_fault(word: &[u8]) -> Option<ReportKind>
     None
 }
 
-/// Takes a name.
+/// Takes a name and gives a copy of it. A word of more than 255 bytes is `limit-name`.
 pub fn name(alloc: Global, text: &mut Cursor) -> Result<Name, ReportRefusal>
     ensures { ReadsAs (λ n. n) result (left text.new) (name_at (left text.old)) }
 {
@@ -173,7 +176,8 @@ pub fn name(alloc: Global, text: &mut Cursor) -> Result<Name, ReportRefusal>
     named(alloc, at, word, long_fault(word))
 }
 
-/// What is wrong with a word as a name that nothing has.
+/// What is wrong with a word as a name that nothing has: `unknown-name`, or `limit-name` if it has more
+/// than 255 bytes.
 pub fn unknown_name(word: &[u8]) -> ReportKind
     ensures { result ≡ unknown_name word.now }
 {
@@ -183,7 +187,7 @@ pub fn unknown_name(word: &[u8]) -> ReportKind
     ReportKind::UnknownName
 }
 
-/// Takes this very name.
+/// Takes this very name; another one is `unknown-name` or `limit-name`.
 pub fn this_name(name: &[u8], text: &mut Cursor) -> Result<(), ReportRefusal>
     ensures { ReadsAs (λ _. tt) result (left text.new) (this_name_at name.now (left text.old)) }
 {
@@ -194,14 +198,15 @@ pub fn this_name(name: &[u8], text: &mut Cursor) -> Result<(), ReportRefusal>
     Err(bad(at, unknown_name(word)))
 }
 
-/// Takes a word that is expected.
+/// Takes a word that is expected; another one is `token`.
 pub fn keyword(wanted: &[u8], text: &mut Cursor) -> Result<(), ReportRefusal>
     ensures { ReadsAs (λ _. tt) result (left text.new) (keyword_at wanted.now (left text.old)) }
 {
     expect(ReportKind::Token, ReportKind::Ended, wanted, text)
 }
 
-/// Takes a word that is expected, where there is room for what it begins.
+/// Takes a word that is expected, where there is room for what it begins. Another word is `token`, and
+/// this one where there is no room is `limit`.
 pub fn keyword_within(room: bool, wanted: &[u8], text: &mut Cursor) -> Result<(), ReportRefusal>
     ensures reads { ReadsAs (λ _. tt) result (left text.new) (keyword_within room wanted.now (left text.old)) }
     ensures room { IfOk result (λ _. room ≡ true) }
@@ -223,7 +228,8 @@ pub fn opening(text: &mut Cursor) -> Result<(), ReportRefusal>
     open(ReportKind::Token, ReportKind::Ended, text)
 }
 
-/// Takes an opening parenthesis, where there is room for what it begins.
+/// Takes an opening parenthesis, where there is room for what it begins; where there is none, it is
+/// `limit`.
 pub fn opening_within(room: bool, text: &mut Cursor) -> Result<(), ReportRefusal>
     ensures reads { ReadsAs (λ _. tt) result (left text.new) (opening_within room (left text.old)) }
     ensures room { IfOk result (λ _. room ≡ true) }
