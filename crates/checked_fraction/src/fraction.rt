@@ -24,7 +24,7 @@ fn is_word(a: u128) -> bool
     a <= u64::MAX as u128
 }
 
-/// The greatest common divisor. That of 0 and 0 is 0.
+/// The greatest common divisor. That of 0 and 0 is 0. It takes no memory, and fewer than 200 divisions.
 pub fn gcd(a: u128, b: u128) -> u128
     ensures { IsGcd a b result }
 {
@@ -41,7 +41,7 @@ pub fn gcd(a: u128, b: u128) -> u128
     x
 }
 
-/// How `a / b` compares with `c / d`.
+/// How `a / b` compares with `c / d`. It is exact, takes no memory, and fewer than 200 rounds of a few divisions each.
 pub fn cmp(a: u128, b: u128, c: u128, d: u128) -> Ordering
     requires first { 0 < b }
     requires second { 0 < d }
@@ -63,7 +63,7 @@ pub fn cmp(a: u128, b: u128, c: u128, d: u128) -> Ordering
     cmp(d, right, b, left)
 }
 
-/// `a * b / c`, rounded down.
+/// `a * b / c`, rounded down, by one product and one division of 128 bits.
 pub fn mul_div(a: u64, b: u64, c: u128) -> u128
     requires { 0 < c }
     ensures { result ≡ a * b / c }

@@ -1,10 +1,11 @@
 ghost use Rattle.std.specs.Prelude.{◌≡◌, ◌<◌, ◌^◌, ◌<ℤ◌, ℕ, pos, length, IfOk, slice_set, replicate};
 ghost use Rattle.checked_fraction.specs.Rows.{num, IsNarrow, IsInLowestTerms};
 
-use net_core::list::{List, NoMemory};
+use net_core::list::{Copied, List, NoMemory};
 use std::alloc::Global;
 
-/// Whole numbers over one positive denominator, in lowest terms, each below 2^62 in absolute value.
+/// Fewer than 2^32 whole numbers over one positive denominator, in lowest terms, each below 2^62 in absolute value.
+/// A number takes 8 bytes.
 #[derive(Drop)]
 pub struct Row {
     pub nums: List<i64>,
@@ -14,6 +15,15 @@ pub struct Row {
     pub ghost narrow_den: { IsNarrow den },
     pub ghost lowest: { IsInLowestTerms (length nums) (num nums) den },
     pub ghost short: { length nums < 2 ^ 32 },
+}
+
+impl Copied for Row {
+    fn copy(&self) -> Result<Row, NoMemory> {
+        Ok(Row {
+            nums: self.nums.copy()?,
+            den: self.den,
+        })
+    }
 }
 
 /// A list of `n` numbers, all 0 but that at `at`, which is 1.
@@ -27,7 +37,8 @@ fn unit_nums(alloc: Global, n: u32, at: u32) -> Result<List<i64>, NoMemory>
 }
 
 impl Row {
-    /// The row of `n` numbers over 1 that are 0, but for a 1 at `at`. It fails only where memory runs out.
+    /// The row of `n` numbers over 1 that are 0, but for a 1 at `at`. It fails only where memory runs out, and takes time
+    /// that grows with `n`.
     pub fn unit(alloc: Global, n: u32, at: u32) -> Result<Row, NoMemory>
         requires { at < n }
         ensures { IfOk result (λ row. (row.nums ≡ slice_set (replicate n (pos 0)) at (pos 1)) × (row.den ≡ pos 1)) }
@@ -36,7 +47,7 @@ impl Row {
         Ok(Row { nums, den: 1 })
     }
 
-    /// The numbers over the denominator.
+    /// The numbers over the denominator, lent at no cost.
     pub fn nums(&self) -> &[i64]
         ensures { result.now ≡ self.now.nums }
     {

@@ -48,7 +48,8 @@ fn divide_list(nums: &mut List<i64>, g: u64)
     divide(nums.items_mut(), g);
 }
 
-/// Makes `row` the row `nums / q` in lowest terms. Takes no memory.
+/// Makes `row` the row `nums / q` in lowest terms, whatever its denominator was. It takes no memory, and a number of steps
+/// that grows with the row.
 pub fn rescale(row: &mut Row, q: i64)
     requires narrow { IsNarrow q }
     requires positive { pos 0 <ℤ q }

@@ -3,7 +3,7 @@ ghost use Rattle.checked_fraction.specs.Rows.{IsNarrow};
 ghost use Rattle.checked_fraction.specs.Totals.{total, IsExact, HasRoom};
 
 /// A running sum of products of narrow numbers, as `high * 2^62 + low`. It need not fit into 128 bits:
-/// there is room for 2^62 products at least.
+/// there is room for 2^62 products at least. It takes 32 bytes, and each call a fixed number of steps and no memory.
 #[derive(Clone, Copy)]
 pub struct Sum {
     high: i128,
@@ -16,7 +16,7 @@ fn widen(a: i64) -> i128
     a as i128
 }
 
-/// The product of narrow numbers.
+/// The product of narrow numbers, each below 2^62 in absolute value.
 pub fn product(a: &i64, b: &i64) -> i128
     requires a { IsNarrow a.now }
     requires b { IsNarrow b.now }
@@ -165,7 +165,7 @@ impl Sum {
         self.subtract(a, &low_part(size));
     }
 
-    /// Adds `a * b` of a wider `b`.
+    /// Adds `a * b` of a wider `b`, below 2^76 in absolute value.
     pub fn add_wide(&mut self, a: &i64, b: &i128)
         requires high { unsigned_abs self.old.high ≤ 2 ^ 119 }
         requires low { self.old.low ≤ 2 ^ 119 }
@@ -197,7 +197,7 @@ impl Sum {
         self.low % (1 << 62)
     }
 
-    /// The sum, unless it is too large. A sum below 2^124 in absolute value is always given.
+    /// The sum, or none where it is 2^124 or more in absolute value; -2^124 itself is given.
     pub fn within(&self) -> Option<i128>
         requires { HasRoom self.now }
         ensures { IsExact (total self.now) result }
@@ -219,6 +219,7 @@ impl Sum {
     {
         self.carried().unsigned_abs() * (1 << 62) + self.rest()
     }
+
     /// Whether the sum is below 0.
     pub fn is_negative(&self) -> bool
         requires { HasRoom self.now }
