@@ -2,6 +2,7 @@
 //! leave, values, the row of a key from those of its demand's other columns, and the ratio test.
 #![tactic(auto)]
 
+mod entrant;
 pub mod key_row;
 pub mod keyed;
 pub mod keys;

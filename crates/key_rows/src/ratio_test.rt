@@ -8,10 +8,12 @@ ghost use Rattle.key_rows.specs.KeyRows.{AreWeights, amounts, left_over_rows, Ha
 ghost use Rattle.key_rows.specs.KeyTests.{IsWideTest, HaveColumnProducts};
 ghost use Rattle.key_rows.specs.Names.{demand_in, key_links, own_entry, IsNameWithin, IsShortPath};
 ghost use Rattle.key_rows.specs.inner.Candidates.{IsJoined, IsKeyTest, IsWithKey, IsKeyCandidate, IsLeavingCandidate, IsBetterKey, IsPlacedCandidate, DecidesTie};
+ghost use Rattle.key_rows.specs.inner.Entrants.{IsEntrant, HaveTestNumbers, AreRivals};
 ghost use Rattle.key_rows.specs.inner.Orders.{IsFirstInTie, IsRowFirst, IsRowCandidate, IsPlacedRow, IsBetterRow, IsBestRow};
 ghost use Rattle.key_rows.specs.inner.Tried.{role_in, IsSeen, IsTried, TouchesNoMore};
 ghost use Rattle.simplex_core.specs.Tables.{nums_at, IsRectangle};
 
+use crate::entrant::Entrant;
 use crate::keyed::{Keyed, Room};
 use crate::keys::key_path;
 use crate::order::{Candidate, compare_values, tie_first};
@@ -224,63 +226,47 @@ fn key_candidate(
 
 /// Whether a key comes before the best so far, of the same value.
 fn key_before(
-    keyed: &Keyed,
+    entrant: &Entrant,
     room: &mut Room,
-    name: &RouteColumn,
-    key: &[LinkId],
     x: &Candidate,
     demand: u32,
     best: &Candidate,
 ) -> Result<bool, WideTest>
-    requires shaped { IsShapedBasis (length keyed.now.rows) (length keyed.now.duals) keyed.now }
-    requires room { IsRoom (length keyed.now.rows) room.old }
-    requires name { IsNameWithin (length keyed.now.rows) name.now }
-    requires key { IsShortPath (length keyed.now.rows) key.now }
-    requires products { HaveColumnProducts keyed.now name.now key.now }
-    requires demand { demand < length keyed.now.duals }
-    requires candidate { IsKeyCandidate keyed.now demand (own_entry name.now demand) x.now }
-    requires best { IsPlacedCandidate keyed.now name.now best.now }
-    requires apart { x.now.role ≢ best.now.role }
-    ensures room { IsRoom (length keyed.now.rows) room.new }
-    ensures tie { IfOk result (DecidesTie keyed.now name.now key.now x.now best.now) }
-    ensures wide { IfErr result (IsWideTest keyed.now name.now) }
+    requires entrant { IsEntrant entrant.now }
+    requires room { IsRoom (length entrant.now.keyed.now.rows) room.old }
+    requires rivals { AreRivals entrant.now.keyed.now entrant.now.name.now demand x.now best.now }
+    ensures room { IsRoom (length entrant.now.keyed.now.rows) room.new }
+    ensures tie { IfOk result (DecidesTie entrant.now.keyed.now entrant.now.name.now entrant.now.key.now x.now best.now) }
+    ensures wide { IfErr result (IsWideTest entrant.now.keyed.now entrant.now.name.now) }
 {
-    let links = keyed.rows.len() as u32;
+    let links = entrant.keyed.rows.len() as u32;
     if best.role < links {
-        tie_with_row(keyed, room, name, key, x, demand, best)
+        tie_with_row(entrant, room, x, demand, best)
     } else {
-        tie_with_key(keyed, room, name, key, x, demand, best, best.role - links)
+        tie_with_key(entrant, room, x, demand, best, best.role - links)
     }
 }
 
 /// The better of the best so far and a key.
 fn better_key(
-    keyed: &Keyed,
+    entrant: &Entrant,
     room: &mut Room,
-    name: &RouteColumn,
-    key: &[LinkId],
     x: &Candidate,
     demand: u32,
     best: &Candidate,
 ) -> Result<Candidate, WideTest>
-    requires shaped { IsShapedBasis (length keyed.now.rows) (length keyed.now.duals) keyed.now }
-    requires room { IsRoom (length keyed.now.rows) room.old }
-    requires name { IsNameWithin (length keyed.now.rows) name.now }
-    requires key { IsShortPath (length keyed.now.rows) key.now }
-    requires products { HaveColumnProducts keyed.now name.now key.now }
-    requires demand { demand < length keyed.now.duals }
-    requires candidate { IsKeyCandidate keyed.now demand (own_entry name.now demand) x.now }
-    requires best { IsPlacedCandidate keyed.now name.now best.now }
-    requires apart { x.now.role ≢ best.now.role }
-    ensures room { IsRoom (length keyed.now.rows) room.new }
-    ensures better { IfOk result (IsBetterKey keyed.now name.now key.now best.now x.now) }
-    ensures wide { IfErr result (IsWideTest keyed.now name.now) }
+    requires entrant { IsEntrant entrant.now }
+    requires room { IsRoom (length entrant.now.keyed.now.rows) room.old }
+    requires rivals { AreRivals entrant.now.keyed.now entrant.now.name.now demand x.now best.now }
+    ensures room { IsRoom (length entrant.now.keyed.now.rows) room.new }
+    ensures better { IfOk result (IsBetterKey entrant.now.keyed.now entrant.now.name.now entrant.now.key.now best.now x.now) }
+    ensures wide { IfErr result (IsWideTest entrant.now.keyed.now entrant.now.name.now) }
 {
     match compare_values(x, best) {
         Ordering::Less => Ok(*x),
         Ordering::Greater => Ok(*best),
         Ordering::Equal => {
-            if key_before(keyed, room, name, key, x, demand, best)? {
+            if key_before(entrant, room, x, demand, best)? {
                 Ok(*x)
             } else {
                 Ok(*best)
@@ -291,30 +277,22 @@ fn better_key(
 
 /// The best so far, if there is one, and a key that may leave.
 fn joined(
-    keyed: &Keyed,
+    entrant: &Entrant,
     room: &mut Room,
-    name: &RouteColumn,
-    key: &[LinkId],
     best: Option<Candidate>,
     x: &Candidate,
     demand: u32,
 ) -> Result<Option<Candidate>, WideTest>
-    requires shaped { IsShapedBasis (length keyed.now.rows) (length keyed.now.duals) keyed.now }
-    requires room { IsRoom (length keyed.now.rows) room.old }
-    requires name { IsNameWithin (length keyed.now.rows) name.now }
-    requires key { IsShortPath (length keyed.now.rows) key.now }
-    requires products { HaveColumnProducts keyed.now name.now key.now }
-    requires demand { demand < length keyed.now.duals }
-    requires candidate { IsKeyCandidate keyed.now demand (own_entry name.now demand) x.now }
-    requires best { ForSome best (IsPlacedCandidate keyed.now name.now) }
-    requires apart { ForSome best (λ y. x.now.role ≢ y.role) }
-    ensures room { IsRoom (length keyed.now.rows) room.new }
-    ensures joined { IfOk result (IsJoined keyed.now name.now key.now best x.now) }
-    ensures wide { IfErr result (IsWideTest keyed.now name.now) }
+    requires entrant { IsEntrant entrant.now }
+    requires room { IsRoom (length entrant.now.keyed.now.rows) room.old }
+    requires rivals { ForSome best (AreRivals entrant.now.keyed.now entrant.now.name.now demand x.now) }
+    ensures room { IsRoom (length entrant.now.keyed.now.rows) room.new }
+    ensures joined { IfOk result (IsJoined entrant.now.keyed.now entrant.now.name.now entrant.now.key.now best x.now) }
+    ensures wide { IfErr result (IsWideTest entrant.now.keyed.now entrant.now.name.now) }
 {
     match best {
         Some(best) => {
-            let better = better_key(keyed, room, name, key, x, demand, &best)?;
+            let better = better_key(entrant, room, x, demand, &best)?;
             Ok(Some(better))
         }
         None => Ok(Some(*x)),
@@ -334,35 +312,27 @@ fn is_role(best: &Option<Candidate>, role: u32) -> bool
 
 /// The best so far and the key of a demand, if that has a step.
 fn with_key(
-    keyed: &Keyed,
+    entrant: &Entrant,
     room: &mut Room,
-    name: &RouteColumn,
-    key: &[LinkId],
     best: Option<Candidate>,
     demand: u32,
 ) -> Result<Option<Candidate>, WideTest>
-    requires shaped { IsShapedBasis (length keyed.now.rows) (length keyed.now.duals) keyed.now }
-    requires room { IsRoom (length keyed.now.rows) room.old }
-    requires demand { demand < length keyed.now.duals }
-    requires name { IsNameWithin (length keyed.now.rows) name.now }
-    requires key { IsShortPath (length keyed.now.rows) key.now }
-    requires products { HaveColumnProducts keyed.now name.now key.now }
-    requires bounds { (r : ℕ) → r < length keyed.now.bounds → pos 0 ≤ℤ num keyed.now.bounds r }
-    requires low { (i : ℕ) → i < length keyed.now.rows → unsigned_abs (num keyed.now.products i) < 2 ^ 76 }
-    requires values { (weights : List ℤ) (all : ℤ) (n : ℕ) → AreWeights keyed.now.rows keyed.now.owners weights demand all → n ≤ length keyed.now.rows
-        → pos 0 ≤ℤ left_over_rows keyed.now.owners weights demand all (num keyed.now.bounds (length keyed.now.rows + demand)) (amounts keyed.now.values) n }
-    requires best { ForSome best (IsPlacedCandidate keyed.now name.now) }
-    ensures room { IsRoom (length keyed.now.rows) room.new }
-    ensures with_key { IfOk result (IsWithKey keyed.now name.now key.now demand best) }
-    ensures wide { IfErr result (IsWideTest keyed.now name.now) }
+    requires entrant { IsEntrant entrant.now }
+    requires room { IsRoom (length entrant.now.keyed.now.rows) room.old }
+    requires demand { demand < length entrant.now.keyed.now.duals }
+    requires numbers { HaveTestNumbers entrant.now.keyed.now }
+    requires best { ForSome best (IsPlacedCandidate entrant.now.keyed.now entrant.now.name.now) }
+    ensures room { IsRoom (length entrant.now.keyed.now.rows) room.new }
+    ensures with_key { IfOk result (IsWithKey entrant.now.keyed.now entrant.now.name.now entrant.now.key.now demand best) }
+    ensures wide { IfErr result (IsWideTest entrant.now.keyed.now entrant.now.name.now) }
 {
-    let own = own_of(name, demand);
-    match key_candidate(keyed, room, &own, demand)? {
+    let own = own_of(entrant.name, demand);
+    match key_candidate(entrant.keyed, room, &own, demand)? {
         Some(x) => {
             if is_role(&best, x.role) {
                 return Ok(best);
             }
-            joined(keyed, room, name, key, best, &x, demand)
+            joined(entrant, room, best, &x, demand)
         }
         None => Ok(best),
     }
@@ -411,90 +381,69 @@ fn is_to_be_tried(keyed: &Keyed, name: &RouteColumn, i: usize) -> bool
 
 /// The best so far and the key of the column's own demand, if it has one.
 fn with_own_key(
-    keyed: &Keyed,
+    entrant: &Entrant,
     room: &mut Room,
-    name: &RouteColumn,
-    key: &[LinkId],
     best: Option<Candidate>,
 ) -> Result<Option<Candidate>, WideTest>
-    requires shaped { IsShapedBasis (length keyed.now.rows) (length keyed.now.duals) keyed.now }
-    requires room { IsRoom (length keyed.now.rows) room.old }
-    requires demand { ForSome (demand_in name.now) (λ d. d < length keyed.now.duals) }
-    requires name { IsNameWithin (length keyed.now.rows) name.now }
-    requires key { IsShortPath (length keyed.now.rows) key.now }
-    requires products { HaveColumnProducts keyed.now name.now key.now }
-    requires bounds { (r : ℕ) → r < length keyed.now.bounds → pos 0 ≤ℤ num keyed.now.bounds r }
-    requires low { (i : ℕ) → i < length keyed.now.rows → unsigned_abs (num keyed.now.products i) < 2 ^ 76 }
-    requires values { LeaveSomething keyed.now }
-    requires best { ForSome best (IsPlacedCandidate keyed.now name.now) }
-    ensures room { IsRoom (length keyed.now.rows) room.new }
-    ensures placed { IfOk result (λ after. ForSome after (IsPlacedCandidate keyed.now name.now)) }
-    ensures first { IfOk result (λ after. IsFirstOfRoles keyed.now name.now (λ r. r < length keyed.now.rows) (role_in best) → IsFirstOfRoles keyed.now name.now (IsTried keyed.now name.now 0) (role_in after)) }
-    ensures wide { IfErr result (IsWideTest keyed.now name.now) }
+    requires entrant { IsEntrant entrant.now }
+    requires room { IsRoom (length entrant.now.keyed.now.rows) room.old }
+    requires demand { ForSome (demand_in entrant.now.name.now) (λ d. d < length entrant.now.keyed.now.duals) }
+    requires numbers { HaveTestNumbers entrant.now.keyed.now }
+    requires best { ForSome best (IsPlacedCandidate entrant.now.keyed.now entrant.now.name.now) }
+    ensures room { IsRoom (length entrant.now.keyed.now.rows) room.new }
+    ensures placed { IfOk result (λ after. ForSome after (IsPlacedCandidate entrant.now.keyed.now entrant.now.name.now)) }
+    ensures first { IfOk result (λ after. IsFirstOfRoles entrant.now.keyed.now entrant.now.name.now (λ r. r < length entrant.now.keyed.now.rows) (role_in best) → IsFirstOfRoles entrant.now.keyed.now entrant.now.name.now (IsTried entrant.now.keyed.now entrant.now.name.now 0) (role_in after)) }
+    ensures wide { IfErr result (IsWideTest entrant.now.keyed.now entrant.now.name.now) }
 {
-    match demand_of(name) {
-        Some(demand) => with_key(keyed, room, name, key, best, demand),
+    match demand_of(entrant.name) {
+        Some(demand) => with_key(entrant, room, best, demand),
         None => Ok(best),
     }
 }
 
 /// The best so far and the key of row `i`'s demand, where it has to be tried there.
 fn with_key_of_row(
-    keyed: &Keyed,
+    entrant: &Entrant,
     room: &mut Room,
-    name: &RouteColumn,
-    key: &[LinkId],
     best: Option<Candidate>,
     i: usize,
 ) -> Result<Option<Candidate>, WideTest>
-    requires shaped { IsShapedBasis (length keyed.now.rows) (length keyed.now.duals) keyed.now }
-    requires room { IsRoom (length keyed.now.rows) room.old }
-    requires inside { i < length keyed.now.rows }
-    requires name { IsNameWithin (length keyed.now.rows) name.now }
-    requires key { IsShortPath (length keyed.now.rows) key.now }
-    requires products { HaveColumnProducts keyed.now name.now key.now }
-    requires bounds { (r : ℕ) → r < length keyed.now.bounds → pos 0 ≤ℤ num keyed.now.bounds r }
-    requires low { (i : ℕ) → i < length keyed.now.rows → unsigned_abs (num keyed.now.products i) < 2 ^ 76 }
-    requires values { LeaveSomething keyed.now }
-    requires best { ForSome best (IsPlacedCandidate keyed.now name.now) }
-    ensures room { IsRoom (length keyed.now.rows) room.new }
-    ensures placed { IfOk result (λ after. ForSome after (IsPlacedCandidate keyed.now name.now)) }
-    ensures first { IfOk result (λ after. IsFirstOfRoles keyed.now name.now (IsTried keyed.now name.now i) (role_in best) → IsFirstOfRoles keyed.now name.now (IsTried keyed.now name.now (i + 1)) (role_in after)) }
-    ensures wide { IfErr result (IsWideTest keyed.now name.now) }
+    requires entrant { IsEntrant entrant.now }
+    requires room { IsRoom (length entrant.now.keyed.now.rows) room.old }
+    requires inside { i < length entrant.now.keyed.now.rows }
+    requires numbers { HaveTestNumbers entrant.now.keyed.now }
+    requires best { ForSome best (IsPlacedCandidate entrant.now.keyed.now entrant.now.name.now) }
+    ensures room { IsRoom (length entrant.now.keyed.now.rows) room.new }
+    ensures placed { IfOk result (λ after. ForSome after (IsPlacedCandidate entrant.now.keyed.now entrant.now.name.now)) }
+    ensures first { IfOk result (λ after. IsFirstOfRoles entrant.now.keyed.now entrant.now.name.now (IsTried entrant.now.keyed.now entrant.now.name.now i) (role_in best) → IsFirstOfRoles entrant.now.keyed.now entrant.now.name.now (IsTried entrant.now.keyed.now entrant.now.name.now (i + 1)) (role_in after)) }
+    ensures wide { IfErr result (IsWideTest entrant.now.keyed.now entrant.now.name.now) }
 {
-    if !is_to_be_tried(keyed, name, i) {
+    if !is_to_be_tried(entrant.keyed, entrant.name, i) {
         return Ok(best);
     }
-    with_key(keyed, room, name, key, best, keyed.owners.items()[i])
+    with_key(entrant, room, best, entrant.keyed.owners.items()[i])
 }
 
 /// The best so far and the keys of all demands, of which one has a step only where it is the column's own or a row of it
 /// has a product.
 fn with_keys(
-    keyed: &Keyed,
+    entrant: &Entrant,
     room: &mut Room,
-    name: &RouteColumn,
-    key: &[LinkId],
     best: Option<Candidate>,
 ) -> Result<Option<Candidate>, WideTest>
-    requires shaped { IsShapedBasis (length keyed.now.rows) (length keyed.now.duals) keyed.now }
-    requires room { IsRoom (length keyed.now.rows) room.old }
-    requires demand { ForSome (demand_in name.now) (λ d. d < length keyed.now.duals) }
-    requires name { IsNameWithin (length keyed.now.rows) name.now }
-    requires key { IsShortPath (length keyed.now.rows) key.now }
-    requires products { HaveColumnProducts keyed.now name.now key.now }
-    requires bounds { (r : ℕ) → r < length keyed.now.bounds → pos 0 ≤ℤ num keyed.now.bounds r }
-    requires low { (i : ℕ) → i < length keyed.now.rows → unsigned_abs (num keyed.now.products i) < 2 ^ 76 }
-    requires values { LeaveSomething keyed.now }
-    requires best { ForSome best (IsPlacedCandidate keyed.now name.now) }
-    requires first { IsFirstOfRoles keyed.now name.now (λ r. r < length keyed.now.rows) (role_in best) }
-    ensures room { IsRoom (length keyed.now.rows) room.new }
-    ensures first { IfOk result (λ after. IsFirstOfRoles keyed.now name.now (λ r. Unit {0}) (role_in after)) }
-    ensures wide { IfErr result (IsWideTest keyed.now name.now) }
+    requires entrant { IsEntrant entrant.now }
+    requires room { IsRoom (length entrant.now.keyed.now.rows) room.old }
+    requires demand { ForSome (demand_in entrant.now.name.now) (λ d. d < length entrant.now.keyed.now.duals) }
+    requires numbers { HaveTestNumbers entrant.now.keyed.now }
+    requires best { ForSome best (IsPlacedCandidate entrant.now.keyed.now entrant.now.name.now) }
+    requires first { IsFirstOfRoles entrant.now.keyed.now entrant.now.name.now (λ r. r < length entrant.now.keyed.now.rows) (role_in best) }
+    ensures room { IsRoom (length entrant.now.keyed.now.rows) room.new }
+    ensures first { IfOk result (λ after. IsFirstOfRoles entrant.now.keyed.now entrant.now.name.now (λ r. Unit {0}) (role_in after)) }
+    ensures wide { IfErr result (IsWideTest entrant.now.keyed.now entrant.now.name.now) }
 {
-    let mut best = with_own_key(keyed, room, name, key, best)?;
-    for i in 0..keyed.rows.len() {
-        best = with_key_of_row(keyed, room, name, key, best, i)?;
+    let mut best = with_own_key(entrant, room, best)?;
+    for i in 0..entrant.keyed.rows.len() {
+        best = with_key_of_row(entrant, room, best, i)?;
     }
     Ok(best)
 }
@@ -527,7 +476,8 @@ pub fn leaving(keyed: &Keyed, room: &mut Room, name: &RouteColumn) -> Result<Opt
         keyed.rows.len(),
         demand_of(name),
     );
-    match with_keys(keyed, room, name, key, best)? {
+    let entrant = Entrant { keyed, name, key };
+    match with_keys(&entrant, room, best)? {
         Some(best) => Ok(Some(best.role)),
         None => Ok(None),
     }

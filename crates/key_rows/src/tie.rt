@@ -2,10 +2,12 @@ ghost use Rattle.std.specs.Prelude.{◌≡◌, ◌≢◌, ◌<◌, ◌≤◌, �
 ghost use Rattle.checked_fraction.specs.Rows.{num, IsNarrow};
 ghost use Rattle.simplex_law.specs.Sums.{dot, unit_vector};
 ghost use Rattle.key_rows.specs.Bases.{IsShapedBasis, IsRoom};
-ghost use Rattle.key_rows.specs.KeyTests.{HaveColumnProducts, IsKeyRow, IsWideSpread};
+ghost use Rattle.key_rows.specs.KeyTests.{IsKeyRow, IsWideSpread};
 ghost use Rattle.key_rows.specs.Names.{left_uses, own_entry, IsNameWithin, IsShortPath};
+ghost use Rattle.key_rows.specs.inner.Entrants.{IsEntrant};
 ghost use Rattle.key_rows.specs.inner.Candidates.{IsKeyCandidate, IsLowered, IsWideRowTest, DecidesTie, wide_test_of};
 
+use crate::entrant::Entrant;
 use crate::key_row::{WideKey, spread_key};
 use crate::keyed::{Keyed, Room};
 use crate::order::{Candidate, tie_first};
@@ -92,27 +94,22 @@ fn wide_key(wide: &WideKey, role: u32) -> WideTest
 
 /// The same for a key that may leave: its product is positive.
 fn positive_step(
-    keyed: &Keyed,
+    entrant: &Entrant,
     room: &mut Room,
-    name: &RouteColumn,
-    key: &[LinkId],
     x: &Candidate,
     demand: u32,
 ) -> Result<i128, WideTest>
-    requires shaped { IsShapedBasis (length keyed.now.rows) (length keyed.now.duals) keyed.now }
-    requires room { IsRoom (length keyed.now.rows) room.old }
-    requires name { IsNameWithin (length keyed.now.rows) name.now }
-    requires key { IsShortPath (length keyed.now.rows) key.now }
-    requires products { HaveColumnProducts keyed.now name.now key.now }
-    requires candidate { IsKeyCandidate keyed.now demand (own_entry name.now demand) x.now }
-    ensures room { IsRoom (length keyed.now.rows) room.new }
+    requires entrant { IsEntrant entrant.now }
+    requires room { IsRoom (length entrant.now.keyed.now.rows) room.old }
+    requires candidate { IsKeyCandidate entrant.now.keyed.now demand (own_entry entrant.now.name.now demand) x.now }
+    ensures room { IsRoom (length entrant.now.keyed.now.rows) room.new }
     ensures other { room.new.other ≡ room.old.other }
     ensures positive { IfOk result (λ p. pos 0 <ℤ p) }
-    ensures lowered { IfOk result (IsLowered keyed.now name.now key.now x.now room.new.spare.nums) }
-    ensures wide { IfErr result (IsWideRowTest keyed.now demand x.now.role) }
+    ensures lowered { IfOk result (IsLowered entrant.now.keyed.now entrant.now.name.now entrant.now.key.now x.now room.new.spare.nums) }
+    ensures wide { IfErr result (IsWideRowTest entrant.now.keyed.now demand x.now.role) }
 {
-    let own = own_of(name, demand);
-    match key_step(keyed, room, name, key, &own, demand) {
+    let own = own_of(entrant.name, demand);
+    match key_step(entrant.keyed, room, entrant.name, entrant.key, &own, demand) {
         Ok(step) => Ok(step),
         Err(wide) => Err(wide_key(&wide, x.role)),
     }
@@ -120,62 +117,52 @@ fn positive_step(
 
 /// Whether a key comes before the best row so far, of the same value.
 pub(crate) fn tie_with_row(
-    keyed: &Keyed,
+    entrant: &Entrant,
     room: &mut Room,
-    name: &RouteColumn,
-    key: &[LinkId],
     x: &Candidate,
     demand: u32,
     best: &Candidate,
 ) -> Result<bool, WideTest>
-    requires shaped { IsShapedBasis (length keyed.now.rows) (length keyed.now.duals) keyed.now }
-    requires room { IsRoom (length keyed.now.rows) room.old }
-    requires name { IsNameWithin (length keyed.now.rows) name.now }
-    requires key { IsShortPath (length keyed.now.rows) key.now }
-    requires products { HaveColumnProducts keyed.now name.now key.now }
-    requires candidate { IsKeyCandidate keyed.now demand (own_entry name.now demand) x.now }
-    requires best { (best.now.role < length keyed.now.rows) × (pos 0 <ℤ best.now.product) }
-    ensures room { IsRoom (length keyed.now.rows) room.new }
-    ensures tie { IfOk result (DecidesTie keyed.now name.now key.now x.now best.now) }
-    ensures wide { IfErr result (IsWideRowTest keyed.now demand x.now.role) }
+    requires entrant { IsEntrant entrant.now }
+    requires room { IsRoom (length entrant.now.keyed.now.rows) room.old }
+    requires candidate { IsKeyCandidate entrant.now.keyed.now demand (own_entry entrant.now.name.now demand) x.now }
+    requires best { (best.now.role < length entrant.now.keyed.now.rows) × (pos 0 <ℤ best.now.product) }
+    ensures room { IsRoom (length entrant.now.keyed.now.rows) room.new }
+    ensures tie { IfOk result (DecidesTie entrant.now.keyed.now entrant.now.name.now entrant.now.key.now x.now best.now) }
+    ensures wide { IfErr result (IsWideRowTest entrant.now.keyed.now demand x.now.role) }
 {
-    let product = positive_step(keyed, room, name, key, x, demand)?;
+    let product = positive_step(entrant, room, x, demand)?;
     Ok(tie_first(
         x.role,
         room.spare.nums(),
         &product,
         best.role,
-        keyed.rows.items()[best.role as usize].nums(),
+        entrant.keyed.rows.items()[best.role as usize].nums(),
         &best.product,
     ))
 }
 
 /// Whether a key comes before the best so far, of the same value, where that is the key of another demand.
 pub(crate) fn tie_with_key(
-    keyed: &Keyed,
+    entrant: &Entrant,
     room: &mut Room,
-    name: &RouteColumn,
-    key: &[LinkId],
     x: &Candidate,
     demand: u32,
     best: &Candidate,
     other: u32,
 ) -> Result<bool, WideTest>
-    requires shaped { IsShapedBasis (length keyed.now.rows) (length keyed.now.duals) keyed.now }
-    requires room { IsRoom (length keyed.now.rows) room.old }
-    requires name { IsNameWithin (length keyed.now.rows) name.now }
-    requires key { IsShortPath (length keyed.now.rows) key.now }
-    requires products { HaveColumnProducts keyed.now name.now key.now }
-    requires candidate { IsKeyCandidate keyed.now demand (own_entry name.now demand) x.now }
-    requires best { IsKeyCandidate keyed.now other (own_entry name.now other) best.now }
+    requires entrant { IsEntrant entrant.now }
+    requires room { IsRoom (length entrant.now.keyed.now.rows) room.old }
+    requires candidate { IsKeyCandidate entrant.now.keyed.now demand (own_entry entrant.now.name.now demand) x.now }
+    requires best { IsKeyCandidate entrant.now.keyed.now other (own_entry entrant.now.name.now other) best.now }
     requires apart { demand ≢ other }
-    ensures room { IsRoom (length keyed.now.rows) room.new }
-    ensures tie { IfOk result (DecidesTie keyed.now name.now key.now x.now best.now) }
-    ensures wide { IfErr result (λ w. IsWideRowTest keyed.now demand x.now.role w ⊎ IsWideRowTest keyed.now other best.now.role w) }
+    ensures room { IsRoom (length entrant.now.keyed.now.rows) room.new }
+    ensures tie { IfOk result (DecidesTie entrant.now.keyed.now entrant.now.name.now entrant.now.key.now x.now best.now) }
+    ensures wide { IfErr result (λ w. IsWideRowTest entrant.now.keyed.now demand x.now.role w ⊎ IsWideRowTest entrant.now.keyed.now other best.now.role w) }
 {
-    let there = positive_step(keyed, room, name, key, best, other)?;
+    let there = positive_step(entrant, room, best, other)?;
     mem::swap(&mut room.spare, &mut room.other);
-    let here = positive_step(keyed, room, name, key, x, demand)?;
+    let here = positive_step(entrant, room, x, demand)?;
     Ok(tie_first(
         x.role,
         room.spare.nums(),

@@ -98,18 +98,6 @@ fn write_weights(rows: &[Row], owners: &[u32], demand: u32, all: u64, weights: &
     }
 }
 
-/// The same in a list.
-fn write_weight_list(rows: &[Row], owners: &[u32], demand: u32, all: u64, weights: &mut List<i64>)
-    requires owners { length owners.now ≡ length rows.now }
-    requires count { length weights.old ≡ length rows.now }
-    requires all { IsDenominator (own_den rows.now owners.now demand) (length rows.now) all }
-    requires narrow { (i : ℕ) → IsNarrow (num weights.old i) }
-    ensures count { length weights.new ≡ length weights.old }
-    ensures written { AreWritten rows.now owners.now weights.new demand all (length rows.now) }
-{
-    write_weights(rows, owners, demand, all, weights.items_mut());
-}
-
 /// The least common multiple of the denominators of a demand's rows, where it is below 2^62; the weights then bring each over it.
 pub(crate) fn weigh(
     rows: &[Row],
@@ -128,7 +116,7 @@ pub(crate) fn weigh(
     let Some(all) = common_of(rows, owners, demand) else {
         return None;
     };
-    write_weight_list(rows, owners, demand, all, weights);
+    write_weights(rows, owners, demand, all, weights.items_mut());
     Some(all as i64)
 }
 

@@ -7,11 +7,23 @@ use Rattle.key_rows.specs.Names.{own_entry}
 use Rattle.key_rows.specs.inner.Candidates.{IsJoined, IsKeyTest, IsWithKey}
 use Rattle.key_rows.proofs.ratio_test.with_key.Goals as goal
 
+pub joined-requires-clause-rivals : goal.joined-requires-clause-rivals
+joined-requires-clause-rivals c = λ best at.
+    let b = c.args.entrant.now.keyed.now in
+    let name = c.args.entrant.now.name.now in
+    let d = c.args.demand in
+    let own : to_z w64 (of_z w64 c.own_of-own.result) ≡ own_entry name d = omega (arith, ints, c.own_of-own.ensures.narrow) ∙ c.own_of-own.ensures.value in record {
+      demand = c.requires.demand;
+      candidate = subst (λ r. IsKeyTest b d (own_entry name d) (Ok r)) c.in-Some.is (subst (λ z. IsKeyTest b d z (Ok c.in_ok-x.field-0)) own c.in_ok-x.ensures.test);
+      placed = c.requires.best best at;
+      apart = c.if-is_role.ensures.no refl best at;
+    }
+
 pub returns-else-is_role-clause-with_key : goal.returns-else-is_role-clause-with_key
 returns-else-is_role-clause-with_key c =
-    let b = c.args.keyed.now in
-    let name = c.args.name.now in
-    let key = c.args.key.now in
+    let b = c.args.entrant.now.keyed.now in
+    let name = c.args.entrant.now.name.now in
+    let key = c.args.entrant.now.key.now in
     let d = c.args.demand in
     let x = c.in-Some.x in
     let own : to_z w64 (of_z w64 c.own_of-own.result) ≡ own_entry name d = omega (arith, ints, c.own_of-own.ensures.narrow) ∙ c.own_of-own.ensures.value in
@@ -20,8 +32,8 @@ returns-else-is_role-clause-with_key c =
 
 pub returns-in_err-x-clause-wide : goal.returns-in_err-x-clause-wide
 returns-in_err-x-clause-wide c =
-    let b = c.args.keyed.now in
-    let name = c.args.name.now in
+    let b = c.args.entrant.now.keyed.now in
+    let name = c.args.entrant.now.name.now in
     let d = c.args.demand in
     let own : to_z w64 (of_z w64 c.own_of-own.result) ≡ own_entry name d = omega (arith, ints, c.own_of-own.ensures.narrow) ∙ c.own_of-own.ensures.value in
     let wide = key_test b name d c.in_err-x.field-0.0 c.requires.demand (subst (λ z. IsKeyTest b d z (Err c.in_err-x.field-0.0)) own c.in_err-x.ensures.test) in
@@ -30,8 +42,8 @@ returns-in_err-x-clause-wide c =
 
 pub returns-then-is_role-clause-with_key : goal.returns-then-is_role-clause-with_key
 returns-then-is_role-clause-with_key c =
-    let b = c.args.keyed.now in
-    let name = c.args.name.now in
+    let b = c.args.entrant.now.keyed.now in
+    let name = c.args.entrant.now.name.now in
     let d = c.args.demand in
     let x = c.in-Some.x in
     let own : to_z w64 (of_z w64 c.own_of-own.result) ≡ own_entry name d = omega (arith, ints, c.own_of-own.ensures.narrow) ∙ c.own_of-own.ensures.value in

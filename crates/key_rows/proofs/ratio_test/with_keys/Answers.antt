@@ -20,8 +20,8 @@ loop-i-preserved c = record {
 
 pub returns-clause-first : goal.returns-clause-first
 returns-clause-first c =
-    let b = c.args.keyed.now in
-    let name = c.args.name.now in
+    let b = c.args.entrant.now.keyed.now in
+    let name = c.args.entrant.now.name.now in
     let end : c.loop-i.i ≡ length b.rows = omega (arith, c.loop-i-test.false, c.loop-i.auto.i-end, c.len-i-end.ensures) in
-    all_first b name c.args.key.now (role_in c.loop-i.best) c.requires.products
+    all_first b name c.args.entrant.now.key.now (role_in c.loop-i.best) c.requires.entrant.products
     (subst (λ n. IsFirstOfRoles b name (IsTried b name n) (role_in c.loop-i.best)) end c.loop-i.invariant.first)

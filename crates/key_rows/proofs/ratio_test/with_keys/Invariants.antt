@@ -9,7 +9,7 @@ use Rattle.key_rows.proofs.ratio_test.with_keys.Given as goal
 -- the first of the rows and of the keys that the rows so far touch
 abbrev pub invariant-loop-i : goal.invariant-loop-i
 invariant-loop-i l = record {
-  room : IsRoom (length l.keyed.rows) l.room;
-  placed : ForSome l.best (IsPlacedCandidate l.keyed l.name);
-  first : IsFirstOfRoles l.keyed l.name (IsTried l.keyed l.name l.i) (role_in l.best);
+  room : IsRoom (length l.entrant.keyed.now.rows) l.room;
+  placed : ForSome l.best (IsPlacedCandidate l.entrant.keyed.now l.entrant.name.now);
+  first : IsFirstOfRoles l.entrant.keyed.now l.entrant.name.now (IsTried l.entrant.keyed.now l.entrant.name.now l.i) (role_in l.best);
 }

@@ -7,9 +7,9 @@ use Rattle.key_rows.proofs.tie.tie_with_key.Goals as goal
 
 pub returns-clause-tie : goal.returns-clause-tie
 returns-clause-tie c =
-    let b = c.args.keyed.now in
-    let name = c.args.name.now in
-    let key = c.args.key.now in
+    let b = c.args.entrant.now.keyed.now in
+    let name = c.args.entrant.now.name.now in
+    let key = c.args.entrant.now.key.now in
     let x = c.args.x.now in
     let best = c.args.best.now in
     let p = c.in_ok-here.here in

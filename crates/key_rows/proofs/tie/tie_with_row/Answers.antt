@@ -9,9 +9,9 @@ use Rattle.key_rows.proofs.tie.tie_with_row.Goals as goal
 
 pub returns-clause-tie : goal.returns-clause-tie
 returns-clause-tie c =
-    let b = c.args.keyed.now in
-    let name = c.args.name.now in
-    let key = c.args.key.now in
+    let b = c.args.entrant.now.keyed.now in
+    let name = c.args.entrant.now.name.now in
+    let key = c.args.entrant.now.key.now in
     let x = c.args.x.now in
     let best = c.args.best.now in
     let spare = c.positive_step.new.room.spare in
