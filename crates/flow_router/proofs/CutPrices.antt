@@ -18,7 +18,7 @@ use Rattle.route_law.specs.PricedLengths.{AreLinkPrices}
 use Rattle.route_law.specs.RouteEvidence.{IsRouteEvidence}
 use Rattle.route_law.specs.Routings.{AreJoined}
 use Rattle.route_law.proofs.SomePrices.{some_price}
-use Rattle.flow_router.specs.declared.task.Task.{Task}
+use Rattle.key_paths.specs.declared.task.Task.{Task}
 use Rattle.flow_router.specs.inner.Flowing.{LeavesNeed}
 use Rattle.flow_router.specs.inner.Lengths.{AreLinkCosts, each_over}
 use Rattle.flow_router.specs.inner.Solutions.{ArePricesBelow, IsSolution}

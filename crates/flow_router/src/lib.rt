@@ -17,7 +17,6 @@ mod lowest;
 mod numbers;
 mod prices;
 mod route;
-mod task;
 
 pub use answer::RouteAnswer;
 pub use route::{route_state, route_state_from};

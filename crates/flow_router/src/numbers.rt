@@ -1,58 +1,13 @@
-ghost use Rattle.std.specs.Prelude.{◌≡◌, ◌*◌, ◌<◌, ℕ, pos, IfOk, MatchOption, length};
+ghost use Rattle.std.specs.Prelude.{◌≡◌, ◌<◌, ℕ, MatchOption};
 ghost use Rattle.checked_fraction.specs.Rows.{IsNarrow};
 ghost use Rattle.net_core.specs.Views.{graph_of};
 ghost use Rattle.simplex_law.specs.Evidence.{IsWide};
-ghost use Rattle.simplex_core.specs.inner.Shapes.{AtEach};
-ghost use Rattle.route_law.specs.RoutingPrograms.{route_rows, route_bound, route_slack};
+ghost use Rattle.route_law.specs.RoutingPrograms.{route_rows, route_bound};
 
-use crate::task::Task;
-use net_core::{Demand, LinkId, List, NoMemory, RouteColumn};
-use std::alloc::Global;
+use key_paths::{Task, bound_of, rows_of};
 
 /// Bounds of a program that is solved are below this.
 const WIDE: u128 = 1 << 62;
-
-/// How many rows there are: one for each link, and one for each demand.
-pub(crate) fn rows_of(task: &Task) -> u32
-    ensures { result ≡ route_rows (graph_of task.now.graph) task.now.demands.now }
-{
-    (task.graph.net.links().len() + task.demands.len()) as u32
-}
-
-/// The name of a row's slack.
-pub(crate) fn slack_of(task: &Task, row: u32) -> RouteColumn
-    ensures { result ≡ route_slack (graph_of task.now.graph) row }
-{
-    let links = task.graph.net.links().len() as u32;
-    if row < links {
-        RouteColumn::LinkSlack(LinkId(row))
-    } else {
-        RouteColumn::DemandSlack(row - links)
-    }
-}
-
-/// What a demand needs over a scale.
-fn need_over(d: &Demand, scale: u64) -> u128
-    ensures { result ≡ d.now.need * scale }
-{
-    d.need as u128 * scale as u128
-}
-
-/// The bound of a row: the number of a link, or what a demand needs over the scale.
-pub(crate) fn bound_of(task: &Task, row: u32) -> u128
-    requires { row < route_rows (graph_of task.now.graph) task.now.demands.now }
-    ensures { route_bound (graph_of task.now.graph) task.now.demands.now task.now.caps.now row ≡ pos result }
-{
-    let links = task.graph.net.links().len() as u32;
-    if row < links {
-        task.caps.nums.items()[row as usize]
-    } else {
-        need_over(
-            &task.demands.items()[(row - links) as usize],
-            task.caps.scale,
-        )
-    }
-}
 
 /// The first row whose bound is 2^62 or more.
 pub(crate) fn wide_row(task: &Task) -> Option<u32>
@@ -66,16 +21,4 @@ pub(crate) fn wide_row(task: &Task) -> Option<u32>
         }
     }
     None
-}
-
-/// The names of all slacks, in the order of their rows.
-pub(crate) fn slack_names(alloc: Global, task: &Task) -> Result<List<RouteColumn>, NoMemory>
-    ensures count { IfOk result (λ names. length names ≡ route_rows (graph_of task.now.graph) task.now.demands.now) }
-    ensures names { IfOk result (AtEach (λ i name. name ≡ route_slack (graph_of task.now.graph) i)) }
-{
-    let mut names = List::new(alloc);
-    for row in 0..rows_of(task) {
-        names.push(slack_of(task, row))?;
-    }
-    Ok(names)
 }

@@ -14,11 +14,10 @@ use crate::answer::RouteAnswer;
 use crate::cutting::{LinkLengths, common_price, lengths_of};
 use crate::flows::{basis_flows, leaves_need};
 use crate::lowest::lowest;
-use crate::numbers::{slack_names, slack_of, wide_row};
+use crate::numbers::wide_row;
 use crate::prices::link_prices;
-use crate::task::Task;
 use greedy_router::greedy;
-use key_paths::solve_routes_from;
+use key_paths::{Task, slack_names, slack_of, solve_routes_from};
 use metric_cut::{Cut, CutFault};
 use net_core::{
     Caps, Copied, Demands, Evidence, Lengths, List, Network, NoMemory, RouteColumn, Routing,

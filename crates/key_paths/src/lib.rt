@@ -22,7 +22,9 @@ mod turn_key;
 mod turn_rows;
 mod turns;
 
+pub use numbers::{bound_of, rows_of, slack_names, slack_of};
 pub use solver::{solve_routes, solve_routes_from};
+pub use task::Task;
 
 #[cfg(test)]
 mod tests;

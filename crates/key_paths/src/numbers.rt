@@ -15,15 +15,15 @@ pub(crate) fn links_of(task: &Task) -> u32
     task.graph.net.links().len() as u32
 }
 
-/// How many rows there are: one for each link, and one for each demand.
-pub(crate) fn rows_of(task: &Task) -> u32
+/// How many rows the routing program has: one for each link, and one for each demand.
+pub fn rows_of(task: &Task) -> u32
     ensures { result ≡ route_rows (graph_of task.now.graph) task.now.demands.now }
 {
     (task.graph.net.links().len() + task.demands.len()) as u32
 }
 
 /// The name of a row's slack.
-fn slack_of(task: &Task, row: u32) -> RouteColumn
+pub fn slack_of(task: &Task, row: u32) -> RouteColumn
     ensures { result ≡ route_slack (graph_of task.now.graph) row }
 {
     let links = task.graph.net.links().len() as u32;
@@ -42,7 +42,7 @@ fn need_over(d: &Demand, scale: u64) -> u128
 }
 
 /// The bound of a row: the number of a link, or what a demand needs over the scale.
-pub(crate) fn bound_of(task: &Task, row: u32) -> u128
+pub fn bound_of(task: &Task, row: u32) -> u128
     requires { row < route_rows (graph_of task.now.graph) task.now.demands.now }
     ensures { route_bound (graph_of task.now.graph) task.now.demands.now task.now.caps.now row ≡ pos result }
 {
@@ -68,7 +68,7 @@ fn narrow_bound(task: &Task, row: u32) -> i64
 }
 
 /// The names of all slacks, in the order of their rows.
-pub(crate) fn slack_names(alloc: Global, task: &Task) -> Result<List<RouteColumn>, NoMemory>
+pub fn slack_names(alloc: Global, task: &Task) -> Result<List<RouteColumn>, NoMemory>
     ensures count { IfOk result (λ names. length names ≡ route_rows (graph_of task.now.graph) task.now.demands.now) }
     ensures names { IfOk result (AtEach (λ i name. name ≡ route_slack (graph_of task.now.graph) i)) }
 {

@@ -5,10 +5,10 @@ use net_core::{Caps, Demands, Surviving};
 
 /// What is to be routed: demands within capacities, one for each link, in a surviving graph.
 #[derive(Clone, Copy)]
-pub(crate) struct Task<'a> {
-    pub(crate) graph: Surviving<'a>,
-    pub(crate) demands: &'a Demands,
-    pub(crate) caps: &'a Caps,
+pub struct Task<'a> {
+    pub graph: Surviving<'a>,
+    pub demands: &'a Demands,
+    pub caps: &'a Caps,
     pub ghost belong: { AreDemands (length graph.net.now.nodes) demands.now },
     pub ghost count: { length caps.now.nums ≡ length graph.net.now.links },
 }

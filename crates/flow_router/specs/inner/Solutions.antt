@@ -8,7 +8,7 @@ use Rattle.simplex_core.specs.declared.optimum.Optimum.{Optimum}
 use Rattle.route_law.specs.PricedLengths.{ArePricedLengths}
 use Rattle.route_law.specs.Routings.{AreJoined}
 use Rattle.route_law.specs.RoutingPrograms.{route_rows, route_bound, route_slack, total_scaled_need, IsCarrying}
-use Rattle.flow_router.specs.declared.task.Task.{Task}
+use Rattle.key_paths.specs.declared.task.Task.{Task}
 
 -- an optimum of the task's routing program
 abbrev pub IsSolution : Task → Optimum RouteColumn → Type 0

@@ -1,9 +1,0 @@
-use Rattle.std.proofs.Common.{◌≡◌, length}
-use Rattle.net_core.specs.Views.{graph_of}
-use Rattle.route_law.specs.RoutingPrograms.{route_slack}
-use Rattle.simplex_core.specs.inner.Shapes.{AtEach}
-use Rattle.flow_router.proofs.numbers.slack_names.Given as goal
-
--- the names so far
-abbrev pub invariant-loop-row : goal.invariant-loop-row
-invariant-loop-row l = (length l.names ≡ l.row) × AtEach (λ i name. name ≡ route_slack (graph_of l.task.graph) i) l.names
