@@ -6,12 +6,13 @@ use Rattle.net_core.specs.declared.states.Listed.{Listed}
 use Rattle.plan_types.specs.declared.report.Report.{Report}
 use Rattle.text_kit.specs.Files.{IsFileOf}
 use Rattle.text_kit.specs.Items.{AreBehind}
+use Rattle.text_kit.proofs.Adding.{writable}
 use Rattle.text_kit.proofs.Behind.{behind_all, behind_as}
 use Rattle.text_kit.proofs.Files.{written_is_read}
 use Rattle.plan_report.specs.Forms.{IsDemandInForm, IsReportInForm}
 use Rattle.plan_report.specs.Items.{report_items}
 use Rattle.plan_report.specs.Texts.{SpellsReport, report_header}
-use Rattle.plan_report.specs.inner.Puts.{Puts}
+use Rattle.text_kit.specs.Written.{AddsItems}
 use Rattle.plan_report.specs.inner.Writable.{IsWritableDemand}
 
 pub writable_demands : (nodes : List (List ℕ)) (demands : List Demand) → AreBehind (IsDemandInForm nodes) [] demands → All (IsWritableDemand nodes) demands
@@ -20,9 +21,9 @@ writable_demands nodes demands all =
     (behind_as (IsDemandInForm nodes) (λ before d. IsWritableDemand nodes d) [] demands (λ before d h. record { from = h.from; to = h.to; need = h.need }) all)
 
 pub text_spells : (nodes : List (List ℕ)) (links : List Link) (listed : List Listed) (r : Report) (text : List ℕ)
-    → IsReportInForm nodes links listed r → Puts (report_header ++ 10 ∷ []) (report_items nodes links listed r) text → SpellsReport nodes links listed text r
+    → IsReportInForm nodes links listed r → AddsItems (report_header ++ 10 ∷ []) (report_items nodes links listed r) text → SpellsReport nodes links listed text r
 text_spells nodes links listed r text form p = record {
   form = form;
   file = subst (λ (bytes : List ℕ). IsFileOf report_header (report_items nodes links listed r) bytes) (sym p.text)
-      (written_is_read report_header (report_items nodes links listed r) (record { one = refl; no_blank = refl }) p.each);
+      (written_is_read report_header (report_items nodes links listed r) (record { one = refl; no_blank = refl }) (writable (report_items nodes links listed r) p.each));
 }

@@ -4,15 +4,15 @@ ghost use Rattle.text_kit.specs.Items.{Whole};
 ghost use Rattle.plan_report.specs.Forms.{IsCauseInForm, IsEvidenceInForm, IsKindInForm, IsMasterColumnInForm, IsMasterEvidenceInForm, IsRouteColumnInForm, IsRouteEvidenceInForm};
 ghost use Rattle.plan_report.specs.Items.{cause_items, evidence_items, master_column_items, numbers_items, route_column_items, wide_items};
 ghost use Rattle.text_kit.specs.Edits.{enclosed};
-ghost use Rattle.plan_report.specs.inner.Puts.{Puts};
+ghost use Rattle.text_kit.specs.Written.{AddsItems};
 
 use crate::lists::{put_capacities, put_lengths, put_path};
 use crate::names::{put_demand_name, put_link};
-use crate::puts::{put_close, put_field, put_keyword, put_number, put_open};
 use net_core::{
     Bytes, Caps, Demand, Evidence, Link, MasterColumn, NoMemory, RouteColumn, WideKind,
 };
 use plan_types::Cause;
+use text_kit::puts::{put_close, put_field, put_keyword, put_number, put_open};
 
 /// Puts a column of a program that routes last.
 fn put_route_column(
@@ -22,7 +22,7 @@ fn put_route_column(
     column: &RouteColumn,
 ) -> Result<(), NoMemory>
     requires { IsRouteColumnInForm links.now demands.now column.now }
-    ensures { OnOk result (Puts text.old (route_column_items links.now demands.now column.now) text.new) }
+    ensures { OnOk result (AddsItems text.old (route_column_items links.now demands.now column.now) text.new) }
 {
     match column {
         RouteColumn::LinkSlack(link) => {
@@ -48,7 +48,7 @@ fn put_master_column(
     column: &MasterColumn,
 ) -> Result<(), NoMemory>
     requires { (listed : List Listed) × IsMasterColumnInForm links.now listed column.now }
-    ensures { OnOk result (Puts text.old (master_column_items links.now column.now) text.new) }
+    ensures { OnOk result (AddsItems text.old (master_column_items links.now column.now) text.new) }
 {
     match column {
         MasterColumn::LinkSlack(link) => {
@@ -70,7 +70,7 @@ fn put_route_basis(
     basis: &[RouteColumn],
 ) -> Result<(), NoMemory>
     requires { All (IsRouteColumnInForm links.now demands.now) basis.now }
-    ensures { OnOk result (Puts text.old (enclosed (flat_map (route_column_items links.now demands.now) basis.now)) text.new) }
+    ensures { OnOk result (AddsItems text.old (enclosed (flat_map (route_column_items links.now demands.now) basis.now)) text.new) }
 {
     put_open(text)?;
     for column in basis {
@@ -86,7 +86,7 @@ fn put_master_basis(
     basis: &[MasterColumn],
 ) -> Result<(), NoMemory>
     requires { (listed : List Listed) × All (IsMasterColumnInForm links.now listed) basis.now }
-    ensures { OnOk result (Puts text.old (enclosed (flat_map (master_column_items links.now) basis.now)) text.new) }
+    ensures { OnOk result (AddsItems text.old (enclosed (flat_map (master_column_items links.now) basis.now)) text.new) }
 {
     put_open(text)?;
     for column in basis {
@@ -103,7 +103,7 @@ pub(crate) fn put_route_kind(
     kind: &WideKind<RouteColumn>,
 ) -> Result<(), NoMemory>
     requires { IsKindInForm (IsRouteColumnInForm links.now demands.now) ⊥ (λ e. e.0 < length links.now) (length links.now + length demands.now) kind.now }
-    ensures { OnOk result (Puts text.old (wide_items links.now (route_column_items links.now demands.now) kind.now) text.new) }
+    ensures { OnOk result (AddsItems text.old (wide_items links.now (route_column_items links.now demands.now) kind.now) text.new) }
 {
     match kind {
         WideKind::Number(column) => {
@@ -132,7 +132,7 @@ pub(crate) fn put_master_kind(
     kind: &WideKind<MasterColumn>,
 ) -> Result<(), NoMemory>
     requires { (listed : List Listed) × IsKindInForm (IsMasterColumnInForm links.now listed) (Unit {0}) (λ e. ⊥) (length links.now) kind.now }
-    ensures { OnOk result (Puts text.old (wide_items links.now (master_column_items links.now) kind.now) text.new) }
+    ensures { OnOk result (AddsItems text.old (wide_items links.now (master_column_items links.now) kind.now) text.new) }
 {
     match kind {
         WideKind::Number(column) => {
@@ -154,7 +154,7 @@ pub(crate) fn put_master_kind(
 /// Puts capacities last: their scale, and a number for each link.
 fn put_caps(text: &mut Bytes, caps: &Caps) -> Result<(), NoMemory>
     requires { All (λ n. n < 2 ^ 126) caps.now.nums }
-    ensures { OnOk result (Puts text.old (Whole caps.now.scale ∷ numbers_items caps.now.nums) text.new) }
+    ensures { OnOk result (AddsItems text.old (Whole caps.now.scale ∷ numbers_items caps.now.nums) text.new) }
 {
     put_number(text, caps.scale)?;
     put_capacities(text, caps.nums.items())
@@ -168,7 +168,7 @@ fn put_evidence(
     evidence: &Evidence,
 ) -> Result<(), NoMemory>
     requires { (listed : List Listed) × IsEvidenceInForm links.now listed demands.now evidence.now }
-    ensures { OnOk result (Puts text.old (evidence_items links.now demands.now evidence.now) text.new) }
+    ensures { OnOk result (AddsItems text.old (evidence_items links.now demands.now evidence.now) text.new) }
 {
     match evidence {
         Evidence::Route {
@@ -198,7 +198,7 @@ pub(crate) fn put_cause(
     cause: &Cause,
 ) -> Result<(), NoMemory>
     requires { (listed : List Listed) × IsCauseInForm links.now listed demands.now cause.now }
-    ensures { OnOk result (Puts text.old (cause_items links.now demands.now cause.now) text.new) }
+    ensures { OnOk result (AddsItems text.old (cause_items links.now demands.now cause.now) text.new) }
 {
     match cause {
         Cause::Wide(evidence) => {

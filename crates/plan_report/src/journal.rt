@@ -3,16 +3,17 @@ ghost use Rattle.net_core.specs.declared.plan.CutLine.{CutLine};
 ghost use Rattle.plan_report.specs.Forms.{IsEditedInForm, IsEntryInForm, IsReplyInForm};
 ghost use Rattle.plan_report.specs.Items.{entry_items, event_items, numbered_from, reply_items};
 ghost use Rattle.text_kit.specs.Edits.{IsEditInForm, edit_items, enclosed};
-ghost use Rattle.plan_report.specs.inner.Puts.{Puts};
+ghost use Rattle.text_kit.specs.Written.{AddsItems};
 
-use crate::names::put_ends;
-use crate::puts::{put_close, put_field, put_keyword, put_money, put_name, put_number, put_open};
 use net_core::{Bytes, Edit, Entry, NoMemory, Reply};
+use text_kit::puts::{
+    put_close, put_ends, put_field, put_keyword, put_money, put_name, put_number, put_open,
+};
 
 /// Puts an edit last.
 fn put_edit(text: &mut Bytes, edit: &Edit) -> Result<(), NoMemory>
     requires { IsEditInForm edit.now }
-    ensures { OnOk result (Puts text.old (edit_items edit.now) text.new) }
+    ensures { OnOk result (AddsItems text.old (edit_items edit.now) text.new) }
 {
     match edit {
         Edit::Set { name, need } => {
@@ -41,7 +42,7 @@ fn put_edit(text: &mut Bytes, edit: &Edit) -> Result<(), NoMemory>
 /// Puts a reply last.
 fn put_reply(text: &mut Bytes, reply: Reply) -> Result<(), NoMemory>
     requires { IsReplyInForm reply }
-    ensures { OnOk result (Puts text.old (reply_items reply) text.new) }
+    ensures { OnOk result (AddsItems text.old (reply_items reply) text.new) }
 {
     match reply {
         Reply::Accepted(version) => put_field(text, b"accepted", version),
@@ -60,7 +61,7 @@ fn put_reply(text: &mut Bytes, reply: Reply) -> Result<(), NoMemory>
 /// Puts last what an entry has after its position.
 fn put_event(text: &mut Bytes, entry: &Entry) -> Result<(), NoMemory>
     requires { (pool : List CutLine) × IsEntryInForm pool entry.now }
-    ensures { OnOk result (Puts text.old (event_items entry.now) text.new) }
+    ensures { OnOk result (AddsItems text.old (event_items entry.now) text.new) }
 {
     match entry {
         Entry::Edited {
@@ -79,7 +80,7 @@ fn put_event(text: &mut Bytes, entry: &Entry) -> Result<(), NoMemory>
 /// Puts the entry at a position last.
 fn put_entry(text: &mut Bytes, position: u64, entry: &Entry) -> Result<(), NoMemory>
     requires { (pool : List CutLine) × IsEntryInForm pool entry.now }
-    ensures { OnOk result (Puts text.old (entry_items (position, entry.now)) text.new) }
+    ensures { OnOk result (AddsItems text.old (entry_items (position, entry.now)) text.new) }
 {
     put_open(text)?;
     put_number(text, position)?;
@@ -90,7 +91,7 @@ fn put_entry(text: &mut Bytes, position: u64, entry: &Entry) -> Result<(), NoMem
 /// Puts a journal last, between parentheses.
 pub(crate) fn put_journal(text: &mut Bytes, entries: &[Entry]) -> Result<(), NoMemory>
     requires { (pool : List CutLine) × All (IsEntryInForm pool) entries.now }
-    ensures { OnOk result (Puts text.old (enclosed (flat_map entry_items (numbered_from 1 entries.now))) text.new) }
+    ensures { OnOk result (AddsItems text.old (enclosed (flat_map entry_items (numbered_from 1 entries.now))) text.new) }
 {
     put_open(text)?;
     for i in 0..entries.len() {

@@ -9,7 +9,6 @@ mod names;
 mod outcomes;
 mod plans;
 mod pool;
-mod puts;
 mod routings;
 mod writer;
 

@@ -1,15 +1,15 @@
 ghost use Rattle.std.specs.Prelude.{◌<◌, ◌^◌, All, OnOk};
 ghost use Rattle.plan_report.specs.Forms.{IsPathInForm};
 ghost use Rattle.plan_report.specs.Items.{numbers_items, path_items};
-ghost use Rattle.plan_report.specs.inner.Puts.{Puts};
+ghost use Rattle.text_kit.specs.Written.{AddsItems};
 
 use crate::names::put_link;
-use crate::puts::{put_close, put_number, put_open, put_whole};
 use net_core::{Bytes, Link, LinkId, NoMemory};
+use text_kit::puts::{put_close, put_number, put_open, put_whole};
 
 /// Puts lengths last, between parentheses.
 pub(crate) fn put_lengths(text: &mut Bytes, lengths: &[u32]) -> Result<(), NoMemory>
-    ensures { OnOk result (Puts text.old (numbers_items lengths.now) text.new) }
+    ensures { OnOk result (AddsItems text.old (numbers_items lengths.now) text.new) }
 {
     put_open(text)?;
     for n in lengths {
@@ -20,7 +20,7 @@ pub(crate) fn put_lengths(text: &mut Bytes, lengths: &[u32]) -> Result<(), NoMem
 
 /// Puts counts or units last, between parentheses.
 pub(crate) fn put_counts(text: &mut Bytes, counts: &[u64]) -> Result<(), NoMemory>
-    ensures { OnOk result (Puts text.old (numbers_items counts.now) text.new) }
+    ensures { OnOk result (AddsItems text.old (numbers_items counts.now) text.new) }
 {
     put_open(text)?;
     for n in counts {
@@ -32,7 +32,7 @@ pub(crate) fn put_counts(text: &mut Bytes, counts: &[u64]) -> Result<(), NoMemor
 /// Puts capacities last, between parentheses.
 pub(crate) fn put_capacities(text: &mut Bytes, nums: &[u128]) -> Result<(), NoMemory>
     requires { All (λ n. n < 2 ^ 126) nums.now }
-    ensures { OnOk result (Puts text.old (numbers_items nums.now) text.new) }
+    ensures { OnOk result (AddsItems text.old (numbers_items nums.now) text.new) }
 {
     put_open(text)?;
     for n in nums {
@@ -44,7 +44,7 @@ pub(crate) fn put_capacities(text: &mut Bytes, nums: &[u128]) -> Result<(), NoMe
 /// Puts the links of a path last, between parentheses.
 pub(crate) fn put_path(text: &mut Bytes, links: &[Link], path: &[LinkId]) -> Result<(), NoMemory>
     requires { IsPathInForm links.now path.now }
-    ensures { OnOk result (Puts text.old (path_items links.now path.now) text.new) }
+    ensures { OnOk result (AddsItems text.old (path_items links.now path.now) text.new) }
 {
     put_open(text)?;
     for e in path {

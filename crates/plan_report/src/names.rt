@@ -1,26 +1,15 @@
 ghost use Rattle.std.specs.Prelude.{◌<◌, ◌≤◌, ◌∷◌, [], length, OnOk};
 ghost use Rattle.text_kit.specs.Items.{Item, Verbatim};
-ghost use Rattle.text_kit.specs.Edits.{ends_items};
 ghost use Rattle.plan_report.specs.Names.{demand_name, link_name, state_name};
-ghost use Rattle.plan_report.specs.inner.Puts.{Puts};
+ghost use Rattle.text_kit.specs.Written.{AddsItems};
 
-use crate::puts::{put_close, put_keyword, put_name, put_open};
-use net_core::{Bytes, Demand, Link, LinkId, Listed, Name, NoMemory};
-
-/// Puts the names of two nodes last, between parentheses.
-pub(crate) fn put_ends(text: &mut Bytes, from: &Name, to: &Name) -> Result<(), NoMemory>
-    ensures { OnOk result (Puts text.old (ends_items from.now to.now) text.new) }
-{
-    put_open(text)?;
-    put_name(text, from)?;
-    put_name(text, to)?;
-    put_close(text)
-}
+use net_core::{Bytes, Demand, Link, LinkId, Listed, NoMemory};
+use text_kit::puts::{put_keyword, put_name};
 
 /// Puts a link's name last.
 pub(crate) fn put_link(text: &mut Bytes, links: &[Link], link: LinkId) -> Result<(), NoMemory>
     requires { link.0 < length links.now }
-    ensures { OnOk result (Puts text.old (Verbatim (link_name links.now link) ∷ []) text.new) }
+    ensures { OnOk result (AddsItems text.old (Verbatim (link_name links.now link) ∷ []) text.new) }
 {
     put_name(text, &links[link.0 as usize].name)
 }
@@ -32,7 +21,7 @@ pub(crate) fn put_demand_name(
     demand: u32,
 ) -> Result<(), NoMemory>
     requires { demand < length demands.now }
-    ensures { OnOk result (Puts text.old (Verbatim (demand_name demands.now demand) ∷ []) text.new) }
+    ensures { OnOk result (AddsItems text.old (Verbatim (demand_name demands.now demand) ∷ []) text.new) }
 {
     put_name(text, &demands[demand as usize].name)
 }
@@ -44,7 +33,7 @@ pub(crate) fn put_state_name(
     state: usize,
 ) -> Result<(), NoMemory>
     requires { state ≤ length listed.now }
-    ensures { OnOk result (Puts text.old (Verbatim (state_name listed.now state) ∷ []) text.new) }
+    ensures { OnOk result (AddsItems text.old (Verbatim (state_name listed.now state) ∷ []) text.new) }
 {
     if state == 0 {
         return put_keyword(text, b"none");

@@ -3,13 +3,13 @@ ghost use Rattle.net_core.specs.declared.plan.CutLine.{CutLine};
 ghost use Rattle.plan_report.specs.Forms.{IsOutcomeInForm};
 ghost use Rattle.plan_report.specs.Items.{head_items, outcome_items, separation_items};
 ghost use Rattle.text_kit.specs.Edits.{enclosed};
-ghost use Rattle.plan_report.specs.inner.Puts.{Puts};
+ghost use Rattle.text_kit.specs.Written.{AddsItems};
 
 use crate::names::put_state_name;
 use crate::plans::put_plan;
-use crate::puts::{put_close, put_field, put_keyword, put_name, put_open};
 use net_core::{Bytes, Link, Listed, Name, NoMemory, StateId};
 use plan_types::Outcome;
+use text_kit::puts::{put_close, put_field, put_keyword, put_name, put_open};
 
 /// Puts last which plan command an outcome is of, and for which version and position.
 fn put_head(
@@ -19,7 +19,7 @@ fn put_head(
     version: u64,
     position: u64,
 ) -> Result<(), NoMemory>
-    ensures { OnOk result (Puts text.old (head_items caller serial version position) text.new) }
+    ensures { OnOk result (AddsItems text.old (head_items caller serial version position) text.new) }
 {
     put_field(text, b"caller", caller as u64)?;
     put_field(text, b"plan", serial as u64)?;
@@ -35,7 +35,7 @@ fn put_separation(
     demand: &Name,
 ) -> Result<(), NoMemory>
     requires { state.0 ≤ length listed.now }
-    ensures { OnOk result (Puts text.old (separation_items listed.now state demand.now) text.new) }
+    ensures { OnOk result (AddsItems text.old (separation_items listed.now state demand.now) text.new) }
 {
     put_field(text, b"state", state.0 as u64)?;
     put_state_name(text, listed, state.0 as usize)?;
@@ -52,7 +52,7 @@ fn put_outcome(
     outcome: &Outcome,
 ) -> Result<(), NoMemory>
     requires { (pool : List CutLine) × IsOutcomeInForm nodes.now links.now listed.now pool outcome.now }
-    ensures { OnOk result (Puts text.old (outcome_items nodes.now links.now listed.now outcome.now) text.new) }
+    ensures { OnOk result (AddsItems text.old (outcome_items nodes.now links.now listed.now outcome.now) text.new) }
 {
     match outcome {
         Outcome::Planned {
@@ -92,7 +92,7 @@ pub(crate) fn put_outcomes(
     outcomes: &[Outcome],
 ) -> Result<(), NoMemory>
     requires { (pool : List CutLine) × All (IsOutcomeInForm nodes.now links.now listed.now pool) outcomes.now }
-    ensures { OnOk result (Puts text.old (enclosed (flat_map (outcome_items nodes.now links.now listed.now) outcomes.now)) text.new) }
+    ensures { OnOk result (AddsItems text.old (enclosed (flat_map (outcome_items nodes.now links.now listed.now) outcomes.now)) text.new) }
 {
     put_open(text)?;
     for outcome in outcomes {

@@ -3,22 +3,23 @@ ghost use Rattle.text_kit.specs.Items.{Whole};
 ghost use Rattle.plan_report.specs.Forms.{AreRoutingsInForm, IsPlanInForm, IsQualityInForm};
 ghost use Rattle.plan_report.specs.Items.{costs_items, demand_items, modules_items, numbers_items, plan_items, quality_items, routings_items};
 ghost use Rattle.text_kit.specs.Edits.{enclosed};
-ghost use Rattle.plan_report.specs.inner.Puts.{Puts};
+ghost use Rattle.text_kit.specs.Written.{AddsItems};
 ghost use Rattle.plan_report.specs.inner.Writable.{IsWritableDemand};
 
 use crate::certificates::put_certificate;
 use crate::evidence::put_cause;
 use crate::lists::put_counts;
-use crate::names::put_ends;
-use crate::puts::{put_close, put_keyword, put_money, put_name, put_number, put_open, put_whole};
 use crate::routings::put_routings;
 use net_core::{Bytes, Demand, Link, List, Listed, Name, NoMemory};
 use plan_types::{Fractional, Plan, Quality};
+use text_kit::puts::{
+    put_close, put_ends, put_keyword, put_money, put_name, put_number, put_open, put_whole,
+};
 
 /// Puts a demand last.
 fn put_demand(text: &mut Bytes, nodes: &[Name], demand: &Demand) -> Result<(), NoMemory>
     requires { IsWritableDemand nodes.now demand.now }
-    ensures { OnOk result (Puts text.old (demand_items nodes.now demand.now) text.new) }
+    ensures { OnOk result (AddsItems text.old (demand_items nodes.now demand.now) text.new) }
 {
     put_name(text, &demand.name)?;
     put_ends(
@@ -32,7 +33,7 @@ fn put_demand(text: &mut Bytes, nodes: &[Name], demand: &Demand) -> Result<(), N
 /// Puts demands last, between parentheses.
 fn put_demands(text: &mut Bytes, nodes: &[Name], demands: &[Demand]) -> Result<(), NoMemory>
     requires { All (IsWritableDemand nodes.now) demands.now }
-    ensures { OnOk result (Puts text.old (enclosed (flat_map (demand_items nodes.now) demands.now)) text.new) }
+    ensures { OnOk result (AddsItems text.old (enclosed (flat_map (demand_items nodes.now) demands.now)) text.new) }
 {
     put_open(text)?;
     for demand in demands {
@@ -43,7 +44,7 @@ fn put_demands(text: &mut Bytes, nodes: &[Name], demands: &[Demand]) -> Result<(
 
 /// Puts the modules of a link last.
 fn put_link_modules(text: &mut Bytes, link: &Link, counts: &[u64]) -> Result<(), NoMemory>
-    ensures { OnOk result (Puts text.old (modules_items (link.now, counts.now)) text.new) }
+    ensures { OnOk result (AddsItems text.old (modules_items (link.now, counts.now)) text.new) }
 {
     put_name(text, &link.name)?;
     put_counts(text, counts)
@@ -52,7 +53,7 @@ fn put_link_modules(text: &mut Bytes, link: &Link, counts: &[u64]) -> Result<(),
 /// Puts the modules of all links last, between parentheses.
 fn put_modules(text: &mut Bytes, links: &[Link], counts: &[List<u64>]) -> Result<(), NoMemory>
     requires { length counts.now ≡ length links.now }
-    ensures { OnOk result (Puts text.old (enclosed (flat_map modules_items (zip links.now counts.now))) text.new) }
+    ensures { OnOk result (AddsItems text.old (enclosed (flat_map modules_items (zip links.now counts.now))) text.new) }
 {
     put_open(text)?;
     for e in 0..links.len() {
@@ -66,7 +67,7 @@ fn put_costs(text: &mut Bytes, plan: &Plan) -> Result<(), NoMemory>
     requires cost { plan.now.cost < 2 ^ 126 }
     requires bound { plan.now.bound < 2 ^ 126 }
     requires raw { (plan.now.raw_num < 2 ^ 126) × (plan.now.raw_den < 2 ^ 72) }
-    ensures { OnOk result (Puts text.old (costs_items plan.now) text.new) }
+    ensures { OnOk result (AddsItems text.old (costs_items plan.now) text.new) }
 {
     put_keyword(text, b"cost")?;
     put_money(text, plan.cost)?;
@@ -86,7 +87,7 @@ fn put_fractional(
     fractional: &Fractional,
 ) -> Result<(), NoMemory>
     requires { AreRoutingsInForm links.now listed.now demands.now fractional.now.routings }
-    ensures { OnOk result (Puts text.old (Whole fractional.now.share.scale ∷ numbers_items fractional.now.share.units ++ routings_items links.now listed.now demands.now fractional.now.routings) text.new) }
+    ensures { OnOk result (AddsItems text.old (Whole fractional.now.share.scale ∷ numbers_items fractional.now.share.units ++ routings_items links.now listed.now demands.now fractional.now.routings) text.new) }
 {
     put_number(text, fractional.share.scale)?;
     put_counts(text, fractional.share.units.items())?;
@@ -102,7 +103,7 @@ pub(crate) fn put_quality(
     quality: &Quality,
 ) -> Result<(), NoMemory>
     requires { IsQualityInForm links.now listed.now demands.now quality.now }
-    ensures { OnOk result (Puts text.old (quality_items links.now listed.now demands.now quality.now) text.new) }
+    ensures { OnOk result (AddsItems text.old (quality_items links.now listed.now demands.now quality.now) text.new) }
 {
     match quality {
         Quality::Tight(fractional) => {
@@ -125,7 +126,7 @@ pub(crate) fn put_plan(
     plan: &Plan,
 ) -> Result<(), NoMemory>
     requires { IsPlanInForm nodes.now links.now listed.now plan.now }
-    ensures { OnOk result (Puts text.old (plan_items nodes.now links.now listed.now plan.now) text.new) }
+    ensures { OnOk result (AddsItems text.old (plan_items nodes.now links.now listed.now plan.now) text.new) }
 {
     let demands = plan.demands.items();
     put_keyword(text, b"DEMANDS")?;

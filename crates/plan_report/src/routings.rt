@@ -2,12 +2,12 @@ ghost use Rattle.std.specs.Prelude.{◌≤◌, All, OnOk, flat_map, length};
 ghost use Rattle.plan_report.specs.Forms.{AreRoutingsInForm, IsFlowInForm, IsRoutingInForm};
 ghost use Rattle.plan_report.specs.Items.{flow_items, routing_items, routings_items};
 ghost use Rattle.text_kit.specs.Edits.{enclosed};
-ghost use Rattle.plan_report.specs.inner.Puts.{Puts};
+ghost use Rattle.text_kit.specs.Written.{AddsItems};
 
 use crate::lists::put_path;
 use crate::names::{put_demand_name, put_state_name};
-use crate::puts::{put_close, put_field, put_number, put_open, put_whole};
 use net_core::{Bytes, Demand, Flow, Link, Listed, NoMemory, Routing};
+use text_kit::puts::{put_close, put_field, put_number, put_open, put_whole};
 
 /// Puts a flow last.
 pub(crate) fn put_flow(
@@ -17,7 +17,7 @@ pub(crate) fn put_flow(
     flow: &Flow,
 ) -> Result<(), NoMemory>
     requires { IsFlowInForm links.now demands.now flow.now }
-    ensures { OnOk result (Puts text.old (flow_items links.now demands.now flow.now) text.new) }
+    ensures { OnOk result (AddsItems text.old (flow_items links.now demands.now flow.now) text.new) }
 {
     put_demand_name(text, demands, flow.demand)?;
     put_whole(text, flow.num)?;
@@ -32,7 +32,7 @@ fn put_flows(
     flows: &[Flow],
 ) -> Result<(), NoMemory>
     requires { All (IsFlowInForm links.now demands.now) flows.now }
-    ensures { OnOk result (Puts text.old (enclosed (flat_map (flow_items links.now demands.now) flows.now)) text.new) }
+    ensures { OnOk result (AddsItems text.old (enclosed (flat_map (flow_items links.now demands.now) flows.now)) text.new) }
 {
     put_open(text)?;
     for flow in flows {
@@ -52,7 +52,7 @@ fn put_routing(
 ) -> Result<(), NoMemory>
     requires form { IsRoutingInForm links.now demands.now routing.now }
     requires state { state ≤ length listed.now }
-    ensures { OnOk result (Puts text.old (routing_items links.now listed.now demands.now (state, routing.now)) text.new) }
+    ensures { OnOk result (AddsItems text.old (routing_items links.now listed.now demands.now (state, routing.now)) text.new) }
 {
     put_field(text, b"state", state as u64)?;
     put_state_name(text, listed, state)?;
@@ -69,7 +69,7 @@ pub(crate) fn put_routings(
     routings: &[Routing],
 ) -> Result<(), NoMemory>
     requires { AreRoutingsInForm links.now listed.now demands.now routings.now }
-    ensures { OnOk result (Puts text.old (routings_items links.now listed.now demands.now routings.now) text.new) }
+    ensures { OnOk result (AddsItems text.old (routings_items links.now listed.now demands.now routings.now) text.new) }
 {
     put_open(text)?;
     for i in 0..routings.len() {

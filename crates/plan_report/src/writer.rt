@@ -1,25 +1,25 @@
-ghost use Rattle.std.specs.Prelude.{◌≡◌, ◌≤◌, ◌++◌, ◌∷◌, [], true, IfOk, OnOk, length};
-ghost use Rattle.net_core.specs.Names.{is_plain};
+ghost use Rattle.std.specs.Prelude.{◌≡◌, ◌++◌, ◌∷◌, [], IfOk, OnOk};
+ghost use Rattle.net_core.specs.Names.{IsName};
 ghost use Rattle.plan_report.specs.Forms.{IsReportInForm};
 ghost use Rattle.plan_report.specs.Items.{note_items, notes_items, report_items};
 ghost use Rattle.text_kit.specs.Edits.{section};
 ghost use Rattle.plan_report.specs.Texts.{SpellsReport, report_header, report_text};
-ghost use Rattle.plan_report.specs.inner.Puts.{Puts};
+ghost use Rattle.text_kit.specs.Written.{AddsItems};
 
 use crate::journal::put_journal;
 use crate::outcomes::put_outcomes;
 use crate::pool::put_pool;
-use crate::puts::{put_close, put_keyword, put_open};
 use net_core::{Bytes, Link, Listed, Name, Network, NoMemory, Notes, States};
 use plan_types::Report;
 use std::alloc::Global;
+use text_kit::puts::{put_close, put_keyword, put_open};
 
 const HEADER: &[u8] = b"?planner report; version: 1\n";
 
 /// Puts a word last where something is noted.
 fn put_note(text: &mut Bytes, noted: bool, word: &[u8]) -> Result<(), NoMemory>
-    requires { (1 ≤ length word.now) × (is_plain word.now ≡ true) }
-    ensures { OnOk result (Puts text.old (note_items noted word.now) text.new) }
+    requires { IsName word.now }
+    ensures { OnOk result (AddsItems text.old (note_items noted word.now) text.new) }
 {
     if noted {
         return put_keyword(text, word);
@@ -29,7 +29,7 @@ fn put_note(text: &mut Bytes, noted: bool, word: &[u8]) -> Result<(), NoMemory>
 
 /// Puts notes last.
 pub(crate) fn put_notes(text: &mut Bytes, notes: Notes) -> Result<(), NoMemory>
-    ensures { OnOk result (Puts text.old (notes_items notes) text.new) }
+    ensures { OnOk result (AddsItems text.old (notes_items notes) text.new) }
 {
     put_note(text, notes.fixed_cost, b"fixed")?;
     put_note(text, notes.routing_cost, b"routing")?;
@@ -45,7 +45,7 @@ fn put_report(
     report: &Report,
 ) -> Result<(), NoMemory>
     requires { IsReportInForm nodes.now links.now listed.now report.now }
-    ensures { OnOk result (Puts text.old (report_items nodes.now links.now listed.now report.now) text.new) }
+    ensures { OnOk result (AddsItems text.old (report_items nodes.now links.now listed.now report.now) text.new) }
 {
     put_keyword(text, b"NOTES")?;
     put_open(text)?;

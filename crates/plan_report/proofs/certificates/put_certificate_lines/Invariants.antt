@@ -1,7 +1,7 @@
 use Rattle.std.proofs.Common.{take, flat_map}
 use Rattle.plan_report.specs.Items.{certificate_line_items}
-use Rattle.plan_report.specs.inner.Puts.{Puts}
+use Rattle.text_kit.specs.Written.{AddsItems}
 use Rattle.plan_report.proofs.certificates.put_certificate_lines.Given as goal
 
 abbrev pub invariant-loop-line : goal.invariant-loop-line
-invariant-loop-line l = Puts l.fn.text (flat_map certificate_line_items (take l.line-index l.lines)) l.text
+invariant-loop-line l = AddsItems l.fn.text (flat_map certificate_line_items (take l.line-index l.lines)) l.text

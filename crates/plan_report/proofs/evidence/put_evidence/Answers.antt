@@ -1,5 +1,5 @@
 use Rattle.plan_report.specs.Forms.{IsMasterEvidenceInForm, IsRouteEvidenceInForm}
-use Rattle.plan_report.proofs.Putting.{on_ok, puts_then}
+use Rattle.text_kit.proofs.Adding.{on_ok, adds_then}
 use Rattle.plan_report.proofs.evidence.put_evidence.Goals as goal
 
 pub put_route_kind-requires : goal.put_route_kind-requires
@@ -13,7 +13,7 @@ put_master_kind-requires c =
     (c.requires.0, h.wide)
 
 pub returns-in_ok-put_route_basis-in-Route : goal.returns-in_ok-put_route_basis-in-Route
-returns-in_ok-put_route_basis-in-Route c = rw c.in-Route.is (on_ok _ (λ q. puts_then (puts_then (puts_then c.in_ok-put_field-in-Route.ensures c.in_ok-put_caps-in-Route.ensures) (rw c.items.ensures at c.in_ok-put_route_basis-in-Route.ensures)) q) c.put_route_kind.ensures)
+returns-in_ok-put_route_basis-in-Route c = rw c.in-Route.is (on_ok _ (λ q. adds_then (adds_then (adds_then c.in_ok-put_field-in-Route.ensures c.in_ok-put_caps-in-Route.ensures) (rw c.items.ensures at c.in_ok-put_route_basis-in-Route.ensures)) q) c.put_route_kind.ensures)
 
 pub returns-in_ok-put_master_basis-in-Master : goal.returns-in_ok-put_master_basis-in-Master
-returns-in_ok-put_master_basis-in-Master c = rw c.in-Master.is (on_ok _ (λ q. puts_then c.in_ok-put_keyword-in-Master.ensures (puts_then (rw c.items-in-Master.ensures at c.in_ok-put_master_basis-in-Master.ensures) q)) c.put_master_kind.ensures)
+returns-in_ok-put_master_basis-in-Master c = rw c.in-Master.is (on_ok _ (λ q. adds_then c.in_ok-put_keyword-in-Master.ensures (adds_then (rw c.items-in-Master.ensures at c.in_ok-put_master_basis-in-Master.ensures) q)) c.put_master_kind.ensures)

@@ -1,8 +1,8 @@
 use Rattle.std.proofs.Common.{◌∷◌, take, flat_map}
 use Rattle.text_kit.specs.Items.{Opening}
 use Rattle.plan_report.specs.Items.{entry_items, numbered_from}
-use Rattle.plan_report.specs.inner.Puts.{Puts}
+use Rattle.text_kit.specs.Written.{AddsItems}
 use Rattle.plan_report.proofs.journal.put_journal.Given as goal
 
 abbrev pub invariant-loop-i : goal.invariant-loop-i
-invariant-loop-i l = Puts l.fn.text (Opening ∷ flat_map entry_items (take l.i (numbered_from 1 l.entries))) l.text
+invariant-loop-i l = AddsItems l.fn.text (Opening ∷ flat_map entry_items (take l.i (numbered_from 1 l.entries))) l.text

@@ -1,10 +1,10 @@
 use Rattle.std.proofs.Common.{◌∷◌, [], arith}
 use Rattle.text_kit.specs.Items.{Whole, Opening}
-use Rattle.plan_report.proofs.Putting.{puts_list, puts_more}
+use Rattle.text_kit.proofs.Adding.{adds_list, adds_more}
 use Rattle.plan_report.proofs.lists.put_lengths.Goals as goal
 
 pub loop-n-preserved : goal.loop-n-preserved
-loop-n-preserved c = puts_more (Opening ∷ []) (λ n. Whole n ∷ []) c.args.lengths.now c.loop-n.n-index 0 c.loop-n-test.true c.loop-n.invariant c.in_ok-put_number.ensures
+loop-n-preserved c = adds_more (Opening ∷ []) (λ n. Whole n ∷ []) c.args.lengths.now c.loop-n.n-index 0 c.loop-n-test.true c.loop-n.invariant c.in_ok-put_number.ensures
 
 pub returns : goal.returns
-returns c = puts_list (λ n. Whole n ∷ []) c.args.lengths.now c.loop-n.n-index _ _ (omega (arith, c.loop-n-test.false)) c.loop-n.invariant c.put_close.ensures
+returns c = adds_list (λ n. Whole n ∷ []) c.args.lengths.now c.loop-n.n-index _ _ (omega (arith, c.loop-n-test.false)) c.loop-n.invariant c.put_close.ensures

@@ -1,7 +1,7 @@
 use Rattle.std.proofs.Common.{◌∷◌, [], take, flat_map}
 use Rattle.text_kit.specs.Items.{Whole, Opening}
-use Rattle.plan_report.specs.inner.Puts.{Puts}
+use Rattle.text_kit.specs.Written.{AddsItems}
 use Rattle.plan_report.proofs.lists.put_lengths.Given as goal
 
 abbrev pub invariant-loop-n : goal.invariant-loop-n
-invariant-loop-n l = Puts l.fn.text (Opening ∷ flat_map (λ n. Whole n ∷ []) (take l.n-index l.lengths)) l.text
+invariant-loop-n l = AddsItems l.fn.text (Opening ∷ flat_map (λ n. Whole n ∷ []) (take l.n-index l.lengths)) l.text

@@ -1,8 +1,8 @@
 use Rattle.std.proofs.Common.{◌∷◌, [], take, flat_map}
 use Rattle.text_kit.specs.Items.{Verbatim, Opening}
-use Rattle.plan_report.specs.inner.Puts.{Puts}
+use Rattle.text_kit.specs.Written.{AddsItems}
 use Rattle.plan_report.specs.Names.{link_name}
 use Rattle.plan_report.proofs.lists.put_path.Given as goal
 
 abbrev pub invariant-loop-e : goal.invariant-loop-e
-invariant-loop-e l = Puts l.fn.text (Opening ∷ flat_map (λ e. Verbatim (link_name l.links e) ∷ []) (take l.e-index l.path)) l.text
+invariant-loop-e l = AddsItems l.fn.text (Opening ∷ flat_map (λ e. Verbatim (link_name l.links e) ∷ []) (take l.e-index l.path)) l.text

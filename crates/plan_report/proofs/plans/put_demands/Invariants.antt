@@ -1,8 +1,8 @@
 use Rattle.std.proofs.Common.{◌∷◌, take, flat_map}
 use Rattle.text_kit.specs.Items.{Opening}
 use Rattle.plan_report.specs.Items.{demand_items}
-use Rattle.plan_report.specs.inner.Puts.{Puts}
+use Rattle.text_kit.specs.Written.{AddsItems}
 use Rattle.plan_report.proofs.plans.put_demands.Given as goal
 
 abbrev pub invariant-loop-demand : goal.invariant-loop-demand
-invariant-loop-demand l = Puts l.fn.text (Opening ∷ flat_map (demand_items l.nodes) (take l.demand-index l.demands)) l.text
+invariant-loop-demand l = AddsItems l.fn.text (Opening ∷ flat_map (demand_items l.nodes) (take l.demand-index l.demands)) l.text
