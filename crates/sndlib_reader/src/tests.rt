@@ -39,38 +39,39 @@ fn with_header(alloc: Global, body: &[u8]) -> Option<Bytes> {
     Some(text)
 }
 
-/// The fault of a file.
-fn fault_of(alloc: Global, text: &[u8]) -> Option<(u64, ReadKind)> {
+/// What a file comes to: it is read, or it has a first fault.
+fn outcome(alloc: Global, text: &[u8]) -> Option<Result<(), (u64, ReadKind)>> {
     match read_network(alloc, text) {
-        Err(ReadRefusal::Bad { at, kind }) => Some((at, kind)),
-        _ => None,
+        Ok(_) => Some(Ok(())),
+        Err(ReadRefusal::Bad { at, kind }) => Some(Err((at, kind))),
+        Err(ReadRefusal::NoMemory) => None,
     }
 }
 
-/// The fault of the file of a body, given by its front and the rest.
-fn fault_behind(alloc: Global, front: &[u8], rest: &[u8]) -> Option<(u64, ReadKind)> {
+/// What the file of a body comes to, given by its front and the rest.
+fn outcome_of(alloc: Global, front: &[u8], rest: &[u8]) -> Option<Result<(), (u64, ReadKind)>> {
     let mut text = with_header(alloc, front)?;
     text.append(rest).ok()?;
-    fault_of(alloc, text.items())
-}
-
-/// Whether the file of this body is read.
-fn is_read(alloc: Global, body: &[u8]) -> Option<bool> {
-    Some(read_network(alloc, with_header(alloc, body)?.items()).is_ok())
+    outcome(alloc, text.items())
 }
 
 #[test]
 fn headers_and_places(rt: HostRuntime) {
     let file: &[u8] =
         b"?SNDlib native format; type: network; version: 1.0\nNODES ( A B )\nLINKS ( L ( A B ) 5 0 0 0 ( ) )\nDEMANDS ( )\n";
-    let model: &[u8] = b"?SNDlib native format; type: model; version: 1.0\n";
-    assert_eq!(rt; fault_of(rt.alloc(), file), Some((93, ReadKind::FixedLink)));
-    assert_eq!(rt;
-        fault_of(rt.alloc(), &file[..78]),
-        Some((78, ReadKind::Ended))
-    );
-    assert_eq!(rt; fault_of(rt.alloc(), model), Some((0, ReadKind::Header)));
-    assert_eq!(rt; fault_of(rt.alloc(), b""), Some((0, ReadKind::Header)));
+    let rows: [(&[u8], u64, ReadKind); 4] = [
+        (file, 93, FixedLink),
+        (&file[..78], 78, Ended),
+        (
+            b"?SNDlib native format; type: model; version: 1.0\n",
+            0,
+            ReadKind::Header,
+        ),
+        (b"", 0, ReadKind::Header),
+    ];
+    for (text, at, kind) in rows {
+        assert_eq!(rt; outcome(rt.alloc(), text), Some(Err((at, kind))));
+    }
 }
 
 /// Files that are refused: what they begin with, what comes after it, and the first fault.
@@ -165,7 +166,7 @@ fn refused() -> [(&'static [u8], &'static [u8], u64, ReadKind); 59] {
 #[test]
 fn first_faults(rt: HostRuntime) {
     for (front, rest, at, kind) in refused() {
-        assert_eq!(rt; fault_behind(rt.alloc(), front, rest), Some((at, kind)));
+        assert_eq!(rt; outcome_of(rt.alloc(), front, rest), Some(Err((at, kind))));
     }
 }
 
@@ -181,169 +182,129 @@ fn put_many(text: &mut Bytes, count: u32, tail: &[u8]) -> Option<()> {
     Some(())
 }
 
-/// Whether the file is read that has so many items after this front, before this end.
-fn is_read_with_many(
+/// What a file comes to that has so many items after this front, before this end.
+fn outcome_of_many(
     alloc: Global,
     front: &[u8],
     count: u32,
     tail: &[u8],
     end: &[u8],
-) -> Option<bool> {
+) -> Option<Result<(), (u64, ReadKind)>> {
     let mut text = with_header(alloc, front)?;
     put_many(&mut text, count, tail)?;
     text.append(end).ok()?;
-    Some(read_network(alloc, text.items()).is_ok())
-}
-
-/// The fault of a file that has so many items after this front, before this end.
-fn fault_of_many(
-    alloc: Global,
-    front: &[u8],
-    count: u32,
-    tail: &[u8],
-    end: &[u8],
-) -> Option<(u64, ReadKind)> {
-    let mut text = with_header(alloc, front)?;
-    put_many(&mut text, count, tail)?;
-    text.append(end).ok()?;
-    fault_of(alloc, text.items())
+    outcome(alloc, text.items())
 }
 
 #[test]
 fn counts(rt: HostRuntime) {
     let nodes: &[u8] = b"NODES(";
-    let links: &[u8] = b"NODES(A B)LINKS(";
     let link: &[u8] = b"(A B)0 0 0 0()";
-    let demands: &[u8] = b"NODES(A B)LINKS()DEMANDS(";
     let demand: &[u8] = b"(A B)1 0 9";
-    let rows: [(&[u8], u32, &[u8], &[u8], u64, ReadKind); 9] = [
-        (nodes, 128, b"", b")", 570, ReadKind::Ended),
-        (nodes, 129, b"", b")", 570, ReadKind::Limit(Limited::Nodes)),
-        (nodes, 128, b"", b" aaa)", 570, ReadKind::DoubleName),
-        (links, 256, link, b")", 4676, ReadKind::Ended),
+    let rows: [(&[u8], u32, &[u8], &[u8], Result<(), (u64, ReadKind)>); 12] = [
+        (nodes, 128, b"", b")LINKS()DEMANDS()", Ok(())),
+        (nodes, 128, b"", b")", Err((570, Ended))),
+        (nodes, 129, b"", b")", Err((570, Limit(Limited::Nodes)))),
+        (nodes, 128, b"", b" aaa)", Err((570, DoubleName))),
+        (LINKS, 256, link, b")DEMANDS()", Ok(())),
+        (LINKS, 256, link, b")", Err((4676, Ended))),
+        (LINKS, 257, link, b")", Err((4676, Limit(Limited::Links)))),
+        (LINKS, 256, link, b" aaa(", Err((4676, DoubleName))),
+        (NO_LINKS, 2048, demand, b")", Ok(())),
+        (NO_LINKS, 2048, demand, b")x", Err((28749, Section))),
         (
-            links,
-            257,
-            link,
-            b")",
-            4676,
-            ReadKind::Limit(Limited::Links),
-        ),
-        (links, 256, link, b" aaa(", 4676, ReadKind::DoubleName),
-        (demands, 2048, demand, b")x", 28749, ReadKind::Section),
-        (
-            demands,
+            NO_LINKS,
             2049,
             demand,
             b")",
-            28749,
-            ReadKind::Limit(Limited::Demands),
+            Err((28749, Limit(Limited::Demands))),
         ),
-        (demands, 2048, demand, b" aaa(", 28749, ReadKind::DoubleName),
+        (NO_LINKS, 2048, demand, b" aaa(", Err((28749, DoubleName))),
     ];
-    for (front, count, tail, end, at, kind) in rows {
+    for (front, count, tail, end, expected) in rows {
         assert_eq!(rt;
-            fault_of_many(rt.alloc(), front, count, tail, end),
-            Some((at, kind))
-        );
-    }
-}
-
-#[test]
-fn last_counts_are_read(rt: HostRuntime) {
-    let rows: [(&[u8], u32, &[u8], &[u8]); 3] = [
-        (b"NODES(", 128, b"", b")LINKS()DEMANDS()"),
-        (b"NODES(A B)LINKS(", 256, b"(A B)0 0 0 0()", b")DEMANDS()"),
-        (b"NODES(A B)LINKS()DEMANDS(", 2048, b"(A B)1 0 9", b")"),
-    ];
-    for (front, count, tail, end) in rows {
-        assert_eq!(rt;
-            is_read_with_many(rt.alloc(), front, count, tail, end),
-            Some(true)
+            outcome_of_many(rt.alloc(), front, count, tail, end),
+            Some(expected)
         );
     }
 }
 
 #[test]
 fn totals(rt: HostRuntime) {
-    let front: &[u8] = b"NODES(A B)LINKS()DEMANDS(";
     let most: &[u8] = b"(A B)1 1099511627.775 9";
     let rows: [(&[u8], u64, ReadKind); 4] = [
-        (b" x(A B)1 0.015 9)x", 525, ReadKind::Section),
-        (b" x(A B)1 0.016 9)", 517, ReadKind::Limit(Limited::Total)),
+        (b" x(A B)1 0.015 9)x", 525, Section),
+        (b" x(A B)1 0.016 9)", 517, Limit(Limited::Total)),
         (b" x(A B)1000 1099511627.775 9)", 520, TOO_LARGE),
         (b" x(A B)0 1099511627.776 9)", 517, TOO_LARGE),
     ];
     for (end, at, kind) in rows {
         assert_eq!(rt;
-            fault_of_many(rt.alloc(), front, 16, most, end),
-            Some((at, kind))
+            outcome_of_many(rt.alloc(), NO_LINKS, 16, most, end),
+            Some(Err((at, kind)))
         );
     }
 }
 
-/// The fault of a file with a name of so many bytes after this front.
-fn fault_of_long(alloc: Global, front: &[u8], count: u32, end: &[u8]) -> Option<(u64, ReadKind)> {
+/// What a file comes to that has a name of so many bytes after this front, before this end.
+fn outcome_of_long(
+    alloc: Global,
+    front: &[u8],
+    count: usize,
+    end: &[u8],
+) -> Option<Result<(), (u64, ReadKind)>> {
     let mut text = with_header(alloc, front)?;
-    for _ in 0..count {
-        text.append(b"n").ok()?;
-    }
+    text.append(List::filled(alloc, b'n', count).ok()?.items())
+        .ok()?;
     text.append(end).ok()?;
-    fault_of(alloc, text.items())
+    outcome(alloc, text.items())
 }
 
 #[test]
 fn long_names(rt: HostRuntime) {
-    let rows: [(&[u8], u64); 8] = [
-        (b"NODES(", 57),
-        (b"NODES()LINKS(", 64),
-        (b"NODES(A)LINKS(L(", 67),
-        (b"NODES(A)LINKS(L(A ", 69),
-        (b"NODES()LINKS()DEMANDS(", 73),
-        (b"NODES()LINKS()DEMANDS()ADMISSIBLE_PATHS(", 91),
+    let path: &[u8] = b"NODES(A B)LINKS(L(A B)0 0 0 0())DEMANDS(D(A B)1 1 9)ADMISSIBLE_PATHS(D(";
+    let path_link: &[u8] =
+        b"NODES(A B)LINKS(L(A B)0 0 0 0())DEMANDS(D(A B)1 1 9)ADMISSIBLE_PATHS(D(P(";
+    let rows: [(&[u8], usize, &[u8], Result<(), (u64, ReadKind)>); 13] = [
+        (b"NODES(", 256, b")", Err((57, Limit(Limited::Name)))),
+        (b"NODES()LINKS(", 256, b")", Err((64, Limit(Limited::Name)))),
         (
-            b"NODES(A B)LINKS(L(A B)0 0 0 0())DEMANDS(D(A B)1 1 9)ADMISSIBLE_PATHS(D(",
-            122,
+            b"NODES(A)LINKS(L(",
+            256,
+            b")",
+            Err((67, Limit(Limited::Name))),
         ),
         (
-            b"NODES(A B)LINKS(L(A B)0 0 0 0())DEMANDS(D(A B)1 1 9)ADMISSIBLE_PATHS(D(P(",
-            124,
+            b"NODES(A)LINKS(L(A ",
+            256,
+            b")",
+            Err((69, Limit(Limited::Name))),
         ),
+        (
+            b"NODES()LINKS()DEMANDS(",
+            256,
+            b")",
+            Err((73, Limit(Limited::Name))),
+        ),
+        (
+            b"NODES()LINKS()DEMANDS()ADMISSIBLE_PATHS(",
+            256,
+            b")",
+            Err((91, Limit(Limited::Name))),
+        ),
+        (path, 256, b")", Err((122, Limit(Limited::Name)))),
+        (path_link, 256, b")", Err((124, Limit(Limited::Name)))),
+        (b"NODES(", 255, b")", Err((313, Ended))),
+        (b"NODES(", 255, b")LINKS()DEMANDS()", Ok(())),
+        (LINKS, 255, b"(A B)0 0 0 0())DEMANDS()", Ok(())),
+        (NO_LINKS, 255, b"(A B)1 1 9)", Ok(())),
+        (path, 255, b"(L)))", Ok(())),
     ];
-    for (front, at) in rows {
+    for (front, count, end, expected) in rows {
         assert_eq!(rt;
-            fault_of_long(rt.alloc(), front, 256, b")"),
-            Some((at, ReadKind::Limit(Limited::Name)))
+            outcome_of_long(rt.alloc(), front, count, end),
+            Some(expected)
         );
-    }
-    assert_eq!(rt;
-        fault_of_long(rt.alloc(), b"NODES(", 255, b")"),
-        Some((313, ReadKind::Ended))
-    );
-}
-
-/// Whether the file is read that has a name of 255 bytes after this front.
-fn is_read_with_long(alloc: Global, front: &[u8], end: &[u8]) -> Option<bool> {
-    let mut text = with_header(alloc, front)?;
-    text.append(List::filled(alloc, b'n', 255).ok()?.items())
-        .ok()?;
-    text.append(end).ok()?;
-    Some(read_network(alloc, text.items()).is_ok())
-}
-
-#[test]
-fn names_of_255_bytes_are_read(rt: HostRuntime) {
-    let rows: [(&[u8], &[u8]); 4] = [
-        (b"NODES(", b")LINKS()DEMANDS()"),
-        (b"NODES(A B)LINKS(", b"(A B)0 0 0 0())DEMANDS()"),
-        (b"NODES(A B)LINKS()DEMANDS(", b"(A B)1 1 9)"),
-        (
-            b"NODES(A B)LINKS(L(A B)0 0 0 0())DEMANDS(D(A B)1 1 9)ADMISSIBLE_PATHS(D(",
-            b"(L)))",
-        ),
-    ];
-    for (front, end) in rows {
-        assert_eq!(rt; is_read_with_long(rt.alloc(), front, end), Some(true));
     }
 }
 
@@ -352,26 +313,17 @@ fn a_section_of_opening_parentheses_ends_at_the_files_length(rt: HostRuntime) ->
     let mut text = with_header(rt.alloc(), b"META").ok_or("memory")?;
     text.append(List::filled(rt.alloc(), b'(', 1000000)?.items())?;
     assert_eq!(rt;
-        fault_of(rt.alloc(), text.items()),
-        Some((1000055, ReadKind::Ended))
+        outcome(rt.alloc(), text.items()),
+        Some(Err((1000055, Ended)))
     );
     Ok(())
 }
 
-/// Whether a file is read or has a fault.
-fn is_read_whole(alloc: Global, text: &[u8]) -> Option<bool> {
-    match read_network(alloc, text) {
-        Ok(_) => Some(true),
-        Err(ReadRefusal::Bad { .. }) => Some(false),
-        Err(ReadRefusal::NoMemory) => None,
-    }
-}
-
 #[test]
-fn a_cut_file_is_read_behind_its_demands_and_outside_its_paths(rt: HostRuntime) {
+fn a_cut_file_is_read_after_its_demands_and_outside_its_paths(rt: HostRuntime) {
     for length in 0..=SMALL.len() {
         let is_whole = length >= 761 && length <= 763 || length >= 815;
-        let is_read = is_read_whole(rt.alloc(), &SMALL[..length]);
+        let is_read = outcome(rt.alloc(), &SMALL[..length]).map(|o| o.is_ok());
         assert_eq!(rt; (length, is_read), (length, Some(is_whole)));
     }
 }
@@ -389,7 +341,7 @@ fn reads_what_is_allowed(rt: HostRuntime) {
         b"NODES(A B)LINKS(L(A B)0 0 0 0(1 1 1 1 1 1 1 1 1 1 1 1 1 1 1 1 1 1 1 1 1 1 1 1 1 1 1 1 1 1 1 1))DEMANDS()",
     ];
     for body in bodies {
-        assert_eq!(rt; is_read(rt.alloc(), body), Some(true));
+        assert_eq!(rt; outcome_of(rt.alloc(), START, body), Some(Ok(())));
     }
 }
 
