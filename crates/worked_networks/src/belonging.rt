@@ -46,7 +46,7 @@ fn total(demands: &[Demand]) -> u128
     total
 }
 
-/// Whether they are the demands of so many nodes.
+/// Whether they are the demands of so many nodes. It takes time in the square of the demands, and no memory.
 pub fn belong(nodes: usize, demands: &[Demand]) -> bool
     ensures { IsTrue result ↔ AreDemands nodes demands.now }
 {

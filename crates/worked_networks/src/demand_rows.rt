@@ -30,7 +30,10 @@ fn listed(alloc: Global, rows: &[DemandRow]) -> Result<Demands, NoMemory>
     Ok(demands)
 }
 
-/// Up to 26 demands A, B and so on of so many nodes: each joins two of them, and the needs keep the limits of a network's file.
+/// Up to 26 demands A, B and so on of so many nodes, one for each row: each joins two of them, and the needs, in thousandths, are
+/// below 2^40 each and below 2^44 together.
+///
+/// It takes time in the square of the rows, and memory in the rows.
 pub fn demands(alloc: Global, nodes: usize, rows: &[DemandRow]) -> Result<Demands, WorkedFault>
     ensures belong { IfOk result (AreDemands nodes) }
     ensures count { IfOk result (λ demands. length demands ≡ length rows.now) }

@@ -102,8 +102,11 @@ pub(crate) fn checked(nodes: List<Name>, links: List<Link>) -> Result<Network, W
     }
 }
 
-/// The network of up to 26 nodes A, B and so on, and up to 26 links a, b and so on, of whose costs none is a note. Where the rows
-/// aren't links of the nodes, the answer is the fault that `Network::check` finds.
+/// The network of up to 26 nodes A, B and so on, and up to 26 links a, b and so on, one for each row, of whose costs none is a
+/// note. Capacities and costs are in thousandths. Where the rows aren't links of the nodes, the answer is the fault that
+/// `Network::check` finds.
+///
+/// It takes time in the squares of the nodes and of the rows, and in the modules; memory in the nodes, the rows and their modules.
 pub fn network(alloc: Global, nodes: usize, rows: &[LinkRow]) -> Result<Network, WorkedFault>
     ensures nodes { IfOk result (λ net. length net.nodes ≡ nodes) }
     ensures names { IfOk result (λ net. (net.nodes ≡ letters 65 nodes) × (map (λ l. l.name) net.links ≡ letters 97 (length rows.now))) }

@@ -4,7 +4,7 @@ ghost use Rattle.net_core.specs.Names.{IsName};
 use net_core::{Name, NameFault, NoMemory};
 use std::alloc::Global;
 
-/// A name that is known to be one.
+/// A name of bytes that are known to be one. It takes time and memory in the bytes.
 pub fn name(alloc: Global, bytes: &[u8]) -> Result<Name, NoMemory>
     requires { IsName bytes.now }
     ensures { IfOk result (λ n. n ≡ bytes.now) }
@@ -16,7 +16,7 @@ pub fn name(alloc: Global, bytes: &[u8]) -> Result<Name, NoMemory>
     }
 }
 
-/// The name of one letter, so many places after the first.
+/// The name of one letter, so many places after the first. It takes a byte of memory.
 pub fn letter(alloc: Global, first: u8, place: usize) -> Result<Name, NoMemory>
     requires first { 65 ≤ first }
     requires place { first + place ≤ 122 }

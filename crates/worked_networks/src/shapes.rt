@@ -34,7 +34,7 @@ fn sides(alloc: Global, fixed: u64) -> Result<List<Link>, NoMemory>
 }
 
 /// The nodes A, B and C, and the links AB, BC and AC of modules of 10.00 for 5.00, each with the same pre-installed capacity in
-/// thousandths.
+/// thousandths. That of 2^40 or more is a fault of the links. It takes a fixed amount of time and memory.
 pub fn triangle(alloc: Global, fixed: u64) -> Result<Network, WorkedFault>
     ensures nodes { IfOk result (λ net. length net.nodes ≡ 3) }
     ensures links { IfOk result (λ net. length net.links ≡ 3) }
@@ -46,7 +46,10 @@ pub fn triangle(alloc: Global, fixed: u64) -> Result<Network, WorkedFault>
     checked(nodes, links)
 }
 
-/// The network, the failure of each of its links alone, and up to 26 demands.
+/// The network, the failure of each of its links alone, and up to 26 demands A, B and so on, one for each row, with needs in
+/// thousandths. The network is dropped at an error.
+///
+/// It takes time in the squares of the links and of the rows, and memory in both.
 pub fn problem(alloc: Global, net: Network, rows: &[DemandRow]) -> Result<Problem, WorkedFault>
     ensures net { IfOk result (λ p. p.net ≡ net) }
     ensures belong { IfOk result (λ p. AreStates (length p.net.links) p.states.listed) }

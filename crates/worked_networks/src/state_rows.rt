@@ -44,8 +44,10 @@ fn checked(net: &Network, listed: List<Listed>) -> Result<States, WorkedFault>
     }
 }
 
-/// Up to 20 states f, g and so on, each of which fails the links of a row. Where the rows aren't states of the network, the answer
-/// is the fault that `States::new` finds.
+/// Up to 20 states f, g and so on, each of which fails the links of a row, by their places among the network's links. Where the rows
+/// aren't states of the network, the answer is the fault that `States::new` finds.
+///
+/// It takes time in the square of the rows and in the links of all rows, and memory in the latter.
 pub fn failing(alloc: Global, net: &Network, rows: &[&[u32]]) -> Result<States, WorkedFault>
     ensures belong { IfOk result (λ s. AreStates (length net.now.links) s.listed) }
     ensures count { IfOk result (λ s. length s.listed ≡ length rows.now) }
@@ -83,7 +85,9 @@ fn singles(alloc: Global, links: &[Link]) -> Result<List<Listed>, NoMemory>
     Ok(listed)
 }
 
-/// Each link fails alone, in the order of the links, under its name.
+/// The states of a network in which each link fails alone: one for each link, in their order, under its name.
+///
+/// It takes time in the square of the links, and memory in the links.
 pub fn single_failures(alloc: Global, net: &Network) -> Result<States, NoMemory>
     ensures belong { IfOk result (λ s. AreStates (length net.now.links) s.listed) }
     ensures singles { IfOk result (λ s. AreSingles net.now.links s.listed) }
