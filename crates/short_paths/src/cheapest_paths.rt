@@ -13,7 +13,7 @@ use std::alloc::Global;
 
 /// The paths of least price in a surviving graph, between any two nodes: one search from each node, run once.
 ///
-/// It takes 16 bytes for each two nodes.
+/// It takes 16 bytes for each node with each node, 262 KB for 128 nodes, and less for each node and each link.
 #[derive(Drop)]
 pub struct CheapestPaths<'n> {
     prices: List<u64>,
@@ -26,7 +26,8 @@ pub struct CheapestPaths<'n> {
 impl<'n> CheapestPaths<'n> {
     /// Runs the searches.
     ///
-    /// There is one price for each link, below 2^62, and a price may be 0.
+    /// There is one price for each link, in any unit, below 2^62, and a price may be 0. It takes time in the cube of the nodes, in
+    /// the nodes times the links, and in the links times those that the state fails.
     pub fn new(
         alloc: Global,
         graph: &Surviving<'n>,
@@ -43,7 +44,7 @@ impl<'n> CheapestPaths<'n> {
     }
 
     /// A path between two nodes whose prices have the least sum, and of these one of fewest links. It takes time in the links
-    /// that leave the path's nodes.
+    /// that leave the path's nodes, and memory in the links of the path.
     pub fn path(&self, from: NodeId, to: NodeId) -> Result<PricedPath, PathFault>
         requires from { from.0 < length self.now.paths.graph.net.now.nodes }
         requires to { to.0 < length self.now.paths.graph.net.now.nodes }

@@ -16,7 +16,7 @@ use std::alloc::Global;
 
 /// The least of the shortest paths of a surviving graph, between any two nodes: one search from each node, run once.
 ///
-/// It takes 16 bytes for each two nodes.
+/// It takes 16 bytes for each node with each node, 262 KB for 128 nodes, and less for each node and each link.
 #[derive(Drop)]
 pub struct LeastPaths<'n> {
     alloc: Global,
@@ -55,7 +55,8 @@ fn all_rows(
 impl<'n> LeastPaths<'n> {
     /// Runs the searches.
     ///
-    /// There is one length for each link, and that of each surviving link is 1 or more.
+    /// There is one length for each link, in any unit, and that of each surviving link is 1 or more. It takes time in the cube of
+    /// the nodes, in the nodes times the links, and in the links times those that the state fails.
     pub fn new(
         alloc: Global,
         graph: &Surviving<'n>,
@@ -103,7 +104,7 @@ impl<'n> LeastPaths<'n> {
     }
 
     /// The least of the shortest paths between two nodes, by the numbers of its links. From a node to itself it is the
-    /// empty path. It takes time in the links that leave the path's nodes.
+    /// empty path. It takes time in the links that leave the path's nodes, and memory in the links of the path.
     pub fn path(&self, from: NodeId, to: NodeId) -> Result<Path, PathFault>
         requires from { from.0 < length self.now.graph.net.now.nodes }
         requires to { to.0 < length self.now.graph.net.now.nodes }
@@ -158,9 +159,10 @@ pub(crate) fn path_under(
 /// The least of the shortest paths between two nodes, by the numbers of its links, over the links that survive in the
 /// state. From a node to itself it is the empty path.
 ///
-/// There is one length for each link, and that of each surviving link is 1 or more. In a triangle AB, BC, AC with the
-/// lengths 1, 1 and 2 both AB, BC and AC lead from A to C at length 2: the answer is AB, BC, whose first link has the
-/// lower number. It takes time in the square of the nodes, and in the links.
+/// There is one length for each link, in any unit, and that of each surviving link is 1 or more. In a triangle AB, BC, AC with
+/// the lengths 1, 1 and 2 both AB, BC and AC lead from A to C at length 2: the answer is AB, BC, whose first link has the
+/// lower number. It takes time in the square of the nodes, and in the links times those that the state fails; memory in the nodes
+/// and links.
 pub fn least_path(
     alloc: Global,
     net: &Network,

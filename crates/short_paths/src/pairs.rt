@@ -74,8 +74,11 @@ fn table_of(alloc: Global, graph: &Surviving, lengths: &Lengths) -> Result<Dista
 /// The least length between each two nodes, over all paths of the links that survive in the state: one search from each
 /// node.
 ///
-/// There is one length for each link, and a length may be 0. In a triangle AB, BC, AC with the lengths 1, 1 and 5 the
-/// distance of A and C is 2; in a state that fails BC it is 5, and in one that fails AC as well it is `None`.
+/// There is one length for each link, in any unit, and a length may be 0. In a triangle AB, BC, AC with the lengths 1, 1 and 5
+/// the distance of A and C is 2; in a state that fails BC it is 5, and in one that fails AC as well it is `None`.
+///
+/// It takes time in the cube of the nodes, in the nodes times the links, and in the links times those that the state fails;
+/// memory for the table, and while it runs for each node and each link.
 pub fn all_pairs(
     alloc: Global,
     net: &Network,

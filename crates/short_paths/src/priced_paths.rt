@@ -10,7 +10,7 @@ use crate::tight_links::PathFault;
 use net_core::{Copied, LinkId, List, Network, NoMemory, NodeId, Path, StateId, States, Surviving};
 use std::alloc::Global;
 
-/// A path, and the sum of its prices.
+/// A path, and the sum of its prices, in their unit.
 #[derive(Drop)]
 pub struct PricedPath {
     pub path: Path,
@@ -37,7 +37,7 @@ pub(crate) fn scaled(alloc: Global, prices: &[u64]) -> Result<List<u128>, NoMemo
     Ok(lengths)
 }
 
-/// The sum of a path's prices.
+/// The sum of a path's prices, of which there is one for each link, in their unit. It takes time in the path's links, and no memory.
 pub fn total_of(prices: &[u64], path: &[LinkId]) -> u128
     requires known { All (λ e. e.0 < length prices.now) path.now }
     requires few { length path.now < 128 }
@@ -77,8 +77,9 @@ fn priced_in(
 
 /// A path between two nodes whose prices have the least sum over all paths of links that survive in the state.
 ///
-/// There is one price for each link, below 2^62, and a price may be 0. In a triangle AB, BC, AC with the prices 0, 3 and 4
-/// the path from A to C is AB, BC, and its total 3. It takes time in the square of the nodes, and in the links.
+/// There is one price for each link, in any unit, below 2^62, and a price may be 0. In a triangle AB, BC, AC with the prices 0, 3
+/// and 4 the path from A to C is AB, BC, and its total 3. It takes time in the square of the nodes, and in the links times those
+/// that the state fails; memory in the nodes and links.
 pub fn priced_path(
     alloc: Global,
     net: &Network,

@@ -54,8 +54,9 @@ fn row_of(
 
 /// The least length from one node to each, over all paths of the links that survive in the state.
 ///
-/// There is one length for each link, and one answer for each node: 0 for the node itself, and `None` if no path leads
-/// there. It takes time in the square of the nodes, and in the links.
+/// There is one length for each link, in any unit, and one answer for each node, in their order: 0 for the node itself, and
+/// `None` if no path leads there. It takes time in the square of the nodes, and in the links times those that the state fails;
+/// memory in the nodes and links, of which 16 bytes for each node stay.
 pub fn distances(
     alloc: Global,
     net: &Network,
