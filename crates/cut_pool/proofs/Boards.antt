@@ -21,9 +21,10 @@ use Rattle.metric_cut.specs.declared.cut.Cut.{Cut}
 use Rattle.cut_pool.specs.declared.pooled.PooledCut.{PooledCut}
 use Rattle.cut_pool.specs.Histories.{Dated, IsBoardAfter, IsLegalAfter, cut_of_line, cuts_of, demands_left, left_by, left_by_entry, version_left}
 use Rattle.cut_pool.specs.Pools.{ArePooledCuts, line_of_pooled}
-use Rattle.cut_pool.specs.inner.Pooling.{IsAtDemands, StandsAt}
+use Rattle.cut_pool.specs.inner.Pooling.{StandsAt}
 use Rattle.cut_pool.proofs.Following.{stands_now}
 use Rattle.cut_pool.proofs.Growing.{cuts_more, left_more, legal_more}
+use Rattle.cut_pool.proofs.Sides.{IsAtDemands}
 
 -- what holds of the cuts of a pool holds of the same cuts with other right sides
 same_cuts : (P : Cut → Type 0) (old new : List PooledCut) → map (λ c. c.cut) new ≡ map (λ c. c.cut) old → All (λ c. P c.cut) old → All (λ c. P c.cut) new

@@ -27,8 +27,9 @@ use Rattle.metric_cut.specs.inner.Rights.{part_of}
 use Rattle.metric_cut.proofs.Sides.{sum_is_right}
 use Rattle.cut_pool.specs.declared.pooled.PooledCut.{PooledCut}
 use Rattle.cut_pool.specs.declared.shares.NeedChange.{NeedChange}
-use Rattle.cut_pool.specs.inner.Pooling.{CanFollow, IsAtDemands, IsSomeCut, StandsAmong, StandsAt, followed}
+use Rattle.cut_pool.specs.inner.Pooling.{CanFollow, IsSomeCut, StandsAmong, StandsAt, followed}
 use Rattle.cut_pool.specs.inner.Shares.{IsShareIn, IsShareOf, asked_by}
+use Rattle.cut_pool.proofs.Sides.{IsAtDemands}
 
 -- ---- a right side is the sum of what the demands ask for by the kept distances
 

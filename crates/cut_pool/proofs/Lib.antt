@@ -4,4 +4,5 @@ mod Following
 pub mod Growing
 mod Leaving
 mod Places
+mod Sides
 mod Told

@@ -9,9 +9,10 @@ use Rattle.cut_pool.specs.declared.pooled.PooledCut.{PooledCut}
 use Rattle.cut_pool.specs.Boards.{opening_case}
 use Rattle.cut_pool.specs.Histories.{IsBoardAfter}
 use Rattle.cut_pool.specs.Pools.{ArePooledCuts, line_of_pooled}
-use Rattle.cut_pool.specs.inner.Pooling.{IsAtDemands, is_pooled_cut}
+use Rattle.cut_pool.specs.inner.Pooling.{is_pooled_cut}
 use Rattle.cut_pool.proofs.Admitting.{board_count, is_legal, is_new}
 use Rattle.cut_pool.proofs.Boards.{committed, more_cuts, pooled_told}
+use Rattle.cut_pool.proofs.Sides.{IsAtDemands}
 use Rattle.cut_pool.proofs.Told.{known_told}
 use Rattle.cut_pool.proofs.board.Board.admit.Goals as goal
 

@@ -7,9 +7,9 @@ use Rattle.plan_terms.specs.Edits.{edit_reply}
 use Rattle.cut_pool.specs.declared.pooled.PooledCut.{PooledCut}
 use Rattle.cut_pool.specs.Boards.{opening_case}
 use Rattle.cut_pool.specs.Rooms.{left_spare, sets_known}
-use Rattle.cut_pool.specs.inner.Pooling.{IsAtDemands}
 use Rattle.cut_pool.proofs.Boards.{edit_committed, one_more, reply_told, standing, still_told}
 use Rattle.cut_pool.proofs.Following.{at_demands}
+use Rattle.cut_pool.proofs.Sides.{IsAtDemands}
 use Rattle.cut_pool.proofs.Told.{demands_told}
 use Rattle.cut_pool.proofs.board.Board.edit.Goals as goal
 

@@ -1,0 +1,12 @@
+-- pooled cuts with their right sides at demands
+use Rattle.std.specs.Prelude.{◌<◌, ◌^◌, List}
+use Rattle.net_core.specs.declared.demand.Demand.{Demand}
+use Rattle.net_core.specs.Graphs.{Graph, Joins}
+use Rattle.plan_terms.specs.Certificates.{IsRight}
+use Rattle.metric_cut.specs.Cuts.{IsCutOf}
+use Rattle.cut_pool.specs.declared.pooled.PooledCut.{PooledCut}
+
+-- the cut has its right side at the demands
+pub record IsAtDemands (demands : List Demand) (c : PooledCut) : Type 0 where
+  pub right_is : (g : Graph) → IsCutOf g c.cut → IsRight (Joins g) c.cut.lengths demands c.right
+  pub low : c.right < 2 ^ 84
