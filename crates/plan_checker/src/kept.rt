@@ -37,7 +37,7 @@ fn divisor_of(lengths: &[u32]) -> u128
     common
 }
 
-/// Whether the state keeps lengths, one per link, as they are.
+/// Whether the state keeps lengths, one per link, as they are. It takes time in the links, times those that the state fails.
 pub fn is_kept(graph: &Surviving, lengths: &[u32]) -> bool
     requires { length lengths.now ≡ length graph.now.net.now.links }
     ensures { let g = graph_of graph.now in IsTrue result ↔ AreKept g lengths.now }

@@ -55,8 +55,11 @@ fn check_for(
 
 /// Checks a plan in form for demands, trusting nothing of whoever made it: each demand is carried in each state within the
 /// capacities of the counts, the cost is theirs, and the bound is certified by cuts that the plan lists. `pool_full` says that
-/// the pool has no room, so that a cut of the certificate may stand outside it. It takes a search from each node for each line
-/// of the certificate, and else time in the size of the plan.
+/// the pool has no room, so that a cut of the certificate may stand outside it.
+///
+/// It takes a search from each node for each line of the certificate, the links times these lines, and else time in the size of
+/// the plan. At one time it takes memory for one line's lengths and the distances between its nodes, or for two numbers of each
+/// link and one of each demand.
 ///
 /// ```text
 /// let answer = check_plan(alloc, &net, &states, &demands, &plan, false);

@@ -14,7 +14,8 @@ use net_core::{Copied, CutLine, Instance, NoMemory};
 use plan_types::CertLine;
 use std::alloc::Global;
 
-/// The right side of a cut at the demands. It takes a search from each node.
+/// The right side of a cut at the demands. It takes a search from each node and a look at each demand, and memory for the cut's
+/// lengths and the distance of each pair of nodes.
 pub fn right_of(alloc: Global, instance: &Instance, cut: &CutLine) -> Result<u128, NoMemory>
     requires form { IsCutInForm instance.now.net.now.links instance.now.states.now.listed cut.now }
     requires kept { AreKept (graph_in (case_of instance.now) cut.now.state.0) cut.now.lengths }
