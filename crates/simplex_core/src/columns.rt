@@ -4,20 +4,25 @@ ghost use Rattle.simplex_law.specs.Programs.{ColumnOf};
 ghost use Rattle.simplex_core.specs.Prices.{Finds};
 
 use checked_fraction::Row;
-use net_core::List;
+use net_core::{Copied, List, NoMemory};
 
 /// What a unit of a column takes of a row.
 #[derive(Clone, Copy, Debug, PartialEq, Eq)]
 pub struct Entry {
+    /// The place of the row, from 0.
     pub row: u32,
+    /// How much of the row's bound, in the bound's unit.
     pub value: i64,
 }
 
 /// A column: what a unit of it gains, and what it takes of the rows.
 #[derive(Drop)]
 pub struct Column<N> {
+    /// The name that a basis lists it by.
     pub name: N,
+    /// The gain of one unit.
     pub gain: i64,
+    /// What one unit takes, with no entry for a row that it takes nothing of. Entries of the same row add up.
     pub entries: List<Entry>,
 }
 
@@ -32,7 +37,28 @@ pub enum Price<N> {
     NoMemory,
 }
 
+impl<N: Copied> Copied for Column<N> {
+    fn copy(&self) -> Result<Column<N>, NoMemory> {
+        Ok(Column {
+            name: self.name.copy()?,
+            gain: self.gain,
+            entries: self.entries.copy()?,
+        })
+    }
+}
+
+impl<N: Copied> Copied for Price<N> {
+    fn copy(&self) -> Result<Price<N>, NoMemory> {
+        Ok(match self {
+            Price::Gain(column) => Price::Gain(column.copy()?),
+            Price::Optimal => Price::Optimal,
+            Price::NoMemory => Price::NoMemory,
+        })
+    }
+}
+
 /// A packing program: rows with bounds, a slack for each row, and columns. `solve` asks that it is a packing program (`IsPacking`).
+/// It calls `rows`, `bound` and `slack` for each row at the start, and `price` once a turn at most.
 pub trait Columns {
     type Name: Drop;
 
@@ -62,7 +88,8 @@ pub trait Columns {
         requires { row < rows self.now }
         ensures { result ≡ slack self.now row };
 
-    /// A column that gains at these prices of the rows, none of which is negative, or that there is none. The program stays as it is.
+    /// A column that gains at these prices, one per row and none of them negative, or that there is none, or that the call
+    /// ran out of memory. The program stays as it is. What the call costs in time and memory is the program's own.
     fn price(&mut self, duals: &Row) -> Price<Self::Name>
         requires count { length duals.now.nums ≡ rows self.old }
         requires positive { (k : ℕ) → k < rows self.old → pos 0 ≤ℤ num duals.now.nums k }

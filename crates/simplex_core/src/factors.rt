@@ -117,8 +117,11 @@ pub(crate) fn factors_of(p: &i128, q: &i128) -> Factors
     over(p, q, g)
 }
 
-/// A row whose product with a column stays wide when the pivot of row `r` is divided: row `r` itself, the objective row
-/// with its reduced cost, numbered by the count of rows, or another row.
+/// A row whose product with a column stays wide when it and the pivot of row `r` are divided by what they have in common:
+/// row `r` itself, the objective row with its reduced cost, numbered by the count of rows, or another row. None where each
+/// product gets narrow, which is below 2^62 in absolute value.
+///
+/// It takes no memory. The time grows with the count of rows, and a row costs a division only where its product is wide.
 pub fn wide_product(products: &[i128], cost: &i128, r: usize) -> Option<u32>
     requires short { length products.now < 2 ^ 32 }
     requires inside { r < length products.now }

@@ -6,7 +6,7 @@ ghost use Rattle.simplex_core.specs.inner.Shapes.{AtEach};
 
 use crate::fraction::Fraction;
 use checked_fraction::{Row, gcd};
-use net_core::{List, NoMemory};
+use net_core::{Copied, List, NoMemory};
 use std::alloc::Global;
 
 /// A best basis: how much is taken of each of its columns, as values over one denominator, and the prices of the rows.
@@ -22,6 +22,17 @@ pub struct Optimum<N> {
     pub duals: Row,
 }
 
+impl<N: Copied> Copied for Optimum<N> {
+    fn copy(&self) -> Result<Optimum<N>, NoMemory> {
+        Ok(Optimum {
+            basis: self.basis.copy()?,
+            den: self.den,
+            values: self.values.copy()?,
+            duals: self.duals.copy()?,
+        })
+    }
+}
+
 /// The least common multiple of narrow numbers, which need not be narrow.
 fn multiple(a: u64, b: u64) -> u128
     requires a { (0 < a) × (a < 2 ^ 62) }
@@ -34,7 +45,8 @@ fn multiple(a: u64, b: u64) -> u128
     (a as u128 / gcd(a as u128, b as u128)) * b as u128
 }
 
-/// The least common multiple, where it is below 2^62.
+/// The least common multiple of two denominators, where it is below 2^62. It takes no memory, and the time of one greatest
+/// common divisor.
 pub fn common_multiple(a: u64, b: u64) -> Option<u64>
     requires a { (0 < a) × (a < 2 ^ 62) }
     requires b { (0 < b) × (b < 2 ^ 62) }

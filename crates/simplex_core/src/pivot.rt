@@ -152,7 +152,8 @@ fn combine_objective(
 }
 
 /// Makes the objective row that of the next basis, before the rows are turned. `cost` is its product with the
-/// column that enters, less the column's gain. An error says where it gets too wide; it takes no memory.
+/// column that enters, less the column's gain. An error says where it gets too wide.
+/// It takes no memory, and a time that grows with the count of rows.
 pub fn turn_objective(
     duals: &mut Row,
     cost: &i128,

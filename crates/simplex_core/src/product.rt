@@ -92,7 +92,8 @@ pub(crate) fn write_list(
     write_products(products.items_mut(), rows.items(), entries)
 }
 
-/// Whether a column's gain exceeds its priced entries, for entries of the rows that the prices are of.
+/// Whether a column's gain exceeds its priced entries, for entries of the rows that the prices are of. It is exact, takes
+/// no memory, and a time that grows with the count of entries.
 pub fn gains(duals: &Row, gain: i64, entries: &[Entry]) -> bool
     requires gain { IsNarrow gain }
     requires entries { AllByRecursion (IsEntry (length duals.now.nums)) entries.now }

@@ -94,6 +94,9 @@ fn compare_ratios(a: &i64, p: &i128, b: &i64, q: &i128) -> Ordering
 /// How the numbers `first / p` compare with `second / q`, by the first that differs.
 ///
 /// The numbers 1, 3 over 2 compare with 1, 2 over 2 as greater.
+///
+/// It is exact and takes no memory. The time grows with the place of the first number that differs; a number costs two
+/// products where `p` and `q` are below 2^62, and a few divisions otherwise.
 pub fn compare_numbers(first: &[i64], p: &i128, second: &[i64], q: &i128) -> Ordering
     requires equal { length first.now ≡ length second.now }
     requires first { (k : ℕ) → IsNarrow (num first.now k) }

@@ -21,16 +21,42 @@ use crate::product::{reduced_cost_of, write_list};
 use crate::ratio_test::leaving_of;
 use crate::value::{ValueFault, fractions_of, row_value};
 use checked_fraction::Row;
-use net_core::{List, NoMemory, WideKind};
+use net_core::{Copied, List, NoMemory, WideKind};
 use std::alloc::Global;
+use std::fmt::{self, Debug, Formatter, Write};
+use thiserror::Error;
 
 /// Why there is no optimum.
-#[derive(Drop)]
+#[derive(Drop, Error)]
 pub enum SimplexFault<N> {
     /// A number of this basis is too wide.
+    #[error("a number of a basis is too wide")]
     Wide { basis: List<N>, kind: WideKind<N> },
     /// The call ran out of memory.
+    #[error("out of memory")]
     NoMemory,
+}
+
+/// Without the names, which need not be shown.
+impl<N> Debug for SimplexFault<N> {
+    fn fmt<W: Write>(&self, f: &mut Formatter<W>) -> fmt::Result {
+        f.write_str(match self {
+            SimplexFault::Wide { .. } => "Wide { .. }",
+            SimplexFault::NoMemory => "NoMemory",
+        })
+    }
+}
+
+impl<N: Copied> Copied for SimplexFault<N> {
+    fn copy(&self) -> Result<SimplexFault<N>, NoMemory> {
+        Ok(match self {
+            SimplexFault::Wide { basis, kind } => SimplexFault::Wide {
+                basis: basis.copy()?,
+                kind: kind.copy()?,
+            },
+            SimplexFault::NoMemory => SimplexFault::NoMemory,
+        })
+    }
 }
 
 impl<N> From<NoMemory> for SimplexFault<N> {
@@ -202,10 +228,12 @@ fn finish<N: Drop>(alloc: Global, basis: Basis<N>) -> Result<Optimum<N>, Simplex
     })
 }
 
-/// An optimum of the program, or a basis, reached by gaining steps, on which a number is too wide.
+/// An optimum of the program, or a basis, reached by gaining steps, on which a number is too wide, or that the call ran out
+/// of memory. The values of the optimum are in units of the columns, and its prices are the worth of one unit of a bound.
 ///
 /// Each turn takes time that grows with the square of the count of rows, and so does the memory; how many
-/// turns there are depends on the columns that `price` names.
+/// turns there are depends on the columns that `price` names. After the first basis is made, only `price` and the values
+/// of the optimum take memory.
 ///
 /// With two rows of bounds 4 and 4, a column a of gain 1 and entries 2 and 1, and a column b of gain 1 and
 /// entries 1 and 2, first a enters and then b. The basis is a, b with the values 4 and 4 over the

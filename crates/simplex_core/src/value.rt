@@ -9,6 +9,7 @@ use crate::fraction::{Fraction, fraction_of};
 use checked_fraction::{Row, product};
 use net_core::{List, NoMemory};
 use std::alloc::Global;
+use thiserror::Error;
 
 /// The limit of the absolute products of a row's numbers with the bounds.
 const LIMIT: u128 = 1 << 126;
@@ -72,9 +73,14 @@ pub(crate) fn row_value(nums: &[i64], bounds: &[i64]) -> Option<i128>
     Some(sums.value)
 }
 
-/// Why there are no values: that of a row is too wide, or the call ran out of memory.
+/// Why there are no values.
+#[derive(Clone, Copy, Debug, PartialEq, Eq, Error)]
 pub(crate) enum ValueFault {
+    /// The value of the row is too wide.
+    #[error("row {0}: the value is too wide")]
     Sum(u32),
+    /// The call ran out of memory.
+    #[error("out of memory")]
     NoMemory,
 }
 
