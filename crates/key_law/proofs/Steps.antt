@@ -5,10 +5,10 @@ use Rattle.checked_fraction.specs.Rows.{IsNarrow}
 use Rattle.simplex_law.specs.Sums.{put}
 use Rattle.simplex_law.specs.Programs.{ColumnOf}
 use Rattle.simplex_law.specs.Bases.{IsReached}
-use Rattle.simplex_law.specs.inner.Lexicographic.{Rises}
 use Rattle.simplex_law.specs.inner.Measures.{AreNarrowDuals, left_over}
 use Rattle.simplex_law.specs.inner.Pivots.{IsPick}
 use Rattle.simplex_law.proofs.Numbers.{left_over_falls}
+use Rattle.simplex_law.proofs.Order.{Rises}
 use Rattle.simplex_law.proofs.Reached.{turn_reached}
 use Rattle.simplex_law.proofs.Turned.{rises_to}
 use Rattle.key_law.specs.KeyRows.{full_prices, role_nums, AreKeyRows}

@@ -4,7 +4,7 @@ use Rattle.std.proofs.Math.IntN.{ℤ, pos, ◌+ℤ◌}
 use Rattle.std.proofs.lemmas.Int.{ints}
 use Rattle.std.specs.List.{AllByRecursion}
 use Rattle.net_core.specs.declared.ids.LinkId.{LinkId}
-use Rattle.simplex_law.specs.Programs.{entry_dot}
+use Rattle.simplex_law.proofs.Sparse.{entry_dot}
 
 -- the sum of numbers at the links of a path
 abbrev pub path_total : (ℕ → ℤ) → List LinkId → ℤ

@@ -6,10 +6,11 @@ use Rattle.std.specs.Int.Signed.{◌<ℤ◌}
 use Rattle.std.proofs.lemmas.Int.{ints, unsigned_abs-mul}
 use Rattle.std.proofs.lemmas.Nat.{mul-le}
 use borrow.Author.Differences.{up, down}
-use Rattle.simplex_law.specs.inner.Lexicographic.{valued, IsLexBelow, Rises}
+use Rattle.simplex_law.specs.inner.Lexicographic.{valued}
 use Rattle.simplex_law.specs.inner.Measures.{AreNarrowDuals, digit, lex_number, left_below, left_over}
 use Rattle.simplex_law.specs.Sums.{dot}
 use Rattle.checked_fraction.specs.Rows.{IsNarrow}
+use Rattle.simplex_law.proofs.Order.{IsLexBelow, Rises}
 
 -- duals and their value are small enough to be numbered
 pub record AreNumberedDuals (m : ℕ) (bound duals : ℕ → ℤ) (den : ℤ) : Type 0 where

@@ -4,7 +4,7 @@ use Rattle.std.proofs.Math.IntN.{ℤ, pos, ◌+ℤ◌, ◌-ℤ◌, ◌*ℤ◌, *
 use Rattle.std.specs.Int.Signed.{◌<ℤ◌, ◌≤ℤ◌}
 use Rattle.std.proofs.lemmas.Int.{ints, by_lt_z}
 use Rattle.checked_fraction.specs.Mixed.{combined}
-use Rattle.simplex_law.specs.inner.Lexicographic.{IsLexNonneg, IsLexBelow}
+use Rattle.simplex_law.specs.inner.Lexicographic.{IsLexNonneg, valued}
 use Rattle.simplex_law.proofs.Arithmetic.{distribute_minus, minus_left, swap_last, moved_out, times_negative, times_nonneg, times_less, positive_cancel, zero_cancel, lt_cancel}
 use Rattle.checked_fraction.proofs.Products.{regroup, positive_product, cancelled}
 
@@ -12,6 +12,15 @@ use Rattle.checked_fraction.proofs.Products.{regroup, positive_product, cancelle
 abbrev pub IsLexPositive : ℕ → (ℕ → ℤ) → Type 0
 IsLexPositive zero v = ⊥
 IsLexPositive (suc n) v = (pos 0 <ℤ v 0) ⊎ ((v 0 ≡ pos 0) × IsLexPositive n (λ k. v (suc k)))
+
+-- n numbers y over d come before the numbers z over e
+abbrev pub IsLexBelow : ℕ → (ℕ → ℤ) → ℤ → (ℕ → ℤ) → ℤ → Type 0
+IsLexBelow zero y d z e = ⊥
+IsLexBelow (suc n) y d z e = ((y 0 *ℤ e) <ℤ (z 0 *ℤ d)) ⊎ ((y 0 *ℤ e ≡ z 0 *ℤ d) × IsLexBelow n (λ k. y (suc k)) d (λ k. z (suc k)) e)
+
+-- the duals and their value rise
+abbrev pub Rises : ℕ → (ℕ → ℤ) → (ℕ → ℤ) → ℤ → (ℕ → ℤ) → ℤ → Type 0
+Rises m bound duals den later later_den = IsLexBelow (suc m) (valued m bound duals) den (valued m bound later) later_den
 
 -- a row whose number p is negative stays 0 or more
 pub lex_negative : (n : ℕ) (u w : ℕ → ℤ) (p q : ℤ) → p <ℤ pos 0 → pos 0 <ℤ q → IsLexNonneg n u → IsLexNonneg n w → IsLexNonneg n (combined u p w q)

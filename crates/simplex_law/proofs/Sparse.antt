@@ -5,9 +5,14 @@ use Rattle.std.proofs.lemmas.Int.{ints}
 use Rattle.std.proofs.lemmas.Bool.{eq-eqb, ne_eqb}
 use Rattle.std.specs.List.{AllByRecursion}
 use Rattle.simplex_law.specs.Sums.{dot}
-use Rattle.simplex_law.specs.Programs.{entry_at, entry_dot}
+use Rattle.simplex_law.specs.Programs.{entry_at}
 use Rattle.simplex_law.proofs.Arithmetic.{distribute_left}
 use Rattle.simplex_law.proofs.Sums.{sum-plus, sum-same, sum-one, dot-none-column}
+
+-- the product of a row with entries
+abbrev pub entry_dot : {E : Type 0} → (E → ℕ) → (E → ℤ) → (ℕ → ℤ) → List E → ℤ
+entry_dot row value nums [] = pos 0
+entry_dot row value nums (e ∷ es) = (nums (row e) *ℤ value e) +ℤ entry_dot row value nums es
 
 one_entry : (m r : ℕ) (u : ℕ → ℤ) (x : ℤ) → r < m → dot m u (λ k. cond (eqb r k) x (pos 0)) ≡ u r *ℤ x
 one_entry m r u x lt = sum-one m r _ (u r *ℤ x) lt

@@ -8,8 +8,8 @@ use Rattle.checked_fraction.specs.Mixed.{combined}
 use Rattle.simplex_law.specs.Sums.{dot, unit_vector, put}
 use Rattle.simplex_law.specs.Programs.{ColumnOf}
 use Rattle.simplex_law.specs.Bases.{IsRow}
-use Rattle.simplex_law.specs.inner.Lexicographic.{IsLexNonneg, IsLexBelow, Rises, valued}
-use Rattle.simplex_law.proofs.Order.{lex_negative, lex_zero, lex_positive, lex_rises, below_scaled}
+use Rattle.simplex_law.specs.inner.Lexicographic.{IsLexNonneg, valued}
+use Rattle.simplex_law.proofs.Order.{IsLexBelow, Rises, lex_negative, lex_zero, lex_positive, lex_rises, below_scaled}
 use Rattle.simplex_law.specs.inner.Tableaux.{IsTableau}
 use Rattle.simplex_law.specs.inner.Pivots.{IsPick, IsTurned}
 use Rattle.simplex_law.proofs.Sums.{unit-same, unit-other, dot-none}

@@ -1,5 +1,5 @@
 -- packing programs: the greatest gain of columns that fit into bounds
-use Rattle.std.specs.Prelude.{ℕ, ℤ, List, [], ◌∷◌, pos, ◌≡◌, ◌<◌, ◌+ℤ◌, ◌*ℤ◌, ◌<ℤ◌, ◌≤ℤ◌, ◌⊎◌, cond, eqb}
+use Rattle.std.specs.Prelude.{ℕ, ℤ, List, [], ◌∷◌, pos, ◌≡◌, ◌<◌, ◌+ℤ◌, ◌<ℤ◌, ◌≤ℤ◌, ◌⊎◌, cond, eqb}
 use Rattle.checked_fraction.specs.Rows.{IsNarrow}
 use Rattle.simplex_law.specs.Sums.{unit_vector}
 
@@ -13,11 +13,6 @@ pub record ColumnOf (N : Type 0) : Type 0 where
 abbrev pub entry_at : {E : Type 0} → (E → ℕ) → (E → ℤ) → List E → ℕ → ℤ
 entry_at row value [] k = pos 0
 entry_at row value (e ∷ es) k = cond (eqb (row e) k) (value e) (pos 0) +ℤ entry_at row value es k
-
--- the product of a row with entries
-abbrev pub entry_dot : {E : Type 0} → (E → ℕ) → (E → ℤ) → (ℕ → ℤ) → List E → ℤ
-entry_dot row value nums [] = pos 0
-entry_dot row value nums (e ∷ es) = (nums (row e) *ℤ value e) +ℤ entry_dot row value nums es
 
 -- what a row has left: gain 0, and one entry, which is 1
 pub record IsSlack {N : Type 0} (rows : ℕ) (slack : ℕ → N) (c : ColumnOf N) : Type 0 where

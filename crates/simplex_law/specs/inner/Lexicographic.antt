@@ -1,5 +1,5 @@
 -- the lexicographic order of rows, each with its value in front
-use Rattle.std.specs.Prelude.{ℕ, ℤ, zero, suc, pos, ◌≡◌, ◌*ℤ◌, ◌<ℤ◌, ◌⊎◌}
+use Rattle.std.specs.Prelude.{ℕ, ℤ, zero, suc, pos, ◌≡◌, ◌<ℤ◌, ◌⊎◌}
 use Rattle.simplex_law.specs.Sums.{dot}
 
 -- the first of n numbers that isn't 0 is positive, or all are 0
@@ -15,12 +15,3 @@ fronted x u (suc k) = u k
 -- a row with its product with the bounds in front
 abbrev pub valued : ℕ → (ℕ → ℤ) → (ℕ → ℤ) → ℕ → ℤ
 valued m bound nums = fronted (dot m nums bound) nums
-
--- n numbers y over d come before the numbers z over e
-abbrev pub IsLexBelow : ℕ → (ℕ → ℤ) → ℤ → (ℕ → ℤ) → ℤ → Type 0
-IsLexBelow zero y d z e = ⊥
-IsLexBelow (suc n) y d z e = ((y 0 *ℤ e) <ℤ (z 0 *ℤ d)) ⊎ ((y 0 *ℤ e ≡ z 0 *ℤ d) × IsLexBelow n (λ k. y (suc k)) d (λ k. z (suc k)) e)
-
--- the duals and their value rise
-abbrev pub Rises : ℕ → (ℕ → ℤ) → (ℕ → ℤ) → ℤ → (ℕ → ℤ) → ℤ → Type 0
-Rises m bound duals den later later_den = IsLexBelow (suc m) (valued m bound duals) den (valued m bound later) later_den
