@@ -11,7 +11,7 @@ use Rattle.plan_terms.specs.Paths.{length_of}
 use Rattle.plan_terms.proofs.Distinct.{path_links_inside}
 use Rattle.plan_terms.proofs.Few.{path_few}
 use Rattle.plan_terms.proofs.Joining.{joins_inside}
-use Rattle.short_paths.proofs.Pricing.{few_nodes}
+use Rattle.net_core.proofs.Networks.{few_nodes}
 use Rattle.short_paths.specs.PricedPaths.{IsPricedPath}
 use Rattle.short_paths.specs.declared.priced_paths.PricedPath.{PricedPath}
 use Rattle.greedy_router.specs.Blocked.{IsBlocked}
