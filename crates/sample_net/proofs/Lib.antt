@@ -5,5 +5,4 @@ pub mod Rings
 pub mod Surviving
 pub mod Takes
 pub mod Sound
-pub mod Adding
 pub mod Spelling

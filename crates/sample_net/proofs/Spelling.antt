@@ -13,15 +13,15 @@ use Rattle.net_core.specs.declared.network.Link.{Link}
 use Rattle.net_core.specs.declared.network.Network.{Network}
 use Rattle.net_core.specs.declared.network.Notes.{Notes}
 use Rattle.text_kit.specs.Files.{IsFileOf}
-use Rattle.text_kit.specs.Items.{AreBehind, AreSpelled, Item, Verbatim, Whole, Money, Opening, Closing}
-use Rattle.text_kit.specs.Written.{IsWritable, money_word}
+use Rattle.text_kit.specs.Items.{AreBehind, AreSpelled, Item, Verbatim, Closing}
+use Rattle.text_kit.specs.Written.{AddsItems, IsShortItem, money_word}
+use Rattle.text_kit.proofs.Adding.{writable}
 use Rattle.text_kit.proofs.Amounts.{amount_again, number_takes}
 use Rattle.text_kit.proofs.Files.{written_is_read}
 use Rattle.text_kit.proofs.Numerals.{money_again}
 use Rattle.sndlib_reader.specs.Paths.{section_items}
 use Rattle.sndlib_reader.specs.Spelling.{IsPartAfter, IsShortLink, NodeName, NodePart, Spells, SpellsDemand, SpellsPart, SpellsParts, header, link_items, notes_of, parts_of}
 use Rattle.sample_net.specs.Texts.{HasWritableNotes, costless, costless_items, network_items, unit_demand_items}
-use Rattle.sample_net.specs.inner.Adds.{AddsItems, IsShortItem}
 use Rattle.sndlib_reader.proofs.Nodes.{all_names}
 
 -- what is told of a network's check is so
@@ -29,14 +29,6 @@ network_told : (nodes : List (List ℕ)) (links : List Link) → ∥ IsNetwork n
 network_told nodes links told = ∥∥₁_elim told (hlevel props) (λ is. is)
 
 -- ---- items that were written
-
-writable : (is : List Item) → AllByRecursion IsShortItem is → AllByRecursion IsWritable is
-writable [] all = tt
-writable (Verbatim w ∷ is) all = ((all.0.some, all.0.plain), writable is all.1)
-writable (Whole n ∷ is) all = (all.0, writable is all.1)
-writable (Money n ∷ is) all = (all.0, writable is all.1)
-writable (Opening ∷ is) all = (tt, writable is all.1)
-writable (Closing ∷ is) all = (tt, writable is all.1)
 
 short_before : (is js : List Item) → AllByRecursion IsShortItem (is ++ js) → AllByRecursion IsShortItem is
 short_before [] js all = tt

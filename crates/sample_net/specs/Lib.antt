@@ -1,4 +1,3 @@
 pub mod Draws
 pub mod Samples
 pub mod Texts
-pub mod inner

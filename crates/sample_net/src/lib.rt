@@ -8,7 +8,6 @@ mod ends;
 mod generator;
 mod links;
 mod names;
-mod puts;
 mod texts;
 
 pub use generator::sample;

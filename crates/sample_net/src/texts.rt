@@ -6,11 +6,12 @@ ghost use Rattle.text_kit.specs.Items.{Verbatim};
 ghost use Rattle.sndlib_reader.specs.Paths.{section_items};
 ghost use Rattle.sndlib_reader.specs.Spelling.{Spells, node_pair_items, module_items};
 ghost use Rattle.sample_net.specs.Texts.{HasWritableNotes, costless_items, network_items, network_text, unit_demand_items};
-ghost use Rattle.sample_net.specs.inner.Adds.{AddsItems};
+ghost use Rattle.text_kit.specs.Written.{AddsItems};
 
-use crate::puts::{put_amount, put_close, put_name, put_open, put_section, put_word};
 use net_core::{Bytes, Demand, Demands, Link, Module, Name, Network, NoMemory, NodeId};
 use std::alloc::Global;
+use text_kit::puts;
+use text_kit::puts::{put_amount, put_close, put_keyword, put_name, put_open, put_section};
 
 const HEADER: &[u8] = b"?SNDlib native format; type: network; version: 1.0\n";
 
@@ -30,10 +31,7 @@ fn put_ends(text: &mut Bytes, nodes: &[Name], a: NodeId, b: NodeId) -> Result<()
     requires { (a.0 < length nodes.now) × (b.0 < length nodes.now) }
     ensures { OnOk result (AddsItems text.old (node_pair_items nodes.now a b) text.new) }
 {
-    put_open(text)?;
-    put_name(text, &nodes[a.0 as usize])?;
-    put_name(text, &nodes[b.0 as usize])?;
-    put_close(text)
+    puts::put_ends(text, &nodes[a.0 as usize], &nodes[b.0 as usize])
 }
 
 /// Puts the capacity and the cost of a module last.
@@ -89,9 +87,9 @@ fn put_demand(text: &mut Bytes, nodes: &[Name], demand: &Demand) -> Result<(), N
 {
     put_name(text, &demand.name)?;
     put_ends(text, nodes, demand.from, demand.to)?;
-    put_word(text, b"1")?;
+    put_keyword(text, b"1")?;
     put_amount(text, demand.need)?;
-    put_word(text, b"UNLIMITED")
+    put_keyword(text, b"UNLIMITED")
 }
 
 /// Puts the section of demands last.

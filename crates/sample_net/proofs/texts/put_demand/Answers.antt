@@ -1,5 +1,5 @@
-use Rattle.sample_net.proofs.Adding.{adds_then, on_ok}
+use Rattle.text_kit.proofs.Adding.{adds_then, on_ok}
 use Rattle.sample_net.proofs.texts.put_demand.Goals as goal
 
 pub returns : goal.returns
-returns c = on_ok _ (λ q. adds_then c.in_ok-put_name.ensures (adds_then c.in_ok-put_ends.ensures (adds_then c.in_ok-put_word.ensures (adds_then c.in_ok-put_amount.ensures.word q)))) c.put_word-2.ensures
+returns c = on_ok _ (λ q. adds_then c.in_ok-put_name.ensures (adds_then c.in_ok-put_ends.ensures (adds_then c.in_ok-put_keyword.ensures (adds_then c.in_ok-put_amount.ensures.word q)))) c.put_keyword-2.ensures

@@ -1,6 +1,6 @@
 use Rattle.std.proofs.Common.{[]}
 use Rattle.sndlib_reader.specs.Spelling.{module_items}
-use Rattle.sample_net.proofs.Adding.{adds_more}
+use Rattle.text_kit.proofs.Adding.{adds_more}
 use Rattle.sample_net.proofs.texts.put_modules.Goals as goal
 
 pub loop-kind-preserved : goal.loop-kind-preserved

@@ -1,6 +1,6 @@
 use Rattle.std.proofs.Common.{take, flat_map}
 use Rattle.sndlib_reader.specs.Spelling.{module_items}
-use Rattle.sample_net.specs.inner.Adds.{AddsItems}
+use Rattle.text_kit.specs.Written.{AddsItems}
 use Rattle.sample_net.proofs.texts.put_modules.Given as goal
 
 abbrev pub invariant-loop-kind : goal.invariant-loop-kind

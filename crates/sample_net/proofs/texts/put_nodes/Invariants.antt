@@ -1,7 +1,7 @@
 use Rattle.std.proofs.Common.{◌∷◌, [], take, flat_map}
 use Rattle.std.specs.Prelude.{codes}
 use Rattle.text_kit.specs.Items.{Opening, Verbatim}
-use Rattle.sample_net.specs.inner.Adds.{AddsItems}
+use Rattle.text_kit.specs.Written.{AddsItems}
 use Rattle.sample_net.proofs.texts.put_nodes.Given as goal
 
 abbrev pub invariant-loop-node : goal.invariant-loop-node
