@@ -93,7 +93,9 @@ fn file(alloc: Global, net: &Network, bytes: &[u8]) -> Result<States, FailuresRe
     Ok(states_of(alloc, net, list)?)
 }
 
-/// The states of the network that a file spells.
+/// The states of the network that a file spells. It takes memory for the states and their names, and time in
+/// proportion to the bytes, with one pass over the network's links at each link that a state names and one over the
+/// earlier states at each new state.
 pub fn read_failures(alloc: Global, net: &Network, bytes: &[u8]) -> Result<States, FailuresRefusal>
     // What is read is spelled.
     ensures found { IfOk result (λ s. SpellsFailures net.now.links bytes.now s.listed) }

@@ -237,7 +237,8 @@ fn file(alloc: Global, bytes: &[u8]) -> Result<Model, ModelRefusal>
     Ok(model_of_settings(settings.items()))
 }
 
-/// The model that a file spells. It takes memory for its settings.
+/// The model that a file spells. It takes memory for its settings, eight at most, and time in proportion
+/// to the bytes.
 pub fn read_model(alloc: Global, bytes: &[u8]) -> Result<Model, ModelRefusal>
     // What is read is spelled.
     ensures found { IfOk result (λ m. SpellsModel bytes.now m) }

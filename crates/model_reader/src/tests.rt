@@ -19,9 +19,9 @@ fn joined(alloc: Global, header: &[u8], body: &[u8]) -> Option<Bytes> {
     Some(text)
 }
 
-/// The fault of the model file of this body.
-fn model_fault(alloc: Global, body: &[u8]) -> Option<(u64, ModelKind)> {
-    let text = joined(alloc, MODEL, body)?;
+/// The fault of the model file of this header and this body.
+fn model_fault(alloc: Global, header: &[u8], body: &[u8]) -> Option<(u64, ModelKind)> {
+    let text = joined(alloc, header, body)?;
     match read_model(alloc, text.items()) {
         Err(ModelRefusal::Bad { at, kind }) => Some((at, kind)),
         _ => None,
@@ -46,50 +46,46 @@ fn models(rt: HostRuntime) {
 
 #[test]
 fn model_faults(rt: HostRuntime) {
-    let rows: [(&[u8], u64, ModelKind); 9] = [
-        (b"(", 49, ModelKind::Token),
-        (b"LINK_MODEL + UNDIRECTED", 60, ModelKind::Token),
-        (b"LINK_MODEL =", 61, ModelKind::Ended),
-        (b"LINK_MODEL\n", 60, ModelKind::Ended),
-        (b"COST_MODEL = NO", 49, ModelKind::Key),
+    let rows: [(&[u8], &[u8], u64, ModelKind); 10] = [
+        (FAILURES, b"", 0, ModelKind::Header),
+        (MODEL, b"(", 49, ModelKind::Token),
+        (MODEL, b"LINK_MODEL + UNDIRECTED", 60, ModelKind::Token),
+        (MODEL, b"LINK_MODEL =", 61, ModelKind::Ended),
+        (MODEL, b"LINK_MODEL\n", 60, ModelKind::Ended),
+        (MODEL, b"COST_MODEL = NO", 49, ModelKind::Key),
         (
+            MODEL,
             b"ROUTING_MODEL = CONTINUOUS ROUTING_MODEL = CONTINUOUS",
             76,
             ModelKind::DoubleKey,
         ),
         (
+            MODEL,
             b"HOP_LIMIT_MODEL = INDIVIDUAL",
             67,
             ModelKind::Unsupported(ModelKey::HopLimit),
         ),
         (
+            MODEL,
             b"DEMAND_MODEL = UNDIRECTED\n",
             75,
             ModelKind::Missing(ModelKey::Link),
         ),
-        (b"", 49, ModelKind::Missing(ModelKey::Demand)),
+        (MODEL, b"", 49, ModelKind::Missing(ModelKey::Demand)),
     ];
-    for (body, at, kind) in rows {
-        assert_eq!(rt; model_fault(rt.alloc(), body), Some((at, kind)));
+    for (header, body, at, kind) in rows {
+        assert_eq!(rt; model_fault(rt.alloc(), header, body), Some((at, kind)));
     }
-    assert!(rt;
-        matches!(
-            read_model(rt.alloc(), FAILURES),
-            Err(ModelRefusal::Bad {
-                at: 0,
-                kind: ModelKind::Header
-            })
-        )
-    );
 }
 
-/// The fault of the failure file of this body, for the triangle.
-fn failures_fault(alloc: Global, body: &[u8]) -> Option<(u64, FailuresKind)> {
+/// How many states the failure file of this body has for the triangle, or its fault.
+fn states_of(alloc: Global, body: &[u8]) -> Option<Result<u32, (u64, FailuresKind)>> {
     let net = triangle(alloc, 0).ok()?;
     let text = joined(alloc, FAILURES, body)?;
     match read_failures(alloc, &net, text.items()) {
-        Err(FailuresRefusal::Bad { at, kind }) => Some((at, kind)),
-        _ => None,
+        Ok(states) => Some(Ok(states.count())),
+        Err(FailuresRefusal::Bad { at, kind }) => Some(Err((at, kind))),
+        Err(FailuresRefusal::NoMemory) => None,
     }
 }
 
@@ -113,7 +109,7 @@ fn failure_faults(rt: HostRuntime) {
         ),
     ];
     for (body, at, kind) in rows {
-        assert_eq!(rt; failures_fault(rt.alloc(), body), Some((at, kind)));
+        assert_eq!(rt; states_of(rt.alloc(), body), Some(Err((at, kind))));
     }
 }
 
@@ -140,35 +136,25 @@ fn long(alloc: Global, count: usize) -> Option<Bytes> {
     Some(text)
 }
 
-/// How many states the failure file of this body has, for the triangle.
-fn states_of(alloc: Global, body: &[u8]) -> Option<u32> {
-    let net = triangle(alloc, 0).ok()?;
-    let text = joined(alloc, FAILURES, body)?;
-    Some(read_failures(alloc, &net, text.items()).ok()?.count())
-}
-
 #[test]
 fn limits(rt: HostRuntime) -> Result<(), Fail> {
-    let last = many(rt.alloc(), 256, b")").ok_or("memory")?;
-    assert_eq!(rt; states_of(rt.alloc(), last.items()), Some(257));
-    let rows: [(u32, &[u8], FailuresKind); 2] = [
-        (257, b")", FailuresKind::LimitStates),
-        (256, b"aa ( AB ) )", FailuresKind::DoubleState),
+    let rows = [
+        (many(rt.alloc(), 256, b")"), Ok(257)),
+        (
+            many(rt.alloc(), 257, b")"),
+            Err((2_601, FailuresKind::LimitStates)),
+        ),
+        (
+            many(rt.alloc(), 256, b"aa ( AB ) )"),
+            Err((2_601, FailuresKind::DoubleState)),
+        ),
+        (long(rt.alloc(), 255), Ok(2)),
+        (long(rt.alloc(), 256), Err((41, FailuresKind::LimitName))),
     ];
-    for (count, end, kind) in rows {
-        let many = many(rt.alloc(), count, end).ok_or("memory")?;
-        assert_eq!(rt;
-            failures_fault(rt.alloc(), many.items()),
-            Some((2_601, kind))
-        );
+    for (body, expected) in rows {
+        let body = body.ok_or("memory")?;
+        assert_eq!(rt; states_of(rt.alloc(), body.items()), Some(expected));
     }
-    let last = long(rt.alloc(), 255).ok_or("memory")?;
-    assert_eq!(rt; states_of(rt.alloc(), last.items()), Some(2));
-    let long = long(rt.alloc(), 256).ok_or("memory")?;
-    assert_eq!(rt;
-        failures_fault(rt.alloc(), long.items()),
-        Some((41, FailuresKind::LimitName))
-    );
     Ok(())
 }
 
