@@ -14,19 +14,14 @@ fn joined(alloc: Global, body: &[u8]) -> Option<Bytes> {
     Some(text)
 }
 
-/// The place and the word of the fault of a script with this body.
-fn fault(alloc: Global, body: &[u8]) -> Option<(u64, &'static str)> {
+/// How many commands a script with this body has, or the place and the word of its fault.
+fn outcome(alloc: Global, body: &[u8]) -> Option<Result<usize, (u64, &'static str)>> {
     let text = joined(alloc, body)?;
     match read_script(alloc, text.items()) {
-        Err(ScriptRefusal::Bad { at, kind }) => Some((at, kind.word())),
-        _ => None,
+        Ok(script) => Some(Ok(script.commands.len())),
+        Err(ScriptRefusal::Bad { at, kind }) => Some(Err((at, kind.word()))),
+        Err(ScriptRefusal::NoMemory) => None,
     }
-}
-
-/// How many commands a script with this body has.
-fn count(alloc: Global, body: &[u8]) -> Option<usize> {
-    let text = joined(alloc, body)?;
-    Some(read_script(alloc, text.items()).ok()?.commands.len())
 }
 
 fn sets(command: &Command, demand: &[u8], amount: u64) -> bool {
@@ -80,7 +75,6 @@ fn each_command(rt: HostRuntime) -> Result<(), Fail> {
         }
         _ => return Err("four commands".into()),
     }
-    assert_eq!(rt; count(rt.alloc(), b""), Some(0));
     Ok(())
 }
 
@@ -122,7 +116,7 @@ fn first_faults(rt: HostRuntime) {
         (b"caller 3 plan\ncaller 3\n", 51, "ended"),
     ];
     for (body, at, word) in rows {
-        assert_eq!(rt; fault(rt.alloc(), body), Some((at, word)));
+        assert_eq!(rt; outcome(rt.alloc(), body), Some(Err((at, word))));
     }
     assert!(rt;
         matches!(
@@ -135,7 +129,7 @@ fn first_faults(rt: HostRuntime) {
     );
 }
 
-/// So many times the same bytes, and others behind them.
+/// So many times the same bytes, and others after them.
 fn repeated(alloc: Global, piece: &[u8], times: u32, last: &[u8]) -> Option<Bytes> {
     let mut text = List::new(alloc);
     for _ in 0..times {
@@ -147,26 +141,24 @@ fn repeated(alloc: Global, piece: &[u8], times: u32, last: &[u8]) -> Option<Byte
 
 #[test]
 fn limits(rt: HostRuntime) -> Result<(), Fail> {
-    let most = repeated(rt.alloc(), b"caller 1 drop a\n", 1000, b"").ok_or("memory")?;
-    assert_eq!(rt; count(rt.alloc(), most.items()), Some(1000));
-    let plans = repeated(rt.alloc(), b"caller 1 plan\n", 64, b"caller 1 drop plan").ok_or(
-        "memory",
-    )?;
-    assert_eq!(rt; count(rt.alloc(), plans.items()), Some(65));
-    let rows: [(&[u8], u32, &[u8], u64, &str); 3] = [
+    let drops: &[u8] = b"caller 1 drop a\n";
+    let plans: &[u8] = b"caller 1 plan\n";
+    let rows: [(&[u8], u32, &[u8], Result<usize, (u64, &str)>); 6] = [
+        (drops, 0, b"", Ok(0)),
+        (drops, 1000, b"", Ok(1000)),
         (
-            b"caller 1 drop a\n",
+            drops,
             1000,
             b"caller 1 drop a",
-            16_028,
-            "limit-commands",
+            Err((16_028, "limit-commands")),
         ),
-        (b"caller 1 drop a\n", 1000, b"call", 16_028, "token"),
-        (b"caller 1 plan\n", 64, b"caller 1 plan", 933, "limit-plans"),
+        (drops, 1000, b"call", Err((16_028, "token"))),
+        (plans, 64, b"caller 1 drop plan", Ok(65)),
+        (plans, 64, b"caller 1 plan", Err((933, "limit-plans"))),
     ];
-    for (piece, times, last, at, word) in rows {
+    for (piece, times, last, expected) in rows {
         let body = repeated(rt.alloc(), piece, times, last).ok_or("memory")?;
-        assert_eq!(rt; fault(rt.alloc(), body.items()), Some((at, word)));
+        assert_eq!(rt; outcome(rt.alloc(), body.items()), Some(expected));
     }
     Ok(())
 }
@@ -191,9 +183,12 @@ fn long_names(rt: HostRuntime) -> Result<(), Fail> {
     ];
     for (front, end, at) in rows {
         let last = with_long_name(rt.alloc(), front, 255, end).ok_or("memory")?;
-        assert_eq!(rt; count(rt.alloc(), last.items()), Some(1));
+        assert_eq!(rt; outcome(rt.alloc(), last.items()), Some(Ok(1)));
         let long = with_long_name(rt.alloc(), front, 256, end).ok_or("memory")?;
-        assert_eq!(rt; fault(rt.alloc(), long.items()), Some((at, "limit-name")));
+        assert_eq!(rt;
+            outcome(rt.alloc(), long.items()),
+            Some(Err((at, "limit-name")))
+        );
     }
     Ok(())
 }
@@ -205,6 +200,6 @@ fn greatest_amounts_are_read(rt: HostRuntime) {
         b"caller 8 add D4 ( A C ) 1099511627.775",
     ];
     for body in rows {
-        assert_eq!(rt; count(rt.alloc(), body), Some(1));
+        assert_eq!(rt; outcome(rt.alloc(), body), Some(Ok(1)));
     }
 }
