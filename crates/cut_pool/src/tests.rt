@@ -1,11 +1,11 @@
-ghost use Rattle.std.specs.Prelude.{◌≡◌, ◌<◌, ◌^◌, [], IfOk, length};
+ghost use Rattle.std.specs.Prelude.{◌≡◌, ◌<◌, ◌^◌, IfOk, length};
 ghost use Rattle.net_core.specs.Views.{graph};
 ghost use Rattle.plan_terms.specs.Edits.{edit_need};
 ghost use Rattle.metric_cut.specs.Cuts.{IsCutOf};
 
 use crate::{AdmitAnswer, Board, EditAnswer, Snapshot};
 use metric_cut::Cut;
-use net_core::{Copied, Edit, List, Name, Network, NoMemory, Reply, StateId, States};
+use net_core::{Copied, CutLine, Edit, List, Name, Network, NoMemory, Reply, StateId, States};
 use std::alloc::Global;
 use std::process::Abort;
 use std::test::Fail;
@@ -19,164 +19,229 @@ const ONE: [DemandRow; 1] = [(0, 2, 12000)];
 /// Sixteen of the greatest needs, which leave 15 thousandths.
 const GREAT: [DemandRow; 16] = [(0, 2, 1099511627775); 16];
 
-fn set(alloc: Global, name: &[u8], need: u32) -> Result<Edit, Fail>
-    ensures { IfOk result (λ e. edit_need e < 2 ^ 40) }
-{
-    Ok(Edit::Set {
-        name: Name::new(alloc, name)?,
-        need: need as u64,
-    })
+/// The triangle, whose links each fail alone.
+#[derive(Drop)]
+struct Fixture {
+    net: Network,
+    states: States,
+    ghost three: { length net.links ≡ 3 },
 }
 
-fn add(alloc: Global, name: &[u8], ends: [&[u8]; 2], need: u32) -> Result<Edit, Fail>
-    ensures { IfOk result (λ e. edit_need e < 2 ^ 40) }
-{
-    Ok(Edit::Add {
-        name: Name::new(alloc, name)?,
-        from: Name::new(alloc, ends[0])?,
-        to: Name::new(alloc, ends[1])?,
-        need: need as u64,
-    })
+/// A board of the triangle.
+#[derive(Drop)]
+struct Given<'a> {
+    fixture: &'a Fixture,
+    board: Board<'a>,
+    ghost net: { board.net.now ≡ fixture.now.net },
+    ghost states: { board.states.now ≡ fixture.now.states },
 }
 
-fn taken_out(alloc: Global, name: &[u8]) -> Result<Edit, Fail>
-    ensures { IfOk result (λ e. edit_need e < 2 ^ 40) }
-{
-    Ok(Edit::Drop {
-        name: Name::new(alloc, name)?,
-    })
+fn make_fixture(alloc: Global) -> Result<Fixture, Fail> {
+    let net = triangle(alloc, 0)?;
+    let states = single_failures(alloc, &net)?;
+    Ok(Fixture { net, states })
 }
 
 /// A new board of these demands.
-fn board<'a>(
+fn open_board<'a>(
     alloc: Global,
-    net: &'a Network,
-    states: &'a States,
+    fixture: &'a Fixture,
     rows: &[DemandRow],
-) -> Result<Board<'a>, Fail>
-    ensures net { IfOk result (λ b. b.net.now ≡ net.now) }
-    ensures states { IfOk result (λ b. b.states.now ≡ states.now) }
-    ensures entries { IfOk result (λ b. b.entries ≡ []) }
-{
-    let opening = demands(alloc, net.nodes().len(), rows)?;
-    match Board::new(alloc, net, states, opening) {
-        Ok(board) => Ok(board),
+) -> Result<Given<'a>, Fail> {
+    let opening = demands(alloc, fixture.net.nodes().len(), rows)?;
+    match Board::new(alloc, &fixture.net, &fixture.states, opening) {
+        Ok(board) => Ok(Given { fixture, board }),
         Err((_, fault)) => Err(fault.into()),
     }
 }
 
-/// Makes an edit, which must get this reply and leave this version.
-fn check_edit<R: AllocGlobal + Abort>(
+/// An edit of a demand, whose name is one letter. An added one leads from A to another node.
+#[derive(Clone, Copy)]
+enum Change {
+    Set(u8, u32),
+    Add(u8, u8, u32),
+    Drop(u8),
+}
+
+fn edit_of(alloc: Global, change: Change) -> Result<Edit, Fail>
+    ensures { IfOk result (λ e. edit_need e < 2 ^ 40) }
+{
+    Ok(match change {
+        Change::Set(name, need) => Edit::Set {
+            name: Name::new(alloc, &[name])?,
+            need: need as u64,
+        },
+        Change::Add(name, end, need) => Edit::Add {
+            name: Name::new(alloc, &[name])?,
+            from: Name::new(alloc, b"A")?,
+            to: Name::new(alloc, &[end])?,
+            need: need as u64,
+        },
+        Change::Drop(name) => Edit::Drop {
+            name: Name::new(alloc, &[name])?,
+        },
+    })
+}
+
+/// Makes an edit: the position of its entry, and its reply.
+fn edit<R: AllocGlobal + Abort>(
     rt: &R,
     board: &mut Board,
-    edit: Edit,
-    reply: Reply,
-    version: u64,
-) -> Result<(), Fail>
-    requires { edit_need edit < 2 ^ 40 }
-{
-    let at = board.count() + 1;
+    change: Change,
+) -> Result<(u64, Reply), Fail> {
+    let edit = edit_of(rt.alloc(), change)?;
     match board.edit(1, edit) {
-        EditAnswer::At {
-            position,
-            reply: found,
-        } => {
-            assert_eq!(rt; (position, found), (at, reply));
-            assert_eq!(rt; (board.count(), board.version()), (at, version));
-            Ok(())
-        }
+        EditAnswer::At { position, reply } => Ok((position, reply)),
         EditAnswer::Full(_) => panic!(rt; "full"),
         EditAnswer::NoMemory(_) => Err(NoMemory.into()),
     }
 }
 
-/// Adds a demand from A to an end on a new board of the triangle.
-fn check_addition<R: AllocGlobal + Abort>(
+/// An edit, its reply, and the version after it.
+type Edited = (Change, Reply, u64);
+
+/// Makes edits, each of which must stand last with its reply, and leave its version.
+fn check_edits<R: AllocGlobal + Abort>(
+    rt: &R,
+    board: &mut Board,
+    edits: &[Edited],
+) -> Result<(), Fail> {
+    for (change, reply, version) in edits {
+        let at = board.count() + 1;
+        let found = edit(rt, board, *change)?;
+        assert_eq!(rt; found, (at, *reply));
+        assert_eq!(rt; (board.count(), board.version()), (at, *version));
+    }
+    Ok(())
+}
+
+/// Makes edits on a new board of the triangle.
+fn check_new<R: AllocGlobal + Abort>(
     rt: &R,
     opening: &[DemandRow],
-    end: &[u8],
-    need: u32,
-    reply: Reply,
-    version: u64,
+    edits: &[Edited],
 ) -> Result<(), Fail> {
-    let alloc = rt.alloc();
-    let net = triangle(alloc, 0)?;
-    let states = single_failures(alloc, &net)?;
-    let mut board = board(alloc, &net, &states, opening)?;
-    let edit = add(alloc, b"D2", [b"A", end], need)?;
-    check_edit(rt, &mut board, edit, reply, version)
+    let fixture = make_fixture(rt.alloc())?;
+    let mut board = open_board(rt.alloc(), &fixture, opening)?.board;
+    check_edits(rt, &mut board, edits)
 }
+
+/// Edits of new boards.
+const ALONE: [(&[DemandRow], Edited); 5] = [
+    (&ONE, (Change::Add(b'D', b'B', 5000), Reply::Accepted(1), 1)),
+    (&ONE, (Change::Add(b'D', b'X', 1000), Reply::UnknownNode, 0)),
+    (&ONE, (Change::Add(b'D', b'A', 1000), Reply::SelfDemand, 0)),
+    (
+        &GREAT,
+        (
+            Change::Add(b'Q', b'B', 16),
+            Reply::TooMuch(17592186044416),
+            0,
+        ),
+    ),
+    (&GREAT, (Change::Add(b'Q', b'B', 15), Reply::Accepted(1), 1)),
+];
 
 #[test]
 fn each_edit_stands_with_its_reply(rt: HostRuntime) -> Result<(), Fail> {
-    check_addition(&rt, &ONE, b"B", 5000, Reply::Accepted(1), 1)?;
-    check_addition(&rt, &ONE, b"X", 1000, Reply::UnknownNode, 0)?;
-    check_addition(&rt, &ONE, b"A", 1000, Reply::SelfDemand, 0)?;
-    check_addition(&rt, &GREAT, b"B", 16, Reply::TooMuch(17592186044416), 0)?;
-    check_addition(&rt, &GREAT, b"B", 15, Reply::Accepted(1), 1)
-}
-
-#[test]
-fn an_added_demand_is_known(rt: HostRuntime) -> Result<(), Fail> {
-    let alloc = rt.alloc();
-    let net = triangle(alloc, 0)?;
-    let states = single_failures(alloc, &net)?;
-    let mut board = board(alloc, &net, &states, &ONE)?;
-    let first = add(alloc, b"D2", [b"A", b"B"], 5000)?;
-    check_edit(&rt, &mut board, first, Reply::Accepted(1), 1)?;
-    let second = add(alloc, b"D2", [b"A", b"B"], 5000)?;
-    check_edit(&rt, &mut board, second, Reply::KnownDemand, 1)?;
-    let unknown = taken_out(alloc, b"Z")?;
-    check_edit(&rt, &mut board, unknown, Reply::UnknownDemand, 1)
-}
-
-/// The unit cut of a state of the triangle.
-fn unit_cut(alloc: Global, net: &Network, states: &States, state: u32) -> Result<Cut, Fail>
-    requires { length net.now.links ≡ 3 }
-    ensures { IfOk result (λ cut. IsCutOf (graph net.now states.now cut.state.0) cut) }
-{
-    let units = List::from_slice(alloc, &[1, 1, 1])?;
-    Ok(Cut::new(alloc, net, states, StateId(state), units)?)
-}
-
-/// Admits the unit cut of a state: it must get this index, and be known where it is said to be.
-fn check_admit<R: AllocGlobal + Abort>(
-    rt: &R,
-    board: &mut Board,
-    net: &Network,
-    states: &States,
-    state: u32,
-    want: (bool, u32),
-) -> Result<(), Fail>
-    requires links { length net.now.links ≡ 3 }
-    requires net { board.old.net.now ≡ net.now }
-    requires states { board.old.states.now ≡ states.now }
-    ensures same_net { board.new.net.now ≡ net.now }
-    ensures same_states { board.new.states.now ≡ states.now }
-{
-    let cut = unit_cut(rt.alloc(), net, states, state)?;
-    match board.admit(cut) {
-        AdmitAnswer::Admitted { index, .. } => assert_eq!(rt; (false, index), want),
-        AdmitAnswer::Known(index, _) => assert_eq!(rt; (true, index), want),
-        AdmitAnswer::NoMemory(_) => return Err(NoMemory.into()),
-        AdmitAnswer::PoolFull(_) | AdmitAnswer::Full(_) => panic!(rt; "full"),
+    for (opening, edited) in &ALONE {
+        check_new(&rt, opening, &[*edited])?;
     }
     Ok(())
 }
 
 #[test]
-fn an_equal_cut_is_known(rt: HostRuntime) -> Result<(), Fail> {
-    let alloc = rt.alloc();
-    let net = triangle(alloc, 0)?;
-    let states = single_failures(alloc, &net)?;
-    let mut board = board(alloc, &net, &states, &ONE)?;
-    check_admit(&rt, &mut board, &net, &states, 0, (false, 0))?;
-    check_admit(&rt, &mut board, &net, &states, 0, (true, 0))?;
-    assert_eq!(rt; board.count(), 1);
-    check_admit(&rt, &mut board, &net, &states, 3, (false, 1))?;
-    check_admit(&rt, &mut board, &net, &states, 0, (true, 0))?;
-    assert_eq!(rt; board.count(), 2);
+fn an_added_demand_is_known(rt: HostRuntime) -> Result<(), Fail> {
+    let add = Change::Add(b'D', b'B', 5000);
+    check_new(
+        &rt,
+        &ONE,
+        &[
+            (add, Reply::Accepted(1), 1),
+            (add, Reply::KnownDemand, 1),
+            (Change::Drop(b'Z'), Reply::UnknownDemand, 1),
+        ],
+    )
+}
+
+/// The unit cut of a state of the triangle.
+fn unit_cut(alloc: Global, fixture: &Fixture, state: u32) -> Result<Cut, Fail>
+    ensures { IfOk result (λ cut. IsCutOf (graph fixture.now.net fixture.now.states cut.state.0) cut) }
+{
+    let units = List::from_slice(alloc, &[1, 1, 1])?;
+    Ok(Cut::new(alloc, &fixture.net, &fixture.states, StateId(state), units)?)
+}
+
+/// Admits the unit cut of a state: whether it was known, and its index.
+fn admit<R: AllocGlobal + Abort>(
+    rt: &R,
+    given: &mut Given,
+    state: u32,
+) -> Result<(bool, u32), Fail> {
+    let cut = unit_cut(rt.alloc(), given.fixture, state)?;
+    match given.board.admit(cut) {
+        AdmitAnswer::Admitted { index, .. } => Ok((false, index)),
+        AdmitAnswer::Known(index, _) => Ok((true, index)),
+        AdmitAnswer::NoMemory(_) => Err(NoMemory.into()),
+        AdmitAnswer::PoolFull(_) | AdmitAnswer::Full(_) => panic!(rt; "full"),
+    }
+}
+
+/// A state whose unit cut is admitted, whether it is known then, its index, and the number of entries after it.
+type Admitted = (u32, bool, u32, u64);
+
+/// Admits unit cuts.
+fn check_admits<R: AllocGlobal + Abort>(
+    rt: &R,
+    given: &mut Given,
+    rows: &[Admitted],
+) -> Result<(), Fail> {
+    for (state, known, index, count) in rows {
+        let found = admit(rt, given, *state)?;
+        assert_eq!(rt; found, (*known, *index));
+        assert_eq!(rt; given.board.count(), *count);
+    }
     Ok(())
+}
+
+/// Admits unit cuts on a new board of a demand of 12.00, which comes back.
+fn pooled<'a, R: AllocGlobal + Abort>(
+    rt: &R,
+    fixture: &'a Fixture,
+    rows: &[Admitted],
+) -> Result<Board<'a>, Fail> {
+    let mut given = open_board(rt.alloc(), fixture, &ONE)?;
+    check_admits(rt, &mut given, rows)?;
+    Ok(given.board)
+}
+
+#[test]
+fn an_equal_cut_is_known(rt: HostRuntime) -> Result<(), Fail> {
+    let fixture = make_fixture(rt.alloc())?;
+    pooled(
+        &rt,
+        &fixture,
+        &[
+            (0, false, 0, 1),
+            (0, true, 0, 1),
+            (3, false, 1, 2),
+            (0, true, 0, 2),
+        ],
+    )?;
+    Ok(())
+}
+
+/// Whether the lines have these right sides.
+fn have_sides(lines: &[CutLine], want: &[u128]) -> bool {
+    if lines.len() != want.len() {
+        return false;
+    }
+    for k in 0..want.len() {
+        if lines[k].right != want[k] {
+            return false;
+        }
+    }
+    true
 }
 
 /// The right sides must be these, in the pool's order, kept or summed anew.
@@ -188,179 +253,105 @@ fn check_sides<R: AllocGlobal + Abort + Threads + Sync>(
     let kept = board.lines()?;
     let summed = board.audit(rt)?;
     let audited = board.audited_lines(rt)?;
-    assert_eq!(rt; kept.items().len(), want.len());
-    for k in 0..want.len() {
-        assert_eq!(rt; kept.items().get(k).map(|line| line.right), Some(want[k]));
-        assert_eq!(rt; summed.items().get(k).copied(), Some(want[k]));
-        assert_eq!(rt;
-            audited.items().get(k).map(|line| line.right),
-            Some(want[k])
-        );
+    assert!(rt; have_sides(kept.items(), want));
+    assert_eq!(rt; summed.items(), want);
+    assert!(rt; have_sides(audited.items(), want));
+    Ok(())
+}
+
+/// Edits of the demand A, each of which is accepted, and the four right sides after each.
+const STEPS: [(Edited, [u128; 4]); 3] = [
+    (
+        (Change::Set(b'A', 24000), Reply::Accepted(1), 1),
+        [24000, 24000, 24000, 48000],
+    ),
+    ((Change::Set(b'A', 0), Reply::Accepted(2), 2), [0, 0, 0, 0]),
+    ((Change::Drop(b'A'), Reply::Accepted(3), 3), [0, 0, 0, 0]),
+];
+
+#[test]
+fn each_right_side_follows_by_the_distance_in_its_state(rt: HostRuntime) -> Result<(), Fail> {
+    let fixture = make_fixture(rt.alloc())?;
+    let mut board = pooled(
+        &rt,
+        &fixture,
+        &[
+            (0, false, 0, 1),
+            (1, false, 1, 2),
+            (2, false, 2, 3),
+            (3, false, 3, 4),
+        ],
+    )?;
+    for (edited, sides) in &STEPS {
+        check_edits(&rt, &mut board, &[*edited])?;
+        check_sides(&rt, &board, sides)?;
     }
     Ok(())
 }
 
-/// Admits the unit cut of each state of the triangle.
-fn admit_all<R: AllocGlobal + Abort>(
-    rt: &R,
-    board: &mut Board,
-    net: &Network,
-    states: &States,
-) -> Result<(), Fail>
-    requires links { length net.now.links ≡ 3 }
-    requires net { board.old.net.now ≡ net.now }
-    requires states { board.old.states.now ≡ states.now }
-{
-    check_admit(rt, board, net, states, 0, (false, 0))?;
-    check_admit(rt, board, net, states, 1, (false, 1))?;
-    check_admit(rt, board, net, states, 2, (false, 2))?;
-    check_admit(rt, board, net, states, 3, (false, 3))
-}
-
-/// The need that the demand A gets, if it isn't dropped, and the four right sides after that.
-type Step = (Option<u32>, [u128; 4]);
-
-/// Makes an edit of the demand A, which is accepted as this version and leaves these right sides.
-fn check_step<R: AllocGlobal + Abort + Threads + Sync>(
-    rt: &R,
-    board: &mut Board,
-    step: &Step,
-    version: u64,
-) -> Result<(), Fail> {
-    let edit = match step.0 {
-        Some(need) => set(rt.alloc(), b"A", need)?,
-        None => taken_out(rt.alloc(), b"A")?,
-    };
-    check_edit(rt, board, edit, Reply::Accepted(version), version)?;
-    check_sides(rt, board, &step.1)
-}
-
-#[test]
-fn each_right_side_follows_by_the_distance_in_its_state(rt: HostRuntime) -> Result<(), Fail> {
-    let alloc = rt.alloc();
-    let net = triangle(alloc, 0)?;
-    let states = single_failures(alloc, &net)?;
-    let mut board = board(alloc, &net, &states, &ONE)?;
-    admit_all(&rt, &mut board, &net, &states)?;
-    check_step(
-        &rt,
-        &mut board,
-        &(Some(24000), [24000, 24000, 24000, 48000]),
-        1,
-    )?;
-    check_step(&rt, &mut board, &(Some(0), [0, 0, 0, 0]), 2)?;
-    check_step(&rt, &mut board, &(None, [0, 0, 0, 0]), 3)
-}
-
-/// An edit of a board whose one demand is A.
-#[derive(Clone, Copy)]
-enum Kind {
-    Set,
-    SetUnknown,
-    Add,
-    Drop,
-}
-
 /// The edits after memory for two was taken, and for how many there is memory after each.
-const SPARES: [(Kind, u32); 7] = [
-    (Kind::Set, 1),
-    (Kind::SetUnknown, 1),
-    (Kind::Add, 1),
-    (Kind::Drop, 1),
-    (Kind::Add, 1),
-    (Kind::Set, 0),
-    (Kind::Set, 0),
+const SPARES: [(Change, u32); 7] = [
+    (Change::Set(b'A', 24000), 1),
+    (Change::Set(b'Z', 24000), 1),
+    (Change::Add(b'D', b'B', 5000), 1),
+    (Change::Drop(b'D'), 1),
+    (Change::Add(b'D', b'B', 5000), 1),
+    (Change::Set(b'A', 24000), 0),
+    (Change::Set(b'A', 24000), 0),
 ];
 
-fn edit_of(alloc: Global, kind: &Kind) -> Result<Edit, Fail>
-    ensures { IfOk result (λ e. edit_need e < 2 ^ 40) }
-{
-    match kind {
-        Kind::Set => set(alloc, b"A", 24000),
-        Kind::SetUnknown => set(alloc, b"Z", 24000),
-        Kind::Add => add(alloc, b"D2", [b"A", b"B"], 5000),
-        Kind::Drop => taken_out(alloc, b"D2"),
-    }
-}
-
-/// Makes an edit, after which the board must have memory for so many.
-fn check_left<R: AllocGlobal + Abort>(
-    rt: &R,
-    board: &mut Board,
-    edit: Edit,
-    left: u32,
-) -> Result<(), Fail>
-    requires { edit_need edit < 2 ^ 40 }
-{
-    match board.edit(1, edit) {
-        EditAnswer::At { .. } => assert_eq!(rt; board.spare(), left),
-        EditAnswer::Full(_) => panic!(rt; "full"),
-        EditAnswer::NoMemory(_) => return Err(NoMemory.into()),
+/// Takes memory for two edits, and makes those that leave some of it.
+fn check_spares<R: AllocGlobal + Abort>(rt: &R, board: &mut Board) -> Result<(), Fail> {
+    assert_eq!(rt; board.spare(), 0);
+    board.reserve(2)?;
+    for (change, left) in &SPARES {
+        edit(rt, board, *change)?;
+        assert_eq!(rt; board.spare(), *left);
     }
     Ok(())
 }
 
 #[test]
 fn each_set_of_a_known_demand_takes_one_of_the_spare(rt: HostRuntime) -> Result<(), Fail> {
-    let alloc = rt.alloc();
-    let net = triangle(alloc, 0)?;
-    let states = single_failures(alloc, &net)?;
-    let mut board = board(alloc, &net, &states, &ONE)?;
-    assert_eq!(rt; board.spare(), 0);
-    board.reserve(2)?;
-    for (kind, left) in &SPARES {
-        check_left(&rt, &mut board, edit_of(alloc, kind)?, *left)?;
-    }
-    Ok(())
+    let fixture = make_fixture(rt.alloc())?;
+    let mut board = pooled(&rt, &fixture, &[])?;
+    check_spares(&rt, &mut board)
 }
 
 #[test]
 fn a_cut_leaves_the_spare_as_it_was(rt: HostRuntime) -> Result<(), Fail> {
-    let alloc = rt.alloc();
-    let net = triangle(alloc, 0)?;
-    let states = single_failures(alloc, &net)?;
-    let mut board = board(alloc, &net, &states, &ONE)?;
-    board.reserve(3)?;
-    board.reserve(2)?;
-    check_admit(&rt, &mut board, &net, &states, 0, (false, 0))?;
-    check_admit(&rt, &mut board, &net, &states, 0, (true, 0))?;
-    assert_eq!(rt; (board.spare(), board.count()), (3, 1));
+    let fixture = make_fixture(rt.alloc())?;
+    let mut given = open_board(rt.alloc(), &fixture, &ONE)?;
+    given.board.reserve(3)?;
+    given.board.reserve(2)?;
+    check_admits(&rt, &mut given, &[(0, false, 0, 1), (0, true, 0, 1)])?;
+    assert_eq!(rt; given.board.spare(), 3);
     Ok(())
 }
 
-/// The right side at a place of a snapshot.
-fn side(snapshot: &Snapshot, k: usize) -> Option<u128> {
-    snapshot.cuts.items().get(k).map(|line| line.right)
+/// A snapshot must have this version and position, and these right sides.
+fn check_snapshot<R: AllocGlobal + Abort>(
+    rt: &R,
+    snapshot: &Snapshot,
+    at: (u64, u64),
+    sides: &[u128],
+) {
+    assert_eq!(rt; (snapshot.version, snapshot.position), at);
+    assert!(rt; have_sides(snapshot.cuts.items(), sides));
 }
 
 #[test]
 fn right_sides_follow_edits(rt: HostRuntime) -> Result<(), Fail> {
-    let alloc = rt.alloc();
-    let net = triangle(alloc, 0)?;
-    let states = single_failures(alloc, &net)?;
-    let mut board = board(alloc, &net, &states, &ONE)?;
-    check_admit(&rt, &mut board, &net, &states, 0, (false, 0))?;
-    check_admit(&rt, &mut board, &net, &states, 3, (false, 1))?;
+    let fixture = make_fixture(rt.alloc())?;
+    let mut board = pooled(&rt, &fixture, &[(0, false, 0, 1), (3, false, 1, 2)])?;
     let older = board.snapshot()?;
-    check_edit(
+    check_edits(
         &rt,
         &mut board,
-        set(alloc, b"A", 24000)?,
-        Reply::Accepted(1),
-        1,
+        &[(Change::Set(b'A', 24000), Reply::Accepted(1), 1)],
     )?;
-    let newer = board.snapshot()?;
-    assert_eq!(rt; (older.version, older.position), (0, 2));
-    assert_eq!(rt; (newer.version, newer.position), (1, 3));
-    assert_eq!(rt;
-        (side(&older, 0), side(&older, 1)),
-        (Some(12000), Some(24000))
-    );
-    assert_eq!(rt;
-        (side(&newer, 0), side(&newer, 1)),
-        (Some(24000), Some(48000))
-    );
-    let copied = older.copy()?;
-    assert_eq!(rt; (copied.position, side(&copied, 1)), (2, Some(24000)));
+    check_snapshot(&rt, &board.snapshot()?, (1, 3), &[24000, 48000]);
+    check_snapshot(&rt, &older, (0, 2), &[12000, 24000]);
+    check_snapshot(&rt, &older.copy()?, (0, 2), &[12000, 24000]);
     Ok(())
 }
