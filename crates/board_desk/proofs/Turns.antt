@@ -18,13 +18,6 @@ use Rattle.board_desk.specs.Turns.{HasTurn, board_made}
 abbrev BoardTurn : Type 0
 BoardTurn = Turn Board Entry (Network × States × List Demand)
 
--- the caller entered a turn, and found this board
-pub record Entered (old : Caller) (turn : BoardTurn) (found : Board) : Type 0 where
-  pub origin : origin_of found ≡ origin_of (board_made old)
-  pub stands : found.entries ≡ turn_history turn
-  pub begins : IsPrefix (seen_by old.pass) (turn_history turn)
-  pub places : turn_places turn ≡ own_places old.pass
-
 -- the place of one entry more
 place_of_one : (own : List ℕ) (before after : List Entry) (entry : Entry) → after ≡ before ++ entry ∷ []
     → own ++ length before ∷ [] ≡ own ++ range_with_len (length before) (length after - length before)
@@ -39,27 +32,33 @@ place_of_none own before after same =
     sym (append-nil own) ∙ ap (λ n. own ++ range_with_len (length before) n) none
 
 -- the caller left with one entry more
-pub left_with : (old new : Caller) (turn : BoardTurn) (found after : Board) (entry : Entry) → Entered old turn found
+pub left_with : (old new : Caller) (turn : BoardTurn) (found after : Board) (entry : Entry) → origin_of found ≡ origin_of (board_made old)
+    → found.entries ≡ turn_history turn
+    → IsPrefix (seen_by old.pass) (turn_history turn)
+    → turn_places turn ≡ own_places old.pass
     → after.entries ≡ found.entries ++ entry ∷ []
     → seen_by new.pass ≡ after.entries
     → own_places new.pass ≡ turn_places turn ++ length (turn_history turn) ∷ []
     → HasTurn old found after new
-left_with old new turn found after entry e grown seen places = record {
-  begins = subst (λ h. IsPrefix (seen_by old.pass) h) (sym e.stands) e.begins;
-  origin = e.origin;
+left_with old new turn found after entry origin stands begins had grown seen places = record {
+  begins = subst (λ h. IsPrefix (seen_by old.pass) h) (sym stands) begins;
+  origin = origin;
   seen = seen;
-  places = places ∙ ap (λ ps. ps ++ length (turn_history turn) ∷ []) e.places ∙ ap (λ h. own_places old.pass ++ length h ∷ []) (sym e.stands) ∙ place_of_one (own_places old.pass) found.entries after.entries entry grown;
+  places = places ∙ ap (λ ps. ps ++ length (turn_history turn) ∷ []) had ∙ ap (λ h. own_places old.pass ++ length h ∷ []) (sym stands) ∙ place_of_one (own_places old.pass) found.entries after.entries entry grown;
 }
 
 -- the caller left with the entries as they were
-pub left_as_found : (old new : Caller) (turn : BoardTurn) (found after : Board) → Entered old turn found
+pub left_as_found : (old new : Caller) (turn : BoardTurn) (found after : Board) → origin_of found ≡ origin_of (board_made old)
+    → found.entries ≡ turn_history turn
+    → IsPrefix (seen_by old.pass) (turn_history turn)
+    → turn_places turn ≡ own_places old.pass
     → after.entries ≡ found.entries
     → seen_by new.pass ≡ turn_history turn
     → own_places new.pass ≡ turn_places turn
     → HasTurn old found after new
-left_as_found old new turn found after e same seen places = record {
-  begins = subst (λ h. IsPrefix (seen_by old.pass) h) (sym e.stands) e.begins;
-  origin = e.origin;
-  seen = seen ∙ sym e.stands ∙ sym same;
-  places = places ∙ e.places ∙ place_of_none (own_places old.pass) found.entries after.entries same;
+left_as_found old new turn found after origin stands begins had same seen places = record {
+  begins = subst (λ h. IsPrefix (seen_by old.pass) h) (sym stands) begins;
+  origin = origin;
+  seen = seen ∙ sym stands ∙ sym same;
+  places = places ∙ had ∙ place_of_none (own_places old.pass) found.entries after.entries same;
 }

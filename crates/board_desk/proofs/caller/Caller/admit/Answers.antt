@@ -8,9 +8,7 @@ returns-in-Admitted-clause-turn g c =
       c.enter-board.result.0,
       c.admit.new.self,
       c.in-Admitted.ensures.answer,
-      left_with c.args.self _ c.enter-board.result.1 c.enter-board.result.0 c.admit.new.self _
-          (record { origin = e.origin; stands = e.stands; begins = e.begins; places = e.places })
-          c.in-Admitted.ensures.answer.3.entries l.seen l.places,
+      left_with c.args.self _ c.enter-board.result.1 _ _ _ e.origin e.stands e.begins e.places c.in-Admitted.ensures.answer.3.entries l.seen l.places,
     )
 
 pub returns-in-Known-clause-turn : goal.returns-in-Known-clause-turn
@@ -20,9 +18,7 @@ returns-in-Known-clause-turn g c =
       c.enter-board.result.0,
       c.admit.new.self,
       c.in-Known.ensures.answer,
-      left_as_found c.args.self _ c.enter-board.result.1 c.enter-board.result.0 c.admit.new.self
-          (record { origin = e.origin; stands = e.stands; begins = e.begins; places = e.places })
-          c.in-Known.ensures.answer.2.entries l.seen l.places,
+      left_as_found c.args.self _ c.enter-board.result.1 _ _ e.origin e.stands e.begins e.places c.in-Known.ensures.answer.2.entries l.seen l.places,
     )
 
 pub returns-in-PoolFull-clause-turn : goal.returns-in-PoolFull-clause-turn
@@ -32,9 +28,7 @@ returns-in-PoolFull-clause-turn g c =
       c.enter-board.result.0,
       c.admit.new.self,
       c.in-PoolFull.ensures.answer,
-      left_as_found c.args.self _ c.enter-board.result.1 c.enter-board.result.0 c.admit.new.self
-          (record { origin = e.origin; stands = e.stands; begins = e.begins; places = e.places })
-          c.in-PoolFull.ensures.answer.3.entries l.seen l.places,
+      left_as_found c.args.self _ c.enter-board.result.1 _ _ e.origin e.stands e.begins e.places c.in-PoolFull.ensures.answer.3.entries l.seen l.places,
     )
 
 pub returns-in-Full-clause-turn : goal.returns-in-Full-clause-turn
@@ -44,9 +38,7 @@ returns-in-Full-clause-turn g c =
       c.enter-board.result.0,
       c.admit.new.self,
       c.in-Full.ensures.answer,
-      left_as_found c.args.self _ c.enter-board.result.1 c.enter-board.result.0 c.admit.new.self
-          (record { origin = e.origin; stands = e.stands; begins = e.begins; places = e.places })
-          c.in-Full.ensures.answer.4.entries l.seen l.places,
+      left_as_found c.args.self _ c.enter-board.result.1 _ _ e.origin e.stands e.begins e.places c.in-Full.ensures.answer.4.entries l.seen l.places,
     )
 
 pub returns-in-NoMemory-clause-turn : goal.returns-in-NoMemory-clause-turn
@@ -56,7 +48,5 @@ returns-in-NoMemory-clause-turn g c =
       c.enter-board.result.0,
       c.admit.new.self,
       c.in-NoMemory.ensures.answer,
-      left_as_found c.args.self _ c.enter-board.result.1 c.enter-board.result.0 c.admit.new.self
-          (record { origin = e.origin; stands = e.stands; begins = e.begins; places = e.places })
-          c.in-NoMemory.ensures.answer.4.entries l.seen l.places,
+      left_as_found c.args.self _ c.enter-board.result.1 _ _ e.origin e.stands e.begins e.places c.in-NoMemory.ensures.answer.4.entries l.seen l.places,
     )

@@ -8,9 +8,7 @@ returns-in-At-clause-turn g c =
       c.enter-board.result.0,
       c.edit.new.self,
       c.in-At.ensures.answer,
-      left_with c.args.self _ c.enter-board.result.1 c.enter-board.result.0 c.edit.new.self _
-          (record { origin = e.origin; stands = e.stands; begins = e.begins; places = e.places })
-          c.in-At.ensures.answer.1.entries l.seen l.places,
+      left_with c.args.self _ c.enter-board.result.1 _ _ _ e.origin e.stands e.begins e.places c.in-At.ensures.answer.1.entries l.seen l.places,
     )
 
 pub returns-in-Full-clause-turn : goal.returns-in-Full-clause-turn
@@ -20,9 +18,7 @@ returns-in-Full-clause-turn g c =
       c.enter-board.result.0,
       c.edit.new.self,
       c.in-Full.ensures.answer,
-      left_as_found c.args.self _ c.enter-board.result.1 c.enter-board.result.0 c.edit.new.self
-          (record { origin = e.origin; stands = e.stands; begins = e.begins; places = e.places })
-          c.in-Full.ensures.answer.2.entries l.seen l.places,
+      left_as_found c.args.self _ c.enter-board.result.1 _ _ e.origin e.stands e.begins e.places c.in-Full.ensures.answer.2.entries l.seen l.places,
     )
 
 pub returns-in-NoMemory-clause-turn : goal.returns-in-NoMemory-clause-turn
@@ -32,7 +28,5 @@ returns-in-NoMemory-clause-turn g c =
       c.enter-board.result.0,
       c.edit.new.self,
       c.in-NoMemory.ensures.answer,
-      left_as_found c.args.self _ c.enter-board.result.1 c.enter-board.result.0 c.edit.new.self
-          (record { origin = e.origin; stands = e.stands; begins = e.begins; places = e.places })
-          c.in-NoMemory.ensures.answer.2.entries l.seen l.places,
+      left_as_found c.args.self _ c.enter-board.result.1 _ _ e.origin e.stands e.begins e.places c.in-NoMemory.ensures.answer.2.entries l.seen l.places,
     )

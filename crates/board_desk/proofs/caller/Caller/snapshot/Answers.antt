@@ -8,7 +8,5 @@ returns-clause-turn g c =
     let l = c.leave-pass.ensures in (
       c.enter-board.result.0,
       c.snapshot-snapshot.ensures,
-      left_as_found c.args.self _ c.enter-board.result.1 c.enter-board.result.0 c.enter-board.result.0
-          (record { origin = e.origin; stands = e.stands; begins = e.begins; places = e.places })
-          refl l.seen l.places,
+      left_as_found c.args.self _ c.enter-board.result.1 _ _ e.origin e.stands e.begins e.places refl l.seen l.places,
     )
