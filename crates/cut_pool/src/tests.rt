@@ -1,11 +1,14 @@
 ghost use Rattle.std.specs.Prelude.{◌≡◌, ◌<◌, ◌^◌, IfOk, length};
+ghost use Rattle.net_core.specs.Demands.{AreDemands};
 ghost use Rattle.net_core.specs.Views.{graph};
 ghost use Rattle.plan_terms.specs.Edits.{edit_need};
 ghost use Rattle.metric_cut.specs.Cuts.{IsCutOf};
 
 use crate::{AdmitAnswer, Board, EditAnswer, Snapshot};
 use metric_cut::Cut;
-use net_core::{Copied, CutLine, Edit, List, Name, Network, NoMemory, Reply, StateId, States};
+use net_core::{
+    Copied, CutLine, Demands, Edit, List, Name, Network, NoMemory, Reply, StateId, States,
+};
 use std::alloc::Global;
 use std::process::Abort;
 use std::test::Fail;
@@ -42,17 +45,24 @@ fn make_fixture(alloc: Global) -> Result<Fixture, Fail> {
     Ok(Fixture { net, states })
 }
 
+/// Demands of the triangle.
+fn opening_of(alloc: Global, fixture: &Fixture, rows: &[DemandRow]) -> Result<Demands, Fail>
+    ensures { IfOk result (AreDemands (length fixture.now.net.nodes)) }
+{
+    Ok(demands(alloc, fixture.net.nodes().len(), rows)?)
+}
+
 /// A new board of these demands.
 fn open_board<'a>(
     alloc: Global,
     fixture: &'a Fixture,
     rows: &[DemandRow],
 ) -> Result<Given<'a>, Fail> {
-    let opening = demands(alloc, fixture.net.nodes().len(), rows)?;
-    match Board::new(alloc, &fixture.net, &fixture.states, opening) {
-        Ok(board) => Ok(Given { fixture, board }),
-        Err((_, fault)) => Err(fault.into()),
-    }
+    let opening = opening_of(alloc, fixture, rows)?;
+    let Ok(board) = Board::new(alloc, &fixture.net, &fixture.states, opening) else {
+        return Err(NoMemory.into());
+    };
+    Ok(Given { fixture, board })
 }
 
 /// An edit of a demand, whose name is one letter. An added one leads from A to another node.
@@ -63,24 +73,40 @@ enum Change {
     Drop(u8),
 }
 
+/// A name of one letter.
+fn name_of(alloc: Global, letter: u8) -> Result<Name, Fail> {
+    Ok(Name::new(alloc, &[letter])?)
+}
+
+fn added(name: Name, from: Name, to: Name, need: u32) -> Edit
+    ensures { edit_need result < 2 ^ 40 }
+{
+    Edit::Add {
+        name,
+        from,
+        to,
+        need: need as u64,
+    }
+}
+
 fn edit_of(alloc: Global, change: Change) -> Result<Edit, Fail>
     ensures { IfOk result (λ e. edit_need e < 2 ^ 40) }
 {
-    Ok(match change {
-        Change::Set(name, need) => Edit::Set {
-            name: Name::new(alloc, &[name])?,
+    match change {
+        Change::Set(name, need) => Ok(Edit::Set {
+            name: name_of(alloc, name)?,
             need: need as u64,
-        },
-        Change::Add(name, end, need) => Edit::Add {
-            name: Name::new(alloc, &[name])?,
-            from: Name::new(alloc, b"A")?,
-            to: Name::new(alloc, &[end])?,
-            need: need as u64,
-        },
-        Change::Drop(name) => Edit::Drop {
-            name: Name::new(alloc, &[name])?,
-        },
-    })
+        }),
+        Change::Add(name, end, need) => Ok(added(
+            name_of(alloc, name)?,
+            name_of(alloc, b'A')?,
+            name_of(alloc, end)?,
+            need,
+        )),
+        Change::Drop(name) => Ok(Edit::Drop {
+            name: name_of(alloc, name)?,
+        }),
+    }
 }
 
 /// Makes an edit: the position of its entry, and its reply.
@@ -233,15 +259,15 @@ fn an_equal_cut_is_known(rt: HostRuntime) -> Result<(), Fail> {
 
 /// Whether the lines have these right sides.
 fn have_sides(lines: &[CutLine], want: &[u128]) -> bool {
-    if lines.len() != want.len() {
-        return false;
-    }
     for k in 0..want.len() {
-        if lines[k].right != want[k] {
+        let Some(line) = lines.get(k) else {
+            return false;
+        };
+        if line.right != want[k] {
             return false;
         }
     }
-    true
+    lines.len() == want.len()
 }
 
 /// The right sides must be these, in the pool's order, kept or summed anew.
