@@ -18,7 +18,6 @@ use Rattle.cut_pool.specs.declared.board.Board.{Board}
 use Rattle.cut_pool.specs.Histories.{Dated, cut_of_line, cuts_of, left_by, left_by_entry, version_left}
 use Rattle.cut_pool.specs.Pools.{line_of_pooled}
 pub use Rattle.separator.proofs.Pooling.{cuts_both, get_behind}
-use Rattle.net_core.proofs.Lists.{get_front}
 
 -- ---- versions
 

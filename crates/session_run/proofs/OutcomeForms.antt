@@ -20,7 +20,8 @@ use Rattle.session_script.specs.declared.script.Act.TheVariants.{Change, Plan}
 use Rattle.session_script.specs.declared.script.Command.{Command}
 use Rattle.session_script.specs.Scripts.{IsCommandInForm, IsScript}
 use Rattle.separator.specs.Separators.{IsSpotIn}
-use Rattle.planner.proofs.Histories.{cuts_both, get_front, version_few}
+use Rattle.net_core.proofs.Lists.{get_front}
+use Rattle.planner.proofs.Histories.{cuts_both, version_few}
 use Rattle.session_run.specs.Transcripts.{IsOutcomeAfter, RunsFrom, acts_of, outcome_caller, outcomes_of}
 use Rattle.session_run.specs.inner.Ranges.{IsShortNamed}
 use Rattle.session_run.specs.inner.Running.{HaveRun}

@@ -8,7 +8,8 @@ use Rattle.net_core.specs.Cases.{Case}
 use Rattle.plan_types.specs.declared.report.Outcome.{Outcome}
 use Rattle.session_script.specs.declared.script.Act.{Act}
 use Rattle.session_script.specs.declared.script.Act.TheVariants.{Change, Plan}
-use Rattle.planner.proofs.Histories.{get_behind, get_front}
+use Rattle.net_core.proofs.Lists.{get_front}
+use Rattle.planner.proofs.Histories.{get_behind}
 use Rattle.session_run.specs.Transcripts.{IsOutcomeAfter, RunsFrom}
 
 take_front : {X : Type 0} (xs ys : List X) (n : ℕ) → n ≤ length xs → take n (xs ++ ys) ≡ take n xs
