@@ -1,7 +1,7 @@
 ghost use Rattle.std.specs.Prelude.{◌≡◌, ◌≤◌, ◌<◌, ◌^◌, ◌==◌, ◌∷◌, [], ℕ, List, IsTrue, ◌↔◌, MatchOption, map, slice_index, string_bytes};
 ghost use Rattle.planner_top.specs.Commands as commands;
 ghost use Rattle.planner_top.specs.Commands.{AreFiles, AreFourFiles, AreSample, IsCommand, IsNamed, IsNumberWord, MayBeFiles, PlanWords, may_be_file};
-ghost use Rattle.planner_top.specs.inner.Steps.{asked, named};
+ghost use Rattle.planner_top.specs.inner.Steps.{asked_command, named};
 
 use crate::words::{Command, FourFiles, PlanFiles, SampleWords};
 
@@ -122,7 +122,7 @@ fn is_named(word: &str, name: &str) -> bool
 
 /// The command of this name with these words behind it; none where they are no words of such a command.
 fn named_command<'w>(name: &str, words: &'w [String]) -> Option<Command<'w>>
-    ensures { MatchOption result ((c : commands.Command) → IsNamed name.now (map string_bytes words.now) c → ⊥) (λ c. IsNamed name.now (map string_bytes words.now) (asked c)) }
+    ensures { MatchOption result ((c : commands.Command) → IsNamed name.now (map string_bytes words.now) c → ⊥) (λ c. IsNamed name.now (map string_bytes words.now) (asked_command c)) }
 {
     if is_named(name, "plan") {
         let files = files_of(words)?;
@@ -145,7 +145,7 @@ fn named_command<'w>(name: &str, words: &'w [String]) -> Option<Command<'w>>
 
 /// The command that words ask for; none where they give no command.
 pub fn command_of(words: &[String]) -> Option<Command<'_>>
-    ensures { MatchOption result ((c : commands.Command) → IsCommand words.now c → ⊥) (λ c. IsCommand words.now (asked c)) }
+    ensures { MatchOption result ((c : commands.Command) → IsCommand words.now c → ⊥) (λ c. IsCommand words.now (asked_command c)) }
 {
     let (name, files) = words.split_first()?;
     if !all_may_be_files(files) {

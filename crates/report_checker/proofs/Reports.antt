@@ -10,7 +10,7 @@ use Rattle.plan_checker.specs.declared.stop.Stop.{Stop}
 use Rattle.plan_checker.specs.declared.stop.Stop.TheVariants as stops
 use Rattle.plan_checker.specs.inner.Tests.{StopsFirst}
 use Rattle.report_checker.specs.ReportFindings.{AnswersReport, whole_findings}
-use Rattle.report_checker.specs.inner.Outcomes.{TellOutcomes, answer_of}
+use Rattle.report_checker.specs.inner.Outcomes.{TellOutcomes, answer_to}
 
 -- a report without finding on the whole of it
 pub report_told : (notes : Notes) (p : Case) (r : Report) (a : CheckAnswer) → HoldNone (whole_findings notes p r) → TellOutcomes p r a → AnswersReport notes p r a
@@ -20,14 +20,14 @@ report_told notes p r (Rejected (suc j) f) none told = (none, told.0, told.1)
 report_told notes p r NoMemory none told = tt
 
 -- a report with a finding on the whole of it
-whole_stopped : (notes : Notes) (p : Case) (r : Report) (stop : Stop) → StopsFirst (whole_findings notes p r) stop → AnswersReport notes p r (answer_of stop)
+whole_stopped : (notes : Notes) (p : Case) (r : Report) (stop : Stop) → StopsFirst (whole_findings notes p r) stop → AnswersReport notes p r (answer_to stop)
 whole_stopped notes p r (stops.Found f) first = first
 whole_stopped notes p r stops.NoMemory first = tt
 
-pub whole_stops : (notes : Notes) (p : Case) (r : Report) (stop : Stop) (a : CheckAnswer) → StopsFirst (whole_findings notes p r) stop → a ≡ answer_of stop → AnswersReport notes p r a
+pub whole_stops : (notes : Notes) (p : Case) (r : Report) (stop : Stop) (a : CheckAnswer) → StopsFirst (whole_findings notes p r) stop → a ≡ answer_to stop → AnswersReport notes p r a
 whole_stops notes p r stop a first is = subst (AnswersReport notes p r) (sym is) (whole_stopped notes p r stop first)
 
 -- a reason to stop is no acceptance
-pub never_accepted : (stop : Stop) (a : CheckAnswer) → a ≡ answer_of stop → a ≡ Accepted → ⊥
+pub never_accepted : (stop : Stop) (a : CheckAnswer) → a ≡ answer_to stop → a ≡ Accepted → ⊥
 never_accepted (stops.Found f) a is accepted = absurd cc (is, accepted)
 never_accepted stops.NoMemory a is accepted = absurd cc (is, accepted)

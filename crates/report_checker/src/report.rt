@@ -5,7 +5,7 @@ ghost use Rattle.plan_report.specs.Forms.{IsReportInForm};
 ghost use Rattle.plan_checker.specs.inner.Tests.{TellFirst};
 ghost use Rattle.report_checker.specs.Outcomes.{IsAcceptedOutcome};
 ghost use Rattle.report_checker.specs.ReportFindings.{AnswersReport, whole_findings};
-ghost use Rattle.report_checker.specs.inner.Outcomes.{TellOutcomes, answer_of};
+ghost use Rattle.report_checker.specs.inner.Outcomes.{TellOutcomes, answer_to};
 
 use crate::along::check_outcomes;
 use crate::journal::{check_entries, check_notes};
@@ -34,7 +34,7 @@ fn check_whole(alloc: Global, instance: &Instance, report: &Report) -> Test
 
 /// What a reason to stop on the whole report comes to.
 fn answer_of(stop: Stop) -> CheckAnswer
-    ensures { result ≡ answer_of stop }
+    ensures { result ≡ answer_to stop }
 {
     match stop {
         Stop::Found(finding) => CheckAnswer::Rejected {

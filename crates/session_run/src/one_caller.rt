@@ -5,7 +5,7 @@ ghost use Rattle.board_desk.specs.Turns.{AreAtOneDesk, IsAtDesk, board_made};
 ghost use Rattle.separation_workers.specs.Places.{own_items};
 ghost use Rattle.session_script.specs.Scripts.{IsCommandInForm};
 ghost use Rattle.session_run.specs.inner.Running.{EndsRun, commands_of};
-ghost use Rattle.session_run.specs.inner.Turns.{EndsAct, Keeps};
+ghost use Rattle.session_run.specs.inner.Turns.{EndsAct, KeepsOutcome};
 
 use crate::edits::make_edit;
 use crate::plans::{Asked, make_plan};
@@ -20,7 +20,7 @@ use std::thread::Threads;
 
 /// Keeps the outcome of a plan command after the earlier ones.
 fn keep(outcome: Result<Outcome, NoMemory>, outcomes: &mut Vec<Outcome>) -> Result<(), Stop>
-    ensures { Keeps outcome outcomes.old.items outcomes.new.items result }
+    ensures { KeepsOutcome outcome outcomes.old.items outcomes.new.items result }
 {
     let Ok(outcome) = outcome else {
         return Err(Stop::NoMemory);

@@ -13,7 +13,7 @@ use Rattle.turn_lock.specs.declared.rule.Stage.{Stage}
 use Rattle.turn_lock.specs.declared.rule.Stage.TheVariants.{Idle, Waiting, Holding, Joined}
 use Rattle.turn_lock.specs.Histories.{IsPrefix, longer, are_places, merged}
 use Rattle.turn_lock.specs.inner.Tests.{stage_number}
-use Rattle.turn_lock.specs.inner.Rule.{within, times_at, tickets_of, ticket_at, turns_of, reach, KnowsStage, Knows, Kept}
+use Rattle.turn_lock.specs.inner.Rule.{one_within, times_at, tickets_of, ticket_at, turns_of, reach, KnowsStage, Knows, Kept}
 use Rattle.turn_lock.specs.inner.Plays.{OwnItemsStand, also_seen, first_half, second_half, joined_view, spent_view, Settles}
 use Rattle.turn_lock.proofs.Lists.{each_set, each_snoc, sum_set, sum_zero, two_below, one_below}
 use Rattle.turn_lock.proofs.Places.{within_few, within_from, prefix_all, both_begin_longer, longer_of, longer_le, wider, times_merged, times_after, merged_ascends, all_places}
@@ -147,7 +147,7 @@ module _ {T I O : Type 0} (history : T → List I) (made : T → O) (origin : O)
       (λ j u e. ap (times_at p) ((knows j u e).1 (spent j u e))) in
       let no_turns : sum_by (λ (x : View I O). turns_of x.stage) others ≡ 0 = sum_zero (λ (x : View I O). turns_of x.stage) others
       (λ j u e. omega (arith, turns_le u.stage, (knows j u e).0, spent j u e)) in
-      let own : (p : ℕ) → times_at p v.places ≡ within 0 (length k.log) p = λ p. omega (arith, sum_set (λ (x : View I O). times_at p x.places) s.views id v z at, no_places p, k.each_place p) in
+      let own : (p : ℕ) → times_at p v.places ≡ one_within 0 (length k.log) p = λ p. omega (arith, sum_set (λ (x : View I O). times_at p x.places) s.views id v z at, no_places p, k.each_place p) in
       let whole : length k.log ≤ length v.seen = ⊎_elim
       (λ l. absurd (omega (arith, own (length v.seen), within_from (length k.log) (length v.seen) l, times_after 0 (length v.seen) (length v.seen) v.places (omega arith) own_placed)))
       (λ g. g)

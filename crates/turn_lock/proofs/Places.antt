@@ -5,7 +5,7 @@ use Rattle.std.proofs.lemmas.List.Sums.{sum_by-cons}
 use Rattle.std.proofs.lemmas.Bool.{and_parts, and_from, and_left, and_right, cases_eq, cases_lt, lt-ltb, le-ltb, le-leb, lt-leb, eq-eqb, ne_eqb, leb-true, ltb-true, ltb-false, cond_both}
 use Rattle.std.specs.List.{range_with_len}
 use Rattle.turn_lock.specs.Histories.{IsPrefix, longer, are_places, with_place, merged}
-use Rattle.turn_lock.specs.inner.Rule.{one_where, within, times_at}
+use Rattle.turn_lock.specs.inner.Rule.{one_where, one_within, times_at}
 
 -- 1 where the numbers are equal
 pub one_if : (a b : ℕ) → a ≡ b → one_where (eqb a b) ≡ 1
@@ -14,29 +14,29 @@ one_if a b e = ap one_where (eq-eqb a b e)
 pub none_if : (a b : ℕ) → (a ≡ b → ⊥) → one_where (eqb a b) ≡ 0
 none_if a b ne = ap one_where (ne_eqb a b ne)
 
-within_in : (low high k : ℕ) → low ≤ k → k < high → within low high k ≡ 1
+within_in : (low high k : ℕ) → low ≤ k → k < high → one_within low high k ≡ 1
 within_in low high k a b = ap one_where (and_from (leb low k) (ltb k high) (le-leb low k a) (lt-ltb k high b))
 
-within_before : (low high k : ℕ) → k < low → within low high k ≡ 0
+within_before : (low high k : ℕ) → k < low → one_within low high k ≡ 0
 within_before low high k l = ap one_where (and_left (leb low k) (ltb k high) (lt-leb low k l))
 
-pub within_after : (low high k : ℕ) → high ≤ k → within low high k ≡ 0
+pub within_after : (low high k : ℕ) → high ≤ k → one_within low high k ≡ 0
 within_after low high k l = ap one_where (and_right (leb low k) (ltb k high) (le-ltb k high l))
 
-pub within_from : (high k : ℕ) → k < high → within 0 high k ≡ 1
+pub within_from : (high k : ℕ) → k < high → one_within 0 high k ≡ 1
 within_from high k l = within_in 0 high k (omega arith) l
 
-pub within_few : (low high k : ℕ) → within low high k ≤ 1
+pub within_few : (low high k : ℕ) → one_within low high k ≤ 1
 within_few low high k = cond_both (leb low k && ltb k high) 1 0 (λ (n : ℕ). n ≤ 1) (λ _. omega arith) (λ _. omega arith)
 
-pub within_some : (low high k : ℕ) → 1 ≤ within low high k → (low ≤ k) × (k < high)
+pub within_some : (low high k : ℕ) → 1 ≤ one_within low high k → (low ≤ k) × (k < high)
 within_some low high k some = ⊎_elim
     (λ l. absurd (omega (arith, some, within_before low high k l)))
     (λ a. ⊎_elim (λ b. (a, b)) (λ h. absurd (omega (arith, some, within_after low high k h))) (cases_lt k high))
     (cases_lt k low)
 
 -- one number more at the upper end
-pub within_more : (low high k : ℕ) → low ≤ high → within low (high + 1) k ≡ within low high k + one_where (eqb high k)
+pub within_more : (low high k : ℕ) → low ≤ high → one_within low (high + 1) k ≡ one_within low high k + one_where (eqb high k)
 within_more low high k le = ⊎_elim
     (λ l. omega (arith, within_before low (high + 1) k l, within_before low high k l, none_if high k (λ e. omega arith)))
     (λ a. ⊎_elim
@@ -49,7 +49,7 @@ within_more low high k le = ⊎_elim
     (cases_lt k low)
 
 -- one number less at the lower end
-pub within_less : (low high k : ℕ) → low < high → within low high k ≡ within (low + 1) high k + one_where (eqb low k)
+pub within_less : (low high k : ℕ) → low < high → one_within low high k ≡ one_within (low + 1) high k + one_where (eqb low k)
 within_less low high k lt = ⊎_elim
     (λ l. omega (arith, within_before low high k l, within_before (low + 1) high k (omega arith), none_if low k (λ e. omega arith)))
     (λ a. ⊎_elim

@@ -12,7 +12,7 @@ use Rattle.turn_lock.specs.declared.rule.Stage.{Stage}
 use Rattle.turn_lock.specs.declared.rule.Stage.TheVariants.{Idle, Waiting, Holding, Joined}
 use Rattle.turn_lock.specs.Histories.{IsPrefix, are_places}
 use Rattle.turn_lock.specs.inner.Tests.{stage_number}
-use Rattle.turn_lock.specs.inner.Rule.{one_where, within, times_at, tickets_of, ticket_at, turns_of, reach, KnowsStage, Knows, HasSlot, Kept, first_view}
+use Rattle.turn_lock.specs.inner.Rule.{one_where, one_within, times_at, tickets_of, ticket_at, turns_of, reach, KnowsStage, Knows, HasSlot, Kept, first_view}
 use Rattle.turn_lock.specs.inner.Plays.{Awaits, Draws, Looks, TakesValue, Commits, Serves}
 use Rattle.turn_lock.proofs.Lists.{each_set, sum_set, one_below, two_below, sums_le, sums_lt}
 use Rattle.turn_lock.proofs.Places.{one_if, within_after, within_few, within_some, within_more, within_less, prefix_same, prefix_le, prefix_more, wider, place_last}
@@ -237,7 +237,7 @@ module _ {T I O : Type 0} (history : T → List I) (made : T → O) (origin : O)
             sum_by_push (λ (q : ℕ). one_where (eqb q p)) v.places (length v.seen),
             k.each_place p,
             within_more 0 (length k.log) p (omega arith),
-            ap {B = ℕ} (λ n. within 0 n p) longer,
+            ap {B = ℕ} (λ n. one_within 0 n p) longer,
             ap {B = ℕ} (λ n. one_where (eqb n p)) same_length,
           );
           each_view = each_set (Knows (history x) k.served origin) s.views id w

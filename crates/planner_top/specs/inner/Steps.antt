@@ -16,11 +16,11 @@ abbrev pub named : PlanFiles → PlanWords
 named f = record { network = f.network.now; model = f.model.now; failures = f.failures.now }
 
 -- the command that is asked for
-abbrev pub asked : Command → commands.Command
-asked (Plan files) = commands.Plan (named files)
-asked (Session four) = commands.Session (named four.files) four.last.now
-asked (Check four) = commands.Check (named four.files) four.last.now
-asked (Sample words) = commands.Sample words.seed words.nodes
+abbrev pub asked_command : Command → commands.Command
+asked_command (Plan files) = commands.Plan (named files)
+asked_command (Session four) = commands.Session (named four.files) four.last.now
+asked_command (Check four) = commands.Check (named four.files) four.last.now
+asked_command (Sample words) = commands.Sample words.seed words.nodes
 
 -- a stop has its cause, unless memory ran out
 abbrev pub Stops : (Status → List ℕ → Type 0) → Stop → Type 0

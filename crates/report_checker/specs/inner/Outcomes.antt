@@ -12,9 +12,9 @@ use Rattle.plan_checker.specs.declared.stop.Stop.TheVariants as stops
 use Rattle.report_checker.specs.Outcomes.{outcome_findings}
 
 -- the answer of a reason to stop on the whole report
-abbrev pub answer_of : Stop → CheckAnswer
-answer_of (stops.Found finding) = Rejected 0 finding
-answer_of stops.NoMemory = NoMemory
+abbrev pub answer_to : Stop → CheckAnswer
+answer_to (stops.Found finding) = Rejected 0 finding
+answer_to stops.NoMemory = NoMemory
 
 -- the first finding on outcome j, from 1, where those before it have none
 abbrev pub IsFirstOfOutcomes : Case → Report → ℕ → Finding → Type 0

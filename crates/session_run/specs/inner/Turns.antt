@@ -78,11 +78,11 @@ PlansSince p asked seen own seen_now own_now made = (before : List Entry) × IsP
 -- ---- commands
 
 -- the outcome stands behind the others, or there was none or no memory for it
-abbrev pub Keeps : Result Outcome NoMemory → List Outcome → List Outcome → Result (Unit {0}) Stop → Type 0
-Keeps (Ok o) before after (Ok u) = after ≡ before ++ o ∷ []
-Keeps (Ok o) before after (Err stop) = stop ≡ stops.NoMemory
-Keeps (Err fault) before after (Ok u) = ⊥
-Keeps (Err fault) before after (Err stop) = stop ≡ stops.NoMemory
+abbrev pub KeepsOutcome : Result Outcome NoMemory → List Outcome → List Outcome → Result (Unit {0}) Stop → Type 0
+KeepsOutcome (Ok o) before after (Ok u) = after ≡ before ++ o ∷ []
+KeepsOutcome (Ok o) before after (Err stop) = stop ≡ stops.NoMemory
+KeepsOutcome (Err fault) before after (Ok u) = ⊥
+KeepsOutcome (Err fault) before after (Err stop) = stop ≡ stops.NoMemory
 
 -- the next act of a caller is done: an edit, or a plan with one outcome more
 abbrev pub HasActed : Case → ℕ → Act → List Entry → List Entry → List Outcome → List Entry → List Entry → List Outcome → Type 0

@@ -13,8 +13,8 @@ abbrev pub one_where : Bool → ℕ
 one_where test = cond test 1 0
 
 -- 1 where k is at least low and below high
-abbrev pub within : ℕ → ℕ → ℕ → ℕ
-within low high k = one_where (nat_le low k && nat_lt k high)
+abbrev pub one_within : ℕ → ℕ → ℕ → ℕ
+one_within low high k = one_where (nat_le low k && nat_lt k high)
 
 -- how often p stands among the places
 abbrev pub times_at : ℕ → List ℕ → ℕ
@@ -80,9 +80,9 @@ module _ {T I O : Type 0} (history : T → List I) (origin_of_value : T → O) (
     pub units : sum_by (λ v. v.units) s.views ≡ 2 ^ 32
     pub tickets : sum_by (λ v. tickets_of v.stage) s.views + served ≡ drawn
     -- each ticket that was drawn and is not done is one pass's
-    pub each_ticket : (k : ℕ) → sum_by (λ v. ticket_at k v.stage) s.views ≡ within served drawn k
+    pub each_ticket : (k : ℕ) → sum_by (λ v. ticket_at k v.stage) s.views ≡ one_within served drawn k
     -- each place of the history is that of one pass's own item
-    pub each_place : (p : ℕ) → sum_by (λ v. times_at p v.places) s.views ≡ within 0 (length log) p
+    pub each_place : (p : ℕ) → sum_by (λ v. times_at p v.places) s.views ≡ one_within 0 (length log) p
     pub each_view : (j : ℕ) (v : View I O) → get_elem? s.views j ≡ some v → Knows log served origin v
     pub slot : HasSlot log s.homes s.views
 
