@@ -1,4 +1,4 @@
-ghost use Rattle.std.specs.Prelude.{◌≡◌, ◌<◌, ℕ, MatchOption};
+ghost use Rattle.std.specs.Prelude.{◌<◌, ℕ, MatchOption};
 ghost use Rattle.checked_fraction.specs.Rows.{IsNarrow};
 ghost use Rattle.net_core.specs.Views.{graph_of};
 ghost use Rattle.simplex_law.specs.Evidence.{IsWide};
