@@ -54,11 +54,11 @@ module _ {links demands : ℕ} {keys : ℕ → ℕ → ℤ} (bound : ℕ → ℤ
     before (suc k) l lm = link_entry k (omega (arith, l)) ∙ gone (u k) (v k) p q (links_same k (omega (arith, l)))
 
     pub by_targets : ((f : ℕ) → f < demands → pos 0 ≤ℤ ((p *ℤ (e *ℤ s f)) -ℤ (q *ℤ (d *ℤ t f)))) → IsNoLater m bound first p second q
-    by_targets high = lex_rest (suc m) (suc links) mixed before (λ k g l. behind k g l)
+    by_targets high = lex_rest (suc m) (suc links) mixed before (λ k g l. following k g l)
       where
-        behind : (k : ℕ) → suc links ≤ k → k < suc m → pos 0 ≤ℤ mixed k
-        behind zero g l = absurd (omega (arith, g))
-        behind (suc k) g l =
+        following : (k : ℕ) → suc links ≤ k → k < suc m → pos 0 ≤ℤ mixed k
+        following zero g l = absurd (omega (arith, g))
+        following (suc k) g l =
             let f = k - links in let is : links + f ≡ k = omega (arith, g) in
             subst (λ x. pos 0 ≤ℤ mixed (suc x)) is (subst (λ x. pos 0 ≤ℤ x) (sym (demand_entry f (omega (arith, g, l)))) (high f (omega (arith, g, l))))
 

@@ -13,10 +13,10 @@ use Rattle.snd_tokens.specs.Header.{first_line, trimmed}
 use Rattle.snd_tokens.specs.Lexemes.{Text, EndAt}
 use Rattle.text_kit.specs.Answers.{AnswersAs, ReadsAllAs}
 use Rattle.text_kit.specs.Files.{IsNotTooEarly, body}
-use Rattle.text_kit.specs.Items.{AreBehind, Item, Verbatim, Opening, Closing}
+use Rattle.text_kit.specs.Items.{ComeAfter, Item, Verbatim, Opening, Closing}
 use Rattle.text_kit.specs.Reading.{word_at, Parenthesis, no_fault, not_empty}
 use Rattle.text_kit.specs.declared.refusal.Refusal.{Refusal}
-use Rattle.text_kit.proofs.Behind.{all_behind, behind_all, behind_as, behind_both}
+use Rattle.text_kit.proofs.After.{all_after, after_all, after_as, after_both}
 use Rattle.text_kit.proofs.NameLaws.{IsNew, are_new, lawful_new_name, lawful_place, new_are}
 use Rattle.text_kit.proofs.Files.{answer_found, answer_only, answer_first, file_read}
 use Rattle.text_kit.proofs.Lawful.{AnyText, IsEnd, Lawful, lawful_as, lawful_give, lawful_list, lawful_open, lawful_some, lawful_then, lawful_whole, lawful_word}
@@ -49,13 +49,13 @@ name_at_place links e lt = rw (slice_get-get_or links e.0 no_link lt) refl
 
 -- a state that may stand after earlier ones
 abbrev IsStateAfter : List Link → List Listed → Listed → Type 0
-IsStateAfter links sofar s = IsNew (λ x. x.name) 256 sofar s.name × ((1 ≤ length s.links) × AreBehind (λ before e. IsLinkIn links e) [] s.links)
+IsStateAfter links sofar s = IsNew (λ x. x.name) 256 sofar s.name × ((1 ≤ length s.links) × ComeAfter (λ before e. IsLinkIn links e) [] s.links)
 
-are_states : (links : List Link) (listed : List Listed) → AreBehind (IsStateAfter links) [] listed → AreStates (length links) listed × All (IsShort links) listed
+are_states : (links : List Link) (listed : List Listed) → ComeAfter (IsStateAfter links) [] listed → AreStates (length links) listed × All (IsShort links) listed
 are_states links listed all =
-    let new = are_new (λ (s : Listed). s.name) 256 listed (behind_as (IsStateAfter links) (λ before s. IsNew (λ x. x.name) 256 before s.name) [] listed (λ before s h. h.0) all) in
-    let each : (P : Listed → Type 0) → ((before : List Listed) (s : Listed) → IsStateAfter links before s → P s) → All P listed = λ P to. behind_all P [] listed (behind_as (IsStateAfter links) (λ before s. P s) [] listed to all) in
-    let of_links : (P : LinkId → Type 0) (s : Listed) → ((e : LinkId) → IsLinkIn links e → P e) → AreBehind (λ before e. IsLinkIn links e) [] s.links → All P s.links = λ P s to h. behind_all P [] s.links (behind_as (λ before e. IsLinkIn links e) (λ before e. P e) [] s.links (λ before e i. to e i) h) in (
+    let new = are_new (λ (s : Listed). s.name) 256 listed (after_as (IsStateAfter links) (λ before s. IsNew (λ x. x.name) 256 before s.name) [] listed (λ before s h. h.0) all) in
+    let each : (P : Listed → Type 0) → ((before : List Listed) (s : Listed) → IsStateAfter links before s → P s) → All P listed = λ P to. after_all P [] listed (after_as (IsStateAfter links) (λ before s. P s) [] listed to all) in
+    let of_links : (P : LinkId → Type 0) (s : Listed) → ((e : LinkId) → IsLinkIn links e → P e) → ComeAfter (λ before e. IsLinkIn links e) [] s.links → All P s.links = λ P s to h. after_all P [] s.links (after_as (λ before e. IsLinkIn links e) (λ before e. P e) [] s.links (λ before e i. to e i) h) in (
       record {
         checked = record { few = new.0; some = each (λ s. 1 ≤ length s.links) (λ before s h. h.1.0); different = new.1 };
         known = each (λ s. All (λ e. e.0 < length links) s.links) (λ before s h. of_links (λ e. e.0 < length links) s (λ e i. i.0) h.1.1);
@@ -63,13 +63,13 @@ are_states links listed all =
       each (IsShort links) (λ before s h. (h.0.2, of_links (λ e. length (failing_link_name links e) ≤ 255) s (λ e i. i.1) h.1.1)),
     )
 
-are_behind : (links : List Link) (listed : List Listed) → AreStates (length links) listed × All (IsShort links) listed → AreBehind (IsStateAfter links) [] listed
-are_behind links listed h =
-    behind_as _ (IsStateAfter links) [] listed
-    (λ before s i. (i.0, (i.1.0, all_behind (IsLinkIn links) [] s.links (λ k d lt. (i.1.1 k d lt, i.1.2.1 k d lt)))))
-    (behind_both (λ before s. IsNew (λ x. x.name) 256 before s.name) _ [] listed
+are_after : (links : List Link) (listed : List Listed) → AreStates (length links) listed × All (IsShort links) listed → ComeAfter (IsStateAfter links) [] listed
+are_after links listed h =
+    after_as _ (IsStateAfter links) [] listed
+    (λ before s i. (i.0, (i.1.0, all_after (IsLinkIn links) [] s.links (λ k d lt. (i.1.1 k d lt, i.1.2.1 k d lt)))))
+    (after_both (λ before s. IsNew (λ x. x.name) 256 before s.name) _ [] listed
     (new_are (λ (s : Listed). s.name) 256 listed h.0.checked.few h.0.checked.different (λ k d lt. (h.1 k d lt).0))
-    (all_behind (λ s. (1 ≤ length s.links) × All (λ e. e.0 < length links) s.links × IsShort links s) [] listed (λ k d lt. (h.0.checked.some k d lt, h.0.known k d lt, h.1 k d lt))))
+    (all_after (λ s. (1 ≤ length s.links) × All (λ e. e.0 < length links) s.links × IsShort links s) [] listed (λ k d lt. (h.0.checked.some k d lt, h.0.known k d lt, h.1 k d lt))))
 
 -- ---- the law
 
@@ -93,7 +93,7 @@ state_lawful links pairs sofar = lawful_as (state_at links sofar) _ (state_items
     lawful_give (record { name = name; links = failing })))))
 
 states_lawful : (links : List Link) → AreDifferent links → Lawful (states_at links []) (λ xs. flat_map (state_items links) xs ++ Closing ∷ []) (λ xs. AreStates (length links) xs × All (IsShort links) xs) AnyText
-states_lawful links pairs = lawful_as (states_at links []) _ (λ xs. flat_map (state_items links) xs ++ Closing ∷ []) _ _ AnyText (λ xs h. refl) (λ xs h. are_states links xs h.1) (λ xs h. (refl, are_behind links xs h))
+states_lawful links pairs = lawful_as (states_at links []) _ (λ xs. flat_map (state_items links) xs ++ Closing ∷ []) _ _ AnyText (λ xs h. refl) (λ xs h. are_states links xs h.1) (λ xs h. (refl, are_after links xs h))
     (lawful_list Parenthesis no_fault (state_at links) (state_items links) (IsStateAfter links) (λ s. tt) (state_lawful links pairs))
 
 -- the first word, and what comes after it
@@ -105,9 +105,9 @@ abbrev word_for : Bool → List ℕ
 word_for true = codes "FAILURES"
 word_for false = codes "ALL_SINGLE_LINKS"
 
-abbrev items_behind : List Link → FailureList → List Item
-items_behind links (OneByOne listed) = Opening ∷ (flat_map (state_items links) listed ++ Closing ∷ [])
-items_behind links EachAlone = []
+abbrev items_after : List Link → FailureList → List Item
+items_after links (OneByOne listed) = Opening ∷ (flat_map (state_items links) listed ++ Closing ∷ [])
+items_after links EachAlone = []
 
 abbrev listed_of : FailureList → List Listed
 listed_of (OneByOne listed) = listed
@@ -135,7 +135,7 @@ IsOf links b l = (b ≡ is_one_by_one l) × IsListInForm links l
 abbrev WasListed : List Link → FailureList → Type 0
 WasListed links l = Unit {0} × ((AreStates (length links) (listed_of l) × All (IsShort links) (listed_of l)) × (OneByOne (listed_of l) ≡ l))
 
-listed_items : (links : List Link) (l : FailureList) → WasListed links l → Opening ∷ ((flat_map (state_items links) (listed_of l) ++ Closing ∷ []) ++ []) ≡ items_behind links l
+listed_items : (links : List Link) (l : FailureList) → WasListed links l → Opening ∷ ((flat_map (state_items links) (listed_of l) ++ Closing ∷ []) ++ []) ≡ items_after links l
 listed_items links (OneByOne listed) h = ap (λ (is : List Item). Opening ∷ is) (append-nil (flat_map (state_items links) listed ++ Closing ∷ []))
 listed_items links EachAlone h = absurd (let e : OneByOne [] ≡ EachAlone = h.1.1 in cc)
 
@@ -151,23 +151,23 @@ form_alone : (links : List Link) (l : FailureList) → IsOf links false l → Ea
 form_alone links (OneByOne listed) h = absurd (let e : false ≡ true = h.0 in cc)
 form_alone links EachAlone h = refl
 
-behind_lawful : (links : List Link) → AreDifferent links → (b : Bool) → Lawful (after_word links b) (items_behind links) (IsOf links b) AnyText
+after_lawful : (links : List Link) → AreDifferent links → (b : Bool) → Lawful (after_word links b) (items_after links) (IsOf links b) AnyText
 unfolding after_word
-behind_lawful links pairs true = lawful_as (after_word links true) _ (items_behind links) (WasListed links) (IsOf links true) AnyText (listed_items links) (listed_form links) (form_listed links)
+after_lawful links pairs true = lawful_as (after_word links true) _ (items_after links) (WasListed links) (IsOf links true) AnyText (listed_items links) (listed_form links) (form_listed links)
     (lawful_then _ _ _ _ _ _ AnyText (λ l. tt) (λ a l h. refl) (lawful_open Section Ended) (λ a.
     lawful_then _ _ _ _ _ _ AnyText listed_of (λ a l h. ap listed_of h) (states_lawful links pairs) (λ listed.
     lawful_give (OneByOne listed))))
-behind_lawful links pairs false = lawful_as (after_word links false) _ (items_behind links) _ (IsOf links false) AnyText
-    (λ l e. ap (items_behind links) e) (λ l e. subst (λ (x : FailureList). IsOf links false x) e (refl, tt)) (form_alone links) (lawful_give EachAlone)
+after_lawful links pairs false = lawful_as (after_word links false) _ (items_after links) _ (IsOf links false) AnyText
+    (λ l e. ap (items_after links) e) (λ l e. subst (λ (x : FailureList). IsOf links false x) e (refl, tt)) (form_alone links) (lawful_give EachAlone)
 
-all_items : (links : List Link) (l : FailureList) → Verbatim (word_for (is_one_by_one l)) ∷ items_behind links l ≡ list_items links l
+all_items : (links : List Link) (l : FailureList) → Verbatim (word_for (is_one_by_one l)) ∷ items_after links l ≡ list_items links l
 all_items links (OneByOne listed) = refl
 all_items links EachAlone = refl
 
 failures_lawful : (links : List Link) → AreDifferent links → Lawful (failures_at links) (list_items links) (IsListInForm links) IsEnd
 failures_lawful links pairs = lawful_whole Section (failure_list_at links) (list_items links) (IsListInForm links)
     (lawful_as (failure_list_at links) _ (list_items links) _ (IsListInForm links) AnyText (λ l h. all_items links l) (λ l h. h.1.1) (λ l h. (tt, (refl, h)))
-    (lawful_then _ _ _ _ _ _ AnyText is_one_by_one (λ b l h. h.0) first_lawful (behind_lawful links pairs)))
+    (lawful_then _ _ _ _ _ _ AnyText is_one_by_one (λ b l h. h.0) first_lawful (after_lawful links pairs)))
 
 -- ---- faults stand where they are met
 
@@ -192,16 +192,16 @@ pub state_some : (links : List Link) (sofar : List Listed) → TakesSome (state_
 unfolding state_at
 state_some links sofar = takes_some (state_at links sofar) (state_online links sofar) (λ p. Ended) (λ p. refl)
 
-behind_online : (links : List Link) (b : Bool) → IsOnline (after_word links b)
+after_online : (links : List Link) (b : Bool) → IsOnline (after_word links b)
 unfolding after_word
-behind_online links true =
+after_online links true =
     online_then _ _ (online_open Section Ended) (λ a.
     online_then _ _ (online_list Parenthesis no_fault (state_at links) (state_online links) (state_some links) []) (λ listed.
     online_give (OneByOne listed)))
-behind_online links false = online_give EachAlone
+after_online links false = online_give EachAlone
 
 failures_online : (links : List Link) → IsOnline (failures_at links)
-failures_online links = online_whole Section (failure_list_at links) (online_then _ _ (online_word Section Ended is_list) (behind_online links))
+failures_online links = online_whole Section (failure_list_at links) (online_then _ _ (online_word Section Ended is_list) (after_online links))
 
 -- ---- whole files
 

@@ -6,8 +6,8 @@ use Rattle.std.proofs.lemmas.Bool.{cases_Bool}
 use Rattle.std.proofs.lemmas.List.Folds.{Any-from_list_any, list_any-from_Any}
 use Rattle.net_core.specs.Tests.{are_same}
 use Rattle.net_core.proofs.Checks.{none_passes, not_true, same_is}
-use Rattle.text_kit.specs.Items.{AreBehind}
-use Rattle.text_kit.proofs.Behind.{behind_differ, differ_behind}
+use Rattle.text_kit.specs.Items.{ComeAfter}
+use Rattle.text_kit.proofs.After.{after_differ, differ_after}
 use Rattle.text_kit.proofs.Lawful.{is_same}
 use Rattle.model_reader.specs.declared.model.ModelKey.{ModelKey}
 use Rattle.model_reader.specs.declared.model.ModelKey.TheVariants.{Demand, Link, LinkCapacity, FixedCharge, Routing, AdmissiblePath, HopLimit, Survivability}
@@ -61,8 +61,8 @@ key_takes sofar w k e =
     let t = new_takes sofar (key_of_word w) k e in
     (t.1, sym (same_is (key_word k) w (first_passes (λ x. are_same (key_word x) w) all_keys k t.0)))
 
-pub key_behind_again : (sofar : List Setting) (w : List ℕ) (k : ModelKey) → has_key sofar k ≡ false → w ≡ key_word k → key_after sofar w ≡ Ok k
-key_behind_again sofar w k new is = ap (key_after sofar) is ∙ (ap (new_key sofar) (key_again k) ∙ ap (λ (b : Bool). cond b (Err kinds.DoubleKey) (Ok k)) new)
+pub key_after_again : (sofar : List Setting) (w : List ℕ) (k : ModelKey) → has_key sofar k ≡ false → w ≡ key_word k → key_after sofar w ≡ Ok k
+key_after_again sofar w k new is = ap (key_after sofar) is ∙ (ap (new_key sofar) (key_again k) ∙ ap (λ (b : Bool). cond b (Err kinds.DoubleKey) (Ok k)) new)
 
 -- ---- a value of a key
 
@@ -130,11 +130,11 @@ first_none p (x ∷ xs) h = rw (h x) (first_none p xs h)
 
 -- none missing, and none twice
 abbrev pub IsComplete : List Setting → Type 0
-IsComplete settings = (missing settings ≡ None) × AreBehind (λ sofar s. has_key sofar (key_of s) ≡ false) [] settings
+IsComplete settings = (missing settings ≡ None) × ComeAfter (λ sofar s. has_key sofar (key_of s) ≡ false) [] settings
 
 pub each_once : (settings : List Setting) → IsComplete settings → IsEachOnce settings
 each_once settings h = record {
-  different = λ i j d lt within same. behind_differ (λ s. key_word (key_of s)) settings h.1 i j d lt within (ap key_word same);
+  different = λ i j d lt within same. after_differ (λ s. key_word (key_of s)) settings h.1 i j d lt within (ap key_word same);
   all = λ k.
       let a = Any-from_list_any (λ s. are_same (key_word (key_of s)) (key_word k)) settings (has_all settings h.0 k) in
       (a.0, a.1, a.2, a.3, words_apart (key_of a.1) k (same_is (key_word (key_of a.1)) (key_word k) a.4));
@@ -145,5 +145,5 @@ complete settings once = (
   ap (option_map (λ k. kinds.Missing k)) (first_none (λ k. not (has_key settings k)) all_keys (λ k.
       let a = once.all k in
       ap not (list_any-from_Any (λ s. are_same (key_word (key_of s)) (key_word k)) settings (a.0, a.1, a.2, a.3, ap (λ x. are_same (key_word x) (key_word k)) a.4 ∙ is_same (key_word k))))),
-  differ_behind (λ s. key_word (key_of s)) [] settings (λ i j d lt within same. once.different i j d lt within (words_apart _ _ same)),
+  differ_after (λ s. key_word (key_of s)) [] settings (λ i j d lt within same. once.different i j d lt within (words_apart _ _ same)),
 )

@@ -19,10 +19,10 @@ use Rattle.model_reader.specs.declared.model.ModelKind.TheVariants.{Header, Toke
 use Rattle.model_reader.specs.declared.model.Setting.{Setting}
 use Rattle.model_reader.specs.Models.{IsEachOnce, SpellsModel, model_header, key_of, key_word, model_of_settings, setting_items, value_word}
 use Rattle.model_reader.specs.ModelReading.{has_key, key_after, missing, model_of, setting_at, settings_at, value_of}
-use Rattle.model_reader.proofs.ModelKeys.{complete, each_once, key_behind_again, key_takes, value_again, value_takes}
+use Rattle.model_reader.proofs.ModelKeys.{complete, each_once, key_after_again, key_takes, value_again, value_takes}
 
 key_lawful : (sofar : List Setting) → Lawful (word_at Token Ended (key_after sofar)) (λ k. Verbatim (key_word k) ∷ []) (λ k. has_key sofar k ≡ false) AnyText
-key_lawful sofar = lawful_word Token Ended (key_after sofar) (λ k. Verbatim (key_word k)) (λ k. has_key sofar k ≡ false) (λ k. tt) (key_takes sofar) (λ w k new is. key_behind_again sofar w k new is)
+key_lawful sofar = lawful_word Token Ended (key_after sofar) (λ k. Verbatim (key_word k)) (λ k. has_key sofar k ≡ false) (λ k. tt) (key_takes sofar) (λ w k new is. key_after_again sofar w k new is)
 
 value_lawful : (k : ModelKey) → Lawful (word_at Token Ended (value_of k)) (λ s. Verbatim (value_word s) ∷ []) (λ s. k ≡ key_of s) AnyText
 value_lawful k = lawful_word Token Ended (value_of k) (λ s. Verbatim (value_word s)) (λ s. k ≡ key_of s) (λ s. tt) (value_takes k) (λ w s is value. value_again k w s is value)

@@ -124,7 +124,7 @@ module _ (p : Case) (snapshot : List CutLine) where
     first_of_two (x ∷ y ∷ ys) lengths first rest opening inside =
         absurd (omega (arith, opening_few (graph_in p s) (x ∷ y ∷ (ys ++ lengths ∷ rest)) opening, length-append ys (lengths ∷ rest)))
 
-    -- one that it lacks goes behind
+    -- one that it lacks goes after
     pub opened_new : (cut : CutLine) (rest : List (List ℕ)) → cut.state.0 ≡ s → IsCut p cut → AreOpening (graph_in p s) (taken ++ cut.lengths ∷ rest) → Lacks cuts cut
         → IsOpenedTo p snapshot s (taken ++ cut.lengths ∷ []) (cuts ++ cut ∷ [])
     opened_new cut rest of_state is opening lacks = record {
@@ -137,7 +137,7 @@ module _ (p : Case) (snapshot : List CutLine) where
         among = among;
       });
       lacking = All-push (Lacks snapshot) o.opened cut o.lacking snapshot_lacks;
-      ordered = all_pairs_push (OpensBefore p) o.opened cut o.ordered (λ k d lt. behind (get_or o.opened k d) (o.reach k d lt));
+      ordered = all_pairs_push (OpensBefore p) o.opened cut o.ordered (λ k d lt. following (get_or o.opened k d) (o.reach k d lt));
       before = λ t lt. more t (o.before t lt);
       here = All-push (λ ls. HasCut (cuts ++ cut ∷ []) s ls) taken cut.lengths
           (All-weaker (λ ls. HasCut cuts s ls) (λ ls. HasCut (cuts ++ cut ∷ []) s ls) (λ ls has. any_more (λ c. (c.state.0 ≡ s) × (c.lengths ≡ ls)) cuts (cut ∷ []) has) taken o.here)
@@ -159,9 +159,9 @@ module _ (p : Case) (snapshot : List CutLine) where
         same_state : (s t : StateId) → s.0 ≡ t.0 → s ≡ t
         same_state s t e = ap (λ n. record { 0 = n }) e
 
-        behind : (a : CutLine) → IsReached s taken a → OpensBefore p a cut
-        behind a (inl l) = inl (subst (λ t. a.state.0 < t) (sym of_state) l)
-        behind a (inr r) = inr (same_state a.state cut.state (r.0 ∙ sym of_state), subst (λ t. AreOpening (graph_in p t) (a.lengths ∷ cut.lengths ∷ [])) (sym r.0) (first_of_two taken cut.lengths a.lengths rest opening r.1))
+        following : (a : CutLine) → IsReached s taken a → OpensBefore p a cut
+        following a (inl l) = inl (subst (λ t. a.state.0 < t) (sym of_state) l)
+        following a (inr r) = inr (same_state a.state cut.state (r.0 ∙ sym of_state), subst (λ t. AreOpening (graph_in p t) (a.lengths ∷ cut.lengths ∷ [])) (sym r.0) (first_of_two taken cut.lengths a.lengths rest opening r.1))
 
         more : (t : ℕ) → HasOpeningOf p cuts t → HasOpeningOf p (cuts ++ cut ∷ []) t
         more t h = record {

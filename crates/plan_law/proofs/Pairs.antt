@@ -1,4 +1,4 @@
--- pairs of the items of two lists, one behind the other
+-- pairs of the items of two lists, one after the other
 use Rattle.std.proofs.Common.{◌≡◌, ℕ, ◌+◌, ◌-◌, ◌<◌, ◌≤◌, List, ◌++◌, AllPairs, Any, length, min, take, get_or, sym, ◌∙◌, arith, subst, ⊎_elim}
 use Rattle.std.proofs.lemmas.Bool.{cases_lt}
 use Rattle.std.proofs.lemmas.List.{get_or_append_left, get_or-append-add, get_or-take, length-append, length-take}

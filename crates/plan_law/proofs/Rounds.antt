@@ -1,4 +1,4 @@
--- a round behind a worked list makes a worked list
+-- a round after a worked list makes a worked list
 use Rattle.std.proofs.Common.{◌≡◌, ◌≢◌, ℕ, ◌+◌, ◌*◌, ◌<◌, ◌≤◌, List, [], ◌∷◌, ◌++◌, All, Contains, length, min, take, sum_by, zip, get_or, refl, sym, ap, ◌∙◌, arith, subst}
 use Rattle.std.proofs.lemmas.List.{append_assoc, length-append, length-take}
 use Rattle.std.proofs.lemmas.List.Elements.{All-append, All-take, All-weaker, Contains-append_right, Contains-get_or}
@@ -61,7 +61,7 @@ module _ (p : Case) (pairs : List UnitPair) (units : AreUnitPairs p.links pairs)
     are_rounds = tt;
     whole = refl;
     added = begins.opened;
-    behind = begins.whole;
+    following = begins.whole;
     few = let long : length start ≡ length snapshot + length begins.opened = ap length begins.whole ∙ length-append snapshot begins.opened in omega (arith, long, room);
     different = opened_differ p begins.opened begins.ordered;
   }
@@ -84,7 +84,7 @@ module _ (p : Case) (pairs : List UnitPair) (snapshot : List CutLine) (rounds : 
   worked_differ different = subst AreDifferentCuts (sym w.whole)
       (rounds_differ p pairs w.units w.start rounds (beginning_cuts p snapshot w.start known w.begins) (beginning_differ p snapshot w.start different w.begins) w.are_rounds)
 
-  -- a worked list and a round behind it are a worked list, as long as there is room
+  -- a worked list and a round after it are a worked list, as long as there is room
   pub worked_on : (round : Round) → IsRound p pairs cuts round → length cuts + length round.cuts ≤ length snapshot + 4096 → IsWorkedList p pairs snapshot (round ∷ rounds) (cuts ++ round.cuts)
   worked_on round is room = record {
     units = w.units;
@@ -93,11 +93,11 @@ module _ (p : Case) (pairs : List UnitPair) (snapshot : List CutLine) (rounds : 
     are_rounds = (subst (λ cs. IsRound p pairs cs round) w.whole is, w.are_rounds);
     whole = ap (λ cs. cs ++ round.cuts) w.whole;
     added = w.added ++ round.cuts;
-    behind = ap (λ cs. cs ++ round.cuts) w.behind ∙ append_assoc snapshot w.added round.cuts;
+    following = ap (λ cs. cs ++ round.cuts) w.following ∙ append_assoc snapshot w.added round.cuts;
     few =
-        let long : length cuts ≡ length snapshot + length w.added = ap length w.behind ∙ length-append snapshot w.added in
+        let long : length cuts ≡ length snapshot + length w.added = ap length w.following ∙ length-append snapshot w.added in
         omega (arith, long, room, length-append w.added round.cuts);
-    different = round_differs p pairs w.units cuts round w.added worked_cuts is (λ c h. subst (λ cs. Contains cs c) (sym w.behind) (Contains-append_right snapshot w.added c h)) w.different;
+    different = round_differs p pairs w.units cuts round w.added worked_cuts is (λ c h. subst (λ cs. Contains cs c) (sym w.following) (Contains-append_right snapshot w.added c h)) w.different;
   }
 
   -- and so are as many cuts of the round as there is room for

@@ -35,7 +35,7 @@ WorkedListsBegin = (p : Case) (pairs : List UnitPair) (snapshot start : List Cut
     → length start ≤ length snapshot + 4096
     → IsWorkedList p pairs snapshot [] start
 
--- a worked list and a round behind it are a worked list, as long as there is room
+-- a worked list and a round after it are a worked list, as long as there is room
 abbrev pub WorkedListsGoOn : Type 0
 WorkedListsGoOn = (p : Case) (pairs : List UnitPair) (snapshot : List CutLine) (rounds : List Round) (cuts : List CutLine) (round : Round)
     → All (IsCut p) snapshot

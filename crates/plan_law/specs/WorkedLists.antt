@@ -74,13 +74,13 @@ pub record IsFoundCut (p : Case) (pairs : List UnitPair) (share : Share) (cut : 
   pub priced : ArePricedSomewhere lengths
   pub kept : Keeps (graph_in p cut.state.0) lengths cut.lengths
 
--- a round behind a list: all its cuts are found at one least share of the list, and no two are of one state
+-- a round after a list: all its cuts are found at one least share of the list, and no two are of one state
 pub record IsRound (p : Case) (pairs : List UnitPair) (before : List CutLine) (round : Round) : Type 0 where
   pub least : IsLeastShare p.links pairs before round.share
   pub found : All (IsFoundCut p pairs round.share) round.cuts
   pub states : AllPairs (λ a b. a.state ≢ b.state) round.cuts
 
--- each round is one behind the list before it
+-- each round is one after the list before it
 abbrev pub AreRounds : Case → List UnitPair → List CutLine → List Round → Type 0
 AreRounds p pairs start [] = Unit {0}
 AreRounds p pairs start (last ∷ earlier) = IsRound p pairs (after_rounds start earlier) last × AreRounds p pairs start earlier
@@ -99,6 +99,6 @@ pub record IsWorkedList (p : Case) (pairs : List UnitPair) (snapshot : List CutL
   pub are_rounds : AreRounds p pairs start rounds
   pub whole : cuts ≡ after_rounds start rounds
   pub added : List CutLine
-  pub behind : cuts ≡ snapshot ++ added
+  pub following : cuts ≡ snapshot ++ added
   pub few : length added ≤ 4096
   pub different : AreDifferentCuts added

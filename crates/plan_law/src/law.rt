@@ -10,7 +10,7 @@ pub fn worked_lists_begin()
     ensures { WorkedListsBegin }
 {}
 
-/// A worked list and a round behind it are a worked list, as long as no more than 4,096 cuts are added.
+/// A worked list and a round after it are a worked list, as long as no more than 4,096 cuts are added.
 pub fn worked_lists_go_on()
     ensures { WorkedListsGoOn }
 {}

@@ -5,9 +5,9 @@ use Rattle.net_core.specs.declared.network.Link.{Link}
 use Rattle.net_core.specs.declared.states.Listed.{Listed}
 use Rattle.plan_types.specs.declared.report.Report.{Report}
 use Rattle.text_kit.specs.Files.{IsFileOf}
-use Rattle.text_kit.specs.Items.{AreBehind}
+use Rattle.text_kit.specs.Items.{ComeAfter}
 use Rattle.text_kit.proofs.Adding.{writable}
-use Rattle.text_kit.proofs.Behind.{behind_all, behind_as}
+use Rattle.text_kit.proofs.After.{after_all, after_as}
 use Rattle.text_kit.proofs.Files.{written_is_read}
 use Rattle.plan_report.specs.Forms.{IsDemandInForm, IsReportInForm}
 use Rattle.plan_report.specs.Items.{report_items}
@@ -15,10 +15,10 @@ use Rattle.plan_report.specs.Texts.{SpellsReport, report_header}
 use Rattle.text_kit.specs.Written.{AddsItems}
 use Rattle.plan_report.specs.inner.Writable.{IsWritableDemand}
 
-pub writable_demands : (nodes : List (List ℕ)) (demands : List Demand) → AreBehind (IsDemandInForm nodes) [] demands → All (IsWritableDemand nodes) demands
+pub writable_demands : (nodes : List (List ℕ)) (demands : List Demand) → ComeAfter (IsDemandInForm nodes) [] demands → All (IsWritableDemand nodes) demands
 writable_demands nodes demands all =
-    behind_all (IsWritableDemand nodes) [] demands
-    (behind_as (IsDemandInForm nodes) (λ before d. IsWritableDemand nodes d) [] demands (λ before d h. record { from = h.from; to = h.to; need = h.need }) all)
+    after_all (IsWritableDemand nodes) [] demands
+    (after_as (IsDemandInForm nodes) (λ before d. IsWritableDemand nodes d) [] demands (λ before d h. record { from = h.from; to = h.to; need = h.need }) all)
 
 pub text_spells : (nodes : List (List ℕ)) (links : List Link) (listed : List Listed) (r : Report) (text : List ℕ)
     → IsReportInForm nodes links listed r → AddsItems (report_header ++ 10 ∷ []) (report_items nodes links listed r) text → SpellsReport nodes links listed text r

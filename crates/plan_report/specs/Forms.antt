@@ -37,7 +37,7 @@ use Rattle.plan_types.specs.declared.quality.Share.{Share}
 use Rattle.plan_types.specs.declared.report.Outcome.{Outcome}
 use Rattle.plan_types.specs.declared.report.Outcome.TheVariants.{Planned, Unsurvivable}
 use Rattle.plan_types.specs.declared.report.Report.{Report}
-use Rattle.text_kit.specs.Items.{AreBehind}
+use Rattle.text_kit.specs.Items.{ComeAfter}
 use Rattle.text_kit.specs.Edits.{IsEditInForm}
 
 -- ---- numbers, cuts and paths
@@ -175,7 +175,7 @@ pub record IsCertificateInForm (links : List Link) (listed : List Listed) (c : C
 pub record IsPlanInForm (nodes : List (List ℕ)) (links : List Link) (listed : List Listed) (p : Plan) : Type 0 where
   pub version : p.version ≤ 65536
   pub position : p.position ≤ 65536
-  pub demands : AreBehind (IsDemandInForm nodes) [] p.demands
+  pub demands : ComeAfter (IsDemandInForm nodes) [] p.demands
   pub counts : AreCounts links p.counts
   pub limits : AreWithinLimits links p.counts
   pub cost : p.cost < 2 ^ 126

@@ -218,7 +218,7 @@ pub record IsRoundOfPool (p : Case) (pairs : List UnitPair) (old_made : List Cut
   pub list : IsWorkedList p pairs [] rounds made
   pub pooled : map cut_of_line made ≡ pool ++ cuts
   pub found : List CutLine
-  pub behind : made ≡ old_made ++ found
+  pub following : made ≡ old_made ++ found
   pub are : map cut_of_line found ≡ cuts
   pub are_cuts : All (IsCut p) found
 
@@ -246,7 +246,7 @@ pool_round p pairs caps pool lines share cuts old least found separates differen
       list = worked_on p pairs [] old.rounds old.made (All-nil (IsCut p)) old.list round is (omega (arith, one, two, few, length-append pool cuts));
       pooled = map-append cut_of_line old.made ls ∙ (ap (λ xs. xs ++ map cut_of_line ls) old.pooled ∙ ap (λ xs. pool ++ xs) of_cuts.1.same);
       found = ls;
-      behind = refl;
+      following = refl;
       are = of_cuts.1.same;
       are_cuts = All-weaker (IsFoundCut p pairs share) (IsCut p) (λ l f. f.is_cut) ls is_found;
     })
@@ -258,7 +258,7 @@ pool_round p pairs caps pool lines share cuts old least found separates differen
       list = old.list;
       pooled = old.pooled ∙ sym (ap (λ xs. pool ++ xs) none ∙ append-nil pool);
       found = [];
-      behind = sym (append-nil old.made);
+      following = sym (append-nil old.made);
       are = sym none;
       are_cuts = All-nil (IsCut p);
     })

@@ -123,7 +123,7 @@ module _ (p : Case) (pairs : List UnitPair) (units : AreUnitPairs p.links pairs)
     old_stands : All (λ line. Contains (cuts_of h1) (cut_of_line line)) old.lines
     old_stands k d lt =
         let line : CutLine = get_or old.lines k d in
-        let held : Contains round.made line = subst (λ xs. Contains xs line) (sym round.behind) (Contains-append_left pool.made round.found line (same.to line (Contains-get_or old.lines k d lt))) in
+        let held : Contains round.made line = subst (λ xs. Contains xs line) (sym round.following) (Contains-append_left pool.made round.found line (same.to line (Contains-get_or old.lines k d lt))) in
         subst (λ xs. Contains xs (cut_of_line line)) (round.pooled ∙ sym since) (cut_among round.made line held)
 
     few_both : length old.lines + length a.found.lines ≤ length (cuts_of h1)
@@ -147,13 +147,13 @@ module _ (p : Case) (pairs : List UnitPair) (units : AreUnitPairs p.links pairs)
           let one = few_both in
           let two = few_since in
           let all = ap length since in
-          let behind = ap length round.behind in
+          let following = ap length round.following in
           let are = ap length round.are in
           let before = ap length pool.pooled in
           let count = same.count in
-          omega (arith, one, two, all, behind, are, before, count, length-append old.lines a.found.lines, length-append (cuts_of h) (cuts_since o o1), length-append pool.made round.found, length-map round.found cut_of_line, length-map pool.made cut_of_line);
+          omega (arith, one, two, all, following, are, before, count, length-append old.lines a.found.lines, length-append (cuts_of h) (cuts_since o o1), length-append pool.made round.found, length-map round.found cut_of_line, length-map pool.made cut_of_line);
       to = λ line here. ⊎_elim
-          (λ first. subst (λ xs. Contains xs line) (sym round.behind) (Contains-append_left pool.made round.found line (same.to line first)))
+          (λ first. subst (λ xs. Contains xs line) (sym round.following) (Contains-append_left pool.made round.found line (same.to line first)))
           (λ second. of_made line (All-contains (IsCut p) a.found.lines line found_cuts second) (All-contains (λ x. Contains (cuts_of h1) (cut_of_line x)) a.found.lines line found_stands second))
           (Contains-append_cases old.lines a.found.lines line here);
       back = λ line here. ⊎_elim
@@ -164,7 +164,7 @@ module _ (p : Case) (pairs : List UnitPair) (units : AreUnitPairs p.links pairs)
           let found = line_of_cut a.found.lines (cut_of_line line) told in
           let once = line_once p found.0 line (All-contains (IsCut p) a.found.lines found.0 found_cuts found.1) (All-contains (IsCut p) round.found line round.are_cuts second) found.2 in
           Contains-append_right old.lines a.found.lines line (subst (Contains a.found.lines) once found.1))
-          (Contains-append_cases pool.made round.found line (subst (λ xs. Contains xs line) round.behind here));
+          (Contains-append_cases pool.made round.found line (subst (λ xs. Contains xs line) round.following here));
     }
 
   same_or_full : (room : ℕ) (new : Candidates) → length old.lines + room ≡ 4096 → AddsFirst room a.found old new → HasSameCuts new.lines round.made ⊎ (length (cuts_of h1) ≡ 4096)

@@ -73,13 +73,13 @@ stand_append h xs ys ss ts first second = record {
   each = λ i line spot one two. ⊎_elim
       (λ (front : (i < length xs) × (slice_get xs i ≡ Some line)). ⊎_elim
       (λ (there : (i < length ss) × (slice_get ss i ≡ Some spot)). first.each i line spot front.1 there.1)
-      (λ (behind : (j : ℕ) × (i ≡ length ss + j) × (slice_get ts j ≡ Some spot)). absurd (let a = first.count in omega (arith, front.0, behind.1, a)))
+      (λ (following : (j : ℕ) × (i ≡ length ss + j) × (slice_get ts j ≡ Some spot)). absurd (let a = first.count in omega (arith, front.0, following.1, a)))
       (get_either ss ts i spot two))
       (λ (back : (j : ℕ) × (i ≡ length xs + j) × (slice_get ys j ≡ Some line)). ⊎_elim
       (λ (there : (i < length ss) × (slice_get ss i ≡ Some spot)). absurd (let a = first.count in omega (arith, there.0, back.1, a)))
-      (λ (behind : (j : ℕ) × (i ≡ length ss + j) × (slice_get ts j ≡ Some spot)).
-      let same : behind.0 ≡ back.0 = let a = first.count in omega (arith, back.1, behind.1, a) in
-      second.each back.0 line spot back.2 (subst (λ j. slice_get ts j ≡ Some spot) same behind.2))
+      (λ (following : (j : ℕ) × (i ≡ length ss + j) × (slice_get ts j ≡ Some spot)).
+      let same : following.0 ≡ back.0 = let a = first.count in omega (arith, back.1, following.1, a) in
+      second.each back.0 line spot back.2 (subst (λ j. slice_get ts j ≡ Some spot) same following.2))
       (get_either ss ts i spot two))
       (get_either xs ys i line one);
 }
@@ -237,7 +237,7 @@ module _ (p : Case) (pairs : List UnitPair) where
       are_rounds = (subst (λ cs. IsRound p pairs cs here) w.list.whole f.round, w.list.are_rounds);
       whole = ap (λ cs. cs ++ f.found) w.list.whole;
       added = longer.added;
-      behind = longer.behind;
+      following = longer.following;
       few = longer.few;
       different = longer.different;
     };

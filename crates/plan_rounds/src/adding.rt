@@ -4,7 +4,7 @@ ghost use Rattle.plan_rounds.specs.inner.Turns.{AddsFirst};
 use crate::candidates::Candidates;
 use net_core::{List, NoMemory};
 
-/// Puts the first items of a list behind those of another.
+/// Puts the first items of a list after those of another.
 fn add_items<T: Drop>(items: List<T>, most: usize, into: &mut List<T>) -> Result<(), NoMemory>
     ensures { OnOk result (into.new ≡ into.old ++ take most items) }
 {
@@ -17,7 +17,7 @@ fn add_items<T: Drop>(items: List<T>, most: usize, into: &mut List<T>) -> Result
     Ok(())
 }
 
-/// Puts the first cuts, as many as there is room for, behind others, with their spots.
+/// Puts the first cuts, as many as there is room for, after others, with their spots.
 pub fn add_first(
     found: Candidates,
     room: usize,

@@ -52,7 +52,7 @@ fn stands(lines: &[CutLine], line: &CutLine) -> bool
     false
 }
 
-/// Puts a line behind the others, with its spot, unless its cut stands among them.
+/// Puts a line after the others, with its spot, unless its cut stands among them.
 fn put_line(line: CutLine, spot: Spot, candidates: &mut Candidates) -> Result<(), NoMemory>
     ensures { OnOk result (PutsLine line spot candidates.old candidates.new) }
 {
@@ -64,7 +64,7 @@ fn put_line(line: CutLine, spot: Spot, candidates: &mut Candidates) -> Result<()
     Ok(())
 }
 
-/// Admits a cut to the pool, and puts it behind the others, unless it stands among them.
+/// Admits a cut to the pool, and puts it after the others, unless it stands among them.
 pub fn take_cut<S: Separate>(
     instance: &Instance,
     cut: Cut,

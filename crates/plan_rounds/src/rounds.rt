@@ -238,7 +238,7 @@ fn opened_turns<S: Separate>(
     turns(alloc, instance, &pairs, most, candidates, separator)
 }
 
-/// Works on the cuts of a pool: puts the opening cuts of each state behind them, and then, turn by turn, the cuts that the share of the
+/// Works on the cuts of a pool: puts the opening cuts of each state after them, and then, turn by turn, the cuts that the share of the
 /// best certificate so far violates, until it violates none, a number is too wide, or 4,096 cuts were added and it violates a further one.
 ///
 /// The separator is one of the instance's network and states, no state separates a demand, and the pool is what the separator's history

@@ -53,10 +53,10 @@ bound_back links a b c d bound some_b some_d same is = record {
 
 -- ---- best certificates
 
-module _ (w : Worked) (cuts more : List CutLine) (behind : w.lines ≡ cuts ++ more) where
+module _ (w : Worked) (cuts more : List CutLine) (following : w.lines ≡ cuts ++ more) where
   -- the cut at a place of the cuts before is that at the same place of all
   cut_before : (k : ℕ) → k < length cuts → cut_at w.lines k ≡ cut_at cuts k
-  cut_before k lt = ap (λ xs. cut_at xs k) behind ∙ get_or_append_left cuts more none_cut k lt
+  cut_before k lt = ap (λ xs. cut_at xs k) following ∙ get_or_append_left cuts more none_cut k lt
 
   same_lines : (ms : List Multiplier) → All (λ m. m.cut < length cuts) ms → map (λ (l : CertLine). record { cut = l.cut; num = l.num }) (map (line_at w) ms) ≡ lines_of cuts ms
   same_lines [] all = refl
@@ -69,19 +69,19 @@ module _ (w : Worked) (cuts more : List CutLine) (behind : w.lines ≡ cuts ++ m
 
   places_before : (ms : List Multiplier) → All (λ m. m.cut < length cuts) ms → All (λ m. m.cut < length w.lines) ms
   places_before ms all k d lt =
-      let long = ap length behind in
+      let long = ap length following in
       let one = all k d lt in
       omega (arith, one, long, length-append cuts more)
 
-module _ (p : Case) (history : List Entry) (w : Worked) (are : AreCandidates p history w) (cuts more : List CutLine) (behind : w.lines ≡ cuts ++ more) (best : Best) (of : IsBestOf p.links cuts best) where
+module _ (p : Case) (history : List Entry) (w : Worked) (are : AreCandidates p history w) (cuts more : List CutLine) (following : w.lines ≡ cuts ++ more) (best : Best) (of : IsBestOf p.links cuts best) where
   ms : List Multiplier
   ms = best.multipliers
 
   cuts_are : All (IsCut p) cuts
   cuts_are k d lt =
-      let long = ap length behind in
+      let long = ap length following in
       let inside : k < length w.lines = omega (arith, lt, long, length-append cuts more) in
-      subst (IsCut p) (ap (λ xs. get_or xs k d) behind ∙ get_or_append_left cuts more d k lt) (are.cuts k d inside).cut_is
+      subst (IsCut p) (ap (λ xs. get_or xs k d) following ∙ get_or_append_left cuts more d k lt) (are.cuts k d inside).cut_is
 
   certificate_before : IsCertificate p best.den (lines_of cuts best.multipliers)
   certificate_before = of.certificate p refl cuts_are
@@ -94,14 +94,14 @@ module _ (p : Case) (history : List Entry) (w : Worked) (are : AreCandidates p h
       (omega (arith, small.0, is.asked_limit), lowest_positive (raw_value p.links (lines_of cuts best.multipliers)) best.den best.raw_num best.raw_den is.positive of.raw, omega (arith, small.1, is.den_limit))
 
   pub best_multipliers : AreMultipliersOf w best
-  best_multipliers = record { num = raw_limits.0; positive = raw_limits.1; den = raw_limits.2; listed = places_before w cuts more behind best.multipliers of.multipliers.listed }
+  best_multipliers = record { num = raw_limits.0; positive = raw_limits.1; den = raw_limits.2; listed = places_before w cuts more following best.multipliers of.multipliers.listed }
 
   -- what holds of each cut with its spot holds of each line
   pub lines_of_best : (P : CutLine → Spot → Type 0) → ((i : ℕ) (line : CutLine) (spot : Spot) → slice_get w.lines i ≡ Some line → slice_get w.spots i ≡ Some spot → P line spot)
       → All (λ (l : CertLine). P l.cut l.spot) (map (line_at w) best.multipliers)
   lines_of_best P each = All-map (λ (l : CertLine). P l.cut l.spot) (line_at w) best.multipliers (λ k d lt.
       let m : Multiplier = get_or best.multipliers k d in
-      let inside : m.cut < length w.lines = places_before w cuts more behind best.multipliers of.multipliers.listed k d lt in
+      let inside : m.cut < length w.lines = places_before w cuts more following best.multipliers of.multipliers.listed k d lt in
       each m.cut (cut_at w.lines m.cut) (get_or w.spots m.cut Local)
       (slice_get-get_or w.lines m.cut none_cut inside)
       (slice_get-get_or w.spots m.cut Local (omega (arith, inside, are.stand.count))))
@@ -129,7 +129,7 @@ module _ (p : Case) (history : List Entry) (w : Worked) (are : AreCandidates p h
 
     pub best_is_certified : IsCertifiedBound p history (bound_made w best bound)
     best_is_certified =
-        let same = same_lines w cuts more behind best.multipliers of.multipliers.listed in
+        let same = same_lines w cuts more following best.multipliers of.multipliers.listed in
         let is = certificate_before in
         record {
           certificate = subst (IsCertificate p best.den) (sym same) is;

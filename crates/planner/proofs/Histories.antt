@@ -17,7 +17,7 @@ use Rattle.plan_terms.specs.Edits.{Answered, added, edit_reply, is_demand, next_
 use Rattle.cut_pool.specs.declared.board.Board.{Board}
 use Rattle.cut_pool.specs.Histories.{Dated, cut_of_line, cuts_of, left_by, left_by_entry, version_left}
 use Rattle.cut_pool.specs.Pools.{line_of_pooled}
-pub use Rattle.separator.proofs.Pooling.{cuts_both, get_behind}
+pub use Rattle.separator.proofs.Pooling.{cuts_both, get_after}
 
 -- ---- versions
 

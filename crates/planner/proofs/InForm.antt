@@ -22,7 +22,7 @@ use Rattle.plan_terms.specs.Paths.{IsPath, Leads, last_node}
 use Rattle.plan_terms.proofs.OwnBounds.{product_below}
 use Rattle.plan_report.specs.Forms.{IsDemandInForm, IsFlowInForm, IsPathInForm, IsRoutingInForm}
 use Rattle.route_law.specs.Routings.{IsLowestRouting}
-use Rattle.text_kit.specs.Items.{AreBehind}
+use Rattle.text_kit.specs.Items.{ComeAfter}
 
 -- ---- paths
 
@@ -94,9 +94,9 @@ lowest_whole r whole d in_den all = eq-one_of_dvd-one (subst (λ n. d ∣ n) who
 
 -- ---- demands
 
-behind_each : (nodes : List (List ℕ)) (sofar rest : List Demand) → AllPairs (λ x y. x.name ≢ y.name) (sofar ++ rest) → All (IsDemand (length nodes)) rest → All (λ d. length d.name ≤ 255) rest → AreBehind (IsDemandInForm nodes) sofar rest
-behind_each nodes sofar [] different each named = tt
-behind_each nodes sofar (d ∷ ds) different each named =
+after_each : (nodes : List (List ℕ)) (sofar rest : List Demand) → AllPairs (λ x y. x.name ≢ y.name) (sofar ++ rest) → All (IsDemand (length nodes)) rest → All (λ d. length d.name ≤ 255) rest → ComeAfter (IsDemandInForm nodes) sofar rest
+after_each nodes sofar [] different each named = tt
+after_each nodes sofar (d ∷ ds) different each named =
     let is = All-head (IsDemand (length nodes)) d ds each in (
       record {
         short = All-head (λ (x : Demand). length x.name ≤ 255) d ds named;
@@ -105,14 +105,14 @@ behind_each nodes sofar (d ∷ ds) different each named =
         to = is.to_known;
         need = is.need;
       },
-      behind_each nodes (sofar ++ d ∷ []) ds
+      after_each nodes (sofar ++ d ∷ []) ds
           (subst (AllPairs (λ (x y : Demand). x.name ≢ y.name)) (sym (append_assoc sofar (d ∷ []) ds)) different)
           (All-tail (IsDemand (length nodes)) d ds each)
           (All-tail (λ (x : Demand). length x.name ≤ 255) d ds named),
     )
 
-pub demands_in_form : (nodes : List (List ℕ)) (demands : List Demand) → AreDemands (length nodes) demands → All (λ d. length d.name ≤ 255) demands → AreBehind (IsDemandInForm nodes) [] demands
-demands_in_form nodes demands belong named = behind_each nodes [] demands belong.different belong.each named
+pub demands_in_form : (nodes : List (List ℕ)) (demands : List Demand) → AreDemands (length nodes) demands → All (λ d. length d.name ≤ 255) demands → ComeAfter (IsDemandInForm nodes) [] demands
+demands_in_form nodes demands belong named = after_each nodes [] demands belong.different belong.each named
 
 -- ---- costs
 

@@ -36,10 +36,10 @@ use Rattle.planner.proofs.GreaterBounds.{best_is_certified, best_multipliers, li
 use Rattle.planner.proofs.SnapshotQuality.{HasBest, best_there, if_some, scale_positive, share_for}
 
 -- rounds only add to a list
-rounds_behind : (start : List CutLine) (rounds : List Round) → (more : List CutLine) × (after_rounds start rounds ≡ start ++ more)
-rounds_behind start [] = ([], sym (append-nil start))
-rounds_behind start (last ∷ earlier) =
-    let before = rounds_behind start earlier in
+rounds_after : (start : List CutLine) (rounds : List Round) → (more : List CutLine) × (after_rounds start rounds ≡ start ++ more)
+rounds_after start [] = ([], sym (append-nil start))
+rounds_after start (last ∷ earlier) =
+    let before = rounds_after start earlier in
     (before.0 ++ last.cuts, ap (λ xs. xs ++ last.cuts) before.1 ∙ append_assoc start before.0 last.cuts)
 
 -- where there is room, a cut with a spot is pooled
@@ -73,7 +73,7 @@ module _ {p : Case} {before history : List Entry} {s : Snapshot} {w : Worked} (f
   has_best best e = best_there p are.pairs s.cuts w.lines are.rounds are.list w.quality best (subst EndsAs e are.ends)
 
   pub multipliers_are : IfSome w.best (AreMultipliersOf w)
-  multipliers_are = if_some (AreMultipliersOf w) w.best (λ best e. let h = has_best best e in best_multipliers p history w candidates_are h.cuts h.more h.behind best h.of)
+  multipliers_are = if_some (AreMultipliersOf w) w.best (λ best e. let h = has_best best e in best_multipliers p history w candidates_are h.cuts h.more h.following best h.of)
 
   pub shares_are : IfSome w.best (IsShareFor p w.quality)
   shares_are = if_some (IsShareFor p w.quality) w.best (λ best e. share_for p are.pairs s.cuts w.lines are.rounds are.list w.quality best (subst EndsAs e are.ends))
@@ -116,7 +116,7 @@ module _ {p : Case} {before history : List Entry} {s : Snapshot} {w : Worked} (f
 
     pub bound_certified : IsCertifiedBound p history b
     bound_certified = by_bound (IsCertifiedBound p history)
-        (λ m. best_is_certified p history w candidates_are m.there.cuts m.there.more m.there.behind m.best m.there.of f.few short m.of.bound m.of.rounded)
+        (λ m. best_is_certified p history w candidates_are m.there.cuts m.there.more m.there.following m.best m.there.of f.few short m.of.bound m.of.rounded)
         own_certified
 
     -- each cut of the certificate is one of the lines
@@ -125,7 +125,7 @@ module _ {p : Case} {before history : List Entry} {s : Snapshot} {w : Worked} (f
 
     pub certificate_cuts : All (λ (l : CertLine). Contains w.lines l.cut) b.certificate.lines
     certificate_cuts = by_bound (λ x. All (λ (l : CertLine). Contains w.lines l.cut) x.certificate.lines)
-        (λ m. lines_of_best p history w candidates_are m.there.cuts m.there.more m.there.behind m.best m.there.of (λ line spot. Contains w.lines line) (λ i line spot at at_spot. line_among i line at))
+        (λ m. lines_of_best p history w candidates_are m.there.cuts m.there.more m.there.following m.best m.there.of (λ line spot. Contains w.lines line) (λ i line spot at at_spot. line_among i line at))
         own_among
 
     -- ---- the own bounds
@@ -138,7 +138,7 @@ module _ {p : Case} {before history : List Entry} {s : Snapshot} {w : Worked} (f
     own_at_most : better.own.bound ≤ b.bound
     own_at_most = by_bound (λ x. better.own.bound ≤ x.bound)
         (λ m.
-        let positive = (best_multipliers p history w candidates_are m.there.cuts m.there.more m.there.behind m.best m.there.of).positive in
+        let positive = (best_multipliers p history w candidates_are m.there.cuts m.there.more m.there.following m.best m.there.of).positive in
         bound_rises p.links better.own.raw.num better.own.raw.den m.best.raw_num m.best.raw_den m.of.bound better.own.bound positive m.at_least m.of.rounded own_rounded)
         (omega arith)
 
@@ -152,13 +152,13 @@ module _ {p : Case} {before history : List Entry} {s : Snapshot} {w : Worked} (f
     opening_at_most : (n : ℕ) → n ≤ length p.listed → AreOpeningAtMost p b.bound n
     opening_at_most n inside =
         let h = are.list.begins.every n inside in
-        let behind = rounds_behind are.list.start are.rounds in
+        let following = rounds_after are.list.start are.rounds in
         record {
           lengths = h.lengths;
           opening = h.opening;
           each = All-weaker (λ ls. HasCut are.list.start n ls) (IsOwnAtMost p b.bound n) (λ ls has.
               let cut : CutLine = has.1 in
-              let among : Contains w.lines cut = subst (λ xs. Contains xs cut) (sym (are.list.whole ∙ behind.1)) (Contains-append_left are.list.start behind.0 cut (has.0, has.2, has.3)) in
+              let among : Contains w.lines cut = subst (λ xs. Contains xs cut) (sym (are.list.whole ∙ following.1)) (Contains-append_left are.list.start following.0 cut (has.0, has.2, has.3)) in
               subst (λ t. IsOwnAtMost p b.bound t ls) has.4.0 (subst (IsOwnAtMost p b.bound cut.state.0) has.4.1 (listed_at_most cut among))) h.lengths h.each;
         }
 
@@ -166,7 +166,7 @@ module _ {p : Case} {before history : List Entry} {s : Snapshot} {w : Worked} (f
     above_own = record {
       known = All-map (λ (x : ℕ × List ℕ). IsOwnAtMost p b.bound x.0 x.1) cut_of_line s.cuts (λ k d lt.
           let cut : CutLine = get_or s.cuts k d in
-          listed_at_most cut (subst (λ xs. Contains xs cut) (sym are.list.behind) (Contains-append_left s.cuts are.list.added cut (Contains-get_or s.cuts k d lt))));
+          listed_at_most cut (subst (λ xs. Contains xs cut) (sym are.list.following) (Contains-append_left s.cuts are.list.added cut (Contains-get_or s.cuts k d lt))));
       opening = opening_at_most;
     }
 

@@ -62,7 +62,7 @@ pool_known net states history s belong given short =
           right_low (graph_in p cut.state.0) ∣ checked ∣₁ checked.few_nodes s.demands belong cut.lengths (short k d lt) cut.right (is.cuts k d lt).right;
     }))
 
--- ---- behind the rounds
+-- ---- after the rounds
 
 pub worked_for : {p : Case} {net_before net_after : Network} {states_before states_after : States} {before own_before history own : List Entry} {s : Snapshot} {w : Worked}
     → ∥ IsSnapshotIn p before s ∥₁ → ∥ AreWorkedRounds p history s.cuts w ∥₁ → ∥ IsNetwork p.nodes p.links ∥₁
@@ -80,7 +80,7 @@ worked_for given worked checked seen_before seen =
 module _ {p : Case} {before history : List Entry} {s : Snapshot} {w : Worked} (told : ∥ IsWorkedFor p before history s w ∥₁) where
   pub bounds_known : HaveBounds p.links w
   bounds_known = have_bounds p history w (∥∥₁_map told (λ f. candidates_are f)) (∥∥₁_elim told (hlevel props) (λ f.
-      let long = ap length f.are.list.behind in
+      let long = ap length f.are.list.following in
       omega (arith, long, f.are.list.few, f.few_pool, length-append s.cuts f.are.list.added)))
 
   pub multipliers_known : ∥ IfSome w.best (AreMultipliersOf w) ∥₁

@@ -43,7 +43,7 @@ use Rattle.planner.proofs.QualityForms.{installed_form, routed_form, share_caps_
 pub record HasBest (p : Case) (lines : List CutLine) (best : Best) : Type 0 where
   pub cuts : List CutLine
   pub more : List CutLine
-  pub behind : lines ≡ cuts ++ more
+  pub following : lines ≡ cuts ++ more
   pub of : IsBestOf p.links cuts best
   pub pairs : List UnitPair
   pub least : IsLeastShare p.links pairs cuts best.share
@@ -66,11 +66,11 @@ module _ (p : Case) (pairs : List UnitPair) (pool lines : List CutLine) (rounds 
   -- ---- the best certificate is that of all cuts, or of those before the last round
 
   of_all : (best : Best) → IsBestAt p pairs lines best → HasBest p lines best
-  of_all best at = record { cuts = lines; more = []; behind = sym (append-nil lines); of = at.of; pairs = pairs; least = at.least }
+  of_all best at = record { cuts = lines; more = []; following = sym (append-nil lines); of = at.of; pairs = pairs; least = at.least }
 
   of_last : (rounds : List Round) (start : List CutLine) (best : Best) → lines ≡ after_rounds start rounds → IsBestOfLast p pairs start rounds (Some best) → HasBest p lines best
   of_last [] start best whole last = absurd (let e : Some best ≡ None = last in cc e)
-  of_last (last ∷ earlier) start best whole is = record { cuts = after_rounds start earlier; more = last.cuts; behind = whole; of = is.1.of; pairs = pairs; least = is.1.least }
+  of_last (last ∷ earlier) start best whole is = record { cuts = after_rounds start earlier; more = last.cuts; following = whole; of = is.1.of; pairs = pairs; least = is.1.least }
 
   pub best_there : (q : Quality) (best : Best) → Ends (Some best) q → HasBest p lines best
   best_there (Tight fractional) best ends = of_all best ends.best_of

@@ -100,7 +100,7 @@ module _ (p : Case) (net : IsNetwork p.nodes p.links) (belong : AreDemands (leng
         let h = has_best f best same in
         quality_some p are.pairs s.cuts w.lines are.rounds are.list best chosen whole refl
         (raw_at f short b better best greater)
-        (best_multipliers p history w (candidates_are f) h.cuts h.more h.behind best h.of).positive
+        (best_multipliers p history w (candidates_are f) h.cuts h.more h.following best h.of).positive
         (raw_more f short b better best greater)
         w.quality chosen.quality ends made.quality
 

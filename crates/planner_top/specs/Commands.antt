@@ -52,7 +52,7 @@ AreSample _ seed nodes = ⊥
 abbrev pub MayBeFiles : List (String Global) → Type 0
 MayBeFiles words = All (λ word. may_be_file (string_bytes word) ≡ true) words
 
--- a command's name, and the words behind it
+-- a command's name, and the words after it
 abbrev pub IsNamed : List ℕ → List (List ℕ) → Command → Type 0
 IsNamed name words (Plan w) = (name ≡ codes "plan") × AreFiles words w
 IsNamed name words (Session w script) = (name ≡ codes "session") × AreFourFiles words w script

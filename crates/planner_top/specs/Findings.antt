@@ -10,7 +10,7 @@ use Rattle.plan_checker.specs.declared.finding.Finding.{Finding}
 use Rattle.plan_checker.specs.declared.finding.Finding.TheVariants.{NotesDiffer, EntryDiffers, PoolCount, BadCut, PoolDiffers, VersionDiffers, DemandsDiffer, Survivable, BadPath, NotCarried, Overloaded, CostDiffers, LocalCut, RightDiffers, PriceExceeded, CertificateWide, RawDiffers, BoundDiffers, NotTight}
 use Rattle.text_kit.specs.Written.{money_word}
 
--- words, each behind a space
+-- words, each after a space
 abbrev pub spaced : List (List ℕ) → List ℕ
 spaced words = flat_map (λ w. 32 ∷ w) words
 

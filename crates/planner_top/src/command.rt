@@ -120,7 +120,7 @@ fn is_named(word: &str, name: &str) -> bool
     word == name
 }
 
-/// The command of this name with these words behind it; none where they are no words of such a command.
+/// The command of this name with these words after it; none where they are no words of such a command.
 fn named_command<'w>(name: &str, words: &'w [String]) -> Option<Command<'w>>
     ensures { MatchOption result ((c : commands.Command) → IsNamed name.now (map string_bytes words.now) c → ⊥) (λ c. IsNamed name.now (map string_bytes words.now) (asked_command c)) }
 {

@@ -9,7 +9,7 @@ use plan_types::Outcome;
 use std::alloc::Global;
 use text_kit::write::{put_decimal, put_money_word};
 
-/// Puts a word last, behind a space.
+/// Puts a word last, after a space.
 fn put_word(text: &mut Bytes, word: &[u8]) -> Result<(), NoMemory>
     ensures { OnOk result (text.new ≡ text.old ++ 32 ∷ word.now) }
 {
@@ -17,7 +17,7 @@ fn put_word(text: &mut Bytes, word: &[u8]) -> Result<(), NoMemory>
     text.append(word)
 }
 
-/// Puts a whole number last, behind a space.
+/// Puts a whole number last, after a space.
 fn put_number(text: &mut Bytes, n: u128) -> Result<(), NoMemory>
     ensures { OnOk result (text.new ≡ text.old ++ 32 ∷ decimal n) }
 {

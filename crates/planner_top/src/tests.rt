@@ -380,7 +380,7 @@ fn a_long_text_is_put_in_pieces(rt: HostRuntime) -> Result<(), Fail> {
     Ok(())
 }
 
-/// The triangle's network file, with as many spaces behind it as a file may have.
+/// The triangle's network file, with as many spaces after it as a file may have.
 fn longest_triangle(alloc: Global) -> Result<Bytes, NoMemory> {
     let mut text = List::from_slice(alloc, triangle())?;
     let spaces = 16777216usize.saturating_sub(text.len());

@@ -61,7 +61,7 @@ none_checked p r c all none = record {
   first = subst (IsFirstAfterClean p r c.clean) (sym none) (omega (arith, all));
 }
 
--- all outcomes are of places before the one behind the journal
+-- all outcomes are of places before the one after the journal
 module _ (p : Case) (r : Report) (k : ℕ) (sound : AreSoundBefore p r (length r.entries + 1) k) where
   each_sound : (i : ℕ) (d : Outcome) → i < k → i < length r.outcomes → IsSoundOutcome p r (get_or r.outcomes i d)
   each_sound i d lt inside =

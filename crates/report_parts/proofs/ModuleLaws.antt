@@ -7,7 +7,7 @@ use Rattle.std.proofs.lemmas.List.Sums.{sum_by-cons}
 use Rattle.net_core.specs.declared.network.Link.{Link}
 use Rattle.net_core.specs.declared.network.Module.{Module}
 use Rattle.snd_tokens.specs.Lexemes.{Text, WordAt, OpenAt, CloseAt, EndAt}
-use Rattle.text_kit.specs.Items.{AreBehind, Item, Verbatim, Whole}
+use Rattle.text_kit.specs.Items.{ComeAfter, Item, Verbatim, Whole}
 use Rattle.text_kit.specs.Reading.{of_length, Parenthesis, word_at}
 use Rattle.text_kit.proofs.Beginnings.{AnyText, Starts}
 use Rattle.text_kit.proofs.Lawful.{lawful_list, lawful_word}
@@ -63,13 +63,13 @@ module _ (l : Link) where
     pub few : All (λ n. n < 2 ^ 44) counts
     pub small : IsSmall counts
 
-  grown : (sofar cs : List ℕ) → IsSmall sofar → AreBehind IsCount sofar cs → IsSmall (sofar ++ cs) × All (λ n. n < 2 ^ 44) cs
+  grown : (sofar cs : List ℕ) → IsSmall sofar → ComeAfter IsCount sofar cs → IsSmall (sofar ++ cs) × All (λ n. n < 2 ^ 44) cs
   grown sofar [] small all = (subst IsSmall (sym (append-nil sofar)) small, All-nil (λ n. n < 2 ^ 44))
   grown sofar (n ∷ cs) small all =
       let h = grown (sofar ++ n ∷ []) cs all.0.0.1 all.1 in
       (subst IsSmall (append_assoc sofar (n ∷ []) cs) h.0, All-cons (λ n. n < 2 ^ 44) n cs all.0.1 h.1)
 
-  shrunk : (sofar cs : List ℕ) → IsSmall (sofar ++ cs) → length (sofar ++ cs) ≤ length l.modules → All (λ n. n < 2 ^ 44) cs → AreBehind IsCount sofar cs
+  shrunk : (sofar cs : List ℕ) → IsSmall (sofar ++ cs) → length (sofar ++ cs) ≤ length l.modules → All (λ n. n < 2 ^ 44) cs → ComeAfter IsCount sofar cs
   shrunk sofar [] small fits all = tt
   shrunk sofar (n ∷ cs) small fits all =
       let whole : IsSmall ((sofar ++ n ∷ []) ++ cs) = subst IsSmall (sym (append_assoc sofar (n ∷ []) cs)) small in (
@@ -130,13 +130,13 @@ module _ (at : ℕ → Option Link) where
       ap (λ (o : Option Link). items_for o c ++ placed_items (λ k d. items_for (at k) d) (n + 1) cs) (first_from n l ls from)
       ∙ ap (λ (is : List Item). modules_items (l, c) ++ is) (all_items (n + 1) ls cs (next_from n l ls from) (omega (arith, long)))
 
-  abbrev IsBehind : List (List ℕ) → List ℕ → Type 0
-  IsBehind sofar c = AreFor (at (length sofar)) c
+  abbrev IsAfter : List (List ℕ) → List ℕ → Type 0
+  IsAfter sofar c = AreFor (at (length sofar)) c
 
   further : (sofar : List (List ℕ)) (c : List ℕ) (l : Link) (ls : List Link) → AreFrom at (length sofar) (l ∷ ls) → AreFrom at (length (sofar ++ c ∷ [])) ls
   further sofar c l ls from = subst (λ (n : ℕ). AreFrom at n ls) (let e : length sofar + 1 ≡ length (sofar ++ c ∷ []) = omega (arith, length-append sofar (c ∷ [])) in e) (next_from (length sofar) l ls from)
 
-  counts_form : (sofar : List (List ℕ)) (ls : List Link) (cs : List (List ℕ)) → AreFrom at (length sofar) ls → length cs ≡ length ls → AreBehind IsBehind sofar cs → AreCounts ls cs × AreWithinLimits ls cs
+  counts_form : (sofar : List (List ℕ)) (ls : List Link) (cs : List (List ℕ)) → AreFrom at (length sofar) ls → length cs ≡ length ls → ComeAfter IsAfter sofar cs → AreCounts ls cs × AreWithinLimits ls cs
   counts_form sofar [] [] from long all = (tt, record { few = All-nil (λ c. All (λ n. n < 2 ^ 44) c); small = All-nil (λ n. n < 2 ^ 46) })
   counts_form sofar [] (c ∷ cs) from long all = absurd (omega (arith, long))
   counts_form sofar (l ∷ ls) [] from long all = absurd (omega (arith, long))
@@ -145,7 +145,7 @@ module _ (at : ℕ → Option Link) where
       let t = counts_form (sofar ++ c ∷ []) ls cs (further sofar c l ls from) (omega (arith, long)) all.1 in
       ((h.long, t.0), record { few = All-cons (λ d. All (λ n. n < 2 ^ 44) d) c cs h.few t.1.few; small = All-cons (λ n. n < 2 ^ 46) (l.fixed + modules_capacity l.modules c) (capacities ls cs) h.small t.1.small })
 
-  form_counts : (sofar : List (List ℕ)) (ls : List Link) (cs : List (List ℕ)) → AreFrom at (length sofar) ls → AreCounts ls cs → AreWithinLimits ls cs → (length cs ≡ length ls) × AreBehind IsBehind sofar cs
+  form_counts : (sofar : List (List ℕ)) (ls : List Link) (cs : List (List ℕ)) → AreFrom at (length sofar) ls → AreCounts ls cs → AreWithinLimits ls cs → (length cs ≡ length ls) × ComeAfter IsAfter sofar cs
   form_counts sofar [] [] from shape limits = (refl, tt)
   form_counts sofar [] (c ∷ cs) from shape limits = absurd shape
   form_counts sofar (l ∷ ls) [] from shape limits = absurd shape

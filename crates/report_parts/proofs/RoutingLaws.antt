@@ -10,7 +10,7 @@ use Rattle.net_core.specs.declared.states.Listed.{Listed}
 use Rattle.text_kit.specs.Items.{Verbatim}
 use Rattle.text_kit.specs.Reading.{of_length}
 use Rattle.text_kit.proofs.Beginnings.{AnyText}
-use Rattle.text_kit.proofs.Behind.{all_behind, behind_all}
+use Rattle.text_kit.proofs.After.{all_after, after_all}
 use Rattle.text_kit.proofs.Lawful.{lawful_some}
 use Rattle.text_kit.proofs.Spelled.{Lawful}
 use Rattle.plan_report.specs.Forms.{AreRoutingsInForm, IsFlowInForm, IsPathInForm, IsRoutingInForm}
@@ -32,9 +32,9 @@ AreLinksApart links = AllPairs (λ x y. x.name ≢ y.name) links
 pub path_law : (links : List Link) → AreLinksApart links → Lawful (path_at links) (path_items links) (IsPathInForm links) AnyText
 unfolding path_at
 path_law links apart = law_made (path_at links) (λ (q : Unit {0} × List LinkId). q.1) _ _ (path_items links) (IsPathInForm links)
-    (λ q h. record { some = h.1.0; known = behind_all (λ e. e.0 < length links) [] q.1 h.1.1 })
+    (λ q h. record { some = h.1.0; known = after_all (λ e. e.0 < length links) [] q.1 h.1.1 })
     (λ q h. refl)
-    (λ es h. record { parts = (tt, es); right = (tt, (h.some, all_behind (λ e. e.0 < length links) [] es h.known)); gives = refl })
+    (λ es h. record { parts = (tt, es); right = (tt, (h.some, all_after (λ e. e.0 < length links) [] es h.known)); gives = refl })
     (made_then _ _ _ _ _ _ _ _ opening_law (λ x h.
     made_law _ _ _ (lawful_some Token (λ sofar. link_at links) (λ e. Verbatim (link_name links e) ∷ []) (λ sofar e. e.0 < length links) (λ e. tt) (λ sofar. link_law links apart))))
 

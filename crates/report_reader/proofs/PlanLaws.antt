@@ -7,7 +7,7 @@ use Rattle.net_core.specs.declared.states.Listed.{Listed}
 use Rattle.plan_terms.specs.Capacities.{AreCounts, AreWithinLimits}
 use Rattle.plan_types.specs.declared.plan.Plan.{Plan}
 use Rattle.plan_types.specs.declared.quality.Quality.{Quality}
-use Rattle.text_kit.specs.Items.{AreBehind, Item, Verbatim, Whole, Money}
+use Rattle.text_kit.specs.Items.{ComeAfter, Item, Verbatim, Whole, Money}
 use Rattle.text_kit.proofs.Beginnings.{AnyText}
 use Rattle.text_kit.proofs.Spelled.{Lawful}
 use Rattle.plan_report.specs.Forms.{AreRoutingsInForm, IsDemandInForm, IsOfPool, IsPlanInForm, IsQualityInForm}
@@ -65,7 +65,7 @@ with_head version position p = record { version = version; position = position; 
 module _ (nodes : List (List ℕ)) (links : List Link) (listed : List Listed) (pool : List CutLine) where
   -- a plan of a head, part by part
   abbrev pub IsPlanOf : Head → Plan → Type 0
-  IsPlanOf head p = ((head.version ≡ p.version) × (head.position ≡ p.position)) × (AreBehind (IsDemandInForm nodes) [] p.demands × (AreValues (values_of p) × ((AreCounts links p.counts × AreWithinLimits links p.counts)
+  IsPlanOf head p = ((head.version ≡ p.version) × (head.position ≡ p.position)) × (ComeAfter (IsDemandInForm nodes) [] p.demands × (AreValues (values_of p) × ((AreCounts links p.counts × AreWithinLimits links p.counts)
       × (IsCertificate links listed pool p.certificate × (AreRoutingsInForm links listed p.demands p.routings × IsQualityInForm links listed p.demands p.quality)))))
 
   pub plan_law : AllPairs (λ x y. x ≢ y) nodes → AreLinksApart links → ((k : ℕ) → IsSound (slice_get links k)) → IsPoolInForm links listed pool → (head : Head) → Lawful (plan_at nodes links listed pool head) (plan_items nodes links listed) (IsPlanOf head) AnyText

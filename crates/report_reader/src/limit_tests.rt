@@ -336,7 +336,7 @@ fn each_count_ends_at_its_last_number(rt: HostRuntime) -> Result<(), Fail> {
     Ok(())
 }
 
-/// What stands before and behind a name that is free or new.
+/// What stands before and after a name that is free or new.
 fn around_names() -> [(&'static [u8], &'static [u8]); 6] {
     [
         (JOURNAL, b"(1 caller 1 set "),

@@ -14,7 +14,7 @@ pub online_same : {K X : Type 0} (r s : Reading K X) → ((t : Text) → r t ≡
 online_same {K} {X} r s same on = record {
   took = λ text x rest e.
       let t = on.took text x rest (same text ∙ e) in
-      record { count = t.count; behind = t.behind; again = λ m u alike. let h = t.again m u alike in (h.0, sym (same u) ∙ h.1, h.2) };
+      record { count = t.count; following = t.following; again = λ m u alike. let h = t.again m u alike in (h.0, sym (same u) ∙ h.1, h.2) };
   failed = λ text at kind e.
       let f = on.failed text at kind (same text ∙ e) in
       record { count = f.count; here = f.here; again = λ u alike. sym (same u) ∙ f.again u alike };

@@ -2,12 +2,12 @@
 use Rattle.std.proofs.Common.{◌≡◌, ℕ, ◌+◌, ◌≤◌, ◌<◌, ◌==◌, true, false, cond, List, [], ◌∷◌, ◌++◌, length, All, Option, None, Some, refl, sym, ap, subst, ◌∙◌, arith, length-append}
 use Rattle.std.specs.Prelude.{flat_map}
 use Rattle.std.proofs.lemmas.Bool.{eqb-true, eq-eqb}
-use Rattle.text_kit.specs.Items.{AreBehind, Item, Closing}
+use Rattle.text_kit.specs.Items.{ComeAfter, Item, Closing}
 use Rattle.text_kit.specs.Reading.{Reading, ◌>>=◌, list_at, no_fault, of_length, Parenthesis}
 use Rattle.text_kit.proofs.Beginnings.{AnyText, Starts}
-use Rattle.text_kit.proofs.Behind.{all_behind, behind_all, behind_as}
-use Rattle.text_kit.proofs.Lawful.{behind_few, few_behind, lawful_as, lawful_list}
-use Rattle.text_kit.proofs.Spelled.{Lawful, SpelledBehind, law_spelled, spelled_as, spelled_law, spelled_list}
+use Rattle.text_kit.proofs.After.{all_after, after_all, after_as}
+use Rattle.text_kit.proofs.Lawful.{after_few, few_after, lawful_as, lawful_list}
+use Rattle.text_kit.proofs.Spelled.{Lawful, SpelledAfter, law_spelled, spelled_as, spelled_law, spelled_list}
 use Rattle.plan_report.specs.Items.{numbered_from}
 use Rattle.text_kit.specs.Edits.{enclosed}
 use Rattle.report_words.specs.declared.fault.ReportKind.{ReportKind}
@@ -29,14 +29,14 @@ pub is_length : {K X : Type 0} (n : ℕ) (kind : K) (xs : List X) → length xs 
 is_length n kind xs e = rw (eq-eqb (length xs) n e) refl
 
 -- each element has room
-pub rooms_few : {X : Type 0} (n : ℕ) (P : X → Type 0) (xs : List X) → AreBehind (λ before x. (has_room n before ≡ true) × P x) [] xs → (length xs ≤ n) × All P xs
+pub rooms_few : {X : Type 0} (n : ℕ) (P : X → Type 0) (xs : List X) → ComeAfter (λ before x. (has_room n before ≡ true) × P x) [] xs → (length xs ≤ n) × All P xs
 rooms_few n P xs all =
-    let h = few_behind n (λ before x. P x) [] xs (omega arith) (behind_as _ _ [] xs (λ before x h. (few_so_far n before h.0, h.1)) all) in
-    (h.0, behind_all P [] xs h.1)
+    let h = few_after n (λ before x. P x) [] xs (omega arith) (after_as _ _ [] xs (λ before x h. (few_so_far n before h.0, h.1)) all) in
+    (h.0, after_all P [] xs h.1)
 
-pub few_rooms : {X : Type 0} (n : ℕ) (P : X → Type 0) (xs : List X) → length xs ≤ n → All P xs → AreBehind (λ before x. (has_room n before ≡ true) × P x) [] xs
+pub few_rooms : {X : Type 0} (n : ℕ) (P : X → Type 0) (xs : List X) → length xs ≤ n → All P xs → ComeAfter (λ before x. (has_room n before ≡ true) × P x) [] xs
 few_rooms n P xs few all =
-    behind_as (λ before x. (length before < n) × P x) _ [] xs (λ before x h. (room_so_far n before h.0, h.1)) (behind_few n (λ before x. P x) [] xs few (all_behind P [] xs all))
+    after_as (λ before x. (length before < n) × P x) _ [] xs (λ before x h. (room_so_far n before h.0, h.1)) (after_few n (λ before x. P x) [] xs few (all_after P [] xs all))
 
 -- at most n elements, up to the closing parenthesis
 pub few_law : {X : Type 0} (n : ℕ) (one : List X → Reading ReportKind X) (items : X → List Item) (P : X → Type 0) → ((x : X) → Starts (items x)) → ((sofar : List X) → Lawful (one sofar) items (λ x. (has_room n sofar ≡ true) × P x) AnyText)
@@ -70,26 +70,26 @@ module _ {X : Type 0} (items : ℕ → X → List Item) (is : List X → X → T
   one_more : (sofar : List X) (x : X) → length (sofar ++ x ∷ []) ≡ length sofar + 1
   one_more sofar x = omega (arith, length-append sofar (x ∷ []))
 
-  placed_parts : (sofar xs : List X) (js : List Item) → SpelledBehind Of sofar xs js → AreBehind is sofar xs × (js ≡ placed_items items (length sofar) xs)
+  placed_parts : (sofar xs : List X) (js : List Item) → SpelledAfter Of sofar xs js → ComeAfter is sofar xs × (js ≡ placed_items items (length sofar) xs)
   placed_parts sofar [] js s = (tt, s)
   placed_parts sofar (x ∷ xs) js s =
       let h = placed_parts (sofar ++ x ∷ []) xs s.1 s.3 in
       let more : s.1 ≡ placed_items items (length sofar + 1) xs = h.1 ∙ ap (λ (k : ℕ). placed_items items k xs) (one_more sofar x) in
       ((s.2.0, h.0), s.4 ∙ (ap (λ (ks : List Item). ks ++ s.1) s.2.1 ∙ ap (λ (ks : List Item). items (length sofar) x ++ ks) more))
 
-  parts_placed : (sofar xs : List X) → AreBehind is sofar xs → SpelledBehind Of sofar xs (placed_items items (length sofar) xs)
+  parts_placed : (sofar xs : List X) → ComeAfter is sofar xs → SpelledAfter Of sofar xs (placed_items items (length sofar) xs)
   parts_placed sofar [] all = refl
   parts_placed sofar (x ∷ xs) all = (
     items (length sofar) x,
     placed_items items (length sofar + 1) xs,
     (all.0, refl),
-    subst (λ (k : ℕ). SpelledBehind Of (sofar ++ x ∷ []) xs (placed_items items k xs)) (one_more sofar x) (parts_placed (sofar ++ x ∷ []) xs all.1),
+    subst (λ (k : ℕ). SpelledAfter Of (sofar ++ x ∷ []) xs (placed_items items k xs)) (one_more sofar x) (parts_placed (sofar ++ x ∷ []) xs all.1),
     refl,
   )
 
   pub lawful_placed : {K : Type 0} (fault : List X → Option K) (one : List X → Reading K X) → ((n : ℕ) (x : X) → Starts (items n x)) → ((sofar : List X) → Lawful (one sofar) (items (length sofar)) (is sofar) AnyText)
-      → Lawful (list_at Parenthesis fault one []) (λ xs. placed_items items 0 xs ++ Closing ∷ []) (λ xs. (fault xs ≡ None) × AreBehind is [] xs) AnyText
-  lawful_placed fault one starts law = law_spelled _ _ _ _ (spelled_as _ _ (λ xs js. ((fault xs ≡ None) × AreBehind is [] xs) × (js ≡ placed_items items 0 xs ++ Closing ∷ [])) _
+      → Lawful (list_at Parenthesis fault one []) (λ xs. placed_items items 0 xs ++ Closing ∷ []) (λ xs. (fault xs ≡ None) × ComeAfter is [] xs) AnyText
+  lawful_placed fault one starts law = law_spelled _ _ _ _ (spelled_as _ _ (λ xs js. ((fault xs ≡ None) × ComeAfter is [] xs) × (js ≡ placed_items items 0 xs ++ Closing ∷ [])) _
       (λ xs js s. let p = placed_parts [] xs s.1.0 s.1.1 in ((s.0, p.0), s.1.2 ∙ ap (λ (ks : List Item). ks ++ Closing ∷ []) p.1))
       (λ xs js s. (s.0.0, (placed_items items 0 xs, parts_placed [] xs s.0.1, s.1)))
       (spelled_list fault one Of (λ sofar x js s. subst Starts (sym s.1) (starts (length sofar) x)) (λ sofar. spelled_law (one sofar) (items (length sofar)) (is sofar) AnyText (law sofar))))

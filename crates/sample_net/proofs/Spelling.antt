@@ -13,7 +13,7 @@ use Rattle.net_core.specs.declared.network.Link.{Link}
 use Rattle.net_core.specs.declared.network.Network.{Network}
 use Rattle.net_core.specs.declared.network.Notes.{Notes}
 use Rattle.text_kit.specs.Files.{IsFileOf}
-use Rattle.text_kit.specs.Items.{AreBehind, AreSpelled, Item, Verbatim, Closing}
+use Rattle.text_kit.specs.Items.{ComeAfter, AreSpelled, Item, Verbatim, Closing}
 use Rattle.text_kit.specs.Written.{AddsItems, IsShortItem, money_word}
 use Rattle.text_kit.proofs.Adding.{writable}
 use Rattle.text_kit.proofs.Amounts.{amount_again, number_takes}
@@ -34,15 +34,15 @@ short_before : (is js : List Item) → AllByRecursion IsShortItem (is ++ js) →
 short_before [] js all = tt
 short_before (i ∷ is) js all = (all.0, short_before is js all.1)
 
-short_behind : (is js : List Item) → AllByRecursion IsShortItem (is ++ js) → AllByRecursion IsShortItem js
-short_behind [] js all = all
-short_behind (i ∷ is) js all = short_behind is js all.1
+short_after : (is js : List Item) → AllByRecursion IsShortItem (is ++ js) → AllByRecursion IsShortItem js
+short_after [] js all = all
+short_after (i ∷ is) js all = short_after is js all.1
 
 -- what stands in a section, and what comes after it
 inside_section : (word : List ℕ) (inside rest : List Item) → AllByRecursion IsShortItem (section_items word inside ++ rest) → AllByRecursion IsShortItem inside × AllByRecursion IsShortItem rest
 inside_section word inside rest all = (
   short_before inside (Closing ∷ []) (short_before (inside ++ Closing ∷ []) rest all.1.1),
-  short_behind (inside ++ Closing ∷ []) rest all.1.1,
+  short_after (inside ++ Closing ∷ []) rest all.1.1,
 )
 
 -- ---- nodes
@@ -51,7 +51,7 @@ nodes_spelled : (nodes : List (List ℕ)) → AreSpelled SpellsPart (map NodeNam
 nodes_spelled [] = refl
 nodes_spelled (n ∷ ns) = (Verbatim n ∷ [], flat_map (λ m. Verbatim m ∷ []) ns, refl, nodes_spelled ns, refl)
 
-nodes_in_order : (sofar : List NodePart) (nodes : List (List ℕ)) → AllByRecursion IsShortItem (flat_map (λ n. Verbatim n ∷ []) nodes) → AreBehind IsPartAfter sofar (map NodeName nodes)
+nodes_in_order : (sofar : List NodePart) (nodes : List (List ℕ)) → AllByRecursion IsShortItem (flat_map (λ n. Verbatim n ∷ []) nodes) → ComeAfter IsPartAfter sofar (map NodeName nodes)
 nodes_in_order sofar [] all = tt
 nodes_in_order sofar (n ∷ ns) all = (all.0.short, nodes_in_order (sofar ++ NodeName n ∷ []) ns all.1)
 
@@ -69,7 +69,7 @@ links_short : (nodes : List (List ℕ)) (links : List Link) → AllByRecursion I
 links_short nodes [] all = tt
 links_short nodes (l ∷ ls) all = (
   record { name = all.0.short; fixed_cost = omega arith; routing_cost = omega arith },
-  links_short nodes ls (short_behind (costless_items nodes l) (flat_map (costless_items nodes) ls) all),
+  links_short nodes ls (short_after (costless_items nodes l) (flat_map (costless_items nodes) ls) all),
 )
 
 no_fixed_cost : (links : List Link) → list_any (λ l. not (l.fixed_cost == 0)) (map costless links) ≡ false
@@ -122,7 +122,7 @@ demands_spelled nodes (d ∷ ds) sound all = (
     need_is = omega arith;
     hops_are = inl refl;
   },
-  demands_spelled nodes ds (All-tail (IsDemand (length nodes)) d ds sound) (short_behind (unit_demand_items nodes d) (flat_map (unit_demand_items nodes) ds) all),
+  demands_spelled nodes ds (All-tail (IsDemand (length nodes)) d ds sound) (short_after (unit_demand_items nodes d) (flat_map (unit_demand_items nodes) ds) all),
   refl,
 )
 

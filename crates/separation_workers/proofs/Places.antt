@@ -16,14 +16,14 @@ module _ {I : Type 0} where
   none_part [] = tt
   none_part (x ∷ xs) = tt
 
-  part_behind_one : (xs ys : List I) (y : I) → IsPartOf xs ys → IsPartOf xs (y ∷ ys)
-  part_behind_one [] ys y part = tt
-  part_behind_one (x ∷ xs) ys y part = inr part
+  part_after_one : (xs ys : List I) (y : I) → IsPartOf xs ys → IsPartOf xs (y ∷ ys)
+  part_after_one [] ys y part = tt
+  part_after_one (x ∷ xs) ys y part = inr part
 
   part_of_rest : (xs ys : List I) (k : ℕ) → IsPartOf xs (drop k ys) → IsPartOf xs ys
   part_of_rest xs ys zero part = part
   part_of_rest xs [] (suc k) part = part
-  part_of_rest xs (y ∷ ys) (suc k) part = part_behind_one xs ys y (part_of_rest xs ys k part)
+  part_of_rest xs (y ∷ ys) (suc k) part = part_after_one xs ys y (part_of_rest xs ys k part)
 
   part_earlier : (xs ys : List I) (low k : ℕ) → low ≤ k → IsPartOf xs (drop k ys) → IsPartOf xs (drop low ys)
   part_earlier xs ys zero k le part = part_of_rest xs ys k part
@@ -38,7 +38,7 @@ module _ {I : Type 0} where
   -- what a list ends with is a part of it
   pub part_end : (front rest : List I) → IsPartOf rest (front ++ rest)
   part_end [] rest = part_self rest
-  part_end (x ∷ front) rest = part_behind_one rest (front ++ rest) x (part_end front rest)
+  part_end (x ∷ front) rest = part_after_one rest (front ++ rest) x (part_end front rest)
 
   -- ---- items at places
 
@@ -63,22 +63,22 @@ module _ {I : Type 0} where
       ∙ ap (λ xs. take 1 (drop p history) ++ xs) (items_front history more (p + 1) ps parts.2)
 
   -- the items at ascending places are a part of the history
-  items_behind : (history : List I) (low : ℕ) (places : List ℕ) → are_places low (length history) places ≡ true → IsPartOf (items_at history places) (drop low history)
-  items_behind history low [] placed = none_part (drop low history)
-  items_behind history low (p ∷ ps) placed =
+  items_after : (history : List I) (low : ℕ) (places : List ℕ) → are_places low (length history) places ≡ true → IsPartOf (items_at history places) (drop low history)
+  items_after history low [] placed = none_part (drop low history)
+  items_after history low (p ∷ ps) placed =
       let parts = first_place low (length history) p ps placed in
       let found = from_item history p parts.1 in
       let next : p + 1 ≡ suc p = omega arith in
-      let rest : IsPartOf (items_at history ps) (drop (suc p) history) = subst (λ k. IsPartOf (items_at history ps) (drop k history)) next (items_behind history (p + 1) ps parts.2) in
+      let rest : IsPartOf (items_at history ps) (drop (suc p) history) = subst (λ k. IsPartOf (items_at history ps) (drop k history)) next (items_after history (p + 1) ps parts.2) in
       let items : take 1 (drop p history) ++ items_at history ps ≡ found.0 ∷ items_at history ps = ap (λ xs. take 1 xs ++ items_at history ps) found.1 in
       let all : IsPartOf (found.0 ∷ items_at history ps) (found.0 ∷ drop (suc p) history) = inl (refl, rest) in
       part_earlier (items_at history (p ∷ ps)) history low p parts.0
       (subst (λ xs. IsPartOf xs (drop p history)) (sym items) (subst (IsPartOf (found.0 ∷ items_at history ps)) (sym found.1) all))
 
   pub items_among : (history : List I) (places : List ℕ) → are_places 0 (length history) places ≡ true → IsPartOf (items_at history places) history
-  items_among history places placed = items_behind history 0 places placed
+  items_among history places placed = items_after history 0 places placed
 
-  -- the items behind a history stand at the places behind it
+  -- the items after a history stand at the places after it
   pub items_added : (history more : List I) → items_at (history ++ more) (range_with_len (length history) (length more)) ≡ more
   items_added history [] = refl
   items_added history (x ∷ more) =

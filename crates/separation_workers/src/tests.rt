@@ -297,12 +297,12 @@ const LOOKS: u64 = 1 << 22;
 
 /// The worker of state 1 waits until another has solved state 2, and tells whether it came to that.
 #[derive(Drop)]
-struct OneBehindTwo {
+struct TwoBeforeOne {
     solved: AtomicU64,
     waited: AtomicU64,
 }
 
-impl Gate for OneBehindTwo {
+impl Gate for TwoBeforeOne {
     fn editing(&self, _caller: u32) {}
 
     fn edited(&self, _caller: u32) {}
@@ -375,7 +375,7 @@ fn a_worker_goes_on_while_another_is_held(rt: HostRuntime) -> Result<(), Fail> {
         scale: 1,
         nums: List::from_slice(alloc, &[0, 0, 0])?,
     };
-    let gate = OneBehindTwo {
+    let gate = TwoBeforeOne {
         solved: AtomicU64::new(0),
         waited: AtomicU64::new(0),
     };

@@ -18,12 +18,12 @@ use Rattle.net_core.proofs.Lists.{get_front}
 
 -- ---- lists
 
--- and of the item behind it
-pub get_behind : {X : Type 0} (xs : List X) (x : X) (ys : List X) → slice_get (xs ++ x ∷ ys) (length xs) ≡ Some x
-get_behind [] x ys = refl
-get_behind (y ∷ xs) x ys = get_behind xs x ys
+-- and of the item after it
+pub get_after : {X : Type 0} (xs : List X) (x : X) (ys : List X) → slice_get (xs ++ x ∷ ys) (length xs) ≡ Some x
+get_after [] x ys = refl
+get_after (y ∷ xs) x ys = get_after xs x ys
 
--- the cuts of two histories, one behind the other
+-- the cuts of two histories, one after the other
 pub cuts_both : (xs ys : List Entry) → cuts_of (xs ++ ys) ≡ cuts_of xs ++ cuts_of ys
 cuts_both xs ys = flat_map-append pooled_by xs ys
 
@@ -71,7 +71,7 @@ pools_both a b c xs ys one two = record {
       ap (λ es. es ++ two.more) first ∙ second;
 }
 
--- the cuts of the entries behind the old ones
+-- the cuts of the entries after the old ones
 pub pools_since : (old new : Board) (cuts : List (ℕ × List ℕ)) → PoolsMore old new cuts → cuts_since old.entries new.entries ≡ cuts
 pools_since old new cuts p = ap cuts_of (front_rest new.entries old.entries p.more p.entries) ∙ p.are
 
@@ -83,7 +83,7 @@ pub pooled_spot : (old new : Board) (index : ℕ) (cut : Cut) → GrowsBy (Poole
 pooled_spot old new index cut grown is =
     let cuts : cuts_of new.entries ≡ cuts_of old.entries ++ state_and_lengths cut ∷ [] = ap cuts_of grown.entries ∙ cuts_both old.entries (Pooled index cut.state cut.lengths ∷ []) in
     subst (λ i. slice_get (cuts_of new.entries) i ≡ Some (state_and_lengths cut)) (sym is)
-    (subst (λ all. slice_get all (length (cuts_of old.entries)) ≡ Some (state_and_lengths cut)) (sym cuts) (get_behind (cuts_of old.entries) (state_and_lengths cut) []))
+    (subst (λ all. slice_get all (length (cuts_of old.entries)) ≡ Some (state_and_lengths cut)) (sym cuts) (get_after (cuts_of old.entries) (state_and_lengths cut) []))
 
 -- what stands somewhere stands there later
 pub spot_later : (old new : Board) (cuts : List (ℕ × List ℕ)) (cut : ℕ × List ℕ) (spot : Spot) → PoolsMore old new cuts → IsSpotIn old.entries cut spot → IsSpotIn new.entries cut spot

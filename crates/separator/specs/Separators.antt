@@ -55,7 +55,7 @@ pub record SeesMore (history own history_now own_now : List Entry) : Type 0 wher
   pub among : IsPartOf committed further
   pub pooled : All IsCutEntry committed
 
--- the cuts that are pooled by the entries behind these
+-- the cuts that are pooled by the entries after these
 abbrev pub cuts_since : List Entry → List Entry → List (ℕ × List ℕ)
 cuts_since own own_now = cuts_of (drop (length own) own_now)
 

@@ -31,20 +31,20 @@ use Rattle.plan_types.specs.declared.quality.Quality.TheVariants.{Tight, Loose}
 use Rattle.plan_types.specs.declared.report.Outcome.{Outcome}
 use Rattle.plan_types.specs.declared.report.Outcome.TheVariants.{Planned, Unsurvivable}
 use Rattle.plan_types.specs.declared.report.Report.{Report}
-use Rattle.text_kit.specs.Items.{AreBehind}
+use Rattle.text_kit.specs.Items.{ComeAfter}
 use Rattle.plan_report.specs.Forms.{IsCauseInForm, IsDemandInForm, IsEntryInForm, IsEvidenceInForm, IsKindInForm, IsMasterColumnInForm, IsOfPool, IsOutcomeInForm, IsPlanInForm, IsQualityInForm, IsReplyInForm, IsReportInForm, IsRouteColumnInForm, IsSpotInForm}
 use Rattle.text_kit.specs.Edits.{IsEditInForm}
 
 -- ---- lists
 
-behind_prop : {X : Type 0} (is : List X → X → Type 0) → ((sofar : List X) (x : X) → IsProp (is sofar x)) → (sofar xs : List X) → IsProp (AreBehind is sofar xs)
-behind_prop is one sofar [] = hlevel props
-behind_prop is one sofar (x ∷ xs) =
-    let rest : IsProp (AreBehind is (sofar ++ x ∷ []) xs) = behind_prop is one (sofar ++ x ∷ []) xs in
+after_prop : {X : Type 0} (is : List X → X → Type 0) → ((sofar : List X) (x : X) → IsProp (is sofar x)) → (sofar xs : List X) → IsProp (ComeAfter is sofar xs)
+after_prop is one sofar [] = hlevel props
+after_prop is one sofar (x ∷ xs) =
+    let rest : IsProp (ComeAfter is (sofar ++ x ∷ []) xs) = after_prop is one (sofar ++ x ∷ []) xs in
     hlevel (one, rest, props)
 
-demands_prop : (nodes : List (List ℕ)) (sofar demands : List Demand) → IsProp (AreBehind (IsDemandInForm nodes) sofar demands)
-demands_prop nodes = behind_prop (IsDemandInForm nodes) (λ sofar d. hlevel props)
+demands_prop : (nodes : List (List ℕ)) (sofar demands : List Demand) → IsProp (ComeAfter (IsDemandInForm nodes) sofar demands)
+demands_prop nodes = after_prop (IsDemandInForm nodes) (λ sofar d. hlevel props)
 
 counts_prop : (links : List Link) (counts : List (List ℕ)) → IsProp (AreCounts links counts)
 counts_prop [] [] = hlevel props

@@ -18,7 +18,7 @@ use Rattle.plan_terms.specs.Edits.{edit_need, edit_reply, version_after}
 use Rattle.plan_report.specs.Forms.{HasPoolLine, IsCutInForm, IsEntryInForm, IsReplyInForm}
 use Rattle.cut_pool.specs.Histories.{Dated, IsLegalHistory, cut_of_line, cuts_of, demands_left, left_by, left_by_entry, version_left}
 use Rattle.text_kit.specs.Edits.{IsEditInForm}
-use Rattle.planner.proofs.Histories.{cuts_both, get_behind, reply_next, version_few}
+use Rattle.planner.proofs.Histories.{cuts_both, get_after, reply_next, version_few}
 use Rattle.session_run.specs.inner.Ranges.{HasShortLengths}
 use Rattle.session_run.specs.inner.Running.{IsEntryOfCaller}
 use Rattle.session_run.proofs.Replies.{HasLowTotal, IsLow, reply_low}
@@ -63,7 +63,7 @@ cut_at es n index state lengths at is =
     ap cuts_of (split_at es n (Pooled index state lengths) at) ∙ cuts_both (take n es) (Pooled index state lengths ∷ drop (suc n) es) in
     ap (λ cuts. slice_get cuts index) whole
     ∙ (ap (λ k. slice_get (cuts_of (take n es) ++ (state.0, lengths) ∷ cuts_of (drop (suc n) es)) k) is
-    ∙ get_behind (cuts_of (take n es)) (state.0, lengths) (cuts_of (drop (suc n) es)))
+    ∙ get_after (cuts_of (take n es)) (state.0, lengths) (cuts_of (drop (suc n) es)))
 
 -- the line of this place has the state and the lengths of the cut
 line_of_map : (lines : List CutLine) (index : ℕ) (cut : CutLine) → slice_get (map cut_of_line lines) index ≡ Some (cut_of_line cut) → HasPoolLine lines index cut

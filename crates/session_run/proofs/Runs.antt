@@ -9,7 +9,7 @@ use Rattle.plan_types.specs.declared.report.Outcome.{Outcome}
 use Rattle.session_script.specs.declared.script.Act.{Act}
 use Rattle.session_script.specs.declared.script.Act.TheVariants.{Change, Plan}
 use Rattle.net_core.proofs.Lists.{get_front}
-use Rattle.planner.proofs.Histories.{get_behind}
+use Rattle.planner.proofs.Histories.{get_after}
 use Rattle.session_run.specs.Transcripts.{IsOutcomeAfter, RunsFrom}
 
 take_front : {X : Type 0} (xs ys : List X) (n : ℕ) → n ≤ length xs → take n (xs ++ ys) ≡ take n xs
@@ -75,7 +75,7 @@ module _ (p : Case) (es more : List Entry) (caller : ℕ) where
 pub run_edit : (p : Case) (es : List Entry) (caller : ℕ) (edit : Edit) (reply : Reply) (at serial : ℕ) (acts : List Act) (os : List Outcome)
     → RunsFrom p es caller at serial acts os → RunsFrom p (es ++ Edited caller edit reply ∷ []) caller at serial (acts ++ Change edit ∷ []) os
 run_edit p es caller edit reply at serial [] [] h =
-    (length es, reply, h, get_behind es (Edited caller edit reply) [], omega (arith, length-append es (Edited caller edit reply ∷ [])))
+    (length es, reply, h, get_after es (Edited caller edit reply) [], omega (arith, length-append es (Edited caller edit reply ∷ [])))
 run_edit p es caller edit reply at serial [] (o ∷ os) h = absurd h
 run_edit p es caller edit reply at serial (Change other ∷ acts) os h =
     (h.0, h.1, h.2, get_front es (Edited caller edit reply ∷ []) h.0 (Edited caller other h.1) h.3, run_edit p es caller edit reply (h.0 + 1) serial acts os h.4)

@@ -21,15 +21,15 @@ fn raise(flag: &AtomicU64) {
 
 /// An edit of one caller waits until another caller has edited.
 #[derive(Drop)]
-pub struct EditBehind {
+pub struct LateEdit {
     held: u32,
     by: u32,
     edited: AtomicU64,
 }
 
-impl EditBehind {
-    pub fn new(held: u32, by: u32) -> EditBehind {
-        EditBehind {
+impl LateEdit {
+    pub fn new(held: u32, by: u32) -> LateEdit {
+        LateEdit {
             held,
             by,
             edited: AtomicU64::new(0),
@@ -37,7 +37,7 @@ impl EditBehind {
     }
 }
 
-impl Gate for EditBehind {
+impl Gate for LateEdit {
     fn editing(&self, caller: u32) {
         if caller == self.held {
             wait_for(&self.edited);
@@ -55,7 +55,7 @@ impl Gate for EditBehind {
     fn after(&self, _caller: u32, _state: u32) {}
 }
 
-/// An edit of caller 2 waits until caller 1 has begun with state 0 in a round, and caller 1 waits behind each state until caller 2 has
+/// An edit of caller 2 waits until caller 1 has begun with state 0 in a round, and caller 1 waits after each state until caller 2 has
 /// edited.
 #[derive(Drop)]
 pub struct EditAmidPlan {

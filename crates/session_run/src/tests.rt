@@ -1,4 +1,4 @@
-use crate::held::{EditAmidPlan, EditBehind};
+use crate::held::{EditAmidPlan, LateEdit};
 use crate::session::{run_session, single_plan};
 use net_core::{Entry, List, Network, Reply, States};
 use outside_io::{Gate, OpenGate};
@@ -161,7 +161,7 @@ fn callers_run_beside_each_other(rt: HostRuntime) -> Result<(), Fail> {
     let commands = b"caller 1 set A 24\ncaller 2 set A 36\n";
     let cases: [(u32, u32); 2] = [(1, 2), (2, 1)];
     for (held, by) in cases {
-        let gate = EditBehind::new(held, by);
+        let gate = LateEdit::new(held, by);
         let Some(report) = report(&rt, alloc, &net, &states, &opening, commands, &gate)? else {
             assert!(rt; false);
             return Ok(());

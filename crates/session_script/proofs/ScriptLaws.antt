@@ -8,15 +8,15 @@ use Rattle.snd_tokens.specs.Header.{first_line, trimmed}
 use Rattle.snd_tokens.specs.Lexemes.{Text, EndAt}
 use Rattle.text_kit.specs.Answers.{AnswersAs, ReadsAllAs}
 use Rattle.text_kit.specs.Files.{IsNotTooEarly, body}
-use Rattle.text_kit.specs.Items.{AreBehind, Item, Verbatim, Whole, Money, Opening, Closing}
+use Rattle.text_kit.specs.Items.{ComeAfter, Item, Verbatim, Whole, Money, Opening, Closing}
 use Rattle.text_kit.specs.Reading.{word_at, TheEnd, no_fault}
 use Rattle.text_kit.specs.declared.refusal.Refusal.{Refusal}
 use Rattle.text_kit.specs.Names.{any_name}
 use Rattle.text_kit.proofs.Amounts.{lawful_amount}
 use Rattle.text_kit.proofs.NameLaws.{lawful_any_name}
-use Rattle.text_kit.proofs.Behind.{all_behind, behind_all, behind_as, behind_both}
+use Rattle.text_kit.proofs.After.{all_after, after_all, after_as, after_both}
 use Rattle.text_kit.proofs.Files.{answer_found, answer_only, answer_first, file_read}
-use Rattle.text_kit.proofs.Lawful.{AnyText, IsEnd, Lawful, behind_few, few_behind, lawful_as, lawful_close, lawful_give, lawful_list, lawful_open, lawful_then, lawful_word}
+use Rattle.text_kit.proofs.Lawful.{AnyText, IsEnd, Lawful, after_few, few_after, lawful_as, lawful_close, lawful_give, lawful_list, lawful_open, lawful_then, lawful_word}
 use Rattle.text_kit.proofs.Online.{IsOnline, TakesSome, online_close, online_give, online_list, online_open, online_then, online_word, takes_some}
 use Rattle.session_script.specs.declared.fault.ScriptKind.{ScriptKind}
 use Rattle.session_script.specs.declared.fault.ScriptKind.TheVariants.{Header, Token, Ended, LimitName, Number}
@@ -56,13 +56,13 @@ verb_for (Change (edits.Add name from to need)) = verbs.Add
 verb_for (Change (edits.Drop name)) = verbs.Drop
 verb_for Plan = verbs.Plan
 
-abbrev items_behind : Act → List Item
-items_behind (Change (edits.Set name need)) = Verbatim name ∷ Money need ∷ []
-items_behind (Change (edits.Add name from to need)) = Verbatim name ∷ Opening ∷ Verbatim from ∷ Verbatim to ∷ Closing ∷ Money need ∷ []
-items_behind (Change (edits.Drop name)) = Verbatim name ∷ []
-items_behind Plan = []
+abbrev items_after : Act → List Item
+items_after (Change (edits.Set name need)) = Verbatim name ∷ Money need ∷ []
+items_after (Change (edits.Add name from to need)) = Verbatim name ∷ Opening ∷ Verbatim from ∷ Verbatim to ∷ Closing ∷ Money need ∷ []
+items_after (Change (edits.Drop name)) = Verbatim name ∷ []
+items_after Plan = []
 
-all_items : (a : Act) → Verbatim (verb_word (verb_for a)) ∷ items_behind a ≡ act_items a
+all_items : (a : Act) → Verbatim (verb_word (verb_for a)) ∷ items_after a ≡ act_items a
 all_items (Change (edits.Set name need)) = refl
 all_items (Change (edits.Add name from to need)) = refl
 all_items (Change (edits.Drop name)) = refl
@@ -131,15 +131,15 @@ was_plan (Change (edits.Add name from to need)) h = absurd (let e : verbs.Plan �
 was_plan (Change (edits.Drop name)) h = absurd (let e : verbs.Plan ≡ verbs.Drop = h.0 in cc)
 was_plan Plan h = refl
 
-act_lawful : (v : Verb) → Lawful (act_at v) items_behind (IsOf v) AnyText
+act_lawful : (v : Verb) → Lawful (act_at v) items_after (IsOf v) AnyText
 unfolding act_at
-act_lawful verbs.Set = lawful_as (act_at verbs.Set) _ items_behind WasSet (IsOf verbs.Set) AnyText
-    (λ a h. ap items_behind h.1.1) (λ a h. subst (IsOf verbs.Set) h.1.1 (refl, (h.0, h.1.0))) was_set
+act_lawful verbs.Set = lawful_as (act_at verbs.Set) _ items_after WasSet (IsOf verbs.Set) AnyText
+    (λ a h. ap items_after h.1.1) (λ a h. subst (IsOf verbs.Set) h.1.1 (refl, (h.0, h.1.0))) was_set
     (lawful_then _ _ _ _ _ _ AnyText name_part (λ n a h. ap name_part h.1) name_lawful (λ name.
     lawful_then _ _ _ _ _ _ AnyText need_part (λ n a h. ap need_part h) need_lawful (λ need.
     lawful_give (Change (edits.Set name need)))))
-act_lawful verbs.Add = lawful_as (act_at verbs.Add) _ items_behind WasAdd (IsOf verbs.Add) AnyText
-    (λ a h. ap items_behind h.1.1.1.1.1.1) (λ a h. subst (IsOf verbs.Add) h.1.1.1.1.1.1 (refl, (h.0, h.1.1.0, h.1.1.1.0, h.1.1.1.1.1.0))) was_add
+act_lawful verbs.Add = lawful_as (act_at verbs.Add) _ items_after WasAdd (IsOf verbs.Add) AnyText
+    (λ a h. ap items_after h.1.1.1.1.1.1) (λ a h. subst (IsOf verbs.Add) h.1.1.1.1.1.1 (refl, (h.0, h.1.1.0, h.1.1.1.0, h.1.1.1.1.1.0))) was_add
     (lawful_then _ _ _ _ _ _ AnyText name_part (λ n a h. ap name_part h.1.1.1.1.1) name_lawful (λ name.
     lawful_then _ _ _ _ _ _ AnyText (λ a. tt) (λ x a h. refl) (lawful_open Token Ended) (λ o.
     lawful_then _ _ _ _ _ _ AnyText from_part (λ n a h. ap from_part h.1.1.1) name_lawful (λ from.
@@ -147,23 +147,23 @@ act_lawful verbs.Add = lawful_as (act_at verbs.Add) _ items_behind WasAdd (IsOf 
     lawful_then _ _ _ _ _ _ AnyText (λ a. tt) (λ x a h. refl) (lawful_close Token Ended) (λ c.
     lawful_then _ _ _ _ _ _ AnyText need_part (λ n a h. ap need_part h) need_lawful (λ need.
     lawful_give (Change (edits.Add name from to need)))))))))
-act_lawful verbs.Drop = lawful_as (act_at verbs.Drop) _ items_behind WasDrop (IsOf verbs.Drop) AnyText
-    (λ a h. ap items_behind h.1) (λ a h. subst (IsOf verbs.Drop) h.1 (refl, h.0)) was_drop
+act_lawful verbs.Drop = lawful_as (act_at verbs.Drop) _ items_after WasDrop (IsOf verbs.Drop) AnyText
+    (λ a h. ap items_after h.1) (λ a h. subst (IsOf verbs.Drop) h.1 (refl, h.0)) was_drop
     (lawful_then _ _ _ _ _ _ AnyText name_part (λ n a h. ap name_part h) name_lawful (λ name.
     lawful_give (Change (edits.Drop name))))
-act_lawful verbs.Plan = lawful_as (act_at verbs.Plan) _ items_behind _ (IsOf verbs.Plan) AnyText
-    (λ a e. ap items_behind e) (λ a e. subst (IsOf verbs.Plan) e (refl, tt)) was_plan (lawful_give Plan)
+act_lawful verbs.Plan = lawful_as (act_at verbs.Plan) _ items_after _ (IsOf verbs.Plan) AnyText
+    (λ a e. ap items_after e) (λ a e. subst (IsOf verbs.Plan) e (refl, tt)) was_plan (lawful_give Plan)
 
 -- ---- commands
 
 -- a command that may stand after earlier ones
-abbrev IsCommandBehind : List Command → Command → Type 0
-IsCommandBehind sofar c = (length sofar < 1000) × (IsCallerNumber c.caller × (HasRoom sofar (verb_for c.act) × IsActInForm c.act))
+abbrev IsCommandAfter : List Command → Command → Type 0
+IsCommandAfter sofar c = (length sofar < 1000) × (IsCallerNumber c.caller × (HasRoom sofar (verb_for c.act) × IsActInForm c.act))
 
-command_lawful : (sofar : List Command) → Lawful (command_at sofar) command_items (IsCommandBehind sofar) AnyText
+command_lawful : (sofar : List Command) → Lawful (command_at sofar) command_items (IsCommandAfter sofar) AnyText
 unfolding command_at
-command_lawful sofar = lawful_as (command_at sofar) _ command_items _ (IsCommandBehind sofar) AnyText
-    (λ c h. ap (λ (is : List Item). Verbatim (codes "caller") ∷ Whole c.caller ∷ is) (ap (λ (is : List Item). Verbatim (verb_word (verb_for c.act)) ∷ is) (append-nil (items_behind c.act)) ∙ all_items c.act))
+command_lawful sofar = lawful_as (command_at sofar) _ command_items _ (IsCommandAfter sofar) AnyText
+    (λ c h. ap (λ (is : List Item). Verbatim (codes "caller") ∷ Whole c.caller ∷ is) (ap (λ (is : List Item). Verbatim (verb_word (verb_for c.act)) ∷ is) (append-nil (items_after c.act)) ∙ all_items c.act))
     (λ c h. (h.0, (h.1.0, (h.1.1.0, h.1.1.1.0.1))))
     (λ c h. (h.0, (h.1.0, (h.1.1.0, ((refl, h.1.1.1), refl)))))
     (lawful_then _ _ _ _ _ _ AnyText (λ c. tt) (λ x c h. refl) (begun_lawful sofar) (λ x.
@@ -192,13 +192,13 @@ room_left sofar caller (Change (edits.Add name from to need)) le = tt
 room_left sofar caller (Change (edits.Drop name)) le = tt
 room_left sofar caller Plan le = omega (arith, le, plans_both sofar (record { caller = caller; act = Plan } ∷ []))
 
-plans_more : (sofar cs : List Command) → plans sofar ≤ 64 → AreBehind (λ before c. HasRoom before (verb_for c.act)) sofar cs → plans (sofar ++ cs) ≤ 64
+plans_more : (sofar cs : List Command) → plans sofar ≤ 64 → ComeAfter (λ before c. HasRoom before (verb_for c.act)) sofar cs → plans (sofar ++ cs) ≤ 64
 plans_more sofar [] le all = subst (λ (xs : List Command). plans xs ≤ 64) (sym (append-nil sofar)) le
 plans_more sofar (c ∷ cs) le all =
     subst (λ (xs : List Command). plans xs ≤ 64) (append_assoc sofar (c ∷ []) cs)
     (plans_more (sofar ++ c ∷ []) cs (plan_room sofar c.caller c.act all.0 le) all.1)
 
-more_plans : (sofar cs : List Command) → plans (sofar ++ cs) ≤ 64 → AreBehind (λ before c. HasRoom before (verb_for c.act)) sofar cs
+more_plans : (sofar cs : List Command) → plans (sofar ++ cs) ≤ 64 → ComeAfter (λ before c. HasRoom before (verb_for c.act)) sofar cs
 more_plans sofar [] le = tt
 more_plans sofar (c ∷ cs) le =
     let all : plans ((sofar ++ c ∷ []) ++ cs) ≤ 64 = subst (λ (xs : List Command). plans xs ≤ 64) (sym (append_assoc sofar (c ∷ []) cs)) le in
@@ -206,23 +206,23 @@ more_plans sofar (c ∷ cs) le =
 
 -- ---- scripts
 
-is_script : (cs : List Command) → AreBehind IsCommandBehind [] cs → IsScript cs
+is_script : (cs : List Command) → ComeAfter IsCommandAfter [] cs → IsScript cs
 is_script cs all = record {
-  few = (few_behind 1000 (λ before c. Unit {0}) [] cs (omega arith) (behind_as IsCommandBehind (λ before c. (length before < 1000) × Unit {0}) [] cs (λ before c h. (h.0, tt)) all)).0;
-  plans = plans_more [] cs (omega arith) (behind_as IsCommandBehind (λ before c. HasRoom before (verb_for c.act)) [] cs (λ before c h. h.1.1.0) all);
-  each = behind_all IsCommandInForm [] cs (behind_as IsCommandBehind (λ before c. IsCommandInForm c) [] cs (λ before c h. record { some = h.1.0.0; most = h.1.0.1; act = h.1.1.1 }) all);
+  few = (few_after 1000 (λ before c. Unit {0}) [] cs (omega arith) (after_as IsCommandAfter (λ before c. (length before < 1000) × Unit {0}) [] cs (λ before c h. (h.0, tt)) all)).0;
+  plans = plans_more [] cs (omega arith) (after_as IsCommandAfter (λ before c. HasRoom before (verb_for c.act)) [] cs (λ before c h. h.1.1.0) all);
+  each = after_all IsCommandInForm [] cs (after_as IsCommandAfter (λ before c. IsCommandInForm c) [] cs (λ before c h. record { some = h.1.0.0; most = h.1.0.1; act = h.1.1.1 }) all);
 }
 
-are_commands : (cs : List Command) → IsScript cs → AreBehind IsCommandBehind [] cs
+are_commands : (cs : List Command) → IsScript cs → ComeAfter IsCommandAfter [] cs
 are_commands cs is =
-    behind_as _ IsCommandBehind [] cs (λ before c h. (h.0.0, ((h.1.1.some, h.1.1.most), (h.1.0, h.1.1.act))))
-    (behind_both (λ before c. (length before < 1000) × Unit {0}) (λ before c. HasRoom before (verb_for c.act) × IsCommandInForm c) [] cs
-    (behind_few 1000 (λ before c. Unit {0}) [] cs is.few (all_behind (λ c. Unit {0}) [] cs (λ k d lt. tt)))
-    (behind_both (λ before c. HasRoom before (verb_for c.act)) (λ before c. IsCommandInForm c) [] cs (more_plans [] cs is.plans) (all_behind IsCommandInForm [] cs is.each)))
+    after_as _ IsCommandAfter [] cs (λ before c h. (h.0.0, ((h.1.1.some, h.1.1.most), (h.1.0, h.1.1.act))))
+    (after_both (λ before c. (length before < 1000) × Unit {0}) (λ before c. HasRoom before (verb_for c.act) × IsCommandInForm c) [] cs
+    (after_few 1000 (λ before c. Unit {0}) [] cs is.few (all_after (λ c. Unit {0}) [] cs (λ k d lt. tt)))
+    (after_both (λ before c. HasRoom before (verb_for c.act)) (λ before c. IsCommandInForm c) [] cs (more_plans [] cs is.plans) (all_after IsCommandInForm [] cs is.each)))
 
 commands_lawful : Lawful (commands_at []) (λ cs. flat_map command_items cs) IsScript IsEnd
 commands_lawful = lawful_as (commands_at []) _ (λ cs. flat_map command_items cs) _ IsScript IsEnd (λ cs h. append-nil (flat_map command_items cs)) (λ cs h. is_script cs h.1) (λ cs h. (refl, are_commands cs h))
-    (lawful_list TheEnd no_fault command_at command_items IsCommandBehind (λ c. tt) command_lawful)
+    (lawful_list TheEnd no_fault command_at command_items IsCommandAfter (λ c. tt) command_lawful)
 
 -- ---- faults stand where they are met
 

@@ -48,12 +48,12 @@ without_point word point first none whole =
 pub with_point : (word : List ℕ) (point : ℕ) → point ≡ position_or_len is_point word → point < length word → are_digits (take point word) ≡ true → are_digits (take (length word - (point + 1)) (drop (point + 1) word)) ≡ true → IsTrue (is_decimal word) × AreParts word (take point word) (take (length word - (point + 1)) (drop (point + 1) word))
 with_point word point first some whole places =
     let before : are_digits (whole_part word) ≡ true = subst (λ n. are_digits (take n word) ≡ true) first whole in
-    let behind : take (length word - (point + 1)) (drop (point + 1) word) ≡ places_of word = take_rest word (point + 1) ∙ ap (λ n. drop (n + 1) word) first in
-    let after : are_digits (places_of word) ≡ true = subst (λ bytes. are_digits bytes ≡ true) behind places in (
+    let following : take (length word - (point + 1)) (drop (point + 1) word) ≡ places_of word = take_rest word (point + 1) ∙ ap (λ n. drop (n + 1) word) first in
+    let after : are_digits (places_of word) ≡ true = subst (λ bytes. are_digits bytes ≡ true) following places in (
       and_from _ _ before (or_right _ _ after),
       record {
         before = ap (λ n. take n word) first;
-        after = behind;
+        after = following;
         whole_digits = list_all-digits (take point word) whole;
         places_digits = list_all-digits (take (length word - (point + 1)) (drop (point + 1) word)) places;
       },
@@ -62,8 +62,8 @@ with_point word point first some whole places =
 -- a word with something else than digits after its point
 pub bad_places : (word : List ℕ) (point : ℕ) → point ≡ position_or_len is_point word → point < length word → are_digits (take (length word - (point + 1)) (drop (point + 1) word)) ≡ false → IsTrue (is_decimal word) → ⊥
 bad_places word point first some places d =
-    let behind : take (length word - (point + 1)) (drop (point + 1) word) ≡ places_of word = take_rest word (point + 1) ∙ ap (λ n. drop (n + 1) word) first in
-    let after : are_digits (places_of word) ≡ false = subst (λ bytes. are_digits bytes ≡ false) behind places in
+    let following : take (length word - (point + 1)) (drop (point + 1) word) ≡ places_of word = take_rest word (point + 1) ∙ ap (λ n. drop (n + 1) word) first in
+    let after : are_digits (places_of word) ≡ false = subst (λ bytes. are_digits bytes ≡ false) following places in
     let a_point : list_any is_point word ≡ true = list_any-some is_point word (omega arith) in
     let second : (not (list_any is_point word) || are_digits (places_of word)) ≡ true = (and_parts (are_digits (whole_part word)) _ d).1 in
     let neither : (not (list_any is_point word) || are_digits (places_of word)) ≡ false = rw (a_point, after) refl in

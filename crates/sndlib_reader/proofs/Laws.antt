@@ -8,15 +8,15 @@ use Rattle.net_core.specs.Network.{IsLink, IsModule}
 use Rattle.net_core.specs.declared.demand.Demand.{Demand}
 use Rattle.net_core.specs.declared.ids.NodeId.{NodeId}
 use Rattle.net_core.specs.declared.network.Module.{Module}
-use Rattle.text_kit.specs.Items.{AreBehind, AreSpelled, Item, Verbatim, Money, Opening, Closing}
+use Rattle.text_kit.specs.Items.{ComeAfter, AreSpelled, Item, Verbatim, Money, Opening, Closing}
 use Rattle.text_kit.specs.Reading.{word_at, Parenthesis, no_fault}
-use Rattle.text_kit.proofs.Behind.{all_behind, behind_all, behind_as, behind_both}
+use Rattle.text_kit.proofs.After.{all_after, after_all, after_as, after_both}
 use Rattle.text_kit.specs.Numbers.{number_or}
 use Rattle.snd_tokens.specs.Amounts.{units_of}
 use Rattle.text_kit.proofs.Amounts.{lawful_amount, number_takes}
 use Rattle.text_kit.proofs.NameLaws.{IsNew, are_new, lawful_new_name, lawful_place, new_are}
-use Rattle.text_kit.proofs.Lawful.{AnyText, Lawful, Starts, behind_few, few_behind, lawful_as, lawful_close, lawful_give, lawful_list, lawful_open, lawful_then, lawful_word}
-use Rattle.text_kit.proofs.Spelled.{Spelled, behind_parts, parts_behind, spelled_as, spelled_give, spelled_law, spelled_list, spelled_then, spelled_word}
+use Rattle.text_kit.proofs.Lawful.{AnyText, Lawful, Starts, after_few, few_after, lawful_as, lawful_close, lawful_give, lawful_list, lawful_open, lawful_then, lawful_word}
+use Rattle.text_kit.proofs.Spelled.{Spelled, after_parts, parts_after, spelled_as, spelled_give, spelled_law, spelled_list, spelled_then, spelled_word}
 use Rattle.sndlib_reader.specs.declared.costs.CostedLink.{CostedLink}
 use Rattle.sndlib_reader.specs.declared.fault.Limited.TheVariants as limits
 use Rattle.sndlib_reader.specs.declared.fault.ReadKind.{ReadKind}
@@ -82,14 +82,14 @@ served_again fixed (m ∷ ms) h = rw (has_some m ms) refl
 
 modules_lawful : (fixed : ℕ) → Lawful (native_modules_at fixed []) (λ ms. flat_map module_items ms ++ Closing ∷ []) (AreModules fixed) AnyText
 modules_lawful fixed = lawful_as (native_modules_at fixed []) _ (λ ms. flat_map module_items ms ++ Closing ∷ []) _ (AreModules fixed) AnyText (λ ms h. refl)
-    (λ ms h. let f = few_behind 16 (λ before m. IsModule m) [] ms (omega arith) h.1 in record { few = f.0; each = behind_all IsModule [] ms f.1; served = served_takes fixed ms h.0 })
-    (λ ms h. (served_again fixed ms h.served, behind_few 16 (λ before m. IsModule m) [] ms h.few (all_behind IsModule [] ms h.each)))
+    (λ ms h. let f = few_after 16 (λ before m. IsModule m) [] ms (omega arith) h.1 in record { few = f.0; each = after_all IsModule [] ms f.1; served = served_takes fixed ms h.0 })
+    (λ ms h. (served_again fixed ms h.served, after_few 16 (λ before m. IsModule m) [] ms h.few (all_after IsModule [] ms h.each)))
     (lawful_list Parenthesis (unserved fixed) module_at module_items (λ sofar m. (length sofar < 16) × IsModule m) (λ m. tt) module_lawful)
 
 -- ---- links
 
 -- a link that may stand after earlier ones
-pub record IsLinkBehind (nodes : List (List ℕ)) (sofar : List CostedLink) (l : CostedLink) : Type 0 where
+pub record IsLinkAfter (nodes : List (List ℕ)) (sofar : List CostedLink) (l : CostedLink) : Type 0 where
   pub new : IsNew (λ x. x.link.name) 256 sofar l.link.name
   pub ends : AreEnds nodes l.link.a l.link.b
   pub fixed : l.link.fixed < 2 ^ 40
@@ -98,9 +98,9 @@ pub record IsLinkBehind (nodes : List (List ℕ)) (sofar : List CostedLink) (l :
   pub setup : l.link.setup < 2 ^ 40
   pub modules : AreModules l.link.fixed l.link.modules
 
-link_lawful : (nodes : List (List ℕ)) → AreDifferent nodes → (sofar : List CostedLink) → Lawful (native_link_at nodes sofar) (link_items nodes) (IsLinkBehind nodes sofar) AnyText
+link_lawful : (nodes : List (List ℕ)) → AreDifferent nodes → (sofar : List CostedLink) → Lawful (native_link_at nodes sofar) (link_items nodes) (IsLinkAfter nodes sofar) AnyText
 unfolding native_link_at
-link_lawful nodes pairs sofar = lawful_as (native_link_at nodes sofar) _ (link_items nodes) _ (IsLinkBehind nodes sofar) AnyText
+link_lawful nodes pairs sofar = lawful_as (native_link_at nodes sofar) _ (link_items nodes) _ (IsLinkAfter nodes sofar) AnyText
     (λ l h. ap (λ (is : List Item). Verbatim l.link.name ∷ node_pair_items nodes l.link.a l.link.b ++ Money l.link.fixed ∷ Money l.fixed_cost ∷ Money l.routing_cost ∷ Money l.link.setup ∷ Opening ∷ is) (append-nil (flat_map module_items l.link.modules ++ Closing ∷ [])))
     (λ l h. record { new = h.0; ends = h.1.0; fixed = h.1.1.0; fixed_cost = h.1.1.1.0; routing_cost = h.1.1.1.1.0; setup = h.1.1.1.1.1.0; modules = h.1.1.1.1.1.1.1.0 })
     (λ l h. (h.new, (h.ends, (h.fixed, (h.fixed_cost, (h.routing_cost, (h.setup, (tt, (h.modules, refl)))))))))
@@ -114,9 +114,9 @@ link_lawful nodes pairs sofar = lawful_as (native_link_at nodes sofar) _ (link_i
     lawful_then _ _ _ _ _ _ AnyText (λ l. l.link.modules) (λ a l h. ap (λ (x : CostedLink). x.link.modules) h) (modules_lawful fixed) (λ modules.
     lawful_give (record { link = record { name = name; a = ends.0; b = ends.1; fixed = fixed; setup = setup; modules = modules }; fixed_cost = fixed_cost; routing_cost = routing_cost }))))))))))
 
-pub links_lawful : (nodes : List (List ℕ)) → AreDifferent nodes → Lawful (costed_links_at nodes []) (λ ls. flat_map (link_items nodes) ls ++ Closing ∷ []) (λ ls. AreBehind (IsLinkBehind nodes) [] ls) AnyText
-links_lawful nodes pairs = lawful_as (costed_links_at nodes []) _ (λ ls. flat_map (link_items nodes) ls ++ Closing ∷ []) _ (λ ls. AreBehind (IsLinkBehind nodes) [] ls) AnyText (λ ls h. refl) (λ ls h. h.1) (λ ls h. (refl, h))
-    (lawful_list Parenthesis no_fault (native_link_at nodes) (link_items nodes) (IsLinkBehind nodes) (λ l. tt) (link_lawful nodes pairs))
+pub links_lawful : (nodes : List (List ℕ)) → AreDifferent nodes → Lawful (costed_links_at nodes []) (λ ls. flat_map (link_items nodes) ls ++ Closing ∷ []) (λ ls. ComeAfter (IsLinkAfter nodes) [] ls) AnyText
+links_lawful nodes pairs = lawful_as (costed_links_at nodes []) _ (λ ls. flat_map (link_items nodes) ls ++ Closing ∷ []) _ (λ ls. ComeAfter (IsLinkAfter nodes) [] ls) AnyText (λ ls h. refl) (λ ls h. h.1) (λ ls h. (refl, h))
+    (lawful_list Parenthesis no_fault (native_link_at nodes) (link_items nodes) (IsLinkAfter nodes) (λ l. tt) (link_lawful nodes pairs))
 
 -- all links together
 pub record AreLinks (nodes : List (List ℕ)) (links : List CostedLink) : Type 0 where
@@ -125,32 +125,32 @@ pub record AreLinks (nodes : List (List ℕ)) (links : List CostedLink) : Type 0
   pub sound : All (λ l. IsLink (length nodes) l.link) links
   pub short : All IsShortLink links
 
-pub are_links : (nodes : List (List ℕ)) (links : List CostedLink) → AreBehind (IsLinkBehind nodes) [] links → AreLinks nodes links
+pub are_links : (nodes : List (List ℕ)) (links : List CostedLink) → ComeAfter (IsLinkAfter nodes) [] links → AreLinks nodes links
 are_links nodes links all =
-    let new = are_new (λ (x : CostedLink). x.link.name) 256 links (behind_as (IsLinkBehind nodes) (λ before l. IsNew (λ x. x.link.name) 256 before l.link.name) [] links (λ before l h. h.new) all) in
+    let new = are_new (λ (x : CostedLink). x.link.name) 256 links (after_as (IsLinkAfter nodes) (λ before l. IsNew (λ x. x.link.name) 256 before l.link.name) [] links (λ before l h. h.new) all) in
     record {
       few = new.0;
       different = new.1;
-      sound = behind_all (λ (l : CostedLink). IsLink (length nodes) l.link) [] links (behind_as (IsLinkBehind nodes) (λ before l. IsLink (length nodes) l.link) [] links (λ before l h. record { from = h.ends.0.0; to = h.ends.1.1.0; different = h.ends.1.0; fixed = h.fixed; setup = h.setup; few = h.modules.few; each = h.modules.each; served = h.modules.served }) all);
-      short = behind_all IsShortLink [] links (behind_as (IsLinkBehind nodes) (λ before l. IsShortLink l) [] links (λ before l h. record { name = h.new.2; fixed_cost = h.fixed_cost; routing_cost = h.routing_cost }) all);
+      sound = after_all (λ (l : CostedLink). IsLink (length nodes) l.link) [] links (after_as (IsLinkAfter nodes) (λ before l. IsLink (length nodes) l.link) [] links (λ before l h. record { from = h.ends.0.0; to = h.ends.1.1.0; different = h.ends.1.0; fixed = h.fixed; setup = h.setup; few = h.modules.few; each = h.modules.each; served = h.modules.served }) all);
+      short = after_all IsShortLink [] links (after_as (IsLinkAfter nodes) (λ before l. IsShortLink l) [] links (λ before l h. record { name = h.new.2; fixed_cost = h.fixed_cost; routing_cost = h.routing_cost }) all);
     }
 
-pub links_are : (nodes : List (List ℕ)) (links : List CostedLink) → All (λ n. length n ≤ 255) nodes → AreLinks nodes links → AreBehind (IsLinkBehind nodes) [] links
+pub links_are : (nodes : List (List ℕ)) (links : List CostedLink) → All (λ n. length n ≤ 255) nodes → AreLinks nodes links → ComeAfter (IsLinkAfter nodes) [] links
 links_are nodes links short are =
-    behind_as _ (IsLinkBehind nodes) [] links
+    after_as _ (IsLinkAfter nodes) [] links
     (λ before l h.
     let s = h.1 in
     let link = s.0 in
     let costs = s.1 in
     record { new = h.0; ends = ((link.from, short l.link.a.0 [] link.from), (link.different, (link.to, short l.link.b.0 [] link.to))); fixed = link.fixed; fixed_cost = costs.fixed_cost; routing_cost = costs.routing_cost; setup = link.setup; modules = record { few = link.few; each = link.each; served = link.served } })
-    (behind_both (λ before l. IsNew (λ x. x.link.name) 256 before l.link.name) (λ before (l : CostedLink). IsLink (length nodes) l.link × IsShortLink l) [] links
+    (after_both (λ before l. IsNew (λ x. x.link.name) 256 before l.link.name) (λ before (l : CostedLink). IsLink (length nodes) l.link × IsShortLink l) [] links
     (new_are (λ (x : CostedLink). x.link.name) 256 links are.few are.different (λ k d lt. (are.short k d lt).name))
-    (all_behind (λ (l : CostedLink). IsLink (length nodes) l.link × IsShortLink l) [] links (λ k d lt. (are.sound k d lt, are.short k d lt))))
+    (all_after (λ (l : CostedLink). IsLink (length nodes) l.link × IsShortLink l) [] links (λ k d lt. (are.sound k d lt, are.short k d lt))))
 
 -- ---- demands
 
 -- a demand that may stand after earlier ones
-pub record IsDemandBehind (nodes : List (List ℕ)) (sofar : List Demand) (d : Demand) : Type 0 where
+pub record IsDemandAfter (nodes : List (List ℕ)) (sofar : List Demand) (d : Demand) : Type 0 where
   pub new : IsNew (λ x. x.name) 2048 sofar d.name
   pub ends : AreEnds nodes d.from d.to
   pub need : d.need < 2 ^ 40
@@ -160,16 +160,16 @@ joined : (is js ks j2 k2 j3 k3 j4 k4 j5 k5 ends : List Item) (n u a h : List ℕ
     → is ≡ Verbatim n ∷ ends ++ Verbatim u ∷ Verbatim a ∷ Verbatim h ∷ []
 joined is js ks j2 k2 j3 k3 j4 k4 j5 k5 ends n u a h e1 e2 e3 e4 e5 e6 e7 e8 e9 e10 e11 = rw (e1, e2, e3, e4, e5, e6, e7, e8, e9, e10, e11) refl
 
-demand_spelled : (nodes : List (List ℕ)) → AreDifferent nodes → (sofar : List Demand) → Spelled (native_demand_at nodes sofar) (λ d is. IsDemandBehind nodes sofar d × SpellsDemand nodes d is) AnyText
+demand_spelled : (nodes : List (List ℕ)) → AreDifferent nodes → (sofar : List Demand) → Spelled (native_demand_at nodes sofar) (λ d is. IsDemandAfter nodes sofar d × SpellsDemand nodes d is) AnyText
 unfolding native_demand_at
-demand_spelled nodes pairs sofar = spelled_as (native_demand_at nodes sofar) _ (λ d is. IsDemandBehind nodes sofar d × SpellsDemand nodes d is) AnyText
+demand_spelled nodes pairs sofar = spelled_as (native_demand_at nodes sofar) _ (λ d is. IsDemandAfter nodes sofar d × SpellsDemand nodes d is) AnyText
     (λ d is s.
     let e = s.4 in
     let u = e.4 in
     let n = u.4 in
     let h = n.4 in
     let needed = need_takes (needs_in_all sofar) u.0 n.3.0 n.0 n.3.1 in
-    subst (λ (x : Demand). IsDemandBehind nodes sofar x × SpellsDemand nodes x is) h.4.0 (
+    subst (λ (x : Demand). IsDemandAfter nodes sofar x × SpellsDemand nodes x is) h.4.0 (
       record { new = s.3.0; ends = e.3.0; need = needed.small; below = needed.below },
       record {
         unit = u.3.0;
@@ -230,48 +230,48 @@ demand_spelled nodes pairs sofar = spelled_as (native_demand_at nodes sofar) _ (
     spelled_then _ _ _ _ AnyText (spelled_word Token Ended hops) (λ h js s.
     spelled_give _))))))
 
-demand_starts : (nodes : List (List ℕ)) (sofar : List Demand) (d : Demand) (is : List Item) → IsDemandBehind nodes sofar d × SpellsDemand nodes d is → Starts is
+demand_starts : (nodes : List (List ℕ)) (sofar : List Demand) (d : Demand) (is : List Item) → IsDemandAfter nodes sofar d × SpellsDemand nodes d is → Starts is
 demand_starts nodes sofar d is s = let t = s.1 in subst Starts (sym t.items_are) tt
 
-pub demands_spelled : (nodes : List (List ℕ)) → AreDifferent nodes → Spelled (native_demands_at nodes []) (λ ds is. (js : List Item) × AreBehind (IsDemandBehind nodes) [] ds × AreSpelled (SpellsDemand nodes) ds js × (is ≡ js ++ Closing ∷ [])) AnyText
+pub demands_spelled : (nodes : List (List ℕ)) → AreDifferent nodes → Spelled (native_demands_at nodes []) (λ ds is. (js : List Item) × ComeAfter (IsDemandAfter nodes) [] ds × AreSpelled (SpellsDemand nodes) ds js × (is ≡ js ++ Closing ∷ [])) AnyText
 demands_spelled nodes pairs = spelled_as (native_demands_at nodes []) _ _ AnyText
-    (λ ds is s. let p = behind_parts (IsDemandBehind nodes) (SpellsDemand nodes) [] ds s.1.0 s.1.1 in (s.1.0, p.0, p.1, s.1.2))
-    (λ ds is s. (refl, (s.0, parts_behind (IsDemandBehind nodes) (SpellsDemand nodes) [] ds s.0 s.1 s.2, s.3)))
-    (spelled_list no_fault (native_demand_at nodes) (λ sofar d is. IsDemandBehind nodes sofar d × SpellsDemand nodes d is) (demand_starts nodes) (demand_spelled nodes pairs))
+    (λ ds is s. let p = after_parts (IsDemandAfter nodes) (SpellsDemand nodes) [] ds s.1.0 s.1.1 in (s.1.0, p.0, p.1, s.1.2))
+    (λ ds is s. (refl, (s.0, parts_after (IsDemandAfter nodes) (SpellsDemand nodes) [] ds s.0 s.1 s.2, s.3)))
+    (spelled_list no_fault (native_demand_at nodes) (λ sofar d is. IsDemandAfter nodes sofar d × SpellsDemand nodes d is) (demand_starts nodes) (demand_spelled nodes pairs))
 
 -- the need of all, one by one
-total_below : (sofar ds : List Demand) → needs_in_all sofar < 2 ^ 44 → AreBehind (λ before d. needs_in_all before + d.need < 2 ^ 44) sofar ds → needs_in_all (sofar ++ ds) < 2 ^ 44
+total_below : (sofar ds : List Demand) → needs_in_all sofar < 2 ^ 44 → ComeAfter (λ before d. needs_in_all before + d.need < 2 ^ 44) sofar ds → needs_in_all (sofar ++ ds) < 2 ^ 44
 total_below sofar [] small all = subst (λ (xs : List Demand). needs_in_all xs < 2 ^ 44) (sym (append-nil sofar)) small
 total_below sofar (d ∷ ds) small all =
     subst (λ (xs : List Demand). needs_in_all xs < 2 ^ 44) (append_assoc sofar (d ∷ []) ds)
     (total_below (sofar ++ d ∷ []) ds (subst (λ (k : ℕ). k < 2 ^ 44) (sym (sum_by_push (λ x. x.need) sofar d)) all.0) all.1)
 
-below_total : (sofar ds : List Demand) → needs_in_all (sofar ++ ds) < 2 ^ 44 → AreBehind (λ before d. needs_in_all before + d.need < 2 ^ 44) sofar ds
+below_total : (sofar ds : List Demand) → needs_in_all (sofar ++ ds) < 2 ^ 44 → ComeAfter (λ before d. needs_in_all before + d.need < 2 ^ 44) sofar ds
 below_total sofar [] small = tt
 below_total sofar (d ∷ ds) small =
     let sum : needs_in_all (sofar ++ d ∷ ds) ≡ needs_in_all sofar + (d.need + needs_in_all ds) = sum_by-append (λ x. x.need) sofar (d ∷ ds) ∙ ap (λ (k : ℕ). needs_in_all sofar + k) (sum_by-cons (λ x. x.need) d ds) in
     (omega (arith, sum, small), below_total (sofar ++ d ∷ []) ds (subst (λ (xs : List Demand). needs_in_all xs < 2 ^ 44) (sym (append_assoc sofar (d ∷ []) ds)) small))
 
-pub are_demands : (nodes : List (List ℕ)) (ds : List Demand) → AreBehind (IsDemandBehind nodes) [] ds → AreDemands (length nodes) ds
+pub are_demands : (nodes : List (List ℕ)) (ds : List Demand) → ComeAfter (IsDemandAfter nodes) [] ds → AreDemands (length nodes) ds
 are_demands nodes ds all =
-    let new = are_new (λ (x : Demand). x.name) 2048 ds (behind_as (IsDemandBehind nodes) (λ before d. IsNew (λ x. x.name) 2048 before d.name) [] ds (λ before d h. h.new) all) in
+    let new = are_new (λ (x : Demand). x.name) 2048 ds (after_as (IsDemandAfter nodes) (λ before d. IsNew (λ x. x.name) 2048 before d.name) [] ds (λ before d h. h.new) all) in
     record {
       few = new.0;
       different = new.1;
-      each = behind_all (IsDemand (length nodes)) [] ds (behind_as (IsDemandBehind nodes) (λ before d. IsDemand (length nodes) d) [] ds (λ before d h. record { from_known = h.ends.0.0; to_known = h.ends.1.1.0; different = h.ends.1.0; need = h.need }) all);
-      total = total_below [] ds (omega arith) (behind_as (IsDemandBehind nodes) (λ before d. needs_in_all before + d.need < 2 ^ 44) [] ds (λ before d h. h.below) all);
+      each = after_all (IsDemand (length nodes)) [] ds (after_as (IsDemandAfter nodes) (λ before d. IsDemand (length nodes) d) [] ds (λ before d h. record { from_known = h.ends.0.0; to_known = h.ends.1.1.0; different = h.ends.1.0; need = h.need }) all);
+      total = total_below [] ds (omega arith) (after_as (IsDemandAfter nodes) (λ before d. needs_in_all before + d.need < 2 ^ 44) [] ds (λ before d h. h.below) all);
     }
 
-spelled_short : (nodes : List (List ℕ)) (ds : List Demand) (is : List Item) → AreSpelled (SpellsDemand nodes) ds is → (sofar : List Demand) → AreBehind (λ before d. length d.name ≤ 255) sofar ds
+spelled_short : (nodes : List (List ℕ)) (ds : List Demand) (is : List Item) → AreSpelled (SpellsDemand nodes) ds is → (sofar : List Demand) → ComeAfter (λ before d. length d.name ≤ 255) sofar ds
 spelled_short nodes [] is s sofar = tt
 spelled_short nodes (d ∷ ds) is s sofar = let t = s.2 in (t.short, spelled_short nodes ds s.1 s.3 (sofar ++ d ∷ []))
 
-pub demands_are : (nodes : List (List ℕ)) (ds : List Demand) (is : List Item) → All (λ n. length n ≤ 255) nodes → AreDemands (length nodes) ds → AreSpelled (SpellsDemand nodes) ds is → AreBehind (IsDemandBehind nodes) [] ds
+pub demands_are : (nodes : List (List ℕ)) (ds : List Demand) (is : List Item) → All (λ n. length n ≤ 255) nodes → AreDemands (length nodes) ds → AreSpelled (SpellsDemand nodes) ds is → ComeAfter (IsDemandAfter nodes) [] ds
 demands_are nodes ds is short are spelled =
-    behind_as _ (IsDemandBehind nodes) [] ds
+    after_as _ (IsDemandAfter nodes) [] ds
     (λ before d h.
     let one = h.1.1 in
     record { new = h.0; ends = ((one.from_known, short d.from.0 [] one.from_known), (one.different, (one.to_known, short d.to.0 [] one.to_known))); need = one.need; below = h.1.0 })
-    (behind_both (λ before d. IsNew (λ x. x.name) 2048 before d.name) (λ before d. (needs_in_all before + d.need < 2 ^ 44) × IsDemand (length nodes) d) [] ds
-    (new_are (λ (x : Demand). x.name) 2048 ds are.few are.different (behind_all (λ (d : Demand). length d.name ≤ 255) [] ds (spelled_short nodes ds is spelled [])))
-    (behind_both (λ before d. needs_in_all before + d.need < 2 ^ 44) (λ before d. IsDemand (length nodes) d) [] ds (below_total [] ds are.total) (all_behind (IsDemand (length nodes)) [] ds are.each)))
+    (after_both (λ before d. IsNew (λ x. x.name) 2048 before d.name) (λ before d. (needs_in_all before + d.need < 2 ^ 44) × IsDemand (length nodes) d) [] ds
+    (new_are (λ (x : Demand). x.name) 2048 ds are.few are.different (after_all (λ (d : Demand). length d.name ≤ 255) [] ds (spelled_short nodes ds is spelled [])))
+    (after_both (λ before d. needs_in_all before + d.need < 2 ^ 44) (λ before d. IsDemand (length nodes) d) [] ds (below_total [] ds are.total) (all_after (IsDemand (length nodes)) [] ds are.each)))

@@ -2,7 +2,7 @@
 use Rattle.std.proofs.Common.{◌≡◌, ℕ, ◌≤◌, ◌<◌, Bool, true, false, cond, List, [], ◌∷◌, ◌++◌, map, length, IsTrue, Option, None, Some, Ok, Err, refl, sym, ap, subst, ◌∙◌, arith}
 use Rattle.snd_tokens.specs.Lexemes.{Text, WordAt, OpenAt, CloseAt, EndAt, size}
 use Rattle.text_kit.specs.Answers.{Fails}
-use Rattle.text_kit.specs.Items.{AreBehind, Item, Verbatim, Opening, Closing, Begins}
+use Rattle.text_kit.specs.Items.{ComeAfter, Item, Verbatim, Opening, Closing, Begins}
 use Rattle.text_kit.specs.Reading.{Read, after, give, placed, step_at, Parenthesis, past_ending, no_fault, sound}
 use Rattle.text_kit.specs.declared.refusal.Refusal.{Refusal}
 use Rattle.text_kit.specs.declared.refusal.Refusal.TheVariants.{Bad, NoMemory}
@@ -43,13 +43,13 @@ ends_by_coordinates b (Coordinates ∷ parts) = ends_by_coordinates false parts
 
 -- ---- it depends on no later lexeme
 
-behind_online : (part : NodePart) → IsOnline (part_after part)
-behind_online (NodeName w) = online_give (NodeName w)
-behind_online Coordinates = online_then (skipped_at 0) _ skipped_online (λ u. online_give Coordinates)
+after_online : (part : NodePart) → IsOnline (part_after part)
+after_online (NodeName w) = online_give (NodeName w)
+after_online Coordinates = online_then (skipped_at 0) _ skipped_online (λ u. online_give Coordinates)
 
 pub part_online : (sofar : List NodePart) → IsOnline (part_at sofar)
 unfolding part_at
-part_online sofar = online_then _ part_after (online_step (name_part sofar) (coordinates sofar) (Err Token) (Err Ended)) behind_online
+part_online sofar = online_then _ part_after (online_step (name_part sofar) (coordinates sofar) (Err Token) (Err Ended)) after_online
 
 pub part_some : (sofar : List NodePart) → TakesSome (part_at sofar)
 unfolding part_at
@@ -228,24 +228,24 @@ part_spelled sofar = record { takes = part_takes sofar; again = λ text x rest i
 -- ---- all parts
 
 -- new names, after parts whose coordinates are in order
-pub parts_are : (sofar parts : List NodePart) → AreBehind IsNewPart sofar parts → AreBehind (IsNew (λ n. n) 128) (names_of sofar) (names_of parts) × AreBehind IsPartAfter sofar parts
+pub parts_are : (sofar parts : List NodePart) → ComeAfter IsNewPart sofar parts → ComeAfter (IsNew (λ n. n) 128) (names_of sofar) (names_of parts) × ComeAfter IsPartAfter sofar parts
 parts_are sofar [] h = (tt, tt)
 parts_are sofar (NodeName w ∷ parts) h =
     let r = parts_are (sofar ++ NodeName w ∷ []) parts h.1 in
-    ((h.0, subst (λ (ns : List (List ℕ)). AreBehind (IsNew (λ n. n) 128) ns (names_of parts)) (name_more sofar w) r.0), (h.0.2, r.1))
+    ((h.0, subst (λ (ns : List (List ℕ)). ComeAfter (IsNew (λ n. n) 128) ns (names_of parts)) (name_more sofar w) r.0), (h.0.2, r.1))
 parts_are sofar (Coordinates ∷ parts) h =
     let r = parts_are (sofar ++ Coordinates ∷ []) parts h.1 in
-    (subst (λ (ns : List (List ℕ)). AreBehind (IsNew (λ n. n) 128) ns (names_of parts)) (same_names sofar) r.0, (h.0, r.1))
+    (subst (λ (ns : List (List ℕ)). ComeAfter (IsNew (λ n. n) 128) ns (names_of parts)) (same_names sofar) r.0, (h.0, r.1))
 
-pub are_parts : (sofar parts : List NodePart) → AreBehind (IsNew (λ n. n) 128) (names_of sofar) (names_of parts) → AreBehind IsPartAfter sofar parts → AreBehind IsNewPart sofar parts
+pub are_parts : (sofar parts : List NodePart) → ComeAfter (IsNew (λ n. n) 128) (names_of sofar) (names_of parts) → ComeAfter IsPartAfter sofar parts → ComeAfter IsNewPart sofar parts
 are_parts sofar [] names order = tt
 are_parts sofar (NodeName w ∷ parts) names order =
-    (names.0, are_parts (sofar ++ NodeName w ∷ []) parts (subst (λ (ns : List (List ℕ)). AreBehind (IsNew (λ n. n) 128) ns (names_of parts)) (sym (name_more sofar w)) names.1) order.1)
+    (names.0, are_parts (sofar ++ NodeName w ∷ []) parts (subst (λ (ns : List (List ℕ)). ComeAfter (IsNew (λ n. n) 128) ns (names_of parts)) (sym (name_more sofar w)) names.1) order.1)
 are_parts sofar (Coordinates ∷ parts) names order =
-    (order.0, are_parts (sofar ++ Coordinates ∷ []) parts (subst (λ (ns : List (List ℕ)). AreBehind (IsNew (λ n. n) 128) ns (names_of parts)) (sym (same_names sofar)) names) order.1)
+    (order.0, are_parts (sofar ++ Coordinates ∷ []) parts (subst (λ (ns : List (List ℕ)). ComeAfter (IsNew (λ n. n) 128) ns (names_of parts)) (sym (same_names sofar)) names) order.1)
 
 -- names in order are short
-pub parts_short : (sofar parts : List NodePart) → AreBehind IsPartAfter sofar parts → AreBehind (λ (before : List (List ℕ)) w. length w ≤ 255) (names_of sofar) (names_of parts)
+pub parts_short : (sofar parts : List NodePart) → ComeAfter IsPartAfter sofar parts → ComeAfter (λ (before : List (List ℕ)) w. length w ≤ 255) (names_of sofar) (names_of parts)
 parts_short sofar [] order = tt
-parts_short sofar (NodeName w ∷ parts) order = (order.0, subst (λ (ns : List (List ℕ)). AreBehind (λ (before : List (List ℕ)) v. length v ≤ 255) ns (names_of parts)) (name_more sofar w) (parts_short (sofar ++ NodeName w ∷ []) parts order.1))
-parts_short sofar (Coordinates ∷ parts) order = subst (λ (ns : List (List ℕ)). AreBehind (λ (before : List (List ℕ)) v. length v ≤ 255) ns (names_of parts)) (same_names sofar) (parts_short (sofar ++ Coordinates ∷ []) parts order.1)
+parts_short sofar (NodeName w ∷ parts) order = (order.0, subst (λ (ns : List (List ℕ)). ComeAfter (λ (before : List (List ℕ)) v. length v ≤ 255) ns (names_of parts)) (name_more sofar w) (parts_short (sofar ++ NodeName w ∷ []) parts order.1))
+parts_short sofar (Coordinates ∷ parts) order = subst (λ (ns : List (List ℕ)). ComeAfter (λ (before : List (List ℕ)) v. length v ≤ 255) ns (names_of parts)) (same_names sofar) (parts_short (sofar ++ Coordinates ∷ []) parts order.1)

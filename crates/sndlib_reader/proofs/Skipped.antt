@@ -83,9 +83,9 @@ skipped_spelled = record {
 
 later_took : (n m : ℕ) (put : Text → Text) (t : Text) (x : Unit {0}) (rest : Text) → ((u : Text) → skipped_at n (put u) ≡ skipped_at m u) → ((c : ℕ) → past (suc c) (put t) ≡ past c t)
     → ((c : ℕ) (u : Text) → Same (suc c) (put t) u → (v : Text) × (u ≡ put v) × Same c t v) → Took (skipped_at m) t x rest → Took (skipped_at n) (put t) x rest
-later_took n m put t x rest is behind alike p = record {
+later_took n m put t x rest is following alike p = record {
   count = suc p.count;
-  behind = p.behind ∙ sym (behind p.count);
+  following = p.following ∙ sym (following p.count);
   again = λ k u same.
       let s = alike (plus p.count k) u same in
       let h = p.again k s.0 s.2 in
@@ -94,9 +94,9 @@ later_took n m put t x rest is behind alike p = record {
 
 later_failed : (n m : ℕ) (put : Text → Text) (t : Text) (at : ℕ) (kind : ReadKind) → ((u : Text) → skipped_at n (put u) ≡ skipped_at m u) → ((c : ℕ) → past (suc c) (put t) ≡ past c t)
     → ((c : ℕ) (u : Text) → Same (suc c) (put t) u → (v : Text) × (u ≡ put v) × Same c t v) → Failed (skipped_at m) t at kind → Failed (skipped_at n) (put t) at kind
-later_failed n m put t at kind is behind alike p = record {
+later_failed n m put t at kind is following alike p = record {
   count = suc p.count;
-  here = ap place (behind p.count) ∙ p.here;
+  here = ap place (following p.count) ∙ p.here;
   again = λ u same. let s = alike (suc p.count) u same in ap (skipped_at n) s.1 ∙ (is s.0 ∙ p.again s.0 s.2);
 }
 
@@ -108,7 +108,7 @@ skip_took zero (CloseAt p t) x rest e =
     let h = (ok_parts {K = ReadKind} tt x t rest e).1 in
     record {
       count = 1;
-      behind = sym h;
+      following = sym h;
       again = λ m u same. (same.0, ap (skipped_at 0) same.1, subst (λ (i : Text). Same m i same.0) h same.2);
     }
 skip_took n (EndAt p) x rest e = absurd cc

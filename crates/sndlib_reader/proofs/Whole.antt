@@ -13,15 +13,15 @@ use Rattle.snd_tokens.specs.Header.{first_line, trimmed}
 use Rattle.snd_tokens.specs.Lexemes.{Text, WordAt, OpenAt, CloseAt, EndAt}
 use Rattle.text_kit.specs.Answers.{ReadsAllAs, ReadsAs}
 use Rattle.text_kit.specs.Files.{IsNotTooEarly, body}
-use Rattle.text_kit.specs.Items.{AreBehind, AreSpelled, Item, Verbatim, Opening, Closing, Begins}
+use Rattle.text_kit.specs.Items.{ComeAfter, AreSpelled, Item, Verbatim, Opening, Closing, Begins}
 use Rattle.text_kit.specs.Reading.{Read, Reading, after, give, placed, ◌>>=◌, word_at, open_at, end_at, expected, Parenthesis, no_fault, list_at, each_at}
 use Rattle.text_kit.specs.declared.refusal.Refusal.{Refusal}
 use Rattle.text_kit.specs.declared.refusal.Refusal.TheVariants.{Bad, NoMemory}
-use Rattle.text_kit.proofs.Behind.{behind_all, behind_differ, differ_behind}
+use Rattle.text_kit.proofs.After.{after_all, after_differ, differ_after}
 use Rattle.text_kit.proofs.Files.{first_spelled, found_spelled, only_spelled, spelled_read}
 use Rattle.text_kit.proofs.Lawful.{AnyText, IsEnd, Starts, lawful_key, lawful_open}
 use Rattle.text_kit.proofs.Online.{ok_parts}
-use Rattle.text_kit.proofs.Spelled.{Spelled, behind_parts, parts_behind, spelled_as, spelled_give, spelled_law, spelled_list, spelled_then, spelled_word}
+use Rattle.text_kit.proofs.Spelled.{Spelled, after_parts, parts_after, spelled_as, spelled_give, spelled_law, spelled_list, spelled_then, spelled_word}
 use Rattle.sndlib_reader.specs.declared.costs.CostedLink.{CostedLink}
 use Rattle.sndlib_reader.specs.declared.fault.ReadKind.{ReadKind}
 use Rattle.sndlib_reader.specs.declared.fault.ReadKind.TheVariants.{Header, Section, Token, Ended}
@@ -33,7 +33,7 @@ use Rattle.sndlib_reader.proofs.WordTests.{known_again, known_takes, path_name_a
 use Rattle.text_kit.proofs.NameLaws.{IsNew, are_new, new_are}
 use Rattle.sndlib_reader.proofs.Skipped.{skipped_spelled}
 use Rattle.sndlib_reader.proofs.Nodes.{IsNewPart, are_parts, part_spelled, parts_are, parts_short}
-use Rattle.sndlib_reader.proofs.Laws.{AreDifferent, AreLinks, IsDemandBehind, IsLinkBehind, are_demands, are_links, demands_are, demands_spelled, links_are, links_lawful}
+use Rattle.sndlib_reader.proofs.Laws.{AreDifferent, AreLinks, IsDemandAfter, IsLinkAfter, are_demands, are_links, demands_are, demands_spelled, links_are, links_lawful}
 use Rattle.sndlib_reader.proofs.Online.{sections_online}
 use Rattle.net_core.proofs.Checks.{same_is}
 
@@ -70,13 +70,13 @@ module _ (one : Reading ReadKind (Unit {0})) (Is : List Item → Type 0) (starts
   each_spelled = spelled_as (each_at one) _ _ AnyText
       (λ x is s.
       let l = s.1.1 in
-      let p = behind_parts (λ before y. Unit {0}) (λ y js. Is js) [] s.0 l.0 l.1 in
+      let p = after_parts (λ before y. Unit {0}) (λ y js. Is js) [] s.0 l.0 l.1 in
       (l.0, (s.0, p.1), l.2))
-      (λ x is s. (s.1.0, (refl, (s.0, parts_behind (λ before y. Unit {0}) (λ y js. Is js) [] s.1.0 s.0 (all s.1.0 []) s.1.1, s.2)), refl))
+      (λ x is s. (s.1.0, (refl, (s.0, parts_after (λ before y. Unit {0}) (λ y js. Is js) [] s.1.0 s.0 (all s.1.0 []) s.1.1, s.2)), refl))
       (spelled_given (list_at Parenthesis no_fault (λ sofar. one) []) (λ xs. tt) _ AnyText
       (spelled_list no_fault (λ sofar. one) (λ sofar y js. Unit {0} × Is js) (λ sofar y js h. starts js h.1) (λ sofar. spelled_as one (λ x is. Is is) (λ y js. Unit {0} × Is js) AnyText (λ y js h. (tt, h)) (λ y js h. h.1) law)))
     where
-      all : (xs before : List (Unit {0})) → AreBehind (λ (before : List (Unit {0})) y. Unit {0}) before xs
+      all : (xs before : List (Unit {0})) → ComeAfter (λ (before : List (Unit {0})) y. Unit {0}) before xs
       all [] before = tt
       all (x ∷ xs) before = (tt, all xs (before ++ x ∷ []))
 
@@ -185,17 +185,17 @@ section_spelled name r Of law = spelled_as (native_section_at name r) _ _ AnyTex
     spelled_then _ _ _ _ AnyText (spelled_law (open_at Section Ended) _ _ AnyText (lawful_open Section Ended)) (λ o js s. law)))
 
 -- what comes after the word of META or NODES
-abbrev Behind : Bool → List Item → Type 0
-Behind true is = (inside : List Item) × IsSkipped inside × (is ≡ Opening ∷ (inside ++ Verbatim (codes "NODES") ∷ []))
-Behind false is = is ≡ []
+abbrev After : Bool → List Item → Type 0
+After true is = (inside : List Item) × IsSkipped inside × (is ≡ Opening ∷ (inside ++ Verbatim (codes "NODES") ∷ []))
+After false is = is ≡ []
 
 abbrev first_word : Bool → List ℕ
 first_word true = codes "META"
 first_word false = codes "NODES"
 
-behind_spelled : (meta : Bool) → Spelled (after_meta meta) (λ x is. Behind meta is) AnyText
+after_spelled : (meta : Bool) → Spelled (after_meta meta) (λ x is. After meta is) AnyText
 unfolding after_meta
-behind_spelled true = spelled_as (after_meta true) _ (λ x is. Behind true is) AnyText
+after_spelled true = spelled_as (after_meta true) _ (λ x is. After true is) AnyText
     (λ x is s.
     let f = s.4 in
     (f.1, f.3, s.5 ∙ (ap (λ (js : List Item). js ++ s.2) s.3.1 ∙ ap (λ (js : List Item). Opening ∷ js) (f.5 ∙ ap (λ (js : List Item). f.1 ++ js) f.4.1))))
@@ -203,7 +203,7 @@ behind_spelled true = spelled_as (after_meta true) _ (λ x is. Behind true is) A
     (spelled_then _ _ _ _ AnyText (spelled_law (open_at Section Ended) _ _ AnyText (lawful_open Section Ended)) (λ o js s.
     spelled_then _ _ _ _ AnyText skipped_spelled (λ k js s.
     spelled_law (word_at Section Ended (expected Section (codes "NODES"))) _ _ AnyText (lawful_key Section Ended Section (codes "NODES")))))
-behind_spelled false = spelled_as (after_meta false) _ (λ x is. Behind false is) AnyText (λ x is s. s.1) (λ x is s. (refl, s)) (spelled_give tt)
+after_spelled false = spelled_as (after_meta false) _ (λ x is. After false is) AnyText (λ x is s. s.1) (λ x is s. (refl, s)) (spelled_give tt)
 
 word_is : (w : List ℕ) (meta nodes b : Bool) → are_same w (codes "META") ≡ meta → are_same w (codes "NODES") ≡ nodes → (let r : Result Bool ReadKind = cond meta (Ok true) (cond nodes (Ok false) (Err Section)) in r ≡ Ok b) → w ≡ first_word b
 word_is w true nodes true m n e = same_is w (codes "META") m
@@ -220,12 +220,12 @@ is_word false = refl
 abbrev IsStart : List Item → Type 0
 IsStart is = (meta : List Item) × IsMeta meta × (is ≡ meta ++ Verbatim (codes "NODES") ∷ [])
 
-start_of : (b : Bool) (is ks : List Item) → is ≡ Verbatim (first_word b) ∷ ks → Behind b ks → IsStart is
+start_of : (b : Bool) (is ks : List Item) → is ≡ Verbatim (first_word b) ∷ ks → After b ks → IsStart is
 start_of true is ks e s = (Verbatim (codes "META") ∷ Opening ∷ s.0, inr (s.0, s.1, refl), e ∙ ap (λ (js : List Item). Verbatim (codes "META") ∷ js) s.2)
 start_of false is ks e s = ([], inl refl, e ∙ ap (λ (js : List Item). Verbatim (codes "NODES") ∷ js) s)
 
 abbrev Started : List Item → Type 0
-Started is = (b : Bool) × (ks : List Item) × Behind b ks × (is ≡ Verbatim (first_word b) ∷ ks)
+Started is = (b : Bool) × (ks : List Item) × After b ks × (is ≡ Verbatim (first_word b) ∷ ks)
 
 started : (is : List Item) → IsStart is → Started is
 started is s = by s.0 s.1 s.2
@@ -240,13 +240,13 @@ start_spelled = spelled_as start_at _ (λ x is. IsStart is) AnyText
     let w = s.3 in
     start_of s.0 is s.2 (s.5 ∙ (ap (λ (js : List Item). js ++ s.2) w.2 ∙ ap (λ (v : List ℕ). Verbatim v ∷ s.2) (word_is w.0 (are_same w.0 (codes "META")) (are_same w.0 (codes "NODES")) s.0 refl refl w.1))) s.4)
     (λ x is s. let t = started is s in (t.0, Verbatim (first_word t.0) ∷ [], t.1, (first_word t.0, is_word t.0, refl), t.2, t.3))
-    (spelled_then _ _ _ _ AnyText (spelled_word Section Ended is_meta) (λ b js s. behind_spelled b))
+    (spelled_then _ _ _ _ AnyText (spelled_word Section Ended is_meta) (λ b js s. after_spelled b))
 
 -- ---- nodes
 
 -- nodes that were read: their parts, in order
 abbrev AreNodes : List (List ℕ) → List Item → Type 0
-AreNodes nodes is = (parts : List NodePart) × (js : List Item) × AreBehind IsNewPart [] parts × AreSpelled SpellsPart parts js × (names_of parts ≡ nodes) × (is ≡ js ++ Closing ∷ [])
+AreNodes nodes is = (parts : List NodePart) × (js : List Item) × ComeAfter IsNewPart [] parts × AreSpelled SpellsPart parts js × (names_of parts ≡ nodes) × (is ≡ js ++ Closing ∷ [])
 
 part_starts : (sofar : List NodePart) (part : NodePart) (is : List Item) → IsNewPart sofar part × SpellsPart part is → Starts is
 part_starts sofar (NodeName w) is s = subst Starts (sym s.1) tt
@@ -256,9 +256,9 @@ nodes_spelled : Spelled (native_nodes_at []) AreNodes AnyText
 nodes_spelled = spelled_as (native_nodes_at []) _ AreNodes AnyText
     (λ nodes is s.
     let l = s.1.1 in
-    let p = behind_parts IsNewPart SpellsPart [] s.0 l.0 l.1 in
+    let p = after_parts IsNewPart SpellsPart [] s.0 l.0 l.1 in
     (s.0, l.0, p.0, p.1, s.2, l.2))
-    (λ nodes is s. (s.0, (refl, (s.1, parts_behind IsNewPart SpellsPart [] s.0 s.1 s.2 s.3, s.5)), s.4))
+    (λ nodes is s. (s.0, (refl, (s.1, parts_after IsNewPart SpellsPart [] s.0 s.1 s.2 s.3, s.5)), s.4))
     (spelled_given (list_at Parenthesis no_fault part_at []) names_of _ AnyText (spelled_list no_fault part_at (λ sofar part is. IsNewPart sofar part × SpellsPart part is) part_starts part_spelled))
 
 nodes_new : (nodes : List (List ℕ)) (is : List Item) → AreNodes nodes is → (length nodes ≤ 128) × AllPairs (λ x y. x ≢ y) nodes × All (λ n. length n ≤ 255) nodes
@@ -268,10 +268,10 @@ nodes_new nodes is s = subst (λ (ns : List (List ℕ)). (length ns ≤ 128) × 
 
 -- links between parentheses, as they are read
 abbrev AreLinkItems : List (List ℕ) → List CostedLink → List Item → Type 0
-AreLinkItems nodes links is = AreBehind (IsLinkBehind nodes) [] links × (is ≡ flat_map (link_items nodes) links ++ Closing ∷ [])
+AreLinkItems nodes links is = ComeAfter (IsLinkAfter nodes) [] links × (is ≡ flat_map (link_items nodes) links ++ Closing ∷ [])
 
 abbrev AreDemandItems : List (List ℕ) → List Demand → List Item → Type 0
-AreDemandItems nodes demands is = (js : List Item) × AreBehind (IsDemandBehind nodes) [] demands × AreSpelled (SpellsDemand nodes) demands js × (is ≡ js ++ Closing ∷ [])
+AreDemandItems nodes demands is = (js : List Item) × ComeAfter (IsDemandAfter nodes) [] demands × AreSpelled (SpellsDemand nodes) demands js × (is ≡ js ++ Closing ∷ [])
 
 -- sections one after another
 abbrev whole_items : List Item → List Item → List Item → List Item → List Item → List Item
@@ -288,10 +288,10 @@ named_link w [] = refl
 named_link w (l ∷ ls) = ap (λ (b : Bool). are_same l.link.name w || b) (named_link w ls)
 
 abbrev NewLinks : List Link → List Link → Type 0
-NewLinks sofar links = AreBehind (λ before l. is_named (λ x. x.name) l.name before ≡ false) sofar links
+NewLinks sofar links = ComeAfter (λ before l. is_named (λ x. x.name) l.name before ≡ false) sofar links
 
 abbrev NewCosted : List CostedLink → List CostedLink → Type 0
-NewCosted sofar links = AreBehind (λ before l. is_named (λ x. x.link.name) l.link.name before ≡ false) sofar links
+NewCosted sofar links = ComeAfter (λ before l. is_named (λ x. x.link.name) l.link.name before ≡ false) sofar links
 
 without_costs : (sofar links : List CostedLink) → NewCosted sofar links → NewLinks (map (λ l. l.link) sofar) (map (λ l. l.link) links)
 without_costs sofar [] h = tt
@@ -302,7 +302,7 @@ with_costs sofar [] h = tt
 with_costs sofar (l ∷ ls) h = (sym (named_link l.link.name sofar) ∙ h.0, with_costs (sofar ++ l ∷ []) ls (subst (λ (ks : List Link). NewLinks ks (map (λ x. x.link) ls)) (sym (map_push (λ x. x.link) sofar l)) h.1))
 
 -- nodes and links that were read are a network
-pub network_read : (nodes : List (List ℕ)) (links : List CostedLink) (is : List Item) → AreNodes nodes is → AreBehind (IsLinkBehind nodes) [] links → IsNetwork nodes (map (λ l. l.link) links)
+pub network_read : (nodes : List (List ℕ)) (links : List CostedLink) (is : List Item) → AreNodes nodes is → ComeAfter (IsLinkAfter nodes) [] links → IsNetwork nodes (map (λ l. l.link) links)
 network_read nodes links is s all =
     let n = nodes_new nodes is s in
     let l = are_links nodes links all in
@@ -310,14 +310,14 @@ network_read nodes links is s all =
       few_nodes = n.0;
       few_links = subst (λ (k : ℕ). k ≤ 256) (sym (length-map links (λ l. l.link))) l.few;
       different_nodes = n.1;
-      different_links = behind_differ (λ (x : Link). x.name) (map (λ x. x.link) links) (without_costs [] links (differ_behind (λ (x : CostedLink). x.link.name) [] links l.different));
+      different_links = after_differ (λ (x : Link). x.name) (map (λ x. x.link) links) (without_costs [] links (differ_after (λ (x : CostedLink). x.link.name) [] links l.different));
       sound = All-map (IsLink (length nodes)) (λ (x : CostedLink). x.link) links l.sound;
     }
 
 links_of_network : (nodes : List (List ℕ)) (links : List CostedLink) → IsNetwork nodes (map (λ l. l.link) links) → All IsShortLink links → AreLinks nodes links
 links_of_network nodes links net short = record {
   few = subst (λ (k : ℕ). k ≤ 256) (length-map links (λ l. l.link)) net.few_links;
-  different = behind_differ (λ (x : CostedLink). x.link.name) links (with_costs [] links (differ_behind (λ (x : Link). x.name) [] (map (λ x. x.link) links) net.different_links));
+  different = after_differ (λ (x : CostedLink). x.link.name) links (with_costs [] links (differ_after (λ (x : Link). x.name) [] (map (λ x. x.link) links) net.different_links));
   sound = All-from_recursion _ links (unmapped (IsLink (length nodes)) links (recursion_from_All (IsLink (length nodes)) (map (λ x. x.link) links) net.sound));
   short = short;
 }
@@ -337,8 +337,8 @@ record AreSections (x : Parts × List Demand) (is : List Item) : Type 0 where
   pub meta_is : IsMeta meta
   pub nodes : AreNodes x.0.nodes node_items
   pub items_are : is ≡ whole_items meta nodes.1 (flat_map (link_items x.0.nodes) links) demand_items paths
-  pub links_are : AreBehind (IsLinkBehind x.0.nodes) [] links
-  pub demands_are : AreBehind (IsDemandBehind x.0.nodes) [] x.1 × AreSpelled (SpellsDemand x.0.nodes) x.1 demand_items
+  pub links_are : ComeAfter (IsLinkAfter x.0.nodes) [] links
+  pub demands_are : ComeAfter (IsDemandAfter x.0.nodes) [] x.1 × AreSpelled (SpellsDemand x.0.nodes) x.1 demand_items
   pub paths_are : ArePaths (map (λ l. l.link.name) links) (map (λ d. d.name) x.1) paths
   pub parts_are : parts x.0.nodes links ≡ x.0
 
@@ -375,9 +375,9 @@ parts_equal nodes links p a b c = rw (a, b, c) refl
 of_network : (x : Parts × List Demand) (is : List Item) → SpellsParts x is → AreSections x is
 of_network x is s =
     let net : IsNetwork x.0.nodes (map (λ l. l.link) s.links) = subst (λ (ls : List Link). IsNetwork x.0.nodes ls) (sym s.links_are) s.network in
-    let short_parts : All (λ n. length n ≤ 255) (names_of s.parts) = behind_all (λ (n : List ℕ). length n ≤ 255) [] (names_of s.parts) (parts_short [] s.parts s.parts_in_order) in
+    let short_parts : All (λ n. length n ≤ 255) (names_of s.parts) = after_all (λ (n : List ℕ). length n ≤ 255) [] (names_of s.parts) (parts_short [] s.parts s.parts_in_order) in
     let short : All (λ n. length n ≤ 255) x.0.nodes = subst (λ (ns : List (List ℕ)). All (λ n. length n ≤ 255) ns) s.nodes_are short_parts in
-    let new : AreBehind (IsNew (λ n. n) 128) [] (names_of s.parts) = subst (λ (ns : List (List ℕ)). AreBehind (IsNew (λ n. n) 128) [] ns) (sym s.nodes_are) (new_are (λ (n : List ℕ). n) 128 x.0.nodes net.few_nodes net.different_nodes short) in
+    let new : ComeAfter (IsNew (λ n. n) 128) [] (names_of s.parts) = subst (λ (ns : List (List ℕ)). ComeAfter (IsNew (λ n. n) 128) [] ns) (sym s.nodes_are) (new_are (λ (n : List ℕ). n) 128 x.0.nodes net.few_nodes net.different_nodes short) in
     record {
       meta = s.meta;
       node_items = s.part_items ++ Closing ∷ [];

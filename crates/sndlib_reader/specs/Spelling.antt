@@ -13,7 +13,7 @@ use Rattle.net_core.specs.declared.network.Network.{Network}
 use Rattle.net_core.specs.declared.demand.Demand.{Demand}
 use Rattle.sndlib_reader.specs.declared.costs.CostedLink.{CostedLink}
 use Rattle.text_kit.specs.Files.{SpellsBy}
-use Rattle.text_kit.specs.Items.{Item, Verbatim, Money, Opening, Closing, AreBehind, AreSpelled}
+use Rattle.text_kit.specs.Items.{Item, Verbatim, Money, Opening, Closing, ComeAfter, AreSpelled}
 use Rattle.sndlib_reader.specs.Balance.{IsSkipped}
 use Rattle.sndlib_reader.specs.Paths.{section_items, ArePaths}
 
@@ -115,7 +115,7 @@ pub record SpellsParts (x : Parts × List Demand) (items : List Item) : Type 0 w
   pub items_are : items ≡ meta ++ (section_items (codes "NODES") part_items ++ (section_items (codes "LINKS") (flat_map (link_items x.0.nodes) links) ++ (section_items (codes "DEMANDS") demand_items ++ paths)))
   pub meta_is : IsMeta meta
   pub parts_are : AreSpelled SpellsPart parts part_items
-  pub parts_in_order : AreBehind IsPartAfter [] parts
+  pub parts_in_order : ComeAfter IsPartAfter [] parts
   pub nodes_are : names_of parts ≡ x.0.nodes
   pub links_are : map (λ l. l.link) links ≡ x.0.links
   pub links_short : All IsShortLink links

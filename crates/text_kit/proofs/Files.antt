@@ -51,7 +51,7 @@ at_last bytes at n e ends =
 -- files that agree past a lexeme have one first line
 record SameLine (bytes other : List ℕ) : Type 0 where
   pub line : first_line other ≡ first_line bytes
-  pub behind : second_line other ≡ second_line bytes
+  pub following : second_line other ≡ second_line bytes
 
 same_line : (bytes other : List ℕ) (at n : ℕ) → take n bytes ≡ take n other → EndsBefore at n (body bytes) → SameLine bytes other
 same_line bytes other at n same ends =
@@ -66,7 +66,7 @@ same_line bytes other at n same ends =
     let line : first_line other ≡ first_line bytes = ap (λ k. take k other) run ∙ sym (take_less L n bytes other (omega (arith, below)) same) in
     let more : take (L + 1) bytes ≡ take (L + 1) other = take_less (L + 1) n bytes other (omega (arith, below)) same in
     let long : min (L + 1) (length bytes) ≡ min (L + 1) (length other) = sym (length-take (L + 1) bytes) ∙ (ap length more ∙ length-take (L + 1) other) in
-    record { line = line; behind = ap (λ (l : List ℕ). min (length l + 1) (length other)) line ∙ omega (arith, size, long, less) })
+    record { line = line; following = ap (λ (l : List ℕ). min (length l + 1) (length other)) line ∙ omega (arith, size, long, less) })
     (λ (all : length bytes ≤ L). absurd (at_last bytes at n (omega (arith, size, within, all)) ends))
     (cases_lt L (length bytes))
 
@@ -112,7 +112,7 @@ module _ {K Y : Type 0} (other : K) (header : List ℕ) (r : Reading K Y) (Of : 
       let low = (before_limit from at n (body bytes) (body_rises bytes) ends).1 in
       let agree = files_agree bytes bytes' from at n (omega (arith, low)) same ends in
       let fails = same_fault r on (body bytes) (text_from from bytes') at kind (body_rises bytes).0 h.1 agree in
-      let there : r (body bytes') ≡ Err (at, kind) = ap (λ k. r (text_from k bytes')) l.behind ∙ fails in
+      let there : r (body bytes') ≡ Err (at, kind) = ap (λ k. r (text_from k bytes')) l.following ∙ fails in
       not_both (r (body bytes')) (at, kind) y s.2.1.0 there (law.again (body bytes') y (EndAt s.2.1.0) s.0 s.1 s.2.1.1 (s.2.1.0, refl)))
       (header_err other (are_same (trimmed (first_line bytes)) header) (r (body bytes)) at kind e)
 
@@ -210,7 +210,7 @@ written_is_read header items line all =
     let first : first_line text ≡ header = ap (λ k. take k text) place_of ∙ take_first header (10 ∷ written items) in
     let total : length text ≡ length header + suc (length (written items)) = length-append header (10 ∷ written items) in
     let second : second_line text ≡ length header + 1 = ap (λ (l : List ℕ). min (length l + 1) (length text)) first ∙ omega (arith, total) in
-    let behind : drop (length header + 1) text ≡ written items = sym (drop-drop 1 (length header) text) ∙ ap (drop 1) (drop_first header (10 ∷ written items)) in (
+    let following : drop (length header + 1) text ≡ written items = sym (drop-drop 1 (length header) text) ∙ ap (drop 1) (drop_first header (10 ∷ written items)) in (
       ap trimmed first ∙ line.no_blank,
-      (length text, subst (λ k. Begins items (text_from k text) (EndAt (length text))) (sym second) (written_begins items text (length header + 1) all (omega (arith, total)) behind)),
+      (length text, subst (λ k. Begins items (text_from k text) (EndAt (length text))) (sym second) (written_begins items text (length header + 1) all (omega (arith, total)) following)),
     )

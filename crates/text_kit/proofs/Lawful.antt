@@ -5,12 +5,12 @@ use Rattle.std.proofs.lemmas.Bool.Decides.{Decides-eqb}
 use Rattle.std.proofs.lemmas.Slice.Eq.{slice_eq-Decides}
 use Rattle.net_core.specs.Tests.{are_same}
 use Rattle.snd_tokens.specs.Lexemes.{Text, WordAt, OpenAt, CloseAt, EndAt}
-use Rattle.text_kit.specs.Items.{AreBehind, AreSpelled, Item, Verbatim, Whole, Money, Opening, Closing, SpellsItem, Begins}
+use Rattle.text_kit.specs.Items.{ComeAfter, AreSpelled, Item, Verbatim, Whole, Money, Opening, Closing, SpellsItem, Begins}
 use Rattle.text_kit.specs.Reading.{Read, Reading, after, ◌>>=◌, give, word_at, open_at, close_at, end_at, expected, Ending, Parenthesis, list_at, not_empty, whole_at}
 pub use Rattle.text_kit.proofs.Beginnings.{AnyText, IsEnd, IsLeftBy, Starts, begins_both, begins_parts, ending_again, ending_items, ending_takes, no_ending, sound_ok, starts_less}
 use Rattle.text_kit.proofs.Online.{ok_parts, placed_ok}
 pub use Rattle.text_kit.proofs.Spelled.{Lawful}
-use Rattle.text_kit.proofs.Spelled.{behind_parts, law_spelled, parts_behind, spelled_as, spelled_elements, spelled_law}
+use Rattle.text_kit.proofs.Spelled.{after_parts, law_spelled, parts_after, spelled_as, spelled_elements, spelled_law}
 use Rattle.net_core.proofs.Checks.{same_is}
 
 pub lawful_give : {K X : Type 0} (v : X) → Lawful {K = K} (give v) (λ x. []) (λ x. v ≡ x) AnyText
@@ -150,26 +150,26 @@ flat_spelled items [] = refl
 flat_spelled items (x ∷ xs) = (items x, flat_map items xs, refl, flat_spelled items xs, refl)
 
 pub lawful_list : {K X : Type 0} (ending : Ending) (fault : List X → Option K) (one : List X → Reading K X) (items : X → List Item) (is : List X → X → Type 0) (starts : (x : X) → Starts (items x)) (law : (sofar : List X) → Lawful (one sofar) items (is sofar) AnyText)
-    → Lawful (list_at ending fault one []) (λ xs. flat_map items xs ++ ending_items ending) (λ xs. (fault xs ≡ None) × AreBehind is [] xs) (IsLeftBy ending)
-lawful_list {X} ending fault one items is starts law = law_spelled _ _ _ _ (spelled_as _ _ (λ xs js. ((fault xs ≡ None) × AreBehind is [] xs) × (js ≡ flat_map items xs ++ ending_items ending)) _
-    (λ xs js s. let p = behind_parts is (λ x ks. ks ≡ items x) [] xs s.1.0 s.1.1 in ((s.0, p.0), s.1.2 ∙ ap (λ (ks : List Item). ks ++ ending_items ending) (spelled_flat items xs s.1.0 p.1)))
-    (λ xs js s. (s.0.0, (flat_map items xs, parts_behind is (λ x ks. ks ≡ items x) [] xs (flat_map items xs) s.0.1 (flat_spelled items xs), s.1)))
+    → Lawful (list_at ending fault one []) (λ xs. flat_map items xs ++ ending_items ending) (λ xs. (fault xs ≡ None) × ComeAfter is [] xs) (IsLeftBy ending)
+lawful_list {X} ending fault one items is starts law = law_spelled _ _ _ _ (spelled_as _ _ (λ xs js. ((fault xs ≡ None) × ComeAfter is [] xs) × (js ≡ flat_map items xs ++ ending_items ending)) _
+    (λ xs js s. let p = after_parts is (λ x ks. ks ≡ items x) [] xs s.1.0 s.1.1 in ((s.0, p.0), s.1.2 ∙ ap (λ (ks : List Item). ks ++ ending_items ending) (spelled_flat items xs s.1.0 p.1)))
+    (λ xs js s. (s.0.0, (flat_map items xs, parts_after is (λ x ks. ks ≡ items x) [] xs (flat_map items xs) s.0.1 (flat_spelled items xs), s.1)))
     (spelled_elements ending fault one (λ sofar x js. is sofar x × (js ≡ items x)) (λ sofar x js s. subst Starts (sym s.1) (starts x)) (λ sofar. spelled_law (one sofar) items (is sofar) AnyText (law sofar))))
 
 -- ---- limits
 
 -- so there are n at most
-pub few_behind : {X : Type 0} (n : ℕ) (is : List X → X → Type 0) (sofar xs : List X) → length sofar ≤ n → AreBehind (λ before x. (length before < n) × is before x) sofar xs → (length (sofar ++ xs) ≤ n) × AreBehind is sofar xs
-few_behind n is sofar [] le all = (omega (arith, le, length-append sofar []), tt)
-few_behind n is sofar (x ∷ xs) le all =
-    let h = few_behind n is (sofar ++ x ∷ []) xs (omega (arith, all.0.0, length-append sofar (x ∷ []))) all.1 in
+pub few_after : {X : Type 0} (n : ℕ) (is : List X → X → Type 0) (sofar xs : List X) → length sofar ≤ n → ComeAfter (λ before x. (length before < n) × is before x) sofar xs → (length (sofar ++ xs) ≤ n) × ComeAfter is sofar xs
+few_after n is sofar [] le all = (omega (arith, le, length-append sofar []), tt)
+few_after n is sofar (x ∷ xs) le all =
+    let h = few_after n is (sofar ++ x ∷ []) xs (omega (arith, all.0.0, length-append sofar (x ∷ []))) all.1 in
     (omega (arith, h.0, length-append (sofar ++ x ∷ []) xs, length-append sofar (x ∷ []), length-append sofar (x ∷ xs)), (all.0.1, h.1))
 
-pub behind_few : {X : Type 0} (n : ℕ) (is : List X → X → Type 0) (sofar xs : List X) → length (sofar ++ xs) ≤ n → AreBehind is sofar xs → AreBehind (λ before x. (length before < n) × is before x) sofar xs
-behind_few n is sofar [] le all = tt
-behind_few n is sofar (x ∷ xs) le all = (
+pub after_few : {X : Type 0} (n : ℕ) (is : List X → X → Type 0) (sofar xs : List X) → length (sofar ++ xs) ≤ n → ComeAfter is sofar xs → ComeAfter (λ before x. (length before < n) × is before x) sofar xs
+after_few n is sofar [] le all = tt
+after_few n is sofar (x ∷ xs) le all = (
   (omega (arith, le, length-append sofar (x ∷ xs)), all.0),
-  behind_few n is (sofar ++ x ∷ []) xs (omega (arith, le, length-append (sofar ++ x ∷ []) xs, length-append sofar (x ∷ []), length-append sofar (x ∷ xs))) all.1,
+  after_few n is (sofar ++ x ∷ []) xs (omega (arith, le, length-append (sofar ++ x ∷ []) xs, length-append sofar (x ∷ []), length-append sofar (x ∷ xs))) all.1,
 )
 
 some_there : {K X : Type 0} (kind : K) (xs : List X) → not_empty kind xs ≡ None → 1 ≤ length xs
@@ -182,7 +182,7 @@ no_fault_there kind (x ∷ xs) some = refl
 
 -- a list of one element or more
 pub lawful_some : {K X : Type 0} (kind : K) (one : List X → Reading K X) (items : X → List Item) (is : List X → X → Type 0) (starts : (x : X) → Starts (items x)) (law : (sofar : List X) → Lawful (one sofar) items (is sofar) AnyText)
-    → Lawful (list_at Parenthesis (not_empty kind) one []) (λ xs. flat_map items xs ++ Closing ∷ []) (λ xs. (1 ≤ length xs) × AreBehind is [] xs) AnyText
+    → Lawful (list_at Parenthesis (not_empty kind) one []) (λ xs. flat_map items xs ++ Closing ∷ []) (λ xs. (1 ≤ length xs) × ComeAfter is [] xs) AnyText
 lawful_some kind one items is starts law = lawful_as (list_at Parenthesis (not_empty kind) one []) _ (λ xs. flat_map items xs ++ Closing ∷ []) _ _ AnyText
     (λ xs h. refl) (λ xs h. (some_there kind xs h.0, h.1)) (λ xs h. (no_fault_there kind xs h.0, h.1))
     (lawful_list Parenthesis (not_empty kind) one items is starts law)

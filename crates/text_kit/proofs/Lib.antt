@@ -12,5 +12,5 @@ pub mod Amounts
 pub mod Written
 pub mod Adding
 pub mod Files
-pub mod Behind
+pub mod After
 pub mod NameLaws

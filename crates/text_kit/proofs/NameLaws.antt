@@ -7,11 +7,11 @@ use Rattle.std.proofs.lemmas.List.Quantifiers.{position-Some}
 use Rattle.std.proofs.lemmas.List.Sums.{position_or_len_is}
 use Rattle.net_core.specs.Tests.{are_same, is_named}
 use Rattle.net_core.proofs.Accepted.{differ}
-use Rattle.text_kit.specs.Items.{AreBehind, Verbatim}
+use Rattle.text_kit.specs.Items.{ComeAfter, Verbatim}
 use Rattle.text_kit.specs.Names.{any_name, found_or, long_name_fault, named_place, new_name, new_name_fault}
 use Rattle.text_kit.specs.Reading.{sound, word_at}
-use Rattle.text_kit.proofs.Behind.{all_behind, behind_all, behind_as, behind_both, behind_differ, differ_behind}
-use Rattle.text_kit.proofs.Lawful.{AnyText, Lawful, behind_few, few_behind, is_same, lawful_word, sound_ok}
+use Rattle.text_kit.proofs.After.{all_after, after_all, after_as, after_both, after_differ, differ_after}
+use Rattle.text_kit.proofs.Lawful.{AnyText, Lawful, after_few, few_after, is_same, lawful_word, sound_ok}
 use Rattle.text_kit.proofs.Outcomes.{unless_ok}
 use Rattle.net_core.proofs.Checks.{same_is}
 
@@ -69,18 +69,18 @@ module _ {X K : Type 0} (name_of : X → List ℕ) (most : ℕ) (long double lim
   lawful_new_name other ended sofar = lawful_word other ended (new_name name_of most long double limit sofar) (λ n. Verbatim n) (IsNew name_of most sofar) (λ n. tt) (new_takes sofar) (new_again sofar)
 
 -- names that are new, all together
-pub are_new : {X : Type 0} (name_of : X → List ℕ) (most : ℕ) (xs : List X) → AreBehind (λ before x. IsNew name_of most before (name_of x)) [] xs → (length xs ≤ most) × AllPairs (λ x y. name_of x ≢ name_of y) xs × All (λ x. length (name_of x) ≤ 255) xs
+pub are_new : {X : Type 0} (name_of : X → List ℕ) (most : ℕ) (xs : List X) → ComeAfter (λ before x. IsNew name_of most before (name_of x)) [] xs → (length xs ≤ most) × AllPairs (λ x y. name_of x ≢ name_of y) xs × All (λ x. length (name_of x) ≤ 255) xs
 are_new {X} name_of most xs all = (
-  (few_behind most (λ before x. Unit {0}) [] xs (omega arith) (behind_as _ (λ before x. (length before < most) × Unit {0}) [] xs (λ before x h. (h.0, tt)) all)).0,
-  behind_differ name_of xs (behind_as _ (λ before x. is_named name_of (name_of x) before ≡ false) [] xs (λ before x h. h.1) all),
-  behind_all (λ x. length (name_of x) ≤ 255) [] xs (behind_as _ (λ before x. length (name_of x) ≤ 255) [] xs (λ before x h. h.2) all),
+  (few_after most (λ before x. Unit {0}) [] xs (omega arith) (after_as _ (λ before x. (length before < most) × Unit {0}) [] xs (λ before x h. (h.0, tt)) all)).0,
+  after_differ name_of xs (after_as _ (λ before x. is_named name_of (name_of x) before ≡ false) [] xs (λ before x h. h.1) all),
+  after_all (λ x. length (name_of x) ≤ 255) [] xs (after_as _ (λ before x. length (name_of x) ≤ 255) [] xs (λ before x h. h.2) all),
 )
 
-pub new_are : {X : Type 0} (name_of : X → List ℕ) (most : ℕ) (xs : List X) → length xs ≤ most → AllPairs (λ x y. name_of x ≢ name_of y) xs → All (λ x. length (name_of x) ≤ 255) xs → AreBehind (λ before x. IsNew name_of most before (name_of x)) [] xs
+pub new_are : {X : Type 0} (name_of : X → List ℕ) (most : ℕ) (xs : List X) → length xs ≤ most → AllPairs (λ x y. name_of x ≢ name_of y) xs → All (λ x. length (name_of x) ≤ 255) xs → ComeAfter (λ before x. IsNew name_of most before (name_of x)) [] xs
 new_are {X} name_of most xs few different short =
-    behind_as _ (λ before x. IsNew name_of most before (name_of x)) [] xs (λ before x h. (h.0.0, h.1.0, h.1.1))
-    (behind_both (λ before x. (length before < most) × Unit {0}) (λ before x. (is_named name_of (name_of x) before ≡ false) × (length (name_of x) ≤ 255)) [] xs (behind_few most (λ before x. Unit {0}) [] xs few (all_behind (λ x. Unit {0}) [] xs (λ k d lt. tt)))
-    (behind_both (λ before x. is_named name_of (name_of x) before ≡ false) (λ before x. length (name_of x) ≤ 255) [] xs (differ_behind name_of [] xs different) (all_behind (λ x. length (name_of x) ≤ 255) [] xs short)))
+    after_as _ (λ before x. IsNew name_of most before (name_of x)) [] xs (λ before x h. (h.0.0, h.1.0, h.1.1))
+    (after_both (λ before x. (length before < most) × Unit {0}) (λ before x. (is_named name_of (name_of x) before ≡ false) × (length (name_of x) ≤ 255)) [] xs (after_few most (λ before x. Unit {0}) [] xs few (all_after (λ x. Unit {0}) [] xs (λ k d lt. tt)))
+    (after_both (λ before x. is_named name_of (name_of x) before ≡ false) (λ before x. length (name_of x) ≤ 255) [] xs (differ_after name_of [] xs different) (all_after (λ x. length (name_of x) ≤ 255) [] xs short)))
 
 -- ---- the place of a name; `d` is read where there is none
 

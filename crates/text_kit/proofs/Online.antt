@@ -8,7 +8,7 @@ use Rattle.text_kit.proofs.Alike.{AgreeThrough, Rises, Same, agree_same, past, p
 -- what was read, by how many lexemes
 pub record Took {K X : Type 0} (r : Reading K X) (text : Text) (x : X) (rest : Text) : Type 0 where
   pub count : ℕ
-  pub behind : rest ≡ past count text
+  pub following : rest ≡ past count text
   pub again : (m : ℕ) (u : Text) → Same (plus count m) text u → (v : Text) × (r u ≡ Ok (x, v)) × Same m rest v
 
 -- a fault, at which lexeme
@@ -43,7 +43,7 @@ module _ {K A B : Type 0} (r : Reading K A) (f : A → Reading K B) (one : IsOnl
       let q = (two x.0).took x.1 b rest e in
       record {
         count = plus p.count q.count;
-        behind = q.behind ∙ (ap (past q.count) p.behind ∙ sym (past_sum p.count q.count text));
+        following = q.following ∙ (ap (past q.count) p.following ∙ sym (past_sum p.count q.count text));
         again = λ m u same.
             let h = p.again (plus q.count m) u (subst (λ n. Same n text u) (plus_plus p.count q.count m) same) in
             let k = q.again m h.0 h.2 in
@@ -57,7 +57,7 @@ module _ {K A B : Type 0} (r : Reading K A) (f : A → Reading K B) (one : IsOnl
       let q = (two x.0).failed x.1 at kind e in
       record {
         count = plus p.count q.count;
-        here = ap place (past_sum p.count q.count text ∙ ap (past q.count) (sym p.behind)) ∙ q.here;
+        here = ap place (past_sum p.count q.count text ∙ ap (past q.count) (sym p.following)) ∙ q.here;
         again = λ u same.
             let h = p.again (suc q.count) u (subst (λ n. Same n text u) (plus_suc p.count q.count) same) in
             ap (λ (i : Read K A). after i f) h.1 ∙ q.again h.0 h.2;
@@ -79,7 +79,7 @@ online_give {K} {X} x = record {
       let p = ok_parts {K = K} x y text rest e in
       record {
         count = 0;
-        behind = sym p.1;
+        following = sym p.1;
         again = λ m u same. (u, ap (λ (q : X). Ok (q, u)) p.0, subst (λ t. Same m t u) p.1 same);
       };
   failed = λ text at kind e. absurd cc;
@@ -94,11 +94,11 @@ module _ {K X : Type 0} (word : List ℕ → Result X K) (opens closes ends : Re
   lexeme_took : (put : Text → Text) (p : ℕ) (q : Result X K) (t : Text) (x : X) (rest : Text)
       → ((u : Text) → step (put u) ≡ placed p u q) → ((m : ℕ) (u : Text) → Same (suc m) (put t) u → (v : Text) × (u ≡ put v) × Same m t v) → past 1 (put t) ≡ t
       → placed p t q ≡ Ok (x, rest) → Took (λ u. step u) (put t) x rest
-  lexeme_took put p q t x rest is alike behind e =
+  lexeme_took put p q t x rest is alike following e =
       let h = placed_ok p t q x rest e in
       record {
         count = 1;
-        behind = sym h.1 ∙ sym behind;
+        following = sym h.1 ∙ sym following;
         again = λ m u same.
             let s = alike m u same in
             (s.0, ap step s.1 ∙ (is s.0 ∙ ap (λ (i : Result X K). placed p s.0 i) h.0), subst (λ (i : Text). Same m i s.0) h.1 s.2);
@@ -123,7 +123,7 @@ module _ {K X : Type 0} (word : List ℕ → Result X K) (opens closes ends : Re
   step_took (CloseAt p t) x rest e = lexeme_took (λ u. CloseAt p u) p closes t x rest (λ u. refl) (λ m u same. same) refl e
   step_took (EndAt p) x rest e =
       let h = placed_ok p (EndAt p) ends x rest e in
-      record { count = 1; behind = sym h.1; again = λ m u same. (rest, ap step same ∙ e, same_all m rest) }
+      record { count = 1; following = sym h.1; again = λ m u same. (rest, ap step same ∙ e, same_all m rest) }
 
   step_failed : (text : Text) (at : ℕ) (kind : K) → step text ≡ Err (at, kind) → Failed (λ u. step u) text at kind
   step_failed (WordAt p w t) at kind e = lexeme_failed (λ u. WordAt p w u) p (word w) t at kind (λ u. refl) (λ u same. (same.0, same.1)) refl e
@@ -165,16 +165,16 @@ module _ {K X : Type 0} (r : Reading K X) (on : IsOnline r) (kind : ℕ → K) (
   not_at_end p x rest e = let two : (let q : Read K X = Err (p, kind p) in q ≡ Ok (x, rest)) = sym (ends p) ∙ e in cc
 
   some_count : (c : ℕ) (text : Text) (x : X) (rest : Text) → ((p : ℕ) → text ≡ EndAt p → ⊥) → rest ≡ past c text → ((u : Text) → Same (plus c 0) text u → (v : Text) × (r u ≡ Ok (x, v)) × Unit {0}) → size rest < size text
-  some_count zero text x rest some behind again = let h = again (EndAt 0) tt in absurd (not_at_end 0 x h.0 h.1)
-  some_count (suc c) (WordAt p w t) x rest some behind again = let le : size rest ≤ size t = subst (λ (u : Text). size u ≤ size t) (sym behind) (past_size c t) in omega (arith, le)
-  some_count (suc c) (OpenAt p t) x rest some behind again = let le : size rest ≤ size t = subst (λ (u : Text). size u ≤ size t) (sym behind) (past_size c t) in omega (arith, le)
-  some_count (suc c) (CloseAt p t) x rest some behind again = let le : size rest ≤ size t = subst (λ (u : Text). size u ≤ size t) (sym behind) (past_size c t) in omega (arith, le)
-  some_count (suc c) (EndAt p) x rest some behind again = absurd (some p refl)
+  some_count zero text x rest some following again = let h = again (EndAt 0) tt in absurd (not_at_end 0 x h.0 h.1)
+  some_count (suc c) (WordAt p w t) x rest some following again = let le : size rest ≤ size t = subst (λ (u : Text). size u ≤ size t) (sym following) (past_size c t) in omega (arith, le)
+  some_count (suc c) (OpenAt p t) x rest some following again = let le : size rest ≤ size t = subst (λ (u : Text). size u ≤ size t) (sym following) (past_size c t) in omega (arith, le)
+  some_count (suc c) (CloseAt p t) x rest some following again = let le : size rest ≤ size t = subst (λ (u : Text). size u ≤ size t) (sym following) (past_size c t) in omega (arith, le)
+  some_count (suc c) (EndAt p) x rest some following again = absurd (some p refl)
 
   pub takes_some : TakesSome r
   takes_some text x rest e =
       let t = on.took text x rest e in
-      some_count t.count text x rest (λ p is. not_at_end p x rest (subst (λ (u : Text). r u ≡ Ok (x, rest)) is e)) t.behind (λ u same. t.again 0 u same)
+      some_count t.count text x rest (λ p is. not_at_end p x rest (subst (λ (u : Text). r u ≡ Ok (x, rest)) is e)) t.following (λ u same. t.again 0 u same)
 
 -- ---- endings of lists
 
@@ -228,7 +228,7 @@ module _ {K X : Type 0} (ending : Ending) (fault : List X → Option K) (one : L
   -- all that was read, by one lexeme more than the count, with any sufficient number of turns
   record TookAll (sofar : List X) (text : Text) (xs : List X) (rest : Text) : Type 0 where
     pub count : ℕ
-    pub behind : rest ≡ past (suc count) text
+    pub following : rest ≡ past (suc count) text
     pub again : (m n : ℕ) (u : Text) → size u < suc n → Same (plus (suc count) m) text u → (v : Text) × (E (suc n) sofar u ≡ Ok (xs, v)) × Same m rest v
 
   record FailedAll (sofar : List X) (text : Text) (at : ℕ) (kind : K) : Type 0 where
@@ -247,7 +247,7 @@ module _ {K X : Type 0} (ending : Ending) (fault : List X → Option K) (one : L
       let p = ending_past ending text r is in
       record {
         count = 0;
-        behind = sym h.1 ∙ p.0;
+        following = sym h.1 ∙ p.0;
         again = λ m k u lt same.
             let s = p.1 m u same in
             (s.0, at_ending ending fault one k sofar u s.0 s.1 ∙ ap (λ (i : Result (List X) K). placed (place u) s.0 i) h.0, subst (λ (i : Text). Same m i s.0) h.1 s.3);
@@ -262,7 +262,7 @@ module _ {K X : Type 0} (ending : Ending) (fault : List X → Option K) (one : L
       let l = later x.0 x.1 (omega (arith, small, enough)) e in
       record {
         count = plus p.count l.count;
-        behind = l.behind ∙ (ap (past (suc l.count)) p.behind ∙ (sym (past_sum p.count (suc l.count) text) ∙ ap (λ i. past i text) (sym (plus_suc p.count l.count))));
+        following = l.following ∙ (ap (past (suc l.count)) p.following ∙ (sym (past_sum p.count (suc l.count) text) ∙ ap (λ i. past i text) (sym (plus_suc p.count l.count))));
         again = λ m k u lt same.
             let h = p.again (plus (suc l.count) m) u (subst (λ i. Same i text u) (ap suc (plus_plus p.count l.count m) ∙ plus_suc p.count (plus l.count m)) same) in
             let open_u = no_ending ending text none (plus (plus p.count l.count) m) u same in
@@ -308,7 +308,7 @@ module _ {K X : Type 0} (ending : Ending) (fault : List X → Option K) (one : L
       let l = later x.0 x.1 (omega (arith, small, enough)) e in
       record {
         count = plus p.count l.count;
-        here = ap place (past_sum p.count l.count text ∙ ap (past l.count) (sym p.behind)) ∙ l.here;
+        here = ap place (past_sum p.count l.count text ∙ ap (past l.count) (sym p.following)) ∙ l.here;
         again = λ k u lt same.
             let h = p.again (suc l.count) u (subst (λ i. Same i text u) (plus_suc p.count l.count) same) in
             let open_u = no_ending ending text none (plus p.count l.count) u same in
@@ -330,7 +330,7 @@ module _ {K X : Type 0} (ending : Ending) (fault : List X → Option K) (one : L
   online_list sofar = record {
     took = λ text xs rest e.
         let t = all_took (suc (size text)) sofar text xs rest (omega arith) e in
-        record { count = suc t.count; behind = t.behind; again = λ m u same. t.again m (size u) u (omega arith) same };
+        record { count = suc t.count; following = t.following; again = λ m u same. t.again m (size u) u (omega arith) same };
     failed = λ text at kind e.
         let f = all_failed (suc (size text)) sofar text at kind (omega arith) e in
         record { count = f.count; here = f.here; again = λ u same. f.again (size u) u (omega arith) same };

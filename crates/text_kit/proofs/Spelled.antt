@@ -1,7 +1,7 @@
 -- Readings that take exactly the texts whose items spell what they give, where one value may have several spellings.
 use Rattle.std.proofs.Common.{◌≡◌, ℕ, zero, suc, ◌<◌, List, [], ◌∷◌, ◌++◌, Option, None, Some, Result, Ok, Err, refl, sym, ap, subst, ◌∙◌, arith, append-nil, append_assoc}
 use Rattle.snd_tokens.specs.Lexemes.{Text, WordAt, OpenAt, CloseAt, EndAt, size}
-use Rattle.text_kit.specs.Items.{AreBehind, AreSpelled, Item, Verbatim, Opening, Closing, Begins}
+use Rattle.text_kit.specs.Items.{ComeAfter, AreSpelled, Item, Verbatim, Opening, Closing, Begins}
 use Rattle.text_kit.specs.Places.{place}
 use Rattle.text_kit.specs.Reading.{Read, Reading, after, ◌>>=◌, give, placed, word_at, Ending, Parenthesis, past_ending, sound, ended_or, list_at}
 use Rattle.text_kit.proofs.Beginnings.{AnyText, IsLeftBy, Starts, begins_both, begins_parts, ending_items, ending_takes, ending_again, no_ending, sound_ok, starts_less}
@@ -95,18 +95,18 @@ module _ {K A B : Type 0} (r : Reading K A) (f : A → Reading K B) (First : A �
 -- ---- lists
 
 -- elements one after another, each of which is spelled by those before it
-abbrev pub SpelledBehind : {X : Type 0} → (List X → X → List Item → Type 0) → List X → List X → List Item → Type 0
-SpelledBehind Of sofar [] is = is ≡ []
-SpelledBehind Of sofar (x ∷ xs) is = (js ks : List Item) × Of sofar x js × SpelledBehind Of (sofar ++ x ∷ []) xs ks × (is ≡ js ++ ks)
+abbrev pub SpelledAfter : {X : Type 0} → (List X → X → List Item → Type 0) → List X → List X → List Item → Type 0
+SpelledAfter Of sofar [] is = is ≡ []
+SpelledAfter Of sofar (x ∷ xs) is = (js ks : List Item) × Of sofar x js × SpelledAfter Of (sofar ++ x ∷ []) xs ks × (is ≡ js ++ ks)
 
 -- what each is after those before it, and how it is spelled
-pub behind_parts : {X : Type 0} (C : List X → X → Type 0) (Of : X → List Item → Type 0) (sofar xs : List X) (is : List Item) → SpelledBehind (λ before x js. C before x × Of x js) sofar xs is → AreBehind C sofar xs × AreSpelled Of xs is
-behind_parts C Of sofar [] is s = (tt, s)
-behind_parts C Of sofar (x ∷ xs) is s = let h = behind_parts C Of (sofar ++ x ∷ []) xs s.1 s.3 in ((s.2.0, h.0), (s.0, s.1, s.2.1, h.1, s.4))
+pub after_parts : {X : Type 0} (C : List X → X → Type 0) (Of : X → List Item → Type 0) (sofar xs : List X) (is : List Item) → SpelledAfter (λ before x js. C before x × Of x js) sofar xs is → ComeAfter C sofar xs × AreSpelled Of xs is
+after_parts C Of sofar [] is s = (tt, s)
+after_parts C Of sofar (x ∷ xs) is s = let h = after_parts C Of (sofar ++ x ∷ []) xs s.1 s.3 in ((s.2.0, h.0), (s.0, s.1, s.2.1, h.1, s.4))
 
-pub parts_behind : {X : Type 0} (C : List X → X → Type 0) (Of : X → List Item → Type 0) (sofar xs : List X) (is : List Item) → AreBehind C sofar xs → AreSpelled Of xs is → SpelledBehind (λ before x js. C before x × Of x js) sofar xs is
-parts_behind C Of sofar [] is c s = s
-parts_behind C Of sofar (x ∷ xs) is c s = (s.0, s.1, (c.0, s.2), parts_behind C Of (sofar ++ x ∷ []) xs s.1 c.1 s.3, s.4)
+pub parts_after : {X : Type 0} (C : List X → X → Type 0) (Of : X → List Item → Type 0) (sofar xs : List X) (is : List Item) → ComeAfter C sofar xs → AreSpelled Of xs is → SpelledAfter (λ before x js. C before x × Of x js) sofar xs is
+parts_after C Of sofar [] is c s = s
+parts_after C Of sofar (x ∷ xs) is c s = (s.0, s.1, (c.0, s.2), parts_after C Of (sofar ++ x ∷ []) xs s.1 c.1 s.3, s.4)
 
 module _ {K X : Type 0} (ending : Ending) (fault : List X → Option K) (one : List X → Reading K X) (Of : List X → X → List Item → Type 0) (starts : (sofar : List X) (x : X) (is : List Item) → Of sofar x is → Starts is) (law : (sofar : List X) → Spelled (one sofar) (Of sofar) AnyText) where
   abbrev E : ℕ → List X → Reading K (List X)
@@ -121,7 +121,7 @@ module _ {K X : Type 0} (ending : Ending) (fault : List X → Option K) (one : L
     pub items : List Item
     pub all_are : all ≡ sofar ++ new
     pub right : fault all ≡ None
-    pub each : SpelledBehind Of sofar new items
+    pub each : SpelledAfter Of sofar new items
     pub begins : Begins (items ++ ending_items ending) text rest
     pub left : IsLeftBy ending rest
 
@@ -162,35 +162,35 @@ module _ {K X : Type 0} (ending : Ending) (fault : List X → Option K) (one : L
   list_takes zero sofar text all rest enough e = absurd (omega (arith, enough))
   list_takes (suc n) sofar text all rest enough e = takes_by n sofar text (past_ending ending text) all rest refl e enough (λ x mid lt h. list_takes n (sofar ++ x ∷ []) mid all rest lt h)
 
-  list_again : (n : ℕ) (sofar new : List X) (is : List Item) (text rest : Text) → size text < n → fault (sofar ++ new) ≡ None → SpelledBehind Of sofar new is → Begins (is ++ ending_items ending) text rest → IsLeftBy ending rest → E n sofar text ≡ Ok (sofar ++ new, rest)
+  list_again : (n : ℕ) (sofar new : List X) (is : List Item) (text rest : Text) → size text < n → fault (sofar ++ new) ≡ None → SpelledAfter Of sofar new is → Begins (is ++ ending_items ending) text rest → IsLeftBy ending rest → E n sofar text ≡ Ok (sofar ++ new, rest)
   list_again zero sofar new is text rest enough right each b left = absurd (omega (arith, enough))
   list_again (suc n) sofar [] is text rest enough right each b left =
       let all = append-nil sofar in
       at_ending ending fault one n sofar text rest (ending_again ending text rest (subst (λ (js : List Item). Begins (js ++ ending_items ending) text rest) each b) left)
       ∙ (ap (λ (o : Option K). placed (place text) rest (sound sofar o)) (subst (λ (xs : List X). fault xs ≡ None) all right) ∙ ap (λ (xs : List X). Ok (xs, rest)) (sym all))
   list_again (suc n) sofar (x ∷ xs) is text rest enough right each b left =
-      let behind = each.1 ++ ending_items ending in
-      let joined : Begins (each.0 ++ behind) text rest = subst (λ (js : List Item). Begins js text rest) (append_assoc each.0 each.1 (ending_items ending)) (subst (λ (js : List Item). Begins (js ++ ending_items ending) text rest) each.4 b) in
-      let p = begins_parts each.0 behind text rest joined in
+      let following = each.1 ++ ending_items ending in
+      let joined : Begins (each.0 ++ following) text rest = subst (λ (js : List Item). Begins js text rest) (append_assoc each.0 each.1 (ending_items ending)) (subst (λ (js : List Item). Begins (js ++ ending_items ending) text rest) each.4 b) in
+      let p = begins_parts each.0 following text rest joined in
       let begun = starts sofar x each.0 each.2 in
       let read = (law sofar).again text x p.0 each.0 each.2 p.1 tt in
       let less = starts_less each.0 text p.0 begun p.1 in
       let all = append_assoc sofar (x ∷ []) xs in
-      before_ending ending fault one n sofar text (no_ending ending each.0 behind text rest begun joined)
+      before_ending ending fault one n sofar text (no_ending ending each.0 following text rest begun joined)
       ∙ (ap (λ (q : Read K X). after q (λ y. M n sofar y)) read
       ∙ (list_again n (sofar ++ x ∷ []) xs each.1 p.0 rest (omega (arith, enough, less)) (subst (λ (ys : List X). fault ys ≡ None) (sym all) right) each.3 p.2 left
       ∙ ap (λ (ys : List X). Ok (ys, rest)) all))
 
-  pub spelled_elements : Spelled (list_at ending fault one []) (λ xs is. (fault xs ≡ None) × ((js : List Item) × SpelledBehind Of [] xs js × (is ≡ js ++ ending_items ending))) (IsLeftBy ending)
+  pub spelled_elements : Spelled (list_at ending fault one []) (λ xs is. (fault xs ≡ None) × ((js : List Item) × SpelledAfter Of [] xs js × (is ≡ js ++ ending_items ending))) (IsLeftBy ending)
   spelled_elements = record {
     takes = λ text xs rest e.
         let t = list_takes (suc (size text)) [] text xs rest (omega arith) e in
-        (t.items ++ ending_items ending, (t.right, (t.items, subst (λ (ys : List X). SpelledBehind Of [] ys t.items) (sym t.all_are) t.each, refl)), t.begins, t.left);
+        (t.items ++ ending_items ending, (t.right, (t.items, subst (λ (ys : List X). SpelledAfter Of [] ys t.items) (sym t.all_are) t.each, refl)), t.begins, t.left);
     again = λ text xs rest is s b left.
         list_again (suc (size text)) [] xs s.1.0 text rest (omega arith) s.0 s.1.1 (subst (λ (js : List Item). Begins js text rest) s.1.2 b) left;
   }
 
 -- a list up to its closing parenthesis
 pub spelled_list : {K X : Type 0} (fault : List X → Option K) (one : List X → Reading K X) (Of : List X → X → List Item → Type 0) → ((sofar : List X) (x : X) (is : List Item) → Of sofar x is → Starts is) → ((sofar : List X) → Spelled (one sofar) (Of sofar) AnyText)
-    → Spelled (list_at Parenthesis fault one []) (λ xs is. (fault xs ≡ None) × ((js : List Item) × SpelledBehind Of [] xs js × (is ≡ js ++ Closing ∷ []))) AnyText
+    → Spelled (list_at Parenthesis fault one []) (λ xs is. (fault xs ≡ None) × ((js : List Item) × SpelledAfter Of [] xs js × (is ≡ js ++ Closing ∷ []))) AnyText
 spelled_list fault one Of starts law = spelled_elements Parenthesis fault one Of starts law

@@ -83,8 +83,8 @@ worded whole at (b ∷ w) bytes some plain e =
     let size : at + (end - at) - at ≡ length (b ∷ w) = omega arith in
     let bytes_are : token_bytes whole (token_of kinds.Word at (end - at)) ≡ b ∷ w =
     ap (λ k. take k (drop at whole)) size ∙ (ap (take (length (b ∷ w))) e ∙ take_first (b ∷ w) (32 ∷ bytes)) in
-    let behind_are : drop end whole ≡ 32 ∷ bytes = sym (drop-drop (length (b ∷ w)) at whole) ∙ (ap (drop (length (b ∷ w))) e ∙ drop_first (b ∷ w) (32 ∷ bytes)) in
-    (ap (text_of whole) word ∙ ap (λ (v : List ℕ). WordAt at v (text_of whole (tokens_from end whole))) bytes_are, behind_are)
+    let after_are : drop end whole ≡ 32 ∷ bytes = sym (drop-drop (length (b ∷ w)) at whole) ∙ (ap (drop (length (b ∷ w))) e ∙ drop_first (b ∷ w) (32 ∷ bytes)) in
+    (ap (text_of whole) word ∙ ap (λ (v : List ℕ). WordAt at v (text_of whole (tokens_from end whole))) bytes_are, after_are)
 
 -- a word and a space, and then further items
 word_first : (i : Item) (is : List Item) (whole : List ℕ) (at : ℕ) (w : List ℕ) → (1 ≤ length w) × (is_plain w ≡ true) → SpellsItem w i → drop at whole ≡ w ++ 32 ∷ written is

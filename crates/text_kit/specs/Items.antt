@@ -33,9 +33,9 @@ abbrev pub IsMadeOf : List Item → Text → Type 0
 IsMadeOf is text = (at : ℕ) × Begins is text (EndAt at)
 
 -- each element is so after those before it
-abbrev pub AreBehind : {X : Type 0} → (List X → X → Type 0) → List X → List X → Type 0
-AreBehind is sofar [] = Unit {0}
-AreBehind is sofar (x ∷ xs) = is sofar x × AreBehind is (sofar ++ x ∷ []) xs
+abbrev pub ComeAfter : {X : Type 0} → (List X → X → Type 0) → List X → List X → Type 0
+ComeAfter is sofar [] = Unit {0}
+ComeAfter is sofar (x ∷ xs) = is sofar x × ComeAfter is (sofar ++ x ∷ []) xs
 
 -- elements one after another, each of which items of its own spell
 abbrev pub AreSpelled : {X : Type 0} → (X → List Item → Type 0) → List X → List Item → Type 0

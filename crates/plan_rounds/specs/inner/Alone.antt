@@ -49,6 +49,6 @@ abbrev pub PoolsTurn : Case → List UnitPair → ℕ → (h h_now own_now : Lis
 PoolsTurn p pairs room h h_now own_now lines lines_now turn =
     IsAlone h_now own_now → length lines + room ≡ 4096 → ∥ IsPoolOfList p pairs (cuts_of h) lines ∥₁ → IsPoolAfterTurn p pairs h_now lines_now turn
 
--- and what of all turns behind what the list begins with
+-- and what of all turns after what the list begins with
 abbrev pub PoolsRounds : Case → ℕ → (h h_now own_now : List Entry) → List CutLine → Type 0
 PoolsRounds p most h h_now own_now lines = IsAlone h_now own_now → most ≡ 4096 → IsBeginning p [] lines → cuts_of h ≡ map cut_of_line lines → ∥ IsWorkedPool p h_now ∥₁

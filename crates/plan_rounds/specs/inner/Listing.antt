@@ -34,13 +34,13 @@ pub record AreFirstSpots (n : ℕ) (spots : List Spot) : Type 0 where
   pub count : length spots ≡ n
   pub each : (i : ℕ) → i < n → slice_get spots i ≡ Some (Pool i)
 
--- the line goes behind the others, with its spot, unless its cut stands among them
+-- the line goes after the others, with its spot, unless its cut stands among them
 abbrev pub PutsLine : CutLine → Spot → Candidates → Candidates → Type 0
 PutsLine line spot old new =
     (HasCut old.lines line.state.0 line.lengths × (new ≡ old))
     ⊎ (Lacks old.lines line × (new ≡ record { lines = old.lines ++ line ∷ []; spots = old.spots ++ spot ∷ [] }))
 
--- the cut's line goes behind the others, unless the cut stands among them
+-- the cut's line goes after the others, unless the cut stands among them
 abbrev pub TakesCut : List Demand → Cut → List CutLine → List CutLine → Type 0
 TakesCut demands cut old new =
     (HasCut old cut.state.0 cut.lengths × (new ≡ old))

@@ -22,7 +22,7 @@ part_self : {X : Type 0} (xs : List X) → IsPartOf xs xs
 part_self [] = tt
 part_self (x ∷ xs) = inl (refl, part_self xs)
 
--- the items behind the first n are some of them
+-- the items after the first n are some of them
 pub drop_is_part : {X : Type 0} (n : ℕ) (xs : List X) → IsPartOf (drop n xs) xs
 drop_is_part zero xs = part_self xs
 drop_is_part (suc n) [] = tt

@@ -77,7 +77,7 @@ PlansSince p asked seen own seen_now own_now made = (before : List Entry) × IsP
 
 -- ---- commands
 
--- the outcome stands behind the others, or there was none or no memory for it
+-- the outcome stands after the others, or there was none or no memory for it
 abbrev pub KeepsOutcome : Result Outcome NoMemory → List Outcome → List Outcome → Result (Unit {0}) Stop → Type 0
 KeepsOutcome (Ok o) before after (Ok u) = after ≡ before ++ o ∷ []
 KeepsOutcome (Ok o) before after (Err stop) = stop ≡ stops.NoMemory
