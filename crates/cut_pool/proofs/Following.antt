@@ -1,11 +1,9 @@
 -- right sides that follow an edit
-use Rattle.std.proofs.Common.{◌≡◌, ◌∙◌, ℕ, ◌+◌, ◌*◌, ◌≤◌, ◌<◌, ◌^◌, List, [], ◌∷◌, ◌++◌, All, Option, None, Some, eqb, length, map, get_or, take, drop, slice_get, slice_index, slice_index_or, sum_by, unwrap_or, zip, suc, refl, sym, ap, subst, arith, ⊎_elim}
-use Rattle.std.specs.Prelude.{◌==◌, min, max}
+use Rattle.std.proofs.Common.{◌≡◌, ◌∙◌, ℕ, ◌+◌, ◌*◌, ◌≤◌, ◌<◌, ◌^◌, List, [], ◌∷◌, ◌++◌, All, Option, None, Some, length, map, get_or, take, drop, slice_get, slice_index_or, sum_by, unwrap_or, zip, suc, refl, sym, ap, subst, arith}
 use Rattle.std.proofs.Math.Logic.{∥∥₁_elim}
 use Rattle.std.proofs.Math.Nat.{mul-le-mul_left}
 use Rattle.std.proofs.Props.{props}
-use Rattle.std.proofs.lemmas.Bool.{cases_lt, cond_both, eqb-false}
-use Rattle.std.proofs.lemmas.List.{get_or-append-add, get_or-drop, get_or-map, get_or_past, length-map, length-take-le, same_lists}
+use Rattle.std.proofs.lemmas.List.{get_or-append-add, get_or-drop, get_or-map, length-map, length-take-le, same_lists}
 use Rattle.std.proofs.lemmas.List.Elements.{All-map}
 use Rattle.std.proofs.lemmas.List.Sums.{sum_by-cons}
 use Rattle.std.proofs.lemmas.Option.{get_or_from_slice_get, slice_get_within}
@@ -17,10 +15,8 @@ use Rattle.plan_terms.specs.Edits.{total_need, without}
 use Rattle.plan_terms.specs.Paths.{IsDistance}
 use Rattle.plan_terms.proofs.Distances.{distance_one}
 use Rattle.short_paths.specs.declared.distance_table.DistanceTable.{DistanceTable}
-use Rattle.short_paths.specs.declared.distance_table.TheConstants.{APART}
-use Rattle.short_paths.specs.inner.Pairs.{pair_place}
-use Rattle.short_paths.specs.inner.Tables.{answer_of}
 use Rattle.short_paths.specs.DistanceTables.{AreAllDistances, distance_at}
+use Rattle.short_paths.proofs.Lows.{table_low}
 use Rattle.metric_cut.specs.declared.cut.Cut.{Cut}
 use Rattle.metric_cut.specs.Cuts.{IsCutOf}
 use Rattle.metric_cut.specs.inner.Rights.{part_of}
@@ -62,20 +58,8 @@ kept_distance cut some a b first second found is = ∥∥₁_elim some (hlevel p
 
 -- ---- and it is below 2^84
 
-answer_low : (table : DistanceTable) (k : ℕ) → unwrap_or (answer_of APART (slice_index table.pairs k)) 0 ≤ 2 ^ 39
-answer_low table k =
-    let x = slice_index table.pairs k in
-    ⊎_elim
-    (λ (lt : k < length table.pairs). cond_both (eqb x APART) None (Some x) (λ o. unwrap_or o 0 ≤ 2 ^ 39) (λ _. omega arith) (λ far. omega (arith, table.low k 0 lt (eqb-false x APART far))))
-    (λ past. let none : x ≡ 0 = get_or_past table.pairs k 0 past in rw none (omega arith))
-    (cases_lt k (length table.pairs))
-
 part_low : (table : DistanceTable) (d : Demand) → part_of table d ≤ d.need * 2 ^ 39
-part_low table d =
-    let far = distance_at table d.from.0 d.to.0 in
-    let low : unwrap_or far 0 ≤ 2 ^ 39 = cond_both (d.from.0 == d.to.0) (Some 0) (answer_of APART (slice_index table.pairs (pair_place (min d.from.0 d.to.0) (max d.from.0 d.to.0)))) (λ o. unwrap_or o 0 ≤ 2 ^ 39)
-    (λ _. omega arith) (λ _. answer_low table (pair_place (min d.from.0 d.to.0) (max d.from.0 d.to.0))) in
-    mul-le-mul_left d.need low
+part_low table d = mul-le-mul_left d.need (table_low table d.from.0 d.to.0)
 
 sum_low : (table : DistanceTable) (demands : List Demand) → sum_by (part_of table) demands ≤ total_need demands * 2 ^ 39
 sum_low table [] = omega arith

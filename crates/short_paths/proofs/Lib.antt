@@ -2,6 +2,7 @@ pub mod Choosing
 pub mod ForwardStars
 pub mod Gathering
 pub mod Leading
+pub mod Lows
 pub mod PairNumbers
 pub mod Pricing
 pub mod Relaxing

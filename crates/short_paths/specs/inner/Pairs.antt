@@ -1,5 +1,5 @@
 -- the numbers of each two of some nodes, in the order of the higher node and then of the lower one
-use Rattle.std.specs.Prelude.{◌≡◌, ◌≢◌, ℕ, ◌+◌, ◌-◌, ◌*◌, ◌/◌, ◌^◌, ◌<◌, ◌≤◌, ◌++◌, List, All, length, map, min, slice_index, take}
+use Rattle.std.specs.Prelude.{◌≡◌, ◌≢◌, ℕ, ◌+◌, ◌-◌, ◌*◌, ◌/◌, ◌^◌, ◌<◌, ◌≤◌, ◌==◌, ◌++◌, cond, List, Option, Some, All, length, map, max, min, slice_index, take}
 use Rattle.plan_terms.specs.Paths.{IsDistance}
 use Rattle.short_paths.specs.declared.distance_table.TheConstants.{APART}
 use Rattle.short_paths.specs.inner.Tables.{IsTable, answer_of}
@@ -11,6 +11,10 @@ pair_count n = n * (n - 1) / 2
 -- where the number of two nodes stands: after the pairs of the nodes below the higher one
 abbrev pub pair_place : ℕ → ℕ → ℕ
 pair_place low high = pair_count high + low
+
+-- the distance of two nodes, either way round, by the numbers of all pairs
+abbrev pub pair_distance : List ℕ → ℕ → ℕ → Option ℕ
+pair_distance pairs a b = cond (a == b) (Some 0) (answer_of APART (slice_index pairs (pair_place (min a b) (max a b))))
 
 -- a number of a search as the table keeps it
 abbrev pub narrowed : ℕ → ℕ
