@@ -1,8 +1,8 @@
-ghost use Rattle.std.specs.Prelude.{◌≡◌, ℕ, ◌+◌, ◌<◌, IsTrue, length, slice_index};
+ghost use Rattle.std.specs.Prelude.{◌≡◌, ℕ, ◌+◌, ◌<◌, ◌^◌, ◌↔◌, All, IsTrue, length, slice_index};
 ghost use Rattle.net_core.specs.Graphs.{Survives};
 ghost use Rattle.net_core.specs.Views.{graph};
 
-use crate::{LeastPaths, PathFault, all_pairs, distances, least_path, priced_path};
+use crate::{DistanceTable, LeastPaths, PathFault, all_pairs, distances, least_path, priced_path};
 use net_core::{Lengths, List, Network, NoMemory, NodeId, Path, StateId, States, Surviving};
 use std::alloc::Global;
 use std::test::Fail;
@@ -28,6 +28,61 @@ const DISTANCES: [[Option<u64>; 3]; 4] = [
     [Some(2), None, None],
 ];
 
+/// Whether a state is one of the network's, and there is a length for each of its links.
+fn are_given(net: &Network, states: &States, state: StateId, lengths: &Lengths) -> bool
+    ensures state { IsTrue result → state.0 < length states.now.listed + 1 }
+    ensures lengths { IsTrue result → length lengths.now ≡ length net.now.links }
+{
+    state.0 < states.count() && lengths.len() == net.links().len()
+}
+
+/// Whether the first node's row has these distances.
+fn has_row(
+    alloc: Global,
+    net: &Network,
+    states: &States,
+    state: StateId,
+    lengths: &Lengths,
+    want: &[Option<u64>],
+) -> Result<bool, NoMemory> {
+    if !are_given(net, states, state, lengths) || net.nodes().len() == 0 {
+        return Ok(false);
+    }
+    let row = distances(alloc, net, states, state, lengths, NodeId(0))?;
+    Ok(row.items() == want)
+}
+
+/// Whether a table has a distance, either way round.
+fn has_distance(table: &DistanceTable, a: u32, b: u32, want: Option<u64>) -> bool {
+    if a >= table.nodes() || b >= table.nodes() {
+        return false;
+    }
+    table.get(NodeId(a), NodeId(b)) == want && table.get(NodeId(b), NodeId(a)) == want
+}
+
+/// Whether the table has these distances, and D is apart from C.
+fn has_table(
+    alloc: Global,
+    net: &Network,
+    states: &States,
+    state: StateId,
+    lengths: &Lengths,
+    want: [Option<u64>; 3],
+) -> Result<bool, NoMemory> {
+    if !are_given(net, states, state, lengths) {
+        return Ok(false);
+    }
+    let [ab, ac, bc] = want;
+    let table = all_pairs(alloc, net, states, state, lengths)?;
+    Ok(
+        has_distance(&table, 0, 1, ab)
+            && has_distance(&table, 2, 0, ac)
+            && has_distance(&table, 1, 2, bc)
+            && has_distance(&table, 3, 2, None)
+            && has_distance(&table, 3, 3, Some(0)),
+    )
+}
+
 #[test]
 fn distances_are_as_by_hand(rt: HostRuntime) -> Result<(), Fail> {
     let alloc = rt.alloc();
@@ -35,22 +90,23 @@ fn distances_are_as_by_hand(rt: HostRuntime) -> Result<(), Fail> {
     let states = failing(alloc, &net, &FAILED)?;
     let lengths = List::from_slice(alloc, &[2, 5, 0, 4, 1])?;
     for s in 0..4usize {
-        let [ab, ac, bc] = DISTANCES[s];
+        let [ab, ac, _] = DISTANCES[s];
         let state = StateId(s as u32);
-        let row = distances(alloc, &net, &states, state, &lengths, NodeId(0))?;
-        assert!(rt; row.items() == [Some(0), ab, ac, None].as_slice());
-        let table = all_pairs(alloc, &net, &states, state, &lengths)?;
-        for (a, b, want) in [
-            (0, 1, ab),
-            (2, 0, ac),
-            (1, 2, bc),
-            (3, 2, None),
-            (3, 3, Some(0)),
-        ] {
-            assert!(rt; a < table.nodes() && b < table.nodes());
-            assert_eq!(rt; table.get(NodeId(a), NodeId(b)), want, "{s} {a} {b}");
-            assert_eq!(rt; table.get(NodeId(b), NodeId(a)), want, "{s} {b} {a}");
-        }
+        assert!(rt;
+            has_row(
+                alloc,
+                &net,
+                &states,
+                state,
+                &lengths,
+                &[Some(0), ab, ac, None]
+            )?,
+            "{s}"
+        );
+        assert!(rt;
+            has_table(alloc, &net, &states, state, &lengths, DISTANCES[s])?,
+            "{s}"
+        );
     }
     Ok(())
 }
@@ -103,18 +159,21 @@ fn both_agree(
     states: &States,
     lengths: &Lengths,
     row: PathRow,
-) -> Result<bool, NoMemory>
-    requires { length lengths.now ≡ length net.now.links }
-{
+) -> Result<bool, NoMemory> {
     let (s, a, b, expected) = row;
-    let nodes = net.nodes().len() as u32;
     let state = StateId(s);
-    if s >= states.count() || a >= nodes || b >= nodes || !are_long(net, states, state, lengths) {
+    let nodes = net.nodes().len() as u32;
+    if a >= nodes
+        || b >= nodes
+        || !are_given(net, states, state, lengths)
+        || !are_long(net, states, state, lengths)
+    {
         return Ok(false);
     }
-    let one = least_path(alloc, net, states, state, lengths, NodeId(a), NodeId(b));
+    let (from, to) = (NodeId(a), NodeId(b));
+    let one = least_path(alloc, net, states, state, lengths, from, to);
     let paths = LeastPaths::new(alloc, &Surviving { net, states, state }, lengths)?;
-    let other = paths.path(NodeId(a), NodeId(b));
+    let other = paths.path(from, to);
     Ok(agrees(&one, expected) && agrees(&other, expected))
 }
 
@@ -133,6 +192,29 @@ fn least_paths_are_as_by_hand(rt: HostRuntime) -> Result<(), Fail> {
 /// A price that no sum of smaller ones reaches, and that a 64-bit sum of five can't hold.
 const GREAT: u64 = (1 << 62) - 1;
 
+fn are_low(prices: &[u64]) -> bool
+    ensures { IsTrue result ↔ All (λ p. p < 2 ^ 62) prices.now }
+{
+    prices.iter().all(|p| *p < 1 << 62)
+}
+
+/// Whether the cheapest path from A to C without failures is of these links, at this total.
+fn is_cheapest(
+    alloc: Global,
+    net: &Network,
+    states: &States,
+    prices: &List<u64>,
+    links: &[u32],
+    total: u128,
+) -> Result<bool, PathFault> {
+    if !are_low(prices.items()) || prices.len() != net.links().len() || net.nodes().len() < 3 {
+        return Ok(false);
+    }
+    let (from, to) = (NodeId(0), NodeId(2));
+    let found = priced_path(alloc, net, states, StateId(0), prices, from, to)?;
+    Ok(is_of(&found.path, links) && found.total == total)
+}
+
 #[test]
 fn cheapest_paths_are_as_by_hand(rt: HostRuntime) -> Result<(), Fail> {
     let alloc = rt.alloc();
@@ -145,21 +227,11 @@ fn cheapest_paths_are_as_by_hand(rt: HostRuntime) -> Result<(), Fail> {
         ([GREAT, 7, GREAT, GREAT], &[3], GREAT as u128),
     ];
     for (prices, links, total) in rows {
-        assert!(rt;
-            prices[0] < 1 << 62 && prices[1] < 1 << 62 && prices[2] < 1 << 62 && prices[3] < 1 << 62
-        );
         let prices = List::from_slice(alloc, &prices)?;
-        let found = priced_path(
-            alloc,
-            &net,
-            &states,
-            StateId(0),
-            &prices,
-            NodeId(0),
-            NodeId(2),
-        )?;
-        assert!(rt; is_of(&found.path, links));
-        assert_eq!(rt; found.total, total);
+        assert!(rt;
+            is_cheapest(alloc, &net, &states, &prices, links, total)?,
+            "{total}"
+        );
     }
     Ok(())
 }
