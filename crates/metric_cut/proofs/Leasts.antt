@@ -1,5 +1,5 @@
 -- the least of the modules' ratios, module by module and link by link
-use Rattle.std.proofs.Common.{◌≡◌, ◌≢◌, ℕ, ◌*◌, ◌≤◌, ◌<◌, List, [], ◌∷◌, All, Some, get_or, length, slice_get, slice_index, ⊎_elim, refl, ◌∙◌, subst, arith, mul-pos}
+use Rattle.std.proofs.Common.{◌≡◌, ◌≢◌, ◌⊎◌, ℕ, ◌*◌, ◌≤◌, ◌<◌, List, [], ◌∷◌, All, Any, Some, get_or, length, slice_get, slice_index, ⊎_elim, refl, ◌∙◌, subst, arith, mul-pos}
 use Rattle.std.proofs.lemmas.Option.{slice_get-get_or, slice_get_within}
 use Rattle.std.proofs.lemmas.List.{get_or_default}
 use Rattle.net_core.specs.declared.network.Link.{Link}
@@ -8,7 +8,20 @@ use Rattle.net_core.specs.Network.{IsModule}
 use Rattle.plan_terms.specs.inner.Ratios.{IsLeastRatio}
 use Rattle.metric_cut.specs.declared.ratio.Ratio.{Ratio}
 use Rattle.metric_cut.specs.Bounded.{HaveBound}
-use Rattle.metric_cut.specs.inner.Ratios.{IsLeastSoFar}
+use Rattle.metric_cut.specs.inner.Ratios.{IsLeastOf, IsRatioOf, IsSmall}
+
+-- the ratio is that of a module of some link
+pub record IsRatioAmong (links : List Link) (lengths : List ℕ) (r : Ratio) : Type 0 where
+  pub number : ℕ
+  pub link : Link
+  pub at : slice_get links number ≡ Some link
+  pub of : Any (IsRatioOf (slice_index lengths number) r) link.modules
+
+-- no module of the first n links has a ratio below this one, which is infinite or that of a module
+pub record IsLeastSoFar (links : List Link) (lengths : List ℕ) (n : ℕ) (r : Ratio) : Type 0 where
+  pub before : (e : ℕ) (l : Link) → e < n → slice_get links e ≡ Some l → IsLeastOf l.modules (slice_index lengths e) r
+  pub is : (r ≡ record { cost = 1; size = 0 }) ⊎ IsRatioAmong links lengths r
+  pub small : IsSmall r
 
 abbrev no_link : Link
 no_link = record { name = []; a = record { 0 = 0 }; b = record { 0 = 0 }; fixed = 0; setup = 0; modules = [] }

@@ -1,6 +1,5 @@
 -- ratios of a cost and a size, where a size of 0 makes a ratio greater than all
-use Rattle.std.specs.Prelude.{◌≡◌, ◌⊎◌, ℕ, ◌*◌, ◌^◌, ◌≤◌, ◌<◌, List, Any, All, Some, length, slice_get, slice_index}
-use Rattle.net_core.specs.declared.network.Link.{Link}
+use Rattle.std.specs.Prelude.{◌≡◌, ℕ, ◌*◌, ◌^◌, ◌≤◌, ◌<◌, List, All}
 use Rattle.net_core.specs.declared.network.Module.{Module}
 use Rattle.metric_cut.specs.declared.ratio.Ratio.{Ratio}
 
@@ -22,16 +21,3 @@ IsLeastOf modules length r = All (λ m. r.cost * (m.capacity * length) ≤ m.cos
 pub record IsSmall (r : Ratio) : Type 0 where
   pub cost : r.cost < 2 ^ 40
   pub size : r.size < 2 ^ 72
-
--- the ratio is that of a module of some link
-pub record IsRatioAmong (links : List Link) (lengths : List ℕ) (r : Ratio) : Type 0 where
-  pub number : ℕ
-  pub link : Link
-  pub at : slice_get links number ≡ Some link
-  pub of : Any (IsRatioOf (slice_index lengths number) r) link.modules
-
--- no module of the first n links has a ratio below this one, which is infinite or that of a module
-pub record IsLeastSoFar (links : List Link) (lengths : List ℕ) (n : ℕ) (r : Ratio) : Type 0 where
-  pub before : (e : ℕ) (l : Link) → e < n → slice_get links e ≡ Some l → IsLeastOf l.modules (slice_index lengths e) r
-  pub is : (r ≡ record { cost = 1; size = 0 }) ⊎ IsRatioAmong links lengths r
-  pub small : IsSmall r

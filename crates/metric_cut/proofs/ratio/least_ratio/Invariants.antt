@@ -1,4 +1,4 @@
-use Rattle.metric_cut.specs.inner.Ratios.{IsLeastSoFar}
+use Rattle.metric_cut.proofs.Leasts.{IsLeastSoFar}
 use Rattle.metric_cut.proofs.ratio.least_ratio.Given as goal
 
 -- the least so far
