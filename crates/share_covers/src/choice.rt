@@ -9,7 +9,7 @@ ghost use Rattle.share_covers.specs.inner.Widened.{widened};
 use crate::covers::cover_share;
 use crate::routes::{InstalledRoutes, route_installed};
 use module_choice::Fallback;
-use net_core::{Counts, Evidence, Instance, List, NoMemory, Routing};
+use net_core::{Copied, Counts, Evidence, Instance, List, NoMemory, Routing};
 use plan_types::{Cause, Quality, Share};
 use std::alloc::Global;
 
@@ -23,6 +23,17 @@ pub struct Chosen {
     /// What the modules cost, in thousandths.
     pub cost: u128,
     pub quality: Quality,
+}
+
+impl Copied for Chosen {
+    fn copy(&self) -> Result<Chosen, NoMemory> {
+        Ok(Chosen {
+            counts: self.counts.copy()?,
+            routings: self.routings.copy()?,
+            cost: self.cost,
+            quality: self.quality.copy()?,
+        })
+    }
 }
 
 /// The fallback plan.
