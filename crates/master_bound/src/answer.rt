@@ -1,5 +1,7 @@
-use net_core::{Evidence, List, NoMemory};
+use net_core::{Copied, Evidence, List, MasterColumn, NoMemory};
 use plan_types::Share;
+use simplex_core::SimplexFault;
+use std::fmt;
 
 /// A cut, by its place in the list, and its numerator in a certificate.
 #[derive(Clone, Copy, Debug, PartialEq, Eq)]
@@ -20,6 +22,18 @@ pub struct Best {
     pub raw_den: u128,
 }
 
+impl Copied for Best {
+    fn copy(&self) -> Result<Best, NoMemory> {
+        Ok(Best {
+            den: self.den,
+            multipliers: self.multipliers.copy()?,
+            share: self.share.copy()?,
+            raw_num: self.raw_num,
+            raw_den: self.raw_den,
+        })
+    }
+}
+
 /// Why no best certificate is given.
 #[derive(Drop)]
 pub enum MasterFault {
@@ -27,6 +41,24 @@ pub enum MasterFault {
     Wide(Evidence),
     /// The call ran out of memory.
     NoMemory,
+}
+
+impl Copied for MasterFault {
+    fn copy(&self) -> Result<MasterFault, NoMemory> {
+        Ok(match self {
+            MasterFault::Wide(evidence) => MasterFault::Wide(evidence.copy()?),
+            MasterFault::NoMemory => MasterFault::NoMemory,
+        })
+    }
+}
+
+impl fmt::Display for MasterFault {
+    fn fmt<W: fmt::Write>(&self, f: &mut fmt::Formatter<W>) -> fmt::Result {
+        f.write_str(match self {
+            MasterFault::Wide(_) => "a number grew too wide",
+            MasterFault::NoMemory => "out of memory",
+        })
+    }
 }
 
 impl From<NoMemory> for MasterFault {
@@ -37,5 +69,21 @@ impl From<NoMemory> for MasterFault {
 
     fn from(_error: NoMemory) -> MasterFault {
         MasterFault::NoMemory
+    }
+}
+
+impl From<SimplexFault<MasterColumn>> for MasterFault {
+    ghost use Rattle.std.specs.Prelude.{◌≡◌};
+    ghost use Rattle.master_bound.specs.inner.Programs.{fault_of};
+
+    ghost from_gives = { λ fault answer. answer ≡ fault_of fault };
+
+    fn from(fault: SimplexFault<MasterColumn>) -> MasterFault {
+        match fault {
+            SimplexFault::Wide { basis, kind } => {
+                MasterFault::Wide(Evidence::Master { basis, kind })
+            }
+            SimplexFault::NoMemory => MasterFault::NoMemory,
+        }
     }
 }

@@ -27,7 +27,7 @@ use net_core::{
     Copied, CutLine, Evidence, LinkId, List, MasterColumn, Network, NoMemory, WideKind,
 };
 use plan_types::Share;
-use simplex_core::{Optimum, SimplexFault, solve};
+use simplex_core::{Optimum, solve};
 use std::alloc::Global;
 
 /// The answer that a number of a basis is too wide.
@@ -148,11 +148,8 @@ fn solved(alloc: Global, task: &Task) -> Result<Best, MasterFault>
         task: *task,
         ratings,
     };
-    match solve(alloc, &mut program) {
-        Ok(optimum) => best_of(alloc, task, optimum),
-        Err(SimplexFault::Wide { basis, kind }) => Err(wide(basis, kind)),
-        Err(SimplexFault::NoMemory) => Err(MasterFault::NoMemory),
-    }
+    let optimum = solve(alloc, &mut program)?;
+    best_of(alloc, task, optimum)
 }
 
 /// The best certificate of cuts, and a share of each link's unit pair that costs as much. No certificate of these cuts has a greater
