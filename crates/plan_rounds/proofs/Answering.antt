@@ -14,12 +14,17 @@ use Rattle.separator.specs.Separators.{AreStateAnswers, IsAnswerOf, IsSeparating
 use Rattle.separator.specs.declared.answers.Separated.{Separated}
 use Rattle.separator.specs.declared.answers.Separated.TheVariants.{Routed, Violated, Wide}
 use Rattle.separator.specs.declared.answers.StateAnswer.{StateAnswer}
-use Rattle.plan_rounds.specs.inner.Answered.{AnswersShort, AreAnswersFrom, AreSorted, HasShort, PutsAnswer}
+use Rattle.plan_rounds.specs.inner.Answered.{AnswersShort, AreSorted, HasShort, PutsAnswer}
 use Rattle.plan_rounds.specs.declared.sorting.Answered.{Answered}
 use Rattle.separator.proofs.Seeing.{get_more}
 use Rattle.plan_rounds.proofs.Seeing.{stand_more}
 
 module _ (p : Case) (caps : Caps) (history : List Entry) where
+  -- the answers of the states from n on
+  pub record AreAnswersFrom (n : ℕ) (answers : List StateAnswer) : Type 0 where
+    pub count : n + length answers ≡ length p.listed + 1
+    pub each : (i : ℕ) (a : StateAnswer) → slice_get answers i ≡ Some a → (a.state.0 ≡ n + i) × IsAnswerOf p caps history (n + i) a.answer
+
   pub answers_all : (answers : List StateAnswer) → AreStateAnswers p caps history answers → AreAnswersFrom p caps history 0 answers
   answers_all answers are = record {
     count = omega (arith, are.count);

@@ -36,7 +36,7 @@ use Rattle.plan_rounds.specs.WorkedRounds.{AreWorkedRounds, EndsBy, IsBestAt, Is
 use Rattle.plan_rounds.specs.inner.Answered.{AreSorted, HasShort}
 use Rattle.plan_rounds.specs.inner.Listing.{AreListed}
 use Rattle.plan_rounds.specs.inner.Sharing.{IsDividedShare, IsQualityAt}
-use Rattle.plan_rounds.specs.inner.Turns.{AddsFirst, IsFurther, IsTurnOf, IsWorking, Judges}
+use Rattle.plan_rounds.specs.inner.Turns.{AddsFirst, IsFurther, IsTurnOf, Judges}
 use Rattle.plan_rounds.specs.declared.candidates.Candidates.{Candidates}
 use Rattle.plan_rounds.specs.declared.rounds.Turn.{Turn}
 use Rattle.plan_rounds.specs.declared.rounds.Turn.TheVariants.{Last}
@@ -44,6 +44,12 @@ use Rattle.plan_rounds.specs.declared.shares.ShareCaps.{ShareCaps}
 use Rattle.plan_rounds.specs.declared.sorting.Answered.{Answered}
 use Rattle.share_covers.proofs.PairsOnce.{links_once}
 use Rattle.plan_rounds.proofs.Rights.{right_low}
+
+-- a worked list of the pool, and what is known of the best certificate before it
+pub record IsWorking (p : Case) (pairs : List UnitPair) (pool lines : List CutLine) (before : Option Best) : Type 0 where
+  pub rounds : List Round
+  pub list : IsWorkedList p pairs pool rounds lines
+  pub last : IsBestOfLast p pairs list.start rounds before
 
 -- ---- spots of two lists
 

@@ -26,11 +26,12 @@ use Rattle.metric_cut.specs.declared.certificate.OwnCertificate.{OwnCertificate}
 use Rattle.separator.specs.Separators.{IsSpotIn}
 use Rattle.plan_rounds.specs.declared.rounds.Worked.{Worked}
 use Rattle.planner.specs.SoundPlans.{IsOwnAtMost}
-use Rattle.planner.specs.inner.Candidates.{AreCandidates, HaveBounds, IsBestBound, IsBoundOfBest, IsBoundOfCut, IsBoundOfNone, IsCandidate, IsCertifiedBound, IsOwnCertificate}
+use Rattle.planner.specs.inner.Candidates.{HaveBounds, IsBestBound, IsBoundOfBest, IsBoundOfCut, IsBoundOfNone, IsOwnCertificate}
 use Rattle.planner.specs.declared.certified.CertifiedBound.{CertifiedBound}
 use Rattle.net_core.proofs.Lists.{all_one}
 use Rattle.checked_fraction.proofs.Once.{divides_rest, shared_divisor}
 use Rattle.plan_rounds.proofs.Bounding.{has_bound}
+use Rattle.planner.proofs.Candidates.{AreCandidates, IsCandidate, IsCertifiedBound}
 
 -- where the raw value is 0, so is the bound
 bound_zero : (links : List Link) (num den bound : ℕ) → IsBound links num den bound → num ≡ 0 → bound ≡ 0

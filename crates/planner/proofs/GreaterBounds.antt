@@ -23,9 +23,10 @@ use Rattle.master_bound.specs.declared.answer.Multiplier.{Multiplier}
 use Rattle.separator.specs.Separators.{IsSpotIn}
 use Rattle.plan_rounds.specs.declared.rounds.Worked.{Worked}
 use Rattle.planner.specs.declared.certified.CertifiedBound.{CertifiedBound}
-use Rattle.planner.specs.inner.Candidates.{AreCandidates, IsBestBound, IsBoundOfBest, IsCandidate, IsCertifiedBound}
+use Rattle.planner.specs.inner.Candidates.{IsBestBound, IsBoundOfBest}
 use Rattle.planner.specs.inner.Finishing.{AreMultipliersOf, HasShortLengths, bound_made, line_at}
 use Rattle.planner.proofs.BestBounds.{lowest_small, spot_in_form}
+use Rattle.planner.proofs.Candidates.{AreCandidates, IsCandidate, IsCertifiedBound}
 
 -- what holds of all images holds of all items
 unmap : {X Y : Type 0} (P : Y → Type 0) (f : X → Y) (xs : List X) → All P (map f xs) → All (λ x. P (f x)) xs

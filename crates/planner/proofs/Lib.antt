@@ -1,4 +1,5 @@
 pub mod BestBounds
+pub mod Candidates
 pub mod Carrying
 pub mod EvidenceForms
 pub mod GreaterBounds

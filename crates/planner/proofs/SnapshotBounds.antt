@@ -29,9 +29,9 @@ use Rattle.separator.specs.Separators.{IsFullHistory, IsSpotIn}
 use Rattle.planner.specs.SnapshotPlans.{AreHeld, IsSnapshotIn}
 use Rattle.planner.specs.SoundPlans.{AreOpeningAtMost, IsAboveOwnBounds, IsOwnAtMost}
 use Rattle.planner.specs.declared.certified.CertifiedBound.{CertifiedBound}
-use Rattle.planner.specs.inner.Candidates.{AreCandidates, IsCertifiedBound}
 use Rattle.planner.specs.inner.Finishing.{AreMultipliersOf, HasShortLengths, IsBetterBound, IsBoundOfMaster, IsGreaterBound, IsShareFor, bound_made}
 use Rattle.planner.proofs.BestBounds.{best_certified, each_at_most}
+use Rattle.planner.proofs.Candidates.{AreCandidates, IsCertifiedBound}
 use Rattle.planner.proofs.GreaterBounds.{best_is_certified, best_multipliers, lines_of_best, lines_of_own, no_greater}
 use Rattle.planner.proofs.SnapshotQuality.{HasBest, best_there, if_some, scale_positive, share_for}
 

@@ -28,8 +28,8 @@ use Rattle.share_covers.specs.InstalledRoutes.{installed_caps}
 use Rattle.share_covers.specs.declared.choice.Chosen.{Chosen}
 use Rattle.planner.specs.SnapshotPlans.{IsSnapshotPlan}
 use Rattle.planner.specs.declared.certified.CertifiedBound.{CertifiedBound}
-use Rattle.planner.specs.inner.Candidates.{IsCertifiedBound}
 use Rattle.planner.specs.inner.Finishing.{HasShortLengths, IsBetterBound, IsChosenFor, IsGreaterBound, plan_made}
+use Rattle.planner.proofs.Candidates.{IsCertifiedBound}
 use Rattle.planner.proofs.Carrying.{able}
 use Rattle.planner.proofs.GreaterBounds.{best_multipliers}
 use Rattle.planner.proofs.InForm.{cost_low, demands_in_form, lowest_whole, routing_in_form}

@@ -7,10 +7,9 @@ use Rattle.net_core.specs.declared.plan.CutLine.{CutLine}
 use Rattle.net_core.specs.declared.plan.Routing.{Routing}
 use Rattle.net_core.specs.Cases.{Case, graph_in}
 use Rattle.flow_router.specs.Answers.{IsEvidenceHere, IsRouted}
-use Rattle.separator.specs.Separators.{IsAnswerOf, IsSeparatingCut}
+use Rattle.separator.specs.Separators.{IsSeparatingCut}
 use Rattle.separator.specs.declared.answers.Separated.{Separated}
 use Rattle.separator.specs.declared.answers.Separated.TheVariants.{Routed, Violated, Wide}
-use Rattle.separator.specs.declared.answers.StateAnswer.{StateAnswer}
 use Rattle.plan_rounds.specs.WorkedRounds.{StandAtSpots}
 use Rattle.plan_rounds.specs.declared.sorting.Answered.{Answered}
 
@@ -52,8 +51,3 @@ module _ (p : Case) (caps : Caps) (history : List Entry) where
     pub spots : StandAtSpots history a.found.lines a.found.spots
     pub wide : IfSome a.wide (IsEvidenceOfState p caps)
     pub routed : length a.found.lines ≡ 0 → a.wide ≡ None → AreRoutedStates p caps n a.routings
-
-  -- the answers of the states from n on
-  pub record AreAnswersFrom (n : ℕ) (answers : List StateAnswer) : Type 0 where
-    pub count : n + length answers ≡ length p.listed + 1
-    pub each : (i : ℕ) (a : StateAnswer) → slice_get answers i ≡ Some a → (a.state.0 ≡ n + i) × IsAnswerOf p caps history (n + i) a.answer

@@ -14,8 +14,8 @@ use Rattle.plan_types.specs.declared.quality.Quality.TheVariants.{Loose}
 use Rattle.master_bound.specs.declared.answer.Best.{Best}
 use Rattle.master_bound.specs.declared.answer.MasterFault.{MasterFault}
 use Rattle.master_bound.specs.declared.answer.MasterFault.TheVariants.{Wide}
-use Rattle.plan_law.specs.WorkedLists.{Round, IsBeginning, IsRound, IsWorkedList}
-use Rattle.plan_rounds.specs.WorkedRounds.{AreWorkedRounds, EndsBy, IsBestAt, IsBestOfLast}
+use Rattle.plan_law.specs.WorkedLists.{IsBeginning, IsRound}
+use Rattle.plan_rounds.specs.WorkedRounds.{AreWorkedRounds, EndsBy, IsBestAt}
 use Rattle.plan_rounds.specs.inner.Sharing.{IsQualityAt}
 use Rattle.plan_rounds.specs.declared.candidates.Candidates.{Candidates}
 use Rattle.plan_rounds.specs.declared.rounds.Turn.{Turn}
@@ -54,12 +54,6 @@ module _ (p : Case) (pairs : List UnitPair) (room : ℕ) (before : Option Best) 
   abbrev pub IsTurnOf : List CutLine → Turn → Type 0
   IsTurnOf new (Further best) = IsFurther new best
   IsTurnOf new (Last best quality) = (new ≡ old) × EndsBy p pairs old (room ≡ 0) (λ b. b ≡ before) best quality
-
--- a worked list of the pool, and what is known of the best certificate before it
-pub record IsWorking (p : Case) (pairs : List UnitPair) (pool lines : List CutLine) (before : Option Best) : Type 0 where
-  pub rounds : List Round
-  pub list : IsWorkedList p pairs pool rounds lines
-  pub last : IsBestOfLast p pairs list.start rounds before
 
 -- where the master's number is too wide, the best certificate before it is the last
 abbrev pub EndsTooWide : MasterFault → Option Best → Turn → Type 0

@@ -5,12 +5,12 @@ use Rattle.net_core.specs.declared.plan.CutLine.{CutLine}
 use Rattle.net_core.specs.Views.{case_of}
 use Rattle.plan_rounds.specs.WorkedRounds.{EndsBy}
 use Rattle.plan_rounds.specs.inner.Alone.{PoolsTurn}
-use Rattle.plan_rounds.specs.inner.Turns.{IsTurnOf, IsWorking}
+use Rattle.plan_rounds.specs.inner.Turns.{IsTurnOf}
 use Rattle.plan_rounds.specs.declared.rounds.Turn.TheVariants.{Further, Last}
 use Rattle.plan_rounds.proofs.OwnPool.{alone_before}
 use Rattle.plan_rounds.proofs.OwnTurns.{pool_begins}
 use Rattle.plan_rounds.proofs.Seeing.{goes_both, goes_none}
-use Rattle.plan_rounds.proofs.Turning.{further_room, working_begins, working_ends, working_on}
+use Rattle.plan_rounds.proofs.Turning.{IsWorking, further_room, working_begins, working_ends, working_on}
 use Rattle.plan_rounds.proofs.rounds.turns.Goals as goal
 
 pub loop-candidates-init : goal.loop-candidates-init

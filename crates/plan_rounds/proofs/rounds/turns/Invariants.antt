@@ -6,7 +6,7 @@ use Rattle.plan_law.specs.WorkedLists.{IsBeginning}
 use Rattle.cut_pool.specs.Histories.{cut_of_line, cuts_of}
 use Rattle.plan_rounds.specs.inner.Alone.{IsAlone, IsPoolOfList}
 use Rattle.plan_rounds.specs.inner.Listing.{AreListed, GoesOn}
-use Rattle.plan_rounds.specs.inner.Turns.{IsWorking}
+use Rattle.plan_rounds.proofs.Turning.{IsWorking}
 use Rattle.plan_rounds.proofs.rounds.turns.Given as goal
 
 -- the room that is left

@@ -3,8 +3,8 @@ use Rattle.std.proofs.lemmas.List.{append-nil}
 use Rattle.cut_pool.specs.Histories.{cut_of_line}
 use Rattle.separator.specs.Separators.{cuts_answered}
 use Rattle.separator.specs.declared.answers.StateAnswer.{StateAnswer}
-use Rattle.plan_rounds.specs.inner.Answered.{AreAnswersFrom, AreSorted}
-use Rattle.plan_rounds.proofs.Answering.{found_more, answers_rest, answers_some, sorted_more}
+use Rattle.plan_rounds.specs.inner.Answered.{AreSorted}
+use Rattle.plan_rounds.proofs.Answering.{AreAnswersFrom, found_more, answers_rest, answers_some, sorted_more}
 use Rattle.plan_rounds.proofs.Multiplying.{first_of}
 use Rattle.plan_rounds.proofs.sorting.sorted.Goals as goal
 

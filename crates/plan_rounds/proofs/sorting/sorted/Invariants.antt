@@ -4,7 +4,8 @@ use Rattle.net_core.specs.declared.plan.Caps.{Caps}
 use Rattle.net_core.specs.Cases.{Case}
 use Rattle.cut_pool.specs.Histories.{cut_of_line}
 use Rattle.separator.specs.Separators.{AreStateAnswers, cuts_answered}
-use Rattle.plan_rounds.specs.inner.Answered.{AreAnswersFrom, AreSorted}
+use Rattle.plan_rounds.specs.inner.Answered.{AreSorted}
+use Rattle.plan_rounds.proofs.Answering.{AreAnswersFrom}
 use Rattle.plan_rounds.proofs.sorting.sorted.Given as goal
 
 -- the answers that are left

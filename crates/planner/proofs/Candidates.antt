@@ -1,0 +1,37 @@
+-- cuts that a bound may rest on, and bounds that a certificate of the case gives
+use Rattle.std.proofs.Common.{◌≡◌, ◌^◌, ◌<◌, List, [], All}
+use Rattle.net_core.specs.declared.journal.Entry.{Entry}
+use Rattle.net_core.specs.declared.plan.CutLine.{CutLine}
+use Rattle.net_core.specs.Cases.{Case}
+use Rattle.plan_terms.specs.Bounds.{IsBound, IsLowest}
+use Rattle.plan_terms.specs.Certificates.{IsCertificate, IsCut, raw_value}
+use Rattle.plan_types.specs.Plans.{lines_of_certificate}
+use Rattle.plan_report.specs.Forms.{IsCertificateInForm}
+use Rattle.cut_pool.specs.Histories.{cut_of_line}
+use Rattle.separator.specs.Separators.{IsSpotIn}
+use Rattle.plan_rounds.specs.WorkedRounds.{StandAtSpots}
+use Rattle.plan_rounds.specs.declared.rounds.Worked.{Worked}
+use Rattle.planner.specs.SoundPlans.{IsLowestCertificate}
+use Rattle.planner.specs.declared.certified.CertifiedBound.{CertifiedBound}
+
+-- a cut of the case, with a right side below 2^84
+pub record IsCandidate (p : Case) (cut : CutLine) : Type 0 where
+  pub cut_is : IsCut p cut
+  pub low : cut.right < 2 ^ 84
+
+-- the rounds' cuts are cuts of the case, each with the spot where it stands in the history
+pub record AreCandidates (p : Case) (history : List Entry) (w : Worked) : Type 0 where
+  pub cuts : All (IsCandidate p) w.lines
+  pub stand : StandAtSpots history w.lines w.spots
+
+-- a certificate of the case, its raw value and its bound, in form and in lowest terms, of cuts that stand in the history
+pub record IsCertifiedBound (p : Case) (history : List Entry) (b : CertifiedBound) : Type 0 where
+  pub certificate : IsCertificate p b.certificate.den (lines_of_certificate b.certificate)
+  pub raw : IsLowest (raw_value p.links (lines_of_certificate b.certificate)) b.certificate.den b.raw.num b.raw.den
+  pub rounded : IsBound p.links (raw_value p.links (lines_of_certificate b.certificate)) b.certificate.den b.bound
+  pub lowest : IsLowestCertificate b.certificate
+  pub none : b.raw.num ≡ 0 → b.certificate.lines ≡ []
+  pub form : IsCertificateInForm p.links p.listed b.certificate
+  pub raw_num : b.raw.num < 2 ^ 126
+  pub raw_den : b.raw.den < 2 ^ 72
+  pub spots : All (λ l. IsSpotIn history (cut_of_line l.cut) l.spot) b.certificate.lines
