@@ -1,5 +1,5 @@
 use failure_states::Separation;
-use net_core::Demands;
+use net_core::{Copied, Demands, NoMemory};
 use plan_types::Plan;
 
 /// What planning comes to.
@@ -8,4 +8,15 @@ pub enum PlanAnswer {
     Planned(Plan),
     /// No counts carry the demands: the state separates the one at this place of them. They are handed back.
     NotSurvivable(Separation, Demands),
+}
+
+impl Copied for PlanAnswer {
+    fn copy(&self) -> Result<PlanAnswer, NoMemory> {
+        Ok(match self {
+            PlanAnswer::Planned(plan) => PlanAnswer::Planned(plan.copy()?),
+            PlanAnswer::NotSurvivable(separation, demands) => {
+                PlanAnswer::NotSurvivable(*separation, demands.copy()?)
+            }
+        })
+    }
 }
