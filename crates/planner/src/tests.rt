@@ -49,9 +49,7 @@ fn planned(
 ) -> Result<Option<Plan>, NoMemory>
     requires { AreDemands (length net.now.nodes) opening }
 {
-    let Ok(board) = Board::new(alloc, net, states, opening) else {
-        return Err(NoMemory)
-    };
+    let board = Board::new(alloc, net, states, opening)?;
     let snapshot = board.snapshot()?;
     let mut separator = OneByOne::new(alloc, board);
     match plan_snapshot(alloc, net, states, snapshot, &mut separator)? {

@@ -10,5 +10,5 @@ plan_snapshot-requires-clause-snapshot c =
     let net = c.args.net.now in
     let states = c.args.states.now in
     let s = c.in_ok-snapshot.snapshot in
-    let given = board_snapshot net states c.in-Ok.board s (ap (λ o. o.0) c.in-Ok.ensures.origin) (ap (λ o. o.1) c.in-Ok.ensures.origin) c.in_ok-snapshot.ensures in
+    let given = board_snapshot net states c.in_ok-board.board s (ap (λ o. o.0) c.in_ok-board.ensures.origin) (ap (λ o. o.1) c.in_ok-board.ensures.origin) c.in_ok-snapshot.ensures in
     subst (λ (b : Board). ∥ IsSnapshotIn (case net states s.demands) b.entries s ∥₁) (sym c.new-separator.ensures.board) given
