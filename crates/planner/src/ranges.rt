@@ -3,14 +3,14 @@ ghost use Rattle.planner.specs.inner.Finishing.{HasShortLengths};
 
 use net_core::{CutLine, Demand};
 
-/// Lengths are below 2^32 by their type.
+/// Lengths are below 2^32 by their type. It looks at none.
 pub fn are_short(lengths: &[u32])
     ensures { All (λ x. x < 2 ^ 32) lengths.now }
 {
     let _ = lengths;
 }
 
-/// So are those of cuts.
+/// So are those of cuts. It takes time in the number of cuts.
 pub fn are_short_cuts(cuts: &[CutLine])
     ensures { All HasShortLengths cuts.now }
 {
@@ -19,7 +19,7 @@ pub fn are_short_cuts(cuts: &[CutLine])
     }
 }
 
-/// A name has at most 255 bytes by its type.
+/// A name has at most 255 bytes by its type. It takes time in the number of demands.
 pub fn are_named(demands: &[Demand])
     ensures { All (λ d. length d.name ≤ 255) demands.now }
 {
