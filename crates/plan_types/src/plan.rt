@@ -3,7 +3,8 @@ use crate::quality::Quality;
 use net_core::{Copied, Counts, Demands, List, NoMemory, Routing};
 
 /// A plan for one version of the demands: module counts with a routing for each state, what they cost, and a lower bound on
-/// what such counts cost. Costs and bounds are in thousandths.
+/// what such counts cost. Costs and bounds are in thousandths. It takes memory for the links along all flows, and for a length of each
+/// link for each line of the certificate; a copy takes as much again, and time in proportion.
 #[derive(Drop)]
 pub struct Plan {
     /// How many edits had been accepted.

@@ -21,7 +21,8 @@ pub enum Outcome {
 }
 
 /// A report: which costs of the network aren't counted, the journal of edits and cuts, the pool of cuts with their right
-/// sides at the last version, and the outcomes.
+/// sides at the last version, and the outcomes. It takes memory for a length of each link for each cut of the journal and of the pool, and
+/// for the plans; a copy takes as much again, and time in proportion.
 #[derive(Drop)]
 pub struct Report {
     pub notes: Notes,
