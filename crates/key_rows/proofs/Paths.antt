@@ -10,15 +10,15 @@ use Rattle.simplex_law.proofs.Sparse.{entry_dot}
 abbrev pub path_total : (ℕ → ℤ) → List LinkId → ℤ
 path_total = entry_dot (λ l. l.0) (λ l. pos 1)
 
-sum_behind : (nums : ℕ → ℤ) (path : List LinkId) (k : ℕ) (d : LinkId) → k < length path → path_total nums (drop k path) ≡ nums (get_or path k d).0 +ℤ path_total nums (drop (suc k) path)
-sum_behind nums [] k d lt = absurd (omega arith)
-sum_behind nums (l ∷ path) zero d lt = omega (arith, ints)
-sum_behind nums (l ∷ path) (suc k) d lt = sum_behind nums path k d (omega arith)
+sum_after : (nums : ℕ → ℤ) (path : List LinkId) (k : ℕ) (d : LinkId) → k < length path → path_total nums (drop k path) ≡ nums (get_or path k d).0 +ℤ path_total nums (drop (suc k) path)
+sum_after nums [] k d lt = absurd (omega arith)
+sum_after nums (l ∷ path) zero d lt = omega (arith, ints)
+sum_after nums (l ∷ path) (suc k) d lt = sum_after nums path k d (omega arith)
 
 pub sum_rest : (nums : ℕ → ℤ) (path : List LinkId) (k : ℕ) (d : LinkId) → k < length path → path_total nums (drop k path) ≡ nums (get_or path k d).0 +ℤ path_total nums (drop (k + 1) path)
 sum_rest nums path k d lt =
     let next : suc k ≡ k + 1 = omega arith in
-    subst (λ n. path_total nums (drop k path) ≡ nums (get_or path k d).0 +ℤ path_total nums (drop n path)) next (sum_behind nums path k d lt)
+    subst (λ n. path_total nums (drop k path) ≡ nums (get_or path k d).0 +ℤ path_total nums (drop n path)) next (sum_after nums path k d lt)
 
 pub sum_end : (nums : ℕ → ℤ) (path : List LinkId) (k : ℕ) → length path ≤ k → path_total nums (drop k path) ≡ pos 0
 sum_end nums [] zero le = refl

@@ -9,15 +9,15 @@ use Rattle.net_core.specs.declared.ids.LinkId.{LinkId}
 use Rattle.simplex_law.proofs.Arithmetic.{distribute_left, distribute_minus}
 use Rattle.key_rows.specs.Names.{path_uses}
 
-uses_behind : (path : List LinkId) (k : ℕ) (d : LinkId) (j : ℕ) → k < length path → path_uses (drop k path) j ≡ cond (eqb (get_or path k d).0 j) (pos 1) (pos 0) +ℤ path_uses (drop (suc k) path) j
-uses_behind [] k d j lt = absurd (omega arith)
-uses_behind (l ∷ path) zero d j lt = refl
-uses_behind (l ∷ path) (suc k) d j lt = uses_behind path k d j (omega arith)
+uses_after : (path : List LinkId) (k : ℕ) (d : LinkId) (j : ℕ) → k < length path → path_uses (drop k path) j ≡ cond (eqb (get_or path k d).0 j) (pos 1) (pos 0) +ℤ path_uses (drop (suc k) path) j
+uses_after [] k d j lt = absurd (omega arith)
+uses_after (l ∷ path) zero d j lt = refl
+uses_after (l ∷ path) (suc k) d j lt = uses_after path k d j (omega arith)
 
 uses_rest : (path : List LinkId) (k : ℕ) (d : LinkId) (j : ℕ) → k < length path → path_uses (drop k path) j ≡ cond (eqb (get_or path k d).0 j) (pos 1) (pos 0) +ℤ path_uses (drop (k + 1) path) j
 uses_rest path k d j lt =
     let next : suc k ≡ k + 1 = omega arith in
-    subst (λ n. path_uses (drop k path) j ≡ cond (eqb (get_or path k d).0 j) (pos 1) (pos 0) +ℤ path_uses (drop n path) j) next (uses_behind path k d j lt)
+    subst (λ n. path_uses (drop k path) j ≡ cond (eqb (get_or path k d).0 j) (pos 1) (pos 0) +ℤ path_uses (drop n path) j) next (uses_after path k d j lt)
 
 pub uses_end : (path : List LinkId) (k j : ℕ) → length path ≤ k → path_uses (drop k path) j ≡ pos 0
 uses_end [] zero j le = refl

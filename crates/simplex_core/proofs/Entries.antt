@@ -10,18 +10,18 @@ use Rattle.simplex_core.specs.declared.columns.Entry.{Entry}
 abbrev pub entries_dot : (ℕ → ℤ) → List Entry → ℤ
 entries_dot = entry_dot (λ e. e.row) (λ e. e.value)
 
-dot_behind : (nums : ℕ → ℤ) (es : List Entry) (k : ℕ) (d : Entry) → k < length es
+dot_after : (nums : ℕ → ℤ) (es : List Entry) (k : ℕ) (d : Entry) → k < length es
     → entries_dot nums (drop k es) ≡ (nums (get_or es k d).row *ℤ (get_or es k d).value) +ℤ entries_dot nums (drop (suc k) es)
-dot_behind nums [] k d lt = absurd (omega arith)
-dot_behind nums (e ∷ es) zero d lt = refl
-dot_behind nums (e ∷ es) (suc k) d lt = dot_behind nums es k d (omega arith)
+dot_after nums [] k d lt = absurd (omega arith)
+dot_after nums (e ∷ es) zero d lt = refl
+dot_after nums (e ∷ es) (suc k) d lt = dot_after nums es k d (omega arith)
 
--- the product of the entry at k and those behind it
+-- the product of the entry at k and those after it
 pub dot_rest : (nums : ℕ → ℤ) (es : List Entry) (k : ℕ) (d : Entry) → k < length es
     → entries_dot nums (drop k es) ≡ (nums (get_or es k d).row *ℤ (get_or es k d).value) +ℤ entries_dot nums (drop (k + 1) es)
 dot_rest nums es k d lt =
     let next : suc k ≡ k + 1 = omega arith in
-    subst (λ n. entries_dot nums (drop k es) ≡ (nums (get_or es k d).row *ℤ (get_or es k d).value) +ℤ entries_dot nums (drop n es)) next (dot_behind nums es k d lt)
+    subst (λ n. entries_dot nums (drop k es) ≡ (nums (get_or es k d).row *ℤ (get_or es k d).value) +ℤ entries_dot nums (drop n es)) next (dot_after nums es k d lt)
 
 pub dot_end : (nums : ℕ → ℤ) (es : List Entry) (k : ℕ) → length es ≤ k → entries_dot nums (drop k es) ≡ pos 0
 dot_end nums [] zero le = refl
