@@ -2,7 +2,7 @@ ghost use Rattle.std.specs.Prelude.{◌≡◌, ◌<◌, ◌^◌, All, IfOk, leng
 ghost use Rattle.net_core.specs.declared.journal.Entry.TheVariants.{Pooled};
 ghost use Rattle.cut_pool.specs.Pools.{line_of_pooled};
 ghost use Rattle.cut_pool.specs.inner.Pooling.{CanFollow, IsSomeCut, StandsAmong, followed, is_pooled_cut};
-ghost use Rattle.cut_pool.specs.inner.Shares.{IsShareOf, asked_by};
+ghost use Rattle.cut_pool.specs.inner.Shares.{IsShareOfDemand, asked_by};
 
 use crate::shares::{DemandShare, NeedChange};
 use metric_cut::Cut;
@@ -20,7 +20,7 @@ impl PooledCut {
     /// What a share asks for: its need times the distance of its ends, and 0 where they are apart.
     fn asked(&self, share: Option<DemandShare>) -> u128
         requires cut { IsSomeCut self.now.cut }
-        requires share { IsShareOf self.now.cut.table.nodes share }
+        requires share { IsShareOfDemand self.now.cut.table.nodes share }
         ensures value { result ≡ asked_by self.now.cut.table share }
         ensures low { result < 2 ^ 104 }
     {

@@ -1,6 +1,6 @@
 ghost use Rattle.std.specs.Prelude.{◌≡◌, ◌↔◌, IsTrue, length};
 ghost use Rattle.cut_pool.specs.Rooms.{sets_known};
-ghost use Rattle.cut_pool.specs.inner.Shares.{IsShareIn, IsShareOf, edit_name};
+ghost use Rattle.cut_pool.specs.inner.Shares.{IsShareIn, IsShareOfDemand, edit_name};
 
 use demand_book::Book;
 use net_core::{Demand, Edit, Name, NodeId};
@@ -51,7 +51,7 @@ fn share(d: &Demand) -> DemandShare
 
 /// The share of the demand of this name, which takes time in the number of demands.
 pub fn share_of(book: &Book, name: &Name) -> Option<DemandShare>
-    ensures of { IsShareOf (length book.now.nodes) result }
+    ensures of { IsShareOfDemand (length book.now.nodes) result }
     ensures share { IsShareIn name.now book.now.demands result }
 {
     let k = book.find(name)?;

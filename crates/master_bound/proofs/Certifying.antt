@@ -35,7 +35,7 @@ use Rattle.master_bound.specs.Answers.{AreMultipliers, IsBestOf, cut_at, lines_o
 use Rattle.master_bound.specs.declared.answer.Multiplier.{Multiplier}
 use Rattle.master_bound.specs.inner.Lines.{AreAmounts, AreBasisMultipliers, IsMultiplierOf}
 use Rattle.master_bound.specs.inner.Programs.{IsMasterSolution}
-use Rattle.master_bound.specs.inner.Shares.{IsShareOf}
+use Rattle.master_bound.specs.inner.Shares.{IsShareOfDuals}
 use Rattle.master_bound.proofs.Lowest.{common_some, in_lowest, part_some, whole_den}
 use Rattle.master_bound.proofs.Optima.{all_named, gains_as_cut, lines_whole, some_lines}
 use Rattle.net_core.proofs.Numbers.{positive_divisor}
@@ -101,7 +101,7 @@ one_divides d h =
     omega (arith, low, high)
 
 module _ (links : List Link) (pairs : List UnitPair) (cuts : List CutLine) (sound : All (λ l. All IsModule l.modules) links) (units : AreUnitPairs links pairs) (best : Optimum MasterColumn) (solution : IsMasterSolution links pairs cuts best)
-    (share : Share) (is : IsShareOf best.duals share) (raw_num raw_den : ℕ) (low : IsLowest (share_cost pairs share) share.scale raw_num raw_den) where
+    (share : Share) (is : IsShareOfDuals best.duals share) (raw_num raw_den : ℕ) (low : IsLowest (share_cost pairs share) share.scale raw_num raw_den) where
   abbrev values : ℕ → ℕ
   values j = get_or best.values j 0
 

@@ -12,7 +12,7 @@ ghost use Rattle.master_law.specs.UnitPairs.{AreUnitPairs, share_cost};
 ghost use Rattle.master_bound.specs.Answers.{IsEvidenceOf, IsMasterAnswer};
 ghost use Rattle.master_bound.specs.inner.Narrow.{IsNarrowCut, IsWideCut};
 ghost use Rattle.master_bound.specs.inner.Programs.{IsMasterSolution, IsWideAnswer};
-ghost use Rattle.master_bound.specs.inner.Shares.{IsShareOf};
+ghost use Rattle.master_bound.specs.inner.Shares.{IsShareOfDuals};
 
 use crate::answer::{Best, MasterFault};
 use crate::lines::{amounts_of, asks_too_much, common_divisor, has_wide, multipliers_of};
@@ -82,7 +82,7 @@ fn certified(
     requires different { AllPairs (λ a b. IsSameCut a b → ⊥) task.now.cuts.now }
     requires packing { IsPacking (length task.now.net.now.links) (master_bound task.now.pairs.now) (IsMasterColumn task.now.net.now.links task.now.pairs.now task.now.cuts.now) }
     requires solution { IsMasterSolution task.now.net.now.links task.now.pairs.now task.now.cuts.now optimum }
-    requires share { IsShareOf optimum.duals share }
+    requires share { IsShareOfDuals optimum.duals share }
     requires raw { IsLowest (share_cost task.now.pairs.now share) share.scale raw.num raw.den }
     requires some { 0 < raw.num }
     ensures { IsMasterAnswer task.now.net.now.links task.now.cuts.now result }

@@ -2,7 +2,7 @@ ghost use Rattle.std.specs.Prelude.{◌≡◌, ◌≤◌, ◌<◌, ◌^◌, ◌�
 ghost use Rattle.checked_fraction.specs.Rows.{num};
 ghost use Rattle.plan_terms.specs.Bounds.{IsLowest};
 ghost use Rattle.master_law.specs.UnitPairs.{share_cost};
-ghost use Rattle.master_bound.specs.inner.Shares.{IsShareOf};
+ghost use Rattle.master_bound.specs.inner.Shares.{IsShareOfDuals};
 
 use crate::pricing::price_at;
 use checked_fraction::{Row, gcd};
@@ -21,7 +21,7 @@ pub(crate) struct RawValue {
 /// The share of an objective row.
 pub(crate) fn share_of(alloc: Global, duals: &Row) -> Result<Share, NoMemory>
     requires positive { (k : ℕ) → k < length duals.now.nums → pos 0 ≤ℤ num duals.now.nums k }
-    ensures { IfOk result (IsShareOf duals.now) }
+    ensures { IfOk result (IsShareOfDuals duals.now) }
 {
     let nums = duals.nums();
     let mut units = List::from_vec(Vec::with_capacity(alloc, nums.len())?);

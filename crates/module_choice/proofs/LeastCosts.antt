@@ -9,7 +9,7 @@ use Rattle.net_core.specs.Network.{IsModule}
 use Rattle.plan_terms.specs.Capacities.{modules_capacity, modules_cost}
 use Rattle.plan_terms.specs.Covers.{Reaches}
 use Rattle.module_choice.specs.declared.tables.Entry.{Entry}
-use Rattle.module_choice.specs.inner.Tables.{AreLeastCosts, AreTaken, IsLeastCost, IsNext, IsOneMore}
+use Rattle.module_choice.specs.inner.Tables.{AreLeastCosts, AreTaken, IsLeastCost, IsNextEntry, IsOneMore}
 use Rattle.module_choice.proofs.Carrying.{get_cases}
 use Rattle.module_choice.proofs.Choices.{value, value-cons, value-zeros}
 use Rattle.net_core.proofs.Lists.{all_at, get_front}
@@ -53,7 +53,7 @@ abbrev pub nothing : Entry
 nothing = record { cost = 0; kind = 0 }
 
 -- what one entry more costs is the least
-pub least_next : (ms : List Module) (entries : List Entry) (x : Entry) → All IsModule ms → AreLeastCosts ms entries → IsNext ms entries x → IsLeastCost ms (length entries) x.cost
+pub least_next : (ms : List Module) (entries : List Entry) (x : Entry) → All IsModule ms → AreLeastCosts ms entries → IsNextEntry ms entries x → IsLeastCost ms (length entries) x.cost
 least_next ms entries x sound least next =
     let n = length entries in
     let m = next.more.module_at in
@@ -89,7 +89,7 @@ small_next ms entries x sound least more =
     omega (arith, more.paid, is.cost, is.carries, least.some, least.small (length entries - more.module_at.capacity) more.rest more.left)
 
 -- a table with its next entry
-pub table_more : (ms : List Module) (entries : List Entry) (x : Entry) → All IsModule ms → AreLeastCosts ms entries → IsNext ms entries x → AreLeastCosts ms (entries ++ x ∷ [])
+pub table_more : (ms : List Module) (entries : List Entry) (x : Entry) → All IsModule ms → AreLeastCosts ms entries → IsNextEntry ms entries x → AreLeastCosts ms (entries ++ x ∷ [])
 table_more ms entries x sound least next = record {
   some = omega (arith, length-append entries (x ∷ []));
   least = λ n y at. ⊎_elim
@@ -258,5 +258,5 @@ next_more ms entries k cost m best new sound some with' sofar one low = record {
 }
 
 -- the best of all kinds
-pub next_of_all : (ms : List Module) (entries : List Entry) (k : ℕ) (best : Entry) → length ms ≤ k → IsNextSoFar ms entries k best → IsNext ms entries best
+pub next_of_all : (ms : List Module) (entries : List Entry) (k : ℕ) (best : Entry) → length ms ≤ k → IsNextSoFar ms entries k best → IsNextEntry ms entries best
 next_of_all ms entries k best all sofar = record { more = sofar.more; least = λ j m r is at. sofar.least j m r (omega (arith, all, slice_get_within ms j m is)) is at }

@@ -3,7 +3,7 @@ ghost use Rattle.std.specs.Int.{◌∣◌};
 ghost use Rattle.net_core.specs.Network.{IsModule};
 ghost use Rattle.plan_terms.specs.Bounds.{IsGreatestDivisor};
 ghost use Rattle.module_choice.specs.declared.tables.Entry.{Entry as E};
-ghost use Rattle.module_choice.specs.inner.Tables.{Answers, AreLeastCosts, AreTaken, IsNext, IsTable, in_thousandths};
+ghost use Rattle.module_choice.specs.inner.Tables.{Answers, AreLeastCosts, AreTaken, IsNextEntry, IsTable, in_thousandths};
 
 use checked_fraction::gcd;
 use net_core::{List, Module, NoMemory};
@@ -103,7 +103,7 @@ fn next_entry(modules: &[Module], entries: &[Entry]) -> Entry
     requires some { 0 < length entries.now }
     requires few { length entries.now ≤ 100000 }
     requires small { (n : ℕ) (x : E) → slice_get entries.now n ≡ Some x → x.cost ≤ n * 2 ^ 40 }
-    ensures { IsNext modules.now entries.now result }
+    ensures { IsNextEntry modules.now entries.now result }
 {
     let mut best = Entry {
         cost: cost_with(&modules[0], entries),

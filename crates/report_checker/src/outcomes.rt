@@ -7,7 +7,7 @@ ghost use Rattle.plan_checker.specs.PlanFindings.{IsAcceptedPlan, plan_findings}
 ghost use Rattle.plan_checker.specs.inner.Tests.{StopsFirst, TellFirst, Tells};
 ghost use Rattle.report_checker.specs.Outcomes.{HoldsSurvivable, HoldsVersionDiffers, SeparatesNamed, case_at, outcome_findings};
 ghost use Rattle.report_checker.specs.inner.Along.{IsSoundOutcome, outcome_place};
-ghost use Rattle.report_checker.specs.inner.Said.{IsNamedSeparation, IsSaid, findings_there, outcome_position, outcome_version, said_findings};
+ghost use Rattle.report_checker.specs.inner.Said.{IsSaidSeparation, IsSaid, findings_there, outcome_position, outcome_version, said_findings};
 ghost use Rattle.report_checker.specs.inner.Walks.{HasPassed};
 
 use crate::walk::Walk;
@@ -115,7 +115,7 @@ fn is_separated(
 ) -> Result<bool, NoMemory>
     requires state { state.0 < length instance.now.states.now.listed + 1 }
     requires inside { k < length instance.now.demands.now }
-    ensures { IfOk result (λ r. IsTrue r ↔ IsNamedSeparation (case_of instance.now) state.0 name.now k) }
+    ensures { IfOk result (λ r. IsTrue r ↔ IsSaidSeparation (case_of instance.now) state.0 name.now k) }
 {
     let demand = &instance.demands.items()[k];
     if !demand.name.same(name) {

@@ -6,7 +6,7 @@ use Rattle.std.proofs.lemmas.Bool.{cases_lt}
 use Rattle.std.proofs.lemmas.List.{take_all}
 use Rattle.std.proofs.lemmas.List.Elements.{All-more, All-weaker, All-contains, Contains-get_or}
 use Rattle.short_paths.specs.declared.forward_star.Arc.{Arc}
-use Rattle.short_paths.specs.inner.TightLinks.{IsFirstTight, IsTight}
+use Rattle.short_paths.specs.inner.TightLinks.{IsFirstTight, IsTightLink}
 use Rattle.short_paths.specs.inner.ForwardStars.{HasArc}
 use Rattle.short_paths.proofs.ForwardStars.{arc}
 
@@ -61,7 +61,7 @@ module _ (arcs : List Arc) (lengths back : List ℕ) (here : ℕ) where
 
   -- the best of all arcs that leave a node is the next
   pub best_next : (all : List Arc) (at n m : ℕ) (best : Option Arc) → ((e x y : ℕ) → HasArc arcs e x y → (x ≡ at) × HasArc all e x y) → ((e y : ℕ) → HasArc all e at y → HasArc arcs e at y) → All (λ h. (h.from.0 + 1 < m) × (h.to.0 + 1 < m)) all → m ≡ length back + 1 → length arcs ≤ n → here ≡ get_or back at 0 → IsBest arcs lengths back here n best → MatchOption best
-      ((e y : ℕ) → IsTight (HasArc all) lengths back at e y → ⊥)
+      ((e y : ℕ) → IsTightLink (HasArc all) lengths back at e y → ⊥)
       (λ h. (h.to.0 < length back) × IsFirstTight (HasArc all) lengths back at h.link.0 h.to.0)
   best_next all at n m None leave whole within size done is b = λ e y t.
       All-contains (λ g. Fits lengths back here g → ⊥) arcs (arc e at y) (rw take_all at b) (whole e y t.joined) (omega (arith, t.exact, is))

@@ -5,7 +5,7 @@ use Rattle.net_core.specs.declared.ids.LinkId.{LinkId}
 use Rattle.plan_terms.specs.LeastPaths.{IsLexLe, IsLeastPath}
 use Rattle.plan_terms.specs.Paths.{AreApart, Leads, last_node, length_of}
 use Rattle.plan_terms.proofs.Walks.{Falls, falls_differ}
-use Rattle.short_paths.specs.inner.TightLinks.{Follows, IsFirstTight, IsTight, LeadsOn}
+use Rattle.short_paths.specs.inner.TightLinks.{Follows, IsFirstTight, IsTightLink, LeadsOn}
 use Rattle.short_paths.specs.inner.Tables.{IsTable}
 
 -- lengths to b, read in both directions
@@ -110,7 +110,7 @@ next_nearer joins lengths far b back leads a e y n = omega (arith, n.tight.exact
 
 module _ (joins : ℕ → ℕ → ℕ → Type 0) (lengths : List ℕ) (far b : ℕ) (back : List ℕ) (t : IsTable joins lengths far b back) (turned : (e x y : ℕ) → joins e x y → joins e y x) where
   -- a walk from b that is no longer than the table says comes in along a tight link
-  last_tight : (c k : ℕ) (e : LinkId) (es : List LinkId) (cs : List ℕ) → Leads joins c (e ∷ es) (k ∷ cs) → get_or back c 0 < far → get_or back c 0 + length_of lengths (e ∷ es) ≤ get_or back (last_node k cs) 0 → (g y : ℕ) × IsTight joins lengths back (last_node k cs) g y
+  last_tight : (c k : ℕ) (e : LinkId) (es : List LinkId) (cs : List ℕ) → Leads joins c (e ∷ es) (k ∷ cs) → get_or back c 0 < far → get_or back c 0 + length_of lengths (e ∷ es) ≤ get_or back (last_node k cs) 0 → (g y : ℕ) × IsTightLink joins lengths back (last_node k cs) g y
   last_tight c k e [] [] leads near short =
       let step = t.closed e.0 c k near leads.0 in
       (e.0, c, record { joined = turned e.0 c k leads.0; exact = omega (arith, step.1) })
@@ -121,15 +121,15 @@ module _ (joins : ℕ → ℕ → ℕ → Type 0) (lengths : List ℕ) (far b : 
   last_tight c k e (f ∷ es) [] leads near short = absurd leads.1
 
   -- so a node that is found has one, but for b
-  pub has_tight : (a : ℕ) → a < length back → get_or back a 0 < far → a ≢ b → (g y : ℕ) × IsTight joins lengths back a g y
+  pub has_tight : (a : ℕ) → a < length back → get_or back a 0 < far → a ≢ b → (g y : ℕ) × IsTightLink joins lengths back a g y
   has_tight a lt near ne =
       let w = t.sound a lt near in
       go w.along w.nodes w.leads w.ends (omega (arith, w.long))
     where
-      go : (es : List LinkId) (cs : List ℕ) → Leads joins b es cs → last_node b cs ≡ a → length_of lengths es ≤ get_or back a 0 → (g y : ℕ) × IsTight joins lengths back a g y
+      go : (es : List LinkId) (cs : List ℕ) → Leads joins b es cs → last_node b cs ≡ a → length_of lengths es ≤ get_or back a 0 → (g y : ℕ) × IsTightLink joins lengths back a g y
       go [] [] leads ends short = absurd (ne (sym ends))
       go (e ∷ es) (k ∷ cs) leads ends short =
-          subst (λ (x : ℕ). (g y : ℕ) × IsTight joins lengths back x g y) ends
+          subst (λ (x : ℕ). (g y : ℕ) × IsTightLink joins lengths back x g y) ends
           (last_tight b k e es cs leads (omega (arith, t.start, t.zero)) (subst (λ x. get_or back b 0 + length_of lengths (e ∷ es) ≤ get_or back x 0) (sym ends) (omega (arith, t.start))))
       go [] (k ∷ cs) leads ends short = absurd leads
       go (e ∷ es) [] leads ends short = absurd leads

@@ -1,6 +1,6 @@
 ghost use Rattle.std.specs.Prelude.{◌≡◌, ◌≢◌, ℕ, ◌+◌, ◌<◌, ◌↔◌, IfOk, IsErrOf, IsTrue, MatchOption, length, slice_index};
 ghost use Rattle.short_paths.specs.inner.ForwardStars.{HasArc, HaveLengths};
-ghost use Rattle.short_paths.specs.inner.TightLinks.{Follows, IsFirstTight, IsTight, LeadsOn};
+ghost use Rattle.short_paths.specs.inner.TightLinks.{Follows, IsFirstTight, IsTightLink, LeadsOn};
 
 use crate::dijkstra::FAR;
 use crate::forward_star::{Arc, ForwardStar};
@@ -62,7 +62,7 @@ fn next_arc(star: &ForwardStar, lengths: &[u128], back: &[u128], at: NodeId) -> 
     requires nodes { length star.now.starts ≡ length back.now + 1 }
     requires at { at.0 < length back.now }
     ensures { MatchOption result
-        ((e y : ℕ) → IsTight (HasArc star.now.arcs) lengths.now back.now at.0 e y → ⊥)
+        ((e y : ℕ) → IsTightLink (HasArc star.now.arcs) lengths.now back.now at.0 e y → ⊥)
         (λ a. (a.to.0 < length back.now) × IsFirstTight (HasArc star.now.arcs) lengths.now back.now at.0 a.link.0 a.to.0) }
 {
     let here = back[at.0 as usize];

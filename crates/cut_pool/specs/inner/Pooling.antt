@@ -9,7 +9,7 @@ use Rattle.metric_cut.specs.declared.cut.Cut.{Cut}
 use Rattle.metric_cut.specs.inner.Rights.{part_of}
 use Rattle.cut_pool.specs.declared.pooled.PooledCut.{PooledCut}
 use Rattle.cut_pool.specs.declared.shares.NeedChange.{NeedChange}
-use Rattle.cut_pool.specs.inner.Shares.{IsShareOf, asked_by}
+use Rattle.cut_pool.specs.inner.Shares.{IsShareOfDemand, asked_by}
 
 -- the pooled cut is this one
 abbrev pub is_pooled_cut : Cut → PooledCut → Bool
@@ -33,8 +33,8 @@ StandsAmong demands c = AreDemands c.cut.table.nodes demands × StandsAt c.cut.t
 -- a right side of which the old share is a part can follow
 pub record CanFollow (change : NeedChange) (c : PooledCut) : Type 0 where
   pub cut : IsSomeCut c.cut
-  pub before : IsShareOf c.cut.table.nodes change.before
-  pub after : IsShareOf c.cut.table.nodes change.after
+  pub before : IsShareOfDemand c.cut.table.nodes change.before
+  pub after : IsShareOfDemand c.cut.table.nodes change.after
   pub low : c.right < 2 ^ 84
   pub part : asked_by c.cut.table change.before ≤ c.right
 

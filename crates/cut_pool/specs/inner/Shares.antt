@@ -21,8 +21,8 @@ asked_by table None = 0
 asked_by table (Some s) = s.need * unwrap_or (distance_at table s.from.0 s.to.0) 0
 
 -- the ends are two of n nodes, and the need is below 2^40 thousandths
-abbrev pub IsShareOf : ℕ → Option DemandShare → Type 0
-IsShareOf n share = IfSome share (λ s. (s.from.0 < n) × (s.to.0 < n) × (s.need < 2 ^ 40))
+abbrev pub IsShareOfDemand : ℕ → Option DemandShare → Type 0
+IsShareOfDemand n share = IfSome share (λ s. (s.from.0 < n) × (s.to.0 < n) × (s.need < 2 ^ 40))
 
 -- whatever the distances, the share asks for what the demands ask for beyond those of other names
 abbrev pub IsShareIn : List ℕ → List Demand → Option DemandShare → Type 0

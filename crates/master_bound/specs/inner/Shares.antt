@@ -11,7 +11,7 @@ pub record AreUnitsOf (n : ℕ) (duals : ℕ → ℤ) (units : List ℕ) : Type 
   pub low : All (λ u. u < 2 ^ 62) units
 
 -- units and scale are the row's numbers and its denominator
-pub record IsShareOf (duals : Row) (share : Share) : Type 0 where
+pub record IsShareOfDuals (duals : Row) (share : Share) : Type 0 where
   pub scale : duals.den ≡ pos share.scale
   pub scale_low : share.scale < 2 ^ 62
   pub units : AreUnitsOf (length duals.nums) (num duals.nums) share.units

@@ -28,7 +28,7 @@ pub record IsOneMore (modules : List Module) (entries : List Entry) (n : ℕ) (e
   pub paid : entry.cost ≡ module_at.cost + rest.cost
 
 -- of all such entries for one step more than there are entries the cheapest
-pub record IsNext (modules : List Module) (entries : List Entry) (entry : Entry) : Type 0 where
+pub record IsNextEntry (modules : List Module) (entries : List Entry) (entry : Entry) : Type 0 where
   pub more : IsOneMore modules entries (length entries) entry
   pub least : (k : ℕ) (m : Module) (r : Entry) → slice_get modules k ≡ Some m → slice_get entries (length entries - m.capacity) ≡ Some r → entry.cost ≤ m.cost + r.cost
 

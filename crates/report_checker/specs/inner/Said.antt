@@ -10,8 +10,8 @@ use Rattle.plan_checker.specs.PlanFindings.{IsAcceptedPlan, plan_findings}
 use Rattle.report_checker.specs.Outcomes.{HoldsSurvivable, HoldsVersionDiffers, SeparatesNamed, case_at}
 
 -- demand k has the name, and the state separates it
-abbrev pub IsNamedSeparation : Case → ℕ → List ℕ → ℕ → Type 0
-IsNamedSeparation p state name k = (s : Separates p state k) × (s.demand.name ≡ name)
+abbrev pub IsSaidSeparation : Case → ℕ → List ℕ → ℕ → Type 0
+IsSaidSeparation p state name k = (s : Separates p state k) × (s.demand.name ≡ name)
 
 -- the version of an outcome, and its position
 abbrev pub outcome_version : Outcome → ℕ

@@ -1,7 +1,7 @@
 use Rattle.std.proofs.Common.{arith, subst, ⊎_elim}
 use Rattle.std.proofs.lemmas.Bool.{cases_eq}
 use Rattle.net_core.specs.Views.{case_of}
-use Rattle.report_checker.specs.inner.Said.{IsNamedSeparation}
+use Rattle.report_checker.specs.inner.Said.{IsSaidSeparation}
 use Rattle.report_checker.proofs.Apart.{no_survivable, none_named}
 use Rattle.report_checker.proofs.outcomes.check_separated.Goals as goal
 
@@ -17,7 +17,7 @@ returns-then-branch-clause-sound c =
 
 pub loop-k-preserved : goal.loop-k-preserved
 loop-k-preserved c j lt = ⊎_elim
-    (λ same found. absurd cc (c.in_ok-is_separated.ensures.1 (subst (IsNamedSeparation (case_of c.args.instance.now) c.args.state.0 c.args.name.now) same found), c.if-branch.false))
+    (λ same found. absurd cc (c.in_ok-is_separated.ensures.1 (subst (IsSaidSeparation (case_of c.args.instance.now) c.args.state.0 c.args.name.now) same found), c.if-branch.false))
     (λ other. c.loop-k.invariant j (omega (arith, lt, other)))
     (cases_eq j c.loop-k.k)
 
