@@ -13,6 +13,7 @@ use std::alloc::Global;
 /// change no answer's meaning, so that nothing need be known of them.
 #[derive(Drop)]
 pub struct KnownColumns {
+    alloc: Global,
     by_state: List<List<RouteColumn>>,
 }
 
@@ -20,6 +21,7 @@ impl KnownColumns {
     /// No columns at all.
     pub fn new(alloc: Global) -> KnownColumns {
         KnownColumns {
+            alloc,
             by_state: List::new(alloc),
         }
     }
@@ -27,7 +29,6 @@ impl KnownColumns {
     /// The same as `separate_state`, with what is known of the state at hand. Where memory runs out, the same is known as before.
     pub fn separate_state(
         &mut self,
-        alloc: Global,
         instance: &Instance,
         state: StateId,
         caps: &Caps,
@@ -39,7 +40,7 @@ impl KnownColumns {
         ensures found { IfOk result (IsFinding (graph_in (case_of instance.now) state.0) instance.now.demands.now caps.now) }
         ensures same { OnErr result (self.new ≡ self.old) }
     {
-        separate_known(alloc, instance, state, caps, &mut self.by_state)
+        separate_known(self.alloc, instance, state, caps, &mut self.by_state)
     }
 }
 

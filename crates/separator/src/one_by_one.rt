@@ -61,7 +61,6 @@ impl<'a> OneByOne<'a> {
 
 /// What is found of a state, its cut admitted to the board's pool.
 fn answer_state(
-    alloc: Global,
     instance: &Instance,
     state: StateId,
     caps: &Caps,
@@ -79,7 +78,7 @@ fn answer_state(
     ensures answer { IfOk result (λ a. IsAnswerOf (case_of instance.now) caps.now board.new.entries state.0 a.answer) }
     ensures among { IfOk result (λ a. All (Contains (cut_answered a.answer)) (cuts_since board.old.entries board.new.entries)) }
 {
-    match known.separate_state(alloc, instance, state, caps)? {
+    match known.separate_state(instance, state, caps)? {
         RouteAnswer::Routed(routing) => Ok(StateAnswer {
             state,
             answer: Separated::Routed(routing),
@@ -116,7 +115,7 @@ fn answer_states(
 {
     let mut answers = List::new(alloc);
     for s in 0..instance.states.count() {
-        answers.push(answer_state(alloc, instance, StateId(s), caps, board, known)?)?;
+        answers.push(answer_state(instance, StateId(s), caps, board, known)?)?;
     }
     Ok(answers)
 }
