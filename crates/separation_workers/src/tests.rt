@@ -15,7 +15,7 @@ use hint_board::HintBoard;
 use net_core::{Caps, Copied, CutLine, Instance, Lengths, List, NoMemory, Problem};
 use outside_io::{Gate, OpenGate};
 use plan_types::Spot;
-use separator::{OneByOne, Separate, Separated, StateAnswer};
+use separator::{OneByOne, Separated, StateAnswer, separate_checked};
 use std::alloc::Global;
 use std::sync::Wait;
 use std::sync::atomic::{AtomicU32, AtomicU64, Ordering};
@@ -31,10 +31,7 @@ fn board(alloc: Global, p: &Problem) -> Result<Board<'_>, NoMemory>
     ensures listed { IfOk result (λ b. b.states.now ≡ p.now.states) }
     ensures empty { IfOk result (λ b. b.entries ≡ []) }
 {
-    match Board::new(alloc, &p.net, &p.states, p.demands.copy()?) {
-        Ok(board) => Ok(board),
-        Err((_, fault)) => Err(fault),
-    }
+    Ok(Board::new(alloc, &p.net, &p.states, p.demands.copy()?)?)
 }
 
 /// A desk with a new board of the problem, and the pass with all units.
@@ -44,38 +41,7 @@ fn desk(alloc: Global, p: &Problem) -> Result<(Desk<Board<'_>>, Pass<Board<'_>>)
     ensures net { IfOk result (λ d. (opening_of d.0).net.now ≡ p.now.net) }
     ensures listed { IfOk result (λ d. (opening_of d.0).states.now ≡ p.now.states) }
 {
-    match Desk::new(alloc, board(alloc, p)?) {
-        Ok(both) => Ok(both),
-        Err((_, fault)) => Err(fault),
-    }
-}
-
-/// What a separator answers, where there is a number for each link and no state separates a demand.
-fn found<S: Separate>(
-    alloc: Global,
-    separator: &mut S,
-    p: &Problem,
-    caps: &Caps,
-) -> Result<Option<List<StateAnswer>>, NoMemory>
-    requires net { p.now.net ≡ S.network separator.old }
-    requires listed { p.now.states ≡ S.states separator.old }
-    ensures mark { S.mark separator.new ≡ S.mark separator.old }
-{
-    if caps.scale == 0 || caps.nums.len() != p.net.links().len() {
-        return Ok(None);
-    }
-    match first_separated(alloc, &p.net, &p.states, &p.demands)? {
-        Some(_) => Ok(None),
-        None => {
-            let instance = Instance {
-                net: &p.net,
-                states: &p.states,
-                demands: &p.demands,
-            };
-            let answers = separator.separate(&instance, caps)?;
-            Ok(Some(answers))
-        }
-    }
+    Ok(Desk::new(alloc, board(alloc, p)?)?)
 }
 
 /// What a caller is answered at capacities, after a look at the board.
@@ -96,7 +62,7 @@ fn answered<'d, 'a, R: Threads + Wait>(
 {
     let (_, caller) = caller.snapshot(rt);
     let mut separator = Workers::new(rt, alloc, &OpenGate, hints, caller);
-    let answers = found(alloc, &mut separator, p, caps);
+    let answers = separate_checked(alloc, &mut separator, p, caps);
     (answers, separator.into_caller())
 }
 
@@ -146,7 +112,7 @@ fn agree<R: Threads + Wait>(
     caps: &Caps,
 ) -> Result<bool, NoMemory> {
     let mut on_board = OneByOne::new(alloc, board(alloc, p)?);
-    let one = found(alloc, &mut on_board, p, caps)?;
+    let one = separate_checked(alloc, &mut on_board, p, caps)?;
     let (desk, pass) = desk(alloc, p)?;
     let hints = no_hints(alloc, p)?;
     let (two, _) = answered(rt, alloc, p, caps, &hints, Caller::new(1, &desk, pass));

@@ -16,6 +16,7 @@
 
 mod admission;
 pub mod answers;
+pub mod checked;
 mod known;
 pub mod one_by_one;
 mod one_state;
@@ -24,6 +25,7 @@ pub mod separating;
 
 pub use admission::line_of;
 pub use answers::{Separated, StateAnswer};
+pub use checked::separate_checked;
 pub use one_by_one::OneByOne;
 pub use one_state::separate_state;
 pub use separating::Separate;

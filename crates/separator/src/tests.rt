@@ -2,13 +2,11 @@ ghost use Rattle.std.specs.Prelude.{◌≡◌, IfOk};
 ghost use Rattle.net_core.specs.Views.{graph};
 ghost use Rattle.metric_cut.specs.Cuts.{IsCutOf};
 
-use crate::{OneByOne, Separate, Separated, StateAnswer};
+use crate::{OneByOne, Separate, Separated, StateAnswer, separate_checked};
 use cut_pool::Board;
-use failure_states::first_separated;
 use metric_cut::Cut;
 use net_core::{
-    Caps, Copied, Evidence, Instance, LinkId, List, NoMemory, Problem, RouteColumn, StateId,
-    WideKind,
+    Caps, Copied, Evidence, LinkId, List, NoMemory, Problem, RouteColumn, StateId, WideKind,
 };
 use plan_types::Spot;
 use std::alloc::Global;
@@ -116,35 +114,6 @@ fn meets(state: usize, answer: &StateAnswer, want: Want) -> bool {
     }
 }
 
-/// What a separator finds of each state, where there is a number for each link and no state separates a demand.
-fn found<S: Separate>(
-    alloc: Global,
-    separator: &mut S,
-    p: &Problem,
-    caps: &Caps,
-) -> Result<Option<List<StateAnswer>>, NoMemory>
-    requires net { p.now.net ≡ S.network separator.old }
-    requires listed { p.now.states ≡ S.states separator.old }
-    ensures net { S.network separator.new ≡ S.network separator.old }
-    ensures listed { S.states separator.new ≡ S.states separator.old }
-{
-    if caps.scale == 0 || caps.nums.len() != p.net.links().len() {
-        return Ok(None);
-    }
-    match first_separated(alloc, &p.net, &p.states, &p.demands)? {
-        Some(_) => Ok(None),
-        None => {
-            let instance = Instance {
-                net: &p.net,
-                states: &p.states,
-                demands: &p.demands,
-            };
-            let answers = separator.separate(&instance, caps)?;
-            Ok(Some(answers))
-        }
-    }
-}
-
 /// The unit cut of a state.
 fn unit_cut(alloc: Global, p: &Problem, state: u32) -> Result<Cut, Fail>
     ensures { IfOk result (λ cut. IsCutOf (graph p.now.net p.now.states cut.state.0) cut) }
@@ -174,10 +143,8 @@ fn separator(alloc: Global, p: &Problem) -> Result<OneByOne<'_>, NoMemory>
     ensures net { IfOk result (λ s. p.now.net ≡ s.board.net.now) }
     ensures listed { IfOk result (λ s. p.now.states ≡ s.board.states.now) }
 {
-    match Board::new(alloc, &p.net, &p.states, p.demands.copy()?) {
-        Ok(board) => Ok(OneByOne::new(alloc, board)),
-        Err((_, fault)) => Err(fault),
-    }
+    let board = Board::new(alloc, &p.net, &p.states, p.demands.copy()?)?;
+    Ok(OneByOne::new(alloc, board))
 }
 
 /// Asks twice, the second time over the cuts of the first, and compares each answer.
@@ -189,8 +156,8 @@ fn check_row<R: AllocGlobal + Abort>(rt: &R, p: &Problem, row: Row) -> Result<()
         nums: List::from_slice(alloc, numbers)?,
     };
     let mut asked = separator(alloc, p)?;
-    let first = found(alloc, &mut asked, p, &caps)?;
-    let second = found(alloc, &mut asked, p, &caps)?;
+    let first = separate_checked(alloc, &mut asked, p, &caps)?;
+    let second = separate_checked(alloc, &mut asked, p, &caps)?;
     assert_eq!(rt; first_miss(&first, wants), None);
     assert_eq!(rt; first_miss(&second, wants), None);
     Ok(())
