@@ -2,9 +2,7 @@
 use Rattle.std.proofs.Common.{◌≡◌, ◌⊎◌, inl, inr, ℕ, ◌+◌, ◌^◌, ◌<◌, ◌≤◌, true, List, [], ◌∷◌, ◌++◌, length, All, Err, refl, sym, ap, subst, ◌∙◌, arith, append_assoc}
 use Rattle.std.specs.Prelude.{codes, slice_get}
 use Rattle.std.proofs.lemmas.Option.{slice_get-get_or}
-use Rattle.net_core.specs.declared.network.Link.{Link}
 use Rattle.net_core.specs.declared.plan.CutLine.{CutLine}
-use Rattle.net_core.specs.declared.states.Listed.{Listed}
 use Rattle.plan_types.specs.declared.certificate.CertLine.{CertLine}
 use Rattle.plan_types.specs.declared.certificate.Certificate.{Certificate}
 use Rattle.plan_types.specs.declared.certificate.Spot.{Spot}
@@ -14,6 +12,7 @@ use Rattle.text_kit.proofs.Beginnings.{AnyText}
 use Rattle.text_kit.proofs.Spelled.{Lawful}
 use Rattle.plan_report.specs.Forms.{AreLinkNumbers, IsCertificateLineInForm, IsCutInForm, IsOfPool, line_lengths, line_state}
 use Rattle.plan_report.specs.Items.{certificate_items, certificate_line_items, spot_items}
+use Rattle.report_words.specs.KnownNames.{KnownNames}
 use Rattle.report_words.specs.declared.fault.ReportKind.TheVariants.{Token}
 use Rattle.report_parts.specs.declared.placed.Placed.{Placed}
 use Rattle.report_words.specs.ReportWords.{closing_at, has_room}
@@ -24,10 +23,10 @@ use Rattle.report_words.proofs.Making.{MadeOf, law_made, made_last, made_then}
 use Rattle.report_words.proofs.NumberLaws.{numbers_law}
 use Rattle.report_words.proofs.WordLaws.{closing_law, keyword_law, number_law, opening_law, opening_within_law}
 
-module _ (links : List Link) (listed : List Listed) (pool : List CutLine) where
+module _ (names : KnownNames) (pool : List CutLine) where
   abbrev IsPlacedAt : Spot → Placed → Type 0
   IsPlacedAt (Pool i) p = (i < length pool) × (of_line pool i ≡ p)
-  IsPlacedAt Local p = (p.state.0 ≤ length listed) × AreLinkNumbers links (2 ^ 32) p.lengths
+  IsPlacedAt Local p = (p.state.0 ≤ length names.listed) × AreLinkNumbers names.links (2 ^ 32) p.lengths
 
   abbrev IsPlaced : Placed → Type 0
   IsPlaced p = IsPlacedAt p.spot p
@@ -39,7 +38,7 @@ module _ (links : List Link) (listed : List Listed) (pool : List CutLine) where
   WasPool p = (true ≡ true) × MadeOf (λ (i : ℕ). of_line pool i) (λ i. (0 ≤ i) × (i < length pool)) p
 
   abbrev WasLocal : Placed → Type 0
-  WasLocal p = (true ≡ true) × MadeOf {P = ℕ × List ℕ} (λ q. record { spot = Local; state = record { 0 = q.0 }; lengths = q.1 }) (λ q. ((0 ≤ q.0) × (q.0 < length listed + 1)) × ((length q.1 ≡ length links) × All (λ k. k < 2 ^ 32) q.1)) p
+  WasLocal p = (true ≡ true) × MadeOf {P = ℕ × List ℕ} (λ q. record { spot = Local; state = record { 0 = q.0 }; lengths = q.1 }) (λ q. ((0 ≤ q.0) × (q.0 < length names.listed + 1)) × ((length q.1 ≡ length names.links) × All (λ k. k < 2 ^ 32) q.1)) p
 
   find_spot : (p : Placed) (s : Spot) → p.spot ≡ s → IsPlacedAt s p → WasPool p ⊎ (WasLocal p ⊎ ⊥)
   find_spot p (Pool i) e h = inl (refl, record { parts = i; right = (omega arith, h.0); gives = h.1 })
@@ -52,23 +51,23 @@ module _ (links : List Link) (listed : List Listed) (pool : List CutLine) where
     },
   ))
 
-  spot_law : Lawful (spot_at links listed pool) placed_cut IsPlaced AnyText
+  spot_law : Lawful (spot_at names pool) placed_cut IsPlaced AnyText
   unfolding pool_spot_at local_spot_at
-  spot_law = branches_law true (Err Token) (spot_branches links listed pool) placed_cut _ IsPlaced
+  spot_law = branches_law true (Err Token) (spot_branches names pool) placed_cut _ IsPlaced
       (either_form true _ _ _ IsPlaced (λ i m h. (h.1, refl))
       (either_form true _ _ _ IsPlaced (λ q m h. (omega (arith, h.0.1), record { long = h.1.0; each = h.1.1 }))
       (λ p n. absurd n)))
       (λ p h. find_spot p p.spot refl h)
       (lawful_branch true (Err Token) (codes "pool") (pool_spot_at pool) _ _ _ _ placed_cut _ refl (λ p h. refl)
       (made_last _ (λ (i : ℕ). of_line pool i) _ _ (number_law 0 (length pool)))
-      (lawful_branch true (Err Token) (codes "local") (local_spot_at links listed) _ _ _ _ placed_cut _ refl (λ p h. refl)
-      (made_then _ _ _ _ _ _ _ _ (number_law 0 (length listed + 1)) (λ state h.
-      made_last _ (λ (lengths : List ℕ). record { spot = Local; state = record { 0 = state }; lengths = lengths }) _ _ (numbers_law (length links) (2 ^ 32))))
+      (lawful_branch true (Err Token) (codes "local") (local_spot_at names) _ _ _ _ placed_cut _ refl (λ p h. refl)
+      (made_then _ _ _ _ _ _ _ _ (number_law 0 (length names.listed + 1)) (λ state h.
+      made_last _ (λ (lengths : List ℕ). record { spot = Local; state = record { 0 = state }; lengths = lengths }) _ _ (numbers_law (length names.links) (2 ^ 32))))
       (lawful_no_branch true Token placed_cut)))
 
   -- a line, and where its cut stands
   abbrev pub IsLine : CertLine → Type 0
-  IsLine l = IsCertificateLineInForm links listed l × IsOfPool pool l.spot l.cut
+  IsLine l = IsCertificateLineInForm names.links names.listed l × IsOfPool pool l.spot l.cut
 
   abbrev placed_of : CertLine → Placed
   placed_of l = record { spot = l.spot; state = l.cut.state; lengths = l.cut.lengths }
@@ -76,12 +75,12 @@ module _ (links : List Link) (listed : List Listed) (pool : List CutLine) where
   -- the lines of the pool are in form
   pub record IsPoolInForm : Type 0 where
     pub few : length pool ≤ 4096
-    pub each : All (IsCutInForm links listed) pool
+    pub each : All (IsCutInForm names.links names.listed) pool
 
   no_line : CutLine
   no_line = record { state = record { 0 = 0 }; lengths = []; right = 0 }
 
-  line_form : IsPoolInForm → (i : ℕ) → i < length pool → (line_state (slice_get pool i) ≤ length listed) × AreLinkNumbers links (2 ^ 32) (line_lengths (slice_get pool i))
+  line_form : IsPoolInForm → (i : ℕ) → i < length pool → (line_state (slice_get pool i) ≤ length names.listed) × AreLinkNumbers names.links (2 ^ 32) (line_lengths (slice_get pool i))
   line_form form i lt = rw (slice_get-get_or pool i no_line lt) (let h = form.each i no_line lt in (h.state, h.lengths))
 
   placed_line : IsPoolInForm → (num right : ℕ) (spot : Spot) (p : Placed) → p.spot ≡ spot → IsPlacedAt spot p → num < 2 ^ 62 → right < 2 ^ 84 → IsLine (record { num = num; spot = spot; cut = record { state = p.state; lengths = p.lengths; right = right } })
@@ -92,13 +91,13 @@ module _ (links : List Link) (listed : List Listed) (pool : List CutLine) where
       ))
   placed_line form num right Local p e h n r = (record { num = n; spot = tt; cut = record { state = h.0; lengths = h.1; right = r } }, tt)
 
-  line_placed : (spot : Spot) (cut : CutLine) → IsOfPool pool spot cut → IsCutInForm links listed cut → IsPlacedAt spot (record { spot = spot; state = cut.state; lengths = cut.lengths })
+  line_placed : (spot : Spot) (cut : CutLine) → IsOfPool pool spot cut → IsCutInForm names.links names.listed cut → IsPlacedAt spot (record { spot = spot; state = cut.state; lengths = cut.lengths })
   line_placed (Pool i) cut h f = (h.there, ap (λ (s : ℕ). record { spot = Pool i; state = record { 0 = s }; lengths = line_lengths (slice_get pool i) }) (sym h.same_state) ∙ ap (λ (ls : List ℕ). record { spot = Pool i; state = cut.state; lengths = ls }) (sym h.same_lengths))
   line_placed Local cut h f = (f.state, f.lengths)
 
-  certificate_line_law : IsPoolInForm → (sofar : List CertLine) → Lawful (certificate_line_at links listed pool sofar) certificate_line_items (λ l. (has_room 256 sofar ≡ true) × IsLine l) AnyText
+  certificate_line_law : IsPoolInForm → (sofar : List CertLine) → Lawful (certificate_line_at names pool sofar) certificate_line_items (λ l. (has_room 256 sofar ≡ true) × IsLine l) AnyText
   unfolding certificate_line_at
-  certificate_line_law form sofar = law_made (certificate_line_at links listed pool sofar) _ _ _ certificate_line_items (λ l. (has_room 256 sofar ≡ true) × IsLine l)
+  certificate_line_law form sofar = law_made (certificate_line_at names pool sofar) _ _ _ certificate_line_items (λ l. (has_room 256 sofar ≡ true) × IsLine l)
       (λ q h. (h.0, placed_line form q.1.0 q.1.1.1.1.0 q.1.1.0.spot q.1.1.0 refl h.1.1.0 h.1.0.1 h.1.1.1.1.0.1))
       (λ q h. ap (λ (is : List Item). Opening ∷ Whole q.1.0 ∷ is) (sym (append_assoc (placed_cut q.1.1.0) (Verbatim (codes "right") ∷ Whole q.1.1.1.1.0 ∷ []) (Closing ∷ [])) ∙ ap (λ (is : List Item). (is ++ Verbatim (codes "right") ∷ Whole q.1.1.1.1.0 ∷ []) ++ Closing ∷ []) (same_spot q.1.1.0.spot q.1.1.0 q.1.1.1.1.0)))
       (λ l h. record {
@@ -120,13 +119,13 @@ module _ (links : List Link) (listed : List Listed) (pool : List CutLine) where
   abbrev pub IsCertificate : Certificate → Type 0
   IsCertificate c = ((1 ≤ c.den) × (c.den < 2 ^ 72)) × ((length c.lines ≤ 256) × All IsLine c.lines)
 
-  pub certificate_law : IsPoolInForm → Lawful (certificate_at links listed pool) certificate_items IsCertificate AnyText
+  pub certificate_law : IsPoolInForm → Lawful (certificate_at names pool) certificate_items IsCertificate AnyText
   unfolding certificate_at
-  certificate_law form = law_made (certificate_at links listed pool) _ _ _ certificate_items IsCertificate
+  certificate_law form = law_made (certificate_at names pool) _ _ _ certificate_items IsCertificate
       (λ q h. (h.1.1.0, h.1.1.1))
       (λ q h. refl)
       (λ c h. record { parts = (tt, (tt, (c.den, c.lines))); right = (tt, (tt, (h.0, h.1))); gives = refl })
       (made_then _ _ _ _ _ _ _ _ (keyword_law (codes "CERTIFICATE")) (λ x h.
       made_then _ _ _ _ _ _ _ _ opening_law (λ x h.
       made_then _ _ _ _ _ _ _ _ (number_law 1 (2 ^ 72)) (λ den h.
-      made_last _ (λ (lines : List CertLine). record { den = den; lines = lines }) _ _ (few_law 256 (certificate_line_at links listed pool) certificate_line_items IsLine (λ l. tt) (certificate_line_law form))))))
+      made_last _ (λ (lines : List CertLine). record { den = den; lines = lines }) _ _ (few_law 256 (certificate_line_at names pool) certificate_line_items IsLine (λ l. tt) (certificate_line_law form))))))

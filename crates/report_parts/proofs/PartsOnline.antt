@@ -9,11 +9,11 @@ use Rattle.net_core.specs.declared.network.Link.{Link}
 use Rattle.net_core.specs.declared.plan.CutLine.{CutLine}
 use Rattle.net_core.specs.declared.plan.Flow.{Flow}
 use Rattle.net_core.specs.declared.plan.Routing.{Routing}
-use Rattle.net_core.specs.declared.states.Listed.{Listed}
 use Rattle.plan_types.specs.declared.certificate.CertLine.{CertLine}
 use Rattle.snd_tokens.specs.Lexemes.{EndAt}
 use Rattle.text_kit.specs.Reading.{Reading, no_fault, not_empty, of_length, Parenthesis}
 use Rattle.text_kit.proofs.Online.{IsOnline, TakesSome, online_close, online_give, online_list, online_open, online_then, online_word, takes_some}
+use Rattle.report_words.specs.KnownNames.{KnownNames}
 use Rattle.report_words.specs.declared.fault.ReportKind.{ReportKind}
 use Rattle.report_words.specs.declared.fault.ReportKind.TheVariants.{Token, Ended, Limit}
 use Rattle.report_words.specs.ReportWords.{has_room, link_at, link_of, unknown_name, whole_within}
@@ -44,25 +44,25 @@ pub flow_some : (links : List Link) (demands : List Demand) (sofar : List Flow) 
 unfolding flow_at
 flow_some links demands sofar = takes_some (flow_at links demands sofar) (flow_online links demands sofar) (λ p. Ended) (λ p. refl)
 
-pub routing_online : (links : List Link) (listed : List Listed) (demands : List Demand) (sofar : List Routing) → IsOnline (routing_at links listed demands sofar)
+pub routing_online : (names : KnownNames) (demands : List Demand) (sofar : List Routing) → IsOnline (routing_at names demands sofar)
 unfolding routing_at
-routing_online links listed demands sofar =
+routing_online names demands sofar =
     online_then _ _ (online_word Token Ended _) (λ x.
     online_then _ _ (online_word Token Ended _) (λ x.
     online_then _ _ (online_word Token Ended _) (λ x.
     online_then _ _ (online_word Token Ended _) (λ den.
     online_then _ _ (online_open Token Ended) (λ x.
-    online_then _ _ (online_list Parenthesis no_fault (flow_at links demands) (flow_online links demands) (flow_some links demands) []) (λ flows.
+    online_then _ _ (online_list Parenthesis no_fault (flow_at names.links demands) (flow_online names.links demands) (flow_some names.links demands) []) (λ flows.
     online_give _))))))
 
-pub routing_some : (links : List Link) (listed : List Listed) (demands : List Demand) (sofar : List Routing) → TakesSome (routing_at links listed demands sofar)
+pub routing_some : (names : KnownNames) (demands : List Demand) (sofar : List Routing) → TakesSome (routing_at names demands sofar)
 unfolding routing_at
-routing_some links listed demands sofar = takes_some (routing_at links listed demands sofar) (routing_online links listed demands sofar) (λ p. Ended) (λ p. refl)
+routing_some names demands sofar = takes_some (routing_at names demands sofar) (routing_online names demands sofar) (λ p. Ended) (λ p. refl)
 
-pub routings_online : (links : List Link) (listed : List Listed) (demands : List Demand) → IsOnline (routings_at links listed demands)
+pub routings_online : (names : KnownNames) (demands : List Demand) → IsOnline (routings_at names demands)
 unfolding routings_at
-routings_online links listed demands = online_then _ _ (online_open Token Ended) (λ x.
-    online_list Parenthesis (of_length (length listed + 1) Limit) (routing_at links listed demands) (routing_online links listed demands) (routing_some links listed demands) [])
+routings_online names demands = online_then _ _ (online_open Token Ended) (λ x.
+    online_list Parenthesis (of_length (length names.listed + 1) Limit) (routing_at names demands) (routing_online names demands) (routing_some names demands) [])
 
 -- ---- columns and what of them is too wide
 
@@ -94,21 +94,21 @@ price_online links =
     online_then _ _ (online_word Token Ended _) (λ e.
     online_give _)
 
-pub metric_online : (links : List Link) (listed : List Listed) → IsOnline (metric_at links listed)
+pub metric_online : (names : KnownNames) → IsOnline (metric_at names)
 unfolding metric_at
-metric_online links listed =
+metric_online names =
     online_then _ _ (online_word Token Ended _) (λ state.
-    online_then _ _ (numbers_online (length links) (2 ^ 32)) (λ lengths.
+    online_then _ _ (numbers_online (length names.links) (2 ^ 32)) (λ lengths.
     online_give _))
 
-pub master_columns_online : (links : List Link) (listed : List Listed) (room : Bool) → IsOnline (master_column_at links listed room)
-master_columns_online links listed room = online_branch room (Err Token) (master_column_branches links listed) (price_online links, (metric_online links listed, tt))
+pub master_columns_online : (names : KnownNames) (room : Bool) → IsOnline (master_column_at names room)
+master_columns_online names room = online_branch room (Err Token) (master_column_branches names) (price_online names.links, (metric_online names, tt))
 
 pub route_column_some : (links : List Link) (demands : List Demand) (room : Bool) → TakesSome (route_column_at links demands room)
 route_column_some links demands room = column_some room (route_column_branches links demands) (slack_online links, (left_online demands, (carry_online links demands, tt)))
 
-pub master_column_some : (links : List Link) (listed : List Listed) (room : Bool) → TakesSome (master_column_at links listed room)
-master_column_some links listed room = column_some room (master_column_branches links listed) (price_online links, (metric_online links listed, tt))
+pub master_column_some : (names : KnownNames) (room : Bool) → TakesSome (master_column_at names room)
+master_column_some names room = column_some room (master_column_branches names) (price_online names.links, (metric_online names, tt))
 
 pub basis_online : {C : Type 0} (column : Bool → Reading ReportKind C) → ((room : Bool) → IsOnline (column room)) → ((room : Bool) → TakesSome (column room)) → (rows : ℕ) → IsOnline (basis_at column rows)
 unfolding basis_at
@@ -151,50 +151,50 @@ caps_online links =
     online_then _ _ (numbers_online (length links) (2 ^ 126)) (λ nums.
     online_give _))
 
-pub route_online : (links : List Link) (listed : List Listed) (demands : List Demand) → IsOnline (route_at links listed demands)
+pub route_online : (names : KnownNames) (demands : List Demand) → IsOnline (route_at names demands)
 unfolding route_at
-route_online links listed demands =
+route_online names demands =
     online_then _ _ (online_word Token Ended _) (λ state.
-    online_then _ _ (caps_online links) (λ caps.
-    online_then _ _ (basis_online (route_column_at links demands) (route_columns_online links demands) (route_column_some links demands) (length links + length demands)) (λ basis.
-    online_then _ _ (route_wide_online (route_column_at links demands) (route_columns_online links demands) links (length links + length demands)) (λ kind.
+    online_then _ _ (caps_online names.links) (λ caps.
+    online_then _ _ (basis_online (route_column_at names.links demands) (route_columns_online names.links demands) (route_column_some names.links demands) (length names.links + length demands)) (λ basis.
+    online_then _ _ (route_wide_online (route_column_at names.links demands) (route_columns_online names.links demands) names.links (length names.links + length demands)) (λ kind.
     online_give _))))
 
-pub master_online : (links : List Link) (listed : List Listed) → IsOnline (master_at links listed)
+pub master_online : (names : KnownNames) → IsOnline (master_at names)
 unfolding master_at
-master_online links listed =
-    online_then _ _ (basis_online (master_column_at links listed) (master_columns_online links listed) (master_column_some links listed) (length links)) (λ basis.
-    online_then _ _ (master_wide_online (master_column_at links listed) (master_columns_online links listed) (length links)) (λ kind.
+master_online names =
+    online_then _ _ (basis_online (master_column_at names) (master_columns_online names) (master_column_some names) (length names.links)) (λ basis.
+    online_then _ _ (master_wide_online (master_column_at names) (master_columns_online names) (length names.links)) (λ kind.
     online_give _))
 
-pub evidence_online : (links : List Link) (listed : List Listed) (demands : List Demand) → IsOnline (evidence_at links listed demands)
-evidence_online links listed demands = online_branch true (Err Token) (evidence_branches links listed demands) (route_online links listed demands, (master_online links listed, tt))
+pub evidence_online : (names : KnownNames) (demands : List Demand) → IsOnline (evidence_at names demands)
+evidence_online names demands = online_branch true (Err Token) (evidence_branches names demands) (route_online names demands, (master_online names, tt))
 
-pub fractional_online : (links : List Link) (listed : List Listed) (demands : List Demand) → IsOnline (fractional_at links listed demands)
+pub fractional_online : (names : KnownNames) (demands : List Demand) → IsOnline (fractional_at names demands)
 unfolding fractional_at
-fractional_online links listed demands =
+fractional_online names demands =
     online_then _ _ (online_word Token Ended _) (λ scale.
-    online_then _ _ (numbers_online (length links) (2 ^ 62)) (λ units.
-    online_then _ _ (routings_online links listed demands) (λ routings.
+    online_then _ _ (numbers_online (length names.links) (2 ^ 62)) (λ units.
+    online_then _ _ (routings_online names demands) (λ routings.
     online_give _)))
 
-pub tight_online : (links : List Link) (listed : List Listed) (demands : List Demand) → IsOnline (tight_at links listed demands)
+pub tight_online : (names : KnownNames) (demands : List Demand) → IsOnline (tight_at names demands)
 unfolding tight_at
-tight_online links listed demands =
-    online_then _ _ (fractional_online links listed demands) (λ f.
+tight_online names demands =
+    online_then _ _ (fractional_online names demands) (λ f.
     online_give _)
 
-pub too_wide_online : (links : List Link) (listed : List Listed) (demands : List Demand) → IsOnline (too_wide_at links listed demands)
+pub too_wide_online : (names : KnownNames) (demands : List Demand) → IsOnline (too_wide_at names demands)
 unfolding too_wide_at
-too_wide_online links listed demands =
-    online_then _ _ (evidence_online links listed demands) (λ evidence.
+too_wide_online names demands =
+    online_then _ _ (evidence_online names demands) (λ evidence.
     online_give _)
 
-pub loose_online : (links : List Link) (listed : List Listed) (demands : List Demand) → IsOnline (loose_at links listed demands)
-loose_online links listed demands = online_branch true (Err Token) (loose_branches links listed demands) (online_give _, (too_wide_online links listed demands, tt))
+pub loose_online : (names : KnownNames) (demands : List Demand) → IsOnline (loose_at names demands)
+loose_online names demands = online_branch true (Err Token) (loose_branches names demands) (online_give _, (too_wide_online names demands, tt))
 
-pub quality_online : (links : List Link) (listed : List Listed) (demands : List Demand) → IsOnline (quality_at links listed demands)
-quality_online links listed demands = online_branch true (Err Token) (quality_branches links listed demands) (tight_online links listed demands, (loose_online links listed demands, tt))
+pub quality_online : (names : KnownNames) (demands : List Demand) → IsOnline (quality_at names demands)
+quality_online names demands = online_branch true (Err Token) (quality_branches names demands) (tight_online names demands, (loose_online names demands, tt))
 
 -- ---- demands, modules and certificates
 
@@ -261,36 +261,36 @@ pool_spot_online pool =
     online_then _ _ (online_word Token Ended _) (λ i.
     online_give _)
 
-pub local_spot_online : (links : List Link) (listed : List Listed) → IsOnline (local_spot_at links listed)
+pub local_spot_online : (names : KnownNames) → IsOnline (local_spot_at names)
 unfolding local_spot_at
-local_spot_online links listed =
+local_spot_online names =
     online_then _ _ (online_word Token Ended _) (λ state.
-    online_then _ _ (numbers_online (length links) (2 ^ 32)) (λ lengths.
+    online_then _ _ (numbers_online (length names.links) (2 ^ 32)) (λ lengths.
     online_give _))
 
-pub spot_online : (links : List Link) (listed : List Listed) (pool : List CutLine) → IsOnline (spot_at links listed pool)
-spot_online links listed pool = online_branch true (Err Token) (spot_branches links listed pool) (pool_spot_online pool, (local_spot_online links listed, tt))
+pub spot_online : (names : KnownNames) (pool : List CutLine) → IsOnline (spot_at names pool)
+spot_online names pool = online_branch true (Err Token) (spot_branches names pool) (pool_spot_online pool, (local_spot_online names, tt))
 
-pub certificate_line_online : (links : List Link) (listed : List Listed) (pool : List CutLine) (sofar : List CertLine) → IsOnline (certificate_line_at links listed pool sofar)
+pub certificate_line_online : (names : KnownNames) (pool : List CutLine) (sofar : List CertLine) → IsOnline (certificate_line_at names pool sofar)
 unfolding certificate_line_at
-certificate_line_online links listed pool sofar =
+certificate_line_online names pool sofar =
     online_then _ _ (opening_within_online (has_room 256 sofar)) (λ x.
     online_then _ _ (online_word Token Ended _) (λ num.
-    online_then _ _ (spot_online links listed pool) (λ cut.
+    online_then _ _ (spot_online names pool) (λ cut.
     online_then _ _ (online_word Token Ended _) (λ x.
     online_then _ _ (online_word Token Ended _) (λ right.
     online_then _ _ (online_close Token Ended) (λ x.
     online_give _))))))
 
-pub certificate_line_some : (links : List Link) (listed : List Listed) (pool : List CutLine) (sofar : List CertLine) → TakesSome (certificate_line_at links listed pool sofar)
+pub certificate_line_some : (names : KnownNames) (pool : List CutLine) (sofar : List CertLine) → TakesSome (certificate_line_at names pool sofar)
 unfolding certificate_line_at
-certificate_line_some links listed pool sofar = takes_some (certificate_line_at links listed pool sofar) (certificate_line_online links listed pool sofar) (λ p. Ended) (λ p. refl)
+certificate_line_some names pool sofar = takes_some (certificate_line_at names pool sofar) (certificate_line_online names pool sofar) (λ p. Ended) (λ p. refl)
 
-pub certificate_online : (links : List Link) (listed : List Listed) (pool : List CutLine) → IsOnline (certificate_at links listed pool)
+pub certificate_online : (names : KnownNames) (pool : List CutLine) → IsOnline (certificate_at names pool)
 unfolding certificate_at
-certificate_online links listed pool =
+certificate_online names pool =
     online_then _ _ (online_word Token Ended _) (λ x.
     online_then _ _ (online_open Token Ended) (λ x.
     online_then _ _ (online_word Token Ended _) (λ den.
-    online_then _ _ (online_list Parenthesis no_fault (certificate_line_at links listed pool) (certificate_line_online links listed pool) (certificate_line_some links listed pool) []) (λ lines.
+    online_then _ _ (online_list Parenthesis no_fault (certificate_line_at names pool) (certificate_line_online names pool) (certificate_line_some names pool) []) (λ lines.
     online_give _))))

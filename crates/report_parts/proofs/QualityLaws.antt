@@ -11,9 +11,7 @@ use Rattle.net_core.specs.declared.columns.WideKind.{WideKind}
 use Rattle.net_core.specs.declared.columns.WideKind.TheVariants as wide
 use Rattle.net_core.specs.declared.demand.Demand.{Demand}
 use Rattle.net_core.specs.declared.ids.LinkId.{LinkId}
-use Rattle.net_core.specs.declared.network.Link.{Link}
 use Rattle.net_core.specs.declared.plan.Routing.{Routing}
-use Rattle.net_core.specs.declared.states.Listed.{Listed}
 use Rattle.plan_types.specs.declared.quality.Cause.TheVariants.{Wide, Cuts}
 use Rattle.plan_types.specs.declared.quality.Fractional.{Fractional}
 use Rattle.plan_types.specs.declared.quality.Quality.{Quality}
@@ -24,6 +22,7 @@ use Rattle.text_kit.proofs.Spelled.{Lawful}
 use Rattle.plan_report.specs.Forms.{AreCapsInForm, AreRoutingsInForm, IsCauseInForm, IsEvidenceInForm, IsKindInForm, IsMasterColumnInForm, IsQualityInForm, IsRouteColumnInForm, IsShareInForm}
 use Rattle.plan_report.specs.Items.{cause_items, evidence_items, master_column_items, numbers_items, quality_items, route_column_items, routings_items, wide_items}
 use Rattle.text_kit.specs.Edits.{enclosed}
+use Rattle.report_words.specs.KnownNames.{KnownNames}
 use Rattle.report_words.specs.declared.fault.ReportKind.TheVariants.{Token}
 use Rattle.report_words.specs.ReportWords.{has_room}
 use Rattle.report_parts.specs.ReadingQuality.{evidence_branches, loose_branches, master_column_branches, master_wide_branches, quality_branches, route_column_branches, route_wide_branches, basis_at, caps_at, carry_at, evidence_at, fractional_at, left_at, loose_at, master_at, master_column_at, master_wide_at, metric_at, price_at, quality_at, route_at, route_column_at, route_wide_at, slack_at, tight_at, too_wide_at, wide_entry_at, wide_length_at, wide_number_at, wide_row_at, wide_sum_at}
@@ -35,37 +34,37 @@ use Rattle.report_words.proofs.NumberLaws.{numbers_law}
 use Rattle.report_parts.proofs.ColumnVariants.{evidence_cases, master_cases, quality_cases, route_cases, wide_cases}
 use Rattle.report_words.proofs.WordLaws.{AreApart, demand_law, link_law, number_law}
 
-module _ (links : List Link) (listed : List Listed) (apart : AreLinksApart links) where
+module _ (names : KnownNames) (apart : AreLinksApart names.links) where
   -- ---- columns of a program that finds a certificate
 
   abbrev IsMaster : Bool → MasterColumn → Type 0
-  IsMaster room c = (room ≡ true) × IsMasterColumnInForm links listed c
+  IsMaster room c = (room ≡ true) × IsMasterColumnInForm names.links names.listed c
 
-  master_column_law : (room : Bool) → Lawful (master_column_at links listed room) (master_column_items links) (IsMaster room) AnyText
+  master_column_law : (room : Bool) → Lawful (master_column_at names room) (master_column_items names.links) (IsMaster room) AnyText
   unfolding price_at metric_at
-  master_column_law room = branches_law room (Err Token) (master_column_branches links listed) (master_column_items links) _ (IsMaster room)
+  master_column_law room = branches_law room (Err Token) (master_column_branches names) (master_column_items names.links) _ (IsMaster room)
       (either_form room _ _ _ (IsMaster room) (λ e m h. (m, h))
       (either_form room _ _ _ (IsMaster room) (λ q m h. (m, (omega (arith, h.0.1), record { long = h.1.0; each = h.1.1 })))
       (λ c n. absurd n)))
       (master_cases _
       (λ e h. inl (h.0, record { parts = e; right = h.1; gives = refl }))
       (λ state lengths h. inr (inl (h.0, record { parts = (state.0, lengths); right = ((omega arith, omega (arith, h.1.0)), (h.1.1.long, h.1.1.each)); gives = refl }))))
-      (lawful_branch room (Err Token) (codes "link") (price_at links) _ _ _ _ (master_column_items links) _ refl (λ p h. refl)
-      (made_last _ (λ (e : LinkId). master.LinkSlack e) _ _ (link_law links apart))
-      (lawful_branch room (Err Token) (codes "cut") (metric_at links listed) _ _ _ _ (master_column_items links) _ refl (λ p h. refl)
-      (made_then _ _ _ _ _ _ _ _ (number_law 0 (length listed + 1)) (λ state h.
-      made_last _ (λ (lengths : List ℕ). master.Metric (record { 0 = state }) lengths) _ _ (numbers_law (length links) (2 ^ 32))))
-      (lawful_no_branch room Token (master_column_items links))))
+      (lawful_branch room (Err Token) (codes "link") (price_at names.links) _ _ _ _ (master_column_items names.links) _ refl (λ p h. refl)
+      (made_last _ (λ (e : LinkId). master.LinkSlack e) _ _ (link_law names.links apart))
+      (lawful_branch room (Err Token) (codes "cut") (metric_at names) _ _ _ _ (master_column_items names.links) _ refl (λ p h. refl)
+      (made_then _ _ _ _ _ _ _ _ (number_law 0 (length names.listed + 1)) (λ state h.
+      made_last _ (λ (lengths : List ℕ). master.Metric (record { 0 = state }) lengths) _ _ (numbers_law (length names.links) (2 ^ 32))))
+      (lawful_no_branch room Token (master_column_items names.links))))
 
   abbrev IsMasterWide : WideKind MasterColumn → Type 0
-  IsMasterWide k = IsKindInForm (IsMasterColumnInForm links listed) (Unit {0}) (λ e. ⊥) (length links) k
+  IsMasterWide k = IsKindInForm (IsMasterColumnInForm names.links names.listed) (Unit {0}) (λ e. ⊥) (length names.links) k
 
   abbrev master_wide : WideKind MasterColumn → List Item
-  master_wide k = wide_items links (master_column_items links) k
+  master_wide k = wide_items names.links (master_column_items names.links) k
 
-  master_wide_law : Lawful (master_wide_at (master_column_at links listed) (length links)) master_wide IsMasterWide AnyText
+  master_wide_law : Lawful (master_wide_at (master_column_at names) (length names.links)) master_wide IsMasterWide AnyText
   unfolding wide_number_at wide_row_at wide_entry_at wide_sum_at
-  master_wide_law = branches_law true (Err Token) (master_wide_branches (master_column_at links listed) (length links)) master_wide _ IsMasterWide
+  master_wide_law = branches_law true (Err Token) (master_wide_branches (master_column_at names) (length names.links)) master_wide _ IsMasterWide
       (either_form true _ _ _ IsMasterWide (λ c m h. h.1)
       (either_form true _ _ _ IsMasterWide (λ i m h. omega (arith, h.1))
       (either_form true _ _ _ IsMasterWide (λ q m h. (omega (arith, h.0.1), h.1.1))
@@ -82,29 +81,29 @@ module _ (links : List Link) (listed : List Listed) (apart : AreLinksApart links
       (λ h. inr (inr (inr (inr (inr (inl (refl, record { parts = tt; right = tt; gives = refl })))))))
       (λ e h. absurd h))
       (lawful_branch true (Err Token) (codes "number") _ _ _ _ _ master_wide _ refl (λ p h. refl) (made_last _ (λ (c : MasterColumn). wide.Number c) _ _ (master_column_law true))
-      (lawful_branch true (Err Token) (codes "row") _ _ _ _ _ master_wide _ refl (λ p h. refl) (made_last _ (λ (i : ℕ). wide.Row i) _ _ (number_law 0 (length links + 1)))
-      (lawful_branch true (Err Token) (codes "entry") _ _ _ _ _ master_wide _ refl (λ p h. refl) (made_then _ _ _ _ _ _ _ _ (number_law 0 (length links + 1)) (λ i h. made_last _ (λ (c : MasterColumn). wide.Product i c) _ _ (master_column_law true)))
-      (lawful_branch true (Err Token) (codes "sum") _ _ _ _ _ master_wide _ refl (λ p h. refl) (made_last _ (λ (i : ℕ). wide.Sum i) _ _ (number_law 0 (length links + 1)))
+      (lawful_branch true (Err Token) (codes "row") _ _ _ _ _ master_wide _ refl (λ p h. refl) (made_last _ (λ (i : ℕ). wide.Row i) _ _ (number_law 0 (length names.links + 1)))
+      (lawful_branch true (Err Token) (codes "entry") _ _ _ _ _ master_wide _ refl (λ p h. refl) (made_then _ _ _ _ _ _ _ _ (number_law 0 (length names.links + 1)) (λ i h. made_last _ (λ (c : MasterColumn). wide.Product i c) _ _ (master_column_law true)))
+      (lawful_branch true (Err Token) (codes "sum") _ _ _ _ _ master_wide _ refl (λ p h. refl) (made_last _ (λ (i : ℕ). wide.Sum i) _ _ (number_law 0 (length names.links + 1)))
       (lawful_branch true (Err Token) (codes "common") _ _ _ _ _ master_wide _ refl (λ p h. refl) (made_give wide.Common)
       (lawful_branch true (Err Token) (codes "value") _ _ _ _ _ master_wide _ refl (λ p h. refl) (made_give wide.Value)
       (lawful_no_branch true Token master_wide)))))))
 
-  master_basis_law : Lawful (basis_at (master_column_at links listed) (length links)) (λ cs. enclosed (flat_map (master_column_items links) cs)) (λ cs. (length cs ≡ length links) × All (IsMasterColumnInForm links listed) cs) AnyText
+  master_basis_law : Lawful (basis_at (master_column_at names) (length names.links)) (λ cs. enclosed (flat_map (master_column_items names.links) cs)) (λ cs. (length cs ≡ length names.links) × All (IsMasterColumnInForm names.links names.listed) cs) AnyText
   unfolding basis_at
-  master_basis_law = exact_law (length links) (λ sofar. master_column_at links listed (has_room (length links) sofar)) (master_column_items links) (IsMasterColumnInForm links listed) (master_cases _ (λ e. tt) (λ s l. tt)) (λ sofar. master_column_law (has_room (length links) sofar))
+  master_basis_law = exact_law (length names.links) (λ sofar. master_column_at names (has_room (length names.links) sofar)) (master_column_items names.links) (IsMasterColumnInForm names.links names.listed) (master_cases _ (λ e. tt) (λ s l. tt)) (λ sofar. master_column_law (has_room (length names.links) sofar))
 
   -- ---- columns of a program that routes
 
   module _ (demands : List Demand) (differ : AreApart demands) where
     abbrev IsRoute : Bool → RouteColumn → Type 0
-    IsRoute room c = (room ≡ true) × IsRouteColumnInForm links demands c
+    IsRoute room c = (room ≡ true) × IsRouteColumnInForm names.links demands c
 
     abbrev route_items : RouteColumn → List Item
-    route_items c = route_column_items links demands c
+    route_items c = route_column_items names.links demands c
 
-    route_column_law : (room : Bool) → Lawful (route_column_at links demands room) route_items (IsRoute room) AnyText
+    route_column_law : (room : Bool) → Lawful (route_column_at names.links demands room) route_items (IsRoute room) AnyText
     unfolding slack_at left_at carry_at
-    route_column_law room = branches_law room (Err Token) (route_column_branches links demands) route_items _ (IsRoute room)
+    route_column_law room = branches_law room (Err Token) (route_column_branches names.links demands) route_items _ (IsRoute room)
         (either_form room _ _ _ (IsRoute room) (λ e m h. (m, h))
         (either_form room _ _ _ (IsRoute room) (λ k m h. (m, h))
         (either_form room _ _ _ (IsRoute room) (λ q m h. (m, (h.0, h.1)))
@@ -113,25 +112,25 @@ module _ (links : List Link) (listed : List Listed) (apart : AreLinksApart links
         (λ e h. inl (h.0, record { parts = e; right = h.1; gives = refl }))
         (λ k h. inr (inl (h.0, record { parts = k; right = h.1; gives = refl })))
         (λ k path h. inr (inr (inl (h.0, record { parts = (k, path); right = (h.1.0, h.1.1); gives = refl })))))
-        (lawful_branch room (Err Token) (codes "link") (slack_at links) _ _ _ _ route_items _ refl (λ p h. refl) (made_last _ (λ (e : LinkId). route.LinkSlack e) _ _ (link_law links apart))
+        (lawful_branch room (Err Token) (codes "link") (slack_at names.links) _ _ _ _ route_items _ refl (λ p h. refl) (made_last _ (λ (e : LinkId). route.LinkSlack e) _ _ (link_law names.links apart))
         (lawful_branch room (Err Token) (codes "demand") (left_at demands) _ _ _ _ route_items _ refl (λ p h. refl) (made_last _ (λ (k : ℕ). route.DemandSlack k) _ _ (demand_law demands differ))
-        (lawful_branch room (Err Token) (codes "flow") (carry_at links demands) _ _ _ _ route_items _ refl (λ p h. refl)
+        (lawful_branch room (Err Token) (codes "flow") (carry_at names.links demands) _ _ _ _ route_items _ refl (λ p h. refl)
         (made_then _ _ _ _ _ _ _ _ (demand_law demands differ) (λ k h.
-        made_last _ (λ (path : List LinkId). route.Carry k path) _ _ (path_law links apart)))
+        made_last _ (λ (path : List LinkId). route.Carry k path) _ _ (path_law names.links apart)))
         (lawful_no_branch room Token route_items))))
 
     abbrev rows : ℕ
-    rows = length links + length demands
+    rows = length names.links + length demands
 
     abbrev IsRouteWide : WideKind RouteColumn → Type 0
-    IsRouteWide k = IsKindInForm (IsRouteColumnInForm links demands) ⊥ (λ e. e.0 < length links) rows k
+    IsRouteWide k = IsKindInForm (IsRouteColumnInForm names.links demands) ⊥ (λ e. e.0 < length names.links) rows k
 
     abbrev route_wide : WideKind RouteColumn → List Item
-    route_wide k = wide_items links route_items k
+    route_wide k = wide_items names.links route_items k
 
-    route_wide_law : Lawful (route_wide_at (route_column_at links demands) links rows) route_wide IsRouteWide AnyText
+    route_wide_law : Lawful (route_wide_at (route_column_at names.links demands) names.links rows) route_wide IsRouteWide AnyText
     unfolding wide_number_at wide_row_at wide_entry_at wide_sum_at wide_length_at
-    route_wide_law = branches_law true (Err Token) (route_wide_branches (route_column_at links demands) links rows) route_wide _ IsRouteWide
+    route_wide_law = branches_law true (Err Token) (route_wide_branches (route_column_at names.links demands) names.links rows) route_wide _ IsRouteWide
         (either_form true _ _ _ IsRouteWide (λ c m h. h.1)
         (either_form true _ _ _ IsRouteWide (λ i m h. omega (arith, h.1))
         (either_form true _ _ _ IsRouteWide (λ q m h. (omega (arith, h.0.1), h.1.1))
@@ -152,73 +151,73 @@ module _ (links : List Link) (listed : List Listed) (apart : AreLinksApart links
         (lawful_branch true (Err Token) (codes "entry") _ _ _ _ _ route_wide _ refl (λ p h. refl) (made_then _ _ _ _ _ _ _ _ (number_law 0 (rows + 1)) (λ i h. made_last _ (λ (c : RouteColumn). wide.Product i c) _ _ (route_column_law true)))
         (lawful_branch true (Err Token) (codes "sum") _ _ _ _ _ route_wide _ refl (λ p h. refl) (made_last _ (λ (i : ℕ). wide.Sum i) _ _ (number_law 0 (rows + 1)))
         (lawful_branch true (Err Token) (codes "common") _ _ _ _ _ route_wide _ refl (λ p h. refl) (made_give wide.Common)
-        (lawful_branch true (Err Token) (codes "length") _ _ _ _ _ route_wide _ refl (λ p h. refl) (made_last _ (λ (e : LinkId). wide.Length e) _ _ (link_law links apart))
+        (lawful_branch true (Err Token) (codes "length") _ _ _ _ _ route_wide _ refl (λ p h. refl) (made_last _ (λ (e : LinkId). wide.Length e) _ _ (link_law names.links apart))
         (lawful_no_branch true Token route_wide)))))))
 
-    route_basis_law : Lawful (basis_at (route_column_at links demands) rows) (λ cs. enclosed (flat_map route_items cs)) (λ cs. (length cs ≡ rows) × All (IsRouteColumnInForm links demands) cs) AnyText
+    route_basis_law : Lawful (basis_at (route_column_at names.links demands) rows) (λ cs. enclosed (flat_map route_items cs)) (λ cs. (length cs ≡ rows) × All (IsRouteColumnInForm names.links demands) cs) AnyText
     unfolding basis_at
-    route_basis_law = exact_law rows (λ sofar. route_column_at links demands (has_room rows sofar)) route_items (IsRouteColumnInForm links demands) (route_cases _ (λ e. tt) (λ k. tt) (λ k p. tt)) (λ sofar. route_column_law (has_room rows sofar))
+    route_basis_law = exact_law rows (λ sofar. route_column_at names.links demands (has_room rows sofar)) route_items (IsRouteColumnInForm names.links demands) (route_cases _ (λ e. tt) (λ k. tt) (λ k p. tt)) (λ sofar. route_column_law (has_room rows sofar))
 
     -- ---- evidence
 
-    caps_law : Lawful (caps_at links) (λ caps. Whole caps.scale ∷ numbers_items caps.nums) (AreCapsInForm links) AnyText
+    caps_law : Lawful (caps_at names.links) (λ caps. Whole caps.scale ∷ numbers_items caps.nums) (AreCapsInForm names.links) AnyText
     unfolding caps_at
-    caps_law = law_made (caps_at links) _ _ _ (λ caps. Whole caps.scale ∷ numbers_items caps.nums) (AreCapsInForm links)
+    caps_law = law_made (caps_at names.links) _ _ _ (λ caps. Whole caps.scale ∷ numbers_items caps.nums) (AreCapsInForm names.links)
         (λ q h. record { positive = h.0.0; scale = h.0.1; nums = record { long = h.1.0; each = h.1.1 } })
         (λ q h. refl)
         (λ caps h. record { parts = (caps.scale, caps.nums); right = ((h.positive, h.scale), (h.nums.long, h.nums.each)); gives = refl })
         (made_then _ _ _ _ _ _ _ _ (number_law 1 (2 ^ 62)) (λ scale h.
-        made_last _ (λ (nums : List ℕ). record { scale = scale; nums = nums }) _ _ (numbers_law (length links) (2 ^ 126))))
+        made_last _ (λ (nums : List ℕ). record { scale = scale; nums = nums }) _ _ (numbers_law (length names.links) (2 ^ 126))))
 
     abbrev IsEvidence : Evidence → Type 0
-    IsEvidence e = IsEvidenceInForm links listed demands e
+    IsEvidence e = IsEvidenceInForm names.links names.listed demands e
 
     abbrev items_of : Evidence → List Item
-    items_of e = evidence_items links demands e
+    items_of e = evidence_items names.links demands e
 
-    evidence_law : Lawful (evidence_at links listed demands) items_of IsEvidence AnyText
+    evidence_law : Lawful (evidence_at names demands) items_of IsEvidence AnyText
     unfolding route_at master_at
-    evidence_law = branches_law true (Err Token) (evidence_branches links listed demands) items_of _ IsEvidence
+    evidence_law = branches_law true (Err Token) (evidence_branches names demands) items_of _ IsEvidence
         (either_form true _ _ _ IsEvidence (λ q m h. record { state_listed = omega (arith, h.0.1); capacities = h.1.0; long = h.1.1.0.0; columns = h.1.1.0.1; wide = h.1.1.1 })
         (either_form true _ _ _ IsEvidence (λ q m h. record { long = h.0.0; columns = h.0.1; wide = h.1 })
         (λ c n. absurd n)))
         (evidence_cases _
         (λ state caps basis kind h. inl (refl, record { parts = (state.0, (caps, (basis, kind))); right = ((omega arith, omega (arith, h.state_listed)), (h.capacities, ((h.long, h.columns), h.wide))); gives = refl }))
         (λ basis kind h. inr (inl (refl, record { parts = (basis, kind); right = ((h.long, h.columns), h.wide); gives = refl }))))
-        (lawful_branch true (Err Token) (codes "route") (route_at links listed demands) _ _ _ _ items_of _ refl
+        (lawful_branch true (Err Token) (codes "route") (route_at names demands) _ _ _ _ items_of _ refl
         (λ p h. ap (λ (is : List Item). Verbatim (codes "route") ∷ Whole p.0 ∷ Whole p.1.0.scale ∷ is) (sym (append_assoc (numbers_items p.1.0.nums) (enclosed (flat_map route_items p.1.1.0)) (route_wide p.1.1.1))))
-        (made_then _ _ _ _ _ _ _ _ (number_law 0 (length listed + 1)) (λ state h.
+        (made_then _ _ _ _ _ _ _ _ (number_law 0 (length names.listed + 1)) (λ state h.
         made_then _ _ _ _ _ _ _ _ caps_law (λ caps h.
         made_then _ _ _ _ _ _ _ _ route_basis_law (λ basis h.
         made_last _ (λ (kind : WideKind RouteColumn). Route (record { 0 = state }) caps basis kind) _ _ route_wide_law))))
-        (lawful_branch true (Err Token) (codes "master") (master_at links listed) _ _ _ _ items_of _ refl (λ p h. refl)
+        (lawful_branch true (Err Token) (codes "master") (master_at names) _ _ _ _ items_of _ refl (λ p h. refl)
         (made_then _ _ _ _ _ _ _ _ master_basis_law (λ basis h.
         made_last _ (λ (kind : WideKind MasterColumn). Master basis kind) _ _ master_wide_law))
         (lawful_no_branch true Token items_of)))
 
     -- ---- quality
 
-    fractional_law : Lawful (fractional_at links listed demands) (λ f. Whole f.share.scale ∷ numbers_items f.share.units ++ routings_items links listed demands f.routings) (λ f. IsShareInForm links f.share × AreRoutingsInForm links listed demands f.routings) AnyText
+    fractional_law : Lawful (fractional_at names demands) (λ f. Whole f.share.scale ∷ numbers_items f.share.units ++ routings_items names.links names.listed demands f.routings) (λ f. IsShareInForm names.links f.share × AreRoutingsInForm names.links names.listed demands f.routings) AnyText
     unfolding fractional_at
-    fractional_law = law_made (fractional_at links listed demands) _ _ _ (λ f. Whole f.share.scale ∷ numbers_items f.share.units ++ routings_items links listed demands f.routings) (λ f. IsShareInForm links f.share × AreRoutingsInForm links listed demands f.routings)
+    fractional_law = law_made (fractional_at names demands) _ _ _ (λ f. Whole f.share.scale ∷ numbers_items f.share.units ++ routings_items names.links names.listed demands f.routings) (λ f. IsShareInForm names.links f.share × AreRoutingsInForm names.links names.listed demands f.routings)
         (λ q h. (record { positive = h.0.0; scale = h.0.1; units = record { long = h.1.0.0; each = h.1.0.1 } }, h.1.1))
         (λ q h. refl)
         (λ f h. record { parts = (f.share.scale, (f.share.units, f.routings)); right = ((h.0.positive, h.0.scale), ((h.0.units.long, h.0.units.each), h.1)); gives = refl })
         (made_then _ _ _ _ _ _ _ _ (number_law 1 (2 ^ 62)) (λ scale h.
-        made_then _ _ _ _ _ _ _ _ (numbers_law (length links) (2 ^ 62)) (λ units h.
-        made_last _ (λ (routings : List Routing). record { share = record { scale = scale; units = units }; routings = routings }) _ _ (routings_law links listed demands apart differ))))
+        made_then _ _ _ _ _ _ _ _ (numbers_law (length names.links) (2 ^ 62)) (λ units h.
+        made_last _ (λ (routings : List Routing). record { share = record { scale = scale; units = units }; routings = routings }) _ _ (routings_law names demands apart differ))))
 
     abbrev loose_items : Quality → List Item
     loose_items (Tight f) = []
-    loose_items (Loose cause) = cause_items links demands cause
+    loose_items (Loose cause) = cause_items names.links demands cause
 
     abbrev IsLoose : Quality → Type 0
     IsLoose (Tight f) = ⊥
-    IsLoose (Loose cause) = IsCauseInForm links listed demands cause
+    IsLoose (Loose cause) = IsCauseInForm names.links names.listed demands cause
 
-    loose_law : Lawful (loose_at links listed demands) loose_items IsLoose AnyText
+    loose_law : Lawful (loose_at names demands) loose_items IsLoose AnyText
     unfolding too_wide_at
-    loose_law = branches_law true (Err Token) (loose_branches links listed demands) loose_items _ IsLoose
+    loose_law = branches_law true (Err Token) (loose_branches names demands) loose_items _ IsLoose
         (either_form true _ _ _ IsLoose (λ u m h. tt)
         (either_form true _ _ _ IsLoose (λ e m h. h)
         (λ c n. absurd n)))
@@ -227,14 +226,14 @@ module _ (links : List Link) (listed : List Listed) (apart : AreLinksApart links
         (λ e h. inr (inl (refl, record { parts = e; right = h; gives = refl })))
         (λ h. inl (refl, record { parts = tt; right = tt; gives = refl })))
         (lawful_branch true (Err Token) (codes "cuts") _ _ _ _ _ loose_items _ refl (λ p h. refl) (made_give (Loose Cuts))
-        (lawful_branch true (Err Token) (codes "wide") (too_wide_at links listed demands) _ _ _ _ loose_items _ refl (λ p h. refl) (made_last _ (λ (e : Evidence). Loose (Wide e)) _ _ evidence_law)
+        (lawful_branch true (Err Token) (codes "wide") (too_wide_at names demands) _ _ _ _ loose_items _ refl (λ p h. refl) (made_last _ (λ (e : Evidence). Loose (Wide e)) _ _ evidence_law)
         (lawful_no_branch true Token loose_items)))
 
     abbrev IsQuality : Quality → Type 0
-    IsQuality q = IsQualityInForm links listed demands q
+    IsQuality q = IsQualityInForm names.links names.listed demands q
 
     abbrev items_for : Quality → List Item
-    items_for q = quality_items links listed demands q
+    items_for q = quality_items names.links names.listed demands q
 
     loose_same : (q : Quality) → IsLoose q → Verbatim (codes "loose") ∷ loose_items q ≡ items_for q
     loose_same = quality_cases _ (λ f h. absurd h) (λ e h. refl) (λ h. refl)
@@ -242,9 +241,9 @@ module _ (links : List Link) (listed : List Listed) (apart : AreLinksApart links
     loose_form : (q : Quality) → IsLoose q → IsQuality q
     loose_form = quality_cases _ (λ f h. absurd h) (λ e h. h) (λ h. h)
 
-    pub quality_law : Lawful (quality_at links listed demands) items_for IsQuality AnyText
+    pub quality_law : Lawful (quality_at names demands) items_for IsQuality AnyText
     unfolding tight_at
-    quality_law = branches_law true (Err Token) (quality_branches links listed demands) items_for _ IsQuality
+    quality_law = branches_law true (Err Token) (quality_branches names demands) items_for _ IsQuality
         (either_form true _ _ _ IsQuality (λ f m h. h)
         (either_form true _ _ _ IsQuality (λ q m h. loose_form q h)
         (λ c n. absurd n)))
@@ -252,6 +251,6 @@ module _ (links : List Link) (listed : List Listed) (apart : AreLinksApart links
         (λ f h. inl (refl, record { parts = f; right = h; gives = refl }))
         (λ e h. inr (inl (refl, record { parts = Loose (Wide e); right = h; gives = refl })))
         (λ h. inr (inl (refl, record { parts = Loose Cuts; right = h; gives = refl }))))
-        (lawful_branch true (Err Token) (codes "tight") (tight_at links listed demands) _ _ _ _ items_for _ refl (λ p h. refl) (made_last _ (λ (f : Fractional). Tight f) _ _ fractional_law)
-        (lawful_branch true (Err Token) (codes "loose") (loose_at links listed demands) _ _ _ _ items_for _ refl loose_same (made_law _ _ _ loose_law)
+        (lawful_branch true (Err Token) (codes "tight") (tight_at names demands) _ _ _ _ items_for _ refl (λ p h. refl) (made_last _ (λ (f : Fractional). Tight f) _ _ fractional_law)
+        (lawful_branch true (Err Token) (codes "loose") (loose_at names demands) _ _ _ _ items_for _ refl loose_same (made_law _ _ _ loose_law)
         (lawful_no_branch true Token items_for)))

@@ -6,7 +6,6 @@ use Rattle.net_core.specs.declared.ids.LinkId.{LinkId}
 use Rattle.net_core.specs.declared.network.Link.{Link}
 use Rattle.net_core.specs.declared.plan.Flow.{Flow}
 use Rattle.net_core.specs.declared.plan.Routing.{Routing}
-use Rattle.net_core.specs.declared.states.Listed.{Listed}
 use Rattle.text_kit.specs.Items.{Verbatim}
 use Rattle.text_kit.specs.Reading.{of_length}
 use Rattle.text_kit.proofs.Beginnings.{AnyText}
@@ -17,6 +16,7 @@ use Rattle.plan_report.specs.Forms.{AreRoutingsInForm, IsFlowInForm, IsPathInFor
 use Rattle.plan_report.specs.Items.{flow_items, path_items, routing_items, routings_items}
 use Rattle.text_kit.specs.Edits.{enclosed}
 use Rattle.plan_report.specs.Names.{link_name, state_name}
+use Rattle.report_words.specs.KnownNames.{KnownNames}
 use Rattle.report_words.specs.declared.fault.ReportKind.TheVariants.{Token, Limit}
 use Rattle.report_words.specs.ReportWords.{has_room, link_at}
 use Rattle.report_parts.specs.ReadingRoutings.{flow_at, path_at, routing_at, routings_at}
@@ -50,24 +50,24 @@ flow_law links demands apart differ sofar = law_made (flow_at links demands sofa
 
 -- ---- routings
 
-routing_law : (links : List Link) (listed : List Listed) (demands : List Demand) → AreLinksApart links → AreApart demands → (sofar : List Routing) → Lawful (routing_at links listed demands sofar) (λ r. routing_items links listed demands (length sofar, r)) (λ r. (has_room (length listed + 1) sofar ≡ true) × IsRoutingInForm links demands r) AnyText
+routing_law : (names : KnownNames) (demands : List Demand) → AreLinksApart names.links → AreApart demands → (sofar : List Routing) → Lawful (routing_at names demands sofar) (λ r. routing_items names.links names.listed demands (length sofar, r)) (λ r. (has_room (length names.listed + 1) sofar ≡ true) × IsRoutingInForm names.links demands r) AnyText
 unfolding routing_at
-routing_law links listed demands apart differ sofar = law_made (routing_at links listed demands sofar) _ _ _ (λ r. routing_items links listed demands (length sofar, r)) (λ r. (has_room (length listed + 1) sofar ≡ true) × IsRoutingInForm links demands r)
+routing_law names demands apart differ sofar = law_made (routing_at names demands sofar) _ _ _ (λ r. routing_items names.links names.listed demands (length sofar, r)) (λ r. (has_room (length names.listed + 1) sofar ≡ true) × IsRoutingInForm names.links demands r)
     (λ q h. (h.0, record { positive = h.1.1.1.0.0; den = h.1.1.1.0.1; few = h.1.1.1.1.1.0; flows = h.1.1.1.1.1.1 }))
     (λ q h. refl)
     (λ r h. record { parts = (tt, (tt, (tt, (r.den, (tt, r.flows))))); right = (h.0, (tt, (tt, ((h.1.positive, h.1.den), (tt, (h.1.few, h.1.flows)))))); gives = refl })
-    (made_then _ _ _ _ _ _ _ _ (keyword_within_law (has_room (length listed + 1) sofar) (codes "state")) (λ x h.
+    (made_then _ _ _ _ _ _ _ _ (keyword_within_law (has_room (length names.listed + 1) sofar) (codes "state")) (λ x h.
     made_then _ _ _ _ _ _ _ _ (this_number_law (length sofar)) (λ x h.
-    made_then _ _ _ _ _ _ _ _ (this_name_law (state_name listed (length sofar))) (λ x h.
+    made_then _ _ _ _ _ _ _ _ (this_name_law (state_name names.listed (length sofar))) (λ x h.
     made_then _ _ _ _ _ _ _ _ (number_law 1 (2 ^ 62)) (λ den h.
     made_then _ _ _ _ _ _ _ _ opening_law (λ x h.
-    made_last _ (λ (flows : List Flow). record { den = den; flows = flows }) _ _ (few_law 65536 (flow_at links demands) (flow_items links demands) (IsFlowInForm links demands) (λ f. tt) (flow_law links demands apart differ))))))))
+    made_last _ (λ (flows : List Flow). record { den = den; flows = flows }) _ _ (few_law 65536 (flow_at names.links demands) (flow_items names.links demands) (IsFlowInForm names.links demands) (λ f. tt) (flow_law names.links demands apart differ))))))))
 
-pub routings_law : (links : List Link) (listed : List Listed) (demands : List Demand) → AreLinksApart links → AreApart demands → Lawful (routings_at links listed demands) (routings_items links listed demands) (AreRoutingsInForm links listed demands) AnyText
+pub routings_law : (names : KnownNames) (demands : List Demand) → AreLinksApart names.links → AreApart demands → Lawful (routings_at names demands) (routings_items names.links names.listed demands) (AreRoutingsInForm names.links names.listed demands) AnyText
 unfolding routings_at
-routings_law links listed demands apart differ = law_made (routings_at links listed demands) (λ (q : Unit {0} × List Routing). q.1) _ _ (routings_items links listed demands) (AreRoutingsInForm links listed demands)
-    (λ q h. record { long = length_is (length listed + 1) Limit q.1 h.1.0; each = (rooms_few (length listed + 1) (IsRoutingInForm links demands) q.1 h.1.1).1 })
-    (λ q h. ap enclosed (numbered_items (λ k r. routing_items links listed demands (k, r)) (routing_items links listed demands) 0 (λ k r. ap (λ (i : ℕ). routing_items links listed demands (i, r)) (omega arith)) 0 0 q.1 (omega arith)))
-    (λ rs h. record { parts = (tt, rs); right = (tt, (is_length (length listed + 1) Limit rs h.long, few_rooms (length listed + 1) (IsRoutingInForm links demands) rs (omega (arith, h.long)) h.each)); gives = refl })
+routings_law names demands apart differ = law_made (routings_at names demands) (λ (q : Unit {0} × List Routing). q.1) _ _ (routings_items names.links names.listed demands) (AreRoutingsInForm names.links names.listed demands)
+    (λ q h. record { long = length_is (length names.listed + 1) Limit q.1 h.1.0; each = (rooms_few (length names.listed + 1) (IsRoutingInForm names.links demands) q.1 h.1.1).1 })
+    (λ q h. ap enclosed (numbered_items (λ k r. routing_items names.links names.listed demands (k, r)) (routing_items names.links names.listed demands) 0 (λ k r. ap (λ (i : ℕ). routing_items names.links names.listed demands (i, r)) (omega arith)) 0 0 q.1 (omega arith)))
+    (λ rs h. record { parts = (tt, rs); right = (tt, (is_length (length names.listed + 1) Limit rs h.long, few_rooms (length names.listed + 1) (IsRoutingInForm names.links demands) rs (omega (arith, h.long)) h.each)); gives = refl })
     (made_then _ _ _ _ _ _ _ _ opening_law (λ x h.
-    made_law _ _ _ (lawful_placed (λ k r. routing_items links listed demands (k, r)) (λ sofar r. (has_room (length listed + 1) sofar ≡ true) × IsRoutingInForm links demands r) (of_length (length listed + 1) Limit) (routing_at links listed demands) (λ k r. tt) (routing_law links listed demands apart differ))))
+    made_law _ _ _ (lawful_placed (λ k r. routing_items names.links names.listed demands (k, r)) (λ sofar r. (has_room (length names.listed + 1) sofar ≡ true) × IsRoutingInForm names.links demands r) (of_length (length names.listed + 1) Limit) (routing_at names demands) (λ k r. tt) (routing_law names demands apart differ))))

@@ -4,13 +4,13 @@ use Rattle.net_core.specs.declared.demand.Demand.{Demand}
 use Rattle.net_core.specs.declared.ids.NodeId.{NodeId}
 use Rattle.net_core.specs.declared.network.Link.{Link}
 use Rattle.net_core.specs.declared.plan.CutLine.{CutLine}
-use Rattle.net_core.specs.declared.states.Listed.{Listed}
 use Rattle.plan_terms.specs.Capacities.{modules_capacity}
 use Rattle.plan_types.specs.declared.certificate.CertLine.{CertLine}
 use Rattle.plan_types.specs.declared.certificate.Certificate.{Certificate}
 use Rattle.plan_types.specs.declared.certificate.Spot.TheVariants.{Pool, Local}
 use Rattle.text_kit.specs.Reading.{Reading, ◌>>=◌, give, list_at, no_fault, of_length, Parenthesis, word_at}
 use Rattle.plan_report.specs.Forms.{line_lengths, line_state}
+use Rattle.report_words.specs.KnownNames.{KnownNames}
 use Rattle.report_words.specs.declared.fault.ReportKind.{ReportKind}
 use Rattle.report_words.specs.declared.fault.ReportKind.TheVariants.{Token, Ended, Limit}
 use Rattle.report_parts.specs.declared.placed.Placed.{Placed}
@@ -80,33 +80,33 @@ pool_spot_at pool = do
   i ← number_at 0 (length pool)
   give (of_line pool i)
 
-unfoldable pub local_spot_at : List Link → List Listed → Reading ReportKind Placed
-local_spot_at links listed = do
-  state ← number_at 0 (length listed + 1)
-  lengths ← numbers_at (length links) (2 ^ 32)
+unfoldable pub local_spot_at : KnownNames → Reading ReportKind Placed
+local_spot_at names = do
+  state ← number_at 0 (length names.listed + 1)
+  lengths ← numbers_at (length names.links) (2 ^ 32)
   give (record { spot = Local; state = record { 0 = state }; lengths = lengths })
 
-abbrev pub spot_branches : List Link → List Listed → List CutLine → Branches Placed
-spot_branches links listed pool = (codes "pool", pool_spot_at pool) ∷ (codes "local", local_spot_at links listed) ∷ []
+abbrev pub spot_branches : KnownNames → List CutLine → Branches Placed
+spot_branches names pool = (codes "pool", pool_spot_at pool) ∷ (codes "local", local_spot_at names) ∷ []
 
-abbrev pub spot_at : List Link → List Listed → List CutLine → Reading ReportKind Placed
-spot_at links listed pool = branch_at (spot_branches links listed pool)
+abbrev pub spot_at : KnownNames → List CutLine → Reading ReportKind Placed
+spot_at names pool = branch_at (spot_branches names pool)
 
 -- a line after earlier ones
-unfoldable pub certificate_line_at : List Link → List Listed → List CutLine → List CertLine → Reading ReportKind CertLine
-certificate_line_at links listed pool sofar = do
+unfoldable pub certificate_line_at : KnownNames → List CutLine → List CertLine → Reading ReportKind CertLine
+certificate_line_at names pool sofar = do
   _ ← opening_within (has_room 256 sofar)
   num ← number_at 0 (2 ^ 62)
-  cut ← spot_at links listed pool
+  cut ← spot_at names pool
   _ ← keyword_at (codes "right")
   right ← number_at 0 (2 ^ 84)
   _ ← closing_at
   give (record { num = num; spot = cut.spot; cut = record { state = cut.state; lengths = cut.lengths; right = right } })
 
-unfoldable pub certificate_at : List Link → List Listed → List CutLine → Reading ReportKind Certificate
-certificate_at links listed pool = do
+unfoldable pub certificate_at : KnownNames → List CutLine → Reading ReportKind Certificate
+certificate_at names pool = do
   _ ← keyword_at (codes "CERTIFICATE")
   _ ← opening_at
   den ← number_at 1 (2 ^ 72)
-  lines ← list_at Parenthesis no_fault (certificate_line_at links listed pool) []
+  lines ← list_at Parenthesis no_fault (certificate_line_at names pool) []
   give (record { den = den; lines = lines })

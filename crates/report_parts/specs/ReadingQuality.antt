@@ -11,12 +11,12 @@ use Rattle.net_core.specs.declared.columns.WideKind.TheVariants as wide
 use Rattle.net_core.specs.declared.demand.Demand.{Demand}
 use Rattle.net_core.specs.declared.network.Link.{Link}
 use Rattle.net_core.specs.declared.plan.Caps.{Caps}
-use Rattle.net_core.specs.declared.states.Listed.{Listed}
 use Rattle.plan_types.specs.declared.quality.Cause.TheVariants.{Wide, Cuts}
 use Rattle.plan_types.specs.declared.quality.Fractional.{Fractional}
 use Rattle.plan_types.specs.declared.quality.Quality.{Quality}
 use Rattle.plan_types.specs.declared.quality.Quality.TheVariants.{Tight, Loose}
 use Rattle.text_kit.specs.Reading.{Reading, ◌>>=◌, give, list_at, of_length, Parenthesis}
+use Rattle.report_words.specs.KnownNames.{KnownNames}
 use Rattle.report_words.specs.declared.fault.ReportKind.{ReportKind}
 use Rattle.report_words.specs.declared.fault.ReportKind.TheVariants.{Limit}
 use Rattle.report_words.specs.ReportWords.{demand_at, has_room, link_at, number_at, opening_at}
@@ -52,17 +52,17 @@ price_at links = do
   e ← link_at links
   give (master.LinkSlack e)
 
-unfoldable pub metric_at : List Link → List Listed → Reading ReportKind MasterColumn
-metric_at links listed = do
-  state ← number_at 0 (length listed + 1)
-  lengths ← numbers_at (length links) (2 ^ 32)
+unfoldable pub metric_at : KnownNames → Reading ReportKind MasterColumn
+metric_at names = do
+  state ← number_at 0 (length names.listed + 1)
+  lengths ← numbers_at (length names.links) (2 ^ 32)
   give (master.Metric (record { 0 = state }) lengths)
 
-abbrev pub master_column_branches : List Link → List Listed → Branches MasterColumn
-master_column_branches links listed = (codes "link", price_at links) ∷ (codes "cut", metric_at links listed) ∷ []
+abbrev pub master_column_branches : KnownNames → Branches MasterColumn
+master_column_branches names = (codes "link", price_at names.links) ∷ (codes "cut", metric_at names) ∷ []
 
-abbrev pub master_column_at : List Link → List Listed → Bool → Reading ReportKind MasterColumn
-master_column_at links listed room = branch_within room (master_column_branches links listed)
+abbrev pub master_column_at : KnownNames → Bool → Reading ReportKind MasterColumn
+master_column_at names room = branch_within room (master_column_branches names)
 
 -- a basis: as many columns as rows
 unfoldable pub basis_at : {C : Type 0} → (Bool → Reading ReportKind C) → ℕ → Reading ReportKind (List C)
@@ -119,54 +119,54 @@ caps_at links = do
   nums ← numbers_at (length links) (2 ^ 126)
   give (record { scale = scale; nums = nums })
 
-unfoldable pub route_at : List Link → List Listed → List Demand → Reading ReportKind Evidence
-route_at links listed demands = do
-  state ← number_at 0 (length listed + 1)
-  caps ← caps_at links
-  basis ← basis_at (route_column_at links demands) (length links + length demands)
-  kind ← route_wide_at (route_column_at links demands) links (length links + length demands)
+unfoldable pub route_at : KnownNames → List Demand → Reading ReportKind Evidence
+route_at names demands = do
+  state ← number_at 0 (length names.listed + 1)
+  caps ← caps_at names.links
+  basis ← basis_at (route_column_at names.links demands) (length names.links + length demands)
+  kind ← route_wide_at (route_column_at names.links demands) names.links (length names.links + length demands)
   give (Route (record { 0 = state }) caps basis kind)
 
-unfoldable pub master_at : List Link → List Listed → Reading ReportKind Evidence
-master_at links listed = do
-  basis ← basis_at (master_column_at links listed) (length links)
-  kind ← master_wide_at (master_column_at links listed) (length links)
+unfoldable pub master_at : KnownNames → Reading ReportKind Evidence
+master_at names = do
+  basis ← basis_at (master_column_at names) (length names.links)
+  kind ← master_wide_at (master_column_at names) (length names.links)
   give (Master basis kind)
 
-abbrev pub evidence_branches : List Link → List Listed → List Demand → Branches Evidence
-evidence_branches links listed demands = (codes "route", route_at links listed demands) ∷ (codes "master", master_at links listed) ∷ []
+abbrev pub evidence_branches : KnownNames → List Demand → Branches Evidence
+evidence_branches names demands = (codes "route", route_at names demands) ∷ (codes "master", master_at names) ∷ []
 
-abbrev pub evidence_at : List Link → List Listed → List Demand → Reading ReportKind Evidence
-evidence_at links listed demands = branch_at (evidence_branches links listed demands)
+abbrev pub evidence_at : KnownNames → List Demand → Reading ReportKind Evidence
+evidence_at names demands = branch_at (evidence_branches names demands)
 
 -- ---- quality
 
 -- a share and the routings within it
-unfoldable pub fractional_at : List Link → List Listed → List Demand → Reading ReportKind Fractional
-fractional_at links listed demands = do
+unfoldable pub fractional_at : KnownNames → List Demand → Reading ReportKind Fractional
+fractional_at names demands = do
   scale ← number_at 1 (2 ^ 62)
-  units ← numbers_at (length links) (2 ^ 62)
-  routings ← routings_at links listed demands
+  units ← numbers_at (length names.links) (2 ^ 62)
+  routings ← routings_at names demands
   give (record { share = record { scale = scale; units = units }; routings = routings })
 
-unfoldable pub tight_at : List Link → List Listed → List Demand → Reading ReportKind Quality
-tight_at links listed demands = do
-  f ← fractional_at links listed demands
+unfoldable pub tight_at : KnownNames → List Demand → Reading ReportKind Quality
+tight_at names demands = do
+  f ← fractional_at names demands
   give (Tight f)
 
-unfoldable pub too_wide_at : List Link → List Listed → List Demand → Reading ReportKind Quality
-too_wide_at links listed demands = do
-  evidence ← evidence_at links listed demands
+unfoldable pub too_wide_at : KnownNames → List Demand → Reading ReportKind Quality
+too_wide_at names demands = do
+  evidence ← evidence_at names demands
   give (Loose (Wide evidence))
 
-abbrev pub loose_branches : List Link → List Listed → List Demand → Branches Quality
-loose_branches links listed demands = (codes "cuts", give (Loose Cuts)) ∷ (codes "wide", too_wide_at links listed demands) ∷ []
+abbrev pub loose_branches : KnownNames → List Demand → Branches Quality
+loose_branches names demands = (codes "cuts", give (Loose Cuts)) ∷ (codes "wide", too_wide_at names demands) ∷ []
 
-abbrev pub loose_at : List Link → List Listed → List Demand → Reading ReportKind Quality
-loose_at links listed demands = branch_at (loose_branches links listed demands)
+abbrev pub loose_at : KnownNames → List Demand → Reading ReportKind Quality
+loose_at names demands = branch_at (loose_branches names demands)
 
-abbrev pub quality_branches : List Link → List Listed → List Demand → Branches Quality
-quality_branches links listed demands = (codes "tight", tight_at links listed demands) ∷ (codes "loose", loose_at links listed demands) ∷ []
+abbrev pub quality_branches : KnownNames → List Demand → Branches Quality
+quality_branches names demands = (codes "tight", tight_at names demands) ∷ (codes "loose", loose_at names demands) ∷ []
 
-abbrev pub quality_at : List Link → List Listed → List Demand → Reading ReportKind Quality
-quality_at links listed demands = branch_at (quality_branches links listed demands)
+abbrev pub quality_at : KnownNames → List Demand → Reading ReportKind Quality
+quality_at names demands = branch_at (quality_branches names demands)

@@ -5,9 +5,9 @@ use Rattle.net_core.specs.declared.ids.LinkId.{LinkId}
 use Rattle.net_core.specs.declared.network.Link.{Link}
 use Rattle.net_core.specs.declared.plan.Flow.{Flow}
 use Rattle.net_core.specs.declared.plan.Routing.{Routing}
-use Rattle.net_core.specs.declared.states.Listed.{Listed}
 use Rattle.text_kit.specs.Reading.{Reading, ◌>>=◌, give, list_at, no_fault, not_empty, of_length, Parenthesis, word_at}
 use Rattle.plan_report.specs.Names.{state_name}
+use Rattle.report_words.specs.KnownNames.{KnownNames}
 use Rattle.report_words.specs.declared.fault.ReportKind.{ReportKind}
 use Rattle.report_words.specs.declared.fault.ReportKind.TheVariants.{Token, Ended, Limit}
 use Rattle.report_words.specs.ReportWords.{demand_of, has_room, keyword_within, link_at, number_at, opening_at, this_name_at, this_number_at, where_room}
@@ -25,15 +25,15 @@ flow_at links demands sofar = do
   give (record { demand = demand; path = path; num = num })
 
 -- the routing of a state, after those of the states before it
-unfoldable pub routing_at : List Link → List Listed → List Demand → List Routing → Reading ReportKind Routing
-routing_at links listed demands sofar = do
-  _ ← keyword_within (has_room (length listed + 1) sofar) (codes "state")
+unfoldable pub routing_at : KnownNames → List Demand → List Routing → Reading ReportKind Routing
+routing_at names demands sofar = do
+  _ ← keyword_within (has_room (length names.listed + 1) sofar) (codes "state")
   _ ← this_number_at (length sofar)
-  _ ← this_name_at (state_name listed (length sofar))
+  _ ← this_name_at (state_name names.listed (length sofar))
   den ← number_at 1 (2 ^ 62)
   _ ← opening_at
-  flows ← list_at Parenthesis no_fault (flow_at links demands) []
+  flows ← list_at Parenthesis no_fault (flow_at names.links demands) []
   give (record { den = den; flows = flows })
 
-unfoldable pub routings_at : List Link → List Listed → List Demand → Reading ReportKind (List Routing)
-routings_at links listed demands = opening_at >>= λ _. list_at Parenthesis (of_length (length listed + 1) Limit) (routing_at links listed demands) []
+unfoldable pub routings_at : KnownNames → List Demand → Reading ReportKind (List Routing)
+routings_at names demands = opening_at >>= λ _. list_at Parenthesis (of_length (length names.listed + 1) Limit) (routing_at names demands) []

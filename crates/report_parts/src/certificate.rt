@@ -2,6 +2,7 @@ ghost use Rattle.std.specs.Prelude.{◌≡◌, ◌<◌, ◌^◌, [], length, IfO
 ghost use Rattle.snd_tokens.specs.Lexemes.{left};
 ghost use Rattle.text_kit.specs.Answers.{ReadsAs};
 ghost use Rattle.text_kit.specs.Reading.{list_at, no_fault, Parenthesis};
+ghost use Rattle.report_words.specs.KnownNames.{known_in};
 ghost use Rattle.report_parts.specs.ReadingParts.{certificate_at, certificate_line_at, local_spot_at, of_line, pool_spot_at, spot_at};
 
 use crate::placed::Placed;
@@ -59,7 +60,7 @@ fn pool_spot(pool: &[CutLine], text: &mut Cursor) -> Result<Placed, ReportRefusa
 /// Takes a cut that isn't in the pool.
 #[tactic(auto, unfolding(crate::specs::ReadingParts::local_spot_at))]
 fn local_spot(alloc: Global, context: &Context, text: &mut Cursor) -> Result<Placed, ReportRefusal>
-    ensures { ReadsAs (λ p. p) result (left text.new) (local_spot_at context.now.net.now.links context.now.states.now.listed (left text.old)) }
+    ensures { ReadsAs (λ p. p) result (left text.new) (local_spot_at (known_in context.now) (left text.old)) }
 {
     let state = small(0, u128::from(context.states.count()), text)?;
     let lengths = lengths(alloc, context.net.links().len(), text)?;
@@ -78,7 +79,7 @@ fn spot(
     text: &mut Cursor,
 ) -> Result<Placed, ReportRefusal>
     requires { length pool.now < 2 ^ 32 }
-    ensures { ReadsAs (λ p. p) result (left text.new) (spot_at context.now.net.now.links context.now.states.now.listed pool.now (left text.old)) }
+    ensures { ReadsAs (λ p. p) result (left text.new) (spot_at (known_in context.now) pool.now (left text.old)) }
 {
     let (at, word) = word(ReportKind::Token, ReportKind::Ended, text)?;
     if word == POOL {
@@ -100,7 +101,7 @@ fn line(
     text: &mut Cursor,
 ) -> Result<CertLine, ReportRefusal>
     requires { length pool.now < 2 ^ 32 }
-    ensures { ReadsAs (λ l. l) result (left text.new) (certificate_line_at context.now.net.now.links context.now.states.now.listed pool.now sofar.now (left text.old)) }
+    ensures { ReadsAs (λ l. l) result (left text.new) (certificate_line_at (known_in context.now) pool.now sofar.now (left text.old)) }
 {
     opening_within(sofar.len() < MAX_LINES, text)?;
     let num = medium(0, NUM_LIMIT, text)?;
@@ -129,11 +130,12 @@ struct CertLineList<'a> {
 
 impl<'a> Element for CertLineList<'a> {
     ghost use Rattle.text_kit.specs.Reading.{no_fault};
+    ghost use Rattle.report_words.specs.KnownNames.{known_in};
     ghost use Rattle.report_parts.specs.ReadingParts.{certificate_line_at};
 
     type Item = CertLine;
 
-    ghost reading = { λ l. certificate_line_at l.context.now.net.now.links l.context.now.states.now.listed l.pool.now };
+    ghost reading = { λ l. certificate_line_at (known_in l.context.now) l.pool.now };
 
     ghost fault = { λ _. no_fault };
 
@@ -159,7 +161,7 @@ fn lines(
     text: &mut Cursor,
 ) -> Result<List<CertLine>, ReportRefusal>
     requires { length pool.now < 2 ^ 32 }
-    ensures { ReadsAs (λ l. l) result (left text.new) (list_at Parenthesis no_fault (certificate_line_at context.now.net.now.links context.now.states.now.listed pool.now) [] (left text.old)) }
+    ensures { ReadsAs (λ l. l) result (left text.new) (list_at Parenthesis no_fault (certificate_line_at (known_in context.now) pool.now) [] (left text.old)) }
 {
     list(alloc, &CertLineList { context, pool }, text)
 }
@@ -177,7 +179,7 @@ pub fn certificate(
     text: &mut Cursor,
 ) -> Result<Certificate, ReportRefusal>
     requires { length pool.now < 2 ^ 32 }
-    ensures { ReadsAs (λ c. c) result (left text.new) (certificate_at context.now.net.now.links context.now.states.now.listed pool.now (left text.old)) }
+    ensures { ReadsAs (λ c. c) result (left text.new) (certificate_at (known_in context.now) pool.now (left text.old)) }
 {
     keyword(CERTIFICATE, text)?;
     opening(text)?;

@@ -1,6 +1,7 @@
 ghost use Rattle.std.specs.Prelude.{◌≡◌, [], length};
 ghost use Rattle.snd_tokens.specs.Lexemes.{left};
 ghost use Rattle.text_kit.specs.Answers.{ReadsAs};
+ghost use Rattle.report_words.specs.KnownNames.{known_in};
 ghost use Rattle.report_parts.specs.ReadingQuality.{basis_at, carry_at, left_at, master_column_at, metric_at, price_at, route_column_at, slack_at};
 
 use crate::demands::PlanDemands;
@@ -164,7 +165,7 @@ fn metric(
     context: &Context,
     text: &mut Cursor,
 ) -> Result<MasterColumn, ReportRefusal>
-    ensures { ReadsAs (λ c. c) result (left text.new) (metric_at context.now.net.now.links context.now.states.now.listed (left text.old)) }
+    ensures { ReadsAs (λ c. c) result (left text.new) (metric_at (known_in context.now) (left text.old)) }
 {
     let state = small(0, u128::from(context.states.count()), text)?;
     let lengths = lengths(alloc, context.net.links().len(), text)?;
@@ -180,7 +181,7 @@ pub fn master_column(
     room: bool,
     text: &mut Cursor,
 ) -> Result<MasterColumn, ReportRefusal>
-    ensures { ReadsAs (λ c. c) result (left text.new) (master_column_at context.now.net.now.links context.now.states.now.listed room (left text.old)) }
+    ensures { ReadsAs (λ c. c) result (left text.new) (master_column_at (known_in context.now) room (left text.old)) }
 {
     let (at, word) = word(ReportKind::Token, ReportKind::Ended, text)?;
     if word != LINK && word != CUT {
@@ -204,13 +205,14 @@ struct MasterBasis<'a> {
 
 impl<'a> Element for MasterBasis<'a> {
     ghost use Rattle.text_kit.specs.Reading.{of_length};
+    ghost use Rattle.report_words.specs.KnownNames.{known_in};
     ghost use Rattle.report_words.specs.ReportWords.{has_room};
     ghost use Rattle.report_parts.specs.ReadingQuality.{master_column_at};
     ghost use Rattle.report_words.specs.declared.fault.ReportKind.TheVariants.{Limit};
 
     type Item = MasterColumn;
 
-    ghost reading = { λ b sofar. master_column_at b.context.now.net.now.links b.context.now.states.now.listed (has_room b.rows sofar) };
+    ghost reading = { λ b sofar. master_column_at (known_in b.context.now) (has_room b.rows sofar) };
 
     ghost fault = { λ b. of_length b.rows Limit };
 
@@ -237,7 +239,7 @@ pub fn master_basis(
     rows: usize,
     text: &mut Cursor,
 ) -> Result<List<MasterColumn>, ReportRefusal>
-    ensures { ReadsAs (λ l. l) result (left text.new) (basis_at (master_column_at context.now.net.now.links context.now.states.now.listed) rows (left text.old)) }
+    ensures { ReadsAs (λ l. l) result (left text.new) (basis_at (master_column_at (known_in context.now)) rows (left text.old)) }
 {
     opening(text)?;
     list(alloc, &MasterBasis { context, rows }, text)

@@ -1,6 +1,7 @@
 ghost use Rattle.std.specs.Prelude.{◌≡◌, ◌+◌, ◌<◌, ◌^◌, length};
 ghost use Rattle.snd_tokens.specs.Lexemes.{left};
 ghost use Rattle.text_kit.specs.Answers.{ReadsAs};
+ghost use Rattle.report_words.specs.KnownNames.{known_in};
 ghost use Rattle.report_words.specs.ReportWords.{number_at};
 ghost use Rattle.report_parts.specs.ReadingQuality.{caps_at, evidence_at, master_at, master_column_at, master_wide_at, route_at, route_column_at, route_wide_at, wide_entry_at, wide_length_at, wide_number_at, wide_row_at, wide_sum_at};
 
@@ -151,7 +152,7 @@ fn master_number(
     context: &Context,
     text: &mut Cursor,
 ) -> Result<WideKind<MasterColumn>, ReportRefusal>
-    ensures { ReadsAs (λ k. k) result (left text.new) (wide_number_at (master_column_at context.now.net.now.links context.now.states.now.listed) (left text.old)) }
+    ensures { ReadsAs (λ k. k) result (left text.new) (wide_number_at (master_column_at (known_in context.now)) (left text.old)) }
 {
     let column = master_column(alloc, context, true, text)?;
     Ok(WideKind::Number(column))
@@ -166,7 +167,7 @@ fn master_entry(
     text: &mut Cursor,
 ) -> Result<WideKind<MasterColumn>, ReportRefusal>
     requires { rows + 1 < 2 ^ 32 }
-    ensures { ReadsAs (λ k. k) result (left text.new) (wide_entry_at (master_column_at context.now.net.now.links context.now.states.now.listed) rows (left text.old)) }
+    ensures { ReadsAs (λ k. k) result (left text.new) (wide_entry_at (master_column_at (known_in context.now)) rows (left text.old)) }
 {
     let row = row(rows, text)?;
     let column = master_column(alloc, context, true, text)?;
@@ -181,7 +182,7 @@ fn master_wide(
     text: &mut Cursor,
 ) -> Result<WideKind<MasterColumn>, ReportRefusal>
     requires { rows + 1 < 2 ^ 32 }
-    ensures { ReadsAs (λ k. k) result (left text.new) (master_wide_at (master_column_at context.now.net.now.links context.now.states.now.listed) rows (left text.old)) }
+    ensures { ReadsAs (λ k. k) result (left text.new) (master_wide_at (master_column_at (known_in context.now)) rows (left text.old)) }
 {
     let (at, word) = word(ReportKind::Token, ReportKind::Ended, text)?;
     if word == NUMBER {
@@ -223,7 +224,7 @@ fn route(
     demands: &PlanDemands,
     text: &mut Cursor,
 ) -> Result<Evidence, ReportRefusal>
-    ensures { ReadsAs (λ e. e) result (left text.new) (route_at context.now.net.now.links context.now.states.now.listed demands.now.list (left text.old)) }
+    ensures { ReadsAs (λ e. e) result (left text.new) (route_at (known_in context.now) demands.now.list (left text.old)) }
 {
     let rows = context.net.links().len() + demands.list.len();
     if rows >= MAX_ROWS {
@@ -244,7 +245,7 @@ fn route(
 /// Takes evidence on a certificate.
 #[tactic(auto, unfolding(crate::specs::ReadingQuality::master_at))]
 fn master(alloc: Global, context: &Context, text: &mut Cursor) -> Result<Evidence, ReportRefusal>
-    ensures { ReadsAs (λ e. e) result (left text.new) (master_at context.now.net.now.links context.now.states.now.listed (left text.old)) }
+    ensures { ReadsAs (λ e. e) result (left text.new) (master_at (known_in context.now) (left text.old)) }
 {
     let rows = context.net.links().len();
     let basis = master_basis(alloc, context, rows, text)?;
@@ -262,7 +263,7 @@ pub fn evidence(
     demands: &PlanDemands,
     text: &mut Cursor,
 ) -> Result<Evidence, ReportRefusal>
-    ensures { ReadsAs (λ e. e) result (left text.new) (evidence_at context.now.net.now.links context.now.states.now.listed demands.now.list (left text.old)) }
+    ensures { ReadsAs (λ e. e) result (left text.new) (evidence_at (known_in context.now) demands.now.list (left text.old)) }
 {
     let (at, word) = word(ReportKind::Token, ReportKind::Ended, text)?;
     if word == ROUTE {

@@ -1,6 +1,7 @@
 ghost use Rattle.std.specs.Prelude.{◌≡◌};
 ghost use Rattle.snd_tokens.specs.Lexemes.{left};
 ghost use Rattle.text_kit.specs.Answers.{ReadsAs};
+ghost use Rattle.report_words.specs.KnownNames.{known_in};
 ghost use Rattle.report_parts.specs.ReadingQuality.{fractional_at, loose_at, quality_at, tight_at, too_wide_at};
 
 use crate::demands::PlanDemands;
@@ -34,7 +35,7 @@ fn fractional(
     demands: &PlanDemands,
     text: &mut Cursor,
 ) -> Result<Fractional, ReportRefusal>
-    ensures { ReadsAs (λ f. f) result (left text.new) (fractional_at context.now.net.now.links context.now.states.now.listed demands.now.list (left text.old)) }
+    ensures { ReadsAs (λ f. f) result (left text.new) (fractional_at (known_in context.now) demands.now.list (left text.old)) }
 {
     let scale = medium(1, SCALE_LIMIT, text)?;
     let units = units(alloc, context.net.links().len(), text)?;
@@ -53,7 +54,7 @@ fn tight(
     demands: &PlanDemands,
     text: &mut Cursor,
 ) -> Result<Quality, ReportRefusal>
-    ensures { ReadsAs (λ q. q) result (left text.new) (tight_at context.now.net.now.links context.now.states.now.listed demands.now.list (left text.old)) }
+    ensures { ReadsAs (λ q. q) result (left text.new) (tight_at (known_in context.now) demands.now.list (left text.old)) }
 {
     let fractional = fractional(alloc, context, demands, text)?;
     Ok(Quality::Tight(fractional))
@@ -67,7 +68,7 @@ fn too_wide(
     demands: &PlanDemands,
     text: &mut Cursor,
 ) -> Result<Quality, ReportRefusal>
-    ensures { ReadsAs (λ q. q) result (left text.new) (too_wide_at context.now.net.now.links context.now.states.now.listed demands.now.list (left text.old)) }
+    ensures { ReadsAs (λ q. q) result (left text.new) (too_wide_at (known_in context.now) demands.now.list (left text.old)) }
 {
     let evidence = evidence(alloc, context, demands, text)?;
     Ok(Quality::Loose(Cause::Wide(evidence)))
@@ -80,7 +81,7 @@ fn loose(
     demands: &PlanDemands,
     text: &mut Cursor,
 ) -> Result<Quality, ReportRefusal>
-    ensures { ReadsAs (λ q. q) result (left text.new) (loose_at context.now.net.now.links context.now.states.now.listed demands.now.list (left text.old)) }
+    ensures { ReadsAs (λ q. q) result (left text.new) (loose_at (known_in context.now) demands.now.list (left text.old)) }
 {
     let (at, word) = word(ReportKind::Token, ReportKind::Ended, text)?;
     if word == CUTS {
@@ -102,7 +103,7 @@ pub fn quality(
     demands: &PlanDemands,
     text: &mut Cursor,
 ) -> Result<Quality, ReportRefusal>
-    ensures { ReadsAs (λ q. q) result (left text.new) (quality_at context.now.net.now.links context.now.states.now.listed demands.now.list (left text.old)) }
+    ensures { ReadsAs (λ q. q) result (left text.new) (quality_at (known_in context.now) demands.now.list (left text.old)) }
 {
     let (at, word) = word(ReportKind::Token, ReportKind::Ended, text)?;
     if word == TIGHT {

@@ -1,6 +1,7 @@
 ghost use Rattle.std.specs.Prelude.{◌≡◌, ◌≤◌, [], length};
 ghost use Rattle.snd_tokens.specs.Lexemes.{left};
 ghost use Rattle.text_kit.specs.Answers.{ReadsAs};
+ghost use Rattle.report_words.specs.KnownNames.{known_in};
 ghost use Rattle.report_parts.specs.ReadingRoutings.{flow_at, path_at, routing_at, routings_at};
 ghost use Rattle.text_kit.specs.Reading.{list_at, no_fault, Parenthesis};
 ghost use Rattle.plan_report.specs.Names.{state_name};
@@ -153,7 +154,7 @@ fn routing(
     sofar: &[Routing],
     text: &mut Cursor,
 ) -> Result<Routing, ReportRefusal>
-    ensures { ReadsAs (λ r. r) result (left text.new) (routing_at context.now.net.now.links context.now.states.now.listed demands.now.list sofar.now (left text.old)) }
+    ensures { ReadsAs (λ r. r) result (left text.new) (routing_at (known_in context.now) demands.now.list sofar.now (left text.old)) }
 {
     keyword_within(sofar.len() < context.states.count() as usize, STATE, text)?;
     this(sofar.len() as u64, text)?;
@@ -174,12 +175,13 @@ struct RoutingList<'a> {
 impl<'a> Element for RoutingList<'a> {
     ghost use Rattle.std.specs.Prelude.{◌+◌, length};
     ghost use Rattle.text_kit.specs.Reading.{of_length};
+    ghost use Rattle.report_words.specs.KnownNames.{known_in};
     ghost use Rattle.report_parts.specs.ReadingRoutings.{routing_at};
     ghost use Rattle.report_words.specs.declared.fault.ReportKind.TheVariants.{Limit};
 
     type Item = Routing;
 
-    ghost reading = { λ l. routing_at l.context.now.net.now.links l.context.now.states.now.listed l.demands.now.list };
+    ghost reading = { λ l. routing_at (known_in l.context.now) l.demands.now.list };
 
     ghost fault = { λ l. of_length (length l.context.now.states.now.listed + 1) Limit };
 
@@ -209,7 +211,7 @@ pub fn routings(
     demands: &PlanDemands,
     text: &mut Cursor,
 ) -> Result<List<Routing>, ReportRefusal>
-    ensures { ReadsAs (λ l. l) result (left text.new) (routings_at context.now.net.now.links context.now.states.now.listed demands.now.list (left text.old)) }
+    ensures { ReadsAs (λ l. l) result (left text.new) (routings_at (known_in context.now) demands.now.list (left text.old)) }
 {
     opening(text)?;
     list(alloc, &RoutingList { context, demands }, text)

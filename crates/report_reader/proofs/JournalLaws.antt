@@ -6,10 +6,8 @@ use Rattle.net_core.specs.declared.journal.Entry.{Entry}
 use Rattle.net_core.specs.declared.journal.Entry.TheVariants.{Edited, Pooled}
 use Rattle.net_core.specs.declared.journal.Reply.{Reply}
 use Rattle.net_core.specs.declared.journal.Reply.TheVariants.{Accepted, UnknownDemand, KnownDemand, UnknownNode, SelfDemand, TooMany, TooMuch}
-use Rattle.net_core.specs.declared.network.Link.{Link}
 use Rattle.net_core.specs.declared.network.Notes.{Notes}
 use Rattle.net_core.specs.declared.plan.CutLine.{CutLine}
-use Rattle.net_core.specs.declared.states.Listed.{Listed}
 use Rattle.text_kit.specs.Items.{Item, Verbatim, Closing}
 use Rattle.text_kit.specs.Reading.{no_fault}
 use Rattle.text_kit.proofs.Beginnings.{AnyText}
@@ -18,6 +16,7 @@ use Rattle.text_kit.proofs.Spelled.{Lawful}
 use Rattle.plan_report.specs.Forms.{IsCutInForm, IsEditedInForm, IsReplyInForm}
 use Rattle.plan_report.specs.Items.{entry_items, event_items, note_items, notes_items, numbered_from, pool_line_items, reply_items}
 use Rattle.text_kit.specs.Edits.{IsEditInForm, edit_items, ends_items}
+use Rattle.report_words.specs.KnownNames.{KnownNames}
 use Rattle.report_words.specs.declared.fault.ReportKind.TheVariants.{Token}
 use Rattle.report_words.specs.ReportWords.{closing_at, has_room}
 use Rattle.report_reader.specs.ReadingJournal.{edit_branches, event_branches, notes_branches, reply_branches, routing_note_branches, setup_note_branches, accepted_at, add_at, drop_at, edit_at, edited_at, entries_at, journal_entry_at, event_at, noted, notes_at, notes_end_at, pool_at, pool_line_at, pooled_at, reply_at, routing_note_at, set_at, setup_note_at, too_much_at, two_names_at}
@@ -212,9 +211,9 @@ entries_law = lawful_as entries_at _ (λ es. flat_map entry_items (numbered_from
 
 -- ---- the pool
 
-pool_line_law : (links : List Link) (listed : List Listed) (sofar : List CutLine) → Lawful (pool_line_at links listed sofar) (λ l. pool_line_items (length sofar, l)) (λ l. (has_room 4096 sofar ≡ true) × IsCutInForm links listed l) AnyText
+pool_line_law : (names : KnownNames) (sofar : List CutLine) → Lawful (pool_line_at names sofar) (λ l. pool_line_items (length sofar, l)) (λ l. (has_room 4096 sofar ≡ true) × IsCutInForm names.links names.listed l) AnyText
 unfolding pool_line_at
-pool_line_law links listed sofar = law_made (pool_line_at links listed sofar) _ _ _ (λ l. pool_line_items (length sofar, l)) (λ l. (has_room 4096 sofar ≡ true) × IsCutInForm links listed l)
+pool_line_law names sofar = law_made (pool_line_at names sofar) _ _ _ (λ l. pool_line_items (length sofar, l)) (λ l. (has_room 4096 sofar ≡ true) × IsCutInForm names.links names.listed l)
     (λ q h. (h.0, record { state = omega (arith, h.1.1.1.0.1); lengths = record { long = h.1.1.1.1.1.1.0.0; each = h.1.1.1.1.1.1.0.1 }; right = h.1.1.1.1.1.0.1 }))
     (λ q h. refl)
     (λ l h. record {
@@ -225,15 +224,15 @@ pool_line_law links listed sofar = law_made (pool_line_at links listed sofar) _ 
     (made_then _ _ _ _ _ _ _ _ (opening_within_law (has_room 4096 sofar)) (λ x h.
     made_then _ _ _ _ _ _ _ _ (this_number_law (length sofar)) (λ x h.
     made_then _ _ _ _ _ _ _ _ (keyword_law (codes "state")) (λ x h.
-    made_then _ _ _ _ _ _ _ _ (number_law 0 (length listed + 1)) (λ state h.
+    made_then _ _ _ _ _ _ _ _ (number_law 0 (length names.listed + 1)) (λ state h.
     made_then _ _ _ _ _ _ _ _ (keyword_law (codes "right")) (λ x h.
     made_then _ _ _ _ _ _ _ _ (number_law 0 (2 ^ 84)) (λ right h.
-    made_then _ _ _ _ _ _ _ _ (numbers_law (length links) (2 ^ 32)) (λ lengths h.
+    made_then _ _ _ _ _ _ _ _ (numbers_law (length names.links) (2 ^ 32)) (λ lengths h.
     made_last closing_at (λ (u : Unit {0}). record { state = record { 0 = state }; lengths = lengths; right = right }) _ _ closing_law))))))))
 
-pub pool_law : (links : List Link) (listed : List Listed) → Lawful (pool_at links listed) (λ ls. flat_map pool_line_items (numbered_from 0 ls) ++ Closing ∷ []) (λ ls. (length ls ≤ 4096) × All (IsCutInForm links listed) ls) AnyText
-pool_law links listed = lawful_as (pool_at links listed) _ (λ ls. flat_map pool_line_items (numbered_from 0 ls) ++ Closing ∷ []) _ (λ ls. (length ls ≤ 4096) × All (IsCutInForm links listed) ls) AnyText
+pub pool_law : (names : KnownNames) → Lawful (pool_at names) (λ ls. flat_map pool_line_items (numbered_from 0 ls) ++ Closing ∷ []) (λ ls. (length ls ≤ 4096) × All (IsCutInForm names.links names.listed) ls) AnyText
+pool_law names = lawful_as (pool_at names) _ (λ ls. flat_map pool_line_items (numbered_from 0 ls) ++ Closing ∷ []) _ (λ ls. (length ls ≤ 4096) × All (IsCutInForm names.links names.listed) ls) AnyText
     (λ ls h. ap (λ (is : List Item). is ++ Closing ∷ []) (numbered_items (λ k l. pool_line_items (k, l)) pool_line_items 0 (λ k l. ap (λ (i : ℕ). pool_line_items (i, l)) (omega arith)) 0 0 ls (omega arith)))
-    (λ ls h. rooms_few 4096 (IsCutInForm links listed) ls h.1)
-    (λ ls h. (refl, few_rooms 4096 (IsCutInForm links listed) ls h.0 h.1))
-    (lawful_placed (λ k l. pool_line_items (k, l)) (λ sofar l. (has_room 4096 sofar ≡ true) × IsCutInForm links listed l) no_fault (pool_line_at links listed) (λ k l. tt) (pool_line_law links listed))
+    (λ ls h. rooms_few 4096 (IsCutInForm names.links names.listed) ls h.1)
+    (λ ls h. (refl, few_rooms 4096 (IsCutInForm names.links names.listed) ls h.0 h.1))
+    (lawful_placed (λ k l. pool_line_items (k, l)) (λ sofar l. (has_room 4096 sofar ≡ true) × IsCutInForm names.links names.listed l) no_fault (pool_line_at names) (λ k l. tt) (pool_line_law names))

@@ -1,9 +1,7 @@
 -- The readings of outcomes take exactly their texts.
 use Rattle.std.proofs.Common.{◌≡◌, ◌≢◌, inl, inr, ℕ, ◌+◌, ◌≤◌, Bool, true, List, [], ◌∷◌, ◌++◌, length, All, AllPairs, Err, refl, ap, ◌∙◌, arith}
 use Rattle.std.specs.Prelude.{codes, flat_map, slice_get}
-use Rattle.net_core.specs.declared.network.Link.{Link}
 use Rattle.net_core.specs.declared.plan.CutLine.{CutLine}
-use Rattle.net_core.specs.declared.states.Listed.{Listed}
 use Rattle.plan_types.specs.declared.plan.Plan.{Plan}
 use Rattle.plan_types.specs.declared.report.Outcome.{Outcome}
 use Rattle.plan_types.specs.declared.report.Outcome.TheVariants.{Planned, Unsurvivable}
@@ -13,6 +11,7 @@ use Rattle.text_kit.proofs.Spelled.{Lawful}
 use Rattle.plan_report.specs.Forms.{IsHeadInForm, IsOutcomeInForm}
 use Rattle.plan_report.specs.Items.{head_items, outcome_items, plan_items}
 use Rattle.plan_report.specs.Names.{state_name}
+use Rattle.report_words.specs.KnownNames.{KnownNames}
 use Rattle.report_words.specs.declared.fault.ReportKind.TheVariants.{Token}
 use Rattle.report_reader.specs.declared.parts.Head.{Head}
 use Rattle.report_words.specs.ReportWords.{closing_at, has_room}
@@ -60,31 +59,31 @@ head_law = law_made head_at _ _ _ items_of IsHead
     made_then _ _ _ _ _ _ _ _ (keyword_law (codes "position")) (λ x h.
     made_last _ (λ (position : ℕ). record { caller = caller; serial = serial; version = version; position = position }) _ _ (number_law 0 65537)))))))))
 
-module _ (nodes : List (List ℕ)) (links : List Link) (listed : List Listed) (pool : List CutLine) (nodes_apart : AllPairs (λ x y. x ≢ y) nodes) (apart : AreLinksApart links) (sound : (k : ℕ) → IsSound (slice_get links k)) (form : IsPoolInForm links listed pool) where
+module _ (names : KnownNames) (pool : List CutLine) (nodes_apart : AllPairs (λ x y. x ≢ y) names.nodes) (apart : AreLinksApart names.links) (sound : (k : ℕ) → IsSound (slice_get names.links k)) (form : IsPoolInForm names pool) where
   abbrev IsOutcome : Bool → Outcome → Type 0
-  IsOutcome room o = (room ≡ true) × IsOutcomeInForm nodes links listed pool o
+  IsOutcome room o = (room ≡ true) × IsOutcomeInForm names.nodes names.links names.listed pool o
 
   abbrev all_items : Outcome → List Item
-  all_items o = outcome_items nodes links listed o
+  all_items o = outcome_items names.nodes names.links names.listed o
 
   -- a plan's head tells its version and position
-  same_head : (head : Head) (p : Plan) → IsPlanOf nodes links listed pool head p → Verbatim (codes "PLAN") ∷ Opening ∷ (items_of head ++ (plan_items nodes links listed p ++ Closing ∷ [])) ≡ all_items (Planned head.caller head.serial p)
+  same_head : (head : Head) (p : Plan) → IsPlanOf names pool head p → Verbatim (codes "PLAN") ∷ Opening ∷ (items_of head ++ (plan_items names.nodes names.links names.listed p ++ Closing ∷ [])) ≡ all_items (Planned head.caller head.serial p)
   same_head head p h =
-      ap (λ (v : ℕ). Verbatim (codes "PLAN") ∷ Opening ∷ (head_items head.caller head.serial v head.position ++ (plan_items nodes links listed p ++ Closing ∷ []))) h.0.0
-      ∙ ap (λ (w : ℕ). Verbatim (codes "PLAN") ∷ Opening ∷ (head_items head.caller head.serial p.version w ++ (plan_items nodes links listed p ++ Closing ∷ []))) h.0.1
+      ap (λ (v : ℕ). Verbatim (codes "PLAN") ∷ Opening ∷ (head_items head.caller head.serial v head.position ++ (plan_items names.nodes names.links names.listed p ++ Closing ∷ []))) h.0.0
+      ∙ ap (λ (w : ℕ). Verbatim (codes "PLAN") ∷ Opening ∷ (head_items head.caller head.serial p.version w ++ (plan_items names.nodes names.links names.listed p ++ Closing ∷ []))) h.0.1
 
-  planned_form : (head : Head) (p : Plan) → IsHead head → IsPlanOf nodes links listed pool head p → IsOutcomeInForm nodes links listed pool (Planned head.caller head.serial p)
+  planned_form : (head : Head) (p : Plan) → IsHead head → IsPlanOf names pool head p → IsOutcomeInForm names.nodes names.links names.listed pool (Planned head.caller head.serial p)
   planned_form head p d h =
-      let f = plan_form nodes links listed pool head p d.most_version d.most_position h in
+      let f = plan_form names pool head p d.most_version d.most_position h in
       record {
         command = record { some_caller = d.some_caller; most_caller = d.most_caller; some_serial = d.some_serial; most_serial = d.most_serial; most_version = omega (arith, d.most_version, h.0.0); most_position = omega (arith, d.most_position, h.0.1) };
         plan = f.0;
         pooled = f.1;
       }
 
-  outcome_law : (room : Bool) → Lawful (branch_within room (outcome_branches nodes links listed pool)) all_items (IsOutcome room) AnyText
+  outcome_law : (room : Bool) → Lawful (branch_within room (outcome_branches names pool)) all_items (IsOutcome room) AnyText
   unfolding planned_at unsurvivable_at
-  outcome_law room = branches_law room (Err Token) (outcome_branches nodes links listed pool) all_items _ (IsOutcome room)
+  outcome_law room = branches_law room (Err Token) (outcome_branches names pool) all_items _ (IsOutcome room)
       (either_form room _ _ _ (IsOutcome room) (λ q m h. (m, planned_form q.1.0 q.1.1.0 h.1.0 h.1.1.0))
       (either_form room _ _ _ (IsOutcome room) (λ q m h. (m, record { command = h.1.0; state_listed = omega (arith, h.1.1.1.0.1); short = h.1.1.1.1.1.1.0 }))
       (λ o n. absurd n)))
@@ -93,7 +92,7 @@ module _ (nodes : List (List ℕ)) (links : List Link) (listed : List Listed) (p
         h.0,
         record {
           parts = (tt, (record { caller = caller; serial = serial; version = p.version; position = p.position }, (p, tt)));
-          right = (tt, (h.1.command, (form_plan nodes links listed pool (record { caller = caller; serial = serial; version = p.version; position = p.position }) p refl refl h.1.plan h.1.pooled, tt)));
+          right = (tt, (h.1.command, (form_plan names pool (record { caller = caller; serial = serial; version = p.version; position = p.position }) p refl refl h.1.plan h.1.pooled, tt)));
           gives = refl;
         },
       ))
@@ -105,21 +104,21 @@ module _ (nodes : List (List ℕ)) (links : List Link) (listed : List Listed) (p
           gives = refl;
         },
       ))))
-      (lawful_branch room (Err Token) (codes "PLAN") (planned_at nodes links listed pool) _ _ _ _ all_items _ refl (λ q h. same_head q.1.0 q.1.1.0 h.1.1.0)
+      (lawful_branch room (Err Token) (codes "PLAN") (planned_at names pool) _ _ _ _ all_items _ refl (λ q h. same_head q.1.0 q.1.1.0 h.1.1.0)
       (made_then _ _ _ _ _ _ _ _ opening_law (λ x h.
       made_then _ _ _ _ _ _ _ _ head_law (λ head h.
-      made_then _ _ _ _ _ _ _ _ (plan_law nodes links listed pool nodes_apart apart sound form head) (λ plan h.
+      made_then _ _ _ _ _ _ _ _ (plan_law names pool nodes_apart apart sound form head) (λ plan h.
       made_last closing_at (λ (u : Unit {0}). Planned head.caller head.serial plan) _ _ closing_law))))
-      (lawful_branch room (Err Token) (codes "UNSURVIVABLE") (unsurvivable_at listed) _ _ _ _ all_items _ refl (λ q h. refl)
+      (lawful_branch room (Err Token) (codes "UNSURVIVABLE") (unsurvivable_at names.listed) _ _ _ _ all_items _ refl (λ q h. refl)
       (made_then _ _ _ _ _ _ _ _ opening_law (λ x h.
       made_then _ _ _ _ _ _ _ _ head_law (λ head h.
       made_then _ _ _ _ _ _ _ _ (keyword_law (codes "state")) (λ x h.
-      made_then _ _ _ _ _ _ _ _ (number_law 0 (length listed + 1)) (λ state h.
-      made_then _ _ _ _ _ _ _ _ (this_name_law (state_name listed state)) (λ x h.
+      made_then _ _ _ _ _ _ _ _ (number_law 0 (length names.listed + 1)) (λ state h.
+      made_then _ _ _ _ _ _ _ _ (this_name_law (state_name names.listed state)) (λ x h.
       made_then _ _ _ _ _ _ _ _ (keyword_law (codes "demand")) (λ x h.
       made_then _ _ _ _ _ _ _ _ name_law (λ demand h.
       made_last closing_at (λ (u : Unit {0}). Unsurvivable head.caller head.serial head.version head.position (record { 0 = state }) demand) _ _ closing_law))))))))
       (lawful_no_branch room Token all_items)))
 
-  pub outcomes_law : Lawful (outcomes_at nodes links listed pool) (λ os. flat_map all_items os ++ Closing ∷ []) (λ os. (length os ≤ 64) × All (IsOutcomeInForm nodes links listed pool) os) AnyText
-  outcomes_law = few_law 64 (outcome_at nodes links listed pool) all_items (IsOutcomeInForm nodes links listed pool) (outcome_cases _ (λ c s p. tt) (λ c s v w e d. tt)) (λ sofar. outcome_law (has_room 64 sofar))
+  pub outcomes_law : Lawful (outcomes_at names pool) (λ os. flat_map all_items os ++ Closing ∷ []) (λ os. (length os ≤ 64) × All (IsOutcomeInForm names.nodes names.links names.listed pool) os) AnyText
+  outcomes_law = few_law 64 (outcome_at names pool) all_items (IsOutcomeInForm names.nodes names.links names.listed pool) (outcome_cases _ (λ c s p. tt) (λ c s v w e d. tt)) (λ sofar. outcome_law (has_room 64 sofar))

@@ -1,9 +1,7 @@
 -- The readings of plans take exactly their texts.
 use Rattle.std.proofs.Common.{◌≡◌, ◌≢◌, ℕ, ◌+◌, ◌^◌, ◌<◌, ◌≤◌, List, [], ◌∷◌, ◌++◌, All, AllPairs, refl, sym, ap, ◌∙◌, arith, append_assoc}
 use Rattle.std.specs.Prelude.{codes, flat_map, slice_get, zip}
-use Rattle.net_core.specs.declared.network.Link.{Link}
 use Rattle.net_core.specs.declared.plan.CutLine.{CutLine}
-use Rattle.net_core.specs.declared.states.Listed.{Listed}
 use Rattle.plan_terms.specs.Capacities.{AreCounts, AreWithinLimits}
 use Rattle.plan_types.specs.declared.plan.Plan.{Plan}
 use Rattle.plan_types.specs.declared.quality.Quality.{Quality}
@@ -16,6 +14,7 @@ use Rattle.text_kit.specs.Edits.{section}
 use Rattle.report_reader.specs.declared.parts.Head.{Head}
 use Rattle.report_reader.specs.declared.parts.Values.{Values}
 use Rattle.report_reader.specs.ReadingPlan.{plan_at, values_at}
+use Rattle.report_words.specs.KnownNames.{KnownNames}
 use Rattle.report_words.proofs.Making.{law_made, made_last, made_then}
 use Rattle.report_parts.proofs.ModuleLaws.{IsSound, modules_law}
 use Rattle.report_parts.proofs.QualityLaws.{quality_law}
@@ -62,33 +61,33 @@ values_of p = record { cost = p.cost; bound = p.bound; raw_num = p.raw_num; raw_
 abbrev with_head : ℕ → ℕ → Plan → Plan
 with_head version position p = record { version = version; position = position; demands = p.demands; counts = p.counts; cost = p.cost; routings = p.routings; certificate = p.certificate; raw_num = p.raw_num; raw_den = p.raw_den; bound = p.bound; quality = p.quality }
 
-module _ (nodes : List (List ℕ)) (links : List Link) (listed : List Listed) (pool : List CutLine) where
+module _ (names : KnownNames) (pool : List CutLine) where
   -- a plan of a head, part by part
   abbrev pub IsPlanOf : Head → Plan → Type 0
-  IsPlanOf head p = ((head.version ≡ p.version) × (head.position ≡ p.position)) × (ComeAfter (IsDemandInForm nodes) [] p.demands × (AreValues (values_of p) × ((AreCounts links p.counts × AreWithinLimits links p.counts)
-      × (IsCertificate links listed pool p.certificate × (AreRoutingsInForm links listed p.demands p.routings × IsQualityInForm links listed p.demands p.quality)))))
+  IsPlanOf head p = ((head.version ≡ p.version) × (head.position ≡ p.position)) × (ComeAfter (IsDemandInForm names.nodes) [] p.demands × (AreValues (values_of p) × ((AreCounts names.links p.counts × AreWithinLimits names.links p.counts)
+      × (IsCertificate names pool p.certificate × (AreRoutingsInForm names.links names.listed p.demands p.routings × IsQualityInForm names.links names.listed p.demands p.quality)))))
 
-  pub plan_law : AllPairs (λ x y. x ≢ y) nodes → AreLinksApart links → ((k : ℕ) → IsSound (slice_get links k)) → IsPoolInForm links listed pool → (head : Head) → Lawful (plan_at nodes links listed pool head) (plan_items nodes links listed) (IsPlanOf head) AnyText
+  pub plan_law : AllPairs (λ x y. x ≢ y) names.nodes → AreLinksApart names.links → ((k : ℕ) → IsSound (slice_get names.links k)) → IsPoolInForm names pool → (head : Head) → Lawful (plan_at names pool head) (plan_items names.nodes names.links names.listed) (IsPlanOf head) AnyText
   unfolding plan_at
-  plan_law nodes_apart apart sound form head = law_made (plan_at nodes links listed pool head) _ _ _ (plan_items nodes links listed) (IsPlanOf head)
+  plan_law nodes_apart apart sound form head = law_made (plan_at names pool head) _ _ _ (plan_items names.nodes names.links names.listed) (IsPlanOf head)
       (λ q h. ((refl, refl), (h.0, (h.1.0, (h.1.1.0, (h.1.1.1.0, (h.1.1.1.1.1.0, h.1.1.1.1.1.1)))))))
-      (λ q h. joined (section (codes "DEMANDS") (flat_map (demand_items nodes) q.0)) (values_items q.1.0) (section (codes "MODULES") (flat_map modules_items (zip links q.1.1.0))) (certificate_items q.1.1.1.0) (Verbatim (codes "ROUTES") ∷ routings_items links listed q.0 q.1.1.1.1.1.0) (quality_items links listed q.0 q.1.1.1.1.1.1))
+      (λ q h. joined (section (codes "DEMANDS") (flat_map (demand_items names.nodes) q.0)) (values_items q.1.0) (section (codes "MODULES") (flat_map modules_items (zip names.links q.1.1.0))) (certificate_items q.1.1.1.0) (Verbatim (codes "ROUTES") ∷ routings_items names.links names.listed q.0 q.1.1.1.1.1.0) (quality_items names.links names.listed q.0 q.1.1.1.1.1.1))
       (λ p h. record {
         parts = (p.demands, (values_of p, (p.counts, (p.certificate, (tt, (p.routings, p.quality))))));
         right = (h.1.0, (h.1.1.0, (h.1.1.1.0, (h.1.1.1.1.0, (tt, (h.1.1.1.1.1.0, h.1.1.1.1.1.1))))));
         gives = ap (λ (v : ℕ). with_head v head.position p) h.0.0 ∙ ap (λ (w : ℕ). with_head p.version w p) h.0.1;
       })
-      (made_then _ _ _ _ _ _ _ _ (demands_law nodes nodes_apart) (λ demands hd.
+      (made_then _ _ _ _ _ _ _ _ (demands_law names.nodes nodes_apart) (λ demands hd.
       made_then _ _ _ _ _ _ _ _ values_law (λ values h.
-      made_then _ _ _ _ _ _ _ _ (modules_law links sound) (λ counts h.
-      made_then _ _ _ _ _ _ _ _ (certificate_law links listed pool form) (λ certificate h.
+      made_then _ _ _ _ _ _ _ _ (modules_law names.links sound) (λ counts h.
+      made_then _ _ _ _ _ _ _ _ (certificate_law names pool form) (λ certificate h.
       made_then _ _ _ _ _ _ _ _ (keyword_law (codes "ROUTES")) (λ x h.
-      made_then _ _ _ _ _ _ _ _ (routings_law links listed demands apart (demands_apart nodes nodes_apart demands hd)) (λ routings h.
+      made_then _ _ _ _ _ _ _ _ (routings_law names demands apart (demands_apart names.nodes nodes_apart demands hd)) (λ routings h.
       made_last _ (λ (quality : Quality). record { version = head.version; position = head.position; demands = demands; counts = counts; cost = values.cost; routings = routings; certificate = certificate; raw_num = values.raw_num; raw_den = values.raw_den; bound = values.bound; quality = quality }) _ _
-      (quality_law links listed apart demands (demands_apart nodes nodes_apart demands hd)))))))))
+      (quality_law names apart demands (demands_apart names.nodes nodes_apart demands hd)))))))))
 
   -- and all together
-  pub plan_form : (head : Head) (p : Plan) → head.version ≤ 65536 → head.position ≤ 65536 → IsPlanOf head p → IsPlanInForm nodes links listed p × All (λ l. IsOfPool pool l.spot l.cut) p.certificate.lines
+  pub plan_form : (head : Head) (p : Plan) → head.version ≤ 65536 → head.position ≤ 65536 → IsPlanOf head p → IsPlanInForm names.nodes names.links names.listed p × All (λ l. IsOfPool pool l.spot l.cut) p.certificate.lines
   plan_form head p v w h = (
     record {
       version = omega (arith, v, h.0.0);
@@ -108,7 +107,7 @@ module _ (nodes : List (List ℕ)) (links : List Link) (listed : List Listed) (p
     λ k d lt. (h.1.1.1.1.0.1.1 k d lt).1,
   )
 
-  pub form_plan : (head : Head) (p : Plan) → head.version ≡ p.version → head.position ≡ p.position → IsPlanInForm nodes links listed p → All (λ l. IsOfPool pool l.spot l.cut) p.certificate.lines → IsPlanOf head p
+  pub form_plan : (head : Head) (p : Plan) → head.version ≡ p.version → head.position ≡ p.position → IsPlanInForm names.nodes names.links names.listed p → All (λ l. IsOfPool pool l.spot l.cut) p.certificate.lines → IsPlanOf head p
   form_plan head p v w f pooled = (
     (v, w),
     (

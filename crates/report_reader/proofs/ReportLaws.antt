@@ -27,6 +27,7 @@ use Rattle.plan_report.specs.Forms.{IsEntryInForm, IsReportInForm, line_lengths}
 use Rattle.plan_report.specs.Items.{entry_items, notes_items, numbered_from, outcome_items, pool_line_items, report_items}
 use Rattle.text_kit.specs.Edits.{section}
 use Rattle.plan_report.specs.Texts.{SpellsReport, report_header}
+use Rattle.report_words.specs.KnownNames.{KnownNames, known_as}
 use Rattle.report_words.specs.declared.fault.ReportKind.{ReportKind}
 use Rattle.report_words.specs.declared.fault.ReportKind.TheVariants.{Header, Section, Ended}
 use Rattle.report_reader.specs.ReadingReport.{filled, report_at, report_of, section_at, sections_at}
@@ -108,6 +109,9 @@ four : (a b c d : List Item) → a ++ (b ++ (c ++ d)) ≡ ((a ++ b) ++ c) ++ d
 four a b c d = sym (append_assoc a b (c ++ d)) ∙ sym (append_assoc (a ++ b) c d)
 
 module _ (nodes : List (List ℕ)) (links : List Link) (listed : List Listed) (checked : ∥ IsNetwork nodes links ∥₁) where
+  abbrev names : KnownNames
+  names = known_as nodes links listed
+
   abbrev IsReport : Report → Type 0
   IsReport r = IsReportInForm nodes links listed r
 
@@ -123,9 +127,9 @@ module _ (nodes : List (List ℕ)) (links : List Link) (listed : List Listed) (c
       (λ (past : length links ≤ k). subst (λ (o : Option Link). IsSound o) (sym (slice_get_past links k past)) tt)
       (cases_lt k (length links))
 
-  sections_law : Lawful (sections_at nodes links listed) items_of IsReport AnyText
+  sections_law : Lawful (sections_at names) items_of IsReport AnyText
   unfolding sections_at
-  sections_law = law_made (sections_at nodes links listed) _ _ _ items_of IsReport
+  sections_law = law_made (sections_at names) _ _ _ items_of IsReport
       (λ q h.
       let entries = q.1.1.1.0 in
       let pool = q.1.1.1.1.1.0 in
@@ -158,18 +162,18 @@ module _ (nodes : List (List ℕ)) (links : List Link) (listed : List Listed) (c
       made_then _ _ _ _ _ _ _ _ (section_law (codes "JOURNAL")) (λ x h.
       made_then _ _ _ _ _ _ _ _ entries_law (λ entries h.
       made_then _ _ _ _ _ _ _ _ (section_law (codes "POOL")) (λ x h.
-      made_then _ _ _ _ _ _ _ _ (pool_law links listed) (λ pool h.
+      made_then _ _ _ _ _ _ _ _ (pool_law names) (λ pool h.
       made_then _ _ _ _ _ _ _ _ (section_law (codes "OUTCOMES")) (λ x u.
       made_last _ (λ (outcomes : List Outcome). record { notes = notes; entries = map (filled pool) entries; pool = pool; outcomes = outcomes }) _ _
-      (outcomes_law nodes links listed pool (nodes_differ nodes links checked) (links_differ nodes links checked) sound_at (record { few = h.0; each = h.1 }))))))))))
+      (outcomes_law names pool (nodes_differ nodes links checked) (links_differ nodes links checked) sound_at (record { few = h.0; each = h.1 }))))))))))
 
   -- ---- files
 
   abbrev Of : Report → List Item → Type 0
   Of r js = IsReport r × (js ≡ items_of r)
 
-  report_law : Spelled (report_at nodes links listed) Of IsEnd
-  report_law = spelled_law (report_at nodes links listed) items_of IsReport IsEnd (lawful_whole Section (sections_at nodes links listed) items_of IsReport sections_law)
+  report_law : Spelled (report_at names) Of IsEnd
+  report_law = spelled_law (report_at names) items_of IsReport IsEnd (lawful_whole Section (sections_at names) items_of IsReport sections_law)
 
   to_report : (bytes : List ℕ) (r : Report) → SpellsBy report_header Of bytes r → SpellsReport nodes links listed bytes r
   to_report bytes r s = record { form = s.1.0; file = subst (λ (js : List Item). IsFileOf report_header js bytes) s.1.1 s.2 }
@@ -178,14 +182,14 @@ module _ (nodes : List (List ℕ)) (links : List Link) (listed : List Listed) (c
   from_report bytes r s = (items_of r, (s.form, refl), s.file)
 
   pub report_found : (bytes : List ℕ) (a : Result Report (Refusal ReportKind)) → ReadsAllAs (λ (r : Report). r) a (report_of nodes links listed bytes) → IfOk a (λ r. SpellsReport nodes links listed bytes r)
-  report_found bytes (Ok r) h = to_report bytes r (found_spelled Header report_header (report_at nodes links listed) Of report_law (λ (x : Report). x) bytes (Ok r) h)
+  report_found bytes (Ok r) h = to_report bytes r (found_spelled Header report_header (report_at names) Of report_law (λ (x : Report). x) bytes (Ok r) h)
   report_found bytes (Err e) h = tt
 
   pub report_only : (bytes : List ℕ) (a : Result Report (Refusal ReportKind)) → ReadsAllAs (λ (r : Report). r) a (report_of nodes links listed bytes) → (r : Report) → SpellsReport nodes links listed bytes r → AnswersAs (λ (x : Report). x) a r
-  report_only bytes a h r s = only_spelled Header report_header (report_at nodes links listed) Of report_law (λ (x : Report). x) bytes a h r (from_report bytes r s)
+  report_only bytes a h r s = only_spelled Header report_header (report_at names) Of report_law (λ (x : Report). x) bytes a h r (from_report bytes r s)
 
   pub report_first : (bytes : List ℕ) (a : Result Report (Refusal ReportKind)) → ReadsAllAs (λ (r : Report). r) a (report_of nodes links listed bytes) → IfErr a (IsNotTooEarly (SpellsReport nodes links listed) bytes)
   report_first bytes (Ok r) h = tt
   report_first bytes (Err (Bad at kind)) h = λ other n same ends r s.
-      first_spelled Header report_header (report_at nodes links listed) Of report_law (λ (x : Report). x) (report_online nodes links listed) bytes (Err (Bad at kind)) h other n same ends r (from_report other r s)
+      first_spelled Header report_header (report_at names) Of report_law (λ (x : Report). x) (report_online names) bytes (Err (Bad at kind)) h other n same ends r (from_report other r s)
   report_first bytes (Err NoMemory) h = tt

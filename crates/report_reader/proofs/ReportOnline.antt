@@ -2,13 +2,13 @@
 use Rattle.std.proofs.Common.{ℕ, ◌^◌, Bool, true, false, List, [], length, Ok, Err, refl}
 use Rattle.std.specs.Prelude.{codes}
 use Rattle.net_core.specs.declared.journal.Entry.{Entry}
-use Rattle.net_core.specs.declared.network.Link.{Link}
 use Rattle.net_core.specs.declared.network.Notes.{Notes}
 use Rattle.net_core.specs.declared.plan.CutLine.{CutLine}
 use Rattle.net_core.specs.declared.states.Listed.{Listed}
 use Rattle.plan_types.specs.declared.report.Outcome.{Outcome}
 use Rattle.text_kit.specs.Reading.{no_fault, Parenthesis}
 use Rattle.text_kit.proofs.Online.{IsOnline, TakesSome, online_close, online_give, online_list, online_open, online_then, online_whole, online_word, takes_some}
+use Rattle.report_words.specs.KnownNames.{KnownNames}
 use Rattle.report_words.specs.declared.fault.ReportKind.TheVariants.{Section, Token, Ended}
 use Rattle.report_reader.specs.declared.parts.Head.{Head}
 use Rattle.report_words.specs.ReportWords.{has_room}
@@ -120,25 +120,25 @@ entry_some sofar = takes_some (journal_entry_at sofar) (entry_online sofar) (λ 
 pub entries_online : IsOnline entries_at
 entries_online = online_list Parenthesis no_fault journal_entry_at entry_online entry_some []
 
-pub pool_line_online : (links : List Link) (listed : List Listed) (sofar : List CutLine) → IsOnline (pool_line_at links listed sofar)
+pub pool_line_online : (names : KnownNames) (sofar : List CutLine) → IsOnline (pool_line_at names sofar)
 unfolding pool_line_at
-pool_line_online links listed sofar =
+pool_line_online names sofar =
     online_then _ _ (opening_within_online (has_room 4096 sofar)) (λ x.
     online_then _ _ (online_word Token Ended _) (λ x.
     online_then _ _ (online_word Token Ended _) (λ x.
     online_then _ _ (online_word Token Ended _) (λ state.
     online_then _ _ (online_word Token Ended _) (λ x.
     online_then _ _ (online_word Token Ended _) (λ right.
-    online_then _ _ (numbers_online (length links) (2 ^ 32)) (λ lengths.
+    online_then _ _ (numbers_online (length names.links) (2 ^ 32)) (λ lengths.
     online_then _ _ (online_close Token Ended) (λ x.
     online_give _))))))))
 
-pub pool_line_some : (links : List Link) (listed : List Listed) (sofar : List CutLine) → TakesSome (pool_line_at links listed sofar)
+pub pool_line_some : (names : KnownNames) (sofar : List CutLine) → TakesSome (pool_line_at names sofar)
 unfolding pool_line_at
-pool_line_some links listed sofar = takes_some (pool_line_at links listed sofar) (pool_line_online links listed sofar) (λ p. Ended) (λ p. refl)
+pool_line_some names sofar = takes_some (pool_line_at names sofar) (pool_line_online names sofar) (λ p. Ended) (λ p. refl)
 
-pub pool_online : (links : List Link) (listed : List Listed) → IsOnline (pool_at links listed)
-pool_online links listed = online_list Parenthesis no_fault (pool_line_at links listed) (pool_line_online links listed) (pool_line_some links listed) []
+pub pool_online : (names : KnownNames) → IsOnline (pool_at names)
+pool_online names = online_list Parenthesis no_fault (pool_line_at names) (pool_line_online names) (pool_line_some names) []
 
 -- ---- plans
 
@@ -154,16 +154,16 @@ values_online =
     online_then _ _ (online_word Token Ended _) (λ den.
     online_give _)))))))
 
-pub plan_online : (nodes : List (List ℕ)) (links : List Link) (listed : List Listed) (pool : List CutLine) (head : Head) → IsOnline (plan_at nodes links listed pool head)
+pub plan_online : (names : KnownNames) (pool : List CutLine) (head : Head) → IsOnline (plan_at names pool head)
 unfolding plan_at
-plan_online nodes links listed pool head =
-    online_then _ _ (plan_demands_online nodes) (λ demands.
+plan_online names pool head =
+    online_then _ _ (plan_demands_online names.nodes) (λ demands.
     online_then _ _ (values_online) (λ values.
-    online_then _ _ (modules_online links) (λ counts.
-    online_then _ _ (certificate_online links listed pool) (λ certificate.
+    online_then _ _ (modules_online names.links) (λ counts.
+    online_then _ _ (certificate_online names pool) (λ certificate.
     online_then _ _ (online_word Token Ended _) (λ x.
-    online_then _ _ (routings_online links listed demands) (λ routings.
-    online_then _ _ (quality_online links listed demands) (λ quality.
+    online_then _ _ (routings_online names demands) (λ routings.
+    online_then _ _ (quality_online names demands) (λ quality.
     online_give _)))))))
 
 pub head_online : IsOnline (head_at)
@@ -179,12 +179,12 @@ head_online =
     online_then _ _ (online_word Token Ended _) (λ position.
     online_give _))))))))
 
-pub planned_online : (nodes : List (List ℕ)) (links : List Link) (listed : List Listed) (pool : List CutLine) → IsOnline (planned_at nodes links listed pool)
+pub planned_online : (names : KnownNames) (pool : List CutLine) → IsOnline (planned_at names pool)
 unfolding planned_at
-planned_online nodes links listed pool =
+planned_online names pool =
     online_then _ _ (online_open Token Ended) (λ x.
     online_then _ _ (head_online) (λ head.
-    online_then _ _ (plan_online nodes links listed pool head) (λ plan.
+    online_then _ _ (plan_online names pool head) (λ plan.
     online_then _ _ (online_close Token Ended) (λ x.
     online_give _))))
 
@@ -201,31 +201,31 @@ unsurvivable_online listed =
     online_then _ _ (online_close Token Ended) (λ x.
     online_give _))))))))
 
-pub outcome_online : (nodes : List (List ℕ)) (links : List Link) (listed : List Listed) (pool : List CutLine) (sofar : List Outcome) → IsOnline (outcome_at nodes links listed pool sofar)
-outcome_online nodes links listed pool sofar = online_branch (has_room 64 sofar) (Err Token) (outcome_branches nodes links listed pool) (planned_online nodes links listed pool, (unsurvivable_online listed, tt))
+pub outcome_online : (names : KnownNames) (pool : List CutLine) (sofar : List Outcome) → IsOnline (outcome_at names pool sofar)
+outcome_online names pool sofar = online_branch (has_room 64 sofar) (Err Token) (outcome_branches names pool) (planned_online names pool, (unsurvivable_online names.listed, tt))
 
-pub outcome_some : (nodes : List (List ℕ)) (links : List Link) (listed : List Listed) (pool : List CutLine) (sofar : List Outcome) → TakesSome (outcome_at nodes links listed pool sofar)
-outcome_some nodes links listed pool sofar = column_some (has_room 64 sofar) (outcome_branches nodes links listed pool) (planned_online nodes links listed pool, (unsurvivable_online listed, tt))
+pub outcome_some : (names : KnownNames) (pool : List CutLine) (sofar : List Outcome) → TakesSome (outcome_at names pool sofar)
+outcome_some names pool sofar = column_some (has_room 64 sofar) (outcome_branches names pool) (planned_online names pool, (unsurvivable_online names.listed, tt))
 
-pub outcomes_online : (nodes : List (List ℕ)) (links : List Link) (listed : List Listed) (pool : List CutLine) → IsOnline (outcomes_at nodes links listed pool)
-outcomes_online nodes links listed pool = online_list Parenthesis no_fault (outcome_at nodes links listed pool) (outcome_online nodes links listed pool) (outcome_some nodes links listed pool) []
+pub outcomes_online : (names : KnownNames) (pool : List CutLine) → IsOnline (outcomes_at names pool)
+outcomes_online names pool = online_list Parenthesis no_fault (outcome_at names pool) (outcome_online names pool) (outcome_some names pool) []
 
 pub section_online : (w : List ℕ) → IsOnline (section_at w)
 unfolding section_at
 section_online w = online_then _ _ (online_word Section Ended _) (λ x. online_open Section Ended)
 
-pub sections_online : (nodes : List (List ℕ)) (links : List Link) (listed : List Listed) → IsOnline (sections_at nodes links listed)
+pub sections_online : (names : KnownNames) → IsOnline (sections_at names)
 unfolding sections_at
-sections_online nodes links listed =
+sections_online names =
     online_then _ _ (section_online (codes "NOTES")) (λ x.
     online_then _ _ (notes_online) (λ notes.
     online_then _ _ (section_online (codes "JOURNAL")) (λ x.
     online_then _ _ (entries_online) (λ entries.
     online_then _ _ (section_online (codes "POOL")) (λ x.
-    online_then _ _ (pool_online links listed) (λ pool.
+    online_then _ _ (pool_online names) (λ pool.
     online_then _ _ (section_online (codes "OUTCOMES")) (λ x.
-    online_then _ _ (outcomes_online nodes links listed pool) (λ outcomes.
+    online_then _ _ (outcomes_online names pool) (λ outcomes.
     online_give _))))))))
 
-pub report_online : (nodes : List (List ℕ)) (links : List Link) (listed : List Listed) → IsOnline (report_at nodes links listed)
-report_online nodes links listed = online_whole Section (sections_at nodes links listed) (sections_online nodes links listed)
+pub report_online : (names : KnownNames) → IsOnline (report_at names)
+report_online names = online_whole Section (sections_at names) (sections_online names)

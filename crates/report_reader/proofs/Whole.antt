@@ -13,6 +13,7 @@ use Rattle.text_kit.specs.declared.refusal.Refusal.TheVariants.{Bad, NoMemory}
 use Rattle.text_kit.specs.Files.{body}
 use Rattle.text_kit.specs.Reading.{Read, Reading, after, end_at, give, whole_at}
 use Rattle.text_kit.proofs.Online.{ok_parts}
+use Rattle.report_words.specs.KnownNames.{known_as}
 use Rattle.report_words.specs.declared.fault.ReportKind.{ReportKind}
 use Rattle.report_words.specs.declared.fault.ReportKind.TheVariants.{Header, Section}
 use Rattle.report_reader.specs.ReadingReport.{report_at, report_of, sections_at}
@@ -28,13 +29,13 @@ whole_end (Ok p) y rest e = end_is p.0 y p.1 rest e
 whole_end (Err d) y rest e = absurd cc
 
 pub file_ok : (nodes : List (List ℕ)) (links : List Link) (listed : List Listed) (bytes : List ℕ) (r : Report) (rest : Text) → are_same (trimmed (first_line bytes)) report_header ≡ true
-    → report_at nodes links listed (body bytes) ≡ Ok (r, rest) → (at : ℕ) × (report_of nodes links listed bytes ≡ Ok (r, EndAt at))
+    → report_at (known_as nodes links listed) (body bytes) ≡ Ok (r, rest) → (at : ℕ) × (report_of nodes links listed bytes ≡ Ok (r, EndAt at))
 file_ok nodes links listed bytes r rest line read =
-    let e = whole_end (sections_at nodes links listed (body bytes)) r rest read in
-    (e.0, ap (λ (b : Bool). cond b (report_at nodes links listed (body bytes)) (Err (0, Header))) line ∙ (read ∙ ap (λ (t : Text). Ok (r, t)) e.1))
+    let e = whole_end (sections_at (known_as nodes links listed) (body bytes)) r rest read in
+    (e.0, ap (λ (b : Bool). cond b (report_at (known_as nodes links listed) (body bytes)) (Err (0, Header))) line ∙ (read ∙ ap (λ (t : Text). Ok (r, t)) e.1))
 
 pub file_answer : (nodes : List (List ℕ)) (links : List Link) (listed : List Listed) (bytes : List ℕ) (a : Result Report (Refusal ReportKind)) (rest : Text) → are_same (trimmed (first_line bytes)) report_header ≡ true
-    → ReadsAs (λ (r : Report). r) a rest (report_at nodes links listed (body bytes)) → ReadsAllAs (λ (r : Report). r) a (report_of nodes links listed bytes)
+    → ReadsAs (λ (r : Report). r) a rest (report_at (known_as nodes links listed) (body bytes)) → ReadsAllAs (λ (r : Report). r) a (report_of nodes links listed bytes)
 file_answer nodes links listed bytes (Ok r) rest line read = file_ok nodes links listed bytes r rest line read
-file_answer nodes links listed bytes (Err (Bad at kind)) rest line read = ap (λ (b : Bool). cond b (report_at nodes links listed (body bytes)) (Err (0, Header))) line ∙ read
+file_answer nodes links listed bytes (Err (Bad at kind)) rest line read = ap (λ (b : Bool). cond b (report_at (known_as nodes links listed) (body bytes)) (Err (0, Header))) line ∙ read
 file_answer nodes links listed bytes (Err NoMemory) rest line read = tt

@@ -7,11 +7,10 @@ use Rattle.net_core.specs.declared.journal.Entry.{Entry}
 use Rattle.net_core.specs.declared.journal.Entry.TheVariants.{Edited, Pooled}
 use Rattle.net_core.specs.declared.journal.Reply.{Reply}
 use Rattle.net_core.specs.declared.journal.Reply.TheVariants.{Accepted, UnknownDemand, KnownDemand, UnknownNode, SelfDemand, TooMany, TooMuch}
-use Rattle.net_core.specs.declared.network.Link.{Link}
 use Rattle.net_core.specs.declared.network.Notes.{Notes}
 use Rattle.net_core.specs.declared.plan.CutLine.{CutLine}
-use Rattle.net_core.specs.declared.states.Listed.{Listed}
 use Rattle.text_kit.specs.Reading.{Reading, ◌>>=◌, give, list_at, no_fault, Parenthesis}
+use Rattle.report_words.specs.KnownNames.{KnownNames}
 use Rattle.report_words.specs.declared.fault.ReportKind.{ReportKind}
 use Rattle.report_words.specs.ReportWords.{amount_at, closing_at, has_room, keyword_at, money_at, name_at, number_at, opening_at, opening_within, this_number_at}
 use Rattle.report_words.specs.ReportChoices.{Branches, branch_at, branch_or, numbers_at}
@@ -131,17 +130,17 @@ entries_at = list_at Parenthesis no_fault journal_entry_at []
 -- ---- the pool
 
 -- a line after earlier ones
-unfoldable pub pool_line_at : List Link → List Listed → List CutLine → Reading ReportKind CutLine
-pool_line_at links listed sofar = do
+unfoldable pub pool_line_at : KnownNames → List CutLine → Reading ReportKind CutLine
+pool_line_at names sofar = do
   _ ← opening_within (has_room 4096 sofar)
   _ ← this_number_at (length sofar)
   _ ← keyword_at (codes "state")
-  state ← number_at 0 (length listed + 1)
+  state ← number_at 0 (length names.listed + 1)
   _ ← keyword_at (codes "right")
   right ← number_at 0 (2 ^ 84)
-  lengths ← numbers_at (length links) (2 ^ 32)
+  lengths ← numbers_at (length names.links) (2 ^ 32)
   _ ← closing_at
   give (record { state = record { 0 = state }; lengths = lengths; right = right })
 
-abbrev pub pool_at : List Link → List Listed → Reading ReportKind (List CutLine)
-pool_at links listed = list_at Parenthesis no_fault (pool_line_at links listed) []
+abbrev pub pool_at : KnownNames → Reading ReportKind (List CutLine)
+pool_at names = list_at Parenthesis no_fault (pool_line_at names) []

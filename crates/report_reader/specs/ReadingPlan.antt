@@ -1,10 +1,9 @@
 -- Reading a plan: its costs, and all its parts.
 use Rattle.std.specs.Prelude.{ℕ, ◌^◌, List, codes}
-use Rattle.net_core.specs.declared.network.Link.{Link}
 use Rattle.net_core.specs.declared.plan.CutLine.{CutLine}
-use Rattle.net_core.specs.declared.states.Listed.{Listed}
 use Rattle.plan_types.specs.declared.plan.Plan.{Plan}
 use Rattle.text_kit.specs.Reading.{Reading, ◌>>=◌, give}
+use Rattle.report_words.specs.KnownNames.{KnownNames}
 use Rattle.report_words.specs.declared.fault.ReportKind.{ReportKind}
 use Rattle.report_reader.specs.declared.parts.Head.{Head}
 use Rattle.report_reader.specs.declared.parts.Values.{Values}
@@ -28,13 +27,13 @@ values_at = do
 
 -- ---- the plan after its head
 
-unfoldable pub plan_at : List (List ℕ) → List Link → List Listed → List CutLine → Head → Reading ReportKind Plan
-plan_at nodes links listed pool head = do
-  demands ← plan_demands_at nodes
+unfoldable pub plan_at : KnownNames → List CutLine → Head → Reading ReportKind Plan
+plan_at names pool head = do
+  demands ← plan_demands_at names.nodes
   values ← values_at
-  counts ← modules_at links
-  certificate ← certificate_at links listed pool
+  counts ← modules_at names.links
+  certificate ← certificate_at names pool
   _ ← keyword_at (codes "ROUTES")
-  routings ← routings_at links listed demands
-  quality ← quality_at links listed demands
+  routings ← routings_at names demands
+  quality ← quality_at names demands
   give (record { version = head.version; position = head.position; demands = demands; counts = counts; cost = values.cost; routings = routings; certificate = certificate; raw_num = values.raw_num; raw_den = values.raw_den; bound = values.bound; quality = quality })

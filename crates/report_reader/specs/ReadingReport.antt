@@ -13,6 +13,7 @@ use Rattle.text_kit.specs.Reading.{Read, Reading, ◌>>=◌, expected, give, lis
 use Rattle.plan_report.specs.Forms.{line_lengths, line_state}
 use Rattle.plan_report.specs.Names.{state_name}
 use Rattle.plan_report.specs.Texts.{report_header}
+use Rattle.report_words.specs.KnownNames.{KnownNames, known_as}
 use Rattle.report_words.specs.declared.fault.ReportKind.{ReportKind}
 use Rattle.report_words.specs.declared.fault.ReportKind.TheVariants.{Header, Section, Ended}
 use Rattle.report_reader.specs.declared.parts.Head.{Head}
@@ -35,11 +36,11 @@ head_at = do
   position ← number_at 0 65537
   give (record { caller = caller; serial = serial; version = version; position = position })
 
-unfoldable pub planned_at : List (List ℕ) → List Link → List Listed → List CutLine → Reading ReportKind Outcome
-planned_at nodes links listed pool = do
+unfoldable pub planned_at : KnownNames → List CutLine → Reading ReportKind Outcome
+planned_at names pool = do
   _ ← opening_at
   head ← head_at
-  plan ← plan_at nodes links listed pool head
+  plan ← plan_at names pool head
   _ ← closing_at
   give (Planned head.caller head.serial plan)
 
@@ -56,14 +57,14 @@ unsurvivable_at listed = do
   give (Unsurvivable head.caller head.serial head.version head.position (record { 0 = state }) demand)
 
 -- an outcome after earlier ones
-abbrev pub outcome_branches : List (List ℕ) → List Link → List Listed → List CutLine → Branches Outcome
-outcome_branches nodes links listed pool = (codes "PLAN", planned_at nodes links listed pool) ∷ (codes "UNSURVIVABLE", unsurvivable_at listed) ∷ []
+abbrev pub outcome_branches : KnownNames → List CutLine → Branches Outcome
+outcome_branches names pool = (codes "PLAN", planned_at names pool) ∷ (codes "UNSURVIVABLE", unsurvivable_at names.listed) ∷ []
 
-abbrev pub outcome_at : List (List ℕ) → List Link → List Listed → List CutLine → List Outcome → Reading ReportKind Outcome
-outcome_at nodes links listed pool sofar = branch_within (has_room 64 sofar) (outcome_branches nodes links listed pool)
+abbrev pub outcome_at : KnownNames → List CutLine → List Outcome → Reading ReportKind Outcome
+outcome_at names pool sofar = branch_within (has_room 64 sofar) (outcome_branches names pool)
 
-abbrev pub outcomes_at : List (List ℕ) → List Link → List Listed → List CutLine → Reading ReportKind (List Outcome)
-outcomes_at nodes links listed pool = list_at Parenthesis no_fault (outcome_at nodes links listed pool) []
+abbrev pub outcomes_at : KnownNames → List CutLine → Reading ReportKind (List Outcome)
+outcomes_at names pool = list_at Parenthesis no_fault (outcome_at names pool) []
 
 -- ---- the whole report
 
@@ -77,22 +78,22 @@ filled pool (Edited caller edit reply) = Edited caller edit reply
 filled pool (Pooled index state lengths) = Pooled index (record { 0 = line_state (slice_get pool index) }) (line_lengths (slice_get pool index))
 
 -- all sections after the first line
-unfoldable pub sections_at : List (List ℕ) → List Link → List Listed → Reading ReportKind Report
-sections_at nodes links listed = do
+unfoldable pub sections_at : KnownNames → Reading ReportKind Report
+sections_at names = do
   _ ← section_at (codes "NOTES")
   notes ← notes_at
   _ ← section_at (codes "JOURNAL")
   entries ← entries_at
   _ ← section_at (codes "POOL")
-  pool ← pool_at links listed
+  pool ← pool_at names
   _ ← section_at (codes "OUTCOMES")
-  outcomes ← outcomes_at nodes links listed pool
+  outcomes ← outcomes_at names pool
   give (record { notes = notes; entries = map (filled pool) entries; pool = pool; outcomes = outcomes })
 
 -- a whole text of a report
-abbrev pub report_at : List (List ℕ) → List Link → List Listed → Reading ReportKind Report
-report_at nodes links listed = whole_at Section (sections_at nodes links listed)
+abbrev pub report_at : KnownNames → Reading ReportKind Report
+report_at names = whole_at Section (sections_at names)
 
 -- a whole file: its report, or its first fault by place
 abbrev pub report_of : List (List ℕ) → List Link → List Listed → List ℕ → Read ReportKind Report
-report_of nodes links listed bytes = file_at Header report_header (report_at nodes links listed) bytes
+report_of nodes links listed bytes = file_at Header report_header (report_at (known_as nodes links listed)) bytes

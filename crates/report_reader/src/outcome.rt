@@ -1,6 +1,7 @@
 ghost use Rattle.std.specs.Prelude.{◌≡◌, ◌<◌, ◌≤◌, ◌^◌, length, IfOk};
 ghost use Rattle.snd_tokens.specs.Lexemes.{left};
 ghost use Rattle.text_kit.specs.Answers.{ReadsAs};
+ghost use Rattle.report_words.specs.KnownNames.{known_in};
 ghost use Rattle.report_reader.specs.ReadingReport.{head_at, outcome_at, outcomes_at, planned_at, unsurvivable_at};
 
 use crate::parts::Head;
@@ -65,7 +66,7 @@ fn planned(
     text: &mut Cursor,
 ) -> Result<Outcome, ReportRefusal>
     requires { length pool.now < 2 ^ 32 }
-    ensures { ReadsAs (λ o. o) result (left text.new) (planned_at context.now.net.now.nodes context.now.net.now.links context.now.states.now.listed pool.now (left text.old)) }
+    ensures { ReadsAs (λ o. o) result (left text.new) (planned_at (known_in context.now) pool.now (left text.old)) }
 {
     opening(text)?;
     let head = head(text)?;
@@ -114,7 +115,7 @@ fn outcome(
     text: &mut Cursor,
 ) -> Result<Outcome, ReportRefusal>
     requires { length pool.now < 2 ^ 32 }
-    ensures { ReadsAs (λ o. o) result (left text.new) (outcome_at context.now.net.now.nodes context.now.net.now.links context.now.states.now.listed pool.now sofar.now (left text.old)) }
+    ensures { ReadsAs (λ o. o) result (left text.new) (outcome_at (known_in context.now) pool.now sofar.now (left text.old)) }
 {
     let (at, word) = word(ReportKind::Token, ReportKind::Ended, text)?;
     if word != PLAN && word != UNSURVIVABLE {
@@ -139,11 +140,12 @@ struct OutcomeList<'a> {
 
 impl<'a> Element for OutcomeList<'a> {
     ghost use Rattle.text_kit.specs.Reading.{no_fault};
+    ghost use Rattle.report_words.specs.KnownNames.{known_in};
     ghost use Rattle.report_reader.specs.ReadingReport.{outcome_at};
 
     type Item = Outcome;
 
-    ghost reading = { λ l. outcome_at l.context.now.net.now.nodes l.context.now.net.now.links l.context.now.states.now.listed l.pool.now };
+    ghost reading = { λ l. outcome_at (known_in l.context.now) l.pool.now };
 
     ghost fault = { λ _. no_fault };
 
@@ -169,7 +171,7 @@ pub(crate) fn outcomes(
     text: &mut Cursor,
 ) -> Result<List<Outcome>, ReportRefusal>
     requires { length pool.now < 2 ^ 32 }
-    ensures { ReadsAs (λ l. l) result (left text.new) (outcomes_at context.now.net.now.nodes context.now.net.now.links context.now.states.now.listed pool.now (left text.old)) }
+    ensures { ReadsAs (λ l. l) result (left text.new) (outcomes_at (known_in context.now) pool.now (left text.old)) }
 {
     list(alloc, &OutcomeList { context, pool }, text)
 }

@@ -1,6 +1,7 @@
 ghost use Rattle.std.specs.Prelude.{◌≡◌, ◌<◌, ◌^◌, length};
 ghost use Rattle.snd_tokens.specs.Lexemes.{left};
 ghost use Rattle.text_kit.specs.Answers.{ReadsAs};
+ghost use Rattle.report_words.specs.KnownNames.{known_in};
 ghost use Rattle.report_reader.specs.ReadingPlan.{plan_at, values_at};
 
 use crate::parts::{Head, Values};
@@ -59,7 +60,7 @@ pub(crate) fn plan(
     text: &mut Cursor,
 ) -> Result<Plan, ReportRefusal>
     requires { length pool.now < 2 ^ 32 }
-    ensures { ReadsAs (λ p. p) result (left text.new) (plan_at context.now.net.now.nodes context.now.net.now.links context.now.states.now.listed pool.now head (left text.old)) }
+    ensures { ReadsAs (λ p. p) result (left text.new) (plan_at (known_in context.now) pool.now head (left text.old)) }
 {
     let demands = plan_demands(alloc, context, text)?;
     let values = values(text)?;

@@ -1,6 +1,7 @@
 ghost use Rattle.std.specs.Prelude.{◌≡◌};
 ghost use Rattle.snd_tokens.specs.Lexemes.{left};
 ghost use Rattle.text_kit.specs.Answers.{ReadsAs};
+ghost use Rattle.report_words.specs.KnownNames.{known_of};
 ghost use Rattle.report_reader.specs.ReadingJournal.{pool_at, pool_line_at};
 
 use net_core::{CutLine, List, Network, StateId, States};
@@ -28,7 +29,7 @@ fn pool_line(
     sofar: &[CutLine],
     text: &mut Cursor,
 ) -> Result<CutLine, ReportRefusal>
-    ensures { ReadsAs (λ l. l) result (left text.new) (pool_line_at net.now.links states.now.listed sofar.now (left text.old)) }
+    ensures { ReadsAs (λ l. l) result (left text.new) (pool_line_at (known_of net.now states.now) sofar.now (left text.old)) }
 {
     opening_within(sofar.len() < MAX_LINES, text)?;
     this(sofar.len() as u64, text)?;
@@ -54,11 +55,12 @@ struct LineList<'a> {
 
 impl<'a> Element for LineList<'a> {
     ghost use Rattle.text_kit.specs.Reading.{no_fault};
+    ghost use Rattle.report_words.specs.KnownNames.{known_of};
     ghost use Rattle.report_reader.specs.ReadingJournal.{pool_line_at};
 
     type Item = CutLine;
 
-    ghost reading = { λ l. pool_line_at l.net.now.links l.states.now.listed };
+    ghost reading = { λ l. pool_line_at (known_of l.net.now l.states.now) };
 
     ghost fault = { λ _. no_fault };
 
@@ -83,7 +85,7 @@ pub(crate) fn pool(
     states: &States,
     text: &mut Cursor,
 ) -> Result<List<CutLine>, ReportRefusal>
-    ensures { ReadsAs (λ l. l) result (left text.new) (pool_at net.now.links states.now.listed (left text.old)) }
+    ensures { ReadsAs (λ l. l) result (left text.new) (pool_at (known_of net.now states.now) (left text.old)) }
 {
     list(alloc, &LineList { net, states }, text)
 }

@@ -4,6 +4,7 @@ ghost use Rattle.plan_types.specs.declared.report.Report.{Report as Rep};
 ghost use Rattle.snd_tokens.specs.Lexemes.{left};
 ghost use Rattle.text_kit.specs.Answers.{AnswersAs, ReadsAllAs, ReadsAs};
 ghost use Rattle.text_kit.specs.Files.{IsNotTooEarly};
+ghost use Rattle.report_words.specs.KnownNames.{known_in};
 ghost use Rattle.report_reader.specs.ReadingReport.{report_at, report_of, section_at, sections_at};
 
 use crate::filling::fill;
@@ -45,7 +46,7 @@ fn section(wanted: &[u8], text: &mut Cursor) -> Result<(), ReportRefusal>
 /// Takes all sections.
 #[tactic(auto, unfolding(crate::specs::ReadingReport::sections_at))]
 fn sections(alloc: Global, context: &Context, text: &mut Cursor) -> Result<Report, ReportRefusal>
-    ensures { ReadsAs (λ r. r) result (left text.new) (sections_at context.now.net.now.nodes context.now.net.now.links context.now.states.now.listed (left text.old)) }
+    ensures { ReadsAs (λ r. r) result (left text.new) (sections_at (known_in context.now) (left text.old)) }
 {
     section(NOTES, text)?;
     let notes = notes(text)?;
@@ -69,7 +70,7 @@ fn sections(alloc: Global, context: &Context, text: &mut Cursor) -> Result<Repor
 
 /// Takes a whole report, after which nothing is left.
 fn report(alloc: Global, context: &Context, text: &mut Cursor) -> Result<Report, ReportRefusal>
-    ensures { ReadsAs (λ r. r) result (left text.new) (report_at context.now.net.now.nodes context.now.net.now.links context.now.states.now.listed (left text.old)) }
+    ensures { ReadsAs (λ r. r) result (left text.new) (report_at (known_in context.now) (left text.old)) }
 {
     let report = sections(alloc, context, text)?;
     end(ReportKind::Section, text)?;

@@ -1,5 +1,6 @@
+use Rattle.report_words.specs.KnownNames.{known_of}
 use Rattle.report_reader.proofs.ReportOnline.{pool_line_some}
 use Rattle.report_reader.proofs.pool.pool.Goals as goal
 
 pub list-requires : goal.list-requires
-list-requires c = λ sofar t x rest. pool_line_some c.args.net.now.links c.args.states.now.listed sofar t x rest
+list-requires c = λ sofar t x rest. pool_line_some (known_of c.args.net.now c.args.states.now) sofar t x rest

@@ -1,0 +1,24 @@
+-- What the names in a report stand for.
+use Rattle.std.specs.Prelude.{ℕ, List}
+use Rattle.net_core.specs.declared.network.Link.{Link}
+use Rattle.net_core.specs.declared.network.Network.{Network}
+use Rattle.net_core.specs.declared.states.Listed.{Listed}
+use Rattle.net_core.specs.declared.states.States.{States}
+use Rattle.report_words.specs.declared.context.Context.{Context}
+
+-- the nodes, by their names, the links and the listed states that a report may name
+pub record KnownNames : Type 0 where
+  pub nodes : List (List ℕ)
+  pub links : List Link
+  pub listed : List Listed
+
+abbrev pub known_as : List (List ℕ) → List Link → List Listed → KnownNames
+known_as nodes links listed = record { nodes = nodes; links = links; listed = listed }
+
+-- those of a network and its states
+abbrev pub known_of : Network → States → KnownNames
+known_of net states = known_as net.nodes net.links states.listed
+
+-- those that a value of the program stands for
+abbrev pub known_in : Context → KnownNames
+known_in c = known_of c.net.now c.states.now
