@@ -106,136 +106,128 @@ fn joined(alloc: Global, front: &[u8], rest: &[u8], last: &[u8]) -> Option<Bytes
 type Row = (&'static [u8], &'static [u8], Range);
 
 /// Numbers of the journal, of the pool, and of what begins an outcome.
-fn numbers_before_plans() -> [Row; 23] {
-    [
-        (JOURNAL, b"(", UP_TO_1),
-        (JOURNAL, b"(", FROM_1),
-        (JOURNAL, b"(1 caller ", CALLERS),
-        (JOURNAL, b"(1 caller ", FROM_1),
-        (JOURNAL, b"(1 caller 1 drop D accepted ", EDITS),
-        (
-            JOURNAL,
-            b"(1 caller 1 drop D too-much ",
-            (b"35184372088.831", b"35184372088.832"),
-        ),
-        (JOURNAL, b"(1 cut ", (b"4095", b"4096")),
-        (POOL, b"(", ONLY_0),
-        (POOL, b"(0 state ", ONLY_0),
-        (POOL, b"(0 state 0 right ", TO_84),
-        (POOL, b"(0 state 0 right 0(", TO_32),
-        (POOL, b"(0 state 0 right 0(", (b"0", b")")),
-        (POOL, b"(0 state 0 right 0(0 ", (b")", b"0")),
-        (OUTCOMES, b"PLAN(caller ", CALLERS),
-        (OUTCOMES, b"PLAN(caller ", FROM_1),
-        (OUTCOMES, b"PLAN(caller 1 plan ", (b"64", b"65")),
-        (OUTCOMES, b"PLAN(caller 1 plan ", FROM_1),
-        (OUTCOMES, b"PLAN(caller 1 plan 1 version ", EDITS),
-        (OUTCOMES, b"PLAN(caller 1 plan 1 version 0 position ", EDITS),
-        (OUTCOMES, b"UNSURVIVABLE(caller ", CALLERS),
-        (OUTCOMES, b"UNSURVIVABLE(caller 1 plan ", (b"64", b"65")),
-        (
-            OUTCOMES,
-            b"UNSURVIVABLE(caller 1 plan 1 version 0 position ",
-            EDITS,
-        ),
-        (
-            OUTCOMES,
-            b"UNSURVIVABLE(caller 1 plan 1 version 0 position 0 state ",
-            ONLY_0,
-        ),
-    ]
-}
+const NUMBERS_BEFORE_PLANS: [Row; 23] = [
+    (JOURNAL, b"(", UP_TO_1),
+    (JOURNAL, b"(", FROM_1),
+    (JOURNAL, b"(1 caller ", CALLERS),
+    (JOURNAL, b"(1 caller ", FROM_1),
+    (JOURNAL, b"(1 caller 1 drop D accepted ", EDITS),
+    (
+        JOURNAL,
+        b"(1 caller 1 drop D too-much ",
+        (b"35184372088.831", b"35184372088.832"),
+    ),
+    (JOURNAL, b"(1 cut ", (b"4095", b"4096")),
+    (POOL, b"(", ONLY_0),
+    (POOL, b"(0 state ", ONLY_0),
+    (POOL, b"(0 state 0 right ", TO_84),
+    (POOL, b"(0 state 0 right 0(", TO_32),
+    (POOL, b"(0 state 0 right 0(", (b"0", b")")),
+    (POOL, b"(0 state 0 right 0(0 ", (b")", b"0")),
+    (OUTCOMES, b"PLAN(caller ", CALLERS),
+    (OUTCOMES, b"PLAN(caller ", FROM_1),
+    (OUTCOMES, b"PLAN(caller 1 plan ", (b"64", b"65")),
+    (OUTCOMES, b"PLAN(caller 1 plan ", FROM_1),
+    (OUTCOMES, b"PLAN(caller 1 plan 1 version ", EDITS),
+    (OUTCOMES, b"PLAN(caller 1 plan 1 version 0 position ", EDITS),
+    (OUTCOMES, b"UNSURVIVABLE(caller ", CALLERS),
+    (OUTCOMES, b"UNSURVIVABLE(caller 1 plan ", (b"64", b"65")),
+    (
+        OUTCOMES,
+        b"UNSURVIVABLE(caller 1 plan 1 version 0 position ",
+        EDITS,
+    ),
+    (
+        OUTCOMES,
+        b"UNSURVIVABLE(caller 1 plan 1 version 0 position 0 state ",
+        ONLY_0,
+    ),
+];
 
 /// Numbers of a plan, up to its routes.
-fn numbers_of_plans() -> [Row; 22] {
-    [
-        (DEMANDS, b")cost 0 bound 0 raw 0 ", TO_72),
-        (DEMANDS, b")cost 0 bound 0 raw 0 ", FROM_1),
-        (MODULES, b"", (b"17592186044415", b"17592186044416")),
-        (MODULES, b"7663 ", (b"7036874417", b"7036874418")),
-        (MODULES, b"7664 ", (b"7036874416", b"7036874417")),
-        (MODULES, b"0 ", (b"0", b")")),
-        (MODULES, b"0 0 ", (b")", b"0")),
-        (CERTIFICATE, b"", FROM_1),
-        (CERTIFICATE, b"", TO_72),
-        (CERTIFICATE, b"1(", TO_62),
-        (CERTIFICATE, b"1(0 pool ", ONLY_0),
-        (CERTIFICATE, b"1(0 local ", ONLY_0),
-        (CERTIFICATE, b"1(0 local 0(", TO_32),
-        (CERTIFICATE, b"1(0 local 0(0)right ", TO_84),
-        (CERTIFICATE, b"1(0 pool 0 right ", TO_84),
-        (ROUTES, b"", (b"state", b")")),
-        (ROUTES, b"state ", ONLY_0),
-        (ROUTES, b"state 0 none ", FROM_1),
-        (ROUTES, b"state 0 none ", TO_62),
-        (ROUTES, b"state 0 none 1(D ", FROM_1),
-        (ROUTES, b"state 0 none 1(D ", TO_124),
-        (ROUTES, b"state 0 none 1()", (b")", b"state")),
-    ]
-}
+const NUMBERS_OF_PLANS: [Row; 22] = [
+    (DEMANDS, b")cost 0 bound 0 raw 0 ", TO_72),
+    (DEMANDS, b")cost 0 bound 0 raw 0 ", FROM_1),
+    (MODULES, b"", (b"17592186044415", b"17592186044416")),
+    (MODULES, b"7663 ", (b"7036874417", b"7036874418")),
+    (MODULES, b"7664 ", (b"7036874416", b"7036874417")),
+    (MODULES, b"0 ", (b"0", b")")),
+    (MODULES, b"0 0 ", (b")", b"0")),
+    (CERTIFICATE, b"", FROM_1),
+    (CERTIFICATE, b"", TO_72),
+    (CERTIFICATE, b"1(", TO_62),
+    (CERTIFICATE, b"1(0 pool ", ONLY_0),
+    (CERTIFICATE, b"1(0 local ", ONLY_0),
+    (CERTIFICATE, b"1(0 local 0(", TO_32),
+    (CERTIFICATE, b"1(0 local 0(0)right ", TO_84),
+    (CERTIFICATE, b"1(0 pool 0 right ", TO_84),
+    (ROUTES, b"", (b"state", b")")),
+    (ROUTES, b"state ", ONLY_0),
+    (ROUTES, b"state 0 none ", FROM_1),
+    (ROUTES, b"state 0 none ", TO_62),
+    (ROUTES, b"state 0 none 1(D ", FROM_1),
+    (ROUTES, b"state 0 none 1(D ", TO_124),
+    (ROUTES, b"state 0 none 1()", (b")", b"state")),
+];
 
 /// Numbers of what a plan says of its bound.
-fn numbers_of_quality() -> [Row; 20] {
-    [
-        (QUALITY, b"tight ", FROM_1),
-        (QUALITY, b"tight ", TO_62),
-        (QUALITY, b"tight 1(", TO_62),
-        (QUALITY, b"tight 1(", (b"0", b")")),
-        (QUALITY, b"tight 1(0 ", (b")", b"0")),
-        (QUALITY, b"loose wide route ", ONLY_0),
-        (QUALITY, b"loose wide route 0 ", FROM_1),
-        (QUALITY, b"loose wide route 0 ", TO_62),
-        (QUALITY, b"loose wide route 0 1(0 ", (b")", b"0")),
-        (
-            QUALITY,
-            b"loose wide route 0 1(0)(link a ",
-            (b"demand", b")"),
-        ),
-        (
-            QUALITY,
-            b"loose wide route 0 1(0)(link a demand D ",
-            (b")", b"flow"),
-        ),
-        (
-            QUALITY,
-            b"loose wide route 0 1(0)(link a demand D)row ",
-            UP_TO_2,
-        ),
-        (
-            QUALITY,
-            b"loose wide route 0 1(0)(link a demand D)sum ",
-            UP_TO_2,
-        ),
-        (
-            QUALITY,
-            b"loose wide route 0 1(0)(link a demand D)entry ",
-            UP_TO_2,
-        ),
-        (QUALITY, b"loose wide master(", (b"link", b")")),
-        (QUALITY, b"loose wide master(link a ", (b")", b"cut")),
-        (QUALITY, b"loose wide master(cut ", ONLY_0),
-        (QUALITY, b"loose wide master(cut 0(", TO_32),
-        (QUALITY, b"loose wide master(link a)row ", UP_TO_1),
-        (QUALITY, b"loose wide master(link a)entry ", UP_TO_1),
-    ]
-}
+const NUMBERS_OF_QUALITY: [Row; 20] = [
+    (QUALITY, b"tight ", FROM_1),
+    (QUALITY, b"tight ", TO_62),
+    (QUALITY, b"tight 1(", TO_62),
+    (QUALITY, b"tight 1(", (b"0", b")")),
+    (QUALITY, b"tight 1(0 ", (b")", b"0")),
+    (QUALITY, b"loose wide route ", ONLY_0),
+    (QUALITY, b"loose wide route 0 ", FROM_1),
+    (QUALITY, b"loose wide route 0 ", TO_62),
+    (QUALITY, b"loose wide route 0 1(0 ", (b")", b"0")),
+    (
+        QUALITY,
+        b"loose wide route 0 1(0)(link a ",
+        (b"demand", b")"),
+    ),
+    (
+        QUALITY,
+        b"loose wide route 0 1(0)(link a demand D ",
+        (b")", b"flow"),
+    ),
+    (
+        QUALITY,
+        b"loose wide route 0 1(0)(link a demand D)row ",
+        UP_TO_2,
+    ),
+    (
+        QUALITY,
+        b"loose wide route 0 1(0)(link a demand D)sum ",
+        UP_TO_2,
+    ),
+    (
+        QUALITY,
+        b"loose wide route 0 1(0)(link a demand D)entry ",
+        UP_TO_2,
+    ),
+    (QUALITY, b"loose wide master(", (b"link", b")")),
+    (QUALITY, b"loose wide master(link a ", (b")", b"cut")),
+    (QUALITY, b"loose wide master(cut ", ONLY_0),
+    (QUALITY, b"loose wide master(cut 0(", TO_32),
+    (QUALITY, b"loose wide master(link a)row ", UP_TO_1),
+    (QUALITY, b"loose wide master(link a)entry ", UP_TO_1),
+];
 
 /// Numbers whose range is that of their notation.
-fn large_numbers() -> [Row; 7] {
-    [
-        (JOURNAL, b"(1 caller 1 set D ", AMOUNTS),
-        (JOURNAL, b"(1 caller 1 add D(A B)", AMOUNTS),
-        (DEMANDS, b"D(A B)", AMOUNTS),
-        (DEMANDS, b")cost ", MONEY),
-        (DEMANDS, b")cost 0 bound ", MONEY),
-        (DEMANDS, b")cost 0 bound 0 raw ", TO_126),
-        (QUALITY, b"loose wide route 0 1(", TO_126),
-    ]
-}
+const LARGE_NUMBERS: [Row; 7] = [
+    (JOURNAL, b"(1 caller 1 set D ", AMOUNTS),
+    (JOURNAL, b"(1 caller 1 add D(A B)", AMOUNTS),
+    (DEMANDS, b"D(A B)", AMOUNTS),
+    (DEMANDS, b")cost ", MONEY),
+    (DEMANDS, b")cost 0 bound ", MONEY),
+    (DEMANDS, b")cost 0 bound 0 raw ", TO_126),
+    (QUALITY, b"loose wide route 0 1(", TO_126),
+];
 
 /// Takes the last token of a row, and refuses the other one at its place as this kind.
-fn ends_at<R: AllocGlobal + Abort>(rt: &R, row: Row, kind: &'static str) -> Result<(), Fail> {
-    let (front, rest, (last, past)) = row;
+fn ends_at<R: AllocGlobal + Abort>(rt: &R, row: &Row, kind: &'static str) -> Result<(), Fail> {
+    let (front, rest, (last, past)) = *row;
     let text = joined(rt.alloc(), front, rest, last).ok_or("memory")?;
     let end = text.len() as u64;
     assert_eq!(rt; fault_of(rt.alloc(), text.items()), Some((end, "ended")));
@@ -247,16 +239,16 @@ fn ends_at<R: AllocGlobal + Abort>(rt: &R, row: Row, kind: &'static str) -> Resu
 
 #[test]
 fn each_range_ends_at_its_last_number(rt: HostRuntime) -> Result<(), Fail> {
-    for row in numbers_before_plans() {
+    for row in &NUMBERS_BEFORE_PLANS {
         ends_at(&rt, row, "limit")?;
     }
-    for row in numbers_of_plans() {
+    for row in &NUMBERS_OF_PLANS {
         ends_at(&rt, row, "limit")?;
     }
-    for row in numbers_of_quality() {
+    for row in &NUMBERS_OF_QUALITY {
         ends_at(&rt, row, "limit")?;
     }
-    for row in large_numbers() {
+    for row in &LARGE_NUMBERS {
         ends_at(&rt, row, "number-large")?;
     }
     Ok(())
@@ -290,80 +282,90 @@ type Many = (
     &'static [u8],
 );
 
-fn counts() -> [Many; 5] {
-    [
-        ((JOURNAL, b""), 65536, (b"(", Some(1), b" cut 0)"), b"("),
+const COUNTS: [Many; 5] = [
+    ((JOURNAL, b""), 65536, (b"(", Some(1), b" cut 0)"), b"("),
+    (
+        (POOL, b""),
+        4096,
+        (b"(", Some(0), b" state 0 right 0(0))"),
+        b"(",
+    ),
+    (
+        (OUTCOMES, b""),
+        64,
         (
-            (POOL, b""),
-            4096,
-            (b"(", Some(0), b" state 0 right 0(0))"),
-            b"(",
+            b"UNSURVIVABLE(caller 1 plan 1 version 0 position 0 state 0 none demand D)",
+            None,
+            b"",
         ),
-        (
-            (OUTCOMES, b""),
-            64,
-            (
-                b"UNSURVIVABLE(caller 1 plan 1 version 0 position 0 state 0 none demand D)",
-                None,
-                b"",
-            ),
-            b"PLAN",
-        ),
-        (
-            (CERTIFICATE, b"1"),
-            256,
-            (b"(0 pool 0 right 0)", None, b""),
-            b"(",
-        ),
-        (
-            (ROUTES, b"state 0 none 1("),
-            65536,
-            (b"D 1(a)", None, b""),
-            b"D",
-        ),
-    ]
+        b"PLAN",
+    ),
+    (
+        (CERTIFICATE, b"1"),
+        256,
+        (b"(0 pool 0 right 0)", None, b""),
+        b"(",
+    ),
+    (
+        (ROUTES, b"state 0 none 1("),
+        65536,
+        (b"D 1(a)", None, b""),
+        b"D",
+    ),
+];
+
+/// Takes a list of the last count, and refuses one element more where it begins.
+fn list_ends<R: AllocGlobal + Abort>(rt: &R, many: &Many) -> Result<(), Fail> {
+    let (front, count, piece, next) = *many;
+    let full = with_many(rt.alloc(), front, count, piece).ok_or("memory")?;
+    let end = full.len() as u64;
+    assert_eq!(rt; fault_of(rt.alloc(), full.items()), Some((end, "ended")));
+    let text = joined(rt.alloc(), full.items(), next, b"").ok_or("memory")?;
+    assert_eq!(rt; fault_of(rt.alloc(), text.items()), Some((end, "limit")));
+    Ok(())
 }
 
 #[test]
 fn each_count_ends_at_its_last_number(rt: HostRuntime) -> Result<(), Fail> {
-    for (front, count, piece, next) in counts() {
-        let full = with_many(rt.alloc(), front, count, piece).ok_or("memory")?;
-        let end = full.len() as u64;
-        assert_eq!(rt; fault_of(rt.alloc(), full.items()), Some((end, "ended")));
-        let text = joined(rt.alloc(), full.items(), next, b"").ok_or("memory")?;
-        assert_eq!(rt; fault_of(rt.alloc(), text.items()), Some((end, "limit")));
+    for many in &COUNTS {
+        list_ends(&rt, many)?;
     }
     Ok(())
 }
 
 /// What stands before and after a name that is free or new.
-fn around_names() -> [(&'static [u8], &'static [u8]); 6] {
-    [
-        (JOURNAL, b"(1 caller 1 set "),
-        (JOURNAL, b"(1 caller 1 add "),
-        (JOURNAL, b"(1 caller 1 add D("),
-        (JOURNAL, b"(1 caller 1 add D(A "),
-        (
-            OUTCOMES,
-            b"UNSURVIVABLE(caller 1 plan 1 version 0 position 0 state 0 none demand ",
-        ),
-        (DEMANDS, b""),
-    ]
+const AROUND_NAMES: [(&'static [u8], &'static [u8]); 6] = [
+    (JOURNAL, b"(1 caller 1 set "),
+    (JOURNAL, b"(1 caller 1 add "),
+    (JOURNAL, b"(1 caller 1 add D("),
+    (JOURNAL, b"(1 caller 1 add D(A "),
+    (
+        OUTCOMES,
+        b"UNSURVIVABLE(caller 1 plan 1 version 0 position 0 state 0 none demand ",
+    ),
+    (DEMANDS, b""),
+];
+
+/// Takes a name of 255 bytes, and refuses one of 256 at its place.
+fn name_ends<R: AllocGlobal + Abort>(rt: &R, front: &[u8], rest: &[u8]) -> Result<(), Fail> {
+    let last = List::filled(rt.alloc(), b'n', 255)?;
+    let past = List::filled(rt.alloc(), b'n', 256)?;
+    let text = joined(rt.alloc(), front, rest, last.items()).ok_or("memory")?;
+    let end = text.len() as u64;
+    assert_eq!(rt; fault_of(rt.alloc(), text.items()), Some((end, "ended")));
+    let text = joined(rt.alloc(), front, rest, past.items()).ok_or("memory")?;
+    let at = front.len() as u64 + rest.len() as u64;
+    assert_eq!(rt;
+        fault_of(rt.alloc(), text.items()),
+        Some((at, "limit-name"))
+    );
+    Ok(())
 }
 
 #[test]
 fn names_end_at_255_bytes(rt: HostRuntime) -> Result<(), Fail> {
-    let last = List::filled(rt.alloc(), b'n', 255)?;
-    let past = List::filled(rt.alloc(), b'n', 256)?;
-    for (front, rest) in around_names() {
-        let text = joined(rt.alloc(), front, rest, last.items()).ok_or("memory")?;
-        let end = text.len() as u64;
-        assert_eq!(rt; fault_of(rt.alloc(), text.items()), Some((end, "ended")));
-        let text = joined(rt.alloc(), front, rest, past.items()).ok_or("memory")?;
-        assert_eq!(rt;
-            fault_of(rt.alloc(), text.items()),
-            Some((end.saturating_sub(255), "limit-name"))
-        );
+    for (front, rest) in &AROUND_NAMES {
+        name_ends(&rt, front, rest)?;
     }
     Ok(())
 }

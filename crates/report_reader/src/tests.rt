@@ -45,47 +45,48 @@ fn a_report_is_written_as_it_was_read(rt: HostRuntime) {
     assert!(rt; same);
 }
 
-/// Texts that end with their first fault: what they begin with, what comes after it, and the place and the kind of the fault.
-fn refused() -> [(&'static [u8], &'static [u8], u64, &'static str); 16] {
-    [
-        (NOTHING, b"?planner report; version: 2\n", 0, "header"),
-        (START, b"NOTES()POOL", 35, "section"),
-        (OUTCOMES, b")NOTES", 60, "section"),
-        (START, b"NOTES(routing fixed", 42, "token"),
-        (JOURNAL, b"", 43, "ended"),
-        (JOURNAL, b"(01", 44, "number-not"),
-        (JOURNAL, b"(1 caller 1 set D 0.0001", 61, "number-fine"),
-        (
-            JOURNAL,
-            b"(1 cut 85070591730234615865843651857942052864",
-            50,
-            "number-large",
-        ),
-        (
-            OUTCOMES,
-            b"UNSURVIVABLE(caller 1 plan 1 version 0 position 0 state 0 all",
-            117,
-            "unknown-name",
-        ),
-        (MODULES, b"a(0)a", 153, "unknown-name"),
-        (DEMANDS, b"D(A B)1 D", 117, "double-name"),
-        (
-            JOURNAL,
-            b"(1 caller 1 drop nnnnnnnnnnnnnnnnnnnnnnnnnnnnnnnnnnnnnnnnnnnnnnnnnnnnnnnnnnnnnnnnnnnnnnnnnnnnnnnnnnnnnnnnnnnnnnnnnnnnnnnnnnnnnnnnnnnnnnnnnnnnnnnnnnnnnnnnnnnnnnnnnnnnnnnnnnnnnnnnnnnnnnnnnnnnnnnnnnnnnnnnnnnnnnnnnnnnnnnnnnnnnnnnnnnnnnnnnnnnnnnnnnnnnnnnnnnnnnnnnnnnnnnnnnnnnnnn",
-            60,
-            "limit-name",
-        ),
-        (JOURNAL, b"(2", 44, "limit"),
-        (MODULES, b")", 149, "limit"),
-        (MODULES, b"a(0))CERTIFICATE(1(0 pool 0", 175, "limit"),
-        (
-            MODULES,
-            b"a(0))CERTIFICATE(1)ROUTES(state 0 none 1())unsolved",
-            192,
-            "token",
-        ),
-    ]
-}
+/// What a text begins with, what comes after it up to its first fault, and the place and the kind of that.
+type Refused = (&'static [u8], &'static [u8], u64, &'static str);
+
+/// Texts that end with their first fault.
+const REFUSED: [Refused; 16] = [
+    (NOTHING, b"?planner report; version: 2\n", 0, "header"),
+    (START, b"NOTES()POOL", 35, "section"),
+    (OUTCOMES, b")NOTES", 60, "section"),
+    (START, b"NOTES(routing fixed", 42, "token"),
+    (JOURNAL, b"", 43, "ended"),
+    (JOURNAL, b"(01", 44, "number-not"),
+    (JOURNAL, b"(1 caller 1 set D 0.0001", 61, "number-fine"),
+    (
+        JOURNAL,
+        b"(1 cut 85070591730234615865843651857942052864",
+        50,
+        "number-large",
+    ),
+    (
+        OUTCOMES,
+        b"UNSURVIVABLE(caller 1 plan 1 version 0 position 0 state 0 all",
+        117,
+        "unknown-name",
+    ),
+    (MODULES, b"a(0)a", 153, "unknown-name"),
+    (DEMANDS, b"D(A B)1 D", 117, "double-name"),
+    (
+        JOURNAL,
+        b"(1 caller 1 drop nnnnnnnnnnnnnnnnnnnnnnnnnnnnnnnnnnnnnnnnnnnnnnnnnnnnnnnnnnnnnnnnnnnnnnnnnnnnnnnnnnnnnnnnnnnnnnnnnnnnnnnnnnnnnnnnnnnnnnnnnnnnnnnnnnnnnnnnnnnnnnnnnnnnnnnnnnnnnnnnnnnnnnnnnnnnnnnnnnnnnnnnnnnnnnnnnnnnnnnnnnnnnnnnnnnnnnnnnnnnnnnnnnnnnnnnnnnnnnnnnnnnnnnnnnnnnnnn",
+        60,
+        "limit-name",
+    ),
+    (JOURNAL, b"(2", 44, "limit"),
+    (MODULES, b")", 149, "limit"),
+    (MODULES, b"a(0))CERTIFICATE(1(0 pool 0", 175, "limit"),
+    (
+        MODULES,
+        b"a(0))CERTIFICATE(1)ROUTES(state 0 none 1())unsolved",
+        192,
+        "token",
+    ),
+];
 
 /// The place and the kind of the fault of a text in two parts.
 fn fault_of(alloc: Global, front: &[u8], rest: &[u8]) -> Option<(u64, &'static str)> {
@@ -101,10 +102,10 @@ fn fault_of(alloc: Global, front: &[u8], rest: &[u8]) -> Option<(u64, &'static s
 
 #[test]
 fn each_kind_of_fault_at_its_place(rt: HostRuntime) {
-    for (front, rest, at, kind) in refused() {
+    for (front, rest, at, kind) in &REFUSED {
         assert_eq!(rt;
             fault_of(rt.alloc(), front, rest),
-            Some((at, kind)),
+            Some((*at, *kind)),
             "at {at}"
         );
     }
