@@ -51,10 +51,8 @@ fn both(
 {
     let mut all = one?;
     let mut more = two?;
-    match all.append(&mut more) {
-        Ok(()) => Ok(all),
-        Err(_) => Err(Stop::NoMemory),
-    }
+    all.append(&mut more)?;
+    Ok(all)
 }
 
 /// Runs the callers from `low` on and below `high`, each that a command names on a thread of its own, and gives their outcomes. Where

@@ -22,13 +22,8 @@ use std::thread::Threads;
 fn keep(outcome: Result<Outcome, NoMemory>, outcomes: &mut Vec<Outcome>) -> Result<(), Stop>
     ensures { KeepsOutcome outcome outcomes.old.items outcomes.new.items result }
 {
-    let Ok(outcome) = outcome else {
-        return Err(Stop::NoMemory);
-    };
-    match outcomes.push(outcome) {
-        Ok(()) => Ok(()),
-        Err(_) => Err(Stop::NoMemory),
-    }
+    outcomes.push(outcome?)?;
+    Ok(())
 }
 
 /// Runs a caller's next command, after those with these outcomes.

@@ -47,9 +47,7 @@ fn run_on<'a, R: Threads + Wait + Sync, G: Gate + Sync>(
     ensures origin { IfOk result (λ ran. origin_of ran.1 ≡ origin_of board.entry) }
     ensures run { IfOk result (λ ran. HaveRun (opening_case ran.1) ran.1.entries ran.1.entries setting.now.commands.now ran.0) }
 {
-    let Ok((desk, pass)) = Desk::new(setting.alloc, board) else {
-        return Err(NoMemory);
-    };
+    let (desk, pass) = Desk::new(setting.alloc, board)?;
     let (outcomes, caller) = run_callers(rt, gate, setting, 1, 9, Caller::new(1, &desk, pass));
     let pass = caller.into_pass();
     let board = desk.close(pass);

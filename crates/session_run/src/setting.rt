@@ -2,9 +2,9 @@ ghost use Rattle.std.specs.Prelude.{◌≡◌, length};
 ghost use Rattle.hint_board.specs.Hints.{hint_links};
 
 use hint_board::HintBoard;
-use net_core::{Network, States};
+use net_core::{Network, NoMemory, States};
 use session_script::Command;
-use std::alloc::Global;
+use std::alloc::{AllocError, AllocFailed, Global};
 
 /// What all callers of a session share.
 #[derive(Clone, Copy)]
@@ -24,4 +24,38 @@ pub enum Stop {
     NoMemory,
     /// The journal has no room, which commands of a script and the cuts of a pool never take up.
     Full,
+}
+
+impl From<NoMemory> for Stop {
+    ghost use Rattle.std.specs.Prelude.{◌≡◌};
+    ghost use Rattle.session_run.specs.declared.setting.Stop.{Stop};
+
+    ghost from_gives = { λ _ stop. stop ≡ Stop.NoMemory };
+
+    fn from(_error: NoMemory) -> Stop {
+        Stop::NoMemory
+    }
+}
+
+impl From<AllocError> for Stop {
+    ghost use Rattle.std.specs.Prelude.{◌≡◌};
+    ghost use Rattle.session_run.specs.declared.setting.Stop.{Stop};
+
+    ghost from_gives = { λ _ stop. stop ≡ Stop.NoMemory };
+
+    fn from(_error: AllocError) -> Stop {
+        Stop::NoMemory
+    }
+}
+
+/// What couldn't be stored is dropped.
+impl<T: Drop> From<AllocFailed<T>> for Stop {
+    ghost use Rattle.std.specs.Prelude.{◌≡◌};
+    ghost use Rattle.session_run.specs.declared.setting.Stop.{Stop};
+
+    ghost from_gives = { λ _ stop. stop ≡ Stop.NoMemory };
+
+    fn from(_refused: AllocFailed<T>) -> Stop {
+        Stop::NoMemory
+    }
 }
