@@ -66,6 +66,27 @@ fn write_raw(raw: &mut [i128], rows: &[Row], owners: &[u32], weights: &[i64], de
     true
 }
 
+/// The same in a list.
+fn write_raw_list(
+    raw: &mut List<i128>,
+    rows: &[Row],
+    owners: &[u32],
+    weights: &[i64],
+    demand: u32,
+) -> bool
+    requires short { length rows.now < 2 ^ 32 }
+    requires rectangle { IsRectangle (length rows.now) rows.now }
+    requires room { length raw.old ≡ length rows.now }
+    requires owners { length owners.now ≡ length rows.now }
+    requires count { length weights.now ≡ length rows.now }
+    requires weights { (i : ℕ) → IsNarrow (num weights.now i) }
+    ensures room { length raw.new ≡ length raw.old }
+    ensures all { IsTrue result → AreRaw (less_rows rows.now owners.now weights.now demand (length rows.now)) (length rows.now) raw.new }
+    ensures wide { result ≡ false → HasWide (less_rows rows.now owners.now weights.now demand (length rows.now)) (length rows.now) }
+{
+    write_raw(raw.items_mut(), rows, owners, weights, demand)
+}
+
 /// Makes `row` that of a demand's key in lowest terms, unless that is too wide. The weights bring the demand's rows over `all`.
 fn key_row(
     row: &mut Row,
@@ -90,7 +111,7 @@ fn key_row(
     ensures done { IsTrue result → IsReduced (length rows.now) (less_rows rows.now owners.now weights.now demand (length rows.now)) all.now (num row.new.nums) row.new.den }
     ensures wide { result ≡ false → IsWideKey (less_rows rows.now owners.now weights.now demand (length rows.now)) (length rows.now) all.now }
 {
-    if !write_raw(raw.items_mut(), rows, owners, weights, demand) {
+    if !write_raw_list(raw, rows, owners, weights, demand) {
         return false;
     }
     lower(row, raw.items(), all).is_ok()
