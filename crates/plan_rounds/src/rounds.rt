@@ -19,7 +19,7 @@ use crate::shares::{ShareCaps, share_caps};
 use crate::sorting::{Answered, sorted};
 use master_bound::{Best, MasterFault, master, unit_pairs};
 use module_prices::UnitPair;
-use net_core::{CutLine, Evidence, Instance, List, NoMemory, Routing};
+use net_core::{Copied, CutLine, Evidence, Instance, List, NoMemory, Routing};
 use plan_types::{Cause, Quality, Spot};
 use separator::Separate;
 use std::alloc::Global;
@@ -37,6 +37,26 @@ pub struct Worked {
     /// The best certificate, if there is one: that of these cuts, or, where theirs is too wide, that of the cuts before the last round.
     pub best: Option<Best>,
     pub quality: Quality,
+}
+
+fn copied_best(best: &Option<Best>) -> Result<Option<Best>, NoMemory>
+    ensures { IfOk result (λ b. b ≡ best.now) }
+{
+    match best {
+        Some(best) => Ok(Some(best.copy()?)),
+        None => Ok(None),
+    }
+}
+
+impl Copied for Worked {
+    fn copy(&self) -> Result<Worked, NoMemory> {
+        Ok(Worked {
+            lines: self.lines.copy()?,
+            spots: self.spots.copy()?,
+            best: copied_best(&self.best)?,
+            quality: self.quality.copy()?,
+        })
+    }
 }
 
 /// What one turn of the rounds comes to.
