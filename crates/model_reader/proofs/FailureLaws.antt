@@ -22,7 +22,7 @@ use Rattle.text_kit.proofs.Files.{answer_found, answer_only, answer_first, file_
 use Rattle.text_kit.proofs.Lawful.{AnyText, IsEnd, Lawful, lawful_as, lawful_give, lawful_list, lawful_open, lawful_some, lawful_then, lawful_whole, lawful_word}
 use Rattle.text_kit.proofs.Online.{IsOnline, TakesSome, online_give, online_list, online_open, online_then, online_whole, online_word, takes_some}
 use Rattle.model_reader.specs.declared.failures.FailureList.{FailureList}
-use Rattle.model_reader.specs.declared.failures.FailureList.TheVariants.{OneByOne, EachAlone}
+use Rattle.model_reader.specs.declared.failures.FailureList.TheVariants.{OneByOne, EverySingleLink}
 use Rattle.model_reader.specs.declared.failures.FailuresKind.{FailuresKind}
 use Rattle.model_reader.specs.declared.failures.FailuresKind.TheVariants.{Header, Section, Token, Ended, LimitName, UnknownLink, DoubleState, LimitStates}
 use Rattle.model_reader.specs.Failures.{IsListInForm, IsShort, SpellsFailures, failures_header, failing_link_name, list_items, state_items, states_of}
@@ -99,7 +99,7 @@ states_lawful links pairs = lawful_as (states_at links []) _ (λ xs. flat_map (s
 -- the first word, and what comes after it
 abbrev is_one_by_one : FailureList → Bool
 is_one_by_one (OneByOne listed) = true
-is_one_by_one EachAlone = false
+is_one_by_one EverySingleLink = false
 
 abbrev word_for : Bool → List ℕ
 word_for true = codes "FAILURES"
@@ -107,11 +107,11 @@ word_for false = codes "ALL_SINGLE_LINKS"
 
 abbrev items_after : List Link → FailureList → List Item
 items_after links (OneByOne listed) = Opening ∷ (flat_map (state_items links) listed ++ Closing ∷ [])
-items_after links EachAlone = []
+items_after links EverySingleLink = []
 
 abbrev listed_of : FailureList → List Listed
 listed_of (OneByOne listed) = listed
-listed_of EachAlone = []
+listed_of EverySingleLink = []
 
 word_if : (w : List ℕ) (one all x : Bool) → are_same w (codes "FAILURES") ≡ one → are_same w (codes "ALL_SINGLE_LINKS") ≡ all → (let r : Result Bool FailuresKind = cond one (Ok true) (cond all (Ok false) (Err Section)) in r ≡ Ok x) → w ≡ word_for x
 word_if w true all true p q e = same_is w (codes "FAILURES") p
@@ -137,19 +137,19 @@ WasListed links l = Unit {0} × ((AreStates (length links) (listed_of l) × All 
 
 listed_items : (links : List Link) (l : FailureList) → WasListed links l → Opening ∷ ((flat_map (state_items links) (listed_of l) ++ Closing ∷ []) ++ []) ≡ items_after links l
 listed_items links (OneByOne listed) h = ap (λ (is : List Item). Opening ∷ is) (append-nil (flat_map (state_items links) listed ++ Closing ∷ []))
-listed_items links EachAlone h = absurd (let e : OneByOne [] ≡ EachAlone = h.1.1 in cc)
+listed_items links EverySingleLink h = absurd (let e : OneByOne [] ≡ EverySingleLink = h.1.1 in cc)
 
 listed_form : (links : List Link) (l : FailureList) → WasListed links l → IsOf links true l
 listed_form links (OneByOne listed) h = (refl, h.1.0)
-listed_form links EachAlone h = absurd (let e : OneByOne [] ≡ EachAlone = h.1.1 in cc)
+listed_form links EverySingleLink h = absurd (let e : OneByOne [] ≡ EverySingleLink = h.1.1 in cc)
 
 form_listed : (links : List Link) (l : FailureList) → IsOf links true l → WasListed links l
 form_listed links (OneByOne listed) h = (tt, (h.1, refl))
-form_listed links EachAlone h = absurd (let e : true ≡ false = h.0 in cc)
+form_listed links EverySingleLink h = absurd (let e : true ≡ false = h.0 in cc)
 
-form_alone : (links : List Link) (l : FailureList) → IsOf links false l → EachAlone ≡ l
+form_alone : (links : List Link) (l : FailureList) → IsOf links false l → EverySingleLink ≡ l
 form_alone links (OneByOne listed) h = absurd (let e : false ≡ true = h.0 in cc)
-form_alone links EachAlone h = refl
+form_alone links EverySingleLink h = refl
 
 after_lawful : (links : List Link) → AreDifferent links → (b : Bool) → Lawful (after_word links b) (items_after links) (IsOf links b) AnyText
 unfolding after_word
@@ -158,11 +158,11 @@ after_lawful links pairs true = lawful_as (after_word links true) _ (items_after
     lawful_then _ _ _ _ _ _ AnyText listed_of (λ a l h. ap listed_of h) (states_lawful links pairs) (λ listed.
     lawful_give (OneByOne listed))))
 after_lawful links pairs false = lawful_as (after_word links false) _ (items_after links) _ (IsOf links false) AnyText
-    (λ l e. ap (items_after links) e) (λ l e. subst (λ (x : FailureList). IsOf links false x) e (refl, tt)) (form_alone links) (lawful_give EachAlone)
+    (λ l e. ap (items_after links) e) (λ l e. subst (λ (x : FailureList). IsOf links false x) e (refl, tt)) (form_alone links) (lawful_give EverySingleLink)
 
 all_items : (links : List Link) (l : FailureList) → Verbatim (word_for (is_one_by_one l)) ∷ items_after links l ≡ list_items links l
 all_items links (OneByOne listed) = refl
-all_items links EachAlone = refl
+all_items links EverySingleLink = refl
 
 failures_lawful : (links : List Link) → AreDifferent links → Lawful (failures_at links) (list_items links) (IsListInForm links) IsEnd
 failures_lawful links pairs = lawful_whole Section (failure_list_at links) (list_items links) (IsListInForm links)
@@ -198,7 +198,7 @@ after_online links true =
     online_then _ _ (online_open Section Ended) (λ a.
     online_then _ _ (online_list Parenthesis no_fault (state_at links) (state_online links) (state_some links) []) (λ listed.
     online_give (OneByOne listed)))
-after_online links false = online_give EachAlone
+after_online links false = online_give EverySingleLink
 
 failures_online : (links : List Link) → IsOnline (failures_at links)
 failures_online links = online_whole Section (failure_list_at links) (online_then _ _ (online_word Section Ended is_list) (after_online links))

@@ -1,4 +1,4 @@
--- the grammar of a failure list: named states, each with the links that fail; or the word for each link alone
+-- the grammar of a failure list: named states, each with the links that fail; or the word for every single-link failure
 use Rattle.std.specs.Prelude.{ℕ, ◌+◌, ◌≤◌, List, [], ◌∷◌, ◌++◌, length, All, flat_map, slice_get, codes}
 use Rattle.std.specs.Option.{option_map_or}
 use Rattle.net_core.specs.declared.ids.LinkId.{LinkId}
@@ -6,7 +6,7 @@ use Rattle.net_core.specs.declared.network.Link.{Link}
 use Rattle.net_core.specs.declared.states.Listed.{Listed}
 use Rattle.net_core.specs.States.{AreStates}
 use Rattle.model_reader.specs.declared.failures.FailureList.{FailureList}
-use Rattle.model_reader.specs.declared.failures.FailureList.TheVariants.{OneByOne, EachAlone}
+use Rattle.model_reader.specs.declared.failures.FailureList.TheVariants.{OneByOne, EverySingleLink}
 use Rattle.text_kit.specs.Files.{SpellsAs}
 use Rattle.text_kit.specs.Items.{Item, Verbatim, Opening, Closing}
 
@@ -27,14 +27,14 @@ abbrev pub singles_from : ℕ → List Link → List Listed
 singles_from at [] = []
 singles_from at (l ∷ ls) = single at l.name ∷ singles_from (at + 1) ls
 
--- each link alone, as a state of its name, in the order of the links
+-- every single-link failure, as a state with the name of the link, in the order of the links
 abbrev pub single_states : List Link → List Listed
 single_states links = singles_from 0 links
 
 -- the states of what a file says
 abbrev pub states_of : List Link → FailureList → List Listed
 states_of links (OneByOne listed) = listed
-states_of links EachAlone = single_states links
+states_of links EverySingleLink = single_states links
 
 -- a state's name, and its links between parentheses
 abbrev pub state_items : List Link → Listed → List Item
@@ -43,7 +43,7 @@ state_items links s = Verbatim s.name ∷ Opening ∷ (flat_map (λ e. Verbatim 
 -- all states between parentheses, or one word
 abbrev pub list_items : List Link → FailureList → List Item
 list_items links (OneByOne listed) = Verbatim (codes "FAILURES") ∷ Opening ∷ (flat_map (state_items links) listed ++ Closing ∷ [])
-list_items links EachAlone = Verbatim (codes "ALL_SINGLE_LINKS") ∷ []
+list_items links EverySingleLink = Verbatim (codes "ALL_SINGLE_LINKS") ∷ []
 
 -- a state's name and those of its links have at most 255 bytes
 abbrev pub IsShort : List Link → Listed → Type 0
@@ -52,7 +52,7 @@ IsShort links s = (length s.name ≤ 255) × All (λ e. length (failing_link_nam
 -- states of the network, whose names aren't too long
 abbrev pub IsListInForm : List Link → FailureList → Type 0
 IsListInForm links (OneByOne listed) = AreStates (length links) listed × All (IsShort links) listed
-IsListInForm links EachAlone = Unit {0}
+IsListInForm links EverySingleLink = Unit {0}
 
 -- the bytes of a file spell these states of the links of a network
 abbrev pub SpellsFailures : List Link → List ℕ → List Listed → Type 0

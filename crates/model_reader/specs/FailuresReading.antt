@@ -10,7 +10,7 @@ use Rattle.text_kit.specs.Reading.{Read, Reading, ◌>>=◌, give, word_at, open
 use Rattle.model_reader.specs.declared.failures.FailuresKind.{FailuresKind}
 use Rattle.model_reader.specs.declared.failures.FailuresKind.TheVariants.{Header, Section, Token, Ended, LimitName, UnknownLink, DoubleState, LimitStates}
 use Rattle.model_reader.specs.declared.failures.FailureList.{FailureList}
-use Rattle.model_reader.specs.declared.failures.FailureList.TheVariants.{OneByOne, EachAlone}
+use Rattle.model_reader.specs.declared.failures.FailureList.TheVariants.{OneByOne, EverySingleLink}
 use Rattle.model_reader.specs.Failures.{failures_header, states_of}
 
 -- a link by its name
@@ -45,7 +45,7 @@ after_word links true = do
   _ ← open_at Section Ended
   listed ← states_at links []
   give (OneByOne listed)
-after_word links false = give EachAlone
+after_word links false = give EverySingleLink
 
 -- that word and what comes after it
 abbrev pub failure_list_at : List Link → Reading FailuresKind FailureList

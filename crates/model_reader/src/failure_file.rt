@@ -49,7 +49,7 @@ fn list(alloc: Global, links: &[Link], text: &mut Cursor) -> Result<FailureList,
     ensures { ReadsAs (λ l. l) result (left text.new) (failure_list_at links.now (left text.old)) }
 {
     if !first_word(text)? {
-        return Ok(FailureList::EachAlone);
+        return Ok(FailureList::EverySingleLink);
     }
     open(FailuresKind::Section, FailuresKind::Ended, text)?;
     let listed = states(alloc, links, text)?;
@@ -76,7 +76,7 @@ fn states_of(alloc: Global, net: &Network, list: FailureList) -> Result<States, 
     ensures { IfOk result (λ s. s.listed ≡ states_of net.now.links list) }
 {
     match list {
-        FailureList::EachAlone => single_links(alloc, net),
+        FailureList::EverySingleLink => single_links(alloc, net),
         FailureList::OneByOne(listed) => match States::new(net, listed) {
             Ok(states) => Ok(states),
             Err(_) => unreachable!(),

@@ -21,7 +21,7 @@ fn just(alloc: Global, link: LinkId) -> Result<List<LinkId>, NoMemory>
     Ok(links)
 }
 
-/// The state that fails one link alone, whose name it has.
+/// The failure of a single link, as a state with its name.
 fn single(alloc: Global, id: LinkId, link: &Link) -> Result<Listed, NoMemory>
     ensures { IfOk result (λ s. s ≡ single id.0 link.now.name) }
 {
@@ -44,7 +44,7 @@ fn singles(alloc: Global, links: &[Link]) -> Result<List<Listed>, NoMemory>
     Ok(listed)
 }
 
-/// Each link alone, as a state of its name, in the order of the links. It takes memory for the states, and time in
+/// Every single-link failure, as a state with the name of the link, in the order of the links. It takes memory for the states, and time in
 /// the square of the number of links, since their names are compared again.
 pub fn single_links(alloc: Global, net: &Network) -> Result<States, NoMemory>
     ensures list { IfOk result (λ states. states.listed ≡ single_states net.now.links) }

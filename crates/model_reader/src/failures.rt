@@ -50,15 +50,15 @@ pub type FailuresRefusal = Refusal<FailuresKind>;
 pub enum FailureList {
     /// States one by one, each with its name and the links that fail.
     OneByOne(List<Listed>),
-    /// Each link alone, by one word.
-    EachAlone,
+    /// Every single-link failure, by one word.
+    EverySingleLink,
 }
 
 impl Copied for FailureList {
     fn copy(&self) -> Result<FailureList, NoMemory> {
         Ok(match self {
             FailureList::OneByOne(listed) => FailureList::OneByOne(listed.copy()?),
-            FailureList::EachAlone => FailureList::EachAlone,
+            FailureList::EverySingleLink => FailureList::EverySingleLink,
         })
     }
 }

@@ -78,7 +78,7 @@ HasModel files w reconfigure =
     ⊎ ((w.model ≡ default) × (w.failures ≢ default) × (reconfigure ≡ true))
     ⊎ ((w.model ≡ default) × (w.failures ≡ default) × (reconfigure ≡ false))
 
--- The listed states: those of the failure file; without one, each link alone with reconfiguration, and none without.
+-- The listed states: those of the failure file; without one, every single-link failure with reconfiguration, and none without.
 abbrev pub HasStates : Option Files → PlanWords → List Link → Bool → List Listed → Type 0
 HasStates files w links reconfigure listed =
     ((w.failures ≢ default) × (reconfigure ≡ true) × Fetched files input_limit w.failures (failures.SpellsFailures links) listed)

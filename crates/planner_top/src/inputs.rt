@@ -119,7 +119,7 @@ fn load_model<S: Shelf>(alloc: Global, files: &PlanFiles, shelf: &mut S) -> Resu
     model_of(alloc, bytes.items())
 }
 
-/// The states without a failure file: each link alone with reconfiguration, and none without.
+/// The states without a failure file: every single-link failure with reconfiguration, and none without.
 fn default_states(alloc: Global, net: &Network, reconfigure: bool) -> Result<States, NoMemory>
     ensures single { reconfigure ≡ true → IfOk result (λ r. r.listed ≡ failures.single_states net.now.links) }
     ensures none { reconfigure ≡ false → IfOk result (λ r. r.listed ≡ []) }
