@@ -25,6 +25,7 @@ module _ (p : Case) (caps : Caps) (history : List Entry) where
     pub count : n + length answers ≡ length p.listed + 1
     pub each : (i : ℕ) (a : StateAnswer) → slice_get answers i ≡ Some a → (a.state.0 ≡ n + i) × IsAnswerOf p caps history (n + i) a.answer
 
+module _ (p : Case) (caps : Caps) (history : List Entry) where
   pub answers_all : (answers : List StateAnswer) → AreStateAnswers p caps history answers → AreAnswersFrom p caps history 0 answers
   answers_all answers are = record {
     count = omega (arith, are.count);
