@@ -63,20 +63,20 @@ module _ {I : Type 0} where
       ∙ ap (λ xs. take 1 (drop p history) ++ xs) (items_front history more (p + 1) ps parts.2)
 
   -- the items at ascending places are a part of the history
-  items_after : (history : List I) (low : ℕ) (places : List ℕ) → are_places low (length history) places ≡ true → IsPartOf (items_at history places) (drop low history)
-  items_after history low [] placed = none_part (drop low history)
-  items_after history low (p ∷ ps) placed =
+  items_from : (history : List I) (low : ℕ) (places : List ℕ) → are_places low (length history) places ≡ true → IsPartOf (items_at history places) (drop low history)
+  items_from history low [] placed = none_part (drop low history)
+  items_from history low (p ∷ ps) placed =
       let parts = first_place low (length history) p ps placed in
       let found = from_item history p parts.1 in
       let next : p + 1 ≡ suc p = omega arith in
-      let rest : IsPartOf (items_at history ps) (drop (suc p) history) = subst (λ k. IsPartOf (items_at history ps) (drop k history)) next (items_after history (p + 1) ps parts.2) in
+      let rest : IsPartOf (items_at history ps) (drop (suc p) history) = subst (λ k. IsPartOf (items_at history ps) (drop k history)) next (items_from history (p + 1) ps parts.2) in
       let items : take 1 (drop p history) ++ items_at history ps ≡ found.0 ∷ items_at history ps = ap (λ xs. take 1 xs ++ items_at history ps) found.1 in
       let all : IsPartOf (found.0 ∷ items_at history ps) (found.0 ∷ drop (suc p) history) = inl (refl, rest) in
       part_earlier (items_at history (p ∷ ps)) history low p parts.0
       (subst (λ xs. IsPartOf xs (drop p history)) (sym items) (subst (IsPartOf (found.0 ∷ items_at history ps)) (sym found.1) all))
 
   pub items_among : (history : List I) (places : List ℕ) → are_places 0 (length history) places ≡ true → IsPartOf (items_at history places) history
-  items_among history places placed = items_after history 0 places placed
+  items_among history places placed = items_from history 0 places placed
 
   -- the items after a history stand at the places after it
   pub items_added : (history more : List I) → items_at (history ++ more) (range_with_len (length history) (length more)) ≡ more
