@@ -5,4 +5,4 @@ use Rattle.separation_workers.proofs.tests.answered.Goals as goal
 pub new-separator-requires-clause-seen : goal.new-separator-requires-clause-seen
 new-separator-requires-clause-seen g c =
     let turn = c.snapshot-caller.ensures.turn in
-    seen_after_turn c.args.caller c.snapshot-caller.result.1 turn.0 turn.0 turn.2 refl c.snapshot-caller.ensures.desk
+    seen_after_turn _ c.snapshot-caller.result.1 turn.0 turn.0 turn.2 refl c.snapshot-caller.ensures.desk
