@@ -1,5 +1,6 @@
-ghost use Rattle.std.specs.Prelude.{◌≡◌, IfOk, IfSome};
+ghost use Rattle.std.specs.Prelude.{◌≡◌, ◌≢◌, ◌⊎◌, IfOk, IfSome, None, length};
 ghost use Rattle.net_core.specs.Views.{case};
+ghost use Rattle.plan_terms.specs.Separations.{IsSurvivable};
 ghost use Rattle.separator.specs.Separators.{AreStateAnswers};
 
 use crate::answers::StateAnswer;
@@ -20,6 +21,7 @@ pub fn separate_checked<S: Separate>(
 ) -> Result<Option<List<StateAnswer>>, NoMemory>
     requires net { problem.now.net ≡ S.network separator.old }
     requires listed { problem.now.states ≡ S.states separator.old }
+    ensures refused { IfOk result (λ o. o ≡ None → (caps.now.scale ≡ 0) ⊎ (length caps.now.nums ≢ length problem.now.net.links) ⊎ (IsSurvivable (case problem.now.net problem.now.states problem.now.demands) → ⊥)) }
     ensures network { S.network separator.new ≡ S.network separator.old }
     ensures states { S.states separator.new ≡ S.states separator.old }
     ensures mark { S.mark separator.new ≡ S.mark separator.old }
