@@ -237,21 +237,40 @@ fn ends_at<R: AllocGlobal + Abort>(rt: &R, row: &Row, kind: &'static str) -> Res
     Ok(())
 }
 
-#[test]
-fn each_range_ends_at_its_last_number(rt: HostRuntime) -> Result<(), Fail> {
-    for row in &NUMBERS_BEFORE_PLANS {
-        ends_at(&rt, row, "limit")?;
-    }
-    for row in &NUMBERS_OF_PLANS {
-        ends_at(&rt, row, "limit")?;
-    }
-    for row in &NUMBERS_OF_QUALITY {
-        ends_at(&rt, row, "limit")?;
-    }
-    for row in &LARGE_NUMBERS {
-        ends_at(&rt, row, "number-large")?;
+/// Takes the last token of each row, and refuses the other one.
+fn each_ends_at<R: AllocGlobal + Abort>(
+    rt: &R,
+    rows: &[Row],
+    kind: &'static str,
+) -> Result<(), Fail> {
+    for row in rows {
+        ends_at(rt, row, kind)?;
     }
     Ok(())
+}
+
+fn before_plans<R: AllocGlobal + Abort>(rt: &R) -> Result<(), Fail> {
+    each_ends_at(rt, &NUMBERS_BEFORE_PLANS, "limit")
+}
+
+fn of_plans<R: AllocGlobal + Abort>(rt: &R) -> Result<(), Fail> {
+    each_ends_at(rt, &NUMBERS_OF_PLANS, "limit")
+}
+
+fn of_quality<R: AllocGlobal + Abort>(rt: &R) -> Result<(), Fail> {
+    each_ends_at(rt, &NUMBERS_OF_QUALITY, "limit")
+}
+
+fn large_numbers<R: AllocGlobal + Abort>(rt: &R) -> Result<(), Fail> {
+    each_ends_at(rt, &LARGE_NUMBERS, "number-large")
+}
+
+#[test]
+fn each_range_ends_at_its_last_number(rt: HostRuntime) -> Result<(), Fail> {
+    before_plans(&rt)?;
+    of_plans(&rt)?;
+    of_quality(&rt)?;
+    large_numbers(&rt)
 }
 
 /// A front, so many pieces with a number from `first` before each rest, and an end.
