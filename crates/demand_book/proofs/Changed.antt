@@ -1,8 +1,7 @@
 -- what an edit makes of the demands
-use Rattle.std.proofs.Common.{◌≡◌, ◌≢◌, ◌<◌, ◌≤◌, ◌+◌, ◌-◌, ◌^◌, ℕ, zero, suc, Bool, true, false, cond, not, ◌||◌, ◌&&◌, List, [], ◌∷◌, ◌++◌, length, get_or, take, drop, map, Option, Some, None, refl, sym, ap, ◌∙◌, subst, arith, ⊎_elim, length-append}
-use Rattle.std.specs.Prelude.{nat_lt, position, remove, filter, slice_get, is_some, unwrap_or, sum_by, All, AllPairs}
+use Rattle.std.proofs.Common.{◌≡◌, ◌≢◌, ◌<◌, ◌≤◌, ◌+◌, ◌-◌, ◌^◌, ℕ, zero, suc, Bool, true, false, cond, not, ◌||◌, List, [], ◌∷◌, ◌++◌, length, get_or, map, Some, None, refl, sym, ap, ◌∙◌, subst, arith, ⊎_elim, length-append}
+use Rattle.std.specs.Prelude.{nat_lt, position, remove, slice_get, is_some, unwrap_or, All, AllPairs}
 use Rattle.std.specs.List.{position_or_len, list_any}
-use Rattle.std.specs.Bool.{Decides}
 use Rattle.std.proofs.lemmas.Bool.{cases_lt, cases_eq, cases_order, cond-true, cond-false, cond_both, false_from_ne_true, le-ltb, lt-ltb, not_from_false, not_from_true, false≢true}
 use Rattle.std.proofs.lemmas.List.{same_lists, get_or-map, length-map, length-set, get_or-set_same, get_or-set_other}
 use Rattle.std.proofs.lemmas.List.Edits.{length-remove}
@@ -18,6 +17,7 @@ use Rattle.net_core.specs.Demands.{AreDemands, IsDemand}
 use Rattle.net_core.specs.Tests.{are_same}
 use Rattle.net_core.specs.declared.demand.Demand.{Demand}
 use Rattle.plan_terms.specs.Edits.{is_demand, set_need, total_need, without}
+use Rattle.plan_terms.proofs.Edits.{changed, set_different, with_need}
 use Rattle.demand_book.specs.inner.Places.{IsPlaceOf}
 use Rattle.net_core.proofs.Checks.{same_is}
 
@@ -71,12 +71,6 @@ alone n demands name k are found =
 
 -- ---- another need
 
-abbrev with_need : ℕ → Demand → Demand
-with_need need d = record { name = d.name; from = d.from; to = d.to; need = need }
-
-abbrev changed : List ℕ → ℕ → Demand → Demand
-changed name need d = cond (are_same d.name name) (with_need need d) d
-
 replaced : (before after : List Demand) (name : List ℕ) (k need : ℕ) → IsAlone name before k → length after ≡ length before
     → ((d : Demand) → get_or after k d ≡ with_need need (get_or before k d)) → ((j : ℕ) (d : Demand) → j ≢ k → get_or after j d ≡ get_or before j d)
     → after ≡ set_need name need before
@@ -110,9 +104,6 @@ set_total before name k need d a =
 pub set_sum : (before : List Demand) (name : List ℕ) (k need : ℕ) (d : Demand) → IsAlone name before k → total_need before - (get_or before k d).need + need ≡ total_need (set_need name need before)
 set_sum before name k need d a = omega (arith, set_total before name k need d a, get_or-le-sum_by (λ x. x.need) before k d a.within)
 
-keeps_name : (name : List ℕ) (need : ℕ) (d : Demand) → (changed name need d).name ≡ d.name
-keeps_name name need d = cond_both (are_same d.name name) (with_need need d) d (λ x. x.name ≡ d.name) (λ _. refl) (λ _. refl)
-
 sound_again : (n : ℕ) (name : List ℕ) (need : ℕ) (d : Demand) → need < 2 ^ 40 → IsDemand n d → IsDemand n (changed name need d)
 sound_again n name need d small s =
     cond_both (are_same d.name name) (with_need need d) d (IsDemand n)
@@ -124,11 +115,7 @@ set_demands n before name need are small total =
     let f = changed name need in
     record {
       few = omega (arith, are.few, length-map before f);
-      different = λ i j d below lt same.
-          let within : j < length before = omega (arith, lt, length-map before f) in
-          let first : (get_or (map f before) i d).name ≡ (get_or before i d).name = ap (λ (x : Demand). x.name) (get_or-map f before i d d (omega (arith, below, within))) ∙ keeps_name name need (get_or before i d) in
-          let second : (get_or (map f before) j d).name ≡ (get_or before j d).name = ap (λ (x : Demand). x.name) (get_or-map f before j d d within) ∙ keeps_name name need (get_or before j d) in
-          are.different i j d below within (sym first ∙ (same ∙ second));
+      different = set_different name need before are.different;
       each = All-map (IsDemand n) f before (λ k d lt. sound_again n name need (get_or before k d) small (are.each k d lt));
       total = total;
     }

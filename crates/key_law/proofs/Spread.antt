@@ -1,5 +1,5 @@
 -- the product of a spread row with a column, and its lowest terms
-use Rattle.std.proofs.Common.{◌≡◌, ℕ, zero, suc, ◌<◌, ◌+◌, ◌-◌, refl, sym, ap, ◌∙◌, arith, cond, subst, unsigned_abs}
+use Rattle.std.proofs.Common.{◌≡◌, ℕ, ◌<◌, ◌+◌, ◌-◌, refl, sym, ap, ◌∙◌, arith, cond, subst, unsigned_abs}
 use Rattle.std.specs.Int.{◌∣◌}
 use Rattle.checked_fraction.specs.Rows.{IsInLowestTerms}
 use Rattle.std.proofs.lemmas.Bool.{lt-ltb, le-ltb}
@@ -7,21 +7,10 @@ use Rattle.std.proofs.Math.IntN.{ℤ, ◌+ℤ◌, ◌-ℤ◌, ◌*ℤ◌, *ℤ_c
 use Rattle.std.proofs.lemmas.Int.{ints}
 use Rattle.simplex_law.specs.Sums.{int_sum, dot, unit_vector}
 use Rattle.simplex_law.proofs.Arithmetic.{distribute_minus, minus_left}
-use Rattle.simplex_law.proofs.Sums.{sum-minus, sum-times, sum-same, dot-same, sum-unit}
+use Rattle.simplex_law.proofs.Sums.{sum-split, sum-minus, sum-times, sum-same, dot-same, sum-unit}
 use Rattle.simplex_law.proofs.Duality.{priced}
 use Rattle.key_law.specs.Keys.{difference, IsSpread, spread}
 use Rattle.checked_fraction.proofs.Products.{regroup}
-
--- a sum over rows and further rows
-pub sum-split : (n m : ℕ) (f : ℕ → ℤ) → int_sum (n + m) f ≡ int_sum n f +ℤ int_sum m (λ d. f (n + d))
-sum-split n zero f = ap (λ x. int_sum x f) (zero_more n) ∙ omega (arith, ints)
-  where
-    zero_more : (n : ℕ) → n + 0 ≡ n
-    zero_more n = omega arith
-sum-split n (suc m) f = ap (λ x. int_sum x f) (one_more n m) ∙ omega (arith, ints, sum-split n m f)
-  where
-    one_more : (n m : ℕ) → n + suc m ≡ suc (n + m)
-    one_more n m = omega arith
 
 module _ (links demands : ℕ) (keys : ℕ → ℕ → ℤ) where
   -- the product with a difference, from the products with the column and the keys

@@ -11,12 +11,12 @@ use Rattle.net_core.specs.Graphs.{Graph}
 use Rattle.simplex_law.specs.Sums.{int_sum, dot, unit_vector}
 use Rattle.simplex_law.specs.Programs.{ColumnOf}
 use Rattle.simplex_law.specs.Bases.{Gains}
-use Rattle.simplex_law.proofs.Sums.{sum-same, sum-none, sum-unit, dot-same, dot-unit, dot-none-column}
+use Rattle.simplex_law.proofs.Sums.{sum-same, sum-none, sum-unit, dot-same, dot-unit, dot-none-column, sum-split}
 use Rattle.route_law.specs.RoutingPrograms.{route_rows, IsRouteColumn}
 use Rattle.key_law.specs.Keys.{key, key_part}
 use Rattle.key_law.specs.KeyRows.{cost, full_prices}
 use Rattle.key_law.proofs.Kept.{cost_product}
-use Rattle.key_law.proofs.Spread.{sum-split, is_spread}
+use Rattle.key_law.proofs.Spread.{is_spread}
 use Rattle.key_rows.specs.Bases.{IsColumnNamed, IsKeyed}
 use Rattle.key_rows.specs.Names.{path_uses, uses, own_entry, gain_in}
 use Rattle.key_paths.specs.inner.Gaining.{cost_at, IsGaining, IsRouteName, NoneGains}

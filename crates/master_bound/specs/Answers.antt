@@ -4,12 +4,15 @@ use Rattle.std.specs.Int.{◌∣◌}
 use Rattle.module_prices.specs.declared.cheapest.UnitPair.{UnitPair}
 use Rattle.net_core.specs.declared.columns.Evidence.{Evidence}
 use Rattle.net_core.specs.declared.columns.Evidence.TheVariants.{Route, Master}
+use Rattle.net_core.specs.declared.columns.MasterColumn.{MasterColumn}
 use Rattle.net_core.specs.declared.network.Link.{Link}
 use Rattle.net_core.specs.declared.plan.CutLine.{CutLine}
 use Rattle.net_core.specs.Cases.{Case}
 use Rattle.plan_terms.specs.Bounds.{IsBound, IsLowest}
 use Rattle.plan_terms.specs.Certificates.{CertificateLine, IsCertificate, IsCut, raw_value}
 use Rattle.plan_terms.specs.OwnBounds.{IsOwnBound}
+use Rattle.simplex_core.specs.declared.solver.SimplexFault.{SimplexFault}
+use Rattle.simplex_core.specs.declared.solver.SimplexFault.TheVariants.{Wide as WideBasis, NoMemory as NoRoom}
 use Rattle.master_law.specs.LeastShares.{IsLeastShare}
 use Rattle.master_law.specs.MasterEvidence.{IsMasterEvidence}
 use Rattle.master_law.specs.UnitPairs.{AreUnitPairs, share_cost}
@@ -58,3 +61,8 @@ abbrev pub IsMasterAnswer : List Link → List CutLine → Result Best MasterFau
 IsMasterAnswer links cuts (Ok best) = IsBestOf links cuts best
 IsMasterAnswer links cuts (Err (Wide evidence)) = IsEvidenceOf links cuts evidence
 IsMasterAnswer links cuts (Err NoMemory) = Unit {0}
+
+-- what a fault of the simplex method is as an answer
+abbrev pub fault_of : SimplexFault MasterColumn → MasterFault
+fault_of (WideBasis basis kind) = Wide (Master basis kind)
+fault_of NoRoom = NoMemory

@@ -1,7 +1,8 @@
 use net_core::{Copied, Evidence, List, MasterColumn, NoMemory};
 use plan_types::Share;
 use simplex_core::SimplexFault;
-use std::fmt;
+use std::fmt::{self, Debug, Formatter, Write};
+use thiserror::Error;
 
 /// A cut, by its place in the list, and its numerator in a certificate.
 #[derive(Clone, Copy, Debug, PartialEq, Eq)]
@@ -35,12 +36,24 @@ impl Copied for Best {
 }
 
 /// Why no best certificate is given.
-#[derive(Drop)]
+#[derive(Drop, Error)]
 pub enum MasterFault {
     /// A number grew too wide.
+    #[error("a number grew too wide")]
     Wide(Evidence),
     /// The call ran out of memory.
+    #[error("out of memory")]
     NoMemory,
+}
+
+/// Without the evidence, which need not be shown.
+impl Debug for MasterFault {
+    fn fmt<W: Write>(&self, f: &mut Formatter<W>) -> fmt::Result {
+        f.write_str(match self {
+            MasterFault::Wide(_) => "Wide(..)",
+            MasterFault::NoMemory => "NoMemory",
+        })
+    }
 }
 
 impl Copied for MasterFault {
@@ -48,15 +61,6 @@ impl Copied for MasterFault {
         Ok(match self {
             MasterFault::Wide(evidence) => MasterFault::Wide(evidence.copy()?),
             MasterFault::NoMemory => MasterFault::NoMemory,
-        })
-    }
-}
-
-impl fmt::Display for MasterFault {
-    fn fmt<W: fmt::Write>(&self, f: &mut fmt::Formatter<W>) -> fmt::Result {
-        f.write_str(match self {
-            MasterFault::Wide(_) => "a number grew too wide",
-            MasterFault::NoMemory => "out of memory",
         })
     }
 }
@@ -74,7 +78,7 @@ impl From<NoMemory> for MasterFault {
 
 impl From<SimplexFault<MasterColumn>> for MasterFault {
     ghost use Rattle.std.specs.Prelude.{◌≡◌};
-    ghost use Rattle.master_bound.specs.inner.Programs.{fault_of};
+    ghost use Rattle.master_bound.specs.Answers.{fault_of};
 
     ghost from_gives = { λ fault answer. answer ≡ fault_of fault };
 

@@ -2,9 +2,7 @@
 use Rattle.std.proofs.Common.{◌≡◌, ◌≢◌, ℕ, zero, suc, ◌+◌, ◌<◌, ◌≤◌, ◌⊎◌, inl, inr, ⊎_elim, List, [], ◌∷◌, ◌++◌, All, AllPairs, Contains, get_or, length, map, drop, refl, sym, ap, subst, ◌∙◌, arith}
 use Rattle.std.proofs.Math.Seq.{take-length}
 use Rattle.std.proofs.lemmas.List.{append-nil, get_or_append_left, get_or-append-add, get_or-map, length-append, length-map, map-append, nil_from_length}
-use Rattle.std.proofs.Math.Seq.{take-length}
 use Rattle.std.proofs.lemmas.List.Elements.{All-cons, All-head, All-nil, All-tail, All-weaker}
-use Rattle.std.proofs.Math.Seq.{take-length}
 use Rattle.std.proofs.lemmas.Option.{get_or_from_slice_get, slice_get_within}
 use Rattle.net_core.specs.declared.demand.Demand.{Demand}
 use Rattle.net_core.specs.declared.journal.Entry.{Entry}
@@ -35,18 +33,11 @@ use Rattle.plan_rounds.specs.inner.Alone.{HasSameCuts, IsAlone, IsPoolOfList, Po
 use Rattle.plan_rounds.specs.inner.Listing.{PutsLine}
 use Rattle.plan_rounds.specs.declared.candidates.Candidates.{Candidates}
 use Rattle.separator.proofs.Pooling.{cuts_both}
+use Rattle.separator.proofs.Seeing.{part_few}
 use Rattle.plan_rounds.proofs.Seeing.{cuts_differ}
 use Rattle.net_core.proofs.Lists.{front_all}
 
 -- ---- what is the separator's own
-
-part_few : {X : Type 0} (xs ys : List X) → IsPartOf xs ys → length xs ≤ length ys
-part_few [] ys part = omega arith
-part_few (x ∷ xs) [] part = absurd part
-part_few (x ∷ xs) (y ∷ ys) part = ⊎_elim
-    (λ l. omega (arith, part_few xs ys l.1))
-    (λ r. let le = part_few (x ∷ xs) ys r in omega (arith, le))
-    part
 
 -- a part as long as the whole is the whole
 part_whole : {X : Type 0} (xs ys : List X) → IsPartOf xs ys → length ys ≤ length xs → xs ≡ ys

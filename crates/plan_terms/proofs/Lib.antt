@@ -2,6 +2,7 @@ pub mod Bounds
 pub mod Distances
 pub mod Distinct
 pub mod Duality
+pub mod Edits
 pub mod Few
 pub mod Joining
 pub mod Metric

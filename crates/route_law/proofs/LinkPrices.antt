@@ -21,12 +21,12 @@ use Rattle.simplex_law.specs.Sums.{int_sum, dot}
 use Rattle.simplex_law.specs.Programs.{ColumnOf}
 use Rattle.simplex_law.specs.Bases.{IsBest}
 use Rattle.simplex_law.proofs.Arithmetic.{le_times, distribute_left}
-use Rattle.simplex_law.proofs.Sums.{sum-same, sum-le, sum-plus, sum-times}
+use Rattle.simplex_law.proofs.Sums.{sum-same, sum-le, sum-plus, sum-times, sum-split}
 use Rattle.route_law.specs.PricedLengths.{AreLinkPrices}
 use Rattle.route_law.specs.Routings.{AreJoined}
 use Rattle.route_law.specs.RoutingPrograms.{scaled_need, total_scaled_need, path_entry, IsCarrying, route_rows, route_bound, IsRouteColumn}
 use Rattle.route_law.proofs.PathPrices.{path_price}
-use Rattle.route_law.proofs.Rows.{beside_first, beside_after, sum-split, sum-pos}
+use Rattle.route_law.proofs.Rows.{beside_first, beside_after, sum-pos}
 
 -- what capacities give along lengths
 abbrev along : List ℕ → List ℕ → ℕ

@@ -10,9 +10,9 @@ use Rattle.plan_terms.specs.Paths.{IsPath, length_of}
 use Rattle.plan_terms.proofs.Distinct.{path_links_inside, path_links_differ}
 use Rattle.plan_terms.proofs.Metric.{links_length}
 use Rattle.simplex_law.specs.Sums.{int_sum, dot, unit_vector}
-use Rattle.simplex_law.proofs.Sums.{sum-same, sum-unit}
+use Rattle.simplex_law.proofs.Sums.{sum-same, sum-unit, sum-split}
 use Rattle.route_law.specs.RoutingPrograms.{beside, path_entry}
-use Rattle.route_law.proofs.Rows.{beside_first, beside_after, sum-split, sum-pos}
+use Rattle.route_law.proofs.Rows.{beside_first, beside_after, sum-pos}
 
 -- a path costs its length under the link prices, and its demand's price
 pub path_price : (g : Graph) (q : ℕ) (duals : ℕ → ℤ) (factor : ℕ) (lengths : List ℕ) → ((e : ℕ) → e < length g.links → duals e ≡ pos (factor * slice_index lengths e))

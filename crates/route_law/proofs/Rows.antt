@@ -1,6 +1,6 @@
 -- rows that stand beside each other, and sums over them
 use Rattle.std.proofs.Common.{◌≡◌, ℕ, zero, suc, ◌+◌, ◌-◌, ◌<◌, ◌≤◌, cond, sym, ap, ◌∙◌, arith, subst, refl, ⊎_elim}
-use Rattle.std.proofs.Math.IntN.{ℤ, pos, ◌+ℤ◌}
+use Rattle.std.proofs.Math.IntN.{pos}
 use Rattle.std.proofs.lemmas.Int.{ints}
 use Rattle.std.proofs.lemmas.Bool.{cases_lt, lt-ltb, le-ltb}
 use Rattle.net_core.specs.Sums.{sum_below}
@@ -27,20 +27,6 @@ beside_each P n f g k first second = ⊎_elim
     (λ l. subst P (sym (beside_first n f g k l)) (first l))
     (λ l. subst P (sym (beside_second n f g k l)) (second l))
     (cases_lt k n)
-
--- a sum in two parts
-pub sum-split : (n q : ℕ) (f : ℕ → ℤ) → int_sum (n + q) f ≡ int_sum n f +ℤ int_sum q (λ k. f (n + k))
-sum-split n zero f = ap (λ m. int_sum m f) (none n) ∙ nothing (int_sum n f)
-  where
-    none : (n : ℕ) → n + 0 ≡ n
-    none n = omega arith
-
-    nothing : (x : ℤ) → x ≡ x +ℤ pos 0
-    nothing x = omega (arith, ints)
-sum-split n (suc q) f = ap (λ m. int_sum m f) (more n q) ∙ omega (arith, ints, sum-split n q f)
-  where
-    more : (n q : ℕ) → n + suc q ≡ suc (n + q)
-    more n q = omega arith
 
 -- a sum of natural numbers
 pub sum-pos : (m : ℕ) (f : ℕ → ℕ) → int_sum m (λ k. pos (f k)) ≡ pos (sum_below m f)

@@ -1,5 +1,5 @@
 -- where not all needs can be met, a surviving link has a price
-use Rattle.std.proofs.Common.{◌≡◌, ℕ, zero, suc, ◌+◌, ◌*◌, ◌<◌, ◌≤◌, List, [], ◌∷◌, Some, length, slice_get, slice_index, get_or, refl, sym, ap, ◌∙◌, arith, subst, inl, ⊎_elim}
+use Rattle.std.proofs.Common.{◌≡◌, ℕ, ◌+◌, ◌*◌, ◌<◌, ◌≤◌, List, [], ◌∷◌, Some, length, slice_get, slice_index, get_or, refl, sym, ap, ◌∙◌, arith, subst, inl, ⊎_elim}
 use Rattle.std.proofs.lemmas.Bool.{cases_eq}
 use Rattle.std.proofs.lemmas.List.{get_or-map}
 use Rattle.std.proofs.lemmas.Option.{slice_get-get_or, slice_get_within}
@@ -13,16 +13,16 @@ use Rattle.net_core.specs.declared.ids.LinkId.{LinkId}
 use Rattle.net_core.specs.declared.plan.Caps.{Caps}
 use Rattle.net_core.specs.Graphs.{Graph, Joins}
 use Rattle.plan_terms.specs.Keeping.{AreZero}
-use Rattle.plan_terms.specs.Paths.{IsPath, Leads, length_of}
+use Rattle.plan_terms.specs.Paths.{Leads, length_of}
 use Rattle.simplex_law.specs.Sums.{int_sum, dot}
 use Rattle.simplex_law.specs.Programs.{ColumnOf}
 use Rattle.simplex_law.specs.Bases.{IsBest}
 use Rattle.simplex_law.proofs.Arithmetic.{le_times}
-use Rattle.simplex_law.proofs.Sums.{sum-le, sum-none, sum-times}
+use Rattle.simplex_law.proofs.Sums.{sum-le, sum-none, sum-times, sum-split}
 use Rattle.route_law.specs.Routings.{AreJoined}
 use Rattle.route_law.specs.RoutingPrograms.{scaled_need, total_scaled_need, path_entry, IsCarrying, route_rows, route_bound, IsRouteColumn}
 use Rattle.route_law.proofs.PathPrices.{path_price}
-use Rattle.route_law.proofs.Rows.{beside_first, beside_after, sum-split, sum-pos}
+use Rattle.route_law.proofs.Rows.{beside_first, beside_after, sum-pos}
 
 module _ (g : Graph) (demands : List Demand) (caps : Caps) (basis : ℕ → ColumnOf RouteColumn) (duals : ℕ → ℤ) (den : ℤ)
     (best : IsBest (route_rows g demands) (route_bound g demands caps) (IsRouteColumn g demands) basis duals den) (factor : ℕ) (lengths : List ℕ)

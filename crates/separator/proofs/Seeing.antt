@@ -22,6 +22,15 @@ get_more (y ∷ xs) x (suc i) c at = ⊎_elim
 
 -- ---- some more entries
 
+-- a part is no longer than the whole
+pub part_few : {X : Type 0} (xs ys : List X) → IsPartOf xs ys → length xs ≤ length ys
+part_few [] ys part = omega arith
+part_few (x ∷ xs) [] part = absurd part
+part_few (x ∷ xs) (y ∷ ys) part = ⊎_elim
+    (λ l. omega (arith, part_few xs ys l.1))
+    (λ r. let le = part_few (x ∷ xs) ys r in omega (arith, le))
+    part
+
 part_both : {X : Type 0} (xs ys us vs : List X) → IsPartOf xs ys → IsPartOf us vs → IsPartOf (xs ++ us) (ys ++ vs)
 part_both [] [] us vs first second = second
 part_both [] (y ∷ ys) [] vs first second = tt

@@ -1,8 +1,7 @@
 -- replies to edits of demands: what they leave, and totals that are too much
-use Rattle.std.proofs.Common.{◌≡◌, ◌≢◌, ℕ, suc, ◌+◌, ◌^◌, ◌<◌, ◌≤◌, List, [], ◌∷◌, ◌++◌, All, Bool, true, false, not, ◌&&◌, cond, Option, Some, None, get_or, length, map, refl, sym, ap, ◌∙◌, ⊎_elim, arith}
+use Rattle.std.proofs.Common.{◌≡◌, ◌≢◌, ℕ, suc, ◌+◌, ◌^◌, ◌<◌, ◌≤◌, List, [], ◌∷◌, ◌++◌, All, Bool, true, false, not, ◌&&◌, cond, Option, Some, None, get_or, length, refl, sym, ap, ◌∙◌, ⊎_elim, arith}
 use Rattle.std.specs.Prelude.{AllPairs, filter, nat_le, nat_lt}
 use Rattle.std.proofs.lemmas.Bool.{cases_Bool, cond-false, cond-true, cond_both, false_from_ne_true, false≢true, ltb-true}
-use Rattle.std.proofs.lemmas.List.{get_or-map, length-map}
 use Rattle.std.proofs.lemmas.List.Folds.{list_any_at}
 use Rattle.std.proofs.lemmas.List.Kept.{AllPairs-filter}
 use Rattle.std.proofs.lemmas.List.Quantifiers.{all_pairs_push}
@@ -14,6 +13,7 @@ use Rattle.net_core.specs.declared.journal.Edit.TheVariants.{Set, Add, Drop}
 use Rattle.net_core.specs.declared.journal.Reply.{Reply}
 use Rattle.net_core.specs.declared.journal.Reply.TheVariants.{Accepted, UnknownDemand, KnownDemand, UnknownNode, SelfDemand, TooMany, TooMuch}
 use Rattle.net_core.specs.Tests.{are_same, is_named}
+use Rattle.plan_terms.proofs.Edits.{changed, set_different, with_need}
 use Rattle.plan_terms.specs.Edits.{Answered, added, edit_need, edit_reply, is_demand, next_version, node_of, set_need, total_need, within_total, without}
 
 -- ---- demands
@@ -34,23 +34,6 @@ different_rest : (d : Demand) (ds : List Demand) → AreDifferent (d ∷ ds) →
 different_rest d ds all = λ i j e lt within. all (suc i) (suc j) e (omega (arith, lt)) (omega (arith, within))
 
 -- ---- another need
-
-abbrev with_need : ℕ → Demand → Demand
-with_need need d = record { name = d.name; from = d.from; to = d.to; need = need }
-
-abbrev changed : List ℕ → ℕ → Demand → Demand
-changed name need d = cond (are_same d.name name) (with_need need d) d
-
-keeps_name : (name : List ℕ) (need : ℕ) (d : Demand) → (changed name need d).name ≡ d.name
-keeps_name name need d = cond_both (are_same d.name name) (with_need need d) d (λ x. x.name ≡ d.name) (λ _. refl) (λ _. refl)
-
-set_different : (name : List ℕ) (need : ℕ) (ds : List Demand) → AreDifferent ds → AreDifferent (set_need name need ds)
-set_different name need ds all = λ i j d below lt same.
-    let f = changed name need in
-    let within : j < length ds = omega (arith, lt, length-map ds f) in
-    let first : (get_or (map f ds) i d).name ≡ (get_or ds i d).name = ap (λ (x : Demand). x.name) (get_or-map f ds i d d (omega (arith, below, within))) ∙ keeps_name name need (get_or ds i d) in
-    let second : (get_or (map f ds) j d).name ≡ (get_or ds j d).name = ap (λ (x : Demand). x.name) (get_or-map f ds j d d within) ∙ keeps_name name need (get_or ds j d) in
-    all i j d below within (sym first ∙ (same ∙ second))
 
 -- demands of other names stay
 others_same : (name : List ℕ) (need : ℕ) (ds : List Demand) → All (λ d. are_same d.name name ≡ false) ds → set_need name need ds ≡ ds

@@ -1,5 +1,5 @@
 -- one command more
-use Rattle.std.proofs.Common.{◌≡◌, ◌≢◌, ℕ, suc, ◌+◌, ◌≤◌, ◌==◌, true, false, cond, List, [], ◌∷◌, ◌++◌, All, flat_map, if◌then◌else◌, length, length-append, ⊎_elim, refl, sym, ap, subst, ◌∙◌, arith}
+use Rattle.std.proofs.Common.{◌≡◌, ◌≢◌, ℕ, suc, ◌+◌, ◌==◌, true, false, cond, List, [], ◌∷◌, ◌++◌, All, flat_map, if◌then◌else◌, length, length-append, ⊎_elim, refl, sym, ap, subst, ◌∙◌, arith}
 use Rattle.std.specs.Prelude.{Ok, count_by}
 use Rattle.std.proofs.Math.Logic.{∥∥₁_elim}
 use Rattle.std.proofs.Props.{props}
@@ -18,6 +18,8 @@ use Rattle.session_script.specs.declared.script.Act.TheVariants.{Change, Plan}
 use Rattle.session_script.specs.declared.script.Command.{Command}
 use Rattle.plan_rounds.specs.WorkedRounds.{IsWorkedPool}
 use Rattle.separator.specs.Separators.{IsCutEntry, IsPartOf}
+use Rattle.separator.proofs.Seeing.{part_few}
+use Rattle.plan_rounds.proofs.OwnPool.{all_cuts}
 use Rattle.planner.proofs.Histories.{cuts_both}
 use Rattle.session_run.specs.Transcripts.{IsOutcomeAfter, IsPlanned, RunsFrom, acts_of, outcome_caller, edit_asked, edit_made, outcomes_of, position_of}
 use Rattle.session_run.specs.inner.Running.{HaveRun, IsEntryOfCaller}
@@ -66,24 +68,10 @@ cuts_no_edits caller [] all = refl
 cuts_no_edits caller (Edited by edit reply ∷ es) all = absurd (all 0 (Edited by edit reply) (omega arith))
 cuts_no_edits caller (Pooled index state lengths ∷ es) all = cuts_no_edits caller es (λ k d lt. all (suc k) d (omega (arith, lt)))
 
--- further cuts are as many as their entries
-cuts_count : (es : List Entry) → All IsCutEntry es → length (cuts_of es) ≡ length es
-cuts_count [] all = refl
-cuts_count (Edited by edit reply ∷ es) all = absurd (all 0 (Edited by edit reply) (omega arith))
-cuts_count (Pooled index state lengths ∷ es) all = ap suc (cuts_count es (λ k d lt. all (suc k) d (omega (arith, lt))))
-
 -- further cuts are counted on both sides
 pub few_more : (own more : List Entry) → All IsCutEntry more → length (own ++ more) + length (cuts_of own) ≡ length own + length (cuts_of (own ++ more))
 few_more own more pooled =
-    omega (arith, ap length (cuts_both own more), cuts_count more pooled, length-append own more, length-append (cuts_of own) (cuts_of more))
-
-part_length : {X : Type 0} (xs ys : List X) → IsPartOf xs ys → length xs ≤ length ys
-part_length [] ys part = omega arith
-part_length (x ∷ xs) [] part = absurd part
-part_length (x ∷ xs) (y ∷ ys) part = ⊎_elim
-    (λ l. let rest = part_length xs ys l.1 in omega (arith, rest))
-    (λ r. let rest = part_length (x ∷ xs) ys r in omega (arith, rest))
-    part
+    omega (arith, ap length (cuts_both own more), all_cuts more pooled, length-append own more, length-append (cuts_of own) (cuts_of more))
 
 pub cuts_of_callers : (es : List Entry) → All IsCutEntry es → All IsEntryOfCaller es
 cuts_of_callers es all = All-weaker IsCutEntry IsEntryOfCaller pooled es all
@@ -219,7 +207,7 @@ module _ (p : Case) (seen own : List Entry) (commands : List Command) (outcomes 
     -- where the entries are its own, and it had none, the plan is made before any entry
     nothing_before : own ≡ [] → before ++ further ≡ own ++ committed → before ≡ []
     nothing_before none same =
-        let some = part_length committed further among in
+        let some = part_few committed further among in
         let own_none = ap length none in
         nil_from_length before (omega (arith, some, own_none, ap length same, length-append before further, length-append own committed))
 

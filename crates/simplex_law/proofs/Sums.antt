@@ -1,5 +1,5 @@
 -- sums of whole numbers
-use Rattle.std.proofs.Common.{◌≡◌, ◌≢◌, ℕ, zero, suc, ◌<◌, ◌≤◌, refl, sym, ap, ◌∙◌, arith, cond, ⊎_elim}
+use Rattle.std.proofs.Common.{◌≡◌, ◌≢◌, ℕ, zero, suc, ◌+◌, ◌<◌, ◌≤◌, refl, sym, ap, ◌∙◌, arith, cond, ⊎_elim}
 use Rattle.std.proofs.lemmas.Bool.{cases_eq, cases_lt, eq-eqb, ne_eqb}
 use Rattle.std.proofs.Math.IntN.{ℤ, pos, ◌+ℤ◌, ◌-ℤ◌, ◌*ℤ◌, *ℤ_comm, zero-*ℤ, *ℤ-zero}
 use Rattle.std.specs.Int.Signed.{◌≤ℤ◌}
@@ -31,6 +31,20 @@ sum-le (suc n) f g e = omega (arith, ints, e n (omega arith), sum-le n f g (λ k
 pub sum-none : (n : ℕ) → int_sum n (λ k. pos 0) ≡ pos 0
 sum-none zero = refl
 sum-none (suc n) = omega (arith, ints, sum-none n)
+
+-- a sum over the first n and the q after them
+pub sum-split : (n q : ℕ) (f : ℕ → ℤ) → int_sum (n + q) f ≡ int_sum n f +ℤ int_sum q (λ k. f (n + k))
+sum-split n zero f = ap (λ m. int_sum m f) (none n) ∙ nothing (int_sum n f)
+  where
+    none : (n : ℕ) → n + 0 ≡ n
+    none n = omega arith
+
+    nothing : (x : ℤ) → x ≡ x +ℤ pos 0
+    nothing x = omega (arith, ints)
+sum-split n (suc q) f = ap (λ m. int_sum m f) (more n q) ∙ omega (arith, ints, sum-split n q f)
+  where
+    more : (n q : ℕ) → n + suc q ≡ suc (n + q)
+    more n q = omega arith
 
 pub sum-swapped : (m n : ℕ) (f : ℕ → ℕ → ℤ) → int_sum m (λ j. int_sum n (f j)) ≡ int_sum n (λ k. int_sum m (λ j. f j k))
 sum-swapped zero n f = sym (sum-none n)

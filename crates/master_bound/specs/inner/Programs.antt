@@ -14,11 +14,9 @@ use Rattle.simplex_core.specs.Programs.{Solves}
 use Rattle.simplex_core.specs.declared.columns.Column.{Column}
 use Rattle.simplex_core.specs.declared.columns.Entry.{Entry}
 use Rattle.simplex_core.specs.declared.optimum.Optimum.{Optimum}
-use Rattle.simplex_core.specs.declared.solver.SimplexFault.{SimplexFault}
-use Rattle.simplex_core.specs.declared.solver.SimplexFault.TheVariants.{Wide as WideBasis, NoMemory as NoRoom}
 use Rattle.master_law.specs.MasterPrograms.{cut_gain, master_bound, master_slack, IsCutColumn}
 use Rattle.master_bound.specs.declared.answer.MasterFault.{MasterFault}
-use Rattle.master_bound.specs.declared.answer.MasterFault.TheVariants.{Wide, NoMemory}
+use Rattle.master_bound.specs.declared.answer.MasterFault.TheVariants.{Wide}
 use Rattle.master_bound.specs.inner.Narrow.{length_entry}
 
 -- the entry of a row, unless it is 0
@@ -45,8 +43,3 @@ IsMasterSolution links pairs cuts = Solves (length links) (master_bound pairs) m
 -- the answer that this kind of the basis of these names is too wide
 abbrev pub IsWideAnswer : List MasterColumn → WideKind MasterColumn → MasterFault → Type 0
 IsWideAnswer basis kind fault = fault ≡ Wide (Master basis kind)
-
--- what a fault of the simplex method is as an answer
-abbrev pub fault_of : SimplexFault MasterColumn → MasterFault
-fault_of (WideBasis basis kind) = Wide (Master basis kind)
-fault_of NoRoom = NoMemory
