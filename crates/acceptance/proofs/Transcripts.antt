@@ -14,7 +14,6 @@ use Rattle.plan_terms.specs.Capacities.{IsAble, total_cost}
 use Rattle.plan_terms.proofs.Duality.{weak_duality}
 use Rattle.plan_types.specs.Plans.{IsCarryingPlan, IsCertifiedPlan, lines_of_certificate}
 use Rattle.plan_types.specs.declared.plan.Plan.{Plan}
-use Rattle.plan_types.specs.declared.quality.Fractional.{Fractional}
 use Rattle.plan_types.specs.declared.report.Outcome.{Outcome}
 use Rattle.plan_types.specs.declared.report.Outcome.TheVariants.{Planned, Unsurvivable}
 use Rattle.plan_types.specs.declared.report.Report.{Report}

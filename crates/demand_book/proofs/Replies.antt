@@ -1,15 +1,13 @@
 -- the replies of edits, from what the code knows
-use Rattle.std.proofs.Common.{◌≡◌, ◌≢◌, ◌<◌, ◌≤◌, ◌+◌, ◌-◌, ◌^◌, ℕ, Bool, true, false, cond, not, ◌&&◌, List, [], ◌∷◌, ◌++◌, length, get_or, Option, Some, None, refl, sym, ap, ◌∙◌, subst, arith}
-use Rattle.std.specs.Prelude.{nat_le, nat_lt, position}
+use Rattle.std.proofs.Common.{◌≡◌, ◌≢◌, ◌<◌, ◌≤◌, ◌-◌, ◌^◌, ℕ, true, false, List, [], length, get_or, Some, sym, ap, ◌∙◌, arith}
+use Rattle.std.specs.Prelude.{nat_lt, position}
 use Rattle.std.proofs.lemmas.Bool.{cond-true, cond-false, le-ltb, lt-ltb, false≢true}
 use Rattle.std.proofs.lemmas.List.Quantifiers.{position-Some}
-use Rattle.net_core.specs.Demands.{IsDemand}
-use Rattle.net_core.specs.Tests.{are_same, is_named}
+use Rattle.net_core.specs.Tests.{are_same}
 use Rattle.net_core.specs.declared.demand.Demand.{Demand}
 use Rattle.net_core.specs.declared.journal.Edit.TheVariants.{Set, Drop}
-use Rattle.net_core.specs.declared.journal.Reply.{Reply}
 use Rattle.net_core.specs.declared.journal.Reply.TheVariants.{Accepted, UnknownDemand, TooMuch}
-use Rattle.plan_terms.specs.Edits.{Answered, add_fault, edit_reply, is_demand, next_version, node_of, set_need, total_need, within_total, without}
+use Rattle.plan_terms.specs.Edits.{edit_reply, is_demand, next_version, set_need, total_need, within_total, without}
 use Rattle.demand_book.proofs.Changed.{is_same}
 use Rattle.net_core.proofs.Checks.{same_is}
 

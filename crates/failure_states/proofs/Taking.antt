@@ -1,6 +1,5 @@
 -- the components once a link is taken
 use Rattle.std.proofs.Common.{◌≡◌, ℕ, ◌+◌, ◌<◌, List, length, get_or, inl, refl}
-use Rattle.std.proofs.Math.Logic.{∥∥₁_elim}
 use Rattle.net_core.specs.declared.network.Link.{Link}
 use Rattle.net_core.specs.Graphs.{Graph, Joins, Survives}
 use Rattle.net_core.specs.Network.{IsNetwork}

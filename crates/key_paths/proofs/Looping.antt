@@ -19,7 +19,7 @@ use Rattle.route_law.specs.RoutingPrograms.{route_rows, route_bound, route_slack
 use Rattle.route_law.proofs.Rows.{beside_first}
 use Rattle.simplex_law.specs.Sums.{unit_vector, put}
 use Rattle.simplex_law.specs.Programs.{ColumnOf, IsPacking, slack_basis}
-use Rattle.simplex_law.specs.Bases.{AreNames, IsReached}
+use Rattle.simplex_law.specs.Bases.{IsReached}
 use Rattle.simplex_law.specs.Evidence.{HoldsKind, IsReachedEvidence}
 use Rattle.simplex_law.specs.inner.Lexicographic.{valued}
 use Rattle.simplex_law.specs.inner.Measures.{AreNarrowDuals, digit, lex_number, left_below, left_over}

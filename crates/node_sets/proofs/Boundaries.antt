@@ -14,7 +14,6 @@ use Rattle.metric_cut.specs.declared.cut.Cut.{Cut}
 use Rattle.route_law.specs.PricedLengths.{ArePricedSomewhere}
 use Rattle.route_law.proofs.ZerosAndOnes.{zeros_and_ones_are_priced}
 use Rattle.node_sets.specs.Boundaries.{IsViolatedAt, crosses_boundary, boundary_lengths}
-use Rattle.net_core.proofs.Lists.{get_some}
 
 pub violated_at : (g : Graph) (demands : List Demand) (caps : Caps) (cut : Cut) (right : ℕ) → IsRight (Joins g) cut.lengths demands right
     → Violates caps (record { state = cut.state; lengths = cut.lengths; right = right }) → IsViolatedAt g demands caps cut

@@ -8,6 +8,7 @@ use Rattle.net_core.specs.declared.plan.Routing.{Routing}
 use Rattle.plan_terms.specs.Flows.{Carries, IsFlow, load, sent}
 use Rattle.module_choice.specs.inner.Routes.{weight}
 use Rattle.module_choice.proofs.Carrying.{load_is_weight, load_none}
+use Rattle.plan_report.specs.KnownNames.{known_to}
 use Rattle.plan_report.specs.Forms.{AreRoutingsInForm, IsFlowInForm}
 use Rattle.plan_checker.specs.Carried.{HasBadPath, IsOverloaded, IsUncarried}
 use Rattle.plan_checker.specs.Shares.{AreCarried}
@@ -16,7 +17,7 @@ use Rattle.plan_checker.specs.inner.Routes.{FollowPaths}
 use Rattle.net_core.proofs.Lists.{get_some}
 
 -- flows in form that follow paths are flows
-pub are_flows : (p : Case) (routings : List Routing) → AreRoutingsInForm p.links p.listed p.demands routings → FollowPaths p routings → (s : ℕ) (r : Routing) → slice_get routings s ≡ Some r → All (IsFlow (Joins (graph_in p s)) p.demands) r.flows
+pub are_flows : (p : Case) (routings : List Routing) → AreRoutingsInForm (known_to p) p.demands routings → FollowPaths p routings → (s : ℕ) (r : Routing) → slice_get routings s ≡ Some r → All (IsFlow (Joins (graph_in p s)) p.demands) r.flows
 are_flows p routings form paths s r at k d lt =
     let same : get_or routings s r ≡ r = get_or_from_slice_get routings s r r at in
     let flow : IsFlowInForm p.links p.demands (get_or r.flows k d) = subst (λ (x : Routing). All (IsFlowInForm p.links p.demands) x.flows) same (form.each s r (slice_get_within routings s r at)).flows k d lt in
@@ -24,12 +25,12 @@ are_flows p routings form paths s r at k d lt =
     record { positive = omega (arith, flow.positive); of = path.of; at = path.at; path = path.path }
 
 -- what such flows bring onto links
-pub loads_are : (p : Case) (routings : List Routing) → AreRoutingsInForm p.links p.listed p.demands routings → FollowPaths p routings → (s : ℕ) (d : Routing) → s < length routings → (e : ℕ) → load (get_or routings s d).flows e ≡ weight (get_or routings s d).flows e
+pub loads_are : (p : Case) (routings : List Routing) → AreRoutingsInForm (known_to p) p.demands routings → FollowPaths p routings → (s : ℕ) (d : Routing) → s < length routings → (e : ℕ) → load (get_or routings s d).flows e ≡ weight (get_or routings s d).flows e
 loads_are p routings form paths s d lt e =
     load_is_weight (graph_in p s) p.demands (get_or routings s d).flows e (are_flows p routings form paths s (get_or routings s d) (slice_get-get_or routings s d lt))
 
 -- routings whose flows follow paths, which are met and within numbers, carry the demands
-pub carries_by : (p : Case) (scale : ℕ) (nums : List ℕ) (routings : List Routing) → length nums ≡ length p.links → AreRoutingsInForm p.links p.listed p.demands routings → FollowPaths p routings
+pub carries_by : (p : Case) (scale : ℕ) (nums : List ℕ) (routings : List Routing) → length nums ≡ length p.links → AreRoutingsInForm (known_to p) p.demands routings → FollowPaths p routings
     → ((s k : ℕ) → IsUncarried p scale routings s k → ⊥) → ((s e : ℕ) → IsOverloaded nums routings s e → ⊥)
     → (s : ℕ) (r : Routing) → slice_get routings s ≡ Some r → Carries (Joins (graph_in p s)) p.demands scale nums r
 carries_by p scale nums routings long form paths met within s r at =
@@ -54,7 +55,7 @@ carries_by p scale nums routings long form paths met within s r at =
           (cases_lt e (length nums));
     }
 
-module _ (p : Case) (scale : ℕ) (nums : List ℕ) (routings : List Routing) (form : AreRoutingsInForm p.links p.listed p.demands routings) where
+module _ (p : Case) (scale : ℕ) (nums : List ℕ) (routings : List Routing) (form : AreRoutingsInForm (known_to p) p.demands routings) where
   pub carried_by : length nums ≡ length p.links → FollowPaths p routings → ((s k : ℕ) → IsUncarried p scale routings s k → ⊥) → ((s e : ℕ) → IsOverloaded nums routings s e → ⊥) → AreCarried p scale nums routings
   carried_by long paths met within s le =
       let r = get_some routings s (omega (arith, le, form.long)) in

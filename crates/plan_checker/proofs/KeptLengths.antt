@@ -1,5 +1,5 @@
 -- lengths that a state keeps as they are, and their one right side
-use Rattle.std.proofs.Common.{◌≡◌, ◌≢◌, ℕ, zero, ◌*◌, List, [], All, length, get_or, sym, ap, subst, arith, ⊎_elim}
+use Rattle.std.proofs.Common.{◌≡◌, ◌≢◌, ℕ, zero, ◌*◌, List, All, length, get_or, sym, ap, subst, arith, ⊎_elim}
 use Rattle.std.proofs.Math.Nat.{dvd-mul_right}
 use Rattle.std.proofs.lemmas.Bool.{cases_eq}
 use Rattle.std.proofs.lemmas.List.{ext_get_or, get_or_default}
@@ -9,7 +9,6 @@ use Rattle.net_core.specs.Graphs.{Graph, Survives}
 use Rattle.plan_terms.specs.Bounds.{IsGreatestDivisor}
 use Rattle.plan_terms.specs.Certificates.{AreKept}
 use Rattle.plan_terms.specs.Keeping.{AreZero, Keeps}
-use Rattle.net_core.proofs.Lists.{get_some}
 
 module _ (g : Graph) (lengths : List ℕ) (kept : AreKept g lengths) where
   each_divided : (d : ℕ) → ((e : ℕ) → Survives g e → d ∣ get_or lengths e 0) → All (λ l. d ∣ l) lengths

@@ -5,7 +5,6 @@ use Rattle.std.proofs.lemmas.List.{ext_get_or}
 use Rattle.std.proofs.lemmas.List.Sums.{sum_by_push}
 use Rattle.std.proofs.lemmas.Option.{get_or_from_slice_get, slice_get_within}
 use Rattle.net_core.specs.Cases.{Case}
-use Rattle.std.proofs.Math.Logic.{∥∥₁_elim}
 use Rattle.net_core.specs.Network.{IsModule}
 use Rattle.net_core.specs.declared.list.NoMemory.{NoMemory}
 use Rattle.net_core.specs.declared.network.Link.{Link}

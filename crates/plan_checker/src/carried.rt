@@ -1,6 +1,7 @@
 ghost use Rattle.std.specs.Prelude.{◌≡◌, ◌≢◌, ℕ, ◌*◌, ◌^◌, ◌<◌, All, IfOk, length};
 ghost use Rattle.net_core.specs.Views.{case_of};
 ghost use Rattle.plan_terms.specs.Flows.{load, sent};
+ghost use Rattle.plan_report.specs.KnownNames.{known_of};
 ghost use Rattle.plan_report.specs.Forms.{AreRoutingsInForm, IsRoutingInForm};
 ghost use Rattle.module_choice.specs.inner.Routes.{weight};
 ghost use Rattle.plan_checker.specs.Carried.{IsOverloaded, IsUncarried};
@@ -56,7 +57,7 @@ pub(crate) fn uncarried(
     scale: u64,
     routings: &[Routing],
 ) -> Result<Option<Place>, NoMemory>
-    requires { AreRoutingsInForm instance.now.net.now.links instance.now.states.now.listed instance.now.demands.now routings.now }
+    requires { AreRoutingsInForm (known_of instance.now.net.now instance.now.states.now) instance.now.demands.now routings.now }
     ensures { IfOk result (IsFirstPair (IsUncarried (case_of instance.now) scale routings.now)) }
 {
     for s in 0..routings.len() {
@@ -79,7 +80,7 @@ pub(crate) fn overloaded(
     nums: &[u128],
     routings: &[Routing],
 ) -> Result<Option<Place>, NoMemory>
-    requires form { AreRoutingsInForm instance.now.net.now.links instance.now.states.now.listed instance.now.demands.now routings.now }
+    requires form { AreRoutingsInForm (known_of instance.now.net.now instance.now.states.now) instance.now.demands.now routings.now }
     requires paths { FollowPaths (case_of instance.now) routings.now }
     requires count { length nums.now ≡ length instance.now.net.now.links }
     requires low { All (λ n. n < 2 ^ 127) nums.now }

@@ -1,6 +1,7 @@
 ghost use Rattle.std.specs.Prelude.{◌≡◌, ℕ, List, ◌≤◌, OnOk, length};
 ghost use Rattle.net_core.specs.Demands.{AreDemands};
 ghost use Rattle.net_core.specs.Views.{case, case_of};
+ghost use Rattle.plan_report.specs.KnownNames.{known_of};
 ghost use Rattle.plan_report.specs.Forms.{IsPlanInForm};
 ghost use Rattle.plan_terms.specs.Capacities.{IsAble, total_cost};
 ghost use Rattle.plan_checker.specs.PlanFindings.{AnswersPlan, IsAcceptedPlan, own_findings, plan_findings};
@@ -19,7 +20,7 @@ use std::alloc::Global;
 
 /// Whether a plan is right for its own demands.
 fn check_own(alloc: Global, instance: &Instance, plan: &Plan, full: bool) -> Test
-    requires form { IsPlanInForm instance.now.net.now.nodes instance.now.net.now.links instance.now.states.now.listed plan.now }
+    requires form { IsPlanInForm (known_of instance.now.net.now instance.now.states.now) plan.now }
     requires demands { plan.now.demands ≡ instance.now.demands.now }
     ensures told { TellFirst (own_findings (case_of instance.now) full plan.now) result }
     ensures sound { OnOk result (IsAcceptedPlan (case_of instance.now) plan.now) }
@@ -40,7 +41,7 @@ fn check_for(
     full: bool,
 ) -> Test
     requires belong { AreDemands (length net.now.nodes) demands.now }
-    requires form { IsPlanInForm net.now.nodes net.now.links states.now.listed plan.now }
+    requires form { IsPlanInForm (known_of net.now states.now) plan.now }
     ensures told { TellFirst (plan_findings (case net.now states.now demands.now) full plan.now) result }
     ensures sound { OnOk result (IsAcceptedPlan (case net.now states.now demands.now) plan.now) }
 {
@@ -74,7 +75,7 @@ pub fn check_plan(
     pool_full: bool,
 ) -> CheckAnswer
     requires belong { AreDemands (length net.now.nodes) demands.now }
-    requires form { IsPlanInForm net.now.nodes net.now.links states.now.listed plan.now }
+    requires form { IsPlanInForm (known_of net.now states.now) plan.now }
     ensures told { AnswersPlan (plan_findings (case net.now states.now demands.now) pool_full plan.now) result }
     ensures sound { result ≡ CheckAnswer.Accepted → IsAcceptedPlan (case net.now states.now demands.now) plan.now }
     ensures bound { result ≡ CheckAnswer.Accepted → (counts : List (List ℕ)) → IsAble (case net.now states.now demands.now) counts → plan.now.bound ≤ total_cost net.now.links counts }

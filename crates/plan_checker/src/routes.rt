@@ -1,5 +1,6 @@
 ghost use Rattle.std.specs.Prelude.{◌≡◌, All, IfNone, IfOk, length};
 ghost use Rattle.net_core.specs.Views.{case_of};
+ghost use Rattle.plan_report.specs.KnownNames.{known_of};
 ghost use Rattle.plan_report.specs.Forms.{AreRoutingsInForm};
 ghost use Rattle.plan_checker.specs.Carried.{HasBadPath};
 ghost use Rattle.plan_checker.specs.inner.Routes.{FollowPaths};
@@ -12,7 +13,7 @@ use std::alloc::Global;
 
 /// The first state with a flow that follows no path, and the first such flow. `seen` is room for a mark of each node.
 fn first_bad_path(instance: &Instance, routings: &[Routing], seen: &mut [bool]) -> Option<Place>
-    requires form { AreRoutingsInForm instance.now.net.now.links instance.now.states.now.listed instance.now.demands.now routings.now }
+    requires form { AreRoutingsInForm (known_of instance.now.net.now instance.now.states.now) instance.now.demands.now routings.now }
     requires size { length seen.old ≡ length instance.now.net.now.nodes }
     ensures first { IsFirstPair (HasBadPath (case_of instance.now) routings.now) result }
     ensures paths { IfNone result (FollowPaths (case_of instance.now) routings.now) }
@@ -41,7 +42,7 @@ pub(crate) fn bad_path(
     instance: &Instance,
     routings: &[Routing],
 ) -> Result<Option<Place>, NoMemory>
-    requires { AreRoutingsInForm instance.now.net.now.links instance.now.states.now.listed instance.now.demands.now routings.now }
+    requires { AreRoutingsInForm (known_of instance.now.net.now instance.now.states.now) instance.now.demands.now routings.now }
     ensures first { IfOk result (IsFirstPair (HasBadPath (case_of instance.now) routings.now)) }
     ensures paths { IfOk result (λ place. IfNone place (FollowPaths (case_of instance.now) routings.now)) }
 {

@@ -1,5 +1,6 @@
 ghost use Rattle.std.specs.Prelude.{◌≡◌, ℕ, ◌<◌, ◌^◌, All, OnOk, length, [], ◌∷◌};
 ghost use Rattle.net_core.specs.Views.{case_of};
+ghost use Rattle.plan_report.specs.KnownNames.{known_of};
 ghost use Rattle.plan_report.specs.Forms.{AreRoutingsInForm};
 ghost use Rattle.plan_terms.specs.Capacities.{AreCounts, capacities};
 ghost use Rattle.plan_checker.specs.Carried.{HoldsBadPath, HoldsNotCarried, HoldsOverloaded, IsOverloaded, IsUncarried};
@@ -16,7 +17,7 @@ use std::alloc::Global;
 
 /// Whether each flow follows a path of its demand.
 fn check_paths(alloc: Global, instance: &Instance, routings: &[Routing]) -> Test
-    requires { AreRoutingsInForm instance.now.net.now.links instance.now.states.now.listed instance.now.demands.now routings.now }
+    requires { AreRoutingsInForm (known_of instance.now.net.now instance.now.states.now) instance.now.demands.now routings.now }
     ensures told { Tells (HoldsBadPath (case_of instance.now) routings.now) result }
     ensures paths { OnOk result (FollowPaths (case_of instance.now) routings.now) }
 {
@@ -29,7 +30,7 @@ fn check_paths(alloc: Global, instance: &Instance, routings: &[Routing]) -> Test
 
 /// Whether the flows of each demand sum to its need.
 fn check_sums(alloc: Global, instance: &Instance, routings: &[Routing]) -> Test
-    requires { AreRoutingsInForm instance.now.net.now.links instance.now.states.now.listed instance.now.demands.now routings.now }
+    requires { AreRoutingsInForm (known_of instance.now.net.now instance.now.states.now) instance.now.demands.now routings.now }
     ensures told { Tells (HoldsNotCarried (case_of instance.now) routings.now) result }
     ensures met { OnOk result ((s k : ℕ) → IsUncarried (case_of instance.now) 1 routings.now s k → ⊥) }
 {
@@ -42,7 +43,7 @@ fn check_sums(alloc: Global, instance: &Instance, routings: &[Routing]) -> Test
 
 /// Whether the flows over each link stay within its capacity. The flows follow paths.
 fn check_loads(alloc: Global, instance: &Instance, counts: &Counts, routings: &[Routing]) -> Test
-    requires form { AreRoutingsInForm instance.now.net.now.links instance.now.states.now.listed instance.now.demands.now routings.now }
+    requires form { AreRoutingsInForm (known_of instance.now.net.now instance.now.states.now) instance.now.demands.now routings.now }
     requires paths { FollowPaths (case_of instance.now) routings.now }
     requires shape { AreCounts instance.now.net.now.links counts.now }
     requires small { All (λ n. n < 2 ^ 46) (capacities instance.now.net.now.links counts.now) }
@@ -64,7 +65,7 @@ pub(crate) fn check_routings(
     counts: &Counts,
     routings: &[Routing],
 ) -> Test
-    requires form { AreRoutingsInForm instance.now.net.now.links instance.now.states.now.listed instance.now.demands.now routings.now }
+    requires form { AreRoutingsInForm (known_of instance.now.net.now instance.now.states.now) instance.now.demands.now routings.now }
     requires shape { AreCounts instance.now.net.now.links counts.now }
     requires small { All (λ n. n < 2 ^ 46) (capacities instance.now.net.now.links counts.now) }
     ensures told { TellFirst (HoldsBadPath (case_of instance.now) routings.now ∷ HoldsNotCarried (case_of instance.now) routings.now ∷ HoldsOverloaded (capacities instance.now.net.now.links counts.now) routings.now ∷ []) result }

@@ -2,6 +2,7 @@ ghost use Rattle.std.specs.Prelude.{◌≡◌, ℕ, List as Seq, [], ◌∷◌, 
 ghost use Rattle.net_core.specs.declared.demand.Demand.{Demand as D};
 ghost use Rattle.net_core.specs.declared.network.Link.{Link as L};
 ghost use Rattle.net_core.specs.declared.states.Listed.{Listed as State};
+ghost use Rattle.plan_report.specs.KnownNames.{known_as};
 ghost use Rattle.plan_report.specs.Forms.{AreRoutingsInForm, IsCertificateInForm, IsPathInForm, IsPlanInForm, IsQualityInForm, IsRoutingInForm, IsSpotInForm};
 ghost use Rattle.plan_terms.specs.Capacities.{AreCounts, AreWithinLimits};
 ghost use Rattle.worked_networks.specs.Triangle.{triangle_links};
@@ -172,7 +173,7 @@ fn certificate(alloc: Global, said: &Said) -> Result<Certificate, NoMemory>
 
 /// A share, within which the first demand goes over B in both states.
 fn quality(alloc: Global, said: &Said) -> Result<Quality, NoMemory>
-    ensures { IfOk result (λ q. (listed : Seq State) (demands : Seq D) → length listed ≡ 1 → length demands ≡ 2 → IsQualityInForm (triangle_links 0) listed demands q) }
+    ensures { IfOk result (λ q. (nodes : Seq (Seq ℕ)) (listed : Seq State) (demands : Seq D) → length listed ≡ 1 → length demands ≡ 2 → IsQualityInForm (known_as nodes (triangle_links 0) listed) demands q) }
 {
     let (ab, bc) = said.units;
     let share = Share {
@@ -207,7 +208,7 @@ fn counts(alloc: Global, modules: u32) -> Result<Counts, NoMemory>
 
 /// The plan that says so.
 fn plan(alloc: Global, said: &Said) -> Result<Plan, Fail>
-    ensures { IfOk result (λ p. (nodes : Seq (Seq ℕ)) (listed : Seq State) → length nodes ≡ 3 → length listed ≡ 1 → IsPlanInForm nodes (triangle_links 0) listed p) }
+    ensures { IfOk result (λ p. (nodes : Seq (Seq ℕ)) (listed : Seq State) → length nodes ≡ 3 → length listed ≡ 1 → IsPlanInForm (known_as nodes (triangle_links 0) listed) p) }
 {
     let (raw_num, raw_den) = said.raw;
     Ok(Plan {
@@ -361,7 +362,7 @@ fn large_certificate(alloc: Global) -> Result<Certificate, NoMemory>
 
 /// The routing of 2^39 thousandths over two links.
 fn large_routing(alloc: Global) -> Result<List<Routing>, NoMemory>
-    ensures { IfOk result (λ rs. (links : Seq L) (demands : Seq D) → length links ≡ 2 → length demands ≡ 1 → AreRoutingsInForm links [] demands rs) }
+    ensures { IfOk result (λ rs. (nodes : Seq (Seq ℕ)) (links : Seq L) (demands : Seq D) → length links ≡ 2 → length demands ≡ 1 → AreRoutingsInForm (known_as nodes links []) demands rs) }
 {
     let flow = Flow {
         demand: 0,
@@ -374,7 +375,7 @@ fn large_routing(alloc: Global) -> Result<List<Routing>, NoMemory>
 
 /// A plan of two links in a row, both with the capacity that the demand needs.
 fn large_plan(alloc: Global) -> Result<Plan, Fail>
-    ensures { IfOk result (λ p. (nodes : Seq (Seq ℕ)) (links : Seq L) → length nodes ≡ 3 → length links ≡ 2 → AreCounts links no_modules → AreWithinLimits links no_modules → IsPlanInForm nodes links [] p) }
+    ensures { IfOk result (λ p. (nodes : Seq (Seq ℕ)) (links : Seq L) → length nodes ≡ 3 → length links ≡ 2 → AreCounts links no_modules → AreWithinLimits links no_modules → IsPlanInForm (known_as nodes links []) p) }
 {
     Ok(Plan {
         version: 0,

@@ -1,5 +1,6 @@
 ghost use Rattle.std.specs.Prelude.{◌≡◌, ◌<◌, ◌*◌, ◌^◌, ◌↔◌, All, IfOk, IsTrue, length};
 ghost use Rattle.net_core.specs.Views.{case_of};
+ghost use Rattle.plan_report.specs.KnownNames.{known_of};
 ghost use Rattle.plan_report.specs.Forms.{AreRoutingsInForm, IsQualityInForm, IsShareInForm};
 ghost use Rattle.plan_checker.specs.Shares.{AreCarried, HoldsNotTight, IsTight};
 ghost use Rattle.plan_checker.specs.inner.Tests.{Tells};
@@ -23,7 +24,7 @@ fn are_carried(
     nums: &[u128],
     routings: &[Routing],
 ) -> Result<bool, NoMemory>
-    requires form { AreRoutingsInForm instance.now.net.now.links instance.now.states.now.listed instance.now.demands.now routings.now }
+    requires form { AreRoutingsInForm (known_of instance.now.net.now instance.now.states.now) instance.now.demands.now routings.now }
     requires count { length nums.now ≡ length instance.now.net.now.links }
     requires low { All (λ n. n < 2 ^ 127) nums.now }
     ensures { IfOk result (λ t. IsTrue t ↔ AreCarried (case_of instance.now) scale nums.now routings.now) }
@@ -61,7 +62,7 @@ fn is_tight(
 ) -> Result<bool, NoMemory>
     requires raw { 0 < plan.now.raw_den }
     requires share { IsShareInForm instance.now.net.now.links fractional.now.share }
-    requires routings { AreRoutingsInForm instance.now.net.now.links instance.now.states.now.listed instance.now.demands.now fractional.now.routings }
+    requires routings { AreRoutingsInForm (known_of instance.now.net.now instance.now.states.now) instance.now.demands.now fractional.now.routings }
     ensures { IfOk result (λ t. IsTrue t ↔ IsTight (case_of instance.now) plan.now fractional.now) }
 {
     let share = &fractional.share;
@@ -76,7 +77,7 @@ fn is_tight(
 /// Whether a plan that claims to be tight is.
 pub(crate) fn check_tight(alloc: Global, instance: &Instance, plan: &Plan) -> Test
     requires raw { 0 < plan.now.raw_den }
-    requires form { IsQualityInForm instance.now.net.now.links instance.now.states.now.listed instance.now.demands.now plan.now.quality }
+    requires form { IsQualityInForm (known_of instance.now.net.now instance.now.states.now) instance.now.demands.now plan.now.quality }
     ensures { Tells (HoldsNotTight (case_of instance.now) plan.now) result }
 {
     let Quality::Tight(fractional) = &plan.quality else {

@@ -8,8 +8,13 @@ use Rattle.net_core.specs.declared.journal.Entry.TheVariants.{Pooled}
 use Rattle.plan_types.specs.declared.certificate.CertLine.{CertLine}
 use Rattle.plan_types.specs.declared.report.Outcome.TheVariants.{Planned}
 use Rattle.plan_report.specs.Forms.{AreLinkNumbers, AreRoutingsInForm, IsCertificateInForm, IsCertificateLineInForm, IsCutInForm, IsEntryInForm, IsFlowInForm, IsOfPool, IsOutcomeInForm, IsPlanInForm, IsReportInForm, IsRoutingInForm, IsShareInForm}
+use Rattle.plan_report.specs.KnownNames.{KnownNames, known_as}
 use Rattle.plan_report.specs.inner.Examples.{idle_certificate, idle_cut, idle_plan, idle_report, idle_routing}
 use Rattle.net_core.proofs.Lists.{all_one}
+
+-- no state is listed
+abbrev triangle_names : KnownNames
+triangle_names = known_as (letters 65 3) (triangle_links 0) []
 
 three : {X : Type 0} (P : X → Type 0) (x : X) → P x → All P (x ∷ x ∷ x ∷ [])
 three P x p = All-cons P x (x ∷ x ∷ []) p (All-cons P x (x ∷ []) p (all_one P x p))
@@ -23,7 +28,7 @@ cut_in_form = record { state = omega arith; lengths = record { long = refl; each
 routing_in_form : IsRoutingInForm (triangle_links 0) [] idle_routing
 routing_in_form = record { positive = omega arith; den = omega arith; few = omega arith; flows = All-nil (IsFlowInForm (triangle_links 0) []) }
 
-idle_routings_in_form : AreRoutingsInForm (triangle_links 0) [] [] (idle_routing ∷ [])
+idle_routings_in_form : AreRoutingsInForm triangle_names [] (idle_routing ∷ [])
 idle_routings_in_form = record { long = refl; each = all_one (IsRoutingInForm (triangle_links 0) []) idle_routing routing_in_form }
 
 share_in_form : IsShareInForm (triangle_links 0) (record { scale = 1; units = 0 ∷ 0 ∷ 0 ∷ [] })
@@ -32,7 +37,7 @@ share_in_form = record { positive = omega arith; scale = omega arith; units = re
 certificate_in_form : IsCertificateInForm (triangle_links 0) [] idle_certificate
 certificate_in_form = record { positive = omega arith; den = omega arith; few = omega arith; lines = All-nil (IsCertificateLineInForm (triangle_links 0) []) }
 
-plan_in_form : IsPlanInForm (letters 65 3) (triangle_links 0) [] idle_plan
+plan_in_form : IsPlanInForm triangle_names idle_plan
 plan_in_form = record {
   version = omega arith;
   position = omega arith;
@@ -52,21 +57,21 @@ plan_in_form = record {
   quality = (share_in_form, idle_routings_in_form);
 }
 
-outcome_in_form : IsOutcomeInForm (letters 65 3) (triangle_links 0) [] (idle_cut ∷ []) (Planned 1 1 idle_plan)
+outcome_in_form : IsOutcomeInForm triangle_names (idle_cut ∷ []) (Planned 1 1 idle_plan)
 outcome_in_form = record {
   command = record { some_caller = omega arith; most_caller = omega arith; some_serial = omega arith; most_serial = omega arith; most_version = omega arith; most_position = omega arith };
   plan = plan_in_form;
   pooled = All-nil (λ (l : CertLine). IsOfPool (idle_cut ∷ []) l.spot l.cut);
 }
 
-pub idle_in_form : IsReportInForm (letters 65 3) (triangle_links 0) [] idle_report
+pub idle_in_form : IsReportInForm triangle_names idle_report
 idle_in_form = record {
   few_entries = omega arith;
   entries = all_one (IsEntryInForm (idle_cut ∷ [])) (Pooled 0 idle_cut.state idle_cut.lengths) entry_in_form;
   few_lines = omega arith;
   pool = all_one (IsCutInForm (triangle_links 0) []) idle_cut cut_in_form;
   few_outcomes = omega arith;
-  outcomes = all_one (IsOutcomeInForm (letters 65 3) (triangle_links 0) [] (idle_cut ∷ [])) (Planned 1 1 idle_plan) outcome_in_form;
+  outcomes = all_one (IsOutcomeInForm triangle_names (idle_cut ∷ [])) (Planned 1 1 idle_plan) outcome_in_form;
 }
 
 pub three_lengths : (links : List Link) → length links ≡ 3 → AreLinkNumbers links (2 ^ 32) (1 ∷ 0 ∷ 2 ∷ [])

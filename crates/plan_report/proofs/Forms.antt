@@ -1,8 +1,6 @@
 -- What the writer draws from a report's form, and that its text spells the report.
 use Rattle.std.proofs.Common.{ℕ, List, [], ◌∷◌, ◌++◌, All, refl, sym, subst}
 use Rattle.net_core.specs.declared.demand.Demand.{Demand}
-use Rattle.net_core.specs.declared.network.Link.{Link}
-use Rattle.net_core.specs.declared.states.Listed.{Listed}
 use Rattle.plan_types.specs.declared.report.Report.{Report}
 use Rattle.text_kit.specs.Files.{IsFileOf}
 use Rattle.text_kit.specs.Items.{ComeAfter}
@@ -11,6 +9,7 @@ use Rattle.text_kit.proofs.After.{after_all, after_as}
 use Rattle.text_kit.proofs.Files.{written_is_read}
 use Rattle.plan_report.specs.Forms.{IsDemandInForm, IsReportInForm}
 use Rattle.plan_report.specs.Items.{report_items}
+use Rattle.plan_report.specs.KnownNames.{KnownNames}
 use Rattle.plan_report.specs.Texts.{SpellsReport, report_header}
 use Rattle.text_kit.specs.Written.{AddsItems}
 use Rattle.plan_report.specs.inner.Writable.{IsWritableDemand}
@@ -20,10 +19,10 @@ writable_demands nodes demands all =
     after_all (IsWritableDemand nodes) [] demands
     (after_as (IsDemandInForm nodes) (λ before d. IsWritableDemand nodes d) [] demands (λ before d h. record { from = h.from; to = h.to; need = h.need }) all)
 
-pub text_spells : (nodes : List (List ℕ)) (links : List Link) (listed : List Listed) (r : Report) (text : List ℕ)
-    → IsReportInForm nodes links listed r → AddsItems (report_header ++ 10 ∷ []) (report_items nodes links listed r) text → SpellsReport nodes links listed text r
-text_spells nodes links listed r text form p = record {
+pub text_spells : (known : KnownNames) (r : Report) (text : List ℕ)
+    → IsReportInForm known r → AddsItems (report_header ++ 10 ∷ []) (report_items known r) text → SpellsReport known text r
+text_spells known r text form p = record {
   form = form;
-  file = subst (λ (bytes : List ℕ). IsFileOf report_header (report_items nodes links listed r) bytes) (sym p.text)
-      (written_is_read report_header (report_items nodes links listed r) (record { one = refl; no_blank = refl }) (writable (report_items nodes links listed r) p.each));
+  file = subst (λ (bytes : List ℕ). IsFileOf report_header (report_items known r) bytes) (sym p.text)
+      (written_is_read report_header (report_items known r) (record { one = refl; no_blank = refl }) (writable (report_items known r) p.each));
 }

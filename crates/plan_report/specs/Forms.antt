@@ -39,6 +39,7 @@ use Rattle.plan_types.specs.declared.report.Outcome.TheVariants.{Planned, Unsurv
 use Rattle.plan_types.specs.declared.report.Report.{Report}
 use Rattle.text_kit.specs.Items.{ComeAfter}
 use Rattle.text_kit.specs.Edits.{IsEditInForm}
+use Rattle.plan_report.specs.KnownNames.{KnownNames}
 
 -- ---- numbers, cuts and paths
 
@@ -75,9 +76,9 @@ pub record IsRoutingInForm (links : List Link) (demands : List Demand) (r : Rout
   pub flows : All (IsFlowInForm links demands) r.flows
 
 -- one routing for each state
-pub record AreRoutingsInForm (links : List Link) (listed : List Listed) (demands : List Demand) (routings : List Routing) : Type 0 where
-  pub long : length routings ≡ length listed + 1
-  pub each : All (IsRoutingInForm links demands) routings
+pub record AreRoutingsInForm (known : KnownNames) (demands : List Demand) (routings : List Routing) : Type 0 where
+  pub long : length routings ≡ length known.listed + 1
+  pub each : All (IsRoutingInForm known.links demands) routings
 
 -- ---- how good a bound is
 
@@ -115,12 +116,12 @@ IsKindInForm column value length rows Value = value
 IsKindInForm column value length rows (Length e) = length e
 
 -- evidence on the routing of a state: a row for each link and each demand, and as many columns
-pub record IsRouteEvidenceInForm (links : List Link) (listed : List Listed) (demands : List Demand) (state : StateId) (caps : Caps) (basis : List RouteColumn) (kind : WideKind RouteColumn) : Type 0 where
-  pub state_listed : state.0 ≤ length listed
-  pub capacities : AreCapsInForm links caps
-  pub long : length basis ≡ length links + length demands
-  pub columns : All (IsRouteColumnInForm links demands) basis
-  pub wide : IsKindInForm (IsRouteColumnInForm links demands) ⊥ (λ e. e.0 < length links) (length links + length demands) kind
+pub record IsRouteEvidenceInForm (known : KnownNames) (demands : List Demand) (state : StateId) (caps : Caps) (basis : List RouteColumn) (kind : WideKind RouteColumn) : Type 0 where
+  pub state_listed : state.0 ≤ length known.listed
+  pub capacities : AreCapsInForm known.links caps
+  pub long : length basis ≡ length known.links + length demands
+  pub columns : All (IsRouteColumnInForm known.links demands) basis
+  pub wide : IsKindInForm (IsRouteColumnInForm known.links demands) ⊥ (λ e. e.0 < length known.links) (length known.links + length demands) kind
 
 -- evidence on the certificate of some cuts: a row for each link, and as many columns
 pub record IsMasterEvidenceInForm (links : List Link) (listed : List Listed) (basis : List MasterColumn) (kind : WideKind MasterColumn) : Type 0 where
@@ -129,19 +130,19 @@ pub record IsMasterEvidenceInForm (links : List Link) (listed : List Listed) (ba
   pub wide : IsKindInForm (IsMasterColumnInForm links listed) (Unit {0}) (λ e. ⊥) (length links) kind
 
 -- evidence on either program
-abbrev pub IsEvidenceInForm : List Link → List Listed → List Demand → Evidence → Type 0
-IsEvidenceInForm links listed demands (Route state caps basis kind) = IsRouteEvidenceInForm links listed demands state caps basis kind
-IsEvidenceInForm links listed demands (Master basis kind) = IsMasterEvidenceInForm links listed basis kind
+abbrev pub IsEvidenceInForm : KnownNames → List Demand → Evidence → Type 0
+IsEvidenceInForm known demands (Route state caps basis kind) = IsRouteEvidenceInForm known demands state caps basis kind
+IsEvidenceInForm known demands (Master basis kind) = IsMasterEvidenceInForm known.links known.listed basis kind
 
 -- evidence, where a number grew too wide
-abbrev pub IsCauseInForm : List Link → List Listed → List Demand → Cause → Type 0
-IsCauseInForm links listed demands (Wide evidence) = IsEvidenceInForm links listed demands evidence
-IsCauseInForm links listed demands Cuts = Unit {0}
+abbrev pub IsCauseInForm : KnownNames → List Demand → Cause → Type 0
+IsCauseInForm known demands (Wide evidence) = IsEvidenceInForm known demands evidence
+IsCauseInForm known demands Cuts = Unit {0}
 
 -- a share with a routing for each state, or why there is no better bound
-abbrev pub IsQualityInForm : List Link → List Listed → List Demand → Quality → Type 0
-IsQualityInForm links listed demands (Tight f) = IsShareInForm links f.share × AreRoutingsInForm links listed demands f.routings
-IsQualityInForm links listed demands (Loose cause) = IsCauseInForm links listed demands cause
+abbrev pub IsQualityInForm : KnownNames → List Demand → Quality → Type 0
+IsQualityInForm known demands (Tight f) = IsShareInForm known.links f.share × AreRoutingsInForm known demands f.routings
+IsQualityInForm known demands (Loose cause) = IsCauseInForm known demands cause
 
 -- ---- plans
 
@@ -172,20 +173,20 @@ pub record IsCertificateInForm (links : List Link) (listed : List Listed) (c : C
   pub lines : All (IsCertificateLineInForm links listed) c.lines
 
 -- a plan by itself; costs and bounds are below 2^126 thousandths
-pub record IsPlanInForm (nodes : List (List ℕ)) (links : List Link) (listed : List Listed) (p : Plan) : Type 0 where
+pub record IsPlanInForm (known : KnownNames) (p : Plan) : Type 0 where
   pub version : p.version ≤ 65536
   pub position : p.position ≤ 65536
-  pub demands : ComeAfter (IsDemandInForm nodes) [] p.demands
-  pub counts : AreCounts links p.counts
-  pub limits : AreWithinLimits links p.counts
+  pub demands : ComeAfter (IsDemandInForm known.nodes) [] p.demands
+  pub counts : AreCounts known.links p.counts
+  pub limits : AreWithinLimits known.links p.counts
   pub cost : p.cost < 2 ^ 126
-  pub routings : AreRoutingsInForm links listed p.demands p.routings
-  pub certificate : IsCertificateInForm links listed p.certificate
+  pub routings : AreRoutingsInForm known p.demands p.routings
+  pub certificate : IsCertificateInForm known.links known.listed p.certificate
   pub raw_num : p.raw_num < 2 ^ 126
   pub raw_positive : 1 ≤ p.raw_den
   pub raw_den : p.raw_den < 2 ^ 72
   pub bound : p.bound < 2 ^ 126
-  pub quality : IsQualityInForm links listed p.demands p.quality
+  pub quality : IsQualityInForm known p.demands p.quality
 
 -- ---- reports
 
@@ -248,9 +249,9 @@ pub record IsHeadInForm (caller serial version position : ℕ) : Type 0 where
   pub most_position : position ≤ 65536
 
 -- a plan whose pooled cuts are those of the pool
-pub record IsPlannedInForm (nodes : List (List ℕ)) (links : List Link) (listed : List Listed) (pool : List CutLine) (caller serial : ℕ) (p : Plan) : Type 0 where
+pub record IsPlannedInForm (known : KnownNames) (pool : List CutLine) (caller serial : ℕ) (p : Plan) : Type 0 where
   pub command : IsHeadInForm caller serial p.version p.position
-  pub plan : IsPlanInForm nodes links listed p
+  pub plan : IsPlanInForm known p
   pub pooled : All (λ l. IsOfPool pool l.spot l.cut) p.certificate.lines
 
 -- one of the states, and a demand's name
@@ -260,16 +261,16 @@ pub record IsUnsurvivableInForm (listed : List Listed) (caller serial version po
   pub short : length demand ≤ 255
 
 -- a plan, or a state that separates a demand
-abbrev pub IsOutcomeInForm : List (List ℕ) → List Link → List Listed → List CutLine → Outcome → Type 0
-IsOutcomeInForm nodes links listed pool (Planned caller serial plan) = IsPlannedInForm nodes links listed pool caller serial plan
-IsOutcomeInForm nodes links listed pool (Unsurvivable caller serial version position state demand) =
-    IsUnsurvivableInForm listed caller serial version position state demand
+abbrev pub IsOutcomeInForm : KnownNames → List CutLine → Outcome → Type 0
+IsOutcomeInForm known pool (Planned caller serial plan) = IsPlannedInForm known pool caller serial plan
+IsOutcomeInForm known pool (Unsurvivable caller serial version position state demand) =
+    IsUnsurvivableInForm known.listed caller serial version position state demand
 
 -- a report: at most 65,536 entries, 4,096 lines of the pool and 64 outcomes
-pub record IsReportInForm (nodes : List (List ℕ)) (links : List Link) (listed : List Listed) (r : Report) : Type 0 where
+pub record IsReportInForm (known : KnownNames) (r : Report) : Type 0 where
   pub few_entries : length r.entries ≤ 65536
   pub entries : All (IsEntryInForm r.pool) r.entries
   pub few_lines : length r.pool ≤ 4096
-  pub pool : All (IsCutInForm links listed) r.pool
+  pub pool : All (IsCutInForm known.links known.listed) r.pool
   pub few_outcomes : length r.outcomes ≤ 64
-  pub outcomes : All (IsOutcomeInForm nodes links listed r.pool) r.outcomes
+  pub outcomes : All (IsOutcomeInForm known r.pool) r.outcomes

@@ -35,6 +35,7 @@ use Rattle.plan_types.specs.declared.report.Outcome.TheVariants.{Planned, Unsurv
 use Rattle.plan_types.specs.declared.report.Report.{Report}
 use Rattle.text_kit.specs.Items.{Item, Verbatim, Whole, Money}
 use Rattle.text_kit.specs.Edits.{edit_items, enclosed, ends_items, section}
+use Rattle.plan_report.specs.KnownNames.{KnownNames}
 use Rattle.plan_report.specs.Names.{demand_name, link_name, node_name, state_name}
 
 -- ---- numbers, cuts and paths
@@ -85,13 +86,13 @@ abbrev pub flow_items : List Link → List Demand → Flow → List Item
 flow_items links demands f = Verbatim (demand_name demands f.demand) ∷ Whole f.num ∷ path_items links f.path
 
 -- the routing of a state: the state's number and name, the denominator, and the flows
-abbrev pub routing_items : List Link → List Listed → List Demand → ℕ × Routing → List Item
-routing_items links listed demands p =
-    Verbatim (codes "state") ∷ Whole p.0 ∷ Verbatim (state_name listed p.0) ∷ Whole p.1.den ∷ enclosed (flat_map (flow_items links demands) p.1.flows)
+abbrev pub routing_items : KnownNames → List Demand → ℕ × Routing → List Item
+routing_items known demands p =
+    Verbatim (codes "state") ∷ Whole p.0 ∷ Verbatim (state_name known.listed p.0) ∷ Whole p.1.den ∷ enclosed (flat_map (flow_items known.links demands) p.1.flows)
 
 -- the routings of all states, from state 0
-abbrev pub routings_items : List Link → List Listed → List Demand → List Routing → List Item
-routings_items links listed demands routings = enclosed (flat_map (routing_items links listed demands) (numbered_from 0 routings))
+abbrev pub routings_items : KnownNames → List Demand → List Routing → List Item
+routings_items known demands routings = enclosed (flat_map (routing_items known demands) (numbered_from 0 routings))
 
 -- ---- how good a bound is
 
@@ -130,10 +131,10 @@ cause_items links demands (Wide evidence) = Verbatim (codes "wide") ∷ evidence
 cause_items links demands Cuts = Verbatim (codes "cuts") ∷ []
 
 -- a share with the routings within it, or why there is no better bound
-abbrev pub quality_items : List Link → List Listed → List Demand → Quality → List Item
-quality_items links listed demands (Tight f) =
-    Verbatim (codes "tight") ∷ Whole f.share.scale ∷ numbers_items f.share.units ++ routings_items links listed demands f.routings
-quality_items links listed demands (Loose cause) = Verbatim (codes "loose") ∷ cause_items links demands cause
+abbrev pub quality_items : KnownNames → List Demand → Quality → List Item
+quality_items known demands (Tight f) =
+    Verbatim (codes "tight") ∷ Whole f.share.scale ∷ numbers_items f.share.units ++ routings_items known demands f.routings
+quality_items known demands (Loose cause) = Verbatim (codes "loose") ∷ cause_items known.links demands cause
 
 -- ---- plans
 
@@ -169,25 +170,25 @@ abbrev pub costs_items : Plan → List Item
 costs_items p = Verbatim (codes "cost") ∷ Money p.cost ∷ Verbatim (codes "bound") ∷ Money p.bound ∷ Verbatim (codes "raw") ∷ Whole p.raw_num ∷ Whole p.raw_den ∷ []
 
 -- a plan after its head: its demands, its costs, its modules, its certificate, its routings, and how good its bound is
-abbrev pub plan_items : List (List ℕ) → List Link → List Listed → Plan → List Item
-plan_items nodes links listed p =
-    section (codes "DEMANDS") (flat_map (demand_items nodes) p.demands)
+abbrev pub plan_items : KnownNames → Plan → List Item
+plan_items known p =
+    section (codes "DEMANDS") (flat_map (demand_items known.nodes) p.demands)
     ++ costs_items p
-    ++ section (codes "MODULES") (flat_map modules_items (zip links p.counts))
+    ++ section (codes "MODULES") (flat_map modules_items (zip known.links p.counts))
     ++ certificate_items p.certificate
-    ++ Verbatim (codes "ROUTES") ∷ routings_items links listed p.demands p.routings
-    ++ quality_items links listed p.demands p.quality
+    ++ Verbatim (codes "ROUTES") ∷ routings_items known p.demands p.routings
+    ++ quality_items known p.demands p.quality
 
 -- the state that separates a demand, by its number and name, and the demand
 abbrev pub separation_items : List Listed → StateId → List ℕ → List Item
 separation_items listed state demand = Verbatim (codes "state") ∷ Whole state.0 ∷ Verbatim (state_name listed state.0) ∷ Verbatim (codes "demand") ∷ Verbatim demand ∷ []
 
 -- what a plan command came to
-abbrev pub outcome_items : List (List ℕ) → List Link → List Listed → Outcome → List Item
-outcome_items nodes links listed (Planned caller serial plan) =
-    section (codes "PLAN") (head_items caller serial plan.version plan.position ++ plan_items nodes links listed plan)
-outcome_items nodes links listed (Unsurvivable caller serial version position state demand) =
-    section (codes "UNSURVIVABLE") (head_items caller serial version position ++ separation_items listed state demand)
+abbrev pub outcome_items : KnownNames → Outcome → List Item
+outcome_items known (Planned caller serial plan) =
+    section (codes "PLAN") (head_items caller serial plan.version plan.position ++ plan_items known plan)
+outcome_items known (Unsurvivable caller serial version position state demand) =
+    section (codes "UNSURVIVABLE") (head_items caller serial version position ++ separation_items known.listed state demand)
 
 -- ---- the report
 
@@ -200,9 +201,9 @@ abbrev pub notes_items : Notes → List Item
 notes_items n = note_items n.fixed_cost (codes "fixed") ++ note_items n.routing_cost (codes "routing") ++ note_items n.setup_cost (codes "setup")
 
 -- all of a report
-abbrev pub report_items : List (List ℕ) → List Link → List Listed → Report → List Item
-report_items nodes links listed r =
+abbrev pub report_items : KnownNames → Report → List Item
+report_items known r =
     section (codes "NOTES") (notes_items r.notes)
     ++ section (codes "JOURNAL") (flat_map entry_items (numbered_from 1 r.entries))
     ++ section (codes "POOL") (flat_map pool_line_items (numbered_from 0 r.pool))
-    ++ section (codes "OUTCOMES") (flat_map (outcome_items nodes links listed) r.outcomes)
+    ++ section (codes "OUTCOMES") (flat_map (outcome_items known) r.outcomes)

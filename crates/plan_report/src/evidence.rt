@@ -5,9 +5,10 @@ ghost use Rattle.plan_report.specs.Forms.{IsCauseInForm, IsEvidenceInForm, IsKin
 ghost use Rattle.plan_report.specs.Items.{cause_items, evidence_items, master_column_items, numbers_items, route_column_items, wide_items};
 ghost use Rattle.text_kit.specs.Edits.{enclosed};
 ghost use Rattle.text_kit.specs.Written.{AddsItems};
+ghost use Rattle.plan_report.specs.inner.Naming.{known_in};
 
 use crate::lists::{put_capacities, put_lengths, put_path};
-use crate::names::{put_demand_name, put_link};
+use crate::names::{Names, put_demand_name, put_link};
 use net_core::{
     Bytes, Caps, Demand, Evidence, Link, MasterColumn, NoMemory, RouteColumn, WideKind,
 };
@@ -163,12 +164,12 @@ fn put_caps(text: &mut Bytes, caps: &Caps) -> Result<(), NoMemory>
 /// Puts evidence last.
 fn put_evidence(
     text: &mut Bytes,
-    links: &[Link],
+    names: &Names<'_>,
     demands: &[Demand],
     evidence: &Evidence,
 ) -> Result<(), NoMemory>
-    requires { (listed : List Listed) × IsEvidenceInForm links.now listed demands.now evidence.now }
-    ensures { OnOk result (AddsItems text.old (evidence_items links.now demands.now evidence.now) text.new) }
+    requires { IsEvidenceInForm (known_in names.now) demands.now evidence.now }
+    ensures { OnOk result (AddsItems text.old (evidence_items (known_in names.now).links demands.now evidence.now) text.new) }
 {
     match evidence {
         Evidence::Route {
@@ -179,13 +180,13 @@ fn put_evidence(
         } => {
             put_field(text, b"route", state.0 as u64)?;
             put_caps(text, caps)?;
-            put_route_basis(text, links, demands, basis.items())?;
-            put_route_kind(text, links, demands, kind)
+            put_route_basis(text, names.links, demands, basis.items())?;
+            put_route_kind(text, names.links, demands, kind)
         }
         Evidence::Master { basis, kind } => {
             put_keyword(text, b"master")?;
-            put_master_basis(text, links, basis.items())?;
-            put_master_kind(text, links, kind)
+            put_master_basis(text, names.links, basis.items())?;
+            put_master_kind(text, names.links, kind)
         }
     }
 }
@@ -193,17 +194,17 @@ fn put_evidence(
 /// Puts last why there is no better bound.
 pub(crate) fn put_cause(
     text: &mut Bytes,
-    links: &[Link],
+    names: &Names<'_>,
     demands: &[Demand],
     cause: &Cause,
 ) -> Result<(), NoMemory>
-    requires { (listed : List Listed) × IsCauseInForm links.now listed demands.now cause.now }
-    ensures { OnOk result (AddsItems text.old (cause_items links.now demands.now cause.now) text.new) }
+    requires { IsCauseInForm (known_in names.now) demands.now cause.now }
+    ensures { OnOk result (AddsItems text.old (cause_items (known_in names.now).links demands.now cause.now) text.new) }
 {
     match cause {
         Cause::Wide(evidence) => {
             put_keyword(text, b"wide")?;
-            put_evidence(text, links, demands, evidence)
+            put_evidence(text, names, demands, evidence)
         }
         Cause::Cuts => put_keyword(text, b"cuts"),
     }

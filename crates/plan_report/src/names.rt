@@ -3,8 +3,16 @@ ghost use Rattle.text_kit.specs.Items.{Item, Verbatim};
 ghost use Rattle.plan_report.specs.Names.{demand_name, link_name, state_name};
 ghost use Rattle.text_kit.specs.Written.{AddsItems};
 
-use net_core::{Bytes, Demand, Link, LinkId, Listed, NoMemory};
+use net_core::{Bytes, Demand, Link, LinkId, Listed, Name, NoMemory};
 use text_kit::puts::{put_keyword, put_name};
+
+/// The nodes, the links and the listed states that a report names.
+#[derive(Clone, Copy)]
+pub(crate) struct Names<'a> {
+    pub nodes: &'a [Name],
+    pub links: &'a [Link],
+    pub listed: &'a [Listed],
+}
 
 /// Puts a link's name last.
 pub(crate) fn put_link(text: &mut Bytes, links: &[Link], link: LinkId) -> Result<(), NoMemory>

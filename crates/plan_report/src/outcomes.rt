@@ -4,10 +4,11 @@ ghost use Rattle.plan_report.specs.Forms.{IsOutcomeInForm};
 ghost use Rattle.plan_report.specs.Items.{head_items, outcome_items, separation_items};
 ghost use Rattle.text_kit.specs.Edits.{enclosed};
 ghost use Rattle.text_kit.specs.Written.{AddsItems};
+ghost use Rattle.plan_report.specs.inner.Naming.{known_in};
 
-use crate::names::put_state_name;
+use crate::names::{Names, put_state_name};
 use crate::plans::put_plan;
-use net_core::{Bytes, Link, Listed, Name, NoMemory, StateId};
+use net_core::{Bytes, Listed, Name, NoMemory, StateId};
 use plan_types::Outcome;
 use text_kit::puts::{put_close, put_field, put_keyword, put_name, put_open};
 
@@ -44,15 +45,9 @@ fn put_separation(
 }
 
 /// Puts an outcome last.
-fn put_outcome(
-    text: &mut Bytes,
-    nodes: &[Name],
-    links: &[Link],
-    listed: &[Listed],
-    outcome: &Outcome,
-) -> Result<(), NoMemory>
-    requires { (pool : List CutLine) × IsOutcomeInForm nodes.now links.now listed.now pool outcome.now }
-    ensures { OnOk result (AddsItems text.old (outcome_items nodes.now links.now listed.now outcome.now) text.new) }
+fn put_outcome(text: &mut Bytes, names: &Names<'_>, outcome: &Outcome) -> Result<(), NoMemory>
+    requires { (pool : List CutLine) × IsOutcomeInForm (known_in names.now) pool outcome.now }
+    ensures { OnOk result (AddsItems text.old (outcome_items (known_in names.now) outcome.now) text.new) }
 {
     match outcome {
         Outcome::Planned {
@@ -63,7 +58,7 @@ fn put_outcome(
             put_keyword(text, b"PLAN")?;
             put_open(text)?;
             put_head(text, *caller, *serial, plan.version, plan.position)?;
-            put_plan(text, nodes, links, listed, plan)?;
+            put_plan(text, names, plan)?;
             put_close(text)
         }
         Outcome::Unsurvivable {
@@ -77,7 +72,7 @@ fn put_outcome(
             put_keyword(text, b"UNSURVIVABLE")?;
             put_open(text)?;
             put_head(text, *caller, *serial, *version, *position)?;
-            put_separation(text, listed, *state, demand)?;
+            put_separation(text, names.listed, *state, demand)?;
             put_close(text)
         }
     }
@@ -86,17 +81,15 @@ fn put_outcome(
 /// Puts outcomes last, between parentheses.
 pub(crate) fn put_outcomes(
     text: &mut Bytes,
-    nodes: &[Name],
-    links: &[Link],
-    listed: &[Listed],
+    names: &Names<'_>,
     outcomes: &[Outcome],
 ) -> Result<(), NoMemory>
-    requires { (pool : List CutLine) × All (IsOutcomeInForm nodes.now links.now listed.now pool) outcomes.now }
-    ensures { OnOk result (AddsItems text.old (enclosed (flat_map (outcome_items nodes.now links.now listed.now) outcomes.now)) text.new) }
+    requires { (pool : List CutLine) × All (IsOutcomeInForm (known_in names.now) pool) outcomes.now }
+    ensures { OnOk result (AddsItems text.old (enclosed (flat_map (outcome_items (known_in names.now)) outcomes.now)) text.new) }
 {
     put_open(text)?;
     for outcome in outcomes {
-        put_outcome(text, nodes, links, listed, outcome)?;
+        put_outcome(text, names, outcome)?;
     }
     put_close(text)
 }

@@ -5,12 +5,14 @@ ghost use Rattle.plan_report.specs.Items.{costs_items, demand_items, modules_ite
 ghost use Rattle.text_kit.specs.Edits.{enclosed};
 ghost use Rattle.text_kit.specs.Written.{AddsItems};
 ghost use Rattle.plan_report.specs.inner.Writable.{IsWritableDemand};
+ghost use Rattle.plan_report.specs.inner.Naming.{known_in};
 
 use crate::certificates::put_certificate;
 use crate::evidence::put_cause;
 use crate::lists::put_counts;
+use crate::names::Names;
 use crate::routings::put_routings;
-use net_core::{Bytes, Demand, Link, List, Listed, Name, NoMemory};
+use net_core::{Bytes, Demand, Link, List, Name, NoMemory};
 use plan_types::{Fractional, Plan, Quality};
 use text_kit::puts::{
     put_close, put_ends, put_keyword, put_money, put_name, put_number, put_open, put_whole,
@@ -81,61 +83,53 @@ fn put_costs(text: &mut Bytes, plan: &Plan) -> Result<(), NoMemory>
 /// Puts last a share and the routings within it.
 fn put_fractional(
     text: &mut Bytes,
-    links: &[Link],
-    listed: &[Listed],
+    names: &Names<'_>,
     demands: &[Demand],
     fractional: &Fractional,
 ) -> Result<(), NoMemory>
-    requires { AreRoutingsInForm links.now listed.now demands.now fractional.now.routings }
-    ensures { OnOk result (AddsItems text.old (Whole fractional.now.share.scale ∷ numbers_items fractional.now.share.units ++ routings_items links.now listed.now demands.now fractional.now.routings) text.new) }
+    requires { AreRoutingsInForm (known_in names.now) demands.now fractional.now.routings }
+    ensures { OnOk result (AddsItems text.old (Whole fractional.now.share.scale ∷ numbers_items fractional.now.share.units ++ routings_items (known_in names.now) demands.now fractional.now.routings) text.new) }
 {
     put_number(text, fractional.share.scale)?;
     put_counts(text, fractional.share.units.items())?;
-    put_routings(text, links, listed, demands, fractional.routings.items())
+    put_routings(text, names, demands, fractional.routings.items())
 }
 
 /// Puts last how good a bound is.
 pub(crate) fn put_quality(
     text: &mut Bytes,
-    links: &[Link],
-    listed: &[Listed],
+    names: &Names<'_>,
     demands: &[Demand],
     quality: &Quality,
 ) -> Result<(), NoMemory>
-    requires { IsQualityInForm links.now listed.now demands.now quality.now }
-    ensures { OnOk result (AddsItems text.old (quality_items links.now listed.now demands.now quality.now) text.new) }
+    requires { IsQualityInForm (known_in names.now) demands.now quality.now }
+    ensures { OnOk result (AddsItems text.old (quality_items (known_in names.now) demands.now quality.now) text.new) }
 {
     match quality {
         Quality::Tight(fractional) => {
             put_keyword(text, b"tight")?;
-            put_fractional(text, links, listed, demands, fractional)
+            put_fractional(text, names, demands, fractional)
         }
         Quality::Loose(cause) => {
             put_keyword(text, b"loose")?;
-            put_cause(text, links, demands, cause)
+            put_cause(text, names, demands, cause)
         }
     }
 }
 
 /// Puts last what a plan has after its head.
-pub(crate) fn put_plan(
-    text: &mut Bytes,
-    nodes: &[Name],
-    links: &[Link],
-    listed: &[Listed],
-    plan: &Plan,
-) -> Result<(), NoMemory>
-    requires { IsPlanInForm nodes.now links.now listed.now plan.now }
-    ensures { OnOk result (AddsItems text.old (plan_items nodes.now links.now listed.now plan.now) text.new) }
+pub(crate) fn put_plan(text: &mut Bytes, names: &Names<'_>, plan: &Plan) -> Result<(), NoMemory>
+    requires { IsPlanInForm (known_in names.now) plan.now }
+    ensures { OnOk result (AddsItems text.old (plan_items (known_in names.now) plan.now) text.new) }
 {
     let demands = plan.demands.items();
     put_keyword(text, b"DEMANDS")?;
-    put_demands(text, nodes, demands)?;
+    put_demands(text, names.nodes, demands)?;
     put_costs(text, plan)?;
     put_keyword(text, b"MODULES")?;
-    put_modules(text, links, plan.counts.items())?;
+    put_modules(text, names.links, plan.counts.items())?;
     put_certificate(text, &plan.certificate)?;
     put_keyword(text, b"ROUTES")?;
-    put_routings(text, links, listed, demands, plan.routings.items())?;
-    put_quality(text, links, listed, demands, &plan.quality)
+    put_routings(text, names, demands, plan.routings.items())?;
+    put_quality(text, names, demands, &plan.quality)
 }

@@ -3,10 +3,11 @@ ghost use Rattle.plan_report.specs.Forms.{AreRoutingsInForm, IsFlowInForm, IsRou
 ghost use Rattle.plan_report.specs.Items.{flow_items, routing_items, routings_items};
 ghost use Rattle.text_kit.specs.Edits.{enclosed};
 ghost use Rattle.text_kit.specs.Written.{AddsItems};
+ghost use Rattle.plan_report.specs.inner.Naming.{known_in};
 
 use crate::lists::put_path;
-use crate::names::{put_demand_name, put_state_name};
-use net_core::{Bytes, Demand, Flow, Link, Listed, NoMemory, Routing};
+use crate::names::{Names, put_demand_name, put_state_name};
+use net_core::{Bytes, Demand, Flow, Link, NoMemory, Routing};
 use text_kit::puts::{put_close, put_field, put_number, put_open, put_whole};
 
 /// Puts a flow last.
@@ -44,36 +45,34 @@ fn put_flows(
 /// Puts the routing of a state last.
 fn put_routing(
     text: &mut Bytes,
-    links: &[Link],
-    listed: &[Listed],
+    names: &Names<'_>,
     demands: &[Demand],
     state: usize,
     routing: &Routing,
 ) -> Result<(), NoMemory>
-    requires form { IsRoutingInForm links.now demands.now routing.now }
-    requires state { state ≤ length listed.now }
-    ensures { OnOk result (AddsItems text.old (routing_items links.now listed.now demands.now (state, routing.now)) text.new) }
+    requires form { IsRoutingInForm names.now.links.now demands.now routing.now }
+    requires state { state ≤ length names.now.listed.now }
+    ensures { OnOk result (AddsItems text.old (routing_items (known_in names.now) demands.now (state, routing.now)) text.new) }
 {
     put_field(text, b"state", state as u64)?;
-    put_state_name(text, listed, state)?;
+    put_state_name(text, names.listed, state)?;
     put_number(text, routing.den)?;
-    put_flows(text, links, demands, routing.flows.items())
+    put_flows(text, names.links, demands, routing.flows.items())
 }
 
 /// Puts the routings of all states last, between parentheses.
 pub(crate) fn put_routings(
     text: &mut Bytes,
-    links: &[Link],
-    listed: &[Listed],
+    names: &Names<'_>,
     demands: &[Demand],
     routings: &[Routing],
 ) -> Result<(), NoMemory>
-    requires { AreRoutingsInForm links.now listed.now demands.now routings.now }
-    ensures { OnOk result (AddsItems text.old (routings_items links.now listed.now demands.now routings.now) text.new) }
+    requires { AreRoutingsInForm (known_in names.now) demands.now routings.now }
+    ensures { OnOk result (AddsItems text.old (routings_items (known_in names.now) demands.now routings.now) text.new) }
 {
     put_open(text)?;
     for i in 0..routings.len() {
-        put_routing(text, links, listed, demands, i, &routings[i])?;
+        put_routing(text, names, demands, i, &routings[i])?;
     }
     put_close(text)
 }

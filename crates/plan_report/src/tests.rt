@@ -1,11 +1,13 @@
 ghost use Rattle.std.specs.Prelude.{◌≡◌, ◌++◌, ◌∷◌, ◌≤◌, ◌<◌, ◌^◌, [], All, IfOk, OnOk, length};
 ghost use Rattle.plan_report.specs.Forms.{IsEntryInForm, IsOutcomeInForm, IsReplyInForm};
+ghost use Rattle.plan_report.specs.KnownNames.{known_as};
 ghost use Rattle.text_kit.specs.Edits.{IsEditInForm};
 ghost use Rattle.plan_report.specs.inner.Examples.{idle_cut, idle_plan, idle_report, idle_routing};
 
 use crate::certificates::put_certificate_line;
 use crate::evidence::{put_master_kind, put_route_kind};
 use crate::journal::put_journal;
+use crate::names::Names;
 use crate::outcomes::put_outcomes;
 use crate::plans::put_quality;
 use crate::routings::put_flow;
@@ -334,18 +336,23 @@ fn put_flow_and_quality(
 ) -> Result<(), NoMemory>
     requires { (length links.now ≡ 3) × (length demands.now ≡ 1) }
 {
+    let names = Names {
+        nodes: &[],
+        links,
+        listed: &[],
+    };
     let flow = Flow {
         demand: 0,
         path: List::from_slice(alloc, &[LinkId(2)])?,
         num: 5,
     };
     put_flow(text, links, demands, &flow)?;
-    put_quality(text, links, &[], demands, &Quality::Loose(Cause::Cuts))
+    put_quality(text, &names, demands, &Quality::Loose(Cause::Cuts))
 }
 
 /// A demand that a state separates.
 fn unsurvivable(alloc: Global) -> Result<Outcome, NameFault>
-    ensures { IfOk result (IsOutcomeInForm [] [] [] []) }
+    ensures { IfOk result (IsOutcomeInForm (known_as [] [] []) []) }
 {
     Ok(Outcome::Unsurvivable {
         caller: 2,
@@ -373,13 +380,13 @@ fn other_parts_of_a_report(rt: HostRuntime) -> Result<(), Fail> {
     let mut text = Bytes::new(alloc);
     put_lines(alloc, &mut text)?;
     put_flow_and_quality(alloc, &mut text, net.links().items(), demands.items())?;
-    put_outcomes(
-        &mut text,
-        &[],
-        &[],
-        &[],
-        one(alloc, unsurvivable(alloc)?)?.items(),
-    )?;
+    let names = Names {
+        nodes: &[],
+        links: &[],
+        listed: &[],
+    };
+    let outcomes = one(alloc, unsurvivable(alloc)?)?;
+    put_outcomes(&mut text, &names, outcomes.items())?;
     assert_eq!(rt; text.items(), PARTS);
     Ok(())
 }

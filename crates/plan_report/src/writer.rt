@@ -3,13 +3,16 @@ ghost use Rattle.net_core.specs.Names.{IsName};
 ghost use Rattle.plan_report.specs.Forms.{IsReportInForm};
 ghost use Rattle.plan_report.specs.Items.{note_items, notes_items, report_items};
 ghost use Rattle.text_kit.specs.Edits.{section};
+ghost use Rattle.plan_report.specs.KnownNames.{known_of};
 ghost use Rattle.plan_report.specs.Texts.{SpellsReport, report_header, report_text};
 ghost use Rattle.text_kit.specs.Written.{AddsItems};
+ghost use Rattle.plan_report.specs.inner.Naming.{known_in};
 
 use crate::journal::put_journal;
+use crate::names::Names;
 use crate::outcomes::put_outcomes;
 use crate::pool::put_pool;
-use net_core::{Bytes, Link, Listed, Name, Network, NoMemory, Notes, States};
+use net_core::{Bytes, Network, NoMemory, Notes, States};
 use plan_types::Report;
 use std::alloc::Global;
 use text_kit::puts::{put_close, put_keyword, put_open};
@@ -37,15 +40,9 @@ pub(crate) fn put_notes(text: &mut Bytes, notes: Notes) -> Result<(), NoMemory>
 }
 
 /// Puts all of a report last.
-fn put_report(
-    text: &mut Bytes,
-    nodes: &[Name],
-    links: &[Link],
-    listed: &[Listed],
-    report: &Report,
-) -> Result<(), NoMemory>
-    requires { IsReportInForm nodes.now links.now listed.now report.now }
-    ensures { OnOk result (AddsItems text.old (report_items nodes.now links.now listed.now report.now) text.new) }
+fn put_report(text: &mut Bytes, names: &Names<'_>, report: &Report) -> Result<(), NoMemory>
+    requires { IsReportInForm (known_in names.now) report.now }
+    ensures { OnOk result (AddsItems text.old (report_items (known_in names.now) report.now) text.new) }
 {
     put_keyword(text, b"NOTES")?;
     put_open(text)?;
@@ -56,7 +53,7 @@ fn put_report(
     put_keyword(text, b"POOL")?;
     put_pool(text, report.pool.items())?;
     put_keyword(text, b"OUTCOMES")?;
-    put_outcomes(text, nodes, links, listed, report.outcomes.items())
+    put_outcomes(text, names, report.outcomes.items())
 }
 
 /// The text of a report that is in form. It takes time in the number of its bytes, since each name is found by its place, and
@@ -72,19 +69,18 @@ pub fn write_report(
     states: &States,
     report: &Report,
 ) -> Result<Bytes, NoMemory>
-    requires { IsReportInForm net.now.nodes net.now.links states.now.listed report.now }
-    ensures text { IfOk result (λ text. text ≡ report_text net.now.nodes net.now.links states.now.listed report.now) }
+    requires { IsReportInForm (known_of net.now states.now) report.now }
+    ensures text { IfOk result (λ text. text ≡ report_text (known_of net.now states.now) report.now) }
     // What is written spells the report, so that reading it gives the report again.
-    ensures spelled { IfOk result (λ text. SpellsReport net.now.nodes net.now.links states.now.listed text report.now) }
+    ensures spelled { IfOk result (λ text. SpellsReport (known_of net.now states.now) text report.now) }
 {
     let mut text = Bytes::new(alloc);
     text.append(HEADER)?;
-    put_report(
-        &mut text,
-        net.nodes().items(),
-        net.links().items(),
-        states.listed().items(),
-        report,
-    )?;
+    let names = Names {
+        nodes: net.nodes().items(),
+        links: net.links().items(),
+        listed: states.listed().items(),
+    };
+    put_report(&mut text, &names, report)?;
     Ok(text)
 }

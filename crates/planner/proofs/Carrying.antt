@@ -1,5 +1,5 @@
 -- the fallback plan's counts carry the demands
-use Rattle.std.proofs.Common.{ℕ, List, [], arith}
+use Rattle.std.proofs.Common.{ℕ, List, arith}
 use Rattle.net_core.specs.declared.plan.Routing.{Routing}
 use Rattle.net_core.specs.Cases.{Case}
 use Rattle.plan_terms.specs.Capacities.{IsAble}

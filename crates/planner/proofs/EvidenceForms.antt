@@ -27,6 +27,7 @@ use Rattle.route_law.specs.RoutingPrograms.{IsCarrying, IsRouteColumn, route_bou
 use Rattle.route_law.proofs.Rows.{beside_each}
 use Rattle.master_law.specs.MasterEvidence.{HasWideRight, HoldsOfMaster, IsMasterEvidence}
 use Rattle.master_law.specs.MasterPrograms.{IsCutColumn, IsMasterColumn, master_bound, master_slack}
+use Rattle.plan_report.specs.KnownNames.{known_as}
 use Rattle.plan_report.specs.Forms.{AreCapsInForm, AreLinkNumbers, IsKindInForm, IsMasterColumnInForm, IsMasterEvidenceInForm, IsRouteColumnInForm, IsRouteEvidenceInForm}
 use Rattle.planner.specs.inner.Finishing.{HasShortLengths}
 use Rattle.planner.proofs.InForm.{of_list, path_in_form}
@@ -71,7 +72,7 @@ module _ (g : Graph) (demands : List Demand) (belong : AreDemands (length g.node
   route_kind caps basis (Length link) h = wide_length caps basis link.0 h
 
   pub route_evidence_form : (listed : List Listed) (state : StateId) (caps : Caps) (names : List RouteColumn) (kind : WideKind RouteColumn) → state.0 ≤ length listed → AreCapsInForm g.links caps
-      → IsRouteEvidence g demands caps names kind → IsRouteEvidenceInForm g.links listed demands state caps names kind
+      → IsRouteEvidence g demands caps names kind → IsRouteEvidenceInForm (known_as g.nodes g.links listed) demands state caps names kind
   route_evidence_form listed state caps names kind inside form is = record {
     state_listed = inside;
     capacities = form;

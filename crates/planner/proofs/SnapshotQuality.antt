@@ -22,6 +22,7 @@ use Rattle.plan_types.specs.declared.quality.Fractional.{Fractional}
 use Rattle.plan_types.specs.declared.quality.Quality.{Quality}
 use Rattle.plan_types.specs.declared.quality.Quality.TheVariants.{Tight, Loose}
 use Rattle.plan_types.specs.declared.quality.Share.{Share}
+use Rattle.plan_report.specs.KnownNames.{known_to}
 use Rattle.plan_report.specs.Forms.{AreCapsInForm, IsEvidenceInForm, IsQualityInForm, IsShareInForm}
 use Rattle.route_law.specs.RouteEvidence.{IsRouteEvidence}
 use Rattle.master_bound.specs.Answers.{IsBestOf}
@@ -175,7 +176,7 @@ module _ (p : Case) (pairs : List UnitPair) (pool lines : List CutLine) (rounds 
 
   module _ (net : IsNetwork p.nodes p.links) (belong : AreDemands (length p.nodes) p.demands) (are : All (IsCut p) lines) (short : All HasShortLengths lines) where
     abbrev InForm : Quality → Type 0
-    InForm = IsQualityInForm p.links p.listed p.demands
+    InForm = IsQualityInForm (known_to p) p.demands
 
     share_form : (best : Best) → IsBestAt p pairs lines best → IsShareInForm p.links best.share
     share_form best at = record {
@@ -184,7 +185,7 @@ module _ (p : Case) (pairs : List UnitPair) (pool lines : List CutLine) (rounds 
       units = record { long = at.least.count; each = at.of.units_limit };
     }
 
-    covers_form : (share : Share) (cost : ℕ) (evidence : Evidence) → IsWideAtCovers p share cost evidence → IsEvidenceInForm p.links p.listed p.demands evidence
+    covers_form : (share : Share) (cost : ℕ) (evidence : Evidence) → IsWideAtCovers p share cost evidence → IsEvidenceInForm (known_to p) p.demands evidence
     covers_form share cost (Route state within basis kind) wide =
         let here = wide.wide.here in
         let s = wide.wide.state in

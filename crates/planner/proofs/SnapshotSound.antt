@@ -16,6 +16,7 @@ use Rattle.plan_terms.proofs.Duality.{weak_duality}
 use Rattle.plan_types.specs.Plans.{lines_of_certificate}
 use Rattle.plan_types.specs.declared.plan.Plan.{Plan}
 use Rattle.plan_types.specs.declared.quality.Quality.{Quality}
+use Rattle.plan_report.specs.KnownNames.{known_to}
 use Rattle.plan_report.specs.Forms.{IsPlanInForm, IsQualityInForm, IsRoutingInForm}
 use Rattle.route_law.specs.Routings.{IsLowestRouting}
 use Rattle.cut_pool.specs.declared.snapshot.Snapshot.{Snapshot}
@@ -104,7 +105,7 @@ module _ (p : Case) (net : IsNetwork p.nodes p.links) (belong : AreDemands (leng
         (raw_more f short b better best greater)
         w.quality chosen.quality ends made.quality
 
-    form_by : (o : Option Best) → EndsAs f o → IsChosenFor p o fallback w.quality chosen → IsQualityInForm p.links p.listed p.demands chosen.quality
+    form_by : (o : Option Best) → EndsAs f o → IsChosenFor p o fallback w.quality chosen → IsQualityInForm (known_to p) p.demands chosen.quality
     form_by None ends made = form_none p are.pairs s.cuts w.lines are.rounds are.list net belong (lines_are f) short w.quality chosen.quality ends (ap (λ (x : Chosen). x.quality) made)
     form_by (Some best) ends made = form_some p are.pairs s.cuts w.lines are.rounds are.list net belong (lines_are f) short best chosen.cost w.quality chosen.quality ends made.quality
 
@@ -119,7 +120,7 @@ module _ (p : Case) (net : IsNetwork p.nodes p.links) (belong : AreDemands (leng
     raw_positive : 1 ≤ b.raw.den
     raw_positive = let made = certified in lowest_positive (raw_value p.links (lines_of_certificate b.certificate)) b.certificate.den b.raw.num b.raw.den made.certificate.positive made.raw
 
-    form : All (λ d. length d.name ≤ 255) p.demands → IsPlanInForm p.nodes p.links p.listed whole
+    form : All (λ d. length d.name ≤ 255) p.demands → IsPlanInForm (known_to p) whole
     form named =
         let counts = chosen_counts w.best w.quality chosen is in
         let made = certified in

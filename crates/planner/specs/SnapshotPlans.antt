@@ -7,6 +7,7 @@ use Rattle.plan_terms.specs.Certificates.{IsCut}
 use Rattle.plan_terms.specs.Separations.{IsFirstSeparation}
 use Rattle.plan_types.specs.Plans.{IsCarryingPlan, IsCertifiedPlan, IsCostedPlan}
 use Rattle.plan_types.specs.declared.plan.Plan.{Plan}
+use Rattle.plan_report.specs.KnownNames.{known_to}
 use Rattle.plan_report.specs.Forms.{IsPlanInForm}
 use Rattle.cut_pool.specs.Histories.{cut_of_line, cuts_of}
 use Rattle.cut_pool.specs.declared.snapshot.Snapshot.{Snapshot}
@@ -41,7 +42,7 @@ pub record IsSnapshotPlan (p : Case) (snapshot : Snapshot) (history : List Entry
   pub certified : IsCertifiedPlan p plan
   pub above : IsAboveOwnBounds p (map cut_of_line snapshot.cuts) plan.bound
   pub below : IsBelowFallback p plan.cost
-  pub form : IsPlanInForm p.nodes p.links p.listed plan
+  pub form : IsPlanInForm (known_to p) plan
   pub lowest : IsLowestPlan plan
   pub spots : All (λ l. IsSpotIn history (cut_of_line l.cut) l.spot) plan.certificate.lines
   pub cuts : List CutLine

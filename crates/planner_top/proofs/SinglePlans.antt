@@ -18,6 +18,7 @@ use Rattle.session_script.specs.declared.script.Act.TheVariants as acts
 use Rattle.session_run.specs.Transcripts.{IsOutcomeAfter, IsTranscript, RunsFrom, acts_of, outcome_caller, edit_asked, edit_made, outcomes_of}
 use Rattle.acceptance.proofs.Transcripts.{transcript_accepted}
 use Rattle.plan_report.specs.Names.{state_name}
+use Rattle.plan_report.specs.KnownNames.{known_to}
 use Rattle.plan_report.specs.Texts.{report_text}
 use Rattle.planner_top.specs.Run.{EndsPlan, IsPlanReport, IsSummary, plan_commands, summary}
 use Rattle.planner_top.specs.declared.status.Status.{Status}
@@ -142,7 +143,7 @@ module _ (p : Case) (notes : Notes) (r : Report) (t : IsTranscript p notes plan_
   has_one = let found = one in (found.0, found.1)
 
   -- its text is the report of a plan
-  pub plan_report : (by serial : ℕ) (plan : Plan) → r.outcomes ≡ Planned by serial plan ∷ [] → (text : List ℕ) → text ≡ report_text p.nodes p.links p.listed r → IsPlanReport p notes text
+  pub plan_report : (by serial : ℕ) (plan : Plan) → r.outcomes ≡ Planned by serial plan ∷ [] → (text : List ℕ) → text ≡ report_text (known_to p) r → IsPlanReport p notes text
   plan_report by serial plan same text printed =
       let accepted = transcript_accepted p notes plan_commands r (omega arith) t in
       record {
@@ -153,15 +154,15 @@ module _ (p : Case) (notes : Notes) (r : Report) (t : IsTranscript p notes plan_
       }
 
   -- so it is what planning comes to
-  pub plan_ends : (by serial : ℕ) (plan : Plan) → r.outcomes ≡ Planned by serial plan ∷ [] → (status : Status) (text : List ℕ) → status ≡ Done → text ≡ report_text p.nodes p.links p.listed r → EndsPlan p notes status text
+  pub plan_ends : (by serial : ℕ) (plan : Plan) → r.outcomes ≡ Planned by serial plan ∷ [] → (status : Status) (text : List ℕ) → status ≡ Done → text ≡ report_text (known_to p) r → EndsPlan p notes status text
   plan_ends by serial plan same status text done printed = inl (done, plan_report by serial plan same text printed)
 
   -- the lines of the plan are a summary
   pub plan_summary : (seed nodes : ℕ) (plan : Plan) → r.outcomes ≡ Planned 1 1 plan ∷ [] → (text : List ℕ) → text ≡ summary seed nodes p plan → IsSummary seed nodes p notes text
   unfolding plan_report
   plan_summary seed nodes plan same text printed = record {
-    report = report_text p.nodes p.links p.listed r;
-    planned = plan_report 1 1 plan same (report_text p.nodes p.links p.listed r) refl;
+    report = report_text (known_to p) r;
+    planned = plan_report 1 1 plan same (report_text (known_to p) r) refl;
     printed = printed;
   }
 

@@ -14,6 +14,7 @@ use Rattle.model_reader.specs.ModelReading.{model_of}
 use Rattle.sndlib_reader.specs.Kinds.{kind_word}
 use Rattle.sndlib_reader.specs.Reading.{IsFirstFault}
 use Rattle.sndlib_reader.specs.Spelling as networks
+use Rattle.plan_report.specs.KnownNames.{KnownNames}
 use Rattle.plan_report.specs.Texts.{SpellsReport}
 use Rattle.report_reader.specs.ReadingReport.{report_of}
 use Rattle.report_words.specs.ReportKinds.{report_kind_word}
@@ -67,9 +68,9 @@ RefusesFailureFile links =
 abbrev pub RefusesScriptFile : List ℕ → List ℕ → Type 0
 RefusesScriptFile = Refuses SpellsScript (λ bytes at kind. script_of bytes ≡ Err (at, kind)) (codes "script") script_kind_word
 
-abbrev pub RefusesReportFile : List (List ℕ) → List Link → List Listed → List ℕ → List ℕ → Type 0
-RefusesReportFile nodes links listed =
-    Refuses (SpellsReport nodes links listed) (λ bytes at kind. report_of nodes links listed bytes ≡ Err (at, kind)) (codes "report") report_kind_word
+abbrev pub RefusesReportFile : KnownNames → List ℕ → List ℕ → Type 0
+RefusesReportFile names =
+    Refuses (SpellsReport names) (λ bytes at kind. report_of names bytes ≡ Err (at, kind)) (codes "report") report_kind_word
 
 -- Whether the model asks for reconfiguration: by its file; without one, where a failure file is named.
 abbrev pub HasModel : Option Files → PlanWords → Bool → Type 0

@@ -14,6 +14,7 @@ use Rattle.plan_types.specs.declared.quality.Quality.TheVariants.{Tight, Loose}
 use Rattle.plan_types.specs.declared.report.Outcome.TheVariants.{Planned}
 use Rattle.plan_types.specs.declared.report.Report.{Report}
 use Rattle.plan_report.specs.Names.{state_name}
+use Rattle.plan_report.specs.KnownNames.{known_to}
 use Rattle.plan_report.specs.Texts.{SpellsReport, report_text}
 use Rattle.plan_checker.specs.declared.finding.Finding.{Finding}
 use Rattle.report_checker.specs.ReportFindings.{HasNoFinding, IsFirstOfReport}
@@ -57,7 +58,7 @@ pub record IsPrintedReport (p : Case) (notes : Notes) (commands : List Command) 
   pub transcript : IsTranscript p notes commands r
   pub clean : HasNoFinding notes p r
   pub bounded : All (IsBelowAllAble p r) r.outcomes
-  pub printed : text ≡ report_text p.nodes p.links p.listed r
+  pub printed : text ≡ report_text (known_to p) r
 
 -- ---- a plan
 
@@ -108,8 +109,8 @@ IsJudged p notes r status text =
 -- What a check comes to: its report ends the run, or is judged.
 abbrev pub EndsCheck : Option Files → List ℕ → Case → Notes → Status → List ℕ → Type 0
 EndsCheck files name p notes status text =
-    StopsAtFile files report_limit name BadReport (RefusesReportFile p.nodes p.links p.listed) status text
-    ⊎ ((r : Report) × Fetched files report_limit name (SpellsReport p.nodes p.links p.listed) r × IsJudged p notes r status text)
+    StopsAtFile files report_limit name BadReport (RefusesReportFile (known_to p)) status text
+    ⊎ ((r : Report) × Fetched files report_limit name (SpellsReport (known_to p)) r × IsJudged p notes r status text)
 
 -- ---- a sample
 

@@ -1,5 +1,6 @@
 ghost use Rattle.std.specs.Prelude.{◌≡◌, IfOk, length};
 ghost use Rattle.net_core.specs.Views.{case};
+ghost use Rattle.plan_report.specs.KnownNames.{known_of};
 ghost use Rattle.plan_report.specs.Forms.{IsReportInForm};
 ghost use Rattle.planner_top.specs.Findings.{accepted_line, rejected_line};
 ghost use Rattle.planner_top.specs.Run.{IsJudged};
@@ -44,7 +45,7 @@ fn rejected(
 
 /// Whether a report has a finding, as a line.
 pub fn answer_check(alloc: Global, problem: &Problem, report: &Report) -> Result<Answer, NoMemory>
-    requires { IsReportInForm problem.now.net.nodes problem.now.net.links problem.now.states.listed report.now }
+    requires { IsReportInForm (known_of problem.now.net problem.now.states) report.now }
     ensures { IfOk result (λ a. IsJudged (case problem.now.net problem.now.states problem.now.demands) problem.now.net.notes report.now a.status a.text) }
 {
     match check_report(

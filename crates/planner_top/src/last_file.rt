@@ -1,5 +1,6 @@
 ghost use Rattle.std.specs.Prelude.{◌≡◌, IfErr, IfOk, IsErrOf};
 ghost use Rattle.net_core.specs.Views.{case_of};
+ghost use Rattle.plan_report.specs.KnownNames.{known_of};
 ghost use Rattle.plan_report.specs.Texts.{SpellsReport};
 ghost use Rattle.session_script.specs.Scripts.{SpellsScript};
 ghost use Rattle.planner_top.specs.Inputs.{Fetched, RefusesReportFile, RefusesScriptFile, StopsAtFile, input_limit, report_limit};
@@ -46,8 +47,8 @@ pub fn load_script<S: Shelf>(alloc: Global, name: &str, shelf: &mut S) -> Result
 
 /// The report that bytes spell, of plans for this network and these states.
 fn report_of(alloc: Global, problem: &Problem, bytes: &[u8]) -> Result<Report, Stop>
-    ensures spelled { IfOk result (SpellsReport problem.now.net.nodes problem.now.net.links problem.now.states.listed bytes.now) }
-    ensures refused { IfErr result (Stops (λ s text. (s ≡ Status.BadReport) × RefusesReportFile problem.now.net.nodes problem.now.net.links problem.now.states.listed bytes.now text)) }
+    ensures spelled { IfOk result (SpellsReport (known_of problem.now.net problem.now.states) bytes.now) }
+    ensures refused { IfErr result (Stops (λ s text. (s ≡ Status.BadReport) × RefusesReportFile (known_of problem.now.net problem.now.states) bytes.now text)) }
 {
     match read_report(alloc, &problem.net, &problem.states, bytes) {
         Ok(report) => Ok(report),
@@ -65,8 +66,8 @@ pub fn load_report<S: Shelf>(
     name: &str,
     shelf: &mut S,
 ) -> Result<Report, Stop>
-    ensures has { IfOk result (Fetched (S.files shelf.old) report_limit name.now (SpellsReport problem.now.net.nodes problem.now.net.links problem.now.states.listed)) }
-    ensures ends { IfErr result (Stops (StopsAtFile (S.files shelf.old) report_limit name.now Status.BadReport (RefusesReportFile problem.now.net.nodes problem.now.net.links problem.now.states.listed))) }
+    ensures has { IfOk result (Fetched (S.files shelf.old) report_limit name.now (SpellsReport (known_of problem.now.net problem.now.states))) }
+    ensures ends { IfErr result (Stops (StopsAtFile (S.files shelf.old) report_limit name.now Status.BadReport (RefusesReportFile (known_of problem.now.net problem.now.states)))) }
     ensures shelf { KeepsShelf S.files S.faults (IsErrOf result Stop.ReadFault) shelf.old shelf.new }
 {
     let bytes = fetch_file(alloc, REPORT_LIMIT, name, shelf)?;

@@ -1,6 +1,7 @@
 ghost use Rattle.std.specs.Prelude.{◌≡◌, ◌+◌, ◌<◌, ◌++◌, ◌∷◌, [], List, IfOk, codes, decimal, length};
 ghost use Rattle.net_core.specs.declared.demand.Demand.{Demand as Dem};
 ghost use Rattle.net_core.specs.Views.{case};
+ghost use Rattle.plan_report.specs.KnownNames.{known_of};
 ghost use Rattle.plan_report.specs.Forms.{IsReportInForm};
 ghost use Rattle.plan_report.specs.Names.{state_name};
 ghost use Rattle.plan_report.specs.Texts.{report_text};
@@ -76,9 +77,9 @@ pub fn reported(
     states: &States,
     report: &Report,
 ) -> Result<Answer, NoMemory>
-    requires { IsReportInForm net.now.nodes net.now.links states.now.listed report.now }
+    requires { IsReportInForm (known_of net.now states.now) report.now }
     ensures status { IfOk result (λ a. a.status ≡ Status.Done) }
-    ensures text { IfOk result (λ a. a.text ≡ report_text net.now.nodes net.now.links states.now.listed report.now) }
+    ensures text { IfOk result (λ a. a.text ≡ report_text (known_of net.now states.now) report.now) }
 {
     let text = write_report(alloc, net, states, report)?;
     Ok(Answer {

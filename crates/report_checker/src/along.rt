@@ -2,6 +2,7 @@ ghost use Rattle.std.specs.Prelude.{◌≡◌, ◌+◌, ◌≤◌, All, IfOk, le
 ghost use Rattle.net_core.specs.Cases.{Case};
 ghost use Rattle.net_core.specs.Views.{case_of};
 ghost use Rattle.plan_checker.specs.declared.finding.CheckAnswer.TheVariants.{Accepted};
+ghost use Rattle.plan_report.specs.KnownNames.{known_of};
 ghost use Rattle.plan_report.specs.Forms.{IsReportInForm};
 ghost use Rattle.plan_types.specs.declared.report.Report.{Report as Whole};
 ghost use Rattle.report_checker.specs.Outcomes.{IsAcceptedOutcome};
@@ -33,7 +34,7 @@ fn check_place(
     place: usize,
     checked: Checked,
 ) -> Result<Checked, NoMemory>
-    requires form { IsReportInForm instance.now.net.now.nodes instance.now.net.now.links instance.now.states.now.listed report.now }
+    requires form { IsReportInForm (known_of instance.now.net.now instance.now.states.now) report.now }
     requires passed { HasPassed (case_of instance.now) (take place report.now.entries) walk.now }
     requires checked { AreChecked (case_of instance.now) report.now place checked }
     ensures { IfOk result (AreChecked (case_of instance.now) report.now (place + 1)) }
@@ -56,7 +57,7 @@ fn check_place(
 
 /// Checks all outcomes along one walk through the journal.
 fn check_along(alloc: Global, instance: &Instance, report: &Report) -> Result<Checked, NoMemory>
-    requires { IsReportInForm instance.now.net.now.nodes instance.now.net.now.links instance.now.states.now.listed report.now }
+    requires { IsReportInForm (known_of instance.now.net.now instance.now.states.now) report.now }
     ensures { IfOk result (AreChecked (case_of instance.now) report.now (length report.now.entries + 1)) }
 {
     let entries = report.entries.items();
@@ -89,7 +90,7 @@ fn answer_of_all(checked: Checked) -> CheckAnswer
 
 /// Checks the outcomes, which takes one walk through the journal, and tells of the first one that has a finding.
 pub fn check_outcomes(alloc: Global, instance: &Instance, report: &Report) -> CheckAnswer
-    requires { IsReportInForm instance.now.net.now.nodes instance.now.net.now.links instance.now.states.now.listed report.now }
+    requires { IsReportInForm (known_of instance.now.net.now instance.now.states.now) report.now }
     ensures told { TellOutcomes (case_of instance.now) report.now result }
     ensures sound { result ≡ Accepted → All (IsAcceptedOutcome (case_of instance.now) report.now) report.now.outcomes }
 {

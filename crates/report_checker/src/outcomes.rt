@@ -1,6 +1,7 @@
 ghost use Rattle.std.specs.Prelude.{◌≡◌, ◌+◌, ◌<◌, ◌↔◌, IfErr, IfOk, IsTrue, None, OnOk, length, min, take};
 ghost use Rattle.net_core.specs.Graphs.{Joins};
 ghost use Rattle.net_core.specs.Views.{case_of, graph};
+ghost use Rattle.plan_report.specs.KnownNames.{known_of};
 ghost use Rattle.plan_report.specs.Forms.{IsOutcomeInForm, IsPlanInForm};
 ghost use Rattle.plan_terms.specs.Paths.{AreApart};
 ghost use Rattle.plan_checker.specs.PlanFindings.{IsAcceptedPlan, plan_findings};
@@ -53,7 +54,7 @@ fn check_version(instance: &Instance, walk: &Walk, report: &Report, outcome: &Ou
 
 /// Checks a plan for the instance's demands.
 fn check_planned(alloc: Global, instance: &Instance, plan: &Plan, full: bool) -> Test
-    requires form { IsPlanInForm instance.now.net.now.nodes instance.now.net.now.links instance.now.states.now.listed plan.now }
+    requires form { IsPlanInForm (known_of instance.now.net.now instance.now.states.now) plan.now }
     ensures told { TellFirst (plan_findings (case_of instance.now) full plan.now) result }
     ensures sound { OnOk result (IsAcceptedPlan (case_of instance.now) plan.now) }
 {
@@ -149,7 +150,7 @@ fn check_said(
     full: bool,
     pool: &[CutLine],
 ) -> Test
-    requires form { IsOutcomeInForm instance.now.net.now.nodes instance.now.net.now.links instance.now.states.now.listed pool.now outcome.now }
+    requires form { IsOutcomeInForm (known_of instance.now.net.now instance.now.states.now) pool.now outcome.now }
     ensures told { TellFirst (said_findings (case_of instance.now) full outcome.now) result }
     ensures sound { OnOk result (IsSaid (case_of instance.now) outcome.now) }
 {
@@ -170,7 +171,7 @@ fn check_there(
     outcome: &Outcome,
 ) -> Test
     requires passed { HasPassed (case_of instance.now) (take (outcome_position outcome.now) report.now.entries) walk.now }
-    requires form { IsOutcomeInForm instance.now.net.now.nodes instance.now.net.now.links instance.now.states.now.listed report.now.pool outcome.now }
+    requires form { IsOutcomeInForm (known_of instance.now.net.now instance.now.states.now) report.now.pool outcome.now }
     ensures told { TellFirst (findings_there (case_of instance.now) report.now outcome.now) result }
     ensures sound { OnOk result (IsSaid (case_at (case_of instance.now) report.now.entries (outcome_position outcome.now)) outcome.now) }
 {
@@ -207,7 +208,7 @@ pub fn check_met(
     place: usize,
 ) -> Test
     requires passed { HasPassed (case_of instance.now) (take place report.now.entries) walk.now }
-    requires form { IsOutcomeInForm instance.now.net.now.nodes instance.now.net.now.links instance.now.states.now.listed report.now.pool outcome.now }
+    requires form { IsOutcomeInForm (known_of instance.now.net.now instance.now.states.now) report.now.pool outcome.now }
     ensures sound { OnOk result (outcome_place report.now outcome.now ≡ place → IsSoundOutcome (case_of instance.now) report.now outcome.now) }
     ensures stopped { IfErr result (StopsFirst (outcome_findings (case_of instance.now) report.now outcome.now)) }
 {

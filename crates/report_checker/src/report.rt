@@ -1,6 +1,7 @@
 ghost use Rattle.std.specs.Prelude.{◌≡◌, ◌≤◌, All, OnOk, length};
 ghost use Rattle.net_core.specs.Demands.{AreDemands};
 ghost use Rattle.net_core.specs.Views.{case, case_of};
+ghost use Rattle.plan_report.specs.KnownNames.{known_of};
 ghost use Rattle.plan_report.specs.Forms.{IsReportInForm};
 ghost use Rattle.plan_checker.specs.inner.Tests.{TellFirst};
 ghost use Rattle.report_checker.specs.Outcomes.{IsAcceptedOutcome};
@@ -17,7 +18,7 @@ use std::alloc::Global;
 
 /// Checks the notes, the journal and the pool.
 fn check_whole(alloc: Global, instance: &Instance, report: &Report) -> Test
-    requires { IsReportInForm instance.now.net.now.nodes instance.now.net.now.links instance.now.states.now.listed report.now }
+    requires { IsReportInForm (known_of instance.now.net.now instance.now.states.now) report.now }
     ensures { TellFirst (whole_findings instance.now.net.now.notes (case_of instance.now) report.now) result }
 {
     check_notes(instance.net.notes(), report.notes)?;
@@ -64,7 +65,7 @@ pub fn check_report(
     report: &Report,
 ) -> CheckAnswer
     requires belong { AreDemands (length net.now.nodes) opening.now }
-    requires form { IsReportInForm net.now.nodes net.now.links states.now.listed report.now }
+    requires form { IsReportInForm (known_of net.now states.now) report.now }
     ensures told { AnswersReport net.now.notes (case net.now states.now opening.now) report.now result }
     ensures sound { result ≡ CheckAnswer.Accepted → All (IsAcceptedOutcome (case net.now states.now opening.now) report.now) report.now.outcomes }
 {

@@ -1,6 +1,7 @@
 ghost use Rattle.std.specs.Prelude.{◌≡◌, ℕ, ◌≤◌, ◌++◌, List as Seq, [], ◌∷◌, All, IfOk, OnOk, length};
 ghost use Rattle.net_core.specs.declared.plan.CutLine.{CutLine as Cut};
 ghost use Rattle.net_core.specs.declared.states.Listed.{Listed as State};
+ghost use Rattle.plan_report.specs.KnownNames.{known_as};
 ghost use Rattle.plan_report.specs.Forms.{IsCutInForm, IsEntryInForm, IsOutcomeInForm, IsPlanInForm, IsReplyInForm, IsReportInForm};
 ghost use Rattle.text_kit.specs.Edits.{IsEditInForm};
 ghost use Rattle.worked_networks.specs.Triangle.{triangle_links};
@@ -223,7 +224,7 @@ fn pool(alloc: Global, rows: &[CutRow]) -> Result<List<CutLine>, Fail>
 
 /// The first outcome.
 fn unsurvivable(alloc: Global, said: &Said) -> Result<Outcome, NameFault>
-    ensures { IfOk result (λ o. (nodes : Seq (Seq ℕ)) (listed : Seq State) (pool : Seq Cut) → length listed ≡ 1 → IsOutcomeInForm nodes (triangle_links 0) listed pool o) }
+    ensures { IfOk result (λ o. (nodes : Seq (Seq ℕ)) (listed : Seq State) (pool : Seq Cut) → length listed ≡ 1 → IsOutcomeInForm (known_as nodes (triangle_links 0) listed) pool o) }
 {
     let (failing, name) = said.separated;
     Ok(Outcome::Unsurvivable {
@@ -259,7 +260,7 @@ fn unused(alloc: Global) -> Routing
 
 /// A plan without demands.
 fn plan(alloc: Global, said: &Said) -> Result<Plan, NoMemory>
-    ensures form { IfOk result (λ p. (nodes : Seq (Seq ℕ)) (listed : Seq State) → length listed ≡ 1 → IsPlanInForm nodes (triangle_links 0) listed p) }
+    ensures form { IfOk result (λ p. (nodes : Seq (Seq ℕ)) (listed : Seq State) → length listed ≡ 1 → IsPlanInForm (known_as nodes (triangle_links 0) listed) p) }
     ensures bare { IfOk result (λ p. p.certificate.lines ≡ []) }
 {
     Ok(Plan {
@@ -282,7 +283,7 @@ fn plan(alloc: Global, said: &Said) -> Result<Plan, NoMemory>
 
 /// The second outcome.
 fn planned(alloc: Global, said: &Said) -> Result<Outcome, NoMemory>
-    ensures { IfOk result (λ o. (nodes : Seq (Seq ℕ)) (listed : Seq State) (pool : Seq Cut) → length listed ≡ 1 → IsOutcomeInForm nodes (triangle_links 0) listed pool o) }
+    ensures { IfOk result (λ o. (nodes : Seq (Seq ℕ)) (listed : Seq State) (pool : Seq Cut) → length listed ≡ 1 → IsOutcomeInForm (known_as nodes (triangle_links 0) listed) pool o) }
 {
     Ok(Outcome::Planned {
         caller: 2,
@@ -293,7 +294,7 @@ fn planned(alloc: Global, said: &Said) -> Result<Outcome, NoMemory>
 
 /// The report that says so.
 fn report(alloc: Global, said: &Said) -> Result<Report, Fail>
-    ensures { IfOk result (λ r. (nodes : Seq (Seq ℕ)) (listed : Seq State) → length listed ≡ 1 → IsReportInForm nodes (triangle_links 0) listed r) }
+    ensures { IfOk result (λ r. (nodes : Seq (Seq ℕ)) (listed : Seq State) → length listed ≡ 1 → IsReportInForm (known_as nodes (triangle_links 0) listed) r) }
 {
     let pool = pool(alloc, said.pool)?;
     Ok(Report {

@@ -12,7 +12,7 @@ use Rattle.text_kit.proofs.Beginnings.{AnyText}
 use Rattle.text_kit.proofs.Spelled.{Lawful}
 use Rattle.plan_report.specs.Forms.{AreLinkNumbers, IsCertificateLineInForm, IsCutInForm, IsOfPool, line_lengths, line_state}
 use Rattle.plan_report.specs.Items.{certificate_items, certificate_line_items, spot_items}
-use Rattle.report_words.specs.KnownNames.{KnownNames}
+use Rattle.plan_report.specs.KnownNames.{KnownNames}
 use Rattle.report_words.specs.declared.fault.ReportKind.TheVariants.{Token}
 use Rattle.report_parts.specs.declared.placed.Placed.{Placed}
 use Rattle.report_words.specs.ReportWords.{closing_at, has_room}

@@ -13,7 +13,7 @@ use Rattle.plan_types.specs.declared.certificate.CertLine.{CertLine}
 use Rattle.snd_tokens.specs.Lexemes.{EndAt}
 use Rattle.text_kit.specs.Reading.{Reading, no_fault, not_empty, of_length, Parenthesis}
 use Rattle.text_kit.proofs.Online.{IsOnline, TakesSome, online_close, online_give, online_list, online_open, online_then, online_word, takes_some}
-use Rattle.report_words.specs.KnownNames.{KnownNames}
+use Rattle.plan_report.specs.KnownNames.{KnownNames}
 use Rattle.report_words.specs.declared.fault.ReportKind.{ReportKind}
 use Rattle.report_words.specs.declared.fault.ReportKind.TheVariants.{Token, Ended, Limit}
 use Rattle.report_words.specs.ReportWords.{has_room, link_at, link_of, unknown_name, whole_within}

@@ -22,7 +22,7 @@ use Rattle.text_kit.proofs.Spelled.{Lawful}
 use Rattle.plan_report.specs.Forms.{AreCapsInForm, AreRoutingsInForm, IsCauseInForm, IsEvidenceInForm, IsKindInForm, IsMasterColumnInForm, IsQualityInForm, IsRouteColumnInForm, IsShareInForm}
 use Rattle.plan_report.specs.Items.{cause_items, evidence_items, master_column_items, numbers_items, quality_items, route_column_items, routings_items, wide_items}
 use Rattle.text_kit.specs.Edits.{enclosed}
-use Rattle.report_words.specs.KnownNames.{KnownNames}
+use Rattle.plan_report.specs.KnownNames.{KnownNames}
 use Rattle.report_words.specs.declared.fault.ReportKind.TheVariants.{Token}
 use Rattle.report_words.specs.ReportWords.{has_room}
 use Rattle.report_parts.specs.ReadingQuality.{evidence_branches, loose_branches, master_column_branches, master_wide_branches, quality_branches, route_column_branches, route_wide_branches, basis_at, caps_at, carry_at, evidence_at, fractional_at, left_at, loose_at, master_at, master_column_at, master_wide_at, metric_at, price_at, quality_at, route_at, route_column_at, route_wide_at, slack_at, tight_at, too_wide_at, wide_entry_at, wide_length_at, wide_number_at, wide_row_at, wide_sum_at}
@@ -170,7 +170,7 @@ module _ (names : KnownNames) (apart : AreLinksApart names.links) where
         made_last _ (λ (nums : List ℕ). record { scale = scale; nums = nums }) _ _ (numbers_law (length names.links) (2 ^ 126))))
 
     abbrev IsEvidence : Evidence → Type 0
-    IsEvidence e = IsEvidenceInForm names.links names.listed demands e
+    IsEvidence e = IsEvidenceInForm names demands e
 
     abbrev items_of : Evidence → List Item
     items_of e = evidence_items names.links demands e
@@ -197,9 +197,9 @@ module _ (names : KnownNames) (apart : AreLinksApart names.links) where
 
     -- ---- quality
 
-    fractional_law : Lawful (fractional_at names demands) (λ f. Whole f.share.scale ∷ numbers_items f.share.units ++ routings_items names.links names.listed demands f.routings) (λ f. IsShareInForm names.links f.share × AreRoutingsInForm names.links names.listed demands f.routings) AnyText
+    fractional_law : Lawful (fractional_at names demands) (λ f. Whole f.share.scale ∷ numbers_items f.share.units ++ routings_items names demands f.routings) (λ f. IsShareInForm names.links f.share × AreRoutingsInForm names demands f.routings) AnyText
     unfolding fractional_at
-    fractional_law = law_made (fractional_at names demands) _ _ _ (λ f. Whole f.share.scale ∷ numbers_items f.share.units ++ routings_items names.links names.listed demands f.routings) (λ f. IsShareInForm names.links f.share × AreRoutingsInForm names.links names.listed demands f.routings)
+    fractional_law = law_made (fractional_at names demands) _ _ _ (λ f. Whole f.share.scale ∷ numbers_items f.share.units ++ routings_items names demands f.routings) (λ f. IsShareInForm names.links f.share × AreRoutingsInForm names demands f.routings)
         (λ q h. (record { positive = h.0.0; scale = h.0.1; units = record { long = h.1.0.0; each = h.1.0.1 } }, h.1.1))
         (λ q h. refl)
         (λ f h. record { parts = (f.share.scale, (f.share.units, f.routings)); right = ((h.0.positive, h.0.scale), ((h.0.units.long, h.0.units.each), h.1)); gives = refl })
@@ -213,7 +213,7 @@ module _ (names : KnownNames) (apart : AreLinksApart names.links) where
 
     abbrev IsLoose : Quality → Type 0
     IsLoose (Tight f) = ⊥
-    IsLoose (Loose cause) = IsCauseInForm names.links names.listed demands cause
+    IsLoose (Loose cause) = IsCauseInForm names demands cause
 
     loose_law : Lawful (loose_at names demands) loose_items IsLoose AnyText
     unfolding too_wide_at
@@ -230,10 +230,10 @@ module _ (names : KnownNames) (apart : AreLinksApart names.links) where
         (lawful_no_branch true Token loose_items)))
 
     abbrev IsQuality : Quality → Type 0
-    IsQuality q = IsQualityInForm names.links names.listed demands q
+    IsQuality q = IsQualityInForm names demands q
 
     abbrev items_for : Quality → List Item
-    items_for q = quality_items names.links names.listed demands q
+    items_for q = quality_items names demands q
 
     loose_same : (q : Quality) → IsLoose q → Verbatim (codes "loose") ∷ loose_items q ≡ items_for q
     loose_same = quality_cases _ (λ f h. absurd h) (λ e h. refl) (λ h. refl)

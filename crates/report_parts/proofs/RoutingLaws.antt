@@ -16,7 +16,7 @@ use Rattle.plan_report.specs.Forms.{AreRoutingsInForm, IsFlowInForm, IsPathInFor
 use Rattle.plan_report.specs.Items.{flow_items, path_items, routing_items, routings_items}
 use Rattle.text_kit.specs.Edits.{enclosed}
 use Rattle.plan_report.specs.Names.{link_name, state_name}
-use Rattle.report_words.specs.KnownNames.{KnownNames}
+use Rattle.plan_report.specs.KnownNames.{KnownNames}
 use Rattle.report_words.specs.declared.fault.ReportKind.TheVariants.{Token, Limit}
 use Rattle.report_words.specs.ReportWords.{has_room, link_at}
 use Rattle.report_parts.specs.ReadingRoutings.{flow_at, path_at, routing_at, routings_at}
@@ -50,9 +50,9 @@ flow_law links demands apart differ sofar = law_made (flow_at links demands sofa
 
 -- ---- routings
 
-routing_law : (names : KnownNames) (demands : List Demand) → AreLinksApart names.links → AreApart demands → (sofar : List Routing) → Lawful (routing_at names demands sofar) (λ r. routing_items names.links names.listed demands (length sofar, r)) (λ r. (has_room (length names.listed + 1) sofar ≡ true) × IsRoutingInForm names.links demands r) AnyText
+routing_law : (names : KnownNames) (demands : List Demand) → AreLinksApart names.links → AreApart demands → (sofar : List Routing) → Lawful (routing_at names demands sofar) (λ r. routing_items names demands (length sofar, r)) (λ r. (has_room (length names.listed + 1) sofar ≡ true) × IsRoutingInForm names.links demands r) AnyText
 unfolding routing_at
-routing_law names demands apart differ sofar = law_made (routing_at names demands sofar) _ _ _ (λ r. routing_items names.links names.listed demands (length sofar, r)) (λ r. (has_room (length names.listed + 1) sofar ≡ true) × IsRoutingInForm names.links demands r)
+routing_law names demands apart differ sofar = law_made (routing_at names demands sofar) _ _ _ (λ r. routing_items names demands (length sofar, r)) (λ r. (has_room (length names.listed + 1) sofar ≡ true) × IsRoutingInForm names.links demands r)
     (λ q h. (h.0, record { positive = h.1.1.1.0.0; den = h.1.1.1.0.1; few = h.1.1.1.1.1.0; flows = h.1.1.1.1.1.1 }))
     (λ q h. refl)
     (λ r h. record { parts = (tt, (tt, (tt, (r.den, (tt, r.flows))))); right = (h.0, (tt, (tt, ((h.1.positive, h.1.den), (tt, (h.1.few, h.1.flows)))))); gives = refl })
@@ -63,11 +63,11 @@ routing_law names demands apart differ sofar = law_made (routing_at names demand
     made_then _ _ _ _ _ _ _ _ opening_law (λ x h.
     made_last _ (λ (flows : List Flow). record { den = den; flows = flows }) _ _ (few_law 65536 (flow_at names.links demands) (flow_items names.links demands) (IsFlowInForm names.links demands) (λ f. tt) (flow_law names.links demands apart differ))))))))
 
-pub routings_law : (names : KnownNames) (demands : List Demand) → AreLinksApart names.links → AreApart demands → Lawful (routings_at names demands) (routings_items names.links names.listed demands) (AreRoutingsInForm names.links names.listed demands) AnyText
+pub routings_law : (names : KnownNames) (demands : List Demand) → AreLinksApart names.links → AreApart demands → Lawful (routings_at names demands) (routings_items names demands) (AreRoutingsInForm names demands) AnyText
 unfolding routings_at
-routings_law names demands apart differ = law_made (routings_at names demands) (λ (q : Unit {0} × List Routing). q.1) _ _ (routings_items names.links names.listed demands) (AreRoutingsInForm names.links names.listed demands)
+routings_law names demands apart differ = law_made (routings_at names demands) (λ (q : Unit {0} × List Routing). q.1) _ _ (routings_items names demands) (AreRoutingsInForm names demands)
     (λ q h. record { long = length_is (length names.listed + 1) Limit q.1 h.1.0; each = (rooms_few (length names.listed + 1) (IsRoutingInForm names.links demands) q.1 h.1.1).1 })
-    (λ q h. ap enclosed (numbered_items (λ k r. routing_items names.links names.listed demands (k, r)) (routing_items names.links names.listed demands) 0 (λ k r. ap (λ (i : ℕ). routing_items names.links names.listed demands (i, r)) (omega arith)) 0 0 q.1 (omega arith)))
+    (λ q h. ap enclosed (numbered_items (λ k r. routing_items names demands (k, r)) (routing_items names demands) 0 (λ k r. ap (λ (i : ℕ). routing_items names demands (i, r)) (omega arith)) 0 0 q.1 (omega arith)))
     (λ rs h. record { parts = (tt, rs); right = (tt, (is_length (length names.listed + 1) Limit rs h.long, few_rooms (length names.listed + 1) (IsRoutingInForm names.links demands) rs (omega (arith, h.long)) h.each)); gives = refl })
     (made_then _ _ _ _ _ _ _ _ opening_law (λ x h.
-    made_law _ _ _ (lawful_placed (λ k r. routing_items names.links names.listed demands (k, r)) (λ sofar r. (has_room (length names.listed + 1) sofar ≡ true) × IsRoutingInForm names.links demands r) (of_length (length names.listed + 1) Limit) (routing_at names demands) (λ k r. tt) (routing_law names demands apart differ))))
+    made_law _ _ _ (lawful_placed (λ k r. routing_items names demands (k, r)) (λ sofar r. (has_room (length names.listed + 1) sofar ≡ true) × IsRoutingInForm names.links demands r) (of_length (length names.listed + 1) Limit) (routing_at names demands) (λ k r. tt) (routing_law names demands apart differ))))

@@ -7,7 +7,7 @@ use Rattle.net_core.specs.declared.plan.Flow.{Flow}
 use Rattle.net_core.specs.declared.plan.Routing.{Routing}
 use Rattle.text_kit.specs.Reading.{Reading, ◌>>=◌, give, list_at, no_fault, not_empty, of_length, Parenthesis, word_at}
 use Rattle.plan_report.specs.Names.{state_name}
-use Rattle.report_words.specs.KnownNames.{KnownNames}
+use Rattle.plan_report.specs.KnownNames.{KnownNames}
 use Rattle.report_words.specs.declared.fault.ReportKind.{ReportKind}
 use Rattle.report_words.specs.declared.fault.ReportKind.TheVariants.{Token, Ended, Limit}
 use Rattle.report_words.specs.ReportWords.{demand_of, has_room, keyword_within, link_at, number_at, opening_at, this_name_at, this_number_at, where_room}

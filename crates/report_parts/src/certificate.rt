@@ -2,7 +2,7 @@ ghost use Rattle.std.specs.Prelude.{◌≡◌, ◌<◌, ◌^◌, [], length, IfO
 ghost use Rattle.snd_tokens.specs.Lexemes.{left};
 ghost use Rattle.text_kit.specs.Answers.{ReadsAs};
 ghost use Rattle.text_kit.specs.Reading.{list_at, no_fault, Parenthesis};
-ghost use Rattle.report_words.specs.KnownNames.{known_in};
+ghost use Rattle.report_words.specs.Contexts.{known_in};
 ghost use Rattle.report_parts.specs.ReadingParts.{certificate_at, certificate_line_at, local_spot_at, of_line, pool_spot_at, spot_at};
 
 use crate::placed::Placed;
@@ -130,7 +130,7 @@ struct CertLineList<'a> {
 
 impl<'a> Element for CertLineList<'a> {
     ghost use Rattle.text_kit.specs.Reading.{no_fault};
-    ghost use Rattle.report_words.specs.KnownNames.{known_in};
+    ghost use Rattle.report_words.specs.Contexts.{known_in};
     ghost use Rattle.report_parts.specs.ReadingParts.{certificate_line_at};
 
     type Item = CertLine;

@@ -1,7 +1,7 @@
 ghost use Rattle.std.specs.Prelude.{◌≡◌, [], length};
 ghost use Rattle.snd_tokens.specs.Lexemes.{left};
 ghost use Rattle.text_kit.specs.Answers.{ReadsAs};
-ghost use Rattle.report_words.specs.KnownNames.{known_in};
+ghost use Rattle.report_words.specs.Contexts.{known_in};
 ghost use Rattle.report_parts.specs.ReadingQuality.{basis_at, carry_at, left_at, master_column_at, metric_at, price_at, route_column_at, slack_at};
 
 use crate::demands::PlanDemands;
@@ -205,7 +205,7 @@ struct MasterBasis<'a> {
 
 impl<'a> Element for MasterBasis<'a> {
     ghost use Rattle.text_kit.specs.Reading.{of_length};
-    ghost use Rattle.report_words.specs.KnownNames.{known_in};
+    ghost use Rattle.report_words.specs.Contexts.{known_in};
     ghost use Rattle.report_words.specs.ReportWords.{has_room};
     ghost use Rattle.report_parts.specs.ReadingQuality.{master_column_at};
     ghost use Rattle.report_words.specs.declared.fault.ReportKind.TheVariants.{Limit};

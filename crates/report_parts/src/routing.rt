@@ -1,7 +1,7 @@
 ghost use Rattle.std.specs.Prelude.{◌≡◌, ◌≤◌, [], length};
 ghost use Rattle.snd_tokens.specs.Lexemes.{left};
 ghost use Rattle.text_kit.specs.Answers.{ReadsAs};
-ghost use Rattle.report_words.specs.KnownNames.{known_in};
+ghost use Rattle.report_words.specs.Contexts.{known_in};
 ghost use Rattle.report_parts.specs.ReadingRoutings.{flow_at, path_at, routing_at, routings_at};
 ghost use Rattle.text_kit.specs.Reading.{list_at, no_fault, Parenthesis};
 ghost use Rattle.plan_report.specs.Names.{state_name};
@@ -175,7 +175,7 @@ struct RoutingList<'a> {
 impl<'a> Element for RoutingList<'a> {
     ghost use Rattle.std.specs.Prelude.{◌+◌, length};
     ghost use Rattle.text_kit.specs.Reading.{of_length};
-    ghost use Rattle.report_words.specs.KnownNames.{known_in};
+    ghost use Rattle.report_words.specs.Contexts.{known_in};
     ghost use Rattle.report_parts.specs.ReadingRoutings.{routing_at};
     ghost use Rattle.report_words.specs.declared.fault.ReportKind.TheVariants.{Limit};
 

@@ -16,7 +16,7 @@ use Rattle.text_kit.proofs.Spelled.{Lawful}
 use Rattle.plan_report.specs.Forms.{IsCutInForm, IsEditedInForm, IsReplyInForm}
 use Rattle.plan_report.specs.Items.{entry_items, event_items, note_items, notes_items, numbered_from, pool_line_items, reply_items}
 use Rattle.text_kit.specs.Edits.{IsEditInForm, edit_items, ends_items}
-use Rattle.report_words.specs.KnownNames.{KnownNames}
+use Rattle.plan_report.specs.KnownNames.{KnownNames}
 use Rattle.report_words.specs.declared.fault.ReportKind.TheVariants.{Token}
 use Rattle.report_words.specs.ReportWords.{closing_at, has_room}
 use Rattle.report_reader.specs.ReadingJournal.{edit_branches, event_branches, notes_branches, reply_branches, routing_note_branches, setup_note_branches, accepted_at, add_at, drop_at, edit_at, edited_at, entries_at, journal_entry_at, event_at, noted, notes_at, notes_end_at, pool_at, pool_line_at, pooled_at, reply_at, routing_note_at, set_at, setup_note_at, too_much_at, two_names_at}

@@ -11,7 +11,7 @@ use Rattle.text_kit.proofs.Spelled.{Lawful}
 use Rattle.plan_report.specs.Forms.{IsHeadInForm, IsOutcomeInForm}
 use Rattle.plan_report.specs.Items.{head_items, outcome_items, plan_items}
 use Rattle.plan_report.specs.Names.{state_name}
-use Rattle.report_words.specs.KnownNames.{KnownNames}
+use Rattle.plan_report.specs.KnownNames.{KnownNames}
 use Rattle.report_words.specs.declared.fault.ReportKind.TheVariants.{Token}
 use Rattle.report_reader.specs.declared.parts.Head.{Head}
 use Rattle.report_words.specs.ReportWords.{closing_at, has_room}
@@ -61,18 +61,18 @@ head_law = law_made head_at _ _ _ items_of IsHead
 
 module _ (names : KnownNames) (pool : List CutLine) (nodes_apart : AllPairs (λ x y. x ≢ y) names.nodes) (apart : AreLinksApart names.links) (sound : (k : ℕ) → IsSound (slice_get names.links k)) (form : IsPoolInForm names pool) where
   abbrev IsOutcome : Bool → Outcome → Type 0
-  IsOutcome room o = (room ≡ true) × IsOutcomeInForm names.nodes names.links names.listed pool o
+  IsOutcome room o = (room ≡ true) × IsOutcomeInForm names pool o
 
   abbrev all_items : Outcome → List Item
-  all_items o = outcome_items names.nodes names.links names.listed o
+  all_items o = outcome_items names o
 
   -- a plan's head tells its version and position
-  same_head : (head : Head) (p : Plan) → IsPlanOf names pool head p → Verbatim (codes "PLAN") ∷ Opening ∷ (items_of head ++ (plan_items names.nodes names.links names.listed p ++ Closing ∷ [])) ≡ all_items (Planned head.caller head.serial p)
+  same_head : (head : Head) (p : Plan) → IsPlanOf names pool head p → Verbatim (codes "PLAN") ∷ Opening ∷ (items_of head ++ (plan_items names p ++ Closing ∷ [])) ≡ all_items (Planned head.caller head.serial p)
   same_head head p h =
-      ap (λ (v : ℕ). Verbatim (codes "PLAN") ∷ Opening ∷ (head_items head.caller head.serial v head.position ++ (plan_items names.nodes names.links names.listed p ++ Closing ∷ []))) h.0.0
-      ∙ ap (λ (w : ℕ). Verbatim (codes "PLAN") ∷ Opening ∷ (head_items head.caller head.serial p.version w ++ (plan_items names.nodes names.links names.listed p ++ Closing ∷ []))) h.0.1
+      ap (λ (v : ℕ). Verbatim (codes "PLAN") ∷ Opening ∷ (head_items head.caller head.serial v head.position ++ (plan_items names p ++ Closing ∷ []))) h.0.0
+      ∙ ap (λ (w : ℕ). Verbatim (codes "PLAN") ∷ Opening ∷ (head_items head.caller head.serial p.version w ++ (plan_items names p ++ Closing ∷ []))) h.0.1
 
-  planned_form : (head : Head) (p : Plan) → IsHead head → IsPlanOf names pool head p → IsOutcomeInForm names.nodes names.links names.listed pool (Planned head.caller head.serial p)
+  planned_form : (head : Head) (p : Plan) → IsHead head → IsPlanOf names pool head p → IsOutcomeInForm names pool (Planned head.caller head.serial p)
   planned_form head p d h =
       let f = plan_form names pool head p d.most_version d.most_position h in
       record {
@@ -120,5 +120,5 @@ module _ (names : KnownNames) (pool : List CutLine) (nodes_apart : AllPairs (λ 
       made_last closing_at (λ (u : Unit {0}). Unsurvivable head.caller head.serial head.version head.position (record { 0 = state }) demand) _ _ closing_law))))))))
       (lawful_no_branch room Token all_items)))
 
-  pub outcomes_law : Lawful (outcomes_at names pool) (λ os. flat_map all_items os ++ Closing ∷ []) (λ os. (length os ≤ 64) × All (IsOutcomeInForm names.nodes names.links names.listed pool) os) AnyText
-  outcomes_law = few_law 64 (outcome_at names pool) all_items (IsOutcomeInForm names.nodes names.links names.listed pool) (outcome_cases _ (λ c s p. tt) (λ c s v w e d. tt)) (λ sofar. outcome_law (has_room 64 sofar))
+  pub outcomes_law : Lawful (outcomes_at names pool) (λ os. flat_map all_items os ++ Closing ∷ []) (λ os. (length os ≤ 64) × All (IsOutcomeInForm names pool) os) AnyText
+  outcomes_law = few_law 64 (outcome_at names pool) all_items (IsOutcomeInForm names pool) (outcome_cases _ (λ c s p. tt) (λ c s v w e d. tt)) (λ sofar. outcome_law (has_room 64 sofar))

@@ -14,7 +14,7 @@ use Rattle.text_kit.specs.Edits.{section}
 use Rattle.report_reader.specs.declared.parts.Head.{Head}
 use Rattle.report_reader.specs.declared.parts.Values.{Values}
 use Rattle.report_reader.specs.ReadingPlan.{plan_at, values_at}
-use Rattle.report_words.specs.KnownNames.{KnownNames}
+use Rattle.plan_report.specs.KnownNames.{KnownNames}
 use Rattle.report_words.proofs.Making.{law_made, made_last, made_then}
 use Rattle.report_parts.proofs.ModuleLaws.{IsSound, modules_law}
 use Rattle.report_parts.proofs.QualityLaws.{quality_law}
@@ -65,13 +65,13 @@ module _ (names : KnownNames) (pool : List CutLine) where
   -- a plan of a head, part by part
   abbrev pub IsPlanOf : Head → Plan → Type 0
   IsPlanOf head p = ((head.version ≡ p.version) × (head.position ≡ p.position)) × (ComeAfter (IsDemandInForm names.nodes) [] p.demands × (AreValues (values_of p) × ((AreCounts names.links p.counts × AreWithinLimits names.links p.counts)
-      × (IsCertificate names pool p.certificate × (AreRoutingsInForm names.links names.listed p.demands p.routings × IsQualityInForm names.links names.listed p.demands p.quality)))))
+      × (IsCertificate names pool p.certificate × (AreRoutingsInForm names p.demands p.routings × IsQualityInForm names p.demands p.quality)))))
 
-  pub plan_law : AllPairs (λ x y. x ≢ y) names.nodes → AreLinksApart names.links → ((k : ℕ) → IsSound (slice_get names.links k)) → IsPoolInForm names pool → (head : Head) → Lawful (plan_at names pool head) (plan_items names.nodes names.links names.listed) (IsPlanOf head) AnyText
+  pub plan_law : AllPairs (λ x y. x ≢ y) names.nodes → AreLinksApart names.links → ((k : ℕ) → IsSound (slice_get names.links k)) → IsPoolInForm names pool → (head : Head) → Lawful (plan_at names pool head) (plan_items names) (IsPlanOf head) AnyText
   unfolding plan_at
-  plan_law nodes_apart apart sound form head = law_made (plan_at names pool head) _ _ _ (plan_items names.nodes names.links names.listed) (IsPlanOf head)
+  plan_law nodes_apart apart sound form head = law_made (plan_at names pool head) _ _ _ (plan_items names) (IsPlanOf head)
       (λ q h. ((refl, refl), (h.0, (h.1.0, (h.1.1.0, (h.1.1.1.0, (h.1.1.1.1.1.0, h.1.1.1.1.1.1)))))))
-      (λ q h. joined (section (codes "DEMANDS") (flat_map (demand_items names.nodes) q.0)) (values_items q.1.0) (section (codes "MODULES") (flat_map modules_items (zip names.links q.1.1.0))) (certificate_items q.1.1.1.0) (Verbatim (codes "ROUTES") ∷ routings_items names.links names.listed q.0 q.1.1.1.1.1.0) (quality_items names.links names.listed q.0 q.1.1.1.1.1.1))
+      (λ q h. joined (section (codes "DEMANDS") (flat_map (demand_items names.nodes) q.0)) (values_items q.1.0) (section (codes "MODULES") (flat_map modules_items (zip names.links q.1.1.0))) (certificate_items q.1.1.1.0) (Verbatim (codes "ROUTES") ∷ routings_items names q.0 q.1.1.1.1.1.0) (quality_items names q.0 q.1.1.1.1.1.1))
       (λ p h. record {
         parts = (p.demands, (values_of p, (p.counts, (p.certificate, (tt, (p.routings, p.quality))))));
         right = (h.1.0, (h.1.1.0, (h.1.1.1.0, (h.1.1.1.1.0, (tt, (h.1.1.1.1.1.0, h.1.1.1.1.1.1))))));
@@ -87,7 +87,7 @@ module _ (names : KnownNames) (pool : List CutLine) where
       (quality_law names apart demands (demands_apart names.nodes nodes_apart demands hd)))))))))
 
   -- and all together
-  pub plan_form : (head : Head) (p : Plan) → head.version ≤ 65536 → head.position ≤ 65536 → IsPlanOf head p → IsPlanInForm names.nodes names.links names.listed p × All (λ l. IsOfPool pool l.spot l.cut) p.certificate.lines
+  pub plan_form : (head : Head) (p : Plan) → head.version ≤ 65536 → head.position ≤ 65536 → IsPlanOf head p → IsPlanInForm names p × All (λ l. IsOfPool pool l.spot l.cut) p.certificate.lines
   plan_form head p v w h = (
     record {
       version = omega (arith, v, h.0.0);
@@ -107,7 +107,7 @@ module _ (names : KnownNames) (pool : List CutLine) where
     λ k d lt. (h.1.1.1.1.0.1.1 k d lt).1,
   )
 
-  pub form_plan : (head : Head) (p : Plan) → head.version ≡ p.version → head.position ≡ p.position → IsPlanInForm names.nodes names.links names.listed p → All (λ l. IsOfPool pool l.spot l.cut) p.certificate.lines → IsPlanOf head p
+  pub form_plan : (head : Head) (p : Plan) → head.version ≡ p.version → head.position ≡ p.position → IsPlanInForm names p → All (λ l. IsOfPool pool l.spot l.cut) p.certificate.lines → IsPlanOf head p
   form_plan head p v w f pooled = (
     (v, w),
     (

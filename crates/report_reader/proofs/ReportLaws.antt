@@ -11,7 +11,6 @@ use Rattle.net_core.specs.declared.journal.Entry.{Entry}
 use Rattle.net_core.specs.declared.journal.Entry.TheVariants.{Edited, Pooled}
 use Rattle.net_core.specs.declared.network.Link.{Link}
 use Rattle.net_core.specs.declared.plan.CutLine.{CutLine}
-use Rattle.net_core.specs.declared.states.Listed.{Listed}
 use Rattle.plan_types.specs.declared.report.Outcome.{Outcome}
 use Rattle.plan_types.specs.declared.report.Report.{Report}
 use Rattle.text_kit.specs.Answers.{AnswersAs, ReadsAllAs}
@@ -27,7 +26,7 @@ use Rattle.plan_report.specs.Forms.{IsEntryInForm, IsReportInForm, line_lengths}
 use Rattle.plan_report.specs.Items.{entry_items, notes_items, numbered_from, outcome_items, pool_line_items, report_items}
 use Rattle.text_kit.specs.Edits.{section}
 use Rattle.plan_report.specs.Texts.{SpellsReport, report_header}
-use Rattle.report_words.specs.KnownNames.{KnownNames, known_as}
+use Rattle.plan_report.specs.KnownNames.{KnownNames}
 use Rattle.report_words.specs.declared.fault.ReportKind.{ReportKind}
 use Rattle.report_words.specs.declared.fault.ReportKind.TheVariants.{Header, Section, Ended}
 use Rattle.report_reader.specs.ReadingReport.{filled, report_at, report_of, section_at, sections_at}
@@ -108,24 +107,21 @@ fixed_small nodes links checked = λ k d lt. ∥∥₁_elim checked (hlevel prop
 four : (a b c d : List Item) → a ++ (b ++ (c ++ d)) ≡ ((a ++ b) ++ c) ++ d
 four a b c d = sym (append_assoc a b (c ++ d)) ∙ sym (append_assoc (a ++ b) c d)
 
-module _ (nodes : List (List ℕ)) (links : List Link) (listed : List Listed) (checked : ∥ IsNetwork nodes links ∥₁) where
-  abbrev names : KnownNames
-  names = known_as nodes links listed
-
+module _ (names : KnownNames) (checked : ∥ IsNetwork names.nodes names.links ∥₁) where
   abbrev IsReport : Report → Type 0
-  IsReport r = IsReportInForm nodes links listed r
+  IsReport r = IsReportInForm names r
 
   abbrev items_of : Report → List Item
-  items_of r = report_items nodes links listed r
+  items_of r = report_items names r
 
   abbrev no_link : Link
   no_link = record { name = []; a = record { 0 = 0 }; b = record { 0 = 0 }; fixed = 0; setup = 0; modules = [] }
 
-  sound_at : (k : ℕ) → IsSound (slice_get links k)
+  sound_at : (k : ℕ) → IsSound (slice_get names.links k)
   sound_at k = ⊎_elim
-      (λ (within : k < length links). subst (λ (o : Option Link). IsSound o) (sym (slice_get-get_or links k no_link within)) (fixed_small nodes links checked k no_link within))
-      (λ (past : length links ≤ k). subst (λ (o : Option Link). IsSound o) (sym (slice_get_past links k past)) tt)
-      (cases_lt k (length links))
+      (λ (within : k < length names.links). subst (λ (o : Option Link). IsSound o) (sym (slice_get-get_or names.links k no_link within)) (fixed_small names.nodes names.links checked k no_link within))
+      (λ (past : length names.links ≤ k). subst (λ (o : Option Link). IsSound o) (sym (slice_get_past names.links k past)) tt)
+      (cases_lt k (length names.links))
 
   sections_law : Lawful (sections_at names) items_of IsReport AnyText
   unfolding sections_at
@@ -147,7 +143,7 @@ module _ (nodes : List (List ℕ)) (links : List Link) (listed : List Listed) (c
       let pool = q.1.1.1.1.1.0 in
       let a = section (codes "NOTES") (notes_items q.1.0) in
       let c = section (codes "POOL") (flat_map pool_line_items (numbered_from 0 pool)) in
-      let d = section (codes "OUTCOMES") (flat_map (outcome_items nodes links listed) q.1.1.1.1.1.1.1) in
+      let d = section (codes "OUTCOMES") (flat_map (outcome_items names) q.1.1.1.1.1.1.1) in
       four a (section (codes "JOURNAL") (flat_map entry_items (numbered_from 1 entries))) c d
       ∙ ap (λ (is : List Item). ((a ++ section (codes "JOURNAL") is) ++ c) ++ d) (all_items pool 1 entries))
       (λ r h.
@@ -165,7 +161,7 @@ module _ (nodes : List (List ℕ)) (links : List Link) (listed : List Listed) (c
       made_then _ _ _ _ _ _ _ _ (pool_law names) (λ pool h.
       made_then _ _ _ _ _ _ _ _ (section_law (codes "OUTCOMES")) (λ x u.
       made_last _ (λ (outcomes : List Outcome). record { notes = notes; entries = map (filled pool) entries; pool = pool; outcomes = outcomes }) _ _
-      (outcomes_law names pool (nodes_differ nodes links checked) (links_differ nodes links checked) sound_at (record { few = h.0; each = h.1 }))))))))))
+      (outcomes_law names pool (nodes_differ names.nodes names.links checked) (links_differ names.nodes names.links checked) sound_at (record { few = h.0; each = h.1 }))))))))))
 
   -- ---- files
 
@@ -175,20 +171,20 @@ module _ (nodes : List (List ℕ)) (links : List Link) (listed : List Listed) (c
   report_law : Spelled (report_at names) Of IsEnd
   report_law = spelled_law (report_at names) items_of IsReport IsEnd (lawful_whole Section (sections_at names) items_of IsReport sections_law)
 
-  to_report : (bytes : List ℕ) (r : Report) → SpellsBy report_header Of bytes r → SpellsReport nodes links listed bytes r
+  to_report : (bytes : List ℕ) (r : Report) → SpellsBy report_header Of bytes r → SpellsReport names bytes r
   to_report bytes r s = record { form = s.1.0; file = subst (λ (js : List Item). IsFileOf report_header js bytes) s.1.1 s.2 }
 
-  from_report : (bytes : List ℕ) (r : Report) → SpellsReport nodes links listed bytes r → SpellsBy report_header Of bytes r
+  from_report : (bytes : List ℕ) (r : Report) → SpellsReport names bytes r → SpellsBy report_header Of bytes r
   from_report bytes r s = (items_of r, (s.form, refl), s.file)
 
-  pub report_found : (bytes : List ℕ) (a : Result Report (Refusal ReportKind)) → ReadsAllAs (λ (r : Report). r) a (report_of nodes links listed bytes) → IfOk a (λ r. SpellsReport nodes links listed bytes r)
+  pub report_found : (bytes : List ℕ) (a : Result Report (Refusal ReportKind)) → ReadsAllAs (λ (r : Report). r) a (report_of names bytes) → IfOk a (λ r. SpellsReport names bytes r)
   report_found bytes (Ok r) h = to_report bytes r (found_spelled Header report_header (report_at names) Of report_law (λ (x : Report). x) bytes (Ok r) h)
   report_found bytes (Err e) h = tt
 
-  pub report_only : (bytes : List ℕ) (a : Result Report (Refusal ReportKind)) → ReadsAllAs (λ (r : Report). r) a (report_of nodes links listed bytes) → (r : Report) → SpellsReport nodes links listed bytes r → AnswersAs (λ (x : Report). x) a r
+  pub report_only : (bytes : List ℕ) (a : Result Report (Refusal ReportKind)) → ReadsAllAs (λ (r : Report). r) a (report_of names bytes) → (r : Report) → SpellsReport names bytes r → AnswersAs (λ (x : Report). x) a r
   report_only bytes a h r s = only_spelled Header report_header (report_at names) Of report_law (λ (x : Report). x) bytes a h r (from_report bytes r s)
 
-  pub report_first : (bytes : List ℕ) (a : Result Report (Refusal ReportKind)) → ReadsAllAs (λ (r : Report). r) a (report_of nodes links listed bytes) → IfErr a (IsNotTooEarly (SpellsReport nodes links listed) bytes)
+  pub report_first : (bytes : List ℕ) (a : Result Report (Refusal ReportKind)) → ReadsAllAs (λ (r : Report). r) a (report_of names bytes) → IfErr a (IsNotTooEarly (SpellsReport names) bytes)
   report_first bytes (Ok r) h = tt
   report_first bytes (Err (Bad at kind)) h = λ other n same ends r s.
       first_spelled Header report_header (report_at names) Of report_law (λ (x : Report). x) (report_online names) bytes (Err (Bad at kind)) h other n same ends r (from_report other r s)

@@ -8,7 +8,7 @@ use Rattle.net_core.specs.declared.states.Listed.{Listed}
 use Rattle.plan_types.specs.declared.report.Outcome.{Outcome}
 use Rattle.text_kit.specs.Reading.{no_fault, Parenthesis}
 use Rattle.text_kit.proofs.Online.{IsOnline, TakesSome, online_close, online_give, online_list, online_open, online_then, online_whole, online_word, takes_some}
-use Rattle.report_words.specs.KnownNames.{KnownNames}
+use Rattle.plan_report.specs.KnownNames.{KnownNames}
 use Rattle.report_words.specs.declared.fault.ReportKind.TheVariants.{Section, Token, Ended}
 use Rattle.report_reader.specs.declared.parts.Head.{Head}
 use Rattle.report_words.specs.ReportWords.{has_room}

@@ -1,8 +1,6 @@
 -- A whole report ends where its file does.
-use Rattle.std.proofs.Common.{◌≡◌, ℕ, Bool, true, cond, List, Result, Ok, Err, refl, sym, ap, ◌∙◌}
+use Rattle.std.proofs.Common.{◌≡◌, ℕ, Bool, true, cond, List, Result, Ok, Err, sym, ap, ◌∙◌}
 use Rattle.net_core.specs.Tests.{are_same}
-use Rattle.net_core.specs.declared.network.Link.{Link}
-use Rattle.net_core.specs.declared.states.Listed.{Listed}
 use Rattle.plan_types.specs.declared.report.Report.{Report}
 use Rattle.plan_report.specs.Texts.{report_header}
 use Rattle.snd_tokens.specs.Header.{first_line, trimmed}
@@ -11,9 +9,9 @@ use Rattle.text_kit.specs.Answers.{ReadsAllAs, ReadsAs}
 use Rattle.text_kit.specs.declared.refusal.Refusal.{Refusal}
 use Rattle.text_kit.specs.declared.refusal.Refusal.TheVariants.{Bad, NoMemory}
 use Rattle.text_kit.specs.Files.{body}
-use Rattle.text_kit.specs.Reading.{Read, Reading, after, end_at, give, whole_at}
+use Rattle.text_kit.specs.Reading.{Read, after, end_at, give}
 use Rattle.text_kit.proofs.Online.{ok_parts}
-use Rattle.report_words.specs.KnownNames.{known_as}
+use Rattle.plan_report.specs.KnownNames.{KnownNames}
 use Rattle.report_words.specs.declared.fault.ReportKind.{ReportKind}
 use Rattle.report_words.specs.declared.fault.ReportKind.TheVariants.{Header, Section}
 use Rattle.report_reader.specs.ReadingReport.{report_at, report_of, sections_at}
@@ -28,14 +26,14 @@ whole_end : (q : Read ReportKind Report) (y : Report) (rest : Text) → after q 
 whole_end (Ok p) y rest e = end_is p.0 y p.1 rest e
 whole_end (Err d) y rest e = absurd cc
 
-pub file_ok : (nodes : List (List ℕ)) (links : List Link) (listed : List Listed) (bytes : List ℕ) (r : Report) (rest : Text) → are_same (trimmed (first_line bytes)) report_header ≡ true
-    → report_at (known_as nodes links listed) (body bytes) ≡ Ok (r, rest) → (at : ℕ) × (report_of nodes links listed bytes ≡ Ok (r, EndAt at))
-file_ok nodes links listed bytes r rest line read =
-    let e = whole_end (sections_at (known_as nodes links listed) (body bytes)) r rest read in
-    (e.0, ap (λ (b : Bool). cond b (report_at (known_as nodes links listed) (body bytes)) (Err (0, Header))) line ∙ (read ∙ ap (λ (t : Text). Ok (r, t)) e.1))
+pub file_ok : (names : KnownNames) (bytes : List ℕ) (r : Report) (rest : Text) → are_same (trimmed (first_line bytes)) report_header ≡ true
+    → report_at names (body bytes) ≡ Ok (r, rest) → (at : ℕ) × (report_of names bytes ≡ Ok (r, EndAt at))
+file_ok names bytes r rest line read =
+    let e = whole_end (sections_at names (body bytes)) r rest read in
+    (e.0, ap (λ (b : Bool). cond b (report_at names (body bytes)) (Err (0, Header))) line ∙ (read ∙ ap (λ (t : Text). Ok (r, t)) e.1))
 
-pub file_answer : (nodes : List (List ℕ)) (links : List Link) (listed : List Listed) (bytes : List ℕ) (a : Result Report (Refusal ReportKind)) (rest : Text) → are_same (trimmed (first_line bytes)) report_header ≡ true
-    → ReadsAs (λ (r : Report). r) a rest (report_at (known_as nodes links listed) (body bytes)) → ReadsAllAs (λ (r : Report). r) a (report_of nodes links listed bytes)
-file_answer nodes links listed bytes (Ok r) rest line read = file_ok nodes links listed bytes r rest line read
-file_answer nodes links listed bytes (Err (Bad at kind)) rest line read = ap (λ (b : Bool). cond b (report_at (known_as nodes links listed) (body bytes)) (Err (0, Header))) line ∙ read
-file_answer nodes links listed bytes (Err NoMemory) rest line read = tt
+pub file_answer : (names : KnownNames) (bytes : List ℕ) (a : Result Report (Refusal ReportKind)) (rest : Text) → are_same (trimmed (first_line bytes)) report_header ≡ true
+    → ReadsAs (λ (r : Report). r) a rest (report_at names (body bytes)) → ReadsAllAs (λ (r : Report). r) a (report_of names bytes)
+file_answer names bytes (Ok r) rest line read = file_ok names bytes r rest line read
+file_answer names bytes (Err (Bad at kind)) rest line read = ap (λ (b : Bool). cond b (report_at names (body bytes)) (Err (0, Header))) line ∙ read
+file_answer names bytes (Err NoMemory) rest line read = tt

@@ -1,6 +1,5 @@
 -- Reading the notes, the journal and the pool of a report.
-use Rattle.std.specs.Prelude.{ℕ, ◌+◌, ◌^◌, Bool, true, false, List, [], ◌∷◌, length, Result, Ok, Err, codes}
-use Rattle.net_core.specs.declared.ids.StateId.{StateId}
+use Rattle.std.specs.Prelude.{ℕ, ◌+◌, ◌^◌, Bool, true, false, List, [], ◌∷◌, length, Ok, codes}
 use Rattle.net_core.specs.declared.journal.Edit.{Edit}
 use Rattle.net_core.specs.declared.journal.Edit.TheVariants.{Set, Add, Drop}
 use Rattle.net_core.specs.declared.journal.Entry.{Entry}
@@ -10,7 +9,7 @@ use Rattle.net_core.specs.declared.journal.Reply.TheVariants.{Accepted, UnknownD
 use Rattle.net_core.specs.declared.network.Notes.{Notes}
 use Rattle.net_core.specs.declared.plan.CutLine.{CutLine}
 use Rattle.text_kit.specs.Reading.{Reading, ◌>>=◌, give, list_at, no_fault, Parenthesis}
-use Rattle.report_words.specs.KnownNames.{KnownNames}
+use Rattle.plan_report.specs.KnownNames.{KnownNames}
 use Rattle.report_words.specs.declared.fault.ReportKind.{ReportKind}
 use Rattle.report_words.specs.ReportWords.{amount_at, closing_at, has_room, keyword_at, money_at, name_at, number_at, opening_at, opening_within, this_number_at}
 use Rattle.report_words.specs.ReportChoices.{Branches, branch_at, branch_or, numbers_at}

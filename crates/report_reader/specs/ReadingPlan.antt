@@ -1,9 +1,9 @@
 -- Reading a plan: its costs, and all its parts.
-use Rattle.std.specs.Prelude.{ℕ, ◌^◌, List, codes}
+use Rattle.std.specs.Prelude.{◌^◌, List, codes}
 use Rattle.net_core.specs.declared.plan.CutLine.{CutLine}
 use Rattle.plan_types.specs.declared.plan.Plan.{Plan}
 use Rattle.text_kit.specs.Reading.{Reading, ◌>>=◌, give}
-use Rattle.report_words.specs.KnownNames.{KnownNames}
+use Rattle.plan_report.specs.KnownNames.{KnownNames}
 use Rattle.report_words.specs.declared.fault.ReportKind.{ReportKind}
 use Rattle.report_reader.specs.declared.parts.Head.{Head}
 use Rattle.report_reader.specs.declared.parts.Values.{Values}

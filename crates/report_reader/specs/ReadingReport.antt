@@ -1,8 +1,7 @@
 -- Reading a report from left to right: its parts in their order, and its first fault.
-use Rattle.std.specs.Prelude.{ℕ, ◌+◌, List, [], ◌∷◌, length, map, slice_get, Result, codes}
+use Rattle.std.specs.Prelude.{ℕ, ◌+◌, List, [], ◌∷◌, length, map, slice_get, codes}
 use Rattle.net_core.specs.declared.journal.Entry.{Entry}
 use Rattle.net_core.specs.declared.journal.Entry.TheVariants.{Edited, Pooled}
-use Rattle.net_core.specs.declared.network.Link.{Link}
 use Rattle.net_core.specs.declared.plan.CutLine.{CutLine}
 use Rattle.net_core.specs.declared.states.Listed.{Listed}
 use Rattle.plan_types.specs.declared.report.Outcome.{Outcome}
@@ -13,7 +12,7 @@ use Rattle.text_kit.specs.Reading.{Read, Reading, ◌>>=◌, expected, give, lis
 use Rattle.plan_report.specs.Forms.{line_lengths, line_state}
 use Rattle.plan_report.specs.Names.{state_name}
 use Rattle.plan_report.specs.Texts.{report_header}
-use Rattle.report_words.specs.KnownNames.{KnownNames, known_as}
+use Rattle.plan_report.specs.KnownNames.{KnownNames}
 use Rattle.report_words.specs.declared.fault.ReportKind.{ReportKind}
 use Rattle.report_words.specs.declared.fault.ReportKind.TheVariants.{Header, Section, Ended}
 use Rattle.report_reader.specs.declared.parts.Head.{Head}
@@ -95,5 +94,5 @@ abbrev pub report_at : KnownNames → Reading ReportKind Report
 report_at names = whole_at Section (sections_at names)
 
 -- a whole file: its report, or its first fault by place
-abbrev pub report_of : List (List ℕ) → List Link → List Listed → List ℕ → Read ReportKind Report
-report_of nodes links listed bytes = file_at Header report_header (report_at (known_as nodes links listed)) bytes
+abbrev pub report_of : KnownNames → List ℕ → Read ReportKind Report
+report_of names bytes = file_at Header report_header (report_at names) bytes

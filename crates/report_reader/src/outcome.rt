@@ -1,7 +1,7 @@
 ghost use Rattle.std.specs.Prelude.{◌≡◌, ◌<◌, ◌≤◌, ◌^◌, length, IfOk};
 ghost use Rattle.snd_tokens.specs.Lexemes.{left};
 ghost use Rattle.text_kit.specs.Answers.{ReadsAs};
-ghost use Rattle.report_words.specs.KnownNames.{known_in};
+ghost use Rattle.report_words.specs.Contexts.{known_in};
 ghost use Rattle.report_reader.specs.ReadingReport.{head_at, outcome_at, outcomes_at, planned_at, unsurvivable_at};
 
 use crate::parts::Head;
@@ -140,7 +140,7 @@ struct OutcomeList<'a> {
 
 impl<'a> Element for OutcomeList<'a> {
     ghost use Rattle.text_kit.specs.Reading.{no_fault};
-    ghost use Rattle.report_words.specs.KnownNames.{known_in};
+    ghost use Rattle.report_words.specs.Contexts.{known_in};
     ghost use Rattle.report_reader.specs.ReadingReport.{outcome_at};
 
     type Item = Outcome;

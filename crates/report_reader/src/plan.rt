@@ -1,7 +1,7 @@
 ghost use Rattle.std.specs.Prelude.{◌≡◌, ◌<◌, ◌^◌, length};
 ghost use Rattle.snd_tokens.specs.Lexemes.{left};
 ghost use Rattle.text_kit.specs.Answers.{ReadsAs};
-ghost use Rattle.report_words.specs.KnownNames.{known_in};
+ghost use Rattle.report_words.specs.Contexts.{known_in};
 ghost use Rattle.report_reader.specs.ReadingPlan.{plan_at, values_at};
 
 use crate::parts::{Head, Values};

@@ -1,7 +1,7 @@
 ghost use Rattle.std.specs.Prelude.{◌≡◌};
 ghost use Rattle.snd_tokens.specs.Lexemes.{left};
 ghost use Rattle.text_kit.specs.Answers.{ReadsAs};
-ghost use Rattle.report_words.specs.KnownNames.{known_of};
+ghost use Rattle.plan_report.specs.KnownNames.{known_of};
 ghost use Rattle.report_reader.specs.ReadingJournal.{pool_at, pool_line_at};
 
 use net_core::{CutLine, List, Network, StateId, States};
@@ -55,7 +55,7 @@ struct LineList<'a> {
 
 impl<'a> Element for LineList<'a> {
     ghost use Rattle.text_kit.specs.Reading.{no_fault};
-    ghost use Rattle.report_words.specs.KnownNames.{known_of};
+    ghost use Rattle.plan_report.specs.KnownNames.{known_of};
     ghost use Rattle.report_reader.specs.ReadingJournal.{pool_line_at};
 
     type Item = CutLine;

@@ -1,10 +1,11 @@
 ghost use Rattle.std.specs.Prelude.{◌≡◌, IfErr, IfOk};
+ghost use Rattle.plan_report.specs.KnownNames.{known_of};
 ghost use Rattle.plan_report.specs.Texts.{SpellsReport};
 ghost use Rattle.plan_types.specs.declared.report.Report.{Report as Rep};
 ghost use Rattle.snd_tokens.specs.Lexemes.{left};
 ghost use Rattle.text_kit.specs.Answers.{AnswersAs, ReadsAllAs, ReadsAs};
 ghost use Rattle.text_kit.specs.Files.{IsNotTooEarly};
-ghost use Rattle.report_words.specs.KnownNames.{known_in};
+ghost use Rattle.report_words.specs.Contexts.{known_in};
 ghost use Rattle.report_reader.specs.ReadingReport.{report_at, report_of, section_at, sections_at};
 
 use crate::filling::fill;
@@ -84,7 +85,7 @@ fn file(
     states: &States,
     bytes: &[u8],
 ) -> Result<Report, ReportRefusal>
-    ensures { ReadsAllAs (λ r. r) result (report_of net.now.nodes net.now.links states.now.listed bytes.now) }
+    ensures { ReadsAllAs (λ r. r) result (report_of (known_of net.now states.now) bytes.now) }
 {
     let mut text = text_after_header(ReportKind::Header, bytes, HEADER)?;
     let context = Context::new(alloc, net, states)?;
@@ -106,14 +107,14 @@ pub fn read_report(
     bytes: &[u8],
 ) -> Result<Report, ReportRefusal>
     // What is read is in form and spelled.
-    ensures found { IfOk result (λ r. SpellsReport net.now.nodes net.now.links states.now.listed bytes.now r) }
+    ensures found { IfOk result (λ r. SpellsReport (known_of net.now states.now) bytes.now r) }
     // What is in form and spelled is read, unless memory runs out.
-    ensures only { (r : Rep) → SpellsReport net.now.nodes net.now.links states.now.listed bytes.now r → AnswersAs (λ x. x) result r }
+    ensures only { (r : Rep) → SpellsReport (known_of net.now states.now) bytes.now r → AnswersAs (λ x. x) result r }
     // What is read is what reading from left to right gives, and a fault is the first one that it
     // meets.
-    ensures exact { ReadsAllAs (λ r. r) result (report_of net.now.nodes net.now.links states.now.listed bytes.now) }
+    ensures exact { ReadsAllAs (λ r. r) result (report_of (known_of net.now states.now) bytes.now) }
     // It doesn't stand too early: no bytes that agree past it are spelled right.
-    ensures not_early { IfErr result (IsNotTooEarly (SpellsReport net.now.nodes net.now.links states.now.listed) bytes.now) }
+    ensures not_early { IfErr result (IsNotTooEarly (SpellsReport (known_of net.now states.now)) bytes.now) }
 {
     file(alloc, net, states, bytes)
 }

@@ -1,7 +1,7 @@
 -- Names that are found by their bytes, whatever holds them.
-use Rattle.std.proofs.Common.{◌≡◌, ℕ, suc, ◌+◌, Bool, true, false, cond, not, nat_lt, List, [], ◌∷◌, ◌++◌, length, map, Option, None, Some, Result, Ok, refl, sym, ap, subst, ◌∙◌}
+use Rattle.std.proofs.Common.{◌≡◌, ℕ, suc, ◌+◌, Bool, true, false, cond, not, List, [], ◌∷◌, length, map, Option, Result, Ok, refl, sym, ap, ◌∙◌}
 use Rattle.std.specs.Prelude.{position, ◌||◌}
-use Rattle.std.specs.List.{list_any, position_or_len, prefix_len}
+use Rattle.std.specs.List.{list_any, prefix_len}
 use mathlib.Core.Path.{fun_ext}
 use Rattle.net_core.specs.Tests.{are_same, is_named}
 use Rattle.text_kit.proofs.Lawful.{is_same}

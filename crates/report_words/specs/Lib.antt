@@ -1,4 +1,4 @@
 pub mod ReportKinds
 pub mod ReportWords
-pub mod KnownNames
+pub mod Contexts
 pub mod ReportChoices

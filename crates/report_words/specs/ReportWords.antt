@@ -1,5 +1,5 @@
 -- What a word of a report says: numbers in their ranges, amounts, and names of what is known.
-use Rattle.std.specs.Prelude.{ℕ, ◌+◌, ◌^◌, Bool, nat_le, nat_lt, ◌&&◌, if◌then◌else◌, List, length, position, Option, Some, None, Result, Ok, Err}
+use Rattle.std.specs.Prelude.{ℕ, ◌+◌, Bool, nat_le, nat_lt, ◌&&◌, if◌then◌else◌, List, length, position, Result, Ok, Err}
 use Rattle.net_core.specs.Tests.{are_same, is_named}
 use Rattle.net_core.specs.declared.demand.Demand.{Demand}
 use Rattle.net_core.specs.declared.ids.LinkId.{LinkId}

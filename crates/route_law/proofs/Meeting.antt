@@ -1,8 +1,8 @@
 -- what the amounts of a basis leave of the needs
-use Rattle.std.proofs.Common.{◌≡◌, ◌≢◌, ℕ, zero, suc, ◌+◌, ◌-◌, ◌*◌, ◌<◌, ◌≤◌, List, cond, length, slice_index, refl, sym, ap, ◌∙◌, arith, subst, ⊎_elim}
-use Rattle.std.proofs.lemmas.Bool.{cases_eq, cases_lt}
+use Rattle.std.proofs.Common.{◌≡◌, ℕ, zero, suc, ◌+◌, ◌-◌, ◌*◌, ◌<◌, ◌≤◌, List, cond, length, slice_index, refl, sym, ap, ◌∙◌, arith, subst, ⊎_elim}
+use Rattle.std.proofs.lemmas.Bool.{cases_lt}
 use Rattle.std.proofs.lemmas.Option.{slice_get_within}
-use Rattle.std.proofs.Math.IntN.{ℤ, pos, ◌+ℤ◌, ◌*ℤ◌, *ℤ-zero, pos-*ℤ-pos}
+use Rattle.std.proofs.Math.IntN.{ℤ, pos, ◌+ℤ◌, ◌*ℤ◌, pos-*ℤ-pos}
 use Rattle.std.specs.Int.Signed.{◌<ℤ◌, ◌≤ℤ◌}
 use Rattle.std.proofs.lemmas.Int.{ints}
 use Rattle.net_core.specs.declared.columns.RouteColumn.{RouteColumn}
@@ -12,7 +12,7 @@ use Rattle.net_core.specs.declared.plan.Caps.{Caps}
 use Rattle.net_core.specs.Graphs.{Graph}
 use Rattle.net_core.specs.States.{names_link}
 use Rattle.net_core.specs.Sums.{sum_below}
-use Rattle.net_core.proofs.Sums.{below-same, below-none, below-times}
+use Rattle.net_core.proofs.Sums.{below-same, below-none}
 use Rattle.simplex_law.specs.Sums.{int_sum, unit_vector}
 use Rattle.simplex_law.specs.Programs.{ColumnOf, IsSlack}
 use Rattle.simplex_law.specs.Optima.{IsOptimum}

@@ -1,7 +1,6 @@
 -- evidence of the slack basis, and evidence of the routing program from that of a packing program
-use Rattle.std.proofs.Common.{◌≡◌, ℕ, ◌<◌, List, Some, length, slice_get, refl, ◌∙◌, ap, arith, inl}
-use Rattle.std.proofs.Math.IntN.{ℤ, pos}
-use Rattle.std.proofs.lemmas.Int.{ints}
+use Rattle.std.proofs.Common.{ℕ, ◌<◌, List, refl, inl}
+use Rattle.std.proofs.Math.IntN.{pos}
 use Rattle.net_core.specs.declared.columns.RouteColumn.{RouteColumn}
 use Rattle.net_core.specs.declared.columns.WideKind.{WideKind}
 use Rattle.net_core.specs.declared.columns.WideKind.TheVariants.{Number, Row, Product, Sum, Common, Value, Length}

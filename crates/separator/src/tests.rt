@@ -1,4 +1,5 @@
-ghost use Rattle.std.specs.Prelude.{◌≡◌, IfOk};
+ghost use Rattle.std.specs.Prelude.{◌≡◌, IfOk, length};
+ghost use Rattle.net_core.specs.Demands.{AreDemands};
 ghost use Rattle.net_core.specs.Views.{graph};
 ghost use Rattle.metric_cut.specs.Cuts.{IsCutOf};
 
@@ -6,7 +7,8 @@ use crate::{OneByOne, Separate, Separated, StateAnswer, separate_checked};
 use cut_pool::Board;
 use metric_cut::Cut;
 use net_core::{
-    Caps, Copied, Evidence, LinkId, List, NoMemory, Problem, RouteColumn, StateId, WideKind,
+    Caps, Copied, Demands, Evidence, LinkId, List, NoMemory, Problem, RouteColumn, StateId,
+    WideKind,
 };
 use plan_types::Spot;
 use std::alloc::Global;
@@ -138,12 +140,22 @@ fn unit_spot<S: Separate>(
     Ok(separator.admit(cut)?)
 }
 
+/// The demands that a board of the problem opens with.
+fn opening(p: &Problem) -> Result<Demands, NoMemory>
+    ensures { IfOk result (AreDemands (length p.now.net.nodes)) }
+{
+    p.demands.copy()
+}
+
 /// A separator over a new board of a problem.
 fn separator(alloc: Global, p: &Problem) -> Result<OneByOne<'_>, NoMemory>
     ensures net { IfOk result (λ s. p.now.net ≡ s.board.net.now) }
     ensures listed { IfOk result (λ s. p.now.states ≡ s.board.states.now) }
 {
-    let board = Board::new(alloc, &p.net, &p.states, p.demands.copy()?)?;
+    let demands = opening(p)?;
+    let Ok(board) = Board::new(alloc, &p.net, &p.states, demands) else {
+        return Err(NoMemory);
+    };
     Ok(OneByOne::new(alloc, board))
 }
 

@@ -19,7 +19,6 @@ use Rattle.net_core.specs.declared.journal.Reply.{Reply}
 use Rattle.net_core.specs.declared.journal.Reply.TheVariants.{Accepted, UnknownDemand, KnownDemand, UnknownNode, SelfDemand, TooMany, TooMuch}
 use Rattle.net_core.specs.declared.network.Link.{Link}
 use Rattle.net_core.specs.declared.plan.CutLine.{CutLine}
-use Rattle.net_core.specs.declared.states.Listed.{Listed}
 use Rattle.plan_terms.specs.Capacities.{AreCounts}
 use Rattle.plan_types.specs.declared.certificate.Spot.{Spot}
 use Rattle.plan_types.specs.declared.certificate.Spot.TheVariants.{Pool, Local}
@@ -32,6 +31,7 @@ use Rattle.plan_types.specs.declared.report.Outcome.{Outcome}
 use Rattle.plan_types.specs.declared.report.Outcome.TheVariants.{Planned, Unsurvivable}
 use Rattle.plan_types.specs.declared.report.Report.{Report}
 use Rattle.text_kit.specs.Items.{ComeAfter}
+use Rattle.plan_report.specs.KnownNames.{KnownNames}
 use Rattle.plan_report.specs.Forms.{IsCauseInForm, IsDemandInForm, IsEntryInForm, IsEvidenceInForm, IsKindInForm, IsMasterColumnInForm, IsOfPool, IsOutcomeInForm, IsPlanInForm, IsQualityInForm, IsReplyInForm, IsReportInForm, IsRouteColumnInForm, IsSpotInForm}
 use Rattle.text_kit.specs.Edits.{IsEditInForm}
 
@@ -64,29 +64,29 @@ kind_prop column value length rows columns values lengths Common = hlevel props
 kind_prop column value length rows columns values lengths Value = values
 kind_prop column value length rows columns values lengths (Length e) = lengths e
 
-module _ (links : List Link) (listed : List Listed) (demands : List Demand) where
-  route_column_prop : (c : RouteColumn) → IsProp (IsRouteColumnInForm links demands c)
+module _ (known : KnownNames) (demands : List Demand) where
+  route_column_prop : (c : RouteColumn) → IsProp (IsRouteColumnInForm known.links demands c)
   route_column_prop (route.LinkSlack e) = hlevel props
   route_column_prop (route.DemandSlack k) = hlevel props
   route_column_prop (route.Carry k path) = hlevel props
 
-  master_column_prop : (c : MasterColumn) → IsProp (IsMasterColumnInForm links listed c)
+  master_column_prop : (c : MasterColumn) → IsProp (IsMasterColumnInForm known.links known.listed c)
   master_column_prop (master.LinkSlack e) = hlevel props
   master_column_prop (master.Metric state lengths) = hlevel props
 
-  evidence_prop : (e : Evidence) → IsProp (IsEvidenceInForm links listed demands e)
+  evidence_prop : (e : Evidence) → IsProp (IsEvidenceInForm known demands e)
   evidence_prop (Route state caps basis kind) =
-      let wide = kind_prop (IsRouteColumnInForm links demands) ⊥ (λ e. e.0 < length links) (length links + length demands) route_column_prop (hlevel props) (λ e. hlevel props) kind in
+      let wide = kind_prop (IsRouteColumnInForm known.links demands) ⊥ (λ e. e.0 < length known.links) (length known.links + length demands) route_column_prop (hlevel props) (λ e. hlevel props) kind in
       hlevel (route_column_prop, wide, props)
   evidence_prop (Master basis kind) =
-      let wide = kind_prop (IsMasterColumnInForm links listed) (Unit {0}) (λ e. ⊥) (length links) master_column_prop (hlevel props) (λ e. hlevel props) kind in
+      let wide = kind_prop (IsMasterColumnInForm known.links known.listed) (Unit {0}) (λ e. ⊥) (length known.links) master_column_prop (hlevel props) (λ e. hlevel props) kind in
       hlevel (master_column_prop, wide, props)
 
-  cause_prop : (c : Cause) → IsProp (IsCauseInForm links listed demands c)
+  cause_prop : (c : Cause) → IsProp (IsCauseInForm known demands c)
   cause_prop (Wide evidence) = evidence_prop evidence
   cause_prop Cuts = hlevel props
 
-  quality_prop : (q : Quality) → IsProp (IsQualityInForm links listed demands q)
+  quality_prop : (q : Quality) → IsProp (IsQualityInForm known demands q)
   quality_prop (Tight f) = hlevel props
   quality_prop (Loose cause) = cause_prop cause
 
@@ -96,22 +96,22 @@ spot_prop : (spot : Spot) → IsProp (IsSpotInForm spot)
 spot_prop (Pool i) = hlevel props
 spot_prop Local = hlevel props
 
-plan_prop : (nodes : List (List ℕ)) (links : List Link) (listed : List Listed) (plan : Plan) → IsProp (IsPlanInForm nodes links listed plan)
-plan_prop nodes links listed plan =
-    let demands = demands_prop nodes [] plan.demands in
-    let counts = counts_prop links plan.counts in
-    let quality = quality_prop links listed plan.demands plan.quality in
+plan_prop : (known : KnownNames) (plan : Plan) → IsProp (IsPlanInForm known plan)
+plan_prop known plan =
+    let demands = demands_prop known.nodes [] plan.demands in
+    let counts = counts_prop known.links plan.counts in
+    let quality = quality_prop known plan.demands plan.quality in
     hlevel (demands, counts, quality, spot_prop, props)
 
 of_pool_prop : (pool : List CutLine) (spot : Spot) (cut : CutLine) → IsProp (IsOfPool pool spot cut)
 of_pool_prop pool (Pool i) cut = hlevel props
 of_pool_prop pool Local cut = hlevel props
 
-pub outcome_prop : (nodes : List (List ℕ)) (links : List Link) (listed : List Listed) (pool : List CutLine) (o : Outcome) → IsProp (IsOutcomeInForm nodes links listed pool o)
-outcome_prop nodes links listed pool (Planned caller serial plan) =
-    let in_form = plan_prop nodes links listed plan in
+pub outcome_prop : (known : KnownNames) (pool : List CutLine) (o : Outcome) → IsProp (IsOutcomeInForm known pool o)
+outcome_prop known pool (Planned caller serial plan) =
+    let in_form = plan_prop known plan in
     hlevel (in_form, of_pool_prop, props)
-outcome_prop nodes links listed pool (Unsurvivable caller serial version position state demand) = hlevel props
+outcome_prop known pool (Unsurvivable caller serial version position state demand) = hlevel props
 
 -- ---- reports
 
@@ -133,8 +133,8 @@ entry_prop : (pool : List CutLine) (e : Entry) → IsProp (IsEntryInForm pool e)
 entry_prop pool (Edited caller edit reply) = hlevel (edit_prop, reply_prop, props)
 entry_prop pool (Pooled index state lengths) = hlevel props
 
-pub report_prop : (nodes : List (List ℕ)) (links : List Link) (listed : List Listed) (r : Report) → IsProp (IsReportInForm nodes links listed r)
-report_prop nodes links listed r =
-    let outcomes = outcome_prop nodes links listed r.pool in
+pub report_prop : (known : KnownNames) (r : Report) → IsProp (IsReportInForm known r)
+report_prop known r =
+    let outcomes = outcome_prop known r.pool in
     let entries = entry_prop r.pool in
     hlevel (outcomes, entries, props)

@@ -13,6 +13,7 @@ use Rattle.plan_types.specs.declared.certificate.Spot.{Spot}
 use Rattle.plan_types.specs.declared.certificate.Spot.TheVariants.{Pool, Local}
 use Rattle.plan_types.specs.declared.report.Outcome.{Outcome}
 use Rattle.plan_types.specs.declared.report.Outcome.TheVariants.{Planned, Unsurvivable}
+use Rattle.plan_report.specs.KnownNames.{known_to}
 use Rattle.plan_report.specs.Forms.{IsHeadInForm, IsOfPool, IsOutcomeInForm}
 use Rattle.cut_pool.specs.Histories.{cut_of_line, cuts_of, version_left}
 use Rattle.session_script.specs.declared.script.Act.{Act}
@@ -59,7 +60,7 @@ kept_one P test (x ∷ xs) all (suc k) d lt passes = kept_one P test xs (kept_re
 
 module _ (p : Case) (es : List Entry) (lines : List CutLine) (few : length es ≤ 65536) (same : map cut_of_line lines ≡ cuts_of es) where
   abbrev InForm : Outcome → Type 0
-  InForm o = IsOutcomeInForm p.nodes p.links p.listed lines o
+  InForm o = IsOutcomeInForm (known_to p) lines o
 
   -- a cut that stands in the pool of first entries stands in the pool
   of_pool : (m : ℕ) (cut : CutLine) (spot : Spot) → IsSpotIn (take m es) (cut_of_line cut) spot → IsOfPool lines spot cut
@@ -86,7 +87,7 @@ module _ (p : Case) (es : List Entry) (lines : List CutLine) (few : length es �
 
     outcome_form : (n m serial : ℕ) (o : Outcome) → n ≤ length es → 1 ≤ serial → serial ≤ 64 → IsShortNamed o → IsOutcomeAfter p (take n es) (take m es) caller serial o → InForm o
     outcome_form n m serial (Planned by number plan) le first last short is =
-        ∥∥₁_elim is.2 (outcome_prop p.nodes p.links p.listed lines (Planned by number plan)) (λ after.
+        ∥∥₁_elim is.2 (outcome_prop (known_to p) lines (Planned by number plan)) (λ after.
         record {
           command = head_form by serial number plan.version n is.0 is.1 first last le (after.sound.same_version ∙ after.left.version) plan.position (after.sound.same_position ∙ after.left.position);
           plan = after.sound.form;

@@ -13,6 +13,7 @@ use Rattle.net_core.specs.Demands.{AreDemands}
 use Rattle.plan_terms.specs.Certificates.{IsCut}
 use Rattle.plan_types.specs.declared.report.Outcome.{Outcome}
 use Rattle.plan_types.specs.declared.report.Report.{Report}
+use Rattle.plan_report.specs.KnownNames.{known_of, known_to}
 use Rattle.plan_report.specs.Forms.{IsReportInForm}
 use Rattle.cut_pool.specs.declared.board.Board.{Board}
 use Rattle.cut_pool.specs.Boards.{opening_case}
@@ -41,10 +42,10 @@ module _ (b : Board) (notes : Notes) (commands : List Command) (outcomes sorted 
   abbrev all : Report
   all = record { notes = notes; entries = b.entries; pool = lines; outcomes = sorted }
 
-  report_form : IsReportInForm b.net.now.nodes b.net.now.links b.states.now.listed all
+  report_form : IsReportInForm (known_of b.net.now b.states.now) all
   report_form =
       let p = opening_case b in
-      let one = report_prop p.nodes p.links p.listed all in
+      let one = report_prop (known_to p) all in
       ∥∥₁_elim b.stands one (λ board. ∥∥₁_elim pool one (λ is. ∥∥₁_elim cuts one (λ of.
       let commanded = run.count in
       let plans = script.plans in

@@ -12,6 +12,7 @@ use Rattle.plan_types.specs.declared.plan.Plan.{Plan}
 use Rattle.plan_types.specs.declared.report.Outcome.{Outcome}
 use Rattle.plan_types.specs.declared.report.Outcome.TheVariants.{Planned, Unsurvivable}
 use Rattle.plan_types.specs.declared.report.Report.{Report}
+use Rattle.plan_report.specs.KnownNames.{known_to}
 use Rattle.plan_report.specs.Forms.{IsReportInForm}
 use Rattle.cut_pool.specs.declared.snapshot.Snapshot.{Snapshot}
 use Rattle.cut_pool.specs.Histories.{IsLegalHistory, IsPoolAfter, demands_left, version_left}
@@ -122,5 +123,5 @@ pub record IsTranscript (p : Case) (notes : Notes) (commands : List Command) (r 
   pub pool_is : ∥ IsPoolAfter p r.entries r.pool ∥₁
   pub runs : (caller : ℕ) → RunsFrom p r.entries caller 0 1 (acts_of caller commands) (outcomes_of caller r.outcomes)
   pub ordered : AllPairs (λ a b. outcome_caller a ≤ outcome_caller b) r.outcomes
-  pub form : IsReportInForm p.nodes p.links p.listed r
+  pub form : IsReportInForm (known_to p) r
   pub alone : IsOnePlan commands → All IsPlanned r.outcomes → All (λ o. position_of o ≡ 0) r.outcomes × ∥ IsWorkedPool p r.entries ∥₁

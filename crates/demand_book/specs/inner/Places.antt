@@ -1,5 +1,5 @@
 -- a demand of a list gets another need
-use Rattle.std.specs.Prelude.{◌≡◌, ◌≢◌, ◌<◌, ℕ, List, Some, length, slice_get}
+use Rattle.std.specs.Prelude.{◌≡◌, ◌≢◌, ℕ, List, Some, length, slice_get}
 use Rattle.net_core.specs.declared.demand.Demand.{Demand}
 
 -- the same demands, but that the one at place k has this need

@@ -1,4 +1,4 @@
-use Rattle.std.proofs.Common.{◌+◌, ◌<◌, ◌^◌, arith, length, subst, sym}
+use Rattle.std.proofs.Common.{◌<◌, ◌^◌, arith, subst, sym}
 use Rattle.net_core.specs.declared.plan.CutLine.{CutLine}
 use Rattle.metric_cut.specs.Bounded.{HaveBound}
 use Rattle.master_bound.proofs.Adding.{all_more, before_more, few_more, pairs_more}

@@ -1,4 +1,4 @@
-use Rattle.std.proofs.Common.{◌+◌, ◌<◌, ◌≤◌, ◌^◌, All, AllPairs, length}
+use Rattle.std.proofs.Common.{◌<◌, ◌≤◌, ◌^◌, All, AllPairs, length}
 use Rattle.metric_cut.specs.Bounded.{HaveBound}
 use Rattle.master_law.specs.MasterPrograms.{IsSameCut}
 use Rattle.master_bound.proofs.tests.unit_lines.Given as goal

@@ -1,6 +1,7 @@
 use Rattle.std.proofs.Common.{List, Some, ◌≡◌, slice_get, subst, sym}
 use Rattle.net_core.specs.Views.{case_of}
 use Rattle.net_core.specs.declared.plan.Routing.{Routing}
+use Rattle.plan_report.specs.KnownNames.{known_to}
 use Rattle.plan_report.specs.Forms.{AreRoutingsInForm}
 use Rattle.plan_terms.specs.Capacities.{capacities}
 use Rattle.module_choice.proofs.Pairs.{capacities_long}
@@ -14,8 +15,8 @@ returns-clause-sound c =
     let plan = c.args.plan.now in
     let lent = c.items.result.now in
     let nums = capacities p.links plan.counts in
-    let own = subst (λ ds. AreRoutingsInForm p.links p.listed ds plan.routings) c.requires.demands c.requires.form.routings in
-    let form = subst (AreRoutingsInForm p.links p.listed p.demands) (sym c.items.ensures) own in
+    let own = subst (λ ds. AreRoutingsInForm (known_to p) ds plan.routings) c.requires.demands c.requires.form.routings in
+    let form = subst (AreRoutingsInForm (known_to p) p.demands) (sym c.items.ensures) own in
     let found = c.in_ok-check_routings.ensures in
     on_ok c.check_tight.result (record {
       carrying = record {

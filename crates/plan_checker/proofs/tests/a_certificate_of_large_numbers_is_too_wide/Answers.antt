@@ -2,6 +2,7 @@ use Rattle.std.proofs.Common.{◌≡◌, ℕ, ◌+◌, ◌^◌, ◌<◌, List, [
 use Rattle.std.proofs.lemmas.List.Elements.{All-cons, All-nil}
 use Rattle.net_core.specs.declared.network.Link.{Link}
 use Rattle.net_core.specs.declared.network.Module.{Module}
+use Rattle.plan_report.specs.KnownNames.{known_as}
 use Rattle.plan_report.specs.Forms.{IsPlanInForm}
 use Rattle.plan_terms.specs.Capacities.{AreCounts, AreWithinLimits, modules_capacity}
 use Rattle.worked_networks.specs.Tables.{ends_of}
@@ -52,5 +53,5 @@ check_plan-answer-requires-clause-form g c =
     let net = c.in_ok-net.net in
     let plan = c.in_ok-plan.plan in
     let links = served _ net.links c.in_ok-net.ensures.modules c.in_ok-net.ensures.ends in
-    subst (λ listed. IsPlanInForm net.nodes net.links listed plan) (sym c.only_none-states.ensures)
+    subst (λ listed. IsPlanInForm (known_as net.nodes net.links listed) plan) (sym c.only_none-states.ensures)
     (c.in_ok-plan.ensures net.nodes net.links c.in_ok-net.ensures.nodes links.count links.shape links.limits)

@@ -3,5 +3,5 @@ use Rattle.plan_report.proofs.writer.write_report.Goals as goal
 
 pub returns-clause-spelled : goal.returns-clause-spelled
 returns-clause-spelled c =
-    text_spells _ _ _ _ _ c.requires
+    text_spells _ _ _ c.requires
     (rw (c.items.ensures, c.nodes.ensures, c.items-2.ensures, c.links.ensures, c.items-3.ensures, c.listed.ensures, c.in_ok-append.ensures.ok, c.new-text.ensures) at c.in_ok-put_report.ensures)

@@ -1,4 +1,5 @@
 use Rattle.std.proofs.Common.{codes}
+use Rattle.plan_report.specs.KnownNames.{known_of}
 use Rattle.plan_report.specs.Texts.{SpellsReport}
 use Rattle.plan_types.specs.declared.report.Report.{Report}
 use Rattle.report_reader.specs.ReadingReport.{report_of}
@@ -9,8 +10,6 @@ use Rattle.planner_top.proofs.last_file.report_of.Goals as goal
 
 pub returns-in-Err-Bad-clause-refused : goal.returns-in-Err-Bad-clause-refused
 returns-in-Err-Bad-clause-refused c =
-    let nodes = c.args.problem.now.net.nodes in
-    let links = c.args.problem.now.net.links in
-    let listed = c.args.problem.now.states.listed in
-    reading_refused (λ (r : Report). r) (SpellsReport nodes links listed) (report_of nodes links listed) (codes "report") report_kind_word BadReport c.args.bytes.now c.in-Err-Bad.field-0 c.in-Err-Bad.at c.in-Err-Bad.kind c.refused.result
+    let names = known_of c.args.problem.now.net c.args.problem.now.states in
+    reading_refused (λ (r : Report). r) (SpellsReport names) (report_of names) (codes "report") report_kind_word BadReport c.args.bytes.now c.in-Err-Bad.field-0 c.in-Err-Bad.at c.in-Err-Bad.kind c.refused.result
     c.in-Err-Bad.field-0-is c.in-Err-Bad.ensures.only c.in-Err-Bad.ensures.exact c.refused.ensures

@@ -2,6 +2,7 @@ use Rattle.std.proofs.Common.{◌≡◌, ◌∙◌, ◌++◌, [], ◌∷◌, Lis
 use Rattle.net_core.specs.declared.demand.Demand.{Demand}
 use Rattle.net_core.specs.Views.{case}
 use Rattle.plan_report.specs.Names.{state_name}
+use Rattle.plan_report.specs.KnownNames.{known_of}
 use Rattle.plan_report.specs.Texts.{report_text}
 use Rattle.plan_types.specs.declared.report.Outcome.{Outcome}
 use Rattle.session_run.specs.Transcripts.{IsTranscript}
@@ -18,7 +19,7 @@ returns-in-Planned c =
     let states = c.args.states.now in
     let report = c.args.report.now in
     let same = c.requires.alone ∙ ap (λ (o : Outcome). o ∷ []) c.in-Planned.is in
-    both_ok c.reported.result (λ (a : Answer). a.status ≡ Done) (λ (a : Answer). a.text ≡ report_text net.nodes net.links states.listed report)
+    both_ok c.reported.result (λ (a : Answer). a.status ≡ Done) (λ (a : Answer). a.text ≡ report_text (known_of net states) report)
     (λ (a : Answer). (demands : List Demand) → IsTranscript (case net states demands) net.notes plan_commands report → EndsPlan (case net states demands) net.notes a.status a.text)
     (λ a status text demands t. plan_ends (case net states demands) net.notes report t c.in-Planned.caller c.in-Planned.serial c.in-Planned.plan same a.status a.text status text)
     c.reported.ensures.status c.reported.ensures.text

@@ -1,5 +1,6 @@
 use Rattle.std.proofs.Common.{inl, inr}
 use Rattle.std.proofs.lemmas.Result.{err_from_is_err_and}
+use Rattle.plan_report.specs.KnownNames.{known_of}
 use Rattle.planner_top.specs.Inputs.{RefusesReportFile, StopsAtFile, report_limit}
 use Rattle.planner_top.specs.Run.{EndsCheck}
 use Rattle.planner_top.specs.inner.Steps.{named}
@@ -14,7 +15,7 @@ returns-in_err-report-clause-ends g c =
     let name = c.args.four.now.last.now in
     let problem = c.in_ok-problem.problem in
     rw (p.1, p.2) (last_ends files (named c.args.four.now.files) (EndsCheck files name) problem c.in_ok-problem.ensures.has
-    (StopsAtFile files report_limit name BadReport (RefusesReportFile problem.net.nodes problem.net.links problem.states.listed)) (λ status text e. inl e)
+    (StopsAtFile files report_limit name BadReport (RefusesReportFile (known_of problem.net problem.states))) (λ status text e. inl e)
     c.in_err-report.field-0.0 (rw c.in_ok-problem.ensures.shelf.same at c.in_err-report.ensures.ends))
 
 pub returns-clause-ends : goal.returns-clause-ends

@@ -1,4 +1,4 @@
-use Rattle.std.proofs.Common.{◌≡◌, subst, sym}
+use Rattle.std.proofs.Common.{subst, sym}
 use Rattle.plan_terms.specs.Separations.{IsSurvivable}
 use Rattle.planner_top.proofs.sample.answer_sample.Goals as goal
 

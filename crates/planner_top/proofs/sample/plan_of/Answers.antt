@@ -1,4 +1,4 @@
-use Rattle.std.proofs.Common.{◌≡◌, ◌∙◌, [], ◌∷◌, ap}
+use Rattle.std.proofs.Common.{◌∙◌, [], ◌∷◌, ap}
 use Rattle.net_core.specs.Views.{case_of}
 use Rattle.plan_types.specs.declared.report.Outcome.{Outcome}
 use Rattle.planner_top.proofs.SinglePlans.{planned, refused}

@@ -1,4 +1,4 @@
-use Rattle.std.proofs.Common.{◌≡◌, ◌∙◌, Err, ap, subst, sym}
+use Rattle.std.proofs.Common.{◌∙◌, Err, ap, subst, sym}
 use Rattle.sndlib_reader.specs.Spelling.{Spells}
 use Rattle.planner_top.proofs.Sampled.{survives_same}
 use Rattle.planner_top.proofs.sample.read_back.Goals as goal

@@ -1,5 +1,6 @@
 use Rattle.std.proofs.Common.{◌≡◌}
 use Rattle.net_core.specs.Views.{case}
+use Rattle.plan_report.specs.KnownNames.{known_to}
 use Rattle.plan_report.specs.Texts.{report_text}
 use Rattle.plan_types.specs.declared.report.Report.{Report}
 use Rattle.acceptance.proofs.Transcripts.{transcript_accepted}
@@ -17,7 +18,7 @@ returns-clause-report g c =
     let commands = c.args.script.now.commands in
     let report = c.in_ok-report.report in
     let accepted = transcript_accepted p notes commands report c.requires.few c.in_ok-report.ensures in
-    both_ok c.reported.result (λ (a : Answer). a.status ≡ Done) (λ (a : Answer). a.text ≡ report_text p.nodes p.links p.listed report)
+    both_ok c.reported.result (λ (a : Answer). a.status ≡ Done) (λ (a : Answer). a.text ≡ report_text (known_to p) report)
     (λ (a : Answer). (r : Report) × IsPrintedReport p notes commands r a.text)
     (λ a status text. (report, record { transcript = c.in_ok-report.ensures; clean = accepted.0; bounded = accepted.1; printed = text }))
     c.reported.ensures.status c.reported.ensures.text

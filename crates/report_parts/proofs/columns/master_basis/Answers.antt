@@ -1,4 +1,4 @@
-use Rattle.report_words.specs.KnownNames.{known_in}
+use Rattle.report_words.specs.Contexts.{known_in}
 use Rattle.report_words.specs.ReportWords.{has_room}
 use Rattle.report_parts.proofs.PartsOnline.{master_column_some}
 use Rattle.report_parts.proofs.columns.master_basis.Goals as goal

@@ -1,4 +1,4 @@
-use Rattle.report_words.specs.KnownNames.{known_in}
+use Rattle.report_words.specs.Contexts.{known_in}
 use Rattle.report_parts.proofs.PartsOnline.{routing_some}
 use Rattle.report_parts.proofs.routing.routings.Goals as goal
 

@@ -1,4 +1,4 @@
-use Rattle.report_words.specs.KnownNames.{known_of}
+use Rattle.plan_report.specs.KnownNames.{known_of}
 use Rattle.report_reader.proofs.ReportOnline.{pool_line_some}
 use Rattle.report_reader.proofs.pool.pool.Goals as goal
 

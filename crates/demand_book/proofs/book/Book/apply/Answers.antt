@@ -1,6 +1,3 @@
-use Rattle.std.proofs.Common.{◌≡◌, sym, subst}
-use Rattle.std.specs.Prelude.{IfOk}
-use Rattle.plan_terms.specs.Edits.{edit_reply}
 use Rattle.demand_book.proofs.book.Book.apply.Goals as goal
 
 pub returns-in-Add-clause-answer : goal.returns-in-Add-clause-answer

@@ -1,6 +1,5 @@
-use Rattle.std.proofs.Common.{◌≡◌, ◌+◌, ◌-◌, ◌^◌, ◌<◌, ℕ, true, sym, subst, ◌∙◌, ap, arith}
-use Rattle.std.specs.Prelude.{remove}
-use Rattle.plan_terms.specs.Edits.{is_demand, total_need, without}
+use Rattle.std.proofs.Common.{◌≡◌, ◌-◌, true, sym, subst, ◌∙◌, arith}
+use Rattle.plan_terms.specs.Edits.{is_demand}
 use Rattle.net_core.specs.Demands.{AreDemands}
 use Rattle.demand_book.proofs.Changed.{IsAlone, alone, remove_demands, remove_is, remove_total}
 use Rattle.demand_book.proofs.Replies.{drop_accepted}

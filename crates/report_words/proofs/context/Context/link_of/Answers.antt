@@ -1,4 +1,4 @@
-use Rattle.std.proofs.Common.{ℕ, Option, Some, None, sym, ap, ◌∙◌}
+use Rattle.std.proofs.Common.{ℕ, Option, Some, None, sym, ap}
 use Rattle.text_kit.specs.Names.{found_or}
 use Rattle.report_words.specs.ReportWords.{as_link, unknown_name}
 use Rattle.report_words.proofs.Lookups.{named_in}

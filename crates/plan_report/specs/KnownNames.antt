@@ -4,7 +4,7 @@ use Rattle.net_core.specs.declared.network.Link.{Link}
 use Rattle.net_core.specs.declared.network.Network.{Network}
 use Rattle.net_core.specs.declared.states.Listed.{Listed}
 use Rattle.net_core.specs.declared.states.States.{States}
-use Rattle.report_words.specs.declared.context.Context.{Context}
+use Rattle.net_core.specs.Cases.{Case}
 
 -- the nodes, by their names, the links and the listed states that a report may name
 pub record KnownNames : Type 0 where
@@ -19,6 +19,6 @@ known_as nodes links listed = record { nodes = nodes; links = links; listed = li
 abbrev pub known_of : Network → States → KnownNames
 known_of net states = known_as net.nodes net.links states.listed
 
--- those that a value of the program stands for
-abbrev pub known_in : Context → KnownNames
-known_in c = known_of c.net.now c.states.now
+-- those of a case
+abbrev pub known_to : Case → KnownNames
+known_to p = known_as p.nodes p.links p.listed
