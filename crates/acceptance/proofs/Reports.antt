@@ -13,11 +13,11 @@ use Rattle.plan_terms.specs.Certificates.{AreKept, IsRight}
 use Rattle.plan_types.specs.declared.report.Outcome.{Outcome}
 use Rattle.plan_types.specs.declared.report.Outcome.TheVariants.{Planned, Unsurvivable}
 use Rattle.plan_types.specs.declared.report.Report.{Report}
-use Rattle.cut_pool.specs.Histories.{IsLegalHistory, IsPoolAfter, cut_of_line, cuts_of, demands_left, version_at}
+use Rattle.cut_pool.specs.Histories.{IsLegalHistory, IsPoolAfter, cut_of_line, cuts_of, demands_left, version_at, case_left}
 use Rattle.plan_checker.specs.Order.{HoldNone, HoldsNone}
 use Rattle.plan_checker.specs.Places.{HoldsAt}
 use Rattle.plan_checker.specs.declared.finding.Finding.TheVariants as finding
-use Rattle.report_checker.specs.Journals.{HoldsEntryDiffers, HoldsNotesDiffer, IsOtherEntry, case_after}
+use Rattle.report_checker.specs.Journals.{HoldsEntryDiffers, HoldsNotesDiffer, IsOtherEntry}
 use Rattle.report_checker.specs.Outcomes.{HoldsVersionDiffers, case_at, outcome_findings}
 use Rattle.report_checker.specs.Pools.{HoldsBadCut, HoldsPoolCount, HoldsPoolDiffers, IsBadCut}
 use Rattle.acceptance.specs.Reports.{IsSoundOutcomeOf, SoundReportsAreAccepted}
@@ -65,7 +65,7 @@ module _ (p : Case) (entries : List Entry) (legal : IsLegalHistory p entries) wh
     no_cut (finding.BadCut i) h = no_bad i h.0
     no_cut _ h = h
 
-    no_stale : HoldsNone (HoldsPoolDiffers (case_after p entries) pool)
+    no_stale : HoldsNone (HoldsPoolDiffers (case_left p entries) pool)
     no_stale (finding.PoolDiffers i a b) h =
         let bad = h.0 in
         let right = all_at (λ (l : CutLine). IsRight (Joins (graph_in p l.state.0)) l.lengths (demands_left p entries) l.right) pool i bad.item is.rights bad.at in

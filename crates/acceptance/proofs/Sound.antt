@@ -17,7 +17,7 @@ use Rattle.plan_types.specs.declared.plan.Plan.{Plan}
 use Rattle.plan_types.specs.declared.quality.Fractional.{Fractional}
 use Rattle.plan_types.specs.declared.quality.Quality.TheVariants.{Tight}
 use Rattle.plan_checker.specs.Carried.{HasBadPath, IsOverloaded, IsUncarried}
-use Rattle.plan_checker.specs.Certified.{HasOtherRight, HoldsCostDiffers, IsLocalCut, IsOverpriced}
+use Rattle.plan_checker.specs.Certified.{HasStaleRight, HoldsCostDiffers, IsLocalCut, IsOverpriced}
 use Rattle.plan_checker.specs.Order.{HoldNone, HoldsNone, Kind}
 use Rattle.plan_checker.specs.Places.{HoldsAt}
 use Rattle.plan_checker.specs.PlanFindings.{HoldsDemandsDiffer, plan_case}
@@ -66,7 +66,7 @@ module _ (p : Case) (plan : Plan) (certified : IsCertifiedPlan p plan) where
       (λ lost. lost (line_is_cut k bad.item bad.at).kept)
       bad.holds
 
-  other_right : (k a b : ℕ) → HoldsAt plan.certificate.lines k (λ l. HasOtherRight p l a b) → ⊥
+  other_right : (k a b : ℕ) → HoldsAt plan.certificate.lines k (λ l. HasStaleRight p l.cut a b) → ⊥
   other_right k a b bad =
       let is = line_is_cut k bad.item bad.at in
       bad.holds.differ (sym bad.holds.printed ∙ right_once (Joins (graph_in p bad.item.cut.state.0)) bad.item.cut.lengths p.demands bad.item.cut.right b is.right bad.holds.right)

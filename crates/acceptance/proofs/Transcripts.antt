@@ -17,7 +17,7 @@ use Rattle.plan_types.specs.declared.plan.Plan.{Plan}
 use Rattle.plan_types.specs.declared.report.Outcome.{Outcome}
 use Rattle.plan_types.specs.declared.report.Outcome.TheVariants.{Planned, Unsurvivable}
 use Rattle.plan_types.specs.declared.report.Report.{Report}
-use Rattle.cut_pool.specs.Histories.{cut_of_line, cuts_of, demands_left, version_left}
+use Rattle.cut_pool.specs.Histories.{cut_of_line, cuts_of, demands_left, version_left, case_left}
 use Rattle.separator.specs.Separators.{IsFullHistory, IsSpotIn}
 use Rattle.planner.proofs.Histories.{cuts_both}
 use Rattle.plan_checker.specs.Order.{HoldNone}
@@ -27,7 +27,7 @@ use Rattle.report_checker.specs.ReportFindings.{HasNoFinding, whole_findings}
 use Rattle.session_script.specs.declared.script.Act.{Act}
 use Rattle.session_script.specs.declared.script.Act.TheVariants as acts
 use Rattle.session_script.specs.declared.script.Command.{Command}
-use Rattle.session_run.specs.Transcripts.{IsNamedSeparation, IsOutcomeAfter, IsPlanBetween, IsTranscript, RunsFrom, acts_of, outcome_caller, case_left, outcomes_of}
+use Rattle.session_run.specs.Transcripts.{IsNamedSeparation, IsOutcomeAfter, IsPlanBetween, IsTranscript, RunsFrom, acts_of, outcome_caller, outcomes_of}
 use Rattle.session_run.proofs.OutcomeForms.{kept_one}
 use Rattle.acceptance.specs.Reports.{IsSoundPlanOf, IsSoundRefusalOf}
 use Rattle.acceptance.specs.Transcripts.{IsBelowAllAble, TranscriptsAreAccepted}

@@ -34,6 +34,10 @@ demands_left p entries = (left_by p.nodes (record { demands = p.demands; version
 abbrev pub version_left : Case → List Entry → ℕ
 version_left p entries = (left_by p.nodes (record { demands = p.demands; version = 0 }) entries).version
 
+-- the case with the demands that entries leave
+abbrev pub case_left : Case → List Entry → Case
+case_left p entries = record { nodes = p.nodes; links = p.links; listed = p.listed; demands = demands_left p entries }
+
 -- the demands and the version after the first n entries of a history
 abbrev pub demands_at : Case → List Entry → ℕ → List Demand
 demands_at p entries n = demands_left p (take n entries)

@@ -5,7 +5,7 @@ use Rattle.module_prices.specs.declared.cheapest.UnitPair.{UnitPair}
 use Rattle.net_core.specs.declared.columns.MasterColumn.{MasterColumn}
 use Rattle.net_core.specs.declared.columns.MasterColumn.TheVariants.{Metric}
 use Rattle.net_core.specs.declared.columns.WideKind.{WideKind}
-use Rattle.net_core.specs.declared.columns.WideKind.TheVariants.{Number, Row, Product, Sum, Common, Value, Length}
+use Rattle.net_core.specs.declared.columns.WideKind.TheVariants.{Number, Value}
 use Rattle.net_core.specs.declared.network.Link.{Link}
 use Rattle.net_core.specs.declared.plan.CutLine.{CutLine}
 use Rattle.simplex_law.specs.Sums.{int_sum}
@@ -51,6 +51,7 @@ module _ (links : List Link) (pairs : List UnitPair) (cuts : List CutLine) where
     pub best : IsBest (length links) (master_bound pairs) (IsMasterColumn links pairs cuts) basis duals den
     pub wide : (amounts : ℕ → ℤ) (common : ℕ) → IsRowsDenominator basis common → FillRows basis amounts common → AreWideAmounts basis amounts
 
+  -- a kind holds of a basis of cuts as of each packing program
   abbrev HoldsOfProgram : (ℕ → ColumnOf MasterColumn) → WideKind MasterColumn → Type 0
   HoldsOfProgram = HoldsKind (length links) (master_bound pairs) master_slack (IsMasterColumn links pairs cuts)
 
@@ -61,12 +62,8 @@ module _ (links : List Link) (pairs : List UnitPair) (cuts : List CutLine) where
   -- a kind holds of a basis of cuts: as of each packing program, Number also for a wide right side, and Value where a number of the certificate is too wide
   abbrev pub HoldsOfMaster : (ℕ → ColumnOf MasterColumn) → WideKind MasterColumn → Type 0
   HoldsOfMaster basis (Number name) = HoldsOfProgram basis (Number name) ⊎ HoldsRight basis name
-  HoldsOfMaster basis (Row i) = HoldsOfProgram basis (Row i)
-  HoldsOfMaster basis (Product i name) = HoldsOfProgram basis (Product i name)
-  HoldsOfMaster basis (Sum i) = HoldsOfProgram basis (Sum i)
-  HoldsOfMaster basis Common = HoldsOfProgram basis Common
   HoldsOfMaster basis Value = HasWideValue basis
-  HoldsOfMaster basis (Length link) = ⊥
+  HoldsOfMaster basis kind = HoldsOfProgram basis kind
 
   -- evidence of the master program that holds, of a basis that gaining steps reach
   abbrev pub IsMasterEvidence : List MasterColumn → WideKind MasterColumn → Type 0

@@ -10,12 +10,12 @@ use Rattle.plan_types.specs.Plans.{lines_of_certificate}
 use Rattle.plan_types.specs.declared.plan.Plan.{Plan}
 use Rattle.plan_types.specs.declared.certificate.CertLine.{CertLine}
 use Rattle.plan_checker.specs.Carried.{HasBadPath, HoldsBadPath, HoldsNotCarried, HoldsOverloaded, IsOverloaded, IsUncarried}
-use Rattle.plan_checker.specs.Certified.{HasOtherRight, HoldsBoundDiffers, HoldsCertificateWide, HoldsLocalCut, HoldsRawDiffers, HoldsPriceExceeded, HoldsRightDiffers, IsLocalCut, IsOverpriced}
+use Rattle.plan_checker.specs.Certified.{HasStaleRight, HoldsBoundDiffers, HoldsCertificateWide, HoldsLocalCut, HoldsRawDiffers, HoldsPriceExceeded, HoldsRightDiffers, IsLocalCut, IsOverpriced}
 use Rattle.plan_checker.specs.Order.{HoldsNone}
 use Rattle.plan_checker.specs.Places.{HoldsAt}
 use Rattle.plan_checker.specs.declared.finding.Finding.TheVariants.{BadPath, NotCarried, Overloaded, LocalCut, RightDiffers, PriceExceeded, CertificateWide, RawDiffers, BoundDiffers}
 
-pub no_right : (p : Case) (lines : List CertLine) → ((i x y : ℕ) → HoldsAt lines i (λ l. HasOtherRight p l x y) → ⊥) → HoldsNone (HoldsRightDiffers p lines)
+pub no_right : (p : Case) (lines : List CertLine) → ((i x y : ℕ) → HoldsAt lines i (λ l. HasStaleRight p l.cut x y) → ⊥) → HoldsNone (HoldsRightDiffers p lines)
 no_right p lines none (RightDiffers i a b) h = none i a b h.0
 no_right p lines none _ h = h
 

@@ -25,7 +25,7 @@ HasBadPath p routings s f = HoldsAt routings s (λ r. HoldsAt r.flows f (λ flow
 abbrev pub IsUncarried : Case → ℕ → List Routing → ℕ → ℕ → Type 0
 IsUncarried p scale routings s k = HoldsAt routings s (λ r. HoldsAt p.demands k (λ d. sent r.flows k ≢ d.need * scale * r.den))
 
--- the flows over link e are more than its capacity in state s; each link has a capacity, over one scale
+-- the flows over link e are more than its capacity in state s, both at the scale that the needs are taken at
 abbrev pub IsOverloaded : List ℕ → List Routing → ℕ → ℕ → Type 0
 IsOverloaded nums routings s e = HoldsAt routings s (λ r. HoldsAt nums e (λ n. n * r.den < load r.flows e))
 

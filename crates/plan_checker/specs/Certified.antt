@@ -1,5 +1,6 @@
 -- findings on the cost of a plan, on its certificate and on its bound
 use Rattle.std.specs.Prelude.{◌≡◌, ◌≢◌, ℕ, ◌*◌, ◌^◌, ◌<◌, ◌≤◌, ◌⊎◌, Bool, false, List}
+use Rattle.net_core.specs.declared.plan.CutLine.{CutLine}
 use Rattle.net_core.specs.Cases.{Case, graph_in}
 use Rattle.net_core.specs.Graphs.{Joins}
 use Rattle.net_core.specs.declared.network.Link.{Link}
@@ -29,15 +30,15 @@ HoldsLocalCut p full lines (LocalCut i) = IsLeastPlace (λ k. HoldsAt lines k (I
 HoldsLocalCut p full lines _ = ⊥
 
 -- the line has one right side, and its cut has the other at the demands
-pub record HasOtherRight (p : Case) (l : CertLine) (a b : ℕ) : Type 0 where
-  pub printed : l.cut.right ≡ a
-  pub right : IsRight (Joins (graph_in p l.cut.state.0)) l.cut.lengths p.demands b
+pub record HasStaleRight (p : Case) (line : CutLine) (a b : ℕ) : Type 0 where
+  pub printed : line.right ≡ a
+  pub right : IsRight (Joins (graph_in p line.state.0)) line.lengths p.demands b
   pub differ : a ≢ b
 
 -- the first such line
 abbrev pub HoldsRightDiffers : Case → List CertLine → Finding → Type 0
 HoldsRightDiffers p lines (RightDiffers i a b) =
-    HoldsAt lines i (λ l. HasOtherRight p l a b) × ((j : ℕ) (x y : ℕ) → j < i → HoldsAt lines j (λ l. HasOtherRight p l x y) → ⊥)
+    HoldsAt lines i (λ l. HasStaleRight p l.cut a b) × ((j : ℕ) (x y : ℕ) → j < i → HoldsAt lines j (λ l. HasStaleRight p l.cut x y) → ⊥)
 HoldsRightDiffers p lines _ = ⊥
 
 -- the price of module m of link e is more than its cost

@@ -15,7 +15,7 @@ use Rattle.net_core.specs.declared.journal.Edit.{Edit}
 use Rattle.net_core.specs.declared.journal.Entry.{Entry}
 use Rattle.net_core.specs.declared.journal.Entry.TheVariants.{Edited, Pooled}
 use Rattle.net_core.specs.declared.journal.Reply.{Reply}
-use Rattle.net_core.specs.declared.journal.Reply.TheVariants.{Accepted, UnknownDemand, KnownDemand, UnknownNode, SelfDemand, TooMany, TooMuch}
+use Rattle.net_core.specs.declared.journal.Reply.TheVariants.{Accepted, TooMuch}
 use Rattle.net_core.specs.declared.network.Link.{Link}
 use Rattle.net_core.specs.declared.plan.Caps.{Caps}
 use Rattle.net_core.specs.declared.plan.CutLine.{CutLine}
@@ -203,12 +203,8 @@ line_lengths (Some line) = line.lengths
 -- a version is at most 65,536, and a total below 2^45 thousandths
 abbrev pub IsReplyInForm : Reply → Type 0
 IsReplyInForm (Accepted version) = version ≤ 65536
-IsReplyInForm UnknownDemand = Unit {0}
-IsReplyInForm KnownDemand = Unit {0}
-IsReplyInForm UnknownNode = Unit {0}
-IsReplyInForm SelfDemand = Unit {0}
-IsReplyInForm TooMany = Unit {0}
 IsReplyInForm (TooMuch total) = total < 2 ^ 45
+IsReplyInForm _ = Unit {0}
 
 -- the edit of a caller from 1 to 8, and its reply
 pub record IsEditedInForm (caller : ℕ) (edit : Edit) (reply : Reply) : Type 0 where

@@ -12,6 +12,7 @@ pub record KnownNames : Type 0 where
   pub links : List Link
   pub listed : List Listed
 
+-- the record of these lists
 abbrev pub known_as : List (List ℕ) → List Link → List Listed → KnownNames
 known_as nodes links listed = record { nodes = nodes; links = links; listed = listed }
 

@@ -1,7 +1,6 @@
--- edits of demands: what each is edit_reply, and the demands after it
-use Rattle.std.specs.Prelude.{ℕ, ◌+◌, ◌-◌, ◌^◌, List, [], ◌∷◌, ◌++◌, Bool, Option, None, Some, cond, filter, length, map, min, nat_le, nat_lt, not, ◌==◌, ◌&&◌, ◌||◌, position, sum_by, unwrap_or}
+-- edits of demands: what each is answered, and the demands after it
+use Rattle.std.specs.Prelude.{ℕ, ◌+◌, ◌-◌, ◌^◌, List, [], ◌∷◌, ◌++◌, Bool, Option, None, Some, cond, filter, length, map, min, nat_le, nat_lt, not, ◌&&◌, position, sum_by, unwrap_or}
 use Rattle.net_core.specs.declared.demand.Demand.{Demand}
-use Rattle.net_core.specs.declared.ids.NodeId.{NodeId}
 use Rattle.net_core.specs.declared.journal.Edit.{Edit}
 use Rattle.net_core.specs.declared.journal.Edit.TheVariants.{Set, Add, Drop}
 use Rattle.net_core.specs.declared.journal.Reply.{Reply}
@@ -55,7 +54,7 @@ abbrev pub added : List Demand → ℕ → Demand → Option Reply → Answered
 added demands version new (Some fault) = (fault, demands)
 added demands version new None = within_total demands version (demands ++ new ∷ [])
 
--- what an edit is edit_reply where these are the nodes, the demands and their version
+-- what an edit is answered where these are the nodes, the demands and their version
 abbrev pub edit_reply : List (List ℕ) → List Demand → ℕ → Edit → Answered
 edit_reply nodes demands version (Set name need) =
     cond (is_demand name demands) (within_total demands version (set_need name need demands)) (UnknownDemand, demands)
@@ -68,12 +67,7 @@ edit_reply nodes demands version (Add name from to need) =
 -- the version after a reply
 abbrev pub version_after : ℕ → Reply → ℕ
 version_after version (Accepted next) = next
-version_after version UnknownDemand = version
-version_after version KnownDemand = version
-version_after version UnknownNode = version
-version_after version SelfDemand = version
-version_after version TooMany = version
-version_after version (TooMuch total) = version
+version_after version _ = version
 
 -- the need that an edit names
 abbrev pub edit_need : Edit → ℕ

@@ -1,5 +1,5 @@
 -- capacities that a metric inequality shows to be too small
-use Rattle.std.specs.Prelude.{ℕ, ◌*◌, ◌<◌, sum_by, zip}
+use Rattle.std.specs.Prelude.{◌*◌, ◌<◌, sum_by, zip}
 use Rattle.net_core.specs.declared.plan.Caps.{Caps}
 use Rattle.net_core.specs.declared.plan.CutLine.{CutLine}
 

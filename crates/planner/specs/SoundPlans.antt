@@ -22,11 +22,11 @@ pub record IsOwnAtMost (p : Case) (bound s : ℕ) (lengths : List ℕ) : Type 0 
   pub is_own : IsOwnBound p.links lengths right own
   pub at_most : own ≤ bound
 
--- so each of these cuts
+-- each of these cuts has an own bound of at most this bound
 abbrev pub AreOwnAtMost : Case → ℕ → List (ℕ × List ℕ) → Type 0
 AreOwnAtMost p bound cuts = All (λ cut. IsOwnAtMost p bound cut.0 cut.1) cuts
 
--- and so each opening cut of state s
+-- each opening cut of state s has one of at most this bound
 pub record AreOpeningAtMost (p : Case) (bound s : ℕ) : Type 0 where
   pub lengths : List (List ℕ)
   pub opening : AreOpening (graph_in p s) lengths

@@ -15,10 +15,6 @@ abbrev pub HoldsNotesDiffer : Notes → Notes → Finding → Type 0
 HoldsNotesDiffer own printed NotesDiffer = printed ≢ own
 HoldsNotesDiffer own printed _ = ⊥
 
--- the case with the demands that entries leave
-abbrev pub case_after : Case → List Entry → Case
-case_after p entries = record { nodes = p.nodes; links = p.links; listed = p.listed; demands = demands_left p entries }
-
 -- the entry has another reply than that after these entries, or another index than the next
 abbrev pub IsOtherEntry : Case → List Entry → Entry → Type 0
 IsOtherEntry p before (Edited caller edit reply) = (edit_reply p.nodes (demands_left p before) (version_left p before) edit).0 ≢ reply

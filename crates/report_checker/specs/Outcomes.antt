@@ -6,16 +6,15 @@ use Rattle.plan_terms.specs.Separations.{Separates}
 use Rattle.plan_types.specs.declared.report.Outcome.{Outcome}
 use Rattle.plan_types.specs.declared.report.Outcome.TheVariants.{Planned, Unsurvivable}
 use Rattle.plan_types.specs.declared.report.Report.{Report}
-use Rattle.cut_pool.specs.Histories.{version_at}
+use Rattle.cut_pool.specs.Histories.{version_at, case_left}
 use Rattle.plan_checker.specs.Order.{Kind}
 use Rattle.plan_checker.specs.PlanFindings.{IsAcceptedPlan, plan_findings}
 use Rattle.plan_checker.specs.declared.finding.Finding.{Finding}
-use Rattle.report_checker.specs.Journals.{case_after}
 use Rattle.plan_checker.specs.declared.finding.Finding.TheVariants.{Survivable, VersionDiffers}
 
 -- the case with the demands at a position of the journal
 abbrev pub case_at : Case → List Entry → ℕ → Case
-case_at p entries position = case_after p (take position entries)
+case_at p entries position = case_left p (take position entries)
 
 -- the version isn't the number of edits that were accepted up to the position, or the position is past the journal
 abbrev pub HoldsVersionDiffers : Case → List Entry → ℕ → ℕ → Finding → Type 0

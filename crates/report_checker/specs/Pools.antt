@@ -3,12 +3,12 @@ use Rattle.std.specs.Prelude.{◌≡◌, ◌≢◌, ℕ, ◌<◌, ◌⊎◌, Lis
 use Rattle.net_core.specs.declared.journal.Entry.{Entry}
 use Rattle.net_core.specs.declared.plan.CutLine.{CutLine}
 use Rattle.net_core.specs.Cases.{Case, graph_in}
-use Rattle.net_core.specs.Graphs.{Joins}
-use Rattle.plan_terms.specs.Certificates.{AreKept, IsRight}
+use Rattle.plan_terms.specs.Certificates.{AreKept}
 use Rattle.cut_pool.specs.Histories.{cut_of_line, cuts_of}
 use Rattle.plan_checker.specs.Places.{HoldsAt, IsLeastPlace}
 use Rattle.plan_checker.specs.declared.finding.Finding.{Finding}
 use Rattle.plan_checker.specs.declared.finding.Finding.TheVariants.{BadCut, PoolCount, PoolDiffers}
+use Rattle.plan_checker.specs.Certified.{HasStaleRight}
 
 -- the pool has another number of lines than the journal has cuts
 abbrev pub HoldsPoolCount : List Entry → List CutLine → Finding → Type 0
@@ -25,12 +25,6 @@ IsBadCut p pool k line =
 abbrev pub HoldsBadCut : Case → List CutLine → Finding → Type 0
 HoldsBadCut p pool (BadCut i) = IsLeastPlace (λ k. HoldsAt pool k (IsBadCut p pool k)) i
 HoldsBadCut p pool _ = ⊥
-
--- the line has one right side, and its cut has the other at the demands
-pub record HasStaleRight (p : Case) (line : CutLine) (a b : ℕ) : Type 0 where
-  pub printed : line.right ≡ a
-  pub right : IsRight (Joins (graph_in p line.state.0)) line.lengths p.demands b
-  pub differ : a ≢ b
 
 -- the first such line
 abbrev pub HoldsPoolDiffers : Case → List CutLine → Finding → Type 0

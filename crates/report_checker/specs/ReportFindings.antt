@@ -8,9 +8,10 @@ use Rattle.plan_checker.specs.Places.{HoldsAt}
 use Rattle.plan_checker.specs.declared.finding.CheckAnswer.{CheckAnswer}
 use Rattle.plan_checker.specs.declared.finding.CheckAnswer.TheVariants.{Accepted, NoMemory, Rejected}
 use Rattle.plan_checker.specs.declared.finding.Finding.{Finding}
-use Rattle.report_checker.specs.Journals.{HoldsEntryDiffers, HoldsNotesDiffer, case_after}
+use Rattle.report_checker.specs.Journals.{HoldsEntryDiffers, HoldsNotesDiffer}
 use Rattle.report_checker.specs.Outcomes.{outcome_findings}
 use Rattle.report_checker.specs.Pools.{HoldsBadCut, HoldsPoolCount, HoldsPoolDiffers}
+use Rattle.cut_pool.specs.Histories.{case_left}
 
 -- the kinds of findings on the whole report, where these are the network's notes, and the case has the opening demands
 abbrev pub whole_findings : Notes → Case → Report → List Kind
@@ -19,7 +20,7 @@ whole_findings notes p r =
     ∷ HoldsEntryDiffers p r.entries
     ∷ HoldsPoolCount r.entries r.pool
     ∷ HoldsBadCut p r.pool
-    ∷ HoldsPoolDiffers (case_after p r.entries) r.pool
+    ∷ HoldsPoolDiffers (case_left p r.entries) r.pool
     ∷ []
 
 -- no finding holds of the report

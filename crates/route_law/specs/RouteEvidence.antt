@@ -2,7 +2,7 @@
 use Rattle.std.specs.Prelude.{ℕ, ℤ, ◌^◌, ◌≤◌, ◌*ℤ◌, ◌<ℤ◌, List, pos, length, slice_index}
 use Rattle.net_core.specs.declared.columns.RouteColumn.{RouteColumn}
 use Rattle.net_core.specs.declared.columns.WideKind.{WideKind}
-use Rattle.net_core.specs.declared.columns.WideKind.TheVariants.{Number, Row, Product, Sum, Common, Value, Length}
+use Rattle.net_core.specs.declared.columns.WideKind.TheVariants.{Length}
 use Rattle.net_core.specs.declared.demand.Demand.{Demand}
 use Rattle.net_core.specs.declared.plan.Caps.{Caps}
 use Rattle.net_core.specs.Graphs.{Graph}
@@ -24,18 +24,10 @@ module _ (g : Graph) (demands : List Demand) (caps : Caps) where
     pub prices : AreLinkPrices (length g.links) duals lengths
     pub wide : 2 ^ 32 ≤ slice_index lengths e
 
-  abbrev HoldsOfProgram : (ℕ → ColumnOf RouteColumn) → WideKind RouteColumn → Type 0
-  HoldsOfProgram = HoldsKind (route_rows g demands) (route_bound g demands caps) (route_slack g) (IsRouteColumn g demands)
-
   -- a kind holds of a basis that routes: as of each packing program, and Length where a link price is too wide
   abbrev pub HoldsOfRoute : (ℕ → ColumnOf RouteColumn) → WideKind RouteColumn → Type 0
-  HoldsOfRoute basis (Number name) = HoldsOfProgram basis (Number name)
-  HoldsOfRoute basis (Row i) = HoldsOfProgram basis (Row i)
-  HoldsOfRoute basis (Product i name) = HoldsOfProgram basis (Product i name)
-  HoldsOfRoute basis (Sum i) = HoldsOfProgram basis (Sum i)
-  HoldsOfRoute basis Common = HoldsOfProgram basis Common
-  HoldsOfRoute basis Value = ⊥
   HoldsOfRoute basis (Length link) = HasWideLength basis link.0
+  HoldsOfRoute basis kind = HoldsKind (route_rows g demands) (route_bound g demands caps) (route_slack g) (IsRouteColumn g demands) basis kind
 
   -- evidence of the routing program that holds, of a basis that gaining steps reach
   abbrev pub IsRouteEvidence : List RouteColumn → WideKind RouteColumn → Type 0

@@ -19,10 +19,10 @@ use Rattle.text_kit.proofs.Adding.{writable}
 use Rattle.text_kit.proofs.Amounts.{amount_again, number_takes}
 use Rattle.text_kit.proofs.Files.{written_is_read}
 use Rattle.text_kit.proofs.Numerals.{money_again}
-use Rattle.sndlib_reader.specs.Paths.{section_items}
 use Rattle.sndlib_reader.specs.Spelling.{IsPartAfter, IsShortLink, NodeName, NodePart, Spells, SpellsDemand, SpellsPart, SpellsParts, header, link_items, notes_of, parts_of}
 use Rattle.sample_net.specs.Texts.{HasWritableNotes, costless, costless_items, network_items, unit_demand_items}
 use Rattle.sndlib_reader.proofs.Nodes.{all_names}
+use Rattle.text_kit.specs.Edits.{section}
 
 -- what is told of a network's check is so
 network_told : (nodes : List (List ℕ)) (links : List Link) → ∥ IsNetwork nodes links ∥₁ → IsNetwork nodes links
@@ -39,7 +39,7 @@ short_after [] js all = all
 short_after (i ∷ is) js all = short_after is js all.1
 
 -- what stands in a section, and what comes after it
-inside_section : (word : List ℕ) (inside rest : List Item) → AllByRecursion IsShortItem (section_items word inside ++ rest) → AllByRecursion IsShortItem inside × AllByRecursion IsShortItem rest
+inside_section : (word : List ℕ) (inside rest : List Item) → AllByRecursion IsShortItem (section word inside ++ rest) → AllByRecursion IsShortItem inside × AllByRecursion IsShortItem rest
 inside_section word inside rest all = (
   short_before inside (Closing ∷ []) (short_before (inside ++ Closing ∷ []) rest all.1.1),
   short_after (inside ++ Closing ∷ []) rest all.1.1,
@@ -136,8 +136,8 @@ text_spells net demands text notes belong added =
     let node_items : List Item = flat_map (λ n. Verbatim n ∷ []) nodes in
     let link_list : List Item = flat_map (costless_items nodes) links in
     let demand_list : List Item = flat_map (unit_demand_items nodes) demands in
-    let first = inside_section (codes "NODES") node_items (section_items (codes "LINKS") link_list ++ section_items (codes "DEMANDS") demand_list) added.each in
-    let second = inside_section (codes "LINKS") link_list (section_items (codes "DEMANDS") demand_list) first.1 in
+    let first = inside_section (codes "NODES") node_items (section (codes "LINKS") link_list ++ section (codes "DEMANDS") demand_list) added.each in
+    let second = inside_section (codes "LINKS") link_list (section (codes "DEMANDS") demand_list) first.1 in
     let third = short_before demand_list (Closing ∷ []) second.1.1.1 in
     let spelled : SpellsParts (parts_of net, demands) (network_items nodes links demands) = record {
       meta = [];
@@ -146,8 +146,8 @@ text_spells net demands text notes belong added =
       links = map costless links;
       demand_items = demand_list;
       paths = [];
-      items_are = ap (λ (is : List Item). section_items (codes "NODES") node_items ++ (section_items (codes "LINKS") is ++ section_items (codes "DEMANDS") demand_list)) (links_spelled nodes links)
-          ∙ ap (λ (is : List Item). section_items (codes "NODES") node_items ++ (section_items (codes "LINKS") (flat_map (link_items nodes) (map costless links)) ++ is)) (sym (append-nil (section_items (codes "DEMANDS") demand_list)));
+      items_are = ap (λ (is : List Item). section (codes "NODES") node_items ++ (section (codes "LINKS") is ++ section (codes "DEMANDS") demand_list)) (links_spelled nodes links)
+          ∙ ap (λ (is : List Item). section (codes "NODES") node_items ++ (section (codes "LINKS") (flat_map (link_items nodes) (map costless links)) ++ is)) (sym (append-nil (section (codes "DEMANDS") demand_list)));
       meta_is = inl refl;
       parts_are = nodes_spelled nodes;
       parts_in_order = nodes_in_order [] nodes first.0;

@@ -5,10 +5,10 @@ use Rattle.net_core.specs.declared.demand.Demand.{Demand}
 use Rattle.net_core.specs.declared.network.Link.{Link}
 use Rattle.net_core.specs.declared.network.Network.{Network}
 use Rattle.sndlib_reader.specs.declared.costs.CostedLink.{CostedLink}
-use Rattle.sndlib_reader.specs.Paths.{section_items}
 use Rattle.sndlib_reader.specs.Spelling.{node_pair_items, header, link_items}
 use Rattle.text_kit.specs.Items.{Item, Verbatim}
 use Rattle.text_kit.specs.Written.{money_word, written}
+use Rattle.text_kit.specs.Edits.{section}
 
 -- A file can be written that gives these notes: the costs that links keep are those of modules and of setup.
 pub record HasWritableNotes (net : Network) : Type 0 where
@@ -32,8 +32,8 @@ unit_demand_items nodes d =
 -- the sections of nodes, links and demands
 abbrev pub network_items : List (List ℕ) → List Link → List Demand → List Item
 network_items nodes links demands =
-    section_items (codes "NODES") (flat_map (λ n. Verbatim n ∷ []) nodes)
-    ++ (section_items (codes "LINKS") (flat_map (costless_items nodes) links) ++ section_items (codes "DEMANDS") (flat_map (unit_demand_items nodes) demands))
+    section (codes "NODES") (flat_map (λ n. Verbatim n ∷ []) nodes)
+    ++ (section (codes "LINKS") (flat_map (costless_items nodes) links) ++ section (codes "DEMANDS") (flat_map (unit_demand_items nodes) demands))
 
 -- the text of a network: the first line, and after it the sections as they are written
 abbrev pub network_text : Network → List Demand → List ℕ

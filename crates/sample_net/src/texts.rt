@@ -3,10 +3,10 @@ ghost use Rattle.std.specs.List.{list_any};
 ghost use Rattle.net_core.specs.Demands.{AreDemands, IsDemand};
 ghost use Rattle.net_core.specs.Network.{IsLink};
 ghost use Rattle.text_kit.specs.Items.{Verbatim};
-ghost use Rattle.sndlib_reader.specs.Paths.{section_items};
 ghost use Rattle.sndlib_reader.specs.Spelling.{Spells, node_pair_items, module_items};
 ghost use Rattle.sample_net.specs.Texts.{HasWritableNotes, costless_items, network_items, network_text, unit_demand_items};
 ghost use Rattle.text_kit.specs.Written.{AddsItems};
+ghost use Rattle.text_kit.specs.Edits.{section};
 
 use net_core::{Bytes, Demand, Demands, Link, Module, Name, Network, NoMemory, NodeId};
 use std::alloc::Global;
@@ -17,7 +17,7 @@ const HEADER: &[u8] = b"?SNDlib native format; type: network; version: 1.0\n";
 
 /// Puts the section of nodes last.
 fn put_nodes(text: &mut Bytes, nodes: &[Name]) -> Result<(), NoMemory>
-    ensures { OnOk result (AddsItems text.old (section_items (codes "NODES") (flat_map (λ n. Verbatim n ∷ []) nodes.now)) text.new) }
+    ensures { OnOk result (AddsItems text.old (section (codes "NODES") (flat_map (λ n. Verbatim n ∷ []) nodes.now)) text.new) }
 {
     put_section(text, b"NODES")?;
     for node in nodes {
@@ -71,7 +71,7 @@ fn put_link(text: &mut Bytes, nodes: &[Name], link: &Link) -> Result<(), NoMemor
 /// Puts the section of links last.
 fn put_links(text: &mut Bytes, nodes: &[Name], links: &[Link]) -> Result<(), NoMemory>
     requires { All (IsLink (length nodes.now)) links.now }
-    ensures { OnOk result (AddsItems text.old (section_items (codes "LINKS") (flat_map (costless_items nodes.now) links.now)) text.new) }
+    ensures { OnOk result (AddsItems text.old (section (codes "LINKS") (flat_map (costless_items nodes.now) links.now)) text.new) }
 {
     put_section(text, b"LINKS")?;
     for link in links {
@@ -95,7 +95,7 @@ fn put_demand(text: &mut Bytes, nodes: &[Name], demand: &Demand) -> Result<(), N
 /// Puts the section of demands last.
 fn put_demands(text: &mut Bytes, nodes: &[Name], demands: &[Demand]) -> Result<(), NoMemory>
     requires { All (IsDemand (length nodes.now)) demands.now }
-    ensures { OnOk result (AddsItems text.old (section_items (codes "DEMANDS") (flat_map (unit_demand_items nodes.now) demands.now)) text.new) }
+    ensures { OnOk result (AddsItems text.old (section (codes "DEMANDS") (flat_map (unit_demand_items nodes.now) demands.now)) text.new) }
 {
     put_section(text, b"DEMANDS")?;
     for demand in demands {

@@ -19,7 +19,7 @@ use Rattle.plan_rounds.specs.WorkedRounds.{IsWorkedPool}
 use Rattle.cut_pool.specs.declared.board.Board.{Board}
 use Rattle.cut_pool.specs.declared.snapshot.Snapshot.{Snapshot}
 use Rattle.cut_pool.specs.Boards.{IsSnapshotOf, opening_case, origin_of}
-use Rattle.cut_pool.specs.Histories.{cuts_of}
+use Rattle.cut_pool.specs.Histories.{cuts_of, case_left}
 use Rattle.separator.specs.Separators.{SeesMore}
 use Rattle.planner.specs.declared.answer.PlanAnswer.{PlanAnswer}
 use Rattle.planner.specs.declared.answer.PlanAnswer.TheVariants.{Planned, NotSurvivable}
@@ -31,7 +31,7 @@ use Rattle.board_desk.specs.declared.caller.Caller.{Caller}
 use Rattle.board_desk.specs.Turns.{AreAtOneDesk, HasTurn, board_made}
 use Rattle.separation_workers.specs.Places.{own_items}
 use Rattle.session_run.specs.declared.plans.Asked.{Asked}
-use Rattle.session_run.specs.Transcripts.{IsOutcomeAfter, IsPlanned, case_left}
+use Rattle.session_run.specs.Transcripts.{IsOutcomeAfter, IsPlanned}
 use Rattle.session_run.specs.inner.Turns.{IsOutcomeFor, IsSnapshotHere, NamesDemand, PlansAt, PlansSince}
 use Rattle.session_run.proofs.Turns.{own_same}
 

@@ -17,11 +17,11 @@ use Rattle.plan_report.specs.KnownNames.{known_of, known_to}
 use Rattle.plan_report.specs.Forms.{IsReportInForm}
 use Rattle.cut_pool.specs.declared.board.Board.{Board}
 use Rattle.cut_pool.specs.Boards.{opening_case}
-use Rattle.cut_pool.specs.Histories.{IsLegalHistory, IsPoolAfter, cut_of_line, cuts_of}
+use Rattle.cut_pool.specs.Histories.{IsLegalHistory, IsPoolAfter, cut_of_line, cuts_of, case_left}
 use Rattle.planner.proofs.Histories.{board_few}
 use Rattle.session_script.specs.declared.script.Command.{Command}
 use Rattle.session_script.specs.Scripts.{IsScript}
-use Rattle.session_run.specs.Transcripts.{IsPlanned, IsTranscript, RunsFrom, acts_of, outcome_caller, case_left, outcomes_of, position_of}
+use Rattle.session_run.specs.Transcripts.{IsPlanned, IsTranscript, RunsFrom, acts_of, outcome_caller, outcomes_of, position_of}
 use Rattle.session_run.specs.inner.Ranges.{HasShortLengths, IsShortNamed}
 use Rattle.session_run.specs.inner.Running.{HaveRun}
 use Rattle.session_run.proofs.FormProps.{report_prop}

@@ -15,7 +15,7 @@ use Rattle.plan_types.specs.declared.report.Report.{Report}
 use Rattle.plan_report.specs.KnownNames.{known_to}
 use Rattle.plan_report.specs.Forms.{IsReportInForm}
 use Rattle.cut_pool.specs.declared.snapshot.Snapshot.{Snapshot}
-use Rattle.cut_pool.specs.Histories.{IsLegalHistory, IsPoolAfter, demands_left, version_left}
+use Rattle.cut_pool.specs.Histories.{IsLegalHistory, IsPoolAfter, demands_left, version_left, case_left}
 use Rattle.session_script.specs.declared.script.Act.{Act}
 use Rattle.session_script.specs.declared.script.Act.TheVariants as acts
 use Rattle.session_script.specs.declared.script.Command.{Command}
@@ -63,10 +63,6 @@ pub record IsOnePlan (commands : List Command) : Type 0 where
   pub plans : command.act ≡ acts.Plan
 
 -- ---- outcomes at their places
-
--- the case with the demands that entries leave
-abbrev pub case_left : Case → List Entry → Case
-case_left p entries = record { nodes = p.nodes; links = p.links; listed = p.listed; demands = demands_left p entries }
 
 -- the snapshot of the entries: their number, and the version, the demands and the pool that they leave
 pub record IsSnapshotLeft (p : Case) (entries : List Entry) (snapshot : Snapshot) : Type 0 where

@@ -46,10 +46,7 @@ verb_of w =
 -- a plan after fewer than 64 others, or an edit
 abbrev pub verb_within : Bool → Result Verb ScriptKind → Result Verb ScriptKind
 verb_within room (Ok verbs.Plan) = if room then Ok verbs.Plan else Err LimitPlans
-verb_within room (Ok verbs.Set) = Ok verbs.Set
-verb_within room (Ok verbs.Add) = Ok verbs.Add
-verb_within room (Ok verbs.Drop) = Ok verbs.Drop
-verb_within room (Err kind) = Err kind
+verb_within room verb = verb
 
 -- what a word asks for after earlier commands
 abbrev pub verb_after : List Command → List ℕ → Result Verb ScriptKind

@@ -3,7 +3,7 @@ use Rattle.std.specs.Prelude.{ℕ, ℤ, List, pos, ◌≡◌, ◌<◌, ◌≤◌
 use Rattle.std.specs.Int.{◌∣◌}
 use Rattle.checked_fraction.specs.Rows.{IsInLowestTerms}
 use Rattle.net_core.specs.declared.columns.WideKind.{WideKind}
-use Rattle.net_core.specs.declared.columns.WideKind.TheVariants.{Number, Row, Product, Sum, Common, Value, Length}
+use Rattle.net_core.specs.declared.columns.WideKind.TheVariants.{Number, Row, Product, Sum, Common}
 use Rattle.net_core.specs.Sums.{sum_below}
 use Rattle.simplex_law.specs.Sums.{dot, unit_vector}
 use Rattle.simplex_law.specs.Programs.{ColumnOf, slack_basis}
@@ -48,16 +48,14 @@ module _ {N : Type 0} (rows : ℕ) (bound : ℕ → ℤ) (slack : ℕ → N) (is
   abbrev pub HoldsNumber : (ℕ → ColumnOf N) → N → Type 0
   HoldsNumber basis name = ((j : ℕ) → j < rows → basis j ≡ slack_basis slack j) × HasWideNumber name
 
-  -- a kind holds of a basis of a packing program; Value and Length mean something of some programs alone, which say what, and
-  -- Number of a cut holds also where its right side is wide
+  -- a kind holds of a basis of a packing program; Value and Length mean something of some programs alone, which say what
   abbrev pub HoldsKind : (ℕ → ColumnOf N) → WideKind N → Type 0
   HoldsKind basis (Number name) = HoldsNumber basis name
   HoldsKind basis (Row i) = HoldsRow rows basis i
   HoldsKind basis (Product i name) = HoldsProduct rows is_column basis i name
   HoldsKind basis (Sum i) = HoldsSum rows bound basis i
   HoldsKind basis Common = HoldsCommon rows basis
-  HoldsKind basis Value = ⊥
-  HoldsKind basis (Length link) = ⊥
+  HoldsKind basis _ = ⊥
 
 -- Evidence where a kind holds as the program says: by HoldsKind, or by a relation that adds its own Value or Length.
 module _ {N : Type 0} (rows : ℕ) (bound : ℕ → ℤ) (slack : ℕ → N) (is_column : ColumnOf N → Type 0) (holds_kind : (ℕ → ColumnOf N) → WideKind N → Type 0) where

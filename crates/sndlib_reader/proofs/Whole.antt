@@ -26,7 +26,7 @@ use Rattle.sndlib_reader.specs.declared.costs.CostedLink.{CostedLink}
 use Rattle.sndlib_reader.specs.declared.fault.ReadKind.{ReadKind}
 use Rattle.sndlib_reader.specs.declared.fault.ReadKind.TheVariants.{Header, Section, Token, Ended}
 use Rattle.sndlib_reader.specs.Balance.{IsSkipped}
-use Rattle.sndlib_reader.specs.Paths.{AreMany, ArePaths, AreSome, IsKnownName, IsPathLine, IsNamedPath, IsShortName, section_items}
+use Rattle.sndlib_reader.specs.Paths.{AreMany, ArePaths, AreSome, IsKnownName, IsPathLine, IsNamedPath, IsShortName}
 use Rattle.sndlib_reader.specs.Spelling.{IsMeta, IsShortLink, NodePart, NodeName, Coordinates, Parts, Spells, SpellsDemand, SpellsParts, SpellsPart, header, link_items, names_of, notes_of, parts_of}
 use Rattle.sndlib_reader.specs.Reading.{IsFirstFault, path_name, known_name, native_section_at, part_at, native_nodes_at, costed_links_at, native_demands_at, some_at, native_path_at, path_line_at, is_meta, after_meta, start_at, is_paths, after_paths, paths_at, parts, native_sections_at, network_of}
 use Rattle.sndlib_reader.proofs.WordTests.{known_again, known_takes, path_name_again, path_name_takes}
@@ -36,6 +36,7 @@ use Rattle.sndlib_reader.proofs.Nodes.{IsNewPart, are_parts, part_spelled, parts
 use Rattle.sndlib_reader.proofs.Laws.{AreDifferent, AreLinks, IsDemandAfter, IsLinkAfter, are_demands, are_links, demands_are, demands_spelled, links_are, links_lawful}
 use Rattle.sndlib_reader.proofs.Online.{sections_online}
 use Rattle.net_core.proofs.Checks.{same_is}
+use Rattle.text_kit.specs.Edits.{section}
 
 -- ---- what is given of what was read
 
@@ -275,12 +276,12 @@ AreDemandItems nodes demands is = (js : List Item) × ComeAfter (IsDemandAfter n
 
 -- sections one after another
 abbrev whole_items : List Item → List Item → List Item → List Item → List Item → List Item
-whole_items meta ps ls ds paths = meta ++ (section_items (codes "NODES") ps ++ (section_items (codes "LINKS") ls ++ (section_items (codes "DEMANDS") ds ++ paths)))
+whole_items meta ps ls ds paths = meta ++ (section (codes "NODES") ps ++ (section (codes "LINKS") ls ++ (section (codes "DEMANDS") ds ++ paths)))
 
 all_joined : (is j1 k1 j2 k2 j3 k3 j4 k4 l4 j5 k5 l5 meta ps ls ds : List Item) → is ≡ j1 ++ k1 → j1 ≡ meta ++ Verbatim (codes "NODES") ∷ [] → k1 ≡ j2 ++ k2 → j2 ≡ Opening ∷ [] → k2 ≡ j3 ++ k3 → j3 ≡ ps ++ Closing ∷ [] → k3 ≡ j4 ++ k4 → j4 ≡ Verbatim (codes "LINKS") ∷ Opening ∷ l4 → l4 ≡ ls ++ Closing ∷ []
     → k4 ≡ j5 ++ k5 → j5 ≡ Verbatim (codes "DEMANDS") ∷ Opening ∷ l5 → l5 ≡ ds ++ Closing ∷ [] → is ≡ whole_items meta ps ls ds k5
 all_joined is j1 k1 j2 k2 j3 k3 j4 k4 l4 j5 k5 l5 meta ps ls ds a b c d e f g h i j k l =
-    rw (a, b, c, d, e, f, g, h, i, j, k, l) (append_assoc meta (Verbatim (codes "NODES") ∷ []) (Opening ∷ ((ps ++ Closing ∷ []) ++ (section_items (codes "LINKS") ls ++ (section_items (codes "DEMANDS") ds ++ k5)))))
+    rw (a, b, c, d, e, f, g, h, i, j, k, l) (append_assoc meta (Verbatim (codes "NODES") ∷ []) (Opening ∷ ((ps ++ Closing ∷ []) ++ (section (codes "LINKS") ls ++ (section (codes "DEMANDS") ds ++ k5)))))
 
 -- names of links, with their costs and without
 named_link : (w : List ℕ) (links : List CostedLink) → is_named (λ x. x.name) w (map (λ l. l.link) links) ≡ is_named (λ l. l.link.name) w links

@@ -6,16 +6,14 @@ use Rattle.text_kit.specs.Items.{Item, Verbatim, Opening, Closing}
 -- how many parentheses are opened
 abbrev pub opened : List Lexeme → ℕ
 opened [] = 0
-opened (Word w ∷ ls) = opened ls
 opened (Open ∷ ls) = 1 + opened ls
-opened (Close ∷ ls) = opened ls
+opened (_ ∷ ls) = opened ls
 
 -- how many parentheses are closed
 abbrev pub closed : List Lexeme → ℕ
 closed [] = 0
-closed (Word w ∷ ls) = closed ls
-closed (Open ∷ ls) = closed ls
 closed (Close ∷ ls) = 1 + closed ls
+closed (_ ∷ ls) = closed ls
 
 -- as many are closed as are opened, and no more than that in any prefix
 pub record AreBalanced (ls : List Lexeme) : Type 0 where

@@ -1,11 +1,8 @@
 -- the section of admissible paths, of which nothing is kept
 use Rattle.std.specs.Prelude.{◌≡◌, ℕ, ◌≤◌, ◌⊎◌, List, [], ◌∷◌, ◌++◌, length, IsTrue, codes}
 use Rattle.net_core.specs.Tests.{is_named}
+use Rattle.text_kit.specs.Edits.{section}
 use Rattle.text_kit.specs.Items.{Item, Verbatim, Opening, Closing, AreSpelled}
-
--- a section: its word, and what stands in it between parentheses
-abbrev pub section_items : List ℕ → List Item → List Item
-section_items name inside = Verbatim name ∷ Opening ∷ (inside ++ Closing ∷ [])
 
 -- a name of at most 255 bytes
 abbrev pub IsShortName : List Item → Type 0
@@ -33,4 +30,4 @@ IsPathLine links demands items = (name inside : List Item) × IsKnownName demand
 
 -- the section with any lines, or nothing; links and demands by their names
 abbrev pub ArePaths : List (List ℕ) → List (List ℕ) → List Item → Type 0
-ArePaths links demands items = (items ≡ []) ⊎ ((lines : List Item) × AreMany (IsPathLine links demands) lines × (items ≡ section_items (codes "ADMISSIBLE_PATHS") lines))
+ArePaths links demands items = (items ≡ []) ⊎ ((lines : List Item) × AreMany (IsPathLine links demands) lines × (items ≡ section (codes "ADMISSIBLE_PATHS") lines))

@@ -15,7 +15,8 @@ use Rattle.sndlib_reader.specs.declared.costs.CostedLink.{CostedLink}
 use Rattle.text_kit.specs.Files.{SpellsBy}
 use Rattle.text_kit.specs.Items.{Item, Verbatim, Money, Opening, Closing, ComeAfter, AreSpelled}
 use Rattle.sndlib_reader.specs.Balance.{IsSkipped}
-use Rattle.sndlib_reader.specs.Paths.{section_items, ArePaths}
+use Rattle.sndlib_reader.specs.Paths.{ArePaths}
+use Rattle.text_kit.specs.Edits.{section}
 
 -- what stands in the list of nodes: a node's name, or the coordinates of the node before them
 pub data NodePart : Type 0 where
@@ -112,7 +113,7 @@ pub record SpellsParts (x : Parts × List Demand) (items : List Item) : Type 0 w
   pub links : List CostedLink
   pub demand_items : List Item
   pub paths : List Item
-  pub items_are : items ≡ meta ++ (section_items (codes "NODES") part_items ++ (section_items (codes "LINKS") (flat_map (link_items x.0.nodes) links) ++ (section_items (codes "DEMANDS") demand_items ++ paths)))
+  pub items_are : items ≡ meta ++ (section (codes "NODES") part_items ++ (section (codes "LINKS") (flat_map (link_items x.0.nodes) links) ++ (section (codes "DEMANDS") demand_items ++ paths)))
   pub meta_is : IsMeta meta
   pub parts_are : AreSpelled SpellsPart parts part_items
   pub parts_in_order : ComeAfter IsPartAfter [] parts

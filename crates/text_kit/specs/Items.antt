@@ -17,8 +17,7 @@ abbrev pub SpellsItem : List ℕ → Item → Type 0
 SpellsItem w (Verbatim v) = w ≡ v
 SpellsItem w (Whole n) = whole_of w ≡ Ok n
 SpellsItem w (Money n) = money_of w ≡ Ok n
-SpellsItem w Opening = ⊥
-SpellsItem w Closing = ⊥
+SpellsItem w _ = ⊥
 
 -- the text begins with these items, one by one, and the rest comes after them
 abbrev pub Begins : List Item → Text → Text → Type 0

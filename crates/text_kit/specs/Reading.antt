@@ -74,17 +74,15 @@ pub data Ending : Type 0 where
 -- the text after the ending, if that is next
 abbrev pub past_ending : Ending → Text → Option Text
 past_ending Parenthesis (CloseAt at rest) = Some rest
-past_ending TheEnd (CloseAt at rest) = None
-past_ending Parenthesis (EndAt at) = None
 past_ending TheEnd (EndAt at) = Some (EndAt at)
-past_ending ending (WordAt at w rest) = None
-past_ending ending (OpenAt at rest) = None
+past_ending _ _ = None
 
 -- a value, or the fault that it has
 abbrev pub sound : {K X : Type 0} → X → Option K → Result X K
 sound x None = Ok x
 sound x (Some kind) = Err kind
 
+-- what closes a list where a text is left, and else what goes on
 abbrev pub ended_or : {A : Type 0} → Option Text → (Text → A) → A → A
 ended_or (Some rest) closed more = closed rest
 ended_or None closed more = more

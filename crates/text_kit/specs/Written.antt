@@ -22,11 +22,8 @@ word_of Closing = 41 ∷ []
 
 -- a line ends after a closing parenthesis, and a space stands after all else
 abbrev pub byte_after : Item → ℕ
-byte_after (Verbatim w) = 32
-byte_after (Whole n) = 32
-byte_after (Money n) = 32
-byte_after Opening = 32
 byte_after Closing = 10
+byte_after _ = 32
 
 -- all items, one after another
 abbrev pub written : List Item → List ℕ

@@ -17,12 +17,12 @@ use Rattle.planner.specs.declared.answer.PlanAnswer.TheVariants.{Planned, NotSur
 use Rattle.cut_pool.specs.declared.answers.EditAnswer.{EditAnswer}
 use Rattle.cut_pool.specs.declared.answers.EditAnswer.TheVariants as editing
 use Rattle.cut_pool.specs.declared.snapshot.Snapshot.{Snapshot}
-use Rattle.cut_pool.specs.Histories.{IsPoolAfter, demands_left, version_left}
+use Rattle.cut_pool.specs.Histories.{IsPoolAfter, demands_left, version_left, case_left}
 use Rattle.separator.specs.Separators.{IsCutEntry, SeesMore}
 use Rattle.session_script.specs.declared.script.Act.{Act}
 use Rattle.session_script.specs.declared.script.Act.TheVariants.{Change, Plan}
 use Rattle.turn_lock.specs.Histories.{IsPrefix}
-use Rattle.session_run.specs.Transcripts.{IsOutcomeAfter, IsPlanned, case_left}
+use Rattle.session_run.specs.Transcripts.{IsOutcomeAfter, IsPlanned}
 use Rattle.session_run.specs.inner.Running.{IsFullAt}
 use Rattle.session_run.specs.declared.plans.Asked.{Asked}
 use Rattle.session_run.specs.declared.setting.Stop.{Stop}

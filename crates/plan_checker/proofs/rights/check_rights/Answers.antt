@@ -4,7 +4,7 @@ use Rattle.net_core.specs.Graphs.{Joins}
 use Rattle.net_core.specs.Views.{case_of}
 use Rattle.plan_terms.specs.Certificates.{IsRight}
 use Rattle.plan_types.specs.declared.certificate.CertLine.{CertLine}
-use Rattle.plan_checker.specs.Certified.{HasOtherRight}
+use Rattle.plan_checker.specs.Certified.{HasStaleRight}
 use Rattle.plan_checker.proofs.Places.{all_held, each_read, none_at_all, none_read}
 use Rattle.plan_checker.proofs.Telling.{no_right}
 use Rattle.plan_checker.proofs.rights.check_rights.Goals as goal
@@ -17,7 +17,7 @@ loop-i-preserved c =
     let d = c.index-lines-i.result in
     let same = c.if-cut-right.false in
     record {
-      none = λ j x y lt. none_read c.args.lines.now (λ k (line : CertLine). HasOtherRight p line x y) i d c.loop-i-test.true (λ k lt'. c.loop-i.invariant.none k x y lt')
+      none = λ j x y lt. none_read c.args.lines.now (λ k (line : CertLine). HasStaleRight p line.cut x y) i d c.loop-i-test.true (λ k lt'. c.loop-i.invariant.none k x y lt')
           (λ other. other.differ (sym other.printed ∙ same ∙ right_once _ _ _ _ _ c.in_ok-right.ensures other.right)) j lt;
       rights = each_read c.args.lines.now (λ k (line : CertLine). IsRight (Joins (graph_in p line.cut.state.0)) line.cut.lengths p.demands line.cut.right) i d c.loop-i-test.true c.loop-i.invariant.rights
           (subst (IsRight _ _ _) (sym same) c.in_ok-right.ensures);
@@ -26,7 +26,7 @@ loop-i-preserved c =
 pub returns-clause-told : goal.returns-clause-told
 returns-clause-told c =
     let p = case_of c.args.instance.now in
-    no_right p c.args.lines.now (λ i x y. none_at_all c.args.lines.now (λ k (line : CertLine). HasOtherRight p line x y) c.loop-i.i c.loop-i-test.false (λ k lt. c.loop-i.invariant.none k x y lt) i)
+    no_right p c.args.lines.now (λ i x y. none_at_all c.args.lines.now (λ k (line : CertLine). HasStaleRight p line.cut x y) c.loop-i.i c.loop-i-test.false (λ k lt. c.loop-i.invariant.none k x y lt) i)
 
 pub returns-clause-rights : goal.returns-clause-rights
 returns-clause-rights c = all_held c.args.lines.now (λ (line : CertLine). IsRight (Joins (graph_in (case_of c.args.instance.now) line.cut.state.0)) line.cut.lengths c.args.instance.now.demands.now line.cut.right) c.loop-i.i c.loop-i-test.false c.loop-i.invariant.rights

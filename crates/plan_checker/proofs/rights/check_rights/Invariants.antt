@@ -3,13 +3,13 @@ use Rattle.net_core.specs.Cases.{graph_in}
 use Rattle.net_core.specs.Graphs.{Joins}
 use Rattle.net_core.specs.Views.{case_of}
 use Rattle.plan_terms.specs.Certificates.{IsRight}
-use Rattle.plan_checker.specs.Certified.{HasOtherRight}
+use Rattle.plan_checker.specs.Certified.{HasStaleRight}
 use Rattle.plan_checker.specs.Places.{HoldsAt}
 use Rattle.plan_checker.proofs.rights.check_rights.Given as goal
 
 -- the lines so far have the right sides of their cuts
 abbrev pub invariant-loop-i : goal.invariant-loop-i
 invariant-loop-i l = let p = case_of l.instance in record {
-  none : (j : ℕ) (x y : ℕ) → j < l.i → HoldsAt l.lines j (λ line. HasOtherRight p line x y) → ⊥;
+  none : (j : ℕ) (x y : ℕ) → j < l.i → HoldsAt l.lines j (λ line. HasStaleRight p line.cut x y) → ⊥;
   rights : (j : ℕ) → j < l.i → HoldsAt l.lines j (λ line. IsRight (Joins (graph_in p line.cut.state.0)) line.cut.lengths p.demands line.cut.right);
 }

@@ -2,7 +2,7 @@ use Rattle.std.proofs.Common.{◌∙◌, sym}
 use Rattle.net_core.specs.declared.plan.CutLine.{CutLine}
 use Rattle.net_core.specs.Views.{case_of}
 use Rattle.plan_checker.proofs.Places.{none_at_all, none_more}
-use Rattle.report_checker.specs.Pools.{HasStaleRight}
+use Rattle.plan_checker.specs.Certified.{HasStaleRight}
 use Rattle.report_checker.proofs.Telling.{no_stale}
 use Rattle.report_checker.proofs.pool.check_rights.Goals as goal
 use Rattle.plan_terms.proofs.Distances.{right_once}
