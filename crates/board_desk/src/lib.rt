@@ -2,7 +2,4 @@
 #![tactic(auto)]
 
 mod caller;
-#[cfg(test)]
-mod tests;
-
 pub use caller::Caller;

@@ -18,6 +18,3 @@ pub use row::Row;
 pub use scale::rescale;
 pub use sum::{Sum, product};
 pub use wide::WideNumber;
-
-#[cfg(test)]
-mod tests;

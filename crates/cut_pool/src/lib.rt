@@ -10,9 +10,6 @@ mod history;
 mod pooled;
 mod shares;
 mod snapshot;
-#[cfg(test)]
-mod tests;
-
 pub use answers::{AdmitAnswer, EditAnswer};
 pub use board::Board;
 pub use net_core::CutLine;

@@ -5,6 +5,3 @@ pub mod book;
 mod find;
 
 pub use book::Book;
-
-#[cfg(test)]
-mod tests;

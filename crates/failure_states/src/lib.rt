@@ -7,6 +7,3 @@ mod survival;
 
 pub use separations::{Separation, first_separated};
 pub use survival::survives;
-
-#[cfg(test)]
-mod tests;

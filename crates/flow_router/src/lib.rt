@@ -20,6 +20,3 @@ mod route;
 
 pub use answer::RouteAnswer;
 pub use route::{route_state, route_state_from};
-
-#[cfg(test)]
-mod tests;

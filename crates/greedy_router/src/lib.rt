@@ -14,6 +14,3 @@ mod routes;
 mod sending;
 
 pub use left::{Left, greedy};
-
-#[cfg(test)]
-mod tests;

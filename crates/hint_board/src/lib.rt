@@ -4,6 +4,3 @@
 mod board;
 
 pub use board::{Hint, HintBoard};
-
-#[cfg(test)]
-mod tests;

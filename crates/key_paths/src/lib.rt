@@ -25,6 +25,3 @@ mod turns;
 pub use numbers::{bound_of, rows_of, slack_names, slack_of};
 pub use solver::{solve_routes, solve_routes_from};
 pub use task::Task;
-
-#[cfg(test)]
-mod tests;

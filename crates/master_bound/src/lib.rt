@@ -25,6 +25,3 @@ pub use answer::{Best, MasterFault, Multiplier};
 pub use best::best_own;
 pub use bound::master;
 pub use units::unit_pairs;
-
-#[cfg(test)]
-mod tests;

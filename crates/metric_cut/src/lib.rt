@@ -17,6 +17,3 @@ pub use net_core::CutLine;
 pub use openings::opening;
 pub use own_bounds::own_bound;
 pub use violation::violated_by;
-
-#[cfg(test)]
-mod tests;

@@ -13,6 +13,3 @@ pub use failure_singles::{only_none, single_links};
 pub use failures::{FailureList, FailuresKind, FailuresRefusal};
 pub use model::{Model, ModelKey, ModelKind, ModelRefusal};
 pub use model_file::{key_word, read_model};
-
-#[cfg(test)]
-mod tests;

@@ -13,6 +13,3 @@ pub use alike::cover_needs;
 pub use covers::{Covering, cover};
 pub use fallback::{Fallback, fallback_plan};
 pub use totals::{capacities, cost};
-
-#[cfg(test)]
-mod tests;

@@ -8,6 +8,3 @@ pub mod rounding;
 pub use cheapest::{UnitPair, unit_pair};
 pub use lengths::price_lengths;
 pub use rounding::{bound_of, cost_divisor};
-
-#[cfg(test)]
-mod tests;

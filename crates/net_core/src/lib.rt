@@ -30,6 +30,3 @@ pub use states::{Listed, States, StatesFault};
 
 /// Bytes, as of a file.
 pub type Bytes = List<u8>;
-
-#[cfg(test)]
-mod tests;

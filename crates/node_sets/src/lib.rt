@@ -20,6 +20,3 @@ mod threshold;
 
 pub use grown::grown_set;
 pub use threshold::threshold_set;
-
-#[cfg(test)]
-mod tests;

@@ -18,6 +18,3 @@ pub use memory::{MemFile, MemShelf, MemSink, have_different_names};
 pub use shelf::{Fetch, Shelf};
 pub use sink::{Failed, Sink};
 pub use stream::StreamSink;
-
-#[cfg(test)]
-mod tests;

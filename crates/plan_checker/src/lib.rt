@@ -24,6 +24,3 @@ mod worth;
 pub use finding::{CheckAnswer, Finding};
 pub use plan::check_plan;
 pub use stop::{Stop, Test};
-
-#[cfg(test)]
-mod tests;

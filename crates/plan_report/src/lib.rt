@@ -14,6 +14,3 @@ mod writer;
 
 pub use plan_types::{Outcome, Report};
 pub use writer::write_report;
-
-#[cfg(test)]
-mod tests;

@@ -12,6 +12,3 @@ pub mod ranges;
 
 pub use answer::PlanAnswer;
 pub use on_snapshot::plan_snapshot;
-
-#[cfg(test)]
-mod tests;

@@ -1,25 +1,12 @@
 //! Plans link capacities for a network whose demands must be carried.
 #![tactic(auto)]
 
-mod answer;
-mod check;
-mod command;
-mod finding;
-mod inputs;
-mod last_file;
-mod output;
-mod plan;
-mod refusal;
 mod run;
-mod sample;
-mod session;
-mod status;
-mod words;
 
 use net_core::NoMemory;
 use outside_io::{FileShelf, OpenGate, StreamSink};
+use planner_commands::status::Status;
 use run::run;
-use status::Status;
 use std::process::ExitCode;
 use std::{env, io};
 
@@ -41,16 +28,3 @@ fn main(rt: HostRuntime) -> ExitCode {
     let status = run(&rt, rt.alloc(), &words, &mut shelf, &mut out, &OpenGate);
     ExitCode::from(status.number())
 }
-
-#[cfg(test)]
-mod check_tests;
-#[cfg(test)]
-mod damaged_tests;
-#[cfg(test)]
-mod fault_tests;
-#[cfg(test)]
-mod session_tests;
-#[cfg(test)]
-mod test_files;
-#[cfg(test)]
-mod tests;

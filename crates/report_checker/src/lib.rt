@@ -9,6 +9,3 @@ mod report;
 mod walk;
 
 pub use report::check_report;
-
-#[cfg(test)]
-mod tests;

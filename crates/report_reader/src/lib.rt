@@ -13,8 +13,3 @@ mod reader;
 
 pub use reader::read_report;
 pub use report_words::fault::{ReportKind, ReportRefusal};
-
-#[cfg(test)]
-mod limit_tests;
-#[cfg(test)]
-mod tests;

@@ -12,8 +12,3 @@ mod texts;
 
 pub use generator::sample;
 pub use texts::{has_writable_notes, network_text};
-
-#[cfg(test)]
-mod tests;
-#[cfg(test)]
-mod text_tests;

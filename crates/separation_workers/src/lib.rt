@@ -17,6 +17,3 @@ mod turns;
 mod workers;
 
 pub use workers::{DeskMark, Workers};
-
-#[cfg(test)]
-mod tests;

@@ -29,6 +29,3 @@ pub use checked::separate_checked;
 pub use one_by_one::OneByOne;
 pub use one_state::separate_state;
 pub use separating::Separate;
-
-#[cfg(test)]
-mod tests;

@@ -13,8 +13,3 @@ mod setting;
 
 pub use reports::caller_of;
 pub use session::{run_session, single_plan};
-
-#[cfg(test)]
-mod held;
-#[cfg(test)]
-mod tests;

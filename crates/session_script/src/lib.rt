@@ -10,6 +10,3 @@ mod words;
 pub use fault::{ScriptKind, ScriptRefusal};
 pub use reader::read_script;
 pub use script::{Act, Command, Script};
-
-#[cfg(test)]
-mod tests;

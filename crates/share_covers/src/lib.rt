@@ -20,6 +20,3 @@ pub use choice::{Chosen, choose};
 pub use covers::{Installed, cover_share};
 pub use needs::share_needs;
 pub use routes::{InstalledRoutes, route_installed};
-
-#[cfg(test)]
-mod tests;

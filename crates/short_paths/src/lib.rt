@@ -20,6 +20,3 @@ pub use priced_paths::{PricedPath, priced_path, total_of};
 pub use single_source::distances;
 pub use tight_links::PathFault;
 pub use walk::is_path;
-
-#[cfg(test)]
-mod tests;

@@ -19,6 +19,3 @@ pub use pivot::{turn_list, turn_objective};
 pub use product::gains;
 pub use ratio_test::compare_numbers;
 pub use solver::{SimplexFault, solve};
-
-#[cfg(test)]
-mod tests;

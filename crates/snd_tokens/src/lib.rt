@@ -17,6 +17,3 @@ pub use header::after_header;
 pub use lexeme::Next;
 pub use token::{Token, TokenKind, next_token};
 pub use whole_number::{WholeFault, whole};
-
-#[cfg(test)]
-mod tests;

@@ -14,6 +14,3 @@ mod words;
 
 pub use fault::{Limited, ReadKind, ReadRefusal};
 pub use reader::read_network;
-
-#[cfg(test)]
-mod tests;

@@ -12,6 +12,3 @@ pub mod write;
 
 pub use fault_word::FaultWord;
 pub use refusal::Refusal;
-
-#[cfg(test)]
-mod tests;

@@ -9,6 +9,3 @@ mod steps;
 
 pub use chronicle::Chronicle;
 pub use desk::{Desk, Pass, Turn};
-
-#[cfg(test)]
-mod tests;

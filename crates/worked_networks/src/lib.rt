@@ -20,6 +20,3 @@ pub use fault::WorkedFault;
 pub use link_rows::{CHAIN, LinkRow, ONE, PARALLEL, RING, TEN, network};
 pub use shapes::{problem, triangle};
 pub use state_rows::{failing, single_failures};
-
-#[cfg(test)]
-mod tests;

@@ -1,0 +1,59 @@
+-- how what one step comes to is what the run comes to
+use Rattle.std.proofs.Common.{◌≢◌, ℕ, Bool, List, [], Option, Result, Ok, Err, inl, inr}
+use Rattle.std.specs.Global.{Global}
+use Rattle.std.specs.Prelude.{String}
+use Rattle.net_core.specs.declared.demand.Demand.{Demand}
+use Rattle.net_core.specs.declared.instance.Problem.{Problem}
+use Rattle.net_core.specs.declared.network.Network.{Network}
+use Rattle.net_core.specs.declared.network.Notes.{Notes}
+use Rattle.net_core.specs.Cases.{Case}
+use Rattle.net_core.specs.Views.{case}
+use Rattle.outside_io.specs.Outside.{Files}
+use Rattle.planner_commands.specs.Commands.{Command, IsCommand, PlanWords, default}
+use Rattle.planner_commands.specs.Inputs.{Fetched, HasInputs, HasModel, RefusesModelFile, SpellsNetwork, StopsAtFailures, StopsAtFile, StopsAtInputs, input_limit}
+use Rattle.planner_commands.specs.Run.{Ends, EndsAfterInputs, EndsCommand}
+use Rattle.planner_commands.specs.inner.Steps.{HasCause, Stops}
+use Rattle.planner_commands.specs.declared.answer.Answer.{Answer}
+use Rattle.planner_commands.specs.declared.answer.Stop.{Stop}
+use Rattle.planner_commands.specs.declared.answer.Stop.TheVariants as stop
+use Rattle.planner_commands.specs.declared.status.Status.{Status}
+use Rattle.planner_commands.specs.declared.status.Status.TheVariants.{BadModel, ReadFault}
+
+-- a further cause
+pub stop_map : (P Q : Status → List ℕ → Type 0) (s : Stop) → ((status : Status) (text : List ℕ) → P status text → Q status text) → Stops P s → Stops Q s
+stop_map P Q stop.NoMemory f h = tt
+stop_map P Q stop.ReadFault f h = f ReadFault [] h
+stop_map P Q (stop.Told a) f h = f a.status a.text h
+
+-- a model that ends the run
+pub model_ends : (files : Option Files) (w : PlanWords) (net : Network) (demands : List Demand) (s : Stop) → Fetched files input_limit w.network SpellsNetwork (net, demands)
+    → Stops (λ status text. (w.model ≢ default) × StopsAtFile files input_limit w.model BadModel RefusesModelFile status text) s → Stops (StopsAtInputs files w) s
+model_ends files w net demands s has =
+    stop_map (λ status text. (w.model ≢ default) × StopsAtFile files input_limit w.model BadModel RefusesModelFile status text) (StopsAtInputs files w) s
+    (λ status text e. inr (net, demands, has, inl e))
+
+-- a failure list that ends the run
+pub failures_end : (files : Option Files) (w : PlanWords) (net : Network) (demands : List Demand) (reconfigure : Bool) (s : Stop) → Fetched files input_limit w.network SpellsNetwork (net, demands) → HasModel files w reconfigure
+    → Stops (StopsAtFailures files w net.links reconfigure) s → Stops (StopsAtInputs files w) s
+failures_end files w net demands reconfigure s has model =
+    stop_map (StopsAtFailures files w net.links reconfigure) (StopsAtInputs files w) s
+    (λ status text e. inr (net, demands, has, inr (reconfigure, model, e)))
+
+-- one of the files that every command has ends the run
+pub inputs_end : (files : Option Files) (w : PlanWords) (EndsWith : Case → Notes → Status → List ℕ → Type 0) (s : Stop) → Stops (StopsAtInputs files w) s → Stops (EndsAfterInputs files w EndsWith) s
+inputs_end files w EndsWith s = stop_map (StopsAtInputs files w) (EndsAfterInputs files w EndsWith) s (λ status text e. inl e)
+
+-- they are all read, and it comes to this
+module _ (files : Option Files) (w : PlanWords) (EndsWith : Case → Notes → Status → List ℕ → Type 0) (problem : Problem) (has : HasInputs files w problem.net problem.demands problem.states.listed) where
+  pub after_inputs : (status : Status) (text : List ℕ) → EndsWith (case problem.net problem.states problem.demands) problem.net.notes status text → EndsAfterInputs files w EndsWith status text
+  after_inputs status text ends = inr (problem.net, problem.demands, problem.states.listed, has, ends)
+
+  -- a further file ends the run
+  pub last_ends : (Ends : Status → List ℕ → Type 0) → ((status : Status) (text : List ℕ) → Ends status text → EndsWith (case problem.net problem.states problem.demands) problem.net.notes status text)
+      → (s : Stop) → Stops Ends s → Stops (EndsAfterInputs files w EndsWith) s
+  last_ends Ends so s = stop_map Ends (EndsAfterInputs files w EndsWith) s (λ status text e. after_inputs status text (so status text e))
+
+-- what a command comes to is what its words come to
+pub command_ends : (words : List (String Global)) (files : Option Files) (c : Command) (r : Result Answer Stop) → IsCommand words c → HasCause (EndsCommand files c) r → HasCause (Ends words files) r
+command_ends words files c (Ok a) is h = inr (inr (c, is, h))
+command_ends words files c (Err s) is h = stop_map (EndsCommand files c) (Ends words files) s (λ status text e. inr (inr (c, is, e))) h

@@ -1,0 +1,15 @@
+use Rattle.std.proofs.Common.{codes}
+use Rattle.plan_report.specs.KnownNames.{known_of}
+use Rattle.plan_report.specs.Texts.{SpellsReport}
+use Rattle.plan_types.specs.declared.report.Report.{Report}
+use Rattle.report_reader.specs.ReadingReport.{report_of}
+use Rattle.report_words.specs.ReportKinds.{report_kind_word}
+use Rattle.planner_commands.specs.declared.status.Status.TheVariants.{BadReport}
+use Rattle.planner_commands.proofs.Refusing.{reading_refused}
+use Rattle.planner_commands.proofs.last_file.report_of.Goals as goal
+
+pub returns-in-Err-Bad-clause-refused : goal.returns-in-Err-Bad-clause-refused
+returns-in-Err-Bad-clause-refused c =
+    let names = known_of c.args.problem.now.net c.args.problem.now.states in
+    reading_refused (λ (r : Report). r) (SpellsReport names) (report_of names) (codes "report") report_kind_word BadReport c.args.bytes.now c.in-Err-Bad.field-0 c.in-Err-Bad.at c.in-Err-Bad.kind c.refused.result
+    c.in-Err-Bad.field-0-is c.in-Err-Bad.ensures.only c.in-Err-Bad.ensures.exact c.refused.ensures

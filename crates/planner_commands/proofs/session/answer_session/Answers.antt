@@ -1,0 +1,24 @@
+use Rattle.std.proofs.Common.{◌≡◌}
+use Rattle.net_core.specs.Views.{case}
+use Rattle.plan_report.specs.KnownNames.{known_to}
+use Rattle.plan_report.specs.Texts.{report_text}
+use Rattle.plan_types.specs.declared.report.Report.{Report}
+use Rattle.acceptance.proofs.Transcripts.{transcript_accepted}
+use Rattle.planner_commands.specs.Run.{IsPrintedReport}
+use Rattle.planner_commands.specs.declared.answer.Answer.{Answer}
+use Rattle.planner_commands.specs.declared.status.Status.TheVariants.{Done}
+use Rattle.planner_commands.proofs.Clauses.{both_ok}
+use Rattle.planner_commands.proofs.session.answer_session.Goals as goal
+
+pub returns-clause-report : goal.returns-clause-report
+returns-clause-report g c =
+    let problem = c.args.problem in
+    let p = case problem.net problem.states problem.demands in
+    let notes = problem.net.notes in
+    let commands = c.args.script.now.commands in
+    let report = c.in_ok-report.report in
+    let accepted = transcript_accepted p notes commands report c.requires.few c.in_ok-report.ensures in
+    both_ok c.reported.result (λ (a : Answer). a.status ≡ Done) (λ (a : Answer). a.text ≡ report_text (known_to p) report)
+    (λ (a : Answer). (r : Report) × IsPrintedReport p notes commands r a.text)
+    (λ a status text. (report, record { transcript = c.in_ok-report.ensures; clean = accepted.0; bounded = accepted.1; printed = text }))
+    c.reported.ensures.status c.reported.ensures.text

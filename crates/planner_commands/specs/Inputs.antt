@@ -1,0 +1,109 @@
+-- the files of a plan, read one after another, and what each may come to
+use Rattle.std.specs.Prelude.{◌≡◌, ◌≢◌, ℕ, ◌^◌, ◌⊎◌, Bool, true, false, List, [], ◌∷◌, ◌++◌, Option, Err, codes}
+use Rattle.net_core.specs.declared.demand.Demand.{Demand}
+use Rattle.net_core.specs.declared.network.Link.{Link}
+use Rattle.net_core.specs.declared.network.Network.{Network}
+use Rattle.net_core.specs.declared.states.Listed.{Listed}
+use Rattle.outside_io.specs.Outside.{Fetches, Files}
+use Rattle.outside_io.specs.declared.shelf.Fetch.TheVariants as fetch
+use Rattle.model_reader.specs.Failures as failures
+use Rattle.model_reader.specs.FailuresReading.{failures_of}
+use Rattle.model_reader.specs.FaultWords.{failures_word, model_word}
+use Rattle.model_reader.specs.Models as models
+use Rattle.model_reader.specs.ModelReading.{model_of}
+use Rattle.sndlib_reader.specs.Kinds.{kind_word}
+use Rattle.sndlib_reader.specs.Reading.{IsFirstFault}
+use Rattle.sndlib_reader.specs.Spelling as networks
+use Rattle.plan_report.specs.KnownNames.{KnownNames}
+use Rattle.plan_report.specs.Texts.{SpellsReport}
+use Rattle.report_reader.specs.ReadingReport.{report_of}
+use Rattle.report_words.specs.ReportKinds.{report_kind_word}
+use Rattle.session_script.specs.ScriptKinds.{script_kind_word}
+use Rattle.session_script.specs.ScriptReading.{script_of}
+use Rattle.session_script.specs.Scripts.{SpellsScript}
+use Rattle.planner_commands.specs.Commands.{PlanWords, default}
+use Rattle.planner_commands.specs.Refusals.{Refuses, unused_line}
+use Rattle.planner_commands.specs.declared.status.Status.{Status}
+use Rattle.planner_commands.specs.declared.status.Status.TheVariants.{BadFailures, BadModel, BadNetwork, NoFile, ReadFault, TooLong}
+
+-- an input file has at most 16 MiB, and a report 256 MiB
+abbrev pub input_limit : ℕ
+input_limit = 2 ^ 24
+
+abbrev pub report_limit : ℕ
+report_limit = 2 ^ 28
+
+-- the file is fetched, with at most so many bytes, and this holds of its bytes
+abbrev pub Fetched : {X : Type 0} → Option Files → ℕ → List ℕ → (List ℕ → X → Type 0) → X → Type 0
+Fetched files limit name Holds x = (bytes : List ℕ) × Fetches files name limit fetch.Found bytes × Holds bytes x
+
+-- A file can't be fetched: it isn't there, or is too long, or reading failed.
+abbrev pub StopsAtFetch : Option Files → ℕ → List ℕ → Status → List ℕ → Type 0
+StopsAtFetch files limit name status text =
+    ((status ≡ NoFile) × Fetches files name limit fetch.Missing [] × (text ≡ codes "no file " ++ name ++ 10 ∷ []))
+    ⊎ ((status ≡ TooLong) × Fetches files name limit fetch.TooLong [] × (text ≡ codes "too long " ++ name ++ 10 ∷ []))
+    ⊎ ((status ≡ ReadFault) × (text ≡ []))
+
+-- A file ends the run: it can't be fetched, or its bytes are refused with the status and the text.
+abbrev pub StopsAtFile : Option Files → ℕ → List ℕ → Status → (List ℕ → List ℕ → Type 0) → Status → List ℕ → Type 0
+StopsAtFile files limit name bad Refused status text =
+    StopsAtFetch files limit name status text ⊎ ((status ≡ bad) × Fetched files limit name Refused text)
+
+-- the bytes spell this network and these demands
+abbrev pub SpellsNetwork : List ℕ → Network × List Demand → Type 0
+SpellsNetwork bytes read = networks.Spells bytes read.0 read.1
+
+-- the bytes spell no network, no model, or no states of these links, and the text names their first fault
+abbrev pub RefusesNetworkFile : List ℕ → List ℕ → Type 0
+RefusesNetworkFile = Refuses SpellsNetwork IsFirstFault (codes "network") kind_word
+
+abbrev pub RefusesModelFile : List ℕ → List ℕ → Type 0
+RefusesModelFile = Refuses models.SpellsModel (λ bytes at kind. model_of bytes ≡ Err (at, kind)) (codes "model") model_word
+
+abbrev pub RefusesFailureFile : List Link → List ℕ → List ℕ → Type 0
+RefusesFailureFile links =
+    Refuses (failures.SpellsFailures links) (λ bytes at kind. failures_of links bytes ≡ Err (at, kind)) (codes "failures") failures_word
+
+-- the bytes spell no script, or no report of this network and these states, and the text names their first fault
+abbrev pub RefusesScriptFile : List ℕ → List ℕ → Type 0
+RefusesScriptFile = Refuses SpellsScript (λ bytes at kind. script_of bytes ≡ Err (at, kind)) (codes "script") script_kind_word
+
+abbrev pub RefusesReportFile : KnownNames → List ℕ → List ℕ → Type 0
+RefusesReportFile names =
+    Refuses (SpellsReport names) (λ bytes at kind. report_of names bytes ≡ Err (at, kind)) (codes "report") report_kind_word
+
+-- Whether the model asks for reconfiguration: by its file; without one, where a failure file is named.
+abbrev pub HasModel : Option Files → PlanWords → Bool → Type 0
+HasModel files w reconfigure =
+    ((w.model ≢ default) × Fetched files input_limit w.model models.SpellsModel (record { reconfigure = reconfigure }))
+    ⊎ ((w.model ≡ default) × (w.failures ≢ default) × (reconfigure ≡ true))
+    ⊎ ((w.model ≡ default) × (w.failures ≡ default) × (reconfigure ≡ false))
+
+-- The listed states: those of the failure file; without one, every single-link failure with reconfiguration, and none without.
+abbrev pub HasStates : Option Files → PlanWords → List Link → Bool → List Listed → Type 0
+HasStates files w links reconfigure listed =
+    ((w.failures ≢ default) × (reconfigure ≡ true) × Fetched files input_limit w.failures (failures.SpellsFailures links) listed)
+    ⊎ ((w.failures ≡ default) × (reconfigure ≡ true) × (listed ≡ failures.single_states links))
+    ⊎ ((w.failures ≡ default) × (reconfigure ≡ false) × (listed ≡ []))
+
+-- A failure list ends the run: it is named though the model has no survivability, or its file is not read.
+abbrev pub StopsAtFailures : Option Files → PlanWords → List Link → Bool → Status → List ℕ → Type 0
+StopsAtFailures files w links reconfigure status text =
+    (w.failures ≢ default)
+    × (((reconfigure ≡ false) × (status ≡ BadFailures) × (text ≡ unused_line))
+    ⊎ ((reconfigure ≡ true) × StopsAtFile files input_limit w.failures BadFailures (RefusesFailureFile links) status text))
+
+-- One of the files ends the run. They are read in their order: the network's, the model's, the failure list's.
+abbrev pub StopsAtInputs : Option Files → PlanWords → Status → List ℕ → Type 0
+StopsAtInputs files w status text =
+    StopsAtFile files input_limit w.network BadNetwork RefusesNetworkFile status text
+    ⊎ ((net : Network) × (demands : List Demand)
+    × Fetched files input_limit w.network SpellsNetwork (net, demands)
+    × (((w.model ≢ default) × StopsAtFile files input_limit w.model BadModel RefusesModelFile status text)
+    ⊎ ((reconfigure : Bool) × HasModel files w reconfigure × StopsAtFailures files w net.links reconfigure status text)))
+
+-- the files spell this network, these demands and these listed states
+abbrev pub HasInputs : Option Files → PlanWords → Network → List Demand → List Listed → Type 0
+HasInputs files w net demands listed =
+    Fetched files input_limit w.network SpellsNetwork (net, demands)
+    × ((reconfigure : Bool) × HasModel files w reconfigure × HasStates files w net.links reconfigure listed)

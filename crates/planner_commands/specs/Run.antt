@@ -1,0 +1,185 @@
+-- what a run comes to: its status, and the text that it writes
+use Rattle.std.specs.Prelude.{◌≡◌, ◌≢◌, ℕ, ◌+◌, ◌≤◌, ◌⊎◌, List, [], ◌∷◌, ◌++◌, All, Option, String, codes, decimal, length}
+use Rattle.std.specs.Global.{Global}
+use Rattle.net_core.specs.declared.demand.Demand.{Demand}
+use Rattle.net_core.specs.declared.network.Network.{Network}
+use Rattle.net_core.specs.declared.network.Notes.{Notes}
+use Rattle.net_core.specs.declared.states.Listed.{Listed}
+use Rattle.net_core.specs.Cases.{Case}
+use Rattle.outside_io.specs.Outside.{Files, Rose, Takes, TakesPrefix}
+use Rattle.plan_terms.specs.Separations.{IsFirstSeparation}
+use Rattle.plan_types.specs.declared.plan.Plan.{Plan}
+use Rattle.plan_types.specs.declared.quality.Quality.{Quality}
+use Rattle.plan_types.specs.declared.quality.Quality.TheVariants.{Tight, Loose}
+use Rattle.plan_types.specs.declared.report.Outcome.TheVariants.{Planned}
+use Rattle.plan_types.specs.declared.report.Report.{Report}
+use Rattle.plan_report.specs.Names.{state_name}
+use Rattle.plan_report.specs.KnownNames.{known_to}
+use Rattle.plan_report.specs.Texts.{SpellsReport, report_text}
+use Rattle.plan_checker.specs.declared.finding.Finding.{Finding}
+use Rattle.report_checker.specs.ReportFindings.{HasNoFinding, IsFirstOfReport}
+use Rattle.session_script.specs.declared.script.Act.TheVariants as act
+use Rattle.session_script.specs.declared.script.Command.{Command}
+use Rattle.session_script.specs.declared.script.Script.{Script}
+use Rattle.session_script.specs.Scripts.{SpellsScript}
+use Rattle.session_run.specs.Transcripts.{IsTranscript}
+use Rattle.acceptance.specs.Transcripts.{IsBelowAllAble}
+use Rattle.sample_net.specs.Samples.{no_notes, sample_demands, sample_links, sample_nodes, with_single_failures}
+use Rattle.text_kit.specs.Written.{money_word}
+use Rattle.planner_commands.specs.Commands as commands
+use Rattle.planner_commands.specs.Commands.{IsCommand, PlanWords, usage}
+use Rattle.planner_commands.specs.Findings.{accepted_line, rejected_line}
+use Rattle.planner_commands.specs.Inputs.{Fetched, HasInputs, RefusesReportFile, RefusesScriptFile, StopsAtFile, StopsAtInputs, input_limit, report_limit}
+use Rattle.planner_commands.specs.declared.status.Status.{Status}
+use Rattle.planner_commands.specs.declared.status.Status.TheVariants.{Done, BadWords, NoFile, ReadFault, WriteFault, BadNetwork, BadModel, BadFailures, BadScript, NotSurvivable, Rejected, TooLong, BadReport, NoMemory}
+
+-- the number of each status, with which the program ends
+abbrev pub status_number : Status → ℕ
+status_number Done = 0
+status_number BadWords = 2
+status_number NoFile = 3
+status_number ReadFault = 4
+status_number WriteFault = 5
+status_number BadNetwork = 6
+status_number BadModel = 7
+status_number BadFailures = 8
+status_number BadScript = 9
+status_number NotSurvivable = 10
+status_number Rejected = 11
+status_number TooLong = 12
+status_number BadReport = 13
+status_number NoMemory = 14
+
+-- ---- reports
+
+-- The text is that of this report, which is a transcript of the commands, from the opening demands of the case. No finding holds of
+-- it, and no counts that can carry the demands of a plan of it cost less than the plan's bound.
+pub record IsPrintedReport (p : Case) (notes : Notes) (commands : List Command) (r : Report) (text : List ℕ) : Type 0 where
+  pub transcript : IsTranscript p notes commands r
+  pub clean : HasNoFinding notes p r
+  pub bounded : All (IsBelowAllAble p r) r.outcomes
+  pub printed : text ≡ report_text (known_to p) r
+
+-- ---- a plan
+
+-- the script of a plan: one plan command, of caller 1
+abbrev pub plan_commands : List Command
+plan_commands = record { caller = 1; act = act.Plan } ∷ []
+
+-- the text is the report of a plan
+pub record IsPlanReport (p : Case) (notes : Notes) (text : List ℕ) : Type 0 where
+  pub report : Report
+  pub plan : Plan
+  pub alone : report.outcomes ≡ Planned 1 1 plan ∷ []
+  pub printed : IsPrintedReport p notes plan_commands report text
+
+-- the text names the first state that separates a demand which has a need, and the first such demand
+pub record NamesFirstSeparation (p : Case) (text : List ℕ) : Type 0 where
+  pub state : ℕ
+  pub place : ℕ
+  pub first : IsFirstSeparation p state place
+  pub printed : text ≡ codes "not survivable: state " ++ decimal state ++ 32 ∷ state_name p.listed state ++ codes " demand " ++ first.separates.demand.name ++ 10 ∷ []
+
+-- what planning comes to, unless memory runs out
+abbrev pub EndsPlan : Case → Notes → Status → List ℕ → Type 0
+EndsPlan p notes status text =
+    ((status ≡ Done) × IsPlanReport p notes text)
+    ⊎ ((status ≡ NotSurvivable) × NamesFirstSeparation p text)
+
+-- ---- a session
+
+-- What a session comes to: its script ends the run, or the text is the report of the script's commands.
+abbrev pub EndsSession : Option Files → List ℕ → Case → Notes → Status → List ℕ → Type 0
+EndsSession files name p notes status text =
+    StopsAtFile files input_limit name BadScript RefusesScriptFile status text
+    ⊎ ((script : Script) × (report : Report)
+    × Fetched files input_limit name SpellsScript script
+    × (status ≡ Done) × IsPrintedReport p notes script.commands report text)
+
+-- ---- a check
+
+-- what a check says of a report: that no finding holds, or the first one
+abbrev pub IsJudged : Case → Notes → Report → Status → List ℕ → Type 0
+IsJudged p notes r status text =
+    ((status ≡ Done) × HasNoFinding notes p r × (text ≡ accepted_line (length r.outcomes)))
+    ⊎ ((status ≡ Rejected) × ((outcome : ℕ) × (finding : Finding)
+    × IsFirstOfReport notes p r outcome finding
+    × (text ≡ rejected_line p.links r.outcomes outcome finding)))
+
+-- What a check comes to: its report ends the run, or is judged.
+abbrev pub EndsCheck : Option Files → List ℕ → Case → Notes → Status → List ℕ → Type 0
+EndsCheck files name p notes status text =
+    StopsAtFile files report_limit name BadReport (RefusesReportFile (known_to p)) status text
+    ⊎ ((r : Report) × Fetched files report_limit name (SpellsReport (known_to p)) r × IsJudged p notes r status text)
+
+-- ---- a sample
+
+-- the case of a sample: its network, where each link fails alone, and its demands
+abbrev pub sample_case : ℕ → ℕ → Case
+sample_case seed nodes = with_single_failures (sample_nodes nodes) (sample_links seed nodes) (sample_demands seed nodes)
+
+-- the line of a network's size
+abbrev pub size_line : Case → List ℕ
+size_line p =
+    codes "nodes " ++ decimal (length p.nodes) ++ codes " links " ++ decimal (length p.links)
+    ++ codes " demands " ++ decimal (length p.demands) ++ codes " states " ++ decimal (length p.listed + 1) ++ 10 ∷ []
+
+-- the word of a plan's quality
+abbrev pub quality_word : Quality → List ℕ
+quality_word (Tight f) = codes "tight"
+quality_word (Loose cause) = codes "loose"
+
+-- the end of a line, and the lines of a plan's raw value and quality
+abbrev pub raw_lines : Plan → List ℕ
+raw_lines plan = codes "\nraw " ++ decimal plan.raw_num ++ 32 ∷ decimal plan.raw_den ++ codes "\nquality " ++ quality_word plan.quality ++ 10 ∷ []
+
+-- the lines of a plan of a sample
+abbrev pub summary : ℕ → ℕ → Case → Plan → List ℕ
+summary seed nodes p plan =
+    codes "sample " ++ decimal seed ++ 32 ∷ decimal nodes ++ 10 ∷ size_line p
+    ++ codes "cost " ++ money_word plan.cost ++ codes "\nbound " ++ money_word plan.bound ++ raw_lines plan
+
+-- the text has the lines of a plan whose report is that of a plan of the case
+pub record IsSummary (seed nodes : ℕ) (p : Case) (notes : Notes) (text : List ℕ) : Type 0 where
+  pub report : List ℕ
+  pub planned : IsPlanReport p notes report
+  pub printed : text ≡ summary seed nodes p planned.plan
+
+-- ---- commands
+
+-- One of the files that every command has ends the run, or they are all read, and it comes to this, of the case that they spell and
+-- the network's notes.
+abbrev pub EndsAfterInputs : Option Files → PlanWords → (Case → Notes → Status → List ℕ → Type 0) → Status → List ℕ → Type 0
+EndsAfterInputs files w EndsWith status text =
+    StopsAtInputs files w status text
+    ⊎ ((net : Network) × (demands : List Demand) × (listed : List Listed)
+    × HasInputs files w net demands listed
+    × EndsWith (record { nodes = net.nodes; links = net.links; listed = listed; demands = demands }) net.notes status text)
+
+-- what a command comes to
+abbrev pub EndsCommand : Option Files → commands.Command → Status → List ℕ → Type 0
+EndsCommand files (commands.Plan w) = EndsAfterInputs files w EndsPlan
+EndsCommand files (commands.Session w script) = EndsAfterInputs files w (EndsSession files script)
+EndsCommand files (commands.Check w report) = EndsAfterInputs files w (EndsCheck files report)
+EndsCommand files (commands.Sample seed nodes) = λ status text. (status ≡ Done) × IsSummary seed nodes (sample_case seed nodes) no_notes text
+
+-- ---- a run
+
+-- What a run comes to, and its whole text: memory runs out, which needs no cause, or the words are no command, or they are one.
+abbrev pub Ends : List (String Global) → Option Files → Status → List ℕ → Type 0
+Ends words files status text =
+    ((status ≡ NoMemory) × (text ≡ []))
+    ⊎ ((status ≡ BadWords) × ((c : commands.Command) → IsCommand words c → ⊥) × (text ≡ usage))
+    ⊎ ((c : commands.Command) × IsCommand words c × EndsCommand files c status text)
+
+-- what reading leaves of a shelf: its files as they were, and a count of faults that hasn't fallen, and that has risen where reading failed
+pub record KeepsShelf {S : Type 0} (files : S → Option Files) (faults : S → ℕ) (failed : Type 0) (old new : S) : Type 0 where
+  pub same : files new ≡ files old
+  pub later : faults old ≤ faults new
+  pub counted : failed → Rose (faults old) (faults new)
+
+-- The sink took the whole text and the status stays; or there was something to write, writing failed, the sink has counted it, and a prefix was taken.
+abbrev pub PutsText : {K : Type 0} → (K → Option (List ℕ)) → (K → ℕ) → Status → List ℕ → Status → K → K → Type 0
+PutsText taken faults status text result old new =
+    ((result ≡ status) × Takes (taken old) (taken new) text)
+    ⊎ ((result ≡ WriteFault) × (text ≢ []) × Rose (faults old) (faults new) × TakesPrefix (taken old) (taken new) text)

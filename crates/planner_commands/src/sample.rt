@@ -1,0 +1,181 @@
+ghost use Rattle.std.specs.Prelude.{◌≡◌, ◌≤◌, ◌+◌, ◌++◌, ◌∷◌, [], IfOk, OnOk, codes, decimal, length};
+ghost use Rattle.net_core.specs.Demands.{AreDemands};
+ghost use Rattle.net_core.specs.Views.{case_of};
+ghost use Rattle.plan_terms.specs.Separations.{IsSurvivable};
+ghost use Rattle.sample_net.specs.Samples.{no_notes, sample_demands, sample_links, sample_nodes, with_single_failures};
+ghost use Rattle.session_run.specs.Transcripts.{IsTranscript};
+ghost use Rattle.text_kit.specs.Written.{money_word};
+ghost use Rattle.planner_commands.specs.Run.{IsSummary, plan_commands, quality_word, raw_lines, sample_case, size_line, summary};
+ghost use Rattle.planner_commands.specs.declared.status.Status.{Status};
+ghost use Rattle.plan_types.specs.declared.report.Outcome.TheVariants.{Planned};
+
+use crate::answer::Answer;
+use crate::status::Status;
+use model_reader::single_links;
+use net_core::{Bytes, Copied, Demands, Instance, List, Network, NoMemory};
+use outside_io::OpenGate;
+use plan_types::{Outcome, Plan, Quality, Report};
+use sample_net::{network_text, sample};
+use session_run::{run_session, single_plan};
+use sndlib_reader::{ReadRefusal, read_network};
+use std::alloc::Global;
+use std::sync::Wait;
+use std::thread::Threads;
+use text_kit::write::{put_decimal, put_money_word};
+
+/// Puts words and a number last.
+fn put_counted(text: &mut Bytes, words: &[u8], n: u128) -> Result<(), NoMemory>
+    ensures { OnOk result (text.new ≡ text.old ++ words.now ++ decimal n) }
+{
+    text.append(words)?;
+    put_decimal(text, n)
+}
+
+/// Puts words and money last.
+fn put_cost(text: &mut Bytes, words: &[u8], n: u128) -> Result<(), NoMemory>
+    ensures { OnOk result (text.new ≡ text.old ++ words.now ++ money_word n) }
+{
+    text.append(words)?;
+    put_money_word(text, n)
+}
+
+/// The sample network of a seed and its demands, as its text is read back.
+fn read_back(alloc: Global, seed: u64, nodes: u32) -> Result<(Network, Demands), NoMemory>
+    requires { (4 ≤ nodes) × (nodes ≤ 40) }
+    ensures nodes { IfOk result (λ read. read.0.nodes ≡ sample_nodes nodes) }
+    ensures links { IfOk result (λ read. read.0.links ≡ sample_links seed nodes) }
+    ensures notes { IfOk result (λ read. read.0.notes ≡ no_notes) }
+    ensures demands { IfOk result (λ read. read.1 ≡ sample_demands seed nodes) }
+    ensures belong { IfOk result (λ read. AreDemands (length read.0.nodes) read.1) }
+    ensures survivable { IfOk result (λ read. IsSurvivable (with_single_failures read.0.nodes read.0.links read.1)) }
+{
+    let (net, demands) = sample(alloc, seed, nodes)?;
+    let text = network_text(alloc, &net, &demands)?;
+    match read_network(alloc, text.items()) {
+        Ok(read) => Ok(read),
+        Err(ReadRefusal::Bad { .. }) => unreachable!(),
+        Err(ReadRefusal::NoMemory) => Err(NoMemory),
+    }
+}
+
+/// The plan of an outcome, which stands alone in a report of one plan command, for demands that no state separates.
+fn plan_of<'a>(instance: &Instance, report: &Report, outcome: &'a Outcome) -> &'a Plan
+    requires transcript { IsTranscript (case_of instance.now) instance.now.net.now.notes plan_commands report.now }
+    requires survivable { IsSurvivable (case_of instance.now) }
+    requires alone { report.now.outcomes ≡ outcome.now ∷ [] }
+    ensures { report.now.outcomes ≡ Planned 1 1 result.now ∷ [] }
+{
+    match outcome {
+        Outcome::Planned { plan, .. } => plan,
+        Outcome::Unsurvivable { .. } => unreachable!(),
+    }
+}
+
+/// Puts the line of a network's size last.
+fn put_size(text: &mut Bytes, instance: &Instance) -> Result<(), NoMemory>
+    ensures { OnOk result (text.new ≡ text.old ++ size_line (case_of instance.now)) }
+{
+    put_counted(text, b"nodes ", instance.net.nodes().len() as u128)?;
+    put_counted(text, b" links ", instance.net.links().len() as u128)?;
+    put_counted(text, b" demands ", instance.demands.len() as u128)?;
+    put_counted(
+        text,
+        b" states ",
+        instance.states.listed().len() as u128 + 1,
+    )?;
+    text.append(b"\n")
+}
+
+/// The word of a plan's quality.
+fn quality_word(quality: &Quality) -> &'static [u8]
+    ensures { result.now ≡ quality_word quality.now }
+{
+    match quality {
+        Quality::Tight(_) => b"tight",
+        Quality::Loose(_) => b"loose",
+    }
+}
+
+/// Puts the lines of a raw value and of how good it is last.
+fn put_raw(text: &mut Bytes, plan: &Plan) -> Result<(), NoMemory>
+    ensures { OnOk result (text.new ≡ text.old ++ raw_lines plan.now) }
+{
+    put_counted(text, b"\nraw ", plan.raw_num)?;
+    put_counted(text, b" ", plan.raw_den)?;
+    text.append(b"\nquality ")?;
+    text.append(quality_word(&plan.quality))?;
+    text.append(b"\n")
+}
+
+/// The lines of a plan of a sample.
+fn summary_of(
+    alloc: Global,
+    seed: u64,
+    nodes: u32,
+    instance: &Instance,
+    plan: &Plan,
+) -> Result<Bytes, NoMemory>
+    ensures { IfOk result (λ text. text ≡ summary seed nodes (case_of instance.now) plan.now) }
+{
+    let mut text = List::new(alloc);
+    put_counted(&mut text, b"sample ", seed as u128)?;
+    put_counted(&mut text, b" ", nodes as u128)?;
+    text.append(b"\n")?;
+    put_size(&mut text, instance)?;
+    put_cost(&mut text, b"cost ", plan.cost)?;
+    put_cost(&mut text, b"\nbound ", plan.bound)?;
+    put_raw(&mut text, plan)?;
+    Ok(text)
+}
+
+/// The answer of the plan in a report of one plan command.
+fn summarized(
+    alloc: Global,
+    seed: u64,
+    nodes: u32,
+    instance: &Instance,
+    report: &Report,
+) -> Result<Answer, NoMemory>
+    requires transcript { IsTranscript (case_of instance.now) instance.now.net.now.notes plan_commands report.now }
+    requires survivable { IsSurvivable (case_of instance.now) }
+    ensures status { IfOk result (λ a. a.status ≡ Status.Done) }
+    ensures summary { IfOk result (λ a. IsSummary seed nodes (case_of instance.now) instance.now.net.now.notes a.text) }
+{
+    let plan = plan_of(instance, report, &report.outcomes.items()[0]);
+    let text = summary_of(alloc, seed, nodes, instance, plan)?;
+    Ok(Answer {
+        status: Status::Done,
+        text,
+    })
+}
+
+/// The summary of the plan of a sample, with each single-link failure. Nobody is held: a sample has one caller. It may never return.
+pub fn answer_sample<R: Threads + Wait + Sync>(
+    rt: &R,
+    alloc: Global,
+    seed: u64,
+    nodes: u32,
+) -> Result<Answer, NoMemory>
+    requires { (4 ≤ nodes) × (nodes ≤ 40) }
+    ensures status { IfOk result (λ a. a.status ≡ Status.Done) }
+    ensures summary { IfOk result (λ a. IsSummary seed nodes (sample_case seed nodes) no_notes a.text) }
+{
+    let (net, demands) = read_back(alloc, seed, nodes)?;
+    let states = single_links(alloc, &net)?;
+    let script = single_plan(alloc)?;
+    let report = run_session(
+        rt,
+        alloc,
+        &net,
+        &states,
+        demands.copy()?,
+        &script,
+        &OpenGate,
+    )?;
+    let instance = Instance {
+        net: &net,
+        states: &states,
+        demands: &demands,
+    };
+    summarized(alloc, seed, nodes, &instance, &report)
+}
