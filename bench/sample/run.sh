@@ -1,5 +1,5 @@
 #!/usr/bin/env bash
-# Samples worked out from their rules, apart from the code: the values that the tests of sample_net compare with.
+# Samples worked out from their rules, apart from the code: the values that tests compare with.
 set -euo pipefail
 cd "$(dirname "$0")"
 python3 sample.py 7 8

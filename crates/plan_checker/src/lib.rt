@@ -1,4 +1,4 @@
-//! A plain walk through a plan or a report that trusts nothing of whoever made it.
+//! A plain walk through a plan that trusts nothing of whoever made it.
 #![tactic(auto)]
 
 mod carried;
