@@ -51,19 +51,19 @@ def said_of(answer):
 
 
 def try_crate(room, crate):
-    """Prints a line for each edit of the crate, and returns whether each was refused."""
+    """Prints a line for each edit of the crate, and returns how many there are, and how many were refused."""
     waiting = take_edits(room, crate)
+    count, refused = len(waiting), 0
     ran = subprocess.run(["rt", "must-fail", crate], cwd=room, stdout=subprocess.PIPE, stderr=subprocess.STDOUT, text=True)
-    refused = True
     for line in ran.stdout.splitlines():
         told = TRIED.search(line)
         if told and told[2] in waiting:
             waiting.discard(told[2])
-            refused = refused and told[3].startswith(REFUSED)
+            refused += told[3].startswith(REFUSED)
             print(f"{crate}/{told[2]}: {said_of(told[3])}", flush=True)
     for name in sorted(waiting):
         print(f"{crate}/{name}: not tried; rt must-fail ended with {ran.returncode}", flush=True)
-    return refused and not waiting
+    return count, refused
 
 
 def main(names):
@@ -74,8 +74,10 @@ def main(names):
     print(f"Commit {commit()}, {datetime.date.today().isoformat()}, edits of {', '.join(names) or 'all crates'}", flush=True)
     with tempfile.TemporaryDirectory(prefix="wrong-bodies-") as room:
         copy_repository(room)
-        refused = [try_crate(room, crate) for crate in names or crates]
-    return 0 if all(refused) else 1
+        counts = [try_crate(room, crate) for crate in names or crates]
+    tried, refused = (sum(column) for column in zip(*counts))
+    print(f"{refused} of {tried} refused")
+    return 0 if refused == tried else 1
 
 
 if __name__ == "__main__":
