@@ -6,6 +6,7 @@ pub mod Listed
 pub mod Multiples
 pub mod Pivots
 pub mod Ratios
+pub mod RowsRead
 pub mod Starts
 pub mod Turning
 pub mod Ending

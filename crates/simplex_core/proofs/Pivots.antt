@@ -5,8 +5,9 @@ use Rattle.std.specs.Int.Signed.{◌<ℤ◌}
 use Rattle.std.proofs.lemmas.Int.{ints}
 use Rattle.std.proofs.lemmas.Bool.{cases_eq}
 use Rattle.checked_fraction.specs.Rows.{num, IsInLowestTerms, IsReduced}
-use Rattle.checked_fraction.specs.Mixed.{combined}
+use Rattle.checked_fraction.specs.Mixed.{combined, IsTooWide}
 use Rattle.checked_fraction.specs.declared.row.Row.{Row}
+use Rattle.checked_fraction.specs.declared.wide.WideNumber.{WideNumber}
 use Rattle.simplex_core.specs.Tables.{nums_of, den_of, IsRectangle}
 use Rattle.simplex_core.specs.Turned.{IsCombinedRow, IsCombined, IsTooWideRow, IsTooWideAt, AreTurned, IsWideRow}
 use Rattle.simplex_core.specs.inner.Pivots.{CombinesAt, AreCombined}
@@ -25,6 +26,32 @@ kept_row n u w p d q none positive lowest = subst (λ p. IsReduced n (combined u
   same = λ k l. kept_number (u k) d q (w k);
   lowest = lowest;
 })
+
+-- a row but row r is written combined
+pub combines_at : (m : ℕ) (old : List Row) (row new : Row) (products : List ℤ) (pivot : ℕ → ℤ) (q : ℤ) (r i : ℕ) → i < length old → i ≢ r → slice_get old i ≡ Some row → IsRectangle m old
+    → length new.nums ≡ length row.nums → IsReduced (length row.nums) (combined (num row.nums) (num products i) pivot q) (row.den *ℤ q) (num new.nums) new.den
+    → CombinesAt m old (slice_set old i new) products pivot q r i
+combines_at m old row new products pivot q r i lt ne at square size reduced =
+    let width : length row.nums ≡ m = subst (λ o. length (nums_of o) ≡ m) at (square i lt) in
+    let here : slice_get (slice_set old i new) i ≡ Some new = get_same old i new lt in
+    let whole : IsCombinedRow m (Some row) (Some new) (num products i) pivot q =
+    subst (λ n. IsReduced n (combined (num row.nums) (num products i) pivot q) (row.den *ℤ q) (num new.nums) new.den) width reduced in
+    record {
+      count = length-set old i new;
+      size = ap (λ o. length (nums_of o)) here ∙ (size ∙ ap (λ o. length (nums_of o)) (sym at));
+      done = λ _. subst (λ o. IsCombinedRow m o (slice_get (slice_set old i new) i) (num products i) pivot q) (sym at)
+          (subst (λ o. IsCombinedRow m (Some row) o (num products i) pivot q) (sym here) whole);
+      kept = λ e. absurd (ne e);
+      others = λ j other. get_other old i j new other;
+    }
+
+-- a row that gets too wide
+pub too_wide_at : (m : ℕ) (old : List Row) (row : Row) (products : List ℤ) (pivot : ℕ → ℤ) (q : ℤ) (i : ℕ) (wide : WideNumber) → i < length old → slice_get old i ≡ Some row → IsRectangle m old
+    → IsTooWide (length row.nums) (combined (num row.nums) (num products i) pivot q) (row.den *ℤ q) wide → IsTooWideAt m old products pivot q i
+too_wide_at m old row products pivot q i wide lt at square h =
+    let width : length row.nums ≡ m = subst (λ o. length (nums_of o) ≡ m) at (square i lt) in
+    subst (λ o. IsTooWideRow m o (num products i) pivot q) (sym at)
+    (wide, subst (λ n. IsTooWide n (combined (num row.nums) (num products i) pivot q) (row.den *ℤ q) wide) width h)
 
 -- one row more
 pub combined_next : (m : ℕ) (old now next : List Row) (products : List ℤ) (pivot : ℕ → ℤ) (q : ℤ) (r n : ℕ)

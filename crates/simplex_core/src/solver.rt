@@ -9,7 +9,7 @@ ghost use Rattle.simplex_core.specs.Tables.{nums_at};
 ghost use Rattle.simplex_core.specs.Programs.{IsSameProgram, IsSimplexAnswer};
 ghost use Rattle.simplex_core.specs.inner.Shapes.{IsShaped};
 ghost use Rattle.simplex_core.specs.inner.Values.{sizes_of};
-ghost use Rattle.simplex_core.specs.inner.Outcomes.{IsBasisOutcome, HasLowValues};
+ghost use Rattle.simplex_core.specs.inner.Outcomes.{IsBasisOutcome, IsValuesOutcome, HasLowValues};
 ghost use Rattle.simplex_core.specs.inner.Turns.{reduced_cost, Chooses, Enters, IsTurnOutcome};
 
 use crate::basis::{Basis, slack_basis};
@@ -83,6 +83,13 @@ enum Turn<N> {
     Wide(WideKind<N>),
     /// The call ran out of memory.
     NoMemory,
+}
+
+/// The values of a basis over one denominator.
+#[derive(Drop)]
+struct Values {
+    den: u64,
+    nums: List<u128>,
 }
 
 /// The first row of negative dual.
@@ -197,35 +204,60 @@ fn take_turn<C: Columns>(cols: &mut C, basis: &mut Basis<C::Name>) -> Turn<C::Na
     }
 }
 
-/// The values of a best basis.
+/// The values of a basis over their common denominator.
+fn values_of<N: Drop>(alloc: Global, basis: &Basis<N>) -> Result<Values, ValueFault>
+    requires shaped { IsShaped (length basis.now.rows) basis.now }
+    requires low { HasLowValues basis.now }
+    ensures { IsValuesOutcome basis.now result }
+{
+    let fractions = fractions_of(alloc, basis.rows.items(), basis.bounds.items())?;
+    let Some(den) = common_denominator(fractions.items()) else {
+        return Err(ValueFault::Common);
+    };
+    let nums = values_over(alloc, fractions.items(), den)?;
+    Ok(Values { den, nums })
+}
+
+/// The names of a basis, and its objective row.
+fn parts_of<N: Drop>(basis: Basis<N>) -> (List<N>, Row)
+    ensures names { result.0 ≡ basis.names }
+    ensures duals { result.1 ≡ basis.duals }
+{
+    (basis.names, basis.duals)
+}
+
+/// The optimum at a best basis, unless its values are too wide.
 fn finish<N: Drop>(alloc: Global, basis: Basis<N>) -> Result<Optimum<N>, SimplexFault<N>>
     requires shaped { IsShaped (length basis.rows) basis }
     requires low { HasLowValues basis }
     ensures { IsBasisOutcome basis result }
 {
-    let fractions = match fractions_of(alloc, basis.rows.items(), basis.bounds.items()) {
-        Ok(fractions) => fractions,
-        Err(ValueFault::Sum(i)) => {
-            return Err(SimplexFault::Wide {
-                basis: basis.names,
-                kind: WideKind::Sum(i),
+    let values = values_of(alloc, &basis);
+    let (names, duals) = parts_of(basis);
+    let kind = match values {
+        Ok(Values { den, nums }) => {
+            return Ok(Optimum {
+                basis: names,
+                den,
+                values: nums,
+                duals,
             });
         }
+        Err(ValueFault::Sum(i)) => WideKind::Sum(i),
+        Err(ValueFault::Common) => WideKind::Common,
         Err(ValueFault::NoMemory) => return Err(SimplexFault::NoMemory),
     };
-    let Some(den) = common_denominator(fractions.items()) else {
-        return Err(SimplexFault::Wide {
-            basis: basis.names,
-            kind: WideKind::Common,
-        });
-    };
-    let values = values_over(alloc, fractions.items(), den)?;
-    Ok(Optimum {
+    Err(SimplexFault::Wide { basis: names, kind })
+}
+
+/// What a basis with a number that is too wide comes to.
+fn stopped<N: Drop>(basis: Basis<N>, kind: WideKind<N>) -> SimplexFault<N>
+    ensures { result ≡ SimplexFault.Wide basis.names kind }
+{
+    SimplexFault::Wide {
         basis: basis.names,
-        den,
-        values,
-        duals: basis.duals,
-    })
+        kind,
+    }
 }
 
 /// An optimum of the program, or a basis, reached by gaining steps, on which a number is too wide, or that the call ran out
@@ -252,12 +284,7 @@ pub fn solve<C: Columns>(
             Turn::Again => {}
             Turn::Best => return finish(alloc, basis),
             Turn::Unbounded => unreachable!(),
-            Turn::Wide(kind) => {
-                return Err(SimplexFault::Wide {
-                    basis: basis.names,
-                    kind,
-                });
-            }
+            Turn::Wide(kind) => return Err(stopped(basis, kind)),
             Turn::NoMemory => return Err(SimplexFault::NoMemory),
         }
     }

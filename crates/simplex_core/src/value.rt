@@ -9,7 +9,6 @@ use crate::fraction::{Fraction, fraction_of};
 use checked_fraction::{Row, product};
 use net_core::{List, NoMemory};
 use std::alloc::Global;
-use thiserror::Error;
 
 /// The limit of the absolute products of a row's numbers with the bounds.
 const LIMIT: u128 = 1 << 126;
@@ -74,14 +73,25 @@ pub(crate) fn row_value(nums: &[i64], bounds: &[i64]) -> Option<i128>
 }
 
 /// Why there are no values.
-#[derive(Clone, Copy, Debug, PartialEq, Eq, Error)]
+#[derive(Clone, Copy)]
 pub(crate) enum ValueFault {
     /// The value of the row is too wide.
-    #[error("row {0}: the value is too wide")]
     Sum(u32),
+    /// The common denominator of the values is too wide.
+    Common,
     /// The call ran out of memory.
-    #[error("out of memory")]
     NoMemory,
+}
+
+impl From<NoMemory> for ValueFault {
+    ghost use Rattle.std.specs.Prelude.{◌≡◌};
+    ghost use Rattle.simplex_core.specs.declared.value.ValueFault.{ValueFault};
+
+    ghost from_gives = { λ _ fault. fault ≡ ValueFault.NoMemory };
+
+    fn from(_error: NoMemory) -> ValueFault {
+        ValueFault::NoMemory
+    }
 }
 
 impl<T: Drop> From<(T, NoMemory)> for ValueFault {

@@ -9,7 +9,7 @@ use Rattle.simplex_core.specs.inner.Shapes.{AtEach}
 use Rattle.simplex_core.specs.inner.Values.{sizes_of}
 use Rattle.simplex_core.specs.declared.fraction.Fraction.{Fraction}
 use Rattle.simplex_core.specs.declared.value.ValueFault.{ValueFault}
-use Rattle.simplex_core.specs.declared.value.ValueFault.TheVariants.{Sum, NoMemory}
+use Rattle.simplex_core.specs.declared.value.ValueFault.TheVariants.{Sum, Common, NoMemory}
 
 -- the size of value over den, as a fraction whose denominator divides den
 pub record IsFractionOf (value den : ℤ) (f : Fraction) : Type 0 where
@@ -37,6 +37,7 @@ pub record AreFractionsOf (rows : List Row) (bound : ℕ → ℤ) (fractions : L
 abbrev pub HaveFractions : List Row → (ℕ → ℤ) → Result (List Fraction) ValueFault → Type 0
 HaveFractions rows bound (Ok fractions) = AreFractionsOf rows bound fractions
 HaveFractions rows bound (Err (Sum i)) = (i < length rows) × (2 ^ 126 ≤ sizes_of (length rows) (nums_at rows i) bound)
+HaveFractions rows bound (Err Common) = ⊥
 HaveFractions rows bound (Err NoMemory) = Unit {0}
 
 -- the first n denominators divide c

@@ -12,6 +12,9 @@ use Rattle.simplex_core.specs.declared.fraction.Fraction.{Fraction}
 use Rattle.simplex_core.specs.declared.optimum.Optimum.{Optimum}
 use Rattle.simplex_core.specs.declared.solver.SimplexFault.{SimplexFault}
 use Rattle.simplex_core.specs.declared.solver.SimplexFault.TheVariants.{Wide, NoMemory}
+use Rattle.simplex_core.specs.declared.solver.Values.{Values}
+use Rattle.simplex_core.specs.declared.value.ValueFault.{ValueFault}
+use Rattle.simplex_core.specs.declared.value.ValueFault.TheVariants.{Sum as SumFault, Common as CommonFault, NoMemory as NoMemoryFault}
 
 -- over each narrow common denominator, the values are below 2 ^ 124
 abbrev pub HasLowValues : {N : Type 0} → Basis N → Type 0
@@ -37,6 +40,21 @@ IsWideEnd b (Product i name) = ⊥
 IsWideEnd b (Number name) = ⊥
 IsWideEnd b Value = ⊥
 IsWideEnd b (Length link) = ⊥
+
+-- the values of a basis over their common denominator
+pub record HaveValues {N : Type 0} (b : Basis N) (v : Values) : Type 0 where
+  pub fractions : List Fraction
+  pub are : AreFractionsOf b.rows (num b.bounds) fractions
+  pub den : IsDenominator (fraction_den fractions) (length fractions) v.den
+  pub count : length v.nums ≡ length fractions
+  pub nums : AtEach (λ j n. n ≡ value_at fractions v.den j) v.nums
+
+-- the values of a basis, or what is too wide
+abbrev pub IsValuesOutcome : {N : Type 0} → Basis N → Result Values ValueFault → Type 0
+IsValuesOutcome b (Ok v) = HaveValues b v
+IsValuesOutcome b (Err (SumFault i)) = IsWideEnd b (Sum i)
+IsValuesOutcome b (Err CommonFault) = IsWideEnd b Common
+IsValuesOutcome b (Err NoMemoryFault) = Unit {0}
 
 -- how a basis ends
 abbrev pub IsBasisOutcome : {N : Type 0} → Basis N → Result (Optimum N) (SimplexFault N) → Type 0

@@ -82,4 +82,4 @@ returns-in-Wide-clause-answer g c =
     let b = c.loop-basis.basis in
     let kind = c.in-Wide.kind in
     let h = first_turn (p.rows first) (p.rows now) (p.bound first) (p.bound now) (p.slack first) (p.slack now) (p.is_listed first) (p.is_listed now) c.loop-basis.invariant.same b (Wide kind) c.take_turn.new.basis c.in-Wide.ensures.turn in
-    evidence (p.rows first) (p.bound first) (p.slack first) (p.is_listed first) b h.column kind c.take_turn.new.basis h.is_column c.loop-basis.invariant.at h.enters
+    rw c.stopped.ensures (evidence (p.rows first) (p.bound first) (p.slack first) (p.is_listed first) b h.column kind c.take_turn.new.basis h.is_column c.loop-basis.invariant.at h.enters)

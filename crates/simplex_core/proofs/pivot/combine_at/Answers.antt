@@ -1,0 +1,22 @@
+use Rattle.std.proofs.Common.{length, get_or, refl}
+use Rattle.std.proofs.lemmas.Option.{slice_get-get_or}
+use Rattle.checked_fraction.specs.Rows.{num}
+use Rattle.simplex_core.proofs.Pivots.{combines_at, too_wide_at}
+use Rattle.simplex_core.proofs.pivot.combine_at.Goals as goal
+
+pub returns-in-Ok-clause-combined : goal.returns-in-Ok-clause-combined
+returns-in-Ok-clause-combined c =
+    let rows = c.args.rows.now in
+    let row = get_or rows c.args.i c.index-rows-i.result in
+    combines_at (length c.args.pivot.now.nums) rows row c.combine_row.new.row c.args.products.now (num c.args.pivot.now.nums) (num c.args.products.now c.args.r) c.args.r c.args.i
+    c.requires.inside c.if-i-r.false (slice_get-get_or rows c.args.i c.index-rows-i.result c.requires.inside) c.requires.rectangle c.in-Ok.ensures.length c.in-Ok.ensures.reduced
+
+pub returns-in-Err-clause-wide : goal.returns-in-Err-clause-wide
+returns-in-Err-clause-wide c =
+    let rows = c.args.rows.now in
+    let row = get_or rows c.args.i c.index-rows-i.result in (
+      refl,
+      c.if-i-r.false,
+      too_wide_at (length c.args.pivot.now.nums) rows row c.args.products.now (num c.args.pivot.now.nums) (num c.args.products.now c.args.r) c.args.i c.in-Err.field-0
+          c.requires.inside (slice_get-get_or rows c.args.i c.index-rows-i.result c.requires.inside) c.requires.rectangle c.in-Err.ensures.wide,
+    )

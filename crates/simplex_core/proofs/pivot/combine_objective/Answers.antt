@@ -1,0 +1,29 @@
+use Rattle.std.proofs.Common.{length, subst, sym}
+use Rattle.std.proofs.Math.IntN.{◌*ℤ◌}
+use Rattle.std.specs.Result.{OnOk, IfErr}
+use Rattle.checked_fraction.specs.Rows.{num, IsReduced}
+use Rattle.checked_fraction.specs.Mixed.{combined, IsTooWide}
+use Rattle.simplex_core.specs.Tables.{nums_of}
+use Rattle.simplex_core.proofs.Lists.{read_at}
+use Rattle.simplex_core.proofs.pivot.combine_objective.Goals as goal
+
+pub returns-clause-reduced : goal.returns-clause-reduced
+returns-clause-reduced c =
+    let rows = c.args.rows.now in
+    let row = c.index-rows-r.result in
+    let duals = c.args.duals.now in
+    let new = c.combine_row.new.row in
+    let q = num c.args.products.now c.args.r in
+    subst (λ o. OnOk c.combine_row.result (IsReduced (length rows) (combined (num duals.nums) c.args.cost.now (num (nums_of o)) q) (duals.den *ℤ q) (num new.nums) new.den))
+    (sym (read_at rows c.args.r row c.requires.pivot.inside c.index-rows-r.is))
+    (subst (λ n. OnOk c.combine_row.result (IsReduced n (combined (num duals.nums) c.args.cost.now (num row.nums) q) (duals.den *ℤ q) (num new.nums) new.den)) c.requires.equal c.combine_row.ensures.reduced)
+
+pub returns-clause-wide : goal.returns-clause-wide
+returns-clause-wide c =
+    let rows = c.args.rows.now in
+    let row = c.index-rows-r.result in
+    let duals = c.args.duals.now in
+    let q = num c.args.products.now c.args.r in
+    subst (λ o. IfErr c.combine_row.result (IsTooWide (length rows) (combined (num duals.nums) c.args.cost.now (num (nums_of o)) q) (duals.den *ℤ q)))
+    (sym (read_at rows c.args.r row c.requires.pivot.inside c.index-rows-r.is))
+    (subst (λ n. IfErr c.combine_row.result (IsTooWide n (combined (num duals.nums) c.args.cost.now (num row.nums) q) (duals.den *ℤ q))) c.requires.equal c.combine_row.ensures.wide)
