@@ -1,8 +1,9 @@
 -- products of signed numbers
-use Rattle.std.proofs.Common.{◌≡◌, ℕ, zero, suc, ◌+◌, ◌*◌, ◌<◌, ◌≤◌, unsigned_abs, ap, sym, ◌∙◌, arith}
+use Rattle.std.proofs.Common.{◌≡◌, ℕ, zero, suc, ◌+◌, ◌*◌, ◌^◌, ◌<◌, ◌≤◌, unsigned_abs, ap, sym, ◌∙◌, arith}
 use Rattle.std.proofs.Math.IntN.{ℤ, pos, negsuc, ◌+ℤ◌, ◌-ℤ◌, ◌*ℤ◌, *ℤ_comm, zero-*ℤ}
 use Rattle.std.specs.Int.Signed.{◌<ℤ◌}
 use Rattle.std.proofs.lemmas.Int.{ints, by_lt_z, unsigned_abs-mul}
+use Rattle.std.proofs.lemmas.Nat.{mul-lt}
 use borrow.Author.Differences.{up, down, sum_is_lem, product_is}
 use Rattle.std.proofs.Math.Nat.{mul-le-mul_left}
 
@@ -70,3 +71,11 @@ cancelled g x y pg e = by_lt_z x y
 -- a multiple is at least as large
 pub size_times : (d : ℕ) (z : ℤ) → 0 < d → unsigned_abs z ≤ unsigned_abs (pos d *ℤ z)
 size_times d z pd = let m : unsigned_abs z * 1 ≤ unsigned_abs z * d = mul-le-mul_left (unsigned_abs z) (omega (arith, pd)) in omega (arith, m, unsigned_abs-mul (pos d) z)
+
+-- the size of a product of narrow numbers
+pub narrow_product : (a b : ℤ) → unsigned_abs a < 2 ^ 62 → unsigned_abs b < 2 ^ 62 → unsigned_abs (a *ℤ b) < 2 ^ 124
+narrow_product a b na nb = let m : unsigned_abs a * unsigned_abs b < 2 ^ 62 * 2 ^ 62 = mul-lt (unsigned_abs a) (unsigned_abs b) (2 ^ 62) (2 ^ 62) na nb in omega (arith, m, unsigned_abs-mul a b)
+
+-- where one of them is small
+pub small_product : (a b : ℤ) → unsigned_abs a < 2 ^ 62 → unsigned_abs b ≤ 2 ^ 14 → unsigned_abs (a *ℤ b) ≤ 2 ^ 76
+small_product a b na sb = let m : unsigned_abs a * unsigned_abs b ≤ unsigned_abs a * 2 ^ 14 = mul-le-mul_left (unsigned_abs a) sb in omega (arith, m, unsigned_abs-mul a b, na)
