@@ -1,15 +1,12 @@
 use crate::finding::Finding;
 use net_core::NoMemory;
-use thiserror::Error;
 
 /// Why a check ends early.
-#[derive(Clone, Copy, Debug, PartialEq, Eq, Error)]
+#[derive(Clone, Copy)]
 pub enum Stop {
     /// The first finding.
-    #[error("{0}")]
     Found(Finding),
     /// The check ran out of memory.
-    #[error("out of memory")]
     NoMemory,
 }
 
