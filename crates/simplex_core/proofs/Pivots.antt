@@ -74,6 +74,16 @@ combined_next m old now next products pivot q r n a c lt = record {
       (cases_eq r n);
 }
 
+-- the rows while another stands in for the pivot row
+pub lent_rectangle : (old : List Row) (row spare : Row) (r : ℕ) → r < length old → slice_get old r ≡ Some row → IsRectangle (length old) old → length spare.nums ≡ length old → IsRectangle (length row.nums) (slice_set old r spare)
+lent_rectangle old row spare r lt at square size i l =
+    let width : length row.nums ≡ length old = subst (λ o. length (nums_of o) ≡ length old) at (square r lt) in
+    ⊎_elim
+    (λ e. subst (λ k. length (nums_of (slice_get (slice_set old r spare) k)) ≡ length row.nums) (sym e)
+    (ap (λ o. length (nums_of o)) (get_same old r spare lt) ∙ (size ∙ sym width)))
+    (λ ne. ap (λ o. length (nums_of o)) (get_other old r i spare ne) ∙ (square i (omega (arith, l, length-set old r spare)) ∙ sym width))
+    (cases_eq i r)
+
 -- the rows once the new pivot row is back in its place
 pub turned_rows : (m r : ℕ) (old mid : List Row) (row spare next : Row) (products : List ℤ) → length old ≡ m → r < m → IsRectangle m old → slice_get old r ≡ Some row
     → AreCombined (length row.nums) (slice_set old r spare) mid products (num row.nums) (num products r) r (length (slice_set old r spare))

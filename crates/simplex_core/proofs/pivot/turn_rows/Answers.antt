@@ -1,9 +1,18 @@
 use Rattle.std.proofs.Common.{length, refl, ◌≡◌, ◌∙◌, ap, Some, slice_get, slice_set, length-set, subst, sym, arith}
 use Rattle.std.proofs.lemmas.Option.{slice_get-get_or}
 use Rattle.checked_fraction.specs.Rows.{num}
-use Rattle.simplex_core.specs.Turned.{AreTurned}
-use Rattle.simplex_core.proofs.Pivots.{turned_rows, spare_size}
+use Rattle.simplex_core.specs.Turned.{AreTurned, HavePivot}
+use Rattle.simplex_core.proofs.Pivots.{lent_rectangle, turned_rows, spare_size}
 use Rattle.simplex_core.proofs.pivot.turn_rows.Goals as goal
+
+pub combine_rows-requires-clause-rectangle : goal.combine_rows-requires-clause-rectangle
+combine_rows-requires-clause-rectangle c =
+    let rows = c.args.rows.now in
+    let at : slice_get rows c.args.r ≡ Some c.swap.new.y = slice_get-get_or rows c.args.r c.index-rows-r.result c.requires.pivot.inside ∙ ap Some (sym c.swap.ensures.y_after) in
+    lent_rectangle rows c.swap.new.y c.swap.new.x c.args.r c.requires.pivot.inside at c.requires.rectangle (ap (λ x. length x.nums) c.swap.ensures.x_after ∙ c.requires.spare)
+
+pub combine_rows-requires-clause-pivot : goal.combine_rows-requires-clause-pivot
+combine_rows-requires-clause-pivot c = subst (λ n. HavePivot c.args.products.now n c.args.r) (sym (length-set c.args.rows.now c.args.r c.swap.new.x)) c.requires.pivot
 
 pub returns-clause-turned : goal.returns-clause-turned
 returns-clause-turned c =
