@@ -1,5 +1,5 @@
 -- What is read of a network file is spelled, and what is spelled is read.
-use Rattle.std.proofs.Common.{◌≡◌, ◌≢◌, ℕ, ◌+◌, ◌^◌, ◌<◌, ◌≤◌, ◌==◌, nat_lt, Bool, true, false, cond, List, [], ◌∷◌, ◌++◌, length, get_or, All, AllPairs, Option, None, Some, refl, sym, ap, subst, ◌∙◌, arith, append-nil, append_assoc}
+use Rattle.std.proofs.Common.{◌≡◌, ◌≢◌, ℕ, ◌+◌, ◌*◌, ◌^◌, ◌<◌, ◌≤◌, ◌==◌, nat_lt, Bool, true, false, cond, List, [], ◌∷◌, ◌++◌, length, get_or, All, AllPairs, Option, None, Some, Ok, refl, sym, ap, subst, ◌∙◌, arith, append-nil, append_assoc}
 use Rattle.std.specs.Prelude.{flat_map}
 use Rattle.std.proofs.lemmas.Bool.{ltb-false}
 use Rattle.std.proofs.lemmas.List.Sums.{sum_by-cons, sum_by-append, sum_by_push}
@@ -12,17 +12,19 @@ use Rattle.text_kit.specs.Items.{ComeAfter, AreSpelled, Item, Verbatim, Money, O
 use Rattle.text_kit.specs.Reading.{word_at, Parenthesis, no_fault}
 use Rattle.text_kit.proofs.After.{all_after, after_all, after_as, after_both}
 use Rattle.text_kit.specs.Numbers.{number_or}
-use Rattle.snd_tokens.specs.Amounts.{units_of}
+use Rattle.snd_tokens.specs.Amounts.{amount_of, units_of}
 use Rattle.text_kit.proofs.Amounts.{lawful_amount, number_takes}
 use Rattle.text_kit.proofs.NameLaws.{IsNew, are_new, lawful_new_name, lawful_place, new_are}
 use Rattle.text_kit.proofs.Lawful.{AnyText, Lawful, Starts, after_few, few_after, lawful_as, lawful_close, lawful_give, lawful_list, lawful_open, lawful_then, lawful_word}
 use Rattle.text_kit.proofs.Spelled.{Spelled, after_parts, parts_after, spelled_as, spelled_give, spelled_law, spelled_list, spelled_then, spelled_word}
 use Rattle.sndlib_reader.specs.declared.costs.CostedLink.{CostedLink}
+use Rattle.sndlib_reader.specs.declared.demand.DemandRest.{DemandRest}
+use Rattle.sndlib_reader.specs.declared.link.LinkRest.{LinkRest}
 use Rattle.sndlib_reader.specs.declared.fault.Limited.TheVariants as limits
 use Rattle.sndlib_reader.specs.declared.fault.ReadKind.{ReadKind}
 use Rattle.sndlib_reader.specs.declared.fault.ReadKind.TheVariants.{Token, Ended, Limit, Number, DoubleName, UnknownName, SelfLink, SelfDemand, FixedLink}
-use Rattle.sndlib_reader.specs.Spelling.{IsShortLink, SpellsDemand, node_pair_items, link_items, module_items}
-use Rattle.sndlib_reader.specs.Reading.{other_node, amount, unit, capacity, need, hops, ends_at, module_at, unserved, native_modules_at, native_link_at, costed_links_at, needs_in_all, native_demand_at, native_demands_at}
+use Rattle.sndlib_reader.specs.Spelling.{IsHops, IsShortLink, SpellsDemand, node_pair_items, link_items, module_items}
+use Rattle.sndlib_reader.specs.Reading.{other_node, amount, unit, capacity, need, hops, ends_at, module_at, unserved, native_modules_at, link_rest_at, named_link, native_link_at, costed_links_at, needs_in_all, demand_rest_at, native_demand_at, native_demands_at}
 use Rattle.sndlib_reader.proofs.WordTests.{IsCapacity, IsNodeIn, capacity_again, capacity_takes, hops_again, hops_takes, need_again, need_takes, other_again, other_takes}
 
 abbrev pub AreDifferent : List (List ℕ) → Type 0
@@ -98,21 +100,46 @@ pub record IsLinkAfter (nodes : List (List ℕ)) (sofar : List CostedLink) (l : 
   pub setup : l.link.setup < 2 ^ 40
   pub modules : AreModules l.link.fixed l.link.modules
 
+-- what it has after its name
+pub record IsLinkRest (nodes : List (List ℕ)) (r : LinkRest) : Type 0 where
+  pub ends : AreEnds nodes r.a r.b
+  pub fixed : r.fixed < 2 ^ 40
+  pub fixed_cost : r.fixed_cost < 2 ^ 40
+  pub routing_cost : r.routing_cost < 2 ^ 40
+  pub setup : r.setup < 2 ^ 40
+  pub modules : AreModules r.fixed r.modules
+
+rest_items : List (List ℕ) → LinkRest → List Item
+rest_items nodes r =
+    node_pair_items nodes r.a r.b ++ Money r.fixed ∷ Money r.fixed_cost ∷ Money r.routing_cost ∷ Money r.setup ∷ Opening ∷ (flat_map module_items r.modules ++ Closing ∷ [])
+
+rest_of : CostedLink → LinkRest
+rest_of l = record { a = l.link.a; b = l.link.b; fixed = l.link.fixed; fixed_cost = l.fixed_cost; routing_cost = l.routing_cost; setup = l.link.setup; modules = l.link.modules }
+
+rest_lawful : (nodes : List (List ℕ)) → AreDifferent nodes → Lawful (link_rest_at nodes) (rest_items nodes) (IsLinkRest nodes) AnyText
+unfolding link_rest_at rest_items
+rest_lawful nodes pairs = lawful_as (link_rest_at nodes) _ (rest_items nodes) _ (IsLinkRest nodes) AnyText
+    (λ r h. ap (λ (is : List Item). node_pair_items nodes r.a r.b ++ Money r.fixed ∷ Money r.fixed_cost ∷ Money r.routing_cost ∷ Money r.setup ∷ Opening ∷ is) (append-nil (flat_map module_items r.modules ++ Closing ∷ [])))
+    (λ r h. record { ends = h.0; fixed = h.1.0; fixed_cost = h.1.1.0; routing_cost = h.1.1.1.0; setup = h.1.1.1.1.0; modules = h.1.1.1.1.1.1.0 })
+    (λ r h. (h.ends, (h.fixed, (h.fixed_cost, (h.routing_cost, (h.setup, (tt, (h.modules, refl))))))))
+    (lawful_then _ _ _ _ _ _ AnyText (λ r. (r.a, r.b)) (λ a r h. ap (λ (x : LinkRest). (x.a, x.b)) h.1.1.1.1.1.1) (ends_lawful SelfLink nodes pairs) (λ ends.
+    lawful_then _ _ _ _ _ _ AnyText (λ r. r.fixed) (λ a r h. ap (λ (x : LinkRest). x.fixed) h.1.1.1.1.1) amount_lawful (λ fixed.
+    lawful_then _ _ _ _ _ _ AnyText (λ r. r.fixed_cost) (λ a r h. ap (λ (x : LinkRest). x.fixed_cost) h.1.1.1.1) amount_lawful (λ fixed_cost.
+    lawful_then _ _ _ _ _ _ AnyText (λ r. r.routing_cost) (λ a r h. ap (λ (x : LinkRest). x.routing_cost) h.1.1.1) amount_lawful (λ routing_cost.
+    lawful_then _ _ _ _ _ _ AnyText (λ r. r.setup) (λ a r h. ap (λ (x : LinkRest). x.setup) h.1.1) amount_lawful (λ setup.
+    lawful_then _ _ _ _ _ _ AnyText (λ r. tt) (λ a r h. refl) (lawful_open Token Ended) (λ o.
+    lawful_then _ _ _ _ _ _ AnyText (λ r. r.modules) (λ a r h. ap (λ (x : LinkRest). x.modules) h) (modules_lawful fixed) (λ modules.
+    lawful_give (record { a = ends.0; b = ends.1; fixed = fixed; fixed_cost = fixed_cost; routing_cost = routing_cost; setup = setup; modules = modules })))))))))
+
 link_lawful : (nodes : List (List ℕ)) → AreDifferent nodes → (sofar : List CostedLink) → Lawful (native_link_at nodes sofar) (link_items nodes) (IsLinkAfter nodes sofar) AnyText
-unfolding native_link_at
+unfolding native_link_at rest_items rest_of
 link_lawful nodes pairs sofar = lawful_as (native_link_at nodes sofar) _ (link_items nodes) _ (IsLinkAfter nodes sofar) AnyText
-    (λ l h. ap (λ (is : List Item). Verbatim l.link.name ∷ node_pair_items nodes l.link.a l.link.b ++ Money l.link.fixed ∷ Money l.fixed_cost ∷ Money l.routing_cost ∷ Money l.link.setup ∷ Opening ∷ is) (append-nil (flat_map module_items l.link.modules ++ Closing ∷ [])))
-    (λ l h. record { new = h.0; ends = h.1.0; fixed = h.1.1.0; fixed_cost = h.1.1.1.0; routing_cost = h.1.1.1.1.0; setup = h.1.1.1.1.1.0; modules = h.1.1.1.1.1.1.1.0 })
-    (λ l h. (h.new, (h.ends, (h.fixed, (h.fixed_cost, (h.routing_cost, (h.setup, (tt, (h.modules, refl)))))))))
-    (lawful_then _ _ _ _ _ _ AnyText (λ l. l.link.name) (λ a l h. ap (λ (x : CostedLink). x.link.name) h.1.1.1.1.1.1.1) (lawful_new_name (λ x. x.link.name) 256 (Limit limits.Name) DoubleName (Limit limits.Links) Token Ended sofar) (λ name.
-    lawful_then _ _ _ _ _ _ AnyText (λ l. (l.link.a, l.link.b)) (λ a l h. ap (λ (x : CostedLink). (x.link.a, x.link.b)) h.1.1.1.1.1.1) (ends_lawful SelfLink nodes pairs) (λ ends.
-    lawful_then _ _ _ _ _ _ AnyText (λ l. l.link.fixed) (λ a l h. ap (λ (x : CostedLink). x.link.fixed) h.1.1.1.1.1) amount_lawful (λ fixed.
-    lawful_then _ _ _ _ _ _ AnyText (λ l. l.fixed_cost) (λ a l h. ap (λ (x : CostedLink). x.fixed_cost) h.1.1.1.1) amount_lawful (λ fixed_cost.
-    lawful_then _ _ _ _ _ _ AnyText (λ l. l.routing_cost) (λ a l h. ap (λ (x : CostedLink). x.routing_cost) h.1.1.1) amount_lawful (λ routing_cost.
-    lawful_then _ _ _ _ _ _ AnyText (λ l. l.link.setup) (λ a l h. ap (λ (x : CostedLink). x.link.setup) h.1.1) amount_lawful (λ setup.
-    lawful_then _ _ _ _ _ _ AnyText (λ l. tt) (λ a l h. refl) (lawful_open Token Ended) (λ o.
-    lawful_then _ _ _ _ _ _ AnyText (λ l. l.link.modules) (λ a l h. ap (λ (x : CostedLink). x.link.modules) h) (modules_lawful fixed) (λ modules.
-    lawful_give (record { link = record { name = name; a = ends.0; b = ends.1; fixed = fixed; setup = setup; modules = modules }; fixed_cost = fixed_cost; routing_cost = routing_cost }))))))))))
+    (λ l h. ap (λ (is : List Item). Verbatim l.link.name ∷ is) (append-nil (rest_items nodes (rest_of l))))
+    (λ l h. let r = h.1.0 in record { new = h.0; ends = r.ends; fixed = r.fixed; fixed_cost = r.fixed_cost; routing_cost = r.routing_cost; setup = r.setup; modules = r.modules })
+    (λ l h. (h.new, (record { ends = h.ends; fixed = h.fixed; fixed_cost = h.fixed_cost; routing_cost = h.routing_cost; setup = h.setup; modules = h.modules }, refl)))
+    (lawful_then _ _ _ _ _ _ AnyText (λ l. l.link.name) (λ a l h. ap (λ (x : CostedLink). x.link.name) h.1) (lawful_new_name (λ x. x.link.name) 256 (Limit limits.Name) DoubleName (Limit limits.Links) Token Ended sofar) (λ name.
+    lawful_then _ _ _ _ _ _ AnyText rest_of (λ a l h. ap rest_of h) (rest_lawful nodes pairs) (λ rest.
+    lawful_give (named_link name rest))))
 
 pub links_lawful : (nodes : List (List ℕ)) → AreDifferent nodes → Lawful (costed_links_at nodes []) (λ ls. flat_map (link_items nodes) ls ++ Closing ∷ []) (λ ls. ComeAfter (IsLinkAfter nodes) [] ls) AnyText
 links_lawful nodes pairs = lawful_as (costed_links_at nodes []) _ (λ ls. flat_map (link_items nodes) ls ++ Closing ∷ []) _ (λ ls. ComeAfter (IsLinkAfter nodes) [] ls) AnyText (λ ls h. refl) (λ ls h. h.1) (λ ls h. (refl, h))
@@ -156,65 +183,70 @@ pub record IsDemandAfter (nodes : List (List ℕ)) (sofar : List Demand) (d : De
   pub need : d.need < 2 ^ 40
   pub below : needs_in_all sofar + d.need < 2 ^ 44
 
-joined : (is js ks j2 k2 j3 k3 j4 k4 j5 k5 ends : List Item) (n u a h : List ℕ) → is ≡ js ++ ks → js ≡ Verbatim n ∷ [] → ks ≡ j2 ++ k2 → j2 ≡ ends → k2 ≡ j3 ++ k3 → j3 ≡ Verbatim u ∷ [] → k3 ≡ j4 ++ k4 → j4 ≡ Verbatim a ∷ [] → k4 ≡ j5 ++ k5 → j5 ≡ Verbatim h ∷ [] → k5 ≡ []
-    → is ≡ Verbatim n ∷ ends ++ Verbatim u ∷ Verbatim a ∷ Verbatim h ∷ []
-joined is js ks j2 k2 j3 k3 j4 k4 j5 k5 ends n u a h e1 e2 e3 e4 e5 e6 e7 e8 e9 e10 e11 = rw (e1, e2, e3, e4, e5, e6, e7, e8, e9, e10, e11) refl
+-- how what a demand has after its name is spelled
+pub record SpellsRest (nodes : List (List ℕ)) (before : ℕ) (r : DemandRest) (items : List Item) : Type 0 where
+  pub ends : AreEnds nodes r.from r.to
+  pub need : r.need < 2 ^ 40
+  pub below : before + r.need < 2 ^ 44
+  pub unit : List ℕ
+  pub amount : List ℕ
+  pub hops : List ℕ
+  pub units : ℕ
+  pub each : ℕ
+  pub items_are : items ≡ node_pair_items nodes r.from r.to ++ Verbatim unit ∷ Verbatim amount ∷ Verbatim hops ∷ []
+  pub unit_is : units_of unit ≡ Ok units
+  pub amount_is : amount_of amount ≡ Ok each
+  pub need_is : r.need ≡ units * each
+  pub hops_are : IsHops hops
 
-demand_spelled : (nodes : List (List ℕ)) → AreDifferent nodes → (sofar : List Demand) → Spelled (native_demand_at nodes sofar) (λ d is. IsDemandAfter nodes sofar d × SpellsDemand nodes d is) AnyText
-unfolding native_demand_at
-demand_spelled nodes pairs sofar = spelled_as (native_demand_at nodes sofar) _ (λ d is. IsDemandAfter nodes sofar d × SpellsDemand nodes d is) AnyText
-    (λ d is s.
-    let e = s.4 in
+joined : (is j2 k2 j3 k3 j4 k4 j5 k5 ends : List Item) (u a h : List ℕ) → is ≡ j2 ++ k2 → j2 ≡ ends → k2 ≡ j3 ++ k3 → j3 ≡ Verbatim u ∷ [] → k3 ≡ j4 ++ k4 → j4 ≡ Verbatim a ∷ [] → k4 ≡ j5 ++ k5 → j5 ≡ Verbatim h ∷ [] → k5 ≡ []
+    → is ≡ ends ++ Verbatim u ∷ Verbatim a ∷ Verbatim h ∷ []
+joined is j2 k2 j3 k3 j4 k4 j5 k5 ends u a h e3 e4 e5 e6 e7 e8 e9 e10 e11 = rw (e3, e4, e5, e6, e7, e8, e9, e10, e11) refl
+
+rest_spelled : (nodes : List (List ℕ)) → AreDifferent nodes → (before : ℕ) → Spelled (demand_rest_at nodes before) (SpellsRest nodes before) AnyText
+unfolding demand_rest_at
+rest_spelled nodes pairs before = spelled_as (demand_rest_at nodes before) _ (SpellsRest nodes before) AnyText
+    (λ r is e.
     let u = e.4 in
     let n = u.4 in
     let h = n.4 in
-    let needed = need_takes (needs_in_all sofar) u.0 n.3.0 n.0 n.3.1 in
-    subst (λ (x : Demand). IsDemandAfter nodes sofar x × SpellsDemand nodes x is) h.4.0 (
-      record { new = s.3.0; ends = e.3.0; need = needed.small; below = needed.below },
-      record {
-        unit = u.3.0;
-        amount = n.3.0;
-        hops = h.3.0;
-        units = u.0;
-        each = needed.each;
-        short = s.3.0.2;
-        items_are = joined is s.1 s.2 e.1 e.2 u.1 u.2 n.1 n.2 h.1 h.2 (node_pair_items nodes e.0.0 e.0.1) s.0 u.3.0 n.3.0 h.3.0 s.5 s.3.1 e.5 e.3.1 u.5 u.3.2 n.5 n.3.2 h.5 h.3.2 h.4.1;
-        unit_is = number_takes Number (units_of u.3.0) u.0 u.3.1;
-        amount_is = needed.amount_is;
-        need_is = needed.need_is;
-        hops_are = hops_takes h.3.0 h.0 h.3.1;
-      },
-    ))
-    (λ d is s.
-    let t = s.1 in
-    let b = s.0 in (
-      d.name,
-      Verbatim d.name ∷ [],
-      node_pair_items nodes d.from d.to ++ Verbatim t.unit ∷ Verbatim t.amount ∷ Verbatim t.hops ∷ [],
-      (b.new, refl),
+    let needed = need_takes before u.0 n.3.0 n.0 n.3.1 in
+    subst (λ (x : DemandRest). SpellsRest nodes before x is) h.4.0 (record {
+      ends = e.3.0;
+      need = needed.small;
+      below = needed.below;
+      unit = u.3.0;
+      amount = n.3.0;
+      hops = h.3.0;
+      units = u.0;
+      each = needed.each;
+      items_are = joined is e.1 e.2 u.1 u.2 n.1 n.2 h.1 h.2 (node_pair_items nodes e.0.0 e.0.1) u.3.0 n.3.0 h.3.0 e.5 e.3.1 u.5 u.3.2 n.5 n.3.2 h.5 h.3.2 h.4.1;
+      unit_is = number_takes Number (units_of u.3.0) u.0 u.3.1;
+      amount_is = needed.amount_is;
+      need_is = needed.need_is;
+      hops_are = hops_takes h.3.0 h.0 h.3.1;
+    }))
+    (λ r is t. (
+      (r.from, r.to),
+      node_pair_items nodes r.from r.to,
+      Verbatim t.unit ∷ Verbatim t.amount ∷ Verbatim t.hops ∷ [],
+      (t.ends, refl),
       (
-        (d.from, d.to),
-        node_pair_items nodes d.from d.to,
-        Verbatim t.unit ∷ Verbatim t.amount ∷ Verbatim t.hops ∷ [],
-        (b.ends, refl),
+        t.units,
+        Verbatim t.unit ∷ [],
+        Verbatim t.amount ∷ Verbatim t.hops ∷ [],
+        (t.unit, ap (number_or Number) t.unit_is, refl),
         (
-          t.units,
-          Verbatim t.unit ∷ [],
-          Verbatim t.amount ∷ Verbatim t.hops ∷ [],
-          (t.unit, ap (number_or Number) t.unit_is, refl),
+          r.need,
+          Verbatim t.amount ∷ [],
+          Verbatim t.hops ∷ [],
+          (t.amount, need_again before t.units t.amount t.each r.need t.amount_is t.need_is t.need t.below, refl),
           (
-            d.need,
-            Verbatim t.amount ∷ [],
+            tt,
             Verbatim t.hops ∷ [],
-            (t.amount, need_again (needs_in_all sofar) t.units t.amount t.each d.need t.amount_is t.need_is b.need b.below, refl),
-            (
-              tt,
-              Verbatim t.hops ∷ [],
-              [],
-              (t.hops, hops_again t.hops t.hops_are, refl),
-              (refl, refl),
-              refl,
-            ),
+            [],
+            (t.hops, hops_again t.hops t.hops_are, refl),
+            (refl, refl),
             refl,
           ),
           refl,
@@ -223,12 +255,72 @@ demand_spelled nodes pairs sofar = spelled_as (native_demand_at nodes sofar) _ (
       ),
       t.items_are,
     ))
-    (spelled_then _ _ _ _ AnyText (spelled_law _ _ _ AnyText (lawful_new_name (λ x. x.name) 2048 (Limit limits.Name) DoubleName (Limit limits.Demands) Token Ended sofar)) (λ name js s.
-    spelled_then _ _ _ _ AnyText (spelled_law (ends_at SelfDemand nodes) _ _ AnyText (ends_lawful SelfDemand nodes pairs)) (λ ends js s.
+    (spelled_then _ _ _ _ AnyText (spelled_law (ends_at SelfDemand nodes) _ _ AnyText (ends_lawful SelfDemand nodes pairs)) (λ ends js s.
     spelled_then _ _ _ _ AnyText (spelled_word Token Ended unit) (λ units js s.
-    spelled_then _ _ _ _ AnyText (spelled_word Token Ended (need (needs_in_all sofar) units)) (λ needed js s.
+    spelled_then _ _ _ _ AnyText (spelled_word Token Ended (need before units)) (λ needed js s.
     spelled_then _ _ _ _ AnyText (spelled_word Token Ended hops) (λ h js s.
-    spelled_give _))))))
+    spelled_give _)))))
+
+after_name : (is js ks j2 k2 rest : List Item) (n : List ℕ) → is ≡ js ++ ks → js ≡ Verbatim n ∷ [] → ks ≡ j2 ++ k2 → j2 ≡ rest → k2 ≡ [] → is ≡ Verbatim n ∷ rest
+after_name is js ks j2 k2 rest n e1 e2 e3 e4 e5 = rw (e1, e2, e3, e4, e5) (ap (λ (xs : List Item). Verbatim n ∷ xs) (append-nil rest))
+
+demand_spelled : (nodes : List (List ℕ)) → AreDifferent nodes → (sofar : List Demand) → Spelled (native_demand_at nodes sofar) (λ d is. IsDemandAfter nodes sofar d × SpellsDemand nodes d is) AnyText
+unfolding native_demand_at
+demand_spelled nodes pairs sofar = spelled_as (native_demand_at nodes sofar) _ (λ d is. IsDemandAfter nodes sofar d × SpellsDemand nodes d is) AnyText
+    (λ d is s.
+    let r = s.4 in
+    let t = r.3 in
+    subst (λ (x : Demand). IsDemandAfter nodes sofar x × SpellsDemand nodes x is) r.4.0 (
+      record { new = s.3.0; ends = t.ends; need = t.need; below = t.below },
+      record {
+        unit = t.unit;
+        amount = t.amount;
+        hops = t.hops;
+        units = t.units;
+        each = t.each;
+        short = s.3.0.2;
+        items_are = after_name is s.1 s.2 r.1 r.2 (node_pair_items nodes r.0.from r.0.to ++ Verbatim t.unit ∷ Verbatim t.amount ∷ Verbatim t.hops ∷ []) s.0 s.5 s.3.1 r.5 t.items_are r.4.1;
+        unit_is = t.unit_is;
+        amount_is = t.amount_is;
+        need_is = t.need_is;
+        hops_are = t.hops_are;
+      },
+    ))
+    (λ d is s.
+    let t = s.1 in
+    let b = s.0 in
+    let rest : List Item = node_pair_items nodes d.from d.to ++ Verbatim t.unit ∷ Verbatim t.amount ∷ Verbatim t.hops ∷ [] in (
+      d.name,
+      Verbatim d.name ∷ [],
+      rest,
+      (b.new, refl),
+      (
+        record { from = d.from; to = d.to; need = d.need },
+        rest,
+        [],
+        record {
+          ends = b.ends;
+          need = b.need;
+          below = b.below;
+          unit = t.unit;
+          amount = t.amount;
+          hops = t.hops;
+          units = t.units;
+          each = t.each;
+          items_are = refl;
+          unit_is = t.unit_is;
+          amount_is = t.amount_is;
+          need_is = t.need_is;
+          hops_are = t.hops_are;
+        },
+        (refl, refl),
+        sym (append-nil rest),
+      ),
+      t.items_are,
+    ))
+    (spelled_then _ _ _ _ AnyText (spelled_law _ _ _ AnyText (lawful_new_name (λ x. x.name) 2048 (Limit limits.Name) DoubleName (Limit limits.Demands) Token Ended sofar)) (λ name js s.
+    spelled_then _ _ _ _ AnyText (rest_spelled nodes pairs (needs_in_all sofar)) (λ rest js s.
+    spelled_give _)))
 
 demand_starts : (nodes : List (List ℕ)) (sofar : List Demand) (d : Demand) (is : List Item) → IsDemandAfter nodes sofar d × SpellsDemand nodes d is → Starts is
 demand_starts nodes sofar d is s = let t = s.1 in subst Starts (sym t.items_are) tt

@@ -9,7 +9,7 @@ use Rattle.sndlib_reader.specs.declared.costs.CostedLink.{CostedLink}
 use Rattle.sndlib_reader.specs.declared.fault.ReadKind.{ReadKind}
 use Rattle.sndlib_reader.specs.declared.fault.ReadKind.TheVariants.{Section, Token, Ended, SelfLink, SelfDemand}
 use Rattle.sndlib_reader.specs.Spelling.{names_of}
-use Rattle.sndlib_reader.specs.Reading.{known_name, path_name, node_named, other_node, amount, unit, capacity, need, needs_in_all, hops, native_section_at, part_at, native_nodes_at, ends_at, module_at, unserved, native_link_at, costed_links_at, native_demand_at, native_demands_at, some_at, native_path_at, path_line_at, is_meta, after_meta, start_at, is_paths, after_paths, paths_at, parts, native_sections_at}
+use Rattle.sndlib_reader.specs.Reading.{known_name, path_name, node_named, other_node, amount, unit, capacity, need, needs_in_all, hops, native_section_at, part_at, native_nodes_at, ends_at, module_at, unserved, link_rest_at, native_link_at, costed_links_at, demand_rest_at, native_demand_at, native_demands_at, some_at, native_path_at, path_line_at, is_meta, after_meta, start_at, is_paths, after_paths, paths_at, parts, after_links_at, after_nodes_at, native_sections_at}
 use Rattle.sndlib_reader.proofs.Nodes.{part_online, part_some}
 use Rattle.sndlib_reader.proofs.Skipped.{skipped_online}
 
@@ -33,10 +33,9 @@ pub module_some : (sofar : List Module) → TakesSome (module_at sofar)
 unfolding module_at
 module_some sofar = takes_some (module_at sofar) (module_online sofar) (λ p. Ended) (λ p. refl)
 
-link_online : (nodes : List (List ℕ)) (sofar : List CostedLink) → IsOnline (native_link_at nodes sofar)
-unfolding native_link_at
-link_online nodes sofar =
-    online_then _ _ (online_word Token Ended _) (λ name.
+link_rest_online : (nodes : List (List ℕ)) → IsOnline (link_rest_at nodes)
+unfolding link_rest_at
+link_rest_online nodes =
     online_then _ _ (ends_online SelfLink nodes) (λ ends.
     online_then _ _ (online_word Token Ended amount) (λ fixed.
     online_then _ _ (online_word Token Ended amount) (λ fixed_cost.
@@ -44,21 +43,34 @@ link_online nodes sofar =
     online_then _ _ (online_word Token Ended amount) (λ setup.
     online_then _ _ (online_open Token Ended) (λ o.
     online_then _ _ (online_list Parenthesis (unserved fixed) module_at module_online module_some []) (λ modules.
-    online_give _))))))))
+    online_give _)))))))
+
+link_online : (nodes : List (List ℕ)) (sofar : List CostedLink) → IsOnline (native_link_at nodes sofar)
+unfolding native_link_at
+link_online nodes sofar =
+    online_then _ _ (online_word Token Ended _) (λ name.
+    online_then _ _ (link_rest_online nodes) (λ rest.
+    online_give _))
 
 pub link_some : (nodes : List (List ℕ)) (sofar : List CostedLink) → TakesSome (native_link_at nodes sofar)
 unfolding native_link_at
 link_some nodes sofar = takes_some (native_link_at nodes sofar) (link_online nodes sofar) (λ p. Ended) (λ p. refl)
 
+demand_rest_online : (nodes : List (List ℕ)) (before : ℕ) → IsOnline (demand_rest_at nodes before)
+unfolding demand_rest_at
+demand_rest_online nodes before =
+    online_then _ _ (ends_online SelfDemand nodes) (λ ends.
+    online_then _ _ (online_word Token Ended unit) (λ units.
+    online_then _ _ (online_word Token Ended (need before units)) (λ needed.
+    online_then _ _ (online_word Token Ended hops) (λ h.
+    online_give _))))
+
 demand_online : (nodes : List (List ℕ)) (sofar : List Demand) → IsOnline (native_demand_at nodes sofar)
 unfolding native_demand_at
 demand_online nodes sofar =
     online_then _ _ (online_word Token Ended _) (λ name.
-    online_then _ _ (ends_online SelfDemand nodes) (λ ends.
-    online_then _ _ (online_word Token Ended unit) (λ units.
-    online_then _ _ (online_word Token Ended (need (needs_in_all sofar) units)) (λ needed.
-    online_then _ _ (online_word Token Ended hops) (λ h.
-    online_give _)))))
+    online_then _ _ (demand_rest_online nodes (needs_in_all sofar)) (λ rest.
+    online_give _))
 
 pub demand_some : (nodes : List (List ℕ)) (sofar : List Demand) → TakesSome (native_demand_at nodes sofar)
 unfolding native_demand_at
@@ -122,13 +134,25 @@ meta_online true =
     online_word Section Ended (expected Section (codes "NODES"))))
 meta_online false = online_give tt
 
+after_links_online : (nodes links : List (List ℕ)) → IsOnline (after_links_at nodes links)
+unfolding after_links_at
+after_links_online nodes links =
+    online_then _ _ (section_online (codes "DEMANDS") (native_demands_at nodes []) (online_list Parenthesis no_fault (native_demand_at nodes) (demand_online nodes) (demand_some nodes) [])) (λ demands.
+    online_then _ _ (paths_online _ _) (λ p.
+    online_give demands))
+
+after_nodes_online : (nodes : List (List ℕ)) → IsOnline (after_nodes_at nodes)
+unfolding after_nodes_at
+after_nodes_online nodes =
+    online_then _ _ (section_online (codes "LINKS") (costed_links_at nodes []) (online_list Parenthesis no_fault (native_link_at nodes) (link_online nodes) (link_some nodes) [])) (λ links.
+    online_then _ _ (after_links_online nodes _) (λ demands.
+    online_give (links, demands)))
+
 pub sections_online : IsOnline native_sections_at
 unfolding native_sections_at
 sections_online =
     online_then start_at _ (online_then _ after_meta (online_word Section Ended is_meta) meta_online) (λ s.
     online_then _ _ (online_open Section Ended) (λ o.
     online_then (native_nodes_at []) _ (online_then (list_at Parenthesis no_fault part_at []) _ (online_list Parenthesis no_fault part_at part_online part_some []) (λ xs. online_give (names_of xs))) (λ nodes.
-    online_then _ _ (section_online (codes "LINKS") (costed_links_at nodes []) (online_list Parenthesis no_fault (native_link_at nodes) (link_online nodes) (link_some nodes) [])) (λ links.
-    online_then _ _ (section_online (codes "DEMANDS") (native_demands_at nodes []) (online_list Parenthesis no_fault (native_demand_at nodes) (demand_online nodes) (demand_some nodes) [])) (λ demands.
-    online_then _ _ (paths_online _ _) (λ p.
-    online_give (parts nodes links, demands)))))))
+    online_then _ _ (after_nodes_online nodes) (λ rest.
+    online_give (parts nodes rest.0, rest.1)))))

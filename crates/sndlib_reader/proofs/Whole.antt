@@ -28,7 +28,7 @@ use Rattle.sndlib_reader.specs.declared.fault.ReadKind.TheVariants.{Header, Sect
 use Rattle.sndlib_reader.specs.Balance.{IsSkipped}
 use Rattle.sndlib_reader.specs.Paths.{AreMany, ArePaths, AreSome, IsKnownName, IsPathLine, IsNamedPath, IsShortName}
 use Rattle.sndlib_reader.specs.Spelling.{IsMeta, IsShortLink, NodePart, NodeName, Coordinates, Parts, Spells, SpellsDemand, SpellsParts, SpellsPart, header, link_items, names_of, notes_of, parts_of}
-use Rattle.sndlib_reader.specs.Reading.{IsFirstFault, path_name, known_name, native_section_at, part_at, native_nodes_at, costed_links_at, native_demands_at, some_at, native_path_at, path_line_at, is_meta, after_meta, start_at, is_paths, after_paths, paths_at, parts, native_sections_at, network_of}
+use Rattle.sndlib_reader.specs.Reading.{IsFirstFault, path_name, known_name, native_section_at, part_at, native_nodes_at, costed_links_at, native_demands_at, some_at, native_path_at, path_line_at, is_meta, after_meta, start_at, is_paths, after_paths, paths_at, parts, after_links_at, after_nodes_at, native_sections_at, network_of}
 use Rattle.sndlib_reader.proofs.WordTests.{known_again, known_takes, path_name_again, path_name_takes}
 use Rattle.text_kit.proofs.NameLaws.{IsNew, are_new, new_are}
 use Rattle.sndlib_reader.proofs.Skipped.{skipped_spelled}
@@ -395,9 +395,31 @@ of_network x is s =
       parts_are = parts_equal x.0.nodes s.links x.0 refl s.links_are s.notes_are;
     }
 
-pub sections_spelled : Spelled native_sections_at SpellsParts IsEnd
-unfolding native_sections_at
-sections_spelled = spelled_as native_sections_at _ SpellsParts IsEnd
+-- the same readings, none inside another
+abbrev then_last : List (List ℕ) → List CostedLink → List Demand → Unit {0} → Reading ReadKind (Parts × List Demand)
+then_last nodes links demands u = give (parts nodes links, demands)
+
+abbrev then_paths : List (List ℕ) → List CostedLink → List Demand → Reading ReadKind (Parts × List Demand)
+then_paths nodes links demands = paths_at (map (λ l. l.link.name) links) (map (λ d. d.name) demands) >>= then_last nodes links demands
+
+abbrev then_demands : List (List ℕ) → List CostedLink → Reading ReadKind (Parts × List Demand)
+then_demands nodes links = native_section_at (codes "DEMANDS") (native_demands_at nodes []) >>= then_paths nodes links
+
+abbrev then_links : List (List ℕ) → Reading ReadKind (Parts × List Demand)
+then_links nodes = native_section_at (codes "LINKS") (costed_links_at nodes []) >>= then_demands nodes
+
+abbrev then_nodes : Unit {0} → Reading ReadKind (Parts × List Demand)
+then_nodes o = native_nodes_at [] >>= then_links
+
+abbrev then_open : Unit {0} → Reading ReadKind (Parts × List Demand)
+then_open s = open_at Section Ended >>= then_nodes
+
+unfoldable in_a_row : Reading ReadKind (Parts × List Demand)
+in_a_row = start_at >>= then_open
+
+in_a_row_spelled : Spelled in_a_row SpellsParts IsEnd
+unfolding in_a_row
+in_a_row_spelled = spelled_as in_a_row _ SpellsParts IsEnd
     (λ x is s.
     let m = s.3 in
     let o = s.4 in
@@ -478,6 +500,65 @@ sections_spelled = spelled_as native_sections_at _ SpellsParts IsEnd
     spelled_then _ _ _ _ IsEnd (section_spelled (codes "LINKS") (costed_links_at nodes []) (AreLinkItems nodes) (spelled_law (costed_links_at nodes []) _ _ AnyText (links_lawful nodes different))) (λ links js s.
     spelled_then _ _ _ _ IsEnd (section_spelled (codes "DEMANDS") (native_demands_at nodes []) (AreDemandItems nodes) (demands_spelled nodes different)) (λ demands js s.
     spelled_given _ (λ u. (parts nodes links, demands)) _ IsEnd (paths_spelled _ _)))))))
+
+abbrev given_demands : List Demand → Unit {0} → Reading ReadKind (List Demand)
+given_demands demands u = give demands
+
+abbrev given_both : List CostedLink → List Demand → Reading ReadKind (List CostedLink × List Demand)
+given_both links demands = give (links, demands)
+
+abbrev given_parts : List (List ℕ) → List CostedLink × List Demand → Reading ReadKind (Parts × List Demand)
+given_parts nodes rest = give (parts nodes rest.0, rest.1)
+
+abbrev paths_of : List CostedLink → List Demand → Reading ReadKind (List Demand)
+paths_of links demands = paths_at (map (λ l. l.link.name) links) (map (λ d. d.name) demands) >>= given_demands demands
+
+abbrev links_of : List (List ℕ) → List CostedLink → Reading ReadKind (List CostedLink × List Demand)
+links_of nodes links = after_links_at nodes (map (λ l. l.link.name) links) >>= given_both links
+
+after_paths_read : (nodes : List (List ℕ)) (links : List CostedLink) (demands : List Demand) (read : Read ReadKind (Unit {0}))
+    → after (after (after read (given_demands demands)) (given_both links)) (given_parts nodes) ≡ after read (then_last nodes links demands)
+after_paths_read nodes links demands (Ok x) = refl
+after_paths_read nodes links demands (Err e) = refl
+
+after_demands_read : (nodes : List (List ℕ)) (links : List CostedLink) (read : Read ReadKind (List Demand))
+    → after (after (after read (paths_of links)) (given_both links)) (given_parts nodes) ≡ after read (then_paths nodes links)
+after_demands_read nodes links (Ok x) = after_paths_read nodes links x.0 (paths_at (map (λ l. l.link.name) links) (map (λ d. d.name) x.0) x.1)
+after_demands_read nodes links (Err e) = refl
+
+after_links_read : (nodes : List (List ℕ)) (read : Read ReadKind (List CostedLink)) → after (after read (links_of nodes)) (given_parts nodes) ≡ after read (then_demands nodes)
+unfolding after_links_at
+after_links_read nodes (Ok x) = after_demands_read nodes x.0 (native_section_at (codes "DEMANDS") (native_demands_at nodes []) x.1)
+after_links_read nodes (Err e) = refl
+
+after_nodes_read : (read : Read ReadKind (List (List ℕ))) → after read (λ nodes. after_nodes_at nodes >>= given_parts nodes) ≡ after read then_links
+unfolding after_nodes_at
+after_nodes_read (Ok x) = after_links_read x.0 (native_section_at (codes "LINKS") (costed_links_at x.0 []) x.1)
+after_nodes_read (Err e) = refl
+
+abbrev nested_nodes : Unit {0} → Reading ReadKind (Parts × List Demand)
+nested_nodes o = native_nodes_at [] >>= λ nodes. after_nodes_at nodes >>= given_parts nodes
+
+after_open_read : (read : Read ReadKind (Unit {0})) → after read nested_nodes ≡ after read then_nodes
+after_open_read (Ok x) = after_nodes_read (native_nodes_at [] x.1)
+after_open_read (Err e) = refl
+
+abbrev nested_open : Unit {0} → Reading ReadKind (Parts × List Demand)
+nested_open s = open_at Section Ended >>= nested_nodes
+
+after_start_read : (read : Read ReadKind (Unit {0})) → after read nested_open ≡ after read then_open
+after_start_read (Ok x) = after_open_read (open_at Section Ended x.1)
+after_start_read (Err e) = refl
+
+are_in_a_row : (text : Text) → native_sections_at text ≡ in_a_row text
+unfolding native_sections_at in_a_row
+are_in_a_row text = after_start_read (start_at text)
+
+pub sections_spelled : Spelled native_sections_at SpellsParts IsEnd
+sections_spelled = record {
+  takes = λ text x rest e. in_a_row_spelled.takes text x rest (sym (are_in_a_row text) ∙ e);
+  again = λ text x rest is of begins left. are_in_a_row text ∙ in_a_row_spelled.again text x rest is of begins left;
+}
 
 -- ---- what the code needs while it reads
 

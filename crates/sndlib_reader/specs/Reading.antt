@@ -16,6 +16,8 @@ use Rattle.sndlib_reader.specs.declared.fault.Limited.TheVariants as limits
 use Rattle.sndlib_reader.specs.declared.fault.ReadKind.{ReadKind}
 use Rattle.sndlib_reader.specs.declared.fault.ReadKind.TheVariants.{Header, Section, Token, Ended, Limit, Number, UnknownName, DoubleName, SelfLink, SelfDemand, ZeroModule, FixedLink}
 use Rattle.sndlib_reader.specs.declared.costs.CostedLink.{CostedLink}
+use Rattle.sndlib_reader.specs.declared.demand.DemandRest.{DemandRest}
+use Rattle.sndlib_reader.specs.declared.link.LinkRest.{LinkRest}
 use Rattle.sndlib_reader.specs.Spelling.{NodePart, NodeName, Coordinates, names_of, ends_named, notes_of, header, Parts}
 
 -- ---- what a word says
@@ -147,10 +149,9 @@ unserved fixed modules = if (length modules == 0) && nat_lt 0 fixed then Some Fi
 abbrev pub native_modules_at : ℕ → List Module → Reading ReadKind (List Module)
 native_modules_at fixed sofar = list_at Parenthesis (unserved fixed) module_at sofar
 
--- a link after others, with the two costs that aren't kept
-unfoldable pub native_link_at : List (List ℕ) → List CostedLink → Reading ReadKind CostedLink
-native_link_at nodes sofar = do
-  name ← word_at Token Ended (λ w. sound w (link_fault sofar w))
+-- what a link has after its name
+unfoldable pub link_rest_at : List (List ℕ) → Reading ReadKind LinkRest
+link_rest_at nodes = do
   ends ← ends_at SelfLink nodes
   fixed ← word_at Token Ended amount
   fixed_cost ← word_at Token Ended amount
@@ -158,11 +159,22 @@ native_link_at nodes sofar = do
   setup ← word_at Token Ended amount
   _ ← open_at Token Ended
   modules ← native_modules_at fixed []
-  give (record {
-    link = record { name = name; a = ends.0; b = ends.1; fixed = fixed; setup = setup; modules = modules };
-    fixed_cost = fixed_cost;
-    routing_cost = routing_cost;
-  })
+  give (record { a = ends.0; b = ends.1; fixed = fixed; fixed_cost = fixed_cost; routing_cost = routing_cost; setup = setup; modules = modules })
+
+-- the link of a name, with the two costs that aren't kept
+abbrev pub named_link : List ℕ → LinkRest → CostedLink
+named_link name rest = record {
+  link = record { name = name; a = rest.a; b = rest.b; fixed = rest.fixed; setup = rest.setup; modules = rest.modules };
+  fixed_cost = rest.fixed_cost;
+  routing_cost = rest.routing_cost;
+}
+
+-- a link after others
+unfoldable pub native_link_at : List (List ℕ) → List CostedLink → Reading ReadKind CostedLink
+native_link_at nodes sofar = do
+  name ← word_at Token Ended (λ w. sound w (link_fault sofar w))
+  rest ← link_rest_at nodes
+  give (named_link name rest)
 
 -- further links
 abbrev pub costed_links_at : List (List ℕ) → List CostedLink → Reading ReadKind (List CostedLink)
@@ -172,15 +184,21 @@ costed_links_at nodes sofar = list_at Parenthesis no_fault (native_link_at nodes
 abbrev pub needs_in_all : List Demand → ℕ
 needs_in_all demands = sum_by (λ d. d.need) demands
 
+-- what a demand has after its name, after others of this total
+unfoldable pub demand_rest_at : List (List ℕ) → ℕ → Reading ReadKind DemandRest
+demand_rest_at nodes before = do
+  ends ← ends_at SelfDemand nodes
+  units ← word_at Token Ended unit
+  need ← word_at Token Ended (need before units)
+  _ ← word_at Token Ended hops
+  give (record { from = ends.0; to = ends.1; need = need })
+
 -- a demand after others
 unfoldable pub native_demand_at : List (List ℕ) → List Demand → Reading ReadKind Demand
 native_demand_at nodes sofar = do
   name ← word_at Token Ended (λ w. sound w (demand_fault sofar w))
-  ends ← ends_at SelfDemand nodes
-  units ← word_at Token Ended unit
-  need ← word_at Token Ended (need (needs_in_all sofar) units)
-  _ ← word_at Token Ended hops
-  give (record { name = name; from = ends.0; to = ends.1; need = need })
+  rest ← demand_rest_at nodes (needs_in_all sofar)
+  give (record { name = name; from = rest.from; to = rest.to; need = rest.need })
 
 -- further demands
 abbrev pub native_demands_at : List (List ℕ) → List Demand → Reading ReadKind (List Demand)
@@ -239,16 +257,28 @@ paths_at links demands = step_at is_paths (Err Section) (Err Section) (Ok false)
 abbrev pub parts : List (List ℕ) → List CostedLink → Parts
 parts nodes links = record { nodes = nodes; links = map (λ l. l.link) links; notes = notes_of links }
 
+-- the sections of demands and of paths, and nothing after them
+unfoldable pub after_links_at : List (List ℕ) → List (List ℕ) → Reading ReadKind (List Demand)
+after_links_at nodes links = do
+  demands ← native_section_at (codes "DEMANDS") (native_demands_at nodes [])
+  _ ← paths_at links (map (λ d. d.name) demands)
+  give demands
+
+-- the sections after that of the nodes
+unfoldable pub after_nodes_at : List (List ℕ) → Reading ReadKind (List CostedLink × List Demand)
+after_nodes_at nodes = do
+  links ← native_section_at (codes "LINKS") (costed_links_at nodes [])
+  demands ← after_links_at nodes (map (λ l. l.link.name) links)
+  give (links, demands)
+
 -- all sections, and nothing after them
 unfoldable pub native_sections_at : Reading ReadKind (Parts × List Demand)
 native_sections_at = do
   _ ← start_at
   _ ← open_at Section Ended
   nodes ← native_nodes_at []
-  links ← native_section_at (codes "LINKS") (costed_links_at nodes [])
-  demands ← native_section_at (codes "DEMANDS") (native_demands_at nodes [])
-  _ ← paths_at (map (λ l. l.link.name) links) (map (λ d. d.name) demands)
-  give (parts nodes links, demands)
+  rest ← after_nodes_at nodes
+  give (parts nodes rest.0, rest.1)
 
 -- a whole file: its network and demands, or its first fault by place
 abbrev pub network_of : List ℕ → Read ReadKind (Parts × List Demand)

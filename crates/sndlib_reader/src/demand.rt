@@ -3,17 +3,25 @@ ghost use Rattle.net_core.specs.Tests.{is_named};
 ghost use Rattle.snd_tokens.specs.Lexemes.{left, size};
 ghost use Rattle.text_kit.specs.Answers.{ReadsAs, TakesElement};
 ghost use Rattle.text_kit.specs.Reading.{sound, word_at};
-ghost use Rattle.sndlib_reader.specs.Reading.{native_demand_at, demand_fault, native_demands_at, hops, need, needs_in_all, unit};
+ghost use Rattle.sndlib_reader.specs.Reading.{native_demand_at, demand_rest_at, demand_fault, native_demands_at, hops, need, needs_in_all, unit};
 
 use crate::fault::{Limited, ReadKind, ReadRefusal};
 use crate::names::Names;
 use crate::node::ends;
 use crate::words::amount_of;
-use net_core::{Demand, Demands, List, Name};
+use net_core::{Demand, Demands, List, Name, NodeId};
 use snd_tokens::{Cursor, NumberFault, are_digits, units};
 use std::alloc::Global;
 use text_kit::names::new_name_fault;
 use text_kit::steps::{closes, placed, word};
+
+/// What a demand has after its name; the need is in thousandths.
+#[derive(Clone, Copy)]
+pub struct DemandRest {
+    pub from: NodeId,
+    pub to: NodeId,
+    pub need: u64,
+}
 
 const MAX_DEMANDS: usize = 2048;
 
@@ -123,6 +131,21 @@ fn demand_name<'a>(
     names.put(alloc, at, word, demand_fault(demands, names, word))
 }
 
+/// Takes what a demand has after its name; the total of those before it is `before`.
+#[tactic(auto, unfolding(crate::specs::Reading::demand_rest_at))]
+fn demand_rest(nodes: &Names, before: u64, text: &mut Cursor) -> Result<DemandRest, ReadRefusal>
+    requires nodes { length nodes.now ≤ 128 }
+    requires below { before < 2 ^ 44 }
+    ensures reads { ReadsAs (λ r. r) result (left text.new) (demand_rest_at nodes.now before (left text.old)) }
+    ensures below { IfOk result (λ r. before + r.need < 2 ^ 44) }
+{
+    let (from, to) = ends(ReadKind::SelfDemand, nodes, text)?;
+    let units = unit(text)?;
+    let need = need(before, units, text)?;
+    hops(text)?;
+    Ok(DemandRest { from, to, need })
+}
+
 /// Takes a demand after these ones, whose total is `before`.
 #[tactic(auto, unfolding(crate::specs::Reading::native_demand_at))]
 fn demand<'a>(
@@ -142,10 +165,7 @@ fn demand<'a>(
     ensures last { IfOk result (λ d. names.new ≡ names.old ++ d.name ∷ []) }
 {
     let name = demand_name(alloc, demands, names, text)?;
-    let (from, to) = ends(ReadKind::SelfDemand, nodes, text)?;
-    let units = unit(text)?;
-    let need = need(before, units, text)?;
-    hops(text)?;
+    let DemandRest { from, to, need } = demand_rest(nodes, before, text)?;
     Ok(Demand {
         name,
         from,

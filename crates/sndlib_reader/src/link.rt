@@ -3,19 +3,31 @@ ghost use Rattle.net_core.specs.Tests.{is_named};
 ghost use Rattle.snd_tokens.specs.Lexemes.{left, size};
 ghost use Rattle.text_kit.specs.Answers.{ReadsAs, TakesElement};
 ghost use Rattle.text_kit.specs.Reading.{sound, word_at};
-ghost use Rattle.sndlib_reader.specs.Reading.{capacity, native_link_at, link_fault, costed_links_at, module_at, native_modules_at};
+ghost use Rattle.sndlib_reader.specs.Reading.{capacity, native_link_at, link_rest_at, named_link, link_fault, costed_links_at, module_at, native_modules_at};
 
 use crate::costs::CostedLink;
 use crate::fault::{Limited, ReadKind, ReadRefusal};
 use crate::names::Names;
 use crate::node::ends;
 use crate::words::{amount, amount_of};
-use net_core::{Link, List, Module, Name};
+use net_core::{Link, List, Module, Name, NodeId};
 use snd_tokens::Cursor;
 use std::alloc::Global;
 use text_kit::names::new_name_fault;
 use text_kit::refusal::bad;
 use text_kit::steps::{closes, open, placed, word};
+
+/// What a link has after its name; amounts and costs are in thousandths.
+#[derive(Drop)]
+pub struct LinkRest {
+    pub a: NodeId,
+    pub b: NodeId,
+    pub fixed: u64,
+    pub fixed_cost: u64,
+    pub routing_cost: u64,
+    pub setup: u64,
+    pub modules: List<Module>,
+}
 
 const MAX_LINKS: usize = 256;
 
@@ -111,6 +123,48 @@ fn link_name<'a>(
     names.put(alloc, at, word, link_fault(links, names, word))
 }
 
+/// Takes what a link has after its name.
+#[tactic(auto, unfolding(crate::specs::Reading::link_rest_at))]
+fn link_rest(alloc: Global, nodes: &Names, text: &mut Cursor) -> Result<LinkRest, ReadRefusal>
+    requires { length nodes.now ≤ 128 }
+    ensures { ReadsAs (λ r. r) result (left text.new) (link_rest_at nodes.now (left text.old)) }
+{
+    let (a, b) = ends(ReadKind::SelfLink, nodes, text)?;
+    let fixed = amount(text)?;
+    let fixed_cost = amount(text)?;
+    let routing_cost = amount(text)?;
+    let setup = amount(text)?;
+    open(ReadKind::Token, ReadKind::Ended, text)?;
+    let modules = modules(alloc, fixed, text)?;
+    Ok(LinkRest {
+        a,
+        b,
+        fixed,
+        fixed_cost,
+        routing_cost,
+        setup,
+        modules,
+    })
+}
+
+/// The link of this name.
+fn named_link(name: Name, rest: LinkRest) -> CostedLink
+    ensures { result ≡ named_link name rest }
+{
+    CostedLink {
+        link: Link {
+            name,
+            a: rest.a,
+            b: rest.b,
+            fixed: rest.fixed,
+            setup: rest.setup,
+            modules: rest.modules,
+        },
+        fixed_cost: rest.fixed_cost,
+        routing_cost: rest.routing_cost,
+    }
+}
+
 /// Takes a link after these ones.
 #[tactic(auto, unfolding(crate::specs::Reading::native_link_at))]
 fn link<'a>(
@@ -126,25 +180,8 @@ fn link<'a>(
     ensures last { IfOk result (λ l. names.new ≡ names.old ++ l.link.name ∷ []) }
 {
     let name = link_name(alloc, links, names, text)?;
-    let (a, b) = ends(ReadKind::SelfLink, nodes, text)?;
-    let fixed = amount(text)?;
-    let fixed_cost = amount(text)?;
-    let routing_cost = amount(text)?;
-    let setup = amount(text)?;
-    open(ReadKind::Token, ReadKind::Ended, text)?;
-    let modules = modules(alloc, fixed, text)?;
-    Ok(CostedLink {
-        link: Link {
-            name,
-            a,
-            b,
-            fixed,
-            setup,
-            modules,
-        },
-        fixed_cost,
-        routing_cost,
-    })
+    let rest = link_rest(alloc, nodes, text)?;
+    Ok(named_link(name, rest))
 }
 
 /// Takes one link more, and says whether there was one.

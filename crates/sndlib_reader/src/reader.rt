@@ -1,5 +1,5 @@
-ghost use Rattle.std.specs.Prelude.{◌≡◌, ◌≤◌, ℕ, List, [], length, map, IfOk, IfErr, Err, codes};
-ghost use Rattle.snd_tokens.specs.Lexemes.{left};
+ghost use Rattle.std.specs.Prelude.{◌≡◌, ◌≤◌, ℕ, List, [], length, map, IfOk, IfErr, Ok, Err, codes};
+ghost use Rattle.snd_tokens.specs.Lexemes.{Text, left};
 ghost use Rattle.net_core.specs.Network.{IsNetwork};
 ghost use Rattle.net_core.specs.declared.network.Network.{Network as Net};
 ghost use Rattle.net_core.specs.declared.demand.Demand.{Demand as Dem};
@@ -9,7 +9,7 @@ ghost use Rattle.text_kit.specs.Reading.{word_at};
 ghost use Rattle.text_kit.specs.declared.refusal.Refusal.{Refusal};
 ghost use Rattle.sndlib_reader.specs.declared.fault.ReadKind.{ReadKind};
 ghost use Rattle.sndlib_reader.specs.Spelling.{Spells, parts_of};
-ghost use Rattle.sndlib_reader.specs.Reading.{IsFirstFault, native_demands_at, is_meta, costed_links_at, network_of, parts, native_section_at, native_sections_at, start_at};
+ghost use Rattle.sndlib_reader.specs.Reading.{IsFirstFault, after_links_at, after_nodes_at, native_demands_at, is_meta, costed_links_at, network_of, parts, native_section_at, native_sections_at, start_at};
 
 use crate::costs::{CostedLink, links_of, notes_of};
 use crate::demand::demands;
@@ -109,6 +109,38 @@ fn network(alloc: Global, nodes: List<Name>, links: List<CostedLink>) -> Result<
     }
 }
 
+/// Takes the sections of demands and of paths, and finds that nothing is after them. The nodes and the links have these names.
+#[tactic(auto, unfolding(crate::specs::Reading::after_links_at))]
+fn after_links(
+    alloc: Global,
+    nodes: &Names,
+    links: &Names,
+    text: &mut Cursor,
+) -> Result<Demands, ReadRefusal>
+    requires { length nodes.now ≤ 128 }
+    ensures { ReadsAs (λ demands. demands) result (left text.new) (after_links_at nodes.now links.now (left text.old)) }
+{
+    let (demands, names) = demand_section(alloc, nodes, text)?;
+    paths(links, &names, text)?;
+    Ok(demands)
+}
+
+/// Takes the sections after that of the nodes, which have these names.
+#[tactic(auto, unfolding(crate::specs::Reading::after_nodes_at))]
+fn after_nodes(
+    alloc: Global,
+    nodes: &Names,
+    text: &mut Cursor,
+) -> Result<(List<CostedLink>, Demands), ReadRefusal>
+    requires { length nodes.now ≤ 128 }
+    ensures reads { ReadsAs (λ r. r) result (left text.new) (after_nodes_at nodes.now (left text.old)) }
+    ensures links { IfOk result (λ r. (rest : Text) × (native_section_at (codes "LINKS") (costed_links_at nodes.now []) (left text.old) ≡ Ok (r.0, rest))) }
+{
+    let (links, names) = link_section(alloc, nodes, text)?;
+    let demands = after_links(alloc, nodes, &names, text)?;
+    Ok((links, demands))
+}
+
 /// Takes all sections, and finds that nothing is after them.
 #[tactic(auto, unfolding(crate::specs::Reading::native_sections_at))]
 fn sections(alloc: Global, text: &mut Cursor) -> Result<(Network, Demands), ReadRefusal>
@@ -116,10 +148,8 @@ fn sections(alloc: Global, text: &mut Cursor) -> Result<(Network, Demands), Read
 {
     start(text)?;
     open(ReadKind::Section, ReadKind::Ended, text)?;
-    let (nodes, node_names) = nodes(alloc, text)?;
-    let (links, link_names) = link_section(alloc, &node_names, text)?;
-    let (demands, demand_names) = demand_section(alloc, &node_names, text)?;
-    paths(&link_names, &demand_names, text)?;
+    let (nodes, names) = nodes(alloc, text)?;
+    let (links, demands) = after_nodes(alloc, &names, text)?;
     Ok((network(alloc, nodes, links)?, demands))
 }
 
