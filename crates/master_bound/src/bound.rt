@@ -1,4 +1,4 @@
-ghost use Rattle.std.specs.Prelude.{◌≡◌, ◌≤◌, ◌<◌, ◌^◌, All, AllPairs, Err, IfOk, Some, length, slice_get};
+ghost use Rattle.std.specs.Prelude.{◌≡◌, ◌≤◌, ◌<◌, ◌^◌, All, AllPairs, Ok, Err, IfOk, MatchOption, Some, length, slice_get};
 ghost use Rattle.net_core.specs.declared.plan.CutLine.{CutLine};
 ghost use Rattle.net_core.specs.declared.columns.MasterColumn.TheVariants.{Metric};
 ghost use Rattle.net_core.specs.declared.columns.WideKind.TheVariants.{Number};
@@ -14,7 +14,7 @@ ghost use Rattle.master_bound.specs.inner.Narrow.{IsNarrowCut, IsWideCut};
 ghost use Rattle.master_bound.specs.inner.Programs.{IsMasterSolution, IsWideAnswer};
 ghost use Rattle.master_bound.specs.inner.Shares.{IsShareOfDuals};
 
-use crate::answer::{Best, MasterFault};
+use crate::answer::{Best, MasterFault, Multiplier};
 use crate::lines::{amounts_of, asks_too_much, common_divisor, has_wide, multipliers_of};
 use crate::numbers::wide_cut;
 use crate::program::MasterProgram;
@@ -70,6 +70,50 @@ fn wide_number(
     Ok(wide(names, WideKind::Number(name)))
 }
 
+/// The lines of a certificate over one denominator.
+#[derive(Drop)]
+struct Lines {
+    den: u128,
+    multipliers: List<Multiplier>,
+}
+
+/// The lines that an optimum gives whose share costs something, unless a value of it is too wide.
+fn lines_of(
+    alloc: Global,
+    task: &Task,
+    optimum: &Optimum<MasterColumn>,
+    share: &Share,
+    raw: &RawValue,
+) -> Result<Option<Lines>, NoMemory>
+    requires units { AreUnitPairs task.now.net.now.links task.now.pairs.now }
+    requires different { AllPairs (λ a b. IsSameCut a b → ⊥) task.now.cuts.now }
+    requires packing { IsPacking (length task.now.net.now.links) (master_bound task.now.pairs.now) (IsMasterColumn task.now.net.now.links task.now.pairs.now task.now.cuts.now) }
+    requires solution { IsMasterSolution task.now.net.now.links task.now.pairs.now task.now.cuts.now optimum.now }
+    requires share { IsShareOfDuals optimum.now.duals share.now }
+    requires raw { IsLowest (share_cost task.now.pairs.now share.now) share.now.scale raw.now.num raw.now.den }
+    requires some { 0 < raw.now.num }
+    ensures { IfOk result (λ found. MatchOption found
+        (IsEvidenceOf task.now.net.now.links task.now.cuts.now (Evidence.Master optimum.now.basis WideKind.Value))
+        (λ lines. IsMasterAnswer task.now.net.now.links task.now.cuts.now
+        (Ok (record { den = lines.den; multipliers = lines.multipliers; share = share.now; raw_num = raw.now.num; raw_den = raw.now.den })))) }
+{
+    let basis = optimum.basis.items();
+    let amounts = amounts_of(alloc, basis, optimum.values.items())?;
+    let common = common_divisor(optimum.den, amounts.items());
+    if has_wide(amounts.items(), common) {
+        return Ok(None);
+    }
+    let cuts = task.cuts.items();
+    let multipliers = multipliers_of(alloc, cuts, basis, amounts.items(), common)?;
+    if asks_too_much(cuts, multipliers.items()) {
+        return Ok(None);
+    }
+    Ok(Some(Lines {
+        den: optimum.den as u128 / common,
+        multipliers,
+    }))
+}
+
 /// The certificate of an optimum whose share costs something.
 fn certified(
     alloc: Global,
@@ -87,24 +131,17 @@ fn certified(
     requires some { 0 < raw.num }
     ensures { IsMasterAnswer task.now.net.now.links task.now.cuts.now result }
 {
-    let basis = optimum.basis.items();
-    let amounts = amounts_of(alloc, basis, optimum.values.items())?;
-    let common = common_divisor(optimum.den, amounts.items());
-    if has_wide(amounts.items(), common) {
-        return Err(wide(optimum.basis, WideKind::Value));
+    let found = lines_of(alloc, task, &optimum, &share, &raw)?;
+    match found {
+        Some(Lines { den, multipliers }) => Ok(Best {
+            den,
+            multipliers,
+            share,
+            raw_num: raw.num,
+            raw_den: raw.den,
+        }),
+        None => Err(wide(optimum.basis, WideKind::Value)),
     }
-    let cuts = task.cuts.items();
-    let multipliers = multipliers_of(alloc, cuts, basis, amounts.items(), common)?;
-    if asks_too_much(cuts, multipliers.items()) {
-        return Err(wide(optimum.basis, WideKind::Value));
-    }
-    Ok(Best {
-        den: optimum.den as u128 / common,
-        multipliers,
-        share,
-        raw_num: raw.num,
-        raw_den: raw.den,
-    })
 }
 
 /// The answer that an optimum gives.
