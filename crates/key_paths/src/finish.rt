@@ -1,10 +1,10 @@
-ghost use Rattle.std.specs.Prelude.{◌≡◌, ◌≢◌, ◌<◌, ◌≤◌, ◌+◌, ◌*◌, ◌/◌, ◌^◌, ◌++◌, ◌*ℤ◌, ◌≤ℤ◌, ◌<ℤ◌, ℕ, pos, length, get_or, unsigned_abs, IfOk, IfSome, IfNone, slice_set};
+ghost use Rattle.std.specs.Prelude.{◌≡◌, ◌≢◌, ◌<◌, ◌≤◌, ◌+◌, ◌*◌, ◌/◌, ◌^◌, ◌++◌, ◌*ℤ◌, ◌≤ℤ◌, ◌<ℤ◌, ℕ, pos, length, get_or, unsigned_abs, IfOk, IfSome, IfNone, MatchOption, slice_set};
 ghost use Rattle.std.specs.Int.{◌∣◌};
 ghost use Rattle.checked_fraction.specs.Rows.{num, IsNarrow, IsInLowestTerms};
 ghost use Rattle.simplex_law.specs.Sums.{unit_vector};
 ghost use Rattle.simplex_core.specs.inner.Commons.{IsDenominator, HaveNoDenominator};
 ghost use Rattle.key_rows.specs.Bases.{IsShapedBasis};
-ghost use Rattle.key_paths.specs.inner.Ends.{row_den, key_over, role_over, FitOver, HasFittingValues, AreApartPlaces, AreValuesOver, IsKeyedEnd};
+ghost use Rattle.key_paths.specs.inner.Ends.{row_den, key_over, role_over, FitOver, HasFittingValues, AreApartPlaces, AreValuesOver, IsEndOf, IsWideEnd, IsKeyedEnd};
 
 use checked_fraction::Row;
 use key_rows::{Keyed, joined_common, size_of_den};
@@ -151,7 +151,36 @@ fn whole_duals(alloc: Global, keyed: &Keyed) -> Result<Row, NoMemory>
     Ok(row_of(nums, &keyed.prices.den))
 }
 
-/// The values of a best basis, unless their denominator is too wide.
+/// What an optimum has beside its names.
+#[derive(Drop)]
+struct Ended {
+    den: u64,
+    values: List<u128>,
+    duals: Row,
+}
+
+/// The values and prices of a best basis, unless their denominator is too wide.
+fn end_of(alloc: Global, keyed: &Keyed) -> Result<Option<Ended>, NoMemory>
+    requires shaped { IsShapedBasis (length keyed.now.rows) (length keyed.now.duals) keyed.now }
+    requires apart { AreApartPlaces keyed.now.places }
+    requires fit { HasFittingValues keyed.now }
+    ensures { IfOk result (λ found. MatchOption found (IsWideEnd keyed.now WideKind.Common) (IsEndOf keyed.now)) }
+{
+    let Some(den) = common_of_all(keyed.rows.items()) else {
+        return Ok(None);
+    };
+    let values = values_over(alloc, keyed, den)?;
+    let duals = whole_duals(alloc, keyed)?;
+    Ok(Some(Ended { den, values, duals }))
+}
+
+fn names_of(keyed: Keyed) -> List<RouteColumn>
+    ensures { result ≡ keyed.names }
+{
+    keyed.names
+}
+
+/// The optimum at a best basis, unless the denominator of its values is too wide.
 pub(crate) fn finish(
     alloc: Global,
     keyed: Keyed,
@@ -161,18 +190,18 @@ pub(crate) fn finish(
     requires fit { HasFittingValues keyed }
     ensures { IsKeyedEnd keyed result }
 {
-    let Some(den) = common_of_all(keyed.rows.items()) else {
-        return Err(SimplexFault::Wide {
-            basis: keyed.names,
+    let found = end_of(alloc, &keyed)?;
+    let basis = names_of(keyed);
+    match found {
+        Some(end) => Ok(Optimum {
+            basis,
+            den: end.den,
+            values: end.values,
+            duals: end.duals,
+        }),
+        None => Err(SimplexFault::Wide {
+            basis,
             kind: WideKind::Common,
-        });
-    };
-    let values = values_over(alloc, &keyed, den)?;
-    let duals = whole_duals(alloc, &keyed)?;
-    Ok(Optimum {
-        basis: keyed.names,
-        den,
-        values,
-        duals,
-    })
+        }),
+    }
 }

@@ -18,37 +18,42 @@ use crate::start::{room_of, slack_keyed};
 use crate::task::Task;
 use crate::turns::Turn;
 use key_rows::{Keyed, Room};
-use net_core::{Caps, Demands, List, Network, RouteColumn, StateId, States, Surviving};
+use net_core::{Caps, Demands, List, Network, RouteColumn, StateId, States, Surviving, WideKind};
 use simplex_core::{Optimum, SimplexFault};
 use std::alloc::Global;
+
+/// What a basis with a number that is too wide comes to.
+fn stopped(keyed: Keyed, kind: WideKind<RouteColumn>) -> SimplexFault<RouteColumn>
+    ensures { result ≡ SimplexFault.Wide keyed.names kind }
+{
+    SimplexFault::Wide {
+        basis: keyed.names,
+        kind,
+    }
+}
 
 /// An optimum of the program, or a basis on which a number is too wide, by turns from the slack basis on.
 fn solved(
     alloc: Global,
     task: &Task,
     mut keyed: Keyed,
-    mut room: Room,
-    mut waiting: List<Carrier>,
+    room: &mut Room,
+    waiting: &mut List<Carrier>,
 ) -> Result<Optimum<RouteColumn>, SimplexFault<RouteColumn>>
     requires narrow { (k : ℕ) → k < route_rows (graph_of task.now.graph) task.now.demands.now → IsNarrow (route_bound (graph_of task.now.graph) task.now.demands.now task.now.caps.now k) }
     requires start { IsStart (length task.now.graph.net.now.links) (length task.now.demands.now) (route_bound (graph_of task.now.graph) task.now.demands.now task.now.caps.now) (route_slack (graph_of task.now.graph)) keyed }
-    requires room { IsRoom (length keyed.rows) room }
-    requires waiting { All (IsCarrier (graph_of task.now.graph) task.now.demands.now) waiting }
+    requires room { IsRoom (length keyed.rows) room.old }
+    requires waiting { All (IsCarrier (graph_of task.now.graph) task.now.demands.now) waiting.old }
     ensures { IsSimplexAnswer (route_rows (graph_of task.now.graph) task.now.demands.now) (route_bound (graph_of task.now.graph) task.now.demands.now task.now.caps.now) (route_slack (graph_of task.now.graph)) (IsCarrying (graph_of task.now.graph) task.now.demands.now) result }
 {
     loop {
-        let Some(name) = price(alloc, task, &keyed, &mut waiting)? else {
+        let Some(name) = price(alloc, task, &keyed, waiting)? else {
             return finish(alloc, keyed);
         };
-        match enter(&mut keyed, &mut room, name) {
+        match enter(&mut keyed, room, name) {
             Turn::Again => {}
             Turn::Unbounded => unreachable!(),
-            Turn::Wide(kind) => {
-                return Err(SimplexFault::Wide {
-                    basis: keyed.names,
-                    kind,
-                });
-            }
+            Turn::Wide(kind) => return Err(stopped(keyed, kind)),
         }
     }
 }
@@ -75,10 +80,10 @@ pub fn solve_routes_from<'a>(
         demands,
         caps,
     };
+    let mut waiting = known_carriers(alloc, &task, known)?;
+    let mut room = room_of(alloc, links_of(&task))?;
     let keyed = slack_keyed(alloc, &task)?;
-    let room = room_of(alloc, links_of(&task))?;
-    let waiting = known_carriers(alloc, &task, known)?;
-    solved(alloc, &task, keyed, room, waiting)
+    solved(alloc, &task, keyed, &mut room, &mut waiting)
 }
 
 /// An optimum of the program that routes the demands of a state within capacities, or a basis of it, reached by

@@ -12,6 +12,7 @@ use Rattle.simplex_core.specs.declared.solver.SimplexFault.{SimplexFault}
 use Rattle.simplex_core.specs.declared.solver.SimplexFault.TheVariants.{Wide, NoMemory}
 use Rattle.key_rows.specs.KeyRows.{amounts, left_over_rows}
 use Rattle.key_rows.specs.declared.keyed.Keyed.{Keyed}
+use Rattle.key_paths.specs.declared.finish.Ended.{Ended}
 
 -- the denominator of row i
 abbrev pub row_den : List Row → ℕ → ℕ
@@ -60,6 +61,10 @@ pub record IsEnded (b : Keyed) (best : Optimum RouteColumn) : Type 0 where
   pub values : AreValuesOver b best.den best.values
   pub duals : best.duals.nums ≡ b.prices.nums ++ b.duals
   pub duals_den : best.duals.den ≡ b.prices.den
+
+-- the same beside the names
+abbrev pub IsEndOf : Keyed → Ended → Type 0
+IsEndOf b end = (names : List RouteColumn) → names ≡ b.names → IsEnded b (record { basis = names; den = end.den; values = end.values; duals = end.duals })
 
 -- the rows have no common denominator that is narrow
 abbrev pub IsWideEnd : Keyed → WideKind RouteColumn → Type 0

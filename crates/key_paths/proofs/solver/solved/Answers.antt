@@ -8,8 +8,8 @@ use Rattle.key_paths.proofs.Fitting.{apart_places, fitting}
 use Rattle.key_paths.proofs.Looping.{at_start, has_gaining, at_next, some_role_limits, wide_evidence, turn_falls}
 use Rattle.key_paths.proofs.solver.solved.Goals as goal
 
-pub loop-waiting-init : goal.loop-waiting-init
-loop-waiting-init c =
+pub loop-keyed-init : goal.loop-keyed-init
+loop-keyed-init c =
     let task = c.args.task.now in
     let g = graph_of task.graph in
     record {
@@ -19,45 +19,45 @@ loop-waiting-init c =
     }
 
 pub finish-requires-clause-apart : goal.finish-requires-clause-apart
-finish-requires-clause-apart c = apart_places c.loop-waiting.invariant.at.held.keyed
+finish-requires-clause-apart c = apart_places c.loop-keyed.invariant.at.held.keyed
 
 pub finish-requires-clause-fit : goal.finish-requires-clause-fit
 finish-requires-clause-fit c =
     let task = c.args.task.now in
     let g = graph_of task.graph in
-    let at = c.loop-waiting.invariant.at in
+    let at = c.loop-keyed.invariant.at in
     fitting at.held.keyed (Rattle.route_law.specs.RoutingPrograms.IsRouteColumn g task.demands.now) (route_packing g task.demands.now task.caps.now c.requires.narrow) at.reached.here.columns
 
 pub returns-in_default : goal.returns-in_default
 returns-in_default c =
     let task = c.args.task.now in
     let g = graph_of task.graph in
-    let at = c.loop-waiting.invariant.at in
+    let at = c.loop-keyed.invariant.at in
     keyed_answer g task.demands.now at.held.keyed (route_packing g task.demands.now task.caps.now c.requires.narrow) at.reached
-    (subst (λ o. MatchOption o (NoneGains g task.demands.now c.loop-waiting.keyed) (IsGaining g task.demands.now c.loop-waiting.keyed)) c.in_default.is c.in_ok-name.ensures.found) c.finish.result c.finish.ensures
+    (subst (λ o. MatchOption o (NoneGains g task.demands.now c.loop-keyed.keyed) (IsGaining g task.demands.now c.loop-keyed.keyed)) c.in_default.is c.in_ok-name.ensures.found) c.finish.result c.finish.ensures
 
 pub enter-requires-clause-gains : goal.enter-requires-clause-gains
 enter-requires-clause-gains c =
     let task = c.args.task.now in
     let g = graph_of task.graph in
-    has_gaining g task.demands.now task.caps.now task.graph.net.now.checked task.belong (route_packing g task.demands.now task.caps.now c.requires.narrow) c.loop-waiting.keyed c.loop-waiting.invariant.at c.in-Some.name (subst (λ o. MatchOption o (NoneGains g task.demands.now c.loop-waiting.keyed) (IsGaining g task.demands.now c.loop-waiting.keyed)) c.in-Some.is c.in_ok-name.ensures.found)
+    has_gaining g task.demands.now task.caps.now task.graph.net.now.checked task.belong (route_packing g task.demands.now task.caps.now c.requires.narrow) c.loop-keyed.keyed c.loop-keyed.invariant.at c.in-Some.name (subst (λ o. MatchOption o (NoneGains g task.demands.now c.loop-keyed.keyed) (IsGaining g task.demands.now c.loop-keyed.keyed)) c.in-Some.is c.in_ok-name.ensures.found)
 
-pub loop-waiting-smaller : goal.loop-waiting-smaller
-loop-waiting-smaller c =
+pub loop-keyed-smaller : goal.loop-keyed-smaller
+loop-keyed-smaller c =
     let task = c.args.task.now in
     let g = graph_of task.graph in
-    turn_falls g task.demands.now task.caps.now task.graph.net.now.checked task.belong (route_packing g task.demands.now task.caps.now c.requires.narrow) c.loop-waiting.keyed c.loop-waiting.invariant.at c.in-Some.name
-    (subst (λ o. MatchOption o (NoneGains g task.demands.now c.loop-waiting.keyed) (IsGaining g task.demands.now c.loop-waiting.keyed)) c.in-Some.is c.in_ok-name.ensures.found) c.enter.new.keyed c.in-Again.ensures.entered
+    turn_falls g task.demands.now task.caps.now task.graph.net.now.checked task.belong (route_packing g task.demands.now task.caps.now c.requires.narrow) c.loop-keyed.keyed c.loop-keyed.invariant.at c.in-Some.name
+    (subst (λ o. MatchOption o (NoneGains g task.demands.now c.loop-keyed.keyed) (IsGaining g task.demands.now c.loop-keyed.keyed)) c.in-Some.is c.in_ok-name.ensures.found) c.enter.new.keyed c.in-Again.ensures.entered
 
-pub loop-waiting-preserved : goal.loop-waiting-preserved
-loop-waiting-preserved c =
+pub loop-keyed-preserved : goal.loop-keyed-preserved
+loop-keyed-preserved c =
     let task = c.args.task.now in
     let g = graph_of task.graph in
-    let at = at_next g task.demands.now task.caps.now task.graph.net.now.checked task.belong (route_packing g task.demands.now task.caps.now c.requires.narrow) c.loop-waiting.keyed c.loop-waiting.invariant.at c.in-Some.name
-    (subst (λ o. MatchOption o (NoneGains g task.demands.now c.loop-waiting.keyed) (IsGaining g task.demands.now c.loop-waiting.keyed)) c.in-Some.is c.in_ok-name.ensures.found) c.enter.new.keyed c.in-Again.ensures.entered in
+    let at = at_next g task.demands.now task.caps.now task.graph.net.now.checked task.belong (route_packing g task.demands.now task.caps.now c.requires.narrow) c.loop-keyed.keyed c.loop-keyed.invariant.at c.in-Some.name
+    (subst (λ o. MatchOption o (NoneGains g task.demands.now c.loop-keyed.keyed) (IsGaining g task.demands.now c.loop-keyed.keyed)) c.in-Some.is c.in_ok-name.ensures.found) c.enter.new.keyed c.in-Again.ensures.entered in
     record {
       at = at;
-      room = subst (λ n. IsRoom n c.enter.new.room) (c.loop-waiting.invariant.at.held.keyed.shaped.rows ∙ sym at.held.keyed.shaped.rows) (c.in-Again.ensures.room refl);
+      room = subst (λ n. IsRoom n c.enter.new.room) (c.loop-keyed.invariant.at.held.keyed.shaped.rows ∙ sym at.held.keyed.shaped.rows) (c.in-Again.ensures.room refl);
       waiting = c.price.ensures.waiting;
     }
 
@@ -65,12 +65,13 @@ pub unreachable-requires : goal.unreachable-requires
 unreachable-requires c =
     let task = c.args.task.now in
     let g = graph_of task.graph in
-    some_role_limits g task.demands.now task.caps.now task.graph.net.now.checked task.belong (route_packing g task.demands.now task.caps.now c.requires.narrow) c.loop-waiting.keyed c.loop-waiting.invariant.at c.in-Some.name
-    (subst (λ o. MatchOption o (NoneGains g task.demands.now c.loop-waiting.keyed) (IsGaining g task.demands.now c.loop-waiting.keyed)) c.in-Some.is c.in_ok-name.ensures.found) c.enter.new.keyed c.in-Unbounded.ensures.entered
+    some_role_limits g task.demands.now task.caps.now task.graph.net.now.checked task.belong (route_packing g task.demands.now task.caps.now c.requires.narrow) c.loop-keyed.keyed c.loop-keyed.invariant.at c.in-Some.name
+    (subst (λ o. MatchOption o (NoneGains g task.demands.now c.loop-keyed.keyed) (IsGaining g task.demands.now c.loop-keyed.keyed)) c.in-Some.is c.in_ok-name.ensures.found) c.enter.new.keyed c.in-Unbounded.ensures.entered
 
 pub returns-in-Wide : goal.returns-in-Wide
 returns-in-Wide c =
     let task = c.args.task.now in
     let g = graph_of task.graph in
-    wide_evidence g task.demands.now task.caps.now task.graph.net.now.checked task.belong (route_packing g task.demands.now task.caps.now c.requires.narrow) c.loop-waiting.keyed c.loop-waiting.invariant.at c.in-Some.name
-    (subst (λ o. MatchOption o (NoneGains g task.demands.now c.loop-waiting.keyed) (IsGaining g task.demands.now c.loop-waiting.keyed)) c.in-Some.is c.in_ok-name.ensures.found) c.in-Wide.kind c.enter.new.keyed c.in-Wide.ensures.entered
+    rw c.stopped.ensures
+    (wide_evidence g task.demands.now task.caps.now task.graph.net.now.checked task.belong (route_packing g task.demands.now task.caps.now c.requires.narrow) c.loop-keyed.keyed c.loop-keyed.invariant.at c.in-Some.name
+    (subst (λ o. MatchOption o (NoneGains g task.demands.now c.loop-keyed.keyed) (IsGaining g task.demands.now c.loop-keyed.keyed)) c.in-Some.is c.in_ok-name.ensures.found) c.in-Wide.kind c.enter.new.keyed c.in-Wide.ensures.entered)

@@ -8,8 +8,8 @@ use Rattle.key_paths.proofs.Looping.{IsAt, whole_price}
 use Rattle.key_paths.proofs.solver.solved.Given as goal
 
 -- the basis is one of the program that gaining steps reach
-abbrev pub invariant-loop-waiting : goal.invariant-loop-waiting
-invariant-loop-waiting l =
+abbrev pub invariant-loop-keyed : goal.invariant-loop-keyed
+invariant-loop-keyed l =
     let task = l.task in
     record {
       at : IsAt (graph_of task.graph) task.demands.now task.caps.now l.keyed;
@@ -18,7 +18,7 @@ invariant-loop-waiting l =
     }
 
 -- what is left above the prices
-abbrev pub decreases-loop-waiting : goal.decreases-loop-waiting
-decreases-loop-waiting l =
+abbrev pub decreases-loop-keyed : goal.decreases-loop-keyed
+decreases-loop-keyed l =
     let task = l.task in
     left_over (route_rows (graph_of task.graph) task.demands.now) (route_bound (graph_of task.graph) task.demands.now task.caps.now) (whole_price (length task.graph.net.now.links) l.keyed) l.keyed.prices.den
