@@ -1,5 +1,6 @@
 -- the answers of all states, sorted
-use Rattle.std.proofs.Common.{◌≡◌, ◌≢◌, ℕ, ◌+◌, ◌<◌, ◌≤◌, ⊎_elim, List, [], ◌∷◌, ◌++◌, Some, None, get_or, length, map, slice_get, refl, sym, ap, subst, ◌∙◌, arith, suc}
+use Rattle.std.proofs.Common.{◌≡◌, ◌≢◌, ℕ, ◌+◌, ◌<◌, ◌≤◌, inl, inr, ⊎_elim, List, [], ◌∷◌, ◌++◌, Some, None, get_or, length, map, slice_get, refl, sym, ap, subst, ◌∙◌, arith, suc}
+use Rattle.std.proofs.lemmas.Bool.{cases_lt}
 use Rattle.std.proofs.lemmas.List.{append-nil, append_assoc, length-append, map-append}
 use Rattle.std.proofs.lemmas.List.Elements.{All-nil, All-push, All-weaker}
 use Rattle.std.proofs.lemmas.List.Quantifiers.{all_pairs_push}
@@ -14,7 +15,7 @@ use Rattle.separator.specs.Separators.{AreStateAnswers, IsAnswerOf, IsSeparating
 use Rattle.separator.specs.declared.answers.Separated.{Separated}
 use Rattle.separator.specs.declared.answers.Separated.TheVariants.{Routed, Violated, Wide}
 use Rattle.separator.specs.declared.answers.StateAnswer.{StateAnswer}
-use Rattle.plan_rounds.specs.inner.Answered.{AnswersShort, AreSorted, HasShort, PutsAnswer}
+use Rattle.plan_rounds.specs.inner.Answered.{AnswersShort, AreSorted, HasShort, IsRoutedOrWide, PutsAnswer}
 use Rattle.plan_rounds.specs.declared.sorting.Answered.{Answered}
 use Rattle.separator.proofs.Seeing.{get_more}
 use Rattle.plan_rounds.proofs.Seeing.{stand_more}
@@ -59,8 +60,15 @@ module _ (p : Case) (caps : Caps) (history : List Entry) where
     before = All-nil (λ (c : CutLine). c.state.0 < 0);
     spots = record { count = refl; each = λ i line spot one two. absurd (let e : None ≡ Some line = one in cc e) };
     wide = tt;
+    cutless = λ none s inside. absurd (omega (arith, inside));
     routed = λ none not_wide. record { count = refl; each = λ s r at. absurd (let e : None ≡ Some r = at in cc e) };
   }
+
+  one_more : (n : ℕ) → ((s : ℕ) → s < n → IsRoutedOrWide p caps s) → IsRoutedOrWide p caps n → (s : ℕ) → s < n + 1 → IsRoutedOrWide p caps s
+  one_more n before here s inside = ⊎_elim
+      (λ earlier. before s earlier)
+      (λ later. subst (IsRoutedOrWide p caps) (let same : n ≡ s = omega (arith, inside, later) in same) here)
+      (cases_lt s n)
 
   -- one answer more
   pub sorted_more : (n : ℕ) (answer : Separated) (old new : Answered) → n ≤ length p.listed → AreSorted p caps history n old → IsAnswerOf p caps history n answer → AnswersShort answer → PutsAnswer answer old new → AreSorted p caps history (n + 1) new
@@ -71,6 +79,7 @@ module _ (p : Case) (caps : Caps) (history : List Entry) where
     before = All-weaker (λ (c : CutLine). c.state.0 < n) (λ c. c.state.0 < n + 1) (λ c lt. omega (arith, lt)) old.found.lines are.before;
     spots = are.spots;
     wide = are.wide;
+    cutless = λ none. one_more n (are.cutless none) (inl (routing, is));
     routed = λ none not_wide.
         let before = are.routed none not_wide in
         record {
@@ -92,6 +101,7 @@ module _ (p : Case) (caps : Caps) (history : List Entry) where
         (All-weaker (λ (c : CutLine). c.state.0 < n) (λ c. c.state.0 < n + 1) (λ c lt. omega (arith, lt)) old.found.lines are.before) (omega (arith, is.0));
     spots = stand_more history old.found.lines old.found.spots line spot are.spots is.2;
     wide = are.wide;
+    cutless = λ none. absurd (omega (arith, none, length-append old.found.lines (line ∷ [])));
     routed = λ none. absurd (omega (arith, none, length-append old.found.lines (line ∷ [])));
   })
   sorted_more n (Wide evidence) old new inside are is short puts = subst (AreSorted p caps history (n + 1)) (sym puts) (record {
@@ -101,6 +111,7 @@ module _ (p : Case) (caps : Caps) (history : List Entry) where
     before = All-weaker (λ (c : CutLine). c.state.0 < n) (λ c. c.state.0 < n + 1) (λ c lt. omega (arith, lt)) old.found.lines are.before;
     spots = are.spots;
     wide = (n, inside, is);
+    cutless = λ none. one_more n (are.cutless none) (inr (evidence, is));
     routed = λ none not_wide. absurd (let e : Some evidence ≡ None = not_wide in cc e);
   })
 

@@ -189,7 +189,7 @@ module _ (p : Case) (pairs : List UnitPair) (units : AreUnitPairs p.links pairs)
         pooled = round.pooled ∙ sym since;
         same = same_or_full room new full further.2;
       } ∣₁)
-      (λ end. subst (IsPoolAfterTurn p pairs h1 new.lines) (sym end.1.1) ∣ worked ∣₁))
+      (λ end. subst (IsPoolAfterTurn p pairs h1 new.lines) (sym end.2.1) ∣ worked ∣₁))
       judges
 
 -- what is told of a turn's pool, known once

@@ -6,21 +6,26 @@ use Rattle.std.proofs.lemmas.List.Elements.{All-append, All-take, All-weaker, Co
 use Rattle.net_core.specs.declared.columns.Evidence.{Evidence}
 use Rattle.net_core.specs.declared.columns.Evidence.TheVariants.{Route, Master}
 use Rattle.net_core.specs.declared.journal.Entry.{Entry}
+use Rattle.net_core.specs.declared.plan.Caps.{Caps}
 use Rattle.net_core.specs.declared.plan.CutLine.{CutLine}
 use Rattle.net_core.specs.Cases.{Case, graph_in}
 use Rattle.net_core.specs.Demands.{AreDemands}
+use Rattle.net_core.specs.Graphs.{Joins}
 use Rattle.net_core.specs.Network.{IsModule, IsNetwork}
 use Rattle.module_prices.specs.declared.cheapest.UnitPair.{UnitPair}
 use Rattle.plan_terms.specs.Certificates.{IsCut}
+use Rattle.plan_terms.specs.Flows.{Carries}
 use Rattle.plan_terms.specs.Violations.{Violates}
 use Rattle.plan_types.specs.declared.certificate.Spot.{Spot}
 use Rattle.plan_types.specs.declared.quality.Cause.TheVariants.{Wide, Cuts}
 use Rattle.plan_types.specs.declared.quality.Quality.{Quality}
 use Rattle.plan_types.specs.declared.quality.Quality.TheVariants.{Tight, Loose}
 use Rattle.plan_types.specs.declared.quality.Share.{Share}
+use Rattle.route_law.specs.Divisions.{flows_times}
 use Rattle.route_law.specs.RouteEvidence.{IsRouteEvidence}
-use Rattle.route_law.proofs.Multiples.{divided_are_violated}
-use Rattle.flow_router.specs.Answers.{IsRouted}
+use Rattle.route_law.proofs.Divided.{divided_are_wide}
+use Rattle.route_law.proofs.Multiples.{divided_are_carried, divided_are_violated}
+use Rattle.flow_router.specs.Answers.{IsEvidenceHere, IsRouted}
 use Rattle.master_law.specs.LeastShares.{IsLeastShare}
 use Rattle.master_law.specs.MasterEvidence.{IsMasterEvidence}
 use Rattle.master_law.specs.MasterPrograms.{IsSameCut}
@@ -32,7 +37,7 @@ use Rattle.plan_law.specs.WorkedLists.{Round, IsBeginning, IsFoundCut, IsRound, 
 use Rattle.plan_law.proofs.Pairs.{pairs_append}
 use Rattle.plan_law.proofs.Rounds.{begun_worked, found_is_new, short_round, worked_on}
 use Rattle.separator.specs.Separators.{IsSeparatingCut}
-use Rattle.plan_rounds.specs.WorkedRounds.{AreWorkedRounds, EndsBy, IsBestAt, IsBestOfLast, StandAtSpots}
+use Rattle.plan_rounds.specs.WorkedRounds.{AreWorkedRounds, EndsBy, IsBestAt, IsBestOfLast, IsCarriedOrWide, StandAtSpots, AreCarriedOrWide}
 use Rattle.plan_rounds.specs.inner.Answered.{AreSorted, HasShort}
 use Rattle.plan_rounds.specs.inner.Listing.{AreListed}
 use Rattle.plan_rounds.specs.inner.Sharing.{IsDividedShare, IsQualityAt}
@@ -116,29 +121,33 @@ module _ (p : Case) (pairs : List UnitPair) where
   -- ---- how the rounds end
 
   ends_at : (cuts : List CutLine) (Full : Type 0) (IsLast : Option Best → Type 0) (best : Best) (c : ShareCaps) (quality : Quality) → IsBestAt p pairs cuts best → IsDividedShare p.links pairs best.share c
-      → IsQualityAt p c.whole best.share quality → EndsBy p pairs cuts Full IsLast (Some best) quality
-  ends_at cuts Full IsLast best c (Tight fractional) at is q = record {
+      → (Full → AreCarriedOrWide p pairs best) → IsQualityAt p c.whole best.share quality → EndsBy p pairs cuts Full IsLast (Some best) quality
+  ends_at cuts Full IsLast best c (Tight fractional) at is none q = record {
     best_of = at;
     share = q.0;
     proper = subst (IsProperShare p.links) (sym q.0) (proper cuts best.share at.least);
     states = q.1.count;
     routed = λ s r here. subst (λ k. IsRouted (graph_in p s) p.demands k r) (is.whole ∙ ap (share_caps p.links pairs) (sym q.0)) (q.1.each s r here);
   }
-  ends_at cuts Full IsLast best c (Loose (Wide (Route state caps basis kind))) at is q = record {
-    best_of = at;
-    listed_state = subst (λ k. k ≤ length p.listed) (sym q.2.0) q.1;
-    of_share = q.2.1 ∙ is.whole;
-    evidence = subst (λ k. IsRouteEvidence (graph_in p state.0) p.demands k basis kind) (sym q.2.1) (subst (λ k. IsRouteEvidence (graph_in p k) p.demands c.whole basis kind) (sym q.2.0) q.2.2);
-  }
-  ends_at cuts Full IsLast best c (Loose (Wide (Master basis kind))) at is q = absurd q.2
-  ends_at cuts Full IsLast best c (Loose Cuts) at is q = absurd q
+  ends_at cuts Full IsLast best c (Loose (Wide (Route state caps basis kind))) at is none q = (
+    record {
+      best_of = at;
+      listed_state = subst (λ k. k ≤ length p.listed) (sym q.2.0) q.1;
+      of_share = q.2.1 ∙ is.whole;
+      evidence = subst (λ k. IsRouteEvidence (graph_in p state.0) p.demands k basis kind) (sym q.2.1) (subst (λ k. IsRouteEvidence (graph_in p k) p.demands c.whole basis kind) (sym q.2.0) q.2.2);
+    },
+    none,
+  )
+  ends_at cuts Full IsLast best c (Loose (Wide (Master basis kind))) at is none q = absurd q.2
+  ends_at cuts Full IsLast best c (Loose Cuts) at is none q = absurd q
 
-  ends_as : (cuts : List CutLine) (Full Other : Type 0) (IsLast IsAfter : Option Best → Type 0) (best : Option Best) (quality : Quality) → (Full → Other) → ((b : Option Best) → IsLast b → IsAfter b)
+  ends_as : (cuts : List CutLine) (Full Other : Type 0) (IsLast IsAfter : Option Best → Type 0) (best : Option Best) (quality : Quality) → (Full → Other) → (Other → Full) → ((b : Option Best) → IsLast b → IsAfter b)
       → EndsBy p pairs cuts Full IsLast best quality → EndsBy p pairs cuts Other IsAfter best quality
-  ends_as cuts Full Other IsLast IsAfter best (Tight fractional) full last e = e
-  ends_as cuts Full Other IsLast IsAfter best (Loose (Wide (Route state caps basis kind))) full last e = e
-  ends_as cuts Full Other IsLast IsAfter best (Loose (Wide (Master basis kind))) full last e = (e.0, last best e.1)
-  ends_as cuts Full Other IsLast IsAfter best (Loose Cuts) full last e = (full e.0, e.1)
+  ends_as cuts Full Other IsLast IsAfter best (Tight fractional) full back last e = e
+  ends_as cuts Full Other IsLast IsAfter None (Loose (Wide (Route state caps basis kind))) full back last e = e
+  ends_as cuts Full Other IsLast IsAfter (Some best) (Loose (Wide (Route state caps basis kind))) full back last e = (e.0, λ other. e.1 (back other))
+  ends_as cuts Full Other IsLast IsAfter best (Loose (Wide (Master basis kind))) full back last e = (e.0, last best e.1)
+  ends_as cuts Full Other IsLast IsAfter best (Loose Cuts) full back last e = (full e.0, e.1)
 
   -- ---- what the answers of the states come to
 
@@ -182,8 +191,28 @@ module _ (p : Case) (pairs : List UnitPair) where
     taken_few : (m l : ℕ) → min m l ≤ m
     taken_few m l = omega arith
 
-    pub judged_turn : (new : Candidates) (turn : Turn) → Judges p room c.whole a best old new turn → IsTurnOf p pairs room before old.lines new.lines turn
-    judged_turn new turn judges = ⊎_elim
+    -- evidence at the divided capacities is evidence at the share
+    wide_within : (s : ℕ) (evidence : Evidence) → IsEvidenceHere (graph_in p s) p.demands c.divided evidence → IsCarriedOrWide p pairs best s
+    wide_within s (Route state within basis kind) e = inr (
+      basis,
+      kind,
+      subst (λ (k : Caps). IsRouteEvidence (graph_in p s) p.demands k basis kind) (is.times ∙ is.whole) (divided_are_wide (graph_in p s) p.demands c.divisor c.divided basis kind is.positive e.2),
+    )
+    wide_within s (Master basis kind) e = absurd e
+
+    -- so is a routing, each flow as many times
+    carried_or_wide : length p.listed < n → length a.found.lines ≡ 0 → AreCarriedOrWide p pairs best
+    carried_or_wide all none s inside = ⊎_elim
+        (λ carried. inl (
+          flows_times c.divisor carried.0,
+          subst (λ (k : Caps). Carries (Joins (graph_in p s)) p.demands k.scale k.nums (flows_times c.divisor carried.0)) (is.times ∙ is.whole)
+              (divided_are_carried (graph_in p s) p.demands c.divisor c.divided carried.0 is.positive carried.1.carries),
+        ))
+        (λ wide. wide_within s wide.0 wide.1)
+        (sorted.cutless none s (omega (arith, inside, all)))
+
+    pub judged_turn : (new : Candidates) (turn : Turn) → length p.listed < n → Judges p room c.whole a best old new turn → IsTurnOf p pairs room before old.lines new.lines turn
+    judged_turn new turn all judges = ⊎_elim
         (λ full.
         subst (IsTurnOf p pairs room before old.lines new.lines) (sym full.3)
         (ap (λ (x : Candidates). x.lines) full.2, (full.1, let f = some_found full.0 in record { best_of = at; further = f.0; found = f.1 })))
@@ -198,8 +227,12 @@ module _ (p : Case) (pairs : List UnitPair) where
           round = round;
         }))
         (λ end.
-        subst (IsTurnOf p pairs room before old.lines new.lines) (sym end.1.1)
-        (ap (λ (x : Candidates). x.lines) end.0, ends_at old.lines (room ≡ 0) (λ b. b ≡ before) best c end.1.0 at is end.1.2)))
+        subst (IsTurnOf p pairs room before old.lines new.lines) (sym end.2.1) (
+          ap (λ (x : Candidates). x.lines) end.1,
+          ends_at old.lines (room ≡ 0) (λ b. b ≡ before) best c end.2.0 at is
+              (λ full. ⊎_elim (λ none. carried_or_wide all none) (λ some. absurd (omega (arith, some, full))) end.0)
+              end.2.2,
+        )))
         judges
 
     pub judged_listed : (new : Candidates) (turn : Turn) → ∥ IsNetwork p.nodes p.links ∥₁ → length p.nodes ≤ 128 → AreDemands (length p.nodes) p.demands → AreListed p h old → Judges p room c.whole a best old new turn → AreListed p h new
@@ -207,7 +240,7 @@ module _ (p : Case) (pairs : List UnitPair) where
         (λ full. subst (AreListed p h) (sym full.2) are)
         (⊎_elim
         (λ further. listed_round new checked few belong are further.2)
-        (λ end. subst (AreListed p h) (sym end.0) are))
+        (λ end. subst (AreListed p h) (sym end.1) are))
         judges
 
   -- ---- what the master answers
@@ -266,6 +299,7 @@ module _ (p : Case) (pairs : List UnitPair) where
     spots = are.spots;
     ends = ends_as c.lines (room ≡ 0) (length c.lines ≡ length pool + 4096) (λ b. b ≡ before) (IsBestOfLast p pairs w.list.start w.rounds) best quality
         (λ none. omega (arith, none, fits))
+        (λ long. omega (arith, long, fits))
         (λ b same. subst (IsBestOfLast p pairs w.list.start w.rounds) (sym same) w.last)
         e;
   }

@@ -1,5 +1,5 @@
 -- what the rounds of a planning come to
-use Rattle.std.specs.Prelude.{◌≡◌, ℕ, ◌+◌, ◌*◌, ◌^◌, ◌<◌, ◌≤◌, List, [], ◌∷◌, Option, None, Some, All, IsSomeAnd, length, map, slice_get, take}
+use Rattle.std.specs.Prelude.{◌≡◌, ℕ, ◌+◌, ◌*◌, ◌^◌, ◌<◌, ◌≤◌, ◌⊎◌, List, [], ◌∷◌, Option, None, Some, All, IsSomeAnd, length, map, slice_get, take}
 use Rattle.net_core.specs.declared.columns.Evidence.{Evidence}
 use Rattle.net_core.specs.declared.columns.Evidence.TheVariants.{Route, Master}
 use Rattle.net_core.specs.declared.columns.RouteColumn.{RouteColumn}
@@ -9,8 +9,10 @@ use Rattle.net_core.specs.declared.plan.Caps.{Caps}
 use Rattle.net_core.specs.declared.plan.CutLine.{CutLine}
 use Rattle.net_core.specs.declared.plan.Routing.{Routing}
 use Rattle.net_core.specs.Cases.{Case, graph_in}
+use Rattle.net_core.specs.Graphs.{Joins}
 use Rattle.module_prices.specs.declared.cheapest.UnitPair.{UnitPair}
 use Rattle.plan_terms.specs.Certificates.{IsCut}
+use Rattle.plan_terms.specs.Flows.{Carries}
 use Rattle.plan_types.specs.declared.certificate.Spot.{Spot}
 use Rattle.plan_types.specs.declared.quality.Cause.{Cause}
 use Rattle.plan_types.specs.declared.quality.Cause.TheVariants.{Wide, Cuts}
@@ -44,7 +46,18 @@ pub record StandAtSpots (history : List Entry) (lines : List CutLine) (spots : L
   pub count : length spots ≡ length lines
   pub each : (i : ℕ) (line : CutLine) (spot : Spot) → slice_get lines i ≡ Some line → slice_get spots i ≡ Some spot → IsSpotIn history (cut_of_line line) spot
 
--- ---- what the best certificate of a list shows
+-- ---- what a best certificate shows
+
+module _ (p : Case) (pairs : List UnitPair) where
+  -- a routing within the share carries the demands in the state, or a number of the state is too wide there
+  abbrev pub IsCarriedOrWide : Best → ℕ → Type 0
+  IsCarriedOrWide best s =
+      ((r : Routing) × Carries (Joins (graph_in p s)) p.demands (share_caps p.links pairs best.share).scale (share_caps p.links pairs best.share).nums r)
+      ⊎ ((basis : List RouteColumn) × (kind : WideKind RouteColumn) × IsRouteEvidence (graph_in p s) p.demands (share_caps p.links pairs best.share) basis kind)
+
+  -- no state is refused for a cut that the share violates
+  abbrev pub AreCarriedOrWide : Best → Type 0
+  AreCarriedOrWide best = (s : ℕ) → s ≤ length p.listed → IsCarriedOrWide best s
 
 module _ (p : Case) (pairs : List UnitPair) (cuts : List CutLine) where
   -- the best certificate of the cuts, with a least share of theirs that costs its raw value
@@ -74,14 +87,15 @@ module _ (p : Case) (pairs : List UnitPair) (cuts : List CutLine) where
     pub further : CutLine
     pub found : IsFoundCut p pairs best.share further
 
-  -- ---- how the rounds end; Full says that no cut may be added, and IsLast what is known of the best certificate before this list's
+  -- ---- how the rounds end; Full says that no cut may be added, and IsLast what is known of the best certificate before this list's.
+  -- Where no cut may be added, the end is loose by width in a state only if no state is refused for a cut.
 
-  abbrev pub EndsByWidth : (Option Best → Type 0) → Option Best → Evidence → Type 0
-  EndsByWidth IsLast best (Route state caps basis kind) = IsSomeAnd best (λ b. IsWideAt b state.0 caps basis kind)
-  EndsByWidth IsLast best (Master basis kind) = IsMasterEvidence p.links pairs cuts basis kind × IsLast best
+  abbrev pub EndsByWidth : Type 0 → (Option Best → Type 0) → Option Best → Evidence → Type 0
+  EndsByWidth Full IsLast best (Route state caps basis kind) = IsSomeAnd best (λ b. IsWideAt b state.0 caps basis kind × (Full → AreCarriedOrWide p pairs b))
+  EndsByWidth Full IsLast best (Master basis kind) = IsMasterEvidence p.links pairs cuts basis kind × IsLast best
 
   abbrev pub EndsLoose : Type 0 → (Option Best → Type 0) → Option Best → Cause → Type 0
-  EndsLoose Full IsLast best (Wide evidence) = EndsByWidth IsLast best evidence
+  EndsLoose Full IsLast best (Wide evidence) = EndsByWidth Full IsLast best evidence
   EndsLoose Full IsLast best Cuts = Full × IsSomeAnd best ViolatesFurther
 
   abbrev pub EndsBy : Type 0 → (Option Best → Type 0) → Option Best → Quality → Type 0

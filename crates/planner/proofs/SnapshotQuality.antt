@@ -75,7 +75,7 @@ module _ (p : Case) (pairs : List UnitPair) (pool lines : List CutLine) (rounds 
 
   pub best_there : (q : Quality) (best : Best) → Ends (Some best) q → HasBest p lines best
   best_there (Tight fractional) best ends = of_all best ends.best_of
-  best_there (Loose (Wide (Route state caps basis kind))) best ends = of_all best ends.best_of
+  best_there (Loose (Wide (Route state caps basis kind))) best ends = of_all best ends.0.best_of
   best_there (Loose (Wide (Master basis kind))) best ends = of_last rounds list.start best list.whole ends.1
   best_there (Loose Cuts) best ends = of_all best ends.1.best_of
 
@@ -151,7 +151,7 @@ module _ (p : Case) (pairs : List UnitPair) (pool lines : List CutLine) (rounds 
         (λ (wide : (evidence : Evidence) × (after ≡ Loose (Wide evidence)) × IsWideAtCovers p best.share chosen.cost evidence).
         subst (HasQuality p pairs pool plan rounds lines) (sym wide.1) (covers_wide ends.best_of wide.0 wide.2))
         h
-    quality_some (Loose (Wide (Route state caps basis kind))) after ends h = subst (HasQuality p pairs pool plan rounds lines) (sym h) (share_wide state caps basis kind ends)
+    quality_some (Loose (Wide (Route state caps basis kind))) after ends h = subst (HasQuality p pairs pool plan rounds lines) (sym h) (share_wide state caps basis kind ends.0)
     quality_some (Loose (Wide (Master basis kind))) after ends h = subst (HasQuality p pairs pool plan rounds lines) (sym h) (ends.0, keeps rounds list.start ends.1)
     quality_some (Loose Cuts) after ends h = subst (HasQuality p pairs pool plan rounds lines) (sym h) (record {
       full = ends.0;
@@ -209,9 +209,9 @@ module _ (p : Case) (pairs : List UnitPair) (pool lines : List CutLine) (rounds 
         (λ (wide : (evidence : Evidence) × (after ≡ Loose (Wide evidence)) × IsWideAtCovers p best.share cost evidence). subst InForm (sym wide.1) (covers_form best.share cost wide.0 wide.2))
         h
     form_some best cost (Loose (Wide (Route state caps basis kind))) after ends h = subst InForm (sym h)
-        (route_evidence_form (graph_in p state.0) p.demands belong p.listed state caps basis kind ends.listed_state
-        (subst (AreCapsInForm p.links) (sym ends.of_share) (share_caps_form p.nodes p.links pairs best.share net list.units (share_form best ends.best_of)))
-        ends.evidence)
+        (route_evidence_form (graph_in p state.0) p.demands belong p.listed state caps basis kind ends.0.listed_state
+        (subst (AreCapsInForm p.links) (sym ends.0.of_share) (share_caps_form p.nodes p.links pairs best.share net list.units (share_form best ends.0.best_of)))
+        ends.0.evidence)
     form_some best cost (Loose (Wide (Master basis kind))) after ends h = subst InForm (sym h) (master_evidence_form p pairs lines are short basis kind ends.0)
     form_some best cost (Loose Cuts) after ends h = subst InForm (sym h) tt
 

@@ -1,5 +1,5 @@
 -- what the answers of all states come to
-use Rattle.std.specs.Prelude.{◌≡◌, ◌≢◌, ℕ, ◌+◌, ◌^◌, ◌<◌, ◌≤◌, ◌++◌, List, [], ◌∷◌, None, Some, All, AllPairs, IfSome, length, slice_get}
+use Rattle.std.specs.Prelude.{◌≡◌, ◌≢◌, ℕ, ◌+◌, ◌^◌, ◌<◌, ◌≤◌, ◌⊎◌, ◌++◌, List, [], ◌∷◌, None, Some, All, AllPairs, IfSome, length, slice_get}
 use Rattle.net_core.specs.declared.columns.Evidence.{Evidence}
 use Rattle.net_core.specs.declared.journal.Entry.{Entry}
 use Rattle.net_core.specs.declared.plan.Caps.{Caps}
@@ -35,6 +35,10 @@ module _ (p : Case) (caps : Caps) where
   abbrev pub IsEvidenceOfState : Evidence → Type 0
   IsEvidenceOfState evidence = (s : ℕ) × (s ≤ length p.listed) × IsEvidenceHere (graph_in p s) p.demands caps evidence
 
+  -- the state is routed within the capacities, or there is evidence of it
+  abbrev pub IsRoutedOrWide : ℕ → Type 0
+  IsRoutedOrWide s = ((r : Routing) × IsRouted (graph_in p s) p.demands caps r) ⊎ ((evidence : Evidence) × IsEvidenceHere (graph_in p s) p.demands caps evidence)
+
   -- a routing for each of n states
   pub record AreRoutedStates (n : ℕ) (routings : List Routing) : Type 0 where
     pub count : length routings ≡ n
@@ -42,7 +46,7 @@ module _ (p : Case) (caps : Caps) where
 
 module _ (p : Case) (caps : Caps) (history : List Entry) where
   -- The answers of the first n states: cuts of different states, each with the spot where it stands, and evidence of one state where
-  -- one is wide. Where there is neither, each state is routed.
+  -- one is wide. Where there is no cut, each state is routed or wide, and where there is no evidence either, each is routed.
   pub record AreSorted (n : ℕ) (a : Answered) : Type 0 where
     pub cuts : All (IsSeparatingCut p caps) a.found.lines
     pub short : All HasShort a.found.lines
@@ -50,4 +54,5 @@ module _ (p : Case) (caps : Caps) (history : List Entry) where
     pub before : All (λ c. c.state.0 < n) a.found.lines
     pub spots : StandAtSpots history a.found.lines a.found.spots
     pub wide : IfSome a.wide (IsEvidenceOfState p caps)
+    pub cutless : length a.found.lines ≡ 0 → (s : ℕ) → s < n → IsRoutedOrWide p caps s
     pub routed : length a.found.lines ≡ 0 → a.wide ≡ None → AreRoutedStates p caps n a.routings

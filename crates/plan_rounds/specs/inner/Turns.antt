@@ -33,12 +33,12 @@ abbrev pub EndsAt : Case → Caps → Best → Turn → Type 0
 EndsAt p caps best turn = (quality : Quality) × (turn ≡ Last (Some best) quality) × IsQualityAt p caps best.share quality
 
 -- What follows from the answers of the states: the end where there is no room for a cut that was found, a further round where none is
--- too wide and there is room, or the end at the share.
+-- too wide and there is room, or, where no cut was found or there is room, the end at the share.
 abbrev pub Judges : Case → ℕ → Caps → Answered → Best → Candidates → Candidates → Turn → Type 0
 Judges p room caps a best old new turn =
     ((0 < length a.found.lines) × (room ≡ 0) × (new ≡ old) × (turn ≡ Last (Some best) (Loose Cuts)))
     ⊎ ((0 < length a.found.lines) × (0 < room) × AddsFirst room a.found old new × (turn ≡ Further best))
-    ⊎ ((new ≡ old) × EndsAt p caps best turn)
+    ⊎ (((length a.found.lines ≡ 0) ⊎ (0 < room)) × (new ≡ old) × EndsAt p caps best turn)
 
 module _ (p : Case) (pairs : List UnitPair) (room : ℕ) (before : Option Best) (old : List CutLine) where
   -- a round that finds cuts at the share of the best, no more than there is room for

@@ -1,4 +1,4 @@
-use Rattle.std.proofs.Common.{◌+◌, ◌≤◌, None, length}
+use Rattle.std.proofs.Common.{◌+◌, ◌≤◌, None, arith, length}
 use Rattle.std.proofs.Math.Logic.{∥∥₁_elim, ∥∥₁_map}
 use Rattle.std.proofs.Props.{props}
 use Rattle.net_core.specs.Views.{case_of}
@@ -53,7 +53,7 @@ returns-clause-turn g c =
     (λ turn told before. ∥∥₁_elim told (hlevel props) (λ judges.
     ∥∥₁_map c.in_ok-answers.ensures.answers (λ are_answers.
     judged_turn p c.args.pairs.now (g.S.Separate.history now) n c.args.room before c.args.best c.in_ok-caps.caps c.in_ok-answered.answered c.args.candidates.now c.requires.pairs c.requires.best c.in_ok-caps.ensures
-    (c.in_ok-answered.ensures.sorted p c.in_ok-caps.caps.divided (g.S.Separate.history now) are_answers) c.judge.new.candidates turn judges)))
+    (c.in_ok-answered.ensures.sorted p c.in_ok-caps.caps.divided (g.S.Separate.history now) are_answers) c.judge.new.candidates turn (omega arith) judges)))
     c.judge.ensures
 
 pub returns-clause-alone : goal.returns-clause-alone
