@@ -22,7 +22,7 @@ use Rattle.separator.specs.Separators.{IsFullHistory, IsSpotIn}
 use Rattle.planner.proofs.Histories.{cuts_both}
 use Rattle.plan_checker.specs.Order.{HoldNone}
 use Rattle.plan_checker.specs.Shares.{IsTight}
-use Rattle.report_checker.specs.Outcomes.{SeparatesNamed, case_at, outcome_findings}
+use Rattle.report_checker.specs.Outcomes.{IsBelowAllAble, SeparatesNamed, case_at, outcome_findings}
 use Rattle.report_checker.specs.ReportFindings.{HasNoFinding, whole_findings}
 use Rattle.session_script.specs.declared.script.Act.{Act}
 use Rattle.session_script.specs.declared.script.Act.TheVariants as acts
@@ -30,7 +30,7 @@ use Rattle.session_script.specs.declared.script.Command.{Command}
 use Rattle.session_run.specs.Transcripts.{IsNamedSeparation, IsOutcomeAfter, IsPlanBetween, IsTranscript, RunsFrom, acts_of, outcome_caller, outcomes_of}
 use Rattle.session_run.proofs.OutcomeForms.{kept_one}
 use Rattle.acceptance.specs.Reports.{IsSoundPlanOf, IsSoundRefusalOf}
-use Rattle.acceptance.specs.Transcripts.{IsBelowAllAble, TranscriptsAreAccepted}
+use Rattle.acceptance.specs.Transcripts.{TranscriptsAreAccepted}
 use Rattle.acceptance.proofs.Reports.{outcome_none, sound_reports_are_accepted}
 use Rattle.acceptance.proofs.Snapshots.{tight_where_claimed}
 use Rattle.acceptance.proofs.Sound.{none_prop}

@@ -17,13 +17,13 @@ use Rattle.plan_report.specs.Names.{state_name}
 use Rattle.plan_report.specs.KnownNames.{known_to}
 use Rattle.plan_report.specs.Texts.{SpellsReport, report_text}
 use Rattle.plan_checker.specs.declared.finding.Finding.{Finding}
+use Rattle.report_checker.specs.Outcomes.{IsAcceptedOutcome, IsBelowAllAble}
 use Rattle.report_checker.specs.ReportFindings.{HasNoFinding, IsFirstOfReport}
 use Rattle.session_script.specs.declared.script.Act.TheVariants as act
 use Rattle.session_script.specs.declared.script.Command.{Command}
 use Rattle.session_script.specs.declared.script.Script.{Script}
 use Rattle.session_script.specs.Scripts.{SpellsScript}
 use Rattle.session_run.specs.Transcripts.{IsTranscript}
-use Rattle.acceptance.specs.Transcripts.{IsBelowAllAble}
 use Rattle.sample_net.specs.Samples.{no_notes, sample_demands, sample_links, sample_nodes, with_single_failures}
 use Rattle.text_kit.specs.Written.{money_word}
 use Rattle.planner_commands.specs.Commands as commands
@@ -98,10 +98,12 @@ EndsSession files name p notes status text =
 
 -- ---- a check
 
--- what a check says of a report: that no finding holds, or the first one
+-- What a check says of a report: that no finding holds, and then each outcome is what an accepted one is known to be and each plan's
+-- bound holds for all able counts; or the first finding.
 abbrev pub IsJudged : Case → Notes → Report → Status → List ℕ → Type 0
 IsJudged p notes r status text =
-    ((status ≡ Done) × HasNoFinding notes p r × (text ≡ accepted_line (length r.outcomes)))
+    ((status ≡ Done) × HasNoFinding notes p r × All (IsAcceptedOutcome p r) r.outcomes × All (IsBelowAllAble p r) r.outcomes
+    × (text ≡ accepted_line (length r.outcomes)))
     ⊎ ((status ≡ Rejected) × ((outcome : ℕ) × (finding : Finding)
     × IsFirstOfReport notes p r outcome finding
     × (text ≡ rejected_line p.links r.outcomes outcome finding)))

@@ -1,7 +1,12 @@
 -- answers on outcomes and on whole reports
-use Rattle.std.proofs.Common.{◌≡◌, zero, suc, subst, sym}
+use Rattle.std.proofs.Common.{◌≡◌, zero, suc, All, subst, sym}
+use Rattle.std.proofs.lemmas.List.Elements.{All-weaker}
 use Rattle.net_core.specs.declared.network.Notes.{Notes}
 use Rattle.net_core.specs.Cases.{Case}
+use Rattle.plan_terms.proofs.Duality.{weak_duality}
+use Rattle.plan_types.specs.Plans.{lines_of_certificate}
+use Rattle.plan_types.specs.declared.report.Outcome.{Outcome}
+use Rattle.plan_types.specs.declared.report.Outcome.TheVariants.{Planned, Unsurvivable}
 use Rattle.plan_types.specs.declared.report.Report.{Report}
 use Rattle.plan_checker.specs.Order.{HoldNone}
 use Rattle.plan_checker.specs.declared.finding.CheckAnswer.{CheckAnswer}
@@ -9,6 +14,7 @@ use Rattle.plan_checker.specs.declared.finding.CheckAnswer.TheVariants.{Accepted
 use Rattle.plan_checker.specs.declared.stop.Stop.{Stop}
 use Rattle.plan_checker.specs.declared.stop.Stop.TheVariants as stops
 use Rattle.plan_checker.specs.inner.Tests.{StopsFirst}
+use Rattle.report_checker.specs.Outcomes.{IsAcceptedOutcome, IsBelowAllAble, case_at}
 use Rattle.report_checker.specs.ReportFindings.{AnswersReport, whole_findings}
 use Rattle.report_checker.specs.inner.Outcomes.{TellOutcomes, answer_to}
 
@@ -31,3 +37,13 @@ whole_stops notes p r stop a first is = subst (AnswersReport notes p r) (sym is)
 pub never_accepted : (stop : Stop) (a : CheckAnswer) → a ≡ answer_to stop → a ≡ Accepted → ⊥
 never_accepted (stops.Found f) a is accepted = absurd cc (is, accepted)
 never_accepted stops.NoMemory a is accepted = absurd cc (is, accepted)
+
+-- the bound of an accepted plan holds
+bound_holds : (p : Case) (r : Report) (o : Outcome) → IsAcceptedOutcome p r o → IsBelowAllAble p r o
+bound_holds p r (Planned caller serial plan) accepted = λ counts able.
+    weak_duality (case_at p r.entries plan.position) plan.certificate.den (lines_of_certificate plan.certificate) plan.bound counts
+    accepted.certified.certificate accepted.certified.rounded able
+bound_holds p r (Unsurvivable caller serial version position state demand) accepted = tt
+
+pub bounds_hold : (p : Case) (r : Report) → All (IsAcceptedOutcome p r) r.outcomes → All (IsBelowAllAble p r) r.outcomes
+bounds_hold p r = All-weaker (IsAcceptedOutcome p r) (IsBelowAllAble p r) (bound_holds p r) r.outcomes

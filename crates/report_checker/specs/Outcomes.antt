@@ -1,7 +1,8 @@
 -- findings on an outcome of a report
-use Rattle.std.specs.Prelude.{◌≡◌, ◌≢◌, ℕ, ◌<◌, ◌⊎◌, List, [], ◌∷◌, length, nat_le, take}
+use Rattle.std.specs.Prelude.{◌≡◌, ◌≢◌, ℕ, ◌<◌, ◌≤◌, ◌⊎◌, List, [], ◌∷◌, length, nat_le, take}
 use Rattle.net_core.specs.declared.journal.Entry.{Entry}
 use Rattle.net_core.specs.Cases.{Case}
+use Rattle.plan_terms.specs.Capacities.{IsAble, total_cost}
 use Rattle.plan_terms.specs.Separations.{Separates}
 use Rattle.plan_types.specs.declared.report.Outcome.{Outcome}
 use Rattle.plan_types.specs.declared.report.Outcome.TheVariants.{Planned, Unsurvivable}
@@ -47,3 +48,9 @@ outcome_findings p r (Unsurvivable caller serial version position state demand) 
 abbrev pub IsAcceptedOutcome : Case → Report → Outcome → Type 0
 IsAcceptedOutcome p r (Planned caller serial plan) = IsAcceptedPlan (case_at p r.entries plan.position) plan
 IsAcceptedOutcome p r (Unsurvivable caller serial version position state demand) = SeparatesNamed (case_at p r.entries position) state.0 demand
+
+-- no counts that can carry the demands at the plan's position cost less than its bound
+abbrev pub IsBelowAllAble : Case → Report → Outcome → Type 0
+IsBelowAllAble p r (Planned caller serial plan) =
+    (counts : List (List ℕ)) → IsAble (case_at p r.entries plan.position) counts → plan.bound ≤ total_cost p.links counts
+IsBelowAllAble p r (Unsurvivable caller serial version position state demand) = Unit {0}

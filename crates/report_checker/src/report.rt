@@ -4,7 +4,7 @@ ghost use Rattle.net_core.specs.Views.{case, case_of};
 ghost use Rattle.plan_report.specs.KnownNames.{known_of};
 ghost use Rattle.plan_report.specs.Forms.{IsReportInForm};
 ghost use Rattle.plan_checker.specs.inner.Tests.{TellFirst};
-ghost use Rattle.report_checker.specs.Outcomes.{IsAcceptedOutcome};
+ghost use Rattle.report_checker.specs.Outcomes.{IsAcceptedOutcome, IsBelowAllAble};
 ghost use Rattle.report_checker.specs.ReportFindings.{AnswersReport, whole_findings};
 ghost use Rattle.report_checker.specs.inner.Outcomes.{TellOutcomes, answer_to};
 
@@ -68,6 +68,7 @@ pub fn check_report(
     requires form { IsReportInForm (known_of net.now states.now) report.now }
     ensures told { AnswersReport net.now.notes (case net.now states.now opening.now) report.now result }
     ensures sound { result ≡ CheckAnswer.Accepted → All (IsAcceptedOutcome (case net.now states.now opening.now) report.now) report.now.outcomes }
+    ensures bound { result ≡ CheckAnswer.Accepted → All (IsBelowAllAble (case net.now states.now opening.now) report.now) report.now.outcomes }
 {
     let instance = Instance {
         net,
