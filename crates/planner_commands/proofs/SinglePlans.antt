@@ -19,7 +19,7 @@ use Rattle.session_run.specs.Transcripts.{IsOutcomeAfter, IsTranscript, RunsFrom
 use Rattle.acceptance.proofs.Transcripts.{transcript_accepted}
 use Rattle.plan_report.specs.Names.{state_name}
 use Rattle.plan_report.specs.KnownNames.{known_to}
-use Rattle.plan_report.specs.Texts.{report_text}
+use Rattle.plan_report.specs.Texts.{SpellsReport, report_text}
 use Rattle.planner_commands.specs.Run.{EndsPlan, IsPlanReport, IsSummary, plan_commands, summary}
 use Rattle.planner_commands.specs.declared.status.Status.{Status}
 use Rattle.planner_commands.specs.declared.status.Status.TheVariants.{Done, NotSurvivable}
@@ -154,8 +154,10 @@ module _ (p : Case) (notes : Notes) (r : Report) (t : IsTranscript p notes plan_
       }
 
   -- so it is what planning comes to
-  pub plan_ends : (by serial : ℕ) (plan : Plan) → r.outcomes ≡ Planned by serial plan ∷ [] → (status : Status) (text : List ℕ) → status ≡ Done → text ≡ report_text (known_to p) r → EndsPlan p notes status text
-  plan_ends by serial plan same status text done printed = inl (done, plan_report by serial plan same text printed)
+  pub plan_ends : (by serial : ℕ) (plan : Plan) → r.outcomes ≡ Planned by serial plan ∷ [] → (status : Status) (text : List ℕ) → status ≡ Done → text ≡ report_text (known_to p) r → SpellsReport (known_to p) text r
+      → EndsPlan p notes status text
+  unfolding plan_report
+  plan_ends by serial plan same status text done printed spelled = inl (done, (plan_report by serial plan same text printed, spelled))
 
   -- the lines of the plan are a summary
   pub plan_summary : (seed nodes : ℕ) (plan : Plan) → r.outcomes ≡ Planned 1 1 plan ∷ [] → (text : List ℕ) → text ≡ summary seed nodes p plan → IsSummary seed nodes p notes text

@@ -80,21 +80,21 @@ pub record NamesFirstSeparation (p : Case) (text : List ℕ) : Type 0 where
   pub first : IsFirstSeparation p state place
   pub printed : text ≡ codes "not survivable: state " ++ decimal state ++ 32 ∷ state_name p.listed state ++ codes " demand " ++ first.separates.demand.name ++ 10 ∷ []
 
--- what planning comes to, unless memory runs out
+-- what planning comes to, unless memory runs out: a text that spells the report of a plan, or the first separation
 abbrev pub EndsPlan : Case → Notes → Status → List ℕ → Type 0
 EndsPlan p notes status text =
-    ((status ≡ Done) × IsPlanReport p notes text)
+    ((status ≡ Done) × ((planned : IsPlanReport p notes text) × SpellsReport (known_to p) text planned.report))
     ⊎ ((status ≡ NotSurvivable) × NamesFirstSeparation p text)
 
 -- ---- a session
 
--- What a session comes to: its script ends the run, or the text is the report of the script's commands.
+-- What a session comes to: its script ends the run, or the text is the report of the script's commands, and spells it.
 abbrev pub EndsSession : Option Files → List ℕ → Case → Notes → Status → List ℕ → Type 0
 EndsSession files name p notes status text =
     StopsAtFile files input_limit name BadScript RefusesScriptFile status text
     ⊎ ((script : Script) × (report : Report)
     × Fetched files input_limit name SpellsScript script
-    × (status ≡ Done) × IsPrintedReport p notes script.commands report text)
+    × (status ≡ Done) × IsPrintedReport p notes script.commands report text × SpellsReport (known_to p) text report)
 
 -- ---- a check
 

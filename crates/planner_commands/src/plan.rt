@@ -4,7 +4,7 @@ ghost use Rattle.net_core.specs.Views.{case};
 ghost use Rattle.plan_report.specs.KnownNames.{known_of};
 ghost use Rattle.plan_report.specs.Forms.{IsReportInForm};
 ghost use Rattle.plan_report.specs.Names.{state_name};
-ghost use Rattle.plan_report.specs.Texts.{report_text};
+ghost use Rattle.plan_report.specs.Texts.{SpellsReport, report_text};
 ghost use Rattle.session_run.specs.Transcripts.{IsTranscript};
 ghost use Rattle.planner_commands.specs.Run.{EndsPlan, plan_commands};
 
@@ -80,6 +80,7 @@ pub fn reported(
     requires { IsReportInForm (known_of net.now states.now) report.now }
     ensures status { IfOk result (λ a. a.status ≡ Status.Done) }
     ensures text { IfOk result (λ a. a.text ≡ report_text (known_of net.now states.now) report.now) }
+    ensures spelled { IfOk result (λ a. SpellsReport (known_of net.now states.now) a.text report.now) }
 {
     let text = write_report(alloc, net, states, report)?;
     Ok(Answer {

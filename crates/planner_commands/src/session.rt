@@ -1,5 +1,7 @@
 ghost use Rattle.std.specs.Prelude.{◌≡◌, IfOk};
 ghost use Rattle.net_core.specs.Views.{case};
+ghost use Rattle.plan_report.specs.KnownNames.{known_of};
+ghost use Rattle.plan_report.specs.Texts.{SpellsReport};
 ghost use Rattle.session_script.specs.Scripts.{IsScript};
 ghost use Rattle.plan_types.specs.declared.report.Report.{Report as Rep};
 ghost use Rattle.planner_commands.specs.Run.{IsPrintedReport};
@@ -25,7 +27,8 @@ pub fn answer_session<R: Threads + Wait + Sync, G: Gate + Sync>(
 ) -> Result<Answer, NoMemory>
     requires { IsScript script.now.commands }
     ensures status { IfOk result (λ a. a.status ≡ Status.Done) }
-    ensures report { IfOk result (λ a. (r : Rep) × IsPrintedReport (case problem.net problem.states problem.demands) problem.net.notes script.now.commands r a.text) }
+    ensures report { IfOk result (λ a. (r : Rep) × IsPrintedReport (case problem.net problem.states problem.demands) problem.net.notes script.now.commands r a.text
+        × SpellsReport (known_of problem.net problem.states) a.text r) }
 {
     let Problem {
         net,

@@ -3,13 +3,13 @@ use Rattle.net_core.specs.declared.demand.Demand.{Demand}
 use Rattle.net_core.specs.Views.{case}
 use Rattle.plan_report.specs.Names.{state_name}
 use Rattle.plan_report.specs.KnownNames.{known_of}
-use Rattle.plan_report.specs.Texts.{report_text}
+use Rattle.plan_report.specs.Texts.{SpellsReport, report_text}
 use Rattle.plan_types.specs.declared.report.Outcome.{Outcome}
 use Rattle.session_run.specs.Transcripts.{IsTranscript}
 use Rattle.planner_commands.specs.Run.{EndsPlan, plan_commands}
 use Rattle.planner_commands.specs.declared.answer.Answer.{Answer}
 use Rattle.planner_commands.specs.declared.status.Status.TheVariants.{Done, NotSurvivable}
-use Rattle.planner_commands.proofs.Clauses.{both_ok}
+use Rattle.planner_commands.proofs.Clauses.{both_ok, three_ok}
 use Rattle.planner_commands.proofs.SinglePlans.{plan_ends, refusal_ends}
 use Rattle.planner_commands.proofs.plan.answer_outcome.Goals as goal
 
@@ -19,10 +19,11 @@ returns-in-Planned c =
     let states = c.args.states.now in
     let report = c.args.report.now in
     let same = c.requires.alone ∙ ap (λ (o : Outcome). o ∷ []) c.in-Planned.is in
-    both_ok c.reported.result (λ (a : Answer). a.status ≡ Done) (λ (a : Answer). a.text ≡ report_text (known_of net states) report)
+    three_ok c.reported.result (λ (a : Answer). a.status ≡ Done) (λ (a : Answer). a.text ≡ report_text (known_of net states) report)
+    (λ (a : Answer). SpellsReport (known_of net states) a.text report)
     (λ (a : Answer). (demands : List Demand) → IsTranscript (case net states demands) net.notes plan_commands report → EndsPlan (case net states demands) net.notes a.status a.text)
-    (λ a status text demands t. plan_ends (case net states demands) net.notes report t c.in-Planned.caller c.in-Planned.serial c.in-Planned.plan same a.status a.text status text)
-    c.reported.ensures.status c.reported.ensures.text
+    (λ a status text spelled demands t. plan_ends (case net states demands) net.notes report t c.in-Planned.caller c.in-Planned.serial c.in-Planned.plan same a.status a.text status text spelled)
+    c.reported.ensures.status c.reported.ensures.text c.reported.ensures.spelled
 
 pub returns-in-Unsurvivable : goal.returns-in-Unsurvivable
 returns-in-Unsurvivable c =

@@ -28,4 +28,5 @@ returns-clause-ends g c =
       rw c.in_ok-problem.ensures.shelf.same at c.in_ok-script.ensures.has,
       c.in_ok-answer_session.ensures.status,
       report.1,
+      report.2,
     ))

@@ -1,12 +1,11 @@
 use Rattle.std.proofs.Common.{◌≡◌}
 use Rattle.net_core.specs.Views.{case}
 use Rattle.plan_report.specs.KnownNames.{known_to}
-use Rattle.plan_report.specs.Texts.{report_text}
+use Rattle.plan_report.specs.Texts.{SpellsReport, report_text}
 use Rattle.plan_types.specs.declared.report.Report.{Report}
 use Rattle.acceptance.proofs.Transcripts.{transcript_accepted}
 use Rattle.planner_commands.specs.Run.{IsPrintedReport}
 use Rattle.planner_commands.specs.declared.answer.Answer.{Answer}
-use Rattle.planner_commands.specs.declared.status.Status.TheVariants.{Done}
 use Rattle.planner_commands.proofs.Clauses.{both_ok}
 use Rattle.planner_commands.proofs.session.answer_session.Goals as goal
 
@@ -18,7 +17,7 @@ returns-clause-report g c =
     let commands = c.args.script.now.commands in
     let report = c.in_ok-report.report in
     let accepted = transcript_accepted p notes commands report c.requires.few c.in_ok-report.ensures in
-    both_ok c.reported.result (λ (a : Answer). a.status ≡ Done) (λ (a : Answer). a.text ≡ report_text (known_to p) report)
-    (λ (a : Answer). (r : Report) × IsPrintedReport p notes commands r a.text)
-    (λ a status text. (report, record { transcript = c.in_ok-report.ensures; clean = accepted.0; bounded = accepted.1; printed = text }))
-    c.reported.ensures.status c.reported.ensures.text
+    both_ok c.reported.result (λ (a : Answer). a.text ≡ report_text (known_to p) report) (λ (a : Answer). SpellsReport (known_to p) a.text report)
+    (λ (a : Answer). (r : Report) × IsPrintedReport p notes commands r a.text × SpellsReport (known_to p) a.text r)
+    (λ a text spelled. (report, record { transcript = c.in_ok-report.ensures; clean = accepted.0; bounded = accepted.1; printed = text }, spelled))
+    c.reported.ensures.text c.reported.ensures.spelled
