@@ -28,6 +28,7 @@ use Rattle.session_script.specs.declared.script.Act.{Act}
 use Rattle.session_script.specs.declared.script.Act.TheVariants as acts
 use Rattle.session_script.specs.declared.script.Command.{Command}
 use Rattle.session_run.specs.Transcripts.{IsNamedSeparation, IsOutcomeAfter, IsPlanBetween, IsTranscript, RunsFrom, acts_of, outcome_caller, outcomes_of}
+use Rattle.session_run.proofs.Counts.{few_entries}
 use Rattle.session_run.proofs.OutcomeForms.{kept_one}
 use Rattle.acceptance.specs.Reports.{IsSoundPlanOf, IsSoundRefusalOf}
 use Rattle.acceptance.specs.Transcripts.{TranscriptsAreAccepted}
@@ -54,7 +55,7 @@ module _ (p : Case) (notes : Notes) (commands : List Command) (r : Report) (few 
   pool_full m le none =
       let pooled = pooled_cuts in
       let lines = t.form.few_lines in
-      let entries = t.few in
+      let entries = few_entries p notes commands r t in
       ⊎_elim
       (λ full. let before = cuts_before m in omega (arith, full, before, pooled))
       (λ long. let taken = length-take-le m es le in absurd (omega (arith, long, taken, le, entries, lines, few)))

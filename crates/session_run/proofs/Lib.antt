@@ -1,5 +1,6 @@
 pub mod Callers
 mod Closing
+pub mod Counts
 mod Dealt
 mod FormProps
 mod Journals

@@ -1,10 +1,9 @@
 -- the report of a board and of the outcomes of commands that have run
-use Rattle.std.proofs.Common.{◌≡◌, ℕ, ◌+◌, ◌^◌, ◌<◌, ◌≤◌, ◌==◌, List, All, get_or, length, refl, sym, ap, subst, ◌∙◌, arith}
+use Rattle.std.proofs.Common.{◌≡◌, ℕ, ◌^◌, ◌<◌, ◌≤◌, ◌==◌, List, All, get_or, length, refl, sym, subst, arith}
 use Rattle.std.specs.Prelude.{AllPairs}
 use Rattle.std.proofs.Math.Logic.{∥∥₁_elim}
 use Rattle.std.proofs.Props.{props}
 use Rattle.std.proofs.lemmas.Bool.{eq-eqb}
-use Rattle.std.proofs.lemmas.List.{length-map}
 use Rattle.std.proofs.lemmas.List.Elements.{All-filter}
 use Rattle.net_core.specs.declared.journal.Entry.{Entry}
 use Rattle.net_core.specs.declared.network.Notes.{Notes}
@@ -17,7 +16,7 @@ use Rattle.plan_report.specs.KnownNames.{known_of, known_to}
 use Rattle.plan_report.specs.Forms.{IsReportInForm}
 use Rattle.cut_pool.specs.declared.board.Board.{Board}
 use Rattle.cut_pool.specs.Boards.{opening_case}
-use Rattle.cut_pool.specs.Histories.{IsLegalHistory, IsPoolAfter, cut_of_line, cuts_of, case_left}
+use Rattle.cut_pool.specs.Histories.{IsLegalHistory, IsPoolAfter, case_left}
 use Rattle.planner.proofs.Histories.{board_few}
 use Rattle.session_script.specs.declared.script.Command.{Command}
 use Rattle.session_script.specs.Scripts.{IsScript}
@@ -61,13 +60,6 @@ module _ (b : Board) (notes : Notes) (commands : List Command) (outcomes sorted 
   legal : ∥ IsLegalHistory (opening_case b) b.entries ∥₁
   legal = ∥∥₁_elim b.stands (hlevel props) (λ board. ∣ board.legal ∣₁)
 
-  few_entries : length b.entries ≤ length commands + length lines
-  few_entries =
-      ∥∥₁_elim pool (hlevel props) (λ is.
-      let few = run.few in
-      let same : length lines ≡ length (cuts_of b.entries) = sym (length-map lines cut_of_line) ∙ ap length is.cuts in
-      omega (arith, few, same))
-
   -- what holds of all outcomes once they are sorted held before, and the other way round
   planned_before : All IsPlanned sorted → All IsPlanned outcomes
   planned_before = of_all IsPlanned sorted outcomes same
@@ -80,7 +72,6 @@ module _ (b : Board) (notes : Notes) (commands : List Command) (outcomes sorted 
     notes_are = refl;
     legal = legal;
     edits = run.edits;
-    few = few_entries;
     pool_is = pool;
     runs = λ caller. subst (RunsFrom (opening_case b) b.entries caller 0 1 (acts_of caller commands)) (sym (same caller)) (run.runs caller);
     ordered = ordered;

@@ -115,7 +115,6 @@ pub record IsTranscript (p : Case) (notes : Notes) (commands : List Command) (r 
   pub notes_are : r.notes ≡ notes
   pub legal : ∥ IsLegalHistory p r.entries ∥₁
   pub edits : (caller : ℕ) → flat_map (edit_made caller) r.entries ≡ flat_map edit_asked (acts_of caller commands)
-  pub few : length r.entries ≤ length commands + length r.pool
   pub pool_is : ∥ IsPoolAfter p r.entries r.pool ∥₁
   pub runs : (caller : ℕ) → RunsFrom p r.entries caller 0 1 (acts_of caller commands) (outcomes_of caller r.outcomes)
   pub ordered : AllPairs (λ a b. outcome_caller a ≤ outcome_caller b) r.outcomes
