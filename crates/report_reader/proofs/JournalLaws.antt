@@ -1,5 +1,5 @@
 -- The readings of the notes, the journal and the pool take exactly their texts.
-use Rattle.std.proofs.Common.{◌≡◌, ◌⊎◌, inl, inr, ℕ, ◌+◌, ◌^◌, ◌<◌, ◌≤◌, Bool, true, false, List, [], ◌∷◌, ◌++◌, length, All, Ok, Err, refl, sym, ap, subst, arith, append_assoc}
+use Rattle.std.proofs.Common.{◌≡◌, ◌⊎◌, inl, inr, ℕ, ◌+◌, ◌^◌, ◌<◌, ◌≤◌, Bool, true, false, List, [], ◌∷◌, ◌++◌, length, All, IfOk, Result, Ok, Err, refl, sym, ap, subst, arith, append_assoc}
 use Rattle.std.specs.Prelude.{codes, flat_map}
 use Rattle.net_core.specs.declared.journal.Edit.TheVariants.{Set, Add, Drop}
 use Rattle.net_core.specs.declared.journal.Entry.{Entry}
@@ -8,8 +8,11 @@ use Rattle.net_core.specs.declared.journal.Reply.{Reply}
 use Rattle.net_core.specs.declared.journal.Reply.TheVariants.{Accepted, UnknownDemand, KnownDemand, UnknownNode, SelfDemand, TooMany, TooMuch}
 use Rattle.net_core.specs.declared.network.Notes.{Notes}
 use Rattle.net_core.specs.declared.plan.CutLine.{CutLine}
+use Rattle.snd_tokens.specs.Lexemes.{Text}
+use Rattle.text_kit.specs.Answers.{ReadsAs}
 use Rattle.text_kit.specs.Items.{Item, Verbatim, Closing}
 use Rattle.text_kit.specs.Reading.{no_fault}
+use Rattle.text_kit.specs.declared.refusal.Refusal.{Refusal}
 use Rattle.text_kit.proofs.Beginnings.{AnyText}
 use Rattle.text_kit.proofs.Lawful.{lawful_as}
 use Rattle.text_kit.proofs.Spelled.{Lawful}
@@ -17,6 +20,7 @@ use Rattle.plan_report.specs.Forms.{IsCutInForm, IsEditedInForm, IsReplyInForm}
 use Rattle.plan_report.specs.Items.{entry_items, event_items, note_items, notes_items, numbered_from, pool_line_items, reply_items}
 use Rattle.text_kit.specs.Edits.{IsEditInForm, edit_items, ends_items}
 use Rattle.plan_report.specs.KnownNames.{KnownNames}
+use Rattle.report_words.specs.declared.fault.ReportKind.{ReportKind}
 use Rattle.report_words.specs.declared.fault.ReportKind.TheVariants.{Token}
 use Rattle.report_words.specs.ReportWords.{closing_at, has_room}
 use Rattle.report_reader.specs.ReadingJournal.{edit_branches, event_branches, notes_branches, reply_branches, routing_note_branches, setup_note_branches, accepted_at, add_at, drop_at, edit_at, edited_at, entries_at, journal_entry_at, event_at, noted, notes_at, notes_end_at, pool_at, pool_line_at, pooled_at, reply_at, routing_note_at, set_at, setup_note_at, too_much_at, two_names_at}
@@ -236,3 +240,8 @@ pool_law names = lawful_as (pool_at names) _ (λ ls. flat_map pool_line_items (n
     (λ ls h. rooms_few 4096 (IsCutInForm names.links names.listed) ls h.1)
     (λ ls h. (refl, few_rooms 4096 (IsCutInForm names.links names.listed) ls h.0 h.1))
     (lawful_placed (λ k l. pool_line_items (k, l)) (λ sofar l. (has_room 4096 sofar ≡ true) × IsCutInForm names.links names.listed l) no_fault (pool_line_at names) (λ k l. tt) (pool_line_law names))
+
+-- so few lines are read
+pub pool_few : (names : KnownNames) (a : Result (List CutLine) (Refusal ReportKind)) (rest text : Text) → ReadsAs (λ (ls : List CutLine). ls) a rest (pool_at names text) → IfOk a (λ ls. length ls ≤ 4096)
+pool_few names (Ok ls) rest text read = ((pool_law names).takes text ls rest read).0.0
+pool_few names (Err e) rest text read = tt

@@ -1,4 +1,4 @@
-ghost use Rattle.std.specs.Prelude.{◌≡◌};
+ghost use Rattle.std.specs.Prelude.{◌≡◌, ◌≤◌, IfOk, length};
 ghost use Rattle.snd_tokens.specs.Lexemes.{left};
 ghost use Rattle.text_kit.specs.Answers.{ReadsAs};
 ghost use Rattle.plan_report.specs.KnownNames.{known_of};
@@ -85,7 +85,8 @@ pub(crate) fn pool(
     states: &States,
     text: &mut Cursor,
 ) -> Result<List<CutLine>, ReportRefusal>
-    ensures { ReadsAs (λ l. l) result (left text.new) (pool_at (known_of net.now states.now) (left text.old)) }
+    ensures reads { ReadsAs (λ l. l) result (left text.new) (pool_at (known_of net.now states.now) (left text.old)) }
+    ensures few { IfOk result (λ l. length l ≤ 4096) }
 {
     list(alloc, &LineList { net, states }, text)
 }

@@ -19,7 +19,6 @@ use report_words::context::Context;
 use report_words::fault::{ReportKind, ReportRefusal};
 use snd_tokens::Cursor;
 use std::alloc::Global;
-use text_kit::Refusal;
 use text_kit::steps::{end, expect, open, text_after_header};
 
 const HEADER: &[u8] = b"?planner report; version: 1";
@@ -31,9 +30,6 @@ const JOURNAL: &[u8] = b"JOURNAL";
 const POOL: &[u8] = b"POOL";
 
 const OUTCOMES: &[u8] = b"OUTCOMES";
-
-/// There is no memory for so many lines of the pool.
-const MAX_LINES: usize = u32::MAX as usize;
 
 /// Takes the word of a section and the parenthesis after it.
 #[tactic(auto, unfolding(crate::specs::ReadingReport::section_at))]
@@ -55,9 +51,6 @@ fn sections(alloc: Global, context: &Context, text: &mut Cursor) -> Result<Repor
     let entries = entries(alloc, text)?;
     section(POOL, text)?;
     let pool = pool(alloc, context.net, context.states, text)?;
-    if pool.len() >= MAX_LINES {
-        return Err(Refusal::NoMemory);
-    }
     section(OUTCOMES, text)?;
     let outcomes = outcomes(alloc, context, pool.items(), text)?;
     let entries = fill(alloc, pool.items(), entries)?;
