@@ -1,0 +1,253 @@
+ghost use Rattle.std.specs.Prelude.{◌≡◌, ◌<◌, ◌^◌, ◌↔◌, All, IfSome, IsTrue, length};
+ghost use Rattle.metric_cut.specs.Bounded.{HaveBound};
+
+use crate::fixtures::{TRIANGLE, make_problem};
+use metric_cut::{Cut, CutFault, CutLine, opening, own_bound, own_certificate, violated_by};
+use net_core::{Caps, Copied, List, Network, NodeId, Problem, StateId};
+use std::alloc::Global;
+use std::test::Fail;
+use worked_networks::{LinkRow, ONE, TEN};
+
+/// A triangle with 20.00 installed on each link.
+const INSTALLED: [LinkRow; 3] = [
+    (0, 1, 20000, &TEN),
+    (1, 2, 20000, &TEN),
+    (0, 2, 20000, &TEN),
+];
+
+/// A triangle whose first link costs half as much for its capacity as the others.
+const MIXED: [LinkRow; 3] = [(0, 1, 0, &TEN), (1, 2, 0, &ONE), (0, 2, 0, &ONE)];
+
+/// States that fail each link of a triangle alone, and one that fails them all.
+const FAILED: [&[u32]; 4] = [&[0], &[1], &[2], &[0, 1, 2]];
+
+/// A state, lengths, and the lengths of their cut with its distance of C and A, or why there is none.
+type LengthRow = (u32, [u32; 3], Result<(&'static [u32], u64), CutFault>);
+
+const LENGTHS: [LengthRow; 8] = [
+    (0, [2, 4, 6], Ok((&[1, 2, 3], 3))),
+    (1, [2, 4, 6], Ok((&[0, 2, 3], 3))),
+    (3, [2, 4, 6], Ok((&[1, 2, 0], 3))),
+    (3, [0, 7, 7], Ok((&[0, 1, 0], 1))),
+    (0, [0, 0, 0], Err(CutFault::ZeroLengths)),
+    (3, [0, 0, 5], Err(CutFault::ZeroLengths)),
+    (4, [1, 1, 1], Err(CutFault::ZeroLengths)),
+    (5, [1, 1, 1], Err(CutFault::UnknownState)),
+];
+
+/// Whether the cut is of these lengths, and C and A are so far apart.
+fn keeps(cut: &Cut, state: u32, kept: &[u32], apart: u64) -> bool
+    requires { 2 < cut.now.table.nodes }
+{
+    cut.state().0 == state
+        && cut.lengths().items() == kept
+        && cut.distance(NodeId(2), NodeId(0)) == Some(apart)
+}
+
+/// Whether the row's lengths are kept or refused as it says.
+fn are_kept(alloc: Global, p: &Problem, row: &LengthRow) -> Option<bool> {
+    let (state, given, want) = row;
+    let lengths = List::from_slice(alloc, given).ok()?;
+    if lengths.len() != p.net.links().len() || p.net.nodes().len() < 3 {
+        return None;
+    }
+    match Cut::new(alloc, &p.net, &p.states, StateId(*state), lengths) {
+        Ok(cut) => match want {
+            Ok((kept, apart)) => Some(keeps(&cut, *state, kept, *apart)),
+            Err(_) => Some(false),
+        },
+        Err(fault) => Some(*want == Err(fault)),
+    }
+}
+
+#[test]
+fn lengths_are_kept_or_refused(rt: HostRuntime) -> Result<(), Fail> {
+    let Some(p) = make_problem(rt.alloc(), 3, &TRIANGLE, &FAILED, &[]) else {
+        return Err("no network".into());
+    };
+    for i in 0..LENGTHS.len() {
+        assert!(rt;
+            are_kept(rt.alloc(), &p, &LENGTHS[i]).unwrap_or(false),
+            "row {i}"
+        );
+    }
+    Ok(())
+}
+
+/// Links, a state, and of its unit cut the right side, where 12.00 are needed from A to C, the raw value and the bound.
+type BoundRow = (&'static [LinkRow<'static>; 3], u32, u128, u128, u128);
+
+const BOUNDS: [BoundRow; 3] = [
+    (&TRIANGLE, 0, 12000, 6000, 10000),
+    (&TRIANGLE, 3, 24000, 12000, 15000),
+    (&INSTALLED, 0, 12000, 0, 0),
+];
+
+/// Whether the cut has the bound of a row, by a multiplier of a half.
+fn has_bound(net: &Network, line: &CutLine, row: &BoundRow) -> bool
+    requires lengths { HaveBound net.now.links line.now.lengths }
+    requires right { line.now.right < 2 ^ 84 }
+{
+    let (_, _, right, raw, bound) = row;
+    let own = own_certificate(net, line);
+    let half = own.multiplier.num == 1 && own.multiplier.den == 2;
+    half && own.raw.num == *raw
+        && own.raw.den == 1
+        && own.bound == *bound
+        && line.right == *right
+        && own_bound(net, line) == *bound
+}
+
+/// What the cut asks for of the problem's demands.
+fn line_of(p: &Problem, cut: &Cut) -> Option<CutLine>
+    requires { cut.now.table.nodes ≡ length p.now.net.nodes }
+    ensures lengths { IfSome result (λ line. line.lengths ≡ cut.now.lengths) }
+    ensures right { IfSome result (λ line. line.right < 2 ^ 84) }
+{
+    match cut.lengths().copy() {
+        Ok(lengths) => Some(CutLine {
+            state: cut.state(),
+            lengths,
+            right: cut.right(&p.demands),
+        }),
+        Err(_) => None,
+    }
+}
+
+/// The unit cut of a state.
+fn unit_cut(alloc: Global, p: &Problem, state: u32) -> Option<Cut>
+    ensures nodes { IfSome result (λ cut. cut.table.nodes ≡ length p.now.net.nodes) }
+    ensures bound { IfSome result (λ cut. HaveBound p.now.net.links cut.lengths) }
+{
+    let units = List::filled(alloc, 1, p.net.links().len()).ok()?;
+    Cut::new(alloc, &p.net, &p.states, StateId(state), units).ok()
+}
+
+/// Whether the unit cut of the row's state has its bound.
+fn is_bound(alloc: Global, p: &Problem, row: &BoundRow) -> Option<bool> {
+    let cut = unit_cut(alloc, p, row.1)?;
+    let line = line_of(p, &cut)?;
+    Some(has_bound(&p.net, &line, row))
+}
+
+/// The same on the row's links.
+fn is_bound_there(alloc: Global, row: &BoundRow) -> Option<bool> {
+    let p = make_problem(alloc, 3, row.0.as_slice(), &FAILED, &[(0, 2, 12000)])?;
+    is_bound(alloc, &p, row)
+}
+
+#[test]
+fn bounds_of_the_unit_cut(rt: HostRuntime) {
+    for i in 0..BOUNDS.len() {
+        assert!(rt;
+            is_bound_there(rt.alloc(), &BOUNDS[i]).unwrap_or(false),
+            "row {i}"
+        );
+    }
+}
+
+/// The numbers of the links, their scale, and whether they are too small.
+type SmallRow = ([u128; 3], u64, bool);
+
+/// In state 3 AB and BC have to carry 12.00 each.
+const SMALL: [SmallRow; 5] = [
+    ([10000, 10000, 0], 1, true),
+    ([11999, 12000, 90000], 1, true),
+    ([12000, 12000, 0], 1, false),
+    ([24000, 24000, 0], 2, false),
+    ([24000, 24000, 0], 3, true),
+];
+
+fn are_narrow(nums: &[u128]) -> bool
+    ensures { IsTrue result ↔ All (λ n. n < 2 ^ 62) nums.now }
+{
+    nums.iter().all(|n| *n < 1 << 62)
+}
+
+fn is_violated(line: &CutLine, caps: &Caps) -> bool {
+    caps.scale > 0
+        && are_narrow(caps.nums.items())
+        && caps.nums.len() == line.lengths.len()
+        && line.lengths.len() <= 256
+        && violated_by(line, caps)
+}
+
+fn is_violated_so(alloc: Global, line: &CutLine, row: &SmallRow) -> bool {
+    let (nums, scale, want) = row;
+    match List::from_slice(alloc, nums) {
+        Ok(nums) => {
+            let caps = Caps {
+                scale: *scale,
+                nums,
+            };
+            is_violated(line, &caps) == *want
+        }
+        Err(_) => false,
+    }
+}
+
+#[test]
+fn capacities_that_are_too_small(rt: HostRuntime) -> Result<(), Fail> {
+    let Ok(lengths) = List::from_slice(rt.alloc(), &[1, 1, 0]) else {
+        return Err("no memory".into());
+    };
+    let line = CutLine {
+        state: StateId(3),
+        lengths,
+        right: 24000,
+    };
+    for i in 0..SMALL.len() {
+        assert!(rt; is_violated_so(rt.alloc(), &line, &SMALL[i]), "row {i}");
+    }
+    Ok(())
+}
+
+/// Links, a state, and the lengths of its opening cuts, one after another.
+type OpeningRow = (&'static [LinkRow<'static>; 3], u32, &'static [u32]);
+
+const OPENINGS: [OpeningRow; 6] = [
+    (&TRIANGLE, 0, &[1, 1, 1]),
+    (&TRIANGLE, 3, &[1, 1, 0]),
+    (&TRIANGLE, 4, &[]),
+    (&MIXED, 0, &[1, 1, 1, 1, 2, 2]),
+    (&MIXED, 1, &[0, 1, 1]),
+    (&MIXED, 2, &[1, 0, 1, 1, 0, 2]),
+];
+
+/// Whether these are the lengths of all cuts, one after another.
+fn have_lengths(cuts: &[Cut], want: &[u32]) -> bool {
+    let mut rest = want;
+    for cut in cuts {
+        match rest.strip_prefix(cut.lengths().items()) {
+            Some(after) => rest = after,
+            None => return false,
+        }
+    }
+    rest.is_empty()
+}
+
+fn are_openings(alloc: Global, p: &Problem, row: &OpeningRow) -> bool {
+    let (_, state, want) = row;
+    if *state >= p.states.count() {
+        return false;
+    }
+    match opening(alloc, &p.net, &p.states, StateId(*state)) {
+        Ok(cuts) => have_lengths(cuts.items(), want),
+        Err(_) => false,
+    }
+}
+
+/// The same on the row's links.
+fn are_openings_there(alloc: Global, row: &OpeningRow) -> bool {
+    match make_problem(alloc, 3, row.0.as_slice(), &FAILED, &[]) {
+        Some(p) => are_openings(alloc, &p, row),
+        None => false,
+    }
+}
+
+#[test]
+fn opening_cuts_of_a_state(rt: HostRuntime) {
+    for i in 0..OPENINGS.len() {
+        assert!(rt; are_openings_there(rt.alloc(), &OPENINGS[i]), "row {i}");
+    }
+}

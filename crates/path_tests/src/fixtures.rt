@@ -1,0 +1,56 @@
+ghost use Rattle.std.specs.Prelude.{◌<◌, ◌^◌, ◌↔◌, All, IsTrue};
+ghost use Rattle.net_core.specs.Network.{IsModule};
+
+use net_core::{Module, Network, Problem, States};
+use std::alloc::Global;
+use worked_networks::{DemandRow, LinkRow, TEN, demands, failing, network};
+
+/// Modules of 155.00 for 100.00 and of 622.00 for 250.00.
+pub(crate) const TWO_KINDS: [Module; 2] = [
+    Module {
+        capacity: 155000,
+        cost: 100000,
+    },
+    Module {
+        capacity: 622000,
+        cost: 250000,
+    },
+];
+
+/// A triangle of modules of 10.00 for 5.00: the links AB, BC and AC.
+pub(crate) const TRIANGLE: [LinkRow; 3] = [(0, 1, 0, &TEN), (1, 2, 0, &TEN), (0, 2, 0, &TEN)];
+
+/// The demands of so many nodes, beside their network and its states.
+fn with_demands(
+    alloc: Global,
+    net: Network,
+    states: States,
+    rows: &[DemandRow],
+) -> Option<Problem> {
+    let demands = demands(alloc, net.nodes().len(), rows).ok()?;
+    Some(Problem {
+        net,
+        states,
+        demands,
+    })
+}
+
+/// The problem of so many nodes, these links, states that fail the listed links, and demands.
+pub(crate) fn make_problem(
+    alloc: Global,
+    nodes: usize,
+    links: &[LinkRow],
+    failed: &[&[u32]],
+    rows: &[DemandRow],
+) -> Option<Problem> {
+    let net = network(alloc, nodes, links).ok()?;
+    let states = failing(alloc, &net, failed).ok()?;
+    with_demands(alloc, net, states, rows)
+}
+
+/// Whether they are modules of a link.
+pub(crate) fn are_modules(modules: &[Module]) -> bool
+    ensures { IsTrue result ↔ All IsModule modules.now }
+{
+    modules.iter().all(|m| m.capacity > 0 && m.capacity < 1 << 40 && m.cost < 1 << 40)
+}

@@ -1,0 +1,72 @@
+use crate::fixtures::{TRIANGLE, make_problem};
+use greedy_router::greedy;
+use net_core::{Caps, List, Problem, StateId};
+use std::alloc::Global;
+use worked_networks::DemandRow;
+
+/// Demands, a state, the scale and the numbers of AB, BC and AC, and what is left of the two demands; worked out by hand.
+type Row = (&'static [DemandRow], u32, u64, [u128; 3], [u128; 2]);
+
+/// 12.00 from A to C and 4.00 from A to B; in state 3 the link AC fails.
+const GREATER_FIRST: [DemandRow; 2] = [(0, 2, 12000), (0, 1, 4000)];
+
+/// 4.00 from A to B and 12.00 from A to C, which fills AB first.
+const GREATER_LAST: [DemandRow; 2] = [(0, 1, 4000), (0, 2, 12000)];
+
+/// 6.00 from A to B and from A to C: the first goes first, and each takes its own link before the other two.
+const EQUAL: [DemandRow; 2] = [(0, 1, 6000), (0, 2, 6000)];
+
+const ROWS: [Row; 13] = [
+    (&GREATER_FIRST, 0, 1, [0, 0, 0], [12000, 4000]),
+    (&GREATER_FIRST, 0, 3, [0, 0, 0], [36000, 12000]),
+    (&GREATER_FIRST, 0, 1, [6000, 2000, 10000], [0, 0]),
+    (&GREATER_FIRST, 0, 1, [20000, 20000, 20000], [0, 0]),
+    (&GREATER_FIRST, 0, 1, [4000, 4000, 4000], [4000, 4000]),
+    (&GREATER_FIRST, 0, 1, [0, 0, 15999], [0, 4000]),
+    (&GREATER_FIRST, 3, 1, [6000, 2000, 10000], [10000, 0]),
+    (&GREATER_FIRST, 3, 2, [6000, 1, 1 << 61], [23999, 2001]),
+    (
+        &GREATER_FIRST,
+        0,
+        1,
+        [(1 << 62) - 1, 0, (1 << 62) - 1],
+        [0, 0],
+    ),
+    (&GREATER_LAST, 0, 1, [5000, 5000, 0], [4000, 7000]),
+    (&GREATER_LAST, 0, 2, [5000, 7000, 24000], [3000, 0]),
+    (&EQUAL, 0, 1, [7000, 7000, 0], [0, 5000]),
+    (&EQUAL, 0, 1, [6000, 9000, 6000], [0, 0]),
+];
+
+/// Whether the row is what is left of the problem's demands.
+fn is_left(alloc: Global, p: &Problem, row: &Row) -> Option<bool> {
+    let (_, state, scale, nums, rest) = row;
+    let nums = List::from_slice(alloc, nums).ok()?;
+    if *state >= p.states.count() || nums.len() != p.net.links().len() {
+        return None;
+    }
+    let caps = Caps {
+        scale: *scale,
+        nums,
+    };
+    match greedy(alloc, &p.net, &p.states, StateId(*state), &p.demands, &caps) {
+        Ok(left) => Some(left.routing.den == 1 && left.rest.items() == rest.as_slice()),
+        Err(_) => None,
+    }
+}
+
+/// Whether the row is what is left on the triangle.
+fn is_left_on_triangle(alloc: Global, row: &Row) -> Option<bool> {
+    let p = make_problem(alloc, 3, &TRIANGLE, &[&[0], &[1], &[2]], row.0)?;
+    is_left(alloc, &p, row)
+}
+
+#[test]
+fn rests_are_as_by_hand(rt: HostRuntime) {
+    for i in 0..ROWS.len() {
+        assert!(rt;
+            is_left_on_triangle(rt.alloc(), &ROWS[i]).unwrap_or(false),
+            "row {i}"
+        );
+    }
+}

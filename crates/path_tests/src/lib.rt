@@ -1,0 +1,17 @@
+//! Tests of paths, failure states, greedy routings, prices, cuts and modules, by tables that were worked out by hand.
+#![tactic(auto)]
+
+#[cfg(test)]
+mod cuts;
+#[cfg(test)]
+mod fixtures;
+#[cfg(test)]
+mod greedy;
+#[cfg(test)]
+mod modules;
+#[cfg(test)]
+mod paths;
+#[cfg(test)]
+mod prices;
+#[cfg(test)]
+mod separations;

@@ -1,0 +1,309 @@
+ghost use Rattle.std.specs.Prelude.{IsTrue};
+ghost use Rattle.net_core.specs.Views.{case};
+ghost use Rattle.plan_terms.specs.Capacities.{AreCounts};
+ghost use Rattle.plan_terms.specs.Separations.{IsSurvivable};
+
+use crate::fixtures::{TRIANGLE, TWO_KINDS, are_modules};
+use failure_states::first_separated;
+use module_choice::{Covering, capacities, cost, cover, fallback_plan};
+use net_core::{Counts, Link, List, Module, Network, Problem};
+use std::alloc::Global;
+use std::test::Fail;
+use worked_networks::{DemandRow, LinkRow, ONE, TEN, network, problem};
+
+/// Modules of 0.001 for 0.001 and of 1.000 for 0.500.
+const SMALL_STEPS: [Module; 2] = [
+    Module {
+        capacity: 1,
+        cost: 1,
+    },
+    Module {
+        capacity: 1000,
+        cost: 500,
+    },
+];
+
+/// The counts that cover a need on the link, with their cost.
+fn covering(alloc: Global, link: &Link, need: u64) -> Option<Covering> {
+    let modules = link.modules.items();
+    if modules.is_empty() || modules.len() > 16 || !are_modules(modules) || need >= 1 << 44 {
+        return None;
+    }
+    cover(alloc, link, need).ok()
+}
+
+/// Modules, a need, the counts that cover it, and their cost.
+type CoverRow = (&'static [Module], u64, [u64; 2], u128);
+
+/// Up to 100,000 steps of the capacities' common divisor kinds are mixed, beyond that one kind is taken.
+const COVERS: [CoverRow; 12] = [
+    (&TWO_KINDS, 0, [0, 0], 0),
+    (&TWO_KINDS, 1, [1, 0], 100000),
+    (&TWO_KINDS, 155000, [1, 0], 100000),
+    (&TWO_KINDS, 180000, [2, 0], 200000),
+    (&TWO_KINDS, 310001, [0, 1], 250000),
+    (&TWO_KINDS, 500000, [0, 1], 250000),
+    (&TWO_KINDS, 700000, [1, 1], 350000),
+    (&TWO_KINDS, 900000, [2, 1], 450000),
+    (&SMALL_STEPS, 99001, [1, 99], 49501),
+    (&SMALL_STEPS, 100000, [0, 100], 50000),
+    (&SMALL_STEPS, 100001, [0, 101], 50500),
+    (&SMALL_STEPS, 150100, [0, 151], 75500),
+];
+
+fn is_cover(alloc: Global, net: &Network, row: &CoverRow) -> bool {
+    let [link] = net.links().items() else {
+        return false;
+    };
+    match covering(alloc, link, row.1) {
+        Some(found) => found.counts.items() == row.2.as_slice() && found.cost == row.3,
+        None => false,
+    }
+}
+
+/// The same on a link of the row's modules.
+fn is_cover_there(alloc: Global, row: &CoverRow) -> bool {
+    match network(alloc, 2, &[(0, 1, 0, row.0)]) {
+        Ok(net) => is_cover(alloc, &net, row),
+        Err(_) => false,
+    }
+}
+
+#[test]
+fn covers(rt: HostRuntime) {
+    for i in 0..COVERS.len() {
+        assert!(rt; is_cover_there(rt.alloc(), &COVERS[i]), "row {i}");
+    }
+}
+
+/// Capacities and costs of 16 kinds of module, of which none is the best for all needs.
+const SIXTEEN_KINDS: [(u64, u64); 16] = [
+    (2, 7),
+    (3, 9),
+    (4, 13),
+    (5, 14),
+    (6, 18),
+    (7, 19),
+    (8, 24),
+    (9, 25),
+    (10, 28),
+    (11, 29),
+    (12, 33),
+    (13, 34),
+    (14, 38),
+    (15, 39),
+    (16, 41),
+    (17, 44),
+];
+
+/// The least cost of all counts of these kinds that reach a need, for the needs from 0 on. A program that tries all counts
+/// found them.
+const LEAST_COSTS: [u128; 41] = [
+    0, 7, 7, 9, 13, 14, 18, 19, 23, 25, 28, 29, 33, 34, 38, 39, 41, 44, 48, 50, 53, 55, 58, 60, 63,
+    66, 68, 70, 73, 75, 78, 80, 82, 85, 88, 91, 94, 96, 99, 101, 104,
+];
+
+fn sixteen_kinds(alloc: Global) -> Option<List<Module>> {
+    let mut modules = List::new(alloc);
+    for (capacity, cost) in &SIXTEEN_KINDS {
+        let module = Module {
+            capacity: *capacity,
+            cost: *cost,
+        };
+        modules.push(module).ok()?;
+    }
+    Some(modules)
+}
+
+/// A link of these kinds.
+fn link_of_kinds(alloc: Global) -> Option<Network> {
+    let kinds = sixteen_kinds(alloc)?;
+    network(alloc, 2, &[(0, 1, 0, kinds.items())]).ok()
+}
+
+/// The first need whose cover has another cost than the cheapest of all counts, or none.
+fn first_dearer(alloc: Global, net: &Network) -> Option<usize> {
+    let [link] = net.links().items() else {
+        return Some(0);
+    };
+    for need in 0..LEAST_COSTS.len() {
+        match covering(alloc, link, need as u64) {
+            Some(found) if found.cost == LEAST_COSTS[need] => {}
+            _ => return Some(need),
+        }
+    }
+    None
+}
+
+#[test]
+fn covers_of_sixteen_kinds(rt: HostRuntime) -> Result<(), Fail> {
+    let Some(net) = link_of_kinds(rt.alloc()) else {
+        return Err("no network".into());
+    };
+    assert!(rt; first_dearer(rt.alloc(), &net).is_none());
+    Ok(())
+}
+
+/// Whether these are the counts of all links, one after another.
+fn are_counts(counts: &Counts, want: &[u64]) -> bool {
+    let mut rest = want;
+    for c in counts.items() {
+        match rest.strip_prefix(c.items()) {
+            Some(after) => rest = after,
+            None => return false,
+        }
+    }
+    rest.is_empty()
+}
+
+/// Whether no state separates a demand.
+fn is_survivable(alloc: Global, p: &Problem) -> bool
+    ensures { IsTrue result → IsSurvivable (case p.now.net p.now.states p.now.demands) }
+{
+    matches!(
+        first_separated(alloc, &p.net, &p.states, &p.demands),
+        Ok(None)
+    )
+}
+
+/// The triangle with 2.00 installed on each link.
+const WITH_TWO: [LinkRow; 3] = [(0, 1, 2000, &TEN), (1, 2, 2000, &TEN), (0, 2, 2000, &TEN)];
+
+/// The same with 12.00.
+const WITH_TWELVE: [LinkRow; 3] = [
+    (0, 1, 12000, &TEN),
+    (1, 2, 12000, &TEN),
+    (0, 2, 12000, &TEN),
+];
+
+/// A ring of four nodes and one chord, of modules of 1.00 for 1.00.
+const RING_OF_ONES: [LinkRow; 5] = [
+    (0, 1, 0, &ONE),
+    (1, 3, 0, &ONE),
+    (3, 2, 0, &ONE),
+    (2, 0, 0, &ONE),
+    (0, 3, 0, &ONE),
+];
+
+/// The same of two kinds of module.
+const RING_OF_TWO_KINDS: [LinkRow; 5] = [
+    (0, 1, 0, &TWO_KINDS),
+    (1, 3, 0, &TWO_KINDS),
+    (3, 2, 0, &TWO_KINDS),
+    (2, 0, 0, &TWO_KINDS),
+    (0, 3, 0, &TWO_KINDS),
+];
+
+/// Nodes, links and demands, and what the fallback plan must have: counts, cost and capacities.
+#[derive(Clone, Copy)]
+struct Case {
+    nodes: usize,
+    links: &'static [LinkRow<'static>],
+    demands: &'static [DemandRow],
+    counts: &'static [u64],
+    cost: u128,
+    capacities: &'static [u128],
+}
+
+const TO_LAST: [DemandRow; 1] = [(0, 2, 12000)];
+
+const THREE_DEMANDS: [DemandRow; 3] = [(0, 1, 60000), (0, 3, 80000), (1, 2, 40000)];
+
+/// Each link fails alone. With modules of 1.00 the counts are the greatest loads.
+const FALLBACKS: [Case; 6] = [
+    Case {
+        nodes: 3,
+        links: &TRIANGLE,
+        demands: &TO_LAST,
+        counts: &[2, 2, 2],
+        cost: 30000,
+        capacities: &[20000, 20000, 20000],
+    },
+    Case {
+        nodes: 3,
+        links: &WITH_TWO,
+        demands: &TO_LAST,
+        counts: &[1, 1, 1],
+        cost: 15000,
+        capacities: &[12000, 12000, 12000],
+    },
+    Case {
+        nodes: 3,
+        links: &WITH_TWELVE,
+        demands: &TO_LAST,
+        counts: &[0, 0, 0],
+        cost: 0,
+        capacities: &[12000, 12000, 12000],
+    },
+    Case {
+        nodes: 2,
+        links: &[(0, 1, 0, &ONE), (0, 1, 0, &ONE), (0, 1, 0, &ONE)],
+        demands: &[(0, 1, 10000)],
+        counts: &[10, 10, 0],
+        cost: 20000,
+        capacities: &[10000, 10000, 0],
+    },
+    Case {
+        nodes: 4,
+        links: &RING_OF_ONES,
+        demands: &THREE_DEMANDS,
+        counts: &[180, 100, 40, 40, 140],
+        cost: 500000,
+        capacities: &[180000, 100000, 40000, 40000, 140000],
+    },
+    Case {
+        nodes: 4,
+        links: &RING_OF_TWO_KINDS,
+        demands: &THREE_DEMANDS,
+        counts: &[2, 0, 1, 0, 1, 0, 1, 0, 1, 0],
+        cost: 600000,
+        capacities: &[310000, 155000, 155000, 155000, 155000],
+    },
+];
+
+/// Whether the counts come to the case's cost and capacities.
+fn come_to(alloc: Global, net: &Network, counts: &Counts, case: &Case) -> bool
+    requires { AreCounts net.now.links counts.now }
+{
+    match capacities(alloc, net, counts) {
+        Ok(caps) => {
+            caps.scale == 1
+                && caps.nums.items() == case.capacities
+                && cost(net, counts) == case.cost
+                && are_counts(counts, case.counts)
+        }
+        Err(_) => false,
+    }
+}
+
+/// Whether the fallback plan is the case's.
+fn is_fallback(alloc: Global, p: &Problem, case: &Case) -> bool {
+    if !is_survivable(alloc, p) {
+        return false;
+    }
+    match fallback_plan(alloc, &p.net, &p.states, &p.demands) {
+        Ok(plan) => plan.cost == case.cost && come_to(alloc, &p.net, &plan.counts, case),
+        Err(_) => false,
+    }
+}
+
+/// The same on the case's network, where each link fails alone.
+fn is_fallback_there(alloc: Global, case: &Case) -> Option<bool> {
+    let p = problem(
+        alloc,
+        network(alloc, case.nodes, case.links).ok()?,
+        case.demands,
+    )
+    .ok()?;
+    Some(is_fallback(alloc, &p, case))
+}
+
+#[test]
+fn fallback_plans(rt: HostRuntime) {
+    for i in 0..FALLBACKS.len() {
+        assert!(rt;
+            is_fallback_there(rt.alloc(), &FALLBACKS[i]).unwrap_or(false),
+            "row {i}"
+        );
+    }
+}

@@ -1,0 +1,247 @@
+ghost use Rattle.std.specs.Prelude.{◌≡◌, ℕ, ◌<◌, ◌+◌, ◌^◌, ◌↔◌, All, IsTrue, length, slice_index};
+ghost use Rattle.net_core.specs.Graphs.{Survives};
+ghost use Rattle.net_core.specs.Views.{graph};
+
+use crate::fixtures::make_problem;
+use net_core::{Lengths, List, NodeId, Path, Problem, StateId, Surviving};
+use short_paths::{
+    DistanceTable, LeastPaths, PathFault, all_pairs, distances, least_path, priced_path,
+};
+use std::alloc::Global;
+use std::test::Fail;
+use worked_networks::{LinkRow, ONE};
+
+/// Two parallel links AB, links BC and AC, and CD, which has no module.
+const LINKS: [LinkRow; 5] = [
+    (0, 1, 0, &ONE),
+    (1, 0, 0, &ONE),
+    (1, 2, 0, &ONE),
+    (0, 2, 0, &ONE),
+    (2, 3, 0, &[]),
+];
+
+/// The links that the listed states fail.
+const FAILED: [&[u32]; 3] = [&[0], &[0, 1], &[2, 3]];
+
+/// A problem without demands, and a length for each link.
+#[derive(Drop)]
+struct Measured {
+    p: Problem,
+    lengths: Lengths,
+}
+
+/// The links with these lengths.
+fn make_measured(alloc: Global, lengths: &[u32]) -> Option<Measured> {
+    let p = make_problem(alloc, 4, &LINKS, &FAILED, &[])?;
+    match List::from_slice(alloc, lengths) {
+        Ok(lengths) => Some(Measured { p, lengths }),
+        Err(_) => None,
+    }
+}
+
+/// Whether it is a state of the problem, these are nodes, and each link has a length.
+fn are_given(m: &Measured, state: u32, a: u32, b: u32) -> bool
+    ensures state { IsTrue result → state < length m.now.p.states.listed + 1 }
+    ensures lengths { IsTrue result → length m.now.lengths ≡ length m.now.p.net.links }
+    ensures first { IsTrue result → a < length m.now.p.net.nodes }
+    ensures second { IsTrue result → b < length m.now.p.net.nodes }
+{
+    let nodes = m.p.net.nodes().len();
+    state < m.p.states.count()
+        && m.lengths.len() == m.p.net.links().len()
+        && (a as usize) < nodes
+        && (b as usize) < nodes
+}
+
+/// A state, a node, and its distances of all nodes.
+type DistanceRow = (u32, u32, [Option<u64>; 4]);
+
+/// Distances under the lengths 2, 5, 0, 4 and 1, worked out by hand.
+const DISTANCES: [DistanceRow; 16] = [
+    (0, 0, [Some(0), Some(2), Some(2), None]),
+    (0, 1, [Some(2), Some(0), Some(0), None]),
+    (0, 2, [Some(2), Some(0), Some(0), None]),
+    (0, 3, [None, None, None, Some(0)]),
+    (1, 0, [Some(0), Some(4), Some(4), None]),
+    (1, 1, [Some(4), Some(0), Some(0), None]),
+    (1, 2, [Some(4), Some(0), Some(0), None]),
+    (1, 3, [None, None, None, Some(0)]),
+    (2, 0, [Some(0), Some(4), Some(4), None]),
+    (2, 1, [Some(4), Some(0), Some(0), None]),
+    (2, 2, [Some(4), Some(0), Some(0), None]),
+    (2, 3, [None, None, None, Some(0)]),
+    (3, 0, [Some(0), Some(2), None, None]),
+    (3, 1, [Some(2), Some(0), None, None]),
+    (3, 2, [None, None, Some(0), None]),
+    (3, 3, [None, None, None, Some(0)]),
+];
+
+/// Whether the table has these distances of a node.
+fn has_row(table: &DistanceTable, from: u32, want: &[Option<u64>; 4]) -> bool {
+    for to in 0..4u32 {
+        if from >= table.nodes()
+            || to >= table.nodes()
+            || table.get(NodeId(from), NodeId(to)) != want[to as usize]
+        {
+            return false;
+        }
+    }
+    true
+}
+
+/// Whether a search from the node and the table of all nodes answer as the row says.
+fn are_distances(alloc: Global, m: &Measured, row: &DistanceRow) -> Option<bool> {
+    let (state, from, want) = row;
+    if !are_given(m, *state, *from, *from) {
+        return None;
+    }
+    let (at, node) = (StateId(*state), NodeId(*from));
+    let one = distances(alloc, &m.p.net, &m.p.states, at, &m.lengths, node).ok()?;
+    let all = all_pairs(alloc, &m.p.net, &m.p.states, at, &m.lengths).ok()?;
+    Some(one.items() == want.as_slice() && has_row(&all, *from, want))
+}
+
+#[test]
+fn distances_are_as_by_hand(rt: HostRuntime) -> Result<(), Fail> {
+    let Some(m) = make_measured(rt.alloc(), &[2, 5, 0, 4, 1]) else {
+        return Err("no network".into());
+    };
+    for i in 0..DISTANCES.len() {
+        assert!(rt;
+            are_distances(rt.alloc(), &m, &DISTANCES[i]).unwrap_or(false),
+            "row {i}"
+        );
+    }
+    Ok(())
+}
+
+/// A state, two nodes, and the links of a path between them. None says that they are apart.
+type PathRow = (u32, u32, u32, Option<&'static [u32]>);
+
+/// Least paths under the lengths 2, 2, 2, 4 and 1, by which two paths, or three, are the shortest.
+const LEAST: [PathRow; 12] = [
+    (0, 0, 1, Some(&[0])),
+    (0, 0, 2, Some(&[0, 2])),
+    (0, 2, 0, Some(&[2, 0])),
+    (0, 1, 1, Some(&[])),
+    (0, 0, 3, None),
+    (1, 0, 1, Some(&[1])),
+    (1, 0, 2, Some(&[1, 2])),
+    (1, 2, 0, Some(&[2, 1])),
+    (2, 0, 1, Some(&[3, 2])),
+    (2, 0, 2, Some(&[3])),
+    (3, 1, 0, Some(&[0])),
+    (3, 2, 0, None),
+];
+
+/// Whether no link is of length 0.
+fn are_long(m: &Measured, state: u32) -> bool
+    requires { length m.now.lengths ≡ length m.now.p.net.links }
+    ensures { IsTrue result → (e : ℕ) → Survives (graph m.now.p.net m.now.p.states state) e → 0 < slice_index m.now.lengths e }
+{
+    m.lengths.items().iter().all(|n| *n > 0)
+}
+
+/// Whether the path is of these links.
+fn is_of(path: &Path, links: &[u32]) -> bool {
+    path.len() == links.len() && path.items().iter().zip(links).all(|(e, k)| e.0 == *k)
+}
+
+/// Whether the answer is that of a row.
+fn is_answer(found: &Result<Path, PathFault>, expected: &Option<&[u32]>) -> bool {
+    match (found, expected) {
+        (Ok(path), Some(links)) => is_of(path, links),
+        (Err(PathFault::Apart), None) => true,
+        _ => false,
+    }
+}
+
+/// Whether a search for one path answers as the row says.
+fn is_least(alloc: Global, m: &Measured, row: &PathRow) -> bool {
+    let (state, a, b, expected) = row;
+    if !are_given(m, *state, *a, *b) || !are_long(m, *state) {
+        return false;
+    }
+    let (at, from, to) = (StateId(*state), NodeId(*a), NodeId(*b));
+    let path = least_path(alloc, &m.p.net, &m.p.states, at, &m.lengths, from, to);
+    is_answer(&path, expected)
+}
+
+/// Whether the table of all paths answers as the row says.
+fn is_in_table(alloc: Global, m: &Measured, row: &PathRow) -> bool {
+    let (state, a, b, expected) = row;
+    if !are_given(m, *state, *a, *b) || !are_long(m, *state) {
+        return false;
+    }
+    let graph = Surviving {
+        net: &m.p.net,
+        states: &m.p.states,
+        state: StateId(*state),
+    };
+    match LeastPaths::new(alloc, &graph, &m.lengths) {
+        Ok(paths) => is_answer(&paths.path(NodeId(*a), NodeId(*b)), expected),
+        Err(_) => false,
+    }
+}
+
+#[test]
+fn least_paths_are_as_by_hand(rt: HostRuntime) -> Result<(), Fail> {
+    let Some(m) = make_measured(rt.alloc(), &[2, 2, 2, 4, 1]) else {
+        return Err("no network".into());
+    };
+    for i in 0..LEAST.len() {
+        assert!(rt; is_least(rt.alloc(), &m, &LEAST[i]), "row {i}");
+        assert!(rt;
+            is_in_table(rt.alloc(), &m, &LEAST[i]),
+            "row {i} of the table"
+        );
+    }
+    Ok(())
+}
+
+/// A price that no sum of smaller ones reaches, and that a 64-bit sum of five can't hold.
+const GREAT: u64 = (1 << 62) - 1;
+
+/// Prices of AB twice, BC and AC, and the links and the total of the cheapest path from A to C.
+type PriceRow = ([u64; 4], &'static [u32], u128);
+
+const CHEAPEST: [PriceRow; 4] = [
+    ([5, 0, 0, 1], &[1, 2], 0),
+    ([0, 0, 3, 3], &[3], 3),
+    ([0, 0, 0, 0], &[3], 0),
+    ([GREAT, 7, GREAT, GREAT], &[3], GREAT as u128),
+];
+
+fn are_low(prices: &[u64]) -> bool
+    ensures { IsTrue result ↔ All (λ p. p < 2 ^ 62) prices.now }
+{
+    prices.iter().all(|p| *p < 1 << 62)
+}
+
+/// Whether the cheapest path without failures is the row's.
+fn is_cheapest(alloc: Global, p: &Problem, row: &PriceRow) -> Option<bool> {
+    let (prices, links, total) = row;
+    let prices = List::from_slice(alloc, prices).ok()?;
+    if !are_low(prices.items()) || prices.len() != p.net.links().len() || p.net.nodes().len() < 3 {
+        return None;
+    }
+    let (from, to) = (NodeId(0), NodeId(2));
+    match priced_path(alloc, &p.net, &p.states, StateId(0), &prices, from, to) {
+        Ok(found) => Some(is_of(&found.path, links) && found.total == *total),
+        Err(_) => None,
+    }
+}
+
+#[test]
+fn cheapest_paths_are_as_by_hand(rt: HostRuntime) -> Result<(), Fail> {
+    let Some(p) = make_problem(rt.alloc(), 3, &LINKS[..4], &[], &[]) else {
+        return Err("no network".into());
+    };
+    for i in 0..CHEAPEST.len() {
+        assert!(rt;
+            is_cheapest(rt.alloc(), &p, &CHEAPEST[i]).unwrap_or(false),
+            "row {i}"
+        );
+    }
+    Ok(())
+}

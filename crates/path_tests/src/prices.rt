@@ -1,0 +1,125 @@
+use crate::fixtures::{TWO_KINDS, are_modules};
+use module_prices::{bound_of, price_lengths, unit_pair};
+use net_core::{Module, Network};
+use std::alloc::Global;
+use worked_networks::{LinkRow, ONE, TEN, network};
+
+/// A module of 10.00 for nothing.
+const FREE: [Module; 1] = [Module {
+    capacity: 10000,
+    cost: 0,
+}];
+
+/// Modules of 1.00 for 1.00 and of 10.00 for 5.00.
+const ONE_AND_TEN: [Module; 2] = [
+    Module {
+        capacity: 1000,
+        cost: 1000,
+    },
+    Module {
+        capacity: 10000,
+        cost: 5000,
+    },
+];
+
+/// Modules, and the capacity and cost of their unit pair.
+type PairRow = (&'static [Module], Option<(u64, u64)>);
+
+const PAIRS: [PairRow; 4] = [
+    (&TWO_KINDS, Some((311, 125))),
+    (&ONE_AND_TEN, Some((2, 1))),
+    (&FREE, Some((1, 0))),
+    (&[], None),
+];
+
+fn is_pair(row: &PairRow) -> bool {
+    let (modules, want) = row;
+    if !are_modules(modules) {
+        return false;
+    }
+    match (unit_pair(modules), want) {
+        (Some(pair), Some((capacity, cost))) => pair.capacity == *capacity && pair.cost == *cost,
+        (None, None) => true,
+        _ => false,
+    }
+}
+
+#[test]
+fn unit_pairs(rt: HostRuntime) {
+    for i in 0..PAIRS.len() {
+        assert!(rt; is_pair(&PAIRS[i]), "row {i}");
+    }
+}
+
+/// Three parallel links, and their price lengths.
+type LengthRow = ([LinkRow<'static>; 3], [u32; 3]);
+
+const LENGTHS: [LengthRow; 3] = [
+    (
+        [(0, 1, 0, &TEN), (0, 1, 0, &TWO_KINDS), (0, 1, 0, &[])],
+        [16, 12, 0],
+    ),
+    (
+        [(0, 1, 0, &TWO_KINDS), (0, 1, 0, &ONE), (0, 1, 0, &FREE)],
+        [6, 16, 0],
+    ),
+    (
+        [(0, 1, 0, &FREE), (0, 1, 0, &FREE), (0, 1, 0, &[])],
+        [0, 0, 0],
+    ),
+];
+
+fn have_lengths(alloc: Global, net: &Network, want: &[u32; 3]) -> bool {
+    match price_lengths(alloc, net) {
+        Ok(lengths) => lengths.items() == want.as_slice(),
+        Err(_) => false,
+    }
+}
+
+fn are_lengths(alloc: Global, row: &LengthRow) -> bool {
+    let (links, want) = row;
+    match network(alloc, 2, links) {
+        Ok(net) => have_lengths(alloc, &net, want),
+        Err(_) => false,
+    }
+}
+
+#[test]
+fn sixteenths_of_the_dearest_link(rt: HostRuntime) {
+    for i in 0..LENGTHS.len() {
+        assert!(rt; are_lengths(rt.alloc(), &LENGTHS[i]), "row {i}");
+    }
+}
+
+/// The modules of a link, a raw value, and the bound of it, in multiples of a divisor of the costs.
+type BoundRow = (&'static [Module], (u128, u128), u128);
+
+const BOUNDS: [BoundRow; 8] = [
+    (&TWO_KINDS, (0, 1), 0),
+    (&TWO_KINDS, (1, 7), 50000),
+    (&TWO_KINDS, (600000, 2), 300000),
+    (&TWO_KINDS, (600001, 2), 350000),
+    (&FREE, (0, 1), 0),
+    (&FREE, (1, 7), 0),
+    (&FREE, (600000, 2), 0),
+    (&FREE, (600001, 2), 0),
+];
+
+fn has_bound(net: &Network, raw: u128, den: u128, want: u128) -> bool {
+    raw < 1 << 126 && den > 0 && den < 1 << 72 && bound_of(net.links().items(), raw, den) == want
+}
+
+fn is_bound(alloc: Global, row: &BoundRow) -> bool {
+    let (modules, (raw, den), want) = row;
+    match network(alloc, 2, &[(0, 1, 0, modules)]) {
+        Ok(net) => has_bound(&net, *raw, *den, *want),
+        Err(_) => false,
+    }
+}
+
+#[test]
+fn bounds_are_multiples(rt: HostRuntime) {
+    for i in 0..BOUNDS.len() {
+        assert!(rt; is_bound(rt.alloc(), &BOUNDS[i]), "row {i}");
+    }
+}
