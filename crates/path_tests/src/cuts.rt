@@ -1,11 +1,10 @@
-ghost use Rattle.std.specs.Prelude.{◌≡◌, ◌<◌, ◌^◌, ◌↔◌, All, IfSome, IsTrue, length};
+ghost use Rattle.std.specs.Prelude.{◌≡◌, ◌<◌, ◌^◌, ◌↔◌, All, IfOk, IfSome, IsTrue, length};
 ghost use Rattle.metric_cut.specs.Bounded.{HaveBound};
 
 use crate::fixtures::{TRIANGLE, make_problem};
 use metric_cut::{Cut, CutFault, CutLine, opening, own_bound, own_certificate, violated_by};
 use net_core::{Caps, Copied, List, Network, NodeId, Problem, StateId};
 use std::alloc::Global;
-use std::test::Fail;
 use worked_networks::{LinkRow, ONE, TEN};
 
 /// A triangle with 20.00 installed on each link.
@@ -21,57 +20,93 @@ const MIXED: [LinkRow; 3] = [(0, 1, 0, &TEN), (1, 2, 0, &ONE), (0, 2, 0, &ONE)];
 /// States that fail each link of a triangle alone, and one that fails them all.
 const FAILED: [&[u32]; 4] = [&[0], &[1], &[2], &[0, 1, 2]];
 
-/// A state, lengths, and the lengths of their cut with its distance of C and A, or why there is none.
-type LengthRow = (u32, [u32; 3], Result<(&'static [u32], u64), CutFault>);
+/// A state, lengths, and the lengths of their cut with its distance of C and A.
+type KeptRow = (u32, [u32; 3], [u32; 3], u64);
 
-const LENGTHS: [LengthRow; 8] = [
-    (0, [2, 4, 6], Ok((&[1, 2, 3], 3))),
-    (1, [2, 4, 6], Ok((&[0, 2, 3], 3))),
-    (3, [2, 4, 6], Ok((&[1, 2, 0], 3))),
-    (3, [0, 7, 7], Ok((&[0, 1, 0], 1))),
-    (0, [0, 0, 0], Err(CutFault::ZeroLengths)),
-    (3, [0, 0, 5], Err(CutFault::ZeroLengths)),
-    (4, [1, 1, 1], Err(CutFault::ZeroLengths)),
-    (5, [1, 1, 1], Err(CutFault::UnknownState)),
+const KEPT: [KeptRow; 4] = [
+    (0, [2, 4, 6], [1, 2, 3], 3),
+    (1, [2, 4, 6], [0, 2, 3], 3),
+    (3, [2, 4, 6], [1, 2, 0], 3),
+    (3, [0, 7, 7], [0, 1, 0], 1),
 ];
 
-/// Whether the cut is of these lengths, and C and A are so far apart.
-fn keeps(cut: &Cut, state: u32, kept: &[u32], apart: u64) -> bool
-    requires { 2 < cut.now.table.nodes }
-{
-    cut.state().0 == state
-        && cut.lengths().items() == kept
-        && cut.distance(NodeId(2), NodeId(0)) == Some(apart)
-}
+/// A state, lengths, and why there is no cut of them.
+type RefusedRow = (u32, [u32; 3], CutFault);
 
-/// Whether the row's lengths are kept or refused as it says.
-fn are_kept(alloc: Global, p: &Problem, row: &LengthRow) -> Option<bool> {
-    let (state, given, want) = row;
+const REFUSED: [RefusedRow; 4] = [
+    (0, [0, 0, 0], CutFault::ZeroLengths),
+    (3, [0, 0, 5], CutFault::ZeroLengths),
+    (4, [1, 1, 1], CutFault::ZeroLengths),
+    (5, [1, 1, 1], CutFault::UnknownState),
+];
+
+/// The cut of these lengths in a state, or why there is none.
+fn cut_of(alloc: Global, p: &Problem, state: u32, given: &[u32; 3]) -> Option<Result<Cut, CutFault>>
+    ensures { IfSome result (λ r. IfOk r (λ cut. cut.table.nodes ≡ length p.now.net.nodes)) }
+{
     let lengths = List::from_slice(alloc, given).ok()?;
-    if lengths.len() != p.net.links().len() || p.net.nodes().len() < 3 {
+    if lengths.len() != p.net.links().len() {
         return None;
     }
-    match Cut::new(alloc, &p.net, &p.states, StateId(*state), lengths) {
-        Ok(cut) => match want {
-            Ok((kept, apart)) => Some(keeps(&cut, *state, kept, *apart)),
-            Err(_) => Some(false),
-        },
-        Err(fault) => Some(*want == Err(fault)),
+    Some(Cut::new(alloc, &p.net, &p.states, StateId(state), lengths))
+}
+
+/// Whether the cut is the row's.
+fn is_cut(cut: &Cut, row: &KeptRow) -> bool
+    requires { 2 < cut.now.table.nodes }
+{
+    cut.state().0 == row.0
+        && cut.lengths().items() == row.2.as_slice()
+        && cut.distance(NodeId(2), NodeId(0)) == Some(row.3)
+}
+
+/// Whether the row's lengths are kept as it says.
+fn are_kept(alloc: Global, p: &Problem, row: &KeptRow) -> bool {
+    match cut_of(alloc, p, row.0, &row.1) {
+        Some(Ok(cut)) => p.net.nodes().len() == 3 && is_cut(&cut, row),
+        _ => false,
+    }
+}
+
+/// The problem of a triangle without demands.
+fn triangle(alloc: Global) -> Option<Problem> {
+    make_problem(alloc, 3, &TRIANGLE, &FAILED, &[])
+}
+
+fn are_kept_there(alloc: Global, row: &KeptRow) -> bool {
+    match triangle(alloc) {
+        Some(p) => are_kept(alloc, &p, row),
+        None => false,
     }
 }
 
 #[test]
-fn lengths_are_kept_or_refused(rt: HostRuntime) -> Result<(), Fail> {
-    let Some(p) = make_problem(rt.alloc(), 3, &TRIANGLE, &FAILED, &[]) else {
-        return Err("no network".into());
-    };
-    for i in 0..LENGTHS.len() {
-        assert!(rt;
-            are_kept(rt.alloc(), &p, &LENGTHS[i]).unwrap_or(false),
-            "row {i}"
-        );
+fn lengths_are_kept(rt: HostRuntime) {
+    for i in 0..KEPT.len() {
+        assert!(rt; are_kept_there(rt.alloc(), &KEPT[i]), "row {i}");
     }
-    Ok(())
+}
+
+/// Whether the row's lengths are refused as it says.
+fn are_refused(alloc: Global, p: &Problem, row: &RefusedRow) -> bool {
+    match cut_of(alloc, p, row.0, &row.1) {
+        Some(Err(fault)) => fault == row.2,
+        _ => false,
+    }
+}
+
+fn are_refused_there(alloc: Global, row: &RefusedRow) -> bool {
+    match triangle(alloc) {
+        Some(p) => are_refused(alloc, &p, row),
+        None => false,
+    }
+}
+
+#[test]
+fn lengths_are_refused(rt: HostRuntime) {
+    for i in 0..REFUSED.len() {
+        assert!(rt; are_refused_there(rt.alloc(), &REFUSED[i]), "row {i}");
+    }
 }
 
 /// Links, a state, and of its unit cut the right side, where 12.00 are needed from A to C, the raw value and the bound.
@@ -186,20 +221,24 @@ fn is_violated_so(alloc: Global, line: &CutLine, row: &SmallRow) -> bool {
     }
 }
 
-#[test]
-fn capacities_that_are_too_small(rt: HostRuntime) -> Result<(), Fail> {
-    let Ok(lengths) = List::from_slice(rt.alloc(), &[1, 1, 0]) else {
-        return Err("no memory".into());
+/// The same of AB and BC.
+fn is_small(alloc: Global, row: &SmallRow) -> bool {
+    let Ok(lengths) = List::from_slice(alloc, &[1, 1, 0]) else {
+        return false;
     };
     let line = CutLine {
         state: StateId(3),
         lengths,
         right: 24000,
     };
+    is_violated_so(alloc, &line, row)
+}
+
+#[test]
+fn capacities_that_are_too_small(rt: HostRuntime) {
     for i in 0..SMALL.len() {
-        assert!(rt; is_violated_so(rt.alloc(), &line, &SMALL[i]), "row {i}");
+        assert!(rt; is_small(rt.alloc(), &SMALL[i]), "row {i}");
     }
-    Ok(())
 }
 
 /// Links, a state, and the lengths of its opening cuts, one after another.

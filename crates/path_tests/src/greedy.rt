@@ -39,34 +39,31 @@ const ROWS: [Row; 13] = [
 ];
 
 /// Whether the row is what is left of the problem's demands.
-fn is_left(alloc: Global, p: &Problem, row: &Row) -> Option<bool> {
-    let (_, state, scale, nums, rest) = row;
-    let nums = List::from_slice(alloc, nums).ok()?;
-    if *state >= p.states.count() || nums.len() != p.net.links().len() {
-        return None;
-    }
-    let caps = Caps {
-        scale: *scale,
-        nums,
+fn is_left(alloc: Global, p: &Problem, row: &Row) -> bool {
+    let Ok(nums) = List::from_slice(alloc, &row.3) else {
+        return false;
     };
-    match greedy(alloc, &p.net, &p.states, StateId(*state), &p.demands, &caps) {
-        Ok(left) => Some(left.routing.den == 1 && left.rest.items() == rest.as_slice()),
-        Err(_) => None,
+    if row.1 >= p.states.count() || nums.len() != p.net.links().len() {
+        return false;
+    }
+    let caps = Caps { scale: row.2, nums };
+    match greedy(alloc, &p.net, &p.states, StateId(row.1), &p.demands, &caps) {
+        Ok(left) => left.routing.den == 1 && left.rest.items() == row.4.as_slice(),
+        Err(_) => false,
     }
 }
 
-/// Whether the row is what is left on the triangle.
-fn is_left_on_triangle(alloc: Global, row: &Row) -> Option<bool> {
-    let p = make_problem(alloc, 3, &TRIANGLE, &[&[0], &[1], &[2]], row.0)?;
-    is_left(alloc, &p, row)
+/// The same on the triangle.
+fn is_left_there(alloc: Global, row: &Row) -> bool {
+    match make_problem(alloc, 3, &TRIANGLE, &[&[0], &[1], &[2]], row.0) {
+        Some(p) => is_left(alloc, &p, row),
+        None => false,
+    }
 }
 
 #[test]
 fn rests_are_as_by_hand(rt: HostRuntime) {
     for i in 0..ROWS.len() {
-        assert!(rt;
-            is_left_on_triangle(rt.alloc(), &ROWS[i]).unwrap_or(false),
-            "row {i}"
-        );
+        assert!(rt; is_left_there(rt.alloc(), &ROWS[i]), "row {i}");
     }
 }

@@ -8,7 +8,6 @@ use failure_states::first_separated;
 use module_choice::{Covering, capacities, cost, cover, fallback_plan};
 use net_core::{Counts, Link, List, Module, Network, Problem};
 use std::alloc::Global;
-use std::test::Fail;
 use worked_networks::{DemandRow, LinkRow, ONE, TEN, network, problem};
 
 /// Modules of 0.001 for 0.001 and of 1.000 for 0.500.
@@ -135,13 +134,17 @@ fn first_dearer(alloc: Global, net: &Network) -> Option<usize> {
     None
 }
 
+/// The same on a link of the kinds.
+fn first_dearer_of_kinds(alloc: Global) -> Option<usize> {
+    match link_of_kinds(alloc) {
+        Some(net) => first_dearer(alloc, &net),
+        None => Some(0),
+    }
+}
+
 #[test]
-fn covers_of_sixteen_kinds(rt: HostRuntime) -> Result<(), Fail> {
-    let Some(net) = link_of_kinds(rt.alloc()) else {
-        return Err("no network".into());
-    };
-    assert!(rt; first_dearer(rt.alloc(), &net).is_none());
-    Ok(())
+fn covers_of_sixteen_kinds(rt: HostRuntime) {
+    assert_eq!(rt; first_dearer_of_kinds(rt.alloc()), None);
 }
 
 /// Whether these are the counts of all links, one after another.
@@ -287,23 +290,26 @@ fn is_fallback(alloc: Global, p: &Problem, case: &Case) -> bool {
     }
 }
 
-/// The same on the case's network, where each link fails alone.
-fn is_fallback_there(alloc: Global, case: &Case) -> Option<bool> {
-    let p = problem(
+/// The problem of a case, where each link fails alone.
+fn problem_of(alloc: Global, case: &Case) -> Option<Problem> {
+    problem(
         alloc,
         network(alloc, case.nodes, case.links).ok()?,
         case.demands,
     )
-    .ok()?;
-    Some(is_fallback(alloc, &p, case))
+    .ok()
+}
+
+fn is_fallback_there(alloc: Global, case: &Case) -> bool {
+    match problem_of(alloc, case) {
+        Some(p) => is_fallback(alloc, &p, case),
+        None => false,
+    }
 }
 
 #[test]
 fn fallback_plans(rt: HostRuntime) {
     for i in 0..FALLBACKS.len() {
-        assert!(rt;
-            is_fallback_there(rt.alloc(), &FALLBACKS[i]).unwrap_or(false),
-            "row {i}"
-        );
+        assert!(rt; is_fallback_there(rt.alloc(), &FALLBACKS[i]), "row {i}");
     }
 }
