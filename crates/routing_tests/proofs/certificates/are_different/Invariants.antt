@@ -1,0 +1,13 @@
+use Rattle.std.proofs.Common.{◌≡◌, ℕ, ◌<◌, get_or}
+use Rattle.net_core.specs.declared.plan.CutLine.{CutLine}
+use Rattle.routing_tests.proofs.certificates.are_different.Given as goal
+
+-- no state of the cuts below i stands twice, nor does one below j stand at i
+abbrev pub invariant-loop-j : goal.invariant-loop-j
+invariant-loop-j l =
+    ((p q : ℕ) (d : CutLine) → p < q → q < l.i → (get_or l.cuts p d).state.0 ≡ (get_or l.cuts q d).state.0 → ⊥)
+    × ((p : ℕ) (d : CutLine) → p < l.j → (get_or l.cuts p d).state.0 ≡ (get_or l.cuts l.i d).state.0 → ⊥)
+
+-- no state of the cuts below i stands twice
+abbrev pub invariant-loop-i : goal.invariant-loop-i
+invariant-loop-i l = (p q : ℕ) (d : CutLine) → p < q → q < l.i → (get_or l.cuts p d).state.0 ≡ (get_or l.cuts q d).state.0 → ⊥

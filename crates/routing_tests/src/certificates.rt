@@ -1,0 +1,214 @@
+ghost use Rattle.std.specs.Prelude.{◌<◌, ◌≤◌, ◌^◌, All, AllPairs, IfSome, IsTrue, length};
+ghost use Rattle.metric_cut.specs.Bounded.{HaveBound};
+ghost use Rattle.master_law.specs.MasterPrograms.{IsSameCut};
+
+use crate::fixtures::{THREE_LINKS, TRIANGLE, with_single_failures};
+use master_bound::{Best, MasterFault, best_own, master};
+use metric_cut::{Cut, CutLine};
+use net_core::{Copied, Evidence, List, MasterColumn, Network, Problem, StateId, WideKind};
+use std::alloc::Global;
+use worked_networks::{LinkRow, PARALLEL, TEN};
+
+/// A state whose unit cut is meant, and a right side.
+type LineRow = (u32, u128);
+
+/// The cut where all links that a state keeps are of length 1.
+fn unit_cut(alloc: Global, p: &Problem, state: u32) -> Option<Cut>
+    ensures { IfSome result (λ cut. HaveBound p.now.net.links cut.lengths) }
+{
+    let units = List::filled(alloc, 1, p.net.links().len()).ok()?;
+    Cut::new(alloc, &p.net, &p.states, StateId(state), units).ok()
+}
+
+/// The unit cut of a row.
+fn unit_line(alloc: Global, p: &Problem, row: &LineRow) -> Option<CutLine>
+    ensures bound { IfSome result (λ line. HaveBound p.now.net.links line.lengths) }
+    ensures right { IfSome result (λ line. line.right < 2 ^ 84) }
+{
+    let (state, right) = *row;
+    if right >= 1 << 84 {
+        return None;
+    }
+    let cut = unit_cut(alloc, p, state)?;
+    match cut.lengths().copy() {
+        Ok(lengths) => Some(CutLine {
+            state: StateId(state),
+            lengths,
+            right,
+        }),
+        Err(_) => None,
+    }
+}
+
+/// The unit cuts of the rows.
+fn unit_lines(alloc: Global, p: &Problem, rows: &[LineRow]) -> Option<List<CutLine>>
+    ensures bound { IfSome result (All (λ line. HaveBound p.now.net.links line.lengths)) }
+    ensures right { IfSome result (All (λ line. line.right < 2 ^ 84)) }
+{
+    let mut cuts = List::new(alloc);
+    for row in rows {
+        let line = unit_line(alloc, p, row)?;
+        let Ok(()) = cuts.push(line) else {
+            return None;
+        };
+    }
+    Some(cuts)
+}
+
+/// Cuts of the triangle where 12.00 are needed from A to C, and the place of the first one of greatest bound.
+type OwnRow = (&'static [LineRow], Option<u32>);
+
+/// With all links, without AB and without AC.
+const OWN: [OwnRow; 6] = [
+    (&[], None),
+    (&[(0, 12000)], Some(0)),
+    (&[(0, 12000), (1, 12000)], Some(0)),
+    (&[(0, 12000), (3, 24000), (1, 12000)], Some(1)),
+    (&[(1, 12000), (3, 24000), (3, 24000)], Some(1)),
+    (&[(3, 24000), (0, 12000)], Some(0)),
+];
+
+fn is_first(alloc: Global, p: &Problem, row: &OwnRow) -> bool {
+    match unit_lines(alloc, p, row.0) {
+        Some(cuts) => cuts.len() < 4 && best_own(&p.net, &cuts) == row.1,
+        None => false,
+    }
+}
+
+fn is_first_on_triangle(alloc: Global, row: &OwnRow) -> bool {
+    match with_single_failures(alloc, 3, &TRIANGLE, &[]) {
+        Some(p) => is_first(alloc, &p, row),
+        None => false,
+    }
+}
+
+#[test]
+fn first_of_greatest_bound(rt: HostRuntime) {
+    for i in 0..OWN.len() {
+        assert!(rt; is_first_on_triangle(rt.alloc(), &OWN[i]), "row {i}");
+    }
+}
+
+/// What is expected of the best certificate of some cuts.
+enum Want {
+    /// As many multipliers of 1 over this denominator, and this raw value.
+    Ones(usize, u128, (u128, u128)),
+    /// A share of this scale, with so many units on each link.
+    Share(u64, u64),
+    /// A number of a cut is too wide.
+    Wide,
+}
+
+/// The triangle with 20.00 installed on each link.
+const INSTALLED: [LinkRow; 3] = [
+    (0, 1, 20000, &TEN),
+    (1, 2, 20000, &TEN),
+    (0, 2, 20000, &TEN),
+];
+
+/// Nodes and links, unit cuts, and the best certificate.
+type Row = (usize, &'static [LinkRow<'static>], &'static [LineRow], Want);
+
+const ROWS: [Row; 10] = [
+    // The triangle: 12.00 over links of 10.00 for 5.00 take 1.2 modules.
+    (3, &TRIANGLE, &[(0, 12000)], Want::Ones(1, 2, (6000, 1))),
+    (3, &TRIANGLE, &[], Want::Ones(0, 1, (0, 1))),
+    (3, &TRIANGLE, &[(0, 0)], Want::Ones(0, 1, (0, 1))),
+    (3, &TRIANGLE, &[(0, 1 << 62)], Want::Wide),
+    // What is installed is more than enough.
+    (3, &INSTALLED, &[(0, 12000)], Want::Ones(0, 1, (0, 1))),
+    // Three parallel links: any two have to carry 10.00 together.
+    (2, &THREE_LINKS, &ANY_TWO, Want::Ones(3, 2, (15000, 1))),
+    (2, &THREE_LINKS, &ANY_TWO, Want::Share(1, 5000)),
+    (2, &THREE_LINKS, &[(2, 10000)], Want::Ones(1, 1, (10000, 1))),
+    // Four parallel links: any three have to carry 10.00 together.
+    (2, &PARALLEL, &ANY_THREE, Want::Ones(4, 3, (40000, 3))),
+    (2, &PARALLEL, &ANY_THREE, Want::Share(3, 10000)),
+];
+
+const ANY_TWO: [LineRow; 3] = [(1, 10000), (2, 10000), (3, 10000)];
+
+const ANY_THREE: [LineRow; 4] = [(1, 10000), (2, 10000), (3, 10000), (4, 10000)];
+
+/// Whether the cuts are of different states.
+fn are_different(cuts: &[CutLine]) -> bool
+    ensures { IsTrue result → AllPairs (λ a b. IsSameCut a b → ⊥) cuts.now }
+{
+    for i in 0..cuts.len() {
+        for j in 0..i {
+            if cuts[j].state.0 == cuts[i].state.0 {
+                return false;
+            }
+        }
+    }
+    true
+}
+
+/// Whether the certificate is as expected.
+fn is_best(best: &Best, want: &Want) -> bool {
+    match want {
+        Want::Ones(count, den, raw) => {
+            best.multipliers.len() == *count
+                && best.multipliers.items().iter().all(|m| m.num == 1)
+                && best.den == *den
+                && best.raw_num == raw.0
+                && best.raw_den == raw.1
+        }
+        Want::Share(scale, units) => {
+            best.share.scale == *scale && best.share.units.items().iter().all(|u| *u == *units)
+        }
+        Want::Wide => false,
+    }
+}
+
+/// Whether the fault is that a number of a cut is too wide.
+fn is_wide(fault: &MasterFault) -> bool {
+    let MasterFault::Wide(evidence) = fault else {
+        return false;
+    };
+    let Evidence::Master { kind, .. } = evidence else {
+        return false;
+    };
+    match kind {
+        WideKind::Number(column) => matches!(column, MasterColumn::Metric(_, _)),
+        _ => false,
+    }
+}
+
+/// Whether the row's certificate is the best of the cuts.
+fn is_of_cuts(alloc: Global, net: &Network, cuts: &List<CutLine>, want: &Want) -> bool
+    requires few { length cuts.now ≤ 4 }
+    requires bound { All (λ line. HaveBound net.now.links line.lengths) cuts.now }
+    requires right { All (λ line. line.right < 2 ^ 84) cuts.now }
+{
+    if !are_different(cuts.items()) {
+        return false;
+    }
+    match master(alloc, net, cuts) {
+        Ok(best) => is_best(&best, want),
+        Err(fault) => matches!(want, Want::Wide) && is_wide(&fault),
+    }
+}
+
+/// Whether the row's certificate is as expected.
+fn is_certified(alloc: Global, p: &Problem, row: &Row) -> bool {
+    match unit_lines(alloc, p, row.2) {
+        Some(cuts) => cuts.len() <= 4 && is_of_cuts(alloc, &p.net, &cuts, &row.3),
+        None => false,
+    }
+}
+
+/// The same on the row's links.
+fn is_certified_there(alloc: Global, row: &Row) -> bool {
+    match with_single_failures(alloc, row.0, row.1, &[]) {
+        Some(p) => is_certified(alloc, &p, row),
+        None => false,
+    }
+}
+
+#[test]
+fn best_certificates_are_as_by_hand(rt: HostRuntime) {
+    for row in &ROWS {
+        assert!(rt; is_certified_there(rt.alloc(), row));
+    }
+}

@@ -1,0 +1,118 @@
+ghost use Rattle.std.specs.Prelude.{◌≡◌, ◌<◌, length};
+ghost use Rattle.net_core.specs.Demands.{AreDemands};
+
+use crate::fixtures::{TRIANGLE, with_single_failures};
+use metric_cut::Cut;
+use net_core::{Caps, Demands, List, NoMemory, Problem, StateId, Surviving};
+use node_sets::{grown_set, threshold_set};
+use std::alloc::Global;
+use worked_networks::{DemandRow, LinkRow, RING};
+
+/// A state, the scale and the numbers of the links, the lengths of a threshold or, for a set that grows, none, and the lengths of
+/// the cut, or none where no set is found.
+type Row<'r> = (u32, u64, &'r [u128], Option<&'r [u32]>, &'r [u32]);
+
+/// On the triangle with 12.00 from A to C and 4.00 from A to B.
+const ON_TRIANGLE: [Row; 8] = [
+    // The links at C have 11.999 for a demand of 12.000.
+    (0, 1, &[6000, 1999, 10000], None, &[0, 1, 1]),
+    (0, 2, &[12000, 3999, 20000], None, &[0, 1, 1]),
+    (0, 1, &[6000, 2000, 10000], None, &[]),
+    // A has less for each unit of demand than C.
+    (0, 1, &[5000, 1999, 10000], None, &[1, 0, 1]),
+    // A number of 2^62 isn't looked at.
+    (0, 1, &[1 << 62, 1999, 10000], None, &[]),
+    (0, 1, &[6000, 1999, 10000], Some(&[0, 1, 1]), &[0, 1, 1]),
+    (0, 1, &[6000, 1999, 10000], Some(&[1, 0, 1]), &[]),
+    (0, 1, &[6000, 1999, 10000], Some(&[0, 0, 0]), &[]),
+];
+
+/// In the ring node 1 has least capacity for each unit of demand. Where the chord fails, the set of nodes 0 and 1 is taken, which the
+/// chord would leave.
+const ON_RING: [Row; 2] = [
+    (0, 1, &[3, 3, 7, 6, 100], None, &[1, 1, 0, 0, 0]),
+    (5, 1, &[3, 3, 7, 6, 100], None, &[0, 1, 0, 1, 0]),
+];
+
+/// Whether a cut was found, of these lengths, or none where there are no lengths.
+fn is_cut(found: &Result<Option<Cut>, NoMemory>, want: &[u32]) -> bool {
+    match found {
+        Ok(Some(cut)) => cut.lengths().items() == want,
+        Ok(None) => want.is_empty(),
+        Err(_) => false,
+    }
+}
+
+/// Whether the row's cut is found at these numbers of the links.
+fn is_found_at(alloc: Global, graph: &Surviving, demands: &Demands, caps: &Caps, row: &Row) -> bool
+    requires demands { AreDemands (length graph.now.net.now.nodes) demands.now }
+    requires scale { 0 < caps.now.scale }
+    requires caps { length caps.now.nums ≡ length graph.now.net.now.links }
+{
+    let Some(given) = row.3 else {
+        return is_cut(&grown_set(alloc, graph, demands, caps), row.4);
+    };
+    match List::from_slice(alloc, given) {
+        Ok(lengths) => {
+            lengths.len() == graph.net.links().len()
+                && is_cut(&threshold_set(alloc, graph, demands, caps, &lengths), row.4)
+        }
+        Err(_) => false,
+    }
+}
+
+/// Whether the row's cut is found.
+fn is_found(alloc: Global, p: &Problem, row: &Row) -> bool {
+    let Ok(nums) = List::from_slice(alloc, row.2) else {
+        return false;
+    };
+    if row.0 >= p.states.count() || row.1 == 0 || nums.len() != p.net.links().len() {
+        return false;
+    }
+    let caps = Caps { scale: row.1, nums };
+    let graph = Surviving {
+        net: &p.net,
+        states: &p.states,
+        state: StateId(row.0),
+    };
+    is_found_at(alloc, &graph, &p.demands, &caps, row)
+}
+
+/// The first row whose cut isn't found, or none.
+fn first_missed(alloc: Global, p: &Problem, rows: &[Row]) -> Option<usize> {
+    for i in 0..rows.len() {
+        if !is_found(alloc, p, &rows[i]) {
+            return Some(i);
+        }
+    }
+    None
+}
+
+/// The same on these links, each of which fails alone.
+fn first_miss(
+    alloc: Global,
+    nodes: usize,
+    links: &[LinkRow],
+    demands: &[DemandRow],
+    rows: &[Row],
+) -> Option<usize> {
+    match with_single_failures(alloc, nodes, links, demands) {
+        Some(p) => first_missed(alloc, &p, rows),
+        None => Some(0),
+    }
+}
+
+#[test]
+fn the_links_at_one_node_are_short(rt: HostRuntime) {
+    let demands = [(0, 2, 12000), (0, 1, 4000)];
+    assert_eq!(rt;
+        first_miss(rt.alloc(), 3, &TRIANGLE, &demands, &ON_TRIANGLE),
+        None
+    );
+}
+
+#[test]
+fn a_set_that_a_failed_link_leaves_is_taken(rt: HostRuntime) {
+    let demands = [(1, 2, 30), (0, 3, 8)];
+    assert_eq!(rt; first_miss(rt.alloc(), 4, &RING, &demands, &ON_RING), None);
+}
