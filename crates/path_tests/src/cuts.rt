@@ -286,7 +286,7 @@ fn are_openings_there(alloc: Global, row: &OpeningRow) -> bool {
 
 #[test]
 fn opening_cuts_of_a_state(rt: HostRuntime) {
-    for i in 0..OPENINGS.len() {
-        assert!(rt; are_openings_there(rt.alloc(), &OPENINGS[i]), "row {i}");
+    for row in &OPENINGS {
+        assert!(rt; are_openings_there(rt.alloc(), row));
     }
 }

@@ -1,5 +1,5 @@
 use crate::fixtures::{TRIANGLE, make_problem};
-use greedy_router::greedy;
+use greedy_router::{Left, greedy};
 use net_core::{Caps, List, Problem, StateId};
 use std::alloc::Global;
 use worked_networks::DemandRow;
@@ -38,6 +38,11 @@ const ROWS: [Row; 13] = [
     (&EQUAL, 0, 1, [6000, 9000, 6000], [0, 0]),
 ];
 
+/// Whether the row is what is left, and the routing is of whole thousandths.
+fn is_rest(left: &Left, row: &Row) -> bool {
+    left.routing.den == 1 && left.rest.items() == row.4.as_slice()
+}
+
 /// Whether the row is what is left of the problem's demands.
 fn is_left(alloc: Global, p: &Problem, row: &Row) -> bool {
     let Ok(nums) = List::from_slice(alloc, &row.3) else {
@@ -48,7 +53,7 @@ fn is_left(alloc: Global, p: &Problem, row: &Row) -> bool {
     }
     let caps = Caps { scale: row.2, nums };
     match greedy(alloc, &p.net, &p.states, StateId(row.1), &p.demands, &caps) {
-        Ok(left) => left.routing.den == 1 && left.rest.items() == row.4.as_slice(),
+        Ok(left) => is_rest(&left, row),
         Err(_) => false,
     }
 }
@@ -63,7 +68,7 @@ fn is_left_there(alloc: Global, row: &Row) -> bool {
 
 #[test]
 fn rests_are_as_by_hand(rt: HostRuntime) {
-    for i in 0..ROWS.len() {
-        assert!(rt; is_left_there(rt.alloc(), &ROWS[i]), "row {i}");
+    for row in &ROWS {
+        assert!(rt; is_left_there(rt.alloc(), row));
     }
 }

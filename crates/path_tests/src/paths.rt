@@ -88,6 +88,11 @@ fn has_row(table: &DistanceTable, from: u32, want: &[Option<u64>; 4]) -> bool {
     true
 }
 
+/// Whether both a search and the table have these distances of a node.
+fn are_both(one: &[Option<u64>], all: &DistanceTable, from: u32, want: &[Option<u64>; 4]) -> bool {
+    one == want.as_slice() && has_row(all, from, want)
+}
+
 /// Whether a search from the node and the table of all nodes answer as the row says.
 fn are_distances(alloc: Global, m: &Measured, row: &DistanceRow) -> Option<bool> {
     let (state, from, want) = row;
@@ -97,7 +102,7 @@ fn are_distances(alloc: Global, m: &Measured, row: &DistanceRow) -> Option<bool>
     let (at, node) = (StateId(*state), NodeId(*from));
     let one = distances(alloc, &m.p.net, &m.p.states, at, &m.lengths, node).ok()?;
     let all = all_pairs(alloc, &m.p.net, &m.p.states, at, &m.lengths).ok()?;
-    Some(one.items() == want.as_slice() && has_row(&all, *from, want))
+    Some(are_both(one.items(), &all, *from, want))
 }
 
 /// The first row that isn't as the search or the table answers, or none.
@@ -194,7 +199,8 @@ fn is_in_table(alloc: Global, m: &Measured, row: &PathRow) -> bool {
 /// The first row that isn't as the search or the table answers, or none.
 fn first_other_path(alloc: Global, m: &Measured) -> Option<usize> {
     for i in 0..LEAST.len() {
-        if !is_least(alloc, m, &LEAST[i]) || !is_in_table(alloc, m, &LEAST[i]) {
+        let row = &LEAST[i];
+        if !is_least(alloc, m, row) || !is_in_table(alloc, m, row) {
             return Some(i);
         }
     }
