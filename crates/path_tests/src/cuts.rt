@@ -241,28 +241,31 @@ fn capacities_that_are_too_small(rt: HostRuntime) {
     }
 }
 
-/// Links, a state, and the lengths of its opening cuts, one after another.
-type OpeningRow = (&'static [LinkRow<'static>; 3], u32, &'static [u32]);
+/// Whether the links are those of different prices, a state, and the lengths of its opening cuts.
+type OpeningRow = (bool, u32, [Option<[u32; 3]>; 2]);
 
 const OPENINGS: [OpeningRow; 6] = [
-    (&TRIANGLE, 0, &[1, 1, 1]),
-    (&TRIANGLE, 3, &[1, 1, 0]),
-    (&TRIANGLE, 4, &[]),
-    (&MIXED, 0, &[1, 1, 1, 1, 2, 2]),
-    (&MIXED, 1, &[0, 1, 1]),
-    (&MIXED, 2, &[1, 0, 1, 1, 0, 2]),
+    (false, 0, [Some([1, 1, 1]), None]),
+    (false, 3, [Some([1, 1, 0]), None]),
+    (false, 4, [None, None]),
+    (true, 0, [Some([1, 1, 1]), Some([1, 2, 2])]),
+    (true, 1, [Some([0, 1, 1]), None]),
+    (true, 2, [Some([1, 0, 1]), Some([1, 0, 2])]),
 ];
 
-/// Whether these are the lengths of all cuts, one after another.
-fn have_lengths(cuts: &[Cut], want: &[u32]) -> bool {
-    let mut rest = want;
-    for cut in cuts {
-        match rest.strip_prefix(cut.lengths().items()) {
-            Some(after) => rest = after,
-            None => return false,
-        }
+/// Whether the cut, or none, is of these lengths, or none.
+fn is_of(cut: Option<&Cut>, want: &Option<[u32; 3]>) -> bool {
+    match (cut, want) {
+        (Some(cut), Some(want)) => cut.lengths().items() == want.as_slice(),
+        (None, None) => true,
+        _ => false,
     }
-    rest.is_empty()
+}
+
+/// Whether there are no cuts but those of these lengths.
+fn are_of(cuts: &[Cut], want: &[Option<[u32; 3]>; 2]) -> bool {
+    let [first, second] = want;
+    cuts.len() < 3 && is_of(cuts.get(0), first) && is_of(cuts.get(1), second)
 }
 
 fn are_openings(alloc: Global, p: &Problem, row: &OpeningRow) -> bool {
@@ -271,14 +274,15 @@ fn are_openings(alloc: Global, p: &Problem, row: &OpeningRow) -> bool {
         return false;
     }
     match opening(alloc, &p.net, &p.states, StateId(*state)) {
-        Ok(cuts) => have_lengths(cuts.items(), want),
+        Ok(cuts) => are_of(cuts.items(), want),
         Err(_) => false,
     }
 }
 
 /// The same on the row's links.
 fn are_openings_there(alloc: Global, row: &OpeningRow) -> bool {
-    match make_problem(alloc, 3, row.0.as_slice(), &FAILED, &[]) {
+    let links = if row.0 { &MIXED } else { &TRIANGLE };
+    match make_problem(alloc, 3, links, &FAILED, &[]) {
         Some(p) => are_openings(alloc, &p, row),
         None => false,
     }

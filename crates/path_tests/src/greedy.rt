@@ -5,7 +5,7 @@ use std::alloc::Global;
 use worked_networks::DemandRow;
 
 /// Demands, a state, the scale and the numbers of AB, BC and AC, and what is left of the two demands; worked out by hand.
-type Row = (&'static [DemandRow], u32, u64, [u128; 3], [u128; 2]);
+type Row = ([DemandRow; 2], u32, u64, [u128; 3], [u128; 2]);
 
 /// 12.00 from A to C and 4.00 from A to B; in state 3 the link AC fails.
 const GREATER_FIRST: [DemandRow; 2] = [(0, 2, 12000), (0, 1, 4000)];
@@ -17,25 +17,25 @@ const GREATER_LAST: [DemandRow; 2] = [(0, 1, 4000), (0, 2, 12000)];
 const EQUAL: [DemandRow; 2] = [(0, 1, 6000), (0, 2, 6000)];
 
 const ROWS: [Row; 13] = [
-    (&GREATER_FIRST, 0, 1, [0, 0, 0], [12000, 4000]),
-    (&GREATER_FIRST, 0, 3, [0, 0, 0], [36000, 12000]),
-    (&GREATER_FIRST, 0, 1, [6000, 2000, 10000], [0, 0]),
-    (&GREATER_FIRST, 0, 1, [20000, 20000, 20000], [0, 0]),
-    (&GREATER_FIRST, 0, 1, [4000, 4000, 4000], [4000, 4000]),
-    (&GREATER_FIRST, 0, 1, [0, 0, 15999], [0, 4000]),
-    (&GREATER_FIRST, 3, 1, [6000, 2000, 10000], [10000, 0]),
-    (&GREATER_FIRST, 3, 2, [6000, 1, 1 << 61], [23999, 2001]),
+    (GREATER_FIRST, 0, 1, [0, 0, 0], [12000, 4000]),
+    (GREATER_FIRST, 0, 3, [0, 0, 0], [36000, 12000]),
+    (GREATER_FIRST, 0, 1, [6000, 2000, 10000], [0, 0]),
+    (GREATER_FIRST, 0, 1, [20000, 20000, 20000], [0, 0]),
+    (GREATER_FIRST, 0, 1, [4000, 4000, 4000], [4000, 4000]),
+    (GREATER_FIRST, 0, 1, [0, 0, 15999], [0, 4000]),
+    (GREATER_FIRST, 3, 1, [6000, 2000, 10000], [10000, 0]),
+    (GREATER_FIRST, 3, 2, [6000, 1, 1 << 61], [23999, 2001]),
     (
-        &GREATER_FIRST,
+        GREATER_FIRST,
         0,
         1,
         [(1 << 62) - 1, 0, (1 << 62) - 1],
         [0, 0],
     ),
-    (&GREATER_LAST, 0, 1, [5000, 5000, 0], [4000, 7000]),
-    (&GREATER_LAST, 0, 2, [5000, 7000, 24000], [3000, 0]),
-    (&EQUAL, 0, 1, [7000, 7000, 0], [0, 5000]),
-    (&EQUAL, 0, 1, [6000, 9000, 6000], [0, 0]),
+    (GREATER_LAST, 0, 1, [5000, 5000, 0], [4000, 7000]),
+    (GREATER_LAST, 0, 2, [5000, 7000, 24000], [3000, 0]),
+    (EQUAL, 0, 1, [7000, 7000, 0], [0, 5000]),
+    (EQUAL, 0, 1, [6000, 9000, 6000], [0, 0]),
 ];
 
 /// Whether the row is what is left, and the routing is of whole thousandths.
@@ -60,7 +60,7 @@ fn is_left(alloc: Global, p: &Problem, row: &Row) -> bool {
 
 /// The same on the triangle.
 fn is_left_there(alloc: Global, row: &Row) -> bool {
-    match make_problem(alloc, 3, &TRIANGLE, &[&[0], &[1], &[2]], row.0) {
+    match make_problem(alloc, 3, &TRIANGLE, &[&[0], &[1], &[2]], &row.0) {
         Some(p) => is_left(alloc, &p, row),
         None => false,
     }
