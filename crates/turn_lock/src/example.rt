@@ -9,10 +9,10 @@ use std::thread::Threads;
 
 /// A sheet of numbers, and the number of its owner.
 #[derive(Drop)]
-pub(crate) struct Sheet {
+pub struct Sheet {
     pub owner: u64,
     pub notes: List<u64>,
-    ghost few: { length notes < 2 ^ 32 },
+    pub ghost few: { length notes < 2 ^ 32 },
 }
 
 impl Chronicle for Sheet {
@@ -43,12 +43,7 @@ impl Sheet {
 ghost use Rattle.turn_lock.specs.Passes.{IsPassOf, opening_of, seen_by, own_units};
 
 /// One turn, which notes a number where there is room.
-pub(crate) fn note<R: Wait>(
-    rt: &R,
-    desk: &Desk<Sheet>,
-    pass: Pass<Sheet>,
-    number: u64,
-) -> Pass<Sheet>
+pub fn note<R: Wait>(rt: &R, desk: &Desk<Sheet>, pass: Pass<Sheet>, number: u64) -> Pass<Sheet>
     requires { IsPassOf desk.now pass }
     ensures own { IsPassOf desk.now result }
     ensures units { own_units result ≡ own_units pass }
@@ -63,7 +58,7 @@ pub(crate) fn note<R: Wait>(
 }
 
 /// Many turns, each of which notes the number.
-pub(crate) fn note_often<R: Wait>(
+pub fn note_often<R: Wait>(
     rt: &R,
     desk: &Desk<Sheet>,
     pass: Pass<Sheet>,
@@ -82,7 +77,7 @@ pub(crate) fn note_often<R: Wait>(
 }
 
 /// Two threads note 1 and 2 in turns of their own. The sheet comes back with the notes of both.
-pub(crate) fn note_by_two<R: Threads + Wait + Sync>(
+pub fn note_by_two<R: Threads + Wait + Sync>(
     rt: &R,
     desk: Desk<Sheet>,
     pass: Pass<Sheet>,

@@ -3,7 +3,7 @@
 
 mod chronicle;
 mod desk;
-mod example;
+pub mod example;
 mod rule;
 mod steps;
 
