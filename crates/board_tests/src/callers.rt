@@ -1,0 +1,215 @@
+//! Tests of callers at a desk with a board.
+ghost use Rattle.std.specs.Prelude.{◌≡◌, ◌≤◌, ◌^◌, [], IfSome, length};
+ghost use Rattle.std.specs.Thread.{IsSync};
+ghost use Rattle.net_core.specs.Views.{graph};
+ghost use Rattle.metric_cut.specs.Cuts.{IsCutOf};
+ghost use Rattle.turn_lock.specs.Passes.{IsPassOf, opening_of, own_places, own_units};
+ghost use Rattle.board_desk.specs.Turns.{AreAtOneDesk, IsAtDesk, board_made};
+
+use crate::cuts::unit_cut;
+use board_desk::Caller;
+use cut_pool::{AdmitAnswer, Board};
+use metric_cut::Cut;
+use net_core::{Copied, Edit, Entry, Name, Problem};
+use std::alloc::Global;
+use std::sync::Wait;
+use std::thread;
+use std::thread::Threads;
+use turn_lock::{Desk, Pass};
+use worked_networks::{problem, triangle};
+
+/// The triangle, whose links each fail alone, with a demand A of 12.00 from A to C.
+fn one_demand(alloc: Global) -> Option<Problem> {
+    problem(alloc, triangle(alloc, 0).ok()?, &[(0, 2, 12000)]).ok()
+}
+
+/// A desk with a new board of the problem, and the pass with all units.
+fn open_desk(alloc: Global, problem: &Problem) -> Option<(Desk<Board<'_>>, Pass<Board<'_>>)>
+    ensures own { IfSome result (λ d. IsPassOf d.0 d.1) }
+    ensures pass { IfSome result (λ d. (own_places d.1 ≡ []) × (own_units d.1 ≡ 2 ^ 32)) }
+    ensures net { IfSome result (λ d. (opening_of d.0).net.now ≡ problem.now.net) }
+    ensures states { IfSome result (λ d. (opening_of d.0).states.now ≡ problem.now.states) }
+{
+    let opening = problem.demands.copy().ok()?;
+    let board = Board::new(alloc, &problem.net, &problem.states, opening).ok()?;
+    Desk::new(alloc, board).ok()
+}
+
+/// Sets the need of A so many times, each in a turn of its own. It stops where memory runs out.
+fn edit_often<'d, 'a, R: Wait>(
+    rt: &R,
+    alloc: Global,
+    caller: Caller<'d, 'a>,
+    edits: u32,
+) -> Caller<'d, 'a>
+    requires { IsAtDesk caller }
+    ensures desk { AreAtOneDesk caller.entry result }
+    ensures units { own_units result.pass ≡ own_units caller.entry.pass }
+{
+    let mut caller = caller;
+    for need in 0..edits {
+        let Ok(name) = Name::new(alloc, b"A") else {
+            return caller;
+        };
+        let edit = Edit::Set {
+            name,
+            need: need as u64,
+        };
+        let (_, after) = caller.edit(rt, edit);
+        caller = after;
+    }
+    caller
+}
+
+/// So many threads make so many edits each.
+fn edit_by<'d, 'a, R: Threads + Wait + Sync>(
+    rt: &R,
+    alloc: Global,
+    caller: Caller<'d, 'a>,
+    threads: u32,
+    edits: u32,
+) -> Caller<'d, 'a>
+    requires own { IsAtDesk caller }
+    requires units { threads ≤ own_units caller.pass }
+    ensures desk { AreAtOneDesk caller.entry result }
+    ensures units { own_units result.pass ≡ own_units caller.entry.pass }
+{
+    if threads <= 1 {
+        return edit_often(rt, alloc, caller, edits);
+    }
+    let some = threads / 2;
+    let rest = threads - some;
+    let (one, two) = caller.split(2);
+    let (one, two) = thread::join(
+        rt,
+        move || -> Caller
+            requires sync { IsSync R.row }
+            requires own { IsAtDesk one }
+            requires units { rest ≤ own_units one.pass }
+            ensures desk { AreAtOneDesk one.entry result }
+            ensures units { own_units result.pass ≡ own_units one.entry.pass }
+        { edit_by(rt, alloc, one, rest, edits) },
+        move || -> Caller
+            requires sync { IsSync R.row }
+            requires own { IsAtDesk two }
+            requires units { some ≤ own_units two.pass }
+            ensures desk { AreAtOneDesk two.entry result }
+            ensures units { own_units result.pass ≡ own_units two.entry.pass }
+        { edit_by(rt, alloc, two, some, edits) },
+    );
+    one.meet(two)
+}
+
+/// How many entries are edits of this caller.
+fn edits_of(entries: &[Entry], number: u32) -> usize {
+    entries
+        .iter()
+        .filter(|entry| matches!(entry, Entry::Edited { caller, .. } if *caller == number))
+        .count()
+}
+
+/// What so many threads commit on a new board of the problem that make so many edits each: all entries, and those of callers 1 and 2.
+fn entries_by<R: Threads + Wait + Sync>(
+    rt: &R,
+    alloc: Global,
+    problem: &Problem,
+    threads: u32,
+    edits: u32,
+) -> Option<(usize, usize, usize)>
+    requires { threads ≤ 8 }
+{
+    let (desk, pass) = open_desk(alloc, problem)?;
+    let caller = Caller::new(1, &desk, pass);
+    let pass = edit_by(rt, alloc, caller, threads, edits).into_pass();
+    let board = desk.close(pass);
+    let entries = board.entries();
+    Some((entries.len(), edits_of(entries, 1), edits_of(entries, 2)))
+}
+
+/// Whether two threads commit a hundred edits each, and eight all their thousand.
+fn commit_all<R: Threads + Wait + Sync>(rt: &R, alloc: Global, problem: &Problem) -> bool {
+    entries_by(rt, alloc, problem, 2, 100) == Some((200, 100, 100))
+        && matches!(entries_by(rt, alloc, problem, 8, 125), Some((1000, _, _)))
+}
+
+#[test]
+fn threads_commit_all_their_edits(rt: HostRuntime) {
+    let problem = one_demand(rt.alloc());
+    assert!(rt; problem.is_some_and(|problem| commit_all(&rt, rt.alloc(), &problem)));
+}
+
+/// A caller that has made no entry splits in two. One admits a cut, the other only looks, and then takes the one in: it names the
+/// one's entry.
+fn met_by_another<'d, 'a, R: Wait>(
+    rt: &R,
+    caller: Caller<'d, 'a>,
+    cut: Cut,
+) -> Option<Caller<'d, 'a>>
+    requires own { IsAtDesk caller }
+    requires units { 2 ≤ own_units caller.pass }
+    requires none { own_places caller.pass ≡ [] }
+    requires cut { IsCutOf (graph (board_made caller).net.now (board_made caller).states.now cut.state.0) cut }
+    ensures desk { IfSome result (AreAtOneDesk caller.entry) }
+    ensures units { IfSome result (λ met. own_units met.pass ≡ own_units caller.entry.pass) }
+    ensures named { IfSome result (λ met. length (own_places met.pass) ≡ 1) }
+{
+    let (one, other) = caller.split(2);
+    let (answer, one) = one.admit(rt, cut);
+    let (_, other) = other.snapshot(rt);
+    let AdmitAnswer::Admitted { .. } = answer else {
+        return None;
+    };
+    Some(other.meet(one))
+}
+
+/// How many entries and cuts a board of the problem has after that.
+fn counts_when_met<R: Wait>(rt: &R, alloc: Global, problem: &Problem) -> Option<(usize, u32)> {
+    let cut = unit_cut(alloc, problem, 0)?;
+    let (desk, pass) = open_desk(alloc, problem)?;
+    let caller = met_by_another(rt, Caller::new(1, &desk, pass), cut)?;
+    let pass = caller.into_pass();
+    let board = desk.close(pass);
+    Some((board.entries().len(), board.cuts()))
+}
+
+#[test]
+fn a_caller_that_takes_another_in_has_its_entry(rt: HostRuntime) {
+    let problem = one_demand(rt.alloc());
+    let found = problem.and_then(|problem| counts_when_met(&rt, rt.alloc(), &problem));
+    assert!(rt; found == Some((1, 1)));
+}
+
+/// A caller admits a cut, as the first entry, and splits in two. The position, the version and the number of cuts that the second finds.
+fn found_by_a_second<R: Wait>(rt: &R, caller: Caller, cut: Cut) -> Option<(u64, u64, usize)>
+    requires own { IsAtDesk caller }
+    requires units { 2 ≤ own_units caller.pass }
+    requires cut { IsCutOf (graph (board_made caller).net.now (board_made caller).states.now cut.state.0) cut }
+{
+    let (answer, caller) = caller.admit(rt, cut);
+    let (_first, second) = caller.split(2);
+    let (found, _second) = second.snapshot(rt);
+    match (answer, found) {
+        (
+            AdmitAnswer::Admitted {
+                index: 0,
+                position: 1,
+            },
+            Ok(found),
+        ) => { Some((found.position, found.version, found.cuts.len())) }
+        _ => None,
+    }
+}
+
+/// The same on a new board of the problem.
+fn found_on_new<R: Wait>(rt: &R, alloc: Global, problem: &Problem) -> Option<(u64, u64, usize)> {
+    let cut = unit_cut(alloc, problem, 0)?;
+    let (desk, pass) = open_desk(alloc, problem)?;
+    found_by_a_second(rt, Caller::new(1, &desk, pass), cut)
+}
+
+#[test]
+fn a_second_caller_finds_what_the_first_had_seen(rt: HostRuntime) {
+    let problem = one_demand(rt.alloc());
+    let found = problem.and_then(|problem| found_on_new(&rt, rt.alloc(), &problem));
+    assert!(rt; found == Some((1, 0, 1)));
+}

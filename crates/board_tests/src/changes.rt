@@ -1,0 +1,42 @@
+//! Edits as tables write them.
+ghost use Rattle.std.specs.Prelude.{◌<◌, ◌^◌, IfSome};
+ghost use Rattle.plan_terms.specs.Edits.{edit_need};
+
+use net_core::{Edit, Name};
+use std::alloc::Global;
+
+/// An edit: a name, two ends, a need in thousandths.
+#[derive(Clone, Copy)]
+pub enum Change {
+    Set(&'static [u8], u32),
+    Add(&'static [u8], &'static [u8], &'static [u8], u32),
+    Drop(&'static [u8]),
+}
+
+/// A new demand of these names.
+fn added(alloc: Global, name: &[u8], from: &[u8], to: &[u8], need: u32) -> Option<Edit>
+    ensures { IfSome result (λ e. edit_need e < 2 ^ 40) }
+{
+    Some(Edit::Add {
+        name: Name::new(alloc, name).ok()?,
+        from: Name::new(alloc, from).ok()?,
+        to: Name::new(alloc, to).ok()?,
+        need: need as u64,
+    })
+}
+
+/// The edit; `None` where a name is none, or where memory runs out.
+pub fn edit_of(alloc: Global, change: &Change) -> Option<Edit>
+    ensures { IfSome result (λ e. edit_need e < 2 ^ 40) }
+{
+    match change {
+        Change::Set(name, need) => Some(Edit::Set {
+            name: Name::new(alloc, name).ok()?,
+            need: *need as u64,
+        }),
+        Change::Add(name, from, to, need) => added(alloc, name, from, to, *need),
+        Change::Drop(name) => Some(Edit::Drop {
+            name: Name::new(alloc, name).ok()?,
+        }),
+    }
+}

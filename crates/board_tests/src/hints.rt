@@ -1,0 +1,147 @@
+//! Tests of the board of hints.
+ghost use Rattle.std.specs.Prelude.{◌≡◌, ◌≤◌, IfOk};
+ghost use Rattle.std.specs.Thread.{IsSync};
+ghost use Rattle.hint_board.specs.Hints.{IsHintOf, hint_links};
+ghost use Rattle.hint_board.specs.Priced.{AreHintLengths};
+
+use hint_board::{Hint, HintBoard};
+use net_core::{Lengths, List, NoMemory};
+use route_law::law::zeros_and_ones_are_priced;
+use std::alloc::Global;
+use std::sync::Wait;
+use std::test::Fail;
+use std::thread;
+use std::thread::Threads;
+
+/// Lengths of three links that are 0 or 1, with a 1 last.
+fn lengths_of(alloc: Global, first: u32, second: u32) -> Result<Lengths, NoMemory>
+    requires { (first ≤ 1) × (second ≤ 1) }
+    ensures { IfOk result (AreHintLengths 3) }
+{
+    zeros_and_ones_are_priced();
+    List::from_slice(alloc, &[first, second, 1])
+}
+
+/// Posts such lengths once.
+fn post_one<R: Wait>(
+    rt: &R,
+    alloc: Global,
+    board: &HintBoard,
+    numbers: (u32, u32),
+) -> Result<Hint, NoMemory>
+    requires links { hint_links board.now ≡ 3 }
+    requires numbers { (numbers.0 ≤ 1) × (numbers.1 ≤ 1) }
+    ensures { IfOk result (IsHintOf board.now) }
+{
+    Ok(board.post(rt, lengths_of(alloc, numbers.0, numbers.1)?)?)
+}
+
+/// Posts such lengths so many times. Whether each time the hint and its index both show what was posted.
+fn are_posted<R: Wait>(
+    rt: &R,
+    alloc: Global,
+    board: &HintBoard,
+    numbers: (u32, u32),
+    times: u32,
+) -> bool
+    requires links { hint_links board.now ≡ 3 }
+    requires numbers { (numbers.0 ≤ 1) × (numbers.1 ≤ 1) }
+{
+    let posted = [numbers.0, numbers.1, 1];
+    for _ in 0..times {
+        let Ok(hint) = post_one(rt, alloc, board, numbers) else {
+            return false;
+        };
+        let found = board.get(hint.at());
+        let is_found = found.is_some_and(|lengths| lengths.items() == posted.as_slice());
+        if !is_found || board.seen(&hint).items() != posted.as_slice() {
+            return false;
+        }
+    }
+    true
+}
+
+/// How many vectors that begin with a 0, and how many that begin with a 1, are shown below an index.
+fn shown(board: &HintBoard, below: u64) -> (usize, usize) {
+    let begin_with = |first: u32| {
+        (0..below)
+            .filter_map(|at| board.get(at))
+            .filter(|lengths| lengths.items().first() == Some(&first))
+            .count()
+    };
+    (begin_with(0), begin_with(1))
+}
+
+#[test]
+fn a_hint_and_its_index_show_the_posted_lengths(rt: HostRuntime) -> Result<(), Fail> {
+    let alloc = rt.alloc();
+    let board = HintBoard::new(alloc, 3)?;
+    assert!(rt; board.get(0).is_none());
+    assert!(rt; are_posted(&rt, alloc, &board, (1, 0), 1));
+    assert!(rt; are_posted(&rt, alloc, &board, (0, 1), 1));
+    assert!(rt; are_posted(&rt, alloc, &board, (1, 1), 1));
+    assert!(rt; shown(&board, 10) == (1, 2));
+    Ok(())
+}
+
+/// Two threads post lengths so many times each. Whether each time they were shown, to either thread.
+fn are_posted_by_two<R: Threads + Wait + Sync>(
+    rt: &R,
+    alloc: Global,
+    board: &HintBoard,
+    times: u32,
+) -> bool
+    requires { hint_links board.now ≡ 3 }
+{
+    let (one, other) = thread::join(
+        rt,
+        move || -> bool
+            requires sync { IsSync R.row }
+            requires links { hint_links board.now ≡ 3 }
+        { are_posted(rt, alloc, board, (1, 0), times) },
+        move || -> bool
+            requires sync { IsSync R.row }
+            requires links { hint_links board.now ≡ 3 }
+        { are_posted(rt, alloc, board, (0, 1), times) },
+    );
+    one && other
+}
+
+#[test]
+fn two_threads_post_and_look_at_once(rt: HostRuntime) -> Result<(), Fail> {
+    let board = HintBoard::new(rt.alloc(), 3)?;
+    assert!(rt; are_posted_by_two(&rt, rt.alloc(), &board, 100));
+    assert!(rt; shown(&board, 250) == (100, 100));
+    Ok(())
+}
+
+/// Two threads post lengths once each, and hand their hints to the caller. Whether it sees what they posted.
+fn are_seen_from_two<R: Threads + Wait + Sync>(rt: &R, alloc: Global, board: &HintBoard) -> bool
+    requires { hint_links board.now ≡ 3 }
+{
+    let (one, other) = thread::join(
+        rt,
+        move || -> Result<Hint, NoMemory>
+            requires sync { IsSync R.row }
+            requires links { hint_links board.now ≡ 3 }
+            ensures { IfOk result (IsHintOf board.entry.now) }
+        { post_one(rt, alloc, board, (1, 0)) },
+        move || -> Result<Hint, NoMemory>
+            requires sync { IsSync R.row }
+            requires links { hint_links board.now ≡ 3 }
+            ensures { IfOk result (IsHintOf board.entry.now) }
+        { post_one(rt, alloc, board, (0, 1)) },
+    );
+    let (Ok(one), Ok(other)) = (one, other) else {
+        return false;
+    };
+    board.seen(&one).items() == [1, 0, 1].as_slice()
+        && board.seen(&other).items() == [0, 1, 1].as_slice()
+}
+
+#[test]
+fn a_hint_from_another_thread_shows_what_was_posted(rt: HostRuntime) -> Result<(), Fail> {
+    let board = HintBoard::new(rt.alloc(), 3)?;
+    assert!(rt; are_seen_from_two(&rt, rt.alloc(), &board));
+    Ok(())
+}
