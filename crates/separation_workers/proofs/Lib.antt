@@ -2,6 +2,5 @@ pub mod Places
 pub mod Seen
 mod Desks
 mod Pooling
-mod Sent
 mod Shown
 mod Working

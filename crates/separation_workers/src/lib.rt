@@ -2,7 +2,7 @@
 //! find into the pool in a turn of its own, so that other callers may edit and plan meanwhile.
 //!
 //! ```text
-//! let mut separator = Workers::new(&rt, alloc, &gate, &hints, caller);
+//! let mut separator = Workers::new(&rt, alloc, &gate, &Hold::open(), &hints, caller);
 //! let answers = separator.separate(&instance, &caps)?;              // one answer for each state, in their order
 //! let caller = separator.into_caller();                             // it has seen all that was pooled, and its cuts are its own entries
 //! ```
@@ -11,9 +11,11 @@
 mod beside;
 mod depths;
 mod hints;
+mod hold;
 mod round;
 mod turn_taker;
 mod turns;
 mod workers;
 
+pub use hold::Hold;
 pub use workers::{DeskMark, Workers};

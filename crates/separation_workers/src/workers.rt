@@ -13,6 +13,7 @@ ghost use Rattle.separation_workers.specs.TurnTakers.{IsSameCaller, desk_network
 
 use crate::beside::{find_state, find_states};
 use crate::hints::post;
+use crate::hold::Hold;
 use crate::round::{Round, StateColumns, StateFound};
 use crate::turn_taker::TurnTaker;
 use board_desk::Caller;
@@ -21,7 +22,7 @@ use flow_router::RouteAnswer;
 use hint_board::HintBoard;
 use metric_cut::Cut;
 use net_core::{Caps, Instance, List, NoMemory, StateId};
-use outside_io::{Gate, OpenGate};
+use outside_io::Gate;
 use plan_types::Spot;
 use separator::{Separate, Separated, StateAnswer, line_of};
 use std::alloc::Global;
@@ -44,11 +45,12 @@ pub struct DeskMark<'a> {
 /// waits for these turns, and may never return.
 ///
 /// The gate hears on the caller's own thread: of each state before a round, and of each state again when all are solved and before its
-/// cut is put into the pool.
+/// cut is put into the pool. A hold hears of a state on the thread that works on it.
 #[derive(Drop)]
 pub struct Workers<'r, 'd, 'a, R, G> {
     rt: &'r R,
     gate: &'r G,
+    hold: &'r Hold,
     alloc: Global,
     hints: &'r HintBoard,
     taker: TurnTaker<'d, 'a>,
@@ -58,11 +60,12 @@ pub struct Workers<'r, 'd, 'a, R, G> {
 
 impl<'r, 'd, 'a, R, G> Workers<'r, 'd, 'a, R, G> {
     /// A separator for the caller, with a board of hints that has as many lengths as the network has links. What the separator has seen
-    /// and committed goes on from what the caller has.
+    /// and committed goes on from what the caller has. A hold may keep one of its workers waiting in a round.
     pub fn new(
         rt: &'r R,
         alloc: Global,
         gate: &'r G,
+        hold: &'r Hold,
         hints: &'r HintBoard,
         caller: Caller<'d, 'a>,
     ) -> Workers<'r, 'd, 'a, R, G>
@@ -76,6 +79,7 @@ impl<'r, 'd, 'a, R, G> Workers<'r, 'd, 'a, R, G> {
         Workers {
             rt,
             gate,
+            hold,
             alloc,
             hints,
             taker: TurnTaker::new(caller),
@@ -205,6 +209,7 @@ fn answer_states<R: Wait, G: Gate>(
 fn answer_round<R: Threads + Wait, G: Gate>(
     rt: &R,
     gate: &G,
+    hold: &Hold,
     round: &Round,
     taker: &mut TurnTaker,
 ) -> Result<List<StateAnswer>, NoMemory>
@@ -219,7 +224,7 @@ fn answer_round<R: Threads + Wait, G: Gate>(
     for state in 0..states {
         gate.before(round.caller, state);
     }
-    let mut places = find_states(rt, &OpenGate, round)?;
+    let mut places = find_states(rt, hold, round)?;
     answer_states(rt, gate, round, places.items_mut(), taker)
 }
 
@@ -261,6 +266,6 @@ impl<'r, 'd, 'a, R: Threads + Wait, G: Gate> Separate for Workers<'r, 'd, 'a, R,
             columns: self.columns.items(),
             next: AtomicU32::new(0),
         };
-        answer_round(self.rt, self.gate, &round, &mut self.taker)
+        answer_round(self.rt, self.gate, self.hold, &round, &mut self.taker)
     }
 }

@@ -17,7 +17,7 @@ use net_core::{Copied, NoMemory};
 use outside_io::Gate;
 use plan_types::Outcome;
 use planner::{PlanAnswer, plan_snapshot};
-use separation_workers::Workers;
+use separation_workers::{Hold, Workers};
 use std::sync::Wait;
 use std::thread::Threads;
 
@@ -49,7 +49,8 @@ fn plan_beside<'d, 'a, R: Threads + Wait, G: Gate>(
     ensures answer { IfOk result.0 (IsSnapshotAnswer (case setting.now.net.now setting.now.states.now snapshot.demands) snapshot (seen_by caller.entry.pass) (seen_by result.1.pass)) }
     ensures alone { IfOk result.0 (PoolsAlone (case setting.now.net.now setting.now.states.now snapshot.demands) (seen_by caller.entry.pass) (seen_by result.1.pass) (own_items result.1.pass)) }
 {
-    let mut separator = Workers::new(rt, setting.alloc, gate, setting.hints, caller);
+    let hold = Hold::open();
+    let mut separator = Workers::new(rt, setting.alloc, gate, &hold, setting.hints, caller);
     let answer = plan_snapshot(
         setting.alloc,
         setting.net,
