@@ -1,0 +1,17 @@
+-- Reports of sessions are in form.
+use Rattle.std.proofs.Common.{List}
+use Rattle.net_core.specs.declared.demand.Demand.{Demand}
+use Rattle.net_core.specs.declared.network.Network.{Network}
+use Rattle.net_core.specs.declared.network.Notes.{Notes}
+use Rattle.net_core.specs.declared.states.States.{States}
+use Rattle.net_core.specs.Views.{case}
+use Rattle.plan_report.specs.Forms.{IsReportInForm}
+use Rattle.plan_report.specs.KnownNames.{known_of}
+use Rattle.plan_types.specs.declared.report.Report.{Report}
+use Rattle.session_script.specs.declared.script.Command.{Command}
+use Rattle.session_run.specs.Transcripts.{IsTranscript}
+
+-- a transcript is a report that names what the network and the states have
+pub in_form : (net : Network) (states : States) (opening : List Demand) (notes : Notes) (commands : List Command) (report : Report)
+    → IsTranscript (case net states opening) notes commands report → IsReportInForm (known_of net states) report
+in_form net states opening notes commands report transcript = transcript.form

@@ -1,0 +1,173 @@
+//! Tests of plans for a snapshot of a new board.
+ghost use Rattle.std.specs.Prelude.{length};
+ghost use Rattle.net_core.specs.Demands.{AreDemands};
+
+use crate::problems::{Place, TRIANGLE, place_of};
+use cut_pool::Board;
+use net_core::Demands;
+use plan_types::{Plan, Quality, Spot};
+use planner::{PlanAnswer, plan_snapshot};
+use separator::OneByOne;
+use std::alloc::Global;
+use worked_networks::{CHAIN, DemandRow, LinkRow, PARALLEL, TEN, demands};
+
+/// What is looked at of a plan: its cost, its raw value, its bound, and whether it is tight.
+type Looked = (u128, (u128, u128), u128, bool);
+
+/// The denominator of a certificate, how many lines it has, and what the first four cuts of the pool have as their numerators in it.
+type Numerators = (u128, usize, [u64; 4]);
+
+/// How many nodes there are, so many links of a table, the links that each state fails, a demand, and what is looked at of its plan
+/// and, in some rows, of the certificate; none where a state separates it.
+type Row = (
+    usize,
+    &'static [LinkRow<'static>],
+    usize,
+    &'static [&'static [u32]],
+    DemandRow,
+    Option<(Looked, Option<Numerators>)>,
+);
+
+/// A triangle with 20.00 installed on each link.
+const INSTALLED: [LinkRow; 3] = [
+    (0, 1, 20000, &TEN),
+    (1, 2, 20000, &TEN),
+    (0, 2, 20000, &TEN),
+];
+
+/// The triangle alone, and with each link failing alone; four parallel links that fail alone; and what is installed is enough.
+const TIGHT: [Row; 4] = [
+    (
+        3,
+        &TRIANGLE,
+        3,
+        &[],
+        (0, 2, 12000),
+        Some(((10000, (6000, 1), 10000, true), Some((2, 1, [1, 0, 0, 0])))),
+    ),
+    (
+        3,
+        &TRIANGLE,
+        3,
+        &[&[0], &[1], &[2]],
+        (0, 2, 12000),
+        Some(((30000, (18000, 1), 20000, true), None)),
+    ),
+    (
+        2,
+        &PARALLEL,
+        4,
+        &[&[0], &[1], &[2], &[3]],
+        (0, 1, 10000),
+        Some(((16000, (40000, 3), 14000, true), None)),
+    ),
+    (
+        3,
+        &INSTALLED,
+        3,
+        &[],
+        (0, 2, 12000),
+        Some(((0, (0, 1), 0, true), Some((1, 0, [0, 0, 0, 0])))),
+    ),
+];
+
+/// Three parallel links that fail alone.
+const CERTIFIED: Row = (
+    2,
+    &PARALLEL,
+    3,
+    &[&[0], &[1], &[2]],
+    (0, 1, 10000),
+    Some(((15000, (15000, 1), 15000, true), Some((2, 3, [0, 1, 1, 1])))),
+);
+
+/// A chain whose last link fails.
+const CUT_OFF: [Row; 2] = [
+    (3, &CHAIN, 2, &[&[1]], (0, 2, 12000), None),
+    (
+        3,
+        &CHAIN,
+        2,
+        &[&[1]],
+        (0, 2, 0),
+        Some(((0, (0, 1), 0, true), None)),
+    ),
+];
+
+fn look(plan: &Plan) -> Looked {
+    let raw = (plan.raw_num, plan.raw_den);
+    let tight = matches!(&plan.quality, Quality::Tight(_));
+    (plan.cost, raw, plan.bound, tight)
+}
+
+fn numerators(plan: &Plan) -> Numerators {
+    let certificate = &plan.certificate;
+    let mut nums = [0; 4];
+    for line in certificate.lines.items() {
+        if let Spot::Pool(i) = line.spot {
+            if let Some(num) = nums.get_mut(i as usize) {
+                *num = line.num;
+            }
+        }
+    }
+    (certificate.den, certificate.lines.len(), nums)
+}
+
+/// What planning on a new board comes to.
+fn planned(alloc: Global, place: &Place, opening: Demands) -> Option<PlanAnswer>
+    requires { AreDemands (length place.now.net.nodes) opening }
+{
+    let board = Board::new(alloc, &place.net, &place.states, opening).ok()?;
+    let snapshot = board.snapshot().ok()?;
+    let mut separator = OneByOne::new(alloc, board);
+    plan_snapshot(alloc, &place.net, &place.states, snapshot, &mut separator).ok()
+}
+
+/// What planning for one demand comes to.
+fn planned_for(alloc: Global, place: &Place, demand: DemandRow) -> Option<PlanAnswer> {
+    let opening = demands(alloc, place.net.nodes().len(), &[demand]).ok()?;
+    planned(alloc, place, opening)
+}
+
+/// What planning comes to for a row.
+fn answer_of(alloc: Global, row: &Row) -> Option<PlanAnswer> {
+    let links = row.1.get(..row.2)?;
+    let place = place_of(alloc, row.0, links, row.3)?;
+    planned_for(alloc, &place, row.4)
+}
+
+/// Whether the plan looks like this.
+fn looks_like(plan: &Plan, want: &Option<(Looked, Option<Numerators>)>) -> bool {
+    let Some((looked, nums)) = want else {
+        return false;
+    };
+    look(plan) == *looked && (nums.is_none() || *nums == Some(numerators(plan)))
+}
+
+/// Whether planning comes to what the row says.
+fn is_planned(alloc: Global, row: &Row) -> bool {
+    match answer_of(alloc, row) {
+        Some(PlanAnswer::Planned(plan)) => looks_like(&plan, &row.5),
+        Some(PlanAnswer::NotSurvivable(..)) => row.5.is_none(),
+        None => false,
+    }
+}
+
+#[test]
+fn small_networks_have_tight_plans(rt: HostRuntime) {
+    for row in &TIGHT {
+        assert!(rt; is_planned(rt.alloc(), row));
+    }
+}
+
+#[test]
+fn a_certificate_names_the_pooled_cuts_of_the_failures(rt: HostRuntime) {
+    assert!(rt; is_planned(rt.alloc(), &CERTIFIED));
+}
+
+#[test]
+fn a_chain_that_fails_carries_a_demand_of_0_alone(rt: HostRuntime) {
+    for row in &CUT_OFF {
+        assert!(rt; is_planned(rt.alloc(), row));
+    }
+}

@@ -1,0 +1,198 @@
+//! Tests of a separator over a board.
+ghost use Rattle.std.specs.Prelude.{◌≡◌, IfSome};
+ghost use Rattle.net_core.specs.Views.{graph};
+ghost use Rattle.metric_cut.specs.Cuts.{IsCutOf};
+
+use crate::problems::{one_demand, open_board};
+use metric_cut::Cut;
+use net_core::{Caps, Evidence, LinkId, List, Problem, RouteColumn, StateId, WideKind};
+use plan_types::Spot;
+use separator::{OneByOne, Separate, Separated, StateAnswer, separate_checked};
+use std::alloc::Global;
+
+/// What is expected of a state.
+#[derive(Clone, Copy)]
+enum Want {
+    Routed,
+    /// A cut of these lengths, with this right side, at this index of the pool.
+    Cut([u32; 3], u128, u32),
+    /// The number of this link is too wide.
+    WideLink(u32),
+}
+
+/// The scale, the numbers of the links, and what is found of each state.
+type Row = (u64, [u128; 3], [Want; 4]);
+
+const WIDE: u128 = 1 << 62;
+
+/// The triangle with 12.00 from A to C: the links AB, BC and AC fail alone, in this order.
+const TRIANGLE: [Row; 4] = [
+    (
+        1,
+        [12000, 12000, 12000],
+        [Want::Routed, Want::Routed, Want::Routed, Want::Routed],
+    ),
+    (
+        1,
+        [11999, 12000, 12000],
+        [
+            Want::Routed,
+            Want::Routed,
+            Want::Routed,
+            Want::Cut([1, 0, 0], 12000, 0),
+        ],
+    ),
+    (
+        2,
+        [24000, 24000, 23999],
+        [
+            Want::Routed,
+            Want::Cut([0, 0, 1], 12000, 0),
+            Want::Cut([0, 0, 1], 12000, 1),
+            Want::Routed,
+        ],
+    ),
+    (
+        1,
+        [12000, 12000, WIDE],
+        [
+            Want::WideLink(2),
+            Want::WideLink(2),
+            Want::WideLink(2),
+            Want::WideLink(2),
+        ],
+    ),
+];
+
+/// Whether the evidence names a link whose number is too wide.
+fn names_wide(evidence: &Evidence, link: u32) -> bool {
+    match evidence {
+        Evidence::Route {
+            kind: WideKind::Number(RouteColumn::LinkSlack(LinkId(found))),
+            ..
+        } => *found == link,
+        _ => false,
+    }
+}
+
+/// Whether the answer is as expected.
+fn meets(answer: &StateAnswer, want: &Want) -> bool {
+    match (&answer.answer, want) {
+        (Separated::Routed(_), Want::Routed) => true,
+        (Separated::Violated(line, spot), Want::Cut(lengths, right, index)) => {
+            line.state == answer.state
+                && line.lengths.items() == lengths.as_slice()
+                && line.right == *right
+                && *spot == Spot::Pool(*index)
+        }
+        (Separated::Wide(evidence), Want::WideLink(link)) => names_wide(evidence, *link),
+        _ => false,
+    }
+}
+
+/// Whether the answers are those of the states, in their order, and as expected.
+fn all_meet(answers: &[StateAnswer], wants: &[Want]) -> bool {
+    for s in 0..wants.len() {
+        let Some(answer) = answers.get(s) else {
+            return false;
+        };
+        if answer.state.0 as usize != s || !meets(answer, &wants[s]) {
+            return false;
+        }
+    }
+    answers.len() == wants.len()
+}
+
+/// Whether a separator answers as expected.
+fn is_met<S: Separate>(
+    alloc: Global,
+    separator: &mut S,
+    problem: &Problem,
+    caps: &Caps,
+    wants: &[Want],
+) -> bool
+    requires net { problem.now.net ≡ S.network separator.old }
+    requires states { problem.now.states ≡ S.states separator.old }
+    ensures net { S.network separator.new ≡ S.network separator.old }
+    ensures states { S.states separator.new ≡ S.states separator.old }
+{
+    match separate_checked(alloc, separator, problem, caps) {
+        Ok(Some(answers)) => all_meet(answers.items(), wants),
+        _ => false,
+    }
+}
+
+/// Whether a new board answers as expected twice, the second time over the cuts of the first.
+fn is_met_twice(alloc: Global, problem: &Problem, caps: &Caps, wants: &[Want]) -> bool {
+    let Some(board) = open_board(alloc, problem) else {
+        return false;
+    };
+    let mut separator = OneByOne::new(alloc, board);
+    is_met(alloc, &mut separator, problem, caps, wants)
+        && is_met(alloc, &mut separator, problem, caps, wants)
+}
+
+/// The capacities of a row.
+fn caps_of(alloc: Global, row: &Row) -> Option<Caps> {
+    let nums = List::from_slice(alloc, &row.1).ok()?;
+    Some(Caps { scale: row.0, nums })
+}
+
+/// Whether each row is answered as expected.
+fn are_met(alloc: Global, problem: &Problem, rows: &[Row]) -> bool {
+    for row in rows {
+        let caps = caps_of(alloc, row);
+        if !caps.is_some_and(|caps| is_met_twice(alloc, problem, &caps, &row.2)) {
+            return false;
+        }
+    }
+    true
+}
+
+#[test]
+fn each_state_is_answered_in_order(rt: HostRuntime) {
+    let problem = one_demand(rt.alloc());
+    assert!(rt; problem.is_some_and(|problem| are_met(rt.alloc(), &problem, &TRIANGLE)));
+}
+
+/// The unit cut of a state.
+fn unit_cut(alloc: Global, problem: &Problem, state: u32) -> Option<Cut>
+    ensures { IfSome result (λ cut. IsCutOf (graph problem.now.net problem.now.states cut.state.0) cut) }
+{
+    let units = List::filled(alloc, 1, problem.net.links().len()).ok()?;
+    Cut::new(alloc, &problem.net, &problem.states, StateId(state), units).ok()
+}
+
+/// Where the unit cut of a state stands.
+fn unit_spot<S: Separate>(
+    alloc: Global,
+    separator: &mut S,
+    problem: &Problem,
+    state: u32,
+) -> Option<Spot>
+    requires net { problem.now.net ≡ S.network separator.old }
+    requires states { problem.now.states ≡ S.states separator.old }
+    ensures net { S.network separator.new ≡ S.network separator.old }
+    ensures states { S.states separator.new ≡ S.states separator.old }
+{
+    let cut = unit_cut(alloc, problem, state)?;
+    separator.admit(cut).ok()
+}
+
+/// Whether the unit cuts of the states 0 and 3 stand in the pool of a new board, each once, also where the first one comes again.
+fn stand_once(alloc: Global, problem: &Problem) -> bool {
+    let Some(board) = open_board(alloc, problem) else {
+        return false;
+    };
+    let mut separator = OneByOne::new(alloc, board);
+    unit_spot(alloc, &mut separator, problem, 0) == Some(Spot::Pool(0))
+        && unit_spot(alloc, &mut separator, problem, 3) == Some(Spot::Pool(1))
+        && unit_spot(alloc, &mut separator, problem, 0) == Some(Spot::Pool(0))
+        && separator.into_board().cuts() == 2
+}
+
+#[test]
+fn a_cut_stands_in_the_pool_once(rt: HostRuntime) {
+    let problem = one_demand(rt.alloc());
+    assert!(rt; problem.is_some_and(|problem| stand_once(rt.alloc(), &problem)));
+}

@@ -1,0 +1,386 @@
+//! Tests of a separator for a caller at a desk, by workers beside each other.
+ghost use Rattle.std.specs.Prelude.{◌≡◌, ◌≤◌, ◌^◌, IfSome, length};
+ghost use Rattle.std.specs.Thread.{IsSync};
+ghost use Rattle.hint_board.specs.Hints.{hint_links};
+ghost use Rattle.turn_lock.specs.Passes.{IsPassOf, opening_of, own_units};
+ghost use Rattle.board_desk.specs.Turns.{AreAtOneDesk, IsAtDesk, board_made};
+
+use crate::problems::{one_demand, open_board};
+use board_desk::Caller;
+use cut_pool::{Board, Snapshot};
+use hint_board::HintBoard;
+use net_core::{Caps, CutLine, List, NoMemory, Problem};
+use outside_io::OpenGate;
+use plan_types::Spot;
+use separation_workers::{Hold, Workers};
+use separator::{OneByOne, Separated, StateAnswer, separate_checked};
+use std::alloc::Global;
+use std::sync::Wait;
+use std::thread;
+use std::thread::Threads;
+use turn_lock::{Desk, Pass};
+use worked_networks::{DemandRow, LinkRow, TEN, network, problem};
+
+/// A problem, with hints for its network.
+#[derive(Drop)]
+struct Fixture {
+    problem: Problem,
+    hints: HintBoard,
+    ghost links: { hint_links hints ≡ length problem.net.links },
+}
+
+/// The problem, with an empty board of hints.
+fn fixture_of(alloc: Global, problem: Problem) -> Option<Fixture> {
+    let hints = HintBoard::new(alloc, problem.net.links().len() as u32).ok()?;
+    Some(Fixture { problem, hints })
+}
+
+/// The triangle, without any hints.
+fn of_triangle(alloc: Global) -> Option<Fixture> {
+    fixture_of(alloc, one_demand(alloc)?)
+}
+
+/// Capacities of these numbers.
+fn caps_of(alloc: Global, numbers: &[u128]) -> Option<Caps> {
+    let nums = List::from_slice(alloc, numbers).ok()?;
+    Some(Caps { scale: 1, nums })
+}
+
+/// A desk with a new board of the problem, and the pass with all units.
+fn open_desk(alloc: Global, problem: &Problem) -> Option<(Desk<Board<'_>>, Pass<Board<'_>>)>
+    ensures own { IfSome result (λ d. IsPassOf d.0 d.1) }
+    ensures units { IfSome result (λ d. own_units d.1 ≡ 2 ^ 32) }
+    ensures net { IfSome result (λ d. (opening_of d.0).net.now ≡ problem.now.net) }
+    ensures states { IfSome result (λ d. (opening_of d.0).states.now ≡ problem.now.states) }
+{
+    Desk::new(alloc, open_board(alloc, problem)?).ok()
+}
+
+/// What a caller is answered at capacities, after a look at the board. A hold may keep one of its workers waiting.
+fn answered<'d, 'a, R: Threads + Wait>(
+    rt: &R,
+    alloc: Global,
+    hold: &Hold,
+    fixture: &'a Fixture,
+    caps: &Caps,
+    caller: Caller<'d, 'a>,
+) -> (Option<List<StateAnswer>>, Caller<'d, 'a>)
+    requires own { IsAtDesk caller }
+    requires net { fixture.now.problem.net ≡ (board_made caller).net.now }
+    requires states { fixture.now.problem.states ≡ (board_made caller).states.now }
+    ensures desk { AreAtOneDesk caller.entry result.1 }
+    ensures units { own_units result.1.pass ≡ own_units caller.entry.pass }
+{
+    let (_, caller) = caller.snapshot(rt);
+    let mut separator = Workers::new(rt, alloc, &OpenGate, hold, &fixture.hints, caller);
+    let answers = separate_checked(alloc, &mut separator, &fixture.problem, caps);
+    (answers.ok().flatten(), separator.into_caller())
+}
+
+/// What a caller alone is answered at a new desk.
+fn at_new_desk<R: Threads + Wait>(
+    rt: &R,
+    alloc: Global,
+    hold: &Hold,
+    fixture: &Fixture,
+    caps: &Caps,
+) -> Option<List<StateAnswer>> {
+    let (desk, pass) = open_desk(alloc, &fixture.problem)?;
+    let caller = Caller::new(1, &desk, pass);
+    let (answers, _) = answered(rt, alloc, hold, fixture, caps, caller);
+    answers
+}
+
+/// The same at capacities of these numbers.
+fn at_numbers<R: Threads + Wait>(
+    rt: &R,
+    alloc: Global,
+    hold: &Hold,
+    fixture: &Fixture,
+    numbers: &[u128],
+) -> Option<List<StateAnswer>> {
+    let caps = caps_of(alloc, numbers)?;
+    at_new_desk(rt, alloc, hold, fixture, &caps)
+}
+
+/// Whether two cuts are of the same state and lengths.
+fn are_same(one: &CutLine, two: &CutLine) -> bool {
+    one.state == two.state && one.lengths.items() == two.lengths.items()
+}
+
+/// Whether two answers are of the same state and kind, and of the same cut at the same spot.
+fn are_alike(a: &StateAnswer, b: &StateAnswer) -> bool {
+    if a.state != b.state {
+        return false;
+    }
+    match (&a.answer, &b.answer) {
+        (Separated::Routed(_), Separated::Routed(_)) => true,
+        (Separated::Violated(one, here), Separated::Violated(two, there)) => {
+            here == there && are_same(one, two) && one.right == two.right
+        }
+        (Separated::Wide(_), Separated::Wide(_)) => true,
+        _ => false,
+    }
+}
+
+/// What a new board answers at capacities of these numbers.
+fn on_board(alloc: Global, problem: &Problem, numbers: &[u128]) -> Option<List<StateAnswer>> {
+    let caps = caps_of(alloc, numbers)?;
+    let mut separator = OneByOne::new(alloc, open_board(alloc, problem)?);
+    separate_checked(alloc, &mut separator, problem, &caps)
+        .ok()
+        .flatten()
+}
+
+/// Whether a caller alone is answered as a board.
+fn agree<R: Threads + Wait>(rt: &R, alloc: Global, fixture: &Fixture, numbers: &[u128]) -> bool {
+    let one = on_board(alloc, &fixture.problem, numbers);
+    let two = at_numbers(rt, alloc, &Hold::open(), fixture, numbers);
+    let (Some(one), Some(two)) = (one, two) else {
+        return false;
+    };
+    let mut pairs = one.items().iter().zip(two.items());
+    one.len() == two.len() && pairs.all(|(a, b)| are_alike(a, b))
+}
+
+/// Numbers of the links of the triangle: all is carried; without AC; nothing is carried; and a number that is too wide.
+const ROWS: [[u128; 3]; 4] = [
+    [12000, 12000, 12000],
+    [11999, 12000, 12000],
+    [0, 0, 0],
+    [12000, 12000, 1 << 62],
+];
+
+#[test]
+fn a_caller_alone_is_answered_as_a_board(rt: HostRuntime) {
+    for numbers in &ROWS {
+        let fixture = of_triangle(rt.alloc());
+        assert!(rt; fixture.is_some_and(|fixture| agree(&rt, rt.alloc(), &fixture, numbers)));
+    }
+}
+
+/// Whether the answer names a cut that stands in the pool at its spot.
+fn is_pooled(answer: &StateAnswer, cuts: &[CutLine]) -> bool {
+    match &answer.answer {
+        Separated::Violated(line, Spot::Pool(index)) => cuts
+            .get(*index as usize)
+            .is_some_and(|cut| are_same(cut, line)),
+        _ => false,
+    }
+}
+
+/// How many answers name a cut that stands at its spot in the pool that was looked at.
+fn standing(answers: &Option<List<StateAnswer>>, snapshot: &Result<Snapshot, NoMemory>) -> usize {
+    let (Some(answers), Ok(snapshot)) = (answers, snapshot) else {
+        return 0;
+    };
+    let cuts = snapshot.cuts.items();
+    answers
+        .items()
+        .iter()
+        .filter(|answer| is_pooled(answer, cuts))
+        .count()
+}
+
+/// How many states have a cut at their spot, as the caller then sees the pool.
+fn stands<'d, 'a, R: Threads + Wait>(
+    rt: &R,
+    alloc: Global,
+    fixture: &'a Fixture,
+    caps: &Caps,
+    caller: Caller<'d, 'a>,
+) -> (usize, Caller<'d, 'a>)
+    requires own { IsAtDesk caller }
+    requires net { fixture.now.problem.net ≡ (board_made caller).net.now }
+    requires states { fixture.now.problem.states ≡ (board_made caller).states.now }
+    ensures desk { AreAtOneDesk caller.entry result.1 }
+    ensures units { own_units result.1.pass ≡ own_units caller.entry.pass }
+{
+    let (answers, caller) = answered(rt, alloc, &Hold::open(), fixture, caps, caller);
+    let (snapshot, caller) = caller.snapshot(rt);
+    (standing(&answers, &snapshot), caller)
+}
+
+/// A caller splits in two, which separate at once. How many states have a cut at their spot for each of them.
+fn at_once<'d, 'a, R: Threads + Wait + Sync>(
+    rt: &R,
+    alloc: Global,
+    fixture: &'a Fixture,
+    caps: &Caps,
+    caller: Caller<'d, 'a>,
+) -> (usize, usize, Caller<'d, 'a>)
+    requires own { IsAtDesk caller }
+    requires units { 2 ≤ own_units caller.pass }
+    requires net { fixture.now.problem.net ≡ (board_made caller).net.now }
+    requires states { fixture.now.problem.states ≡ (board_made caller).states.now }
+    ensures desk { AreAtOneDesk caller.entry result.2 }
+    ensures units { own_units result.2.pass ≡ own_units caller.entry.pass }
+{
+    let (one, two) = caller.split(2);
+    let ((of_one, one), (of_two, two)) = thread::join(
+        rt,
+        move || -> (usize, Caller)
+            requires sync { IsSync R.row }
+            requires own { IsAtDesk one }
+            requires net { fixture.now.problem.net ≡ (board_made one).net.now }
+            requires states { fixture.now.problem.states ≡ (board_made one).states.now }
+            ensures desk { AreAtOneDesk one.entry result.1 }
+            ensures units { own_units result.1.pass ≡ own_units one.entry.pass }
+        { stands(rt, alloc, fixture, caps, one) },
+        move || -> (usize, Caller)
+            requires sync { IsSync R.row }
+            requires own { IsAtDesk two }
+            requires net { fixture.now.problem.net ≡ (board_made two).net.now }
+            requires states { fixture.now.problem.states ≡ (board_made two).states.now }
+            ensures desk { AreAtOneDesk two.entry result.1 }
+            ensures units { own_units result.1.pass ≡ own_units two.entry.pass }
+        { stands(rt, alloc, fixture, caps, two) },
+    );
+    (of_one, of_two, one.meet(two))
+}
+
+/// How many states have a cut at their spot for each of two callers who separate at once at capacities of nothing, and how many entries
+/// and cuts the board has then.
+fn counts_by_two<R: Threads + Wait + Sync>(
+    rt: &R,
+    alloc: Global,
+    fixture: &Fixture,
+) -> Option<(usize, usize, usize, u32)> {
+    let caps = caps_of(alloc, &[0, 0, 0])?;
+    let (desk, pass) = open_desk(alloc, &fixture.problem)?;
+    let caller = Caller::new(1, &desk, pass);
+    let (of_one, of_two, caller) = at_once(rt, alloc, fixture, &caps, caller);
+    let pass = caller.into_pass();
+    let board = desk.close(pass);
+    Some((of_one, of_two, board.entries().len(), board.cuts()))
+}
+
+#[test]
+fn callers_at_once_pool_each_cut_once(rt: HostRuntime) {
+    let fixture = of_triangle(rt.alloc());
+    let found = fixture.and_then(|fixture| counts_by_two(&rt, rt.alloc(), &fixture));
+    assert!(rt; found == Some((4, 4, 4, 4)));
+}
+
+/// How many states are answered while a worker is held, how many of them workers have solved, and whether one was solved meanwhile.
+fn answered_beside<R: Threads + Wait>(
+    rt: &R,
+    alloc: Global,
+    fixture: &Fixture,
+) -> Option<(usize, u64, bool)> {
+    let hold = Hold::until(1, 2);
+    let answers = at_numbers(rt, alloc, &hold, fixture, &[0, 0, 0])?;
+    Some((answers.len(), hold.solved(), hold.was_kept()))
+}
+
+#[test]
+fn a_worker_goes_on_while_another_is_held(rt: HostRuntime) {
+    let fixture = of_triangle(rt.alloc());
+    let found = fixture.and_then(|fixture| answered_beside(&rt, rt.alloc(), &fixture));
+    assert!(rt; found == Some((4, 4, true)));
+}
+
+/// Whether the lengths are shown.
+fn is_shown(hints: &HintBoard, lengths: &[u32]) -> bool {
+    (0..100)
+        .filter_map(|at| hints.get(at))
+        .any(|shown| shown.items() == lengths)
+}
+
+/// The lengths of the cut that is found of a state; empty where none is.
+fn lengths_found(answer: &StateAnswer) -> &[u32] {
+    match &answer.answer {
+        Separated::Violated(line, _) => line.lengths.items(),
+        _ => &[],
+    }
+}
+
+/// How many states have a cut of lengths of 0 and 1, which are shown, and how many one of other lengths, which aren't.
+fn count_shown(hints: &HintBoard, answers: &[StateAnswer]) -> (usize, usize) {
+    let found = || answers.iter().map(|answer| lengths_found(answer));
+    let are_ones = |lengths: &[u32]| lengths.iter().all(|l| *l <= 1);
+    let ones = found().filter(|l| l.len() > 0 && are_ones(l) && is_shown(hints, l));
+    let others = found().filter(|l| !are_ones(l) && !is_shown(hints, l));
+    (ones.count(), others.count())
+}
+
+/// Two nodes, A and B, with a link to each of three others, and a link between two of these.
+const BESIDE: [LinkRow; 7] = [
+    (0, 2, 0, &TEN),
+    (0, 3, 0, &TEN),
+    (0, 4, 0, &TEN),
+    (1, 2, 0, &TEN),
+    (1, 3, 0, &TEN),
+    (1, 4, 0, &TEN),
+    (2, 3, 0, &TEN),
+];
+
+/// Demands of A to B, and of the three others to each other: each has a distance of 2 along lengths of 1, if the last link has 2.
+const OVER_TWO: [DemandRow; 4] = [(0, 1, 12000), (2, 3, 12000), (3, 4, 12000), (2, 4, 12000)];
+
+/// These links and demands, without any hints.
+fn of_seven(alloc: Global) -> Option<Fixture> {
+    let net = network(alloc, 5, &BESIDE).ok()?;
+    fixture_of(alloc, problem(alloc, net, &OVER_TWO).ok()?)
+}
+
+/// How many of the states have a cut of shown lengths after one separation, and how many one that isn't shown.
+fn shown_at_once<R: Threads + Wait>(
+    rt: &R,
+    alloc: Global,
+    fixture: &Fixture,
+    numbers: &[u128],
+) -> Option<(usize, usize)> {
+    let answers = at_numbers(rt, alloc, &Hold::open(), fixture, numbers)?;
+    Some(count_shown(&fixture.hints, answers.items()))
+}
+
+/// What carries nothing on the triangle, and on the seven links too little along lengths of 1 and 2, though enough around any nodes.
+const NOTHING: [u128; 3] = [0, 0, 0];
+
+const TOO_LITTLE: [u128; 7] = [12000, 12000, 12000, 12000, 12000, 12000, 1000];
+
+#[test]
+fn lengths_of_0_and_1_are_shown(rt: HostRuntime) {
+    let alloc = rt.alloc();
+    let three = of_triangle(alloc).and_then(|f| shown_at_once(&rt, alloc, &f, &NOTHING));
+    assert!(rt; three == Some((4, 0)));
+    let seven = of_seven(alloc).and_then(|f| shown_at_once(&rt, alloc, &f, &TOO_LITTLE));
+    assert!(rt; seven == Some((7, 1)));
+}
+
+/// Whether the state without failures has a cut of these lengths at capacities of nothing, where a caller has separated at other
+/// numbers before, at another desk and with the same hints.
+fn has_lengths<R: Threads + Wait>(
+    rt: &R,
+    alloc: Global,
+    fixture: &Fixture,
+    before: &[u128],
+    want: &[u32],
+) -> bool {
+    let before = at_numbers(rt, alloc, &Hold::open(), fixture, before);
+    let after = at_numbers(rt, alloc, &Hold::open(), fixture, &NOTHING);
+    let (Some(_), Some(after)) = (before, after) else {
+        return false;
+    };
+    match after.items() {
+        [first, ..] => lengths_found(first) == want,
+        [] => false,
+    }
+}
+
+/// Numbers at which a caller separates first, and the lengths that another is then answered: those around A where nothing is shown,
+/// and those around C where these are shown.
+const SHOWN: [([u128; 3], [u32; 3]); 2] = [
+    ([12000, 12000, 12000], [1, 0, 1]),
+    ([12000, 0, 0], [0, 1, 1]),
+];
+
+#[test]
+fn lengths_that_are_shown_are_tried_first(rt: HostRuntime) {
+    let alloc = rt.alloc();
+    for (before, want) in &SHOWN {
+        let fixture = of_triangle(alloc);
+        assert!(rt; fixture.is_some_and(|f| has_lengths(&rt, alloc, &f, before, want)));
+    }
+}
