@@ -1,0 +1,112 @@
+use crate::runs::{comes_to, ended};
+use planner_commands::status::Status;
+use std::sync::Wait;
+use std::thread::Threads;
+
+/// Words of a plan or a session, the words that check its report, and what stands in it: the cost with the bound and the raw value, and how
+/// tight it is.
+type Accepted = (&'static str, &'static str, &'static str, &'static str);
+
+/// Plans whose reports are read again.
+const ACCEPTED: [Accepted; 10] = [
+    (
+        "plan triangle reconfigure",
+        "check triangle reconfigure default report",
+        "cost 30.000 bound 20.000 raw 18000 1 ",
+        ")\ntight 1 ( 6000 6000 6000 )\n",
+    ),
+    (
+        "plan parallel default single",
+        "check parallel default single report",
+        "cost 15.000 bound 15.000 raw 15000 1 ",
+        ")\ntight 1 ( 5000 5000 5000 )\n",
+    ),
+    (
+        "plan four default single",
+        "check four default single report",
+        "cost 16.000 bound 14.000 raw 40000 3 ",
+        ")\ntight 3 ( 10000 10000 10000 10000 )\n",
+    ),
+    (
+        "plan free reconfigure",
+        "check free reconfigure default report",
+        "cost 0.000 bound 0.000 raw 0 1 ",
+        ")\ntight ",
+    ),
+    (
+        "plan bare-link reconfigure",
+        "check bare-link reconfigure default report",
+        "cost 30.000 bound 20.000 raw 18000 1 ",
+        ")\ntight 1 ( 6000 6000 6000 0 )\n",
+    ),
+    (
+        "plan large default single",
+        "check large default single report",
+        "cost 2.000 bound 1.000 raw 150 1 ",
+        ")\ntight 1 ( 50 50 50 )\n",
+    ),
+    (
+        "plan towns reconfigure",
+        "check towns reconfigure default report",
+        "cost 500.000 bound 200.000 raw 52500000 311 ",
+        ")\ntight 311 ( ",
+    ),
+    (
+        "plan fixed plain",
+        "check fixed plain default report",
+        "cost 0.000 bound 0.000 raw 0 1 ",
+        ")\ntight 1 ( 0 0 0 )\n",
+    ),
+    (
+        "plan idle default last",
+        "check idle default last report",
+        "cost 0.000 bound 0.000 raw 0 1 ",
+        ")\ntight 1 ( 0 0 )\n",
+    ),
+    (
+        "session triangle default default set",
+        "check triangle default default report",
+        "cost 15.000 bound 15.000 raw 12000 1 ",
+        ")\ntight 1 ( 0 0 12000 )\n",
+    ),
+];
+
+/// Whether the report of a row has what it says, and is accepted.
+fn is_accepted<R: AllocGlobal + Threads + Wait + Sync>(rt: &R, row: &Accepted) -> bool {
+    let (words, check, cost, quality) = *row;
+    let Some(run) = ended(rt, words, &[], &[], &[]) else {
+        return false;
+    };
+    let report = run.text();
+    run.status == Status::Done
+        && report.contains(cost)
+        && report.contains(quality)
+        && comes_to(
+            rt,
+            check,
+            &[("report", report.as_bytes())],
+            4,
+            (Status::Done, "accepted 1\n"),
+        )
+}
+
+#[test]
+fn a_printed_report_is_accepted(rt: HostRuntime) {
+    for row in &ACCEPTED {
+        assert!(rt; is_accepted(&rt, row), "{}", row.0);
+    }
+}
+
+/// A plan whose search for a better bound ends where a number grows wide. It costs what the fallback does: a module on the first link, and
+/// one on the second for where that fails.
+const LOOSE: Accepted = (
+    "plan prime default single",
+    "check prime default single report",
+    "cost 20.016 bound ",
+    ")\nloose wide master ( ",
+);
+
+#[test]
+fn a_report_of_a_loose_plan_is_accepted(rt: HostRuntime) {
+    assert!(rt; is_accepted(&rt, &LOOSE));
+}

@@ -1,0 +1,341 @@
+use crate::plans::TRIANGLE_REPORT;
+use crate::runs::{ended, replaced};
+use planner_commands::status::Status;
+use std::sync::Wait;
+use std::test::Fail;
+use std::thread::Threads;
+
+/// A part of a report, what stands in its place, and the end of the line of a check.
+type Change = (&'static str, &'static str, &'static str);
+
+/// Changes of the notes, the journal and the pool, which are found.
+const JOURNALS: [Change; 8] = [
+    ("NOTES ( )", "NOTES ( fixed )", "notes-differ"),
+    (
+        "right 12000 ( 1",
+        "right 12001 ( 1",
+        "pool-differs 0 12001 12000",
+    ),
+    ("( 1 cut 0 )", "( 1 cut 1 )", "entry-differs 1"),
+    (
+        "( 1 cut 0 )",
+        "( 1 caller 1 drop D1 unknown-demand )",
+        "entry-differs 1",
+    ),
+    ("( 1 cut 0 )", "", "pool-count 1 0"),
+    ("( 1 1 1 )", "( 2 2 2 )", "bad-cut 0"),
+    ("( 1 1 1 )", "( 0 0 0 )", "bad-cut 0"),
+    (
+        "state 0 right 12000",
+        "state 0 right 1200",
+        "pool-differs 0 1200 12000",
+    ),
+];
+
+/// Changes of the plan and its routings, which are found.
+const PLANS: [Change; 20] = [
+    ("version 0", "version 1", "version-differs 1 0"),
+    ("12.000 )", "13.000 )", "demands-differ"),
+    ("cost 10.000", "cost 5.000", "cost-differs 5.000 10.000"),
+    (
+        "version 0 position 0",
+        "version 0 position 2",
+        "version-differs 0 0",
+    ),
+    ("D1 ( A C )", "D1 ( C A )", "demands-differ"),
+    (
+        "PLAN ( caller 1 plan 1 version 0 position 0 DEMANDS",
+        "UNSURVIVABLE ( caller 1 plan 1 version 0 position 0 state 0 none demand D1 ) PLAN ( caller 1 plan 2 version 0 position 0 DEMANDS",
+        "survivable",
+    ),
+    ("AC ( 2 )", "AC ( 3 )", "cost-differs 10.000 15.000"),
+    ("12.000 )", "2.000 )", "demands-differ"),
+    ("cost 10.000", "cost 0.000", "cost-differs 0.000 10.000"),
+    ("cost 10.000", "cost 110.000", "cost-differs 110.000 10.000"),
+    ("AB ( 0 )", "AB ( 1 )", "cost-differs 10.000 15.000"),
+    ("AC ( 2 )", "AC ( 22 )", "cost-differs 10.000 110.000"),
+    ("D1 12000 ( AC )", "D1 12000 ( AB )", "bad-path 0 0"),
+    ("AC ( 2 )", "AC ( 1 )", "overloaded 0 AC"),
+    ("D1 12000 ( AC )", "D1 12000 ( AB BC AC )", "bad-path 0 0"),
+    ("D1 12000 ( AC )", "", "not-carried 0 D1"),
+    ("D1 12000 ( AC )", "D1 11999 ( AC )", "not-carried 0 D1"),
+    (
+        "D1 12000 ( AC )",
+        "D1 6000 ( AB BC ) D1 6000 ( AC )",
+        "overloaded 0 AB",
+    ),
+    ("none 1 ( D1", "none 11 ( D1", "not-carried 0 D1"),
+    ("D1 12000 ( AC )", "D1 112000 ( AC )", "not-carried 0 D1"),
+];
+
+/// Changes of the plan's bound, of its certificate and of what shows how tight it is, which are found.
+const BOUNDS: [Change; 18] = [
+    (
+        "bound 10.000",
+        "bound 15.000",
+        "bound-differs 15.000 10.000",
+    ),
+    (
+        "1 pool 0 right 12000",
+        "1 local 0 ( 1 1 1 ) right 12000",
+        "local-cut 0",
+    ),
+    (
+        "1 pool 0 right 12000",
+        "1 pool 0 right 12001",
+        "right-differs 0 12001 12000",
+    ),
+    ("2 ( 1 pool 0", "1 ( 1 pool 0", "price-exceeded AB 0"),
+    ("2 ( 1 pool 0", "3 ( 1 pool 0", "raw-differs"),
+    ("raw 6000 1", "raw 12000 2", "raw-differs"),
+    ("tight 1 ( 0 0 6000 )", "tight 1 ( 0 0 6001 )", "not-tight"),
+    ("tight 1 ( 0 0 6000 )", "tight 2 ( 0 0 6000 )", "not-tight"),
+    ("bound 10.000", "bound 1.000", "bound-differs 1.000 10.000"),
+    ("bound 10.000", "bound 9.999", "bound-differs 9.999 10.000"),
+    ("raw 6000 1", "raw 600 1", "raw-differs"),
+    ("raw 6000 1", "raw 6000 11", "raw-differs"),
+    ("CERTIFICATE ( 2", "CERTIFICATE ( 22", "raw-differs"),
+    ("2 ( 1 pool 0", "2 ( 0 pool 0", "raw-differs"),
+    ("2 ( 1 pool 0", "2 ( 11 pool 0", "price-exceeded AB 0"),
+    (
+        "pool 0 right 12000",
+        "pool 0 right 2000",
+        "right-differs 0 2000 12000",
+    ),
+    ("tight 1 ( 0 0 6000 )", "tight 1 ( 0 0 600 )", "not-tight"),
+    ("tight 1 ( 0 0 6000 )", "tight 1 ( 0 1 6000 )", "not-tight"),
+];
+
+/// Changes of words and parentheses, after which the text is no report.
+const FORMS: [Change; 28] = [
+    ("version: 1", "version: 2", "header at 0"),
+    ("NOTES (", "NOTE (", "section at 28"),
+    ("JOURNAL (", "JOURNAL )", "section at 46"),
+    ("NOTES ( )", "NOTES ( setup fixed )", "token at 42"),
+    ("( 1 cut", "( 1 cuts", "token at 52"),
+    ("caller 1 plan", "caller 1 plans", "token at 134"),
+    ("D1 12000 ( AC )", "D1 12000 ( )", "token at 347"),
+    ("tight", "loose many tight", "token at 362"),
+    (")\n)\n)\n)\n", ")\n)\n)\n", "ended at 418"),
+    ("( 1 cut", "( 1 cu", "token at 52"),
+    ("( 0 state", "( 0 stat", "token at 73"),
+    ("PLAN (", "PLA (", "token at 118"),
+    ("caller 1", "calle 1", "token at 125"),
+    ("plan 1", "pla 1", "token at 134"),
+    ("version 0", "versio 0", "token at 141"),
+    ("position 0", "positio 0", "token at 151"),
+    ("DEMANDS", "DEMAND", "token at 162"),
+    ("cost", "cos", "token at 192"),
+    ("bound", "boun", "token at 204"),
+    ("raw", "ra", "token at 217"),
+    ("MODULES", "MODULE", "token at 228"),
+    ("CERTIFICATE", "CERTIFICAT", "token at 267"),
+    ("pool 0 right", "poo 0 right", "token at 287"),
+    ("ROUTES", "ROUTE", "token at 310"),
+    ("ROUTES ( state", "ROUTES ( stat", "token at 319"),
+    ("tight", "tigh", "token at 356"),
+    ("state 0 right", "state 0 righ", "token at 81"),
+    ("POOL (", "POO (", "section at 62"),
+];
+
+/// Changes of numbers, names and counts, after which the text is no report of the triangle.
+const VALUES: [Change; 29] = [
+    ("( 1 cut 0 )", "( 2 cut 0 )", "limit at 50"),
+    ("cut 0", "cut 4096", "limit at 56"),
+    ("( 0 state", "( 1 state", "limit at 71"),
+    (
+        "state 0 right 12000 (",
+        "state 1 right 12000 (",
+        "limit at 79",
+    ),
+    ("( 1 1 1 )", "( 1 1 )", "limit at 99"),
+    ("( 1 1 1 )", "( 1 1 1 1 )", "limit at 101"),
+    ("( 1 1 1 )", "( 1 1 4294967296 )", "limit at 99"),
+    ("caller 1 plan", "caller 9 plan", "limit at 132"),
+    ("plan 1 version", "plan 65 version", "limit at 139"),
+    ("version 0", "version 65537", "limit at 149"),
+    ("D1 ( A C )", "D1 ( A Z )", "unknown-name at 179"),
+    ("12.000 )", "12.000 D1 ( A B ) 1 )", "double-name at 190"),
+    ("12.000", "12.0001", "number-fine at 183"),
+    ("12.000", "12,000", "number-not at 183"),
+    ("12.000", "1099511627.776", "number-large at 183"),
+    ("raw 6000 1", "raw 6000 0", "limit at 226"),
+    ("raw 6000 1", "raw 06000 1", "number-not at 221"),
+    ("AB ( 0 )", "BC ( 0 )", "unknown-name at 238"),
+    ("AC ( 2 )", "AC ( )", "limit at 261"),
+    ("AC ( 2 )", "AC ( 2 2 )", "limit at 263"),
+    (
+        "AC ( 2 )\n)",
+        "AC ( 2 )\nXX ( 2 )\n)",
+        "unknown-name at 265",
+    ),
+    ("2 ( 1 pool 0", "2 ( 1 pool 1", "limit at 292"),
+    ("2 ( 1 pool 0", "0 ( 1 pool 0", "limit at 281"),
+    ("D1 12000 ( AC )", "D2 12000 ( AC )", "unknown-name at 336"),
+    ("D1 12000 ( AC )", "D1 0 ( AC )", "limit at 339"),
+    ("state 0 none", "state 0 AB", "unknown-name at 327"),
+    ("tight 1", "tight 0", "limit at 362"),
+    ("none 1", "non 1", "unknown-name at 327"),
+    ("MODULES ( AB", "MODULES ( A", "unknown-name at 238"),
+];
+
+/// Changes of the spelling, and of the caller and the number of its plan, which are free.
+const SPELLINGS: [Change; 5] = [
+    ("NOTES ( )", "NOTES  (\t)", ""),
+    ("NOTES ( )", "# a note\nNOTES()", ""),
+    ("12.000 )", "0012.00000 )", ""),
+    ("cost 10.000", "cost 10", ""),
+    ("caller 1 plan 1", "caller 8 plan 64", ""),
+];
+
+/// The words of a check of the triangle's report, and how many files they fetch.
+const TRIANGLE: (&str, u32) = ("check triangle default default report", 2);
+
+/// Whether a check of a report after a change, whose words fetch so many files, ends with this status and a line that begins so.
+fn says<R: AllocGlobal + Threads + Wait + Sync>(
+    rt: &R,
+    check: (&str, u32),
+    report: &str,
+    change: &Change,
+    line: (&str, Status),
+) -> bool {
+    let (part, by, end) = *change;
+    let Some(text) = replaced(rt.alloc(), report, part, by) else {
+        return false;
+    };
+    let Some(run) = ended(rt, check.0, &[("report", text.items())], &[check.1], &[]) else {
+        return false;
+    };
+    let Some(rest) = run.text().strip_prefix(line.0) else {
+        return false;
+    };
+    rest.strip_suffix("\n") == Some(end) && run.status == line.1 && run.faults == (0, 0)
+}
+
+#[test]
+fn a_damaged_report_is_found_out(rt: HostRuntime) {
+    let whole = ("rejected ", Status::Rejected);
+    for change in &JOURNALS {
+        assert!(rt;
+            says(&rt, TRIANGLE, TRIANGLE_REPORT, change, whole),
+            "{}",
+            change.1
+        );
+    }
+    let first = ("rejected outcome 1 ", Status::Rejected);
+    for changes in [&PLANS[..], &BOUNDS[..]] {
+        for change in changes {
+            assert!(rt;
+                says(&rt, TRIANGLE, TRIANGLE_REPORT, change, first),
+                "{}",
+                change.1
+            );
+        }
+    }
+}
+
+#[test]
+fn a_text_that_is_no_report_is_refused_at_its_first_fault(rt: HostRuntime) {
+    let refused = ("refused report ", Status::BadReport);
+    for changes in [&FORMS[..], &VALUES[..]] {
+        for change in changes {
+            assert!(rt;
+                says(&rt, TRIANGLE, TRIANGLE_REPORT, change, refused),
+                "{}",
+                change.1
+            );
+        }
+    }
+}
+
+#[test]
+fn a_report_is_accepted_however_it_is_spelled(rt: HostRuntime) {
+    for change in &SPELLINGS {
+        assert!(rt;
+            says(
+                &rt,
+                TRIANGLE,
+                TRIANGLE_REPORT,
+                change,
+                ("accepted 1", Status::Done)
+            ),
+            "{}",
+            change.1
+        );
+    }
+}
+
+/// A report of the triangle with every single-link failure.
+const RECONFIGURED: &str = "?planner report; version: 1
+NOTES ( ) JOURNAL ( ( 1 cut 0 ) ( 2 cut 1 ) ( 3 cut 2 ) ( 4 cut 3 ) )
+POOL ( ( 0 state 0 right 12000 ( 1 1 1 ) ) ( 1 state 1 right 12000 ( 0 1 1 ) ) ( 2 state 2 right 12000 ( 1 0 1 ) ) ( 3 state 3 right 24000 ( 1 1 0 ) ) )
+OUTCOMES ( PLAN ( caller 1 plan 1 version 0 position 0 DEMANDS ( D1 ( A C ) 12.000 ) cost 30.000 bound 15.000 raw 12000 1
+MODULES ( AB ( 2 ) BC ( 2 ) AC ( 2 ) ) CERTIFICATE ( 2 ( 1 pool 3 right 24000 ) )
+ROUTES ( state 0 none 1 ( D1 12000 ( AC ) ) state 1 AB 1 ( D1 12000 ( AC ) ) state 2 BC 1 ( D1 12000 ( AC ) ) state 3 AC 1 ( D1 12000 ( AB BC ) ) )
+loose cuts ) )
+";
+
+/// Changes of its bound and its certificate, which are found.
+const CERTIFICATES: [Change; 3] = [
+    (
+        "pool 3 right 24000",
+        "pool 3 right 24001",
+        "right-differs 0 24001 24000",
+    ),
+    ("CERTIFICATE ( 2", "CERTIFICATE ( 1", "price-exceeded AB 0"),
+    (
+        "bound 15.000",
+        "bound 20.000",
+        "bound-differs 20.000 15.000",
+    ),
+];
+
+#[test]
+fn a_check_tells_the_first_finding(rt: HostRuntime) {
+    let check = ("check triangle reconfigure default report", 3);
+    let accepted = ("accepted ", Status::Done);
+    assert!(rt; says(&rt, check, RECONFIGURED, &("", "", "1"), accepted));
+    for change in &CERTIFICATES {
+        let rejected = ("rejected outcome 1 ", Status::Rejected);
+        assert!(rt;
+            says(&rt, check, RECONFIGURED, change, rejected),
+            "{}",
+            change.1
+        );
+    }
+}
+
+/// The certificate of three parallel links with every single-link failure.
+const PARALLEL_CERTIFICATE: &str = "CERTIFICATE ( 2 ( 1 pool 2 right 10000 )
+( 1 pool 3 right 10000 )
+( 1 pool 1 right 10000 )
+";
+
+/// Other certificates in its place, which are found.
+const OTHER_CERTIFICATES: [Change; 2] = [
+    (
+        PARALLEL_CERTIFICATE,
+        "CERTIFICATE ( 6 ( 3 pool 2 right 10000 ) ( 3 pool 3 right 10000 ) ( 4 pool 1 right 10000 ) ",
+        "price-exceeded L2 0",
+    ),
+    (
+        PARALLEL_CERTIFICATE,
+        "CERTIFICATE ( 2 ( 1 pool 2 right 10001 ) ( 1 pool 3 right 10000 ) ( 1 pool 1 right 10000 ) ",
+        "right-differs 0 10001 10000",
+    ),
+];
+
+#[test]
+fn a_damaged_certificate_is_rejected(rt: HostRuntime) -> Result<(), Fail> {
+    let plan = ended(&rt, "plan parallel default single", &[], &[], &[]).ok_or("no run")?;
+    let check = ("check parallel default single report", 3);
+    let rejected = ("rejected outcome 1 ", Status::Rejected);
+    for change in &OTHER_CERTIFICATES {
+        assert!(rt;
+            says(&rt, check, plan.text(), change, rejected),
+            "{}",
+            change.2
+        );
+    }
+    Ok(())
+}

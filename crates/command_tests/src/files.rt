@@ -1,0 +1,230 @@
+use net_core::{List, Name};
+use outside_io::MemFile;
+use std::alloc::Global;
+
+pub(crate) const TRIANGLE: &[u8] = b"?SNDlib native format; type: network; version: 1.0
+NODES ( A B C )
+LINKS (
+  AB ( A B ) 0 0 0 0 ( 10.00 5.00 )
+  BC ( B C ) 0 0 0 0 ( 10.00 5.00 )
+  AC ( A C ) 0 0 0 0 ( 10.00 5.00 )
+)
+DEMANDS (
+  D1 ( A C ) 1 12.00 UNLIMITED
+)
+";
+
+const FIXED_TRIANGLE: &[u8] = b"?SNDlib native format; type: network; version: 1.0
+NODES ( A B C )
+LINKS ( AB ( A B ) 20.00 0 0 0 ( 10.00 5.00 ) BC ( B C ) 20.00 0 0 0 ( 10.00 5.00 ) AC ( A C ) 20.00 0 0 0 ( 10.00 5.00 ) )
+DEMANDS ( D1 ( A C ) 1 12.00 UNLIMITED )
+";
+
+const PARALLEL: &[u8] = b"?SNDlib native format; type: network; version: 1.0
+NODES ( A B )
+LINKS ( L1 ( A B ) 0 0 0 0 ( 1.00 1.00 ) L2 ( A B ) 0 0 0 0 ( 1.00 1.00 ) L3 ( A B ) 0 0 0 0 ( 1.00 1.00 ) )
+DEMANDS ( D1 ( A B ) 1 10.00 UNLIMITED )
+";
+
+const FOUR_PARALLEL: &[u8] = b"?SNDlib native format; type: network; version: 1.0
+NODES ( A B )
+LINKS ( L1 ( A B ) 0 0 0 0 ( 1.00 1.00 ) L2 ( A B ) 0 0 0 0 ( 1.00 1.00 ) L3 ( A B ) 0 0 0 0 ( 1.00 1.00 ) L4 ( A B ) 0 0 0 0 ( 1.00 1.00 ) )
+DEMANDS ( D1 ( A B ) 1 10.00 UNLIMITED )
+";
+
+/// The triangle with modules that cost nothing.
+const FREE_TRIANGLE: &[u8] = b"?SNDlib native format; type: network; version: 1.0
+NODES ( A B C )
+LINKS ( AB ( A B ) 0 0 0 0 ( 10.00 0.00 ) BC ( B C ) 0 0 0 0 ( 10.00 0.00 ) AC ( A C ) 0 0 0 0 ( 10.00 0.00 ) )
+DEMANDS ( D1 ( A C ) 1 12.00 UNLIMITED )
+";
+
+/// The triangle with a further link that has no module.
+const TRIANGLE_AND_A_BARE_LINK: &[u8] = b"?SNDlib native format; type: network; version: 1.0
+NODES ( A B C )
+LINKS ( AB ( A B ) 0 0 0 0 ( 10.00 5.00 ) BC ( B C ) 0 0 0 0 ( 10.00 5.00 ) AC ( A C ) 0 0 0 0 ( 10.00 5.00 ) XX ( A C ) 0 0 0 0 ( ) )
+DEMANDS ( D1 ( A C ) 1 12.00 UNLIMITED )
+";
+
+/// Links of which two carry all, whichever fails, though a share is spread over three.
+const LARGE_MODULES: &[u8] = b"?SNDlib native format; type: network; version: 1.0
+NODES ( A B )
+LINKS ( L1 ( A B ) 0 0 0 0 ( 100.00 1.00 ) L2 ( A B ) 0 0 0 0 ( 100.00 1.00 ) L3 ( A B ) 0 0 0 0 ( 100.00 1.00 ) )
+DEMANDS ( D1 ( A B ) 1 10.00 UNLIMITED )
+";
+
+/// Links whose capacities have no common divisor, so that the whole numbers of a program grow wide.
+const PRIME_MODULES: &[u8] = b"?SNDlib native format; type: network; version: 1.0
+NODES ( A B )
+LINKS ( L1 ( A B ) 0 0 0 0 ( 1073741.827 10.007 ) L2 ( A B ) 0 0 0 0 ( 1073741.831 10.009 ) L3 ( A B ) 0 0 0 0 ( 1073741.833 10.037 ) )
+DEMANDS ( D1 ( A B ) 1 10.00 UNLIMITED )
+";
+
+const CHAIN: &[u8] = b"?SNDlib native format; type: network; version: 1.0
+NODES ( A B C )
+LINKS ( AB ( A B ) 0 0 0 0 ( 10.00 5.00 ) BC ( B C ) 0 0 0 0 ( 10.00 5.00 ) )
+DEMANDS ( D1 ( A C ) 1 12.00 UNLIMITED )
+";
+
+const IDLE_CHAIN: &[u8] = b"?SNDlib native format; type: network; version: 1.0
+NODES ( A B C )
+LINKS ( AB ( A B ) 0 0 0 0 ( 10.00 5.00 ) BC ( B C ) 0 0 0 0 ( 10.00 5.00 ) )
+DEMANDS ( D1 ( A C ) 1 0.00 UNLIMITED )
+";
+
+const NO_MODULE: &[u8] = b"?SNDlib native format; type: network; version: 1.0
+NODES ( A B )
+LINKS ( L ( A B ) 0 0 0 0 ( ) )
+DEMANDS ( D1 ( A B ) 1 1.00 UNLIMITED )
+";
+
+const FIXED_LINK: &[u8] = b"?SNDlib native format; type: network; version: 1.0
+NODES ( A B )
+LINKS ( L ( A B ) 5 0 0 0 ( ) )
+DEMANDS ( )
+";
+
+const CUT_OFF: &[u8] = b"?SNDlib native format; type: network; version: 1.0
+NODES ( A B )
+LINKS ( L ( A";
+
+/// A file as users have it: comments, a section of notes, coordinates, two kinds of modules, and admissible paths.
+const FOUR_TOWNS: &[u8] = b"?SNDlib native format; type: network; version: 1.0
+# network small4
+
+META (
+  granularity = instance
+)
+
+# NODE SECTION
+# <node_id> [(<longitude>, <latitude>)]
+NODES (
+  Bonn ( 7.10 50.73 )
+  Kiel ( 10.13 54.32 )
+  Ulm ( 9.99, 48.40 )
+  Jena
+)
+
+# LINK SECTION
+LINKS (
+  L1 ( Bonn Kiel ) 0.00 0.00 0.00 0.00 ( 155.00 100.00 622.00 250.00 )
+  L2 ( Kiel Jena ) 0.00 0.00 0.00 0.00 ( 155.00 100.00 622.00 250.00 )
+  L3 ( Jena Ulm ) 0.00 0.00 0.00 0.00 ( 155.00 100.00 622.00 250.00 )
+  L4 ( Ulm Bonn ) 0.00 0.00 0.00 0.00 ( 155.00 100.00 622.00 250.00 )
+  L5 ( Bonn Jena ) 0.00 0.00 0.00 0.00 ( 155.00 100.00 622.00 250.00 )
+)
+
+# DEMAND SECTION
+DEMANDS (
+  D1 ( Bonn Kiel ) 1 60.00 UNLIMITED
+  D2 ( Bonn Jena ) 1 80.00 UNLIMITED
+  D3 ( Kiel Ulm ) 1 40.00 UNLIMITED
+)
+
+ADMISSIBLE_PATHS (
+  D1 ( P1 ( L1 ) P2 ( L5 L2 ) )
+)
+";
+
+const RECONFIGURE: &[u8] = b"?SNDlib native format; type: model; version: 1.0
+DEMAND_MODEL = UNDIRECTED
+LINK_MODEL = UNDIRECTED
+LINK_CAPACITY_MODEL = MODULAR_CAPACITIES
+FIXED_CHARGE_MODEL = NO
+ROUTING_MODEL = CONTINUOUS
+ADMISSIBLE_PATH_MODEL = ALL_PATHS
+HOP_LIMIT_MODEL = NO
+SURVIVABILITY_MODEL = UNRESTRICTED_FLOW_RECONFIGURATION
+";
+
+const NO_SURVIVABILITY: &[u8] = b"?SNDlib native format; type: model; version: 1.0
+DEMAND_MODEL = UNDIRECTED
+LINK_MODEL = UNDIRECTED
+LINK_CAPACITY_MODEL = MODULAR_CAPACITIES
+FIXED_CHARGE_MODEL = NO
+ROUTING_MODEL = CONTINUOUS
+ADMISSIBLE_PATH_MODEL = ALL_PATHS
+HOP_LIMIT_MODEL = NO
+SURVIVABILITY_MODEL = NO_SURVIVABILITY
+";
+
+const HOP_LIMITS: &[u8] = b"?SNDlib native format; type: model; version: 1.0
+HOP_LIMIT_MODEL = INDIVIDUAL
+";
+
+const SINGLE: &[u8] = b"?planner failures; version: 1
+ALL_SINGLE_LINKS
+";
+
+const LAST_FAILS: &[u8] = b"?planner failures; version: 1
+FAILURES ( f ( BC ) )
+";
+
+/// The triangle without demands.
+const NO_DEMANDS: &[u8] = b"?SNDlib native format; type: network; version: 1.0
+NODES ( A B C )
+LINKS ( AB ( A B ) 0 0 0 0 ( 10.00 5.00 ) BC ( B C ) 0 0 0 0 ( 10.00 5.00 ) AC ( A C ) 0 0 0 0 ( 10.00 5.00 ) )
+DEMANDS ( )
+";
+
+const SET_AND_PLAN: &[u8] = b"?planner script; version: 1
+caller 1 set D1 24
+caller 1 plan
+caller 1 add D2 ( A X ) 1
+";
+
+const NO_COMMANDS: &[u8] = b"?planner script; version: 1
+";
+
+const NINTH_CALLER: &[u8] = b"?planner script; version: 1
+caller 9 plan
+";
+
+/// The name and the bytes of a file.
+pub(crate) type File<'a> = (&'a str, &'a [u8]);
+
+/// The files that the commands name.
+const FILES: [File<'static>; 23] = [
+    ("triangle", TRIANGLE),
+    ("empty", NO_DEMANDS),
+    ("set", SET_AND_PLAN),
+    ("idle-script", NO_COMMANDS),
+    ("ninth", NINTH_CALLER),
+    ("fixed", FIXED_TRIANGLE),
+    ("parallel", PARALLEL),
+    ("four", FOUR_PARALLEL),
+    ("free", FREE_TRIANGLE),
+    ("bare-link", TRIANGLE_AND_A_BARE_LINK),
+    ("large", LARGE_MODULES),
+    ("prime", PRIME_MODULES),
+    ("chain", CHAIN),
+    ("idle", IDLE_CHAIN),
+    ("bare", NO_MODULE),
+    ("stuck", FIXED_LINK),
+    ("cut", CUT_OFF),
+    ("towns", FOUR_TOWNS),
+    ("reconfigure", RECONFIGURE),
+    ("plain", NO_SURVIVABILITY),
+    ("hops", HOP_LIMITS),
+    ("single", SINGLE),
+    ("last", LAST_FAILS),
+];
+
+/// Puts a file last.
+fn put(held: &mut List<MemFile>, alloc: Global, file: File) -> Option<()> {
+    let name = Name::new(alloc, file.0.as_bytes()).ok()?;
+    let bytes = List::from_slice(alloc, file.1).ok()?;
+    held.push(MemFile { name, bytes }).ok()
+}
+
+/// All files, and these.
+pub(crate) fn all_files(alloc: Global, more: &[File]) -> Option<List<MemFile>> {
+    let mut held = List::new(alloc);
+    for file in &FILES {
+        put(&mut held, alloc, *file)?;
+    }
+    for file in more {
+        put(&mut held, alloc, *file)?;
+    }
+    Some(held)
+}

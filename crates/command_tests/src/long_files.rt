@@ -1,0 +1,108 @@
+use crate::files::TRIANGLE;
+use crate::plans::TRIANGLE_REPORT;
+use crate::runs::{comes_to, ended};
+use net_core::{Bytes, List};
+use planner_commands::status::Status;
+use std::alloc::Global;
+use std::sync::Wait;
+use std::thread::Threads;
+
+/// What the network of the long names begins with, what comes after each name, and what it ends with.
+const NETWORK: (&[u8], &[u8], &[u8]) = (
+    b"?SNDlib native format; type: network; version: 1.0
+NODES ( A B )
+LINKS ( ",
+    b" ( A B ) 0 0 0 0 ( 1.00 1.00 )\n",
+    b")\nDEMANDS ( )\n",
+);
+
+/// The same of the report of its plan.
+const REPORT: (&[u8], &[u8], &[u8]) = (
+    b"?planner report; version: 1
+NOTES ( )
+JOURNAL ( ( 1 cut 0 )
+)
+POOL ( ( 0 state 0 right 0 ( 1 1 1 1 1 1 1 1 1 1 1 1 1 1 1 1 1 1 1 1 )
+)
+)
+OUTCOMES ( PLAN ( caller 1 plan 1 version 0 position 0 DEMANDS ( )
+cost 0.000 bound 0.000 raw 0 1 MODULES ( ",
+    b" ( 0 )\n",
+    b")
+CERTIFICATE ( 1 )
+ROUTES ( state 0 none 1 ( )
+)
+tight 1 ( 0 0 0 0 0 0 0 0 0 0 0 0 0 0 0 0 0 0 0 0 )
+( state 0 none 1 ( )
+)
+)
+)
+",
+);
+
+/// A text with the names of 20 links, of which each is one letter, 250 times.
+fn with_long_names(alloc: Global, parts: (&[u8], &[u8], &[u8])) -> Option<Bytes> {
+    let (front, after, end) = parts;
+    let mut text = List::from_slice(alloc, front).ok()?;
+    for n in 0..20u8 {
+        let name = List::filled(alloc, b'a' + n, 250).ok()?;
+        text.append(name.items()).ok()?;
+        text.append(after).ok()?;
+    }
+    text.append(end).ok()?;
+    Some(text)
+}
+
+/// How a plan of the network of the long names ends where the puts of these numbers fail: whether so, with the first so many bytes of
+/// the report written, which has 5514.
+fn long_plan_ends<R: AllocGlobal + Threads + Wait + Sync>(
+    rt: &R,
+    puts: &[u32],
+    status: Status,
+    taken: usize,
+) -> Option<bool> {
+    let net = with_long_names(rt.alloc(), NETWORK)?;
+    let report = with_long_names(rt.alloc(), REPORT)?;
+    let run = ended(rt, "plan long", &[("long", net.items())], &[], puts)?;
+    let text = report.items().get(..taken)?;
+    let faults = (0, puts.len() as u64);
+    Some(report.len() == 5514 && run.is(status, text, faults))
+}
+
+#[test]
+fn a_long_text_is_put_in_pieces(rt: HostRuntime) {
+    assert!(rt; long_plan_ends(&rt, &[], Status::Done, 5514) == Some(true));
+    let half = 4096 + (5514 - 4096) / 2;
+    assert!(rt; long_plan_ends(&rt, &[1], Status::WriteFault, half) == Some(true));
+}
+
+/// The triangle's network file with spaces after it, so that it has so many bytes.
+fn padded_triangle(alloc: Global, len: usize) -> Option<Bytes> {
+    let mut text = List::from_slice(alloc, TRIANGLE).ok()?;
+    let spaces = len.saturating_sub(text.len());
+    text.append(List::filled(alloc, b' ', spaces).ok()?.items())
+        .ok()?;
+    Some(text)
+}
+
+/// Whether a plan of the triangle in a file of so many bytes comes to this.
+fn padded_comes_to<R: AllocGlobal + Threads + Wait + Sync>(
+    rt: &R,
+    len: usize,
+    answer: (Status, &str),
+) -> bool {
+    match padded_triangle(rt.alloc(), len) {
+        Some(text) => comes_to(rt, "plan long", &[("long", text.items())], 1, answer),
+        None => false,
+    }
+}
+
+#[test]
+fn the_longest_file_is_read(rt: HostRuntime) {
+    assert!(rt; padded_comes_to(&rt, 16777216, (Status::Done, TRIANGLE_REPORT)));
+}
+
+#[test]
+fn a_file_above_its_limit_is_too_long(rt: HostRuntime) {
+    assert!(rt; padded_comes_to(&rt, 16777217, (Status::TooLong, "too long long\n")));
+}

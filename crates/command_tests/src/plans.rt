@@ -1,0 +1,287 @@
+use crate::runs::{comes_to, ended};
+use planner_commands::status::Status;
+use std::sync::Wait;
+use std::thread::Threads;
+
+const USAGE: &str =
+    "usage: plan NET [MODEL [FAILURES]] | session NET MODEL FAILURES SCRIPT | check NET MODEL FAILURES REPORT | sample SEED N\n";
+
+/// Words, how many files they fetch, and the status and the text that they come to.
+type Row = (&'static str, u32, Status, &'static str);
+
+/// The report of the triangle without demands.
+const EMPTY_REPORT: &str = "?planner report; version: 1
+NOTES ( )
+JOURNAL ( ( 1 cut 0 )
+)
+POOL ( ( 0 state 0 right 0 ( 1 1 1 )
+)
+)
+OUTCOMES ( PLAN ( caller 1 plan 1 version 0 position 0 DEMANDS ( )
+cost 0.000 bound 0.000 raw 0 1 MODULES ( AB ( 0 )
+BC ( 0 )
+AC ( 0 )
+)
+CERTIFICATE ( 1 )
+ROUTES ( state 0 none 1 ( )
+)
+tight 1 ( 0 0 0 )
+( state 0 none 1 ( )
+)
+)
+)
+";
+
+/// The report of the triangle without failures.
+pub(crate) const TRIANGLE_REPORT: &str = "?planner report; version: 1
+NOTES ( )
+JOURNAL ( ( 1 cut 0 )
+)
+POOL ( ( 0 state 0 right 12000 ( 1 1 1 )
+)
+)
+OUTCOMES ( PLAN ( caller 1 plan 1 version 0 position 0 DEMANDS ( D1 ( A C )
+12.000 )
+cost 10.000 bound 10.000 raw 6000 1 MODULES ( AB ( 0 )
+BC ( 0 )
+AC ( 2 )
+)
+CERTIFICATE ( 2 ( 1 pool 0 right 12000 )
+)
+ROUTES ( state 0 none 1 ( D1 12000 ( AC )
+)
+)
+tight 1 ( 0 0 6000 )
+( state 0 none 1 ( D1 12000 ( AC )
+)
+)
+)
+)
+";
+
+/// The report of a session in which D1 is raised to 24 before the plan.
+const SESSION_REPORT: &str = "?planner report; version: 1
+NOTES ( )
+JOURNAL ( ( 1 caller 1 set D1 24.000 accepted 1 )
+( 2 cut 0 )
+( 3 caller 1 add D2 ( A X )
+1.000 unknown-node )
+)
+POOL ( ( 0 state 0 right 24000 ( 1 1 1 )
+)
+)
+OUTCOMES ( PLAN ( caller 1 plan 1 version 1 position 1 DEMANDS ( D1 ( A C )
+24.000 )
+cost 15.000 bound 15.000 raw 12000 1 MODULES ( AB ( 0 )
+BC ( 0 )
+AC ( 3 )
+)
+CERTIFICATE ( 2 ( 1 pool 0 right 24000 )
+)
+ROUTES ( state 0 none 1 ( D1 24000 ( AC )
+)
+)
+tight 1 ( 0 0 12000 )
+( state 0 none 1 ( D1 24000 ( AC )
+)
+)
+)
+)
+";
+
+/// Networks with and without a plan, and scripts.
+const PLANS: [Row; 8] = [
+    ("plan triangle", 1, Status::Done, TRIANGLE_REPORT),
+    ("plan triangle default", 1, Status::Done, TRIANGLE_REPORT),
+    ("plan empty", 1, Status::Done, EMPTY_REPORT),
+    (
+        "plan chain reconfigure last",
+        3,
+        Status::NotSurvivable,
+        "not survivable: state 1 f demand D1\n",
+    ),
+    (
+        "plan bare",
+        1,
+        Status::NotSurvivable,
+        "not survivable: state 0 none demand D1\n",
+    ),
+    (
+        "session triangle default default set",
+        2,
+        Status::Done,
+        SESSION_REPORT,
+    ),
+    (
+        "session triangle reconfigure single idle-script",
+        4,
+        Status::Done,
+        "?planner report; version: 1\nNOTES ( )\nJOURNAL ( )\nPOOL ( )\nOUTCOMES ( )\n",
+    ),
+    (
+        "session triangle plain default ninth",
+        3,
+        Status::BadScript,
+        "refused script caller at 35\n",
+    ),
+];
+
+/// Files that are refused or missing, and words outside the grammar.
+const REFUSALS: [Row; 24] = [
+    (
+        "plan stuck",
+        1,
+        Status::BadNetwork,
+        "refused network fixed-link at 93\n",
+    ),
+    (
+        "plan stuck reconfigure single",
+        1,
+        Status::BadNetwork,
+        "refused network fixed-link at 93\n",
+    ),
+    (
+        "plan cut",
+        1,
+        Status::BadNetwork,
+        "refused network ended at 78\n",
+    ),
+    (
+        "plan hops",
+        1,
+        Status::BadNetwork,
+        "refused network header at 0\n",
+    ),
+    (
+        "plan chain hops",
+        2,
+        Status::BadModel,
+        "refused model unsupported-HOP_LIMIT_MODEL at 67\n",
+    ),
+    (
+        "plan chain chain",
+        2,
+        Status::BadModel,
+        "refused model header at 0\n",
+    ),
+    (
+        "plan triangle plain last",
+        2,
+        Status::BadFailures,
+        "refused failures unused at 0\n",
+    ),
+    (
+        "plan triangle plain nowhere",
+        2,
+        Status::BadFailures,
+        "refused failures unused at 0\n",
+    ),
+    (
+        "plan parallel default last",
+        2,
+        Status::BadFailures,
+        "refused failures unknown-link at 45\n",
+    ),
+    ("plan X", 1, Status::NoFile, "no file X\n"),
+    ("plan triangle X last", 2, Status::NoFile, "no file X\n"),
+    ("plan triangle default X", 2, Status::NoFile, "no file X\n"),
+    (
+        "check triangle default default set",
+        2,
+        Status::BadReport,
+        "refused report header at 0\n",
+    ),
+    (
+        "session triangle default default X",
+        2,
+        Status::NoFile,
+        "no file X\n",
+    ),
+    ("check triangle default set", 0, Status::BadWords, USAGE),
+    ("sample 7", 0, Status::BadWords, USAGE),
+    ("sample 7 3", 0, Status::BadWords, USAGE),
+    ("sample 7 41", 0, Status::BadWords, USAGE),
+    ("sample +7 8", 0, Status::BadWords, USAGE),
+    ("sample 18446744073709551616 8", 0, Status::BadWords, USAGE),
+    ("plan", 0, Status::BadWords, USAGE),
+    ("plan triangle -reconfigure", 0, Status::BadWords, USAGE),
+    (
+        "plan triangle default default default",
+        0,
+        Status::BadWords,
+        USAGE,
+    ),
+    ("plans triangle", 0, Status::BadWords, USAGE),
+];
+
+#[test]
+fn plans_are_written(rt: HostRuntime) {
+    for (words, fetched, status, text) in &PLANS {
+        assert!(rt;
+            comes_to(&rt, words, &[], *fetched, (*status, text)),
+            "{words}"
+        );
+    }
+}
+
+#[test]
+fn refusals_are_written_and_no_further_file_is_fetched(rt: HostRuntime) {
+    for (words, fetched, status, text) in &REFUSALS {
+        assert!(rt;
+            comes_to(&rt, words, &[], *fetched, (*status, text)),
+            "{words}"
+        );
+    }
+}
+
+/// The first half of the triangle's report, 210 of its 420 bytes.
+const HALF_OF_THE_REPORT: &str = "?planner report; version: 1
+NOTES ( )
+JOURNAL ( ( 1 cut 0 )
+)
+POOL ( ( 0 state 0 right 12000 ( 1 1 1 )
+)
+)
+OUTCOMES ( PLAN ( caller 1 plan 1 version 0 position 0 DEMANDS ( D1 ( A C )
+12.000 )
+cost 10.000 bound ";
+
+/// Words, the number of a fetch and of a put that fail, and the status, the text and the counts of faults after it.
+type Faulty = (&'static str, u32, u32, Status, &'static str, (u64, u64));
+
+/// Runs of which one fetch or one put fails.
+const FAULTY: [Faulty; 3] = [
+    ("plan triangle", 0, 0, Status::ReadFault, "", (1, 0)),
+    (
+        "plan triangle reconfigure single",
+        2,
+        0,
+        Status::ReadFault,
+        "",
+        (1, 0),
+    ),
+    (
+        "plan triangle",
+        1,
+        0,
+        Status::WriteFault,
+        HALF_OF_THE_REPORT,
+        (0, 1),
+    ),
+];
+
+/// Whether a run ends as its row says.
+fn ends_so<R: AllocGlobal + Threads + Wait + Sync>(rt: &R, row: &Faulty) -> bool {
+    let (words, fetch, put, status, text, faults) = *row;
+    match ended(rt, words, &[], &[fetch], &[put]) {
+        Some(run) => run.is(status, text.as_bytes(), faults),
+        None => false,
+    }
+}
+
+#[test]
+fn faults_end_a_run(rt: HostRuntime) {
+    for row in &FAULTY {
+        assert!(rt; ends_so(&rt, row), "{}", row.0);
+    }
+}

@@ -1,0 +1,89 @@
+use crate::files::{File, all_files};
+use net_core::{Bytes, List};
+use outside_io::{MemShelf, MemSink, OpenGate, Shelf, Sink, have_different_names};
+use planner_commands::run::run;
+use planner_commands::status::Status;
+use std::alloc::Global;
+use std::sync::Wait;
+use std::thread::Threads;
+
+/// How a run ended, what it wrote, and how often the shelf and the sink failed.
+#[derive(Drop)]
+pub(crate) struct Ended {
+    pub(crate) status: Status,
+    pub(crate) out: MemSink,
+    pub(crate) faults: (u64, u64),
+}
+
+impl Ended {
+    /// Whether the run ended so.
+    pub(crate) fn is(&self, status: Status, text: &[u8], faults: (u64, u64)) -> bool {
+        self.status == status && self.out.bytes() == text && self.faults == faults
+    }
+
+    /// What it wrote, and nothing where that isn't text.
+    pub(crate) fn text(&self) -> &str {
+        str::from_utf8(self.out.bytes()).unwrap_or("")
+    }
+}
+
+/// The words of a command.
+fn words_of(alloc: Global, words: &str) -> Option<Vec<String>> {
+    let mut list = Vec::new(alloc);
+    for word in words.split(' ') {
+        list.push(word.to_string(alloc).ok()?).ok()?;
+    }
+    Some(list)
+}
+
+/// A shelf of all files and these, of which the fetches of these numbers fail, counted from 0.
+fn shelf_of(alloc: Global, more: &[File], fetches: &[u32]) -> Option<MemShelf> {
+    let files = all_files(alloc, more)?;
+    let failing = List::from_slice(alloc, fetches).ok()?;
+    have_different_names(files.items()).then(|| MemShelf::new(files, failing))
+}
+
+/// Runs these words over all files and these, where the fetches and puts of these numbers fail, counted from 0.
+pub(crate) fn ended<R: AllocGlobal + Threads + Wait + Sync>(
+    rt: &R,
+    words: &str,
+    more: &[File],
+    fetches: &[u32],
+    puts: &[u32],
+) -> Option<Ended> {
+    let alloc = rt.alloc();
+    let list = words_of(alloc, words)?;
+    let mut shelf = shelf_of(alloc, more, fetches)?;
+    let mut out = MemSink::new(alloc, 4000000, List::from_slice(alloc, puts).ok()?).ok()?;
+    let status = run(rt, alloc, &list, &mut shelf, &mut out, &OpenGate);
+    let faults = (shelf.faults(), out.faults());
+    Some(Ended {
+        status,
+        out,
+        faults,
+    })
+}
+
+/// Whether these words, which fetch at most so many files, come to this status and this text. A further fetch would fail.
+pub(crate) fn comes_to<R: AllocGlobal + Threads + Wait + Sync>(
+    rt: &R,
+    words: &str,
+    more: &[File],
+    fetched: u32,
+    answer: (Status, &str),
+) -> bool {
+    let (status, text) = answer;
+    match ended(rt, words, more, &[fetched], &[]) {
+        Some(run) => run.is(status, text.as_bytes(), (0, 0)),
+        None => false,
+    }
+}
+
+/// The text with one part in place of another, from where that stands first.
+pub(crate) fn replaced(alloc: Global, text: &str, part: &str, by: &str) -> Option<Bytes> {
+    let (front, rest) = text.split_once(part)?;
+    let mut changed = List::from_slice(alloc, front.as_bytes()).ok()?;
+    changed.append(by.as_bytes()).ok()?;
+    changed.append(rest.as_bytes()).ok()?;
+    Some(changed)
+}
