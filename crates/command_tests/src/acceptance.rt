@@ -1,4 +1,4 @@
-use crate::runs::{comes_to, ended};
+use crate::runs::{comes_to, run_words};
 use planner_commands::status::Status;
 use std::sync::Wait;
 use std::thread::Threads;
@@ -74,7 +74,7 @@ const ACCEPTED: [Accepted; 10] = [
 /// Whether the report of a row has what it says, and is accepted.
 fn is_accepted<R: AllocGlobal + Threads + Wait + Sync>(rt: &R, row: &Accepted) -> bool {
     let (words, check, cost, quality) = *row;
-    let Some(run) = ended(rt, words, &[], &[], &[]) else {
+    let Some(run) = run_words(rt, words, &[], &[], &[]) else {
         return false;
     };
     let report = run.text();

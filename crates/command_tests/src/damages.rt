@@ -1,5 +1,5 @@
 use crate::plans::TRIANGLE_REPORT;
-use crate::runs::{ended, replaced};
+use crate::runs::{replaced, run_words};
 use planner_commands::status::Status;
 use std::sync::Wait;
 use std::test::Fail;
@@ -203,7 +203,7 @@ fn says<R: AllocGlobal + Threads + Wait + Sync>(
     let Some(text) = replaced(rt.alloc(), report, part, by) else {
         return false;
     };
-    let Some(run) = ended(rt, check.0, &[("report", text.items())], &[check.1], &[]) else {
+    let Some(run) = run_words(rt, check.0, &[("report", text.items())], &[check.1], &[]) else {
         return false;
     };
     let Some(rest) = run.text().strip_prefix(line.0) else {
@@ -327,7 +327,7 @@ const OTHER_CERTIFICATES: [Change; 2] = [
 
 #[test]
 fn a_damaged_certificate_is_rejected(rt: HostRuntime) -> Result<(), Fail> {
-    let plan = ended(&rt, "plan parallel default single", &[], &[], &[]).ok_or("no run")?;
+    let plan = run_words(&rt, "plan parallel default single", &[], &[], &[]).ok_or("no run")?;
     let check = ("check parallel default single report", 3);
     let rejected = ("rejected outcome 1 ", Status::Rejected);
     for change in &OTHER_CERTIFICATES {

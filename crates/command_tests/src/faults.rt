@@ -1,4 +1,4 @@
-use crate::runs::{Ended, ended};
+use crate::runs::{Ended, run_words};
 use planner_commands::status::Status;
 use std::sync::Wait;
 use std::test::Fail;
@@ -38,14 +38,14 @@ fn taken_until(text: &[u8], put: u32) -> Option<&[u8]> {
 }
 
 /// Runs the words over a report, where the fetches and puts of these numbers fail.
-fn runs<R: AllocGlobal + Threads + Wait + Sync>(
+fn with_report<R: AllocGlobal + Threads + Wait + Sync>(
     rt: &R,
     words: &str,
     report: &[u8],
     fetches: &[u32],
     puts: &[u32],
 ) -> Option<Ended> {
-    ended(rt, words, &[("report", report)], fetches, puts)
+    run_words(rt, words, &[("report", report)], fetches, puts)
 }
 
 /// Whether the words end with nothing written wherever one of their fetches fails.
@@ -56,7 +56,7 @@ fn each_fetch_fails<R: AllocGlobal + Threads + Wait + Sync>(
     report: &[u8],
 ) -> bool {
     for fetch in 0..fetches {
-        let fails = match runs(rt, words, report, &[fetch], &[]) {
+        let fails = match with_report(rt, words, report, &[fetch], &[]) {
             Some(run) => run.is(Status::ReadFault, b"", (1, 0)),
             None => false,
         };
@@ -78,7 +78,7 @@ fn each_put_fails<R: AllocGlobal + Threads + Wait + Sync>(
         let Some(taken) = taken_until(text, put) else {
             return true;
         };
-        let fails = match runs(rt, words, report, &[], &[put]) {
+        let fails = match with_report(rt, words, report, &[], &[put]) {
             Some(run) => run.is(Status::WriteFault, taken, (0, 1)),
             None => false,
         };
@@ -92,7 +92,7 @@ fn each_put_fails<R: AllocGlobal + Threads + Wait + Sync>(
 /// Whether a command comes to its status, and each fetch and each put of it can fail.
 fn each_fails<R: AllocGlobal + Threads + Wait + Sync>(rt: &R, row: &Row, report: &[u8]) -> bool {
     let (words, fetches, status) = *row;
-    let Some(run) = runs(rt, words, report, &[fetches], &[]) else {
+    let Some(run) = with_report(rt, words, report, &[fetches], &[]) else {
         return false;
     };
     run.status == status
@@ -103,7 +103,7 @@ fn each_fails<R: AllocGlobal + Threads + Wait + Sync>(rt: &R, row: &Row, report:
 
 #[test]
 fn each_fetch_and_each_put_fails_in_turn(rt: HostRuntime) -> Result<(), Fail> {
-    let plan = ended(&rt, "plan triangle reconfigure single", &[], &[], &[]).ok_or("no run")?;
+    let plan = run_words(&rt, "plan triangle reconfigure single", &[], &[], &[]).ok_or("no run")?;
     for row in &COMMANDS {
         assert!(rt; each_fails(&rt, row, plan.out.bytes()), "{}", row.0);
     }

@@ -1,6 +1,6 @@
 use crate::files::TRIANGLE;
 use crate::plans::TRIANGLE_REPORT;
-use crate::runs::{comes_to, ended};
+use crate::runs::{comes_to, run_words};
 use net_core::{Bytes, List};
 use planner_commands::status::Status;
 use std::alloc::Global;
@@ -63,7 +63,7 @@ fn long_plan_ends<R: AllocGlobal + Threads + Wait + Sync>(
 ) -> Option<bool> {
     let net = with_long_names(rt.alloc(), NETWORK)?;
     let report = with_long_names(rt.alloc(), REPORT)?;
-    let run = ended(rt, "plan long", &[("long", net.items())], &[], puts)?;
+    let run = run_words(rt, "plan long", &[("long", net.items())], &[], puts)?;
     let text = report.items().get(..taken)?;
     let faults = (0, puts.len() as u64);
     Some(report.len() == 5514 && run.is(status, text, faults))

@@ -1,4 +1,4 @@
-use crate::runs::{comes_to, ended};
+use crate::runs::{comes_to, run_words};
 use planner_commands::status::Status;
 use std::sync::Wait;
 use std::thread::Threads;
@@ -273,7 +273,7 @@ const FAULTY: [Faulty; 3] = [
 /// Whether a run ends as its row says.
 fn ends_so<R: AllocGlobal + Threads + Wait + Sync>(rt: &R, row: &Faulty) -> bool {
     let (words, fetch, put, status, text, faults) = *row;
-    match ended(rt, words, &[], &[fetch], &[put]) {
+    match run_words(rt, words, &[], &[fetch], &[put]) {
         Some(run) => run.is(status, text.as_bytes(), faults),
         None => false,
     }

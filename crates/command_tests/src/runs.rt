@@ -44,7 +44,7 @@ fn shelf_of(alloc: Global, more: &[File], fetches: &[u32]) -> Option<MemShelf> {
 }
 
 /// Runs these words over all files and these, where the fetches and puts of these numbers fail, counted from 0.
-pub(crate) fn ended<R: AllocGlobal + Threads + Wait + Sync>(
+pub(crate) fn run_words<R: AllocGlobal + Threads + Wait + Sync>(
     rt: &R,
     words: &str,
     more: &[File],
@@ -73,7 +73,7 @@ pub(crate) fn comes_to<R: AllocGlobal + Threads + Wait + Sync>(
     answer: (Status, &str),
 ) -> bool {
     let (status, text) = answer;
-    match ended(rt, words, more, &[fetched], &[]) {
+    match run_words(rt, words, more, &[fetched], &[]) {
         Some(run) => run.is(status, text.as_bytes(), (0, 0)),
         None => false,
     }

@@ -1,4 +1,4 @@
-use crate::runs::{comes_to, ended};
+use crate::runs::{comes_to, run_words};
 use planner_commands::status::Status;
 use std::sync::Wait;
 use std::thread::Threads;
@@ -74,7 +74,7 @@ const TIGHT_SAMPLES: [(&str, &str); 10] = [
 
 /// Whether the summary of a sample ends so.
 fn ends_with<R: AllocGlobal + Threads + Wait + Sync>(rt: &R, words: &str, end: &str) -> bool {
-    match ended(rt, words, &[], &[], &[]) {
+    match run_words(rt, words, &[], &[], &[]) {
         Some(run) => run.status == Status::Done && run.text().ends_with(end),
         None => false,
     }

@@ -1,4 +1,4 @@
-use crate::runs::{comes_to, ended};
+use crate::runs::{comes_to, run_words};
 use net_core::{Bytes, List};
 use planner_commands::status::Status;
 use sample_net::{network_text, sample};
@@ -45,7 +45,7 @@ fn eight_callers(alloc: Global) -> Option<Bytes> {
 fn eight_callers_are_accepted<R: AllocGlobal + Threads + Wait + Sync>(rt: &R) -> Option<bool> {
     let script = eight_callers(rt.alloc())?;
     let files = [("eight", script.items())];
-    let session = ended(rt, "session towns default single eight", &files, &[], &[])?;
+    let session = run_words(rt, "session towns default single eight", &files, &[], &[])?;
     let files = [("report", session.out.bytes())];
     let answer = (Status::Done, "accepted 64\n");
     let checked = comes_to(rt, "check towns default single report", &files, 3, answer);
@@ -76,7 +76,7 @@ fn sample_network(alloc: Global) -> Option<Bytes> {
 fn twenty_plans_agree<R: AllocGlobal + Threads + Wait + Sync>(rt: &R) -> Option<bool> {
     let net = sample_network(rt.alloc())?;
     let files = [("sample", net.items()), ("twenty", TWENTY_PLANS)];
-    let session = ended(rt, "session sample default single twenty", &files, &[], &[])?;
+    let session = run_words(rt, "session sample default single twenty", &files, &[], &[])?;
     let raw = session.text().matches(" raw 3869385800 9641 ").count();
     let tight = session.text().matches("\ntight ").count();
     let files = [("sample", net.items()), ("report", session.out.bytes())];
@@ -95,7 +95,7 @@ const ONE_PLAN: &[u8] = b"?planner script; version: 1\ncaller 1 plan\n";
 
 /// Whether a session of one plan reports what a plan does.
 fn one_plan_agrees<R: AllocGlobal + Threads + Wait + Sync>(rt: &R) -> Option<bool> {
-    let plan = ended(rt, "plan parallel default single", &[], &[], &[])?;
+    let plan = run_words(rt, "plan parallel default single", &[], &[], &[])?;
     let files = [("one", ONE_PLAN)];
     let answer = (Status::Done, plan.text());
     let words = "session parallel default single one";
