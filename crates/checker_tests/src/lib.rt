@@ -2,7 +2,7 @@
 #![tactic(auto)]
 
 #[cfg(test)]
-mod changes;
+mod answers;
 #[cfg(test)]
 mod plans;
 #[cfg(test)]

@@ -1,13 +1,11 @@
-ghost use Rattle.std.specs.Prelude.{length};
-ghost use Rattle.net_core.specs.Demands.{AreDemands};
-
-use crate::changes::{Change, accepts, rejects, replaced};
-use net_core::{Instance, LinkId, Module, StateId, States};
-use plan_checker::{CheckAnswer, Finding, check_plan};
-use plan_types::Outcome;
-use report_reader::read_report;
+use crate::answers::{
+    Case, Change, Checked, accepts, answer_after, answer_to, problem_of, rejects,
+};
+use net_core::{LinkId, Module, Problem, StateId, States};
+use plan_checker::Finding;
 use std::alloc::Global;
-use worked_networks::{demands, failing, network, triangle};
+use std::test::Fail;
+use worked_networks::{network, problem};
 
 /// A plan of the triangle where a state fails the link AC, 12.00 have to be carried from A to C, and 5.00 from A to B. Both demands
 /// go over AB, and the first over BC. The one cut asks for 2 * 12 + 5, at half of which no module is worth more than it costs.
@@ -126,43 +124,27 @@ const CHANGES: [Change; 22] = [
     ("8500 6000 0", "8501 5999 0", 0, Finding::NotTight),
 ];
 
-/// What a check says of the first plan of a report.
-fn answer_to(alloc: Global, instance: &Instance, text: &[u8], full: bool) -> Option<CheckAnswer>
-    requires { AreDemands (length instance.now.net.now.nodes) instance.now.demands.now }
-{
-    let (net, states) = (instance.net, instance.states);
-    let report = read_report(alloc, net, states, text).ok()?;
-    match report.outcomes.items().first() {
-        Some(Outcome::Planned { plan, .. }) => {
-            Some(check_plan(alloc, net, states, instance.demands, plan, full))
-        }
-        _ => None,
-    }
-}
+/// AC fails.
+const CASE: Case = Case {
+    failed: &[2],
+    opening: &[(0, 2, 12000), (0, 1, 5000)],
+};
 
-/// What a check says of the sound plan with one part in place of another, where the pool is full or has room.
-fn answer_on(alloc: Global, part: &str, by: &str, full: bool) -> Option<CheckAnswer> {
-    let net = triangle(alloc, 0).ok()?;
-    let states = failing(alloc, &net, &[&[2]]).ok()?;
-    let demands = demands(alloc, 3, &[(0, 2, 12000), (0, 1, 5000)]).ok()?;
-    let instance = Instance {
-        net: &net,
-        states: &states,
-        demands: &demands,
-    };
-    let text = replaced(alloc, SOUND, part, by)?;
-    answer_to(alloc, &instance, text.items(), full)
-}
+/// A pool with room.
+const ROOM: Checked = Checked::Plan { full: false };
 
 #[test]
-fn a_plan_with_one_part_changed_has_its_finding(rt: HostRuntime) {
+fn a_plan_with_one_part_changed_has_its_finding(rt: HostRuntime) -> Result<(), Fail> {
     let alloc = rt.alloc();
-    assert!(rt; accepts(answer_on(alloc, "", "", false)));
+    let problem = problem_of(alloc, &CASE).ok_or("no problem")?;
+    assert!(rt; accepts(answer_to(alloc, &problem, SOUND.as_bytes(), ROOM)));
     for (part, by, outcome, finding) in &CHANGES {
-        let answer = answer_on(alloc, part, by, false);
+        let answer = answer_after(alloc, &problem, SOUND, (part, by), ROOM);
         assert!(rt; rejects(answer, *outcome, *finding), "{by}");
     }
-    assert!(rt; accepts(answer_on(alloc, POOLED, LOCAL, true)));
+    let full = Checked::Plan { full: true };
+    assert!(rt; accepts(answer_after(alloc, &problem, SOUND, (POOLED, LOCAL), full)));
+    Ok(())
 }
 
 /// A module of the least capacity at a high cost.
@@ -185,25 +167,26 @@ OUTCOMES ( PLAN ( caller 1 plan 1 version 0 position 0
 ) )
 ";
 
-/// What a check says of that plan.
-fn answer_on_large(alloc: Global) -> Option<CheckAnswer> {
+/// Their network and the demand.
+fn large_problem(alloc: Global) -> Option<Problem> {
     let rows = [
         (0, 1, 1 << 39, STEEP.as_slice()),
         (1, 2, 1 << 39, STEEP.as_slice()),
     ];
     let net = network(alloc, 3, &rows).ok()?;
-    let states = States::only_none(alloc);
-    let demands = demands(alloc, 3, &[(0, 2, 1 << 39)]).ok()?;
-    let instance = Instance {
-        net: &net,
-        states: &states,
-        demands: &demands,
-    };
-    answer_to(alloc, &instance, LARGE.as_bytes(), false)
+    let p = problem(alloc, net, &[(0, 2, 1 << 39)]).ok()?;
+    Some(Problem {
+        states: States::only_none(alloc),
+        net: p.net,
+        demands: p.demands,
+    })
 }
 
 #[test]
-fn a_certificate_of_large_numbers_is_too_wide(rt: HostRuntime) {
-    let answer = answer_on_large(rt.alloc());
+fn a_certificate_of_large_numbers_is_too_wide(rt: HostRuntime) -> Result<(), Fail> {
+    let alloc = rt.alloc();
+    let problem = large_problem(alloc).ok_or("no problem")?;
+    let answer = answer_to(alloc, &problem, LARGE.as_bytes(), ROOM);
     assert!(rt; rejects(answer, 0, Finding::CertificateWide));
+    Ok(())
 }

@@ -1,9 +1,8 @@
-use crate::changes::{Change, accepts, rejects, replaced};
-use plan_checker::{CheckAnswer, Finding};
-use report_checker::check_report;
-use report_reader::read_report;
-use std::alloc::Global;
-use worked_networks::{demands, failing, triangle};
+use crate::answers::{
+    Case, Change, Checked, accepts, answer_after, answer_to, problem_of, rejects,
+};
+use plan_checker::Finding;
+use std::test::Fail;
 
 /// A report of the triangle where a state fails the links AB and AC, and 12.00 have to be carried from A to C at first. The first
 /// outcome is of the first edit, and the second is of the second, which leaves no demand.
@@ -185,24 +184,22 @@ const OUTCOMES: [Change; 8] = [
     ("cost 0.000", "cost 5.000", 2, Finding::CostDiffers(5000, 0)),
 ];
 
-/// What a check says of the sound report with one part in place of another.
-fn answer_on(alloc: Global, part: &str, by: &str) -> Option<CheckAnswer> {
-    let net = triangle(alloc, 0).ok()?;
-    let states = failing(alloc, &net, &[&[0, 2]]).ok()?;
-    let opening = demands(alloc, 3, &[(0, 2, 12000)]).ok()?;
-    let text = replaced(alloc, SOUND, part, by)?;
-    let report = read_report(alloc, &net, &states, text.items()).ok()?;
-    Some(check_report(alloc, &net, &states, &opening, &report))
-}
+/// AB and AC fail together.
+const CASE: Case = Case {
+    failed: &[0, 2],
+    opening: &[(0, 2, 12000)],
+};
 
 #[test]
-fn a_report_with_one_part_changed_has_its_finding(rt: HostRuntime) {
+fn a_report_with_one_part_changed_has_its_finding(rt: HostRuntime) -> Result<(), Fail> {
     let alloc = rt.alloc();
-    assert!(rt; accepts(answer_on(alloc, "", "")));
+    let problem = problem_of(alloc, &CASE).ok_or("no problem")?;
+    assert!(rt; accepts(answer_to(alloc, &problem, SOUND.as_bytes(), Checked::Report)));
     for changes in [&EDITS[..], &ORDERS[..], &POOLS[..], &OUTCOMES[..]] {
         for (part, by, outcome, finding) in changes {
-            let answer = answer_on(alloc, part, by);
+            let answer = answer_after(alloc, &problem, SOUND, (part, by), Checked::Report);
             assert!(rt; rejects(answer, *outcome, *finding), "{by}");
         }
     }
+    Ok(())
 }

@@ -1,0 +1,88 @@
+use net_core::{Bytes, List, Problem};
+use plan_checker::{CheckAnswer, Finding, check_plan};
+use plan_types::Outcome;
+use report_checker::check_report;
+use report_reader::read_report;
+use std::alloc::Global;
+use worked_networks::{DemandRow, failing, problem, triangle};
+
+/// What is checked of a report.
+#[derive(Clone, Copy)]
+pub(crate) enum Checked {
+    Report,
+    /// The plan of its first outcome, where the pool is full or has room.
+    Plan { full: bool },
+}
+
+/// The links of the triangle's one failing state, and the demands before the first entry.
+pub(crate) struct Case {
+    pub(crate) failed: &'static [u32],
+    pub(crate) opening: &'static [DemandRow],
+}
+
+/// The network, the states and the demands of a case.
+pub(crate) fn problem_of(alloc: Global, case: &Case) -> Option<Problem> {
+    let net = triangle(alloc, 0).ok()?;
+    let states = failing(alloc, &net, &[case.failed]).ok()?;
+    let p = problem(alloc, net, case.opening).ok()?;
+    Some(Problem {
+        net: p.net,
+        states,
+        demands: p.demands,
+    })
+}
+
+/// What a check says of a report with the problem's demands before its first entry.
+pub(crate) fn answer_to(
+    alloc: Global,
+    problem: &Problem,
+    text: &[u8],
+    checked: Checked,
+) -> Option<CheckAnswer> {
+    let (net, states, demands) = (&problem.net, &problem.states, &problem.demands);
+    let report = read_report(alloc, net, states, text).ok()?;
+    match (checked, report.outcomes.items().first()) {
+        (Checked::Report, _) => Some(check_report(alloc, net, states, demands, &report)),
+        (Checked::Plan { full }, Some(Outcome::Planned { plan, .. })) => {
+            Some(check_plan(alloc, net, states, demands, plan, full))
+        }
+        _ => None,
+    }
+}
+
+/// A part of a text, what stands in its place, the outcome that is found wrong, and how.
+pub(crate) type Change = (&'static str, &'static str, u32, Finding);
+
+/// The text with one part in place of another, from where that stands first.
+fn replaced(alloc: Global, text: &str, part: &str, by: &str) -> Option<Bytes> {
+    let (front, rest) = text.split_once(part)?;
+    let mut changed = List::from_slice(alloc, front.as_bytes()).ok()?;
+    changed.append(by.as_bytes()).ok()?;
+    changed.append(rest.as_bytes()).ok()?;
+    Some(changed)
+}
+
+/// What a check says of a report with one part in place of another.
+pub(crate) fn answer_after(
+    alloc: Global,
+    problem: &Problem,
+    report: &str,
+    change: (&str, &str),
+    checked: Checked,
+) -> Option<CheckAnswer> {
+    let text = replaced(alloc, report, change.0, change.1)?;
+    answer_to(alloc, problem, text.items(), checked)
+}
+
+/// Whether a check rejects this outcome for this finding.
+pub(crate) fn rejects(answer: Option<CheckAnswer>, at: u32, wrong: Finding) -> bool {
+    match answer {
+        Some(CheckAnswer::Rejected { outcome, finding }) => outcome == at && finding == wrong,
+        _ => false,
+    }
+}
+
+/// Whether a check accepts.
+pub(crate) fn accepts(answer: Option<CheckAnswer>) -> bool {
+    matches!(answer, Some(CheckAnswer::Accepted))
+}
