@@ -210,7 +210,7 @@ fn faults_at(alloc: Global, parts: (&[u8], &[u8], &[u8]), at: u64, kind: &str) -
 fn ends_at(alloc: Global, front: &[u8], rest: &[u8], tokens: (&[u8], &[u8]), kind: &str) -> bool {
     let (last, past) = tokens;
     let at = front.len() as u64 + rest.len() as u64;
-    let end = at + last.len() as u64;
+    let end = at.saturating_add(last.len() as u64);
     faults_at(alloc, (front, rest, last), end, "ended")
         && faults_at(alloc, (front, rest, past), at, kind)
 }
@@ -226,80 +226,94 @@ fn first_miss(alloc: Global, rows: &[Row], kind: &str) -> Option<usize> {
 }
 
 #[test]
-fn each_range_ends_at_its_last_number(rt: HostRuntime) {
-    let alloc = rt.alloc();
-    assert_eq!(rt; first_miss(alloc, &NUMBERS_BEFORE_PLANS, "limit"), None);
-    assert_eq!(rt; first_miss(alloc, &NUMBERS_OF_PLANS, "limit"), None);
-    assert_eq!(rt; first_miss(alloc, &NUMBERS_OF_QUALITY, "limit"), None);
-    assert_eq!(rt; first_miss(alloc, &LARGE_NUMBERS, "number-large"), None);
+fn each_range_before_plans_ends_at_its_last_number(rt: HostRuntime) {
+    assert_eq!(rt;
+        first_miss(rt.alloc(), &NUMBERS_BEFORE_PLANS, "limit"),
+        None
+    );
 }
 
-/// An element of a list in two parts, and the first of the numbers between them, where it has one.
-type Piece = (&'static [u8], Option<u32>, &'static [u8]);
+#[test]
+fn each_range_of_a_plan_ends_at_its_last_number(rt: HostRuntime) {
+    assert_eq!(rt; first_miss(rt.alloc(), &NUMBERS_OF_PLANS, "limit"), None);
+    assert_eq!(rt; first_miss(rt.alloc(), &NUMBERS_OF_QUALITY, "limit"), None);
+}
 
-/// A front and so many elements.
-fn with_many(alloc: Global, front: (&[u8], &[u8]), count: u32, piece: Piece) -> Option<Bytes> {
-    let (before, first, after) = piece;
-    let mut text = joined(alloc, front.0, front.1, b"")?;
+#[test]
+fn each_notation_ends_at_its_last_number(rt: HostRuntime) {
+    assert_eq!(rt;
+        first_miss(rt.alloc(), &LARGE_NUMBERS, "number-large"),
+        None
+    );
+}
+
+/// What stands before a list in two parts, the last count of its elements, what stands before and after the number of an element, which
+/// counts from this one, and the word or parenthesis with which one more would begin.
+type Many = (
+    &'static [u8],
+    &'static [u8],
+    u32,
+    &'static [u8],
+    u32,
+    &'static [u8],
+    &'static [u8],
+);
+
+/// The lists of a report whose counts have a limit.
+const COUNTS: [Many; 5] = [
+    (JOURNAL, b"", 65536, b"(", 1, b" cut 0)", b"("),
+    (POOL, b"", 4096, b"(", 0, b" state 0 right 0(0))", b"("),
+    (
+        OUTCOMES,
+        b"",
+        64,
+        b"UNSURVIVABLE(caller 1 plan 1 version 0 position ",
+        0,
+        b" state 0 none demand D)",
+        b"PLAN",
+    ),
+    (CERTIFICATE, b"1", 256, b"(", 0, b" pool 0 right 0)", b"("),
+    (ROUTES, b"state 0 none 1(", 65536, b"D ", 1, b"(a)", b"D"),
+];
+
+/// Puts an element with its number last.
+fn put_element(text: &mut Bytes, before: &[u8], number: u32, after: &[u8]) -> Option<()> {
+    text.append(before).ok()?;
+    put_decimal(text, u128::from(number)).ok()?;
+    text.append(after).ok()
+}
+
+/// The list of a row, with the last count of its elements.
+fn list_of(alloc: Global, many: &Many) -> Option<Bytes> {
+    let (front, rest, count, before, first, after, _) = *many;
+    let mut text = joined(alloc, front, rest, b"")?;
     for i in 0..count {
-        text.append(before).ok()?;
-        if let Some(first) = first {
-            put_decimal(&mut text, u128::from(first) + u128::from(i)).ok()?;
-        }
-        text.append(after).ok()?;
+        put_element(&mut text, before, first.saturating_add(i), after)?;
     }
     Some(text)
 }
 
-/// What stands before a list, the last count of its elements, the element, and the word or parenthesis with which one more would begin.
-type Many = ((&'static [u8], &'static [u8]), u32, Piece, &'static [u8]);
-
-const COUNTS: [Many; 5] = [
-    ((JOURNAL, b""), 65536, (b"(", Some(1), b" cut 0)"), b"("),
-    (
-        (POOL, b""),
-        4096,
-        (b"(", Some(0), b" state 0 right 0(0))"),
-        b"(",
-    ),
-    (
-        (OUTCOMES, b""),
-        64,
-        (
-            b"UNSURVIVABLE(caller 1 plan 1 version 0 position 0 state 0 none demand D)",
-            None,
-            b"",
-        ),
-        b"PLAN",
-    ),
-    (
-        (CERTIFICATE, b"1"),
-        256,
-        (b"(0 pool 0 right 0)", None, b""),
-        b"(",
-    ),
-    (
-        (ROUTES, b"state 0 none 1("),
-        65536,
-        (b"D 1(a)", None, b""),
-        b"D",
-    ),
-];
-
 /// Whether a list of the last count is taken, and one element more is refused where it begins.
 fn list_ends(alloc: Global, many: &Many) -> bool {
-    let (front, count, piece, next) = *many;
-    match with_many(alloc, front, count, piece) {
-        Some(full) => ends_at(alloc, full.items(), b"", (b"", next), "limit"),
+    match list_of(alloc, many) {
+        Some(full) => ends_at(alloc, full.items(), b"", (b"", many.6), "limit"),
         None => false,
     }
 }
 
+/// The place of the first row whose list ends elsewhere.
+fn first_list_missed(alloc: Global, rows: &[Many]) -> Option<usize> {
+    for (i, many) in rows.iter().enumerate() {
+        if !list_ends(alloc, many) {
+            return Some(i);
+        }
+    }
+    None
+}
+
 #[test]
 fn each_count_ends_at_its_last_number(rt: HostRuntime) {
-    for many in &COUNTS {
-        assert!(rt; list_ends(rt.alloc(), many));
-    }
+    assert_eq!(rt; first_list_missed(rt.alloc(), &COUNTS), None);
 }
 
 /// What stands before and after a name that is free or new.

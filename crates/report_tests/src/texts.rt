@@ -1,4 +1,4 @@
-use net_core::{Bytes, List, Module, States};
+use net_core::{Bytes, List, Module, Network, States};
 use report_reader::{ReportRefusal, read_report};
 use std::alloc::Global;
 use worked_networks::network;
@@ -14,6 +14,15 @@ pub(crate) fn joined(alloc: Global, front: &[u8], rest: &[u8], last: &[u8]) -> O
     Some(text)
 }
 
+/// The place and the kind of the first fault of a report on this network.
+fn fault_on(alloc: Global, net: &Network, text: &[u8]) -> Option<(u64, &'static str)> {
+    let states = States::only_none(alloc);
+    match read_report(alloc, net, &states, text).err()? {
+        ReportRefusal::Bad { at, kind } => Some((at, kind.word())),
+        ReportRefusal::NoMemory => None,
+    }
+}
+
 /// The place and the kind of the first fault of a report of two nodes and a link of these modules.
 pub(crate) fn fault_of(
     alloc: Global,
@@ -21,8 +30,5 @@ pub(crate) fn fault_of(
     text: &[u8],
 ) -> Option<(u64, &'static str)> {
     let net = network(alloc, 2, &[(0, 1, 0, modules)]).ok()?;
-    match read_report(alloc, &net, &States::only_none(alloc), text) {
-        Err(ReportRefusal::Bad { at, kind }) => Some((at, kind.word())),
-        _ => None,
-    }
+    fault_on(alloc, &net, text)
 }

@@ -1,21 +1,26 @@
-use crate::spellings::{
-    EDITS, IDLE, MASTER_KINDS, ROUTE_KINDS, master_report, plan_with, route_report,
-};
 use net_core::{
-    Bytes, CutLine, Edit, Entry, Evidence, LinkId, MasterColumn, Notes, Reply, RouteColumn,
-    Routing, StateId, States, WideKind,
+    Caps, CutLine, Edit, Entry, Evidence, LinkId, MasterColumn, Notes, Reply, RouteColumn, Routing,
+    StateId, States, WideKind,
 };
 use plan_report::{Outcome, Report};
 use plan_types::{Cause, CertLine, Fractional, Plan, Quality, Spot};
-use report_reader::read_report;
-use std::alloc::Global;
-use std::test::Fail;
-use worked_networks::triangle;
 
-/// The report of the triangle that a text spells.
-fn report_of(alloc: Global, text: &[u8]) -> Option<Report> {
-    let net = triangle(alloc, 0).ok()?;
-    read_report(alloc, &net, &States::only_none(alloc), text).ok()
+/// What the report of a row says.
+#[derive(Clone, Copy)]
+pub(crate) enum Said {
+    Other,
+    Idle,
+    Edits,
+    NoRoom,
+    LinkNumber,
+    RouteRow,
+    DemandEntry,
+    FlowNumber,
+    RouteSum,
+    RouteCommon,
+    Length,
+    CutEntry,
+    Value,
 }
 
 /// Whether a cut of the state without failures has these lengths and this right side.
@@ -203,15 +208,6 @@ fn is_edited_report(report: &Report) -> bool {
         && has_notes(report.notes, true, false, true)
 }
 
-#[test]
-fn the_written_reports_have_these_values(rt: HostRuntime) -> Result<(), Fail> {
-    let idle = report_of(rt.alloc(), IDLE).ok_or("no report")?;
-    assert!(rt; is_idle(&idle));
-    let edited = report_of(rt.alloc(), EDITS).ok_or("no report")?;
-    assert!(rt; is_edited_report(&edited));
-    Ok(())
-}
-
 /// The plan of a report, which is its only outcome.
 fn plan_of(report: &Report) -> Option<&Plan> {
     match report.outcomes.items() {
@@ -230,7 +226,7 @@ fn has_both_lines(plan: &Plan) -> bool {
     let flows = match plan.routings.items() {
         [routing] => match routing.flows.items() {
             [flow] => {
-                flow.demand == 0 && flow.num == 5 && matches!(flow.path.items(), [LinkId(2)])
+                flow.demand == 0 && flow.num == 5 && flow.path.items() == [LinkId(2)].as_slice()
             }
             _ => false,
         },
@@ -246,34 +242,36 @@ fn has_both_lines(plan: &Plan) -> bool {
     }
 }
 
-/// The place of what is too wide of a program that routes, among the kinds that are written.
-fn place_of_route(kind: &WideKind<RouteColumn>) -> Option<usize> {
-    match kind {
-        WideKind::Number(RouteColumn::LinkSlack(LinkId(0))) => Some(0),
-        WideKind::Row(4) => Some(1),
-        WideKind::Product(2, RouteColumn::DemandSlack(0)) => Some(2),
-        WideKind::Number(RouteColumn::Carry(0, path)) => {
-            matches!(path.items(), [LinkId(0), LinkId(1)]).then_some(3)
+/// Whether this of a program that routes is too wide.
+fn is_route_kind(kind: &WideKind<RouteColumn>, said: Said) -> bool {
+    match (kind, said) {
+        (WideKind::Number(RouteColumn::LinkSlack(link)), Said::LinkNumber) => *link == LinkId(0),
+        (WideKind::Row(row), Said::RouteRow) => *row == 4,
+        (WideKind::Product(row, RouteColumn::DemandSlack(demand)), Said::DemandEntry) => {
+            *row == 2 && *demand == 0
         }
-        WideKind::Sum(1) => Some(4),
-        WideKind::Common => Some(5),
-        WideKind::Length(LinkId(2)) => Some(6),
-        _ => None,
+        (WideKind::Number(RouteColumn::Carry(demand, path)), Said::FlowNumber) => {
+            *demand == 0 && path.items() == [LinkId(0), LinkId(1)].as_slice()
+        }
+        (WideKind::Sum(row), Said::RouteSum) => *row == 1,
+        (WideKind::Common, Said::RouteCommon) => true,
+        (WideKind::Length(link), Said::Length) => *link == LinkId(2),
+        _ => false,
     }
 }
 
-/// The same of a program that finds a certificate.
-fn place_of_master(kind: &WideKind<MasterColumn>) -> Option<usize> {
-    match kind {
-        WideKind::Product(3, MasterColumn::Metric(StateId(0), lengths)) => {
-            matches!(lengths.items(), [1, 0, 2]).then_some(0)
+/// Whether this of a program that finds a certificate is too wide.
+fn is_master_kind(kind: &WideKind<MasterColumn>, said: Said) -> bool {
+    match (kind, said) {
+        (WideKind::Product(row, MasterColumn::Metric(state, lengths)), Said::CutEntry) => {
+            *row == 3 && *state == StateId(0) && lengths.items() == [1, 0, 2].as_slice()
         }
-        WideKind::Value => Some(1),
-        _ => None,
+        (WideKind::Value, Said::Value) => true,
+        _ => false,
     }
 }
 
-/// Whether the basis of a program that routes has both ways of its slacks, and a flow.
+/// Whether the basis of a program that routes has both kinds of slacks, and a flow.
 fn is_route_basis(basis: &[RouteColumn]) -> bool {
     match basis {
         [
@@ -281,7 +279,7 @@ fn is_route_basis(basis: &[RouteColumn]) -> bool {
             RouteColumn::LinkSlack(LinkId(1)),
             RouteColumn::DemandSlack(0),
             RouteColumn::Carry(0, path),
-        ] => matches!(path.items(), [LinkId(2)]),
+        ] => path.items() == [LinkId(2)].as_slice(),
         _ => false,
     }
 }
@@ -298,54 +296,55 @@ fn is_master_basis(basis: &[MasterColumn]) -> bool {
     }
 }
 
-/// The place of the kind of evidence.
-fn place_of(evidence: &Evidence) -> Option<usize> {
+/// Whether capacities are a third of these numbers.
+fn are_caps(caps: &Caps) -> bool {
+    caps.scale == 3
+        && caps.nums.items() == [1, 2, 85070591730234615865843651857942052863].as_slice()
+}
+
+/// Whether evidence says this.
+fn is_evidence(evidence: &Evidence, said: Said) -> bool {
     match evidence {
         Evidence::Route {
-            state: StateId(0),
+            state,
             caps,
             basis,
             kind,
-        } if caps.scale == 3
-            && caps.nums.items() == [1, 2, (1u128 << 126) - 1].as_slice()
-            && is_route_basis(basis.items()) => { place_of_route(kind) }
-        Evidence::Master { basis, kind } if is_master_basis(basis.items()) => place_of_master(kind),
-        _ => None,
+        } => {
+            *state == StateId(0)
+                && are_caps(caps)
+                && is_route_basis(basis.items())
+                && is_route_kind(kind, said)
+        }
+        Evidence::Master { basis, kind } => {
+            is_master_basis(basis.items()) && is_master_kind(kind, said)
+        }
     }
 }
 
-/// The place of the kind of evidence in the report of a plan.
-fn place_in(alloc: Global, text: Option<Bytes>) -> Option<usize> {
-    let report = report_of(alloc, text?.items())?;
-    let plan = plan_of(&report)?;
+/// Whether a plan has no better bound for this.
+fn is_loose(plan: &Plan, said: Said) -> bool {
     match &plan.quality {
-        Quality::Loose(Cause::Wide(evidence)) if has_both_lines(plan) => place_of(evidence),
-        _ => None,
+        Quality::Loose(Cause::Wide(evidence)) => is_evidence(evidence, said),
+        Quality::Loose(Cause::Cuts) => matches!(said, Said::NoRoom),
+        Quality::Tight(_) => false,
     }
 }
 
-/// Whether the report of a plan says that there was no room for a further cut.
-fn lacks_room(alloc: Global, text: Option<Bytes>) -> bool {
-    let Some(text) = text else {
-        return false;
-    };
-    match report_of(alloc, text.items()) {
-        Some(report) => match plan_of(&report) {
-            Some(plan) => matches!(plan.quality, Quality::Loose(Cause::Cuts)),
-            None => false,
-        },
+/// Whether a report has such a plan, with both cuts.
+fn is_loose_report(report: &Report, said: Said) -> bool {
+    match plan_of(report) {
+        Some(plan) => has_both_lines(plan) && is_loose(plan, said),
         None => false,
     }
 }
 
-#[test]
-fn the_written_evidence_has_these_values(rt: HostRuntime) {
-    let alloc = rt.alloc();
-    for (i, kind) in ROUTE_KINDS.iter().enumerate() {
-        assert!(rt; place_in(alloc, route_report(alloc, kind)) == Some(i));
+/// Whether a report says this.
+pub(crate) fn says(report: &Report, said: Said) -> bool {
+    match said {
+        Said::Other => true,
+        Said::Idle => is_idle(report),
+        Said::Edits => is_edited_report(report),
+        _ => is_loose_report(report, said),
     }
-    for (i, kind) in MASTER_KINDS.iter().enumerate() {
-        assert!(rt; place_in(alloc, master_report(alloc, kind)) == Some(i));
-    }
-    assert!(rt; lacks_room(alloc, plan_with(alloc, b"loose cuts ", b"")));
 }
