@@ -1,4 +1,4 @@
-use crate::runs::{comes_to, run_words};
+use crate::runs::{Ended, comes_to, run_words};
 use planner_commands::status::Status;
 use std::sync::Wait;
 use std::thread::Threads;
@@ -71,23 +71,21 @@ const ACCEPTED: [Accepted; 10] = [
     ),
 ];
 
+/// Whether a run is done, and its report says this.
+fn says(run: &Ended, cost: &str, quality: &str) -> bool {
+    let report = run.text();
+    run.status == Status::Done && report.contains(cost) && report.contains(quality)
+}
+
 /// Whether the report of a row has what it says, and is accepted.
 fn is_accepted<R: AllocGlobal + Threads + Wait + Sync>(rt: &R, row: &Accepted) -> bool {
     let (words, check, cost, quality) = *row;
     let Some(run) = run_words(rt, words, &[], &[], &[]) else {
         return false;
     };
-    let report = run.text();
-    run.status == Status::Done
-        && report.contains(cost)
-        && report.contains(quality)
-        && comes_to(
-            rt,
-            check,
-            &[("report", report.as_bytes())],
-            4,
-            (Status::Done, "accepted 1\n"),
-        )
+    let files = [("report", run.out.bytes())];
+    let answer = (Status::Done, "accepted 1\n");
+    says(&run, cost, quality) && comes_to(rt, check, &files, 4, answer)
 }
 
 #[test]

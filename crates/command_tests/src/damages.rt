@@ -203,13 +203,11 @@ fn says<R: AllocGlobal + Threads + Wait + Sync>(
     let Some(text) = replaced(rt.alloc(), report, part, by) else {
         return false;
     };
-    let Some(run) = run_words(rt, check.0, &[("report", text.items())], &[check.1], &[]) else {
-        return false;
-    };
-    let Some(rest) = run.text().strip_prefix(line.0) else {
-        return false;
-    };
-    rest.strip_suffix("\n") == Some(end) && run.status == line.1 && run.faults == (0, 0)
+    let files = [("report", text.items())];
+    match run_words(rt, check.0, &files, &[check.1], &[]) {
+        Some(run) => run.is_line(line.1, line.0, end),
+        None => false,
+    }
 }
 
 #[test]

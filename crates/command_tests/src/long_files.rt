@@ -1,6 +1,6 @@
 use crate::files::TRIANGLE;
 use crate::plans::TRIANGLE_REPORT;
-use crate::runs::{comes_to, run_words};
+use crate::runs::{Ended, comes_to, run_words};
 use net_core::{Bytes, List};
 use planner_commands::status::Status;
 use std::alloc::Global;
@@ -53,8 +53,16 @@ fn with_long_names(alloc: Global, parts: (&[u8], &[u8], &[u8])) -> Option<Bytes>
     Some(text)
 }
 
-/// How a plan of the network of the long names ends where the puts of these numbers fail: whether so, with the first so many bytes of
-/// the report written, which has 5514.
+/// Whether a run has this status and these faults, and wrote the first so many bytes of a text.
+fn wrote(run: &Ended, text: &[u8], taken: usize, status: Status, faults: u64) -> bool {
+    match text.get(..taken) {
+        Some(front) => run.is(status, front, (0, faults)),
+        None => false,
+    }
+}
+
+/// Whether a plan of the network of the long names ends with this status where the puts of these numbers fail, with the first so many
+/// bytes of the report written, which has 5514.
 fn long_plan_ends<R: AllocGlobal + Threads + Wait + Sync>(
     rt: &R,
     puts: &[u32],
@@ -64,9 +72,8 @@ fn long_plan_ends<R: AllocGlobal + Threads + Wait + Sync>(
     let net = with_long_names(rt.alloc(), NETWORK)?;
     let report = with_long_names(rt.alloc(), REPORT)?;
     let run = run_words(rt, "plan long", &[("long", net.items())], &[], puts)?;
-    let text = report.items().get(..taken)?;
-    let faults = (0, puts.len() as u64);
-    Some(report.len() == 5514 && run.is(status, text, faults))
+    let faults = puts.len() as u64;
+    Some(report.len() == 5514 && wrote(&run, report.items(), taken, status, faults))
 }
 
 #[test]

@@ -21,6 +21,14 @@ impl Ended {
         self.status == status && self.out.bytes() == text && self.faults == faults
     }
 
+    /// Whether the run ended with this status, no fault, and a line in two parts.
+    pub(crate) fn is_line(&self, status: Status, front: &str, end: &str) -> bool {
+        let Some(rest) = self.text().strip_prefix(front) else {
+            return false;
+        };
+        rest.strip_suffix("\n") == Some(end) && self.status == status && self.faults == (0, 0)
+    }
+
     /// What it wrote, and nothing where that isn't text.
     pub(crate) fn text(&self) -> &str {
         str::from_utf8(self.out.bytes()).unwrap_or("")
@@ -43,6 +51,28 @@ fn shelf_of(alloc: Global, more: &[File], fetches: &[u32]) -> Option<MemShelf> {
     have_different_names(files.items()).then(|| MemShelf::new(files, failing))
 }
 
+/// An empty sink, of which the puts of these numbers fail, counted from 0.
+fn sink_of(alloc: Global, puts: &[u32]) -> Option<MemSink> {
+    let failing = List::from_slice(alloc, puts).ok()?;
+    MemSink::new(alloc, 4000000, failing).ok()
+}
+
+/// Runs words over a shelf and a sink.
+fn carry_out<R: AllocGlobal + Threads + Wait + Sync>(
+    rt: &R,
+    words: &[String],
+    mut shelf: MemShelf,
+    mut out: MemSink,
+) -> Ended {
+    let status = run(rt, rt.alloc(), words, &mut shelf, &mut out, &OpenGate);
+    let faults = (shelf.faults(), out.faults());
+    Ended {
+        status,
+        out,
+        faults,
+    }
+}
+
 /// Runs these words over all files and these, where the fetches and puts of these numbers fail, counted from 0.
 pub(crate) fn run_words<R: AllocGlobal + Threads + Wait + Sync>(
     rt: &R,
@@ -52,16 +82,9 @@ pub(crate) fn run_words<R: AllocGlobal + Threads + Wait + Sync>(
     puts: &[u32],
 ) -> Option<Ended> {
     let alloc = rt.alloc();
-    let list = words_of(alloc, words)?;
-    let mut shelf = shelf_of(alloc, more, fetches)?;
-    let mut out = MemSink::new(alloc, 4000000, List::from_slice(alloc, puts).ok()?).ok()?;
-    let status = run(rt, alloc, &list, &mut shelf, &mut out, &OpenGate);
-    let faults = (shelf.faults(), out.faults());
-    Some(Ended {
-        status,
-        out,
-        faults,
-    })
+    let words = words_of(alloc, words)?;
+    let shelf = shelf_of(alloc, more, fetches)?;
+    Some(carry_out(rt, &words, shelf, sink_of(alloc, puts)?))
 }
 
 /// Whether these words, which fetch at most so many files, come to this status and this text. A further fetch would fail.

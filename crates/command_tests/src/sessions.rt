@@ -1,4 +1,4 @@
-use crate::runs::{comes_to, run_words};
+use crate::runs::{Ended, comes_to, run_words};
 use net_core::{Bytes, List};
 use planner_commands::status::Status;
 use sample_net::{network_text, sample};
@@ -72,17 +72,22 @@ fn sample_network(alloc: Global) -> Option<Bytes> {
     network_text(alloc, &net, &demands).ok()
 }
 
+/// Whether the text of a run has twenty tight plans with the raw value of a plan alone.
+fn has_twenty_plans(run: &Ended) -> bool {
+    let raw = run.text().matches(" raw 3869385800 9641 ").count();
+    let tight = run.text().matches("\ntight ").count();
+    run.status == Status::Done && raw == 20 && tight == 20
+}
+
 /// Whether twenty plans at once of the sample have the value of a plan alone, and the report is accepted.
 fn twenty_plans_agree<R: AllocGlobal + Threads + Wait + Sync>(rt: &R) -> Option<bool> {
     let net = sample_network(rt.alloc())?;
     let files = [("sample", net.items()), ("twenty", TWENTY_PLANS)];
     let session = run_words(rt, "session sample default single twenty", &files, &[], &[])?;
-    let raw = session.text().matches(" raw 3869385800 9641 ").count();
-    let tight = session.text().matches("\ntight ").count();
     let files = [("sample", net.items()), ("report", session.out.bytes())];
     let answer = (Status::Done, "accepted 20\n");
     let checked = comes_to(rt, "check sample default single report", &files, 3, answer);
-    Some(checked && session.status == Status::Done && raw == 20 && tight == 20)
+    Some(checked && has_twenty_plans(&session))
 }
 
 #[test]
