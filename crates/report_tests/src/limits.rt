@@ -22,45 +22,45 @@ const ROUTES: &[u8] =
 const QUALITY: &[u8] =
     b"?planner report; version: 1\nNOTES()JOURNAL()POOL((0 state 0 right 0(0)))OUTCOMES(PLAN(caller 1 plan 1 version 0 position 0 DEMANDS(D(A B)1)cost 0 bound 0 raw 0 1 MODULES(a(0 0))CERTIFICATE(1)ROUTES(state 0 none 1())";
 
-/// The greatest number below a power of two, and that power: 2^32, 2^62, 2^72, 2^84, 2^124 and 2^126.
-type Range = (&'static [u8], &'static [u8]);
+/// The greatest number below 2^32.
+const LAST_32: &[u8] = b"4294967295";
 
-const TO_32: Range = (b"4294967295", b"4294967296");
+const PAST_32: &[u8] = b"4294967296";
 
-const TO_62: Range = (b"4611686018427387903", b"4611686018427387904");
+/// The greatest number below 2^62.
+const LAST_62: &[u8] = b"4611686018427387903";
 
-const TO_72: Range = (b"4722366482869645213695", b"4722366482869645213696");
+const PAST_62: &[u8] = b"4611686018427387904";
 
-const TO_84: Range = (b"19342813113834066795298815", b"19342813113834066795298816");
+/// The greatest number below 2^72.
+const LAST_72: &[u8] = b"4722366482869645213695";
 
-const TO_124: Range = (
-    b"21267647932558653966460912964485513215",
-    b"21267647932558653966460912964485513216",
-);
+const PAST_72: &[u8] = b"4722366482869645213696";
 
-const TO_126: Range = (
-    b"85070591730234615865843651857942052863",
-    b"85070591730234615865843651857942052864",
-);
+/// The greatest number below 2^84.
+const LAST_84: &[u8] = b"19342813113834066795298815";
 
-const AMOUNTS: Range = (b"1099511627.775", b"1099511627.776");
+const PAST_84: &[u8] = b"19342813113834066795298816";
 
-const MONEY: Range = (
-    b"85070591730234615865843651857942052.863",
-    b"85070591730234615865843651857942052.864",
-);
+/// The greatest number below 2^124.
+const LAST_124: &[u8] = b"21267647932558653966460912964485513215";
 
-const EDITS: Range = (b"65536", b"65537");
+const PAST_124: &[u8] = b"21267647932558653966460912964485513216";
 
-const FROM_1: Range = (b"1", b"0");
+/// The greatest number below 2^126.
+const LAST_126: &[u8] = b"85070591730234615865843651857942052863";
 
-const CALLERS: Range = (b"8", b"9");
+const PAST_126: &[u8] = b"85070591730234615865843651857942052864";
 
-const ONLY_0: Range = (b"0", b"1");
+/// The greatest amount.
+const LAST_AMOUNT: &[u8] = b"1099511627.775";
 
-const UP_TO_1: Range = (b"1", b"2");
+const PAST_AMOUNT: &[u8] = b"1099511627.776";
 
-const UP_TO_2: Range = (b"2", b"3");
+/// The greatest cost.
+const LAST_MONEY: &[u8] = b"85070591730234615865843651857942052.863";
+
+const PAST_MONEY: &[u8] = b"85070591730234615865843651857942052.864";
 
 /// A module of 0.001 and one of 10.00.
 const TWO: [Module; 2] = [
@@ -74,128 +74,142 @@ const TWO: [Module; 2] = [
     },
 ];
 
-/// What stands before a number, in two parts, the last token that is taken there, and one that is outside the range.
-type Row = (&'static [u8], &'static [u8], Range);
+/// What stands between a front and a number, and the last token that is taken there, and one that is outside the range.
+type Row = (&'static [u8], &'static [u8], &'static [u8]);
 
-/// Numbers of the journal, of the pool, and of what begins an outcome.
-const NUMBERS_BEFORE_PLANS: [Row; 23] = [
-    (JOURNAL, b"(", UP_TO_1),
-    (JOURNAL, b"(", FROM_1),
-    (JOURNAL, b"(1 caller ", CALLERS),
-    (JOURNAL, b"(1 caller ", FROM_1),
-    (JOURNAL, b"(1 caller 1 drop D accepted ", EDITS),
+/// Numbers of the journal.
+const IN_JOURNAL: [Row; 7] = [
+    (b"(", b"1", b"2"),
+    (b"(", b"1", b"0"),
+    (b"(1 caller ", b"8", b"9"),
+    (b"(1 caller ", b"1", b"0"),
+    (b"(1 caller 1 drop D accepted ", b"65536", b"65537"),
     (
-        JOURNAL,
         b"(1 caller 1 drop D too-much ",
-        (b"35184372088.831", b"35184372088.832"),
+        b"35184372088.831",
+        b"35184372088.832",
     ),
-    (JOURNAL, b"(1 cut ", (b"4095", b"4096")),
-    (POOL, b"(", ONLY_0),
-    (POOL, b"(0 state ", ONLY_0),
-    (POOL, b"(0 state 0 right ", TO_84),
-    (POOL, b"(0 state 0 right 0(", TO_32),
-    (POOL, b"(0 state 0 right 0(", (b"0", b")")),
-    (POOL, b"(0 state 0 right 0(0 ", (b")", b"0")),
-    (OUTCOMES, b"PLAN(caller ", CALLERS),
-    (OUTCOMES, b"PLAN(caller ", FROM_1),
-    (OUTCOMES, b"PLAN(caller 1 plan ", (b"64", b"65")),
-    (OUTCOMES, b"PLAN(caller 1 plan ", FROM_1),
-    (OUTCOMES, b"PLAN(caller 1 plan 1 version ", EDITS),
-    (OUTCOMES, b"PLAN(caller 1 plan 1 version 0 position ", EDITS),
-    (OUTCOMES, b"UNSURVIVABLE(caller ", CALLERS),
-    (OUTCOMES, b"UNSURVIVABLE(caller 1 plan ", (b"64", b"65")),
+    (b"(1 cut ", b"4095", b"4096"),
+];
+
+/// Numbers of the pool.
+const IN_POOL: [Row; 6] = [
+    (b"(", b"0", b"1"),
+    (b"(0 state ", b"0", b"1"),
+    (b"(0 state 0 right ", LAST_84, PAST_84),
+    (b"(0 state 0 right 0(", LAST_32, PAST_32),
+    (b"(0 state 0 right 0(", b"0", b")"),
+    (b"(0 state 0 right 0(0 ", b")", b"0"),
+];
+
+/// Numbers of what begins an outcome.
+const IN_OUTCOMES: [Row; 10] = [
+    (b"PLAN(caller ", b"8", b"9"),
+    (b"PLAN(caller ", b"1", b"0"),
+    (b"PLAN(caller 1 plan ", b"64", b"65"),
+    (b"PLAN(caller 1 plan ", b"1", b"0"),
+    (b"PLAN(caller 1 plan 1 version ", b"65536", b"65537"),
     (
-        OUTCOMES,
+        b"PLAN(caller 1 plan 1 version 0 position ",
+        b"65536",
+        b"65537",
+    ),
+    (b"UNSURVIVABLE(caller ", b"8", b"9"),
+    (b"UNSURVIVABLE(caller 1 plan ", b"64", b"65"),
+    (
         b"UNSURVIVABLE(caller 1 plan 1 version 0 position ",
-        EDITS,
+        b"65536",
+        b"65537",
     ),
     (
-        OUTCOMES,
         b"UNSURVIVABLE(caller 1 plan 1 version 0 position 0 state ",
-        ONLY_0,
+        b"0",
+        b"1",
     ),
 ];
 
-/// Numbers of a plan, up to its routes.
-const NUMBERS_OF_PLANS: [Row; 22] = [
-    (DEMANDS, b")cost 0 bound 0 raw 0 ", TO_72),
-    (DEMANDS, b")cost 0 bound 0 raw 0 ", FROM_1),
-    (MODULES, b"", (b"17592186044415", b"17592186044416")),
-    (MODULES, b"7663 ", (b"7036874417", b"7036874418")),
-    (MODULES, b"7664 ", (b"7036874416", b"7036874417")),
-    (MODULES, b"0 ", (b"0", b")")),
-    (MODULES, b"0 0 ", (b")", b"0")),
-    (CERTIFICATE, b"", FROM_1),
-    (CERTIFICATE, b"", TO_72),
-    (CERTIFICATE, b"1(", TO_62),
-    (CERTIFICATE, b"1(0 pool ", ONLY_0),
-    (CERTIFICATE, b"1(0 local ", ONLY_0),
-    (CERTIFICATE, b"1(0 local 0(", TO_32),
-    (CERTIFICATE, b"1(0 local 0(0)right ", TO_84),
-    (CERTIFICATE, b"1(0 pool 0 right ", TO_84),
-    (ROUTES, b"", (b"state", b")")),
-    (ROUTES, b"state ", ONLY_0),
-    (ROUTES, b"state 0 none ", FROM_1),
-    (ROUTES, b"state 0 none ", TO_62),
-    (ROUTES, b"state 0 none 1(D ", FROM_1),
-    (ROUTES, b"state 0 none 1(D ", TO_124),
-    (ROUTES, b"state 0 none 1()", (b")", b"state")),
+/// The denominator of a raw value.
+const IN_DEMANDS: [Row; 2] = [
+    (b")cost 0 bound 0 raw 0 ", LAST_72, PAST_72),
+    (b")cost 0 bound 0 raw 0 ", b"1", b"0"),
+];
+
+/// Counts of modules.
+const IN_MODULES: [Row; 5] = [
+    (b"", b"17592186044415", b"17592186044416"),
+    (b"7663 ", b"7036874417", b"7036874418"),
+    (b"7664 ", b"7036874416", b"7036874417"),
+    (b"0 ", b"0", b")"),
+    (b"0 0 ", b")", b"0"),
+];
+
+/// Numbers of a certificate.
+const IN_CERTIFICATE: [Row; 8] = [
+    (b"", b"1", b"0"),
+    (b"", LAST_72, PAST_72),
+    (b"1(", LAST_62, PAST_62),
+    (b"1(0 pool ", b"0", b"1"),
+    (b"1(0 local ", b"0", b"1"),
+    (b"1(0 local 0(", LAST_32, PAST_32),
+    (b"1(0 local 0(0)right ", LAST_84, PAST_84),
+    (b"1(0 pool 0 right ", LAST_84, PAST_84),
+];
+
+/// Numbers of the routes.
+const IN_ROUTES: [Row; 7] = [
+    (b"", b"state", b")"),
+    (b"state ", b"0", b"1"),
+    (b"state 0 none ", b"1", b"0"),
+    (b"state 0 none ", LAST_62, PAST_62),
+    (b"state 0 none 1(D ", b"1", b"0"),
+    (b"state 0 none 1(D ", LAST_124, PAST_124),
+    (b"state 0 none 1()", b")", b"state"),
 ];
 
 /// Numbers of what a plan says of its bound.
-const NUMBERS_OF_QUALITY: [Row; 20] = [
-    (QUALITY, b"tight ", FROM_1),
-    (QUALITY, b"tight ", TO_62),
-    (QUALITY, b"tight 1(", TO_62),
-    (QUALITY, b"tight 1(", (b"0", b")")),
-    (QUALITY, b"tight 1(0 ", (b")", b"0")),
-    (QUALITY, b"loose wide route ", ONLY_0),
-    (QUALITY, b"loose wide route 0 ", FROM_1),
-    (QUALITY, b"loose wide route 0 ", TO_62),
-    (QUALITY, b"loose wide route 0 1(0 ", (b")", b"0")),
+const IN_QUALITY: [Row; 20] = [
+    (b"tight ", b"1", b"0"),
+    (b"tight ", LAST_62, PAST_62),
+    (b"tight 1(", LAST_62, PAST_62),
+    (b"tight 1(", b"0", b")"),
+    (b"tight 1(0 ", b")", b"0"),
+    (b"loose wide route ", b"0", b"1"),
+    (b"loose wide route 0 ", b"1", b"0"),
+    (b"loose wide route 0 ", LAST_62, PAST_62),
+    (b"loose wide route 0 1(0 ", b")", b"0"),
+    (b"loose wide route 0 1(0)(link a ", b"demand", b")"),
+    (b"loose wide route 0 1(0)(link a demand D ", b")", b"flow"),
+    (b"loose wide route 0 1(0)(link a demand D)row ", b"2", b"3"),
+    (b"loose wide route 0 1(0)(link a demand D)sum ", b"2", b"3"),
     (
-        QUALITY,
-        b"loose wide route 0 1(0)(link a ",
-        (b"demand", b")"),
-    ),
-    (
-        QUALITY,
-        b"loose wide route 0 1(0)(link a demand D ",
-        (b")", b"flow"),
-    ),
-    (
-        QUALITY,
-        b"loose wide route 0 1(0)(link a demand D)row ",
-        UP_TO_2,
-    ),
-    (
-        QUALITY,
-        b"loose wide route 0 1(0)(link a demand D)sum ",
-        UP_TO_2,
-    ),
-    (
-        QUALITY,
         b"loose wide route 0 1(0)(link a demand D)entry ",
-        UP_TO_2,
+        b"2",
+        b"3",
     ),
-    (QUALITY, b"loose wide master(", (b"link", b")")),
-    (QUALITY, b"loose wide master(link a ", (b")", b"cut")),
-    (QUALITY, b"loose wide master(cut ", ONLY_0),
-    (QUALITY, b"loose wide master(cut 0(", TO_32),
-    (QUALITY, b"loose wide master(link a)row ", UP_TO_1),
-    (QUALITY, b"loose wide master(link a)entry ", UP_TO_1),
+    (b"loose wide master(", b"link", b")"),
+    (b"loose wide master(link a ", b")", b"cut"),
+    (b"loose wide master(cut ", b"0", b"1"),
+    (b"loose wide master(cut 0(", LAST_32, PAST_32),
+    (b"loose wide master(link a)row ", b"1", b"2"),
+    (b"loose wide master(link a)entry ", b"1", b"2"),
 ];
 
-/// Numbers whose range is that of their notation.
-const LARGE_NUMBERS: [Row; 7] = [
-    (JOURNAL, b"(1 caller 1 set D ", AMOUNTS),
-    (JOURNAL, b"(1 caller 1 add D(A B)", AMOUNTS),
-    (DEMANDS, b"D(A B)", AMOUNTS),
-    (DEMANDS, b")cost ", MONEY),
-    (DEMANDS, b")cost 0 bound ", MONEY),
-    (DEMANDS, b")cost 0 bound 0 raw ", TO_126),
-    (QUALITY, b"loose wide route 0 1(", TO_126),
+/// Needs of the journal, whose range is that of their notation.
+const LARGE_IN_JOURNAL: [Row; 2] = [
+    (b"(1 caller 1 set D ", LAST_AMOUNT, PAST_AMOUNT),
+    (b"(1 caller 1 add D(A B)", LAST_AMOUNT, PAST_AMOUNT),
 ];
+
+/// A need, a cost, a bound and a raw value, of the same kind.
+const LARGE_IN_DEMANDS: [Row; 4] = [
+    (b"D(A B)", LAST_AMOUNT, PAST_AMOUNT),
+    (b")cost ", LAST_MONEY, PAST_MONEY),
+    (b")cost 0 bound ", LAST_MONEY, PAST_MONEY),
+    (b")cost 0 bound 0 raw ", LAST_126, PAST_126),
+];
+
+/// A capacity, of the same kind.
+const LARGE_IN_QUALITY: [Row; 1] = [(b"loose wide route 0 1(", LAST_126, PAST_126)];
 
 /// Whether the first fault of a text in three parts has this place and this kind.
 fn faults_at(alloc: Global, parts: (&[u8], &[u8], &[u8]), at: u64, kind: &str) -> bool {
@@ -215,36 +229,45 @@ fn ends_at(alloc: Global, front: &[u8], rest: &[u8], tokens: (&[u8], &[u8]), kin
         && faults_at(alloc, (front, rest, past), at, kind)
 }
 
-/// The place of the first row whose range ends elsewhere.
-fn first_miss(alloc: Global, rows: &[Row], kind: &str) -> Option<usize> {
-    for (i, (front, rest, range)) in rows.iter().enumerate() {
-        if !ends_at(alloc, front, rest, *range, kind) {
-            return Some(i);
+/// Whether each range of these rows ends at its last number.
+fn each_ends(alloc: Global, front: &[u8], rows: &[Row], kind: &str) -> bool {
+    for (rest, last, past) in rows {
+        if !ends_at(alloc, front, rest, (last, past), kind) {
+            return false;
         }
     }
-    None
+    true
 }
 
 #[test]
-fn each_range_before_plans_ends_at_its_last_number(rt: HostRuntime) {
-    assert_eq!(rt;
-        first_miss(rt.alloc(), &NUMBERS_BEFORE_PLANS, "limit"),
-        None
-    );
+fn ranges_of_the_journal_and_the_pool_end_at_their_last_numbers(rt: HostRuntime) {
+    assert!(rt; each_ends(rt.alloc(), JOURNAL, &IN_JOURNAL, "limit"));
+    assert!(rt; each_ends(rt.alloc(), POOL, &IN_POOL, "limit"));
 }
 
 #[test]
-fn each_range_of_a_plan_ends_at_its_last_number(rt: HostRuntime) {
-    assert_eq!(rt; first_miss(rt.alloc(), &NUMBERS_OF_PLANS, "limit"), None);
-    assert_eq!(rt; first_miss(rt.alloc(), &NUMBERS_OF_QUALITY, "limit"), None);
+fn ranges_of_outcomes_end_at_their_last_numbers(rt: HostRuntime) {
+    assert!(rt; each_ends(rt.alloc(), OUTCOMES, &IN_OUTCOMES, "limit"));
+    assert!(rt; each_ends(rt.alloc(), DEMANDS, &IN_DEMANDS, "limit"));
+    assert!(rt; each_ends(rt.alloc(), MODULES, &IN_MODULES, "limit"));
 }
 
 #[test]
-fn each_notation_ends_at_its_last_number(rt: HostRuntime) {
-    assert_eq!(rt;
-        first_miss(rt.alloc(), &LARGE_NUMBERS, "number-large"),
-        None
-    );
+fn ranges_of_certificates_and_routes_end_at_their_last_numbers(rt: HostRuntime) {
+    assert!(rt; each_ends(rt.alloc(), CERTIFICATE, &IN_CERTIFICATE, "limit"));
+    assert!(rt; each_ends(rt.alloc(), ROUTES, &IN_ROUTES, "limit"));
+}
+
+#[test]
+fn ranges_of_what_a_plan_says_of_its_bound_end_at_their_last_numbers(rt: HostRuntime) {
+    assert!(rt; each_ends(rt.alloc(), QUALITY, &IN_QUALITY, "limit"));
+}
+
+#[test]
+fn notations_end_at_their_last_numbers(rt: HostRuntime) {
+    assert!(rt; each_ends(rt.alloc(), JOURNAL, &LARGE_IN_JOURNAL, "number-large"));
+    assert!(rt; each_ends(rt.alloc(), DEMANDS, &LARGE_IN_DEMANDS, "number-large"));
+    assert!(rt; each_ends(rt.alloc(), QUALITY, &LARGE_IN_QUALITY, "number-large"));
 }
 
 /// What stands before a list in two parts, the last count of its elements, what stands before and after the number of an element, which
