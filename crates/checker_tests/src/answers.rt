@@ -21,7 +21,7 @@ pub(crate) struct Case {
 }
 
 /// The network, the states and the demands of a case.
-pub(crate) fn problem_of(alloc: Global, case: &Case) -> Option<Problem> {
+fn problem_of(alloc: Global, case: &Case) -> Option<Problem> {
     let net = triangle(alloc, 0).ok()?;
     let states = failing(alloc, &net, &[case.failed]).ok()?;
     let p = problem(alloc, net, case.opening).ok()?;
@@ -63,7 +63,7 @@ fn replaced(alloc: Global, text: &str, part: &str, by: &str) -> Option<Bytes> {
 }
 
 /// What a check says of a report with one part in place of another.
-pub(crate) fn answer_after(
+fn answer_after(
     alloc: Global,
     problem: &Problem,
     report: &str,
@@ -83,6 +83,51 @@ pub(crate) fn rejects(answer: Option<CheckAnswer>, at: u32, wrong: Finding) -> b
 }
 
 /// Whether a check accepts.
-pub(crate) fn accepts(answer: Option<CheckAnswer>) -> bool {
+fn accepts(answer: Option<CheckAnswer>) -> bool {
     matches!(answer, Some(CheckAnswer::Accepted))
+}
+
+/// Whether a check accepts a case's report with one part in place of another.
+pub(crate) fn accepts_on(
+    alloc: Global,
+    case: &Case,
+    report: &str,
+    change: (&str, &str),
+    checked: Checked,
+) -> bool {
+    match problem_of(alloc, case) {
+        Some(problem) => accepts(answer_after(alloc, &problem, report, change, checked)),
+        None => false,
+    }
+}
+
+/// How many changes have their findings, up to the first that hasn't.
+fn count_right(
+    alloc: Global,
+    problem: &Problem,
+    report: &str,
+    changes: &[Change],
+    checked: Checked,
+) -> usize {
+    for (i, (part, by, outcome, finding)) in changes.iter().enumerate() {
+        let answer = answer_after(alloc, problem, report, (part, by), checked);
+        if !rejects(answer, *outcome, *finding) {
+            return i;
+        }
+    }
+    changes.len()
+}
+
+/// How many changes of a case's report have their findings, up to the first that hasn't.
+pub(crate) fn right_changes(
+    alloc: Global,
+    case: &Case,
+    report: &str,
+    changes: &[Change],
+    checked: Checked,
+) -> usize {
+    match problem_of(alloc, case) {
+        Some(problem) => count_right(alloc, &problem, report, changes, checked),
+        None => 0,
+    }
 }

@@ -1,10 +1,7 @@
-use crate::answers::{
-    Case, Change, Checked, accepts, answer_after, answer_to, problem_of, rejects,
-};
+use crate::answers::{Case, Change, Checked, accepts_on, answer_to, rejects, right_changes};
 use net_core::{LinkId, Module, Problem, StateId, States};
-use plan_checker::Finding;
+use plan_checker::{CheckAnswer, Finding};
 use std::alloc::Global;
-use std::test::Fail;
 use worked_networks::{network, problem};
 
 /// A plan of the triangle where a state fails the link AC, 12.00 have to be carried from A to C, and 5.00 from A to B. Both demands
@@ -134,17 +131,12 @@ const CASE: Case = Case {
 const ROOM: Checked = Checked::Plan { full: false };
 
 #[test]
-fn a_plan_with_one_part_changed_has_its_finding(rt: HostRuntime) -> Result<(), Fail> {
+fn a_plan_with_one_part_changed_has_its_finding(rt: HostRuntime) {
     let alloc = rt.alloc();
-    let problem = problem_of(alloc, &CASE).ok_or("no problem")?;
-    assert!(rt; accepts(answer_to(alloc, &problem, SOUND.as_bytes(), ROOM)));
-    for (part, by, outcome, finding) in &CHANGES {
-        let answer = answer_after(alloc, &problem, SOUND, (part, by), ROOM);
-        assert!(rt; rejects(answer, *outcome, *finding), "{by}");
-    }
     let full = Checked::Plan { full: true };
-    assert!(rt; accepts(answer_after(alloc, &problem, SOUND, (POOLED, LOCAL), full)));
-    Ok(())
+    assert!(rt; accepts_on(alloc, &CASE, SOUND, ("", ""), ROOM));
+    assert!(rt; accepts_on(alloc, &CASE, SOUND, (POOLED, LOCAL), full));
+    assert_eq!(rt; right_changes(alloc, &CASE, SOUND, &CHANGES, ROOM), 22);
 }
 
 /// A module of the least capacity at a high cost.
@@ -182,11 +174,13 @@ fn large_problem(alloc: Global) -> Option<Problem> {
     })
 }
 
+/// What a check says of that plan.
+fn large_answer(alloc: Global) -> Option<CheckAnswer> {
+    let problem = large_problem(alloc)?;
+    answer_to(alloc, &problem, LARGE.as_bytes(), ROOM)
+}
+
 #[test]
-fn a_certificate_of_large_numbers_is_too_wide(rt: HostRuntime) -> Result<(), Fail> {
-    let alloc = rt.alloc();
-    let problem = large_problem(alloc).ok_or("no problem")?;
-    let answer = answer_to(alloc, &problem, LARGE.as_bytes(), ROOM);
-    assert!(rt; rejects(answer, 0, Finding::CertificateWide));
-    Ok(())
+fn a_certificate_of_large_numbers_is_too_wide(rt: HostRuntime) {
+    assert!(rt; rejects(large_answer(rt.alloc()), 0, Finding::CertificateWide));
 }
