@@ -2,4 +2,5 @@
 #![tactic(auto)]
 
 mod caller;
+
 pub use caller::Caller;

@@ -10,6 +10,7 @@ mod history;
 mod pooled;
 mod shares;
 mod snapshot;
+
 pub use answers::{AdmitAnswer, EditAnswer};
 pub use board::Board;
 pub use net_core::CutLine;
