@@ -4,7 +4,7 @@ ghost use Rattle.net_core.specs.Demands.{AreDemands};
 
 use crate::problems::{Place, TRIANGLE, place_of};
 use cut_pool::Board;
-use net_core::Demands;
+use net_core::{Demands, Network, NoMemory, States};
 use plan_types::{Plan, Quality, Spot};
 use planner::{PlanAnswer, plan_snapshot};
 use separator::OneByOne;
@@ -114,19 +114,24 @@ fn numerators(plan: &Plan) -> Numerators {
 }
 
 /// What planning on a new board comes to.
-fn planned(alloc: Global, place: &Place, opening: Demands) -> Option<PlanAnswer>
-    requires { AreDemands (length place.now.net.nodes) opening }
+fn planned(
+    alloc: Global,
+    net: &Network,
+    states: &States,
+    opening: Demands,
+) -> Result<PlanAnswer, NoMemory>
+    requires { AreDemands (length net.now.nodes) opening }
 {
-    let board = Board::new(alloc, &place.net, &place.states, opening).ok()?;
-    let snapshot = board.snapshot().ok()?;
+    let board = Board::new(alloc, net, states, opening)?;
+    let snapshot = board.snapshot()?;
     let mut separator = OneByOne::new(alloc, board);
-    plan_snapshot(alloc, &place.net, &place.states, snapshot, &mut separator).ok()
+    plan_snapshot(alloc, net, states, snapshot, &mut separator)
 }
 
 /// What planning for one demand comes to.
 fn planned_for(alloc: Global, place: &Place, demand: DemandRow) -> Option<PlanAnswer> {
     let opening = demands(alloc, place.net.nodes().len(), &[demand]).ok()?;
-    planned(alloc, place, opening)
+    planned(alloc, &place.net, &place.states, opening).ok()
 }
 
 /// What planning comes to for a row.
