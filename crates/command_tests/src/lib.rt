@@ -2,7 +2,7 @@
 #![tactic(auto)]
 
 #[cfg(test)]
-mod acceptance;
+mod checks;
 #[cfg(test)]
 mod damages;
 #[cfg(test)]
