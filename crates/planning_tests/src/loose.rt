@@ -84,12 +84,13 @@ fn only_plan(report: &Report) -> Option<&Plan> {
     }
 }
 
-/// Modules of prime capacities, for 1.00 each.
+/// A module close to the greatest capacity, for 1.000.
 const LARGE: [Module; 1] = [Module {
     capacity: 1099511627689,
     cost: 1000,
 }];
 
+/// A larger one, for 1.001. The two capacities have no common divisor.
 const LARGER: [Module; 1] = [Module {
     capacity: 1099511627773,
     cost: 1001,
