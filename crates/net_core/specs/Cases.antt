@@ -2,15 +2,17 @@
 use Rattle.std.specs.Prelude.{ℕ, List}
 use Rattle.net_core.specs.declared.demand.Demand.{Demand}
 use Rattle.net_core.specs.declared.network.Link.{Link}
+use Rattle.net_core.specs.declared.places.Places.{Places}
 use Rattle.net_core.specs.declared.states.Listed.{Listed}
 use Rattle.net_core.specs.Graphs.{Graph}
 
--- nodes, links, listed states and demands
+-- nodes, links, listed states and demands; the places say what a unit of their amounts is
 pub record Case : Type 0 where
   pub nodes : List (List ℕ)
   pub links : List Link
   pub listed : List Listed
   pub demands : List Demand
+  pub places : Places
 
 -- the network of the case in state s
 abbrev pub graph_in : Case → ℕ → Graph

@@ -2,14 +2,14 @@
 use Rattle.std.specs.Prelude.{◌≢◌, ℕ, ◌≤◌, ◌<◌, ◌^◌, List, length, All, AllPairs, sum_by}
 use Rattle.net_core.specs.declared.demand.Demand.{Demand}
 
--- a demand joins two different ones of n nodes, and its need is below 2^40 thousandths
+-- a demand joins two different ones of n nodes, and its need is below 2^40 units
 pub record IsDemand (n : ℕ) (d : Demand) : Type 0 where
   pub from_known : d.from.0 < n
   pub to_known : d.to.0 < n
   pub different : d.from.0 ≢ d.to.0
   pub need : d.need < 2 ^ 40
 
--- at most 2,048 demands, no name twice, and a total need below 2^44 thousandths
+-- at most 2,048 demands, no name twice, and a total need below 2^44 units
 pub record AreDemands (n : ℕ) (demands : List Demand) : Type 0 where
   pub few : length demands ≤ 2048
   pub different : AllPairs (λ x y. x.name ≢ y.name) demands

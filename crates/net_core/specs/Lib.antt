@@ -8,3 +8,5 @@ pub mod States
 pub mod Sums
 pub mod Tests
 pub mod Views
+pub mod Places
+pub mod Settled

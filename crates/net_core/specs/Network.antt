@@ -7,7 +7,7 @@ use Rattle.net_core.specs.declared.network.NetFault.{NetFault}
 use Rattle.net_core.specs.declared.network.NetFault.TheVariants.{Nodes, Links, DoubleNode, DoubleLink, UnknownEnd, SelfLink, Amount, Modules, ZeroModule, FixedLink}
 use Rattle.net_core.specs.Tests.{first_fault, is_named, is_large}
 
--- a module carries something, and its numbers are below 2^40 thousandths
+-- a module carries something, and its numbers are below 2^40 units
 pub record IsModule (m : Module) : Type 0 where
   pub carries : 0 < m.capacity
   pub capacity : m.capacity < 2 ^ 40

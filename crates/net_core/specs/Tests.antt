@@ -16,6 +16,6 @@ are_same a b = pointwise ◌==◌ a b
 abbrev pub is_named : {X : Type 0} → (X → List ℕ) → List ℕ → List X → Bool
 is_named name_of name xs = list_any (λ x. are_same (name_of x) name) xs
 
--- an amount or a cost of 2^40 thousandths or more
+-- an amount or a cost of 2^40 units or more
 abbrev pub is_large : ℕ → Bool
 is_large n = nat_le (2 ^ 40) n

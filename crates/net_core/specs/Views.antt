@@ -18,7 +18,7 @@ graph_of g = graph g.net.now g.states.now g.state.0
 
 -- the network with its states and demands
 abbrev pub case : Network → States → List Demand → Case
-case net states demands = record { nodes = net.nodes; links = net.links; listed = states.listed; demands = demands }
+case net states demands = record { nodes = net.nodes; links = net.links; listed = states.listed; demands = demands; places = net.places }
 
 -- the case that a value of the program stands for
 abbrev pub case_of : Instance → Case

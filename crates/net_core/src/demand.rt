@@ -2,7 +2,7 @@ use crate::ids::NodeId;
 use crate::list::{Copied, List, NoMemory};
 use crate::name::Name;
 
-/// A demand between two nodes, in thousandths.
+/// A demand between two nodes, in units of the network.
 #[derive(Drop)]
 pub struct Demand {
     pub name: Name,

@@ -3,7 +3,7 @@ use crate::list::{Copied, NoMemory};
 use crate::name::Name;
 use crate::plan::Lengths;
 
-/// A change of the demands that a caller asks for. Needs are in thousandths.
+/// A change of the demands that a caller asks for. Needs are in units of the network.
 #[derive(Drop)]
 pub enum Edit {
     /// The demand's need becomes this one.
@@ -39,7 +39,7 @@ pub enum Reply {
     SelfDemand,
     /// There are 2,048 demands already.
     TooMany,
-    /// All needs together would be this, which is 2^44 thousandths or more.
+    /// All needs together would be this, which is 2^44 units or more.
     TooMuch(u64),
 }
 

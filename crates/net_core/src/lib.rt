@@ -10,6 +10,7 @@ pub mod journal;
 pub mod list;
 pub mod name;
 pub mod network;
+pub mod places;
 pub mod plan;
 pub mod problem;
 pub mod states;
@@ -25,6 +26,7 @@ pub use journal::{Edit, Entry, Reply};
 pub use list::{Copied, List, NoMemory};
 pub use name::{Name, NameFault};
 pub use network::{Link, Module, NetFault, Network, Notes};
+pub use places::Places;
 pub use plan::{Caps, Counts, CutLine, Flow, Lengths, Path, Routing};
 pub use states::{Listed, States, StatesFault};
 

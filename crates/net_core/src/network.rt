@@ -2,20 +2,23 @@ ghost use Rattle.std.specs.Prelude.{◌≡◌, ◌≢◌, ℕ, ◌≤◌, ◌<�
 ghost use Rattle.std.specs.List.{list_any};
 ghost use Rattle.net_core.specs.Tests.{first_fault, is_named, is_large, are_same};
 ghost use Rattle.net_core.specs.Network.{IsLink, IsNetwork, has_large_amount, link_tests, links_tests, nodes_tests, network_fault};
+ghost use Rattle.net_core.specs.Settled.{settled_links, settled_notes, without_setups};
 
 use crate::ids::NodeId;
 use crate::list::{Copied, List, NoMemory};
 use crate::name::Name;
+use crate::places::Places;
 use thiserror::Error;
 
-/// A module that a link can be given any number of times, in thousandths of capacity and of cost.
+/// A module that a link can be given any number of times. Its capacity and its cost are in units of the network.
 #[derive(Clone, Copy, Debug, PartialEq, Eq)]
 pub struct Module {
     pub capacity: u64,
     pub cost: u64,
 }
 
-/// A link between two nodes, with its pre-installed capacity, its setup cost and its modules, in thousandths.
+/// A link between two nodes, with its pre-installed capacity, its setup cost and its modules, in units of the network. The setup
+/// cost is paid once where some module is installed.
 #[derive(Drop)]
 pub struct Link {
     pub name: Name,
@@ -47,12 +50,14 @@ pub struct Notes {
     pub setup_cost: bool,
 }
 
-/// A network that passed its check.
+/// A network that passed its check. Its amounts and costs are whole numbers of units, and `places` says what a unit is: a
+/// thousandth or a millionth.
 #[derive(Drop)]
 pub struct Network {
     nodes: List<Name>,
     links: List<Link>,
     notes: Notes,
+    places: Places,
     pub ghost checked: { ∥ IsNetwork nodes links ∥₁ },
 }
 
@@ -62,6 +67,7 @@ impl Copied for Network {
             nodes: self.nodes.copy()?,
             links: self.links.copy()?,
             notes: self.notes,
+            places: self.places,
         })
     }
 }
@@ -87,8 +93,8 @@ pub enum NetFault {
     /// Both ends are one node.
     #[error("link {0}: both ends are one node")]
     SelfLink(u32),
-    /// A capacity or a cost is 2^40 thousandths or more.
-    #[error("link {0}: an amount of 2^40 thousandths or more")]
+    /// A capacity or a cost is 2^40 units or more.
+    #[error("link {0}: an amount of 2^40 units or more")]
     Amount(u32),
     /// More than 16 modules.
     #[error("link {0}: more than 16 modules")]
@@ -214,13 +220,45 @@ fn network_fault(nodes: &[Name], links: &[Link]) -> Option<NetFault>
     first_link_fault(nodes.len(), links)
 }
 
+/// Makes the setup cost of each link 0.
+fn drop_setups(links: &mut [Link])
+    ensures { links.new ≡ without_setups links.old }
+{
+    for e in 0..links.len() {
+        links[e].setup = 0;
+    }
+}
+
+fn settled_links(charge: bool, mut links: List<Link>) -> List<Link>
+    ensures { result ≡ settled_links charge links }
+{
+    if !charge {
+        drop_setups(links.items_mut());
+    }
+    links
+}
+
+fn settled_notes(charge: bool, mut notes: Notes) -> Notes
+    ensures { result ≡ settled_notes charge notes }
+{
+    if charge {
+        notes.setup_cost = false;
+    }
+    notes
+}
+
 impl Network {
-    /// The network of these parts, which are dropped at a refusal. It compares each name with all before it, so
-    /// it takes time in the squares of the numbers of nodes and links. It asks for no memory.
-    pub fn check(nodes: List<Name>, links: List<Link>, notes: Notes) -> Result<Network, NetFault>
+    /// The network of these parts, which are dropped at a refusal; `places` says what a unit of its amounts is. It compares each
+    /// name with all before it, so it takes time in the squares of the numbers of nodes and links. It asks for no memory.
+    pub fn check(
+        nodes: List<Name>,
+        links: List<Link>,
+        notes: Notes,
+        places: Places,
+    ) -> Result<Network, NetFault>
         ensures faults { MatchResult result (λ _. network_fault nodes links ≡ None) (λ f. network_fault nodes links ≡ Some f) }
         ensures accepted { IsNetwork nodes links → IsOk result }
-        ensures parts { MatchResult result (λ net. (net.nodes ≡ nodes) × (net.links ≡ links) × (net.notes ≡ notes)) (λ _. Unit {0}) }
+        ensures parts { MatchResult result (λ net. (net.nodes ≡ nodes) × (net.links ≡ links) × (net.notes ≡ notes) × (net.places ≡ places)) (λ _. Unit {0}) }
     {
         match network_fault(nodes.items(), links.items()) {
             Some(fault) => Err(fault),
@@ -228,7 +266,27 @@ impl Network {
                 nodes,
                 links,
                 notes,
+                places,
             }),
+        }
+    }
+
+    /// The network with its setup costs kept or dropped for good. Where they are charged, all stays but the note of them, which
+    /// becomes false; else each becomes 0, and the note stays. It takes time in the number of links, and no memory.
+    ///
+    /// A link with a setup of 3,000 and a module of 10,000 for 5,000 costs 8,000 with one module where setups are charged, and
+    /// 5,000 where they aren't.
+    pub fn settle(self, charge: bool) -> Network
+        ensures nodes { result.nodes ≡ self.nodes }
+        ensures links { result.links ≡ settled_links charge self.links }
+        ensures notes { result.notes ≡ settled_notes charge self.notes }
+        ensures places { result.places ≡ self.places }
+    {
+        Network {
+            nodes: self.nodes,
+            links: settled_links(charge, self.links),
+            notes: settled_notes(charge, self.notes),
+            places: self.places,
         }
     }
 
@@ -246,10 +304,17 @@ impl Network {
         &self.links
     }
 
-    /// Which further costs the file gives.
+    /// Which further costs the file gives and no plan counts.
     pub fn notes(&self) -> Notes
         ensures { result ≡ self.now.notes }
     {
         self.notes
+    }
+
+    /// How many digits after the point the amounts have, and so what a unit is.
+    pub fn places(&self) -> Places
+        ensures { result ≡ self.now.places }
+    {
+        self.places
     }
 }

@@ -4,7 +4,7 @@ use crate::list::{Copied, List, NoMemory};
 /// The links of a path, from its first node to its last.
 pub type Path = List<LinkId>;
 
-/// Part of a demand along one path: `num` over the routing's denominator, in thousandths.
+/// Part of a demand along one path: `num` over the routing's denominator, in units of the network.
 #[derive(Drop)]
 pub struct Flow {
     pub demand: u32,
@@ -19,7 +19,7 @@ pub struct Routing {
     pub flows: List<Flow>,
 }
 
-/// One capacity for each link: `nums` over `scale`, in thousandths.
+/// One capacity for each link: `nums` over `scale`, in units of the network.
 #[derive(Drop)]
 pub struct Caps {
     pub scale: u64,
@@ -33,7 +33,7 @@ pub type Counts = List<List<u64>>;
 pub type Lengths = List<u32>;
 
 /// A cut: a state and one length for each link, with its right side. Whatever carries the demands in that state needs as much
-/// capacity, in thousandths, along the lengths as the right side says (a metric inequality).
+/// capacity, in units of the network, along the lengths as the right side says (a metric inequality).
 #[derive(Drop)]
 pub struct CutLine {
     pub state: StateId,
