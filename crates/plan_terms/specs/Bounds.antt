@@ -1,5 +1,5 @@
--- raw values, and bounds: rounded up to a multiple of the greatest common divisor of the modules' costs
-use Rattle.std.specs.Prelude.{◌≡◌, ◌≢◌, ℕ, ◌*◌, ◌≤◌, List, All, map, flat_map}
+-- raw values, and bounds: rounded up to a multiple of the greatest common divisor of what links charge
+use Rattle.std.specs.Prelude.{◌≡◌, ◌≢◌, ℕ, ◌*◌, ◌≤◌, ◌==◌, if◌then◌else◌, List, [], ◌∷◌, All, length, map, flat_map}
 use Rattle.std.specs.Int.{◌∣◌}
 use Rattle.net_core.specs.declared.network.Link.{Link}
 
@@ -8,19 +8,23 @@ pub record IsLowest (a b c d : ℕ) : Type 0 where
   pub same : a * d ≡ c * b
   pub lowest : (k : ℕ) → k ∣ c → k ∣ d → k ≡ 1
 
--- the costs of all modules
-abbrev pub module_costs : List Link → List ℕ
-module_costs links = flat_map (λ l. map (λ m. m.cost) l.modules) links
+-- what a link charges: its setup and the cost of each of its modules; nothing where it has no module
+abbrev pub link_charges : Link → List ℕ
+link_charges l = if length l.modules == 0 then [] else l.setup ∷ map (λ m. m.cost) l.modules
+
+-- what all links charge
+abbrev pub charges : List Link → List ℕ
+charges links = flat_map link_charges links
 
 -- the greatest common divisor of numbers; 0 where all are 0
 pub record IsGreatestDivisor (xs : List ℕ) (g : ℕ) : Type 0 where
   pub divides : All (λ x. g ∣ x) xs
   pub greatest : (d : ℕ) → All (λ x. d ∣ x) xs → d ∣ g
 
--- The bound: the raw value num / den, rounded up to a multiple of the greatest common divisor of the modules' costs; where that is 0, its one multiple.
+-- The bound: the raw value num / den, rounded up to a multiple of the greatest common divisor of all charges; where that is 0, its one multiple.
 pub record IsBound (links : List Link) (num den bound : ℕ) : Type 0 where
   pub divisor : ℕ
-  pub is_divisor : IsGreatestDivisor (module_costs links) divisor
+  pub is_divisor : IsGreatestDivisor (charges links) divisor
   pub multiple : divisor ∣ bound
   pub reaches : divisor ≢ 0 → num ≤ bound * den
   pub least : (other : ℕ) → divisor ∣ other → num ≤ other * den → bound ≤ other

@@ -1,6 +1,6 @@
 -- counts of modules: the capacity that they install, what they cost, and whether they are able
-use Rattle.std.specs.Prelude.{◌≡◌, ℕ, ◌+◌, ◌*◌, ◌^◌, ◌<◌, ◌≤◌, List, All, length, map, sum_by, zip}
-use Rattle.std.specs.List.{AllZip}
+use Rattle.std.specs.Prelude.{◌≡◌, ℕ, ◌+◌, ◌*◌, ◌^◌, ◌<◌, ◌≤◌, Bool, if◌then◌else◌, nat_lt, List, All, length, map, sum_by, zip}
+use Rattle.std.specs.List.{AllZip, list_any}
 use Rattle.net_core.specs.declared.network.Module.{Module}
 use Rattle.net_core.specs.declared.network.Link.{Link}
 use Rattle.net_core.specs.declared.plan.Routing.{Routing}
@@ -12,23 +12,31 @@ use Rattle.plan_terms.specs.Flows.{Carries}
 abbrev pub modules_capacity : List Module → List ℕ → ℕ
 modules_capacity modules counts = sum_by (λ p. p.0.capacity * p.1) (zip modules counts)
 
--- what counts of modules cost
+-- what counts of modules cost by themselves
 abbrev pub modules_cost : List Module → List ℕ → ℕ
 modules_cost modules counts = sum_by (λ p. p.0.cost * p.1) (zip modules counts)
+
+-- some count is positive, so that something is installed
+abbrev pub installs : List ℕ → Bool
+installs counts = list_any (λ n. nat_lt 0 n) counts
+
+-- what counts of a link's modules cost: the modules, and the link's setup once where something is installed (SNDlib's fixed charge)
+abbrev pub link_cost : Link → List ℕ → ℕ
+link_cost l counts = modules_cost l.modules counts + (if installs counts then l.setup else 0)
 
 -- the installed capacity of each link: the pre-installed one and that of its modules
 abbrev pub capacities : List Link → List (List ℕ) → List ℕ
 capacities links counts = map (λ p. p.0.fixed + modules_capacity p.0.modules p.1) (zip links counts)
 
--- the cost of all modules
+-- what counts cost: the sum over the links
 abbrev pub total_cost : List Link → List (List ℕ) → ℕ
-total_cost links counts = sum_by (λ p. modules_cost p.0.modules p.1) (zip links counts)
+total_cost links counts = sum_by (λ p. link_cost p.0 p.1) (zip links counts)
 
 -- one count for each module of each link
 abbrev pub AreCounts : List Link → List (List ℕ) → Type 0
 AreCounts links counts = AllZip (λ l c. length c ≡ length l.modules) links counts
 
--- each count is below 2^44, and each link's capacity is below 2^46 thousandths
+-- each count is below 2^44, and each link's capacity is below 2^46 units
 pub record AreWithinLimits (links : List Link) (counts : List (List ℕ)) : Type 0 where
   pub few : All (λ c. All (λ n. n < 2 ^ 44) c) counts
   pub small : All (λ n. n < 2 ^ 46) (capacities links counts)

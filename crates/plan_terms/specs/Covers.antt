@@ -3,7 +3,7 @@ use Rattle.std.specs.Prelude.{◌≡◌, ℕ, ◌-◌, ◌*◌, ◌≤◌, ◌�
 use Rattle.net_core.specs.declared.network.Module.{Module}
 use Rattle.net_core.specs.declared.network.Link.{Link}
 use Rattle.plan_terms.specs.Bounds.{IsGreatestDivisor}
-use Rattle.plan_terms.specs.Capacities.{modules_capacity, modules_cost}
+use Rattle.plan_terms.specs.Capacities.{link_cost, modules_capacity}
 
 -- counts of a link's modules that reach a need
 pub record Reaches (modules : List Module) (need : ℕ) (counts : List ℕ) : Type 0 where
@@ -24,20 +24,20 @@ pub record IsFewSteps (modules : List Module) (need : ℕ) : Type 0 where
 abbrev pub MayCover : List Module → ℕ → List ℕ → Type 0
 MayCover modules need counts = IsFewSteps modules need ⊎ AreOfOneKind counts
 
--- the cost of a cover: the least that such counts cost which reach the need
-pub record IsCoverCost (modules : List Module) (need cost : ℕ) : Type 0 where
+-- the cost of a cover: the least that such counts cost on the link which reach the need, its setup among it where they install something
+pub record IsCoverCost (l : Link) (need cost : ℕ) : Type 0 where
   pub counts : List ℕ
-  pub may : MayCover modules need counts
-  pub reaches : Reaches modules need counts
-  pub paid : modules_cost modules counts ≡ cost
-  pub least : (others : List ℕ) → MayCover modules need others → Reaches modules need others → cost ≤ modules_cost modules others
+  pub may : MayCover l.modules need counts
+  pub reaches : Reaches l.modules need counts
+  pub paid : link_cost l counts ≡ cost
+  pub least : (others : List ℕ) → MayCover l.modules need others → Reaches l.modules need others → cost ≤ link_cost l others
 
 -- counts cover a need: they reach it at the cost of its cover
-pub record Covers (modules : List Module) (need : ℕ) (counts : List ℕ) : Type 0 where
-  pub reaches : Reaches modules need counts
-  pub cheapest : IsCoverCost modules need (modules_cost modules counts)
+pub record Covers (l : Link) (need : ℕ) (counts : List ℕ) : Type 0 where
+  pub reaches : Reaches l.modules need counts
+  pub cheapest : IsCoverCost l need (link_cost l counts)
 
 -- the counts of each link cover its load less its pre-installed capacity
 pub record CoverLoads (links : List Link) (loads : ℕ → ℕ) (counts : List (List ℕ)) : Type 0 where
   pub long : length counts ≡ length links
-  pub each : (e : ℕ) (l : Link) (c : List ℕ) → slice_get links e ≡ Some l → slice_get counts e ≡ Some c → Covers l.modules (loads e - l.fixed) c
+  pub each : (e : ℕ) (l : Link) (c : List ℕ) → slice_get links e ≡ Some l → slice_get counts e ≡ Some c → Covers l (loads e - l.fixed) c
