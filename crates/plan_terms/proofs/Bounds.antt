@@ -1,4 +1,4 @@
--- bounds: rounded up to a multiple of the greatest common divisor of the modules' costs
+-- bounds: rounded up to a multiple of the greatest common divisor of what links charge
 use Rattle.std.proofs.Common.{◌≡◌, ℕ, zero, suc, ◌*◌, ◌/◌, ◌≤◌, ◌<◌, List, [], ◌∷◌, ◌++◌, refl, sym, ap, subst, ◌∙◌, ◌≢◌, ◌+◌, ◌⊎◌, inl, inr, ⊎_elim, arith, All, map}
 use Rattle.std.proofs.Math.Nat.{mul-le-mul_left, le_of_mul-le-mul_left, dvd-mul_right, mul-div_cancel', lt_of_mul-lt-mul_right}
 use Rattle.std.proofs.lemmas.List.Elements.{All-append, All-from_recursion, recursion_from_All}
@@ -8,11 +8,11 @@ use Rattle.std.specs.Int.{◌∣◌, IsGcd}
 use Rattle.std.specs.List.{AllByRecursion}
 use Rattle.net_core.specs.declared.network.Link.{Link}
 use Rattle.net_core.specs.declared.network.Module.{Module}
-use Rattle.plan_terms.specs.Bounds.{IsLowest, module_costs, IsGreatestDivisor, IsBound}
+use Rattle.plan_terms.specs.Bounds.{IsLowest, with_setup, link_charges, charges, IsGreatestDivisor, IsBound}
 use Rattle.plan_terms.proofs.Duality.{divides_parts}
 
--- where all modules cost nothing the bound is 0
-pub bound_free : (links : List Link) (num den : ℕ) → IsGreatestDivisor (module_costs links) 0 → IsBound links num den 0
+-- where nothing is charged the bound is 0
+pub bound_free : (links : List Link) (num den : ℕ) → IsGreatestDivisor (charges links) 0 → IsBound links num den 0
 bound_free links num den is = record {
   divisor = 0;
   is_divisor = is;
@@ -22,7 +22,7 @@ bound_free links num den is = record {
 }
 
 -- the multiples of a positive divisor that reach num / den are the counts of it that reach num / (den · divisor)
-pub bound_rounded : (links : List Link) (num den g count : ℕ) → 0 < g → IsGreatestDivisor (module_costs links) g → num ≤ den * g * count → ((c : ℕ) → num ≤ den * g * c → count ≤ c) → IsBound links num den (g * count)
+pub bound_rounded : (links : List Link) (num den g count : ℕ) → 0 < g → IsGreatestDivisor (charges links) g → num ≤ den * g * count → ((c : ℕ) → num ≤ den * g * c → count ≤ c) → IsBound links num den (g * count)
 bound_rounded links num den g count some is enough least = record {
   divisor = g;
   is_divisor = is;
@@ -36,7 +36,7 @@ bound_rounded links num den g count some is enough least = record {
 }
 
 -- a bound of 0 where nothing is asked for
-pub bound_none : (links : List Link) (den g : ℕ) → IsGreatestDivisor (module_costs links) g → IsBound links 0 den 0
+pub bound_none : (links : List Link) (den g : ℕ) → IsGreatestDivisor (charges links) g → IsBound links 0 den 0
 bound_none links den g is = record {
   divisor = g;
   is_divisor = is;
@@ -100,7 +100,7 @@ zero_divides x h = let whole = mul-div_cancel' 0 h in omega (arith, whole)
 -- a bound of a fraction is no more than one of the same fraction
 bound_least : (links : List Link) (a b c d x y : ℕ) → 0 < d → a * d ≡ c * b → IsBound links a b x → IsBound links c d y → x ≤ y
 bound_least links a b c d x y some same first second =
-    let one = divisor_unique (module_costs links) first.divisor second.divisor first.is_divisor second.is_divisor in
+    let one = divisor_unique (charges links) first.divisor second.divisor first.is_divisor second.is_divisor in
     let multiple : first.divisor ∣ y = subst (λ g. g ∣ y) (sym one) second.multiple in
     ⊎_elim
     (λ (zero : first.divisor ≡ 0). let none : 0 ∣ x = subst (λ g. g ∣ x) zero first.multiple in omega (arith, zero_divides x none))
@@ -142,14 +142,24 @@ divisor_limit xs g limit some below is = ⊎_elim
     (cases_eq g 0))
     (divisor_or_none g limit xs below (recursion_from_All (λ x. g ∣ x) xs is.divides))
 
--- the costs of a network's modules are below their limit
-modules_below : (limit : ℕ) (modules : List Module) (rest : List ℕ) → AllByRecursion (λ m. m.cost < limit) modules → AllByRecursion (λ x. x < limit) rest → AllByRecursion (λ x. x < limit) (map (λ m. m.cost) modules ++ rest)
-modules_below limit [] rest all others = others
-modules_below limit (m ∷ ms) rest all others = (all.0, modules_below limit ms rest all.1 others)
+-- numbers of two lists are below a limit
+below_both : (limit : ℕ) (xs ys : List ℕ) → AllByRecursion (λ x. x < limit) xs → AllByRecursion (λ x. x < limit) ys → AllByRecursion (λ x. x < limit) (xs ++ ys)
+below_both limit [] ys all others = others
+below_both limit (x ∷ xs) ys all others = (all.0, below_both limit xs ys all.1 others)
 
-pub costs_below : (limit : ℕ) (links : List Link) → AllByRecursion (λ l. All (λ m. m.cost < limit) l.modules) links → AllByRecursion (λ x. x < limit) (module_costs links)
+costs_below : (limit : ℕ) (modules : List Module) → AllByRecursion (λ m. m.cost < limit) modules → AllByRecursion (λ x. x < limit) (map (λ m. m.cost) modules)
 costs_below limit [] all = tt
-costs_below limit (l ∷ ls) all = modules_below limit l.modules (module_costs ls) (recursion_from_All (λ m. m.cost < limit) l.modules all.0) (costs_below limit ls all.1)
+costs_below limit (m ∷ ms) all = (all.0, costs_below limit ms all.1)
+
+-- a setup and module costs below a limit: so is all that their link charges
+link_below : (limit setup : ℕ) (modules : List Module) → setup < limit → All (λ m. m.cost < limit) modules → AllByRecursion (λ x. x < limit) (with_setup setup (map (λ m. m.cost) modules))
+link_below limit setup [] low all = tt
+link_below limit setup (m ∷ ms) low all = (low, costs_below limit (m ∷ ms) (recursion_from_All (λ x. x.cost < limit) (m ∷ ms) all))
+
+-- what links charge is below a limit where their setups and module costs are
+pub charges_below : (limit : ℕ) (links : List Link) → AllByRecursion (λ l. (l.setup < limit) × All (λ m. m.cost < limit) l.modules) links → AllByRecursion (λ x. x < limit) (charges links)
+charges_below limit [] all = tt
+charges_below limit (l ∷ ls) all = below_both limit (link_charges l) (charges ls) (link_below limit l.setup l.modules all.0.0 all.0.1) (charges_below limit ls all.1)
 
 -- a quotient that is rounded up is the least number of times that reaches
 pub quotient_least : (a y q : ℕ) → q * y < a + y → (c : ℕ) → a ≤ y * c → q ≤ c

@@ -1,5 +1,5 @@
 -- weak duality: no able counts cost less than the bound of a certificate
-use Rattle.std.proofs.Common.{◌≡◌, ℕ, suc, ◌+◌, ◌*◌, ◌≤◌, List, [], ◌∷◌, ◌++◌, length, All, Some, refl, sym, ap, subst, ◌∙◌, arith, map, sum_by, zip, slice_get, slice_index}
+use Rattle.std.proofs.Common.{◌≡◌, ℕ, suc, ◌+◌, ◌*◌, ◌≤◌, List, [], ◌∷◌, ◌++◌, length, All, Bool, true, false, if◌then◌else◌, Some, refl, sym, ap, subst, ◌∙◌, arith, map, sum_by, zip, slice_get, slice_index}
 use Rattle.std.proofs.lemmas.List.Sums.{sum_by-cons}
 use Rattle.std.proofs.lemmas.List.Elements.{recursion_from_All}
 use Rattle.std.proofs.Math.Nat.{mul-le-mul_left, dvd-add, dvd-mul_right_of_dvd}
@@ -9,8 +9,8 @@ use Rattle.std.specs.Int.{◌∣◌}
 use Rattle.net_core.specs.declared.network.Module.{Module}
 use Rattle.net_core.specs.declared.network.Link.{Link}
 use Rattle.net_core.specs.Cases.{Case, graph_in}
-use Rattle.plan_terms.specs.Capacities.{modules_capacity, modules_cost, capacities, total_cost, AreCounts, IsAble}
-use Rattle.plan_terms.specs.Bounds.{module_costs, IsBound}
+use Rattle.plan_terms.specs.Capacities.{modules_capacity, modules_cost, installs, link_cost, capacities, total_cost, AreCounts, IsAble}
+use Rattle.plan_terms.specs.Bounds.{with_setup, link_charges, charges, IsBound}
 use Rattle.plan_terms.specs.Certificates.{CertificateLine, IsCut, price, asked, fixed_along, given, raw_value, WeakDuality}
 use Rattle.plan_terms.proofs.Metric.{metric_inequality}
 use Rattle.net_core.specs.Sums.{sum_below}
@@ -34,7 +34,7 @@ modules_priced den unit (m ∷ ms) (c ∷ cs) priced =
 abbrev pub fixed_of : List Link → List ℕ
 fixed_of links = map (λ l. l.fixed) links
 
--- the capacities at their prices are at most what the pre-installed ones give and the modules cost
+-- the capacities at their prices are at most what the pre-installed ones give and the links cost, since setups aren't negative
 capacities_priced : (den : ℕ) (unit : ℕ → ℕ) (links : List Link) (counts : List (List ℕ)) → AreCounts links counts
     → ((k : ℕ) (l : Link) → slice_get links k ≡ Some l → All (λ m. unit k * m.capacity ≤ den * m.cost) l.modules)
     → sum_below (length links) (λ k. unit k * slice_index (capacities links counts) k) ≤ sum_below (length links) (λ k. unit k * slice_index (fixed_of links) k) + den * total_cost links counts
@@ -48,7 +48,7 @@ capacities_priced den unit (l ∷ ls) (c ∷ cs) shape priced =
       rest,
       below-first (length ls) (λ k. unit k * slice_index (capacities (l ∷ ls) (c ∷ cs)) k),
       below-first (length ls) (λ k. unit k * slice_index (fixed_of (l ∷ ls)) k),
-      ap (λ s. den * s) (sum_by-cons (λ (p : Link × List ℕ). modules_cost p.0.modules p.1) (l, c) (zip ls cs)),
+      ap (λ s. den * s) (sum_by-cons (λ (p : Link × List ℕ). link_cost p.0 p.1) (l, c) (zip ls cs)),
     )
 capacities_priced den unit [] (c ∷ cs) shape priced = absurd shape
 capacities_priced den unit (l ∷ ls) [] shape priced = absurd shape
@@ -113,21 +113,36 @@ modules_divided g (m ∷ ms) [] all = dvd-zero g
 modules_divided g (m ∷ ms) (c ∷ cs) all =
     subst (λ s. g ∣ s) (sym (sum_by-cons (λ (p : Module × ℕ). p.0.cost * p.1) (m, c) (zip ms cs))) (dvd-add g (dvd-mul_right_of_dvd g all.0 c) (modules_divided g ms cs all.1))
 
-cost_divided : (g : ℕ) (links : List Link) (counts : List (List ℕ)) → AllByRecursion (λ x. g ∣ x) (module_costs links) → g ∣ total_cost links counts
-cost_divided g [] counts all = dvd-zero g
-cost_divided g (l ∷ ls) [] all = dvd-zero g
-cost_divided g (l ∷ ls) (c ∷ cs) all =
-    let parts = divides_parts g (map (λ m. m.cost) l.modules) (module_costs ls) all in
-    subst (λ s. g ∣ s) (sym (sum_by-cons (λ (p : Link × List ℕ). modules_cost p.0.modules p.1) (l, c) (zip ls cs))) (dvd-add g (modules_divided g l.modules c parts.0) (cost_divided g ls cs parts.1))
+-- what divides a setup divides what is paid for it
+setup_divided : (g setup : ℕ) (paid : Bool) → g ∣ setup → g ∣ (if paid then setup else 0)
+setup_divided g setup true divides = divides
+setup_divided g setup false divides = dvd-zero g
+
+-- what divides all that a link charges divides what counts of its modules cost
+link_divided : (g setup : ℕ) (modules : List Module) (counts : List ℕ) → length counts ≡ length modules
+    → AllByRecursion (λ x. g ∣ x) (with_setup setup (map (λ m. m.cost) modules))
+    → g ∣ modules_cost modules counts + (if installs counts then setup else 0)
+link_divided g setup [] [] shape all = dvd-zero g
+link_divided g setup [] (c ∷ cs) shape all = absurd (omega (arith, shape))
+link_divided g setup (m ∷ ms) counts shape all = dvd-add g (modules_divided g (m ∷ ms) counts all.1) (setup_divided g setup (installs counts) all.0)
+
+-- what counts cost is a multiple of each number that divides all charges
+pub cost_divided : (g : ℕ) (links : List Link) (counts : List (List ℕ)) → AreCounts links counts → AllByRecursion (λ x. g ∣ x) (charges links) → g ∣ total_cost links counts
+cost_divided g [] [] shape all = dvd-zero g
+cost_divided g (l ∷ ls) (c ∷ cs) shape all =
+    let parts = divides_parts g (link_charges l) (charges ls) all in
+    subst (λ s. g ∣ s) (sym (sum_by-cons (λ (p : Link × List ℕ). link_cost p.0 p.1) (l, c) (zip ls cs))) (dvd-add g (link_divided g l.setup l.modules c shape.0 parts.0) (cost_divided g ls cs shape.1 parts.1))
+cost_divided g [] (c ∷ cs) shape all = absurd shape
+cost_divided g (l ∷ ls) [] shape all = absurd shape
 
 -- no counts cost less than the bound of what they pay for
-pub bound_met : (links : List Link) (num den bound : ℕ) (counts : List (List ℕ)) → IsBound links num den bound → num ≤ den * total_cost links counts → bound ≤ total_cost links counts
-bound_met links num den bound counts b paid =
+pub bound_met : (links : List Link) (num den bound : ℕ) (counts : List (List ℕ)) → AreCounts links counts → IsBound links num den bound → num ≤ den * total_cost links counts → bound ≤ total_cost links counts
+bound_met links num den bound counts shape b paid =
     b.least (total_cost links counts)
-    (cost_divided b.divisor links counts (recursion_from_All (λ x. b.divisor ∣ x) (module_costs links) b.is_divisor.divides))
+    (cost_divided b.divisor links counts shape (recursion_from_All (λ x. b.divisor ∣ x) (charges links) b.is_divisor.divides))
     (omega (arith, paid))
 
 pub weak_duality : WeakDuality
 weak_duality p den lines bound counts c b able =
     let met = asked_met p counts able den lines c.each c.priced in
-    bound_met p.links (raw_value p.links lines) den bound counts b (omega (arith, met))
+    bound_met p.links (raw_value p.links lines) den bound counts able.shape b (omega (arith, met))

@@ -39,7 +39,7 @@ pub own_bound_holds : OwnBoundHolds
 own_bound_holds p cut bound counts is own able =
     let lines = alone cut own.num in
     let met : asked lines ≤ given p.links lines + own.den * total_cost p.links counts = asked_met p counts able own.den lines (line_alone p cut own.num is) (priced_alone p.links cut own.num own.den own.multiplier.valid) in
-    bound_met p.links (own.num * (cut.right - fixed_along cut.lengths p.links)) own.den bound counts own.rounded (omega (arith, met, raw_alone p.links cut own.num))
+    bound_met p.links (own.num * (cut.right - fixed_along cut.lengths p.links)) own.den bound counts able.shape own.rounded (omega (arith, met, raw_alone p.links cut own.num))
 
 -- a cut has one own bound
 pub own_bound_unique : (links : List Link) (lengths : List ℕ) (right x y : ℕ) → IsOwnBound links lengths right x → IsOwnBound links lengths right y → x ≡ y

@@ -1,5 +1,5 @@
 -- raw values, and bounds: rounded up to a multiple of the greatest common divisor of what links charge
-use Rattle.std.specs.Prelude.{◌≡◌, ◌≢◌, ℕ, ◌*◌, ◌≤◌, ◌==◌, if◌then◌else◌, List, [], ◌∷◌, All, length, map, flat_map}
+use Rattle.std.specs.Prelude.{◌≡◌, ◌≢◌, ℕ, ◌*◌, ◌≤◌, List, [], ◌∷◌, All, map, flat_map}
 use Rattle.std.specs.Int.{◌∣◌}
 use Rattle.net_core.specs.declared.network.Link.{Link}
 
@@ -8,9 +8,14 @@ pub record IsLowest (a b c d : ℕ) : Type 0 where
   pub same : a * d ≡ c * b
   pub lowest : (k : ℕ) → k ∣ c → k ∣ d → k ≡ 1
 
--- what a link charges: its setup and the cost of each of its modules; nothing where it has no module
+-- a setup before the costs of a link's modules; nothing where the link has no module
+abbrev pub with_setup : ℕ → List ℕ → List ℕ
+with_setup setup [] = []
+with_setup setup (cost ∷ costs) = setup ∷ cost ∷ costs
+
+-- what a link charges: its setup and the cost of each of its modules
 abbrev pub link_charges : Link → List ℕ
-link_charges l = if length l.modules == 0 then [] else l.setup ∷ map (λ m. m.cost) l.modules
+link_charges l = with_setup l.setup (map (λ m. m.cost) l.modules)
 
 -- what all links charge
 abbrev pub charges : List Link → List ℕ

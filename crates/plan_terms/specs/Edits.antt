@@ -23,7 +23,7 @@ is_demand name demands = is_named (λ d. d.name) name demands
 abbrev pub next_version : ℕ → ℕ
 next_version version = min (version + 1) (2 ^ 64 - 1)
 
--- the demands become these, unless all needs together are then 2^44 thousandths or more
+-- the demands become these, unless all needs together are then 2^44 units or more
 abbrev pub within_total : List Demand → ℕ → List Demand → Answered
 within_total demands version new =
     cond (nat_lt (total_need new) (2 ^ 44)) (Accepted (next_version version), new) (TooMuch (total_need new), demands)
