@@ -1,6 +1,8 @@
 -- decimal numbers with so many places after the point that count, as amounts are
 use Rattle.std.specs.Prelude.{◌≡◌, ℕ, IsTrue, ◌+◌, ◌*◌, ◌^◌, ◌==◌, nat_lt, Bool, cond, not, ◌||◌, ◌&&◌, List, ◌++◌, take, drop, replicate, Result, Ok, Err}
 use Rattle.std.specs.List.{list_all, list_any, before_first, after_first}
+use Rattle.net_core.specs.declared.places.Places.{Places}
+use Rattle.net_core.specs.Places.{digits_after_point}
 use Rattle.snd_tokens.specs.declared.amount.NumberFault.{NumberFault}
 use Rattle.snd_tokens.specs.declared.amount.NumberFault.TheVariants.{NotANumber, TooFine, TooLarge}
 use Rattle.snd_tokens.specs.Digits.{is_digit, are_digits, number_of}
@@ -48,14 +50,17 @@ decimal_below n limit word =
     (cond (not (is_coarse n word)) (Err TooFine)
     (cond (nat_lt (units n word) limit) (Ok (units n word)) (Err TooLarge)))
 
--- the value of an amount's word in thousandths, or its fault
-unfoldable pub amount_of : List ℕ → Result ℕ NumberFault
-amount_of word = decimal_below 3 (2 ^ 40) word
+-- the value of an amount's word in units of a network with these places, or its fault
+unfoldable pub amount_of : Places → List ℕ → Result ℕ NumberFault
+amount_of p word = decimal_below (digits_after_point p) (2 ^ 40) word
 
--- the value of money's word in thousandths, or its fault
-unfoldable pub money_of : List ℕ → Result ℕ NumberFault
-money_of word = decimal_below 3 (2 ^ 126) word
+-- the value of money's word in units of the network, or its fault
+unfoldable pub money_of : Places → List ℕ → Result ℕ NumberFault
+money_of p word = decimal_below (digits_after_point p) (2 ^ 126) word
 
--- the whole number that a unit's word writes, below 2^40 thousandths, or its fault
-unfoldable pub units_of : List ℕ → Result ℕ NumberFault
-units_of word = decimal_below 0 1099511628 word
+-- the whole number that a unit's word writes, below 2^40 units of the network, or its fault
+unfoldable pub units_of : Places → List ℕ → Result ℕ NumberFault
+units_of p word =
+    cond (not (is_decimal word)) (Err NotANumber)
+    (cond (not (is_coarse 0 word)) (Err TooFine)
+    (cond (nat_lt (10 ^ digits_after_point p * number_of (whole_part word)) (2 ^ 40)) (Ok (number_of (whole_part word))) (Err TooLarge)))

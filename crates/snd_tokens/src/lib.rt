@@ -10,7 +10,7 @@ pub mod lexeme;
 pub mod token;
 pub mod whole_number;
 
-pub use amount::{NumberFault, milli, money, units};
+pub use amount::{NumberFault, amount, money, units};
 pub use cursor::Cursor;
 pub use digits::are_digits;
 pub use header::after_header;

@@ -2,6 +2,7 @@
 use Rattle.std.specs.Prelude.{ℕ, ◌≤◌, ◌<◌, ◌^◌, List, [], ◌∷◌, ◌++◌, length, codes}
 use Rattle.net_core.specs.declared.journal.Edit.{Edit}
 use Rattle.net_core.specs.declared.journal.Edit.TheVariants.{Set, Add, Drop}
+use Rattle.net_core.specs.declared.places.Places.{Places}
 use Rattle.text_kit.specs.Items.{Item, Verbatim, Money, Opening, Closing}
 
 -- items between parentheses
@@ -16,13 +17,13 @@ section w items = Verbatim w ∷ enclosed items
 abbrev pub ends_items : List ℕ → List ℕ → List Item
 ends_items a b = enclosed (Verbatim a ∷ Verbatim b ∷ [])
 
--- an edit: its word, its name, the two nodes of a new demand between parentheses, and its need
-abbrev pub edit_items : Edit → List Item
-edit_items (Set name need) = Verbatim (codes "set") ∷ Verbatim name ∷ Money need ∷ []
-edit_items (Add name from to need) = Verbatim (codes "add") ∷ Verbatim name ∷ ends_items from to ++ Money need ∷ []
-edit_items (Drop name) = Verbatim (codes "drop") ∷ Verbatim name ∷ []
+-- an edit: its word, its name, the two nodes of a new demand between parentheses, and its need as an amount with these places
+abbrev pub edit_items : Places → Edit → List Item
+edit_items p (Set name need) = Verbatim (codes "set") ∷ Verbatim name ∷ Money p need ∷ []
+edit_items p (Add name from to need) = Verbatim (codes "add") ∷ Verbatim name ∷ ends_items from to ++ Money p need ∷ []
+edit_items p (Drop name) = Verbatim (codes "drop") ∷ Verbatim name ∷ []
 
--- names have at most 255 bytes, and a need is below 2^40 thousandths
+-- names have at most 255 bytes, and a need is below 2^40 units of the network
 abbrev pub IsEditInForm : Edit → Type 0
 IsEditInForm (Set name need) = (length name ≤ 255) × (need < 2 ^ 40)
 IsEditInForm (Add name from to need) = (length name ≤ 255) × (length from ≤ 255) × (length to ≤ 255) × (need < 2 ^ 40)

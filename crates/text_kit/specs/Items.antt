@@ -1,14 +1,15 @@
 -- what a text is made of: parentheses, and words that stand for something
 use Rattle.std.specs.Prelude.{◌≡◌, ℕ, List, [], ◌∷◌, ◌++◌, Ok}
+use Rattle.net_core.specs.declared.places.Places.{Places}
 use Rattle.snd_tokens.specs.Amounts.{money_of}
 use Rattle.snd_tokens.specs.Lexemes.{Text, WordAt, OpenAt, CloseAt, EndAt}
 use Rattle.snd_tokens.specs.Wholes.{whole_of}
 
--- this very word, a whole number, an amount or money in thousandths, or a parenthesis
+-- this very word, a whole number, an amount or money in units of a network with these places, or a parenthesis
 pub data Item : Type 0 where
   Verbatim : List ℕ → Item
   Whole : ℕ → Item
-  Money : ℕ → Item
+  Money : Places → ℕ → Item
   Opening : Item
   Closing : Item
 
@@ -16,7 +17,7 @@ pub data Item : Type 0 where
 abbrev pub SpellsItem : List ℕ → Item → Type 0
 SpellsItem w (Verbatim v) = w ≡ v
 SpellsItem w (Whole n) = whole_of w ≡ Ok n
-SpellsItem w (Money n) = money_of w ≡ Ok n
+SpellsItem w (Money p n) = money_of p w ≡ Ok n
 SpellsItem w _ = ⊥
 
 -- the text begins with these items, one by one, and the rest comes after them

@@ -1,22 +1,29 @@
 -- the text of items, as it is written
-use Rattle.std.specs.Prelude.{◌≡◌, ℕ, ◌+◌, ◌/◌, ◌%◌, ◌<◌, ◌≤◌, ◌^◌, true, List, [], ◌∷◌, ◌++◌, length, decimal}
+use Rattle.std.specs.Prelude.{◌≡◌, ℕ, ◌+◌, ◌/◌, ◌%◌, ◌<◌, ◌≤◌, ◌^◌, zero, suc, true, List, [], ◌∷◌, ◌++◌, length, decimal}
 use Rattle.std.specs.List.{AllByRecursion}
+use Rattle.net_core.specs.declared.places.Places.{Places}
 use Rattle.net_core.specs.Names.{IsName, is_plain}
+use Rattle.net_core.specs.Places.{digits_after_point}
 use Rattle.text_kit.specs.Items.{Item, Verbatim, Whole, Money, Opening, Closing}
 
 -- the last digit of a number
 abbrev pub last_digit : ℕ → ℕ
 last_digit n = 48 + n % 10
 
--- thousandths: the whole part, a point, and three digits
-abbrev pub money_word : ℕ → List ℕ
-money_word n = decimal (n / 1000) ++ 46 ∷ last_digit (n / 100) ∷ last_digit (n / 10) ∷ last_digit n ∷ []
+-- the last digits of a number, k of them, with zeros in front where it has fewer
+abbrev pub last_digits : ℕ → ℕ → List ℕ
+last_digits zero n = []
+last_digits (suc k) n = last_digit (n / 10 ^ k) ∷ last_digits k n
+
+-- units of a network with these places: the whole part, a point, and the digits after it
+abbrev pub money_word : Places → ℕ → List ℕ
+money_word p n = decimal (n / 10 ^ digits_after_point p) ++ 46 ∷ last_digits (digits_after_point p) n
 
 -- the word of an item
 abbrev pub word_of : Item → List ℕ
 word_of (Verbatim w) = w
 word_of (Whole n) = decimal n
-word_of (Money n) = money_word n
+word_of (Money p n) = money_word p n
 word_of Opening = 40 ∷ []
 word_of Closing = 41 ∷ []
 
@@ -34,7 +41,7 @@ written (i ∷ is) = word_of i ++ byte_after i ∷ written is
 abbrev pub IsWritable : Item → Type 0
 IsWritable (Verbatim w) = (1 ≤ length w) × (is_plain w ≡ true)
 IsWritable (Whole n) = n < 2 ^ 126
-IsWritable (Money n) = n < 2 ^ 126
+IsWritable (Money p n) = n < 2 ^ 126
 IsWritable Opening = Unit {0}
 IsWritable Closing = Unit {0}
 
@@ -42,7 +49,7 @@ IsWritable Closing = Unit {0}
 abbrev pub IsShortItem : Item → Type 0
 IsShortItem (Verbatim w) = IsName w
 IsShortItem (Whole n) = n < 2 ^ 126
-IsShortItem (Money n) = n < 2 ^ 126
+IsShortItem (Money p n) = n < 2 ^ 126
 IsShortItem Opening = Unit {0}
 IsShortItem Closing = Unit {0}
 

@@ -5,7 +5,7 @@ ghost use Rattle.text_kit.specs.Items.{Item, Verbatim, Whole, Money, Opening, Cl
 ghost use Rattle.text_kit.specs.Written.{AddsItems, money_word};
 
 use crate::write;
-use net_core::{Bytes, Name, NoMemory};
+use net_core::{Bytes, Name, NoMemory, Places};
 
 /// Puts a word of a format last. It costs what `write::put_word` does, and each function of this module
 /// costs what those of `write` do that it calls.
@@ -38,21 +38,21 @@ pub fn put_number(text: &mut Bytes, n: u64) -> Result<(), NoMemory>
     put_whole(text, n as u128)
 }
 
-/// Puts thousandths last, as an amount or money.
-pub fn put_money(text: &mut Bytes, n: u128) -> Result<(), NoMemory>
+/// Puts units of a network with these places last, as an amount or money.
+pub fn put_money(text: &mut Bytes, places: Places, n: u128) -> Result<(), NoMemory>
     requires { n < 2 ^ 126 }
-    ensures { OnOk result (AddsItems text.old (Money n ∷ []) text.new) }
+    ensures { OnOk result (AddsItems text.old (Money places n ∷ []) text.new) }
 {
-    write::put_money(text, n)
+    write::put_money(text, places, n)
 }
 
-/// Puts thousandths last, as an amount. What is put is a word of its own too, as short as a name.
+/// Puts units of a network with these places last, as an amount. What is put is a word of its own too, as short as a name.
 #[tactic(auto, using(crate::proofs::Adding::amount_short))]
-pub fn put_amount(text: &mut Bytes, n: u64) -> Result<(), NoMemory>
-    ensures amount { OnOk result (AddsItems text.old (Money n ∷ []) text.new) }
-    ensures word { OnOk result (AddsItems text.old (Verbatim (money_word n) ∷ []) text.new) }
+pub fn put_amount(text: &mut Bytes, places: Places, n: u64) -> Result<(), NoMemory>
+    ensures amount { OnOk result (AddsItems text.old (Money places n ∷ []) text.new) }
+    ensures word { OnOk result (AddsItems text.old (Verbatim (money_word places n) ∷ []) text.new) }
 {
-    write::put_money(text, n as u128)
+    write::put_money(text, places, n as u128)
 }
 
 /// Puts an opening parenthesis last.
