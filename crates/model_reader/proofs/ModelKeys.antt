@@ -14,9 +14,9 @@ use Rattle.model_reader.specs.declared.model.ModelKey.TheVariants.{Demand, Link,
 use Rattle.model_reader.specs.declared.model.ModelKind.{ModelKind}
 use Rattle.model_reader.specs.declared.model.ModelKind.TheVariants as kinds
 use Rattle.model_reader.specs.declared.model.Setting.{Setting}
-use Rattle.model_reader.specs.declared.model.Setting.TheVariants.{Plain, Reconfiguration}
-use Rattle.model_reader.specs.Models.{IsEachOnce, key_of, key_word, plain_word, reconfiguration_word, value_word}
-use Rattle.model_reader.specs.ModelReading.{all_keys, first_key, has_key, key_after, missing, new_key, value_of}
+use Rattle.model_reader.specs.declared.model.Setting.TheVariants.{Charge, Plain, Reconfiguration}
+use Rattle.model_reader.specs.Models.{IsEachOnce, key_of, key_word, plain_word, value_word}
+use Rattle.model_reader.specs.ModelReading.{all_keys, first_key, has_key, is_setting, key_after, missing, new_key, value_of}
 
 abbrev key_of_word : List ℕ → Option ModelKey
 key_of_word w = first_key (λ k. are_same (key_word k) w) all_keys
@@ -66,19 +66,30 @@ key_after_again sofar w k new is = ap (key_after sofar) is ∙ (ap (new_key sofa
 
 -- ---- a value of a key
 
-value_if : (k : ModelKey) (w : List ℕ) (s : Setting) (a b c : Bool) → are_same w (plain_word k) ≡ a → are_same (key_word k) (key_word Survivability) ≡ b → are_same w reconfiguration_word ≡ c
-    → (let r : Result Setting ModelKind = cond a (Ok (Plain k)) (cond (b && c) (Ok Reconfiguration) (Err (kinds.Unsupported k))) in r ≡ Ok s) → (k ≡ key_of s) × (w ≡ value_word s)
+both_true : (a b : Bool) → a && b ≡ true → (a ≡ true) × (b ≡ true)
+both_true true true e = (refl, refl)
+both_true true false e = absurd cc
+both_true false b e = absurd cc
+
+setting_takes : (s : Setting) (k : ModelKey) (w : List ℕ) → is_setting s k w ≡ true → (k ≡ key_of s) × (w ≡ value_word s)
+setting_takes s k w e =
+    let both = both_true (are_same (key_word k) (key_word (key_of s))) (are_same w (value_word s)) e in
+    (words_apart k (key_of s) (same_is (key_word k) (key_word (key_of s)) both.0), same_is w (value_word s) both.1)
+
+value_if : (k : ModelKey) (w : List ℕ) (s : Setting) (a b c : Bool) → are_same w (plain_word k) ≡ a → is_setting Reconfiguration k w ≡ b → is_setting Charge k w ≡ c
+    → (let r : Result Setting ModelKind = cond a (Ok (Plain k)) (cond b (Ok Reconfiguration) (cond c (Ok Charge) (Err (kinds.Unsupported k)))) in r ≡ Ok s) → (k ≡ key_of s) × (w ≡ value_word s)
 value_if k w s true b c p q r e = let is : Plain k ≡ s = cc in subst (λ (t : Setting). (k ≡ key_of t) × (w ≡ value_word t)) is (refl, same_is w (plain_word k) p)
-value_if k w s false true true p q r e = let is : Reconfiguration ≡ s = cc in subst (λ (t : Setting). (k ≡ key_of t) × (w ≡ value_word t)) is (words_apart k Survivability (same_is (key_word k) (key_word Survivability) q), same_is w reconfiguration_word r)
-value_if k w s false true false p q r e = absurd cc
-value_if k w s false false c p q r e = absurd cc
+value_if k w s false true c p q r e = let is : Reconfiguration ≡ s = cc in subst (λ (t : Setting). (k ≡ key_of t) × (w ≡ value_word t)) is (setting_takes Reconfiguration k w q)
+value_if k w s false false true p q r e = let is : Charge ≡ s = cc in subst (λ (t : Setting). (k ≡ key_of t) × (w ≡ value_word t)) is (setting_takes Charge k w r)
+value_if k w s false false false p q r e = absurd cc
 
 pub value_takes : (k : ModelKey) (w : List ℕ) (s : Setting) → value_of k w ≡ Ok s → (k ≡ key_of s) × (w ≡ value_word s)
-value_takes k w s e = value_if k w s (are_same w (plain_word k)) (are_same (key_word k) (key_word Survivability)) (are_same w reconfiguration_word) refl refl refl e
+value_takes k w s e = value_if k w s (are_same w (plain_word k)) (is_setting Reconfiguration k w) (is_setting Charge k w) refl refl refl e
 
 pub value_again : (k : ModelKey) (w : List ℕ) (s : Setting) → k ≡ key_of s → w ≡ value_word s → value_of k w ≡ Ok s
 value_again k w (Plain j) key value = rw (key, value, is_same (plain_word j)) refl
 value_again k w Reconfiguration key value = rw (key, value) refl
+value_again k w Charge key value = rw (key, value) refl
 
 -- ---- each key stands once
 

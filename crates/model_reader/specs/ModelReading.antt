@@ -9,8 +9,8 @@ use Rattle.model_reader.specs.declared.model.ModelKey.TheVariants as aspects
 use Rattle.model_reader.specs.declared.model.ModelKind.{ModelKind}
 use Rattle.model_reader.specs.declared.model.ModelKind.TheVariants as kinds
 use Rattle.model_reader.specs.declared.model.Setting.{Setting}
-use Rattle.model_reader.specs.declared.model.Setting.TheVariants.{Plain, Reconfiguration}
-use Rattle.model_reader.specs.Models.{model_header, key_of, key_word, model_of_settings, plain_word, reconfiguration_word}
+use Rattle.model_reader.specs.declared.model.Setting.TheVariants.{Charge, Plain, Reconfiguration}
+use Rattle.model_reader.specs.Models.{model_header, key_of, key_word, model_of_settings, plain_word, value_word}
 
 -- the keys in the order in which the first missing one is told
 abbrev pub all_keys : List ModelKey
@@ -34,12 +34,16 @@ new_key sofar (Some k) = if has_key sofar k then Err kinds.DoubleKey else Ok k
 abbrev pub key_after : List Setting → List ℕ → Result ModelKey ModelKind
 key_after sofar w = new_key sofar (first_key (λ k. are_same (key_word k) w) all_keys)
 
+-- a key and a word spell this setting
+abbrev pub is_setting : Setting → ModelKey → List ℕ → Bool
+is_setting s k w = are_same (key_word k) (key_word (key_of s)) && are_same w (value_word s)
+
 -- a word as the value of a key
 abbrev pub value_of : ModelKey → List ℕ → Result Setting ModelKind
 value_of k w =
     if are_same w (plain_word k) then Ok (Plain k)
-    else (if are_same (key_word k) (key_word aspects.Survivability) && are_same w reconfiguration_word
-    then Ok Reconfiguration else Err (kinds.Unsupported k))
+    else (if is_setting Reconfiguration k w then Ok Reconfiguration
+    else (if is_setting Charge k w then Ok Charge else Err (kinds.Unsupported k)))
 
 -- a key, the sign after it, and its value
 unfoldable pub setting_at : List Setting → Reading ModelKind Setting

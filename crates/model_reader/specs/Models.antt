@@ -7,7 +7,7 @@ use Rattle.model_reader.specs.declared.model.Model.{Model}
 use Rattle.model_reader.specs.declared.model.ModelKey.{ModelKey}
 use Rattle.model_reader.specs.declared.model.ModelKey.TheVariants.{Demand, Link, LinkCapacity, FixedCharge, Routing, AdmissiblePath, HopLimit, Survivability}
 use Rattle.model_reader.specs.declared.model.Setting.{Setting}
-use Rattle.model_reader.specs.declared.model.Setting.TheVariants.{Plain, Reconfiguration}
+use Rattle.model_reader.specs.declared.model.Setting.TheVariants.{Charge, Plain, Reconfiguration}
 
 -- the first line of a model file
 abbrev pub model_header : List ℕ
@@ -35,18 +35,16 @@ plain_word AdmissiblePath = codes "ALL_PATHS"
 plain_word HopLimit = codes "NO"
 plain_word Survivability = codes "NO_SURVIVABILITY"
 
--- the value of survivability with reconfiguration
-abbrev pub reconfiguration_word : List ℕ
-reconfiguration_word = codes "UNRESTRICTED_FLOW_RECONFIGURATION"
-
 -- a setting's key and the word of its value
 abbrev pub key_of : Setting → ModelKey
 key_of (Plain key) = key
 key_of Reconfiguration = Survivability
+key_of Charge = FixedCharge
 
 abbrev pub value_word : Setting → List ℕ
 value_word (Plain key) = plain_word key
-value_word Reconfiguration = reconfiguration_word
+value_word Reconfiguration = codes "UNRESTRICTED_FLOW_RECONFIGURATION"
+value_word Charge = codes "YES"
 
 -- a key and its value
 abbrev pub setting_items : Setting → List Item
@@ -58,13 +56,20 @@ pub record IsEachOnce (settings : List Setting) : Type 0 where
   pub all : (key : ModelKey) → Any (λ s. key_of s ≡ key) settings
 
 -- the setting asks for reconfiguration
-abbrev pub asks : Setting → Bool
-asks (Plain key) = false
-asks Reconfiguration = true
+abbrev pub asks_to_reconfigure : Setting → Bool
+asks_to_reconfigure (Plain key) = false
+asks_to_reconfigure Reconfiguration = true
+asks_to_reconfigure Charge = false
+
+-- the setting asks for a fixed charge
+abbrev pub asks_to_charge : Setting → Bool
+asks_to_charge (Plain key) = false
+asks_to_charge Reconfiguration = false
+asks_to_charge Charge = true
 
 -- the model of settings
 abbrev pub model_of_settings : List Setting → Model
-model_of_settings settings = record { reconfigure = list_any asks settings }
+model_of_settings settings = record { reconfigure = list_any asks_to_reconfigure settings; charge = list_any asks_to_charge settings }
 
 -- the bytes of a file spell this model: its settings in any order, each key once
 abbrev pub SpellsModel : List ℕ → Model → Type 0

@@ -7,6 +7,8 @@ use text_kit::{FaultWord, Refusal};
 pub struct Model {
     /// All demands may be routed anew in each failure state.
     pub reconfigure: bool,
+    /// The setup cost of a link is charged where a module is installed there.
+    pub charge: bool,
 }
 
 /// A key of a model file, an aspect of planning.
@@ -29,6 +31,8 @@ pub enum Setting {
     Plain(ModelKey),
     /// Survivability with reconfiguration.
     Reconfiguration,
+    /// A fixed charge: the setup of a link on which a module is installed.
+    Charge,
 }
 
 /// What is wrong with a model file.

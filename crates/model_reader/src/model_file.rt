@@ -6,8 +6,8 @@ ghost use Rattle.text_kit.specs.Answers.{AnswersAs, ReadsAllAs, ReadsAs, TakesEl
 ghost use Rattle.text_kit.specs.Files.{IsNotTooEarly};
 ghost use Rattle.text_kit.specs.Reading.{word_at};
 ghost use Rattle.model_reader.specs.declared.model.Model.{Model as Mod};
-ghost use Rattle.model_reader.specs.Models.{SpellsModel, asks, key_of, key_word, model_of_settings, plain_word};
-ghost use Rattle.model_reader.specs.ModelReading.{all_keys, first_key, has_key, key_after, missing, model_of, setting_at, settings_at, value_of};
+ghost use Rattle.model_reader.specs.Models.{SpellsModel, asks_to_charge, asks_to_reconfigure, key_of, key_word, model_of_settings, plain_word, value_word};
+ghost use Rattle.model_reader.specs.ModelReading.{all_keys, first_key, has_key, is_setting, key_after, missing, model_of, setting_at, settings_at, value_of};
 
 use crate::model::{Model, ModelKey, ModelKind, ModelRefusal, Setting};
 use net_core::List;
@@ -17,8 +17,6 @@ use text_kit::refusal::bad;
 use text_kit::steps::{ends, expect, placed, text_after_header, word};
 
 const HEADER: &[u8] = b"?SNDlib native format; type: model; version: 1.0";
-
-const RECONFIGURATION: &[u8] = b"UNRESTRICTED_FLOW_RECONFIGURATION";
 
 const KEYS: [ModelKey; 8] = [
     ModelKey::Demand,
@@ -68,15 +66,35 @@ impl Setting {
         match self {
             Setting::Plain(key) => key,
             Setting::Reconfiguration => ModelKey::Survivability,
+            Setting::Charge => ModelKey::FixedCharge,
         }
     }
 
-    fn asks(self) -> bool
-        ensures { result ≡ asks self }
+    fn value_word(self) -> &'static [u8]
+        ensures { result.now ≡ value_word self }
     {
         match self {
-            Setting::Plain(_) => false,
+            Setting::Plain(key) => plain_word(key),
+            Setting::Reconfiguration => b"UNRESTRICTED_FLOW_RECONFIGURATION",
+            Setting::Charge => b"YES",
+        }
+    }
+
+    fn asks_to_reconfigure(self) -> bool
+        ensures { result ≡ asks_to_reconfigure self }
+    {
+        match self {
+            Setting::Plain(_) | Setting::Charge => false,
             Setting::Reconfiguration => true,
+        }
+    }
+
+    fn asks_to_charge(self) -> bool
+        ensures { result ≡ asks_to_charge self }
+    {
+        match self {
+            Setting::Plain(_) | Setting::Reconfiguration => false,
+            Setting::Charge => true,
         }
     }
 }
@@ -126,6 +144,13 @@ fn key_after(sofar: &[Setting], word: &[u8]) -> Result<ModelKey, ModelKind>
     Ok(key)
 }
 
+/// Whether a key and a word spell the setting.
+fn is_setting(setting: Setting, key: ModelKey, word: &[u8]) -> bool
+    ensures { result ≡ is_setting setting key word.now }
+{
+    is_word_of(key, key_word(setting.key())) && word == setting.value_word()
+}
+
 /// A word as the value of a key.
 fn value_of(key: ModelKey, word: &[u8]) -> Result<Setting, ModelKind>
     ensures { result ≡ value_of key word.now }
@@ -133,8 +158,11 @@ fn value_of(key: ModelKey, word: &[u8]) -> Result<Setting, ModelKind>
     if word == plain_word(key) {
         return Ok(Setting::Plain(key));
     }
-    if is_word_of(key, key_word(ModelKey::Survivability)) && word == RECONFIGURATION {
+    if is_setting(Setting::Reconfiguration, key, word) {
         return Ok(Setting::Reconfiguration);
+    }
+    if is_setting(Setting::Charge, key, word) {
+        return Ok(Setting::Charge);
     }
     Err(ModelKind::Unsupported(key))
 }
@@ -213,10 +241,17 @@ fn settings(alloc: Global, text: &mut Cursor) -> Result<List<Setting>, ModelRefu
 }
 
 /// Whether one of the settings asks for reconfiguration.
-fn one_asks(settings: &[Setting]) -> bool
-    ensures { result ≡ list_any asks settings.now }
+fn reconfigures(settings: &[Setting]) -> bool
+    ensures { result ≡ list_any asks_to_reconfigure settings.now }
 {
-    settings.iter().any(|s| s.asks())
+    settings.iter().any(|s| s.asks_to_reconfigure())
+}
+
+/// Whether one of the settings asks for a fixed charge.
+fn charges(settings: &[Setting]) -> bool
+    ensures { result ≡ list_any asks_to_charge settings.now }
+{
+    settings.iter().any(|s| s.asks_to_charge())
 }
 
 /// The model of settings.
@@ -224,7 +259,8 @@ fn model_of_settings(settings: &[Setting]) -> Model
     ensures { result ≡ model_of_settings settings.now }
 {
     Model {
-        reconfigure: one_asks(settings),
+        reconfigure: reconfigures(settings),
+        charge: charges(settings),
     }
 }
 

@@ -14,7 +14,7 @@ use worked_networks::triangle;
 pub(crate) enum Format {
     /// A network, counted by its demands.
     Network,
-    /// A model, which counts as 1 where all demands may be routed anew.
+    /// A model, which counts as 1 where all demands may be routed anew, and as 2 more where setups are charged.
     Model,
     /// The failure states of the triangle.
     Failures,
@@ -28,7 +28,8 @@ fn network(alloc: Global, text: &[u8]) -> Result<usize, ReadRefusal> {
 }
 
 fn model(alloc: Global, text: &[u8]) -> Result<usize, ModelRefusal> {
-    Ok(read_model(alloc, text)?.reconfigure as usize)
+    let model = read_model(alloc, text)?;
+    Ok(model.reconfigure as usize + 2 * model.charge as usize)
 }
 
 fn failures(alloc: Global, text: &[u8]) -> Result<usize, FailuresRefusal> {
