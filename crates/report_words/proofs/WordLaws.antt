@@ -12,7 +12,7 @@ use Rattle.net_core.specs.declared.ids.LinkId.{LinkId}
 use Rattle.net_core.specs.declared.ids.NodeId.{NodeId}
 use Rattle.net_core.specs.declared.network.Link.{Link}
 use Rattle.net_core.proofs.Accepted.{differ}
-use Rattle.snd_tokens.specs.declared.amount.NumberFault.{NumberFault}
+use Rattle.snd_tokens.specs.declared.amounts.NumberFault.{NumberFault}
 use Rattle.snd_tokens.specs.declared.whole_number.WholeFault.{WholeFault}
 use Rattle.snd_tokens.specs.declared.whole_number.WholeFault.TheVariants.{NotANumber, TooLarge}
 use Rattle.snd_tokens.specs.Amounts.{money_of}

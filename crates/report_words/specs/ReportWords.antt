@@ -5,7 +5,7 @@ use Rattle.net_core.specs.declared.demand.Demand.{Demand}
 use Rattle.net_core.specs.declared.ids.LinkId.{LinkId}
 use Rattle.net_core.specs.declared.ids.NodeId.{NodeId}
 use Rattle.net_core.specs.declared.network.Link.{Link}
-use Rattle.snd_tokens.specs.declared.amount.NumberFault.TheVariants as faults
+use Rattle.snd_tokens.specs.declared.amounts.NumberFault.TheVariants as faults
 use Rattle.snd_tokens.specs.declared.whole_number.WholeFault.{WholeFault}
 use Rattle.snd_tokens.specs.declared.whole_number.WholeFault.TheVariants.{NotANumber, TooLarge}
 use Rattle.snd_tokens.specs.Amounts.{amount_of, money_of}

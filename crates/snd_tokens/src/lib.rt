@@ -1,7 +1,7 @@
 //! The tokens, numbers and header of a text in the style of SNDlib's native format.
 #![tactic(auto)]
 
-pub mod amount;
+pub mod amounts;
 pub mod cursor;
 mod digits;
 mod find;
@@ -10,7 +10,7 @@ pub mod lexeme;
 pub mod token;
 pub mod whole_number;
 
-pub use amount::{NumberFault, amount, money, units};
+pub use amounts::{NumberFault, amount, money, units};
 pub use cursor::Cursor;
 pub use digits::are_digits;
 pub use header::after_header;

@@ -1,6 +1,6 @@
 -- Reading a network file from left to right: the tests of its words, and their order.
 use Rattle.std.specs.Prelude.{◌≡◌, ℕ, zero, suc, ◌+◌, ◌*◌, ◌^◌, ◌==◌, nat_lt, Bool, true, false, ◌||◌, ◌&&◌, if◌then◌else◌, List, [], length, map, Option, Some, None, Result, Ok, Err, sum_by, codes}
-use Rattle.snd_tokens.specs.declared.amount.NumberFault.TheVariants.{NotANumber, TooLarge}
+use Rattle.snd_tokens.specs.declared.amounts.NumberFault.TheVariants.{NotANumber, TooLarge}
 use Rattle.snd_tokens.specs.Amounts.{amount_of, units_of}
 use Rattle.snd_tokens.specs.Digits.{are_digits}
 use Rattle.snd_tokens.specs.Lexemes.{WordAt, OpenAt, CloseAt, EndAt}

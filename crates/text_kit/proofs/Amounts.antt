@@ -1,8 +1,8 @@
 -- Words of amounts are those of money below 2^40 thousandths.
 use Rattle.std.proofs.Common.{◌≡◌, ℕ, ◌^◌, ◌<◌, true, cond, not, nat_lt, List, [], ◌∷◌, Result, Ok, Err, ap, subst, arith, refl}
 use Rattle.std.proofs.lemmas.Bool.{ltb-true, lt-ltb}
-use Rattle.snd_tokens.specs.declared.amount.NumberFault.{NumberFault}
-use Rattle.snd_tokens.specs.declared.amount.NumberFault.TheVariants.{NotANumber, TooFine, TooLarge}
+use Rattle.snd_tokens.specs.declared.amounts.NumberFault.{NumberFault}
+use Rattle.snd_tokens.specs.declared.amounts.NumberFault.TheVariants.{NotANumber, TooFine, TooLarge}
 use Rattle.snd_tokens.specs.Amounts.{amount_of, money_of, decimal_below, is_coarse, is_decimal, units}
 use Rattle.text_kit.specs.Items.{Money}
 use Rattle.text_kit.specs.Numbers.{number_or}

@@ -1,6 +1,6 @@
 use Rattle.std.proofs.Common.{arith, sym, ◌∙◌, zero-add}
 use Rattle.snd_tokens.proofs.Points.{without_point, bad_places}
-use Rattle.snd_tokens.proofs.amount.parts.Goals as goal
+use Rattle.snd_tokens.proofs.amounts.parts.Goals as goal
 
 pub returns-then-point-word : goal.returns-then-point-word
 returns-then-point-word c =
