@@ -4,6 +4,7 @@ use Rattle.std.specs.Prelude.{codes, flat_map}
 use Rattle.std.proofs.lemmas.List.Sums.{sum_by-append}
 use Rattle.net_core.specs.Tests.{are_same}
 use Rattle.net_core.specs.declared.journal.Edit.TheVariants as edits
+use Rattle.net_core.specs.declared.places.Places.{Places}
 use Rattle.snd_tokens.specs.Header.{first_line, trimmed}
 use Rattle.snd_tokens.specs.Lexemes.{Text, EndAt}
 use Rattle.text_kit.specs.Answers.{AnswersAs, ReadsAllAs}
@@ -44,8 +45,8 @@ verb_lawful sofar = lawful_word Token Ended (verb_after sofar) (λ v. Verbatim (
 name_lawful : Lawful (word_at Token Ended (any_name LimitName)) (λ n. Verbatim n ∷ []) (λ n. length n ≤ 255) AnyText
 name_lawful = lawful_any_name Token Ended LimitName
 
-need_lawful : Lawful (word_at Token Ended need_in_script) (λ n. Money n ∷ []) (λ n. n < 2 ^ 40) AnyText
-need_lawful = lawful_amount Token Ended Number
+need_lawful : (p : Places) → Lawful (word_at Token Ended (need_in_script p)) (λ n. Money p n ∷ []) (λ n. n < 2 ^ 40) AnyText
+need_lawful p = lawful_amount p Token Ended Number
 
 -- ---- acts
 
@@ -56,17 +57,17 @@ verb_for (Change (edits.Add name from to need)) = verbs.Add
 verb_for (Change (edits.Drop name)) = verbs.Drop
 verb_for Plan = verbs.Plan
 
-abbrev items_after : Act → List Item
-items_after (Change (edits.Set name need)) = Verbatim name ∷ Money need ∷ []
-items_after (Change (edits.Add name from to need)) = Verbatim name ∷ Opening ∷ Verbatim from ∷ Verbatim to ∷ Closing ∷ Money need ∷ []
-items_after (Change (edits.Drop name)) = Verbatim name ∷ []
-items_after Plan = []
+abbrev items_after : Places → Act → List Item
+items_after p (Change (edits.Set name need)) = Verbatim name ∷ Money p need ∷ []
+items_after p (Change (edits.Add name from to need)) = Verbatim name ∷ Opening ∷ Verbatim from ∷ Verbatim to ∷ Closing ∷ Money p need ∷ []
+items_after p (Change (edits.Drop name)) = Verbatim name ∷ []
+items_after p Plan = []
 
-all_items : (a : Act) → Verbatim (verb_word (verb_for a)) ∷ items_after a ≡ act_items a
-all_items (Change (edits.Set name need)) = refl
-all_items (Change (edits.Add name from to need)) = refl
-all_items (Change (edits.Drop name)) = refl
-all_items Plan = refl
+all_items : (p : Places) (a : Act) → Verbatim (verb_word (verb_for a)) ∷ items_after p a ≡ act_items p a
+all_items p (Change (edits.Set name need)) = refl
+all_items p (Change (edits.Add name from to need)) = refl
+all_items p (Change (edits.Drop name)) = refl
+all_items p Plan = refl
 
 -- the parts of an edit
 abbrev name_part : Act → List ℕ
@@ -131,28 +132,28 @@ was_plan (Change (edits.Add name from to need)) h = absurd (let e : verbs.Plan �
 was_plan (Change (edits.Drop name)) h = absurd (let e : verbs.Plan ≡ verbs.Drop = h.0 in cc)
 was_plan Plan h = refl
 
-act_lawful : (v : Verb) → Lawful (act_at v) items_after (IsOf v) AnyText
+act_lawful : (p : Places) (v : Verb) → Lawful (act_at p v) (items_after p) (IsOf v) AnyText
 unfolding act_at
-act_lawful verbs.Set = lawful_as (act_at verbs.Set) _ items_after WasSet (IsOf verbs.Set) AnyText
-    (λ a h. ap items_after h.1.1) (λ a h. subst (IsOf verbs.Set) h.1.1 (refl, (h.0, h.1.0))) was_set
+act_lawful p verbs.Set = lawful_as (act_at p verbs.Set) _ (items_after p) WasSet (IsOf verbs.Set) AnyText
+    (λ a h. ap (items_after p) h.1.1) (λ a h. subst (IsOf verbs.Set) h.1.1 (refl, (h.0, h.1.0))) was_set
     (lawful_then _ _ _ _ _ _ AnyText name_part (λ n a h. ap name_part h.1) name_lawful (λ name.
-    lawful_then _ _ _ _ _ _ AnyText need_part (λ n a h. ap need_part h) need_lawful (λ need.
+    lawful_then _ _ _ _ _ _ AnyText need_part (λ n a h. ap need_part h) (need_lawful p) (λ need.
     lawful_give (Change (edits.Set name need)))))
-act_lawful verbs.Add = lawful_as (act_at verbs.Add) _ items_after WasAdd (IsOf verbs.Add) AnyText
-    (λ a h. ap items_after h.1.1.1.1.1.1) (λ a h. subst (IsOf verbs.Add) h.1.1.1.1.1.1 (refl, (h.0, h.1.1.0, h.1.1.1.0, h.1.1.1.1.1.0))) was_add
+act_lawful p verbs.Add = lawful_as (act_at p verbs.Add) _ (items_after p) WasAdd (IsOf verbs.Add) AnyText
+    (λ a h. ap (items_after p) h.1.1.1.1.1.1) (λ a h. subst (IsOf verbs.Add) h.1.1.1.1.1.1 (refl, (h.0, h.1.1.0, h.1.1.1.0, h.1.1.1.1.1.0))) was_add
     (lawful_then _ _ _ _ _ _ AnyText name_part (λ n a h. ap name_part h.1.1.1.1.1) name_lawful (λ name.
     lawful_then _ _ _ _ _ _ AnyText (λ a. tt) (λ x a h. refl) (lawful_open Token Ended) (λ o.
     lawful_then _ _ _ _ _ _ AnyText from_part (λ n a h. ap from_part h.1.1.1) name_lawful (λ from.
     lawful_then _ _ _ _ _ _ AnyText to_part (λ n a h. ap to_part h.1.1) name_lawful (λ to.
     lawful_then _ _ _ _ _ _ AnyText (λ a. tt) (λ x a h. refl) (lawful_close Token Ended) (λ c.
-    lawful_then _ _ _ _ _ _ AnyText need_part (λ n a h. ap need_part h) need_lawful (λ need.
+    lawful_then _ _ _ _ _ _ AnyText need_part (λ n a h. ap need_part h) (need_lawful p) (λ need.
     lawful_give (Change (edits.Add name from to need)))))))))
-act_lawful verbs.Drop = lawful_as (act_at verbs.Drop) _ items_after WasDrop (IsOf verbs.Drop) AnyText
-    (λ a h. ap items_after h.1) (λ a h. subst (IsOf verbs.Drop) h.1 (refl, h.0)) was_drop
+act_lawful p verbs.Drop = lawful_as (act_at p verbs.Drop) _ (items_after p) WasDrop (IsOf verbs.Drop) AnyText
+    (λ a h. ap (items_after p) h.1) (λ a h. subst (IsOf verbs.Drop) h.1 (refl, h.0)) was_drop
     (lawful_then _ _ _ _ _ _ AnyText name_part (λ n a h. ap name_part h) name_lawful (λ name.
     lawful_give (Change (edits.Drop name))))
-act_lawful verbs.Plan = lawful_as (act_at verbs.Plan) _ items_after _ (IsOf verbs.Plan) AnyText
-    (λ a e. ap items_after e) (λ a e. subst (IsOf verbs.Plan) e (refl, tt)) was_plan (lawful_give Plan)
+act_lawful p verbs.Plan = lawful_as (act_at p verbs.Plan) _ (items_after p) _ (IsOf verbs.Plan) AnyText
+    (λ a e. ap (items_after p) e) (λ a e. subst (IsOf verbs.Plan) e (refl, tt)) was_plan (lawful_give Plan)
 
 -- ---- commands
 
@@ -160,16 +161,16 @@ act_lawful verbs.Plan = lawful_as (act_at verbs.Plan) _ items_after _ (IsOf verb
 abbrev IsCommandAfter : List Command → Command → Type 0
 IsCommandAfter sofar c = (length sofar < 1000) × (IsCallerNumber c.caller × (HasRoom sofar (verb_for c.act) × IsActInForm c.act))
 
-command_lawful : (sofar : List Command) → Lawful (command_at sofar) command_items (IsCommandAfter sofar) AnyText
+command_lawful : (p : Places) (sofar : List Command) → Lawful (command_at p sofar) (command_items p) (IsCommandAfter sofar) AnyText
 unfolding command_at
-command_lawful sofar = lawful_as (command_at sofar) _ command_items _ (IsCommandAfter sofar) AnyText
-    (λ c h. ap (λ (is : List Item). Verbatim (codes "caller") ∷ Whole c.caller ∷ is) (ap (λ (is : List Item). Verbatim (verb_word (verb_for c.act)) ∷ is) (append-nil (items_after c.act)) ∙ all_items c.act))
+command_lawful p sofar = lawful_as (command_at p sofar) _ (command_items p) _ (IsCommandAfter sofar) AnyText
+    (λ c h. ap (λ (is : List Item). Verbatim (codes "caller") ∷ Whole c.caller ∷ is) (ap (λ (is : List Item). Verbatim (verb_word (verb_for c.act)) ∷ is) (append-nil (items_after p c.act)) ∙ all_items p c.act))
     (λ c h. (h.0, (h.1.0, (h.1.1.0, h.1.1.1.0.1))))
     (λ c h. (h.0, (h.1.0, (h.1.1.0, ((refl, h.1.1.1), refl)))))
     (lawful_then _ _ _ _ _ _ AnyText (λ c. tt) (λ x c h. refl) (begun_lawful sofar) (λ x.
     lawful_then _ _ _ _ _ _ AnyText (λ c. c.caller) (λ n c h. ap (λ (x : Command). x.caller) h.1.1) caller_lawful (λ caller.
     lawful_then _ _ _ _ _ _ AnyText (λ c. verb_for c.act) (λ v c h. h.0.0) (verb_lawful sofar) (λ verb.
-    lawful_then _ _ _ _ _ _ AnyText (λ c. c.act) (λ a c h. ap (λ (x : Command). x.act) h) (act_lawful verb) (λ act.
+    lawful_then _ _ _ _ _ _ AnyText (λ c. c.act) (λ a c h. ap (λ (x : Command). x.act) h) (act_lawful p verb) (λ act.
     lawful_give (record { caller = caller; act = act }))))))
 
 -- ---- how many ask for a plan
@@ -220,55 +221,55 @@ are_commands cs is =
     (after_few 1000 (λ before c. Unit {0}) [] cs is.few (all_after (λ c. Unit {0}) [] cs (λ k d lt. tt)))
     (after_both (λ before c. HasRoom before (verb_for c.act)) (λ before c. IsCommandInForm c) [] cs (more_plans [] cs is.plans) (all_after IsCommandInForm [] cs is.each)))
 
-commands_lawful : Lawful (commands_at []) (λ cs. flat_map command_items cs) IsScript IsEnd
-commands_lawful = lawful_as (commands_at []) _ (λ cs. flat_map command_items cs) _ IsScript IsEnd (λ cs h. append-nil (flat_map command_items cs)) (λ cs h. is_script cs h.1) (λ cs h. (refl, are_commands cs h))
-    (lawful_list TheEnd no_fault command_at command_items IsCommandAfter (λ c. tt) command_lawful)
+commands_lawful : (p : Places) → Lawful (commands_at p []) (λ cs. flat_map (command_items p) cs) IsScript IsEnd
+commands_lawful p = lawful_as (commands_at p []) _ (λ cs. flat_map (command_items p) cs) _ IsScript IsEnd (λ cs h. append-nil (flat_map (command_items p) cs)) (λ cs h. is_script cs h.1) (λ cs h. (refl, are_commands cs h))
+    (lawful_list TheEnd no_fault (command_at p) (command_items p) IsCommandAfter (λ c. tt) (command_lawful p))
 
 -- ---- faults stand where they are met
 
-act_online : (v : Verb) → IsOnline (act_at v)
+act_online : (p : Places) (v : Verb) → IsOnline (act_at p v)
 unfolding act_at
-act_online verbs.Set =
+act_online p verbs.Set =
     online_then _ _ (online_word Token Ended (any_name LimitName)) (λ name.
-    online_then _ _ (online_word Token Ended need_in_script) (λ need.
+    online_then _ _ (online_word Token Ended (need_in_script p)) (λ need.
     online_give (Change (edits.Set name need))))
-act_online verbs.Add =
+act_online p verbs.Add =
     online_then _ _ (online_word Token Ended (any_name LimitName)) (λ name.
     online_then _ _ (online_open Token Ended) (λ o.
     online_then _ _ (online_word Token Ended (any_name LimitName)) (λ from.
     online_then _ _ (online_word Token Ended (any_name LimitName)) (λ to.
     online_then _ _ (online_close Token Ended) (λ c.
-    online_then _ _ (online_word Token Ended need_in_script) (λ need.
+    online_then _ _ (online_word Token Ended (need_in_script p)) (λ need.
     online_give (Change (edits.Add name from to need))))))))
-act_online verbs.Drop =
+act_online p verbs.Drop =
     online_then _ _ (online_word Token Ended (any_name LimitName)) (λ name.
     online_give (Change (edits.Drop name)))
-act_online verbs.Plan = online_give Plan
+act_online p verbs.Plan = online_give Plan
 
-command_online : (sofar : List Command) → IsOnline (command_at sofar)
+command_online : (p : Places) (sofar : List Command) → IsOnline (command_at p sofar)
 unfolding command_at
-command_online sofar =
+command_online p sofar =
     online_then _ _ (online_word Token Ended (begun_command sofar)) (λ x.
     online_then _ _ (online_word Token Ended caller_of) (λ caller.
     online_then _ _ (online_word Token Ended (verb_after sofar)) (λ verb.
-    online_then _ _ (act_online verb) (λ act.
+    online_then _ _ (act_online p verb) (λ act.
     online_give (record { caller = caller; act = act })))))
 
-pub command_some : (sofar : List Command) → TakesSome (command_at sofar)
+pub command_some : (p : Places) (sofar : List Command) → TakesSome (command_at p sofar)
 unfolding command_at
-command_some sofar = takes_some (command_at sofar) (command_online sofar) (λ p. Ended) (λ p. refl)
+command_some p sofar = takes_some (command_at p sofar) (command_online p sofar) (λ p. Ended) (λ p. refl)
 
 -- ---- whole files
 
-pub script_read : (bytes : List ℕ) (cs : List Command) (rest : Text) → are_same (trimmed (first_line bytes)) script_header ≡ true → commands_at [] (body bytes) ≡ Ok (cs, rest) → (at : ℕ) × (script_of bytes ≡ Ok (script_of_commands cs, EndAt at))
-script_read bytes cs rest line read = file_read Header script_header (commands_at []) script_of_commands (λ xs. flat_map command_items xs) IsScript commands_lawful bytes cs rest line read
+pub script_read : (p : Places) (bytes : List ℕ) (cs : List Command) (rest : Text) → are_same (trimmed (first_line bytes)) script_header ≡ true → commands_at p [] (body bytes) ≡ Ok (cs, rest) → (at : ℕ) × (script_of p bytes ≡ Ok (script_of_commands cs, EndAt at))
+script_read p bytes cs rest line read = file_read Header script_header (commands_at p []) script_of_commands (λ xs. flat_map (command_items p) xs) IsScript (commands_lawful p) bytes cs rest line read
 
-pub script_found : (bytes : List ℕ) (a : Result Script (Refusal ScriptKind)) → ReadsAllAs (λ s. s) a (script_of bytes) → IfOk a (λ s. SpellsScript bytes s)
-script_found bytes a h = answer_found Header script_header (commands_at []) script_of_commands (λ xs. flat_map command_items xs) IsScript commands_lawful (λ s. s) bytes a h
+pub script_found : (p : Places) (bytes : List ℕ) (a : Result Script (Refusal ScriptKind)) → ReadsAllAs (λ s. s) a (script_of p bytes) → IfOk a (λ s. SpellsScript p bytes s)
+script_found p bytes a h = answer_found Header script_header (commands_at p []) script_of_commands (λ xs. flat_map (command_items p) xs) IsScript (commands_lawful p) (λ s. s) bytes a h
 
-pub script_only : (bytes : List ℕ) (a : Result Script (Refusal ScriptKind)) → ReadsAllAs (λ s. s) a (script_of bytes) → (s : Script) → SpellsScript bytes s → AnswersAs (λ x. x) a s
-script_only bytes a h = answer_only Header script_header (commands_at []) script_of_commands (λ xs. flat_map command_items xs) IsScript commands_lawful (λ s. s) bytes a h
+pub script_only : (p : Places) (bytes : List ℕ) (a : Result Script (Refusal ScriptKind)) → ReadsAllAs (λ s. s) a (script_of p bytes) → (s : Script) → SpellsScript p bytes s → AnswersAs (λ x. x) a s
+script_only p bytes a h = answer_only Header script_header (commands_at p []) script_of_commands (λ xs. flat_map (command_items p) xs) IsScript (commands_lawful p) (λ s. s) bytes a h
 
-pub script_first : (bytes : List ℕ) (a : Result Script (Refusal ScriptKind)) → ReadsAllAs (λ s. s) a (script_of bytes) → IfErr a (IsNotTooEarly SpellsScript bytes)
-script_first bytes a h = answer_first Header script_header (commands_at []) script_of_commands (λ xs. flat_map command_items xs) IsScript commands_lawful (λ s. s)
-    (online_list TheEnd no_fault command_at command_online command_some []) bytes a h
+pub script_first : (p : Places) (bytes : List ℕ) (a : Result Script (Refusal ScriptKind)) → ReadsAllAs (λ s. s) a (script_of p bytes) → IfErr a (IsNotTooEarly (SpellsScript p) bytes)
+script_first p bytes a h = answer_first Header script_header (commands_at p []) script_of_commands (λ xs. flat_map (command_items p) xs) IsScript (commands_lawful p) (λ s. s)
+    (online_list TheEnd no_fault (command_at p) (command_online p) (command_some p) []) bytes a h

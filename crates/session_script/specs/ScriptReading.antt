@@ -2,6 +2,7 @@
 use Rattle.std.specs.Prelude.{ℕ, Bool, nat_lt, ◌&&◌, if◌then◌else◌, List, [], length, count_by, Result, Ok, Err, codes}
 use Rattle.net_core.specs.Tests.{are_same}
 use Rattle.net_core.specs.declared.journal.Edit.TheVariants as edits
+use Rattle.net_core.specs.declared.places.Places.{Places}
 use Rattle.snd_tokens.specs.declared.whole_number.WholeFault.{WholeFault}
 use Rattle.snd_tokens.specs.Amounts.{amount_of}
 use Rattle.snd_tokens.specs.Wholes.{whole_of}
@@ -52,44 +53,44 @@ verb_within room verb = verb
 abbrev pub verb_after : List Command → List ℕ → Result Verb ScriptKind
 verb_after sofar w = verb_within (nat_lt (count_by is_plan sofar) 64) (verb_of w)
 
--- a need
-abbrev pub need_in_script : List ℕ → Result ℕ ScriptKind
-need_in_script w = number_or Number (amount_of w)
+-- a need, in units of the network
+abbrev pub need_in_script : Places → List ℕ → Result ℕ ScriptKind
+need_in_script p w = number_or Number (amount_of p w)
 
 -- ---- the order of words
 
 -- what comes after the word that says what is asked for
-unfoldable pub act_at : Verb → Reading ScriptKind Act
-act_at verbs.Set = do
+unfoldable pub act_at : Places → Verb → Reading ScriptKind Act
+act_at p verbs.Set = do
   name ← word_at Token Ended (any_name LimitName)
-  need ← word_at Token Ended need_in_script
+  need ← word_at Token Ended (need_in_script p)
   give (Change (edits.Set name need))
-act_at verbs.Add = do
+act_at p verbs.Add = do
   name ← word_at Token Ended (any_name LimitName)
   _ ← open_at Token Ended
   from ← word_at Token Ended (any_name LimitName)
   to ← word_at Token Ended (any_name LimitName)
   _ ← close_at Token Ended
-  need ← word_at Token Ended need_in_script
+  need ← word_at Token Ended (need_in_script p)
   give (Change (edits.Add name from to need))
-act_at verbs.Drop = do
+act_at p verbs.Drop = do
   name ← word_at Token Ended (any_name LimitName)
   give (Change (edits.Drop name))
-act_at verbs.Plan = give Plan
+act_at p verbs.Plan = give Plan
 
 -- a command after earlier ones
-unfoldable pub command_at : List Command → Reading ScriptKind Command
-command_at sofar = do
+unfoldable pub command_at : Places → List Command → Reading ScriptKind Command
+command_at p sofar = do
   _ ← word_at Token Ended (begun_command sofar)
   caller ← word_at Token Ended caller_of
   verb ← word_at Token Ended (verb_after sofar)
-  act ← act_at verb
+  act ← act_at p verb
   give (record { caller = caller; act = act })
 
 -- further commands, up to the end
-abbrev pub commands_at : List Command → Reading ScriptKind (List Command)
-commands_at sofar = list_at TheEnd no_fault command_at sofar
+abbrev pub commands_at : Places → List Command → Reading ScriptKind (List Command)
+commands_at p sofar = list_at TheEnd no_fault (command_at p) sofar
 
 -- a whole file: its script, or its first fault by place
-abbrev pub script_of : List ℕ → Read ScriptKind Script
-script_of bytes = file_at Header script_header (mapped script_of_commands (commands_at [])) bytes
+abbrev pub script_of : Places → List ℕ → Read ScriptKind Script
+script_of p bytes = file_at Header script_header (mapped script_of_commands (commands_at p [])) bytes

@@ -1,5 +1,6 @@
 -- the grammar of a script: commands one after another, each of a caller
 use Rattle.std.specs.Prelude.{ℕ, ◌≤◌, Bool, true, false, List, [], ◌∷◌, length, All, flat_map, count_by, codes}
+use Rattle.net_core.specs.declared.places.Places.{Places}
 use Rattle.text_kit.specs.Edits.{IsEditInForm, edit_items}
 use Rattle.text_kit.specs.Files.{SpellsAs}
 use Rattle.text_kit.specs.Items.{Item, Verbatim, Whole}
@@ -21,13 +22,13 @@ abbrev pub is_plan : Command → Bool
 is_plan c = asks_plan c.act
 
 -- an edit, or the one word for a plan
-abbrev pub act_items : Act → List Item
-act_items (Change edit) = edit_items edit
-act_items Plan = Verbatim (codes "plan") ∷ []
+abbrev pub act_items : Places → Act → List Item
+act_items p (Change edit) = edit_items p edit
+act_items p Plan = Verbatim (codes "plan") ∷ []
 
 -- a command: its word, its caller, and what it asks for
-abbrev pub command_items : Command → List Item
-command_items c = Verbatim (codes "caller") ∷ Whole c.caller ∷ act_items c.act
+abbrev pub command_items : Places → Command → List Item
+command_items p c = Verbatim (codes "caller") ∷ Whole c.caller ∷ act_items p c.act
 
 -- an edit is in form, and a plan asks for nothing
 abbrev pub IsActInForm : Act → Type 0
@@ -50,6 +51,6 @@ pub record IsScript (commands : List Command) : Type 0 where
 abbrev pub script_of_commands : List Command → Script
 script_of_commands commands = record { commands = commands }
 
--- the bytes of a file spell this script
-abbrev pub SpellsScript : List ℕ → Script → Type 0
-SpellsScript bytes script = SpellsAs script_header (flat_map command_items) IsScript script_of_commands bytes script
+-- the bytes of a file spell this script, with needs to p places
+abbrev pub SpellsScript : Places → List ℕ → Script → Type 0
+SpellsScript p bytes script = SpellsAs script_header (flat_map (command_items p)) IsScript script_of_commands bytes script

@@ -9,7 +9,7 @@ ghost use Rattle.session_script.specs.ScriptReading.{commands_at, script_of};
 use crate::command::command;
 use crate::fault::{ScriptKind, ScriptRefusal};
 use crate::script::{Command, Script};
-use net_core::List;
+use net_core::{List, Places};
 use snd_tokens::Cursor;
 use std::alloc::Global;
 use text_kit::steps::{ends, text_after_header};
@@ -19,54 +19,64 @@ const HEADER: &[u8] = b"?planner script; version: 1";
 /// Takes one command more, and says whether there was one.
 fn take_command(
     alloc: Global,
+    places: Places,
     all: &mut List<Command>,
     text: &mut Cursor,
 ) -> Result<bool, ScriptRefusal>
-    ensures turn { TakesElement result (commands_at all.old (left text.old)) (commands_at all.new (left text.new)) (Ok (all.new, left text.new)) }
+    ensures turn { TakesElement result (commands_at places all.old (left text.old)) (commands_at places all.new (left text.new)) (Ok (all.new, left text.new)) }
     ensures shorter { IfOk result (λ more. IsTrue more → size (left text.new) < size (left text.old)) }
 {
     if let Some(_) = ends(text) {
         return Ok(false);
     }
-    let command = command(alloc, all.items(), text)?;
+    let command = command(alloc, places, all.items(), text)?;
     all.push(command)?;
     Ok(true)
 }
 
 /// Takes commands, up to the end.
-fn commands(alloc: Global, text: &mut Cursor) -> Result<List<Command>, ScriptRefusal>
-    ensures { ReadsAs (λ l. l) result (left text.new) (commands_at [] (left text.old)) }
+fn commands(
+    alloc: Global,
+    places: Places,
+    text: &mut Cursor,
+) -> Result<List<Command>, ScriptRefusal>
+    ensures { ReadsAs (λ l. l) result (left text.new) (commands_at places [] (left text.old)) }
 {
     let mut all = List::new(alloc);
-    while take_command(alloc, &mut all, text)? {}
+    while take_command(alloc, places, &mut all, text)? {}
     Ok(all)
 }
 
 /// The whole file.
-fn file(alloc: Global, bytes: &[u8]) -> Result<Script, ScriptRefusal>
-    ensures { ReadsAllAs (λ s. s) result (script_of bytes.now) }
+fn file(alloc: Global, places: Places, bytes: &[u8]) -> Result<Script, ScriptRefusal>
+    ensures { ReadsAllAs (λ s. s) result (script_of places bytes.now) }
 {
     let mut text = text_after_header(ScriptKind::Header, bytes, HEADER)?;
-    let commands = commands(alloc, &mut text)?;
+    let commands = commands(alloc, places, &mut text)?;
     Ok(Script { commands })
 }
 
-/// The script that a file spells. Needs are in thousandths. It takes memory for the commands and
-/// their names, and time in proportion to the bytes, with one pass over the earlier commands at
-/// each word `plan`.
+/// The script that a file spells, for a network of these places. Needs are in units of the network.
+/// It takes memory for the commands and their names, and time in proportion to the bytes, with one
+/// pass over the earlier commands at each word `plan`.
 ///
 /// After the header, the line `caller 1 set D1 2.5` is one command: caller 1 asks that the demand
-/// D1 need 2500 thousandths. A line `caller 9 plan` there is refused as `caller` at the place of
-/// the 9.
-pub fn read_script(alloc: Global, bytes: &[u8]) -> Result<Script, ScriptRefusal>
+/// D1 need 2,500 units with three places, and 2,500,000 with six. A need of 0.0005 is refused as
+/// `number-fine` with three places, and is 500 units with six. A line `caller 9 plan` there is
+/// refused as `caller` at the place of the 9.
+pub fn read_script(
+    alloc: Global,
+    places: Places,
+    bytes: &[u8],
+) -> Result<Script, ScriptRefusal>
     // What is read is spelled.
-    ensures found { IfOk result (λ s. SpellsScript bytes.now s) }
+    ensures found { IfOk result (λ s. SpellsScript places bytes.now s) }
     // What is spelled is read, unless memory runs out.
-    ensures only { (s : Scr) → SpellsScript bytes.now s → AnswersAs (λ x. x) result s }
+    ensures only { (s : Scr) → SpellsScript places bytes.now s → AnswersAs (λ x. x) result s }
     // A fault is the first one that reading from left to right meets.
-    ensures exact { ReadsAllAs (λ s. s) result (script_of bytes.now) }
+    ensures exact { ReadsAllAs (λ s. s) result (script_of places bytes.now) }
     // It doesn't stand too early: no bytes that agree past it are spelled right.
-    ensures not_early { IfErr result (IsNotTooEarly SpellsScript bytes.now) }
+    ensures not_early { IfErr result (IsNotTooEarly (SpellsScript places) bytes.now) }
 {
-    file(alloc, bytes)
+    file(alloc, places, bytes)
 }

@@ -8,8 +8,8 @@ ghost use Rattle.session_script.specs.ScriptReading.{begun_command, caller_of, n
 
 use crate::fault::{ScriptKind, ScriptRefusal};
 use crate::script::{Command, Verb};
-use net_core::Name;
-use snd_tokens::{Cursor, milli, whole};
+use net_core::{Name, Places};
+use snd_tokens::{Cursor, amount, whole};
 use std::alloc::Global;
 use text_kit::names::{is_long, named};
 use text_kit::steps::{placed, word};
@@ -145,20 +145,20 @@ pub(crate) fn name(alloc: Global, text: &mut Cursor) -> Result<Name, ScriptRefus
     named(alloc, at, word, name_fault(word))
 }
 
-/// The need of a word, in thousandths.
-fn need_of(word: &[u8]) -> Result<u64, ScriptKind>
-    ensures { result ≡ need_in_script word.now }
+/// The need of a word, in units of the network.
+fn need_of(places: Places, word: &[u8]) -> Result<u64, ScriptKind>
+    ensures { result ≡ need_in_script places word.now }
 {
-    match milli(word) {
+    match amount(word, places) {
         Ok(need) => Ok(need),
         Err(fault) => Err(ScriptKind::Number(fault)),
     }
 }
 
-/// Takes a need, in thousandths.
-pub(crate) fn need(text: &mut Cursor) -> Result<u64, ScriptRefusal>
-    ensures { ReadsAs (λ n. n) result (left text.new) (word_at ScriptKind.Token ScriptKind.Ended need_in_script (left text.old)) }
+/// Takes a need, in units of the network.
+pub(crate) fn need(places: Places, text: &mut Cursor) -> Result<u64, ScriptRefusal>
+    ensures { ReadsAs (λ n. n) result (left text.new) (word_at ScriptKind.Token ScriptKind.Ended (need_in_script places) (left text.old)) }
 {
     let (at, word) = word(ScriptKind::Token, ScriptKind::Ended, text)?;
-    placed(at, need_of(word))
+    placed(at, need_of(places, word))
 }
