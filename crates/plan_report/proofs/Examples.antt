@@ -4,6 +4,7 @@ use Rattle.std.proofs.lemmas.List.Elements.{All-cons, All-nil}
 use Rattle.net_core.specs.declared.network.Link.{Link}
 use Rattle.worked_networks.specs.Tables.{letters}
 use Rattle.worked_networks.specs.Triangle.{triangle_links}
+use Rattle.net_core.specs.declared.places.Places.TheVariants.{Three}
 use Rattle.net_core.specs.declared.journal.Entry.TheVariants.{Pooled}
 use Rattle.plan_types.specs.declared.certificate.CertLine.{CertLine}
 use Rattle.plan_types.specs.declared.report.Outcome.TheVariants.{Planned}
@@ -12,9 +13,9 @@ use Rattle.plan_report.specs.KnownNames.{KnownNames, known_as}
 use Rattle.plan_report.specs.inner.Examples.{idle_certificate, idle_cut, idle_plan, idle_report, idle_routing}
 use Rattle.net_core.proofs.Lists.{all_one}
 
--- no state is listed
+-- no state is listed, and amounts have three places
 abbrev triangle_names : KnownNames
-triangle_names = known_as (letters 65 3) (triangle_links 0) []
+triangle_names = known_as Three (letters 65 3) (triangle_links 0) []
 
 three : {X : Type 0} (P : X → Type 0) (x : X) → P x → All P (x ∷ x ∷ x ∷ [])
 three P x p = All-cons P x (x ∷ x ∷ []) p (All-cons P x (x ∷ []) p (all_one P x p))

@@ -1,9 +1,12 @@
 -- What the writer draws from a report's form, and that its text spells the report.
 use Rattle.std.proofs.Common.{ℕ, List, [], ◌∷◌, ◌++◌, All, refl, sym, subst}
 use Rattle.net_core.specs.declared.demand.Demand.{Demand}
+use Rattle.net_core.specs.declared.places.Places.{Places}
+use Rattle.net_core.specs.declared.places.Places.TheVariants.{Three, Six}
 use Rattle.plan_types.specs.declared.report.Report.{Report}
 use Rattle.text_kit.specs.Files.{IsFileOf}
 use Rattle.text_kit.specs.Items.{ComeAfter}
+use Rattle.text_kit.specs.Laws.{IsHeaderLine}
 use Rattle.text_kit.proofs.Adding.{writable}
 use Rattle.text_kit.proofs.After.{after_all, after_as}
 use Rattle.text_kit.proofs.Files.{written_is_read}
@@ -19,10 +22,15 @@ writable_demands nodes demands all =
     after_all (IsWritableDemand nodes) [] demands
     (after_as (IsDemandInForm nodes) (λ before d. IsWritableDemand nodes d) [] demands (λ before d h. record { from = h.from; to = h.to; need = h.need }) all)
 
+-- the first line has no line end and no blank at its ends
+header_line : (p : Places) → IsHeaderLine (report_header p)
+header_line Three = record { one = refl; no_blank = refl }
+header_line Six = record { one = refl; no_blank = refl }
+
 pub text_spells : (known : KnownNames) (r : Report) (text : List ℕ)
-    → IsReportInForm known r → AddsItems (report_header ++ 10 ∷ []) (report_items known r) text → SpellsReport known text r
+    → IsReportInForm known r → AddsItems (report_header known.places ++ 10 ∷ []) (report_items known r) text → SpellsReport known text r
 text_spells known r text form p = record {
   form = form;
-  file = subst (λ (bytes : List ℕ). IsFileOf report_header (report_items known r) bytes) (sym p.text)
-      (written_is_read report_header (report_items known r) (record { one = refl; no_blank = refl }) (writable (report_items known r) p.each));
+  file = subst (λ (bytes : List ℕ). IsFileOf (report_header known.places) (report_items known r) bytes) (sym p.text)
+      (written_is_read (report_header known.places) (report_items known r) (header_line known.places) (writable (report_items known r) p.each));
 }

@@ -146,7 +146,7 @@ IsQualityInForm known demands (Loose cause) = IsCauseInForm known demands cause
 
 -- ---- plans
 
--- a demand after others: a name that none of them has, two of the nodes, and a need below 2^40 thousandths
+-- a demand after others: a name that none of them has, two of the nodes, and a need below 2^40 units
 pub record IsDemandInForm (nodes : List (List ℕ)) (sofar : List Demand) (d : Demand) : Type 0 where
   pub short : length d.name ≤ 255
   pub new : is_named (λ x. x.name) d.name sofar ≡ false
@@ -172,7 +172,7 @@ pub record IsCertificateInForm (links : List Link) (listed : List Listed) (c : C
   pub few : length c.lines ≤ 256
   pub lines : All (IsCertificateLineInForm links listed) c.lines
 
--- a plan by itself; costs and bounds are below 2^126 thousandths
+-- a plan by itself; costs and bounds are below 2^126 units
 pub record IsPlanInForm (known : KnownNames) (p : Plan) : Type 0 where
   pub version : p.version ≤ 65536
   pub position : p.position ≤ 65536
@@ -200,7 +200,7 @@ abbrev pub line_lengths : Option CutLine → List ℕ
 line_lengths None = []
 line_lengths (Some line) = line.lengths
 
--- a version is at most 65,536, and a total below 2^45 thousandths
+-- a version is at most 65,536, and a total below 2^45 units
 abbrev pub IsReplyInForm : Reply → Type 0
 IsReplyInForm (Accepted version) = version ≤ 65536
 IsReplyInForm (TooMuch total) = total < 2 ^ 45

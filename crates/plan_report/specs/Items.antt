@@ -17,6 +17,7 @@ use Rattle.net_core.specs.declared.journal.Reply.{Reply}
 use Rattle.net_core.specs.declared.journal.Reply.TheVariants.{Accepted, UnknownDemand, KnownDemand, UnknownNode, SelfDemand, TooMany, TooMuch}
 use Rattle.net_core.specs.declared.network.Link.{Link}
 use Rattle.net_core.specs.declared.network.Notes.{Notes}
+use Rattle.net_core.specs.declared.places.Places.{Places}
 use Rattle.net_core.specs.declared.plan.CutLine.{CutLine}
 use Rattle.net_core.specs.declared.plan.Flow.{Flow}
 use Rattle.net_core.specs.declared.plan.Routing.{Routing}
@@ -61,23 +62,23 @@ path_items links path = enclosed (flat_map (λ e. Verbatim (link_name links e) �
 -- ---- the journal
 
 -- a reply: one word, and the version or the total that it tells
-abbrev pub reply_items : Reply → List Item
-reply_items (Accepted version) = Verbatim (codes "accepted") ∷ Whole version ∷ []
-reply_items UnknownDemand = Verbatim (codes "unknown-demand") ∷ []
-reply_items KnownDemand = Verbatim (codes "known-demand") ∷ []
-reply_items UnknownNode = Verbatim (codes "unknown-node") ∷ []
-reply_items SelfDemand = Verbatim (codes "self-demand") ∷ []
-reply_items TooMany = Verbatim (codes "too-many") ∷ []
-reply_items (TooMuch total) = Verbatim (codes "too-much") ∷ Money total ∷ []
+abbrev pub reply_items : Places → Reply → List Item
+reply_items places (Accepted version) = Verbatim (codes "accepted") ∷ Whole version ∷ []
+reply_items places UnknownDemand = Verbatim (codes "unknown-demand") ∷ []
+reply_items places KnownDemand = Verbatim (codes "known-demand") ∷ []
+reply_items places UnknownNode = Verbatim (codes "unknown-node") ∷ []
+reply_items places SelfDemand = Verbatim (codes "self-demand") ∷ []
+reply_items places TooMany = Verbatim (codes "too-many") ∷ []
+reply_items places (TooMuch total) = Verbatim (codes "too-much") ∷ Money places total ∷ []
 
 -- an entry: a caller with an edit and its reply, or the place of a cut in the pool, whose state and lengths stand there
-abbrev pub event_items : Entry → List Item
-event_items (Edited caller edit reply) = Verbatim (codes "caller") ∷ Whole caller ∷ edit_items edit ++ reply_items reply
-event_items (Pooled index state lengths) = Verbatim (codes "cut") ∷ Whole index ∷ []
+abbrev pub event_items : Places → Entry → List Item
+event_items places (Edited caller edit reply) = Verbatim (codes "caller") ∷ Whole caller ∷ edit_items places edit ++ reply_items places reply
+event_items places (Pooled index state lengths) = Verbatim (codes "cut") ∷ Whole index ∷ []
 
 -- an entry after its position
-abbrev pub entry_items : ℕ × Entry → List Item
-entry_items p = enclosed (Whole p.0 ∷ event_items p.1)
+abbrev pub entry_items : Places → ℕ × Entry → List Item
+entry_items places p = enclosed (Whole p.0 ∷ event_items places p.1)
 
 -- ---- routings
 
@@ -139,8 +140,8 @@ quality_items known demands (Loose cause) = Verbatim (codes "loose") ∷ cause_i
 -- ---- plans
 
 -- a demand: its name, its ends and its need
-abbrev pub demand_items : List (List ℕ) → Demand → List Item
-demand_items nodes d = Verbatim d.name ∷ ends_items (node_name nodes d.from) (node_name nodes d.to) ++ Money d.need ∷ []
+abbrev pub demand_items : Places → List (List ℕ) → Demand → List Item
+demand_items places nodes d = Verbatim d.name ∷ ends_items (node_name nodes d.from) (node_name nodes d.to) ++ Money places d.need ∷ []
 
 -- the modules of a link: its name, and a count for each
 abbrev pub modules_items : Link × List ℕ → List Item
@@ -166,14 +167,14 @@ head_items caller serial version position =
     ∷ Verbatim (codes "version") ∷ Whole version ∷ Verbatim (codes "position") ∷ Whole position ∷ []
 
 -- the cost, the bound, and the raw value of the certificate as a fraction
-abbrev pub costs_items : Plan → List Item
-costs_items p = Verbatim (codes "cost") ∷ Money p.cost ∷ Verbatim (codes "bound") ∷ Money p.bound ∷ Verbatim (codes "raw") ∷ Whole p.raw_num ∷ Whole p.raw_den ∷ []
+abbrev pub costs_items : Places → Plan → List Item
+costs_items places p = Verbatim (codes "cost") ∷ Money places p.cost ∷ Verbatim (codes "bound") ∷ Money places p.bound ∷ Verbatim (codes "raw") ∷ Whole p.raw_num ∷ Whole p.raw_den ∷ []
 
 -- a plan after its head: its demands, its costs, its modules, its certificate, its routings, and how good its bound is
 abbrev pub plan_items : KnownNames → Plan → List Item
 plan_items known p =
-    section (codes "DEMANDS") (flat_map (demand_items known.nodes) p.demands)
-    ++ costs_items p
+    section (codes "DEMANDS") (flat_map (demand_items known.places known.nodes) p.demands)
+    ++ costs_items known.places p
     ++ section (codes "MODULES") (flat_map modules_items (zip known.links p.counts))
     ++ certificate_items p.certificate
     ++ Verbatim (codes "ROUTES") ∷ routings_items known p.demands p.routings
@@ -204,6 +205,6 @@ notes_items n = note_items n.fixed_cost (codes "fixed") ++ note_items n.routing_
 abbrev pub report_items : KnownNames → Report → List Item
 report_items known r =
     section (codes "NOTES") (notes_items r.notes)
-    ++ section (codes "JOURNAL") (flat_map entry_items (numbered_from 1 r.entries))
+    ++ section (codes "JOURNAL") (flat_map (entry_items known.places) (numbered_from 1 r.entries))
     ++ section (codes "POOL") (flat_map pool_line_items (numbered_from 0 r.pool))
     ++ section (codes "OUTCOMES") (flat_map (outcome_items known) r.outcomes)

@@ -2,24 +2,26 @@
 use Rattle.std.specs.Prelude.{ℕ, List}
 use Rattle.net_core.specs.declared.network.Link.{Link}
 use Rattle.net_core.specs.declared.network.Network.{Network}
+use Rattle.net_core.specs.declared.places.Places.{Places}
 use Rattle.net_core.specs.declared.states.Listed.{Listed}
 use Rattle.net_core.specs.declared.states.States.{States}
 use Rattle.net_core.specs.Cases.{Case}
 
--- the nodes, by their names, the links and the listed states that a report may name
+-- the nodes, by their names, the links and the listed states that a report may name; and the places of its amounts and money
 pub record KnownNames : Type 0 where
   pub nodes : List (List ℕ)
   pub links : List Link
   pub listed : List Listed
+  pub places : Places
 
--- the record of these lists
-abbrev pub known_as : List (List ℕ) → List Link → List Listed → KnownNames
-known_as nodes links listed = record { nodes = nodes; links = links; listed = listed }
+-- the record of these
+abbrev pub known_as : Places → List (List ℕ) → List Link → List Listed → KnownNames
+known_as places nodes links listed = record { nodes = nodes; links = links; listed = listed; places = places }
 
 -- those of a network and its states
 abbrev pub known_of : Network → States → KnownNames
-known_of net states = known_as net.nodes net.links states.listed
+known_of net states = known_as net.places net.nodes net.links states.listed
 
 -- those of a case
 abbrev pub known_to : Case → KnownNames
-known_to p = known_as p.nodes p.links p.listed
+known_to p = known_as p.places p.nodes p.links p.listed

@@ -5,21 +5,21 @@ ghost use Rattle.plan_report.specs.Items.{entry_items, event_items, numbered_fro
 ghost use Rattle.text_kit.specs.Edits.{IsEditInForm, edit_items, enclosed};
 ghost use Rattle.text_kit.specs.Written.{AddsItems};
 
-use net_core::{Bytes, Edit, Entry, NoMemory, Reply};
+use net_core::{Bytes, Edit, Entry, NoMemory, Places, Reply};
 use text_kit::puts::{
     put_close, put_ends, put_field, put_keyword, put_money, put_name, put_number, put_open,
 };
 
 /// Puts an edit last.
-fn put_edit(text: &mut Bytes, edit: &Edit) -> Result<(), NoMemory>
+fn put_edit(text: &mut Bytes, places: Places, edit: &Edit) -> Result<(), NoMemory>
     requires { IsEditInForm edit.now }
-    ensures { OnOk result (AddsItems text.old (edit_items edit.now) text.new) }
+    ensures { OnOk result (AddsItems text.old (edit_items places edit.now) text.new) }
 {
     match edit {
         Edit::Set { name, need } => {
             put_keyword(text, b"set")?;
             put_name(text, name)?;
-            put_money(text, *need as u128)
+            put_money(text, places, *need as u128)
         }
         Edit::Add {
             name,
@@ -30,7 +30,7 @@ fn put_edit(text: &mut Bytes, edit: &Edit) -> Result<(), NoMemory>
             put_keyword(text, b"add")?;
             put_name(text, name)?;
             put_ends(text, from, to)?;
-            put_money(text, *need as u128)
+            put_money(text, places, *need as u128)
         }
         Edit::Drop { name } => {
             put_keyword(text, b"drop")?;
@@ -40,9 +40,9 @@ fn put_edit(text: &mut Bytes, edit: &Edit) -> Result<(), NoMemory>
 }
 
 /// Puts a reply last.
-fn put_reply(text: &mut Bytes, reply: Reply) -> Result<(), NoMemory>
+fn put_reply(text: &mut Bytes, places: Places, reply: Reply) -> Result<(), NoMemory>
     requires { IsReplyInForm reply }
-    ensures { OnOk result (AddsItems text.old (reply_items reply) text.new) }
+    ensures { OnOk result (AddsItems text.old (reply_items places reply) text.new) }
 {
     match reply {
         Reply::Accepted(version) => put_field(text, b"accepted", version),
@@ -53,15 +53,15 @@ fn put_reply(text: &mut Bytes, reply: Reply) -> Result<(), NoMemory>
         Reply::TooMany => put_keyword(text, b"too-many"),
         Reply::TooMuch(total) => {
             put_keyword(text, b"too-much")?;
-            put_money(text, total as u128)
+            put_money(text, places, total as u128)
         }
     }
 }
 
 /// Puts last what an entry has after its position.
-fn put_event(text: &mut Bytes, entry: &Entry) -> Result<(), NoMemory>
+fn put_event(text: &mut Bytes, places: Places, entry: &Entry) -> Result<(), NoMemory>
     requires { (pool : List CutLine) × IsEntryInForm pool entry.now }
-    ensures { OnOk result (AddsItems text.old (event_items entry.now) text.new) }
+    ensures { OnOk result (AddsItems text.old (event_items places entry.now) text.new) }
 {
     match entry {
         Entry::Edited {
@@ -70,32 +70,41 @@ fn put_event(text: &mut Bytes, entry: &Entry) -> Result<(), NoMemory>
             reply,
         } => {
             put_field(text, b"caller", *caller as u64)?;
-            put_edit(text, edit)?;
-            put_reply(text, *reply)
+            put_edit(text, places, edit)?;
+            put_reply(text, places, *reply)
         }
         Entry::Pooled { index, .. } => put_field(text, b"cut", *index as u64),
     }
 }
 
 /// Puts the entry at a position last.
-fn put_entry(text: &mut Bytes, position: u64, entry: &Entry) -> Result<(), NoMemory>
+fn put_entry(
+    text: &mut Bytes,
+    places: Places,
+    position: u64,
+    entry: &Entry,
+) -> Result<(), NoMemory>
     requires { (pool : List CutLine) × IsEntryInForm pool entry.now }
-    ensures { OnOk result (AddsItems text.old (entry_items (position, entry.now)) text.new) }
+    ensures { OnOk result (AddsItems text.old (entry_items places (position, entry.now)) text.new) }
 {
     put_open(text)?;
     put_number(text, position)?;
-    put_event(text, entry)?;
+    put_event(text, places, entry)?;
     put_close(text)
 }
 
 /// Puts a journal last, between parentheses.
-pub(crate) fn put_journal(text: &mut Bytes, entries: &[Entry]) -> Result<(), NoMemory>
+pub(crate) fn put_journal(
+    text: &mut Bytes,
+    places: Places,
+    entries: &[Entry],
+) -> Result<(), NoMemory>
     requires { (pool : List CutLine) × All (IsEntryInForm pool) entries.now }
-    ensures { OnOk result (AddsItems text.old (enclosed (flat_map entry_items (numbered_from 1 entries.now))) text.new) }
+    ensures { OnOk result (AddsItems text.old (enclosed (flat_map (entry_items places) (numbered_from 1 entries.now))) text.new) }
 {
     put_open(text)?;
     for i in 0..entries.len() {
-        put_entry(text, i as u64 + 1, &entries[i])?;
+        put_entry(text, places, i as u64 + 1, &entries[i])?;
     }
     put_close(text)
 }

@@ -3,15 +3,17 @@ ghost use Rattle.text_kit.specs.Items.{Item, Verbatim};
 ghost use Rattle.plan_report.specs.Names.{demand_name, link_name, state_name};
 ghost use Rattle.text_kit.specs.Written.{AddsItems};
 
-use net_core::{Bytes, Demand, Link, LinkId, Listed, Name, NoMemory};
+use net_core::{Bytes, Demand, Link, LinkId, Listed, Name, NoMemory, Places};
 use text_kit::puts::{put_keyword, put_name};
 
-/// The nodes, the links and the listed states that a report names.
+/// The nodes, the links and the listed states that a report names, and the places of its amounts and
+/// money.
 #[derive(Clone, Copy)]
 pub(crate) struct Names<'a> {
     pub nodes: &'a [Name],
     pub links: &'a [Link],
     pub listed: &'a [Listed],
+    pub places: Places,
 }
 
 /// Puts a link's name last.

@@ -12,16 +12,21 @@ use crate::evidence::put_cause;
 use crate::lists::put_counts;
 use crate::names::Names;
 use crate::routings::put_routings;
-use net_core::{Bytes, Demand, Link, List, Name, NoMemory};
+use net_core::{Bytes, Demand, Link, List, Name, NoMemory, Places};
 use plan_types::{Fractional, Plan, Quality};
 use text_kit::puts::{
     put_close, put_ends, put_keyword, put_money, put_name, put_number, put_open, put_whole,
 };
 
 /// Puts a demand last.
-fn put_demand(text: &mut Bytes, nodes: &[Name], demand: &Demand) -> Result<(), NoMemory>
+fn put_demand(
+    text: &mut Bytes,
+    places: Places,
+    nodes: &[Name],
+    demand: &Demand,
+) -> Result<(), NoMemory>
     requires { IsWritableDemand nodes.now demand.now }
-    ensures { OnOk result (AddsItems text.old (demand_items nodes.now demand.now) text.new) }
+    ensures { OnOk result (AddsItems text.old (demand_items places nodes.now demand.now) text.new) }
 {
     put_name(text, &demand.name)?;
     put_ends(
@@ -29,17 +34,22 @@ fn put_demand(text: &mut Bytes, nodes: &[Name], demand: &Demand) -> Result<(), N
         &nodes[demand.from.0 as usize],
         &nodes[demand.to.0 as usize],
     )?;
-    put_money(text, demand.need as u128)
+    put_money(text, places, demand.need as u128)
 }
 
 /// Puts demands last, between parentheses.
-fn put_demands(text: &mut Bytes, nodes: &[Name], demands: &[Demand]) -> Result<(), NoMemory>
+fn put_demands(
+    text: &mut Bytes,
+    places: Places,
+    nodes: &[Name],
+    demands: &[Demand],
+) -> Result<(), NoMemory>
     requires { All (IsWritableDemand nodes.now) demands.now }
-    ensures { OnOk result (AddsItems text.old (enclosed (flat_map (demand_items nodes.now) demands.now)) text.new) }
+    ensures { OnOk result (AddsItems text.old (enclosed (flat_map (demand_items places nodes.now) demands.now)) text.new) }
 {
     put_open(text)?;
     for demand in demands {
-        put_demand(text, nodes, demand)?;
+        put_demand(text, places, nodes, demand)?;
     }
     put_close(text)
 }
@@ -65,16 +75,16 @@ fn put_modules(text: &mut Bytes, links: &[Link], counts: &[List<u64>]) -> Result
 }
 
 /// Puts the cost of a plan, its bound and its raw value last.
-fn put_costs(text: &mut Bytes, plan: &Plan) -> Result<(), NoMemory>
+fn put_costs(text: &mut Bytes, places: Places, plan: &Plan) -> Result<(), NoMemory>
     requires cost { plan.now.cost < 2 ^ 126 }
     requires bound { plan.now.bound < 2 ^ 126 }
     requires raw { (plan.now.raw_num < 2 ^ 126) × (plan.now.raw_den < 2 ^ 72) }
-    ensures { OnOk result (AddsItems text.old (costs_items plan.now) text.new) }
+    ensures { OnOk result (AddsItems text.old (costs_items places plan.now) text.new) }
 {
     put_keyword(text, b"cost")?;
-    put_money(text, plan.cost)?;
+    put_money(text, places, plan.cost)?;
     put_keyword(text, b"bound")?;
-    put_money(text, plan.bound)?;
+    put_money(text, places, plan.bound)?;
     put_keyword(text, b"raw")?;
     put_whole(text, plan.raw_num)?;
     put_whole(text, plan.raw_den)
@@ -124,8 +134,8 @@ pub(crate) fn put_plan(text: &mut Bytes, names: &Names<'_>, plan: &Plan) -> Resu
 {
     let demands = plan.demands.items();
     put_keyword(text, b"DEMANDS")?;
-    put_demands(text, names.nodes, demands)?;
-    put_costs(text, plan)?;
+    put_demands(text, names.places, names.nodes, demands)?;
+    put_costs(text, names.places, plan)?;
     put_keyword(text, b"MODULES")?;
     put_modules(text, names.links, plan.counts.items())?;
     put_certificate(text, &plan.certificate)?;

@@ -12,12 +12,24 @@ use crate::journal::put_journal;
 use crate::names::Names;
 use crate::outcomes::put_outcomes;
 use crate::pool::put_pool;
-use net_core::{Bytes, Network, NoMemory, Notes, States};
+use net_core::{Bytes, Network, NoMemory, Notes, Places, States};
 use plan_types::Report;
 use std::alloc::Global;
 use text_kit::puts::{put_close, put_keyword, put_open};
 
 const HEADER: &[u8] = b"?planner report; version: 1\n";
+
+const HEADER_OF_SIX: &[u8] = b"?planner report; version: 2\n";
+
+/// The first line of a report, whose version tells the places.
+fn header(places: Places) -> &'static [u8]
+    ensures { result.now ≡ report_header places ++ 10 ∷ [] }
+{
+    match places {
+        Places::Three => HEADER,
+        Places::Six => HEADER_OF_SIX,
+    }
+}
 
 /// Puts a word last where something is noted.
 fn put_note(text: &mut Bytes, noted: bool, word: &[u8]) -> Result<(), NoMemory>
@@ -49,19 +61,19 @@ fn put_report(text: &mut Bytes, names: &Names<'_>, report: &Report) -> Result<()
     put_notes(text, report.notes)?;
     put_close(text)?;
     put_keyword(text, b"JOURNAL")?;
-    put_journal(text, report.entries.items())?;
+    put_journal(text, names.places, report.entries.items())?;
     put_keyword(text, b"POOL")?;
     put_pool(text, report.pool.items())?;
     put_keyword(text, b"OUTCOMES")?;
     put_outcomes(text, names, report.outcomes.items())
 }
 
-/// The text of a report that is in form. It takes time in the number of its bytes, since each name is found by its place, and
+/// The text of a report that is in form, with amounts and money to the network's places. It takes time in the number of its bytes, since each name is found by its place, and
 /// memory for the text alone; it fails only where memory runs out.
 ///
 /// ```text
 /// let text = write_report(alloc, &net, &states, &report)?;
-/// text.items();       // ?planner report; version: 1, and a line for each closing parenthesis
+/// text.items();       // ?planner report; version: 1, or 2 with six places; and a line for each closing parenthesis
 /// ```
 pub fn write_report(
     alloc: Global,
@@ -75,11 +87,12 @@ pub fn write_report(
     ensures spelled { IfOk result (λ text. SpellsReport (known_of net.now states.now) text report.now) }
 {
     let mut text = Bytes::new(alloc);
-    text.append(HEADER)?;
+    text.append(header(net.places()))?;
     let names = Names {
         nodes: net.nodes().items(),
         links: net.links().items(),
         listed: states.listed().items(),
+        places: net.places(),
     };
     put_report(&mut text, &names, report)?;
     Ok(text)

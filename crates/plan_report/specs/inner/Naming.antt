@@ -3,4 +3,4 @@ use Rattle.plan_report.specs.declared.names.Names.{Names}
 use Rattle.plan_report.specs.KnownNames.{KnownNames, known_as}
 
 abbrev pub known_in : Names → KnownNames
-known_in names = known_as names.nodes.now names.links.now names.listed.now
+known_in names = known_as names.places names.nodes.now names.links.now names.listed.now

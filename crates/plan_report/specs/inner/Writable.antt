@@ -2,7 +2,7 @@
 use Rattle.std.specs.Prelude.{ℕ, ◌<◌, ◌^◌, List, length}
 use Rattle.net_core.specs.declared.demand.Demand.{Demand}
 
--- two of the nodes, and a need below 2^40 thousandths
+-- two of the nodes, and a need below 2^40 units
 pub record IsWritableDemand (nodes : List (List ℕ)) (d : Demand) : Type 0 where
   pub from : d.from.0 < length nodes
   pub to : d.to.0 < length nodes

@@ -5,4 +5,4 @@ use Rattle.text_kit.specs.Written.{AddsItems}
 use Rattle.plan_report.proofs.journal.put_journal.Given as goal
 
 abbrev pub invariant-loop-i : goal.invariant-loop-i
-invariant-loop-i l = AddsItems l.fn.text (Opening ∷ flat_map entry_items (take l.i (numbered_from 1 l.entries))) l.text
+invariant-loop-i l = AddsItems l.fn.text (Opening ∷ flat_map (entry_items l.places) (take l.i (numbered_from 1 l.entries))) l.text
