@@ -1,11 +1,9 @@
-use Rattle.std.proofs.Common.{map, subst, ap, ◌∙◌}
-use Rattle.net_core.specs.declared.network.Link.{Link}
-use Rattle.net_core.specs.declared.network.Module.{Module}
-use Rattle.plan_terms.specs.Bounds.{IsGreatestDivisor}
+use Rattle.std.proofs.Common.{subst}
+use Rattle.plan_terms.specs.Bounds.{IsGreatestDivisor, link_charges}
 use Rattle.module_prices.proofs.Divisors.{link_divisor_step}
 use Rattle.module_prices.proofs.rounding.cost_divisor.Goals as goal
 
 pub loop-l-preserved : goal.loop-l-preserved
 loop-l-preserved c =
-    let here = subst (λ ms. IsGreatestDivisor (map (λ (m : Module). m.cost) ms) c.modules_divisor.result) (c.items.ensures ∙ ap (λ (l : Link). l.modules) c.l-item.is) c.modules_divisor.ensures in
-    link_divisor_step c.loop-l.l-index c.args.links.now c.l-item.result c.loop-l.common c.modules_divisor.result c.gcd-common.result c.loop-l-test.true c.loop-l.invariant here c.gcd-common.ensures
+    let here = subst (λ l. IsGreatestDivisor (link_charges l) c.link_divisor.result) c.l-item.is c.link_divisor.ensures in
+    link_divisor_step c.loop-l.l-index c.args.links.now c.l-item.result c.loop-l.common c.link_divisor.result c.common_divisor-common.result c.loop-l-test.true c.loop-l.invariant here c.common_divisor-common.ensures
