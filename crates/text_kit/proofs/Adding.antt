@@ -5,20 +5,24 @@ use Rattle.std.specs.List.{AllByRecursion}
 use Rattle.std.proofs.lemmas.Fmt.{length-decimal-le}
 use Rattle.std.proofs.lemmas.Grind.{flat_map-append}
 use Rattle.std.proofs.lemmas.List.{take_more, take_all}
+use Rattle.net_core.specs.declared.places.Places.{Places}
 use Rattle.net_core.specs.Names.{IsName}
+use Rattle.net_core.specs.Places.{digits_after_point}
 use Rattle.text_kit.specs.Edits.{enclosed, section}
 use Rattle.text_kit.specs.Items.{Item, Verbatim, Whole, Money, Opening, Closing}
-use Rattle.text_kit.specs.Written.{AddsItems, IsShortItem, IsWritable, last_digit, money_word, written}
-use Rattle.text_kit.proofs.Numerals.{money_plain}
+use Rattle.text_kit.specs.Written.{AddsItems, IsShortItem, IsWritable, last_digits, money_word, written}
+use Rattle.text_kit.proofs.Numerals.{last_few, money_plain, places_few, whole_below}
 use Rattle.text_kit.proofs.Written.{written_both}
 
 -- an amount's word is as short as a name
-pub amount_short : (n : ℕ) → n < 2 ^ 64 → IsName (money_word n)
-amount_short n lt =
-    let plain = money_plain n (omega (arith, lt)) in
+pub amount_short : (p : Places) (n : ℕ) → n < 2 ^ 64 → IsName (money_word p n)
+amount_short p n lt =
+    let k = digits_after_point p in
+    let plain = money_plain p n (omega (arith, lt)) in
+    let whole : n / 10 ^ k < 2 ^ 64 = omega (arith, lt, whole_below k n) in
     record {
       some = plain.0;
-      short = omega (arith, length-decimal-le 20 (n / 1000) (omega arith) (omega (arith, lt)) (omega (arith, lt)), length-append (decimal (n / 1000)) (46 ∷ last_digit (n / 100) ∷ last_digit (n / 10) ∷ last_digit n ∷ []));
+      short = omega (arith, length-decimal-le 20 (n / 10 ^ k) (omega arith) (omega (arith, whole)) (omega (arith, whole)), length-append (decimal (n / 10 ^ k)) (46 ∷ last_digits k n), last_few k n, places_few p);
       plain = plain.1;
     }
 
@@ -27,7 +31,7 @@ pub writable : (is : List Item) → AllByRecursion IsShortItem is → AllByRecur
 writable [] all = tt
 writable (Verbatim w ∷ is) all = ((all.0.some, all.0.plain), writable is all.1)
 writable (Whole n ∷ is) all = (all.0, writable is all.1)
-writable (Money n ∷ is) all = (all.0, writable is all.1)
+writable (Money p n ∷ is) all = (all.0, writable is all.1)
 writable (Opening ∷ is) all = (tt, writable is all.1)
 writable (Closing ∷ is) all = (tt, writable is all.1)
 

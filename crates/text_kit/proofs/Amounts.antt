@@ -1,6 +1,8 @@
--- Words of amounts are those of money below 2^40 thousandths.
+-- Words of amounts are those of money below 2^40 units of the network.
 use Rattle.std.proofs.Common.{◌≡◌, ℕ, ◌^◌, ◌<◌, true, cond, not, nat_lt, List, [], ◌∷◌, Result, Ok, Err, ap, subst, arith, refl}
 use Rattle.std.proofs.lemmas.Bool.{ltb-true, lt-ltb}
+use Rattle.net_core.specs.declared.places.Places.{Places}
+use Rattle.net_core.specs.Places.{digits_after_point}
 use Rattle.snd_tokens.specs.declared.amounts.NumberFault.{NumberFault}
 use Rattle.snd_tokens.specs.declared.amounts.NumberFault.TheVariants.{NotANumber, TooFine, TooLarge}
 use Rattle.snd_tokens.specs.Amounts.{amount_of, money_of, decimal_below, is_coarse, is_decimal, units}
@@ -38,17 +40,17 @@ pub number_takes : {K : Type 0} (kind : NumberFault → K) (r : Result ℕ Numbe
 number_takes {K} kind (Ok k) n e = ap (λ (i : ℕ). Ok i) (ok_is {E = K} k n e)
 number_takes kind (Err f) n e = absurd cc
 
-pub amount_takes : {K : Type 0} (kind : NumberFault → K) (w : List ℕ) (n : ℕ) → number_or kind (amount_of w) ≡ Ok n → (n < 2 ^ 40) × (money_of w ≡ Ok n)
+pub amount_takes : {K : Type 0} (kind : NumberFault → K) (p : Places) (w : List ℕ) (n : ℕ) → number_or kind (amount_of p w) ≡ Ok n → (n < 2 ^ 40) × (money_of p w ≡ Ok n)
 unfolding amount_of money_of
-amount_takes kind w n e =
-    let is = below_takes 3 (2 ^ 40) w n (number_takes kind (amount_of w) n e) in
+amount_takes kind p w n e =
+    let is = below_takes (digits_after_point p) (2 ^ 40) w n (number_takes kind (amount_of p w) n e) in
     let small = is.below in
-    (small, below_again 3 (2 ^ 126) (2 ^ 40) w n (omega (arith, small)) is)
+    (small, below_again (digits_after_point p) (2 ^ 126) (2 ^ 40) w n (omega (arith, small)) is)
 
-pub amount_again : {K : Type 0} (kind : NumberFault → K) (w : List ℕ) (n : ℕ) → n < 2 ^ 40 → money_of w ≡ Ok n → number_or kind (amount_of w) ≡ Ok n
+pub amount_again : {K : Type 0} (kind : NumberFault → K) (p : Places) (w : List ℕ) (n : ℕ) → n < 2 ^ 40 → money_of p w ≡ Ok n → number_or kind (amount_of p w) ≡ Ok n
 unfolding amount_of money_of
-amount_again kind w n small e = ap (number_or kind) (below_again 3 (2 ^ 40) (2 ^ 126) w n small (below_takes 3 (2 ^ 126) w n e))
+amount_again kind p w n small e = ap (number_or kind) (below_again (digits_after_point p) (2 ^ 40) (2 ^ 126) w n small (below_takes (digits_after_point p) (2 ^ 126) w n e))
 
 -- an amount
-pub lawful_amount : {K : Type 0} (other ended : K) (kind : NumberFault → K) → Lawful (word_at other ended (λ w. number_or kind (amount_of w))) (λ n. Money n ∷ []) (λ n. n < 2 ^ 40) AnyText
-lawful_amount other ended kind = lawful_word other ended (λ w. number_or kind (amount_of w)) (λ n. Money n) (λ n. n < 2 ^ 40) (λ n. tt) (amount_takes kind) (λ w n is e. amount_again kind w n is e)
+pub lawful_amount : {K : Type 0} (other ended : K) (kind : NumberFault → K) (p : Places) → Lawful (word_at other ended (λ w. number_or kind (amount_of p w))) (λ n. Money p n ∷ []) (λ n. n < 2 ^ 40) AnyText
+lawful_amount other ended kind p = lawful_word other ended (λ w. number_or kind (amount_of p w)) (λ n. Money p n) (λ n. n < 2 ^ 40) (λ n. tt) (amount_takes kind p) (λ w n is e. amount_again kind p w n is e)

@@ -38,7 +38,7 @@ abbrev pub Starts : List Item → Type 0
 Starts [] = ⊥
 Starts (Verbatim v ∷ is) = Unit {0}
 Starts (Whole n ∷ is) = Unit {0}
-Starts (Money n ∷ is) = Unit {0}
+Starts (Money p n ∷ is) = Unit {0}
 Starts (Opening ∷ is) = Unit {0}
 Starts (Closing ∷ is) = ⊥
 
@@ -46,7 +46,7 @@ starts_open : (is more : List Item) (at : ℕ) (t rest : Text) → Starts is →
 starts_open [] more at t rest s b = s
 starts_open (Verbatim v ∷ is) more at t rest s b = let e : Verbatim v ≡ Closing = b.0 in cc
 starts_open (Whole n ∷ is) more at t rest s b = let e : Whole n ≡ Closing = b.0 in cc
-starts_open (Money n ∷ is) more at t rest s b = let e : Money n ≡ Closing = b.0 in cc
+starts_open (Money p n ∷ is) more at t rest s b = let e : Money p n ≡ Closing = b.0 in cc
 starts_open (Opening ∷ is) more at t rest s b = let e : Opening ≡ Closing = b.0 in cc
 starts_open (Closing ∷ is) more at t rest s b = s
 

@@ -74,7 +74,7 @@ lawful_end {K} {X} other x = record {
 abbrev pub IsWord : Item → Type 0
 IsWord (Verbatim v) = Unit {0}
 IsWord (Whole n) = Unit {0}
-IsWord (Money n) = Unit {0}
+IsWord (Money p n) = Unit {0}
 IsWord Opening = ⊥
 IsWord Closing = ⊥
 

@@ -1,17 +1,20 @@
 -- Numbers and money as they are written, and read again.
-use Rattle.std.proofs.Common.{◌≡◌, ℕ, zero, suc, ◌+◌, ◌-◌, ◌*◌, ◌^◌, ◌/◌, ◌%◌, ◌≤◌, ◌<◌, ◌==◌, ◌||◌, Bool, true, false, nat_le, List, [], ◌∷◌, ◌++◌, length, take, drop, Ok, refl, sym, ap, ◌∙◌, arith, append-nil, length-append, subst}
+use Rattle.std.proofs.Common.{◌≡◌, ℕ, zero, suc, ◌+◌, ◌-◌, ◌*◌, ◌^◌, ◌/◌, ◌%◌, ◌≤◌, ◌<◌, ◌==◌, ◌||◌, Bool, true, false, nat_le, List, [], ◌∷◌, ◌++◌, length, take, drop, replicate, Ok, refl, sym, ap, ◌∙◌, arith, append-nil, length-append, subst}
 use Rattle.std.specs.Prelude.{decimal, bytes_eq}
 use Rattle.std.specs.List.{list_all, position_or_len}
 use Rattle.std.proofs.lemmas.Bool.{and_from, or_right, ne_eqb, lt-ltb, le-leb, leb-true, and_parts}
-use Rattle.std.proofs.Math.Nat.{pow-suc}
-use Rattle.std.proofs.lemmas.List.{drop-drop}
+use Rattle.std.proofs.Math.Nat.{pow-suc, pow-le-pow_right, mul-le-mul_left, div-div-eq-div-mul}
+use Rattle.std.proofs.lemmas.List.{drop-drop, drop_all}
 use Rattle.std.proofs.lemmas.List.Folds.{list_all-append}
 use Rattle.std.proofs.lemmas.Fmt.{decimal_by_steps_wide}
+use Rattle.net_core.specs.declared.places.Places.{Places}
+use Rattle.net_core.specs.declared.places.Places.TheVariants.{Three, Six}
+use Rattle.net_core.specs.Places.{digits_after_point}
 use Rattle.snd_tokens.specs.Amounts.{decimal_below, first_places, is_coarse, is_decimal, is_point, money_of, places_of, units, whole_part}
 use Rattle.snd_tokens.specs.Digits.{is_digit, are_digits, number_of}
 use Rattle.net_core.specs.Names.{is_plain, is_word_byte}
 use Rattle.snd_tokens.specs.Wholes.{begins_with_zero, whole_of}
-use Rattle.text_kit.specs.Written.{last_digit, money_word}
+use Rattle.text_kit.specs.Written.{last_digit, last_digits, money_word}
 
 or_true : (a : Bool) → (a || true) ≡ true
 or_true true = refl
@@ -81,7 +84,7 @@ whole_again zero ds lt w = rw (w.zero refl) refl
 whole_again (suc n) ds lt w =
     rw (are_some ds w.some w.digits, w.other (omega arith), w.value, or_true (bytes_eq ds (48 ∷ [])), lt-ltb (suc n) (2 ^ 126) lt) refl
 
--- ---- money
+-- ---- the point
 
 digit_no_point : (b : ℕ) → is_digit b ≡ true → is_point b ≡ false
 digit_no_point b e =
@@ -97,33 +100,71 @@ point_place (b ∷ ds) more all =
 drop_past : (ds more : List ℕ) → drop (length ds + 1) (ds ++ 46 ∷ more) ≡ more
 drop_past ds more = sym (drop-drop 1 (length ds) (ds ++ 46 ∷ more)) ∙ ap (drop 1) (drop_first ds (46 ∷ more))
 
--- the places of money
-abbrev thousand_places : ℕ → List ℕ
-thousand_places n = last_digit (n / 100) ∷ last_digit (n / 10) ∷ last_digit n ∷ []
+-- ---- the last digits
 
-places_digits : (n : ℕ) → list_all is_digit (thousand_places n) ≡ true
-places_digits n = rw (digit_is (n / 100 % 10) (omega arith), digit_is (n / 10 % 10) (omega arith), digit_is (n % 10) (omega arith)) refl
+last_digits_are : (k n : ℕ) → list_all is_digit (last_digits k n) ≡ true
+last_digits_are zero n = refl
+last_digits_are (suc k) n = rw (digit_is (n / 10 ^ k % 10) (omega arith), last_digits_are k n) refl
 
-places_value : (n : ℕ) → 1000 * (n / 1000) + number_of (thousand_places n) ≡ n
-places_value n = omega arith
+pub last_few : (k n : ℕ) → length (last_digits k n) ≡ k
+last_few zero n = refl
+last_few (suc k) n = omega (arith, last_few k n)
 
-decimal_read : (limit n : ℕ) (w : List ℕ) → is_decimal w ≡ true → is_coarse 3 w ≡ true → units 3 w ≡ n → n < limit → decimal_below 3 limit w ≡ Ok n
-decimal_read limit n w d c u lt = rw (d, c, u, lt-ltb n limit lt) refl
+-- the digits that are left, and the last one of them
+last_value : (k n : ℕ) → 10 ^ k * (n / 10 ^ k) + number_of (last_digits k n) ≡ n
+last_value zero n = omega arith
+last_value (suc k) n =
+    let p : ℕ = 10 ^ k in
+    let q : ℕ = n / p in
+    let power : 10 ^ suc k ≡ p * 10 = pow-suc 10 k in
+    let whole : n / (p * 10) ≡ q / 10 = sym (div-div-eq-div-mul n p 10) in
+    let digit : last_digit q - 48 ≡ q % 10 = omega arith in
+    let tens : q ≡ q / 10 * 10 + q % 10 = omega arith in
+    let split : p * q ≡ p * (q / 10 * 10 + q % 10) = ap (λ x. p * x) tens in
+    rw (power, whole, last_few k n, digit) (omega (arith, last_value k n, split))
+
+pub whole_below : (k n : ℕ) → n / 10 ^ k ≤ n
+whole_below k n =
+    let positive_base : 0 < 10 = omega arith in
+    let zero_le : 0 ≤ k = omega arith in
+    let positive : 10 ^ 0 ≤ 10 ^ k = pow-le-pow_right positive_base zero_le in
+    let more : n / 10 ^ k * 1 ≤ n / 10 ^ k * 10 ^ k = mul-le-mul_left (n / 10 ^ k) positive in
+    omega (arith, more, last_value k n)
+
+-- ---- money
+
+pub places_few : (p : Places) → (1 ≤ digits_after_point p) × (digits_after_point p ≤ 6)
+places_few Three = (omega arith, omega arith)
+places_few Six = (omega arith, omega arith)
+
+decimal_read : (k limit n : ℕ) (w : List ℕ) → is_decimal w ≡ true → is_coarse k w ≡ true → units k w ≡ n → n < limit → decimal_below k limit w ≡ Ok n
+decimal_read k limit n w d c u lt = rw (d, c, u, lt-ltb n limit lt) refl
+
+-- as many digits as count are all of the first places
+first_all : (k : ℕ) (ds : List ℕ) → length ds ≡ k → first_places k ds ≡ ds
+first_all k ds e = subst (λ m. take m (ds ++ replicate k 48) ≡ ds) e (take_first ds (replicate k 48))
+
+no_more : (k : ℕ) (ds : List ℕ) → length ds ≡ k → list_all (λ b. b == 48) (drop k ds) ≡ true
+no_more k ds e = ap (λ (v : List ℕ). list_all (λ b. b == 48) v) (drop_all k ds (omega (arith, e)))
 
 -- money is read again
-pub money_again : (n : ℕ) → n < 2 ^ 126 → money_of (money_word n) ≡ Ok n
+pub money_again : (p : Places) (n : ℕ) → n < 2 ^ 126 → money_of p (money_word p n) ≡ Ok n
 unfolding money_of
-money_again n lt =
-    let ds = decimal (n / 1000) in
-    let w = decimal_writes (n / 1000) (omega (arith, lt)) in
-    let places = thousand_places n in
-    let point : position_or_len is_point (money_word n) ≡ length ds = point_place ds places w.digits in
-    let front : whole_part (money_word n) ≡ ds = ap (λ k. take k (money_word n)) point ∙ take_first ds (46 ∷ places) in
-    let back : places_of (money_word n) ≡ places = ap (λ k. drop (k + 1) (money_word n)) point ∙ drop_past ds places in
-    let value : units 3 (money_word n) ≡ n = ap (λ (v : List ℕ). 1000 * number_of v + number_of (first_places 3 (places_of (money_word n)))) front ∙ ap (λ (v : List ℕ). 1000 * number_of ds + number_of (first_places 3 v)) back ∙ (ap (λ k. 1000 * k + number_of places) w.value ∙ places_value n) in
-    let first : are_digits (whole_part (money_word n)) ≡ true = ap are_digits front ∙ are_some ds w.some w.digits in
-    let last : are_digits (places_of (money_word n)) ≡ true = ap are_digits back ∙ places_digits n in
-    decimal_read (2 ^ 126) n (money_word n) (and_from _ _ first (or_right _ _ last)) (ap (λ (v : List ℕ). list_all (λ b. b == 48) (drop 3 v)) back) value lt
+money_again p n lt =
+    let k = digits_after_point p in
+    let ds = decimal (n / 10 ^ k) in
+    let w = decimal_writes (n / 10 ^ k) (omega (arith, lt, whole_below k n)) in
+    let places = last_digits k n in
+    let word = money_word p n in
+    let point : position_or_len is_point word ≡ length ds = point_place ds places w.digits in
+    let front : whole_part word ≡ ds = ap (λ k. take k word) point ∙ take_first ds (46 ∷ places) in
+    let back : places_of word ≡ places = ap (λ k. drop (k + 1) word) point ∙ drop_past ds places in
+    let shown : first_places k (places_of word) ≡ places = ap (first_places k) back ∙ first_all k places (last_few k n) in
+    let value : units k word ≡ n = ap (λ (v : List ℕ). 10 ^ k * number_of v + number_of (first_places k (places_of word))) front ∙ ap (λ (v : List ℕ). 10 ^ k * number_of ds + number_of v) shown ∙ (ap (λ m. 10 ^ k * m + number_of places) w.value ∙ last_value k n) in
+    let first : are_digits (whole_part word) ≡ true = ap are_digits front ∙ are_some ds w.some w.digits in
+    let last : are_digits (places_of word) ≡ true = ap are_digits back ∙ are_some places (omega (arith, last_few k n, places_few p)) (last_digits_are k n) in
+    let coarse : is_coarse k word ≡ true = ap (λ (v : List ℕ). list_all (λ b. b == 48) (drop k v)) back ∙ no_more k places (last_few k n) in
+    decimal_read k (2 ^ 126) n word (and_from _ _ first (or_right _ _ last)) coarse value lt
 
 -- ---- words
 
@@ -151,7 +192,8 @@ digits_begin (b ∷ ds) more some e rest =
 pub decimal_plain : (n : ℕ) → n < 2 ^ 126 → (1 ≤ length (decimal n)) × (is_plain (decimal n) ≡ true)
 decimal_plain n lt = let w = decimal_writes n lt in (w.some, subst (λ (v : List ℕ). is_plain v ≡ true) (append-nil (decimal n)) (digits_begin (decimal n) [] w.some w.digits refl))
 
-pub money_plain : (n : ℕ) → n < 2 ^ 126 → (1 ≤ length (money_word n)) × (is_plain (money_word n) ≡ true)
-money_plain n lt =
-    let w = decimal_writes (n / 1000) (omega (arith, lt)) in
-    (omega (arith, w.some, length-append (decimal (n / 1000)) (46 ∷ thousand_places n)), digits_begin (decimal (n / 1000)) (46 ∷ thousand_places n) w.some w.digits (digits_words (thousand_places n) (places_digits n)))
+pub money_plain : (p : Places) (n : ℕ) → n < 2 ^ 126 → (1 ≤ length (money_word p n)) × (is_plain (money_word p n) ≡ true)
+money_plain p n lt =
+    let k = digits_after_point p in
+    let w = decimal_writes (n / 10 ^ k) (omega (arith, lt, whole_below k n)) in
+    (omega (arith, w.some, length-append (decimal (n / 10 ^ k)) (46 ∷ last_digits k n)), digits_begin (decimal (n / 10 ^ k)) (46 ∷ last_digits k n) w.some w.digits (digits_words (last_digits k n) (last_digits_are k n)))

@@ -116,8 +116,8 @@ written_begins (Verbatim w ∷ is) whole at all within e =
     word_first (Verbatim w) is whole at w all.0 refl e (λ d le. written_begins is whole (at + length w + 1) all.1 le d)
 written_begins (Whole n ∷ is) whole at all within e =
     word_first (Whole n) is whole at (decimal n) (decimal_plain n all.0) (whole_again n (decimal n) all.0 (decimal_writes n all.0)) e (λ d le. written_begins is whole (at + length (decimal n) + 1) all.1 le d)
-written_begins (Money n ∷ is) whole at all within e =
-    word_first (Money n) is whole at (money_word n) (money_plain n all.0) (money_again n all.0) e (λ d le. written_begins is whole (at + length (money_word n) + 1) all.1 le d)
+written_begins (Money p n ∷ is) whole at all within e =
+    word_first (Money p n) is whole at (money_word p n) (money_plain p n all.0) (money_again p n all.0) e (λ d le. written_begins is whole (at + length (money_word p n) + 1) all.1 le d)
 
 -- items after items, and the items of a list
 pub written_both : (a b : List Item) → written (a ++ b) ≡ written a ++ written b
