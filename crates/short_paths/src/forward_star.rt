@@ -8,7 +8,7 @@ use net_core::{LinkId, List, NoMemory, NodeId, Surviving};
 use std::alloc::Global;
 
 /// A surviving link, taken from one of its ends to the other.
-#[derive(Clone, Copy, Debug, PartialEq, Eq)]
+#[derive(Clone, Copy)]
 pub struct Arc {
     pub link: LinkId,
     pub from: NodeId,

@@ -6,16 +6,13 @@ use crate::dijkstra::FAR;
 use crate::forward_star::{Arc, ForwardStar};
 use net_core::{List, NoMemory, NodeId, Path};
 use std::alloc::Global;
-use thiserror::Error;
 
 /// Why there is no path to answer.
-#[derive(Clone, Copy, Debug, PartialEq, Eq, Error)]
+#[derive(Clone, Copy)]
 pub enum PathFault {
     /// No path leads from the one node to the other.
-    #[error("no path leads there")]
     Apart,
     /// The call ran out of memory.
-    #[error("out of memory")]
     NoMemory,
 }
 
