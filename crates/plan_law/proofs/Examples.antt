@@ -7,13 +7,14 @@ use Rattle.net_core.specs.declared.demand.Demand.{Demand}
 use Rattle.net_core.specs.declared.ids.LinkId.{LinkId}
 use Rattle.net_core.specs.declared.network.Link.{Link}
 use Rattle.net_core.specs.declared.network.Module.{Module}
+use Rattle.net_core.specs.declared.places.Places.TheVariants.{Three}
 use Rattle.net_core.specs.declared.plan.CutLine.{CutLine}
 use Rattle.net_core.specs.declared.plan.Flow.{Flow}
 use Rattle.net_core.specs.declared.plan.Routing.{Routing}
 use Rattle.net_core.specs.Cases.{Case, graph_in}
 use Rattle.net_core.specs.Graphs.{Graph, Joins, Survives}
 use Rattle.plan_terms.specs.Certificates.{IsCut}
-use Rattle.plan_terms.specs.Capacities.{modules_cost}
+use Rattle.plan_terms.specs.Capacities.{link_cost}
 use Rattle.plan_terms.specs.Covers.{Covers, Reaches}
 use Rattle.plan_terms.specs.Flows.{Carries, IsFlow, sent, load}
 use Rattle.plan_terms.specs.Keeping.{Keeps}
@@ -45,7 +46,7 @@ abbrev the_demand : Demand
 the_demand = record { name = 68 ∷ []; from = record { 0 = 0 }; to = record { 0 = 1 }; need = 12000 }
 
 abbrev the_case : Case
-the_case = record { nodes = (65 ∷ []) ∷ (66 ∷ []) ∷ []; links = the_link ∷ []; listed = []; demands = the_demand ∷ [] }
+the_case = record { nodes = (65 ∷ []) ∷ (66 ∷ []) ∷ []; links = the_link ∷ []; listed = []; demands = the_demand ∷ []; places = Three }
 
 abbrev here : Graph
 here = graph_in the_case 0
@@ -227,10 +228,10 @@ carried (suc s) r at = absurd (cc at)
 reaches : Reaches (the_module ∷ []) 12000 (2 ∷ [])
 reaches = record { shape = refl; reached = omega arith }
 
-covered : Covers (the_module ∷ []) 12000 (2 ∷ [])
+covered : Covers the_link 12000 (2 ∷ [])
 covered = record { reaches = reaches; cheapest = record { counts = 2 ∷ []; may = inr (omega arith); reaches = reaches; paid = refl; least = λ others may r. least others r } }
   where
-    least : (others : List ℕ) → Reaches (the_module ∷ []) 12000 others → 10000 ≤ modules_cost (the_module ∷ []) others
+    least : (others : List ℕ) → Reaches (the_module ∷ []) 12000 others → 10000 ≤ link_cost the_link others
     least [] r = absurd (let n : 0 ≡ 1 = r.shape in omega (arith, n))
     least (c ∷ []) r = let m : 12000 ≤ 0 + 10000 * c = r.reached in omega (arith, m)
     least (c ∷ d ∷ ds) r = absurd (omega (arith, r.shape))
@@ -242,12 +243,12 @@ covers = record { long = refl; each = each }
     needed = record { most = omega arith; enough = inr (omega arith); least = λ other le. omega (arith, le) }
 
     each : (e : ℕ) (l : Link) (q : UnitPair) (c : List ℕ) → slice_get (the_link ∷ []) e ≡ Some l → slice_get the_pairs e ≡ Some q → slice_get ((2 ∷ []) ∷ []) e ≡ Some c
-        → (need : ℕ) × IsShareNeed 1 q.capacity (slice_index (6000 ∷ []) e) need × Covers l.modules need c
+        → (need : ℕ) × IsShareNeed 1 q.capacity (slice_index (6000 ∷ []) e) need × Covers l need c
     each zero l q c at of is =
         let one : the_link ≡ l = cc at in
         let two : record { capacity = 2; cost = 1 } ≡ q = cc of in
         let three : 2 ∷ [] ≡ c = cc is in
-        (12000, subst (λ (x : UnitPair). IsShareNeed 1 x.capacity 6000 12000) two needed, subst (λ (k : Link). Covers k.modules 12000 c) one (subst (λ x. Covers (the_module ∷ []) 12000 x) three covered))
+        (12000, subst (λ (x : UnitPair). IsShareNeed 1 x.capacity 6000 12000) two needed, subst (λ (k : Link). Covers k 12000 c) one (subst (λ x. Covers the_link 12000 x) three covered))
     each (suc e) l q c at of is = absurd (cc at)
 
 tight : IsTightPlan the_case the_pairs the_plan the_fractional

@@ -25,7 +25,7 @@ use Rattle.plan_law.specs.WorkedLists.{Round, IsFoundCut, IsWorkedList}
 
 -- ---- by width
 
--- whole capacities, of counts that cover the share, of which no link's modules give 2^45 thousandths or more
+-- whole capacities, of counts that cover the share, of which no link's modules give 2^45 units or more
 pub record AreCoverCaps (links : List Link) (pairs : List UnitPair) (share : Share) (caps : Caps) : Type 0 where
   pub counts : List (List ℕ)
   pub covers : CoversShare links pairs share counts

@@ -19,7 +19,7 @@ use Rattle.master_law.specs.UnitPairs.{AreUnitPairs, IsShareNeed, share_caps, sh
 pub record CoversShare (links : List Link) (pairs : List UnitPair) (share : Share) (counts : List (List ℕ)) : Type 0 where
   pub long : length counts ≡ length links
   pub each : (e : ℕ) (l : Link) (pair : UnitPair) (c : List ℕ) → slice_get links e ≡ Some l → slice_get pairs e ≡ Some pair → slice_get counts e ≡ Some c
-      → (need : ℕ) × IsShareNeed share.scale pair.capacity (slice_index share.units e) need × Covers l.modules need c
+      → (need : ℕ) × IsShareNeed share.scale pair.capacity (slice_index share.units e) need × Covers l need c
 
 -- the share costs the raw value of the plan
 abbrev pub CostsRawValue : List UnitPair → Share → Plan → Type 0
