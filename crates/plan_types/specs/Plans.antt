@@ -15,7 +15,7 @@ pub record IsCarryingPlan (p : Case) (plan : Plan) : Type 0 where
   pub states : length plan.routings ≡ length p.listed + 1
   pub each : (s : ℕ) (r : Routing) → slice_get plan.routings s ≡ Some r → Carries (Joins (graph_in p s)) p.demands 1 (capacities p.links plan.counts) r
 
--- the cost is what the modules cost
+-- the cost is what the counts cost
 abbrev pub IsCostedPlan : Case → Plan → Type 0
 IsCostedPlan p plan = plan.cost ≡ total_cost p.links plan.counts
 

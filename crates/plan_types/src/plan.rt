@@ -3,8 +3,8 @@ use crate::quality::Quality;
 use net_core::{Copied, Counts, Demands, List, NoMemory, Routing};
 
 /// A plan for one version of the demands: module counts with a routing for each state, what they cost, and a lower bound on
-/// what such counts cost. Costs and bounds are in thousandths. It takes memory for the links along all flows, and for a length of each
-/// link for each line of the certificate; a copy takes as much again, and time in proportion.
+/// what such counts cost. Costs and bounds are in units of the network. It takes memory for the links along all flows, and for a length
+/// of each link for each line of the certificate; a copy takes as much again, and time in proportion.
 #[derive(Drop)]
 pub struct Plan {
     /// How many edits had been accepted.
@@ -14,6 +14,7 @@ pub struct Plan {
     pub demands: Demands,
     /// One count for each module of each link.
     pub counts: Counts,
+    /// What the modules cost, and the setup of each link with a positive count.
     pub cost: u128,
     /// One routing for each state, in state order.
     pub routings: List<Routing>,
@@ -21,7 +22,8 @@ pub struct Plan {
     /// The raw value of the certificate is `raw_num / raw_den`.
     pub raw_num: u128,
     pub raw_den: u128,
-    /// The raw value, rounded up to a multiple of the greatest common divisor of the modules' costs.
+    /// The raw value, rounded up to a multiple of the greatest common divisor of the modules' costs and of the setups of links
+    /// with modules.
     pub bound: u128,
     pub quality: Quality,
 }
