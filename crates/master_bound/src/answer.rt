@@ -18,7 +18,7 @@ pub struct Best {
     pub den: u128,
     pub multipliers: List<Multiplier>,
     pub share: Share,
-    /// The raw value is `raw_num / raw_den` thousandths, in lowest terms.
+    /// The raw value is `raw_num / raw_den` units of the network, in lowest terms.
     pub raw_num: u128,
     pub raw_den: u128,
 }

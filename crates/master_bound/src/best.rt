@@ -6,7 +6,7 @@ ghost use Rattle.master_bound.specs.inner.Bests.{IsBestBelow, IsBetterOwn};
 use metric_cut::own_bound;
 use net_core::{CutLine, List, Network};
 
-/// A cut's place in its list, and its own bound in thousandths.
+/// A cut's place in its list, and its own bound in units of the network.
 #[derive(Clone, Copy)]
 pub struct GreatestOwn {
     pub cut: u32,

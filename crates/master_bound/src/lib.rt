@@ -2,7 +2,7 @@
 //!
 //! ```text
 //! let best = master(alloc, &net, &cuts)?;       // multipliers of the cuts over best.den
-//! best.raw_num, best.raw_den                    // the raw value, in thousandths; no certificate of these cuts has a greater one
+//! best.raw_num, best.raw_den                    // the raw value, in units of the network; no certificate of these cuts has a greater one
 //! best.share                                    // capacities that cost as much, and violate none of the cuts
 //! ```
 #![tactic(auto)]

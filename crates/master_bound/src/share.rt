@@ -11,7 +11,7 @@ use net_core::{List, NoMemory};
 use plan_types::Share;
 use std::alloc::Global;
 
-/// `num / den` thousandths, in lowest terms.
+/// `num / den` units of the network, in lowest terms.
 #[derive(Clone, Copy)]
 pub(crate) struct RawValue {
     pub(crate) num: u128,

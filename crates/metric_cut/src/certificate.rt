@@ -10,14 +10,14 @@ use checked_fraction::gcd;
 use module_prices::bound_of;
 use net_core::{CutLine, Network};
 
-/// `num / den` thousandths, in lowest terms.
+/// `num / den` units of the network, in lowest terms.
 #[derive(Clone, Copy)]
 pub struct RawValue {
     pub num: u128,
     pub den: u128,
 }
 
-/// The certificate of a cut alone: its greatest valid multiplier, its raw value, and its bound in thousandths.
+/// The certificate of a cut alone: its greatest valid multiplier, its raw value, and its bound in units of the network.
 #[derive(Clone, Copy)]
 pub struct OwnCertificate {
     pub multiplier: OwnMultiplier,

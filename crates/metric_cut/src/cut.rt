@@ -134,7 +134,7 @@ impl Cut {
         self.table.get(a, b)
     }
 
-    /// What the cut asks for, in thousandths: the needs of demands of the cut's network, each times the distance of its ends.
+    /// What the cut asks for, in units of the network: the needs of demands of the cut's network, each times the distance of its ends.
     /// Demands whose ends are apart count 0. It takes time in the number of demands, and no memory.
     ///
     /// In the triangle with lengths of 1 a need of 12 from A to C gives 12, and 24 in the state that fails the link AC.

@@ -32,12 +32,12 @@ pub(crate) fn asked_rest(links: &[Link], lengths: &[u32], right: u128) -> u128
     right.saturating_sub(fixed_along(links, lengths))
 }
 
-/// The bound that a cut gives alone, in thousandths: what it asks for beyond the pre-installed capacities, times its greatest
-/// valid multiplier, rounded up to a multiple of the costs' greatest common divisor. No plan costs less. It takes time in
-/// the number of modules, and no memory.
+/// The bound that a cut gives alone, in units of the network: what it asks for beyond the pre-installed capacities, times its
+/// greatest valid multiplier, rounded up to a multiple of the greatest common divisor of the modules' costs and of the setups
+/// of links with modules. No plan costs less. It takes time in the number of modules, and no memory.
 ///
 /// The triangle of links with a module of 10 for 5 has to carry 12 from A to C: the cut of lengths 1 has the right side
-/// 12 and the multiplier 1 / 2. Its raw value is 6, so its bound is 10.
+/// 12 and the multiplier 1 / 2. Its raw value is 6, so its bound is 10, and 6 where each link has a setup of 3.
 pub fn own_bound(net: &Network, line: &CutLine) -> u128
     requires lengths { HaveBound net.now.links line.now.lengths }
     requires right { line.now.right < 2 ^ 84 }
