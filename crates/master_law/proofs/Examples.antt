@@ -19,7 +19,7 @@ use Rattle.master_law.specs.MasterPrograms.{master_bound, master_slack, cut_gain
 use Rattle.master_law.specs.UnitPairs.{share_capacities, share_caps, share_cost}
 use Rattle.master_law.proofs.Columns.{column_of, is_column_of}
 
--- a link between two nodes, with 1 thousandth installed, and a module of capacity 2 at a cost of 6: the unit pair is 1 at 3
+-- a link between two nodes, with 1 unit installed, and a module of capacity 2 at a cost of 6: the unit pair is 1 at 3
 abbrev one_link : List Link
 one_link = record { name = 65 ∷ []; a = record { 0 = 0 }; b = record { 0 = 1 }; fixed = 1; setup = 0; modules = record { capacity = 2; cost = 6 } ∷ [] } ∷ []
 
