@@ -9,10 +9,9 @@ use Rattle.std.proofs.Math.Nat.{mul-le-mul_left}
 use Rattle.net_core.specs.declared.network.Module.{Module}
 use Rattle.net_core.specs.Network.{IsModule}
 use Rattle.plan_terms.specs.Capacities.{modules_capacity, modules_cost}
-use Rattle.plan_terms.specs.Covers.{AreOfOneKind, Covers, IsFewSteps, Reaches}
-use Rattle.module_choice.specs.Coverings.{IsCovering}
+use Rattle.plan_terms.specs.Covers.{AreOfOneKind, IsFewSteps, Reaches}
+use Rattle.module_choice.specs.inner.Cheapest.{AreCheapest}
 use Rattle.module_choice.specs.inner.Kinds.{IsBestKind}
-use Rattle.module_choice.specs.declared.covers.Covering.{Covering}
 use Rattle.module_choice.specs.declared.covers.Kind.{Kind}
 use Rattle.module_choice.proofs.Numbers.{one_if}
 use Rattle.net_core.proofs.Lists.{all_at}
@@ -78,19 +77,6 @@ bounded need bound (m ∷ ms) (suc c ∷ cs) some each kind reach =
     let enough : need ≤ m.capacity * suc c = omega (arith, value-cons (λ m. m.capacity) m ms (suc c) cs, value-none (λ m. m.capacity) ms cs none, reach) in
     omega (arith, each zero (suc c) m refl enough, value-cons (λ m. m.cost) m ms (suc c) cs, value-none (λ m. m.cost) ms cs none)
 
--- where the need is more than few steps, counts of one kind that reach it at the least cost of such counts cover it
-kind_covers : (ms : List Module) (need : ℕ) (cs : List ℕ) → (IsFewSteps ms need → ⊥) → AreOfOneKind cs → Reaches ms need cs → ((others : List ℕ) → AreOfOneKind others → Reaches ms need others → modules_cost ms cs ≤ modules_cost ms others) → Covers ms need cs
-kind_covers ms need cs many kind reaches least = record {
-  reaches = reaches;
-  cheapest = record {
-    counts = cs;
-    may = inr kind;
-    reaches = reaches;
-    paid = refl;
-    least = λ others may reach. ⊎_elim (λ few. absurd (many few)) (λ one. least others one reach) may;
-  };
-}
-
 pub same_at : (ms : List Module) (j : ℕ) (m n : Module) → slice_get ms j ≡ Some m → slice_get ms j ≡ Some n → m ≡ n
 same_at ms j m n a b = cc (a, b)
 
@@ -104,14 +90,17 @@ needs_some : (capacity need count : ℕ) → 0 < need → need ≤ capacity * co
 needs_some capacity need zero some reaches = absurd (omega arith)
 needs_some capacity need (suc c) some reaches = omega arith
 
--- so many of the best kind cover a need
-best_least : (ms : List Module) (need : ℕ) (kind : Kind) → (IsFewSteps ms need → ⊥) → 0 < need → IsBestKind ms need kind → Covers ms need (set (replicate (length ms) 0) kind.at kind.count)
-best_least ms need kind many some best = kind_covers ms need (set (replicate (length ms) 0) kind.at kind.count) many (positive-one (length ms) kind.at kind.count)
-    (record {
-      shape = length-set (replicate (length ms) 0) kind.at kind.count ∙ length-replicate (length ms) 0;
-      reached = omega (arith, value-one (λ m. m.capacity) ms kind.at kind.count best.module_at best.is, best.reaches);
-    })
-    (λ others kinds reaches. omega (arith, value-one (λ m. m.cost) ms kind.at kind.count best.module_at best.is, bounded need (best.module_at.cost * kind.count) ms others some (λ k c m is enough. best.least k m c is enough) kinds reaches.reached))
+-- so many of the best kind reach a need
+best_reaches : (ms : List Module) (need : ℕ) (kind : Kind) → IsBestKind ms need kind → Reaches ms need (set (replicate (length ms) 0) kind.at kind.count)
+best_reaches ms need kind best = record {
+  shape = length-set (replicate (length ms) 0) kind.at kind.count ∙ length-replicate (length ms) 0;
+  reached = omega (arith, value-one (λ m. m.capacity) ms kind.at kind.count best.module_at best.is, best.reaches);
+}
+
+-- no counts of one kind that reach the need cost less
+best_least : (ms : List Module) (need : ℕ) (kind : Kind) (others : List ℕ) → 0 < need → IsBestKind ms need kind → AreOfOneKind others → Reaches ms need others → modules_cost ms (set (replicate (length ms) 0) kind.at kind.count) ≤ modules_cost ms others
+best_least ms need kind others some best kinds reaches =
+    omega (arith, value-one (λ m. m.cost) ms kind.at kind.count best.module_at best.is, bounded need (best.module_at.cost * kind.count) ms others some (λ k c m is enough. best.least k m c is enough) kinds reaches.reached)
 
 -- counts of one kind are small where that one is
 one-below : (n at count limit : ℕ) → count < limit → All (λ c. c < limit) (set (replicate n 0) at count)
@@ -131,18 +120,18 @@ fewest-capacity capacity need (suc c) some fewest = ⊎_elim
     (λ enough. omega (arith, fewest c enough))
     (cases_lt (capacity * c) need)
 
--- what `cover` answers for a need of more than few steps
-pub best_covers : (ms : List Module) (need : ℕ) (kind : Kind) (m : Module) (c : Covering) → (IsFewSteps ms need → ⊥) → 0 < need → need < 2 ^ 44 → All IsModule ms → IsBestKind ms need kind → slice_get ms kind.at ≡ Some m → c.counts ≡ set (replicate (length ms) 0) kind.at kind.count → c.cost ≡ m.cost * kind.count → IsCovering ms need c
-best_covers ms need kind m c many some limit sound best at counts cost =
-    let one : m ≡ best.module_at = same_at ms kind.at m best.module_at at best.is in
+-- the counts for a need of more than few steps
+pub best_cheapest : (ms : List Module) (need : ℕ) (kind : Kind) → (IsFewSteps ms need → ⊥) → 0 < need → need < 2 ^ 44 → All IsModule ms → IsBestKind ms need kind → AreCheapest ms need (set (replicate (length ms) 0) kind.at kind.count)
+best_cheapest ms need kind many some limit sound best =
     let is : IsModule best.module_at = all_at IsModule ms kind.at best.module_at sound best.is in
     let fewest : kind.count ≤ need = best.fewest need (factor_reaches best.module_at.capacity need is.carries) in
     record {
-      covers = subst (Covers ms need) (sym counts) (best_least ms need kind many some best);
-      may = inr (subst AreOfOneKind (sym counts) (positive-one (length ms) kind.at kind.count));
-      paid = omega (arith, cost, ap (λ (x : Module). x.cost * kind.count) one, ap (modules_cost ms) counts, value-one (λ m. m.cost) ms kind.at kind.count best.module_at best.is);
-      small = subst (λ cs. All (λ n. n < 2 ^ 44) cs) (sym counts) (one-below (length ms) kind.at kind.count (2 ^ 44) (omega (arith, fewest, limit)));
-      narrow = omega (arith, ap (modules_capacity ms) counts, value-one (λ m. m.capacity) ms kind.at kind.count best.module_at best.is, fewest-capacity best.module_at.capacity need kind.count (needs_some best.module_at.capacity need kind.count some best.reaches) best.fewest, limit, is.capacity);
+      reaches = best_reaches ms need kind best;
+      may = inr (positive-one (length ms) kind.at kind.count);
+      least = λ others may reach. ⊎_elim (λ few. absurd (many few)) (λ one. best_least ms need kind others some best one reach) may;
+      none = λ zero'. absurd (omega (arith, zero', some));
+      few = one-below (length ms) kind.at kind.count (2 ^ 44) (omega (arith, fewest, limit));
+      narrow = omega (arith, value-one (λ m. m.capacity) ms kind.at kind.count best.module_at best.is, fewest-capacity best.module_at.capacity need kind.count (needs_some best.module_at.capacity need kind.count some best.reaches) best.fewest, limit, is.capacity);
     }
 
 -- so many modules reach the need, and no fewer do

@@ -133,7 +133,7 @@ unserved p lengths n rs peaks routed e l at none =
 peaks_covered : (links : List Link) (rs : List Routing) (peaks : List ℕ) (counts : List (List ℕ)) → ((e : ℕ) → e < length links → get_or peaks e 0 ≡ peak rs e) → CoverLoads links (slice_index peaks) counts → CoverLoads links (peak rs) counts
 peaks_covered links rs peaks counts same covers = record {
   long = covers.long;
-  each = λ e l c p q. subst (λ w. Covers l.modules (w - l.fixed) c) (same e (slice_get_within links e l p)) (covers.each e l c p q);
+  each = λ e l c p q. subst (λ w. Covers l (w - l.fixed) c) (same e (slice_get_within links e l p)) (covers.each e l c p q);
 }
 
 -- routings and counts are the fallback plan

@@ -6,6 +6,7 @@ pub mod LeastCosts
 pub mod Numbers
 pub mod Pairs
 pub mod Routing
+pub mod Setups
 pub mod Weights
 pub mod Steps
 pub mod UnitPairs

@@ -5,7 +5,7 @@ use Rattle.std.proofs.lemmas.List.Sums.{sum_by-append}
 use Rattle.std.proofs.lemmas.Slice.Zip.{length-zip}
 use Rattle.net_core.specs.declared.network.Module.{Module}
 use Rattle.net_core.specs.declared.network.Link.{Link}
-use Rattle.plan_terms.specs.Capacities.{AreCounts, capacities, modules_capacity, modules_cost, total_cost}
+use Rattle.plan_terms.specs.Capacities.{AreCounts, capacities, link_cost, modules_capacity, modules_cost, total_cost}
 
 zip_suc : {A B : Type 0} → (xs : List A) (ys : List B) (i : ℕ) (x : A) (y : B) → i < length xs → i < length ys → zip (take (suc i) xs) (take (suc i) ys) ≡ zip (take i xs) (take i ys) ++ (get_or xs i x, get_or ys i y) ∷ []
 zip_suc [] ys i x y a b = absurd (omega arith)
@@ -24,10 +24,10 @@ cost_more ms cs i d a b =
     omega (arith, both, parts)
 
 -- the cost with the next link
-pub total_more : (links : List Link) (counts : List (List ℕ)) (i : ℕ) (d : Link) (c : List ℕ) → i < length links → i < length counts → total_cost (take (i + 1) links) (take (i + 1) counts) ≡ total_cost (take i links) (take i counts) + modules_cost (get_or links i d).modules (get_or counts i c)
+pub total_more : (links : List Link) (counts : List (List ℕ)) (i : ℕ) (d : Link) (c : List ℕ) → i < length links → i < length counts → total_cost (take (i + 1) links) (take (i + 1) counts) ≡ total_cost (take i links) (take i counts) + link_cost (get_or links i d) (get_or counts i c)
 total_more links counts i d c a b =
-    let both = ap (λ ps. sum_by (λ (p : Link × List ℕ). modules_cost p.0.modules p.1) ps) (zip_more links counts i d c a b) in
-    let parts = sum_by-append (λ (p : Link × List ℕ). modules_cost p.0.modules p.1) (zip (take i links) (take i counts)) ((get_or links i d, get_or counts i c) ∷ []) in
+    let both = ap (λ ps. sum_by (λ (p : Link × List ℕ). link_cost p.0 p.1) ps) (zip_more links counts i d c a b) in
+    let parts = sum_by-append (λ (p : Link × List ℕ). link_cost p.0 p.1) (zip (take i links) (take i counts)) ((get_or links i d, get_or counts i c) ∷ []) in
     omega (arith, both, parts)
 
 -- the capacity with the next kind of module

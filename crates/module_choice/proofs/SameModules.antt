@@ -8,7 +8,9 @@ use Rattle.std.proofs.lemmas.Bool.Decides.{Decides-and, Decides-eqb, Decides-lik
 use Rattle.net_core.specs.declared.network.Link.{Link}
 use Rattle.net_core.specs.declared.network.Module.{Module}
 use Rattle.module_choice.specs.Coverings.{CoverNeeds, IsCovered}
+use Rattle.module_choice.specs.inner.Cheapest.{AreCheapest}
 use Rattle.module_choice.specs.inner.Routes.{AlikeAreCovered, AreCovered, HasEarlier}
+use Rattle.module_choice.proofs.Setups.{cheapest_covered}
 
 -- two modules are one where their numbers are
 pub module_decides : (a b : Module) → Decides ((a.capacity == b.capacity) && (a.cost == b.cost)) (a ≡ b)
@@ -30,23 +32,23 @@ set_cases (y ∷ xs) (suc e) (suc i) v x at = ⊎_elim
 -- of the first e links those that have the modules are covered
 abbrev pub TheseAreCovered : List Link → List ℕ → List (List ℕ) → List Module → ℕ → Type 0
 TheseAreCovered links needs counts modules e =
-    (i : ℕ) (k : Link) (c : List ℕ) → i < e → slice_get links i ≡ Some k → slice_get counts i ≡ Some c → k.modules ≡ modules → IsCovered k.modules (get_or needs i 0) c
+    (i : ℕ) (k : Link) (c : List ℕ) → i < e → slice_get links i ≡ Some k → slice_get counts i ≡ Some c → k.modules ≡ modules → AreCheapest k.modules (get_or needs i 0) c
 
 -- after link e has got counts that cover it, each link is covered or has the counts that it had
-set_covered : (links : List Link) (needs : List ℕ) (counts : List (List ℕ)) (e i : ℕ) (l k : Link) (c d : List ℕ) → slice_get links e ≡ Some l → IsCovered l.modules (get_or needs e 0) c → slice_get links i ≡ Some k → slice_get (set counts e c) i ≡ Some d → IsCovered k.modules (get_or needs i 0) d ⊎ ((i ≢ e) × (slice_get counts i ≡ Some d))
+set_covered : (links : List Link) (needs : List ℕ) (counts : List (List ℕ)) (e i : ℕ) (l k : Link) (c d : List ℕ) → slice_get links e ≡ Some l → AreCheapest l.modules (get_or needs e 0) c → slice_get links i ≡ Some k → slice_get (set counts e c) i ≡ Some d → AreCheapest k.modules (get_or needs i 0) d ⊎ ((i ≢ e) × (slice_get counts i ≡ Some d))
 set_covered links needs counts e i l k c d at covered is got = ⊎_elim
     (λ here. let one : l ≡ k = cc (at, subst (λ j. slice_get links j ≡ Some k) here.0 is) in
-    inl (subst (λ j. IsCovered k.modules (get_or needs j 0) d) (sym here.0) (subst (IsCovered k.modules (get_or needs e 0)) here.1 (subst (λ (x : Link). IsCovered x.modules (get_or needs e 0) c) one covered))))
+    inl (subst (λ j. AreCheapest k.modules (get_or needs j 0) d) (sym here.0) (subst (AreCheapest k.modules (get_or needs e 0)) here.1 (subst (λ (x : Link). AreCheapest x.modules (get_or needs e 0) c) one covered))))
     (λ other. inr other)
     (set_cases counts e i c d got)
 
 -- a link that is covered keeps what is covered
-pub covered_set : (links : List Link) (needs : List ℕ) (counts : List (List ℕ)) (e : ℕ) (l : Link) (c : List ℕ) (modules : List Module) → slice_get links e ≡ Some l → IsCovered l.modules (get_or needs e 0) c → AlikeAreCovered links needs counts modules → AlikeAreCovered links needs (set counts e c) modules
+pub covered_set : (links : List Link) (needs : List ℕ) (counts : List (List ℕ)) (e : ℕ) (l : Link) (c : List ℕ) (modules : List Module) → slice_get links e ≡ Some l → AreCheapest l.modules (get_or needs e 0) c → AlikeAreCovered links needs counts modules → AlikeAreCovered links needs (set counts e c) modules
 covered_set links needs counts e l c modules at covered all i k d is got alike =
     ⊎_elim (λ here. here) (λ other. all i k d is other.1 alike) (set_covered links needs counts e i l k c d at covered is got)
 
 -- one link more, which has the modules
-pub these_set : (links : List Link) (needs : List ℕ) (counts : List (List ℕ)) (e : ℕ) (l : Link) (c : List ℕ) (modules : List Module) → slice_get links e ≡ Some l → IsCovered l.modules (get_or needs e 0) c → TheseAreCovered links needs counts modules e → TheseAreCovered links needs (set counts e c) modules (e + 1)
+pub these_set : (links : List Link) (needs : List ℕ) (counts : List (List ℕ)) (e : ℕ) (l : Link) (c : List ℕ) (modules : List Module) → slice_get links e ≡ Some l → AreCheapest l.modules (get_or needs e 0) c → TheseAreCovered links needs counts modules e → TheseAreCovered links needs (set counts e c) modules (e + 1)
 these_set links needs counts e l c modules at covered these i k d lt is got alike =
     ⊎_elim (λ here. here) (λ other. these i k d (omega (arith, lt, other.0)) is other.1 alike) (set_covered links needs counts e i l k c d at covered is got)
 
@@ -83,13 +85,13 @@ default = record { name = []; a = record { 0 = 0 }; b = record { 0 = 0 }; fixed 
 
 -- counts of which all that have the same modules cover their needs cover each need
 pub needs_covered : (links : List Link) (needs : List ℕ) (counts : List (List ℕ)) → length counts ≡ length links → ((e : ℕ) (l : Link) → slice_get links e ≡ Some l → AlikeAreCovered links needs counts l.modules) → CoverNeeds links needs counts
-needs_covered links needs counts count all = record { long = count; each = λ e l c at got. all e l at e l c at got refl }
+needs_covered links needs counts count all = record { long = count; each = λ e l c at got. cheapest_covered l (slice_index needs e) c (all e l at e l c at got refl) }
 
 -- counts that cover each need cover each load less the fixed capacity
 pub loads_covered : (links : List Link) (needs peaks : List ℕ) (counts : List (List ℕ)) → ((e : ℕ) (l : Link) → slice_get links e ≡ Some l → get_or needs e 0 ≡ get_or peaks e 0 - l.fixed) → CoverNeeds links needs counts → AreCovered links (slice_index peaks) counts
 loads_covered links needs peaks counts each all =
-    let here : (e : ℕ) (l : Link) (c : List ℕ) → slice_get links e ≡ Some l → slice_get counts e ≡ Some c → IsCovered l.modules (get_or peaks e 0 - l.fixed) c =
-    λ e l c at got. subst (λ n. IsCovered l.modules n c) (each e l at) (all.each e l c at got) in
+    let here : (e : ℕ) (l : Link) (c : List ℕ) → slice_get links e ≡ Some l → slice_get counts e ≡ Some c → IsCovered l (get_or peaks e 0 - l.fixed) c =
+    λ e l c at got. subst (λ n. IsCovered l n c) (each e l at) (all.each e l c at got) in
     record {
       covers = record { long = all.long; each = λ e l c at got. (here e l c at got).covers };
       few = λ e d lt.

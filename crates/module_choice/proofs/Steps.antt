@@ -14,11 +14,10 @@ use Rattle.plan_terms.specs.Bounds.{IsGreatestDivisor}
 use Rattle.plan_terms.specs.Capacities.{modules_capacity, modules_cost}
 use Rattle.plan_terms.specs.Covers.{IsFewSteps, Reaches}
 use Rattle.plan_terms.proofs.Bounds.{divisor_limit, divisor_unique}
-use Rattle.module_choice.specs.Coverings.{IsCovering}
-use Rattle.module_choice.specs.declared.covers.Covering.{Covering}
 use Rattle.module_choice.specs.declared.tables.Entry.{Entry}
 use Rattle.module_choice.specs.declared.tables.Table.{Table}
-use Rattle.module_choice.specs.inner.Tables.{AreTaken, IsTable, in_thousandths}
+use Rattle.module_choice.specs.inner.Cheapest.{AreCheapest}
+use Rattle.module_choice.specs.inner.Tables.{AreTaken, IsTable, in_units}
 use Rattle.module_choice.proofs.Choices.{fewest-capacity, value-cons}
 use Rattle.net_core.proofs.Numbers.{positive_divisor}
 
@@ -55,7 +54,7 @@ pub divides_each : (step : ℕ) (ms : List Module) → IsGreatestDivisor (map (�
 divides_each step ms is = All-from_recursion (λ m. step ∣ m.capacity) ms (divides_recursion step ms (recursion_from_All (λ x. step ∣ x) (map (λ m. m.capacity) ms) is.divides))
 
 -- a step is one of some modules
-pub some_scaled : (step : ℕ) (ms scaled : List Module) → ms ≡ in_thousandths step scaled → IsGreatestDivisor (map (λ m. m.capacity) ms) step → 0 < step → 0 < length scaled
+pub some_scaled : (step : ℕ) (ms scaled : List Module) → ms ≡ in_units step scaled → IsGreatestDivisor (map (λ m. m.capacity) ms) step → 0 < step → 0 < length scaled
 some_scaled step ms [] same is some =
     let none : IsGreatestDivisor [] step = subst (λ xs. IsGreatestDivisor (map (λ (m : Module). m.capacity) xs) step) same is in
     let le : step + 1 ≤ step = le_of_dvd some (none.greatest (step + 1) (All-nil (λ x. step + 1 ∣ x))) in
@@ -63,34 +62,34 @@ some_scaled step ms [] same is some =
 some_scaled step ms (m ∷ scaled) same is some = omega arith
 
 -- one module more in steps
-pub scaled_more : (step i : ℕ) (ms scaled : List Module) (d m : Module) → i < length ms → take i ms ≡ in_thousandths step scaled → (get_or ms i d).capacity ≡ step * m.capacity → (get_or ms i d).cost ≡ m.cost → take (i + 1) ms ≡ in_thousandths step (scaled ++ m ∷ [])
+pub scaled_more : (step i : ℕ) (ms scaled : List Module) (d m : Module) → i < length ms → take i ms ≡ in_units step scaled → (get_or ms i d).capacity ≡ step * m.capacity → (get_or ms i d).cost ≡ m.cost → take (i + 1) ms ≡ in_units step (scaled ++ m ∷ [])
 scaled_more step i ms scaled d m lt before capacity cost =
     let more : take (i + 1) ms ≡ take i ms ++ get_or ms i d ∷ [] = rw add-one (take-suc ms i d lt) in
     let one : get_or ms i d ≡ record { capacity = step * m.capacity; cost = m.cost } =
     ap (λ x. record { capacity = x; cost = (get_or ms i d).cost }) capacity ∙ ap (λ x. record { capacity = step * m.capacity; cost = x }) cost in
-    more ∙ (ap (λ xs. xs ++ get_or ms i d ∷ []) before ∙ (ap (λ x. in_thousandths step scaled ++ x ∷ []) one
+    more ∙ (ap (λ xs. xs ++ get_or ms i d ∷ []) before ∙ (ap (λ x. in_units step scaled ++ x ∷ []) one
     ∙ sym (map-append (λ (x : Module). record { capacity = step * x.capacity; cost = x.cost }) scaled (m ∷ []))))
 
-capacity_scaled : (step : ℕ) (ms : List Module) (cs : List ℕ) → modules_capacity (in_thousandths step ms) cs ≡ step * modules_capacity ms cs
+capacity_scaled : (step : ℕ) (ms : List Module) (cs : List ℕ) → modules_capacity (in_units step ms) cs ≡ step * modules_capacity ms cs
 capacity_scaled step [] cs = omega arith
 capacity_scaled step (m ∷ ms) [] = omega arith
 capacity_scaled step (m ∷ ms) (c ∷ cs) =
     let k : Module = record { capacity = step * m.capacity; cost = m.cost } in
     let both : step * modules_capacity (m ∷ ms) (c ∷ cs) ≡ step * (m.capacity * c + modules_capacity ms cs) = ap (λ x. step * x) (value-cons (λ m. m.capacity) m ms c cs) in
-    omega (arith, value-cons (λ m. m.capacity) k (in_thousandths step ms) c cs, both, capacity_scaled step ms cs)
+    omega (arith, value-cons (λ m. m.capacity) k (in_units step ms) c cs, both, capacity_scaled step ms cs)
 
-cost_scaled : (step : ℕ) (ms : List Module) (cs : List ℕ) → modules_cost (in_thousandths step ms) cs ≡ modules_cost ms cs
+cost_scaled : (step : ℕ) (ms : List Module) (cs : List ℕ) → modules_cost (in_units step ms) cs ≡ modules_cost ms cs
 cost_scaled step [] cs = refl
 cost_scaled step (m ∷ ms) [] = refl
 cost_scaled step (m ∷ ms) (c ∷ cs) =
     let k : Module = record { capacity = step * m.capacity; cost = m.cost } in
-    omega (arith, value-cons (λ m. m.cost) k (in_thousandths step ms) c cs, value-cons (λ m. m.cost) m ms c cs, cost_scaled step ms cs)
+    omega (arith, value-cons (λ m. m.cost) k (in_units step ms) c cs, value-cons (λ m. m.cost) m ms c cs, cost_scaled step ms cs)
 
-length_scaled : (step : ℕ) (ms : List Module) → length (in_thousandths step ms) ≡ length ms
+length_scaled : (step : ℕ) (ms : List Module) → length (in_units step ms) ≡ length ms
 length_scaled step [] = refl
 length_scaled step (m ∷ ms) = ap suc (length_scaled step ms)
 
-limits : (step : ℕ) (ms : List Module) → 0 < step → All IsModule (in_thousandths step ms) → All (λ m. m.capacity ≤ 2 ^ 40 / step) ms
+limits : (step : ℕ) (ms : List Module) → 0 < step → All IsModule (in_units step ms) → All (λ m. m.capacity ≤ 2 ^ 40 / step) ms
 limits step [] some sound = All-nil (λ (m : Module). m.capacity ≤ 2 ^ 40 / step)
 limits step (m ∷ ms) some sound =
     let is = sound 0 m (omega arith) in
@@ -110,7 +109,7 @@ steps_short step need steps least = ⊎_elim
     (cases_lt 0 steps)
 
 -- the capacity of counts that are read from a table
-read_narrow : (step need steps : ℕ) (ms : List Module) (cost : ℕ) (cs : List ℕ) → All IsModule (in_thousandths step ms) → need < 2 ^ 44 → step < 2 ^ 40 → ((n : ℕ) → need ≤ step * n → steps ≤ n) → AreTaken ms steps cost cs → step * modules_capacity ms cs < 2 ^ 45
+read_narrow : (step need steps : ℕ) (ms : List Module) (cost : ℕ) (cs : List ℕ) → All IsModule (in_units step ms) → need < 2 ^ 44 → step < 2 ^ 40 → ((n : ℕ) → need ≤ step * n → steps ≤ n) → AreTaken ms steps cost cs → step * modules_capacity ms cs < 2 ^ 45
 read_narrow step need steps ms cost cs sound small low least taken = ⊎_elim
     (λ (none : step ≡ 0). omega (arith, ap (λ x. x * modules_capacity ms cs) none))
     (λ (some : step ≢ 0).
@@ -120,31 +119,22 @@ read_narrow step need steps ms cost cs sound small low least taken = ⊎_elim
     omega (arith, over, limit, steps_short step need steps least, small, low))
     (cases_eq step 0)
 
--- counts that are read from the table cover the need
-pub table_covers : (ms : List Module) (table : Table) (need steps : ℕ) (x : Entry) (c : Covering) → All IsModule ms → need < 2 ^ 44 → IsTable ms table → need ≤ 100000 * table.step → steps ≤ 100000 → need ≤ table.step * steps → ((n : ℕ) → need ≤ table.step * n → steps ≤ n) → slice_get table.entries steps ≡ Some x → AreTaken table.modules steps x.cost c.counts → c.cost ≡ x.cost → IsCovering ms need c
-table_covers ms table need steps x c sound small is few most reached least at taken cost =
+-- counts that are read from the table are the cheapest for the need
+pub table_cheapest : (ms : List Module) (table : Table) (need steps : ℕ) (x : Entry) (cs : List ℕ) → All IsModule ms → need < 2 ^ 44 → IsTable ms table → need ≤ 100000 * table.step → steps ≤ 100000 → need ≤ table.step * steps → ((n : ℕ) → need ≤ table.step * n → steps ≤ n) → slice_get table.entries steps ≡ Some x → AreTaken table.modules steps x.cost cs → AreCheapest ms need cs
+table_cheapest ms table need steps x cs sound small is few most reached least at taken =
     let step = table.step in
-    let capacity : (cs : List ℕ) → modules_capacity ms cs ≡ step * modules_capacity table.modules cs = λ cs. ap (λ xs. modules_capacity xs cs) is.scaled ∙ capacity_scaled step table.modules cs in
-    let price : (cs : List ℕ) → modules_cost ms cs ≡ modules_cost table.modules cs = λ cs. ap (λ xs. modules_cost xs cs) is.scaled ∙ cost_scaled step table.modules cs in
+    let capacity : (ns : List ℕ) → modules_capacity ms ns ≡ step * modules_capacity table.modules ns = λ ns. ap (λ xs. modules_capacity xs ns) is.scaled ∙ capacity_scaled step table.modules ns in
+    let price : (ns : List ℕ) → modules_cost ms ns ≡ modules_cost table.modules ns = λ ns. ap (λ xs. modules_cost xs ns) is.scaled ∙ cost_scaled step table.modules ns in
     let size : length ms ≡ length table.modules = ap (λ (xs : List Module). length xs) is.scaled ∙ length_scaled step table.modules in
-    let more : step * steps ≤ step * modules_capacity table.modules c.counts = mul-le-mul_left step taken.reaches.reached in
-    let reaches : Reaches ms need c.counts = record { shape = taken.reaches.shape ∙ sym size; reached = omega (arith, reached, more, capacity c.counts) } in
+    let more : step * steps ≤ step * modules_capacity table.modules cs = mul-le-mul_left step taken.reaches.reached in
     let entry = is.least.least steps x at in
     record {
-      covers = record {
-        reaches = reaches;
-        cheapest = record {
-          counts = c.counts;
-          may = inl (record { step = step; divisor = is.divisor; few = few });
-          reaches = reaches;
-          paid = refl;
-          least = λ others may reach.
-              let enough : Reaches table.modules steps others = record { shape = reach.shape ∙ size; reached = least (modules_capacity table.modules others) (omega (arith, reach.reached, capacity others)) } in
-              omega (arith, price c.counts, price others, taken.paid, entry.least others enough);
-        };
-      };
+      reaches = record { shape = taken.reaches.shape ∙ sym size; reached = omega (arith, reached, more, capacity cs) };
       may = inl (record { step = step; divisor = is.divisor; few = few });
-      paid = omega (arith, cost, price c.counts, taken.paid);
-      small = λ i d lt. omega (arith, taken.few i d lt, most);
-      narrow = omega (arith, capacity c.counts, read_narrow step need steps table.modules x.cost c.counts (subst (All IsModule) is.scaled sound) small is.small least taken);
+      least = λ others may reach.
+          let enough : Reaches table.modules steps others = record { shape = reach.shape ∙ size; reached = least (modules_capacity table.modules others) (omega (arith, reach.reached, capacity others)) } in
+          omega (arith, price cs, price others, taken.paid, entry.least others enough);
+      none = λ zero' i d lt. omega (arith, taken.few i d lt, least 0 (omega (arith, zero')));
+      few = λ i d lt. omega (arith, taken.few i d lt, most);
+      narrow = omega (arith, capacity cs, read_narrow step need steps table.modules x.cost cs (subst (All IsModule) is.scaled sound) small is.small least taken);
     }

@@ -1,3 +1,4 @@
+pub mod Cheapest
 pub mod Kinds
 pub mod Routes
 pub mod Tables

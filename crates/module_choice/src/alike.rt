@@ -11,7 +11,7 @@ use crate::tables::{MOST_STEPS, Table, capacity_divisor, table_for};
 use net_core::{Counts, Link, List, Module, Network, NoMemory};
 use std::alloc::Global;
 
-/// What each link needs beyond its pre-installed capacity, in thousandths.
+/// What each link needs beyond its pre-installed capacity, in units of the network.
 fn needs_of(alloc: Global, links: &[Link], peaks: &[u64]) -> Result<List<u64>, NoMemory>
     requires size { length peaks.now ≡ length links.now }
     ensures count { IfOk result (λ needs. length needs ≡ length links.now) }
@@ -80,7 +80,7 @@ fn cover_by_table(
 {
     for e in 0..links.len() {
         if has_modules(&links[e], modules) {
-            counts[e] = cover_by(alloc, modules, table, needs[e])?.counts;
+            counts[e] = cover_by(alloc, modules, table, needs[e])?;
         }
     }
     Ok(())
@@ -150,8 +150,8 @@ pub(crate) fn cover_links(alloc: Global, links: &[Link], peaks: &[u64]) -> Resul
     cover_each(alloc, links, needs.items())
 }
 
-/// Counts of modules that cover what each link needs, in thousandths, as `cover` does. Links with the same modules share one table,
-/// so it takes time and memory for each different list of modules.
+/// Counts of modules that cover what each link needs, in units of the network, as `cover` does. Links with the same modules share
+/// one table, whatever their setups are, so it takes time and memory for each different list of modules.
 ///
 /// With needs of 180 and 700 on two links, both with modules of 155 for 100 and of 622 for 250, the first link gets two of the first
 /// module, and the second one of each.

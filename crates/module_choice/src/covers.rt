@@ -2,10 +2,12 @@ ghost use Rattle.std.specs.Prelude.{◌≡◌, ℕ, ◌*◌, ◌^◌, ◌<◌, �
 ghost use Rattle.net_core.specs.Network.{IsModule};
 ghost use Rattle.plan_terms.specs.Covers.{IsFewSteps};
 ghost use Rattle.module_choice.specs.Coverings.{IsCovering};
+ghost use Rattle.module_choice.specs.inner.Cheapest.{AreCheapest};
 ghost use Rattle.module_choice.specs.inner.Kinds.{IsBestKind};
 ghost use Rattle.module_choice.specs.inner.Tables.{Answers, IsTable};
 
 use crate::tables::{MOST_STEPS, Table, capacity_divisor, counts_for, few_steps, table_for};
+use crate::totals::link_cost;
 use net_core::{Copied, Link, List, Module, NoMemory};
 use std::alloc::Global;
 
@@ -14,7 +16,7 @@ use std::alloc::Global;
 pub struct Covering {
     /// One count for each module of the link.
     pub counts: List<u64>,
-    /// What they cost, in thousandths.
+    /// What they cost with the setup of the link, in units of the network.
     pub cost: u128,
 }
 
@@ -81,19 +83,15 @@ fn one_kind(alloc: Global, kinds: usize, kind: Kind) -> Result<List<u64>, NoMemo
 }
 
 /// The cheapest counts of one kind of module that reach a need of more than few steps.
-fn cover_by_kind(alloc: Global, modules: &[Module], need: u64) -> Result<Covering, NoMemory>
+fn cover_by_kind(alloc: Global, modules: &[Module], need: u64) -> Result<List<u64>, NoMemory>
     requires some { 0 < length modules.now }
     requires each { All IsModule modules.now }
     requires needed { 0 < need }
     requires limit { need < 2 ^ 44 }
     requires many { IsFewSteps modules.now need → ⊥ }
-    ensures { IfOk result (IsCovering modules.now need) }
+    ensures { IfOk result (AreCheapest modules.now need) }
 {
-    let kind = best_kind(modules, need);
-    Ok(Covering {
-        counts: one_kind(alloc, modules.len(), kind)?,
-        cost: cost_of(&modules[kind.at], kind.count),
-    })
+    one_kind(alloc, modules.len(), best_kind(modules, need))
 }
 
 /// Counts of modules that cover a need: by their table where it is few steps, else by one kind.
@@ -102,39 +100,38 @@ pub(crate) fn cover_by(
     modules: &[Module],
     table: &Table,
     need: u64,
-) -> Result<Covering, NoMemory>
+) -> Result<List<u64>, NoMemory>
     requires each { All IsModule modules.now }
     requires limit { need < 2 ^ 44 }
     requires served { modules.now ≡ [] → need ≡ 0 }
     requires table { IsTable modules.now table.now }
     requires answers { Answers table.now need }
-    ensures { IfOk result (IsCovering modules.now need) }
+    ensures { IfOk result (AreCheapest modules.now need) }
 {
     if need > MOST_STEPS * table.step {
         return cover_by_kind(alloc, modules, need);
     }
     let steps = few_steps(table.step, need);
-    let entries = table.entries.items();
-    Ok(Covering {
-        counts: counts_for(alloc, table.modules.items(), entries, steps)?,
-        cost: entries[steps].cost as u128,
-    })
+    counts_for(alloc, table.modules.items(), table.entries.items(), steps)
 }
 
-/// Counts of the link's modules that cover a need, in thousandths: the cheapest of all counts that reach it, where the need is
-/// at most 100,000 steps of the greatest common divisor of the modules' capacities, and the cheapest of one kind beyond that.
-/// It takes memory for each step, and time for each step and module.
+/// Counts of the link's modules that cover a need, in units of the network: the cheapest of all counts that reach it, where the
+/// need is at most 100,000 steps of the greatest common divisor of the modules' capacities, and the cheapest of one kind beyond
+/// that. Where something is needed, the link's setup is part of the cost. It takes memory for each step, and time for each step
+/// and module.
 ///
-/// Modules of 155 for 100 and of 622 for 250: a need of 700 is covered by one of each for 350, since two of the second would
-/// cost 500 and five of the first as much; a need of 180 by two of the first for 200.
+/// Modules of 155 for 100 and of 622 for 250, and a setup of 30: a need of 700 is covered by one of each for 380, since two of
+/// the second would cost 530 and five of the first as much; a need of 180 by two of the first for 230; no need by none for 0.
 pub fn cover(alloc: Global, link: &Link, need: u64) -> Result<Covering, NoMemory>
     requires few { length link.now.modules ≤ 16 }
     requires each { All IsModule link.now.modules }
     requires limit { need < 2 ^ 44 }
     requires served { link.now.modules ≡ [] → need ≡ 0 }
-    ensures { IfOk result (IsCovering link.now.modules need) }
+    ensures { IfOk result (IsCovering link.now need) }
 {
     let modules = link.modules.items();
     let table = table_for(alloc, modules, capacity_divisor(modules), need)?;
-    cover_by(alloc, modules, &table, need)
+    let counts = cover_by(alloc, modules, &table, need)?;
+    let cost = link_cost(link, counts.items());
+    Ok(Covering { counts, cost })
 }

@@ -28,7 +28,7 @@ pub struct Fallback {
     pub counts: Counts,
     /// One routing for each state, the one without failures first.
     pub routings: List<Routing>,
-    /// What the modules cost, in thousandths.
+    /// What the counts cost, in units of the network.
     pub cost: u128,
 }
 
@@ -42,7 +42,7 @@ impl Copied for Fallback {
     }
 }
 
-/// The routings of states, and the greatest load of each link over them, in thousandths.
+/// The routings of states, and the greatest load of each link over them, in units of the network.
 #[derive(Drop)]
 struct Routed {
     routings: List<Routing>,

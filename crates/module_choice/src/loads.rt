@@ -29,7 +29,7 @@ fn add_flows(loads: &mut [u64], flows: &[Flow])
     }
 }
 
-/// What the flows bring onto each link, in thousandths.
+/// What the flows bring onto each link, in units of the network.
 pub(crate) fn loads_of(alloc: Global, links: usize, flows: &[Flow]) -> Result<Vec<u64>, NoMemory>
     requires few { length flows.now ≤ 2 ^ 11 }
     requires known { All (λ f. All (λ x. x.0 < links) f.path) flows.now }

@@ -3,7 +3,7 @@ ghost use Rattle.std.specs.Int.{◌∣◌};
 ghost use Rattle.net_core.specs.Network.{IsModule};
 ghost use Rattle.plan_terms.specs.Bounds.{IsGreatestDivisor};
 ghost use Rattle.module_choice.specs.declared.tables.Entry.{Entry as E};
-ghost use Rattle.module_choice.specs.inner.Tables.{Answers, AreLeastCosts, AreTaken, IsNextEntry, IsTable, in_thousandths};
+ghost use Rattle.module_choice.specs.inner.Tables.{Answers, AreLeastCosts, AreTaken, IsNextEntry, IsTable, in_units};
 
 use checked_fraction::gcd;
 use net_core::{List, Module, NoMemory};
@@ -12,7 +12,7 @@ use std::alloc::Global;
 /// Needs of up to so many steps are answered from a table.
 pub(crate) const MOST_STEPS: u64 = 100000;
 
-/// The least cost to reach a number of steps, in thousandths, and the kind of a module with which it is reached.
+/// The least cost to reach a number of steps, in units of the network, and the kind of a module with which it is reached.
 #[derive(Clone, Copy)]
 pub(crate) struct Entry {
     pub cost: u64,
@@ -22,7 +22,7 @@ pub(crate) struct Entry {
 /// The least costs of a link's modules to reach 0, 1, 2 and more steps.
 #[derive(Drop)]
 pub(crate) struct Table {
-    /// The greatest common divisor of the modules' capacities, in thousandths.
+    /// The greatest common divisor of the modules' capacities, in units of the network.
     pub step: u64,
     /// The modules, with their capacities in steps.
     pub modules: List<Module>,
@@ -62,7 +62,7 @@ fn all_in_steps(alloc: Global, modules: &[Module], step: u64) -> Result<List<Mod
     requires sound { All IsModule modules.now }
     requires divides { All (λ m. step ∣ m.capacity) modules.now }
     ensures count { IfOk result (λ scaled. length scaled ≡ length modules.now) }
-    ensures scaled { IfOk result (λ scaled. modules.now ≡ in_thousandths step scaled) }
+    ensures scaled { IfOk result (λ scaled. modules.now ≡ in_units step scaled) }
     ensures sound { IfOk result (All IsModule) }
 {
     let mut scaled = List::new(alloc);

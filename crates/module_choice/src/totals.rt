@@ -1,11 +1,11 @@
 ghost use Rattle.std.specs.Prelude.{◌≡◌, ◌+◌, ◌*◌, ◌^◌, ◌≤◌, All, IfOk, length};
 ghost use Rattle.net_core.specs.Network.{IsModule};
-ghost use Rattle.plan_terms.specs.Capacities.{AreCounts, capacities, modules_capacity, modules_cost, total_cost};
+ghost use Rattle.plan_terms.specs.Capacities.{AreCounts, capacities, installs, link_cost, modules_capacity, modules_cost, total_cost};
 
 use net_core::{Caps, Counts, Link, List, Module, Network, NoMemory};
 use std::alloc::Global;
 
-/// What counts of modules cost, in thousandths.
+/// What counts of modules cost by themselves, in units of the network.
 #[tactic(auto, using(crate::proofs::Pairs::cost_more))]
 fn modules_cost(modules: &[Module], counts: &[u64]) -> u128
     requires shape { length counts.now ≡ length modules.now }
@@ -21,7 +21,7 @@ fn modules_cost(modules: &[Module], counts: &[u64]) -> u128
     cost
 }
 
-/// What counts of modules carry, in thousandths.
+/// What counts of modules carry, in units of the network.
 #[tactic(auto, using(crate::proofs::Pairs::capacity_more))]
 fn modules_capacity(modules: &[Module], counts: &[u64]) -> u128
     requires shape { length counts.now ≡ length modules.now }
@@ -37,7 +37,26 @@ fn modules_capacity(modules: &[Module], counts: &[u64]) -> u128
     capacity
 }
 
-/// What all modules cost, in thousandths.
+/// Whether some count is positive.
+fn installs(counts: &[u64]) -> bool
+    ensures { result ≡ installs counts.now }
+{
+    counts.iter().any(|n| *n > 0)
+}
+
+/// What counts of the link's modules cost, with its setup once where some count is positive, in units of the network.
+pub(crate) fn link_cost(link: &Link, counts: &[u64]) -> u128
+    requires shape { length counts.now ≡ length link.now.modules }
+    requires few { length link.now.modules ≤ 16 }
+    requires each { All IsModule link.now.modules }
+    ensures value { result ≡ link_cost link.now counts.now }
+    ensures bound { result ≤ 2 ^ 109 }
+{
+    let setup = if installs(counts) { link.setup } else { 0 };
+    modules_cost(link.modules.items(), counts) + setup as u128
+}
+
+/// What all counts cost, in units of the network.
 #[tactic(auto, using(crate::proofs::Pairs::total_more, crate::proofs::Pairs::counts_long, crate::proofs::Pairs::counts_shape))]
 fn total_cost(links: &[Link], counts: &[List<u64>]) -> u128
     requires few { length links.now ≤ 256 }
@@ -47,7 +66,7 @@ fn total_cost(links: &[Link], counts: &[List<u64>]) -> u128
 {
     let mut cost = 0;
     for i in 0..links.len() {
-        cost += modules_cost(links[i].modules.items(), counts[i].items());
+        cost += link_cost(&links[i], counts[i].items());
     }
     cost
 }
@@ -80,7 +99,10 @@ fn all_capacities(
     Ok(nums)
 }
 
-/// What counts of modules cost, in thousandths. It takes no memory.
+/// What counts of modules cost, in units of the network: each module its cost, and each link with a positive count its setup once.
+/// It takes no memory.
+///
+/// On a link with a setup of 3 and modules of 10 for 5, two modules cost 13, and none costs 0.
 pub fn cost(net: &Network, counts: &Counts) -> u128
     requires { AreCounts net.now.links counts.now }
     ensures { result ≡ total_cost net.now.links counts.now }

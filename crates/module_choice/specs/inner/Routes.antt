@@ -12,7 +12,7 @@ use Rattle.plan_terms.specs.Capacities.{modules_capacity}
 use Rattle.plan_terms.specs.Covers.{CoverLoads}
 use Rattle.plan_terms.specs.Fallbacks.{IsLeastFlow, IsLeastRouting, peak}
 use Rattle.plan_terms.specs.LeastPaths.{IsLeastPath}
-use Rattle.module_choice.specs.Coverings.{IsCovered}
+use Rattle.module_choice.specs.inner.Cheapest.{AreCheapest}
 
 -- how often link e stands on the path
 abbrev pub times : ℕ → List LinkId → ℕ
@@ -44,10 +44,10 @@ pub record AreRouted (p : Case) (lengths : List ℕ) (n : ℕ) (routings : List 
   pub greatest : (e : ℕ) → e < length p.links → slice_index peaks e ≡ peak routings e
   pub small : (e : ℕ) → peak routings e < 2 ^ 44
 
--- the counts of all links that have these modules cover their needs
+-- the counts of all links that have these modules are the cheapest for their needs
 abbrev pub AlikeAreCovered : List Link → List ℕ → List (List ℕ) → List Module → Type 0
 AlikeAreCovered links needs counts modules =
-    (e : ℕ) (l : Link) (c : List ℕ) → slice_get links e ≡ Some l → slice_get counts e ≡ Some c → l.modules ≡ modules → IsCovered l.modules (slice_index needs e) c
+    (e : ℕ) (l : Link) (c : List ℕ) → slice_get links e ≡ Some l → slice_get counts e ≡ Some c → l.modules ≡ modules → AreCheapest l.modules (slice_index needs e) c
 
 -- an earlier link has the modules of link e
 pub record HasEarlier (links : List Link) (e : ℕ) : Type 0 where

@@ -8,9 +8,9 @@ use Rattle.plan_terms.specs.Covers.{Reaches}
 use Rattle.module_choice.specs.declared.tables.Entry.{Entry}
 use Rattle.module_choice.specs.declared.tables.Table.{Table}
 
--- modules whose capacities are counted in steps, with their capacities in thousandths
-abbrev pub in_thousandths : ℕ → List Module → List Module
-in_thousandths step modules = map (λ m. record { capacity = step * m.capacity; cost = m.cost }) modules
+-- modules whose capacities are counted in steps, with their capacities in units of the network
+abbrev pub in_units : ℕ → List Module → List Module
+in_units step modules = map (λ m. record { capacity = step * m.capacity; cost = m.cost }) modules
 
 -- the least that counts of any kinds cost which reach n steps
 pub record IsLeastCost (modules : List Module) (n cost : ℕ) : Type 0 where
@@ -51,7 +51,7 @@ pub record IsTable (modules : List Module) (table : Table) : Type 0 where
   pub divisor : IsGreatestDivisor (map (λ m. m.capacity) modules) table.step
   pub small : table.step < 2 ^ 40
   pub few : length table.modules ≤ 16
-  pub scaled : modules ≡ in_thousandths table.step table.modules
+  pub scaled : modules ≡ in_units table.step table.modules
   pub sound : All IsModule table.modules
   pub least : AreLeastCosts table.modules table.entries
 

@@ -2,7 +2,7 @@ use Rattle.std.proofs.Common.{◌≡◌, ◌∙◌, ◌+◌, Some, ap, arith, ge
 use Rattle.std.proofs.Math.ListN.{length-set}
 use Rattle.std.proofs.lemmas.Bool.{false≢true}
 use Rattle.std.proofs.lemmas.Option.{slice_get_read, slice_get_within}
-use Rattle.module_choice.specs.Coverings.{IsCovered}
+use Rattle.module_choice.specs.inner.Cheapest.{AreCheapest}
 use Rattle.module_choice.specs.inner.Routes.{AlikeAreCovered}
 use Rattle.module_choice.proofs.SameModules.{TheseAreCovered, covered_set, these_set, these_skip}
 use Rattle.module_choice.proofs.alike.cover_by_table.Goals as goal
@@ -18,10 +18,9 @@ loop-e-preserved c =
     let at : slice_get links e ≡ Some l = slice_get_read links (length links) e l refl c.loop-e-test.true c.index-links-e.is in
     elim c.if-has_modules.branch [
       | then-has_modules+in_ok-counts w ↦
-          let new = w.in_ok-counts.field-0.counts in
-          let is = w.in_ok-counts.ensures in
+          let new = w.in_ok-counts.field-0 in
           let alike : l.modules ≡ modules = w.if-has_modules.ensures.0 refl in
-          let covered : IsCovered l.modules (get_or needs e 0) new = subst (λ ms. IsCovered ms (get_or needs e 0) new) (sym alike) (record { covers = is.covers; few = is.small; narrow = is.narrow }) in
+          let covered : AreCheapest l.modules (get_or needs e 0) new = subst (λ ms. AreCheapest ms (get_or needs e 0) new) (sym alike) w.in_ok-counts.ensures in
           record {
             count = ap length w.counts-is ∙ (length-set c.loop-e.counts e new ∙ c.loop-e.invariant.count);
             these = subst (λ cs. TheseAreCovered links needs cs modules (e + 1)) (sym w.counts-is) (these_set links needs c.loop-e.counts e l new modules at covered c.loop-e.invariant.these);

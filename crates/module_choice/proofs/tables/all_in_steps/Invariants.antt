@@ -1,12 +1,12 @@
 use Rattle.std.proofs.Common.{◌≡◌, All, length, take}
 use Rattle.net_core.specs.Network.{IsModule}
-use Rattle.module_choice.specs.inner.Tables.{in_thousandths}
+use Rattle.module_choice.specs.inner.Tables.{in_units}
 use Rattle.module_choice.proofs.tables.all_in_steps.Given as goal
 
 -- the modules so far are in steps
 abbrev pub invariant-loop-m : goal.invariant-loop-m
 invariant-loop-m l = record {
-  scaled : take l.m-index l.modules ≡ in_thousandths l.step l.scaled;
+  scaled : take l.m-index l.modules ≡ in_units l.step l.scaled;
   count : length l.scaled ≡ l.m-index;
   sound : All IsModule l.scaled;
 }
