@@ -1,5 +1,5 @@
 -- counts of one kind of module, and the best kind
-use Rattle.std.proofs.Common.{◌≡◌, ℕ, zero, suc, ◌+◌, ◌*◌, ◌^◌, ◌<◌, ◌≤◌, true, false, cond, nat_lt, List, [], ◌∷◌, All, Some, get_or, set, replicate, length, refl, sym, ◌∙◌, ap, subst, arith, sum_by, count_by, zip, slice_get, ⊎_elim, inr, get_or-set_same, get_or-set_other}
+use Rattle.std.proofs.Common.{◌≡◌, ℕ, zero, suc, ◌+◌, ◌*◌, ◌^◌, ◌<◌, ◌≤◌, true, false, cond, nat_lt, List, [], ◌∷◌, All, Err, IfOk, Ok, Result, Some, get_or, set, replicate, length, refl, sym, ◌∙◌, ap, subst, arith, sum_by, count_by, zip, slice_get, ⊎_elim, inr, get_or-set_same, get_or-set_other}
 use Rattle.std.proofs.lemmas.List.Sums.{sum_by-cons}
 use Rattle.std.proofs.lemmas.List.{get_or-replicate, length-replicate}
 use Rattle.std.proofs.Math.ListN.{length-set}
@@ -8,13 +8,18 @@ use Rattle.std.proofs.lemmas.Option.{slice_get_within}
 use Rattle.std.proofs.Math.Nat.{mul-le-mul_left}
 use Rattle.net_core.specs.declared.network.Module.{Module}
 use Rattle.net_core.specs.Network.{IsModule}
-use Rattle.plan_terms.specs.Capacities.{modules_capacity, modules_cost}
+use Rattle.plan_terms.specs.Capacities.{modules_cost}
 use Rattle.plan_terms.specs.Covers.{AreOfOneKind, IsFewSteps, Reaches}
 use Rattle.module_choice.specs.inner.Cheapest.{AreCheapest}
 use Rattle.module_choice.specs.inner.Kinds.{IsBestKind}
 use Rattle.module_choice.specs.declared.covers.Kind.{Kind}
 use Rattle.module_choice.proofs.Numbers.{one_if}
 use Rattle.net_core.proofs.Lists.{all_at}
+
+-- what follows from an answer
+pub answers_also : {A E : Type 0} {P Q : A → Type 0} (answer : Result A E) → ((x : A) → P x → Q x) → IfOk answer P → IfOk answer Q
+answers_also (Ok x) more is = more x is
+answers_also (Err e) more is = tt
 
 -- a number for each kind times its count, added up
 abbrev pub value : (Module → ℕ) → List Module → List ℕ → ℕ
