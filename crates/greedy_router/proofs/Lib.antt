@@ -1,4 +1,5 @@
 mod Adding
+mod Along
 mod Differing
 mod Falling
 mod FreePaths
