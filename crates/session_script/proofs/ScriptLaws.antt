@@ -46,7 +46,7 @@ name_lawful : Lawful (word_at Token Ended (any_name LimitName)) (λ n. Verbatim 
 name_lawful = lawful_any_name Token Ended LimitName
 
 need_lawful : (p : Places) → Lawful (word_at Token Ended (need_in_script p)) (λ n. Money p n ∷ []) (λ n. n < 2 ^ 40) AnyText
-need_lawful p = lawful_amount p Token Ended Number
+need_lawful p = lawful_amount Token Ended Number p
 
 -- ---- acts
 

@@ -44,7 +44,7 @@ fn add(alloc: Global, places: Places, text: &mut Cursor) -> Result<Act, ScriptRe
 /// Takes the name of a demand that goes.
 #[tactic(auto, unfolding(crate::specs::ScriptReading::act_at))]
 fn drop_demand(alloc: Global, text: &mut Cursor) -> Result<Act, ScriptRefusal>
-    ensures { ReadsAs (λ a. a) result (left text.new) (act_at places verbs.Drop (left text.old)) }
+    ensures { (p : Places) → ReadsAs (λ a. a) result (left text.new) (act_at p verbs.Drop (left text.old)) }
 {
     let name = name(alloc, text)?;
     Ok(Act::Change(Edit::Drop { name }))

@@ -64,11 +64,7 @@ fn file(alloc: Global, places: Places, bytes: &[u8]) -> Result<Script, ScriptRef
 /// D1 need 2,500 units with three places, and 2,500,000 with six. A need of 0.0005 is refused as
 /// `number-fine` with three places, and is 500 units with six. A line `caller 9 plan` there is
 /// refused as `caller` at the place of the 9.
-pub fn read_script(
-    alloc: Global,
-    places: Places,
-    bytes: &[u8],
-) -> Result<Script, ScriptRefusal>
+pub fn read_script(alloc: Global, places: Places, bytes: &[u8]) -> Result<Script, ScriptRefusal>
     // What is read is spelled.
     ensures found { IfOk result (λ s. SpellsScript places bytes.now s) }
     // What is spelled is read, unless memory runs out.
