@@ -24,7 +24,7 @@ use Rattle.cut_pool.proofs.Places.{known_at, new_of_all, with_state}
 
 -- the case with the demands that entries leave
 abbrev case_now : Case → List Entry → Case
-case_now p es = record { nodes = p.nodes; links = p.links; listed = p.listed; demands = demands_left p es }
+case_now p es = record { nodes = p.nodes; links = p.links; listed = p.listed; demands = demands_left p es; places = p.places }
 
 states_of : (pool : List PooledCut) → map cut_of_line (map line_of_pooled pool) ≡ map (λ c. with_state c.cut) pool
 states_of [] = refl

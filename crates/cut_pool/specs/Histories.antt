@@ -36,7 +36,7 @@ version_left p entries = (left_by p.nodes (record { demands = p.demands; version
 
 -- the case with the demands that entries leave
 abbrev pub case_left : Case → List Entry → Case
-case_left p entries = record { nodes = p.nodes; links = p.links; listed = p.listed; demands = demands_left p entries }
+case_left p entries = record { nodes = p.nodes; links = p.links; listed = p.listed; demands = demands_left p entries; places = p.places }
 
 -- the demands and the version after the first n entries of a history
 abbrev pub demands_at : Case → List Entry → ℕ → List Demand

@@ -1,5 +1,5 @@
 use metric_cut::Cut;
-use net_core::{Copied, Edit, NoMemory, Reply};
+use net_core::{Edit, Reply};
 
 /// What a board answers to an edit. An edit that wasn't committed comes back.
 #[derive(Drop)]
@@ -25,32 +25,4 @@ pub enum AdmitAnswer {
     Full(Cut),
     /// The call ran out of memory.
     NoMemory(Cut),
-}
-
-impl Copied for EditAnswer {
-    fn copy(&self) -> Result<EditAnswer, NoMemory> {
-        Ok(match self {
-            EditAnswer::At { position, reply } => EditAnswer::At {
-                position: *position,
-                reply: *reply,
-            },
-            EditAnswer::Full(edit) => EditAnswer::Full(edit.copy()?),
-            EditAnswer::NoMemory(edit) => EditAnswer::NoMemory(edit.copy()?),
-        })
-    }
-}
-
-impl Copied for AdmitAnswer {
-    fn copy(&self) -> Result<AdmitAnswer, NoMemory> {
-        Ok(match self {
-            AdmitAnswer::Admitted { index, position } => AdmitAnswer::Admitted {
-                index: *index,
-                position: *position,
-            },
-            AdmitAnswer::Known(index, cut) => AdmitAnswer::Known(*index, cut.copy()?),
-            AdmitAnswer::PoolFull(cut) => AdmitAnswer::PoolFull(cut.copy()?),
-            AdmitAnswer::Full(cut) => AdmitAnswer::Full(cut.copy()?),
-            AdmitAnswer::NoMemory(cut) => AdmitAnswer::NoMemory(cut.copy()?),
-        })
-    }
 }

@@ -128,6 +128,19 @@ impl History {
         Ok(reply)
     }
 
+    /// The entry of a cut at this index, with memory for it beside what is spared.
+    fn entry_with_room(&mut self, pooled: &PooledCut, index: u32) -> Result<Entry, NoMemory>
+        ensures entries { self.new.entries.items ≡ self.old.entries.items }
+        ensures spare { self.new.spare ≡ self.old.spare }
+        ensures entry { IfOk result (λ e. e ≡ Pooled index pooled.now.cut.state pooled.now.cut.lengths) }
+        ensures room { OnOk result (vec_len self.new.entries + self.new.spare + 1 ≤ vec_capacity self.new.entries) }
+    {
+        if self.entries.reserve(self.spare as usize + 1).is_err() {
+            return Err(NoMemory);
+        }
+        pooled.entry(index)
+    }
+
     /// Puts a cut last in the pool and commits it. Memory for the entry is taken first, beside what is spared.
     pub fn commit_cut(
         &mut self,
@@ -143,12 +156,9 @@ impl History {
         ensures spare { self.new.spare ≡ self.old.spare }
         ensures told { told.new ≡ self.new.entries.items }
     {
-        let Ok(entry) = pooled.entry(pool.len() as u32) else {
+        let Ok(entry) = self.entry_with_room(&pooled, pool.len() as u32) else {
             return Err(pooled.cut);
         };
-        if self.entries.reserve(self.spare as usize + 1).is_err() {
-            return Err(pooled.cut);
-        }
         if let Err((pooled, _)) = pool.push(pooled) {
             return Err(pooled.cut);
         }
