@@ -4,7 +4,7 @@ ghost use Rattle.worked_networks.specs.Tables.{RefusesNetwork, ends_of, ends_of_
 
 use crate::fault::WorkedFault;
 use crate::names::letter;
-use net_core::{Link, List, Module, Name, Network, NoMemory, NodeId, Notes};
+use net_core::{Link, List, Module, Name, Network, NoMemory, NodeId, Notes, Places};
 use std::alloc::Global;
 
 /// A link: its ends by their places among the nodes, its pre-installed capacity in thousandths, and its modules.
@@ -86,9 +86,10 @@ pub(crate) fn nodes_of(alloc: Global, count: usize) -> Result<List<Name>, NoMemo
     Ok(nodes)
 }
 
-/// The network of these nodes and links, of whose costs none is a note.
+/// The network of these nodes and links, of whose costs none is a note, and whose amounts have three places.
 pub(crate) fn checked(nodes: List<Name>, links: List<Link>) -> Result<Network, WorkedFault>
     ensures parts { IfOk result (λ net. (net.nodes ≡ nodes) × (net.links ≡ links)) }
+    ensures places { IfOk result (λ net. net.places ≡ Places.Three) }
     ensures refused { IfErr result (RefusesNetwork nodes links) }
 {
     let notes = Notes {
@@ -96,19 +97,20 @@ pub(crate) fn checked(nodes: List<Name>, links: List<Link>) -> Result<Network, W
         routing_cost: false,
         setup_cost: false,
     };
-    match Network::check(nodes, links, notes) {
+    match Network::check(nodes, links, notes, Places::Three) {
         Ok(net) => Ok(net),
         Err(fault) => Err(WorkedFault::Network(fault)),
     }
 }
 
 /// The network of up to 26 nodes A, B and so on, and up to 26 links a, b and so on, one for each row, of whose costs none is a
-/// note. Capacities and costs are in thousandths. Where the rows aren't links of the nodes, the answer is the fault that
+/// note. It has three places, so capacities and costs are in thousandths. Where the rows aren't links of the nodes, the answer is the fault that
 /// `Network::check` finds.
 ///
 /// It takes time in the squares of the nodes and of the rows, and in the modules; memory in the nodes, the rows and their modules.
 pub fn network(alloc: Global, nodes: usize, rows: &[LinkRow]) -> Result<Network, WorkedFault>
     ensures nodes { IfOk result (λ net. length net.nodes ≡ nodes) }
+    ensures places { IfOk result (λ net. net.places ≡ Places.Three) }
     ensures names { IfOk result (λ net. (net.nodes ≡ letters 65 nodes) × (map (λ l. l.name) net.links ≡ letters 97 (length rows.now))) }
     ensures links { IfOk result (λ net. length net.links ≡ length rows.now) }
     ensures ends { IfOk result (λ net. map ends_of net.links ≡ map ends_of_row rows.now) }

@@ -11,7 +11,7 @@ use crate::fault::WorkedFault;
 use crate::link_rows::{TEN, checked, link, nodes_of};
 use crate::names::name;
 use crate::state_rows::single_failures;
-use net_core::{Link, List, Network, NoMemory, Problem};
+use net_core::{Link, List, Network, NoMemory, Places, Problem};
 use std::alloc::Global;
 
 /// A link of the triangle.
@@ -34,10 +34,11 @@ fn sides(alloc: Global, fixed: u64) -> Result<List<Link>, NoMemory>
 }
 
 /// The nodes A, B and C, and the links AB, BC and AC of modules of 10.00 for 5.00, each with the same pre-installed capacity in
-/// thousandths. That of 2^40 or more is a fault of the links. It takes a fixed amount of time and memory.
+/// thousandths, since it has three places. That of 2^40 or more is a fault of the links. It takes a fixed amount of time and memory.
 pub fn triangle(alloc: Global, fixed: u64) -> Result<Network, WorkedFault>
     ensures nodes { IfOk result (λ net. length net.nodes ≡ 3) }
     ensures links { IfOk result (λ net. length net.links ≡ 3) }
+    ensures places { IfOk result (λ net. net.places ≡ Places.Three) }
     ensures parts { IfOk result (λ net. (net.nodes ≡ letters 65 3) × (net.links ≡ triangle_links fixed)) }
     ensures refused { IfErr result (λ fault. (fault ≡ WorkedFault.NoMemory) ⊎ RefusesNetwork (letters 65 3) (triangle_links fixed) fault) }
 {
