@@ -11,7 +11,7 @@ use module_choice::cost;
 use net_core::Instance;
 use plan_types::Plan;
 
-/// Whether the cost is what the modules cost.
+/// Whether the cost is what the counts cost, setups included.
 pub(crate) fn check_cost(instance: &Instance, plan: &Plan) -> Test
     requires { AreCounts instance.now.net.now.links plan.now.counts }
     ensures told { Tells (HoldsCostDiffers (case_of instance.now) plan.now) result }

@@ -1,5 +1,5 @@
 -- the plan of a fallback plan and a certified bound is in form and in lowest terms
-use Rattle.std.proofs.Common.{◌≡◌, ◌≢◌, ℕ, zero, suc, ◌*◌, ◌^◌, ◌<◌, ◌≤◌, List, [], ◌∷◌, ◌++◌, All, AllPairs, Some, get_or, length, slice_get, sym, subst, arith, zip}
+use Rattle.std.proofs.Common.{◌≡◌, ◌≢◌, ℕ, zero, suc, ◌+◌, ◌*◌, ◌^◌, ◌<◌, ◌≤◌, Bool, true, false, if◌then◌else◌, List, [], ◌∷◌, ◌++◌, All, AllPairs, Some, get_or, length, slice_get, sym, subst, arith, zip}
 use Rattle.std.specs.Int.{◌∣◌}
 use Rattle.std.proofs.Math.Nat.{eq-one_of_dvd-one}
 use Rattle.std.proofs.lemmas.List.{append_assoc}
@@ -14,9 +14,9 @@ use Rattle.net_core.specs.declared.plan.Flow.{Flow}
 use Rattle.net_core.specs.declared.plan.Routing.{Routing}
 use Rattle.net_core.specs.Demands.{AreDemands, IsDemand}
 use Rattle.net_core.specs.Graphs.{Graph, Joins}
-use Rattle.net_core.specs.Network.{IsModule, IsNetwork}
+use Rattle.net_core.specs.Network.{IsLink, IsModule, IsNetwork}
 use Rattle.net_core.proofs.Accepted.{new_name}
-use Rattle.plan_terms.specs.Capacities.{modules_cost, total_cost}
+use Rattle.plan_terms.specs.Capacities.{installs, link_cost, modules_cost, total_cost}
 use Rattle.plan_terms.specs.Fallbacks.{IsLeastFlow, IsLeastRouting}
 use Rattle.plan_terms.specs.Paths.{IsPath, Leads, last_node}
 use Rattle.plan_terms.proofs.OwnBounds.{product_below}
@@ -125,25 +125,25 @@ modules_low (m ∷ ms) (n ∷ ns) each few =
     let all = sum_by-cons (λ (p : Module × ℕ). p.0.cost * p.1) (m, n) (zip ms ns) in
     omega (arith, one, rest, all)
 
--- a link with at most 16 modules, each of them sound
-abbrev Served : Link → Type 0
-Served l = (length l.modules ≤ 16) × All IsModule l.modules
+-- the setup is added at most once
+setup_once : (cost setup : ℕ) (installed : Bool) → cost + (if installed then setup else 0) ≤ cost + setup
+setup_once cost setup true = omega arith
+setup_once cost setup false = omega arith
 
-links_low : (links : List Link) (counts : List (List ℕ)) → All Served links → All (λ c. All (λ n. n < 2 ^ 44) c) counts → total_cost links counts ≤ length links * 2 ^ 88
-links_low [] counts each few = omega arith
-links_low (l ∷ ls) [] each few = omega arith
-links_low (l ∷ ls) (c ∷ cs) each few =
-    let served = All-head Served l ls each in
-    let one = modules_low l.modules c served.1 (All-head (λ (x : List ℕ). All (λ n. n < 2 ^ 44) x) c cs few) in
-    let rest = links_low ls cs (All-tail Served l ls each) (All-tail (λ (x : List ℕ). All (λ n. n < 2 ^ 44) x) c cs few) in
-    let all = sum_by-cons (λ (p : Link × List ℕ). modules_cost p.0.modules p.1) (l, c) (zip ls cs) in
-    let most : length l.modules * 2 ^ 84 ≤ 2 ^ 88 = omega (arith, served.0) in
-    omega (arith, one, rest, all, most)
+links_low : (nodes : ℕ) (links : List Link) (counts : List (List ℕ)) → All (IsLink nodes) links → All (λ c. All (λ n. n < 2 ^ 44) c) counts → total_cost links counts ≤ length links * 2 ^ 89
+links_low nodes [] counts each few = omega arith
+links_low nodes (l ∷ ls) [] each few = omega arith
+links_low nodes (l ∷ ls) (c ∷ cs) each few =
+    let is = All-head (IsLink nodes) l ls each in
+    let one = modules_low l.modules c is.each (All-head (λ (x : List ℕ). All (λ n. n < 2 ^ 44) x) c cs few) in
+    let rest = links_low nodes ls cs (All-tail (IsLink nodes) l ls each) (All-tail (λ (x : List ℕ). All (λ n. n < 2 ^ 44) x) c cs few) in
+    let all = sum_by-cons (λ (p : Link × List ℕ). link_cost p.0 p.1) (l, c) (zip ls cs) in
+    let most : length l.modules * 2 ^ 84 ≤ 2 ^ 88 = omega (arith, is.few) in
+    omega (arith, one, rest, all, most, is.setup, setup_once (modules_cost l.modules c) l.setup (installs c))
 
 pub cost_low : (nodes : List (List ℕ)) (links : List Link) (counts : List (List ℕ)) → IsNetwork nodes links → All (λ c. All (λ n. n < 2 ^ 44) c) counts → total_cost links counts < 2 ^ 126
 cost_low nodes links counts net few =
-    let each : All Served links = λ k d lt. ((net.sound k d lt).few, (net.sound k d lt).each) in
-    let all = links_low links counts each few in
+    let all = links_low (length nodes) links counts net.sound few in
     let links_few = net.few_links in
-    let most : length links * 2 ^ 88 ≤ 2 ^ 96 = omega (arith, links_few) in
+    let most : length links * 2 ^ 89 ≤ 2 ^ 97 = omega (arith, links_few) in
     omega (arith, all, most)

@@ -11,7 +11,7 @@ use plan_rounds::Worked;
 use plan_types::{CertLine, Certificate, Spot};
 use std::alloc::Global;
 
-/// A certificate with its raw value, in lowest terms, and its bound; both in thousandths.
+/// A certificate with its raw value, in lowest terms, and its bound; both in units of the network.
 #[derive(Drop)]
 pub struct CertifiedBound {
     pub certificate: Certificate,

@@ -20,7 +20,7 @@ pub record AreShareNeeds (links : List Link) (share : Share) (needs : List ℕ) 
   pub count : length needs ≡ length links
   pub each : (e : ℕ) (l : Link) → slice_get links e ≡ Some l → IsNeedOfLink l.modules share.scale (slice_index share.units e) (slice_index needs e)
 
--- Counts that cover each link's need in a share, with their cost. They are within the limits, and no link's modules give 2^45 thousandths or more.
+-- Counts that cover each link's need in a share, with their cost. They are within the limits, and no link's modules give 2^45 units or more.
 pub record AreShareCovers (links : List Link) (share : Share) (installed : Installed) : Type 0 where
   pub covers : (pairs : List UnitPair) → AreUnitPairs links pairs → CoversShare links pairs share installed.counts
   pub shape : AreCounts links installed.counts

@@ -20,7 +20,7 @@ pub struct Chosen {
     pub counts: Counts,
     /// One routing for each state, the one without failures first.
     pub routings: List<Routing>,
-    /// What the modules cost, in thousandths.
+    /// What the counts cost, in units of the network.
     pub cost: u128,
     pub quality: Quality,
 }

@@ -12,7 +12,7 @@ use std::alloc::Global;
 pub struct Installed {
     /// One count for each module of each link.
     pub counts: Counts,
-    /// What they cost, in thousandths.
+    /// What they cost, in units of the network.
     pub cost: u128,
 }
 

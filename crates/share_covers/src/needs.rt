@@ -8,7 +8,7 @@ use net_core::{List, Module, Network, NoMemory};
 use plan_types::Share;
 use std::alloc::Global;
 
-/// No link needs more, in thousandths: all demands together need less than one more.
+/// No link needs more, in units of the network: all demands together need less than one more.
 const MOST_NEED: u64 = (1 << 44) - 1;
 
 /// A number over a scale, rounded up.
@@ -20,7 +20,7 @@ fn whole(number: u128, scale: u64) -> u128
     number.div_ceil(scale as u128)
 }
 
-/// What units of a capacity, over a scale, need in whole thousandths.
+/// What units of a capacity, over a scale, need in whole units of the network.
 fn need_of(capacity: u64, units: u64, scale: u64) -> u64
     requires { 0 < scale }
     ensures { IsShareNeed scale capacity units result }
@@ -41,7 +41,7 @@ fn link_need(modules: &[Module], units: u64, scale: u64) -> u64
     }
 }
 
-/// What each link needs of its modules in a share, in whole thousandths: its units of its unit pair, rounded up, and 2^44 - 1 where that
+/// What each link needs of its modules in a share, in whole units: its units of its unit pair, rounded up, and 2^44 - 1 where that
 /// is less. A link without module needs nothing.
 ///
 /// With a unit capacity of 1 and 10000 units over the scale 3 a link needs 3334. It takes time in the number of links and modules.

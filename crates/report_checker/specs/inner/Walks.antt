@@ -8,7 +8,7 @@ use Rattle.cut_pool.specs.Histories.{cuts_of, demands_left, version_left}
 use Rattle.report_checker.specs.Journals.{IsOtherEntry}
 use Rattle.report_checker.specs.declared.walk.Walk.{Walk}
 
--- the need of the entry's edit, if it has one, is below 2^40 thousandths
+-- the need of the entry's edit, if it has one, is below 2^40 units
 abbrev pub HasSmallNeed : Entry → Type 0
 HasSmallNeed (Edited caller edit reply) = edit_need edit < 2 ^ 40
 HasSmallNeed (Pooled index state lengths) = Unit {0}
