@@ -8,6 +8,7 @@ use Rattle.net_core.specs.Network.{IsLink, IsModule}
 use Rattle.net_core.specs.declared.demand.Demand.{Demand}
 use Rattle.net_core.specs.declared.ids.NodeId.{NodeId}
 use Rattle.net_core.specs.declared.network.Module.{Module}
+use Rattle.net_core.specs.declared.places.Places.{Places}
 use Rattle.text_kit.specs.Items.{ComeAfter, AreSpelled, Item, Verbatim, Money, Opening, Closing}
 use Rattle.text_kit.specs.Reading.{word_at, Parenthesis, no_fault}
 use Rattle.text_kit.proofs.After.{all_after, after_all, after_as, after_both}
@@ -47,18 +48,18 @@ ends_lawful kind nodes pairs = lawful_as (ends_at kind nodes) _ (λ e. node_pair
 
 -- ---- modules
 
-amount_lawful : Lawful (word_at Token Ended amount) (λ n. Money n ∷ []) (λ n. n < 2 ^ 40) AnyText
-amount_lawful = lawful_amount Token Ended Number
+amount_lawful : (p : Places) → Lawful (word_at Token Ended (amount p)) (λ n. Money p n ∷ []) (λ n. n < 2 ^ 40) AnyText
+amount_lawful p = lawful_amount Token Ended Number p
 
-capacity_lawful : (sofar : List Module) → Lawful (word_at Token Ended (capacity sofar)) (λ n. Money n ∷ []) (IsCapacity sofar) AnyText
-capacity_lawful sofar = lawful_word Token Ended (capacity sofar) (λ n. Money n) (IsCapacity sofar) (λ n. tt) (capacity_takes sofar) (λ w n is e. capacity_again sofar w n is e)
+capacity_lawful : (p : Places) (sofar : List Module) → Lawful (word_at Token Ended (capacity p sofar)) (λ n. Money p n ∷ []) (IsCapacity sofar) AnyText
+capacity_lawful p sofar = lawful_word Token Ended (capacity p sofar) (λ n. Money p n) (IsCapacity sofar) (λ n. tt) (capacity_takes p sofar) (λ w n is e. capacity_again p sofar w n is e)
 
-module_lawful : (sofar : List Module) → Lawful (module_at sofar) module_items (λ m. (length sofar < 16) × IsModule m) AnyText
+module_lawful : (p : Places) (sofar : List Module) → Lawful (module_at p sofar) (module_items p) (λ m. (length sofar < 16) × IsModule m) AnyText
 unfolding module_at
-module_lawful sofar = lawful_as (module_at sofar) _ module_items _ (λ m. (length sofar < 16) × IsModule m) AnyText (λ m h. refl)
+module_lawful p sofar = lawful_as (module_at p sofar) _ (module_items p) _ (λ m. (length sofar < 16) × IsModule m) AnyText (λ m h. refl)
     (λ m h. (h.0.0, record { carries = h.0.1; capacity = h.0.2; cost = h.1.0 })) (λ m h. ((h.0, h.1.carries, h.1.capacity), (h.1.cost, refl)))
-    (lawful_then _ _ _ _ _ _ AnyText (λ m. m.capacity) (λ c m h. ap (λ (x : Module). x.capacity) h.1) (capacity_lawful sofar) (λ capacity.
-    lawful_then _ _ _ _ _ _ AnyText (λ m. m.cost) (λ c m h. ap (λ (x : Module). x.cost) h) amount_lawful (λ cost.
+    (lawful_then _ _ _ _ _ _ AnyText (λ m. m.capacity) (λ c m h. ap (λ (x : Module). x.capacity) h.1) (capacity_lawful p sofar) (λ capacity.
+    lawful_then _ _ _ _ _ _ AnyText (λ m. m.cost) (λ c m h. ap (λ (x : Module). x.cost) h) (amount_lawful p) (λ cost.
     lawful_give (record { capacity = capacity; cost = cost }))))
 
 -- modules of a link with this pre-installed capacity
@@ -82,11 +83,11 @@ served_again : (fixed : ℕ) (ms : List Module) → (ms ≡ [] → fixed ≡ 0) 
 served_again fixed [] h = rw (h refl) refl
 served_again fixed (m ∷ ms) h = rw (has_some m ms) refl
 
-modules_lawful : (fixed : ℕ) → Lawful (native_modules_at fixed []) (λ ms. flat_map module_items ms ++ Closing ∷ []) (AreModules fixed) AnyText
-modules_lawful fixed = lawful_as (native_modules_at fixed []) _ (λ ms. flat_map module_items ms ++ Closing ∷ []) _ (AreModules fixed) AnyText (λ ms h. refl)
+modules_lawful : (p : Places) (fixed : ℕ) → Lawful (native_modules_at p fixed []) (λ ms. flat_map (module_items p) ms ++ Closing ∷ []) (AreModules fixed) AnyText
+modules_lawful p fixed = lawful_as (native_modules_at p fixed []) _ (λ ms. flat_map (module_items p) ms ++ Closing ∷ []) _ (AreModules fixed) AnyText (λ ms h. refl)
     (λ ms h. let f = few_after 16 (λ before m. IsModule m) [] ms (omega arith) h.1 in record { few = f.0; each = after_all IsModule [] ms f.1; served = served_takes fixed ms h.0 })
     (λ ms h. (served_again fixed ms h.served, after_few 16 (λ before m. IsModule m) [] ms h.few (all_after IsModule [] ms h.each)))
-    (lawful_list Parenthesis (unserved fixed) module_at module_items (λ sofar m. (length sofar < 16) × IsModule m) (λ m. tt) module_lawful)
+    (lawful_list Parenthesis (unserved fixed) (module_at p) (module_items p) (λ sofar m. (length sofar < 16) × IsModule m) (λ m. tt) (module_lawful p))
 
 -- ---- links
 
@@ -109,41 +110,41 @@ pub record IsLinkRest (nodes : List (List ℕ)) (r : LinkRest) : Type 0 where
   pub setup : r.setup < 2 ^ 40
   pub modules : AreModules r.fixed r.modules
 
-rest_items : List (List ℕ) → LinkRest → List Item
-rest_items nodes r =
-    node_pair_items nodes r.a r.b ++ Money r.fixed ∷ Money r.fixed_cost ∷ Money r.routing_cost ∷ Money r.setup ∷ Opening ∷ (flat_map module_items r.modules ++ Closing ∷ [])
+rest_items : Places → List (List ℕ) → LinkRest → List Item
+rest_items p nodes r =
+    node_pair_items nodes r.a r.b ++ Money p r.fixed ∷ Money p r.fixed_cost ∷ Money p r.routing_cost ∷ Money p r.setup ∷ Opening ∷ (flat_map (module_items p) r.modules ++ Closing ∷ [])
 
 rest_of : CostedLink → LinkRest
 rest_of l = record { a = l.link.a; b = l.link.b; fixed = l.link.fixed; fixed_cost = l.fixed_cost; routing_cost = l.routing_cost; setup = l.link.setup; modules = l.link.modules }
 
-rest_lawful : (nodes : List (List ℕ)) → AreDifferent nodes → Lawful (link_rest_at nodes) (rest_items nodes) (IsLinkRest nodes) AnyText
+rest_lawful : (p : Places) (nodes : List (List ℕ)) → AreDifferent nodes → Lawful (link_rest_at p nodes) (rest_items p nodes) (IsLinkRest nodes) AnyText
 unfolding link_rest_at rest_items
-rest_lawful nodes pairs = lawful_as (link_rest_at nodes) _ (rest_items nodes) _ (IsLinkRest nodes) AnyText
-    (λ r h. ap (λ (is : List Item). node_pair_items nodes r.a r.b ++ Money r.fixed ∷ Money r.fixed_cost ∷ Money r.routing_cost ∷ Money r.setup ∷ Opening ∷ is) (append-nil (flat_map module_items r.modules ++ Closing ∷ [])))
+rest_lawful p nodes pairs = lawful_as (link_rest_at p nodes) _ (rest_items p nodes) _ (IsLinkRest nodes) AnyText
+    (λ r h. ap (λ (is : List Item). node_pair_items nodes r.a r.b ++ Money p r.fixed ∷ Money p r.fixed_cost ∷ Money p r.routing_cost ∷ Money p r.setup ∷ Opening ∷ is) (append-nil (flat_map (module_items p) r.modules ++ Closing ∷ [])))
     (λ r h. record { ends = h.0; fixed = h.1.0; fixed_cost = h.1.1.0; routing_cost = h.1.1.1.0; setup = h.1.1.1.1.0; modules = h.1.1.1.1.1.1.0 })
     (λ r h. (h.ends, (h.fixed, (h.fixed_cost, (h.routing_cost, (h.setup, (tt, (h.modules, refl))))))))
     (lawful_then _ _ _ _ _ _ AnyText (λ r. (r.a, r.b)) (λ a r h. ap (λ (x : LinkRest). (x.a, x.b)) h.1.1.1.1.1.1) (ends_lawful SelfLink nodes pairs) (λ ends.
-    lawful_then _ _ _ _ _ _ AnyText (λ r. r.fixed) (λ a r h. ap (λ (x : LinkRest). x.fixed) h.1.1.1.1.1) amount_lawful (λ fixed.
-    lawful_then _ _ _ _ _ _ AnyText (λ r. r.fixed_cost) (λ a r h. ap (λ (x : LinkRest). x.fixed_cost) h.1.1.1.1) amount_lawful (λ fixed_cost.
-    lawful_then _ _ _ _ _ _ AnyText (λ r. r.routing_cost) (λ a r h. ap (λ (x : LinkRest). x.routing_cost) h.1.1.1) amount_lawful (λ routing_cost.
-    lawful_then _ _ _ _ _ _ AnyText (λ r. r.setup) (λ a r h. ap (λ (x : LinkRest). x.setup) h.1.1) amount_lawful (λ setup.
+    lawful_then _ _ _ _ _ _ AnyText (λ r. r.fixed) (λ a r h. ap (λ (x : LinkRest). x.fixed) h.1.1.1.1.1) (amount_lawful p) (λ fixed.
+    lawful_then _ _ _ _ _ _ AnyText (λ r. r.fixed_cost) (λ a r h. ap (λ (x : LinkRest). x.fixed_cost) h.1.1.1.1) (amount_lawful p) (λ fixed_cost.
+    lawful_then _ _ _ _ _ _ AnyText (λ r. r.routing_cost) (λ a r h. ap (λ (x : LinkRest). x.routing_cost) h.1.1.1) (amount_lawful p) (λ routing_cost.
+    lawful_then _ _ _ _ _ _ AnyText (λ r. r.setup) (λ a r h. ap (λ (x : LinkRest). x.setup) h.1.1) (amount_lawful p) (λ setup.
     lawful_then _ _ _ _ _ _ AnyText (λ r. tt) (λ a r h. refl) (lawful_open Token Ended) (λ o.
-    lawful_then _ _ _ _ _ _ AnyText (λ r. r.modules) (λ a r h. ap (λ (x : LinkRest). x.modules) h) (modules_lawful fixed) (λ modules.
+    lawful_then _ _ _ _ _ _ AnyText (λ r. r.modules) (λ a r h. ap (λ (x : LinkRest). x.modules) h) (modules_lawful p fixed) (λ modules.
     lawful_give (record { a = ends.0; b = ends.1; fixed = fixed; fixed_cost = fixed_cost; routing_cost = routing_cost; setup = setup; modules = modules })))))))))
 
-link_lawful : (nodes : List (List ℕ)) → AreDifferent nodes → (sofar : List CostedLink) → Lawful (native_link_at nodes sofar) (link_items nodes) (IsLinkAfter nodes sofar) AnyText
+link_lawful : (p : Places) (nodes : List (List ℕ)) → AreDifferent nodes → (sofar : List CostedLink) → Lawful (native_link_at p nodes sofar) (link_items p nodes) (IsLinkAfter nodes sofar) AnyText
 unfolding native_link_at rest_items rest_of
-link_lawful nodes pairs sofar = lawful_as (native_link_at nodes sofar) _ (link_items nodes) _ (IsLinkAfter nodes sofar) AnyText
-    (λ l h. ap (λ (is : List Item). Verbatim l.link.name ∷ is) (append-nil (rest_items nodes (rest_of l))))
+link_lawful p nodes pairs sofar = lawful_as (native_link_at p nodes sofar) _ (link_items p nodes) _ (IsLinkAfter nodes sofar) AnyText
+    (λ l h. ap (λ (is : List Item). Verbatim l.link.name ∷ is) (append-nil (rest_items p nodes (rest_of l))))
     (λ l h. let r = h.1.0 in record { new = h.0; ends = r.ends; fixed = r.fixed; fixed_cost = r.fixed_cost; routing_cost = r.routing_cost; setup = r.setup; modules = r.modules })
     (λ l h. (h.new, (record { ends = h.ends; fixed = h.fixed; fixed_cost = h.fixed_cost; routing_cost = h.routing_cost; setup = h.setup; modules = h.modules }, refl)))
     (lawful_then _ _ _ _ _ _ AnyText (λ l. l.link.name) (λ a l h. ap (λ (x : CostedLink). x.link.name) h.1) (lawful_new_name (λ x. x.link.name) 256 (Limit limits.Name) DoubleName (Limit limits.Links) Token Ended sofar) (λ name.
-    lawful_then _ _ _ _ _ _ AnyText rest_of (λ a l h. ap rest_of h) (rest_lawful nodes pairs) (λ rest.
+    lawful_then _ _ _ _ _ _ AnyText rest_of (λ a l h. ap rest_of h) (rest_lawful p nodes pairs) (λ rest.
     lawful_give (named_link name rest))))
 
-pub links_lawful : (nodes : List (List ℕ)) → AreDifferent nodes → Lawful (costed_links_at nodes []) (λ ls. flat_map (link_items nodes) ls ++ Closing ∷ []) (λ ls. ComeAfter (IsLinkAfter nodes) [] ls) AnyText
-links_lawful nodes pairs = lawful_as (costed_links_at nodes []) _ (λ ls. flat_map (link_items nodes) ls ++ Closing ∷ []) _ (λ ls. ComeAfter (IsLinkAfter nodes) [] ls) AnyText (λ ls h. refl) (λ ls h. h.1) (λ ls h. (refl, h))
-    (lawful_list Parenthesis no_fault (native_link_at nodes) (link_items nodes) (IsLinkAfter nodes) (λ l. tt) (link_lawful nodes pairs))
+pub links_lawful : (p : Places) (nodes : List (List ℕ)) → AreDifferent nodes → Lawful (costed_links_at p nodes []) (λ ls. flat_map (link_items p nodes) ls ++ Closing ∷ []) (λ ls. ComeAfter (IsLinkAfter nodes) [] ls) AnyText
+links_lawful p nodes pairs = lawful_as (costed_links_at p nodes []) _ (λ ls. flat_map (link_items p nodes) ls ++ Closing ∷ []) _ (λ ls. ComeAfter (IsLinkAfter nodes) [] ls) AnyText (λ ls h. refl) (λ ls h. h.1) (λ ls h. (refl, h))
+    (lawful_list Parenthesis no_fault (native_link_at p nodes) (link_items p nodes) (IsLinkAfter nodes) (λ l. tt) (link_lawful p nodes pairs))
 
 -- all links together
 pub record AreLinks (nodes : List (List ℕ)) (links : List CostedLink) : Type 0 where
@@ -184,7 +185,7 @@ pub record IsDemandAfter (nodes : List (List ℕ)) (sofar : List Demand) (d : De
   pub below : needs_in_all sofar + d.need < 2 ^ 44
 
 -- how what a demand has after its name is spelled
-pub record SpellsRest (nodes : List (List ℕ)) (before : ℕ) (r : DemandRest) (items : List Item) : Type 0 where
+pub record SpellsRest (p : Places) (nodes : List (List ℕ)) (before : ℕ) (r : DemandRest) (items : List Item) : Type 0 where
   pub ends : AreEnds nodes r.from r.to
   pub need : r.need < 2 ^ 40
   pub below : before + r.need < 2 ^ 44
@@ -194,8 +195,8 @@ pub record SpellsRest (nodes : List (List ℕ)) (before : ℕ) (r : DemandRest) 
   pub units : ℕ
   pub each : ℕ
   pub items_are : items ≡ node_pair_items nodes r.from r.to ++ Verbatim unit ∷ Verbatim amount ∷ Verbatim hops ∷ []
-  pub unit_is : units_of unit ≡ Ok units
-  pub amount_is : amount_of amount ≡ Ok each
+  pub unit_is : units_of p unit ≡ Ok units
+  pub amount_is : amount_of p amount ≡ Ok each
   pub need_is : r.need ≡ units * each
   pub hops_are : IsHops hops
 
@@ -203,15 +204,15 @@ joined : (is j2 k2 j3 k3 j4 k4 j5 k5 ends : List Item) (u a h : List ℕ) → is
     → is ≡ ends ++ Verbatim u ∷ Verbatim a ∷ Verbatim h ∷ []
 joined is j2 k2 j3 k3 j4 k4 j5 k5 ends u a h e3 e4 e5 e6 e7 e8 e9 e10 e11 = rw (e3, e4, e5, e6, e7, e8, e9, e10, e11) refl
 
-rest_spelled : (nodes : List (List ℕ)) → AreDifferent nodes → (before : ℕ) → Spelled (demand_rest_at nodes before) (SpellsRest nodes before) AnyText
+rest_spelled : (p : Places) (nodes : List (List ℕ)) → AreDifferent nodes → (before : ℕ) → Spelled (demand_rest_at p nodes before) (SpellsRest p nodes before) AnyText
 unfolding demand_rest_at
-rest_spelled nodes pairs before = spelled_as (demand_rest_at nodes before) _ (SpellsRest nodes before) AnyText
+rest_spelled p nodes pairs before = spelled_as (demand_rest_at p nodes before) _ (SpellsRest p nodes before) AnyText
     (λ r is e.
     let u = e.4 in
     let n = u.4 in
     let h = n.4 in
-    let needed = need_takes before u.0 n.3.0 n.0 n.3.1 in
-    subst (λ (x : DemandRest). SpellsRest nodes before x is) h.4.0 (record {
+    let needed = need_takes p before u.0 n.3.0 n.0 n.3.1 in
+    subst (λ (x : DemandRest). SpellsRest p nodes before x is) h.4.0 (record {
       ends = e.3.0;
       need = needed.small;
       below = needed.below;
@@ -221,7 +222,7 @@ rest_spelled nodes pairs before = spelled_as (demand_rest_at nodes before) _ (Sp
       units = u.0;
       each = needed.each;
       items_are = joined is e.1 e.2 u.1 u.2 n.1 n.2 h.1 h.2 (node_pair_items nodes e.0.0 e.0.1) u.3.0 n.3.0 h.3.0 e.5 e.3.1 u.5 u.3.2 n.5 n.3.2 h.5 h.3.2 h.4.1;
-      unit_is = number_takes Number (units_of u.3.0) u.0 u.3.1;
+      unit_is = number_takes Number (units_of p u.3.0) u.0 u.3.1;
       amount_is = needed.amount_is;
       need_is = needed.need_is;
       hops_are = hops_takes h.3.0 h.0 h.3.1;
@@ -240,7 +241,7 @@ rest_spelled nodes pairs before = spelled_as (demand_rest_at nodes before) _ (Sp
           r.need,
           Verbatim t.amount ∷ [],
           Verbatim t.hops ∷ [],
-          (t.amount, need_again before t.units t.amount t.each r.need t.amount_is t.need_is t.need t.below, refl),
+          (t.amount, need_again p before t.units t.amount t.each r.need t.amount_is t.need_is t.need t.below, refl),
           (
             tt,
             Verbatim t.hops ∷ [],
@@ -256,21 +257,21 @@ rest_spelled nodes pairs before = spelled_as (demand_rest_at nodes before) _ (Sp
       t.items_are,
     ))
     (spelled_then _ _ _ _ AnyText (spelled_law (ends_at SelfDemand nodes) _ _ AnyText (ends_lawful SelfDemand nodes pairs)) (λ ends js s.
-    spelled_then _ _ _ _ AnyText (spelled_word Token Ended unit) (λ units js s.
-    spelled_then _ _ _ _ AnyText (spelled_word Token Ended (need before units)) (λ needed js s.
+    spelled_then _ _ _ _ AnyText (spelled_word Token Ended (unit p)) (λ units js s.
+    spelled_then _ _ _ _ AnyText (spelled_word Token Ended (need p before units)) (λ needed js s.
     spelled_then _ _ _ _ AnyText (spelled_word Token Ended hops) (λ h js s.
     spelled_give _)))))
 
 after_name : (is js ks j2 k2 rest : List Item) (n : List ℕ) → is ≡ js ++ ks → js ≡ Verbatim n ∷ [] → ks ≡ j2 ++ k2 → j2 ≡ rest → k2 ≡ [] → is ≡ Verbatim n ∷ rest
 after_name is js ks j2 k2 rest n e1 e2 e3 e4 e5 = rw (e1, e2, e3, e4, e5) (ap (λ (xs : List Item). Verbatim n ∷ xs) (append-nil rest))
 
-demand_spelled : (nodes : List (List ℕ)) → AreDifferent nodes → (sofar : List Demand) → Spelled (native_demand_at nodes sofar) (λ d is. IsDemandAfter nodes sofar d × SpellsDemand nodes d is) AnyText
+demand_spelled : (p : Places) (nodes : List (List ℕ)) → AreDifferent nodes → (sofar : List Demand) → Spelled (native_demand_at p nodes sofar) (λ d is. IsDemandAfter nodes sofar d × SpellsDemand p nodes d is) AnyText
 unfolding native_demand_at
-demand_spelled nodes pairs sofar = spelled_as (native_demand_at nodes sofar) _ (λ d is. IsDemandAfter nodes sofar d × SpellsDemand nodes d is) AnyText
+demand_spelled p nodes pairs sofar = spelled_as (native_demand_at p nodes sofar) _ (λ d is. IsDemandAfter nodes sofar d × SpellsDemand p nodes d is) AnyText
     (λ d is s.
     let r = s.4 in
     let t = r.3 in
-    subst (λ (x : Demand). IsDemandAfter nodes sofar x × SpellsDemand nodes x is) r.4.0 (
+    subst (λ (x : Demand). IsDemandAfter nodes sofar x × SpellsDemand p nodes x is) r.4.0 (
       record { new = s.3.0; ends = t.ends; need = t.need; below = t.below },
       record {
         unit = t.unit;
@@ -319,17 +320,17 @@ demand_spelled nodes pairs sofar = spelled_as (native_demand_at nodes sofar) _ (
       t.items_are,
     ))
     (spelled_then _ _ _ _ AnyText (spelled_law _ _ _ AnyText (lawful_new_name (λ x. x.name) 2048 (Limit limits.Name) DoubleName (Limit limits.Demands) Token Ended sofar)) (λ name js s.
-    spelled_then _ _ _ _ AnyText (rest_spelled nodes pairs (needs_in_all sofar)) (λ rest js s.
+    spelled_then _ _ _ _ AnyText (rest_spelled p nodes pairs (needs_in_all sofar)) (λ rest js s.
     spelled_give _)))
 
-demand_starts : (nodes : List (List ℕ)) (sofar : List Demand) (d : Demand) (is : List Item) → IsDemandAfter nodes sofar d × SpellsDemand nodes d is → Starts is
-demand_starts nodes sofar d is s = let t = s.1 in subst Starts (sym t.items_are) tt
+demand_starts : (p : Places) (nodes : List (List ℕ)) (sofar : List Demand) (d : Demand) (is : List Item) → IsDemandAfter nodes sofar d × SpellsDemand p nodes d is → Starts is
+demand_starts p nodes sofar d is s = let t = s.1 in subst Starts (sym t.items_are) tt
 
-pub demands_spelled : (nodes : List (List ℕ)) → AreDifferent nodes → Spelled (native_demands_at nodes []) (λ ds is. (js : List Item) × ComeAfter (IsDemandAfter nodes) [] ds × AreSpelled (SpellsDemand nodes) ds js × (is ≡ js ++ Closing ∷ [])) AnyText
-demands_spelled nodes pairs = spelled_as (native_demands_at nodes []) _ _ AnyText
-    (λ ds is s. let p = after_parts (IsDemandAfter nodes) (SpellsDemand nodes) [] ds s.1.0 s.1.1 in (s.1.0, p.0, p.1, s.1.2))
-    (λ ds is s. (refl, (s.0, parts_after (IsDemandAfter nodes) (SpellsDemand nodes) [] ds s.0 s.1 s.2, s.3)))
-    (spelled_list no_fault (native_demand_at nodes) (λ sofar d is. IsDemandAfter nodes sofar d × SpellsDemand nodes d is) (demand_starts nodes) (demand_spelled nodes pairs))
+pub demands_spelled : (p : Places) (nodes : List (List ℕ)) → AreDifferent nodes → Spelled (native_demands_at p nodes []) (λ ds is. (js : List Item) × ComeAfter (IsDemandAfter nodes) [] ds × AreSpelled (SpellsDemand p nodes) ds js × (is ≡ js ++ Closing ∷ [])) AnyText
+demands_spelled p nodes pairs = spelled_as (native_demands_at p nodes []) _ _ AnyText
+    (λ ds is s. let both = after_parts (IsDemandAfter nodes) (SpellsDemand p nodes) [] ds s.1.0 s.1.1 in (s.1.0, both.0, both.1, s.1.2))
+    (λ ds is s. (refl, (s.0, parts_after (IsDemandAfter nodes) (SpellsDemand p nodes) [] ds s.0 s.1 s.2, s.3)))
+    (spelled_list no_fault (native_demand_at p nodes) (λ sofar d is. IsDemandAfter nodes sofar d × SpellsDemand p nodes d is) (demand_starts p nodes) (demand_spelled p nodes pairs))
 
 -- the need of all, one by one
 total_below : (sofar ds : List Demand) → needs_in_all sofar < 2 ^ 44 → ComeAfter (λ before d. needs_in_all before + d.need < 2 ^ 44) sofar ds → needs_in_all (sofar ++ ds) < 2 ^ 44
@@ -354,16 +355,16 @@ are_demands nodes ds all =
       total = total_below [] ds (omega arith) (after_as (IsDemandAfter nodes) (λ before d. needs_in_all before + d.need < 2 ^ 44) [] ds (λ before d h. h.below) all);
     }
 
-spelled_short : (nodes : List (List ℕ)) (ds : List Demand) (is : List Item) → AreSpelled (SpellsDemand nodes) ds is → (sofar : List Demand) → ComeAfter (λ before d. length d.name ≤ 255) sofar ds
-spelled_short nodes [] is s sofar = tt
-spelled_short nodes (d ∷ ds) is s sofar = let t = s.2 in (t.short, spelled_short nodes ds s.1 s.3 (sofar ++ d ∷ []))
+spelled_short : (p : Places) (nodes : List (List ℕ)) (ds : List Demand) (is : List Item) → AreSpelled (SpellsDemand p nodes) ds is → (sofar : List Demand) → ComeAfter (λ before d. length d.name ≤ 255) sofar ds
+spelled_short p nodes [] is s sofar = tt
+spelled_short p nodes (d ∷ ds) is s sofar = let t = s.2 in (t.short, spelled_short p nodes ds s.1 s.3 (sofar ++ d ∷ []))
 
-pub demands_are : (nodes : List (List ℕ)) (ds : List Demand) (is : List Item) → All (λ n. length n ≤ 255) nodes → AreDemands (length nodes) ds → AreSpelled (SpellsDemand nodes) ds is → ComeAfter (IsDemandAfter nodes) [] ds
-demands_are nodes ds is short are spelled =
+pub demands_are : (p : Places) (nodes : List (List ℕ)) (ds : List Demand) (is : List Item) → All (λ n. length n ≤ 255) nodes → AreDemands (length nodes) ds → AreSpelled (SpellsDemand p nodes) ds is → ComeAfter (IsDemandAfter nodes) [] ds
+demands_are p nodes ds is short are spelled =
     after_as _ (IsDemandAfter nodes) [] ds
     (λ before d h.
     let one = h.1.1 in
     record { new = h.0; ends = ((one.from_known, short d.from.0 [] one.from_known), (one.different, (one.to_known, short d.to.0 [] one.to_known))); need = one.need; below = h.1.0 })
     (after_both (λ before d. IsNew (λ x. x.name) 2048 before d.name) (λ before d. (needs_in_all before + d.need < 2 ^ 44) × IsDemand (length nodes) d) [] ds
-    (new_are (λ (x : Demand). x.name) 2048 ds are.few are.different (after_all (λ (d : Demand). length d.name ≤ 255) [] ds (spelled_short nodes ds is spelled [])))
+    (new_are (λ (x : Demand). x.name) 2048 ds are.few are.different (after_all (λ (d : Demand). length d.name ≤ 255) [] ds (spelled_short p nodes ds is spelled [])))
     (after_both (λ before d. needs_in_all before + d.need < 2 ^ 44) (λ before d. IsDemand (length nodes) d) [] ds (below_total [] ds are.total) (all_after (IsDemand (length nodes)) [] ds are.each)))

@@ -5,3 +5,4 @@ pub mod Nodes
 pub mod Online
 pub mod Laws
 pub mod Whole
+pub mod ItsPlaces

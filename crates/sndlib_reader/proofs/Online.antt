@@ -3,6 +3,7 @@ use Rattle.std.proofs.Common.{ℕ, true, false, List, [], Ok, Err, refl}
 use Rattle.std.specs.Prelude.{codes}
 use Rattle.net_core.specs.declared.demand.Demand.{Demand}
 use Rattle.net_core.specs.declared.network.Module.{Module}
+use Rattle.net_core.specs.declared.places.Places.{Places}
 use Rattle.text_kit.specs.Reading.{Reading, word_at, expected, Parenthesis, no_fault, list_at, each_at}
 use Rattle.text_kit.proofs.Online.{IsOnline, TakesSome, online_close, online_end, online_give, online_list, online_open, online_step, online_then, online_word, takes_some}
 use Rattle.sndlib_reader.specs.declared.costs.CostedLink.{CostedLink}
@@ -22,59 +23,59 @@ ends_online kind nodes =
     online_then _ _ (online_close Token Ended) (λ c.
     online_give _))))
 
-module_online : (sofar : List Module) → IsOnline (module_at sofar)
+module_online : (p : Places) (sofar : List Module) → IsOnline (module_at p sofar)
 unfolding module_at
-module_online sofar =
-    online_then _ _ (online_word Token Ended (capacity sofar)) (λ capacity.
-    online_then _ _ (online_word Token Ended amount) (λ cost.
+module_online p sofar =
+    online_then _ _ (online_word Token Ended (capacity p sofar)) (λ capacity.
+    online_then _ _ (online_word Token Ended (amount p)) (λ cost.
     online_give (record { capacity = capacity; cost = cost })))
 
-pub module_some : (sofar : List Module) → TakesSome (module_at sofar)
+pub module_some : (p : Places) (sofar : List Module) → TakesSome (module_at p sofar)
 unfolding module_at
-module_some sofar = takes_some (module_at sofar) (module_online sofar) (λ p. Ended) (λ p. refl)
+module_some p sofar = takes_some (module_at p sofar) (module_online p sofar) (λ at. Ended) (λ at. refl)
 
-link_rest_online : (nodes : List (List ℕ)) → IsOnline (link_rest_at nodes)
+link_rest_online : (p : Places) (nodes : List (List ℕ)) → IsOnline (link_rest_at p nodes)
 unfolding link_rest_at
-link_rest_online nodes =
+link_rest_online p nodes =
     online_then _ _ (ends_online SelfLink nodes) (λ ends.
-    online_then _ _ (online_word Token Ended amount) (λ fixed.
-    online_then _ _ (online_word Token Ended amount) (λ fixed_cost.
-    online_then _ _ (online_word Token Ended amount) (λ routing_cost.
-    online_then _ _ (online_word Token Ended amount) (λ setup.
+    online_then _ _ (online_word Token Ended (amount p)) (λ fixed.
+    online_then _ _ (online_word Token Ended (amount p)) (λ fixed_cost.
+    online_then _ _ (online_word Token Ended (amount p)) (λ routing_cost.
+    online_then _ _ (online_word Token Ended (amount p)) (λ setup.
     online_then _ _ (online_open Token Ended) (λ o.
-    online_then _ _ (online_list Parenthesis (unserved fixed) module_at module_online module_some []) (λ modules.
+    online_then _ _ (online_list Parenthesis (unserved fixed) (module_at p) (module_online p) (module_some p) []) (λ modules.
     online_give _)))))))
 
-link_online : (nodes : List (List ℕ)) (sofar : List CostedLink) → IsOnline (native_link_at nodes sofar)
+link_online : (p : Places) (nodes : List (List ℕ)) (sofar : List CostedLink) → IsOnline (native_link_at p nodes sofar)
 unfolding native_link_at
-link_online nodes sofar =
+link_online p nodes sofar =
     online_then _ _ (online_word Token Ended _) (λ name.
-    online_then _ _ (link_rest_online nodes) (λ rest.
+    online_then _ _ (link_rest_online p nodes) (λ rest.
     online_give _))
 
-pub link_some : (nodes : List (List ℕ)) (sofar : List CostedLink) → TakesSome (native_link_at nodes sofar)
+pub link_some : (p : Places) (nodes : List (List ℕ)) (sofar : List CostedLink) → TakesSome (native_link_at p nodes sofar)
 unfolding native_link_at
-link_some nodes sofar = takes_some (native_link_at nodes sofar) (link_online nodes sofar) (λ p. Ended) (λ p. refl)
+link_some p nodes sofar = takes_some (native_link_at p nodes sofar) (link_online p nodes sofar) (λ at. Ended) (λ at. refl)
 
-demand_rest_online : (nodes : List (List ℕ)) (before : ℕ) → IsOnline (demand_rest_at nodes before)
+demand_rest_online : (p : Places) (nodes : List (List ℕ)) (before : ℕ) → IsOnline (demand_rest_at p nodes before)
 unfolding demand_rest_at
-demand_rest_online nodes before =
+demand_rest_online p nodes before =
     online_then _ _ (ends_online SelfDemand nodes) (λ ends.
-    online_then _ _ (online_word Token Ended unit) (λ units.
-    online_then _ _ (online_word Token Ended (need before units)) (λ needed.
+    online_then _ _ (online_word Token Ended (unit p)) (λ units.
+    online_then _ _ (online_word Token Ended (need p before units)) (λ needed.
     online_then _ _ (online_word Token Ended hops) (λ h.
     online_give _))))
 
-demand_online : (nodes : List (List ℕ)) (sofar : List Demand) → IsOnline (native_demand_at nodes sofar)
+demand_online : (p : Places) (nodes : List (List ℕ)) (sofar : List Demand) → IsOnline (native_demand_at p nodes sofar)
 unfolding native_demand_at
-demand_online nodes sofar =
+demand_online p nodes sofar =
     online_then _ _ (online_word Token Ended _) (λ name.
-    online_then _ _ (demand_rest_online nodes (needs_in_all sofar)) (λ rest.
+    online_then _ _ (demand_rest_online p nodes (needs_in_all sofar)) (λ rest.
     online_give _))
 
-pub demand_some : (nodes : List (List ℕ)) (sofar : List Demand) → TakesSome (native_demand_at nodes sofar)
+pub demand_some : (p : Places) (nodes : List (List ℕ)) (sofar : List Demand) → TakesSome (native_demand_at p nodes sofar)
 unfolding native_demand_at
-demand_some nodes sofar = takes_some (native_demand_at nodes sofar) (demand_online nodes sofar) (λ p. Ended) (λ p. refl)
+demand_some p nodes sofar = takes_some (native_demand_at p nodes sofar) (demand_online p nodes sofar) (λ at. Ended) (λ at. refl)
 
 -- ---- paths
 
@@ -134,25 +135,25 @@ meta_online true =
     online_word Section Ended (expected Section (codes "NODES"))))
 meta_online false = online_give tt
 
-after_links_online : (nodes links : List (List ℕ)) → IsOnline (after_links_at nodes links)
+after_links_online : (p : Places) (nodes links : List (List ℕ)) → IsOnline (after_links_at p nodes links)
 unfolding after_links_at
-after_links_online nodes links =
-    online_then _ _ (section_online (codes "DEMANDS") (native_demands_at nodes []) (online_list Parenthesis no_fault (native_demand_at nodes) (demand_online nodes) (demand_some nodes) [])) (λ demands.
-    online_then _ _ (paths_online _ _) (λ p.
+after_links_online p nodes links =
+    online_then _ _ (section_online (codes "DEMANDS") (native_demands_at p nodes []) (online_list Parenthesis no_fault (native_demand_at p nodes) (demand_online p nodes) (demand_some p nodes) [])) (λ demands.
+    online_then _ _ (paths_online _ _) (λ x.
     online_give demands))
 
-after_nodes_online : (nodes : List (List ℕ)) → IsOnline (after_nodes_at nodes)
+after_nodes_online : (p : Places) (nodes : List (List ℕ)) → IsOnline (after_nodes_at p nodes)
 unfolding after_nodes_at
-after_nodes_online nodes =
-    online_then _ _ (section_online (codes "LINKS") (costed_links_at nodes []) (online_list Parenthesis no_fault (native_link_at nodes) (link_online nodes) (link_some nodes) [])) (λ links.
-    online_then _ _ (after_links_online nodes _) (λ demands.
+after_nodes_online p nodes =
+    online_then _ _ (section_online (codes "LINKS") (costed_links_at p nodes []) (online_list Parenthesis no_fault (native_link_at p nodes) (link_online p nodes) (link_some p nodes) [])) (λ links.
+    online_then _ _ (after_links_online p nodes _) (λ demands.
     online_give (links, demands)))
 
-pub sections_online : IsOnline native_sections_at
+pub sections_online : (p : Places) → IsOnline (native_sections_at p)
 unfolding native_sections_at
-sections_online =
+sections_online p =
     online_then start_at _ (online_then _ after_meta (online_word Section Ended is_meta) meta_online) (λ s.
     online_then _ _ (online_open Section Ended) (λ o.
     online_then (native_nodes_at []) _ (online_then (list_at Parenthesis no_fault part_at []) _ (online_list Parenthesis no_fault part_at part_online part_some []) (λ xs. online_give (names_of xs))) (λ nodes.
-    online_then _ _ (after_nodes_online nodes) (λ rest.
-    online_give (parts nodes rest.0, rest.1)))))
+    online_then _ _ (after_nodes_online p nodes) (λ rest.
+    online_give (parts p nodes rest.0, rest.1)))))

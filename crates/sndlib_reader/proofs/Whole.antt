@@ -1,5 +1,5 @@
 -- Paths, sections and whole files: what is read is spelled, and what is spelled is read.
-use Rattle.std.proofs.Common.{◌≡◌, ◌≢◌, ℕ, ◌≤◌, Bool, true, false, cond, List, [], ◌∷◌, ◌++◌, map, length, All, AllPairs, Result, Ok, Err, IfOk, IfErr, refl, sym, ap, subst, ◌∙◌, append-nil, append_assoc, ◌||◌, inl, inr}
+use Rattle.std.proofs.Common.{◌≡◌, ◌≢◌, ℕ, ◌≤◌, Bool, true, false, cond, List, [], ◌∷◌, ◌++◌, map, length, All, AllPairs, Result, Ok, Err, refl, sym, ap, subst, ◌∙◌, append-nil, append_assoc, ◌||◌, inl, inr}
 use Rattle.std.specs.Prelude.{codes, flat_map}
 use Rattle.std.specs.List.{AllByRecursion}
 use Rattle.std.proofs.lemmas.List.{length-map, map_push}
@@ -9,16 +9,17 @@ use Rattle.net_core.specs.Tests.{are_same, is_named}
 use Rattle.net_core.specs.declared.demand.Demand.{Demand}
 use Rattle.net_core.specs.declared.network.Link.{Link}
 use Rattle.net_core.specs.declared.network.Network.{Network}
+use Rattle.net_core.specs.declared.places.Places.{Places}
 use Rattle.snd_tokens.specs.Header.{first_line, trimmed}
 use Rattle.snd_tokens.specs.Lexemes.{Text, WordAt, OpenAt, CloseAt, EndAt}
 use Rattle.text_kit.specs.Answers.{ReadsAllAs, ReadsAs}
-use Rattle.text_kit.specs.Files.{IsNotTooEarly, body}
+use Rattle.text_kit.specs.Files.{body}
 use Rattle.text_kit.specs.Items.{ComeAfter, AreSpelled, Item, Verbatim, Opening, Closing, Begins}
 use Rattle.text_kit.specs.Reading.{Read, Reading, after, give, placed, ◌>>=◌, word_at, open_at, end_at, expected, Parenthesis, no_fault, list_at, each_at}
 use Rattle.text_kit.specs.declared.refusal.Refusal.{Refusal}
 use Rattle.text_kit.specs.declared.refusal.Refusal.TheVariants.{Bad, NoMemory}
 use Rattle.text_kit.proofs.After.{after_all, after_differ, differ_after}
-use Rattle.text_kit.proofs.Files.{first_spelled, found_spelled, only_spelled, spelled_read}
+use Rattle.text_kit.proofs.Files.{spelled_read}
 use Rattle.text_kit.proofs.Lawful.{AnyText, IsEnd, Starts, lawful_key, lawful_open}
 use Rattle.text_kit.proofs.Online.{ok_parts}
 use Rattle.text_kit.proofs.Spelled.{Spelled, after_parts, parts_after, spelled_as, spelled_give, spelled_law, spelled_list, spelled_then, spelled_word}
@@ -27,14 +28,14 @@ use Rattle.sndlib_reader.specs.declared.fault.ReadKind.{ReadKind}
 use Rattle.sndlib_reader.specs.declared.fault.ReadKind.TheVariants.{Header, Section, Token, Ended}
 use Rattle.sndlib_reader.specs.Balance.{IsSkipped}
 use Rattle.sndlib_reader.specs.Paths.{AreMany, ArePaths, AreSome, IsKnownName, IsPathLine, IsNamedPath, IsShortName}
-use Rattle.sndlib_reader.specs.Spelling.{IsMeta, IsShortLink, NodePart, NodeName, Coordinates, Parts, Spells, SpellsDemand, SpellsParts, SpellsPart, header, link_items, names_of, notes_of, parts_of}
-use Rattle.sndlib_reader.specs.Reading.{IsFirstFault, path_name, known_name, native_section_at, part_at, native_nodes_at, costed_links_at, native_demands_at, some_at, native_path_at, path_line_at, is_meta, after_meta, start_at, is_paths, after_paths, paths_at, parts, after_links_at, after_nodes_at, native_sections_at, network_of}
+use Rattle.sndlib_reader.specs.NetworkFiles.{network_in}
+use Rattle.sndlib_reader.specs.Spelling.{IsMeta, IsShortLink, NodePart, NodeName, Coordinates, Parts, SpellsDemand, SpellsParts, SpellsPart, header, link_items, names_of, notes_of, parts_of}
+use Rattle.sndlib_reader.specs.Reading.{path_name, known_name, native_section_at, part_at, native_nodes_at, costed_links_at, native_demands_at, some_at, native_path_at, path_line_at, is_meta, after_meta, start_at, is_paths, after_paths, paths_at, parts, after_links_at, after_nodes_at, native_sections_at}
 use Rattle.sndlib_reader.proofs.WordTests.{known_again, known_takes, path_name_again, path_name_takes}
 use Rattle.text_kit.proofs.NameLaws.{IsNew, are_new, new_are}
 use Rattle.sndlib_reader.proofs.Skipped.{skipped_spelled}
 use Rattle.sndlib_reader.proofs.Nodes.{IsNewPart, are_parts, part_spelled, parts_are, parts_short}
 use Rattle.sndlib_reader.proofs.Laws.{AreDifferent, AreLinks, IsDemandAfter, IsLinkAfter, are_demands, are_links, demands_are, demands_spelled, links_are, links_lawful}
-use Rattle.sndlib_reader.proofs.Online.{sections_online}
 use Rattle.net_core.proofs.Checks.{same_is}
 use Rattle.text_kit.specs.Edits.{section}
 
@@ -268,11 +269,11 @@ nodes_new nodes is s = subst (λ (ns : List (List ℕ)). (length ns ≤ 128) × 
 -- ---- all sections
 
 -- links between parentheses, as they are read
-abbrev AreLinkItems : List (List ℕ) → List CostedLink → List Item → Type 0
-AreLinkItems nodes links is = ComeAfter (IsLinkAfter nodes) [] links × (is ≡ flat_map (link_items nodes) links ++ Closing ∷ [])
+abbrev AreLinkItems : Places → List (List ℕ) → List CostedLink → List Item → Type 0
+AreLinkItems p nodes links is = ComeAfter (IsLinkAfter nodes) [] links × (is ≡ flat_map (link_items p nodes) links ++ Closing ∷ [])
 
-abbrev AreDemandItems : List (List ℕ) → List Demand → List Item → Type 0
-AreDemandItems nodes demands is = (js : List Item) × ComeAfter (IsDemandAfter nodes) [] demands × AreSpelled (SpellsDemand nodes) demands js × (is ≡ js ++ Closing ∷ [])
+abbrev AreDemandItems : Places → List (List ℕ) → List Demand → List Item → Type 0
+AreDemandItems p nodes demands is = (js : List Item) × ComeAfter (IsDemandAfter nodes) [] demands × AreSpelled (SpellsDemand p nodes) demands js × (is ≡ js ++ Closing ∷ [])
 
 -- sections one after another
 abbrev whole_items : List Item → List Item → List Item → List Item → List Item → List Item
@@ -328,7 +329,7 @@ links_of_network nodes links net short = record {
     unmapped P (l ∷ ls) h = (h.0, unmapped P ls h.1)
 
 -- what the sections are made of, as it is read
-record AreSections (x : Parts × List Demand) (is : List Item) : Type 0 where
+record AreSections (p : Places) (x : Parts × List Demand) (is : List Item) : Type 0 where
   pub meta : List Item
   pub node_items : List Item
   pub part_items : List Item
@@ -337,18 +338,18 @@ record AreSections (x : Parts × List Demand) (is : List Item) : Type 0 where
   pub paths : List Item
   pub meta_is : IsMeta meta
   pub nodes : AreNodes x.0.nodes node_items
-  pub items_are : is ≡ whole_items meta nodes.1 (flat_map (link_items x.0.nodes) links) demand_items paths
+  pub items_are : is ≡ whole_items meta nodes.1 (flat_map (link_items p x.0.nodes) links) demand_items paths
   pub links_are : ComeAfter (IsLinkAfter x.0.nodes) [] links
-  pub demands_are : ComeAfter (IsDemandAfter x.0.nodes) [] x.1 × AreSpelled (SpellsDemand x.0.nodes) x.1 demand_items
+  pub demands_are : ComeAfter (IsDemandAfter x.0.nodes) [] x.1 × AreSpelled (SpellsDemand p x.0.nodes) x.1 demand_items
   pub paths_are : ArePaths (map (λ l. l.link.name) links) (map (λ d. d.name) x.1) paths
-  pub parts_are : parts x.0.nodes links ≡ x.0
+  pub parts_are : parts p x.0.nodes links ≡ x.0
 
-to_network : (x : Parts × List Demand) (is : List Item) → AreSections x is → SpellsParts x is
-to_network x is s =
+to_network : (p : Places) (x : Parts × List Demand) (is : List Item) → AreSections p x is → SpellsParts p x is
+to_network p x is s =
     let n = s.nodes in
     let d = s.demands_are in
     let order = parts_are [] n.0 n.2 in
-    let p = s.parts_are in
+    let are = s.parts_are in
     record {
       meta = s.meta;
       parts = n.0;
@@ -361,20 +362,21 @@ to_network x is s =
       parts_are = n.3;
       parts_in_order = order.1;
       nodes_are = n.4;
-      links_are = ap (λ (y : Parts). y.links) p;
+      links_are = ap (λ (y : Parts). y.links) are;
       links_short = (are_links x.0.nodes s.links s.links_are).short;
-      notes_are = ap (λ (y : Parts). y.notes) p;
-      network = subst (λ (ls : List Link). IsNetwork x.0.nodes ls) (ap (λ (y : Parts). y.links) p) (network_read x.0.nodes s.links s.node_items n s.links_are);
+      notes_are = ap (λ (y : Parts). y.notes) are;
+      places_are = ap (λ (y : Parts). y.places) are;
+      network = subst (λ (ls : List Link). IsNetwork x.0.nodes ls) (ap (λ (y : Parts). y.links) are) (network_read x.0.nodes s.links s.node_items n s.links_are);
       demands_are = d.1;
       belong = are_demands x.0.nodes x.1 d.0;
       paths_are = s.paths_are;
     }
 
-parts_equal : (nodes : List (List ℕ)) (links : List CostedLink) (p : Parts) → nodes ≡ p.nodes → map (λ l. l.link) links ≡ p.links → notes_of links ≡ p.notes → parts nodes links ≡ p
-parts_equal nodes links p a b c = rw (a, b, c) refl
+parts_equal : (p : Places) (nodes : List (List ℕ)) (links : List CostedLink) (x : Parts) → nodes ≡ x.nodes → map (λ l. l.link) links ≡ x.links → notes_of links ≡ x.notes → p ≡ x.places → parts p nodes links ≡ x
+parts_equal p nodes links x a b c d = rw (a, b, c, d) refl
 
-of_network : (x : Parts × List Demand) (is : List Item) → SpellsParts x is → AreSections x is
-of_network x is s =
+of_network : (p : Places) (x : Parts × List Demand) (is : List Item) → SpellsParts p x is → AreSections p x is
+of_network p x is s =
     let net : IsNetwork x.0.nodes (map (λ l. l.link) s.links) = subst (λ (ls : List Link). IsNetwork x.0.nodes ls) (sym s.links_are) s.network in
     let short_parts : All (λ n. length n ≤ 255) (names_of s.parts) = after_all (λ (n : List ℕ). length n ≤ 255) [] (names_of s.parts) (parts_short [] s.parts s.parts_in_order) in
     let short : All (λ n. length n ≤ 255) x.0.nodes = subst (λ (ns : List (List ℕ)). All (λ n. length n ≤ 255) ns) s.nodes_are short_parts in
@@ -390,46 +392,46 @@ of_network x is s =
       nodes = (s.parts, s.part_items, are_parts [] s.parts new s.parts_in_order, s.parts_are, s.nodes_are, refl);
       items_are = s.items_are;
       links_are = links_are x.0.nodes s.links short (links_of_network x.0.nodes s.links net s.links_short);
-      demands_are = (demands_are x.0.nodes x.1 s.demand_items short s.belong s.demands_are, s.demands_are);
+      demands_are = (demands_are p x.0.nodes x.1 s.demand_items short s.belong s.demands_are, s.demands_are);
       paths_are = s.paths_are;
-      parts_are = parts_equal x.0.nodes s.links x.0 refl s.links_are s.notes_are;
+      parts_are = parts_equal p x.0.nodes s.links x.0 refl s.links_are s.notes_are s.places_are;
     }
 
 -- the same readings, none inside another
-abbrev then_last : List (List ℕ) → List CostedLink → List Demand → Unit {0} → Reading ReadKind (Parts × List Demand)
-then_last nodes links demands u = give (parts nodes links, demands)
+abbrev then_last : Places → List (List ℕ) → List CostedLink → List Demand → Unit {0} → Reading ReadKind (Parts × List Demand)
+then_last p nodes links demands u = give (parts p nodes links, demands)
 
-abbrev then_paths : List (List ℕ) → List CostedLink → List Demand → Reading ReadKind (Parts × List Demand)
-then_paths nodes links demands = paths_at (map (λ l. l.link.name) links) (map (λ d. d.name) demands) >>= then_last nodes links demands
+abbrev then_paths : Places → List (List ℕ) → List CostedLink → List Demand → Reading ReadKind (Parts × List Demand)
+then_paths p nodes links demands = paths_at (map (λ l. l.link.name) links) (map (λ d. d.name) demands) >>= then_last p nodes links demands
 
-abbrev then_demands : List (List ℕ) → List CostedLink → Reading ReadKind (Parts × List Demand)
-then_demands nodes links = native_section_at (codes "DEMANDS") (native_demands_at nodes []) >>= then_paths nodes links
+abbrev then_demands : Places → List (List ℕ) → List CostedLink → Reading ReadKind (Parts × List Demand)
+then_demands p nodes links = native_section_at (codes "DEMANDS") (native_demands_at p nodes []) >>= then_paths p nodes links
 
-abbrev then_links : List (List ℕ) → Reading ReadKind (Parts × List Demand)
-then_links nodes = native_section_at (codes "LINKS") (costed_links_at nodes []) >>= then_demands nodes
+abbrev then_links : Places → List (List ℕ) → Reading ReadKind (Parts × List Demand)
+then_links p nodes = native_section_at (codes "LINKS") (costed_links_at p nodes []) >>= then_demands p nodes
 
-abbrev then_nodes : Unit {0} → Reading ReadKind (Parts × List Demand)
-then_nodes o = native_nodes_at [] >>= then_links
+abbrev then_nodes : Places → Unit {0} → Reading ReadKind (Parts × List Demand)
+then_nodes p o = native_nodes_at [] >>= then_links p
 
-abbrev then_open : Unit {0} → Reading ReadKind (Parts × List Demand)
-then_open s = open_at Section Ended >>= then_nodes
+abbrev then_open : Places → Unit {0} → Reading ReadKind (Parts × List Demand)
+then_open p s = open_at Section Ended >>= then_nodes p
 
-unfoldable in_a_row : Reading ReadKind (Parts × List Demand)
-in_a_row = start_at >>= then_open
+unfoldable in_a_row : Places → Reading ReadKind (Parts × List Demand)
+in_a_row p = start_at >>= then_open p
 
-in_a_row_spelled : Spelled in_a_row SpellsParts IsEnd
+in_a_row_spelled : (p : Places) → Spelled (in_a_row p) (SpellsParts p) IsEnd
 unfolding in_a_row
-in_a_row_spelled = spelled_as in_a_row _ SpellsParts IsEnd
+in_a_row_spelled p = spelled_as (in_a_row p) _ (SpellsParts p) IsEnd
     (λ x is s.
     let m = s.3 in
     let o = s.4 in
     let n = o.4 in
     let l = n.4 in
     let d = l.4 in
-    let p = d.4 in
+    let e = d.4 in
     let nodes = n.3 in
-    subst (λ (y : Parts × List Demand). SpellsParts y is) p.2
-    (to_network (parts n.0 l.0, d.0) is (record {
+    subst (λ (y : Parts × List Demand). SpellsParts p y is) e.2
+    (to_network p (parts p n.0 l.0, d.0) is (record {
       meta = m.0;
       node_items = n.1;
       part_items = nodes.1;
@@ -438,16 +440,16 @@ in_a_row_spelled = spelled_as in_a_row _ SpellsParts IsEnd
       paths = d.2;
       meta_is = m.1;
       nodes = nodes;
-      items_are = all_joined is s.1 s.2 o.1 o.2 n.1 n.2 l.1 l.2 l.3.0 d.1 d.2 d.3.0 m.0 nodes.1 (flat_map (link_items n.0) l.0) d.3.1.0 s.5 m.2 o.5 o.3.1 n.5 nodes.5 l.5 l.3.2 l.3.1.1 d.5 d.3.2 d.3.1.3;
+      items_are = all_joined is s.1 s.2 o.1 o.2 n.1 n.2 l.1 l.2 l.3.0 d.1 d.2 d.3.0 m.0 nodes.1 (flat_map (link_items p n.0) l.0) d.3.1.0 s.5 m.2 o.5 o.3.1 n.5 nodes.5 l.5 l.3.2 l.3.1.1 d.5 d.3.2 d.3.1.3;
       links_are = l.3.1.0;
       demands_are = (d.3.1.1, d.3.1.2);
-      paths_are = p.1;
+      paths_are = e.1;
       parts_are = refl;
     })))
     (λ x is s.
-    let t = of_network x is s in
+    let t = of_network p x is s in
     let n = t.nodes in
-    let ls = flat_map (link_items x.0.nodes) t.links ++ Closing ∷ [] in
+    let ls = flat_map (link_items p x.0.nodes) t.links ++ Closing ∷ [] in
     let ds = t.demand_items ++ Closing ∷ [] in
     let links_text = Verbatim (codes "LINKS") ∷ Opening ∷ ls in
     let demands_text = Verbatim (codes "DEMANDS") ∷ Opening ∷ ds in
@@ -497,9 +499,9 @@ in_a_row_spelled = spelled_as in_a_row _ SpellsParts IsEnd
     spelled_then (open_at Section Ended) _ _ _ IsEnd (spelled_law (open_at Section Ended) _ _ AnyText (lawful_open Section Ended)) (λ o js s.
     spelled_then (native_nodes_at []) _ AreNodes _ IsEnd nodes_spelled (λ nodes js s.
     let different : AreDifferent nodes = (nodes_new nodes js s).1 in
-    spelled_then _ _ _ _ IsEnd (section_spelled (codes "LINKS") (costed_links_at nodes []) (AreLinkItems nodes) (spelled_law (costed_links_at nodes []) _ _ AnyText (links_lawful nodes different))) (λ links js s.
-    spelled_then _ _ _ _ IsEnd (section_spelled (codes "DEMANDS") (native_demands_at nodes []) (AreDemandItems nodes) (demands_spelled nodes different)) (λ demands js s.
-    spelled_given _ (λ u. (parts nodes links, demands)) _ IsEnd (paths_spelled _ _)))))))
+    spelled_then _ _ _ _ IsEnd (section_spelled (codes "LINKS") (costed_links_at p nodes []) (AreLinkItems p nodes) (spelled_law (costed_links_at p nodes []) _ _ AnyText (links_lawful p nodes different))) (λ links js s.
+    spelled_then _ _ _ _ IsEnd (section_spelled (codes "DEMANDS") (native_demands_at p nodes []) (AreDemandItems p nodes) (demands_spelled p nodes different)) (λ demands js s.
+    spelled_given _ (λ u. (parts p nodes links, demands)) _ IsEnd (paths_spelled _ _)))))))
 
 abbrev given_demands : List Demand → Unit {0} → Reading ReadKind (List Demand)
 given_demands demands u = give demands
@@ -507,57 +509,57 @@ given_demands demands u = give demands
 abbrev given_both : List CostedLink → List Demand → Reading ReadKind (List CostedLink × List Demand)
 given_both links demands = give (links, demands)
 
-abbrev given_parts : List (List ℕ) → List CostedLink × List Demand → Reading ReadKind (Parts × List Demand)
-given_parts nodes rest = give (parts nodes rest.0, rest.1)
+abbrev given_parts : Places → List (List ℕ) → List CostedLink × List Demand → Reading ReadKind (Parts × List Demand)
+given_parts p nodes rest = give (parts p nodes rest.0, rest.1)
 
 abbrev paths_of : List CostedLink → List Demand → Reading ReadKind (List Demand)
 paths_of links demands = paths_at (map (λ l. l.link.name) links) (map (λ d. d.name) demands) >>= given_demands demands
 
-abbrev links_of : List (List ℕ) → List CostedLink → Reading ReadKind (List CostedLink × List Demand)
-links_of nodes links = after_links_at nodes (map (λ l. l.link.name) links) >>= given_both links
+abbrev links_of : Places → List (List ℕ) → List CostedLink → Reading ReadKind (List CostedLink × List Demand)
+links_of p nodes links = after_links_at p nodes (map (λ l. l.link.name) links) >>= given_both links
 
-after_paths_read : (nodes : List (List ℕ)) (links : List CostedLink) (demands : List Demand) (read : Read ReadKind (Unit {0}))
-    → after (after (after read (given_demands demands)) (given_both links)) (given_parts nodes) ≡ after read (then_last nodes links demands)
-after_paths_read nodes links demands (Ok x) = refl
-after_paths_read nodes links demands (Err e) = refl
+after_paths_read : (p : Places) (nodes : List (List ℕ)) (links : List CostedLink) (demands : List Demand) (read : Read ReadKind (Unit {0}))
+    → after (after (after read (given_demands demands)) (given_both links)) (given_parts p nodes) ≡ after read (then_last p nodes links demands)
+after_paths_read p nodes links demands (Ok x) = refl
+after_paths_read p nodes links demands (Err e) = refl
 
-after_demands_read : (nodes : List (List ℕ)) (links : List CostedLink) (read : Read ReadKind (List Demand))
-    → after (after (after read (paths_of links)) (given_both links)) (given_parts nodes) ≡ after read (then_paths nodes links)
-after_demands_read nodes links (Ok x) = after_paths_read nodes links x.0 (paths_at (map (λ l. l.link.name) links) (map (λ d. d.name) x.0) x.1)
-after_demands_read nodes links (Err e) = refl
+after_demands_read : (p : Places) (nodes : List (List ℕ)) (links : List CostedLink) (read : Read ReadKind (List Demand))
+    → after (after (after read (paths_of links)) (given_both links)) (given_parts p nodes) ≡ after read (then_paths p nodes links)
+after_demands_read p nodes links (Ok x) = after_paths_read p nodes links x.0 (paths_at (map (λ l. l.link.name) links) (map (λ d. d.name) x.0) x.1)
+after_demands_read p nodes links (Err e) = refl
 
-after_links_read : (nodes : List (List ℕ)) (read : Read ReadKind (List CostedLink)) → after (after read (links_of nodes)) (given_parts nodes) ≡ after read (then_demands nodes)
+after_links_read : (p : Places) (nodes : List (List ℕ)) (read : Read ReadKind (List CostedLink)) → after (after read (links_of p nodes)) (given_parts p nodes) ≡ after read (then_demands p nodes)
 unfolding after_links_at
-after_links_read nodes (Ok x) = after_demands_read nodes x.0 (native_section_at (codes "DEMANDS") (native_demands_at nodes []) x.1)
-after_links_read nodes (Err e) = refl
+after_links_read p nodes (Ok x) = after_demands_read p nodes x.0 (native_section_at (codes "DEMANDS") (native_demands_at p nodes []) x.1)
+after_links_read p nodes (Err e) = refl
 
-after_nodes_read : (read : Read ReadKind (List (List ℕ))) → after read (λ nodes. after_nodes_at nodes >>= given_parts nodes) ≡ after read then_links
+after_nodes_read : (p : Places) (read : Read ReadKind (List (List ℕ))) → after read (λ nodes. after_nodes_at p nodes >>= given_parts p nodes) ≡ after read (then_links p)
 unfolding after_nodes_at
-after_nodes_read (Ok x) = after_links_read x.0 (native_section_at (codes "LINKS") (costed_links_at x.0 []) x.1)
-after_nodes_read (Err e) = refl
+after_nodes_read p (Ok x) = after_links_read p x.0 (native_section_at (codes "LINKS") (costed_links_at p x.0 []) x.1)
+after_nodes_read p (Err e) = refl
 
-abbrev nested_nodes : Unit {0} → Reading ReadKind (Parts × List Demand)
-nested_nodes o = native_nodes_at [] >>= λ nodes. after_nodes_at nodes >>= given_parts nodes
+abbrev nested_nodes : Places → Unit {0} → Reading ReadKind (Parts × List Demand)
+nested_nodes p o = native_nodes_at [] >>= λ nodes. after_nodes_at p nodes >>= given_parts p nodes
 
-after_open_read : (read : Read ReadKind (Unit {0})) → after read nested_nodes ≡ after read then_nodes
-after_open_read (Ok x) = after_nodes_read (native_nodes_at [] x.1)
-after_open_read (Err e) = refl
+after_open_read : (p : Places) (read : Read ReadKind (Unit {0})) → after read (nested_nodes p) ≡ after read (then_nodes p)
+after_open_read p (Ok x) = after_nodes_read p (native_nodes_at [] x.1)
+after_open_read p (Err e) = refl
 
-abbrev nested_open : Unit {0} → Reading ReadKind (Parts × List Demand)
-nested_open s = open_at Section Ended >>= nested_nodes
+abbrev nested_open : Places → Unit {0} → Reading ReadKind (Parts × List Demand)
+nested_open p s = open_at Section Ended >>= nested_nodes p
 
-after_start_read : (read : Read ReadKind (Unit {0})) → after read nested_open ≡ after read then_open
-after_start_read (Ok x) = after_open_read (open_at Section Ended x.1)
-after_start_read (Err e) = refl
+after_start_read : (p : Places) (read : Read ReadKind (Unit {0})) → after read (nested_open p) ≡ after read (then_open p)
+after_start_read p (Ok x) = after_open_read p (open_at Section Ended x.1)
+after_start_read p (Err e) = refl
 
-are_in_a_row : (text : Text) → native_sections_at text ≡ in_a_row text
+are_in_a_row : (p : Places) (text : Text) → native_sections_at p text ≡ in_a_row p text
 unfolding native_sections_at in_a_row
-are_in_a_row text = after_start_read (start_at text)
+are_in_a_row p text = after_start_read p (start_at text)
 
-pub sections_spelled : Spelled native_sections_at SpellsParts IsEnd
-sections_spelled = record {
-  takes = λ text x rest e. in_a_row_spelled.takes text x rest (sym (are_in_a_row text) ∙ e);
-  again = λ text x rest is of begins left. are_in_a_row text ∙ in_a_row_spelled.again text x rest is of begins left;
+pub sections_spelled : (p : Places) → Spelled (native_sections_at p) (SpellsParts p) IsEnd
+sections_spelled p = record {
+  takes = λ text x rest e. (in_a_row_spelled p).takes text x rest (sym (are_in_a_row p text) ∙ e);
+  again = λ text x rest is of begins left. are_in_a_row p text ∙ (in_a_row_spelled p).again text x rest is of begins left;
 }
 
 -- ---- what the code needs while it reads
@@ -565,42 +567,23 @@ sections_spelled = record {
 pub few_nodes : (text : Text) (nodes : List (List ℕ)) (rest : Text) → native_nodes_at [] text ≡ Ok (nodes, rest) → length nodes ≤ 128
 few_nodes text nodes rest e = let h = nodes_spelled.takes text nodes rest e in (nodes_new nodes h.0 h.1).0
 
-pub read_is_network : (text mid : Text) (nodes : List (List ℕ)) (a b : Text) (links : List CostedLink) → native_nodes_at [] text ≡ Ok (nodes, a) → native_section_at (codes "LINKS") (costed_links_at nodes []) mid ≡ Ok (links, b) → IsNetwork nodes (map (λ l. l.link) links)
-read_is_network text mid nodes a b links first second =
+pub read_is_network : (p : Places) (text mid : Text) (nodes : List (List ℕ)) (a b : Text) (links : List CostedLink) → native_nodes_at [] text ≡ Ok (nodes, a) → native_section_at (codes "LINKS") (costed_links_at p nodes []) mid ≡ Ok (links, b) → IsNetwork nodes (map (λ l. l.link) links)
+read_is_network p text mid nodes a b links first second =
     let n = nodes_spelled.takes text nodes a first in
-    let law = section_spelled (codes "LINKS") (costed_links_at nodes []) (AreLinkItems nodes) (spelled_law (costed_links_at nodes []) _ _ AnyText (links_lawful nodes (nodes_new nodes n.0 n.1).1)) in
+    let law = section_spelled (codes "LINKS") (costed_links_at p nodes []) (AreLinkItems p nodes) (spelled_law (costed_links_at p nodes []) _ _ AnyText (links_lawful p nodes (nodes_new nodes n.0 n.1).1)) in
     let l = law.takes mid links b second in
     network_read nodes links n.0 n.1 l.1.1.0
 
 -- ---- whole files
 
-abbrev Answer : Type 0
+abbrev pub Answer : Type 0
 Answer = Result (Network × List Demand) (Refusal ReadKind)
 
-abbrev seen : Network × List Demand → Parts × List Demand
+abbrev pub seen : Network × List Demand → Parts × List Demand
 seen r = (parts_of r.0, r.1)
 
 -- what reading the sections gave is what the file gives
-pub file_answers : (bytes : List ℕ) (r : Answer) (rest : Text) → are_same (trimmed (first_line bytes)) header ≡ true → ReadsAs seen r rest (native_sections_at (body bytes)) → ReadsAllAs seen r (network_of bytes)
-file_answers bytes (Ok x) rest line read = spelled_read Header header native_sections_at SpellsParts sections_spelled bytes (seen x) rest line read
-file_answers bytes (Err (Bad at kind)) rest line read = ap (λ (b : Bool). cond b (native_sections_at (body bytes)) (Err (0, Header))) line ∙ read
-file_answers bytes (Err NoMemory) rest line read = tt
-
-pub is_spelled : (bytes : List ℕ) (r : Answer) → ReadsAllAs seen r (network_of bytes) → IfOk r (λ x. Spells bytes x.0 x.1)
-is_spelled bytes r h = found_spelled Header header native_sections_at SpellsParts sections_spelled seen bytes r h
-
-pub is_only : (bytes : List ℕ) (r : Answer) → ReadsAllAs seen r (network_of bytes) → IfOk r (λ x. (net : Network) (demands : List Demand) → Spells bytes net demands → (net.nodes ≡ x.0.nodes) × (net.links ≡ x.0.links) × (net.notes ≡ x.0.notes) × (demands ≡ x.1))
-is_only bytes (Ok x) h = λ net demands s.
-    let same : seen x ≡ (parts_of net, demands) = only_spelled Header header native_sections_at SpellsParts sections_spelled seen bytes (Ok x) h (parts_of net, demands) s in
-    (sym (ap (λ (y : Parts × List Demand). y.0.nodes) same), sym (ap (λ (y : Parts × List Demand). y.0.links) same), sym (ap (λ (y : Parts × List Demand). y.0.notes) same), sym (ap (λ (y : Parts × List Demand). y.1) same))
-is_only bytes (Err e) h = tt
-
-pub first_fault : (bytes : List ℕ) (r : Answer) → ReadsAllAs seen r (network_of bytes) → (at : ℕ) (kind : ReadKind) → r ≡ Err (Bad at kind) → IsFirstFault bytes at kind × ((net : Network) (demands : List Demand) → Spells bytes net demands → ⊥)
-first_fault bytes r h at kind e =
-    let f : ReadsAllAs seen (Err (Bad at kind)) (network_of bytes) = subst (λ (x : Answer). ReadsAllAs seen x (network_of bytes)) e h in
-    (f, λ net demands s. only_spelled Header header native_sections_at SpellsParts sections_spelled seen bytes (Err (Bad at kind)) f (parts_of net, demands) s)
-
-pub not_early : (bytes : List ℕ) (r : Answer) → ReadsAllAs seen r (network_of bytes) → IfErr r (IsNotTooEarly (λ other (x : Network × List Demand). Spells other x.0 x.1) bytes)
-not_early bytes (Ok x) h = tt
-not_early bytes (Err (Bad at kind)) h = λ other n same ends x s. first_spelled Header header native_sections_at SpellsParts sections_spelled seen sections_online bytes (Err (Bad at kind)) h other n same ends (seen x) s
-not_early bytes (Err NoMemory) h = tt
+pub file_answers : (p : Places) (bytes : List ℕ) (r : Answer) (rest : Text) → are_same (trimmed (first_line bytes)) header ≡ true → ReadsAs seen r rest (native_sections_at p (body bytes)) → ReadsAllAs seen r (network_in p bytes)
+file_answers p bytes (Ok x) rest line read = spelled_read Header header (native_sections_at p) (SpellsParts p) (sections_spelled p) bytes (seen x) rest line read
+file_answers p bytes (Err (Bad at kind)) rest line read = ap (λ (b : Bool). cond b (native_sections_at p (body bytes)) (Err (0, Header))) line ∙ read
+file_answers p bytes (Err NoMemory) rest line read = tt

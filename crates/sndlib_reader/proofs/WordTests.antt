@@ -6,6 +6,7 @@ use Rattle.snd_tokens.specs.declared.amounts.NumberFault.TheVariants.{NotANumber
 use Rattle.snd_tokens.specs.Amounts.{amount_of, money_of, units}
 use Rattle.snd_tokens.specs.Digits.{are_digits}
 use Rattle.net_core.specs.declared.network.Module.{Module}
+use Rattle.net_core.specs.declared.places.Places.{Places}
 use Rattle.net_core.specs.Tests.{are_same, is_named}
 use Rattle.text_kit.specs.Reading.{sound}
 use Rattle.text_kit.proofs.Amounts.{amount_again, amount_takes, number_takes}
@@ -79,44 +80,44 @@ carried_takes sofar (Ok k) n e =
     (b.1, subst (λ (i : ℕ). 0 < i) is (omega (arith, some)), ltb-true (length sofar) 16 b.0)
 carried_takes sofar (Err k) n e = absurd cc
 
-pub capacity_takes : (sofar : List Module) (w : List ℕ) (n : ℕ) → capacity sofar w ≡ Ok n → IsCapacity sofar n × (money_of w ≡ Ok n)
-capacity_takes sofar w n e =
-    let c = carried_takes sofar (amount w) n e in
-    let a = amount_takes Number w n c.0 in
+pub capacity_takes : (p : Places) (sofar : List Module) (w : List ℕ) (n : ℕ) → capacity p sofar w ≡ Ok n → IsCapacity sofar n × (money_of p w ≡ Ok n)
+capacity_takes p sofar w n e =
+    let c = carried_takes sofar (amount p w) n e in
+    let a = amount_takes Number p w n c.0 in
     ((c.2, c.1, a.0), a.1)
 
-pub capacity_again : (sofar : List Module) (w : List ℕ) (n : ℕ) → IsCapacity sofar n → money_of w ≡ Ok n → capacity sofar w ≡ Ok n
-capacity_again sofar w n is e =
+pub capacity_again : (p : Places) (sofar : List Module) (w : List ℕ) (n : ℕ) → IsCapacity sofar n → money_of p w ≡ Ok n → capacity p sofar w ≡ Ok n
+capacity_again p sofar w n is e =
     let some = is.1 in
-    ap (carried sofar) (amount_again Number w n is.2 e) ∙ rw (ne_eqb n 0 (λ z. omega (arith, z, some)), lt-ltb (length sofar) 16 is.0) refl
+    ap (carried sofar) (amount_again Number p w n is.2 e) ∙ rw (ne_eqb n 0 (λ z. omega (arith, z, some)), lt-ltb (length sofar) 16 is.0) refl
 
 -- a need that was read
-pub record IsNeed (before units : ℕ) (w : List ℕ) (n : ℕ) : Type 0 where
+pub record IsNeed (p : Places) (before units : ℕ) (w : List ℕ) (n : ℕ) : Type 0 where
   pub each : ℕ
-  pub amount_is : amount_of w ≡ Ok each
+  pub amount_is : amount_of p w ≡ Ok each
   pub need_is : n ≡ units * each
   pub small : n < 2 ^ 40
   pub below : before + n < 2 ^ 44
 
-wanted_takes : (before units : ℕ) (w : List ℕ) (r : Result ℕ ReadKind) (n : ℕ) → amount w ≡ r → wanted before units r ≡ Ok n → IsNeed before units w n
-wanted_takes before units w (Ok each) n read e =
+wanted_takes : (p : Places) (before units : ℕ) (w : List ℕ) (r : Result ℕ ReadKind) (n : ℕ) → amount p w ≡ r → wanted before units r ≡ Ok n → IsNeed p before units w n
+wanted_takes p before units w (Ok each) n read e =
     let s = if_ok (nat_lt (units * each) (2 ^ 40)) (Number TooLarge) (cond (nat_lt (before + units * each) (2 ^ 44)) (Ok (units * each)) (Err (Limit limits.Total))) n e in
     let t = if_ok (nat_lt (before + units * each) (2 ^ 44)) (Limit limits.Total) (Ok (units * each)) n s.1 in
     let is : units * each ≡ n = ok_is {E = ReadKind} (units * each) n t.1 in
     record {
       each = each;
-      amount_is = number_takes Number (amount_of w) each read;
+      amount_is = number_takes Number (amount_of p w) each read;
       need_is = sym is;
       small = subst (λ (k : ℕ). k < 2 ^ 40) is (ltb-true (units * each) (2 ^ 40) s.0);
       below = subst (λ (k : ℕ). before + k < 2 ^ 44) is (ltb-true (before + units * each) (2 ^ 44) t.0);
     }
-wanted_takes before units w (Err k) n read e = absurd cc
+wanted_takes p before units w (Err k) n read e = absurd cc
 
-pub need_takes : (before units : ℕ) (w : List ℕ) (n : ℕ) → need before units w ≡ Ok n → IsNeed before units w n
-need_takes before units w n e = wanted_takes before units w (amount w) n refl e
+pub need_takes : (p : Places) (before units : ℕ) (w : List ℕ) (n : ℕ) → need p before units w ≡ Ok n → IsNeed p before units w n
+need_takes p before units w n e = wanted_takes p before units w (amount p w) n refl e
 
-pub need_again : (before units : ℕ) (w : List ℕ) (each n : ℕ) → amount_of w ≡ Ok each → n ≡ units * each → n < 2 ^ 40 → before + n < 2 ^ 44 → need before units w ≡ Ok n
-need_again before units w each n is need_is small below =
+pub need_again : (p : Places) (before units : ℕ) (w : List ℕ) (each n : ℕ) → amount_of p w ≡ Ok each → n ≡ units * each → n < 2 ^ 40 → before + n < 2 ^ 44 → need p before units w ≡ Ok n
+need_again p before units w each n is need_is small below =
     let s : nat_lt (units * each) (2 ^ 40) ≡ true = rw (← need_is) (lt-ltb n (2 ^ 40) small) in
     let t : nat_lt (before + units * each) (2 ^ 44) ≡ true = rw (← need_is) (lt-ltb (before + n) (2 ^ 44) below) in
     rw (is, s, t, need_is) refl

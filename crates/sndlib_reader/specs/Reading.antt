@@ -1,5 +1,5 @@
 -- Reading a network file from left to right: the tests of its words, and their order.
-use Rattle.std.specs.Prelude.{◌≡◌, ℕ, zero, suc, ◌+◌, ◌*◌, ◌^◌, ◌==◌, nat_lt, Bool, true, false, ◌||◌, ◌&&◌, if◌then◌else◌, List, [], length, map, Option, Some, None, Result, Ok, Err, sum_by, codes}
+use Rattle.std.specs.Prelude.{ℕ, zero, suc, ◌+◌, ◌*◌, ◌^◌, ◌==◌, nat_lt, Bool, true, false, ◌||◌, ◌&&◌, if◌then◌else◌, List, [], length, map, Option, Some, None, Result, Ok, Err, sum_by, codes}
 use Rattle.snd_tokens.specs.declared.amounts.NumberFault.TheVariants.{NotANumber, TooLarge}
 use Rattle.snd_tokens.specs.Amounts.{amount_of, units_of}
 use Rattle.snd_tokens.specs.Digits.{are_digits}
@@ -7,18 +7,18 @@ use Rattle.snd_tokens.specs.Lexemes.{WordAt, OpenAt, CloseAt, EndAt}
 use Rattle.net_core.specs.Tests.{are_same, is_named}
 use Rattle.net_core.specs.declared.ids.NodeId.{NodeId}
 use Rattle.net_core.specs.declared.network.Module.{Module}
+use Rattle.net_core.specs.declared.places.Places.{Places}
 use Rattle.net_core.specs.declared.demand.Demand.{Demand}
-use Rattle.text_kit.specs.Files.{file_at}
 use Rattle.text_kit.specs.Names.{long_name_fault, named_place, new_name_fault}
 use Rattle.text_kit.specs.Numbers.{number_or}
-use Rattle.text_kit.specs.Reading.{Read, Reading, ◌>>=◌, give, step_at, word_at, open_at, close_at, end_at, expected, mapped, Parenthesis, sound, list_at, no_fault, each_at}
+use Rattle.text_kit.specs.Reading.{Reading, ◌>>=◌, give, step_at, word_at, open_at, close_at, end_at, expected, mapped, Parenthesis, sound, list_at, no_fault, each_at}
 use Rattle.sndlib_reader.specs.declared.fault.Limited.TheVariants as limits
 use Rattle.sndlib_reader.specs.declared.fault.ReadKind.{ReadKind}
-use Rattle.sndlib_reader.specs.declared.fault.ReadKind.TheVariants.{Header, Section, Token, Ended, Limit, Number, UnknownName, DoubleName, SelfLink, SelfDemand, ZeroModule, FixedLink}
+use Rattle.sndlib_reader.specs.declared.fault.ReadKind.TheVariants.{Section, Token, Ended, Limit, Number, UnknownName, DoubleName, SelfLink, SelfDemand, ZeroModule, FixedLink}
 use Rattle.sndlib_reader.specs.declared.costs.CostedLink.{CostedLink}
 use Rattle.sndlib_reader.specs.declared.demand.DemandRest.{DemandRest}
 use Rattle.sndlib_reader.specs.declared.link.LinkRest.{LinkRest}
-use Rattle.sndlib_reader.specs.Spelling.{NodePart, NodeName, Coordinates, names_of, ends_named, notes_of, header, Parts}
+use Rattle.sndlib_reader.specs.Spelling.{NodePart, NodeName, Coordinates, names_of, ends_named, notes_of, Parts}
 
 -- ---- what a word says
 
@@ -57,20 +57,20 @@ apart kind a (Err fault) = Err fault
 abbrev pub other_node : ReadKind → List (List ℕ) → ℕ → List ℕ → Result ℕ ReadKind
 other_node kind nodes a w = apart kind a (node_named nodes w)
 
--- an amount, and a whole number of units
-abbrev pub amount : List ℕ → Result ℕ ReadKind
-amount w = number_or Number (amount_of w)
+-- an amount in a network with places p, and a whole number of units
+abbrev pub amount : Places → List ℕ → Result ℕ ReadKind
+amount p w = number_or Number (amount_of p w)
 
-abbrev pub unit : List ℕ → Result ℕ ReadKind
-unit w = number_or Number (units_of w)
+abbrev pub unit : Places → List ℕ → Result ℕ ReadKind
+unit p w = number_or Number (units_of p w)
 
 -- the capacity of a further module
 abbrev pub carried : List Module → Result ℕ ReadKind → Result ℕ ReadKind
 carried sofar (Ok n) = if n == 0 then Err ZeroModule else (if nat_lt (length sofar) 16 then Ok n else Err (Limit limits.Modules))
 carried sofar (Err fault) = Err fault
 
-abbrev pub capacity : List Module → List ℕ → Result ℕ ReadKind
-capacity sofar w = carried sofar (amount w)
+abbrev pub capacity : Places → List Module → List ℕ → Result ℕ ReadKind
+capacity p sofar w = carried sofar (amount p w)
 
 -- the need of so many units of an amount, after demands of this total
 abbrev pub wanted : ℕ → ℕ → Result ℕ ReadKind → Result ℕ ReadKind
@@ -80,8 +80,8 @@ wanted total units (Ok each) =
     else Err (Number TooLarge)
 wanted total units (Err fault) = Err fault
 
-abbrev pub need : ℕ → ℕ → List ℕ → Result ℕ ReadKind
-need total units w = wanted total units (amount w)
+abbrev pub need : Places → ℕ → ℕ → List ℕ → Result ℕ ReadKind
+need p total units w = wanted total units (amount p w)
 
 -- how many links a path may have
 abbrev pub hops : List ℕ → Result (Unit {0}) ReadKind
@@ -135,10 +135,10 @@ ends_at kind nodes = do
   give (record { 0 = a }, record { 0 = b })
 
 -- a module after others
-unfoldable pub module_at : List Module → Reading ReadKind Module
-module_at sofar = do
-  capacity ← word_at Token Ended (capacity sofar)
-  cost ← word_at Token Ended amount
+unfoldable pub module_at : Places → List Module → Reading ReadKind Module
+module_at p sofar = do
+  capacity ← word_at Token Ended (capacity p sofar)
+  cost ← word_at Token Ended (amount p)
   give (record { capacity = capacity; cost = cost })
 
 -- pre-installed capacity without a module
@@ -146,19 +146,19 @@ abbrev pub unserved : ℕ → List Module → Option ReadKind
 unserved fixed modules = if (length modules == 0) && nat_lt 0 fixed then Some FixedLink else None
 
 -- further modules of a link
-abbrev pub native_modules_at : ℕ → List Module → Reading ReadKind (List Module)
-native_modules_at fixed sofar = list_at Parenthesis (unserved fixed) module_at sofar
+abbrev pub native_modules_at : Places → ℕ → List Module → Reading ReadKind (List Module)
+native_modules_at p fixed sofar = list_at Parenthesis (unserved fixed) (module_at p) sofar
 
 -- what a link has after its name
-unfoldable pub link_rest_at : List (List ℕ) → Reading ReadKind LinkRest
-link_rest_at nodes = do
+unfoldable pub link_rest_at : Places → List (List ℕ) → Reading ReadKind LinkRest
+link_rest_at p nodes = do
   ends ← ends_at SelfLink nodes
-  fixed ← word_at Token Ended amount
-  fixed_cost ← word_at Token Ended amount
-  routing_cost ← word_at Token Ended amount
-  setup ← word_at Token Ended amount
+  fixed ← word_at Token Ended (amount p)
+  fixed_cost ← word_at Token Ended (amount p)
+  routing_cost ← word_at Token Ended (amount p)
+  setup ← word_at Token Ended (amount p)
   _ ← open_at Token Ended
-  modules ← native_modules_at fixed []
+  modules ← native_modules_at p fixed []
   give (record { a = ends.0; b = ends.1; fixed = fixed; fixed_cost = fixed_cost; routing_cost = routing_cost; setup = setup; modules = modules })
 
 -- the link of a name, with the two costs that aren't kept
@@ -170,39 +170,39 @@ named_link name rest = record {
 }
 
 -- a link after others
-unfoldable pub native_link_at : List (List ℕ) → List CostedLink → Reading ReadKind CostedLink
-native_link_at nodes sofar = do
+unfoldable pub native_link_at : Places → List (List ℕ) → List CostedLink → Reading ReadKind CostedLink
+native_link_at p nodes sofar = do
   name ← word_at Token Ended (λ w. sound w (link_fault sofar w))
-  rest ← link_rest_at nodes
+  rest ← link_rest_at p nodes
   give (named_link name rest)
 
 -- further links
-abbrev pub costed_links_at : List (List ℕ) → List CostedLink → Reading ReadKind (List CostedLink)
-costed_links_at nodes sofar = list_at Parenthesis no_fault (native_link_at nodes) sofar
+abbrev pub costed_links_at : Places → List (List ℕ) → List CostedLink → Reading ReadKind (List CostedLink)
+costed_links_at p nodes sofar = list_at Parenthesis no_fault (native_link_at p nodes) sofar
 
 -- the need of all demands
 abbrev pub needs_in_all : List Demand → ℕ
 needs_in_all demands = sum_by (λ d. d.need) demands
 
 -- what a demand has after its name, after others of this total
-unfoldable pub demand_rest_at : List (List ℕ) → ℕ → Reading ReadKind DemandRest
-demand_rest_at nodes before = do
+unfoldable pub demand_rest_at : Places → List (List ℕ) → ℕ → Reading ReadKind DemandRest
+demand_rest_at p nodes before = do
   ends ← ends_at SelfDemand nodes
-  units ← word_at Token Ended unit
-  need ← word_at Token Ended (need before units)
+  units ← word_at Token Ended (unit p)
+  need ← word_at Token Ended (need p before units)
   _ ← word_at Token Ended hops
   give (record { from = ends.0; to = ends.1; need = need })
 
 -- a demand after others
-unfoldable pub native_demand_at : List (List ℕ) → List Demand → Reading ReadKind Demand
-native_demand_at nodes sofar = do
+unfoldable pub native_demand_at : Places → List (List ℕ) → List Demand → Reading ReadKind Demand
+native_demand_at p nodes sofar = do
   name ← word_at Token Ended (λ w. sound w (demand_fault sofar w))
-  rest ← demand_rest_at nodes (needs_in_all sofar)
+  rest ← demand_rest_at p nodes (needs_in_all sofar)
   give (record { name = name; from = rest.from; to = rest.to; need = rest.need })
 
 -- further demands
-abbrev pub native_demands_at : List (List ℕ) → List Demand → Reading ReadKind (List Demand)
-native_demands_at nodes sofar = list_at Parenthesis no_fault (native_demand_at nodes) sofar
+abbrev pub native_demands_at : Places → List (List ℕ) → List Demand → Reading ReadKind (List Demand)
+native_demands_at p nodes sofar = list_at Parenthesis no_fault (native_demand_at p nodes) sofar
 
 -- one or more of a sort between parentheses, of which none is kept
 unfoldable pub some_at : Reading ReadKind (Unit {0}) → Reading ReadKind (Unit {0})
@@ -254,36 +254,28 @@ abbrev pub paths_at : List (List ℕ) → List (List ℕ) → Reading ReadKind (
 paths_at links demands = step_at is_paths (Err Section) (Err Section) (Ok false) >>= after_paths links demands
 
 -- the parts of these nodes and links
-abbrev pub parts : List (List ℕ) → List CostedLink → Parts
-parts nodes links = record { nodes = nodes; links = map (λ l. l.link) links; notes = notes_of links }
+abbrev pub parts : Places → List (List ℕ) → List CostedLink → Parts
+parts p nodes links = record { nodes = nodes; links = map (λ l. l.link) links; notes = notes_of links; places = p }
 
 -- the sections of demands and of paths, and nothing after them
-unfoldable pub after_links_at : List (List ℕ) → List (List ℕ) → Reading ReadKind (List Demand)
-after_links_at nodes links = do
-  demands ← native_section_at (codes "DEMANDS") (native_demands_at nodes [])
+unfoldable pub after_links_at : Places → List (List ℕ) → List (List ℕ) → Reading ReadKind (List Demand)
+after_links_at p nodes links = do
+  demands ← native_section_at (codes "DEMANDS") (native_demands_at p nodes [])
   _ ← paths_at links (map (λ d. d.name) demands)
   give demands
 
 -- the sections after that of the nodes
-unfoldable pub after_nodes_at : List (List ℕ) → Reading ReadKind (List CostedLink × List Demand)
-after_nodes_at nodes = do
-  links ← native_section_at (codes "LINKS") (costed_links_at nodes [])
-  demands ← after_links_at nodes (map (λ l. l.link.name) links)
+unfoldable pub after_nodes_at : Places → List (List ℕ) → Reading ReadKind (List CostedLink × List Demand)
+after_nodes_at p nodes = do
+  links ← native_section_at (codes "LINKS") (costed_links_at p nodes [])
+  demands ← after_links_at p nodes (map (λ l. l.link.name) links)
   give (links, demands)
 
 -- all sections, and nothing after them
-unfoldable pub native_sections_at : Reading ReadKind (Parts × List Demand)
-native_sections_at = do
+unfoldable pub native_sections_at : Places → Reading ReadKind (Parts × List Demand)
+native_sections_at p = do
   _ ← start_at
   _ ← open_at Section Ended
   nodes ← native_nodes_at []
-  rest ← after_nodes_at nodes
-  give (parts nodes rest.0, rest.1)
-
--- a whole file: its network and demands, or its first fault by place
-abbrev pub network_of : List ℕ → Read ReadKind (Parts × List Demand)
-network_of bytes = file_at Header header native_sections_at bytes
-
--- the first fault by place of these bytes
-abbrev pub IsFirstFault : List ℕ → ℕ → ReadKind → Type 0
-IsFirstFault bytes at kind = network_of bytes ≡ Err (at, kind)
+  rest ← after_nodes_at p nodes
+  give (parts p nodes rest.0, rest.1)

@@ -10,9 +10,9 @@ use Rattle.net_core.specs.declared.network.Module.{Module}
 use Rattle.net_core.specs.declared.network.Link.{Link}
 use Rattle.net_core.specs.declared.network.Notes.{Notes}
 use Rattle.net_core.specs.declared.network.Network.{Network}
+use Rattle.net_core.specs.declared.places.Places.{Places}
 use Rattle.net_core.specs.declared.demand.Demand.{Demand}
 use Rattle.sndlib_reader.specs.declared.costs.CostedLink.{CostedLink}
-use Rattle.text_kit.specs.Files.{SpellsBy}
 use Rattle.text_kit.specs.Items.{Item, Verbatim, Money, Opening, Closing, ComeAfter, AreSpelled}
 use Rattle.sndlib_reader.specs.Balance.{IsSkipped}
 use Rattle.sndlib_reader.specs.Paths.{ArePaths}
@@ -49,15 +49,15 @@ SpellsPart Coordinates items = (inside : List Item) × IsSkipped inside × (item
 abbrev pub node_pair_items : List (List ℕ) → NodeId → NodeId → List Item
 node_pair_items nodes a b = Opening ∷ Verbatim (get_or nodes a.0 []) ∷ Verbatim (get_or nodes b.0 []) ∷ Closing ∷ []
 
--- a module: its capacity and its cost
-abbrev pub module_items : Module → List Item
-module_items m = Money m.capacity ∷ Money m.cost ∷ []
+-- a module: its capacity and its cost, in a network with places p
+abbrev pub module_items : Places → Module → List Item
+module_items p m = Money p m.capacity ∷ Money p m.cost ∷ []
 
 -- a link: its name, its ends, its pre-installed capacity and the cost of that, its routing cost, its setup cost, and its modules
-abbrev pub link_items : List (List ℕ) → CostedLink → List Item
-link_items nodes l =
+abbrev pub link_items : Places → List (List ℕ) → CostedLink → List Item
+link_items p nodes l =
     Verbatim l.link.name ∷ node_pair_items nodes l.link.a l.link.b
-    ++ Money l.link.fixed ∷ Money l.fixed_cost ∷ Money l.routing_cost ∷ Money l.link.setup ∷ Opening ∷ (flat_map module_items l.link.modules ++ Closing ∷ [])
+    ++ Money p l.link.fixed ∷ Money p l.fixed_cost ∷ Money p l.routing_cost ∷ Money p l.link.setup ∷ Opening ∷ (flat_map (module_items p) l.link.modules ++ Closing ∷ [])
 
 -- what isn't kept of a link is in its range: its name and the two further costs
 pub record IsShortLink (l : CostedLink) : Type 0 where
@@ -70,7 +70,7 @@ abbrev pub IsHops : List ℕ → Type 0
 IsHops w = (w ≡ codes "UNLIMITED") ⊎ IsTrue (are_digits w)
 
 -- a demand: its name, its ends, a whole number of units of an amount, and its hops
-pub record SpellsDemand (nodes : List (List ℕ)) (d : Demand) (items : List Item) : Type 0 where
+pub record SpellsDemand (p : Places) (nodes : List (List ℕ)) (d : Demand) (items : List Item) : Type 0 where
   pub unit : List ℕ
   pub amount : List ℕ
   pub hops : List ℕ
@@ -78,8 +78,8 @@ pub record SpellsDemand (nodes : List (List ℕ)) (d : Demand) (items : List Ite
   pub each : ℕ
   pub short : length d.name ≤ 255
   pub items_are : items ≡ Verbatim d.name ∷ node_pair_items nodes d.from d.to ++ Verbatim unit ∷ Verbatim amount ∷ Verbatim hops ∷ []
-  pub unit_is : units_of unit ≡ Ok units
-  pub amount_is : amount_of amount ≡ Ok each
+  pub unit_is : units_of p unit ≡ Ok units
+  pub amount_is : amount_of p amount ≡ Ok each
   pub need_is : d.need ≡ units * each
   pub hops_are : IsHops hops
 
@@ -95,25 +95,26 @@ notes_of links = record {
 abbrev pub IsMeta : List Item → Type 0
 IsMeta items = (items ≡ []) ⊎ ((inside : List Item) × IsSkipped inside × (items ≡ Verbatim (codes "META") ∷ Opening ∷ inside))
 
--- what the sections of nodes and links say
+-- what the sections of nodes and links say, and in which places
 pub record Parts : Type 0 where
   pub nodes : List (List ℕ)
   pub links : List Link
   pub notes : Notes
+  pub places : Places
 
 -- the parts of a network
 abbrev pub parts_of : Network → Parts
-parts_of net = record { nodes = net.nodes; links = net.links; notes = net.notes }
+parts_of net = record { nodes = net.nodes; links = net.links; notes = net.notes; places = net.places }
 
--- perhaps META, the sections of nodes, links and demands, and perhaps paths: a network, and demands that belong to it
-pub record SpellsParts (x : Parts × List Demand) (items : List Item) : Type 0 where
+-- perhaps META, the sections of nodes, links and demands, and perhaps paths: a network with places p, and demands that belong to it
+pub record SpellsParts (p : Places) (x : Parts × List Demand) (items : List Item) : Type 0 where
   pub meta : List Item
   pub parts : List NodePart
   pub part_items : List Item
   pub links : List CostedLink
   pub demand_items : List Item
   pub paths : List Item
-  pub items_are : items ≡ meta ++ (section (codes "NODES") part_items ++ (section (codes "LINKS") (flat_map (link_items x.0.nodes) links) ++ (section (codes "DEMANDS") demand_items ++ paths)))
+  pub items_are : items ≡ meta ++ (section (codes "NODES") part_items ++ (section (codes "LINKS") (flat_map (link_items p x.0.nodes) links) ++ (section (codes "DEMANDS") demand_items ++ paths)))
   pub meta_is : IsMeta meta
   pub parts_are : AreSpelled SpellsPart parts part_items
   pub parts_in_order : ComeAfter IsPartAfter [] parts
@@ -121,15 +122,12 @@ pub record SpellsParts (x : Parts × List Demand) (items : List Item) : Type 0 w
   pub links_are : map (λ l. l.link) links ≡ x.0.links
   pub links_short : All IsShortLink links
   pub notes_are : notes_of links ≡ x.0.notes
+  pub places_are : p ≡ x.0.places
   pub network : IsNetwork x.0.nodes x.0.links
-  pub demands_are : AreSpelled (SpellsDemand x.0.nodes) x.1 demand_items
+  pub demands_are : AreSpelled (SpellsDemand p x.0.nodes) x.1 demand_items
   pub belong : AreDemands (length x.0.nodes) x.1
   pub paths_are : ArePaths (map (λ l. l.link.name) links) (map (λ d. d.name) x.1) paths
 
 -- the first line of a network file
 abbrev pub header : List ℕ
 header = codes "?SNDlib native format; type: network; version: 1.0"
-
--- the bytes of a file spell this network and these demands
-abbrev pub Spells : List ℕ → Network → List Demand → Type 0
-Spells bytes net demands = SpellsBy header SpellsParts bytes (parts_of net, demands)

@@ -5,7 +5,7 @@ ghost use Rattle.sndlib_reader.specs.Spelling.{notes_of};
 use net_core::{Link, List, NoMemory, Notes};
 use std::alloc::Global;
 
-/// A link with the two costs that a network doesn't keep, in thousandths.
+/// A link with the two costs that a network doesn't keep, in units of the network.
 #[derive(Drop)]
 pub struct CostedLink {
     pub link: Link,

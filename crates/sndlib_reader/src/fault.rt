@@ -19,7 +19,7 @@ pub enum Limited {
     Modules,
     /// At most 2,048 demands.
     Demands,
-    /// All needs together are below 2^44 thousandths.
+    /// All needs together are below 2^44 units of the network.
     Total,
 }
 

@@ -10,14 +10,14 @@ use crate::fault::{Limited, ReadKind, ReadRefusal};
 use crate::names::Names;
 use crate::node::ends;
 use crate::words::{amount, amount_of};
-use net_core::{Link, List, Module, Name, NodeId};
+use net_core::{Link, List, Module, Name, NodeId, Places};
 use snd_tokens::Cursor;
 use std::alloc::Global;
 use text_kit::names::new_name_fault;
 use text_kit::refusal::bad;
 use text_kit::steps::{closes, open, placed, word};
 
-/// What a link has after its name; amounts and costs are in thousandths.
+/// What a link has after its name; amounts and costs are in units of the network.
 #[derive(Drop)]
 pub struct LinkRest {
     pub a: NodeId,
@@ -33,11 +33,11 @@ const MAX_LINKS: usize = 256;
 
 const MAX_MODULES: usize = 16;
 
-/// The capacity of a word for a module after `count` others, in thousandths.
-fn capacity_of(modules: &[Module], word: &[u8]) -> Result<u64, ReadKind>
-    ensures { result ≡ capacity modules.now word.now }
+/// The capacity of a word for a module after these ones, in units of a network with these places.
+fn capacity_of(places: Places, modules: &[Module], word: &[u8]) -> Result<u64, ReadKind>
+    ensures { result ≡ capacity places modules.now word.now }
 {
-    let capacity = amount_of(word)?;
+    let capacity = amount_of(places, word)?;
     if capacity == 0 {
         return Err(ReadKind::ZeroModule);
     }
@@ -48,26 +48,31 @@ fn capacity_of(modules: &[Module], word: &[u8]) -> Result<u64, ReadKind>
 }
 
 /// Takes the capacity of a module after these ones.
-fn capacity(modules: &[Module], text: &mut Cursor) -> Result<u64, ReadRefusal>
-    ensures { ReadsAs (λ n. n) result (left text.new) (word_at ReadKind.Token ReadKind.Ended (capacity modules.now) (left text.old)) }
+fn capacity(places: Places, modules: &[Module], text: &mut Cursor) -> Result<u64, ReadRefusal>
+    ensures { ReadsAs (λ n. n) result (left text.new) (word_at ReadKind.Token ReadKind.Ended (capacity places modules.now) (left text.old)) }
 {
     let (at, word) = word(ReadKind::Token, ReadKind::Ended, text)?;
-    placed(at, capacity_of(modules, word))
+    placed(at, capacity_of(places, modules, word))
 }
 
 /// Takes a module after these ones.
 #[tactic(auto, unfolding(crate::specs::Reading::module_at))]
-fn module(modules: &[Module], text: &mut Cursor) -> Result<Module, ReadRefusal>
-    ensures { ReadsAs (λ m. m) result (left text.new) (module_at modules.now (left text.old)) }
+fn module(places: Places, modules: &[Module], text: &mut Cursor) -> Result<Module, ReadRefusal>
+    ensures { ReadsAs (λ m. m) result (left text.new) (module_at places modules.now (left text.old)) }
 {
-    let capacity = capacity(modules, text)?;
-    let cost = amount(text)?;
+    let capacity = capacity(places, modules, text)?;
+    let cost = amount(places, text)?;
     Ok(Module { capacity, cost })
 }
 
 /// Takes one module more of a link with this pre-installed capacity, and says whether there was one.
-fn take_module(fixed: u64, all: &mut List<Module>, text: &mut Cursor) -> Result<bool, ReadRefusal>
-    ensures turn { TakesElement result (native_modules_at fixed all.old (left text.old)) (native_modules_at fixed all.new (left text.new)) (Ok (all.new, left text.new)) }
+fn take_module(
+    places: Places,
+    fixed: u64,
+    all: &mut List<Module>,
+    text: &mut Cursor,
+) -> Result<bool, ReadRefusal>
+    ensures turn { TakesElement result (native_modules_at places fixed all.old (left text.old)) (native_modules_at places fixed all.new (left text.new)) (Ok (all.new, left text.new)) }
     ensures shorter { IfOk result (λ more. IsTrue more → size (left text.new) < size (left text.old)) }
 {
     if let Some(at) = closes(text) {
@@ -76,17 +81,22 @@ fn take_module(fixed: u64, all: &mut List<Module>, text: &mut Cursor) -> Result<
         }
         return Ok(false);
     }
-    let module = module(all.items(), text)?;
+    let module = module(places, all.items(), text)?;
     all.push(module)?;
     Ok(true)
 }
 
 /// Takes the modules of a link with this pre-installed capacity, up to the closing parenthesis.
-fn modules(alloc: Global, fixed: u64, text: &mut Cursor) -> Result<List<Module>, ReadRefusal>
-    ensures { ReadsAs (λ modules. modules) result (left text.new) (native_modules_at fixed [] (left text.old)) }
+fn modules(
+    alloc: Global,
+    places: Places,
+    fixed: u64,
+    text: &mut Cursor,
+) -> Result<List<Module>, ReadRefusal>
+    ensures { ReadsAs (λ modules. modules) result (left text.new) (native_modules_at places fixed [] (left text.old)) }
 {
     let mut all = List::new(alloc);
-    while take_module(fixed, &mut all, text)? {}
+    while take_module(places, fixed, &mut all, text)? {}
     Ok(all)
 }
 
@@ -125,17 +135,22 @@ fn link_name<'a>(
 
 /// Takes what a link has after its name.
 #[tactic(auto, unfolding(crate::specs::Reading::link_rest_at))]
-fn link_rest(alloc: Global, nodes: &Names, text: &mut Cursor) -> Result<LinkRest, ReadRefusal>
+fn link_rest(
+    alloc: Global,
+    places: Places,
+    nodes: &Names,
+    text: &mut Cursor,
+) -> Result<LinkRest, ReadRefusal>
     requires { length nodes.now ≤ 128 }
-    ensures { ReadsAs (λ r. r) result (left text.new) (link_rest_at nodes.now (left text.old)) }
+    ensures { ReadsAs (λ r. r) result (left text.new) (link_rest_at places nodes.now (left text.old)) }
 {
     let (a, b) = ends(ReadKind::SelfLink, nodes, text)?;
-    let fixed = amount(text)?;
-    let fixed_cost = amount(text)?;
-    let routing_cost = amount(text)?;
-    let setup = amount(text)?;
+    let fixed = amount(places, text)?;
+    let fixed_cost = amount(places, text)?;
+    let routing_cost = amount(places, text)?;
+    let setup = amount(places, text)?;
     open(ReadKind::Token, ReadKind::Ended, text)?;
-    let modules = modules(alloc, fixed, text)?;
+    let modules = modules(alloc, places, fixed, text)?;
     Ok(LinkRest {
         a,
         b,
@@ -169,6 +184,7 @@ fn named_link(name: Name, rest: LinkRest) -> CostedLink
 #[tactic(auto, unfolding(crate::specs::Reading::native_link_at))]
 fn link<'a>(
     alloc: Global,
+    places: Places,
     nodes: &Names,
     links: &[CostedLink],
     names: &mut Names<'a>,
@@ -176,17 +192,18 @@ fn link<'a>(
 ) -> Result<CostedLink, ReadRefusal>
     requires nodes { length nodes.now ≤ 128 }
     requires named { names.now ≡ map (λ l. l.link.name) links.now }
-    ensures reads { ReadsAs (λ l. l) result (left text.new) (native_link_at nodes.now links.now (left text.old)) }
+    ensures reads { ReadsAs (λ l. l) result (left text.new) (native_link_at places nodes.now links.now (left text.old)) }
     ensures last { IfOk result (λ l. names.new ≡ names.old ++ l.link.name ∷ []) }
 {
     let name = link_name(alloc, links, names, text)?;
-    let rest = link_rest(alloc, nodes, text)?;
+    let rest = link_rest(alloc, places, nodes, text)?;
     Ok(named_link(name, rest))
 }
 
 /// Takes one link more, and says whether there was one.
 fn take_link<'a>(
     alloc: Global,
+    places: Places,
     nodes: &Names,
     all: &mut List<CostedLink>,
     names: &mut Names<'a>,
@@ -194,14 +211,14 @@ fn take_link<'a>(
 ) -> Result<bool, ReadRefusal>
     requires nodes { length nodes.now ≤ 128 }
     requires named { names.now ≡ map (λ l. l.link.name) all.now }
-    ensures turn { TakesElement result (costed_links_at nodes.now all.old (left text.old)) (costed_links_at nodes.now all.new (left text.new)) (Ok (all.new, left text.new)) }
+    ensures turn { TakesElement result (costed_links_at places nodes.now all.old (left text.old)) (costed_links_at places nodes.now all.new (left text.new)) (Ok (all.new, left text.new)) }
     ensures shorter { IfOk result (λ more. IsTrue more → size (left text.new) < size (left text.old)) }
     ensures named { OnOk result (names.new ≡ map (λ l. l.link.name) all.new) }
 {
     if let Some(_) = closes(text) {
         return Ok(false);
     }
-    let link = link(alloc, nodes, all.items(), names, text)?;
+    let link = link(alloc, places, nodes, all.items(), names, text)?;
     all.push(link)?;
     Ok(true)
 }
@@ -209,15 +226,16 @@ fn take_link<'a>(
 /// Takes links, up to the closing parenthesis. It gives their names for look-ups too.
 pub(crate) fn links<'a>(
     alloc: Global,
+    places: Places,
     nodes: &Names,
     text: &mut Cursor<'a>,
 ) -> Result<(List<CostedLink>, Names<'a>), ReadRefusal>
     requires { length nodes.now ≤ 128 }
-    ensures reads { ReadsAs (λ r. r.0) result (left text.new) (costed_links_at nodes.now [] (left text.old)) }
+    ensures reads { ReadsAs (λ r. r.0) result (left text.new) (costed_links_at places nodes.now [] (left text.old)) }
     ensures named { IfOk result (λ r. r.1 ≡ map (λ l. l.link.name) r.0) }
 {
     let mut all = List::new(alloc);
     let mut names = Names::new(alloc);
-    while take_link(alloc, nodes, &mut all, &mut names, text)? {}
+    while take_link(alloc, places, nodes, &mut all, &mut names, text)? {}
     Ok((all, names))
 }

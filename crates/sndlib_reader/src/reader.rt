@@ -4,12 +4,13 @@ ghost use Rattle.net_core.specs.Network.{IsNetwork};
 ghost use Rattle.net_core.specs.declared.network.Network.{Network as Net};
 ghost use Rattle.net_core.specs.declared.demand.Demand.{Demand as Dem};
 ghost use Rattle.text_kit.specs.Answers.{ReadsAllAs, ReadsAs};
-ghost use Rattle.text_kit.specs.Files.{IsNotTooEarly};
 ghost use Rattle.text_kit.specs.Reading.{word_at};
 ghost use Rattle.text_kit.specs.declared.refusal.Refusal.{Refusal};
 ghost use Rattle.sndlib_reader.specs.declared.fault.ReadKind.{ReadKind};
-ghost use Rattle.sndlib_reader.specs.Spelling.{Spells, parts_of};
-ghost use Rattle.sndlib_reader.specs.Reading.{IsFirstFault, after_links_at, after_nodes_at, native_demands_at, is_meta, costed_links_at, network_of, parts, native_section_at, native_sections_at, start_at};
+ghost use Rattle.sndlib_reader.specs.NetworkFiles.{IsFirstFault, IsNoEarlyFault, Spells, network_in, network_of};
+ghost use Rattle.sndlib_reader.specs.inner.Refused.{was_too_fine};
+ghost use Rattle.sndlib_reader.specs.Spelling.{parts_of};
+ghost use Rattle.sndlib_reader.specs.Reading.{after_links_at, after_nodes_at, native_demands_at, is_meta, costed_links_at, parts, native_section_at, native_sections_at, start_at};
 
 use crate::costs::{CostedLink, links_of, notes_of};
 use crate::demand::demands;
@@ -19,9 +20,10 @@ use crate::names::Names;
 use crate::node::nodes;
 use crate::paths::paths;
 use crate::skip::skip;
-use net_core::{Demands, List, Name, Network, NoMemory};
-use snd_tokens::Cursor;
+use net_core::{Demands, List, Name, Network, NoMemory, Places};
+use snd_tokens::{Cursor, NumberFault};
 use std::alloc::Global;
+use text_kit::Refusal;
 use text_kit::steps::{expect, open, placed, text_after_header, word};
 
 const HEADER: &[u8] = b"?SNDlib native format; type: network; version: 1.0";
@@ -68,42 +70,49 @@ fn start(text: &mut Cursor) -> Result<(), ReadRefusal>
 #[tactic(auto, unfolding(crate::specs::Reading::native_section_at))]
 fn link_section<'a>(
     alloc: Global,
+    places: Places,
     nodes: &Names,
     text: &mut Cursor<'a>,
 ) -> Result<(List<CostedLink>, Names<'a>), ReadRefusal>
     requires { length nodes.now ≤ 128 }
-    ensures reads { ReadsAs (λ r. r.0) result (left text.new) (native_section_at (codes "LINKS") (costed_links_at nodes.now []) (left text.old)) }
+    ensures reads { ReadsAs (λ r. r.0) result (left text.new) (native_section_at (codes "LINKS") (costed_links_at places nodes.now []) (left text.old)) }
     ensures named { IfOk result (λ r. r.1 ≡ map (λ l. l.link.name) r.0) }
 {
     expect(ReadKind::Section, ReadKind::Ended, b"LINKS", text)?;
     open(ReadKind::Section, ReadKind::Ended, text)?;
-    links(alloc, nodes, text)
+    links(alloc, places, nodes, text)
 }
 
 /// Takes the section of demands. It gives their names for look-ups too.
 #[tactic(auto, unfolding(crate::specs::Reading::native_section_at))]
 fn demand_section<'a>(
     alloc: Global,
+    places: Places,
     nodes: &Names,
     text: &mut Cursor<'a>,
 ) -> Result<(Demands, Names<'a>), ReadRefusal>
     requires { length nodes.now ≤ 128 }
-    ensures reads { ReadsAs (λ r. r.0) result (left text.new) (native_section_at (codes "DEMANDS") (native_demands_at nodes.now []) (left text.old)) }
+    ensures reads { ReadsAs (λ r. r.0) result (left text.new) (native_section_at (codes "DEMANDS") (native_demands_at places nodes.now []) (left text.old)) }
     ensures named { IfOk result (λ r. r.1 ≡ map (λ d. d.name) r.0) }
 {
     expect(ReadKind::Section, ReadKind::Ended, b"DEMANDS", text)?;
     open(ReadKind::Section, ReadKind::Ended, text)?;
-    demands(alloc, nodes, text)
+    demands(alloc, places, nodes, text)
 }
 
-/// The network of nodes and links that were read.
-fn network(alloc: Global, nodes: List<Name>, links: List<CostedLink>) -> Result<Network, NoMemory>
+/// The network of nodes and links that were read with these places.
+fn network(
+    alloc: Global,
+    places: Places,
+    nodes: List<Name>,
+    links: List<CostedLink>,
+) -> Result<Network, NoMemory>
     requires { IsNetwork nodes (map (λ l. l.link) links) }
-    ensures { IfOk result (λ net. parts_of net ≡ parts nodes links) }
+    ensures { IfOk result (λ net. parts_of net ≡ parts places nodes links) }
 {
     let notes = notes_of(links.items());
     let links = links_of(alloc, links)?;
-    match Network::check(nodes, links, notes) {
+    match Network::check(nodes, links, notes, places) {
         Ok(net) => Ok(net),
         Err(_) => unreachable!(),
     }
@@ -113,14 +122,15 @@ fn network(alloc: Global, nodes: List<Name>, links: List<CostedLink>) -> Result<
 #[tactic(auto, unfolding(crate::specs::Reading::after_links_at))]
 fn after_links(
     alloc: Global,
+    places: Places,
     nodes: &Names,
     links: &Names,
     text: &mut Cursor,
 ) -> Result<Demands, ReadRefusal>
     requires { length nodes.now ≤ 128 }
-    ensures { ReadsAs (λ demands. demands) result (left text.new) (after_links_at nodes.now links.now (left text.old)) }
+    ensures { ReadsAs (λ demands. demands) result (left text.new) (after_links_at places nodes.now links.now (left text.old)) }
 {
-    let (demands, names) = demand_section(alloc, nodes, text)?;
+    let (demands, names) = demand_section(alloc, places, nodes, text)?;
     paths(links, &names, text)?;
     Ok(demands)
 }
@@ -129,55 +139,87 @@ fn after_links(
 #[tactic(auto, unfolding(crate::specs::Reading::after_nodes_at))]
 fn after_nodes(
     alloc: Global,
+    places: Places,
     nodes: &Names,
     text: &mut Cursor,
 ) -> Result<(List<CostedLink>, Demands), ReadRefusal>
     requires { length nodes.now ≤ 128 }
-    ensures reads { ReadsAs (λ r. r) result (left text.new) (after_nodes_at nodes.now (left text.old)) }
-    ensures links { IfOk result (λ r. (rest : Text) × (native_section_at (codes "LINKS") (costed_links_at nodes.now []) (left text.old) ≡ Ok (r.0, rest))) }
+    ensures reads { ReadsAs (λ r. r) result (left text.new) (after_nodes_at places nodes.now (left text.old)) }
+    ensures links { IfOk result (λ r. (rest : Text) × (native_section_at (codes "LINKS") (costed_links_at places nodes.now []) (left text.old) ≡ Ok (r.0, rest))) }
 {
-    let (links, names) = link_section(alloc, nodes, text)?;
-    let demands = after_links(alloc, nodes, &names, text)?;
+    let (links, names) = link_section(alloc, places, nodes, text)?;
+    let demands = after_links(alloc, places, nodes, &names, text)?;
     Ok((links, demands))
 }
 
 /// Takes all sections, and finds that nothing is after them.
 #[tactic(auto, unfolding(crate::specs::Reading::native_sections_at))]
-fn sections(alloc: Global, text: &mut Cursor) -> Result<(Network, Demands), ReadRefusal>
-    ensures { ReadsAs (λ r. (parts_of r.0, r.1)) result (left text.new) (native_sections_at (left text.old)) }
+fn sections(
+    alloc: Global,
+    places: Places,
+    text: &mut Cursor,
+) -> Result<(Network, Demands), ReadRefusal>
+    ensures { ReadsAs (λ r. (parts_of r.0, r.1)) result (left text.new) (native_sections_at places (left text.old)) }
 {
     start(text)?;
     open(ReadKind::Section, ReadKind::Ended, text)?;
     let (nodes, names) = nodes(alloc, text)?;
-    let (links, demands) = after_nodes(alloc, &names, text)?;
-    Ok((network(alloc, nodes, links)?, demands))
+    let (links, demands) = after_nodes(alloc, places, &names, text)?;
+    Ok((network(alloc, places, nodes, links)?, demands))
 }
 
-/// The whole file.
-fn file(alloc: Global, bytes: &[u8]) -> Result<(Network, Demands), ReadRefusal>
-    ensures { ReadsAllAs (λ r. (parts_of r.0, r.1)) result (network_of bytes.now) }
+/// The whole file, with these places.
+fn file(alloc: Global, places: Places, bytes: &[u8]) -> Result<(Network, Demands), ReadRefusal>
+    ensures { ReadsAllAs (λ r. (parts_of r.0, r.1)) result (network_in places bytes.now) }
 {
     let mut text = text_after_header(ReadKind::Header, bytes, HEADER)?;
-    sections(alloc, &mut text)
+    sections(alloc, places, &mut text)
 }
 
-/// The network and the demands that a file spells. It takes time in proportion to the file's length,
-/// since names are looked up by their hashes; memory for what it gives, and for a table of the
-/// places of all names.
+/// Whether the first fault is a number that has too many places.
+fn was_too_fine(read: &Result<(Network, Demands), ReadRefusal>) -> bool
+    ensures { result ≡ was_too_fine read.now }
+{
+    matches!(
+        read,
+        Err(Refusal::Bad {
+            kind: ReadKind::Number(NumberFault::TooFine),
+            ..
+        })
+    )
+}
+
+/// The whole file with three places, and with six where its first fault is a number that has too many for three.
+fn file_in_its_places(alloc: Global, bytes: &[u8]) -> Result<(Network, Demands), ReadRefusal>
+    ensures { ReadsAllAs (λ r. (parts_of r.0, r.1)) result (network_of bytes.now) }
+{
+    let read = file(alloc, Places::Three, bytes);
+    if was_too_fine(&read) {
+        return file(alloc, Places::Six, bytes);
+    }
+    read
+}
+
+/// The network and the demands that a file spells. They have three places after the point; where a number of the file has
+/// more, and that is the first fault, the file is read once more, and they have six.
+///
+/// It takes time in proportion to the file's length, since names are looked up by their hashes; memory for what it gives, and
+/// for a table of the places of all names. What the first reading took is given back before the second.
 ///
 /// After the header, `NODES ( A B ) LINKS ( L ( A B ) 0 0 0 0 ( 10 5 ) ) DEMANDS ( D ( A B ) 1 2.5 UNLIMITED )` spells
 /// two nodes, a link between them that takes modules of 10,000 thousandths for 5,000 each, and a demand that needs
-/// 2,500. With `( A C )` after `L` it is refused: `UnknownName`, at the place of the C.
+/// 2,500. With a demand of 2.5001 all of them are millionths: modules of 10,000,000 for 5,000,000, and a need of 2,500,100.
+/// With `( A C )` after `L` it is refused: `UnknownName`, at the place of the C.
 pub fn read_network(alloc: Global, bytes: &[u8]) -> Result<(Network, Demands), ReadRefusal>
-    // What is read is spelled.
+    // What is read is spelled, in the places with which the file is read.
     ensures read { IfOk result (λ r. Spells bytes.now r.0 r.1) }
     // Nothing else is spelled.
-    ensures only { IfOk result (λ r. (net : Net) (demands : List Dem) → Spells bytes.now net demands → (net.nodes ≡ r.0.nodes) × (net.links ≡ r.0.links) × (net.notes ≡ r.0.notes) × (demands ≡ r.1)) }
+    ensures only { IfOk result (λ r. (net : Net) (demands : List Dem) → Spells bytes.now net demands → (net.nodes ≡ r.0.nodes) × (net.links ≡ r.0.links) × (net.notes ≡ r.0.notes) × (net.places ≡ r.0.places) × (demands ≡ r.1)) }
     // What is refused as bad spells nothing, and the fault is the first one by place.
     ensures refused { (at : ℕ) (kind : ReadKind) → result ≡ Err (Refusal.Bad at kind)
         → IsFirstFault bytes.now at kind × ((net : Net) (demands : List Dem) → Spells bytes.now net demands → ⊥) }
-    // A fault doesn't stand too early: no bytes that agree past it are spelled right.
-    ensures not_early { IfErr result (IsNotTooEarly (λ other (r : Net × List Dem). Spells other r.0 r.1) bytes.now) }
+    // A fault doesn't stand too early: no bytes that agree past it, and past a number that was too fine, are spelled right.
+    ensures not_early { IfErr result (IsNoEarlyFault bytes.now) }
 {
-    file(alloc, bytes)
+    file_in_its_places(alloc, bytes)
 }

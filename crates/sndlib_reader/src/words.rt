@@ -6,27 +6,28 @@ ghost use Rattle.sndlib_reader.specs.Reading.{amount, known_name};
 
 use crate::fault::{Limited, ReadKind, ReadRefusal};
 use crate::names::Names;
-use snd_tokens::{Cursor, milli};
+use net_core::Places;
+use snd_tokens::Cursor;
 use text_kit::names::is_long;
 use text_kit::steps::{placed, word};
 
-/// The amount of a word, in thousandths.
-pub(crate) fn amount_of(word: &[u8]) -> Result<u64, ReadKind>
-    ensures value { result ≡ amount word.now }
+/// The amount of a word, in units of a network with these places.
+pub(crate) fn amount_of(places: Places, word: &[u8]) -> Result<u64, ReadKind>
+    ensures value { result ≡ amount places word.now }
     ensures small { IfOk result (λ n. n < 2 ^ 40) }
 {
-    match milli(word) {
+    match snd_tokens::amount(word, places) {
         Ok(amount) => Ok(amount),
         Err(fault) => Err(ReadKind::Number(fault)),
     }
 }
 
-/// Takes an amount, in thousandths.
-pub(crate) fn amount(text: &mut Cursor) -> Result<u64, ReadRefusal>
-    ensures { ReadsAs (λ n. n) result (left text.new) (word_at ReadKind.Token ReadKind.Ended amount (left text.old)) }
+/// Takes an amount, in units of a network with these places.
+pub(crate) fn amount(places: Places, text: &mut Cursor) -> Result<u64, ReadRefusal>
+    ensures { ReadsAs (λ n. n) result (left text.new) (word_at ReadKind.Token ReadKind.Ended (amount places) (left text.old)) }
 {
     let (at, word) = word(ReadKind::Token, ReadKind::Ended, text)?;
-    placed(at, amount_of(word))
+    placed(at, amount_of(places, word))
 }
 
 /// Tests a word as one of these names.

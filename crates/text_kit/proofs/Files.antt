@@ -85,6 +85,23 @@ header_fault [] n ends = at_last [] 0 n (omega arith) ends
 header_fault (b ∷ bytes) n ends =
     let low = (before_limit (second_line (b ∷ bytes)) 0 n (body (b ∷ bytes)) (body_rises (b ∷ bytes)) ends).0 in omega (arith, low)
 
+-- files that agree past a fault have it both
+pub fault_kept : {K Y : Type 0} (other : K) (header : List ℕ) (r : Reading K Y) → IsOnline r → (bytes : List ℕ) (at : ℕ) (kind : K) → file_at other header r bytes ≡ Err (at, kind) → (bytes' : List ℕ) (n : ℕ) → take n bytes ≡ take n bytes' → EndsBefore at n (body bytes)
+    → file_at other header r bytes' ≡ Err (at, kind)
+fault_kept other header r on bytes at kind e bytes' n same ends =
+    ⊎_elim
+    (λ (first : 0 ≡ at). absurd (header_fault bytes n (subst (λ k. EndsBefore k n (body bytes)) (sym first) ends)))
+    (λ (h : (are_same (trimmed (first_line bytes)) header ≡ true) × (r (body bytes) ≡ Err (at, kind))).
+    let l = same_line bytes bytes' at n same ends in
+    let from = second_line bytes in
+    let low = (before_limit from at n (body bytes) (body_rises bytes) ends).1 in
+    let agree = files_agree bytes bytes' from at n (omega (arith, low)) same ends in
+    let fails = same_fault r on (body bytes) (text_from from bytes') at kind (body_rises bytes).0 h.1 agree in
+    let there : r (body bytes') ≡ Err (at, kind) = ap (λ k. r (text_from k bytes')) l.following ∙ fails in
+    let begins : are_same (trimmed (first_line bytes')) header ≡ true = ap (λ (line : List ℕ). are_same (trimmed line) header) l.line ∙ h.0 in
+    ap (λ (b : Bool). cond b (r (body bytes')) (Err (0, other))) begins ∙ there)
+    (header_err other (are_same (trimmed (first_line bytes)) header) (r (body bytes)) at kind e)
+
 module _ {K Y : Type 0} (other : K) (header : List ℕ) (r : Reading K Y) (Of : Y → List Item → Type 0) (law : Spelled r Of IsEnd) where
   spelled_takes : (bytes : List ℕ) (y : Y) (rest : Text) → file_at other header r bytes ≡ Ok (y, rest) → SpellsBy header Of bytes y
   spelled_takes bytes y rest e =
@@ -92,7 +109,7 @@ module _ {K Y : Type 0} (other : K) (header : List ℕ) (r : Reading K Y) (Of : 
       let t = law.takes (body bytes) y rest h.1 in
       (t.0, t.1, (same_is (trimmed (first_line bytes)) header h.0, (t.3.0, subst (λ (u : Text). Begins t.0 (body bytes) u) t.3.1 t.2)))
 
-  spelled_again : (bytes : List ℕ) (y : Y) → SpellsBy header Of bytes y → (at : ℕ) × (file_at other header r bytes ≡ Ok (y, EndAt at))
+  pub spelled_again : (bytes : List ℕ) (y : Y) → SpellsBy header Of bytes y → (at : ℕ) × (file_at other header r bytes ≡ Ok (y, EndAt at))
   spelled_again bytes y s =
       let begins : are_same (trimmed (first_line bytes)) header ≡ true = ap (λ (l : List ℕ). are_same l header) s.2.0 ∙ is_same header in
       let at = s.2.1.0 in
@@ -102,19 +119,12 @@ module _ {K Y : Type 0} (other : K) (header : List ℕ) (r : Reading K Y) (Of : 
   not_both (Ok x) e y at err ok = absurd cc
   not_both (Err d) e y at err ok = absurd cc
 
+  -- what has a fault spells nothing
+  pub spelled_faultless : (bytes : List ℕ) (y : Y) → SpellsBy header Of bytes y → (at : ℕ) (kind : K) → file_at other header r bytes ≡ Err (at, kind) → ⊥
+  spelled_faultless bytes y s at kind e = let again = spelled_again bytes y s in not_both (file_at other header r bytes) (at, kind) y again.0 e again.1
+
   spelled_first : IsOnline r → (bytes : List ℕ) (at : ℕ) (kind : K) → file_at other header r bytes ≡ Err (at, kind) → (bytes' : List ℕ) (n : ℕ) → take n bytes ≡ take n bytes' → EndsBefore at n (body bytes) → (y : Y) → SpellsBy header Of bytes' y → ⊥
-  spelled_first on bytes at kind e bytes' n same ends y s =
-      ⊎_elim
-      (λ (first : 0 ≡ at). header_fault bytes n (subst (λ k. EndsBefore k n (body bytes)) (sym first) ends))
-      (λ (h : (are_same (trimmed (first_line bytes)) header ≡ true) × (r (body bytes) ≡ Err (at, kind))).
-      let l = same_line bytes bytes' at n same ends in
-      let from = second_line bytes in
-      let low = (before_limit from at n (body bytes) (body_rises bytes) ends).1 in
-      let agree = files_agree bytes bytes' from at n (omega (arith, low)) same ends in
-      let fails = same_fault r on (body bytes) (text_from from bytes') at kind (body_rises bytes).0 h.1 agree in
-      let there : r (body bytes') ≡ Err (at, kind) = ap (λ k. r (text_from k bytes')) l.following ∙ fails in
-      not_both (r (body bytes')) (at, kind) y s.2.1.0 there (law.again (body bytes') y (EndAt s.2.1.0) s.0 s.1 s.2.1.1 (s.2.1.0, refl)))
-      (header_err other (are_same (trimmed (first_line bytes)) header) (r (body bytes)) at kind e)
+  spelled_first on bytes at kind e bytes' n same ends y s = spelled_faultless bytes' y s at kind (fault_kept other header r on bytes at kind e bytes' n same ends)
 
   -- ---- what a function returned
 

@@ -4,7 +4,7 @@ use Rattle.sndlib_reader.specs.Reading.{native_demands_at, needs_in_all}
 use Rattle.sndlib_reader.proofs.demand.demands.Given as goal
 
 abbrev pub invariant-loop-names : goal.invariant-loop-names
-invariant-loop-names l = (native_demands_at l.nodes l.all (left l.text) ≡ native_demands_at l.nodes [] (left l.fn.text)) × (l.names ≡ map (λ d. d.name) l.all) × (l.sum ≡ needs_in_all l.all) × (l.sum < 2 ^ 44)
+invariant-loop-names l = (native_demands_at l.places l.nodes l.all (left l.text) ≡ native_demands_at l.places l.nodes [] (left l.fn.text)) × (l.names ≡ map (λ d. d.name) l.all) × (l.sum ≡ needs_in_all l.all) × (l.sum < 2 ^ 44)
 
 abbrev pub decreases-loop-names : goal.decreases-loop-names
 decreases-loop-names l = size (left l.text)

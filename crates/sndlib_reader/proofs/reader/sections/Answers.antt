@@ -7,4 +7,4 @@ after_nodes-requires c = rw c.in_ok-nodes.ensures.named (few_nodes _ c.in_ok-nod
 pub network-requires : goal.network-requires
 network-requires c =
     let links = rw c.in_ok-nodes.ensures.named at c.in_ok-links.ensures.links in
-    read_is_network _ _ c.in_ok-nodes.nodes _ links.0 c.in_ok-links.links c.in_ok-nodes.ensures.reads links.1
+    read_is_network c.args.places _ _ c.in_ok-nodes.nodes _ links.0 c.in_ok-links.links c.in_ok-nodes.ensures.reads links.1
