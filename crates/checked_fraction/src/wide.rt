@@ -4,12 +4,10 @@ ghost use Rattle.checked_fraction.specs.inner.Passes.{CanMix, raw, over, IsWithi
 
 use crate::divisor::Divisor;
 use crate::mix::{Mix, WIDE, reduced_at};
-use thiserror::Error;
 
 /// Where a row in lowest terms is too wide: its first number that is 2^62 or more in absolute value.
 /// The denominator comes last.
-#[derive(Clone, Copy, Debug, PartialEq, Eq, Error)]
-#[error("number {at} is {value} in lowest terms, which is too wide")]
+#[derive(Clone, Copy)]
 pub struct WideNumber {
     /// The place among the numbers, from 0; their count stands for the denominator.
     pub at: u32,

@@ -12,7 +12,6 @@ use crate::keyed::{Keyed, Room};
 use crate::weights::weigh;
 use checked_fraction::{Row, Sum, lower};
 use net_core::List;
-use thiserror::Error;
 
 /// Takes a row's number times its weight away, if the row is one of the demand.
 fn take_row(sum: &mut Sum, row: &Row, owner: u32, weight: &i64, demand: u32, k: usize)
@@ -118,13 +117,11 @@ fn key_row(
 }
 
 /// What is too wide of a key's row.
-#[derive(Clone, Copy, Debug, PartialEq, Eq, Error)]
+#[derive(Clone, Copy)]
 pub enum WideKey {
     /// The common denominator of the rows of the demand.
-    #[error("the common denominator of a demand's rows is too wide")]
     Common,
     /// The row itself.
-    #[error("the row of a key is too wide")]
     Row,
 }
 

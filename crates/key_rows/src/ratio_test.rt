@@ -23,19 +23,15 @@ use crate::weights::{key_value, step_of, weigh};
 use checked_fraction::Row;
 use net_core::RouteColumn;
 use std::cmp::Ordering;
-use thiserror::Error;
 
 /// What is too wide when it is decided which column leaves.
-#[derive(Clone, Copy, Debug, PartialEq, Eq, Error)]
+#[derive(Clone, Copy)]
 pub enum WideTest {
     /// The common denominator of the rows of a demand.
-    #[error("the common denominator of a demand's rows is too wide")]
     Common,
     /// The product of the key of this role with the column that enters.
-    #[error("role {0}: the product of the key with the column that enters is too wide")]
     Product(u32),
     /// The row of the key of this role.
-    #[error("role {0}: the row of the key is too wide")]
     Row(u32),
 }
 

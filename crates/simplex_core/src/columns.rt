@@ -7,7 +7,7 @@ use checked_fraction::Row;
 use net_core::{Copied, List, NoMemory};
 
 /// What a unit of a column takes of a row.
-#[derive(Clone, Copy, Debug, PartialEq, Eq)]
+#[derive(Clone, Copy)]
 pub struct Entry {
     /// The place of the row, from 0.
     pub row: u32,

@@ -23,28 +23,14 @@ use crate::value::{ValueFault, fractions_of, row_value};
 use checked_fraction::Row;
 use net_core::{Copied, List, NoMemory, WideKind};
 use std::alloc::Global;
-use std::fmt::{self, Debug, Formatter, Write};
-use thiserror::Error;
 
 /// Why there is no optimum.
-#[derive(Drop, Error)]
+#[derive(Drop)]
 pub enum SimplexFault<N> {
     /// A number of this basis is too wide.
-    #[error("a number of a basis is too wide")]
     Wide { basis: List<N>, kind: WideKind<N> },
     /// The call ran out of memory.
-    #[error("out of memory")]
     NoMemory,
-}
-
-/// Without the names, which need not be shown.
-impl<N> Debug for SimplexFault<N> {
-    fn fmt<W: Write>(&self, f: &mut Formatter<W>) -> fmt::Result {
-        f.write_str(match self {
-            SimplexFault::Wide { .. } => "Wide { .. }",
-            SimplexFault::NoMemory => "NoMemory",
-        })
-    }
 }
 
 impl<N: Copied> Copied for SimplexFault<N> {
