@@ -14,13 +14,13 @@ use Rattle.simplex_law.proofs.Limited.{limited}
 use Rattle.simplex_law.proofs.Optimal.{optimum, greatest, none_gains}
 use Rattle.simplex_law.proofs.Reached.{value_nonneg}
 use Rattle.simplex_law.proofs.Values.{value_low}
-use Rattle.simplex_core.specs.inner.Commons.{IsFractionOf, AreFractionsOf, num_of_fraction, den_of_fraction, fraction_den, DivideAll, value_at}
+use Rattle.simplex_core.specs.inner.Commons.{IsFractionOf, AreFractionsOf, HaveFractions, num_of_fraction, den_of_fraction, fraction_den, DivideAll, value_at}
 use Rattle.simplex_core.specs.Prices.{GainsAt}
 use Rattle.simplex_core.specs.Tables.{nums_at, den_at}
 use Rattle.simplex_law.specs.Bases.{AreNames}
 use Rattle.simplex_core.specs.Programs.{IsSameProgram, Solves, IsSimplexAnswer}
 use Rattle.simplex_core.proofs.Solving.{IsAt}
-use Rattle.simplex_core.specs.inner.Outcomes.{HasLowValues, IsValued, IsBasisOutcome}
+use Rattle.simplex_core.specs.inner.Outcomes.{HasLowValues, IsValued, IsValuesOutcome, IsBasisOutcome}
 use Rattle.simplex_core.specs.inner.Turns.{reduced_cost, Enters, IsDone, HasEntered, IsTurnOutcome}
 use Rattle.simplex_core.specs.declared.basis.Basis.{Basis}
 use Rattle.simplex_core.specs.declared.optimum.Optimum.{Optimum}
@@ -29,6 +29,8 @@ use Rattle.simplex_core.specs.declared.solver.SimplexFault.TheVariants.{Wide, No
 use Rattle.simplex_core.specs.declared.solver.Turn.{Turn}
 use Rattle.simplex_core.specs.declared.solver.Turn.TheVariants.{Again, Best, Unbounded, Wide as WideTurn, NoMemory as NoMemoryTurn}
 use Rattle.simplex_core.specs.declared.fraction.Fraction.{Fraction}
+use Rattle.simplex_core.specs.declared.value.ValueFault.{ValueFault}
+use Rattle.simplex_core.specs.declared.value.ValueFault.TheVariants.{Sum as SumFault, Common as CommonFault, NoMemory as NoMemoryFault}
 use Rattle.simplex_core.proofs.Evidences.{end_evidence}
 use Rattle.simplex_core.proofs.Multiples.{numerator_times}
 use Rattle.simplex_core.proofs.Starts.{each_at}
@@ -153,3 +155,9 @@ module _ {N : Type 0} (m n : ℕ) (bound bounds : ℕ → ℤ) (slack slacks : �
   first_turn b Again new h = first_entered b Again new h
   first_turn b (WideTurn kind) new h = first_entered b (WideTurn kind) new h
   first_turn b Unbounded new h = first_entered b Unbounded new h
+
+-- where there are no fractions, there are no values
+pub no_values : {N : Type 0} (b : Basis N) (fault : ValueFault) → HaveFractions b.rows (num b.bounds) (Err fault) → IsValuesOutcome b (Err fault)
+no_values b (SumFault i) wide = wide
+no_values b CommonFault none = absurd none
+no_values b NoMemoryFault h = h

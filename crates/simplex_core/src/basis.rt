@@ -22,14 +22,16 @@ pub(crate) struct Basis<N> {
     pub(crate) spare: Row,
 }
 
-fn zero_row(alloc: Global, n: u32) -> Result<Row, NoMemory>
+/// A row of `n` zeros over 1. It takes memory in the count.
+pub fn zero_row(alloc: Global, n: u32) -> Result<Row, NoMemory>
     ensures { IfOk result (λ row. (row.nums ≡ replicate n (pos 0)) × (row.den ≡ pos 1)) }
 {
     let nums = List::filled(alloc, 0, n as usize)?;
     Ok(Row { nums, den: 1 })
 }
 
-fn unit_rows(alloc: Global, n: u32) -> Result<List<Row>, NoMemory>
+/// The rows of the unit matrix of `n` rows, over 1. It takes time and memory in the square of the count.
+pub fn unit_rows(alloc: Global, n: u32) -> Result<List<Row>, NoMemory>
     ensures count { IfOk result (λ rows. length rows ≡ n) }
     ensures units { IfOk result (AtEach (IsUnit n)) }
 {

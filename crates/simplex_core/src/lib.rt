@@ -1,7 +1,7 @@
 //! The packing simplex in whole numbers: an optimum, or a basis on which a number grew too wide.
 #![tactic(auto)]
 
-mod basis;
+pub mod basis;
 pub mod columns;
 pub mod factors;
 mod fraction;

@@ -240,10 +240,8 @@ fn finish<N: Drop>(alloc: Global, basis: Basis<N>) -> Result<Optimum<N>, Simplex
 fn stopped<N: Drop>(basis: Basis<N>, kind: WideKind<N>) -> SimplexFault<N>
     ensures { result ≡ SimplexFault.Wide basis.names kind }
 {
-    SimplexFault::Wide {
-        basis: basis.names,
-        kind,
-    }
+    let (names, _) = parts_of(basis);
+    SimplexFault::Wide { basis: names, kind }
 }
 
 /// An optimum of the program, or a basis, reached by gaining steps, on which a number is too wide, or that the call ran out

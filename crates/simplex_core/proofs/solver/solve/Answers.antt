@@ -1,4 +1,5 @@
-use Rattle.std.proofs.Common.{sym, subst}
+use Rattle.std.proofs.Common.{length, sym, subst}
+use Rattle.simplex_core.specs.inner.Shapes.{IsShaped}
 use Rattle.simplex_core.specs.inner.Outcomes.{HasLowValues, IsBasisOutcome}
 use Rattle.simplex_core.specs.declared.solver.Turn.TheVariants.{Again, Best, Unbounded, Wide}
 use Rattle.simplex_core.proofs.Ending.{answers, low_values, some_limit, same_program, same_trans, first_turn}
@@ -83,3 +84,41 @@ returns-in-Wide-clause-answer g c =
     let kind = c.in-Wide.kind in
     let h = first_turn (p.rows first) (p.rows now) (p.bound first) (p.bound now) (p.slack first) (p.slack now) (p.is_listed first) (p.is_listed now) c.loop-basis.invariant.same b (Wide kind) c.take_turn.new.basis c.in-Wide.ensures.turn in
     rw c.stopped.ensures (evidence (p.rows first) (p.bound first) (p.slack first) (p.is_listed first) b h.column kind c.take_turn.new.basis h.is_column c.loop-basis.invariant.at h.enters)
+
+pub returns-in-Best-clause-same : goal.returns-in-Best-clause-same
+returns-in-Best-clause-same g c =
+    let p = g.C.Columns in
+    let first = c.args.cols.now in
+    let now = c.loop-basis.cols in
+    let next = c.take_turn.new.cols in
+    same_trans (p.rows first) (p.rows now) (p.rows next) (p.bound first) (p.bound now) (p.bound next) (p.slack first) (p.slack now) (p.slack next) (p.is_listed first) (p.is_listed now) (p.is_listed next) c.loop-basis.invariant.same c.take_turn.ensures.same
+
+pub returns-in-Wide-clause-same : goal.returns-in-Wide-clause-same
+returns-in-Wide-clause-same g c =
+    let p = g.C.Columns in
+    let first = c.args.cols.now in
+    let now = c.loop-basis.cols in
+    let next = c.take_turn.new.cols in
+    same_trans (p.rows first) (p.rows now) (p.rows next) (p.bound first) (p.bound now) (p.bound next) (p.slack first) (p.slack now) (p.slack next) (p.is_listed first) (p.is_listed now) (p.is_listed next) c.loop-basis.invariant.same c.take_turn.ensures.same
+
+pub returns-in-NoMemory-clause-same : goal.returns-in-NoMemory-clause-same
+returns-in-NoMemory-clause-same g c =
+    let p = g.C.Columns in
+    let first = c.args.cols.now in
+    let now = c.loop-basis.cols in
+    let next = c.take_turn.new.cols in
+    same_trans (p.rows first) (p.rows now) (p.rows next) (p.bound first) (p.bound now) (p.bound next) (p.slack first) (p.slack now) (p.slack next) (p.is_listed first) (p.is_listed now) (p.is_listed next) c.loop-basis.invariant.same c.take_turn.ensures.same
+
+pub returns-in_err-basis-clause-same : goal.returns-in_err-basis-clause-same
+returns-in_err-basis-clause-same g c =
+    let p = g.C.Columns in
+    let first = c.args.cols.now in
+    same_program (p.rows first) (p.bound first) (p.slack first) (p.is_listed first)
+
+pub take_turn-requires-clause-shaped : goal.take_turn-requires-clause-shaped
+take_turn-requires-clause-shaped g c = subst (λ n. IsShaped n c.loop-basis.basis) (sym c.loop-basis.invariant.same.count) c.loop-basis.invariant.at.shaped
+
+pub finish-requires-clause-shaped : goal.finish-requires-clause-shaped
+finish-requires-clause-shaped g c =
+    let at = c.loop-basis.invariant.at in
+    subst (λ b. IsShaped (length b.rows) b) (sym c.in-Best.ensures.turn.0) (subst (λ n. IsShaped n c.loop-basis.basis) (sym at.shaped.rows) at.shaped)

@@ -1,9 +1,11 @@
-use Rattle.std.proofs.Common.{length, ◌≡◌, ◌<◌, ap, subst, inl, inr, pos, ◌<ℤ◌, arith, w64, to_z, of_z, [], ◌∷◌}
+use Rattle.std.proofs.Common.{length, ◌≡◌, ◌<◌, ap, sym, subst, inl, inr, pos, ◌<ℤ◌, arith, w64, to_z, of_z, [], ◌∷◌}
+use Rattle.std.specs.List.{AllByRecursion}
 use Rattle.std.proofs.lemmas.Int.{ints}
 use Rattle.checked_fraction.specs.Rows.{num}
 use Rattle.simplex_law.specs.Programs.{ColumnOf}
-use Rattle.simplex_core.specs.Columns.{column_from, column_of}
-use Rattle.simplex_core.specs.inner.Turns.{Enters}
+use Rattle.simplex_core.specs.Columns.{column_from, column_of, IsEntry}
+use Rattle.simplex_core.specs.inner.Turns.{Enters, reduced_cost}
+use Rattle.simplex_core.proofs.Ending.{same_program}
 use Rattle.simplex_core.proofs.Turning.{entered, is_slack, slack_gains, gains_price}
 use Rattle.simplex_core.proofs.solver.take_turn.Goals as goal
 
@@ -49,3 +51,36 @@ returns-in-Gain-clause-turn g c =
           (subst (λ z. Enters (length old.rows) old (column_from parts.name z parts.entries) result new) back
           (subst (λ es. Enters (length old.rows) old (column_from parts.name gain es) result new) c.items.ensures c.enter-in-Gain.ensures));
     })
+
+pub enter-requires-in-Gain-clause-entries : goal.enter-requires-in-Gain-clause-entries
+enter-requires-in-Gain-clause-entries g c =
+    let parts = c.in-Gain.field-0 in
+    subst (λ es. AllByRecursion (IsEntry (length c.args.basis.now.rows)) es) (sym c.items.ensures)
+    (subst (λ n. AllByRecursion (IsEntry n) parts.entries) (sym c.requires.shaped.rows) c.in-Gain.ensures.found.entries.each)
+
+pub enter-requires-in-Gain-clause-gains : goal.enter-requires-in-Gain-clause-gains
+enter-requires-in-Gain-clause-gains g c =
+    let old = c.args.basis.now in
+    let found = c.in-Gain.ensures.found in
+    let m = g.C.Columns.rows c.args.cols.now in
+    let parts = c.in-Gain.field-0 in
+    let gain = to_z w64 (of_z w64 parts.gain) in
+    let back : gain ≡ parts.gain = omega (arith, ints, found.gain) in
+    subst (λ n. reduced_cost n old.duals (column_from parts.name gain c.items.result.now) <ℤ pos 0) (sym c.requires.shaped.rows)
+    (subst (λ es. reduced_cost m old.duals (column_from parts.name gain es) <ℤ pos 0) (sym c.items.ensures)
+    (subst (λ z. reduced_cost m old.duals (column_from parts.name z parts.entries) <ℤ pos 0) (sym back) (gains_price m old.duals (column_of parts) found.gains)))
+
+pub returns-in-Some-clause-same : goal.returns-in-Some-clause-same
+returns-in-Some-clause-same g c =
+    let p = g.C.Columns in
+    let cols = c.args.cols.now in
+    same_program (p.rows cols) (p.bound cols) (p.slack cols) (p.is_listed cols)
+
+pub returns-in-Gain-clause-same : goal.returns-in-Gain-clause-same
+returns-in-Gain-clause-same g c = let is = c.in-Gain.ensures in record { count = is.rows; limits = is.bound; slacks_are = is.slack; listed = is.listed }
+
+pub returns-in-Optimal-clause-same : goal.returns-in-Optimal-clause-same
+returns-in-Optimal-clause-same g c = let is = c.in-Optimal.ensures in record { count = is.rows; limits = is.bound; slacks_are = is.slack; listed = is.listed }
+
+pub returns-in-NoMemory-clause-same : goal.returns-in-NoMemory-clause-same
+returns-in-NoMemory-clause-same g c = let is = c.in-NoMemory.ensures in record { count = is.rows; limits = is.bound; slacks_are = is.slack; listed = is.listed }
