@@ -12,14 +12,18 @@ use Rattle.net_core.specs.declared.demand.Demand.{Demand}
 use Rattle.net_core.specs.declared.network.Link.{Link}
 use Rattle.net_core.specs.declared.network.Network.{Network}
 use Rattle.net_core.specs.declared.network.Notes.{Notes}
-use Rattle.text_kit.specs.Files.{IsFileOf}
+use Rattle.net_core.specs.declared.places.Places.{Places}
+use Rattle.net_core.specs.declared.places.Places.TheVariants.{Three}
+use Rattle.text_kit.specs.Files.{IsFileOf, SpellsBy}
 use Rattle.text_kit.specs.Items.{ComeAfter, AreSpelled, Item, Verbatim, Closing}
 use Rattle.text_kit.specs.Written.{AddsItems, IsShortItem, money_word}
 use Rattle.text_kit.proofs.Adding.{writable}
 use Rattle.text_kit.proofs.Amounts.{amount_again, number_takes}
 use Rattle.text_kit.proofs.Files.{written_is_read}
 use Rattle.text_kit.proofs.Numerals.{money_again}
-use Rattle.sndlib_reader.specs.Spelling.{IsPartAfter, IsShortLink, NodeName, NodePart, Spells, SpellsDemand, SpellsPart, SpellsParts, header, link_items, notes_of, parts_of}
+use Rattle.sndlib_reader.specs.NetworkFiles.{IsReadWith, Spells}
+use Rattle.sndlib_reader.proofs.ItsPlaces.{three_spelled}
+use Rattle.sndlib_reader.specs.Spelling.{IsPartAfter, IsShortLink, NodeName, NodePart, SpellsDemand, SpellsPart, SpellsParts, header, link_items, notes_of, parts_of}
 use Rattle.sample_net.specs.Texts.{HasWritableNotes, costless, costless_items, network_items, unit_demand_items}
 use Rattle.sndlib_reader.proofs.Nodes.{all_names}
 use Rattle.text_kit.specs.Edits.{section}
@@ -57,7 +61,7 @@ nodes_in_order sofar (n ∷ ns) all = (all.0.short, nodes_in_order (sofar ++ Nod
 
 -- ---- links
 
-links_spelled : (nodes : List (List ℕ)) (links : List Link) → flat_map (costless_items nodes) links ≡ flat_map (link_items nodes) (map costless links)
+links_spelled : (nodes : List (List ℕ)) (links : List Link) → flat_map (costless_items nodes) links ≡ flat_map (link_items Three nodes) (map costless links)
 links_spelled nodes [] = refl
 links_spelled nodes (l ∷ ls) = ap (λ (is : List Item). costless_items nodes l ++ is) (links_spelled nodes ls)
 
@@ -96,22 +100,22 @@ notes_written net has =
 
 -- ---- demands
 
-need_read : (n : ℕ) → n < 2 ^ 40 → amount_of (money_word n) ≡ Ok n
-need_read n lt = number_takes (λ f. f) (amount_of (money_word n)) n (amount_again (λ f. f) (money_word n) n lt (money_again n (omega (arith, lt))))
+need_read : (n : ℕ) → n < 2 ^ 40 → amount_of Three (money_word Three n) ≡ Ok n
+need_read n lt = number_takes (λ f. f) (amount_of Three (money_word Three n)) n (amount_again (λ f. f) Three (money_word Three n) n lt (money_again Three n (omega (arith, lt))))
 
-one_unit : units_of (codes "1") ≡ Ok 1
+one_unit : units_of Three (codes "1") ≡ Ok 1
 unfolding units_of
 one_unit = refl
 
 demands_spelled : (nodes : List (List ℕ)) (demands : List Demand) → All (IsDemand (length nodes)) demands → AllByRecursion IsShortItem (flat_map (unit_demand_items nodes) demands)
-    → AreSpelled (SpellsDemand nodes) demands (flat_map (unit_demand_items nodes) demands)
+    → AreSpelled (SpellsDemand Three nodes) demands (flat_map (unit_demand_items nodes) demands)
 demands_spelled nodes [] sound all = refl
 demands_spelled nodes (d ∷ ds) sound all = (
   unit_demand_items nodes d,
   flat_map (unit_demand_items nodes) ds,
   record {
     unit = codes "1";
-    amount = money_word d.need;
+    amount = money_word Three d.need;
     hops = codes "UNLIMITED";
     units = 1;
     each = d.need;
@@ -128,9 +132,9 @@ demands_spelled nodes (d ∷ ds) sound all = (
 
 -- ---- the whole text
 
-text_spells : (net : Network) (demands : List Demand) (text : List ℕ) → HasWritableNotes net → AreDemands (length net.nodes) demands
+text_spells : (net : Network) (demands : List Demand) (text : List ℕ) → net.places ≡ Three → HasWritableNotes net → AreDemands (length net.nodes) demands
     → AddsItems (header ++ 10 ∷ []) (network_items net.nodes net.links demands) text → Spells text net demands
-text_spells net demands text notes belong added =
+text_spells net demands text three notes belong added =
     let nodes = net.nodes in
     let links = net.links in
     let node_items : List Item = flat_map (λ n. Verbatim n ∷ []) nodes in
@@ -139,7 +143,7 @@ text_spells net demands text notes belong added =
     let first = inside_section (codes "NODES") node_items (section (codes "LINKS") link_list ++ section (codes "DEMANDS") demand_list) added.each in
     let second = inside_section (codes "LINKS") link_list (section (codes "DEMANDS") demand_list) first.1 in
     let third = short_before demand_list (Closing ∷ []) second.1.1.1 in
-    let spelled : SpellsParts (parts_of net, demands) (network_items nodes links demands) = record {
+    let spelled : SpellsParts Three (parts_of net, demands) (network_items nodes links demands) = record {
       meta = [];
       parts = map NodeName nodes;
       part_items = node_items;
@@ -147,7 +151,7 @@ text_spells net demands text notes belong added =
       demand_items = demand_list;
       paths = [];
       items_are = ap (λ (is : List Item). section (codes "NODES") node_items ++ (section (codes "LINKS") is ++ section (codes "DEMANDS") demand_list)) (links_spelled nodes links)
-          ∙ ap (λ (is : List Item). section (codes "NODES") node_items ++ (section (codes "LINKS") (flat_map (link_items nodes) (map costless links)) ++ is)) (sym (append-nil (section (codes "DEMANDS") demand_list)));
+          ∙ ap (λ (is : List Item). section (codes "NODES") node_items ++ (section (codes "LINKS") (flat_map (link_items Three nodes) (map costless links)) ++ is)) (sym (append-nil (section (codes "DEMANDS") demand_list)));
       meta_is = inl refl;
       parts_are = nodes_spelled nodes;
       parts_in_order = nodes_in_order [] nodes first.0;
@@ -155,22 +159,25 @@ text_spells net demands text notes belong added =
       links_are = links_kept links;
       links_short = All-from_recursion IsShortLink (map costless links) (links_short nodes links second.0);
       notes_are = notes_written net notes;
+      places_are = sym three;
       network = network_told nodes links net.checked;
       demands_are = demands_spelled nodes demands belong.each third;
       belong = belong;
       paths_are = inl refl;
-    } in (
+    } in
+    let file : SpellsBy header (SpellsParts Three) text (parts_of net, demands) = (
       network_items nodes links demands,
       spelled,
       subst (λ (bytes : List ℕ). IsFileOf header (network_items nodes links demands) bytes) (sym added.text)
           (written_is_read header (network_items nodes links demands) (record { one = refl; no_blank = refl }) (writable (network_items nodes links demands) added.each)),
-    )
+    ) in
+    subst (λ (p : Places). IsReadWith p text × SpellsBy header (SpellsParts p) text (parts_of net, demands)) (sym three) (three_spelled text (parts_of net, demands) file, file)
 
 -- the same of what the writer has in hand
-pub text_of_parts : (net : Network) (demands : List Demand) (nodes : List (List ℕ)) (links : List Link) (asked : List Demand) (start text : List ℕ) → HasWritableNotes net → AreDemands (length net.nodes) demands
+pub text_of_parts : (net : Network) (demands : List Demand) (nodes : List (List ℕ)) (links : List Link) (asked : List Demand) (start text : List ℕ) → net.places ≡ Three → HasWritableNotes net → AreDemands (length net.nodes) demands
     → nodes ≡ net.nodes → links ≡ net.links → asked ≡ demands → start ≡ header ++ 10 ∷ [] → AddsItems start (network_items nodes links asked) text → Spells text net demands
-text_of_parts net demands nodes links asked start text notes belong n l d s added =
-    text_spells net demands text notes belong
+text_of_parts net demands nodes links asked start text three notes belong n l d s added =
+    text_spells net demands text three notes belong
     (subst (λ (ns : List (List ℕ)). AddsItems (header ++ 10 ∷ []) (network_items ns net.links demands) text) n
     (subst (λ (ls : List Link). AddsItems (header ++ 10 ∷ []) (network_items nodes ls demands) text) l
     (subst (λ (ds : List Demand). AddsItems (header ++ 10 ∷ []) (network_items nodes links ds) text) d

@@ -6,6 +6,7 @@ use Rattle.net_core.specs.declared.demand.Demand.{Demand}
 use Rattle.net_core.specs.declared.network.Link.{Link}
 use Rattle.net_core.specs.declared.network.Module.{Module}
 use Rattle.net_core.specs.declared.network.Notes.{Notes}
+use Rattle.net_core.specs.declared.places.Places.TheVariants.{Three}
 use Rattle.model_reader.specs.Failures.{single_states}
 use Rattle.sample_net.specs.Draws.{nth_draw, nth_number}
 
@@ -78,6 +79,6 @@ demands_between x pairs = map (λ k. sample_demand k (slice_index_or pairs k (0,
 abbrev pub sample_demands : ℕ → ℕ → List Demand
 sample_demands seed n = demands_between (nth_number seed (chord_count n + 2 * link_count n)) (sample_pairs n)
 
--- a network and its demands, where each link fails alone
+-- a network with three places and its demands, where each link fails alone
 abbrev pub with_single_failures : List (List ℕ) → List Link → List Demand → Case
-with_single_failures nodes links demands = record { nodes = nodes; links = links; listed = single_states links; demands = demands }
+with_single_failures nodes links demands = record { nodes = nodes; links = links; listed = single_states links; demands = demands; places = Three }

@@ -1,9 +1,10 @@
--- the text of a network and its demands, in SNDlib's native format
+-- the text of a network with three places and its demands, in SNDlib's native format
 use Rattle.std.specs.Prelude.{◌≡◌, ℕ, ◌==◌, not, false, List, [], ◌∷◌, ◌++◌, flat_map, codes}
 use Rattle.std.specs.List.{list_any}
 use Rattle.net_core.specs.declared.demand.Demand.{Demand}
 use Rattle.net_core.specs.declared.network.Link.{Link}
 use Rattle.net_core.specs.declared.network.Network.{Network}
+use Rattle.net_core.specs.declared.places.Places.TheVariants.{Three}
 use Rattle.sndlib_reader.specs.declared.costs.CostedLink.{CostedLink}
 use Rattle.sndlib_reader.specs.Spelling.{node_pair_items, header, link_items}
 use Rattle.text_kit.specs.Items.{Item, Verbatim}
@@ -22,12 +23,12 @@ costless l = record { link = l; fixed_cost = 0; routing_cost = 0 }
 
 -- such a link as the file has it, its ends by the names of the nodes
 abbrev pub costless_items : List (List ℕ) → Link → List Item
-costless_items nodes l = link_items nodes (costless l)
+costless_items nodes l = link_items Three nodes (costless l)
 
 -- a demand of one unit, on paths of any length: its name, its ends, the unit and its need
 abbrev pub unit_demand_items : List (List ℕ) → Demand → List Item
 unit_demand_items nodes d =
-    Verbatim d.name ∷ node_pair_items nodes d.from d.to ++ Verbatim (codes "1") ∷ Verbatim (money_word d.need) ∷ Verbatim (codes "UNLIMITED") ∷ []
+    Verbatim d.name ∷ node_pair_items nodes d.from d.to ++ Verbatim (codes "1") ∷ Verbatim (money_word Three d.need) ∷ Verbatim (codes "UNLIMITED") ∷ []
 
 -- the sections of nodes, links and demands
 abbrev pub network_items : List (List ℕ) → List Link → List Demand → List Item

@@ -11,7 +11,7 @@ use crate::draws::Draws;
 use crate::ends::{all_pairs, link_ends};
 use crate::links::links_between;
 use crate::names::numbered;
-use net_core::{Demands, Link, List, Name, Network, NoMemory, Notes};
+use net_core::{Demands, Link, List, Name, Network, NoMemory, Notes, Places};
 use std::alloc::Global;
 
 /// The nodes n0, n1 and so on.
@@ -25,17 +25,18 @@ fn nodes(alloc: Global, n: u32) -> Result<List<Name>, NoMemory>
     Ok(nodes)
 }
 
-/// The network of parts that are known to be one, without notes.
+/// The network of parts that are known to be one, with three places and without notes.
 fn checked(nodes: List<Name>, links: List<Link>) -> Network
     requires { IsNetwork nodes links }
-    ensures { (result.nodes ≡ nodes) × (result.links ≡ links) × (result.notes ≡ no_notes) }
+    ensures parts { (result.nodes ≡ nodes) × (result.links ≡ links) × (result.notes ≡ no_notes) }
+    ensures places { result.places ≡ Places.Three }
 {
     let notes = Notes {
         fixed_cost: false,
         routing_cost: false,
         setup_cost: false,
     };
-    match Network::check(nodes, links, notes) {
+    match Network::check(nodes, links, notes, Places::Three) {
         Ok(net) => net,
         Err(_) => unreachable!(),
     }
@@ -61,7 +62,7 @@ fn demands(alloc: Global, n: u32, draws: &mut Draws) -> Result<Demands, NoMemory
 }
 
 /// The sample network of a seed with `n` nodes, and its demands: a ring with a chord from each even node, two kinds of modules on
-/// each link, and a demand between any two nodes. All numbers are in thousandths. The same seed gives the same network. Memory and
+/// each link, and a demand between any two nodes. It has three places: all numbers are in thousandths. The same seed gives the same network. Memory and
 /// time grow with the number of pairs of nodes, since every demand is made once.
 ///
 /// ```text
@@ -74,6 +75,7 @@ pub fn sample(alloc: Global, seed: u64, n: u32) -> Result<(Network, Demands), No
     ensures nodes { IfOk result (λ made. made.0.nodes ≡ sample_nodes n) }
     ensures links { IfOk result (λ made. made.0.links ≡ sample_links seed n) }
     ensures notes { IfOk result (λ made. made.0.notes ≡ no_notes) }
+    ensures places { IfOk result (λ made. made.0.places ≡ Places.Three) }
     ensures demands { IfOk result (λ made. made.1 ≡ sample_demands seed n) }
     ensures writable { IfOk result (λ made. HasWritableNotes made.0) }
     ensures belong { IfOk result (λ made. AreDemands n made.1) }

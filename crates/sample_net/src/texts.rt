@@ -3,12 +3,13 @@ ghost use Rattle.std.specs.List.{list_any};
 ghost use Rattle.net_core.specs.Demands.{AreDemands, IsDemand};
 ghost use Rattle.net_core.specs.Network.{IsLink};
 ghost use Rattle.text_kit.specs.Items.{Verbatim};
-ghost use Rattle.sndlib_reader.specs.Spelling.{Spells, node_pair_items, module_items};
+ghost use Rattle.sndlib_reader.specs.Spelling.{node_pair_items, module_items};
+ghost use Rattle.sndlib_reader.specs.NetworkFiles.{Spells};
 ghost use Rattle.sample_net.specs.Texts.{HasWritableNotes, costless_items, network_items, network_text, unit_demand_items};
 ghost use Rattle.text_kit.specs.Written.{AddsItems};
 ghost use Rattle.text_kit.specs.Edits.{section};
 
-use net_core::{Bytes, Demand, Demands, Link, Module, Name, Network, NoMemory, NodeId};
+use net_core::{Bytes, Demand, Demands, Link, Module, Name, Network, NoMemory, NodeId, Places};
 use std::alloc::Global;
 use text_kit::puts;
 use text_kit::puts::{put_amount, put_close, put_keyword, put_name, put_open, put_section};
@@ -34,17 +35,17 @@ fn put_ends(text: &mut Bytes, nodes: &[Name], a: NodeId, b: NodeId) -> Result<()
     puts::put_ends(text, &nodes[a.0 as usize], &nodes[b.0 as usize])
 }
 
-/// Puts the capacity and the cost of a module last.
+/// Puts the capacity and the cost of a module last, with three places as all amounts here.
 fn put_module(text: &mut Bytes, kind: &Module) -> Result<(), NoMemory>
-    ensures { OnOk result (AddsItems text.old (module_items kind.now) text.new) }
+    ensures { OnOk result (AddsItems text.old (module_items Places.Three kind.now) text.new) }
 {
-    put_amount(text, kind.capacity)?;
-    put_amount(text, kind.cost)
+    put_amount(text, Places::Three, kind.capacity)?;
+    put_amount(text, Places::Three, kind.cost)
 }
 
 /// Puts the capacities and costs of modules last.
 fn put_modules(text: &mut Bytes, modules: &[Module]) -> Result<(), NoMemory>
-    ensures { OnOk result (AddsItems text.old (flat_map module_items modules.now) text.new) }
+    ensures { OnOk result (AddsItems text.old (flat_map (module_items Places.Three) modules.now) text.new) }
 {
     for kind in modules {
         put_module(text, kind)?;
@@ -59,10 +60,10 @@ fn put_link(text: &mut Bytes, nodes: &[Name], link: &Link) -> Result<(), NoMemor
 {
     put_name(text, &link.name)?;
     put_ends(text, nodes, link.a, link.b)?;
-    put_amount(text, link.fixed)?;
-    put_amount(text, 0)?;
-    put_amount(text, 0)?;
-    put_amount(text, link.setup)?;
+    put_amount(text, Places::Three, link.fixed)?;
+    put_amount(text, Places::Three, 0)?;
+    put_amount(text, Places::Three, 0)?;
+    put_amount(text, Places::Three, link.setup)?;
     put_open(text)?;
     put_modules(text, link.modules.items())?;
     put_close(text)
@@ -88,7 +89,7 @@ fn put_demand(text: &mut Bytes, nodes: &[Name], demand: &Demand) -> Result<(), N
     put_name(text, &demand.name)?;
     put_ends(text, nodes, demand.from, demand.to)?;
     put_keyword(text, b"1")?;
-    put_amount(text, demand.need)?;
+    put_amount(text, Places::Three, demand.need)?;
     put_keyword(text, b"UNLIMITED")
 }
 
@@ -138,14 +139,15 @@ pub fn has_writable_notes(net: &Network) -> bool
         && notes.setup_cost == has_setup_cost(net.links().items())
 }
 
-/// The text of a network and of demands that belong to it, in SNDlib's native format, as `read_network` reads it. It takes time and
-/// memory in proportion to the text's length.
+/// The text of a network with three places and of demands that belong to it, in SNDlib's native format, as `read_network` reads it.
+/// It takes time and memory in proportion to the text's length.
 ///
 /// ```text
 /// let text = network_text(alloc, &net, &demands)?;
 /// read_network(alloc, text.items())?;      // the same network and demands
 /// ```
 pub fn network_text(alloc: Global, net: &Network, demands: &Demands) -> Result<Bytes, NoMemory>
+    requires places { net.now.places ≡ Places.Three }
     requires notes { HasWritableNotes net.now }
     requires demands { AreDemands (length net.now.nodes) demands.now }
     ensures text { IfOk result (λ text. text ≡ network_text net.now demands.now) }

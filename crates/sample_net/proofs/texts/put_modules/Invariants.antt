@@ -1,7 +1,8 @@
 use Rattle.std.proofs.Common.{take, flat_map}
+use Rattle.net_core.specs.declared.places.Places.TheVariants.{Three}
 use Rattle.sndlib_reader.specs.Spelling.{module_items}
 use Rattle.text_kit.specs.Written.{AddsItems}
 use Rattle.sample_net.proofs.texts.put_modules.Given as goal
 
 abbrev pub invariant-loop-kind : goal.invariant-loop-kind
-invariant-loop-kind l = AddsItems l.fn.text (flat_map module_items (take l.kind-index l.modules)) l.text
+invariant-loop-kind l = AddsItems l.fn.text (flat_map (module_items Three) (take l.kind-index l.modules)) l.text
