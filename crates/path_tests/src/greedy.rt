@@ -38,7 +38,7 @@ const ROWS: [Row; 13] = [
     (EQUAL, 0, 1, [6000, 9000, 6000], [0, 0]),
 ];
 
-/// Whether the row is what is left, and the routing is of whole thousandths.
+/// Whether the row is what is left, and the routing is of whole units.
 fn is_rest(left: &Left, row: &Row) -> bool {
     left.routing.den == 1 && left.rest.items() == row.4.as_slice()
 }

@@ -1,6 +1,6 @@
 use crate::fixtures::{TWO_KINDS, are_modules};
-use module_prices::{bound_of, price_lengths, unit_pair};
-use net_core::{Module, Network};
+use module_prices::{bound_of, cost_divisor, price_lengths, unit_pair};
+use net_core::{Link, List, Module, Name, Network, NodeId};
 use std::alloc::Global;
 use worked_networks::{LinkRow, ONE, TEN, network};
 
@@ -106,7 +106,7 @@ const BOUNDS: [BoundRow; 8] = [
 ];
 
 fn has_bound(net: &Network, raw: u128, den: u128, want: u128) -> bool {
-    raw < 1 << 126 && den > 0 && den < 1 << 72 && bound_of(net.links().items(), raw, den) == want
+    raw < 1 << 126 && den > 0 && bound_of(net.links().items(), raw, den) == want
 }
 
 fn is_bound(alloc: Global, row: &BoundRow) -> bool {
@@ -121,5 +121,58 @@ fn is_bound(alloc: Global, row: &BoundRow) -> bool {
 fn bounds_are_multiples(rt: HostRuntime) {
     for i in 0..BOUNDS.len() {
         assert!(rt; is_bound(rt.alloc(), &BOUNDS[i]), "row {i}");
+    }
+}
+
+/// Links with their setups, the divisor of all that they charge, and the bound of a raw value of 600001 / 2.
+type SetupRow = (&'static [(u64, &'static [Module])], u64, u128);
+
+/// Setups that differ, a setup of 0 beside others, links without modules, and free modules.
+const SETUPS: [SetupRow; 8] = [
+    (&[(30000, &TWO_KINDS), (20000, &TWO_KINDS)], 10000, 310000),
+    (&[(30000, &TEN), (7000, &TEN)], 1000, 301000),
+    (&[(0, &TWO_KINDS), (30000, &TWO_KINDS)], 10000, 310000),
+    (&[(0, &TWO_KINDS), (0, &FREE)], 50000, 350000),
+    (&[(30000, &TWO_KINDS), (7, &[])], 10000, 310000),
+    (&[(300, &FREE), (450, &FREE)], 150, 300150),
+    (&[(0, &FREE), (7, &[])], 0, 0),
+    (&[], 0, 0),
+];
+
+/// A link between two nodes.
+fn link(alloc: Global, setup: u64, modules: &[Module]) -> Option<Link> {
+    Some(Link {
+        name: Name::new(alloc, b"AB").ok()?,
+        a: NodeId(0),
+        b: NodeId(1),
+        fixed: 0,
+        setup,
+        modules: List::from_slice(alloc, modules).ok()?,
+    })
+}
+
+/// The links of these setups and modules.
+fn links_of(alloc: Global, rows: &[(u64, &'static [Module])]) -> Option<List<Link>> {
+    let mut links = List::new(alloc);
+    for (setup, modules) in rows {
+        links.push(link(alloc, *setup, modules)?).ok()?;
+    }
+    Some(links)
+}
+
+fn has_divisor(alloc: Global, row: &SetupRow) -> bool {
+    let (rows, divisor, bound) = row;
+    match links_of(alloc, rows) {
+        Some(links) => {
+            cost_divisor(links.items()) == *divisor && bound_of(links.items(), 600001, 2) == *bound
+        }
+        None => false,
+    }
+}
+
+#[test]
+fn setups_are_charged(rt: HostRuntime) {
+    for i in 0..SETUPS.len() {
+        assert!(rt; has_divisor(rt.alloc(), &SETUPS[i]), "row {i}");
     }
 }

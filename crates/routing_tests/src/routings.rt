@@ -96,7 +96,7 @@ const TWO_HUBS: [LinkRow; 6] = [
     (2, 4, 0, &TEN),
 ];
 
-/// The hubs with a thousandth between each two of A, B and C: half of it goes over each hub, in the only routing.
+/// The hubs with a unit between each two of A, B and C: half of it goes over each hub, in the only routing.
 const HALVES: [Row; 3] = [
     (0, 1, &[1, 1, 1, 1, 1, 1], Want::Over(2)),
     (0, 2, &[2, 2, 2, 2, 2, 2], Want::Over(1)),
@@ -112,7 +112,7 @@ const FIVE_NODES: [LinkRow; 5] = [
     (4, 0, 0, &TEN),
 ];
 
-/// The ring with a thousandth from A to C, which greedily takes AB and BC, and then a thousandth from A to B, which is blocked. In
+/// The ring with a unit from A to C, which greedily takes AB and BC, and then a unit from A to B, which is blocked. In
 /// each routing all links but BC are full. The numbers are short by one on one link after another.
 const BLOCKED: [Row; 8] = [
     (
