@@ -1,11 +1,11 @@
 -- What the writer draws from a report's form, and that its text spells the report.
-use Rattle.std.proofs.Common.{ℕ, List, [], ◌∷◌, ◌++◌, All, refl, sym, subst}
+use Rattle.std.proofs.Common.{◌≡◌, ℕ, List, [], ◌∷◌, ◌++◌, All, refl, sym, subst, ◌∙◌, append_assoc}
 use Rattle.net_core.specs.declared.demand.Demand.{Demand}
 use Rattle.net_core.specs.declared.places.Places.{Places}
 use Rattle.net_core.specs.declared.places.Places.TheVariants.{Three, Six}
 use Rattle.plan_types.specs.declared.report.Report.{Report}
 use Rattle.text_kit.specs.Files.{IsFileOf}
-use Rattle.text_kit.specs.Items.{ComeAfter}
+use Rattle.text_kit.specs.Items.{ComeAfter, Item}
 use Rattle.text_kit.specs.Laws.{IsHeaderLine}
 use Rattle.text_kit.proofs.Adding.{writable}
 use Rattle.text_kit.proofs.After.{after_all, after_as}
@@ -14,7 +14,7 @@ use Rattle.plan_report.specs.Forms.{IsDemandInForm, IsReportInForm}
 use Rattle.plan_report.specs.Items.{report_items}
 use Rattle.plan_report.specs.KnownNames.{KnownNames}
 use Rattle.plan_report.specs.Texts.{SpellsReport, report_header}
-use Rattle.text_kit.specs.Written.{AddsItems}
+use Rattle.text_kit.specs.Written.{AddsItems, written}
 use Rattle.plan_report.specs.inner.Writable.{IsWritableDemand}
 
 pub writable_demands : (nodes : List (List ℕ)) (demands : List Demand) → ComeAfter (IsDemandInForm nodes) [] demands → All (IsWritableDemand nodes) demands
@@ -27,10 +27,14 @@ header_line : (p : Places) → IsHeaderLine (report_header p)
 header_line Three = record { one = refl; no_blank = refl }
 header_line Six = record { one = refl; no_blank = refl }
 
+-- what was added after the first line
+pub text_is : (header : List ℕ) (items : List Item) (text : List ℕ) → AddsItems (header ++ 10 ∷ []) items text → text ≡ header ++ 10 ∷ written items
+text_is header items text p = p.text ∙ append_assoc header (10 ∷ []) (written items)
+
 pub text_spells : (known : KnownNames) (r : Report) (text : List ℕ)
     → IsReportInForm known r → AddsItems (report_header known.places ++ 10 ∷ []) (report_items known r) text → SpellsReport known text r
 text_spells known r text form p = record {
   form = form;
-  file = subst (λ (bytes : List ℕ). IsFileOf (report_header known.places) (report_items known r) bytes) (sym p.text)
+  file = subst (λ (bytes : List ℕ). IsFileOf (report_header known.places) (report_items known r) bytes) (sym (text_is (report_header known.places) (report_items known r) text p))
       (written_is_read (report_header known.places) (report_items known r) (header_line known.places) (writable (report_items known r) p.each));
 }

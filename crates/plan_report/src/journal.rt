@@ -78,12 +78,7 @@ fn put_event(text: &mut Bytes, places: Places, entry: &Entry) -> Result<(), NoMe
 }
 
 /// Puts the entry at a position last.
-fn put_entry(
-    text: &mut Bytes,
-    places: Places,
-    position: u64,
-    entry: &Entry,
-) -> Result<(), NoMemory>
+fn put_entry(text: &mut Bytes, places: Places, position: u64, entry: &Entry) -> Result<(), NoMemory>
     requires { (pool : List CutLine) × IsEntryInForm pool entry.now }
     ensures { OnOk result (AddsItems text.old (entry_items places (position, entry.now)) text.new) }
 {

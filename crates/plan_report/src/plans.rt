@@ -1,5 +1,6 @@
-ghost use Rattle.std.specs.Prelude.{◌≡◌, ◌<◌, ◌^◌, ◌∷◌, ◌++◌, All, OnOk, flat_map, length, zip};
-ghost use Rattle.text_kit.specs.Items.{Whole};
+ghost use Rattle.std.specs.Prelude.{◌≡◌, ◌<◌, ◌^◌, [], ◌∷◌, ◌++◌, All, OnOk, flat_map, length, zip};
+ghost use Rattle.net_core.specs.Names.{IsName};
+ghost use Rattle.text_kit.specs.Items.{Verbatim, Whole, Money};
 ghost use Rattle.plan_report.specs.Forms.{AreRoutingsInForm, IsPlanInForm, IsQualityInForm};
 ghost use Rattle.plan_report.specs.Items.{costs_items, demand_items, modules_items, numbers_items, plan_items, quality_items, routings_items};
 ghost use Rattle.text_kit.specs.Edits.{enclosed};
@@ -74,6 +75,16 @@ fn put_modules(text: &mut Bytes, links: &[Link], counts: &[List<u64>]) -> Result
     put_close(text)
 }
 
+/// Puts a word of a format and money last.
+fn put_sum(text: &mut Bytes, places: Places, word: &[u8], n: u128) -> Result<(), NoMemory>
+    requires name { IsName word.now }
+    requires small { n < 2 ^ 126 }
+    ensures { OnOk result (AddsItems text.old (Verbatim word.now ∷ Money places n ∷ []) text.new) }
+{
+    put_keyword(text, word)?;
+    put_money(text, places, n)
+}
+
 /// Puts the cost of a plan, its bound and its raw value last.
 fn put_costs(text: &mut Bytes, places: Places, plan: &Plan) -> Result<(), NoMemory>
     requires cost { plan.now.cost < 2 ^ 126 }
@@ -81,10 +92,8 @@ fn put_costs(text: &mut Bytes, places: Places, plan: &Plan) -> Result<(), NoMemo
     requires raw { (plan.now.raw_num < 2 ^ 126) × (plan.now.raw_den < 2 ^ 72) }
     ensures { OnOk result (AddsItems text.old (costs_items places plan.now) text.new) }
 {
-    put_keyword(text, b"cost")?;
-    put_money(text, places, plan.cost)?;
-    put_keyword(text, b"bound")?;
-    put_money(text, places, plan.bound)?;
+    put_sum(text, places, b"cost", plan.cost)?;
+    put_sum(text, places, b"bound", plan.bound)?;
     put_keyword(text, b"raw")?;
     put_whole(text, plan.raw_num)?;
     put_whole(text, plan.raw_den)
