@@ -1,7 +1,7 @@
 ghost use Rattle.std.specs.Prelude.{◌<◌, ◌^◌, ◌↔◌, All, IsTrue};
 ghost use Rattle.net_core.specs.Network.{IsModule};
 
-use net_core::{Module, Network, Problem, States};
+use net_core::{Copied, Link, List, Module, Network, Notes, Places, Problem, States};
 use std::alloc::Global;
 use worked_networks::{DemandRow, LinkRow, TEN, demands, failing, network};
 
@@ -17,8 +17,43 @@ pub(crate) const TWO_KINDS: [Module; 2] = [
     },
 ];
 
+/// A module of 10.00 for nothing.
+pub(crate) const FREE: [Module; 1] = [Module {
+    capacity: 10000,
+    cost: 0,
+}];
+
 /// A triangle of modules of 10.00 for 5.00: the links AB, BC and AC.
 pub(crate) const TRIANGLE: [LinkRow; 3] = [(0, 1, 0, &TEN), (1, 2, 0, &TEN), (0, 2, 0, &TEN)];
+
+/// The links of a network with these setups, one after another; a link beyond them keeps its own.
+fn with_setups(net: &Network, setups: &[u64]) -> Option<List<Link>> {
+    let mut links = net.links().copy().ok()?;
+    let items = links.items_mut();
+    for e in 0..items.len() {
+        if let Some(setup) = setups.get(e) {
+            items[e].setup = *setup;
+        }
+    }
+    Some(links)
+}
+
+/// The network of so many nodes and these links with their setups, which are charged.
+pub(crate) fn charged(
+    alloc: Global,
+    nodes: usize,
+    rows: &[LinkRow],
+    setups: &[u64],
+) -> Option<Network> {
+    let plain = network(alloc, nodes, rows).ok()?;
+    let links = with_setups(&plain, setups)?;
+    let notes = Notes {
+        fixed_cost: false,
+        routing_cost: false,
+        setup_cost: false,
+    };
+    Network::check(plain.nodes().copy().ok()?, links, notes, Places::Three).ok()
+}
 
 /// The demands of so many nodes, beside their network and its states.
 fn with_demands(

@@ -3,7 +3,7 @@ ghost use Rattle.net_core.specs.Views.{case};
 ghost use Rattle.plan_terms.specs.Capacities.{AreCounts};
 ghost use Rattle.plan_terms.specs.Separations.{IsSurvivable};
 
-use crate::fixtures::{TRIANGLE, TWO_KINDS, are_modules};
+use crate::fixtures::{FREE, TRIANGLE, TWO_KINDS, are_modules, charged};
 use failure_states::first_separated;
 use module_choice::{Covering, capacities, cost, cover, fallback_plan};
 use net_core::{Counts, Link, List, Module, Network, Problem};
@@ -31,40 +31,54 @@ fn covering(alloc: Global, link: &Link, need: u64) -> Option<Covering> {
     cover(alloc, link, need).ok()
 }
 
-/// Modules, a need, the counts that cover it, and their cost.
-type CoverRow = (&'static [Module], u64, [u64; 2], u128);
+/// The setup of a link, its modules, a need, the counts that cover it, and their cost.
+type CoverRow = (u64, &'static [Module], u64, &'static [u64], u128);
 
 /// Up to 100,000 steps of the capacities' common divisor kinds are mixed, beyond that one kind is taken.
 const COVERS: [CoverRow; 12] = [
-    (&TWO_KINDS, 0, [0, 0], 0),
-    (&TWO_KINDS, 1, [1, 0], 100000),
-    (&TWO_KINDS, 155000, [1, 0], 100000),
-    (&TWO_KINDS, 180000, [2, 0], 200000),
-    (&TWO_KINDS, 310001, [0, 1], 250000),
-    (&TWO_KINDS, 500000, [0, 1], 250000),
-    (&TWO_KINDS, 700000, [1, 1], 350000),
-    (&TWO_KINDS, 900000, [2, 1], 450000),
-    (&SMALL_STEPS, 99001, [1, 99], 49501),
-    (&SMALL_STEPS, 100000, [0, 100], 50000),
-    (&SMALL_STEPS, 100001, [0, 101], 50500),
-    (&SMALL_STEPS, 150100, [0, 151], 75500),
+    (0, &TWO_KINDS, 0, &[0, 0], 0),
+    (0, &TWO_KINDS, 1, &[1, 0], 100000),
+    (0, &TWO_KINDS, 155000, &[1, 0], 100000),
+    (0, &TWO_KINDS, 180000, &[2, 0], 200000),
+    (0, &TWO_KINDS, 310001, &[0, 1], 250000),
+    (0, &TWO_KINDS, 500000, &[0, 1], 250000),
+    (0, &TWO_KINDS, 700000, &[1, 1], 350000),
+    (0, &TWO_KINDS, 900000, &[2, 1], 450000),
+    (0, &SMALL_STEPS, 99001, &[1, 99], 49501),
+    (0, &SMALL_STEPS, 100000, &[0, 100], 50000),
+    (0, &SMALL_STEPS, 100001, &[0, 101], 50500),
+    (0, &SMALL_STEPS, 150100, &[0, 151], 75500),
+];
+
+/// A positive need pays the setup once, whatever is chosen for it. None pays nothing.
+const CHARGED_COVERS: [CoverRow; 10] = [
+    (3000, &TEN, 0, &[0], 0),
+    (3000, &TEN, 1, &[1], 8000),
+    (3000, &TEN, 10000, &[1], 8000),
+    (3000, &TEN, 12000, &[2], 13000),
+    (30000, &TWO_KINDS, 180000, &[2, 0], 230000),
+    (30000, &TWO_KINDS, 700000, &[1, 1], 380000),
+    (7, &SMALL_STEPS, 99001, &[1, 99], 49508),
+    (7, &SMALL_STEPS, 100001, &[0, 101], 50507),
+    (300, &FREE, 0, &[0], 0),
+    (300, &FREE, 10001, &[2], 300),
 ];
 
 fn is_cover(alloc: Global, net: &Network, row: &CoverRow) -> bool {
     let [link] = net.links().items() else {
         return false;
     };
-    match covering(alloc, link, row.1) {
-        Some(found) => found.counts.items() == row.2.as_slice() && found.cost == row.3,
+    match covering(alloc, link, row.2) {
+        Some(found) => found.counts.items() == row.3 && found.cost == row.4,
         None => false,
     }
 }
 
-/// The same on a link of the row's modules.
+/// The same on a link of the row's setup and modules.
 fn is_cover_there(alloc: Global, row: &CoverRow) -> bool {
-    match network(alloc, 2, &[(0, 1, 0, row.0)]) {
-        Ok(net) => is_cover(alloc, &net, row),
-        Err(_) => false,
+    match charged(alloc, 2, &[(0, 1, 0, row.1)], &[row.0]) {
+        Some(net) => is_cover(alloc, &net, row),
+        None => false,
     }
 }
 
@@ -72,6 +86,13 @@ fn is_cover_there(alloc: Global, row: &CoverRow) -> bool {
 fn covers(rt: HostRuntime) {
     for i in 0..COVERS.len() {
         assert!(rt; is_cover_there(rt.alloc(), &COVERS[i]), "row {i}");
+    }
+}
+
+#[test]
+fn covers_with_setups(rt: HostRuntime) {
+    for i in 0..CHARGED_COVERS.len() {
+        assert!(rt; is_cover_there(rt.alloc(), &CHARGED_COVERS[i]), "row {i}");
     }
 }
 
@@ -197,11 +218,12 @@ const RING_OF_TWO_KINDS: [LinkRow; 5] = [
     (0, 3, 0, &TWO_KINDS),
 ];
 
-/// Nodes, links and demands, and what the fallback plan must have: counts, cost and capacities.
+/// Nodes, links with their setups, and demands, and what the fallback plan must have: counts, cost and capacities.
 #[derive(Clone, Copy)]
 struct Case {
     nodes: usize,
     links: &'static [LinkRow<'static>],
+    setups: &'static [u64],
     demands: &'static [DemandRow],
     counts: &'static [u64],
     cost: u128,
@@ -212,11 +234,13 @@ const TO_LAST: [DemandRow; 1] = [(0, 2, 12000)];
 
 const THREE_DEMANDS: [DemandRow; 3] = [(0, 1, 60000), (0, 3, 80000), (1, 2, 40000)];
 
-/// Each link fails alone. With modules of 1.00 the counts are the greatest loads.
-const FALLBACKS: [Case; 6] = [
+/// Each link fails alone. With modules of 1.00 the counts are the greatest loads. A link without setup costs what its modules do, and
+/// one whose pre-installed capacity is enough costs nothing.
+const FALLBACKS: [Case; 11] = [
     Case {
         nodes: 3,
         links: &TRIANGLE,
+        setups: &[],
         demands: &TO_LAST,
         counts: &[2, 2, 2],
         cost: 30000,
@@ -225,6 +249,7 @@ const FALLBACKS: [Case; 6] = [
     Case {
         nodes: 3,
         links: &WITH_TWO,
+        setups: &[],
         demands: &TO_LAST,
         counts: &[1, 1, 1],
         cost: 15000,
@@ -233,6 +258,7 @@ const FALLBACKS: [Case; 6] = [
     Case {
         nodes: 3,
         links: &WITH_TWELVE,
+        setups: &[],
         demands: &TO_LAST,
         counts: &[0, 0, 0],
         cost: 0,
@@ -241,6 +267,7 @@ const FALLBACKS: [Case; 6] = [
     Case {
         nodes: 2,
         links: &[(0, 1, 0, &ONE), (0, 1, 0, &ONE), (0, 1, 0, &ONE)],
+        setups: &[],
         demands: &[(0, 1, 10000)],
         counts: &[10, 10, 0],
         cost: 20000,
@@ -249,6 +276,7 @@ const FALLBACKS: [Case; 6] = [
     Case {
         nodes: 4,
         links: &RING_OF_ONES,
+        setups: &[],
         demands: &THREE_DEMANDS,
         counts: &[180, 100, 40, 40, 140],
         cost: 500000,
@@ -257,10 +285,56 @@ const FALLBACKS: [Case; 6] = [
     Case {
         nodes: 4,
         links: &RING_OF_TWO_KINDS,
+        setups: &[],
         demands: &THREE_DEMANDS,
         counts: &[2, 0, 1, 0, 1, 0, 1, 0, 1, 0],
         cost: 600000,
         capacities: &[310000, 155000, 155000, 155000, 155000],
+    },
+    Case {
+        nodes: 3,
+        links: &TRIANGLE,
+        setups: &[3000, 3000, 3000],
+        demands: &TO_LAST,
+        counts: &[2, 2, 2],
+        cost: 39000,
+        capacities: &[20000, 20000, 20000],
+    },
+    Case {
+        nodes: 3,
+        links: &TRIANGLE,
+        setups: &[1000, 0, 7000],
+        demands: &TO_LAST,
+        counts: &[2, 2, 2],
+        cost: 38000,
+        capacities: &[20000, 20000, 20000],
+    },
+    Case {
+        nodes: 3,
+        links: &WITH_TWELVE,
+        setups: &[3000, 3000, 3000],
+        demands: &TO_LAST,
+        counts: &[0, 0, 0],
+        cost: 0,
+        capacities: &[12000, 12000, 12000],
+    },
+    Case {
+        nodes: 3,
+        links: &[(0, 1, 12000, &TEN), (1, 2, 2000, &TEN), (0, 2, 0, &TEN)],
+        setups: &[1000, 2000, 4000],
+        demands: &TO_LAST,
+        counts: &[0, 1, 2],
+        cost: 21000,
+        capacities: &[12000, 12000, 20000],
+    },
+    Case {
+        nodes: 2,
+        links: &[(0, 1, 0, &ONE), (0, 1, 0, &ONE), (0, 1, 0, &ONE)],
+        setups: &[5, 6, 7],
+        demands: &[(0, 1, 10000)],
+        counts: &[10, 10, 0],
+        cost: 20011,
+        capacities: &[10000, 10000, 0],
     },
 ];
 
@@ -294,7 +368,7 @@ fn is_fallback(alloc: Global, p: &Problem, case: &Case) -> bool {
 fn problem_of(alloc: Global, case: &Case) -> Option<Problem> {
     problem(
         alloc,
-        network(alloc, case.nodes, case.links).ok()?,
+        charged(alloc, case.nodes, case.links, case.setups)?,
         case.demands,
     )
     .ok()

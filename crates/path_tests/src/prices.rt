@@ -1,14 +1,8 @@
-use crate::fixtures::{TWO_KINDS, are_modules};
+use crate::fixtures::{FREE, TWO_KINDS, are_modules};
 use module_prices::{bound_of, cost_divisor, price_lengths, unit_pair};
 use net_core::{Link, List, Module, Name, Network, NodeId};
 use std::alloc::Global;
 use worked_networks::{LinkRow, ONE, TEN, network};
-
-/// A module of 10.00 for nothing.
-const FREE: [Module; 1] = [Module {
-    capacity: 10000,
-    cost: 0,
-}];
 
 /// Modules of 1.00 for 1.00 and of 10.00 for 5.00.
 const ONE_AND_TEN: [Module; 2] = [
