@@ -8,7 +8,7 @@ ghost use Rattle.module_choice.specs.inner.Tables.{Answers, IsTable};
 
 use crate::tables::{MOST_STEPS, Table, capacity_divisor, counts_for, few_steps, table_for};
 use crate::totals::link_cost;
-use net_core::{Copied, Link, List, Module, NoMemory};
+use net_core::{Link, List, Module, NoMemory};
 use std::alloc::Global;
 
 /// Counts of a link's modules, and their cost.
@@ -18,15 +18,6 @@ pub struct Covering {
     pub counts: List<u64>,
     /// What they cost with the setup of the link, in units of the network.
     pub cost: u128,
-}
-
-impl Copied for Covering {
-    fn copy(&self) -> Result<Covering, NoMemory> {
-        Ok(Covering {
-            counts: self.counts.copy()?,
-            cost: self.cost,
-        })
-    }
 }
 
 /// A kind of module by its place, and how many of them.

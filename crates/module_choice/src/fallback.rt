@@ -16,8 +16,7 @@ use crate::routes::route_state;
 use crate::totals::cost;
 use module_prices::price_lengths;
 use net_core::{
-    Copied, Counts, Demands, Instance, Lengths, Link, List, Network, NoMemory, Routing, StateId,
-    States,
+    Counts, Demands, Instance, Lengths, Link, List, Network, NoMemory, Routing, StateId, States,
 };
 use std::alloc::Global;
 
@@ -30,16 +29,6 @@ pub struct Fallback {
     pub routings: List<Routing>,
     /// What the counts cost, in units of the network.
     pub cost: u128,
-}
-
-impl Copied for Fallback {
-    fn copy(&self) -> Result<Fallback, NoMemory> {
-        Ok(Fallback {
-            counts: self.counts.copy()?,
-            routings: self.routings.copy()?,
-            cost: self.cost,
-        })
-    }
 }
 
 /// The routings of states, and the greatest load of each link over them, in units of the network.
