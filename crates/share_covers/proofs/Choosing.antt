@@ -1,5 +1,6 @@
 -- the fallback plan, or the covers of a share
-use Rattle.std.proofs.Common.{◌≡◌, ℕ, ◌*◌, ◌≤◌, ◌<◌, inl, inr, List, [], All, Some, get_or, length, refl, subst, arith, slice_get}
+use Rattle.std.proofs.Common.{◌≡◌, ℕ, ◌*◌, ◌≤◌, ◌<◌, Bool, true, false, if◌then◌else◌, nat_lt, inl, inr, List, [], All, Some, get_or, length, refl, subst, arith, slice_get}
+use Rattle.std.proofs.lemmas.Bool.{ltb-false, ltb-true}
 use Rattle.std.proofs.lemmas.Option.{slice_get-get_or}
 use Rattle.std.proofs.Math.Logic.{∥∥₁_elim}
 use Rattle.std.proofs.Math.Nat.{eq-one_of_dvd-one}
@@ -25,9 +26,12 @@ use Rattle.master_law.specs.UnitPairs.{AreUnitPairs, share_caps}
 use Rattle.plan_law.specs.TightPlans.{CostsAtMostCover}
 use Rattle.plan_law.proofs.Covering.{covers_carry}
 use Rattle.share_covers.specs.Choices.{CarriesShare, IsChosen, IsQualityAfter, IsQualityOfShare, IsWideAtCovers, RulesOutCovers}
-use Rattle.share_covers.specs.InstalledRoutes.{AreRoutedWithin, IsShortWithin, IsWideWithin, installed_caps}
+use Rattle.share_covers.specs.InstalledRoutes.{AreRoutedWithin, IsRoutesAnswer, IsShortWithin, IsWideWithin, installed_caps}
 use Rattle.share_covers.specs.ShareCovers.{AreShareCovers}
 use Rattle.share_covers.specs.declared.covers.Installed.{Installed}
+use Rattle.share_covers.specs.declared.routes.InstalledRoutes.{InstalledRoutes}
+use Rattle.share_covers.specs.declared.routes.InstalledRoutes.TheVariants.{Routed, Short, Wide}
+use Rattle.share_covers.specs.inner.Decided.{decided}
 use Rattle.share_covers.specs.inner.Widened.{widened}
 
 no_routing : Routing
@@ -60,7 +64,7 @@ module _ (p : Case) (demands : AreDemands (length p.nodes) p.demands) (few : len
     stays cost le (Loose cause) = refl
 
     -- the covers
-    pub taken : (routings : List Routing) → AreRoutedWithin p (installed_caps p.links installed.counts) routings → installed.cost ≤ fallback.cost
+    taken : (routings : List Routing) → AreRoutedWithin p (installed_caps p.links installed.counts) routings → installed.cost ≤ fallback.cost
         → IsChosen p share fallback before (record { counts = installed.counts; routings = routings; cost = installed.cost; quality = before })
     taken routings routed le = record {
       shape = covers.shape;
@@ -90,7 +94,7 @@ module _ (p : Case) (demands : AreDemands (length p.nodes) p.demands) (few : len
     kept_cheaper lt = kept before (inl lt) (stays fallback.cost (omega (arith, lt)) before)
 
     -- which costs as much as covers that are too wide
-    pub kept_equal : fallback.cost ≤ installed.cost → (evidence : Evidence) → IsWideWithin p (installed_caps p.links installed.counts) evidence → IsChosen p share fallback before (record { counts = fallback.counts; routings = fallback.routings; cost = fallback.cost; quality = before })
+    kept_equal : fallback.cost ≤ installed.cost → (evidence : Evidence) → IsWideWithin p (installed_caps p.links installed.counts) evidence → IsChosen p share fallback before (record { counts = fallback.counts; routings = fallback.routings; cost = fallback.cost; quality = before })
     kept_equal le evidence wide = kept before (inr (inl (evidence, wide))) (stays fallback.cost le before)
 
     quality_widened : (evidence : Evidence) → IsWideAtCovers p share fallback.cost evidence → (q : Quality) → IsQualityAfter p share fallback.cost q (widened evidence q)
@@ -98,7 +102,7 @@ module _ (p : Case) (demands : AreDemands (length p.nodes) p.demands) (few : len
     quality_widened evidence wide (Loose cause) = refl
 
     -- which costs more than covers that are too wide
-    pub kept_wide : installed.cost < fallback.cost → (evidence : Evidence) → IsWideWithin p (installed_caps p.links installed.counts) evidence
+    kept_wide : installed.cost < fallback.cost → (evidence : Evidence) → IsWideWithin p (installed_caps p.links installed.counts) evidence
         → IsChosen p share fallback before (record { counts = fallback.counts; routings = fallback.routings; cost = fallback.cost; quality = widened evidence before })
     kept_wide lt evidence wide =
         kept (widened evidence before) (inr (inl (evidence, wide))) (quality_widened evidence (record { installed = installed; covers = covers; cheaper = lt; wide = wide }) before)
@@ -117,6 +121,18 @@ module _ (p : Case) (demands : AreDemands (length p.nodes) p.demands) (few : len
     quality_short s short (Loose cause) of_share = refl
 
     -- which is there where the covers are short
-    pub kept_short : ∥ IsQualityOfShare p share before ∥₁ → (s : ℕ) → IsShortWithin p (installed_caps p.links installed.counts) s
+    kept_short : ∥ IsQualityOfShare p share before ∥₁ → (s : ℕ) → IsShortWithin p (installed_caps p.links installed.counts) s
         → IsChosen p share fallback before (record { counts = fallback.counts; routings = fallback.routings; cost = fallback.cost; quality = before })
     kept_short of_share s short = kept before (inr (inr (s, short))) (quality_short s short before of_share)
+
+    -- covers that are too wide, which cost less than the fallback plan or as much
+    decides_wide : (evidence : Evidence) → IsWideWithin p (installed_caps p.links installed.counts) evidence → installed.cost ≤ fallback.cost → (cheaper : Bool) → nat_lt installed.cost fallback.cost ≡ cheaper
+        → IsChosen p share fallback before (record { counts = fallback.counts; routings = fallback.routings; cost = fallback.cost; quality = if cheaper then widened evidence before else before })
+    decides_wide evidence wide le true lt = kept_wide (ltb-true _ _ lt) evidence wide
+    decides_wide evidence wide le false ge = kept_equal (ltb-false _ _ ge) evidence wide
+
+    -- what is decided where the fallback plan costs no less
+    pub decides : installed.cost ≤ fallback.cost → ∥ IsQualityOfShare p share before ∥₁ → (answer : InstalledRoutes) → IsRoutesAnswer p (installed_caps p.links installed.counts) answer → IsChosen p share fallback before (decided installed fallback before answer)
+    decides le of_share (Routed routings) routed = taken routings routed le
+    decides le of_share (Wide evidence) wide = decides_wide evidence wide le (nat_lt installed.cost fallback.cost) refl
+    decides le of_share (Short state) short = kept_short of_share state.0 short

@@ -4,12 +4,13 @@ ghost use Rattle.plan_terms.specs.Capacities.{AreWithinLimits};
 ghost use Rattle.plan_terms.specs.Fallbacks.{IsFallback};
 ghost use Rattle.plan_terms.specs.Separations.{IsSurvivable};
 ghost use Rattle.share_covers.specs.Choices.{IsChosen, IsQualityOfShare};
+ghost use Rattle.share_covers.specs.inner.Decided.{decided};
 ghost use Rattle.share_covers.specs.inner.Widened.{widened};
 
-use crate::covers::cover_share;
+use crate::covers::{Installed, cover_share};
 use crate::routes::{InstalledRoutes, route_installed};
 use module_choice::Fallback;
-use net_core::{Copied, Counts, Evidence, Instance, List, NoMemory, Routing};
+use net_core::{Counts, Evidence, Instance, List, NoMemory, Routing};
 use plan_types::{Cause, Quality, Share};
 use std::alloc::Global;
 
@@ -23,17 +24,6 @@ pub struct Chosen {
     /// What the counts cost, in units of the network.
     pub cost: u128,
     pub quality: Quality,
-}
-
-impl Copied for Chosen {
-    fn copy(&self) -> Result<Chosen, NoMemory> {
-        Ok(Chosen {
-            counts: self.counts.copy()?,
-            routings: self.routings.copy()?,
-            cost: self.cost,
-            quality: self.quality.copy()?,
-        })
-    }
 }
 
 /// The fallback plan.
@@ -55,6 +45,30 @@ fn widened(quality: Quality, evidence: Evidence) -> Quality
     match quality {
         Quality::Tight(_) => Quality::Loose(Cause::Wide(evidence)),
         Quality::Loose(cause) => Quality::Loose(cause),
+    }
+}
+
+/// The covers where the states answer with routings, else the fallback plan.
+fn decided(
+    answer: InstalledRoutes,
+    installed: Installed,
+    fallback: Fallback,
+    quality: Quality,
+) -> Chosen
+    ensures { result ≡ decided installed fallback quality answer }
+{
+    let cheaper = installed.cost < fallback.cost;
+    match answer {
+        InstalledRoutes::Routed(routings) => Chosen {
+            counts: installed.counts,
+            routings,
+            cost: installed.cost,
+            quality,
+        },
+        InstalledRoutes::Wide(evidence) if cheaper => {
+            keep_fallback(fallback, widened(quality, evidence))
+        }
+        _ => keep_fallback(fallback, quality),
     }
 }
 
@@ -83,19 +97,6 @@ pub fn choose(
     if fallback.cost < installed.cost {
         return Ok(keep_fallback(fallback, quality));
     }
-    match route_installed(alloc, problem, &installed.counts)? {
-        InstalledRoutes::Routed(routings) => Ok(Chosen {
-            counts: installed.counts,
-            routings,
-            cost: installed.cost,
-            quality,
-        }),
-        InstalledRoutes::Wide(evidence) => {
-            if installed.cost < fallback.cost {
-                return Ok(keep_fallback(fallback, widened(quality, evidence)));
-            }
-            Ok(keep_fallback(fallback, quality))
-        }
-        InstalledRoutes::Short(_) => Ok(keep_fallback(fallback, quality)),
-    }
+    let answer = route_installed(alloc, problem, &installed.counts)?;
+    Ok(decided(answer, installed, fallback, quality))
 }

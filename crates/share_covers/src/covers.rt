@@ -3,7 +3,7 @@ ghost use Rattle.share_covers.specs.ShareCovers.{AreShareCovers};
 
 use crate::needs::share_needs;
 use module_choice::{cost, cover_needs};
-use net_core::{Copied, Counts, Network, NoMemory};
+use net_core::{Counts, Network, NoMemory};
 use plan_types::Share;
 use std::alloc::Global;
 
@@ -14,15 +14,6 @@ pub struct Installed {
     pub counts: Counts,
     /// What they cost, in units of the network.
     pub cost: u128,
-}
-
-impl Copied for Installed {
-    fn copy(&self) -> Result<Installed, NoMemory> {
-        Ok(Installed {
-            counts: self.counts.copy()?,
-            cost: self.cost,
-        })
-    }
 }
 
 /// The cheapest modules that cover what each link needs in a share.

@@ -6,7 +6,7 @@ ghost use Rattle.share_covers.specs.InstalledRoutes.{IsRoutesAnswer, installed_c
 
 use flow_router::{RouteAnswer, route_state};
 use module_choice::capacities;
-use net_core::{Caps, Copied, Counts, Evidence, Instance, List, NoMemory, Routing, StateId};
+use net_core::{Caps, Counts, Evidence, Instance, List, NoMemory, Routing, StateId};
 use std::alloc::Global;
 
 /// Whether capacities carry the demands in every state.
@@ -18,16 +18,6 @@ pub enum InstalledRoutes {
     Wide(Evidence),
     /// They don't in this state.
     Short(StateId),
-}
-
-impl Copied for InstalledRoutes {
-    fn copy(&self) -> Result<InstalledRoutes, NoMemory> {
-        Ok(match self {
-            InstalledRoutes::Routed(routings) => InstalledRoutes::Routed(routings.copy()?),
-            InstalledRoutes::Wide(evidence) => InstalledRoutes::Wide(evidence.copy()?),
-            InstalledRoutes::Short(state) => InstalledRoutes::Short(*state),
-        })
-    }
 }
 
 /// Routings in each state within capacities.
