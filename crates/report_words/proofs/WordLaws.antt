@@ -11,6 +11,7 @@ use Rattle.net_core.specs.declared.demand.Demand.{Demand}
 use Rattle.net_core.specs.declared.ids.LinkId.{LinkId}
 use Rattle.net_core.specs.declared.ids.NodeId.{NodeId}
 use Rattle.net_core.specs.declared.network.Link.{Link}
+use Rattle.net_core.specs.declared.places.Places.{Places}
 use Rattle.net_core.proofs.Accepted.{differ}
 use Rattle.snd_tokens.specs.declared.amounts.NumberFault.{NumberFault}
 use Rattle.snd_tokens.specs.declared.whole_number.WholeFault.{WholeFault}
@@ -133,13 +134,13 @@ below_takes limit (Ok k) n e =
     (subst (λ (i : ℕ). i < limit) (ok_is {E = ReportKind} k n a.1) (ltb-true k limit a.0), a.1)
 below_takes limit (Err kind) n e = absurd cc
 
-pub money_law : (limit : ℕ) → Lawful (money_at limit) (λ n. Money n ∷ []) (λ n. n < limit) AnyText
-money_law limit = lawful_word Token Ended (money_below limit) (λ n. Money n) (λ n. n < limit) (λ n. tt)
-    (λ w n e. let t = below_takes limit (number_or Number (money_of w)) n e in (t.0, number_takes Number (money_of w) n t.1))
+pub money_law : (p : Places) (limit : ℕ) → Lawful (money_at p limit) (λ n. Money p n ∷ []) (λ n. n < limit) AnyText
+money_law p limit = lawful_word Token Ended (money_below p limit) (λ n. Money p n) (λ n. n < limit) (λ n. tt)
+    (λ w n e. let t = below_takes limit (number_or Number (money_of p w)) n e in (t.0, number_takes Number (money_of p w) n t.1))
     (λ w n is same. ap (λ (q : Result ℕ NumberFault). below limit (number_or Number q)) same ∙ rw (lt-ltb n limit is) refl)
 
-pub amount_law : Lawful amount_at (λ n. Money n ∷ []) (λ n. n < 2 ^ 40) AnyText
-amount_law = lawful_amount Token Ended Number
+pub amount_law : (p : Places) → Lawful (amount_at p) (λ n. Money p n ∷ []) (λ n. n < 2 ^ 40) AnyText
+amount_law p = lawful_amount Token Ended Number p
 
 -- ---- names
 

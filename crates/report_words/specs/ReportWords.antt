@@ -5,6 +5,7 @@ use Rattle.net_core.specs.declared.demand.Demand.{Demand}
 use Rattle.net_core.specs.declared.ids.LinkId.{LinkId}
 use Rattle.net_core.specs.declared.ids.NodeId.{NodeId}
 use Rattle.net_core.specs.declared.network.Link.{Link}
+use Rattle.net_core.specs.declared.places.Places.{Places}
 use Rattle.snd_tokens.specs.declared.amounts.NumberFault.TheVariants as faults
 use Rattle.snd_tokens.specs.declared.whole_number.WholeFault.{WholeFault}
 use Rattle.snd_tokens.specs.declared.whole_number.WholeFault.TheVariants.{NotANumber, TooLarge}
@@ -47,13 +48,13 @@ passed (Err kind) = Err kind
 abbrev pub this_number : ℕ → List ℕ → Result (Unit {0}) ReportKind
 this_number n w = passed (whole_within n (n + 1) w)
 
--- money below a limit, in thousandths
+-- money below a limit, in units of the network
 abbrev pub below : ℕ → Result ℕ ReportKind → Result ℕ ReportKind
 below limit (Ok n) = where_room (nat_lt n limit) (Ok n)
 below limit (Err kind) = Err kind
 
-abbrev pub money_below : ℕ → List ℕ → Result ℕ ReportKind
-money_below limit w = below limit (number_or Number (money_of w))
+abbrev pub money_below : Places → ℕ → List ℕ → Result ℕ ReportKind
+money_below p limit w = below limit (number_or Number (money_of p w))
 
 -- ---- names
 
@@ -100,11 +101,11 @@ number_at least limit = word_at Token Ended (whole_within least limit)
 abbrev pub this_number_at : ℕ → Reading ReportKind (Unit {0})
 this_number_at n = word_at Token Ended (this_number n)
 
-abbrev pub money_at : ℕ → Reading ReportKind ℕ
-money_at limit = word_at Token Ended (money_below limit)
+abbrev pub money_at : Places → ℕ → Reading ReportKind ℕ
+money_at p limit = word_at Token Ended (money_below p limit)
 
-abbrev pub amount_at : Reading ReportKind ℕ
-amount_at = word_at Token Ended (λ w. number_or Number (amount_of w))
+abbrev pub amount_at : Places → Reading ReportKind ℕ
+amount_at p = word_at Token Ended (λ w. number_or Number (amount_of p w))
 
 abbrev pub name_at : Reading ReportKind (List ℕ)
 name_at = word_at Token Ended (any_name LimitName)

@@ -8,8 +8,8 @@ ghost use Rattle.text_kit.specs.Reading.{expected, word_at};
 ghost use Rattle.report_words.specs.ReportWords.{amount_at, closing_at, keyword_at, keyword_within, money_at, money_below, name_at, number_at, opening_at, opening_within, this_name, this_name_at, this_number, this_number_at, unknown_name, where_room, whole_within, within};
 
 use crate::fault::{ReportKind, ReportRefusal};
-use net_core::Name;
-use snd_tokens::{Cursor, Next, NumberFault, WholeFault, milli, money, whole};
+use net_core::{Name, Places};
+use snd_tokens::{Cursor, Next, NumberFault, WholeFault, amount as amount_in, money, whole};
 use std::alloc::Global;
 use text_kit::names::{is_long, named};
 use text_kit::refusal::bad;
@@ -107,12 +107,12 @@ pub fn this(expected: u64, text: &mut Cursor) -> Result<(), ReportRefusal>
     placed(at, this_number(expected, word))
 }
 
-/// The money that a word writes, below `limit`, in thousandths.
-fn money_below(limit: u128, word: &[u8]) -> Result<u128, ReportKind>
-    ensures value { result ≡ money_below limit word.now }
+/// The money that a word writes, below `limit`, in units of the network.
+fn money_below(places: Places, limit: u128, word: &[u8]) -> Result<u128, ReportKind>
+    ensures value { result ≡ money_below places limit word.now }
     ensures below { IfOk result (λ n. n < limit) }
 {
-    match money(word) {
+    match money(word, places) {
         Ok(money) => {
             if money < limit {
                 return Ok(money);
@@ -123,38 +123,38 @@ fn money_below(limit: u128, word: &[u8]) -> Result<u128, ReportKind>
     }
 }
 
-/// Takes money and gives it in thousandths. Money of `limit` thousandths or more is `limit`, and of
-/// 2^126 or more `number-large`; a place after the third that isn't 0 is `number-fine`, and any other
-/// word `number-not`.
-pub fn sum(limit: u128, text: &mut Cursor) -> Result<u128, ReportRefusal>
-    ensures reads { ReadsAs (λ n. n) result (left text.new) (money_at limit (left text.old)) }
+/// Takes money and gives it in units of a network with these places. Money of `limit` units or more is
+/// `limit`, and of 2^126 or more `number-large`; a digit past the last place that isn't 0 is
+/// `number-fine`, and any other word `number-not`.
+pub fn sum(places: Places, limit: u128, text: &mut Cursor) -> Result<u128, ReportRefusal>
+    ensures reads { ReadsAs (λ n. n) result (left text.new) (money_at places limit (left text.old)) }
     ensures below { IfOk result (λ n. n < limit) }
 {
     let (at, word) = word(ReportKind::Token, ReportKind::Ended, text)?;
-    match money_below(limit, word) {
+    match money_below(places, limit, word) {
         Ok(money) => Ok(money),
         Err(kind) => Err(bad(at, kind)),
     }
 }
 
-/// The amount that a word writes, in thousandths.
-fn amount_of(word: &[u8]) -> Result<u64, ReportKind>
-    ensures { result ≡ number_or ReportKind.Number (amount_of word.now) }
+/// The amount that a word writes, in units of the network.
+fn amount_of(places: Places, word: &[u8]) -> Result<u64, ReportKind>
+    ensures { result ≡ number_or ReportKind.Number (amount_of places word.now) }
 {
-    match milli(word) {
+    match amount_in(word, places) {
         Ok(amount) => Ok(amount),
         Err(fault) => Err(ReportKind::Number(fault)),
     }
 }
 
-/// Takes an amount and gives it in thousandths. An amount of 2^40 thousandths or more is
-/// `number-large`; a place after the third that isn't 0 is `number-fine`, and any other word
-/// `number-not`.
-pub fn amount(text: &mut Cursor) -> Result<u64, ReportRefusal>
-    ensures { ReadsAs (λ n. n) result (left text.new) (amount_at (left text.old)) }
+/// Takes an amount and gives it in units of a network with these places. An amount of 2^40 units or
+/// more is `number-large`; a digit past the last place that isn't 0 is `number-fine`, and any other
+/// word `number-not`. The amount 2.5 is 2,500 units with three places.
+pub fn amount(places: Places, text: &mut Cursor) -> Result<u64, ReportRefusal>
+    ensures { ReadsAs (λ n. n) result (left text.new) (amount_at places (left text.old)) }
 {
     let (at, word) = word(ReportKind::Token, ReportKind::Ended, text)?;
-    placed(at, amount_of(word))
+    placed(at, amount_of(places, word))
 }
 
 /// What is wrong with a word as a name.
