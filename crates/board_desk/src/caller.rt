@@ -1,15 +1,18 @@
-ghost use Rattle.std.specs.Prelude.{◌≡◌, ◌+◌, ◌/◌, ◌<◌, ◌≤◌, ◌^◌, []};
+ghost use Rattle.std.specs.Prelude.{◌≡◌, ◌+◌, ◌-◌, ◌/◌, ◌<◌, ◌≤◌, ◌^◌, ◌++◌, [], Some, length};
+ghost use Rattle.std.specs.List.{range_with_len};
 ghost use Rattle.net_core.specs.Views.{graph};
 ghost use Rattle.plan_terms.specs.Edits.{edit_need};
 ghost use Rattle.metric_cut.specs.Cuts.{IsCutOf};
 ghost use Rattle.turn_lock.specs.Histories.{IsPrefix, longer, merged};
-ghost use Rattle.turn_lock.specs.Passes.{IsPassOf, own_places, own_units, seen_by};
+ghost use Rattle.turn_lock.specs.Passes.{AreOfOneDesk, IsPassOf, own_places, own_units, seen_by, turn_history, turn_origin, turn_places, turn_units};
+ghost use Rattle.cut_pool.specs.Boards.{origin_of};
+ghost use Rattle.board_desk.specs.inner.Endings.{IsGrown, cut_enters, edit_enters};
 
 use cut_pool::{AdmitAnswer, Board, EditAnswer, Snapshot};
 use metric_cut::Cut;
 use net_core::{Edit, NoMemory};
 use std::sync::Wait;
-use turn_lock::{Desk, Pass};
+use turn_lock::{Desk, Pass, Turn};
 
 /// A caller at a desk with a board: its number, and its pass. It goes into a thread of its own as one value.
 ///
@@ -23,6 +26,36 @@ pub struct Caller<'d, 'a> {
     number: u32,
     desk: &'d Desk<Board<'a>>,
     pass: Pass<Board<'a>>,
+}
+
+/// Whether a board that answers an edit so has one entry more.
+fn edit_enters(answer: &EditAnswer) -> bool
+    ensures { result ≡ edit_enters answer.now }
+{
+    matches!(answer, EditAnswer::At { .. })
+}
+
+/// Whether a board that answers a cut so has one entry more.
+fn cut_enters(answer: &AdmitAnswer) -> bool
+    ensures { result ≡ cut_enters answer.now }
+{
+    matches!(answer, AdmitAnswer::Admitted { .. })
+}
+
+/// Ends a turn with its board, which has one entry more or is as it was.
+fn end_turn<'d, 'a>(turn: Turn<'d, Board<'a>>, board: Board<'a>, grown: bool) -> Pass<Board<'a>>
+    requires origin { turn_origin turn ≡ Some (origin_of board) }
+    requires grown { IsGrown grown (turn_history turn) board.entries }
+    ensures own { AreOfOneDesk result turn.entry }
+    ensures seen { seen_by result ≡ board.entry.entries }
+    ensures places { own_places result ≡ turn_places turn.entry ++ range_with_len (length (turn_history turn.entry)) (length board.entry.entries - length (turn_history turn.entry)) }
+    ensures units { own_units result ≡ turn_units turn.entry }
+{
+    if grown {
+        turn.leave_with(board)
+    } else {
+        turn.leave(board)
+    }
 }
 
 impl<'d, 'a> Caller<'d, 'a> {
@@ -50,23 +83,9 @@ impl<'d, 'a> Caller<'d, 'a> {
     {
         let Caller { number, desk, pass } = self;
         let (mut board, turn) = desk.enter(rt, pass);
-        match board.edit(number, edit) {
-            EditAnswer::At { position, reply } => {
-                let pass = turn.leave_with(board);
-                (
-                    EditAnswer::At { position, reply },
-                    Caller { number, desk, pass },
-                )
-            }
-            EditAnswer::Full(edit) => {
-                let pass = turn.leave(board);
-                (EditAnswer::Full(edit), Caller { number, desk, pass })
-            }
-            EditAnswer::NoMemory(edit) => {
-                let pass = turn.leave(board);
-                (EditAnswer::NoMemory(edit), Caller { number, desk, pass })
-            }
-        }
+        let answer = board.edit(number, edit);
+        let pass = end_turn(turn, board, edit_enters(&answer));
+        (answer, Caller { number, desk, pass })
     }
 
     /// Waits for a turn, and puts a cut of the desk's network and states into the pool in it, as `Board::admit` does. It may never return.
@@ -80,34 +99,9 @@ impl<'d, 'a> Caller<'d, 'a> {
     {
         let Caller { number, desk, pass } = self;
         let (mut board, turn) = desk.enter(rt, pass);
-        match board.admit(cut) {
-            AdmitAnswer::Admitted { index, position } => {
-                let pass = turn.leave_with(board);
-                (
-                    AdmitAnswer::Admitted { index, position },
-                    Caller { number, desk, pass },
-                )
-            }
-            AdmitAnswer::Known(index, cut) => {
-                let pass = turn.leave(board);
-                (
-                    AdmitAnswer::Known(index, cut),
-                    Caller { number, desk, pass },
-                )
-            }
-            AdmitAnswer::PoolFull(cut) => {
-                let pass = turn.leave(board);
-                (AdmitAnswer::PoolFull(cut), Caller { number, desk, pass })
-            }
-            AdmitAnswer::Full(cut) => {
-                let pass = turn.leave(board);
-                (AdmitAnswer::Full(cut), Caller { number, desk, pass })
-            }
-            AdmitAnswer::NoMemory(cut) => {
-                let pass = turn.leave(board);
-                (AdmitAnswer::NoMemory(cut), Caller { number, desk, pass })
-            }
-        }
+        let answer = board.admit(cut);
+        let pass = end_turn(turn, board, cut_enters(&answer));
+        (answer, Caller { number, desk, pass })
     }
 
     /// Waits for a turn, and takes a snapshot in it, which commits nothing. It may never return.

@@ -1,32 +1,27 @@
-use Rattle.board_desk.proofs.Turns.{left_as_found, left_with}
+use Rattle.std.proofs.Common.{◌≡◌, Some, subst, sym}
+use Rattle.turn_lock.specs.Passes.{turn_origin}
+use Rattle.board_desk.specs.inner.Endings.{IsGrown, edit_enters}
+use Rattle.board_desk.proofs.Turns.{edit_grows, edit_keeps, left_grown}
 use Rattle.board_desk.proofs.caller.Caller.edit.Goals as goal
 
-pub returns-in-At-clause-turn : goal.returns-in-At-clause-turn
-returns-in-At-clause-turn g c =
-    let e = c.enter-board.ensures in
-    let l = c.leave_with-pass.ensures in (
-      c.enter-board.result.0,
-      c.edit.new.self,
-      c.in-At.ensures.answer,
-      left_with c.args.self _ c.enter-board.result.1 _ _ _ e.origin e.stands e.begins e.places c.in-At.ensures.answer.1.entries l.seen l.places,
-    )
+pub end_turn-pass-requires-clause-origin : goal.end_turn-pass-requires-clause-origin
+end_turn-pass-requires-clause-origin g c =
+    let a = c.edit-answer in
+    subst (λ o. turn_origin c.enter-board.result.1 ≡ Some o) (sym (edit_keeps c.enter-board.result.0 a.new.self c.args.self.number c.args.edit a.result a.ensures.answer)) c.enter-board.ensures.turn
 
-pub returns-in-Full-clause-turn : goal.returns-in-Full-clause-turn
-returns-in-Full-clause-turn g c =
-    let e = c.enter-board.ensures in
-    let l = c.leave-pass.ensures in (
-      c.enter-board.result.0,
-      c.edit.new.self,
-      c.in-Full.ensures.answer,
-      left_as_found c.args.self _ c.enter-board.result.1 _ _ e.origin e.stands e.begins e.places c.in-Full.ensures.answer.2.entries l.seen l.places,
-    )
+pub end_turn-pass-requires-clause-grown : goal.end_turn-pass-requires-clause-grown
+end_turn-pass-requires-clause-grown g c =
+    let a = c.edit-answer in
+    rw c.edit_enters.ensures
+    (subst (λ h. IsGrown (edit_enters a.result) h a.new.self.entries) c.enter-board.ensures.stands
+    (edit_grows c.enter-board.result.0 a.new.self c.args.self.number c.args.edit a.result a.ensures.answer))
 
-pub returns-in-NoMemory-clause-turn : goal.returns-in-NoMemory-clause-turn
-returns-in-NoMemory-clause-turn g c =
+pub returns-clause-turn : goal.returns-clause-turn
+returns-clause-turn g c =
     let e = c.enter-board.ensures in
-    let l = c.leave-pass-in-NoMemory.ensures in (
+    let l = c.end_turn-pass.ensures in (
       c.enter-board.result.0,
-      c.edit.new.self,
-      c.in-NoMemory.ensures.answer,
-      left_as_found c.args.self _ c.enter-board.result.1 _ _ e.origin e.stands e.begins e.places c.in-NoMemory.ensures.answer.2.entries l.seen l.places,
+      c.edit-answer.new.self,
+      c.edit-answer.ensures.answer,
+      left_grown c.args.self _ c.enter-board.result.1 _ _ e.origin e.stands e.begins e.places l.seen l.places,
     )
