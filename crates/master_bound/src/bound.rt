@@ -114,6 +114,13 @@ fn lines_of(
     }))
 }
 
+/// The answer that a value of an optimum is too wide.
+fn wide_value(optimum: Optimum<MasterColumn>) -> MasterFault
+    ensures { IsWideAnswer optimum.basis WideKind.Value result }
+{
+    wide(optimum.basis, WideKind::Value)
+}
+
 /// The certificate of an optimum whose share costs something.
 fn certified(
     alloc: Global,
@@ -140,7 +147,7 @@ fn certified(
             raw_num: raw.num,
             raw_den: raw.den,
         }),
-        None => Err(wide(optimum.basis, WideKind::Value)),
+        None => Err(wide_value(optimum)),
     }
 }
 
@@ -189,6 +196,30 @@ fn solved(alloc: Global, task: &Task) -> Result<Best, MasterFault>
     best_of(alloc, task, optimum)
 }
 
+/// The answer of cuts, beside the unit pairs of the links.
+fn answered(
+    alloc: Global,
+    net: &Network,
+    cuts: &List<CutLine>,
+    pairs: &List<UnitPair>,
+) -> Result<Best, MasterFault>
+    requires few { length cuts.now ≤ 8192 }
+    requires lengths { All (λ cut. HaveBound net.now.links cut.lengths) cuts.now }
+    requires right { All (λ cut. cut.right < 2 ^ 84) cuts.now }
+    requires different { AllPairs (λ a b. IsSameCut a b → ⊥) cuts.now }
+    requires units { AreUnitPairs net.now.links pairs.now }
+    requires costs { All (λ p. p.cost < 2 ^ 40) pairs.now }
+    ensures { IsMasterAnswer net.now.links cuts.now result }
+{
+    match wide_cut(net.links().items(), pairs.items(), cuts.items()) {
+        Some(k) => Err(wide_number(alloc, net, pairs.items(), cuts.items(), k)?),
+        None => {
+            let task = Task { net, cuts, pairs };
+            solved(alloc, &task)
+        }
+    }
+}
+
 /// The best certificate of cuts, and a share of each link's unit pair that costs as much. No certificate of these cuts has a greater
 /// raw value, and the share violates none of them. The certificate has at most 256 lines, of different cuts, in lowest terms; where
 /// the raw value is 0 it has none. Where a number is 2^62 or more, the answer names a basis and what of it is too wide.
@@ -208,17 +239,6 @@ pub fn master(alloc: Global, net: &Network, cuts: &List<CutLine>) -> Result<Best
     requires different { AllPairs (λ a b. IsSameCut a b → ⊥) cuts.now }
     ensures { IsMasterAnswer net.now.links cuts.now result }
 {
-    let links = net.links().items();
     let pairs = unit_pairs(alloc, net)?;
-    match wide_cut(links, pairs.items(), cuts.items()) {
-        Some(k) => Err(wide_number(alloc, net, pairs.items(), cuts.items(), k)?),
-        None => {
-            let task = Task {
-                net,
-                cuts,
-                pairs: &pairs,
-            };
-            solved(alloc, &task)
-        }
-    }
+    answered(alloc, net, cuts, &pairs)
 }
