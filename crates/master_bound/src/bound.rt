@@ -1,4 +1,4 @@
-ghost use Rattle.std.specs.Prelude.{◌≡◌, ◌≤◌, ◌<◌, ◌^◌, All, AllPairs, Ok, Err, IfOk, MatchOption, Some, length, slice_get};
+ghost use Rattle.std.specs.Prelude.{◌≡◌, ◌≤◌, ◌<◌, ◌^◌, All, AllPairs, Ok, Err, IfOk, IfErr, MatchOption, Some, length, map, slice_get};
 ghost use Rattle.net_core.specs.declared.plan.CutLine.{CutLine};
 ghost use Rattle.net_core.specs.declared.columns.MasterColumn.TheVariants.{Metric};
 ghost use Rattle.net_core.specs.declared.columns.WideKind.TheVariants.{Number};
@@ -7,7 +7,7 @@ ghost use Rattle.metric_cut.specs.Bounded.{HaveBound};
 ghost use Rattle.simplex_core.specs.inner.Shapes.{AtEach};
 ghost use Rattle.simplex_law.specs.Programs.{IsPacking};
 ghost use Rattle.master_law.specs.MasterEvidence.{IsMasterEvidence};
-ghost use Rattle.master_law.specs.MasterPrograms.{IsMasterColumn, IsSameCut, master_bound, master_slack};
+ghost use Rattle.master_law.specs.MasterPrograms.{IsMasterColumn, IsSameCut, cut_gain, master_bound, master_slack};
 ghost use Rattle.master_law.specs.UnitPairs.{AreUnitPairs, share_cost};
 ghost use Rattle.master_bound.specs.Answers.{IsEvidenceOf, IsMasterAnswer};
 ghost use Rattle.master_bound.specs.inner.Narrow.{IsNarrowCut, IsWideCut};
@@ -18,7 +18,7 @@ use crate::answer::{Best, MasterFault, Multiplier};
 use crate::lines::{amounts_of, asks_too_much, common_divisor, has_wide, multipliers_of};
 use crate::numbers::wide_cut;
 use crate::program::MasterProgram;
-use crate::rating::ratings_of;
+use crate::rating::{Rating, ratings_of};
 use crate::share::{RawValue, raw_value, share_of};
 use crate::task::Task;
 use crate::units::unit_pairs;
@@ -173,6 +173,26 @@ fn best_of(alloc: Global, task: &Task, optimum: Optimum<MasterColumn>) -> Result
     })
 }
 
+/// The optimum of the program of a task's cuts.
+fn optimum_of(
+    alloc: Global,
+    task: &Task,
+    ratings: List<Rating>,
+) -> Result<Optimum<MasterColumn>, MasterFault>
+    requires gains { map (λ r. r.gain) ratings ≡ map (cut_gain task.now.net.now.links) task.now.cuts.now }
+    requires units { AreUnitPairs task.now.net.now.links task.now.pairs.now }
+    requires packing { IsPacking (length task.now.net.now.links) (master_bound task.now.pairs.now) (IsMasterColumn task.now.net.now.links task.now.pairs.now task.now.cuts.now) }
+    ensures solution { IfOk result (IsMasterSolution task.now.net.now.links task.now.pairs.now task.now.cuts.now) }
+    ensures fault { IfErr result (λ fault. IsMasterAnswer task.now.net.now.links task.now.cuts.now (Err fault)) }
+{
+    let mut program = MasterProgram {
+        alloc,
+        task: *task,
+        ratings,
+    };
+    Ok(solve(alloc, &mut program)?)
+}
+
 /// The answer of cuts whose numbers are below 2^62.
 fn solved(alloc: Global, task: &Task) -> Result<Best, MasterFault>
     requires units { AreUnitPairs task.now.net.now.links task.now.pairs.now }
@@ -187,12 +207,7 @@ fn solved(alloc: Global, task: &Task) -> Result<Best, MasterFault>
         task.pairs.items(),
         task.cuts.items(),
     )?;
-    let mut program = MasterProgram {
-        alloc,
-        task: *task,
-        ratings,
-    };
-    let optimum = solve(alloc, &mut program)?;
+    let optimum = optimum_of(alloc, task, ratings)?;
     best_of(alloc, task, optimum)
 }
 
