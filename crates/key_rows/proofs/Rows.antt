@@ -1,8 +1,11 @@
 -- rows that are taken away
-use Rattle.std.proofs.Common.{◌≡◌, ℕ, suc, ◌+◌, List, Some, get_or, slice_get, sym, ap, ◌∙◌, subst, arith}
+use Rattle.std.proofs.Common.{◌≡◌, ℕ, suc, ◌+◌, ◌<◌, List, Bool, true, false, Result, Ok, Err, Some, get_or, slice_get, sym, ap, ◌∙◌, subst, arith}
 use Rattle.std.proofs.Math.IntN.{ℤ, pos, ◌+ℤ◌, ◌-ℤ◌, ◌*ℤ◌}
 use Rattle.std.proofs.lemmas.Int.{ints}
-use Rattle.checked_fraction.specs.Rows.{num}
+use Rattle.std.specs.Result.{OnOk, IfErr, is_ok}
+use Rattle.checked_fraction.specs.Rows.{num, IsReduced}
+use Rattle.checked_fraction.specs.Mixed.{IsTooWide}
+use Rattle.checked_fraction.specs.declared.wide.WideNumber.{WideNumber}
 use Rattle.checked_fraction.specs.declared.row.Row.{Row}
 use Rattle.simplex_law.specs.Sums.{unit_vector, int_sum}
 use Rattle.simplex_law.proofs.Sums.{unit-same}
@@ -29,3 +32,21 @@ row_more rows owners weights d n k row new old at before after =
 
     less : (x : ℤ) → new ≡ old -ℤ x → old ≡ pos 0 -ℤ int_sum n (λ i. times_taken owners weights d i *ℤ nums_at rows i k) → new ≡ pos 0 -ℤ (int_sum n (λ i. times_taken owners weights d i *ℤ nums_at rows i k) +ℤ x)
     less x a b = omega (arith, ints, a, b)
+
+-- the same numbers in lowest terms
+pub reduced_of : (f g : ℕ → ℤ) (n : ℕ) (whole den : ℤ) (nums : ℕ → ℤ) → ((k : ℕ) → k < n → f k ≡ g k) → IsReduced n f whole nums den → IsReduced n g whole nums den
+reduced_of f g n whole den nums each low = record { positive = low.positive; same = λ k l. low.same k l ∙ ap (λ x. x *ℤ den) (each k l); lowest = low.lowest }
+
+-- the same numbers are too wide
+pub wide_of : (f g : ℕ → ℤ) (n : ℕ) (whole : ℤ) (wide : WideNumber) → ((k : ℕ) → k < n → f k ≡ g k) → IsTooWide n f whole wide → IsTooWide n g whole wide
+wide_of f g n whole wide each (nums, den, low, first) = (nums, den, reduced_of f g n whole den nums each low, first)
+
+-- what holds of a call that went well
+pub done_of : {T E P : Type 0} (r : Result T E) (went : Bool) → went ≡ is_ok r → OnOk r P → went ≡ true → P
+done_of (Ok x) went same holds good = holds
+done_of (Err e) went same holds good = absurd cc
+
+-- what holds of a call that did not
+pub failed_of : {T E : Type 0} {P : E → Type 0} (r : Result T E) (went : Bool) → went ≡ is_ok r → IfErr r P → went ≡ false → (e : E) × P e
+failed_of (Ok x) went same holds bad = absurd cc
+failed_of (Err e) went same holds bad = (e, holds)

@@ -1,9 +1,12 @@
 -- what is too wide of a key when it is decided which column leaves
-use Rattle.std.proofs.Common.{◌≡◌, ℕ, length, Err, ◌+◌, ◌-◌, ◌<◌, ◌≤◌, ◌⊎◌, ◌∙◌, arith, ⊎_elim}
+use Rattle.std.proofs.Common.{◌≡◌, ℕ, length, Err, ◌+◌, ◌-◌, ◌<◌, ◌≤◌, ◌⊎◌, ◌∙◌, pos, refl, arith, ⊎_elim}
+use Rattle.std.specs.Int.Signed.{◌<ℤ◌}
 use Rattle.net_core.specs.declared.columns.RouteColumn.{RouteColumn}
-use Rattle.key_rows.specs.KeyTests.{IsWideTest}
+use Rattle.key_rows.specs.KeyTests.{IsWideSpread, IsWideTest}
 use Rattle.key_rows.specs.Names.{own_entry}
-use Rattle.key_rows.specs.inner.Candidates.{IsKeyTest, IsWideRowTest}
+use Rattle.key_rows.specs.inner.Candidates.{IsKeyTest, IsKeyCandidate, IsPlacedCandidate, IsWideRowTest, wide_test_of}
+use Rattle.key_rows.specs.declared.key_row.WideKey.{WideKey}
+use Rattle.key_rows.specs.declared.key_row.WideKey.TheVariants.{Common as CommonOf, Row as RowOf}
 use Rattle.key_rows.specs.declared.keyed.Keyed.{Keyed}
 use Rattle.key_rows.specs.declared.ratio_test.WideTest.{WideTest}
 use Rattle.key_rows.specs.declared.ratio_test.WideTest.TheVariants.{Common, Product, Row}
@@ -27,3 +30,20 @@ pub pair_test : (b : Keyed) (name : RouteColumn) (d n : ℕ) (x best : Candidate
 pair_test b name d n x best wide l at is ge lt = ⊎_elim
     (λ one. row_test b name d x.role wide l at one)
     (λ other. row_test b name (best.role - n) best.role wide (omega (arith, is, ge, lt)) (omega (arith, is, ge)) other)
+
+-- what is too wide of a key's row, as the ratio test names it
+pub wide_row : (b : Keyed) (d role : ℕ) (wide : WideKey) → IsWideSpread b d wide → IsWideRowTest b d role (wide_test_of wide role)
+wide_row b d role CommonOf h = h
+wide_row b d role RowOf h = (refl, h)
+
+-- the product of a candidate is positive
+pub placed_positive : (b : Keyed) (name : RouteColumn) (x : Candidate) → IsPlacedCandidate b name x → pos 0 <ℤ x.product
+placed_positive b name x placed = ⊎_elim (λ row. row.positive) (λ key. key.1.positive) placed.is
+
+-- a candidate in the role of a key is one
+pub placed_key : (b : Keyed) (name : RouteColumn) (x : Candidate) → IsPlacedCandidate b name x → length b.rows ≤ x.role
+    → IsKeyCandidate b (x.role - length b.rows) (own_entry name (x.role - length b.rows)) x
+placed_key b name x placed le = ⊎_elim (λ row. absurd (no_row row.inside)) (λ key. key.1) placed.is
+  where
+    no_row : x.role < length b.rows → ⊥
+    no_row lt = omega (arith, lt, le)

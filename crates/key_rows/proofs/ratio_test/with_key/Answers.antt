@@ -50,3 +50,14 @@ returns-then-is_role-clause-with_key c =
     let test = subst (λ r. IsKeyTest b d (own_entry name d) (Ok r)) c.in-Some.is (subst (λ z. IsKeyTest b d z (Ok c.in_ok-x.field-0)) own c.in_ok-x.ensures.test) in
     let same = c.if-is_role.ensures.yes refl in
     inr (inl (same.0, same.1, same.2 ∙ test.role, refl))
+
+pub key_candidate-requires-clause-values : goal.key_candidate-requires-clause-values
+key_candidate-requires-clause-values c = λ weights all n are le. c.requires.numbers.left c.args.demand weights all n c.requires.demand are le
+
+pub returns-in-None-clause-with_key : goal.returns-in-None-clause-with_key
+returns-in-None-clause-with_key c =
+    let b = c.args.entrant.now.keyed.now in
+    let name = c.args.entrant.now.name.now in
+    let d = c.args.demand in
+    let own : to_z w64 (of_z w64 c.own_of-own.result) ≡ own_entry name d = omega (arith, ints, c.own_of-own.ensures.narrow) ∙ c.own_of-own.ensures.value in
+    inl (subst (λ r. IsKeyTest b d (own_entry name d) (Ok r)) c.in-None.is (subst (λ z. IsKeyTest b d z (Ok c.in_ok-x.field-0)) own c.in_ok-x.ensures.test), refl)

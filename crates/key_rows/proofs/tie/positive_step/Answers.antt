@@ -1,4 +1,4 @@
-use Rattle.std.proofs.Common.{◌≡◌, ◌+ℤ◌, ◌*ℤ◌, length, w64, to_z, of_z, ap, ◌∙◌, arith}
+use Rattle.std.proofs.Common.{◌≡◌, ◌+ℤ◌, ◌*ℤ◌, length, w64, to_z, of_z, ap, sym, subst, ◌∙◌, arith}
 use Rattle.std.specs.Int.{w128}
 use Rattle.std.proofs.lemmas.Int.{ints}
 use Rattle.checked_fraction.specs.Rows.{num}
@@ -6,6 +6,8 @@ use Rattle.simplex_law.specs.Sums.{dot}
 use Rattle.key_rows.specs.Names.{left_uses}
 use Rattle.key_rows.specs.inner.Candidates.{lowered_step}
 use Rattle.key_rows.proofs.Stepping.{step_positive, step_lowered}
+use Rattle.key_rows.specs.inner.Candidates.{IsWideRowTest}
+use Rattle.key_rows.proofs.WideTests.{wide_row}
 use Rattle.key_rows.proofs.tie.positive_step.Goals as goal
 
 pub returns-in-Ok-clause-positive : goal.returns-in-Ok-clause-positive
@@ -31,3 +33,9 @@ returns-in-Ok-clause-lowered c =
     let step : c.in-Ok.step ≡ lowered_step b name key c.args.demand spare =
     c.in-Ok.ensures.step ∙ ap (λ z. dot (length b.rows) (num spare.nums) (left_uses name key) +ℤ (spare.den *ℤ z)) (own ∙ c.own_of-own.ensures.value) in
     rw back (step_lowered b name key c.args.demand c.args.x.now spare c.in-Ok.step c.requires.entrant.products c.requires.candidate c.in-Ok.ensures.row step)
+
+pub returns-in-Err-clause-wide : goal.returns-in-Err-clause-wide
+returns-in-Err-clause-wide c =
+    let b = c.args.entrant.now.keyed.now in
+    let role = c.args.x.now.role in
+    subst (IsWideRowTest b c.args.demand role) (sym c.wide_key.ensures) (wide_row b c.args.demand role c.in-Err.wide c.in-Err.ensures.wide)
