@@ -1,4 +1,4 @@
-use Rattle.std.proofs.Common.{◌≡◌, length, w64, to_z, of_z, subst, pos, arith}
+use Rattle.std.proofs.Common.{◌≡◌, length, w64, to_z, of_z, subst, arith}
 use Rattle.std.proofs.Math.IntN.{◌-ℤ◌, ◌*ℤ◌}
 use Rattle.std.proofs.lemmas.Int.{ints}
 use Rattle.checked_fraction.specs.Rows.{num}
