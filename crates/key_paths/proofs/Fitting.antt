@@ -1,7 +1,8 @@
 -- the values of a basis with keys, over a common denominator of its rows
-use Rattle.std.proofs.Common.{◌≡◌, ℕ, ℤ, length, get_or, cond, ltb, pos, unsigned_abs, ◌<◌, ◌+◌, ◌-◌, ◌*◌, ◌/◌, ◌^◌, ◌-ℤ◌, ◌*ℤ◌, sym, ap, ◌∙◌, subst, arith, ⊎_elim}
+use Rattle.std.proofs.Common.{◌≡◌, ℕ, ℤ, List, length, get_or, slice_set, cond, ltb, pos, unsigned_abs, ◌<◌, ◌+◌, ◌-◌, ◌*◌, ◌/◌, ◌^◌, ◌-ℤ◌, ◌*ℤ◌, sym, ap, ◌∙◌, subst, arith, ⊎_elim}
 use Rattle.std.specs.Int.Signed.{◌<ℤ◌, ◌≤ℤ◌}
-use Rattle.std.proofs.lemmas.Bool.{cases_lt, lt-ltb, le-ltb}
+use Rattle.std.proofs.lemmas.Bool.{cases_eq, cases_lt, lt-ltb, le-ltb}
+use Rattle.std.proofs.lemmas.List.{get_or-set_same, get_or-set_other}
 use Rattle.std.proofs.lemmas.Int.{ints}
 use Rattle.checked_fraction.specs.Rows.{num}
 use Rattle.net_core.specs.declared.columns.RouteColumn.{RouteColumn}
@@ -122,3 +123,13 @@ module _ {links demands : ℕ} {bound : ℕ → ℤ} {basis : ℕ → ColumnOf R
   -- the values fit over each narrow common denominator
   pub fitting : (is_column : ColumnOf RouteColumn → Type 0) → IsPacking (links + demands) bound is_column → ((j : ℕ) → j < links + demands → is_column (basis j)) → HasFittingValues b
   fitting is_column packing columns all some low divides = fit_over all some low divides is_column packing columns
+
+-- the value of one role more is written
+pub role_written : (b : Keyed) (all role value : ℕ) (values : List ℕ) → AreApartPlaces b.places → role < length b.places → get_or b.places role 0 < length values → pos value ≡ role_over b all role
+    → ((r : ℕ) → r < role → pos (get_or values (get_or b.places r 0) 0) ≡ role_over b all r)
+    → (r : ℕ) → r < role + 1 → pos (get_or (slice_set values (get_or b.places role 0) value) (get_or b.places r 0) 0) ≡ role_over b all r
+role_written b all role value values apart there lt is before r l = ⊎_elim
+    (λ e. subst (λ k. pos (get_or (slice_set values (get_or b.places role 0) value) (get_or b.places k 0) 0) ≡ role_over b all k) (sym e)
+    (ap pos (get_or-set_same values (get_or b.places role 0) value 0 lt) ∙ is))
+    (λ ne. ap pos (get_or-set_other values (get_or b.places role 0) (get_or b.places r 0) value 0 (apart r role (omega (arith, l, ne)) there)) ∙ before r (omega (arith, l, ne)))
+    (cases_eq r role)

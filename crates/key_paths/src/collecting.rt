@@ -106,7 +106,28 @@ fn link_prices(alloc: Global, keyed: &Keyed) -> Result<List<u64>, NoMemory>
     Ok(prices)
 }
 
-/// The cheapest path of each demand whose flow gains. It takes one search from each node.
+/// The cheapest path of each demand whose flow gains.
+fn offers_of(
+    alloc: Global,
+    task: &Task,
+    keyed: &Keyed,
+    paths: &CheapestPaths,
+) -> Result<List<Carrier>, NoMemory>
+    requires graph { graph_of paths.now.paths.graph ≡ graph_of task.now.graph }
+    requires prices { AreLinkCosts keyed.now paths.now.prices }
+    requires links { length keyed.now.prices.nums ≡ length task.now.graph.net.now.links }
+    requires demands { length keyed.now.duals ≡ length task.now.demands.now }
+    ensures { IfOk result (AreOffers (graph_of task.now.graph) task.now.demands.now keyed.now (length task.now.demands.now)) }
+{
+    let mut found = List::new(alloc);
+    let demands = task.demands.items();
+    for k in 0..demands.len() {
+        offer(paths, &demands[k], k as u32, keyed, &mut found)?;
+    }
+    Ok(found)
+}
+
+/// The same, with the searches. It takes one search from each node.
 fn collect(alloc: Global, task: &Task, keyed: &Keyed) -> Result<List<Carrier>, NoMemory>
     requires links { length keyed.now.prices.nums ≡ length task.now.graph.net.now.links }
     requires demands { length keyed.now.duals ≡ length task.now.demands.now }
@@ -115,12 +136,7 @@ fn collect(alloc: Global, task: &Task, keyed: &Keyed) -> Result<List<Carrier>, N
 {
     let prices = link_prices(alloc, keyed)?;
     let paths = CheapestPaths::new(alloc, &task.graph, prices)?;
-    let mut found = List::new(alloc);
-    let demands = task.demands.items();
-    for k in 0..demands.len() {
-        offer(&paths, &demands[k], k as u32, keyed, &mut found)?;
-    }
-    Ok(found)
+    offers_of(alloc, task, keyed, &paths)
 }
 
 /// A path whose flow gains: one of those that wait, or of those that the searches find under these prices.

@@ -82,15 +82,26 @@ fn swap_place_list(places: &mut List<u32>, a: usize, b: usize)
     swap_places(places.items_mut(), a, b);
 }
 
-/// A row of the list and another one change places.
-fn swap_row(rows: &mut List<Row>, i: usize, row: &mut Row)
+/// A row of the table and another one change places.
+fn swap_row(rows: &mut [Row], i: usize, row: &mut Row)
     requires { i < length rows.old }
     ensures count { length rows.new ≡ length rows.old }
     ensures at { slice_get rows.new i ≡ Some row.old }
     ensures others { (j : ℕ) → j ≢ i → slice_get rows.new j ≡ slice_get rows.old j }
     ensures row { slice_get rows.old i ≡ Some row.new }
 {
-    mem::swap(&mut rows.items_mut()[i], row);
+    mem::swap(&mut rows[i], row);
+}
+
+/// The same of a list.
+fn swap_row_list(rows: &mut List<Row>, i: usize, row: &mut Row)
+    requires { i < length rows.old }
+    ensures count { length rows.new ≡ length rows.old }
+    ensures at { slice_get rows.new i ≡ Some row.old }
+    ensures others { (j : ℕ) → j ≢ i → slice_get rows.new j ≡ slice_get rows.old j }
+    ensures row { slice_get rows.old i ≡ Some row.new }
+{
+    swap_row(rows.items_mut(), i, row);
 }
 
 /// Makes the column of row `i`, which is one of the demand, its key, and the key that it had the row's column. The
@@ -115,7 +126,7 @@ pub(crate) fn swap_roles(
     ensures wide { IfErr result (IsWideSpread keyed.old demand) }
 {
     spread_key(keyed, room, demand)?;
-    swap_row(&mut keyed.rows, i, &mut room.spare);
+    swap_row_list(&mut keyed.rows, i, &mut room.spare);
     give_back(keyed, demand);
     let role = keyed.rows.len() + demand as usize;
     swap_place_list(&mut keyed.places, i, role);

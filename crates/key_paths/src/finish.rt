@@ -174,7 +174,8 @@ fn end_of(alloc: Global, keyed: &Keyed) -> Result<Option<Ended>, NoMemory>
     Ok(Some(Ended { den, values, duals }))
 }
 
-fn names_of(keyed: Keyed) -> List<RouteColumn>
+/// The names of a basis.
+pub(crate) fn names_of(keyed: Keyed) -> List<RouteColumn>
     ensures { result ≡ keyed.names }
 {
     keyed.names
@@ -190,18 +191,19 @@ pub(crate) fn finish(
     requires fit { HasFittingValues keyed }
     ensures { IsKeyedEnd keyed result }
 {
-    let found = end_of(alloc, &keyed)?;
+    let found = end_of(alloc, &keyed);
     let basis = names_of(keyed);
     match found {
-        Some(end) => Ok(Optimum {
+        Ok(Some(end)) => Ok(Optimum {
             basis,
             den: end.den,
             values: end.values,
             duals: end.duals,
         }),
-        None => Err(SimplexFault::Wide {
+        Ok(None) => Err(SimplexFault::Wide {
             basis,
             kind: WideKind::Common,
         }),
+        Err(NoMemory) => Err(SimplexFault::NoMemory),
     }
 }

@@ -10,7 +10,7 @@ ghost use Rattle.key_paths.specs.inner.Gaining.{IsCarrier};
 
 use crate::carrier::Carrier;
 use crate::entering::enter;
-use crate::finish::finish;
+use crate::finish::{finish, names_of};
 use crate::known::known_carriers;
 use crate::numbers::links_of;
 use crate::pricing::price;
@@ -27,7 +27,7 @@ fn stopped(keyed: Keyed, kind: WideKind<RouteColumn>) -> SimplexFault<RouteColum
     ensures { result ≡ SimplexFault.Wide keyed.names kind }
 {
     SimplexFault::Wide {
-        basis: keyed.names,
+        basis: names_of(keyed),
         kind,
     }
 }

@@ -3,7 +3,7 @@ use Rattle.std.proofs.lemmas.Option.{slice_get_read}
 use Rattle.net_core.specs.Views.{graph_of}
 use Rattle.key_paths.specs.inner.Gaining.{AreOffers, Offers}
 use Rattle.key_paths.proofs.Carried.{offers_more}
-use Rattle.key_paths.proofs.collecting.collect.Goals as goal
+use Rattle.key_paths.proofs.collecting.offers_of.Goals as goal
 
 pub loop-k-preserved : goal.loop-k-preserved
 loop-k-preserved c =
@@ -14,7 +14,7 @@ loop-k-preserved c =
     let new = c.offer.new.found in
     offers_more (graph_of c.args.task.now.graph) demands keyed c.loop-k.k d old new
     (slice_get_read demands (length demands) c.loop-k.k d refl (omega (arith, c.loop-k-test.true, ap length c.items-demands.ensures)) (rw c.items-demands.ensures at c.index-demands-k.is))
-    (subst (λ g. Offers g keyed c.loop-k.k d old new) c.in_ok-paths.ensures.graph c.in_ok-offer.ensures)
+    (subst (λ g. Offers g keyed c.loop-k.k d old new) c.requires.graph c.in_ok-offer.ensures)
     c.loop-k.invariant
 
 pub returns : goal.returns

@@ -1,6 +1,6 @@
 use Rattle.net_core.specs.Views.{graph_of}
 use Rattle.key_paths.specs.inner.Gaining.{AreOffers}
-use Rattle.key_paths.proofs.collecting.collect.Given as goal
+use Rattle.key_paths.proofs.collecting.offers_of.Given as goal
 
 -- the offers of the demands so far
 abbrev pub invariant-loop-k : goal.invariant-loop-k

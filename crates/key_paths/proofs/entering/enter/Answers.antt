@@ -1,8 +1,12 @@
-use Rattle.std.proofs.Common.{◌≡◌, ◌∙◌, length, subst, sym, arith, to_z, of_z}
+use Rattle.std.proofs.Common.{◌≡◌, ◌∙◌, ◌<◌, length, subst, sym, arith, to_z, of_z}
 use Rattle.std.specs.Int.{w128}
 use Rattle.std.proofs.lemmas.Int.{ints}
+use Rattle.std.specs.Option.{ForSome}
 use Rattle.key_paths.specs.inner.Entering.{Enters}
+use Rattle.key_rows.specs.Bases.{IsRoom}
 use Rattle.key_rows.specs.FirstRoles.{IsFirstOfRoles}
+use Rattle.key_rows.specs.KeyTests.{HaveColumnProducts}
+use Rattle.key_rows.specs.Names.{demand_in, key_links, IsNameWithin}
 use Rattle.key_paths.specs.inner.Gaining.{cost_at}
 use Rattle.key_paths.specs.declared.turns.Turn.TheVariants.{Wide}
 use Rattle.key_paths.proofs.Picking.{new_shaped, new_key, new_bounds, new_values, new_row_values, new_priced, ends_wide, ends_unbounded, ends_turned}
@@ -51,3 +55,23 @@ returns-in-Ok-Some-clause-entered c = λ bound basis place role column g.
     let is : x ≡ cost_at c.args.keyed.now c.args.name = omega (arith, ints, c.cost_of-cost.type_inv) ∙ c.cost_of-cost.ensures in
     ends_turned c.args.keyed.now c.take_products.new.keyed c.args.name c.take_products.ensures.same c.take_products.ensures.count c.take_products.ensures.products g c.in-Ok-Some.role x is (subst (IsFirstOfRoles c.take_products.new.keyed c.args.name (λ s. Unit {0})) c.in-Ok-Some.field-0-is c.in-Ok-Some.ensures.first)
     c.turn_at.result c.turn_at.new.keyed c.turn_at.ensures.turned
+
+pub leaving-requires-clause-room : goal.leaving-requires-clause-room
+leaving-requires-clause-room c = subst (λ b. IsRoom (length b.rows) c.args.room.now) (sym c.take_products.ensures.same) c.requires.room
+
+pub leaving-requires-clause-demand : goal.leaving-requires-clause-demand
+leaving-requires-clause-demand c = subst (λ b. ForSome (demand_in c.args.name) (λ d. d < length b.duals)) (sym c.take_products.ensures.same) c.requires.gains.gaining.sound.demand
+
+pub leaving-requires-clause-name : goal.leaving-requires-clause-name
+leaving-requires-clause-name c = subst (λ b. IsNameWithin (length b.rows) c.args.name) (sym c.take_products.ensures.same) c.requires.gains.gaining.sound.within
+
+pub leaving-requires-clause-products : goal.leaving-requires-clause-products
+leaving-requires-clause-products c =
+    subst (λ b. HaveColumnProducts c.take_products.new.keyed c.args.name (key_links b.names b.places (length b.rows) (demand_in c.args.name))) (sym c.take_products.ensures.same)
+    c.take_products.ensures.products
+
+pub leaving-requires-clause-low : goal.leaving-requires-clause-low
+leaving-requires-clause-low c = λ i l. omega (arith, c.take_products.ensures.low i (subst (λ b. i < length b.rows) c.take_products.ensures.same l))
+
+pub returns-in-Ok-Some-clause-room : goal.returns-in-Ok-Some-clause-room
+returns-in-Ok-Some-clause-room c = λ again. subst (λ b. IsRoom (length b.rows) c.turn_at.new.room) c.take_products.ensures.same (c.turn_at.ensures.room again)

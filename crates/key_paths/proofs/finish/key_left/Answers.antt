@@ -1,5 +1,6 @@
-use Rattle.std.proofs.Common.{◌≡◌, length, slice_get, get_or, Some, pos, ◌*ℤ◌, ap, sym, ◌∙◌, arith}
+use Rattle.std.proofs.Common.{◌≡◌, ◌<◌, ◌*◌, ◌/◌, ◌^◌, length, slice_get, get_or, Some, pos, unsigned_abs, ◌*ℤ◌, ap, sym, ◌∙◌, subst, arith}
 use Rattle.std.proofs.lemmas.Option.{slice_get-get_or}
+use Rattle.simplex_core.specs.Tables.{den_of}
 use Rattle.key_paths.specs.inner.Ends.{shares}
 use Rattle.key_rows.specs.KeyRows.{amounts, times_taken}
 use Rattle.key_paths.proofs.Ending.{own_is, takes_less, left_next}
@@ -23,3 +24,15 @@ pub loop-i-preserved : goal.loop-i-preserved
 loop-i-preserved c =
     left_next c.args.keyed.now c.args.all c.args.demand c.loop-i.i c.own_over-own.result c.loop-i.left c.requires.fit c.requires.demand
     (omega (arith, c.loop-i-test.true, ap length c.items-rows.ensures)) (own_taken c) c.loop-i.invariant
+
+pub own_over-own-requires : goal.own_over-own-requires
+own_over-own-requires c =
+    let b = c.args.keyed.now in
+    let i = c.loop-i.i in
+    let all = c.args.all in
+    let row = c.index-rows-i.result in
+    let lt : i < length b.rows = omega (arith, c.loop-i-test.true, ap length c.items-rows.ensures) in
+    let is = rw c.items-rows.ensures at c.index-rows-i.is in
+    let at : slice_get b.rows i ≡ Some row = slice_get-get_or b.rows i row lt ∙ ap Some (sym is) in
+    subst (λ xs. get_or xs i 0 * (all / unsigned_abs row.den) < 2 ^ 124) (sym c.items-in-loop-i.ensures)
+    (subst (λ o. get_or b.values i 0 * (all / unsigned_abs (den_of o)) < 2 ^ 124) at (c.requires.fit.rows i lt))

@@ -10,12 +10,12 @@ use Rattle.key_rows.specs.declared.keyed.Keyed.{Keyed}
 use Rattle.key_paths.proofs.Slacks.{number_at, start_of}
 use Rattle.key_paths.proofs.start.slack_keyed.Goals as goal
 
-pub start_values-requires-clause-positive : goal.start_values-requires-clause-positive
-start_values-requires-clause-positive c k l =
+pub slack_amounts-requires-clause-positive : goal.slack_amounts-requires-clause-positive
+slack_amounts-requires-clause-positive c k l =
     let task = c.args.task.now in
     let g = graph_of task.graph in
     let bounds = c.in_ok-bounds.bounds in
-    subst (λ xs. pos 0 ≤ℤ num xs k) (sym c.items-2.ensures)
+    subst (λ xs. pos 0 ≤ℤ num xs k) (sym c.items.ensures)
     (subst (λ x. pos 0 ≤ℤ x) (sym (number_at (route_bound g task.demands.now task.caps.now) bounds k c.in_ok-bounds.ensures.bounds (omega (arith, l, c.links_of-links.ensures, c.in_ok-bounds.ensures.count))))
     (bound_nonneg g task.demands.now task.caps.now k))
 
@@ -28,23 +28,23 @@ returns c =
     let is_n = c.links_of-links.ensures in
     let bounds = c.in_ok-bounds.bounds in
     let b : Keyed = record {
-      names = c.in_ok-slack_names.field-0;
-      places = c.in_ok-counted.field-0;
-      owners = c.in_ok-filled.field-0;
-      rows = c.in_ok-unit_rows.field-0;
-      prices = c.in_ok-zero_row.field-0;
-      duals = c.in_ok-filled-2.field-0;
+      names = c.in_ok-names.names;
+      places = c.in_ok-names.places;
+      owners = c.in_ok-names.owners;
+      rows = c.in_ok-rows.rows;
+      prices = c.in_ok-rows.prices;
+      duals = c.in_ok-names.duals;
       bounds = bounds;
-      rest = c.in_ok-whole_rest.field-0;
-      values = c.in_ok-start_values.field-0;
-      products = c.in_ok-filled-3.field-0;
+      rest = c.in_ok-rest.rest;
+      values = c.in_ok-rest.values;
+      products = c.in_ok-rows.products;
     } in
     start_of g q (route_bound g task.demands.now task.caps.now) b (omega (arith, c.rows_of.type_inv, c.rows_of.ensures)) c.requires
-    c.in_ok-slack_names.ensures.count c.in_ok-slack_names.ensures.names
-    (c.in_ok-counted.ensures.count ∙ c.rows_of.ensures) c.in_ok-counted.ensures.each
-    (c.in_ok-filled.ensures ∙ (ap (λ m. replicate m c.len-demands.result) is_n ∙ ap (λ x. replicate n x) c.len-demands.ensures)) (c.in_ok-unit_rows.ensures.count ∙ is_n) (subst (λ m. AtEach (IsUnit m) c.in_ok-unit_rows.field-0) is_n c.in_ok-unit_rows.ensures.units)
-    (c.in_ok-zero_row.ensures.0 ∙ ap (λ m. replicate m (pos 0)) is_n) c.in_ok-zero_row.ensures.1 (c.in_ok-filled-2.ensures ∙ ap (λ m. replicate m (pos 0)) c.len-demands.ensures)
+    c.in_ok-names.ensures.count c.in_ok-names.ensures.names
+    c.in_ok-names.ensures.as_many c.in_ok-names.ensures.places
+    c.in_ok-names.ensures.owners (c.in_ok-rows.ensures.count ∙ is_n) (subst (λ m. AtEach (IsUnit m) c.in_ok-rows.rows) is_n c.in_ok-rows.ensures.units)
+    (c.in_ok-rows.ensures.prices.0 ∙ ap (λ m. replicate m (pos 0)) is_n) c.in_ok-rows.ensures.prices.1 c.in_ok-names.ensures.duals
     c.in_ok-bounds.ensures.count c.in_ok-bounds.ensures.bounds
-    (c.in_ok-whole_rest.ensures.count ∙ is_n) (subst (λ xs. AtEach (λ k x. x ≡ num xs k) c.in_ok-whole_rest.field-0) c.items.ensures c.in_ok-whole_rest.ensures.rest)
-    (c.in_ok-start_values.ensures.count ∙ is_n) (subst (λ xs. AtEach (λ k x. pos x ≡ num xs k) c.in_ok-start_values.field-0) c.items-2.ensures c.in_ok-start_values.ensures.values)
-    (ap length c.in_ok-filled-3.ensures ∙ (zeros_length c.links_of-links.result ∙ is_n))
+    (c.in_ok-rest.ensures.left ∙ is_n) (subst (λ xs. AtEach (λ k x. x ≡ num xs k) c.in_ok-rest.rest) c.items.ensures c.in_ok-rest.ensures.rest)
+    (c.in_ok-rest.ensures.count ∙ is_n) (subst (λ xs. AtEach (λ k x. pos x ≡ num xs k) c.in_ok-rest.values) c.items.ensures c.in_ok-rest.ensures.values)
+    (ap length c.in_ok-rows.ensures.products ∙ (zeros_length c.links_of-links.result ∙ is_n))
