@@ -10,7 +10,7 @@ use crate::draft::{Draft, empty_draft};
 use crate::order::by_falling_amount;
 use crate::routes::route_demand;
 use net_core::{
-    Caps, Copied, Demand, Demands, List, Network, NoMemory, Routing, StateId, States, Surviving,
+    Caps, Demand, Demands, List, Network, NoMemory, Routing, StateId, States, Surviving,
 };
 use std::alloc::Global;
 
@@ -20,15 +20,6 @@ pub struct Left {
     pub routing: Routing,
     /// One number for each demand.
     pub rest: List<u128>,
-}
-
-impl Copied for Left {
-    fn copy(&self) -> Result<Left, NoMemory> {
-        Ok(Left {
-            routing: self.routing.copy()?,
-            rest: self.rest.copy()?,
-        })
-    }
 }
 
 /// Routes one demand after another, those of greater need first.
