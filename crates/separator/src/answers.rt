@@ -1,4 +1,4 @@
-use net_core::{Copied, CutLine, Evidence, NoMemory, Routing, StateId};
+use net_core::{CutLine, Evidence, Routing, StateId};
 use plan_types::Spot;
 
 /// What is found of the demands of a state at some capacities.
@@ -17,23 +17,4 @@ pub enum Separated {
 pub struct StateAnswer {
     pub state: StateId,
     pub answer: Separated,
-}
-
-impl Copied for Separated {
-    fn copy(&self) -> Result<Separated, NoMemory> {
-        Ok(match self {
-            Separated::Routed(routing) => Separated::Routed(routing.copy()?),
-            Separated::Violated(line, spot) => Separated::Violated(line.copy()?, *spot),
-            Separated::Wide(evidence) => Separated::Wide(evidence.copy()?),
-        })
-    }
-}
-
-impl Copied for StateAnswer {
-    fn copy(&self) -> Result<StateAnswer, NoMemory> {
-        Ok(StateAnswer {
-            state: self.state,
-            answer: self.answer.copy()?,
-        })
-    }
 }
