@@ -1,0 +1,6 @@
+pub mod Picking
+pub mod Lessening
+pub mod Trailing
+pub mod Circles
+pub mod Steps
+pub mod Ending

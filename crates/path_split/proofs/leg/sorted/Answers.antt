@@ -1,0 +1,7 @@
+use Rattle.std.proofs.Common.{rules}
+use Rattle.std.proofs.lemmas.List.Sorted.{IsNonDecreasingBy-from_sort_by_key}
+use Rattle.path_split.proofs.leg.sorted.Goals as goal
+
+pub returns-clause-sorted : goal.returns-clause-sorted
+returns-clause-sorted c =
+    rw c.from_vec.ensures (IsNonDecreasingBy-from_sort_by_key (λ g. g.from.0) _ c.sort_unstable_by_key.ensures.sorted (λ a r q k. search rules))
