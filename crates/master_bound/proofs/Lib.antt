@@ -9,3 +9,4 @@ mod Lowest
 mod Multipliers
 mod Networks
 mod Optima
+mod UnitPairs
