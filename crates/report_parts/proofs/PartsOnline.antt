@@ -6,6 +6,7 @@ use Rattle.net_core.specs.declared.columns.RouteColumn.{RouteColumn}
 use Rattle.net_core.specs.declared.demand.Demand.{Demand}
 use Rattle.net_core.specs.declared.ids.LinkId.{LinkId}
 use Rattle.net_core.specs.declared.network.Link.{Link}
+use Rattle.net_core.specs.declared.places.Places.{Places}
 use Rattle.net_core.specs.declared.plan.CutLine.{CutLine}
 use Rattle.net_core.specs.declared.plan.Flow.{Flow}
 use Rattle.net_core.specs.declared.plan.Routing.{Routing}
@@ -207,24 +208,24 @@ nodes_online nodes =
     online_then _ _ (online_close Token Ended) (λ x.
     online_give _))))
 
-pub plan_demand_online : (nodes : List (List ℕ)) (sofar : List Demand) → IsOnline (plan_demand_at nodes sofar)
+pub plan_demand_online : (p : Places) (nodes : List (List ℕ)) (sofar : List Demand) → IsOnline (plan_demand_at p nodes sofar)
 unfolding plan_demand_at
-plan_demand_online nodes sofar =
+plan_demand_online p nodes sofar =
     online_then _ _ (online_word Token Ended _) (λ name.
     online_then _ _ (nodes_online nodes) (λ ends.
     online_then _ _ (online_word Token Ended _) (λ need.
     online_give _)))
 
-pub plan_demand_some : (nodes : List (List ℕ)) (sofar : List Demand) → TakesSome (plan_demand_at nodes sofar)
+pub plan_demand_some : (p : Places) (nodes : List (List ℕ)) (sofar : List Demand) → TakesSome (plan_demand_at p nodes sofar)
 unfolding plan_demand_at
-plan_demand_some nodes sofar = takes_some (plan_demand_at nodes sofar) (plan_demand_online nodes sofar) (λ p. Ended) (λ p. refl)
+plan_demand_some p nodes sofar = takes_some (plan_demand_at p nodes sofar) (plan_demand_online p nodes sofar) (λ t. Ended) (λ t. refl)
 
-pub plan_demands_online : (nodes : List (List ℕ)) → IsOnline (plan_demands_at nodes)
+pub plan_demands_online : (p : Places) (nodes : List (List ℕ)) → IsOnline (plan_demands_at p nodes)
 unfolding plan_demands_at
-plan_demands_online nodes =
+plan_demands_online p nodes =
     online_then _ _ (online_word Token Ended _) (λ x.
     online_then _ _ (online_open Token Ended) (λ x.
-    online_list Parenthesis no_fault (plan_demand_at nodes) (plan_demand_online nodes) (plan_demand_some nodes) []))
+    online_list Parenthesis no_fault (plan_demand_at p nodes) (plan_demand_online p nodes) (plan_demand_some p nodes) []))
 
 pub count_some : (l : Link) (sofar : List ℕ) → TakesSome (count_at l sofar)
 count_some l sofar = takes_some (count_at l sofar) (online_word Token Ended _) (λ p. Ended) (λ p. refl)

@@ -3,6 +3,7 @@ use Rattle.std.specs.Prelude.{ℕ, ◌+◌, ◌^◌, nat_lt, ◌&&◌, List, [],
 use Rattle.net_core.specs.declared.demand.Demand.{Demand}
 use Rattle.net_core.specs.declared.ids.NodeId.{NodeId}
 use Rattle.net_core.specs.declared.network.Link.{Link}
+use Rattle.net_core.specs.declared.places.Places.{Places}
 use Rattle.net_core.specs.declared.plan.CutLine.{CutLine}
 use Rattle.plan_terms.specs.Capacities.{modules_capacity}
 use Rattle.plan_types.specs.declared.certificate.CertLine.{CertLine}
@@ -29,22 +30,22 @@ nodes_at nodes = do
   give (from, to)
 
 -- a demand after earlier ones
-unfoldable pub plan_demand_at : List (List ℕ) → List Demand → Reading ReportKind Demand
-plan_demand_at nodes sofar = do
+unfoldable pub plan_demand_at : Places → List (List ℕ) → List Demand → Reading ReportKind Demand
+plan_demand_at p nodes sofar = do
   name ← word_at Token Ended (new_demand sofar)
   ends ← nodes_at nodes
-  need ← amount_at
+  need ← amount_at p
   give (record { name = name; from = ends.0; to = ends.1; need = need })
 
-unfoldable pub plan_demands_at : List (List ℕ) → Reading ReportKind (List Demand)
-plan_demands_at nodes = do
+unfoldable pub plan_demands_at : Places → List (List ℕ) → Reading ReportKind (List Demand)
+plan_demands_at p nodes = do
   _ ← keyword_at (codes "DEMANDS")
   _ ← opening_at
-  list_at Parenthesis no_fault (plan_demand_at nodes) []
+  list_at Parenthesis no_fault (plan_demand_at p nodes) []
 
 -- ---- modules
 
--- a count after those of the modules before it: the link has a further module, and less than 2^46 thousandths of capacity with it
+-- a count after those of the modules before it: the link has a further module, and less than 2^46 units of capacity with it
 abbrev pub count_within : Link → List ℕ → Result ℕ ReportKind → Result ℕ ReportKind
 count_within l sofar (Ok n) = where_room (has_room (length l.modules) sofar && nat_lt (l.fixed + modules_capacity l.modules (sofar ++ n ∷ [])) (2 ^ 46)) (Ok n)
 count_within l sofar (Err kind) = Err kind

@@ -167,7 +167,7 @@ fn lines(
 }
 
 /// Takes the certificate of a plan: the common denominator of its multipliers, from 1 to below 2^72, and up to 256 lines, each with
-/// a numerator below 2^62, a cut and a right side below 2^84 in thousandths.
+/// a numerator below 2^62, a cut and a right side below 2^84 in units.
 ///
 /// A number that is out of its range, a place that the pool doesn't have, or a line too many is `limit`. It takes memory for the
 /// lengths of each line's cut, which are copied from the pool where the line names a place there.

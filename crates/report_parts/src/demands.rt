@@ -145,12 +145,12 @@ fn demand<'a>(
     text: &mut Cursor<'a>,
 ) -> Result<Demand, ReportRefusal>
     requires { places.old ≡ map (λ d. d.name) sofar.now }
-    ensures reads { ReadsAs (λ d. d) result (left text.new) (plan_demand_at context.now.net.now.nodes sofar.now (left text.old)) }
+    ensures reads { ReadsAs (λ d. d) result (left text.new) (plan_demand_at context.now.net.now.places context.now.net.now.nodes sofar.now (left text.old)) }
     ensures places { IfOk result (λ d. places.new ≡ places.old ++ d.name ∷ []) }
 {
     let name = new_name(alloc, places, sofar, text)?;
     let (from, to) = nodes(context, text)?;
-    let need = amount(text)?;
+    let need = amount(context.net.places(), text)?;
     Ok(Demand {
         name,
         from,
@@ -168,7 +168,7 @@ fn take_demand<'a>(
     text: &mut Cursor<'a>,
 ) -> Result<bool, ReportRefusal>
     requires { places.old ≡ map (λ d. d.name) all.old }
-    ensures turn { TakesElement result (list_at Parenthesis no_fault (plan_demand_at context.now.net.now.nodes) all.old (left text.old)) (list_at Parenthesis no_fault (plan_demand_at context.now.net.now.nodes) all.new (left text.new)) (Ok (all.new, left text.new)) }
+    ensures turn { TakesElement result (list_at Parenthesis no_fault (plan_demand_at context.now.net.now.places context.now.net.now.nodes) all.old (left text.old)) (list_at Parenthesis no_fault (plan_demand_at context.now.net.now.places context.now.net.now.nodes) all.new (left text.new)) (Ok (all.new, left text.new)) }
     ensures shorter { IfOk result (λ more. IsTrue more → size (left text.new) < size (left text.old)) }
     ensures places { OnOk result (places.new ≡ map (λ d. d.name) all.new) }
     ensures few { OnOk result (length all.old < 2 ^ 32 → length all.new < 2 ^ 32) }
@@ -190,7 +190,7 @@ fn list<'a>(
     context: &Context,
     text: &mut Cursor<'a>,
 ) -> Result<PlanDemands<'a>, ReportRefusal>
-    ensures { ReadsAs (λ d. d.list) result (left text.new) (list_at Parenthesis no_fault (plan_demand_at context.now.net.now.nodes) [] (left text.old)) }
+    ensures { ReadsAs (λ d. d.list) result (left text.new) (list_at Parenthesis no_fault (plan_demand_at context.now.net.now.places context.now.net.now.nodes) [] (left text.old)) }
 {
     let mut places = Places::new(alloc);
     let mut list = List::new(alloc);
@@ -198,7 +198,8 @@ fn list<'a>(
     Ok(PlanDemands { list, places })
 }
 
-/// Takes the demands of a plan: each one's name, its two nodes between parentheses, and its need in thousandths.
+/// Takes the demands of a plan: each one's name, its two nodes between parentheses, and its need in units of the
+/// network.
 ///
 /// A name that an earlier demand has is `double-name`, one of more than 255 bytes `limit-name`, and an unknown node `unknown-name`.
 /// It takes time in the bytes, and memory for the demands with their names and for the places of these.
@@ -208,7 +209,7 @@ pub fn plan_demands<'a>(
     context: &Context,
     text: &mut Cursor<'a>,
 ) -> Result<PlanDemands<'a>, ReportRefusal>
-    ensures { ReadsAs (λ d. d.list) result (left text.new) (plan_demands_at context.now.net.now.nodes (left text.old)) }
+    ensures { ReadsAs (λ d. d.list) result (left text.new) (plan_demands_at context.now.net.now.places context.now.net.now.nodes (left text.old)) }
 {
     keyword(DEMANDS, text)?;
     opening(text)?;

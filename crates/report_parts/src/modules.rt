@@ -180,7 +180,7 @@ impl<'a> Element for ModuleList<'a> {
 /// Takes the modules of all links: for each link, in the network's order, its name and how many of each of its modules there are.
 ///
 /// A name other than the next link's is `unknown-name`. A count of 2^44 or more, one with which the link's capacity would reach
-/// 2^46 thousandths, and one too many or too few are `limit`. For each count it sums up the link's capacity from the first one,
+/// 2^46 units, and one too many or too few are `limit`. For each count it sums up the link's capacity from the first one,
 /// which takes time in the square of the link's modules. It takes memory for 8 bytes a count.
 #[tactic(auto, unfolding(crate::specs::ReadingParts::modules_at))]
 pub fn modules(alloc: Global, links: &[Link], text: &mut Cursor) -> Result<Counts, ReportRefusal>
