@@ -20,3 +20,12 @@ returns-in-Err-clause-wide c =
       too_wide_at (length c.args.pivot.now.nums) rows row c.args.products.now (num c.args.pivot.now.nums) (num c.args.products.now c.args.r) c.args.i c.in-Err.field-0
           c.requires.inside (slice_get-get_or rows c.args.i c.index-rows-i.result c.requires.inside) c.requires.rectangle c.in-Err.ensures.wide,
     )
+
+pub combine_row-requires-clause-positive : goal.combine_row-requires-clause-positive
+combine_row-requires-clause-positive c = c.requires.pivot.positive
+
+pub combine_row-requires-clause-narrow : goal.combine_row-requires-clause-narrow
+combine_row-requires-clause-narrow c = c.requires.pivot.narrow
+
+pub combine_row-requires-clause-over : goal.combine_row-requires-clause-over
+combine_row-requires-clause-over c = c.requires.pivot.over c.args.i c.requires.inside
