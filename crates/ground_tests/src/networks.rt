@@ -1,6 +1,6 @@
 use net_core::{
     Copied, Link, LinkId, List, Listed, Module, Name, NameFault, NetFault, Network, NodeId, Notes,
-    StateId, States, StatesFault,
+    Places, StateId, States, StatesFault,
 };
 use std::alloc::Global;
 use worked_networks::{PARALLEL, network};
@@ -76,7 +76,7 @@ fn check_with(alloc: Global, second: &LinkRow) -> Option<Result<Network, NetFaul
         routing_cost: false,
         setup_cost: false,
     };
-    Some(Network::check(nodes(alloc)?, links(alloc, second)?, notes))
+    Some(Network::check(nodes(alloc)?, links(alloc, second)?, notes, Places::Three))
 }
 
 /// Whether the check finds this fault, or none.

@@ -1,4 +1,4 @@
-use net_core::{Bytes, NoMemory};
+use net_core::{Bytes, NoMemory, Places};
 use snd_tokens::Cursor;
 use std::alloc::Global;
 use text_kit::Refusal;
@@ -17,8 +17,10 @@ fn put_line(text: &mut Bytes) -> Result<(), NoMemory> {
     put_word(text, b"NOTES")?;
     put_open(text)?;
     put_whole(text, 4_096)?;
-    put_money(text, 12_007)?;
-    put_money(text, 5)?;
+    put_money(text, Places::Three, 12_007)?;
+    put_money(text, Places::Three, 5)?;
+    put_money(text, Places::Six, 12_007)?;
+    put_money(text, Places::Six, 12_345_600)?;
     put_close(text)?;
     put_whole(text, 0)
 }
@@ -26,7 +28,8 @@ fn put_line(text: &mut Bytes) -> Result<(), NoMemory> {
 /// Whether a line of each kind of item is written as by hand.
 fn is_line_written(alloc: Global) -> bool {
     let mut text = Bytes::new(alloc);
-    put_line(&mut text).is_ok() && text.items() == b"NOTES ( 4096 12.007 0.005 )\n0 ".as_slice()
+    put_line(&mut text).is_ok()
+        && text.items() == b"NOTES ( 4096 12.007 0.005 0.012007 12.345600 )\n0 ".as_slice()
 }
 
 #[test]

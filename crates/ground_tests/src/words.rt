@@ -1,8 +1,10 @@
+use net_core::Places;
 use snd_tokens::{
-    NumberFault, Token, TokenKind, WholeFault, after_header, milli, money, next_token, units, whole,
+    NumberFault, Token, TokenKind, WholeFault, after_header, amount, money, next_token, units,
+    whole,
 };
 
-/// Amounts in thousandths, below 2^40.
+/// Amounts with three places, which are thousandths below 2^40.
 const AMOUNTS: [(&[u8], Result<u64, NumberFault>); 21] = [
     (b"0", Ok(0)),
     (b"007", Ok(7_000)),
@@ -33,11 +35,33 @@ const AMOUNTS: [(&[u8], Result<u64, NumberFault>); 21] = [
 #[test]
 fn amounts_are_read(rt: HostRuntime) {
     for (word, value) in &AMOUNTS {
-        assert!(rt; milli(word) == *value, "{word:?}");
+        assert!(rt; amount(word, Places::Three) == *value, "{word:?}");
     }
 }
 
-/// Amounts in thousandths, below 2^126.
+/// Amounts with six places, which are millionths below 2^40.
+const FINE_AMOUNTS: [(&[u8], Result<u64, NumberFault>); 11] = [
+    (b"0", Ok(0)),
+    (b"5", Ok(5_000_000)),
+    (b"12.3456", Ok(12_345_600)),
+    (b"012.345678", Ok(12_345_678)),
+    (b"0.000001", Ok(1)),
+    (b"0.0000010", Ok(1)),
+    (b"1099511.627775", Ok(1_099_511_627_775)),
+    (b"0.0000001", Err(NumberFault::TooFine)),
+    (b"9999999.0000001", Err(NumberFault::TooFine)),
+    (b"1099511.627776", Err(NumberFault::TooLarge)),
+    (b"2000000", Err(NumberFault::TooLarge)),
+];
+
+#[test]
+fn amounts_are_read_in_millionths(rt: HostRuntime) {
+    for (word, value) in &FINE_AMOUNTS {
+        assert!(rt; amount(word, Places::Six) == *value, "{word:?}");
+    }
+}
+
+/// Money with three places, which is thousandths below 2^126.
 const MONEY: [(&[u8], Result<u128, NumberFault>); 6] = [
     (b"0.000", Ok(0)),
     (b"600.000", Ok(600_000)),
@@ -56,11 +80,32 @@ const MONEY: [(&[u8], Result<u128, NumberFault>); 6] = [
 #[test]
 fn money_is_read(rt: HostRuntime) {
     for (word, value) in &MONEY {
-        assert!(rt; money(word) == *value, "{word:?}");
+        assert!(rt; money(word, Places::Three) == *value, "{word:?}");
     }
 }
 
-/// Amounts that are whole.
+/// Money with six places, which is millionths below 2^126.
+const FINE_MONEY: [(&[u8], Result<u128, NumberFault>); 4] = [
+    (b"600.000000", Ok(600_000_000)),
+    (
+        b"85070591730234615865843651857942.052863",
+        Ok(85_070_591_730_234_615_865_843_651_857_942_052_863),
+    ),
+    (
+        b"85070591730234615865843651857942.052864",
+        Err(NumberFault::TooLarge),
+    ),
+    (b"1.0000001", Err(NumberFault::TooFine)),
+];
+
+#[test]
+fn money_is_read_in_millionths(rt: HostRuntime) {
+    for (word, value) in &FINE_MONEY {
+        assert!(rt; money(word, Places::Six) == *value, "{word:?}");
+    }
+}
+
+/// Whole amounts below 2^40 thousandths.
 const UNITS: [(&[u8], Result<u64, NumberFault>); 8] = [
     (b"1", Ok(1)),
     (b"007.0000", Ok(7)),
@@ -75,7 +120,22 @@ const UNITS: [(&[u8], Result<u64, NumberFault>); 8] = [
 #[test]
 fn whole_amounts_are_read(rt: HostRuntime) {
     for (word, value) in &UNITS {
-        assert!(rt; units(word) == *value, "{word:?}");
+        assert!(rt; units(word, Places::Three) == *value, "{word:?}");
+    }
+}
+
+/// Whole amounts below 2^40 millionths.
+const FINE_UNITS: [(&[u8], Result<u64, NumberFault>); 4] = [
+    (b"1.0000000", Ok(1)),
+    (b"1099511", Ok(1_099_511)),
+    (b"1099512", Err(NumberFault::TooLarge)),
+    (b"1.5", Err(NumberFault::TooFine)),
+];
+
+#[test]
+fn whole_amounts_of_millionths_are_read(rt: HostRuntime) {
+    for (word, value) in &FINE_UNITS {
+        assert!(rt; units(word, Places::Six) == *value, "{word:?}");
     }
 }
 
