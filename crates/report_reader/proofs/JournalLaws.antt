@@ -7,6 +7,7 @@ use Rattle.net_core.specs.declared.journal.Entry.TheVariants.{Edited, Pooled}
 use Rattle.net_core.specs.declared.journal.Reply.{Reply}
 use Rattle.net_core.specs.declared.journal.Reply.TheVariants.{Accepted, UnknownDemand, KnownDemand, UnknownNode, SelfDemand, TooMany, TooMuch}
 use Rattle.net_core.specs.declared.network.Notes.{Notes}
+use Rattle.net_core.specs.declared.places.Places.{Places}
 use Rattle.net_core.specs.declared.plan.CutLine.{CutLine}
 use Rattle.snd_tokens.specs.Lexemes.{Text}
 use Rattle.text_kit.specs.Answers.{ReadsAs}
@@ -121,9 +122,9 @@ two_names_law = law_made two_names_at _ _ _ (λ e. ends_items e.0 e.1) (λ e. (l
     made_then _ _ _ _ _ _ _ _ name_law (λ to h.
     made_last closing_at (λ (u : Unit {0}). (from, to)) _ _ closing_law))))
 
-pub edit_law : Lawful edit_at edit_items IsEditInForm AnyText
+pub edit_law : (p : Places) → Lawful (edit_at p) (edit_items p) IsEditInForm AnyText
 unfolding set_at add_at drop_at
-edit_law = branches_law true (Err Token) edit_branches edit_items _ IsEditInForm
+edit_law p = branches_law true (Err Token) (edit_branches p) (edit_items p) _ IsEditInForm
     (either_form true _ _ _ IsEditInForm (λ q m h. (h.0, h.1))
     (either_form true _ _ _ IsEditInForm (λ q m h. (h.0, h.1.0.0, h.1.0.1, h.1.1))
     (either_form true _ _ _ IsEditInForm (λ n m h. h)
@@ -132,20 +133,20 @@ edit_law = branches_law true (Err Token) edit_branches edit_items _ IsEditInForm
     (λ name need h. inl (refl, record { parts = (name, need); right = (h.0, h.1); gives = refl }))
     (λ name from to need h. inr (inl (refl, record { parts = (name, ((from, to), need)); right = (h.0, ((h.1, h.2), h.3)); gives = refl })))
     (λ name h. inr (inr (inl (refl, record { parts = name; right = h; gives = refl })))))
-    (lawful_branch true (Err Token) (codes "set") set_at _ _ _ _ edit_items _ refl (λ p h. refl)
+    (lawful_branch true (Err Token) (codes "set") (set_at p) _ _ _ _ (edit_items p) _ refl (λ q h. refl)
     (made_then _ _ _ _ _ _ _ _ name_law (λ name h.
-    made_last _ (λ (need : ℕ). Set name need) _ _ amount_law))
-    (lawful_branch true (Err Token) (codes "add") add_at _ _ _ _ edit_items _ refl (λ p h. refl)
+    made_last _ (λ (need : ℕ). Set name need) _ _ (amount_law p)))
+    (lawful_branch true (Err Token) (codes "add") (add_at p) _ _ _ _ (edit_items p) _ refl (λ q h. refl)
     (made_then _ _ _ _ _ _ _ _ name_law (λ name h.
     made_then _ _ _ _ _ _ _ _ two_names_law (λ ends h.
-    made_last _ (λ (need : ℕ). Add name ends.0 ends.1 need) _ _ amount_law)))
-    (lawful_branch true (Err Token) (codes "drop") drop_at _ _ _ _ edit_items _ refl (λ p h. refl)
+    made_last _ (λ (need : ℕ). Add name ends.0 ends.1 need) _ _ (amount_law p))))
+    (lawful_branch true (Err Token) (codes "drop") drop_at _ _ _ _ (edit_items p) _ refl (λ q h. refl)
     (made_last _ (λ (name : List ℕ). Drop name) _ _ name_law)
-    (lawful_no_branch true Token edit_items))))
+    (lawful_no_branch true Token (edit_items p)))))
 
-pub reply_law : Lawful reply_at reply_items IsReplyInForm AnyText
+pub reply_law : (p : Places) → Lawful (reply_at p) (reply_items p) IsReplyInForm AnyText
 unfolding accepted_at too_much_at
-reply_law = branches_law true (Err Token) reply_branches reply_items _ IsReplyInForm
+reply_law p = branches_law true (Err Token) (reply_branches p) (reply_items p) _ IsReplyInForm
     (either_form true _ _ _ IsReplyInForm (λ v m h. omega (arith, h.1))
     (either_form true _ _ _ IsReplyInForm (λ u m h. tt)
     (either_form true _ _ _ IsReplyInForm (λ u m h. tt)
@@ -162,14 +163,14 @@ reply_law = branches_law true (Err Token) reply_branches reply_items _ IsReplyIn
     (λ h. inr (inr (inr (inr (inl (refl, record { parts = tt; right = tt; gives = refl }))))))
     (λ h. inr (inr (inr (inr (inr (inl (refl, record { parts = tt; right = tt; gives = refl })))))))
     (λ total h. inr (inr (inr (inr (inr (inr (inl (refl, record { parts = total; right = h; gives = refl })))))))))
-    (lawful_branch true (Err Token) (codes "accepted") accepted_at _ _ _ _ reply_items _ refl (λ p h. refl) (made_last _ (λ (v : ℕ). Accepted v) _ _ (number_law 0 65537))
-    (lawful_branch true (Err Token) (codes "unknown-demand") _ _ _ _ _ reply_items _ refl (λ p h. refl) (made_give UnknownDemand)
-    (lawful_branch true (Err Token) (codes "known-demand") _ _ _ _ _ reply_items _ refl (λ p h. refl) (made_give KnownDemand)
-    (lawful_branch true (Err Token) (codes "unknown-node") _ _ _ _ _ reply_items _ refl (λ p h. refl) (made_give UnknownNode)
-    (lawful_branch true (Err Token) (codes "self-demand") _ _ _ _ _ reply_items _ refl (λ p h. refl) (made_give SelfDemand)
-    (lawful_branch true (Err Token) (codes "too-many") _ _ _ _ _ reply_items _ refl (λ p h. refl) (made_give TooMany)
-    (lawful_branch true (Err Token) (codes "too-much") too_much_at _ _ _ _ reply_items _ refl (λ p h. refl) (made_last _ (λ (t : ℕ). TooMuch t) _ _ (money_law (2 ^ 45)))
-    (lawful_no_branch true Token reply_items))))))))
+    (lawful_branch true (Err Token) (codes "accepted") accepted_at _ _ _ _ (reply_items p) _ refl (λ q h. refl) (made_last _ (λ (v : ℕ). Accepted v) _ _ (number_law 0 65537))
+    (lawful_branch true (Err Token) (codes "unknown-demand") _ _ _ _ _ (reply_items p) _ refl (λ q h. refl) (made_give UnknownDemand)
+    (lawful_branch true (Err Token) (codes "known-demand") _ _ _ _ _ (reply_items p) _ refl (λ q h. refl) (made_give KnownDemand)
+    (lawful_branch true (Err Token) (codes "unknown-node") _ _ _ _ _ (reply_items p) _ refl (λ q h. refl) (made_give UnknownNode)
+    (lawful_branch true (Err Token) (codes "self-demand") _ _ _ _ _ (reply_items p) _ refl (λ q h. refl) (made_give SelfDemand)
+    (lawful_branch true (Err Token) (codes "too-many") _ _ _ _ _ (reply_items p) _ refl (λ q h. refl) (made_give TooMany)
+    (lawful_branch true (Err Token) (codes "too-much") (too_much_at p) _ _ _ _ (reply_items p) _ refl (λ q h. refl) (made_last _ (λ (t : ℕ). TooMuch t) _ _ (money_law p (2 ^ 45)))
+    (lawful_no_branch true Token (reply_items p)))))))))
 
 -- ---- entries
 
@@ -178,40 +179,40 @@ abbrev pub IsPlain : Entry → Type 0
 IsPlain (Edited caller edit reply) = IsEditedInForm caller edit reply
 IsPlain (Pooled index state lengths) = (index < 4096) × (Pooled index (record { 0 = 0 }) [] ≡ Pooled index state lengths)
 
-event_law : Lawful event_at event_items IsPlain AnyText
+event_law : (p : Places) → Lawful (event_at p) (event_items p) IsPlain AnyText
 unfolding edited_at pooled_at
-event_law = branches_law true (Err Token) event_branches event_items _ IsPlain
+event_law p = branches_law true (Err Token) (event_branches p) (event_items p) _ IsPlain
     (either_form true _ _ _ IsPlain (λ q m h. record { some = h.0.0; most = omega (arith, h.0.1); asked = h.1.0; answered = h.1.1 })
     (either_form true _ _ _ IsPlain (λ i m h. (h.1, refl))
     (λ e n. absurd n)))
     (entry_cases _
     (λ caller edit reply h. inl (refl, record { parts = (caller, (edit, reply)); right = ((h.some, omega (arith, h.most)), (h.asked, h.answered)); gives = refl }))
     (λ index state lengths h. inr (inl (refl, record { parts = index; right = (omega arith, h.0); gives = h.1 }))))
-    (lawful_branch true (Err Token) (codes "caller") edited_at _ _ _ _ event_items _ refl (λ p h. refl)
+    (lawful_branch true (Err Token) (codes "caller") (edited_at p) _ _ _ _ (event_items p) _ refl (λ q h. refl)
     (made_then _ _ _ _ _ _ _ _ (number_law 1 9) (λ caller h.
-    made_then _ _ _ _ _ _ _ _ edit_law (λ edit h.
-    made_last _ (λ (reply : Reply). Edited caller edit reply) _ _ reply_law)))
-    (lawful_branch true (Err Token) (codes "cut") pooled_at _ _ _ _ event_items _ refl (λ p h. refl)
+    made_then _ _ _ _ _ _ _ _ (edit_law p) (λ edit h.
+    made_last _ (λ (reply : Reply). Edited caller edit reply) _ _ (reply_law p))))
+    (lawful_branch true (Err Token) (codes "cut") pooled_at _ _ _ _ (event_items p) _ refl (λ q h. refl)
     (made_last _ (λ (index : ℕ). Pooled index (record { 0 = 0 }) []) _ _ (number_law 0 4096))
-    (lawful_no_branch true Token event_items)))
+    (lawful_no_branch true Token (event_items p))))
 
-entry_law : (sofar : List Entry) → Lawful (journal_entry_at sofar) (λ e. entry_items (length sofar + 1, e)) (λ e. (has_room 65536 sofar ≡ true) × IsPlain e) AnyText
+entry_law : (p : Places) (sofar : List Entry) → Lawful (journal_entry_at p sofar) (λ e. entry_items p (length sofar + 1, e)) (λ e. (has_room 65536 sofar ≡ true) × IsPlain e) AnyText
 unfolding journal_entry_at
-entry_law sofar = law_made (journal_entry_at sofar) _ _ _ (λ e. entry_items (length sofar + 1, e)) (λ e. (has_room 65536 sofar ≡ true) × IsPlain e)
+entry_law p sofar = law_made (journal_entry_at p sofar) _ _ _ (λ e. entry_items p (length sofar + 1, e)) (λ e. (has_room 65536 sofar ≡ true) × IsPlain e)
     (λ q h. (h.0, h.1.1.0))
     (λ q h. refl)
     (λ e h. record { parts = (tt, (tt, (e, tt))); right = (h.0, (tt, (h.1, tt))); gives = refl })
     (made_then _ _ _ _ _ _ _ _ (opening_within_law (has_room 65536 sofar)) (λ x h.
     made_then _ _ _ _ _ _ _ _ (this_number_law (length sofar + 1)) (λ x h.
-    made_then _ _ _ _ _ _ _ _ event_law (λ event h.
+    made_then _ _ _ _ _ _ _ _ (event_law p) (λ event h.
     made_last closing_at (λ (u : Unit {0}). event) _ _ closing_law))))
 
-pub entries_law : Lawful entries_at (λ es. flat_map entry_items (numbered_from 1 es) ++ Closing ∷ []) (λ es. (length es ≤ 65536) × All IsPlain es) AnyText
-entries_law = lawful_as entries_at _ (λ es. flat_map entry_items (numbered_from 1 es) ++ Closing ∷ []) _ (λ es. (length es ≤ 65536) × All IsPlain es) AnyText
-    (λ es h. ap (λ (is : List Item). is ++ Closing ∷ []) (numbered_items (λ k e. entry_items (k + 1, e)) entry_items 1 (λ k e. refl) 0 1 es (omega arith)))
+pub entries_law : (p : Places) → Lawful (entries_at p) (λ es. flat_map (entry_items p) (numbered_from 1 es) ++ Closing ∷ []) (λ es. (length es ≤ 65536) × All IsPlain es) AnyText
+entries_law p = lawful_as (entries_at p) _ (λ es. flat_map (entry_items p) (numbered_from 1 es) ++ Closing ∷ []) _ (λ es. (length es ≤ 65536) × All IsPlain es) AnyText
+    (λ es h. ap (λ (is : List Item). is ++ Closing ∷ []) (numbered_items (λ k e. entry_items p (k + 1, e)) (entry_items p) 1 (λ k e. refl) 0 1 es (omega arith)))
     (λ es h. rooms_few 65536 IsPlain es h.1)
     (λ es h. (refl, few_rooms 65536 IsPlain es h.0 h.1))
-    (lawful_placed (λ k e. entry_items (k + 1, e)) (λ sofar e. (has_room 65536 sofar ≡ true) × IsPlain e) no_fault journal_entry_at (λ k e. tt) entry_law)
+    (lawful_placed (λ k e. entry_items p (k + 1, e)) (λ sofar e. (has_room 65536 sofar ≡ true) × IsPlain e) no_fault (journal_entry_at p) (λ k e. tt) (entry_law p))
 
 -- ---- the pool
 

@@ -1,6 +1,7 @@
 -- The readings of plans take exactly their texts.
-use Rattle.std.proofs.Common.{◌≡◌, ◌≢◌, ℕ, ◌+◌, ◌^◌, ◌<◌, ◌≤◌, List, [], ◌∷◌, ◌++◌, All, AllPairs, refl, sym, ap, ◌∙◌, arith, append_assoc}
+use Rattle.std.proofs.Common.{◌≡◌, ◌≢◌, ℕ, ◌^◌, ◌<◌, ◌≤◌, List, [], ◌∷◌, ◌++◌, All, AllPairs, refl, sym, ap, ◌∙◌, arith, append_assoc}
 use Rattle.std.specs.Prelude.{codes, flat_map, slice_get, zip}
+use Rattle.net_core.specs.declared.places.Places.{Places}
 use Rattle.net_core.specs.declared.plan.CutLine.{CutLine}
 use Rattle.plan_terms.specs.Capacities.{AreCounts, AreWithinLimits}
 use Rattle.plan_types.specs.declared.plan.Plan.{Plan}
@@ -25,8 +26,8 @@ use Rattle.report_parts.proofs.DemandLaws.{demands_apart, demands_law}
 
 -- ---- costs and bounds
 
-abbrev values_items : Values → List Item
-values_items v = Verbatim (codes "cost") ∷ Money v.cost ∷ Verbatim (codes "bound") ∷ Money v.bound ∷ Verbatim (codes "raw") ∷ Whole v.raw_num ∷ Whole v.raw_den ∷ []
+abbrev values_items : Places → Values → List Item
+values_items p v = Verbatim (codes "cost") ∷ Money p v.cost ∷ Verbatim (codes "bound") ∷ Money p v.bound ∷ Verbatim (codes "raw") ∷ Whole v.raw_num ∷ Whole v.raw_den ∷ []
 
 pub record AreValues (v : Values) : Type 0 where
   pub low : v.cost < 2 ^ 126
@@ -35,16 +36,16 @@ pub record AreValues (v : Values) : Type 0 where
   pub positive : 1 ≤ v.raw_den
   pub den : v.raw_den < 2 ^ 72
 
-values_law : Lawful values_at values_items AreValues AnyText
+values_law : (p : Places) → Lawful (values_at p) (values_items p) AreValues AnyText
 unfolding values_at
-values_law = law_made values_at _ _ _ values_items AreValues
+values_law p = law_made (values_at p) _ _ _ (values_items p) AreValues
     (λ q h. record { low = h.1.0; bounded = h.1.1.1.0; num = h.1.1.1.1.1.0.1; positive = h.1.1.1.1.1.1.0; den = h.1.1.1.1.1.1.1 })
     (λ q h. refl)
     (λ v h. record { parts = (tt, (v.cost, (tt, (v.bound, (tt, (v.raw_num, v.raw_den)))))); right = (tt, (h.low, (tt, (h.bounded, (tt, ((omega arith, h.num), (h.positive, h.den))))))); gives = refl })
     (made_then _ _ _ _ _ _ _ _ (keyword_law (codes "cost")) (λ x h.
-    made_then _ _ _ _ _ _ _ _ (money_law (2 ^ 126)) (λ cost h.
+    made_then _ _ _ _ _ _ _ _ (money_law p (2 ^ 126)) (λ cost h.
     made_then _ _ _ _ _ _ _ _ (keyword_law (codes "bound")) (λ x h.
-    made_then _ _ _ _ _ _ _ _ (money_law (2 ^ 126)) (λ bound h.
+    made_then _ _ _ _ _ _ _ _ (money_law p (2 ^ 126)) (λ bound h.
     made_then _ _ _ _ _ _ _ _ (keyword_law (codes "raw")) (λ x h.
     made_then _ _ _ _ _ _ _ _ (number_law 0 (2 ^ 126)) (λ num h.
     made_last _ (λ (den : ℕ). record { cost = cost; bound = bound; raw_num = num; raw_den = den }) _ _ (number_law 1 (2 ^ 72)))))))))
@@ -71,14 +72,14 @@ module _ (names : KnownNames) (pool : List CutLine) where
   unfolding plan_at
   plan_law nodes_apart apart sound form head = law_made (plan_at names pool head) _ _ _ (plan_items names) (IsPlanOf head)
       (λ q h. ((refl, refl), (h.0, (h.1.0, (h.1.1.0, (h.1.1.1.0, (h.1.1.1.1.1.0, h.1.1.1.1.1.1)))))))
-      (λ q h. joined (section (codes "DEMANDS") (flat_map (demand_items names.nodes) q.0)) (values_items q.1.0) (section (codes "MODULES") (flat_map modules_items (zip names.links q.1.1.0))) (certificate_items q.1.1.1.0) (Verbatim (codes "ROUTES") ∷ routings_items names q.0 q.1.1.1.1.1.0) (quality_items names q.0 q.1.1.1.1.1.1))
+      (λ q h. joined (section (codes "DEMANDS") (flat_map (demand_items names.places names.nodes) q.0)) (values_items names.places q.1.0) (section (codes "MODULES") (flat_map modules_items (zip names.links q.1.1.0))) (certificate_items q.1.1.1.0) (Verbatim (codes "ROUTES") ∷ routings_items names q.0 q.1.1.1.1.1.0) (quality_items names q.0 q.1.1.1.1.1.1))
       (λ p h. record {
         parts = (p.demands, (values_of p, (p.counts, (p.certificate, (tt, (p.routings, p.quality))))));
         right = (h.1.0, (h.1.1.0, (h.1.1.1.0, (h.1.1.1.1.0, (tt, (h.1.1.1.1.1.0, h.1.1.1.1.1.1))))));
         gives = ap (λ (v : ℕ). with_head v head.position p) h.0.0 ∙ ap (λ (w : ℕ). with_head p.version w p) h.0.1;
       })
-      (made_then _ _ _ _ _ _ _ _ (demands_law names.nodes nodes_apart) (λ demands hd.
-      made_then _ _ _ _ _ _ _ _ values_law (λ values h.
+      (made_then _ _ _ _ _ _ _ _ (demands_law names.nodes nodes_apart names.places) (λ demands hd.
+      made_then _ _ _ _ _ _ _ _ (values_law names.places) (λ values h.
       made_then _ _ _ _ _ _ _ _ (modules_law names.links sound) (λ counts h.
       made_then _ _ _ _ _ _ _ _ (certificate_law names pool form) (λ certificate h.
       made_then _ _ _ _ _ _ _ _ (keyword_law (codes "ROUTES")) (λ x h.

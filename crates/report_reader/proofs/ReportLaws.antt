@@ -10,6 +10,7 @@ use Rattle.net_core.specs.Network.{IsNetwork}
 use Rattle.net_core.specs.declared.journal.Entry.{Entry}
 use Rattle.net_core.specs.declared.journal.Entry.TheVariants.{Edited, Pooled}
 use Rattle.net_core.specs.declared.network.Link.{Link}
+use Rattle.net_core.specs.declared.places.Places.{Places}
 use Rattle.net_core.specs.declared.plan.CutLine.{CutLine}
 use Rattle.plan_types.specs.declared.report.Outcome.{Outcome}
 use Rattle.plan_types.specs.declared.report.Report.{Report}
@@ -65,9 +66,9 @@ module _ (pool : List CutLine) where
     ap (λ (s : ℕ). Pooled index (record { 0 = s }) (line_lengths (slice_get pool index))) (sym h.same_state) ∙ ap (λ (ls : List ℕ). Pooled index state ls) (sym h.same_lengths),
   )
 
-  filled_items : (n : ℕ) (e : Entry) → entry_items (n, e) ≡ entry_items (n, filled pool e)
-  filled_items n (Edited caller edit reply) = refl
-  filled_items n (Pooled index state lengths) = refl
+  filled_items : (p : Places) (n : ℕ) (e : Entry) → entry_items p (n, e) ≡ entry_items p (n, filled pool e)
+  filled_items p n (Edited caller edit reply) = refl
+  filled_items p n (Pooled index state lengths) = refl
 
   all_filled : (es : List Entry) → All IsPlain es → (length (map (filled pool) es) ≡ length es) × All (IsEntryInForm pool) (map (filled pool) es)
   all_filled [] all = (refl, All-nil (IsEntryInForm pool))
@@ -85,11 +86,11 @@ module _ (pool : List CutLine) where
         ap (λ (x : Entry). x ∷ map (filled pool) (map plain es)) p.1 ∙ ap (λ (xs : List Entry). e ∷ xs) h.2,
       )
 
-  all_items : (n : ℕ) (es : List Entry) → flat_map entry_items (numbered_from n es) ≡ flat_map entry_items (numbered_from n (map (filled pool) es))
-  all_items n [] = refl
-  all_items n (e ∷ es) =
-      ap (λ (is : List Item). is ++ flat_map entry_items (numbered_from (n + 1) es)) (filled_items n e)
-      ∙ ap (λ (js : List Item). entry_items (n, filled pool e) ++ js) (all_items (n + 1) es)
+  all_items : (p : Places) (n : ℕ) (es : List Entry) → flat_map (entry_items p) (numbered_from n es) ≡ flat_map (entry_items p) (numbered_from n (map (filled pool) es))
+  all_items p n [] = refl
+  all_items p n (e ∷ es) =
+      ap (λ (is : List Item). is ++ flat_map (entry_items p) (numbered_from (n + 1) es)) (filled_items p n e)
+      ∙ ap (λ (js : List Item). entry_items p (n, filled pool e) ++ js) (all_items p (n + 1) es)
 
 -- ---- what a network tells
 
@@ -144,8 +145,8 @@ module _ (names : KnownNames) (checked : ∥ IsNetwork names.nodes names.links �
       let a = section (codes "NOTES") (notes_items q.1.0) in
       let c = section (codes "POOL") (flat_map pool_line_items (numbered_from 0 pool)) in
       let d = section (codes "OUTCOMES") (flat_map (outcome_items names) q.1.1.1.1.1.1.1) in
-      four a (section (codes "JOURNAL") (flat_map entry_items (numbered_from 1 entries))) c d
-      ∙ ap (λ (is : List Item). ((a ++ section (codes "JOURNAL") is) ++ c) ++ d) (all_items pool 1 entries))
+      four a (section (codes "JOURNAL") (flat_map (entry_items names.places) (numbered_from 1 entries))) c d
+      ∙ ap (λ (is : List Item). ((a ++ section (codes "JOURNAL") is) ++ c) ++ d) (all_items pool names.places 1 entries))
       (λ r h.
       let f = all_plain r.pool r.entries h.entries in
       record {
@@ -156,7 +157,7 @@ module _ (names : KnownNames) (checked : ∥ IsNetwork names.nodes names.links �
       (made_then _ _ _ _ _ _ _ _ (section_law (codes "NOTES")) (λ x h.
       made_then _ _ _ _ _ _ _ _ notes_law (λ notes h.
       made_then _ _ _ _ _ _ _ _ (section_law (codes "JOURNAL")) (λ x h.
-      made_then _ _ _ _ _ _ _ _ entries_law (λ entries h.
+      made_then _ _ _ _ _ _ _ _ (entries_law names.places) (λ entries h.
       made_then _ _ _ _ _ _ _ _ (section_law (codes "POOL")) (λ x h.
       made_then _ _ _ _ _ _ _ _ (pool_law names) (λ pool h.
       made_then _ _ _ _ _ _ _ _ (section_law (codes "OUTCOMES")) (λ x u.
@@ -171,21 +172,21 @@ module _ (names : KnownNames) (checked : ∥ IsNetwork names.nodes names.links �
   report_law : Spelled (report_at names) Of IsEnd
   report_law = spelled_law (report_at names) items_of IsReport IsEnd (lawful_whole Section (sections_at names) items_of IsReport sections_law)
 
-  to_report : (bytes : List ℕ) (r : Report) → SpellsBy report_header Of bytes r → SpellsReport names bytes r
-  to_report bytes r s = record { form = s.1.0; file = subst (λ (js : List Item). IsFileOf report_header js bytes) s.1.1 s.2 }
+  to_report : (bytes : List ℕ) (r : Report) → SpellsBy (report_header names.places) Of bytes r → SpellsReport names bytes r
+  to_report bytes r s = record { form = s.1.0; file = subst (λ (js : List Item). IsFileOf (report_header names.places) js bytes) s.1.1 s.2 }
 
-  from_report : (bytes : List ℕ) (r : Report) → SpellsReport names bytes r → SpellsBy report_header Of bytes r
+  from_report : (bytes : List ℕ) (r : Report) → SpellsReport names bytes r → SpellsBy (report_header names.places) Of bytes r
   from_report bytes r s = (items_of r, (s.form, refl), s.file)
 
   pub report_found : (bytes : List ℕ) (a : Result Report (Refusal ReportKind)) → ReadsAllAs (λ (r : Report). r) a (report_of names bytes) → IfOk a (λ r. SpellsReport names bytes r)
-  report_found bytes (Ok r) h = to_report bytes r (found_spelled Header report_header (report_at names) Of report_law (λ (x : Report). x) bytes (Ok r) h)
+  report_found bytes (Ok r) h = to_report bytes r (found_spelled Header (report_header names.places) (report_at names) Of report_law (λ (x : Report). x) bytes (Ok r) h)
   report_found bytes (Err e) h = tt
 
   pub report_only : (bytes : List ℕ) (a : Result Report (Refusal ReportKind)) → ReadsAllAs (λ (r : Report). r) a (report_of names bytes) → (r : Report) → SpellsReport names bytes r → AnswersAs (λ (x : Report). x) a r
-  report_only bytes a h r s = only_spelled Header report_header (report_at names) Of report_law (λ (x : Report). x) bytes a h r (from_report bytes r s)
+  report_only bytes a h r s = only_spelled Header (report_header names.places) (report_at names) Of report_law (λ (x : Report). x) bytes a h r (from_report bytes r s)
 
   pub report_first : (bytes : List ℕ) (a : Result Report (Refusal ReportKind)) → ReadsAllAs (λ (r : Report). r) a (report_of names bytes) → IfErr a (IsNotTooEarly (SpellsReport names) bytes)
   report_first bytes (Ok r) h = tt
   report_first bytes (Err (Bad at kind)) h = λ other n same ends r s.
-      first_spelled Header report_header (report_at names) Of report_law (λ (x : Report). x) (report_online names) bytes (Err (Bad at kind)) h other n same ends r (from_report other r s)
+      first_spelled Header (report_header names.places) (report_at names) Of report_law (λ (x : Report). x) (report_online names) bytes (Err (Bad at kind)) h other n same ends r (from_report other r s)
   report_first bytes (Err NoMemory) h = tt

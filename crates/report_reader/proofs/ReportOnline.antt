@@ -3,6 +3,7 @@ use Rattle.std.proofs.Common.{ℕ, ◌^◌, Bool, true, false, List, [], length,
 use Rattle.std.specs.Prelude.{codes}
 use Rattle.net_core.specs.declared.journal.Entry.{Entry}
 use Rattle.net_core.specs.declared.network.Notes.{Notes}
+use Rattle.net_core.specs.declared.places.Places.{Places}
 use Rattle.net_core.specs.declared.plan.CutLine.{CutLine}
 use Rattle.net_core.specs.declared.states.Listed.{Listed}
 use Rattle.plan_types.specs.declared.report.Outcome.{Outcome}
@@ -39,9 +40,9 @@ notes_online = online_branch true (Ok (noted false false false)) notes_branches 
 
 -- ---- the journal and the pool
 
-pub set_online : IsOnline (set_at)
+pub set_online : (p : Places) → IsOnline (set_at p)
 unfolding set_at
-set_online =
+set_online p =
     online_then _ _ (online_word Token Ended _) (λ name.
     online_then _ _ (online_word Token Ended _) (λ need.
     online_give _))
@@ -55,9 +56,9 @@ two_names_online =
     online_then _ _ (online_close Token Ended) (λ x.
     online_give _))))
 
-pub add_online : IsOnline (add_at)
+pub add_online : (p : Places) → IsOnline (add_at p)
 unfolding add_at
-add_online =
+add_online p =
     online_then _ _ (online_word Token Ended _) (λ name.
     online_then _ _ (two_names_online) (λ ends.
     online_then _ _ (online_word Token Ended _) (λ need.
@@ -69,8 +70,8 @@ drop_online =
     online_then _ _ (online_word Token Ended _) (λ name.
     online_give _)
 
-pub edit_online : IsOnline edit_at
-edit_online = online_branch true (Err Token) edit_branches (set_online, (add_online, (drop_online, tt)))
+pub edit_online : (p : Places) → IsOnline (edit_at p)
+edit_online p = online_branch true (Err Token) (edit_branches p) (set_online p, (add_online p, (drop_online, tt)))
 
 pub accepted_online : IsOnline (accepted_at)
 unfolding accepted_at
@@ -78,21 +79,21 @@ accepted_online =
     online_then _ _ (online_word Token Ended _) (λ version.
     online_give _)
 
-pub too_much_online : IsOnline (too_much_at)
+pub too_much_online : (p : Places) → IsOnline (too_much_at p)
 unfolding too_much_at
-too_much_online =
+too_much_online p =
     online_then _ _ (online_word Token Ended _) (λ total.
     online_give _)
 
-pub reply_online : IsOnline reply_at
-reply_online = online_branch true (Err Token) reply_branches (accepted_online, (online_give _, (online_give _, (online_give _, (online_give _, (online_give _, (too_much_online, tt)))))))
+pub reply_online : (p : Places) → IsOnline (reply_at p)
+reply_online p = online_branch true (Err Token) (reply_branches p) (accepted_online, (online_give _, (online_give _, (online_give _, (online_give _, (online_give _, (too_much_online p, tt)))))))
 
-pub edited_online : IsOnline (edited_at)
+pub edited_online : (p : Places) → IsOnline (edited_at p)
 unfolding edited_at
-edited_online =
+edited_online p =
     online_then _ _ (online_word Token Ended _) (λ caller.
-    online_then _ _ (edit_online) (λ edit.
-    online_then _ _ (reply_online) (λ reply.
+    online_then _ _ (edit_online p) (λ edit.
+    online_then _ _ (reply_online p) (λ reply.
     online_give _)))
 
 pub pooled_online : IsOnline (pooled_at)
@@ -101,24 +102,24 @@ pooled_online =
     online_then _ _ (online_word Token Ended _) (λ index.
     online_give _)
 
-pub event_online : IsOnline event_at
-event_online = online_branch true (Err Token) event_branches (edited_online, (pooled_online, tt))
+pub event_online : (p : Places) → IsOnline (event_at p)
+event_online p = online_branch true (Err Token) (event_branches p) (edited_online p, (pooled_online, tt))
 
-pub entry_online : (sofar : List Entry) → IsOnline (journal_entry_at sofar)
+pub entry_online : (p : Places) (sofar : List Entry) → IsOnline (journal_entry_at p sofar)
 unfolding journal_entry_at
-entry_online sofar =
+entry_online p sofar =
     online_then _ _ (opening_within_online (has_room 65536 sofar)) (λ x.
     online_then _ _ (online_word Token Ended _) (λ x.
-    online_then _ _ (event_online) (λ event.
+    online_then _ _ (event_online p) (λ event.
     online_then _ _ (online_close Token Ended) (λ x.
     online_give _))))
 
-pub entry_some : (sofar : List Entry) → TakesSome (journal_entry_at sofar)
+pub entry_some : (p : Places) (sofar : List Entry) → TakesSome (journal_entry_at p sofar)
 unfolding journal_entry_at
-entry_some sofar = takes_some (journal_entry_at sofar) (entry_online sofar) (λ p. Ended) (λ p. refl)
+entry_some p sofar = takes_some (journal_entry_at p sofar) (entry_online p sofar) (λ t. Ended) (λ t. refl)
 
-pub entries_online : IsOnline entries_at
-entries_online = online_list Parenthesis no_fault journal_entry_at entry_online entry_some []
+pub entries_online : (p : Places) → IsOnline (entries_at p)
+entries_online p = online_list Parenthesis no_fault (journal_entry_at p) (entry_online p) (entry_some p) []
 
 pub pool_line_online : (names : KnownNames) (sofar : List CutLine) → IsOnline (pool_line_at names sofar)
 unfolding pool_line_at
@@ -142,9 +143,9 @@ pool_online names = online_list Parenthesis no_fault (pool_line_at names) (pool_
 
 -- ---- plans
 
-pub values_online : IsOnline (values_at)
+pub values_online : (p : Places) → IsOnline (values_at p)
 unfolding values_at
-values_online =
+values_online p =
     online_then _ _ (online_word Token Ended _) (λ x.
     online_then _ _ (online_word Token Ended _) (λ cost.
     online_then _ _ (online_word Token Ended _) (λ x.
@@ -157,8 +158,8 @@ values_online =
 pub plan_online : (names : KnownNames) (pool : List CutLine) (head : Head) → IsOnline (plan_at names pool head)
 unfolding plan_at
 plan_online names pool head =
-    online_then _ _ (plan_demands_online names.nodes) (λ demands.
-    online_then _ _ (values_online) (λ values.
+    online_then _ _ (plan_demands_online names.places names.nodes) (λ demands.
+    online_then _ _ (values_online names.places) (λ values.
     online_then _ _ (modules_online names.links) (λ counts.
     online_then _ _ (certificate_online names pool) (λ certificate.
     online_then _ _ (online_word Token Ended _) (λ x.
@@ -220,7 +221,7 @@ sections_online names =
     online_then _ _ (section_online (codes "NOTES")) (λ x.
     online_then _ _ (notes_online) (λ notes.
     online_then _ _ (section_online (codes "JOURNAL")) (λ x.
-    online_then _ _ (entries_online) (λ entries.
+    online_then _ _ (entries_online names.places) (λ entries.
     online_then _ _ (section_online (codes "POOL")) (λ x.
     online_then _ _ (pool_online names) (λ pool.
     online_then _ _ (section_online (codes "OUTCOMES")) (λ x.

@@ -26,13 +26,13 @@ whole_end : (q : Read ReportKind Report) (y : Report) (rest : Text) → after q 
 whole_end (Ok p) y rest e = end_is p.0 y p.1 rest e
 whole_end (Err d) y rest e = absurd cc
 
-pub file_ok : (names : KnownNames) (bytes : List ℕ) (r : Report) (rest : Text) → are_same (trimmed (first_line bytes)) report_header ≡ true
+pub file_ok : (names : KnownNames) (bytes : List ℕ) (r : Report) (rest : Text) → are_same (trimmed (first_line bytes)) (report_header names.places) ≡ true
     → report_at names (body bytes) ≡ Ok (r, rest) → (at : ℕ) × (report_of names bytes ≡ Ok (r, EndAt at))
 file_ok names bytes r rest line read =
     let e = whole_end (sections_at names (body bytes)) r rest read in
     (e.0, ap (λ (b : Bool). cond b (report_at names (body bytes)) (Err (0, Header))) line ∙ (read ∙ ap (λ (t : Text). Ok (r, t)) e.1))
 
-pub file_answer : (names : KnownNames) (bytes : List ℕ) (a : Result Report (Refusal ReportKind)) (rest : Text) → are_same (trimmed (first_line bytes)) report_header ≡ true
+pub file_answer : (names : KnownNames) (bytes : List ℕ) (a : Result Report (Refusal ReportKind)) (rest : Text) → are_same (trimmed (first_line bytes)) (report_header names.places) ≡ true
     → ReadsAs (λ (r : Report). r) a rest (report_at names (body bytes)) → ReadsAllAs (λ (r : Report). r) a (report_of names bytes)
 file_answer names bytes (Ok r) rest line read = file_ok names bytes r rest line read
 file_answer names bytes (Err (Bad at kind)) rest line read = ap (λ (b : Bool). cond b (report_at names (body bytes)) (Err (0, Header))) line ∙ read

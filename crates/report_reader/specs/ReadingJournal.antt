@@ -7,6 +7,7 @@ use Rattle.net_core.specs.declared.journal.Entry.TheVariants.{Edited, Pooled}
 use Rattle.net_core.specs.declared.journal.Reply.{Reply}
 use Rattle.net_core.specs.declared.journal.Reply.TheVariants.{Accepted, UnknownDemand, KnownDemand, UnknownNode, SelfDemand, TooMany, TooMuch}
 use Rattle.net_core.specs.declared.network.Notes.{Notes}
+use Rattle.net_core.specs.declared.places.Places.{Places}
 use Rattle.net_core.specs.declared.plan.CutLine.{CutLine}
 use Rattle.text_kit.specs.Reading.{Reading, ◌>>=◌, give, list_at, no_fault, Parenthesis}
 use Rattle.plan_report.specs.KnownNames.{KnownNames}
@@ -45,10 +46,10 @@ notes_at = branch_or true (Ok (noted false false false)) notes_branches
 
 -- ---- the journal
 
-unfoldable pub set_at : Reading ReportKind Edit
-set_at = do
+unfoldable pub set_at : Places → Reading ReportKind Edit
+set_at p = do
   name ← name_at
-  need ← amount_at
+  need ← amount_at p
   give (Set name need)
 
 -- two names between parentheses
@@ -60,11 +61,11 @@ two_names_at = do
   _ ← closing_at
   give (from, to)
 
-unfoldable pub add_at : Reading ReportKind Edit
-add_at = do
+unfoldable pub add_at : Places → Reading ReportKind Edit
+add_at p = do
   name ← name_at
   ends ← two_names_at
-  need ← amount_at
+  need ← amount_at p
   give (Add name ends.0 ends.1 need)
 
 unfoldable pub drop_at : Reading ReportKind Edit
@@ -72,34 +73,34 @@ drop_at = do
   name ← name_at
   give (Drop name)
 
-abbrev pub edit_branches : Branches Edit
-edit_branches = (codes "set", set_at) ∷ (codes "add", add_at) ∷ (codes "drop", drop_at) ∷ []
+abbrev pub edit_branches : Places → Branches Edit
+edit_branches p = (codes "set", set_at p) ∷ (codes "add", add_at p) ∷ (codes "drop", drop_at) ∷ []
 
-abbrev pub edit_at : Reading ReportKind Edit
-edit_at = branch_at edit_branches
+abbrev pub edit_at : Places → Reading ReportKind Edit
+edit_at p = branch_at (edit_branches p)
 
 unfoldable pub accepted_at : Reading ReportKind Reply
 accepted_at = do
   version ← number_at 0 65537
   give (Accepted version)
 
-unfoldable pub too_much_at : Reading ReportKind Reply
-too_much_at = do
-  total ← money_at (2 ^ 45)
+unfoldable pub too_much_at : Places → Reading ReportKind Reply
+too_much_at p = do
+  total ← money_at p (2 ^ 45)
   give (TooMuch total)
 
-abbrev pub reply_branches : Branches Reply
-reply_branches = (codes "accepted", accepted_at) ∷ (codes "unknown-demand", give UnknownDemand) ∷ (codes "known-demand", give KnownDemand) ∷ (codes "unknown-node", give UnknownNode)
-    ∷ (codes "self-demand", give SelfDemand) ∷ (codes "too-many", give TooMany) ∷ (codes "too-much", too_much_at) ∷ []
+abbrev pub reply_branches : Places → Branches Reply
+reply_branches p = (codes "accepted", accepted_at) ∷ (codes "unknown-demand", give UnknownDemand) ∷ (codes "known-demand", give KnownDemand) ∷ (codes "unknown-node", give UnknownNode)
+    ∷ (codes "self-demand", give SelfDemand) ∷ (codes "too-many", give TooMany) ∷ (codes "too-much", too_much_at p) ∷ []
 
-abbrev pub reply_at : Reading ReportKind Reply
-reply_at = branch_at reply_branches
+abbrev pub reply_at : Places → Reading ReportKind Reply
+reply_at p = branch_at (reply_branches p)
 
-unfoldable pub edited_at : Reading ReportKind Entry
-edited_at = do
+unfoldable pub edited_at : Places → Reading ReportKind Entry
+edited_at p = do
   caller ← number_at 1 9
-  edit ← edit_at
-  reply ← reply_at
+  edit ← edit_at p
+  reply ← reply_at p
   give (Edited caller edit reply)
 
 -- a cut of the pool, which comes later: its place alone
@@ -108,23 +109,23 @@ pooled_at = do
   index ← number_at 0 4096
   give (Pooled index (record { 0 = 0 }) [])
 
-abbrev pub event_branches : Branches Entry
-event_branches = (codes "caller", edited_at) ∷ (codes "cut", pooled_at) ∷ []
+abbrev pub event_branches : Places → Branches Entry
+event_branches p = (codes "caller", edited_at p) ∷ (codes "cut", pooled_at) ∷ []
 
-abbrev pub event_at : Reading ReportKind Entry
-event_at = branch_at event_branches
+abbrev pub event_at : Places → Reading ReportKind Entry
+event_at p = branch_at (event_branches p)
 
 -- an entry after earlier ones
-unfoldable pub journal_entry_at : List Entry → Reading ReportKind Entry
-journal_entry_at sofar = do
+unfoldable pub journal_entry_at : Places → List Entry → Reading ReportKind Entry
+journal_entry_at p sofar = do
   _ ← opening_within (has_room 65536 sofar)
   _ ← this_number_at (length sofar + 1)
-  event ← event_at
+  event ← event_at p
   _ ← closing_at
   give event
 
-abbrev pub entries_at : Reading ReportKind (List Entry)
-entries_at = list_at Parenthesis no_fault journal_entry_at []
+abbrev pub entries_at : Places → Reading ReportKind (List Entry)
+entries_at p = list_at Parenthesis no_fault (journal_entry_at p) []
 
 -- ---- the pool
 

@@ -1,5 +1,6 @@
 -- Reading a plan: its costs, and all its parts.
 use Rattle.std.specs.Prelude.{◌^◌, List, codes}
+use Rattle.net_core.specs.declared.places.Places.{Places}
 use Rattle.net_core.specs.declared.plan.CutLine.{CutLine}
 use Rattle.plan_types.specs.declared.plan.Plan.{Plan}
 use Rattle.text_kit.specs.Reading.{Reading, ◌>>=◌, give}
@@ -14,12 +15,12 @@ use Rattle.report_parts.specs.ReadingParts.{certificate_at, modules_at, plan_dem
 
 -- ---- costs and bounds
 
-unfoldable pub values_at : Reading ReportKind Values
-values_at = do
+unfoldable pub values_at : Places → Reading ReportKind Values
+values_at p = do
   _ ← keyword_at (codes "cost")
-  cost ← money_at (2 ^ 126)
+  cost ← money_at p (2 ^ 126)
   _ ← keyword_at (codes "bound")
-  bound ← money_at (2 ^ 126)
+  bound ← money_at p (2 ^ 126)
   _ ← keyword_at (codes "raw")
   num ← number_at 0 (2 ^ 126)
   den ← number_at 1 (2 ^ 72)
@@ -29,8 +30,8 @@ values_at = do
 
 unfoldable pub plan_at : KnownNames → List CutLine → Head → Reading ReportKind Plan
 plan_at names pool head = do
-  demands ← plan_demands_at names.nodes
-  values ← values_at
+  demands ← plan_demands_at names.places names.nodes
+  values ← values_at names.places
   counts ← modules_at names.links
   certificate ← certificate_at names pool
   _ ← keyword_at (codes "ROUTES")

@@ -82,7 +82,7 @@ sections_at names = do
   _ ← section_at (codes "NOTES")
   notes ← notes_at
   _ ← section_at (codes "JOURNAL")
-  entries ← entries_at
+  entries ← entries_at names.places
   _ ← section_at (codes "POOL")
   pool ← pool_at names
   _ ← section_at (codes "OUTCOMES")
@@ -95,4 +95,4 @@ report_at names = whole_at Section (sections_at names)
 
 -- a whole file: its report, or its first fault by place
 abbrev pub report_of : KnownNames → List ℕ → Read ReportKind Report
-report_of names bytes = file_at Header report_header (report_at names) bytes
+report_of names bytes = file_at Header (report_header names.places) (report_at names) bytes

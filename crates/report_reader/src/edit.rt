@@ -3,7 +3,7 @@ ghost use Rattle.snd_tokens.specs.Lexemes.{left};
 ghost use Rattle.text_kit.specs.Answers.{ReadsAs};
 ghost use Rattle.report_reader.specs.ReadingJournal.{accepted_at, add_at, drop_at, edit_at, reply_at, set_at, too_much_at, two_names_at};
 
-use net_core::{Edit, Name, Reply};
+use net_core::{Edit, Name, Places, Reply};
 use report_words::fault::{ReportKind, ReportRefusal};
 use report_words::words::{amount, closing, medium, name, opening, sum};
 use snd_tokens::Cursor;
@@ -37,11 +37,11 @@ const TOTAL_LIMIT: u128 = 1 << 45;
 
 /// Takes the name and the new need of a demand.
 #[tactic(auto, unfolding(crate::specs::ReadingJournal::set_at))]
-fn set(alloc: Global, text: &mut Cursor) -> Result<Edit, ReportRefusal>
-    ensures { ReadsAs (λ e. e) result (left text.new) (set_at (left text.old)) }
+fn set(alloc: Global, places: Places, text: &mut Cursor) -> Result<Edit, ReportRefusal>
+    ensures { ReadsAs (λ e. e) result (left text.new) (set_at places (left text.old)) }
 {
     let name = name(alloc, text)?;
-    let need = amount(text)?;
+    let need = amount(places, text)?;
     Ok(Edit::Set { name, need })
 }
 
@@ -59,12 +59,12 @@ fn two_names(alloc: Global, text: &mut Cursor) -> Result<(Name, Name), ReportRef
 
 /// Takes the name, the two nodes and the need of a new demand.
 #[tactic(auto, unfolding(crate::specs::ReadingJournal::add_at))]
-fn add(alloc: Global, text: &mut Cursor) -> Result<Edit, ReportRefusal>
-    ensures { ReadsAs (λ e. e) result (left text.new) (add_at (left text.old)) }
+fn add(alloc: Global, places: Places, text: &mut Cursor) -> Result<Edit, ReportRefusal>
+    ensures { ReadsAs (λ e. e) result (left text.new) (add_at places (left text.old)) }
 {
     let name = name(alloc, text)?;
     let (from, to) = two_names(alloc, text)?;
-    let need = amount(text)?;
+    let need = amount(places, text)?;
     Ok(Edit::Add {
         name,
         from,
@@ -83,15 +83,15 @@ fn drop_demand(alloc: Global, text: &mut Cursor) -> Result<Edit, ReportRefusal>
 }
 
 /// Takes an edit.
-pub(crate) fn edit(alloc: Global, text: &mut Cursor) -> Result<Edit, ReportRefusal>
-    ensures { ReadsAs (λ e. e) result (left text.new) (edit_at (left text.old)) }
+pub(crate) fn edit(alloc: Global, places: Places, text: &mut Cursor) -> Result<Edit, ReportRefusal>
+    ensures { ReadsAs (λ e. e) result (left text.new) (edit_at places (left text.old)) }
 {
     let (at, word) = word(ReportKind::Token, ReportKind::Ended, text)?;
     if word == SET {
-        return set(alloc, text);
+        return set(alloc, places, text);
     }
     if word == ADD {
-        return add(alloc, text);
+        return add(alloc, places, text);
     }
     if word == DROP {
         return drop_demand(alloc, text);
@@ -110,16 +110,16 @@ fn accepted(text: &mut Cursor) -> Result<Reply, ReportRefusal>
 
 /// Takes the total that is too much.
 #[tactic(auto, unfolding(crate::specs::ReadingJournal::too_much_at))]
-fn too_much(text: &mut Cursor) -> Result<Reply, ReportRefusal>
-    ensures { ReadsAs (λ r. r) result (left text.new) (too_much_at (left text.old)) }
+fn too_much(places: Places, text: &mut Cursor) -> Result<Reply, ReportRefusal>
+    ensures { ReadsAs (λ r. r) result (left text.new) (too_much_at places (left text.old)) }
 {
-    let total = sum(TOTAL_LIMIT, text)?;
+    let total = sum(places, TOTAL_LIMIT, text)?;
     Ok(Reply::TooMuch(total as u64))
 }
 
 /// Takes a reply.
-pub(crate) fn reply(text: &mut Cursor) -> Result<Reply, ReportRefusal>
-    ensures { ReadsAs (λ r. r) result (left text.new) (reply_at (left text.old)) }
+pub(crate) fn reply(places: Places, text: &mut Cursor) -> Result<Reply, ReportRefusal>
+    ensures { ReadsAs (λ r. r) result (left text.new) (reply_at places (left text.old)) }
 {
     let (at, word) = word(ReportKind::Token, ReportKind::Ended, text)?;
     if word == ACCEPTED {
@@ -141,7 +141,7 @@ pub(crate) fn reply(text: &mut Cursor) -> Result<Reply, ReportRefusal>
         return Ok(Reply::TooMany);
     }
     if word == TOO_MUCH {
-        return too_much(text);
+        return too_much(places, text);
     }
     Err(bad(at, ReportKind::Token))
 }

@@ -4,7 +4,7 @@ ghost use Rattle.text_kit.specs.Answers.{ReadsAs};
 ghost use Rattle.report_reader.specs.ReadingJournal.{edited_at, entries_at, journal_entry_at, event_at, pooled_at};
 
 use crate::edit::{edit, reply};
-use net_core::{Entry, List, StateId};
+use net_core::{Entry, List, Places, StateId};
 use report_words::element::{Element, list};
 use report_words::fault::{ReportKind, ReportRefusal};
 use report_words::words::{closing, opening_within, small, this};
@@ -25,12 +25,12 @@ const INDEX_LIMIT: u128 = 4_096;
 
 /// Takes a caller, an edit and its reply.
 #[tactic(auto, unfolding(crate::specs::ReadingJournal::edited_at))]
-fn edited(alloc: Global, text: &mut Cursor) -> Result<Entry, ReportRefusal>
-    ensures { ReadsAs (λ e. e) result (left text.new) (edited_at (left text.old)) }
+fn edited(alloc: Global, places: Places, text: &mut Cursor) -> Result<Entry, ReportRefusal>
+    ensures { ReadsAs (λ e. e) result (left text.new) (edited_at places (left text.old)) }
 {
     let caller = small(1, CALLER_LIMIT, text)?;
-    let edit = edit(alloc, text)?;
-    let reply = reply(text)?;
+    let edit = edit(alloc, places, text)?;
+    let reply = reply(places, text)?;
     Ok(Entry::Edited {
         caller,
         edit,
@@ -52,12 +52,12 @@ fn pooled(alloc: Global, text: &mut Cursor) -> Result<Entry, ReportRefusal>
 }
 
 /// Takes what an entry says after its position.
-fn event(alloc: Global, text: &mut Cursor) -> Result<Entry, ReportRefusal>
-    ensures { ReadsAs (λ e. e) result (left text.new) (event_at (left text.old)) }
+fn event(alloc: Global, places: Places, text: &mut Cursor) -> Result<Entry, ReportRefusal>
+    ensures { ReadsAs (λ e. e) result (left text.new) (event_at places (left text.old)) }
 {
     let (at, word) = word(ReportKind::Token, ReportKind::Ended, text)?;
     if word == CALLER {
-        return edited(alloc, text);
+        return edited(alloc, places, text);
     }
     if word == CUT {
         return pooled(alloc, text);
@@ -67,19 +67,26 @@ fn event(alloc: Global, text: &mut Cursor) -> Result<Entry, ReportRefusal>
 
 /// Takes an entry after these ones.
 #[tactic(auto, unfolding(crate::specs::ReadingJournal::journal_entry_at))]
-fn entry(alloc: Global, sofar: &[Entry], text: &mut Cursor) -> Result<Entry, ReportRefusal>
-    ensures { ReadsAs (λ e. e) result (left text.new) (journal_entry_at sofar.now (left text.old)) }
+fn entry(
+    alloc: Global,
+    places: Places,
+    sofar: &[Entry],
+    text: &mut Cursor,
+) -> Result<Entry, ReportRefusal>
+    ensures { ReadsAs (λ e. e) result (left text.new) (journal_entry_at places sofar.now (left text.old)) }
 {
     opening_within(sofar.len() < MAX_ENTRIES, text)?;
     this(sofar.len() as u64 + 1, text)?;
-    let event = event(alloc, text)?;
+    let event = event(alloc, places, text)?;
     closing(text)?;
     Ok(event)
 }
 
-/// Entries, whose cuts have no state and no lengths yet.
+/// Entries, whose needs have these places, and whose cuts have no state and no lengths yet.
 #[derive(Clone, Copy)]
-struct EntryList;
+struct EntryList {
+    places: Places,
+}
 
 impl Element for EntryList {
     ghost use Rattle.text_kit.specs.Reading.{no_fault};
@@ -87,7 +94,7 @@ impl Element for EntryList {
 
     type Item = Entry;
 
-    ghost reading = { λ _. journal_entry_at };
+    ghost reading = { λ l. journal_entry_at l.places };
 
     ghost fault = { λ _. no_fault };
 
@@ -97,7 +104,7 @@ impl Element for EntryList {
         sofar: &[Entry],
         text: &mut Cursor,
     ) -> Result<Entry, ReportRefusal> {
-        entry(alloc, sofar, text)
+        entry(alloc, self.places, sofar, text)
     }
 
     fn fault(&self, _all: &[Entry]) -> Option<ReportKind> {
@@ -106,8 +113,12 @@ impl Element for EntryList {
 }
 
 /// Takes entries, up to the closing parenthesis.
-pub(crate) fn entries(alloc: Global, text: &mut Cursor) -> Result<List<Entry>, ReportRefusal>
-    ensures { ReadsAs (λ l. l) result (left text.new) (entries_at (left text.old)) }
+pub(crate) fn entries(
+    alloc: Global,
+    places: Places,
+    text: &mut Cursor,
+) -> Result<List<Entry>, ReportRefusal>
+    ensures { ReadsAs (λ l. l) result (left text.new) (entries_at places (left text.old)) }
 {
-    list(alloc, &EntryList, text)
+    list(alloc, &EntryList { places }, text)
 }

@@ -8,8 +8,8 @@ pub struct Head {
     pub position: u64,
 }
 
-/// What a plan costs and its bound, in thousandths, and the raw value of its certificate, a fraction of
-/// thousandths.
+/// What a plan costs and its bound, in units of the network, and the raw value of its certificate, a
+/// fraction of units.
 #[derive(Clone, Copy)]
 pub struct Values {
     pub cost: u128,

@@ -5,7 +5,7 @@ ghost use Rattle.report_words.specs.Contexts.{known_in};
 ghost use Rattle.report_reader.specs.ReadingPlan.{plan_at, values_at};
 
 use crate::parts::{Head, Values};
-use net_core::CutLine;
+use net_core::{CutLine, Places};
 use plan_types::Plan;
 use report_parts::certificate::certificate;
 use report_parts::demands::plan_demands;
@@ -32,13 +32,13 @@ const DEN_LIMIT: u128 = 1 << 72;
 
 /// Takes what a plan costs, its bound, and the raw value of its certificate.
 #[tactic(auto, unfolding(crate::specs::ReadingPlan::values_at))]
-fn values(text: &mut Cursor) -> Result<Values, ReportRefusal>
-    ensures { ReadsAs (λ v. v) result (left text.new) (values_at (left text.old)) }
+fn values(places: Places, text: &mut Cursor) -> Result<Values, ReportRefusal>
+    ensures { ReadsAs (λ v. v) result (left text.new) (values_at places (left text.old)) }
 {
     keyword(COST, text)?;
-    let cost = sum(MONEY_LIMIT, text)?;
+    let cost = sum(places, MONEY_LIMIT, text)?;
     keyword(BOUND, text)?;
-    let bound = sum(MONEY_LIMIT, text)?;
+    let bound = sum(places, MONEY_LIMIT, text)?;
     keyword(RAW, text)?;
     let raw_num = number(0, MONEY_LIMIT, text)?;
     let raw_den = number(1, DEN_LIMIT, text)?;
@@ -63,7 +63,7 @@ pub(crate) fn plan(
     ensures { ReadsAs (λ p. p) result (left text.new) (plan_at (known_in context.now) pool.now head (left text.old)) }
 {
     let demands = plan_demands(alloc, context, text)?;
-    let values = values(text)?;
+    let values = values(context.net.places(), text)?;
     let counts = modules(alloc, context.net.links().items(), text)?;
     let certificate = certificate(alloc, context, pool, text)?;
     keyword(ROUTES, text)?;

@@ -1,6 +1,6 @@
 ghost use Rattle.std.specs.Prelude.{◌≡◌, IfErr, IfOk};
 ghost use Rattle.plan_report.specs.KnownNames.{known_of};
-ghost use Rattle.plan_report.specs.Texts.{SpellsReport};
+ghost use Rattle.plan_report.specs.Texts.{SpellsReport, report_header};
 ghost use Rattle.plan_types.specs.declared.report.Report.{Report as Rep};
 ghost use Rattle.snd_tokens.specs.Lexemes.{left};
 ghost use Rattle.text_kit.specs.Answers.{AnswersAs, ReadsAllAs, ReadsAs};
@@ -13,7 +13,7 @@ use crate::journal::entries;
 use crate::notes::notes;
 use crate::outcome::outcomes;
 use crate::pool::pool;
-use net_core::{Network, States};
+use net_core::{Network, Places, States};
 use plan_types::Report;
 use report_words::context::Context;
 use report_words::fault::{ReportKind, ReportRefusal};
@@ -23,6 +23,8 @@ use text_kit::steps::{end, expect, open, text_after_header};
 
 const HEADER: &[u8] = b"?planner report; version: 1";
 
+const HEADER_OF_SIX: &[u8] = b"?planner report; version: 2";
+
 const NOTES: &[u8] = b"NOTES";
 
 const JOURNAL: &[u8] = b"JOURNAL";
@@ -30,6 +32,16 @@ const JOURNAL: &[u8] = b"JOURNAL";
 const POOL: &[u8] = b"POOL";
 
 const OUTCOMES: &[u8] = b"OUTCOMES";
+
+/// The first line of a report, whose version tells the places.
+fn header(places: Places) -> &'static [u8]
+    ensures { result.now ≡ report_header places }
+{
+    match places {
+        Places::Three => HEADER,
+        Places::Six => HEADER_OF_SIX,
+    }
+}
 
 /// Takes the word of a section and the parenthesis after it.
 #[tactic(auto, unfolding(crate::specs::ReadingReport::section_at))]
@@ -48,7 +60,7 @@ fn sections(alloc: Global, context: &Context, text: &mut Cursor) -> Result<Repor
     section(NOTES, text)?;
     let notes = notes(text)?;
     section(JOURNAL, text)?;
-    let entries = entries(alloc, text)?;
+    let entries = entries(alloc, context.net.places(), text)?;
     section(POOL, text)?;
     let pool = pool(alloc, context.net, context.states, text)?;
     section(OUTCOMES, text)?;
@@ -80,12 +92,14 @@ fn file(
 ) -> Result<Report, ReportRefusal>
     ensures { ReadsAllAs (λ r. r) result (report_of (known_of net.now states.now) bytes.now) }
 {
-    let mut text = text_after_header(ReportKind::Header, bytes, HEADER)?;
+    let mut text = text_after_header(ReportKind::Header, bytes, header(net.places()))?;
     let context = Context::new(alloc, net, states)?;
     report(alloc, &context, &mut text)
 }
 
-/// The report that a file spells, of plans for this network and these states.
+/// The report that a file spells, of plans for this network and these states. Its amounts and money are
+/// in units of the network. A first line other than the one that the network's places ask for is
+/// refused as `header` at 0: version 1 with three places, and version 2 with six.
 ///
 /// The first fault is told with its place in bytes from 0, which is the length of the file where this ends too early. A name of a
 /// link, node, demand or state that isn't known there is refused as `unknown-name`, at its place.
