@@ -79,7 +79,7 @@ module _ (p : Case) (plan : Plan) (certified : IsCertifiedPlan p plan) where
 
 -- the case is the one with the plan's own demands
 own_case : (p : Case) (plan : Plan) → plan.demands ≡ p.demands → p ≡ plan_case p plan
-own_case p plan same = ap (λ demands. record { nodes = p.nodes; links = p.links; listed = p.listed; demands = demands }) (sym same)
+own_case p plan same = ap (λ demands. record { nodes = p.nodes; links = p.links; listed = p.listed; demands = demands; places = p.places }) (sym same)
 
 no_demands : (p : Case) (plan : Plan) → plan.demands ≡ p.demands → HoldsNone (HoldsDemandsDiffer p plan)
 no_demands p plan same finding.DemandsDiffer h = h same

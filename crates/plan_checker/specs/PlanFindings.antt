@@ -36,7 +36,7 @@ own_findings p full plan =
 
 -- the case with the plan's own demands
 abbrev pub plan_case : Case → Plan → Case
-plan_case p plan = record { nodes = p.nodes; links = p.links; listed = p.listed; demands = plan.demands }
+plan_case p plan = record { nodes = p.nodes; links = p.links; listed = p.listed; demands = plan.demands; places = p.places }
 
 -- the kinds of findings on a plan for a case
 abbrev pub plan_findings : Case → Bool → Plan → List Kind

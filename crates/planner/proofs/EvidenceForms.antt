@@ -13,6 +13,7 @@ use Rattle.net_core.specs.declared.demand.Demand.{Demand}
 use Rattle.net_core.specs.declared.ids.StateId.{StateId}
 use Rattle.net_core.specs.declared.plan.Caps.{Caps}
 use Rattle.net_core.specs.declared.plan.CutLine.{CutLine}
+use Rattle.net_core.specs.declared.places.Places.{Places}
 use Rattle.net_core.specs.declared.states.Listed.{Listed}
 use Rattle.net_core.specs.Cases.{Case}
 use Rattle.net_core.specs.Demands.{AreDemands}
@@ -71,9 +72,9 @@ module _ (g : Graph) (demands : List Demand) (belong : AreDemands (length g.node
   route_kind caps basis Value h = h
   route_kind caps basis (Length link) h = wide_length caps basis link.0 h
 
-  pub route_evidence_form : (listed : List Listed) (state : StateId) (caps : Caps) (names : List RouteColumn) (kind : WideKind RouteColumn) → state.0 ≤ length listed → AreCapsInForm g.links caps
-      → IsRouteEvidence g demands caps names kind → IsRouteEvidenceInForm (known_as g.nodes g.links listed) demands state caps names kind
-  route_evidence_form listed state caps names kind inside form is = record {
+  pub route_evidence_form : (places : Places) (listed : List Listed) (state : StateId) (caps : Caps) (names : List RouteColumn) (kind : WideKind RouteColumn) → state.0 ≤ length listed → AreCapsInForm g.links caps
+      → IsRouteEvidence g demands caps names kind → IsRouteEvidenceInForm (known_as places g.nodes g.links listed) demands state caps names kind
+  route_evidence_form places listed state caps names kind inside form is = record {
     state_listed = inside;
     capacities = form;
     long = is.evidence.named.count;

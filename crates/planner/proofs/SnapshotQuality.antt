@@ -189,7 +189,7 @@ module _ (p : Case) (pairs : List UnitPair) (pool lines : List CutLine) (rounds 
     covers_form share cost (Route state within basis kind) wide =
         let here = wide.wide.here in
         let s = wide.wide.state in
-        route_evidence_form (graph_in p s) p.demands belong p.listed state within basis kind
+        route_evidence_form (graph_in p s) p.demands belong p.places p.listed state within basis kind
         (subst (λ k. k ≤ length p.listed) (sym here.0) wide.wide.listed_state)
         (subst (AreCapsInForm p.links) (sym here.1) (installed_form p.links wide.installed.counts wide.covers.shape wide.covers.limits))
         (subst (λ (caps : Caps). IsRouteEvidence (graph_in p s) p.demands caps basis kind) (sym here.1) here.2)
@@ -209,7 +209,7 @@ module _ (p : Case) (pairs : List UnitPair) (pool lines : List CutLine) (rounds 
         (λ (wide : (evidence : Evidence) × (after ≡ Loose (Wide evidence)) × IsWideAtCovers p best.share cost evidence). subst InForm (sym wide.1) (covers_form best.share cost wide.0 wide.2))
         h
     form_some best cost (Loose (Wide (Route state caps basis kind))) after ends h = subst InForm (sym h)
-        (route_evidence_form (graph_in p state.0) p.demands belong p.listed state caps basis kind ends.0.listed_state
+        (route_evidence_form (graph_in p state.0) p.demands belong p.places p.listed state caps basis kind ends.0.listed_state
         (subst (AreCapsInForm p.links) (sym ends.0.of_share) (share_caps_form p.nodes p.links pairs best.share net list.units (share_form best ends.0.best_of)))
         ends.0.evidence)
     form_some best cost (Loose (Wide (Master basis kind))) after ends h = subst InForm (sym h) (master_evidence_form p pairs lines are short basis kind ends.0)

@@ -33,11 +33,11 @@ sound_outcome p r o (Err e) said = tt
 
 module _ (p : Case) (r : Report) (o : Outcome) (w : Walk) (passed : HasPassed p (take (outcome_position o) r.entries) w) (ds : List Demand) (is : ds ≡ w.book.demands) where
   abbrev own : Case
-  own = record { nodes = p.nodes; links = p.links; listed = p.listed; demands = ds }
+  own = record { nodes = p.nodes; links = p.links; listed = p.listed; demands = ds; places = p.places }
 
   -- the case with the walk's demands is the one at the position
   case_there : own ≡ case_at p r.entries (outcome_position o)
-  case_there = ap (λ x. record { nodes = p.nodes; links = p.links; listed = p.listed; demands = x }) (is ∙ passed.demands)
+  case_there = ap (λ x. record { nodes = p.nodes; links = p.links; listed = p.listed; demands = x; places = p.places }) (is ∙ passed.demands)
 
   pub told_there : (t : Result ⊤ Stop) → HoldsNone (HoldsVersionDiffers p r.entries (outcome_version o) (outcome_position o)) → TellFirst (said_findings own (nat_le 4096 (length r.pool)) o) t → TellFirst (findings_there p r o) t
   told_there t none told =
