@@ -1,5 +1,5 @@
 use model_reader::{FailuresRefusal, ModelRefusal, read_failures, read_model};
-use net_core::{Bytes, List};
+use net_core::{Bytes, List, Places};
 use session_script::{ScriptRefusal, read_script};
 use snd_tokens::whole;
 use sndlib_reader::{ReadRefusal, read_network};
@@ -14,17 +14,26 @@ use worked_networks::triangle;
 pub(crate) enum Format {
     /// A network, counted by its demands.
     Network,
+    /// A network, counted by the digits after the point of its amounts.
+    Digits,
     /// A model, which counts as 1 where all demands may be routed anew, and as 2 more where setups are charged.
     Model,
     /// The failure states of the triangle.
     Failures,
-    /// The commands of a session.
+    /// The commands of a session of a network with three places.
     Script,
+    /// The commands of a session of a network with six places.
+    FineScript,
 }
 
 fn network(alloc: Global, text: &[u8]) -> Result<usize, ReadRefusal> {
     let (_, demands) = read_network(alloc, text)?;
     Ok(demands.len())
+}
+
+fn digits(alloc: Global, text: &[u8]) -> Result<usize, ReadRefusal> {
+    let (net, _) = read_network(alloc, text)?;
+    Ok(net.places().digits())
 }
 
 fn model(alloc: Global, text: &[u8]) -> Result<usize, ModelRefusal> {
@@ -39,8 +48,8 @@ fn failures(alloc: Global, text: &[u8]) -> Result<usize, FailuresRefusal> {
     Ok(read_failures(alloc, &net, text)?.count() as usize)
 }
 
-fn script(alloc: Global, text: &[u8]) -> Result<usize, ScriptRefusal> {
-    Ok(read_script(alloc, text)?.commands.len())
+fn script(alloc: Global, places: Places, text: &[u8]) -> Result<usize, ScriptRefusal> {
+    Ok(read_script(alloc, places, text)?.commands.len())
 }
 
 /// Puts a fault as it is written: its place and its word.
@@ -70,9 +79,11 @@ fn outcome(alloc: Global, format: Format, file: &[u8]) -> Option<Bytes> {
     let mut text = Bytes::new(alloc);
     match format {
         Format::Network => put_outcome(&mut text, network(alloc, file))?,
+        Format::Digits => put_outcome(&mut text, digits(alloc, file))?,
         Format::Model => put_outcome(&mut text, model(alloc, file))?,
         Format::Failures => put_outcome(&mut text, failures(alloc, file))?,
-        Format::Script => put_outcome(&mut text, script(alloc, file))?,
+        Format::Script => put_outcome(&mut text, script(alloc, Places::Three, file))?,
+        Format::FineScript => put_outcome(&mut text, script(alloc, Places::Six, file))?,
     }
     Some(text)
 }

@@ -1,5 +1,5 @@
 use crate::files::{Format, first_difference};
-use net_core::{Demand, Link, Module, Name, Network, NodeId};
+use net_core::{Demand, Link, Module, Name, Network, NodeId, Places};
 use snd_tokens::NumberFault;
 use sndlib_reader::{Limited, ReadKind, read_network};
 use std::alloc::Global;
@@ -81,7 +81,7 @@ const FAULTS_OF_NUMBERS: &[u8] = b"73 number-not|NODES(A B)LINKS(L(A B)+5
 82 number-fine|NODES(A B)LINKS()DEMANDS(D(A B)1.5 1 9)
 82 number-fine|NODES(A B)LINKS()DEMANDS(D(A B)1099511627776.5 1 9)
 82 number-large|NODES(A B)LINKS()DEMANDS(D(A B)1099511628 0 9)
-84 number-fine|NODES(A B)LINKS()DEMANDS(D(A B)1 0.0001 9)
+84 number-fine|NODES(A B)LINKS()DEMANDS(D(A B)1 0.0000001 9)
 84 number-large|NODES(A B)LINKS()DEMANDS(D(A B)2 549755813.888 9)
 86 number-not|NODES(A B)LINKS()DEMANDS(D(A B)1 1 some)
 ";
@@ -98,6 +98,41 @@ read 2048|NODES(A B)LINKS()DEMANDS([2048  %(A B)1 0 9])
 28749 section|NODES(A B)LINKS()DEMANDS([2048  %(A B)1 0 9])x
 28749 limit-demands|NODES(A B)LINKS()DEMANDS([2049  %(A B)1 0 9])
 28749 double-name|NODES(A B)LINKS()DEMANDS([2048  %(A B)1 0 9] aaa(
+";
+
+/// Files with three places, and with six where a number has more than three. A file that has another fault before such a number
+/// is read with three places alone.
+const PLACES: &[u8] = b"read 3|NODES(A B)LINKS()DEMANDS(D(A B)1 2.5 9)
+read 3|NODES(A B)LINKS()DEMANDS(D(A B)1 2.500000 9)
+read 6|NODES(A B)LINKS()DEMANDS(D(A B)1 2.5001 9)
+read 6|NODES(A B)LINKS()DEMANDS(D(A B)1 0.000001 9)
+read 6|NODES(A B)LINKS(L(A B)0 0 0 0.0001(1 1))DEMANDS()
+read 6|NODES(A B)LINKS(L(A B)0 0 0 0(0.0001 1))DEMANDS()
+82 number-fine|NODES(A B)LINKS()DEMANDS(D(A B)1.5 1 9)
+84 number-fine|NODES(A B)LINKS()DEMANDS(D(A B)1 0.0000001 9)
+101 number-fine|NODES(A B)LINKS()DEMANDS(D(A B)1 1.0001 9 E(A B)1 0.0000001 9)
+61 double-name|NODES(A B A)LINKS(L(A B)0.0001
+84 number-not|NODES(A B)LINKS()DEMANDS(D(A B)1 x 9 E(A B)1 0.0001 9)
+84 number-large|NODES(A B)LINKS()DEMANDS(D(A B)1 1099511627.776 9 E(A B)1 0.0001 9)
+84 number-large|NODES(A B)LINKS()DEMANDS(D(A B)1 2000000 9 E(A B)1 0.0001 9)
+97 unknown-name|NODES(A B)LINKS()DEMANDS(D(A B)1 0.0001 9 E(A C)1 1 9)
+";
+
+/// With six places an amount, a cost and a need are below 2^40 millionths, and the total of all needs is below 2^44.
+const FINE_LIMITS: &[u8] =
+    b"read 6|NODES(A B)LINKS()DEMANDS(D(A B)1.000 1099511.627775 9 E(A B)1099511 0.000001 9)
+read 6|NODES(A B)LINKS(L(A B)1099511.627775 1099511.627775 1099511.627775 1099511.627775(1099511.627775 1099511.627775))DEMANDS()
+73 number-large|NODES(A B)LINKS(L(A B)1099511.627776
+75 number-large|NODES(A B)LINKS(L(A B)0 1099511.627776
+77 number-large|NODES(A B)LINKS(L(A B)0 0 1099511.627776
+79 number-large|NODES(A B)LINKS(L(A B)0 0 0 1099511.627776
+81 number-large|NODES(A B)LINKS(L(A B)0 0 0 0(1099511.627776
+83 number-large|NODES(A B)LINKS(L(A B)0 0 0 0(1 1099511.627776
+82 number-large|NODES(A B)LINKS()DEMANDS(D(A B)1099512 0.0001 9)
+84 number-large|NODES(A B)LINKS()DEMANDS(D(A B)2 549755.813888 9)
+528 section|NODES(A B)LINKS()DEMANDS([16  %(A B)1 1099511.627775 9] x(A B)1 0.000015 9)x
+517 limit-total|NODES(A B)LINKS()DEMANDS([16  %(A B)1 1099511.627775 9] x(A B)1 0.000016 9)
+520 number-large|NODES(A B)LINKS()DEMANDS([16  %(A B)1 1099511.627775 9] x(A B)1000 1099511.627775 9)
 ";
 
 /// The total of all needs is below 2^44 thousandths, and each need and its parts are below 2^40.
@@ -181,6 +216,18 @@ fn counts_totals_and_names_have_limits(rt: HostRuntime) {
     );
     assert_eq!(rt;
         first_difference(rt.alloc(), Format::Network, HEADER, NEVER_CLOSED),
+        None
+    );
+}
+
+#[test]
+fn files_are_read_with_three_places_or_six(rt: HostRuntime) {
+    assert_eq!(rt;
+        first_difference(rt.alloc(), Format::Digits, HEADER, PLACES),
+        None
+    );
+    assert_eq!(rt;
+        first_difference(rt.alloc(), Format::Digits, HEADER, FINE_LIMITS),
         None
     );
 }
@@ -359,6 +406,55 @@ fn are_costs_read(alloc: Global, file: &[u8]) -> bool {
 #[test]
 fn costs_are_noted_and_units_multiplied(rt: HostRuntime) {
     assert!(rt; are_costs_read(rt.alloc(), COSTS));
+}
+
+/// The same with an amount of four decimals: all units are millionths.
+const FINE_COSTS: &[u8] =
+    b"?SNDlib native format; type: network; version: 1.0\nNODES(A B)LINKS(L(A B)2.5 0.001 0 7(1 2 3 4)M(B A)0 0 0 0())DEMANDS(D(B A)3.0 1.5001 UNLIMITED)";
+
+const MODULES_IN_MILLIONTHS: [Module; 2] = [
+    Module {
+        capacity: 1_000_000,
+        cost: 2_000_000,
+    },
+    Module {
+        capacity: 3_000_000,
+        cost: 4_000_000,
+    },
+];
+
+fn are_links_in_millionths(links: &[Link]) -> bool {
+    match links {
+        [first, _] => offers(first, 2_500_000, 7_000_000, &MODULES_IN_MILLIONTHS),
+        _ => false,
+    }
+}
+
+fn are_demands_in_millionths(demands: &[Demand]) -> bool {
+    match demands {
+        [first] => is_demand(first, b"D", 1, 0, 4_500_300),
+        _ => false,
+    }
+}
+
+fn has_millionths(net: &Network, demands: &[Demand]) -> bool {
+    net.places() == Places::Six
+        && are_links_in_millionths(net.links().items())
+        && are_demands_in_millionths(demands)
+        && are_notes(net, true, false, true)
+}
+
+/// Whether all amounts of a file are read in millionths.
+fn are_millionths_read(alloc: Global, file: &[u8]) -> bool {
+    match read_network(alloc, file) {
+        Ok((net, demands)) => has_millionths(&net, demands.items()),
+        Err(_) => false,
+    }
+}
+
+#[test]
+fn a_file_with_four_decimals_is_read_in_millionths(rt: HostRuntime) {
+    assert!(rt; are_millionths_read(rt.alloc(), FINE_COSTS));
 }
 
 const WORDS: [(ReadKind, &str); 6] = [

@@ -1,7 +1,7 @@
 ghost use Rattle.std.specs.Prelude.{◌≡◌, length};
 ghost use Rattle.net_core.specs.Demands.{AreDemands};
 
-use net_core::{Demands, Network};
+use net_core::{Demands, Network, Places};
 use sample_net::{has_writable_notes, network_text, sample};
 use sndlib_reader::read_network;
 use std::alloc::Global;
@@ -23,11 +23,11 @@ const WRITTEN: &[u8] =
 const SAMPLE: &[u8] =
     b"?SNDlib native format; type: network; version: 1.0\nNODES ( n0 n1 n2 n3 )\nLINKS ( l0 ( n0 n1 )\n0.000 0.000 0.000 0.000 ( 155.000 96.000 622.000 120.000 )\nl1 ( n1 n2 )\n0.000 0.000 0.000 0.000 ( 155.000 94.000 622.000 245.000 )\nl2 ( n2 n3 )\n0.000 0.000 0.000 0.000 ( 155.000 30.000 622.000 152.000 )\nl3 ( n3 n0 )\n0.000 0.000 0.000 0.000 ( 155.000 29.000 622.000 196.000 )\nl4 ( n0 n2 )\n0.000 0.000 0.000 0.000 ( 155.000 63.000 622.000 52.000 )\nl5 ( n2 n0 )\n0.000 0.000 0.000 0.000 ( 155.000 32.000 622.000 50.000 )\n)\nDEMANDS ( d0 ( n0 n1 )\n1 35.000 UNLIMITED d1 ( n0 n2 )\n1 13.000 UNLIMITED d2 ( n0 n3 )\n1 11.000 UNLIMITED d3 ( n1 n2 )\n1 16.000 UNLIMITED d4 ( n1 n3 )\n1 13.000 UNLIMITED d5 ( n2 n3 )\n1 6.000 UNLIMITED )\n";
 
-/// Whether the notes are writable, and this is the text.
+/// Whether the network has three places and writable notes, and this is the text.
 fn is_text(alloc: Global, net: &Network, demands: &Demands, expected: &[u8]) -> bool
     requires { AreDemands (length net.now.nodes) demands.now }
 {
-    if !has_writable_notes(net) {
+    if net.places() != Places::Three || !has_writable_notes(net) {
         return false;
     }
     match network_text(alloc, net, demands) {

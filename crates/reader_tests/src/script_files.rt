@@ -1,5 +1,5 @@
 use crate::files::{Format, first_difference};
-use net_core::{Copied, Edit};
+use net_core::{Copied, Edit, Places};
 use session_script::{Act, Command, read_script};
 use std::alloc::Global;
 
@@ -61,6 +61,17 @@ const GREATEST_AMOUNTS: &[u8] = b"read 1|caller 1 set D1 1099511627.775
 read 1|caller 8 add D4 ( A C ) 1099511627.775
 ";
 
+/// Needs of a network with six places. Their limit is the same number of units.
+const FINE_AMOUNTS: &[u8] = b"read 1|caller 1 set D1 0.000001
+read 1|caller 1 set D1 0.0000010
+44 number-fine|caller 1 set D1 0.0000001
+read 1|caller 1 set D1 1099511.627775
+44 number-large|caller 1 set D1 1099511.627776
+read 1|caller 8 add D4 ( A C ) 1099511.627775
+52 number-large|caller 8 add D4 ( A C ) 1099511.627776
+44 number-not|caller 1 set D1 1.
+";
+
 #[test]
 fn faults_stand_at_their_first_token(rt: HostRuntime) {
     assert_eq!(rt;
@@ -69,6 +80,14 @@ fn faults_stand_at_their_first_token(rt: HostRuntime) {
     );
     assert_eq!(rt;
         first_difference(rt.alloc(), Format::Script, HEADER, FAULTS),
+        None
+    );
+}
+
+#[test]
+fn needs_of_six_places_have_limits(rt: HostRuntime) {
+    assert_eq!(rt;
+        first_difference(rt.alloc(), Format::FineScript, HEADER, FINE_AMOUNTS),
         None
     );
 }
@@ -144,11 +163,37 @@ fn has_each_command(commands: &[Command]) -> bool {
 
 /// Whether each command is read as it stands, and a copy has it too.
 fn is_each_command_read(alloc: Global) -> Option<bool> {
-    let script = read_script(alloc, EACH_COMMAND).ok()?;
+    let script = read_script(alloc, Places::Three, EACH_COMMAND).ok()?;
     Some(has_each_command(script.copy().ok()?.commands.items()))
+}
+
+/// Needs to the sixth place.
+const FINE_NEEDS: &[u8] =
+    b"?planner script; version: 1\ncaller 1 set D1 12.345678\ncaller 2 add D4 ( A C ) 2.5";
+
+/// Whether the needs are 12,345,678 and 2,500,000 units of a network with six places.
+fn has_fine_needs(commands: &[Command]) -> bool {
+    match commands {
+        [first, second] => {
+            sets(first, b"D1", 12_345_678) && adds(second, b"D4", (b"A", b"C"), 2_500_000)
+        }
+        _ => false,
+    }
+}
+
+/// Whether needs to the sixth place are read with six places, and are too fine with three.
+fn are_needs_of_these_places(alloc: Global) -> Option<bool> {
+    let script = read_script(alloc, Places::Six, FINE_NEEDS).ok()?;
+    let refused = read_script(alloc, Places::Three, FINE_NEEDS).is_err();
+    Some(refused && has_fine_needs(script.commands.items()))
 }
 
 #[test]
 fn each_command_is_read_and_copied(rt: HostRuntime) {
     assert!(rt; is_each_command_read(rt.alloc()) == Some(true));
+}
+
+#[test]
+fn needs_have_the_places_of_the_network(rt: HostRuntime) {
+    assert!(rt; are_needs_of_these_places(rt.alloc()) == Some(true));
 }
