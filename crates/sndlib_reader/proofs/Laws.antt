@@ -20,12 +20,13 @@ use Rattle.text_kit.proofs.Lawful.{AnyText, Lawful, Starts, after_few, few_after
 use Rattle.text_kit.proofs.Spelled.{Spelled, after_parts, parts_after, spelled_as, spelled_give, spelled_law, spelled_list, spelled_then, spelled_word}
 use Rattle.sndlib_reader.specs.declared.costs.CostedLink.{CostedLink}
 use Rattle.sndlib_reader.specs.declared.demand.DemandRest.{DemandRest}
+use Rattle.sndlib_reader.specs.declared.link.LinkNumbers.{LinkNumbers}
 use Rattle.sndlib_reader.specs.declared.link.LinkRest.{LinkRest}
 use Rattle.sndlib_reader.specs.declared.fault.Limited.TheVariants as limits
 use Rattle.sndlib_reader.specs.declared.fault.ReadKind.{ReadKind}
 use Rattle.sndlib_reader.specs.declared.fault.ReadKind.TheVariants.{Token, Ended, Limit, Number, DoubleName, UnknownName, SelfLink, SelfDemand, FixedLink}
 use Rattle.sndlib_reader.specs.Spelling.{IsHops, IsShortLink, SpellsDemand, node_pair_items, link_items, module_items}
-use Rattle.sndlib_reader.specs.Reading.{other_node, amount, unit, capacity, need, hops, ends_at, module_at, unserved, native_modules_at, link_rest_at, named_link, native_link_at, costed_links_at, needs_in_all, demand_rest_at, native_demand_at, native_demands_at}
+use Rattle.sndlib_reader.specs.Reading.{other_node, amount, unit, capacity, need, hops, ends_at, module_at, unserved, native_modules_at, link_numbers_at, link_rest_at, named_link, native_link_at, costed_links_at, needs_in_all, demand_rest_at, native_demand_at, native_demands_at}
 use Rattle.sndlib_reader.proofs.WordTests.{IsCapacity, IsNodeIn, capacity_again, capacity_takes, hops_again, hops_takes, need_again, need_takes, other_again, other_takes}
 
 abbrev pub AreDifferent : List (List ℕ) → Type 0
@@ -101,43 +102,57 @@ pub record IsLinkAfter (nodes : List (List ℕ)) (sofar : List CostedLink) (l : 
   pub setup : l.link.setup < 2 ^ 40
   pub modules : AreModules l.link.fixed l.link.modules
 
+-- its numbers
+pub record AreLinkNumbers (n : LinkNumbers) : Type 0 where
+  pub fixed : n.fixed < 2 ^ 40
+  pub fixed_cost : n.fixed_cost < 2 ^ 40
+  pub routing_cost : n.routing_cost < 2 ^ 40
+  pub setup : n.setup < 2 ^ 40
+
+numbers_items : Places → LinkNumbers → List Item
+numbers_items p n = Money p n.fixed ∷ Money p n.fixed_cost ∷ Money p n.routing_cost ∷ Money p n.setup ∷ []
+
+numbers_lawful : (p : Places) → Lawful (link_numbers_at p) (numbers_items p) AreLinkNumbers AnyText
+unfolding link_numbers_at numbers_items
+numbers_lawful p = lawful_as (link_numbers_at p) _ (numbers_items p) _ AreLinkNumbers AnyText (λ n h. refl)
+    (λ n h. record { fixed = h.0; fixed_cost = h.1.0; routing_cost = h.1.1.0; setup = h.1.1.1.0 })
+    (λ n h. (h.fixed, (h.fixed_cost, (h.routing_cost, (h.setup, refl)))))
+    (lawful_then _ _ _ _ _ _ AnyText (λ n. n.fixed) (λ a n h. ap (λ (x : LinkNumbers). x.fixed) h.1.1.1) (amount_lawful p) (λ fixed.
+    lawful_then _ _ _ _ _ _ AnyText (λ n. n.fixed_cost) (λ a n h. ap (λ (x : LinkNumbers). x.fixed_cost) h.1.1) (amount_lawful p) (λ fixed_cost.
+    lawful_then _ _ _ _ _ _ AnyText (λ n. n.routing_cost) (λ a n h. ap (λ (x : LinkNumbers). x.routing_cost) h.1) (amount_lawful p) (λ routing_cost.
+    lawful_then _ _ _ _ _ _ AnyText (λ n. n.setup) (λ a n h. ap (λ (x : LinkNumbers). x.setup) h) (amount_lawful p) (λ setup.
+    lawful_give (record { fixed = fixed; fixed_cost = fixed_cost; routing_cost = routing_cost; setup = setup }))))))
+
 -- what it has after its name
 pub record IsLinkRest (nodes : List (List ℕ)) (r : LinkRest) : Type 0 where
   pub ends : AreEnds nodes r.a r.b
-  pub fixed : r.fixed < 2 ^ 40
-  pub fixed_cost : r.fixed_cost < 2 ^ 40
-  pub routing_cost : r.routing_cost < 2 ^ 40
-  pub setup : r.setup < 2 ^ 40
-  pub modules : AreModules r.fixed r.modules
+  pub numbers : AreLinkNumbers r.numbers
+  pub modules : AreModules r.numbers.fixed r.modules
 
 rest_items : Places → List (List ℕ) → LinkRest → List Item
-rest_items p nodes r =
-    node_pair_items nodes r.a r.b ++ Money p r.fixed ∷ Money p r.fixed_cost ∷ Money p r.routing_cost ∷ Money p r.setup ∷ Opening ∷ (flat_map (module_items p) r.modules ++ Closing ∷ [])
+rest_items p nodes r = node_pair_items nodes r.a r.b ++ (numbers_items p r.numbers ++ Opening ∷ (flat_map (module_items p) r.modules ++ Closing ∷ []))
 
 rest_of : CostedLink → LinkRest
-rest_of l = record { a = l.link.a; b = l.link.b; fixed = l.link.fixed; fixed_cost = l.fixed_cost; routing_cost = l.routing_cost; setup = l.link.setup; modules = l.link.modules }
+rest_of l = record { a = l.link.a; b = l.link.b; numbers = record { fixed = l.link.fixed; fixed_cost = l.fixed_cost; routing_cost = l.routing_cost; setup = l.link.setup }; modules = l.link.modules }
 
 rest_lawful : (p : Places) (nodes : List (List ℕ)) → AreDifferent nodes → Lawful (link_rest_at p nodes) (rest_items p nodes) (IsLinkRest nodes) AnyText
 unfolding link_rest_at rest_items
 rest_lawful p nodes pairs = lawful_as (link_rest_at p nodes) _ (rest_items p nodes) _ (IsLinkRest nodes) AnyText
-    (λ r h. ap (λ (is : List Item). node_pair_items nodes r.a r.b ++ Money p r.fixed ∷ Money p r.fixed_cost ∷ Money p r.routing_cost ∷ Money p r.setup ∷ Opening ∷ is) (append-nil (flat_map (module_items p) r.modules ++ Closing ∷ [])))
-    (λ r h. record { ends = h.0; fixed = h.1.0; fixed_cost = h.1.1.0; routing_cost = h.1.1.1.0; setup = h.1.1.1.1.0; modules = h.1.1.1.1.1.1.0 })
-    (λ r h. (h.ends, (h.fixed, (h.fixed_cost, (h.routing_cost, (h.setup, (tt, (h.modules, refl))))))))
-    (lawful_then _ _ _ _ _ _ AnyText (λ r. (r.a, r.b)) (λ a r h. ap (λ (x : LinkRest). (x.a, x.b)) h.1.1.1.1.1.1) (ends_lawful SelfLink nodes pairs) (λ ends.
-    lawful_then _ _ _ _ _ _ AnyText (λ r. r.fixed) (λ a r h. ap (λ (x : LinkRest). x.fixed) h.1.1.1.1.1) (amount_lawful p) (λ fixed.
-    lawful_then _ _ _ _ _ _ AnyText (λ r. r.fixed_cost) (λ a r h. ap (λ (x : LinkRest). x.fixed_cost) h.1.1.1.1) (amount_lawful p) (λ fixed_cost.
-    lawful_then _ _ _ _ _ _ AnyText (λ r. r.routing_cost) (λ a r h. ap (λ (x : LinkRest). x.routing_cost) h.1.1.1) (amount_lawful p) (λ routing_cost.
-    lawful_then _ _ _ _ _ _ AnyText (λ r. r.setup) (λ a r h. ap (λ (x : LinkRest). x.setup) h.1.1) (amount_lawful p) (λ setup.
+    (λ r h. ap (λ (is : List Item). node_pair_items nodes r.a r.b ++ (numbers_items p r.numbers ++ Opening ∷ is)) (append-nil (flat_map (module_items p) r.modules ++ Closing ∷ [])))
+    (λ r h. record { ends = h.0; numbers = h.1.0; modules = h.1.1.1.0 })
+    (λ r h. (h.ends, (h.numbers, (tt, (h.modules, refl)))))
+    (lawful_then _ _ _ _ _ _ AnyText (λ r. (r.a, r.b)) (λ a r h. ap (λ (x : LinkRest). (x.a, x.b)) h.1.1.1) (ends_lawful SelfLink nodes pairs) (λ ends.
+    lawful_then _ _ _ _ _ _ AnyText (λ r. r.numbers) (λ a r h. ap (λ (x : LinkRest). x.numbers) h.1.1) (numbers_lawful p) (λ numbers.
     lawful_then _ _ _ _ _ _ AnyText (λ r. tt) (λ a r h. refl) (lawful_open Token Ended) (λ o.
-    lawful_then _ _ _ _ _ _ AnyText (λ r. r.modules) (λ a r h. ap (λ (x : LinkRest). x.modules) h) (modules_lawful p fixed) (λ modules.
-    lawful_give (record { a = ends.0; b = ends.1; fixed = fixed; fixed_cost = fixed_cost; routing_cost = routing_cost; setup = setup; modules = modules })))))))))
+    lawful_then _ _ _ _ _ _ AnyText (λ r. r.modules) (λ a r h. ap (λ (x : LinkRest). x.modules) h) (modules_lawful p numbers.fixed) (λ modules.
+    lawful_give (record { a = ends.0; b = ends.1; numbers = numbers; modules = modules }))))))
 
 link_lawful : (p : Places) (nodes : List (List ℕ)) → AreDifferent nodes → (sofar : List CostedLink) → Lawful (native_link_at p nodes sofar) (link_items p nodes) (IsLinkAfter nodes sofar) AnyText
-unfolding native_link_at rest_items rest_of
+unfolding native_link_at rest_items numbers_items rest_of
 link_lawful p nodes pairs sofar = lawful_as (native_link_at p nodes sofar) _ (link_items p nodes) _ (IsLinkAfter nodes sofar) AnyText
     (λ l h. ap (λ (is : List Item). Verbatim l.link.name ∷ is) (append-nil (rest_items p nodes (rest_of l))))
-    (λ l h. let r = h.1.0 in record { new = h.0; ends = r.ends; fixed = r.fixed; fixed_cost = r.fixed_cost; routing_cost = r.routing_cost; setup = r.setup; modules = r.modules })
-    (λ l h. (h.new, (record { ends = h.ends; fixed = h.fixed; fixed_cost = h.fixed_cost; routing_cost = h.routing_cost; setup = h.setup; modules = h.modules }, refl)))
+    (λ l h. let r = h.1.0 in record { new = h.0; ends = r.ends; fixed = r.numbers.fixed; fixed_cost = r.numbers.fixed_cost; routing_cost = r.numbers.routing_cost; setup = r.numbers.setup; modules = r.modules })
+    (λ l h. (h.new, (record { ends = h.ends; numbers = record { fixed = h.fixed; fixed_cost = h.fixed_cost; routing_cost = h.routing_cost; setup = h.setup }; modules = h.modules }, refl)))
     (lawful_then _ _ _ _ _ _ AnyText (λ l. l.link.name) (λ a l h. ap (λ (x : CostedLink). x.link.name) h.1) (lawful_new_name (λ x. x.link.name) 256 (Limit limits.Name) DoubleName (Limit limits.Links) Token Ended sofar) (λ name.
     lawful_then _ _ _ _ _ _ AnyText rest_of (λ a l h. ap rest_of h) (rest_lawful p nodes pairs) (λ rest.
     lawful_give (named_link name rest))))

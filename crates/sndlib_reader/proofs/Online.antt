@@ -10,7 +10,7 @@ use Rattle.sndlib_reader.specs.declared.costs.CostedLink.{CostedLink}
 use Rattle.sndlib_reader.specs.declared.fault.ReadKind.{ReadKind}
 use Rattle.sndlib_reader.specs.declared.fault.ReadKind.TheVariants.{Section, Token, Ended, SelfLink, SelfDemand}
 use Rattle.sndlib_reader.specs.Spelling.{names_of}
-use Rattle.sndlib_reader.specs.Reading.{known_name, path_name, node_named, other_node, amount, unit, capacity, need, needs_in_all, hops, native_section_at, part_at, native_nodes_at, ends_at, module_at, unserved, link_rest_at, native_link_at, costed_links_at, demand_rest_at, native_demand_at, native_demands_at, some_at, native_path_at, path_line_at, is_meta, after_meta, start_at, is_paths, after_paths, paths_at, parts, after_links_at, after_nodes_at, native_sections_at}
+use Rattle.sndlib_reader.specs.Reading.{known_name, path_name, node_named, other_node, amount, unit, capacity, need, needs_in_all, hops, native_section_at, part_at, ends_at, module_at, unserved, link_numbers_at, link_rest_at, native_link_at, costed_links_at, demand_rest_at, native_demand_at, native_demands_at, some_at, native_path_at, path_line_at, is_meta, after_meta, start_at, is_paths, after_paths, paths_at, parts, after_links_at, after_nodes_at, node_section_at, native_sections_at}
 use Rattle.sndlib_reader.proofs.Nodes.{part_online, part_some}
 use Rattle.sndlib_reader.proofs.Skipped.{skipped_online}
 
@@ -34,17 +34,23 @@ pub module_some : (p : Places) (sofar : List Module) → TakesSome (module_at p 
 unfolding module_at
 module_some p sofar = takes_some (module_at p sofar) (module_online p sofar) (λ at. Ended) (λ at. refl)
 
-link_rest_online : (p : Places) (nodes : List (List ℕ)) → IsOnline (link_rest_at p nodes)
-unfolding link_rest_at
-link_rest_online p nodes =
-    online_then _ _ (ends_online SelfLink nodes) (λ ends.
+numbers_online : (p : Places) → IsOnline (link_numbers_at p)
+unfolding link_numbers_at
+numbers_online p =
     online_then _ _ (online_word Token Ended (amount p)) (λ fixed.
     online_then _ _ (online_word Token Ended (amount p)) (λ fixed_cost.
     online_then _ _ (online_word Token Ended (amount p)) (λ routing_cost.
     online_then _ _ (online_word Token Ended (amount p)) (λ setup.
+    online_give _))))
+
+link_rest_online : (p : Places) (nodes : List (List ℕ)) → IsOnline (link_rest_at p nodes)
+unfolding link_rest_at
+link_rest_online p nodes =
+    online_then _ _ (ends_online SelfLink nodes) (λ ends.
+    online_then _ _ (numbers_online p) (λ numbers.
     online_then _ _ (online_open Token Ended) (λ o.
-    online_then _ _ (online_list Parenthesis (unserved fixed) (module_at p) (module_online p) (module_some p) []) (λ modules.
-    online_give _)))))))
+    online_then _ _ (online_list Parenthesis (unserved numbers.fixed) (module_at p) (module_online p) (module_some p) []) (λ modules.
+    online_give _))))
 
 link_online : (p : Places) (nodes : List (List ℕ)) (sofar : List CostedLink) → IsOnline (native_link_at p nodes sofar)
 unfolding native_link_at
@@ -149,11 +155,16 @@ after_nodes_online p nodes =
     online_then _ _ (after_links_online p nodes _) (λ demands.
     online_give (links, demands)))
 
+node_section_online : IsOnline node_section_at
+unfolding node_section_at
+node_section_online =
+    online_then start_at _ (online_then _ after_meta (online_word Section Ended is_meta) meta_online) (λ s.
+    online_then _ _ (online_open Section Ended) (λ o.
+    online_then (list_at Parenthesis no_fault part_at []) _ (online_list Parenthesis no_fault part_at part_online part_some []) (λ xs. online_give (names_of xs))))
+
 pub sections_online : (p : Places) → IsOnline (native_sections_at p)
 unfolding native_sections_at
 sections_online p =
-    online_then start_at _ (online_then _ after_meta (online_word Section Ended is_meta) meta_online) (λ s.
-    online_then _ _ (online_open Section Ended) (λ o.
-    online_then (native_nodes_at []) _ (online_then (list_at Parenthesis no_fault part_at []) _ (online_list Parenthesis no_fault part_at part_online part_some []) (λ xs. online_give (names_of xs))) (λ nodes.
+    online_then _ _ node_section_online (λ nodes.
     online_then _ _ (after_nodes_online p nodes) (λ rest.
-    online_give (parts p nodes rest.0, rest.1)))))
+    online_give (parts p nodes rest.0, rest.1)))

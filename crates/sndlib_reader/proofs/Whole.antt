@@ -30,7 +30,7 @@ use Rattle.sndlib_reader.specs.Balance.{IsSkipped}
 use Rattle.sndlib_reader.specs.Paths.{AreMany, ArePaths, AreSome, IsKnownName, IsPathLine, IsNamedPath, IsShortName}
 use Rattle.sndlib_reader.specs.NetworkFiles.{network_in}
 use Rattle.sndlib_reader.specs.Spelling.{IsMeta, IsShortLink, NodePart, NodeName, Coordinates, Parts, SpellsDemand, SpellsParts, SpellsPart, header, link_items, names_of, notes_of, parts_of}
-use Rattle.sndlib_reader.specs.Reading.{path_name, known_name, native_section_at, part_at, native_nodes_at, costed_links_at, native_demands_at, some_at, native_path_at, path_line_at, is_meta, after_meta, start_at, is_paths, after_paths, paths_at, parts, after_links_at, after_nodes_at, native_sections_at}
+use Rattle.sndlib_reader.specs.Reading.{path_name, known_name, native_section_at, part_at, native_nodes_at, costed_links_at, native_demands_at, some_at, native_path_at, path_line_at, is_meta, after_meta, start_at, is_paths, after_paths, paths_at, parts, after_links_at, after_nodes_at, node_section_at, native_sections_at}
 use Rattle.sndlib_reader.proofs.WordTests.{known_again, known_takes, path_name_again, path_name_takes}
 use Rattle.text_kit.proofs.NameLaws.{IsNew, are_new, new_are}
 use Rattle.sndlib_reader.proofs.Skipped.{skipped_spelled}
@@ -538,22 +538,26 @@ unfolding after_nodes_at
 after_nodes_read p (Ok x) = after_links_read p x.0 (native_section_at (codes "LINKS") (costed_links_at p x.0 []) x.1)
 after_nodes_read p (Err e) = refl
 
-abbrev nested_nodes : Places → Unit {0} → Reading ReadKind (Parts × List Demand)
-nested_nodes p o = native_nodes_at [] >>= λ nodes. after_nodes_at p nodes >>= given_parts p nodes
+-- what comes after the nodes, as the code reads it
+abbrev nested : Places → List (List ℕ) → Reading ReadKind (Parts × List Demand)
+nested p nodes = after_nodes_at p nodes >>= given_parts p nodes
 
-after_open_read : (p : Places) (read : Read ReadKind (Unit {0})) → after read (nested_nodes p) ≡ after read (then_nodes p)
+abbrev just_nodes : Unit {0} → Reading ReadKind (List (List ℕ))
+just_nodes o = native_nodes_at []
+
+abbrev open_and_nodes : Unit {0} → Reading ReadKind (List (List ℕ))
+open_and_nodes s = open_at Section Ended >>= just_nodes
+
+after_open_read : (p : Places) (read : Read ReadKind (Unit {0})) → after (after read just_nodes) (nested p) ≡ after read (then_nodes p)
 after_open_read p (Ok x) = after_nodes_read p (native_nodes_at [] x.1)
 after_open_read p (Err e) = refl
 
-abbrev nested_open : Places → Unit {0} → Reading ReadKind (Parts × List Demand)
-nested_open p s = open_at Section Ended >>= nested_nodes p
-
-after_start_read : (p : Places) (read : Read ReadKind (Unit {0})) → after read (nested_open p) ≡ after read (then_open p)
+after_start_read : (p : Places) (read : Read ReadKind (Unit {0})) → after (after read open_and_nodes) (nested p) ≡ after read (then_open p)
 after_start_read p (Ok x) = after_open_read p (open_at Section Ended x.1)
 after_start_read p (Err e) = refl
 
 are_in_a_row : (p : Places) (text : Text) → native_sections_at p text ≡ in_a_row p text
-unfolding native_sections_at in_a_row
+unfolding node_section_at native_sections_at in_a_row
 are_in_a_row p text = after_start_read p (start_at text)
 
 pub sections_spelled : (p : Places) → Spelled (native_sections_at p) (SpellsParts p) IsEnd

@@ -17,6 +17,7 @@ use Rattle.sndlib_reader.specs.declared.fault.ReadKind.{ReadKind}
 use Rattle.sndlib_reader.specs.declared.fault.ReadKind.TheVariants.{Section, Token, Ended, Limit, Number, UnknownName, DoubleName, SelfLink, SelfDemand, ZeroModule, FixedLink}
 use Rattle.sndlib_reader.specs.declared.costs.CostedLink.{CostedLink}
 use Rattle.sndlib_reader.specs.declared.demand.DemandRest.{DemandRest}
+use Rattle.sndlib_reader.specs.declared.link.LinkNumbers.{LinkNumbers}
 use Rattle.sndlib_reader.specs.declared.link.LinkRest.{LinkRest}
 use Rattle.sndlib_reader.specs.Spelling.{NodePart, NodeName, Coordinates, names_of, ends_named, notes_of, Parts}
 
@@ -149,24 +150,30 @@ unserved fixed modules = if (length modules == 0) && nat_lt 0 fixed then Some Fi
 abbrev pub native_modules_at : Places → ℕ → List Module → Reading ReadKind (List Module)
 native_modules_at p fixed sofar = list_at Parenthesis (unserved fixed) (module_at p) sofar
 
--- what a link has after its name
-unfoldable pub link_rest_at : Places → List (List ℕ) → Reading ReadKind LinkRest
-link_rest_at p nodes = do
-  ends ← ends_at SelfLink nodes
+-- the pre-installed capacity of a link and its costs
+unfoldable pub link_numbers_at : Places → Reading ReadKind LinkNumbers
+link_numbers_at p = do
   fixed ← word_at Token Ended (amount p)
   fixed_cost ← word_at Token Ended (amount p)
   routing_cost ← word_at Token Ended (amount p)
   setup ← word_at Token Ended (amount p)
+  give (record { fixed = fixed; fixed_cost = fixed_cost; routing_cost = routing_cost; setup = setup })
+
+-- what a link has after its name
+unfoldable pub link_rest_at : Places → List (List ℕ) → Reading ReadKind LinkRest
+link_rest_at p nodes = do
+  ends ← ends_at SelfLink nodes
+  numbers ← link_numbers_at p
   _ ← open_at Token Ended
-  modules ← native_modules_at p fixed []
-  give (record { a = ends.0; b = ends.1; fixed = fixed; fixed_cost = fixed_cost; routing_cost = routing_cost; setup = setup; modules = modules })
+  modules ← native_modules_at p numbers.fixed []
+  give (record { a = ends.0; b = ends.1; numbers = numbers; modules = modules })
 
 -- the link of a name, with the two costs that aren't kept
 abbrev pub named_link : List ℕ → LinkRest → CostedLink
 named_link name rest = record {
-  link = record { name = name; a = rest.a; b = rest.b; fixed = rest.fixed; setup = rest.setup; modules = rest.modules };
-  fixed_cost = rest.fixed_cost;
-  routing_cost = rest.routing_cost;
+  link = record { name = name; a = rest.a; b = rest.b; fixed = rest.numbers.fixed; setup = rest.numbers.setup; modules = rest.modules };
+  fixed_cost = rest.numbers.fixed_cost;
+  routing_cost = rest.numbers.routing_cost;
 }
 
 -- a link after others
@@ -271,11 +278,16 @@ after_nodes_at p nodes = do
   demands ← after_links_at p nodes (map (λ l. l.link.name) links)
   give (links, demands)
 
+-- all up to the end of the section of nodes
+unfoldable pub node_section_at : Reading ReadKind (List (List ℕ))
+node_section_at = do
+  _ ← start_at
+  _ ← open_at Section Ended
+  native_nodes_at []
+
 -- all sections, and nothing after them
 unfoldable pub native_sections_at : Places → Reading ReadKind (Parts × List Demand)
 native_sections_at p = do
-  _ ← start_at
-  _ ← open_at Section Ended
-  nodes ← native_nodes_at []
+  nodes ← node_section_at
   rest ← after_nodes_at p nodes
   give (parts p nodes rest.0, rest.1)

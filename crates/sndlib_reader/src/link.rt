@@ -3,7 +3,7 @@ ghost use Rattle.net_core.specs.Tests.{is_named};
 ghost use Rattle.snd_tokens.specs.Lexemes.{left, size};
 ghost use Rattle.text_kit.specs.Answers.{ReadsAs, TakesElement};
 ghost use Rattle.text_kit.specs.Reading.{sound, word_at};
-ghost use Rattle.sndlib_reader.specs.Reading.{capacity, native_link_at, link_rest_at, named_link, link_fault, costed_links_at, module_at, native_modules_at};
+ghost use Rattle.sndlib_reader.specs.Reading.{capacity, native_link_at, link_numbers_at, link_rest_at, named_link, link_fault, costed_links_at, module_at, native_modules_at};
 
 use crate::costs::CostedLink;
 use crate::fault::{Limited, ReadKind, ReadRefusal};
@@ -17,15 +17,21 @@ use text_kit::names::new_name_fault;
 use text_kit::refusal::bad;
 use text_kit::steps::{closes, open, placed, word};
 
-/// What a link has after its name; amounts and costs are in units of the network.
-#[derive(Drop)]
-pub struct LinkRest {
-    pub a: NodeId,
-    pub b: NodeId,
+/// The pre-installed capacity of a link and its costs, in units of the network.
+#[derive(Clone, Copy)]
+pub struct LinkNumbers {
     pub fixed: u64,
     pub fixed_cost: u64,
     pub routing_cost: u64,
     pub setup: u64,
+}
+
+/// What a link has after its name.
+#[derive(Drop)]
+pub struct LinkRest {
+    pub a: NodeId,
+    pub b: NodeId,
+    pub numbers: LinkNumbers,
     pub modules: List<Module>,
 }
 
@@ -133,6 +139,23 @@ fn link_name<'a>(
     names.put(alloc, at, word, link_fault(links, names, word))
 }
 
+/// Takes the pre-installed capacity of a link and its costs.
+#[tactic(auto, unfolding(crate::specs::Reading::link_numbers_at))]
+fn link_numbers(places: Places, text: &mut Cursor) -> Result<LinkNumbers, ReadRefusal>
+    ensures { ReadsAs (λ n. n) result (left text.new) (link_numbers_at places (left text.old)) }
+{
+    let fixed = amount(places, text)?;
+    let fixed_cost = amount(places, text)?;
+    let routing_cost = amount(places, text)?;
+    let setup = amount(places, text)?;
+    Ok(LinkNumbers {
+        fixed,
+        fixed_cost,
+        routing_cost,
+        setup,
+    })
+}
+
 /// Takes what a link has after its name.
 #[tactic(auto, unfolding(crate::specs::Reading::link_rest_at))]
 fn link_rest(
@@ -145,19 +168,13 @@ fn link_rest(
     ensures { ReadsAs (λ r. r) result (left text.new) (link_rest_at places nodes.now (left text.old)) }
 {
     let (a, b) = ends(ReadKind::SelfLink, nodes, text)?;
-    let fixed = amount(places, text)?;
-    let fixed_cost = amount(places, text)?;
-    let routing_cost = amount(places, text)?;
-    let setup = amount(places, text)?;
+    let numbers = link_numbers(places, text)?;
     open(ReadKind::Token, ReadKind::Ended, text)?;
-    let modules = modules(alloc, places, fixed, text)?;
+    let modules = modules(alloc, places, numbers.fixed, text)?;
     Ok(LinkRest {
         a,
         b,
-        fixed,
-        fixed_cost,
-        routing_cost,
-        setup,
+        numbers,
         modules,
     })
 }
@@ -171,12 +188,12 @@ fn named_link(name: Name, rest: LinkRest) -> CostedLink
             name,
             a: rest.a,
             b: rest.b,
-            fixed: rest.fixed,
-            setup: rest.setup,
+            fixed: rest.numbers.fixed,
+            setup: rest.numbers.setup,
             modules: rest.modules,
         },
-        fixed_cost: rest.fixed_cost,
-        routing_cost: rest.routing_cost,
+        fixed_cost: rest.numbers.fixed_cost,
+        routing_cost: rest.numbers.routing_cost,
     }
 }
 

@@ -10,7 +10,7 @@ ghost use Rattle.sndlib_reader.specs.declared.fault.ReadKind.{ReadKind};
 ghost use Rattle.sndlib_reader.specs.NetworkFiles.{IsFirstFault, IsNoEarlyFault, Spells, network_in, network_of};
 ghost use Rattle.sndlib_reader.specs.inner.Refused.{was_too_fine};
 ghost use Rattle.sndlib_reader.specs.Spelling.{parts_of};
-ghost use Rattle.sndlib_reader.specs.Reading.{after_links_at, after_nodes_at, native_demands_at, is_meta, costed_links_at, parts, native_section_at, native_sections_at, start_at};
+ghost use Rattle.sndlib_reader.specs.Reading.{after_links_at, after_nodes_at, native_demands_at, is_meta, costed_links_at, parts, native_nodes_at, native_section_at, native_sections_at, node_section_at, start_at};
 
 use crate::costs::{CostedLink, links_of, notes_of};
 use crate::demand::demands;
@@ -152,6 +152,21 @@ fn after_nodes(
     Ok((links, demands))
 }
 
+/// Takes all up to the end of the section of nodes. It gives their names for look-ups too.
+#[tactic(auto, unfolding(crate::specs::Reading::node_section_at))]
+fn node_section<'a>(
+    alloc: Global,
+    text: &mut Cursor<'a>,
+) -> Result<(List<Name>, Names<'a>), ReadRefusal>
+    ensures reads { ReadsAs (λ r. r.0) result (left text.new) (node_section_at (left text.old)) }
+    ensures nodes { IfOk result (λ r. (from rest : Text) × (native_nodes_at [] from ≡ Ok (r.0, rest))) }
+    ensures named { IfOk result (λ r. r.1 ≡ r.0) }
+{
+    start(text)?;
+    open(ReadKind::Section, ReadKind::Ended, text)?;
+    nodes(alloc, text)
+}
+
 /// Takes all sections, and finds that nothing is after them.
 #[tactic(auto, unfolding(crate::specs::Reading::native_sections_at))]
 fn sections(
@@ -161,9 +176,7 @@ fn sections(
 ) -> Result<(Network, Demands), ReadRefusal>
     ensures { ReadsAs (λ r. (parts_of r.0, r.1)) result (left text.new) (native_sections_at places (left text.old)) }
 {
-    start(text)?;
-    open(ReadKind::Section, ReadKind::Ended, text)?;
-    let (nodes, names) = nodes(alloc, text)?;
+    let (nodes, names) = node_section(alloc, text)?;
     let (links, demands) = after_nodes(alloc, places, &names, text)?;
     Ok((network(alloc, places, nodes, links)?, demands))
 }
