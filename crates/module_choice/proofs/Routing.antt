@@ -1,6 +1,6 @@
 -- one demand after another gets its flow
-use Rattle.std.proofs.Common.{◌≡◌, ℕ, ◌+◌, ◌<◌, List, [], ◌∷◌, ◌++◌, All, Any, Some, length, length-append, refl, sym, ◌∙◌, ap, subst, arith, slice_get, sum_by, take, ⊎_elim}
-use Rattle.std.proofs.lemmas.List.{get_or_append_left}
+use Rattle.std.proofs.Common.{◌≡◌, ℕ, ◌+◌, ◌<◌, ◌≤◌, List, [], ◌∷◌, ◌++◌, All, Any, Some, length, length-append, refl, sym, ◌∙◌, ap, subst, arith, slice_get, sum_by, take, ⊎_elim}
+use Rattle.std.proofs.lemmas.List.{get_or_append_left, take_all}
 use Rattle.std.proofs.lemmas.List.Sums.{sum_by-append, sum_by-cons, sum_by_more}
 use Rattle.std.proofs.lemmas.List.Elements.{All-nil, All-push}
 use Rattle.std.proofs.lemmas.List.Quantifiers.{Any-push, all_pairs_push}
@@ -74,10 +74,14 @@ module _ (joins : ℕ → ℕ → ℕ → Type 0) (lengths : List ℕ) (demands 
       taken
 
   -- the flows of all demands are the routing
-  pub flows_routing : (flows : List Flow) → AreLeastFlows joins lengths demands (length demands) flows → IsLeastRouting joins lengths demands (record { den = 1; flows = flows })
-  flows_routing flows r = record {
+  pub flows_routing : (k : ℕ) (flows : List Flow) → length demands ≤ k → AreLeastFlows joins lengths demands k flows → IsLeastRouting joins lengths demands (record { den = 1; flows = flows })
+  flows_routing k flows all r = record {
     whole = refl;
     each = r.each;
-    every = λ k d at some. r.every k d (slice_get_within demands k d at) at some;
+    every = λ j d at some. r.every j d (omega (arith, slice_get_within demands j d at, all)) at some;
     ordered = r.ordered;
   }
+
+  -- they need what the demands do
+  pub flows_total : (k : ℕ) (flows : List Flow) → length demands ≤ k → AreLeastFlows joins lengths demands k flows → sum_by (λ f. f.num) flows ≡ sum_by (λ d. d.need) demands
+  flows_total k flows all r = r.total ∙ ap (λ (ds : List Demand). sum_by (λ d. d.need) ds) (take_all k demands all)

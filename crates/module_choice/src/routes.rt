@@ -8,7 +8,7 @@ ghost use Rattle.plan_terms.specs.Fallbacks.{IsLeastRouting};
 ghost use Rattle.plan_terms.specs.LeastPaths.{IsLeastPath};
 ghost use Rattle.plan_terms.specs.Paths.{AreApart};
 ghost use Rattle.plan_terms.specs.Separations.{IsSurvivable};
-ghost use Rattle.module_choice.specs.inner.Routes.{AreLeastFlows, TakesDemand};
+ghost use Rattle.module_choice.specs.inner.Routes.{TakesDemand};
 
 use net_core::{
     Demand, Flow, Instance, Lengths, List, NoMemory, NodeId, Path, Routing, StateId, Surviving,
@@ -62,16 +62,17 @@ fn take_demand(
 }
 
 /// Takes one demand after another.
-fn route_all(alloc: Global, paths: &LeastPaths, demands: &[Demand]) -> Result<List<Flow>, NoMemory>
+fn route_all(alloc: Global, paths: &LeastPaths, demands: &[Demand]) -> Result<Routing, NoMemory>
     requires demands { AreDemands (length paths.now.graph.net.now.nodes) demands.now }
     requires joined { let g = graph_of paths.now.graph in (k : ℕ) (d : Demand) → slice_get demands.now k ≡ Some d → 0 < d.need → AreApart (Joins g) d.from.0 d.to.0 → ⊥ }
-    ensures { let g = graph_of paths.now.graph in IfOk result (AreLeastFlows (Joins g) paths.now.lengths demands.now (length demands.now)) }
+    ensures routed { let g = graph_of paths.now.graph in IfOk result (IsLeastRouting (Joins g) paths.now.lengths demands.now) }
+    ensures total { IfOk result (λ r. sum_by (λ f. f.num) r.flows ≡ sum_by (λ d. d.need) demands.now) }
 {
     let mut flows = List::new(alloc);
     for k in 0..demands.len() {
         take_demand(paths, &demands[k], k as u32, &mut flows)?;
     }
-    Ok(flows)
+    Ok(Routing { den: 1, flows })
 }
 
 /// The routing of a state: each demand that has a need takes the least of its shortest paths.
@@ -94,6 +95,5 @@ pub(crate) fn route_state(
         state,
     };
     let paths = LeastPaths::new(alloc, &graph, lengths)?;
-    let flows = route_all(alloc, &paths, problem.demands.items())?;
-    Ok(Routing { den: 1, flows })
+    route_all(alloc, &paths, problem.demands.items())
 }

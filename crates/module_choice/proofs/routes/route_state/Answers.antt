@@ -1,10 +1,11 @@
-use Rattle.std.proofs.Common.{◌≡◌, arith, length, subst}
+use Rattle.std.proofs.Common.{◌≡◌, List, arith, subst, sum_by}
+use Rattle.net_core.specs.declared.demand.Demand.{Demand}
 use Rattle.net_core.specs.Cases.{graph_in}
 use Rattle.net_core.specs.Graphs.{Joins}
 use Rattle.net_core.specs.Views.{case_of, graph_of}
+use Rattle.plan_terms.specs.Fallbacks.{IsLeastRouting}
 use Rattle.plan_terms.specs.Paths.{AreApart}
-use Rattle.module_choice.specs.inner.Routes.{AreLeastFlows}
-use Rattle.module_choice.proofs.Routing.{flows_routing}
+use Rattle.module_choice.proofs.Choices.{answers_also}
 use Rattle.module_choice.proofs.routes.route_state.Goals as goal
 
 pub route_all-requires-clause-joined : goal.route_all-requires-clause-joined
@@ -20,10 +21,13 @@ route_all-requires-clause-joined c k d at some apart =
 pub returns-clause-routed : goal.returns-clause-routed
 returns-clause-routed c =
     let p = case_of c.args.problem.now in
-    let e = c.in_ok-paths.ensures in
-    let flows = c.in_ok-flows.flows in
-    let same : graph_of c.in_ok-paths.paths.graph ≡ graph_in p c.args.state.0 = e.graph in
-    let least = subst (λ ds. AreLeastFlows (Joins (graph_of c.in_ok-paths.paths.graph)) c.in_ok-paths.paths.lengths ds (length ds) flows) c.items.ensures c.in_ok-flows.ensures in
-    flows_routing (Joins (graph_in p c.args.state.0)) c.args.lengths.now p.demands flows
-    (subst (λ g. AreLeastFlows (Joins g) c.args.lengths.now p.demands (length p.demands) flows) same
-    (subst (λ ls. AreLeastFlows (Joins (graph_of c.in_ok-paths.paths.graph)) ls p.demands (length p.demands) flows) e.lengths least))
+    let paths = c.in_ok-paths.paths in
+    let same : graph_of paths.graph ≡ graph_in p c.args.state.0 = c.in_ok-paths.ensures.graph in
+    answers_also c.route_all.result
+    (λ r least. subst (λ g. IsLeastRouting (Joins g) c.args.lengths.now p.demands r) same
+    (subst (λ ls. IsLeastRouting (Joins (graph_of paths.graph)) ls p.demands r) c.in_ok-paths.ensures.lengths
+    (subst (λ ds. IsLeastRouting (Joins (graph_of paths.graph)) paths.lengths ds r) c.items.ensures least)))
+    c.route_all.ensures.routed
+
+pub returns-clause-total : goal.returns-clause-total
+returns-clause-total c = answers_also c.route_all.result (λ r total. subst (λ (ds : List Demand). sum_by (λ f. f.num) r.flows ≡ sum_by (λ d. d.need) ds) c.items.ensures total) c.route_all.ensures.total
