@@ -1,5 +1,5 @@
 -- what a caller pools and answers while it goes through the states
-use Rattle.std.proofs.Common.{◌≡◌, ◌∙◌, ℕ, ◌+◌, ◌≤◌, List, [], ◌∷◌, ◌++◌, All, Contains, length, sym, ap, subst}
+use Rattle.std.proofs.Common.{◌≡◌, ◌∙◌, ℕ, ◌+◌, ◌≤◌, List, [], ◌∷◌, ◌++◌, All, Contains, length, sym, ap, arith, subst}
 use Rattle.std.proofs.Math.Logic.{∥∥₁_elim}
 use Rattle.std.proofs.Props.{props}
 use Rattle.std.proofs.lemmas.List.{append-nil, append_assoc}
@@ -34,6 +34,10 @@ goes_on a b t first second = sees_both (history_seen a) (own_entries a) (history
 pooled_none : (a : TurnTaker) → [] ≡ cuts_pooled a a
 pooled_none a = sym (ap cuts_of (front_rest (own_entries a) (own_entries a) [] (sym (append-nil (own_entries a)))))
 
+-- no cut is pooled, so all that are have any property
+pub none_among : (a : TurnTaker) (P : ℕ × List ℕ → Type 0) → All P (cuts_pooled a a)
+none_among a P = subst (All P) (pooled_none a) (λ k d lt. absurd (omega (arith, lt)))
+
 pooled_both : (a b t : TurnTaker) → Goes a b → Goes b t → cuts_pooled a b ++ cuts_pooled b t ≡ cuts_pooled a t
 pooled_both a b t first second =
     let one : cuts_pooled a b ≡ cuts_of first.committed = ap cuts_of (front_rest (own_entries b) (own_entries a) first.committed first.own_is) in
@@ -60,6 +64,9 @@ module _ (p : Case) (caps : Caps) where
 
   pub none_so_far : (a : TurnTaker) → AreCutsBelow p caps 0 (cuts_pooled a a)
   none_so_far a = subst (AreCutsBelow p caps 0) (pooled_none a) (cuts_none p caps)
+
+  pub none_below : (all : ℕ) (a : TurnTaker) → AreCutsBelow p caps all (cuts_pooled a a)
+  none_below all a = cuts_weaker p caps 0 all (cuts_pooled a a) (omega arith) (none_so_far a)
 
   pub none_answered : (a : TurnTaker) (answers : List StateAnswer) → answers ≡ [] → AreAnswersBelow p caps 0 (history_seen a) (cuts_pooled a a) answers
   none_answered a answers is = subst (λ cuts. AreAnswersBelow p caps 0 (history_seen a) cuts answers) (pooled_none a) (answers_none p caps (history_seen a) answers is)

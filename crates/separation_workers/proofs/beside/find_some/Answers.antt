@@ -1,0 +1,19 @@
+use Rattle.std.proofs.Common.{[], ◌∷◌, ◌++◌}
+use Rattle.std.proofs.lemmas.List.Elements.{All-push, All-same}
+use Rattle.separation_workers.specs.declared.round.StateFound.{StateFound}
+use Rattle.separation_workers.specs.inner.Rounds.{IsStateFound}
+use Rattle.separation_workers.proofs.beside.find_some.Goals as goal
+
+pub find_or_stop-requires : goal.find_or_stop-requires
+find_or_stop-requires g c = c.in-Some.ensures
+
+pub loop-preserved : goal.loop-preserved
+loop-preserved g c =
+    let found = IsStateFound c.args.round.now in
+    let before = c.loop.found.items in
+    let one : StateFound = record { state = c.in-Some.state; answer = c.in_ok-answer.answer } in
+    All-same found c.push.new.self.items (before ++ one ∷ []) c.in_ok-push.ensures.items
+    (All-push found before one c.loop.invariant (c.in-Some.ensures, c.in_ok-answer.ensures))
+
+pub returns : goal.returns
+returns g c = c.loop.invariant
