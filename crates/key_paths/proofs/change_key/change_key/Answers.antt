@@ -1,12 +1,13 @@
-use Rattle.std.proofs.Common.{◌≡◌, ◌≤ℤ◌, ◌^◌, ◌<◌, length, pos, unsigned_abs, to_z, of_z, slice_set, sym, subst, ap, ◌∙◌, arith}
+use Rattle.std.proofs.Common.{◌≡◌, ◌≤ℤ◌, ◌^◌, ◌<◌, ◌+◌, get_or, length, pos, unsigned_abs, to_z, of_z, slice_set, sym, subst, ap, ◌∙◌, arith}
 use Rattle.std.specs.Int.{w128}
 use Rattle.std.proofs.lemmas.Int.{ints}
 use Rattle.simplex_law.specs.Sums.{dot}
 use Rattle.simplex_core.specs.Tables.{nums_at}
 use Rattle.checked_fraction.specs.Rows.{num}
-use Rattle.key_rows.specs.Names.{demand_in, key_links, left_uses}
+use Rattle.key_rows.specs.Names.{demand_in, key_links, key_name, column_name, left_uses, IsNameWithin}
 use Rattle.key_paths.proofs.Exchanging.{shaped, rest_less, value_high, value_less, next_entering}
 use Rattle.key_paths.proofs.Holding.{rest_low, shaped_here, has_key, key_short}
+use Rattle.key_paths.proofs.Named.{short_links}
 use Rattle.key_paths.proofs.change_key.change_key.Goals as goal
 
 pub swap_roles-requires-clause-rest : goal.swap_roles-requires-clause-rest
@@ -61,3 +62,41 @@ returns-clause-enters c =
     (c.set_product.ensures ∙ ap (λ x. slice_set s.products i x) back)
     (c.row_value-value.ensures ∙ ap (λ n. dot n (nums_at s.rows i) (num s.rest)) w.rows)
     (c.row_product-product.ensures.value ∙ ap (λ n. dot n (nums_at s.rows i) (left_uses c.args.name.now (key_links s.names s.places n (demand_in c.args.name.now)))) w.rows)
+
+pub swap_roles-requires-clause-shaped : goal.swap_roles-requires-clause-shaped
+swap_roles-requires-clause-shaped c = c.requires.enters.entering.held.keyed.shaped
+
+pub row_value-value-requires-clause-inside : goal.row_value-value-requires-clause-inside
+row_value-value-requires-clause-inside c = subst (λ n. c.args.i < n) (sym c.in_ok-swap_roles.ensures.swapped.rows) c.requires.inside
+
+pub row_product-product-requires-clause-inside : goal.row_product-product-requires-clause-inside
+row_product-product-requires-clause-inside c = subst (λ n. c.args.i < n) (sym c.in_ok-swap_roles.ensures.swapped.rows) c.requires.inside
+
+pub row_product-product-requires-clause-name : goal.row_product-product-requires-clause-name
+row_product-product-requires-clause-name c = subst (λ n. IsNameWithin n c.args.name.now) (sym c.in_ok-swap_roles.ensures.swapped.rows) c.requires.enters.entering.sound.within
+
+pub set_value-requires : goal.set_value-requires
+set_value-requires c = omega (arith, c.requires.inside, c.requires.enters.entering.held.keyed.shaped.values, ap length c.in_ok-swap_roles.ensures.swapped.values)
+
+pub set_product-requires : goal.set_product-requires
+set_product-requires c = omega (arith, c.requires.inside, c.requires.enters.entering.held.keyed.shaped.products, ap length c.in_ok-swap_roles.ensures.swapped.products)
+
+pub returns-clause-prices : goal.returns-clause-prices
+returns-clause-prices c = c.in_ok-swap_roles.ensures.swapped.prices
+
+pub swap_roles-requires-clause-demand : goal.swap_roles-requires-clause-demand
+swap_roles-requires-clause-demand c = omega (arith, c.requires.enters.entering.inside)
+
+pub swap_roles-requires-clause-old_key : goal.swap_roles-requires-clause-old_key
+swap_roles-requires-clause-old_key c =
+    let b = c.args.keyed.now in
+    let e = c.requires.enters.entering in
+    let s = e.held.keyed.shaped in
+    let n = length b.rows in
+    short_links n (key_name b.names b.places n c.args.demand) (s.within (get_or b.places (n + c.args.demand) 0) (s.inside (n + c.args.demand) e.inside))
+
+pub swap_roles-requires-clause-new_key : goal.swap_roles-requires-clause-new_key
+swap_roles-requires-clause-new_key c =
+    let b = c.args.keyed.now in
+    let s = c.requires.enters.entering.held.keyed.shaped in
+    short_links (length b.rows) (column_name b.names (get_or b.places c.args.i 0)) (s.within (get_or b.places c.args.i 0) (s.inside c.args.i (omega (arith, c.requires.inside))))

@@ -7,6 +7,8 @@ use Rattle.key_rows.specs.KeyRows.{amounts}
 use Rattle.key_rows.specs.Names.{key_name, key_dual}
 use Rattle.key_paths.specs.inner.Outcomes.{IsWideBasis}
 use Rattle.key_paths.proofs.RowTurning.{turn_wide, shaped, rest_less, value_high, value_less, value_kept, demand_wide, next_held}
+use Rattle.simplex_core.specs.Tables.{IsRectangle}
+use Rattle.key_paths.proofs.Holding.{has_key, shaped_here}
 use Rattle.key_paths.proofs.turns.replace.Goals as goal
 
 pub returns-in-Err-clause-turned : goal.returns-in-Err-clause-turned
@@ -89,3 +91,27 @@ returns-else-narrow-clause-turned c =
     (subst (λ n. 2 ^ 62 ≤ unsigned_abs (key_dual n (num mid.prices.nums) mid.prices.den (key_name mid.names mid.places n d))) (c.len-links.ensures ∙ s.rows)
     (subst (λ xs. 2 ^ 62 ≤ unsigned_abs (key_dual links (num mid.prices.nums) mid.prices.den (key_name mid.names xs links d))) c.items-5.ensures
     (subst (λ xs. 2 ^ 62 ≤ unsigned_abs (key_dual links (num mid.prices.nums) mid.prices.den (key_name xs c.items-5.result.now links d))) c.items-4.ensures wide)))))
+
+pub renew_value_list-requires-clause-count : goal.renew_value_list-requires-clause-count
+renew_value_list-requires-clause-count c =
+    let p = c.requires.enters in
+    let s = shaped c.args.i c.args.cost.now p.entering p.priced c.requires.pivot.inside c.turn_rows.new.keyed c.in_default.ensures.turned in
+    s.values ∙ sym (ap length c.items.ensures ∙ s.rows)
+
+pub renew_value_list-requires-clause-products : goal.renew_value_list-requires-clause-products
+renew_value_list-requires-clause-products c =
+    let p = c.requires.enters in
+    let s = shaped c.args.i c.args.cost.now p.entering p.priced c.requires.pivot.inside c.turn_rows.new.keyed c.in_default.ensures.turned in
+    (ap length c.items-2.ensures ∙ s.products) ∙ sym (ap length c.items.ensures ∙ s.rows)
+
+pub renew_value_list-requires-clause-rectangle : goal.renew_value_list-requires-clause-rectangle
+renew_value_list-requires-clause-rectangle c =
+    let p = c.requires.enters in
+    let s = shaped c.args.i c.args.cost.now p.entering p.priced c.requires.pivot.inside c.turn_rows.new.keyed c.in_default.ensures.turned in
+    rw (c.items-3.ensures, c.items.ensures) (subst (λ n. IsRectangle n c.turn_rows.new.keyed.rows) (sym s.rest) s.rectangle)
+
+pub renew_dual_list-narrow-requires-clause-keys : goal.renew_dual_list-narrow-requires-clause-keys
+renew_dual_list-narrow-requires-clause-keys c =
+    let p = c.requires.enters in
+    let s = shaped c.args.i c.args.cost.now p.entering p.priced c.requires.pivot.inside c.turn_rows.new.keyed c.in_default.ensures.turned in
+    λ d l. rw (c.items-5.ensures, c.items-4.ensures, c.len-links.ensures) (has_key (shaped_here s) d l)
