@@ -1,4 +1,4 @@
-use crate::texts::{JOURNAL, fault_of, joined};
+use crate::texts::{FINE_JOURNAL, JOURNAL, fault_of, joined, places_of};
 use net_core::{Bytes, List, Module};
 use std::alloc::Global;
 use text_kit::write::put_decimal;
@@ -9,6 +9,10 @@ const OUTCOMES: &[u8] = b"?planner report; version: 1\nNOTES()JOURNAL()POOL()OUT
 
 const DEMANDS: &[u8] =
     b"?planner report; version: 1\nNOTES()JOURNAL()POOL((0 state 0 right 0(0)))OUTCOMES(PLAN(caller 1 plan 1 version 0 position 0 DEMANDS(";
+
+/// The same on a network with six places.
+const FINE_DEMANDS: &[u8] =
+    b"?planner report; version: 2\nNOTES()JOURNAL()POOL((0 state 0 right 0(0)))OUTCOMES(PLAN(caller 1 plan 1 version 0 position 0 DEMANDS(";
 
 const MODULES: &[u8] =
     b"?planner report; version: 1\nNOTES()JOURNAL()POOL((0 state 0 right 0(0)))OUTCOMES(PLAN(caller 1 plan 1 version 0 position 0 DEMANDS(D(A B)1)cost 0 bound 0 raw 0 1 MODULES(a(";
@@ -61,6 +65,16 @@ const PAST_AMOUNT: &[u8] = b"1099511627.776";
 const LAST_MONEY: &[u8] = b"85070591730234615865843651857942052.863";
 
 const PAST_MONEY: &[u8] = b"85070591730234615865843651857942052.864";
+
+/// The greatest amount with six places, which is the same number of units.
+const LAST_FINE_AMOUNT: &[u8] = b"1099511.627775";
+
+const PAST_FINE_AMOUNT: &[u8] = b"1099511.627776";
+
+/// The greatest cost with six places, which is the same number of units.
+const LAST_FINE_MONEY: &[u8] = b"85070591730234615865843651857942.052863";
+
+const PAST_FINE_MONEY: &[u8] = b"85070591730234615865843651857942.052864";
 
 /// A module of 0.001 and one of 10.00.
 const TWO: [Module; 2] = [
@@ -208,6 +222,36 @@ const LARGE_IN_DEMANDS: [Row; 4] = [
     (b")cost 0 bound 0 raw ", LAST_126, PAST_126),
 ];
 
+/// A total with six places.
+const FINE_IN_JOURNAL: [Row; 1] = [(
+    b"(1 caller 1 drop D too-much ",
+    b"35184372.088831",
+    b"35184372.088832",
+)];
+
+/// Needs of the journal with six places.
+const LARGE_FINE_IN_JOURNAL: [Row; 2] = [
+    (b"(1 caller 1 set D ", LAST_FINE_AMOUNT, PAST_FINE_AMOUNT),
+    (
+        b"(1 caller 1 add D(A B)",
+        LAST_FINE_AMOUNT,
+        PAST_FINE_AMOUNT,
+    ),
+];
+
+/// A need, a cost and a bound with six places.
+const LARGE_FINE_IN_DEMANDS: [Row; 3] = [
+    (b"D(A B)", LAST_FINE_AMOUNT, PAST_FINE_AMOUNT),
+    (b")cost ", LAST_FINE_MONEY, PAST_FINE_MONEY),
+    (b")cost 0 bound ", LAST_FINE_MONEY, PAST_FINE_MONEY),
+];
+
+/// A need and a cost with six places, and one with seven.
+const TOO_FINE_IN_DEMANDS: [Row; 2] = [
+    (b"D(A B)", b"0.000001", b"0.0000001"),
+    (b")cost ", b"0.000001", b"0.0000001"),
+];
+
 /// A capacity, of the same kind.
 const LARGE_IN_QUALITY: [Row; 1] = [(b"loose wide route 0 1(", LAST_126, PAST_126)];
 
@@ -215,7 +259,7 @@ const LARGE_IN_QUALITY: [Row; 1] = [(b"loose wide route 0 1(", LAST_126, PAST_12
 fn faults_at(alloc: Global, parts: (&[u8], &[u8], &[u8]), at: u64, kind: &str) -> bool {
     let (front, rest, last) = parts;
     match joined(alloc, front, rest, last) {
-        Some(text) => fault_of(alloc, &TWO, text.items()) == Some((at, kind)),
+        Some(text) => fault_of(alloc, places_of(front), &TWO, text.items()) == Some((at, kind)),
         None => false,
     }
 }
@@ -268,6 +312,35 @@ fn notations_end_at_their_last_numbers(rt: HostRuntime) {
     assert!(rt; each_ends(rt.alloc(), JOURNAL, &LARGE_IN_JOURNAL, "number-large"));
     assert!(rt; each_ends(rt.alloc(), DEMANDS, &LARGE_IN_DEMANDS, "number-large"));
     assert!(rt; each_ends(rt.alloc(), QUALITY, &LARGE_IN_QUALITY, "number-large"));
+}
+
+#[test]
+fn six_places_end_at_the_same_units(rt: HostRuntime) {
+    assert!(rt; each_ends(rt.alloc(), FINE_JOURNAL, &FINE_IN_JOURNAL, "limit"));
+    assert!(rt;
+        each_ends(
+            rt.alloc(),
+            FINE_JOURNAL,
+            &LARGE_FINE_IN_JOURNAL,
+            "number-large"
+        )
+    );
+    assert!(rt;
+        each_ends(
+            rt.alloc(),
+            FINE_DEMANDS,
+            &LARGE_FINE_IN_DEMANDS,
+            "number-large"
+        )
+    );
+    assert!(rt;
+        each_ends(
+            rt.alloc(),
+            FINE_DEMANDS,
+            &TOO_FINE_IN_DEMANDS,
+            "number-fine"
+        )
+    );
 }
 
 /// What stands before a list in two parts, the last count of its elements, what stands before and after the number of an element, which

@@ -1,10 +1,14 @@
 use crate::texts::{JOURNAL, fault_of, joined};
+use net_core::Places;
 use std::alloc::Global;
 use worked_networks::TEN;
 
 const NOTHING: &[u8] = b"";
 
 const START: &[u8] = b"?planner report; version: 1\n";
+
+/// The first line with six places.
+const FINE: &[u8] = b"?planner report; version: 2\n";
 
 const OUTCOMES: &[u8] = b"?planner report; version: 1\nNOTES()JOURNAL()POOL()OUTCOMES(";
 
@@ -19,7 +23,7 @@ type Refused = (&'static [u8], &'static [u8], u64, &'static str);
 
 /// Texts that end with their first fault.
 const REFUSED: [Refused; 16] = [
-    (NOTHING, b"?planner report; version: 2\n", 0, "header"),
+    (FINE, b"NOTES()JOURNAL()POOL()OUTCOMES()", 0, "header"),
     (START, b"NOTES()POOL", 35, "section"),
     (OUTCOMES, b")NOTES", 60, "section"),
     (START, b"NOTES(routing fixed", 42, "token"),
@@ -57,11 +61,17 @@ const REFUSED: [Refused; 16] = [
     ),
 ];
 
+/// Texts for a network with six places, whose first line is that of another.
+const REFUSED_IN_SIX: [Refused; 2] = [
+    (START, b"NOTES()JOURNAL()POOL()OUTCOMES()", 0, "header"),
+    (NOTHING, b"?planner report; version: 3\n", 0, "header"),
+];
+
 /// Whether the first fault of a text has the place and the kind of its row.
-fn is_refused(alloc: Global, row: &Refused) -> bool {
+fn is_refused(alloc: Global, places: Places, row: &Refused) -> bool {
     let (front, rest, at, kind) = *row;
     match joined(alloc, front, rest, b"") {
-        Some(text) => fault_of(alloc, &TEN, text.items()) == Some((at, kind)),
+        Some(text) => fault_of(alloc, places, &TEN, text.items()) == Some((at, kind)),
         None => false,
     }
 }
@@ -69,6 +79,13 @@ fn is_refused(alloc: Global, row: &Refused) -> bool {
 #[test]
 fn each_kind_of_fault_at_its_place(rt: HostRuntime) {
     for row in &REFUSED {
-        assert!(rt; is_refused(rt.alloc(), row), "at {}", row.2);
+        assert!(rt; is_refused(rt.alloc(), Places::Three, row), "at {}", row.2);
+    }
+}
+
+#[test]
+fn the_version_is_that_of_the_places(rt: HostRuntime) {
+    for row in &REFUSED_IN_SIX {
+        assert!(rt; is_refused(rt.alloc(), Places::Six, row));
     }
 }

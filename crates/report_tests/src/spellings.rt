@@ -1,4 +1,4 @@
-use crate::texts::joined;
+use crate::texts::{in_places, joined, places_of};
 use crate::values::{Said, says};
 use net_core::{Network, States};
 use plan_report::write_report;
@@ -9,6 +9,10 @@ use worked_networks::triangle;
 /// A report with edits, a cut and both kinds of outcomes.
 const WHOLE: &[u8] =
     b"?planner report; version: 1\nNOTES ( fixed )\nJOURNAL ( ( 1 cut 0 )\n( 2 caller 1 set D 2.000 accepted 1 )\n)\nPOOL ( ( 0 state 0 right 2000 ( 1 1 1 )\n)\n)\nOUTCOMES ( PLAN ( caller 1 plan 1 version 1 position 2 DEMANDS ( D ( A B )\n2.000 )\ncost 5.000 bound 5.000 raw 1000 1 MODULES ( AB ( 1 )\nBC ( 0 )\nAC ( 0 )\n)\nCERTIFICATE ( 2 ( 1 pool 0 right 2000 )\n( 0 local 0 ( 1 0 1 )\nright 2000 )\n)\nROUTES ( state 0 none 1 ( D 2000 ( AB )\n)\n)\ntight 1 ( 200 0 0 )\n( state 0 none 1 ( D 2000 ( AB )\n)\n)\n)\nUNSURVIVABLE ( caller 2 plan 1 version 1 position 2 state 0 none demand D )\n)\n";
+
+/// A report of a network with six places.
+const FINE: &[u8] =
+    b"?planner report; version: 2\nNOTES ( )\nJOURNAL ( ( 1 caller 1 set D 0.000001 too-much 17592186.044416 )\n( 2 caller 2 add D ( A C )\n12.345678 accepted 1 )\n)\nPOOL ( )\nOUTCOMES ( PLAN ( caller 1 plan 1 version 1 position 2 DEMANDS ( D ( A B )\n12.345678 )\ncost 5.000000 bound 4.000001 raw 4000001 1 MODULES ( AB ( 1 )\nBC ( 0 )\nAC ( 0 )\n)\nCERTIFICATE ( 1 )\nROUTES ( state 0 none 1 ( D 12345678 ( AB )\n)\n)\nloose cuts )\n)\n";
 
 /// The whole report of a plan without demands.
 const IDLE: &[u8] = b"?planner report; version: 1
@@ -89,8 +93,9 @@ const MASTER: &[u8] = b"loose wide master ( link AB link BC cut 0 ( 1 1 1 )\n)\n
 type Row = (&'static [u8], &'static [u8], &'static [u8], Said);
 
 /// Reports with each kind of outcome, of edits and of replies, and with each kind of evidence and of its columns.
-const REPORTS: [Row; 13] = [
+const REPORTS: [Row; 14] = [
     (WHOLE, b"", b"", Said::Other),
+    (FINE, b"", b"", Said::Fine),
     (IDLE, b"", b"", Said::Idle),
     (EDITS, b"", b"", Said::Edits),
     (PLAN, b"loose cuts )\n)\n", b"", Said::NoRoom),
@@ -127,11 +132,17 @@ fn is_as_written(alloc: Global, net: &Network, text: &[u8], said: Said) -> bool 
     }
 }
 
+/// The triangle, with the places that a report which begins so is for.
+fn triangle_for(alloc: Global, front: &[u8]) -> Option<Network> {
+    let net = triangle(alloc, 0).ok()?;
+    in_places(&net, places_of(front))
+}
+
 /// Whether the report of a row is as it is written.
 fn is_row_as_written(alloc: Global, row: &Row) -> bool {
     let (front, rest, last, said) = *row;
-    match (triangle(alloc, 0), joined(alloc, front, rest, last)) {
-        (Ok(net), Some(text)) => is_as_written(alloc, &net, text.items(), said),
+    match (triangle_for(alloc, front), joined(alloc, front, rest, last)) {
+        (Some(net), Some(text)) => is_as_written(alloc, &net, text.items(), said),
         _ => false,
     }
 }

@@ -11,6 +11,7 @@ pub(crate) enum Said {
     Other,
     Idle,
     Edits,
+    Fine,
     NoRoom,
     LinkNumber,
     RouteRow,
@@ -181,6 +182,33 @@ fn has_edits(entries: &[Entry]) -> bool {
     edits.len() == EDITED.len() && is_pooled(last, 3, &[])
 }
 
+/// The edits of the journal with six places.
+const FINELY_EDITED: [Edited; 2] = [
+    (1, b"D", Some(1), false, Reply::TooMuch(17592186044416)),
+    (2, b"D", Some(12345678), true, Reply::Accepted(1)),
+];
+
+/// Whether a report has needs and costs in millionths.
+fn is_fine(report: &Report) -> bool {
+    let edited = match report.entries.items() {
+        [first, second] => {
+            is_edited(first, &FINELY_EDITED[0]) && is_edited(second, &FINELY_EDITED[1])
+        }
+        _ => false,
+    };
+    let planned = match plan_of(report) {
+        Some(plan) => {
+            let needs = match plan.demands.items() {
+                [demand] => demand.need == 12345678,
+                _ => false,
+            };
+            needs && (plan.cost, plan.bound) == (5000000, 4000001)
+        }
+        None => false,
+    };
+    edited && planned
+}
+
 /// Whether an outcome is that the state without failures separates D1.
 fn separates(outcome: &Outcome) -> bool {
     match outcome {
@@ -345,6 +373,7 @@ pub(crate) fn says(report: &Report, said: Said) -> bool {
         Said::Other => true,
         Said::Idle => is_idle(report),
         Said::Edits => is_edited_report(report),
+        Said::Fine => is_fine(report),
         _ => is_loose_report(report, said),
     }
 }
