@@ -15,7 +15,6 @@ use net_core::{
 };
 use short_paths::{DistanceTable, all_pairs};
 use std::alloc::Global;
-use thiserror::Error;
 
 /// Lengths that a state keeps, one per link, with the distances along the links that survive in it. For 128 nodes and 256 links
 /// it takes 66 KB.
@@ -27,16 +26,13 @@ pub struct Cut {
 }
 
 /// Why lengths make no cut.
-#[derive(Clone, Copy, Debug, PartialEq, Eq, Error)]
+#[derive(Clone, Copy, PartialEq, Eq)]
 pub enum CutFault {
     /// The state is not listed.
-    #[error("the state is not listed")]
     UnknownState,
     /// No surviving link has a positive length.
-    #[error("no surviving link has a positive length")]
     ZeroLengths,
     /// The call ran out of memory.
-    #[error("out of memory")]
     NoMemory,
 }
 

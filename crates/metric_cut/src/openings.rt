@@ -1,9 +1,9 @@
-ghost use Rattle.std.specs.Prelude.{◌≡◌, ◌+◌, ◌<◌, ◌==◌, All, IfOk, [], ◌∷◌, cond, length, map};
+ghost use Rattle.std.specs.Prelude.{◌≡◌, ◌+◌, ◌<◌, ◌==◌, All, IfOk, [], ◌∷◌, cond, length, map, replicate};
 ghost use Rattle.std.specs.Cmp.Lexicographic.{pointwise};
 ghost use Rattle.net_core.specs.Views.{graph};
 ghost use Rattle.plan_terms.specs.Openings.{AreOpening};
 ghost use Rattle.metric_cut.specs.Cuts.{IsCutOf};
-ghost use Rattle.metric_cut.specs.inner.KeptCuts.{MayKeepCut, each_cut_once};
+ghost use Rattle.metric_cut.specs.inner.KeptCuts.{MayKeepCut, MayKeepPrices, each_cut_once};
 
 use crate::cut::{Cut, CutFault};
 use module_prices::price_lengths;
@@ -27,6 +27,34 @@ fn kept_cut(
         Err(CutFault::NoMemory) => Err(NoMemory),
         Err(_) => Ok(None),
     }
+}
+
+/// What a state keeps of lengths of 1.
+fn unit_cut(
+    alloc: Global,
+    net: &Network,
+    states: &States,
+    state: StateId,
+) -> Result<Option<Cut>, NoMemory>
+    requires { state.0 < length states.now.listed + 1 }
+    ensures { IfOk result (MayKeepCut (graph net.now states.now state.0) (replicate (length net.now.links) 1)) }
+{
+    let units = List::filled(alloc, 1, net.links().len())?;
+    kept_cut(alloc, net, states, state, units)
+}
+
+/// What a state keeps of the price lengths.
+fn price_cut(
+    alloc: Global,
+    net: &Network,
+    states: &States,
+    state: StateId,
+) -> Result<Option<Cut>, NoMemory>
+    requires { state.0 < length states.now.listed + 1 }
+    ensures { IfOk result (MayKeepPrices (graph net.now states.now state.0)) }
+{
+    let prices = price_lengths(alloc, net)?;
+    kept_cut(alloc, net, states, state, prices)
 }
 
 fn one(alloc: Global, cut: Cut) -> Result<List<Cut>, NoMemory>
@@ -80,9 +108,7 @@ pub fn opening(
     ensures each { IfOk result (All (IsCutOf (graph net.now states.now state.0))) }
     ensures opening { IfOk result (λ cuts. AreOpening (graph net.now states.now state.0) (map (λ c. c.lengths) cuts)) }
 {
-    let units = List::filled(alloc, 1, net.links().len())?;
-    let unit = kept_cut(alloc, net, states, state, units)?;
-    let prices = price_lengths(alloc, net)?;
-    let price = kept_cut(alloc, net, states, state, prices)?;
+    let unit = unit_cut(alloc, net, states, state)?;
+    let price = price_cut(alloc, net, states, state)?;
     each_once(alloc, unit, price)
 }

@@ -3,6 +3,7 @@ use Rattle.std.specs.Prelude.{◌==◌, ℕ, List, [], ◌∷◌, Option, None, 
 use Rattle.std.specs.Cmp.Lexicographic.{pointwise}
 use Rattle.net_core.specs.Graphs.{Graph}
 use Rattle.plan_terms.specs.Keeping.{AreZero, Keeps}
+use Rattle.plan_terms.specs.Prices.{ArePriceLengths}
 use Rattle.metric_cut.specs.Cuts.{IsCutOf}
 use Rattle.metric_cut.specs.declared.cut.Cut.{Cut}
 
@@ -10,6 +11,10 @@ use Rattle.metric_cut.specs.declared.cut.Cut.{Cut}
 abbrev pub MayKeepCut : Graph → List ℕ → Option Cut → Type 0
 MayKeepCut g lengths None = AreZero g lengths
 MayKeepCut g lengths (Some cut) = Keeps g lengths cut.lengths × IsCutOf g cut
+
+-- a cut of what the state keeps of the price lengths
+abbrev pub MayKeepPrices : Graph → Option Cut → Type 0
+MayKeepPrices g cut = (prices : List ℕ) × ArePriceLengths g.links prices × MayKeepCut g prices cut
 
 -- the cuts that are there, each once
 abbrev pub each_cut_once : Option Cut → Option Cut → List Cut
