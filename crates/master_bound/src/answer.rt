@@ -1,8 +1,6 @@
 use net_core::{Copied, Evidence, List, MasterColumn, NoMemory};
 use plan_types::Share;
 use simplex_core::SimplexFault;
-use std::fmt::{self, Debug, Formatter, Write};
-use thiserror::Error;
 
 /// A cut, by its place in the list, and its numerator in a certificate.
 #[derive(Clone, Copy, Debug, PartialEq, Eq)]
@@ -36,24 +34,12 @@ impl Copied for Best {
 }
 
 /// Why no best certificate is given.
-#[derive(Drop, Error)]
+#[derive(Drop)]
 pub enum MasterFault {
     /// A number grew too wide.
-    #[error("a number grew too wide")]
     Wide(Evidence),
     /// The call ran out of memory.
-    #[error("out of memory")]
     NoMemory,
-}
-
-/// Without the evidence, which need not be shown.
-impl Debug for MasterFault {
-    fn fmt<W: Write>(&self, f: &mut Formatter<W>) -> fmt::Result {
-        f.write_str(match self {
-            MasterFault::Wide(_) => "Wide(..)",
-            MasterFault::NoMemory => "NoMemory",
-        })
-    }
 }
 
 impl Copied for MasterFault {
