@@ -1,4 +1,4 @@
-use net_core::{Bytes, List, Problem};
+use net_core::{Bytes, Copied, Link, List, Network, Notes, Places, Problem};
 use plan_checker::{CheckAnswer, Finding, check_plan};
 use plan_types::Outcome;
 use report_checker::check_report;
@@ -14,15 +14,40 @@ pub(crate) enum Checked {
     Plan { full: bool },
 }
 
-/// The links of the triangle's one failing state, and the demands before the first entry.
+/// The setups of the triangle's links, the links of its one failing state, and the demands before the first entry.
 pub(crate) struct Case {
+    pub(crate) setups: [u64; 3],
     pub(crate) failed: &'static [u32],
     pub(crate) opening: &'static [DemandRow],
 }
 
+/// The links of the triangle with these setups.
+fn links_with(net: &Network, setups: &[u64]) -> Option<List<Link>> {
+    let mut links = net.links().copy().ok()?;
+    let items = links.items_mut();
+    for e in 0..items.len() {
+        if let Some(setup) = setups.get(e) {
+            items[e].setup = *setup;
+        }
+    }
+    Some(links)
+}
+
+/// The triangle with these setups, which are charged.
+fn charged(alloc: Global, setups: &[u64]) -> Option<Network> {
+    let plain = triangle(alloc, 0).ok()?;
+    let links = links_with(&plain, setups)?;
+    let notes = Notes {
+        fixed_cost: false,
+        routing_cost: false,
+        setup_cost: false,
+    };
+    Network::check(plain.nodes().copy().ok()?, links, notes, Places::Three).ok()
+}
+
 /// The network, the states and the demands of a case.
 fn problem_of(alloc: Global, case: &Case) -> Option<Problem> {
-    let net = triangle(alloc, 0).ok()?;
+    let net = charged(alloc, &case.setups)?;
     let states = failing(alloc, &net, &[case.failed]).ok()?;
     let p = problem(alloc, net, case.opening).ok()?;
     Some(Problem {

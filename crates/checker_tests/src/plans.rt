@@ -123,6 +123,7 @@ const CHANGES: [Change; 22] = [
 
 /// AC fails.
 const CASE: Case = Case {
+    setups: [0, 0, 0],
     failed: &[2],
     opening: &[(0, 2, 12000), (0, 1, 5000)],
 };
@@ -139,6 +140,70 @@ fn a_plan_with_one_part_changed_has_its_finding(rt: HostRuntime) {
     assert_eq!(rt; right_changes(alloc, &CASE, SOUND, &CHANGES, ROOM), 22);
 }
 
+/// The same with a setup of 3.00 on each link.
+const CHARGED: Case = Case {
+    setups: [3000, 3000, 3000],
+    failed: &[2],
+    opening: &[(0, 2, 12000), (0, 1, 5000)],
+};
+
+/// The two links with modules pay their setups once, and AC pays none.
+const CHARGED_COST: (&str, &str) = ("cost 20.000", "cost 26.000");
+
+/// Costs without setups, with one too few, with one of a link without modules, and with one for each module.
+const OTHER_COSTS: [Change; 4] = [
+    (
+        "cost 20.000",
+        "cost 20.000",
+        0,
+        Finding::CostDiffers(20000, 26000),
+    ),
+    (
+        "cost 20.000",
+        "cost 23.000",
+        0,
+        Finding::CostDiffers(23000, 26000),
+    ),
+    (
+        "cost 20.000",
+        "cost 29.000",
+        0,
+        Finding::CostDiffers(29000, 26000),
+    ),
+    (
+        "cost 20.000",
+        "cost 32.000",
+        0,
+        Finding::CostDiffers(32000, 26000),
+    ),
+];
+
+/// Setups that differ, one of them 0, and the largest on AC, which has no module.
+const UNLIKE: Case = Case {
+    setups: [1000, 0, 7000],
+    failed: &[2],
+    opening: &[(0, 2, 12000), (0, 1, 5000)],
+};
+
+/// A setup that makes the common divisor of all charges smaller, though its link has no module.
+const FINER: Case = Case {
+    setups: [0, 0, 700],
+    failed: &[2],
+    opening: &[(0, 2, 12000), (0, 1, 5000)],
+};
+
+/// The bound is the least multiple of 0.100 then.
+const FINER_BOUND: (&str, &str) = ("bound 15.000", "bound 14.500");
+
+#[test]
+fn a_plan_pays_each_setup_once(rt: HostRuntime) {
+    let alloc = rt.alloc();
+    assert!(rt; accepts_on(alloc, &CHARGED, SOUND, CHARGED_COST, ROOM));
+    assert_eq!(rt; right_changes(alloc, &CHARGED, SOUND, &OTHER_COSTS, ROOM), 4);
+    assert!(rt; accepts_on(alloc, &UNLIKE, SOUND, ("cost 20.000", "cost 21.000"), ROOM));
+    assert!(rt; accepts_on(alloc, &FINER, SOUND, FINER_BOUND, ROOM));
+}
+
 /// A module of the least capacity at a high cost.
 const STEEP: [Module; 1] = [Module {
     capacity: 1,
@@ -146,7 +211,7 @@ const STEEP: [Module; 1] = [Module {
 }];
 
 /// A plan of two links in a row, both with the capacity that the demand needs. Its certificate has a cut that is large in all its
-/// numbers: it asks for 2^71 thousandths, 2^61 times.
+/// numbers: it asks for 2^71 units, 2^61 times.
 const LARGE: &str = "?planner report; version: 1
 NOTES ( ) JOURNAL ( ) POOL ( ( 0 state 0 right 0 ( 1 4294967295 ) ) )
 OUTCOMES ( PLAN ( caller 1 plan 1 version 0 position 0

@@ -183,6 +183,7 @@ const OUTCOMES: [Change; 8] = [
 
 /// AB and AC fail together.
 const CASE: Case = Case {
+    setups: [0, 0, 0],
     failed: &[0, 2],
     opening: &[(0, 2, 12000)],
 };
