@@ -199,7 +199,10 @@ const FINER_BOUND: (&str, &str) = ("bound 15.000", "bound 14.500");
 fn a_plan_pays_each_setup_once(rt: HostRuntime) {
     let alloc = rt.alloc();
     assert!(rt; accepts_on(alloc, &CHARGED, SOUND, CHARGED_COST, ROOM));
-    assert_eq!(rt; right_changes(alloc, &CHARGED, SOUND, &OTHER_COSTS, ROOM), 4);
+    assert_eq!(rt;
+        right_changes(alloc, &CHARGED, SOUND, &OTHER_COSTS, ROOM),
+        4
+    );
     assert!(rt; accepts_on(alloc, &UNLIKE, SOUND, ("cost 20.000", "cost 21.000"), ROOM));
     assert!(rt; accepts_on(alloc, &FINER, SOUND, FINER_BOUND, ROOM));
 }

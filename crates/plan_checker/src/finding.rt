@@ -26,7 +26,7 @@ pub enum Finding {
     NotCarried(StateId, u32),
     /// The flows over the link are more than its capacity.
     Overloaded(StateId, LinkId),
-    /// The plan's cost, and what its modules cost.
+    /// The plan's cost, and what its counts cost with the setups.
     CostDiffers(u128, u128),
     /// This line of the certificate isn't in the pool, which has room, or its state doesn't keep its lengths.
     LocalCut(u32),
@@ -45,7 +45,7 @@ pub enum Finding {
 }
 
 /// What a check comes to.
-#[derive(Clone, Copy, PartialEq, Eq)]
+#[derive(Clone, Copy)]
 pub enum CheckAnswer {
     /// There is no finding.
     Accepted,

@@ -10,14 +10,6 @@ pub struct Mixed {
 }
 
 impl Mixed {
-    /// Nothing.
-    pub fn zero() -> Mixed
-        ensures value { (den : ℕ) → 0 < den → IsMixed den 0 result }
-        ensures rest { result.rest ≡ 0 }
-    {
-        Mixed { whole: 0, rest: 0 }
-    }
-
     /// The number `num / den`.
     pub fn of(num: u128, den: u64) -> Mixed
         requires { 0 < den }

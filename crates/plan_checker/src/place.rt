@@ -1,5 +1,5 @@
 /// A place in a list of lists: of a flow, a demand or a link in a state, or of a module in a link.
-#[derive(Clone, Copy, Debug, PartialEq, Eq)]
+#[derive(Clone, Copy)]
 pub struct Place {
     pub group: u32,
     pub at: u32,

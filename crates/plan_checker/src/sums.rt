@@ -63,6 +63,15 @@ fn add_loads(sums: &mut [Mixed], flows: &[Flow], den: u64)
     }
 }
 
+/// So many zeros, each over the denominator.
+fn zeros(alloc: Global, count: usize, den: u64) -> Result<Vec<Mixed>, NoMemory>
+    requires { 0 < den }
+    ensures { IfOk result (λ v. (length v.items ≡ count) × All (λ m. m.rest < den) v.items × AreMixed den (λ k. 0) v.items) }
+{
+    let zero = Mixed::of(0, den);
+    Ok(vec![in alloc; zero; count]?)
+}
+
 /// The sum of each of so many demands' flows, over the denominator.
 pub(crate) fn sums_of(
     alloc: Global,
@@ -75,7 +84,7 @@ pub(crate) fn sums_of(
     requires known { All (λ f. f.demand < demands) flows.now }
     ensures { IfOk result (λ v. (length v.items ≡ demands) × AreMixed den (sent flows.now) v.items) }
 {
-    let mut sums = vec![in alloc; Mixed::zero(); demands]?;
+    let mut sums = zeros(alloc, demands, den)?;
     add_flows(&mut sums, flows, den);
     Ok(sums)
 }
@@ -92,7 +101,7 @@ pub(crate) fn loads_of(
     requires known { All (λ f. All (λ e. e.0 < links) f.path) flows.now }
     ensures { IfOk result (λ v. (length v.items ≡ links) × AreMixed den (weight flows.now) v.items) }
 {
-    let mut loads = vec![in alloc; Mixed::zero(); links]?;
+    let mut loads = zeros(alloc, links, den)?;
     add_loads(&mut loads, flows, den);
     Ok(loads)
 }
