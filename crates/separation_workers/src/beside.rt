@@ -2,6 +2,7 @@ ghost use Rattle.std.specs.Prelude.{◌<◌, ◌+◌, All, IfOk, length};
 ghost use Rattle.std.specs.Thread.{IsSync};
 ghost use Rattle.separation_workers.specs.inner.Rounds.{AreFound, IsFoundOf, IsStateFound};
 
+use crate::discard::discard;
 use crate::hints::hinted_cut;
 use crate::round::{Round, StateFound};
 use flow_router::RouteAnswer;
@@ -111,7 +112,9 @@ fn place(round: &Round, places: &mut [Option<StateFound>], found: StateFound)
 {
     let at = found.state.0 as usize;
     if at < places.len() {
-        places[at] = Some(found);
+        discard(places[at].replace(found));
+    } else {
+        discard(found);
     }
 }
 

@@ -10,6 +10,7 @@
 
 mod beside;
 mod depths;
+mod discard;
 mod hints;
 mod hold;
 mod round;
