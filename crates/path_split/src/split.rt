@@ -13,7 +13,7 @@ use crate::arc::{Arc, PathFlow, SplitFault};
 use crate::balance::first_uneven;
 use crate::leg::{Leg, sorted_legs};
 use crate::star::{lefts_of, starts_of};
-use crate::taking::{least_left, trail_links, take_off};
+use crate::taking::{least_left, take_off, trail_links};
 use crate::walk::{Walk, find_walk, place_of};
 use net_core::{List, Network, NoMemory, NodeId};
 use std::alloc::Global;
