@@ -1,5 +1,5 @@
 -- cuts of the case have bounds of their own, and the modules of a network are sound
-use Rattle.std.proofs.Common.{◌≡◌, zero, ⊎_elim, List, [], All, get_or, subst, sym, arith}
+use Rattle.std.proofs.Common.{◌≡◌, ⊎_elim, List, [], All, get_or, subst, sym, arith}
 use Rattle.std.specs.Int.{◌∣◌}
 use Rattle.std.proofs.Math.Logic.{∥∥₁_elim}
 use Rattle.std.proofs.Props.{props}

@@ -9,7 +9,8 @@ ghost use Rattle.plan_rounds.specs.WorkedRounds.{AreWorkedRounds, IsBestAt, IsPo
 ghost use Rattle.plan_rounds.specs.inner.Alone.{PoolsRounds, PoolsTurn};
 ghost use Rattle.plan_rounds.specs.inner.Answered.{AreRoutedStates, IsEvidenceOfState};
 ghost use Rattle.plan_rounds.specs.inner.Listing.{AreListed, GoesOn};
-ghost use Rattle.plan_rounds.specs.inner.Turns.{EndsAt, EndsTooWide, IsTurnOf, Judges, WorksOn};
+ghost use Rattle.plan_rounds.specs.inner.Turns.{AddsFirst, EndsAt, EndsTooWide, IsTurnOf, Judges, WorksOn};
+ghost use Rattle.plan_rounds.specs.declared.rounds.Turn.TheVariants.{Further};
 
 use crate::adding::add_first;
 use crate::candidates::Candidates;
@@ -19,7 +20,7 @@ use crate::shares::{ShareCaps, share_caps};
 use crate::sorting::{Answered, sorted};
 use master_bound::{Best, MasterFault, master, unit_pairs};
 use module_prices::UnitPair;
-use net_core::{Copied, CutLine, Evidence, Instance, List, NoMemory, Routing};
+use net_core::{CutLine, Instance, List, NoMemory};
 use plan_types::{Cause, Quality, Spot};
 use separator::Separate;
 use std::alloc::Global;
@@ -39,26 +40,6 @@ pub struct Worked {
     pub quality: Quality,
 }
 
-fn copied_best(best: &Option<Best>) -> Result<Option<Best>, NoMemory>
-    ensures { IfOk result (λ b. b ≡ best.now) }
-{
-    match best {
-        Some(best) => Ok(Some(best.copy()?)),
-        None => Ok(None),
-    }
-}
-
-impl Copied for Worked {
-    fn copy(&self) -> Result<Worked, NoMemory> {
-        Ok(Worked {
-            lines: self.lines.copy()?,
-            spots: self.spots.copy()?,
-            best: copied_best(&self.best)?,
-            quality: self.quality.copy()?,
-        })
-    }
-}
-
 /// What one turn of the rounds comes to.
 #[derive(Drop)]
 pub enum Turn {
@@ -68,23 +49,44 @@ pub enum Turn {
     Last(Option<Best>, Quality),
 }
 
-/// The end at a share that violates no cut that was found.
+/// Drops a value of any type. Such a call is much cheaper to prove than a drop of a large record at each exit of a function.
+fn discard<T: Drop>(_value: T) {}
+
+/// The end at a share, by what the states answer.
 fn ended(
     alloc: Global,
     instance: &Instance,
     best: Best,
     caps: ShareCaps,
-    routings: List<Routing>,
-    wide: Option<Evidence>,
+    answered: Answered,
 ) -> Result<Turn, NoMemory>
     requires positive { 0 < caps.divisor }
     requires times { caps_times caps.divisor caps.divided ≡ caps.whole }
-    requires routed { wide ≡ None → ∥ AreRoutedStates (case_of instance.now) caps.divided (length instance.now.states.now.listed + 1) routings ∥₁ }
-    requires wide { ∥ IfSome wide (IsEvidenceOfState (case_of instance.now) caps.divided) ∥₁ }
+    requires routed { answered.wide ≡ None → ∥ AreRoutedStates (case_of instance.now) caps.divided (length instance.now.states.now.listed + 1) answered.routings ∥₁ }
+    requires wide { ∥ IfSome answered.wide (IsEvidenceOfState (case_of instance.now) caps.divided) ∥₁ }
     ensures { IfOk result (λ turn. ∥ EndsAt (case_of instance.now) caps.whole best turn ∥₁) }
 {
+    let Answered {
+        routings,
+        found,
+        wide,
+    } = answered;
+    discard(found);
     let quality = quality_at(alloc, instance, &best.share, caps, routings, wide)?;
     Ok(Turn::Last(Some(best), quality))
+}
+
+/// Goes on with the cuts that were found, as many as there is room for.
+fn go_on(
+    best: Best,
+    found: Candidates,
+    room: usize,
+    candidates: &mut Candidates,
+) -> Result<Turn, NoMemory>
+    ensures { IfOk result (λ turn. AddsFirst room found candidates.old candidates.new × (turn ≡ Further best)) }
+{
+    add_first(found, room, candidates)?;
+    Ok(Turn::Further(best))
 }
 
 /// Goes on with the cuts that the share of the best certificate violates, as many as there is room for, or ends with what the states
@@ -104,22 +106,26 @@ fn judge(
     requires wide { ∥ IfSome answered.wide (IsEvidenceOfState (case_of instance.now) caps.divided) ∥₁ }
     ensures { IfOk result (λ turn. ∥ Judges (case_of instance.now) room caps.whole answered best candidates.old candidates.new turn ∥₁) }
 {
+    if answered.found.lines.len() == 0 {
+        return ended(alloc, instance, best, caps, answered);
+    }
+    if room == 0 {
+        discard(answered);
+        discard(caps);
+        return Ok(Turn::Last(Some(best), Quality::Loose(Cause::Cuts)));
+    }
+    if answered.wide.is_some() {
+        return ended(alloc, instance, best, caps, answered);
+    }
     let Answered {
         routings,
         found,
         wide,
     } = answered;
-    if found.lines.len() == 0 {
-        return ended(alloc, instance, best, caps, routings, wide);
-    }
-    if room == 0 {
-        return Ok(Turn::Last(Some(best), Quality::Loose(Cause::Cuts)));
-    }
-    if wide.is_some() {
-        return ended(alloc, instance, best, caps, routings, wide);
-    }
-    add_first(found, room, candidates)?;
-    Ok(Turn::Further(best))
+    discard(routings);
+    discard(wide);
+    discard(caps);
+    go_on(best, found, room, candidates)
 }
 
 /// Asks each state about the share of the best certificate of the cuts so far.

@@ -1,5 +1,5 @@
 -- what the answers of all states come to
-use Rattle.std.specs.Prelude.{◌≡◌, ◌≢◌, ℕ, ◌+◌, ◌^◌, ◌<◌, ◌≤◌, ◌⊎◌, ◌++◌, List, [], ◌∷◌, None, Some, All, AllPairs, IfSome, length, slice_get}
+use Rattle.std.specs.Prelude.{◌≡◌, ◌≢◌, ℕ, ◌^◌, ◌<◌, ◌≤◌, ◌⊎◌, ◌++◌, List, [], ◌∷◌, None, Some, All, AllPairs, IfSome, length, slice_get}
 use Rattle.net_core.specs.declared.columns.Evidence.{Evidence}
 use Rattle.net_core.specs.declared.journal.Entry.{Entry}
 use Rattle.net_core.specs.declared.plan.Caps.{Caps}

@@ -8,3 +8,6 @@ returns-then-len-eq0 c = if_ok c.ended.result _ _ (λ turn told. ∥∥₁_map t
 
 pub returns-then-is_some : goal.returns-then-is_some
 returns-then-is_some c = if_ok c.ended-then-is_some.result _ _ (λ turn told. ∥∥₁_map told (λ ends. inr (inr (inr (omega (arith, c.if-room-eq0.false)), refl, ends)))) c.ended-then-is_some.ensures
+
+pub returns : goal.returns
+returns c = if_ok c.go_on.result _ _ (λ turn told. ∣ inr (inl (omega (arith, c.if-len-eq0.false, c.len.ensures), omega (arith, c.if-room-eq0.false), told.0, told.1)) ∣₁) c.go_on.ensures
