@@ -9,7 +9,7 @@ use Rattle.path_split.specs.inner.Trails.{AreEnough, less}
 use Rattle.path_split.specs.inner.Remains.{live}
 use Rattle.path_split.proofs.Picking.{picked_set}
 
--- each of these places has so much left
+-- each of these places has the amount left
 abbrev pub EachHas : List ℕ → ℕ → List ℕ → Type 0
 EachHas lefts num ks = AllByRecursion (λ k. (k < length lefts) × (num ≤ get_or lefts k 0)) ks
 
@@ -80,7 +80,7 @@ live_less lefts num (k ∷ ks) =
     let v : ℕ = get_or lefts k 0 - num in
     omega (arith, live_less (set lefts k v) num ks, live_set lefts k v (omega arith))
 
--- one of these places has exactly so much left
+-- one of these places has exactly the amount left
 abbrev pub OneHas : List ℕ → ℕ → List ℕ → Type 0
 OneHas lefts num [] = ⊥
 OneHas lefts num (k ∷ ks) = (num ≡ get_or lefts k 0) ⊎ OneHas lefts num ks

@@ -71,7 +71,7 @@ pub picked_whole : (p : Leg → Bool) (legs : List Leg) → picked p legs (nums 
 picked_whole p [] = refl
 picked_whole p (g ∷ gs) = omega (arith, picked_whole p gs, sum_by-cons (λ h. cond (p h) h.num 0) g gs)
 
--- the next leg with flow left stands after an empty one
+-- the next leg with flow left is after an empty one
 pub past_empty : (lefts : List ℕ) (k j : ℕ) → k ≤ j → get_or lefts k 0 ≡ 0 → 0 < get_or lefts j 0 → k + 1 ≤ j
 past_empty lefts k j le empty left = ⊎_elim
     (λ same. absurd (let here : 0 < get_or lefts k 0 = subst (λ i. 0 < get_or lefts i 0) same left in omega (arith, empty, here)))

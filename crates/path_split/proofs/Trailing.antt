@@ -32,7 +32,7 @@ other_place : (legs : List Leg) (k : ℕ) (ks : List ℕ) → AllByRecursion (λ
 other_place legs k [] other = tt
 other_place legs k (j ∷ ks) other = (λ e. other.0 (ap (λ i. (leg_at legs i).from.0) e), other_place legs k ks other.1)
 
--- legs that leave different nodes stand at different places
+-- legs that leave different nodes are at different places
 pub places_differ : (legs : List Leg) (ks : List ℕ) → AreDifferent (froms legs ks) → AreDifferent ks
 places_differ legs [] different = tt
 places_differ legs (k ∷ ks) different = (other_place legs k ks different.0, places_differ legs ks different.1)

@@ -5,7 +5,7 @@ use crate::leg::Leg;
 use net_core::{List, NoMemory, NodeId};
 use std::alloc::Global;
 
-/// What leaves each node, and the need at one of them. What stands in the sums before doesn't matter.
+/// What leaves each node, and the need at one of them. What the sums were before does not matter.
 fn fill_leaving(sums: &mut [u128], legs: &[Leg], at: NodeId, need: u64)
     requires at { at.0 < length sums.old }
     requires known { All (λ g. g.from.0 < length sums.old) legs.now }
@@ -20,7 +20,7 @@ fn fill_leaving(sums: &mut [u128], legs: &[Leg], at: NodeId, need: u64)
     }
 }
 
-/// What arrives at each node, and the need at one of them. What stands in the sums before doesn't matter.
+/// What arrives at each node, and the need at one of them. What the sums were before does not matter.
 fn fill_arriving(sums: &mut [u128], legs: &[Leg], at: NodeId, need: u64)
     requires at { at.0 < length sums.old }
     requires known { All (λ g. g.to.0 < length sums.old) legs.now }

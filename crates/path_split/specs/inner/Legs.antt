@@ -40,7 +40,7 @@ nums legs = map (λ g. g.num) legs
 abbrev pub leg_sum : (Leg → Bool) → List Leg → ℕ
 leg_sum p legs = sum_by (λ g. (if p g then g.num else 0)) legs
 
--- the leg that stands for none
+-- what is read past the last leg
 abbrev pub no_leg : Leg
 no_leg = record { link = record { 0 = 0 }; from = record { 0 = 0 }; to = record { 0 = 0 }; num = 0 }
 
@@ -73,7 +73,7 @@ pub record IsStartPlace (legs : List Leg) (x s : ℕ) : Type 0 where
   pub before : (k : ℕ) → k < s → (leg_at legs k).from.0 < x
   pub after : (k : ℕ) → s ≤ k → k < length legs → x ≤ (leg_at legs k).from.0
 
--- A forward star: legs sorted by the node that they leave, and for each node a place from which on its legs with flow left stand.
+-- A forward star: legs sorted by the node that they leave, and for each node a place at or after which its legs with flow left are.
 pub record IsStar (legs : List Leg) (lefts places : List ℕ) : Type 0 where
   pub sorted : (i j : ℕ) → i ≤ j → j < length legs → (leg_at legs i).from.0 ≤ (leg_at legs j).from.0
   pub after : (x k : ℕ) → x < length places → slice_index places x ≤ k → k < length legs → x ≤ (leg_at legs k).from.0

@@ -19,7 +19,7 @@ froms legs ks = map (λ k. (leg_at legs k).from.0) ks
 abbrev pub trail_links : List Leg → List ℕ → List LinkId
 trail_links legs ks = map (λ k. (leg_at legs k).link) ks
 
--- x stands in the list
+-- x is one of the list
 abbrev pub Has : ℕ → List ℕ → Type 0
 Has x [] = ⊥
 Has x (y ∷ ys) = (x ≡ y) ⊎ Has x ys
@@ -47,7 +47,7 @@ abbrev pub less : List ℕ → List ℕ → ℕ → List ℕ
 less lefts [] num = lefts
 less lefts (k ∷ ks) num = less (slice_set lefts k (slice_index lefts k - num)) ks num
 
--- so much is left of the legs at these places, which are different
+-- at least this is left of the legs at these places, which are different
 pub record AreEnough (lefts ks : List ℕ) (num : ℕ) : Type 0 where
   pub each : AllByRecursion (λ k. (k < length lefts) × (num ≤ slice_index lefts k)) ks
   pub different : AreDifferent ks
