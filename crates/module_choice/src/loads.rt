@@ -29,6 +29,13 @@ fn add_flows(loads: &mut [u64], flows: &[Flow])
     }
 }
 
+/// So many zeros.
+fn zeros(alloc: Global, count: usize) -> Result<Vec<u64>, NoMemory>
+    ensures { IfOk result (λ v. (length v.items ≡ count) × ((e : ℕ) → e < count → slice_index v.items e ≡ 0)) }
+{
+    Ok(vec![in alloc; 0; count]?)
+}
+
 /// What the flows bring onto each link, in units of the network.
 pub(crate) fn loads_of(alloc: Global, links: usize, flows: &[Flow]) -> Result<Vec<u64>, NoMemory>
     requires few { length flows.now ≤ 2 ^ 11 }
@@ -36,7 +43,7 @@ pub(crate) fn loads_of(alloc: Global, links: usize, flows: &[Flow]) -> Result<Ve
     requires small { All (λ f. (f.num < 2 ^ 40) × (length f.path < 2 ^ 8)) flows.now }
     ensures { IfOk result (λ v. (length v.items ≡ links) × ((e : ℕ) → e < links → slice_index v.items e ≡ weight flows.now e)) }
 {
-    let mut loads = vec![in alloc; 0u64; links]?;
+    let mut loads = zeros(alloc, links)?;
     add_flows(&mut loads, flows);
     Ok(loads)
 }
