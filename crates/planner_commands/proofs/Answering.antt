@@ -1,5 +1,5 @@
 -- how what one step comes to is what the run comes to
-use Rattle.std.proofs.Common.{◌≢◌, ℕ, Bool, List, [], Option, Result, Ok, Err, inl, inr}
+use Rattle.std.proofs.Common.{◌≢◌, ℕ, List, [], Option, Result, Ok, Err, inl, inr}
 use Rattle.std.specs.Global.{Global}
 use Rattle.std.specs.Prelude.{String}
 use Rattle.net_core.specs.declared.demand.Demand.{Demand}
@@ -8,6 +8,7 @@ use Rattle.net_core.specs.declared.network.Network.{Network}
 use Rattle.net_core.specs.declared.network.Notes.{Notes}
 use Rattle.net_core.specs.Cases.{Case}
 use Rattle.net_core.specs.Views.{case}
+use Rattle.model_reader.specs.declared.model.Model.{Model}
 use Rattle.outside_io.specs.Outside.{Files}
 use Rattle.planner_commands.specs.Commands.{Command, IsCommand, PlanWords, default}
 use Rattle.planner_commands.specs.Inputs.{Fetched, HasInputs, HasModel, RefusesModelFile, SpellsNetwork, StopsAtFailures, StopsAtFile, StopsAtInputs, input_limit}
@@ -33,11 +34,11 @@ model_ends files w net demands s has =
     (λ status text e. inr (net, demands, has, inl e))
 
 -- a failure list that ends the run
-pub failures_end : (files : Option Files) (w : PlanWords) (net : Network) (demands : List Demand) (reconfigure : Bool) (s : Stop) → Fetched files input_limit w.network SpellsNetwork (net, demands) → HasModel files w reconfigure
-    → Stops (StopsAtFailures files w net.links reconfigure) s → Stops (StopsAtInputs files w) s
-failures_end files w net demands reconfigure s has model =
-    stop_map (StopsAtFailures files w net.links reconfigure) (StopsAtInputs files w) s
-    (λ status text e. inr (net, demands, has, inr (reconfigure, model, e)))
+pub failures_end : (files : Option Files) (w : PlanWords) (net : Network) (demands : List Demand) (model : Model) (s : Stop) → Fetched files input_limit w.network SpellsNetwork (net, demands) → HasModel files w model
+    → Stops (StopsAtFailures files w net.links model.reconfigure) s → Stops (StopsAtInputs files w) s
+failures_end files w net demands model s has is =
+    stop_map (StopsAtFailures files w net.links model.reconfigure) (StopsAtInputs files w) s
+    (λ status text e. inr (net, demands, has, inr (model, is, e)))
 
 -- one of the files that every command has ends the run
 pub inputs_end : (files : Option Files) (w : PlanWords) (EndsWith : Case → Notes → Status → List ℕ → Type 0) (s : Stop) → Stops (StopsAtInputs files w) s → Stops (EndsAfterInputs files w EndsWith) s
@@ -52,6 +53,11 @@ module _ (files : Option Files) (w : PlanWords) (EndsWith : Case → Notes → S
   pub last_ends : (Ends : Status → List ℕ → Type 0) → ((status : Status) (text : List ℕ) → Ends status text → EndsWith (case problem.net problem.states problem.demands) problem.net.notes status text)
       → (s : Stop) → Stops Ends s → Stops (EndsAfterInputs files w EndsWith) s
   last_ends Ends so s = stop_map Ends (EndsAfterInputs files w EndsWith) s (λ status text e. after_inputs status text (so status text e))
+
+  -- it comes to what is answered
+  pub answer_ends : (r : Result Answer Stop) → HasCause (EndsWith (case problem.net problem.states problem.demands) problem.net.notes) r → HasCause (EndsAfterInputs files w EndsWith) r
+  answer_ends (Ok a) h = after_inputs a.status a.text h
+  answer_ends (Err s) h = last_ends (EndsWith (case problem.net problem.states problem.demands) problem.net.notes) (λ status text e. e) s h
 
 -- what a command comes to is what its words come to
 pub command_ends : (words : List (String Global)) (files : Option Files) (c : Command) (r : Result Answer Stop) → IsCommand words c → HasCause (EndsCommand files c) r → HasCause (Ends words files) r

@@ -3,8 +3,8 @@ use Rattle.std.proofs.Common.{◌≡◌, ℕ, List, Result, Err, codes, subst}
 use Rattle.net_core.specs.declared.demand.Demand.{Demand}
 use Rattle.net_core.specs.declared.network.Network.{Network}
 use Rattle.sndlib_reader.specs.Kinds.{kind_word}
-use Rattle.sndlib_reader.specs.Reading.{IsFirstFault}
-use Rattle.sndlib_reader.specs.Spelling as networks
+use Rattle.sndlib_reader.specs.NetworkFiles as networks
+use Rattle.sndlib_reader.specs.NetworkFiles.{IsFirstFault}
 use Rattle.sndlib_reader.specs.declared.fault.ReadKind.{ReadKind}
 use Rattle.text_kit.specs.Answers.{AnswersAs, Fails}
 use Rattle.text_kit.specs.Reading.{Read}

@@ -128,7 +128,7 @@ module _ (p : Case) (notes : Notes) (r : Report) (t : IsTranscript p notes plan_
       let found = is_one (Unsurvivable by serial version position state name) same in
       let named = found.is.4 in
       let first : IsFirstSeparation p state.0 named.place =
-      subst (λ ds. IsFirstSeparation (record { nodes = p.nodes; links = p.links; listed = p.listed; demands = ds }) state.0 named.place) (unmoved found.n) named.first in
+      subst (λ ds. IsFirstSeparation (record { nodes = p.nodes; links = p.links; listed = p.listed; demands = ds; places = p.places }) state.0 named.place) (unmoved found.n) named.first in
       let there : slice_get p.demands named.place ≡ Some named.demand = subst (λ ds. slice_get ds named.place ≡ Some named.demand) (unmoved found.n) named.at in
       let demand : first.separates.demand ≡ named.demand = let here = first.separates.at in cc (here, there) in
       record { place = named.place; first = first; named = ap (λ (d : Demand). d.name) demand ∙ named.named }

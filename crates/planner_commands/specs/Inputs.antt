@@ -3,7 +3,9 @@ use Rattle.std.specs.Prelude.{◌≡◌, ◌≢◌, ℕ, ◌^◌, ◌⊎◌, Boo
 use Rattle.net_core.specs.declared.demand.Demand.{Demand}
 use Rattle.net_core.specs.declared.network.Link.{Link}
 use Rattle.net_core.specs.declared.network.Network.{Network}
+use Rattle.net_core.specs.declared.places.Places.{Places}
 use Rattle.net_core.specs.declared.states.Listed.{Listed}
+use Rattle.net_core.specs.Settled.{settled_links, settled_notes}
 use Rattle.outside_io.specs.Outside.{Fetches, Files}
 use Rattle.outside_io.specs.declared.shelf.Fetch.TheVariants as fetch
 use Rattle.model_reader.specs.Failures as failures
@@ -11,9 +13,10 @@ use Rattle.model_reader.specs.FailuresReading.{failures_of}
 use Rattle.model_reader.specs.FaultWords.{failures_word, model_word}
 use Rattle.model_reader.specs.Models as models
 use Rattle.model_reader.specs.ModelReading.{model_of}
+use Rattle.model_reader.specs.declared.model.Model.{Model}
 use Rattle.sndlib_reader.specs.Kinds.{kind_word}
-use Rattle.sndlib_reader.specs.Reading.{IsFirstFault}
-use Rattle.sndlib_reader.specs.Spelling as networks
+use Rattle.sndlib_reader.specs.NetworkFiles as networks
+use Rattle.sndlib_reader.specs.NetworkFiles.{IsFirstFault}
 use Rattle.plan_report.specs.KnownNames.{KnownNames}
 use Rattle.plan_report.specs.Texts.{SpellsReport}
 use Rattle.report_reader.specs.ReadingReport.{report_of}
@@ -64,20 +67,22 @@ abbrev pub RefusesFailureFile : List Link → List ℕ → List ℕ → Type 0
 RefusesFailureFile links =
     Refuses (failures.SpellsFailures links) (λ bytes at kind. failures_of links bytes ≡ Err (at, kind)) (codes "failures") failures_word
 
--- the bytes spell no script, or no report of this network and these states, and the text names their first fault
-abbrev pub RefusesScriptFile : List ℕ → List ℕ → Type 0
-RefusesScriptFile = Refuses SpellsScript (λ bytes at kind. script_of bytes ≡ Err (at, kind)) (codes "script") script_kind_word
+-- The bytes spell no script with amounts of so many places, or no report of this network and these states, and the text names their
+-- first fault.
+abbrev pub RefusesScriptFile : Places → List ℕ → List ℕ → Type 0
+RefusesScriptFile places =
+    Refuses (SpellsScript places) (λ bytes at kind. script_of places bytes ≡ Err (at, kind)) (codes "script") script_kind_word
 
 abbrev pub RefusesReportFile : KnownNames → List ℕ → List ℕ → Type 0
 RefusesReportFile names =
     Refuses (SpellsReport names) (λ bytes at kind. report_of names bytes ≡ Err (at, kind)) (codes "report") report_kind_word
 
--- Whether the model asks for reconfiguration: by its file; without one, where a failure file is named.
-abbrev pub HasModel : Option Files → PlanWords → Bool → Type 0
-HasModel files w reconfigure =
-    ((w.model ≢ default) × Fetched files input_limit w.model models.SpellsModel (record { reconfigure = reconfigure }))
-    ⊎ ((w.model ≡ default) × (w.failures ≢ default) × (reconfigure ≡ true))
-    ⊎ ((w.model ≡ default) × (w.failures ≡ default) × (reconfigure ≡ false))
+-- The model: that of its file; without one, reconfiguration where a failure file is named, and no setup is charged.
+abbrev pub HasModel : Option Files → PlanWords → Model → Type 0
+HasModel files w model =
+    ((w.model ≢ default) × Fetched files input_limit w.model models.SpellsModel model)
+    ⊎ ((w.model ≡ default) × (w.failures ≢ default) × (model.reconfigure ≡ true) × (model.charge ≡ false))
+    ⊎ ((w.model ≡ default) × (w.failures ≡ default) × (model.reconfigure ≡ false) × (model.charge ≡ false))
 
 -- The listed states: those of the failure file; without one, every single-link failure with reconfiguration, and none without.
 abbrev pub HasStates : Option Files → PlanWords → List Link → Bool → List Listed → Type 0
@@ -97,13 +102,23 @@ StopsAtFailures files w links reconfigure status text =
 abbrev pub StopsAtInputs : Option Files → PlanWords → Status → List ℕ → Type 0
 StopsAtInputs files w status text =
     StopsAtFile files input_limit w.network BadNetwork RefusesNetworkFile status text
-    ⊎ ((net : Network) × (demands : List Demand)
-    × Fetched files input_limit w.network SpellsNetwork (net, demands)
+    ⊎ ((read : Network) × (demands : List Demand)
+    × Fetched files input_limit w.network SpellsNetwork (read, demands)
     × (((w.model ≢ default) × StopsAtFile files input_limit w.model BadModel RefusesModelFile status text)
-    ⊎ ((reconfigure : Bool) × HasModel files w reconfigure × StopsAtFailures files w net.links reconfigure status text)))
+    ⊎ ((model : Model) × HasModel files w model × StopsAtFailures files w read.links model.reconfigure status text)))
 
--- the files spell this network, these demands and these listed states
+-- The network that was read, once the model is known: its setup costs are charged and no longer noted, or they are dropped.
+pub record IsSettled (charge : Bool) (read net : Network) : Type 0 where
+  pub nodes : net.nodes ≡ read.nodes
+  pub links : net.links ≡ settled_links charge read.links
+  pub notes : net.notes ≡ settled_notes charge read.notes
+  pub places : net.places ≡ read.places
+
+-- The files spell this network, settled by their model, these demands and these listed states.
 abbrev pub HasInputs : Option Files → PlanWords → Network → List Demand → List Listed → Type 0
 HasInputs files w net demands listed =
-    Fetched files input_limit w.network SpellsNetwork (net, demands)
-    × ((reconfigure : Bool) × HasModel files w reconfigure × HasStates files w net.links reconfigure listed)
+    (read : Network) × (model : Model)
+    × Fetched files input_limit w.network SpellsNetwork (read, demands)
+    × HasModel files w model
+    × HasStates files w read.links model.reconfigure listed
+    × IsSettled model.charge read net

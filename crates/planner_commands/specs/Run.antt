@@ -4,6 +4,7 @@ use Rattle.std.specs.Global.{Global}
 use Rattle.net_core.specs.declared.demand.Demand.{Demand}
 use Rattle.net_core.specs.declared.network.Network.{Network}
 use Rattle.net_core.specs.declared.network.Notes.{Notes}
+use Rattle.net_core.specs.declared.places.Places.TheVariants.{Three}
 use Rattle.net_core.specs.declared.states.Listed.{Listed}
 use Rattle.net_core.specs.Cases.{Case}
 use Rattle.outside_io.specs.Outside.{Files, Rose, Takes, TakesPrefix}
@@ -91,9 +92,9 @@ EndsPlan p notes status text =
 -- What a session comes to: its script ends the run, or the text is the report of the script's commands, and spells it.
 abbrev pub EndsSession : Option Files → List ℕ → Case → Notes → Status → List ℕ → Type 0
 EndsSession files name p notes status text =
-    StopsAtFile files input_limit name BadScript RefusesScriptFile status text
+    StopsAtFile files input_limit name BadScript (RefusesScriptFile p.places) status text
     ⊎ ((script : Script) × (report : Report)
-    × Fetched files input_limit name SpellsScript script
+    × Fetched files input_limit name (SpellsScript p.places) script
     × (status ≡ Done) × IsPrintedReport p notes script.commands report text × SpellsReport (known_to p) text report)
 
 -- ---- a check
@@ -106,7 +107,7 @@ IsJudged p notes r status text =
     × (text ≡ accepted_line (length r.outcomes)))
     ⊎ ((status ≡ Rejected) × ((outcome : ℕ) × (finding : Finding)
     × IsFirstOfReport notes p r outcome finding
-    × (text ≡ rejected_line p.links r.outcomes outcome finding)))
+    × (text ≡ rejected_line p.places p.links r.outcomes outcome finding)))
 
 -- What a check comes to: its report ends the run, or is judged.
 abbrev pub EndsCheck : Option Files → List ℕ → Case → Notes → Status → List ℕ → Type 0
@@ -139,7 +140,7 @@ raw_lines plan = codes "\nraw " ++ decimal plan.raw_num ++ 32 ∷ decimal plan.r
 abbrev pub summary : ℕ → ℕ → Case → Plan → List ℕ
 summary seed nodes p plan =
     codes "sample " ++ decimal seed ++ 32 ∷ decimal nodes ++ 10 ∷ size_line p
-    ++ codes "cost " ++ money_word plan.cost ++ codes "\nbound " ++ money_word plan.bound ++ raw_lines plan
+    ++ codes "cost " ++ money_word Three plan.cost ++ codes "\nbound " ++ money_word Three plan.bound ++ raw_lines plan
 
 -- the text has the lines of a plan whose report is that of a plan of the case
 pub record IsSummary (seed nodes : ℕ) (p : Case) (notes : Notes) (text : List ℕ) : Type 0 where
@@ -150,13 +151,13 @@ pub record IsSummary (seed nodes : ℕ) (p : Case) (notes : Notes) (text : List 
 -- ---- commands
 
 -- One of the files that every command has ends the run, or they are all read, and it comes to this, of the case that they spell and
--- the network's notes.
+-- the notes of its settled network.
 abbrev pub EndsAfterInputs : Option Files → PlanWords → (Case → Notes → Status → List ℕ → Type 0) → Status → List ℕ → Type 0
 EndsAfterInputs files w EndsWith status text =
     StopsAtInputs files w status text
     ⊎ ((net : Network) × (demands : List Demand) × (listed : List Listed)
     × HasInputs files w net demands listed
-    × EndsWith (record { nodes = net.nodes; links = net.links; listed = listed; demands = demands }) net.notes status text)
+    × EndsWith (record { nodes = net.nodes; links = net.links; listed = listed; demands = demands; places = net.places }) net.notes status text)
 
 -- what a command comes to
 abbrev pub EndsCommand : Option Files → commands.Command → Status → List ℕ → Type 0

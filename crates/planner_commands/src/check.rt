@@ -34,12 +34,14 @@ fn rejected(
     finding: Finding,
 ) -> Result<Answer, NoMemory>
     ensures status { IfOk result (λ a. a.status ≡ Status.Rejected) }
-    ensures text { IfOk result (λ a. a.text ≡ rejected_line problem.now.net.links report.now.outcomes outcome finding) }
+    ensures text { IfOk result (λ a. a.text ≡ rejected_line problem.now.net.places problem.now.net.links report.now.outcomes outcome finding) }
 {
+    let places = problem.net.places();
     let links = problem.net.links().items();
+    let outcomes = report.outcomes.items();
     Ok(Answer {
         status: Status::Rejected,
-        text: rejected_line(alloc, links, report.outcomes.items(), outcome, finding)?,
+        text: rejected_line(alloc, places, links, outcomes, outcome, finding)?,
     })
 }
 

@@ -3,7 +3,7 @@ ghost use Rattle.plan_report.specs.Names.{demand_name, link_name};
 ghost use Rattle.text_kit.specs.Written.{money_word};
 ghost use Rattle.planner_commands.specs.Findings.{demands_of_outcome, demands_there, finding_words, place_words, rejected_line, accepted_line, spaced};
 
-use net_core::{Bytes, Demand, Link, LinkId, List, NoMemory};
+use net_core::{Bytes, Demand, Link, LinkId, List, NoMemory, Places};
 use plan_checker::Finding;
 use plan_types::Outcome;
 use std::alloc::Global;
@@ -50,14 +50,20 @@ fn put_line_pair(text: &mut Bytes, word: &[u8], line: u32, a: u128, b: u128) -> 
 }
 
 /// Puts a word and two amounts of money last.
-fn put_costs(text: &mut Bytes, word: &[u8], a: u128, b: u128) -> Result<(), NoMemory>
-    ensures { OnOk result (text.new ≡ text.old ++ spaced (word.now ∷ money_word a ∷ money_word b ∷ [])) }
+fn put_costs(
+    text: &mut Bytes,
+    places: Places,
+    word: &[u8],
+    a: u128,
+    b: u128,
+) -> Result<(), NoMemory>
+    ensures { OnOk result (text.new ≡ text.old ++ spaced (word.now ∷ money_word places a ∷ money_word places b ∷ [])) }
 {
     put_word(text, word)?;
     text.append(b" ")?;
-    put_money_word(text, a)?;
+    put_money_word(text, places, a)?;
     text.append(b" ")?;
-    put_money_word(text, b)
+    put_money_word(text, places, b)
 }
 
 /// The name of a link; nothing where there is no such link.
@@ -97,14 +103,15 @@ fn put_price(text: &mut Bytes, name: &[u8], place: u32) -> Result<(), NoMemory>
     put_number(text, place as u128)
 }
 
-/// Puts the words of a finding last.
+/// Puts the words of a finding last, with money of so many places.
 fn put_finding(
     text: &mut Bytes,
+    places: Places,
     links: &[Link],
     demands: &[Demand],
     finding: Finding,
 ) -> Result<(), NoMemory>
-    ensures { OnOk result (text.new ≡ text.old ++ spaced (finding_words links.now demands.now finding)) }
+    ensures { OnOk result (text.new ≡ text.old ++ spaced (finding_words places links.now demands.now finding)) }
 {
     match finding {
         Finding::NotesDiffer => put_word(text, b"notes-differ"),
@@ -118,13 +125,13 @@ fn put_finding(
         Finding::BadPath(s, flow) => put_pair(text, b"bad-path", s.0 as u128, flow as u128),
         Finding::NotCarried(s, k) => put_named(text, b"not-carried", s.0, demand_name(demands, k)),
         Finding::Overloaded(s, e) => put_named(text, b"overloaded", s.0, link_name(links, e)),
-        Finding::CostDiffers(a, b) => put_costs(text, b"cost-differs", a, b),
+        Finding::CostDiffers(a, b) => put_costs(text, places, b"cost-differs", a, b),
         Finding::LocalCut(i) => put_numbered(text, b"local-cut", i as u128),
         Finding::RightDiffers(i, a, b) => put_line_pair(text, b"right-differs", i, a, b),
         Finding::PriceExceeded(e, m) => put_price(text, link_name(links, e), m),
         Finding::CertificateWide => put_word(text, b"certificate-wide"),
         Finding::RawDiffers => put_word(text, b"raw-differs"),
-        Finding::BoundDiffers(a, b) => put_costs(text, b"bound-differs", a, b),
+        Finding::BoundDiffers(a, b) => put_costs(text, places, b"bound-differs", a, b),
         Finding::NotTight => put_word(text, b"not-tight"),
     }
 }
@@ -162,20 +169,23 @@ fn put_place(text: &mut Bytes, outcome: u32) -> Result<(), NoMemory>
     put_numbered(text, b"outcome", outcome as u128)
 }
 
-/// The line of a report with this first finding, on the outcome of this number from 1, or on the whole report with 0.
+/// The line of a report with this first finding, on the outcome of this number from 1, or on the whole report with 0. Money has so
+/// many places.
 pub fn rejected_line(
     alloc: Global,
+    places: Places,
     links: &[Link],
     outcomes: &[Outcome],
     outcome: u32,
     finding: Finding,
 ) -> Result<Bytes, NoMemory>
-    ensures { IfOk result (λ text. text ≡ rejected_line links.now outcomes.now outcome finding) }
+    ensures { IfOk result (λ text. text ≡ rejected_line places links.now outcomes.now outcome finding) }
 {
     let mut text = List::new(alloc);
     text.append(b"rejected")?;
     put_place(&mut text, outcome)?;
-    put_finding(&mut text, links, demands_there(outcomes, outcome), finding)?;
+    let demands = demands_there(outcomes, outcome);
+    put_finding(&mut text, places, links, demands, finding)?;
     text.append(b"\n")?;
     Ok(text)
 }

@@ -17,7 +17,7 @@ use crate::refusal::{UnusedFailures, not_fetched, refused};
 use crate::status::Status;
 use crate::words::PlanFiles;
 use model_reader::{
-    FailuresRefusal, ModelRefusal, only_none, read_failures, read_model, single_links,
+    FailuresRefusal, Model, ModelRefusal, only_none, read_failures, read_model, single_links,
 };
 use net_core::{Bytes, Demands, List, Network, NoMemory, Problem, States};
 use outside_io::{Fetch, Shelf};
@@ -63,13 +63,13 @@ fn network_of(alloc: Global, bytes: &[u8]) -> Result<(Network, Demands), Stop>
     }
 }
 
-/// Whether the model that bytes spell asks for reconfiguration.
-fn model_of(alloc: Global, bytes: &[u8]) -> Result<bool, Stop>
-    ensures spelled { IfOk result (λ r. models.SpellsModel bytes.now (record { reconfigure = r })) }
+/// The model that bytes spell.
+fn model_of(alloc: Global, bytes: &[u8]) -> Result<Model, Stop>
+    ensures spelled { IfOk result (models.SpellsModel bytes.now) }
     ensures refused { IfErr result (Stops (λ s text. (s ≡ Status.BadModel) × RefusesModelFile bytes.now text)) }
 {
     match read_model(alloc, bytes) {
-        Ok(model) => Ok(model.reconfigure),
+        Ok(model) => Ok(model),
         Err(ModelRefusal::Bad { at, kind }) => {
             Err(refused(alloc, Status::BadModel, b"model", &kind, at))
         }
@@ -106,14 +106,17 @@ fn load_network<S: Shelf>(
     network_of(alloc, bytes.items())
 }
 
-/// Whether the model asks for reconfiguration. Without a file, a failure file asks for it.
-fn load_model<S: Shelf>(alloc: Global, files: &PlanFiles, shelf: &mut S) -> Result<bool, Stop>
+/// The model. Without a file, a failure file asks for reconfiguration, and no setup is charged.
+fn load_model<S: Shelf>(alloc: Global, files: &PlanFiles, shelf: &mut S) -> Result<Model, Stop>
     ensures has { IfOk result (HasModel (S.files shelf.old) (named files.now)) }
     ensures ends { IfErr result (Stops (λ s text. (files.now.model.now ≢ default) × StopsAtFile (S.files shelf.old) input_limit files.now.model.now Status.BadModel RefusesModelFile s text)) }
     ensures shelf { KeepsShelf S.files S.faults (IsErrOf result Stop.ReadFault) shelf.old shelf.new }
 {
     if files.model == DEFAULT {
-        return Ok(files.failures != DEFAULT);
+        return Ok(Model {
+            reconfigure: files.failures != DEFAULT,
+            charge: false,
+        });
     }
     let bytes = fetch_file(alloc, INPUT_LIMIT, files.model, shelf)?;
     model_of(alloc, bytes.items())
@@ -167,7 +170,8 @@ fn load_states<S: Shelf>(
     load_failures(alloc, files, net, shelf)
 }
 
-/// What the files of a planning spell. They are read one after another, and the first that is not read ends the run.
+/// What the files of a planning spell, with the setup costs of the network's links charged or dropped as the model says. They are
+/// read one after another, and the first that is not read ends the run.
 pub fn load_problem<S: Shelf>(
     alloc: Global,
     files: &PlanFiles,
@@ -178,10 +182,10 @@ pub fn load_problem<S: Shelf>(
     ensures shelf { KeepsShelf S.files S.faults (IsErrOf result Stop.ReadFault) shelf.old shelf.new }
 {
     let (net, demands) = load_network(alloc, files, shelf)?;
-    let reconfigure = load_model(alloc, files, shelf)?;
-    let states = load_states(alloc, files, &net, reconfigure, shelf)?;
+    let model = load_model(alloc, files, shelf)?;
+    let states = load_states(alloc, files, &net, model.reconfigure, shelf)?;
     Ok(Problem {
-        net,
+        net: net.settle(model.charge),
         states,
         demands,
     })

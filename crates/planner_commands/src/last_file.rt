@@ -11,7 +11,7 @@ use crate::answer::Stop;
 use crate::inputs::{INPUT_LIMIT, fetch_file};
 use crate::refusal::refused;
 use crate::status::Status;
-use net_core::Problem;
+use net_core::{Places, Problem};
 use outside_io::Shelf;
 use plan_types::Report;
 use report_reader::{ReportRefusal, read_report};
@@ -21,12 +21,12 @@ use std::alloc::Global;
 /// How many bytes a report may have.
 const REPORT_LIMIT: u64 = 1 << 28;
 
-/// The script that bytes spell.
-fn script_of(alloc: Global, bytes: &[u8]) -> Result<Script, Stop>
-    ensures spelled { IfOk result (SpellsScript bytes.now) }
-    ensures refused { IfErr result (Stops (λ s text. (s ≡ Status.BadScript) × RefusesScriptFile bytes.now text)) }
+/// The script that bytes spell, with amounts of so many places.
+fn script_of(alloc: Global, places: Places, bytes: &[u8]) -> Result<Script, Stop>
+    ensures spelled { IfOk result (SpellsScript places bytes.now) }
+    ensures refused { IfErr result (Stops (λ s text. (s ≡ Status.BadScript) × RefusesScriptFile places bytes.now text)) }
 {
-    match read_script(alloc, bytes) {
+    match read_script(alloc, places, bytes) {
         Ok(script) => Ok(script),
         Err(ScriptRefusal::Bad { at, kind }) => {
             Err(refused(alloc, Status::BadScript, b"script", &kind, at))
@@ -35,14 +35,19 @@ fn script_of(alloc: Global, bytes: &[u8]) -> Result<Script, Stop>
     }
 }
 
-/// The script of a file.
-pub fn load_script<S: Shelf>(alloc: Global, name: &str, shelf: &mut S) -> Result<Script, Stop>
-    ensures has { IfOk result (Fetched (S.files shelf.old) input_limit name.now SpellsScript) }
-    ensures ends { IfErr result (Stops (StopsAtFile (S.files shelf.old) input_limit name.now Status.BadScript RefusesScriptFile)) }
+/// The script of a file, with amounts of so many places.
+pub fn load_script<S: Shelf>(
+    alloc: Global,
+    places: Places,
+    name: &str,
+    shelf: &mut S,
+) -> Result<Script, Stop>
+    ensures has { IfOk result (Fetched (S.files shelf.old) input_limit name.now (SpellsScript places)) }
+    ensures ends { IfErr result (Stops (StopsAtFile (S.files shelf.old) input_limit name.now Status.BadScript (RefusesScriptFile places))) }
     ensures shelf { KeepsShelf S.files S.faults (IsErrOf result Stop.ReadFault) shelf.old shelf.new }
 {
     let bytes = fetch_file(alloc, INPUT_LIMIT, name, shelf)?;
-    script_of(alloc, bytes.items())
+    script_of(alloc, places, bytes.items())
 }
 
 /// The report that bytes spell, of plans for this network and these states.

@@ -1,5 +1,6 @@
 ghost use Rattle.std.specs.Prelude.{◌≡◌, ◌+◌, ◌<◌, ◌++◌, ◌∷◌, [], List, IfOk, codes, decimal, length};
 ghost use Rattle.net_core.specs.declared.demand.Demand.{Demand as Dem};
+ghost use Rattle.net_core.specs.Demands.{AreDemands};
 ghost use Rattle.net_core.specs.Views.{case};
 ghost use Rattle.plan_report.specs.KnownNames.{known_of};
 ghost use Rattle.plan_report.specs.Forms.{IsReportInForm};
@@ -10,7 +11,7 @@ ghost use Rattle.planner_commands.specs.Run.{EndsPlan, plan_commands};
 
 use crate::answer::Answer;
 use crate::status::Status;
-use net_core::{Bytes, List as Items, Name, Network, NoMemory, Problem, StateId, States};
+use net_core::{Bytes, Demands, List as Items, Name, Network, NoMemory, Problem, StateId, States};
 use outside_io::Gate;
 use plan_report::write_report;
 use plan_types::{Outcome, Report};
@@ -120,6 +121,23 @@ fn answer_report(
     answer_outcome(alloc, net, states, report, &report.outcomes.items()[0])
 }
 
+/// The report of a plan for these demands, or the line of the first of them that a state separates. It may never return.
+fn answer_demands<R: Threads + Wait + Sync, G: Gate + Sync>(
+    rt: &R,
+    alloc: Global,
+    net: &Network,
+    states: &States,
+    demands: Demands,
+    gate: &G,
+) -> Result<Answer, NoMemory>
+    requires { AreDemands (length net.now.nodes) demands }
+    ensures { IfOk result (λ a. EndsPlan (case net.now states.now demands) net.now.notes a.status a.text) }
+{
+    let script = single_plan(alloc)?;
+    let report = run_session(rt, alloc, net, states, demands, &script, gate)?;
+    answer_report(alloc, net, states, &report)
+}
+
 /// The report of a plan of a problem, or the line of the first demand that a state separates. It may never return.
 pub fn answer_plan<R: Threads + Wait + Sync, G: Gate + Sync>(
     rt: &R,
@@ -134,7 +152,5 @@ pub fn answer_plan<R: Threads + Wait + Sync, G: Gate + Sync>(
         states,
         demands,
     } = problem;
-    let script = single_plan(alloc)?;
-    let report = run_session(rt, alloc, &net, &states, demands, &script, gate)?;
-    answer_report(alloc, &net, &states, &report)
+    answer_demands(rt, alloc, &net, &states, demands, gate)
 }

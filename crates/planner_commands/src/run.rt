@@ -1,8 +1,9 @@
 ghost use Rattle.std.specs.Prelude.{◌≡◌, ℕ, List, ◌≤◌, IfOk, IsErrOf};
+ghost use Rattle.net_core.specs.Views.{case};
 ghost use Rattle.sample_net.specs.Samples.{no_notes};
 ghost use Rattle.planner_commands.specs.Commands as commands;
 ghost use Rattle.planner_commands.specs.Commands.{usage};
-ghost use Rattle.planner_commands.specs.Run.{Ends, EndsCommand, IsSummary, KeepsShelf, PutsText, sample_case};
+ghost use Rattle.planner_commands.specs.Run.{Ends, EndsCheck, EndsCommand, IsSummary, KeepsShelf, PutsText, sample_case};
 ghost use Rattle.planner_commands.specs.inner.Steps.{HasCause, named};
 ghost use Rattle.planner_commands.specs.declared.status.Status.{Status};
 
@@ -17,7 +18,7 @@ use crate::sample::answer_sample;
 use crate::session::answer_session;
 use crate::status::Status;
 use crate::words::{Command, FourFiles, PlanFiles, SampleWords};
-use net_core::{List, NoMemory};
+use net_core::{List, NoMemory, Problem};
 use outside_io::{Gate, Shelf, Sink};
 use std::alloc::Global;
 use std::sync::Wait;
@@ -64,8 +65,22 @@ fn session_files<Rt: Threads + Wait + Sync, S: Shelf, G: Gate + Sync>(
     ensures shelf { KeepsShelf S.files S.faults (IsErrOf result Stop.ReadFault) shelf.old shelf.new }
 {
     let problem = load_problem(alloc, &four.files, shelf)?;
-    let script = load_script(alloc, four.last, shelf)?;
+    let script = load_script(alloc, problem.net.places(), four.last, shelf)?;
     Ok(answer_session(rt, alloc, problem, &script, gate)?)
+}
+
+/// The answer to a check of this report of plans for a problem.
+fn check_file<S: Shelf>(
+    alloc: Global,
+    problem: &Problem,
+    name: &str,
+    shelf: &mut S,
+) -> Result<Answer, Stop>
+    ensures ends { HasCause (EndsCheck (S.files shelf.old) name.now (case problem.now.net problem.now.states problem.now.demands) problem.now.net.notes) result }
+    ensures shelf { KeepsShelf S.files S.faults (IsErrOf result Stop.ReadFault) shelf.old shelf.new }
+{
+    let report = load_report(alloc, problem, name, shelf)?;
+    Ok(answer_check(alloc, problem, &report)?)
 }
 
 /// The answer to a check of these files.
@@ -74,8 +89,7 @@ fn check_files<S: Shelf>(alloc: Global, four: &FourFiles, shelf: &mut S) -> Resu
     ensures shelf { KeepsShelf S.files S.faults (IsErrOf result Stop.ReadFault) shelf.old shelf.new }
 {
     let problem = load_problem(alloc, &four.files, shelf)?;
-    let report = load_report(alloc, &problem, four.last, shelf)?;
-    Ok(answer_check(alloc, &problem, &report)?)
+    check_file(alloc, &problem, four.last, shelf)
 }
 
 /// The answer to a sample of these words.

@@ -1,5 +1,6 @@
 ghost use Rattle.std.specs.Prelude.{◌≡◌, ◌≤◌, ◌+◌, ◌++◌, ◌∷◌, [], IfOk, OnOk, codes, decimal, length};
 ghost use Rattle.net_core.specs.Demands.{AreDemands};
+ghost use Rattle.net_core.specs.declared.places.Places.TheVariants.{Three};
 ghost use Rattle.net_core.specs.Views.{case_of};
 ghost use Rattle.plan_terms.specs.Separations.{IsSurvivable};
 ghost use Rattle.sample_net.specs.Samples.{no_notes, sample_demands, sample_links, sample_nodes, with_single_failures};
@@ -12,7 +13,7 @@ ghost use Rattle.plan_types.specs.declared.report.Outcome.TheVariants.{Planned};
 use crate::answer::Answer;
 use crate::status::Status;
 use model_reader::single_links;
-use net_core::{Bytes, Copied, Demands, Instance, List, Network, NoMemory};
+use net_core::{Bytes, Copied, Demands, Instance, List, Network, NoMemory, Places};
 use outside_io::OpenGate;
 use plan_types::{Outcome, Plan, Quality, Report};
 use sample_net::{network_text, sample};
@@ -31,12 +32,12 @@ fn put_counted(text: &mut Bytes, words: &[u8], n: u128) -> Result<(), NoMemory>
     put_decimal(text, n)
 }
 
-/// Puts words and money last.
+/// Puts words and money of three places last.
 fn put_cost(text: &mut Bytes, words: &[u8], n: u128) -> Result<(), NoMemory>
-    ensures { OnOk result (text.new ≡ text.old ++ words.now ++ money_word n) }
+    ensures { OnOk result (text.new ≡ text.old ++ words.now ++ money_word Three n) }
 {
     text.append(words)?;
-    put_money_word(text, n)
+    put_money_word(text, Places::Three, n)
 }
 
 /// The sample network of a seed and its demands, as its text is read back.
@@ -45,6 +46,7 @@ fn read_back(alloc: Global, seed: u64, nodes: u32) -> Result<(Network, Demands),
     ensures nodes { IfOk result (λ read. read.0.nodes ≡ sample_nodes nodes) }
     ensures links { IfOk result (λ read. read.0.links ≡ sample_links seed nodes) }
     ensures notes { IfOk result (λ read. read.0.notes ≡ no_notes) }
+    ensures places { IfOk result (λ read. read.0.places ≡ Three) }
     ensures demands { IfOk result (λ read. read.1 ≡ sample_demands seed nodes) }
     ensures belong { IfOk result (λ read. AreDemands (length read.0.nodes) read.1) }
     ensures survivable { IfOk result (λ read. IsSurvivable (with_single_failures read.0.nodes read.0.links read.1)) }
@@ -149,6 +151,27 @@ fn summarized(
     })
 }
 
+/// The report of one plan command. It may never return.
+fn planned<R: Threads + Wait + Sync>(
+    rt: &R,
+    alloc: Global,
+    instance: &Instance,
+) -> Result<Report, NoMemory>
+    ensures { IfOk result (IsTranscript (case_of instance.now) instance.now.net.now.notes plan_commands) }
+{
+    let script = single_plan(alloc)?;
+    let demands = instance.demands.copy()?;
+    run_session(
+        rt,
+        alloc,
+        instance.net,
+        instance.states,
+        demands,
+        &script,
+        &OpenGate,
+    )
+}
+
 /// The summary of the plan of a sample, with each single-link failure. Nobody is held: a sample has one caller. It may never return.
 pub fn answer_sample<R: Threads + Wait + Sync>(
     rt: &R,
@@ -162,20 +185,11 @@ pub fn answer_sample<R: Threads + Wait + Sync>(
 {
     let (net, demands) = read_back(alloc, seed, nodes)?;
     let states = single_links(alloc, &net)?;
-    let script = single_plan(alloc)?;
-    let report = run_session(
-        rt,
-        alloc,
-        &net,
-        &states,
-        demands.copy()?,
-        &script,
-        &OpenGate,
-    )?;
     let instance = Instance {
         net: &net,
         states: &states,
         demands: &demands,
     };
+    let report = planned(rt, alloc, &instance)?;
     summarized(alloc, seed, nodes, &instance, &report)
 }

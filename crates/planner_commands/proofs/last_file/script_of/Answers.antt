@@ -9,5 +9,5 @@ use Rattle.planner_commands.proofs.last_file.script_of.Goals as goal
 
 pub returns-in-Err-Bad-clause-refused : goal.returns-in-Err-Bad-clause-refused
 returns-in-Err-Bad-clause-refused c =
-    reading_refused (λ (script : Script). script) SpellsScript script_of (codes "script") script_kind_word BadScript c.args.bytes.now c.in-Err-Bad.field-0 c.in-Err-Bad.at c.in-Err-Bad.kind c.refused.result
+    reading_refused (λ (script : Script). script) (SpellsScript c.args.places) (script_of c.args.places) (codes "script") script_kind_word BadScript c.args.bytes.now c.in-Err-Bad.field-0 c.in-Err-Bad.at c.in-Err-Bad.kind c.refused.result
     c.in-Err-Bad.field-0-is c.in-Err-Bad.ensures.only c.in-Err-Bad.ensures.exact c.refused.ensures

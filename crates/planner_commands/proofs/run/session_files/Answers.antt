@@ -1,4 +1,4 @@
-use Rattle.std.proofs.Common.{inl, inr}
+use Rattle.std.proofs.Common.{inl, inr, subst}
 use Rattle.std.proofs.lemmas.Result.{err_from_is_err_and}
 use Rattle.planner_commands.specs.Inputs.{RefusesScriptFile, StopsAtFile, input_limit}
 use Rattle.planner_commands.specs.Run.{EndsSession}
@@ -13,7 +13,8 @@ returns-in_err-script-clause-ends g c =
     let files = g.S.Shelf.files c.args.shelf.now in
     let name = c.args.four.now.last.now in
     rw (p.1, p.2) (last_ends files (named c.args.four.now.files) (EndsSession files name) c.in_ok-problem.problem c.in_ok-problem.ensures.has
-    (StopsAtFile files input_limit name BadScript RefusesScriptFile) (λ status text e. inl e)
+    (StopsAtFile files input_limit name BadScript (RefusesScriptFile c.places.result))
+    (λ status text e. inl (subst (λ p. StopsAtFile files input_limit name BadScript (RefusesScriptFile p) status text) c.places.ensures e))
     c.in_err-script.field-0.0 (rw c.in_ok-problem.ensures.shelf.same at c.in_err-script.ensures.ends))
 
 pub returns-clause-ends : goal.returns-clause-ends
@@ -25,7 +26,7 @@ returns-clause-ends g c =
     (inr (
       c.in_ok-script.script,
       report.0,
-      rw c.in_ok-problem.ensures.shelf.same at c.in_ok-script.ensures.has,
+      rw (c.places.ensures, c.in_ok-problem.ensures.shelf.same) at c.in_ok-script.ensures.has,
       c.in_ok-answer_session.ensures.status,
       report.1,
       report.2,

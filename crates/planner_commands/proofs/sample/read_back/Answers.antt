@@ -1,5 +1,5 @@
 use Rattle.std.proofs.Common.{◌∙◌, Err, ap, subst, sym}
-use Rattle.sndlib_reader.specs.Spelling.{Spells}
+use Rattle.sndlib_reader.specs.NetworkFiles.{Spells}
 use Rattle.planner_commands.proofs.Sampled.{survives_same}
 use Rattle.planner_commands.proofs.sample.read_back.Goals as goal
 
@@ -24,19 +24,26 @@ returns-in-Ok-clause-notes c =
     let same = c.in-Ok.ensures.only net demands (subst (λ bytes. Spells bytes net demands) (sym c.items.ensures) c.in_ok-text.ensures.spelled) in
     sym same.2 ∙ c.in_ok-net.ensures.notes
 
+pub returns-in-Ok-clause-places : goal.returns-in-Ok-clause-places
+returns-in-Ok-clause-places c =
+    let net = c.in_ok-net.net in
+    let demands = c.in_ok-net.demands in
+    let same = c.in-Ok.ensures.only net demands (subst (λ bytes. Spells bytes net demands) (sym c.items.ensures) c.in_ok-text.ensures.spelled) in
+    sym same.3 ∙ c.in_ok-net.ensures.places
+
 pub returns-in-Ok-clause-demands : goal.returns-in-Ok-clause-demands
 returns-in-Ok-clause-demands c =
     let net = c.in_ok-net.net in
     let demands = c.in_ok-net.demands in
     let same = c.in-Ok.ensures.only net demands (subst (λ bytes. Spells bytes net demands) (sym c.items.ensures) c.in_ok-text.ensures.spelled) in
-    sym same.3 ∙ c.in_ok-net.ensures.demands
+    sym same.4 ∙ c.in_ok-net.ensures.demands
 
 pub returns-in-Ok-clause-survivable : goal.returns-in-Ok-clause-survivable
 returns-in-Ok-clause-survivable c =
     let net = c.in_ok-net.net in
     let demands = c.in_ok-net.demands in
     let same = c.in-Ok.ensures.only net demands (subst (λ bytes. Spells bytes net demands) (sym c.items.ensures) c.in_ok-text.ensures.spelled) in
-    survives_same net.nodes c.in-Ok.read.0.nodes net.links c.in-Ok.read.0.links demands c.in-Ok.read.1 same.0 same.1 same.3 c.in_ok-net.ensures.survivable
+    survives_same net.nodes c.in-Ok.read.0.nodes net.links c.in-Ok.read.0.links demands c.in-Ok.read.1 same.0 same.1 same.4 c.in_ok-net.ensures.survivable
 
 pub unreachable-requires : goal.unreachable-requires
 unreachable-requires c =
