@@ -7,8 +7,10 @@ use std::thread::Threads;
 /// tight it is.
 type Accepted = (&'static str, &'static str, &'static str, &'static str);
 
-/// Plans whose reports are read again.
-const ACCEPTED: [Accepted; 10] = [
+/// Plans whose reports are read again. The bound of the measured network is that of bench/reading/matrix.py. In the last one the search
+/// for a better bound ends where a number grows wide, and the plan costs what the fallback does: a module on the first link, and one on
+/// the second for where that fails.
+const ACCEPTED: [Accepted; 18] = [
     (
         "plan triangle reconfigure",
         "check triangle reconfigure default report",
@@ -69,6 +71,54 @@ const ACCEPTED: [Accepted; 10] = [
         "cost 15.000 bound 15.000 raw 12000 1 ",
         ")\ntight 1 ( 0 0 12000 )\n",
     ),
+    (
+        "plan setups charge",
+        "check setups charge default report",
+        "cost 13.000 bound 6.000 raw 6000 1 ",
+        ")\ntight 1 ( 0 0 6000 )\n",
+    ),
+    (
+        "plan setups charge-all",
+        "check setups charge-all default report",
+        "cost 39.000 bound 18.000 raw 18000 1 ",
+        ")\ntight 1 ( 6000 6000 6000 )\n",
+    ),
+    (
+        "plan other-setups charge",
+        "check other-setups charge default report",
+        "cost 17.500 bound 7.500 raw 6000 1 ",
+        ")\ntight 1 ( 0 0 6000 )\n",
+    ),
+    (
+        "plan held charge",
+        "check held charge default report",
+        "cost 0.000 bound 0.000 raw 0 1 ",
+        ")\ntight 1 ( 0 0 0 )\n",
+    ),
+    (
+        "plan finer",
+        "check finer default default report",
+        "cost 10.000000 bound 10.000000 raw 6000050 1 ",
+        ")\ntight 1 ( 0 0 6000050 )\n",
+    ),
+    (
+        "session finer default default finer-script",
+        "check finer default default report",
+        "cost 15.000000 bound 15.000000 raw 12000001 1 ",
+        ")\ntight 1 ( 0 0 12000001 )\n",
+    ),
+    (
+        "plan measured",
+        "check measured default default report",
+        " bound 9075.000000 raw ",
+        ")\ntight ",
+    ),
+    (
+        "plan prime default single",
+        "check prime default single report",
+        "cost 20.016 bound ",
+        ")\nloose wide master ( ",
+    ),
 ];
 
 /// Whether a run is done, and its report says this.
@@ -93,18 +143,4 @@ fn a_printed_report_is_accepted(rt: HostRuntime) {
     for row in &ACCEPTED {
         assert!(rt; is_accepted(&rt, row), "{}", row.0);
     }
-}
-
-/// A plan whose search for a better bound ends where a number grows wide. It costs what the fallback does: a module on the first link, and
-/// one on the second for where that fails.
-const LOOSE: Accepted = (
-    "plan prime default single",
-    "check prime default single report",
-    "cost 20.016 bound ",
-    ")\nloose wide master ( ",
-);
-
-#[test]
-fn a_report_of_a_loose_plan_is_accepted(rt: HostRuntime) {
-    assert!(rt; is_accepted(&rt, &LOOSE));
 }

@@ -1,4 +1,4 @@
-use crate::plans::TRIANGLE_REPORT;
+use crate::plans::{CHARGED_REPORT, FINER_REPORT, NOTED_REPORT, RAISED_REPORT, TRIANGLE_REPORT};
 use crate::runs::{replaced, run_words};
 use planner_commands::status::Status;
 use std::sync::Wait;
@@ -179,89 +179,14 @@ const VALUES: [Change; 29] = [
     ("MODULES ( AB", "MODULES ( A", "unknown-name at 238"),
 ];
 
-/// Changes of the spelling, and of the caller and the number of its plan, which are free.
+/// Changes of the spelling, and of the caller and the number of its plan, which are free. There is one outcome.
 const SPELLINGS: [Change; 5] = [
-    ("NOTES ( )", "NOTES  (\t)", ""),
-    ("NOTES ( )", "# a note\nNOTES()", ""),
-    ("12.000 )", "0012.00000 )", ""),
-    ("cost 10.000", "cost 10", ""),
-    ("caller 1 plan 1", "caller 8 plan 64", ""),
+    ("NOTES ( )", "NOTES  (\t)", "1"),
+    ("NOTES ( )", "# a note\nNOTES()", "1"),
+    ("12.000 )", "0012.00000 )", "1"),
+    ("cost 10.000", "cost 10", "1"),
+    ("caller 1 plan 1", "caller 8 plan 64", "1"),
 ];
-
-/// The words of a check of the triangle's report, and how many files they fetch.
-const TRIANGLE: (&str, u32) = ("check triangle default default report", 2);
-
-/// Whether a check of a report after a change, whose words fetch so many files, ends with this status and a line that begins so.
-fn says<R: AllocGlobal + Threads + Wait + Sync>(
-    rt: &R,
-    check: (&str, u32),
-    report: &str,
-    change: &Change,
-    line: (&str, Status),
-) -> bool {
-    let (part, by, end) = *change;
-    let Some(text) = replaced(rt.alloc(), report, part, by) else {
-        return false;
-    };
-    let files = [("report", text.items())];
-    match run_words(rt, check.0, &files, &[check.1], &[]) {
-        Some(run) => run.is_line(line.1, line.0, end),
-        None => false,
-    }
-}
-
-#[test]
-fn a_damaged_report_is_found_out(rt: HostRuntime) {
-    let whole = ("rejected ", Status::Rejected);
-    for change in &JOURNALS {
-        assert!(rt;
-            says(&rt, TRIANGLE, TRIANGLE_REPORT, change, whole),
-            "{}",
-            change.1
-        );
-    }
-    let first = ("rejected outcome 1 ", Status::Rejected);
-    for changes in [&PLANS[..], &BOUNDS[..]] {
-        for change in changes {
-            assert!(rt;
-                says(&rt, TRIANGLE, TRIANGLE_REPORT, change, first),
-                "{}",
-                change.1
-            );
-        }
-    }
-}
-
-#[test]
-fn a_text_that_is_no_report_is_refused_at_its_first_fault(rt: HostRuntime) {
-    let refused = ("refused report ", Status::BadReport);
-    for changes in [&FORMS[..], &VALUES[..]] {
-        for change in changes {
-            assert!(rt;
-                says(&rt, TRIANGLE, TRIANGLE_REPORT, change, refused),
-                "{}",
-                change.1
-            );
-        }
-    }
-}
-
-#[test]
-fn a_report_is_accepted_however_it_is_spelled(rt: HostRuntime) {
-    for change in &SPELLINGS {
-        assert!(rt;
-            says(
-                &rt,
-                TRIANGLE,
-                TRIANGLE_REPORT,
-                change,
-                ("accepted 1", Status::Done)
-            ),
-            "{}",
-            change.1
-        );
-    }
-}
 
 /// A report of the triangle with every single-link failure.
 const RECONFIGURED: &str = "?planner report; version: 1
@@ -288,18 +213,148 @@ const CERTIFICATES: [Change; 3] = [
     ),
 ];
 
+/// Changes of a report whose setup costs are charged, which are found: one setup too many or too few, a module that pays one, and a note.
+const CHARGED: [Change; 4] = [
+    ("cost 13.000", "cost 16.000", "cost-differs 16.000 13.000"),
+    ("cost 13.000", "cost 10.000", "cost-differs 10.000 13.000"),
+    ("AB ( 0 )", "AB ( 1 )", "cost-differs 13.000 21.000"),
+    ("bound 6.000", "bound 10.000", "bound-differs 10.000 6.000"),
+];
+
+/// Changes of a report whose setup costs are noted, which are found.
+const NOTED: [Change; 1] = [("cost 10.000", "cost 13.000", "cost-differs 13.000 10.000")];
+
+/// Changes of a report in millionths, which are found.
+const FINER: [Change; 2] = [
+    (
+        "cost 10.000000",
+        "cost 10.000001",
+        "cost-differs 10.000001 10.000000",
+    ),
+    (
+        "D1 12000100 ( AC )",
+        "D1 12000099 ( AC )",
+        "not-carried 0 D1",
+    ),
+];
+
+/// Changes after which a text is no report of a network in millionths.
+const FINER_FORMS: [Change; 3] = [
+    ("version: 2", "version: 1", "header at 0"),
+    ("12.000100", "12.0001001", "number-fine at 186"),
+    ("12.000100", "1099511.627776", "number-large at 186"),
+];
+
+/// Changes of the cost of a link's first module in the second of two plans, which are found: no setup, and two.
+const RAISED: [Change; 2] = [
+    ("cost 8.000", "cost 5.000", "cost-differs 5.000 8.000"),
+    ("cost 8.000", "cost 11.000", "cost-differs 11.000 8.000"),
+];
+
+/// A report as it is, of one plan.
+const UNCHANGED: [Change; 1] = [("", "", "1")];
+
+/// A report as it is, of two plans.
+const BOTH_UNCHANGED: [Change; 1] = [("", "", "2")];
+
+/// A report as it is, whose notes lack that of the setup costs.
+const UNCHANGED_NOTES: [Change; 1] = [("", "", "notes-differ")];
+
+/// A report as it is, of a network with other places.
+const OTHER_PLACES: [Change; 1] = [("", "", "header at 0")];
+
+/// The words of a check, and how many files they fetch.
+type Check = (&'static str, u32);
+
+const OF_TRIANGLE: Check = ("check triangle default default report", 2);
+
+const OF_RECONFIGURED: Check = ("check triangle reconfigure default report", 3);
+
+const OF_CHARGED: Check = ("check setups charge default report", 3);
+
+const OF_NOTED: Check = ("check setups default default report", 2);
+
+const OF_HELD: Check = ("check held charge default report", 3);
+
+const OF_FINER: Check = ("check finer default default report", 2);
+
+const OF_PARALLEL: Check = ("check parallel default single report", 3);
+
+/// How the line of a check begins, and its status.
+type Line = (&'static str, Status);
+
+const WHOLE: Line = ("rejected ", Status::Rejected);
+
+const FIRST: Line = ("rejected outcome 1 ", Status::Rejected);
+
+const SECOND: Line = ("rejected outcome 2 ", Status::Rejected);
+
+const REFUSED: Line = ("refused report ", Status::BadReport);
+
+const ACCEPTED: Line = ("accepted ", Status::Done);
+
+/// A check of a report after each of some changes, and the line that it comes to.
+type Damages = (Check, &'static str, &'static [Change], Line);
+
+const DAMAGES: [Damages; 16] = [
+    (OF_TRIANGLE, TRIANGLE_REPORT, &JOURNALS, WHOLE),
+    (OF_TRIANGLE, TRIANGLE_REPORT, &PLANS, FIRST),
+    (OF_TRIANGLE, TRIANGLE_REPORT, &BOUNDS, FIRST),
+    (OF_TRIANGLE, TRIANGLE_REPORT, &FORMS, REFUSED),
+    (OF_TRIANGLE, TRIANGLE_REPORT, &VALUES, REFUSED),
+    (OF_TRIANGLE, TRIANGLE_REPORT, &SPELLINGS, ACCEPTED),
+    (OF_RECONFIGURED, RECONFIGURED, &UNCHANGED, ACCEPTED),
+    (OF_RECONFIGURED, RECONFIGURED, &CERTIFICATES, FIRST),
+    (OF_CHARGED, CHARGED_REPORT, &CHARGED, FIRST),
+    (OF_NOTED, NOTED_REPORT, &NOTED, FIRST),
+    (OF_NOTED, CHARGED_REPORT, &UNCHANGED_NOTES, WHOLE),
+    (OF_HELD, RAISED_REPORT, &BOTH_UNCHANGED, ACCEPTED),
+    (OF_HELD, RAISED_REPORT, &RAISED, SECOND),
+    (OF_FINER, FINER_REPORT, &FINER, FIRST),
+    (OF_FINER, FINER_REPORT, &FINER_FORMS, REFUSED),
+    (OF_FINER, TRIANGLE_REPORT, &OTHER_PLACES, REFUSED),
+];
+
+/// Whether a check of a report after a change, whose words fetch so many files, ends with this status and a line that begins so.
+fn says<R: AllocGlobal + Threads + Wait + Sync>(
+    rt: &R,
+    check: Check,
+    report: &str,
+    change: &Change,
+    line: Line,
+) -> bool {
+    let (part, by, end) = *change;
+    let Some(text) = replaced(rt.alloc(), report, part, by) else {
+        return false;
+    };
+    let files = [("report", text.items())];
+    match run_words(rt, check.0, &files, &[check.1], &[]) {
+        Some(run) => run.is_line(line.1, line.0, end),
+        None => false,
+    }
+}
+
+/// The first change after which a check of a report, whose words fetch so many files, doesn't end with this status and a line that
+/// begins so.
+fn first_unlike<R: AllocGlobal + Threads + Wait + Sync>(
+    rt: &R,
+    check: Check,
+    report: &str,
+    changes: &[Change],
+    line: Line,
+) -> Option<&'static str> {
+    for change in changes {
+        if !says(rt, check, report, change, line) {
+            return Some(change.1);
+        }
+    }
+    None
+}
+
 #[test]
-fn a_check_tells_the_first_finding(rt: HostRuntime) {
-    let check = ("check triangle reconfigure default report", 3);
-    let accepted = ("accepted ", Status::Done);
-    assert!(rt; says(&rt, check, RECONFIGURED, &("", "", "1"), accepted));
-    for change in &CERTIFICATES {
-        let rejected = ("rejected outcome 1 ", Status::Rejected);
-        assert!(rt;
-            says(&rt, check, RECONFIGURED, change, rejected),
-            "{}",
-            change.1
-        );
+fn a_changed_report_is_found_out_refused_or_accepted(rt: HostRuntime) {
+    for (check, report, changes, line) in &DAMAGES {
+        assert_eq!(rt; first_unlike(&rt, *check, report, changes, *line), None);
     }
 }
 
@@ -326,14 +381,7 @@ const OTHER_CERTIFICATES: [Change; 2] = [
 #[test]
 fn a_damaged_certificate_is_rejected(rt: HostRuntime) -> Result<(), Fail> {
     let plan = run_words(&rt, "plan parallel default single", &[], &[], &[]).ok_or("no run")?;
-    let check = ("check parallel default single report", 3);
-    let rejected = ("rejected outcome 1 ", Status::Rejected);
-    for change in &OTHER_CERTIFICATES {
-        assert!(rt;
-            says(&rt, check, plan.text(), change, rejected),
-            "{}",
-            change.2
-        );
-    }
+    let unlike = first_unlike(&rt, OF_PARALLEL, plan.text(), &OTHER_CERTIFICATES, FIRST);
+    assert_eq!(rt; unlike, None);
     Ok(())
 }

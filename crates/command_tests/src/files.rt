@@ -1,3 +1,4 @@
+use crate::measured::MEASURED;
 use net_core::{List, Name};
 use outside_io::MemFile;
 use std::alloc::Global;
@@ -37,6 +38,41 @@ const FREE_TRIANGLE: &[u8] = b"?SNDlib native format; type: network; version: 1.
 NODES ( A B C )
 LINKS ( AB ( A B ) 0 0 0 0 ( 10.00 0.00 ) BC ( B C ) 0 0 0 0 ( 10.00 0.00 ) AC ( A C ) 0 0 0 0 ( 10.00 0.00 ) )
 DEMANDS ( D1 ( A C ) 1 12.00 UNLIMITED )
+";
+
+/// The triangle where the first module of a link has a setup cost.
+const SETUPS: &[u8] = b"?SNDlib native format; type: network; version: 1.0
+NODES ( A B C )
+LINKS ( AB ( A B ) 0 0 0 3.00 ( 10.00 5.00 ) BC ( B C ) 0 0 0 3.00 ( 10.00 5.00 ) AC ( A C ) 0 0 0 3.00 ( 10.00 5.00 ) )
+DEMANDS ( D1 ( A C ) 1 12.00 UNLIMITED )
+";
+
+/// The triangle with another setup cost for each link.
+const OTHER_SETUPS: &[u8] = b"?SNDlib native format; type: network; version: 1.0
+NODES ( A B C )
+LINKS ( AB ( A B ) 0 0 0 2.50 ( 10.00 5.00 ) BC ( B C ) 0 0 0 5.00 ( 10.00 5.00 ) AC ( A C ) 0 0 0 7.50 ( 10.00 5.00 ) )
+DEMANDS ( D1 ( A C ) 1 12.00 UNLIMITED )
+";
+
+/// The triangle with setup costs, where the pre-installed capacity of one link carries the demand.
+const HELD_WITH_SETUPS: &[u8] = b"?SNDlib native format; type: network; version: 1.0
+NODES ( A B C )
+LINKS ( AB ( A B ) 0 0 0 3.00 ( 10.00 5.00 ) BC ( B C ) 0 0 0 3.00 ( 10.00 5.00 ) AC ( A C ) 12.00 0 0 3.00 ( 10.00 5.00 ) )
+DEMANDS ( D1 ( A C ) 1 12.00 UNLIMITED )
+";
+
+/// The triangle with a demand of four decimals, so that all is in millionths.
+const FINER_TRIANGLE: &[u8] = b"?SNDlib native format; type: network; version: 1.0
+NODES ( A B C )
+LINKS ( AB ( A B ) 0 0 0 0 ( 10.00 5.00 ) BC ( B C ) 0 0 0 0 ( 10.00 5.00 ) AC ( A C ) 0 0 0 0 ( 10.00 5.00 ) )
+DEMANDS ( D1 ( A C ) 1 12.0001 UNLIMITED )
+";
+
+/// An amount that is too large in millionths, before one that asks for them.
+const LARGE_BEFORE_FINE: &[u8] = b"?SNDlib native format; type: network; version: 1.0
+NODES ( A B )
+LINKS ( L ( A B ) 0 0 0 0 ( 2000000 5.00 ) )
+DEMANDS ( D1 ( A B ) 1 0.0001 UNLIMITED )
 ";
 
 /// The triangle with a further link that has no module.
@@ -148,6 +184,28 @@ HOP_LIMIT_MODEL = NO
 SURVIVABILITY_MODEL = NO_SURVIVABILITY
 ";
 
+const CHARGE: &[u8] = b"?SNDlib native format; type: model; version: 1.0
+DEMAND_MODEL = UNDIRECTED
+LINK_MODEL = UNDIRECTED
+LINK_CAPACITY_MODEL = MODULAR_CAPACITIES
+FIXED_CHARGE_MODEL = YES
+ROUTING_MODEL = CONTINUOUS
+ADMISSIBLE_PATH_MODEL = ALL_PATHS
+HOP_LIMIT_MODEL = NO
+SURVIVABILITY_MODEL = NO_SURVIVABILITY
+";
+
+const CHARGE_AND_RECONFIGURE: &[u8] = b"?SNDlib native format; type: model; version: 1.0
+DEMAND_MODEL = UNDIRECTED
+LINK_MODEL = UNDIRECTED
+LINK_CAPACITY_MODEL = MODULAR_CAPACITIES
+FIXED_CHARGE_MODEL = YES
+ROUTING_MODEL = CONTINUOUS
+ADMISSIBLE_PATH_MODEL = ALL_PATHS
+HOP_LIMIT_MODEL = NO
+SURVIVABILITY_MODEL = UNRESTRICTED_FLOW_RECONFIGURATION
+";
+
 const HOP_LIMITS: &[u8] = b"?SNDlib native format; type: model; version: 1.0
 HOP_LIMIT_MODEL = INDIVIDUAL
 ";
@@ -173,6 +231,20 @@ caller 1 plan
 caller 1 add D2 ( A X ) 1
 ";
 
+/// Needs of six decimals.
+const FINER_SCRIPT: &[u8] = b"?planner script; version: 1
+caller 1 set D1 24.000002
+caller 1 plan
+caller 1 add D2 ( A X ) 0.000001
+";
+
+/// A demand that outgrows the pre-installed capacity.
+const RAISED: &[u8] = b"?planner script; version: 1
+caller 1 plan
+caller 1 set D1 13
+caller 1 plan
+";
+
 const NO_COMMANDS: &[u8] = b"?planner script; version: 1
 ";
 
@@ -184,7 +256,7 @@ caller 9 plan
 pub(crate) type File<'a> = (&'a str, &'a [u8]);
 
 /// The files that the commands name.
-const FILES: [File<'static>; 23] = [
+const FILES: [File<'static>; 32] = [
     ("triangle", TRIANGLE),
     ("empty", NO_DEMANDS),
     ("set", SET_AND_PLAN),
@@ -203,6 +275,15 @@ const FILES: [File<'static>; 23] = [
     ("stuck", FIXED_LINK),
     ("cut", CUT_OFF),
     ("towns", FOUR_TOWNS),
+    ("setups", SETUPS),
+    ("other-setups", OTHER_SETUPS),
+    ("held", HELD_WITH_SETUPS),
+    ("finer", FINER_TRIANGLE),
+    ("large-then-fine", LARGE_BEFORE_FINE),
+    ("finer-script", FINER_SCRIPT),
+    ("raised", RAISED),
+    ("charge", CHARGE),
+    ("charge-all", CHARGE_AND_RECONFIGURE),
     ("reconfigure", RECONFIGURE),
     ("plain", NO_SURVIVABILITY),
     ("hops", HOP_LIMITS),
@@ -217,12 +298,13 @@ fn put(held: &mut List<MemFile>, alloc: Global, file: File) -> Option<()> {
     held.push(MemFile { name, bytes }).ok()
 }
 
-/// All files, and these.
+/// All files, the measured network, and these.
 pub(crate) fn all_files(alloc: Global, more: &[File]) -> Option<List<MemFile>> {
     let mut held = List::new(alloc);
     for file in &FILES {
         put(&mut held, alloc, *file)?;
     }
+    put(&mut held, alloc, ("measured", MEASURED))?;
     for file in more {
         put(&mut held, alloc, *file)?;
     }

@@ -12,6 +12,8 @@ mod files;
 #[cfg(test)]
 mod long_files;
 #[cfg(test)]
+mod measured;
+#[cfg(test)]
 mod plans;
 #[cfg(test)]
 mod runs;

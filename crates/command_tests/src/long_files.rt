@@ -104,12 +104,15 @@ fn padded_comes_to<R: AllocGlobal + Threads + Wait + Sync>(
     }
 }
 
-#[test]
-fn the_longest_file_is_read(rt: HostRuntime) {
-    assert!(rt; padded_comes_to(&rt, 16777216, (Status::Done, TRIANGLE_REPORT)));
-}
+/// The length of a file, and what a plan of it comes to: the longest that is read, and one byte more.
+const LENGTHS: [(usize, (Status, &str)); 2] = [
+    (16777216, (Status::Done, TRIANGLE_REPORT)),
+    (16777217, (Status::TooLong, "too long long\n")),
+];
 
 #[test]
-fn a_file_above_its_limit_is_too_long(rt: HostRuntime) {
-    assert!(rt; padded_comes_to(&rt, 16777217, (Status::TooLong, "too long long\n")));
+fn a_file_is_read_up_to_its_limit(rt: HostRuntime) {
+    for (len, answer) in &LENGTHS {
+        assert!(rt; padded_comes_to(&rt, *len, *answer), "{len}");
+    }
 }

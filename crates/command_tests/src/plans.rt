@@ -89,8 +89,241 @@ tight 1 ( 0 0 12000 )
 )
 ";
 
+/// The report of the triangle with setup costs that are charged: two modules and one setup.
+pub(crate) const CHARGED_REPORT: &str = "?planner report; version: 1
+NOTES ( )
+JOURNAL ( ( 1 cut 0 )
+)
+POOL ( ( 0 state 0 right 12000 ( 1 1 1 )
+)
+)
+OUTCOMES ( PLAN ( caller 1 plan 1 version 0 position 0 DEMANDS ( D1 ( A C )
+12.000 )
+cost 13.000 bound 6.000 raw 6000 1 MODULES ( AB ( 0 )
+BC ( 0 )
+AC ( 2 )
+)
+CERTIFICATE ( 2 ( 1 pool 0 right 12000 )
+)
+ROUTES ( state 0 none 1 ( D1 12000 ( AC )
+)
+)
+tight 1 ( 0 0 6000 )
+( state 0 none 1 ( D1 12000 ( AC )
+)
+)
+)
+)
+";
+
+/// The same where the model doesn't charge them.
+pub(crate) const NOTED_REPORT: &str = "?planner report; version: 1
+NOTES ( setup )
+JOURNAL ( ( 1 cut 0 )
+)
+POOL ( ( 0 state 0 right 12000 ( 1 1 1 )
+)
+)
+OUTCOMES ( PLAN ( caller 1 plan 1 version 0 position 0 DEMANDS ( D1 ( A C )
+12.000 )
+cost 10.000 bound 10.000 raw 6000 1 MODULES ( AB ( 0 )
+BC ( 0 )
+AC ( 2 )
+)
+CERTIFICATE ( 2 ( 1 pool 0 right 12000 )
+)
+ROUTES ( state 0 none 1 ( D1 12000 ( AC )
+)
+)
+tight 1 ( 0 0 6000 )
+( state 0 none 1 ( D1 12000 ( AC )
+)
+)
+)
+)
+";
+
+/// The report of the triangle with setup costs that are charged, where each link fails alone: two modules and one setup on each.
+const CHARGED_IN_FAILURES: &str = "?planner report; version: 1
+NOTES ( )
+JOURNAL ( ( 1 cut 0 )
+( 2 cut 1 )
+( 3 cut 2 )
+( 4 cut 3 )
+( 5 cut 4 )
+( 6 cut 5 )
+( 7 cut 6 )
+)
+POOL ( ( 0 state 0 right 12000 ( 1 1 1 )
+)
+( 1 state 1 right 12000 ( 0 1 1 )
+)
+( 2 state 2 right 12000 ( 1 0 1 )
+)
+( 3 state 3 right 24000 ( 1 1 0 )
+)
+( 4 state 1 right 12000 ( 0 0 1 )
+)
+( 5 state 2 right 12000 ( 0 0 1 )
+)
+( 6 state 3 right 12000 ( 1 0 0 )
+)
+)
+OUTCOMES ( PLAN ( caller 1 plan 1 version 0 position 0 DEMANDS ( D1 ( A C )
+12.000 )
+cost 39.000 bound 18.000 raw 18000 1 MODULES ( AB ( 2 )
+BC ( 2 )
+AC ( 2 )
+)
+CERTIFICATE ( 2 ( 1 pool 3 right 24000 )
+( 1 pool 4 right 12000 )
+)
+ROUTES ( state 0 none 1 ( D1 12000 ( AC )
+)
+state 1 AB 1 ( D1 12000 ( AC )
+)
+state 2 BC 1 ( D1 12000 ( AC )
+)
+state 3 AC 1 ( D1 12000 ( AB BC )
+)
+)
+tight 1 ( 6000 6000 6000 )
+( state 0 none 1 ( D1 12000 ( AC )
+)
+state 1 AB 1 ( D1 12000 ( AC )
+)
+state 2 BC 1 ( D1 12000 ( AC )
+)
+state 3 AC 1 ( D1 12000 ( AB BC )
+)
+)
+)
+)
+";
+
+/// The report of the triangle in millionths.
+pub(crate) const FINER_REPORT: &str = "?planner report; version: 2
+NOTES ( )
+JOURNAL ( ( 1 cut 0 )
+)
+POOL ( ( 0 state 0 right 12000100 ( 1 1 1 )
+)
+)
+OUTCOMES ( PLAN ( caller 1 plan 1 version 0 position 0 DEMANDS ( D1 ( A C )
+12.000100 )
+cost 10.000000 bound 10.000000 raw 6000050 1 MODULES ( AB ( 0 )
+BC ( 0 )
+AC ( 2 )
+)
+CERTIFICATE ( 2 ( 1 pool 0 right 12000100 )
+)
+ROUTES ( state 0 none 1 ( D1 12000100 ( AC )
+)
+)
+tight 1 ( 0 0 6000050 )
+( state 0 none 1 ( D1 12000100 ( AC )
+)
+)
+)
+)
+";
+
+/// The report of a session in which D1 is raised to 24.000002 before the plan.
+const FINER_SESSION_REPORT: &str = "?planner report; version: 2
+NOTES ( )
+JOURNAL ( ( 1 caller 1 set D1 24.000002 accepted 1 )
+( 2 cut 0 )
+( 3 caller 1 add D2 ( A X )
+0.000001 unknown-node )
+)
+POOL ( ( 0 state 0 right 24000002 ( 1 1 1 )
+)
+)
+OUTCOMES ( PLAN ( caller 1 plan 1 version 1 position 1 DEMANDS ( D1 ( A C )
+24.000002 )
+cost 15.000000 bound 15.000000 raw 12000001 1 MODULES ( AB ( 0 )
+BC ( 0 )
+AC ( 3 )
+)
+CERTIFICATE ( 2 ( 1 pool 0 right 24000002 )
+)
+ROUTES ( state 0 none 1 ( D1 24000002 ( AC )
+)
+)
+tight 1 ( 0 0 12000001 )
+( state 0 none 1 ( D1 24000002 ( AC )
+)
+)
+)
+)
+";
+
+/// The report of a session in which a demand outgrows the pre-installed capacity of its link, which then takes a module and pays its setup.
+pub(crate) const RAISED_REPORT: &str = "?planner report; version: 1
+NOTES ( )
+JOURNAL ( ( 1 cut 0 )
+( 2 caller 1 set D1 13.000 accepted 1 )
+)
+POOL ( ( 0 state 0 right 13000 ( 1 1 1 )
+)
+)
+OUTCOMES ( PLAN ( caller 1 plan 1 version 0 position 0 DEMANDS ( D1 ( A C )
+12.000 )
+cost 0.000 bound 0.000 raw 0 1 MODULES ( AB ( 0 )
+BC ( 0 )
+AC ( 0 )
+)
+CERTIFICATE ( 1 )
+ROUTES ( state 0 none 1 ( D1 12000 ( AC )
+)
+)
+tight 1 ( 0 0 0 )
+( state 0 none 1 ( D1 12000 ( AC )
+)
+)
+)
+PLAN ( caller 1 plan 2 version 1 position 2 DEMANDS ( D1 ( A C )
+13.000 )
+cost 8.000 bound 1.000 raw 500 1 MODULES ( AB ( 0 )
+BC ( 0 )
+AC ( 1 )
+)
+CERTIFICATE ( 2 ( 1 pool 0 right 13000 )
+)
+ROUTES ( state 0 none 1 ( D1 13000 ( AC )
+)
+)
+tight 1 ( 0 0 500 )
+( state 0 none 1 ( D1 13000 ( AC )
+)
+)
+)
+)
+";
+
 /// Networks with and without a plan, and scripts.
-const PLANS: [Row; 8] = [
+const PLANS: [Row; 14] = [
+    (
+        "session held charge default raised",
+        3,
+        Status::Done,
+        RAISED_REPORT,
+    ),
+    (
+        "plan setups charge-all",
+        2,
+        Status::Done,
+        CHARGED_IN_FAILURES,
+    ),
+    ("plan setups charge", 2, Status::Done, CHARGED_REPORT),
+    ("plan setups", 1, Status::Done, NOTED_REPORT),
+    ("plan finer", 1, Status::Done, FINER_REPORT),
+    (
+        "session finer default default finer-script",
+        2,
+        Status::Done,
+        FINER_SESSION_REPORT,
+    ),
     ("plan triangle", 1, Status::Done, TRIANGLE_REPORT),
     ("plan triangle default", 1, Status::Done, TRIANGLE_REPORT),
     ("plan empty", 1, Status::Done, EMPTY_REPORT),
@@ -127,7 +360,19 @@ const PLANS: [Row; 8] = [
 ];
 
 /// Files that are refused or missing, and words outside the grammar.
-const REFUSALS: [Row; 24] = [
+const REFUSALS: [Row; 26] = [
+    (
+        "plan large-then-fine",
+        1,
+        Status::BadNetwork,
+        "refused network number-large at 93\n",
+    ),
+    (
+        "session triangle default default finer-script",
+        2,
+        Status::BadScript,
+        "refused script number-fine at 44\n",
+    ),
     (
         "plan stuck",
         1,
