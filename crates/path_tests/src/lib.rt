@@ -1,4 +1,4 @@
-//! Tests of paths, failure states, greedy routings, prices, cuts and modules, by tables that were worked out by hand.
+//! Tests of paths, failure states, greedy routings, splits of flows, prices, cuts and modules, by tables that were worked out by hand.
 #![tactic(auto)]
 
 #[cfg(test)]
@@ -15,3 +15,5 @@ mod paths;
 mod prices;
 #[cfg(test)]
 mod separations;
+#[cfg(test)]
+mod splits;

@@ -1,0 +1,227 @@
+ghost use Rattle.std.specs.Prelude.{◌≡◌, ◌≢◌, ◌<◌, ◌≤◌, All, IsTrue, length};
+ghost use Rattle.path_split.specs.Balances.{IsArc};
+
+use crate::fixtures::TRIANGLE;
+use net_core::{Link, LinkId, List, Network, NodeId};
+use path_split::{Arc, PathFlow, SplitFault, split_flow};
+use std::alloc::Global;
+use worked_networks::{LinkRow, PARALLEL, RING, TEN, network};
+
+/// Two triangles that share node A: the links AB, BC, CA and AD, DE, EA.
+const EIGHT: [LinkRow; 6] = [
+    (0, 1, 0, &TEN),
+    (1, 2, 0, &TEN),
+    (2, 0, 0, &TEN),
+    (0, 3, 0, &TEN),
+    (3, 4, 0, &TEN),
+    (4, 0, 0, &TEN),
+];
+
+/// Nodes and links.
+type NetRow = (usize, &'static [LinkRow<'static>]);
+
+const THREE: NetRow = (3, &TRIANGLE);
+
+const PAIR: NetRow = (2, &PARALLEL);
+
+const SQUARE: NetRow = (4, &RING);
+
+const BOTH: NetRow = (5, &EIGHT);
+
+/// An arc: its link, the node that it leaves, and its flow.
+type ArcRow = (u32, u32, u64);
+
+/// Two ends and a need between them.
+type NeedRow = (u32, u32, u64);
+
+/// A network, a need, balanced arcs, and the most that paths may send over each link: exactly that, where paths sum to it.
+type SplitRow = (NetRow, NeedRow, &'static [ArcRow], &'static [u64]);
+
+const SPLITS: [SplitRow; 12] = [
+    (THREE, (0, 2, 12000), &[(2, 0, 12000)], &[0, 0, 12000]),
+    (THREE, (0, 2, 0), &[], &[0, 0, 0]),
+    (
+        THREE,
+        (0, 2, 0),
+        &[(0, 0, 3), (1, 1, 3), (2, 2, 3)],
+        &[0, 0, 0],
+    ),
+    (THREE, (0, 2, 5), &[(0, 0, 5), (1, 1, 5)], &[5, 5, 0]),
+    (THREE, (2, 0, 5), &[(0, 1, 5), (1, 2, 5)], &[5, 5, 0]),
+    (THREE, (0, 2, 5), &[(2, 0, 9), (2, 2, 4)], &[0, 0, 5]),
+    (THREE, (0, 2, 7), &[(2, 0, 3), (2, 0, 4)], &[0, 0, 7]),
+    (THREE, (0, 1, 2), &[(0, 0, 5), (0, 1, 3)], &[2, 0, 0]),
+    (
+        THREE,
+        (0, 2, 12000),
+        &[(2, 0, 12000), (0, 0, 3000), (1, 1, 3000), (2, 2, 3000)],
+        &[3000, 3000, 15000],
+    ),
+    (
+        PAIR,
+        (0, 1, 2),
+        &[(0, 0, 1), (1, 0, 2), (2, 1, 1)],
+        &[1, 2, 1, 0],
+    ),
+    (
+        SQUARE,
+        (0, 3, 9),
+        &[(0, 0, 4), (1, 1, 4), (4, 0, 2), (3, 0, 3), (2, 2, 3)],
+        &[4, 4, 3, 3, 2],
+    ),
+    (
+        BOTH,
+        (1, 3, 2),
+        &[
+            (0, 0, 3),
+            (1, 1, 3),
+            (2, 2, 3),
+            (3, 0, 6),
+            (4, 3, 4),
+            (5, 4, 4),
+            (0, 1, 2),
+        ],
+        &[5, 3, 3, 6, 4, 4],
+    ),
+];
+
+/// A need, arcs on a triangle of the links AB, BC and AC, and the first node that isn't balanced.
+type UnevenRow = (NeedRow, &'static [ArcRow], u32);
+
+const UNEVEN: [UnevenRow; 7] = [
+    ((0, 2, 12000), &[(2, 0, 11000)], 0),
+    ((0, 2, 12000), &[], 0),
+    ((0, 2, 0), &[(2, 0, 1)], 0),
+    ((0, 2, 5), &[(0, 0, 5), (1, 1, 4)], 1),
+    ((0, 2, 5), &[(2, 2, 5)], 0),
+    ((1, 2, 5), &[(1, 1, 5), (0, 0, 1), (2, 2, 1)], 1),
+    ((0, 2, 5), &[(2, 0, 5), (1, 1, 1), (1, 2, 2)], 1),
+];
+
+fn arcs_of(alloc: Global, rows: &[ArcRow]) -> Option<List<Arc>> {
+    let mut arcs = List::new(alloc);
+    for row in rows {
+        arcs.push(Arc {
+            link: LinkId(row.0),
+            from: NodeId(row.1),
+            num: row.2,
+        })
+        .ok()?;
+    }
+    Some(arcs)
+}
+
+/// Whether the arc leaves an end of its link.
+fn is_arc(links: &[Link], arc: &Arc) -> bool
+    ensures { IsTrue result → IsArc links.now arc.now }
+{
+    match links.get(arc.link.0 as usize) {
+        Some(l) => l.a.0 == arc.from.0 || l.b.0 == arc.from.0,
+        None => false,
+    }
+}
+
+fn are_arcs(links: &[Link], arcs: &[Arc]) -> bool
+    ensures { IsTrue result → All (IsArc links.now) arcs.now }
+{
+    for arc in arcs {
+        if !is_arc(links, arc) {
+            return false;
+        }
+    }
+    true
+}
+
+/// The split of arcs, if they are arcs of the network and the ends are two of its nodes.
+fn split_of(
+    alloc: Global,
+    net: &Network,
+    need: &NeedRow,
+    arcs: &List<Arc>,
+) -> Option<Result<List<PathFlow>, SplitFault>> {
+    let nodes = net.nodes().len();
+    let ends = (need.0 as usize) < nodes && (need.1 as usize) < nodes && need.0 != need.1;
+    if !ends || arcs.len() > 65536 || !are_arcs(net.links().items(), arcs.items()) {
+        return None;
+    }
+    Some(split_flow(alloc, net, NodeId(need.0), NodeId(need.1), need.2, arcs))
+}
+
+fn names(path: &[LinkId], link: usize) -> bool {
+    path.iter().any(|e| e.0 as usize == link)
+}
+
+/// Whether path flows over the link sum to at most a number.
+fn are_within(flows: &[PathFlow], link: usize, most: u64) -> bool {
+    let mut left = most;
+    for flow in flows {
+        if names(flow.path.items(), link) {
+            if flow.num > left {
+                return false;
+            }
+            left -= flow.num;
+        }
+    }
+    true
+}
+
+/// Whether path flows sum to the need.
+fn are_all(flows: &[PathFlow], need: u64) -> bool {
+    let mut left = need;
+    for flow in flows {
+        if flow.num > left {
+            return false;
+        }
+        left -= flow.num;
+    }
+    left == 0
+}
+
+/// Whether path flows are at most as many as the arcs, and sum to the need, and over each link to at most its number.
+fn are_flows(flows: &[PathFlow], row: &SplitRow) -> bool {
+    let mut within = true;
+    for e in 0..row.3.len() {
+        within = within && are_within(flows, e, row.3[e]);
+    }
+    within && are_all(flows, row.1.2) && flows.len() <= row.2.len()
+}
+
+fn are_split(alloc: Global, row: &SplitRow) -> bool {
+    let Ok(net) = network(alloc, row.0.0, row.0.1) else {
+        return false;
+    };
+    let Some(arcs) = arcs_of(alloc, row.2) else {
+        return false;
+    };
+    match split_of(alloc, &net, &row.1, &arcs) {
+        Some(Ok(flows)) => are_flows(flows.items(), row),
+        _ => false,
+    }
+}
+
+fn are_refused(alloc: Global, row: &UnevenRow) -> bool {
+    let Ok(net) = network(alloc, 3, &TRIANGLE) else {
+        return false;
+    };
+    let Some(arcs) = arcs_of(alloc, row.1) else {
+        return false;
+    };
+    match split_of(alloc, &net, &row.0, &arcs) {
+        Some(Err(SplitFault::Unbalanced(node))) => node.0 == row.2,
+        _ => false,
+    }
+}
+
+#[test]
+fn balanced_arcs_split(rt: HostRuntime) {
+    for i in 0..SPLITS.len() {
+        assert!(rt; are_split(rt.alloc(), &SPLITS[i]), "row {i}");
+    }
+}
+
+#[test]
+fn unbalanced_arcs_are_refused(rt: HostRuntime) {
+    for i in 0..UNEVEN.len() {
+        assert!(rt; are_refused(rt.alloc(), &UNEVEN[i]), "row {i}");
+    }
+}
