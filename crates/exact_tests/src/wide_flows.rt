@@ -2,7 +2,9 @@ ghost use Rattle.std.specs.Prelude.{◌<◌};
 
 use crate::flows::answer;
 use key_rows::demand_of;
-use net_core::{Caps, Link, List, Name, Network, NodeId, Notes, Problem, RouteColumn, WideKind};
+use net_core::{
+    Caps, Link, List, Name, Network, NodeId, Notes, Places, Problem, RouteColumn, WideKind,
+};
 use simplex_core::SimplexFault;
 use std::alloc::Global;
 use worked_networks::{DemandRow, TEN, problem};
@@ -73,7 +75,7 @@ fn chain(alloc: Global) -> Option<Network> {
         routing_cost: false,
         setup_cost: false,
     };
-    Network::check(nodes, links, notes).ok()
+    Network::check(nodes, links, notes, Places::Three).ok()
 }
 
 /// Each stage carries 505 thousandths over two links, in shares that differ from stage to stage.
