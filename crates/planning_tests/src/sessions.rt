@@ -5,7 +5,7 @@ ghost use Rattle.session_script.specs.Scripts.{IsScript};
 
 use crate::gates::{EditAmidPlan, LateEdit};
 use crate::problems::{Place, TRIANGLE, place_of};
-use net_core::{Demands, Entry, List, Reply};
+use net_core::{Demands, Entry, List, Places, Reply};
 use outside_io::{Gate, OpenGate};
 use plan_types::{Outcome, Report};
 use session_run::{run_session, single_plan};
@@ -28,7 +28,7 @@ fn script_of(alloc: Global, commands: &[u8]) -> Option<Script>
     let mut text = List::new(alloc);
     text.append(b"?planner script; version: 1\n").ok()?;
     text.append(commands).ok()?;
-    match read_script(alloc, text.items()) {
+    match read_script(alloc, Places::Three, text.items()) {
         Ok(script) => Some(script),
         Err(_) => None,
     }
