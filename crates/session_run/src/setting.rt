@@ -5,7 +5,6 @@ use hint_board::HintBoard;
 use net_core::{Network, NoMemory, States};
 use session_script::Command;
 use std::alloc::{AllocError, AllocFailed, Global};
-use thiserror::Error;
 
 /// What all callers of a session share.
 #[derive(Clone, Copy)]
@@ -20,13 +19,11 @@ pub struct Setting<'s> {
 }
 
 /// Why a caller stops before its last command.
-#[derive(Clone, Copy, Debug, PartialEq, Eq, Error)]
+#[derive(Clone, Copy)]
 pub enum Stop {
     /// The call ran out of memory.
-    #[error("out of memory")]
     NoMemory,
     /// The journal has no room, which commands of a script and the cuts of a pool never take up.
-    #[error("the journal is full")]
     Full,
 }
 
