@@ -24,7 +24,7 @@ use Rattle.plan_report.specs.KnownNames.{KnownNames}
 use Rattle.report_words.specs.declared.fault.ReportKind.{ReportKind}
 use Rattle.report_words.specs.declared.fault.ReportKind.TheVariants.{Token}
 use Rattle.report_words.specs.ReportWords.{closing_at, has_room}
-use Rattle.report_reader.specs.ReadingJournal.{edit_branches, event_branches, notes_branches, reply_branches, routing_note_branches, setup_note_branches, accepted_at, add_at, drop_at, edit_at, edited_at, entries_at, journal_entry_at, event_at, noted, notes_at, notes_end_at, pool_at, pool_line_at, pooled_at, reply_at, routing_note_at, set_at, setup_note_at, too_much_at, two_names_at}
+use Rattle.report_reader.specs.ReadingJournal.{edit_branches, event_branches, notes_branches, reply_branches, routing_note_branches, setup_note_branches, accepted_at, add_at, drop_at, edit_at, edited_at, entries_at, journal_entry_at, event_at, noted, notes_at, notes_end_at, pool_at, pool_cut_at, pool_line_at, pooled_at, reply_at, routing_note_at, set_at, setup_note_at, too_much_at, two_names_at}
 use Rattle.report_words.proofs.BranchLaws.{branches_law, either_form, lawful_branch, lawful_closed, lawful_no_branch}
 use Rattle.report_words.proofs.ListLaws.{few_rooms, lawful_placed, numbered_items, rooms_few}
 use Rattle.report_words.proofs.Making.{MadeOf, law_made, made_give, made_last, made_law, made_then}
@@ -217,7 +217,7 @@ entries_law p = lawful_as (entries_at p) _ (λ es. flat_map (entry_items p) (num
 -- ---- the pool
 
 pool_line_law : (names : KnownNames) (sofar : List CutLine) → Lawful (pool_line_at names sofar) (λ l. pool_line_items (length sofar, l)) (λ l. (has_room 4096 sofar ≡ true) × IsCutInForm names.links names.listed l) AnyText
-unfolding pool_line_at
+unfolding pool_line_at pool_cut_at
 pool_line_law names sofar = law_made (pool_line_at names sofar) _ _ _ (λ l. pool_line_items (length sofar, l)) (λ l. (has_room 4096 sofar ≡ true) × IsCutInForm names.links names.listed l)
     (λ q h. (h.0, record { state = omega (arith, h.1.1.1.0.1); lengths = record { long = h.1.1.1.1.1.1.0.0; each = h.1.1.1.1.1.1.0.1 }; right = h.1.1.1.1.1.0.1 }))
     (λ q h. refl)

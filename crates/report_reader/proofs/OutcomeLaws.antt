@@ -16,7 +16,7 @@ use Rattle.report_words.specs.declared.fault.ReportKind.TheVariants.{Token}
 use Rattle.report_reader.specs.declared.parts.Head.{Head}
 use Rattle.report_words.specs.ReportWords.{closing_at, has_room}
 use Rattle.report_words.specs.ReportChoices.{branch_within}
-use Rattle.report_reader.specs.ReadingReport.{head_at, outcome_at, outcome_branches, outcomes_at, planned_at, unsurvivable_at}
+use Rattle.report_reader.specs.ReadingReport.{head_at, outcome_at, outcome_branches, outcomes_at, planned_at, separated_at, unsurvivable_at}
 use Rattle.report_words.proofs.BranchLaws.{branches_law, either_form, lawful_branch, lawful_no_branch}
 use Rattle.report_words.proofs.ListLaws.{few_law}
 use Rattle.report_words.proofs.Making.{law_made, made_last, made_then}
@@ -82,7 +82,7 @@ module _ (names : KnownNames) (pool : List CutLine) (nodes_apart : AllPairs (λ 
       }
 
   outcome_law : (room : Bool) → Lawful (branch_within room (outcome_branches names pool)) all_items (IsOutcome room) AnyText
-  unfolding planned_at unsurvivable_at
+  unfolding planned_at unsurvivable_at separated_at
   outcome_law room = branches_law room (Err Token) (outcome_branches names pool) all_items _ (IsOutcome room)
       (either_form room _ _ _ (IsOutcome room) (λ q m h. (m, planned_form q.1.0 q.1.1.0 h.1.0 h.1.1.0))
       (either_form room _ _ _ (IsOutcome room) (λ q m h. (m, record { command = h.1.0; state_listed = omega (arith, h.1.1.1.0.1); short = h.1.1.1.1.1.1.0 }))

@@ -1,6 +1,7 @@
 -- The readings of plans take exactly their texts.
 use Rattle.std.proofs.Common.{◌≡◌, ◌≢◌, ℕ, ◌^◌, ◌<◌, ◌≤◌, List, [], ◌∷◌, ◌++◌, All, AllPairs, refl, sym, ap, ◌∙◌, arith, append_assoc}
 use Rattle.std.specs.Prelude.{codes, flat_map, slice_get, zip}
+use Rattle.net_core.specs.declared.demand.Demand.{Demand}
 use Rattle.net_core.specs.declared.places.Places.{Places}
 use Rattle.net_core.specs.declared.plan.CutLine.{CutLine}
 use Rattle.plan_terms.specs.Capacities.{AreCounts, AreWithinLimits}
@@ -13,14 +14,15 @@ use Rattle.plan_report.specs.Forms.{AreRoutingsInForm, IsDemandInForm, IsOfPool,
 use Rattle.plan_report.specs.Items.{certificate_items, demand_items, modules_items, plan_items, quality_items, routings_items}
 use Rattle.text_kit.specs.Edits.{section}
 use Rattle.report_reader.specs.declared.parts.Head.{Head}
+use Rattle.report_reader.specs.declared.parts.Routed.{Routed}
 use Rattle.report_reader.specs.declared.parts.Values.{Values}
-use Rattle.report_reader.specs.ReadingPlan.{plan_at, values_at}
+use Rattle.report_reader.specs.ReadingPlan.{plan_at, routed_at, values_at}
 use Rattle.plan_report.specs.KnownNames.{KnownNames}
 use Rattle.report_words.proofs.Making.{law_made, made_last, made_then}
 use Rattle.report_parts.proofs.ModuleLaws.{IsSound, modules_law}
 use Rattle.report_parts.proofs.QualityLaws.{quality_law}
 use Rattle.report_parts.proofs.RoutingLaws.{AreLinksApart, routings_law}
-use Rattle.report_words.proofs.WordLaws.{keyword_law, money_law, number_law}
+use Rattle.report_words.proofs.WordLaws.{AreApart, keyword_law, money_law, number_law}
 use Rattle.report_parts.proofs.CertificateLaws.{IsCertificate, IsPoolInForm, certificate_law}
 use Rattle.report_parts.proofs.DemandLaws.{demands_apart, demands_law}
 
@@ -62,6 +64,26 @@ values_of p = record { cost = p.cost; bound = p.bound; raw_num = p.raw_num; raw_
 abbrev with_head : ℕ → ℕ → Plan → Plan
 with_head version position p = record { version = version; position = position; demands = p.demands; counts = p.counts; cost = p.cost; routings = p.routings; certificate = p.certificate; raw_num = p.raw_num; raw_den = p.raw_den; bound = p.bound; quality = p.quality }
 
+-- the items of routings and of how good the bound is
+abbrev routed_items : KnownNames → List Demand → Routed → List Item
+routed_items names demands r = (Verbatim (codes "ROUTES") ∷ routings_items names demands r.routings) ++ quality_items names demands r.quality
+
+abbrev AreRoutedInForm : KnownNames → List Demand → Routed → Type 0
+AreRoutedInForm names demands r = AreRoutingsInForm names demands r.routings × IsQualityInForm names demands r.quality
+
+routed_law : (names : KnownNames) (demands : List Demand) → AreLinksApart names.links → AreApart demands → Lawful (routed_at names demands) (routed_items names demands) (AreRoutedInForm names demands) AnyText
+unfolding routed_at
+routed_law names demands apart differ = law_made (routed_at names demands) _ _ _ (routed_items names demands) (AreRoutedInForm names demands)
+    (λ q h. (h.1.0, h.1.1))
+    (λ q h. refl)
+    (λ r h. record { parts = (tt, (r.routings, r.quality)); right = (tt, (h.0, h.1)); gives = refl })
+    (made_then _ _ _ _ _ _ _ _ (keyword_law (codes "ROUTES")) (λ x h.
+    made_then _ _ _ _ _ _ _ _ (routings_law names demands apart differ) (λ routings h.
+    made_last _ (λ (quality : Quality). record { routings = routings; quality = quality }) _ _ (quality_law names apart demands differ))))
+
+abbrev routed_of : Plan → Routed
+routed_of p = record { routings = p.routings; quality = p.quality }
+
 module _ (names : KnownNames) (pool : List CutLine) where
   -- a plan of a head, part by part
   abbrev pub IsPlanOf : Head → Plan → Type 0
@@ -71,21 +93,19 @@ module _ (names : KnownNames) (pool : List CutLine) where
   pub plan_law : AllPairs (λ x y. x ≢ y) names.nodes → AreLinksApart names.links → ((k : ℕ) → IsSound (slice_get names.links k)) → IsPoolInForm names pool → (head : Head) → Lawful (plan_at names pool head) (plan_items names) (IsPlanOf head) AnyText
   unfolding plan_at
   plan_law nodes_apart apart sound form head = law_made (plan_at names pool head) _ _ _ (plan_items names) (IsPlanOf head)
-      (λ q h. ((refl, refl), (h.0, (h.1.0, (h.1.1.0, (h.1.1.1.0, (h.1.1.1.1.1.0, h.1.1.1.1.1.1)))))))
-      (λ q h. joined (section (codes "DEMANDS") (flat_map (demand_items names.places names.nodes) q.0)) (values_items names.places q.1.0) (section (codes "MODULES") (flat_map modules_items (zip names.links q.1.1.0))) (certificate_items q.1.1.1.0) (Verbatim (codes "ROUTES") ∷ routings_items names q.0 q.1.1.1.1.1.0) (quality_items names q.0 q.1.1.1.1.1.1))
+      (λ q h. ((refl, refl), (h.0, (h.1.0, (h.1.1.0, (h.1.1.1.0, (h.1.1.1.1.0, h.1.1.1.1.1)))))))
+      (λ q h. joined (section (codes "DEMANDS") (flat_map (demand_items names.places names.nodes) q.0)) (values_items names.places q.1.0) (section (codes "MODULES") (flat_map modules_items (zip names.links q.1.1.0))) (certificate_items q.1.1.1.0) (Verbatim (codes "ROUTES") ∷ routings_items names q.0 q.1.1.1.1.routings) (quality_items names q.0 q.1.1.1.1.quality))
       (λ p h. record {
-        parts = (p.demands, (values_of p, (p.counts, (p.certificate, (tt, (p.routings, p.quality))))));
-        right = (h.1.0, (h.1.1.0, (h.1.1.1.0, (h.1.1.1.1.0, (tt, (h.1.1.1.1.1.0, h.1.1.1.1.1.1))))));
+        parts = (p.demands, (values_of p, (p.counts, (p.certificate, routed_of p))));
+        right = (h.1.0, (h.1.1.0, (h.1.1.1.0, (h.1.1.1.1.0, (h.1.1.1.1.1.0, h.1.1.1.1.1.1)))));
         gives = ap (λ (v : ℕ). with_head v head.position p) h.0.0 ∙ ap (λ (w : ℕ). with_head p.version w p) h.0.1;
       })
       (made_then _ _ _ _ _ _ _ _ (demands_law names.nodes nodes_apart names.places) (λ demands hd.
       made_then _ _ _ _ _ _ _ _ (values_law names.places) (λ values h.
       made_then _ _ _ _ _ _ _ _ (modules_law names.links sound) (λ counts h.
       made_then _ _ _ _ _ _ _ _ (certificate_law names pool form) (λ certificate h.
-      made_then _ _ _ _ _ _ _ _ (keyword_law (codes "ROUTES")) (λ x h.
-      made_then _ _ _ _ _ _ _ _ (routings_law names demands apart (demands_apart names.nodes nodes_apart demands hd)) (λ routings h.
-      made_last _ (λ (quality : Quality). record { version = head.version; position = head.position; demands = demands; counts = counts; cost = values.cost; routings = routings; certificate = certificate; raw_num = values.raw_num; raw_den = values.raw_den; bound = values.bound; quality = quality }) _ _
-      (quality_law names apart demands (demands_apart names.nodes nodes_apart demands hd)))))))))
+      made_last _ (λ (r : Routed). record { version = head.version; position = head.position; demands = demands; counts = counts; cost = values.cost; routings = r.routings; certificate = certificate; raw_num = values.raw_num; raw_den = values.raw_den; bound = values.bound; quality = r.quality }) _ _
+      (routed_law names demands apart (demands_apart names.nodes nodes_apart demands hd)))))))
 
   -- and all together
   pub plan_form : (head : Head) (p : Plan) → head.version ≤ 65536 → head.position ≤ 65536 → IsPlanOf head p → IsPlanInForm names p × All (λ l. IsOfPool pool l.spot l.cut) p.certificate.lines

@@ -30,7 +30,7 @@ use Rattle.plan_report.specs.Texts.{SpellsReport, report_header}
 use Rattle.plan_report.specs.KnownNames.{KnownNames}
 use Rattle.report_words.specs.declared.fault.ReportKind.{ReportKind}
 use Rattle.report_words.specs.declared.fault.ReportKind.TheVariants.{Header, Section, Ended}
-use Rattle.report_reader.specs.ReadingReport.{filled, report_at, report_of, section_at, sections_at}
+use Rattle.report_reader.specs.ReadingReport.{filled, last_sections_at, report_at, report_of, section_at, sections_at}
 use Rattle.report_reader.proofs.JournalLaws.{IsPlain, entries_law, notes_law, pool_law}
 use Rattle.report_words.proofs.Making.{law_made, made_last, made_law, made_then}
 use Rattle.report_parts.proofs.ModuleLaws.{IsSound}
@@ -125,7 +125,7 @@ module _ (names : KnownNames) (checked : ∥ IsNetwork names.nodes names.links �
       (cases_lt k (length names.links))
 
   sections_law : Lawful (sections_at names) items_of IsReport AnyText
-  unfolding sections_at
+  unfolding sections_at last_sections_at
   sections_law = law_made (sections_at names) _ _ _ items_of IsReport
       (λ q h.
       let entries = q.1.1.1.0 in

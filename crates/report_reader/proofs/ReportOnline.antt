@@ -3,6 +3,7 @@ use Rattle.std.proofs.Common.{ℕ, ◌^◌, Bool, true, false, List, [], length,
 use Rattle.std.specs.Prelude.{codes}
 use Rattle.net_core.specs.declared.journal.Entry.{Entry}
 use Rattle.net_core.specs.declared.network.Notes.{Notes}
+use Rattle.net_core.specs.declared.demand.Demand.{Demand}
 use Rattle.net_core.specs.declared.places.Places.{Places}
 use Rattle.net_core.specs.declared.plan.CutLine.{CutLine}
 use Rattle.net_core.specs.declared.states.Listed.{Listed}
@@ -13,9 +14,9 @@ use Rattle.plan_report.specs.KnownNames.{KnownNames}
 use Rattle.report_words.specs.declared.fault.ReportKind.TheVariants.{Section, Token, Ended}
 use Rattle.report_reader.specs.declared.parts.Head.{Head}
 use Rattle.report_words.specs.ReportWords.{has_room}
-use Rattle.report_reader.specs.ReadingJournal.{accepted_at, add_at, drop_at, edit_at, edited_at, entries_at, journal_entry_at, event_at, notes_at, notes_end_at, pool_at, pool_line_at, pooled_at, reply_at, routing_note_at, set_at, setup_note_at, too_much_at, two_names_at, edit_branches, event_branches, noted, notes_branches, reply_branches, routing_note_branches, setup_note_branches}
-use Rattle.report_reader.specs.ReadingPlan.{plan_at, values_at}
-use Rattle.report_reader.specs.ReadingReport.{head_at, outcome_at, outcome_branches, outcomes_at, planned_at, report_at, section_at, sections_at, unsurvivable_at}
+use Rattle.report_reader.specs.ReadingJournal.{accepted_at, add_at, drop_at, edit_at, edited_at, entries_at, journal_entry_at, event_at, notes_at, notes_end_at, pool_at, pool_cut_at, pool_line_at, pooled_at, reply_at, routing_note_at, set_at, setup_note_at, too_much_at, two_names_at, edit_branches, event_branches, noted, notes_branches, reply_branches, routing_note_branches, setup_note_branches}
+use Rattle.report_reader.specs.ReadingPlan.{plan_at, routed_at, values_at}
+use Rattle.report_reader.specs.ReadingReport.{head_at, last_sections_at, separated_at, outcome_at, outcome_branches, outcomes_at, planned_at, report_at, section_at, sections_at, unsurvivable_at}
 use Rattle.report_words.proofs.Branching.{online_branch}
 use Rattle.report_words.proofs.WordsOnline.{column_some, numbers_online, opening_within_online}
 use Rattle.report_parts.proofs.PartsOnline.{certificate_online, modules_online, plan_demands_online, quality_online, routings_online}
@@ -122,7 +123,7 @@ pub entries_online : (p : Places) → IsOnline (entries_at p)
 entries_online p = online_list Parenthesis no_fault (journal_entry_at p) (entry_online p) (entry_some p) []
 
 pub pool_line_online : (names : KnownNames) (sofar : List CutLine) → IsOnline (pool_line_at names sofar)
-unfolding pool_line_at
+unfolding pool_line_at pool_cut_at
 pool_line_online names sofar =
     online_then _ _ (opening_within_online (has_room 4096 sofar)) (λ x.
     online_then _ _ (online_word Token Ended _) (λ x.
@@ -155,6 +156,14 @@ values_online p =
     online_then _ _ (online_word Token Ended _) (λ den.
     online_give _)))))))
 
+pub routed_online : (names : KnownNames) (demands : List Demand) → IsOnline (routed_at names demands)
+unfolding routed_at
+routed_online names demands =
+    online_then _ _ (online_word Token Ended _) (λ x.
+    online_then _ _ (routings_online names demands) (λ routings.
+    online_then _ _ (quality_online names demands) (λ quality.
+    online_give _)))
+
 pub plan_online : (names : KnownNames) (pool : List CutLine) (head : Head) → IsOnline (plan_at names pool head)
 unfolding plan_at
 plan_online names pool head =
@@ -162,10 +171,8 @@ plan_online names pool head =
     online_then _ _ (values_online names.places) (λ values.
     online_then _ _ (modules_online names.links) (λ counts.
     online_then _ _ (certificate_online names pool) (λ certificate.
-    online_then _ _ (online_word Token Ended _) (λ x.
-    online_then _ _ (routings_online names demands) (λ routings.
-    online_then _ _ (quality_online names demands) (λ quality.
-    online_give _)))))))
+    online_then _ _ (routed_online names demands) (λ routed.
+    online_give _)))))
 
 pub head_online : IsOnline (head_at)
 unfolding head_at
@@ -190,7 +197,7 @@ planned_online names pool =
     online_give _))))
 
 pub unsurvivable_online : (listed : List Listed) → IsOnline (unsurvivable_at listed)
-unfolding unsurvivable_at
+unfolding unsurvivable_at separated_at
 unsurvivable_online listed =
     online_then _ _ (online_open Token Ended) (λ x.
     online_then _ _ (head_online) (λ head.
@@ -216,7 +223,7 @@ unfolding section_at
 section_online w = online_then _ _ (online_word Section Ended _) (λ x. online_open Section Ended)
 
 pub sections_online : (names : KnownNames) → IsOnline (sections_at names)
-unfolding sections_at
+unfolding sections_at last_sections_at
 sections_online names =
     online_then _ _ (section_online (codes "NOTES")) (λ x.
     online_then _ _ (notes_online) (λ notes.

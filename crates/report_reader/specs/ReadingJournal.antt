@@ -129,11 +129,9 @@ entries_at p = list_at Parenthesis no_fault (journal_entry_at p) []
 
 -- ---- the pool
 
--- a line after earlier ones
-unfoldable pub pool_line_at : KnownNames → List CutLine → Reading ReportKind CutLine
-pool_line_at names sofar = do
-  _ ← opening_within (has_room 4096 sofar)
-  _ ← this_number_at (length sofar)
+-- a cut: its state, its right side and its lengths, and the closing parenthesis
+unfoldable pub pool_cut_at : KnownNames → Reading ReportKind CutLine
+pool_cut_at names = do
   _ ← keyword_at (codes "state")
   state ← number_at 0 (length names.listed + 1)
   _ ← keyword_at (codes "right")
@@ -141,6 +139,13 @@ pool_line_at names sofar = do
   lengths ← numbers_at (length names.links) (2 ^ 32)
   _ ← closing_at
   give (record { state = record { 0 = state }; lengths = lengths; right = right })
+
+-- a line after earlier ones
+unfoldable pub pool_line_at : KnownNames → List CutLine → Reading ReportKind CutLine
+pool_line_at names sofar = do
+  _ ← opening_within (has_room 4096 sofar)
+  _ ← this_number_at (length sofar)
+  pool_cut_at names
 
 abbrev pub pool_at : KnownNames → Reading ReportKind (List CutLine)
 pool_at names = list_at Parenthesis no_fault (pool_line_at names) []

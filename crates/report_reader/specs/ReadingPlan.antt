@@ -1,5 +1,6 @@
 -- Reading a plan: its costs, and all its parts.
 use Rattle.std.specs.Prelude.{◌^◌, List, codes}
+use Rattle.net_core.specs.declared.demand.Demand.{Demand}
 use Rattle.net_core.specs.declared.places.Places.{Places}
 use Rattle.net_core.specs.declared.plan.CutLine.{CutLine}
 use Rattle.plan_types.specs.declared.plan.Plan.{Plan}
@@ -7,6 +8,7 @@ use Rattle.text_kit.specs.Reading.{Reading, ◌>>=◌, give}
 use Rattle.plan_report.specs.KnownNames.{KnownNames}
 use Rattle.report_words.specs.declared.fault.ReportKind.{ReportKind}
 use Rattle.report_reader.specs.declared.parts.Head.{Head}
+use Rattle.report_reader.specs.declared.parts.Routed.{Routed}
 use Rattle.report_reader.specs.declared.parts.Values.{Values}
 use Rattle.report_words.specs.ReportWords.{keyword_at, money_at, number_at}
 use Rattle.report_parts.specs.ReadingQuality.{quality_at}
@@ -28,13 +30,19 @@ values_at p = do
 
 -- ---- the plan after its head
 
+-- the routings of a plan, and how good its bound is
+unfoldable pub routed_at : KnownNames → List Demand → Reading ReportKind Routed
+routed_at names demands = do
+  _ ← keyword_at (codes "ROUTES")
+  routings ← routings_at names demands
+  quality ← quality_at names demands
+  give (record { routings = routings; quality = quality })
+
 unfoldable pub plan_at : KnownNames → List CutLine → Head → Reading ReportKind Plan
 plan_at names pool head = do
   demands ← plan_demands_at names.places names.nodes
   values ← values_at names.places
   counts ← modules_at names.links
   certificate ← certificate_at names pool
-  _ ← keyword_at (codes "ROUTES")
-  routings ← routings_at names demands
-  quality ← quality_at names demands
-  give (record { version = head.version; position = head.position; demands = demands; counts = counts; cost = values.cost; routings = routings; certificate = certificate; raw_num = values.raw_num; raw_den = values.raw_den; bound = values.bound; quality = quality })
+  routed ← routed_at names demands
+  give (record { version = head.version; position = head.position; demands = demands; counts = counts; cost = values.cost; routings = routed.routings; certificate = certificate; raw_num = values.raw_num; raw_den = values.raw_den; bound = values.bound; quality = routed.quality })

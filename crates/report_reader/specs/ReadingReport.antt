@@ -2,6 +2,7 @@
 use Rattle.std.specs.Prelude.{ℕ, ◌+◌, List, [], ◌∷◌, length, map, slice_get, codes}
 use Rattle.net_core.specs.declared.journal.Entry.{Entry}
 use Rattle.net_core.specs.declared.journal.Entry.TheVariants.{Edited, Pooled}
+use Rattle.net_core.specs.declared.network.Notes.{Notes}
 use Rattle.net_core.specs.declared.plan.CutLine.{CutLine}
 use Rattle.net_core.specs.declared.states.Listed.{Listed}
 use Rattle.plan_types.specs.declared.report.Outcome.{Outcome}
@@ -43,10 +44,9 @@ planned_at names pool = do
   _ ← closing_at
   give (Planned head.caller head.serial plan)
 
-unfoldable pub unsurvivable_at : List Listed → Reading ReportKind Outcome
-unsurvivable_at listed = do
-  _ ← opening_at
-  head ← head_at
+-- the state and the demand for which there is no plan, and the closing parenthesis
+unfoldable pub separated_at : List Listed → Head → Reading ReportKind Outcome
+separated_at listed head = do
   _ ← keyword_at (codes "state")
   state ← number_at 0 (length listed + 1)
   _ ← this_name_at (state_name listed state)
@@ -54,6 +54,12 @@ unsurvivable_at listed = do
   demand ← name_at
   _ ← closing_at
   give (Unsurvivable head.caller head.serial head.version head.position (record { 0 = state }) demand)
+
+unfoldable pub unsurvivable_at : List Listed → Reading ReportKind Outcome
+unsurvivable_at listed = do
+  _ ← opening_at
+  head ← head_at
+  separated_at listed head
 
 -- an outcome after earlier ones
 abbrev pub outcome_branches : KnownNames → List CutLine → Branches Outcome
@@ -76,6 +82,15 @@ abbrev pub filled : List CutLine → Entry → Entry
 filled pool (Edited caller edit reply) = Edited caller edit reply
 filled pool (Pooled index state lengths) = Pooled index (record { 0 = line_state (slice_get pool index) }) (line_lengths (slice_get pool index))
 
+-- the pool and the outcomes, after the notes and the entries
+unfoldable pub last_sections_at : KnownNames → Notes → List Entry → Reading ReportKind Report
+last_sections_at names notes entries = do
+  _ ← section_at (codes "POOL")
+  pool ← pool_at names
+  _ ← section_at (codes "OUTCOMES")
+  outcomes ← outcomes_at names pool
+  give (record { notes = notes; entries = map (filled pool) entries; pool = pool; outcomes = outcomes })
+
 -- all sections after the first line
 unfoldable pub sections_at : KnownNames → Reading ReportKind Report
 sections_at names = do
@@ -83,11 +98,7 @@ sections_at names = do
   notes ← notes_at
   _ ← section_at (codes "JOURNAL")
   entries ← entries_at names.places
-  _ ← section_at (codes "POOL")
-  pool ← pool_at names
-  _ ← section_at (codes "OUTCOMES")
-  outcomes ← outcomes_at names pool
-  give (record { notes = notes; entries = map (filled pool) entries; pool = pool; outcomes = outcomes })
+  last_sections_at names notes entries
 
 -- a whole text of a report
 abbrev pub report_at : KnownNames → Reading ReportKind Report

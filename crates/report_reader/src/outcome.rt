@@ -2,7 +2,7 @@ ghost use Rattle.std.specs.Prelude.{◌≡◌, ◌<◌, ◌≤◌, ◌^◌, leng
 ghost use Rattle.snd_tokens.specs.Lexemes.{left};
 ghost use Rattle.text_kit.specs.Answers.{ReadsAs};
 ghost use Rattle.report_words.specs.Contexts.{known_in};
-ghost use Rattle.report_reader.specs.ReadingReport.{head_at, outcome_at, outcomes_at, planned_at, unsurvivable_at};
+ghost use Rattle.report_reader.specs.ReadingReport.{head_at, outcome_at, outcomes_at, planned_at, separated_at, unsurvivable_at};
 
 use crate::parts::Head;
 use crate::plan::plan;
@@ -79,17 +79,16 @@ fn planned(
     })
 }
 
-/// Takes the state and the demand for which there is no plan.
-#[tactic(auto, unfolding(crate::specs::ReadingReport::unsurvivable_at))]
-fn unsurvivable(
+/// Takes the state and the demand for which there is no plan, and the closing parenthesis.
+#[tactic(auto, unfolding(crate::specs::ReadingReport::separated_at))]
+fn separated(
     alloc: Global,
     context: &Context,
+    head: Head,
     text: &mut Cursor,
 ) -> Result<Outcome, ReportRefusal>
-    ensures { ReadsAs (λ o. o) result (left text.new) (unsurvivable_at context.now.states.now.listed (left text.old)) }
+    ensures { ReadsAs (λ o. o) result (left text.new) (separated_at context.now.states.now.listed head (left text.old)) }
 {
-    opening(text)?;
-    let head = head(text)?;
     keyword(STATE, text)?;
     let state = small(0, u128::from(context.states.count()), text)?;
     state_name(context.states, state, text)?;
@@ -104,6 +103,20 @@ fn unsurvivable(
         state: StateId(state),
         demand,
     })
+}
+
+/// Takes the head of a plan command that no plan answers, and why.
+#[tactic(auto, unfolding(crate::specs::ReadingReport::unsurvivable_at))]
+fn unsurvivable(
+    alloc: Global,
+    context: &Context,
+    text: &mut Cursor,
+) -> Result<Outcome, ReportRefusal>
+    ensures { ReadsAs (λ o. o) result (left text.new) (unsurvivable_at context.now.states.now.listed (left text.old)) }
+{
+    opening(text)?;
+    let head = head(text)?;
+    separated(alloc, context, head, text)
 }
 
 /// Takes an outcome after these ones.

@@ -1,3 +1,6 @@
+use net_core::{List, Routing};
+use plan_types::Quality;
+
 /// Whose plan command it was, its number among that caller's, both from 1, and for which version of the
 /// demands and which position in the journal.
 #[derive(Clone, Copy)]
@@ -16,4 +19,11 @@ pub struct Values {
     pub bound: u128,
     pub raw_num: u128,
     pub raw_den: u128,
+}
+
+/// The routings of a plan, one for each state, and how good its bound is.
+#[derive(Drop)]
+pub struct Routed {
+    pub routings: List<Routing>,
+    pub quality: Quality,
 }

@@ -2,13 +2,13 @@ ghost use Rattle.std.specs.Prelude.{◌≡◌, ◌<◌, ◌^◌, length};
 ghost use Rattle.snd_tokens.specs.Lexemes.{left};
 ghost use Rattle.text_kit.specs.Answers.{ReadsAs};
 ghost use Rattle.report_words.specs.Contexts.{known_in};
-ghost use Rattle.report_reader.specs.ReadingPlan.{plan_at, values_at};
+ghost use Rattle.report_reader.specs.ReadingPlan.{plan_at, routed_at, values_at};
 
-use crate::parts::{Head, Values};
+use crate::parts::{Head, Routed, Values};
 use net_core::{CutLine, Places};
 use plan_types::Plan;
 use report_parts::certificate::certificate;
-use report_parts::demands::plan_demands;
+use report_parts::demands::{PlanDemands, plan_demands};
 use report_parts::modules::modules;
 use report_parts::quality::quality;
 use report_parts::routing::routings;
@@ -50,6 +50,22 @@ fn values(places: Places, text: &mut Cursor) -> Result<Values, ReportRefusal>
     })
 }
 
+/// Takes the routings of a plan, and how good its bound is.
+#[tactic(auto, unfolding(crate::specs::ReadingPlan::routed_at))]
+fn routed(
+    alloc: Global,
+    context: &Context,
+    demands: &PlanDemands,
+    text: &mut Cursor,
+) -> Result<Routed, ReportRefusal>
+    ensures { ReadsAs (λ r. r) result (left text.new) (routed_at (known_in context.now) demands.now.list (left text.old)) }
+{
+    keyword(ROUTES, text)?;
+    let routings = routings(alloc, context, demands, text)?;
+    let quality = quality(alloc, context, demands, text)?;
+    Ok(Routed { routings, quality })
+}
+
 /// Takes a plan after its head.
 #[tactic(auto, unfolding(crate::specs::ReadingPlan::plan_at))]
 pub(crate) fn plan(
@@ -66,20 +82,18 @@ pub(crate) fn plan(
     let values = values(context.net.places(), text)?;
     let counts = modules(alloc, context.net.links().items(), text)?;
     let certificate = certificate(alloc, context, pool, text)?;
-    keyword(ROUTES, text)?;
-    let routings = routings(alloc, context, &demands, text)?;
-    let quality = quality(alloc, context, &demands, text)?;
+    let routed = routed(alloc, context, &demands, text)?;
     Ok(Plan {
         version: head.version,
         position: head.position,
         demands: demands.list,
         counts,
         cost: values.cost,
-        routings,
+        routings: routed.routings,
         certificate,
         raw_num: values.raw_num,
         raw_den: values.raw_den,
         bound: values.bound,
-        quality,
+        quality: routed.quality,
     })
 }

@@ -2,7 +2,7 @@ ghost use Rattle.std.specs.Prelude.{◌≡◌, ◌≤◌, IfOk, length};
 ghost use Rattle.snd_tokens.specs.Lexemes.{left};
 ghost use Rattle.text_kit.specs.Answers.{ReadsAs};
 ghost use Rattle.plan_report.specs.KnownNames.{known_of};
-ghost use Rattle.report_reader.specs.ReadingJournal.{pool_at, pool_line_at};
+ghost use Rattle.report_reader.specs.ReadingJournal.{pool_at, pool_cut_at, pool_line_at};
 
 use net_core::{CutLine, List, Network, StateId, States};
 use report_words::element::{Element, list};
@@ -20,6 +20,29 @@ const MAX_LINES: usize = 4_096;
 
 const RIGHT_LIMIT: u128 = 1 << 84;
 
+/// Takes the state, the right side and the lengths of a cut, and the closing parenthesis.
+#[tactic(auto, unfolding(crate::specs::ReadingJournal::pool_cut_at))]
+fn pool_cut(
+    alloc: Global,
+    net: &Network,
+    states: &States,
+    text: &mut Cursor,
+) -> Result<CutLine, ReportRefusal>
+    ensures { ReadsAs (λ l. l) result (left text.new) (pool_cut_at (known_of net.now states.now) (left text.old)) }
+{
+    keyword(STATE, text)?;
+    let state = small(0, u128::from(states.count()), text)?;
+    keyword(RIGHT, text)?;
+    let right = number(0, RIGHT_LIMIT, text)?;
+    let lengths = lengths(alloc, net.links().len(), text)?;
+    closing(text)?;
+    Ok(CutLine {
+        state: StateId(state),
+        lengths,
+        right,
+    })
+}
+
 /// Takes a line of the pool after these ones.
 #[tactic(auto, unfolding(crate::specs::ReadingJournal::pool_line_at))]
 fn pool_line(
@@ -33,17 +56,7 @@ fn pool_line(
 {
     opening_within(sofar.len() < MAX_LINES, text)?;
     this(sofar.len() as u64, text)?;
-    keyword(STATE, text)?;
-    let state = small(0, u128::from(states.count()), text)?;
-    keyword(RIGHT, text)?;
-    let right = number(0, RIGHT_LIMIT, text)?;
-    let lengths = lengths(alloc, net.links().len(), text)?;
-    closing(text)?;
-    Ok(CutLine {
-        state: StateId(state),
-        lengths,
-        right,
-    })
+    pool_cut(alloc, net, states, text)
 }
 
 /// Lines of the pool of a network and its states.

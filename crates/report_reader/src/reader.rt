@@ -6,14 +6,14 @@ ghost use Rattle.snd_tokens.specs.Lexemes.{left};
 ghost use Rattle.text_kit.specs.Answers.{AnswersAs, ReadsAllAs, ReadsAs};
 ghost use Rattle.text_kit.specs.Files.{IsNotTooEarly};
 ghost use Rattle.report_words.specs.Contexts.{known_in};
-ghost use Rattle.report_reader.specs.ReadingReport.{report_at, report_of, section_at, sections_at};
+ghost use Rattle.report_reader.specs.ReadingReport.{last_sections_at, report_at, report_of, section_at, sections_at};
 
 use crate::filling::fill;
 use crate::journal::entries;
 use crate::notes::notes;
 use crate::outcome::outcomes;
 use crate::pool::pool;
-use net_core::{Network, Places, States};
+use net_core::{Entry, List, Network, Notes, Places, States};
 use plan_types::Report;
 use report_words::context::Context;
 use report_words::fault::{ReportKind, ReportRefusal};
@@ -52,15 +52,17 @@ fn section(wanted: &[u8], text: &mut Cursor) -> Result<(), ReportRefusal>
     open(ReportKind::Section, ReportKind::Ended, text)
 }
 
-/// Takes all sections.
-#[tactic(auto, unfolding(crate::specs::ReadingReport::sections_at))]
-fn sections(alloc: Global, context: &Context, text: &mut Cursor) -> Result<Report, ReportRefusal>
-    ensures { ReadsAs (λ r. r) result (left text.new) (sections_at (known_in context.now) (left text.old)) }
+/// Takes the pool and the outcomes, after these notes and entries.
+#[tactic(auto, unfolding(crate::specs::ReadingReport::last_sections_at))]
+fn last_sections(
+    alloc: Global,
+    context: &Context,
+    notes: Notes,
+    entries: List<Entry>,
+    text: &mut Cursor,
+) -> Result<Report, ReportRefusal>
+    ensures { ReadsAs (λ r. r) result (left text.new) (last_sections_at (known_in context.now) notes entries (left text.old)) }
 {
-    section(NOTES, text)?;
-    let notes = notes(text)?;
-    section(JOURNAL, text)?;
-    let entries = entries(alloc, context.net.places(), text)?;
     section(POOL, text)?;
     let pool = pool(alloc, context.net, context.states, text)?;
     section(OUTCOMES, text)?;
@@ -72,6 +74,18 @@ fn sections(alloc: Global, context: &Context, text: &mut Cursor) -> Result<Repor
         pool,
         outcomes,
     })
+}
+
+/// Takes all sections.
+#[tactic(auto, unfolding(crate::specs::ReadingReport::sections_at))]
+fn sections(alloc: Global, context: &Context, text: &mut Cursor) -> Result<Report, ReportRefusal>
+    ensures { ReadsAs (λ r. r) result (left text.new) (sections_at (known_in context.now) (left text.old)) }
+{
+    section(NOTES, text)?;
+    let notes = notes(text)?;
+    section(JOURNAL, text)?;
+    let entries = entries(alloc, context.net.places(), text)?;
+    last_sections(alloc, context, notes, entries, text)
 }
 
 /// Takes a whole report, after which nothing is left.
