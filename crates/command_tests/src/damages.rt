@@ -351,11 +351,20 @@ fn first_unlike<R: AllocGlobal + Threads + Wait + Sync>(
     None
 }
 
+/// The first change of the table whose check doesn't end as its row says.
+fn first_of_all<R: AllocGlobal + Threads + Wait + Sync>(rt: &R) -> Option<&'static str> {
+    for (check, report, changes, line) in &DAMAGES {
+        let unlike = first_unlike(rt, *check, report, changes, *line);
+        if unlike.is_some() {
+            return unlike;
+        }
+    }
+    None
+}
+
 #[test]
 fn a_changed_report_is_found_out_refused_or_accepted(rt: HostRuntime) {
-    for (check, report, changes, line) in &DAMAGES {
-        assert_eq!(rt; first_unlike(&rt, *check, report, changes, *line), None);
-    }
+    assert!(rt; first_of_all(&rt).is_none());
 }
 
 /// The certificate of three parallel links with every single-link failure.
@@ -382,6 +391,6 @@ const OTHER_CERTIFICATES: [Change; 2] = [
 fn a_damaged_certificate_is_rejected(rt: HostRuntime) -> Result<(), Fail> {
     let plan = run_words(&rt, "plan parallel default single", &[], &[], &[]).ok_or("no run")?;
     let unlike = first_unlike(&rt, OF_PARALLEL, plan.text(), &OTHER_CERTIFICATES, FIRST);
-    assert_eq!(rt; unlike, None);
+    assert!(rt; unlike.is_none());
     Ok(())
 }

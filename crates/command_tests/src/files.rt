@@ -298,15 +298,19 @@ fn put(held: &mut List<MemFile>, alloc: Global, file: File) -> Option<()> {
     held.push(MemFile { name, bytes }).ok()
 }
 
+/// Puts files last.
+fn put_all(held: &mut List<MemFile>, alloc: Global, files: &[File]) -> Option<()> {
+    for file in files {
+        put(held, alloc, *file)?;
+    }
+    Some(())
+}
+
 /// All files, the measured network, and these.
 pub(crate) fn all_files(alloc: Global, more: &[File]) -> Option<List<MemFile>> {
     let mut held = List::new(alloc);
-    for file in &FILES {
-        put(&mut held, alloc, *file)?;
-    }
+    put_all(&mut held, alloc, &FILES)?;
     put(&mut held, alloc, ("measured", MEASURED))?;
-    for file in more {
-        put(&mut held, alloc, *file)?;
-    }
+    put_all(&mut held, alloc, more)?;
     Some(held)
 }
