@@ -72,7 +72,7 @@ impl<'d, 'a> Caller<'d, 'a> {
         Caller { number, desk, pass }
     }
 
-    /// Waits for a turn, makes an edit in it, whose need is in thousandths, and commits it with its reply. It may never return.
+    /// Waits for a turn, makes an edit in it, whose need is in units, and commits it with its reply. It may never return.
     pub fn edit<R: Wait>(self, rt: &R, edit: Edit) -> (EditAnswer, Caller<'d, 'a>)
         requires own { IsAtDesk self }
         requires need { edit_need edit < 2 ^ 40 }

@@ -147,10 +147,10 @@ const CHARGED: Case = Case {
     opening: &[(0, 2, 12000), (0, 1, 5000)],
 };
 
-/// The two links with modules pay their setups once, and AC pays none.
+/// The two links on which something is installed pay their setups once, and AC pays none.
 const CHARGED_COST: (&str, &str) = ("cost 20.000", "cost 26.000");
 
-/// Costs without setups, with one too few, with one of a link without modules, and with one for each module.
+/// Costs without setups, with one too few, with one of a link on which nothing is installed, and with one for each module.
 const OTHER_COSTS: [Change; 4] = [
     (
         "cost 20.000",
@@ -178,14 +178,14 @@ const OTHER_COSTS: [Change; 4] = [
     ),
 ];
 
-/// Setups that differ, one of them 0, and the largest on AC, which has no module.
+/// Setups that differ, one of them 0, and the largest on AC, on which nothing is installed.
 const UNLIKE: Case = Case {
     setups: [1000, 0, 7000],
     failed: &[2],
     opening: &[(0, 2, 12000), (0, 1, 5000)],
 };
 
-/// A setup that makes the common divisor of all charges smaller, though its link has no module.
+/// A setup that makes the common divisor of all charges smaller, though nothing is installed on its link.
 const FINER: Case = Case {
     setups: [0, 0, 700],
     failed: &[2],

@@ -213,13 +213,16 @@ const CERTIFICATES: [Change; 3] = [
     ),
 ];
 
-/// Changes of a report whose setup costs are charged, which are found: one setup too many or too few, a module that pays one, and a note.
+/// Changes of a report whose setup costs are charged, which are found: one setup too many or too few, a module that pays one, and another bound.
 const CHARGED: [Change; 4] = [
     ("cost 13.000", "cost 16.000", "cost-differs 16.000 13.000"),
     ("cost 13.000", "cost 10.000", "cost-differs 10.000 13.000"),
     ("AB ( 0 )", "AB ( 1 )", "cost-differs 13.000 21.000"),
     ("bound 6.000", "bound 10.000", "bound-differs 10.000 6.000"),
 ];
+
+/// A note of setup costs that are charged, which is found.
+const CHARGED_NOTES: [Change; 1] = [("NOTES ( )", "NOTES ( setup )", "notes-differ")];
 
 /// Changes of a report whose setup costs are noted, which are found.
 const NOTED: [Change; 1] = [("cost 10.000", "cost 13.000", "cost-differs 13.000 10.000")];
@@ -296,7 +299,7 @@ const ACCEPTED: Line = ("accepted ", Status::Done);
 /// A check of a report after each of some changes, and the line that it comes to.
 type Damages = (Check, &'static str, &'static [Change], Line);
 
-const DAMAGES: [Damages; 16] = [
+const DAMAGES: [Damages; 17] = [
     (OF_TRIANGLE, TRIANGLE_REPORT, &JOURNALS, WHOLE),
     (OF_TRIANGLE, TRIANGLE_REPORT, &PLANS, FIRST),
     (OF_TRIANGLE, TRIANGLE_REPORT, &BOUNDS, FIRST),
@@ -306,6 +309,7 @@ const DAMAGES: [Damages; 16] = [
     (OF_RECONFIGURED, RECONFIGURED, &UNCHANGED, ACCEPTED),
     (OF_RECONFIGURED, RECONFIGURED, &CERTIFICATES, FIRST),
     (OF_CHARGED, CHARGED_REPORT, &CHARGED, FIRST),
+    (OF_CHARGED, CHARGED_REPORT, &CHARGED_NOTES, WHOLE),
     (OF_NOTED, NOTED_REPORT, &NOTED, FIRST),
     (OF_NOTED, CHARGED_REPORT, &UNCHANGED_NOTES, WHOLE),
     (OF_HELD, RAISED_REPORT, &BOTH_UNCHANGED, ACCEPTED),

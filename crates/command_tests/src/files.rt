@@ -40,7 +40,7 @@ LINKS ( AB ( A B ) 0 0 0 0 ( 10.00 0.00 ) BC ( B C ) 0 0 0 0 ( 10.00 0.00 ) AC (
 DEMANDS ( D1 ( A C ) 1 12.00 UNLIMITED )
 ";
 
-/// The triangle where the first module of a link has a setup cost.
+/// The triangle where each link has a setup cost of 3.00.
 const SETUPS: &[u8] = b"?SNDlib native format; type: network; version: 1.0
 NODES ( A B C )
 LINKS ( AB ( A B ) 0 0 0 3.00 ( 10.00 5.00 ) BC ( B C ) 0 0 0 3.00 ( 10.00 5.00 ) AC ( A C ) 0 0 0 3.00 ( 10.00 5.00 ) )

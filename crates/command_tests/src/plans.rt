@@ -302,7 +302,7 @@ tight 1 ( 0 0 500 )
 ";
 
 /// Networks with and without a plan, and scripts.
-const PLANS: [Row; 14] = [
+const PLANS: [Row; 15] = [
     (
         "session held charge default raised",
         3,
@@ -317,6 +317,7 @@ const PLANS: [Row; 14] = [
     ),
     ("plan setups charge", 2, Status::Done, CHARGED_REPORT),
     ("plan setups", 1, Status::Done, NOTED_REPORT),
+    ("plan setups plain", 2, Status::Done, NOTED_REPORT),
     ("plan finer", 1, Status::Done, FINER_REPORT),
     (
         "session finer default default finer-script",

@@ -106,7 +106,7 @@ impl<'a> Board<'a> {
         })
     }
 
-    /// Makes a caller's edit, whose need is in thousandths, and commits it with its reply, also where it is refused. Each right
+    /// Makes a caller's edit, whose need is in units, and commits it with its reply, also where it is refused. Each right
     /// side then follows by the distances that its cut keeps, in time that grows with the cuts and with the demands.
     /// Where there is memory to spare, an edit that sets the need of a known demand takes what it needs of it, and never runs out.
     pub fn edit(&mut self, caller: u32, edit: Edit) -> EditAnswer
@@ -198,7 +198,7 @@ impl<'a> Board<'a> {
         &self.pool.items()[index as usize].cut
     }
 
-    /// The right side of the cut of this index at the demands now, in thousandths.
+    /// The right side of the cut of this index at the demands now, in units of the network.
     pub fn right(&self, index: u32) -> u128
         requires { index < length (cuts_of self.now.entries) }
         ensures right { IsRightNow self.now index result }

@@ -5,7 +5,7 @@ ghost use Rattle.cut_pool.specs.inner.Shares.{IsShareIn, IsShareOfDemand, edit_n
 use demand_book::Book;
 use net_core::{Demand, Edit, Name, NodeId};
 
-/// What a demand adds to right sides: a need, in thousandths, between two nodes.
+/// What a demand adds to right sides: a need, in units of the network, between two nodes.
 #[derive(Clone, Copy, PartialEq, Eq)]
 pub struct DemandShare {
     pub from: NodeId,

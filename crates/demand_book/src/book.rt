@@ -8,7 +8,7 @@ ghost use Rattle.demand_book.specs.Book.{IsAdd};
 use crate::find::{demand_place, give_need, node_place, sum_of_needs};
 use net_core::{Copied, Demand, Demands, Edit, List, Name, Network, NoMemory, NodeId, Reply};
 
-/// From so many thousandths on, all needs together are too much.
+/// From this many units on, all needs together are too much.
 const TOO_MUCH: u64 = 1 << 44;
 
 /// So many demands are the most.
@@ -59,7 +59,7 @@ impl Book {
         self.version
     }
 
-    /// All needs together, in thousandths.
+    /// All needs together, in units of the network.
     pub fn total(&self) -> u64
         ensures { result ≡ total_need self.now.demands }
     {
@@ -80,7 +80,7 @@ impl Book {
         demand_place(self.demands.items(), name).map(|k| k as u32)
     }
 
-    /// Makes the edit, or says why it can't be made; needs are in thousandths. It takes time in the number of demands. A new
+    /// Makes the edit, or says why it can't be made; needs are in units. It takes time in the number of demands. A new
     /// demand takes memory for its name and its place; where there is none, the book stays as it was.
     pub fn apply(&mut self, edit: &Edit) -> Result<Reply, NoMemory>
         requires { edit_need edit.now < 2 ^ 40 }

@@ -29,7 +29,7 @@ fn add_flows(loads: &mut [u64], flows: &[Flow])
     }
 }
 
-/// So many zeros.
+/// A list of this many zeros.
 fn zeros(alloc: Global, count: usize) -> Result<Vec<u64>, NoMemory>
     ensures { IfOk result (λ v. (length v.items ≡ count) × ((e : ℕ) → e < count → slice_index v.items e ≡ 0)) }
 {

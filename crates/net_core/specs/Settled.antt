@@ -10,7 +10,7 @@ without_setup l = record { name = l.name; a = l.a; b = l.b; fixed = l.fixed; set
 abbrev pub without_setups : List Link → List Link
 without_setups links = map without_setup links
 
--- links whose setup costs are charged, or have none
+-- the links with their setups where these are charged, else without
 abbrev pub settled_links : Bool → List Link → List Link
 settled_links true links = links
 settled_links false links = without_setups links

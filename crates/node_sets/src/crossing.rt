@@ -2,7 +2,7 @@ use checked_fraction::cmp;
 use std::cmp::Ordering;
 
 /// What runs between two parts of the nodes: how many surviving links, the sum of their numbers over the scale, and what the demands
-/// between the parts need, in thousandths.
+/// between the parts need, in units of the network.
 #[derive(Clone, Copy)]
 pub(crate) struct Crossing {
     pub(crate) links: u32,

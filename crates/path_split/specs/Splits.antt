@@ -1,4 +1,4 @@
--- the split of flows on arcs into flows along paths (flow decomposition: Ahuja, Magnanti and Orlin, Network Flows, 1993, section 3.5)
+-- the split of flows on arcs into flows along paths (flow decomposition: Ahuja, Magnanti and Orlin, Network Flows, 1993)
 use Rattle.std.specs.Prelude.{◌≡◌, ℕ, ◌≤◌, ◌<◌, ◌==◌, if◌then◌else◌, List, Some, All, length, slice_get, sum_by}
 use Rattle.net_core.specs.declared.network.Link.{Link}
 use Rattle.net_core.specs.Graphs.{HasEnds}

@@ -19,7 +19,7 @@ pub struct PathFlow {
 /// Why arcs weren't split into paths.
 #[derive(Clone, Copy, Debug, PartialEq, Eq, Error)]
 pub enum SplitFault {
-    /// The balance of this node, the first such one, isn't the one that is due.
+    /// This node isn't balanced, and it is the first such node.
     #[error("a node isn't balanced")]
     Unbalanced(NodeId),
     /// The call ran out of memory.

@@ -18,7 +18,7 @@ use crate::walk::{Walk, find_walk, place_of};
 use net_core::{List, Network, NoMemory, NodeId};
 use std::alloc::Global;
 
-/// TakesOff off a flow along a path, as much as goes there up to what is left of the need, and answers what is left then.
+/// Takes a flow along a path off the legs, as much as goes there up to what is left of the need, and answers what is left then.
 fn take_path(
     alloc: Global,
     legs: &[Leg],
@@ -40,7 +40,7 @@ fn take_path(
     Ok(left - num)
 }
 
-/// TakesOff off the circle at the end of a trail that is back at a node.
+/// Takes off the circle at the end of a trail that is back at a node.
 fn take_circle(legs: &[Leg], lefts: &mut [u64], trail: &[usize], at: NodeId)
     requires live { AllByRecursion (λ k. IsLive legs.now lefts.old k) trail.now }
     requires long { length lefts.old ≡ length legs.now }
@@ -54,7 +54,7 @@ fn take_circle(legs: &[Leg], lefts: &mut [u64], trail: &[usize], at: NodeId)
     take_off(lefts, circle, num);
 }
 
-/// TakesOff off the path of a walk that is at `to`, or the circle of one that is back at a node. It answers what is left of the need.
+/// Takes off the path of a walk that is at `to`, or the circle of one that is back at a node. It answers what is left of the need.
 fn take(
     alloc: Global,
     legs: &[Leg],
@@ -78,7 +78,7 @@ fn take(
     Ok(left)
 }
 
-/// TakesOff off one path or circle after another, until nothing is left of the need.
+/// Takes off one path or circle after another, until nothing is left of the need.
 fn take_all(
     alloc: Global,
     legs: &[Leg],
@@ -141,8 +141,8 @@ fn split_even(
 }
 
 /// Splits balanced flow on arcs into flows along paths, which have no node twice. Arcs may come more than once, and in both
-/// directions of a link. Circles are dropped. It takes memory in the arcs and the nodes, and time in the arcs times the links of a
-/// path.
+/// directions of a link. Circles are dropped. It takes memory in the arcs, the nodes and the links of the paths that it gives, and time
+/// in the arcs times the nodes, beside sorting the arcs.
 ///
 /// For a need of 12 from A to C, 12 on the link AC and a circle of 3 from A over B and C split into flows over AC, or over AB and
 /// BC, that sum to 12.

@@ -19,7 +19,7 @@ pub fn least_left(lefts: &[u64], trail: &[usize], most: u64) -> u64
     least
 }
 
-/// TakesOff an amount off the legs at these places.
+/// Takes an amount off the legs at these places.
 pub fn take_off(lefts: &mut [u64], trail: &[usize], num: u64)
     requires { AreEnough lefts.old trail.now num }
     ensures { lefts.new ≡ less lefts.old trail.now num }

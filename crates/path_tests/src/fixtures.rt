@@ -38,7 +38,7 @@ fn with_setups(net: &Network, setups: &[u64]) -> Option<List<Link>> {
     Some(links)
 }
 
-/// The network of so many nodes and these links with their setups, which are charged.
+/// The network of a number of nodes and these links with their setups, which are charged.
 pub(crate) fn charged(
     alloc: Global,
     nodes: usize,

@@ -15,7 +15,7 @@ use Rattle.plan_checker.specs.Places.{HoldsAt, IsLeastPair, IsLeastPlace}
 use Rattle.plan_checker.specs.declared.finding.Finding.{Finding}
 use Rattle.plan_checker.specs.declared.finding.Finding.TheVariants.{CostDiffers, LocalCut, RightDiffers, PriceExceeded, CertificateWide, RawDiffers, BoundDiffers}
 
--- the cost isn't what the modules cost
+-- the cost isn't what the counts cost
 abbrev pub HoldsCostDiffers : Case → Plan → Finding → Type 0
 HoldsCostDiffers p plan (CostDiffers a b) = (plan.cost ≡ a) × (total_cost p.links plan.counts ≡ b) × (a ≢ b)
 HoldsCostDiffers p plan _ = ⊥

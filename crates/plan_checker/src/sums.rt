@@ -63,7 +63,7 @@ fn add_loads(sums: &mut [Mixed], flows: &[Flow], den: u64)
     }
 }
 
-/// So many zeros, each over the denominator.
+/// This many zeros, each over the denominator.
 fn zeros(alloc: Global, count: usize, den: u64) -> Result<Vec<Mixed>, NoMemory>
     requires { 0 < den }
     ensures { IfOk result (λ v. (length v.items ≡ count) × All (λ m. m.rest < den) v.items × AreMixed den (λ k. 0) v.items) }

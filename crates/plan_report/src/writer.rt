@@ -68,8 +68,8 @@ fn put_report(text: &mut Bytes, names: &Names<'_>, report: &Report) -> Result<()
     put_outcomes(text, names, report.outcomes.items())
 }
 
-/// The text of a report that is in form, with amounts and money to the network's places. It takes time in the number of its bytes, since each name is found by its place, and
-/// memory for the text alone; it fails only where memory runs out.
+/// The text of a report that is in form, with as many digits of amounts and money as the network has. It takes time in the number
+/// of its bytes, since no name is searched for, and memory for the text alone; it fails only where memory runs out.
 ///
 /// ```text
 /// let text = write_report(alloc, &net, &states, &report)?;

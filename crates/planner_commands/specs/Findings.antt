@@ -20,7 +20,7 @@ abbrev pub demands_of_outcome : Outcome → List Demand
 demands_of_outcome (Planned caller serial plan) = plan.demands
 demands_of_outcome (Unsurvivable caller serial version position state demand) = []
 
--- the words of a finding, whose money has so many places
+-- the words of a finding, whose money has these places
 abbrev pub finding_words : Places → List Link → List Demand → Finding → List (List ℕ)
 finding_words places links demands NotesDiffer = codes "notes-differ" ∷ []
 finding_words places links demands (EntryDiffers position) = codes "entry-differs" ∷ decimal position ∷ []

@@ -67,7 +67,7 @@ abbrev pub RefusesFailureFile : List Link → List ℕ → List ℕ → Type 0
 RefusesFailureFile links =
     Refuses (failures.SpellsFailures links) (λ bytes at kind. failures_of links bytes ≡ Err (at, kind)) (codes "failures") failures_word
 
--- The bytes spell no script with amounts of so many places, or no report of this network and these states, and the text names their
+-- The bytes spell no script with amounts of these places, or no report of this network and these states, and the text names their
 -- first fault.
 abbrev pub RefusesScriptFile : Places → List ℕ → List ℕ → Type 0
 RefusesScriptFile places =

@@ -103,7 +103,7 @@ fn put_price(text: &mut Bytes, name: &[u8], place: u32) -> Result<(), NoMemory>
     put_number(text, place as u128)
 }
 
-/// Puts the words of a finding last, with money of so many places.
+/// Puts the words of a finding last, with money of these places.
 fn put_finding(
     text: &mut Bytes,
     places: Places,

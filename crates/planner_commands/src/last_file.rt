@@ -21,7 +21,7 @@ use std::alloc::Global;
 /// How many bytes a report may have.
 const REPORT_LIMIT: u64 = 1 << 28;
 
-/// The script that bytes spell, with amounts of so many places.
+/// The script that bytes spell, with amounts of these places.
 fn script_of(alloc: Global, places: Places, bytes: &[u8]) -> Result<Script, Stop>
     ensures spelled { IfOk result (SpellsScript places bytes.now) }
     ensures refused { IfErr result (Stops (λ s text. (s ≡ Status.BadScript) × RefusesScriptFile places bytes.now text)) }
@@ -35,7 +35,7 @@ fn script_of(alloc: Global, places: Places, bytes: &[u8]) -> Result<Script, Stop
     }
 }
 
-/// The script of a file, with amounts of so many places.
+/// The script of a file, with amounts of these places.
 pub fn load_script<S: Shelf>(
     alloc: Global,
     places: Places,

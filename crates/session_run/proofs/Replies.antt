@@ -22,7 +22,7 @@ use Rattle.plan_terms.specs.Edits.{Answered, added, edit_need, edit_reply, is_de
 abbrev AreDifferent : List Demand → Type 0
 AreDifferent demands = AllPairs (λ x y. x.name ≢ y.name) demands
 
--- no name twice, and a total need below 2^44 thousandths
+-- no name twice, and a total need below 2^44 units
 pub record IsLow (demands : List Demand) : Type 0 where
   pub different : AreDifferent demands
   pub total : total_need demands < 2 ^ 44
@@ -86,7 +86,7 @@ more_different ds new all unknown = all_pairs_push (λ (x y : Demand). x.name �
 
 -- ---- replies
 
--- a total that is too much is below 2^45 thousandths
+-- a total that is too much is below 2^45 units
 abbrev pub HasLowTotal : Reply → Type 0
 HasLowTotal (Accepted version) = Unit {0}
 HasLowTotal UnknownDemand = Unit {0}

@@ -9,7 +9,7 @@ use crate::names::letter;
 use net_core::{Demand, Demands, List, NoMemory, NodeId};
 use std::alloc::Global;
 
-/// A demand: the places of its ends among the nodes, and its need in thousandths.
+/// A demand: the places of its ends among the nodes, and its need in units.
 pub type DemandRow = (u32, u32, u64);
 
 /// The demands A, B and so on of the rows.
@@ -30,7 +30,7 @@ fn listed(alloc: Global, rows: &[DemandRow]) -> Result<Demands, NoMemory>
     Ok(demands)
 }
 
-/// Up to 26 demands A, B and so on of so many nodes, one for each row: each joins two of them, and the needs, in thousandths, are
+/// Up to 26 demands A, B and so on of so many nodes, one for each row: each joins two of them, and the needs, in units, are
 /// below 2^40 each and below 2^44 together.
 ///
 /// It takes time in the square of the rows, and memory in the rows.

@@ -1,4 +1,4 @@
--- how a board stands at the end of a turn
+-- what a board is at the end of a turn
 use Rattle.std.specs.Prelude.{◌≡◌, ◌++◌, List, [], ◌∷◌, Bool, true, false}
 use Rattle.net_core.specs.declared.journal.Entry.{Entry}
 use Rattle.cut_pool.specs.declared.answers.AdmitAnswer.{AdmitAnswer}

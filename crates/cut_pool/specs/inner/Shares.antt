@@ -20,7 +20,7 @@ abbrev pub asked_by : DistanceTable → Option DemandShare → ℕ
 asked_by table None = 0
 asked_by table (Some s) = s.need * unwrap_or (distance_at table s.from.0 s.to.0) 0
 
--- the ends are two of n nodes, and the need is below 2^40 thousandths
+-- the ends are two of n nodes, and the need is below 2^40 units
 abbrev pub IsShareOfDemand : ℕ → Option DemandShare → Type 0
 IsShareOfDemand n share = IfSome share (λ s. (s.from.0 < n) × (s.to.0 < n) × (s.need < 2 ^ 40))
 
