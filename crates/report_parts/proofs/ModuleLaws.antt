@@ -7,10 +7,10 @@ use Rattle.std.proofs.lemmas.List.Sums.{sum_by-cons}
 use Rattle.net_core.specs.declared.network.Link.{Link}
 use Rattle.net_core.specs.declared.network.Module.{Module}
 use Rattle.snd_tokens.specs.Lexemes.{Text, WordAt, OpenAt, CloseAt, EndAt}
-use Rattle.text_kit.specs.Items.{ComeAfter, Item, Verbatim, Whole}
+use Rattle.text_kit.specs.Items.{Closing, ComeAfter, Item, Verbatim, Whole}
 use Rattle.text_kit.specs.Reading.{of_length, Parenthesis, word_at}
 use Rattle.text_kit.proofs.Beginnings.{AnyText, Starts}
-use Rattle.text_kit.proofs.Lawful.{lawful_list, lawful_word}
+use Rattle.text_kit.proofs.Lawful.{lawful_as, lawful_list, lawful_word}
 use Rattle.text_kit.proofs.Spelled.{Lawful}
 use Rattle.plan_terms.specs.Capacities.{AreCounts, AreWithinLimits, capacities, modules_capacity}
 use Rattle.plan_report.specs.Items.{modules_items}
@@ -18,7 +18,7 @@ use Rattle.text_kit.specs.Edits.{section}
 use Rattle.report_words.specs.declared.fault.ReportKind.{ReportKind}
 use Rattle.report_words.specs.declared.fault.ReportKind.TheVariants.{Token, Ended, Limit}
 use Rattle.report_words.specs.ReportWords.{has_room, unknown_name, whole_within}
-use Rattle.report_parts.specs.ReadingParts.{count_at, count_within, counts_at, modules_at, next_counts_at}
+use Rattle.report_parts.specs.ReadingParts.{all_counts_at, count_at, count_within, counts_at, modules_at, next_counts_at}
 use Rattle.report_parts.proofs.Counts.{capacity_none}
 use Rattle.report_words.proofs.ListLaws.{is_length, lawful_placed, length_is, placed_items}
 use Rattle.report_words.proofs.Making.{law_made, made_law, made_then}
@@ -157,6 +157,13 @@ module _ (at : ℕ → Option Link) where
 starts_for : (o : Option Link) (c : List ℕ) → Starts (items_for o c)
 starts_for None c = tt
 starts_for (Some l) c = tt
+
+pub all_counts_law : (links : List Link) → ((k : ℕ) → IsSound (slice_get links k)) → Lawful (all_counts_at links) (λ cs. flat_map modules_items (zip links cs) ++ Closing ∷ []) (λ cs. AreCounts links cs × AreWithinLimits links cs) AnyText
+all_counts_law links sound = lawful_as (all_counts_at links) _ (λ cs. flat_map modules_items (zip links cs) ++ Closing ∷ []) _ (λ cs. AreCounts links cs × AreWithinLimits links cs) AnyText
+    (λ cs h. ap (λ (is : List Item). is ++ Closing ∷ []) (all_items (slice_get links) 0 links cs (λ k. ap (slice_get links) (omega arith)) (length_is (length links) Limit cs h.0)))
+    (λ cs h. counts_form (slice_get links) [] links cs (λ k. ap (slice_get links) (omega arith)) (length_is (length links) Limit cs h.0) h.1)
+    (λ cs h. let f = form_counts (slice_get links) [] links cs (λ k. ap (slice_get links) (omega arith)) h.0 h.1 in (is_length (length links) Limit cs f.0, f.1))
+    (lawful_placed (λ k c. items_for (slice_get links k) c) (λ sofar c. AreFor (slice_get links (length sofar)) c) (of_length (length links) Limit) (next_counts_at links) (λ k c. starts_for (slice_get links k) c) (λ sofar. counts_law (slice_get links (length sofar)) (sound (length sofar))))
 
 pub modules_law : (links : List Link) → ((k : ℕ) → IsSound (slice_get links k)) → Lawful (modules_at links) (λ cs. section (codes "MODULES") (flat_map modules_items (zip links cs))) (λ cs. AreCounts links cs × AreWithinLimits links cs) AnyText
 unfolding modules_at

@@ -20,7 +20,7 @@ use Rattle.report_words.specs.declared.fault.ReportKind.TheVariants.{Token, Ende
 use Rattle.report_words.specs.ReportWords.{has_room, link_at, link_of, unknown_name, whole_within}
 use Rattle.report_parts.specs.ReadingRoutings.{flow_at, path_at, routing_at, routings_at}
 use Rattle.report_parts.specs.ReadingQuality.{basis_at, caps_at, carry_at, evidence_at, fractional_at, left_at, loose_at, master_at, master_column_at, master_wide_at, metric_at, price_at, quality_at, route_at, route_column_at, route_wide_at, slack_at, tight_at, too_wide_at, wide_entry_at, wide_length_at, wide_number_at, wide_row_at, wide_sum_at, evidence_branches, loose_branches, master_column_branches, master_wide_branches, quality_branches, route_column_branches, route_wide_branches}
-use Rattle.report_parts.specs.ReadingParts.{certificate_at, certificate_line_at, count_at, count_within, counts_at, local_spot_at, modules_at, next_counts_at, nodes_at, plan_demand_at, plan_demands_at, pool_spot_at, spot_at, spot_branches}
+use Rattle.report_parts.specs.ReadingParts.{all_counts_at, certificate_at, certificate_line_at, count_at, count_within, counts_at, local_spot_at, modules_at, next_counts_at, nodes_at, plan_demand_at, plan_demands_at, pool_spot_at, spot_at, spot_branches}
 use Rattle.report_words.proofs.Branching.{online_branch}
 use Rattle.report_words.proofs.WordsOnline.{column_some, numbers_online, opening_within_online}
 
@@ -249,12 +249,15 @@ next_counts_online links sofar = counts_online (slice_get links (length sofar))
 pub next_counts_some : (links : List Link) (sofar : List (List ℕ)) → TakesSome (next_counts_at links sofar)
 next_counts_some links sofar = takes_some (next_counts_at links sofar) (next_counts_online links sofar) (λ p. Ended) (counts_end (slice_get links (length sofar)))
 
+pub all_counts_online : (links : List Link) → IsOnline (all_counts_at links)
+all_counts_online links = online_list Parenthesis (of_length (length links) Limit) (next_counts_at links) (next_counts_online links) (next_counts_some links) []
+
 pub modules_online : (links : List Link) → IsOnline (modules_at links)
 unfolding modules_at
 modules_online links =
     online_then _ _ (online_word Token Ended _) (λ x.
     online_then _ _ (online_open Token Ended) (λ x.
-    online_list Parenthesis (of_length (length links) Limit) (next_counts_at links) (next_counts_online links) (next_counts_some links) []))
+    all_counts_online links))
 
 pub pool_spot_online : (pool : List CutLine) → IsOnline (pool_spot_at pool)
 unfolding pool_spot_at

@@ -64,11 +64,15 @@ counts_at (Some l) = do
 abbrev pub next_counts_at : List Link → List (List ℕ) → Reading ReportKind (List ℕ)
 next_counts_at links sofar = counts_at (slice_get links (length sofar))
 
+-- the counts of all links, up to the closing parenthesis
+abbrev pub all_counts_at : List Link → Reading ReportKind (List (List ℕ))
+all_counts_at links = list_at Parenthesis (of_length (length links) Limit) (next_counts_at links) []
+
 unfoldable pub modules_at : List Link → Reading ReportKind (List (List ℕ))
 modules_at links = do
   _ ← keyword_at (codes "MODULES")
   _ ← opening_at
-  list_at Parenthesis (of_length (length links) Limit) (next_counts_at links) []
+  all_counts_at links
 
 -- ---- the certificate
 

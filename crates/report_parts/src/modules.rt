@@ -4,7 +4,7 @@ ghost use Rattle.plan_terms.specs.Capacities.{modules_capacity};
 ghost use Rattle.text_kit.specs.Answers.{Fails, ReadsAs};
 ghost use Rattle.text_kit.specs.Reading.{list_at, of_length, Parenthesis};
 ghost use Rattle.report_words.specs.ReportWords.{whole_within};
-ghost use Rattle.report_parts.specs.ReadingParts.{count_at, count_within, counts_at, modules_at, next_counts_at};
+ghost use Rattle.report_parts.specs.ReadingParts.{all_counts_at, count_at, count_within, counts_at, modules_at, next_counts_at};
 
 use net_core::{Counts, Link, List};
 use report_words::element::{Element, list};
@@ -177,6 +177,14 @@ impl<'a> Element for ModuleList<'a> {
     }
 }
 
+/// Takes the counts of all links, up to a closing parenthesis: for each link, in the network's order, its name and how many of each
+/// of its modules there are. It has the faults and the cost of `modules`.
+pub fn all_counts(alloc: Global, links: &[Link], text: &mut Cursor) -> Result<Counts, ReportRefusal>
+    ensures { ReadsAs (λ l. l) result (left text.new) (all_counts_at links.now (left text.old)) }
+{
+    list(alloc, &ModuleList { links }, text)
+}
+
 /// Takes the modules of all links: for each link, in the network's order, its name and how many of each of its modules there are.
 ///
 /// A name other than the next link's is `unknown-name`. A count of 2^44 or more, one with which the link's capacity would reach
@@ -188,5 +196,5 @@ pub fn modules(alloc: Global, links: &[Link], text: &mut Cursor) -> Result<Count
 {
     keyword(MODULES, text)?;
     opening(text)?;
-    list(alloc, &ModuleList { links }, text)
+    all_counts(alloc, links, text)
 }

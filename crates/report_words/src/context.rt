@@ -87,8 +87,8 @@ impl<'a> Context<'a> {
         placed(at, self.link_of(word))
     }
 
-    /// The node that a word names.
-    fn node_of(&self, word: &[u8]) -> Result<NodeId, ReportKind>
+    /// The node that a word names. A name that no node has is `unknown-name`, or `limit-name` if it has more than 255 bytes.
+    pub fn node_of(&self, word: &[u8]) -> Result<NodeId, ReportKind>
         ensures { result ≡ node_of_word self.now.net.now.nodes word.now }
     {
         match self.nodes.find(word) {
