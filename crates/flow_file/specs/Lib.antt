@@ -1,0 +1,3 @@
+pub mod FlowKinds
+pub mod FlowFiles
+pub mod FlowReading
