@@ -1,0 +1,7 @@
+use Rattle.std.proofs.Common.{ℕ, ◌<◌, get_or}
+use Rattle.net_core.specs.Graphs.{Survives}
+use Rattle.net_core.specs.Views.{graph}
+use Rattle.flow_import.proofs.loads.first_dead.Given as goal
+
+abbrev pub invariant-loop-e : goal.invariant-loop-e
+invariant-loop-e l = (i : ℕ) → i < l.e → 0 < get_or l.loads i 0 → Survives (graph l.net l.states l.state.0) i

@@ -1,0 +1,87 @@
+ghost use Rattle.std.specs.Prelude.{◌≡◌, ℕ, ◌+◌, ◌<◌, ◌≤◌, All, IfOk, IsTrue, MatchOption, false, length, slice_index};
+ghost use Rattle.net_core.specs.Graphs.{Survives};
+ghost use Rattle.net_core.specs.Views.{graph};
+ghost use Rattle.flow_import.specs.Imports.{flow_load};
+ghost use Rattle.flow_import.specs.inner.Steps.{AreLoads, IsFirstAbove, IsFirstLost};
+
+use failure_states::survives;
+use flow_file::LinkFlow;
+use net_core::{LinkId, Network, NoMemory, StateId, States};
+use std::alloc::Global;
+
+/// What the flows on each link sum to. What the sums were before does not matter.
+fn fill_loads(loads: &mut [u128], flows: &[LinkFlow])
+    requires known { All (λ f. f.arc.link.0 < length loads.old) flows.now }
+    requires few { length flows.now ≤ 65536 }
+    ensures size { length loads.new ≡ length loads.old }
+    ensures sums { (e : ℕ) → e < length loads.old → slice_index loads.new e ≡ flow_load flows.now e }
+{
+    loads.fill(0);
+    for flow in flows {
+        loads[flow.arc.link.0 as usize] += flow.arc.num as u128;
+    }
+}
+
+/// What the flows on each link of a network sum to, in both directions together.
+pub(crate) fn loads_of(
+    alloc: Global,
+    net: &Network,
+    flows: &[LinkFlow],
+) -> Result<Vec<u128>, NoMemory>
+    requires known { All (λ f. f.arc.link.0 < length net.now.links) flows.now }
+    requires few { length flows.now ≤ 65536 }
+    ensures { IfOk result (λ v. AreLoads (length net.now.links) flows.now v.items) }
+{
+    let mut loads = vec![in alloc; 0u128; net.links().len()]?;
+    fill_loads(&mut loads, flows);
+    Ok(loads)
+}
+
+/// Whether a link survives or has no load.
+fn is_alive(net: &Network, states: &States, state: StateId, link: LinkId, load: u128) -> bool
+    requires state { state.0 < length states.now.listed + 1 }
+    requires link { link.0 < length net.now.links }
+    ensures yes { IsTrue result → 0 < load → Survives (graph net.now states.now state.0) link.0 }
+    ensures no { result ≡ false → (0 < load) × (Survives (graph net.now states.now state.0) link.0 → ⊥) }
+{
+    load == 0 || survives(net, states, state, link)
+}
+
+/// The first link with a load that doesn't survive.
+pub(crate) fn first_dead(
+    net: &Network,
+    states: &States,
+    state: StateId,
+    loads: &[u128],
+) -> Option<LinkId>
+    requires state { state.0 < length states.now.listed + 1 }
+    requires sizes { length loads.now ≡ length net.now.links }
+    requires few { length loads.now ≤ 256 }
+    ensures { MatchOption result
+        ((e : ℕ) → e < length loads.now → 0 < slice_index loads.now e → Survives (graph net.now states.now state.0) e)
+        (λ e. IsFirstLost (graph net.now states.now state.0) loads.now e.0) }
+{
+    for e in 0..loads.len() {
+        let link = LinkId(e as u32);
+        if !is_alive(net, states, state, link, loads[e]) {
+            return Some(link);
+        }
+    }
+    None
+}
+
+/// The first link whose load is more than its capacity.
+pub(crate) fn first_above(loads: &[u128], capacities: &[u128]) -> Option<LinkId>
+    requires sizes { length capacities.now ≡ length loads.now }
+    requires few { length loads.now ≤ 256 }
+    ensures { MatchOption result
+        ((e : ℕ) → e < length loads.now → slice_index loads.now e ≤ slice_index capacities.now e)
+        (λ e. IsFirstAbove loads.now capacities.now e.0) }
+{
+    for e in 0..loads.len() {
+        if loads[e] > capacities[e] {
+            return Some(LinkId(e as u32));
+        }
+    }
+    None
+}

@@ -1,0 +1,129 @@
+ghost use Rattle.std.specs.Prelude.{◌≡◌, ◌+◌, ◌<◌, All, IfErr, IfOk, length};
+ghost use Rattle.net_core.specs.Demands.{AreDemands};
+ghost use Rattle.net_core.specs.Views.{case};
+ghost use Rattle.plan_report.specs.KnownNames.{known_of};
+ghost use Rattle.plan_terms.specs.Capacities.{capacities as caps_of};
+ghost use Rattle.flow_file.specs.FlowFiles.{AreLinkFlows, IsFlowFile};
+ghost use Rattle.flow_import.specs.Imports.{IsImportFault, IsImported, IsImportedState, IsStateFault, flows_in};
+ghost use Rattle.flow_import.specs.inner.Steps.{AreImportedTo};
+
+use crate::fault::ImportFault;
+use crate::imported::Imported;
+use crate::loads::{first_above, first_dead, loads_of};
+use crate::splits::split_all;
+use flow_file::{FlowFile, LinkFlow};
+use module_choice::{capacities, cost};
+use net_core::{Demands, List, Network, Routing, StateId, States};
+use std::alloc::Global;
+
+/// Imports the flows of one state.
+fn import_state(
+    alloc: Global,
+    net: &Network,
+    states: &States,
+    demands: &Demands,
+    caps: &[u128],
+    state: StateId,
+    flows: &[LinkFlow],
+) -> Result<Routing, ImportFault>
+    requires demands { AreDemands (length net.now.nodes) demands.now }
+    requires caps { length caps.now ≡ length net.now.links }
+    requires state { state.0 < length states.now.listed + 1 }
+    requires flows { AreLinkFlows net.now.links demands.now flows.now }
+    ensures routed { let p = case net.now states.now demands.now in IfOk result (λ routing. IsImportedState p caps.now state.0 flows.now routing) }
+    ensures fault { let p = case net.now states.now demands.now in IfErr result (λ fault. IsStateFault p caps.now state.0 flows.now fault) }
+{
+    let loads = loads_of(alloc, net, flows)?;
+    if let Some(link) = first_dead(net, states, state, &loads) {
+        return Err(ImportFault::Dead(state, link));
+    }
+    let routed = split_all(alloc, net, states, demands, state, flows)?;
+    if let Some(link) = first_above(&loads, caps) {
+        return Err(ImportFault::Overloaded(state, link));
+    }
+    Ok(Routing {
+        den: 1,
+        flows: routed,
+    })
+}
+
+/// The flows of a state.
+fn flows_in(flows: &[List<LinkFlow>], state: usize) -> &[LinkFlow]
+    requires { state < length flows.now }
+    ensures { result.now ≡ flows_in flows.now state }
+{
+    flows[state].items()
+}
+
+/// Imports the flows of one state after another.
+fn import_states(
+    alloc: Global,
+    net: &Network,
+    states: &States,
+    demands: &Demands,
+    caps: &[u128],
+    flows: &[List<LinkFlow>],
+) -> Result<List<Routing>, ImportFault>
+    requires demands { AreDemands (length net.now.nodes) demands.now }
+    requires caps { length caps.now ≡ length net.now.links }
+    requires long { length flows.now ≡ length states.now.listed + 1 }
+    requires flows { All (AreLinkFlows net.now.links demands.now) flows.now }
+    ensures routed { let p = case net.now states.now demands.now in IfOk result (λ routings. AreImportedTo p caps.now flows.now (length flows.now) routings) }
+    ensures fault { let p = case net.now states.now demands.now in IfErr result (λ fault. IsImportFault p caps.now flows.now fault) }
+{
+    let mut routings = List::new(alloc);
+    for s in 0..states.count() {
+        let state = StateId(s);
+        let routing = import_state(
+            alloc,
+            net,
+            states,
+            demands,
+            caps,
+            state,
+            flows_in(flows, s as usize),
+        )?;
+        let Ok(()) = routings.push(routing) else {
+            return Err(ImportFault::NoMemory);
+        };
+    }
+    Ok(routings)
+}
+
+/// Imports another tool's solution: its counts with what they cost, setups among it, and its flows as routings along paths, with
+/// denominator 1, that carry the demands in each state.
+///
+/// The first fault by state refuses it: the first link with flow that doesn't survive in the state; else the first demand, and node,
+/// at which its flows aren't balanced; else the first link on which all flows, in both directions together, are more than the
+/// capacity of the counts. Flows that go round in a circle are dropped, once their loads were tested.
+///
+/// For each state it takes time in its flows times the demands, and in what `split_flow` takes; and memory for the flows.
+pub fn import(
+    alloc: Global,
+    net: &Network,
+    states: &States,
+    demands: &Demands,
+    file: FlowFile,
+) -> Result<Imported, ImportFault>
+    requires demands { AreDemands (length net.now.nodes) demands.now }
+    requires file { IsFlowFile (known_of net.now states.now) demands.now file }
+    ensures imported { let p = case net.now states.now demands.now in IfOk result (λ imported. IsImported p file imported) }
+    ensures fault { let p = case net.now states.now demands.now in IfErr result (λ fault. IsImportFault p (caps_of p.links file.counts) file.flows fault) }
+{
+    let caps = capacities(alloc, net, &file.counts)?;
+    let routings = import_states(
+        alloc,
+        net,
+        states,
+        demands,
+        caps.nums.items(),
+        file.flows.items(),
+    )?;
+    let cost = cost(net, &file.counts);
+    let counts = file.counts;
+    Ok(Imported {
+        counts,
+        cost,
+        routings,
+    })
+}
