@@ -2,7 +2,7 @@
 ghost use Rattle.std.specs.Prelude.{◌<◌, ◌^◌, IfSome};
 ghost use Rattle.plan_terms.specs.Edits.{edit_need};
 
-use crate::changes::{Change, edit_of};
+use crate::changes::{Change, added, edit_of};
 use demand_book::Book;
 use net_core::{Edit, Name, Reply};
 use std::alloc::Global;
@@ -37,115 +37,133 @@ const FULL: [DemandRow; 17] = [
     (0, 1, 15),
 ];
 
-/// The demands that a book opens with, an edit, its reply, and then the version, the total and the names in their order, a letter each.
-type Row = (&'static [DemandRow], Change, Reply, u64, u64, &'static [u8]);
+/// The demands that a book opens with.
+#[derive(Clone, Copy)]
+enum Opening {
+    Three,
+    Great,
+    Full,
+}
+
+/// The rows of these demands.
+fn rows_of(opening: Opening) -> &'static [DemandRow] {
+    match opening {
+        Opening::Three => &THREE,
+        Opening::Great => &GREAT,
+        Opening::Full => &FULL,
+    }
+}
+
+/// The demands that a book opens with, an edit, its reply, and then the version, the total and the names in their order, a letter each:
+/// the first one, and how many they are, as the alphabet goes on.
+type Row = (Opening, Change, Reply, u64, u64, (u8, u8));
 
 /// Set keeps the place, drop closes up, and add goes last. Of several faults the first one in this order is told: a known name, an
 /// unknown node, equal ends, a total of 2^44 or more.
 const ROWS: [Row; 13] = [
     (
-        &THREE,
-        Change::Set(b"A", 24000),
+        Opening::Three,
+        Change::Set(b'A', 24000),
         Reply::Accepted(1),
         1,
         36000,
-        b"ABC",
+        (b'A', 3),
     ),
     (
-        &THREE,
-        Change::Drop(b"A"),
+        Opening::Three,
+        Change::Drop(b'A'),
         Reply::Accepted(1),
         1,
         12000,
-        b"BC",
+        (b'B', 2),
     ),
     (
-        &THREE,
-        Change::Set(b"Z", 1),
+        Opening::Three,
+        Change::Set(b'Z', 1),
         Reply::UnknownDemand,
         0,
         24000,
-        b"ABC",
+        (b'A', 3),
     ),
     (
-        &THREE,
-        Change::Drop(b"Z"),
+        Opening::Three,
+        Change::Drop(b'Z'),
         Reply::UnknownDemand,
         0,
         24000,
-        b"ABC",
+        (b'A', 3),
     ),
     (
-        &THREE,
-        Change::Add(b"D", b"A", b"B", 5),
+        Opening::Three,
+        Change::Add(b'D', b'A', b'B', 5),
         Reply::Accepted(1),
         1,
         24005,
-        b"ABCD",
+        (b'A', 4),
     ),
     (
-        &THREE,
-        Change::Add(b"A", b"X", b"X", 5),
+        Opening::Three,
+        Change::Add(b'A', b'X', b'X', 5),
         Reply::KnownDemand,
         0,
         24000,
-        b"ABC",
+        (b'A', 3),
     ),
     (
-        &THREE,
-        Change::Add(b"D", b"X", b"X", 5),
+        Opening::Three,
+        Change::Add(b'D', b'X', b'X', 5),
         Reply::UnknownNode,
         0,
         24000,
-        b"ABC",
+        (b'A', 3),
     ),
     (
-        &THREE,
-        Change::Add(b"D", b"A", b"X", 1),
+        Opening::Three,
+        Change::Add(b'D', b'A', b'X', 1),
         Reply::UnknownNode,
         0,
         24000,
-        b"ABC",
+        (b'A', 3),
     ),
     (
-        &THREE,
-        Change::Add(b"D", b"A", b"A", 1),
+        Opening::Three,
+        Change::Add(b'D', b'A', b'A', 1),
         Reply::SelfDemand,
         0,
         24000,
-        b"ABC",
+        (b'A', 3),
     ),
     (
-        &GREAT,
-        Change::Add(b"Q", b"A", b"B", 16),
+        Opening::Great,
+        Change::Add(b'Q', b'A', b'B', 16),
         Reply::TooMuch(17592186044416),
         0,
         17592186044400,
-        b"ABCDEFGHIJKLMNOP",
+        (b'A', 16),
     ),
     (
-        &GREAT,
-        Change::Add(b"Q", b"A", b"B", 15),
+        Opening::Great,
+        Change::Add(b'Q', b'A', b'B', 15),
         Reply::Accepted(1),
         1,
         17592186044415,
-        b"ABCDEFGHIJKLMNOPQ",
+        (b'A', 17),
     ),
     (
-        &FULL,
-        Change::Set(b"Q", 16),
+        Opening::Full,
+        Change::Set(b'Q', 16),
         Reply::TooMuch(17592186044416),
         0,
         17592186044415,
-        b"ABCDEFGHIJKLMNOPQ",
+        (b'A', 17),
     ),
     (
-        &GREAT,
-        Change::Add(b"Q", b"A", b"A", 16),
+        Opening::Great,
+        Change::Add(b'Q', b'A', b'A', 16),
         Reply::SelfDemand,
         0,
         17592186044400,
-        b"ABCDEFGHIJKLMNOP",
+        (b'A', 16),
     ),
 ];
 
@@ -156,35 +174,54 @@ fn open_book(alloc: Global, rows: &[DemandRow]) -> Option<Book> {
     Book::new(&net, opening).ok()
 }
 
-/// Whether these are the book's demands, a letter each, and each is found at its place.
-fn are_in_order(book: &Book, order: &[u8]) -> bool {
-    for k in 0..order.len() {
-        let Some(demand) = book.demands().items().get(k) else {
-            return false;
-        };
-        let place = book.find(&demand.name).map(|at| at as usize);
-        if demand.name.bytes() != [order[k]].as_slice() || place != Some(k) {
+/// Whether the book's demand at a place has this letter, and is found there.
+fn is_at(book: &Book, k: usize, letter: u8) -> bool {
+    let Some(demand) = book.demands().items().get(k) else {
+        return false;
+    };
+    let place = book.find(&demand.name).map(|at| at as usize);
+    demand.name.bytes() == [letter].as_slice() && place == Some(k)
+}
+
+/// Whether these are the book's demands, so many letters from the first one on, and each is found at its place.
+fn are_in_order(book: &Book, order: (u8, u8)) -> bool {
+    for k in 0..order.1 {
+        if !is_at(book, k as usize, order.0.wrapping_add(k)) {
             return false;
         }
     }
-    book.demands().len() == order.len()
+    book.demands().len() == order.1 as usize
+}
+
+/// The book's reply to an edit, where there is one.
+fn reply_of(book: &mut Book, edit: Option<Edit>) -> Option<Reply>
+    requires { IfSome edit (λ e. edit_need e < 2 ^ 40) }
+{
+    match edit {
+        Some(edit) => book.apply(&edit).ok(),
+        None => None,
+    }
 }
 
 /// The book's reply to an edit.
 fn reply_to(alloc: Global, book: &mut Book, change: &Change) -> Option<Reply> {
-    let edit = edit_of(alloc, change)?;
-    book.apply(&edit).ok()
+    reply_of(book, edit_of(alloc, change))
+}
+
+/// Whether the book has the row's reply to its edit, and then is what the row says.
+fn has_reply(alloc: Global, book: &mut Book, row: &Row) -> bool {
+    reply_to(alloc, book, &row.1) == Some(row.2)
+        && book.version() == row.3
+        && book.total() == row.4
+        && are_in_order(book, row.5)
 }
 
 /// Whether the edit has its reply, and leaves what the row says.
 fn is_replied(alloc: Global, row: &Row) -> bool {
-    let Some(mut book) = open_book(alloc, row.0) else {
-        return false;
-    };
-    reply_to(alloc, &mut book, &row.1) == Some(row.2)
-        && book.version() == row.3
-        && book.total() == row.4
-        && are_in_order(&book, row.5)
+    match open_book(alloc, rows_of(row.0)) {
+        Some(mut book) => has_reply(alloc, &mut book, row),
+        None => false,
+    }
 }
 
 /// Whether the edit of each row is.
@@ -202,27 +239,20 @@ fn each_edit_has_its_reply(rt: HostRuntime) {
     assert!(rt; are_replied(rt.alloc(), &ROWS));
 }
 
-/// One of 2,048 names: A0, and so on.
+/// The bytes of one of 2,048 names: A0, and so on.
+fn bytes_of(k: usize) -> [u8; 2] {
+    [b'A' + (k / 64 % 32) as u8, b'0' + (k % 64) as u8]
+}
+
+/// One of these names.
 fn numbered(alloc: Global, k: usize) -> Option<Name> {
-    Name::new(alloc, &[b'A' + (k / 64 % 32) as u8, b'0' + (k % 64) as u8]).ok()
+    Name::new(alloc, &bytes_of(k)).ok()
 }
 
-/// A new demand from A to B, of nearly 2^33 thousandths.
-fn new_demand(alloc: Global, k: usize) -> Option<Edit>
-    ensures { IfSome result (λ e. edit_need e < 2 ^ 40) }
-{
-    Some(Edit::Add {
-        name: numbered(alloc, k)?,
-        from: Name::new(alloc, b"A").ok()?,
-        to: Name::new(alloc, b"B").ok()?,
-        need: (1 << 33) - 1,
-    })
-}
-
-/// The reply to the new demand.
+/// The reply to a new demand from A to B, of nearly 2^33 thousandths.
 fn reply_to_new(alloc: Global, book: &mut Book, k: usize) -> Option<Reply> {
-    let edit = new_demand(alloc, k)?;
-    book.apply(&edit).ok()
+    let name = bytes_of(k);
+    reply_of(book, added(alloc, &name, b'A', b'B', (1 << 33) - 1))
 }
 
 /// Whether 2,048 new demands are accepted.
@@ -245,39 +275,48 @@ fn full_book(alloc: Global) -> Option<Book> {
     }
 }
 
-/// Edits of a full book: one demand more, which is also too much, one less, and then again one more.
-const AT_FULL: [(Change, Reply); 3] = [
-    (Change::Add(b"more", b"A", b"B", 2048), Reply::TooMany),
-    (Change::Drop(b"A0"), Reply::Accepted(2049)),
-    (
-        Change::Add(b"more", b"A", b"B", 2048),
-        Reply::Accepted(2050),
-    ),
-];
+/// The reply to one demand more.
+fn reply_to_more(alloc: Global, book: &mut Book) -> Option<Reply> {
+    reply_of(book, added(alloc, b"more", b'A', b'B', 2048))
+}
 
-/// Whether the book has these replies.
-fn has_replies(alloc: Global, book: &mut Book, rows: &[(Change, Reply)]) -> bool {
-    for (change, reply) in rows {
-        if reply_to(alloc, book, change) != Some(*reply) {
-            return false;
-        }
+/// The reply to one demand less.
+fn reply_to_less(alloc: Global, book: &mut Book, k: usize) -> Option<Reply> {
+    match numbered(alloc, k) {
+        Some(name) => reply_of(book, Some(Edit::Drop { name })),
+        None => None,
     }
-    true
+}
+
+/// Whether a full book has no place for one demand more, which is also too much, and has one after it drops A0.
+fn has_place_after_drop(alloc: Global, book: &mut Book) -> bool {
+    reply_to_more(alloc, book) == Some(Reply::TooMany)
+        && reply_to_less(alloc, book, 0) == Some(Reply::Accepted(2049))
+        && reply_to_more(alloc, book) == Some(Reply::Accepted(2050))
+}
+
+/// The same of a new full book.
+fn has_place_on_new(alloc: Global) -> bool {
+    match full_book(alloc) {
+        Some(mut book) => has_place_after_drop(alloc, &mut book),
+        None => false,
+    }
 }
 
 #[test]
 fn a_full_book_has_no_place_even_where_the_total_is_too_much(rt: HostRuntime) {
-    let book = full_book(rt.alloc());
-    assert!(rt; book.is_some_and(|mut book| has_replies(rt.alloc(), &mut book, &AT_FULL)));
+    assert!(rt; has_place_on_new(rt.alloc()));
 }
 
 /// The reply to another need of the demand.
 fn reply_to_set(alloc: Global, book: &mut Book, k: usize, need: u32) -> Option<Reply> {
-    let edit = Edit::Set {
-        name: numbered(alloc, k)?,
-        need: need as u64,
-    };
-    book.apply(&edit).ok()
+    match numbered(alloc, k) {
+        Some(name) => {
+            let need = need as u64;
+            reply_of(book, Some(Edit::Set { name, need }))
+        }
+        None => None,
+    }
 }
 
 /// Whether a thousand edits of a full book are accepted, one after another.
@@ -291,8 +330,15 @@ fn accepts_a_thousand(alloc: Global, book: &mut Book) -> bool {
     true
 }
 
+/// The same of a new full book.
+fn accepts_on_new(alloc: Global) -> bool {
+    match full_book(alloc) {
+        Some(mut book) => accepts_a_thousand(alloc, &mut book),
+        None => false,
+    }
+}
+
 #[test]
 fn a_thousand_edits_of_2048_demands_are_accepted(rt: HostRuntime) {
-    let book = full_book(rt.alloc());
-    assert!(rt; book.is_some_and(|mut book| accepts_a_thousand(rt.alloc(), &mut book)));
+    assert!(rt; accepts_on_new(rt.alloc()));
 }

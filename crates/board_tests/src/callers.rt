@@ -6,11 +6,13 @@ ghost use Rattle.metric_cut.specs.Cuts.{IsCutOf};
 ghost use Rattle.turn_lock.specs.Passes.{IsPassOf, opening_of, own_places, own_units};
 ghost use Rattle.board_desk.specs.Turns.{AreAtOneDesk, IsAtDesk, board_made};
 
+use crate::changes::{Change, edit_of};
 use crate::cuts::unit_cut;
+use crate::discard::discard;
 use board_desk::Caller;
-use cut_pool::{AdmitAnswer, Board};
+use cut_pool::{AdmitAnswer, Board, Snapshot};
 use metric_cut::Cut;
-use net_core::{Copied, Edit, Entry, Name, Problem};
+use net_core::{Copied, Entry, NoMemory, Problem};
 use std::alloc::Global;
 use std::sync::Wait;
 use std::thread;
@@ -35,7 +37,28 @@ fn open_desk(alloc: Global, problem: &Problem) -> Option<(Desk<Board<'_>>, Pass<
     Desk::new(alloc, board).ok()
 }
 
-/// Sets the need of A so many times, each in a turn of its own. It stops where memory runs out.
+/// Sets the need of A in a turn. Where memory runs out, no edit is made.
+fn edit_once<'d, 'a, R: Wait>(
+    rt: &R,
+    alloc: Global,
+    caller: Caller<'d, 'a>,
+    need: u32,
+) -> Caller<'d, 'a>
+    requires { IsAtDesk caller }
+    ensures desk { AreAtOneDesk caller.entry result }
+    ensures units { own_units result.pass ≡ own_units caller.entry.pass }
+{
+    match edit_of(alloc, &Change::Set(b'A', need)) {
+        Some(edit) => {
+            let (answer, caller) = caller.edit(rt, edit);
+            discard(answer);
+            caller
+        }
+        None => caller,
+    }
+}
+
+/// Sets the need of A so many times, each in a turn of its own.
 fn edit_often<'d, 'a, R: Wait>(
     rt: &R,
     alloc: Global,
@@ -48,15 +71,7 @@ fn edit_often<'d, 'a, R: Wait>(
 {
     let mut caller = caller;
     for need in 0..edits {
-        let Ok(name) = Name::new(alloc, b"A") else {
-            return caller;
-        };
-        let edit = Edit::Set {
-            name,
-            need: need as u64,
-        };
-        let (_, after) = caller.edit(rt, edit);
-        caller = after;
+        caller = edit_once(rt, alloc, caller, need);
     }
     caller
 }
@@ -132,10 +147,17 @@ fn commit_all<R: Threads + Wait + Sync>(rt: &R, alloc: Global, problem: &Problem
         && matches!(entries_by(rt, alloc, problem, 8, 125), Some((1000, _, _)))
 }
 
+/// The same on new boards of one demand.
+fn commit_all_on_new<R: Threads + Wait + Sync>(rt: &R, alloc: Global) -> bool {
+    match one_demand(alloc) {
+        Some(problem) => commit_all(rt, alloc, &problem),
+        None => false,
+    }
+}
+
 #[test]
 fn threads_commit_all_their_edits(rt: HostRuntime) {
-    let problem = one_demand(rt.alloc());
-    assert!(rt; problem.is_some_and(|problem| commit_all(&rt, rt.alloc(), &problem)));
+    assert!(rt; commit_all_on_new(&rt, rt.alloc()));
 }
 
 /// A caller that has made no entry splits in two. One admits a cut, the other only looks, and then takes the one in: it names the
@@ -155,11 +177,17 @@ fn met_by_another<'d, 'a, R: Wait>(
 {
     let (one, other) = caller.split(2);
     let (answer, one) = one.admit(rt, cut);
-    let (_, other) = other.snapshot(rt);
-    let AdmitAnswer::Admitted { .. } = answer else {
-        return None;
-    };
-    Some(other.meet(one))
+    let (found, other) = other.snapshot(rt);
+    discard(found);
+    match answer {
+        AdmitAnswer::Admitted { .. } => Some(other.meet(one)),
+        refused => {
+            discard(refused);
+            discard(one);
+            discard(other);
+            None
+        }
+    }
 }
 
 /// How many entries and cuts a board of the problem has after that.
@@ -172,11 +200,36 @@ fn counts_when_met<R: Wait>(rt: &R, alloc: Global, problem: &Problem) -> Option<
     Some((board.entries().len(), board.cuts()))
 }
 
+/// Whether a board of one demand has one entry and one cut then.
+fn is_met_on_new<R: Wait>(rt: &R, alloc: Global) -> bool {
+    match one_demand(alloc) {
+        Some(problem) => counts_when_met(rt, alloc, &problem) == Some((1, 1)),
+        None => false,
+    }
+}
+
 #[test]
 fn a_caller_that_takes_another_in_has_its_entry(rt: HostRuntime) {
-    let problem = one_demand(rt.alloc());
-    let found = problem.and_then(|problem| counts_when_met(&rt, rt.alloc(), &problem));
-    assert!(rt; found == Some((1, 1)));
+    assert!(rt; is_met_on_new(&rt, rt.alloc()));
+}
+
+/// Whether a cut is the first one, and the first entry.
+fn is_first(answer: &AdmitAnswer) -> bool {
+    matches!(
+        answer,
+        AdmitAnswer::Admitted {
+            index: 0,
+            position: 1,
+        }
+    )
+}
+
+/// The position, the version and the number of cuts of a snapshot.
+fn counts_in(found: &Result<Snapshot, NoMemory>) -> Option<(u64, u64, usize)> {
+    match found {
+        Ok(found) => Some((found.position, found.version, found.cuts.len())),
+        Err(_) => None,
+    }
 }
 
 /// A caller admits a cut, as the first entry, and splits in two. The position, the version and the number of cuts that the second finds.
@@ -186,18 +239,15 @@ fn found_by_a_second<R: Wait>(rt: &R, caller: Caller, cut: Cut) -> Option<(u64, 
     requires cut { IsCutOf (graph (board_made caller).net.now (board_made caller).states.now cut.state.0) cut }
 {
     let (answer, caller) = caller.admit(rt, cut);
-    let (_first, second) = caller.split(2);
-    let (found, _second) = second.snapshot(rt);
-    match (answer, found) {
-        (
-            AdmitAnswer::Admitted {
-                index: 0,
-                position: 1,
-            },
-            Ok(found),
-        ) => { Some((found.position, found.version, found.cuts.len())) }
-        _ => None,
-    }
+    let is_first = is_first(&answer);
+    discard(answer);
+    let (first, second) = caller.split(2);
+    discard(first);
+    let (found, second) = second.snapshot(rt);
+    discard(second);
+    let counts = counts_in(&found);
+    discard(found);
+    if is_first { counts } else { None }
 }
 
 /// The same on a new board of the problem.
@@ -207,9 +257,15 @@ fn found_on_new<R: Wait>(rt: &R, alloc: Global, problem: &Problem) -> Option<(u6
     found_by_a_second(rt, Caller::new(1, &desk, pass), cut)
 }
 
+/// Whether it finds the first entry, the opening version and one cut on a board of one demand.
+fn is_found_on_new<R: Wait>(rt: &R, alloc: Global) -> bool {
+    match one_demand(alloc) {
+        Some(problem) => found_on_new(rt, alloc, &problem) == Some((1, 0, 1)),
+        None => false,
+    }
+}
+
 #[test]
 fn a_second_caller_finds_what_the_first_had_seen(rt: HostRuntime) {
-    let problem = one_demand(rt.alloc());
-    let found = problem.and_then(|problem| found_on_new(&rt, rt.alloc(), &problem));
-    assert!(rt; found == Some((1, 0, 1)));
+    assert!(rt; is_found_on_new(&rt, rt.alloc()));
 }

@@ -5,23 +5,24 @@ ghost use Rattle.plan_terms.specs.Edits.{edit_need};
 use net_core::{Edit, Name};
 use std::alloc::Global;
 
-/// An edit: a name, two ends, a need in thousandths.
+/// An edit: a name, two ends, a need in thousandths. Names are a letter each.
 #[derive(Clone, Copy)]
 pub enum Change {
-    Set(&'static [u8], u32),
-    Add(&'static [u8], &'static [u8], &'static [u8], u32),
-    Drop(&'static [u8]),
+    Set(u8, u32),
+    Add(u8, u8, u8, u32),
+    Drop(u8),
 }
 
 /// A new demand of these names.
-fn added(alloc: Global, name: &[u8], from: &[u8], to: &[u8], need: u32) -> Option<Edit>
+pub fn added(alloc: Global, name: &[u8], from: u8, to: u8, need: u64) -> Option<Edit>
+    requires { need < 2 ^ 40 }
     ensures { IfSome result (λ e. edit_need e < 2 ^ 40) }
 {
     Some(Edit::Add {
         name: Name::new(alloc, name).ok()?,
-        from: Name::new(alloc, from).ok()?,
-        to: Name::new(alloc, to).ok()?,
-        need: need as u64,
+        from: Name::new(alloc, &[from]).ok()?,
+        to: Name::new(alloc, &[to]).ok()?,
+        need,
     })
 }
 
@@ -31,12 +32,12 @@ pub fn edit_of(alloc: Global, change: &Change) -> Option<Edit>
 {
     match change {
         Change::Set(name, need) => Some(Edit::Set {
-            name: Name::new(alloc, name).ok()?,
+            name: Name::new(alloc, &[*name]).ok()?,
             need: *need as u64,
         }),
-        Change::Add(name, from, to, need) => added(alloc, name, from, to, *need),
+        Change::Add(name, from, to, need) => added(alloc, &[*name], *from, *to, *need as u64),
         Change::Drop(name) => Some(Edit::Drop {
-            name: Name::new(alloc, name).ok()?,
+            name: Name::new(alloc, &[*name]).ok()?,
         }),
     }
 }

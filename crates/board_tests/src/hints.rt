@@ -61,26 +61,45 @@ fn are_posted<R: Wait>(
     true
 }
 
+/// Whether the vector at an index is shown, and begins with this number.
+fn begins_with(board: &HintBoard, at: u64, first: u32) -> bool {
+    match board.get(at) {
+        Some(lengths) => lengths.items().first() == Some(&first),
+        None => false,
+    }
+}
+
+/// How many vectors that begin with this number are shown below an index.
+fn shown_with(board: &HintBoard, below: u64, first: u32) -> u64 {
+    let mut count = 0u64;
+    for at in 0..below {
+        if begins_with(board, at, first) {
+            count = count.wrapping_add(1);
+        }
+    }
+    count
+}
+
 /// How many vectors that begin with a 0, and how many that begin with a 1, are shown below an index.
-fn shown(board: &HintBoard, below: u64) -> (usize, usize) {
-    let begin_with = |first: u32| {
-        (0..below)
-            .filter_map(|at| board.get(at))
-            .filter(|lengths| lengths.items().first() == Some(&first))
-            .count()
-    };
-    (begin_with(0), begin_with(1))
+fn shown(board: &HintBoard, below: u64) -> (u64, u64) {
+    (shown_with(board, below, 0), shown_with(board, below, 1))
+}
+
+/// Whether a board of three links shows nothing at first, and then all three vectors that are posted.
+fn shows_all<R: Wait>(rt: &R, alloc: Global, board: &HintBoard) -> bool
+    requires { hint_links board.now ≡ 3 }
+{
+    board.get(0).is_none()
+        && are_posted(rt, alloc, board, (1, 0), 1)
+        && are_posted(rt, alloc, board, (0, 1), 1)
+        && are_posted(rt, alloc, board, (1, 1), 1)
+        && shown(board, 10) == (1, 2)
 }
 
 #[test]
 fn a_hint_and_its_index_show_the_posted_lengths(rt: HostRuntime) -> Result<(), Fail> {
-    let alloc = rt.alloc();
-    let board = HintBoard::new(alloc, 3)?;
-    assert!(rt; board.get(0).is_none());
-    assert!(rt; are_posted(&rt, alloc, &board, (1, 0), 1));
-    assert!(rt; are_posted(&rt, alloc, &board, (0, 1), 1));
-    assert!(rt; are_posted(&rt, alloc, &board, (1, 1), 1));
-    assert!(rt; shown(&board, 10) == (1, 2));
+    let board = HintBoard::new(rt.alloc(), 3)?;
+    assert!(rt; shows_all(&rt, rt.alloc(), &board));
     Ok(())
 }
 

@@ -10,6 +10,8 @@ mod changes;
 #[cfg(test)]
 mod cuts;
 #[cfg(test)]
+mod discard;
+#[cfg(test)]
 mod hints;
 #[cfg(test)]
 mod pools;

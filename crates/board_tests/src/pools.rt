@@ -3,8 +3,9 @@ ghost use Rattle.std.specs.Prelude.{◌≡◌};
 
 use crate::changes::{Change, edit_of};
 use crate::cuts::unit_cut;
+use crate::discard::discard;
 use cut_pool::{AdmitAnswer, Board, EditAnswer, Snapshot};
-use net_core::{Copied, CutLine, Problem, Reply};
+use net_core::{Copied, CutLine, List, NoMemory, Problem, Reply};
 use std::alloc::Global;
 use std::thread::Threads;
 use turn_lock::Chronicle;
@@ -47,13 +48,21 @@ fn open_board(alloc: Global, problem: &Problem) -> Option<Given<'_>> {
     Some(Given { problem, board })
 }
 
+/// The reply of an edit that stands at this position.
+fn reply_at(answer: &EditAnswer, count: u64) -> Option<Reply> {
+    match answer {
+        EditAnswer::At { position, reply } if *position == count => Some(*reply),
+        _ => None,
+    }
+}
+
 /// Makes an edit: its reply, if it is the last entry then.
 fn edit(alloc: Global, given: &mut Given, change: &Change) -> Option<Reply> {
     let edit = edit_of(alloc, change)?;
-    match given.board.edit(1, edit) {
-        EditAnswer::At { position, reply } if position == given.board.count() => Some(reply),
-        _ => None,
-    }
+    let answer = given.board.edit(1, edit);
+    let reply = reply_at(&answer, given.board.count());
+    discard(answer);
+    reply
 }
 
 /// Takes memory for edits. Whether there is as much.
@@ -61,14 +70,22 @@ fn reserve(given: &mut Given, edits: u32) -> bool {
     given.board.reserve(edits).is_ok()
 }
 
+/// Whether a cut was known, and its index.
+fn index_at(answer: &AdmitAnswer) -> Option<(bool, u32)> {
+    match answer {
+        AdmitAnswer::Admitted { index, .. } => Some((false, *index)),
+        AdmitAnswer::Known(index, _) => Some((true, *index)),
+        _ => None,
+    }
+}
+
 /// Admits the unit cut of a state: whether it was known, and its index.
 fn admit(alloc: Global, given: &mut Given, state: u32) -> Option<(bool, u32)> {
     let cut = unit_cut(alloc, given.problem, state)?;
-    match given.board.admit(cut) {
-        AdmitAnswer::Admitted { index, .. } => Some((false, index)),
-        AdmitAnswer::Known(index, _) => Some((true, index)),
-        _ => None,
-    }
+    let answer = given.board.admit(cut);
+    let index = index_at(&answer);
+    discard(answer);
+    index
 }
 
 /// Whether the lines have these right sides.
@@ -80,12 +97,27 @@ fn have_sides(lines: &[CutLine], want: &[u128]) -> bool {
             .all(|(line, right)| line.right == *right)
 }
 
+/// Whether these are lines, with these right sides.
+fn are_lines(lines: Result<List<CutLine>, NoMemory>, want: &[u128]) -> bool {
+    match lines {
+        Ok(lines) => have_sides(lines.items(), want),
+        Err(_) => false,
+    }
+}
+
+/// Whether these are right sides, and equal to those.
+fn are_sides(sides: Result<List<u128>, NoMemory>, want: &[u128]) -> bool {
+    match sides {
+        Ok(sides) => sides.items() == want,
+        Err(_) => false,
+    }
+}
+
 /// Whether the right sides are these, kept or summed anew.
-fn has_sides<R: Threads + Sync>(rt: &R, board: &Board, want: &[u128]) -> Option<bool> {
-    let kept = have_sides(board.lines().ok()?.items(), want);
-    let summed = board.audit(rt).ok()?;
-    let audited = have_sides(board.audited_lines(rt).ok()?.items(), want);
-    Some(kept && audited && summed.items() == want)
+fn has_sides<R: Threads + Sync>(rt: &R, board: &Board, want: &[u128]) -> bool {
+    are_lines(board.lines(), want)
+        && are_sides(board.audit(rt), want)
+        && are_lines(board.audited_lines(rt), want)
 }
 
 /// Whether a step is answered as it says.
@@ -97,7 +129,7 @@ fn takes<R: Threads + Sync>(rt: &R, alloc: Global, given: &mut Given, step: &Ste
         Step::Admit(state, known, index, count) => {
             admit(alloc, given, *state) == Some((*known, *index)) && given.board.count() == *count
         }
-        Step::Sides(want) => has_sides(rt, &given.board, want) == Some(true),
+        Step::Sides(want) => has_sides(rt, &given.board, want),
         Step::Reserve(edits) => reserve(given, *edits),
         Step::Spare(edits) => given.board.spare() == *edits,
     }
@@ -118,6 +150,14 @@ fn problem_of(alloc: Global, opening: &[DemandRow]) -> Option<Problem> {
     problem(alloc, triangle(alloc, 0).ok()?, opening).ok()
 }
 
+/// Whether a new board of the problem takes each step as it says.
+fn is_taken<R: Threads + Sync>(rt: &R, alloc: Global, problem: &Problem, steps: &[Step]) -> bool {
+    match open_board(alloc, problem) {
+        Some(mut given) => takes_each(rt, alloc, &mut given, steps),
+        None => false,
+    }
+}
+
 /// Whether a new board of these demands takes each step as it says.
 fn takes_all<R: Threads + Sync>(
     rt: &R,
@@ -125,11 +165,8 @@ fn takes_all<R: Threads + Sync>(
     opening: &[DemandRow],
     steps: &[Step],
 ) -> bool {
-    let Some(problem) = problem_of(alloc, opening) else {
-        return false;
-    };
-    match open_board(alloc, &problem) {
-        Some(mut given) => takes_each(rt, alloc, &mut given, steps),
+    match problem_of(alloc, opening) {
+        Some(problem) => is_taken(rt, alloc, &problem, steps),
         None => false,
     }
 }
@@ -138,27 +175,27 @@ fn takes_all<R: Threads + Sync>(
 const ALONE: [(&[DemandRow], Step); 5] = [
     (
         &ONE,
-        Step::Edit(Change::Add(b"D", b"A", b"B", 5000), Reply::Accepted(1), 1),
+        Step::Edit(Change::Add(b'D', b'A', b'B', 5000), Reply::Accepted(1), 1),
     ),
     (
         &ONE,
-        Step::Edit(Change::Add(b"D", b"A", b"X", 1000), Reply::UnknownNode, 0),
+        Step::Edit(Change::Add(b'D', b'A', b'X', 1000), Reply::UnknownNode, 0),
     ),
     (
         &ONE,
-        Step::Edit(Change::Add(b"D", b"A", b"A", 1000), Reply::SelfDemand, 0),
+        Step::Edit(Change::Add(b'D', b'A', b'A', 1000), Reply::SelfDemand, 0),
     ),
     (
         &GREAT,
         Step::Edit(
-            Change::Add(b"Q", b"A", b"B", 16),
+            Change::Add(b'Q', b'A', b'B', 16),
             Reply::TooMuch(17592186044416),
             0,
         ),
     ),
     (
         &GREAT,
-        Step::Edit(Change::Add(b"Q", b"A", b"B", 15), Reply::Accepted(1), 1),
+        Step::Edit(Change::Add(b'Q', b'A', b'B', 15), Reply::Accepted(1), 1),
     ),
 ];
 
@@ -171,9 +208,9 @@ fn each_edit_stands_with_its_reply(rt: HostRuntime) {
 
 /// A demand is added twice, and an unknown one dropped.
 const ADDED: [Step; 3] = [
-    Step::Edit(Change::Add(b"D", b"A", b"B", 5000), Reply::Accepted(1), 1),
-    Step::Edit(Change::Add(b"D", b"A", b"B", 5000), Reply::KnownDemand, 1),
-    Step::Edit(Change::Drop(b"Z"), Reply::UnknownDemand, 1),
+    Step::Edit(Change::Add(b'D', b'A', b'B', 5000), Reply::Accepted(1), 1),
+    Step::Edit(Change::Add(b'D', b'A', b'B', 5000), Reply::KnownDemand, 1),
+    Step::Edit(Change::Drop(b'Z'), Reply::UnknownDemand, 1),
 ];
 
 #[test]
@@ -200,11 +237,11 @@ const FOLLOWED: [Step; 10] = [
     Step::Admit(1, false, 1, 2),
     Step::Admit(2, false, 2, 3),
     Step::Admit(3, false, 3, 4),
-    Step::Edit(Change::Set(b"A", 24000), Reply::Accepted(1), 1),
+    Step::Edit(Change::Set(b'A', 24000), Reply::Accepted(1), 1),
     Step::Sides(&[24000, 24000, 24000, 48000]),
-    Step::Edit(Change::Set(b"A", 0), Reply::Accepted(2), 2),
+    Step::Edit(Change::Set(b'A', 0), Reply::Accepted(2), 2),
     Step::Sides(&[0, 0, 0, 0]),
-    Step::Edit(Change::Drop(b"A"), Reply::Accepted(3), 3),
+    Step::Edit(Change::Drop(b'A'), Reply::Accepted(3), 3),
     Step::Sides(&[0, 0, 0, 0]),
 ];
 
@@ -217,19 +254,19 @@ fn each_right_side_follows_by_the_distance_in_its_state(rt: HostRuntime) {
 const SPARED: [Step; 16] = [
     Step::Spare(0),
     Step::Reserve(2),
-    Step::Edit(Change::Set(b"A", 24000), Reply::Accepted(1), 1),
+    Step::Edit(Change::Set(b'A', 24000), Reply::Accepted(1), 1),
     Step::Spare(1),
-    Step::Edit(Change::Set(b"Z", 24000), Reply::UnknownDemand, 1),
+    Step::Edit(Change::Set(b'Z', 24000), Reply::UnknownDemand, 1),
     Step::Spare(1),
-    Step::Edit(Change::Add(b"D", b"A", b"B", 5000), Reply::Accepted(2), 2),
+    Step::Edit(Change::Add(b'D', b'A', b'B', 5000), Reply::Accepted(2), 2),
     Step::Spare(1),
-    Step::Edit(Change::Drop(b"D"), Reply::Accepted(3), 3),
+    Step::Edit(Change::Drop(b'D'), Reply::Accepted(3), 3),
     Step::Spare(1),
-    Step::Edit(Change::Add(b"D", b"A", b"B", 5000), Reply::Accepted(4), 4),
+    Step::Edit(Change::Add(b'D', b'A', b'B', 5000), Reply::Accepted(4), 4),
     Step::Spare(1),
-    Step::Edit(Change::Set(b"A", 24000), Reply::Accepted(5), 5),
+    Step::Edit(Change::Set(b'A', 24000), Reply::Accepted(5), 5),
     Step::Spare(0),
-    Step::Edit(Change::Set(b"A", 24000), Reply::Accepted(6), 6),
+    Step::Edit(Change::Set(b'A', 24000), Reply::Accepted(6), 6),
     Step::Spare(0),
 ];
 
@@ -255,7 +292,7 @@ fn a_cut_leaves_the_spare_as_it_was(rt: HostRuntime) {
 /// Two cuts, and then an edit.
 const TWO_CUTS: [Step; 2] = [Step::Admit(0, false, 0, 1), Step::Admit(3, false, 1, 2)];
 
-const THEN_SET: [Step; 1] = [Step::Edit(Change::Set(b"A", 24000), Reply::Accepted(1), 1)];
+const THEN_SET: [Step; 1] = [Step::Edit(Change::Set(b'A', 24000), Reply::Accepted(1), 1)];
 
 /// Whether a snapshot is of this version and position, with these right sides.
 fn is_of(snapshot: &Snapshot, version: u64, position: u64, sides: &[u128]) -> bool {
@@ -272,30 +309,38 @@ fn is_before(snapshot: &Snapshot) -> bool {
     is_copied && is_of(snapshot, 0, 2, &[12000, 24000])
 }
 
-/// Whether a snapshot that is taken before an edit stays as it was, and one that is taken after it has the right sides then.
-fn stays<R: Threads + Sync>(rt: &R, alloc: Global, given: &mut Given) -> bool {
-    let Ok(before) = given.board.snapshot() else {
-        return false;
-    };
-    if !takes_each(rt, alloc, given, &THEN_SET) {
-        return false;
-    }
-    let is_after = match given.board.snapshot() {
+/// Whether the board's snapshot now is the one after the edit.
+fn is_after(board: &Board) -> bool {
+    match board.snapshot() {
         Ok(after) => is_of(&after, 1, 3, &[24000, 48000]),
         Err(_) => false,
-    };
-    is_after && is_before(&before)
+    }
 }
 
-/// The same on a new board with two cuts.
-fn stays_on_new<R: Threads + Sync>(rt: &R, alloc: Global) -> bool {
-    let Some(problem) = problem_of(alloc, &ONE) else {
-        return false;
-    };
-    match open_board(alloc, &problem) {
+/// Whether a snapshot that is taken before an edit stays as it was, and one that is taken after it has the right sides then.
+fn stays<R: Threads + Sync>(rt: &R, alloc: Global, given: &mut Given) -> bool {
+    match given.board.snapshot() {
+        Ok(before) => {
+            takes_each(rt, alloc, given, &THEN_SET) && is_after(&given.board) && is_before(&before)
+        }
+        Err(_) => false,
+    }
+}
+
+/// The same on a new board of the problem with two cuts.
+fn stays_on_board<R: Threads + Sync>(rt: &R, alloc: Global, problem: &Problem) -> bool {
+    match open_board(alloc, problem) {
         Some(mut given) => {
             takes_each(rt, alloc, &mut given, &TWO_CUTS) && stays(rt, alloc, &mut given)
         }
+        None => false,
+    }
+}
+
+/// The same of one demand.
+fn stays_on_new<R: Threads + Sync>(rt: &R, alloc: Global) -> bool {
+    match problem_of(alloc, &ONE) {
+        Some(problem) => stays_on_board(rt, alloc, &problem),
         None => false,
     }
 }
