@@ -106,17 +106,25 @@ fn report_of_wide<R: Threads + Wait + Sync>(rt: &R, alloc: Global) -> Option<Rep
 }
 
 /// Whether the plan costs a module of each link and ends loose by width.
-fn is_loose_by_width(report: &Report) -> bool {
+fn is_loose_by_width(report: &Option<Report>) -> bool {
+    let Some(report) = report else {
+        return false;
+    };
     let Some(plan) = only_plan(report) else {
         return false;
     };
     plan.cost == 2001 && matches!(&plan.quality, Quality::Loose(Cause::Wide(_)))
 }
 
+/// Whether the planning for a demand along each of the wide links ends so.
+fn ends_loose_by_width<R: Threads + Wait + Sync>(rt: &R, alloc: Global) -> bool {
+    let report = report_of_wide(rt, alloc);
+    is_loose_by_width(&report)
+}
+
 #[test]
 fn a_planning_ends_loose_by_width(rt: HostRuntime) {
-    let report = report_of_wide(&rt, rt.alloc());
-    assert!(rt; report.is_some_and(|report| is_loose_by_width(&report)));
+    assert!(rt; ends_loose_by_width(&rt, rt.alloc()));
 }
 
 /// A chain of nineteen links, and one beside the first, which fails.
@@ -187,7 +195,10 @@ fn long_place(alloc: Global) -> Option<Place> {
 }
 
 /// Whether the pool is full and the plan ends loose by cuts.
-fn is_loose_by_cuts(report: &Report) -> bool {
+fn is_loose_by_cuts(report: &Option<Report>) -> bool {
+    let Some(report) = report else {
+        return false;
+    };
     let Some(plan) = only_plan(report) else {
         return false;
     };
@@ -200,8 +211,13 @@ fn report_of_long<R: Threads + Wait + Sync>(rt: &R, alloc: Global) -> Option<Rep
     report_of(rt, alloc, &place, &ALONG)
 }
 
+/// Whether the planning for the demands along the chain ends so.
+fn ends_loose_by_cuts<R: Threads + Wait + Sync>(rt: &R, alloc: Global) -> bool {
+    let report = report_of_long(rt, alloc);
+    is_loose_by_cuts(&report)
+}
+
 #[test]
 fn a_planning_ends_loose_by_cuts(rt: HostRuntime) {
-    let report = report_of_long(&rt, rt.alloc());
-    assert!(rt; report.is_some_and(|report| is_loose_by_cuts(&report)));
+    assert!(rt; ends_loose_by_cuts(&rt, rt.alloc()));
 }

@@ -146,23 +146,41 @@ fn looks_like(plan: &Plan, want: &Option<(Looked, Option<Numerators>)>) -> bool 
     let Some((looked, nums)) = want else {
         return false;
     };
-    look(plan) == *looked && (nums.is_none() || *nums == Some(numerators(plan)))
+    look(plan) == *looked
+        && match nums {
+            Some(nums) => numerators(plan) == *nums,
+            None => true,
+        }
 }
 
-/// Whether planning comes to what the row says.
-fn is_planned(alloc: Global, row: &Row) -> bool {
-    match answer_of(alloc, row) {
-        Some(PlanAnswer::Planned(plan)) => looks_like(&plan, &row.5),
+/// Whether the answer is what the row says.
+fn is_answered(answer: &Option<PlanAnswer>, row: &Row) -> bool {
+    match answer {
+        Some(PlanAnswer::Planned(plan)) => looks_like(plan, &row.5),
         Some(PlanAnswer::NotSurvivable(..)) => row.5.is_none(),
         None => false,
     }
 }
 
+/// Whether planning comes to what the row says.
+fn is_planned(alloc: Global, row: &Row) -> bool {
+    let answer = answer_of(alloc, row);
+    is_answered(&answer, row)
+}
+
+/// Whether planning comes to what each row says.
+fn are_planned(alloc: Global, rows: &[Row]) -> bool {
+    for row in rows {
+        if !is_planned(alloc, row) {
+            return false;
+        }
+    }
+    true
+}
+
 #[test]
 fn small_networks_have_tight_plans(rt: HostRuntime) {
-    for row in &TIGHT {
-        assert!(rt; is_planned(rt.alloc(), row));
-    }
+    assert!(rt; are_planned(rt.alloc(), &TIGHT));
 }
 
 #[test]
@@ -172,7 +190,5 @@ fn a_certificate_names_the_pooled_cuts_of_the_failures(rt: HostRuntime) {
 
 #[test]
 fn a_chain_that_fails_carries_a_demand_of_0_alone(rt: HostRuntime) {
-    for row in &CUT_OFF {
-        assert!(rt; is_planned(rt.alloc(), row));
-    }
+    assert!(rt; are_planned(rt.alloc(), &CUT_OFF));
 }

@@ -1,11 +1,10 @@
 //! Tests of sessions on the triangle.
-ghost use Rattle.std.specs.Prelude.{IfSome, length};
-ghost use Rattle.net_core.specs.Demands.{AreDemands};
+ghost use Rattle.std.specs.Prelude.{IfSome};
 ghost use Rattle.session_script.specs.Scripts.{IsScript};
 
 use crate::gates::{EditAmidPlan, LateEdit};
 use crate::problems::{Place, TRIANGLE, place_of};
-use net_core::{Demands, Entry, List, Places, Reply};
+use net_core::{Entry, List, Places, Reply};
 use outside_io::{Gate, OpenGate};
 use plan_types::{Outcome, Report};
 use session_run::{run_session, single_plan};
@@ -34,19 +33,19 @@ fn script_of(alloc: Global, commands: &[u8]) -> Option<Script>
     }
 }
 
-/// The report of a script's commands.
+/// The report of a script.
 fn report_at<R: Threads + Wait + Sync, G: Gate + Sync>(
     rt: &R,
     alloc: Global,
     place: &Place,
-    opening: Demands,
-    commands: &[u8],
+    opening: &[DemandRow],
+    script: &Script,
     gate: &G,
 ) -> Option<Report>
-    requires { AreDemands (length place.now.net.nodes) opening }
+    requires { IsScript script.now.commands }
 {
-    let script = script_of(alloc, commands)?;
-    run_session(rt, alloc, &place.net, &place.states, opening, &script, gate).ok()
+    let opening = demands(alloc, place.net.nodes().len(), opening).ok()?;
+    run_session(rt, alloc, &place.net, &place.states, opening, script, gate).ok()
 }
 
 /// The report of a script's commands on the triangle, where a state fails the links of each row. The gate may hold callers.
@@ -58,9 +57,9 @@ fn report<R: Threads + Wait + Sync, G: Gate + Sync>(
     commands: &[u8],
     gate: &G,
 ) -> Option<Report> {
+    let script = script_of(alloc, commands)?;
     let place = place_of(alloc, 3, &TRIANGLE, fail)?;
-    let opening = demands(alloc, place.net.nodes().len(), opening).ok()?;
-    report_at(rt, alloc, &place, opening, commands, gate)
+    report_at(rt, alloc, &place, opening, &script, gate)
 }
 
 /// What is looked at of a plan: caller, serial, version, position, cost, bound, and the right side of its certificate's first line.
@@ -93,8 +92,12 @@ fn look(outcome: &Outcome) -> Option<Looked> {
 /// Whether the outcomes are these plans, in this order.
 fn are_plans(report: &Report, want: &[Looked]) -> bool {
     let outcomes = report.outcomes.items();
-    let mut pairs = outcomes.iter().zip(want);
-    outcomes.len() == want.len() && pairs.all(|(outcome, want)| look(outcome) == Some(*want))
+    for (outcome, want) in outcomes.iter().zip(want) {
+        if look(outcome) != Some(*want) {
+            return false;
+        }
+    }
+    outcomes.len() == want.len()
 }
 
 /// Commands, the plans, how many entries there are, and the right side of the first cut at the end.
@@ -122,23 +125,50 @@ const SESSIONS: [Session; 3] = [
     ),
 ];
 
+/// The right side of the pool's first cut.
+fn first_right(report: &Report) -> Option<u128> {
+    match report.pool.items() {
+        [line, ..] => Some(line.right),
+        [] => None,
+    }
+}
+
 /// Whether the report is as the session wants.
-fn is_of_session(report: &Report, session: &Session) -> bool {
-    let (_, plans, entries, right) = session;
-    let found = report.pool.items().first().map(|line| line.right);
-    are_plans(report, plans) && report.entries.len() == *entries && found == *right
+fn is_of_session(report: &Option<Report>, session: &Session) -> bool {
+    let Some(report) = report else {
+        return false;
+    };
+    are_plans(report, session.1)
+        && report.entries.len() == session.2
+        && first_right(report) == session.3
+}
+
+/// Whether the session's commands have the report that it wants.
+fn is_as_wanted<R: Threads + Wait + Sync>(rt: &R, alloc: Global, session: &Session) -> bool {
+    let report = report(rt, alloc, &[], &ONE, session.0, &OpenGate);
+    is_of_session(&report, session)
+}
+
+/// Whether each session's commands have the report that it wants.
+fn are_as_wanted<R: Threads + Wait + Sync>(rt: &R, alloc: Global, sessions: &[Session]) -> bool {
+    for session in sessions {
+        if !is_as_wanted(rt, alloc, session) {
+            return false;
+        }
+    }
+    true
 }
 
 #[test]
 fn plans_belong_to_their_versions(rt: HostRuntime) {
-    for session in &SESSIONS {
-        let report = report(&rt, rt.alloc(), &[], &ONE, session.0, &OpenGate);
-        assert!(rt; report.is_some_and(|report| is_of_session(&report, session)));
-    }
+    assert!(rt; are_as_wanted(&rt, rt.alloc(), &SESSIONS));
 }
 
 /// Whether caller 1 plans after its edit, and the plan of caller 2 is one of before the edit or after it.
-fn is_either_way(report: &Report) -> bool {
+fn is_either_way(report: &Option<Report>) -> bool {
+    let Some(report) = report else {
+        return false;
+    };
     let [first, second] = report.outcomes.items() else {
         return false;
     };
@@ -150,40 +180,54 @@ fn is_either_way(report: &Report) -> bool {
     of_first && of_second
 }
 
+/// Whether it is so where caller 2 plans beside an edit of caller 1.
+fn plan_beside_an_edit<R: Threads + Wait + Sync>(rt: &R, alloc: Global) -> bool {
+    let commands = b"caller 2 plan\ncaller 1 set A 24\ncaller 1 plan\n";
+    let report = report(rt, alloc, &[], &ONE, commands, &OpenGate);
+    is_either_way(&report)
+}
+
 #[test]
 fn another_caller_may_plan_before_an_edit_or_after_it(rt: HostRuntime) {
-    let commands = b"caller 2 plan\ncaller 1 set A 24\ncaller 1 plan\n";
-    let report = report(&rt, rt.alloc(), &[], &ONE, commands, &OpenGate);
-    assert!(rt; report.is_some_and(|report| is_either_way(&report)));
+    assert!(rt; plan_beside_an_edit(&rt, rt.alloc()));
 }
 
 /// Whether the edits of the journal are of these callers, in this order.
-fn are_editors(report: &Report, want: &[u32]) -> bool {
-    let editors = || {
-        report
-            .entries
-            .items()
-            .iter()
-            .filter_map(|entry| match entry {
-                Entry::Edited { caller, .. } => Some(*caller),
-                _ => None,
-            })
+fn are_editors(report: &Option<Report>, want: &[u32]) -> bool {
+    let Some(report) = report else {
+        return false;
     };
-    editors().count() == want.len() && editors().zip(want).all(|(one, other)| one == *other)
+    let mut rest = want.iter();
+    for entry in report.entries.items() {
+        if let Entry::Edited { caller, .. } = entry {
+            match rest.next() {
+                Some(next) if *next == *caller => {}
+                _ => return false,
+            }
+        }
+    }
+    rest.next().is_none()
+}
+
+/// Whether an edit of one caller, held until another has edited, comes after the other's.
+fn edits_late<R: Threads + Wait + Sync>(rt: &R, alloc: Global, held: u32, by: u32) -> bool {
+    let commands = b"caller 1 set A 24\ncaller 2 set A 36\n";
+    let gate = LateEdit::new(held, by);
+    let report = report(rt, alloc, &[], &ONE, commands, &gate);
+    are_editors(&report, &[by, held])
 }
 
 #[test]
 fn callers_run_beside_each_other(rt: HostRuntime) {
-    let commands = b"caller 1 set A 24\ncaller 2 set A 36\n";
-    for (held, by) in [(1, 2), (2, 1)] {
-        let gate = LateEdit::new(held, by);
-        let report = report(&rt, rt.alloc(), &[], &ONE, commands, &gate);
-        assert!(rt; report.is_some_and(|report| are_editors(&report, &[by, held])));
-    }
+    assert!(rt; edits_late(&rt, rt.alloc(), 1, 2));
+    assert!(rt; edits_late(&rt, rt.alloc(), 2, 1));
 }
 
 /// Whether the edit of caller 2 is the fifth entry, after the cuts that a plan opens with, whose right sides follow it.
-fn is_amid(report: &Report) -> bool {
+fn is_amid(report: &Option<Report>) -> bool {
+    let Some(report) = report else {
+        return false;
+    };
     let [plan] = report.outcomes.items() else {
         return false;
     };
@@ -200,17 +244,26 @@ fn is_amid(report: &Report) -> bool {
     is_planned && is_fifth && states == [0, 1, 2, 3] && rights == [24000, 24000, 24000, 48000]
 }
 
-#[test]
-fn an_edit_stands_amid_the_cuts_of_a_plan(rt: HostRuntime) {
+/// States that fail each link of the triangle alone.
+const EACH_ALONE: [&[u32]; 3] = [&[0], &[1], &[2]];
+
+/// Whether it is so where caller 2 edits while caller 1 plans.
+fn edits_amid<R: Threads + Wait + Sync>(rt: &R, alloc: Global) -> bool {
     let commands = b"caller 1 plan\ncaller 2 set A 24\n";
     let gate = EditAmidPlan::new();
-    let fail: [&[u32]; 3] = [&[0], &[1], &[2]];
-    let report = report(&rt, rt.alloc(), &fail, &ONE, commands, &gate);
-    assert!(rt; report.is_some_and(|report| is_amid(&report)));
+    let report = report(rt, alloc, &EACH_ALONE, &ONE, commands, &gate);
+    is_amid(&report)
+}
+
+#[test]
+fn an_edit_stands_amid_the_cuts_of_a_plan(rt: HostRuntime) {
+    assert!(rt; edits_amid(&rt, rt.alloc()));
 }
 
 /// The demands, commands and their replies.
-const REPLIES: [(&[DemandRow], &[u8], &[Reply]); 2] = [
+type Replies = (&'static [DemandRow], &'static [u8], &'static [Reply]);
+
+const REPLIES: [Replies; 2] = [
     (
         &ONE,
         b"caller 3 add D2 ( A X ) 1\ncaller 3 add D2 ( A A ) 1\ncaller 3 drop Z\n\
@@ -232,30 +285,48 @@ caller 3 add D2 ( A B ) 5\ncaller 3 add D2 ( A B ) 5\ncaller 3 drop D2\n",
 ];
 
 /// Whether the edits of the journal have these replies, in this order.
-fn are_replies(report: &Report, want: &[Reply]) -> bool {
-    let replies = || {
-        report
-            .entries
-            .items()
-            .iter()
-            .filter_map(|entry| match entry {
-                Entry::Edited { reply, .. } => Some(*reply),
-                _ => None,
-            })
+fn are_replies(report: &Option<Report>, want: &[Reply]) -> bool {
+    let Some(report) = report else {
+        return false;
     };
-    replies().count() == want.len() && replies().zip(want).all(|(one, other)| one == *other)
+    let mut rest = want.iter();
+    for entry in report.entries.items() {
+        if let Entry::Edited { reply, .. } = entry {
+            match rest.next() {
+                Some(next) if *next == *reply => {}
+                _ => return false,
+            }
+        }
+    }
+    rest.next().is_none()
+}
+
+/// Whether the row's commands have its replies.
+fn is_replied<R: Threads + Wait + Sync>(rt: &R, alloc: Global, row: &Replies) -> bool {
+    let report = report(rt, alloc, &[], row.0, row.1, &OpenGate);
+    are_replies(&report, row.2)
+}
+
+/// Whether each row's commands have its replies.
+fn are_replied<R: Threads + Wait + Sync>(rt: &R, alloc: Global, rows: &[Replies]) -> bool {
+    for row in rows {
+        if !is_replied(rt, alloc, row) {
+            return false;
+        }
+    }
+    true
 }
 
 #[test]
 fn edits_have_replies_in_their_order(rt: HostRuntime) {
-    for (opening, commands, want) in &REPLIES {
-        let report = report(&rt, rt.alloc(), &[], opening, commands, &OpenGate);
-        assert!(rt; report.is_some_and(|report| are_replies(&report, want)));
-    }
+    assert!(rt; are_replied(&rt, rt.alloc(), &REPLIES));
 }
 
 /// Whether the first outcome names the demand A, which state 2 separates at version 1, and the second is a plan of a demand of 0.
-fn names_separated(report: &Report) -> bool {
+fn names_separated(report: &Option<Report>) -> bool {
+    let Some(report) = report else {
+        return false;
+    };
     let [first, second] = report.outcomes.items() else {
         return false;
     };
@@ -273,46 +344,41 @@ fn names_separated(report: &Report) -> bool {
     state.0 == 2 && demand.bytes() == b"A".as_slice() && look(second) == Some((7, 2, 2, 2, 0, 0, 0))
 }
 
-#[test]
-fn an_outcome_names_the_separated_demand(rt: HostRuntime) {
+/// States of which the second fails two links of the triangle.
+const TWO_AT_ONCE: [&[u32]; 2] = [&[1], &[0, 2]];
+
+/// Whether it is so where two links fail at once.
+fn names_at_two<R: Threads + Wait + Sync>(rt: &R, alloc: Global) -> bool {
     let commands = b"caller 7 set A 24\ncaller 7 plan\ncaller 7 set A 0\ncaller 7 plan\n";
-    let fail: [&[u32]; 2] = [&[1], &[0, 2]];
-    let report = report(&rt, rt.alloc(), &fail, &ONE, commands, &OpenGate);
-    assert!(rt; report.is_some_and(|report| names_separated(&report)));
+    let report = report(rt, alloc, &TWO_AT_ONCE, &ONE, commands, &OpenGate);
+    names_separated(&report)
 }
 
-/// The report of one plan.
-fn report_of_one_plan<R: Threads + Wait + Sync>(
-    rt: &R,
-    alloc: Global,
-    place: &Place,
-    opening: Demands,
-) -> Option<Report>
-    requires { AreDemands (length place.now.net.nodes) opening }
-{
-    let script = single_plan(alloc).ok()?;
-    run_session(
-        rt,
-        alloc,
-        &place.net,
-        &place.states,
-        opening,
-        &script,
-        &OpenGate,
-    )
-    .ok()
+#[test]
+fn an_outcome_names_the_separated_demand(rt: HostRuntime) {
+    assert!(rt; names_at_two(&rt, rt.alloc()));
 }
 
 /// The report of one plan, on the triangle without failures.
 fn report_on_triangle<R: Threads + Wait + Sync>(rt: &R, alloc: Global) -> Option<Report> {
+    let script = single_plan(alloc).ok()?;
     let place = place_of(alloc, 3, &TRIANGLE, &[])?;
-    let opening = demands(alloc, place.net.nodes().len(), &ONE).ok()?;
-    report_of_one_plan(rt, alloc, &place, opening)
+    report_at(rt, alloc, &place, &ONE, &script, &OpenGate)
+}
+
+/// What is looked at of its plan.
+const ONLY: [Looked; 1] = [(1, 1, 0, 0, 10000, 10000, 12000)];
+
+/// Whether the report has that plan alone.
+fn is_one_plan<R: Threads + Wait + Sync>(rt: &R, alloc: Global) -> bool {
+    let report = report_on_triangle(rt, alloc);
+    match &report {
+        Some(report) => are_plans(report, &ONLY),
+        None => false,
+    }
 }
 
 #[test]
 fn one_plan_is_a_script(rt: HostRuntime) {
-    let report = report_on_triangle(&rt, rt.alloc());
-    let want = [(1, 1, 0, 0, 10000, 10000, 12000)];
-    assert!(rt; report.is_some_and(|report| are_plans(&report, &want)));
+    assert!(rt; is_one_plan(&rt, rt.alloc()));
 }

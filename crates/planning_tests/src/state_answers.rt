@@ -138,21 +138,37 @@ fn caps_of(alloc: Global, row: &Row) -> Option<Caps> {
     Some(Caps { scale: row.0, nums })
 }
 
+/// Whether the row is answered as expected.
+fn is_row_met(alloc: Global, problem: &Problem, row: &Row) -> bool {
+    let caps = caps_of(alloc, row);
+    match &caps {
+        Some(caps) => is_met_twice(alloc, problem, caps, &row.2),
+        None => false,
+    }
+}
+
 /// Whether each row is answered as expected.
-fn are_met(alloc: Global, problem: &Problem, rows: &[Row]) -> bool {
+fn are_met(alloc: Global, problem: &Option<Problem>, rows: &[Row]) -> bool {
+    let Some(problem) = problem else {
+        return false;
+    };
     for row in rows {
-        let caps = caps_of(alloc, row);
-        if !caps.is_some_and(|caps| is_met_twice(alloc, problem, &caps, &row.2)) {
+        if !is_row_met(alloc, problem, row) {
             return false;
         }
     }
     true
 }
 
+/// Whether each row is answered as expected at the problem of one demand.
+fn are_met_at_one(alloc: Global, rows: &[Row]) -> bool {
+    let problem = one_demand(alloc);
+    are_met(alloc, &problem, rows)
+}
+
 #[test]
 fn each_state_is_answered_in_order(rt: HostRuntime) {
-    let problem = one_demand(rt.alloc());
-    assert!(rt; problem.is_some_and(|problem| are_met(rt.alloc(), &problem, &TRIANGLE)));
+    assert!(rt; are_met_at_one(rt.alloc(), &TRIANGLE));
 }
 
 /// The unit cut of a state.
@@ -191,8 +207,16 @@ fn stand_once(alloc: Global, problem: &Problem) -> bool {
         && separator.into_board().cuts() == 2
 }
 
+/// Whether they do so at the problem of one demand.
+fn stand_once_at_one(alloc: Global) -> bool {
+    let problem = one_demand(alloc);
+    match &problem {
+        Some(problem) => stand_once(alloc, problem),
+        None => false,
+    }
+}
+
 #[test]
 fn a_cut_stands_in_the_pool_once(rt: HostRuntime) {
-    let problem = one_demand(rt.alloc());
-    assert!(rt; problem.is_some_and(|problem| stand_once(rt.alloc(), &problem)));
+    assert!(rt; stand_once_at_one(rt.alloc()));
 }

@@ -132,15 +132,33 @@ fn on_board(alloc: Global, problem: &Problem, numbers: &[u128]) -> Option<List<S
         .flatten()
 }
 
+/// Whether there are as many answers of the one as of the other, and all are alike.
+fn are_all_alike(one: &Option<List<StateAnswer>>, two: &Option<List<StateAnswer>>) -> bool {
+    let (Some(one), Some(two)) = (one, two) else {
+        return false;
+    };
+    for (a, b) in one.items().iter().zip(two.items()) {
+        if !are_alike(a, b) {
+            return false;
+        }
+    }
+    one.len() == two.len()
+}
+
 /// Whether a caller alone is answered as a board.
 fn agree<R: Threads + Wait>(rt: &R, alloc: Global, fixture: &Fixture, numbers: &[u128]) -> bool {
     let one = on_board(alloc, &fixture.problem, numbers);
     let two = at_numbers(rt, alloc, &Hold::open(), fixture, numbers);
-    let (Some(one), Some(two)) = (one, two) else {
-        return false;
-    };
-    let mut pairs = one.items().iter().zip(two.items());
-    one.len() == two.len() && pairs.all(|(a, b)| are_alike(a, b))
+    are_all_alike(&one, &two)
+}
+
+/// The same on the triangle, where no hints are shown before.
+fn agree_at_triangle<R: Threads + Wait>(rt: &R, alloc: Global, numbers: &[u128]) -> bool {
+    let fixture = of_triangle(alloc);
+    match &fixture {
+        Some(fixture) => agree(rt, alloc, fixture, numbers),
+        None => false,
+    }
 }
 
 /// Numbers of the links of the triangle: all is carried; without AC; nothing is carried; and a number that is too wide.
@@ -151,20 +169,28 @@ const ROWS: [[u128; 3]; 4] = [
     [12000, 12000, 1 << 62],
 ];
 
+/// Whether a caller alone is answered as a board at the numbers of each row.
+fn all_agree<R: Threads + Wait>(rt: &R, alloc: Global, rows: &[[u128; 3]]) -> bool {
+    for numbers in rows {
+        if !agree_at_triangle(rt, alloc, numbers) {
+            return false;
+        }
+    }
+    true
+}
+
 #[test]
 fn a_caller_alone_is_answered_as_a_board(rt: HostRuntime) {
-    for numbers in &ROWS {
-        let fixture = of_triangle(rt.alloc());
-        assert!(rt; fixture.is_some_and(|fixture| agree(&rt, rt.alloc(), &fixture, numbers)));
-    }
+    assert!(rt; all_agree(&rt, rt.alloc(), &ROWS));
 }
 
 /// Whether the answer names a cut that stands in the pool at its spot.
 fn is_pooled(answer: &StateAnswer, cuts: &[CutLine]) -> bool {
     match &answer.answer {
-        Separated::Violated(line, Spot::Pool(index)) => cuts
-            .get(*index as usize)
-            .is_some_and(|cut| are_same(cut, line)),
+        Separated::Violated(line, Spot::Pool(index)) => match cuts.get(*index as usize) {
+            Some(cut) => are_same(cut, line),
+            None => false,
+        },
         _ => false,
     }
 }
@@ -255,11 +281,18 @@ fn counts_by_two<R: Threads + Wait + Sync>(
     Some((of_one, of_two, board.entries().len(), board.cuts()))
 }
 
+/// Whether each of two callers on the triangle has a cut of each state, which the board has once.
+fn are_pooled_once<R: Threads + Wait + Sync>(rt: &R, alloc: Global) -> bool {
+    let fixture = of_triangle(alloc);
+    match &fixture {
+        Some(fixture) => counts_by_two(rt, alloc, fixture) == Some((4, 4, 4, 4)),
+        None => false,
+    }
+}
+
 #[test]
 fn callers_at_once_pool_each_cut_once(rt: HostRuntime) {
-    let fixture = of_triangle(rt.alloc());
-    let found = fixture.and_then(|fixture| counts_by_two(&rt, rt.alloc(), &fixture));
-    assert!(rt; found == Some((4, 4, 4, 4)));
+    assert!(rt; are_pooled_once(&rt, rt.alloc()));
 }
 
 /// How many states are answered while a worker is held, how many of them workers have solved, and whether one was solved meanwhile.
@@ -273,18 +306,30 @@ fn answered_beside<R: Threads + Wait>(
     Some((answers.len(), hold.solved(), hold.was_kept()))
 }
 
+/// Whether all states of the triangle are answered so, with one solved meanwhile.
+fn goes_on<R: Threads + Wait>(rt: &R, alloc: Global) -> bool {
+    let fixture = of_triangle(alloc);
+    match &fixture {
+        Some(fixture) => answered_beside(rt, alloc, fixture) == Some((4, 4, true)),
+        None => false,
+    }
+}
+
 #[test]
 fn a_worker_goes_on_while_another_is_held(rt: HostRuntime) {
-    let fixture = of_triangle(rt.alloc());
-    let found = fixture.and_then(|fixture| answered_beside(&rt, rt.alloc(), &fixture));
-    assert!(rt; found == Some((4, 4, true)));
+    assert!(rt; goes_on(&rt, rt.alloc()));
 }
 
 /// Whether the lengths are shown.
 fn is_shown(hints: &HintBoard, lengths: &[u32]) -> bool {
-    (0..100)
-        .filter_map(|at| hints.get(at))
-        .any(|shown| shown.items() == lengths)
+    for at in 0..100 {
+        if let Some(shown) = hints.get(at) {
+            if shown.items() == lengths {
+                return true;
+            }
+        }
+    }
+    false
 }
 
 /// The lengths of the cut that is found of a state; empty where none is.
@@ -295,12 +340,32 @@ fn lengths_found(answer: &StateAnswer) -> &[u32] {
     }
 }
 
+/// Whether all lengths are 0 or 1.
+fn are_ones(lengths: &[u32]) -> bool {
+    for length in lengths {
+        if *length > 1 {
+            return false;
+        }
+    }
+    true
+}
+
+/// Whether the answer has a cut of lengths of 0 and 1, which are shown.
+fn has_shown(hints: &HintBoard, answer: &StateAnswer) -> bool {
+    let lengths = lengths_found(answer);
+    lengths.len() > 0 && are_ones(lengths) && is_shown(hints, lengths)
+}
+
+/// Whether the answer has a cut of other lengths, which aren't shown.
+fn has_other(hints: &HintBoard, answer: &StateAnswer) -> bool {
+    let lengths = lengths_found(answer);
+    !are_ones(lengths) && !is_shown(hints, lengths)
+}
+
 /// How many states have a cut of lengths of 0 and 1, which are shown, and how many one of other lengths, which aren't.
 fn count_shown(hints: &HintBoard, answers: &[StateAnswer]) -> (usize, usize) {
-    let found = || answers.iter().map(|answer| lengths_found(answer));
-    let are_ones = |lengths: &[u32]| lengths.iter().all(|l| *l <= 1);
-    let ones = found().filter(|l| l.len() > 0 && are_ones(l) && is_shown(hints, l));
-    let others = found().filter(|l| !are_ones(l) && !is_shown(hints, l));
+    let ones = answers.iter().filter(|answer| has_shown(hints, answer));
+    let others = answers.iter().filter(|answer| has_other(hints, answer));
     (ones.count(), others.count())
 }
 
@@ -340,13 +405,47 @@ const NOTHING: [u128; 3] = [0, 0, 0];
 
 const TOO_LITTLE: [u128; 7] = [12000, 12000, 12000, 12000, 12000, 12000, 1000];
 
+/// Whether so many states of the problem have a cut of shown lengths after one separation, and so many one that isn't shown.
+fn are_shown<R: Threads + Wait>(
+    rt: &R,
+    alloc: Global,
+    fixture: &Option<Fixture>,
+    numbers: &[u128],
+    want: (usize, usize),
+) -> bool {
+    match fixture {
+        Some(fixture) => shown_at_once(rt, alloc, fixture, numbers) == Some(want),
+        None => false,
+    }
+}
+
+/// Whether all four states of the triangle have a cut of shown lengths.
+fn shows_three<R: Threads + Wait>(rt: &R, alloc: Global) -> bool {
+    let fixture = of_triangle(alloc);
+    are_shown(rt, alloc, &fixture, &NOTHING, (4, 0))
+}
+
+/// Whether seven states of the seven links have one, and one has a cut that isn't shown.
+fn shows_seven<R: Threads + Wait>(rt: &R, alloc: Global) -> bool {
+    let fixture = of_seven(alloc);
+    are_shown(rt, alloc, &fixture, &TOO_LITTLE, (7, 1))
+}
+
 #[test]
 fn lengths_of_0_and_1_are_shown(rt: HostRuntime) {
-    let alloc = rt.alloc();
-    let three = of_triangle(alloc).and_then(|f| shown_at_once(&rt, alloc, &f, &NOTHING));
-    assert!(rt; three == Some((4, 0)));
-    let seven = of_seven(alloc).and_then(|f| shown_at_once(&rt, alloc, &f, &TOO_LITTLE));
-    assert!(rt; seven == Some((7, 1)));
+    assert!(rt; shows_three(&rt, rt.alloc()));
+    assert!(rt; shows_seven(&rt, rt.alloc()));
+}
+
+/// Whether the first answer has a cut of these lengths.
+fn is_first(answers: &Option<List<StateAnswer>>, want: &[u32]) -> bool {
+    let Some(answers) = answers else {
+        return false;
+    };
+    match answers.items() {
+        [first, ..] => lengths_found(first) == want,
+        [] => false,
+    }
 }
 
 /// Whether the state without failures has a cut of these lengths at capacities of nothing, where a caller has separated at other
@@ -360,27 +459,38 @@ fn has_lengths<R: Threads + Wait>(
 ) -> bool {
     let before = at_numbers(rt, alloc, &Hold::open(), fixture, before);
     let after = at_numbers(rt, alloc, &Hold::open(), fixture, &NOTHING);
-    let (Some(_), Some(after)) = (before, after) else {
-        return false;
-    };
-    match after.items() {
-        [first, ..] => lengths_found(first) == want,
-        [] => false,
-    }
+    before.is_some() && is_first(&after, want)
 }
 
 /// Numbers at which a caller separates first, and the lengths that another is then answered: those around A where nothing is shown,
 /// and those around C where these are shown.
-const SHOWN: [([u128; 3], [u32; 3]); 2] = [
+type Shown = ([u128; 3], [u32; 3]);
+
+const SHOWN: [Shown; 2] = [
     ([12000, 12000, 12000], [1, 0, 1]),
     ([12000, 0, 0], [0, 1, 1]),
 ];
 
+/// Whether the other is answered with the row's lengths, on a triangle without any hints.
+fn is_tried_first<R: Threads + Wait>(rt: &R, alloc: Global, row: &Shown) -> bool {
+    let fixture = of_triangle(alloc);
+    match &fixture {
+        Some(fixture) => has_lengths(rt, alloc, fixture, &row.0, &row.1),
+        None => false,
+    }
+}
+
+/// Whether it is so at each row.
+fn are_tried_first<R: Threads + Wait>(rt: &R, alloc: Global, rows: &[Shown]) -> bool {
+    for row in rows {
+        if !is_tried_first(rt, alloc, row) {
+            return false;
+        }
+    }
+    true
+}
+
 #[test]
 fn lengths_that_are_shown_are_tried_first(rt: HostRuntime) {
-    let alloc = rt.alloc();
-    for (before, want) in &SHOWN {
-        let fixture = of_triangle(alloc);
-        assert!(rt; fixture.is_some_and(|f| has_lengths(&rt, alloc, &f, before, want)));
-    }
+    assert!(rt; are_tried_first(&rt, rt.alloc(), &SHOWN));
 }
