@@ -2,7 +2,7 @@
 ghost use Rattle.std.specs.Prelude.{length};
 ghost use Rattle.net_core.specs.Demands.{AreDemands};
 
-use crate::problems::{Place, TRIANGLE, place_of};
+use crate::problems::{Place, TRIANGLE, discard, place_of};
 use cut_pool::Board;
 use net_core::{Demands, Network, NoMemory, States};
 use plan_types::{Plan, Quality, Spot};
@@ -165,7 +165,9 @@ fn is_answered(answer: &Option<PlanAnswer>, row: &Row) -> bool {
 /// Whether planning comes to what the row says.
 fn is_planned(alloc: Global, row: &Row) -> bool {
     let answer = answer_of(alloc, row);
-    is_answered(&answer, row)
+    let is_so = is_answered(&answer, row);
+    discard(answer);
+    is_so
 }
 
 /// Whether planning comes to what each row says.

@@ -195,16 +195,25 @@ fn unit_spot<S: Separate>(
     separator.admit(cut).ok()
 }
 
-/// Whether the unit cuts of the states 0 and 3 stand in the pool of a new board, each once, also where the first one comes again.
+/// Whether the unit cuts of the states 0 and 3 get the first two places, and that of 0 its own when it comes again.
+fn are_placed<S: Separate>(alloc: Global, separator: &mut S, problem: &Problem) -> bool
+    requires net { problem.now.net ≡ S.network separator.old }
+    requires states { problem.now.states ≡ S.states separator.old }
+{
+    unit_spot(alloc, separator, problem, 0) == Some(Spot::Pool(0))
+        && unit_spot(alloc, separator, problem, 3) == Some(Spot::Pool(1))
+        && unit_spot(alloc, separator, problem, 0) == Some(Spot::Pool(0))
+}
+
+/// Whether they stand in the pool of a new board so, each once.
 fn stand_once(alloc: Global, problem: &Problem) -> bool {
     let Some(board) = open_board(alloc, problem) else {
         return false;
     };
     let mut separator = OneByOne::new(alloc, board);
-    unit_spot(alloc, &mut separator, problem, 0) == Some(Spot::Pool(0))
-        && unit_spot(alloc, &mut separator, problem, 3) == Some(Spot::Pool(1))
-        && unit_spot(alloc, &mut separator, problem, 0) == Some(Spot::Pool(0))
-        && separator.into_board().cuts() == 2
+    let placed = are_placed(alloc, &mut separator, problem);
+    let board = separator.into_board();
+    placed && board.cuts() == 2
 }
 
 /// Whether they do so at the problem of one demand.

@@ -5,7 +5,7 @@ ghost use Rattle.hint_board.specs.Hints.{hint_links};
 ghost use Rattle.turn_lock.specs.Passes.{IsPassOf, opening_of, own_units};
 ghost use Rattle.board_desk.specs.Turns.{AreAtOneDesk, IsAtDesk, board_made};
 
-use crate::problems::{one_demand, open_board};
+use crate::problems::{discard, one_demand, open_board};
 use board_desk::Caller;
 use cut_pool::{Board, Snapshot};
 use hint_board::HintBoard;
@@ -123,11 +123,10 @@ fn are_alike(a: &StateAnswer, b: &StateAnswer) -> bool {
     }
 }
 
-/// What a new board answers at capacities of these numbers.
-fn on_board(alloc: Global, problem: &Problem, numbers: &[u128]) -> Option<List<StateAnswer>> {
-    let caps = caps_of(alloc, numbers)?;
+/// What a new board answers at these capacities.
+fn on_board(alloc: Global, problem: &Problem, caps: &Caps) -> Option<List<StateAnswer>> {
     let mut separator = OneByOne::new(alloc, open_board(alloc, problem)?);
-    separate_checked(alloc, &mut separator, problem, &caps)
+    separate_checked(alloc, &mut separator, problem, caps)
         .ok()
         .flatten()
 }
@@ -146,19 +145,22 @@ fn are_all_alike(one: &Option<List<StateAnswer>>, two: &Option<List<StateAnswer>
 }
 
 /// Whether a caller alone is answered as a board.
-fn agree<R: Threads + Wait>(rt: &R, alloc: Global, fixture: &Fixture, numbers: &[u128]) -> bool {
-    let one = on_board(alloc, &fixture.problem, numbers);
-    let two = at_numbers(rt, alloc, &Hold::open(), fixture, numbers);
+fn agree<R: Threads + Wait>(rt: &R, alloc: Global, fixture: &Fixture, caps: &Caps) -> bool {
+    let one = on_board(alloc, &fixture.problem, caps);
+    let two = at_new_desk(rt, alloc, &Hold::open(), fixture, caps);
     are_all_alike(&one, &two)
 }
 
-/// The same on the triangle, where no hints are shown before.
+/// The same on the triangle at these numbers, where no hints are shown before.
 fn agree_at_triangle<R: Threads + Wait>(rt: &R, alloc: Global, numbers: &[u128]) -> bool {
     let fixture = of_triangle(alloc);
-    match &fixture {
-        Some(fixture) => agree(rt, alloc, fixture, numbers),
-        None => false,
-    }
+    let caps = caps_of(alloc, numbers);
+    let is_so = match (&fixture, &caps) {
+        (Some(fixture), Some(caps)) => agree(rt, alloc, fixture, caps),
+        _ => false,
+    };
+    discard(fixture);
+    is_so
 }
 
 /// Numbers of the links of the triangle: all is carried; without AC; nothing is carried; and a number that is too wide.
@@ -284,10 +286,12 @@ fn counts_by_two<R: Threads + Wait + Sync>(
 /// Whether each of two callers on the triangle has a cut of each state, which the board has once.
 fn are_pooled_once<R: Threads + Wait + Sync>(rt: &R, alloc: Global) -> bool {
     let fixture = of_triangle(alloc);
-    match &fixture {
+    let is_so = match &fixture {
         Some(fixture) => counts_by_two(rt, alloc, fixture) == Some((4, 4, 4, 4)),
         None => false,
-    }
+    };
+    discard(fixture);
+    is_so
 }
 
 #[test]
@@ -309,10 +313,12 @@ fn answered_beside<R: Threads + Wait>(
 /// Whether all states of the triangle are answered so, with one solved meanwhile.
 fn goes_on<R: Threads + Wait>(rt: &R, alloc: Global) -> bool {
     let fixture = of_triangle(alloc);
-    match &fixture {
+    let is_so = match &fixture {
         Some(fixture) => answered_beside(rt, alloc, fixture) == Some((4, 4, true)),
         None => false,
-    }
+    };
+    discard(fixture);
+    is_so
 }
 
 #[test]
@@ -422,13 +428,17 @@ fn are_shown<R: Threads + Wait>(
 /// Whether all four states of the triangle have a cut of shown lengths.
 fn shows_three<R: Threads + Wait>(rt: &R, alloc: Global) -> bool {
     let fixture = of_triangle(alloc);
-    are_shown(rt, alloc, &fixture, &NOTHING, (4, 0))
+    let is_so = are_shown(rt, alloc, &fixture, &NOTHING, (4, 0));
+    discard(fixture);
+    is_so
 }
 
 /// Whether seven states of the seven links have one, and one has a cut that isn't shown.
 fn shows_seven<R: Threads + Wait>(rt: &R, alloc: Global) -> bool {
     let fixture = of_seven(alloc);
-    are_shown(rt, alloc, &fixture, &TOO_LITTLE, (7, 1))
+    let is_so = are_shown(rt, alloc, &fixture, &TOO_LITTLE, (7, 1));
+    discard(fixture);
+    is_so
 }
 
 #[test]
@@ -474,10 +484,12 @@ const SHOWN: [Shown; 2] = [
 /// Whether the other is answered with the row's lengths, on a triangle without any hints.
 fn is_tried_first<R: Threads + Wait>(rt: &R, alloc: Global, row: &Shown) -> bool {
     let fixture = of_triangle(alloc);
-    match &fixture {
+    let is_so = match &fixture {
         Some(fixture) => has_lengths(rt, alloc, fixture, &row.0, &row.1),
         None => false,
-    }
+    };
+    discard(fixture);
+    is_so
 }
 
 /// Whether it is so at each row.
