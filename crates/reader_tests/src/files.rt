@@ -1,5 +1,6 @@
+use flow_file::{FlowsRefusal, read_flows};
 use model_reader::{FailuresRefusal, ModelRefusal, read_failures, read_model};
-use net_core::{Bytes, List, Places};
+use net_core::{Bytes, List, Network, Places};
 use session_script::{ScriptRefusal, read_script};
 use snd_tokens::whole;
 use sndlib_reader::{ReadRefusal, read_network};
@@ -7,7 +8,7 @@ use std::alloc::Global;
 use std::fmt::Debug;
 use text_kit::write::put_decimal;
 use text_kit::{FaultWord, Refusal};
-use worked_networks::triangle;
+use worked_networks::{demands, failing, triangle};
 
 /// What a file is read as.
 #[derive(Clone, Copy)]
@@ -24,6 +25,8 @@ pub(crate) enum Format {
     Script,
     /// The commands of a session of a network with six places.
     FineScript,
+    /// The flows on the triangle of two demands in the states `none` and `f`, counted in the first.
+    Flows,
 }
 
 fn network(alloc: Global, text: &[u8]) -> Result<usize, ReadRefusal> {
@@ -50,6 +53,27 @@ fn failures(alloc: Global, text: &[u8]) -> Result<usize, FailuresRefusal> {
 
 fn script(alloc: Global, places: Places, text: &[u8]) -> Result<usize, ScriptRefusal> {
     Ok(read_script(alloc, places, text)?.commands.len())
+}
+
+fn flows_on(alloc: Global, net: &Network, text: &[u8]) -> Result<usize, FlowsRefusal> {
+    let Ok(states) = failing(alloc, net, &[&[0]]) else {
+        return Err(FlowsRefusal::NoMemory);
+    };
+    let Ok(listed) = demands(alloc, net.nodes().len(), &[(0, 2, 12000), (0, 1, 0)]) else {
+        return Err(FlowsRefusal::NoMemory);
+    };
+    let file = read_flows(alloc, net, &states, &listed, text)?;
+    match file.flows.items().first() {
+        Some(flows) => Ok(flows.len()),
+        None => Ok(0),
+    }
+}
+
+fn flows(alloc: Global, text: &[u8]) -> Result<usize, FlowsRefusal> {
+    let Ok(net) = triangle(alloc, 0) else {
+        return Err(FlowsRefusal::NoMemory);
+    };
+    flows_on(alloc, &net, text)
 }
 
 /// Puts a fault as it is written: its place and its word.
@@ -84,6 +108,7 @@ fn outcome(alloc: Global, format: Format, file: &[u8]) -> Option<Bytes> {
         Format::Failures => put_outcome(&mut text, failures(alloc, file))?,
         Format::Script => put_outcome(&mut text, script(alloc, Places::Three, file))?,
         Format::FineScript => put_outcome(&mut text, script(alloc, Places::Six, file))?,
+        Format::Flows => put_outcome(&mut text, flows(alloc, file))?,
     }
     Some(text)
 }

@@ -6,6 +6,8 @@ mod certificates;
 #[cfg(test)]
 mod fixtures;
 #[cfg(test)]
+mod imports;
+#[cfg(test)]
 mod routings;
 #[cfg(test)]
 mod sets;
