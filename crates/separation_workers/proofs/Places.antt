@@ -6,8 +6,8 @@ use Rattle.std.proofs.lemmas.List.Concat.{flat_map-append}
 use Rattle.std.proofs.lemmas.List.Prefix.{front_rest}
 use Rattle.turn_lock.specs.Histories.{are_places}
 use Rattle.separator.specs.Separators.{IsPartOf}
-use Rattle.separation_workers.specs.Places.{items_at}
 use Rattle.turn_lock.proofs.Places.{first_place}
+use Rattle.turn_lock.specs.Passes.{items_at}
 
 module _ {I : Type 0} where
   -- ---- parts of a list

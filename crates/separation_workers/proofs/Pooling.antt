@@ -14,14 +14,13 @@ use Rattle.cut_pool.specs.declared.answers.AdmitAnswer.TheVariants.{Admitted, Kn
 use Rattle.cut_pool.specs.declared.board.Board.{Board}
 use Rattle.cut_pool.specs.Boards.{AnswersAdmit, IsSameBoard, origin_of}
 use Rattle.cut_pool.specs.Histories.{cuts_of}
-use Rattle.turn_lock.specs.Passes.{own_places, seen_by}
+use Rattle.turn_lock.specs.Passes.{items_at, own_items, own_places, seen_by}
 use Rattle.board_desk.specs.declared.caller.Caller.{Caller}
 use Rattle.board_desk.specs.Turns.{AdmitsInTurn, AreAtOneDesk, HasTurn}
 use Rattle.separator.specs.inner.Working.{state_and_lengths}
 use Rattle.separator.specs.Separators.{IsCutEntry, IsSpotIn, cuts_since}
 use Rattle.separator.proofs.Pooling.{pooled_spot}
 use Rattle.separation_workers.specs.Callers.{HasSeenHistory}
-use Rattle.separation_workers.specs.Places.{items_at, own_items}
 use Rattle.separation_workers.specs.inner.Turns.{IsSpotAfter, PoolsAtMost}
 use Rattle.separation_workers.proofs.Places.{items_after, part_end}
 use Rattle.separation_workers.proofs.Seen.{seen_after_turn}

@@ -4,13 +4,12 @@ use Rattle.std.proofs.Math.Logic.{∥∥₁_map}
 use Rattle.net_core.specs.declared.journal.Entry.{Entry}
 use Rattle.cut_pool.specs.declared.board.Board.{Board}
 use Rattle.cut_pool.specs.Boards.{origin_of}
-use Rattle.turn_lock.specs.Passes.{opening_of, own_places, seen_by}
+use Rattle.turn_lock.specs.Passes.{items_at, opening_of, own_items, own_places, seen_by}
 use Rattle.board_desk.specs.declared.caller.Caller.{Caller}
 use Rattle.board_desk.specs.Turns.{AreAtOneDesk, HasTurn, board_made}
 use Rattle.separator.specs.Separators.{IsPartOf, IsSeenHistory}
 use Rattle.separator.specs.inner.Seen.{board_is_seen}
 use Rattle.separation_workers.specs.Callers.{HasSeenHistory}
-use Rattle.separation_workers.specs.Places.{items_at, own_items}
 use Rattle.separation_workers.proofs.Places.{items_among}
 
 -- a board tells that its entries are such a history

@@ -1,9 +1,8 @@
 -- what a caller has seen at its desk
-use Rattle.turn_lock.specs.Passes.{seen_by}
+use Rattle.turn_lock.specs.Passes.{own_items, seen_by}
 use Rattle.board_desk.specs.declared.caller.Caller.{Caller}
 use Rattle.board_desk.specs.Turns.{board_made}
 use Rattle.separator.specs.Separators.{IsSeenHistory}
-use Rattle.separation_workers.specs.Places.{own_items}
 
 -- it has seen a history of the network and the states of its desk, in which its own entries stand
 abbrev pub HasSeenHistory : Caller → Type 0

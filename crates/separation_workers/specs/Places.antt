@@ -1,19 +1,10 @@
 -- the items of a history that are a pass's own
-use Rattle.std.specs.Prelude.{ℕ, List, [], Option, None, Some, drop, take}
-use Rattle.std.specs.List.{flat_map}
+use Rattle.std.specs.Prelude.{ℕ, List, [], Option, None, Some}
 use Rattle.turn_lock.specs.declared.chronicle.Chronicle.{Ghosts}
 use Rattle.turn_lock.specs.declared.desk.Pass.{Pass}
-use Rattle.turn_lock.specs.Passes.{own_places, own_units, seen_by}
-
--- the items that stand at these places of a history
-abbrev pub items_at : {I : Type 0} → List I → List ℕ → List I
-items_at history places = flat_map (λ p. take 1 (drop p history)) places
+use Rattle.turn_lock.specs.Passes.{own_items, own_units, seen_by}
 
 module _ {T I O : Type 0} {g : Ghosts T I O} where
-  -- the pass's own items, in their order
-  abbrev pub own_items : Pass T I O g → List I
-  own_items p = items_at (seen_by p) (own_places p)
-
   -- the history that a pass has seen, its own items in it, and its units; where there is no pass, nothing
   abbrev pub history_in : Option (Pass T I O g) → List I
   history_in None = []

@@ -1,12 +1,11 @@
 ghost use Rattle.std.specs.Prelude.{◌≡◌, IfOk};
 ghost use Rattle.net_core.specs.Views.{graph};
 ghost use Rattle.metric_cut.specs.Cuts.{IsCutOf};
-ghost use Rattle.turn_lock.specs.Passes.{own_units, seen_by};
+ghost use Rattle.turn_lock.specs.Passes.{own_items, own_units, seen_by};
 ghost use Rattle.board_desk.specs.Turns.{AreAtOneDesk, IsAtDesk, board_made};
 ghost use Rattle.separator.specs.inner.Working.{state_and_lengths};
 ghost use Rattle.separator.specs.Separators.{IsSpotIn};
 ghost use Rattle.separation_workers.specs.Callers.{HasSeenHistory};
-ghost use Rattle.separation_workers.specs.Places.{own_items};
 ghost use Rattle.separation_workers.specs.inner.Turns.{IsSpotAfter, PoolsAtMost};
 
 use board_desk::Caller;

@@ -9,9 +9,8 @@ use Rattle.cut_pool.specs.declared.board.Board.{Board}
 use Rattle.cut_pool.specs.Boards.{opening_case}
 use Rattle.session_script.specs.declared.script.Command.{Command}
 use Rattle.session_script.specs.Scripts.{IsScript}
-use Rattle.turn_lock.specs.Passes.{own_places, seen_by}
+use Rattle.turn_lock.specs.Passes.{items_at, own_items, own_places, seen_by}
 use Rattle.board_desk.specs.declared.caller.Caller.{Caller}
-use Rattle.separation_workers.specs.Places.{items_at, own_items}
 use Rattle.separation_workers.proofs.Places.{items_added}
 use Rattle.session_run.specs.inner.Running.{EndsRun, HaveRun, commands_of}
 use Rattle.session_run.specs.declared.setting.Stop.{Stop}

@@ -11,10 +11,9 @@ use Rattle.session_script.specs.declared.script.Act.{Act}
 use Rattle.session_script.specs.declared.script.Command.{Command}
 use Rattle.turn_lock.specs.Histories.{IsPrefix, are_places, merged}
 use Rattle.std.specs.List.{list_any}
-use Rattle.turn_lock.specs.Passes.{own_places, seen_by}
+use Rattle.turn_lock.specs.Passes.{items_at, own_items, own_places, seen_by}
 use Rattle.turn_lock.proofs.Places.{prefix_le, wider}
 use Rattle.board_desk.specs.declared.caller.Caller.{Caller}
-use Rattle.separation_workers.specs.Places.{items_at, own_items}
 use Rattle.separation_workers.proofs.Places.{items_front}
 use Rattle.session_run.specs.Transcripts.{RunsFrom, acts_of, outcome_caller, edit_asked, edit_made, outcomes_of}
 use Rattle.session_run.specs.inner.Running.{AreBoth, EndsRun, HaveRun, IsEntryOfCaller, IsFullAt, commands_of, is_of}

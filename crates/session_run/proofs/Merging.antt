@@ -4,10 +4,10 @@ use Rattle.std.proofs.lemmas.Bool.{cond_both, ltb-false}
 use Rattle.std.proofs.lemmas.List.{length-append}
 use Rattle.std.proofs.lemmas.List.Elements.{All-append, All-tail}
 use Rattle.turn_lock.specs.Histories.{are_places, merged, with_place}
-use Rattle.separation_workers.specs.Places.{items_at}
 use Rattle.std.proofs.lemmas.Grind.{flat_map-append}
 use Rattle.net_core.proofs.Lists.{front_all}
 use Rattle.turn_lock.proofs.Places.{first_place}
+use Rattle.turn_lock.specs.Passes.{items_at}
 
 front_none : {Y : Type 0} (xs ys : List Y) → xs ++ ys ≡ [] → xs ≡ []
 front_none [] ys none = refl

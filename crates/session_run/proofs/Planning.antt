@@ -26,10 +26,9 @@ use Rattle.planner.specs.declared.answer.PlanAnswer.TheVariants.{Planned, NotSur
 use Rattle.planner.specs.SnapshotPlans.{IsSnapshotAnswer, IsSnapshotIn, IsSnapshotPlan, PoolsAlone}
 use Rattle.planner.proofs.Histories.{version_few}
 use Rattle.separator.proofs.Seeing.{sees_none}
-use Rattle.turn_lock.specs.Passes.{opening_of, seen_by}
+use Rattle.turn_lock.specs.Passes.{opening_of, own_items, seen_by}
 use Rattle.board_desk.specs.declared.caller.Caller.{Caller}
 use Rattle.board_desk.specs.Turns.{AreAtOneDesk, HasTurn, board_made}
-use Rattle.separation_workers.specs.Places.{own_items}
 use Rattle.session_run.specs.declared.plans.Asked.{Asked}
 use Rattle.session_run.specs.Transcripts.{IsOutcomeAfter, IsPlanned}
 use Rattle.session_run.specs.inner.Turns.{IsOutcomeFor, IsSnapshotHere, NamesDemand, PlansAt, PlansSince}

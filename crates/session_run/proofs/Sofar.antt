@@ -10,10 +10,9 @@ use Rattle.session_script.specs.declared.script.Act.{Act}
 use Rattle.session_script.specs.declared.script.Act.TheVariants.{Change, Plan}
 use Rattle.session_script.specs.declared.script.Command.{Command}
 use Rattle.session_script.specs.Scripts.{IsCommandInForm}
-use Rattle.turn_lock.specs.Passes.{opening_of, own_units, seen_by}
+use Rattle.turn_lock.specs.Passes.{opening_of, own_items, own_units, seen_by}
 use Rattle.board_desk.specs.declared.caller.Caller.{Caller}
 use Rattle.board_desk.specs.Turns.{AreAtOneDesk, board_made}
-use Rattle.separation_workers.specs.Places.{own_items}
 use Rattle.session_run.specs.Transcripts.{outcomes_of}
 use Rattle.session_run.specs.inner.Running.{HaveRun, IsFullAt, commands_of}
 use Rattle.session_run.specs.inner.Turns.{HasActed, HasStopped}

@@ -9,10 +9,9 @@ use Rattle.net_core.specs.declared.journal.Entry.TheVariants.{Edited}
 use Rattle.cut_pool.specs.declared.answers.EditAnswer.{EditAnswer}
 use Rattle.cut_pool.specs.declared.answers.EditAnswer.TheVariants.{At, Full, NoMemory}
 use Rattle.cut_pool.specs.declared.board.Board.{Board}
-use Rattle.turn_lock.specs.Passes.{own_places, seen_by}
+use Rattle.turn_lock.specs.Passes.{items_at, own_items, own_places, seen_by}
 use Rattle.board_desk.specs.declared.caller.Caller.{Caller}
 use Rattle.board_desk.specs.Turns.{EditsInTurn, HasTurn}
-use Rattle.separation_workers.specs.Places.{items_at, own_items}
 use Rattle.separation_workers.proofs.Places.{items_after}
 use Rattle.session_run.specs.declared.setting.Stop.{Stop}
 use Rattle.session_run.specs.inner.Turns.{EndsEdit, IsDoneBy}

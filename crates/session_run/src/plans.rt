@@ -2,11 +2,10 @@ ghost use Rattle.std.specs.Prelude.{◌≡◌, IfOk, length};
 ghost use Rattle.net_core.specs.Demands.{AreDemands};
 ghost use Rattle.net_core.specs.Views.{case};
 ghost use Rattle.cut_pool.specs.Boards.{opening_case};
-ghost use Rattle.turn_lock.specs.Passes.{own_units, seen_by};
+ghost use Rattle.turn_lock.specs.Passes.{own_items, own_units, seen_by};
 ghost use Rattle.board_desk.specs.Turns.{AreAtOneDesk, IsAtDesk, board_made};
 ghost use Rattle.separator.specs.Separators.{SeesMore};
 ghost use Rattle.separation_workers.specs.Callers.{HasSeenHistory};
-ghost use Rattle.separation_workers.specs.Places.{own_items};
 ghost use Rattle.planner.specs.SnapshotPlans.{IsSnapshotAnswer, IsSnapshotIn, PoolsAlone};
 ghost use Rattle.session_run.specs.inner.Turns.{IsOutcomeFor, IsSnapshotHere, NamesDemand, PlansAt, PlansSince};
 

@@ -1,9 +1,19 @@
 -- What contracts say of desks, passes and turns.
-use Rattle.std.specs.Prelude.{◌≡◌, ℕ, List, Some, Option}
+use Rattle.std.specs.Prelude.{◌≡◌, ℕ, List, Some, Option, drop, take}
+use Rattle.std.specs.List.{flat_map}
 use Rattle.turn_lock.specs.declared.chronicle.Chronicle.{Ghosts}
 use Rattle.turn_lock.specs.declared.desk.Desk.{Desk}
 use Rattle.turn_lock.specs.declared.desk.Pass.{Pass}
 use Rattle.turn_lock.specs.declared.desk.Turn.{Turn}
+
+-- what has been seen of a history, and the own items in it, in their order
+pub record Seen (I : Type 0) : Type 0 where
+  pub history : List I
+  pub own : List I
+
+-- the items that stand at these places of a history
+abbrev pub items_at : {I : Type 0} → List I → List ℕ → List I
+items_at history places = flat_map (λ p. take 1 (drop p history)) places
 
 module _ {T I O : Type 0} where
   -- the value that the desk was made with
@@ -33,6 +43,14 @@ module _ {T I O : Type 0} {g : Ghosts T I O} where
 
   abbrev pub own_units : Pass T I O g → ℕ
   own_units p = p.seat.me.0.units
+
+  -- the pass's own items, in their order
+  abbrev pub own_items : Pass T I O g → List I
+  own_items p = items_at (seen_by p) (own_places p)
+
+  -- the history that a pass has seen, with its own items
+  abbrev pub seen_of : Pass T I O g → Seen I
+  seen_of p = record { history = seen_by p; own = own_items p }
 
   -- the pass is one of the desk's
   abbrev pub IsPassOf : Desk T I O → Pass T I O g → Type 0

@@ -1,6 +1,5 @@
 use Rattle.std.proofs.Common.{subst}
-use Rattle.turn_lock.specs.Passes.{seen_by}
-use Rattle.separation_workers.specs.Places.{own_items}
+use Rattle.turn_lock.specs.Passes.{own_items, seen_by}
 use Rattle.session_run.specs.inner.Turns.{EndsEdit}
 use Rattle.session_run.proofs.Turns.{edit_ends}
 use Rattle.session_run.proofs.edits.make_edit.Goals as goal

@@ -4,8 +4,7 @@ use Rattle.std.proofs.Crossing.{crosses}
 use Rattle.board_desk.proofs.Sent.{caller_send}
 use Rattle.board_desk.specs.Turns.{board_made}
 use Rattle.cut_pool.specs.Boards.{opening_case}
-use Rattle.turn_lock.specs.Passes.{opening_of, seen_by}
-use Rattle.separation_workers.specs.Places.{own_items}
+use Rattle.turn_lock.specs.Passes.{opening_of, own_items, seen_by}
 use Rattle.session_run.specs.inner.Running.{EndsRun, commands_of}
 use Rattle.session_run.proofs.Dealt.{all_first, all_second}
 use Rattle.session_run.proofs.Meeting.{callers_met}

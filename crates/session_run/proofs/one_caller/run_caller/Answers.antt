@@ -1,8 +1,7 @@
 use Rattle.std.proofs.Common.{◌+◌, subst, take}
 use Rattle.cut_pool.specs.Boards.{opening_case}
-use Rattle.turn_lock.specs.Passes.{seen_by}
+use Rattle.turn_lock.specs.Passes.{own_items, seen_by}
 use Rattle.board_desk.specs.Turns.{board_made}
-use Rattle.separation_workers.specs.Places.{own_items}
 use Rattle.session_run.specs.inner.Running.{commands_of, is_of}
 use Rattle.session_run.specs.inner.Turns.{EndsAct}
 use Rattle.session_run.proofs.Dealt.{few_so_far}

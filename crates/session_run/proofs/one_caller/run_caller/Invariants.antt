@@ -1,8 +1,7 @@
 use Rattle.std.proofs.Common.{◌≡◌, ◌≤◌, ◌+◌, length, take}
 use Rattle.cut_pool.specs.Boards.{opening_case}
-use Rattle.turn_lock.specs.Passes.{own_units, seen_by}
+use Rattle.turn_lock.specs.Passes.{own_items, own_units, seen_by}
 use Rattle.board_desk.specs.Turns.{AreAtOneDesk, board_made}
-use Rattle.separation_workers.specs.Places.{own_items}
 use Rattle.session_run.specs.Transcripts.{outcomes_of}
 use Rattle.session_run.specs.inner.Running.{HaveRun, commands_of}
 use Rattle.session_run.proofs.one_caller.run_caller.Given as goal

@@ -1,9 +1,8 @@
 use Rattle.std.proofs.Common.{IfOk, refl, subst}
 use Rattle.net_core.specs.Views.{case}
 use Rattle.cut_pool.specs.Boards.{opening_case}
-use Rattle.turn_lock.specs.Passes.{seen_by}
+use Rattle.turn_lock.specs.Passes.{own_items, seen_by}
 use Rattle.board_desk.specs.Turns.{board_made}
-use Rattle.separation_workers.specs.Places.{own_items}
 use Rattle.planner.specs.SnapshotPlans.{IsSnapshotAnswer, PoolsAlone}
 use Rattle.session_run.proofs.Planning.{names_one, plan_made, snapshot_case, snapshot_seen}
 use Rattle.session_run.proofs.plans.plan_at.Goals as goal
