@@ -13,6 +13,7 @@ pub mod network;
 pub mod places;
 pub mod plan;
 pub mod problem;
+pub mod route_task;
 pub mod states;
 pub mod surviving;
 pub mod word_bytes;
@@ -28,6 +29,7 @@ pub use name::{Name, NameFault};
 pub use network::{Link, Module, NetFault, Network, Notes};
 pub use places::Places;
 pub use plan::{Caps, Counts, CutLine, Flow, Lengths, Path, Routing};
+pub use route_task::RouteTask;
 pub use states::{Listed, States, StatesFault};
 
 /// Bytes, as of a file.
