@@ -1,9 +1,7 @@
-ghost use Rattle.std.specs.Prelude.{◌≡◌, ◌<◌, ◌+◌, length};
+ghost use Rattle.std.specs.Prelude.{length};
 ghost use Rattle.net_core.specs.Demands.{AreDemands};
 
 use crate::demand::Demands;
-use crate::graph::Surviving;
-use crate::ids::StateId;
 use crate::network::Network;
 use crate::states::States;
 
@@ -23,20 +21,4 @@ pub struct Problem {
     pub states: States,
     pub demands: Demands,
     pub ghost belong: { AreDemands (length net.nodes) demands },
-}
-
-impl<'a> Instance<'a> {
-    /// The network in one of the states. It takes constant time and no memory.
-    pub fn in_state(&self, state: StateId) -> Surviving<'a>
-        requires { state.0 < length self.now.states.now.listed + 1 }
-        ensures net { result.net ≡ self.now.net }
-        ensures states { result.states ≡ self.now.states }
-        ensures state { result.state ≡ state }
-    {
-        Surviving {
-            net: self.net,
-            states: self.states,
-            state,
-        }
-    }
 }

@@ -1,6 +1,9 @@
-ghost use Rattle.std.specs.Prelude.{◌≡◌, length};
-ghost use Rattle.net_core.specs.Views.{case, case_of};
+ghost use Rattle.std.specs.Prelude.{◌≡◌, ◌<◌, ◌+◌, length};
+ghost use Rattle.net_core.specs.Cases.{graph_in};
+ghost use Rattle.net_core.specs.Views.{case, case_of, graph_of};
 
+use crate::graph::Surviving;
+use crate::ids::StateId;
 use crate::instance::{Instance, Problem};
 use crate::list::{Copied, NoMemory};
 
@@ -13,6 +16,21 @@ impl Problem {
             net: &self.net,
             states: &self.states,
             demands: &self.demands,
+        }
+    }
+}
+
+impl<'a> Instance<'a> {
+    /// The network in one of the states. It takes constant time and no memory.
+    pub fn in_state(&self, state: StateId) -> Surviving<'a>
+        requires { state.0 < length self.now.states.now.listed + 1 }
+        ensures graph { graph_of result ≡ graph_in (case_of self.now) state.0 }
+        ensures net { result.net.now ≡ self.now.net.now }
+    {
+        Surviving {
+            net: self.net,
+            states: self.states,
+            state,
         }
     }
 }
