@@ -59,8 +59,12 @@ fn pairs_of(
     Ok(pairs)
 }
 
-/// The table of a surviving graph.
-fn table_of(alloc: Global, graph: &Surviving, lengths: &Lengths) -> Result<DistanceTable, NoMemory>
+/// `all_pairs` in a surviving graph.
+pub fn all_pairs_in(
+    alloc: Global,
+    graph: &Surviving,
+    lengths: &Lengths,
+) -> Result<DistanceTable, NoMemory>
     requires { length lengths.now ≡ length graph.now.net.now.links }
     ensures { let g = graph_of graph.now in IfOk result (AreAllDistances (Joins g) lengths.now (length g.nodes)) }
 {
@@ -90,5 +94,6 @@ pub fn all_pairs(
     requires lengths { length lengths.now ≡ length net.now.links }
     ensures { IfOk result (AreAllDistances (Joins (graph net.now states.now state.0)) lengths.now (length net.now.nodes)) }
 {
-    table_of(alloc, &Surviving { net, states, state }, lengths)
+    let graph = Surviving { net, states, state };
+    all_pairs_in(alloc, &graph, lengths)
 }

@@ -50,8 +50,8 @@ pub fn total_of(prices: &[u64], path: &[LinkId]) -> u128
     total
 }
 
-/// The cheapest path in a surviving graph.
-fn priced_in(
+/// `priced_path` in a surviving graph.
+pub fn priced_path_in(
     alloc: Global,
     graph: &Surviving,
     prices: &List<u64>,
@@ -97,5 +97,6 @@ pub fn priced_path(
     ensures found { IfOk result (IsPricedPath (Joins (graph net.now states.now state.0)) prices.now from.0 to.0) }
     ensures apart { IsErrOf result PathFault.Apart → AreApart (Joins (graph net.now states.now state.0)) from.0 to.0 }
 {
-    priced_in(alloc, &Surviving { net, states, state }, prices, from, to)
+    let graph = Surviving { net, states, state };
+    priced_path_in(alloc, &graph, prices, from, to)
 }

@@ -34,8 +34,8 @@ fn answers(alloc: Global, found: &[u128]) -> Result<List<Option<u64>>, NoMemory>
     Ok(row)
 }
 
-/// The row of a surviving graph.
-fn row_of(
+/// `distances` in a surviving graph.
+pub fn distances_in(
     alloc: Global,
     graph: &Surviving,
     lengths: &Lengths,
@@ -70,5 +70,6 @@ pub fn distances(
     requires from { from.0 < length net.now.nodes }
     ensures { IfOk result (AreDistances (Joins (graph net.now states.now state.0)) lengths.now from.0 (length net.now.nodes)) }
 {
-    row_of(alloc, &Surviving { net, states, state }, lengths, from)
+    let graph = Surviving { net, states, state };
+    distances_in(alloc, &graph, lengths, from)
 }

@@ -2,7 +2,7 @@ use Rattle.std.proofs.Common.{ap, length, arith}
 use Rattle.plan_terms.proofs.Joining.{joins_turned}
 use Rattle.short_paths.proofs.PairNumbers.{pairs_distance}
 use Rattle.short_paths.proofs.Tables.{arcs_distance, arcs_turned}
-use Rattle.short_paths.proofs.pairs.table_of.Goals as goal
+use Rattle.short_paths.proofs.pairs.all_pairs_in.Goals as goal
 
 pub returns : goal.returns
 returns c =

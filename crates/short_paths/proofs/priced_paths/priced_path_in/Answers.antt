@@ -6,7 +6,7 @@ use Rattle.plan_terms.proofs.Distinct.{path_links_known}
 use Rattle.plan_terms.proofs.Few.{path_few}
 use Rattle.plan_terms.proofs.Joining.{joins_below, joins_inside}
 use Rattle.short_paths.proofs.Pricing.{least_priced, scaled_long, scaled_short}
-use Rattle.short_paths.proofs.priced_paths.priced_in.Goals as goal
+use Rattle.short_paths.proofs.priced_paths.priced_path_in.Goals as goal
 use Rattle.net_core.proofs.Networks.{few_nodes}
 
 pub path_under-requires-clause-short : goal.path_under-requires-clause-short

@@ -3,7 +3,7 @@ use Rattle.std.proofs.lemmas.List.Elements.{All-from_get_or}
 use Rattle.short_paths.specs.declared.dijkstra.TheConstants.{FAR}
 use Rattle.std.proofs.lemmas.Result.{IfOk-weaker}
 use Rattle.short_paths.proofs.Tables.{are_distances, found_low}
-use Rattle.short_paths.proofs.single_source.row_of.Goals as goal
+use Rattle.short_paths.proofs.single_source.distances_in.Goals as goal
 
 pub answers-requires : goal.answers-requires
 answers-requires c =
