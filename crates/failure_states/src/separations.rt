@@ -5,7 +5,7 @@ ghost use Rattle.plan_terms.specs.Separations.{IsFirstSeparation, IsSurvivable, 
 ghost use Rattle.failure_states.specs.inner.Components.{HasEndsBelow, IsFirst, IsSplit};
 
 use crate::components::label_components;
-use net_core::{Demand, Demands, Instance, Network, NoMemory, StateId, States, Surviving};
+use net_core::{Demand, Demands, Instance, Network, NoMemory, StateId, States};
 use std::alloc::Global;
 
 /// A state, and the place in the list of a demand whose ends no path of the state joins.
@@ -46,12 +46,7 @@ fn first_in_state(instance: &Instance, state: StateId, labels: &mut [u32]) -> Op
         ((k : ℕ) → Separates (case_of instance.now) state.0 k → ⊥)
         (IsFirst (Separates (case_of instance.now) state.0)) }
 {
-    let graph = Surviving {
-        net: instance.net,
-        states: instance.states,
-        state,
-    };
-    label_components(&graph, labels);
+    label_components(&instance.in_state(state), labels);
     first_split(labels, instance.demands.items())
 }
 
