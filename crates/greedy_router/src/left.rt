@@ -10,7 +10,7 @@ use crate::draft::{Draft, empty_draft};
 use crate::order::by_falling_amount;
 use crate::routes::route_demand;
 use net_core::{
-    Caps, Demand, Demands, List, Network, NoMemory, Routing, StateId, States, Surviving,
+    Caps, Demand, Demands, List, Network, NoMemory, RouteTask, Routing, StateId, States, Surviving,
 };
 use std::alloc::Global;
 
@@ -41,7 +41,7 @@ fn route_all(
     Ok(draft)
 }
 
-/// Routes the demands in a state within the capacities, those of greater need first and of equal ones the earlier, each along
+/// Routes the demands of a task, those of greater need first and of equal ones the earlier, each along
 /// paths of the fewest links that have spare capacity, until it is carried or no such path is left.
 ///
 /// There is one number for each link. A demand that is left with a rest has no path any more on which each link has spare
@@ -50,21 +50,10 @@ fn route_all(
 ///
 /// The triangle AB, BC, AC with 4.00 on each link and a demand of 12.00 from A to C gets two flows, of 4.00 over AC and of
 /// 4.00 over AB and BC, and 4.00 are left.
-pub fn greedy(
-    alloc: Global,
-    net: &Network,
-    states: &States,
-    state: StateId,
-    demands: &Demands,
-    caps: &Caps,
-) -> Result<Left, NoMemory>
-    requires state { state.0 < length states.now.listed + 1 }
-    requires demands { AreDemands (length net.now.nodes) demands.now }
-    requires caps { length caps.now.nums ≡ length net.now.links }
-    ensures { IfOk result (IsLeft (Joins (graph net.now states.now state.0)) demands.now caps.now.scale caps.now.nums) }
+pub fn greedy_in(alloc: Global, task: &RouteTask) -> Result<Left, NoMemory>
+    ensures { IfOk result (IsLeft (Joins (graph_of task.now.graph)) task.now.demands.now task.now.caps.now.scale task.now.caps.now.nums) }
 {
-    let graph = Surviving { net, states, state };
-    let draft = route_all(alloc, &graph, demands.items(), caps)?;
+    let draft = route_all(alloc, &task.graph, task.demands.items(), task.caps)?;
     Ok(Left {
         routing: Routing {
             den: 1,
@@ -72,4 +61,26 @@ pub fn greedy(
         },
         rest: draft.rest,
     })
+}
+
+/// `greedy_in` for demands within capacities in a state.
+pub fn greedy<'a>(
+    alloc: Global,
+    net: &'a Network,
+    states: &'a States,
+    state: StateId,
+    demands: &'a Demands,
+    caps: &'a Caps,
+) -> Result<Left, NoMemory>
+    requires state { state.0 < length states.now.listed + 1 }
+    requires demands { AreDemands (length net.now.nodes) demands.now }
+    requires caps { length caps.now.nums ≡ length net.now.links }
+    ensures { IfOk result (IsLeft (Joins (graph net.now states.now state.0)) demands.now caps.now.scale caps.now.nums) }
+{
+    let task = RouteTask {
+        graph: Surviving { net, states, state },
+        demands,
+        caps,
+    };
+    greedy_in(alloc, &task)
 }

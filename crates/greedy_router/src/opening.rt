@@ -5,7 +5,7 @@ ghost use Rattle.greedy_router.specs.Blocked.{IsBlocked};
 ghost use Rattle.greedy_router.specs.inner.FullLinks.{IsOpenPath, full_price};
 
 use net_core::{List, NoMemory, NodeId, Path, Surviving};
-use short_paths::{PathFault, PricedPath, priced_path};
+use short_paths::{PathFault, PricedPath, priced_path_in};
 use std::alloc::Global;
 
 /// The price of a full link. A path of links that aren't full costs less.
@@ -56,15 +56,7 @@ pub fn open_path(
         (IsOpenPath (Joins g) spares.now from.0 to.0)) }
 {
     let prices = full_prices(alloc, spares)?;
-    match priced_path(
-        alloc,
-        graph.net,
-        graph.states,
-        graph.state,
-        &prices,
-        from,
-        to,
-    ) {
+    match priced_path_in(alloc, graph, &prices, from, to) {
         Ok(priced) => Ok(cheap_path(priced)),
         Err(PathFault::Apart) => Ok(None),
         Err(PathFault::NoMemory) => Err(NoMemory),

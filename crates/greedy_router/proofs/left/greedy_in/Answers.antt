@@ -1,0 +1,10 @@
+use Rattle.net_core.specs.Graphs.{Joins}
+use Rattle.net_core.specs.Views.{graph_of}
+use Rattle.greedy_router.proofs.Adding.{left_of}
+use Rattle.greedy_router.proofs.left.greedy_in.Goals as goal
+
+pub returns : goal.returns
+returns c =
+    let task = c.args.task.now in
+    let caps = task.caps.now in
+    left_of (Joins (graph_of task.graph)) task.demands.now caps.scale caps.nums c.in_ok-draft.draft (rw c.items.ensures at c.in_ok-draft.ensures)
