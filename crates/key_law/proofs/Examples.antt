@@ -12,8 +12,12 @@ use Rattle.key_law.specs.KeyRows.{key_nums, role_value, AreKeyRows}
 use Rattle.key_law.specs.Kept.{IsKept}
 use Rattle.key_law.specs.KeyedBases.{KeyedBasis, left_of, whole_cost, whole_prices, KeyedTurn}
 use Rattle.key_law.specs.Turns.{IsBlockTurned, IsExchanged}
-use Rattle.key_law.proofs.Laws.{slacks_are_kept, block_turns, key_turns, exchanges, exchanged_turns}
+use Rattle.key_law.proofs.Ends
+use Rattle.key_law.proofs.Exchange
+use Rattle.key_law.proofs.Laws.{turn_pick}
+use Rattle.key_law.proofs.Leaving
 use Rattle.key_law.proofs.Roles.{demand_rows}
+use Rattle.key_law.proofs.Turns
 
 -- numbers in the rows of the links, and in that of the demand
 abbrev numbers : ℤ → ℤ → ℤ → ℤ → ℕ → ℤ
@@ -59,7 +63,7 @@ start bound bounds = record {
   den = λ i. pos 1;
   prices = λ k. pos 0;
   prices_den = pos 1;
-  is_kept = slacks_are_kept 3 1 bound slacks bounds;
+  is_kept = Ends.kept_start 3 1 bound slacks _ _ _ _ bounds (λ i k li lk. refl) (λ i l. refl) (λ k l. refl) refl;
 }
 
 -- the row of the key, where all denominators are 1
@@ -103,7 +107,7 @@ first_turn = record {
 
 -- only the key changes
 after_first : IsKept 3 1 little (put (slack_basis slacks) 3 straight) (λ r. r) (λ j. j) unit_vector ones (λ k. pos 0) (pos 1)
-after_first = key_turns first_turn 0 refl (record {
+after_first = Turns.key_turned first_turn.before.is_kept first_turn.key_rows first_turn.enters first_turn.leaves first_turn.pick.inside (turn_pick first_turn) 0 refl (record {
   inside = omega arith;
   owned = λ e l. one e l;
   alone = three _ refl refl refl;
@@ -165,7 +169,7 @@ filled = record {
   den = ones;
   prices = unit_vector 2;
   prices_den = pos 1;
-  is_kept = block_turns filling_turn unit_vector ones (unit_vector 2) (pos 1) (omega arith) filling_turned;
+  is_kept = Turns.block_turned filling_turn.before.is_kept filling_turn.key_rows filling_turn.enters filling_turn.leaves filling_turn.pick.inside (turn_pick filling_turn) (omega arith) filling_turned;
 }
 
 -- links 0 and 1 and the key have the ratio 2, and the key's link entries are the least: 0, 0 and -1
@@ -221,7 +225,7 @@ exchanged = record {
   den = ones;
   prices = unit_vector 2;
   prices_den = pos 1;
-  is_kept = exchanges filled 2 0 exchanged_rows ones ones (pos 1) is_exchanged;
+  is_kept = Exchange.exchanged filled.is_kept is_exchanged;
 }
 
 -- of the path around the new key leaves 1, 1 and -1, and its cost stays
@@ -265,8 +269,7 @@ last = record {
   den = ones;
   prices = λ k. pos 0;
   prices_den = pos 1;
-  is_kept = exchanged_turns key_leaves 2 0 exchanged_rows ones ones (pos 1) (key_rows_of exchanged) ones last_rows ones (λ k. pos 0) (pos 1)
-      refl is_exchanged (are_key_rows exchanged refl) last_turned;
+  is_kept = Leaving.exchanged_turned key_leaves.before.is_kept key_leaves.key_rows is_exchanged (are_key_rows exchanged refl) key_leaves.enters key_leaves.leaves refl (turn_pick key_leaves) last_turned;
 }
 
 -- links 0 and 1 are full, 2 goes around and 1 straight, and the demand alone has a price

@@ -43,14 +43,6 @@ module _ {N : Type 0} (links demands : ℕ) (basis : ℕ → ColumnOf N) (place 
   abbrev pub role_nums : (ℕ → ℕ → ℤ) → (ℕ → ℤ) → (ℕ → ℕ → ℤ) → (ℕ → ℤ) → ℕ → ℕ → ℤ
   role_nums kept den of_keys of_den r = cond (ltb r links) (full_kept (kept r) (den r)) (full_key (r - links) (of_keys (r - links)) (of_den (r - links)))
 
-  -- the link entries of a role's row, where weights bring each demand's columns over a denominator of the demand's own
-  abbrev pub role_links : (ℕ → ℕ → ℤ) → (ℕ → ℕ → ℤ) → ℕ → ℕ → ℤ
-  role_links kept weight r = cond (ltb r links) (kept r) (key_nums kept (weight (r - links)) (r - links))
-
-  -- the product of that row with a column, or, with the bounds, its value
-  abbrev pub role_dot : (ℕ → ℕ → ℤ) → (ℕ → ℕ → ℤ) → (ℕ → ℤ) → ℕ → (ℕ → ℤ) → ℤ
-  role_dot kept weight all r a = cond (ltb r links) (dot links (kept r) (left_column links demands basis place a)) (key_dot kept (weight (r - links)) (all (r - links)) (r - links) a)
-
   -- the value of a role over a common denominator of the block
   abbrev pub role_value : (ℕ → ℕ → ℤ) → (ℕ → ℤ) → ℤ → (ℕ → ℤ) → ℕ → ℤ
   role_value kept weight all bound r = cond (ltb r links) (weight r *ℤ dot links (kept r) (left_column links demands basis place bound)) (key_dot kept weight all (r - links) bound)

@@ -4,7 +4,7 @@ use Rattle.simplex_law.specs.Sums.{put}
 use Rattle.simplex_law.specs.Programs.{ColumnOf}
 use Rattle.key_law.specs.Keys.{left_column}
 use Rattle.key_law.specs.Kept.{IsKept}
-use Rattle.key_law.specs.KeyRows.{full_kept, full_prices, full_key, cost, key_nums, role_links, role_dot, AreKeyRows}
+use Rattle.key_law.specs.KeyRows.{full_prices, cost, AreKeyRows}
 use Rattle.key_law.specs.Turns.{IsKeyPick}
 
 -- the columns of a program, as a test tells them
@@ -34,22 +34,6 @@ module _ {N : Type 0} (k : KeyedBasis N) where
   -- what its keys leave of a column, or of the bounds
   abbrev pub left_of : (ℕ → ℤ) → ℕ → ℤ
   left_of = left_column k.links k.demands k.basis k.place
-
-  -- row i of the block, as a row of the inverse
-  abbrev pub whole_row : ℕ → ℕ → ℤ
-  whole_row i = full_kept k.links k.demands k.basis k.place (k.kept i) (k.den i)
-
-  -- the row of demand d's key over all
-  abbrev pub whole_key_row : (ℕ → ℤ) → ℤ → ℕ → ℕ → ℤ
-  whole_key_row weight all d = full_key k.links k.demands k.basis k.place d (key_nums k.links k.demands k.basis k.place k.kept weight d) all
-
-  -- the product of a role's row with a column, or, with the bounds, its value
-  abbrev pub whole_product : (ℕ → ℕ → ℤ) → (ℕ → ℤ) → ℕ → (ℕ → ℤ) → ℤ
-  whole_product = role_dot k.links k.demands k.basis k.place k.kept
-
-  -- the link entries of a role's row
-  abbrev pub whole_links : (ℕ → ℕ → ℤ) → ℕ → ℕ → ℤ
-  whole_links = role_links k.links k.demands k.basis k.place k.kept
 
   -- the prices of all rows
   abbrev pub whole_prices : ℕ → ℤ

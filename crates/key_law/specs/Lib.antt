@@ -4,6 +4,4 @@ pub mod KeyRows
 pub mod Turns
 pub mod Ties
 pub mod KeyedBases
-pub mod RowLaws
-pub mod TurnLaws
-pub mod WideLaws
+pub mod Laws

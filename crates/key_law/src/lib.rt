@@ -2,6 +2,4 @@
 //! between such bases, and what a method rests on that keeps no more.
 #![tactic(auto)]
 
-pub mod row_law;
-pub mod turn_law;
-pub mod wide_law;
+pub mod law;

@@ -1,5 +1,5 @@
 use Rattle.key_law.proofs.Laws.{kept_optimum}
-use Rattle.key_law.proofs.row_law.kept_optimum.Goals as goal
+use Rattle.key_law.proofs.law.kept_optimum.Goals as goal
 
 pub returns : goal.returns
 returns c = kept_optimum

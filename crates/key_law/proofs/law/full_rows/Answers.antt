@@ -1,5 +1,5 @@
 use Rattle.key_law.proofs.Laws.{full_rows}
-use Rattle.key_law.proofs.row_law.full_rows.Goals as goal
+use Rattle.key_law.proofs.law.full_rows.Goals as goal
 
 pub returns : goal.returns
 returns c = full_rows

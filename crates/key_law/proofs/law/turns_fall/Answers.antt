@@ -1,5 +1,5 @@
 use Rattle.key_law.proofs.Laws.{turns_fall}
-use Rattle.key_law.proofs.turn_law.turns_fall.Goals as goal
+use Rattle.key_law.proofs.law.turns_fall.Goals as goal
 
 pub returns : goal.returns
 returns c = turns_fall
