@@ -5,9 +5,9 @@ use Rattle.std.specs.Cmp.Lexicographic.{pointwise}
 use Rattle.net_core.specs.Graphs.{Graph}
 use Rattle.plan_terms.specs.Openings.{AreOpening, MayKeep, each_once}
 use Rattle.plan_terms.specs.Prices.{ArePriceLengths}
-use Rattle.metric_cut.specs.Cuts.{IsCutOf}
+use Rattle.metric_cut.specs.Cuts.{IsCutOf, MayKeepCut}
 use Rattle.metric_cut.specs.declared.cut.Cut.{Cut}
-use Rattle.metric_cut.specs.inner.KeptCuts.{MayKeepCut, each_cut_once}
+use Rattle.metric_cut.specs.inner.KeptCuts.{each_cut_once}
 
 -- the lengths of a cut
 lengths_of : Option Cut → Option (List ℕ)

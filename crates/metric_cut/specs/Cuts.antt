@@ -1,7 +1,8 @@
 -- cuts of a state: lengths that it keeps, with their distances
-use Rattle.std.specs.Prelude.{◌≡◌, ◌≤◌, length}
+use Rattle.std.specs.Prelude.{◌≡◌, ℕ, ◌≤◌, List, Option, None, Some, length}
 use Rattle.net_core.specs.Graphs.{Graph, Joins}
 use Rattle.plan_terms.specs.Certificates.{AreKept}
+use Rattle.plan_terms.specs.Keeping.{AreZero, Keeps}
 use Rattle.short_paths.specs.DistanceTables.{AreAllDistances}
 use Rattle.metric_cut.specs.declared.cut.Cut.{Cut}
 
@@ -11,3 +12,8 @@ pub record IsCutOf (g : Graph) (cut : Cut) : Type 0 where
   pub listed_state : g.state ≤ length g.listed
   pub kept : AreKept g cut.lengths
   pub distances : AreAllDistances (Joins g) cut.lengths (length g.nodes) cut.table
+
+-- a cut of what the state keeps of lengths, and none where they are 0 on all surviving links
+abbrev pub MayKeepCut : Graph → List ℕ → Option Cut → Type 0
+MayKeepCut g lengths None = AreZero g lengths
+MayKeepCut g lengths (Some cut) = Keeps g lengths cut.lengths × IsCutOf g cut

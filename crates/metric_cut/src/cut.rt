@@ -1,19 +1,19 @@
-ghost use Rattle.std.specs.Prelude.{◌≡◌, ◌+◌, ◌*◌, ◌≤◌, ◌<◌, ◌^◌, ◌↔◌, IfOk, IsErrOf, length, sum_by};
+ghost use Rattle.std.specs.Prelude.{◌≡◌, ◌+◌, ◌*◌, ◌≤◌, ◌<◌, ◌^◌, ◌↔◌, None, Ok, IfOk, IsErrOf, length, sum_by};
 ghost use Rattle.net_core.specs.Demands.{AreDemands};
 ghost use Rattle.net_core.specs.Graphs.{Graph, Joins};
-ghost use Rattle.net_core.specs.Views.{graph};
+ghost use Rattle.net_core.specs.Views.{graph, graph_of};
 ghost use Rattle.plan_terms.specs.Certificates.{IsRight};
 ghost use Rattle.plan_terms.specs.Keeping.{AreZero, Keeps};
 ghost use Rattle.plan_terms.specs.Paths.{IsDistance};
 ghost use Rattle.metric_cut.specs.Bounded.{HaveBound};
-ghost use Rattle.metric_cut.specs.Cuts.{IsCutOf};
+ghost use Rattle.metric_cut.specs.Cuts.{IsCutOf, MayKeepCut};
 ghost use Rattle.metric_cut.specs.inner.Rights.{part_of};
 
 use crate::keep::keep;
 use net_core::{
     Copied, Demand, Demands, Lengths, Network, NoMemory, NodeId, StateId, States, Surviving,
 };
-use short_paths::{DistanceTable, all_pairs};
+use short_paths::{DistanceTable, all_pairs_in};
 use std::alloc::Global;
 
 /// Lengths that a state keeps, one per link, with the distances along the links that survive in it. For 128 nodes and 256 links
@@ -95,16 +95,34 @@ impl Cut {
         if state.0 >= states.count() {
             return Err(CutFault::UnknownState);
         }
-        let mut kept = lengths;
-        if !keep(&Surviving { net, states, state }, &mut kept) {
-            return Err(CutFault::ZeroLengths);
+        let graph = Surviving { net, states, state };
+        let found = Cut::in_graph(alloc, &graph, lengths)?;
+        match found {
+            Some(cut) => Ok(cut),
+            None => Err(CutFault::ZeroLengths),
         }
-        let table = all_pairs(alloc, net, states, state, &kept)?;
-        Ok(Cut {
-            state,
+    }
+
+    /// `Cut::new` in a surviving graph; `None` exactly where no surviving link has a positive length.
+    pub fn in_graph(
+        alloc: Global,
+        graph: &Surviving,
+        lengths: Lengths,
+    ) -> Result<Option<Cut>, NoMemory>
+        requires lengths { length lengths ≡ length graph.now.net.now.links }
+        ensures zero { AreZero (graph_of graph.now) lengths → result ≡ Ok None }
+        ensures kept { IfOk result (MayKeepCut (graph_of graph.now) lengths) }
+    {
+        let mut kept = lengths;
+        if !keep(graph, &mut kept) {
+            return Ok(None);
+        }
+        let table = all_pairs_in(alloc, graph, &kept)?;
+        Ok(Some(Cut {
+            state: graph.state,
             lengths: kept,
             table,
-        })
+        }))
     }
 
     /// The state.

@@ -1,60 +1,29 @@
 ghost use Rattle.std.specs.Prelude.{◌≡◌, ◌+◌, ◌<◌, ◌==◌, All, IfOk, [], ◌∷◌, cond, length, map, replicate};
 ghost use Rattle.std.specs.Cmp.Lexicographic.{pointwise};
-ghost use Rattle.net_core.specs.Views.{graph};
+ghost use Rattle.net_core.specs.Views.{graph, graph_of};
 ghost use Rattle.plan_terms.specs.Openings.{AreOpening};
-ghost use Rattle.metric_cut.specs.Cuts.{IsCutOf};
-ghost use Rattle.metric_cut.specs.inner.KeptCuts.{MayKeepCut, MayKeepPrices, each_cut_once};
+ghost use Rattle.metric_cut.specs.Cuts.{IsCutOf, MayKeepCut};
+ghost use Rattle.metric_cut.specs.inner.KeptCuts.{MayKeepPrices, each_cut_once};
 
-use crate::cut::{Cut, CutFault};
+use crate::cut::Cut;
 use module_prices::price_lengths;
-use net_core::{Lengths, List, Network, NoMemory, StateId, States};
+use net_core::{List, Network, NoMemory, StateId, States, Surviving};
 use std::alloc::Global;
 
-/// What a state keeps of lengths, as a cut; `None` where they are 0 on all surviving links.
-fn kept_cut(
-    alloc: Global,
-    net: &Network,
-    states: &States,
-    state: StateId,
-    lengths: Lengths,
-) -> Result<Option<Cut>, NoMemory>
-    requires state { state.0 < length states.now.listed + 1 }
-    requires lengths { length lengths ≡ length net.now.links }
-    ensures { IfOk result (MayKeepCut (graph net.now states.now state.0) lengths) }
-{
-    match Cut::new(alloc, net, states, state, lengths) {
-        Ok(cut) => Ok(Some(cut)),
-        Err(CutFault::NoMemory) => Err(NoMemory),
-        Err(_) => Ok(None),
-    }
-}
-
 /// What a state keeps of lengths of 1.
-fn unit_cut(
-    alloc: Global,
-    net: &Network,
-    states: &States,
-    state: StateId,
-) -> Result<Option<Cut>, NoMemory>
-    requires { state.0 < length states.now.listed + 1 }
-    ensures { IfOk result (MayKeepCut (graph net.now states.now state.0) (replicate (length net.now.links) 1)) }
+fn unit_cut(alloc: Global, graph: &Surviving) -> Result<Option<Cut>, NoMemory>
+    ensures { let g = graph_of graph.now in IfOk result (MayKeepCut g (replicate (length g.links) 1)) }
 {
-    let units = List::filled(alloc, 1, net.links().len())?;
-    kept_cut(alloc, net, states, state, units)
+    let units = List::filled(alloc, 1, graph.net.links().len())?;
+    Cut::in_graph(alloc, graph, units)
 }
 
 /// What a state keeps of the price lengths.
-fn price_cut(
-    alloc: Global,
-    net: &Network,
-    states: &States,
-    state: StateId,
-) -> Result<Option<Cut>, NoMemory>
-    requires { state.0 < length states.now.listed + 1 }
-    ensures { IfOk result (MayKeepPrices (graph net.now states.now state.0)) }
+fn price_cut(alloc: Global, graph: &Surviving) -> Result<Option<Cut>, NoMemory>
+    ensures { IfOk result (MayKeepPrices (graph_of graph.now)) }
 {
-    let prices = price_lengths(alloc, net)?;
-    kept_cut(alloc, net, states, state, prices)
+    let prices = price_lengths(alloc, graph.net)?;
+    Cut::in_graph(alloc, graph, prices)
 }
 
 fn one(alloc: Global, cut: Cut) -> Result<List<Cut>, NoMemory>
@@ -108,7 +77,8 @@ pub fn opening(
     ensures each { IfOk result (All (IsCutOf (graph net.now states.now state.0))) }
     ensures opening { IfOk result (λ cuts. AreOpening (graph net.now states.now state.0) (map (λ c. c.lengths) cuts)) }
 {
-    let unit = unit_cut(alloc, net, states, state)?;
-    let price = price_cut(alloc, net, states, state)?;
+    let graph = Surviving { net, states, state };
+    let unit = unit_cut(alloc, &graph)?;
+    let price = price_cut(alloc, &graph)?;
     each_once(alloc, unit, price)
 }

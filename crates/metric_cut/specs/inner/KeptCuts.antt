@@ -1,16 +1,10 @@
--- what a state keeps of lengths, as a cut
+-- the opening cuts of a state, from what it keeps of two lists of lengths
 use Rattle.std.specs.Prelude.{◌==◌, ℕ, List, [], ◌∷◌, Option, None, Some, cond}
 use Rattle.std.specs.Cmp.Lexicographic.{pointwise}
 use Rattle.net_core.specs.Graphs.{Graph}
-use Rattle.plan_terms.specs.Keeping.{AreZero, Keeps}
 use Rattle.plan_terms.specs.Prices.{ArePriceLengths}
-use Rattle.metric_cut.specs.Cuts.{IsCutOf}
+use Rattle.metric_cut.specs.Cuts.{MayKeepCut}
 use Rattle.metric_cut.specs.declared.cut.Cut.{Cut}
-
--- a cut of what the state keeps of lengths, and none where they are 0 on all surviving links
-abbrev pub MayKeepCut : Graph → List ℕ → Option Cut → Type 0
-MayKeepCut g lengths None = AreZero g lengths
-MayKeepCut g lengths (Some cut) = Keeps g lengths cut.lengths × IsCutOf g cut
 
 -- a cut of what the state keeps of the price lengths
 abbrev pub MayKeepPrices : Graph → Option Cut → Type 0

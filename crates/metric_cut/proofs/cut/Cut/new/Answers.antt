@@ -1,14 +1,15 @@
-use Rattle.std.proofs.Common.{arith, refl}
+use Rattle.std.proofs.Common.{subst}
 use Rattle.net_core.specs.Views.{graph}
-use Rattle.plan_terms.specs.Certificates.{AreKept}
-use Rattle.metric_cut.proofs.Keepings.{keeps_kept, kept_have_bound}
+use Rattle.metric_cut.specs.Cuts.{IsCutOf, MayKeepCut}
+use Rattle.metric_cut.proofs.Keepings.{kept_have_bound}
 use Rattle.metric_cut.proofs.cut.Cut.new.Goals as goal
 
-kept : (c : goal.In_ok-table) → AreKept (graph c.args.net.now c.args.states.now c.args.state.0) c.keep.new.lengths
-kept c = keeps_kept (graph c.args.net.now c.args.states.now c.args.state.0) c.args.lengths _ c.requires.lengths (c.if-not-keep.ensures.kept refl)
+-- what the surviving graph gives is a cut of it
+is_cut : (c : goal.In-Some) → IsCutOf (graph c.args.net.now c.args.states.now c.args.state.0) c.in-Some.cut
+is_cut c = (subst (MayKeepCut (graph c.args.net.now c.args.states.now c.args.state.0) c.args.lengths) c.in-Some.is c.in_ok-found.ensures.kept).1
 
-pub returns-clause-cut : goal.returns-clause-cut
-returns-clause-cut c = record { state = refl; listed_state = omega arith; kept = kept c; distances = c.in_ok-table.ensures }
+pub returns-in-Some-clause-bound : goal.returns-in-Some-clause-bound
+returns-in-Some-clause-bound c = kept_have_bound (graph c.args.net.now c.args.states.now c.args.state.0) _ (is_cut c).kept
 
-pub returns-clause-bound : goal.returns-clause-bound
-returns-clause-bound c = kept_have_bound (graph c.args.net.now c.args.states.now c.args.state.0) _ (kept c)
+pub returns-in-Some-clause-nodes : goal.returns-in-Some-clause-nodes
+returns-in-Some-clause-nodes c = (is_cut c).distances.count
