@@ -6,7 +6,7 @@ use Rattle.checked_fraction.specs.Rows.{num}
 use Rattle.checked_fraction.specs.declared.row.Row.{Row}
 use Rattle.simplex_law.specs.Sums.{dot}
 use Rattle.simplex_core.specs.Tables.{nums_of, nums_at, IsRectangle}
-use Rattle.key_rows.specs.inner.Orders.{IsFirstInTie}
+use Rattle.key_law.specs.Ties.{IsTieFirst}
 
 -- what holds of each number before place i, and of the number that is written there, holds of one more
 pub each_more : (P : ℕ → ℤ → Type 0) (xs : List ℤ) (i : ℕ) (v : ℤ) → i < length xs → ((j : ℕ) → j < i → P j (num xs j)) → P i v → (j : ℕ) → j < i + 1 → P j (num (slice_set xs i v) j)
@@ -24,8 +24,8 @@ product_at rows n i row nums a x rectangle lt at same is =
 
 -- which of rows i and j comes first, by their numbers, which are at hand
 pub tie_at : (rows : List Row) (n i j : ℕ) (nums others : List ℤ) (p q : ℤ) (a b : ℕ) → n ≡ length rows → nums ≡ nums_of (slice_get rows i) → others ≡ nums_of (slice_get rows j)
-    → IsFirstInTie n (num nums) p (num others) q a b → IsFirstInTie (length rows) (nums_at rows i) p (nums_at rows j) q a b
+    → IsTieFirst n (num nums) p (num others) q a b → IsTieFirst (length rows) (nums_at rows i) p (nums_at rows j) q a b
 tie_at rows n i j nums others p q a b width here there first =
-    subst (λ xs. IsFirstInTie (length rows) (num xs) p (nums_at rows j) q a b) here
-    (subst (λ xs. IsFirstInTie (length rows) (num nums) p (num xs) q a b) there
-    (subst (λ m. IsFirstInTie m (num nums) p (num others) q a b) width first))
+    subst (λ xs. IsTieFirst (length rows) (num xs) p (nums_at rows j) q a b) here
+    (subst (λ xs. IsTieFirst (length rows) (num nums) p (num xs) q a b) there
+    (subst (λ m. IsTieFirst m (num nums) p (num others) q a b) width first))

@@ -13,14 +13,14 @@ use Rattle.simplex_law.proofs.Sums.{sum-same}
 use Rattle.simplex_core.specs.Tables.{nums_at, den_at}
 use Rattle.key_law.specs.Keys.{key_part, left_column}
 use Rattle.key_law.specs.KeyRows.{full_kept, full_key, key_nums}
-use Rattle.key_law.specs.Ties.{IsRoleRow}
+use Rattle.key_law.specs.Ties.{IsRoleRow, IsTieFirst}
 use Rattle.key_law.proofs.Firsts.{comes_first}
 use Rattle.key_rows.specs.Bases.{IsKeyed}
 use Rattle.key_rows.specs.KeyRows.{AreWeights, weighted, less_rows}
 use Rattle.key_rows.specs.KeyTests.{HaveColumnProducts, IsKeyRow}
 use Rattle.key_rows.specs.Names.{left_uses, own_entry}
 use Rattle.key_rows.specs.inner.Candidates.{IsLeavingCandidate, IsKeyCandidate, IsLowered, IsLoweredKey, LeavesFirst, lowered_step}
-use Rattle.key_rows.specs.inner.Orders.{IsRowCandidate, IsFirstInTie, IsNoLaterRow}
+use Rattle.key_rows.specs.inner.Orders.{IsRowCandidate, IsNoLaterRow}
 use Rattle.key_rows.specs.declared.keyed.Keyed.{Keyed}
 use Rattle.key_rows.specs.declared.order.Candidate.{Candidate}
 use Rattle.key_rows.proofs.Columns.{times_are}
@@ -150,7 +150,7 @@ module _ {links demands : ℕ} {bound : ℕ → ℤ} {basis : ℕ → ColumnOf R
   candidate_no_later x y sx sy first = ⊎_elim
       (λ less. comes_first sx.whole sy.whole (inl less))
       (λ same. comes_first (sx.lowered same.1.nums same.1.product same.1.first) (sy.lowered same.1.others same.1.other same.1.second)
-      (inr (same.0, subst (λ n. IsFirstInTie n (num same.1.nums) same.1.product (num same.1.others) same.1.other x.role y.role) h.shaped.rows same.1.tie)))
+      (inr (same.0, subst (λ n. IsTieFirst n (num same.1.nums) same.1.product (num same.1.others) same.1.other x.role y.role) h.shaped.rows same.1.tie)))
       first
 
   -- a row of the whole inverse is that of a candidate

@@ -8,7 +8,7 @@ use Rattle.net_core.specs.declared.ids.LinkId.{LinkId}
 use Rattle.key_rows.specs.KeyTests.{HaveColumnProducts, IsKeyRow}
 use Rattle.key_rows.specs.Names.{left_uses, own_entry}
 use Rattle.key_rows.specs.inner.Candidates.{IsKeyCandidate, IsLowered, DecidesTie, lowered_step}
-use Rattle.key_rows.specs.inner.Orders.{IsFirstInTie}
+use Rattle.key_law.specs.Ties.{IsTieFirst}
 use Rattle.key_rows.specs.declared.keyed.Keyed.{Keyed}
 use Rattle.key_rows.specs.declared.order.Candidate.{Candidate}
 use Rattle.key_rows.proofs.Products.{key_scaled, key_positive}
@@ -29,7 +29,7 @@ module _ (b : Keyed) (name : RouteColumn) (key : List LinkId) (d : ℕ) (x : Can
 -- what is decided of two rows in lowest terms
 pub decided : (b : Keyed) (name : RouteColumn) (key : List LinkId) (x y : Candidate) (xs ys : List ℤ) (p q : ℤ) (n : ℕ) → n ≡ length b.rows
     → IsLowered b name key x xs p → IsLowered b name key y ys q → (result : Bool)
-    → (result ≡ true → IsFirstInTie n (num xs) p (num ys) q x.role y.role) → (result ≡ false → IsFirstInTie n (num ys) q (num xs) p y.role x.role) → DecidesTie b name key x y result
+    → (result ≡ true → IsTieFirst n (num xs) p (num ys) q x.role y.role) → (result ≡ false → IsTieFirst n (num ys) q (num xs) p y.role x.role) → DecidesTie b name key x y result
 decided b name key x y xs ys p q n is first second true h k = record {
   nums = xs;
   product = p;
@@ -37,7 +37,7 @@ decided b name key x y xs ys p q n is first second true h k = record {
   other = q;
   first = first;
   second = second;
-  tie = subst (λ m. IsFirstInTie m (num xs) p (num ys) q x.role y.role) is (h refl);
+  tie = subst (λ m. IsTieFirst m (num xs) p (num ys) q x.role y.role) is (h refl);
 }
 decided b name key x y xs ys p q n is first second false h k = record {
   nums = ys;
@@ -46,5 +46,5 @@ decided b name key x y xs ys p q n is first second false h k = record {
   other = p;
   first = second;
   second = first;
-  tie = subst (λ m. IsFirstInTie m (num ys) q (num xs) p y.role x.role) is (k refl);
+  tie = subst (λ m. IsTieFirst m (num ys) q (num xs) p y.role x.role) is (k refl);
 }

@@ -2,8 +2,7 @@ ghost use Rattle.std.specs.Prelude.{◌≡◌, ◌<◌, ◌*◌, ◌^◌, ◌*�
 ghost use Rattle.std.specs.Ordering.{nat_cmp};
 ghost use Rattle.checked_fraction.specs.Rows.{num, IsNarrow};
 ghost use Rattle.simplex_core.specs.Orders.{HasOrder};
-ghost use Rattle.key_law.specs.Ties.{IsRoleFirst};
-ghost use Rattle.key_rows.specs.inner.Orders.{IsFirstInTie};
+ghost use Rattle.key_law.specs.Ties.{IsRoleFirst, IsTieFirst};
 
 use checked_fraction::cmp;
 use simplex_core::compare_numbers;
@@ -90,8 +89,8 @@ pub(crate) fn tie_first(
     requires p { pos 0 <ℤ p.now }
     requires q { pos 0 <ℤ q.now }
     requires apart { first ≡ second → first < length row.now }
-    ensures yes { IsTrue result → IsFirstInTie (length row.now) (num row.now) p.now (num other.now) q.now first second }
-    ensures no { result ≡ false → IsFirstInTie (length row.now) (num other.now) q.now (num row.now) p.now second first }
+    ensures yes { IsTrue result → IsTieFirst (length row.now) (num row.now) p.now (num other.now) q.now first second }
+    ensures no { result ≡ false → IsTieFirst (length row.now) (num other.now) q.now (num row.now) p.now second first }
 {
     match compare_numbers(row, p, other, q) {
         Ordering::Less => true,

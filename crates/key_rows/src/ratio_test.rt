@@ -1,6 +1,7 @@
 ghost use Rattle.std.specs.Prelude.{◌≡◌, ◌≢◌, ◌<◌, ◌+◌, ◌-◌, ◌^◌, ◌<ℤ◌, ◌≤◌, ◌≤ℤ◌, ◌⊎◌, ℕ, ℤ, List, pos, unsigned_abs, MatchOption, Some, IfOk, IfErr, length, false, IsTrue, get_or, ◌↔◌};
 ghost use Rattle.std.specs.Option.{ForSome};
 ghost use Rattle.checked_fraction.specs.Rows.{num, IsNarrow};
+ghost use Rattle.key_law.specs.Ties.{IsTieFirst};
 ghost use Rattle.key_rows.specs.declared.order.Candidate.{Candidate};
 ghost use Rattle.key_rows.specs.Bases.{IsShapedBasis, IsRoom};
 ghost use Rattle.key_rows.specs.FirstRoles.{IsFirstOfRoles, LeaveSomething};
@@ -9,7 +10,7 @@ ghost use Rattle.key_rows.specs.KeyTests.{IsWideTest, HaveColumnProducts};
 ghost use Rattle.key_rows.specs.Names.{demand_in, key_links, IsNameWithin, IsShortPath};
 ghost use Rattle.key_rows.specs.inner.Candidates.{IsJoined, IsKeyTest, IsWithKey, IsBetterKey, IsPlacedCandidate, DecidesTie};
 ghost use Rattle.key_rows.specs.inner.Entrants.{IsEntrant, HaveTestNumbers, AreRivals};
-ghost use Rattle.key_rows.specs.inner.Orders.{IsFirstInTie, IsRowFirst, IsRowCandidate, IsPlacedRow, IsBetterRow, IsBestRow};
+ghost use Rattle.key_rows.specs.inner.Orders.{IsRowFirst, IsRowCandidate, IsPlacedRow, IsBetterRow, IsBestRow};
 ghost use Rattle.key_rows.specs.inner.Tried.{role_in, IsSeen, IsTried, TouchesNoMore};
 ghost use Rattle.simplex_core.specs.Tables.{nums_at, IsRectangle};
 
@@ -43,8 +44,8 @@ fn row_before(rows: &[Row], first: &Candidate, second: &Candidate) -> bool
     requires inside_second { second.now.role < length rows.now }
     requires first { pos 0 <ℤ first.now.product }
     requires second { pos 0 <ℤ second.now.product }
-    ensures yes { IsTrue result → IsFirstInTie (length rows.now) (nums_at rows.now first.now.role) first.now.product (nums_at rows.now second.now.role) second.now.product first.now.role second.now.role }
-    ensures no { result ≡ false → IsFirstInTie (length rows.now) (nums_at rows.now second.now.role) second.now.product (nums_at rows.now first.now.role) first.now.product second.now.role first.now.role }
+    ensures yes { IsTrue result → IsTieFirst (length rows.now) (nums_at rows.now first.now.role) first.now.product (nums_at rows.now second.now.role) second.now.product first.now.role second.now.role }
+    ensures no { result ≡ false → IsTieFirst (length rows.now) (nums_at rows.now second.now.role) second.now.product (nums_at rows.now first.now.role) first.now.product second.now.role first.now.role }
 {
     tie_first(
         first.role,

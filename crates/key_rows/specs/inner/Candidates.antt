@@ -8,9 +8,10 @@ use Rattle.simplex_law.specs.Sums.{dot}
 use Rattle.std.specs.List.{slice_get}
 use Rattle.net_core.specs.declared.columns.RouteColumn.{RouteColumn}
 use Rattle.net_core.specs.declared.ids.LinkId.{LinkId}
+use Rattle.key_law.specs.Ties.{IsTieFirst}
 use Rattle.key_rows.specs.KeyRows.{amounts, own_den, AreWeights, left_over_rows}
 use Rattle.key_rows.specs.Names.{left_uses, own_entry}
-use Rattle.key_rows.specs.inner.Orders.{IsFirstInTie, IsRowCandidate}
+use Rattle.key_rows.specs.inner.Orders.{IsRowCandidate}
 use Rattle.key_rows.specs.declared.key_row.WideKey.{WideKey}
 use Rattle.key_rows.specs.declared.key_row.WideKey.TheVariants.{Common, Row as RowOf}
 use Rattle.key_rows.specs.declared.keyed.Keyed.{Keyed}
@@ -93,7 +94,7 @@ module _ (b : Keyed) (name : RouteColumn) (key : List LinkId) where
     pub other : ℤ
     pub first : IsLowered x nums product
     pub second : IsLowered y others other
-    pub tie : IsFirstInTie (length b.rows) (num nums) product (num others) other x.role y.role
+    pub tie : IsTieFirst (length b.rows) (num nums) product (num others) other x.role y.role
 
   -- which of two comes first
   abbrev pub DecidesTie : Candidate → Candidate → Bool → Type 0

@@ -1,16 +1,12 @@
 -- the order of candidates
-use Rattle.std.specs.Prelude.{ℕ, ℤ, List, Option, Some, None, pos, ◌≡◌, ◌<◌, ◌≤ℤ◌, ◌*ℤ◌, ◌<ℤ◌, ◌⊎◌}
+use Rattle.std.specs.Prelude.{ℕ, ℤ, List, Option, Some, None, pos, ◌≡◌, ◌<◌, ◌≤ℤ◌, ◌<ℤ◌, ◌⊎◌}
 use Rattle.checked_fraction.specs.Rows.{num}
 use Rattle.checked_fraction.specs.declared.row.Row.{Row}
 use Rattle.simplex_law.specs.inner.Pivots.{IsNoLater}
 use Rattle.simplex_core.specs.Tables.{nums_at}
-use Rattle.key_law.specs.Ties.{IsRoleFirst, AreLinksFirst, ComesFirst}
+use Rattle.key_law.specs.Ties.{ComesFirst}
 use Rattle.key_rows.specs.KeyRows.{amounts}
 use Rattle.key_rows.specs.declared.order.Candidate.{Candidate}
-
--- where values tie, numbers n over r come before o over s, or else the role a before b
-abbrev pub IsFirstInTie : ℕ → (ℕ → ℤ) → ℤ → (ℕ → ℤ) → ℤ → ℕ → ℕ → Type 0
-IsFirstInTie links n r o s a b = AreLinksFirst links n r o s ⊎ (((k : ℕ) → k < links → n k *ℤ s ≡ o k *ℤ r) × IsRoleFirst links a b)
 
 -- the first candidate comes before the second, by link entries n over r and o over s where their values tie
 abbrev pub IsCandidateFirst : ℕ → Candidate → (ℕ → ℤ) → ℤ → Candidate → (ℕ → ℤ) → ℤ → Type 0
