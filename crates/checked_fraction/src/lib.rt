@@ -5,6 +5,7 @@ mod divisor;
 pub mod fraction;
 pub mod lowest;
 mod mix;
+pub mod numbers;
 pub mod pivot;
 pub mod row;
 pub mod scale;
@@ -13,6 +14,7 @@ pub mod wide;
 
 pub use fraction::{cmp, gcd, mul_div};
 pub use lowest::lower;
+pub use numbers::{first_negative, is_narrow, narrowed, size_of_den};
 pub use pivot::combine;
 pub use row::Row;
 pub use scale::rescale;

@@ -6,8 +6,8 @@ ghost use Rattle.simplex_core.specs.inner.Commons.{IsDenominator, HaveNoDenomina
 ghost use Rattle.key_rows.specs.Bases.{IsShapedBasis};
 ghost use Rattle.key_paths.specs.inner.Ends.{row_den, key_over, role_over, FitOver, HasFittingValues, AreApartPlaces, AreValuesOver, IsEndOf, IsWideEnd, IsKeyedEnd};
 
-use checked_fraction::Row;
-use key_rows::{Keyed, joined_common, size_of_den};
+use checked_fraction::{Row, size_of_den};
+use key_rows::{Keyed, joined_common};
 use net_core::{List, NoMemory, RouteColumn, WideKind};
 use simplex_core::{Optimum, SimplexFault};
 use std::alloc::Global;

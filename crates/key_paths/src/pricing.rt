@@ -1,4 +1,4 @@
-ghost use Rattle.std.specs.Prelude.{◌≡◌, ◌<◌, ◌≤◌, ◌+◌, ◌^◌, ◌+ℤ◌, ◌-ℤ◌, ◌≤ℤ◌, ◌<ℤ◌, ◌↔◌, ℕ, All, pos, length, true, false, IfOk, IsTrue, MatchOption};
+ghost use Rattle.std.specs.Prelude.{◌≡◌, ◌<◌, ◌≤◌, ◌+◌, ◌+ℤ◌, ◌-ℤ◌, ◌≤ℤ◌, ◌<ℤ◌, ◌↔◌, All, pos, length, true, false, IfOk, IsTrue, MatchOption};
 ghost use Rattle.checked_fraction.specs.Rows.{num};
 ghost use Rattle.net_core.specs.Views.{graph_of};
 ghost use Rattle.net_core.specs.declared.columns.RouteColumn.TheVariants.{Carry};
@@ -8,22 +8,10 @@ ghost use Rattle.key_paths.specs.inner.Gaining.{cost_at, IsCarrier, IsGaining, N
 use crate::carrier::Carrier;
 use crate::collecting::find;
 use crate::task::Task;
+use checked_fraction::first_negative;
 use key_rows::{Keyed, path_sum};
 use net_core::{LinkId, List, NoMemory, RouteColumn};
 use std::alloc::Global;
-
-/// The first number below 0.
-fn negative(nums: &[i64]) -> Option<u32>
-    requires { length nums.now < 2 ^ 32 }
-    ensures { MatchOption result ((k : ℕ) → k < length nums.now → pos 0 ≤ℤ num nums.now k) (λ k. (k < length nums.now) × (num nums.now k <ℤ pos 0)) }
-{
-    for k in 0..nums.len() {
-        if nums[k] < 0 {
-            return Some(k as u32);
-        }
-    }
-    None
-}
 
 /// `a - b`.
 fn minus(a: i64, b: i64) -> i128
@@ -81,10 +69,10 @@ pub(crate) fn price(
     ensures waiting { All (IsCarrier (graph_of task.now.graph) task.now.demands.now) waiting.new }
     ensures found { IfOk result (λ o. MatchOption o (NoneGains (graph_of task.now.graph) task.now.demands.now keyed.now) (IsGaining (graph_of task.now.graph) task.now.demands.now keyed.now)) }
 {
-    if let Some(link) = negative(keyed.prices.nums()) {
+    if let Some(link) = first_negative(keyed.prices.nums()) {
         return Ok(Some(RouteColumn::LinkSlack(LinkId(link))));
     }
-    if let Some(demand) = negative(keyed.duals.items()) {
+    if let Some(demand) = first_negative(keyed.duals.items()) {
         return Ok(Some(RouteColumn::DemandSlack(demand)));
     }
     match find(alloc, task, keyed, waiting)? {

@@ -6,7 +6,7 @@ ghost use Rattle.simplex_core.specs.Tables.{nums_at, IsRectangle};
 ghost use Rattle.key_rows.specs.Names.{left_uses, IsShortPath, IsNameWithin, column_name, key_name, key_links, HasKey, gain_in, links_in, key_dual};
 
 use crate::sums::{column_product, gain_of, path_of, path_sum, widen};
-use checked_fraction::{Row, product};
+use checked_fraction::{Row, is_narrow, narrowed, product};
 use net_core::{LinkId, List, RouteColumn};
 
 /// The key of a demand.
@@ -87,21 +87,6 @@ fn dual_of(prices: &Row, key: &RouteColumn) -> i128
 {
     let gain = product(&prices.den(), &gain_of(key));
     less(&gain, &path_sum(prices.nums(), path_of(key)))
-}
-
-fn is_narrow(a: &i128) -> bool
-    ensures yes { IsTrue result → IsNarrow a.now }
-    ensures no { result ≡ false → 2 ^ 62 ≤ unsigned_abs a.now }
-{
-    a.unsigned_abs() < 1 << 62
-}
-
-fn narrowed(a: &i128) -> i64
-    requires { IsNarrow a.now }
-    ensures value { result ≡ a.now }
-    ensures narrow { IsNarrow result }
-{
-    *a as i64
 }
 
 /// The price of a demand's row, where it is narrow: what its key gains, over the denominator, less what the links of its key cost.

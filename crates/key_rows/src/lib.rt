@@ -21,4 +21,4 @@ pub use ratio_test::{WideTest, leaving};
 pub use rest::{shift_back_list, shift_list};
 pub use sums::{column_product, demand_of, path_of, path_sum, widen};
 pub use values::{lower_value_list, renew_value_list, worth};
-pub use weights::{joined_common, size_of_den};
+pub use weights::joined_common;

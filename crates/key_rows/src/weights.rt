@@ -8,18 +8,9 @@ ghost use Rattle.simplex_core.specs.inner.Commons.{IsDenominator, HaveNoDenomina
 ghost use Rattle.key_rows.specs.KeyRows.{AreWeights, IsOwn, amounts, left_over_rows, own_den};
 ghost use Rattle.key_rows.specs.inner.Written.{AreWritten};
 
-use checked_fraction::{Row, Sum};
+use checked_fraction::{Row, Sum, size_of_den};
 use net_core::List;
 use simplex_core::common_multiple;
-
-/// The denominator of a row.
-pub fn size_of_den(row: &Row) -> u64
-    ensures value { result ≡ unsigned_abs row.now.den }
-    ensures some { 0 < result }
-    ensures narrow { result < 2 ^ 62 }
-{
-    row.den().unsigned_abs()
-}
 
 /// The denominator of a row where it is one of the demand, and 1 where it isn't.
 fn own_den_of(row: &Row, owner: u32, demand: u32) -> u64

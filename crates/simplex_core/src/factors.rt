@@ -1,32 +1,16 @@
-ghost use Rattle.std.specs.Prelude.{◌≡◌, ◌<◌, ◌≤◌, ◌^◌, ◌/◌, ◌<ℤ◌, ◌↔◌, ℕ, pos, length, int_div, unsigned_abs, IsTrue, false};
+ghost use Rattle.std.specs.Prelude.{◌≡◌, ◌<◌, ◌≤◌, ◌^◌, ◌/◌, ◌<ℤ◌, ℕ, pos, length, int_div, unsigned_abs, IsTrue, false};
 ghost use Rattle.std.specs.Int.{IsGcd};
 ghost use Rattle.checked_fraction.specs.Rows.{num, IsNarrow};
 ghost use Rattle.simplex_core.specs.Turned.{IsNarrowOver, FindsWideProduct};
 ghost use Rattle.simplex_core.specs.inner.Factors.{AreFactorsOf};
 
-use checked_fraction::gcd;
+use checked_fraction::{gcd, is_narrow, narrowed};
 
 /// What rows are combined by: the product of a row and the pivot, divided by a common divisor.
 #[derive(Clone, Copy)]
 pub(crate) struct Factors {
     pub(crate) p: i64,
     pub(crate) q: i64,
-}
-
-/// Whether a number is below 2^62 in absolute value.
-pub(crate) fn is_narrow(a: &i128) -> bool
-    ensures { IsTrue result ↔ IsNarrow a.now }
-{
-    a.unsigned_abs() < 1 << 62
-}
-
-/// A narrow number in one word.
-pub(crate) fn narrowed(a: &i128) -> i64
-    requires { IsNarrow a.now }
-    ensures value { result ≡ a.now }
-    ensures narrow { IsNarrow result }
-{
-    *a as i64
 }
 
 /// The greatest common divisor of a product and the pivot.

@@ -6,8 +6,8 @@ ghost use Rattle.simplex_core.specs.Turned.{IsNarrowOver, HavePivot};
 ghost use Rattle.simplex_core.specs.inner.Pivots.{CombinesAt, AreCombined};
 ghost use Rattle.simplex_core.specs.Turned.{IsTooWideAt, AreTurned, IsWideRow};
 
-use crate::factors::{Factors, factors_of, narrowed};
-use checked_fraction::{Row, WideNumber, combine, rescale};
+use crate::factors::{Factors, factors_of};
+use checked_fraction::{Row, WideNumber, combine, narrowed, rescale};
 use net_core::List;
 use std::mem;
 

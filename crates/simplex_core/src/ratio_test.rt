@@ -8,9 +8,8 @@ ghost use Rattle.simplex_core.specs.Orders.{HasOrder, ComparesNumbers};
 ghost use Rattle.simplex_core.specs.inner.Ratios.{IsPlaced, IsCandidate, HaveRowValues, ComparesRows, IsFirstOf, IsBetter, IsBestBefore, IsLeavingRow};
 ghost use Rattle.simplex_core.specs.inner.Values.{sizes_of};
 
-use crate::factors::{is_narrow, narrowed};
 use crate::value::row_value;
-use checked_fraction::{Row, cmp, product};
+use checked_fraction::{Row, cmp, is_narrow, narrowed, product};
 use net_core::List;
 use std::cmp::Ordering;
 

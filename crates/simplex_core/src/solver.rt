@@ -1,4 +1,4 @@
-ghost use Rattle.std.specs.Prelude.{◌≡◌, ◌<◌, ◌≤◌, ◌^◌, ◌<ℤ◌, ◌≤ℤ◌, ℕ, ℤ, pos, length, slice_set, unsigned_abs, MatchOption, IsTrue, false};
+ghost use Rattle.std.specs.Prelude.{◌≡◌, ◌<◌, ◌≤◌, ◌^◌, ◌<ℤ◌, ◌≤ℤ◌, ℕ, ℤ, pos, length, slice_set, unsigned_abs, IsTrue, false};
 ghost use Rattle.std.specs.List.{AllByRecursion};
 ghost use Rattle.checked_fraction.specs.Rows.{num, IsNarrow};
 ghost use Rattle.simplex_law.specs.Sums.{dot};
@@ -20,7 +20,7 @@ use crate::pivot::{turn_list, turn_objective};
 use crate::product::{reduced_cost_of, write_list};
 use crate::ratio_test::leaving_of;
 use crate::value::{ValueFault, fractions_of, row_value};
-use checked_fraction::Row;
+use checked_fraction::{Row, first_negative};
 use net_core::{Copied, List, NoMemory, WideKind};
 use std::alloc::Global;
 
@@ -76,19 +76,6 @@ enum Turn<N> {
 struct Values {
     den: u64,
     nums: List<u128>,
-}
-
-/// The first row of negative dual.
-fn negative_dual(duals: &[i64]) -> Option<u32>
-    requires { length duals.now < 2 ^ 32 }
-    ensures { MatchOption result ((k : ℕ) → k < length duals.now → pos 0 ≤ℤ num duals.now k) (λ k. (k < length duals.now) × (num duals.now k <ℤ pos 0)) }
-{
-    for k in 0..duals.len() {
-        if duals[k] < 0 {
-            return Some(k as u32);
-        }
-    }
-    None
 }
 
 fn set_name<N: Drop>(names: &mut List<N>, r: usize, name: N)
@@ -173,7 +160,7 @@ fn take_turn<C: Columns>(cols: &mut C, basis: &mut Basis<C::Name>) -> Turn<C::Na
     ensures same { IsSameProgram (C.rows cols.old) (C.rows cols.new) (C.bound cols.old) (C.bound cols.new) (C.slack cols.old) (C.slack cols.new) (C.is_listed cols.old) (C.is_listed cols.new) }
     ensures turn { IsTurnOutcome (C.rows cols.old) (C.slack cols.old) (C.is_listed cols.old) basis.old result basis.new }
 {
-    if let Some(row) = negative_dual(basis.duals.nums()) {
+    if let Some(row) = first_negative(basis.duals.nums()) {
         let entry = Entry { row, value: 1 };
         return enter(basis, cols.slack(row), &0, &[entry]);
     }

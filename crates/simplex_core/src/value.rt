@@ -6,7 +6,7 @@ ghost use Rattle.simplex_core.specs.inner.Products.{AreBoundedRows};
 ghost use Rattle.simplex_core.specs.inner.Values.{sizes_of, IsValueOf};
 
 use crate::fraction::{Fraction, fraction_of};
-use checked_fraction::{Row, product};
+use checked_fraction::{Row, product, size_of_den};
 use net_core::{List, NoMemory};
 use std::alloc::Global;
 
@@ -103,15 +103,6 @@ impl<T: Drop> From<(T, NoMemory)> for ValueFault {
     fn from(_refused: (T, NoMemory)) -> ValueFault {
         ValueFault::NoMemory
     }
-}
-
-/// The denominator of a row.
-fn size_of_den(row: &Row) -> u64
-    ensures value { result ≡ unsigned_abs row.now.den }
-    ensures some { 0 < result }
-    ensures narrow { result < 2 ^ 62 }
-{
-    row.den.unsigned_abs()
 }
 
 /// The value of a row, or none where that is too wide.
