@@ -1,28 +1,13 @@
 ghost use Rattle.std.specs.Prelude.{◌≡◌, ◌≤◌, ◌<◌, ◌^◌, All, length, true, false};
-ghost use Rattle.plan_terms.specs.Certificates.{fixed_along};
 ghost use Rattle.master_law.specs.MasterPrograms.{cut_gain};
 ghost use Rattle.master_bound.specs.inner.Narrow.{length_entry, HaveNarrowEntries, HaveWideEntry, IsNarrowCut, IsWideCut, FindsWideCut};
 
+use metric_cut::fixed_along;
 use module_prices::UnitPair;
 use net_core::{CutLine, Link};
 
 /// Numbers of a program that is solved are below this.
 const WIDE: u128 = 1 << 62;
-
-/// What the pre-installed capacities give along lengths.
-fn fixed_along(links: &[Link], lengths: &[u32]) -> u128
-    requires few { length links.now ≤ 256 }
-    requires sound { All (λ l. l.fixed < 2 ^ 40) links.now }
-    requires count { length lengths.now ≡ length links.now }
-    ensures exact { result ≡ fixed_along lengths.now links.now }
-    ensures low { result ≤ 2 ^ 80 }
-{
-    let mut sum = 0;
-    for e in 0..links.len() {
-        sum += lengths[e] as u128 * links[e].fixed as u128;
-    }
-    sum
-}
 
 /// What a cut asks for beyond what the pre-installed capacities give.
 pub(crate) fn gain_of(links: &[Link], cut: &CutLine) -> i128

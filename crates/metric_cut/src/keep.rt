@@ -19,8 +19,8 @@ fn mask(graph: &Surviving, lengths: &mut [u32])
     }
 }
 
-/// The greatest common divisor of lengths. It is 0 where all are 0.
-fn common_divisor(lengths: &[u32]) -> u128
+/// The greatest common divisor of lengths. It is 0 where all are 0. It takes time in their count, and no memory.
+pub fn divisor_of_lengths(lengths: &[u32]) -> u128
     ensures { IsGreatestDivisor lengths.now result }
 {
     let mut common = 0;
@@ -47,7 +47,7 @@ fn keep_items(graph: &Surviving, lengths: &mut [u32]) -> bool
     ensures kept { IsTrue result → Keeps (graph_of graph.now) lengths.old lengths.new }
 {
     mask(graph, lengths);
-    let common = common_divisor(lengths);
+    let common = divisor_of_lengths(lengths);
     if common == 0 {
         return false;
     }

@@ -3,7 +3,7 @@
 
 pub mod certificate;
 pub mod cut;
-mod keep;
+pub mod keep;
 pub mod multiplier;
 pub mod openings;
 pub mod own_bounds;
@@ -12,8 +12,9 @@ pub mod violation;
 
 pub use certificate::{OwnCertificate, RawValue, own_certificate};
 pub use cut::{Cut, CutFault};
+pub use keep::divisor_of_lengths;
 pub use multiplier::{OwnMultiplier, greatest_multiplier};
 pub use net_core::CutLine;
 pub use openings::opening;
-pub use own_bounds::own_bound;
+pub use own_bounds::{fixed_along, own_bound};
 pub use violation::violated_by;

@@ -7,12 +7,13 @@ use crate::multiplier::greatest_multiplier;
 use module_prices::bound_of;
 use net_core::{CutLine, Link, Network};
 
-/// What the pre-installed capacities give along lengths.
-fn fixed_along(links: &[Link], lengths: &[u32]) -> u128
+/// What the pre-installed capacities give along lengths, in units of the network. It takes time in the links, and no memory.
+pub fn fixed_along(links: &[Link], lengths: &[u32]) -> u128
     requires few { length links.now ≤ 256 }
     requires sound { All (λ l. l.fixed < 2 ^ 40) links.now }
     requires count { length lengths.now ≡ length links.now }
-    ensures { result ≡ fixed_along lengths.now links.now }
+    ensures exact { result ≡ fixed_along lengths.now links.now }
+    ensures low { result ≤ 2 ^ 80 }
 {
     let mut sum = 0;
     for e in 0..links.len() {

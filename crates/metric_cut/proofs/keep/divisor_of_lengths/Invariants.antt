@@ -1,6 +1,6 @@
 use Rattle.std.proofs.Common.{take}
 use Rattle.plan_terms.specs.Bounds.{IsGreatestDivisor}
-use Rattle.metric_cut.proofs.keep.common_divisor.Given as goal
+use Rattle.metric_cut.proofs.keep.divisor_of_lengths.Given as goal
 
 -- the divisor of the lengths so far
 abbrev pub invariant-loop-length : goal.invariant-loop-length
