@@ -2,7 +2,7 @@ ghost use Rattle.std.specs.Prelude.{◌≡◌, ◌<ℤ◌, ◌+ℤ◌, ◌*ℤ�
 ghost use Rattle.checked_fraction.specs.Rows.{num, IsNarrow};
 ghost use Rattle.simplex_law.specs.Sums.{dot};
 ghost use Rattle.simplex_core.specs.Columns.{entry_of};
-ghost use Rattle.simplex_core.specs.inner.Listed.{IsPackingNumber, Copies, entries_of};
+ghost use Rattle.exact_tests.specs.Listed.{IsPackingNumber, Copies, entries_of};
 
 use crate::numbers::is_narrow;
 use checked_fraction::Row;
@@ -52,7 +52,7 @@ struct Program {
 }
 
 impl Columns for Program {
-    ghost use Rattle.simplex_core.specs.inner.Listed.{three, IsListedColumn};
+    ghost use Rattle.exact_tests.specs.Listed.{three, IsListedColumn};
     ghost use Rattle.exact_tests.specs.declared.packing.Label.TheVariants.{Slack, Listed};
 
     type Name = Label;

@@ -2,7 +2,6 @@ pub mod Entries
 pub mod Divided
 pub mod Fractions
 pub mod Lists
-pub mod Listed
 pub mod Multiples
 pub mod Pivots
 pub mod Ratios

@@ -1,6 +1,5 @@
 pub mod Commons
 pub mod Factors
-pub mod Listed
 pub mod Outcomes
 pub mod Pivots
 pub mod Products

@@ -1,7 +1,7 @@
 use Rattle.std.proofs.Common.{length, sym, subst}
 use Rattle.std.specs.List.{AllByRecursion}
 use Rattle.simplex_core.specs.Columns.{IsEntry}
-use Rattle.simplex_core.proofs.Listed.{are_entries}
+use Rattle.exact_tests.proofs.Listed.{are_entries}
 use Rattle.exact_tests.proofs.packing.is_gaining.Goals as goal
 
 pub gains-requires-clause-entries : goal.gains-requires-clause-entries

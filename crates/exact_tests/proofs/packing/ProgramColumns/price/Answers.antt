@@ -3,12 +3,12 @@ use Rattle.std.proofs.lemmas.Option.{slice_get-get_or}
 use Rattle.checked_fraction.specs.Rows.{num}
 use Rattle.simplex_law.specs.Sums.{dot}
 use Rattle.simplex_core.specs.Columns.{entry_of}
-use Rattle.simplex_core.specs.inner.Listed.{IsListedColumn, entries_of}
+use Rattle.exact_tests.specs.Listed.{IsListedColumn, entries_of}
 use Rattle.simplex_core.specs.Prices.{Finds}
 use Rattle.exact_tests.specs.declared.packing.Shape.{Shape}
 use Rattle.simplex_core.specs.declared.columns.Price.TheVariants.{Optimal}
 use Rattle.exact_tests.specs.declared.packing.Label.TheVariants.{Listed}
-use Rattle.simplex_core.proofs.Listed.{found_copy, none_next, none_listed}
+use Rattle.exact_tests.proofs.Listed.{found_copy, none_next, none_listed}
 use Rattle.exact_tests.proofs.packing.ProgramColumns.price.Goals as goal
 
 pub loop-i-preserved : goal.loop-i-preserved

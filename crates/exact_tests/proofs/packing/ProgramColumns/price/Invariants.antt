@@ -2,7 +2,7 @@ use Rattle.std.proofs.Common.{◌≡◌, ◌<◌, ℕ, Some, slice_get, ◌*ℤ�
 use Rattle.checked_fraction.specs.Rows.{num}
 use Rattle.simplex_law.specs.Sums.{dot}
 use Rattle.simplex_core.specs.Columns.{entry_of}
-use Rattle.simplex_core.specs.inner.Listed.{entries_of}
+use Rattle.exact_tests.specs.Listed.{entries_of}
 use Rattle.exact_tests.specs.declared.packing.Shape.{Shape}
 use Rattle.exact_tests.proofs.packing.ProgramColumns.price.Given as goal
 

@@ -13,7 +13,7 @@ use Rattle.simplex_law.specs.Programs.{ColumnOf, IsSlack, IsProgramColumn, IsPac
 use Rattle.simplex_law.proofs.Sums.{unit-same, unit-other}
 use Rattle.simplex_core.specs.Columns.{IsEntry, AreEntries, entry_of, column_from, column_of}
 use Rattle.simplex_core.specs.Prices.{Finds}
-use Rattle.simplex_core.specs.inner.Listed.{three, entries_of, IsPackingNumber, IsListedColumn, Copies}
+use Rattle.exact_tests.specs.Listed.{three, entries_of, IsPackingNumber, IsListedColumn, Copies}
 use Rattle.simplex_core.specs.declared.columns.Price.{Price}
 use Rattle.simplex_core.specs.declared.columns.Price.TheVariants.{Gain, Optimal, NoMemory}
 use Rattle.net_core.proofs.Lists.{some_same}
