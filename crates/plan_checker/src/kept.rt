@@ -3,13 +3,12 @@ ghost use Rattle.net_core.specs.Cases.{graph_in};
 ghost use Rattle.net_core.specs.Graphs.{Survives};
 ghost use Rattle.net_core.specs.Views.{case_of, graph_of};
 ghost use Rattle.plan_report.specs.Forms.{IsCutInForm};
-ghost use Rattle.plan_terms.specs.Bounds.{IsGreatestDivisor};
 ghost use Rattle.plan_terms.specs.Certificates.{AreKept};
 ghost use Rattle.plan_checker.specs.Certified.{IsLocalCut};
 ghost use Rattle.plan_checker.specs.Places.{HoldsAt};
 ghost use Rattle.plan_checker.specs.inner.Tests.{IsFirstPlace};
 
-use checked_fraction::gcd;
+use metric_cut::divisor_of_lengths;
 use net_core::{Instance, LinkId, Surviving};
 use plan_types::{CertLine, Spot};
 
@@ -26,23 +25,12 @@ fn all_survive(graph: &Surviving, lengths: &[u32]) -> bool
     true
 }
 
-/// The greatest common divisor of lengths.
-fn divisor_of(lengths: &[u32]) -> u128
-    ensures { IsGreatestDivisor lengths.now result }
-{
-    let mut common = 0;
-    for length in lengths {
-        common = gcd(common, *length as u128);
-    }
-    common
-}
-
 /// Whether the state keeps lengths, one per link, as they are. It takes time in the links, times those that the state fails.
 pub fn is_kept(graph: &Surviving, lengths: &[u32]) -> bool
     requires { length lengths.now ≡ length graph.now.net.now.links }
     ensures { let g = graph_of graph.now in IsTrue result ↔ AreKept g lengths.now }
 {
-    all_survive(graph, lengths) && divisor_of(lengths) == 1
+    all_survive(graph, lengths) && divisor_of_lengths(lengths) == 1
 }
 
 /// Whether a line isn't in the pool, which has room, or its state doesn't keep its lengths.

@@ -1,7 +1,7 @@
-ghost use Rattle.std.specs.Prelude.{◌≡◌, ◌-◌, ◌*◌, ◌^◌, ◌<◌, ◌≤◌, ◌↔◌, All, IsTrue, OnOk, length, min, [], ◌∷◌};
+ghost use Rattle.std.specs.Prelude.{◌≡◌, ◌-◌, ◌^◌, ◌<◌, ◌≤◌, ◌↔◌, All, IsTrue, OnOk, length, min, [], ◌∷◌};
 ghost use Rattle.net_core.specs.Network.{IsModule};
 ghost use Rattle.plan_terms.specs.Bounds.{IsBound, IsLowest};
-ghost use Rattle.plan_terms.specs.Certificates.{asked, fixed_along, given, raw_value};
+ghost use Rattle.plan_terms.specs.Certificates.{asked, given, raw_value};
 ghost use Rattle.plan_types.specs.Plans.{lines_of_certificate};
 ghost use Rattle.plan_checker.specs.Certified.{HoldsBoundDiffers, HoldsCertificateWide, HoldsRawDiffers};
 ghost use Rattle.plan_checker.specs.inner.Lines.{certified};
@@ -10,6 +10,7 @@ ghost use Rattle.plan_checker.specs.inner.Tests.{Tells, TellFirst};
 use crate::finding::Finding;
 use crate::stop::{Stop, Test};
 use checked_fraction::{cmp, gcd};
+use metric_cut::fixed_along;
 use module_prices::bound_of;
 use net_core::Link;
 use plan_types::{CertLine, Plan};
@@ -29,20 +30,6 @@ fn asked_of(lines: &[CertLine]) -> u128
     sum
 }
 
-/// What the pre-installed capacities give along lengths.
-fn fixed_of(links: &[Link], lengths: &[u32]) -> u128
-    requires few { length links.now ≤ 256 }
-    requires sound { All (λ l. l.fixed < 2 ^ 40) links.now }
-    requires count { length lengths.now ≡ length links.now }
-    ensures { result ≡ fixed_along lengths.now links.now }
-{
-    let mut sum = 0;
-    for e in 0..links.len() {
-        sum += lengths[e] as u128 * links[e].fixed as u128;
-    }
-    sum
-}
-
 /// What the pre-installed capacities give along cuts; a sum that 128 bits don't hold is the greatest number.
 fn given_of(links: &[Link], lines: &[CertLine]) -> u128
     requires few { length links.now ≤ 256 }
@@ -52,7 +39,7 @@ fn given_of(links: &[Link], lines: &[CertLine]) -> u128
 {
     let mut sum = 0u128;
     for l in lines {
-        let along = fixed_of(links, l.cut.lengths.items());
+        let along = fixed_along(links, l.cut.lengths.items());
         sum = sum.saturating_add((l.num as u128).saturating_mul(along));
     }
     sum

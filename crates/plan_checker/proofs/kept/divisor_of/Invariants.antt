@@ -1,7 +1,0 @@
-use Rattle.std.proofs.Common.{take}
-use Rattle.plan_terms.specs.Bounds.{IsGreatestDivisor}
-use Rattle.plan_checker.proofs.kept.divisor_of.Given as goal
-
--- the divisor of the lengths so far
-abbrev pub invariant-loop-length : goal.invariant-loop-length
-invariant-loop-length l = IsGreatestDivisor (take l.length-index l.lengths) l.common

@@ -1,7 +1,0 @@
-use Rattle.std.proofs.Common.{◌≡◌, ◌≤◌, ◌*◌, ◌^◌, take}
-use Rattle.plan_terms.specs.Certificates.{fixed_along}
-use Rattle.plan_checker.proofs.worth.fixed_of.Given as goal
-
--- the sum over the links so far
-abbrev pub invariant-loop-e : goal.invariant-loop-e
-invariant-loop-e l = (l.sum ≡ fixed_along (take l.e l.lengths) (take l.e l.links)) × (l.sum ≤ l.e * 2 ^ 72)
