@@ -2,6 +2,7 @@ pub mod Branching
 pub mod Making
 pub mod BranchLaws
 pub mod WordLaws
+pub mod FieldLaws
 pub mod ListLaws
 pub mod NumberLaws
 pub mod WordsOnline

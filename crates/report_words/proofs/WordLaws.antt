@@ -32,7 +32,7 @@ use Rattle.text_kit.proofs.Spelled.{Lawful}
 use Rattle.plan_report.specs.Names.{demand_name, link_name, node_name}
 use Rattle.report_words.specs.declared.fault.ReportKind.{ReportKind}
 use Rattle.report_words.specs.declared.fault.ReportKind.TheVariants.{Token, Ended, Number, LimitName, DoubleName, Limit}
-use Rattle.report_words.specs.ReportWords.{amount_at, as_link, as_node, below, closing_at, demand_at, demand_of, has_room, keyword_at, keyword_within, link_at, link_of, money_at, money_below, name_at, new_demand, node_at, node_of_word, number_at, opening_at, opening_within, passed, place_of, this_name, this_name_at, this_number, this_number_at, unknown_name, where_room, whole_within, within}
+use Rattle.report_words.specs.ReportWords.{amount_at, as_link, as_node, below, closing_at, demand_at, demand_of, demand_within, has_room, keyword_at, keyword_within, link_at, link_of, money_at, money_below, name_at, new_demand, node_at, node_of_word, number_at, opening_at, opening_within, passed, place_of, this_name, this_name_at, this_number, this_number_at, unknown_name, where_room, whole_within, within}
 use Rattle.net_core.proofs.Checks.{same_is}
 
 -- ---- room
@@ -198,7 +198,7 @@ demand_name_at demands k lt = rw (slice_get-get_or demands k no_demand lt) refl
 abbrev pub AreApart : List Demand → Type 0
 AreApart demands = AllPairs (λ x y. x.name ≢ y.name) demands
 
-pub demand_within_law : (room : Bool) (demands : List Demand) → AreApart demands → Lawful (word_at Token Ended (λ w. where_room room (demand_of demands w))) (λ k. Verbatim (demand_name demands k) ∷ []) (λ k. (room ≡ true) × (k < length demands)) AnyText
+pub demand_within_law : (room : Bool) (demands : List Demand) → AreApart demands → Lawful (demand_within room demands) (λ k. Verbatim (demand_name demands k) ∷ []) (λ k. (room ≡ true) × (k < length demands)) AnyText
 demand_within_law room demands pairs = lawful_word Token Ended (λ w. where_room room (demand_of demands w)) (λ k. Verbatim (demand_name demands k)) (λ k. (room ≡ true) × (k < length demands)) (λ k. tt)
     (λ w k h.
     let t = room_takes room (demand_of demands w) k h in

@@ -1,4 +1,5 @@
 pub mod ReportKinds
+pub mod ReportFields
 pub mod ReportWords
 pub mod Contexts
 pub mod ReportChoices

@@ -2,10 +2,10 @@
 use Rattle.std.specs.Prelude.{ℕ, Bool, true, if◌then◌else◌, List, [], ◌∷◌, Result, Err}
 use Rattle.net_core.specs.Tests.{are_same}
 use Rattle.snd_tokens.specs.Lexemes.{WordAt, OpenAt, CloseAt, EndAt}
-use Rattle.text_kit.specs.Reading.{Reading, ◌>>=◌, list_at, of_length, Parenthesis, placed, word_at}
+use Rattle.text_kit.specs.Reading.{Reading, ◌>>=◌, list_at, of_length, Parenthesis, placed}
 use Rattle.report_words.specs.declared.fault.ReportKind.{ReportKind}
 use Rattle.report_words.specs.declared.fault.ReportKind.TheVariants.{Token, Ended, Limit}
-use Rattle.report_words.specs.ReportWords.{has_room, opening_at, where_room, whole_within}
+use Rattle.report_words.specs.ReportWords.{has_room, opening_at, room_number_at}
 
 -- words, each with the reading of what comes after it
 abbrev pub Branches : Type 0 → Type 0
@@ -31,7 +31,7 @@ branch_at branches = branch_within true branches
 
 -- a number below a limit, after others of which n are due
 abbrev pub next_number_at : ℕ → ℕ → List ℕ → Reading ReportKind ℕ
-next_number_at n limit sofar = word_at Token Ended (λ w. where_room (has_room n sofar) (whole_within 0 limit w))
+next_number_at n limit sofar = room_number_at (has_room n sofar) limit
 
 -- n numbers below a limit, between parentheses
 unfoldable pub numbers_at : ℕ → ℕ → Reading ReportKind (List ℕ)

@@ -107,6 +107,10 @@ money_at p limit = word_at Token Ended (money_below p limit)
 abbrev pub amount_at : Places → Reading ReportKind ℕ
 amount_at p = word_at Token Ended (λ w. number_or Number (amount_of p w))
 
+-- a number below a limit, where there is room for one
+abbrev pub room_number_at : Bool → ℕ → Reading ReportKind ℕ
+room_number_at room limit = word_at Token Ended (λ w. where_room room (whole_within 0 limit w))
+
 abbrev pub name_at : Reading ReportKind (List ℕ)
 name_at = word_at Token Ended (any_name LimitName)
 
@@ -121,6 +125,10 @@ node_at nodes = word_at Token Ended (node_of_word nodes)
 
 abbrev pub demand_at : List Demand → Reading ReportKind ℕ
 demand_at demands = word_at Token Ended (demand_of demands)
+
+-- the name of a demand, where there is room for what it begins
+abbrev pub demand_within : Bool → List Demand → Reading ReportKind ℕ
+demand_within room demands = word_at Token Ended (λ w. where_room room (demand_of demands w))
 
 abbrev pub keyword_at : List ℕ → Reading ReportKind (Unit {0})
 keyword_at w = word_at Token Ended (expected Token w)

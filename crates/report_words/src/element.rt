@@ -43,7 +43,10 @@ fn take_element<E: Element>(
     text: &mut Cursor,
 ) -> Result<bool, ReportRefusal>
     requires { (sofar : List E.Item) (t : Text) (x : E.Item) (rest : Text) → E.reading element.now sofar t ≡ Ok (x, rest) → size rest < size t }
-    ensures turn { TakesElement result (list_at Parenthesis (E.fault element.now) (E.reading element.now) all.old.items (left text.old)) (list_at Parenthesis (E.fault element.now) (E.reading element.now) all.new.items (left text.new)) (Ok (all.new.items, left text.new)) }
+    ensures turn { TakesElement result
+        (list_at Parenthesis (E.fault element.now) (E.reading element.now) all.old.items (left text.old))
+        (list_at Parenthesis (E.fault element.now) (E.reading element.now) all.new.items (left text.new))
+        (Ok (all.new.items, left text.new)) }
     ensures shorter { IfOk result (λ more. IsTrue more → size (left text.new) < size (left text.old)) }
 {
     if let Some(at) = closes(text) {

@@ -8,6 +8,7 @@
 pub mod context;
 pub mod element;
 pub mod fault;
+pub mod field;
 pub mod numbers;
 pub mod places;
 pub mod words;

@@ -4,8 +4,8 @@ ghost use Rattle.snd_tokens.specs.Amounts.{amount_of, money_of};
 ghost use Rattle.text_kit.specs.Answers.{ReadsAs};
 ghost use Rattle.text_kit.specs.Names.{long_name_fault};
 ghost use Rattle.text_kit.specs.Numbers.{number_or};
-ghost use Rattle.text_kit.specs.Reading.{expected, word_at};
-ghost use Rattle.report_words.specs.ReportWords.{amount_at, closing_at, keyword_at, keyword_within, money_at, money_below, name_at, number_at, opening_at, opening_within, this_name, this_name_at, this_number, this_number_at, unknown_name, where_room, whole_within, within};
+ghost use Rattle.text_kit.specs.Reading.{expected};
+ghost use Rattle.report_words.specs.ReportWords.{amount_at, closing_at, keyword_at, keyword_within, money_at, money_below, name_at, number_at, opening_at, opening_within, room_number_at, this_name, this_name_at, this_number, this_number_at, unknown_name, whole_within, within};
 
 use crate::fault::{ReportKind, ReportRefusal};
 use net_core::{Name, Places};
@@ -75,7 +75,7 @@ pub fn medium(least: u128, limit: u128, text: &mut Cursor) -> Result<u64, Report
 
 /// Takes a whole number below `limit`, where there is room for one; a number that has none is `limit`.
 pub fn next_number(room: bool, limit: u128, text: &mut Cursor) -> Result<u128, ReportRefusal>
-    ensures reads { ReadsAs (λ n. n) result (left text.new) (word_at ReportKind.Token ReportKind.Ended (λ w. where_room room (whole_within 0 limit w)) (left text.old)) }
+    ensures reads { ReadsAs (λ n. n) result (left text.new) (room_number_at room limit (left text.old)) }
     ensures below { IfOk result (λ n. n < limit) }
 {
     let (at, word) = word(ReportKind::Token, ReportKind::Ended, text)?;
