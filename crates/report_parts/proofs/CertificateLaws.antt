@@ -14,7 +14,7 @@ use Rattle.plan_report.specs.Forms.{AreLinkNumbers, IsCertificateLineInForm, IsC
 use Rattle.plan_report.specs.Items.{certificate_items, certificate_line_items, spot_items}
 use Rattle.plan_report.specs.KnownNames.{KnownNames}
 use Rattle.report_words.specs.declared.fault.ReportKind.TheVariants.{Token}
-use Rattle.report_parts.specs.declared.placed.Placed.{Placed}
+use Rattle.report_parts.specs.declared.spot_cut.SpotCut.{SpotCut}
 use Rattle.report_words.specs.ReportWords.{closing_at, has_room}
 use Rattle.report_parts.specs.ReadingParts.{certificate_at, certificate_line_at, local_spot_at, of_line, pool_spot_at, spot_at, spot_branches}
 use Rattle.report_words.proofs.BranchLaws.{branches_law, either_form, lawful_branch, lawful_no_branch}
@@ -24,23 +24,23 @@ use Rattle.report_words.proofs.NumberLaws.{numbers_law}
 use Rattle.report_words.proofs.WordLaws.{closing_law, keyword_law, number_law, opening_law, opening_within_law}
 
 module _ (names : KnownNames) (pool : List CutLine) where
-  abbrev IsPlacedAt : Spot → Placed → Type 0
+  abbrev IsPlacedAt : Spot → SpotCut → Type 0
   IsPlacedAt (Pool i) p = (i < length pool) × (of_line pool i ≡ p)
   IsPlacedAt Local p = (p.state.0 ≤ length names.listed) × AreLinkNumbers names.links (2 ^ 32) p.lengths
 
-  abbrev IsPlaced : Placed → Type 0
+  abbrev IsPlaced : SpotCut → Type 0
   IsPlaced p = IsPlacedAt p.spot p
 
-  abbrev placed_cut : Placed → List Item
+  abbrev placed_cut : SpotCut → List Item
   placed_cut p = spot_items p.spot (record { state = p.state; lengths = p.lengths; right = 0 })
 
-  abbrev WasPool : Placed → Type 0
+  abbrev WasPool : SpotCut → Type 0
   WasPool p = (true ≡ true) × MadeOf (λ (i : ℕ). of_line pool i) (λ i. (0 ≤ i) × (i < length pool)) p
 
-  abbrev WasLocal : Placed → Type 0
+  abbrev WasLocal : SpotCut → Type 0
   WasLocal p = (true ≡ true) × MadeOf {P = ℕ × List ℕ} (λ q. record { spot = Local; state = record { 0 = q.0 }; lengths = q.1 }) (λ q. ((0 ≤ q.0) × (q.0 < length names.listed + 1)) × ((length q.1 ≡ length names.links) × All (λ k. k < 2 ^ 32) q.1)) p
 
-  find_spot : (p : Placed) (s : Spot) → p.spot ≡ s → IsPlacedAt s p → WasPool p ⊎ (WasLocal p ⊎ ⊥)
+  find_spot : (p : SpotCut) (s : Spot) → p.spot ≡ s → IsPlacedAt s p → WasPool p ⊎ (WasLocal p ⊎ ⊥)
   find_spot p (Pool i) e h = inl (refl, record { parts = i; right = (omega arith, h.0); gives = h.1 })
   find_spot p Local e h = inr (inl (
     refl,
@@ -69,7 +69,7 @@ module _ (names : KnownNames) (pool : List CutLine) where
   abbrev pub IsLine : CertLine → Type 0
   IsLine l = IsCertificateLineInForm names.links names.listed l × IsOfPool pool l.spot l.cut
 
-  abbrev placed_of : CertLine → Placed
+  abbrev placed_of : CertLine → SpotCut
   placed_of l = record { spot = l.spot; state = l.cut.state; lengths = l.cut.lengths }
 
   -- the lines of the pool are in form
@@ -83,8 +83,8 @@ module _ (names : KnownNames) (pool : List CutLine) where
   line_form : IsPoolInForm → (i : ℕ) → i < length pool → (line_state (slice_get pool i) ≤ length names.listed) × AreLinkNumbers names.links (2 ^ 32) (line_lengths (slice_get pool i))
   line_form form i lt = rw (slice_get-get_or pool i no_line lt) (let h = form.each i no_line lt in (h.state, h.lengths))
 
-  placed_line : IsPoolInForm → (num right : ℕ) (spot : Spot) (p : Placed) → p.spot ≡ spot → IsPlacedAt spot p → num < 2 ^ 62 → right < 2 ^ 84 → IsLine (record { num = num; spot = spot; cut = record { state = p.state; lengths = p.lengths; right = right } })
-  placed_line form num right (Pool i) p e h n r = subst (λ (q : Placed). IsLine (record { num = num; spot = Pool i; cut = record { state = q.state; lengths = q.lengths; right = right } })) h.1
+  placed_line : IsPoolInForm → (num right : ℕ) (spot : Spot) (p : SpotCut) → p.spot ≡ spot → IsPlacedAt spot p → num < 2 ^ 62 → right < 2 ^ 84 → IsLine (record { num = num; spot = spot; cut = record { state = p.state; lengths = p.lengths; right = right } })
+  placed_line form num right (Pool i) p e h n r = subst (λ (q : SpotCut). IsLine (record { num = num; spot = Pool i; cut = record { state = q.state; lengths = q.lengths; right = right } })) h.1
       (let f = line_form form i h.0 in (
         record { num = n; spot = let t : i < 4096 = omega (arith, h.0, form.few) in t; cut = record { state = f.0; lengths = f.1; right = r } },
         record { there = h.0; same_state = refl; same_lengths = refl },
@@ -112,7 +112,7 @@ module _ (names : KnownNames) (pool : List CutLine) where
       made_then _ _ _ _ _ _ _ _ (number_law 0 (2 ^ 84)) (λ right h.
       made_last closing_at (λ (u : Unit {0}). record { num = num; spot = cut.spot; cut = record { state = cut.state; lengths = cut.lengths; right = right } }) _ _ closing_law))))))
     where
-      same_spot : (s : Spot) (p : Placed) (right : ℕ) → spot_items s (record { state = p.state; lengths = p.lengths; right = 0 }) ≡ spot_items s (record { state = p.state; lengths = p.lengths; right = right })
+      same_spot : (s : Spot) (p : SpotCut) (right : ℕ) → spot_items s (record { state = p.state; lengths = p.lengths; right = 0 }) ≡ spot_items s (record { state = p.state; lengths = p.lengths; right = right })
       same_spot (Pool i) p right = refl
       same_spot Local p right = refl
 

@@ -1,3 +1,4 @@
+pub mod Readers
 pub mod ReadingRoutings
 pub mod ReadingQuality
 pub mod ReadingParts

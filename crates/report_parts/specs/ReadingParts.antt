@@ -14,7 +14,7 @@ use Rattle.plan_report.specs.Forms.{line_lengths, line_state}
 use Rattle.plan_report.specs.KnownNames.{KnownNames}
 use Rattle.report_words.specs.declared.fault.ReportKind.{ReportKind}
 use Rattle.report_words.specs.declared.fault.ReportKind.TheVariants.{Token, Ended, Limit}
-use Rattle.report_parts.specs.declared.placed.Placed.{Placed}
+use Rattle.report_parts.specs.declared.spot_cut.SpotCut.{SpotCut}
 use Rattle.report_words.specs.ReportWords.{amount_at, closing_at, has_room, keyword_at, new_demand, node_at, number_at, opening_at, opening_within, this_name_at, unknown_name, where_room, whole_within}
 use Rattle.report_words.specs.ReportChoices.{Branches, branch_at, numbers_at}
 
@@ -37,11 +37,16 @@ plan_demand_at p nodes sofar = do
   need ← amount_at p
   give (record { name = name; from = ends.0; to = ends.1; need = need })
 
+-- further demands after these, up to the closing parenthesis
+abbrev pub demand_list_at : Places → List (List ℕ) → List Demand → Reading ReportKind (List Demand)
+demand_list_at p nodes sofar = list_at Parenthesis no_fault (plan_demand_at p nodes) sofar
+
+-- all demands after the word of their section
 unfoldable pub plan_demands_at : Places → List (List ℕ) → Reading ReportKind (List Demand)
 plan_demands_at p nodes = do
   _ ← keyword_at (codes "DEMANDS")
   _ ← opening_at
-  list_at Parenthesis no_fault (plan_demand_at p nodes) []
+  demand_list_at p nodes []
 
 -- ---- modules
 
@@ -77,24 +82,24 @@ modules_at links = do
 -- ---- the certificate
 
 -- a cut of the pool, with the state and the lengths of its line
-abbrev pub of_line : List CutLine → ℕ → Placed
+abbrev pub of_line : List CutLine → ℕ → SpotCut
 of_line pool i = record { spot = Pool i; state = record { 0 = line_state (slice_get pool i) }; lengths = line_lengths (slice_get pool i) }
 
-unfoldable pub pool_spot_at : List CutLine → Reading ReportKind Placed
+unfoldable pub pool_spot_at : List CutLine → Reading ReportKind SpotCut
 pool_spot_at pool = do
   i ← number_at 0 (length pool)
   give (of_line pool i)
 
-unfoldable pub local_spot_at : KnownNames → Reading ReportKind Placed
+unfoldable pub local_spot_at : KnownNames → Reading ReportKind SpotCut
 local_spot_at names = do
   state ← number_at 0 (length names.listed + 1)
   lengths ← numbers_at (length names.links) (2 ^ 32)
   give (record { spot = Local; state = record { 0 = state }; lengths = lengths })
 
-abbrev pub spot_branches : KnownNames → List CutLine → Branches Placed
+abbrev pub spot_branches : KnownNames → List CutLine → Branches SpotCut
 spot_branches names pool = (codes "pool", pool_spot_at pool) ∷ (codes "local", local_spot_at names) ∷ []
 
-abbrev pub spot_at : KnownNames → List CutLine → Reading ReportKind Placed
+abbrev pub spot_at : KnownNames → List CutLine → Reading ReportKind SpotCut
 spot_at names pool = branch_at (spot_branches names pool)
 
 -- a line after earlier ones

@@ -5,12 +5,12 @@ use Rattle.net_core.specs.declared.ids.LinkId.{LinkId}
 use Rattle.net_core.specs.declared.network.Link.{Link}
 use Rattle.net_core.specs.declared.plan.Flow.{Flow}
 use Rattle.net_core.specs.declared.plan.Routing.{Routing}
-use Rattle.text_kit.specs.Reading.{Reading, ◌>>=◌, give, list_at, no_fault, not_empty, of_length, Parenthesis, word_at}
+use Rattle.text_kit.specs.Reading.{Reading, ◌>>=◌, give, list_at, no_fault, not_empty, of_length, Parenthesis}
 use Rattle.plan_report.specs.Names.{state_name}
 use Rattle.plan_report.specs.KnownNames.{KnownNames}
 use Rattle.report_words.specs.declared.fault.ReportKind.{ReportKind}
-use Rattle.report_words.specs.declared.fault.ReportKind.TheVariants.{Token, Ended, Limit}
-use Rattle.report_words.specs.ReportWords.{demand_of, has_room, keyword_within, link_at, number_at, opening_at, this_name_at, this_number_at, where_room}
+use Rattle.report_words.specs.declared.fault.ReportKind.TheVariants.{Token, Limit}
+use Rattle.report_words.specs.ReportWords.{demand_within, has_room, keyword_within, link_at, number_at, opening_at, this_name_at, this_number_at}
 
 -- a path: one link or more
 unfoldable pub path_at : List Link → Reading ReportKind (List LinkId)
@@ -19,7 +19,7 @@ path_at links = opening_at >>= λ _. list_at Parenthesis (not_empty Token) (λ s
 -- a flow after earlier ones
 unfoldable pub flow_at : List Link → List Demand → List Flow → Reading ReportKind Flow
 flow_at links demands sofar = do
-  demand ← word_at Token Ended (λ w. where_room (has_room 65536 sofar) (demand_of demands w))
+  demand ← demand_within (has_room 65536 sofar) demands
   num ← number_at 1 (2 ^ 124)
   path ← path_at links
   give (record { demand = demand; path = path; num = num })

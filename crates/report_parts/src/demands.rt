@@ -2,9 +2,9 @@ ghost use Rattle.std.specs.Prelude.{◌≡◌, ◌<◌, ◌≤◌, ◌^◌, ◌+
 ghost use Rattle.net_core.specs.Tests.{is_named};
 ghost use Rattle.snd_tokens.specs.Lexemes.{left, size};
 ghost use Rattle.text_kit.specs.Answers.{ReadsAs, TakesElement};
-ghost use Rattle.text_kit.specs.Reading.{list_at, no_fault, Parenthesis, sound, word_at};
-ghost use Rattle.report_words.specs.ReportWords.{demand_at, demand_of, new_demand, where_room};
-ghost use Rattle.report_parts.specs.ReadingParts.{nodes_at, plan_demand_at, plan_demands_at};
+ghost use Rattle.text_kit.specs.Reading.{sound, word_at};
+ghost use Rattle.report_words.specs.ReportWords.{demand_at, demand_of, demand_within, new_demand};
+ghost use Rattle.report_parts.specs.ReadingParts.{demand_list_at, nodes_at, plan_demand_at, plan_demands_at};
 
 use net_core::{Demand, Demands, List, Name, NoMemory, NodeId};
 use report_words::context::Context;
@@ -48,7 +48,7 @@ impl<'a> PlanDemands<'a> {
     /// where there is none, it is `limit`. A name that no demand has is `unknown-name`, or `limit-name`
     /// if it has more than 255 bytes.
     pub fn next(&self, room: bool, text: &mut Cursor) -> Result<u32, ReportRefusal>
-        ensures { ReadsAs (λ k. k) result (left text.new) (word_at ReportKind.Token ReportKind.Ended (λ w. where_room room (demand_of self.now.list w)) (left text.old)) }
+        ensures { ReadsAs (λ k. k) result (left text.new) (demand_within room self.now.list (left text.old)) }
     {
         let (at, word) = word(ReportKind::Token, ReportKind::Ended, text)?;
         match self.demand_of(word) {
@@ -168,7 +168,10 @@ fn take_demand<'a>(
     text: &mut Cursor<'a>,
 ) -> Result<bool, ReportRefusal>
     requires { places.old ≡ map (λ d. d.name) all.old }
-    ensures turn { TakesElement result (list_at Parenthesis no_fault (plan_demand_at context.now.net.now.places context.now.net.now.nodes) all.old (left text.old)) (list_at Parenthesis no_fault (plan_demand_at context.now.net.now.places context.now.net.now.nodes) all.new (left text.new)) (Ok (all.new, left text.new)) }
+    ensures turn { TakesElement result
+        (demand_list_at context.now.net.now.places context.now.net.now.nodes all.old (left text.old))
+        (demand_list_at context.now.net.now.places context.now.net.now.nodes all.new (left text.new))
+        (Ok (all.new, left text.new)) }
     ensures shorter { IfOk result (λ more. IsTrue more → size (left text.new) < size (left text.old)) }
     ensures places { OnOk result (places.new ≡ map (λ d. d.name) all.new) }
     ensures few { OnOk result (length all.old < 2 ^ 32 → length all.new < 2 ^ 32) }
@@ -190,7 +193,7 @@ fn list<'a>(
     context: &Context,
     text: &mut Cursor<'a>,
 ) -> Result<PlanDemands<'a>, ReportRefusal>
-    ensures { ReadsAs (λ d. d.list) result (left text.new) (list_at Parenthesis no_fault (plan_demand_at context.now.net.now.places context.now.net.now.nodes) [] (left text.old)) }
+    ensures { ReadsAs (λ d. d.list) result (left text.new) (demand_list_at context.now.net.now.places context.now.net.now.nodes [] (left text.old)) }
 {
     let mut places = Places::new(alloc);
     let mut list = List::new(alloc);

@@ -1,19 +1,16 @@
 ghost use Rattle.std.specs.Prelude.{◌≡◌, ◌+◌, ◌<◌, ◌^◌, length};
 ghost use Rattle.snd_tokens.specs.Lexemes.{left};
 ghost use Rattle.text_kit.specs.Answers.{ReadsAs};
-ghost use Rattle.report_words.specs.Contexts.{known_in};
 ghost use Rattle.report_words.specs.ReportWords.{number_at};
 ghost use Rattle.report_parts.specs.ReadingQuality.{caps_at, evidence_at, master_at, master_column_at, master_wide_at, route_at, route_column_at, route_wide_at, wide_entry_at, wide_length_at, wide_number_at, wide_row_at, wide_sum_at};
+ghost use Rattle.report_parts.specs.Readers.{reader_demands, reader_links, reader_names};
 
-use crate::columns::{master_basis, master_column, route_basis, route_column};
-use crate::demands::PlanDemands;
+use crate::plan_reader::PlanReader;
 use net_core::{Caps, Evidence, MasterColumn, RouteColumn, StateId, WideKind};
-use report_words::context::Context;
 use report_words::fault::{ReportKind, ReportRefusal};
 use report_words::numbers::capacities;
 use report_words::words::{medium, small};
 use snd_tokens::Cursor;
-use std::alloc::Global;
 use text_kit::Refusal;
 use text_kit::refusal::bad;
 use text_kit::steps::word;
@@ -69,208 +66,184 @@ fn wide_sum<C: Drop>(rows: usize, text: &mut Cursor) -> Result<WideKind<C>, Repo
     Ok(WideKind::Sum(row))
 }
 
-/// Takes a column of the routing program.
-#[tactic(auto, unfolding(crate::specs::ReadingQuality::wide_number_at))]
-fn route_number(
-    alloc: Global,
-    context: &Context,
-    demands: &PlanDemands,
-    text: &mut Cursor,
-) -> Result<WideKind<RouteColumn>, ReportRefusal>
-    ensures { ReadsAs (λ k. k) result (left text.new) (wide_number_at (route_column_at context.now.net.now.links demands.now.list) (left text.old)) }
-{
-    let column = route_column(alloc, context, demands, true, text)?;
-    Ok(WideKind::Number(column))
-}
+impl<'a> PlanReader<'a> {
+    /// Takes a column of the routing program.
+    #[tactic(auto, unfolding(crate::specs::ReadingQuality::wide_number_at))]
+    fn route_number(&self, text: &mut Cursor) -> Result<WideKind<RouteColumn>, ReportRefusal>
+        ensures { ReadsAs (λ k. k) result (left text.new) (wide_number_at (route_column_at (reader_links self.now) (reader_demands self.now)) (left text.old)) }
+    {
+        let column = self.route_column(true, text)?;
+        Ok(WideKind::Number(column))
+    }
 
-/// Takes a row and a column of the routing program.
-#[tactic(auto, unfolding(crate::specs::ReadingQuality::wide_entry_at))]
-fn route_entry(
-    alloc: Global,
-    context: &Context,
-    demands: &PlanDemands,
-    rows: usize,
-    text: &mut Cursor,
-) -> Result<WideKind<RouteColumn>, ReportRefusal>
-    requires { rows + 1 < 2 ^ 32 }
-    ensures { ReadsAs (λ k. k) result (left text.new) (wide_entry_at (route_column_at context.now.net.now.links demands.now.list) rows (left text.old)) }
-{
-    let row = row(rows, text)?;
-    let column = route_column(alloc, context, demands, true, text)?;
-    Ok(WideKind::Product(row, column))
-}
+    /// Takes a row and a column of the routing program.
+    #[tactic(auto, unfolding(crate::specs::ReadingQuality::wide_entry_at))]
+    fn route_entry(
+        &self,
+        rows: usize,
+        text: &mut Cursor,
+    ) -> Result<WideKind<RouteColumn>, ReportRefusal>
+        requires { rows + 1 < 2 ^ 32 }
+        ensures { ReadsAs (λ k. k) result (left text.new) (wide_entry_at (route_column_at (reader_links self.now) (reader_demands self.now)) rows (left text.old)) }
+    {
+        let row = row(rows, text)?;
+        let column = self.route_column(true, text)?;
+        Ok(WideKind::Product(row, column))
+    }
 
-/// Takes the link whose length is too wide.
-#[tactic(auto, unfolding(crate::specs::ReadingQuality::wide_length_at))]
-fn route_length(
-    context: &Context,
-    text: &mut Cursor,
-) -> Result<WideKind<RouteColumn>, ReportRefusal>
-    ensures { ReadsAs (λ k. k) result (left text.new) (wide_length_at context.now.net.now.links (left text.old)) }
-{
-    let link = context.link(text)?;
-    Ok(WideKind::Length(link))
-}
+    /// Takes the link whose length is too wide.
+    #[tactic(auto, unfolding(crate::specs::ReadingQuality::wide_length_at))]
+    fn route_length(&self, text: &mut Cursor) -> Result<WideKind<RouteColumn>, ReportRefusal>
+        ensures { ReadsAs (λ k. k) result (left text.new) (wide_length_at (reader_links self.now) (left text.old)) }
+    {
+        let link = self.context.link(text)?;
+        Ok(WideKind::Length(link))
+    }
 
-/// Takes what is too wide of a basis of the routing program.
-fn route_wide(
-    alloc: Global,
-    context: &Context,
-    demands: &PlanDemands,
-    rows: usize,
-    text: &mut Cursor,
-) -> Result<WideKind<RouteColumn>, ReportRefusal>
-    requires { rows + 1 < 2 ^ 32 }
-    ensures { ReadsAs (λ k. k) result (left text.new) (route_wide_at (route_column_at context.now.net.now.links demands.now.list) context.now.net.now.links rows (left text.old)) }
-{
-    let (at, word) = word(ReportKind::Token, ReportKind::Ended, text)?;
-    if word == NUMBER {
-        return route_number(alloc, context, demands, text);
+    /// Takes what is too wide of a basis of the routing program.
+    fn route_wide(
+        &self,
+        rows: usize,
+        text: &mut Cursor,
+    ) -> Result<WideKind<RouteColumn>, ReportRefusal>
+        requires { rows + 1 < 2 ^ 32 }
+        ensures { ReadsAs (λ k. k) result (left text.new)
+            (route_wide_at (route_column_at (reader_links self.now) (reader_demands self.now)) (reader_links self.now) rows (left text.old)) }
+    {
+        let (at, word) = word(ReportKind::Token, ReportKind::Ended, text)?;
+        if word == NUMBER {
+            return self.route_number(text);
+        }
+        if word == ROW {
+            return wide_row(rows, text);
+        }
+        if word == ENTRY {
+            return self.route_entry(rows, text);
+        }
+        if word == SUM {
+            return wide_sum(rows, text);
+        }
+        if word == COMMON {
+            return Ok(WideKind::Common);
+        }
+        if word == LENGTH {
+            return self.route_length(text);
+        }
+        Err(bad(at, ReportKind::Token))
     }
-    if word == ROW {
-        return wide_row(rows, text);
-    }
-    if word == ENTRY {
-        return route_entry(alloc, context, demands, rows, text);
-    }
-    if word == SUM {
-        return wide_sum(rows, text);
-    }
-    if word == COMMON {
-        return Ok(WideKind::Common);
-    }
-    if word == LENGTH {
-        return route_length(context, text);
-    }
-    Err(bad(at, ReportKind::Token))
-}
 
-/// Takes a column of the program of a certificate.
-#[tactic(auto, unfolding(crate::specs::ReadingQuality::wide_number_at))]
-fn master_number(
-    alloc: Global,
-    context: &Context,
-    text: &mut Cursor,
-) -> Result<WideKind<MasterColumn>, ReportRefusal>
-    ensures { ReadsAs (λ k. k) result (left text.new) (wide_number_at (master_column_at (known_in context.now)) (left text.old)) }
-{
-    let column = master_column(alloc, context, true, text)?;
-    Ok(WideKind::Number(column))
-}
+    /// Takes a column of the program of a certificate.
+    #[tactic(auto, unfolding(crate::specs::ReadingQuality::wide_number_at))]
+    fn master_number(&self, text: &mut Cursor) -> Result<WideKind<MasterColumn>, ReportRefusal>
+        ensures { ReadsAs (λ k. k) result (left text.new) (wide_number_at (master_column_at (reader_names self.now)) (left text.old)) }
+    {
+        let column = self.master_column(true, text)?;
+        Ok(WideKind::Number(column))
+    }
 
-/// Takes a row and a column of the program of a certificate.
-#[tactic(auto, unfolding(crate::specs::ReadingQuality::wide_entry_at))]
-fn master_entry(
-    alloc: Global,
-    context: &Context,
-    rows: usize,
-    text: &mut Cursor,
-) -> Result<WideKind<MasterColumn>, ReportRefusal>
-    requires { rows + 1 < 2 ^ 32 }
-    ensures { ReadsAs (λ k. k) result (left text.new) (wide_entry_at (master_column_at (known_in context.now)) rows (left text.old)) }
-{
-    let row = row(rows, text)?;
-    let column = master_column(alloc, context, true, text)?;
-    Ok(WideKind::Product(row, column))
-}
+    /// Takes a row and a column of the program of a certificate.
+    #[tactic(auto, unfolding(crate::specs::ReadingQuality::wide_entry_at))]
+    fn master_entry(
+        &self,
+        rows: usize,
+        text: &mut Cursor,
+    ) -> Result<WideKind<MasterColumn>, ReportRefusal>
+        requires { rows + 1 < 2 ^ 32 }
+        ensures { ReadsAs (λ k. k) result (left text.new) (wide_entry_at (master_column_at (reader_names self.now)) rows (left text.old)) }
+    {
+        let row = row(rows, text)?;
+        let column = self.master_column(true, text)?;
+        Ok(WideKind::Product(row, column))
+    }
 
-/// Takes what is too wide of a basis of the program of a certificate.
-fn master_wide(
-    alloc: Global,
-    context: &Context,
-    rows: usize,
-    text: &mut Cursor,
-) -> Result<WideKind<MasterColumn>, ReportRefusal>
-    requires { rows + 1 < 2 ^ 32 }
-    ensures { ReadsAs (λ k. k) result (left text.new) (master_wide_at (master_column_at (known_in context.now)) rows (left text.old)) }
-{
-    let (at, word) = word(ReportKind::Token, ReportKind::Ended, text)?;
-    if word == NUMBER {
-        return master_number(alloc, context, text);
+    /// Takes what is too wide of a basis of the program of a certificate.
+    fn master_wide(
+        &self,
+        rows: usize,
+        text: &mut Cursor,
+    ) -> Result<WideKind<MasterColumn>, ReportRefusal>
+        requires { rows + 1 < 2 ^ 32 }
+        ensures { ReadsAs (λ k. k) result (left text.new) (master_wide_at (master_column_at (reader_names self.now)) rows (left text.old)) }
+    {
+        let (at, word) = word(ReportKind::Token, ReportKind::Ended, text)?;
+        if word == NUMBER {
+            return self.master_number(text);
+        }
+        if word == ROW {
+            return wide_row(rows, text);
+        }
+        if word == ENTRY {
+            return self.master_entry(rows, text);
+        }
+        if word == SUM {
+            return wide_sum(rows, text);
+        }
+        if word == COMMON {
+            return Ok(WideKind::Common);
+        }
+        if word == VALUE {
+            return Ok(WideKind::Value);
+        }
+        Err(bad(at, ReportKind::Token))
     }
-    if word == ROW {
-        return wide_row(rows, text);
-    }
-    if word == ENTRY {
-        return master_entry(alloc, context, rows, text);
-    }
-    if word == SUM {
-        return wide_sum(rows, text);
-    }
-    if word == COMMON {
-        return Ok(WideKind::Common);
-    }
-    if word == VALUE {
-        return Ok(WideKind::Value);
-    }
-    Err(bad(at, ReportKind::Token))
-}
 
-/// Takes capacities.
-#[tactic(auto, unfolding(crate::specs::ReadingQuality::caps_at))]
-fn caps(alloc: Global, context: &Context, text: &mut Cursor) -> Result<Caps, ReportRefusal>
-    ensures { ReadsAs (λ c. c) result (left text.new) (caps_at context.now.net.now.links (left text.old)) }
-{
-    let scale = medium(1, SCALE_LIMIT, text)?;
-    let nums = capacities(alloc, context.net.links().len(), text)?;
-    Ok(Caps { scale, nums })
-}
-
-/// Takes evidence on the routing of a state. There is no memory for a basis of 2^32 columns.
-#[tactic(auto, unfolding(crate::specs::ReadingQuality::route_at))]
-fn route(
-    alloc: Global,
-    context: &Context,
-    demands: &PlanDemands,
-    text: &mut Cursor,
-) -> Result<Evidence, ReportRefusal>
-    ensures { ReadsAs (λ e. e) result (left text.new) (route_at (known_in context.now) demands.now.list (left text.old)) }
-{
-    let rows = context.net.links().len() + demands.list.len();
-    if rows >= MAX_ROWS {
-        return Err(Refusal::NoMemory);
+    /// Takes capacities.
+    #[tactic(auto, unfolding(crate::specs::ReadingQuality::caps_at))]
+    fn caps(&self, text: &mut Cursor) -> Result<Caps, ReportRefusal>
+        ensures { ReadsAs (λ c. c) result (left text.new) (caps_at (reader_links self.now) (left text.old)) }
+    {
+        let scale = medium(1, SCALE_LIMIT, text)?;
+        let nums = capacities(self.alloc, self.context.net.links().len(), text)?;
+        Ok(Caps { scale, nums })
     }
-    let state = small(0, u128::from(context.states.count()), text)?;
-    let caps = caps(alloc, context, text)?;
-    let basis = route_basis(alloc, context, demands, rows, text)?;
-    let kind = route_wide(alloc, context, demands, rows, text)?;
-    Ok(Evidence::Route {
-        state: StateId(state),
-        caps,
-        basis,
-        kind,
-    })
-}
 
-/// Takes evidence on a certificate.
-#[tactic(auto, unfolding(crate::specs::ReadingQuality::master_at))]
-fn master(alloc: Global, context: &Context, text: &mut Cursor) -> Result<Evidence, ReportRefusal>
-    ensures { ReadsAs (λ e. e) result (left text.new) (master_at (known_in context.now) (left text.old)) }
-{
-    let rows = context.net.links().len();
-    let basis = master_basis(alloc, context, rows, text)?;
-    let kind = master_wide(alloc, context, rows, text)?;
-    Ok(Evidence::Master { basis, kind })
-}
+    /// Takes evidence on the routing of a state. There is no memory for a basis of 2^32 columns.
+    #[tactic(auto, unfolding(crate::specs::ReadingQuality::route_at))]
+    fn route(&self, text: &mut Cursor) -> Result<Evidence, ReportRefusal>
+        ensures { ReadsAs (λ e. e) result (left text.new) (route_at (reader_names self.now) (reader_demands self.now) (left text.old)) }
+    {
+        let rows = self.context.net.links().len() + self.demands.list.len();
+        if rows >= MAX_ROWS {
+            return Err(Refusal::NoMemory);
+        }
+        let state = small(0, u128::from(self.context.states.count()), text)?;
+        let caps = self.caps(text)?;
+        let basis = self.route_basis(rows, text)?;
+        let kind = self.route_wide(rows, text)?;
+        Ok(Evidence::Route {
+            state: StateId(state),
+            caps,
+            basis,
+            kind,
+        })
+    }
 
-/// Takes evidence of what was too wide: of the routing of a state, or of a certificate.
-///
-/// A state, a row or a number that is out of its range, or a column too many or too few is `limit`. It takes memory for the
-/// capacities and the basis, which has a column for each link, and on a routing for each demand too.
-pub fn evidence(
-    alloc: Global,
-    context: &Context,
-    demands: &PlanDemands,
-    text: &mut Cursor,
-) -> Result<Evidence, ReportRefusal>
-    ensures { ReadsAs (λ e. e) result (left text.new) (evidence_at (known_in context.now) demands.now.list (left text.old)) }
-{
-    let (at, word) = word(ReportKind::Token, ReportKind::Ended, text)?;
-    if word == ROUTE {
-        return route(alloc, context, demands, text);
+    /// Takes evidence on a certificate.
+    #[tactic(auto, unfolding(crate::specs::ReadingQuality::master_at))]
+    fn master(&self, text: &mut Cursor) -> Result<Evidence, ReportRefusal>
+        ensures { ReadsAs (λ e. e) result (left text.new) (master_at (reader_names self.now) (left text.old)) }
+    {
+        let rows = self.context.net.links().len();
+        let basis = self.master_basis(rows, text)?;
+        let kind = self.master_wide(rows, text)?;
+        Ok(Evidence::Master { basis, kind })
     }
-    if word == MASTER {
-        return master(alloc, context, text);
+
+    /// Takes evidence of what was too wide: of the routing of a state, or of a certificate.
+    ///
+    /// A state, a row or a number that is out of its range, or a column too many or too few is `limit`.
+    /// It takes memory for the capacities and the basis, which has a column for each link, and on a
+    /// routing for each demand too.
+    pub(crate) fn evidence(&self, text: &mut Cursor) -> Result<Evidence, ReportRefusal>
+        ensures { ReadsAs (λ e. e) result (left text.new) (evidence_at (reader_names self.now) (reader_demands self.now) (left text.old)) }
+    {
+        let (at, word) = word(ReportKind::Token, ReportKind::Ended, text)?;
+        if word == ROUTE {
+            return self.route(text);
+        }
+        if word == MASTER {
+            return self.master(text);
+        }
+        Err(bad(at, ReportKind::Token))
     }
-    Err(bad(at, ReportKind::Token))
 }

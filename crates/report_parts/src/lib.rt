@@ -2,10 +2,11 @@
 #![tactic(auto)]
 
 pub mod certificate;
-pub mod columns;
+mod columns;
 pub mod demands;
-pub mod evidence;
+mod evidence;
 pub mod modules;
-pub mod placed;
-pub mod quality;
+pub mod plan_reader;
+mod quality;
 pub mod routing;
+pub mod spot_cut;

@@ -2,9 +2,8 @@ ghost use Rattle.std.specs.Prelude.{◌≡◌, ◌+◌, ◌∷◌, ◌++◌, ◌
 ghost use Rattle.snd_tokens.specs.Lexemes.{left};
 ghost use Rattle.plan_terms.specs.Capacities.{modules_capacity};
 ghost use Rattle.text_kit.specs.Answers.{Fails, ReadsAs};
-ghost use Rattle.text_kit.specs.Reading.{list_at, of_length, Parenthesis};
 ghost use Rattle.report_words.specs.ReportWords.{whole_within};
-ghost use Rattle.report_parts.specs.ReadingParts.{all_counts_at, count_at, count_within, counts_at, modules_at, next_counts_at};
+ghost use Rattle.report_parts.specs.ReadingParts.{all_counts_at, count_within, counts_at, modules_at};
 
 use net_core::{Counts, Link, List};
 use report_words::element::{Element, list};
@@ -102,13 +101,6 @@ impl<'a> Element for CountList<'a> {
     }
 }
 
-/// Takes the counts of a link's modules, up to the closing parenthesis.
-fn link_counts(alloc: Global, link: &Link, text: &mut Cursor) -> Result<List<u64>, ReportRefusal>
-    ensures { ReadsAs (λ l. l) result (left text.new) (list_at Parenthesis (of_length (length link.now.modules) ReportKind.Limit) (count_at link.now) [] (left text.old)) }
-{
-    list(alloc, &CountList { link }, text)
-}
-
 /// Takes the name of the next link and the counts of its modules.
 #[tactic(auto, unfolding(crate::specs::ReadingParts::counts_at))]
 fn known_counts(alloc: Global, link: &Link, text: &mut Cursor) -> Result<List<u64>, ReportRefusal>
@@ -116,7 +108,7 @@ fn known_counts(alloc: Global, link: &Link, text: &mut Cursor) -> Result<List<u6
 {
     this_name(link.name.bytes(), text)?;
     opening(text)?;
-    link_counts(alloc, link, text)
+    list(alloc, &CountList { link }, text)
 }
 
 /// Takes a name after that of the last link.
@@ -127,21 +119,6 @@ fn unknown_counts(text: &mut Cursor) -> ReportRefusal
     match word(ReportKind::Token, ReportKind::Ended, text) {
         Ok((at, word)) => bad(at, unknown_name(word)),
         Err(refusal) => refusal,
-    }
-}
-
-/// Takes the counts of the link after so many others.
-fn next_counts(
-    alloc: Global,
-    links: &[Link],
-    sofar: &[List<u64>],
-    text: &mut Cursor,
-) -> Result<List<u64>, ReportRefusal>
-    ensures { ReadsAs (λ l. l) result (left text.new) (next_counts_at links.now sofar.now (left text.old)) }
-{
-    match links.get(sofar.len()) {
-        Some(link) => known_counts(alloc, link, text),
-        None => Err(unknown_counts(text)),
     }
 }
 
@@ -169,7 +146,10 @@ impl<'a> Element for ModuleList<'a> {
         sofar: &[List<u64>],
         text: &mut Cursor,
     ) -> Result<List<u64>, ReportRefusal> {
-        next_counts(alloc, self.links, sofar, text)
+        match self.links.get(sofar.len()) {
+            Some(link) => known_counts(alloc, link, text),
+            None => Err(unknown_counts(text)),
+        }
     }
 
     fn fault(&self, all: &[List<u64>]) -> Option<ReportKind> {

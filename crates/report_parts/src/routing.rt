@@ -1,13 +1,12 @@
-ghost use Rattle.std.specs.Prelude.{◌≡◌, ◌≤◌, [], length};
+ghost use Rattle.std.specs.Prelude.{◌≡◌, ◌≤◌, length};
 ghost use Rattle.snd_tokens.specs.Lexemes.{left};
 ghost use Rattle.text_kit.specs.Answers.{ReadsAs};
-ghost use Rattle.report_words.specs.Contexts.{known_in};
-ghost use Rattle.report_parts.specs.ReadingRoutings.{flow_at, path_at, routing_at, routings_at};
-ghost use Rattle.text_kit.specs.Reading.{list_at, no_fault, Parenthesis};
+ghost use Rattle.report_parts.specs.ReadingRoutings.{path_at, routings_at};
+ghost use Rattle.report_parts.specs.Readers.{reader_demands, reader_links, reader_names};
 ghost use Rattle.plan_report.specs.Names.{state_name};
 ghost use Rattle.report_words.specs.ReportWords.{this_name_at};
 
-use crate::demands::PlanDemands;
+use crate::plan_reader::PlanReader;
 use net_core::{Flow, LinkId, List, Path, Routing, States};
 use report_words::context::Context;
 use report_words::element::{Element, list};
@@ -61,74 +60,39 @@ impl<'a> Element for LinkList<'a> {
     }
 }
 
-/// Takes a path: the names of its links, one or more, between parentheses. An empty path is `token`, at
-/// its closing parenthesis, and an unknown link `unknown-name`. It takes memory for 4 bytes a link.
-#[tactic(auto, unfolding(crate::specs::ReadingRoutings::path_at))]
-pub fn path(alloc: Global, context: &Context, text: &mut Cursor) -> Result<Path, ReportRefusal>
-    ensures { ReadsAs (λ p. p) result (left text.new) (path_at context.now.net.now.links (left text.old)) }
-{
-    opening(text)?;
-    list(alloc, &LinkList { context }, text)
-}
-
-/// Takes a flow after these ones.
-#[tactic(auto, unfolding(crate::specs::ReadingRoutings::flow_at))]
-fn flow(
-    alloc: Global,
-    context: &Context,
-    demands: &PlanDemands,
-    sofar: &[Flow],
-    text: &mut Cursor,
-) -> Result<Flow, ReportRefusal>
-    ensures { ReadsAs (λ f. f) result (left text.new) (flow_at context.now.net.now.links demands.now.list sofar.now (left text.old)) }
-{
-    let demand = demands.next(sofar.len() < MAX_FLOWS, text)?;
-    let num = number(1, NUM_LIMIT, text)?;
-    let path = path(alloc, context, text)?;
-    Ok(Flow { demand, path, num })
-}
-
 /// The flows of a routing.
 #[derive(Clone, Copy)]
 struct FlowList<'a> {
-    context: &'a Context<'a>,
-    demands: &'a PlanDemands<'a>,
+    reader: PlanReader<'a>,
 }
 
 impl<'a> Element for FlowList<'a> {
     ghost use Rattle.text_kit.specs.Reading.{no_fault};
     ghost use Rattle.report_parts.specs.ReadingRoutings.{flow_at};
+    ghost use Rattle.report_parts.specs.Readers.{reader_demands, reader_links};
 
     type Item = Flow;
 
-    ghost reading = { λ l. flow_at l.context.now.net.now.links l.demands.now.list };
+    ghost reading = { λ l. flow_at (reader_links l.reader) (reader_demands l.reader) };
 
     ghost fault = { λ _. no_fault };
 
+    #[tactic(auto, unfolding(crate::specs::ReadingRoutings::flow_at))]
     fn take(
         &self,
-        alloc: Global,
+        _alloc: Global,
         sofar: &[Flow],
         text: &mut Cursor,
     ) -> Result<Flow, ReportRefusal> {
-        flow(alloc, self.context, self.demands, sofar, text)
+        let demand = self.reader.demands.next(sofar.len() < MAX_FLOWS, text)?;
+        let num = number(1, NUM_LIMIT, text)?;
+        let path = self.reader.path(text)?;
+        Ok(Flow { demand, path, num })
     }
 
     fn fault(&self, _all: &[Flow]) -> Option<ReportKind> {
         None
     }
-}
-
-/// Takes the flows of a routing, up to the closing parenthesis.
-fn flows(
-    alloc: Global,
-    context: &Context,
-    demands: &PlanDemands,
-    text: &mut Cursor,
-) -> Result<List<Flow>, ReportRefusal>
-    ensures { ReadsAs (λ l. l) result (left text.new) (list_at Parenthesis no_fault (flow_at context.now.net.now.links demands.now.list) [] (left text.old)) }
-{
-    list(alloc, &FlowList { context, demands }, text)
 }
 
 /// Takes the name of a state, `none` for state 0; another one is `unknown-name` or `limit-name`.
@@ -145,74 +109,73 @@ pub fn state_name(states: &States, state: u32, text: &mut Cursor) -> Result<(), 
     )
 }
 
-/// Takes the routing of a state after those of the states before it.
-#[tactic(auto, unfolding(crate::specs::ReadingRoutings::routing_at))]
-fn routing(
-    alloc: Global,
-    context: &Context,
-    demands: &PlanDemands,
-    sofar: &[Routing],
-    text: &mut Cursor,
-) -> Result<Routing, ReportRefusal>
-    ensures { ReadsAs (λ r. r) result (left text.new) (routing_at (known_in context.now) demands.now.list sofar.now (left text.old)) }
-{
-    keyword_within(sofar.len() < context.states.count() as usize, STATE, text)?;
-    this(sofar.len() as u64, text)?;
-    state_name(context.states, sofar.len() as u32, text)?;
-    let den = medium(1, DEN_LIMIT, text)?;
-    opening(text)?;
-    let flows = flows(alloc, context, demands, text)?;
-    Ok(Routing { den, flows })
-}
-
 /// One routing for each state.
 #[derive(Clone, Copy)]
 struct RoutingList<'a> {
-    context: &'a Context<'a>,
-    demands: &'a PlanDemands<'a>,
+    reader: PlanReader<'a>,
 }
 
 impl<'a> Element for RoutingList<'a> {
     ghost use Rattle.std.specs.Prelude.{◌+◌, length};
     ghost use Rattle.text_kit.specs.Reading.{of_length};
-    ghost use Rattle.report_words.specs.Contexts.{known_in};
     ghost use Rattle.report_parts.specs.ReadingRoutings.{routing_at};
+    ghost use Rattle.report_parts.specs.Readers.{reader_demands, reader_names};
     ghost use Rattle.report_words.specs.declared.fault.ReportKind.TheVariants.{Limit};
 
     type Item = Routing;
 
-    ghost reading = { λ l. routing_at (known_in l.context.now) l.demands.now.list };
+    ghost reading = { λ l. routing_at (reader_names l.reader) (reader_demands l.reader) };
 
-    ghost fault = { λ l. of_length (length l.context.now.states.now.listed + 1) Limit };
+    ghost fault = { λ l. of_length (length (reader_names l.reader).listed + 1) Limit };
 
+    #[tactic(auto, unfolding(crate::specs::ReadingRoutings::routing_at))]
     fn take(
         &self,
         alloc: Global,
         sofar: &[Routing],
         text: &mut Cursor,
     ) -> Result<Routing, ReportRefusal> {
-        routing(alloc, self.context, self.demands, sofar, text)
+        let states = self.reader.context.states;
+        keyword_within(sofar.len() < states.count() as usize, STATE, text)?;
+        this(sofar.len() as u64, text)?;
+        state_name(states, sofar.len() as u32, text)?;
+        let den = medium(1, DEN_LIMIT, text)?;
+        opening(text)?;
+        let reader = self.reader;
+        let flows = list(alloc, &FlowList { reader }, text)?;
+        Ok(Routing { den, flows })
     }
 
     fn fault(&self, all: &[Routing]) -> Option<ReportKind> {
-        of_length(self.context.states.count() as usize, all)
+        of_length(self.reader.context.states.count() as usize, all)
     }
 }
 
-/// Takes routings, one for each state in their order, between parentheses. Each has a denominator from 1 to below 2^62, and up to
-/// 65,536 flows: a demand's name, a numerator from 1 to below 2^124, and a path.
-///
-/// A number that is out of its range, and a routing or flow too many or too few is `limit`. It takes memory for the flows and the
-/// links of their paths.
-#[tactic(auto, unfolding(crate::specs::ReadingRoutings::routings_at))]
-pub fn routings(
-    alloc: Global,
-    context: &Context,
-    demands: &PlanDemands,
-    text: &mut Cursor,
-) -> Result<List<Routing>, ReportRefusal>
-    ensures { ReadsAs (λ l. l) result (left text.new) (routings_at (known_in context.now) demands.now.list (left text.old)) }
-{
-    opening(text)?;
-    list(alloc, &RoutingList { context, demands }, text)
+impl<'a> PlanReader<'a> {
+    /// Takes a path: the names of its links, one or more, between parentheses. An empty path is
+    /// `token`, at its closing parenthesis, and an unknown link `unknown-name`. It takes memory for 4
+    /// bytes a link.
+    #[tactic(auto, unfolding(crate::specs::ReadingRoutings::path_at))]
+    pub(crate) fn path(&self, text: &mut Cursor) -> Result<Path, ReportRefusal>
+        ensures { ReadsAs (λ p. p) result (left text.new) (path_at (reader_links self.now) (left text.old)) }
+    {
+        opening(text)?;
+        let context = self.context;
+        list(self.alloc, &LinkList { context }, text)
+    }
+
+    /// Takes routings, one for each state in their order, between parentheses. Each has a denominator
+    /// from 1 to below 2^62, and up to 65,536 flows: a demand's name, a numerator from 1 to below
+    /// 2^124, and a path.
+    ///
+    /// A number that is out of its range, and a routing or flow too many or too few is `limit`. It
+    /// takes memory for the flows and the links of their paths.
+    #[tactic(auto, unfolding(crate::specs::ReadingRoutings::routings_at))]
+    pub fn routings(&self, text: &mut Cursor) -> Result<List<Routing>, ReportRefusal>
+        ensures { ReadsAs (λ l. l) result (left text.new) (routings_at (reader_names self.now) (reader_demands self.now) (left text.old)) }
+    {
+        opening(text)?;
+        let reader = *self;
+        list(self.alloc, &RoutingList { reader }, text)
+    }
 }

@@ -28,9 +28,10 @@ use Rattle.report_reader.specs.ReadingJournal.{edit_branches, event_branches, no
 use Rattle.report_words.proofs.BranchLaws.{branches_law, either_form, lawful_branch, lawful_closed, lawful_no_branch}
 use Rattle.report_words.proofs.ListLaws.{few_rooms, lawful_placed, numbered_items, rooms_few}
 use Rattle.report_words.proofs.Making.{MadeOf, law_made, made_give, made_last, made_law, made_then}
+use Rattle.report_words.proofs.FieldLaws.{field_law}
 use Rattle.report_words.proofs.NumberLaws.{numbers_law}
 use Rattle.report_reader.proofs.Variants.{edit_cases, entry_cases, reply_cases}
-use Rattle.report_words.proofs.WordLaws.{amount_law, closing_law, keyword_law, money_law, name_law, number_law, opening_law, opening_within_law, this_number_law}
+use Rattle.report_words.proofs.WordLaws.{amount_law, closing_law, money_law, name_law, number_law, opening_law, opening_within_law, this_number_law}
 
 -- ---- notes
 
@@ -219,21 +220,19 @@ entries_law p = lawful_as (entries_at p) _ (λ es. flat_map (entry_items p) (num
 pool_line_law : (names : KnownNames) (sofar : List CutLine) → Lawful (pool_line_at names sofar) (λ l. pool_line_items (length sofar, l)) (λ l. (has_room 4096 sofar ≡ true) × IsCutInForm names.links names.listed l) AnyText
 unfolding pool_line_at pool_cut_at
 pool_line_law names sofar = law_made (pool_line_at names sofar) _ _ _ (λ l. pool_line_items (length sofar, l)) (λ l. (has_room 4096 sofar ≡ true) × IsCutInForm names.links names.listed l)
-    (λ q h. (h.0, record { state = omega (arith, h.1.1.1.0.1); lengths = record { long = h.1.1.1.1.1.1.0.0; each = h.1.1.1.1.1.1.0.1 }; right = h.1.1.1.1.1.0.1 }))
+    (λ q h. (h.0, record { state = omega (arith, h.1.1.0.1); lengths = record { long = h.1.1.1.1.0.0; each = h.1.1.1.1.0.1 }; right = h.1.1.1.0.1 }))
     (λ q h. refl)
     (λ l h. record {
-      parts = (tt, (tt, (tt, (l.state.0, (tt, (l.right, (l.lengths, tt)))))));
-      right = (h.0, (tt, (tt, ((omega arith, omega (arith, h.1.state)), (tt, ((omega arith, h.1.right), ((h.1.lengths.long, h.1.lengths.each), tt)))))));
+      parts = (tt, (tt, (l.state.0, (l.right, (l.lengths, tt)))));
+      right = (h.0, (tt, ((omega arith, omega (arith, h.1.state)), ((omega arith, h.1.right), ((h.1.lengths.long, h.1.lengths.each), tt)))));
       gives = refl;
     })
     (made_then _ _ _ _ _ _ _ _ (opening_within_law (has_room 4096 sofar)) (λ x h.
     made_then _ _ _ _ _ _ _ _ (this_number_law (length sofar)) (λ x h.
-    made_then _ _ _ _ _ _ _ _ (keyword_law (codes "state")) (λ x h.
-    made_then _ _ _ _ _ _ _ _ (number_law 0 (length names.listed + 1)) (λ state h.
-    made_then _ _ _ _ _ _ _ _ (keyword_law (codes "right")) (λ x h.
-    made_then _ _ _ _ _ _ _ _ (number_law 0 (2 ^ 84)) (λ right h.
+    made_then _ _ _ _ _ _ _ _ (field_law (codes "state") 0 (length names.listed + 1)) (λ state h.
+    made_then _ _ _ _ _ _ _ _ (field_law (codes "right") 0 (2 ^ 84)) (λ right h.
     made_then _ _ _ _ _ _ _ _ (numbers_law (length names.links) (2 ^ 32)) (λ lengths h.
-    made_last closing_at (λ (u : Unit {0}). record { state = record { 0 = state }; lengths = lengths; right = right }) _ _ closing_law))))))))
+    made_last closing_at (λ (u : Unit {0}). record { state = record { 0 = state }; lengths = lengths; right = right }) _ _ closing_law))))))
 
 pub pool_law : (names : KnownNames) → Lawful (pool_at names) (λ ls. flat_map pool_line_items (numbered_from 0 ls) ++ Closing ∷ []) (λ ls. (length ls ≤ 4096) × All (IsCutInForm names.links names.listed) ls) AnyText
 pool_law names = lawful_as (pool_at names) _ (λ ls. flat_map pool_line_items (numbered_from 0 ls) ++ Closing ∷ []) _ (λ ls. (length ls ≤ 4096) × All (IsCutInForm names.links names.listed) ls) AnyText

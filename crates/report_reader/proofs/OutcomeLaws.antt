@@ -18,6 +18,7 @@ use Rattle.report_words.specs.ReportWords.{closing_at, has_room}
 use Rattle.report_words.specs.ReportChoices.{branch_within}
 use Rattle.report_reader.specs.ReadingReport.{head_at, outcome_at, outcome_branches, outcomes_at, planned_at, separated_at, unsurvivable_at}
 use Rattle.report_words.proofs.BranchLaws.{branches_law, either_form, lawful_branch, lawful_no_branch}
+use Rattle.report_words.proofs.FieldLaws.{field_law}
 use Rattle.report_words.proofs.ListLaws.{few_law}
 use Rattle.report_words.proofs.Making.{law_made, made_last, made_then}
 use Rattle.report_parts.proofs.ModuleLaws.{IsSound}
@@ -25,7 +26,7 @@ use Rattle.report_reader.proofs.PlanLaws.{IsPlanOf, form_plan, plan_form, plan_l
 use Rattle.report_parts.proofs.CertificateLaws.{IsPoolInForm}
 use Rattle.report_parts.proofs.RoutingLaws.{AreLinksApart}
 use Rattle.report_reader.proofs.Variants.{outcome_cases}
-use Rattle.report_words.proofs.WordLaws.{closing_law, keyword_law, name_law, number_law, opening_law, this_name_law}
+use Rattle.report_words.proofs.WordLaws.{closing_law, keyword_law, name_law, opening_law, this_name_law}
 
 abbrev items_of : Head → List Item
 items_of h = head_items h.caller h.serial h.version h.position
@@ -37,27 +38,23 @@ head_law : Lawful head_at items_of IsHead AnyText
 unfolding head_at
 head_law = law_made head_at _ _ _ items_of IsHead
     (λ q h. record {
-      some_caller = h.1.0.0;
-      most_caller = omega (arith, h.1.0.1);
-      some_serial = h.1.1.1.0.0;
-      most_serial = omega (arith, h.1.1.1.0.1);
-      most_version = omega (arith, h.1.1.1.1.1.0.1);
-      most_position = omega (arith, h.1.1.1.1.1.1.1.1);
+      some_caller = h.0.0;
+      most_caller = omega (arith, h.0.1);
+      some_serial = h.1.0.0;
+      most_serial = omega (arith, h.1.0.1);
+      most_version = omega (arith, h.1.1.0.1);
+      most_position = omega (arith, h.1.1.1.1);
     })
     (λ q h. refl)
     (λ d h. record {
-      parts = (tt, (d.caller, (tt, (d.serial, (tt, (d.version, (tt, d.position)))))));
-      right = (tt, ((h.some_caller, omega (arith, h.most_caller)), (tt, ((h.some_serial, omega (arith, h.most_serial)), (tt, ((omega arith, omega (arith, h.most_version)), (tt, (omega arith, omega (arith, h.most_position)))))))));
+      parts = (d.caller, (d.serial, (d.version, d.position)));
+      right = ((h.some_caller, omega (arith, h.most_caller)), ((h.some_serial, omega (arith, h.most_serial)), ((omega arith, omega (arith, h.most_version)), (omega arith, omega (arith, h.most_position)))));
       gives = refl;
     })
-    (made_then _ _ _ _ _ _ _ _ (keyword_law (codes "caller")) (λ x h.
-    made_then _ _ _ _ _ _ _ _ (number_law 1 9) (λ caller h.
-    made_then _ _ _ _ _ _ _ _ (keyword_law (codes "plan")) (λ x h.
-    made_then _ _ _ _ _ _ _ _ (number_law 1 65) (λ serial h.
-    made_then _ _ _ _ _ _ _ _ (keyword_law (codes "version")) (λ x h.
-    made_then _ _ _ _ _ _ _ _ (number_law 0 65537) (λ version h.
-    made_then _ _ _ _ _ _ _ _ (keyword_law (codes "position")) (λ x h.
-    made_last _ (λ (position : ℕ). record { caller = caller; serial = serial; version = version; position = position }) _ _ (number_law 0 65537)))))))))
+    (made_then _ _ _ _ _ _ _ _ (field_law (codes "caller") 1 9) (λ caller h.
+    made_then _ _ _ _ _ _ _ _ (field_law (codes "plan") 1 65) (λ serial h.
+    made_then _ _ _ _ _ _ _ _ (field_law (codes "version") 0 65537) (λ version h.
+    made_last _ (λ (position : ℕ). record { caller = caller; serial = serial; version = version; position = position }) _ _ (field_law (codes "position") 0 65537)))))
 
 module _ (names : KnownNames) (pool : List CutLine) (nodes_apart : AllPairs (λ x y. x ≢ y) names.nodes) (apart : AreLinksApart names.links) (sound : (k : ℕ) → IsSound (slice_get names.links k)) (form : IsPoolInForm names pool) where
   abbrev IsOutcome : Bool → Outcome → Type 0
@@ -85,7 +82,7 @@ module _ (names : KnownNames) (pool : List CutLine) (nodes_apart : AllPairs (λ 
   unfolding planned_at unsurvivable_at separated_at
   outcome_law room = branches_law room (Err Token) (outcome_branches names pool) all_items _ (IsOutcome room)
       (either_form room _ _ _ (IsOutcome room) (λ q m h. (m, planned_form q.1.0 q.1.1.0 h.1.0 h.1.1.0))
-      (either_form room _ _ _ (IsOutcome room) (λ q m h. (m, record { command = h.1.0; state_listed = omega (arith, h.1.1.1.0.1); short = h.1.1.1.1.1.1.0 }))
+      (either_form room _ _ _ (IsOutcome room) (λ q m h. (m, record { command = h.1.0; state_listed = omega (arith, h.1.1.0.1); short = h.1.1.1.1.1.0 }))
       (λ o n. absurd n)))
       (outcome_cases _
       (λ caller serial p h. inl (
@@ -99,8 +96,8 @@ module _ (names : KnownNames) (pool : List CutLine) (nodes_apart : AllPairs (λ 
       (λ caller serial version position state demand h. inr (inl (
         h.0,
         record {
-          parts = (tt, (record { caller = caller; serial = serial; version = version; position = position }, (tt, (state.0, (tt, (tt, (demand, tt)))))));
-          right = (tt, (h.1.command, (tt, ((omega arith, omega (arith, h.1.state_listed)), (tt, (tt, (h.1.short, tt)))))));
+          parts = (tt, (record { caller = caller; serial = serial; version = version; position = position }, (state.0, (tt, (tt, (demand, tt))))));
+          right = (tt, (h.1.command, ((omega arith, omega (arith, h.1.state_listed)), (tt, (tt, (h.1.short, tt))))));
           gives = refl;
         },
       ))))
@@ -112,12 +109,11 @@ module _ (names : KnownNames) (pool : List CutLine) (nodes_apart : AllPairs (λ 
       (lawful_branch room (Err Token) (codes "UNSURVIVABLE") (unsurvivable_at names.listed) _ _ _ _ all_items _ refl (λ q h. refl)
       (made_then _ _ _ _ _ _ _ _ opening_law (λ x h.
       made_then _ _ _ _ _ _ _ _ head_law (λ head h.
-      made_then _ _ _ _ _ _ _ _ (keyword_law (codes "state")) (λ x h.
-      made_then _ _ _ _ _ _ _ _ (number_law 0 (length names.listed + 1)) (λ state h.
+      made_then _ _ _ _ _ _ _ _ (field_law (codes "state") 0 (length names.listed + 1)) (λ state h.
       made_then _ _ _ _ _ _ _ _ (this_name_law (state_name names.listed state)) (λ x h.
       made_then _ _ _ _ _ _ _ _ (keyword_law (codes "demand")) (λ x h.
       made_then _ _ _ _ _ _ _ _ name_law (λ demand h.
-      made_last closing_at (λ (u : Unit {0}). Unsurvivable head.caller head.serial head.version head.position (record { 0 = state }) demand) _ _ closing_law))))))))
+      made_last closing_at (λ (u : Unit {0}). Unsurvivable head.caller head.serial head.version head.position (record { 0 = state }) demand) _ _ closing_law)))))))
       (lawful_no_branch room Token all_items)))
 
   pub outcomes_law : Lawful (outcomes_at names pool) (λ os. flat_map all_items os ++ Closing ∷ []) (λ os. (length os ≤ 64) × All (IsOutcomeInForm names pool) os) AnyText

@@ -14,10 +14,12 @@ use Rattle.plan_report.specs.Forms.{AreRoutingsInForm, IsDemandInForm, IsOfPool,
 use Rattle.plan_report.specs.Items.{certificate_items, demand_items, modules_items, plan_items, quality_items, routings_items}
 use Rattle.text_kit.specs.Edits.{section}
 use Rattle.report_reader.specs.declared.parts.Head.{Head}
+use Rattle.report_reader.specs.declared.parts.PlanParts.{PlanParts}
 use Rattle.report_reader.specs.declared.parts.Routed.{Routed}
 use Rattle.report_reader.specs.declared.parts.Values.{Values}
-use Rattle.report_reader.specs.ReadingPlan.{plan_at, routed_at, values_at}
+use Rattle.report_reader.specs.ReadingPlan.{plan_at, plan_of_parts, plan_parts_at, routed_at, values_at}
 use Rattle.plan_report.specs.KnownNames.{KnownNames}
+use Rattle.report_words.proofs.FieldLaws.{field_law}
 use Rattle.report_words.proofs.Making.{law_made, made_last, made_then}
 use Rattle.report_parts.proofs.ModuleLaws.{IsSound, modules_law}
 use Rattle.report_parts.proofs.QualityLaws.{quality_law}
@@ -41,16 +43,15 @@ pub record AreValues (v : Values) : Type 0 where
 values_law : (p : Places) → Lawful (values_at p) (values_items p) AreValues AnyText
 unfolding values_at
 values_law p = law_made (values_at p) _ _ _ (values_items p) AreValues
-    (λ q h. record { low = h.1.0; bounded = h.1.1.1.0; num = h.1.1.1.1.1.0.1; positive = h.1.1.1.1.1.1.0; den = h.1.1.1.1.1.1.1 })
+    (λ q h. record { low = h.1.0; bounded = h.1.1.1.0; num = h.1.1.1.1.0.1; positive = h.1.1.1.1.1.0; den = h.1.1.1.1.1.1 })
     (λ q h. refl)
-    (λ v h. record { parts = (tt, (v.cost, (tt, (v.bound, (tt, (v.raw_num, v.raw_den)))))); right = (tt, (h.low, (tt, (h.bounded, (tt, ((omega arith, h.num), (h.positive, h.den))))))); gives = refl })
+    (λ v h. record { parts = (tt, (v.cost, (tt, (v.bound, (v.raw_num, v.raw_den))))); right = (tt, (h.low, (tt, (h.bounded, ((omega arith, h.num), (h.positive, h.den)))))); gives = refl })
     (made_then _ _ _ _ _ _ _ _ (keyword_law (codes "cost")) (λ x h.
     made_then _ _ _ _ _ _ _ _ (money_law p (2 ^ 126)) (λ cost h.
     made_then _ _ _ _ _ _ _ _ (keyword_law (codes "bound")) (λ x h.
     made_then _ _ _ _ _ _ _ _ (money_law p (2 ^ 126)) (λ bound h.
-    made_then _ _ _ _ _ _ _ _ (keyword_law (codes "raw")) (λ x h.
-    made_then _ _ _ _ _ _ _ _ (number_law 0 (2 ^ 126)) (λ num h.
-    made_last _ (λ (den : ℕ). record { cost = cost; bound = bound; raw_num = num; raw_den = den }) _ _ (number_law 1 (2 ^ 72)))))))))
+    made_then _ _ _ _ _ _ _ _ (field_law (codes "raw") 0 (2 ^ 126)) (λ num h.
+    made_last _ (λ (den : ℕ). record { cost = cost; bound = bound; raw_num = num; raw_den = den }) _ _ (number_law 1 (2 ^ 72))))))))
 
 -- ---- plans
 
@@ -90,22 +91,37 @@ module _ (names : KnownNames) (pool : List CutLine) where
   IsPlanOf head p = ((head.version ≡ p.version) × (head.position ≡ p.position)) × (ComeAfter (IsDemandInForm names.nodes) [] p.demands × (AreValues (values_of p) × ((AreCounts names.links p.counts × AreWithinLimits names.links p.counts)
       × (IsCertificate names pool p.certificate × (AreRoutingsInForm names p.demands p.routings × IsQualityInForm names p.demands p.quality)))))
 
+  -- what stands after the demands of a plan, part by part
+  abbrev AreParts : List Demand → PlanParts → Type 0
+  AreParts demands s = AreValues s.values × ((AreCounts names.links s.counts × AreWithinLimits names.links s.counts) × (IsCertificate names pool s.certificate × AreRoutedInForm names demands s.routed))
+
+  -- and its items
+  abbrev parts_items : List Demand → PlanParts → List Item
+  parts_items demands s = values_items names.places s.values ++ (section (codes "MODULES") (flat_map modules_items (zip names.links s.counts)) ++ (certificate_items s.certificate ++ routed_items names demands s.routed))
+
+  parts_law : AreLinksApart names.links → ((k : ℕ) → IsSound (slice_get names.links k)) → IsPoolInForm names pool → (demands : List Demand) → AreApart demands → Lawful (plan_parts_at names pool demands) (parts_items demands) (AreParts demands) AnyText
+  unfolding plan_parts_at
+  parts_law apart sound form demands differ = law_made (plan_parts_at names pool demands) _ _ _ (parts_items demands) (AreParts demands)
+      (λ q h. h)
+      (λ q h. refl)
+      (λ s h. record { parts = (s.values, (s.counts, (s.certificate, s.routed))); right = h; gives = refl })
+      (made_then _ _ _ _ _ _ _ _ (values_law names.places) (λ values h.
+      made_then _ _ _ _ _ _ _ _ (modules_law names.links sound) (λ counts h.
+      made_then _ _ _ _ _ _ _ _ (certificate_law names pool form) (λ certificate h.
+      made_last _ (λ (r : Routed). record { values = values; counts = counts; certificate = certificate; routed = r }) _ _ (routed_law names demands apart differ)))))
+
   pub plan_law : AllPairs (λ x y. x ≢ y) names.nodes → AreLinksApart names.links → ((k : ℕ) → IsSound (slice_get names.links k)) → IsPoolInForm names pool → (head : Head) → Lawful (plan_at names pool head) (plan_items names) (IsPlanOf head) AnyText
   unfolding plan_at
   plan_law nodes_apart apart sound form head = law_made (plan_at names pool head) _ _ _ (plan_items names) (IsPlanOf head)
       (λ q h. ((refl, refl), (h.0, (h.1.0, (h.1.1.0, (h.1.1.1.0, (h.1.1.1.1.0, h.1.1.1.1.1)))))))
-      (λ q h. joined (section (codes "DEMANDS") (flat_map (demand_items names.places names.nodes) q.0)) (values_items names.places q.1.0) (section (codes "MODULES") (flat_map modules_items (zip names.links q.1.1.0))) (certificate_items q.1.1.1.0) (Verbatim (codes "ROUTES") ∷ routings_items names q.0 q.1.1.1.1.routings) (quality_items names q.0 q.1.1.1.1.quality))
+      (λ q h. joined (section (codes "DEMANDS") (flat_map (demand_items names.places names.nodes) q.0)) (values_items names.places q.1.values) (section (codes "MODULES") (flat_map modules_items (zip names.links q.1.counts))) (certificate_items q.1.certificate) (Verbatim (codes "ROUTES") ∷ routings_items names q.0 q.1.routed.routings) (quality_items names q.0 q.1.routed.quality))
       (λ p h. record {
-        parts = (p.demands, (values_of p, (p.counts, (p.certificate, routed_of p))));
+        parts = (p.demands, record { values = values_of p; counts = p.counts; certificate = p.certificate; routed = routed_of p });
         right = (h.1.0, (h.1.1.0, (h.1.1.1.0, (h.1.1.1.1.0, (h.1.1.1.1.1.0, h.1.1.1.1.1.1)))));
         gives = ap (λ (v : ℕ). with_head v head.position p) h.0.0 ∙ ap (λ (w : ℕ). with_head p.version w p) h.0.1;
       })
       (made_then _ _ _ _ _ _ _ _ (demands_law names.nodes nodes_apart names.places) (λ demands hd.
-      made_then _ _ _ _ _ _ _ _ (values_law names.places) (λ values h.
-      made_then _ _ _ _ _ _ _ _ (modules_law names.links sound) (λ counts h.
-      made_then _ _ _ _ _ _ _ _ (certificate_law names pool form) (λ certificate h.
-      made_last _ (λ (r : Routed). record { version = head.version; position = head.position; demands = demands; counts = counts; cost = values.cost; routings = r.routings; certificate = certificate; raw_num = values.raw_num; raw_den = values.raw_den; bound = values.bound; quality = r.quality }) _ _
-      (routed_law names demands apart (demands_apart names.nodes nodes_apart demands hd)))))))
+      made_last _ (λ (s : PlanParts). plan_of_parts head demands s) _ _ (parts_law apart sound form demands (demands_apart names.nodes nodes_apart demands hd))))
 
   -- and all together
   pub plan_form : (head : Head) (p : Plan) → head.version ≤ 65536 → head.position ≤ 65536 → IsPlanOf head p → IsPlanInForm names p × All (λ l. IsOfPool pool l.spot l.cut) p.certificate.lines

@@ -1,5 +1,5 @@
 -- Each part of a report is read without a look at what comes after it.
-use Rattle.std.proofs.Common.{ℕ, ◌^◌, Bool, true, false, List, [], length, Ok, Err, refl}
+use Rattle.std.proofs.Common.{ℕ, ◌+◌, ◌^◌, Bool, true, false, List, [], length, Ok, Err, refl}
 use Rattle.std.specs.Prelude.{codes}
 use Rattle.net_core.specs.declared.journal.Entry.{Entry}
 use Rattle.net_core.specs.declared.network.Notes.{Notes}
@@ -15,9 +15,10 @@ use Rattle.report_words.specs.declared.fault.ReportKind.TheVariants.{Section, To
 use Rattle.report_reader.specs.declared.parts.Head.{Head}
 use Rattle.report_words.specs.ReportWords.{has_room}
 use Rattle.report_reader.specs.ReadingJournal.{accepted_at, add_at, drop_at, edit_at, edited_at, entries_at, journal_entry_at, event_at, notes_at, notes_end_at, pool_at, pool_cut_at, pool_line_at, pooled_at, reply_at, routing_note_at, set_at, setup_note_at, too_much_at, two_names_at, edit_branches, event_branches, noted, notes_branches, reply_branches, routing_note_branches, setup_note_branches}
-use Rattle.report_reader.specs.ReadingPlan.{plan_at, routed_at, values_at}
+use Rattle.report_reader.specs.ReadingPlan.{plan_at, plan_parts_at, routed_at, values_at}
 use Rattle.report_reader.specs.ReadingReport.{head_at, last_sections_at, separated_at, outcome_at, outcome_branches, outcomes_at, planned_at, report_at, section_at, sections_at, unsurvivable_at}
 use Rattle.report_words.proofs.Branching.{online_branch}
+use Rattle.report_words.proofs.FieldLaws.{field_online}
 use Rattle.report_words.proofs.WordsOnline.{column_some, numbers_online, opening_within_online}
 use Rattle.report_parts.proofs.PartsOnline.{certificate_online, modules_online, plan_demands_online, quality_online, routings_online}
 
@@ -127,13 +128,11 @@ unfolding pool_line_at pool_cut_at
 pool_line_online names sofar =
     online_then _ _ (opening_within_online (has_room 4096 sofar)) (λ x.
     online_then _ _ (online_word Token Ended _) (λ x.
-    online_then _ _ (online_word Token Ended _) (λ x.
-    online_then _ _ (online_word Token Ended _) (λ state.
-    online_then _ _ (online_word Token Ended _) (λ x.
-    online_then _ _ (online_word Token Ended _) (λ right.
+    online_then _ _ (field_online (codes "state") 0 (length names.listed + 1)) (λ state.
+    online_then _ _ (field_online (codes "right") 0 (2 ^ 84)) (λ right.
     online_then _ _ (numbers_online (length names.links) (2 ^ 32)) (λ lengths.
     online_then _ _ (online_close Token Ended) (λ x.
-    online_give _))))))))
+    online_give _))))))
 
 pub pool_line_some : (names : KnownNames) (sofar : List CutLine) → TakesSome (pool_line_at names sofar)
 unfolding pool_line_at
@@ -151,10 +150,9 @@ values_online p =
     online_then _ _ (online_word Token Ended _) (λ cost.
     online_then _ _ (online_word Token Ended _) (λ x.
     online_then _ _ (online_word Token Ended _) (λ bound.
-    online_then _ _ (online_word Token Ended _) (λ x.
-    online_then _ _ (online_word Token Ended _) (λ num.
+    online_then _ _ (field_online (codes "raw") 0 (2 ^ 126)) (λ num.
     online_then _ _ (online_word Token Ended _) (λ den.
-    online_give _)))))))
+    online_give _))))))
 
 pub routed_online : (names : KnownNames) (demands : List Demand) → IsOnline (routed_at names demands)
 unfolding routed_at
@@ -164,28 +162,30 @@ routed_online names demands =
     online_then _ _ (quality_online names demands) (λ quality.
     online_give _)))
 
-pub plan_online : (names : KnownNames) (pool : List CutLine) (head : Head) → IsOnline (plan_at names pool head)
-unfolding plan_at
-plan_online names pool head =
-    online_then _ _ (plan_demands_online names.places names.nodes) (λ demands.
+pub plan_parts_online : (names : KnownNames) (pool : List CutLine) (demands : List Demand) → IsOnline (plan_parts_at names pool demands)
+unfolding plan_parts_at
+plan_parts_online names pool demands =
     online_then _ _ (values_online names.places) (λ values.
     online_then _ _ (modules_online names.links) (λ counts.
     online_then _ _ (certificate_online names pool) (λ certificate.
     online_then _ _ (routed_online names demands) (λ routed.
-    online_give _)))))
+    online_give _))))
+
+pub plan_online : (names : KnownNames) (pool : List CutLine) (head : Head) → IsOnline (plan_at names pool head)
+unfolding plan_at
+plan_online names pool head =
+    online_then _ _ (plan_demands_online names.places names.nodes) (λ demands.
+    online_then _ _ (plan_parts_online names pool demands) (λ parts.
+    online_give _))
 
 pub head_online : IsOnline (head_at)
 unfolding head_at
 head_online =
-    online_then _ _ (online_word Token Ended _) (λ x.
-    online_then _ _ (online_word Token Ended _) (λ caller.
-    online_then _ _ (online_word Token Ended _) (λ x.
-    online_then _ _ (online_word Token Ended _) (λ serial.
-    online_then _ _ (online_word Token Ended _) (λ x.
-    online_then _ _ (online_word Token Ended _) (λ version.
-    online_then _ _ (online_word Token Ended _) (λ x.
-    online_then _ _ (online_word Token Ended _) (λ position.
-    online_give _))))))))
+    online_then _ _ (field_online (codes "caller") 1 9) (λ caller.
+    online_then _ _ (field_online (codes "plan") 1 65) (λ serial.
+    online_then _ _ (field_online (codes "version") 0 65537) (λ version.
+    online_then _ _ (field_online (codes "position") 0 65537) (λ position.
+    online_give _))))
 
 pub planned_online : (names : KnownNames) (pool : List CutLine) → IsOnline (planned_at names pool)
 unfolding planned_at
@@ -201,13 +201,12 @@ unfolding unsurvivable_at separated_at
 unsurvivable_online listed =
     online_then _ _ (online_open Token Ended) (λ x.
     online_then _ _ (head_online) (λ head.
-    online_then _ _ (online_word Token Ended _) (λ x.
-    online_then _ _ (online_word Token Ended _) (λ state.
+    online_then _ _ (field_online (codes "state") 0 (length listed + 1)) (λ state.
     online_then _ _ (online_word Token Ended _) (λ x.
     online_then _ _ (online_word Token Ended _) (λ x.
     online_then _ _ (online_word Token Ended _) (λ demand.
     online_then _ _ (online_close Token Ended) (λ x.
-    online_give _))))))))
+    online_give _)))))))
 
 pub outcome_online : (names : KnownNames) (pool : List CutLine) (sofar : List Outcome) → IsOnline (outcome_at names pool sofar)
 outcome_online names pool sofar = online_branch (has_room 64 sofar) (Err Token) (outcome_branches names pool) (planned_online names pool, (unsurvivable_online names.listed, tt))

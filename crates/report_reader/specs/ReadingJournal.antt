@@ -12,7 +12,8 @@ use Rattle.net_core.specs.declared.plan.CutLine.{CutLine}
 use Rattle.text_kit.specs.Reading.{Reading, ◌>>=◌, give, list_at, no_fault, Parenthesis}
 use Rattle.plan_report.specs.KnownNames.{KnownNames}
 use Rattle.report_words.specs.declared.fault.ReportKind.{ReportKind}
-use Rattle.report_words.specs.ReportWords.{amount_at, closing_at, has_room, keyword_at, money_at, name_at, number_at, opening_at, opening_within, this_number_at}
+use Rattle.report_words.specs.ReportWords.{amount_at, closing_at, has_room, money_at, name_at, number_at, opening_at, opening_within, this_number_at}
+use Rattle.report_words.specs.ReportFields.{field_at}
 use Rattle.report_words.specs.ReportChoices.{Branches, branch_at, branch_or, numbers_at}
 
 -- ---- the notes: up to three words in order, and the closing parenthesis
@@ -132,10 +133,8 @@ entries_at p = list_at Parenthesis no_fault (journal_entry_at p) []
 -- a cut: its state, its right side and its lengths, and the closing parenthesis
 unfoldable pub pool_cut_at : KnownNames → Reading ReportKind CutLine
 pool_cut_at names = do
-  _ ← keyword_at (codes "state")
-  state ← number_at 0 (length names.listed + 1)
-  _ ← keyword_at (codes "right")
-  right ← number_at 0 (2 ^ 84)
+  state ← field_at (codes "state") 0 (length names.listed + 1)
+  right ← field_at (codes "right") 0 (2 ^ 84)
   lengths ← numbers_at (length names.links) (2 ^ 32)
   _ ← closing_at
   give (record { state = record { 0 = state }; lengths = lengths; right = right })

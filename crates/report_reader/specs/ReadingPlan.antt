@@ -8,9 +8,11 @@ use Rattle.text_kit.specs.Reading.{Reading, ◌>>=◌, give}
 use Rattle.plan_report.specs.KnownNames.{KnownNames}
 use Rattle.report_words.specs.declared.fault.ReportKind.{ReportKind}
 use Rattle.report_reader.specs.declared.parts.Head.{Head}
+use Rattle.report_reader.specs.declared.parts.PlanParts.{PlanParts}
 use Rattle.report_reader.specs.declared.parts.Routed.{Routed}
 use Rattle.report_reader.specs.declared.parts.Values.{Values}
 use Rattle.report_words.specs.ReportWords.{keyword_at, money_at, number_at}
+use Rattle.report_words.specs.ReportFields.{field_at}
 use Rattle.report_parts.specs.ReadingQuality.{quality_at}
 use Rattle.report_parts.specs.ReadingRoutings.{routings_at}
 use Rattle.report_parts.specs.ReadingParts.{certificate_at, modules_at, plan_demands_at}
@@ -23,8 +25,7 @@ values_at p = do
   cost ← money_at p (2 ^ 126)
   _ ← keyword_at (codes "bound")
   bound ← money_at p (2 ^ 126)
-  _ ← keyword_at (codes "raw")
-  num ← number_at 0 (2 ^ 126)
+  num ← field_at (codes "raw") 0 (2 ^ 126)
   den ← number_at 1 (2 ^ 72)
   give (record { cost = cost; bound = bound; raw_num = num; raw_den = den })
 
@@ -38,11 +39,33 @@ routed_at names demands = do
   quality ← quality_at names demands
   give (record { routings = routings; quality = quality })
 
-unfoldable pub plan_at : KnownNames → List CutLine → Head → Reading ReportKind Plan
-plan_at names pool head = do
-  demands ← plan_demands_at names.places names.nodes
+-- what a plan says after its demands
+unfoldable pub plan_parts_at : KnownNames → List CutLine → List Demand → Reading ReportKind PlanParts
+plan_parts_at names pool demands = do
   values ← values_at names.places
   counts ← modules_at names.links
   certificate ← certificate_at names pool
   routed ← routed_at names demands
-  give (record { version = head.version; position = head.position; demands = demands; counts = counts; cost = values.cost; routings = routed.routings; certificate = certificate; raw_num = values.raw_num; raw_den = values.raw_den; bound = values.bound; quality = routed.quality })
+  give (record { values = values; counts = counts; certificate = certificate; routed = routed })
+
+-- the plan of these demands and parts
+abbrev pub plan_of_parts : Head → List Demand → PlanParts → Plan
+plan_of_parts head demands parts = record {
+  version = head.version;
+  position = head.position;
+  demands = demands;
+  counts = parts.counts;
+  cost = parts.values.cost;
+  routings = parts.routed.routings;
+  certificate = parts.certificate;
+  raw_num = parts.values.raw_num;
+  raw_den = parts.values.raw_den;
+  bound = parts.values.bound;
+  quality = parts.routed.quality;
+}
+
+unfoldable pub plan_at : KnownNames → List CutLine → Head → Reading ReportKind Plan
+plan_at names pool head = do
+  demands ← plan_demands_at names.places names.nodes
+  parts ← plan_parts_at names pool demands
+  give (plan_of_parts head demands parts)

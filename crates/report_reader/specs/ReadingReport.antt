@@ -17,7 +17,8 @@ use Rattle.plan_report.specs.KnownNames.{KnownNames}
 use Rattle.report_words.specs.declared.fault.ReportKind.{ReportKind}
 use Rattle.report_words.specs.declared.fault.ReportKind.TheVariants.{Header, Section, Ended}
 use Rattle.report_reader.specs.declared.parts.Head.{Head}
-use Rattle.report_words.specs.ReportWords.{closing_at, has_room, keyword_at, name_at, number_at, opening_at, this_name_at}
+use Rattle.report_words.specs.ReportWords.{closing_at, has_room, keyword_at, name_at, opening_at, this_name_at}
+use Rattle.report_words.specs.ReportFields.{field_at}
 use Rattle.report_words.specs.ReportChoices.{Branches, branch_within}
 use Rattle.report_reader.specs.ReadingJournal.{entries_at, notes_at, pool_at}
 use Rattle.report_reader.specs.ReadingPlan.{plan_at}
@@ -26,14 +27,10 @@ use Rattle.report_reader.specs.ReadingPlan.{plan_at}
 
 unfoldable pub head_at : Reading ReportKind Head
 head_at = do
-  _ ← keyword_at (codes "caller")
-  caller ← number_at 1 9
-  _ ← keyword_at (codes "plan")
-  serial ← number_at 1 65
-  _ ← keyword_at (codes "version")
-  version ← number_at 0 65537
-  _ ← keyword_at (codes "position")
-  position ← number_at 0 65537
+  caller ← field_at (codes "caller") 1 9
+  serial ← field_at (codes "plan") 1 65
+  version ← field_at (codes "version") 0 65537
+  position ← field_at (codes "position") 0 65537
   give (record { caller = caller; serial = serial; version = version; position = position })
 
 unfoldable pub planned_at : KnownNames → List CutLine → Reading ReportKind Outcome
@@ -47,8 +44,7 @@ planned_at names pool = do
 -- the state and the demand for which there is no plan, and the closing parenthesis
 unfoldable pub separated_at : List Listed → Head → Reading ReportKind Outcome
 separated_at listed head = do
-  _ ← keyword_at (codes "state")
-  state ← number_at 0 (length listed + 1)
+  state ← field_at (codes "state") 0 (length listed + 1)
   _ ← this_name_at (state_name listed state)
   _ ← keyword_at (codes "demand")
   demand ← name_at

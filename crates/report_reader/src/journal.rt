@@ -1,8 +1,9 @@
 ghost use Rattle.std.specs.Prelude.{◌≡◌};
 ghost use Rattle.snd_tokens.specs.Lexemes.{left};
 ghost use Rattle.text_kit.specs.Answers.{ReadsAs};
-ghost use Rattle.report_reader.specs.ReadingJournal.{edited_at, entries_at, journal_entry_at, event_at, pooled_at};
+ghost use Rattle.report_reader.specs.ReadingJournal.{edited_at, entries_at, event_at, pooled_at};
 
+use crate::discard::discard;
 use crate::edit::{edit, reply};
 use net_core::{Entry, List, Places, StateId};
 use report_words::element::{Element, list};
@@ -23,21 +24,6 @@ const CALLER_LIMIT: u128 = 9;
 
 const INDEX_LIMIT: u128 = 4_096;
 
-/// Takes a caller, an edit and its reply.
-#[tactic(auto, unfolding(crate::specs::ReadingJournal::edited_at))]
-fn edited(alloc: Global, places: Places, text: &mut Cursor) -> Result<Entry, ReportRefusal>
-    ensures { ReadsAs (λ e. e) result (left text.new) (edited_at places (left text.old)) }
-{
-    let caller = small(1, CALLER_LIMIT, text)?;
-    let edit = edit(alloc, places, text)?;
-    let reply = reply(places, text)?;
-    Ok(Entry::Edited {
-        caller,
-        edit,
-        reply,
-    })
-}
-
 /// Takes the place of a cut in the pool, whose line comes later.
 #[tactic(auto, unfolding(crate::specs::ReadingJournal::pooled_at))]
 fn pooled(alloc: Global, text: &mut Cursor) -> Result<Entry, ReportRefusal>
@@ -51,41 +37,41 @@ fn pooled(alloc: Global, text: &mut Cursor) -> Result<Entry, ReportRefusal>
     })
 }
 
-/// Takes what an entry says after its position.
-fn event(alloc: Global, places: Places, text: &mut Cursor) -> Result<Entry, ReportRefusal>
-    ensures { ReadsAs (λ e. e) result (left text.new) (event_at places (left text.old)) }
-{
-    let (at, word) = word(ReportKind::Token, ReportKind::Ended, text)?;
-    if word == CALLER {
-        return edited(alloc, places, text);
-    }
-    if word == CUT {
-        return pooled(alloc, text);
-    }
-    Err(bad(at, ReportKind::Token))
-}
-
-/// Takes an entry after these ones.
-#[tactic(auto, unfolding(crate::specs::ReadingJournal::journal_entry_at))]
-fn entry(
-    alloc: Global,
-    places: Places,
-    sofar: &[Entry],
-    text: &mut Cursor,
-) -> Result<Entry, ReportRefusal>
-    ensures { ReadsAs (λ e. e) result (left text.new) (journal_entry_at places sofar.now (left text.old)) }
-{
-    opening_within(sofar.len() < MAX_ENTRIES, text)?;
-    this(sofar.len() as u64 + 1, text)?;
-    let event = event(alloc, places, text)?;
-    closing(text)?;
-    Ok(event)
-}
-
 /// Entries, whose needs have these places, and whose cuts have no state and no lengths yet.
 #[derive(Clone, Copy)]
 struct EntryList {
     places: Places,
+}
+
+impl EntryList {
+    /// Takes a caller, an edit and its reply.
+    #[tactic(auto, unfolding(crate::specs::ReadingJournal::edited_at))]
+    fn edited(&self, alloc: Global, text: &mut Cursor) -> Result<Entry, ReportRefusal>
+        ensures { ReadsAs (λ e. e) result (left text.new) (edited_at self.now.places (left text.old)) }
+    {
+        let caller = small(1, CALLER_LIMIT, text)?;
+        let edit = edit(alloc, self.places, text)?;
+        let reply = reply(self.places, text)?;
+        Ok(Entry::Edited {
+            caller,
+            edit,
+            reply,
+        })
+    }
+
+    /// Takes what an entry says after its position.
+    fn event(&self, alloc: Global, text: &mut Cursor) -> Result<Entry, ReportRefusal>
+        ensures { ReadsAs (λ e. e) result (left text.new) (event_at self.now.places (left text.old)) }
+    {
+        let (at, word) = word(ReportKind::Token, ReportKind::Ended, text)?;
+        if word == CALLER {
+            return self.edited(alloc, text);
+        }
+        if word == CUT {
+            return pooled(alloc, text);
+        }
+        Err(bad(at, ReportKind::Token))
+    }
 }
 
 impl Element for EntryList {
@@ -98,13 +84,21 @@ impl Element for EntryList {
 
     ghost fault = { λ _. no_fault };
 
+    #[tactic(auto, unfolding(crate::specs::ReadingJournal::journal_entry_at))]
     fn take(
         &self,
         alloc: Global,
         sofar: &[Entry],
         text: &mut Cursor,
     ) -> Result<Entry, ReportRefusal> {
-        entry(alloc, self.places, sofar, text)
+        opening_within(sofar.len() < MAX_ENTRIES, text)?;
+        this(sofar.len() as u64 + 1, text)?;
+        let event = self.event(alloc, text)?;
+        if let Err(refusal) = closing(text) {
+            discard(event);
+            return Err(refusal);
+        }
+        Ok(event)
     }
 
     fn fault(&self, _all: &[Entry]) -> Option<ReportKind> {

@@ -1,6 +1,7 @@
 //! Reads reports of plans.
 #![tactic(auto)]
 
+mod discard;
 mod edit;
 mod filling;
 mod journal;

@@ -2,8 +2,9 @@ ghost use Rattle.std.specs.Prelude.{◌≡◌, ◌<◌, ◌≤◌, ◌^◌, leng
 ghost use Rattle.snd_tokens.specs.Lexemes.{left};
 ghost use Rattle.text_kit.specs.Answers.{ReadsAs};
 ghost use Rattle.report_words.specs.Contexts.{known_in};
-ghost use Rattle.report_reader.specs.ReadingReport.{head_at, outcome_at, outcomes_at, planned_at, separated_at, unsurvivable_at};
+ghost use Rattle.report_reader.specs.ReadingReport.{head_at, outcomes_at, planned_at, separated_at, unsurvivable_at};
 
+use crate::discard::discard;
 use crate::parts::Head;
 use crate::plan::plan;
 use net_core::{CutLine, List, StateId};
@@ -12,7 +13,8 @@ use report_parts::routing::state_name;
 use report_words::context::Context;
 use report_words::element::{Element, list};
 use report_words::fault::{ReportKind, ReportRefusal};
-use report_words::words::{closing, keyword, medium, name, opening, small};
+use report_words::field::field;
+use report_words::words::{closing, keyword, name, opening};
 use snd_tokens::Cursor;
 use std::alloc::Global;
 use text_kit::refusal::bad;
@@ -41,14 +43,10 @@ const MAX_OUTCOMES: usize = 64;
 fn head(text: &mut Cursor) -> Result<Head, ReportRefusal>
     ensures { ReadsAs (λ h. h) result (left text.new) (head_at (left text.old)) }
 {
-    keyword(CALLER, text)?;
-    let caller = small(1, 9, text)?;
-    keyword(SERIAL, text)?;
-    let serial = small(1, 65, text)?;
-    keyword(VERSION, text)?;
-    let version = medium(0, 65_537, text)?;
-    keyword(POSITION, text)?;
-    let position = medium(0, 65_537, text)?;
+    let caller = field(CALLER, 1, 9, text)? as u32;
+    let serial = field(SERIAL, 1, 65, text)? as u32;
+    let version = field(VERSION, 0, 65_537, text)? as u64;
+    let position = field(POSITION, 0, 65_537, text)? as u64;
     Ok(Head {
         caller,
         serial,
@@ -57,98 +55,68 @@ fn head(text: &mut Cursor) -> Result<Head, ReportRefusal>
     })
 }
 
-/// Takes a plan and its head.
-#[tactic(auto, unfolding(crate::specs::ReadingReport::planned_at))]
-fn planned(
-    alloc: Global,
-    context: &Context,
-    pool: &[CutLine],
-    text: &mut Cursor,
-) -> Result<Outcome, ReportRefusal>
-    requires { length pool.now < 2 ^ 32 }
-    ensures { ReadsAs (λ o. o) result (left text.new) (planned_at (known_in context.now) pool.now (left text.old)) }
-{
-    opening(text)?;
-    let head = head(text)?;
-    let plan = plan(alloc, context, pool, head, text)?;
-    closing(text)?;
-    Ok(Outcome::Planned {
-        caller: head.caller,
-        serial: head.serial,
-        plan,
-    })
-}
-
-/// Takes the state and the demand for which there is no plan, and the closing parenthesis.
-#[tactic(auto, unfolding(crate::specs::ReadingReport::separated_at))]
-fn separated(
-    alloc: Global,
-    context: &Context,
-    head: Head,
-    text: &mut Cursor,
-) -> Result<Outcome, ReportRefusal>
-    ensures { ReadsAs (λ o. o) result (left text.new) (separated_at context.now.states.now.listed head (left text.old)) }
-{
-    keyword(STATE, text)?;
-    let state = small(0, u128::from(context.states.count()), text)?;
-    state_name(context.states, state, text)?;
-    keyword(DEMAND, text)?;
-    let demand = name(alloc, text)?;
-    closing(text)?;
-    Ok(Outcome::Unsurvivable {
-        caller: head.caller,
-        serial: head.serial,
-        version: head.version,
-        position: head.position,
-        state: StateId(state),
-        demand,
-    })
-}
-
-/// Takes the head of a plan command that no plan answers, and why.
-#[tactic(auto, unfolding(crate::specs::ReadingReport::unsurvivable_at))]
-fn unsurvivable(
-    alloc: Global,
-    context: &Context,
-    text: &mut Cursor,
-) -> Result<Outcome, ReportRefusal>
-    ensures { ReadsAs (λ o. o) result (left text.new) (unsurvivable_at context.now.states.now.listed (left text.old)) }
-{
-    opening(text)?;
-    let head = head(text)?;
-    separated(alloc, context, head, text)
-}
-
-/// Takes an outcome after these ones.
-fn outcome(
-    alloc: Global,
-    context: &Context,
-    pool: &[CutLine],
-    sofar: &[Outcome],
-    text: &mut Cursor,
-) -> Result<Outcome, ReportRefusal>
-    requires { length pool.now < 2 ^ 32 }
-    ensures { ReadsAs (λ o. o) result (left text.new) (outcome_at (known_in context.now) pool.now sofar.now (left text.old)) }
-{
-    let (at, word) = word(ReportKind::Token, ReportKind::Ended, text)?;
-    if word != PLAN && word != UNSURVIVABLE {
-        return Err(bad(at, ReportKind::Token));
-    }
-    if sofar.len() >= MAX_OUTCOMES {
-        return Err(bad(at, ReportKind::Limit));
-    }
-    if word == PLAN {
-        return planned(alloc, context, pool, text);
-    }
-    unsurvivable(alloc, context, text)
-}
-
-/// The outcomes of a report.
+/// The outcomes of a report, whose certificates may name lines of this pool.
 #[derive(Clone, Copy)]
 struct OutcomeList<'a> {
     context: &'a Context<'a>,
     pool: &'a [CutLine],
     ghost few: { length pool.now < 2 ^ 32 },
+}
+
+impl<'a> OutcomeList<'a> {
+    /// Takes a plan and its head.
+    #[tactic(auto, unfolding(crate::specs::ReadingReport::planned_at))]
+    fn planned(&self, alloc: Global, text: &mut Cursor) -> Result<Outcome, ReportRefusal>
+        ensures { ReadsAs (λ o. o) result (left text.new) (planned_at (known_in self.now.context.now) self.now.pool.now (left text.old)) }
+    {
+        opening(text)?;
+        let head = head(text)?;
+        let plan = plan(alloc, self.context, self.pool, head, text)?;
+        if let Err(refusal) = closing(text) {
+            discard(plan);
+            return Err(refusal);
+        }
+        Ok(Outcome::Planned {
+            caller: head.caller,
+            serial: head.serial,
+            plan,
+        })
+    }
+
+    /// Takes the state and the demand for which there is no plan, and the closing parenthesis.
+    #[tactic(auto, unfolding(crate::specs::ReadingReport::separated_at))]
+    fn separated(
+        &self,
+        alloc: Global,
+        head: Head,
+        text: &mut Cursor,
+    ) -> Result<Outcome, ReportRefusal>
+        ensures { ReadsAs (λ o. o) result (left text.new) (separated_at (known_in self.now.context.now).listed head (left text.old)) }
+    {
+        let state = field(STATE, 0, u128::from(self.context.states.count()), text)? as u32;
+        state_name(self.context.states, state, text)?;
+        keyword(DEMAND, text)?;
+        let demand = name(alloc, text)?;
+        closing(text)?;
+        Ok(Outcome::Unsurvivable {
+            caller: head.caller,
+            serial: head.serial,
+            version: head.version,
+            position: head.position,
+            state: StateId(state),
+            demand,
+        })
+    }
+
+    /// Takes the head of a plan command that no plan answers, and why.
+    #[tactic(auto, unfolding(crate::specs::ReadingReport::unsurvivable_at))]
+    fn unsurvivable(&self, alloc: Global, text: &mut Cursor) -> Result<Outcome, ReportRefusal>
+        ensures { ReadsAs (λ o. o) result (left text.new) (unsurvivable_at (known_in self.now.context.now).listed (left text.old)) }
+    {
+        opening(text)?;
+        let head = head(text)?;
+        self.separated(alloc, head, text)
+    }
 }
 
 impl<'a> Element for OutcomeList<'a> {
@@ -168,7 +136,17 @@ impl<'a> Element for OutcomeList<'a> {
         sofar: &[Outcome],
         text: &mut Cursor,
     ) -> Result<Outcome, ReportRefusal> {
-        outcome(alloc, self.context, self.pool, sofar, text)
+        let (at, word) = word(ReportKind::Token, ReportKind::Ended, text)?;
+        if word != PLAN && word != UNSURVIVABLE {
+            return Err(bad(at, ReportKind::Token));
+        }
+        if sofar.len() >= MAX_OUTCOMES {
+            return Err(bad(at, ReportKind::Limit));
+        }
+        if word == PLAN {
+            return self.planned(alloc, text);
+        }
+        self.unsurvivable(alloc, text)
     }
 
     fn fault(&self, _all: &[Outcome]) -> Option<ReportKind> {

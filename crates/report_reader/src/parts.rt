@@ -1,5 +1,5 @@
-use net_core::{List, Routing};
-use plan_types::Quality;
+use net_core::{Counts, List, Routing};
+use plan_types::{Certificate, Quality};
 
 /// Whose plan command it was, its number among that caller's, both from 1, and for which version of the
 /// demands and which position in the journal.
@@ -26,4 +26,13 @@ pub struct Values {
 pub struct Routed {
     pub routings: List<Routing>,
     pub quality: Quality,
+}
+
+/// What a plan says after its demands.
+#[derive(Drop)]
+pub struct PlanParts {
+    pub values: Values,
+    pub counts: Counts,
+    pub certificate: Certificate,
+    pub routed: Routed,
 }

@@ -2,13 +2,14 @@ ghost use Rattle.std.specs.Prelude.{◌≡◌, ◌≤◌, IfOk, length};
 ghost use Rattle.snd_tokens.specs.Lexemes.{left};
 ghost use Rattle.text_kit.specs.Answers.{ReadsAs};
 ghost use Rattle.plan_report.specs.KnownNames.{known_of};
-ghost use Rattle.report_reader.specs.ReadingJournal.{pool_at, pool_cut_at, pool_line_at};
+ghost use Rattle.report_reader.specs.ReadingJournal.{pool_at, pool_cut_at};
 
 use net_core::{CutLine, List, Network, StateId, States};
 use report_words::element::{Element, list};
 use report_words::fault::{ReportKind, ReportRefusal};
+use report_words::field::field;
 use report_words::numbers::lengths;
-use report_words::words::{closing, keyword, number, opening_within, small, this};
+use report_words::words::{closing, opening_within, this};
 use snd_tokens::Cursor;
 use std::alloc::Global;
 
@@ -20,50 +21,29 @@ const MAX_LINES: usize = 4_096;
 
 const RIGHT_LIMIT: u128 = 1 << 84;
 
-/// Takes the state, the right side and the lengths of a cut, and the closing parenthesis.
-#[tactic(auto, unfolding(crate::specs::ReadingJournal::pool_cut_at))]
-fn pool_cut(
-    alloc: Global,
-    net: &Network,
-    states: &States,
-    text: &mut Cursor,
-) -> Result<CutLine, ReportRefusal>
-    ensures { ReadsAs (λ l. l) result (left text.new) (pool_cut_at (known_of net.now states.now) (left text.old)) }
-{
-    keyword(STATE, text)?;
-    let state = small(0, u128::from(states.count()), text)?;
-    keyword(RIGHT, text)?;
-    let right = number(0, RIGHT_LIMIT, text)?;
-    let lengths = lengths(alloc, net.links().len(), text)?;
-    closing(text)?;
-    Ok(CutLine {
-        state: StateId(state),
-        lengths,
-        right,
-    })
-}
-
-/// Takes a line of the pool after these ones.
-#[tactic(auto, unfolding(crate::specs::ReadingJournal::pool_line_at))]
-fn pool_line(
-    alloc: Global,
-    net: &Network,
-    states: &States,
-    sofar: &[CutLine],
-    text: &mut Cursor,
-) -> Result<CutLine, ReportRefusal>
-    ensures { ReadsAs (λ l. l) result (left text.new) (pool_line_at (known_of net.now states.now) sofar.now (left text.old)) }
-{
-    opening_within(sofar.len() < MAX_LINES, text)?;
-    this(sofar.len() as u64, text)?;
-    pool_cut(alloc, net, states, text)
-}
-
 /// Lines of the pool of a network and its states.
 #[derive(Clone, Copy)]
 struct LineList<'a> {
     net: &'a Network,
     states: &'a States,
+}
+
+impl<'a> LineList<'a> {
+    /// Takes the state, the right side and the lengths of a cut, and the closing parenthesis.
+    #[tactic(auto, unfolding(crate::specs::ReadingJournal::pool_cut_at))]
+    fn pool_cut(&self, alloc: Global, text: &mut Cursor) -> Result<CutLine, ReportRefusal>
+        ensures { ReadsAs (λ l. l) result (left text.new) (pool_cut_at (known_of self.now.net.now self.now.states.now) (left text.old)) }
+    {
+        let state = field(STATE, 0, u128::from(self.states.count()), text)? as u32;
+        let right = field(RIGHT, 0, RIGHT_LIMIT, text)?;
+        let lengths = lengths(alloc, self.net.links().len(), text)?;
+        closing(text)?;
+        Ok(CutLine {
+            state: StateId(state),
+            lengths,
+            right,
+        })
+    }
 }
 
 impl<'a> Element for LineList<'a> {
@@ -77,13 +57,16 @@ impl<'a> Element for LineList<'a> {
 
     ghost fault = { λ _. no_fault };
 
+    #[tactic(auto, unfolding(crate::specs::ReadingJournal::pool_line_at))]
     fn take(
         &self,
         alloc: Global,
         sofar: &[CutLine],
         text: &mut Cursor,
     ) -> Result<CutLine, ReportRefusal> {
-        pool_line(alloc, self.net, self.states, sofar, text)
+        opening_within(sofar.len() < MAX_LINES, text)?;
+        this(sofar.len() as u64, text)?;
+        self.pool_cut(alloc, text)
     }
 
     fn fault(&self, _all: &[CutLine]) -> Option<ReportKind> {

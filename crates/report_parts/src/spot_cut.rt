@@ -3,7 +3,7 @@ use plan_types::Spot;
 
 /// The cut of a certificate's line: where it stands, its state and its lengths.
 #[derive(Drop)]
-pub struct Placed {
+pub struct SpotCut {
     pub spot: Spot,
     pub state: StateId,
     pub lengths: Lengths,

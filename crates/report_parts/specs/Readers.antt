@@ -1,0 +1,19 @@
+-- What a reader of a plan finds names in.
+use Rattle.std.specs.Prelude.{List}
+use Rattle.net_core.specs.declared.demand.Demand.{Demand}
+use Rattle.net_core.specs.declared.network.Link.{Link}
+use Rattle.plan_report.specs.KnownNames.{KnownNames}
+use Rattle.report_parts.specs.declared.plan_reader.PlanReader.{PlanReader}
+use Rattle.report_words.specs.Contexts.{known_in}
+
+-- the names of the network and of its states
+abbrev pub reader_names : PlanReader → KnownNames
+reader_names r = known_in r.context.now
+
+-- the network's links
+abbrev pub reader_links : PlanReader → List Link
+reader_links r = r.context.now.net.now.links
+
+-- the demands of the plan
+abbrev pub reader_demands : PlanReader → List Demand
+reader_demands r = r.demands.now.list
