@@ -60,7 +60,10 @@ fn take_link_flow(
     text: &mut Cursor,
 ) -> Result<bool, FlowsRefusal>
     requires { length demands.now ≤ 2048 }
-    ensures turn { TakesElement result (link_flows_at (known_in context.now) demands.now all.old (left text.old)) (link_flows_at (known_in context.now) demands.now all.new (left text.new)) (Ok (all.new, left text.new)) }
+    ensures turn { TakesElement result
+        (link_flows_at (known_in context.now) demands.now all.old (left text.old))
+        (link_flows_at (known_in context.now) demands.now all.new (left text.new))
+        (Ok (all.new, left text.new)) }
     ensures shorter { IfOk result (λ more. IsTrue more → size (left text.new) < size (left text.old)) }
 {
     if let Some(_) = closes(text) {
@@ -122,7 +125,10 @@ fn take_state_flows(
     text: &mut Cursor,
 ) -> Result<bool, FlowsRefusal>
     requires { length demands.now ≤ 2048 }
-    ensures turn { TakesElement result (states_flows_at (known_in context.now) demands.now all.old (left text.old)) (states_flows_at (known_in context.now) demands.now all.new (left text.new)) (Ok (all.new, left text.new)) }
+    ensures turn { TakesElement result
+        (states_flows_at (known_in context.now) demands.now all.old (left text.old))
+        (states_flows_at (known_in context.now) demands.now all.new (left text.new))
+        (Ok (all.new, left text.new)) }
     ensures shorter { IfOk result (λ more. IsTrue more → size (left text.new) < size (left text.old)) }
 {
     if let Some(at) = closes(text) {

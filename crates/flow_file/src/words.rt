@@ -4,7 +4,7 @@ ghost use Rattle.snd_tokens.specs.Lexemes.{left};
 ghost use Rattle.plan_report.specs.Names.{state_name};
 ghost use Rattle.text_kit.specs.Answers.{ReadsAs};
 ghost use Rattle.text_kit.specs.Reading.{word_at};
-ghost use Rattle.report_words.specs.ReportWords.{demand_of, link_at, this_name_at, where_room};
+ghost use Rattle.report_words.specs.ReportWords.{demand_of, demand_within, link_at, this_name_at};
 ghost use Rattle.flow_file.specs.FlowKinds.{told_at};
 ghost use Rattle.flow_file.specs.FlowReading.{end_of, flow_amount, flow_demand_at, section_word_at};
 
@@ -75,7 +75,7 @@ fn demand_of(demands: &[Demand], word: &[u8]) -> Result<u32, ReportKind>
 /// Takes the name of a demand, where there is room for what it begins.
 fn demand_within(demands: &[Demand], room: bool, text: &mut Cursor) -> Result<u32, ReportRefusal>
     requires { length demands.now ≤ 2048 }
-    ensures { ReadsAs (λ k. k) result (left text.new) (word_at ReportKind.Token ReportKind.Ended (λ w. where_room room (demand_of demands.now w)) (left text.old)) }
+    ensures { ReadsAs (λ k. k) result (left text.new) (demand_within room demands.now (left text.old)) }
 {
     let (at, word) = word(ReportKind::Token, ReportKind::Ended, text)?;
     match demand_of(demands, word) {
@@ -139,7 +139,8 @@ pub(crate) fn flow_from(
     link: LinkId,
     text: &mut Cursor,
 ) -> Result<NodeId, FlowsRefusal>
-    ensures { ReadsAs (λ n. n) result (left text.new) (word_at FlowsKind.Token FlowsKind.Ended (end_of context.now.net.now.nodes (slice_get context.now.net.now.links link.0)) (left text.old)) }
+    ensures { let net = context.now.net.now in
+        ReadsAs (λ n. n) result (left text.new) (word_at FlowsKind.Token FlowsKind.Ended (end_of net.nodes (slice_get net.links link.0)) (left text.old)) }
 {
     let (at, word) = word(FlowsKind::Token, FlowsKind::Ended, text)?;
     placed(at, end_of(context, link, word))
