@@ -283,64 +283,55 @@ fn each_ends(alloc: Global, front: &[u8], rows: &[Row], kind: &str) -> bool {
     true
 }
 
-#[test]
-fn ranges_of_the_journal_and_the_pool_end_at_their_last_numbers(rt: HostRuntime) {
-    assert!(rt; each_ends(rt.alloc(), JOURNAL, &IN_JOURNAL, "limit"));
-    assert!(rt; each_ends(rt.alloc(), POOL, &IN_POOL, "limit"));
-}
+/// What the texts of some rows begin with, these rows, and the kind of what is past each last number.
+type Ranges = (&'static [u8], &'static [Row], &'static str);
+
+/// The ranges of what may be one too many.
+const RANGES: [Ranges; 8] = [
+    (JOURNAL, &IN_JOURNAL, "limit"),
+    (POOL, &IN_POOL, "limit"),
+    (OUTCOMES, &IN_OUTCOMES, "limit"),
+    (DEMANDS, &IN_DEMANDS, "limit"),
+    (MODULES, &IN_MODULES, "limit"),
+    (CERTIFICATE, &IN_CERTIFICATE, "limit"),
+    (ROUTES, &IN_ROUTES, "limit"),
+    (QUALITY, &IN_QUALITY, "limit"),
+];
+
+/// The ranges of notations.
+const NOTATIONS: [Ranges; 3] = [
+    (JOURNAL, &LARGE_IN_JOURNAL, "number-large"),
+    (DEMANDS, &LARGE_IN_DEMANDS, "number-large"),
+    (QUALITY, &LARGE_IN_QUALITY, "number-large"),
+];
+
+/// The ranges of amounts and money with six places.
+const FINE_RANGES: [Ranges; 4] = [
+    (FINE_JOURNAL, &FINE_IN_JOURNAL, "limit"),
+    (FINE_JOURNAL, &LARGE_FINE_IN_JOURNAL, "number-large"),
+    (FINE_DEMANDS, &LARGE_FINE_IN_DEMANDS, "number-large"),
+    (FINE_DEMANDS, &TOO_FINE_IN_DEMANDS, "number-fine"),
+];
 
 #[test]
-fn ranges_of_outcomes_end_at_their_last_numbers(rt: HostRuntime) {
-    assert!(rt; each_ends(rt.alloc(), OUTCOMES, &IN_OUTCOMES, "limit"));
-    assert!(rt; each_ends(rt.alloc(), DEMANDS, &IN_DEMANDS, "limit"));
-    assert!(rt; each_ends(rt.alloc(), MODULES, &IN_MODULES, "limit"));
-}
-
-#[test]
-fn ranges_of_certificates_and_routes_end_at_their_last_numbers(rt: HostRuntime) {
-    assert!(rt; each_ends(rt.alloc(), CERTIFICATE, &IN_CERTIFICATE, "limit"));
-    assert!(rt; each_ends(rt.alloc(), ROUTES, &IN_ROUTES, "limit"));
-}
-
-#[test]
-fn ranges_of_what_a_plan_says_of_its_bound_end_at_their_last_numbers(rt: HostRuntime) {
-    assert!(rt; each_ends(rt.alloc(), QUALITY, &IN_QUALITY, "limit"));
+fn ranges_end_at_their_last_numbers(rt: HostRuntime) {
+    for (front, rows, kind) in &RANGES {
+        assert!(rt; each_ends(rt.alloc(), front, rows, kind));
+    }
 }
 
 #[test]
 fn notations_end_at_their_last_numbers(rt: HostRuntime) {
-    assert!(rt; each_ends(rt.alloc(), JOURNAL, &LARGE_IN_JOURNAL, "number-large"));
-    assert!(rt; each_ends(rt.alloc(), DEMANDS, &LARGE_IN_DEMANDS, "number-large"));
-    assert!(rt; each_ends(rt.alloc(), QUALITY, &LARGE_IN_QUALITY, "number-large"));
+    for (front, rows, kind) in &NOTATIONS {
+        assert!(rt; each_ends(rt.alloc(), front, rows, kind));
+    }
 }
 
 #[test]
 fn six_places_end_at_the_same_units(rt: HostRuntime) {
-    assert!(rt; each_ends(rt.alloc(), FINE_JOURNAL, &FINE_IN_JOURNAL, "limit"));
-    assert!(rt;
-        each_ends(
-            rt.alloc(),
-            FINE_JOURNAL,
-            &LARGE_FINE_IN_JOURNAL,
-            "number-large"
-        )
-    );
-    assert!(rt;
-        each_ends(
-            rt.alloc(),
-            FINE_DEMANDS,
-            &LARGE_FINE_IN_DEMANDS,
-            "number-large"
-        )
-    );
-    assert!(rt;
-        each_ends(
-            rt.alloc(),
-            FINE_DEMANDS,
-            &TOO_FINE_IN_DEMANDS,
-            "number-fine"
-        )
-    );
+    for (front, rows, kind) in &FINE_RANGES {
+        assert!(rt; each_ends(rt.alloc(), front, rows, kind));
+    }
 }
 
 /// What stands before a list in two parts, the last count of its elements, what stands before and after the number of an element, which
