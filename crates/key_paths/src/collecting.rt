@@ -8,9 +8,8 @@ ghost use Rattle.key_paths.specs.inner.Gaining.{cost_at, AreLinkCosts, AreOffers
 
 use crate::carrier::Carrier;
 use crate::pricing::{gains, is_cheap};
-use crate::task::Task;
 use key_rows::Keyed;
-use net_core::{Demand, List, NoMemory};
+use net_core::{Demand, List, NoMemory, RouteTask};
 use short_paths::{CheapestPaths, PathFault, PricedPath};
 use std::alloc::Global;
 
@@ -27,7 +26,7 @@ fn pop(waiting: &mut List<Carrier>) -> Option<Carrier>
 }
 
 /// Whether a path still gains.
-fn still_gains(task: &Task, keyed: &Keyed, c: &Carrier) -> bool
+fn still_gains(task: &RouteTask, keyed: &Keyed, c: &Carrier) -> bool
     requires links { length keyed.now.prices.nums ≡ length task.now.graph.net.now.links }
     requires demands { length keyed.now.duals ≡ length task.now.demands.now }
     requires carrier { IsCarrier (graph_of task.now.graph) task.now.demands.now c.now }
@@ -37,7 +36,7 @@ fn still_gains(task: &Task, keyed: &Keyed, c: &Carrier) -> bool
 }
 
 /// The last of the paths that wait which still gains; those after it are dropped.
-fn next_gaining(task: &Task, keyed: &Keyed, waiting: &mut List<Carrier>) -> Option<Carrier>
+fn next_gaining(task: &RouteTask, keyed: &Keyed, waiting: &mut List<Carrier>) -> Option<Carrier>
     requires links { length keyed.now.prices.nums ≡ length task.now.graph.net.now.links }
     requires demands { length keyed.now.duals ≡ length task.now.demands.now }
     requires carriers { All (IsCarrier (graph_of task.now.graph) task.now.demands.now) waiting.old }
@@ -109,7 +108,7 @@ fn link_prices(alloc: Global, keyed: &Keyed) -> Result<List<u64>, NoMemory>
 /// The cheapest path of each demand whose flow gains.
 fn offers_of(
     alloc: Global,
-    task: &Task,
+    task: &RouteTask,
     keyed: &Keyed,
     paths: &CheapestPaths,
 ) -> Result<List<Carrier>, NoMemory>
@@ -128,7 +127,7 @@ fn offers_of(
 }
 
 /// The same, with the searches. It takes one search from each node.
-fn collect(alloc: Global, task: &Task, keyed: &Keyed) -> Result<List<Carrier>, NoMemory>
+fn collect(alloc: Global, task: &RouteTask, keyed: &Keyed) -> Result<List<Carrier>, NoMemory>
     requires links { length keyed.now.prices.nums ≡ length task.now.graph.net.now.links }
     requires demands { length keyed.now.duals ≡ length task.now.demands.now }
     requires positive { (e : ℕ) → e < length keyed.now.prices.nums → pos 0 ≤ℤ num keyed.now.prices.nums e }
@@ -142,7 +141,7 @@ fn collect(alloc: Global, task: &Task, keyed: &Keyed) -> Result<List<Carrier>, N
 /// A path whose flow gains: one of those that wait, or of those that the searches find under these prices.
 pub(crate) fn find(
     alloc: Global,
-    task: &Task,
+    task: &RouteTask,
     keyed: &Keyed,
     waiting: &mut List<Carrier>,
 ) -> Result<Option<Carrier>, NoMemory>

@@ -3,8 +3,7 @@ ghost use Rattle.net_core.specs.Views.{graph_of};
 ghost use Rattle.key_paths.specs.inner.Gaining.{IsCarried, IsCarrier};
 
 use crate::carrier::Carrier;
-use crate::task::Task;
-use net_core::{Copied, LinkId, List, NoMemory, Path, RouteColumn};
+use net_core::{Copied, LinkId, List, NoMemory, Path, RouteColumn, RouteTask};
 use short_paths::is_path;
 use std::alloc::Global;
 
@@ -16,7 +15,7 @@ fn are_links(path: &[LinkId], links: usize) -> bool
 }
 
 /// Whether a path is one of a demand that has a need. `seen` is room for a mark of each node.
-fn carries(task: &Task, demand: u32, path: &[LinkId], seen: &mut [bool]) -> bool
+fn carries(task: &RouteTask, demand: u32, path: &[LinkId], seen: &mut [bool]) -> bool
     requires { length seen.old ≡ length task.now.graph.net.now.nodes }
     ensures { IsTrue result → IsCarried (graph_of task.now.graph) task.now.demands.now demand path.now }
 {
@@ -29,7 +28,7 @@ fn carries(task: &Task, demand: u32, path: &[LinkId], seen: &mut [bool]) -> bool
 }
 
 /// The same with room in a list.
-fn carries_by(task: &Task, demand: u32, path: &Path, seen: &mut List<bool>) -> bool
+fn carries_by(task: &RouteTask, demand: u32, path: &Path, seen: &mut List<bool>) -> bool
     requires { length seen.old ≡ length task.now.graph.net.now.nodes }
     ensures size { length seen.new ≡ length task.now.graph.net.now.nodes }
     ensures carried { IsTrue result → IsCarried (graph_of task.now.graph) task.now.demands.now demand path.now }
@@ -39,7 +38,7 @@ fn carries_by(task: &Task, demand: u32, path: &Path, seen: &mut List<bool>) -> b
 
 /// A column comes to the carriers if it is a path of one of the demands.
 fn offer_known(
-    task: &Task,
+    task: &RouteTask,
     column: &RouteColumn,
     seen: &mut List<bool>,
     waiting: &mut List<Carrier>,
@@ -63,7 +62,7 @@ fn offer_known(
 /// Those columns that are paths of the demands in their state, whatever the others are.
 pub(crate) fn known_carriers(
     alloc: Global,
-    task: &Task,
+    task: &RouteTask,
     known: &[RouteColumn],
 ) -> Result<List<Carrier>, NoMemory>
     ensures { IfOk result (All (IsCarrier (graph_of task.now.graph) task.now.demands.now)) }

@@ -16,12 +16,10 @@ mod numbers;
 mod pricing;
 mod solver;
 mod start;
-mod task;
 mod turn_at_key;
 mod turn_key;
 mod turn_rows;
 mod turns;
 
 pub use numbers::{bound_of, rows_of, slack_names, slack_of};
-pub use solver::{solve_routes, solve_routes_from};
-pub use task::Task;
+pub use solver::{solve_routes, solve_task};

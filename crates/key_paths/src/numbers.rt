@@ -4,26 +4,25 @@ ghost use Rattle.net_core.specs.Views.{graph_of};
 ghost use Rattle.simplex_core.specs.inner.Shapes.{AtEach};
 ghost use Rattle.route_law.specs.RoutingPrograms.{route_rows, route_bound, route_slack};
 
-use crate::task::Task;
-use net_core::{Demand, LinkId, List, NoMemory, RouteColumn};
+use net_core::{Demand, LinkId, List, NoMemory, RouteColumn, RouteTask};
 use std::alloc::Global;
 
 /// How many links there are.
-pub(crate) fn links_of(task: &Task) -> u32
+pub(crate) fn links_of(task: &RouteTask) -> u32
     ensures { result ≡ length task.now.graph.net.now.links }
 {
     task.graph.net.links().len() as u32
 }
 
 /// How many rows the routing program has: one for each link, and one for each demand.
-pub fn rows_of(task: &Task) -> u32
+pub fn rows_of(task: &RouteTask) -> u32
     ensures { result ≡ route_rows (graph_of task.now.graph) task.now.demands.now }
 {
     (task.graph.net.links().len() + task.demands.len()) as u32
 }
 
 /// The name of a row's slack.
-pub fn slack_of(task: &Task, row: u32) -> RouteColumn
+pub fn slack_of(task: &RouteTask, row: u32) -> RouteColumn
     ensures { result ≡ route_slack (graph_of task.now.graph) row }
 {
     let links = task.graph.net.links().len() as u32;
@@ -42,7 +41,7 @@ fn need_over(d: &Demand, scale: u64) -> u128
 }
 
 /// The bound of a row: the number of a link, or what a demand needs over the scale.
-pub fn bound_of(task: &Task, row: u32) -> u128
+pub fn bound_of(task: &RouteTask, row: u32) -> u128
     requires { row < route_rows (graph_of task.now.graph) task.now.demands.now }
     ensures { route_bound (graph_of task.now.graph) task.now.demands.now task.now.caps.now row ≡ pos result }
 {
@@ -58,7 +57,7 @@ pub fn bound_of(task: &Task, row: u32) -> u128
 }
 
 /// The same bound in one word, where it is narrow.
-fn narrow_bound(task: &Task, row: u32) -> i64
+fn narrow_bound(task: &RouteTask, row: u32) -> i64
     requires row { row < route_rows (graph_of task.now.graph) task.now.demands.now }
     requires narrow { IsNarrow (route_bound (graph_of task.now.graph) task.now.demands.now task.now.caps.now row) }
     ensures value { result ≡ route_bound (graph_of task.now.graph) task.now.demands.now task.now.caps.now row }
@@ -68,7 +67,7 @@ fn narrow_bound(task: &Task, row: u32) -> i64
 }
 
 /// The names of all slacks, in the order of their rows.
-pub fn slack_names(alloc: Global, task: &Task) -> Result<List<RouteColumn>, NoMemory>
+pub fn slack_names(alloc: Global, task: &RouteTask) -> Result<List<RouteColumn>, NoMemory>
     ensures count { IfOk result (λ names. length names ≡ route_rows (graph_of task.now.graph) task.now.demands.now) }
     ensures names { IfOk result (AtEach (λ i name. name ≡ route_slack (graph_of task.now.graph) i)) }
 {
@@ -80,7 +79,7 @@ pub fn slack_names(alloc: Global, task: &Task) -> Result<List<RouteColumn>, NoMe
 }
 
 /// The bounds of all rows.
-pub(crate) fn bounds_of(alloc: Global, task: &Task) -> Result<List<i64>, NoMemory>
+pub(crate) fn bounds_of(alloc: Global, task: &RouteTask) -> Result<List<i64>, NoMemory>
     requires { (k : ℕ) → k < route_rows (graph_of task.now.graph) task.now.demands.now → IsNarrow (route_bound (graph_of task.now.graph) task.now.demands.now task.now.caps.now k) }
     ensures count { IfOk result (λ bounds. length bounds ≡ route_rows (graph_of task.now.graph) task.now.demands.now) }
     ensures bounds { IfOk result (AtEach (λ i b. b ≡ route_bound (graph_of task.now.graph) task.now.demands.now task.now.caps.now i)) }

@@ -7,10 +7,9 @@ ghost use Rattle.key_paths.specs.inner.Gaining.{cost_at, IsCarrier, IsGaining, N
 
 use crate::carrier::Carrier;
 use crate::collecting::find;
-use crate::task::Task;
 use checked_fraction::first_negative;
 use key_rows::{Keyed, path_sum};
-use net_core::{LinkId, List, NoMemory, RouteColumn};
+use net_core::{LinkId, List, NoMemory, RouteColumn, RouteTask};
 use std::alloc::Global;
 
 /// `a - b`.
@@ -59,7 +58,7 @@ pub(crate) fn gains(keyed: &Keyed, demand: u32, path: &[LinkId]) -> bool
 /// It takes a search from each node where no slack gains and none of the paths that wait does.
 pub(crate) fn price(
     alloc: Global,
-    task: &Task,
+    task: &RouteTask,
     keyed: &Keyed,
     waiting: &mut List<Carrier>,
 ) -> Result<Option<RouteColumn>, NoMemory>

@@ -15,10 +15,11 @@ use crate::known::known_carriers;
 use crate::numbers::links_of;
 use crate::pricing::price;
 use crate::start::{room_of, slack_keyed};
-use crate::task::Task;
 use crate::turns::Turn;
 use key_rows::{Keyed, Room};
-use net_core::{Caps, Demands, List, Network, RouteColumn, StateId, States, Surviving, WideKind};
+use net_core::{
+    Caps, Demands, List, Network, RouteColumn, RouteTask, StateId, States, Surviving, WideKind,
+};
 use simplex_core::{Optimum, SimplexFault};
 use std::alloc::Global;
 
@@ -35,7 +36,7 @@ fn stopped(keyed: Keyed, kind: WideKind<RouteColumn>) -> SimplexFault<RouteColum
 /// An optimum of the program, or a basis on which a number is too wide, by turns from the slack basis on.
 fn solved(
     alloc: Global,
-    task: &Task,
+    task: &RouteTask,
     mut keyed: Keyed,
     room: &mut Room,
     waiting: &mut List<Carrier>,
@@ -58,42 +59,32 @@ fn solved(
     }
 }
 
-/// The same as `solve_routes`, with paths at hand: those of `known` that are paths of the demands in this state enter first, as
-/// long as they gain. The columns of an optimum at other capacities save most of the searches. Any other column is passed over.
-pub fn solve_routes_from<'a>(
-    alloc: Global,
-    net: &'a Network,
-    states: &'a States,
-    state: StateId,
-    demands: &'a Demands,
-    caps: &'a Caps,
-    known: &[RouteColumn],
-) -> Result<Optimum<RouteColumn>, SimplexFault<RouteColumn>>
-    requires state { state.0 < length states.now.listed + 1 }
-    requires belong { AreDemands (length net.now.nodes) demands.now }
-    requires count { length caps.now.nums ≡ length net.now.links }
-    requires narrow { (k : ℕ) → k < route_rows (graph net.now states.now state.0) demands.now → IsNarrow (route_bound (graph net.now states.now state.0) demands.now caps.now k) }
-    ensures { IsSimplexAnswer (route_rows (graph net.now states.now state.0) demands.now) (route_bound (graph net.now states.now state.0) demands.now caps.now) (route_slack (graph net.now states.now state.0)) (IsCarrying (graph net.now states.now state.0) demands.now) result }
-{
-    let task = Task {
-        graph: Surviving { net, states, state },
-        demands,
-        caps,
-    };
-    let mut waiting = known_carriers(alloc, &task, known)?;
-    let mut room = room_of(alloc, links_of(&task))?;
-    let keyed = slack_keyed(alloc, &task)?;
-    solved(alloc, &task, keyed, &mut room, &mut waiting)
-}
-
-/// An optimum of the program that routes the demands of a state within capacities, or a basis of it, reached by
-/// gaining steps, on which a number is too wide.
+/// An optimum of the program that routes the demands of a task, or a basis of it, reached by gaining steps, on which a number is too
+/// wide.
+///
+/// The paths of `known` that are paths of the demands in this state enter first, as long as they gain. The columns of an optimum at
+/// other capacities save most of the searches. Any other column is passed over.
 ///
 /// A basis keeps as many rows as there are links. A turn takes time that grows with the square of the count of links, and
-/// a search from each node where no path at hand gains.
+/// a search from each node where no known path gains.
 ///
 /// The triangle AB, BC, AC with 10.00, 2.00 and 6.00 carries 8.00 of a demand of 12.00 from A to C. The prices of BC
 /// and AC are 1.
+pub fn solve_task(
+    alloc: Global,
+    task: &RouteTask,
+    known: &[RouteColumn],
+) -> Result<Optimum<RouteColumn>, SimplexFault<RouteColumn>>
+    requires { (k : ℕ) → k < route_rows (graph_of task.now.graph) task.now.demands.now → IsNarrow (route_bound (graph_of task.now.graph) task.now.demands.now task.now.caps.now k) }
+    ensures { IsSimplexAnswer (route_rows (graph_of task.now.graph) task.now.demands.now) (route_bound (graph_of task.now.graph) task.now.demands.now task.now.caps.now) (route_slack (graph_of task.now.graph)) (IsCarrying (graph_of task.now.graph) task.now.demands.now) result }
+{
+    let mut waiting = known_carriers(alloc, task, known)?;
+    let mut room = room_of(alloc, links_of(task))?;
+    let keyed = slack_keyed(alloc, task)?;
+    solved(alloc, task, keyed, &mut room, &mut waiting)
+}
+
+/// `solve_task` for demands within capacities in a state, with no known paths.
 pub fn solve_routes<'a>(
     alloc: Global,
     net: &'a Network,
@@ -108,5 +99,10 @@ pub fn solve_routes<'a>(
     requires narrow { (k : ℕ) → k < route_rows (graph net.now states.now state.0) demands.now → IsNarrow (route_bound (graph net.now states.now state.0) demands.now caps.now k) }
     ensures { IsSimplexAnswer (route_rows (graph net.now states.now state.0) demands.now) (route_bound (graph net.now states.now state.0) demands.now caps.now) (route_slack (graph net.now states.now state.0)) (IsCarrying (graph net.now states.now state.0) demands.now) result }
 {
-    solve_routes_from(alloc, net, states, state, demands, caps, &[])
+    let task = RouteTask {
+        graph: Surviving { net, states, state },
+        demands,
+        caps,
+    };
+    solve_task(alloc, &task, &[])
 }

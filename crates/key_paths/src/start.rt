@@ -8,10 +8,9 @@ ghost use Rattle.key_rows.specs.Bases.{IsRoom};
 ghost use Rattle.key_rows.specs.KeyRows.{amounts};
 
 use crate::numbers::{bounds_of, counted, links_of, rows_of, slack_names};
-use crate::task::Task;
 use checked_fraction::Row;
 use key_rows::{Keyed, Room, widen};
-use net_core::{List, NoMemory, RouteColumn};
+use net_core::{List, NoMemory, RouteColumn, RouteTask};
 use simplex_core::basis::{unit_rows, zero_row};
 use std::alloc::Global;
 
@@ -53,7 +52,7 @@ fn start_values(alloc: Global, bounds: &[i64], links: u32) -> Result<List<u128>,
 /// The names of the slacks, their places, for each link's row that no demand owns it, and the prices of the demands, which are none.
 fn slack_places(
     alloc: Global,
-    task: &Task,
+    task: &RouteTask,
     rows: u32,
 ) -> Result<(List<RouteColumn>, List<u32>, List<u32>, List<i64>), NoMemory>
     requires { rows ≡ route_rows (graph_of task.now.graph) task.now.demands.now }
@@ -104,7 +103,7 @@ fn slack_amounts(
 }
 
 /// The slack basis, in which the slack of each demand is its key.
-pub(crate) fn slack_keyed(alloc: Global, task: &Task) -> Result<Keyed, NoMemory>
+pub(crate) fn slack_keyed(alloc: Global, task: &RouteTask) -> Result<Keyed, NoMemory>
     requires { (k : ℕ) → k < route_rows (graph_of task.now.graph) task.now.demands.now → IsNarrow (route_bound (graph_of task.now.graph) task.now.demands.now task.now.caps.now k) }
     ensures { IfOk result (IsStart (length task.now.graph.net.now.links) (length task.now.demands.now) (route_bound (graph_of task.now.graph) task.now.demands.now task.now.caps.now) (route_slack (graph_of task.now.graph))) }
 {
