@@ -1,16 +1,15 @@
-ghost use Rattle.std.specs.Prelude.{◌≡◌, ◌≤◌, ◌<◌, All, IfOk, IfSome, cond, length, true};
+ghost use Rattle.std.specs.Prelude.{◌≡◌, ◌<◌, All, IfOk, IfSome, cond, true};
 ghost use Rattle.net_core.specs.Views.{graph_of};
 ghost use Rattle.plan_terms.specs.Keeping.{Keeps};
-ghost use Rattle.metric_cut.specs.Bounded.{HaveBound};
 ghost use Rattle.metric_cut.specs.Cuts.{IsCutOf};
 ghost use Rattle.node_sets.specs.Boundaries.{IsBoundaryCut, IsViolatedAt, boundary_lengths, crosses_boundary};
 ghost use Rattle.node_sets.specs.inner.Members.{is_in};
+ghost use Rattle.node_sets.specs.inner.NarrowCaps.{AreNarrow};
 
 use crate::deepest::Deepest;
 use crate::node_set::NodeSet;
-use crate::task::Task;
-use metric_cut::{Cut, CutFault, violated_by};
-use net_core::{Copied, CutLine, Lengths, Link, List, NoMemory};
+use metric_cut::{Cut, violated_by};
+use net_core::{Copied, CutLine, Lengths, Link, List, NoMemory, RouteTask};
 use std::alloc::Global;
 
 /// 1 for a link that crosses the boundary of a set, and 0 for another.
@@ -35,8 +34,9 @@ fn lengths_of(alloc: Global, set: NodeSet, links: &[Link]) -> Result<Lengths, No
 }
 
 /// Whether the capacities violate a cut by its right side at the demands.
-fn is_violated(task: &Task, cut: &Cut) -> Result<bool, NoMemory>
-    requires { IsCutOf (graph_of task.now.graph) cut.now }
+fn is_violated(task: &RouteTask, cut: &Cut) -> Result<bool, NoMemory>
+    requires narrow { AreNarrow task.now.caps.now }
+    requires cut { IsCutOf (graph_of task.now.graph) cut.now }
     ensures { IfOk result (λ b. b ≡ true → IsViolatedAt (graph_of task.now.graph) task.now.demands.now task.now.caps.now cut.now) }
 {
     let line = CutLine {
@@ -48,11 +48,10 @@ fn is_violated(task: &Task, cut: &Cut) -> Result<bool, NoMemory>
 }
 
 /// The cut of what the state keeps of a set's boundary, where the capacities violate it.
-fn if_violated(task: &Task, set: NodeSet, cut: Cut) -> Result<Option<Cut>, NoMemory>
-    requires few { length task.now.graph.net.now.links ≤ 256 }
+fn if_violated(task: &RouteTask, set: NodeSet, cut: Cut) -> Result<Option<Cut>, NoMemory>
+    requires narrow { AreNarrow task.now.caps.now }
     requires of { IsCutOf (graph_of task.now.graph) cut }
     requires keeps { Keeps (graph_of task.now.graph) (boundary_lengths (is_in set) task.now.graph.net.now.links) cut.lengths }
-    requires bound { HaveBound task.now.graph.net.now.links cut.lengths }
     ensures { IfOk result (λ o. IfSome o (IsBoundaryCut (graph_of task.now.graph) task.now.demands.now task.now.caps.now)) }
 {
     if is_violated(task, &cut)? {
@@ -63,24 +62,26 @@ fn if_violated(task: &Task, set: NodeSet, cut: Cut) -> Result<Option<Cut>, NoMem
 }
 
 /// The cut of a set's boundary, where the capacities violate it.
-fn boundary_cut(alloc: Global, task: &Task, set: NodeSet) -> Result<Option<Cut>, NoMemory>
+fn boundary_cut(alloc: Global, task: &RouteTask, set: NodeSet) -> Result<Option<Cut>, NoMemory>
+    requires { AreNarrow task.now.caps.now }
     ensures { IfOk result (λ o. IfSome o (IsBoundaryCut (graph_of task.now.graph) task.now.demands.now task.now.caps.now)) }
 {
     let graph = &task.graph;
     let lengths = lengths_of(alloc, set, graph.net.links().items())?;
-    match Cut::new(alloc, graph.net, graph.states, graph.state, lengths) {
-        Ok(cut) => if_violated(task, set, cut),
-        Err(CutFault::NoMemory) => Err(NoMemory),
-        Err(_) => Ok(None),
+    let found = Cut::in_graph(alloc, graph, lengths)?;
+    match found {
+        Some(cut) => if_violated(task, set, cut),
+        None => Ok(None),
     }
 }
 
 /// The cut of the set that is chosen.
 pub(crate) fn cut_of_chosen(
     alloc: Global,
-    task: &Task,
+    task: &RouteTask,
     deepest: &Deepest,
 ) -> Result<Option<Cut>, NoMemory>
+    requires { AreNarrow task.now.caps.now }
     ensures { IfOk result (λ o. IfSome o (IsBoundaryCut (graph_of task.now.graph) task.now.demands.now task.now.caps.now)) }
 {
     match deepest.choose(task) {

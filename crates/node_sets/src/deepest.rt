@@ -2,8 +2,7 @@ ghost use Rattle.std.specs.Prelude.{◌≤◌, length};
 
 use crate::crossing::Crossing;
 use crate::node_set::NodeSet;
-use crate::task::Task;
-use net_core::{LinkId, NoMemory};
+use net_core::{LinkId, NoMemory, RouteTask};
 use std::alloc::Global;
 
 /// How many sets are kept.
@@ -66,14 +65,14 @@ impl Deepest {
     }
 
     /// The first set whose boundary a failed link crosses, and the first of all where there is none.
-    pub(crate) fn choose(&self, task: &Task) -> Option<NodeSet> {
+    pub(crate) fn choose(&self, task: &RouteTask) -> Option<NodeSet> {
         let crossed = self.found.iter().find(|f| crosses_failed(task, f.set));
         crossed.or(self.found.first()).map(|f| f.set)
     }
 }
 
 /// Whether the state fails a link that crosses the boundary of a set.
-fn crosses_failed(task: &Task, set: NodeSet) -> bool {
+fn crosses_failed(task: &RouteTask, set: NodeSet) -> bool {
     let graph = &task.graph;
     let links = graph.net.links().items();
     for e in 0..links.len() {

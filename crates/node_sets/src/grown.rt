@@ -1,5 +1,4 @@
-ghost use Rattle.std.specs.Prelude.{◌≡◌, ◌<◌, IfOk, IfSome, length};
-ghost use Rattle.net_core.specs.Demands.{AreDemands};
+ghost use Rattle.std.specs.Prelude.{◌≡◌, ◌<◌, IfOk, IfSome};
 ghost use Rattle.net_core.specs.Views.{graph_of};
 ghost use Rattle.node_sets.specs.Boundaries.{IsBoundaryCut};
 
@@ -8,9 +7,8 @@ use crate::deepest::Deepest;
 use crate::growth::Growth;
 use crate::narrow::are_narrow;
 use crate::pair_table::PairTable;
-use crate::task::Task;
 use metric_cut::Cut;
-use net_core::{Caps, Demands, NoMemory, NodeId, Surviving};
+use net_core::{NoMemory, NodeId, RouteTask};
 use std::alloc::Global;
 
 /// The node beside a set with which the boundary has least capacity for each unit of demand.
@@ -67,29 +65,17 @@ fn grow_from(
 /// C alone: the lengths 0, 1, 1 with the right side 12000 and the capacity 11999. With 2.000 on BC there is none.
 ///
 /// It takes time in the cube of the nodes, and 32 bytes times their square.
-pub fn grown_set<'a>(
-    alloc: Global,
-    graph: &Surviving<'a>,
-    demands: &'a Demands,
-    caps: &'a Caps,
-) -> Result<Option<Cut>, NoMemory>
-    requires demands { AreDemands (length graph.now.net.now.nodes) demands.now }
-    requires scale { 0 < caps.now.scale }
-    requires caps { length caps.now.nums ≡ length graph.now.net.now.links }
-    ensures { IfOk result (λ o. IfSome o (IsBoundaryCut (graph_of graph.now) demands.now caps.now)) }
+pub fn grown_set(alloc: Global, task: &RouteTask) -> Result<Option<Cut>, NoMemory>
+    requires { 0 < task.now.caps.now.scale }
+    ensures { IfOk result (λ o. IfSome o (IsBoundaryCut (graph_of task.now.graph) task.now.demands.now task.now.caps.now)) }
 {
-    if !are_narrow(demands.items(), caps) {
+    if !are_narrow(task) {
         return Ok(None);
     }
-    let task = Task {
-        graph: *graph,
-        demands,
-        caps,
-    };
-    let table = PairTable::new(alloc, &task)?;
-    let mut deepest = Deepest::new(alloc, table.nodes(), caps.scale);
+    let table = PairTable::new(alloc, task)?;
+    let mut deepest = Deepest::new(alloc, table.nodes(), task.caps.scale);
     for k in 0..table.nodes() {
         grow_from(alloc, &table, NodeId(k), &mut deepest)?;
     }
-    cut_of_chosen(alloc, &task, &deepest)
+    cut_of_chosen(alloc, task, &deepest)
 }

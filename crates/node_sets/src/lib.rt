@@ -2,8 +2,8 @@
 //!
 //! ```text
 //! // the triangle AB, BC, AC with 6.000, 1.999 and 10.000, and demands of 12.000 from A to C and 4.000 from A to B
-//! let cut = grown_set(alloc, &graph, &demands, &caps)?;    // the boundary of C: lengths 0, 1, 1, right side 12000, capacity 11999
-//! let none = grown_set(alloc, &graph, &demands, &more)?;   // with 2.000 on BC no set is found
+//! let cut = grown_set(alloc, &task)?;     // the boundary of C: lengths 0, 1, 1, right side 12000, capacity 11999
+//! let none = grown_set(alloc, &wider)?;   // with 2.000 on BC no set is found
 //! ```
 #![tactic(auto)]
 
@@ -15,7 +15,6 @@ mod growth;
 mod narrow;
 mod node_set;
 mod pair_table;
-mod task;
 mod threshold;
 
 pub use grown::grown_set;

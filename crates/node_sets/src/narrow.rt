@@ -1,6 +1,7 @@
 ghost use Rattle.std.specs.Prelude.{◌<◌, ◌^◌, All, IsTrue};
+ghost use Rattle.node_sets.specs.inner.NarrowCaps.{AreNarrow};
 
-use net_core::{Caps, Demand};
+use net_core::{Demand, RouteTask};
 
 /// Numbers of a program that routes demands are below this.
 const WIDE: u128 = 1 << 62;
@@ -20,8 +21,10 @@ fn are_needs_narrow(demands: &[Demand], scale: u64) -> bool {
 }
 
 /// Whether each link's number, and what each demand needs over the scale, is below 2^62.
-pub(crate) fn are_narrow(demands: &[Demand], caps: &Caps) -> bool
-    ensures { IsTrue result → All (λ n. n < 2 ^ 62) caps.now.nums }
+pub(crate) fn are_narrow(task: &RouteTask) -> bool
+    requires { 0 < task.now.caps.now.scale }
+    ensures { IsTrue result → AreNarrow task.now.caps.now }
 {
-    are_nums_narrow(caps.nums.items()) && are_needs_narrow(demands, caps.scale)
+    let caps = task.caps;
+    are_nums_narrow(caps.nums.items()) && are_needs_narrow(task.demands.items(), caps.scale)
 }

@@ -1,8 +1,7 @@
 ghost use Rattle.std.specs.Prelude.{◌≡◌, ◌+◌, ◌*◌, ◌<◌, ◌≤◌, IfOk, length};
 
 use crate::crossing::{Crossing, NOTHING};
-use crate::task::Task;
-use net_core::{LinkId, NoMemory, NodeId};
+use net_core::{LinkId, NoMemory, NodeId, RouteTask};
 use std::alloc::Global;
 
 /// What runs between each two nodes of a surviving graph, and between each node and all others. It takes 32 bytes
@@ -70,7 +69,7 @@ impl PairTable {
     }
 
     /// Adds the surviving links.
-    fn add_links(&mut self, task: &Task)
+    fn add_links(&mut self, task: &RouteTask)
         requires { self.old.nodes ≡ length task.now.graph.net.now.nodes }
         ensures { self.new.nodes ≡ self.old.nodes }
     {
@@ -89,7 +88,7 @@ impl PairTable {
     }
 
     /// Adds the demands.
-    fn add_demands(&mut self, task: &Task)
+    fn add_demands(&mut self, task: &RouteTask)
         requires { self.old.nodes ≡ length task.now.graph.net.now.nodes }
         ensures { self.new.nodes ≡ self.old.nodes }
     {
@@ -104,7 +103,7 @@ impl PairTable {
     }
 
     /// The table of a task. It takes time in the links, each by the links that the state fails, and in the demands.
-    pub(crate) fn new(alloc: Global, task: &Task) -> Result<PairTable, NoMemory>
+    pub(crate) fn new(alloc: Global, task: &RouteTask) -> Result<PairTable, NoMemory>
         ensures { IfOk result (λ t. t.nodes ≡ length task.now.graph.net.now.nodes) }
     {
         let mut table = PairTable::bare(alloc, task.graph.net.nodes().len() as u32)?;

@@ -1,5 +1,4 @@
 ghost use Rattle.std.specs.Prelude.{◌≡◌, ◌<◌, IfOk, IfSome, length};
-ghost use Rattle.net_core.specs.Demands.{AreDemands};
 ghost use Rattle.net_core.specs.Views.{graph_of};
 ghost use Rattle.node_sets.specs.Boundaries.{IsBoundaryCut};
 
@@ -9,10 +8,9 @@ use crate::growth::Growth;
 use crate::narrow::are_narrow;
 use crate::node_set::NodeSet;
 use crate::pair_table::PairTable;
-use crate::task::Task;
 use metric_cut::Cut;
-use net_core::{Caps, Demands, Lengths, NoMemory, NodeId, Surviving};
-use short_paths::{DistanceTable, all_pairs};
+use net_core::{Lengths, NoMemory, NodeId, RouteTask};
+use short_paths::{DistanceTable, all_pairs_in};
 use std::alloc::Global;
 
 /// A node outside of a set that is nearest to a node, with its distance. A node without a path is farthest.
@@ -66,32 +64,23 @@ fn spread_from(
 /// Lengths of 0, 1 and 1 on AB, BC and AC give the set of A and B, and that of C.
 ///
 /// It takes a search from each node, time in the cube of the nodes, and 36 bytes times their square.
-pub fn threshold_set<'a>(
+pub fn threshold_set(
     alloc: Global,
-    graph: &Surviving<'a>,
-    demands: &'a Demands,
-    caps: &'a Caps,
+    task: &RouteTask,
     lengths: &Lengths,
 ) -> Result<Option<Cut>, NoMemory>
-    requires demands { AreDemands (length graph.now.net.now.nodes) demands.now }
-    requires scale { 0 < caps.now.scale }
-    requires caps { length caps.now.nums ≡ length graph.now.net.now.links }
-    requires lengths { length lengths.now ≡ length graph.now.net.now.links }
-    ensures { IfOk result (λ o. IfSome o (IsBoundaryCut (graph_of graph.now) demands.now caps.now)) }
+    requires scale { 0 < task.now.caps.now.scale }
+    requires lengths { length lengths.now ≡ length task.now.graph.net.now.links }
+    ensures { IfOk result (λ o. IfSome o (IsBoundaryCut (graph_of task.now.graph) task.now.demands.now task.now.caps.now)) }
 {
-    if !are_narrow(demands.items(), caps) {
+    if !are_narrow(task) {
         return Ok(None);
     }
-    let task = Task {
-        graph: *graph,
-        demands,
-        caps,
-    };
-    let table = PairTable::new(alloc, &task)?;
-    let distances = all_pairs(alloc, graph.net, graph.states, graph.state, lengths)?;
-    let mut deepest = Deepest::new(alloc, table.nodes(), caps.scale);
+    let table = PairTable::new(alloc, task)?;
+    let distances = all_pairs_in(alloc, &task.graph, lengths)?;
+    let mut deepest = Deepest::new(alloc, table.nodes(), task.caps.scale);
     for k in 0..table.nodes() {
         spread_from(alloc, &table, &distances, NodeId(k), &mut deepest)?;
     }
-    cut_of_chosen(alloc, &task, &deepest)
+    cut_of_chosen(alloc, task, &deepest)
 }

@@ -3,21 +3,23 @@ use Rattle.std.proofs.lemmas.List.{length-map}
 use Rattle.net_core.specs.Views.{graph_of}
 use Rattle.net_core.specs.declared.network.Link.{Link}
 use Rattle.plan_terms.specs.Keeping.{Keeps}
+use Rattle.metric_cut.specs.Cuts.{IsCutOf, MayKeepCut}
 use Rattle.node_sets.specs.Boundaries.{boundary_lengths, crosses_boundary}
 use Rattle.node_sets.specs.inner.Members.{is_in}
 use Rattle.node_sets.proofs.boundary.boundary_cut.Goals as goal
 
-pub new-requires : goal.new-requires
-new-requires c =
+-- what the surviving graph gives is what it keeps of the lengths
+kept_cut : (c : goal.In-Some) → Keeps (graph_of c.args.task.now.graph) c.in_ok-lengths.lengths c.in-Some.cut.lengths × IsCutOf (graph_of c.args.task.now.graph) c.in-Some.cut
+kept_cut c = subst (MayKeepCut (graph_of c.args.task.now.graph) c.in_ok-lengths.lengths) c.in-Some.is c.in_ok-found.ensures.kept
+
+pub in_graph-requires : goal.in_graph-requires
+in_graph-requires c =
     record { lengths = ap length c.in_ok-lengths.ensures ∙ length-map c.items.result.now (λ (l : Link). cond (crosses_boundary (is_in c.args.set) l) 1 0) ∙ ap length (c.items.ensures ∙ c.links.ensures) }
 
 pub if_violated-requires-clause-of : goal.if_violated-requires-clause-of
-if_violated-requires-clause-of c = c.in-Ok.ensures.cut
+if_violated-requires-clause-of c = (kept_cut c).1
 
 pub if_violated-requires-clause-keeps : goal.if_violated-requires-clause-keeps
 if_violated-requires-clause-keeps c =
-    subst (λ lengths. Keeps (graph_of c.args.task.now.graph) lengths c.in-Ok.cut.lengths)
-    (c.in_ok-lengths.ensures ∙ ap (boundary_lengths (is_in c.args.set)) (c.items.ensures ∙ c.links.ensures)) c.in-Ok.ensures.keeps
-
-pub if_violated-requires-clause-bound : goal.if_violated-requires-clause-bound
-if_violated-requires-clause-bound c = c.in-Ok.ensures.bound
+    subst (λ lengths. Keeps (graph_of c.args.task.now.graph) lengths c.in-Some.cut.lengths)
+    (c.in_ok-lengths.ensures ∙ ap (boundary_lengths (is_in c.args.set)) (c.items.ensures ∙ c.links.ensures)) (kept_cut c).0

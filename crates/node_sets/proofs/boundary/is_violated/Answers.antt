@@ -6,5 +6,5 @@ use Rattle.node_sets.proofs.boundary.is_violated.Goals as goal
 pub returns : goal.returns
 returns c violated =
     violated_at (graph_of c.args.task.now.graph) c.args.task.now.demands.now c.args.task.now.caps.now c.args.cut.now c.right.result
-    (c.right.ensures.right (graph_of c.args.task.now.graph) c.requires)
+    (c.right.ensures.right (graph_of c.args.task.now.graph) c.requires.cut)
     (search rules)

@@ -1,0 +1,8 @@
+-- capacities whose sums along lengths fit
+use Rattle.std.specs.Prelude.{◌<◌, ◌^◌, All}
+use Rattle.net_core.specs.declared.plan.Caps.{Caps}
+
+-- numbers below 2^62 over a positive scale
+pub record AreNarrow (caps : Caps) : Type 0 where
+  pub scale : 0 < caps.scale
+  pub nums : All (λ n. n < 2 ^ 62) caps.nums
