@@ -9,6 +9,7 @@ use Rattle.checked_fraction.specs.Rows.{num}
 use Rattle.net_core.specs.declared.columns.RouteColumn.{RouteColumn}
 use Rattle.net_core.specs.declared.columns.WideKind.TheVariants.{Length}
 use Rattle.net_core.specs.declared.ids.LinkId.{LinkId}
+use Rattle.net_core.specs.declared.route_task.RouteTask.{RouteTask}
 use Rattle.net_core.specs.Graphs.{Graph}
 use Rattle.net_core.specs.Views.{graph_of}
 use Rattle.plan_terms.specs.Bounds.{IsGreatestDivisor}
@@ -18,7 +19,6 @@ use Rattle.route_law.specs.PricedLengths.{AreLinkPrices}
 use Rattle.route_law.specs.RouteEvidence.{IsRouteEvidence}
 use Rattle.route_law.specs.Routings.{AreJoined}
 use Rattle.route_law.proofs.SomePrices.{some_price}
-use Rattle.key_paths.specs.declared.task.Task.{Task}
 use Rattle.flow_router.specs.inner.Flowing.{LeavesNeed}
 use Rattle.flow_router.specs.inner.Lengths.{AreLinkCosts, each_over}
 use Rattle.flow_router.specs.inner.Solutions.{ArePricesBelow, IsSolution}
@@ -57,7 +57,7 @@ zero_prices : (g : Graph) (prices : List ℕ) (common : ℕ) → length prices �
 zero_prices g prices common count divisor none e survives =
     zero-dvd.0 (subst (λ c. c ∣ slice_index prices e) none (divisor.divides e 0 (subst (λ m. e < m) (sym count) (slice_get_within g.links e survives.link survives.at))))
 
-module _ (t : Task) (best : Optimum RouteColumn) (s : IsSolution t best) (left : LeavesNeed best.basis best.values) (joined : AreJoined (graph_of t.graph) t.demands.now) (prices : List ℕ) (common : ℕ)
+module _ (t : RouteTask) (best : Optimum RouteColumn) (s : IsSolution t best) (left : LeavesNeed best.basis best.values) (joined : AreJoined (graph_of t.graph) t.demands.now) (prices : List ℕ) (common : ℕ)
     (costs : AreLinkCosts (length t.graph.net.now.links) (num best.duals.nums) prices) (divisor : IsGreatestDivisor prices common) where
   -- some price isn't 0
   pub prices_some : common ≡ 0 → ⊥

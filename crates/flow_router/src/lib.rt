@@ -19,4 +19,4 @@ mod prices;
 mod route;
 
 pub use answer::RouteAnswer;
-pub use route::{route_state, route_state_from};
+pub use route::{route_state, route_task};

@@ -4,13 +4,14 @@ ghost use Rattle.net_core.specs.Views.{graph_of};
 ghost use Rattle.simplex_law.specs.Evidence.{IsWide};
 ghost use Rattle.route_law.specs.RoutingPrograms.{route_rows, route_bound};
 
-use key_paths::{Task, bound_of, rows_of};
+use key_paths::{bound_of, rows_of};
+use net_core::RouteTask;
 
 /// Bounds of a program that is solved are below this.
 const WIDE: u128 = 1 << 62;
 
 /// The first row whose bound is 2^62 or more.
-pub(crate) fn wide_row(task: &Task) -> Option<u32>
+pub(crate) fn wide_row(task: &RouteTask) -> Option<u32>
     ensures { let g = graph_of task.now.graph in MatchOption result
         ((k : ℕ) → k < route_rows g task.now.demands.now → IsNarrow (route_bound g task.now.demands.now task.now.caps.now k))
         (λ k. (k < route_rows g task.now.demands.now) × IsWide (route_bound g task.now.demands.now task.now.caps.now k)) }

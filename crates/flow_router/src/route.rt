@@ -16,19 +16,19 @@ use crate::flows::{basis_flows, leaves_need};
 use crate::lowest::lowest;
 use crate::numbers::wide_row;
 use crate::prices::link_prices;
-use greedy_router::greedy;
-use key_paths::{Task, slack_names, slack_of, solve_routes_from};
-use metric_cut::{Cut, CutFault};
+use greedy_router::greedy_in;
+use key_paths::{slack_names, slack_of, solve_task};
+use metric_cut::Cut;
 use net_core::{
-    Caps, Copied, Demands, Evidence, Lengths, List, Network, NoMemory, RouteColumn, Routing,
-    StateId, States, Surviving, WideKind,
+    Caps, Copied, Demands, Evidence, Lengths, List, Network, NoMemory, RouteColumn, RouteTask,
+    Routing, StateId, States, Surviving, WideKind,
 };
 use simplex_core::{Optimum, SimplexFault};
 use std::alloc::Global;
 
 /// The answer that a number of a basis is too wide.
 fn wide(
-    task: &Task,
+    task: &RouteTask,
     basis: List<RouteColumn>,
     kind: WideKind<RouteColumn>,
 ) -> Result<RouteAnswer, NoMemory>
@@ -45,7 +45,11 @@ fn wide(
 }
 
 /// The flows of a best basis that leaves nothing of any demand.
-fn routed(alloc: Global, task: &Task, best: &Optimum<RouteColumn>) -> Result<RouteAnswer, NoMemory>
+fn routed(
+    alloc: Global,
+    task: &RouteTask,
+    best: &Optimum<RouteColumn>,
+) -> Result<RouteAnswer, NoMemory>
     requires solution { IsSolution task.now best.now }
     requires met { LeavesNeed best.now.basis best.now.values → ⊥ }
     ensures { IfOk result (IsRouteAnswer (graph_of task.now.graph) task.now.demands.now task.now.caps.now) }
@@ -59,23 +63,21 @@ fn routed(alloc: Global, task: &Task, best: &Optimum<RouteColumn>) -> Result<Rou
 }
 
 /// The cut of lengths that are link prices.
-fn cut_of(alloc: Global, task: &Task, lengths: Lengths) -> Result<RouteAnswer, NoMemory>
+fn cut_of(alloc: Global, task: &RouteTask, lengths: Lengths) -> Result<RouteAnswer, NoMemory>
     requires { ArePricesBelow task.now lengths }
     ensures { IfOk result (IsRouteAnswer (graph_of task.now.graph) task.now.demands.now task.now.caps.now) }
 {
-    let graph = &task.graph;
-    match Cut::new(alloc, graph.net, graph.states, graph.state, lengths) {
-        Ok(cut) => Ok(RouteAnswer::Violated(cut)),
-        Err(CutFault::NoMemory) => Err(NoMemory),
-        Err(CutFault::UnknownState) => unreachable!(),
-        Err(CutFault::ZeroLengths) => unreachable!(),
+    let found = Cut::in_graph(alloc, &task.graph, lengths)?;
+    match found {
+        Some(cut) => Ok(RouteAnswer::Violated(cut)),
+        None => unreachable!(),
     }
 }
 
 /// The cut of the link prices of a best basis that leaves something of a demand, unless one of them is too long.
 fn violated(
     alloc: Global,
-    task: &Task,
+    task: &RouteTask,
     best: &Optimum<RouteColumn>,
 ) -> Result<RouteAnswer, NoMemory>
     requires solution { IsSolution task.now best.now }
@@ -98,7 +100,7 @@ fn violated(
 /// The answer that a best basis gives.
 fn answer_of(
     alloc: Global,
-    task: &Task,
+    task: &RouteTask,
     best: &Optimum<RouteColumn>,
 ) -> Result<RouteAnswer, NoMemory>
     requires solution { IsSolution task.now best.now }
@@ -115,7 +117,7 @@ fn answer_of(
 /// The answer that the routing program gives, with known columns at hand. They become those of the optimum, if there is one.
 fn solved(
     alloc: Global,
-    task: &Task,
+    task: &RouteTask,
     known: &mut List<RouteColumn>,
 ) -> Result<RouteAnswer, NoMemory>
     requires narrow { (k : ℕ) → k < route_rows (graph_of task.now.graph) task.now.demands.now → IsNarrow (route_bound (graph_of task.now.graph) task.now.demands.now task.now.caps.now k) }
@@ -123,16 +125,7 @@ fn solved(
     ensures answer { IfOk result (IsRouteAnswer (graph_of task.now.graph) task.now.demands.now task.now.caps.now) }
     ensures same { OnErr result (known.new ≡ known.old) }
 {
-    let graph = &task.graph;
-    match solve_routes_from(
-        alloc,
-        graph.net,
-        graph.states,
-        graph.state,
-        task.demands,
-        task.caps,
-        known.items(),
-    ) {
+    match solve_task(alloc, task, known.items()) {
         Ok(best) => {
             let answer = answer_of(alloc, task, &best)?;
             *known = best.basis;
@@ -153,7 +146,7 @@ fn is_whole(rest: &[u128]) -> bool
 /// The answer to numbers that are narrow: a greedy routing that leaves nothing, or that of the routing program.
 fn routed_or_solved(
     alloc: Global,
-    task: &Task,
+    task: &RouteTask,
     known: &mut List<RouteColumn>,
 ) -> Result<RouteAnswer, NoMemory>
     requires narrow { (k : ℕ) → k < route_rows (graph_of task.now.graph) task.now.demands.now → IsNarrow (route_bound (graph_of task.now.graph) task.now.demands.now task.now.caps.now k) }
@@ -161,57 +154,14 @@ fn routed_or_solved(
     ensures answer { IfOk result (IsRouteAnswer (graph_of task.now.graph) task.now.demands.now task.now.caps.now) }
     ensures same { OnErr result (known.new ≡ known.old) }
 {
-    let graph = &task.graph;
-    let left = greedy(
-        alloc,
-        graph.net,
-        graph.states,
-        graph.state,
-        task.demands,
-        task.caps,
-    )?;
+    let left = greedy_in(alloc, task)?;
     if is_whole(left.rest.items()) {
         return Ok(RouteAnswer::Routed(left.routing));
     }
     solved(alloc, task, known)
 }
 
-/// The same as `route_state`, with known columns at hand, whatever they are: those of `known` that are paths of the demands in this
-/// state enter the routing program first, as long as they gain. Where an optimum is found, `known` becomes its columns, which save
-/// most of the searches at the state's next capacities; else it stays as it is.
-pub fn route_state_from<'a>(
-    alloc: Global,
-    net: &'a Network,
-    states: &'a States,
-    state: StateId,
-    demands: &'a Demands,
-    caps: &'a Caps,
-    known: &mut List<RouteColumn>,
-) -> Result<RouteAnswer, NoMemory>
-    requires state { state.0 < length states.now.listed + 1 }
-    requires demands { AreDemands (length net.now.nodes) demands.now }
-    requires scale { 0 < caps.now.scale }
-    requires caps { length caps.now.nums ≡ length net.now.links }
-    requires joined { AreJoined (graph net.now states.now state.0) demands.now }
-    ensures answer { IfOk result (IsRouteAnswer (graph net.now states.now state.0) demands.now caps.now) }
-    ensures same { OnErr result (known.new ≡ known.old) }
-{
-    let task = Task {
-        graph: Surviving { net, states, state },
-        demands,
-        caps,
-    };
-    match wide_row(&task) {
-        Some(row) => {
-            let names = slack_names(alloc, &task)?;
-            wide(&task, names, WideKind::Number(slack_of(&task, row)))
-        }
-        None => routed_or_solved(alloc, &task, known),
-    }
-}
-
-/// Whether capacities, one number for each link over a scale, carry all demands in a state whose surviving links join the ends of
-/// each positive demand.
+/// Whether a task's capacities, numbers over a scale, carry all its demands, where surviving links join the ends of each positive one.
 ///
 /// A routing is in lowest terms, with at most as many flows as links and demands together. A cut's right side at the demands is more
 /// than the capacities give along its lengths, so that no routing carries them; the lengths are prices of the links at an optimum.
@@ -222,6 +172,29 @@ pub fn route_state_from<'a>(
 ///
 /// It takes time that grows with the turns of the simplex method, each in the square of the count of links at most, with a search from
 /// each node where no path at hand gains, and memory by that square and by the links of one path for each demand.
+///
+/// `known` are columns of an earlier optimum, whatever they are: those of them that are paths of the demands in this state enter the
+/// routing program first, as long as they gain. Where an optimum is found, `known` becomes its columns, which save most of the searches
+/// at the state's next capacities; else it stays as it is.
+pub fn route_task(
+    alloc: Global,
+    task: &RouteTask,
+    known: &mut List<RouteColumn>,
+) -> Result<RouteAnswer, NoMemory>
+    requires { AreJoined (graph_of task.now.graph) task.now.demands.now }
+    ensures answer { IfOk result (IsRouteAnswer (graph_of task.now.graph) task.now.demands.now task.now.caps.now) }
+    ensures same { OnErr result (known.new ≡ known.old) }
+{
+    match wide_row(task) {
+        Some(row) => {
+            let names = slack_names(alloc, task)?;
+            wide(task, names, WideKind::Number(slack_of(task, row)))
+        }
+        None => routed_or_solved(alloc, task, known),
+    }
+}
+
+/// `route_task` for demands within capacities in a state, with no known columns.
 pub fn route_state<'a>(
     alloc: Global,
     net: &'a Network,
@@ -237,13 +210,10 @@ pub fn route_state<'a>(
     requires joined { AreJoined (graph net.now states.now state.0) demands.now }
     ensures { IfOk result (IsRouteAnswer (graph net.now states.now state.0) demands.now caps.now) }
 {
-    route_state_from(
-        alloc,
-        net,
-        states,
-        state,
+    let task = RouteTask {
+        graph: Surviving { net, states, state },
         demands,
         caps,
-        &mut List::new(alloc),
-    )
+    };
+    route_task(alloc, &task, &mut List::new(alloc))
 }

@@ -1,17 +1,18 @@
 use Rattle.std.proofs.Common.{Some, ap, arith, sym, subst, ◌∙◌, ◌≡◌}
 use Rattle.net_core.specs.declared.columns.WideKind.TheVariants.{Number}
-use Rattle.net_core.specs.Views.{graph}
+use Rattle.net_core.specs.Views.{graph_of}
 use Rattle.route_law.specs.RouteEvidence.{IsRouteEvidence}
 use Rattle.route_law.specs.RoutingPrograms.{route_slack}
 use Rattle.route_law.proofs.Slacks.{number_evidence}
 use Rattle.simplex_core.proofs.Starts.{each_at}
-use Rattle.flow_router.proofs.route.route_state_from.Goals as goal
+use Rattle.flow_router.proofs.route.route_task.Goals as goal
 
 pub wide-requires : goal.wide-requires
 wide-requires c =
-    let g = graph c.args.net.now c.args.states.now c.args.state.0 in
-    let demands = c.args.demands.now in
-    let caps = c.args.caps.now in
+    let task = c.args.task.now in
+    let g = graph_of task.graph in
+    let demands = task.demands.now in
+    let caps = task.caps.now in
     let names = c.in_ok-names-in-Some.names in
     let made = c.in_ok-names-in-Some.ensures in
     subst (λ name. IsRouteEvidence g demands caps names (Number name)) (sym c.slack_of.ensures)
