@@ -1,35 +1,47 @@
 ghost use Rattle.std.specs.Prelude.{◌≡◌, ◌<◌, ◌+◌, IfOk, OnErr, length};
 ghost use Rattle.net_core.specs.Cases.{graph_in};
-ghost use Rattle.net_core.specs.Demands.{AreDemands};
 ghost use Rattle.net_core.specs.Views.{case_of, graph_of};
 ghost use Rattle.route_law.specs.Routings.{AreJoined};
 ghost use Rattle.separator.specs.Findings.{IsFinding, IsFoundCutOf};
 
 use crate::ranges::are_caps;
-use flow_router::{RouteAnswer, route_state_from};
+use flow_router::{RouteAnswer, route_task};
 use metric_cut::Cut;
-use net_core::{Caps, Demands, Instance, List, NoMemory, RouteColumn, StateId, Surviving};
+use net_core::{Caps, Instance, List, NoMemory, RouteColumn, RouteTask, StateId};
 use node_sets::{grown_set, threshold_set};
 use std::alloc::Global;
 
 /// The cut of a set of nodes that lie near to each other under the lengths of a violated cut, and that cut itself where no such set is
 /// violated or memory runs out.
-fn nearest_set<'a>(
-    alloc: Global,
-    graph: &Surviving<'a>,
-    demands: &'a Demands,
-    caps: &'a Caps,
-    cut: Cut,
-) -> Cut
-    requires demands { AreDemands (length graph.now.net.now.nodes) demands.now }
-    requires scale { 0 < caps.now.scale }
-    requires caps { length caps.now.nums ≡ length graph.now.net.now.links }
-    requires cut { IsFoundCutOf (graph_of graph.now) demands.now caps.now cut }
-    ensures { IsFoundCutOf (graph_of graph.now) demands.now caps.now result }
+fn nearest_set(alloc: Global, task: &RouteTask, cut: Cut) -> Cut
+    requires scale { 0 < task.now.caps.now.scale }
+    requires cut { IsFoundCutOf (graph_of task.now.graph) task.now.demands.now task.now.caps.now cut }
+    ensures { IsFoundCutOf (graph_of task.now.graph) task.now.demands.now task.now.caps.now result }
 {
-    match threshold_set(alloc, graph, demands, caps, cut.lengths()) {
+    match threshold_set(alloc, task, cut.lengths()) {
         Ok(Some(set)) => set,
         Ok(None) | Err(NoMemory) => cut,
+    }
+}
+
+/// A violated cut of a set of nodes that grow, else what routing finds, its cut exchanged for that of a near set if one is violated.
+fn separate_task(
+    alloc: Global,
+    task: &RouteTask,
+    known: &mut List<RouteColumn>,
+) -> Result<RouteAnswer, NoMemory>
+    requires scale { 0 < task.now.caps.now.scale }
+    requires joined { AreJoined (graph_of task.now.graph) task.now.demands.now }
+    ensures found { IfOk result (IsFinding (graph_of task.now.graph) task.now.demands.now task.now.caps.now) }
+    ensures same { OnErr result (known.new ≡ known.old) }
+{
+    are_caps(task.caps);
+    if let Some(set) = grown_set(alloc, task)? {
+        return Ok(RouteAnswer::Violated(set));
+    }
+    match route_task(alloc, task, known)? {
+        RouteAnswer::Violated(cut) => Ok(RouteAnswer::Violated(nearest_set(alloc, task, cut))),
+        answer => Ok(answer),
     }
 }
 
@@ -45,12 +57,12 @@ fn nearest_set<'a>(
 /// `known` are columns at hand, whatever they are. Where a routing program is solved, they become those that it ends with, of which
 /// nothing is promised; where memory runs out, they stay as they are.
 ///
-/// It takes the time and memory of `route_state_from`, and time in the cube of the nodes.
-pub fn separate_state(
+/// It takes the time and memory of `route_task`, and time in the cube of the nodes.
+pub fn separate_state<'a>(
     alloc: Global,
-    instance: &Instance,
+    instance: &Instance<'a>,
     state: StateId,
-    caps: &Caps,
+    caps: &'a Caps,
     known: &mut List<RouteColumn>,
 ) -> Result<RouteAnswer, NoMemory>
     requires state { state.0 < length instance.now.states.now.listed + 1 }
@@ -60,22 +72,10 @@ pub fn separate_state(
     ensures found { IfOk result (IsFinding (graph_in (case_of instance.now) state.0) instance.now.demands.now caps.now) }
     ensures same { OnErr result (known.new ≡ known.old) }
 {
-    are_caps(caps);
-    let Instance {
-        net,
-        states,
-        demands,
-        ..
-    } = *instance;
-    let graph = Surviving { net, states, state };
-    if let Some(set) = grown_set(alloc, &graph, demands, caps)? {
-        return Ok(RouteAnswer::Violated(set));
-    }
-    match route_state_from(alloc, net, states, state, demands, caps, known)? {
-        RouteAnswer::Violated(cut) => {
-            let nearest = nearest_set(alloc, &graph, demands, caps, cut);
-            Ok(RouteAnswer::Violated(nearest))
-        }
-        answer => Ok(answer),
-    }
+    let task = RouteTask {
+        graph: instance.in_state(state),
+        demands: instance.demands,
+        caps,
+    };
+    separate_task(alloc, &task, known)
 }

@@ -1,0 +1,13 @@
+use Rattle.std.proofs.Common.{subst}
+use Rattle.net_core.specs.Views.{graph_of}
+use Rattle.flow_router.specs.Answers.{IsRouteAnswer}
+use Rattle.separator.proofs.Somewhere.{found_cut}
+use Rattle.separator.proofs.one_state.separate_task.Goals as goal
+
+pub nearest_set-requires-clause-cut : goal.nearest_set-requires-clause-cut
+nearest_set-requires-clause-cut c =
+    let task = c.args.task.now in
+    let g = graph_of task.graph in
+    let caps = task.caps.now in
+    found_cut g task.graph.net.now.checked task.demands.now task.belong caps (c.requires.scale, c.are_caps.ensures.scale) (task.count, c.are_caps.ensures.nums)
+    c.in-Violated.cut (subst (IsRouteAnswer g task.demands.now caps) c.in-Violated.is c.in_ok-answer.ensures.answer)
