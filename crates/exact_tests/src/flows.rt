@@ -3,9 +3,9 @@ ghost use Rattle.checked_fraction.specs.Rows.{IsNarrow};
 ghost use Rattle.net_core.specs.Views.{graph_of};
 ghost use Rattle.route_law.specs.RoutingPrograms.{route_bound, route_rows};
 
-use key_paths::{Task, bound_of, rows_of, solve_routes};
+use key_paths::{bound_of, rows_of, solve_task};
 use key_rows::path_of;
-use net_core::{Caps, LinkId, List, Problem, RouteColumn, StateId, Surviving};
+use net_core::{Caps, LinkId, List, Problem, RouteColumn, RouteTask, StateId, Surviving};
 use simplex_core::{Optimum, SimplexFault};
 use std::alloc::Global;
 use worked_networks::{DemandRow, LinkRow, TEN, network, problem};
@@ -127,7 +127,7 @@ const GROUPS: [Group; 4] = [
 ];
 
 /// Whether all bounds are below 2^62.
-fn are_narrow(task: &Task) -> bool
+fn are_narrow(task: &RouteTask) -> bool
     ensures { IsTrue result → (k : ℕ) → k < route_rows (graph_of task.now.graph) task.now.demands.now → IsNarrow (route_bound (graph_of task.now.graph) task.now.demands.now task.now.caps.now k) }
 {
     for row in 0..rows_of(task) {
@@ -138,7 +138,7 @@ fn are_narrow(task: &Task) -> bool
     true
 }
 
-/// What `solve_routes` answers, where the state and the numbers fit and the bounds are narrow.
+/// What `solve_task` answers, where the state and the numbers fit and the bounds are narrow.
 pub(crate) fn answer<'a>(
     alloc: Global,
     p: &'a Problem,
@@ -148,12 +148,11 @@ pub(crate) fn answer<'a>(
     if state >= p.states.count() || caps.nums.len() != p.net.links().len() {
         return None;
     }
-    let state = StateId(state);
-    let task = Task {
+    let task = RouteTask {
         graph: Surviving {
             net: &p.net,
             states: &p.states,
-            state,
+            state: StateId(state),
         },
         demands: &p.demands,
         caps,
@@ -161,7 +160,7 @@ pub(crate) fn answer<'a>(
     if !are_narrow(&task) {
         return None;
     }
-    Some(solve_routes(alloc, &p.net, &p.states, state, &p.demands, caps))
+    Some(solve_task(alloc, &task, &[]))
 }
 
 /// The sum of the values of the columns that are paths of a demand.
