@@ -3,9 +3,11 @@ ghost use Rattle.net_core.specs.Views.{graph};
 ghost use Rattle.route_law.specs.Routings.{AreJoined};
 
 use crate::fixtures::{NARROW, TRIANGLE, is_survivable, with_single_failures};
-use flow_router::{RouteAnswer, route_state, route_state_from};
+use flow_router::{RouteAnswer, route_state, route_task};
 use metric_cut::Cut;
-use net_core::{Caps, Evidence, List, Problem, RouteColumn, StateId, WideKind};
+use net_core::{
+    Caps, Evidence, List, Problem, RouteColumn, RouteTask, StateId, Surviving, WideKind,
+};
 use std::alloc::Global;
 use worked_networks::{DemandRow, LinkRow, PARALLEL, TEN};
 
@@ -238,11 +240,11 @@ fn is_routed(alloc: Global, p: &Problem, at: StateId, caps: &Caps, want: &Want) 
 }
 
 /// The same with known columns.
-fn is_routed_from(
+fn is_routed_from<'a>(
     alloc: Global,
-    p: &Problem,
+    p: &'a Problem,
     at: StateId,
-    caps: &Caps,
+    caps: &'a Caps,
     want: &Want,
     known: &mut List<RouteColumn>,
 ) -> bool
@@ -251,7 +253,16 @@ fn is_routed_from(
     requires caps { length caps.now.nums ≡ length p.now.net.links }
     requires joined { AreJoined (graph p.now.net p.now.states at.0) p.now.demands }
 {
-    match route_state_from(alloc, &p.net, &p.states, at, &p.demands, caps, known) {
+    let task = RouteTask {
+        graph: Surviving {
+            net: &p.net,
+            states: &p.states,
+            state: at,
+        },
+        demands: &p.demands,
+        caps,
+    };
+    match route_task(alloc, &task, known) {
         Ok(answer) => meets(&answer, want),
         Err(_) => false,
     }

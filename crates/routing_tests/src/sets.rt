@@ -1,9 +1,8 @@
-ghost use Rattle.std.specs.Prelude.{◌≡◌, ◌<◌, length};
-ghost use Rattle.net_core.specs.Demands.{AreDemands};
+ghost use Rattle.std.specs.Prelude.{◌<◌};
 
 use crate::fixtures::{TRIANGLE, with_single_failures};
 use metric_cut::Cut;
-use net_core::{Caps, Demands, List, NoMemory, Problem, StateId, Surviving};
+use net_core::{Caps, List, NoMemory, Problem, RouteTask, StateId, Surviving};
 use node_sets::{grown_set, threshold_set};
 use std::alloc::Global;
 use worked_networks::{DemandRow, LinkRow, RING};
@@ -44,18 +43,16 @@ fn is_cut(found: &Result<Option<Cut>, NoMemory>, want: &[u32]) -> bool {
 }
 
 /// Whether the row's cut is found at these numbers of the links.
-fn is_found_at(alloc: Global, graph: &Surviving, demands: &Demands, caps: &Caps, row: &Row) -> bool
-    requires demands { AreDemands (length graph.now.net.now.nodes) demands.now }
-    requires scale { 0 < caps.now.scale }
-    requires caps { length caps.now.nums ≡ length graph.now.net.now.links }
+fn is_found_at(alloc: Global, task: &RouteTask, row: &Row) -> bool
+    requires { 0 < task.now.caps.now.scale }
 {
     let Some(given) = row.3 else {
-        return is_cut(&grown_set(alloc, graph, demands, caps), row.4);
+        return is_cut(&grown_set(alloc, task), row.4);
     };
     match List::from_slice(alloc, given) {
         Ok(lengths) => {
-            lengths.len() == graph.net.links().len()
-                && is_cut(&threshold_set(alloc, graph, demands, caps, &lengths), row.4)
+            lengths.len() == task.graph.net.links().len()
+                && is_cut(&threshold_set(alloc, task, &lengths), row.4)
         }
         Err(_) => false,
     }
@@ -70,12 +67,16 @@ fn is_found(alloc: Global, p: &Problem, row: &Row) -> bool {
         return false;
     }
     let caps = Caps { scale: row.1, nums };
-    let graph = Surviving {
-        net: &p.net,
-        states: &p.states,
-        state: StateId(row.0),
+    let task = RouteTask {
+        graph: Surviving {
+            net: &p.net,
+            states: &p.states,
+            state: StateId(row.0),
+        },
+        demands: &p.demands,
+        caps: &caps,
     };
-    is_found_at(alloc, &graph, &p.demands, &caps, row)
+    is_found_at(alloc, &task, row)
 }
 
 /// The first row whose cut isn't found, or none.
