@@ -53,52 +53,52 @@ fn raised(alloc: Global, prices: &[u32]) -> Result<Lengths, NoMemory>
 /// Routes the next state, and raises the greatest loads to those that it brings.
 fn route_next(
     alloc: Global,
-    problem: &Instance,
+    instance: &Instance,
     lengths: &Lengths,
     routings: &mut List<Routing>,
     peaks: &mut [u64],
 ) -> Result<(), NoMemory>
-    requires state { length routings.old < length problem.now.states.now.listed + 1 }
-    requires lengths { length lengths.now ≡ length problem.now.net.now.links }
-    requires long { let p = case_of problem.now in (s e : ℕ) → Survives (graph_in p s) e → 0 < slice_index lengths.now e }
-    requires survivable { let p = case_of problem.now in IsSurvivable p }
-    requires routed { let p = case_of problem.now in AreRouted p lengths.now (length routings.old) routings.old peaks.old }
-    ensures { let p = case_of problem.now in OnOk result (AreRouted p lengths.now (length routings.old + 1) routings.new peaks.new) }
+    requires state { length routings.old < length instance.now.states.now.listed + 1 }
+    requires lengths { length lengths.now ≡ length instance.now.net.now.links }
+    requires long { let p = case_of instance.now in (s e : ℕ) → Survives (graph_in p s) e → 0 < slice_index lengths.now e }
+    requires survivable { let p = case_of instance.now in IsSurvivable p }
+    requires routed { let p = case_of instance.now in AreRouted p lengths.now (length routings.old) routings.old peaks.old }
+    ensures { let p = case_of instance.now in OnOk result (AreRouted p lengths.now (length routings.old + 1) routings.new peaks.new) }
 {
     let state = StateId(routings.len() as u32);
-    let routing = route_state(alloc, problem, state, lengths)?;
-    let loads = loads_of(alloc, problem.net.links().len(), routing.flows.items())?;
+    let routing = route_state(alloc, instance, state, lengths)?;
+    let loads = loads_of(alloc, instance.net.links().len(), routing.flows.items())?;
     raise(peaks, &loads);
     routings.push(routing)?;
     Ok(())
 }
 
 /// Routes one state after another.
-fn route_states(alloc: Global, problem: &Instance, lengths: &Lengths) -> Result<Routed, NoMemory>
-    requires lengths { length lengths.now ≡ length problem.now.net.now.links }
-    requires long { let p = case_of problem.now in (s e : ℕ) → Survives (graph_in p s) e → 0 < slice_index lengths.now e }
-    requires survivable { let p = case_of problem.now in IsSurvivable p }
-    ensures { let p = case_of problem.now in IfOk result (λ r. AreRouted p lengths.now (length p.listed + 1) r.routings r.peaks) }
+fn route_states(alloc: Global, instance: &Instance, lengths: &Lengths) -> Result<Routed, NoMemory>
+    requires lengths { length lengths.now ≡ length instance.now.net.now.links }
+    requires long { let p = case_of instance.now in (s e : ℕ) → Survives (graph_in p s) e → 0 < slice_index lengths.now e }
+    requires survivable { let p = case_of instance.now in IsSurvivable p }
+    ensures { let p = case_of instance.now in IfOk result (λ r. AreRouted p lengths.now (length p.listed + 1) r.routings r.peaks) }
 {
     let mut routings = List::new(alloc);
-    let mut peaks = List::filled(alloc, 0, problem.net.links().len())?;
-    for _ in 0..problem.states.count() {
-        route_next(alloc, problem, lengths, &mut routings, peaks.items_mut())?;
+    let mut peaks = List::filled(alloc, 0, instance.net.links().len())?;
+    for _ in 0..instance.states.count() {
+        route_next(alloc, instance, lengths, &mut routings, peaks.items_mut())?;
     }
     Ok(Routed { routings, peaks })
 }
 
 /// The fallback plan of an instance.
-fn fallback_of(alloc: Global, problem: &Instance) -> Result<Fallback, NoMemory>
-    requires { let p = case_of problem.now in IsSurvivable p }
-    ensures fallback { let p = case_of problem.now in IfOk result (λ f. IsFallback p f.counts f.routings f.cost) }
-    ensures narrow { IfOk result (λ f. AreWithinLimits problem.now.net.now.links f.counts) }
+fn fallback_of(alloc: Global, instance: &Instance) -> Result<Fallback, NoMemory>
+    requires { let p = case_of instance.now in IsSurvivable p }
+    ensures fallback { let p = case_of instance.now in IfOk result (λ f. IsFallback p f.counts f.routings f.cost) }
+    ensures narrow { IfOk result (λ f. AreWithinLimits instance.now.net.now.links f.counts) }
 {
-    let prices = price_lengths(alloc, problem.net)?;
+    let prices = price_lengths(alloc, instance.net)?;
     let lengths = raised(alloc, prices.items())?;
-    let routed = route_states(alloc, problem, &lengths)?;
-    let counts = cover_links(alloc, problem.net.links().items(), routed.peaks.items())?;
-    let cost = cost(problem.net, &counts);
+    let routed = route_states(alloc, instance, &lengths)?;
+    let counts = cover_links(alloc, instance.net.links().items(), routed.peaks.items())?;
+    let cost = cost(instance.net, &counts);
     Ok(Fallback {
         counts,
         routings: routed.routings,
@@ -123,10 +123,10 @@ pub fn fallback_plan(
     ensures fallback { IfOk result (λ f. IsFallback (case net.now states.now demands.now) f.counts f.routings f.cost) }
     ensures narrow { IfOk result (λ f. AreWithinLimits net.now.links f.counts) }
 {
-    let problem = Instance {
+    let instance = Instance {
         net,
         states,
         demands,
     };
-    fallback_of(alloc, &problem)
+    fallback_of(alloc, &instance)
 }

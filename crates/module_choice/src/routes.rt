@@ -10,9 +10,7 @@ ghost use Rattle.plan_terms.specs.Paths.{AreApart};
 ghost use Rattle.plan_terms.specs.Separations.{IsSurvivable};
 ghost use Rattle.module_choice.specs.inner.Routes.{TakesDemand};
 
-use net_core::{
-    Demand, Flow, Instance, Lengths, List, NoMemory, NodeId, Path, Routing, StateId, Surviving,
-};
+use net_core::{Demand, Flow, Instance, Lengths, List, NoMemory, NodeId, Path, Routing, StateId};
 use short_paths::{LeastPaths, PathFault};
 use std::alloc::Global;
 
@@ -78,22 +76,18 @@ fn route_all(alloc: Global, paths: &LeastPaths, demands: &[Demand]) -> Result<Ro
 /// The routing of a state: each demand that has a need takes the least of its shortest paths.
 pub(crate) fn route_state(
     alloc: Global,
-    problem: &Instance,
+    instance: &Instance,
     state: StateId,
     lengths: &Lengths,
 ) -> Result<Routing, NoMemory>
-    requires state { state.0 < length problem.now.states.now.listed + 1 }
-    requires lengths { length lengths.now ≡ length problem.now.net.now.links }
-    requires long { let g = graph_in (case_of problem.now) state.0 in (e : ℕ) → Survives g e → 0 < slice_index lengths.now e }
-    requires survivable { let p = case_of problem.now in IsSurvivable p }
-    ensures routed { let p = case_of problem.now in IfOk result (IsLeastRouting (Joins (graph_in p state.0)) lengths.now p.demands) }
-    ensures total { IfOk result (λ r. sum_by (λ f. f.num) r.flows ≡ sum_by (λ d. d.need) problem.now.demands.now) }
+    requires state { state.0 < length instance.now.states.now.listed + 1 }
+    requires lengths { length lengths.now ≡ length instance.now.net.now.links }
+    requires long { let g = graph_in (case_of instance.now) state.0 in (e : ℕ) → Survives g e → 0 < slice_index lengths.now e }
+    requires survivable { let p = case_of instance.now in IsSurvivable p }
+    ensures routed { let p = case_of instance.now in IfOk result (IsLeastRouting (Joins (graph_in p state.0)) lengths.now p.demands) }
+    ensures total { IfOk result (λ r. sum_by (λ f. f.num) r.flows ≡ sum_by (λ d. d.need) instance.now.demands.now) }
 {
-    let graph = Surviving {
-        net: problem.net,
-        states: problem.states,
-        state,
-    };
+    let graph = instance.in_state(state);
     let paths = LeastPaths::new(alloc, &graph, lengths)?;
-    route_all(alloc, &paths, problem.demands.items())
+    route_all(alloc, &paths, instance.demands.items())
 }

@@ -9,13 +9,13 @@ route_next-requires-clause-state c = omega (arith, c.loop.invariant.count, c.loo
 
 pub route_next-requires-clause-routed : goal.route_next-requires-clause-routed
 route_next-requires-clause-routed c =
-    let p = case_of c.args.problem.now in
+    let p = case_of c.args.instance.now in
     subst (AreRouted p c.args.lengths.now (length c.loop.routings) c.loop.routings) (sym c.items_mut.ensures.value)
     (subst (λ n. AreRouted p c.args.lengths.now n c.loop.routings c.loop.peaks) (sym c.loop.invariant.count) c.loop.invariant)
 
 pub loop-preserved : goal.loop-preserved
 loop-preserved c =
-    let p = case_of c.args.problem.now in
+    let p = case_of c.args.instance.now in
     let new = c.route_next.new in
     let done : AreRouted p c.args.lengths.now (length c.loop.routings + 1) new.routings new.peaks = c.in_ok-route_next.ensures in
     let size : length new.peaks ≡ length c.loop.peaks = done.size ∙ sym c.loop.invariant.size in
@@ -24,5 +24,5 @@ loop-preserved c =
 
 pub returns : goal.returns
 returns c =
-    let all : c.loop.counter ≡ length c.args.problem.now.states.now.listed + 1 = omega (arith, c.loop.auto.counter-end, c.loop-test.false, c.count-end.ensures) in
-    subst (λ n. AreRouted (case_of c.args.problem.now) c.args.lengths.now n c.loop.routings c.loop.peaks) all c.loop.invariant
+    let all : c.loop.counter ≡ length c.args.instance.now.states.now.listed + 1 = omega (arith, c.loop.auto.counter-end, c.loop-test.false, c.count-end.ensures) in
+    subst (λ n. AreRouted (case_of c.args.instance.now) c.args.lengths.now n c.loop.routings c.loop.peaks) all c.loop.invariant

@@ -1,4 +1,4 @@
-use Rattle.std.proofs.Common.{◌≡◌, List, arith, subst, sum_by}
+use Rattle.std.proofs.Common.{◌≡◌, ◌∙◌, List, arith, subst, sum_by}
 use Rattle.net_core.specs.declared.demand.Demand.{Demand}
 use Rattle.net_core.specs.Cases.{graph_in}
 use Rattle.net_core.specs.Graphs.{Joins}
@@ -10,7 +10,7 @@ use Rattle.module_choice.proofs.routes.route_state.Goals as goal
 
 pub route_all-requires-clause-joined : goal.route_all-requires-clause-joined
 route_all-requires-clause-joined c k d at some apart =
-    let same : graph_of c.in_ok-paths.paths.graph ≡ graph_in (case_of c.args.problem.now) c.args.state.0 = c.in_ok-paths.ensures.graph in
+    let same : graph_of c.in_ok-paths.paths.graph ≡ graph_in (case_of c.args.instance.now) c.args.state.0 = c.in_ok-paths.ensures.graph ∙ c.in_state-graph.ensures.graph in
     c.requires.survivable c.args.state.0 k (omega (arith, c.requires.state)) (record {
       demand = d;
       at = rw c.items.ensures at at;
@@ -20,9 +20,9 @@ route_all-requires-clause-joined c k d at some apart =
 
 pub returns-clause-routed : goal.returns-clause-routed
 returns-clause-routed c =
-    let p = case_of c.args.problem.now in
+    let p = case_of c.args.instance.now in
     let paths = c.in_ok-paths.paths in
-    let same : graph_of paths.graph ≡ graph_in p c.args.state.0 = c.in_ok-paths.ensures.graph in
+    let same : graph_of paths.graph ≡ graph_in p c.args.state.0 = c.in_ok-paths.ensures.graph ∙ c.in_state-graph.ensures.graph in
     answers_also c.route_all.result
     (λ r least. subst (λ g. IsLeastRouting (Joins g) c.args.lengths.now p.demands r) same
     (subst (λ ls. IsLeastRouting (Joins (graph_of paths.graph)) ls p.demands r) c.in_ok-paths.ensures.lengths
