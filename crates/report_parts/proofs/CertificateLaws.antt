@@ -16,8 +16,9 @@ use Rattle.plan_report.specs.KnownNames.{KnownNames}
 use Rattle.report_words.specs.declared.fault.ReportKind.TheVariants.{Token}
 use Rattle.report_parts.specs.declared.spot_cut.SpotCut.{SpotCut}
 use Rattle.report_words.specs.ReportWords.{closing_at, has_room}
-use Rattle.report_parts.specs.ReadingParts.{certificate_at, certificate_line_at, local_spot_at, of_line, pool_spot_at, spot_at, spot_branches}
+use Rattle.report_parts.specs.ReadingParts.{certificate_at, certificate_line_at, local_spot_at, of_line, pool_spot_at, right_side_at, spot_at, spot_branches}
 use Rattle.report_words.proofs.BranchLaws.{branches_law, either_form, lawful_branch, lawful_no_branch}
+use Rattle.report_words.proofs.FieldLaws.{field_law}
 use Rattle.report_words.proofs.ListLaws.{few_law}
 use Rattle.report_words.proofs.Making.{MadeOf, law_made, made_last, made_then}
 use Rattle.report_words.proofs.NumberLaws.{numbers_law}
@@ -95,22 +96,29 @@ module _ (names : KnownNames) (pool : List CutLine) where
   line_placed (Pool i) cut h f = (h.there, ap (λ (s : ℕ). record { spot = Pool i; state = record { 0 = s }; lengths = line_lengths (slice_get pool i) }) (sym h.same_state) ∙ ap (λ (ls : List ℕ). record { spot = Pool i; state = cut.state; lengths = ls }) (sym h.same_lengths))
   line_placed Local cut h f = (f.state, f.lengths)
 
+  right_side_law : Lawful right_side_at (λ n. Verbatim (codes "right") ∷ Whole n ∷ Closing ∷ []) (λ n. (0 ≤ n) × (n < 2 ^ 84)) AnyText
+  unfolding right_side_at
+  right_side_law = law_made right_side_at _ _ _ (λ n. Verbatim (codes "right") ∷ Whole n ∷ Closing ∷ []) (λ n. (0 ≤ n) × (n < 2 ^ 84))
+      (λ q h. h.0)
+      (λ q h. refl)
+      (λ n h. record { parts = (n, tt); right = (h, tt); gives = refl })
+      (made_then _ _ _ _ _ _ _ _ (field_law (codes "right") 0 (2 ^ 84)) (λ right h.
+      made_last closing_at (λ (u : Unit {0}). right) _ _ closing_law))
+
   certificate_line_law : IsPoolInForm → (sofar : List CertLine) → Lawful (certificate_line_at names pool sofar) certificate_line_items (λ l. (has_room 256 sofar ≡ true) × IsLine l) AnyText
   unfolding certificate_line_at
   certificate_line_law form sofar = law_made (certificate_line_at names pool sofar) _ _ _ certificate_line_items (λ l. (has_room 256 sofar ≡ true) × IsLine l)
-      (λ q h. (h.0, placed_line form q.1.0 q.1.1.1.1.0 q.1.1.0.spot q.1.1.0 refl h.1.1.0 h.1.0.1 h.1.1.1.1.0.1))
-      (λ q h. ap (λ (is : List Item). Opening ∷ Whole q.1.0 ∷ is) (sym (append_assoc (placed_cut q.1.1.0) (Verbatim (codes "right") ∷ Whole q.1.1.1.1.0 ∷ []) (Closing ∷ [])) ∙ ap (λ (is : List Item). (is ++ Verbatim (codes "right") ∷ Whole q.1.1.1.1.0 ∷ []) ++ Closing ∷ []) (same_spot q.1.1.0.spot q.1.1.0 q.1.1.1.1.0)))
+      (λ q h. (h.0, placed_line form q.1.0 q.1.1.1 q.1.1.0.spot q.1.1.0 refl h.1.1.0 h.1.0.1 h.1.1.1.1))
+      (λ q h. ap (λ (is : List Item). Opening ∷ Whole q.1.0 ∷ is) (sym (append_assoc (placed_cut q.1.1.0) (Verbatim (codes "right") ∷ Whole q.1.1.1 ∷ []) (Closing ∷ [])) ∙ ap (λ (is : List Item). (is ++ Verbatim (codes "right") ∷ Whole q.1.1.1 ∷ []) ++ Closing ∷ []) (same_spot q.1.1.0.spot q.1.1.0 q.1.1.1)))
       (λ l h. record {
-        parts = (tt, (l.num, (placed_of l, (tt, (l.cut.right, tt)))));
-        right = (h.0, ((omega arith, h.1.0.num), (line_placed l.spot l.cut h.1.1 h.1.0.cut, (tt, ((omega arith, h.1.0.cut.right), tt)))));
+        parts = (tt, (l.num, (placed_of l, l.cut.right)));
+        right = (h.0, ((omega arith, h.1.0.num), (line_placed l.spot l.cut h.1.1 h.1.0.cut, (omega arith, h.1.0.cut.right))));
         gives = refl;
       })
       (made_then _ _ _ _ _ _ _ _ (opening_within_law (has_room 256 sofar)) (λ x h.
       made_then _ _ _ _ _ _ _ _ (number_law 0 (2 ^ 62)) (λ num h.
       made_then _ _ _ _ _ _ _ _ spot_law (λ cut h.
-      made_then _ _ _ _ _ _ _ _ (keyword_law (codes "right")) (λ x h.
-      made_then _ _ _ _ _ _ _ _ (number_law 0 (2 ^ 84)) (λ right h.
-      made_last closing_at (λ (u : Unit {0}). record { num = num; spot = cut.spot; cut = record { state = cut.state; lengths = cut.lengths; right = right } }) _ _ closing_law))))))
+      made_last _ (λ (right : ℕ). record { num = num; spot = cut.spot; cut = record { state = cut.state; lengths = cut.lengths; right = right } }) _ _ right_side_law))))
     where
       same_spot : (s : Spot) (p : SpotCut) (right : ℕ) → spot_items s (record { state = p.state; lengths = p.lengths; right = 0 }) ≡ spot_items s (record { state = p.state; lengths = p.lengths; right = right })
       same_spot (Pool i) p right = refl

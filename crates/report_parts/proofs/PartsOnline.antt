@@ -1,6 +1,6 @@
 -- Each section of a plan is read without a look at what comes after it.
 use Rattle.std.proofs.Common.{◌≡◌, ℕ, ◌+◌, ◌^◌, Bool, true, List, [], length, Option, None, Some, Err, refl}
-use Rattle.std.specs.Prelude.{slice_get}
+use Rattle.std.specs.Prelude.{codes, slice_get}
 use Rattle.net_core.specs.declared.columns.MasterColumn.{MasterColumn}
 use Rattle.net_core.specs.declared.columns.RouteColumn.{RouteColumn}
 use Rattle.net_core.specs.declared.demand.Demand.{Demand}
@@ -20,8 +20,9 @@ use Rattle.report_words.specs.declared.fault.ReportKind.TheVariants.{Token, Ende
 use Rattle.report_words.specs.ReportWords.{has_room, link_at, link_of, unknown_name, whole_within}
 use Rattle.report_parts.specs.ReadingRoutings.{flow_at, path_at, routing_at, routings_at}
 use Rattle.report_parts.specs.ReadingQuality.{basis_at, caps_at, carry_at, evidence_at, fractional_at, left_at, loose_at, master_at, master_column_at, master_wide_at, metric_at, price_at, quality_at, route_at, route_column_at, route_wide_at, slack_at, tight_at, too_wide_at, wide_entry_at, wide_length_at, wide_number_at, wide_row_at, wide_sum_at, evidence_branches, loose_branches, master_column_branches, master_wide_branches, quality_branches, route_column_branches, route_wide_branches}
-use Rattle.report_parts.specs.ReadingParts.{all_counts_at, certificate_at, certificate_line_at, count_at, count_within, counts_at, local_spot_at, modules_at, next_counts_at, nodes_at, plan_demand_at, plan_demands_at, pool_spot_at, spot_at, spot_branches}
+use Rattle.report_parts.specs.ReadingParts.{all_counts_at, certificate_at, certificate_line_at, count_at, count_within, counts_at, local_spot_at, modules_at, next_counts_at, nodes_at, plan_demand_at, plan_demands_at, pool_spot_at, right_side_at, spot_at, spot_branches}
 use Rattle.report_words.proofs.Branching.{online_branch}
+use Rattle.report_words.proofs.FieldLaws.{field_online}
 use Rattle.report_words.proofs.WordsOnline.{column_some, numbers_online, opening_within_online}
 
 -- ---- routings
@@ -275,16 +276,21 @@ local_spot_online names =
 pub spot_online : (names : KnownNames) (pool : List CutLine) → IsOnline (spot_at names pool)
 spot_online names pool = online_branch true (Err Token) (spot_branches names pool) (pool_spot_online pool, (local_spot_online names, tt))
 
+pub right_side_online : IsOnline right_side_at
+unfolding right_side_at
+right_side_online =
+    online_then _ _ (field_online (codes "right") 0 (2 ^ 84)) (λ right.
+    online_then _ _ (online_close Token Ended) (λ x.
+    online_give _))
+
 pub certificate_line_online : (names : KnownNames) (pool : List CutLine) (sofar : List CertLine) → IsOnline (certificate_line_at names pool sofar)
 unfolding certificate_line_at
 certificate_line_online names pool sofar =
     online_then _ _ (opening_within_online (has_room 256 sofar)) (λ x.
     online_then _ _ (online_word Token Ended _) (λ num.
     online_then _ _ (spot_online names pool) (λ cut.
-    online_then _ _ (online_word Token Ended _) (λ x.
-    online_then _ _ (online_word Token Ended _) (λ right.
-    online_then _ _ (online_close Token Ended) (λ x.
-    online_give _))))))
+    online_then _ _ right_side_online (λ right.
+    online_give _))))
 
 pub certificate_line_some : (names : KnownNames) (pool : List CutLine) (sofar : List CertLine) → TakesSome (certificate_line_at names pool sofar)
 unfolding certificate_line_at

@@ -16,6 +16,7 @@ use Rattle.report_words.specs.declared.fault.ReportKind.{ReportKind}
 use Rattle.report_words.specs.declared.fault.ReportKind.TheVariants.{Token, Ended, Limit}
 use Rattle.report_parts.specs.declared.spot_cut.SpotCut.{SpotCut}
 use Rattle.report_words.specs.ReportWords.{amount_at, closing_at, has_room, keyword_at, new_demand, node_at, number_at, opening_at, opening_within, this_name_at, unknown_name, where_room, whole_within}
+use Rattle.report_words.specs.ReportFields.{field_at}
 use Rattle.report_words.specs.ReportChoices.{Branches, branch_at, numbers_at}
 
 -- ---- demands
@@ -102,15 +103,20 @@ spot_branches names pool = (codes "pool", pool_spot_at pool) ∷ (codes "local",
 abbrev pub spot_at : KnownNames → List CutLine → Reading ReportKind SpotCut
 spot_at names pool = branch_at (spot_branches names pool)
 
+-- the right side of a line, and the closing parenthesis
+unfoldable pub right_side_at : Reading ReportKind ℕ
+right_side_at = do
+  right ← field_at (codes "right") 0 (2 ^ 84)
+  _ ← closing_at
+  give right
+
 -- a line after earlier ones
 unfoldable pub certificate_line_at : KnownNames → List CutLine → List CertLine → Reading ReportKind CertLine
 certificate_line_at names pool sofar = do
   _ ← opening_within (has_room 256 sofar)
   num ← number_at 0 (2 ^ 62)
   cut ← spot_at names pool
-  _ ← keyword_at (codes "right")
-  right ← number_at 0 (2 ^ 84)
-  _ ← closing_at
+  right ← right_side_at
   give (record { num = num; spot = cut.spot; cut = record { state = cut.state; lengths = cut.lengths; right = right } })
 
 unfoldable pub certificate_at : KnownNames → List CutLine → Reading ReportKind Certificate

@@ -2,14 +2,16 @@ ghost use Rattle.std.specs.Prelude.{◌≡◌, ◌<◌, ◌^◌, length, IfOk};
 ghost use Rattle.snd_tokens.specs.Lexemes.{left};
 ghost use Rattle.text_kit.specs.Answers.{ReadsAs};
 ghost use Rattle.report_words.specs.Contexts.{known_in};
-ghost use Rattle.report_parts.specs.ReadingParts.{certificate_at, local_spot_at, of_line, pool_spot_at, spot_at};
+ghost use Rattle.report_parts.specs.ReadingParts.{certificate_at, local_spot_at, of_line, pool_spot_at, right_side_at, spot_at};
 
+use crate::discard::discard;
 use crate::spot_cut::SpotCut;
 use net_core::{Copied, CutLine, NoMemory, StateId};
 use plan_types::{CertLine, Certificate, Spot};
 use report_words::context::Context;
 use report_words::element::{Element, list};
 use report_words::fault::{ReportKind, ReportRefusal};
+use report_words::field::field;
 use report_words::numbers::lengths;
 use report_words::words::{closing, keyword, medium, number, opening, opening_within, small};
 use snd_tokens::Cursor;
@@ -44,6 +46,16 @@ fn of_line(pool: &[CutLine], index: u32) -> Result<SpotCut, NoMemory>
         state: line.state,
         lengths: line.lengths.copy()?,
     })
+}
+
+/// Takes the right side of a line, and the closing parenthesis.
+#[tactic(auto, unfolding(crate::specs::ReadingParts::right_side_at))]
+fn right_side(text: &mut Cursor) -> Result<u128, ReportRefusal>
+    ensures { ReadsAs (λ n. n) result (left text.new) (right_side_at (left text.old)) }
+{
+    let right = field(RIGHT, 0, RIGHT_LIMIT, text)?;
+    closing(text)?;
+    Ok(right)
 }
 
 /// The lines of a certificate, whose cuts may be lines of this pool.
@@ -114,18 +126,21 @@ impl<'a> Element for CertLineList<'a> {
         opening_within(sofar.len() < MAX_LINES, text)?;
         let num = medium(0, NUM_LIMIT, text)?;
         let cut = self.spot(alloc, text)?;
-        keyword(RIGHT, text)?;
-        let right = number(0, RIGHT_LIMIT, text)?;
-        closing(text)?;
-        Ok(CertLine {
-            num,
-            spot: cut.spot,
-            cut: CutLine {
-                state: cut.state,
-                lengths: cut.lengths,
-                right,
-            },
-        })
+        match right_side(text) {
+            Ok(right) => Ok(CertLine {
+                num,
+                spot: cut.spot,
+                cut: CutLine {
+                    state: cut.state,
+                    lengths: cut.lengths,
+                    right,
+                },
+            }),
+            Err(refusal) => {
+                discard(cut);
+                Err(refusal)
+            }
+        }
     }
 
     fn fault(&self, _all: &[CertLine]) -> Option<ReportKind> {

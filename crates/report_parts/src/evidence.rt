@@ -84,7 +84,8 @@ impl<'a> PlanReader<'a> {
         text: &mut Cursor,
     ) -> Result<WideKind<RouteColumn>, ReportRefusal>
         requires { rows + 1 < 2 ^ 32 }
-        ensures { ReadsAs (λ k. k) result (left text.new) (wide_entry_at (route_column_at (reader_links self.now) (reader_demands self.now)) rows (left text.old)) }
+        ensures { ReadsAs (λ k. k) result (left text.new)
+            (wide_entry_at (route_column_at (reader_links self.now) (reader_demands self.now)) rows (left text.old)) }
     {
         let row = row(rows, text)?;
         let column = self.route_column(true, text)?;

@@ -4,6 +4,7 @@
 pub mod certificate;
 mod columns;
 pub mod demands;
+pub mod discard;
 mod evidence;
 pub mod modules;
 pub mod plan_reader;

@@ -3,9 +3,9 @@ ghost use Rattle.snd_tokens.specs.Lexemes.{left};
 ghost use Rattle.text_kit.specs.Answers.{ReadsAs};
 ghost use Rattle.report_reader.specs.ReadingJournal.{edited_at, entries_at, event_at, pooled_at};
 
-use crate::discard::discard;
 use crate::edit::{edit, reply};
 use net_core::{Entry, List, Places, StateId};
+use report_parts::discard::discard;
 use report_words::element::{Element, list};
 use report_words::fault::{ReportKind, ReportRefusal};
 use report_words::words::{closing, opening_within, small, this};

@@ -1,7 +1,6 @@
 //! Reads reports of plans.
 #![tactic(auto)]
 
-mod discard;
 mod edit;
 mod filling;
 mod journal;

@@ -4,11 +4,11 @@ ghost use Rattle.text_kit.specs.Answers.{ReadsAs};
 ghost use Rattle.report_words.specs.Contexts.{known_in};
 ghost use Rattle.report_reader.specs.ReadingReport.{head_at, outcomes_at, planned_at, separated_at, unsurvivable_at};
 
-use crate::discard::discard;
 use crate::parts::Head;
 use crate::plan::plan;
 use net_core::{CutLine, List, StateId};
 use plan_types::Outcome;
+use report_parts::discard::discard;
 use report_parts::routing::state_name;
 use report_words::context::Context;
 use report_words::element::{Element, list};
