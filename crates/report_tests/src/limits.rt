@@ -313,25 +313,29 @@ const FINE_RANGES: [Ranges; 4] = [
     (FINE_DEMANDS, &TOO_FINE_IN_DEMANDS, "number-fine"),
 ];
 
+/// Whether all these ranges end at their last numbers.
+fn all_end(alloc: Global, ranges: &[Ranges]) -> bool {
+    for (front, rows, kind) in ranges {
+        if !each_ends(alloc, front, rows, kind) {
+            return false;
+        }
+    }
+    true
+}
+
 #[test]
 fn ranges_end_at_their_last_numbers(rt: HostRuntime) {
-    for (front, rows, kind) in &RANGES {
-        assert!(rt; each_ends(rt.alloc(), front, rows, kind));
-    }
+    assert!(rt; all_end(rt.alloc(), &RANGES));
 }
 
 #[test]
 fn notations_end_at_their_last_numbers(rt: HostRuntime) {
-    for (front, rows, kind) in &NOTATIONS {
-        assert!(rt; each_ends(rt.alloc(), front, rows, kind));
-    }
+    assert!(rt; all_end(rt.alloc(), &NOTATIONS));
 }
 
 #[test]
 fn six_places_end_at_the_same_units(rt: HostRuntime) {
-    for (front, rows, kind) in &FINE_RANGES {
-        assert!(rt; each_ends(rt.alloc(), front, rows, kind));
-    }
+    assert!(rt; all_end(rt.alloc(), &FINE_RANGES));
 }
 
 /// What stands before a list in two parts, the last count of its elements, what stands before and after the number of an element, which
