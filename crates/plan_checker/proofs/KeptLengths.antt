@@ -1,5 +1,5 @@
 -- lengths that a state keeps as they are, and their one right side
-use Rattle.std.proofs.Common.{◌≡◌, ◌≢◌, ℕ, zero, ◌*◌, List, All, length, get_or, sym, ap, subst, arith, ⊎_elim}
+use Rattle.std.proofs.Common.{◌≡◌, ◌≢◌, ℕ, ◌*◌, List, All, length, get_or, sym, ap, subst, arith, ⊎_elim}
 use Rattle.std.proofs.Math.Nat.{dvd-mul_right}
 use Rattle.std.proofs.lemmas.Bool.{cases_eq}
 use Rattle.std.proofs.lemmas.List.{ext_get_or, get_or_default}

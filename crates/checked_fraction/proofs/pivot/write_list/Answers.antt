@@ -1,4 +1,4 @@
-use Rattle.std.proofs.Common.{length, ◌<◌, ℕ, subst, sym}
+use Rattle.std.proofs.Common.{length, subst, sym}
 use Rattle.checked_fraction.specs.inner.Passes.{CanMix, raw, over, IsWithin}
 use Rattle.checked_fraction.proofs.pivot.write_list.Goals as goal
 
