@@ -80,23 +80,23 @@ fn decided(
 /// each link the covers are chosen, five modules each for 15.00. It takes time and memory as `cover_share` and `route_installed` do.
 pub fn choose(
     alloc: Global,
-    problem: &Instance,
+    instance: &Instance,
     fallback: Fallback,
     share: &Share,
     quality: Quality,
 ) -> Result<Chosen, NoMemory>
-    requires survivable { let p = case_of problem.now in IsSurvivable p }
-    requires fallback { let p = case_of problem.now in IsFallback p fallback.counts fallback.routings fallback.cost }
-    requires narrow { AreWithinLimits problem.now.net.now.links fallback.counts }
+    requires survivable { let p = case_of instance.now in IsSurvivable p }
+    requires fallback { let p = case_of instance.now in IsFallback p fallback.counts fallback.routings fallback.cost }
+    requires narrow { AreWithinLimits instance.now.net.now.links fallback.counts }
     requires scale { 0 < share.now.scale }
-    requires units { length share.now.units ≡ length problem.now.net.now.links }
-    requires quality { let p = case_of problem.now in ∥ IsQualityOfShare p share.now quality ∥₁ }
-    ensures { let p = case_of problem.now in IfOk result (IsChosen p share.now fallback quality) }
+    requires units { length share.now.units ≡ length instance.now.net.now.links }
+    requires quality { let p = case_of instance.now in ∥ IsQualityOfShare p share.now quality ∥₁ }
+    ensures { let p = case_of instance.now in IfOk result (IsChosen p share.now fallback quality) }
 {
-    let installed = cover_share(alloc, problem.net, share)?;
+    let installed = cover_share(alloc, instance.net, share)?;
     if fallback.cost < installed.cost {
         return Ok(keep_fallback(fallback, quality));
     }
-    let answer = route_installed(alloc, problem, &installed.counts)?;
+    let answer = route_installed(alloc, instance, &installed.counts)?;
     Ok(decided(answer, installed, fallback, quality))
 }

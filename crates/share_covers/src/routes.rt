@@ -21,21 +21,25 @@ pub enum InstalledRoutes {
 }
 
 /// Routings in each state within capacities.
-fn route_within(alloc: Global, problem: &Instance, caps: &Caps) -> Result<InstalledRoutes, NoMemory>
+fn route_within(
+    alloc: Global,
+    instance: &Instance,
+    caps: &Caps,
+) -> Result<InstalledRoutes, NoMemory>
     requires scale { 0 < caps.now.scale }
-    requires caps { length caps.now.nums ≡ length problem.now.net.now.links }
-    requires survivable { let p = case_of problem.now in IsSurvivable p }
-    ensures { let p = case_of problem.now in IfOk result (IsRoutesAnswer p caps.now) }
+    requires caps { length caps.now.nums ≡ length instance.now.net.now.links }
+    requires survivable { let p = case_of instance.now in IsSurvivable p }
+    ensures { let p = case_of instance.now in IfOk result (IsRoutesAnswer p caps.now) }
 {
     let mut routings = List::new(alloc);
-    for s in 0..problem.states.count() {
+    for s in 0..instance.states.count() {
         let state = StateId(s);
         match route_state(
             alloc,
-            problem.net,
-            problem.states,
+            instance.net,
+            instance.states,
             state,
-            problem.demands,
+            instance.demands,
             caps,
         )? {
             RouteAnswer::Routed(routing) => routings.push(routing)?,
@@ -52,13 +56,13 @@ fn route_within(alloc: Global, problem: &Instance, caps: &Caps) -> Result<Instal
 /// four modules it is short in the state that fails the first link. It takes time as `route_state` does, for each state.
 pub fn route_installed(
     alloc: Global,
-    problem: &Instance,
+    instance: &Instance,
     counts: &Counts,
 ) -> Result<InstalledRoutes, NoMemory>
-    requires shape { AreCounts problem.now.net.now.links counts.now }
-    requires survivable { let p = case_of problem.now in IsSurvivable p }
-    ensures { let p = case_of problem.now in IfOk result (IsRoutesAnswer p (installed_caps p.links counts.now)) }
+    requires shape { AreCounts instance.now.net.now.links counts.now }
+    requires survivable { let p = case_of instance.now in IsSurvivable p }
+    ensures { let p = case_of instance.now in IfOk result (IsRoutesAnswer p (installed_caps p.links counts.now)) }
 {
-    let caps = capacities(alloc, problem.net, counts)?;
-    route_within(alloc, problem, &caps)
+    let caps = capacities(alloc, instance.net, counts)?;
+    route_within(alloc, instance, &caps)
 }

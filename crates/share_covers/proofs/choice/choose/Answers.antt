@@ -8,14 +8,14 @@ use Rattle.net_core.proofs.Networks.{few_nodes}
 
 pub returns-then-fallback-installed : goal.returns-then-fallback-installed
 returns-then-fallback-installed c =
-    let problem = c.args.problem.now in
-    let net = problem.net.now in
-    subst (IsChosen (case_of problem) c.args.share.now c.args.fallback c.args.quality) (sym c.keep_fallback.ensures)
-    (kept_cheaper (case_of problem) problem.belong (few_nodes net.nodes net.links net.checked) (network_links net.nodes net.links net.checked) c.args.fallback c.requires.fallback c.requires.narrow c.args.share.now c.args.quality c.in_ok-installed.installed c.in_ok-installed.ensures c.if-fallback-installed.true)
+    let instance = c.args.instance.now in
+    let net = instance.net.now in
+    subst (IsChosen (case_of instance) c.args.share.now c.args.fallback c.args.quality) (sym c.keep_fallback.ensures)
+    (kept_cheaper (case_of instance) instance.belong (few_nodes net.nodes net.links net.checked) (network_links net.nodes net.links net.checked) c.args.fallback c.requires.fallback c.requires.narrow c.args.share.now c.args.quality c.in_ok-installed.installed c.in_ok-installed.ensures c.if-fallback-installed.true)
 
 pub returns : goal.returns
 returns c =
-    let problem = c.args.problem.now in
-    let net = problem.net.now in
-    subst (IsChosen (case_of problem) c.args.share.now c.args.fallback c.args.quality) (sym c.decided.ensures)
-    (decides (case_of problem) problem.belong (few_nodes net.nodes net.links net.checked) (network_links net.nodes net.links net.checked) c.args.fallback c.requires.fallback c.requires.narrow c.args.share.now c.args.quality c.in_ok-installed.installed c.in_ok-installed.ensures (omega (arith, c.if-fallback-installed.false)) c.requires.quality c.in_ok-answer.answer c.in_ok-answer.ensures)
+    let instance = c.args.instance.now in
+    let net = instance.net.now in
+    subst (IsChosen (case_of instance) c.args.share.now c.args.fallback c.args.quality) (sym c.decided.ensures)
+    (decides (case_of instance) instance.belong (few_nodes net.nodes net.links net.checked) (network_links net.nodes net.links net.checked) c.args.fallback c.requires.fallback c.requires.narrow c.args.share.now c.args.quality c.in_ok-installed.installed c.in_ok-installed.ensures (omega (arith, c.if-fallback-installed.false)) c.requires.quality c.in_ok-answer.answer c.in_ok-answer.ensures)
