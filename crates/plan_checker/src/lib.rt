@@ -22,5 +22,5 @@ mod tight;
 mod worth;
 
 pub use finding::{CheckAnswer, Finding};
-pub use plan::check_plan;
+pub use plan::{check_instance, check_plan};
 pub use stop::{Stop, Test};

@@ -31,27 +31,20 @@ fn check_own(alloc: Global, instance: &Instance, plan: &Plan, full: bool) -> Tes
     check_tight(alloc, instance, plan)
 }
 
-/// Whether a plan is right for demands, in the order of the findings.
-fn check_for(
-    alloc: Global,
-    net: &Network,
-    states: &States,
-    demands: &Demands,
-    plan: &Plan,
-    full: bool,
-) -> Test
-    requires belong { AreDemands (length net.now.nodes) demands.now }
-    requires form { IsPlanInForm (known_of net.now states.now) plan.now }
-    ensures told { TellFirst (plan_findings (case net.now states.now demands.now) full plan.now) result }
-    ensures sound { OnOk result (IsAcceptedPlan (case net.now states.now demands.now) plan.now) }
+/// Whether a plan in form is right for the demands of an instance, as `check_plan` says it: nothing found, or the first finding, in
+/// their order. `full` says that the pool has no room. It takes the time and the memory of `check_plan`.
+///
+/// ```text
+/// check_instance(alloc, &instance, &plan, false)?;
+/// // Err(Stop::Found(Finding::CostDiffers(20000, 15000)))
+/// ```
+pub fn check_instance(alloc: Global, instance: &Instance, plan: &Plan, full: bool) -> Test
+    requires form { IsPlanInForm (known_of instance.now.net.now instance.now.states.now) plan.now }
+    ensures told { TellFirst (plan_findings (case_of instance.now) full plan.now) result }
+    ensures sound { OnOk result (IsAcceptedPlan (case_of instance.now) plan.now) }
 {
-    let instance = Instance {
-        net,
-        states,
-        demands,
-    };
-    check_demands(&instance, plan)?;
-    check_own(alloc, &instance, plan, full)
+    check_demands(instance, plan)?;
+    check_own(alloc, instance, plan, full)
 }
 
 /// Checks a plan in form for demands, trusting nothing of whoever made it: each demand is carried in each state within the
@@ -80,7 +73,12 @@ pub fn check_plan(
     ensures sound { result ≡ CheckAnswer.Accepted → IsAcceptedPlan (case net.now states.now demands.now) plan.now }
     ensures bound { result ≡ CheckAnswer.Accepted → (counts : List (List ℕ)) → IsAble (case net.now states.now demands.now) counts → plan.now.bound ≤ total_cost net.now.links counts }
 {
-    match check_for(alloc, net, states, demands, plan, pool_full) {
+    let instance = Instance {
+        net,
+        states,
+        demands,
+    };
+    match check_instance(alloc, &instance, plan, pool_full) {
         Ok(()) => CheckAnswer::Accepted,
         Err(Stop::Found(finding)) => CheckAnswer::Rejected {
             outcome: 0,

@@ -10,7 +10,7 @@ ghost use Rattle.report_checker.specs.inner.Along.{AreChecked};
 ghost use Rattle.report_checker.specs.inner.Outcomes.{TellOutcomes};
 ghost use Rattle.report_checker.specs.inner.Walks.{HasPassed};
 
-use crate::outcomes::check_met;
+use crate::outcomes::check_outcome_if_here;
 use crate::walk::{Walk, walk_from};
 use net_core::{Instance, NoMemory};
 use plan_checker::{CheckAnswer, Finding, Stop};
@@ -26,7 +26,7 @@ pub struct Checked {
 }
 
 /// Checks the outcomes of this place of the journal, as far as they come before the first finding.
-fn check_place(
+fn check_outcomes_at(
     alloc: Global,
     instance: &Instance,
     walk: &Walk,
@@ -41,7 +41,7 @@ fn check_place(
 {
     let outcomes = report.outcomes.items();
     for j in 0..checked.clean {
-        match check_met(alloc, instance, walk, report, &outcomes[j], place) {
+        match check_outcome_if_here(alloc, instance, walk, report, &outcomes[j], place) {
             Ok(()) => {}
             Err(Stop::Found(finding)) => {
                 return Ok(Checked {
@@ -67,10 +67,10 @@ fn check_along(alloc: Global, instance: &Instance, report: &Report) -> Result<Ch
         finding: None,
     };
     for k in 0..entries.len() {
-        checked = check_place(alloc, instance, &walk, report, k, checked)?;
+        checked = check_outcomes_at(alloc, instance, &walk, report, k, checked)?;
         walk.pass(&entries[k])?;
     }
-    check_place(alloc, instance, &walk, report, entries.len(), checked)
+    check_outcomes_at(alloc, instance, &walk, report, entries.len(), checked)
 }
 
 /// What the checks of all outcomes come to.

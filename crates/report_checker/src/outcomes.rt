@@ -2,9 +2,8 @@ ghost use Rattle.std.specs.Prelude.{◌≡◌, ◌+◌, ◌<◌, ◌↔◌, IfEr
 ghost use Rattle.net_core.specs.Graphs.{Joins};
 ghost use Rattle.net_core.specs.Views.{case_of, graph};
 ghost use Rattle.plan_report.specs.KnownNames.{known_of};
-ghost use Rattle.plan_report.specs.Forms.{IsOutcomeInForm, IsPlanInForm};
+ghost use Rattle.plan_report.specs.Forms.{IsOutcomeInForm};
 ghost use Rattle.plan_terms.specs.Paths.{AreApart};
-ghost use Rattle.plan_checker.specs.PlanFindings.{IsAcceptedPlan, plan_findings};
 ghost use Rattle.plan_checker.specs.inner.Tests.{StopsFirst, TellFirst, Tells};
 ghost use Rattle.report_checker.specs.Outcomes.{HoldsSurvivable, HoldsVersionDiffers, SeparatesNamed, case_at, outcome_findings};
 ghost use Rattle.report_checker.specs.inner.Along.{IsSoundOutcome, outcome_place};
@@ -13,8 +12,8 @@ ghost use Rattle.report_checker.specs.inner.Walks.{HasPassed};
 
 use crate::walk::Walk;
 use net_core::{CutLine, Demand, Instance, List, Name, NoMemory, StateId};
-use plan_checker::{CheckAnswer, Finding, Stop, Test, check_plan};
-use plan_types::{Outcome, Plan, Report};
+use plan_checker::{Finding, Stop, Test, check_instance};
+use plan_types::{Outcome, Report};
 use short_paths::distances;
 use std::alloc::Global;
 
@@ -50,26 +49,6 @@ fn check_version(instance: &Instance, walk: &Walk, report: &Report, outcome: &Ou
         return Err(Stop::Found(Finding::VersionDiffers(printed, accepted)));
     }
     Ok(())
-}
-
-/// Checks a plan for the instance's demands.
-fn check_planned(alloc: Global, instance: &Instance, plan: &Plan, full: bool) -> Test
-    requires form { IsPlanInForm (known_of instance.now.net.now instance.now.states.now) plan.now }
-    ensures told { TellFirst (plan_findings (case_of instance.now) full plan.now) result }
-    ensures sound { OnOk result (IsAcceptedPlan (case_of instance.now) plan.now) }
-{
-    match check_plan(
-        alloc,
-        instance.net,
-        instance.states,
-        instance.demands,
-        plan,
-        full,
-    ) {
-        CheckAnswer::Accepted => Ok(()),
-        CheckAnswer::Rejected { finding, .. } => Err(Stop::Found(finding)),
-        CheckAnswer::NoMemory => Err(Stop::NoMemory),
-    }
 }
 
 /// Whether there is no distance.
@@ -143,7 +122,7 @@ fn check_separated(alloc: Global, instance: &Instance, state: StateId, name: &Na
 }
 
 /// Checks what an outcome says of the instance's demands, which are those at its position.
-fn check_said(
+fn check_claim(
     alloc: Global,
     instance: &Instance,
     outcome: &Outcome,
@@ -155,7 +134,7 @@ fn check_said(
     ensures sound { OnOk result (IsSaid (case_of instance.now) outcome.now) }
 {
     match outcome {
-        Outcome::Planned { plan, .. } => check_planned(alloc, instance, plan, full),
+        Outcome::Planned { plan, .. } => check_instance(alloc, instance, plan, full),
         Outcome::Unsurvivable { state, demand, .. } => {
             check_separated(alloc, instance, *state, demand)
         }
@@ -163,7 +142,7 @@ fn check_said(
 }
 
 /// Checks an outcome to whose position the walk has come.
-fn check_there(
+fn check_outcome(
     alloc: Global,
     instance: &Instance,
     walk: &Walk,
@@ -182,7 +161,7 @@ fn check_there(
         demands: walk.book.demands(),
     };
     let full = report.pool.len() >= 4096;
-    check_said(alloc, &there, outcome, full, report.pool.items())
+    check_claim(alloc, &there, outcome, full, report.pool.items())
 }
 
 /// The number of entries before an outcome, which are all where its position is past the journal.
@@ -199,7 +178,7 @@ fn place_of(outcome: &Outcome, entries: usize) -> usize
 
 /// Checks an outcome if it is of this place of the journal, to which the walk has come. An unsurvivable outcome takes a search for
 /// each demand of its name, and a plan what the check of a plan takes.
-pub fn check_met(
+pub fn check_outcome_if_here(
     alloc: Global,
     instance: &Instance,
     walk: &Walk,
@@ -215,5 +194,5 @@ pub fn check_met(
     if place_of(outcome, report.entries.len()) != place {
         return Ok(());
     }
-    check_there(alloc, instance, walk, report, outcome)
+    check_outcome(alloc, instance, walk, report, outcome)
 }

@@ -1,7 +1,7 @@
 use Rattle.std.proofs.Common.{arith}
 use Rattle.net_core.specs.Views.{case_of}
 use Rattle.report_checker.proofs.OnOneWalk.{sound_more}
-use Rattle.report_checker.proofs.along.check_place.Goals as goal
+use Rattle.report_checker.proofs.along.check_outcomes_at.Goals as goal
 
 pub loop-j-preserved : goal.loop-j-preserved
 loop-j-preserved c =

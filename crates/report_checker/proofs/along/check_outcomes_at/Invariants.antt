@@ -1,7 +1,7 @@
 use Rattle.std.proofs.Common.{◌+◌}
 use Rattle.net_core.specs.Views.{case_of}
 use Rattle.report_checker.specs.inner.Along.{AreSoundBefore}
-use Rattle.report_checker.proofs.along.check_place.Given as goal
+use Rattle.report_checker.proofs.along.check_outcomes_at.Given as goal
 
 -- the outcomes so far are checked at this place too
 abbrev pub invariant-loop-j : goal.invariant-loop-j
