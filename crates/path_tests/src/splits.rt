@@ -212,16 +212,32 @@ fn are_refused(alloc: Global, row: &UnevenRow) -> bool {
     }
 }
 
+/// The first row whose arcs don't split.
+fn first_unsplit(alloc: Global, rows: &[SplitRow]) -> Option<usize> {
+    for (i, row) in rows.iter().enumerate() {
+        if !are_split(alloc, row) {
+            return Some(i);
+        }
+    }
+    None
+}
+
+/// The first row whose arcs aren't refused.
+fn first_unrefused(alloc: Global, rows: &[UnevenRow]) -> Option<usize> {
+    for (i, row) in rows.iter().enumerate() {
+        if !are_refused(alloc, row) {
+            return Some(i);
+        }
+    }
+    None
+}
+
 #[test]
 fn balanced_arcs_split(rt: HostRuntime) {
-    for i in 0..SPLITS.len() {
-        assert!(rt; are_split(rt.alloc(), &SPLITS[i]), "row {i}");
-    }
+    assert!(rt; first_unsplit(rt.alloc(), &SPLITS).is_none());
 }
 
 #[test]
 fn unbalanced_arcs_are_refused(rt: HostRuntime) {
-    for i in 0..UNEVEN.len() {
-        assert!(rt; are_refused(rt.alloc(), &UNEVEN[i]), "row {i}");
-    }
+    assert!(rt; first_unrefused(rt.alloc(), &UNEVEN).is_none());
 }
