@@ -1,3 +1,4 @@
 pub mod Telling
 pub mod FlowsOnline
 pub mod FlowLaws
+pub mod Once

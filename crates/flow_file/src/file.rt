@@ -1,4 +1,4 @@
-ghost use Rattle.std.specs.Prelude.{◌≡◌, ◌+◌, ◌≤◌, ◌<◌, [], length, IsTrue, IfErr, IfOk, Ok};
+ghost use Rattle.std.specs.Prelude.{◌≡◌, ◌+◌, ◌<◌, [], length, IsTrue, IfErr, IfOk, Ok};
 ghost use Rattle.text_kit.specs.Reading.{of_length};
 ghost use Rattle.net_core.specs.Demands.{AreDemands};
 ghost use Rattle.snd_tokens.specs.Lexemes.{left, size};
@@ -14,9 +14,10 @@ ghost use Rattle.flow_file.specs.FlowReading.{flow_sections_at, flows_at, flows_
 
 use crate::fault::{FlowsKind, FlowsRefusal};
 use crate::flow::{FlowFile, LinkFlow};
+use crate::known::KnownDemands;
 use crate::told::told;
 use crate::words::{flow_demand, flow_from, flow_link, flow_num, section_word, state_word};
-use net_core::{Counts, Demand, Demands, Link, List, Network, States};
+use net_core::{Counts, Demands, Link, List, Network, States};
 use path_split::Arc;
 use report_parts::modules::all_counts;
 use report_words::context::Context;
@@ -35,12 +36,11 @@ const FLOWS: &[u8] = b"FLOWS";
 #[tactic(auto, unfolding(crate::specs::FlowReading::link_flow_at))]
 fn link_flow(
     context: &Context,
-    demands: &[Demand],
+    demands: &KnownDemands,
     sofar: &[LinkFlow],
     text: &mut Cursor,
 ) -> Result<LinkFlow, FlowsRefusal>
-    requires { length demands.now ≤ 2048 }
-    ensures { ReadsAs (λ f. f) result (left text.new) (link_flow_at (known_in context.now) demands.now sofar.now (left text.old)) }
+    ensures { ReadsAs (λ f. f) result (left text.new) (link_flow_at (known_in context.now) demands.now.list.now sofar.now (left text.old)) }
 {
     let demand = flow_demand(demands, sofar, text)?;
     let link = flow_link(context, text)?;
@@ -55,14 +55,13 @@ fn link_flow(
 /// Takes one flow more of a state, and says whether there was one.
 fn take_link_flow(
     context: &Context,
-    demands: &[Demand],
+    demands: &KnownDemands,
     all: &mut List<LinkFlow>,
     text: &mut Cursor,
 ) -> Result<bool, FlowsRefusal>
-    requires { length demands.now ≤ 2048 }
     ensures turn { TakesElement result
-        (link_flows_at (known_in context.now) demands.now all.old (left text.old))
-        (link_flows_at (known_in context.now) demands.now all.new (left text.new))
+        (link_flows_at (known_in context.now) demands.now.list.now all.old (left text.old))
+        (link_flows_at (known_in context.now) demands.now.list.now all.new (left text.new))
         (Ok (all.new, left text.new)) }
     ensures shorter { IfOk result (λ more. IsTrue more → size (left text.new) < size (left text.old)) }
 {
@@ -78,11 +77,10 @@ fn take_link_flow(
 fn link_flows(
     alloc: Global,
     context: &Context,
-    demands: &[Demand],
+    demands: &KnownDemands,
     text: &mut Cursor,
 ) -> Result<List<LinkFlow>, FlowsRefusal>
-    requires { length demands.now ≤ 2048 }
-    ensures { ReadsAs (λ l. l) result (left text.new) (link_flows_at (known_in context.now) demands.now [] (left text.old)) }
+    ensures { ReadsAs (λ l. l) result (left text.new) (link_flows_at (known_in context.now) demands.now.list.now [] (left text.old)) }
 {
     let mut all = List::new(alloc);
     while take_link_flow(context, demands, &mut all, text)? {}
@@ -94,12 +92,11 @@ fn link_flows(
 fn state_flows(
     alloc: Global,
     context: &Context,
-    demands: &[Demand],
+    demands: &KnownDemands,
     sofar: &[List<LinkFlow>],
     text: &mut Cursor,
 ) -> Result<List<LinkFlow>, FlowsRefusal>
-    requires { length demands.now ≤ 2048 }
-    ensures { ReadsAs (λ l. l) result (left text.new) (state_flows_at (known_in context.now) demands.now sofar.now (left text.old)) }
+    ensures { ReadsAs (λ l. l) result (left text.new) (state_flows_at (known_in context.now) demands.now.list.now sofar.now (left text.old)) }
 {
     state_word(context.states, sofar.len(), text)?;
     open(FlowsKind::Token, FlowsKind::Ended, text)?;
@@ -120,14 +117,13 @@ fn states_fault(states: &States, all: &[List<LinkFlow>]) -> Option<FlowsKind>
 fn take_state_flows(
     alloc: Global,
     context: &Context,
-    demands: &[Demand],
+    demands: &KnownDemands,
     all: &mut List<List<LinkFlow>>,
     text: &mut Cursor,
 ) -> Result<bool, FlowsRefusal>
-    requires { length demands.now ≤ 2048 }
     ensures turn { TakesElement result
-        (states_flows_at (known_in context.now) demands.now all.old (left text.old))
-        (states_flows_at (known_in context.now) demands.now all.new (left text.new))
+        (states_flows_at (known_in context.now) demands.now.list.now all.old (left text.old))
+        (states_flows_at (known_in context.now) demands.now.list.now all.new (left text.new))
         (Ok (all.new, left text.new)) }
     ensures shorter { IfOk result (λ more. IsTrue more → size (left text.new) < size (left text.old)) }
 {
@@ -146,11 +142,10 @@ fn take_state_flows(
 fn all_flows(
     alloc: Global,
     context: &Context,
-    demands: &[Demand],
+    demands: &KnownDemands,
     text: &mut Cursor,
 ) -> Result<List<List<LinkFlow>>, FlowsRefusal>
-    requires { length demands.now ≤ 2048 }
-    ensures { ReadsAs (λ l. l) result (left text.new) (states_flows_at (known_in context.now) demands.now [] (left text.old)) }
+    ensures { ReadsAs (λ l. l) result (left text.new) (states_flows_at (known_in context.now) demands.now.list.now [] (left text.old)) }
 {
     let mut all = List::new(alloc);
     while take_state_flows(alloc, context, demands, &mut all, text)? {}
@@ -169,11 +164,10 @@ fn counts(alloc: Global, links: &[Link], text: &mut Cursor) -> Result<Counts, Fl
 fn flow_sections(
     alloc: Global,
     context: &Context,
-    demands: &[Demand],
+    demands: &KnownDemands,
     text: &mut Cursor,
 ) -> Result<FlowFile, FlowsRefusal>
-    requires { length demands.now ≤ 2048 }
-    ensures { ReadsAs (λ f. f) result (left text.new) (flow_sections_at (known_in context.now) demands.now (left text.old)) }
+    ensures { ReadsAs (λ f. f) result (left text.new) (flow_sections_at (known_in context.now) demands.now.list.now (left text.old)) }
 {
     section_word(MODULES, text)?;
     open(FlowsKind::Section, FlowsKind::Ended, text)?;
@@ -188,11 +182,10 @@ fn flow_sections(
 fn flows(
     alloc: Global,
     context: &Context,
-    demands: &[Demand],
+    demands: &KnownDemands,
     text: &mut Cursor,
 ) -> Result<FlowFile, FlowsRefusal>
-    requires { length demands.now ≤ 2048 }
-    ensures { ReadsAs (λ f. f) result (left text.new) (flows_at (known_in context.now) demands.now (left text.old)) }
+    ensures { ReadsAs (λ f. f) result (left text.new) (flows_at (known_in context.now) demands.now.list.now (left text.old)) }
 {
     let file = flow_sections(alloc, context, demands, text)?;
     end(FlowsKind::Section, text)?;
@@ -203,11 +196,10 @@ fn flows(
 fn file(
     alloc: Global,
     context: &Context,
-    demands: &[Demand],
+    demands: &KnownDemands,
     bytes: &[u8],
 ) -> Result<FlowFile, FlowsRefusal>
-    requires { AreDemands (length context.now.net.now.nodes) demands.now }
-    ensures { ReadsAllAs (λ f. f) result (flows_of (known_in context.now) demands.now bytes.now) }
+    ensures { ReadsAllAs (λ f. f) result (flows_of (known_in context.now) demands.now.list.now bytes.now) }
 {
     let mut text = text_after_header(FlowsKind::Header, bytes, HEADER)?;
     flows(alloc, context, demands, &mut text)
@@ -215,7 +207,7 @@ fn file(
 
 /// The counts and flows that a file spells, for a network, its states and its demands. Amounts are in units of the network.
 ///
-/// It takes memory for the counts and the flows, and time in proportion to the bytes, with one pass over the demands at each flow.
+/// It takes time in proportion to the bytes, and memory for the counts, the flows, and the places of the names.
 pub fn read_flows(
     alloc: Global,
     net: &Network,
@@ -236,5 +228,6 @@ pub fn read_flows(
     ensures not_early { IfErr result (IsNotTooEarly (SpellsFlows (known_of net.now states.now) demands.now) bytes.now) }
 {
     let context = Context::new(alloc, net, states)?;
-    file(alloc, &context, demands.items(), bytes)
+    let known = KnownDemands::new(alloc, demands.items())?;
+    file(alloc, &context, &known, bytes)
 }

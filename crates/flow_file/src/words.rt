@@ -1,22 +1,20 @@
-ghost use Rattle.std.specs.Prelude.{◌≡◌, ◌≤◌, ◌==◌, ◌||◌, length, position, slice_get};
-ghost use Rattle.net_core.specs.Tests.{are_same};
+ghost use Rattle.std.specs.Prelude.{◌≡◌, ◌==◌, ◌||◌, slice_get};
 ghost use Rattle.snd_tokens.specs.Lexemes.{left};
 ghost use Rattle.plan_report.specs.Names.{state_name};
 ghost use Rattle.text_kit.specs.Answers.{ReadsAs};
 ghost use Rattle.text_kit.specs.Reading.{word_at};
-ghost use Rattle.report_words.specs.ReportWords.{demand_of, demand_within, link_at, this_name_at};
+ghost use Rattle.report_words.specs.ReportWords.{link_at, this_name_at};
 ghost use Rattle.flow_file.specs.FlowKinds.{told_at};
 ghost use Rattle.flow_file.specs.FlowReading.{end_of, flow_amount, flow_demand_at, section_word_at};
 
 use crate::fault::{FlowsKind, FlowsRefusal};
 use crate::flow::LinkFlow;
+use crate::known::KnownDemands;
 use crate::told::{flows_kind, told};
-use net_core::{Demand, Link, LinkId, NodeId, Places, States};
+use net_core::{Link, LinkId, NodeId, Places, States};
 use report_words::context::Context;
-use report_words::fault::{ReportKind, ReportRefusal};
-use report_words::words::{this_name, unknown_name};
+use report_words::words::this_name;
 use snd_tokens::{Cursor, amount};
-use text_kit::refusal::bad;
 use text_kit::steps::{expect, placed, word};
 
 const NONE: &[u8] = b"none";
@@ -54,51 +52,15 @@ pub(crate) fn state_word(
     told(this_name(name_of_state(states, state), text))
 }
 
-/// The place of a name among the demands.
-fn demand_place(demands: &[Demand], name: &[u8]) -> Option<usize>
-    ensures { result ≡ position (λ d. are_same d.name name.now) demands.now }
-{
-    demands.iter().position(|d| d.name.bytes() == name)
-}
-
-/// The demand that a word names.
-fn demand_of(demands: &[Demand], word: &[u8]) -> Result<u32, ReportKind>
-    requires { length demands.now ≤ 2048 }
-    ensures { result ≡ demand_of demands.now word.now }
-{
-    match demand_place(demands, word) {
-        Some(place) => Ok(place as u32),
-        None => Err(unknown_name(word)),
-    }
-}
-
-/// Takes the name of a demand, where there is room for what it begins.
-fn demand_within(demands: &[Demand], room: bool, text: &mut Cursor) -> Result<u32, ReportRefusal>
-    requires { length demands.now ≤ 2048 }
-    ensures { ReadsAs (λ k. k) result (left text.new) (demand_within room demands.now (left text.old)) }
-{
-    let (at, word) = word(ReportKind::Token, ReportKind::Ended, text)?;
-    match demand_of(demands, word) {
-        Ok(place) => {
-            if room {
-                return Ok(place);
-            }
-            Err(bad(at, ReportKind::Limit))
-        }
-        Err(kind) => Err(bad(at, kind)),
-    }
-}
-
 /// Takes the demand of a flow after these ones.
 pub(crate) fn flow_demand(
-    demands: &[Demand],
+    demands: &KnownDemands,
     sofar: &[LinkFlow],
     text: &mut Cursor,
 ) -> Result<u32, FlowsRefusal>
-    requires { length demands.now ≤ 2048 }
-    ensures { ReadsAs (λ k. k) result (left text.new) (told_at (flow_demand_at demands.now sofar.now) (left text.old)) }
+    ensures { ReadsAs (λ k. k) result (left text.new) (told_at (flow_demand_at demands.now.list.now sofar.now) (left text.old)) }
 {
-    told(demand_within(demands, sofar.len() < MAX_FLOWS, text))
+    told(demands.next(sofar.len() < MAX_FLOWS, text))
 }
 
 /// Takes the link of a flow.

@@ -5,7 +5,7 @@ use Rattle.flow_file.specs.FlowReading.{states_flows_at}
 use Rattle.flow_file.proofs.file.all_flows.Given as goal
 
 abbrev pub invariant-loop-all : goal.invariant-loop-all
-invariant-loop-all l = states_flows_at (known_in l.context) l.demands l.all (left l.text) ≡ states_flows_at (known_in l.context) l.demands [] (left l.fn.text)
+invariant-loop-all l = states_flows_at (known_in l.context) l.demands.list.now l.all (left l.text) ≡ states_flows_at (known_in l.context) l.demands.list.now [] (left l.fn.text)
 
 abbrev pub decreases-loop-all : goal.decreases-loop-all
 decreases-loop-all l = size (left l.text)

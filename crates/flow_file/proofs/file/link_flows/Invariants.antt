@@ -5,7 +5,7 @@ use Rattle.flow_file.specs.FlowReading.{link_flows_at}
 use Rattle.flow_file.proofs.file.link_flows.Given as goal
 
 abbrev pub invariant-loop-all : goal.invariant-loop-all
-invariant-loop-all l = link_flows_at (known_in l.context) l.demands l.all (left l.text) ≡ link_flows_at (known_in l.context) l.demands [] (left l.fn.text)
+invariant-loop-all l = link_flows_at (known_in l.context) l.demands.list.now l.all (left l.text) ≡ link_flows_at (known_in l.context) l.demands.list.now [] (left l.fn.text)
 
 abbrev pub decreases-loop-all : goal.decreases-loop-all
 decreases-loop-all l = size (left l.text)
