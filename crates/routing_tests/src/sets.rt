@@ -1,4 +1,4 @@
-ghost use Rattle.std.specs.Prelude.{◌<◌};
+ghost use Rattle.std.specs.Prelude.{◌≡◌, ◌+◌, ◌<◌, length};
 
 use crate::fixtures::{TRIANGLE, with_single_failures};
 use metric_cut::Cut;
@@ -58,6 +58,24 @@ fn is_found_at(alloc: Global, task: &RouteTask, row: &Row) -> bool
     }
 }
 
+/// Whether the row's cut is found in this state, within these capacities.
+fn is_found_in<'a>(alloc: Global, p: &'a Problem, state: StateId, caps: &'a Caps, row: &Row) -> bool
+    requires state { state.0 < length p.now.states.listed + 1 }
+    requires scale { 0 < caps.now.scale }
+    requires caps { length caps.now.nums ≡ length p.now.net.links }
+{
+    let task = RouteTask {
+        graph: Surviving {
+            net: &p.net,
+            states: &p.states,
+            state,
+        },
+        demands: &p.demands,
+        caps,
+    };
+    is_found_at(alloc, &task, row)
+}
+
 /// Whether the row's cut is found.
 fn is_found(alloc: Global, p: &Problem, row: &Row) -> bool {
     let Ok(nums) = List::from_slice(alloc, row.2) else {
@@ -67,16 +85,7 @@ fn is_found(alloc: Global, p: &Problem, row: &Row) -> bool {
         return false;
     }
     let caps = Caps { scale: row.1, nums };
-    let task = RouteTask {
-        graph: Surviving {
-            net: &p.net,
-            states: &p.states,
-            state: StateId(row.0),
-        },
-        demands: &p.demands,
-        caps: &caps,
-    };
-    is_found_at(alloc, &task, row)
+    is_found_in(alloc, p, StateId(row.0), &caps, row)
 }
 
 /// The first row whose cut isn't found, or none.
