@@ -1,0 +1,47 @@
+-- routings that are found are in form
+use Rattle.std.proofs.Common.{◌≡◌, ◌≢◌, ℕ, ◌^◌, ◌<◌, ◌≤◌, List, [], ◌∷◌, All, get_or, length, subst, arith}
+use Rattle.std.proofs.lemmas.List.Elements.{All-cons, All-nil}
+use Rattle.std.proofs.lemmas.Option.{slice_get_within, get_or_from_slice_get}
+use Rattle.net_core.specs.declared.demand.Demand.{Demand}
+use Rattle.net_core.specs.declared.ids.LinkId.{LinkId}
+use Rattle.net_core.specs.declared.plan.Caps.{Caps}
+use Rattle.net_core.specs.declared.plan.Flow.{Flow}
+use Rattle.net_core.specs.declared.plan.Routing.{Routing}
+use Rattle.net_core.specs.Demands.{AreDemands, IsDemand}
+use Rattle.net_core.specs.Graphs.{Graph, Joins}
+use Rattle.plan_terms.specs.Flows.{IsFlow}
+use Rattle.plan_terms.specs.Paths.{Leads, last_node}
+use Rattle.plan_report.specs.Forms.{IsFlowInForm, IsRoutingInForm}
+use Rattle.flow_router.specs.Answers.{IsRouted}
+
+module _ (g : Graph) where
+  links_known : (a : ℕ) (es : List LinkId) (cs : List ℕ) → Leads (Joins g) a es cs → All (λ e. e.0 < length g.links) es
+  links_known a [] cs leads = All-nil (λ (e : LinkId). e.0 < length g.links)
+  links_known a (e ∷ es) [] leads = absurd leads
+  links_known a (e ∷ es) (c ∷ cs) leads =
+      All-cons (λ (x : LinkId). x.0 < length g.links) e es (slice_get_within g.links e.0 leads.0.survives.link leads.0.survives.at) (links_known c es cs leads.1)
+
+  -- a path between two different nodes has a link
+  has_link : (a b : ℕ) → a ≢ b → (es : List LinkId) (cs : List ℕ) → Leads (Joins g) a es cs → last_node a cs ≡ b → 1 ≤ length es
+  has_link a b ne [] [] leads last = absurd (ne last)
+  has_link a b ne [] (c ∷ cs) leads last = absurd leads
+  has_link a b ne (e ∷ es) cs leads last = omega arith
+
+  module _ (demands : List Demand) (belong : AreDemands (length g.nodes) demands) where
+    flow_found : (f : Flow) → f.num < 2 ^ 124 → IsFlow (Joins g) demands f → IsFlowInForm g.links demands f
+    flow_found f low is =
+        let d : IsDemand (length g.nodes) is.of = subst (IsDemand (length g.nodes)) (get_or_from_slice_get demands f.demand is.of is.of is.at) (belong.each f.demand is.of (slice_get_within demands f.demand is.of is.at)) in
+        record {
+          demand = slice_get_within demands f.demand is.of is.at;
+          positive = is.positive;
+          num = low;
+          path = record { some = has_link is.of.from.0 is.of.to.0 d.different f.path is.path.0 is.path.1 is.path.2; known = links_known is.of.from.0 f.path is.path.0 is.path.1 };
+        }
+
+    pub routing_found : length g.links ≤ 256 → (caps : Caps) (r : Routing) → IsRouted g demands caps r → IsRoutingInForm g.links demands r
+    routing_found links caps r is = record {
+      positive = is.carries.den;
+      den = is.den_limit;
+      few = let most = is.few in omega (arith, most, links, belong.few);
+      flows = λ k d lt. flow_found (get_or r.flows k d) (is.nums_limit k d lt) (is.carries.flows k d lt);
+    }

@@ -1,0 +1,3 @@
+pub mod FoundForms
+pub mod RoomLeft
+pub mod Testing

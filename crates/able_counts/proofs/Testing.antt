@@ -1,0 +1,116 @@
+-- routings that are kept or become ones within other capacities
+use Rattle.std.proofs.Common.{◌≡◌, ◌∙◌, ℕ, zero, suc, ◌+◌, ◌*◌, ◌≤◌, ◌<◌, ◌⊎◌, inl, inr, ⊎_elim, List, [], ◌∷◌, All, None, Some, Option, IfSome, length, slice_get, slice_index, refl, sym, ap, subst, arith}
+use Rattle.std.proofs.Math.ListN.{set, length-set}
+use Rattle.std.proofs.lemmas.Bool.{cases_lt}
+use Rattle.std.proofs.lemmas.Option.{slice_get_within}
+use Rattle.net_core.specs.declared.plan.Caps.{Caps}
+use Rattle.net_core.specs.declared.plan.CutLine.{CutLine}
+use Rattle.net_core.specs.declared.plan.Routing.{Routing}
+use Rattle.net_core.specs.Cases.{Case, graph_in}
+use Rattle.net_core.specs.Demands.{AreDemands}
+use Rattle.net_core.specs.Graphs.{Joins}
+use Rattle.net_core.proofs.Lists.{some_same}
+use Rattle.plan_terms.specs.Certificates.{IsCut}
+use Rattle.plan_terms.specs.Flows.{Carries, load}
+use Rattle.plan_terms.specs.Separations.{IsSurvivable}
+use Rattle.metric_cut.specs.declared.cut.Cut.{Cut}
+use Rattle.route_law.specs.Routings.{AreJoined}
+use Rattle.flow_router.specs.Answers.{IsRouted}
+use Rattle.separator.specs.Findings.{IsFoundCutOf}
+use Rattle.separator.specs.Separators.{IsLineAt}
+use Rattle.separator.proofs.Answering.{line_separates}
+use Rattle.able_counts.proofs.FoundForms.{routing_found}
+use Rattle.able_counts.specs.AbleTests.{AreKeptOrWithin, AreRoutingsWithin, IsRoutingOf, IsRoutingWithin, IsStopAt}
+use Rattle.able_counts.specs.declared.stop.Stop.{Stop}
+use Rattle.able_counts.specs.declared.stop.Stop.TheVariants as stop
+
+-- what is read of a list after one of its items is written
+pub get_set : {X : Type 0} (xs : List X) (i k : ℕ) (y x : X) → slice_get (set xs i y) k ≡ Some x → ((k ≡ i) × (x ≡ y)) ⊎ (slice_get xs k ≡ Some x)
+get_set [] i k y x at = absurd (let e : None ≡ Some x = at in cc e)
+get_set (z ∷ xs) zero zero y x at = inl (refl, sym (some_same y x at))
+get_set (z ∷ xs) zero (suc k) y x at = inr at
+get_set (z ∷ xs) (suc i) zero y x at = inr at
+get_set (z ∷ xs) (suc i) (suc k) y x at = ⊎_elim (λ h. inl (ap suc h.0, h.1)) (λ h. inr h) (get_set xs i k y x at)
+
+module _ (p : Case) (nums : List ℕ) where
+  pub kept_none : (a : List Routing) → AreKeptOrWithin p nums a a
+  kept_none a = record { same = refl; each = λ s r at. inl at }
+
+  pub kept_both : (a b c : List Routing) → AreKeptOrWithin p nums a b → AreKeptOrWithin p nums b c → AreKeptOrWithin p nums a c
+  kept_both a b c one two = record { same = two.same ∙ one.same; each = λ s r at. ⊎_elim (λ old. one.each s r old) (λ within. inr within) (two.each s r at) }
+
+  -- a routing of state s is kept, or becomes one within the capacities
+  pub kept_set : (a : List Routing) (s : ℕ) (old new : Routing) → slice_get a s ≡ Some old → (new ≡ old) ⊎ IsRoutingWithin p s nums new → AreKeptOrWithin p nums a (set a s new)
+  kept_set a s old new here is = record {
+    same = length-set a s new;
+    each = λ k r at. ⊎_elim
+        (λ (h : (k ≡ s) × (r ≡ new)). subst (λ n. (slice_get a n ≡ Some r) ⊎ IsRoutingWithin p n nums r) (sym h.0)
+        (⊎_elim (λ same. inl (here ∙ ap (λ x. Some x) (sym (h.1 ∙ same)))) (λ within. inr (subst (IsRoutingWithin p s nums) (sym h.1) within)) is))
+        (λ h. inl h)
+        (get_set a s k new r at);
+  }
+
+  -- each is still a routing of its state
+  pub routings_kept : (a b : List Routing) → ((s : ℕ) (r : Routing) → slice_get a s ≡ Some r → IsRoutingOf p s r) → AreKeptOrWithin p nums a b
+      → (s : ℕ) (r : Routing) → slice_get b s ≡ Some r → IsRoutingOf p s r
+  routings_kept a b of kept s r at = ⊎_elim (λ old. of s r old) (λ within. record { nums = nums; within = within }) (kept.each s r at)
+
+-- a routing whose loads are within other capacities
+pub within_now : (p : Case) (s : ℕ) (nums : List ℕ) (r : Routing) → IsRoutingOf p s r → ((e : ℕ) → load r.flows e ≤ slice_index nums e * r.den) → IsRoutingWithin p s nums r
+within_now p s nums r of fits =
+    let was = of.within.carries in
+    record {
+      carries = record { den = was.den; flows = was.flows; met = was.met; within = fits };
+      form = of.within.form;
+      lowest = of.within.lowest;
+    }
+
+module _ (p : Case) (s : ℕ) (caps : Caps) (scale : caps.scale ≡ 1) where
+  -- a routing that is found
+  pub routed_within : AreDemands (length p.nodes) p.demands → length p.links ≤ 256 → (r : Routing) → IsRouted (graph_in p s) p.demands caps r → IsRoutingWithin p s caps.nums r
+  routed_within belong few r is = record {
+    carries = subst (λ n. Carries (Joins (graph_in p s)) p.demands n caps.nums r) scale is.carries;
+    form = routing_found (graph_in p s) p.demands belong few caps r is;
+    lowest = is.lowest;
+  }
+
+-- a cut that is found
+pub cut_stops : (p : Case) (s : ℕ) (caps : Caps) (cut : Cut) (line : CutLine) → IsFoundCutOf (graph_in p s) p.demands caps cut → IsLineAt p.demands cut line → IsStopAt p caps (stop.Cut line)
+cut_stops p s caps cut line found is = let whole = line_separates p caps s cut line found is in (whole.cut, whole.violated)
+
+-- a state whose positive demands aren't separated
+pub survivable_joins : (p : Case) (s : ℕ) → IsSurvivable p → s < length p.listed + 1 → AreJoined (graph_in p s) p.demands
+survivable_joins p s survivable inside k d at needed apart = survivable s k (omega (arith, inside)) (record { demand = d; at = at; needed = needed; apart = apart })
+
+-- the routings of the states below n are within the capacities
+pub record AreWithinBelow (p : Case) (nums : List ℕ) (n : ℕ) (routings : List Routing) : Type 0 where
+  pub each : (t : ℕ) (r : Routing) → t < n → slice_get routings t ≡ Some r → IsRoutingWithin p t nums r
+
+module _ (p : Case) (nums : List ℕ) where
+  pub within_none : (routings : List Routing) → AreWithinBelow p nums 0 routings
+  within_none routings = record { each = λ t r lt at. absurd (omega (arith, lt)) }
+
+  -- one state more
+  pub within_more : (n : ℕ) (old new : List Routing) → AreWithinBelow p nums n old → AreKeptOrWithin p nums old new → ((r : Routing) → slice_get new n ≡ Some r → IsRoutingWithin p n nums r) → AreWithinBelow p nums (n + 1) new
+  within_more n old new before kept here = record {
+    each = λ t r lt at. ⊎_elim
+        (λ (low : t < n). ⊎_elim (λ was. before.each t r low was) (λ within. within) (kept.each t r at))
+        (λ (ge : n ≤ t). let same : t ≡ n = omega (arith, lt, ge) in subst (λ k. IsRoutingWithin p k nums r) (sym same) (here r (subst (λ k. slice_get new k ≡ Some r) same at)))
+        (cases_lt t n);
+  }
+
+  -- all states
+  pub within_all : (n : ℕ) (routings : List Routing) → length routings ≡ length p.listed + 1 → length p.listed + 1 ≤ n → AreWithinBelow p nums n routings → AreRoutingsWithin p nums routings
+  within_all n routings long all below = record {
+    states = long;
+    each = λ s r at. below.each s r (let lt = slice_get_within routings s r at in omega (arith, lt, long, all)) at;
+  }
+
+-- what holds of both stops holds of the later one
+pub stop_of_later : (p : Case) (caps : Caps) (first second result : Option Stop) → (result ≡ first) ⊎ (result ≡ second) → IfSome first (IsStopAt p caps) → IfSome second (IsStopAt p caps) → IfSome result (IsStopAt p caps)
+stop_of_later p caps first second result one a b =
+    ⊎_elim (λ is. subst (λ (o : Option Stop). IfSome o (IsStopAt p caps)) (sym is) a) (λ is. subst (λ (o : Option Stop). IfSome o (IsStopAt p caps)) (sym is) b) one
+
+-- cuts of the case have a length for each link
+pub lengths_of_cuts : (p : Case) (n : ℕ) (cuts : List CutLine) → n ≡ length p.links → All (IsCut p) cuts → All (λ cut. length cut.lengths ≡ n) cuts
+lengths_of_cuts p n cuts long are k d lt = (are k d lt).kept.count ∙ sym long

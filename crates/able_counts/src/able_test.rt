@@ -1,0 +1,233 @@
+ghost use Rattle.std.specs.Prelude.{◌≡◌, ◌^◌, ◌+◌, ◌<◌, Some, All, IfOk, IfSome, None, length, slice_get, ℕ};
+ghost use Rattle.net_core.specs.declared.plan.Routing.{Routing};
+ghost use Rattle.net_core.specs.Views.{case_of};
+ghost use Rattle.plan_terms.specs.Capacities.{AreCounts, AreWithinLimits, capacities};
+ghost use Rattle.plan_terms.specs.Separations.{IsSurvivable};
+ghost use Rattle.able_counts.specs.AbleTests.{AreKeptOrWithin, AreRoutingsWithin, IsRoutingWithin, IsRoutingOf, IsStopAt, IsTestOf, whole_caps};
+
+use crate::cuts::last_violated;
+use crate::routed::state_stop;
+use crate::stop::{Stop, discard, is_cut, later};
+use module_choice::capacities;
+use net_core::{
+    Caps, Copied, Counts, CutLine, Instance, List, NoMemory, RouteColumn, Routing, StateId,
+};
+use std::alloc::Global;
+
+/// What was learned of counts of modules: cuts, and for each state the last routing and the columns of its last routing program.
+/// What it answers is said of the counts alone; what it keeps makes the next answer cheaper.
+#[derive(Drop)]
+pub struct AbleTest {
+    alloc: Global,
+    /// The newest last.
+    cuts: List<CutLine>,
+    columns: List<List<RouteColumn>>,
+    routings: List<Routing>,
+    /// The state that refused last.
+    refused: u32,
+}
+
+/// As many lists without columns.
+fn no_columns(alloc: Global, count: usize) -> Result<List<List<RouteColumn>>, NoMemory>
+    ensures { IfOk result (λ columns. length columns ≡ count) }
+{
+    let mut columns = List::new(alloc);
+    for _ in 0..count {
+        columns.push(List::new(alloc))?;
+    }
+    Ok(columns)
+}
+
+impl AbleTest {
+    /// A test that knows no cuts yet, with a routing for each state, within whatever capacities.
+    pub fn new(
+        alloc: Global,
+        instance: &Instance,
+        routings: List<Routing>,
+    ) -> Result<AbleTest, NoMemory>
+        requires states { length routings ≡ length instance.now.states.now.listed + 1 }
+        requires each { (s : ℕ) (r : Routing) → slice_get routings s ≡ Some r → IsRoutingOf (case_of instance.now) s r }
+        ensures sound { IfOk result (IsTestOf (case_of instance.now)) }
+        ensures routings { IfOk result (λ t. t.routings ≡ routings) }
+    {
+        Ok(AbleTest {
+            alloc,
+            cuts: List::new(alloc),
+            columns: no_columns(alloc, routings.len())?,
+            routings,
+            refused: 0,
+        })
+    }
+
+    /// The routings, one for each state: within the capacities of the last counts that carry the demands, as long as no others were asked.
+    pub fn routings(&self) -> &List<Routing>
+        ensures { result.now ≡ self.now.routings }
+    {
+        &self.routings
+    }
+
+    /// The routings, without a copy.
+    pub fn into_routings(self) -> List<Routing>
+        ensures { result ≡ self.routings }
+    {
+        self.routings
+    }
+
+    /// Keeps a copy of a cut that a state gave, and which state that was.
+    fn keep_cut(
+        &mut self,
+        instance: &Instance,
+        state: StateId,
+        caps: &Caps,
+        stop: &Stop,
+    ) -> Result<(), NoMemory>
+        requires sound { IsTestOf (case_of instance.now) self.old }
+        requires stop { IsStopAt (case_of instance.now) caps.now stop.now }
+        ensures sound { IsTestOf (case_of instance.now) self.new }
+        ensures routings { self.new.routings ≡ self.old.routings }
+    {
+        match stop {
+            Stop::Cut(line) => {
+                self.refused = state.0;
+                self.cuts.push(line.copy()?)?;
+                Ok(())
+            }
+            Stop::Wide(_) => Ok(()),
+        }
+    }
+
+    /// The same where there is one.
+    fn keep(
+        &mut self,
+        instance: &Instance,
+        state: StateId,
+        caps: &Caps,
+        found: &Option<Stop>,
+    ) -> Result<(), NoMemory>
+        requires sound { IsTestOf (case_of instance.now) self.old }
+        requires stop { IfSome found.now (IsStopAt (case_of instance.now) caps.now) }
+        ensures sound { IsTestOf (case_of instance.now) self.new }
+        ensures routings { self.new.routings ≡ self.old.routings }
+    {
+        match found {
+            Some(stop) => self.keep_cut(instance, state, caps, stop),
+            None => Ok(()),
+        }
+    }
+
+    /// Why capacities don't carry the demands in a state; where they do, the state's routing is within them.
+    fn stop_in(
+        &mut self,
+        instance: &Instance,
+        state: StateId,
+        caps: &Caps,
+    ) -> Result<Option<Stop>, NoMemory>
+        requires sound { IsTestOf (case_of instance.now) self.old }
+        requires state { state.0 < length instance.now.states.now.listed + 1 }
+        requires survivable { IsSurvivable (case_of instance.now) }
+        requires scale { caps.now.scale ≡ 1 }
+        requires count { length caps.now.nums ≡ length instance.now.net.now.links }
+        requires narrow { All (λ n. n < 2 ^ 62) caps.now.nums }
+        ensures sound { IsTestOf (case_of instance.now) self.new }
+        ensures kept { AreKeptOrWithin (case_of instance.now) caps.now.nums self.old.routings self.new.routings }
+        ensures carried { IfOk result (λ o. o ≡ None → (r : Routing) → slice_get self.new.routings state.0 ≡ Some r → IsRoutingWithin (case_of instance.now) state.0 caps.now.nums r) }
+        ensures stop { IfOk result (λ o. IfSome o (IsStopAt (case_of instance.now) caps.now)) }
+    {
+        let at = state.0 as usize;
+        let found = state_stop(
+            self.alloc,
+            instance,
+            state,
+            caps,
+            &mut self.routings.items_mut()[at],
+            &mut self.columns.items_mut()[at],
+        )?;
+        self.keep(instance, state, caps, &found)?;
+        Ok(found)
+    }
+
+    /// The same of the state that refused last.
+    fn stop_again(&mut self, instance: &Instance, caps: &Caps) -> Result<Option<Stop>, NoMemory>
+        requires sound { IsTestOf (case_of instance.now) self.old }
+        requires survivable { IsSurvivable (case_of instance.now) }
+        requires scale { caps.now.scale ≡ 1 }
+        requires count { length caps.now.nums ≡ length instance.now.net.now.links }
+        requires narrow { All (λ n. n < 2 ^ 62) caps.now.nums }
+        ensures sound { IsTestOf (case_of instance.now) self.new }
+        ensures kept { AreKeptOrWithin (case_of instance.now) caps.now.nums self.old.routings self.new.routings }
+        ensures stop { IfOk result (λ o. IfSome o (IsStopAt (case_of instance.now) caps.now)) }
+    {
+        if self.refused < instance.states.count() {
+            self.stop_in(instance, StateId(self.refused), caps)
+        } else {
+            Ok(None)
+        }
+    }
+
+    /// The same of all states, in their order: a cut of some state, or else evidence of some state.
+    fn stop_in_turn(&mut self, instance: &Instance, caps: &Caps) -> Result<Option<Stop>, NoMemory>
+        requires sound { IsTestOf (case_of instance.now) self.old }
+        requires survivable { IsSurvivable (case_of instance.now) }
+        requires scale { caps.now.scale ≡ 1 }
+        requires count { length caps.now.nums ≡ length instance.now.net.now.links }
+        requires narrow { All (λ n. n < 2 ^ 62) caps.now.nums }
+        ensures sound { IsTestOf (case_of instance.now) self.new }
+        ensures kept { AreKeptOrWithin (case_of instance.now) caps.now.nums self.old.routings self.new.routings }
+        ensures carried { IfOk result (λ o. o ≡ None → AreRoutingsWithin (case_of instance.now) caps.now.nums self.new.routings) }
+        ensures stop { IfOk result (λ o. IfSome o (IsStopAt (case_of instance.now) caps.now)) }
+    {
+        let mut wide = None;
+        for s in 0..instance.states.count() {
+            let found = self.stop_in(instance, StateId(s), caps)?;
+            if is_cut(&found) {
+                discard(wide);
+                return Ok(found);
+            }
+            wide = later(wide, found);
+        }
+        Ok(wide)
+    }
+
+    /// The same, of the state that refused last first.
+    fn stop_within(&mut self, instance: &Instance, caps: &Caps) -> Result<Option<Stop>, NoMemory>
+        requires sound { IsTestOf (case_of instance.now) self.old }
+        requires survivable { IsSurvivable (case_of instance.now) }
+        requires scale { caps.now.scale ≡ 1 }
+        requires count { length caps.now.nums ≡ length instance.now.net.now.links }
+        requires narrow { All (λ n. n < 2 ^ 62) caps.now.nums }
+        ensures sound { IsTestOf (case_of instance.now) self.new }
+        ensures kept { AreKeptOrWithin (case_of instance.now) caps.now.nums self.old.routings self.new.routings }
+        ensures carried { IfOk result (λ o. o ≡ None → AreRoutingsWithin (case_of instance.now) caps.now.nums self.new.routings) }
+        ensures stop { IfOk result (λ o. IfSome o (IsStopAt (case_of instance.now) caps.now)) }
+    {
+        let found = self.stop_again(instance, caps)?;
+        if is_cut(&found) {
+            return Ok(found);
+        }
+        discard(found);
+        self.stop_in_turn(instance, caps)
+    }
+
+    /// Why counts of modules aren't known to carry the demands in all states, none of which separates a demand: a cut of some state, or else
+    /// evidence. `None` where they carry them: then `routings` has a routing for each state within their capacities.
+    ///
+    /// It asks cheaply first: the cuts that it knows, the newest first; then the state that refused last; then each state whose last routing
+    /// isn't within the capacities, with the columns of its last routing program. It takes time as `separate_state` for each such state, and
+    /// keeps a cut for each that it finds.
+    pub fn stop(&mut self, instance: &Instance, counts: &Counts) -> Result<Option<Stop>, NoMemory>
+        requires sound { IsTestOf (case_of instance.now) self.old }
+        requires survivable { IsSurvivable (case_of instance.now) }
+        requires shape { AreCounts instance.now.net.now.links counts.now }
+        requires limits { AreWithinLimits instance.now.net.now.links counts.now }
+        ensures sound { IsTestOf (case_of instance.now) self.new }
+        ensures kept { AreKeptOrWithin (case_of instance.now) (capacities instance.now.net.now.links counts.now) self.old.routings self.new.routings }
+        ensures carried { IfOk result (λ o. o ≡ None → AreRoutingsWithin (case_of instance.now) (capacities instance.now.net.now.links counts.now) self.new.routings) }
+        ensures stop { IfOk result (λ o. IfSome o (IsStopAt (case_of instance.now) (whole_caps (capacities instance.now.net.now.links counts.now)))) }
+    {
+        let caps = capacities(self.alloc, instance.net, counts)?;
+        if let Some(line) = last_violated(self.cuts.items(), &caps)? {
+            return Ok(Some(Stop::Cut(line)));
+        }
+        self.stop_within(instance, &caps)
+    }
+}

@@ -1,0 +1,65 @@
+-- plans with other counts
+use Rattle.std.proofs.Common.{◌≡◌, ◌≤◌, List, get_or, refl, sym, subst, arith}
+use Rattle.std.proofs.lemmas.Option.{slice_get-get_or}
+use Rattle.net_core.specs.declared.demand.Demand.{Demand}
+use Rattle.net_core.specs.Cases.{Case}
+use Rattle.net_core.proofs.Lists.{all_at}
+use Rattle.plan_terms.specs.Capacities.{capacities, total_cost}
+use Rattle.plan_types.specs.declared.plan.Plan.{Plan}
+use Rattle.plan_report.specs.Forms.{IsRoutingInForm}
+use Rattle.route_law.specs.Routings.{IsLowestRouting}
+use Rattle.able_counts.specs.AbleTests.{AreRoutingsWithin}
+use Rattle.trim_plan.specs.Trimmed.{IsRoutedPlan, IsTrimming}
+use Rattle.trim_plan.specs.inner.Sparing.{AreTrimmedCounts}
+use Rattle.trim_plan.specs.declared.trimming.Trimming.{Trimming}
+use Rattle.trim_plan.proofs.AtMost.{total_at_most}
+
+-- the routings of a plan are within the capacities of its counts
+pub plan_routings : (p : Case) (plan : Plan) → plan.demands ≡ p.demands → IsRoutedPlan p plan → AreRoutingsWithin p (capacities p.links plan.counts) plan.routings
+plan_routings p plan same is = record {
+  states = is.carrying.states;
+  each = λ s r at. record {
+    carries = is.carrying.each s r at;
+    form = subst (λ (ds : List Demand). IsRoutingInForm p.links ds r) same (all_at (IsRoutingInForm p.links plan.demands) plan.routings s r is.form.routings.each at);
+    lowest = all_at IsLowestRouting plan.routings s r is.lowest at;
+  };
+}
+
+-- a plan with trimmed counts
+pub trimming_of : (p : Case) (plan : Plan) (t : Trimming) → plan.demands ≡ p.demands → IsRoutedPlan p plan → AreTrimmedCounts p plan.counts t
+    → IsTrimming p plan (record { plan = record plan { counts = t.counts; cost = t.cost; routings = t.routings }; blocks = t.blocks })
+trimming_of p plan t same is are =
+    let le = total_at_most p.links t.counts plan.counts are.fewer in
+    let paid = are.paid in
+    let costed : plan.cost ≡ total_cost p.links plan.counts = is.costed in
+    let cheaper : t.cost ≤ plan.cost = omega (arith, le, paid, costed) in
+    let form = is.form in
+    record {
+      same = refl;
+      routed = record {
+        carrying = record { states = are.routings.states; each = λ s r at. (are.routings.each s r at).carries };
+        costed = paid;
+        form = record {
+          version = form.version;
+          position = form.position;
+          demands = form.demands;
+          counts = are.shape;
+          limits = are.limits;
+          cost = let low = form.cost in omega (arith, low, cheaper);
+          routings = record {
+            long = are.routings.states;
+            each = λ k d lt. subst (λ (ds : List Demand). IsRoutingInForm p.links ds (get_or t.routings k d)) (sym same) (are.routings.each k (get_or t.routings k d) (slice_get-get_or t.routings k d lt)).form;
+          };
+          certificate = form.certificate;
+          raw_num = form.raw_num;
+          raw_positive = form.raw_positive;
+          raw_den = form.raw_den;
+          bound = form.bound;
+          quality = form.quality;
+        };
+        lowest = λ k d lt. (are.routings.each k (get_or t.routings k d) (slice_get-get_or t.routings k d lt)).lowest;
+      };
+      fewer = are.fewer;
+      cheaper = cheaper;
+      trimmed = are.trimmed;
+    }

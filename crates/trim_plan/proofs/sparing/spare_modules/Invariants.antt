@@ -1,0 +1,11 @@
+use Rattle.net_core.specs.Views.{case_of}
+use Rattle.able_counts.specs.AbleTests.{AreRoutedCounts}
+use Rattle.trim_plan.specs.Trimmed.{AreAtMost}
+use Rattle.trim_plan.proofs.sparing.spare_modules.Given as goal
+
+-- the test's routings are within the counts, of which none is greater
+abbrev pub invariant-loop-i : goal.invariant-loop-i
+invariant-loop-i l = record {
+  routed : AreRoutedCounts (case_of l.instance) l.counts l.test;
+  fewer : AreAtMost l.counts l.fn.counts;
+}

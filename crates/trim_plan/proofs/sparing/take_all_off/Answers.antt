@@ -1,0 +1,11 @@
+use Rattle.trim_plan.proofs.AtMost.{counts_both, counts_same}
+use Rattle.trim_plan.proofs.sparing.take_all_off.Goals as goal
+
+pub loop-init : goal.loop-init
+loop-init c = record { routed = c.requires.routed; fewer = counts_same c.args.counts.now }
+
+pub loop-preserved : goal.loop-preserved
+loop-preserved c = record {
+  routed = c.in_ok-take_off.ensures.routed;
+  fewer = counts_both c.take_off.new.counts c.loop.counts c.args.counts.now c.in_ok-take_off.ensures.fewer c.loop.invariant.fewer;
+}

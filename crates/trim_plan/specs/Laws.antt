@@ -1,0 +1,22 @@
+-- what trimmed counts are good for
+use Rattle.std.specs.Prelude.{ℕ, ◌<◌, List, All}
+use Rattle.net_core.specs.Cases.{Case}
+use Rattle.plan_terms.specs.Capacities.{IsAble}
+use Rattle.able_counts.specs.declared.stop.Stop.{Stop}
+use Rattle.able_counts.specs.declared.stop.Stop.TheVariants.{Cut, Wide}
+use Rattle.trim_plan.specs.declared.trimming.Block.{Block}
+use Rattle.trim_plan.specs.Trimmed.{IsTrimmedBy, count_at, one_less}
+
+-- the block is a cut
+abbrev pub IsCutStop : Stop → Type 0
+IsCutStop (Cut line) = Unit {0}
+IsCutStop (Wide evidence) = ⊥
+
+-- Where all blocks are cuts, no counts that are the trimmed ones less one module are able.
+abbrev pub TrimmedAreLeast : Type 0
+TrimmedAreLeast = (p : Case) (counts : List (List ℕ)) (blocks : List Block) (e m : ℕ)
+    → IsTrimmedBy p counts blocks
+    → All (λ b. IsCutStop b.why) blocks
+    → 0 < count_at counts e m
+    → IsAble p (one_less counts e m)
+    → ⊥

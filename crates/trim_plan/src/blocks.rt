@@ -1,0 +1,89 @@
+ghost use Rattle.std.specs.Prelude.{◌≡◌, ◌<◌, ◌++◌, [], All, IfOk, IsTrue, MatchOption, OnOk, false, length, slice_index_or};
+ghost use Rattle.net_core.specs.Views.{case_of};
+ghost use Rattle.plan_terms.specs.Separations.{IsSurvivable};
+ghost use Rattle.able_counts.specs.AbleTests.{AreRoutedCounts};
+ghost use Rattle.trim_plan.specs.Trimmed.{AreAtMost, IsTrimmedBy};
+ghost use Rattle.trim_plan.specs.inner.Sparing.{LowersCounts, places_of};
+ghost use Rattle.trim_plan.specs.Trimmed.{modules_in_use, IsBlocked};
+
+use crate::lowered::{Place, count_at};
+use crate::sparing::take_off;
+use crate::trimming::Block;
+use able_counts::AbleTest;
+use net_core::{Counts, Instance, LinkId, List, NoMemory};
+use std::alloc::Global;
+
+/// Puts the blocks of a link's modules last; false where a module is taken off instead.
+fn add_blocks(
+    instance: &Instance,
+    test: &mut AbleTest,
+    counts: &mut Counts,
+    link: usize,
+    blocks: &mut List<Block>,
+) -> Result<bool, NoMemory>
+    requires survivable { IsSurvivable (case_of instance.now) }
+    requires routed { AreRoutedCounts (case_of instance.now) counts.old test.old }
+    requires link { link < length instance.now.net.now.links }
+    requires blocked { All (IsBlocked (case_of instance.now) counts.old) blocks.old }
+    ensures routed { OnOk result (AreRoutedCounts (case_of instance.now) counts.new test.new) }
+    ensures lowered { IfOk result (λ b. b ≡ false → LowersCounts counts.old counts.new) }
+    ensures same { IfOk result (λ b. IsTrue b → counts.new ≡ counts.old) }
+    ensures blocked { IfOk result (λ b. IsTrue b → All (IsBlocked (case_of instance.now) counts.old) blocks.new) }
+    ensures places { IfOk result (λ b. IsTrue b → places_of blocks.new ≡ places_of blocks.old ++ modules_in_use link 0 (slice_index_or counts.old link [])) }
+{
+    for m in 0..instance.net.links().items()[link].modules.len() {
+        let place = Place { link, module: m };
+        if count_at(counts, place) > 0 {
+            match take_off(instance, test, counts, place)? {
+                Some(why) => blocks.push(Block {
+                    link: LinkId(link as u32),
+                    module: m as u32,
+                    why,
+                })?,
+                None => return Ok(false),
+            }
+        }
+    }
+    Ok(true)
+}
+
+/// A block for each module of positive count; none where a module is taken off instead.
+fn blocks_or_less(
+    alloc: Global,
+    instance: &Instance,
+    test: &mut AbleTest,
+    counts: &mut Counts,
+) -> Result<Option<List<Block>>, NoMemory>
+    requires survivable { IsSurvivable (case_of instance.now) }
+    requires routed { AreRoutedCounts (case_of instance.now) counts.old test.old }
+    ensures routed { OnOk result (AreRoutedCounts (case_of instance.now) counts.new test.new) }
+    ensures blocks { IfOk result (λ o. MatchOption o (LowersCounts counts.old counts.new) (λ blocks. (counts.new ≡ counts.old) × IsTrimmedBy (case_of instance.now) counts.old blocks)) }
+{
+    let mut blocks = List::new(alloc);
+    for e in 0..instance.net.links().len() {
+        if !add_blocks(instance, test, counts, e, &mut blocks)? {
+            return Ok(None);
+        }
+    }
+    Ok(Some(blocks))
+}
+
+/// What keeps each module, once those that can be spared are taken off.
+pub(crate) fn settled_blocks(
+    alloc: Global,
+    instance: &Instance,
+    test: &mut AbleTest,
+    counts: &mut Counts,
+) -> Result<List<Block>, NoMemory>
+    requires survivable { IsSurvivable (case_of instance.now) }
+    requires routed { AreRoutedCounts (case_of instance.now) counts.old test.old }
+    ensures routed { OnOk result (AreRoutedCounts (case_of instance.now) counts.new test.new) }
+    ensures fewer { OnOk result (AreAtMost counts.new counts.old) }
+    ensures blocks { IfOk result (IsTrimmedBy (case_of instance.now) counts.new) }
+{
+    'settle: loop {
+        if let Some(blocks) = blocks_or_less(alloc, instance, test, counts)? {
+            return Ok(blocks);
+        }
+    }
+}

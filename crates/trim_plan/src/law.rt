@@ -1,0 +1,6 @@
+ghost use Rattle.trim_plan.specs.Laws.{TrimmedAreLeast};
+
+/// Where all blocks of trimmed counts are cuts, taking any one module off makes the counts not able.
+pub fn trimmed_are_least()
+    ensures { TrimmedAreLeast }
+{}

@@ -1,0 +1,23 @@
+//! Takes modules off a plan until none can be spared, and says of each that is left what keeps it.
+//!
+//! ```text
+//! let Trimmed { plan, blocks } = trim(alloc, &net, &states, plan)?;
+//! for block in blocks.items() {                       // one for each module of positive count, in link and module order
+//!     match &block.why {
+//!         Stop::Cut(line) => ..,                      // with one module less the capacities violate this cut
+//!         Stop::Wide(evidence) => ..,                 // with one module less a number of a state's routing program is too wide
+//!     }
+//! }
+//! ```
+#![tactic(auto)]
+
+mod blocks;
+mod dearest;
+pub mod law;
+mod lowered;
+mod sparing;
+mod trimming;
+
+pub use able_counts::Stop;
+pub use sparing::spare_modules;
+pub use trimming::{Block, Trimmed, trim};

@@ -1,0 +1,83 @@
+ghost use Rattle.std.specs.Prelude.{◌≡◌, ◌<◌, None, IfOk, IfSome, OnOk};
+ghost use Rattle.net_core.specs.Views.{case_of};
+ghost use Rattle.plan_terms.specs.Separations.{IsSurvivable};
+ghost use Rattle.able_counts.specs.AbleTests.{AreRoutedCounts, IsStopAt, whole_caps};
+ghost use Rattle.plan_terms.specs.Capacities.{capacities};
+ghost use Rattle.trim_plan.specs.Trimmed.{AreAtMost, count_at, one_less};
+
+use crate::dearest::dearest_first;
+use crate::lowered::{Place, count_at, one_less};
+use able_counts::{AbleTest, Stop};
+use net_core::{Counts, Instance, NoMemory};
+use std::alloc::Global;
+
+/// Takes one module off where the others carry the demands in each state; else says why not, and the counts stay as they are.
+pub(crate) fn take_off(
+    instance: &Instance,
+    test: &mut AbleTest,
+    counts: &mut Counts,
+    place: Place,
+) -> Result<Option<Stop>, NoMemory>
+    requires survivable { IsSurvivable (case_of instance.now) }
+    requires routed { AreRoutedCounts (case_of instance.now) counts.old test.old }
+    requires some { 0 < count_at counts.old place.link place.module }
+    ensures routed { OnOk result (AreRoutedCounts (case_of instance.now) counts.new test.new) }
+    ensures fewer { OnOk result (AreAtMost counts.new counts.old) }
+    ensures taken { IfOk result (λ o. o ≡ None → counts.new ≡ one_less counts.old place.link place.module) }
+    ensures kept { IfOk result (λ o. IfSome o (λ why. (counts.new ≡ counts.old) × IsStopAt (case_of instance.now) (whole_caps (capacities instance.now.net.now.links (one_less counts.old place.link place.module))) why)) }
+{
+    let lower = one_less(counts, place)?;
+    let found = test.stop(instance, &lower)?;
+    match found {
+        None => {
+            *counts = lower;
+            Ok(None)
+        }
+        Some(stop) => Ok(Some(stop)),
+    }
+}
+
+/// Takes modules of one kind off a link, as long as the others carry the demands in each state.
+fn take_all_off(
+    instance: &Instance,
+    test: &mut AbleTest,
+    counts: &mut Counts,
+    place: Place,
+) -> Result<(), NoMemory>
+    requires survivable { IsSurvivable (case_of instance.now) }
+    requires routed { AreRoutedCounts (case_of instance.now) counts.old test.old }
+    ensures routed { OnOk result (AreRoutedCounts (case_of instance.now) counts.new test.new) }
+    ensures fewer { OnOk result (AreAtMost counts.new counts.old) }
+{
+    for _ in 0..count_at(counts, place) {
+        if count_at(counts, place) == 0 {
+            return Ok(());
+        }
+        if take_off(instance, test, counts, place)?.is_some() {
+            return Ok(());
+        }
+    }
+    Ok(())
+}
+
+/// Takes modules off counts as long as the others carry the demands in each state, the dearest module first, and those of one cost in link
+/// and module order.
+///
+/// It asks once for each module that is taken off, and once for each module that is left.
+pub fn spare_modules(
+    alloc: Global,
+    instance: &Instance,
+    test: &mut AbleTest,
+    counts: &mut Counts,
+) -> Result<(), NoMemory>
+    requires survivable { IsSurvivable (case_of instance.now) }
+    requires routed { AreRoutedCounts (case_of instance.now) counts.old test.old }
+    ensures routed { OnOk result (AreRoutedCounts (case_of instance.now) counts.new test.new) }
+    ensures fewer { OnOk result (AreAtMost counts.new counts.old) }
+{
+    let dearest = dearest_first(alloc, instance.net)?;
+    for i in 0..dearest.len() {
+        take_all_off(instance, test, counts, dearest.items()[i].place)?;
+    }
+    Ok(())
+}

@@ -1,0 +1,98 @@
+ghost use Rattle.std.specs.Prelude.{◌≡◌, IfOk, length};
+ghost use Rattle.net_core.specs.Demands.{AreDemands};
+ghost use Rattle.net_core.specs.Views.{case, case_of};
+ghost use Rattle.plan_terms.specs.Separations.{IsSurvivable};
+ghost use Rattle.trim_plan.specs.Trimmed.{IsRoutedPlan, IsTrimming};
+ghost use Rattle.trim_plan.specs.inner.Sparing.{AreTrimmedCounts};
+
+use crate::blocks::settled_blocks;
+use crate::sparing::spare_modules;
+use able_counts::{AbleTest, Stop};
+use module_choice::cost;
+use net_core::{Copied, Counts, Instance, LinkId, List, Network, NoMemory, Routing, States};
+use plan_types::Plan;
+use std::alloc::Global;
+
+/// What keeps a module: with one less of it the counts aren't known to carry the demands.
+#[derive(Drop)]
+pub struct Block {
+    pub link: LinkId,
+    /// Its place among the link's modules.
+    pub module: u32,
+    pub why: Stop,
+}
+
+/// A plan from which no module can be spared, with a block for each module of positive count, in link and module order.
+#[derive(Drop)]
+pub struct Trimmed {
+    pub plan: Plan,
+    pub blocks: List<Block>,
+}
+
+/// Counts from which no module can be spared, their cost, a routing for each state, and the blocks.
+#[derive(Drop)]
+pub struct Trimming {
+    pub counts: Counts,
+    pub cost: u128,
+    pub routings: List<Routing>,
+    pub blocks: List<Block>,
+}
+
+/// The trimmed counts of a plan.
+fn trimmed_counts(alloc: Global, instance: &Instance, plan: &Plan) -> Result<Trimming, NoMemory>
+    requires survivable { IsSurvivable (case_of instance.now) }
+    requires demands { plan.now.demands ≡ instance.now.demands.now }
+    requires routed { IsRoutedPlan (case_of instance.now) plan.now }
+    ensures { IfOk result (AreTrimmedCounts (case_of instance.now) plan.now.counts) }
+{
+    let mut counts = plan.counts.copy()?;
+    let mut test = AbleTest::new(alloc, instance, plan.routings.copy()?)?;
+    spare_modules(alloc, instance, &mut test, &mut counts)?;
+    let blocks = settled_blocks(alloc, instance, &mut test, &mut counts)?;
+    let cost = cost(instance.net, &counts);
+    Ok(Trimming {
+        counts,
+        cost,
+        routings: test.into_routings(),
+        blocks,
+    })
+}
+
+/// The plan with trimmed counts.
+fn with_counts(plan: Plan, t: Trimming) -> Trimmed
+    ensures { result ≡ record { plan = record plan { counts = t.counts; cost = t.cost; routings = t.routings }; blocks = t.blocks } }
+{
+    Trimmed {
+        plan: Plan {
+            counts: t.counts,
+            cost: t.cost,
+            routings: t.routings,
+            ..plan
+        },
+        blocks: t.blocks,
+    }
+}
+
+/// Takes modules off a plan until none can be spared, and says of each that is left what keeps it.
+///
+/// The plan carries its demands, has the cost of its counts, and is in form and in lowest terms; its demands belong to the network, and no
+/// state separates one. The new plan has other counts, cost and routings, none of its counts is greater, and it costs no more. The dearest
+/// module is tried first. Where a number of some state's routing program is too wide, the module stays, and its block is the evidence.
+///
+/// On the triangle with modules of 10.00 for 5.00, of which the link AC has two for a demand of 12.00 from A to C, none can be spared: AC's
+/// block is the cut of the lengths that separate C. It asks once for each module that is taken off and twice for each that is left; most are
+/// refused by a cut that is known. It takes the memory of the routings twice, and of the cuts that it finds.
+pub fn trim(alloc: Global, net: &Network, states: &States, plan: Plan) -> Result<Trimmed, NoMemory>
+    requires belong { AreDemands (length net.now.nodes) plan.demands }
+    requires survivable { IsSurvivable (case net.now states.now plan.demands) }
+    requires routed { IsRoutedPlan (case net.now states.now plan.demands) plan }
+    ensures { IfOk result (IsTrimming (case net.now states.now plan.demands) plan) }
+{
+    let instance = Instance {
+        net,
+        states,
+        demands: &plan.demands,
+    };
+    let trimming = trimmed_counts(alloc, &instance, &plan)?;
+    Ok(with_counts(plan, trimming))
+}
