@@ -9,7 +9,7 @@ use Rattle.std.specs.List.{AllZip}
 use Rattle.net_core.specs.declared.network.Link.{Link}
 use Rattle.net_core.specs.declared.network.Module.{Module}
 use Rattle.plan_terms.specs.Capacities.{AreCounts, AreWithinLimits, capacities, installs, link_cost, modules_capacity, modules_cost, total_cost}
-use Rattle.trim_plan.specs.Trimmed.{AreAtMost, count_at, one_less}
+use Rattle.trim_plan.specs.Trimmed.{AreAtMost, module_count, one_less}
 
 -- ---- numbers
 
@@ -68,7 +68,7 @@ counts_set (x ∷ xs) zero c le = (le, counts_same xs)
 counts_set (x ∷ xs) (suc e) c le = (numbers_same x, counts_set xs e c le)
 
 pub one_less_at_most : (counts : List (List ℕ)) (e m : ℕ) → AreAtMost (one_less counts e m) counts
-one_less_at_most counts e m = counts_set counts e (set (get_or counts e []) m (count_at counts e m - 1)) (numbers_set (get_or counts e []) m (count_at counts e m - 1) (omega arith))
+one_less_at_most counts e m = counts_set counts e (set (get_or counts e []) m (module_count counts e m - 1)) (numbers_set (get_or counts e []) m (module_count counts e m - 1) (omega arith))
 
 pub shape_at_most : (links : List Link) (a b : List (List ℕ)) → AreAtMost a b → AreCounts links b → AreCounts links a
 shape_at_most [] [] [] le are = tt

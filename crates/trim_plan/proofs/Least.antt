@@ -12,7 +12,7 @@ use Rattle.able_counts.specs.declared.stop.Stop.TheVariants.{Cut, Wide}
 use Rattle.module_choice.proofs.Pairs.{capacities_long}
 use Rattle.route_law.proofs.Kept.{violated_carries_nothing}
 use Rattle.trim_plan.specs.declared.trimming.Block.{Block}
-use Rattle.trim_plan.specs.Trimmed.{IsBlocked, one_less}
+use Rattle.trim_plan.specs.Trimmed.{IsBlockAt, one_less}
 use Rattle.trim_plan.specs.Laws.{IsCutStop, TrimmedAreLeast}
 use Rattle.trim_plan.proofs.Lowering.{place_used}
 
@@ -36,6 +36,6 @@ pub trimmed_are_least : TrimmedAreLeast
 trimmed_are_least p counts blocks e m trimmed cuts some able =
     let inside : Contains (map (λ b. (b.link.0, b.module)) blocks) (e, m) = subst (λ ps. Contains ps (e, m)) (sym trimmed.places) (place_used counts e m some) in
     let here = at_place blocks (e, m) inside in
-    let blocked = All-contains (IsBlocked p counts) blocks here.0 trimmed.blocked here.1 in
+    let blocked = All-contains (IsBlockAt p counts) blocks here.0 trimmed.blocked here.1 in
     let stops = subst (λ (q : ℕ × ℕ). IsStopAt p (whole_caps (capacities p.links (one_less counts q.0 q.1))) here.0.why) here.2 blocked in
     cut_not_able p (one_less counts e m) here.0.why stops (All-contains (λ (b : Block). IsCutStop b.why) blocks here.0 cuts here.1) able

@@ -5,7 +5,7 @@ use Rattle.std.proofs.lemmas.Bool.{cases_lt}
 use Rattle.std.proofs.lemmas.List.{append_assoc, append-nil, get_or_past}
 use Rattle.std.proofs.lemmas.List.Elements.{Contains-append_left, Contains-append_right}
 use Rattle.std.proofs.lemmas.List.Sums.{sum_by-set}
-use Rattle.trim_plan.specs.Trimmed.{count_at, links_in_use, modules_in_use, one_less}
+use Rattle.trim_plan.specs.Trimmed.{module_count, links_in_use, modules_in_use, one_less}
 use Rattle.trim_plan.specs.inner.Sparing.{LowersCounts, all_modules}
 use Rattle.trim_plan.proofs.AtMost.{one_less_at_most}
 
@@ -14,22 +14,22 @@ use Rattle.trim_plan.proofs.AtMost.{one_less_at_most}
 pub number_inside : (xs : List ℕ) (m : ℕ) → 0 < slice_index xs m → m < length xs
 number_inside xs m some = ⊎_elim (λ lt. lt) (λ past. absurd (let none : slice_index xs m ≡ 0 = get_or_past xs m 0 past in omega (arith, some, none))) (cases_lt m (length xs))
 
-pub link_inside : (counts : List (List ℕ)) (e m : ℕ) → 0 < count_at counts e m → e < length counts
+pub link_inside : (counts : List (List ℕ)) (e m : ℕ) → 0 < module_count counts e m → e < length counts
 link_inside counts e m some = ⊎_elim (λ lt. lt)
-    (λ past. absurd (let none : get_or counts e [] ≡ [] = get_or_past counts e [] past in let at : count_at counts e m ≡ 0 = ap (λ (c : List ℕ). slice_index c m) none in omega (arith, some, at)))
+    (λ past. absurd (let none : get_or counts e [] ≡ [] = get_or_past counts e [] past in let at : module_count counts e m ≡ 0 = ap (λ (c : List ℕ). slice_index c m) none in omega (arith, some, at)))
     (cases_lt e (length counts))
 
 sum_less : (xs : List ℕ) (m : ℕ) → 0 < slice_index xs m → sum (set xs m (slice_index xs m - 1)) < sum xs
 sum_less xs m some = omega (arith, sum_by-set (λ (x : ℕ). x) xs m (slice_index xs m - 1) 0 (number_inside xs m some), some)
 
-all_less : (counts : List (List ℕ)) (e m : ℕ) → 0 < count_at counts e m → all_modules (one_less counts e m) < all_modules counts
+all_less : (counts : List (List ℕ)) (e m : ℕ) → 0 < module_count counts e m → all_modules (one_less counts e m) < all_modules counts
 all_less counts e m some =
     let c = get_or counts e [] in
     let less = sum_less c m some in
     let all = sum_by-set sum counts e (set c m (slice_index c m - 1)) [] (link_inside counts e m some) in
     omega (arith, less, all)
 
-pub lowers : (counts : List (List ℕ)) (e m : ℕ) → 0 < count_at counts e m → LowersCounts counts (one_less counts e m)
+pub lowers : (counts : List (List ℕ)) (e m : ℕ) → 0 < module_count counts e m → LowersCounts counts (one_less counts e m)
 lowers counts e m some = record { fewer = one_less_at_most counts e m; less = all_less counts e m some }
 
 -- ---- places
@@ -87,7 +87,7 @@ module_used e k (suc n ∷ cs) (suc m) some =
     Contains-append_right ((e, k) ∷ []) (modules_in_use e (k + 1) cs) (e, k + suc m)
     (subst (λ j. Contains (modules_in_use e (k + 1) cs) (e, j)) (next_place k m) (module_used e (k + 1) cs m some))
 
-place_from : (k : ℕ) (counts : List (List ℕ)) (e m : ℕ) → 0 < count_at counts e m → Contains (links_in_use k counts) (k + e, m)
+place_from : (k : ℕ) (counts : List (List ℕ)) (e m : ℕ) → 0 < module_count counts e m → Contains (links_in_use k counts) (k + e, m)
 place_from k [] e m some = absurd (omega (arith, some))
 place_from k (c ∷ cs) zero m some =
     subst (λ j. Contains (modules_in_use k 0 c ++ links_in_use (k + 1) cs) (j, m)) (same_place k)
@@ -96,5 +96,5 @@ place_from k (c ∷ cs) (suc e) m some =
     Contains-append_right (modules_in_use k 0 c) (links_in_use (k + 1) cs) (k + suc e, m)
     (subst (λ j. Contains (links_in_use (k + 1) cs) (j, m)) (next_place k e) (place_from (k + 1) cs e m some))
 
-pub place_used : (counts : List (List ℕ)) (e m : ℕ) → 0 < count_at counts e m → Contains (links_in_use 0 counts) (e, m)
+pub place_used : (counts : List (List ℕ)) (e m : ℕ) → 0 < module_count counts e m → Contains (links_in_use 0 counts) (e, m)
 place_used counts e m some = subst (λ j. Contains (links_in_use 0 counts) (j, m)) (zero-add e) (place_from 0 counts e m some)

@@ -5,7 +5,7 @@ use Rattle.plan_terms.specs.Capacities.{IsAble}
 use Rattle.able_counts.specs.declared.stop.Stop.{Stop}
 use Rattle.able_counts.specs.declared.stop.Stop.TheVariants.{Cut, Wide}
 use Rattle.trim_plan.specs.declared.trimming.Block.{Block}
-use Rattle.trim_plan.specs.Trimmed.{IsTrimmedBy, count_at, one_less}
+use Rattle.trim_plan.specs.Trimmed.{IsTrimmedBy, module_count, one_less}
 
 -- the block is a cut
 abbrev pub IsCutStop : Stop → Type 0
@@ -17,6 +17,6 @@ abbrev pub TrimmedAreLeast : Type 0
 TrimmedAreLeast = (p : Case) (counts : List (List ℕ)) (blocks : List Block) (e m : ℕ)
     → IsTrimmedBy p counts blocks
     → All (λ b. IsCutStop b.why) blocks
-    → 0 < count_at counts e m
+    → 0 < module_count counts e m
     → IsAble p (one_less counts e m)
     → ⊥

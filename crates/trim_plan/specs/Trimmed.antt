@@ -15,12 +15,12 @@ use Rattle.trim_plan.specs.declared.trimming.Trimmed.{Trimmed}
 -- ---- counts
 
 -- the count of module m of link e
-abbrev pub count_at : List (List ℕ) → ℕ → ℕ → ℕ
-count_at counts e m = slice_index (slice_index_or counts e []) m
+abbrev pub module_count : List (List ℕ) → ℕ → ℕ → ℕ
+module_count counts e m = slice_index (slice_index_or counts e []) m
 
 -- the counts with that of module m of link e lowered by 1
 abbrev pub one_less : List (List ℕ) → ℕ → ℕ → List (List ℕ)
-one_less counts e m = slice_set counts e (slice_set (slice_index_or counts e []) m (count_at counts e m - 1))
+one_less counts e m = slice_set counts e (slice_set (slice_index_or counts e []) m (module_count counts e m - 1))
 
 -- as many counts, each at most the other
 abbrev pub AreAtMost : List (List ℕ) → List (List ℕ) → Type 0
@@ -40,13 +40,13 @@ links_in_use e (counts ∷ rest) = modules_in_use e 0 counts ++ links_in_use (e 
 -- ---- blocks
 
 -- With one module less, the capacities violate the block's cut, or its evidence holds for them at the scale 1.
-abbrev pub IsBlocked : Case → List (List ℕ) → Block → Type 0
-IsBlocked p counts b = IsStopAt p (whole_caps (capacities p.links (one_less counts b.link.0 b.module))) b.why
+abbrev pub IsBlockAt : Case → List (List ℕ) → Block → Type 0
+IsBlockAt p counts b = IsStopAt p (whole_caps (capacities p.links (one_less counts b.link.0 b.module))) b.why
 
 -- Counts are trimmed by a list of blocks: one for each module of positive count, in link and module order.
 pub record IsTrimmedBy (p : Case) (counts : List (List ℕ)) (blocks : List Block) : Type 0 where
   pub places : map (λ b. (b.link.0, b.module)) blocks ≡ links_in_use 0 counts
-  pub blocked : All (IsBlocked p counts) blocks
+  pub blocked : All (IsBlockAt p counts) blocks
 
 -- ---- plans
 

@@ -3,10 +3,10 @@ ghost use Rattle.net_core.specs.Views.{case_of};
 ghost use Rattle.plan_terms.specs.Separations.{IsSurvivable};
 ghost use Rattle.able_counts.specs.AbleTests.{AreRoutedCounts};
 ghost use Rattle.trim_plan.specs.Trimmed.{AreAtMost, IsTrimmedBy};
-ghost use Rattle.trim_plan.specs.inner.Sparing.{LowersCounts, places_of};
-ghost use Rattle.trim_plan.specs.Trimmed.{modules_in_use, IsBlocked};
+ghost use Rattle.trim_plan.specs.inner.Sparing.{LowersCounts, block_places};
+ghost use Rattle.trim_plan.specs.Trimmed.{modules_in_use, IsBlockAt};
 
-use crate::lowered::{Place, count_at};
+use crate::lowered::{Place, module_count};
 use crate::sparing::take_off;
 use crate::trimming::Block;
 use able_counts::AbleTest;
@@ -24,16 +24,16 @@ fn add_blocks(
     requires survivable { IsSurvivable (case_of instance.now) }
     requires routed { AreRoutedCounts (case_of instance.now) counts.old test.old }
     requires link { link < length instance.now.net.now.links }
-    requires blocked { All (IsBlocked (case_of instance.now) counts.old) blocks.old }
+    requires blocked { All (IsBlockAt (case_of instance.now) counts.old) blocks.old }
     ensures routed { OnOk result (AreRoutedCounts (case_of instance.now) counts.new test.new) }
     ensures lowered { IfOk result (λ b. b ≡ false → LowersCounts counts.old counts.new) }
     ensures same { IfOk result (λ b. IsTrue b → counts.new ≡ counts.old) }
-    ensures blocked { IfOk result (λ b. IsTrue b → All (IsBlocked (case_of instance.now) counts.old) blocks.new) }
-    ensures places { IfOk result (λ b. IsTrue b → places_of blocks.new ≡ places_of blocks.old ++ modules_in_use link 0 (slice_index_or counts.old link [])) }
+    ensures blocked { IfOk result (λ b. IsTrue b → All (IsBlockAt (case_of instance.now) counts.old) blocks.new) }
+    ensures places { IfOk result (λ b. IsTrue b → block_places blocks.new ≡ block_places blocks.old ++ modules_in_use link 0 (slice_index_or counts.old link [])) }
 {
     for m in 0..instance.net.links().items()[link].modules.len() {
         let place = Place { link, module: m };
-        if count_at(counts, place) > 0 {
+        if module_count(counts, place) > 0 {
             match take_off(instance, test, counts, place)? {
                 Some(why) => blocks.push(Block {
                     link: LinkId(link as u32),

@@ -1,5 +1,5 @@
 ghost use Rattle.std.specs.Prelude.{◌≡◌, ◌-◌, ◌<◌, [], IfOk, length, slice_index, slice_index_or, slice_set};
-ghost use Rattle.trim_plan.specs.Trimmed.{count_at, one_less};
+ghost use Rattle.trim_plan.specs.Trimmed.{module_count, one_less};
 
 use net_core::{Copied, Counts, List, NoMemory};
 
@@ -18,8 +18,8 @@ fn number_at(numbers: &[u64], at: usize) -> u64
 }
 
 /// The count of a module; 0 where there is none at this place.
-pub(crate) fn count_at(counts: &Counts, place: Place) -> u64
-    ensures { result ≡ count_at counts.now place.link place.module }
+pub(crate) fn module_count(counts: &Counts, place: Place) -> u64
+    ensures { result ≡ module_count counts.now place.link place.module }
 {
     let lists = counts.items();
     if place.link < lists.len() {
@@ -50,7 +50,7 @@ fn lower_link(counts: &mut [List<u64>], e: usize, m: usize)
 
 /// The counts with one module less.
 pub(crate) fn one_less(counts: &Counts, place: Place) -> Result<Counts, NoMemory>
-    requires { 0 < count_at counts.now place.link place.module }
+    requires { 0 < module_count counts.now place.link place.module }
     ensures { IfOk result (λ lower. lower ≡ one_less counts.now place.link place.module) }
 {
     let mut lower = counts.copy()?;

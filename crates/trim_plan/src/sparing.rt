@@ -3,10 +3,10 @@ ghost use Rattle.net_core.specs.Views.{case_of};
 ghost use Rattle.plan_terms.specs.Separations.{IsSurvivable};
 ghost use Rattle.able_counts.specs.AbleTests.{AreRoutedCounts, IsStopAt, whole_caps};
 ghost use Rattle.plan_terms.specs.Capacities.{capacities};
-ghost use Rattle.trim_plan.specs.Trimmed.{AreAtMost, count_at, one_less};
+ghost use Rattle.trim_plan.specs.Trimmed.{AreAtMost, module_count, one_less};
 
 use crate::dearest::dearest_first;
-use crate::lowered::{Place, count_at, one_less};
+use crate::lowered::{Place, module_count, one_less};
 use able_counts::{AbleTest, Stop};
 use net_core::{Counts, Instance, NoMemory};
 use std::alloc::Global;
@@ -20,7 +20,7 @@ pub(crate) fn take_off(
 ) -> Result<Option<Stop>, NoMemory>
     requires survivable { IsSurvivable (case_of instance.now) }
     requires routed { AreRoutedCounts (case_of instance.now) counts.old test.old }
-    requires some { 0 < count_at counts.old place.link place.module }
+    requires some { 0 < module_count counts.old place.link place.module }
     ensures routed { OnOk result (AreRoutedCounts (case_of instance.now) counts.new test.new) }
     ensures fewer { OnOk result (AreAtMost counts.new counts.old) }
     ensures taken { IfOk result (λ o. o ≡ None → counts.new ≡ one_less counts.old place.link place.module) }
@@ -49,8 +49,8 @@ fn take_all_off(
     ensures routed { OnOk result (AreRoutedCounts (case_of instance.now) counts.new test.new) }
     ensures fewer { OnOk result (AreAtMost counts.new counts.old) }
 {
-    for _ in 0..count_at(counts, place) {
-        if count_at(counts, place) == 0 {
+    for _ in 0..module_count(counts, place) {
+        if module_count(counts, place) == 0 {
             return Ok(());
         }
         if take_off(instance, test, counts, place)?.is_some() {

@@ -8,8 +8,8 @@ use Rattle.trim_plan.specs.declared.trimming.Block.{Block}
 use Rattle.trim_plan.specs.declared.trimming.Trimming.{Trimming}
 
 -- where blocks stand
-abbrev pub places_of : List Block → List (ℕ × ℕ)
-places_of blocks = map (λ b. (b.link.0, b.module)) blocks
+abbrev pub block_places : List Block → List (ℕ × ℕ)
+block_places blocks = map (λ b. (b.link.0, b.module)) blocks
 
 -- all modules together
 abbrev pub all_modules : List (List ℕ) → ℕ

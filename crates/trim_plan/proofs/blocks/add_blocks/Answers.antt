@@ -6,10 +6,10 @@ use Rattle.plan_terms.specs.Capacities.{capacities}
 use Rattle.module_choice.proofs.Pairs.{counts_shape}
 use Rattle.able_counts.specs.AbleTests.{AreRoutedCounts, IsStopAt, whole_caps}
 use Rattle.trim_plan.specs.declared.trimming.Block.{Block}
-use Rattle.trim_plan.specs.Trimmed.{IsBlocked, count_at, one_less}
-use Rattle.trim_plan.specs.inner.Sparing.{places_of}
+use Rattle.trim_plan.specs.Trimmed.{IsBlockAt, module_count, one_less}
+use Rattle.trim_plan.specs.inner.Sparing.{block_places}
 use Rattle.trim_plan.proofs.Placing.{place_added, place_skipped, places_all}
-use Rattle.trim_plan.proofs.blocks.add_blocks.Goals.{then-count_at-gt0+in_ok-why+in-Some+in_ok-push-in-Some, else-count_at-gt0}
+use Rattle.trim_plan.proofs.blocks.add_blocks.Goals.{then-module_count-gt0+in_ok-why+in-Some+in_ok-push-in-Some, else-module_count-gt0}
 use Rattle.trim_plan.proofs.blocks.add_blocks.Goals as goal
 
 pub returns-clause-places : goal.returns-clause-places
@@ -33,27 +33,27 @@ loop-m-preserved c =
     let here = ap (λ (x : Link). length x.modules) c.index-items-link.is in
     let modules = ap (λ (ls : List Link). length (get_or ls e c.index-items-link.result).modules) (c.items.ensures ∙ c.links.ensures) in
     let inside : m < length (get_or counts e []) = omega (arith, long, c.loop-m-test.true, c.len-m-end.ensures, here, modules) in
-    let count : c.count_at.result ≡ slice_index (get_or counts e []) m = c.count_at.ensures ∙ ap (λ (cs : List (List ℕ)). count_at cs e m) so_far.same in
-    elim c.if-count_at-gt0.branch [
-      then-count_at-gt0+in_ok-why+in-Some+in_ok-push-in-Some w ↦
-        let kept = rw w.in-Some.is at w.in_ok-why.ensures.kept in
-        let stop : IsStopAt p (whole_caps (capacities p.links (one_less counts e m))) w.in-Some.why =
-            subst (λ (cs : List (List ℕ)). IsStopAt p (whole_caps (capacities p.links (one_less cs e m))) w.in-Some.why) so_far.same kept.1 in
-        let b : Block = record { link = record { 0 = e }; «module» = m; why = w.in-Some.why } in
-        let pushed = w.blocks-is ∙ w.in_ok-push-in-Some.ensures.ok in
-        let some : 0 < slice_index (get_or counts e []) m = omega (arith, count, w.if-count_at-gt0.true) in
-        record {
-          same = w.counts-is ∙ kept.0 ∙ so_far.same;
-          routed = subst (AreRoutedCounts p counts) (sym w.test-is) (subst (λ (cs : List (List ℕ)). AreRoutedCounts p cs w.take_off.new.test) (kept.0 ∙ so_far.same) w.in_ok-why.ensures.routed);
-          blocked = subst (All (IsBlocked p counts)) (sym pushed) (All-push (IsBlocked p counts) c.loop-m.blocks b so_far.blocked stop);
-          places = ap places_of pushed ∙ place_added c.loop-m.blocks c.args.blocks.now b e m (get_or counts e []) inside some refl so_far.places;
-        }
-    | else-count_at-gt0 w ↦
-        let none : slice_index (get_or counts e []) m ≡ 0 = omega (arith, count, w.if-count_at-gt0.false) in
-        record {
-          same = w.counts-is ∙ so_far.same;
-          routed = subst (AreRoutedCounts p counts) (sym w.test-is) so_far.routed;
-          blocked = subst (All (IsBlocked p counts)) (sym w.blocks-is) so_far.blocked;
-          places = ap places_of w.blocks-is ∙ place_skipped c.loop-m.blocks c.args.blocks.now e m (get_or counts e []) inside none so_far.places;
-        }
+    let count : c.module_count.result ≡ slice_index (get_or counts e []) m = c.module_count.ensures ∙ ap (λ (cs : List (List ℕ)). module_count cs e m) so_far.same in
+    elim c.if-module_count-gt0.branch [
+      | then-module_count-gt0+in_ok-why+in-Some+in_ok-push-in-Some w ↦
+          let kept = rw w.in-Some.is at w.in_ok-why.ensures.kept in
+          let stop : IsStopAt p (whole_caps (capacities p.links (one_less counts e m))) w.in-Some.why =
+          subst (λ (cs : List (List ℕ)). IsStopAt p (whole_caps (capacities p.links (one_less cs e m))) w.in-Some.why) so_far.same kept.1 in
+          let b : Block = record { link = record { 0 = e }; «module» = m; why = w.in-Some.why } in
+          let pushed = w.blocks-is ∙ w.in_ok-push-in-Some.ensures.ok in
+          let some : 0 < slice_index (get_or counts e []) m = omega (arith, count, w.if-module_count-gt0.true) in
+          record {
+            same = w.counts-is ∙ kept.0 ∙ so_far.same;
+            routed = subst (AreRoutedCounts p counts) (sym w.test-is) (subst (λ (cs : List (List ℕ)). AreRoutedCounts p cs w.take_off.new.test) (kept.0 ∙ so_far.same) w.in_ok-why.ensures.routed);
+            blocked = subst (All (IsBlockAt p counts)) (sym pushed) (All-push (IsBlockAt p counts) c.loop-m.blocks b so_far.blocked stop);
+            places = ap block_places pushed ∙ place_added c.loop-m.blocks c.args.blocks.now b e m (get_or counts e []) inside some refl so_far.places;
+          }
+      | else-module_count-gt0 w ↦
+          let none : slice_index (get_or counts e []) m ≡ 0 = omega (arith, count, w.if-module_count-gt0.false) in
+          record {
+            same = w.counts-is ∙ so_far.same;
+            routed = subst (AreRoutedCounts p counts) (sym w.test-is) so_far.routed;
+            blocked = subst (All (IsBlockAt p counts)) (sym w.blocks-is) so_far.blocked;
+            places = ap block_places w.blocks-is ∙ place_skipped c.loop-m.blocks c.args.blocks.now e m (get_or counts e []) inside none so_far.places;
+          }
     ]

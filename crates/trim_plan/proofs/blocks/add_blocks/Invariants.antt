@@ -1,8 +1,8 @@
 use Rattle.std.proofs.Common.{◌≡◌, ◌++◌, [], All, get_or, take}
 use Rattle.net_core.specs.Views.{case_of}
 use Rattle.able_counts.specs.AbleTests.{AreRoutedCounts}
-use Rattle.trim_plan.specs.Trimmed.{IsBlocked, modules_in_use}
-use Rattle.trim_plan.specs.inner.Sparing.{places_of}
+use Rattle.trim_plan.specs.Trimmed.{IsBlockAt, modules_in_use}
+use Rattle.trim_plan.specs.inner.Sparing.{block_places}
 use Rattle.trim_plan.proofs.blocks.add_blocks.Given as goal
 
 -- the modules so far have their blocks
@@ -10,6 +10,6 @@ abbrev pub invariant-loop-m : goal.invariant-loop-m
 invariant-loop-m l = record {
   same : l.counts ≡ l.fn.counts;
   routed : AreRoutedCounts (case_of l.instance) l.fn.counts l.test;
-  blocked : All (IsBlocked (case_of l.instance) l.fn.counts) l.blocks;
-  places : places_of l.blocks ≡ places_of l.fn.blocks ++ modules_in_use l.link 0 (take l.m (get_or l.fn.counts l.link []));
+  blocked : All (IsBlockAt (case_of l.instance) l.fn.counts) l.blocks;
+  places : block_places l.blocks ≡ block_places l.fn.blocks ++ modules_in_use l.link 0 (take l.m (get_or l.fn.counts l.link []));
 }

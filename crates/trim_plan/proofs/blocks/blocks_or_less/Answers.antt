@@ -3,8 +3,8 @@ use Rattle.std.proofs.lemmas.List.{take_all}
 use Rattle.net_core.specs.Views.{case_of}
 use Rattle.able_counts.specs.AbleTests.{AreRoutedCounts}
 use Rattle.module_choice.proofs.Pairs.{counts_long}
-use Rattle.trim_plan.specs.Trimmed.{IsBlocked, links_in_use, modules_in_use}
-use Rattle.trim_plan.specs.inner.Sparing.{places_of}
+use Rattle.trim_plan.specs.Trimmed.{IsBlockAt, links_in_use, modules_in_use}
+use Rattle.trim_plan.specs.inner.Sparing.{block_places}
 use Rattle.trim_plan.proofs.Lowering.{links_more}
 use Rattle.trim_plan.proofs.blocks.blocks_or_less.Goals as goal
 
@@ -13,11 +13,13 @@ returns-clause-blocks c =
     let links = c.args.instance.now.net.now.links in
     let counts = c.args.counts.now in
     let long = counts_long links counts c.requires.routed.shape in
-    let all : length counts ≤ c.loop-e.e = omega (arith, long, c.loop-e-test.false, c.len-e-end.ensures, ap length c.links.ensures) in
-    (c.loop-e.invariant.same, record {
-      places = c.loop-e.invariant.places ∙ ap (λ cs. links_in_use 0 cs) (take_all c.loop-e.e counts all);
-      blocked = c.loop-e.invariant.blocked;
-    })
+    let all : length counts ≤ c.loop-e.e = omega (arith, long, c.loop-e-test.false, c.len-e-end.ensures, ap length c.links.ensures) in (
+      c.loop-e.invariant.same,
+      record {
+        places = c.loop-e.invariant.places ∙ ap (λ cs. links_in_use 0 cs) (take_all c.loop-e.e counts all);
+        blocked = c.loop-e.invariant.blocked;
+      },
+    )
 
 pub loop-e-preserved : goal.loop-e-preserved
 loop-e-preserved c =
@@ -32,9 +34,9 @@ loop-e-preserved c =
     record {
       same = as_given;
       routed = subst (λ (cs : List (List ℕ)). AreRoutedCounts p cs c.add_blocks.new.test) as_given done.routed;
-      blocked = subst (λ (cs : List (List ℕ)). All (IsBlocked p cs) c.add_blocks.new.blocks) so_far.same (done.blocked yes);
+      blocked = subst (λ (cs : List (List ℕ)). All (IsBlockAt p cs) c.add_blocks.new.blocks) so_far.same (done.blocked yes);
       places = done.places yes
-          ∙ ap (λ (cs : List (List ℕ)). places_of c.loop-e.blocks ++ modules_in_use c.loop-e.e 0 (get_or cs c.loop-e.e [])) so_far.same
+          ∙ ap (λ (cs : List (List ℕ)). block_places c.loop-e.blocks ++ modules_in_use c.loop-e.e 0 (get_or cs c.loop-e.e [])) so_far.same
           ∙ ap (λ ps. ps ++ modules_in_use c.loop-e.e 0 (get_or counts c.loop-e.e [])) so_far.places
           ∙ sym (links_more counts c.loop-e.e inside);
     }

@@ -1,8 +1,8 @@
 use Rattle.std.proofs.Common.{◌≡◌, All, take}
 use Rattle.net_core.specs.Views.{case_of}
 use Rattle.able_counts.specs.AbleTests.{AreRoutedCounts}
-use Rattle.trim_plan.specs.Trimmed.{IsBlocked, links_in_use}
-use Rattle.trim_plan.specs.inner.Sparing.{places_of}
+use Rattle.trim_plan.specs.Trimmed.{IsBlockAt, links_in_use}
+use Rattle.trim_plan.specs.inner.Sparing.{block_places}
 use Rattle.trim_plan.proofs.blocks.blocks_or_less.Given as goal
 
 -- the links so far have their blocks
@@ -10,6 +10,6 @@ abbrev pub invariant-loop-e : goal.invariant-loop-e
 invariant-loop-e l = record {
   same : l.counts ≡ l.fn.counts;
   routed : AreRoutedCounts (case_of l.instance) l.fn.counts l.test;
-  blocked : All (IsBlocked (case_of l.instance) l.fn.counts) l.blocks;
-  places : places_of l.blocks ≡ links_in_use 0 (take l.e l.fn.counts);
+  blocked : All (IsBlockAt (case_of l.instance) l.fn.counts) l.blocks;
+  places : block_places l.blocks ≡ links_in_use 0 (take l.e l.fn.counts);
 }
