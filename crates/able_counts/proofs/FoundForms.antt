@@ -1,17 +1,8 @@
 -- routings that are found are in form
 use Rattle.std.proofs.Common.{◌≡◌, ◌≢◌, ℕ, ◌^◌, ◌<◌, ◌≤◌, List, [], ◌∷◌, All, get_or, length, subst, arith}
-use Rattle.std.proofs.lemmas.List.Elements.{All-cons, All-nil}
-use Rattle.std.proofs.lemmas.Option.{slice_get_within, get_or_from_slice_get}
-use Rattle.net_core.specs.declared.demand.Demand.{Demand}
-use Rattle.net_core.specs.declared.ids.LinkId.{LinkId}
-use Rattle.net_core.specs.declared.plan.Caps.{Caps}
-use Rattle.net_core.specs.declared.plan.Flow.{Flow}
-use Rattle.net_core.specs.declared.plan.Routing.{Routing}
-use Rattle.net_core.specs.Demands.{AreDemands, IsDemand}
-use Rattle.net_core.specs.Graphs.{Graph, Joins}
-use Rattle.plan_terms.specs.Flows.{IsFlow}
-use Rattle.plan_terms.specs.Paths.{Leads, last_node}
-use Rattle.plan_report.specs.Forms.{IsFlowInForm, IsRoutingInForm}
+use Rattle.net_core.proofs.Library.{All-cons, All-nil, slice_get_within, get_or_from_slice_get}
+use Rattle.plan_terms.specs.Terms.{Demand, LinkId, Caps, Flow, Routing, AreDemands, IsDemand, Graph, Joins, IsFlow, Leads, last_node}
+use Rattle.plan_report.specs.Terms.{IsFlowInForm, IsRoutingInForm}
 use Rattle.flow_router.specs.Answers.{IsRouted}
 
 module _ (g : Graph) where

@@ -1,14 +1,10 @@
 -- what is left of the links' room after flows
 use Rattle.std.proofs.Common.{◌≡◌, ◌∙◌, ℕ, ◌+◌, ◌-◌, ◌≤◌, ◌<◌, ◌||◌, ◌==◌, ⊎_elim, Bool, true, false, if◌then◌else◌, List, get_or, length, slice_index, take, refl, sym, ap, subst, arith}
 use Rattle.std.proofs.Math.ListN.{set}
-use Rattle.std.proofs.lemmas.Bool.{cases_eq}
+use Rattle.net_core.proofs.Library.{cases_eq, sum_by_more}
 use Rattle.std.proofs.lemmas.List.{get_or-set_same, get_or-set_other}
 use Rattle.std.proofs.lemmas.List.Folds.{list_any_more}
-use Rattle.std.proofs.lemmas.List.Sums.{sum_by_more}
-use Rattle.net_core.specs.declared.ids.LinkId.{LinkId}
-use Rattle.net_core.specs.declared.plan.Flow.{Flow}
-use Rattle.net_core.specs.States.{names_link}
-use Rattle.plan_terms.specs.Flows.{load}
+use Rattle.plan_terms.specs.Terms.{LinkId, Flow, names_link, load}
 
 -- at most the amount
 choice_most : (b : Bool) (n : ℕ) → (if b then n else 0) ≤ n

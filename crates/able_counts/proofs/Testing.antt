@@ -1,20 +1,11 @@
 -- routings that are kept or become ones within other capacities
 use Rattle.std.proofs.Common.{◌≡◌, ◌∙◌, ℕ, zero, suc, ◌+◌, ◌*◌, ◌≤◌, ◌<◌, ◌⊎◌, inl, inr, ⊎_elim, List, [], ◌∷◌, All, None, Some, Option, IfSome, length, slice_get, slice_index, refl, sym, ap, subst, arith}
 use Rattle.std.proofs.Math.ListN.{set, length-set}
-use Rattle.std.proofs.lemmas.Bool.{cases_lt}
-use Rattle.std.proofs.lemmas.Option.{slice_get_within}
-use Rattle.net_core.specs.declared.plan.Caps.{Caps}
-use Rattle.net_core.specs.declared.plan.CutLine.{CutLine}
-use Rattle.net_core.specs.declared.plan.Routing.{Routing}
-use Rattle.net_core.specs.Cases.{Case, graph_in}
-use Rattle.net_core.specs.Demands.{AreDemands}
-use Rattle.net_core.specs.Graphs.{Joins}
+use Rattle.net_core.proofs.Library.{cases_lt, slice_get_within}
+use Rattle.plan_terms.specs.Terms.{Caps, CutLine, Routing, Case, graph_in, AreDemands, Joins, IsCut, Carries, load, IsSurvivable}
 use Rattle.net_core.proofs.Lists.{some_same}
-use Rattle.plan_terms.specs.Certificates.{IsCut}
-use Rattle.plan_terms.specs.Flows.{Carries, load}
-use Rattle.plan_terms.specs.Separations.{IsSurvivable}
 use Rattle.metric_cut.specs.declared.cut.Cut.{Cut}
-use Rattle.route_law.specs.Routings.{AreJoined}
+use Rattle.route_law.specs.Terms.{AreJoined}
 use Rattle.flow_router.specs.Answers.{IsRouted}
 use Rattle.separator.specs.Findings.{IsFoundCutOf}
 use Rattle.separator.specs.Separators.{IsLineAt}

@@ -1,17 +1,9 @@
 -- counts of modules that are asked about: their routings, or why they aren't known to carry the demands
 use Rattle.std.specs.Prelude.{◌≡◌, ℕ, ◌+◌, ◌≤◌, List, Some, ◌⊎◌, All, length, slice_get}
-use Rattle.net_core.specs.declared.plan.Caps.{Caps}
-use Rattle.net_core.specs.declared.plan.Routing.{Routing}
-use Rattle.net_core.specs.Cases.{Case, graph_in}
-use Rattle.net_core.specs.Graphs.{Joins}
-use Rattle.plan_terms.specs.Capacities.{AreCounts, AreWithinLimits, capacities}
-use Rattle.plan_terms.specs.Certificates.{IsCut}
-use Rattle.plan_terms.specs.Flows.{Carries}
-use Rattle.plan_terms.specs.Violations.{Violates}
-use Rattle.plan_report.specs.Forms.{IsRoutingInForm}
-use Rattle.route_law.specs.Routings.{IsLowestRouting}
+use Rattle.plan_terms.specs.Terms.{Caps, Routing, Case, graph_in, Joins, AreCounts, AreWithinLimits, capacities, IsCut, Carries, Violates, Evidence}
+use Rattle.plan_report.specs.Terms.{IsRoutingInForm}
+use Rattle.route_law.specs.Terms.{IsLowestRouting}
 use Rattle.flow_router.specs.Answers.{IsEvidenceHere}
-use Rattle.net_core.specs.declared.columns.Evidence.{Evidence}
 use Rattle.able_counts.specs.declared.able_test.AbleTest.{AbleTest}
 use Rattle.able_counts.specs.declared.stop.Stop.{Stop}
 use Rattle.able_counts.specs.declared.stop.Stop.TheVariants.{Cut, Wide}

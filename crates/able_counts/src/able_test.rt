@@ -1,8 +1,5 @@
 ghost use Rattle.std.specs.Prelude.{◌≡◌, ◌^◌, ◌+◌, ◌<◌, Some, All, IfOk, IfSome, None, length, slice_get, ℕ};
-ghost use Rattle.net_core.specs.declared.plan.Routing.{Routing};
-ghost use Rattle.net_core.specs.Views.{case_of};
-ghost use Rattle.plan_terms.specs.Capacities.{AreCounts, AreWithinLimits, capacities};
-ghost use Rattle.plan_terms.specs.Separations.{IsSurvivable};
+ghost use Rattle.plan_terms.specs.Terms.{Routing, case_of, AreCounts, AreWithinLimits, capacities, IsSurvivable};
 ghost use Rattle.able_counts.specs.AbleTests.{AreKeptOrWithin, AreRoutingsWithin, IsRoutingWithin, IsRoutingOf, IsStopAt, IsTestOf, whole_caps};
 
 use crate::cuts::last_violated;

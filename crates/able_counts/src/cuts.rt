@@ -1,5 +1,5 @@
 ghost use Rattle.std.specs.Prelude.{◌≡◌, ◌^◌, ◌≤◌, ◌<◌, All, Contains, IfOk, IfSome, length};
-ghost use Rattle.plan_terms.specs.Violations.{Violates};
+ghost use Rattle.plan_terms.specs.Terms.{Violates};
 
 use metric_cut::violated_by;
 use net_core::{Caps, Copied, CutLine, NoMemory};

@@ -1,6 +1,5 @@
 ghost use Rattle.std.specs.Prelude.{◌≡◌, ℕ, ◌+◌, ◌*◌, ◌^◌, ◌≤◌, ◌<◌, All, IfOk, IsTrue, if◌then◌else◌, slice_index};
-ghost use Rattle.net_core.specs.States.{names_link};
-ghost use Rattle.plan_terms.specs.Flows.{load};
+ghost use Rattle.plan_terms.specs.Terms.{names_link, load};
 
 use net_core::{Caps, Flow, LinkId, List, NoMemory, Routing};
 use std::alloc::Global;

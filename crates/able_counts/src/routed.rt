@@ -1,6 +1,5 @@
 ghost use Rattle.std.specs.Prelude.{◌≡◌, ◌⊎◌, ◌^◌, ◌+◌, ◌<◌, All, IfOk, IfSome, None, length};
-ghost use Rattle.net_core.specs.Views.{case_of};
-ghost use Rattle.plan_terms.specs.Separations.{IsSurvivable};
+ghost use Rattle.plan_terms.specs.Terms.{case_of, IsSurvivable};
 ghost use Rattle.able_counts.specs.AbleTests.{IsRoutingOf, IsRoutingWithin, IsStopAt};
 
 use crate::loads::is_within;

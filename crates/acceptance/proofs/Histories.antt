@@ -1,16 +1,9 @@
 -- the cuts of a legal history are kept, and all different
 use Rattle.std.proofs.Common.{◌≢◌, ℕ, zero, suc, ◌≤◌, ◌++◌, List, [], ◌∷◌, All, AllPairs, length, get_or, take, take-suc, sym, subst, arith, ◌∙◌}
-use Rattle.std.proofs.Math.Seq.{take-length}
-use Rattle.std.proofs.lemmas.Grind.{flat_map-append}
+use Rattle.net_core.proofs.Library.{take-length, flat_map-append, All-push, all_pairs_push, slice_get-get_or}
 use Rattle.std.proofs.lemmas.List.{append-nil}
-use Rattle.std.proofs.lemmas.List.Elements.{All-push}
-use Rattle.std.proofs.lemmas.List.Quantifiers.{all_pairs_push}
-use Rattle.std.proofs.lemmas.Option.{slice_get-get_or}
-use Rattle.net_core.specs.declared.journal.Entry.{Entry}
-use Rattle.net_core.specs.declared.journal.Entry.TheVariants.{Edited, Pooled}
-use Rattle.net_core.specs.Cases.{Case, graph_in}
-use Rattle.plan_terms.specs.Certificates.{AreKept}
-use Rattle.cut_pool.specs.Histories.{IsLegalAfter, IsLegalHistory, cuts_of, pooled_by}
+use Rattle.plan_terms.specs.Terms.{Entry, Edited, Pooled, Case, graph_in, AreKept}
+use Rattle.cut_pool.specs.Terms.{IsLegalAfter, IsLegalHistory, cuts_of, pooled_by}
 
 module _ (p : Case) where
   -- kept lengths, all different

@@ -1,21 +1,12 @@
 -- a sound report has no finding, kind by kind
-use Rattle.std.proofs.Common.{◌≡◌, ◌∙◌, ℕ, ◌≤◌, List, Some, length, get_or, take, nat_le, sym, ap, arith, slice_get, ⊎_elim}
-use Rattle.std.proofs.lemmas.List.{length-map}
-use Rattle.std.proofs.lemmas.Option.{get_or_from_slice_get, slice_get-map, slice_get_within}
-use Rattle.std.specs.Option.{option_map}
-use Rattle.net_core.specs.declared.journal.Entry.{Entry}
-use Rattle.net_core.specs.declared.journal.Entry.TheVariants.{Edited, Pooled}
-use Rattle.net_core.specs.declared.network.Notes.{Notes}
-use Rattle.net_core.specs.declared.plan.CutLine.{CutLine}
-use Rattle.net_core.specs.Cases.{Case, graph_in}
-use Rattle.net_core.specs.Graphs.{Joins}
-use Rattle.plan_terms.specs.Certificates.{AreKept, IsRight}
+use Rattle.std.proofs.Common.{◌≡◌, ◌∙◌, ℕ, ◌≤◌, List, Some, length, get_or, take, nat_le, sym, ap, arith, slice_get, ⊎_elim, option_map}
+use Rattle.net_core.proofs.Library.{length-map, get_or_from_slice_get, slice_get-map, slice_get_within}
+use Rattle.plan_terms.specs.Terms.{Entry, Edited, Pooled, Notes, CutLine, Case, graph_in, Joins, AreKept, IsRight}
 use Rattle.plan_types.specs.declared.report.Outcome.{Outcome}
 use Rattle.plan_types.specs.declared.report.Outcome.TheVariants.{Planned, Unsurvivable}
 use Rattle.plan_types.specs.declared.report.Report.{Report}
-use Rattle.cut_pool.specs.Histories.{IsLegalHistory, IsPoolAfter, cut_of_line, cuts_of, demands_left, version_at, case_left}
-use Rattle.plan_checker.specs.Order.{HoldNone, HoldsNone}
-use Rattle.plan_checker.specs.Places.{HoldsAt}
+use Rattle.cut_pool.specs.Terms.{IsLegalHistory, IsPoolAfter, cut_of_line, cuts_of, demands_left, version_at, case_left}
+use Rattle.plan_checker.specs.Terms.{HoldNone, HoldsNone, HoldsAt}
 use Rattle.plan_checker.specs.declared.finding.Finding.TheVariants as finding
 use Rattle.report_checker.specs.Journals.{HoldsEntryDiffers, HoldsNotesDiffer, IsOtherEntry}
 use Rattle.report_checker.specs.Outcomes.{HoldsVersionDiffers, case_at, outcome_findings}
@@ -25,7 +16,7 @@ use Rattle.acceptance.proofs.Histories.{history_cuts}
 use Rattle.acceptance.proofs.Sound.{sound_plans_are_accepted}
 use Rattle.net_core.proofs.Lists.{all_at}
 use Rattle.report_checker.proofs.Apart.{no_survivable}
-use Rattle.plan_terms.proofs.Distances.{right_once}
+use Rattle.plan_terms.proofs.Lemmas.{right_once}
 
 no_notes : (own printed : Notes) → printed ≡ own → HoldsNone (HoldsNotesDiffer own printed)
 no_notes own printed same finding.NotesDiffer h = h same

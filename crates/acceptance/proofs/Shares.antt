@@ -1,21 +1,14 @@
 -- a plan that is tight by the unit pairs of its links is tight by what its share gives and costs
 use Rattle.std.proofs.Common.{◌≡◌, ℕ, zero, suc, ◌+◌, ◌*◌, ◌⊎◌, inl, inr, List, [], ◌∷◌, Some, get_or, length, map, slice_get, slice_index, sum_by, zip, refl, ap, ◌∙◌, arith, ⊎_elim}
-use Rattle.std.proofs.lemmas.List.{length-map}
-use Rattle.std.proofs.lemmas.List.Sums.{sum_by-cons}
-use Rattle.std.proofs.lemmas.Option.{slice_get-get_or}
-use Rattle.std.proofs.lemmas.Slice.Zip.{length-zip}
+use Rattle.net_core.proofs.Library.{length-map, sum_by-cons, slice_get-get_or, length-zip}
 use Rattle.module_prices.specs.declared.cheapest.UnitPair.{UnitPair}
-use Rattle.net_core.specs.declared.network.Link.{Link}
-use Rattle.net_core.specs.declared.network.Module.{Module}
-use Rattle.net_core.specs.declared.plan.Routing.{Routing}
-use Rattle.net_core.specs.Cases.{Case}
-use Rattle.plan_terms.specs.Prices.{IsUnitPair}
+use Rattle.plan_terms.specs.Terms.{Link, Module, Routing, Case, IsUnitPair}
 use Rattle.plan_types.specs.declared.plan.Plan.{Plan}
 use Rattle.plan_types.specs.declared.quality.Fractional.{Fractional}
 use Rattle.plan_types.specs.declared.quality.Share.{Share}
-use Rattle.master_law.specs.UnitPairs.{AreUnitPairs, IsPairOfLink, share_capacities, share_cost}
+use Rattle.master_law.specs.Terms.{AreUnitPairs, IsPairOfLink, share_capacities, share_cost}
 use Rattle.plan_law.specs.TightPlans.{AreCarriedByShare, IsTightPlan}
-use Rattle.plan_checker.specs.Shares.{AreCarried, GivesShare, IsShareOf, IsTight}
+use Rattle.plan_checker.specs.Terms.{AreCarried, GivesShare, IsShareOf, IsTight}
 
 -- what each link's units cost
 abbrev costs_of : List UnitPair → List ℕ → List ℕ

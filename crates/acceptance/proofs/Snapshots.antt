@@ -1,8 +1,7 @@
 -- a plan of a snapshot has no finding where the pool counts as full
 use Rattle.std.proofs.Common.{◌≡◌, ◌∙◌, List, refl, subst, true}
-use Rattle.std.proofs.Math.Logic.{∥∥₁_elim}
-use Rattle.net_core.specs.declared.journal.Entry.{Entry}
-use Rattle.net_core.specs.Cases.{Case}
+use Rattle.net_core.proofs.Library.{∥∥₁_elim}
+use Rattle.plan_terms.specs.Terms.{Entry, Case}
 use Rattle.plan_types.specs.declared.plan.Plan.{Plan}
 use Rattle.plan_types.specs.declared.quality.Fractional.{Fractional}
 use Rattle.plan_types.specs.declared.quality.Quality.{Quality}
@@ -10,9 +9,7 @@ use Rattle.plan_types.specs.declared.quality.Quality.TheVariants.{Tight}
 use Rattle.cut_pool.specs.declared.snapshot.Snapshot.{Snapshot}
 use Rattle.plan_law.specs.LoosePlans.{HasQuality}
 use Rattle.planner.specs.SnapshotPlans.{IsSnapshotPlan}
-use Rattle.plan_checker.specs.Order.{HoldNone}
-use Rattle.plan_checker.specs.PlanFindings.{plan_findings}
-use Rattle.plan_checker.specs.Shares.{IsTight}
+use Rattle.plan_checker.specs.Terms.{HoldNone, plan_findings, IsTight}
 use Rattle.acceptance.specs.Laws.{SnapshotPlansAreAccepted}
 use Rattle.acceptance.proofs.Shares.{tight_by_share}
 use Rattle.acceptance.proofs.Sound.{none_prop, sound_plans_are_accepted}

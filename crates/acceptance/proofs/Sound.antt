@@ -1,32 +1,19 @@
 -- a sound plan has no finding, kind by kind
-use Rattle.std.proofs.Common.{◌≡◌, ℕ, ◌*◌, ◌≤◌, Bool, true, List, [], ◌∷◌, Some, All, get_or, sym, ◌∙◌, ap, subst, arith, slice_get, ⊎_elim}
-use Rattle.std.proofs.Props.{props}
-use Rattle.std.proofs.lemmas.Option.{get_or_from_slice_get, slice_get-map}
-use Rattle.std.specs.Option.{option_map}
-use Rattle.net_core.specs.declared.network.Module.{Module}
-use Rattle.net_core.specs.declared.plan.Flow.{Flow}
-use Rattle.net_core.specs.Cases.{Case, graph_in}
-use Rattle.net_core.specs.Graphs.{Joins}
-use Rattle.plan_terms.specs.Capacities.{capacities}
-use Rattle.plan_terms.specs.Certificates.{CertificateLine, IsCut, price}
-use Rattle.plan_terms.specs.Flows.{IsFlow}
-use Rattle.plan_types.specs.Plans.{IsCarryingPlan, IsCertifiedPlan, IsCostedPlan, lines_of_certificate}
+use Rattle.std.proofs.Common.{◌≡◌, ℕ, ◌*◌, ◌≤◌, Bool, true, List, [], ◌∷◌, Some, All, get_or, sym, ◌∙◌, ap, subst, arith, slice_get, ⊎_elim, option_map}
+use Rattle.net_core.proofs.Library.{props, get_or_from_slice_get, slice_get-map}
+use Rattle.plan_terms.specs.Terms.{Module, Flow, Case, graph_in, Joins, capacities, CertificateLine, IsCut, price, IsFlow}
+use Rattle.plan_types.specs.Terms.{IsCarryingPlan, IsCertifiedPlan, IsCostedPlan, lines_of_certificate}
 use Rattle.plan_types.specs.declared.certificate.CertLine.{CertLine}
 use Rattle.plan_types.specs.declared.certificate.Spot.TheVariants.{Local}
 use Rattle.plan_types.specs.declared.plan.Plan.{Plan}
 use Rattle.plan_types.specs.declared.quality.Fractional.{Fractional}
 use Rattle.plan_types.specs.declared.quality.Quality.TheVariants.{Tight}
-use Rattle.plan_checker.specs.Carried.{HasBadPath, IsOverloaded, IsUncarried}
-use Rattle.plan_checker.specs.Certified.{HasStaleRight, HoldsCostDiffers, IsLocalCut, IsOverpriced}
-use Rattle.plan_checker.specs.Order.{HoldNone, HoldsNone, Kind}
-use Rattle.plan_checker.specs.Places.{HoldsAt}
-use Rattle.plan_checker.specs.PlanFindings.{HoldsDemandsDiffer, plan_case}
-use Rattle.plan_checker.specs.Shares.{HoldsNotTight, IsTight}
+use Rattle.plan_checker.specs.Terms.{HasBadPath, IsOverloaded, IsUncarried, HasStaleRight, HoldsCostDiffers, IsLocalCut, IsOverpriced, HoldNone, HoldsNone, Kind, HoldsAt, HoldsDemandsDiffer, plan_case, HoldsNotTight, IsTight}
 use Rattle.plan_checker.specs.declared.finding.Finding.TheVariants as finding
 use Rattle.plan_checker.proofs.Telling.{no_bound, no_local, no_overloaded, no_place, no_price, no_raw, no_right, no_uncarried, no_wide}
 use Rattle.acceptance.specs.Laws.{SoundPlansAreAccepted}
 use Rattle.net_core.proofs.Lists.{all_at}
-use Rattle.plan_terms.proofs.Distances.{right_once}
+use Rattle.plan_terms.proofs.Lemmas.{right_once}
 
 -- that no finding holds has one proof at most
 pub none_prop : (kinds : List Kind) → IsProp (HoldNone kinds)

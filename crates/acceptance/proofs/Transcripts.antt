@@ -1,27 +1,19 @@
 -- a transcript of commands has no finding, and the bounds of its plans hold
 use Rattle.std.proofs.Common.{◌≡◌, ◌∙◌, ℕ, ◌+◌, ◌≤◌, ◌++◌, ◌==◌, List, [], ◌∷◌, All, length, get_or, take, drop, sym, ap, subst, arith, refl, ⊎_elim}
-use Rattle.std.proofs.Math.Logic.{∥∥₁_elim}
-use Rattle.std.proofs.Props.{props}
+use Rattle.net_core.proofs.Library.{∥∥₁_elim, props, nat_tests, length-map, All-cons, All-nil}
 use Rattle.std.proofs.lemmas.Bool.{eq-eqb}
-use Rattle.std.proofs.lemmas.Bool.Decides.{nat_tests}
-use Rattle.std.proofs.lemmas.List.{length-map, length-append, length-take-le, take-append-drop}
-use Rattle.std.proofs.lemmas.List.Elements.{All-cons, All-nil}
-use Rattle.net_core.specs.declared.demand.Demand.{Demand}
-use Rattle.net_core.specs.declared.journal.Entry.{Entry}
-use Rattle.net_core.specs.declared.network.Notes.{Notes}
-use Rattle.net_core.specs.Cases.{Case}
-use Rattle.plan_terms.specs.Capacities.{IsAble, total_cost}
-use Rattle.plan_terms.proofs.Duality.{weak_duality}
-use Rattle.plan_types.specs.Plans.{IsCarryingPlan, IsCertifiedPlan, lines_of_certificate}
+use Rattle.std.proofs.lemmas.List.{length-append, length-take-le, take-append-drop}
+use Rattle.plan_terms.specs.Terms.{Demand, Entry, Notes, Case, IsAble, total_cost}
+use Rattle.plan_terms.proofs.Lemmas.{weak_duality}
+use Rattle.plan_types.specs.Terms.{IsCarryingPlan, IsCertifiedPlan, lines_of_certificate}
 use Rattle.plan_types.specs.declared.plan.Plan.{Plan}
 use Rattle.plan_types.specs.declared.report.Outcome.{Outcome}
 use Rattle.plan_types.specs.declared.report.Outcome.TheVariants.{Planned, Unsurvivable}
 use Rattle.plan_types.specs.declared.report.Report.{Report}
-use Rattle.cut_pool.specs.Histories.{cut_of_line, cuts_of, demands_left, version_left, case_left}
+use Rattle.cut_pool.specs.Terms.{cut_of_line, cuts_of, demands_left, version_left, case_left}
 use Rattle.separator.specs.Separators.{IsFullHistory, IsSpotIn}
 use Rattle.planner.proofs.Histories.{cuts_both}
-use Rattle.plan_checker.specs.Order.{HoldNone}
-use Rattle.plan_checker.specs.Shares.{IsTight}
+use Rattle.plan_checker.specs.Terms.{HoldNone, IsTight}
 use Rattle.report_checker.specs.Outcomes.{IsBelowAllAble, SeparatesNamed, case_at, outcome_findings}
 use Rattle.report_checker.specs.ReportFindings.{HasNoFinding, whole_findings}
 use Rattle.session_script.specs.declared.script.Act.{Act}

@@ -1,17 +1,14 @@
 -- which plans have no finding
 use Rattle.std.specs.Prelude.{◌≡◌, Bool, true, List, All}
-use Rattle.net_core.specs.declared.journal.Entry.{Entry}
-use Rattle.net_core.specs.Cases.{Case}
-use Rattle.plan_types.specs.Plans.{IsCarryingPlan, IsCertifiedPlan, IsCostedPlan}
+use Rattle.plan_terms.specs.Terms.{Entry, Case}
+use Rattle.plan_types.specs.Terms.{IsCarryingPlan, IsCertifiedPlan, IsCostedPlan}
 use Rattle.plan_types.specs.declared.certificate.Spot.TheVariants.{Local}
 use Rattle.plan_types.specs.declared.plan.Plan.{Plan}
 use Rattle.plan_types.specs.declared.quality.Fractional.{Fractional}
 use Rattle.plan_types.specs.declared.quality.Quality.TheVariants.{Tight}
 use Rattle.cut_pool.specs.declared.snapshot.Snapshot.{Snapshot}
 use Rattle.planner.specs.SnapshotPlans.{IsSnapshotPlan}
-use Rattle.plan_checker.specs.Order.{HoldNone}
-use Rattle.plan_checker.specs.PlanFindings.{plan_findings}
-use Rattle.plan_checker.specs.Shares.{IsTight}
+use Rattle.plan_checker.specs.Terms.{HoldNone, plan_findings, IsTight}
 
 -- A plan for the demands of the case has no finding where it carries them, is costed and certified, has cuts outside the pool
 -- only where the pool is full, and is tight where it claims so.

@@ -5,7 +5,7 @@ use denote.Struct.Declared.{shape}
 use denote.Struct.Tuple.{Tuple}
 use denote.Param.Send.{IsSend, recorded_send, sendable, shr_send, struct_send}
 use Rattle.std.proofs.Common.{[], ◌∷◌}
-use Rattle.std.proofs.Crossing.{crosses}
+use Rattle.net_core.proofs.Library.{crosses}
 use Rattle.net_core.specs.contracts.demand.Demand as demand
 use Rattle.net_core.specs.contracts.journal.Entry as entry
 use Rattle.net_core.specs.contracts.list.List as list

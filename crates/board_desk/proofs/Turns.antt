@@ -1,20 +1,15 @@
 -- How a caller's turn comes to be what is said of it.
 use Rattle.std.proofs.Common.{◌≡◌, ◌∙◌, ℕ, ◌-◌, ◌++◌, ◌∷◌, [], true, false, List, length, subst, sym, ap, arith}
-use Rattle.std.specs.List.{range_with_len}
+use Rattle.net_core.proofs.Library.{range_with_len}
 use Rattle.std.proofs.lemmas.List.{append-nil, length-append}
-use Rattle.net_core.specs.declared.demand.Demand.{Demand}
-use Rattle.net_core.specs.declared.journal.Edit.{Edit}
-use Rattle.net_core.specs.declared.journal.Entry.{Entry}
-use Rattle.net_core.specs.declared.journal.Entry.TheVariants.{Edited, Pooled}
-use Rattle.net_core.specs.declared.network.Network.{Network}
-use Rattle.net_core.specs.declared.states.States.{States}
+use Rattle.plan_terms.specs.Terms.{Demand, Edit, Entry, Edited, Pooled, Network, States}
 use Rattle.metric_cut.specs.declared.cut.Cut.{Cut}
 use Rattle.cut_pool.specs.declared.answers.AdmitAnswer.{AdmitAnswer}
 use Rattle.cut_pool.specs.declared.answers.AdmitAnswer.TheVariants as admitting
 use Rattle.cut_pool.specs.declared.answers.EditAnswer.{EditAnswer}
 use Rattle.cut_pool.specs.declared.answers.EditAnswer.TheVariants as editing
 use Rattle.cut_pool.specs.declared.board.Board.{Board}
-use Rattle.cut_pool.specs.Boards.{AnswersAdmit, AnswersEdit, origin_of}
+use Rattle.cut_pool.specs.Terms.{AnswersAdmit, AnswersEdit, origin_of}
 use Rattle.turn_lock.specs.declared.desk.Turn.{Turn}
 use Rattle.turn_lock.specs.Histories.{IsPrefix}
 use Rattle.turn_lock.specs.Passes.{own_places, seen_by, turn_history, turn_places}

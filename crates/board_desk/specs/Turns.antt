@@ -2,14 +2,13 @@
 use Rattle.std.specs.Prelude.{◌≡◌, ◌-◌, ◌++◌, length, IfOk}
 use Rattle.std.specs.List.{range_with_len}
 use Rattle.std.specs.declared.result.Result.{Result}
-use Rattle.net_core.specs.declared.journal.Edit.{Edit}
-use Rattle.net_core.specs.declared.list.NoMemory.{NoMemory}
+use Rattle.plan_terms.specs.Terms.{Edit, NoMemory}
 use Rattle.metric_cut.specs.declared.cut.Cut.{Cut}
 use Rattle.cut_pool.specs.declared.answers.AdmitAnswer.{AdmitAnswer}
 use Rattle.cut_pool.specs.declared.answers.EditAnswer.{EditAnswer}
 use Rattle.cut_pool.specs.declared.board.Board.{Board}
 use Rattle.cut_pool.specs.declared.snapshot.Snapshot.{Snapshot}
-use Rattle.cut_pool.specs.Boards.{AnswersAdmit, AnswersEdit, IsSnapshotOf, origin_of}
+use Rattle.cut_pool.specs.Terms.{AnswersAdmit, AnswersEdit, IsSnapshotOf, origin_of}
 use Rattle.turn_lock.specs.Histories.{IsPrefix}
 use Rattle.turn_lock.specs.Passes.{IsPassOf, opening_of, own_places, seen_by}
 use Rattle.board_desk.specs.declared.caller.Caller.{Caller}

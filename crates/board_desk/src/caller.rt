@@ -1,11 +1,10 @@
 ghost use Rattle.std.specs.Prelude.{◌≡◌, ◌+◌, ◌-◌, ◌/◌, ◌<◌, ◌≤◌, ◌^◌, ◌++◌, [], Some, length};
 ghost use Rattle.std.specs.List.{range_with_len};
-ghost use Rattle.net_core.specs.Views.{graph};
-ghost use Rattle.plan_terms.specs.Edits.{edit_need};
+ghost use Rattle.plan_terms.specs.Terms.{graph, edit_need};
 ghost use Rattle.metric_cut.specs.Cuts.{IsCutOf};
 ghost use Rattle.turn_lock.specs.Histories.{IsPrefix, longer, merged};
 ghost use Rattle.turn_lock.specs.Passes.{AreOfOneDesk, IsPassOf, own_places, own_units, seen_by, turn_history, turn_origin, turn_places, turn_units};
-ghost use Rattle.cut_pool.specs.Boards.{origin_of};
+ghost use Rattle.cut_pool.specs.Terms.{origin_of};
 ghost use Rattle.board_desk.specs.inner.Endings.{IsGrown, cut_enters, edit_enters};
 
 use cut_pool::{AdmitAnswer, Board, EditAnswer, Snapshot};

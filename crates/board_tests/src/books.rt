@@ -1,6 +1,6 @@
 //! Tests of the book of demands.
 ghost use Rattle.std.specs.Prelude.{◌<◌, ◌^◌, IfSome};
-ghost use Rattle.plan_terms.specs.Edits.{edit_need};
+ghost use Rattle.plan_terms.specs.Terms.{edit_need};
 
 use crate::changes::{Change, added, edit_of};
 use demand_book::Book;

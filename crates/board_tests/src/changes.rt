@@ -1,6 +1,6 @@
 //! Edits as tables write them.
 ghost use Rattle.std.specs.Prelude.{◌<◌, ◌^◌, IfSome};
-ghost use Rattle.plan_terms.specs.Edits.{edit_need};
+ghost use Rattle.plan_terms.specs.Terms.{edit_need};
 
 use net_core::{Edit, Name};
 use std::alloc::Global;

@@ -1,6 +1,6 @@
 //! Cuts of the triangle.
 ghost use Rattle.std.specs.Prelude.{◌≡◌, IfSome};
-ghost use Rattle.net_core.specs.Views.{graph};
+ghost use Rattle.plan_terms.specs.Terms.{graph};
 ghost use Rattle.metric_cut.specs.Cuts.{IsCutOf};
 
 use metric_cut::Cut;

@@ -1,9 +1,6 @@
 -- common divisors of rows
 use Rattle.std.proofs.Common.{ℕ, ℤ, ◌≡◌, ◌+◌, ◌<◌, ◌≤◌, unsigned_abs, sym, subst, arith, ⊎_elim}
-use Rattle.std.proofs.lemmas.Nat.Gcd.{dvd_refl, dvd_trans}
-use Rattle.std.proofs.Math.Nat.{one-dvd}
-use Rattle.std.proofs.lemmas.Bool.{cases_lt}
-use Rattle.std.specs.Int.{IsGcd, ◌∣◌}
+use Rattle.net_core.proofs.Library.{dvd_refl, dvd_trans, one-dvd, cases_lt, IsGcd, ◌∣◌}
 use Rattle.checked_fraction.specs.inner.Passes.{IsRowGcd}
 
 -- no numbers

@@ -1,7 +1,7 @@
 -- a wide number in two parts
 use Rattle.std.proofs.Common.{◌≡◌, ℕ, ◌/◌, ◌%◌, ◌^◌, sym, ap, ◌∙◌, arith}
 use Rattle.std.proofs.Math.IntN.{ℤ, pos, ◌+ℤ◌, ◌-ℤ◌, ◌*ℤ◌}
-use Rattle.std.proofs.lemmas.Int.{ints}
+use Rattle.net_core.proofs.Library.{ints}
 use Rattle.checked_fraction.proofs.Products.{regroup, times_plus}
 
 -- a times a size, by the parts of the size

@@ -1,9 +1,7 @@
 -- rows in lowest terms
 use Rattle.std.proofs.Common.{ℕ, ℤ, List, zero, suc, pos, ◌≡◌, ◌*◌, ◌/◌, ◌<◌, ◌*ℤ◌, ◌-ℤ◌, unsigned_abs, sym, ap, subst, ◌∙◌, arith}
 use Rattle.std.specs.Int.Signed.{◌<ℤ◌}
-use Rattle.std.specs.Int.{◌∣◌}
-use Rattle.std.proofs.lemmas.Int.{ints, unsigned_abs-mul}
-use Rattle.std.proofs.Math.Nat.{mul-dvd-mul_left, dvd_of_mul-dvd-mul_left, eq-one_of_dvd-one, mul-div_cancel'}
+use Rattle.net_core.proofs.Library.{◌∣◌, ints, unsigned_abs-mul, mul-dvd-mul_left, dvd_of_mul-dvd-mul_left, eq-one_of_dvd-one, mul-div_cancel'}
 use Rattle.checked_fraction.specs.Rows.{num, IsInLowestTerms, IsReduced}
 use Rattle.checked_fraction.specs.Mixed.{combined}
 use Rattle.checked_fraction.specs.inner.Passes.{IsRowGcd, IsFoundDivisor, IsTimes, raw, over}

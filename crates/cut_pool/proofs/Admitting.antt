@@ -1,8 +1,6 @@
 -- cuts that a board admits
-use Rattle.std.proofs.Common.{◌≡◌, ◌∙◌, ℕ, List, None, Option, length, ap, sym}
-use Rattle.std.specs.Prelude.{position}
-use Rattle.net_core.specs.declared.journal.Entry.TheVariants.{Pooled}
-use Rattle.net_core.specs.Cases.{graph_in}
+use Rattle.std.proofs.Common.{◌≡◌, ◌∙◌, ℕ, List, None, Option, length, ap, sym, position}
+use Rattle.plan_terms.specs.Terms.{Pooled, graph_in}
 use Rattle.metric_cut.specs.Cuts.{IsCutOf}
 use Rattle.metric_cut.specs.declared.cut.Cut.{Cut}
 use Rattle.cut_pool.specs.declared.board.Board.{Board}

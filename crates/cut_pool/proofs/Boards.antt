@@ -1,20 +1,8 @@
 -- boards with one entry more
-use Rattle.std.proofs.Common.{◌≡◌, ◌∙◌, ℕ, ◌<◌, ◌++◌, List, [], ◌∷◌, All, length, map, get_or, refl, sym, ap, subst, arith}
-use Rattle.std.specs.Prelude.{◌≤◌, ◌+◌, ◌^◌, IfErr, IfOk, OnOk, Ok, Err, Result}
-use Rattle.std.proofs.Math.Logic.{∥∥₁_elim}
-use Rattle.std.proofs.Props.{props}
-use Rattle.std.proofs.lemmas.List.{append-nil, get_or-map, length-append, length-map, map-append}
-use Rattle.std.proofs.lemmas.List.Elements.{All-map, All-push}
-use Rattle.net_core.specs.declared.demand.Demand.{Demand}
-use Rattle.net_core.specs.declared.journal.Edit.{Edit}
-use Rattle.net_core.specs.declared.journal.Entry.{Entry}
-use Rattle.net_core.specs.declared.journal.Entry.TheVariants.{Edited, Pooled}
-use Rattle.net_core.specs.declared.journal.Reply.{Reply}
-use Rattle.net_core.specs.declared.plan.CutLine.{CutLine}
-use Rattle.net_core.specs.Cases.{Case, graph_in}
-use Rattle.net_core.specs.Graphs.{Joins}
-use Rattle.plan_terms.specs.Certificates.{IsRight}
-use Rattle.plan_terms.specs.Edits.{Answered, edit_reply, version_after}
+use Rattle.std.proofs.Common.{◌≡◌, ◌∙◌, ℕ, ◌<◌, ◌++◌, List, [], ◌∷◌, All, length, map, get_or, refl, sym, ap, subst, arith, ◌≤◌, ◌+◌, ◌^◌, IfErr, IfOk, OnOk, Ok, Err, Result}
+use Rattle.net_core.proofs.Library.{∥∥₁_elim, props, get_or-map, length-map, map-append, All-map, All-push}
+use Rattle.std.proofs.lemmas.List.{append-nil, length-append}
+use Rattle.plan_terms.specs.Terms.{Demand, Edit, Entry, Edited, Pooled, Reply, CutLine, Case, graph_in, Joins, IsRight, Answered, edit_reply, version_after}
 use Rattle.demand_book.specs.declared.book.Book.{Book}
 use Rattle.metric_cut.specs.Cuts.{IsCutOf}
 use Rattle.metric_cut.specs.declared.cut.Cut.{Cut}

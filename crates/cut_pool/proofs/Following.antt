@@ -1,19 +1,10 @@
 -- right sides that follow an edit
 use Rattle.std.proofs.Common.{◌≡◌, ◌∙◌, ℕ, ◌+◌, ◌*◌, ◌≤◌, ◌<◌, ◌^◌, List, [], ◌∷◌, ◌++◌, All, Option, None, Some, length, map, get_or, take, drop, slice_get, slice_index_or, sum_by, unwrap_or, zip, suc, refl, sym, ap, subst, arith}
-use Rattle.std.proofs.Math.Logic.{∥∥₁_elim}
+use Rattle.net_core.proofs.Library.{∥∥₁_elim, props, get_or-map, length-map, same_lists, All-map, sum_by-cons, get_or_from_slice_get, slice_get_within}
 use Rattle.std.proofs.Math.Nat.{mul-le-mul_left}
-use Rattle.std.proofs.Props.{props}
-use Rattle.std.proofs.lemmas.List.{get_or-append-add, get_or-drop, get_or-map, length-map, length-take-le, same_lists}
-use Rattle.std.proofs.lemmas.List.Elements.{All-map}
-use Rattle.std.proofs.lemmas.List.Sums.{sum_by-cons}
-use Rattle.std.proofs.lemmas.Option.{get_or_from_slice_get, slice_get_within}
-use Rattle.net_core.specs.declared.demand.Demand.{Demand}
-use Rattle.net_core.specs.Demands.{AreDemands, IsDemand}
-use Rattle.net_core.specs.Graphs.{Graph, Joins}
-use Rattle.plan_terms.specs.Certificates.{IsRight}
-use Rattle.plan_terms.specs.Edits.{total_need, without}
-use Rattle.plan_terms.specs.Paths.{IsDistance}
-use Rattle.plan_terms.proofs.Distances.{distance_one}
+use Rattle.std.proofs.lemmas.List.{get_or-append-add, get_or-drop, length-take-le}
+use Rattle.plan_terms.specs.Terms.{Demand, AreDemands, IsDemand, Graph, Joins, IsRight, total_need, without, IsDistance}
+use Rattle.plan_terms.proofs.Lemmas.{distance_one}
 use Rattle.short_paths.specs.declared.distance_table.DistanceTable.{DistanceTable}
 use Rattle.short_paths.specs.DistanceTables.{AreAllDistances, distance_at}
 use Rattle.short_paths.proofs.Lows.{table_low}

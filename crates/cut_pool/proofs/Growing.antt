@@ -1,12 +1,8 @@
 -- histories with one entry more
 use Rattle.std.proofs.Common.{◌≡◌, ◌∙◌, ℕ, ◌<◌, ◌≤◌, ◌++◌, List, [], ◌∷◌, Some, length, slice_get, get_or, take, refl, sym, ap, subst, arith, ⊎_elim}
-use Rattle.std.proofs.Math.Seq.{get_or-append_seam, take-append_seam}
-use Rattle.std.proofs.lemmas.Bool.{cases_lt}
-use Rattle.std.proofs.lemmas.Grind.{flat_map-append}
-use Rattle.std.proofs.lemmas.List.{get_or_append_left, length-append, take-append-le}
-use Rattle.std.proofs.lemmas.Option.{get_or_from_slice_get, slice_get-get_or, slice_get_within}
-use Rattle.net_core.specs.declared.journal.Entry.{Entry}
-use Rattle.net_core.specs.Cases.{Case}
+use Rattle.net_core.proofs.Library.{get_or-append_seam, take-append_seam, cases_lt, flat_map-append, get_or_append_left, get_or_from_slice_get, slice_get-get_or, slice_get_within}
+use Rattle.std.proofs.lemmas.List.{length-append, take-append-le}
+use Rattle.plan_terms.specs.Terms.{Entry, Case}
 use Rattle.cut_pool.specs.Histories.{Dated, IsLegalAfter, IsLegalHistory, cuts_of, left_by, left_by_entry, pooled_by}
 
 pub left_more : (nodes : List (List ℕ)) (d : Dated) (es : List Entry) (e : Entry) → left_by nodes d (es ++ e ∷ []) ≡ left_by_entry nodes (left_by nodes d es) e

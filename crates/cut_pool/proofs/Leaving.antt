@@ -1,18 +1,8 @@
 -- the share of a name, and edits of it
-use Rattle.std.proofs.Common.{◌≡◌, ◌∙◌, ℕ, ◌^◌, Bool, true, false, cond, not, List, [], ◌∷◌, ◌++◌, get_or, sum_by, Option, None, Some, refl, sym, ap, arith}
-use Rattle.std.specs.Prelude.{nat_lt, position}
-use Rattle.std.proofs.lemmas.Bool.{cond-false, cond-true, cond_both, not_from_false, not_from_true}
+use Rattle.std.proofs.Common.{◌≡◌, ◌∙◌, ℕ, ◌^◌, Bool, true, false, cond, not, List, [], ◌∷◌, ◌++◌, get_or, sum_by, Option, None, Some, refl, sym, ap, arith, nat_lt, position}
+use Rattle.net_core.proofs.Library.{cond-false, cond-true, cond_both, not_from_false, not_from_true, filter-append, sum_by-remove}
 use Rattle.std.proofs.lemmas.List.{append-nil}
-use Rattle.std.proofs.lemmas.List.Elements.{filter-append}
-use Rattle.std.proofs.lemmas.List.Sums.{sum_by-remove}
-use Rattle.net_core.specs.declared.demand.Demand.{Demand}
-use Rattle.net_core.specs.declared.journal.Edit.{Edit}
-use Rattle.net_core.specs.declared.journal.Edit.TheVariants.{Add, Drop, Set}
-use Rattle.net_core.specs.declared.journal.Reply.{Reply}
-use Rattle.net_core.specs.declared.journal.Reply.TheVariants.{Accepted, TooMuch, UnknownDemand}
-use Rattle.net_core.specs.Demands.{AreDemands}
-use Rattle.net_core.specs.Tests.{are_same}
-use Rattle.plan_terms.specs.Edits.{Answered, add_fault, added, edit_reply, is_demand, next_version, node_of, set_need, total_need, within_total, without}
+use Rattle.plan_terms.specs.Terms.{Demand, Edit, Add, Drop, Set, Reply, Accepted, TooMuch, UnknownDemand, AreDemands, are_same, Answered, add_fault, added, edit_reply, is_demand, next_version, node_of, set_need, total_need, within_total, without}
 use Rattle.metric_cut.specs.inner.Rights.{part_of}
 use Rattle.demand_book.proofs.Changed.{all_kept, alone, is_same, remove_is}
 use Rattle.cut_pool.specs.declared.shares.DemandShare.{DemandShare}

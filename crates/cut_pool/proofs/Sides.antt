@@ -1,8 +1,6 @@
 -- pooled cuts with their right sides at demands
 use Rattle.std.specs.Prelude.{◌<◌, ◌^◌, List}
-use Rattle.net_core.specs.declared.demand.Demand.{Demand}
-use Rattle.net_core.specs.Graphs.{Graph, Joins}
-use Rattle.plan_terms.specs.Certificates.{IsRight}
+use Rattle.plan_terms.specs.Terms.{Demand, Graph, Joins, IsRight}
 use Rattle.metric_cut.specs.Cuts.{IsCutOf}
 use Rattle.cut_pool.specs.declared.pooled.PooledCut.{PooledCut}
 

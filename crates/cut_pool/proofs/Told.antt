@@ -1,17 +1,7 @@
 -- what a board tells of itself
-use Rattle.std.proofs.Common.{◌≡◌, ◌≢◌, ◌∙◌, ℕ, ◌<◌, ◌^◌, List, [], ◌∷◌, All, Some, None, length, map, get_or, slice_get, refl, sym, ap, subst, arith}
-use Rattle.std.specs.Prelude.{Option, option_map, position}
-use Rattle.std.proofs.Math.Logic.{∥∥₁_elim}
-use Rattle.std.proofs.Props.{props}
-use Rattle.std.proofs.lemmas.List.{get_or-map, length-map}
-use Rattle.std.proofs.lemmas.List.Elements.{All-map}
-use Rattle.std.proofs.lemmas.Option.{get_or_from_slice_get, slice_get-get_or, slice_get-map, slice_get_within}
-use Rattle.net_core.specs.declared.demand.Demand.{Demand}
-use Rattle.net_core.specs.declared.journal.Entry.{Entry}
-use Rattle.net_core.specs.declared.plan.CutLine.{CutLine}
-use Rattle.net_core.specs.Cases.{Case, graph_in}
-use Rattle.net_core.specs.Graphs.{Joins}
-use Rattle.plan_terms.specs.Certificates.{IsCut, IsRight}
+use Rattle.std.proofs.Common.{◌≡◌, ◌≢◌, ◌∙◌, ℕ, ◌<◌, ◌^◌, List, [], ◌∷◌, All, Some, None, length, map, get_or, slice_get, refl, sym, ap, subst, arith, Option, option_map, position}
+use Rattle.net_core.proofs.Library.{∥∥₁_elim, props, get_or-map, length-map, All-map, get_or_from_slice_get, slice_get-get_or, slice_get-map, slice_get_within}
+use Rattle.plan_terms.specs.Terms.{Demand, Entry, CutLine, Case, graph_in, Joins, IsCut, IsRight}
 use Rattle.metric_cut.specs.declared.cut.Cut.{Cut}
 use Rattle.cut_pool.specs.declared.pooled.PooledCut.{PooledCut}
 use Rattle.cut_pool.specs.declared.board.Board.{Board}

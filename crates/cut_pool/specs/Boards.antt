@@ -1,16 +1,6 @@
 -- boards: what they were made with, how they grow, and what they answer
 use Rattle.std.specs.Prelude.{◌≡◌, ◌≢◌, ℕ, ◌<◌, ◌^◌, ◌++◌, List, [], ◌∷◌, All, Some, length, slice_get, true}
-use Rattle.net_core.specs.declared.demand.Demand.{Demand}
-use Rattle.net_core.specs.declared.journal.Edit.{Edit}
-use Rattle.net_core.specs.declared.journal.Entry.{Entry}
-use Rattle.net_core.specs.declared.journal.Entry.TheVariants.{Edited, Pooled}
-use Rattle.net_core.specs.declared.network.Network.{Network}
-use Rattle.net_core.specs.declared.states.States.{States}
-use Rattle.net_core.specs.declared.plan.CutLine.{CutLine}
-use Rattle.net_core.specs.Cases.{Case, graph_in}
-use Rattle.net_core.specs.Demands.{AreDemands}
-use Rattle.net_core.specs.Graphs.{Joins}
-use Rattle.net_core.specs.Views.{case}
+use Rattle.plan_terms.specs.Terms.{Demand, Edit, Entry, Edited, Pooled, Network, States, CutLine, Case, graph_in, AreDemands, Joins, case, IsCut, IsRight}
 use Rattle.metric_cut.specs.declared.cut.Cut.{Cut}
 use Rattle.cut_pool.specs.declared.answers.AdmitAnswer.{AdmitAnswer}
 use Rattle.cut_pool.specs.declared.answers.AdmitAnswer.TheVariants as admitting
@@ -18,7 +8,6 @@ use Rattle.cut_pool.specs.declared.answers.EditAnswer.{EditAnswer}
 use Rattle.cut_pool.specs.declared.answers.EditAnswer.TheVariants as editing
 use Rattle.cut_pool.specs.declared.board.Board.{Board}
 use Rattle.cut_pool.specs.declared.snapshot.Snapshot.{Snapshot}
-use Rattle.plan_terms.specs.Certificates.{IsCut, IsRight}
 use Rattle.cut_pool.specs.Histories.{IsLegalAfter, IsPoolAfter, cuts_of, demands_left, version_left}
 use Rattle.cut_pool.specs.Rooms.{left_spare, sets_known}
 

@@ -1,14 +1,7 @@
 -- histories of edits and pooled cuts, and what they leave; a case gives the network, its states and the opening demands
 use Rattle.std.specs.Prelude.{◌≡◌, ◌≢◌, ℕ, ◌≤◌, List, [], ◌∷◌, All, Some, length, map, slice_get, take}
 use Rattle.std.specs.List.{flat_map}
-use Rattle.net_core.specs.declared.demand.Demand.{Demand}
-use Rattle.net_core.specs.declared.journal.Entry.{Entry}
-use Rattle.net_core.specs.declared.journal.Entry.TheVariants.{Edited, Pooled}
-use Rattle.net_core.specs.declared.plan.CutLine.{CutLine}
-use Rattle.net_core.specs.Cases.{Case, graph_in}
-use Rattle.net_core.specs.Graphs.{Joins}
-use Rattle.plan_terms.specs.Certificates.{AreKept, IsRight}
-use Rattle.plan_terms.specs.Edits.{edit_reply, version_after}
+use Rattle.plan_terms.specs.Terms.{Demand, Entry, Edited, Pooled, CutLine, Case, graph_in, Joins, AreKept, IsRight, edit_reply, version_after}
 
 -- demands, and the version that counts the accepted edits
 pub record Dated : Type 0 where

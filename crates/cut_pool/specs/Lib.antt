@@ -3,3 +3,4 @@ pub mod Histories
 pub mod Pools
 pub mod Rooms
 pub mod inner
+pub mod Terms

@@ -1,7 +1,6 @@
 -- the cuts of a board's pool
 use Rattle.std.specs.Prelude.{List, All}
-use Rattle.net_core.specs.declared.plan.CutLine.{CutLine}
-use Rattle.net_core.specs.Cases.{Case, graph_in}
+use Rattle.plan_terms.specs.Terms.{CutLine, Case, graph_in}
 use Rattle.metric_cut.specs.Cuts.{IsCutOf}
 use Rattle.cut_pool.specs.declared.pooled.PooledCut.{PooledCut}
 

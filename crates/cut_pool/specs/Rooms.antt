@@ -1,9 +1,6 @@
 -- edits for which a board can spare memory
 use Rattle.std.specs.Prelude.{ℕ, ◌-◌, Bool, false, List, cond}
-use Rattle.net_core.specs.declared.demand.Demand.{Demand}
-use Rattle.net_core.specs.declared.journal.Edit.{Edit}
-use Rattle.net_core.specs.declared.journal.Edit.TheVariants.{Add, Drop, Set}
-use Rattle.plan_terms.specs.Edits.{is_demand}
+use Rattle.plan_terms.specs.Terms.{Demand, Edit, Add, Drop, Set, is_demand}
 
 -- the edit sets the need of one of these demands
 abbrev pub sets_known : List Demand → Edit → Bool

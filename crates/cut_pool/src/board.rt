@@ -1,7 +1,5 @@
 ghost use Rattle.std.specs.Prelude.{◌≡◌, ◌≤◌, ◌<◌, ◌-◌, ◌^◌, [], All, IfOk, IfErr, OnErr, OnOk, Some, length, map, max, slice_get};
-ghost use Rattle.net_core.specs.Demands.{AreDemands};
-ghost use Rattle.net_core.specs.Views.{case, graph};
-ghost use Rattle.plan_terms.specs.Edits.{edit_need};
+ghost use Rattle.plan_terms.specs.Terms.{AreDemands, case, graph, edit_need};
 ghost use Rattle.metric_cut.specs.Cuts.{IsCutOf};
 ghost use Rattle.cut_pool.specs.Histories.{IsBoardAfter, cuts_of, demands_left, version_left};
 ghost use Rattle.cut_pool.specs.Pools.{ArePooledCuts, line_of_pooled};

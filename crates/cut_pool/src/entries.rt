@@ -13,7 +13,7 @@ pub struct Told {
 
 impl Model for Told {
     ghost use Rattle.std.specs.Prelude as p;
-    ghost use Rattle.net_core.specs.declared.journal.Entry.{Entry};
+    ghost use Rattle.plan_terms.specs.Terms.{Entry};
 
     ghost Value = { p.List Entry };
 

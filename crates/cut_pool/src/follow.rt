@@ -1,6 +1,6 @@
 ghost use Rattle.std.specs.Prelude.{◌≡◌, ◌<◌, ◌^◌, All, IfOk, OnErr, length, map};
 ghost use Rattle.demand_book.specs.Book.{IsAdd};
-ghost use Rattle.plan_terms.specs.Edits.{edit_need, edit_reply, version_after};
+ghost use Rattle.plan_terms.specs.Terms.{edit_need, edit_reply, version_after};
 ghost use Rattle.cut_pool.specs.inner.Pooling.{StandsAt};
 
 use crate::pooled::{PooledCut, follow_all};

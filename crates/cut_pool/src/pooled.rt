@@ -1,5 +1,5 @@
 ghost use Rattle.std.specs.Prelude.{◌≡◌, ◌<◌, ◌^◌, All, IfOk, length, map, position};
-ghost use Rattle.net_core.specs.declared.journal.Entry.TheVariants.{Pooled};
+ghost use Rattle.plan_terms.specs.Terms.{Pooled};
 ghost use Rattle.cut_pool.specs.Pools.{line_of_pooled};
 ghost use Rattle.cut_pool.specs.inner.Pooling.{CanFollow, IsSomeCut, StandsAmong, followed, is_pooled_cut};
 ghost use Rattle.cut_pool.specs.inner.Shares.{IsShareOfDemand, asked_by};

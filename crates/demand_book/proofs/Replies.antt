@@ -1,13 +1,8 @@
 -- the replies of edits, from what the code knows
-use Rattle.std.proofs.Common.{◌≡◌, ◌≢◌, ◌<◌, ◌≤◌, ◌-◌, ◌^◌, ℕ, true, false, List, [], length, get_or, Some, sym, ap, ◌∙◌, arith}
-use Rattle.std.specs.Prelude.{nat_lt, position}
-use Rattle.std.proofs.lemmas.Bool.{cond-true, cond-false, le-ltb, lt-ltb, false≢true}
-use Rattle.std.proofs.lemmas.List.Quantifiers.{position-Some}
-use Rattle.net_core.specs.Tests.{are_same}
-use Rattle.net_core.specs.declared.demand.Demand.{Demand}
-use Rattle.net_core.specs.declared.journal.Edit.TheVariants.{Set, Drop}
-use Rattle.net_core.specs.declared.journal.Reply.TheVariants.{Accepted, UnknownDemand, TooMuch}
-use Rattle.plan_terms.specs.Edits.{edit_reply, is_demand, next_version, set_need, total_need, within_total, without}
+use Rattle.std.proofs.Common.{◌≡◌, ◌≢◌, ◌<◌, ◌≤◌, ◌-◌, ◌^◌, ℕ, true, false, List, [], length, get_or, Some, sym, ap, ◌∙◌, arith, nat_lt, position}
+use Rattle.net_core.proofs.Library.{cond-true, cond-false, false≢true, position-Some}
+use Rattle.std.proofs.lemmas.Bool.{le-ltb, lt-ltb}
+use Rattle.plan_terms.specs.Terms.{are_same, Demand, Set, Drop, Accepted, UnknownDemand, TooMuch, edit_reply, is_demand, next_version, set_need, total_need, within_total, without}
 use Rattle.demand_book.proofs.Changed.{is_same}
 use Rattle.net_core.proofs.Checks.{same_is}
 

@@ -1,6 +1,5 @@
 -- which edits need memory
-use Rattle.net_core.specs.declared.journal.Edit.{Edit}
-use Rattle.net_core.specs.declared.journal.Edit.TheVariants.{Add, Drop, Set}
+use Rattle.plan_terms.specs.Terms.{Edit, Add, Drop, Set}
 
 -- the edit adds a demand
 abbrev pub IsAdd : Edit → Type 0

@@ -1,8 +1,5 @@
 ghost use Rattle.std.specs.Prelude.{◌≡◌, ◌≢◌, ◌<◌, ◌≤◌, ◌^◌, List, ℕ, IfOk, IfErr, OnErr, length, position, Some, None, false};
-ghost use Rattle.net_core.specs.Demands.{AreDemands};
-ghost use Rattle.net_core.specs.Tests.{are_same};
-ghost use Rattle.net_core.specs.declared.journal.Edit.TheVariants.{Add, Drop, Set};
-ghost use Rattle.plan_terms.specs.Edits.{add_fault, edit_need, edit_reply, is_demand, node_of, total_need, version_after};
+ghost use Rattle.plan_terms.specs.Terms.{AreDemands, are_same, Add, Drop, Set, add_fault, edit_need, edit_reply, is_demand, node_of, total_need, version_after};
 ghost use Rattle.demand_book.specs.Book.{IsAdd};
 
 use crate::find::{demand_place, give_need, node_place, sum_of_needs};

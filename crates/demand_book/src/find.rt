@@ -1,6 +1,5 @@
 ghost use Rattle.std.specs.Prelude.{◌≡◌, ◌<◌, ◌^◌, length, is_some, position};
-ghost use Rattle.net_core.specs.Tests.{are_same, is_named};
-ghost use Rattle.plan_terms.specs.Edits.{is_demand, total_need};
+ghost use Rattle.plan_terms.specs.Terms.{are_same, is_named, is_demand, total_need};
 ghost use Rattle.demand_book.specs.inner.Places.{IsPlaceOf};
 
 use net_core::{Demand, Demands, Name};

@@ -2,17 +2,12 @@
 use Rattle.std.proofs.Common.{◌≡◌, ◌≢◌, ℕ, zero, suc, ◌<◌, ◌≤◌, ◌+◌, List, length, Some, slice_get, refl, sym, ap, subst, ◌∙◌, arith, ⊎_elim}
 use Rattle.std.proofs.Math.IntN.{ℤ, pos, ◌+ℤ◌, ◌*ℤ◌}
 use Rattle.std.specs.Int.Signed.{◌<ℤ◌}
-use Rattle.std.proofs.lemmas.Int.{ints, by_lt_z}
-use Rattle.std.proofs.lemmas.Bool.{cases_eq, cases_lt}
-use Rattle.std.proofs.lemmas.Option.{slice_get_within}
-use Rattle.std.specs.List.{AllByRecursion}
-use Rattle.checked_fraction.specs.Rows.{num, IsNarrow}
+use Rattle.net_core.proofs.Library.{ints, by_lt_z, cases_eq, cases_lt, slice_get_within, AllByRecursion}
+use Rattle.checked_fraction.specs.Terms.{num, IsNarrow}
 use Rattle.checked_fraction.specs.declared.row.Row.{Row}
-use Rattle.simplex_law.specs.Sums.{dot, unit_vector}
-use Rattle.simplex_law.specs.Programs.{ColumnOf, IsSlack, IsProgramColumn, IsPacking}
-use Rattle.simplex_law.proofs.Sums.{unit-same, unit-other}
-use Rattle.simplex_core.specs.Columns.{IsEntry, AreEntries, entry_of, column_from, column_of}
-use Rattle.simplex_core.specs.Prices.{Finds}
+use Rattle.simplex_law.specs.Terms.{dot, unit_vector, ColumnOf, IsSlack, IsProgramColumn, IsPacking}
+use Rattle.simplex_law.proofs.Lemmas.{unit-same, unit-other}
+use Rattle.simplex_core.specs.Terms.{IsEntry, AreEntries, entry_of, column_from, column_of, Finds}
 use Rattle.exact_tests.specs.Listed.{three, entries_of, IsPackingNumber, IsListedColumn, Copies}
 use Rattle.simplex_core.specs.declared.columns.Price.{Price}
 use Rattle.simplex_core.specs.declared.columns.Price.TheVariants.{Gain, Optimal, NoMemory}

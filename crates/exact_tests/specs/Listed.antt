@@ -1,9 +1,9 @@
 -- programs of three rows over columns in a list
 use Rattle.std.specs.Prelude.{ℕ, ℤ, List, [], ◌∷◌, pos, Some, cond, eqb, ◌≡◌, ◌≤ℤ◌}
 use Rattle.std.specs.List.{slice_get}
-use Rattle.checked_fraction.specs.Rows.{IsNarrow}
-use Rattle.simplex_law.specs.Programs.{ColumnOf}
-use Rattle.simplex_core.specs.Columns.{column_from}
+use Rattle.checked_fraction.specs.Terms.{IsNarrow}
+use Rattle.simplex_law.specs.Terms.{ColumnOf}
+use Rattle.simplex_core.specs.Terms.{column_from}
 use Rattle.simplex_core.specs.declared.columns.Entry.{Entry}
 use Rattle.simplex_core.specs.declared.columns.Price.{Price}
 use Rattle.simplex_core.specs.declared.columns.Price.TheVariants.{Gain, Optimal, NoMemory}

@@ -1,7 +1,7 @@
 ghost use Rattle.std.specs.Prelude.{◌≡◌, ◌<◌, ℕ, IsTrue};
-ghost use Rattle.checked_fraction.specs.Rows.{IsNarrow};
-ghost use Rattle.net_core.specs.Views.{graph_of};
-ghost use Rattle.route_law.specs.RoutingPrograms.{route_bound, route_rows};
+ghost use Rattle.checked_fraction.specs.Terms.{IsNarrow};
+ghost use Rattle.net_core.specs.Terms.{graph_of};
+ghost use Rattle.route_law.specs.Terms.{route_bound, route_rows};
 
 use key_paths::{bound_of, rows_of, solve_task};
 use key_rows::path_of;

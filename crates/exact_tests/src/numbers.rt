@@ -1,5 +1,5 @@
 ghost use Rattle.std.specs.Prelude.{IsTrue};
-ghost use Rattle.checked_fraction.specs.Rows.{IsNarrow};
+ghost use Rattle.checked_fraction.specs.Terms.{IsNarrow};
 
 use checked_fraction::{Sum, cmp, gcd, mul_div};
 use std::cmp::Ordering;

@@ -1,7 +1,7 @@
 ghost use Rattle.std.specs.Prelude.{◌≡◌, ◌<ℤ◌, ◌+ℤ◌, ◌*ℤ◌, ◌↔◌, pos, length, IsTrue};
-ghost use Rattle.checked_fraction.specs.Rows.{num, IsNarrow};
-ghost use Rattle.simplex_law.specs.Sums.{dot};
-ghost use Rattle.simplex_core.specs.Columns.{entry_of};
+ghost use Rattle.checked_fraction.specs.Terms.{num, IsNarrow};
+ghost use Rattle.simplex_law.specs.Terms.{dot};
+ghost use Rattle.simplex_core.specs.Terms.{entry_of};
 ghost use Rattle.exact_tests.specs.Listed.{IsPackingNumber, Copies, entries_of};
 
 use crate::numbers::is_narrow;

@@ -1,5 +1,5 @@
 ghost use Rattle.std.specs.Prelude.{◌≡◌, ℕ, ◌<◌, ◌≤◌, ◌^◌, IsTrue, IfSome, length, unsigned_abs};
-ghost use Rattle.checked_fraction.specs.Rows.{num};
+ghost use Rattle.checked_fraction.specs.Terms.{num};
 
 use crate::numbers::is_narrow;
 use checked_fraction::{Row, WideNumber, combine, lower, rescale};

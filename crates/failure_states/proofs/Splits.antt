@@ -1,15 +1,8 @@
 -- demands whose ends have different labels are those that a state separates
-use Rattle.std.proofs.Common.{◌≡◌, ◌≢◌, ℕ, ◌+◌, ◌<◌, ◌≤◌, List, length, get_or, Option, None, Some, ⊎_elim, refl, subst, arith}
-use Rattle.std.specs.List.{All, slice_get}
-use Rattle.std.specs.Prelude.{MatchOption}
-use Rattle.std.proofs.lemmas.Bool.{cases_eq}
-use Rattle.std.proofs.lemmas.Option.{slice_get_read, slice_get_within, get_or_from_slice_get}
-use Rattle.net_core.specs.declared.demand.Demand.{Demand}
-use Rattle.net_core.specs.Demands.{AreDemands, IsDemand}
-use Rattle.net_core.specs.Cases.{Case, graph_in}
-use Rattle.net_core.specs.Graphs.{Joins}
-use Rattle.plan_terms.specs.Separations.{Separates}
-use Rattle.plan_terms.proofs.Joining.{joins_below}
+use Rattle.std.proofs.Common.{◌≡◌, ◌≢◌, ℕ, ◌+◌, ◌<◌, ◌≤◌, List, length, get_or, Option, None, Some, ⊎_elim, refl, subst, arith, All, slice_get, MatchOption}
+use Rattle.net_core.proofs.Library.{cases_eq, slice_get_read, slice_get_within, get_or_from_slice_get}
+use Rattle.plan_terms.specs.Terms.{Demand, AreDemands, IsDemand, Case, graph_in, Joins, Separates}
+use Rattle.plan_terms.proofs.Lemmas.{joins_below}
 use Rattle.failure_states.specs.inner.Components.{AreComponents, HasEndsBelow, IsFirst, IsSplit}
 use Rattle.failure_states.proofs.Labelling.{components_apart, components_joined}
 

@@ -1,9 +1,7 @@
 -- the components once a link is taken
 use Rattle.std.proofs.Common.{◌≡◌, ℕ, ◌+◌, ◌<◌, List, length, get_or, inl, refl}
-use Rattle.net_core.specs.declared.network.Link.{Link}
-use Rattle.net_core.specs.Graphs.{Graph, Joins, Survives}
-use Rattle.net_core.specs.Network.{IsNetwork}
-use Rattle.plan_terms.proofs.Joining.{joins_from, joins_ends, joins_inside, joins_turned}
+use Rattle.plan_terms.specs.Terms.{Link, Graph, Joins, Survives, IsNetwork}
+use Rattle.plan_terms.proofs.Lemmas.{joins_from, joins_ends, joins_inside, joins_turned}
 use Rattle.failure_states.specs.inner.Components.{AreComponents, IsMerged}
 use Rattle.failure_states.proofs.Labelling.{components_merge, components_skip}
 

@@ -1,6 +1,5 @@
 ghost use Rattle.std.specs.Prelude.{◌≡◌, ◌≢◌, ℕ, ◌+◌, ◌<◌, ◌^◌, length, slice_index};
-ghost use Rattle.net_core.specs.Graphs.{Joins};
-ghost use Rattle.net_core.specs.Views.{graph_of};
+ghost use Rattle.plan_terms.specs.Terms.{Joins, graph_of};
 ghost use Rattle.failure_states.specs.inner.Components.{AreComponents, IsMerged};
 
 use net_core::{Link, LinkId, Surviving};

@@ -1,7 +1,5 @@
 ghost use Rattle.std.specs.Prelude.{◌≡◌, ◌≢◌, ℕ, ◌+◌, ◌≤◌, ◌<◌, ◌↔◌, IsTrue, All, IfOk, MatchOption, length, slice_index};
-ghost use Rattle.net_core.specs.Demands.{AreDemands};
-ghost use Rattle.net_core.specs.Views.{case, case_of};
-ghost use Rattle.plan_terms.specs.Separations.{IsFirstSeparation, IsSurvivable, Separates};
+ghost use Rattle.plan_terms.specs.Terms.{AreDemands, case, case_of, IsFirstSeparation, IsSurvivable, Separates};
 ghost use Rattle.failure_states.specs.inner.Components.{HasEndsBelow, IsFirst, IsSplit};
 
 use crate::components::label_components;

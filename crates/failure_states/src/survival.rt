@@ -1,6 +1,5 @@
 ghost use Rattle.std.specs.Prelude.{◌+◌, ◌<◌, ◌↔◌, IsTrue, length};
-ghost use Rattle.net_core.specs.Graphs.{Survives};
-ghost use Rattle.net_core.specs.Views.{graph};
+ghost use Rattle.plan_terms.specs.Terms.{Survives, graph};
 
 use net_core::{LinkId, Network, StateId, States, Surviving};
 

@@ -1,38 +1,18 @@
 -- The reading of a file of flows takes exactly the texts of such files.
-use Rattle.std.proofs.Common.{◌≡◌, ◌≢◌, ℕ, ◌+◌, ◌^◌, ◌<◌, ◌≤◌, ◌==◌, ◌||◌, ◌⊎◌, Bool, true, false, nat_lt, inl, inr, ⊎_elim, List, [], ◌∷◌, ◌++◌, length, All, AllPairs, Option, None, Some, Result, Ok, Err, IfOk, IfErr, refl, sym, ap, subst, ◌∙◌, arith}
-use Rattle.std.specs.Prelude.{flat_map, slice_get, codes}
-use Rattle.std.proofs.Math.Logic.{∥∥₁_elim}
-use Rattle.std.proofs.Props.{props}
-use Rattle.std.proofs.lemmas.Bool.{cases_lt, eqb-true, eq-eqb, ltb-true, lt-ltb}
-use Rattle.std.proofs.lemmas.Option.{get_or_from_slice_get, slice_get-get_or, slice_get_past, slice_get_within}
-use Rattle.net_core.specs.Network.{IsLink, IsNetwork}
-use Rattle.net_core.specs.declared.demand.Demand.{Demand}
-use Rattle.net_core.specs.declared.ids.LinkId.{LinkId}
-use Rattle.net_core.specs.declared.ids.NodeId.{NodeId}
-use Rattle.net_core.specs.declared.network.Link.{Link}
-use Rattle.net_core.specs.declared.places.Places.{Places}
-use Rattle.snd_tokens.specs.Amounts.{amount_of}
+use Rattle.std.proofs.Common.{◌≡◌, ◌≢◌, ℕ, ◌+◌, ◌^◌, ◌<◌, ◌≤◌, ◌==◌, ◌||◌, ◌⊎◌, Bool, true, false, nat_lt, inl, inr, ⊎_elim, List, [], ◌∷◌, ◌++◌, length, All, AllPairs, Option, None, Some, Result, Ok, Err, IfOk, IfErr, refl, sym, ap, subst, ◌∙◌, arith, flat_map, slice_get, codes}
+use Rattle.net_core.proofs.Library.{∥∥₁_elim, props, cases_lt, get_or_from_slice_get, slice_get-get_or, slice_get_past, slice_get_within}
+use Rattle.std.proofs.lemmas.Bool.{eqb-true, eq-eqb, ltb-true, lt-ltb}
+use Rattle.plan_terms.specs.Terms.{IsLink, IsNetwork, Demand, LinkId, NodeId, Link, Places}
+use Rattle.snd_tokens.specs.Terms.{amount_of}
 use Rattle.path_split.specs.declared.arc.Arc.{Arc}
 use Rattle.path_split.specs.Balances.{IsArc}
-use Rattle.text_kit.specs.Answers.{AnswersAs, ReadsAllAs}
-use Rattle.text_kit.specs.Files.{IsNotTooEarly}
-use Rattle.text_kit.specs.Items.{Item, Verbatim, Money, Closing}
-use Rattle.text_kit.specs.Numbers.{number_or}
-use Rattle.text_kit.specs.Reading.{no_fault, of_length, Parenthesis, word_at}
+use Rattle.text_kit.specs.Terms.{AnswersAs, ReadsAllAs, IsNotTooEarly, Item, Verbatim, Money, Closing, number_or, no_fault, of_length, Parenthesis, word_at}
 use Rattle.text_kit.specs.declared.refusal.Refusal.{Refusal}
-use Rattle.text_kit.proofs.After.{all_after, after_all}
-use Rattle.text_kit.proofs.Amounts.{amount_again, amount_takes}
-use Rattle.text_kit.proofs.Files.{answer_found, answer_only, answer_first}
-use Rattle.text_kit.proofs.Lawful.{AnyText, IsEnd, Lawful, lawful_as, lawful_key, lawful_list, lawful_open, lawful_whole, lawful_word}
-use Rattle.text_kit.proofs.Outcomes.{if_ok, ok_is}
-use Rattle.plan_report.specs.Items.{numbered_from}
-use Rattle.plan_report.specs.KnownNames.{KnownNames}
-use Rattle.plan_report.specs.Names.{node_name, state_name}
+use Rattle.text_kit.proofs.Lemmas.{all_after, after_all, amount_again, amount_takes, answer_found, answer_only, answer_first, AnyText, IsEnd, Lawful, lawful_as, lawful_key, lawful_list, lawful_open, lawful_whole, lawful_word, if_ok, ok_is}
+use Rattle.plan_report.specs.Terms.{numbered_from, KnownNames, node_name, state_name}
 use Rattle.report_words.specs.declared.fault.ReportKind.{ReportKind}
-use Rattle.report_words.specs.ReportWords.{as_node, has_room, node_of_word, place_of}
-use Rattle.report_words.proofs.ListLaws.{few_rooms, is_length, lawful_placed, length_is, numbered_items, rooms_few}
-use Rattle.report_words.proofs.Making.{law_made, made_last, made_law, made_then}
-use Rattle.report_words.proofs.WordLaws.{AreApart, demand_within_law, link_law, place_again, place_takes, this_name_law}
+use Rattle.report_words.specs.Terms.{as_node, has_room, node_of_word, place_of}
+use Rattle.report_words.proofs.Lemmas.{few_rooms, is_length, lawful_placed, length_is, numbered_items, rooms_few, law_made, made_last, made_law, made_then, AreApart, demand_within_law, link_law, place_again, place_takes, this_name_law}
 use Rattle.report_parts.proofs.ModuleLaws.{IsSound, all_counts_law}
 use Rattle.flow_file.specs.declared.fault.FlowsKind.{FlowsKind}
 use Rattle.flow_file.specs.declared.fault.FlowsKind.TheVariants.{Header, Section, Token, Ended, Number, ZeroFlow, UnknownName, Limit}

@@ -1,10 +1,9 @@
 -- Flows are read without a look at what comes after them.
-use Rattle.std.proofs.Common.{◌+◌, List, [], length, refl}
-use Rattle.std.specs.Prelude.{slice_get}
-use Rattle.net_core.specs.declared.demand.Demand.{Demand}
-use Rattle.text_kit.specs.Reading.{no_fault, of_length, Parenthesis}
-use Rattle.text_kit.proofs.Online.{IsOnline, TakesSome, online_give, online_list, online_open, online_then, online_whole, online_word, takes_some}
-use Rattle.plan_report.specs.KnownNames.{KnownNames}
+use Rattle.std.proofs.Common.{◌+◌, List, [], length, refl, slice_get}
+use Rattle.plan_terms.specs.Terms.{Demand}
+use Rattle.text_kit.specs.Terms.{no_fault, of_length, Parenthesis}
+use Rattle.text_kit.proofs.Lemmas.{IsOnline, TakesSome, online_give, online_list, online_open, online_then, online_whole, online_word, takes_some}
+use Rattle.plan_report.specs.Terms.{KnownNames}
 use Rattle.report_parts.proofs.PartsOnline.{all_counts_online}
 use Rattle.flow_file.specs.declared.fault.FlowsKind.TheVariants.{Section, Token, Ended, Limit}
 use Rattle.flow_file.specs.declared.flow.LinkFlow.{LinkFlow}

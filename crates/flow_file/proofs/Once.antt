@@ -2,10 +2,9 @@
 use Rattle.std.proofs.Common.{◌≡◌, ◌≢◌, ℕ, suc, ◌<◌, Bool, true, false, List, ◌∷◌, ◌++◌, length, map, take, drop, get_or, AllPairs, sym, ap, subst, ◌∙◌}
 use Rattle.std.proofs.Math.Seq.{drop-cons}
 use Rattle.std.proofs.lemmas.List.{take-append-drop}
-use Rattle.net_core.specs.Tests.{is_named}
-use Rattle.net_core.specs.declared.demand.Demand.{Demand}
+use Rattle.plan_terms.specs.Terms.{is_named, Demand}
 use Rattle.net_core.proofs.Accepted.{new_name}
-use Rattle.report_words.proofs.Lookups.{named_among}
+use Rattle.report_words.proofs.Lemmas.{named_among}
 
 -- no demand before the i-th has its name
 new_demand_at : (xs : List Demand) (i : ℕ) (x : Demand) → i < length xs → x ≡ get_or xs i x → AllPairs (λ (a b : Demand). a.name ≢ b.name) xs → is_named (λ (d : Demand). d.name) x.name (take i xs) ≡ false

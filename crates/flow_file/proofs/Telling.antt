@@ -1,12 +1,10 @@
 -- A report's readings whose faults are told by this format's kinds.
 use Rattle.std.proofs.Common.{◌≡◌, ℕ, List, Result, Ok, Err, ap, ◌∙◌}
-use Rattle.snd_tokens.specs.Lexemes.{Text}
-use Rattle.text_kit.specs.Answers.{ReadsAs}
-use Rattle.text_kit.specs.Items.{Item}
-use Rattle.text_kit.specs.Reading.{Read, Reading}
+use Rattle.snd_tokens.specs.Terms.{Text}
+use Rattle.text_kit.specs.Terms.{ReadsAs, Item, Read, Reading}
 use Rattle.text_kit.specs.declared.refusal.Refusal.{Refusal}
 use Rattle.text_kit.specs.declared.refusal.Refusal.TheVariants.{Bad, NoMemory}
-use Rattle.text_kit.proofs.Online.{IsOnline, err_parts}
+use Rattle.text_kit.proofs.Lemmas.{IsOnline, err_parts}
 use Rattle.text_kit.proofs.Spelled.{Lawful}
 use Rattle.report_words.specs.declared.fault.ReportKind.{ReportKind}
 use Rattle.flow_file.specs.declared.fault.FlowsKind.{FlowsKind}

@@ -1,15 +1,9 @@
 -- the grammar of a file of flows: counts of modules for each link, and flows on links for each state
 use Rattle.std.specs.Prelude.{◌≡◌, ℕ, ◌+◌, ◌^◌, ◌<◌, ◌≤◌, List, [], ◌∷◌, ◌++◌, length, All, flat_map, zip, codes}
-use Rattle.net_core.specs.declared.demand.Demand.{Demand}
-use Rattle.net_core.specs.declared.network.Link.{Link}
-use Rattle.plan_terms.specs.Capacities.{AreCounts, AreWithinLimits}
+use Rattle.plan_terms.specs.Terms.{Demand, Link, AreCounts, AreWithinLimits}
 use Rattle.path_split.specs.Balances.{IsArc}
-use Rattle.text_kit.specs.Edits.{section}
-use Rattle.text_kit.specs.Files.{SpellsAs}
-use Rattle.text_kit.specs.Items.{Item, Verbatim, Money}
-use Rattle.plan_report.specs.Items.{modules_items, numbered_from}
-use Rattle.plan_report.specs.KnownNames.{KnownNames}
-use Rattle.plan_report.specs.Names.{demand_name, link_name, node_name, state_name}
+use Rattle.text_kit.specs.Terms.{section, SpellsAs, Item, Verbatim, Money}
+use Rattle.plan_report.specs.Terms.{modules_items, numbered_from, KnownNames, demand_name, link_name, node_name, state_name}
 use Rattle.flow_file.specs.declared.flow.FlowFile.{FlowFile}
 use Rattle.flow_file.specs.declared.flow.LinkFlow.{LinkFlow}
 

@@ -1,7 +1,6 @@
 -- the kinds of faults of a file of flows: how they are written, and what a report's faults are here
 use Rattle.std.specs.Prelude.{ℕ, List, Result, Ok, Err, codes}
-use Rattle.text_kit.specs.Numbers.{number_word}
-use Rattle.text_kit.specs.Reading.{Read, Reading}
+use Rattle.text_kit.specs.Terms.{number_word, Read, Reading}
 use Rattle.text_kit.specs.declared.refusal.Refusal.{Refusal}
 use Rattle.text_kit.specs.declared.refusal.Refusal.TheVariants.{Bad, NoMemory}
 use Rattle.report_words.specs.declared.fault.ReportKind.{ReportKind}

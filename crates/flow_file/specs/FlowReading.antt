@@ -1,18 +1,12 @@
 -- Reading a file of flows from left to right: the tests of its words, and their order.
 use Rattle.std.specs.Prelude.{ℕ, ◌+◌, ◌==◌, ◌||◌, nat_lt, if◌then◌else◌, List, [], length, Option, None, Some, Result, Ok, Err, slice_get, codes}
-use Rattle.net_core.specs.declared.demand.Demand.{Demand}
-use Rattle.net_core.specs.declared.ids.NodeId.{NodeId}
-use Rattle.net_core.specs.declared.network.Link.{Link}
-use Rattle.net_core.specs.declared.places.Places.{Places}
-use Rattle.snd_tokens.specs.Amounts.{amount_of}
-use Rattle.text_kit.specs.Files.{file_at}
-use Rattle.text_kit.specs.Numbers.{number_or}
-use Rattle.text_kit.specs.Reading.{Read, Reading, ◌>>=◌, expected, give, list_at, mapped, no_fault, of_length, open_at, Parenthesis, whole_at, word_at}
-use Rattle.plan_report.specs.KnownNames.{KnownNames}
-use Rattle.plan_report.specs.Names.{state_name}
+use Rattle.plan_terms.specs.Terms.{Demand, NodeId, Link, Places}
+use Rattle.snd_tokens.specs.Terms.{amount_of}
+use Rattle.text_kit.specs.Terms.{file_at, number_or, Read, Reading, ◌>>=◌, expected, give, list_at, mapped, no_fault, of_length, open_at, Parenthesis, whole_at, word_at}
+use Rattle.plan_report.specs.Terms.{KnownNames, state_name}
 use Rattle.report_words.specs.declared.fault.ReportKind.{ReportKind}
 use Rattle.report_words.specs.declared.fault.ReportKind.TheVariants as report
-use Rattle.report_words.specs.ReportWords.{demand_of, has_room, link_at, node_of_word, this_name_at, where_room}
+use Rattle.report_words.specs.Terms.{demand_of, has_room, link_at, node_of_word, this_name_at, where_room}
 use Rattle.report_parts.specs.ReadingParts.{all_counts_at}
 use Rattle.flow_file.specs.declared.fault.FlowsKind.{FlowsKind}
 use Rattle.flow_file.specs.declared.fault.FlowsKind.TheVariants.{Header, Section, Token, Ended, Number, ZeroFlow, UnknownName, Limit}

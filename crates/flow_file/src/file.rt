@@ -1,11 +1,9 @@
 ghost use Rattle.std.specs.Prelude.{◌≡◌, ◌+◌, ◌<◌, [], length, IsTrue, IfErr, IfOk, Ok};
-ghost use Rattle.text_kit.specs.Reading.{of_length};
-ghost use Rattle.net_core.specs.Demands.{AreDemands};
-ghost use Rattle.snd_tokens.specs.Lexemes.{left, size};
-ghost use Rattle.plan_report.specs.KnownNames.{known_of};
-ghost use Rattle.text_kit.specs.Answers.{AnswersAs, ReadsAllAs, ReadsAs, TakesElement};
-ghost use Rattle.text_kit.specs.Files.{IsNotTooEarly};
-ghost use Rattle.report_words.specs.Contexts.{known_in};
+ghost use Rattle.text_kit.specs.Terms.{of_length, AnswersAs, ReadsAllAs, ReadsAs, TakesElement, IsNotTooEarly};
+ghost use Rattle.plan_terms.specs.Terms.{AreDemands};
+ghost use Rattle.snd_tokens.specs.Terms.{left, size};
+ghost use Rattle.plan_report.specs.Terms.{known_of};
+ghost use Rattle.report_words.specs.Terms.{known_in};
 ghost use Rattle.report_parts.specs.ReadingParts.{all_counts_at};
 ghost use Rattle.flow_file.specs.declared.flow.FlowFile.{FlowFile as File};
 ghost use Rattle.flow_file.specs.FlowFiles.{IsFlowFile, SpellsFlows};

@@ -1,7 +1,7 @@
 ghost use Rattle.std.specs.Prelude.{◌≡◌, ◌≢◌, ◌≤◌, AllPairs, IfOk, length, map};
-ghost use Rattle.snd_tokens.specs.Lexemes.{left};
-ghost use Rattle.text_kit.specs.Answers.{ReadsAs};
-ghost use Rattle.report_words.specs.ReportWords.{demand_of, demand_within};
+ghost use Rattle.snd_tokens.specs.Terms.{left};
+ghost use Rattle.text_kit.specs.Terms.{ReadsAs};
+ghost use Rattle.report_words.specs.Terms.{demand_of, demand_within};
 
 use net_core::{Demand, NoMemory};
 use report_words::fault::{ReportKind, ReportRefusal};

@@ -1,9 +1,8 @@
 ghost use Rattle.std.specs.Prelude.{◌≡◌, ◌==◌, ◌||◌, slice_get};
-ghost use Rattle.snd_tokens.specs.Lexemes.{left};
-ghost use Rattle.plan_report.specs.Names.{state_name};
-ghost use Rattle.text_kit.specs.Answers.{ReadsAs};
-ghost use Rattle.text_kit.specs.Reading.{word_at};
-ghost use Rattle.report_words.specs.ReportWords.{link_at, this_name_at};
+ghost use Rattle.snd_tokens.specs.Terms.{left};
+ghost use Rattle.plan_report.specs.Terms.{state_name};
+ghost use Rattle.text_kit.specs.Terms.{ReadsAs, word_at};
+ghost use Rattle.report_words.specs.Terms.{link_at, this_name_at};
 ghost use Rattle.flow_file.specs.FlowKinds.{told_at};
 ghost use Rattle.flow_file.specs.FlowReading.{end_of, flow_amount, flow_demand_at, section_word_at};
 

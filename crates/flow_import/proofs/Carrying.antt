@@ -1,19 +1,8 @@
 -- Splits whose links survive, within the capacities, carry the demands.
-use Rattle.std.proofs.Common.{◌≡◌, ℕ, zero, suc, ◌<◌, ◌≤◌, ◌==◌, ◌||◌, Bool, true, false, cond, List, [], ◌∷◌, length, map, get_or, refl, ap, subst, arith}
-use Rattle.std.specs.Prelude.{All, filter}
+use Rattle.std.proofs.Common.{◌≡◌, ℕ, zero, suc, ◌<◌, ◌≤◌, ◌==◌, ◌||◌, Bool, true, false, cond, List, [], ◌∷◌, length, map, get_or, refl, ap, subst, arith, All, filter}
 use Rattle.std.proofs.lemmas.Bool.{eq-eqb}
-use Rattle.std.proofs.lemmas.List.Elements.{All-head, All-tail}
-use Rattle.std.proofs.lemmas.List.Sums.{get_or-le-sum_by}
-use Rattle.std.proofs.lemmas.Option.{slice_get-get_or, slice_get_within}
-use Rattle.net_core.specs.Cases.{Case, graph_in}
-use Rattle.net_core.specs.Graphs.{Graph, HasEnds, Joins, Survives}
-use Rattle.net_core.specs.States.{names_link}
-use Rattle.net_core.specs.declared.demand.Demand.{Demand}
-use Rattle.net_core.specs.declared.ids.LinkId.{LinkId}
-use Rattle.net_core.specs.declared.network.Link.{Link}
-use Rattle.net_core.specs.declared.plan.Flow.{Flow}
-use Rattle.plan_terms.specs.Flows.{Carries, IsFlow, load}
-use Rattle.plan_terms.specs.Paths.{IsPath, Leads}
+use Rattle.net_core.proofs.Library.{All-head, All-tail, get_or-le-sum_by, slice_get-get_or, slice_get_within}
+use Rattle.plan_terms.specs.Terms.{Case, graph_in, Graph, HasEnds, Joins, Survives, names_link, Demand, LinkId, Link, Flow, Carries, IsFlow, load, IsPath, Leads}
 use Rattle.path_split.specs.declared.arc.PathFlow.{PathFlow}
 use Rattle.path_split.specs.Splits.{AreEnds, IsFlowSplit}
 use Rattle.flow_file.specs.declared.flow.LinkFlow.{LinkFlow}

@@ -1,21 +1,11 @@
 -- What loads tell of the flows of a state, and one state after another.
-use Rattle.std.proofs.Common.{◌≡◌, ℕ, ◌+◌, ◌<◌, ◌≤◌, ◌++◌, inr, List, [], ◌∷◌, length, get_or, Option, None, Some, MatchOption, refl, sym, subst, ◌∙◌, arith, ⊎_elim}
-use Rattle.std.specs.Prelude.{All}
-use Rattle.std.proofs.lemmas.Bool.{cases_eq, cases_lt}
-use Rattle.std.proofs.lemmas.List.{get_or_append_left, get_or_push, length_push}
-use Rattle.std.proofs.lemmas.Option.{slice_get_within}
-use Rattle.std.proofs.Math.Logic.{∥∥₁_elim}
-use Rattle.std.proofs.Props.{props}
-use Rattle.net_core.specs.Network.{IsNetwork}
-use Rattle.net_core.specs.Cases.{Case, graph_in}
-use Rattle.net_core.specs.Graphs.{Graph, Survives}
-use Rattle.net_core.specs.declared.demand.Demand.{Demand}
-use Rattle.net_core.specs.declared.network.Link.{Link}
-use Rattle.net_core.specs.declared.plan.Routing.{Routing}
+use Rattle.std.proofs.Common.{◌≡◌, ℕ, ◌+◌, ◌<◌, ◌≤◌, ◌++◌, inr, List, [], ◌∷◌, length, get_or, Option, None, Some, MatchOption, refl, sym, subst, ◌∙◌, arith, ⊎_elim, All}
+use Rattle.net_core.proofs.Library.{cases_eq, cases_lt, get_or_append_left, get_or_push, slice_get_within, ∥∥₁_elim, props}
+use Rattle.std.proofs.lemmas.List.{length_push}
+use Rattle.plan_terms.specs.Terms.{IsNetwork, Case, graph_in, Graph, Survives, Demand, Link, Routing, capacities, total_cost}
 use Rattle.flow_file.specs.declared.flow.LinkFlow.{LinkFlow}
 use Rattle.flow_file.specs.FlowFiles.{AreLinkFlows, IsLinkFlow}
 use Rattle.flow_file.specs.declared.flow.FlowFile.{FlowFile}
-use Rattle.plan_terms.specs.Capacities.{capacities, total_cost}
 use Rattle.flow_import.specs.declared.fault.ImportFault.{ImportFault}
 use Rattle.flow_import.specs.declared.fault.ImportFault.TheVariants.{Dead, Unbalanced, Overloaded, NoMemory}
 use Rattle.flow_import.specs.Imports.{AreAlive, FitInto, IsFirstDead, IsFirstExceeded, IsImportFault, IsImported, IsImportedState, IsStateFault, flows_in, no_routing}

@@ -1,21 +1,13 @@
 -- One demand after another is split into flows along paths.
-use Rattle.std.proofs.Common.{◌≡◌, ◌≢◌, ℕ, ◌+◌, ◌<◌, ◌≤◌, ◌==◌, Bool, cond, List, [], ◌∷◌, ◌++◌, length, map, Some, slice_get, take, get_or, Result, Ok, Err, IfOk, IfErr, refl, sym, ap, subst, ◌∙◌, arith, append-nil, ⊎_elim}
-use Rattle.std.specs.Prelude.{All, filter}
-use Rattle.std.proofs.lemmas.Bool.{cases_eq, eq-eqb, ne_eqb}
-use Rattle.std.proofs.lemmas.List.{length-map, map-append, take_more}
-use Rattle.std.proofs.lemmas.List.Elements.{All-append, All-filter, All-head, All-map, All-nil, All-tail, All-weaker, filter-append}
-use Rattle.std.proofs.lemmas.List.Sums.{count_by-le-length, length-filter}
-use Rattle.std.proofs.lemmas.Option.{slice_get_within}
-use Rattle.net_core.specs.Cases.{Case}
-use Rattle.net_core.specs.declared.demand.Demand.{Demand}
-use Rattle.net_core.specs.declared.plan.Flow.{Flow}
+use Rattle.std.proofs.Common.{◌≡◌, ◌≢◌, ℕ, ◌+◌, ◌<◌, ◌≤◌, ◌==◌, Bool, cond, List, [], ◌∷◌, ◌++◌, length, map, Some, slice_get, take, get_or, Result, Ok, Err, IfOk, IfErr, refl, sym, ap, subst, ◌∙◌, arith, append-nil, ⊎_elim, All, filter}
+use Rattle.net_core.proofs.Library.{cases_eq, length-map, map-append, take_more, All-append, All-filter, All-head, All-map, All-nil, All-tail, All-weaker, filter-append, count_by-le-length, length-filter, slice_get_within}
+use Rattle.std.proofs.lemmas.Bool.{eq-eqb, ne_eqb}
+use Rattle.plan_terms.specs.Terms.{Case, Demand, Flow, NodeId, Link}
 use Rattle.path_split.specs.declared.arc.PathFlow.{PathFlow}
 use Rattle.path_split.specs.declared.arc.SplitFault.{SplitFault}
 use Rattle.path_split.specs.declared.arc.SplitFault.TheVariants as splits
-use Rattle.net_core.specs.declared.ids.NodeId.{NodeId}
 use Rattle.path_split.specs.Balances.{IsArc, IsFirstUnbalanced}
 use Rattle.flow_file.specs.FlowFiles.{AreLinkFlows}
-use Rattle.net_core.specs.declared.network.Link.{Link}
 use Rattle.flow_file.specs.declared.flow.LinkFlow.{LinkFlow}
 use Rattle.flow_import.specs.declared.fault.ImportFault.{ImportFault}
 use Rattle.flow_import.specs.declared.fault.ImportFault.TheVariants.{Dead, Unbalanced, Overloaded, NoMemory}

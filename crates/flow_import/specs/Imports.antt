@@ -1,12 +1,6 @@
 -- another tool's flows: their faults, and the routings that they are split into
 use Rattle.std.specs.Prelude.{◌≡◌, ℕ, ◌+◌, ◌<◌, ◌≤◌, ◌==◌, ◌⊎◌, if◌then◌else◌, List, [], Some, filter, get_or, length, map, slice_get, slice_index, sum_by}
-use Rattle.net_core.specs.declared.demand.Demand.{Demand}
-use Rattle.net_core.specs.declared.plan.Flow.{Flow}
-use Rattle.net_core.specs.declared.plan.Routing.{Routing}
-use Rattle.net_core.specs.Cases.{Case, graph_in}
-use Rattle.net_core.specs.Graphs.{Graph, Joins, Survives}
-use Rattle.plan_terms.specs.Capacities.{capacities, total_cost}
-use Rattle.plan_terms.specs.Flows.{Carries}
+use Rattle.plan_terms.specs.Terms.{Demand, Flow, Routing, Case, graph_in, Graph, Joins, Survives, capacities, total_cost, Carries}
 use Rattle.path_split.specs.declared.arc.Arc.{Arc}
 use Rattle.path_split.specs.declared.arc.PathFlow.{PathFlow}
 use Rattle.path_split.specs.Balances.{AreNodesBalanced, IsFirstUnbalanced}

@@ -1,6 +1,5 @@
 ghost use Rattle.std.specs.Prelude.{◌≡◌, ℕ, ◌+◌, ◌<◌, ◌≤◌, All, IfOk, IsTrue, MatchOption, false, length, slice_index};
-ghost use Rattle.net_core.specs.Graphs.{Survives};
-ghost use Rattle.net_core.specs.Views.{graph};
+ghost use Rattle.plan_terms.specs.Terms.{Survives, graph};
 ghost use Rattle.flow_import.specs.Imports.{flow_load};
 ghost use Rattle.flow_import.specs.inner.Steps.{AreLoads, IsFirstAbove, IsFirstLost};
 

@@ -1,6 +1,5 @@
 ghost use Rattle.std.specs.Prelude.{◌≡◌, ◌≤◌, ◌<◌, All, IfErr, IfOk, length};
-ghost use Rattle.net_core.specs.Demands.{AreDemands, IsDemand};
-ghost use Rattle.net_core.specs.Views.{case};
+ghost use Rattle.plan_terms.specs.Terms.{AreDemands, IsDemand, case};
 ghost use Rattle.flow_file.specs.FlowFiles.{AreLinkFlows};
 ghost use Rattle.flow_import.specs.inner.Steps.{AreSplitTo, IsOffFault, IsSplitDemand, IsSplitFault};
 

@@ -1,8 +1,6 @@
 ghost use Rattle.std.specs.Prelude.{◌≡◌, ◌+◌, ◌<◌, All, IfErr, IfOk, length};
-ghost use Rattle.net_core.specs.Demands.{AreDemands};
-ghost use Rattle.net_core.specs.Views.{case};
-ghost use Rattle.plan_report.specs.KnownNames.{known_of};
-ghost use Rattle.plan_terms.specs.Capacities.{capacities as caps_of};
+ghost use Rattle.plan_terms.specs.Terms.{AreDemands, case, capacities as caps_of};
+ghost use Rattle.plan_report.specs.Terms.{known_of};
 ghost use Rattle.flow_file.specs.FlowFiles.{AreLinkFlows, IsFlowFile};
 ghost use Rattle.flow_import.specs.Imports.{IsImportFault, IsImported, IsImportedState, IsStateFault, flows_in};
 ghost use Rattle.flow_import.specs.inner.Steps.{AreImportedTo};

@@ -1,38 +1,18 @@
 -- what an optimum of the routing program answers
 use Rattle.std.proofs.Common.{◌≡◌, ℕ, zero, suc, ◌+◌, ◌*◌, ◌<◌, ◌≤◌, ◌^◌, List, [], ◌∷◌, All, Some, cond, eqb, get_or, length, map, slice_get, slice_index, ⊎_elim, refl, sym, ap, ◌∙◌, subst, arith}
-use Rattle.std.specs.Int.{◌∣◌}
+use Rattle.net_core.proofs.Library.{◌∣◌, cases_eq, get_or-map, length-map, sum_by-cons, get_or_from_slice_get, slice_get_within, eq-one_of_dvd-one}
 use Rattle.std.proofs.Math.IntN.{pos, ◌*ℤ◌}
 use Rattle.std.specs.Int.Signed.{◌<ℤ◌}
-use Rattle.std.proofs.lemmas.Bool.{cases_eq, eq-eqb}
-use Rattle.std.proofs.lemmas.List.{get_or-map, length-map}
-use Rattle.std.proofs.lemmas.List.Sums.{sum_by-cons}
-use Rattle.std.proofs.lemmas.Option.{get_or_from_slice_get, slice_get_within}
-use Rattle.std.proofs.Math.Nat.{eq-one_of_dvd-one}
-use Rattle.checked_fraction.specs.Rows.{num, IsNarrow}
-use Rattle.net_core.specs.declared.columns.RouteColumn.{RouteColumn}
-use Rattle.net_core.specs.declared.columns.RouteColumn.TheVariants.{DemandSlack, Carry}
-use Rattle.net_core.specs.declared.demand.Demand.{Demand}
-use Rattle.net_core.specs.declared.plan.Caps.{Caps}
-use Rattle.net_core.specs.declared.plan.Flow.{Flow}
-use Rattle.net_core.specs.declared.plan.Routing.{Routing}
-use Rattle.net_core.specs.Graphs.{Graph, Joins}
-use Rattle.plan_terms.specs.Flows.{Carries, IsFlow, sent}
-use Rattle.plan_terms.specs.Paths.{IsPath}
+use Rattle.std.proofs.lemmas.Bool.{eq-eqb}
+use Rattle.checked_fraction.specs.Terms.{num, IsNarrow}
+use Rattle.plan_terms.specs.Terms.{RouteColumn, DemandSlack, Carry, Demand, Caps, Flow, Routing, Graph, Joins, Carries, IsFlow, sent, IsPath}
 use Rattle.greedy_router.specs.Left.{IsLeft}
 use Rattle.greedy_router.specs.declared.left.Left.{Left}
-use Rattle.simplex_law.specs.Sums.{dot}
-use Rattle.simplex_law.specs.Programs.{IsSlack}
-use Rattle.simplex_law.specs.Bases.{AreNames}
-use Rattle.simplex_core.specs.Programs.{Solves}
+use Rattle.simplex_law.specs.Terms.{dot, IsSlack, AreNames}
+use Rattle.simplex_core.specs.Terms.{Solves}
 use Rattle.simplex_core.specs.declared.optimum.Optimum.{Optimum}
-use Rattle.route_law.specs.BasisFlows.{AreFlowsOf}
-use Rattle.route_law.specs.Routings.{flow_times}
-use Rattle.route_law.specs.RoutingPrograms.{scaled_need, total_scaled_need, route_rows, route_bound, route_slack, IsCarrying}
-use Rattle.route_law.proofs.Carrying.{duals_below, flows_carry}
-use Rattle.route_law.proofs.Lowest.{carried_lowest}
-use Rattle.route_law.proofs.Meeting.{all_gained, some_left}
-use Rattle.route_law.proofs.Packing.{no_slack}
-use Rattle.route_law.proofs.Rows.{beside_after}
+use Rattle.route_law.specs.Terms.{AreFlowsOf, flow_times, scaled_need, total_scaled_need, route_rows, route_bound, route_slack, IsCarrying}
+use Rattle.route_law.proofs.Lemmas.{duals_below, flows_carry, carried_lowest, all_gained, some_left, no_slack, beside_after}
 use Rattle.flow_router.specs.Answers.{IsRouted}
 use Rattle.flow_router.specs.inner.Flowing.{AreBasisFlows, IsBasisFlow, LeavesNeed}
 use Rattle.flow_router.specs.inner.Lowest.{IsInLowest}

@@ -1,24 +1,12 @@
 -- link prices of an optimum as lengths
 use Rattle.std.proofs.Common.{◌≡◌, ◌≢◌, ℕ, zero, suc, ◌*◌, ◌/◌, ◌<◌, ◌≤◌, ◌^◌, List, All, get_or, length, slice_index, refl, sym, ap, ◌∙◌, subst, arith}
-use Rattle.std.specs.Int.{◌∣◌}
+use Rattle.net_core.proofs.Library.{◌∣◌, get_or-map, length-map, slice_get_within, div-mul_cancel, mul-dvd-mul_right, dvd_of_mul-dvd-mul_right, eq-one_of_dvd-one, zero-dvd}
 use Rattle.std.proofs.Math.IntN.{ℤ, pos}
-use Rattle.std.proofs.lemmas.List.{get_or-map, length-map}
-use Rattle.std.proofs.lemmas.Option.{slice_get_within}
-use Rattle.std.proofs.Math.Nat.{div-mul_cancel, mul-dvd-mul_right, dvd_of_mul-dvd-mul_right, eq-one_of_dvd-one, zero-dvd}
-use Rattle.checked_fraction.specs.Rows.{num}
-use Rattle.net_core.specs.declared.columns.RouteColumn.{RouteColumn}
-use Rattle.net_core.specs.declared.columns.WideKind.TheVariants.{Length}
-use Rattle.net_core.specs.declared.ids.LinkId.{LinkId}
-use Rattle.net_core.specs.declared.route_task.RouteTask.{RouteTask}
-use Rattle.net_core.specs.Graphs.{Graph}
-use Rattle.net_core.specs.Views.{graph_of}
-use Rattle.plan_terms.specs.Bounds.{IsGreatestDivisor}
-use Rattle.plan_terms.specs.Keeping.{AreZero}
+use Rattle.checked_fraction.specs.Terms.{num}
+use Rattle.plan_terms.specs.Terms.{RouteColumn, Length, LinkId, RouteTask, Graph, graph_of, IsGreatestDivisor, AreZero}
 use Rattle.simplex_core.specs.declared.optimum.Optimum.{Optimum}
-use Rattle.route_law.specs.PricedLengths.{AreLinkPrices}
-use Rattle.route_law.specs.RouteEvidence.{IsRouteEvidence}
-use Rattle.route_law.specs.Routings.{AreJoined}
-use Rattle.route_law.proofs.SomePrices.{some_price}
+use Rattle.route_law.specs.Terms.{AreLinkPrices, IsRouteEvidence, AreJoined}
+use Rattle.route_law.proofs.Lemmas.{some_price}
 use Rattle.flow_router.specs.inner.Flowing.{LeavesNeed}
 use Rattle.flow_router.specs.inner.Lengths.{AreLinkCosts, each_over}
 use Rattle.flow_router.specs.inner.Solutions.{ArePricesBelow, IsSolution}

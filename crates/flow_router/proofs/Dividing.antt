@@ -1,12 +1,9 @@
 -- flows over a common divisor of their numerators
 use Rattle.std.proofs.Common.{◌≡◌, ℕ, zero, suc, ◌+◌, ◌*◌, ◌/◌, ◌<◌, ◌≤◌, ◌++◌, List, [], ◌∷◌, All, length, get_or, map, take, slice_set, refl, sym, ap, ◌∙◌, subst, arith}
-use Rattle.std.specs.Int.{IsGcd, ◌∣◌}
-use Rattle.std.proofs.lemmas.List.{get_or-set_other, length-set, take_more, take_more_set, take_all, get_or_default}
-use Rattle.std.proofs.lemmas.Nat.Gcd.{dvd_trans}
-use Rattle.std.proofs.Math.Nat.{div-mul_cancel, mul-dvd-mul_left, dvd_of_mul-dvd-mul_left, eq-one_of_dvd-one}
-use Rattle.std.proofs.lemmas.List.Elements.{All-push, All-cons}
-use Rattle.net_core.specs.declared.plan.Flow.{Flow}
-use Rattle.route_law.specs.Routings.{flow_times}
+use Rattle.net_core.proofs.Library.{IsGcd, ◌∣◌, take_more, take_more_set, get_or_default, dvd_trans, div-mul_cancel, mul-dvd-mul_left, dvd_of_mul-dvd-mul_left, eq-one_of_dvd-one, All-push, All-cons}
+use Rattle.std.proofs.lemmas.List.{get_or-set_other, length-set, take_all}
+use Rattle.plan_terms.specs.Terms.{Flow}
+use Rattle.route_law.specs.Terms.{flow_times}
 use Rattle.flow_router.specs.inner.Lowest.{IsCommonDivisor, IsInLowest}
 use Rattle.net_core.proofs.Numbers.{positive_divisor}
 

@@ -1,12 +1,10 @@
 -- the flows of a basis that is given by its names and values
 use Rattle.std.proofs.Common.{◌≡◌, ℕ, suc, ◌+◌, ◌<◌, ◌++◌, List, [], ◌∷◌, Option, None, Some, MatchOption, get_or, length, length-append, slice_get, ⊎_elim, sym, ap, ◌∙◌, subst, arith}
-use Rattle.std.proofs.lemmas.List.Elements.{All-push}
-use Rattle.net_core.specs.declared.columns.RouteColumn.{RouteColumn}
-use Rattle.net_core.specs.declared.plan.Flow.{Flow}
-use Rattle.simplex_law.specs.Programs.{ColumnOf}
-use Rattle.simplex_law.specs.Bases.{AreNames}
-use Rattle.route_law.specs.BasisFlows.{is_of_demand, runs_over, AreFlowsOf}
-use Rattle.route_law.proofs.Pushed.{flows_none, flows_pass, flows_push, flows_slack}
+use Rattle.net_core.proofs.Library.{All-push}
+use Rattle.plan_terms.specs.Terms.{RouteColumn, Flow}
+use Rattle.simplex_law.specs.Terms.{ColumnOf, AreNames}
+use Rattle.route_law.specs.Terms.{is_of_demand, runs_over, AreFlowsOf}
+use Rattle.route_law.proofs.Lemmas.{flows_none, flows_pass, flows_push, flows_slack}
 use Rattle.flow_router.specs.inner.Flowing.{AreBasisFlows, IsBasisFlow, IsFlowOfColumn}
 
 pub basis_flows_none : (names : List RouteColumn) (values : List ℕ) → AreBasisFlows names values 0 []

@@ -1,20 +1,9 @@
 -- what is answered of the demands of a state within capacities
 use Rattle.std.specs.Prelude.{◌≡◌, ℕ, ◌+◌, ◌^◌, ◌≤◌, ◌<◌, List, All, length}
-use Rattle.net_core.specs.declared.columns.Evidence.{Evidence}
-use Rattle.net_core.specs.declared.columns.Evidence.TheVariants.{Route, Master}
-use Rattle.net_core.specs.declared.demand.Demand.{Demand}
-use Rattle.net_core.specs.declared.plan.Caps.{Caps}
-use Rattle.net_core.specs.declared.plan.Routing.{Routing}
-use Rattle.net_core.specs.Graphs.{Graph, Joins}
-use Rattle.plan_terms.specs.Certificates.{IsRight}
-use Rattle.plan_terms.specs.Flows.{Carries}
-use Rattle.plan_terms.specs.Keeping.{Keeps}
-use Rattle.plan_terms.specs.Violations.{Violates}
+use Rattle.plan_terms.specs.Terms.{Evidence, Route, Master, Demand, Caps, Routing, Graph, Joins, IsRight, Carries, Keeps, Violates}
 use Rattle.metric_cut.specs.Cuts.{IsCutOf}
 use Rattle.metric_cut.specs.declared.cut.Cut.{Cut}
-use Rattle.route_law.specs.PricedLengths.{ArePricedLengths}
-use Rattle.route_law.specs.RouteEvidence.{IsRouteEvidence}
-use Rattle.route_law.specs.Routings.{IsLowestRouting}
+use Rattle.route_law.specs.Terms.{ArePricedLengths, IsRouteEvidence, IsLowestRouting}
 use Rattle.flow_router.specs.declared.answer.RouteAnswer.{RouteAnswer}
 use Rattle.flow_router.specs.declared.answer.RouteAnswer.TheVariants.{Routed, Violated, Wide}
 

@@ -1,5 +1,5 @@
 ghost use Rattle.std.specs.Prelude.{◌≡◌, ◌<◌, ◌≤◌, ◌/◌, ◌^◌, IfOk, length, map, slice_index};
-ghost use Rattle.plan_terms.specs.Bounds.{IsGreatestDivisor};
+ghost use Rattle.plan_terms.specs.Terms.{IsGreatestDivisor};
 ghost use Rattle.flow_router.specs.inner.Lengths.{AreWhole};
 
 use checked_fraction::gcd;

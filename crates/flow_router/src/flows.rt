@@ -1,5 +1,5 @@
 ghost use Rattle.std.specs.Prelude.{◌≡◌, ◌<◌, ◌+◌, ℕ, Some, ◌++◌, ◌∷◌, [], IfOk, OnOk, MatchOption, length, get_or, slice_get, true, false};
-ghost use Rattle.net_core.specs.declared.columns.RouteColumn.TheVariants.{DemandSlack};
+ghost use Rattle.plan_terms.specs.Terms.{DemandSlack};
 ghost use Rattle.flow_router.specs.inner.Flowing.{AreBasisFlows, IsFlowOfColumn, LeavesNeed};
 
 use net_core::{Copied, Flow, List, NoMemory, RouteColumn};

@@ -1,6 +1,6 @@
 ghost use Rattle.std.specs.Prelude.{◌≡◌, ◌<◌, ◌≤◌, ◌^◌, All, map};
 ghost use Rattle.std.specs.Int.{◌∣◌};
-ghost use Rattle.route_law.specs.Routings.{flow_times};
+ghost use Rattle.route_law.specs.Terms.{flow_times};
 ghost use Rattle.flow_router.specs.inner.Lowest.{IsCommonDivisor, IsInLowest};
 
 use checked_fraction::gcd;

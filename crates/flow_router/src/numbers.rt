@@ -1,8 +1,8 @@
 ghost use Rattle.std.specs.Prelude.{◌<◌, ℕ, MatchOption};
-ghost use Rattle.checked_fraction.specs.Rows.{IsNarrow};
-ghost use Rattle.net_core.specs.Views.{graph_of};
-ghost use Rattle.simplex_law.specs.Evidence.{IsWide};
-ghost use Rattle.route_law.specs.RoutingPrograms.{route_rows, route_bound};
+ghost use Rattle.checked_fraction.specs.Terms.{IsNarrow};
+ghost use Rattle.plan_terms.specs.Terms.{graph_of};
+ghost use Rattle.simplex_law.specs.Terms.{IsWide};
+ghost use Rattle.route_law.specs.Terms.{route_rows, route_bound};
 
 use key_paths::{bound_of, rows_of};
 use net_core::RouteTask;

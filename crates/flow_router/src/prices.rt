@@ -1,5 +1,5 @@
 ghost use Rattle.std.specs.Prelude.{◌≡◌, ◌<◌, ◌≤◌, ◌≤ℤ◌, ℕ, pos, length, IfOk};
-ghost use Rattle.checked_fraction.specs.Rows.{num};
+ghost use Rattle.checked_fraction.specs.Terms.{num};
 ghost use Rattle.flow_router.specs.inner.Lengths.{AreLinkCosts};
 
 use net_core::{List, NoMemory};

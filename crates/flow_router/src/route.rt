@@ -1,11 +1,7 @@
 ghost use Rattle.std.specs.Prelude.{◌≡◌, ◌*◌, ◌+◌, ◌<◌, ◌^◌, ◌≤◌, ℕ, All, IfOk, OnErr, length, slice_index, true, false, IsTrue, ◌↔◌};
-ghost use Rattle.checked_fraction.specs.Rows.{IsNarrow};
-ghost use Rattle.net_core.specs.Demands.{AreDemands};
-ghost use Rattle.net_core.specs.Graphs.{Graph};
-ghost use Rattle.net_core.specs.Views.{graph, graph_of};
-ghost use Rattle.route_law.specs.RouteEvidence.{IsRouteEvidence};
-ghost use Rattle.route_law.specs.Routings.{AreJoined};
-ghost use Rattle.route_law.specs.RoutingPrograms.{route_rows, route_bound};
+ghost use Rattle.checked_fraction.specs.Terms.{IsNarrow};
+ghost use Rattle.plan_terms.specs.Terms.{AreDemands, Graph, graph, graph_of};
+ghost use Rattle.route_law.specs.Terms.{IsRouteEvidence, AreJoined, route_rows, route_bound};
 ghost use Rattle.flow_router.specs.Answers.{IsRouteAnswer};
 ghost use Rattle.flow_router.specs.inner.Flowing.{LeavesNeed};
 ghost use Rattle.flow_router.specs.inner.Solutions.{ArePricesBelow, IsSolution};

@@ -1,19 +1,9 @@
 -- flows of one demand are added to a routing
 use Rattle.std.proofs.Common.{◌≡◌, ℕ, ◌+◌, ◌*◌, ◌<◌, ◌≤◌, ◌==◌, ◌++◌, All, Some, if◌then◌else◌, List, [], ◌∷◌, get_or, length, length-append, map, slice_get, take, ⊎_elim, refl, sym, ap, subst, ◌∙◌, arith}
-use Rattle.std.proofs.lemmas.List.{append_assoc, append-nil, get_or-map, length-map}
-use Rattle.std.proofs.lemmas.List.Elements.{All-append, All-contains, All-more, All-nil, All-push, All-weaker}
-use Rattle.std.specs.List.{range_with_len}
+use Rattle.std.proofs.lemmas.List.{append_assoc, append-nil}
+use Rattle.net_core.proofs.Library.{get_or-map, length-map, All-append, All-contains, All-more, All-nil, All-push, All-weaker, range_with_len, get_or-range_with_len, length-range_with_len, All-permutation, IsPermutation-sym, sum_by-append, sum_by_push, get_or_from_slice_get, slice_get_within}
 use Rattle.std.specs.List.Sorted.{IsPermutation}
-use Rattle.std.proofs.lemmas.List.FromFn.{get_or-range_with_len, length-range_with_len}
-use Rattle.std.proofs.lemmas.List.Sorted.{All-permutation, IsPermutation-sym}
-use Rattle.std.proofs.lemmas.List.Sums.{sum_by-append, sum_by_push}
-use Rattle.std.proofs.lemmas.Option.{get_or_from_slice_get, slice_get_within}
-use Rattle.net_core.specs.declared.demand.Demand.{Demand}
-use Rattle.net_core.specs.declared.ids.LinkId.{LinkId}
-use Rattle.net_core.specs.declared.plan.Flow.{Flow}
-use Rattle.net_core.specs.States.{names_link}
-use Rattle.plan_terms.specs.Flows.{IsFlow, load, sent}
-use Rattle.plan_terms.specs.Paths.{IsPath}
+use Rattle.plan_terms.specs.Terms.{Demand, LinkId, Flow, names_link, IsFlow, load, sent, IsPath}
 use Rattle.greedy_router.specs.Blocked.{HasSpare, IsBlocked}
 use Rattle.greedy_router.specs.Left.{IsLeft}
 use Rattle.greedy_router.specs.declared.draft.Draft.{Draft}

@@ -1,13 +1,9 @@
 -- on a path no link stands twice
-use Rattle.std.proofs.Common.{◌≡◌, ◌≢◌, ℕ, zero, suc, ◌<◌, true, eqb, List, [], ◌∷◌, get_or, length, sym, ◌∙◌, arith}
-use Rattle.std.specs.List.{AllPairs}
-use Rattle.std.proofs.lemmas.Bool.{eq-eqb, false≢true}
-use Rattle.std.proofs.lemmas.List.Folds.{list_any_at}
-use Rattle.net_core.specs.declared.ids.LinkId.{LinkId}
-use Rattle.net_core.specs.Graphs.{Graph, Joins}
-use Rattle.net_core.specs.States.{names_link}
-use Rattle.plan_terms.specs.Paths.{IsPath}
-use Rattle.plan_terms.proofs.Distinct.{DistinctLinks, path_links_differ}
+use Rattle.std.proofs.Common.{◌≡◌, ◌≢◌, ℕ, zero, suc, ◌<◌, true, eqb, List, [], ◌∷◌, get_or, length, sym, ◌∙◌, arith, AllPairs}
+use Rattle.std.proofs.lemmas.Bool.{eq-eqb}
+use Rattle.net_core.proofs.Library.{false≢true, list_any_at}
+use Rattle.plan_terms.specs.Terms.{LinkId, Graph, Joins, names_link, IsPath}
+use Rattle.plan_terms.proofs.Lemmas.{DistinctLinks, path_links_differ}
 
 differ_at : (es : List LinkId) (i j : ℕ) (d : LinkId) → DistinctLinks es → i < j → j < length es → (get_or es i d).0 ≢ (get_or es j d).0
 differ_at [] i j d all lt within = absurd (omega (arith, within))

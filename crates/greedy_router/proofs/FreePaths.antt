@@ -1,16 +1,8 @@
 -- a path costs as many as its links where none of them is full
 use Rattle.std.proofs.Common.{◌≡◌, ℕ, zero, suc, ◌<◌, ◌^◌, ◌≤◌, All, List, [], ◌∷◌, MatchOption, Option, None, Some, get_or, length, map, ⊎_elim, subst, sym, arith}
-use Rattle.std.specs.List.{AllByRecursion}
-use Rattle.std.proofs.lemmas.Bool.{cases_lt}
-use Rattle.std.proofs.lemmas.List.Elements.{All-from_recursion, All-map, recursion_from_All}
-use Rattle.std.proofs.lemmas.List.{get_or-map, get_or_past}
-use Rattle.net_core.specs.declared.ids.LinkId.{LinkId}
-use Rattle.net_core.specs.Network.{IsNetwork}
-use Rattle.net_core.specs.Graphs.{Graph, Joins}
-use Rattle.plan_terms.specs.Paths.{length_of}
-use Rattle.plan_terms.proofs.Distinct.{path_links_inside}
-use Rattle.plan_terms.proofs.Few.{path_few}
-use Rattle.plan_terms.proofs.Joining.{joins_inside}
+use Rattle.net_core.proofs.Library.{AllByRecursion, cases_lt, All-from_recursion, All-map, recursion_from_All, get_or-map, get_or_past}
+use Rattle.plan_terms.specs.Terms.{LinkId, IsNetwork, Graph, Joins, length_of}
+use Rattle.plan_terms.proofs.Lemmas.{path_links_inside, path_few, joins_inside}
 use Rattle.net_core.proofs.Networks.{few_nodes}
 use Rattle.short_paths.specs.PricedPaths.{IsPricedPath}
 use Rattle.short_paths.specs.declared.priced_paths.PricedPath.{PricedPath}

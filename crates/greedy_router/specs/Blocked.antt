@@ -1,9 +1,6 @@
 -- links with spare capacity, and nodes between which no path has any
 use Rattle.std.specs.Prelude.{ℕ, ◌<◌, List, All, slice_index}
-use Rattle.net_core.specs.declared.ids.LinkId.{LinkId}
-use Rattle.net_core.specs.declared.plan.Flow.{Flow}
-use Rattle.plan_terms.specs.Flows.{load}
-use Rattle.plan_terms.specs.Paths.{IsPath}
+use Rattle.plan_terms.specs.Terms.{LinkId, Flow, load, IsPath}
 
 -- link e has spare capacity: the flows over it sum to less than its number
 abbrev pub HasSpare : List ℕ → List Flow → ℕ → Type 0

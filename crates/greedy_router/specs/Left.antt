@@ -1,7 +1,6 @@
 -- a routing that is blocked, with what it leaves of the demands (a blocking flow of several commodities)
 use Rattle.std.specs.Prelude.{◌≡◌, ℕ, ◌+◌, ◌*◌, ◌<◌, ◌≤◌, List, All, Some, length, slice_get, slice_index}
-use Rattle.net_core.specs.declared.demand.Demand.{Demand}
-use Rattle.plan_terms.specs.Flows.{IsFlow, load, sent}
+use Rattle.plan_terms.specs.Terms.{Demand, IsFlow, load, sent}
 use Rattle.greedy_router.specs.Blocked.{HasSpare, IsBlocked}
 use Rattle.greedy_router.specs.declared.left.Left.{Left}
 

@@ -1,8 +1,6 @@
 ghost use Rattle.std.specs.Prelude.{◌≡◌, ◌+◌, ◌<◌, IfOk, length};
 ghost use Rattle.std.specs.List.{range_with_len};
-ghost use Rattle.net_core.specs.Demands.{AreDemands};
-ghost use Rattle.net_core.specs.Graphs.{Joins};
-ghost use Rattle.net_core.specs.Views.{graph, graph_of};
+ghost use Rattle.plan_terms.specs.Terms.{AreDemands, Joins, graph, graph_of};
 ghost use Rattle.greedy_router.specs.Left.{IsLeft};
 ghost use Rattle.greedy_router.specs.inner.Drafts.{AreRouted};
 

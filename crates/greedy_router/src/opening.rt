@@ -1,6 +1,5 @@
 ghost use Rattle.std.specs.Prelude.{◌≡◌, ◌<◌, ◌≤◌, ◌^◌, IfOk, MatchOption, length, map, slice_index};
-ghost use Rattle.net_core.specs.Graphs.{Joins};
-ghost use Rattle.net_core.specs.Views.{graph_of};
+ghost use Rattle.plan_terms.specs.Terms.{Joins, graph_of};
 ghost use Rattle.greedy_router.specs.Blocked.{IsBlocked};
 ghost use Rattle.greedy_router.specs.inner.FullLinks.{IsOpenPath, full_price};
 

@@ -1,5 +1,5 @@
 ghost use Rattle.std.specs.Prelude.{◌≡◌, ◌≢◌, ℕ, ◌+◌, ◌<◌, ◌≤◌, ◌⊎◌, ◌==◌, All, AllPairs, Any, OnOk, if◌then◌else◌, length, slice_index};
-ghost use Rattle.net_core.specs.States.{names_link};
+ghost use Rattle.plan_terms.specs.Terms.{names_link};
 ghost use Rattle.greedy_router.specs.inner.Drafts.{Sends};
 
 use crate::draft::Draft;

@@ -1,6 +1,6 @@
 -- the vectors that a board may have
 use Rattle.std.specs.Prelude.{◌≡◌, ℕ, List, length}
-use Rattle.route_law.specs.PricedLengths.{ArePricedSomewhere}
+use Rattle.route_law.specs.Terms.{ArePricedSomewhere}
 
 -- a length for each of so many links, and the lengths are priced for some network
 pub record AreHintLengths (links : ℕ) (lengths : List ℕ) : Type 0 where

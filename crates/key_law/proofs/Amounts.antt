@@ -2,14 +2,10 @@
 use Rattle.std.proofs.Common.{ℕ, ◌<◌, ◌≤◌, ◌+◌, ◌^◌, arith, subst, unsigned_abs}
 use Rattle.std.proofs.Math.IntN.{ℤ, pos, ◌-ℤ◌, ◌*ℤ◌}
 use Rattle.std.specs.Int.Signed.{◌<ℤ◌, ◌≤ℤ◌}
-use Rattle.std.proofs.lemmas.Int.{ints}
-use Rattle.checked_fraction.specs.Rows.{IsNarrow}
-use Rattle.simplex_law.specs.Sums.{int_sum, dot}
-use Rattle.simplex_law.specs.Programs.{ColumnOf, IsPacking}
-use Rattle.simplex_law.specs.Bases.{Gains}
-use Rattle.simplex_law.proofs.Arithmetic.{times_nonneg}
-use Rattle.simplex_law.proofs.Limited.{limited}
-use Rattle.simplex_law.proofs.Values.{row_value_nonneg, row_value_low, sum_grows}
+use Rattle.net_core.proofs.Library.{ints}
+use Rattle.checked_fraction.specs.Terms.{IsNarrow}
+use Rattle.simplex_law.specs.Terms.{int_sum, dot, ColumnOf, IsPacking, Gains}
+use Rattle.simplex_law.proofs.Lemmas.{times_nonneg, limited, row_value_nonneg, row_value_low, sum_grows}
 use Rattle.key_law.specs.Keys.{left_column}
 use Rattle.key_law.specs.KeyRows.{full_prices, HaveWeights, key_times, key_dot, role_nums, AreKeyRows}
 use Rattle.key_law.specs.Kept.{IsKept}

@@ -1,12 +1,10 @@
 -- the rows of all roles as the ratio test compares them, and the pick that it makes
 use Rattle.std.proofs.Common.{◌≡◌, ◌≢◌, ℕ, ◌<◌, ◌≤◌, ◌+◌, ◌-◌, Bool, true, false, refl, sym, ap, arith, cond, ltb, ⊎_elim, subst}
-use Rattle.std.proofs.lemmas.Bool.{cases_lt, lt-ltb, le-ltb}
+use Rattle.net_core.proofs.Library.{cases_lt, ints}
+use Rattle.std.proofs.lemmas.Bool.{lt-ltb, le-ltb}
 use Rattle.std.proofs.Math.IntN.{ℤ, pos, ◌*ℤ◌}
 use Rattle.std.specs.Int.Signed.{◌<ℤ◌}
-use Rattle.std.proofs.lemmas.Int.{ints}
-use Rattle.simplex_law.specs.Sums.{dot, unit_vector}
-use Rattle.simplex_law.specs.Programs.{ColumnOf}
-use Rattle.simplex_law.specs.inner.Pivots.{IsNoLater}
+use Rattle.simplex_law.specs.Terms.{dot, unit_vector, ColumnOf, IsNoLater}
 use Rattle.key_law.specs.Keys.{key_part, left_column}
 use Rattle.key_law.specs.KeyRows.{full_kept, full_key, cost, key_nums, key_dot}
 use Rattle.key_law.specs.Kept.{IsKept}

@@ -1,11 +1,9 @@
 -- what a new key changes of products and values
 use Rattle.std.proofs.Common.{◌≡◌, ◌≢◌, ℕ, ◌<◌, ◌+◌, refl, sym, ap, ◌∙◌, arith}
-use Rattle.std.proofs.Math.IntN.{ℤ, pos, ◌-ℤ◌, ◌*ℤ◌, *ℤ-zero, *ℤ_comm}
-use Rattle.std.proofs.lemmas.Int.{ints}
-use Rattle.simplex_law.specs.Sums.{int_sum, dot, unit_vector}
-use Rattle.simplex_law.specs.Programs.{ColumnOf}
-use Rattle.simplex_law.proofs.Arithmetic.{minus_left, moved_out}
-use Rattle.simplex_law.proofs.Sums.{sum-same, sum-minus, sum-times, sum-one, dot-same, unit-other, unit-same}
+use Rattle.std.proofs.Math.IntN.{ℤ, pos, ◌-ℤ◌, ◌*ℤ◌}
+use Rattle.net_core.proofs.Library.{*ℤ-zero, *ℤ_comm, ints}
+use Rattle.simplex_law.specs.Terms.{int_sum, dot, unit_vector, ColumnOf}
+use Rattle.simplex_law.proofs.Lemmas.{minus_left, moved_out, sum-same, sum-minus, sum-times, sum-one, dot-same, unit-other, unit-same}
 use Rattle.key_law.specs.Keys.{difference, key_part, left_column}
 use Rattle.key_law.specs.KeyRows.{key_nums, key_dot, HaveWeights}
 use Rattle.key_law.specs.Kept.{IsKept}

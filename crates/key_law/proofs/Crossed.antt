@@ -1,8 +1,9 @@
 -- how numbers over products compare, so do the same numbers but for factors
 use Rattle.std.proofs.Common.{◌≡◌, sym, ap, ◌∙◌, subst}
-use Rattle.std.proofs.Math.IntN.{ℤ, pos, ◌*ℤ◌, *ℤ_comm}
+use Rattle.std.proofs.Math.IntN.{ℤ, pos, ◌*ℤ◌}
+use Rattle.net_core.proofs.Library.{*ℤ_comm}
 use Rattle.std.specs.Int.Signed.{◌<ℤ◌}
-use Rattle.simplex_law.proofs.Arithmetic.{moved_out, times_less, lt_cancel}
+use Rattle.simplex_law.proofs.Lemmas.{moved_out, times_less, lt_cancel}
 use Rattle.checked_fraction.proofs.Products.{regroup, positive_product, cancelled}
 
 -- u over p stands to n over r as d and g to e and f

@@ -1,20 +1,12 @@
 -- the start at the slacks, and the values at the end
 use Rattle.std.proofs.Common.{◌≡◌, ℕ, ◌<◌, ◌+◌, ◌-◌, refl, sym, ap, ◌∙◌, arith, cond, ltb, ⊎_elim, subst}
-use Rattle.std.proofs.lemmas.Bool.{cases_lt, cases_eq, lt-ltb, le-ltb}
+use Rattle.net_core.proofs.Library.{cases_lt, cases_eq, ints, eq-one_of_dvd-one}
+use Rattle.std.proofs.lemmas.Bool.{lt-ltb, le-ltb}
 use Rattle.std.proofs.Math.IntN.{ℤ, pos, ◌*ℤ◌}
 use Rattle.std.specs.Int.Signed.{◌<ℤ◌, ◌≤ℤ◌}
-use Rattle.std.proofs.lemmas.Int.{ints}
-use Rattle.std.proofs.Math.Nat.{eq-one_of_dvd-one}
-use Rattle.checked_fraction.specs.Rows.{IsInLowestTerms}
-use Rattle.simplex_law.specs.Sums.{dot, unit_vector}
-use Rattle.simplex_law.specs.Programs.{ColumnOf, slack_basis}
-use Rattle.simplex_law.specs.Bases.{Gains}
-use Rattle.simplex_law.specs.Optima.{IsOptimum}
-use Rattle.simplex_law.specs.inner.Tableaux.{IsTableau}
-use Rattle.simplex_law.proofs.Arithmetic.{swap_last}
-use Rattle.simplex_law.proofs.Sums.{dot-same, unit-same, unit-other}
-use Rattle.simplex_law.proofs.Reached.{started}
-use Rattle.simplex_law.proofs.Optimal.{optimum}
+use Rattle.checked_fraction.specs.Terms.{IsInLowestTerms}
+use Rattle.simplex_law.specs.Terms.{dot, unit_vector, ColumnOf, slack_basis, Gains, IsOptimum, IsTableau}
+use Rattle.simplex_law.proofs.Lemmas.{swap_last, dot-same, unit-same, unit-other, started, optimum}
 use Rattle.key_law.specs.Keys.{left_target, AreRoles, AreKeys, key, key_part, left_column}
 use Rattle.key_law.specs.KeyRows.{full_kept, full_prices, full_key, key_nums, key_dot, role_nums, role_value, AreKeyRows}
 use Rattle.key_law.specs.Kept.{IsKept}

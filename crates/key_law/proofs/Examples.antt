@@ -2,11 +2,9 @@
 use Rattle.std.proofs.Common.{◌≡◌, ◌≢◌, ℕ, zero, suc, ◌<◌, ◌+◌, refl, arith, inl, inr, cond, eqb}
 use Rattle.std.proofs.Math.IntN.{ℤ, pos, negsuc, ◌-ℤ◌, ◌*ℤ◌}
 use Rattle.std.specs.Int.Signed.{◌≤ℤ◌}
-use Rattle.std.proofs.lemmas.Int.{ints}
-use Rattle.std.proofs.Math.Nat.{eq-one_of_dvd-one}
-use Rattle.checked_fraction.specs.Rows.{IsReduced}
-use Rattle.simplex_law.specs.Sums.{dot, unit_vector, put}
-use Rattle.simplex_law.specs.Programs.{ColumnOf, slack_basis}
+use Rattle.net_core.proofs.Library.{ints, eq-one_of_dvd-one}
+use Rattle.checked_fraction.specs.Terms.{IsReduced}
+use Rattle.simplex_law.specs.Terms.{dot, unit_vector, put, ColumnOf, slack_basis}
 use Rattle.key_law.specs.Keys.{swap}
 use Rattle.key_law.specs.KeyRows.{key_nums, role_value, AreKeyRows}
 use Rattle.key_law.specs.Kept.{IsKept}

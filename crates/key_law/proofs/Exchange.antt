@@ -1,15 +1,12 @@
 -- a key and a column of its demand change roles: the basis stays
 use Rattle.std.proofs.Common.{◌≡◌, ◌≢◌, ℕ, ◌<◌, ◌+◌, refl, sym, ap, ◌∙◌, arith, cond, eqb, ⊎_elim, subst, unsigned_abs}
-use Rattle.std.proofs.lemmas.Bool.{cases_eq, eq-eqb, ne_eqb}
+use Rattle.net_core.proofs.Library.{cases_eq, ◌∣◌}
+use Rattle.std.proofs.lemmas.Bool.{eq-eqb, ne_eqb}
 use Rattle.std.proofs.Math.IntN.{ℤ, pos}
 use Rattle.std.specs.Int.Signed.{◌<ℤ◌}
-use Rattle.std.specs.Int.{◌∣◌}
-use Rattle.checked_fraction.specs.Rows.{IsInLowestTerms}
-use Rattle.simplex_law.specs.Sums.{unit_vector}
-use Rattle.simplex_law.specs.Programs.{ColumnOf}
-use Rattle.simplex_law.specs.Bases.{IsRow}
-use Rattle.simplex_law.proofs.Sums.{dot-same}
-use Rattle.simplex_law.proofs.Rows.{multiple, reduced_row}
+use Rattle.checked_fraction.specs.Terms.{IsInLowestTerms}
+use Rattle.simplex_law.specs.Terms.{unit_vector, ColumnOf, IsRow}
+use Rattle.simplex_law.proofs.Lemmas.{dot-same, multiple, reduced_row}
 use Rattle.key_law.specs.Keys.{left_target, AreRoles, swap, AreKeys, key, key_part, block}
 use Rattle.key_law.specs.KeyRows.{full_kept, full_key, key_nums}
 use Rattle.key_law.specs.Kept.{IsKept}

@@ -1,13 +1,10 @@
 -- of two roles, the one whose values, link entries and roles come first has the row that comes no later
 use Rattle.std.proofs.Common.{◌≡◌, ℕ, ◌<◌, ◌+◌, ◌-◌, sym, ap, ◌∙◌, arith, inl, ⊎_elim, subst}
-use Rattle.std.proofs.lemmas.Bool.{cases_lt, cases_eq}
+use Rattle.net_core.proofs.Library.{cases_lt, cases_eq, ints}
 use Rattle.std.proofs.Math.IntN.{ℤ, pos, ◌*ℤ◌}
 use Rattle.std.specs.Int.Signed.{◌<ℤ◌, ◌≤ℤ◌}
-use Rattle.std.proofs.lemmas.Int.{ints}
-use Rattle.simplex_law.specs.Sums.{dot, unit_vector}
-use Rattle.simplex_law.proofs.Sums.{unit-same, unit-other}
-use Rattle.simplex_law.specs.inner.Pivots.{IsNoLater}
-use Rattle.simplex_law.proofs.NoLater.{over}
+use Rattle.simplex_law.specs.Terms.{dot, unit_vector, IsNoLater}
+use Rattle.simplex_law.proofs.Lemmas.{unit-same, unit-other, over}
 use Rattle.key_law.specs.Ties.{IsRoleFirst, ComesFirst, IsRoleRow}
 use Rattle.key_law.proofs.Ties.{by_links, block_first, later_first}
 use Rattle.key_law.proofs.Crossed.{less_again, same_again}

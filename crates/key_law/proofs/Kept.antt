@@ -1,14 +1,9 @@
 -- the rows of the whole inverse, from those of the block
 use Rattle.std.proofs.Common.{◌≡◌, ◌≢◌, ℕ, ◌<◌, ◌+◌, sym, ap, ◌∙◌, arith, ⊎_elim, subst}
-use Rattle.std.proofs.lemmas.Bool.{cases_eq}
-use Rattle.std.proofs.Math.IntN.{ℤ, pos, ◌+ℤ◌, ◌-ℤ◌, ◌*ℤ◌, *ℤ_comm, *ℤ-zero, zero-*ℤ}
-use Rattle.std.proofs.lemmas.Int.{ints}
-use Rattle.simplex_law.specs.Sums.{int_sum, dot, unit_vector}
-use Rattle.simplex_law.specs.Programs.{ColumnOf}
-use Rattle.simplex_law.specs.Bases.{IsRow}
-use Rattle.simplex_law.proofs.Arithmetic.{minus_left, distribute_minus}
-use Rattle.simplex_law.proofs.Sums.{sum-same, sum-none, sum-unit, sum-one, sum-minus, unit-same, unit-other}
-use Rattle.simplex_law.proofs.Duality.{priced}
+use Rattle.net_core.proofs.Library.{cases_eq, *ℤ_comm, *ℤ-zero, zero-*ℤ, ints}
+use Rattle.std.proofs.Math.IntN.{ℤ, pos, ◌+ℤ◌, ◌-ℤ◌, ◌*ℤ◌}
+use Rattle.simplex_law.specs.Terms.{int_sum, dot, unit_vector, ColumnOf, IsRow}
+use Rattle.simplex_law.proofs.Lemmas.{minus_left, distribute_minus, sum-same, sum-none, sum-unit, sum-one, sum-minus, unit-same, unit-other, priced}
 use Rattle.key_law.specs.Keys.{left_target, IsSpread, AreRoles, AreKeys, IsBlockRow, key, key_part, left_column, block}
 use Rattle.key_law.specs.KeyRows.{full_kept, full_prices, full_key, cost, key_times, key_nums, key_dot, HaveWeights}
 use Rattle.key_law.specs.Kept.{IsKept}

@@ -1,6 +1,6 @@
 -- the laws, from the lemmas
 use Rattle.std.proofs.Common.{◌+◌}
-use Rattle.simplex_law.specs.inner.Pivots.{IsPick}
+use Rattle.simplex_law.specs.Terms.{IsPick}
 use Rattle.key_law.specs.Keys.{key_part}
 use Rattle.key_law.specs.KeyRows.{role_nums}
 use Rattle.key_law.specs.KeyedBases.{IsColumnBy, KeyedTurn, whole_rows, whole_prices}

@@ -1,12 +1,8 @@
 -- a key leaves that has other basic columns of its demand, and what the products are then
 use Rattle.std.proofs.Common.{◌≡◌, ◌≢◌, ℕ, ◌<◌, ◌+◌, refl, sym, ap, ◌∙◌, arith, subst}
 use Rattle.std.proofs.Math.IntN.{ℤ, ◌-ℤ◌, ◌*ℤ◌}
-use Rattle.simplex_law.specs.Sums.{dot, put}
-use Rattle.simplex_law.specs.Programs.{ColumnOf}
-use Rattle.simplex_law.specs.inner.Pivots.{IsPick}
-use Rattle.simplex_law.proofs.NoLater.{pick_again}
-use Rattle.simplex_law.proofs.Sums.{dot-same}
-use Rattle.simplex_law.proofs.Unique.{row_unique}
+use Rattle.simplex_law.specs.Terms.{dot, put, ColumnOf, IsPick}
+use Rattle.simplex_law.proofs.Lemmas.{pick_again, dot-same, row_unique}
 use Rattle.key_law.proofs.Kept.{prices_row}
 use Rattle.key_law.specs.Keys.{swap, key_part, left_column}
 use Rattle.key_law.specs.Kept.{IsKept}

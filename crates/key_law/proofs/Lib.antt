@@ -18,3 +18,4 @@ pub mod Steps
 pub mod Ties
 pub mod Turns
 pub mod Wide
+pub mod Lemmas

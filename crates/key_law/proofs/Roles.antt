@@ -1,14 +1,11 @@
 -- rows by their roles make a tableau, and a pick over the roles is a pick over its rows
 use Rattle.std.proofs.Common.{◌≡◌, ℕ, ◌<◌, ◌≤◌, ◌+◌, ◌-◌, sym, ap, ◌∙◌, arith, cond, ltb, ⊎_elim, subst}
-use Rattle.std.proofs.lemmas.Bool.{cases_lt, lt-ltb, le-ltb}
+use Rattle.net_core.proofs.Library.{cases_lt}
+use Rattle.std.proofs.lemmas.Bool.{lt-ltb, le-ltb}
 use Rattle.std.proofs.Math.IntN.{ℤ, pos, ◌*ℤ◌}
 use Rattle.std.specs.Int.Signed.{◌<ℤ◌}
-use Rattle.simplex_law.specs.Sums.{dot, unit_vector}
-use Rattle.simplex_law.specs.Programs.{ColumnOf}
-use Rattle.simplex_law.specs.Bases.{IsRow}
-use Rattle.simplex_law.specs.inner.Tableaux.{IsTableau}
-use Rattle.simplex_law.specs.inner.Pivots.{IsPick, IsRatioLe}
-use Rattle.simplex_law.proofs.Unique.{same_tableau, weights}
+use Rattle.simplex_law.specs.Terms.{dot, unit_vector, ColumnOf, IsRow, IsTableau, IsPick, IsRatioLe}
+use Rattle.simplex_law.proofs.Lemmas.{same_tableau, weights}
 use Rattle.key_law.specs.Kept.{IsKept}
 use Rattle.key_law.specs.KeyRows.{full_kept, full_prices, full_key, key_nums, HaveWeights, role_nums, AreKeyRows}
 use Rattle.key_law.specs.Turns.{IsKeyPick}

@@ -1,16 +1,10 @@
 -- among rows of the block the kept rows decide: by their values and link entries they stand as whole rows do
 use Rattle.std.proofs.Common.{◌≡◌, ℕ, zero, suc, ◌<◌, ◌+◌, sym, ap, ◌∙◌, arith, subst}
-use Rattle.std.proofs.Math.IntN.{ℤ, pos, ◌-ℤ◌, ◌*ℤ◌, *ℤ-zero}
-use Rattle.std.proofs.lemmas.Int.{ints}
-use Rattle.checked_fraction.specs.Mixed.{combined}
-use Rattle.simplex_law.specs.Sums.{dot}
-use Rattle.simplex_law.specs.Programs.{ColumnOf}
-use Rattle.simplex_law.specs.inner.Lexicographic.{IsLexNonneg, valued}
-use Rattle.simplex_law.specs.inner.Pivots.{IsNoLater}
-use Rattle.simplex_law.proofs.Arithmetic.{distribute_minus, minus_left}
-use Rattle.simplex_law.proofs.Order.{lex_more}
-use Rattle.simplex_law.proofs.Sums.{dot-none}
-use Rattle.simplex_law.proofs.Rows.{dot-combined}
+use Rattle.std.proofs.Math.IntN.{ℤ, pos, ◌-ℤ◌, ◌*ℤ◌}
+use Rattle.net_core.proofs.Library.{*ℤ-zero, ints}
+use Rattle.checked_fraction.specs.Terms.{combined}
+use Rattle.simplex_law.specs.Terms.{dot, ColumnOf, IsLexNonneg, valued, IsNoLater}
+use Rattle.simplex_law.proofs.Lemmas.{distribute_minus, minus_left, lex_more, dot-none, dot-combined}
 use Rattle.key_law.specs.Keys.{IsSpread, AreRoles, AreKeys, key_part, left_column}
 use Rattle.key_law.specs.KeyRows.{full_kept}
 use Rattle.key_law.proofs.Spread.{is_spread}

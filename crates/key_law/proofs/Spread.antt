@@ -1,14 +1,11 @@
 -- the product of a spread row with a column, and its lowest terms
 use Rattle.std.proofs.Common.{◌≡◌, ℕ, ◌<◌, ◌+◌, ◌-◌, refl, sym, ap, ◌∙◌, arith, cond, subst, unsigned_abs}
-use Rattle.std.specs.Int.{◌∣◌}
-use Rattle.checked_fraction.specs.Rows.{IsInLowestTerms}
+use Rattle.net_core.proofs.Library.{◌∣◌, *ℤ_comm, ints}
+use Rattle.checked_fraction.specs.Terms.{IsInLowestTerms}
 use Rattle.std.proofs.lemmas.Bool.{lt-ltb, le-ltb}
-use Rattle.std.proofs.Math.IntN.{ℤ, ◌+ℤ◌, ◌-ℤ◌, ◌*ℤ◌, *ℤ_comm}
-use Rattle.std.proofs.lemmas.Int.{ints}
-use Rattle.simplex_law.specs.Sums.{int_sum, dot, unit_vector}
-use Rattle.simplex_law.proofs.Arithmetic.{distribute_minus, minus_left}
-use Rattle.simplex_law.proofs.Sums.{sum-split, sum-minus, sum-times, sum-same, dot-same, sum-unit}
-use Rattle.simplex_law.proofs.Duality.{priced}
+use Rattle.std.proofs.Math.IntN.{ℤ, ◌+ℤ◌, ◌-ℤ◌, ◌*ℤ◌}
+use Rattle.simplex_law.specs.Terms.{int_sum, dot, unit_vector}
+use Rattle.simplex_law.proofs.Lemmas.{distribute_minus, minus_left, sum-split, sum-minus, sum-times, sum-same, dot-same, sum-unit, priced}
 use Rattle.key_law.specs.Keys.{difference, IsSpread, spread}
 use Rattle.checked_fraction.proofs.Products.{regroup}
 

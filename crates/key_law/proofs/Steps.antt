@@ -1,16 +1,9 @@
 -- a turn is a step of the whole basis: the next one is reached, and less is left over
 use Rattle.std.proofs.Common.{ℕ, ◌<◌, ◌+◌}
 use Rattle.std.proofs.Math.IntN.{ℤ}
-use Rattle.checked_fraction.specs.Rows.{IsNarrow}
-use Rattle.simplex_law.specs.Sums.{put}
-use Rattle.simplex_law.specs.Programs.{ColumnOf}
-use Rattle.simplex_law.specs.Bases.{IsReached}
-use Rattle.simplex_law.specs.inner.Measures.{AreNarrowDuals, left_over}
-use Rattle.simplex_law.specs.inner.Pivots.{IsPick}
-use Rattle.simplex_law.proofs.Numbers.{left_over_falls}
-use Rattle.simplex_law.proofs.Order.{Rises}
-use Rattle.simplex_law.proofs.Reached.{turn_reached}
-use Rattle.simplex_law.proofs.Turned.{rises_to}
+use Rattle.checked_fraction.specs.Terms.{IsNarrow}
+use Rattle.simplex_law.specs.Terms.{put, ColumnOf, IsReached, AreNarrowDuals, left_over, IsPick}
+use Rattle.simplex_law.proofs.Lemmas.{left_over_falls, Rises, turn_reached, rises_to}
 use Rattle.key_law.specs.KeyRows.{full_prices, role_nums, AreKeyRows}
 use Rattle.key_law.specs.Kept.{IsKept}
 use Rattle.key_law.proofs.Kept.{prices_row}

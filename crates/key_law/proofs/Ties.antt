@@ -1,18 +1,11 @@
 -- the order of the ratio test by values, by link entries, and by what the keys take
 use Rattle.std.proofs.Common.{◌≡◌, ℕ, zero, suc, ◌<◌, ◌≤◌, ◌+◌, ◌-◌, sym, ap, ◌∙◌, arith, inr, ⊎_elim, subst}
-use Rattle.std.proofs.lemmas.Bool.{cases_lt}
-use Rattle.std.proofs.Math.IntN.{ℤ, pos, ◌-ℤ◌, ◌*ℤ◌, *ℤ_comm, *ℤ-zero}
+use Rattle.net_core.proofs.Library.{cases_lt, *ℤ_comm, *ℤ-zero, ints}
+use Rattle.std.proofs.Math.IntN.{ℤ, pos, ◌-ℤ◌, ◌*ℤ◌}
 use Rattle.std.specs.Int.Signed.{◌<ℤ◌, ◌≤ℤ◌}
-use Rattle.std.proofs.lemmas.Int.{ints}
-use Rattle.checked_fraction.specs.Mixed.{combined}
-use Rattle.simplex_law.specs.Sums.{dot, unit_vector}
-use Rattle.simplex_law.specs.inner.Lexicographic.{valued}
-use Rattle.simplex_law.specs.inner.Pivots.{IsNoLater}
-use Rattle.simplex_law.proofs.Arithmetic.{distribute_minus, minus_left, times_nonneg}
-use Rattle.simplex_law.proofs.Sums.{dot-none, unit-same, unit-other}
-use Rattle.simplex_law.proofs.Rows.{dot-combined}
-use Rattle.simplex_law.proofs.Order.{lex_at, lex_rest}
-use Rattle.simplex_law.proofs.NoLater.{gone, over}
+use Rattle.checked_fraction.specs.Terms.{combined}
+use Rattle.simplex_law.specs.Terms.{dot, unit_vector, valued, IsNoLater}
+use Rattle.simplex_law.proofs.Lemmas.{distribute_minus, minus_left, times_nonneg, dot-none, unit-same, unit-other, dot-combined, lex_at, lex_rest, gone, over}
 use Rattle.key_law.specs.Keys.{IsSpread}
 use Rattle.checked_fraction.proofs.Products.{positive_product}
 

@@ -1,18 +1,12 @@
 -- turns keep what is kept
 use Rattle.std.proofs.Common.{◌≡◌, ◌≢◌, ℕ, ◌<◌, ◌+◌, ◌-◌, refl, sym, ap, ◌∙◌, arith, cond, ⊎_elim, subst}
-use Rattle.std.proofs.lemmas.Bool.{cases_eq, lt-ltb, eq-eqb, ne_eqb}
-use Rattle.std.proofs.Math.IntN.{ℤ, pos, ◌-ℤ◌, ◌*ℤ◌, zero-*ℤ}
+use Rattle.net_core.proofs.Library.{cases_eq, zero-*ℤ}
+use Rattle.std.proofs.lemmas.Bool.{lt-ltb, eq-eqb, ne_eqb}
+use Rattle.std.proofs.Math.IntN.{ℤ, pos, ◌-ℤ◌, ◌*ℤ◌}
 use Rattle.std.specs.Int.Signed.{◌<ℤ◌}
-use Rattle.checked_fraction.specs.Rows.{IsInLowestTerms}
-use Rattle.checked_fraction.specs.Mixed.{combined}
-use Rattle.simplex_law.specs.Sums.{int_sum, dot, unit_vector, put}
-use Rattle.simplex_law.specs.Programs.{ColumnOf}
-use Rattle.simplex_law.specs.Bases.{IsRow}
-use Rattle.simplex_law.specs.inner.Tableaux.{IsTableau, HasTableau}
-use Rattle.simplex_law.specs.inner.Pivots.{IsPick}
-use Rattle.simplex_law.proofs.Sums.{sum-same, dot-same}
-use Rattle.simplex_law.proofs.Rows.{multiple, reduced_row}
-use Rattle.simplex_law.proofs.Turned.{first_row, other_row, objective_row, turned_raw}
+use Rattle.checked_fraction.specs.Terms.{IsInLowestTerms, combined}
+use Rattle.simplex_law.specs.Terms.{int_sum, dot, unit_vector, put, ColumnOf, IsRow, IsTableau, HasTableau, IsPick}
+use Rattle.simplex_law.proofs.Lemmas.{sum-same, dot-same, multiple, reduced_row, first_row, other_row, objective_row, turned_raw}
 use Rattle.key_law.specs.Keys.{left_target, AreKeys, IsBlockRow, key, key_part, left_column, block}
 use Rattle.key_law.specs.KeyRows.{full_kept, full_prices, full_key, cost, role_nums, AreKeyRows}
 use Rattle.key_law.specs.Kept.{IsKept}

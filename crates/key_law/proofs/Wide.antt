@@ -4,19 +4,11 @@ use Rattle.std.proofs.lemmas.Bool.{eq-eqb, ne_eqb}
 use Rattle.std.proofs.lemmas.Nat.Gcd.{le_of_dvd}
 use Rattle.std.proofs.Math.IntN.{ℤ, pos, ◌-ℤ◌, ◌*ℤ◌}
 use Rattle.std.specs.Int.Signed.{◌<ℤ◌}
-use Rattle.std.specs.Int.{◌∣◌}
-use Rattle.std.proofs.lemmas.Int.{ints}
-use Rattle.checked_fraction.specs.Rows.{IsInLowestTerms, IsNarrow}
-use Rattle.checked_fraction.specs.Mixed.{combined, IsTooWide, IsFirstWide}
+use Rattle.net_core.proofs.Library.{◌∣◌, ints}
+use Rattle.checked_fraction.specs.Terms.{IsInLowestTerms, IsNarrow, combined, IsTooWide, IsFirstWide}
 use Rattle.checked_fraction.specs.declared.wide.WideNumber.{WideNumber}
-use Rattle.simplex_law.specs.Sums.{dot, unit_vector, put}
-use Rattle.simplex_law.specs.Programs.{ColumnOf}
-use Rattle.simplex_law.specs.Bases.{IsRow}
-use Rattle.simplex_law.specs.Evidence.{IsWide, IsRowOf, HoldsRow, HoldsProduct, HoldsCommon}
-use Rattle.simplex_law.specs.inner.Pivots.{IsPick}
-use Rattle.simplex_law.proofs.LowestTerms.{some_lowest}
-use Rattle.simplex_law.proofs.Rows.{multiple, reduced_row}
-use Rattle.simplex_law.proofs.Widths.{large_part, inverse_row, last_row, wide_multiple}
+use Rattle.simplex_law.specs.Terms.{dot, unit_vector, put, ColumnOf, IsRow, IsWide, IsRowOf, HoldsRow, HoldsProduct, HoldsCommon, IsPick}
+use Rattle.simplex_law.proofs.Lemmas.{some_lowest, multiple, reduced_row, large_part, inverse_row, last_row, wide_multiple}
 use Rattle.key_law.specs.Keys.{left_target, spread, AreRoles, AreKeys, IsBlockRow, key, key_part, left_column, block}
 use Rattle.key_law.specs.KeyRows.{full_kept, full_prices, full_key, cost, key_nums, key_dot, HaveWeights, role_nums, AreKeyRows}
 use Rattle.key_law.specs.Kept.{IsKept}

@@ -1,9 +1,7 @@
 -- what is kept of a basis with keys: in place of the whole inverse, that of the block
 use Rattle.std.specs.Prelude.{ℕ, ℤ, pos, ◌≡◌, ◌<◌, ◌+◌, ◌*ℤ◌, ◌<ℤ◌}
-use Rattle.checked_fraction.specs.Rows.{IsInLowestTerms}
-use Rattle.simplex_law.specs.Sums.{dot, unit_vector}
-use Rattle.simplex_law.specs.Programs.{ColumnOf}
-use Rattle.simplex_law.specs.inner.Tableaux.{HasTableau}
+use Rattle.checked_fraction.specs.Terms.{IsInLowestTerms}
+use Rattle.simplex_law.specs.Terms.{dot, unit_vector, ColumnOf, HasTableau}
 use Rattle.key_law.specs.Keys.{AreRoles, AreKeys, IsBlockRow, block}
 
 -- the inverse of the block, row by row, and the prices of the links, all in lowest terms; the whole basis has a tableau

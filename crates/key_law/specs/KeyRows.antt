@@ -1,8 +1,6 @@
 -- the rows of the whole inverse, by what is kept
 use Rattle.std.specs.Prelude.{ℕ, ℤ, pos, ◌≡◌, ◌<◌, ◌+◌, ◌-◌, ◌-ℤ◌, ◌*ℤ◌, ◌<ℤ◌, cond, ltb}
-use Rattle.simplex_law.specs.Sums.{int_sum, dot, unit_vector}
-use Rattle.simplex_law.specs.Programs.{ColumnOf}
-use Rattle.simplex_law.specs.Bases.{IsRow}
+use Rattle.simplex_law.specs.Terms.{int_sum, dot, unit_vector, ColumnOf, IsRow}
 use Rattle.key_law.specs.Keys.{left_target, spread, key, key_part, left_column}
 
 module _ {N : Type 0} (links demands : ℕ) (basis : ℕ → ColumnOf N) (place : ℕ → ℕ) where

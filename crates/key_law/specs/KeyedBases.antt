@@ -1,7 +1,6 @@
 -- a basis with its keys and what is kept of it, and a turn of it
 use Rattle.std.specs.Prelude.{Bool, ℕ, ℤ, ◌+◌, IsTrue}
-use Rattle.simplex_law.specs.Sums.{put}
-use Rattle.simplex_law.specs.Programs.{ColumnOf}
+use Rattle.simplex_law.specs.Terms.{put, ColumnOf}
 use Rattle.key_law.specs.Keys.{left_column}
 use Rattle.key_law.specs.Kept.{IsKept}
 use Rattle.key_law.specs.KeyRows.{full_prices, cost, AreKeyRows}

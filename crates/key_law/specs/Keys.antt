@@ -1,7 +1,6 @@
 -- rows of links, then rows of demands, of which each has a key column
 use Rattle.std.specs.Prelude.{ℕ, ℤ, ◌≡◌, ◌<◌, ◌+◌, ◌-◌, ◌-ℤ◌, ◌*ℤ◌, cond, eqb, ltb}
-use Rattle.simplex_law.specs.Sums.{int_sum, dot, unit_vector}
-use Rattle.simplex_law.specs.Programs.{ColumnOf}
+use Rattle.simplex_law.specs.Terms.{int_sum, dot, unit_vector, ColumnOf}
 
 -- Rows 0 to links - 1 are those of links, and row links + d is that of demand d. In a basis, one column of each demand is its key, a
 -- path or the demand's slack. Of the other columns only what differs from the keys is kept: where the key of a demand runs over link 2,

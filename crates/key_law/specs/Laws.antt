@@ -1,10 +1,7 @@
 -- what a method that keeps the block alone rests on: rows of the whole basis, its optimum, and turns that are steps and end
 use Rattle.std.specs.Prelude.{Bool, ℕ, ℤ, pos, ◌≡◌, ◌<◌, ◌+◌, ◌*ℤ◌, ◌<ℤ◌}
-use Rattle.checked_fraction.specs.Rows.{IsNarrow}
-use Rattle.simplex_law.specs.Programs.{ColumnOf}
-use Rattle.simplex_law.specs.Bases.{IsRow, Gains, IsReached}
-use Rattle.simplex_law.specs.Optima.{IsOptimum}
-use Rattle.simplex_law.specs.inner.Measures.{AreNarrowDuals, left_over}
+use Rattle.checked_fraction.specs.Terms.{IsNarrow}
+use Rattle.simplex_law.specs.Terms.{ColumnOf, IsRow, Gains, IsReached, IsOptimum, AreNarrowDuals, left_over}
 use Rattle.key_law.specs.Keys.{spread, AreRoles, AreKeys, IsBlockRow, key_part}
 use Rattle.key_law.specs.Kept.{IsKept}
 use Rattle.key_law.specs.KeyRows.{full_prices, role_value}

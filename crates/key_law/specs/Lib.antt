@@ -5,3 +5,4 @@ pub mod Turns
 pub mod Ties
 pub mod KeyedBases
 pub mod Laws
+pub mod Terms

@@ -1,6 +1,6 @@
 -- the ratio test over rows of which only the link entries are kept
 use Rattle.std.specs.Prelude.{ℕ, ℤ, pos, ◌≡◌, ◌<◌, ◌≤◌, ◌+◌, ◌*ℤ◌, ◌<ℤ◌, ◌⊎◌}
-use Rattle.simplex_law.specs.Sums.{dot, unit_vector}
+use Rattle.simplex_law.specs.Terms.{dot, unit_vector}
 use Rattle.key_law.specs.Keys.{IsSpread}
 
 -- of two roles whose rows tie in value and link entries, which comes first: a row of the block, or else the key of the later demand

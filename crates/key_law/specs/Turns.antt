@@ -1,10 +1,7 @@
 -- turns of a basis of which the block is kept
 use Rattle.std.specs.Prelude.{ℕ, ℤ, pos, ◌≡◌, ◌≢◌, ◌<◌, ◌+◌, ◌*ℤ◌, ◌<ℤ◌}
-use Rattle.checked_fraction.specs.Rows.{IsReduced}
-use Rattle.checked_fraction.specs.Mixed.{combined}
-use Rattle.simplex_law.specs.Sums.{dot, unit_vector}
-use Rattle.simplex_law.specs.Programs.{ColumnOf}
-use Rattle.simplex_law.specs.inner.Pivots.{IsRatioLe}
+use Rattle.checked_fraction.specs.Terms.{IsReduced, combined}
+use Rattle.simplex_law.specs.Terms.{dot, unit_vector, ColumnOf, IsRatioLe}
 use Rattle.key_law.specs.Keys.{left_column}
 use Rattle.key_law.specs.KeyRows.{cost, HaveWeights, key_nums, role_nums}
 

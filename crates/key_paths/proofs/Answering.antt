@@ -1,36 +1,20 @@
 -- a best basis with keys as an answer
 use Rattle.std.proofs.Common.{◌≡◌, ℕ, ℤ, List, Some, Result, Ok, Err, length, length-append, get_or, pos, unsigned_abs, ◌<◌, ◌+◌, ◌-◌, ◌^◌, refl, sym, ap, ◌∙◌, subst, arith, ⊎_elim}
 use Rattle.std.proofs.Math.IntN.{◌*ℤ◌}
-use Rattle.std.specs.Int.{◌∣◌}
+use Rattle.net_core.proofs.Library.{◌∣◌, cases_lt, get_or_append_left, get_or-append_right, slice_get-get_or}
 use Rattle.std.specs.Int.Signed.{◌<ℤ◌, ◌≤ℤ◌}
-use Rattle.std.proofs.lemmas.Bool.{cases_lt}
-use Rattle.std.proofs.lemmas.List.{get_or_append_left, get_or-append_right}
-use Rattle.std.proofs.lemmas.Option.{slice_get-get_or}
-use Rattle.checked_fraction.specs.Rows.{num}
-use Rattle.net_core.specs.declared.columns.RouteColumn.{RouteColumn}
-use Rattle.net_core.specs.declared.columns.RouteColumn.TheVariants.{LinkSlack, DemandSlack}
-use Rattle.net_core.specs.declared.columns.WideKind.{WideKind}
-use Rattle.net_core.specs.declared.columns.WideKind.TheVariants.{Number, Row as RowOf, Product, Sum, Common, Value, Length}
-use Rattle.net_core.specs.declared.demand.Demand.{Demand}
-use Rattle.net_core.specs.Graphs.{Graph}
-use Rattle.simplex_law.specs.Programs.{ColumnOf, IsPacking, slack_basis}
-use Rattle.simplex_law.specs.Bases.{AreNames, IsReached}
-use Rattle.simplex_law.specs.Evidence.{HoldsKind, IsReachedEvidence}
-use Rattle.simplex_law.specs.Optima.{IsOptimum}
-use Rattle.simplex_law.proofs.Optimal.{greatest}
-use Rattle.simplex_law.proofs.Sums.{sum-same, dot-same}
-use Rattle.simplex_core.specs.Programs.{Solves, IsSimplexAnswer}
-use Rattle.simplex_core.specs.Tables.{nums_at}
+use Rattle.checked_fraction.specs.Terms.{num}
+use Rattle.plan_terms.specs.Terms.{RouteColumn, LinkSlack, DemandSlack, WideKind, Number, Row as RowOf, Product, Sum, Common, Value, Length, Demand, Graph}
+use Rattle.simplex_law.specs.Terms.{ColumnOf, IsPacking, slack_basis, AreNames, IsReached, HoldsKind, IsReachedEvidence, IsOptimum}
+use Rattle.simplex_law.proofs.Lemmas.{greatest, sum-same, dot-same}
+use Rattle.simplex_core.specs.Terms.{Solves, IsSimplexAnswer, nums_at}
 use Rattle.simplex_core.specs.declared.optimum.Optimum.{Optimum}
 use Rattle.simplex_core.specs.declared.solver.SimplexFault.{SimplexFault}
 use Rattle.simplex_core.specs.declared.solver.SimplexFault.TheVariants.{Wide, NoMemory}
-use Rattle.route_law.specs.RoutingPrograms.{route_rows, route_slack, IsCarrying, IsRouteColumn}
-use Rattle.key_law.specs.Keys.{key, key_part}
-use Rattle.key_law.specs.KeyRows.{full_prices, role_value}
-use Rattle.key_law.proofs.Ends.{kept_optimum}
-use Rattle.key_law.proofs.Spread.{is_spread}
-use Rattle.key_law.proofs.Wide.{wide_block_common}
-use Rattle.key_rows.specs.Bases.{IsKeyed}
+use Rattle.route_law.specs.Terms.{route_rows, route_slack, IsCarrying, IsRouteColumn}
+use Rattle.key_law.specs.Terms.{key, key_part, full_prices, role_value}
+use Rattle.key_law.proofs.Lemmas.{kept_optimum, is_spread, wide_block_common}
+use Rattle.key_rows.specs.Terms.{IsKeyed}
 use Rattle.key_paths.specs.inner.Ends.{shares, role_over, IsEnded, IsWideEnd, IsKeyedEnd}
 use Rattle.key_paths.specs.inner.Gaining.{NoneGains}
 use Rattle.key_rows.specs.declared.keyed.Keyed.{Keyed}

@@ -2,27 +2,15 @@
 use Rattle.std.proofs.Common.{◌≡◌, ◌-◌, ℕ, None, Option, MatchOption, zero, suc, ◌<◌, ◌≤◌, ◌+◌, ◌++◌, List, [], ◌∷◌, All, Some, length, length-append, remove, slice_get, slice_index, inl, inr, ⊎_elim, refl, sym, ap, ◌∙◌, subst, arith}
 use Rattle.std.proofs.Math.IntN.{ℤ, pos, ◌+ℤ◌, ◌-ℤ◌}
 use Rattle.std.specs.Int.Signed.{◌<ℤ◌, ◌≤ℤ◌}
-use Rattle.std.specs.List.{AllByRecursion}
-use Rattle.std.proofs.lemmas.Bool.{cases_eq}
-use Rattle.std.proofs.lemmas.Int.{ints}
-use Rattle.std.proofs.lemmas.Option.{get_or_from_slice_get, slice_get_within}
-use Rattle.checked_fraction.specs.Rows.{num}
-use Rattle.net_core.specs.declared.columns.RouteColumn.TheVariants.{LinkSlack, DemandSlack, Carry}
-use Rattle.net_core.specs.declared.demand.Demand.{Demand}
-use Rattle.net_core.specs.declared.ids.LinkId.{LinkId}
-use Rattle.net_core.specs.Demands.{AreDemands, IsDemand}
-use Rattle.net_core.specs.Graphs.{Graph, Joins}
-use Rattle.net_core.specs.Network.{IsNetwork}
-use Rattle.plan_terms.specs.Paths.{IsPath, length_of}
-use Rattle.plan_terms.proofs.Distinct.{path_links_inside}
-use Rattle.plan_terms.proofs.Few.{path_few}
-use Rattle.plan_terms.proofs.Joining.{joins_inside}
-use Rattle.simplex_law.proofs.Sparse.{sparse}
+use Rattle.net_core.proofs.Library.{AllByRecursion, cases_eq, ints, get_or_from_slice_get, slice_get_within, All-push}
+use Rattle.checked_fraction.specs.Terms.{num}
+use Rattle.plan_terms.specs.Terms.{LinkSlack, DemandSlack, Carry, Demand, LinkId, AreDemands, IsDemand, Graph, Joins, IsNetwork, IsPath, length_of}
+use Rattle.plan_terms.proofs.Lemmas.{path_links_inside, path_few, joins_inside}
+use Rattle.simplex_law.proofs.Lemmas.{sparse}
 use Rattle.key_paths.specs.declared.carrier.Carrier.{Carrier}
 use Rattle.key_rows.specs.declared.keyed.Keyed.{Keyed}
 use Rattle.key_paths.specs.inner.Gaining.{cost_at, AreLinkCosts, AreOffers, IsCarried, IsCarrier, IsGaining, NoneGains, NoneIsCheap, Offers}
-use Rattle.key_rows.specs.Names.{IsShortPath}
-use Rattle.std.proofs.lemmas.List.Elements.{All-push}
+use Rattle.key_rows.specs.Terms.{IsShortPath}
 use Rattle.net_core.proofs.Networks.{few_nodes}
 use Rattle.key_rows.proofs.Paths.{path_total}
 

@@ -1,24 +1,16 @@
 -- what columns cost at the prices of a basis with keys
 use Rattle.std.proofs.Common.{◌≡◌, ℕ, List, [], length, ◌+◌, refl, sym, ap, ◌∙◌, arith}
-use Rattle.std.proofs.Math.IntN.{ℤ, pos, ◌+ℤ◌, ◌-ℤ◌, ◌*ℤ◌, *ℤ-zero}
+use Rattle.std.proofs.Math.IntN.{ℤ, pos, ◌+ℤ◌, ◌-ℤ◌, ◌*ℤ◌}
+use Rattle.net_core.proofs.Library.{*ℤ-zero, ints}
 use Rattle.std.specs.Int.Signed.{◌<ℤ◌, ◌≤ℤ◌}
-use Rattle.std.proofs.lemmas.Int.{ints}
-use Rattle.checked_fraction.specs.Rows.{num}
-use Rattle.net_core.specs.declared.columns.RouteColumn.{RouteColumn}
-use Rattle.net_core.specs.declared.columns.RouteColumn.TheVariants.{LinkSlack, DemandSlack, Carry}
-use Rattle.net_core.specs.declared.demand.Demand.{Demand}
-use Rattle.net_core.specs.Graphs.{Graph}
-use Rattle.simplex_law.specs.Sums.{int_sum, dot, unit_vector}
-use Rattle.simplex_law.specs.Programs.{ColumnOf}
-use Rattle.simplex_law.specs.Bases.{Gains}
-use Rattle.simplex_law.proofs.Sums.{sum-same, sum-none, sum-unit, dot-same, dot-unit, dot-none-column, sum-split}
-use Rattle.route_law.specs.RoutingPrograms.{route_rows, IsRouteColumn}
-use Rattle.key_law.specs.Keys.{key, key_part}
-use Rattle.key_law.specs.KeyRows.{cost, full_prices}
-use Rattle.key_law.proofs.Kept.{cost_product}
-use Rattle.key_law.proofs.Spread.{is_spread}
-use Rattle.key_rows.specs.Bases.{IsColumnNamed, IsKeyed}
-use Rattle.key_rows.specs.Names.{path_uses, uses, own_entry, gain_in}
+use Rattle.checked_fraction.specs.Terms.{num}
+use Rattle.plan_terms.specs.Terms.{RouteColumn, LinkSlack, DemandSlack, Carry, Demand, Graph}
+use Rattle.simplex_law.specs.Terms.{int_sum, dot, unit_vector, ColumnOf, Gains}
+use Rattle.simplex_law.proofs.Lemmas.{sum-same, sum-none, sum-unit, dot-same, dot-unit, dot-none-column, sum-split}
+use Rattle.route_law.specs.Terms.{route_rows, IsRouteColumn}
+use Rattle.key_law.specs.Terms.{key, key_part, cost, full_prices}
+use Rattle.key_law.proofs.Lemmas.{cost_product, is_spread}
+use Rattle.key_rows.specs.Terms.{IsColumnNamed, IsKeyed, path_uses, uses, own_entry, gain_in}
 use Rattle.key_paths.specs.inner.Gaining.{cost_at, IsGaining, IsRouteName, NoneGains}
 use Rattle.key_rows.specs.declared.keyed.Keyed.{Keyed}
 use Rattle.key_paths.proofs.Carried.{carried_place}

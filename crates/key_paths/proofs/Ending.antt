@@ -1,16 +1,14 @@
 -- the values of a basis with keys over a common denominator
 use Rattle.std.proofs.Common.{◌≡◌, ℕ, zero, suc, List, [], ◌∷◌, Some, length, get_or, slice_get, unsigned_abs, ◌<◌, ◌≤◌, ◌+◌, ◌-◌, ◌*◌, ◌/◌, ◌++◌, refl, sym, ap, ◌∙◌, subst, arith, ⊎_elim}
 use Rattle.std.proofs.Math.IntN.{ℤ, pos, ◌+ℤ◌, ◌-ℤ◌, ◌*ℤ◌}
-use Rattle.std.specs.Int.{◌∣◌}
+use Rattle.net_core.proofs.Library.{◌∣◌, ints, get_or_append_left, get_or-append_right}
 use Rattle.std.specs.Int.Signed.{◌≤ℤ◌}
-use Rattle.std.proofs.lemmas.Int.{ints}
-use Rattle.std.proofs.lemmas.List.{get_or_append_left, get_or-append_right}
-use Rattle.checked_fraction.specs.Rows.{num, IsNarrow, IsInLowestTerms}
+use Rattle.checked_fraction.specs.Terms.{num, IsNarrow, IsInLowestTerms}
 use Rattle.checked_fraction.specs.declared.row.Row.{Row}
-use Rattle.simplex_law.specs.Sums.{unit_vector}
-use Rattle.simplex_core.specs.Tables.{den_of}
+use Rattle.simplex_law.specs.Terms.{unit_vector}
+use Rattle.simplex_core.specs.Terms.{den_of}
 use Rattle.key_paths.specs.inner.Ends.{row_den, shares, key_over, FitOver}
-use Rattle.key_rows.specs.KeyRows.{amounts, times_taken, weighted}
+use Rattle.key_rows.specs.Terms.{amounts, times_taken, weighted}
 use Rattle.key_rows.specs.declared.keyed.Keyed.{Keyed}
 
 -- the denominator of a row at hand

@@ -2,29 +2,16 @@
 use Rattle.std.proofs.Common.{◌≡◌, ◌≢◌, ℕ, List, true, false, pos, length, get_or, slice_get, slice_set, cond, eqb, ◌<◌, ◌+◌, ◌^◌, refl, sym, ap, ◌∙◌, subst, arith, ⊎_elim, unsigned_abs, length-set}
 use Rattle.std.proofs.Math.IntN.{ℤ, ◌+ℤ◌, ◌-ℤ◌, ◌*ℤ◌}
 use Rattle.std.specs.Int.Signed.{◌≤ℤ◌}
-use Rattle.std.proofs.lemmas.Bool.{cases_eq, cases_lt}
-use Rattle.std.proofs.lemmas.Int.{ints}
-use Rattle.std.proofs.lemmas.List.{get_or-set_same, get_or-set_other, get_or_past}
-use Rattle.checked_fraction.specs.Rows.{num, IsNarrow, IsReduced}
-use Rattle.net_core.specs.declared.columns.RouteColumn.{RouteColumn}
-use Rattle.simplex_law.specs.Sums.{dot, unit_vector}
-use Rattle.simplex_law.specs.Programs.{ColumnOf}
-use Rattle.simplex_law.specs.inner.Pivots.{IsPick}
-use Rattle.simplex_law.proofs.Arithmetic.{minus_left}
-use Rattle.simplex_law.proofs.Sums.{sum-same, dot-same, unit-same}
-use Rattle.simplex_core.specs.Tables.{nums_of, nums_at, den_of, den_at}
-use Rattle.key_law.specs.Keys.{swap, key_part, left_column}
-use Rattle.key_law.specs.KeyRows.{full_prices, key_nums, role_nums}
-use Rattle.key_law.specs.Kept.{IsKept}
-use Rattle.key_law.specs.Turns.{IsExchanged}
-use Rattle.key_law.proofs.Amounts.{kept_value_nonneg, kept_value_low}
-use Rattle.key_law.proofs.Change.{new_difference}
-use Rattle.key_law.proofs.Exchange.{exchanged, swap_first, swap_second, different, key_at, swap_other}
-use Rattle.key_law.proofs.Leaving.{exchanged_pick, exchanged_product, exchanged_prices}
-use Rattle.key_law.proofs.Roles.{some_key_rows}
-use Rattle.key_rows.specs.Bases.{IsShapedBasis, IsColumnNamed, IsKeyed}
-use Rattle.key_rows.specs.KeyRows.{amounts, less_rows, IsOwn}
-use Rattle.key_rows.specs.Names.{demand_in, links_in, column_name, key_name, key_links, left_uses, own_entry, owner_in, path_uses, IsNameWithin}
+use Rattle.net_core.proofs.Library.{cases_eq, cases_lt, ints, get_or_past}
+use Rattle.std.proofs.lemmas.List.{get_or-set_same, get_or-set_other}
+use Rattle.checked_fraction.specs.Terms.{num, IsNarrow, IsReduced}
+use Rattle.plan_terms.specs.Terms.{RouteColumn}
+use Rattle.simplex_law.specs.Terms.{dot, unit_vector, ColumnOf, IsPick}
+use Rattle.simplex_law.proofs.Lemmas.{minus_left, sum-same, dot-same, unit-same}
+use Rattle.simplex_core.specs.Terms.{nums_of, nums_at, den_of, den_at}
+use Rattle.key_law.specs.Terms.{swap, key_part, left_column, full_prices, key_nums, role_nums, IsKept, IsExchanged}
+use Rattle.key_law.proofs.Lemmas.{kept_value_nonneg, kept_value_low, new_difference, exchanged, swap_first, swap_second, different, key_at, swap_other, exchanged_pick, exchanged_product, exchanged_prices, some_key_rows}
+use Rattle.key_rows.specs.Terms.{IsShapedBasis, IsColumnNamed, IsKeyed, amounts, less_rows, IsOwn, demand_in, links_in, column_name, key_name, key_links, left_uses, own_entry, owner_in, path_uses, IsNameWithin}
 use Rattle.key_paths.specs.inner.Held.{IsNameOf, IsHeld, IsEntering, HaveProducts}
 use Rattle.key_paths.specs.inner.Turning.{key_takes, with_numbers, IsRoleSwap}
 use Rattle.key_rows.specs.declared.keyed.Keyed.{Keyed}

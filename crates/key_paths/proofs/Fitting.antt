@@ -1,23 +1,17 @@
 -- the values of a basis with keys, over a common denominator of its rows
 use Rattle.std.proofs.Common.{◌≡◌, ℕ, ℤ, List, length, get_or, slice_set, cond, ltb, pos, unsigned_abs, ◌<◌, ◌+◌, ◌-◌, ◌*◌, ◌/◌, ◌^◌, ◌-ℤ◌, ◌*ℤ◌, sym, ap, ◌∙◌, subst, arith, ⊎_elim}
 use Rattle.std.specs.Int.Signed.{◌<ℤ◌, ◌≤ℤ◌}
-use Rattle.std.proofs.lemmas.Bool.{cases_eq, cases_lt, lt-ltb, le-ltb}
+use Rattle.net_core.proofs.Library.{cases_eq, cases_lt, ints}
+use Rattle.std.proofs.lemmas.Bool.{lt-ltb, le-ltb}
 use Rattle.std.proofs.lemmas.List.{get_or-set_same, get_or-set_other}
-use Rattle.std.proofs.lemmas.Int.{ints}
-use Rattle.checked_fraction.specs.Rows.{num}
-use Rattle.net_core.specs.declared.columns.RouteColumn.{RouteColumn}
-use Rattle.simplex_law.specs.Sums.{dot, unit_vector}
-use Rattle.simplex_law.specs.Programs.{ColumnOf, IsPacking}
-use Rattle.simplex_law.proofs.Sums.{sum-same, dot-times}
-use Rattle.simplex_law.proofs.Values.{row_value_low}
-use Rattle.simplex_core.specs.Tables.{nums_at, den_at}
-use Rattle.simplex_core.specs.inner.Commons.{DivideAll}
-use Rattle.key_law.specs.Keys.{left_column}
-use Rattle.key_law.specs.KeyRows.{full_kept, key_dot, role_value}
-use Rattle.key_law.proofs.Amounts.{key_value_low}
-use Rattle.key_law.proofs.Kept.{kept_row, row_product}
-use Rattle.key_rows.specs.Bases.{IsKeyed, IsShapedBasis}
-use Rattle.key_rows.specs.KeyRows.{amounts, times_taken, weighted, AreWeights, left_over_rows}
+use Rattle.checked_fraction.specs.Terms.{num}
+use Rattle.plan_terms.specs.Terms.{RouteColumn}
+use Rattle.simplex_law.specs.Terms.{dot, unit_vector, ColumnOf, IsPacking}
+use Rattle.simplex_law.proofs.Lemmas.{sum-same, dot-times, row_value_low}
+use Rattle.simplex_core.specs.Terms.{nums_at, den_at, DivideAll}
+use Rattle.key_law.specs.Terms.{left_column, full_kept, key_dot, role_value}
+use Rattle.key_law.proofs.Lemmas.{key_value_low, kept_row, row_product}
+use Rattle.key_rows.specs.Terms.{IsKeyed, IsShapedBasis, amounts, times_taken, weighted, AreWeights, left_over_rows}
 use Rattle.key_paths.specs.inner.Ends.{row_den, shares, row_over, key_over, role_over, FitOver, HasFittingValues, AreApartPlaces}
 use Rattle.key_rows.specs.declared.keyed.Keyed.{Keyed}
 use Rattle.key_rows.proofs.Columns.{times_are, have_weights, left_nonneg}

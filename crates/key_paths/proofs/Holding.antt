@@ -1,22 +1,17 @@
 -- what a held basis knows of its numbers
 use Rattle.std.proofs.Common.{◌≡◌, ℕ, Option, Some, None, zero, suc, pos, length, get_or, slice_get, ◌<◌, ◌≤◌, ◌+◌, ◌*◌, ◌^◌, refl, sym, ap, ◌∙◌, subst, arith, ⊎_elim, unsigned_abs}
-use Rattle.std.proofs.Math.IntN.{ℤ, ◌-ℤ◌, ◌*ℤ◌, *ℤ-zero}
+use Rattle.std.proofs.Math.IntN.{ℤ, ◌-ℤ◌, ◌*ℤ◌}
+use Rattle.net_core.proofs.Library.{*ℤ-zero, cases_lt, ints, get_or_past}
 use Rattle.std.specs.Int.Signed.{◌<ℤ◌, ◌≤ℤ◌}
-use Rattle.std.proofs.lemmas.Bool.{cases_lt}
-use Rattle.std.proofs.lemmas.Int.{ints}
-use Rattle.std.proofs.lemmas.List.{get_or_past}
-use Rattle.checked_fraction.specs.Rows.{num, IsNarrow}
+use Rattle.checked_fraction.specs.Terms.{num, IsNarrow}
 use Rattle.checked_fraction.specs.declared.row.Row.{Row}
-use Rattle.net_core.specs.declared.columns.RouteColumn.{RouteColumn}
-use Rattle.simplex_law.specs.Sums.{int_sum, dot}
-use Rattle.simplex_law.specs.Programs.{ColumnOf, IsPacking}
-use Rattle.simplex_law.proofs.Sums.{unit-same}
-use Rattle.simplex_core.specs.Tables.{nums_at, den_of}
-use Rattle.key_law.specs.Keys.{key_part, left_column}
-use Rattle.key_law.proofs.Amounts.{kept_value_low}
-use Rattle.key_rows.specs.Bases.{IsShapedBasis, IsColumnNamed, IsKeyed}
-use Rattle.key_rows.specs.KeyRows.{amounts}
-use Rattle.key_rows.specs.Names.{demand_in, links_in, left_uses, HasKey, IsShortPath, key_links, column_name, key_name, own_entry}
+use Rattle.plan_terms.specs.Terms.{RouteColumn}
+use Rattle.simplex_law.specs.Terms.{int_sum, dot, ColumnOf, IsPacking}
+use Rattle.simplex_law.proofs.Lemmas.{unit-same}
+use Rattle.simplex_core.specs.Terms.{nums_at, den_of}
+use Rattle.key_law.specs.Terms.{key_part, left_column}
+use Rattle.key_law.proofs.Lemmas.{kept_value_low}
+use Rattle.key_rows.specs.Terms.{IsShapedBasis, IsColumnNamed, IsKeyed, amounts, demand_in, links_in, left_uses, HasKey, IsShortPath, key_links, column_name, key_name, own_entry}
 use Rattle.key_paths.specs.inner.Held.{IsZeroOrOne, IsNameOf, IsOnce, AreColumnNames, IsHeld}
 use Rattle.key_rows.specs.declared.keyed.Keyed.{Keyed}
 use Rattle.key_rows.proofs.Columns.{left_is, left_is_free}

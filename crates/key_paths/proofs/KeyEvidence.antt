@@ -1,20 +1,15 @@
 -- what is too wide of a key's row, as evidence of the whole basis
 use Rattle.std.proofs.Common.{◌≡◌, ℕ, List, true, false, pos, length, get_or, cond, eqb, ◌<◌, ◌≤◌, ◌+◌, ◌^◌, sym, ap, ◌∙◌, subst, arith, ⊎_elim, unsigned_abs}
 use Rattle.std.proofs.Math.IntN.{ℤ, ◌-ℤ◌, ◌*ℤ◌}
-use Rattle.std.proofs.Math.Nat.{one-dvd}
-use Rattle.std.specs.Int.{◌∣◌}
-use Rattle.checked_fraction.specs.Rows.{num}
-use Rattle.checked_fraction.specs.Mixed.{IsTooWide}
-use Rattle.net_core.specs.declared.columns.RouteColumn.{RouteColumn}
-use Rattle.simplex_law.specs.Evidence.{HoldsRow, HoldsCommon}
-use Rattle.simplex_law.specs.Programs.{ColumnOf}
-use Rattle.simplex_law.proofs.Sums.{sum-same}
-use Rattle.simplex_core.specs.Tables.{nums_at, den_at}
-use Rattle.key_law.specs.KeyRows.{key_nums}
-use Rattle.key_law.proofs.Wide.{wide_block_common, wide_key_row, wide_key_number}
-use Rattle.key_rows.specs.Bases.{IsKeyed}
-use Rattle.key_rows.specs.KeyRows.{less_rows}
-use Rattle.key_rows.specs.KeyTests.{IsWideSpread}
+use Rattle.net_core.proofs.Library.{one-dvd, ◌∣◌}
+use Rattle.checked_fraction.specs.Terms.{num, IsTooWide}
+use Rattle.plan_terms.specs.Terms.{RouteColumn}
+use Rattle.simplex_law.specs.Terms.{HoldsRow, HoldsCommon, ColumnOf}
+use Rattle.simplex_law.proofs.Lemmas.{sum-same}
+use Rattle.simplex_core.specs.Terms.{nums_at, den_at}
+use Rattle.key_law.specs.Terms.{key_nums}
+use Rattle.key_law.proofs.Lemmas.{wide_block_common, wide_key_row, wide_key_number}
+use Rattle.key_rows.specs.Terms.{IsKeyed, less_rows, IsWideSpread}
 use Rattle.key_paths.specs.inner.Outcomes.{wide_spread, HoldsWide}
 use Rattle.key_rows.specs.declared.key_row.WideKey.{WideKey}
 use Rattle.key_rows.specs.declared.key_row.WideKey.TheVariants.{Common, Row as RowOf}

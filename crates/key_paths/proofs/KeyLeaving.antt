@@ -2,25 +2,17 @@
 use Rattle.std.proofs.Common.{◌≡◌, ℕ, Some, pos, length, cond, ◌<◌, ◌+◌, ◌-◌, refl, sym, ap, ◌∙◌, subst, arith, ⊎_elim}
 use Rattle.std.proofs.Math.IntN.{ℤ, ◌-ℤ◌, ◌*ℤ◌}
 use Rattle.std.specs.Int.Signed.{◌<ℤ◌}
-use Rattle.std.proofs.lemmas.Bool.{cases_eq, le-ltb}
-use Rattle.std.proofs.lemmas.Int.{ints}
-use Rattle.checked_fraction.specs.Rows.{num}
-use Rattle.net_core.specs.declared.columns.RouteColumn.{RouteColumn}
-use Rattle.net_core.specs.declared.columns.RouteColumn.TheVariants.{LinkSlack, DemandSlack, Carry}
-use Rattle.simplex_law.specs.Sums.{dot, unit_vector}
-use Rattle.simplex_law.specs.Programs.{ColumnOf}
-use Rattle.simplex_law.specs.inner.Pivots.{IsPick}
-use Rattle.simplex_law.proofs.Arithmetic.{positive_cancel}
-use Rattle.simplex_law.proofs.NoLater.{pick_again}
-use Rattle.simplex_law.proofs.Sums.{dot-same, unit-other}
-use Rattle.simplex_law.proofs.Unique.{row_unique, weights}
-use Rattle.simplex_core.specs.Tables.{nums_at, den_at}
-use Rattle.key_law.specs.KeyRows.{cost, full_kept, full_prices, full_key, key_nums, role_nums, HaveWeights, AreKeyRows}
-use Rattle.key_law.specs.Kept.{IsKept}
-use Rattle.key_law.proofs.Kept.{prices_row, cost_product, key_row_product, alone_key_dot}
-use Rattle.key_law.proofs.Roles.{role_tableau, demand_rows}
+use Rattle.net_core.proofs.Library.{cases_eq, ints}
+use Rattle.std.proofs.lemmas.Bool.{le-ltb}
+use Rattle.checked_fraction.specs.Terms.{num}
+use Rattle.plan_terms.specs.Terms.{RouteColumn, LinkSlack, DemandSlack, Carry}
+use Rattle.simplex_law.specs.Terms.{dot, unit_vector, ColumnOf, IsPick}
+use Rattle.simplex_law.proofs.Lemmas.{positive_cancel, pick_again, dot-same, unit-other, row_unique, weights}
+use Rattle.simplex_core.specs.Terms.{nums_at, den_at}
+use Rattle.key_law.specs.Terms.{cost, full_kept, full_prices, full_key, key_nums, role_nums, HaveWeights, AreKeyRows, IsKept}
+use Rattle.key_law.proofs.Lemmas.{prices_row, cost_product, key_row_product, alone_key_dot, role_tableau, demand_rows}
 use Rattle.key_paths.specs.inner.Held.{IsEntering, IsPriced, HasPriced, IsAlone}
-use Rattle.key_rows.specs.Names.{demand_in, column_name, own_entry}
+use Rattle.key_rows.specs.Terms.{demand_in, column_name, own_entry}
 use Rattle.key_rows.specs.declared.keyed.Keyed.{Keyed}
 use Rattle.key_paths.proofs.Named.{own_none}
 use Rattle.checked_fraction.proofs.Products.{cancelled}

@@ -1,31 +1,17 @@
 -- a column enters for the only basic column of its demand, the key
 use Rattle.std.proofs.Common.{◌≡◌, ◌≢◌, ℕ, List, Some, pos, length, get_or, slice_set, ◌<◌, ◌≤◌, ◌+◌, ◌*◌, ◌^◌, refl, sym, ap, ◌∙◌, subst, arith, ⊎_elim, unsigned_abs, length-set, slice_get}
-use Rattle.std.proofs.Math.IntN.{ℤ, ◌-ℤ◌, ◌*ℤ◌, *ℤ_comm}
+use Rattle.std.proofs.Math.IntN.{ℤ, ◌-ℤ◌, ◌*ℤ◌}
+use Rattle.net_core.proofs.Library.{*ℤ_comm, cases_eq, ints, unsigned_abs-mul}
 use Rattle.std.specs.Int.Signed.{◌<ℤ◌, ◌≤ℤ◌}
-use Rattle.std.proofs.lemmas.Bool.{cases_eq}
-use Rattle.std.proofs.lemmas.Int.{ints, unsigned_abs-mul}
 use Rattle.std.proofs.lemmas.List.{get_or-set_same, get_or-set_other}
-use Rattle.checked_fraction.specs.Rows.{num, IsNarrow}
-use Rattle.net_core.specs.declared.columns.RouteColumn.{RouteColumn}
-use Rattle.net_core.specs.declared.columns.RouteColumn.TheVariants.{DemandSlack}
-use Rattle.simplex_law.specs.Evidence.{IsWide}
-use Rattle.simplex_law.specs.Sums.{dot, put}
-use Rattle.simplex_law.specs.Programs.{ColumnOf}
-use Rattle.simplex_law.proofs.Sums.{unit-same}
-use Rattle.simplex_core.specs.Tables.{nums_at, den_at}
-use Rattle.key_law.specs.Keys.{key, key_part, left_column}
-use Rattle.key_law.specs.KeyRows.{full_prices}
-use Rattle.key_law.specs.Kept.{IsKept}
-use Rattle.key_law.specs.Turns.{IsLoneKey}
-use Rattle.key_law.proofs.Amounts.{kept_value_nonneg, kept_value_low}
-use Rattle.key_law.proofs.Change.{new_difference}
-use Rattle.key_law.proofs.Leaving.{key_turned_product}
-use Rattle.key_law.proofs.Spread.{is_spread}
-use Rattle.key_law.proofs.Turns.{key_turned, new_key, old_key}
-use Rattle.key_law.proofs.Wide.{wide_demand}
-use Rattle.key_rows.specs.Bases.{IsShapedBasis, IsColumnNamed, IsKeyed}
-use Rattle.key_rows.specs.KeyRows.{amounts}
-use Rattle.key_rows.specs.Names.{demand_in, links_in, column_name, key_name, own_entry, owner_in, path_uses, key_dual, IsNameWithin}
+use Rattle.checked_fraction.specs.Terms.{num, IsNarrow}
+use Rattle.plan_terms.specs.Terms.{RouteColumn, DemandSlack}
+use Rattle.simplex_law.specs.Terms.{IsWide, dot, put, ColumnOf}
+use Rattle.simplex_law.proofs.Lemmas.{unit-same}
+use Rattle.simplex_core.specs.Terms.{nums_at, den_at}
+use Rattle.key_law.specs.Terms.{key, key_part, left_column, full_prices, IsKept, IsLoneKey}
+use Rattle.key_law.proofs.Lemmas.{kept_value_nonneg, kept_value_low, new_difference, key_turned_product, is_spread, key_turned, new_key, old_key, wide_demand}
+use Rattle.key_rows.specs.Terms.{IsShapedBasis, IsColumnNamed, IsKeyed, amounts, demand_in, links_in, column_name, key_name, own_entry, owner_in, path_uses, key_dual, IsNameWithin}
 use Rattle.key_paths.specs.inner.Held.{IsNameOf, IsOnce, IsHeld, IsEntering, IsAlone, IsWideNext}
 use Rattle.key_rows.specs.declared.keyed.Keyed.{Keyed}
 use Rattle.key_paths.proofs.Named.{own_none, uses_path, once_links, named_price, put_each, IsNamedColumn}

@@ -1,38 +1,18 @@
 -- the basis at each turn
 use Rattle.std.proofs.Common.{◌≡◌, ℕ, ℤ, zero, suc, List, Some, length, pos, ◌+◌, ◌-◌, ◌*◌, ◌<◌, ◌^◌, inl, inr, Bool, true, false, cond, ltb, unsigned_abs, sym, ap, ◌∙◌, subst, refl, arith, ⊎_elim}
 use Rattle.std.specs.Int.Signed.{◌<ℤ◌, ◌≤ℤ◌}
-use Rattle.std.proofs.lemmas.Bool.{cases_lt, lt-ltb, le-ltb}
-use Rattle.std.proofs.lemmas.Int.{by_lt_z}
-use Rattle.std.proofs.lemmas.Option.{slice_get-get_or}
-use Rattle.checked_fraction.specs.Rows.{num, IsNarrow}
-use Rattle.net_core.specs.Demands.{AreDemands}
-use Rattle.net_core.specs.Graphs.{Graph}
-use Rattle.net_core.specs.Network.{IsNetwork}
-use Rattle.net_core.specs.States.{names_link}
-use Rattle.net_core.specs.declared.demand.Demand.{Demand}
-use Rattle.net_core.specs.declared.plan.Caps.{Caps}
-use Rattle.net_core.specs.declared.columns.RouteColumn.{RouteColumn}
-use Rattle.net_core.specs.declared.columns.RouteColumn.TheVariants.{DemandSlack}
-use Rattle.net_core.specs.declared.columns.WideKind.{WideKind}
-use Rattle.net_core.specs.declared.columns.WideKind.TheVariants.{Number, Row as RowOf, Product, Sum, Common, Value, Length}
-use Rattle.route_law.specs.RoutingPrograms.{route_rows, route_bound, route_slack, IsCarrying, IsRouteColumn}
-use Rattle.route_law.proofs.Rows.{beside_first}
-use Rattle.simplex_law.specs.Sums.{unit_vector, put}
-use Rattle.simplex_law.specs.Programs.{ColumnOf, IsPacking, slack_basis}
-use Rattle.simplex_law.specs.Bases.{IsReached}
-use Rattle.simplex_law.specs.Evidence.{HoldsKind, IsReachedEvidence}
-use Rattle.simplex_law.specs.inner.Lexicographic.{valued}
-use Rattle.simplex_law.specs.inner.Measures.{AreNarrowDuals, digit, lex_number, left_below, left_over}
-use Rattle.simplex_law.proofs.Reached.{start_reached, slack_is}
-use Rattle.simplex_law.proofs.Sums.{dot-same, unit-same, unit-other}
-use Rattle.key_law.specs.Keys.{key, key_part}
-use Rattle.key_law.specs.KeyRows.{full_prices, role_nums}
-use Rattle.key_law.proofs.Amounts.{some_limit}
-use Rattle.key_law.proofs.Roles.{role_tableau, some_key_rows, role_den}
-use Rattle.key_law.proofs.Spread.{is_spread}
-use Rattle.key_law.proofs.Steps.{key_reached, key_falls}
+use Rattle.net_core.proofs.Library.{cases_lt, by_lt_z, slice_get-get_or}
+use Rattle.std.proofs.lemmas.Bool.{lt-ltb, le-ltb}
+use Rattle.checked_fraction.specs.Terms.{num, IsNarrow}
+use Rattle.plan_terms.specs.Terms.{AreDemands, Graph, IsNetwork, names_link, Demand, Caps, RouteColumn, DemandSlack, WideKind, Number, Row as RowOf, Product, Sum, Common, Value, Length}
+use Rattle.route_law.specs.Terms.{route_rows, route_bound, route_slack, IsCarrying, IsRouteColumn}
+use Rattle.route_law.proofs.Lemmas.{beside_first}
+use Rattle.simplex_law.specs.Terms.{unit_vector, put, ColumnOf, IsPacking, slack_basis, IsReached, HoldsKind, IsReachedEvidence, valued, AreNarrowDuals, digit, lex_number, left_below, left_over}
+use Rattle.simplex_law.proofs.Lemmas.{start_reached, slack_is, dot-same, unit-same, unit-other}
+use Rattle.key_law.specs.Terms.{key, key_part, full_prices, role_nums}
+use Rattle.key_law.proofs.Lemmas.{some_limit, role_tableau, some_key_rows, role_den, is_spread, key_reached, key_falls}
 use Rattle.key_paths.specs.inner.Starts.{IsStart}
-use Rattle.key_rows.specs.Bases.{IsColumnNamed}
+use Rattle.key_rows.specs.Terms.{IsColumnNamed}
 use Rattle.key_paths.specs.inner.Entering.{IsGainingIn, IsPicked, HasGaining, Enters, EntersAs}
 use Rattle.key_paths.specs.inner.Gaining.{IsGaining, IsRouteName}
 use Rattle.key_paths.specs.inner.Held.{IsHeld, IsNameOf, IsZeroOrOne}

@@ -1,8 +1,8 @@
 -- what the keys leave, when a bound moves from one path to another
 use Rattle.std.proofs.Common.{◌≡◌, ap, ◌∙◌, arith}
 use Rattle.std.proofs.Math.IntN.{ℤ, ◌+ℤ◌, ◌-ℤ◌, ◌*ℤ◌}
-use Rattle.std.proofs.lemmas.Int.{ints}
-use Rattle.simplex_law.proofs.Arithmetic.{minus_left}
+use Rattle.net_core.proofs.Library.{ints}
+use Rattle.simplex_law.proofs.Lemmas.{minus_left}
 
 -- given back along one path and taken along another
 pub moved : (rest mid last b from to : ℤ) → mid ≡ rest +ℤ (b *ℤ from) → last ≡ mid -ℤ (b *ℤ to) → last ≡ rest -ℤ (b *ℤ (to -ℤ from))

@@ -2,20 +2,16 @@
 use Rattle.std.proofs.Common.{◌≡◌, ◌≢◌, ℕ, List, Some, pos, length, slice_set, ◌<◌, ◌+◌, ◌-◌, cond, refl, sym, ap, ◌∙◌, subst, arith, inl, inr, ⊎_elim}
 use Rattle.std.proofs.Math.IntN.{ℤ, ◌-ℤ◌, ◌*ℤ◌}
 use Rattle.std.specs.Int.Signed.{◌<ℤ◌, ◌≤ℤ◌}
-use Rattle.std.proofs.lemmas.Bool.{cases_eq, cases_lt, eq-eqb, ne_eqb}
-use Rattle.std.proofs.lemmas.Int.{ints}
+use Rattle.net_core.proofs.Library.{cases_eq, cases_lt, ints}
+use Rattle.std.proofs.lemmas.Bool.{eq-eqb, ne_eqb}
 use Rattle.std.proofs.lemmas.List.{get_or-set_same, get_or-set_other}
-use Rattle.checked_fraction.specs.Rows.{IsNarrow}
-use Rattle.net_core.specs.declared.columns.RouteColumn.{RouteColumn}
-use Rattle.net_core.specs.declared.columns.RouteColumn.TheVariants.{LinkSlack, DemandSlack, Carry}
-use Rattle.simplex_law.specs.Sums.{dot, unit_vector, put}
-use Rattle.simplex_law.specs.Programs.{ColumnOf, IsPacking}
-use Rattle.simplex_law.proofs.Sums.{unit-same, unit-other, dot-same}
-use Rattle.key_law.specs.Keys.{key, key_part}
-use Rattle.key_law.specs.KeyRows.{full_prices}
-use Rattle.key_law.proofs.Spread.{is_spread}
-use Rattle.key_rows.specs.Bases.{IsColumnNamed}
-use Rattle.key_rows.specs.Names.{demand_in, gain_in, links_in, column_name, own_entry, owner_in, path_uses, uses, key_dual, IsShortPath, IsNameWithin}
+use Rattle.checked_fraction.specs.Terms.{IsNarrow}
+use Rattle.plan_terms.specs.Terms.{RouteColumn, LinkSlack, DemandSlack, Carry}
+use Rattle.simplex_law.specs.Terms.{dot, unit_vector, put, ColumnOf, IsPacking}
+use Rattle.simplex_law.proofs.Lemmas.{unit-same, unit-other, dot-same}
+use Rattle.key_law.specs.Terms.{key, key_part, full_prices}
+use Rattle.key_law.proofs.Lemmas.{is_spread}
+use Rattle.key_rows.specs.Terms.{IsColumnNamed, demand_in, gain_in, links_in, column_name, own_entry, owner_in, path_uses, uses, key_dual, IsShortPath, IsNameWithin}
 use Rattle.key_paths.specs.inner.Held.{IsZeroOrOne, IsNameOf, IsOnce}
 
 -- a column of a name of links and a demand that there are

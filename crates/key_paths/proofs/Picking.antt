@@ -1,24 +1,14 @@
 -- a column that gains enters for that of the first role
 use Rattle.std.proofs.Common.{◌≡◌, ℕ, ℤ, List, Some, None, length, pos, get_or, ◌+◌, ◌-ℤ◌, ◌*ℤ◌, ◌<◌, ◌≤◌, ◌^◌, inl, inr, unsigned_abs, sym, ap, ◌∙◌, subst, refl, arith}
 use Rattle.std.specs.Int.Signed.{◌<ℤ◌, ◌≤ℤ◌}
-use Rattle.checked_fraction.specs.Rows.{num}
-use Rattle.net_core.specs.declared.columns.RouteColumn.{RouteColumn}
-use Rattle.simplex_law.specs.Bases.{IsInverseRow}
-use Rattle.simplex_law.specs.Evidence.{HoldsProduct, HoldsRow}
-use Rattle.simplex_law.specs.Programs.{ColumnOf}
-use Rattle.simplex_law.specs.Sums.{dot}
-use Rattle.simplex_law.proofs.Sums.{dot-same}
-use Rattle.simplex_core.specs.Tables.{nums_at, den_at}
-use Rattle.key_law.specs.Keys.{left_column}
-use Rattle.key_law.specs.KeyRows.{role_nums, cost, key_dot}
-use Rattle.key_law.proofs.Kept.{cost_product}
-use Rattle.key_law.proofs.Roles.{role_tableau, some_key_rows, role_den}
-use Rattle.key_law.proofs.Wide.{wide_key_product}
-use Rattle.key_rows.specs.Bases.{IsKeyed, IsShapedBasis}
-use Rattle.key_rows.specs.FirstRoles.{IsAsked, IsFirstRole, IsFirstOfRoles, LeaveSomething}
-use Rattle.key_rows.specs.KeyRows.{weighted, HaveValues}
-use Rattle.key_rows.specs.KeyTests.{HaveColumnProducts, IsWideTest, product_over}
-use Rattle.key_rows.specs.Names.{demand_in, key_links, own_entry, IsShortPath}
+use Rattle.checked_fraction.specs.Terms.{num}
+use Rattle.plan_terms.specs.Terms.{RouteColumn}
+use Rattle.simplex_law.specs.Terms.{IsInverseRow, HoldsProduct, HoldsRow, ColumnOf, dot}
+use Rattle.simplex_law.proofs.Lemmas.{dot-same}
+use Rattle.simplex_core.specs.Terms.{nums_at, den_at}
+use Rattle.key_law.specs.Terms.{left_column, role_nums, cost, key_dot}
+use Rattle.key_law.proofs.Lemmas.{cost_product, role_tableau, some_key_rows, role_den, wide_key_product}
+use Rattle.key_rows.specs.Terms.{IsKeyed, IsShapedBasis, IsAsked, IsFirstRole, IsFirstOfRoles, LeaveSomething, weighted, HaveValues, HaveColumnProducts, IsWideTest, product_over, demand_in, key_links, own_entry, IsShortPath}
 use Rattle.key_paths.specs.inner.Entering.{with_products, wide_kind, IsGainingIn, IsPicked, Enters}
 use Rattle.key_paths.specs.inner.Gaining.{cost_at}
 use Rattle.key_paths.specs.inner.Held.{IsHeld, IsEntering, HasPriced}

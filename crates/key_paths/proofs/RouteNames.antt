@@ -1,24 +1,14 @@
 -- the columns of a routing program by their names
 use Rattle.std.proofs.Common.{◌≡◌, ℕ, List, [], ◌∷◌, Some, None, length, cond, false, ◌+◌, ◌-◌, ◌<◌, ◌≤◌, inl, inr, ⊎_elim, refl, sym, ap, ◌∙◌, subst, arith}
 use Rattle.std.proofs.Math.IntN.{ℤ, pos, ◌+ℤ◌}
-use Rattle.std.specs.Option.{ForSome}
-use Rattle.std.proofs.lemmas.Bool.{cases_eq, cases_lt, eq-eqb, ne_eqb}
-use Rattle.std.proofs.lemmas.Int.{ints}
-use Rattle.net_core.specs.declared.columns.RouteColumn.{RouteColumn}
-use Rattle.net_core.specs.declared.columns.RouteColumn.TheVariants.{LinkSlack, DemandSlack, Carry}
-use Rattle.net_core.specs.declared.demand.Demand.{Demand}
-use Rattle.net_core.specs.declared.ids.LinkId.{LinkId}
-use Rattle.net_core.specs.Demands.{AreDemands}
-use Rattle.net_core.specs.Graphs.{Graph}
-use Rattle.net_core.specs.Network.{IsNetwork}
-use Rattle.net_core.specs.States.{names_link}
-use Rattle.plan_terms.proofs.Distinct.{DistinctLinks, path_links_differ}
-use Rattle.simplex_law.specs.Sums.{unit_vector}
-use Rattle.simplex_law.specs.Programs.{ColumnOf, IsSlack, slack_basis}
-use Rattle.route_law.specs.RoutingPrograms.{path_entry, route_rows, route_slack, IsCarrying, IsRouteColumn}
-use Rattle.route_law.proofs.Rows.{beside_first, beside_after}
-use Rattle.key_rows.specs.Bases.{IsColumnNamed}
-use Rattle.key_rows.specs.Names.{path_uses, demand_in, IsNameWithin}
+use Rattle.net_core.proofs.Library.{ForSome, cases_eq, cases_lt, ints}
+use Rattle.std.proofs.lemmas.Bool.{eq-eqb, ne_eqb}
+use Rattle.plan_terms.specs.Terms.{RouteColumn, LinkSlack, DemandSlack, Carry, Demand, LinkId, AreDemands, Graph, IsNetwork, names_link}
+use Rattle.plan_terms.proofs.Lemmas.{DistinctLinks, path_links_differ}
+use Rattle.simplex_law.specs.Terms.{unit_vector, ColumnOf, IsSlack, slack_basis}
+use Rattle.route_law.specs.Terms.{path_entry, route_rows, route_slack, IsCarrying, IsRouteColumn}
+use Rattle.route_law.proofs.Lemmas.{beside_first, beside_after}
+use Rattle.key_rows.specs.Terms.{IsColumnNamed, path_uses, demand_in, IsNameWithin}
 use Rattle.key_paths.specs.inner.Gaining.{IsRouteName}
 use Rattle.key_paths.proofs.Carried.{carried_short, carried_place}
 use Rattle.key_rows.proofs.Columns.{own_demand, own_none}

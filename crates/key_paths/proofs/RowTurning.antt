@@ -1,35 +1,19 @@
 -- a column enters for that of a row
 use Rattle.std.proofs.Common.{◌≡◌, ◌≢◌, ℕ, List, pos, length, get_or, slice_get, slice_set, cond, ◌<◌, ◌+◌, ◌^◌, refl, sym, ap, ◌∙◌, subst, arith, ◌⊎◌, ⊎_elim, unsigned_abs, length-set}
-use Rattle.std.proofs.Math.IntN.{ℤ, ◌-ℤ◌, ◌*ℤ◌, *ℤ_comm}
-use Rattle.std.proofs.Math.Nat.{dvd-mul_right}
-use Rattle.std.specs.Int.{◌∣◌}
+use Rattle.std.proofs.Math.IntN.{ℤ, ◌-ℤ◌, ◌*ℤ◌}
+use Rattle.net_core.proofs.Library.{*ℤ_comm, dvd-mul_right, ◌∣◌, cases_eq, ints, unsigned_abs-mul}
 use Rattle.std.specs.Int.Signed.{◌<ℤ◌, ◌≤ℤ◌}
-use Rattle.std.proofs.lemmas.Bool.{cases_eq, ne_eqb}
-use Rattle.std.proofs.lemmas.Int.{ints, unsigned_abs-mul}
+use Rattle.std.proofs.lemmas.Bool.{ne_eqb}
 use Rattle.std.proofs.lemmas.List.{get_or-set_same, get_or-set_other}
-use Rattle.checked_fraction.specs.Rows.{num, IsNarrow, IsInLowestTerms, IsReduced}
-use Rattle.checked_fraction.specs.Mixed.{combined, IsTooWide}
+use Rattle.checked_fraction.specs.Terms.{num, IsNarrow, IsInLowestTerms, IsReduced, combined, IsTooWide}
 use Rattle.checked_fraction.specs.declared.wide.WideNumber.{WideNumber}
-use Rattle.net_core.specs.declared.columns.RouteColumn.{RouteColumn}
-use Rattle.net_core.specs.declared.columns.RouteColumn.TheVariants.{DemandSlack}
-use Rattle.net_core.specs.declared.columns.WideKind.TheVariants.{Row as RowOf, Product}
-use Rattle.simplex_law.specs.Evidence.{IsWide, HoldsRow, HoldsProduct}
-use Rattle.simplex_law.specs.Sums.{dot, put}
-use Rattle.simplex_law.specs.Programs.{ColumnOf}
-use Rattle.simplex_law.proofs.Rows.{multiple}
-use Rattle.simplex_law.proofs.Sums.{sum-same, dot-same, unit-same}
-use Rattle.simplex_core.specs.Tables.{nums_at, den_at}
-use Rattle.simplex_core.specs.Turned.{AreTurned, IsWideRow}
-use Rattle.key_law.specs.Keys.{left_column}
-use Rattle.key_law.specs.KeyRows.{full_prices}
-use Rattle.key_law.specs.Kept.{IsKept}
-use Rattle.key_law.specs.Turns.{IsBlockTurned}
-use Rattle.key_law.proofs.Amounts.{kept_value_nonneg, kept_value_low}
-use Rattle.key_law.proofs.Turns.{block_turned, some_pivot}
-use Rattle.key_law.proofs.Wide.{wide_demand, wide_cost, wide_kept_product, wide_turned, wide_turned_prices}
-use Rattle.key_rows.specs.Bases.{IsShapedBasis, IsColumnNamed}
-use Rattle.key_rows.specs.KeyRows.{amounts}
-use Rattle.key_rows.specs.Names.{column_name, key_name, owner_in, key_dual, IsNameWithin}
+use Rattle.plan_terms.specs.Terms.{RouteColumn, DemandSlack, Row as RowOf, Product}
+use Rattle.simplex_law.specs.Terms.{IsWide, HoldsRow, HoldsProduct, dot, put, ColumnOf}
+use Rattle.simplex_law.proofs.Lemmas.{multiple, sum-same, dot-same, unit-same}
+use Rattle.simplex_core.specs.Terms.{nums_at, den_at, AreTurned, IsWideRow}
+use Rattle.key_law.specs.Terms.{left_column, full_prices, IsKept, IsBlockTurned}
+use Rattle.key_law.proofs.Lemmas.{kept_value_nonneg, kept_value_low, block_turned, some_pivot, wide_demand, wide_cost, wide_kept_product, wide_turned, wide_turned_prices}
+use Rattle.key_rows.specs.Terms.{IsShapedBasis, IsColumnNamed, amounts, column_name, key_name, owner_in, key_dual, IsNameWithin}
 use Rattle.key_paths.specs.inner.Held.{IsNameOf, AreColumnNames, IsHeld, IsEntering, IsPriced}
 use Rattle.key_paths.specs.inner.Outcomes.{wide_place, IsProductPlace, IsWideBasis}
 use Rattle.key_paths.specs.inner.Turning.{AreRowsTurned, IsWideTurn}

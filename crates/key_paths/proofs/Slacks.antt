@@ -1,18 +1,14 @@
 -- the lists of the slack basis
 use Rattle.std.proofs.Common.{◌≡◌, ℕ, ℤ, zero, suc, List, Some, length, length-set, pos, get_or, slice_get, replicate, ◌+◌, ◌-◌, ◌<◌, ◌^◌, sym, ap, ◌∙◌, subst, refl, arith, ⊎_elim}
-use Rattle.std.proofs.lemmas.Bool.{cases_lt}
-use Rattle.std.proofs.lemmas.Int.{ints}
-use Rattle.std.proofs.lemmas.Option.{get_or_from_slice_get}
-use Rattle.checked_fraction.specs.Rows.{num, IsNarrow}
+use Rattle.net_core.proofs.Library.{cases_lt, ints, get_or_from_slice_get}
+use Rattle.checked_fraction.specs.Terms.{num, IsNarrow}
 use Rattle.checked_fraction.specs.declared.row.Row.{Row}
-use Rattle.net_core.specs.Graphs.{Graph}
-use Rattle.net_core.specs.declared.columns.RouteColumn.TheVariants.{DemandSlack}
-use Rattle.route_law.specs.RoutingPrograms.{route_slack}
-use Rattle.simplex_core.specs.Tables.{nums_of, den_of}
-use Rattle.simplex_core.specs.inner.Shapes.{AtEach, IsUnit}
+use Rattle.plan_terms.specs.Terms.{Graph, DemandSlack}
+use Rattle.route_law.specs.Terms.{route_slack}
+use Rattle.simplex_core.specs.Terms.{nums_of, den_of, AtEach, IsUnit}
 use Rattle.simplex_core.proofs.Starts.{each_at, zeros_num, zeros_length, num_past, unit_num}
 use Rattle.key_paths.specs.inner.Starts.{IsStart}
-use Rattle.key_rows.specs.Names.{column_name, IsNameWithin}
+use Rattle.key_rows.specs.Terms.{column_name, IsNameWithin}
 use Rattle.key_rows.specs.declared.keyed.Keyed.{Keyed}
 use Rattle.key_paths.proofs.Starting.{first, second}
 use Rattle.checked_fraction.proofs.Units.{zeros_narrow}

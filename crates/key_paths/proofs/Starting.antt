@@ -1,25 +1,18 @@
 -- the slack basis, in which the slack of each demand is its key
 use Rattle.std.proofs.Common.{◌≡◌, ℕ, ℤ, length, pos, ◌+◌, ◌-◌, ◌<◌, ◌-ℤ◌, ◌*ℤ◌, sym, ap, ◌∙◌, subst, refl, arith, ⊎_elim}
-use Rattle.std.proofs.Math.IntN.{*ℤ-zero}
+use Rattle.net_core.proofs.Library.{*ℤ-zero, cases_lt, ints}
 use Rattle.std.specs.Int.Signed.{◌≤ℤ◌}
-use Rattle.std.proofs.lemmas.Bool.{cases_lt}
-use Rattle.std.proofs.lemmas.Int.{ints}
-use Rattle.checked_fraction.specs.Rows.{num}
-use Rattle.net_core.specs.Graphs.{Graph}
-use Rattle.net_core.specs.declared.columns.RouteColumn.{RouteColumn}
-use Rattle.net_core.specs.declared.columns.RouteColumn.TheVariants.{LinkSlack, DemandSlack}
-use Rattle.route_law.specs.RoutingPrograms.{route_slack}
-use Rattle.route_law.proofs.Rows.{beside_first, beside_after}
-use Rattle.simplex_law.specs.Sums.{dot, unit_vector}
-use Rattle.simplex_law.specs.Programs.{slack_basis}
-use Rattle.simplex_law.proofs.Sums.{sum-same, sum-none, unit-same, unit-other, dot-of-unit, dot-none}
-use Rattle.simplex_core.specs.Tables.{nums_at, den_at}
-use Rattle.key_law.specs.Keys.{left_column}
-use Rattle.key_law.proofs.Spread.{is_spread}
-use Rattle.key_law.proofs.Ends.{kept_start}
+use Rattle.checked_fraction.specs.Terms.{num}
+use Rattle.plan_terms.specs.Terms.{Graph, RouteColumn, LinkSlack, DemandSlack}
+use Rattle.route_law.specs.Terms.{route_slack}
+use Rattle.route_law.proofs.Lemmas.{beside_first, beside_after}
+use Rattle.simplex_law.specs.Terms.{dot, unit_vector, slack_basis}
+use Rattle.simplex_law.proofs.Lemmas.{sum-same, sum-none, unit-same, unit-other, dot-of-unit, dot-none}
+use Rattle.simplex_core.specs.Terms.{nums_at, den_at}
+use Rattle.key_law.specs.Terms.{left_column}
+use Rattle.key_law.proofs.Lemmas.{is_spread, kept_start}
 use Rattle.key_paths.specs.inner.Starts.{IsStart}
-use Rattle.key_rows.specs.Bases.{IsColumnNamed, IsKeyed}
-use Rattle.key_rows.specs.Names.{gain_in, uses, own_entry, owner_in, column_name}
+use Rattle.key_rows.specs.Terms.{IsColumnNamed, IsKeyed, gain_in, uses, own_entry, owner_in, column_name}
 use Rattle.key_rows.specs.declared.keyed.Keyed.{Keyed}
 
 plain : (x : ℤ) → x -ℤ pos 0 ≡ x

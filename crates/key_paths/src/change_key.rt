@@ -1,15 +1,11 @@
 ghost use Rattle.std.specs.Prelude.{◌≡◌, ◌≢◌, ◌<◌, ◌≤◌, ◌+◌, ◌^◌, ◌≤ℤ◌, ℕ, ℤ, pos, length, get_or, slice_set, unsigned_abs, OnOk, OnErr, IfErr};
 ghost use Rattle.std.specs.Option.{ForSome};
-ghost use Rattle.checked_fraction.specs.Rows.{num};
-ghost use Rattle.net_core.specs.declared.columns.RouteColumn.{RouteColumn as Name};
-ghost use Rattle.simplex_law.specs.Sums.{dot};
-ghost use Rattle.simplex_law.specs.Programs.{ColumnOf};
-ghost use Rattle.simplex_core.specs.Tables.{nums_at};
-ghost use Rattle.key_law.specs.Keys.{swap};
-ghost use Rattle.key_rows.specs.Bases.{IsShapedBasis, IsRoom};
-ghost use Rattle.key_rows.specs.KeyRows.{amounts, IsOwn};
-ghost use Rattle.key_rows.specs.KeyTests.{IsWideSpread};
-ghost use Rattle.key_rows.specs.Names.{demand_in, key_links, left_uses, HasKey, IsNameWithin, IsShortPath};
+ghost use Rattle.checked_fraction.specs.Terms.{num};
+ghost use Rattle.plan_terms.specs.Terms.{RouteColumn as Name};
+ghost use Rattle.simplex_law.specs.Terms.{dot, ColumnOf};
+ghost use Rattle.simplex_core.specs.Terms.{nums_at};
+ghost use Rattle.key_law.specs.Terms.{swap};
+ghost use Rattle.key_rows.specs.Terms.{IsShapedBasis, IsRoom, amounts, IsOwn, IsWideSpread, demand_in, key_links, left_uses, HasKey, IsNameWithin, IsShortPath};
 ghost use Rattle.key_paths.specs.inner.Held.{IsEntering, HasEntering};
 ghost use Rattle.key_paths.specs.inner.Turning.{with_numbers};
 

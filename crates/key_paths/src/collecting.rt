@@ -1,9 +1,6 @@
 ghost use Rattle.std.specs.Prelude.{List, ◌≡◌, ◌<◌, ◌+◌, ◌-◌, ◌≤ℤ◌, ◌<ℤ◌, ◌^◌, ℕ, All, pos, length, remove, true, slice_get, Some, IfOk, IfSome, OnOk, MatchOption, unsigned_abs};
-ghost use Rattle.checked_fraction.specs.Rows.{num, IsNarrow};
-ghost use Rattle.net_core.specs.declared.columns.RouteColumn.TheVariants.{Carry};
-ghost use Rattle.net_core.specs.declared.demand.Demand.{Demand};
-ghost use Rattle.net_core.specs.Graphs.{Graph};
-ghost use Rattle.net_core.specs.Views.{graph_of};
+ghost use Rattle.checked_fraction.specs.Terms.{num, IsNarrow};
+ghost use Rattle.plan_terms.specs.Terms.{Carry, Demand, Graph, graph_of};
 ghost use Rattle.key_paths.specs.inner.Gaining.{cost_at, AreLinkCosts, AreOffers, IsCarrier, IsGaining, NoneIsCheap, Offers};
 
 use crate::carrier::Carrier;

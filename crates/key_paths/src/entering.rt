@@ -1,9 +1,7 @@
 ghost use Rattle.std.specs.Prelude.{◌≡◌, ◌<◌, ◌≤◌, ◌+◌, ◌^◌, ◌+ℤ◌, ◌-ℤ◌, ℕ, length, unsigned_abs};
 ghost use Rattle.std.specs.Option.{ForSome};
-ghost use Rattle.checked_fraction.specs.Rows.{num, IsNarrow};
-ghost use Rattle.key_rows.specs.Bases.{IsShapedBasis, IsRoom};
-ghost use Rattle.key_rows.specs.KeyTests.{HaveColumnProducts, IsWideTest};
-ghost use Rattle.key_rows.specs.Names.{demand_in, key_links, IsNameWithin};
+ghost use Rattle.checked_fraction.specs.Terms.{num, IsNarrow};
+ghost use Rattle.key_rows.specs.Terms.{IsShapedBasis, IsRoom, HaveColumnProducts, IsWideTest, demand_in, key_links, IsNameWithin};
 ghost use Rattle.key_paths.specs.inner.Entering.{with_products, wide_kind as kind_of, HasGaining, EntersAs};
 ghost use Rattle.key_paths.specs.inner.Gaining.{cost_at};
 ghost use Rattle.key_paths.specs.inner.Held.{HasPriced};

@@ -1,9 +1,6 @@
 ghost use Rattle.std.specs.Prelude.{◌≡◌, ◌≢◌, ◌<◌, ◌≤◌, ◌+◌, ◌^◌, ◌+ℤ◌, ◌-ℤ◌, ◌*ℤ◌, ◌≤ℤ◌, ℕ, pos, length, get_or, unsigned_abs, Some, slice_get, MatchOption, OnOk, OnErr, IfErr};
-ghost use Rattle.checked_fraction.specs.Rows.{num, IsNarrow};
-ghost use Rattle.key_rows.specs.Bases.{IsShapedBasis, IsRoom};
-ghost use Rattle.key_rows.specs.KeyRows.{IsOwn};
-ghost use Rattle.key_rows.specs.KeyTests.{IsWideSpread};
-ghost use Rattle.key_rows.specs.Names.{HasKey, IsShortPath, key_name, links_in, column_name};
+ghost use Rattle.checked_fraction.specs.Terms.{num, IsNarrow};
+ghost use Rattle.key_rows.specs.Terms.{IsShapedBasis, IsRoom, IsOwn, IsWideSpread, HasKey, IsShortPath, key_name, links_in, column_name};
 ghost use Rattle.key_paths.specs.inner.Turning.{key_takes, with_rest, AreSwapped, IsRoleSwap};
 
 use checked_fraction::Row;

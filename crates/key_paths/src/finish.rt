@@ -1,9 +1,9 @@
 ghost use Rattle.std.specs.Prelude.{◌≡◌, ◌≢◌, ◌<◌, ◌≤◌, ◌+◌, ◌*◌, ◌/◌, ◌^◌, ◌++◌, ◌*ℤ◌, ◌≤ℤ◌, ◌<ℤ◌, ℕ, pos, length, get_or, unsigned_abs, IfOk, IfSome, IfNone, MatchOption, slice_set};
 ghost use Rattle.std.specs.Int.{◌∣◌};
-ghost use Rattle.checked_fraction.specs.Rows.{num, IsNarrow, IsInLowestTerms};
-ghost use Rattle.simplex_law.specs.Sums.{unit_vector};
-ghost use Rattle.simplex_core.specs.inner.Commons.{IsDenominator, HaveNoDenominator};
-ghost use Rattle.key_rows.specs.Bases.{IsShapedBasis};
+ghost use Rattle.checked_fraction.specs.Terms.{num, IsNarrow, IsInLowestTerms};
+ghost use Rattle.simplex_law.specs.Terms.{unit_vector};
+ghost use Rattle.simplex_core.specs.Terms.{IsDenominator, HaveNoDenominator};
+ghost use Rattle.key_rows.specs.Terms.{IsShapedBasis};
 ghost use Rattle.key_paths.specs.inner.Ends.{row_den, key_over, role_over, FitOver, HasFittingValues, AreApartPlaces, AreValuesOver, IsEndOf, IsWideEnd, IsKeyedEnd};
 
 use checked_fraction::{Row, size_of_den};

@@ -1,5 +1,5 @@
 ghost use Rattle.std.specs.Prelude.{◌≡◌, ◌<◌, All, IfOk, IsTrue, length, true};
-ghost use Rattle.net_core.specs.Views.{graph_of};
+ghost use Rattle.plan_terms.specs.Terms.{graph_of};
 ghost use Rattle.key_paths.specs.inner.Gaining.{IsCarried, IsCarrier};
 
 use crate::carrier::Carrier;

@@ -1,8 +1,8 @@
 ghost use Rattle.std.specs.Prelude.{◌≡◌, ◌*◌, ◌<◌, ◌+◌, ℕ, pos, IfOk, length};
-ghost use Rattle.checked_fraction.specs.Rows.{IsNarrow};
-ghost use Rattle.net_core.specs.Views.{graph_of};
-ghost use Rattle.simplex_core.specs.inner.Shapes.{AtEach};
-ghost use Rattle.route_law.specs.RoutingPrograms.{route_rows, route_bound, route_slack};
+ghost use Rattle.checked_fraction.specs.Terms.{IsNarrow};
+ghost use Rattle.plan_terms.specs.Terms.{graph_of};
+ghost use Rattle.simplex_core.specs.Terms.{AtEach};
+ghost use Rattle.route_law.specs.Terms.{route_rows, route_bound, route_slack};
 
 use net_core::{Demand, LinkId, List, NoMemory, RouteColumn, RouteTask};
 use std::alloc::Global;

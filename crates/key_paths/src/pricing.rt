@@ -1,8 +1,7 @@
 ghost use Rattle.std.specs.Prelude.{◌≡◌, ◌<◌, ◌≤◌, ◌+◌, ◌+ℤ◌, ◌-ℤ◌, ◌≤ℤ◌, ◌<ℤ◌, ◌↔◌, All, pos, length, true, false, IfOk, IsTrue, MatchOption};
-ghost use Rattle.checked_fraction.specs.Rows.{num};
-ghost use Rattle.net_core.specs.Views.{graph_of};
-ghost use Rattle.net_core.specs.declared.columns.RouteColumn.TheVariants.{Carry};
-ghost use Rattle.key_rows.specs.Names.{IsShortPath};
+ghost use Rattle.checked_fraction.specs.Terms.{num};
+ghost use Rattle.plan_terms.specs.Terms.{graph_of, Carry};
+ghost use Rattle.key_rows.specs.Terms.{IsShortPath};
 ghost use Rattle.key_paths.specs.inner.Gaining.{cost_at, IsCarrier, IsGaining, NoneGains};
 
 use crate::carrier::Carrier;

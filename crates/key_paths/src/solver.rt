@@ -1,11 +1,10 @@
 ghost use Rattle.std.specs.Prelude.{◌≡◌, ◌<◌, ◌+◌, ℕ, All, length};
-ghost use Rattle.checked_fraction.specs.Rows.{IsNarrow};
-ghost use Rattle.net_core.specs.Demands.{AreDemands};
-ghost use Rattle.net_core.specs.Views.{graph, graph_of};
-ghost use Rattle.route_law.specs.RoutingPrograms.{route_rows, route_bound, route_slack, IsCarrying};
-ghost use Rattle.simplex_core.specs.Programs.{IsSimplexAnswer};
+ghost use Rattle.checked_fraction.specs.Terms.{IsNarrow};
+ghost use Rattle.plan_terms.specs.Terms.{AreDemands, graph, graph_of};
+ghost use Rattle.route_law.specs.Terms.{route_rows, route_bound, route_slack, IsCarrying};
+ghost use Rattle.simplex_core.specs.Terms.{IsSimplexAnswer};
 ghost use Rattle.key_paths.specs.inner.Starts.{IsStart};
-ghost use Rattle.key_rows.specs.Bases.{IsRoom};
+ghost use Rattle.key_rows.specs.Terms.{IsRoom};
 ghost use Rattle.key_paths.specs.inner.Gaining.{IsCarrier};
 
 use crate::carrier::Carrier;

@@ -1,11 +1,10 @@
 ghost use Rattle.std.specs.Prelude.{◌≡◌, ◌<◌, ◌+◌, ◌≤ℤ◌, ℕ, ℤ, pos, length, replicate, get_or, IfOk};
-ghost use Rattle.checked_fraction.specs.Rows.{num, IsNarrow};
-ghost use Rattle.net_core.specs.Views.{graph_of};
-ghost use Rattle.route_law.specs.RoutingPrograms.{route_rows, route_bound, route_slack};
-ghost use Rattle.simplex_core.specs.inner.Shapes.{AtEach, IsUnit};
+ghost use Rattle.checked_fraction.specs.Terms.{num, IsNarrow};
+ghost use Rattle.plan_terms.specs.Terms.{graph_of};
+ghost use Rattle.route_law.specs.Terms.{route_rows, route_bound, route_slack};
+ghost use Rattle.simplex_core.specs.Terms.{AtEach, IsUnit};
 ghost use Rattle.key_paths.specs.inner.Starts.{IsStart};
-ghost use Rattle.key_rows.specs.Bases.{IsRoom};
-ghost use Rattle.key_rows.specs.KeyRows.{amounts};
+ghost use Rattle.key_rows.specs.Terms.{IsRoom, amounts};
 
 use crate::numbers::{bounds_of, counted, links_of, rows_of, slack_names};
 use checked_fraction::Row;

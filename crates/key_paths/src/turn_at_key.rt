@@ -1,9 +1,7 @@
 ghost use Rattle.std.specs.Prelude.{◌≡◌, ◌<◌, ◌+◌, ◌^◌, ℕ, ℤ, length, Some};
-ghost use Rattle.net_core.specs.declared.columns.RouteColumn.{RouteColumn as Name};
-ghost use Rattle.simplex_law.specs.Programs.{ColumnOf};
-ghost use Rattle.key_rows.specs.Bases.{IsRoom};
-ghost use Rattle.key_rows.specs.KeyRows.{IsOwn};
-ghost use Rattle.key_rows.specs.Names.{demand_in};
+ghost use Rattle.plan_terms.specs.Terms.{RouteColumn as Name};
+ghost use Rattle.simplex_law.specs.Terms.{ColumnOf};
+ghost use Rattle.key_rows.specs.Terms.{IsRoom, IsOwn, demand_in};
 ghost use Rattle.key_paths.specs.inner.Held.{IsEntering, HasEntering, HasPriced, IsAlone};
 ghost use Rattle.key_paths.specs.inner.Outcomes.{wide_spread, ComesOf, TurnsAt};
 

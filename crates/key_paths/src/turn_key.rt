@@ -1,9 +1,8 @@
 ghost use Rattle.std.specs.Prelude.{◌≡◌, ◌<◌, ◌+◌, ℕ, ℤ, length, slice_set, Some, OnOk, IfErr};
-ghost use Rattle.net_core.specs.declared.columns.RouteColumn.{RouteColumn as Name};
-ghost use Rattle.simplex_law.specs.Sums.{put};
-ghost use Rattle.simplex_law.specs.Programs.{ColumnOf};
+ghost use Rattle.plan_terms.specs.Terms.{RouteColumn as Name};
+ghost use Rattle.simplex_law.specs.Terms.{put, ColumnOf};
 ghost use Rattle.key_paths.specs.inner.Held.{IsHeld, IsEntering, HasEntering, IsAlone, IsWideNext};
-ghost use Rattle.key_rows.specs.Names.{demand_in};
+ghost use Rattle.key_rows.specs.Terms.{demand_in};
 
 use crate::move_rest::move_rest;
 use crate::turn_rows::set_name;

@@ -1,8 +1,7 @@
 ghost use Rattle.std.specs.Prelude.{◌≡◌, ◌<◌, ◌+◌, length, get_or, slice_set, OnOk, OnErr, IfErr};
-ghost use Rattle.checked_fraction.specs.Rows.{num};
-ghost use Rattle.simplex_core.specs.Turned.{HavePivot, IsNarrowOver};
-ghost use Rattle.key_rows.specs.Bases.{IsShapedBasis, IsRoom};
-ghost use Rattle.key_rows.specs.Names.{owner_in};
+ghost use Rattle.checked_fraction.specs.Terms.{num};
+ghost use Rattle.simplex_core.specs.Terms.{HavePivot, IsNarrowOver};
+ghost use Rattle.key_rows.specs.Terms.{IsShapedBasis, IsRoom, owner_in};
 ghost use Rattle.key_paths.specs.inner.Turning.{AreRowsTurned, IsWideTurn};
 
 use key_rows::{Keyed, Room};

@@ -1,7 +1,7 @@
 ghost use Rattle.std.specs.Prelude.{◌≡◌, ◌<◌, ◌≤◌, ◌^◌, ℕ, length};
-ghost use Rattle.checked_fraction.specs.Rows.{num};
-ghost use Rattle.simplex_core.specs.Turned.{HavePivot, IsNarrowOver};
-ghost use Rattle.key_rows.specs.Bases.{IsRoom};
+ghost use Rattle.checked_fraction.specs.Terms.{num};
+ghost use Rattle.simplex_core.specs.Terms.{HavePivot, IsNarrowOver};
+ghost use Rattle.key_rows.specs.Terms.{IsRoom};
 ghost use Rattle.key_paths.specs.inner.Held.{HasPriced};
 ghost use Rattle.key_paths.specs.inner.Outcomes.{wide_place, IsProductPlace, TurnsAt};
 ghost use Rattle.key_paths.specs.declared.turn_rows.WideTurn.{WideTurn as Found};

@@ -1,18 +1,14 @@
 -- the first row by the ratio test, row by row
 use Rattle.std.proofs.Common.{◌≡◌, ℕ, ℤ, List, Option, Some, None, pos, ◌+◌, ◌*ℤ◌, sym, ap, ◌∙◌, subst, arith, ⊎_elim, inl, inr, ◌⊎◌}
 use Rattle.std.specs.Int.Signed.{◌<ℤ◌, ◌≤ℤ◌}
-use Rattle.std.proofs.lemmas.Bool.{cases_lt}
-use Rattle.std.proofs.lemmas.Int.{ints}
-use Rattle.checked_fraction.specs.Rows.{num}
-use Rattle.checked_fraction.specs.Mixed.{combined}
+use Rattle.net_core.proofs.Library.{cases_lt, ints}
+use Rattle.checked_fraction.specs.Terms.{num, combined}
 use Rattle.checked_fraction.specs.declared.row.Row.{Row}
-use Rattle.simplex_law.specs.Sums.{dot}
-use Rattle.simplex_law.specs.inner.Pivots.{IsNoLater}
-use Rattle.simplex_law.proofs.NoLater.{gone, over}
-use Rattle.simplex_law.proofs.Order.{lex_at, lex_none}
-use Rattle.simplex_core.specs.Tables.{nums_at}
+use Rattle.simplex_law.specs.Terms.{dot, IsNoLater}
+use Rattle.simplex_law.proofs.Lemmas.{gone, over, lex_at, lex_none}
+use Rattle.simplex_core.specs.Terms.{nums_at}
 use Rattle.simplex_core.proofs.Ratios.{no_later_trans, no_later_same}
-use Rattle.key_law.specs.Ties.{ComesFirst}
+use Rattle.key_law.specs.Terms.{ComesFirst}
 use Rattle.key_rows.specs.KeyRows.{HaveValues}
 use Rattle.key_rows.specs.inner.Orders.{IsRowFirst, IsRowCandidate, IsNoLaterRow, IsBetterRow, IsBestRow}
 use Rattle.key_rows.specs.declared.order.Candidate.{Candidate}

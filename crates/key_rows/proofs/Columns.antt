@@ -1,20 +1,15 @@
 -- what names and owners say of the columns of a basis with keys
 use Rattle.std.proofs.Common.{◌≡◌, ℕ, ℤ, List, Some, None, pos, ◌+◌, ◌<◌, ◌≤◌, ◌-ℤ◌, ◌*ℤ◌, get_or, sym, ap, ◌∙◌, subst, refl, arith, ⊎_elim}
-use Rattle.std.proofs.Math.IntN.{zero-*ℤ}
+use Rattle.net_core.proofs.Library.{zero-*ℤ, cases_eq, ints}
 use Rattle.std.specs.Int.Signed.{◌≤ℤ◌}
-use Rattle.std.proofs.lemmas.Bool.{cases_eq}
-use Rattle.std.proofs.lemmas.Int.{ints}
-use Rattle.checked_fraction.specs.Rows.{num}
+use Rattle.checked_fraction.specs.Terms.{num}
 use Rattle.net_core.specs.declared.columns.RouteColumn.{RouteColumn}
 use Rattle.net_core.specs.declared.columns.RouteColumn.TheVariants.{LinkSlack, DemandSlack, Carry}
-use Rattle.simplex_law.specs.Sums.{int_sum, dot, unit_vector}
-use Rattle.simplex_law.specs.Programs.{ColumnOf}
-use Rattle.simplex_law.proofs.Sums.{sum-same, unit-other, unit-same}
-use Rattle.simplex_core.specs.Tables.{nums_at, den_at}
-use Rattle.key_law.specs.Keys.{key_part, left_column}
-use Rattle.key_law.specs.KeyRows.{HaveWeights, key_times}
-use Rattle.key_law.proofs.Owned.{owned_difference, free_difference}
-use Rattle.key_law.proofs.Amounts.{key_part_low}
+use Rattle.simplex_law.specs.Terms.{int_sum, dot, unit_vector, ColumnOf}
+use Rattle.simplex_law.proofs.Lemmas.{sum-same, unit-other, unit-same}
+use Rattle.simplex_core.specs.Terms.{nums_at, den_at}
+use Rattle.key_law.specs.Terms.{key_part, left_column, HaveWeights, key_times}
+use Rattle.key_law.proofs.Lemmas.{owned_difference, free_difference, key_part_low}
 use Rattle.key_rows.specs.Bases.{IsColumnNamed, IsKeyed}
 use Rattle.key_rows.specs.KeyRows.{AreWeights, amounts, times_taken, weighted, left_over_rows}
 use Rattle.key_rows.specs.Names.{path_uses, uses, left_uses, links_in, demand_in, own_entry, owner_in, column_name, key_links, key_name}

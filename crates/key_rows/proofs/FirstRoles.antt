@@ -2,15 +2,10 @@
 use Rattle.std.proofs.Common.{◌≡◌, ℕ, ℤ, pos, ◌+◌, ◌<◌, ◌*ℤ◌, subst}
 use Rattle.std.specs.Int.Signed.{◌<ℤ◌}
 use Rattle.net_core.specs.declared.columns.RouteColumn.{RouteColumn}
-use Rattle.simplex_law.specs.Bases.{IsInverseRow}
-use Rattle.simplex_law.specs.Programs.{ColumnOf}
-use Rattle.simplex_law.specs.Sums.{dot, unit_vector}
-use Rattle.simplex_law.specs.inner.Pivots.{IsRatioLe}
-use Rattle.simplex_law.proofs.Arithmetic.{positive_cancel}
-use Rattle.simplex_law.proofs.NoLater.{first_scaled, second_scaled}
-use Rattle.simplex_law.proofs.Unique.{dot_scaled, row_unique, valued_scaled}
+use Rattle.simplex_law.specs.Terms.{IsInverseRow, ColumnOf, dot, unit_vector, IsRatioLe}
+use Rattle.simplex_law.proofs.Lemmas.{positive_cancel, first_scaled, second_scaled, dot_scaled, row_unique, valued_scaled}
 use Rattle.simplex_core.proofs.Ratios.{no_later_trans, no_later_same}
-use Rattle.key_law.specs.Kept.{IsKept}
+use Rattle.key_law.specs.Terms.{IsKept}
 use Rattle.key_rows.specs.FirstRoles.{HasStep, LimitsNothing, IsNoLaterRole}
 use Rattle.checked_fraction.proofs.Products.{positive_product}
 

@@ -1,17 +1,13 @@
 -- rows and keys that may leave, as rows of the whole inverse
 use Rattle.std.proofs.Common.{◌≡◌, ℕ, ℤ, List, pos, ◌+◌, ◌<◌, ◌-ℤ◌, ◌*ℤ◌, sym, ap, ◌∙◌, subst, refl, arith}
-use Rattle.std.proofs.lemmas.Int.{ints}
-use Rattle.checked_fraction.specs.Rows.{num}
+use Rattle.net_core.proofs.Library.{ints}
+use Rattle.checked_fraction.specs.Terms.{num}
 use Rattle.net_core.specs.declared.columns.RouteColumn.{RouteColumn}
-use Rattle.simplex_law.specs.Sums.{dot, unit_vector}
-use Rattle.simplex_law.specs.Programs.{ColumnOf}
-use Rattle.simplex_law.proofs.Sums.{sum-same}
-use Rattle.simplex_core.specs.Tables.{nums_at, den_at}
-use Rattle.key_law.specs.Keys.{key_part, left_column}
-use Rattle.key_law.specs.KeyRows.{full_kept, full_key, key_nums, key_dot}
-use Rattle.key_law.specs.Ties.{IsRoleRow}
-use Rattle.key_law.proofs.Kept.{row_product, key_row_product}
-use Rattle.key_law.proofs.Spread.{is_spread}
+use Rattle.simplex_law.specs.Terms.{dot, unit_vector, ColumnOf}
+use Rattle.simplex_law.proofs.Lemmas.{sum-same}
+use Rattle.simplex_core.specs.Terms.{nums_at, den_at}
+use Rattle.key_law.specs.Terms.{key_part, left_column, full_kept, full_key, key_nums, key_dot, IsRoleRow}
+use Rattle.key_law.proofs.Lemmas.{row_product, key_row_product, is_spread}
 use Rattle.key_rows.specs.Bases.{IsKeyed}
 use Rattle.key_rows.specs.KeyRows.{amounts, times_taken, weighted}
 use Rattle.key_rows.specs.inner.Candidates.{IsKeyCandidate}

@@ -1,12 +1,12 @@
 -- lists that are written item by item
 use Rattle.std.proofs.Common.{◌≡◌, ℕ, ℤ, List, pos, length, slice_set, slice_get, Some, ◌+◌, ◌<◌, sym, subst, ap, ◌∙◌, arith, ⊎_elim}
-use Rattle.std.proofs.lemmas.Bool.{cases_eq}
+use Rattle.net_core.proofs.Library.{cases_eq}
 use Rattle.std.proofs.lemmas.List.{get_or-set_same, get_or-set_other}
-use Rattle.checked_fraction.specs.Rows.{num}
+use Rattle.checked_fraction.specs.Terms.{num}
 use Rattle.checked_fraction.specs.declared.row.Row.{Row}
-use Rattle.simplex_law.specs.Sums.{dot}
-use Rattle.simplex_core.specs.Tables.{nums_of, nums_at, IsRectangle}
-use Rattle.key_law.specs.Ties.{IsTieFirst}
+use Rattle.simplex_law.specs.Terms.{dot}
+use Rattle.simplex_core.specs.Terms.{nums_of, nums_at, IsRectangle}
+use Rattle.key_law.specs.Terms.{IsTieFirst}
 
 -- what holds of each number before place i, and of the number that is written there, holds of one more
 pub each_more : (P : ℕ → ℤ → Type 0) (xs : List ℤ) (i : ℕ) (v : ℤ) → i < length xs → ((j : ℕ) → j < i → P j (num xs j)) → P i v → (j : ℕ) → j < i + 1 → P j (num (slice_set xs i v) j)

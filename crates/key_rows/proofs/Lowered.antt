@@ -1,20 +1,15 @@
 -- the order of two candidates by their rows in lowest terms is that of their rows of the whole inverse
 use Rattle.std.proofs.Common.{◌⊎◌, ◌≡◌, ℕ, ℤ, List, length, pos, ◌+◌, ◌-◌, ◌<◌, ◌-ℤ◌, ◌*ℤ◌, inl, inr, sym, ap, ◌∙◌, subst, arith, ⊎_elim}
-use Rattle.std.proofs.Math.IntN.{*ℤ-zero, *ℤ_comm}
+use Rattle.net_core.proofs.Library.{*ℤ-zero, *ℤ_comm}
 use Rattle.std.specs.Int.Signed.{◌<ℤ◌}
-use Rattle.checked_fraction.specs.Rows.{num}
+use Rattle.checked_fraction.specs.Terms.{num}
 use Rattle.net_core.specs.declared.columns.RouteColumn.{RouteColumn}
 use Rattle.net_core.specs.declared.ids.LinkId.{LinkId}
-use Rattle.simplex_law.specs.Sums.{dot, unit_vector}
-use Rattle.simplex_law.specs.Programs.{ColumnOf}
-use Rattle.simplex_law.specs.inner.Pivots.{IsNoLater}
-use Rattle.simplex_law.proofs.Arithmetic.{moved_out}
-use Rattle.simplex_law.proofs.Sums.{sum-same}
-use Rattle.simplex_core.specs.Tables.{nums_at, den_at}
-use Rattle.key_law.specs.Keys.{key_part, left_column}
-use Rattle.key_law.specs.KeyRows.{full_kept, full_key, key_nums}
-use Rattle.key_law.specs.Ties.{IsRoleRow, IsTieFirst}
-use Rattle.key_law.proofs.Firsts.{comes_first}
+use Rattle.simplex_law.specs.Terms.{dot, unit_vector, ColumnOf, IsNoLater}
+use Rattle.simplex_law.proofs.Lemmas.{moved_out, sum-same}
+use Rattle.simplex_core.specs.Terms.{nums_at, den_at}
+use Rattle.key_law.specs.Terms.{key_part, left_column, full_kept, full_key, key_nums, IsRoleRow, IsTieFirst}
+use Rattle.key_law.proofs.Lemmas.{comes_first, short_no_later}
 use Rattle.key_rows.specs.Bases.{IsKeyed}
 use Rattle.key_rows.specs.KeyRows.{AreWeights, weighted, less_rows}
 use Rattle.key_rows.specs.KeyTests.{HaveColumnProducts, IsKeyRow}
@@ -25,7 +20,6 @@ use Rattle.key_rows.specs.declared.keyed.Keyed.{Keyed}
 use Rattle.key_rows.specs.declared.order.Candidate.{Candidate}
 use Rattle.key_rows.proofs.Columns.{times_are}
 use Rattle.key_rows.proofs.Leavers.{row_leaver, key_leaver}
-use Rattle.key_law.proofs.Short.{short_no_later}
 use Rattle.simplex_core.proofs.Ratios.{no_later_trans}
 use Rattle.key_rows.proofs.Products.{key_scaled}
 use Rattle.key_rows.proofs.Weighted.{left_crossed}

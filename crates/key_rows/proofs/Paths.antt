@@ -1,10 +1,9 @@
 -- a row's numbers along a path, one after another
 use Rattle.std.proofs.Common.{◌≡◌, ℕ, zero, suc, ◌<◌, ◌≤◌, ◌+◌, List, [], ◌∷◌, length, drop, get_or, refl, subst, arith}
 use Rattle.std.proofs.Math.IntN.{ℤ, pos, ◌+ℤ◌}
-use Rattle.std.proofs.lemmas.Int.{ints}
-use Rattle.std.specs.List.{AllByRecursion}
+use Rattle.net_core.proofs.Library.{ints, AllByRecursion}
 use Rattle.net_core.specs.declared.ids.LinkId.{LinkId}
-use Rattle.simplex_law.proofs.Sparse.{entry_dot}
+use Rattle.simplex_law.proofs.Lemmas.{entry_dot}
 
 -- the sum of numbers at the links of a path
 abbrev pub path_total : (ℕ → ℤ) → List LinkId → ℤ

@@ -1,15 +1,12 @@
 -- products with what is left of a column
 use Rattle.std.proofs.Common.{◌≡◌, ℕ, ℤ, List, pos, ◌<◌, ◌+ℤ◌, ◌-ℤ◌, ◌*ℤ◌, sym, ap, ◌∙◌, subst, arith}
-use Rattle.std.proofs.Math.IntN.{*ℤ_comm}
+use Rattle.net_core.proofs.Library.{*ℤ_comm, ints}
 use Rattle.std.specs.Int.Signed.{◌<ℤ◌}
-use Rattle.std.proofs.lemmas.Int.{ints}
-use Rattle.checked_fraction.specs.Rows.{num, IsReduced}
+use Rattle.checked_fraction.specs.Terms.{num, IsReduced}
 use Rattle.checked_fraction.specs.declared.row.Row.{Row}
-use Rattle.simplex_law.specs.Sums.{int_sum, dot}
-use Rattle.simplex_law.proofs.Arithmetic.{minus_left, distribute_minus, distribute_left, moved_out, positive_cancel}
-use Rattle.simplex_law.proofs.Duality.{priced}
-use Rattle.simplex_law.proofs.Sums.{sum-same, sum-minus, sum-none, sum-times}
-use Rattle.simplex_core.specs.Tables.{nums_at}
+use Rattle.simplex_law.specs.Terms.{int_sum, dot}
+use Rattle.simplex_law.proofs.Lemmas.{minus_left, distribute_minus, distribute_left, moved_out, positive_cancel, priced, sum-same, sum-minus, sum-none, sum-times}
+use Rattle.simplex_core.specs.Terms.{nums_at}
 use Rattle.key_rows.specs.KeyRows.{times_taken, weighted, less_rows, left_over_rows}
 use Rattle.checked_fraction.proofs.Products.{regroup, positive_product}
 

@@ -1,23 +1,15 @@
 -- the first of the roles, found candidate by candidate
 use Rattle.std.proofs.Common.{◌≡◌, ℕ, ℤ, List, Option, Some, None, length, pos, ◌+◌, ◌-◌, ◌<◌, ◌-ℤ◌, ◌*ℤ◌, ◌⊎◌, inl, inr, get_or, sym, ap, ◌∙◌, subst, refl, arith, ⊎_elim}
-use Rattle.std.proofs.Math.IntN.{*ℤ-zero, zero-*ℤ}
+use Rattle.net_core.proofs.Library.{*ℤ-zero, zero-*ℤ, cases_eq, ints}
 use Rattle.std.specs.Int.Signed.{◌<ℤ◌, ◌≤ℤ◌}
-use Rattle.std.proofs.lemmas.Bool.{cases_eq}
-use Rattle.std.proofs.lemmas.Int.{ints}
-use Rattle.checked_fraction.specs.Rows.{num}
+use Rattle.checked_fraction.specs.Terms.{num}
 use Rattle.net_core.specs.declared.columns.RouteColumn.{RouteColumn}
 use Rattle.net_core.specs.declared.ids.LinkId.{LinkId}
-use Rattle.simplex_law.specs.Bases.{IsInverseRow}
-use Rattle.simplex_law.specs.Programs.{ColumnOf}
-use Rattle.simplex_law.specs.Sums.{int_sum, dot}
-use Rattle.simplex_law.specs.inner.Pivots.{IsNoLater}
-use Rattle.simplex_law.proofs.Sums.{sum-same, sum-none, unit-other}
-use Rattle.simplex_law.proofs.Unique.{weights}
-use Rattle.simplex_core.specs.Tables.{nums_at, den_at}
-use Rattle.key_law.specs.Keys.{left_column}
-use Rattle.key_law.specs.KeyRows.{full_kept, full_key, key_nums, key_times}
-use Rattle.key_law.proofs.Kept.{kept_row, key_row, row_product, key_row_product}
-use Rattle.key_law.proofs.Short.{short_no_later}
+use Rattle.simplex_law.specs.Terms.{IsInverseRow, ColumnOf, int_sum, dot, IsNoLater}
+use Rattle.simplex_law.proofs.Lemmas.{sum-same, sum-none, unit-other, weights}
+use Rattle.simplex_core.specs.Terms.{nums_at, den_at}
+use Rattle.key_law.specs.Terms.{left_column, full_kept, full_key, key_nums, key_times}
+use Rattle.key_law.proofs.Lemmas.{kept_row, key_row, row_product, key_row_product, short_no_later}
 use Rattle.key_rows.specs.Bases.{IsKeyed}
 use Rattle.key_rows.specs.FirstRoles.{HasStep, LimitsNothing, IsNoLaterRole, IsFirstRole}
 use Rattle.key_rows.specs.KeyRows.{AreWeights, IsOwn, weighted}

@@ -1,15 +1,13 @@
 -- rows that are taken away
-use Rattle.std.proofs.Common.{◌≡◌, ℕ, suc, ◌+◌, ◌<◌, List, Bool, true, false, Result, Ok, Err, Some, get_or, slice_get, sym, ap, ◌∙◌, subst, arith}
+use Rattle.std.proofs.Common.{◌≡◌, ℕ, suc, ◌+◌, ◌<◌, List, Bool, true, false, Result, Ok, Err, Some, get_or, slice_get, sym, ap, ◌∙◌, subst, arith, OnOk, IfErr, is_ok}
 use Rattle.std.proofs.Math.IntN.{ℤ, pos, ◌+ℤ◌, ◌-ℤ◌, ◌*ℤ◌}
-use Rattle.std.proofs.lemmas.Int.{ints}
-use Rattle.std.specs.Result.{OnOk, IfErr, is_ok}
-use Rattle.checked_fraction.specs.Rows.{num, IsReduced}
-use Rattle.checked_fraction.specs.Mixed.{IsTooWide}
+use Rattle.net_core.proofs.Library.{ints}
+use Rattle.checked_fraction.specs.Terms.{num, IsReduced, IsTooWide}
 use Rattle.checked_fraction.specs.declared.wide.WideNumber.{WideNumber}
 use Rattle.checked_fraction.specs.declared.row.Row.{Row}
-use Rattle.simplex_law.specs.Sums.{unit_vector, int_sum}
-use Rattle.simplex_law.proofs.Sums.{unit-same}
-use Rattle.simplex_core.specs.Tables.{nums_of, nums_at}
+use Rattle.simplex_law.specs.Terms.{unit_vector, int_sum}
+use Rattle.simplex_law.proofs.Lemmas.{unit-same}
+use Rattle.simplex_core.specs.Terms.{nums_of, nums_at}
 use Rattle.key_rows.specs.KeyRows.{times_taken, less_rows}
 
 pub one_time : (new old : ℤ) (owner d : ℕ) (weight x y : ℤ) → owner ≡ d → new ≡ old -ℤ (weight *ℤ x) → x ≡ y → new ≡ old -ℤ ((unit_vector owner d *ℤ weight) *ℤ y)

@@ -1,12 +1,11 @@
 -- a number added at each link of a path
 use Rattle.std.proofs.Common.{◌≡◌, ℕ, ℤ, zero, suc, ◌<◌, ◌≤◌, ◌+◌, ◌*◌, ◌^◌, ◌+ℤ◌, ◌-ℤ◌, ◌*ℤ◌, List, [], ◌∷◌, pos, cond, eqb, length, drop, get_or, slice_set, unsigned_abs, refl, sym, ap, ◌∙◌, subst, arith, ⊎_elim}
-use Rattle.std.proofs.Math.IntN.{*ℤ-zero, zero-*ℤ}
-use Rattle.std.proofs.lemmas.Bool.{cases_eq, eq-eqb, ne_eqb}
-use Rattle.std.proofs.lemmas.Int.{ints}
+use Rattle.net_core.proofs.Library.{*ℤ-zero, zero-*ℤ, cases_eq, ints}
+use Rattle.std.proofs.lemmas.Bool.{eq-eqb, ne_eqb}
 use Rattle.std.proofs.lemmas.List.{get_or-set_same, get_or-set_other}
-use Rattle.checked_fraction.specs.Rows.{num}
+use Rattle.checked_fraction.specs.Terms.{num}
 use Rattle.net_core.specs.declared.ids.LinkId.{LinkId}
-use Rattle.simplex_law.proofs.Arithmetic.{distribute_left, distribute_minus}
+use Rattle.simplex_law.proofs.Lemmas.{distribute_left, distribute_minus}
 use Rattle.key_rows.specs.Names.{path_uses}
 
 uses_after : (path : List LinkId) (k : ℕ) (d : LinkId) (j : ℕ) → k < length path → path_uses (drop k path) j ≡ cond (eqb (get_or path k d).0 j) (pos 1) (pos 0) +ℤ path_uses (drop (suc k) path) j

@@ -1,14 +1,14 @@
 -- the product of a key's row in lowest terms
 use Rattle.std.proofs.Common.{◌≡◌, ℕ, ℤ, Bool, true, false, List, pos, length, subst, inr, refl}
 use Rattle.std.specs.Int.Signed.{◌<ℤ◌}
-use Rattle.checked_fraction.specs.Rows.{num}
+use Rattle.checked_fraction.specs.Terms.{num}
 use Rattle.checked_fraction.specs.declared.row.Row.{Row}
 use Rattle.net_core.specs.declared.columns.RouteColumn.{RouteColumn}
 use Rattle.net_core.specs.declared.ids.LinkId.{LinkId}
 use Rattle.key_rows.specs.KeyTests.{HaveColumnProducts, IsKeyRow}
 use Rattle.key_rows.specs.Names.{left_uses, own_entry}
 use Rattle.key_rows.specs.inner.Candidates.{IsKeyCandidate, IsLowered, DecidesTie, lowered_step}
-use Rattle.key_law.specs.Ties.{IsTieFirst}
+use Rattle.key_law.specs.Terms.{IsTieFirst}
 use Rattle.key_rows.specs.declared.keyed.Keyed.{Keyed}
 use Rattle.key_rows.specs.declared.order.Candidate.{Candidate}
 use Rattle.key_rows.proofs.Products.{key_scaled, key_positive}

@@ -1,12 +1,11 @@
 -- a key as a candidate
 use Rattle.std.proofs.Common.{◌≡◌, ℕ, ℤ, List, Option, Some, None, Ok, pos, length, ◌+◌, ◌<◌, ◌*ℤ◌, MatchOption, slice_get, unsigned_abs, sym, ap, ◌∙◌, subst, arith}
-use Rattle.std.proofs.Math.IntN.{*ℤ_comm}
+use Rattle.net_core.proofs.Library.{*ℤ_comm, ints}
 use Rattle.std.specs.Int.Signed.{◌<ℤ◌, ◌≤ℤ◌}
-use Rattle.std.proofs.lemmas.Int.{ints}
-use Rattle.checked_fraction.specs.Rows.{num}
+use Rattle.checked_fraction.specs.Terms.{num}
 use Rattle.checked_fraction.specs.declared.row.Row.{Row}
 use Rattle.checked_fraction.proofs.Products.{positive_factor}
-use Rattle.simplex_core.specs.Tables.{den_of, den_at}
+use Rattle.simplex_core.specs.Terms.{den_of, den_at}
 use Rattle.key_rows.specs.KeyRows.{IsOwn, AreWeights}
 use Rattle.key_rows.specs.KeyTests.{product_over}
 use Rattle.key_rows.specs.inner.Candidates.{IsKeyTest, value_over}

@@ -1,14 +1,12 @@
 -- the weights of a demand's rows over two denominators
 use Rattle.std.proofs.Common.{◌≡◌, ℕ, ℤ, zero, suc, List, pos, length, get_or, ◌+◌, ◌<◌, ◌≤◌, ◌-ℤ◌, ◌*ℤ◌, sym, ap, ◌∙◌, subst, arith, ⊎_elim}
-use Rattle.std.proofs.Math.IntN.{*ℤ_comm, zero-*ℤ}
+use Rattle.net_core.proofs.Library.{*ℤ_comm, zero-*ℤ, cases_eq}
 use Rattle.std.specs.Int.Signed.{◌<ℤ◌}
-use Rattle.std.proofs.lemmas.Bool.{cases_eq}
-use Rattle.checked_fraction.specs.Rows.{num}
+use Rattle.checked_fraction.specs.Terms.{num}
 use Rattle.checked_fraction.specs.declared.row.Row.{Row}
-use Rattle.simplex_law.specs.Sums.{unit_vector}
-use Rattle.simplex_law.proofs.Arithmetic.{minus_left, moved_out, positive_cancel}
-use Rattle.simplex_law.proofs.Sums.{unit-other}
-use Rattle.simplex_core.specs.Tables.{den_at}
+use Rattle.simplex_law.specs.Terms.{unit_vector}
+use Rattle.simplex_law.proofs.Lemmas.{minus_left, moved_out, positive_cancel, unit-other}
+use Rattle.simplex_core.specs.Terms.{den_at}
 use Rattle.key_rows.specs.KeyRows.{IsOwn, AreWeights, times_taken, left_over_rows}
 use Rattle.key_rows.proofs.Left.{left_more, left_none}
 use Rattle.checked_fraction.proofs.Products.{regroup, positive_product}

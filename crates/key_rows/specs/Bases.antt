@@ -1,13 +1,10 @@
 -- a basis by its keys, as the code holds it
 use Rattle.std.specs.Prelude.{ℕ, ℤ, length, ◌≡◌, ◌<◌, ◌+◌, ◌^◌, get_or}
-use Rattle.checked_fraction.specs.Rows.{num, IsNarrow}
+use Rattle.checked_fraction.specs.Terms.{num, IsNarrow}
 use Rattle.net_core.specs.declared.columns.RouteColumn.{RouteColumn}
-use Rattle.simplex_law.specs.Sums.{dot}
-use Rattle.simplex_law.specs.Programs.{ColumnOf}
-use Rattle.simplex_core.specs.Tables.{nums_at, den_at, IsRectangle}
-use Rattle.key_law.specs.Kept.{IsKept}
-use Rattle.key_law.specs.Keys.{left_column}
-use Rattle.key_law.specs.KeyRows.{full_prices}
+use Rattle.simplex_law.specs.Terms.{dot, ColumnOf}
+use Rattle.simplex_core.specs.Terms.{nums_at, den_at, IsRectangle}
+use Rattle.key_law.specs.Terms.{IsKept, left_column, full_prices}
 use Rattle.key_rows.specs.KeyRows.{amounts}
 use Rattle.key_rows.specs.Names.{gain_in, uses, own_entry, owner_in, column_name, IsNameWithin}
 use Rattle.key_rows.specs.declared.keyed.Keyed.{Keyed}

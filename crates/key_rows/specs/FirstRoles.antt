@@ -1,13 +1,10 @@
 -- the first of some roles by the ratio test, whatever rows of the inverse are taken for them
 use Rattle.std.specs.Prelude.{ℕ, ℤ, List, Option, Some, None, length, pos, ◌≡◌, ◌<◌, ◌≤◌, ◌+◌, ◌<ℤ◌, ◌≤ℤ◌}
-use Rattle.checked_fraction.specs.Rows.{num}
+use Rattle.checked_fraction.specs.Terms.{num}
 use Rattle.net_core.specs.declared.columns.RouteColumn.{RouteColumn}
-use Rattle.simplex_law.specs.Bases.{IsInverseRow}
-use Rattle.simplex_law.specs.Programs.{ColumnOf}
-use Rattle.simplex_law.specs.Sums.{dot}
-use Rattle.simplex_law.specs.inner.Pivots.{IsRatioLe}
-use Rattle.simplex_core.specs.Tables.{nums_at}
-use Rattle.key_law.specs.Keys.{left_column}
+use Rattle.simplex_law.specs.Terms.{IsInverseRow, ColumnOf, dot, IsRatioLe}
+use Rattle.simplex_core.specs.Terms.{nums_at}
+use Rattle.key_law.specs.Terms.{left_column}
 use Rattle.key_rows.specs.Bases.{IsColumnNamed, IsKeyed}
 use Rattle.key_rows.specs.KeyRows.{AreWeights, amounts, left_over_rows}
 use Rattle.key_rows.specs.declared.keyed.Keyed.{Keyed}

@@ -1,10 +1,9 @@
 -- what is too wide of a key when it is decided which column leaves
 use Rattle.std.specs.Prelude.{ℕ, ℤ, List, length, ◌≡◌, ◌<◌, ◌≤◌, ◌+◌, ◌^◌, unsigned_abs}
-use Rattle.checked_fraction.specs.Rows.{num, IsReduced}
+use Rattle.checked_fraction.specs.Terms.{num, IsReduced}
 use Rattle.checked_fraction.specs.declared.row.Row.{Row}
-use Rattle.simplex_core.specs.inner.Commons.{HaveNoDenominator}
-use Rattle.simplex_core.specs.Tables.{nums_at}
-use Rattle.simplex_law.specs.Sums.{dot}
+use Rattle.simplex_core.specs.Terms.{HaveNoDenominator, nums_at}
+use Rattle.simplex_law.specs.Terms.{dot}
 use Rattle.net_core.specs.declared.columns.RouteColumn.{RouteColumn}
 use Rattle.net_core.specs.declared.ids.LinkId.{LinkId}
 use Rattle.key_rows.specs.KeyRows.{own_den, AreWeights, less_rows, left_over_rows, IsWideKey}

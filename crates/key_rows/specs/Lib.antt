@@ -4,3 +4,4 @@ pub mod FirstRoles
 pub mod KeyRows
 pub mod KeyTests
 pub mod Names
+pub mod Terms

@@ -1,8 +1,7 @@
 ghost use Rattle.std.specs.Prelude.{◌≡◌, ◌<◌, ◌≤◌, ◌+◌, ◌^◌, ◌+ℤ◌, ◌-ℤ◌, ◌*ℤ◌, ◌<ℤ◌, ◌≤ℤ◌, ℕ, pos, length, unsigned_abs, get_or, false, IsTrue, OnOk, IfErr};
-ghost use Rattle.checked_fraction.specs.Rows.{num, IsNarrow, IsReduced};
-ghost use Rattle.checked_fraction.specs.Totals.{total, IsExact, HasRoom};
-ghost use Rattle.simplex_law.specs.Sums.{unit_vector};
-ghost use Rattle.simplex_core.specs.Tables.{nums_at, IsRectangle};
+ghost use Rattle.checked_fraction.specs.Terms.{num, IsNarrow, IsReduced, total, IsExact, HasRoom};
+ghost use Rattle.simplex_law.specs.Terms.{unit_vector};
+ghost use Rattle.simplex_core.specs.Terms.{nums_at, IsRectangle};
 ghost use Rattle.key_rows.specs.Bases.{IsShapedBasis, IsRoom};
 ghost use Rattle.key_rows.specs.KeyRows.{times_taken, less_rows, HasWide, IsWideKey};
 ghost use Rattle.key_rows.specs.KeyTests.{IsKeyRow, IsWideSpread};

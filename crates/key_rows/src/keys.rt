@@ -1,8 +1,8 @@
 ghost use Rattle.std.specs.Prelude.{◌≡◌, ◌≢◌, ◌<◌, ◌≤◌, ◌+◌, ◌^◌, ◌+ℤ◌, ◌-ℤ◌, ◌*ℤ◌, ℕ, pos, length, get_or, unsigned_abs, IsTrue, MatchOption, false};
 ghost use Rattle.std.specs.Option.{ForSome};
-ghost use Rattle.checked_fraction.specs.Rows.{num, IsNarrow};
-ghost use Rattle.simplex_law.specs.Sums.{dot};
-ghost use Rattle.simplex_core.specs.Tables.{nums_at, IsRectangle};
+ghost use Rattle.checked_fraction.specs.Terms.{num, IsNarrow};
+ghost use Rattle.simplex_law.specs.Terms.{dot};
+ghost use Rattle.simplex_core.specs.Terms.{nums_at, IsRectangle};
 ghost use Rattle.key_rows.specs.Names.{left_uses, IsShortPath, IsNameWithin, column_name, key_name, key_links, HasKey, gain_in, links_in, key_dual};
 
 use crate::sums::{column_product, gain_of, path_of, path_sum, widen};

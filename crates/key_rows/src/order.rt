@@ -1,8 +1,8 @@
 ghost use Rattle.std.specs.Prelude.{◌≡◌, ◌<◌, ◌*◌, ◌^◌, ◌*ℤ◌, ◌<ℤ◌, ◌↔◌, ◌⊎◌, ℕ, pos, length, false, IsTrue};
 ghost use Rattle.std.specs.Ordering.{nat_cmp};
-ghost use Rattle.checked_fraction.specs.Rows.{num, IsNarrow};
-ghost use Rattle.simplex_core.specs.Orders.{HasOrder};
-ghost use Rattle.key_law.specs.Ties.{IsRoleFirst, IsTieFirst};
+ghost use Rattle.checked_fraction.specs.Terms.{num, IsNarrow};
+ghost use Rattle.simplex_core.specs.Terms.{HasOrder};
+ghost use Rattle.key_law.specs.Terms.{IsRoleFirst, IsTieFirst};
 
 use checked_fraction::cmp;
 use simplex_core::compare_numbers;

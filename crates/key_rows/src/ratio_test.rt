@@ -1,7 +1,7 @@
 ghost use Rattle.std.specs.Prelude.{◌≡◌, ◌≢◌, ◌<◌, ◌+◌, ◌-◌, ◌^◌, ◌<ℤ◌, ◌≤◌, ◌≤ℤ◌, ◌⊎◌, ℕ, ℤ, List, pos, unsigned_abs, MatchOption, Some, IfOk, IfErr, length, false, IsTrue, get_or, ◌↔◌};
 ghost use Rattle.std.specs.Option.{ForSome};
-ghost use Rattle.checked_fraction.specs.Rows.{num, IsNarrow};
-ghost use Rattle.key_law.specs.Ties.{IsTieFirst};
+ghost use Rattle.checked_fraction.specs.Terms.{num, IsNarrow};
+ghost use Rattle.key_law.specs.Terms.{IsTieFirst};
 ghost use Rattle.key_rows.specs.declared.order.Candidate.{Candidate};
 ghost use Rattle.key_rows.specs.Bases.{IsShapedBasis, IsRoom};
 ghost use Rattle.key_rows.specs.FirstRoles.{IsFirstOfRoles, LeaveSomething};
@@ -12,7 +12,7 @@ ghost use Rattle.key_rows.specs.inner.Candidates.{IsJoined, IsKeyTest, IsWithKey
 ghost use Rattle.key_rows.specs.inner.Entrants.{IsEntrant, HaveTestNumbers, AreRivals};
 ghost use Rattle.key_rows.specs.inner.Orders.{IsRowFirst, IsRowCandidate, IsPlacedRow, IsBetterRow, IsBestRow};
 ghost use Rattle.key_rows.specs.inner.Tried.{role_in, IsSeen, IsTried, TouchesNoMore};
-ghost use Rattle.simplex_core.specs.Tables.{nums_at, IsRectangle};
+ghost use Rattle.simplex_core.specs.Terms.{nums_at, IsRectangle};
 
 use crate::entrant::Entrant;
 use crate::keyed::{Keyed, Room};

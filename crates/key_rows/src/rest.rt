@@ -1,5 +1,5 @@
 ghost use Rattle.std.specs.Prelude.{◌≡◌, ◌<◌, ◌≤◌, ◌+◌, ◌^◌, ◌+ℤ◌, ◌-ℤ◌, ◌*ℤ◌, ℕ, length, slice_set, slice_index_or, pos, unsigned_abs};
-ghost use Rattle.checked_fraction.specs.Rows.{num, IsNarrow};
+ghost use Rattle.checked_fraction.specs.Terms.{num, IsNarrow};
 ghost use Rattle.key_rows.specs.Names.{path_uses, IsShortPath};
 
 use net_core::{LinkId, List};

@@ -1,6 +1,6 @@
 ghost use Rattle.std.specs.Prelude.{◌≡◌, ◌+◌, ◌*◌, ◌<◌, ◌≤◌, ◌^◌, ◌+ℤ◌, ◌-ℤ◌, ℕ, pos, length, unsigned_abs};
-ghost use Rattle.checked_fraction.specs.Rows.{num, IsNarrow};
-ghost use Rattle.simplex_law.specs.Sums.{dot};
+ghost use Rattle.checked_fraction.specs.Terms.{num, IsNarrow};
+ghost use Rattle.simplex_law.specs.Terms.{dot};
 ghost use Rattle.key_rows.specs.Names.{path_uses, links_in, demand_in, gain_in, uses, left_uses, IsShortPath, IsNameWithin};
 
 use net_core::{LinkId, RouteColumn};

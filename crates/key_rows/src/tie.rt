@@ -1,6 +1,6 @@
 ghost use Rattle.std.specs.Prelude.{◌≡◌, ◌≢◌, ◌<◌, ◌≤◌, ◌+◌, ◌^◌, ◌+ℤ◌, ◌*ℤ◌, ◌<ℤ◌, ◌≤ℤ◌, ◌⊎◌, ℕ, pos, length, unsigned_abs, OnOk, IfOk, IfErr};
-ghost use Rattle.checked_fraction.specs.Rows.{num, IsNarrow};
-ghost use Rattle.simplex_law.specs.Sums.{dot, unit_vector};
+ghost use Rattle.checked_fraction.specs.Terms.{num, IsNarrow};
+ghost use Rattle.simplex_law.specs.Terms.{dot, unit_vector};
 ghost use Rattle.key_rows.specs.Bases.{IsShapedBasis, IsRoom};
 ghost use Rattle.key_rows.specs.KeyTests.{IsKeyRow, IsWideSpread};
 ghost use Rattle.key_rows.specs.Names.{left_uses, own_entry, IsNameWithin, IsShortPath};

@@ -1,8 +1,7 @@
 ghost use Rattle.std.specs.Prelude.{◌≡◌, ◌<◌, ◌≤◌, ◌+◌, ◌^◌, ◌*◌, ◌+ℤ◌, ◌-ℤ◌, ◌*ℤ◌, ◌≤ℤ◌, ℕ, pos, length, unsigned_abs};
-ghost use Rattle.checked_fraction.specs.Rows.{num, IsNarrow};
-ghost use Rattle.checked_fraction.specs.Totals.{total};
-ghost use Rattle.simplex_law.specs.Sums.{dot};
-ghost use Rattle.simplex_core.specs.Tables.{nums_at, IsRectangle};
+ghost use Rattle.checked_fraction.specs.Terms.{num, IsNarrow, total};
+ghost use Rattle.simplex_law.specs.Terms.{dot};
+ghost use Rattle.simplex_core.specs.Terms.{nums_at, IsRectangle};
 ghost use Rattle.key_rows.specs.KeyRows.{amounts};
 
 use checked_fraction::{Row, Sum};

@@ -1,10 +1,8 @@
 -- what holds of each cut of a list holds with one more
 use Rattle.std.proofs.Common.{◌≡◌, ℕ, ◌+◌, ◌<◌, ◌≤◌, ◌++◌, [], ◌∷◌, All, AllPairs, List, length, length-append, subst, sym, ap, arith}
-use Rattle.std.proofs.lemmas.List.Elements.{All-push, All-weaker}
-use Rattle.std.proofs.lemmas.List.Quantifiers.{all_pairs_push}
-use Rattle.net_core.specs.declared.plan.CutLine.{CutLine}
-use Rattle.net_core.specs.declared.ids.StateId.{StateId}
-use Rattle.master_law.specs.MasterPrograms.{IsSameCut}
+use Rattle.net_core.proofs.Library.{All-push, All-weaker, all_pairs_push}
+use Rattle.plan_terms.specs.Terms.{CutLine, StateId}
+use Rattle.master_law.specs.Terms.{IsSameCut}
 
 pub all_more : (P : CutLine → Type 0) (cuts more : List CutLine) (cut : CutLine) → more ≡ cuts ++ cut ∷ [] → All P cuts → P cut → All P more
 all_more P cuts more cut is all one = subst (All P) (sym is) (All-push P cuts cut all one)

@@ -1,8 +1,7 @@
 -- what multipliers ask for, one after another
 use Rattle.std.proofs.Common.{◌≡◌, ℕ, zero, suc, ◌+◌, ◌*◌, ◌<◌, ◌≤◌, List, [], ◌∷◌, length, get_or, take, arith}
-use Rattle.std.proofs.lemmas.List.Sums.{sum_by-cons}
-use Rattle.net_core.specs.declared.plan.CutLine.{CutLine}
-use Rattle.plan_terms.specs.Certificates.{CertificateLine, asked}
+use Rattle.net_core.proofs.Library.{sum_by-cons}
+use Rattle.plan_terms.specs.Terms.{CutLine, CertificateLine, asked}
 use Rattle.master_bound.specs.Answers.{lines_of, cut_at}
 use Rattle.master_bound.specs.declared.answer.Multiplier.{Multiplier}
 

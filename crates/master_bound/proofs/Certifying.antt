@@ -1,32 +1,18 @@
 -- the certificate of an optimum, and the share of its objective row
 use Rattle.std.proofs.Common.{◌≡◌, ◌≢◌, ℕ, zero, suc, ◌-◌, ◌*◌, ◌/◌, ◌^◌, ◌<◌, ◌≤◌, List, [], ◌∷◌, All, AllPairs, Contains, Some, get_or, length, map, mul-pos, refl, slice_get, slice_index, sym, ap, ◌∙◌, subst, ⊎_elim, arith}
-use Rattle.std.specs.Int.{◌∣◌}
-use Rattle.std.proofs.lemmas.Bool.{cases_eq}
-use Rattle.std.proofs.lemmas.Int.{ints}
-use Rattle.std.proofs.lemmas.List.Elements.{All-contains, All-get_or, All-map, All-nil, All-weaker}
-use Rattle.std.proofs.lemmas.Nat.Gcd.{dvd-zero, le_of_dvd}
-use Rattle.std.proofs.Math.Nat.{le_of_mul-le-mul_left, mul-le-mul_left}
+use Rattle.net_core.proofs.Library.{◌∣◌, cases_eq, ints, All-contains, All-get_or, All-map, All-nil, All-weaker, dvd-zero, le_of_mul-le-mul_left}
+use Rattle.std.proofs.lemmas.Nat.Gcd.{le_of_dvd}
+use Rattle.std.proofs.Math.Nat.{mul-le-mul_left}
 use Rattle.std.proofs.Math.IntN.{pos}
 use Rattle.std.specs.Int.Signed.{◌<ℤ◌}
-use Rattle.checked_fraction.specs.Rows.{num}
+use Rattle.checked_fraction.specs.Terms.{num}
 use Rattle.module_prices.specs.declared.cheapest.UnitPair.{UnitPair}
-use Rattle.net_core.specs.declared.columns.MasterColumn.{MasterColumn}
-use Rattle.net_core.specs.declared.network.Link.{Link}
-use Rattle.net_core.specs.declared.plan.CutLine.{CutLine}
-use Rattle.net_core.specs.Network.{IsModule}
-use Rattle.plan_terms.specs.Bounds.{IsBound, IsGreatestDivisor, IsLowest}
-use Rattle.plan_terms.specs.Certificates.{CertificateLine, IsCut, asked, fixed_along, given, price, raw_value}
-use Rattle.plan_terms.specs.OwnBounds.{IsOwnBound}
-use Rattle.plan_terms.proofs.Bounds.{lowest_positive}
+use Rattle.plan_terms.specs.Terms.{MasterColumn, Link, CutLine, IsModule, IsBound, IsGreatestDivisor, IsLowest, CertificateLine, IsCut, asked, fixed_along, given, price, raw_value, IsOwnBound}
+use Rattle.plan_terms.proofs.Lemmas.{lowest_positive}
 use Rattle.plan_types.specs.declared.quality.Share.{Share}
-use Rattle.simplex_law.specs.Programs.{IsPacking}
-use Rattle.simplex_law.specs.Bases.{AreNames}
-use Rattle.simplex_law.specs.Optima.{IsOptimum}
+use Rattle.simplex_law.specs.Terms.{IsPacking, AreNames, IsOptimum}
 use Rattle.simplex_core.specs.declared.optimum.Optimum.{Optimum}
-use Rattle.master_law.specs.BasisLines.{AreLinesOf}
-use Rattle.master_law.specs.LeastShares.{IsLeastShare}
-use Rattle.master_law.specs.MasterPrograms.{IsSameCut, master_bound, IsMasterColumn}
-use Rattle.master_law.specs.UnitPairs.{AreUnitPairs, share_cost}
+use Rattle.master_law.specs.Terms.{AreLinesOf, IsLeastShare, IsSameCut, master_bound, IsMasterColumn, AreUnitPairs, share_cost}
 use Rattle.master_law.proofs.Certified.{modules_priced, raw_is_cost, raw_is_gained}
 use Rattle.master_law.proofs.Lines.{asked_times, given_times, line_times, priced_lowest, raw_times}
 use Rattle.master_law.proofs.Own.{bound_rises, own_raw}

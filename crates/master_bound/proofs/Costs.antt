@@ -1,13 +1,12 @@
 -- what cuts cost at the prices of the links
 use Rattle.std.proofs.Common.{◌≡◌, ℕ, zero, suc, ◌+◌, ◌*◌, ◌<◌, ◌≤◌, List, ⊎_elim, mul-pos, sym, ap, ◌∙◌, subst, arith}
-use Rattle.std.proofs.lemmas.Bool.{cases_lt}
-use Rattle.std.proofs.lemmas.Int.{ints}
-use Rattle.std.proofs.Math.IntN.{ℤ, pos, ◌+ℤ◌, ◌-ℤ◌, ◌*ℤ◌, *ℤ_comm, pos-*ℤ-pos}
+use Rattle.net_core.proofs.Library.{cases_lt, ints, *ℤ_comm, pos-*ℤ-pos}
+use Rattle.std.proofs.Math.IntN.{ℤ, pos, ◌+ℤ◌, ◌-ℤ◌, ◌*ℤ◌}
 use Rattle.std.specs.Int.Signed.{◌<ℤ◌, ◌≤ℤ◌}
-use Rattle.checked_fraction.specs.Rows.{num}
+use Rattle.checked_fraction.specs.Terms.{num}
 use Rattle.checked_fraction.specs.declared.row.Row.{Row}
 use Rattle.module_prices.specs.declared.cheapest.UnitPair.{UnitPair}
-use Rattle.simplex_law.proofs.Arithmetic.{times_nonneg, times_nonpositive}
+use Rattle.simplex_law.proofs.Lemmas.{times_nonneg, times_nonpositive}
 use Rattle.master_bound.specs.inner.Gaining.{cost_below}
 use Rattle.master_bound.specs.inner.Narrow.{length_entry}
 

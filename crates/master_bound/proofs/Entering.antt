@@ -1,28 +1,19 @@
 -- the columns of cuts, and cuts that gain
 use Rattle.std.proofs.Common.{◌≡◌, ◌≢◌, ℕ, ◌+◌, ◌<◌, ◌≤◌, ◌^◌, ◌++◌, List, [], ◌∷◌, All, Bool, true, false, cond, eqb, nat_lt, Option, None, Some, get_or, length, map, refl, slice_get, ◌⊎◌, ⊎_elim, append-nil, sym, ap, ◌∙◌, subst, arith}
-use Rattle.std.specs.List.{AllByRecursion}
-use Rattle.std.proofs.lemmas.Bool.{cases_eq, cases_lt, eq-eqb, le-ltb, lt-ltb, ne_eqb}
-use Rattle.std.proofs.lemmas.Int.{ints}
-use Rattle.std.proofs.lemmas.List.{get_or-map, length-map}
-use Rattle.std.proofs.lemmas.List.Elements.{All-get_or}
-use Rattle.std.proofs.lemmas.Option.{get_or_from_slice_get, slice_get-get_or, slice_get_within}
+use Rattle.net_core.proofs.Library.{AllByRecursion, cases_eq, cases_lt, ints, get_or-map, length-map, All-get_or, get_or_from_slice_get, slice_get-get_or, slice_get_within}
+use Rattle.std.proofs.lemmas.Bool.{eq-eqb, le-ltb, lt-ltb, ne_eqb}
 use Rattle.std.proofs.Math.IntN.{ℤ, pos, ◌+ℤ◌, ◌-ℤ◌, ◌*ℤ◌}
 use Rattle.std.specs.Int.Signed.{◌<ℤ◌, ◌≤ℤ◌}
-use Rattle.checked_fraction.specs.Rows.{num, IsNarrow}
+use Rattle.checked_fraction.specs.Terms.{num, IsNarrow}
 use Rattle.checked_fraction.specs.declared.row.Row.{Row}
 use Rattle.module_prices.specs.declared.cheapest.UnitPair.{UnitPair}
-use Rattle.net_core.specs.declared.columns.MasterColumn.{MasterColumn}
-use Rattle.net_core.specs.declared.columns.MasterColumn.TheVariants.{Metric}
-use Rattle.net_core.specs.declared.network.Link.{Link}
-use Rattle.net_core.specs.declared.plan.CutLine.{CutLine}
-use Rattle.simplex_law.specs.Sums.{dot}
-use Rattle.simplex_law.specs.Programs.{ColumnOf}
-use Rattle.simplex_law.proofs.Sums.{dot-same}
-use Rattle.simplex_core.specs.Columns.{entry_of, IsEntry, HaveApartRows, AreEntries}
-use Rattle.simplex_core.specs.Prices.{GainsAt, IsGainingColumn}
+use Rattle.plan_terms.specs.Terms.{MasterColumn, Metric, Link, CutLine}
+use Rattle.simplex_law.specs.Terms.{dot, ColumnOf}
+use Rattle.simplex_law.proofs.Lemmas.{dot-same}
+use Rattle.simplex_core.specs.Terms.{entry_of, IsEntry, HaveApartRows, AreEntries, GainsAt, IsGainingColumn}
 use Rattle.simplex_core.specs.declared.columns.Column.{Column}
 use Rattle.simplex_core.specs.declared.columns.Entry.{Entry}
-use Rattle.master_law.specs.MasterPrograms.{cut_entry, cut_gain, IsCutColumn}
+use Rattle.master_law.specs.Terms.{cut_entry, cut_gain, IsCutColumn}
 use Rattle.master_bound.specs.declared.candidate.Candidate.{Candidate}
 use Rattle.master_bound.specs.declared.rating.Rating.{Rating}
 use Rattle.master_bound.specs.inner.Gaining.{CutGains, IsCandidate, IsCandidateAt, cost_below}

@@ -1,10 +1,7 @@
 -- cut after cut, the first of greatest own bound
 use Rattle.std.proofs.Common.{◌≡◌, ℕ, ◌+◌, ◌<◌, ◌≤◌, List, Some, length, slice_get, ⊎_elim, arith, subst, sym}
-use Rattle.std.proofs.lemmas.Bool.{cases_eq}
-use Rattle.std.proofs.lemmas.Option.{slice_get_within}
-use Rattle.net_core.specs.declared.network.Link.{Link}
-use Rattle.net_core.specs.declared.plan.CutLine.{CutLine}
-use Rattle.plan_terms.specs.OwnBounds.{IsBestOwn, IsOwnBound}
+use Rattle.net_core.proofs.Library.{cases_eq, slice_get_within}
+use Rattle.plan_terms.specs.Terms.{Link, CutLine, IsBestOwn, IsOwnBound}
 use Rattle.master_bound.specs.declared.best.GreatestOwn.{GreatestOwn}
 use Rattle.master_bound.specs.inner.Bests.{IsBestBelow, IsBetterOwn}
 

@@ -1,13 +1,9 @@
 -- fractions in lowest terms
 use Rattle.std.proofs.Common.{ℕ, zero, suc, ◌^◌, ◌≡◌, ◌*◌, ◌/◌, ◌<◌, ◌≤◌, List, ◌∷◌, All, get_or, length, refl, sym, ap, subst, arith}
-use Rattle.std.specs.Int.{◌∣◌}
-use Rattle.std.proofs.lemmas.List.Elements.{All-cons, All-get_or, All-head, All-tail, All-from_get_or}
-use Rattle.std.proofs.Math.Nat.{mul-le-mul_left, mul-div_cancel', dvd-mul_left}
+use Rattle.net_core.proofs.Library.{◌∣◌, All-cons, All-get_or, All-head, All-tail, All-from_get_or, mul-div_cancel', dvd-mul_left}
+use Rattle.std.proofs.Math.Nat.{mul-le-mul_left}
 use Rattle.std.proofs.lemmas.Nat.Gcd.{le_of_dvd}
-use Rattle.net_core.specs.Network.{IsModule}
-use Rattle.net_core.specs.declared.network.Module.{Module}
-use Rattle.plan_terms.specs.Bounds.{IsGreatestDivisor}
-use Rattle.plan_terms.specs.Prices.{IsUnitPair}
+use Rattle.plan_terms.specs.Terms.{IsModule, Module, IsGreatestDivisor, IsUnitPair}
 use Rattle.module_prices.proofs.UnitCosts.{cheapest_sound}
 use Rattle.net_core.proofs.Numbers.{positive_divisor}
 use Rattle.module_prices.proofs.LowestTerms.{lowest_small}

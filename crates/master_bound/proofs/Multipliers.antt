@@ -1,15 +1,9 @@
 -- the multipliers of a basis that is given by its names and amounts
 use Rattle.std.proofs.Common.{◌≡◌, ◌≢◌, ℕ, suc, ◌+◌, ◌/◌, ◌<◌, ◌++◌, List, [], ◌∷◌, Contains, Some, get_or, length, length-append, map, refl, slice_get, ⊎_elim, sym, ap, ◌∙◌, subst, arith}
-use Rattle.std.proofs.lemmas.Bool.{cases_eq}
-use Rattle.std.proofs.lemmas.List.{map-append}
-use Rattle.std.proofs.lemmas.List.Elements.{All-get_or, All-push, All-weaker, Contains-append_left, Contains-push}
-use Rattle.std.proofs.lemmas.List.Quantifiers.{all_pairs_push}
-use Rattle.net_core.specs.declared.columns.MasterColumn.{MasterColumn}
-use Rattle.net_core.specs.declared.columns.MasterColumn.TheVariants.{Metric}
-use Rattle.net_core.specs.declared.plan.CutLine.{CutLine}
-use Rattle.simplex_law.specs.Programs.{ColumnOf}
-use Rattle.simplex_law.specs.Bases.{AreNames}
-use Rattle.master_law.specs.BasisLines.{AreLinesOf}
+use Rattle.net_core.proofs.Library.{cases_eq, map-append, All-get_or, All-push, All-weaker, Contains-append_left, Contains-push, all_pairs_push}
+use Rattle.plan_terms.specs.Terms.{MasterColumn, Metric, CutLine}
+use Rattle.simplex_law.specs.Terms.{ColumnOf, AreNames}
+use Rattle.master_law.specs.Terms.{AreLinesOf}
 use Rattle.master_law.proofs.Lines.{lines_pass, lines_push}
 use Rattle.master_bound.specs.Answers.{cut_at, lines_of}
 use Rattle.master_bound.specs.declared.answer.Multiplier.{Multiplier}

@@ -1,26 +1,14 @@
 -- the master program of cuts of a network whose numbers are narrow
 use Rattle.std.proofs.Common.{◌≡◌, ℕ, ◌^◌, ◌<◌, ◌≤◌, List, All, AllPairs, Contains, Some, length, inl, inr, ⊎_elim, ap, ◌∙◌, sym, subst, arith}
-use Rattle.std.proofs.Math.Logic.{∥∥₁_elim}
-use Rattle.std.proofs.Props.{props}
-use Rattle.std.proofs.lemmas.List.{get_or-map}
-use Rattle.std.proofs.lemmas.List.Elements.{All-contains}
-use Rattle.checked_fraction.specs.Rows.{IsNarrow}
+use Rattle.net_core.proofs.Library.{∥∥₁_elim, props, get_or-map, All-contains}
+use Rattle.checked_fraction.specs.Terms.{IsNarrow}
 use Rattle.module_prices.specs.declared.cheapest.UnitPair.{UnitPair}
-use Rattle.net_core.specs.declared.columns.MasterColumn.{MasterColumn}
-use Rattle.net_core.specs.declared.columns.MasterColumn.TheVariants.{Metric}
-use Rattle.net_core.specs.declared.columns.WideKind.TheVariants.{Number}
-use Rattle.net_core.specs.declared.network.Link.{Link}
-use Rattle.net_core.specs.declared.network.Network.{Network}
-use Rattle.net_core.specs.declared.plan.CutLine.{CutLine}
-use Rattle.net_core.specs.Network.{IsModule}
+use Rattle.plan_terms.specs.Terms.{MasterColumn, Metric, Number, Link, Network, CutLine, IsModule}
 use Rattle.metric_cut.specs.Bounded.{HaveBound}
-use Rattle.simplex_law.specs.Programs.{IsPacking, slack_basis}
-use Rattle.simplex_law.specs.Bases.{AreNames}
-use Rattle.simplex_core.specs.inner.Shapes.{AtEach}
+use Rattle.simplex_law.specs.Terms.{IsPacking, slack_basis, AreNames}
+use Rattle.simplex_core.specs.Terms.{AtEach}
 use Rattle.simplex_core.proofs.Starts.{each_at}
-use Rattle.master_law.specs.MasterEvidence.{IsMasterEvidence}
-use Rattle.master_law.specs.MasterPrograms.{IsMasterColumn, IsSameCut, master_bound, master_slack}
-use Rattle.master_law.specs.UnitPairs.{AreUnitPairs}
+use Rattle.master_law.specs.Terms.{IsMasterEvidence, IsMasterColumn, IsSameCut, master_bound, master_slack, AreUnitPairs}
 use Rattle.master_law.proofs.Packing.{master_packing}
 use Rattle.master_law.proofs.Slacks.{cut_evidence, right_evidence}
 use Rattle.master_bound.specs.inner.Narrow.{HaveWideEntry, IsNarrowCut, IsWideCut}

@@ -1,27 +1,16 @@
 -- the cuts and the amounts of an optimum of the master program
 use Rattle.std.proofs.Common.{◌≡◌, ℕ, zero, suc, ◌*◌, ◌/◌, ◌^◌, ◌<◌, ◌≤◌, ◌⊎◌, inl, inr, List, [], ◌∷◌, AllPairs, Some, get_or, length, map, slice_get, slice_index, mul-pos, refl, sym, ap, ◌∙◌, subst, ⊎_elim, arith}
-use Rattle.std.proofs.lemmas.Int.{ints}
-use Rattle.std.proofs.lemmas.List.Elements.{Contains-get_or}
-use Rattle.std.proofs.lemmas.Option.{slice_get_within}
-use Rattle.std.proofs.Math.IntN.{ℤ, pos, ◌+ℤ◌, ◌*ℤ◌, *ℤ-zero, pos-*ℤ-pos}
+use Rattle.net_core.proofs.Library.{ints, Contains-get_or, slice_get_within, *ℤ-zero, pos-*ℤ-pos}
+use Rattle.std.proofs.Math.IntN.{ℤ, pos, ◌+ℤ◌, ◌*ℤ◌}
 use Rattle.std.specs.Int.Signed.{◌<ℤ◌}
-use Rattle.checked_fraction.specs.Rows.{num}
+use Rattle.checked_fraction.specs.Terms.{num}
 use Rattle.module_prices.specs.declared.cheapest.UnitPair.{UnitPair}
-use Rattle.net_core.specs.declared.columns.MasterColumn.{MasterColumn}
-use Rattle.net_core.specs.declared.columns.MasterColumn.TheVariants.{Metric}
-use Rattle.net_core.specs.declared.columns.WideKind.TheVariants.{Value}
-use Rattle.net_core.specs.declared.network.Link.{Link}
-use Rattle.net_core.specs.declared.plan.CutLine.{CutLine}
+use Rattle.plan_terms.specs.Terms.{MasterColumn, Metric, Value, Link, CutLine, IsGreatestDivisor, CertificateLine, asked}
 use Rattle.net_core.proofs.Sums.{below-same, below-times}
-use Rattle.plan_terms.specs.Bounds.{IsGreatestDivisor}
-use Rattle.plan_terms.specs.Certificates.{CertificateLine, asked}
-use Rattle.simplex_law.specs.Sums.{dot}
-use Rattle.simplex_law.specs.Programs.{IsPacking, IsSlack}
-use Rattle.simplex_law.proofs.Sums.{dot-same, sum-same, sum-times, unit-other, unit-same}
+use Rattle.simplex_law.specs.Terms.{dot, IsPacking, IsSlack}
+use Rattle.simplex_law.proofs.Lemmas.{dot-same, sum-same, sum-times, unit-other, unit-same}
 use Rattle.simplex_core.specs.declared.optimum.Optimum.{Optimum}
-use Rattle.master_law.specs.BasisLines.{AreLinesOf}
-use Rattle.master_law.specs.MasterEvidence.{HasWideValue, IsMasterEvidence}
-use Rattle.master_law.specs.MasterPrograms.{IsSameCut, column_given, column_lengths, cut_gain, master_bound, master_slack, IsCutColumn, IsMasterColumn}
+use Rattle.master_law.specs.Terms.{AreLinesOf, HasWideValue, IsMasterEvidence, IsSameCut, column_given, column_lengths, cut_gain, master_bound, master_slack, IsCutColumn, IsMasterColumn}
 use Rattle.master_law.proofs.Lines.{asked_times, line_times, lines_none, lines_push, lines_slack, price_times}
 use Rattle.master_law.proofs.Packing.{same_once}
 use Rattle.master_law.proofs.WideLines.{wide_lines}

@@ -1,10 +1,9 @@
 -- unit pairs of links, one after the other
 use Rattle.std.proofs.Common.{◌≡◌, ℕ, zero, suc, ◌+◌, ◌^◌, ◌<◌, ◌++◌, ◌⊎◌, ⊎_elim, inl, inr, All, List, [], ◌∷◌, Some, length, length-append, get_or, slice_get, refl, sym, ap, ◌∙◌, subst, arith}
-use Rattle.std.proofs.lemmas.List.Elements.{All-push}
-use Rattle.std.proofs.lemmas.Option.{slice_get-get_or}
-use Rattle.net_core.specs.declared.network.Link.{Link}
+use Rattle.net_core.proofs.Library.{All-push, slice_get-get_or}
+use Rattle.plan_terms.specs.Terms.{Link}
 use Rattle.module_prices.specs.declared.cheapest.UnitPair.{UnitPair}
-use Rattle.master_law.specs.UnitPairs.{IsPairOfLink}
+use Rattle.master_law.specs.Terms.{IsPairOfLink}
 
 -- the pairs of the first n links
 abbrev pub ArePairsBelow : List Link → List UnitPair → ℕ → Type 0

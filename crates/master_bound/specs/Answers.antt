@@ -2,20 +2,10 @@
 use Rattle.std.specs.Prelude.{◌≡◌, ◌≢◌, ℕ, ◌*◌, ◌^◌, ◌≤◌, ◌<◌, List, [], All, AllPairs, Contains, Result, Ok, Err, get_or, length, map}
 use Rattle.std.specs.Int.{◌∣◌}
 use Rattle.module_prices.specs.declared.cheapest.UnitPair.{UnitPair}
-use Rattle.net_core.specs.declared.columns.Evidence.{Evidence}
-use Rattle.net_core.specs.declared.columns.Evidence.TheVariants.{Route, Master}
-use Rattle.net_core.specs.declared.columns.MasterColumn.{MasterColumn}
-use Rattle.net_core.specs.declared.network.Link.{Link}
-use Rattle.net_core.specs.declared.plan.CutLine.{CutLine}
-use Rattle.net_core.specs.Cases.{Case}
-use Rattle.plan_terms.specs.Bounds.{IsBound, IsLowest}
-use Rattle.plan_terms.specs.Certificates.{CertificateLine, IsCertificate, IsCut, raw_value}
-use Rattle.plan_terms.specs.OwnBounds.{IsOwnBound}
+use Rattle.plan_terms.specs.Terms.{Evidence, Route, Master, MasterColumn, Link, CutLine, Case, IsBound, IsLowest, CertificateLine, IsCertificate, IsCut, raw_value, IsOwnBound}
 use Rattle.simplex_core.specs.declared.solver.SimplexFault.{SimplexFault}
 use Rattle.simplex_core.specs.declared.solver.SimplexFault.TheVariants.{Wide as WideBasis, NoMemory as NoRoom}
-use Rattle.master_law.specs.LeastShares.{IsLeastShare}
-use Rattle.master_law.specs.MasterEvidence.{IsMasterEvidence}
-use Rattle.master_law.specs.UnitPairs.{AreUnitPairs, share_cost}
+use Rattle.master_law.specs.Terms.{IsLeastShare, IsMasterEvidence, AreUnitPairs, share_cost}
 use Rattle.master_bound.specs.declared.answer.Best.{Best}
 use Rattle.master_bound.specs.declared.answer.MasterFault.{MasterFault}
 use Rattle.master_bound.specs.declared.answer.MasterFault.TheVariants.{Wide, NoMemory}

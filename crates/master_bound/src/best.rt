@@ -1,5 +1,5 @@
 ghost use Rattle.std.specs.Prelude.{◌≡◌, ◌<◌, ◌^◌, ◌↔◌, All, IfSome, IsNone, [], length};
-ghost use Rattle.plan_terms.specs.OwnBounds.{IsBestOwn};
+ghost use Rattle.plan_terms.specs.Terms.{IsBestOwn};
 ghost use Rattle.metric_cut.specs.Bounded.{HaveBound};
 ghost use Rattle.master_bound.specs.inner.Bests.{IsBestBelow, IsBetterOwn};
 

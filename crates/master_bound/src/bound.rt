@@ -1,14 +1,9 @@
 ghost use Rattle.std.specs.Prelude.{◌≡◌, ◌≤◌, ◌<◌, ◌^◌, All, AllPairs, Ok, Err, IfOk, IfErr, MatchOption, Some, length, map, slice_get};
-ghost use Rattle.net_core.specs.declared.plan.CutLine.{CutLine};
-ghost use Rattle.net_core.specs.declared.columns.MasterColumn.TheVariants.{Metric};
-ghost use Rattle.net_core.specs.declared.columns.WideKind.TheVariants.{Number};
-ghost use Rattle.plan_terms.specs.Bounds.{IsLowest};
+ghost use Rattle.plan_terms.specs.Terms.{CutLine, Metric, Number, IsLowest};
 ghost use Rattle.metric_cut.specs.Bounded.{HaveBound};
-ghost use Rattle.simplex_core.specs.inner.Shapes.{AtEach};
-ghost use Rattle.simplex_law.specs.Programs.{IsPacking};
-ghost use Rattle.master_law.specs.MasterEvidence.{IsMasterEvidence};
-ghost use Rattle.master_law.specs.MasterPrograms.{IsMasterColumn, IsSameCut, cut_gain, master_bound, master_slack};
-ghost use Rattle.master_law.specs.UnitPairs.{AreUnitPairs, share_cost};
+ghost use Rattle.simplex_core.specs.Terms.{AtEach};
+ghost use Rattle.simplex_law.specs.Terms.{IsPacking};
+ghost use Rattle.master_law.specs.Terms.{IsMasterEvidence, IsMasterColumn, IsSameCut, cut_gain, master_bound, master_slack, AreUnitPairs, share_cost};
 ghost use Rattle.master_bound.specs.Answers.{IsEvidenceOf, IsMasterAnswer};
 ghost use Rattle.master_bound.specs.inner.Narrow.{IsNarrowCut, IsWideCut};
 ghost use Rattle.master_bound.specs.inner.Programs.{IsMasterSolution, IsWideAnswer};

@@ -1,8 +1,7 @@
 ghost use Rattle.std.specs.Prelude.{◌≡◌, ◌<◌, ◌≤◌, ◌++◌, ◌^◌, ℕ, Some, cond, nat_lt, pos, length, slice_get, IfOk, OnOk};
-ghost use Rattle.simplex_core.specs.Columns.{AreEntries, entry_of as entries_at};
-ghost use Rattle.net_core.specs.declared.columns.MasterColumn.TheVariants.{Metric};
-ghost use Rattle.net_core.specs.declared.plan.CutLine.{CutLine};
-ghost use Rattle.master_law.specs.MasterPrograms.{cut_gain};
+ghost use Rattle.simplex_core.specs.Terms.{AreEntries, entry_of as entries_at};
+ghost use Rattle.plan_terms.specs.Terms.{Metric, CutLine};
+ghost use Rattle.master_law.specs.Terms.{cut_gain};
 ghost use Rattle.master_bound.specs.inner.Narrow.{length_entry, HaveNarrowEntries};
 ghost use Rattle.master_bound.specs.inner.Programs.{entry_in, AreEntriesOf, IsColumnOfCut};
 
@@ -63,7 +62,7 @@ fn column_at(program: &MasterProgram, k: usize) -> Result<Column<MasterColumn>, 
 
 impl<'a> Columns for MasterProgram<'a> {
     ghost use Rattle.std.specs.Prelude.{length};
-    ghost use Rattle.master_law.specs.MasterPrograms.{master_bound, master_slack, IsCutColumn};
+    ghost use Rattle.master_law.specs.Terms.{master_bound, master_slack, IsCutColumn};
 
     type Name = MasterColumn;
 

@@ -1,8 +1,5 @@
 ghost use Rattle.std.specs.Prelude.{◌≡◌, ◌<◌, ◌≤◌, ◌/◌, ◌^◌, ◌∷◌, ◌↔◌, ℕ, Some, All, Any, Contains, IfOk, OnOk, IsTrue, MatchOption, length, get_or, slice_get, true, false, []};
-ghost use Rattle.net_core.specs.declared.plan.CutLine.{CutLine};
-ghost use Rattle.net_core.specs.declared.columns.MasterColumn.TheVariants.{Metric};
-ghost use Rattle.plan_terms.specs.Bounds.{IsGreatestDivisor};
-ghost use Rattle.plan_terms.specs.Certificates.{asked};
+ghost use Rattle.plan_terms.specs.Terms.{CutLine, Metric, IsGreatestDivisor, asked};
 ghost use Rattle.master_bound.specs.Answers.{lines_of};
 ghost use Rattle.master_bound.specs.inner.Lines.{AreAmounts, AreBasisMultipliers, IsListedCut, IsPlaceOf, PushesMultiplier, amount_of};
 

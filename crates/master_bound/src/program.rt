@@ -1,5 +1,5 @@
 ghost use Rattle.std.specs.Prelude.{◌≡◌, map};
-ghost use Rattle.master_law.specs.MasterPrograms.{cut_gain};
+ghost use Rattle.master_law.specs.Terms.{cut_gain};
 
 use crate::rating::Rating;
 use crate::task::Task;

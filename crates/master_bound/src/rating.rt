@@ -1,6 +1,6 @@
 ghost use Rattle.std.specs.Prelude.{◌≡◌, ◌*◌, ◌≤◌, ◌<◌, ◌^◌, All, IfOk, length, map};
-ghost use Rattle.checked_fraction.specs.Rows.{IsNarrow};
-ghost use Rattle.master_law.specs.MasterPrograms.{cut_gain};
+ghost use Rattle.checked_fraction.specs.Terms.{IsNarrow};
+ghost use Rattle.master_law.specs.Terms.{cut_gain};
 ghost use Rattle.master_bound.specs.inner.Narrow.{HaveNarrowEntries, IsNarrowCut};
 
 use crate::numbers::{entry_of, gain_of};

@@ -1,7 +1,7 @@
 ghost use Rattle.std.specs.Prelude.{◌≡◌, ◌≤◌, ◌<◌, ◌^◌, ◌≤ℤ◌, ◌<ℤ◌, ℕ, All, IfOk, length, pos, sum_by, zip, ◌*◌};
-ghost use Rattle.checked_fraction.specs.Rows.{num};
-ghost use Rattle.plan_terms.specs.Bounds.{IsLowest};
-ghost use Rattle.master_law.specs.UnitPairs.{share_cost};
+ghost use Rattle.checked_fraction.specs.Terms.{num};
+ghost use Rattle.plan_terms.specs.Terms.{IsLowest};
+ghost use Rattle.master_law.specs.Terms.{share_cost};
 ghost use Rattle.master_bound.specs.inner.Shares.{IsShareOfDuals};
 
 use crate::pricing::price_at;

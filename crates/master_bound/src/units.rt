@@ -1,6 +1,6 @@
 ghost use Rattle.std.specs.Prelude.{◌<◌, ◌^◌, All, IfOk};
-ghost use Rattle.net_core.specs.Network.{IsModule};
-ghost use Rattle.master_law.specs.UnitPairs.{AreUnitPairs, IsPairOfLink};
+ghost use Rattle.plan_terms.specs.Terms.{IsModule};
+ghost use Rattle.master_law.specs.Terms.{AreUnitPairs, IsPairOfLink};
 
 use module_prices::{UnitPair, unit_pair};
 use net_core::{List, Module, Network, NoMemory};

@@ -1,31 +1,17 @@
 -- the cuts of an optimum are a valid certificate, whose raw value is the cost of the share of its objective row
 use Rattle.std.proofs.Common.{◌≡◌, ℕ, zero, suc, ◌*◌, ◌<◌, ◌≤◌, List, [], ◌∷◌, All, Some, true, false, cond, eqb, length, sum_by, zip, slice_get, slice_index, get_or, refl, sym, ap, ◌∙◌, arith, subst, ⊎_elim}
-use Rattle.std.proofs.lemmas.List.Sums.{sum_by-cons}
-use Rattle.std.proofs.lemmas.List.Elements.{All-from_recursion, All-contains, All-from_get_or, All-get_or}
-use Rattle.std.proofs.lemmas.Option.{slice_get_within}
-use Rattle.std.proofs.Math.Nat.{mul-le-mul_left, le_of_mul-le-mul_left}
-use Rattle.std.proofs.Math.IntN.{ℤ, pos, ◌+ℤ◌, ◌*ℤ◌, *ℤ-zero, pos-*ℤ-pos}
+use Rattle.net_core.proofs.Library.{sum_by-cons, All-from_recursion, All-contains, All-from_get_or, All-get_or, slice_get_within, le_of_mul-le-mul_left, *ℤ-zero, pos-*ℤ-pos, ints}
+use Rattle.std.proofs.Math.Nat.{mul-le-mul_left}
+use Rattle.std.proofs.Math.IntN.{ℤ, pos, ◌+ℤ◌, ◌*ℤ◌}
 use Rattle.std.specs.Int.Signed.{◌≤ℤ◌}
-use Rattle.std.proofs.lemmas.Int.{ints}
 use Rattle.module_prices.specs.declared.cheapest.UnitPair.{UnitPair}
-use Rattle.net_core.specs.declared.columns.MasterColumn.{MasterColumn}
-use Rattle.net_core.specs.declared.network.Link.{Link}
-use Rattle.net_core.specs.declared.network.Module.{Module}
-use Rattle.net_core.specs.declared.plan.CutLine.{CutLine}
-use Rattle.net_core.specs.Network.{IsModule}
-use Rattle.net_core.specs.Sums.{sum_below}
+use Rattle.plan_terms.specs.Terms.{MasterColumn, Link, Module, CutLine, IsModule, sum_below, CertificateLine, price, asked, fixed_along, given, raw_value}
 use Rattle.net_core.proofs.Sums.{below-same, below-first, below-none, below-times, below-swapped, sums-equal}
-use Rattle.plan_terms.specs.Certificates.{CertificateLine, price, asked, fixed_along, given, raw_value}
-use Rattle.plan_terms.proofs.Bounds.{lowest_positive}
-use Rattle.plan_terms.proofs.Duality.{fixed_of}
+use Rattle.plan_terms.proofs.Lemmas.{lowest_positive, fixed_of}
 use Rattle.plan_types.specs.declared.quality.Share.{Share}
-use Rattle.route_law.proofs.Rows.{sum-pos, below-both}
-use Rattle.simplex_law.specs.Sums.{int_sum, dot, unit_vector}
-use Rattle.simplex_law.specs.Programs.{ColumnOf, IsSlack}
-use Rattle.simplex_law.specs.Optima.{IsOptimum, FitBounds}
-use Rattle.simplex_law.proofs.Optimal.{greatest}
-use Rattle.simplex_law.proofs.Arithmetic.{distribute_left, le_times}
-use Rattle.simplex_law.proofs.Sums.{sum-same, sum-le, sum-plus}
+use Rattle.route_law.proofs.Lemmas.{sum-pos, below-both}
+use Rattle.simplex_law.specs.Terms.{int_sum, dot, unit_vector, ColumnOf, IsSlack, IsOptimum, FitBounds}
+use Rattle.simplex_law.proofs.Lemmas.{greatest, distribute_left, le_times, sum-same, sum-le, sum-plus}
 use Rattle.master_law.specs.BasisLines.{AreLinesOf}
 use Rattle.master_law.specs.MasterPrograms.{master_bound, master_slack, unit_capacities, unit_costs, column_lengths, column_given, IsCutColumn, IsMasterColumn}
 use Rattle.master_law.specs.UnitPairs.{AreUnitPairs, share_cost}

@@ -1,19 +1,13 @@
 -- the definitions on a network of one link, worked out by hand
 use Rattle.std.proofs.Common.{◌≡◌, ℕ, zero, suc, ◌*◌, ◌<◌, List, [], ◌∷◌, get_or, slice_index, refl, sym, ap, arith, subst, inl}
-use Rattle.std.proofs.Math.Nat.{eq-one_of_dvd-one}
+use Rattle.net_core.proofs.Library.{eq-one_of_dvd-one, ints, Contains-get_or}
 use Rattle.std.proofs.Math.IntN.{pos, ◌*ℤ◌}
 use Rattle.std.specs.Int.Signed.{◌<ℤ◌}
-use Rattle.std.proofs.lemmas.Int.{ints}
-use Rattle.std.proofs.lemmas.List.Elements.{Contains-get_or}
 use Rattle.module_prices.specs.declared.cheapest.UnitPair.{UnitPair}
-use Rattle.net_core.specs.declared.columns.MasterColumn.{MasterColumn}
-use Rattle.net_core.specs.declared.network.Link.{Link}
-use Rattle.net_core.specs.declared.plan.CutLine.{CutLine}
-use Rattle.plan_terms.specs.Violations.{Violates}
+use Rattle.plan_terms.specs.Terms.{MasterColumn, Link, CutLine, Violates}
 use Rattle.plan_types.specs.declared.quality.Share.{Share}
-use Rattle.simplex_law.specs.Sums.{dot, unit_vector}
-use Rattle.simplex_law.specs.Programs.{ColumnOf}
-use Rattle.simplex_law.proofs.Optimal.{none_gains}
+use Rattle.simplex_law.specs.Terms.{dot, unit_vector, ColumnOf}
+use Rattle.simplex_law.proofs.Lemmas.{none_gains}
 use Rattle.master_law.specs.LeastShares.{IsLeastShare}
 use Rattle.master_law.specs.MasterPrograms.{master_bound, master_slack, cut_gain, IsCutColumn}
 use Rattle.master_law.specs.UnitPairs.{share_capacities, share_caps, share_cost}

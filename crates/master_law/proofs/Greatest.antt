@@ -1,19 +1,10 @@
 -- no certificate over the cuts of a list has a raw value above what a least share of them costs
 use Rattle.std.proofs.Common.{◌≡◌, ℕ, ◌+◌, ◌-◌, ◌*◌, ◌≤◌, List, [], ◌∷◌, All, Contains, length, sum_by, get_or, slice_index, sym, ap, ◌∙◌, arith, ⊎_elim}
-use Rattle.std.proofs.lemmas.Bool.{cases_lt}
-use Rattle.std.proofs.lemmas.List.Sums.{sum_by-cons}
-use Rattle.std.proofs.lemmas.List.Elements.{recursion_from_All}
-use Rattle.std.proofs.Math.Nat.{mul-le-mul_left, mul-sub}
-use Rattle.std.specs.List.{AllByRecursion}
+use Rattle.net_core.proofs.Library.{cases_lt, sum_by-cons, recursion_from_All, mul-sub, AllByRecursion}
+use Rattle.std.proofs.Math.Nat.{mul-le-mul_left}
 use Rattle.module_prices.specs.declared.cheapest.UnitPair.{UnitPair}
-use Rattle.net_core.specs.declared.network.Link.{Link}
-use Rattle.net_core.specs.declared.plan.CutLine.{CutLine}
-use Rattle.net_core.specs.Cases.{Case}
-use Rattle.net_core.specs.Network.{IsModule}
-use Rattle.net_core.specs.Sums.{sum_below}
+use Rattle.plan_terms.specs.Terms.{Link, CutLine, Case, IsModule, sum_below, CertificateLine, IsCertificate, price, asked, fixed_along, given, raw_value, Violates}
 use Rattle.net_core.proofs.Sums.{below-same, below-le, below-times}
-use Rattle.plan_terms.specs.Certificates.{CertificateLine, IsCertificate, price, asked, fixed_along, given, raw_value}
-use Rattle.plan_terms.specs.Violations.{Violates}
 use Rattle.plan_types.specs.declared.quality.Share.{Share}
 use Rattle.master_law.specs.LeastShares.{IsLeastShare}
 use Rattle.master_law.specs.MasterPrograms.{unit_capacities, unit_costs}

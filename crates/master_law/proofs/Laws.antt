@@ -2,8 +2,8 @@
 use Rattle.std.proofs.Common.{ℕ, ◌-◌, ◌*◌, ◌≤◌, ◌<◌, refl, arith}
 use Rattle.std.proofs.Math.IntN.{pos}
 use Rattle.std.specs.Int.Signed.{◌<ℤ◌}
-use Rattle.std.proofs.lemmas.Int.{ints}
-use Rattle.plan_terms.specs.Certificates.{fixed_along, raw_value}
+use Rattle.net_core.proofs.Library.{ints}
+use Rattle.plan_terms.specs.Terms.{fixed_along, raw_value}
 use Rattle.master_law.specs.Laws.{BasisLinesCertify, BoundRises, LeastShareViolatesNone, NoCertificateIsGreater, RawValueIsShareCost}
 use Rattle.master_law.proofs.Certified.{modules_priced, raw_is_cost, raw_is_gained}
 use Rattle.master_law.proofs.Greatest.{greatest_raw}

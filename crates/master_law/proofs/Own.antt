@@ -1,25 +1,13 @@
 -- the raw value of an optimum is at least that of each of its cuts alone, and so is the bound
 use Rattle.std.proofs.Common.{◌≡◌, ◌≢◌, ℕ, ◌-◌, ◌*◌, ◌<◌, ◌≤◌, ◌⊎◌, List, All, Contains, length, slice_index, ap, ◌∙◌, arith, subst, inl, inr, ⊎_elim}
-use Rattle.std.specs.Int.{◌∣◌}
-use Rattle.std.proofs.lemmas.Bool.{cases_eq, cases_lt}
-use Rattle.std.proofs.lemmas.Nat.Gcd.{dvd_trans}
-use Rattle.std.proofs.Math.Nat.{mul-le-mul_left, le_of_mul-le-mul_left, eq-zero_of_zero-dvd, mul-sub}
-use Rattle.std.proofs.Math.IntN.{ℤ, pos, ◌-ℤ◌, ◌*ℤ◌, pos-*ℤ-pos}
+use Rattle.net_core.proofs.Library.{◌∣◌, cases_eq, cases_lt, dvd_trans, le_of_mul-le-mul_left, mul-sub, pos-*ℤ-pos, ints}
+use Rattle.std.proofs.Math.Nat.{mul-le-mul_left, eq-zero_of_zero-dvd}
+use Rattle.std.proofs.Math.IntN.{ℤ, pos, ◌-ℤ◌, ◌*ℤ◌}
 use Rattle.std.specs.Int.Signed.{◌<ℤ◌, ◌≤ℤ◌}
-use Rattle.std.proofs.lemmas.Int.{ints}
 use Rattle.module_prices.specs.declared.cheapest.UnitPair.{UnitPair}
-use Rattle.net_core.specs.declared.columns.MasterColumn.{MasterColumn}
-use Rattle.net_core.specs.declared.network.Link.{Link}
-use Rattle.net_core.specs.declared.plan.CutLine.{CutLine}
-use Rattle.net_core.specs.Network.{IsModule}
-use Rattle.plan_terms.specs.Bounds.{IsBound}
-use Rattle.plan_terms.specs.Certificates.{fixed_along}
-use Rattle.plan_terms.specs.OwnBounds.{IsValid}
-use Rattle.simplex_law.specs.Sums.{int_sum}
-use Rattle.simplex_law.specs.Programs.{ColumnOf}
-use Rattle.simplex_law.specs.Optima.{IsOptimum, FitBounds}
-use Rattle.simplex_law.proofs.Arithmetic.{minus_left}
-use Rattle.simplex_law.proofs.Optimal.{greatest}
+use Rattle.plan_terms.specs.Terms.{MasterColumn, Link, CutLine, IsModule, IsBound, fixed_along, IsValid}
+use Rattle.simplex_law.specs.Terms.{int_sum, ColumnOf, IsOptimum, FitBounds}
+use Rattle.simplex_law.proofs.Lemmas.{minus_left, greatest}
 use Rattle.master_law.specs.MasterPrograms.{master_bound, master_slack, unit_capacities, unit_costs, IsCutColumn, IsMasterColumn}
 use Rattle.master_law.specs.UnitPairs.{AreUnitPairs}
 use Rattle.master_law.proofs.Columns.{column_of, is_column_of, unit_at_most}

@@ -1,23 +1,15 @@
 -- the master program is a packing program, where its numbers are narrow
 use Rattle.std.proofs.Common.{◌≡◌, ◌≢◌, ℕ, zero, suc, ◌*◌, ◌<◌, ◌≤◌, List, [], All, AllPairs, Any, Contains, Some, length, slice_get, slice_index, get_or, refl, sym, ap, ◌∙◌, arith, subst, ⊎_elim}
-use Rattle.std.proofs.lemmas.Bool.{cases_eq, cases_lt}
-use Rattle.std.proofs.lemmas.List.{get_or_default}
-use Rattle.std.proofs.lemmas.List.Elements.{All-contains}
+use Rattle.net_core.proofs.Library.{cases_eq, cases_lt, get_or_default, All-contains, ints}
 use Rattle.std.proofs.Math.Nat.{mul-le-mul_left}
 use Rattle.std.proofs.Math.IntN.{pos}
 use Rattle.std.specs.Int.Signed.{◌<ℤ◌, ◌≤ℤ◌}
-use Rattle.std.proofs.lemmas.Int.{ints}
-use Rattle.checked_fraction.specs.Rows.{IsNarrow}
+use Rattle.checked_fraction.specs.Terms.{IsNarrow}
 use Rattle.module_prices.specs.declared.cheapest.UnitPair.{UnitPair}
-use Rattle.net_core.specs.declared.columns.MasterColumn.TheVariants.{Metric}
-use Rattle.net_core.specs.declared.ids.LinkId.{LinkId}
-use Rattle.net_core.specs.declared.ids.StateId.{StateId}
-use Rattle.net_core.specs.declared.network.Link.{Link}
-use Rattle.net_core.specs.declared.plan.CutLine.{CutLine}
-use Rattle.net_core.specs.Network.{IsModule}
-use Rattle.plan_terms.proofs.Bounds.{lowest_positive}
-use Rattle.route_law.proofs.Packing.{program_packing}
-use Rattle.simplex_law.specs.Programs.{IsPacking}
+use Rattle.plan_terms.specs.Terms.{Metric, LinkId, StateId, Link, CutLine, IsModule}
+use Rattle.plan_terms.proofs.Lemmas.{lowest_positive}
+use Rattle.route_law.proofs.Lemmas.{program_packing}
+use Rattle.simplex_law.specs.Terms.{IsPacking}
 use Rattle.master_law.specs.MasterPrograms.{master_bound, master_slack, cut_gain, cut_entry, unit_capacities, IsSameCut, IsCutColumn, IsMasterColumn}
 use Rattle.master_law.specs.UnitPairs.{AreUnitPairs}
 use Rattle.master_law.proofs.Columns.{pair_below}

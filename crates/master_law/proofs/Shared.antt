@@ -1,9 +1,6 @@
 -- a number that divides the same number of times all numbers without a common divisor divides that number
 use Rattle.std.proofs.Common.{◌≡◌, ℕ, zero, suc, ◌*◌, ◌%◌, ◌<◌, ap, subst, ◌∙◌, arith, ⊎_elim}
-use Rattle.std.specs.Int.{◌∣◌}
-use Rattle.std.proofs.lemmas.Bool.{cases_lt}
-use Rattle.std.proofs.lemmas.Nat.Gcd.{dvd_refl, dvd-zero, dvd_trans}
-use Rattle.std.proofs.Math.Nat.{dvd-mul_left}
+use Rattle.net_core.proofs.Library.{◌∣◌, cases_lt, dvd_refl, dvd-zero, dvd_trans, dvd-mul_left}
 use Rattle.checked_fraction.proofs.Once.{divides_back, divides_rest}
 
 module _ (part c : ℕ) where

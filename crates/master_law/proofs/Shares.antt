@@ -1,26 +1,15 @@
 -- a least share violates none of its cuts, and the objective row of an optimum is a least share
 use Rattle.std.proofs.Common.{◌≡◌, ℕ, ◌+◌, ◌*◌, ◌<◌, List, [], ◌∷◌, Contains, length, map, sum_by, zip, slice_index, refl, sym, ap, ◌∙◌, arith, subst, inl, unsigned_abs}
-use Rattle.std.specs.Int.{◌∣◌}
-use Rattle.std.proofs.lemmas.List.Elements.{All-get_or}
-use Rattle.std.proofs.lemmas.List.Sums.{sum_by-cons}
-use Rattle.std.proofs.Math.IntN.{ℤ, pos, ◌*ℤ◌, pos-*ℤ-pos}
+use Rattle.net_core.proofs.Library.{◌∣◌, All-get_or, sum_by-cons, pos-*ℤ-pos, ints}
+use Rattle.std.proofs.Math.IntN.{ℤ, pos, ◌*ℤ◌}
 use Rattle.std.specs.Int.Signed.{◌<ℤ◌}
-use Rattle.std.proofs.lemmas.Int.{ints}
 use Rattle.module_prices.specs.declared.cheapest.UnitPair.{UnitPair}
-use Rattle.net_core.specs.declared.columns.MasterColumn.{MasterColumn}
-use Rattle.net_core.specs.declared.network.Link.{Link}
-use Rattle.net_core.specs.declared.plan.CutLine.{CutLine}
-use Rattle.net_core.specs.Sums.{sum_below}
+use Rattle.plan_terms.specs.Terms.{MasterColumn, Link, CutLine, sum_below, fixed_along, Violates}
 use Rattle.net_core.proofs.Sums.{below-first}
-use Rattle.plan_terms.specs.Certificates.{fixed_along}
-use Rattle.plan_terms.specs.Violations.{Violates}
 use Rattle.plan_types.specs.declared.quality.Share.{Share}
-use Rattle.route_law.proofs.Rows.{sum-pos}
-use Rattle.simplex_law.specs.Sums.{dot}
-use Rattle.simplex_law.specs.Programs.{ColumnOf}
-use Rattle.simplex_law.specs.Optima.{IsOptimum}
-use Rattle.simplex_law.proofs.Arithmetic.{minus_left}
-use Rattle.simplex_law.proofs.Sums.{sum-same}
+use Rattle.route_law.proofs.Lemmas.{sum-pos}
+use Rattle.simplex_law.specs.Terms.{dot, ColumnOf, IsOptimum}
+use Rattle.simplex_law.proofs.Lemmas.{minus_left, sum-same}
 use Rattle.master_law.specs.LeastShares.{IsLeastShare}
 use Rattle.master_law.specs.MasterPrograms.{master_bound, cut_gain, cut_entry, unit_capacities, IsMasterColumn}
 use Rattle.master_law.specs.UnitPairs.{share_caps}

@@ -1,19 +1,11 @@
 -- evidence of the slack basis, and evidence of the master program from that of a packing program
 use Rattle.std.proofs.Common.{ℕ, ◌≤◌, ◌<◌, ◌^◌, ◌⊎◌, List, Contains, length, refl, arith, inl, inr}
 use Rattle.std.proofs.Math.IntN.{pos}
-use Rattle.std.proofs.lemmas.Int.{ints}
+use Rattle.net_core.proofs.Library.{ints}
 use Rattle.module_prices.specs.declared.cheapest.UnitPair.{UnitPair}
-use Rattle.net_core.specs.declared.columns.MasterColumn.{MasterColumn}
-use Rattle.net_core.specs.declared.columns.MasterColumn.TheVariants.{Metric}
-use Rattle.net_core.specs.declared.columns.WideKind.{WideKind}
-use Rattle.net_core.specs.declared.columns.WideKind.TheVariants.{Number, Row, Product, Sum, Common, Value, Length}
-use Rattle.net_core.specs.declared.network.Link.{Link}
-use Rattle.net_core.specs.declared.plan.CutLine.{CutLine}
-use Rattle.simplex_law.specs.Sums.{unit_vector}
-use Rattle.simplex_law.specs.Programs.{ColumnOf, slack_basis}
-use Rattle.simplex_law.specs.Bases.{AreNames}
-use Rattle.simplex_law.specs.Evidence.{IsWide, HoldsKind, IsReachedEvidence}
-use Rattle.simplex_law.proofs.Reached.{start_reached, started}
+use Rattle.plan_terms.specs.Terms.{MasterColumn, Metric, WideKind, Number, Row, Product, Sum, Common, Value, Length, Link, CutLine}
+use Rattle.simplex_law.specs.Terms.{unit_vector, ColumnOf, slack_basis, AreNames, IsWide, HoldsKind, IsReachedEvidence}
+use Rattle.simplex_law.proofs.Lemmas.{start_reached, started}
 use Rattle.master_law.specs.MasterEvidence.{HoldsOfMaster, IsMasterEvidence}
 use Rattle.master_law.specs.MasterPrograms.{master_bound, master_slack, cut_gain, cut_entry, IsCutColumn, IsMasterColumn}
 use Rattle.master_law.proofs.Columns.{column_of, is_column_of}

@@ -1,19 +1,11 @@
 -- where amounts over a part of the common denominator are wide, so they are over each common denominator
 use Rattle.std.proofs.Common.{◌≡◌, ℕ, zero, suc, ◌*◌, ◌/◌, ◌<◌, ◌≤◌, ◌^◌, List, length, sym, ap, ◌∙◌, arith, subst, inl, inr, ⊎_elim, unsigned_abs}
-use Rattle.std.specs.Int.{◌∣◌}
-use Rattle.std.proofs.Math.Nat.{mul-div_cancel'}
-use Rattle.std.proofs.Math.IntN.{ℤ, pos, ◌+ℤ◌, ◌*ℤ◌, *ℤ_comm, pos-*ℤ-pos}
+use Rattle.net_core.proofs.Library.{◌∣◌, mul-div_cancel', *ℤ_comm, pos-*ℤ-pos}
+use Rattle.std.proofs.Math.IntN.{ℤ, pos, ◌+ℤ◌, ◌*ℤ◌}
 use Rattle.module_prices.specs.declared.cheapest.UnitPair.{UnitPair}
-use Rattle.net_core.specs.declared.columns.MasterColumn.{MasterColumn}
-use Rattle.net_core.specs.declared.network.Link.{Link}
-use Rattle.net_core.specs.declared.plan.CutLine.{CutLine}
-use Rattle.simplex_law.specs.Sums.{int_sum, dot, unit_vector}
-use Rattle.simplex_law.specs.Programs.{ColumnOf}
-use Rattle.simplex_law.specs.Bases.{IsRow, IsBest}
-use Rattle.simplex_law.specs.Evidence.{IsWide}
-use Rattle.simplex_law.proofs.Arithmetic.{moved_out}
-use Rattle.simplex_law.proofs.Duality.{priced}
-use Rattle.simplex_law.proofs.Sums.{sum-same, sum-times, sum-unit}
+use Rattle.plan_terms.specs.Terms.{MasterColumn, Link, CutLine}
+use Rattle.simplex_law.specs.Terms.{int_sum, dot, unit_vector, ColumnOf, IsRow, IsBest, IsWide}
+use Rattle.simplex_law.proofs.Lemmas.{moved_out, priced, sum-same, sum-times, sum-unit}
 use Rattle.master_law.specs.MasterEvidence.{IsRowsDenominator, FillRows, asked_sum, given_sum, AreWideAmounts, HasWideValue}
 use Rattle.master_law.specs.MasterPrograms.{master_bound, column_given, IsMasterColumn}
 use Rattle.checked_fraction.proofs.Products.{regroup, cancelled, size_times}

@@ -1,21 +1,12 @@
 -- a certificate in lowest terms of which a number is too wide
 use Rattle.std.proofs.Common.{◌≡◌, ℕ, zero, suc, ◌*◌, ◌/◌, ◌<◌, ◌≤◌, ◌^◌, ◌⊎◌, List, length, sym, ap, ◌∙◌, arith, subst, inl, inr, ⊎_elim, unsigned_abs}
-use Rattle.std.specs.Int.{◌∣◌}
-use Rattle.std.proofs.lemmas.Nat.Gcd.{dvd-zero}
-use Rattle.std.proofs.Math.Nat.{mul-div_cancel', dvd-mul_left}
-use Rattle.std.proofs.Math.IntN.{ℤ, pos, ◌+ℤ◌, ◌*ℤ◌, *ℤ_comm, *ℤ-zero, pos-*ℤ-pos}
+use Rattle.net_core.proofs.Library.{◌∣◌, dvd-zero, mul-div_cancel', dvd-mul_left, *ℤ_comm, *ℤ-zero, pos-*ℤ-pos, ints, unsigned_abs-mul}
+use Rattle.std.proofs.Math.IntN.{ℤ, pos, ◌+ℤ◌, ◌*ℤ◌}
 use Rattle.std.specs.Int.Signed.{◌<ℤ◌, ◌≤ℤ◌}
-use Rattle.std.proofs.lemmas.Int.{ints, unsigned_abs-mul}
 use Rattle.module_prices.specs.declared.cheapest.UnitPair.{UnitPair}
-use Rattle.net_core.specs.declared.columns.MasterColumn.{MasterColumn}
-use Rattle.net_core.specs.declared.network.Link.{Link}
-use Rattle.net_core.specs.declared.plan.CutLine.{CutLine}
-use Rattle.plan_terms.specs.Certificates.{CertificateLine, asked, fixed_along, given}
-use Rattle.simplex_law.specs.Sums.{int_sum, dot}
-use Rattle.simplex_law.specs.Programs.{ColumnOf, IsSlack}
-use Rattle.simplex_law.specs.Optima.{IsOptimum}
-use Rattle.simplex_law.proofs.Arithmetic.{moved_out, swap_last, times_nonneg}
-use Rattle.simplex_law.proofs.Sums.{sum-same, sum-times}
+use Rattle.plan_terms.specs.Terms.{MasterColumn, Link, CutLine, CertificateLine, asked, fixed_along, given}
+use Rattle.simplex_law.specs.Terms.{int_sum, dot, ColumnOf, IsSlack, IsOptimum}
+use Rattle.simplex_law.proofs.Lemmas.{moved_out, swap_last, times_nonneg, sum-same, sum-times, sum_grows}
 use Rattle.master_law.specs.BasisLines.{AreLinesOf}
 use Rattle.master_law.specs.MasterEvidence.{FillRows, HasWideValue}
 use Rattle.master_law.specs.MasterPrograms.{master_bound, master_slack, column_given, IsCutColumn, IsMasterColumn}
@@ -24,7 +15,6 @@ use Rattle.master_law.proofs.Shared.{divides_common}
 use Rattle.master_law.proofs.Valued.{amount_is}
 use Rattle.net_core.proofs.Numbers.{positive_factors}
 use Rattle.checked_fraction.proofs.Products.{regroup, cancelled, size_times}
-use Rattle.simplex_law.proofs.Values.{sum_grows}
 
 over_zero : (n : ℕ) → pos 0 <ℤ pos n → 0 < n
 over_zero zero h = absurd (omega (arith, ints, h))

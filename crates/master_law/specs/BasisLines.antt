@@ -1,11 +1,7 @@
 -- the lines of a certificate that hold the cuts of a basis
 use Rattle.std.specs.Prelude.{◌≡◌, ℕ, ◌*◌, ◌+ℤ◌, ◌*ℤ◌, List, pos, slice_index}
-use Rattle.net_core.specs.declared.columns.MasterColumn.{MasterColumn}
-use Rattle.net_core.specs.declared.network.Link.{Link}
-use Rattle.net_core.specs.Sums.{sum_below}
-use Rattle.plan_terms.specs.Certificates.{CertificateLine, price, asked}
-use Rattle.simplex_law.specs.Sums.{int_sum}
-use Rattle.simplex_law.specs.Programs.{ColumnOf}
+use Rattle.plan_terms.specs.Terms.{MasterColumn, Link, sum_below, CertificateLine, price, asked}
+use Rattle.simplex_law.specs.Terms.{int_sum, ColumnOf}
 use Rattle.master_law.specs.MasterPrograms.{column_lengths, column_given}
 
 -- on each link, and in all, the lines ask for what the amounts of the first n columns do

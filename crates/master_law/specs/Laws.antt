@@ -1,18 +1,9 @@
 -- what the best certificate of some cuts rests on
 use Rattle.std.specs.Prelude.{◌≡◌, ℕ, ℤ, ◌*◌, ◌^◌, ◌≤◌, ◌<◌, List, All, Contains, pos, length, slice_index}
 use Rattle.module_prices.specs.declared.cheapest.UnitPair.{UnitPair}
-use Rattle.net_core.specs.declared.columns.MasterColumn.{MasterColumn}
-use Rattle.net_core.specs.declared.network.Link.{Link}
-use Rattle.net_core.specs.declared.plan.CutLine.{CutLine}
-use Rattle.net_core.specs.Cases.{Case}
-use Rattle.net_core.specs.Network.{IsModule}
-use Rattle.plan_terms.specs.Bounds.{IsBound}
-use Rattle.plan_terms.specs.Certificates.{CertificateLine, IsCertificate, IsCut, asked, given, raw_value}
-use Rattle.plan_terms.specs.OwnBounds.{IsOwnBound}
-use Rattle.plan_terms.specs.Violations.{Violates}
+use Rattle.plan_terms.specs.Terms.{MasterColumn, Link, CutLine, Case, IsModule, IsBound, CertificateLine, IsCertificate, IsCut, asked, given, raw_value, IsOwnBound, Violates}
 use Rattle.plan_types.specs.declared.quality.Share.{Share}
-use Rattle.simplex_law.specs.Programs.{ColumnOf}
-use Rattle.simplex_law.specs.Optima.{IsOptimum}
+use Rattle.simplex_law.specs.Terms.{ColumnOf, IsOptimum}
 use Rattle.master_law.specs.BasisLines.{AreLinesOf}
 use Rattle.master_law.specs.LeastShares.{IsLeastShare}
 use Rattle.master_law.specs.MasterPrograms.{master_bound, IsMasterColumn}

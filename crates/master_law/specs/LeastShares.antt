@@ -2,12 +2,9 @@
 use Rattle.std.specs.Prelude.{◌≡◌, ℕ, ℤ, ◌<◌, List, All, pos, length, slice_index}
 use Rattle.std.specs.Int.{◌∣◌}
 use Rattle.module_prices.specs.declared.cheapest.UnitPair.{UnitPair}
-use Rattle.net_core.specs.declared.columns.MasterColumn.{MasterColumn}
-use Rattle.net_core.specs.declared.network.Link.{Link}
-use Rattle.net_core.specs.declared.plan.CutLine.{CutLine}
+use Rattle.plan_terms.specs.Terms.{MasterColumn, Link, CutLine}
 use Rattle.plan_types.specs.declared.quality.Share.{Share}
-use Rattle.simplex_law.specs.Programs.{ColumnOf}
-use Rattle.simplex_law.specs.Bases.{IsBest}
+use Rattle.simplex_law.specs.Terms.{ColumnOf, IsBest}
 use Rattle.master_law.specs.MasterPrograms.{master_bound, IsMasterColumn}
 
 -- a least share of cuts: units and scale are the objective row of a best basis of their master program, in lowest terms

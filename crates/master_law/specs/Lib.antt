@@ -4,3 +4,4 @@ pub mod LeastShares
 pub mod MasterEvidence
 pub mod MasterPrograms
 pub mod UnitPairs
+pub mod Terms

@@ -2,16 +2,8 @@
 use Rattle.std.specs.Prelude.{◌≡◌, ℕ, ℤ, ◌^◌, ◌≤◌, ◌<◌, ◌+ℤ◌, ◌*ℤ◌, ◌⊎◌, List, Contains, pos, length, unsigned_abs}
 use Rattle.std.specs.Int.{◌∣◌}
 use Rattle.module_prices.specs.declared.cheapest.UnitPair.{UnitPair}
-use Rattle.net_core.specs.declared.columns.MasterColumn.{MasterColumn}
-use Rattle.net_core.specs.declared.columns.MasterColumn.TheVariants.{Metric}
-use Rattle.net_core.specs.declared.columns.WideKind.{WideKind}
-use Rattle.net_core.specs.declared.columns.WideKind.TheVariants.{Number, Value}
-use Rattle.net_core.specs.declared.network.Link.{Link}
-use Rattle.net_core.specs.declared.plan.CutLine.{CutLine}
-use Rattle.simplex_law.specs.Sums.{int_sum}
-use Rattle.simplex_law.specs.Programs.{ColumnOf, slack_basis}
-use Rattle.simplex_law.specs.Bases.{IsBest}
-use Rattle.simplex_law.specs.Evidence.{IsWide, IsRowOf, HoldsKind, IsReachedEvidence}
+use Rattle.plan_terms.specs.Terms.{MasterColumn, Metric, WideKind, Number, Value, Link, CutLine}
+use Rattle.simplex_law.specs.Terms.{int_sum, ColumnOf, slack_basis, IsBest, IsWide, IsRowOf, HoldsKind, IsReachedEvidence}
 use Rattle.master_law.specs.MasterPrograms.{master_bound, master_slack, IsMasterColumn, column_given}
 
 -- the right side of a cut of this name is 2 ^ 62 or more

@@ -1,12 +1,9 @@
 -- the program that finds the best certificate of some cuts: the greatest raw value at which no unit's price exceeds its cost
 use Rattle.std.specs.Prelude.{◌≡◌, ℕ, ℤ, ◌*◌, ◌<◌, ◌-ℤ◌, List, [], Contains, pos, length, map, slice_index}
 use Rattle.module_prices.specs.declared.cheapest.UnitPair.{UnitPair}
-use Rattle.net_core.specs.declared.columns.MasterColumn.{MasterColumn}
-use Rattle.net_core.specs.declared.columns.MasterColumn.TheVariants.{LinkSlack, Metric}
-use Rattle.net_core.specs.declared.network.Link.{Link}
-use Rattle.net_core.specs.declared.plan.CutLine.{CutLine}
-use Rattle.plan_terms.specs.Certificates.{fixed_along}
-use Rattle.simplex_law.specs.Programs.{ColumnOf, IsProgramColumn}
+use Rattle.plan_terms.specs.Terms.{MasterColumn, Metric, Link, CutLine, fixed_along}
+use Rattle.net_core.specs.declared.columns.MasterColumn.TheVariants.{LinkSlack}
+use Rattle.simplex_law.specs.Terms.{ColumnOf, IsProgramColumn}
 
 -- two cuts have the same state and lengths
 abbrev pub IsSameCut : CutLine → CutLine → Type 0

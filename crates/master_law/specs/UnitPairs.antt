@@ -1,10 +1,7 @@
 -- the unit pair of each link, and what a share of unit pairs gives and costs
 use Rattle.std.specs.Prelude.{◌≡◌, ℕ, ◌+◌, ◌-◌, ◌*◌, ◌^◌, ◌≤◌, ◌⊎◌, List, [], Some, length, map, sum_by, zip, slice_get}
 use Rattle.module_prices.specs.declared.cheapest.UnitPair.{UnitPair}
-use Rattle.net_core.specs.declared.network.Link.{Link}
-use Rattle.net_core.specs.declared.network.Module.{Module}
-use Rattle.net_core.specs.declared.plan.Caps.{Caps}
-use Rattle.plan_terms.specs.Prices.{IsUnitPair}
+use Rattle.plan_terms.specs.Terms.{Link, Module, Caps, IsUnitPair}
 use Rattle.plan_types.specs.declared.quality.Share.{Share}
 
 -- the unit pair of a link with these modules; 0 and 0 where it has none

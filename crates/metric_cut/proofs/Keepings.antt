@@ -1,20 +1,12 @@
 -- lengths masked, divided and kept
 use Rattle.std.proofs.Common.{◌≡◌, ◌≢◌, ℕ, zero, suc, ◌+◌, ◌*◌, ◌/◌, ◌≤◌, ◌<◌, ◌⊎◌, List, [], ◌∷◌, All, Any, length, get_or, take, ◌++◌, slice_index, slice_set, slice_get, Some, ⊎_elim, inl, inr, refl, sym, ap, ◌∙◌, subst, arith, add-one}
 use Rattle.std.proofs.Math.ListN.{get_or-eq_default}
-use Rattle.std.proofs.Math.Nat.{mul-dvd-mul_right, dvd_of_mul-dvd-mul_right, eq-one_of_dvd-one, div-mul_cancel, zero-dvd}
+use Rattle.net_core.proofs.Library.{mul-dvd-mul_right, dvd_of_mul-dvd-mul_right, eq-one_of_dvd-one, div-mul_cancel, zero-dvd, cases_eq, cases_lt, dvd-zero, get_or_default_zero, slice_get_within, IsGcd, ◌∣◌}
 use Rattle.std.proofs.Math.Seq.{take-suc}
-use Rattle.std.proofs.lemmas.Bool.{cases_eq, cases_lt}
-use Rattle.std.proofs.lemmas.Nat.Gcd.{dvd-zero, le_of_dvd}
-use Rattle.std.proofs.lemmas.Grind.{get_or_default_zero}
+use Rattle.std.proofs.lemmas.Nat.Gcd.{le_of_dvd}
 use Rattle.std.proofs.lemmas.List.{get_or-set_same, get_or-set_other, length-set}
-use Rattle.std.proofs.lemmas.Option.{slice_get_within}
-use Rattle.std.specs.Int.{IsGcd, ◌∣◌}
-use Rattle.net_core.specs.declared.network.Link.{Link}
-use Rattle.net_core.specs.Graphs.{Graph, Survives}
-use Rattle.plan_terms.specs.Bounds.{IsGreatestDivisor}
-use Rattle.plan_terms.specs.Certificates.{AreKept}
-use Rattle.plan_terms.specs.Keeping.{AreZero, Keeps}
-use Rattle.plan_terms.proofs.Bounds.{divisor_both, divisor_one}
+use Rattle.plan_terms.specs.Terms.{Link, Graph, Survives, IsGreatestDivisor, AreKept, AreZero, Keeps}
+use Rattle.plan_terms.proofs.Lemmas.{divisor_both, divisor_one}
 use Rattle.metric_cut.specs.Bounded.{HaveBound}
 use Rattle.metric_cut.specs.inner.Masks.{AreDivided, AreMasked}
 

@@ -1,10 +1,7 @@
 -- the opening cuts, from what the state keeps of two lists of lengths
 use Rattle.std.proofs.Common.{◌≡◌, ℕ, Bool, true, false, List, [], ◌∷◌, Option, None, Some, All, cond, length, map, refl, replicate, ◌==◌}
-use Rattle.std.proofs.lemmas.List.Elements.{All-cons, All-nil}
-use Rattle.std.specs.Cmp.Lexicographic.{pointwise}
-use Rattle.net_core.specs.Graphs.{Graph}
-use Rattle.plan_terms.specs.Openings.{AreOpening, MayKeep, each_once}
-use Rattle.plan_terms.specs.Prices.{ArePriceLengths}
+use Rattle.net_core.proofs.Library.{All-cons, All-nil, pointwise}
+use Rattle.plan_terms.specs.Terms.{Graph, AreOpening, MayKeep, each_once, ArePriceLengths}
 use Rattle.metric_cut.specs.Cuts.{IsCutOf, MayKeepCut}
 use Rattle.metric_cut.specs.declared.cut.Cut.{Cut}
 use Rattle.metric_cut.specs.inner.KeptCuts.{each_cut_once}

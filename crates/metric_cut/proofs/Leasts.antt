@@ -1,11 +1,7 @@
 -- the least of the modules' ratios, module by module and link by link
 use Rattle.std.proofs.Common.{◌≡◌, ◌≢◌, ◌⊎◌, ℕ, ◌*◌, ◌≤◌, ◌<◌, List, [], ◌∷◌, All, Any, Some, get_or, length, slice_get, slice_index, ⊎_elim, refl, ◌∙◌, subst, arith, mul-pos}
-use Rattle.std.proofs.lemmas.Option.{slice_get-get_or, slice_get_within}
-use Rattle.std.proofs.lemmas.List.{get_or_default}
-use Rattle.net_core.specs.declared.network.Link.{Link}
-use Rattle.net_core.specs.declared.network.Module.{Module}
-use Rattle.net_core.specs.Network.{IsModule}
-use Rattle.plan_terms.specs.inner.Ratios.{IsLeastRatio}
+use Rattle.net_core.proofs.Library.{slice_get-get_or, slice_get_within, get_or_default}
+use Rattle.plan_terms.specs.Terms.{Link, Module, IsModule, IsLeastRatio}
 use Rattle.metric_cut.specs.declared.ratio.Ratio.{Ratio}
 use Rattle.metric_cut.specs.Bounded.{HaveBound}
 use Rattle.metric_cut.specs.inner.Ratios.{IsLeastOf, IsRatioOf, IsSmall}

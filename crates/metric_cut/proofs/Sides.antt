@@ -1,12 +1,7 @@
 -- right sides by a table of distances
 use Rattle.std.proofs.Common.{◌≡◌, ℕ, ◌*◌, ◌<◌, List, [], ◌∷◌, Option, None, All, length, map, sum_by, zip, unwrap_or, get_or, slice_index_or, refl, sym, ap, ◌∙◌, subst, arith}
-use Rattle.std.proofs.lemmas.List.{get_or-map, length-map}
-use Rattle.std.proofs.lemmas.List.Sums.{sum_by-cons}
-use Rattle.std.proofs.lemmas.Option.{get_or_from_slice_get, slice_get_within}
-use Rattle.net_core.specs.Demands.{IsDemand}
-use Rattle.net_core.specs.declared.demand.Demand.{Demand}
-use Rattle.plan_terms.specs.Certificates.{IsRight}
-use Rattle.plan_terms.specs.Paths.{IsDistance}
+use Rattle.net_core.proofs.Library.{get_or-map, length-map, sum_by-cons, get_or_from_slice_get, slice_get_within}
+use Rattle.plan_terms.specs.Terms.{IsDemand, Demand, IsRight, IsDistance}
 use Rattle.short_paths.specs.DistanceTables.{AreAllDistances, distance_at}
 use Rattle.short_paths.specs.declared.distance_table.DistanceTable.{DistanceTable}
 use Rattle.metric_cut.specs.inner.Rights.{part_of}

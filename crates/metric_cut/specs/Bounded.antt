@@ -1,6 +1,6 @@
 -- lengths that have a bound of their own
 use Rattle.std.specs.Prelude.{◌≡◌, ◌≢◌, ℕ, ◌<◌, List, [], Any, Some, length, slice_get, slice_index}
-use Rattle.net_core.specs.declared.network.Link.{Link}
+use Rattle.plan_terms.specs.Terms.{Link}
 
 -- lengths of links that have a bound of their own: one per link, one of them positive, and none where a link has no module
 pub record HaveBound (links : List Link) (lengths : List ℕ) : Type 0 where

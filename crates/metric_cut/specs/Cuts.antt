@@ -1,8 +1,6 @@
 -- cuts of a state: lengths that it keeps, with their distances
 use Rattle.std.specs.Prelude.{◌≡◌, ℕ, ◌≤◌, List, Option, None, Some, length}
-use Rattle.net_core.specs.Graphs.{Graph, Joins}
-use Rattle.plan_terms.specs.Certificates.{AreKept}
-use Rattle.plan_terms.specs.Keeping.{AreZero, Keeps}
+use Rattle.plan_terms.specs.Terms.{Graph, Joins, AreKept, AreZero, Keeps}
 use Rattle.short_paths.specs.DistanceTables.{AreAllDistances}
 use Rattle.metric_cut.specs.declared.cut.Cut.{Cut}
 

@@ -1,7 +1,5 @@
 ghost use Rattle.std.specs.Prelude.{◌-◌, ◌*◌, ◌<◌, ◌^◌};
-ghost use Rattle.plan_terms.specs.Bounds.{IsBound, IsLowest};
-ghost use Rattle.plan_terms.specs.Certificates.{fixed_along};
-ghost use Rattle.plan_terms.specs.OwnBounds.{IsMultiplier};
+ghost use Rattle.plan_terms.specs.Terms.{IsBound, IsLowest, fixed_along, IsMultiplier};
 ghost use Rattle.metric_cut.specs.Bounded.{HaveBound};
 
 use crate::multiplier::{OwnMultiplier, greatest_multiplier};

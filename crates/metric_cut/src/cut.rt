@@ -1,10 +1,5 @@
 ghost use Rattle.std.specs.Prelude.{◌≡◌, ◌+◌, ◌*◌, ◌≤◌, ◌<◌, ◌^◌, ◌↔◌, None, Ok, IfOk, IsErrOf, length, sum_by};
-ghost use Rattle.net_core.specs.Demands.{AreDemands};
-ghost use Rattle.net_core.specs.Graphs.{Graph, Joins};
-ghost use Rattle.net_core.specs.Views.{graph, graph_of};
-ghost use Rattle.plan_terms.specs.Certificates.{IsRight};
-ghost use Rattle.plan_terms.specs.Keeping.{AreZero, Keeps};
-ghost use Rattle.plan_terms.specs.Paths.{IsDistance};
+ghost use Rattle.plan_terms.specs.Terms.{AreDemands, Graph, Joins, graph, graph_of, IsRight, AreZero, Keeps, IsDistance};
 ghost use Rattle.metric_cut.specs.Bounded.{HaveBound};
 ghost use Rattle.metric_cut.specs.Cuts.{IsCutOf, MayKeepCut};
 ghost use Rattle.metric_cut.specs.inner.Rights.{part_of};

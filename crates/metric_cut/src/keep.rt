@@ -1,7 +1,5 @@
 ghost use Rattle.std.specs.Prelude.{◌≡◌, ◌<◌, ◌↔◌, IsTrue, IsFalse, length};
-ghost use Rattle.net_core.specs.Views.{graph_of};
-ghost use Rattle.plan_terms.specs.Bounds.{IsGreatestDivisor};
-ghost use Rattle.plan_terms.specs.Keeping.{AreZero, Keeps};
+ghost use Rattle.plan_terms.specs.Terms.{graph_of, IsGreatestDivisor, AreZero, Keeps};
 ghost use Rattle.metric_cut.specs.inner.Masks.{AreDivided, AreMasked};
 
 use checked_fraction::gcd;

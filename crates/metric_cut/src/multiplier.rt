@@ -1,6 +1,5 @@
 ghost use Rattle.std.specs.Prelude.{◌<◌, ◌^◌, All};
-ghost use Rattle.net_core.specs.Network.{IsModule};
-ghost use Rattle.plan_terms.specs.OwnBounds.{IsMultiplier};
+ghost use Rattle.plan_terms.specs.Terms.{IsModule, IsMultiplier};
 ghost use Rattle.metric_cut.specs.Bounded.{HaveBound};
 
 use crate::ratio::least_ratio;

@@ -1,6 +1,5 @@
 ghost use Rattle.std.specs.Prelude.{◌≡◌, ◌-◌, ◌≤◌, ◌<◌, ◌^◌, All, length};
-ghost use Rattle.plan_terms.specs.Certificates.{fixed_along};
-ghost use Rattle.plan_terms.specs.OwnBounds.{IsOwnBound};
+ghost use Rattle.plan_terms.specs.Terms.{fixed_along, IsOwnBound};
 ghost use Rattle.metric_cut.specs.Bounded.{HaveBound};
 
 use crate::multiplier::greatest_multiplier;

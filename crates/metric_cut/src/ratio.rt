@@ -1,6 +1,5 @@
 ghost use Rattle.std.specs.Prelude.{◌≡◌, ℕ, ◌*◌, ◌≤◌, ◌<◌, ◌^◌, ◌⊎◌, All, Any};
-ghost use Rattle.net_core.specs.Network.{IsModule};
-ghost use Rattle.plan_terms.specs.inner.Ratios.{IsLeastRatio};
+ghost use Rattle.plan_terms.specs.Terms.{IsModule, IsLeastRatio};
 ghost use Rattle.metric_cut.specs.Bounded.{HaveBound};
 ghost use Rattle.metric_cut.specs.inner.Ratios.{IsLeastOf, IsNoGreater, IsRatioOf, IsSmall};
 

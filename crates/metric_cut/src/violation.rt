@@ -1,5 +1,5 @@
 ghost use Rattle.std.specs.Prelude.{◌≡◌, ◌*◌, ◌≤◌, ◌<◌, ◌^◌, ◌↔◌, IsTrue, All, length, sum_by, zip};
-ghost use Rattle.plan_terms.specs.Violations.{Violates};
+ghost use Rattle.plan_terms.specs.Terms.{Violates};
 
 use net_core::{Caps, CutLine};
 

@@ -1,26 +1,15 @@
 -- The reading of a failure list takes exactly the texts of failure lists.
-use Rattle.std.proofs.Common.{◌≡◌, ◌≢◌, ℕ, ◌<◌, ◌≤◌, Bool, true, false, cond, List, [], ◌∷◌, ◌++◌, length, get_or, All, AllPairs, Result, Ok, Err, IfOk, IfErr, refl, sym, ap, subst, ◌∙◌, append-nil}
-use Rattle.std.specs.Prelude.{flat_map, codes}
-use Rattle.std.proofs.lemmas.Option.{slice_get-get_or}
-use Rattle.net_core.specs.Network.{IsNetwork}
-use Rattle.net_core.specs.States.{AreStates}
-use Rattle.net_core.specs.Tests.{are_same}
+use Rattle.std.proofs.Common.{◌≡◌, ◌≢◌, ℕ, ◌<◌, ◌≤◌, Bool, true, false, cond, List, [], ◌∷◌, ◌++◌, length, get_or, All, AllPairs, Result, Ok, Err, IfOk, IfErr, refl, sym, ap, subst, ◌∙◌, append-nil, flat_map, codes}
+use Rattle.net_core.proofs.Library.{slice_get-get_or}
+use Rattle.net_core.specs.Terms.{IsNetwork, AreStates, are_same}
 use Rattle.net_core.specs.declared.ids.LinkId.{LinkId}
 use Rattle.net_core.specs.declared.network.Link.{Link}
 use Rattle.net_core.specs.declared.states.Listed.{Listed}
 use Rattle.net_core.specs.declared.states.States.{States}
-use Rattle.snd_tokens.specs.Header.{first_line, trimmed}
-use Rattle.snd_tokens.specs.Lexemes.{Text, EndAt}
-use Rattle.text_kit.specs.Answers.{AnswersAs, ReadsAllAs}
-use Rattle.text_kit.specs.Files.{IsNotTooEarly, body}
-use Rattle.text_kit.specs.Items.{ComeAfter, Item, Verbatim, Opening, Closing}
-use Rattle.text_kit.specs.Reading.{word_at, Parenthesis, no_fault, not_empty}
+use Rattle.snd_tokens.specs.Terms.{first_line, trimmed, Text, EndAt}
+use Rattle.text_kit.specs.Terms.{AnswersAs, ReadsAllAs, IsNotTooEarly, body, ComeAfter, Item, Verbatim, Opening, Closing, word_at, Parenthesis, no_fault, not_empty}
 use Rattle.text_kit.specs.declared.refusal.Refusal.{Refusal}
-use Rattle.text_kit.proofs.After.{all_after, after_all, after_as, after_both}
-use Rattle.text_kit.proofs.NameLaws.{IsNew, are_new, lawful_new_name, lawful_place, new_are}
-use Rattle.text_kit.proofs.Files.{answer_found, answer_only, answer_first, file_read}
-use Rattle.text_kit.proofs.Lawful.{AnyText, IsEnd, Lawful, lawful_as, lawful_give, lawful_list, lawful_open, lawful_some, lawful_then, lawful_whole, lawful_word}
-use Rattle.text_kit.proofs.Online.{IsOnline, TakesSome, online_give, online_list, online_open, online_then, online_whole, online_word, takes_some}
+use Rattle.text_kit.proofs.Lemmas.{all_after, after_all, after_as, after_both, IsNew, are_new, lawful_new_name, lawful_place, new_are, answer_found, answer_only, answer_first, file_read, AnyText, IsEnd, Lawful, lawful_as, lawful_give, lawful_list, lawful_open, lawful_some, lawful_then, lawful_whole, lawful_word, IsOnline, TakesSome, online_give, online_list, online_open, online_then, online_whole, online_word, takes_some}
 use Rattle.model_reader.specs.declared.failures.FailureList.{FailureList}
 use Rattle.model_reader.specs.declared.failures.FailureList.TheVariants.{OneByOne, EverySingleLink}
 use Rattle.model_reader.specs.declared.failures.FailuresKind.{FailuresKind}

@@ -2,14 +2,12 @@
 use Rattle.std.proofs.Common.{◌≡◌, ◌≢◌, ℕ, zero, suc, ◌+◌, ◌<◌, ◌≤◌, List, [], ◌∷◌, ◌++◌, length, get_or, take, All, AllPairs, Option, None, Some, refl, sym, ap, subst, ◌∙◌, arith, add-one}
 use Rattle.std.proofs.Math.Seq.{take-suc}
 use Rattle.std.proofs.lemmas.List.{length-take}
-use Rattle.std.proofs.Math.Logic.{∥∥₁_elim}
-use Rattle.std.proofs.lemmas.List.Elements.{All-cons, All-nil}
+use Rattle.net_core.proofs.Library.{∥∥₁_elim, All-cons, All-nil}
 use Rattle.net_core.specs.declared.ids.LinkId.{LinkId}
 use Rattle.net_core.specs.declared.network.Link.{Link}
 use Rattle.net_core.specs.declared.states.Listed.{Listed}
 use Rattle.net_core.specs.declared.states.StatesFault.{StatesFault}
-use Rattle.net_core.specs.Network.{IsNetwork}
-use Rattle.net_core.specs.States.{AreStates, states_fault}
+use Rattle.net_core.specs.Terms.{IsNetwork, AreStates, states_fault}
 use Rattle.model_reader.specs.Failures.{single, single_states, singles_from}
 use Rattle.net_core.proofs.Accepted.{states_accepted}
 use Rattle.net_core.proofs.Networks.{few_links}

@@ -1,14 +1,11 @@
 -- Keys and their words.
-use Rattle.std.proofs.Common.{◌≡◌, ℕ, ◌<◌, Bool, true, false, cond, not, ◌&&◌, List, [], ◌∷◌, get_or, Option, None, Some, Result, Ok, Err, refl, sym, ap, subst, ◌∙◌, arith, ⊎_elim}
-use Rattle.std.specs.Prelude.{option_map}
-use Rattle.std.specs.List.{list_any}
-use Rattle.std.proofs.lemmas.Bool.{cases_Bool}
+use Rattle.std.proofs.Common.{◌≡◌, ℕ, ◌<◌, Bool, true, false, cond, not, ◌&&◌, List, [], ◌∷◌, get_or, Option, None, Some, Result, Ok, Err, refl, sym, ap, subst, ◌∙◌, arith, ⊎_elim, option_map}
+use Rattle.net_core.proofs.Library.{list_any, cases_Bool}
 use Rattle.std.proofs.lemmas.List.Folds.{Any-from_list_any, list_any-from_Any}
-use Rattle.net_core.specs.Tests.{are_same}
+use Rattle.net_core.specs.Terms.{are_same}
 use Rattle.net_core.proofs.Checks.{none_passes, not_true, same_is}
-use Rattle.text_kit.specs.Items.{ComeAfter}
-use Rattle.text_kit.proofs.After.{after_differ, differ_after}
-use Rattle.text_kit.proofs.Lawful.{is_same}
+use Rattle.text_kit.specs.Terms.{ComeAfter}
+use Rattle.text_kit.proofs.Lemmas.{after_differ, differ_after, is_same}
 use Rattle.model_reader.specs.declared.model.ModelKey.{ModelKey}
 use Rattle.model_reader.specs.declared.model.ModelKey.TheVariants.{Demand, Link, LinkCapacity, FixedCharge, Routing, AdmissiblePath, HopLimit, Survivability}
 use Rattle.model_reader.specs.declared.model.ModelKind.{ModelKind}

@@ -1,17 +1,10 @@
 -- The reading of a model file takes exactly the texts of models.
-use Rattle.std.proofs.Common.{◌≡◌, ℕ, true, false, List, [], ◌∷◌, Result, Ok, IfOk, IfErr, refl, append-nil}
-use Rattle.std.specs.Prelude.{codes, flat_map}
-use Rattle.net_core.specs.Tests.{are_same}
-use Rattle.snd_tokens.specs.Header.{first_line, trimmed}
-use Rattle.snd_tokens.specs.Lexemes.{Text, EndAt}
-use Rattle.text_kit.specs.Answers.{AnswersAs, ReadsAllAs}
-use Rattle.text_kit.specs.Files.{IsNotTooEarly, body}
-use Rattle.text_kit.specs.Items.{Verbatim}
-use Rattle.text_kit.specs.Reading.{word_at, expected, TheEnd}
+use Rattle.std.proofs.Common.{◌≡◌, ℕ, true, false, List, [], ◌∷◌, Result, Ok, IfOk, IfErr, refl, append-nil, codes, flat_map}
+use Rattle.net_core.specs.Terms.{are_same}
+use Rattle.snd_tokens.specs.Terms.{first_line, trimmed, Text, EndAt}
+use Rattle.text_kit.specs.Terms.{AnswersAs, ReadsAllAs, IsNotTooEarly, body, Verbatim, word_at, expected, TheEnd}
 use Rattle.text_kit.specs.declared.refusal.Refusal.{Refusal}
-use Rattle.text_kit.proofs.Files.{answer_found, answer_only, answer_first, file_read}
-use Rattle.text_kit.proofs.Lawful.{AnyText, IsEnd, Lawful, lawful_as, lawful_key, lawful_list, lawful_then, lawful_word}
-use Rattle.text_kit.proofs.Online.{IsOnline, TakesSome, online_list, online_then, online_word, takes_some}
+use Rattle.text_kit.proofs.Lemmas.{answer_found, answer_only, answer_first, file_read, AnyText, IsEnd, Lawful, lawful_as, lawful_key, lawful_list, lawful_then, lawful_word, IsOnline, TakesSome, online_list, online_then, online_word, takes_some}
 use Rattle.model_reader.specs.declared.model.Model.{Model}
 use Rattle.model_reader.specs.declared.model.ModelKey.{ModelKey}
 use Rattle.model_reader.specs.declared.model.ModelKind.{ModelKind}

@@ -4,11 +4,10 @@ use Rattle.std.specs.Option.{option_map_or}
 use Rattle.net_core.specs.declared.ids.LinkId.{LinkId}
 use Rattle.net_core.specs.declared.network.Link.{Link}
 use Rattle.net_core.specs.declared.states.Listed.{Listed}
-use Rattle.net_core.specs.States.{AreStates}
+use Rattle.net_core.specs.Terms.{AreStates}
 use Rattle.model_reader.specs.declared.failures.FailureList.{FailureList}
 use Rattle.model_reader.specs.declared.failures.FailureList.TheVariants.{OneByOne, EverySingleLink}
-use Rattle.text_kit.specs.Files.{SpellsAs}
-use Rattle.text_kit.specs.Items.{Item, Verbatim, Opening, Closing}
+use Rattle.text_kit.specs.Terms.{SpellsAs, Item, Verbatim, Opening, Closing}
 
 -- the first line of a failure list
 abbrev pub failures_header : List ℕ

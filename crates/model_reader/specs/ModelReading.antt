@@ -1,8 +1,7 @@
 -- Reading a model file from left to right: the tests of its words, and their order.
 use Rattle.std.specs.Prelude.{ℕ, Bool, cond, not, ◌&&◌, if◌then◌else◌, List, [], ◌∷◌, Option, Some, None, option_map, Result, Ok, Err, codes}
-use Rattle.net_core.specs.Tests.{are_same, is_named}
-use Rattle.text_kit.specs.Files.{file_at}
-use Rattle.text_kit.specs.Reading.{Read, Reading, ◌>>=◌, word_at, expected, TheEnd, list_at, mapped}
+use Rattle.net_core.specs.Terms.{are_same, is_named}
+use Rattle.text_kit.specs.Terms.{file_at, Read, Reading, ◌>>=◌, word_at, expected, TheEnd, list_at, mapped}
 use Rattle.model_reader.specs.declared.model.Model.{Model}
 use Rattle.model_reader.specs.declared.model.ModelKey.{ModelKey}
 use Rattle.model_reader.specs.declared.model.ModelKey.TheVariants as aspects

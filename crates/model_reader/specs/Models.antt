@@ -1,8 +1,7 @@
 -- the grammar of a model file: eight keys, each with a value
 use Rattle.std.specs.Prelude.{◌≡◌, ◌≢◌, ℕ, Bool, true, false, List, [], ◌∷◌, AllPairs, Any, flat_map, codes}
 use Rattle.std.specs.List.{list_any}
-use Rattle.text_kit.specs.Files.{SpellsAs}
-use Rattle.text_kit.specs.Items.{Item, Verbatim}
+use Rattle.text_kit.specs.Terms.{SpellsAs, Item, Verbatim}
 use Rattle.model_reader.specs.declared.model.Model.{Model}
 use Rattle.model_reader.specs.declared.model.ModelKey.{ModelKey}
 use Rattle.model_reader.specs.declared.model.ModelKey.TheVariants.{Demand, Link, LinkCapacity, FixedCharge, Routing, AdmissiblePath, HopLimit, Survivability}

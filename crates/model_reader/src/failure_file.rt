@@ -1,9 +1,7 @@
 ghost use Rattle.std.specs.Prelude.{◌≡◌, ◌≤◌, length, List, IfOk, IfErr};
 ghost use Rattle.net_core.specs.declared.states.Listed.{Listed as State};
-ghost use Rattle.snd_tokens.specs.Lexemes.{left};
-ghost use Rattle.text_kit.specs.Answers.{AnswersAs, ReadsAllAs, ReadsAs};
-ghost use Rattle.text_kit.specs.Files.{IsNotTooEarly};
-ghost use Rattle.text_kit.specs.Reading.{word_at};
+ghost use Rattle.snd_tokens.specs.Terms.{left};
+ghost use Rattle.text_kit.specs.Terms.{AnswersAs, ReadsAllAs, ReadsAs, IsNotTooEarly, word_at};
 ghost use Rattle.model_reader.specs.Failures.{IsListInForm, SpellsFailures, states_of};
 ghost use Rattle.model_reader.specs.FailuresReading.{failure_list_at, failures_at, failures_of, is_list};
 

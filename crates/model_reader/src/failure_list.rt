@@ -1,9 +1,7 @@
 ghost use Rattle.std.specs.Prelude.{◌≡◌, ◌≤◌, ◌<◌, [], None, length, position, IsTrue, IfOk, Ok};
-ghost use Rattle.net_core.specs.Tests.{are_same, is_named};
-ghost use Rattle.snd_tokens.specs.Lexemes.{left, size};
-ghost use Rattle.text_kit.specs.Answers.{ReadsAs, TakesElement};
-ghost use Rattle.text_kit.specs.Reading.{sound, word_at};
-ghost use Rattle.text_kit.specs.Names.{named_place, new_name};
+ghost use Rattle.net_core.specs.Terms.{are_same, is_named};
+ghost use Rattle.snd_tokens.specs.Terms.{left, size};
+ghost use Rattle.text_kit.specs.Terms.{ReadsAs, TakesElement, sound, word_at, named_place, new_name};
 ghost use Rattle.model_reader.specs.FailuresReading.{failing_link_at, links_at, state_at, states_at};
 
 use crate::failures::{FailuresKind, FailuresRefusal};

@@ -1,5 +1,5 @@
 ghost use Rattle.std.specs.Prelude.{◌≡◌, ◌≤◌, [], ◌∷◌, length, IfOk};
-ghost use Rattle.net_core.specs.States.{AreStates};
+ghost use Rattle.net_core.specs.Terms.{AreStates};
 ghost use Rattle.model_reader.specs.Failures.{single, single_states};
 
 use net_core::{Copied, Link, LinkId, List, Listed, Network, NoMemory, States};

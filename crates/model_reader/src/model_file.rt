@@ -1,10 +1,8 @@
 ghost use Rattle.std.specs.Prelude.{◌≡◌, ◌<◌, [], IsTrue, IfOk, IfErr, Ok, not};
 ghost use Rattle.std.specs.List.{list_any};
-ghost use Rattle.net_core.specs.Tests.{are_same};
-ghost use Rattle.snd_tokens.specs.Lexemes.{left, size};
-ghost use Rattle.text_kit.specs.Answers.{AnswersAs, ReadsAllAs, ReadsAs, TakesElement};
-ghost use Rattle.text_kit.specs.Files.{IsNotTooEarly};
-ghost use Rattle.text_kit.specs.Reading.{word_at};
+ghost use Rattle.net_core.specs.Terms.{are_same};
+ghost use Rattle.snd_tokens.specs.Terms.{left, size};
+ghost use Rattle.text_kit.specs.Terms.{AnswersAs, ReadsAllAs, ReadsAs, TakesElement, IsNotTooEarly, word_at};
 ghost use Rattle.model_reader.specs.declared.model.Model.{Model as Mod};
 ghost use Rattle.model_reader.specs.Models.{SpellsModel, asks_to_charge, asks_to_reconfigure, key_of, key_word, model_of_settings, plain_word, value_word};
 ghost use Rattle.model_reader.specs.ModelReading.{all_keys, first_key, has_key, is_setting, key_after, missing, model_of, setting_at, settings_at, value_of};

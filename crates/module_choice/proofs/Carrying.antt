@@ -1,27 +1,8 @@
 -- from the routings of states to what the links carry
 use Rattle.std.proofs.Common.{◌≡◌, ℕ, zero, suc, ◌+◌, ◌-◌, ◌*◌, ◌^◌, ◌<◌, ◌≤◌, ◌==◌, ◌||◌, ◌⊎◌, Bool, true, false, cond, if◌then◌else◌, List, [], ◌∷◌, ◌++◌, All, AllPairs, Some, get_or, inl, inr, length, length-append, max, refl, replicate, sym, ◌∙◌, ap, subst, arith, slice_get, sum_by, ⊎_elim, eqb, eqb-true}
-use Rattle.std.proofs.lemmas.List.{get_or-replicate, length-replicate}
-use Rattle.std.proofs.lemmas.List.Sums.{sum_by-cons}
-use Rattle.std.proofs.lemmas.Bool.{cases_Bool, cases_lt, false≢true}
-use Rattle.std.proofs.lemmas.Option.{get_or_from_slice_get, slice_get_within}
-use Rattle.std.proofs.Math.Logic.{∥∥₁_elim}
-use Rattle.std.proofs.Props.{props}
-use Rattle.net_core.specs.Demands.{AreDemands, IsDemand}
-use Rattle.net_core.specs.Network.{IsLink, IsNetwork}
-use Rattle.net_core.specs.States.{names_link}
-use Rattle.net_core.specs.declared.demand.Demand.{Demand}
-use Rattle.net_core.specs.declared.ids.LinkId.{LinkId}
-use Rattle.net_core.specs.declared.network.Link.{Link}
-use Rattle.net_core.specs.declared.plan.Flow.{Flow}
-use Rattle.net_core.specs.declared.plan.Routing.{Routing}
-use Rattle.net_core.specs.Cases.{Case, graph_in}
-use Rattle.net_core.specs.Graphs.{Graph, Joins, Survives}
-use Rattle.plan_terms.specs.Fallbacks.{IsLeastFlow, IsLeastRouting, peak}
-use Rattle.plan_terms.specs.Flows.{IsFlow, load}
-use Rattle.plan_terms.specs.Paths.{Leads}
-use Rattle.plan_terms.proofs.Distinct.{DistinctLinks, path_links_differ, path_links_known}
-use Rattle.plan_terms.proofs.Few.{path_few}
-use Rattle.plan_terms.proofs.Joining.{joins_within}
+use Rattle.net_core.proofs.Library.{get_or-replicate, length-replicate, sum_by-cons, cases_Bool, cases_lt, false≢true, get_or_from_slice_get, slice_get_within, ∥∥₁_elim, props}
+use Rattle.plan_terms.specs.Terms.{AreDemands, IsDemand, IsLink, IsNetwork, names_link, Demand, LinkId, Link, Flow, Routing, Case, graph_in, Graph, Joins, Survives, IsLeastFlow, IsLeastRouting, peak, IsFlow, load, Leads}
+use Rattle.plan_terms.proofs.Lemmas.{DistinctLinks, path_links_differ, path_links_known, path_few, joins_within}
 use Rattle.module_choice.specs.inner.Routes.{AreRouted, times, weight}
 use Rattle.module_choice.proofs.Numbers.{one_if}
 

@@ -1,21 +1,8 @@
 -- the fallback plan from its routings and its counts
 use Rattle.std.proofs.Common.{◌≡◌, ◌≢◌, ℕ, zero, suc, ◌+◌, ◌-◌, ◌*◌, ◌^◌, ◌<◌, ◌≤◌, ◌==◌, cond, if◌then◌else◌, List, [], ◌∷◌, All, AllPairs, Any, Some, get_or, length, refl, sym, ◌∙◌, ap, subst, arith, slice_get, slice_index, ⊎_elim}
-use Rattle.std.proofs.lemmas.List.Sums.{sum_by-cons}
-use Rattle.std.proofs.lemmas.List.Elements.{All-cons, All-nil}
-use Rattle.std.proofs.lemmas.Bool.{cases_eq, cases_lt, eq-eqb, ne_eqb}
-use Rattle.std.proofs.lemmas.Option.{slice_get_within}
-use Rattle.net_core.specs.Network.{IsLink, IsModule, IsNetwork}
-use Rattle.net_core.specs.declared.demand.Demand.{Demand}
-use Rattle.net_core.specs.declared.network.Link.{Link}
-use Rattle.net_core.specs.declared.plan.Flow.{Flow}
-use Rattle.net_core.specs.declared.plan.Routing.{Routing}
-use Rattle.net_core.specs.Cases.{Case, graph_in}
-use Rattle.net_core.specs.Graphs.{Joins}
-use Rattle.plan_terms.specs.Capacities.{AreCounts, AreWithinLimits, capacities, modules_capacity, total_cost}
-use Rattle.plan_terms.specs.Fallbacks.{IsFallback, IsLeastRouting, peak, raised}
-use Rattle.plan_terms.specs.Flows.{Carries, load, sent}
-use Rattle.plan_terms.specs.Covers.{CoverLoads, Covers}
-use Rattle.plan_terms.specs.Prices.{ArePriceLengths}
+use Rattle.net_core.proofs.Library.{sum_by-cons, All-cons, All-nil, cases_eq, cases_lt, slice_get_within}
+use Rattle.std.proofs.lemmas.Bool.{eq-eqb, ne_eqb}
+use Rattle.plan_terms.specs.Terms.{IsLink, IsModule, IsNetwork, Demand, Link, Flow, Routing, Case, graph_in, Joins, AreCounts, AreWithinLimits, capacities, modules_capacity, total_cost, IsFallback, IsLeastRouting, peak, raised, Carries, load, sent, CoverLoads, Covers, ArePriceLengths}
 use Rattle.module_choice.specs.inner.Routes.{AreCovered, AreRouted}
 use Rattle.module_choice.proofs.Carrying.{least_flows, load_none, network_links, peak_above}
 use Rattle.net_core.proofs.Lists.{all_at, get_some}

@@ -1,13 +1,8 @@
 -- tables of least costs: one entry more, and counts that are read from a table
 use Rattle.std.proofs.Common.{◌≡◌, ℕ, zero, suc, ◌+◌, ◌-◌, ◌*◌, ◌^◌, ◌<◌, ◌≤◌, ◌⊎◌, List, [], ◌∷◌, ◌++◌, All, Some, get_or, set, replicate, length, length-append, refl, sym, ◌∙◌, ap, subst, arith, slice_get, ⊎_elim, get_or-set_same, get_or-set_other}
-use Rattle.std.proofs.lemmas.List.{get_or-replicate, length-replicate}
+use Rattle.net_core.proofs.Library.{get_or-replicate, length-replicate, cases_eq, slice_get_within, slice_get-get_or}
 use Rattle.std.proofs.Math.ListN.{length-set}
-use Rattle.std.proofs.lemmas.Bool.{cases_eq}
-use Rattle.std.proofs.lemmas.Option.{slice_get_within, slice_get-get_or}
-use Rattle.net_core.specs.declared.network.Module.{Module}
-use Rattle.net_core.specs.Network.{IsModule}
-use Rattle.plan_terms.specs.Capacities.{modules_capacity, modules_cost}
-use Rattle.plan_terms.specs.Covers.{Reaches}
+use Rattle.plan_terms.specs.Terms.{Module, IsModule, modules_capacity, modules_cost, Reaches}
 use Rattle.module_choice.specs.declared.tables.Entry.{Entry}
 use Rattle.module_choice.specs.inner.Tables.{AreLeastCosts, AreTaken, IsLeastCost, IsNextEntry, IsOneMore}
 use Rattle.module_choice.proofs.Carrying.{get_cases}

@@ -1,16 +1,8 @@
 -- one demand after another gets its flow
 use Rattle.std.proofs.Common.{◌≡◌, ℕ, ◌+◌, ◌<◌, ◌≤◌, List, [], ◌∷◌, ◌++◌, All, Any, Some, length, length-append, refl, sym, ◌∙◌, ap, subst, arith, slice_get, sum_by, take, ⊎_elim}
-use Rattle.std.proofs.lemmas.List.{get_or_append_left, take_all}
-use Rattle.std.proofs.lemmas.List.Sums.{sum_by-append, sum_by-cons, sum_by_more}
-use Rattle.std.proofs.lemmas.List.Elements.{All-nil, All-push}
-use Rattle.std.proofs.lemmas.List.Quantifiers.{Any-push, all_pairs_push}
-use Rattle.std.proofs.lemmas.Bool.{cases_eq}
-use Rattle.std.proofs.lemmas.Option.{get_or_from_slice_get, slice_get_within}
-use Rattle.net_core.specs.declared.demand.Demand.{Demand}
-use Rattle.net_core.specs.declared.ids.LinkId.{LinkId}
-use Rattle.net_core.specs.declared.plan.Flow.{Flow}
-use Rattle.plan_terms.specs.Fallbacks.{IsLeastFlow, IsLeastRouting}
-use Rattle.plan_terms.specs.LeastPaths.{IsLeastPath}
+use Rattle.net_core.proofs.Library.{get_or_append_left, sum_by-append, sum_by-cons, sum_by_more, All-nil, All-push, Any-push, all_pairs_push, cases_eq, get_or_from_slice_get, slice_get_within}
+use Rattle.std.proofs.lemmas.List.{take_all}
+use Rattle.plan_terms.specs.Terms.{Demand, LinkId, Flow, IsLeastFlow, IsLeastRouting, IsLeastPath}
 use Rattle.module_choice.specs.inner.Routes.{AreLeastFlows, TakesDemand}
 
 any_before : {X : Type 0} (P : X → Type 0) (xs : List X) (x : X) → Any P xs → Any P (xs ++ x ∷ [])

@@ -1,11 +1,8 @@
 -- what a link's setup adds to the cost of counts
 use Rattle.std.proofs.Common.{◌≡◌, ℕ, zero, suc, ◌+◌, ◌<◌, ◌≤◌, ◌||◌, Bool, true, false, if◌then◌else◌, List, [], ◌∷◌, All, refl, ap, arith, ⊎_elim}
-use Rattle.std.proofs.lemmas.Bool.{cases_lt, lt-ltb}
-use Rattle.std.proofs.lemmas.List.Elements.{All-head, All-tail}
-use Rattle.net_core.specs.declared.network.Link.{Link}
-use Rattle.net_core.specs.declared.network.Module.{Module}
-use Rattle.plan_terms.specs.Capacities.{installs, link_cost, modules_capacity, modules_cost}
-use Rattle.plan_terms.specs.Covers.{Covers, MayCover, Reaches}
+use Rattle.net_core.proofs.Library.{cases_lt, All-head, All-tail}
+use Rattle.std.proofs.lemmas.Bool.{lt-ltb}
+use Rattle.plan_terms.specs.Terms.{Link, Module, installs, link_cost, modules_capacity, modules_cost, Covers, MayCover, Reaches}
 use Rattle.module_choice.specs.Coverings.{IsCovered, IsCovering}
 use Rattle.module_choice.specs.inner.Cheapest.{AreCheapest}
 use Rattle.module_choice.proofs.Choices.{value-cons}

@@ -1,19 +1,10 @@
 -- capacities in steps of their greatest common divisor, and covers by a table
 use Rattle.std.proofs.Common.{◌≡◌, ◌≢◌, ℕ, zero, suc, ◌+◌, ◌*◌, ◌^◌, ◌/◌, ◌<◌, ◌≤◌, List, [], ◌∷◌, ◌++◌, All, Some, add-one, ap, arith, get_or, inl, length, map, refl, slice_get, subst, sym, take, ◌∙◌, ⊎_elim}
-use Rattle.std.specs.Int.{◌∣◌}
-use Rattle.std.specs.List.{AllByRecursion}
-use Rattle.std.proofs.Math.Nat.{le_of_dvd, mul-div-le, mul-div_cancel', mul-le-mul_left}
+use Rattle.net_core.proofs.Library.{◌∣◌, AllByRecursion, le_of_dvd, mul-div_cancel', cases_eq, cases_lt, map-append, All-cons, All-from_recursion, All-nil, recursion_from_All, le-div}
+use Rattle.std.proofs.Math.Nat.{mul-div-le, mul-le-mul_left}
 use Rattle.std.proofs.Math.Seq.{take-suc}
-use Rattle.std.proofs.lemmas.Bool.{cases_eq, cases_lt}
-use Rattle.std.proofs.lemmas.List.{map-append}
-use Rattle.std.proofs.lemmas.List.Elements.{All-cons, All-from_recursion, All-nil, recursion_from_All}
-use Rattle.std.proofs.lemmas.Nat.{le-div}
-use Rattle.net_core.specs.declared.network.Module.{Module}
-use Rattle.net_core.specs.Network.{IsModule}
-use Rattle.plan_terms.specs.Bounds.{IsGreatestDivisor}
-use Rattle.plan_terms.specs.Capacities.{modules_capacity, modules_cost}
-use Rattle.plan_terms.specs.Covers.{IsFewSteps, Reaches}
-use Rattle.plan_terms.proofs.Bounds.{divisor_limit, divisor_unique}
+use Rattle.plan_terms.specs.Terms.{Module, IsModule, IsGreatestDivisor, modules_capacity, modules_cost, IsFewSteps, Reaches}
+use Rattle.plan_terms.proofs.Lemmas.{divisor_limit, divisor_unique}
 use Rattle.module_choice.specs.declared.tables.Entry.{Entry}
 use Rattle.module_choice.specs.declared.tables.Table.{Table}
 use Rattle.module_choice.specs.inner.Cheapest.{AreCheapest}

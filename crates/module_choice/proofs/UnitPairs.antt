@@ -1,14 +1,9 @@
 -- unit pairs are one, and no greater than the module that they come from
-use Rattle.std.proofs.Common.{ℕ, pos, ◌^◌, ◌≡◌, ◌*◌, ◌<◌, ◌≤◌, List, unsigned_abs, ap, subst, arith}
-use Rattle.std.proofs.lemmas.Int.{ints}
-use Rattle.std.proofs.Math.Nat.{le_of_mul-le-mul_left}
-use Rattle.net_core.specs.Network.{IsModule}
-use Rattle.net_core.specs.declared.network.Module.{Module}
+use Rattle.std.proofs.Common.{ℕ, pos, ◌^◌, ◌≡◌, ◌*◌, ◌<◌, ◌≤◌, List, unsigned_abs, ap, subst, arith, All}
+use Rattle.net_core.proofs.Library.{ints, le_of_mul-le-mul_left}
+use Rattle.plan_terms.specs.Terms.{IsModule, Module, IsLowest, HasLeastUnitCost, IsUnitPair}
 use Rattle.checked_fraction.proofs.Once.{reduced_once}
-use Rattle.plan_terms.specs.Bounds.{IsLowest}
-use Rattle.plan_terms.specs.Prices.{HasLeastUnitCost, IsUnitPair}
 use Rattle.module_prices.proofs.UnitCosts.{cheapest_sound}
-use Rattle.std.specs.List.{All}
 use Rattle.module_prices.proofs.LowestTerms.{as_row, lowest_small}
 
 -- a fraction has one form in lowest terms

@@ -1,8 +1,6 @@
 -- what `cover` and `cover_needs` answer
 use Rattle.std.specs.Prelude.{◌≡◌, ℕ, ◌^◌, ◌<◌, List, All, Some, length, slice_get, slice_index}
-use Rattle.net_core.specs.declared.network.Link.{Link}
-use Rattle.plan_terms.specs.Capacities.{link_cost, modules_capacity}
-use Rattle.plan_terms.specs.Covers.{Covers, MayCover}
+use Rattle.plan_terms.specs.Terms.{Link, link_cost, modules_capacity, Covers, MayCover}
 use Rattle.module_choice.specs.declared.covers.Covering.{Covering}
 
 -- counts that cover the link's need, with their cost: of one kind where the need is more than few steps; counts and capacity are within the limits

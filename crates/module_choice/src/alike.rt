@@ -1,7 +1,5 @@
 ghost use Rattle.std.specs.Prelude.{◌≡◌, ℕ, ◌-◌, ◌*◌, ◌^◌, ◌<◌, ◌≤◌, ◌↔◌, [], All, IfOk, OnOk, IsTrue, List as Seq, Some, length, slice_get, slice_index};
-ghost use Rattle.net_core.specs.Network.{IsModule};
-ghost use Rattle.net_core.specs.declared.network.Link.{Link as L};
-ghost use Rattle.net_core.specs.declared.network.Module.{Module as M};
+ghost use Rattle.plan_terms.specs.Terms.{IsModule, Link as L, Module as M};
 ghost use Rattle.module_choice.specs.Coverings.{CoverNeeds};
 ghost use Rattle.module_choice.specs.inner.Routes.{AlikeAreCovered, AreCovered, HasEarlier};
 ghost use Rattle.module_choice.specs.inner.Tables.{Answers, IsTable};

@@ -1,6 +1,5 @@
 ghost use Rattle.std.specs.Prelude.{◌≡◌, ℕ, ◌*◌, ◌^◌, ◌<◌, ◌≤◌, All, IfOk, [], length, replicate, slice_set};
-ghost use Rattle.net_core.specs.Network.{IsModule};
-ghost use Rattle.plan_terms.specs.Covers.{IsFewSteps};
+ghost use Rattle.plan_terms.specs.Terms.{IsModule, IsFewSteps};
 ghost use Rattle.module_choice.specs.Coverings.{IsCovering};
 ghost use Rattle.module_choice.specs.inner.Cheapest.{AreCheapest};
 ghost use Rattle.module_choice.specs.inner.Kinds.{IsBestKind};

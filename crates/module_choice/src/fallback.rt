@@ -1,13 +1,5 @@
 ghost use Rattle.std.specs.Prelude.{◌≡◌, ℕ, ◌+◌, ◌^◌, ◌<◌, ◌≤◌, [], All, IfOk, OnOk, Some, length, slice_get, slice_index};
-ghost use Rattle.net_core.specs.Cases.{graph_in};
-ghost use Rattle.net_core.specs.Demands.{AreDemands};
-ghost use Rattle.net_core.specs.Graphs.{Survives};
-ghost use Rattle.net_core.specs.Network.{IsModule};
-ghost use Rattle.net_core.specs.Views.{case, case_of};
-ghost use Rattle.net_core.specs.declared.network.Link.{Link};
-ghost use Rattle.plan_terms.specs.Capacities.{AreWithinLimits};
-ghost use Rattle.plan_terms.specs.Fallbacks.{IsFallback, raised};
-ghost use Rattle.plan_terms.specs.Separations.{IsSurvivable};
+ghost use Rattle.plan_terms.specs.Terms.{graph_in, AreDemands, Survives, IsModule, case, case_of, Link, AreWithinLimits, IsFallback, raised, IsSurvivable};
 ghost use Rattle.module_choice.specs.inner.Routes.{AreCovered, AreRouted};
 
 use crate::alike::cover_links;

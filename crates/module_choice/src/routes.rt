@@ -1,13 +1,5 @@
 ghost use Rattle.std.specs.Prelude.{◌≡◌, ℕ, ◌+◌, ◌<◌, ◌++◌, [], ◌∷◌, IfOk, OnOk, Some, length, slice_get, slice_index, sum_by};
-ghost use Rattle.net_core.specs.Cases.{graph_in};
-ghost use Rattle.net_core.specs.Demands.{AreDemands};
-ghost use Rattle.net_core.specs.Graphs.{Joins, Survives};
-ghost use Rattle.net_core.specs.Views.{case_of, graph_of};
-ghost use Rattle.net_core.specs.declared.demand.Demand.{Demand};
-ghost use Rattle.plan_terms.specs.Fallbacks.{IsLeastRouting};
-ghost use Rattle.plan_terms.specs.LeastPaths.{IsLeastPath};
-ghost use Rattle.plan_terms.specs.Paths.{AreApart};
-ghost use Rattle.plan_terms.specs.Separations.{IsSurvivable};
+ghost use Rattle.plan_terms.specs.Terms.{graph_in, AreDemands, Joins, Survives, case_of, graph_of, Demand, IsLeastRouting, IsLeastPath, AreApart, IsSurvivable};
 ghost use Rattle.module_choice.specs.inner.Routes.{TakesDemand};
 
 use net_core::{Demand, Flow, Instance, Lengths, List, NoMemory, NodeId, Path, Routing, StateId};

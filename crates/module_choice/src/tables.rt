@@ -1,7 +1,6 @@
 ghost use Rattle.std.specs.Prelude.{◌≡◌, ℕ, ◌+◌, ◌-◌, ◌*◌, ◌^◌, ◌<◌, ◌≤◌, ◌⊎◌, All, IfOk, Some, length, map, replicate, slice_get};
 ghost use Rattle.std.specs.Int.{◌∣◌};
-ghost use Rattle.net_core.specs.Network.{IsModule};
-ghost use Rattle.plan_terms.specs.Bounds.{IsGreatestDivisor};
+ghost use Rattle.plan_terms.specs.Terms.{IsModule, IsGreatestDivisor};
 ghost use Rattle.module_choice.specs.declared.tables.Entry.{Entry as E};
 ghost use Rattle.module_choice.specs.inner.Tables.{Answers, AreLeastCosts, AreTaken, IsNextEntry, IsTable, in_units};
 

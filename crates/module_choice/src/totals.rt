@@ -1,6 +1,5 @@
 ghost use Rattle.std.specs.Prelude.{◌≡◌, ◌+◌, ◌*◌, ◌^◌, ◌≤◌, All, IfOk, length};
-ghost use Rattle.net_core.specs.Network.{IsModule};
-ghost use Rattle.plan_terms.specs.Capacities.{AreCounts, capacities, installs, link_cost, modules_capacity, modules_cost, total_cost};
+ghost use Rattle.plan_terms.specs.Terms.{IsModule, AreCounts, capacities, installs, link_cost, modules_capacity, modules_cost, total_cost};
 
 use net_core::{Caps, Counts, Link, List, Module, Network, NoMemory};
 use std::alloc::Global;

@@ -1,14 +1,12 @@
 -- common divisors of costs and setups, module by module and link by link, and quotients that are rounded up
 use Rattle.std.proofs.Common.{◌≡◌, ℕ, ◌+◌, ◌*◌, ◌≤◌, ◌<◌, List, [], ◌∷◌, ◌++◌, length, get_or, map, take, sym, ap, ◌∙◌, subst, arith, append-nil, add-one}
 use Rattle.std.proofs.Math.Seq.{take-suc}
-use Rattle.std.proofs.lemmas.List.{map-append}
-use Rattle.std.proofs.lemmas.Grind.{flat_map-append, div_ceil_times}
+use Rattle.net_core.proofs.Library.{map-append, flat_map-append, IsGcd}
+use Rattle.std.proofs.lemmas.Grind.{div_ceil_times}
 use Rattle.std.proofs.Math.Nat.{mul-le-mul_right}
-use Rattle.std.specs.Int.{IsGcd, div_ceil}
-use Rattle.net_core.specs.declared.network.Link.{Link}
-use Rattle.net_core.specs.declared.network.Module.{Module}
-use Rattle.plan_terms.specs.Bounds.{IsGreatestDivisor, with_setup, link_charges, charges}
-use Rattle.plan_terms.proofs.Bounds.{divisor_none, divisor_both, divisor_one, divisor_limit, quotient_least}
+use Rattle.std.specs.Int.{div_ceil}
+use Rattle.plan_terms.specs.Terms.{Link, Module, IsGreatestDivisor, with_setup, link_charges, charges}
+use Rattle.plan_terms.proofs.Lemmas.{divisor_none, divisor_both, divisor_one, divisor_limit, quotient_least}
 
 -- a number of one module more
 pub module_divisor_step : (f : Module → ℕ) (n : ℕ) (modules : List Module) (d : Module) (g h : ℕ) → n < length modules → IsGreatestDivisor (map f (take n modules)) g → IsGcd g (f (get_or modules n d)) h → IsGreatestDivisor (map f (take (n + 1) modules)) h

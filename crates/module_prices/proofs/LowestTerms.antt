@@ -1,11 +1,11 @@
 -- fractions in lowest terms, as rows of one number
 use Rattle.std.proofs.Common.{ℕ, zero, suc, pos, ◌≡◌, ◌*◌, ◌<◌, ◌≤◌, unsigned_abs, sym, ap, ◌∙◌, arith}
-use Rattle.std.proofs.lemmas.Int.{ints, unsigned_abs-mul}
+use Rattle.net_core.proofs.Library.{ints, unsigned_abs-mul}
 use Rattle.std.proofs.Math.Nat.{mul-le-mul_left}
-use Rattle.checked_fraction.specs.Rows.{IsReduced}
+use Rattle.checked_fraction.specs.Terms.{IsReduced}
 use Rattle.checked_fraction.proofs.Once.{times_reduced}
-use Rattle.plan_terms.specs.Bounds.{IsLowest}
-use Rattle.plan_terms.proofs.Bounds.{lowest_positive}
+use Rattle.plan_terms.specs.Terms.{IsLowest}
+use Rattle.plan_terms.proofs.Lemmas.{lowest_positive}
 
 pub as_row : (a b c d : ℕ) → 0 < b → IsLowest a b c d → IsReduced 1 (λ k. pos a) (pos b) (λ k. pos c) (pos d)
 as_row a b c d some low = record {

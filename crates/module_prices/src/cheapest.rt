@@ -1,7 +1,5 @@
 ghost use Rattle.std.specs.Prelude.{◌≡◌, ◌*◌, ◌<◌, ◌↔◌, All, IfSome, IsNone, [], length};
-ghost use Rattle.net_core.specs.Network.{IsModule};
-ghost use Rattle.plan_terms.specs.Bounds.{IsLowest};
-ghost use Rattle.plan_terms.specs.Prices.{HasLeastUnitCost, IsUnitPair};
+ghost use Rattle.plan_terms.specs.Terms.{IsModule, IsLowest, HasLeastUnitCost, IsUnitPair};
 
 use checked_fraction::gcd;
 use net_core::Module;

@@ -1,7 +1,5 @@
 ghost use Rattle.std.specs.Prelude.{◌≡◌, ◌≤◌, ◌<◌, All, IfOk, length};
-ghost use Rattle.net_core.specs.Network.{IsModule};
-ghost use Rattle.net_core.specs.declared.network.Module.{Module};
-ghost use Rattle.plan_terms.specs.Prices.{ArePriceLengths, HasLeastUnitCost, IsPriceLength, IsSixteenths};
+ghost use Rattle.plan_terms.specs.Terms.{IsModule, Module, ArePriceLengths, HasLeastUnitCost, IsPriceLength, IsSixteenths};
 ghost use Rattle.module_prices.specs.inner.Dearest.{ArePriced, IsDearer, IsDearestSoFar, IsGreatest, IsNoDearer};
 
 use crate::cheapest::{cheapest, crossed};

@@ -1,6 +1,6 @@
 ghost use Rattle.std.specs.Prelude.{◌<◌, ◌^◌, map};
 ghost use Rattle.std.specs.Int.{IsGcd};
-ghost use Rattle.plan_terms.specs.Bounds.{IsBound, IsGreatestDivisor, charges, link_charges};
+ghost use Rattle.plan_terms.specs.Terms.{IsBound, IsGreatestDivisor, charges, link_charges};
 
 use checked_fraction::gcd;
 use net_core::{Link, Module};

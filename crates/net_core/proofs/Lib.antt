@@ -6,3 +6,4 @@ pub mod Networks
 pub mod Numbers
 pub mod StatesChecks
 pub mod Sums
+pub mod Library

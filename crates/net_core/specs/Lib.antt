@@ -10,3 +10,4 @@ pub mod Tests
 pub mod Views
 pub mod Places
 pub mod Settled
+pub mod Terms

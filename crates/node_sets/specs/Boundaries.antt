@@ -1,15 +1,9 @@
 -- cuts of sets of nodes (the cut inequalities, which are metric inequalities of lengths 0 and 1)
 use Rattle.std.specs.Prelude.{ℕ, List, Bool, not, cond, map}
-use Rattle.net_core.specs.declared.demand.Demand.{Demand}
-use Rattle.net_core.specs.declared.network.Link.{Link}
-use Rattle.net_core.specs.declared.plan.Caps.{Caps}
-use Rattle.net_core.specs.Graphs.{Graph, Joins}
-use Rattle.plan_terms.specs.Certificates.{IsRight}
-use Rattle.plan_terms.specs.Keeping.{Keeps}
-use Rattle.plan_terms.specs.Violations.{Violates}
+use Rattle.plan_terms.specs.Terms.{Demand, Link, Caps, Graph, Joins, IsRight, Keeps, Violates}
 use Rattle.metric_cut.specs.Cuts.{IsCutOf}
 use Rattle.metric_cut.specs.declared.cut.Cut.{Cut}
-use Rattle.route_law.specs.PricedLengths.{ArePricedSomewhere}
+use Rattle.route_law.specs.Terms.{ArePricedSomewhere}
 
 -- a link crosses the boundary of a set of nodes: one of its ends is in the set, and the other isn't
 abbrev pub crosses_boundary : (ℕ → Bool) → Link → Bool

@@ -1,6 +1,5 @@
 ghost use Rattle.std.specs.Prelude.{◌≡◌, ◌<◌, All, IfOk, IfSome, cond, true};
-ghost use Rattle.net_core.specs.Views.{graph_of};
-ghost use Rattle.plan_terms.specs.Keeping.{Keeps};
+ghost use Rattle.plan_terms.specs.Terms.{graph_of, Keeps};
 ghost use Rattle.metric_cut.specs.Cuts.{IsCutOf};
 ghost use Rattle.node_sets.specs.Boundaries.{IsBoundaryCut, IsViolatedAt, boundary_lengths, crosses_boundary};
 ghost use Rattle.node_sets.specs.inner.Members.{is_in};

@@ -1,5 +1,5 @@
 ghost use Rattle.std.specs.Prelude.{◌≡◌, ◌<◌, IfOk, IfSome, length};
-ghost use Rattle.net_core.specs.Views.{graph_of};
+ghost use Rattle.plan_terms.specs.Terms.{graph_of};
 ghost use Rattle.node_sets.specs.Boundaries.{IsBoundaryCut};
 
 use crate::boundary::cut_of_chosen;

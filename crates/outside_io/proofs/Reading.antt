@@ -1,6 +1,6 @@
 -- how much of a file is read
 use Rattle.std.proofs.Common.{◌≡◌, ℕ, ◌+◌, List, [], ◌++◌, length, Option, Some, arith, length-append}
-use Rattle.std.specs.Io.KnownBytes.{Consumes}
+use Rattle.net_core.proofs.Library.{Consumes}
 use Rattle.std.proofs.KnownBytes.{Consumes-trans}
 use Rattle.outside_io.specs.declared.shelf.Fetch.{Fetch}
 use Rattle.outside_io.specs.declared.shelf.Fetch.TheVariants.{Found, Missing, TooLong, Failed, NoMemory}

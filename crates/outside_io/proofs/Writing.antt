@@ -1,7 +1,6 @@
 -- how much of a piece is written
 use Rattle.std.proofs.Common.{◌≡◌, ℕ, ◌+◌, ◌-◌, ◌≤◌, List, length, take, drop, Option, arith, length-drop, sym, subst}
-use Rattle.std.proofs.lemmas.List.{take_rest}
-use Rattle.std.specs.Io.KnownBytes.{Appends}
+use Rattle.net_core.proofs.Library.{take_rest, Appends}
 use Rattle.std.proofs.KnownBytes.{Appends-trans}
 use lib.Seq.{take-add}
 

@@ -1,7 +1,7 @@
 -- the circle at the end of a trail that is back at a node
-use Rattle.std.proofs.Common.{◌≡◌, ℕ, zero, suc, ◌-◌, ◌<◌, ◌≤◌, ◌⊎◌, List, [], ◌∷◌, length, get_or, drop, take, ⊎_elim, refl, sym, ap, subst, arith}
-use Rattle.std.specs.List.{All, AllByRecursion, Any}
-use Rattle.plan_terms.specs.Paths.{AreDifferent}
+use Rattle.std.proofs.Common.{◌≡◌, ℕ, zero, suc, ◌-◌, ◌<◌, ◌≤◌, ◌⊎◌, List, [], ◌∷◌, length, get_or, drop, take, ⊎_elim, refl, sym, ap, subst, arith, All, Any}
+use Rattle.net_core.proofs.Library.{AllByRecursion}
+use Rattle.plan_terms.specs.Terms.{AreDifferent}
 use Rattle.path_split.specs.declared.leg.Leg.{Leg}
 use Rattle.path_split.specs.inner.Legs.{leg_at}
 use Rattle.path_split.specs.inner.Trails.{AreEnough, IsLive, froms, less}

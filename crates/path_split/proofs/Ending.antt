@@ -1,22 +1,11 @@
 -- from arcs to legs, and back to arcs
-use Rattle.std.proofs.Common.{◌≡◌, ℕ, ◌<◌, ◌⊎◌, inl, inr, Bool, false, cond, eqb, eqb-true, List, [], ◌∷◌, Option, None, Some, MatchOption, length, get_or, map, sum_by, ⊎_elim, refl, sym, ap, subst, ◌∙◌, arith}
-use Rattle.std.proofs.lemmas.Bool.{cases_Bool, cases_lt, eq-eqb, false≢true, ne_eqb}
-use Rattle.std.proofs.lemmas.List.{length-map}
-use Rattle.std.proofs.lemmas.List.Elements.{All-head, All-map, All-nil, All-tail, All-weaker}
-use Rattle.std.proofs.lemmas.List.Sorted.{All-permutation, length_permutation, sum_by-IsPermutation}
-use Rattle.std.proofs.lemmas.List.Sums.{sum_by-cons}
-use Rattle.std.proofs.lemmas.Option.{get_or_from_slice_get, slice_get_within}
-use Rattle.std.proofs.Math.Logic.{∥∥₁_elim}
-use Rattle.std.proofs.Props.{props}
-use Rattle.std.specs.List.{All, AllByRecursion}
+use Rattle.std.proofs.Common.{◌≡◌, ℕ, ◌<◌, ◌⊎◌, inl, inr, Bool, false, cond, eqb, eqb-true, List, [], ◌∷◌, Option, None, Some, MatchOption, length, get_or, map, sum_by, ⊎_elim, refl, sym, ap, subst, ◌∙◌, arith, All}
+use Rattle.net_core.proofs.Library.{cases_Bool, cases_lt, false≢true, length-map, All-head, All-map, All-nil, All-tail, All-weaker, All-permutation, sum_by-cons, get_or_from_slice_get, slice_get_within, ∥∥₁_elim, props, AllByRecursion, option_map_or}
+use Rattle.std.proofs.lemmas.Bool.{eq-eqb, ne_eqb}
+use Rattle.std.proofs.lemmas.List.Sorted.{length_permutation, sum_by-IsPermutation}
 use Rattle.std.specs.List.Sorted.{IsPermutation}
-use Rattle.std.specs.Option.{option_map_or}
-use Rattle.net_core.specs.declared.ids.LinkId.{LinkId}
-use Rattle.net_core.specs.declared.network.Link.{Link}
-use Rattle.net_core.specs.Graphs.{HasEnds}
-use Rattle.net_core.specs.Network.{IsLink, IsNetwork}
+use Rattle.plan_terms.specs.Terms.{LinkId, Link, HasEnds, IsLink, IsNetwork, IsPath, Leads}
 use Rattle.net_core.proofs.Sums.{sums-same}
-use Rattle.plan_terms.specs.Paths.{IsPath, Leads}
 use Rattle.path_split.specs.declared.arc.Arc.{Arc}
 use Rattle.path_split.specs.declared.arc.PathFlow.{PathFlow}
 use Rattle.path_split.specs.declared.leg.Leg.{Leg}

@@ -1,8 +1,7 @@
 -- what is left when an amount is taken off different legs
 use Rattle.std.proofs.Common.{◌≡◌, ◌≢◌, ℕ, zero, suc, ◌+◌, ◌-◌, ◌<◌, ◌≤◌, ◌⊎◌, inl, inr, Bool, cond, List, [], ◌∷◌, length, get_or, set, ⊎_elim, refl, sym, subst, ◌∙◌, arith, length-set, get_or-set_same, get_or-set_other}
-use Rattle.std.proofs.lemmas.Bool.{cases_eq}
-use Rattle.std.specs.List.{AllByRecursion}
-use Rattle.plan_terms.specs.Paths.{AreDifferent}
+use Rattle.net_core.proofs.Library.{cases_eq, AllByRecursion}
+use Rattle.plan_terms.specs.Terms.{AreDifferent}
 use Rattle.path_split.specs.declared.leg.Leg.{Leg}
 use Rattle.path_split.specs.inner.Legs.{leg_at, picked}
 use Rattle.path_split.specs.inner.Trails.{AreEnough, less}

@@ -1,7 +1,6 @@
 -- where the legs of each node start, one node after another
 use Rattle.std.proofs.Common.{◌≡◌, ℕ, ◌+◌, ◌<◌, List, [], ◌∷◌, ◌++◌, length, get_or, ⊎_elim, sym, ap, subst, ◌∙◌, arith, length-append}
-use Rattle.std.proofs.lemmas.Bool.{cases_lt}
-use Rattle.std.proofs.lemmas.List.{get_or_append_left, get_or_push}
+use Rattle.net_core.proofs.Library.{cases_lt, get_or_append_left, get_or_push}
 use Rattle.path_split.specs.declared.leg.Leg.{Leg}
 use Rattle.path_split.specs.inner.Legs.{IsStartPlace}
 

@@ -1,11 +1,8 @@
 -- what is left when a path or a circle has been taken off
-use Rattle.std.proofs.Common.{◌≡◌, ◌≢◌, ℕ, ◌+◌, ◌<◌, ◌≤◌, inl, inr, Bool, cond, List, [], ◌∷◌, ◌++◌, length, get_or, drop, sum_by, ⊎_elim, refl, sym, ap, subst, ◌∙◌, arith, length-append}
+use Rattle.std.proofs.Common.{◌≡◌, ◌≢◌, ℕ, ◌+◌, ◌<◌, ◌≤◌, inl, inr, Bool, cond, List, [], ◌∷◌, ◌++◌, length, get_or, drop, sum_by, ⊎_elim, refl, sym, ap, subst, ◌∙◌, arith, length-append, All, Any}
 use Rattle.std.proofs.lemmas.Bool.{eq-eqb}
-use Rattle.std.specs.List.{All, Any}
-use Rattle.std.proofs.lemmas.List.Elements.{All-push}
-use Rattle.std.proofs.lemmas.List.Sums.{sum_by_push}
-use Rattle.net_core.specs.States.{names_link}
-use Rattle.plan_terms.specs.Paths.{IsPath}
+use Rattle.net_core.proofs.Library.{All-push, sum_by_push}
+use Rattle.plan_terms.specs.Terms.{names_link, IsPath}
 use Rattle.path_split.specs.declared.arc.PathFlow.{PathFlow}
 use Rattle.path_split.specs.declared.leg.Leg.{Leg}
 use Rattle.path_split.specs.Splits.{path_load}

@@ -1,11 +1,7 @@
 -- trails of legs: how they grow, what they are when they end, and what their legs take from each node
-use Rattle.std.proofs.Common.{◌≡◌, ◌≢◌, ℕ, zero, suc, ◌+◌, ◌<◌, ◌≤◌, ◌⊎◌, inl, inr, ◌||◌, Bool, true, false, cond, eqb, List, [], ◌∷◌, ◌++◌, length, get_or, set, drop, ◌↔◌, get_or-set_same, get_or-set_other, ⊎_elim, refl, sym, ap, subst, ◌∙◌, arith}
-use Rattle.std.proofs.lemmas.Bool.{cases_Bool, cases_eq}
-use Rattle.std.specs.List.{AllByRecursion}
-use Rattle.net_core.specs.States.{names_link}
-use Rattle.plan_terms.specs.Paths.{AreDifferent, IsPath, Leads, last_node}
-use Rattle.std.specs.List.{All, Any}
-use Rattle.std.proofs.lemmas.List.Elements.{All-from_recursion, All-head, All-tail}
+use Rattle.std.proofs.Common.{◌≡◌, ◌≢◌, ℕ, zero, suc, ◌+◌, ◌<◌, ◌≤◌, ◌⊎◌, inl, inr, ◌||◌, Bool, true, false, cond, eqb, List, [], ◌∷◌, ◌++◌, length, get_or, set, drop, ◌↔◌, get_or-set_same, get_or-set_other, ⊎_elim, refl, sym, ap, subst, ◌∙◌, arith, All, Any}
+use Rattle.net_core.proofs.Library.{cases_Bool, cases_eq, AllByRecursion, All-from_recursion, All-head, All-tail}
+use Rattle.plan_terms.specs.Terms.{names_link, AreDifferent, IsPath, Leads, last_node}
 use Rattle.path_split.specs.declared.leg.Leg.{Leg}
 use Rattle.path_split.specs.inner.Legs.{arrives, due, is_on, leaves, leg_at, picked}
 use Rattle.path_split.specs.inner.Trails.{AreEnough, AreSteady, Chain, Has, IsLive, IsWalk, froms, trail_links}

@@ -1,7 +1,7 @@
 -- flows on arcs, and what they leave and bring at each node
 use Rattle.std.specs.Prelude.{◌≡◌, ℕ, ◌+◌, ◌<◌, ◌==◌, ◌⊎◌, Bool, false, if◌then◌else◌, List, Some, slice_get, sum_by}
 use Rattle.std.specs.Option.{option_map_or}
-use Rattle.net_core.specs.declared.network.Link.{Link}
+use Rattle.plan_terms.specs.Terms.{Link}
 use Rattle.path_split.specs.declared.arc.Arc.{Arc}
 
 -- an arc leaves an end of its link

@@ -1,9 +1,6 @@
 -- the split of flows on arcs into flows along paths (flow decomposition: Ahuja, Magnanti and Orlin, Network Flows, 1993)
 use Rattle.std.specs.Prelude.{◌≡◌, ℕ, ◌≤◌, ◌<◌, ◌==◌, if◌then◌else◌, List, Some, All, length, slice_get, sum_by}
-use Rattle.net_core.specs.declared.network.Link.{Link}
-use Rattle.net_core.specs.Graphs.{HasEnds}
-use Rattle.net_core.specs.States.{names_link}
-use Rattle.plan_terms.specs.Paths.{IsPath}
+use Rattle.plan_terms.specs.Terms.{Link, HasEnds, names_link, IsPath}
 use Rattle.path_split.specs.declared.arc.Arc.{Arc}
 use Rattle.path_split.specs.declared.arc.PathFlow.{PathFlow}
 

@@ -1,6 +1,6 @@
 ghost use Rattle.std.specs.Prelude.{◌≡◌, ◌≢◌, ℕ, ◌+◌, ◌<◌, ◌≤◌, ◌⊎◌, [], All, IfErr, IfOk, length, slice_index, sum_by};
 ghost use Rattle.std.specs.List.{AllByRecursion};
-ghost use Rattle.plan_terms.specs.Paths.{AreDifferent};
+ghost use Rattle.plan_terms.specs.Terms.{AreDifferent};
 ghost use Rattle.path_split.specs.Balances.{AreNodesBalanced, IsArc, IsFirstUnbalanced};
 ghost use Rattle.path_split.specs.Splits.{IsFlowSplit};
 ghost use Rattle.path_split.specs.declared.arc.SplitFault.TheVariants.{Unbalanced};

@@ -1,5 +1,5 @@
 ghost use Rattle.std.specs.Prelude.{◌<◌, ◌^◌, ◌↔◌, All, IsTrue};
-ghost use Rattle.net_core.specs.Network.{IsModule};
+ghost use Rattle.plan_terms.specs.Terms.{IsModule};
 
 use net_core::{Copied, Link, List, Module, Network, Notes, Places, Problem, States};
 use std::alloc::Global;

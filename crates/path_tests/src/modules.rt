@@ -1,7 +1,5 @@
 ghost use Rattle.std.specs.Prelude.{IsTrue};
-ghost use Rattle.net_core.specs.Views.{case};
-ghost use Rattle.plan_terms.specs.Capacities.{AreCounts};
-ghost use Rattle.plan_terms.specs.Separations.{IsSurvivable};
+ghost use Rattle.plan_terms.specs.Terms.{case, AreCounts, IsSurvivable};
 
 use crate::fixtures::{FREE, TRIANGLE, TWO_KINDS, are_modules, charged};
 use failure_states::first_separated;

@@ -1,6 +1,5 @@
 ghost use Rattle.std.specs.Prelude.{◌≡◌, ℕ, ◌<◌, ◌+◌, ◌^◌, ◌↔◌, All, IsTrue, length, slice_index};
-ghost use Rattle.net_core.specs.Graphs.{Survives};
-ghost use Rattle.net_core.specs.Views.{graph};
+ghost use Rattle.plan_terms.specs.Terms.{Survives, graph};
 
 use crate::fixtures::make_problem;
 use net_core::{Lengths, List, NodeId, Path, Problem, StateId, Surviving};

@@ -1,15 +1,10 @@
 -- from what the tests find to what a plan carries
 use Rattle.std.proofs.Common.{◌≡◌, ℕ, ◌*◌, ◌<◌, ◌≤◌, List, Some, All, length, get_or, ap, subst, arith, slice_get, ⊎_elim}
-use Rattle.std.proofs.lemmas.Bool.{cases_eq, cases_lt}
-use Rattle.std.proofs.lemmas.Option.{get_or_from_slice_get, slice_get_within, slice_get-get_or}
-use Rattle.net_core.specs.Cases.{Case, graph_in}
-use Rattle.net_core.specs.Graphs.{Joins}
-use Rattle.net_core.specs.declared.plan.Routing.{Routing}
-use Rattle.plan_terms.specs.Flows.{Carries, IsFlow, load, sent}
+use Rattle.net_core.proofs.Library.{cases_eq, cases_lt, get_or_from_slice_get, slice_get_within, slice_get-get_or}
+use Rattle.plan_terms.specs.Terms.{Case, graph_in, Joins, Routing, Carries, IsFlow, load, sent}
 use Rattle.module_choice.specs.inner.Routes.{weight}
 use Rattle.module_choice.proofs.Carrying.{load_is_weight, load_none}
-use Rattle.plan_report.specs.KnownNames.{known_to}
-use Rattle.plan_report.specs.Forms.{AreRoutingsInForm, IsFlowInForm}
+use Rattle.plan_report.specs.Terms.{known_to, AreRoutingsInForm, IsFlowInForm}
 use Rattle.plan_checker.specs.Carried.{HasBadPath, IsOverloaded, IsUncarried}
 use Rattle.plan_checker.specs.Shares.{AreCarried}
 use Rattle.plan_checker.proofs.Places.{holds_read}

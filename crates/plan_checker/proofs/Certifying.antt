@@ -1,18 +1,12 @@
 -- from what the tests find to a valid certificate
 use Rattle.std.proofs.Common.{◌≡◌, ℕ, ◌*◌, ◌^◌, ◌<◌, ◌≤◌, List, Some, All, Result, Ok, Err, OnOk, slice_get, ⊎_elim}
 use Rattle.std.specs.Bool.{⊤}
-use Rattle.std.proofs.lemmas.Bool.{cases_lt}
-use Rattle.std.proofs.lemmas.List.Elements.{All-map}
-use Rattle.net_core.specs.Cases.{Case, graph_in}
-use Rattle.net_core.specs.Graphs.{Joins}
-use Rattle.net_core.specs.declared.network.Link.{Link}
-use Rattle.net_core.specs.declared.network.Module.{Module}
-use Rattle.plan_terms.specs.Bounds.{IsBound, IsLowest}
-use Rattle.plan_terms.specs.Certificates.{AreKept, CertificateLine, IsCertificate, IsCut, IsRight, asked, given, price, raw_value}
-use Rattle.plan_types.specs.Plans.{IsCertifiedPlan, lines_of_certificate}
+use Rattle.net_core.proofs.Library.{cases_lt, All-map}
+use Rattle.plan_terms.specs.Terms.{Case, graph_in, Joins, Link, Module, IsBound, IsLowest, AreKept, CertificateLine, IsCertificate, IsCut, IsRight, asked, given, price, raw_value}
+use Rattle.plan_types.specs.Terms.{IsCertifiedPlan, lines_of_certificate}
 use Rattle.plan_types.specs.declared.certificate.CertLine.{CertLine}
 use Rattle.plan_types.specs.declared.plan.Plan.{Plan}
-use Rattle.plan_report.specs.Forms.{IsCertificateInForm}
+use Rattle.plan_report.specs.Terms.{IsCertificateInForm}
 use Rattle.plan_checker.specs.Certified.{IsOverpriced}
 use Rattle.plan_checker.proofs.Places.{holds_read}
 use Rattle.plan_checker.specs.declared.stop.Stop.{Stop}

@@ -1,9 +1,7 @@
 -- sums of flows, one flow after another
 use Rattle.std.proofs.Common.{◌≡◌, ℕ, ◌+◌, ◌*◌, ◌<◌, ◌==◌, Bool, true, false, cond, if◌then◌else◌, List, get_or, length, take, sym, ap, subst, ◌∙◌, arith}
-use Rattle.std.proofs.lemmas.List.Sums.{sum_by_more}
-use Rattle.net_core.specs.declared.ids.LinkId.{LinkId}
-use Rattle.net_core.specs.declared.plan.Flow.{Flow}
-use Rattle.plan_terms.specs.Flows.{sent}
+use Rattle.net_core.proofs.Library.{sum_by_more}
+use Rattle.plan_terms.specs.Terms.{LinkId, Flow, sent}
 use Rattle.module_choice.specs.inner.Routes.{times, weight}
 use Rattle.plan_checker.specs.inner.Mixed.{AreMixed, IsMixed}
 use Rattle.plan_checker.specs.declared.mixed.Mixed.{Mixed}

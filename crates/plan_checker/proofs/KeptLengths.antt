@@ -1,14 +1,8 @@
 -- lengths that a state keeps as they are, and their one right side
 use Rattle.std.proofs.Common.{◌≡◌, ◌≢◌, ℕ, ◌*◌, List, All, length, get_or, sym, ap, subst, arith, ⊎_elim}
-use Rattle.std.proofs.Math.Nat.{dvd-mul_right}
-use Rattle.std.proofs.lemmas.Bool.{cases_eq}
-use Rattle.std.proofs.lemmas.List.{ext_get_or, get_or_default}
-use Rattle.std.proofs.lemmas.Nat.Gcd.{dvd-zero, dvd_antisymm}
-use Rattle.std.specs.Int.{◌∣◌}
-use Rattle.net_core.specs.Graphs.{Graph, Survives}
-use Rattle.plan_terms.specs.Bounds.{IsGreatestDivisor}
-use Rattle.plan_terms.specs.Certificates.{AreKept}
-use Rattle.plan_terms.specs.Keeping.{AreZero, Keeps}
+use Rattle.net_core.proofs.Library.{dvd-mul_right, cases_eq, get_or_default, dvd-zero, dvd_antisymm, ◌∣◌}
+use Rattle.std.proofs.lemmas.List.{ext_get_or}
+use Rattle.plan_terms.specs.Terms.{Graph, Survives, IsGreatestDivisor, AreKept, AreZero, Keeps}
 
 module _ (g : Graph) (lengths : List ℕ) (kept : AreKept g lengths) where
   each_divided : (d : ℕ) → ((e : ℕ) → Survives g e → d ∣ get_or lengths e 0) → All (λ l. d ∣ l) lengths

@@ -1,7 +1,7 @@
 -- sums over the lines of a certificate
 use Rattle.std.proofs.Common.{◌≡◌, ℕ, ◌+◌, ◌<◌, List, [], ◌∷◌, get_or, length, map, take, refl, sym, ◌∙◌, arith, sum_by}
-use Rattle.std.proofs.lemmas.List.Sums.{sum_by-cons, sum_by_more}
-use Rattle.plan_terms.specs.Certificates.{CertificateLine}
+use Rattle.net_core.proofs.Library.{sum_by-cons, sum_by_more}
+use Rattle.plan_terms.specs.Terms.{CertificateLine}
 use Rattle.plan_types.specs.declared.certificate.CertLine.{CertLine}
 use Rattle.plan_checker.specs.inner.Lines.{certified}
 

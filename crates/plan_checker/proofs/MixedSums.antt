@@ -1,7 +1,7 @@
 -- sums of mixed numbers
 use Rattle.std.proofs.Common.{◌≡◌, ℕ, ◌+◌, ◌-◌, ◌*◌, ◌/◌, ◌%◌, ◌^◌, ◌<◌, ◌≤◌, ◌⊎◌, inl, inr, ap, min, arith, ⊎_elim}
 use Rattle.std.proofs.Math.Nat.{mul-le-mul_left}
-use Rattle.std.proofs.lemmas.Bool.{cases_lt}
+use Rattle.net_core.proofs.Library.{cases_lt}
 use Rattle.plan_checker.specs.inner.Mixed.{IsMixed}
 use Rattle.plan_checker.specs.declared.mixed.Mixed.{Mixed}
 

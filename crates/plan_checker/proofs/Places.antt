@@ -1,8 +1,6 @@
 -- least places at which something holds
 use Rattle.std.proofs.Common.{◌≡◌, ℕ, ◌+◌, ◌<◌, ◌≤◌, List, Some, length, get_or, All, refl, sym, subst, ◌∙◌, arith, slice_get, ⊎_elim}
-use Rattle.std.proofs.lemmas.Bool.{cases_eq}
-use Rattle.std.proofs.lemmas.List.{get_or_default}
-use Rattle.std.proofs.lemmas.Option.{get_or_from_slice_get, slice_get_read, slice_get_within}
+use Rattle.net_core.proofs.Library.{cases_eq, get_or_default, get_or_from_slice_get, slice_get_read, slice_get_within}
 use Rattle.plan_checker.specs.Places.{HoldsAt}
 
 module _ {X : Type 0} (xs : List X) (P : ℕ → X → Type 0) where

@@ -1,12 +1,8 @@
 -- from what tests find to findings
 use Rattle.std.proofs.Common.{ℕ, ◌<◌, ◌^◌, Bool, List, refl, sym, ◌∙◌, arith, ⊎_elim}
-use Rattle.net_core.specs.Cases.{Case}
-use Rattle.net_core.specs.declared.network.Link.{Link}
-use Rattle.net_core.specs.declared.plan.Routing.{Routing}
-use Rattle.plan_terms.specs.Bounds.{IsBound, IsLowest}
-use Rattle.plan_terms.specs.Certificates.{CertificateLine, asked, given, raw_value}
-use Rattle.plan_terms.proofs.Bounds.{bound_unique}
-use Rattle.plan_types.specs.Plans.{lines_of_certificate}
+use Rattle.plan_terms.specs.Terms.{Case, Link, Routing, IsBound, IsLowest, CertificateLine, asked, given, raw_value}
+use Rattle.plan_terms.proofs.Lemmas.{bound_unique}
+use Rattle.plan_types.specs.Terms.{lines_of_certificate}
 use Rattle.plan_types.specs.declared.plan.Plan.{Plan}
 use Rattle.plan_types.specs.declared.certificate.CertLine.{CertLine}
 use Rattle.plan_checker.specs.Carried.{HasBadPath, HoldsBadPath, HoldsNotCarried, HoldsOverloaded, IsOverloaded, IsUncarried}

@@ -1,12 +1,9 @@
 -- raw values and bounds
 use Rattle.std.proofs.Common.{◌≡◌, ℕ, ◌*◌, ◌==◌, IsTrue, Ordering, nat_cmp, refl, sym, subst, ◌∙◌, arith, ⊎_elim}
-use Rattle.std.proofs.Math.Nat.{eq-one_of_dvd-one}
-use Rattle.std.proofs.lemmas.Bool.{cases_lt, false≢true}
-use Rattle.std.specs.Cmp.{nat_cmp_is}
-use Rattle.std.specs.Int.{◌∣◌, IsGcd}
+use Rattle.net_core.proofs.Library.{eq-one_of_dvd-one, cases_lt, false≢true, nat_cmp_is, ◌∣◌, IsGcd}
 use Rattle.std.specs.Ordering.{ordering_index}
 use Rattle.std.specs.declared.cmp.Ordering.TheVariants.{Less, Equal, Greater}
-use Rattle.plan_terms.specs.Bounds.{IsLowest}
+use Rattle.plan_terms.specs.Terms.{IsLowest}
 
 -- two numbers that compare as equal
 pub index_equal : (o : Ordering) (x y : ℕ) → o ≡ nat_cmp x y → IsTrue (ordering_index o == 1) → x ≡ y

@@ -1,13 +1,7 @@
 -- findings on the cost of a plan, on its certificate and on its bound
 use Rattle.std.specs.Prelude.{◌≡◌, ◌≢◌, ℕ, ◌*◌, ◌^◌, ◌<◌, ◌≤◌, ◌⊎◌, Bool, false, List}
-use Rattle.net_core.specs.declared.plan.CutLine.{CutLine}
-use Rattle.net_core.specs.Cases.{Case, graph_in}
-use Rattle.net_core.specs.Graphs.{Joins}
-use Rattle.net_core.specs.declared.network.Link.{Link}
-use Rattle.plan_terms.specs.Bounds.{IsBound, IsLowest}
-use Rattle.plan_terms.specs.Capacities.{total_cost}
-use Rattle.plan_terms.specs.Certificates.{AreKept, CertificateLine, IsRight, asked, given, price, raw_value}
-use Rattle.plan_types.specs.Plans.{lines_of_certificate}
+use Rattle.plan_terms.specs.Terms.{CutLine, Case, graph_in, Joins, Link, IsBound, IsLowest, total_cost, AreKept, CertificateLine, IsRight, asked, given, price, raw_value}
+use Rattle.plan_types.specs.Terms.{lines_of_certificate}
 use Rattle.plan_types.specs.declared.certificate.CertLine.{CertLine}
 use Rattle.plan_types.specs.declared.certificate.Spot.TheVariants.{Local}
 use Rattle.plan_types.specs.declared.plan.Plan.{Plan}

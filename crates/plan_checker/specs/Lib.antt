@@ -5,3 +5,4 @@ pub mod Places
 pub mod PlanFindings
 pub mod Shares
 pub mod inner
+pub mod Terms

@@ -1,8 +1,7 @@
 -- the findings on a plan by itself, in their order
 use Rattle.std.specs.Prelude.{◌≡◌, ◌≢◌, ⊤, Bool, List, [], ◌∷◌}
-use Rattle.net_core.specs.Cases.{Case}
-use Rattle.plan_terms.specs.Capacities.{capacities}
-use Rattle.plan_types.specs.Plans.{IsCarryingPlan, IsCertifiedPlan, IsCostedPlan, lines_of_certificate}
+use Rattle.plan_terms.specs.Terms.{Case, capacities}
+use Rattle.plan_types.specs.Terms.{IsCarryingPlan, IsCertifiedPlan, IsCostedPlan, lines_of_certificate}
 use Rattle.plan_types.specs.declared.plan.Plan.{Plan}
 use Rattle.plan_checker.specs.Carried.{HoldsBadPath, HoldsNotCarried, HoldsOverloaded}
 use Rattle.plan_checker.specs.Certified.{HoldsCostDiffers, HoldsLocalCut, HoldsRightDiffers, HoldsPriceExceeded, HoldsCertificateWide, HoldsRawDiffers, HoldsBoundDiffers}

@@ -1,11 +1,6 @@
 -- fractional capacities: what a share gives each link, what it costs, and whether a plan is tight by it
 use Rattle.std.specs.Prelude.{◌≡◌, ℕ, ◌+◌, ◌*◌, ◌≤◌, ◌⊎◌, List, [], Some, length, slice_get, slice_index, sum_by}
-use Rattle.net_core.specs.Cases.{Case, graph_in}
-use Rattle.net_core.specs.Graphs.{Joins}
-use Rattle.net_core.specs.declared.network.Link.{Link}
-use Rattle.net_core.specs.declared.plan.Routing.{Routing}
-use Rattle.plan_terms.specs.Flows.{Carries}
-use Rattle.plan_terms.specs.Prices.{IsUnitPair}
+use Rattle.plan_terms.specs.Terms.{Case, graph_in, Joins, Link, Routing, Carries, IsUnitPair}
 use Rattle.plan_types.specs.declared.plan.Plan.{Plan}
 use Rattle.plan_types.specs.declared.quality.Fractional.{Fractional}
 use Rattle.plan_types.specs.declared.quality.Quality.TheVariants.{Tight}

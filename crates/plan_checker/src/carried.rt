@@ -1,8 +1,6 @@
 ghost use Rattle.std.specs.Prelude.{◌≡◌, ◌≢◌, ℕ, ◌*◌, ◌^◌, ◌<◌, All, IfOk, length};
-ghost use Rattle.net_core.specs.Views.{case_of};
-ghost use Rattle.plan_terms.specs.Flows.{load, sent};
-ghost use Rattle.plan_report.specs.KnownNames.{known_of};
-ghost use Rattle.plan_report.specs.Forms.{AreRoutingsInForm, IsRoutingInForm};
+ghost use Rattle.plan_terms.specs.Terms.{case_of, load, sent};
+ghost use Rattle.plan_report.specs.Terms.{known_of, AreRoutingsInForm, IsRoutingInForm};
 ghost use Rattle.module_choice.specs.inner.Routes.{weight};
 ghost use Rattle.plan_checker.specs.Carried.{IsOverloaded, IsUncarried};
 ghost use Rattle.plan_checker.specs.Places.{HoldsAt};

@@ -1,9 +1,7 @@
 ghost use Rattle.std.specs.Prelude.{◌≡◌, ℕ, ◌<◌, ◌^◌, All, OnOk, length, [], ◌∷◌};
-ghost use Rattle.net_core.specs.Cases.{graph_in};
-ghost use Rattle.net_core.specs.Views.{case_of};
-ghost use Rattle.plan_report.specs.Forms.{IsCertificateInForm, IsCutInForm};
-ghost use Rattle.plan_terms.specs.Certificates.{AreKept};
-ghost use Rattle.plan_types.specs.Plans.{IsCertifiedPlan, lines_of_certificate};
+ghost use Rattle.plan_terms.specs.Terms.{graph_in, case_of, AreKept};
+ghost use Rattle.plan_report.specs.Terms.{IsCertificateInForm, IsCutInForm};
+ghost use Rattle.plan_types.specs.Terms.{IsCertifiedPlan, lines_of_certificate};
 ghost use Rattle.plan_checker.specs.Certified.{HoldsBoundDiffers, HoldsCertificateWide, HoldsLocalCut, HoldsPriceExceeded, HoldsRawDiffers, HoldsRightDiffers, IsOverpriced};
 ghost use Rattle.plan_checker.specs.inner.Tests.{Tells, TellFirst};
 

@@ -1,7 +1,6 @@
 ghost use Rattle.std.specs.Prelude.{◌≡◌, OnOk};
-ghost use Rattle.net_core.specs.Views.{case_of};
-ghost use Rattle.plan_terms.specs.Capacities.{AreCounts};
-ghost use Rattle.plan_types.specs.Plans.{IsCostedPlan};
+ghost use Rattle.plan_terms.specs.Terms.{case_of, AreCounts};
+ghost use Rattle.plan_types.specs.Terms.{IsCostedPlan};
 ghost use Rattle.plan_checker.specs.Certified.{HoldsCostDiffers};
 ghost use Rattle.plan_checker.specs.inner.Tests.{Tells};
 

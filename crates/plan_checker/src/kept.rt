@@ -1,9 +1,6 @@
 ghost use Rattle.std.specs.Prelude.{◌≡◌, ◌≢◌, ◌↔◌, ℕ, ◌<◌, ◌^◌, All, IfNone, IsTrue, IsFalse, length, slice_index};
-ghost use Rattle.net_core.specs.Cases.{graph_in};
-ghost use Rattle.net_core.specs.Graphs.{Survives};
-ghost use Rattle.net_core.specs.Views.{case_of, graph_of};
-ghost use Rattle.plan_report.specs.Forms.{IsCutInForm};
-ghost use Rattle.plan_terms.specs.Certificates.{AreKept};
+ghost use Rattle.plan_terms.specs.Terms.{graph_in, Survives, case_of, graph_of, AreKept};
+ghost use Rattle.plan_report.specs.Terms.{IsCutInForm};
 ghost use Rattle.plan_checker.specs.Certified.{IsLocalCut};
 ghost use Rattle.plan_checker.specs.Places.{HoldsAt};
 ghost use Rattle.plan_checker.specs.inner.Tests.{IsFirstPlace};

@@ -1,8 +1,6 @@
 ghost use Rattle.std.specs.Prelude.{◌≡◌, ◌<◌, ◌^◌, ◌↔◌, All, IfNone, IsTrue, length};
-ghost use Rattle.net_core.specs.Demands.{IsDemand};
-ghost use Rattle.net_core.specs.Graphs.{Joins};
-ghost use Rattle.net_core.specs.Views.{graph_of};
-ghost use Rattle.plan_report.specs.Forms.{IsFlowInForm};
+ghost use Rattle.plan_terms.specs.Terms.{IsDemand, Joins, graph_of};
+ghost use Rattle.plan_report.specs.Terms.{IsFlowInForm};
 ghost use Rattle.plan_checker.specs.Carried.{FollowsPath};
 ghost use Rattle.plan_checker.specs.Places.{HoldsAt};
 ghost use Rattle.plan_checker.specs.inner.Tests.{IsFirstPlace};

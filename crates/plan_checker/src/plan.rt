@@ -1,9 +1,6 @@
 ghost use Rattle.std.specs.Prelude.{◌≡◌, ℕ, List, ◌≤◌, OnOk, length};
-ghost use Rattle.net_core.specs.Demands.{AreDemands};
-ghost use Rattle.net_core.specs.Views.{case, case_of};
-ghost use Rattle.plan_report.specs.KnownNames.{known_of};
-ghost use Rattle.plan_report.specs.Forms.{IsPlanInForm};
-ghost use Rattle.plan_terms.specs.Capacities.{IsAble, total_cost};
+ghost use Rattle.plan_terms.specs.Terms.{AreDemands, case, case_of, IsAble, total_cost};
+ghost use Rattle.plan_report.specs.Terms.{known_of, IsPlanInForm};
 ghost use Rattle.plan_checker.specs.PlanFindings.{AnswersPlan, IsAcceptedPlan, own_findings, plan_findings};
 ghost use Rattle.plan_checker.specs.inner.Tests.{TellFirst};
 

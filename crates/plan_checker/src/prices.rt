@@ -1,6 +1,5 @@
 ghost use Rattle.std.specs.Prelude.{◌≡◌, ℕ, ◌*◌, ◌^◌, ◌<◌, ◌≤◌, ◌↔◌, All, IsTrue, length};
-ghost use Rattle.net_core.specs.Network.{IsModule};
-ghost use Rattle.plan_terms.specs.Certificates.{price};
+ghost use Rattle.plan_terms.specs.Terms.{IsModule, price};
 ghost use Rattle.plan_checker.specs.Certified.{IsOverpriced};
 ghost use Rattle.plan_checker.specs.Places.{HoldsAt};
 ghost use Rattle.plan_checker.specs.inner.Lines.{certified};

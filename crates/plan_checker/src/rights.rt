@@ -1,9 +1,6 @@
 ghost use Rattle.std.specs.Prelude.{◌≡◌, ◌<◌, ◌^◌, All, IfOk, OnOk, length};
-ghost use Rattle.net_core.specs.Cases.{graph_in};
-ghost use Rattle.net_core.specs.Graphs.{Joins};
-ghost use Rattle.net_core.specs.Views.{case_of};
-ghost use Rattle.plan_report.specs.Forms.{IsCutInForm};
-ghost use Rattle.plan_terms.specs.Certificates.{AreKept, IsRight};
+ghost use Rattle.plan_terms.specs.Terms.{graph_in, Joins, case_of, AreKept, IsRight};
+ghost use Rattle.plan_report.specs.Terms.{IsCutInForm};
 ghost use Rattle.plan_checker.specs.Certified.{HoldsRightDiffers};
 ghost use Rattle.plan_checker.specs.inner.Tests.{Tells};
 

@@ -1,7 +1,6 @@
 ghost use Rattle.std.specs.Prelude.{◌≡◌, All, IfNone, IfOk, length};
-ghost use Rattle.net_core.specs.Views.{case_of};
-ghost use Rattle.plan_report.specs.KnownNames.{known_of};
-ghost use Rattle.plan_report.specs.Forms.{AreRoutingsInForm};
+ghost use Rattle.plan_terms.specs.Terms.{case_of};
+ghost use Rattle.plan_report.specs.Terms.{known_of, AreRoutingsInForm};
 ghost use Rattle.plan_checker.specs.Carried.{HasBadPath};
 ghost use Rattle.plan_checker.specs.inner.Routes.{FollowPaths};
 ghost use Rattle.plan_checker.specs.inner.Tests.{IsFirstPair};

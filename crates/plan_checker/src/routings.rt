@@ -1,8 +1,6 @@
 ghost use Rattle.std.specs.Prelude.{◌≡◌, ℕ, ◌<◌, ◌^◌, All, OnOk, length, [], ◌∷◌};
-ghost use Rattle.net_core.specs.Views.{case_of};
-ghost use Rattle.plan_report.specs.KnownNames.{known_of};
-ghost use Rattle.plan_report.specs.Forms.{AreRoutingsInForm};
-ghost use Rattle.plan_terms.specs.Capacities.{AreCounts, capacities};
+ghost use Rattle.plan_terms.specs.Terms.{case_of, AreCounts, capacities};
+ghost use Rattle.plan_report.specs.Terms.{known_of, AreRoutingsInForm};
 ghost use Rattle.plan_checker.specs.Carried.{HoldsBadPath, HoldsNotCarried, HoldsOverloaded, IsOverloaded, IsUncarried};
 ghost use Rattle.plan_checker.specs.inner.Routes.{FollowPaths};
 ghost use Rattle.plan_checker.specs.inner.Tests.{Tells, TellFirst};

@@ -1,5 +1,5 @@
 ghost use Rattle.std.specs.Prelude.{◌≡◌, ◌<◌, ◌≤◌, ◌^◌, All, IfOk, length, slice_index};
-ghost use Rattle.net_core.specs.Network.{IsModule};
+ghost use Rattle.plan_terms.specs.Terms.{IsModule};
 ghost use Rattle.plan_checker.specs.Shares.{GivesShare, IsShareOf};
 
 use module_prices::unit_pair;

@@ -1,5 +1,5 @@
 ghost use Rattle.std.specs.Prelude.{◌≡◌, ◌≢◌, ℕ, ◌+◌, ◌*◌, ◌^◌, ◌<◌, ◌≤◌, All, IfOk, length, ◌==◌, if◌then◌else◌};
-ghost use Rattle.plan_terms.specs.Flows.{sent};
+ghost use Rattle.plan_terms.specs.Terms.{sent};
 ghost use Rattle.module_choice.specs.inner.Routes.{times, weight};
 ghost use Rattle.plan_checker.specs.Places.{HoldsAt};
 ghost use Rattle.plan_checker.specs.inner.Mixed.{AreMixed, IsMixed};

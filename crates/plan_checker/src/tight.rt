@@ -1,7 +1,6 @@
 ghost use Rattle.std.specs.Prelude.{◌≡◌, ◌<◌, ◌*◌, ◌^◌, ◌↔◌, All, IfOk, IsTrue, length};
-ghost use Rattle.net_core.specs.Views.{case_of};
-ghost use Rattle.plan_report.specs.KnownNames.{known_of};
-ghost use Rattle.plan_report.specs.Forms.{AreRoutingsInForm, IsQualityInForm, IsShareInForm};
+ghost use Rattle.plan_terms.specs.Terms.{case_of};
+ghost use Rattle.plan_report.specs.Terms.{known_of, AreRoutingsInForm, IsQualityInForm, IsShareInForm};
 ghost use Rattle.plan_checker.specs.Shares.{AreCarried, HoldsNotTight, IsTight};
 ghost use Rattle.plan_checker.specs.inner.Tests.{Tells};
 

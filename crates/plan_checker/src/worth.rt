@@ -1,8 +1,6 @@
 ghost use Rattle.std.specs.Prelude.{◌≡◌, ◌-◌, ◌^◌, ◌<◌, ◌≤◌, ◌↔◌, All, IsTrue, OnOk, length, min, [], ◌∷◌};
-ghost use Rattle.net_core.specs.Network.{IsModule};
-ghost use Rattle.plan_terms.specs.Bounds.{IsBound, IsLowest};
-ghost use Rattle.plan_terms.specs.Certificates.{asked, given, raw_value};
-ghost use Rattle.plan_types.specs.Plans.{lines_of_certificate};
+ghost use Rattle.plan_terms.specs.Terms.{IsModule, IsBound, IsLowest, asked, given, raw_value};
+ghost use Rattle.plan_types.specs.Terms.{lines_of_certificate};
 ghost use Rattle.plan_checker.specs.Certified.{HoldsBoundDiffers, HoldsCertificateWide, HoldsRawDiffers};
 ghost use Rattle.plan_checker.specs.inner.Lines.{certified};
 ghost use Rattle.plan_checker.specs.inner.Tests.{Tells, TellFirst};

@@ -1,17 +1,10 @@
 -- what a planning begins with, state by state
 use Rattle.std.proofs.Common.{◌≡◌, ◌==◌, ℕ, ◌+◌, ◌<◌, ◌≤◌, ◌⊎◌, List, [], ◌∷◌, ◌++◌, Bool, true, false, true≢false, ◌&&◌, cond, Option, None, Some, All, AllPairs, Contains, length, get_or, slice_index_or, inl, inr, refl, sym, ap, ◌∙◌, arith, subst, ⊎_elim}
-use Rattle.std.specs.Cmp.Lexicographic.{pointwise}
-use Rattle.std.proofs.lemmas.Bool.{cases_eq, eq-eqb}
+use Rattle.net_core.proofs.Library.{pointwise, cases_eq, All-append, All-nil, All-push, All-weaker, Contains-append_left, Contains-get_or, Contains-push, Any-push, all_pairs_push}
+use Rattle.std.proofs.lemmas.Bool.{eq-eqb}
 use Rattle.std.proofs.lemmas.List.{append_assoc, append-nil, length-append}
-use Rattle.std.proofs.lemmas.List.Elements.{All-append, All-nil, All-push, All-weaker, Contains-append_left, Contains-get_or, Contains-push}
-use Rattle.std.proofs.lemmas.List.Quantifiers.{Any-push, all_pairs_push}
-use Rattle.net_core.specs.declared.ids.StateId.{StateId}
-use Rattle.net_core.specs.declared.plan.CutLine.{CutLine}
-use Rattle.net_core.specs.Cases.{Case, graph_in}
-use Rattle.net_core.specs.Graphs.{Graph}
-use Rattle.plan_terms.specs.Certificates.{IsCut}
-use Rattle.plan_terms.specs.Openings.{AreOpening, each_once}
-use Rattle.master_law.specs.MasterPrograms.{IsSameCut}
+use Rattle.plan_terms.specs.Terms.{StateId, CutLine, Case, graph_in, Graph, IsCut, AreOpening, each_once}
+use Rattle.master_law.specs.Terms.{IsSameCut}
 use Rattle.plan_law.specs.WorkedLists.{AreDifferentCuts, HasCut, HasOpeningOf, IsBeginning, IsOpeningCut, Lacks, OpensBefore}
 use Rattle.plan_law.specs.inner.Openings.{IsOpenedTo}
 use Rattle.plan_law.proofs.Pairs.{any_more, pairs_append}

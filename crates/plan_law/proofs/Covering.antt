@@ -1,28 +1,12 @@
 -- counts that cover a share carry what the share carries
 use Rattle.std.proofs.Common.{◌≡◌, ℕ, zero, suc, ◌+◌, ◌-◌, ◌*◌, ◌^◌, ◌<◌, ◌≤◌, ◌⊎◌, List, [], ◌∷◌, true, false, cond, Some, length, map, sum_by, slice_get, slice_index, get_or, refl, sym, ap, ◌∙◌, arith, subst, ⊎_elim}
-use Rattle.std.proofs.lemmas.Bool.{cases_lt}
-use Rattle.std.proofs.lemmas.List.{get_or-map, length-map}
-use Rattle.std.proofs.lemmas.List.Sums.{sum_by-cons}
-use Rattle.std.proofs.lemmas.List.Elements.{recursion_from_All}
-use Rattle.std.proofs.lemmas.Option.{slice_get-get_or, slice_get_within}
+use Rattle.net_core.proofs.Library.{cases_lt, get_or-map, length-map, sum_by-cons, recursion_from_All, slice_get-get_or, slice_get_within, AllByRecursion}
 use Rattle.std.proofs.Math.Nat.{mul-le-mul_left}
-use Rattle.std.specs.List.{AllByRecursion}
 use Rattle.module_prices.specs.declared.cheapest.UnitPair.{UnitPair}
-use Rattle.net_core.specs.declared.demand.Demand.{Demand}
-use Rattle.net_core.specs.declared.network.Link.{Link}
-use Rattle.net_core.specs.declared.plan.Flow.{Flow}
-use Rattle.net_core.specs.declared.plan.Routing.{Routing}
-use Rattle.net_core.specs.Cases.{graph_in}
-use Rattle.net_core.specs.Graphs.{Joins}
-use Rattle.net_core.specs.States.{names_link}
-use Rattle.net_core.specs.Sums.{sum_below}
+use Rattle.plan_terms.specs.Terms.{Demand, Link, Flow, Routing, graph_in, Joins, names_link, sum_below, capacities, modules_capacity, sent, load, IsFlow, Carries}
 use Rattle.net_core.proofs.Sums.{below-first, below-same, below-times}
-use Rattle.plan_terms.specs.Capacities.{capacities, modules_capacity}
-use Rattle.plan_terms.specs.Flows.{sent, load, IsFlow, Carries}
-use Rattle.plan_terms.proofs.Duality.{fixed_of}
-use Rattle.plan_terms.proofs.Metric.{all_carried, all_weaker}
-use Rattle.master_law.specs.MasterPrograms.{unit_capacities}
-use Rattle.master_law.specs.UnitPairs.{share_capacities}
+use Rattle.plan_terms.proofs.Lemmas.{fixed_of, all_carried, all_weaker}
+use Rattle.master_law.specs.Terms.{unit_capacities, share_capacities}
 use Rattle.plan_law.specs.Laws.{CoversCarry}
 
 -- a link's capacity in a share

@@ -1,33 +1,16 @@
 -- the definitions on a network of one link, worked out by hand
 use Rattle.std.proofs.Common.{◌≡◌, ◌≢◌, ℕ, zero, suc, ◌+◌, ◌*◌, ◌<◌, ◌≤◌, ◌⊎◌, List, [], ◌∷◌, Some, None, Contains, false, ◌||◌, cond, length, get_or, slice_get, slice_index, refl, sym, ap, arith, subst, inl, inr}
-use Rattle.std.proofs.Math.Nat.{eq-one_of_dvd-one}
+use Rattle.net_core.proofs.Library.{eq-one_of_dvd-one}
 use Rattle.std.proofs.lemmas.Bool.{ne_eqb}
 use Rattle.module_prices.specs.declared.cheapest.UnitPair.{UnitPair}
-use Rattle.net_core.specs.declared.demand.Demand.{Demand}
-use Rattle.net_core.specs.declared.ids.LinkId.{LinkId}
-use Rattle.net_core.specs.declared.network.Link.{Link}
-use Rattle.net_core.specs.declared.network.Module.{Module}
-use Rattle.net_core.specs.declared.places.Places.TheVariants.{Three}
-use Rattle.net_core.specs.declared.plan.CutLine.{CutLine}
-use Rattle.net_core.specs.declared.plan.Flow.{Flow}
-use Rattle.net_core.specs.declared.plan.Routing.{Routing}
-use Rattle.net_core.specs.Cases.{Case, graph_in}
-use Rattle.net_core.specs.Graphs.{Graph, Joins, Survives}
-use Rattle.plan_terms.specs.Certificates.{IsCut}
-use Rattle.plan_terms.specs.Capacities.{link_cost}
-use Rattle.plan_terms.specs.Covers.{Covers, Reaches}
-use Rattle.plan_terms.specs.Flows.{Carries, IsFlow, sent, load}
-use Rattle.plan_terms.specs.Keeping.{Keeps}
-use Rattle.plan_terms.specs.Openings.{AreOpening}
-use Rattle.plan_terms.specs.Paths.{IsDistance, IsPath, length_of}
-use Rattle.plan_terms.specs.Prices.{ArePriceLengths, HasLeastUnitCost, IsPriceLength, IsUnitPair}
+use Rattle.plan_terms.specs.Terms.{Demand, LinkId, Link, Module, Three, CutLine, Flow, Routing, Case, graph_in, Graph, Joins, Survives, IsCut, link_cost, Covers, Reaches, Carries, IsFlow, sent, load, Keeps, AreOpening, IsDistance, IsPath, length_of, ArePriceLengths, HasLeastUnitCost, IsPriceLength, IsUnitPair}
 use Rattle.plan_types.specs.declared.certificate.CertLine.{CertLine}
 use Rattle.plan_types.specs.declared.certificate.Spot.TheVariants.{Local}
 use Rattle.plan_types.specs.declared.plan.Plan.{Plan}
 use Rattle.plan_types.specs.declared.quality.Fractional.{Fractional}
 use Rattle.plan_types.specs.declared.quality.Quality.TheVariants.{Tight}
-use Rattle.route_law.specs.Routings.{IsLowestRouting}
-use Rattle.master_law.specs.UnitPairs.{AreUnitPairs, IsShareNeed}
+use Rattle.route_law.specs.Terms.{IsLowestRouting}
+use Rattle.master_law.specs.Terms.{AreUnitPairs, IsShareNeed}
 use Rattle.plan_law.specs.LoosePlans.{IsWorkedPlan}
 use Rattle.plan_law.specs.TightPlans.{CoversShare, IsTightPlan}
 use Rattle.plan_law.specs.WorkedLists.{HasCut, HasOpeningOf, IsBeginning, IsOpeningCut, IsWorkedList, Lacks}

@@ -1,17 +1,12 @@
 -- no certificate has a greater raw value than a tight plan: its share is carried in each state, so it violates no cut
 use Rattle.std.proofs.Common.{◌≡◌, ℕ, ◌*◌, ◌<◌, ◌≤◌, List, [], ◌∷◌, length, get_or, refl, sym, ap, arith, subst}
-use Rattle.std.proofs.lemmas.Option.{slice_get-get_or}
-use Rattle.std.proofs.Math.Nat.{mul-le-mul_left, le_of_mul-le-mul_left}
+use Rattle.net_core.proofs.Library.{slice_get-get_or, le_of_mul-le-mul_left}
+use Rattle.std.proofs.Math.Nat.{mul-le-mul_left}
 use Rattle.module_prices.specs.declared.cheapest.UnitPair.{UnitPair}
-use Rattle.net_core.specs.declared.network.Link.{Link}
-use Rattle.net_core.specs.declared.plan.CutLine.{CutLine}
-use Rattle.net_core.specs.declared.plan.Routing.{Routing}
-use Rattle.net_core.specs.Cases.{Case, graph_in}
-use Rattle.plan_terms.specs.Certificates.{IsCut, raw_value}
-use Rattle.plan_terms.specs.Violations.{Violates}
+use Rattle.plan_terms.specs.Terms.{Link, CutLine, Routing, Case, graph_in, IsCut, raw_value, Violates}
 use Rattle.plan_types.specs.declared.quality.Fractional.{Fractional}
-use Rattle.route_law.proofs.Kept.{violated_carries_nothing}
-use Rattle.master_law.specs.UnitPairs.{share_capacities, share_caps, share_cost}
+use Rattle.route_law.proofs.Lemmas.{violated_carries_nothing}
+use Rattle.master_law.specs.Terms.{share_capacities, share_caps, share_cost}
 use Rattle.master_law.proofs.Greatest.{unviolated_raw}
 use Rattle.plan_law.specs.Laws.{TightIsGreatest}
 use Rattle.plan_law.specs.TightPlans.{AreCarriedByShare}

@@ -1,6 +1,6 @@
 -- the laws of the crate, from its lemmas
 use Rattle.std.proofs.Common.{get_or, sym}
-use Rattle.std.proofs.lemmas.List.Elements.{Contains-get_or}
+use Rattle.net_core.proofs.Library.{Contains-get_or}
 use Rattle.plan_law.specs.Laws.{FoundCutsAreNew, WorkedListsBegin, WorkedListsDiffer, WorkedListsFill, WorkedListsGoOn}
 use Rattle.plan_law.proofs.Rounds.{begun_worked, found_is_new, worked_cuts, worked_differ, worked_on, worked_short}
 

@@ -1,18 +1,12 @@
 -- a round after a worked list makes a worked list
 use Rattle.std.proofs.Common.{◌≡◌, ◌≢◌, ℕ, ◌+◌, ◌*◌, ◌<◌, ◌≤◌, List, [], ◌∷◌, ◌++◌, All, Contains, length, min, take, sum_by, zip, get_or, refl, sym, ap, ◌∙◌, arith, subst}
 use Rattle.std.proofs.lemmas.List.{append_assoc, length-append, length-take}
-use Rattle.std.proofs.lemmas.List.Elements.{All-append, All-take, All-weaker, Contains-append_right, Contains-get_or}
-use Rattle.net_core.specs.declared.plan.CutLine.{CutLine}
-use Rattle.net_core.specs.Cases.{Case, graph_in}
-use Rattle.net_core.specs.Graphs.{Joins}
+use Rattle.net_core.proofs.Library.{All-append, All-take, All-weaker, Contains-append_right, Contains-get_or}
+use Rattle.plan_terms.specs.Terms.{CutLine, Case, graph_in, Joins, IsCut, IsRight, Violates}
 use Rattle.module_prices.specs.declared.cheapest.UnitPair.{UnitPair}
-use Rattle.plan_terms.specs.Certificates.{IsCut, IsRight}
-use Rattle.plan_terms.specs.Violations.{Violates}
-use Rattle.plan_terms.proofs.Distances.{right_once}
+use Rattle.plan_terms.proofs.Lemmas.{right_once}
 use Rattle.plan_types.specs.declared.quality.Share.{Share}
-use Rattle.master_law.specs.LeastShares.{IsLeastShare}
-use Rattle.master_law.specs.MasterPrograms.{IsSameCut}
-use Rattle.master_law.specs.UnitPairs.{AreUnitPairs, share_caps}
+use Rattle.master_law.specs.Terms.{IsLeastShare, IsSameCut, AreUnitPairs, share_caps}
 use Rattle.master_law.proofs.Shares.{least_violates_none}
 use Rattle.plan_law.specs.WorkedLists.{Round, after_rounds, AreDifferentCuts, AreRounds, cut_short, IsBeginning, IsFoundCut, IsRound, IsWorkedList}
 use Rattle.plan_law.proofs.Begun.{beginning_cuts, beginning_differ, opened_differ}

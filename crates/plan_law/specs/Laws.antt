@@ -1,20 +1,11 @@
 -- what planning by rounds rests on
 use Rattle.std.specs.Prelude.{ℕ, ◌+◌, ◌*◌, ◌≤◌, ◌++◌, List, [], ◌∷◌, All, length, take}
-use Rattle.net_core.specs.declared.plan.CutLine.{CutLine}
-use Rattle.net_core.specs.declared.plan.Routing.{Routing}
-use Rattle.net_core.specs.Cases.{Case, graph_in}
-use Rattle.net_core.specs.Demands.{AreDemands}
-use Rattle.net_core.specs.Graphs.{Joins}
+use Rattle.plan_terms.specs.Terms.{CutLine, Routing, Case, graph_in, AreDemands, Joins, IsModule, capacities, CertificateLine, IsCertificate, IsCut, raw_value, Carries}
 use Rattle.module_prices.specs.declared.cheapest.UnitPair.{UnitPair}
-use Rattle.net_core.specs.Network.{IsModule}
-use Rattle.plan_terms.specs.Capacities.{capacities}
-use Rattle.plan_terms.specs.Certificates.{CertificateLine, IsCertificate, IsCut, raw_value}
-use Rattle.plan_terms.specs.Flows.{Carries}
 use Rattle.plan_types.specs.declared.plan.Plan.{Plan}
 use Rattle.plan_types.specs.declared.quality.Fractional.{Fractional}
 use Rattle.plan_types.specs.declared.quality.Share.{Share}
-use Rattle.master_law.specs.LeastShares.{IsLeastShare}
-use Rattle.master_law.specs.UnitPairs.{AreUnitPairs, share_caps}
+use Rattle.master_law.specs.Terms.{IsLeastShare, AreUnitPairs, share_caps}
 use Rattle.plan_law.specs.TightPlans.{CoversShare, IsProperShare, IsTightPlan}
 use Rattle.plan_law.specs.WorkedLists.{Round, cut_short, AreDifferentCuts, IsBeginning, IsFoundCut, IsRound, IsWorkedList, Lacks}
 

@@ -1,25 +1,15 @@
 -- plans whose search for cuts ended early, and plans of either kind
 use Rattle.std.specs.Prelude.{◌≡◌, ℕ, ◌+◌, ◌*◌, ◌^◌, ◌<◌, ◌≤◌, ◌⊎◌, List, [], ◌∷◌, All, Contains, Some, length, slice_get}
-use Rattle.net_core.specs.declared.columns.Evidence.{Evidence}
-use Rattle.net_core.specs.declared.columns.Evidence.TheVariants.{Route, Master}
-use Rattle.net_core.specs.declared.columns.RouteColumn.{RouteColumn}
-use Rattle.net_core.specs.declared.columns.WideKind.{WideKind}
-use Rattle.net_core.specs.declared.network.Link.{Link}
-use Rattle.net_core.specs.declared.plan.Caps.{Caps}
-use Rattle.net_core.specs.declared.plan.CutLine.{CutLine}
-use Rattle.net_core.specs.Cases.{Case, graph_in}
+use Rattle.plan_terms.specs.Terms.{Evidence, Route, Master, RouteColumn, WideKind, Link, Caps, CutLine, Case, graph_in, capacities, modules_capacity}
 use Rattle.module_prices.specs.declared.cheapest.UnitPair.{UnitPair}
-use Rattle.plan_terms.specs.Capacities.{capacities, modules_capacity}
 use Rattle.plan_types.specs.declared.plan.Plan.{Plan}
 use Rattle.plan_types.specs.declared.quality.Cause.{Cause}
 use Rattle.plan_types.specs.declared.quality.Cause.TheVariants.{Wide, Cuts}
 use Rattle.plan_types.specs.declared.quality.Quality.{Quality}
 use Rattle.plan_types.specs.declared.quality.Quality.TheVariants.{Tight, Loose}
 use Rattle.plan_types.specs.declared.quality.Share.{Share}
-use Rattle.route_law.specs.RouteEvidence.{IsRouteEvidence}
-use Rattle.master_law.specs.LeastShares.{IsLeastShare}
-use Rattle.master_law.specs.MasterEvidence.{IsMasterEvidence}
-use Rattle.master_law.specs.UnitPairs.{share_caps, share_cost}
+use Rattle.route_law.specs.Terms.{IsRouteEvidence}
+use Rattle.master_law.specs.Terms.{IsLeastShare, IsMasterEvidence, share_caps, share_cost}
 use Rattle.plan_law.specs.TightPlans.{CostsRawValue, CoversShare, IsTightPlan}
 use Rattle.plan_law.specs.WorkedLists.{Round, IsFoundCut, IsWorkedList}
 

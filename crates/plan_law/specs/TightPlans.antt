@@ -1,19 +1,13 @@
 -- plans whose bound no cuts can raise: a share that costs the raw value, and that carries the demands in each state
 use Rattle.std.specs.Prelude.{◌≡◌, ℕ, ◌+◌, ◌*◌, ◌<◌, ◌≤◌, List, All, Some, length, slice_get, slice_index}
 use Rattle.std.specs.Int.{◌∣◌}
-use Rattle.net_core.specs.declared.network.Link.{Link}
-use Rattle.net_core.specs.declared.plan.Routing.{Routing}
-use Rattle.net_core.specs.Cases.{Case, graph_in}
-use Rattle.net_core.specs.Graphs.{Joins}
+use Rattle.plan_terms.specs.Terms.{Link, Routing, Case, graph_in, Joins, total_cost, Covers, Carries}
 use Rattle.module_prices.specs.declared.cheapest.UnitPair.{UnitPair}
-use Rattle.plan_terms.specs.Capacities.{total_cost}
-use Rattle.plan_terms.specs.Covers.{Covers}
-use Rattle.plan_terms.specs.Flows.{Carries}
 use Rattle.plan_types.specs.declared.plan.Plan.{Plan}
 use Rattle.plan_types.specs.declared.quality.Fractional.{Fractional}
 use Rattle.plan_types.specs.declared.quality.Share.{Share}
-use Rattle.route_law.specs.Routings.{IsLowestRouting}
-use Rattle.master_law.specs.UnitPairs.{AreUnitPairs, IsShareNeed, share_caps, share_cost}
+use Rattle.route_law.specs.Terms.{IsLowestRouting}
+use Rattle.master_law.specs.Terms.{AreUnitPairs, IsShareNeed, share_caps, share_cost}
 
 -- the counts of each link cover its need in the share
 pub record CoversShare (links : List Link) (pairs : List UnitPair) (share : Share) (counts : List (List ℕ)) : Type 0 where

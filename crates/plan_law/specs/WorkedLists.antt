@@ -1,17 +1,10 @@
 -- the cuts of one planning: those that it begins with, and what its rounds find (cutting planes by rounds)
 use Rattle.std.specs.Prelude.{◌≡◌, ◌≢◌, ℕ, ◌<◌, ◌≤◌, ◌⊎◌, ◌++◌, List, [], ◌∷◌, All, AllPairs, Any, Contains, length, take}
-use Rattle.net_core.specs.declared.plan.CutLine.{CutLine}
-use Rattle.net_core.specs.Cases.{Case, graph_in}
+use Rattle.plan_terms.specs.Terms.{CutLine, Case, graph_in, IsCut, Keeps, AreOpening, Violates}
 use Rattle.module_prices.specs.declared.cheapest.UnitPair.{UnitPair}
-use Rattle.plan_terms.specs.Certificates.{IsCut}
-use Rattle.plan_terms.specs.Keeping.{Keeps}
-use Rattle.plan_terms.specs.Openings.{AreOpening}
-use Rattle.plan_terms.specs.Violations.{Violates}
 use Rattle.plan_types.specs.declared.quality.Share.{Share}
-use Rattle.route_law.specs.PricedLengths.{ArePricedSomewhere}
-use Rattle.master_law.specs.LeastShares.{IsLeastShare}
-use Rattle.master_law.specs.MasterPrograms.{IsSameCut}
-use Rattle.master_law.specs.UnitPairs.{AreUnitPairs, share_caps}
+use Rattle.route_law.specs.Terms.{ArePricedSomewhere}
+use Rattle.master_law.specs.Terms.{IsLeastShare, IsSameCut, AreUnitPairs, share_caps}
 
 -- ---- the beginning
 

@@ -1,11 +1,9 @@
 -- The report of a plan without demands on the triangle is in form.
 use Rattle.std.proofs.Common.{◌≡◌, ℕ, ◌<◌, ◌^◌, List, [], ◌∷◌, All, length, refl, sym, arith}
-use Rattle.std.proofs.lemmas.List.Elements.{All-cons, All-nil}
-use Rattle.net_core.specs.declared.network.Link.{Link}
+use Rattle.net_core.proofs.Library.{All-cons, All-nil}
+use Rattle.plan_terms.specs.Terms.{Link, Three, Pooled}
 use Rattle.worked_networks.specs.Tables.{letters}
 use Rattle.worked_networks.specs.Triangle.{triangle_links}
-use Rattle.net_core.specs.declared.places.Places.TheVariants.{Three}
-use Rattle.net_core.specs.declared.journal.Entry.TheVariants.{Pooled}
 use Rattle.plan_types.specs.declared.certificate.CertLine.{CertLine}
 use Rattle.plan_types.specs.declared.report.Outcome.TheVariants.{Planned}
 use Rattle.plan_report.specs.Forms.{AreLinkNumbers, AreRoutingsInForm, IsCertificateInForm, IsCertificateLineInForm, IsCutInForm, IsEntryInForm, IsFlowInForm, IsOfPool, IsOutcomeInForm, IsPlanInForm, IsReportInForm, IsRoutingInForm, IsShareInForm}

@@ -1,20 +1,13 @@
 -- What the writer draws from a report's form, and that its text spells the report.
 use Rattle.std.proofs.Common.{◌≡◌, ℕ, List, [], ◌∷◌, ◌++◌, All, refl, sym, subst, ◌∙◌, append_assoc}
-use Rattle.net_core.specs.declared.demand.Demand.{Demand}
-use Rattle.net_core.specs.declared.places.Places.{Places}
-use Rattle.net_core.specs.declared.places.Places.TheVariants.{Three, Six}
+use Rattle.plan_terms.specs.Terms.{Demand, Places, Three, Six}
 use Rattle.plan_types.specs.declared.report.Report.{Report}
-use Rattle.text_kit.specs.Files.{IsFileOf}
-use Rattle.text_kit.specs.Items.{ComeAfter, Item}
-use Rattle.text_kit.specs.Laws.{IsHeaderLine}
-use Rattle.text_kit.proofs.Adding.{writable}
-use Rattle.text_kit.proofs.After.{after_all, after_as}
-use Rattle.text_kit.proofs.Files.{written_is_read}
+use Rattle.text_kit.specs.Terms.{IsFileOf, ComeAfter, Item, IsHeaderLine, AddsItems, written}
+use Rattle.text_kit.proofs.Lemmas.{writable, after_all, after_as, written_is_read}
 use Rattle.plan_report.specs.Forms.{IsDemandInForm, IsReportInForm}
 use Rattle.plan_report.specs.Items.{report_items}
 use Rattle.plan_report.specs.KnownNames.{KnownNames}
 use Rattle.plan_report.specs.Texts.{SpellsReport, report_header}
-use Rattle.text_kit.specs.Written.{AddsItems, written}
 use Rattle.plan_report.specs.inner.Writable.{IsWritableDemand}
 
 pub writable_demands : (nodes : List (List ℕ)) (demands : List Demand) → ComeAfter (IsDemandInForm nodes) [] demands → All (IsWritableDemand nodes) demands

@@ -1,29 +1,8 @@
 -- Which plans and reports are in form: their numbers, counts and names are in their ranges, and their places are there.
 use Rattle.std.specs.Prelude.{◌≡◌, ℕ, ◌+◌, ◌≤◌, ◌<◌, ◌^◌, false, List, [], All, length, Option, None, Some, slice_get}
-use Rattle.net_core.specs.declared.columns.Evidence.{Evidence}
-use Rattle.net_core.specs.declared.columns.Evidence.TheVariants.{Route, Master}
-use Rattle.net_core.specs.declared.columns.MasterColumn.{MasterColumn}
+use Rattle.plan_terms.specs.Terms.{Evidence, Route, Master, MasterColumn, RouteColumn, WideKind, Number, Row, Product, Sum, Common, Value, Length, Demand, LinkId, StateId, Edit, Entry, Edited, Pooled, Reply, Accepted, TooMuch, Link, Caps, CutLine, Flow, Routing, Listed, is_named, AreCounts, AreWithinLimits}
 use Rattle.net_core.specs.declared.columns.MasterColumn.TheVariants as master
-use Rattle.net_core.specs.declared.columns.RouteColumn.{RouteColumn}
 use Rattle.net_core.specs.declared.columns.RouteColumn.TheVariants as route
-use Rattle.net_core.specs.declared.columns.WideKind.{WideKind}
-use Rattle.net_core.specs.declared.columns.WideKind.TheVariants.{Number, Row, Product, Sum, Common, Value, Length}
-use Rattle.net_core.specs.declared.demand.Demand.{Demand}
-use Rattle.net_core.specs.declared.ids.LinkId.{LinkId}
-use Rattle.net_core.specs.declared.ids.StateId.{StateId}
-use Rattle.net_core.specs.declared.journal.Edit.{Edit}
-use Rattle.net_core.specs.declared.journal.Entry.{Entry}
-use Rattle.net_core.specs.declared.journal.Entry.TheVariants.{Edited, Pooled}
-use Rattle.net_core.specs.declared.journal.Reply.{Reply}
-use Rattle.net_core.specs.declared.journal.Reply.TheVariants.{Accepted, TooMuch}
-use Rattle.net_core.specs.declared.network.Link.{Link}
-use Rattle.net_core.specs.declared.plan.Caps.{Caps}
-use Rattle.net_core.specs.declared.plan.CutLine.{CutLine}
-use Rattle.net_core.specs.declared.plan.Flow.{Flow}
-use Rattle.net_core.specs.declared.plan.Routing.{Routing}
-use Rattle.net_core.specs.declared.states.Listed.{Listed}
-use Rattle.net_core.specs.Tests.{is_named}
-use Rattle.plan_terms.specs.Capacities.{AreCounts, AreWithinLimits}
 use Rattle.plan_types.specs.declared.certificate.CertLine.{CertLine}
 use Rattle.plan_types.specs.declared.certificate.Certificate.{Certificate}
 use Rattle.plan_types.specs.declared.certificate.Spot.{Spot}
@@ -37,8 +16,7 @@ use Rattle.plan_types.specs.declared.quality.Share.{Share}
 use Rattle.plan_types.specs.declared.report.Outcome.{Outcome}
 use Rattle.plan_types.specs.declared.report.Outcome.TheVariants.{Planned, Unsurvivable}
 use Rattle.plan_types.specs.declared.report.Report.{Report}
-use Rattle.text_kit.specs.Items.{ComeAfter}
-use Rattle.text_kit.specs.Edits.{IsEditInForm}
+use Rattle.text_kit.specs.Terms.{ComeAfter, IsEditInForm}
 use Rattle.plan_report.specs.KnownNames.{KnownNames}
 
 -- ---- numbers, cuts and paths

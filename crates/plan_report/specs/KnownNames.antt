@@ -1,11 +1,6 @@
 -- What the names in a report stand for.
 use Rattle.std.specs.Prelude.{ℕ, List}
-use Rattle.net_core.specs.declared.network.Link.{Link}
-use Rattle.net_core.specs.declared.network.Network.{Network}
-use Rattle.net_core.specs.declared.places.Places.{Places}
-use Rattle.net_core.specs.declared.states.Listed.{Listed}
-use Rattle.net_core.specs.declared.states.States.{States}
-use Rattle.net_core.specs.Cases.{Case}
+use Rattle.plan_terms.specs.Terms.{Link, Network, Places, Listed, States, Case}
 
 -- the nodes, by their names, the links and the listed states that a report may name; and the places of its amounts and money
 pub record KnownNames : Type 0 where

@@ -4,3 +4,4 @@ pub mod KnownNames
 pub mod Forms
 pub mod Texts
 pub mod inner
+pub mod Terms

@@ -1,11 +1,7 @@
 -- the names that a report is written with
 use Rattle.std.specs.Prelude.{ℕ, zero, suc, List, [], get_or, slice_get, codes}
 use Rattle.std.specs.Option.{option_map_or}
-use Rattle.net_core.specs.declared.demand.Demand.{Demand}
-use Rattle.net_core.specs.declared.ids.LinkId.{LinkId}
-use Rattle.net_core.specs.declared.ids.NodeId.{NodeId}
-use Rattle.net_core.specs.declared.network.Link.{Link}
-use Rattle.net_core.specs.declared.states.Listed.{Listed}
+use Rattle.plan_terms.specs.Terms.{Demand, LinkId, NodeId, Link, Listed}
 
 -- a node's name
 abbrev pub node_name : List (List ℕ) → NodeId → List ℕ

@@ -1,10 +1,8 @@
 -- the text of a report, and the bytes that spell one
 use Rattle.std.specs.Prelude.{ℕ, List, ◌∷◌, ◌++◌, codes}
-use Rattle.net_core.specs.declared.places.Places.{Places}
-use Rattle.net_core.specs.declared.places.Places.TheVariants.{Three, Six}
+use Rattle.plan_terms.specs.Terms.{Places, Three, Six}
 use Rattle.plan_types.specs.declared.report.Report.{Report}
-use Rattle.text_kit.specs.Files.{IsFileOf}
-use Rattle.text_kit.specs.Written.{written}
+use Rattle.text_kit.specs.Terms.{IsFileOf, written}
 use Rattle.plan_report.specs.Forms.{IsReportInForm}
 use Rattle.plan_report.specs.Items.{report_items}
 use Rattle.plan_report.specs.KnownNames.{KnownNames}

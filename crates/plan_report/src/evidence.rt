@@ -1,10 +1,8 @@
 ghost use Rattle.std.specs.Prelude.{◌<◌, ◌^◌, ◌∷◌, ◌+◌, List, All, OnOk, flat_map, length};
-ghost use Rattle.net_core.specs.declared.states.Listed.{Listed};
-ghost use Rattle.text_kit.specs.Items.{Whole};
+ghost use Rattle.plan_terms.specs.Terms.{Listed};
+ghost use Rattle.text_kit.specs.Terms.{Whole, enclosed, AddsItems};
 ghost use Rattle.plan_report.specs.Forms.{IsCauseInForm, IsEvidenceInForm, IsKindInForm, IsMasterColumnInForm, IsMasterEvidenceInForm, IsRouteColumnInForm, IsRouteEvidenceInForm};
 ghost use Rattle.plan_report.specs.Items.{cause_items, evidence_items, master_column_items, numbers_items, route_column_items, wide_items};
-ghost use Rattle.text_kit.specs.Edits.{enclosed};
-ghost use Rattle.text_kit.specs.Written.{AddsItems};
 ghost use Rattle.plan_report.specs.inner.Naming.{known_in};
 
 use crate::lists::{put_capacities, put_lengths, put_path};

@@ -1,9 +1,8 @@
 ghost use Rattle.std.specs.Prelude.{List, All, OnOk, flat_map};
-ghost use Rattle.net_core.specs.declared.plan.CutLine.{CutLine};
+ghost use Rattle.plan_terms.specs.Terms.{CutLine};
 ghost use Rattle.plan_report.specs.Forms.{IsEditedInForm, IsEntryInForm, IsReplyInForm};
 ghost use Rattle.plan_report.specs.Items.{entry_items, event_items, numbered_from, reply_items};
-ghost use Rattle.text_kit.specs.Edits.{IsEditInForm, edit_items, enclosed};
-ghost use Rattle.text_kit.specs.Written.{AddsItems};
+ghost use Rattle.text_kit.specs.Terms.{IsEditInForm, edit_items, enclosed, AddsItems};
 
 use net_core::{Bytes, Edit, Entry, NoMemory, Places, Reply};
 use text_kit::puts::{

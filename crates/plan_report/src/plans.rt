@@ -1,10 +1,8 @@
 ghost use Rattle.std.specs.Prelude.{◌≡◌, ◌<◌, ◌^◌, [], ◌∷◌, ◌++◌, All, OnOk, flat_map, length, zip};
-ghost use Rattle.net_core.specs.Names.{IsName};
-ghost use Rattle.text_kit.specs.Items.{Verbatim, Whole, Money};
+ghost use Rattle.plan_terms.specs.Terms.{IsName};
+ghost use Rattle.text_kit.specs.Terms.{Verbatim, Whole, Money, enclosed, AddsItems};
 ghost use Rattle.plan_report.specs.Forms.{AreRoutingsInForm, IsPlanInForm, IsQualityInForm};
 ghost use Rattle.plan_report.specs.Items.{costs_items, demand_items, modules_items, numbers_items, plan_items, quality_items, routings_items};
-ghost use Rattle.text_kit.specs.Edits.{enclosed};
-ghost use Rattle.text_kit.specs.Written.{AddsItems};
 ghost use Rattle.plan_report.specs.inner.Writable.{IsWritableDemand};
 ghost use Rattle.plan_report.specs.inner.Naming.{known_in};
 

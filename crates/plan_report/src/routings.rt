@@ -1,8 +1,7 @@
 ghost use Rattle.std.specs.Prelude.{◌≤◌, All, OnOk, flat_map, length};
 ghost use Rattle.plan_report.specs.Forms.{AreRoutingsInForm, IsFlowInForm, IsRoutingInForm};
 ghost use Rattle.plan_report.specs.Items.{flow_items, routing_items, routings_items};
-ghost use Rattle.text_kit.specs.Edits.{enclosed};
-ghost use Rattle.text_kit.specs.Written.{AddsItems};
+ghost use Rattle.text_kit.specs.Terms.{enclosed, AddsItems};
 ghost use Rattle.plan_report.specs.inner.Naming.{known_in};
 
 use crate::lists::put_path;

@@ -1,15 +1,7 @@
 -- cuts of the case have bounds of their own, and the modules of a network are sound
 use Rattle.std.proofs.Common.{◌≡◌, ⊎_elim, List, [], All, get_or, subst, sym, arith}
-use Rattle.std.specs.Int.{◌∣◌}
-use Rattle.std.proofs.Math.Logic.{∥∥₁_elim}
-use Rattle.std.proofs.Props.{props}
-use Rattle.std.proofs.lemmas.List.Elements.{All-weaker}
-use Rattle.std.proofs.lemmas.Nat.Gcd.{dvd-zero}
-use Rattle.net_core.specs.declared.journal.Entry.{Entry}
-use Rattle.net_core.specs.declared.network.Link.{Link}
-use Rattle.net_core.specs.declared.plan.CutLine.{CutLine}
-use Rattle.net_core.specs.Cases.{Case}
-use Rattle.plan_terms.specs.Certificates.{IsCut}
+use Rattle.net_core.proofs.Library.{◌∣◌, ∥∥₁_elim, props, All-weaker, dvd-zero}
+use Rattle.plan_terms.specs.Terms.{Entry, Link, CutLine, Case, IsCut}
 use Rattle.metric_cut.specs.Bounded.{HaveBound}
 use Rattle.plan_rounds.specs.inner.Listing.{AreListed}
 use Rattle.plan_rounds.specs.declared.candidates.Candidates.{Candidates}

@@ -1,25 +1,14 @@
 -- cuts as they come to the list
-use Rattle.std.proofs.Common.{◌≡◌, ◌≢◌, ◌^◌, ◌<◌, ◌≤◌, inl, inr, ⊎_elim, List, [], ◌++◌, AllPairs, Some, get_or, length, map, take, drop, slice_get, sym, ap, subst, ◌∙◌, arith}
-use Rattle.std.specs.Option.{option_map}
-use Rattle.std.proofs.lemmas.List.{get_or-map, length-map, take-append-drop}
-use Rattle.std.proofs.lemmas.List.Elements.{All-push}
-use Rattle.std.proofs.lemmas.List.Quantifiers.{all_pairs_push}
-use Rattle.std.proofs.lemmas.Option.{slice_get-map, slice_get_within}
-use Rattle.net_core.specs.declared.demand.Demand.{Demand}
-use Rattle.net_core.specs.declared.journal.Entry.{Entry}
-use Rattle.net_core.specs.declared.network.Network.{Network}
-use Rattle.net_core.specs.declared.plan.CutLine.{CutLine}
-use Rattle.net_core.specs.declared.states.States.{States}
-use Rattle.net_core.specs.Cases.{Case, graph_in}
-use Rattle.net_core.specs.Graphs.{Joins}
-use Rattle.net_core.specs.Views.{case}
-use Rattle.plan_terms.specs.Certificates.{AreKept, IsCut, IsRight}
+use Rattle.std.proofs.Common.{◌≡◌, ◌≢◌, ◌^◌, ◌<◌, ◌≤◌, inl, inr, ⊎_elim, List, [], ◌++◌, AllPairs, Some, get_or, length, map, take, drop, slice_get, sym, ap, subst, ◌∙◌, arith, option_map}
+use Rattle.net_core.proofs.Library.{get_or-map, length-map, All-push, all_pairs_push, slice_get-map, slice_get_within}
+use Rattle.std.proofs.lemmas.List.{take-append-drop}
+use Rattle.plan_terms.specs.Terms.{Demand, Entry, Network, CutLine, States, Case, graph_in, Joins, case, AreKept, IsCut, IsRight}
 use Rattle.plan_types.specs.declared.certificate.Spot.{Spot}
 use Rattle.plan_types.specs.declared.certificate.Spot.TheVariants.{Pool}
 use Rattle.metric_cut.specs.Cuts.{IsCutOf}
 use Rattle.metric_cut.specs.declared.cut.Cut.{Cut}
-use Rattle.cut_pool.specs.Histories.{cut_of_line, cuts_of}
-use Rattle.master_law.specs.MasterPrograms.{IsSameCut}
+use Rattle.cut_pool.specs.Terms.{cut_of_line, cuts_of}
+use Rattle.master_law.specs.Terms.{IsSameCut}
 use Rattle.plan_law.specs.WorkedLists.{AreDifferentCuts, HasCut}
 use Rattle.separator.specs.Separators.{IsLineAt, IsSeenHistory, IsSpotIn, SeesMore}
 use Rattle.separator.proofs.Answering.{line_is}

@@ -1,8 +1,9 @@
 -- flows that are multiplied one after another
 use Rattle.std.proofs.Common.{◌≡◌, ℕ, zero, suc, ◌+◌, ◌-◌, ◌*◌, ◌^◌, ◌<◌, ◌≤◌, ◌⊎◌, ◌++◌, List, [], ◌∷◌, All, None, Some, length, get_or, map, take, slice_get, slice_set, remove, refl, sym, ap, ◌∙◌, subst, arith, ⊎_elim}
-use Rattle.std.proofs.lemmas.List.{append_assoc, append-nil, get_or-set_other, length-set, map-append, take_more, take_more_set, take_all, get_or_default}
-use Rattle.net_core.specs.declared.plan.Flow.{Flow}
-use Rattle.route_law.specs.Routings.{flow_times}
+use Rattle.std.proofs.lemmas.List.{append_assoc, append-nil, get_or-set_other, length-set, take_all}
+use Rattle.net_core.proofs.Library.{map-append, take_more, take_more_set, get_or_default}
+use Rattle.plan_terms.specs.Terms.{Flow}
+use Rattle.route_law.specs.Terms.{flow_times}
 
 -- the first n flows are multiplied, and the others are as they were
 pub record AreMultiplied (factor n : ℕ) (old new : List Flow) : Type 0 where

@@ -1,12 +1,8 @@
 -- opening cuts, taken one after another
 use Rattle.std.proofs.Common.{◌≡◌, ℕ, ◌+◌, ◌≤◌, ⊎_elim, List, [], ◌∷◌, ◌++◌, All, Bool, true, false, cond, length, map, sym, ap, subst, ◌∙◌, arith}
-use Rattle.std.proofs.lemmas.List.{append_assoc, append-nil, length-append, length-map}
-use Rattle.std.proofs.lemmas.List.Elements.{All-tail}
-use Rattle.net_core.specs.declared.demand.Demand.{Demand}
-use Rattle.net_core.specs.declared.plan.CutLine.{CutLine}
-use Rattle.net_core.specs.Cases.{Case, graph_in}
-use Rattle.net_core.specs.Graphs.{Graph}
-use Rattle.plan_terms.specs.Openings.{AreOpening, each_once}
+use Rattle.std.proofs.lemmas.List.{append_assoc, append-nil, length-append}
+use Rattle.net_core.proofs.Library.{length-map, All-tail}
+use Rattle.plan_terms.specs.Terms.{Demand, CutLine, Case, graph_in, Graph, AreOpening, each_once}
 use Rattle.metric_cut.specs.Cuts.{IsCutOf}
 use Rattle.metric_cut.specs.declared.cut.Cut.{Cut}
 use Rattle.plan_law.specs.WorkedLists.{HasCut}

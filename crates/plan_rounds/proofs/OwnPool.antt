@@ -1,30 +1,16 @@
 -- a separator that alone writes its history: what it pools is a worked list
 use Rattle.std.proofs.Common.{◌≡◌, ◌≢◌, ℕ, zero, suc, ◌+◌, ◌<◌, ◌≤◌, ◌⊎◌, inl, inr, ⊎_elim, List, [], ◌∷◌, ◌++◌, All, AllPairs, Contains, get_or, length, map, drop, refl, sym, ap, subst, ◌∙◌, arith}
-use Rattle.std.proofs.Math.Seq.{take-length}
-use Rattle.std.proofs.lemmas.List.{append-nil, get_or_append_left, get_or-append-add, get_or-map, length-append, length-map, map-append, nil_from_length}
-use Rattle.std.proofs.lemmas.List.Elements.{All-cons, All-head, All-nil, All-tail, All-weaker}
-use Rattle.std.proofs.lemmas.Option.{get_or_from_slice_get, slice_get_within}
-use Rattle.net_core.specs.declared.demand.Demand.{Demand}
-use Rattle.net_core.specs.declared.journal.Entry.{Entry}
-use Rattle.net_core.specs.declared.journal.Entry.TheVariants.{Edited, Pooled}
-use Rattle.net_core.specs.declared.network.Link.{Link}
-use Rattle.net_core.specs.declared.network.Network.{Network}
-use Rattle.net_core.specs.declared.plan.Caps.{Caps}
-use Rattle.net_core.specs.declared.plan.CutLine.{CutLine}
-use Rattle.net_core.specs.declared.states.States.{States}
-use Rattle.net_core.specs.Cases.{Case}
-use Rattle.net_core.specs.Views.{case}
+use Rattle.net_core.proofs.Library.{take-length, get_or_append_left, get_or-map, length-map, map-append, nil_from_length, All-cons, All-head, All-nil, All-tail, All-weaker, get_or_from_slice_get, slice_get_within}
+use Rattle.std.proofs.lemmas.List.{append-nil, get_or-append-add, length-append}
+use Rattle.plan_terms.specs.Terms.{Demand, Entry, Edited, Pooled, Link, Network, Caps, CutLine, States, Case, case, IsCut, MasterColumn}
 use Rattle.module_prices.specs.declared.cheapest.UnitPair.{UnitPair}
-use Rattle.plan_terms.specs.Certificates.{IsCut}
 use Rattle.plan_types.specs.declared.quality.Share.{Share}
 use Rattle.plan_types.specs.declared.certificate.Spot.{Spot}
 use Rattle.plan_types.specs.declared.certificate.Spot.TheVariants.{Pool, Local}
 use Rattle.metric_cut.specs.declared.cut.Cut.{Cut}
-use Rattle.cut_pool.specs.Histories.{cut_of_line, cuts_of}
-use Rattle.simplex_law.specs.Programs.{ColumnOf}
-use Rattle.net_core.specs.declared.columns.MasterColumn.{MasterColumn}
-use Rattle.master_law.specs.LeastShares.{IsLeastShare}
-use Rattle.master_law.specs.MasterPrograms.{IsCutColumn, IsMasterColumn}
+use Rattle.cut_pool.specs.Terms.{cut_of_line, cuts_of}
+use Rattle.simplex_law.specs.Terms.{ColumnOf}
+use Rattle.master_law.specs.Terms.{IsLeastShare, IsCutColumn, IsMasterColumn}
 use Rattle.plan_law.specs.WorkedLists.{HasCut, IsFoundCut, IsRound, IsWorkedList, Lacks, Round}
 use Rattle.plan_law.proofs.Rounds.{worked_on}
 use Rattle.separator.specs.Separators.{IsLineAt, IsCutEntry, IsFullHistory, IsPartOf, IsSeenHistory, IsSeparatingCut, IsSpotIn, SeesMore, SeparatesAt, cuts_since}

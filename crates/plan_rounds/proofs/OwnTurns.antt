@@ -1,25 +1,14 @@
 -- a turn of a separator that alone writes its history
 use Rattle.std.proofs.Common.{◌≡◌, ◌≢◌, ℕ, zero, suc, ◌+◌, ◌<◌, ◌≤◌, ◌⊎◌, inl, inr, ⊎_elim, List, [], ◌∷◌, ◌++◌, All, AllPairs, Contains, get_or, length, map, take, refl, sym, ap, subst, ◌∙◌, arith}
-use Rattle.std.proofs.Math.Logic.{∥∥₁_elim}
-use Rattle.std.proofs.Props.{props}
-use Rattle.std.proofs.lemmas.Bool.{cases_eq}
-use Rattle.std.proofs.lemmas.List.{get_or-map, length-append, length-map, take_all}
-use Rattle.std.proofs.lemmas.List.Elements.{All-append, All-contains, All-map, All-nil, All-weaker, Contains-append_cases, Contains-append_left, Contains-append_right, Contains-get_or}
-use Rattle.std.proofs.lemmas.Option.{get_or_from_slice_get, slice_get-get_or, slice_get_within}
-use Rattle.net_core.specs.declared.journal.Entry.{Entry}
-use Rattle.net_core.specs.declared.network.Network.{Network}
-use Rattle.net_core.specs.declared.plan.CutLine.{CutLine}
-use Rattle.net_core.specs.declared.states.States.{States}
-use Rattle.net_core.specs.Cases.{Case, graph_in}
-use Rattle.net_core.specs.Graphs.{Joins}
+use Rattle.net_core.proofs.Library.{∥∥₁_elim, props, cases_eq, get_or-map, length-map, All-append, All-contains, All-map, All-nil, All-weaker, Contains-append_cases, Contains-append_left, Contains-append_right, Contains-get_or, get_or_from_slice_get, slice_get-get_or, slice_get_within}
+use Rattle.std.proofs.lemmas.List.{length-append, take_all}
+use Rattle.plan_terms.specs.Terms.{Entry, Network, CutLine, States, Case, graph_in, Joins, IsCut, IsRight}
 use Rattle.module_prices.specs.declared.cheapest.UnitPair.{UnitPair}
-use Rattle.plan_terms.specs.Certificates.{IsCut, IsRight}
-use Rattle.plan_terms.proofs.Distances.{right_once}
+use Rattle.plan_terms.proofs.Lemmas.{right_once}
 use Rattle.plan_types.specs.declared.certificate.Spot.{Spot}
 use Rattle.plan_types.specs.declared.certificate.Spot.TheVariants.{Pool, Local}
-use Rattle.cut_pool.specs.Histories.{cut_of_line, cuts_of}
-use Rattle.master_law.specs.MasterPrograms.{IsSameCut}
-use Rattle.master_law.specs.UnitPairs.{AreUnitPairs}
+use Rattle.cut_pool.specs.Terms.{cut_of_line, cuts_of}
+use Rattle.master_law.specs.Terms.{IsSameCut, AreUnitPairs}
 use Rattle.master_bound.specs.declared.answer.Best.{Best}
 use Rattle.plan_law.specs.WorkedLists.{AreDifferentCuts, IsBeginning}
 use Rattle.plan_law.proofs.Pairs.{pairs_append}

@@ -1,19 +1,9 @@
 -- the right side of a cut whose lengths are below 2^32 is below 2^84
 use Rattle.std.proofs.Common.{◌≡◌, ℕ, ◌*◌, ◌^◌, ◌<◌, ◌≤◌, List, [], ◌∷◌, All, Option, None, Some, get_or, length, sum_by, unwrap_or, zip, slice_get, slice_index_or, suc, refl, sym, subst, ⊎_elim, arith}
 use Rattle.std.proofs.Math.Nat.{mul-le-mul_left}
-use Rattle.std.proofs.lemmas.Bool.{cases_lt}
-use Rattle.std.proofs.lemmas.List.{get_or_past}
-use Rattle.std.proofs.lemmas.Option.{get_or_from_slice_get, slice_get_within}
-use Rattle.std.proofs.lemmas.List.Sums.{sum_by-cons}
-use Rattle.net_core.specs.declared.demand.Demand.{Demand}
-use Rattle.net_core.specs.declared.ids.LinkId.{LinkId}
-use Rattle.net_core.specs.Demands.{AreDemands}
-use Rattle.net_core.specs.Graphs.{Graph, Joins}
-use Rattle.net_core.specs.Network.{IsNetwork}
-use Rattle.plan_terms.specs.Certificates.{IsRight}
-use Rattle.plan_terms.specs.Paths.{IsDistance, length_of}
-use Rattle.plan_terms.proofs.Few.{path_few}
-use Rattle.plan_terms.proofs.Joining.{joins_inside}
+use Rattle.net_core.proofs.Library.{cases_lt, get_or_past, get_or_from_slice_get, slice_get_within, sum_by-cons}
+use Rattle.plan_terms.specs.Terms.{Demand, LinkId, AreDemands, Graph, Joins, IsNetwork, IsRight, IsDistance, length_of}
+use Rattle.plan_terms.proofs.Lemmas.{path_few, joins_inside}
 
 -- lengths of 2^32 at most along some links
 along_low : (lengths : List ℕ) → ((e : ℕ) → get_or lengths e 0 < 2 ^ 32) → (es : List LinkId) → length_of lengths es ≤ length es * 2 ^ 32

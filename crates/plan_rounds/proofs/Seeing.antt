@@ -1,15 +1,10 @@
 -- histories that a separator has seen, as they grow, and where cuts stand in them
 use Rattle.std.proofs.Common.{◌≡◌, ◌≢◌, ℕ, zero, suc, ◌<◌, ⊎_elim, List, [], ◌∷◌, ◌++◌, AllPairs, Some, length, take, slice_get, refl, sym, subst, ◌∙◌, arith}
 use Rattle.std.proofs.lemmas.List.{append_assoc, append-nil, length-append}
-use Rattle.std.proofs.lemmas.List.Quantifiers.{all_pairs_push}
-use Rattle.net_core.specs.declared.journal.Entry.{Entry}
-use Rattle.net_core.specs.declared.journal.Entry.TheVariants.{Edited, Pooled}
-use Rattle.net_core.specs.declared.network.Network.{Network}
-use Rattle.net_core.specs.declared.plan.CutLine.{CutLine}
-use Rattle.net_core.specs.declared.states.States.{States}
-use Rattle.net_core.specs.Cases.{Case}
+use Rattle.net_core.proofs.Library.{all_pairs_push}
+use Rattle.plan_terms.specs.Terms.{Entry, Edited, Pooled, Network, CutLine, States, Case}
 use Rattle.plan_types.specs.declared.certificate.Spot.{Spot}
-use Rattle.cut_pool.specs.Histories.{IsLegalAfter, cut_of_line, cuts_of}
+use Rattle.cut_pool.specs.Terms.{IsLegalAfter, cut_of_line, cuts_of}
 use Rattle.separator.specs.Separators.{IsCutEntry, IsSeenHistory, IsSpotIn}
 use Rattle.separator.proofs.Pooling.{cuts_both}
 use Rattle.separator.proofs.Seeing.{get_more, sees_both, sees_none, spot_later}

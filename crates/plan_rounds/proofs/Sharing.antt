@@ -1,15 +1,10 @@
 -- the capacities of a share, over a common divisor of theirs
 use Rattle.std.proofs.Common.{◌≡◌, ℕ, zero, suc, ◌+◌, ◌*◌, ◌/◌, ◌<◌, List, [], ◌∷◌, ◌++◌, All, get_or, length, map, take, zip, sym, ap, subst, ◌∙◌, arith}
-use Rattle.std.specs.Int.{IsGcd, ◌∣◌}
-use Rattle.std.proofs.lemmas.List.{get_or-map, length-map, map-append, take_more}
-use Rattle.std.proofs.lemmas.List.Elements.{All-push}
-use Rattle.std.proofs.lemmas.Slice.Zip.{get_or-zip, length-zip}
-use Rattle.std.proofs.lemmas.Nat.Gcd.{dvd_trans}
-use Rattle.std.proofs.Math.Nat.{mul-div_cancel'}
-use Rattle.net_core.specs.declared.network.Link.{Link}
+use Rattle.net_core.proofs.Library.{IsGcd, ◌∣◌, get_or-map, length-map, map-append, take_more, All-push, get_or-zip, length-zip, dvd_trans, mul-div_cancel'}
+use Rattle.plan_terms.specs.Terms.{Link}
 use Rattle.module_prices.specs.declared.cheapest.UnitPair.{UnitPair}
 use Rattle.plan_types.specs.declared.quality.Share.{Share}
-use Rattle.master_law.specs.UnitPairs.{share_capacities}
+use Rattle.master_law.specs.Terms.{share_capacities}
 use Rattle.plan_rounds.specs.inner.Sharing.{DividesAll, IsDividedShare}
 use Rattle.plan_rounds.specs.declared.shares.ShareCaps.{ShareCaps}
 use Rattle.net_core.proofs.Numbers.{positive_divisor}

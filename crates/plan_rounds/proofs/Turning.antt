@@ -1,35 +1,18 @@
 -- turns of the rounds
 use Rattle.std.proofs.Common.{◌≡◌, ℕ, zero, suc, ◌+◌, ◌-◌, ◌*◌, ◌^◌, ◌<◌, ◌≤◌, ◌⊎◌, inl, inr, ⊎_elim, List, [], ◌∷◌, ◌++◌, All, AllPairs, Option, Some, None, get_or, length, min, take, slice_get, refl, sym, ap, subst, ◌∙◌, arith}
-use Rattle.std.proofs.lemmas.Int.{ints}
+use Rattle.net_core.proofs.Library.{ints, All-append, All-take, All-weaker, Contains-get_or}
 use Rattle.std.proofs.lemmas.List.{length-append, length-take}
-use Rattle.std.proofs.lemmas.List.Elements.{All-append, All-take, All-weaker, Contains-get_or}
-use Rattle.net_core.specs.declared.columns.Evidence.{Evidence}
-use Rattle.net_core.specs.declared.columns.Evidence.TheVariants.{Route, Master}
-use Rattle.net_core.specs.declared.journal.Entry.{Entry}
-use Rattle.net_core.specs.declared.plan.Caps.{Caps}
-use Rattle.net_core.specs.declared.plan.CutLine.{CutLine}
-use Rattle.net_core.specs.Cases.{Case, graph_in}
-use Rattle.net_core.specs.Demands.{AreDemands}
-use Rattle.net_core.specs.Graphs.{Joins}
-use Rattle.net_core.specs.Network.{IsModule, IsNetwork}
+use Rattle.plan_terms.specs.Terms.{Evidence, Route, Master, Entry, Caps, CutLine, Case, graph_in, AreDemands, Joins, IsModule, IsNetwork, IsCut, Carries, Violates}
 use Rattle.module_prices.specs.declared.cheapest.UnitPair.{UnitPair}
-use Rattle.plan_terms.specs.Certificates.{IsCut}
-use Rattle.plan_terms.specs.Flows.{Carries}
-use Rattle.plan_terms.specs.Violations.{Violates}
 use Rattle.plan_types.specs.declared.certificate.Spot.{Spot}
 use Rattle.plan_types.specs.declared.quality.Cause.TheVariants.{Wide, Cuts}
 use Rattle.plan_types.specs.declared.quality.Quality.{Quality}
 use Rattle.plan_types.specs.declared.quality.Quality.TheVariants.{Tight, Loose}
 use Rattle.plan_types.specs.declared.quality.Share.{Share}
-use Rattle.route_law.specs.Divisions.{flows_times}
-use Rattle.route_law.specs.RouteEvidence.{IsRouteEvidence}
-use Rattle.route_law.proofs.Divided.{divided_are_wide}
-use Rattle.route_law.proofs.Multiples.{divided_are_carried, divided_are_violated}
+use Rattle.route_law.specs.Terms.{flows_times, IsRouteEvidence}
+use Rattle.route_law.proofs.Lemmas.{divided_are_wide, divided_are_carried, divided_are_violated}
 use Rattle.flow_router.specs.Answers.{IsEvidenceHere, IsRouted}
-use Rattle.master_law.specs.LeastShares.{IsLeastShare}
-use Rattle.master_law.specs.MasterEvidence.{IsMasterEvidence}
-use Rattle.master_law.specs.MasterPrograms.{IsSameCut}
-use Rattle.master_law.specs.UnitPairs.{AreUnitPairs, share_caps, share_cost}
+use Rattle.master_law.specs.Terms.{IsLeastShare, IsMasterEvidence, IsSameCut, AreUnitPairs, share_caps, share_cost}
 use Rattle.master_bound.specs.Answers.{IsBestOf, IsEvidenceOf}
 use Rattle.master_bound.specs.declared.answer.Best.{Best}
 use Rattle.plan_law.specs.TightPlans.{IsProperShare}

@@ -1,35 +1,14 @@
 -- routings and evidence at capacities over a divisor, at the capacities themselves
 use Rattle.std.proofs.Common.{◌≡◌, ℕ, pos, ◌+◌, ◌*◌, ◌/◌, ◌^◌, ◌<◌, ◌≤◌, ◌==◌, ⊎_elim, if◌then◌else◌, List, [], ◌∷◌, ◌++◌, All, Some, None, get_or, length, map, slice_get, slice_index, refl, sym, ap, subst, ◌∙◌, arith}
-use Rattle.std.specs.Int.{IsGcd, ◌∣◌}
+use Rattle.net_core.proofs.Library.{IsGcd, ◌∣◌, get_or-map, length-map, get_or-le-sum_by, dvd_trans, get_or_from_slice_get, slice_get-get_or, slice_get_within, dvd-mul_left_of_dvd, dvd_of_mul-dvd-mul_left, eq-one_of_dvd-one, mul-div_cancel', mul-dvd-mul_left}
 use Rattle.std.proofs.lemmas.Bool.{eq-eqb}
-use Rattle.std.proofs.lemmas.List.{append_assoc, append-nil, get_or-map, length-append, length-map}
-use Rattle.std.proofs.lemmas.List.Sums.{get_or-le-sum_by}
-use Rattle.std.proofs.lemmas.Nat.Gcd.{dvd_trans}
-use Rattle.std.proofs.lemmas.Option.{get_or_from_slice_get, slice_get-get_or, slice_get_within}
-use Rattle.std.proofs.Math.Nat.{dvd-mul_left_of_dvd, dvd_of_mul-dvd-mul_left, eq-one_of_dvd-one, mul-div_cancel', mul-dvd-mul_left, mul-le-mul_right}
-use Rattle.net_core.specs.declared.columns.Evidence.{Evidence}
-use Rattle.net_core.specs.declared.columns.Evidence.TheVariants.{Route, Master}
-use Rattle.net_core.specs.declared.columns.RouteColumn.{RouteColumn}
-use Rattle.net_core.specs.declared.columns.RouteColumn.TheVariants.{DemandSlack, LinkSlack}
-use Rattle.net_core.specs.declared.columns.WideKind.TheVariants.{Number}
-use Rattle.net_core.specs.declared.demand.Demand.{Demand}
-use Rattle.net_core.specs.declared.plan.Caps.{Caps}
-use Rattle.net_core.specs.declared.plan.Flow.{Flow}
-use Rattle.net_core.specs.declared.plan.Routing.{Routing}
-use Rattle.net_core.specs.Cases.{Case, graph_in}
-use Rattle.net_core.specs.Graphs.{Graph, Joins}
-use Rattle.plan_terms.specs.Flows.{Carries, sent}
-use Rattle.plan_terms.proofs.OwnBounds.{product_below}
-use Rattle.simplex_law.specs.Evidence.{IsWide}
-use Rattle.route_law.specs.Divisions.{caps_times, flows_times}
-use Rattle.route_law.specs.RouteEvidence.{IsRouteEvidence}
-use Rattle.route_law.specs.Routings.{IsLowestRouting, flow_times, over_times}
-use Rattle.route_law.specs.RoutingPrograms.{route_bound, route_rows, route_slack, scaled_need}
-use Rattle.route_law.proofs.Divided.{divided_are_wide}
-use Rattle.route_law.proofs.Lowest.{carried_lowest}
-use Rattle.route_law.proofs.Multiples.{divided_are_carried}
-use Rattle.route_law.proofs.Rows.{beside_after}
-use Rattle.route_law.proofs.Slacks.{number_evidence}
+use Rattle.std.proofs.lemmas.List.{append_assoc, append-nil, length-append}
+use Rattle.std.proofs.Math.Nat.{mul-le-mul_right}
+use Rattle.plan_terms.specs.Terms.{Evidence, Route, Master, RouteColumn, DemandSlack, LinkSlack, Number, Demand, Caps, Flow, Routing, Case, graph_in, Graph, Joins, Carries, sent}
+use Rattle.plan_terms.proofs.Lemmas.{product_below}
+use Rattle.simplex_law.specs.Terms.{IsWide}
+use Rattle.route_law.specs.Terms.{caps_times, flows_times, IsRouteEvidence, IsLowestRouting, flow_times, over_times, route_bound, route_rows, route_slack, scaled_need}
+use Rattle.route_law.proofs.Lemmas.{divided_are_wide, carried_lowest, divided_are_carried, beside_after, number_evidence}
 use Rattle.master_law.proofs.Shared.{divides_common}
 use Rattle.flow_router.specs.Answers.{IsRouted}
 use Rattle.plan_rounds.specs.inner.Answered.{AreRoutedStates, IsEvidenceOfState}

@@ -1,30 +1,17 @@
 -- what the rounds of a planning come to
 use Rattle.std.specs.Prelude.{◌≡◌, ℕ, ◌+◌, ◌*◌, ◌^◌, ◌<◌, ◌≤◌, ◌⊎◌, List, [], ◌∷◌, Option, None, Some, All, IsSomeAnd, length, map, slice_get, take}
-use Rattle.net_core.specs.declared.columns.Evidence.{Evidence}
-use Rattle.net_core.specs.declared.columns.Evidence.TheVariants.{Route, Master}
-use Rattle.net_core.specs.declared.columns.RouteColumn.{RouteColumn}
-use Rattle.net_core.specs.declared.columns.WideKind.{WideKind}
-use Rattle.net_core.specs.declared.journal.Entry.{Entry}
-use Rattle.net_core.specs.declared.plan.Caps.{Caps}
-use Rattle.net_core.specs.declared.plan.CutLine.{CutLine}
-use Rattle.net_core.specs.declared.plan.Routing.{Routing}
-use Rattle.net_core.specs.Cases.{Case, graph_in}
-use Rattle.net_core.specs.Graphs.{Joins}
+use Rattle.plan_terms.specs.Terms.{Evidence, Route, Master, RouteColumn, WideKind, Entry, Caps, CutLine, Routing, Case, graph_in, Joins, IsCut, Carries}
 use Rattle.module_prices.specs.declared.cheapest.UnitPair.{UnitPair}
-use Rattle.plan_terms.specs.Certificates.{IsCut}
-use Rattle.plan_terms.specs.Flows.{Carries}
 use Rattle.plan_types.specs.declared.certificate.Spot.{Spot}
 use Rattle.plan_types.specs.declared.quality.Cause.{Cause}
 use Rattle.plan_types.specs.declared.quality.Cause.TheVariants.{Wide, Cuts}
 use Rattle.plan_types.specs.declared.quality.Fractional.{Fractional}
 use Rattle.plan_types.specs.declared.quality.Quality.{Quality}
 use Rattle.plan_types.specs.declared.quality.Quality.TheVariants.{Tight, Loose}
-use Rattle.route_law.specs.RouteEvidence.{IsRouteEvidence}
+use Rattle.route_law.specs.Terms.{IsRouteEvidence}
 use Rattle.flow_router.specs.Answers.{IsRouted}
-use Rattle.cut_pool.specs.Histories.{cut_of_line, cuts_of}
-use Rattle.master_law.specs.LeastShares.{IsLeastShare}
-use Rattle.master_law.specs.MasterEvidence.{IsMasterEvidence}
-use Rattle.master_law.specs.UnitPairs.{share_caps, share_cost}
+use Rattle.cut_pool.specs.Terms.{cut_of_line, cuts_of}
+use Rattle.master_law.specs.Terms.{IsLeastShare, IsMasterEvidence, share_caps, share_cost}
 use Rattle.master_bound.specs.Answers.{IsBestOf}
 use Rattle.master_bound.specs.declared.answer.Best.{Best}
 use Rattle.plan_law.specs.TightPlans.{IsProperShare}

@@ -1,8 +1,7 @@
 ghost use Rattle.std.specs.Prelude.{◌≡◌, ◌↔◌, ◌≤◌, IfOk, IsTrue, OnOk, false};
-ghost use Rattle.net_core.specs.Cases.{graph_in};
-ghost use Rattle.net_core.specs.Views.{case_of};
+ghost use Rattle.plan_terms.specs.Terms.{graph_in, case_of};
 ghost use Rattle.metric_cut.specs.Cuts.{IsCutOf};
-ghost use Rattle.master_law.specs.MasterPrograms.{IsSameCut};
+ghost use Rattle.master_law.specs.Terms.{IsSameCut};
 ghost use Rattle.plan_law.specs.WorkedLists.{HasCut, Lacks};
 ghost use Rattle.plan_rounds.specs.inner.Alone.{PoolsOpening};
 ghost use Rattle.plan_rounds.specs.inner.Listing.{AreFirstSpots, AreListed, GoesOn, PutsLine, TakesCut};

@@ -1,12 +1,8 @@
 ghost use Rattle.std.specs.Prelude.{◌≡◌, ◌*◌, ◌+◌, ◌<◌, ◌≤◌, ◌^◌, All, IfOk, IfSome, MatchOption, None, length};
-ghost use Rattle.net_core.specs.Cases.{graph_in};
-ghost use Rattle.net_core.specs.Views.{case_of};
-ghost use Rattle.simplex_law.specs.Bases.{AreNames};
-ghost use Rattle.simplex_law.specs.Programs.{slack_basis};
+ghost use Rattle.plan_terms.specs.Terms.{graph_in, case_of, DemandSlack, LinkSlack};
+ghost use Rattle.simplex_law.specs.Terms.{AreNames, slack_basis};
 ghost use Rattle.flow_router.specs.Answers.{IsEvidenceHere};
-ghost use Rattle.route_law.specs.Divisions.{caps_times};
-ghost use Rattle.route_law.specs.RoutingPrograms.{beside};
-ghost use Rattle.net_core.specs.declared.columns.RouteColumn.TheVariants.{DemandSlack, LinkSlack};
+ghost use Rattle.route_law.specs.Terms.{caps_times, beside};
 ghost use Rattle.plan_rounds.specs.inner.Answered.{AreRoutedStates, IsEvidenceOfState};
 ghost use Rattle.plan_rounds.specs.inner.Sharing.{AreSlackNames, HasWideNeed, IsQualityAt, at_caps};
 

@@ -1,7 +1,5 @@
 ghost use Rattle.std.specs.Prelude.{◌≡◌, ◌+◌, ◌*◌, ◌<◌, ◌≤◌, List as Seq, [], All, IfOk, OnOk, ℕ, length};
-ghost use Rattle.net_core.specs.declared.plan.CutLine.{CutLine};
-ghost use Rattle.net_core.specs.Cases.{graph_in};
-ghost use Rattle.net_core.specs.Views.{case_of};
+ghost use Rattle.plan_terms.specs.Terms.{CutLine, graph_in, case_of};
 ghost use Rattle.metric_cut.specs.Cuts.{IsCutOf};
 ghost use Rattle.plan_law.specs.inner.Openings.{IsOpenedTo};
 ghost use Rattle.plan_law.specs.WorkedLists.{IsBeginning};

@@ -1,8 +1,7 @@
 ghost use Rattle.std.specs.Prelude.{◌≡◌, [], ◌+◌, ◌≤◌, ◌<◌, ℕ, List as Seq, Option as Maybe, None, IfOk, IfSome, OnOk, length};
-ghost use Rattle.net_core.specs.Views.{case_of};
-ghost use Rattle.plan_terms.specs.Separations.{IsSurvivable};
-ghost use Rattle.route_law.specs.Divisions.{caps_times};
-ghost use Rattle.master_law.specs.UnitPairs.{AreUnitPairs};
+ghost use Rattle.plan_terms.specs.Terms.{case_of, IsSurvivable};
+ghost use Rattle.route_law.specs.Terms.{caps_times};
+ghost use Rattle.master_law.specs.Terms.{AreUnitPairs};
 ghost use Rattle.master_bound.specs.declared.answer.Best.{Best};
 ghost use Rattle.separator.specs.Separators.{SeesMore};
 ghost use Rattle.plan_rounds.specs.WorkedRounds.{AreWorkedRounds, IsBestAt, IsPoolOf, IsWorkedPool};

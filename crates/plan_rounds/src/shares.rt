@@ -1,6 +1,6 @@
 ghost use Rattle.std.specs.Prelude.{◌≡◌, ◌+◌, ◌*◌, ◌<◌, ◌≤◌, ◌^◌, All, IfOk, length, map};
 ghost use Rattle.std.specs.Int.{◌∣◌};
-ghost use Rattle.master_law.specs.UnitPairs.{AreUnitPairs, share_capacities};
+ghost use Rattle.master_law.specs.Terms.{AreUnitPairs, share_capacities};
 ghost use Rattle.plan_rounds.specs.inner.Sharing.{DividesAll, IsDividedShare};
 
 use checked_fraction::gcd;

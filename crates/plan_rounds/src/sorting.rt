@@ -1,8 +1,6 @@
 ghost use Rattle.std.specs.Prelude.{◌≡◌, ◌+◌, ◌<◌, ◌^◌, ℕ, List as Seq, All, IfOk, OnOk, length, map};
-ghost use Rattle.net_core.specs.declared.journal.Entry.{Entry};
-ghost use Rattle.net_core.specs.declared.plan.Caps.{Caps};
-ghost use Rattle.net_core.specs.Cases.{Case};
-ghost use Rattle.cut_pool.specs.Histories.{cut_of_line};
+ghost use Rattle.plan_terms.specs.Terms.{Entry, Caps, Case};
+ghost use Rattle.cut_pool.specs.Terms.{cut_of_line};
 ghost use Rattle.separator.specs.Separators.{AreStateAnswers, cuts_answered};
 ghost use Rattle.plan_rounds.specs.inner.Answered.{AnswersShort, AreSorted, PutsAnswer};
 

@@ -1,6 +1,6 @@
 ghost use Rattle.std.specs.Prelude.{◌≡◌, ◌*◌, ◌<◌, ◌^◌, All, IfOk, length, map, Some, slice_get, ℕ};
-ghost use Rattle.net_core.specs.declared.plan.Routing.{Routing};
-ghost use Rattle.route_law.specs.Routings.{flow_times};
+ghost use Rattle.plan_terms.specs.Terms.{Routing};
+ghost use Rattle.route_law.specs.Terms.{flow_times};
 ghost use Rattle.plan_rounds.specs.inner.Sharing.{AreUndivided, IsUndivided};
 
 use checked_fraction::gcd;

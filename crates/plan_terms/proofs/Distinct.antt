@@ -1,12 +1,9 @@
 -- the links of a path: each is a link of the network, and none stands twice
 use Rattle.std.proofs.Common.{◌≡◌, ◌≢◌, ℕ, ◌<◌, List, [], ◌∷◌, length, get_or, true, false, eqb, eqb-true, ◌⊎◌, inl, inr, ⊎_elim, refl, sym, subst, ◌∙◌}
-use Rattle.std.proofs.lemmas.Bool.{cases_Bool, false≢true}
-use Rattle.std.proofs.lemmas.List.Elements.{All-from_recursion}
-use Rattle.std.specs.List.{AllByRecursion}
+use Rattle.net_core.proofs.Library.{cases_Bool, false≢true, All-from_recursion, AllByRecursion}
 use Rattle.net_core.specs.declared.ids.LinkId.{LinkId}
 use Rattle.net_core.specs.declared.network.Link.{Link}
-use Rattle.net_core.specs.States.{names_link}
-use Rattle.net_core.specs.Graphs.{Graph, HasEnds, Joins}
+use Rattle.net_core.specs.Terms.{names_link, Graph, HasEnds, Joins}
 use Rattle.plan_terms.specs.Paths.{Leads, AreDifferent, IsPath}
 use Rattle.plan_terms.proofs.Joining.{joins_below}
 

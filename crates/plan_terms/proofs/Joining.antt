@@ -1,13 +1,8 @@
 -- what `Joins` says of the link that is at hand
-use Rattle.std.proofs.Common.{◌≡◌, ◌≢◌, ℕ, ◌<◌, [], length, get_or, Some, false, inl, inr, refl, sym, arith, subst}
-use Rattle.std.specs.List.{All, slice_get}
-use Rattle.std.proofs.Math.Logic.{∥∥₁_elim}
-use Rattle.std.proofs.Props.{props}
-use Rattle.std.proofs.lemmas.Option.{slice_get_read, slice_get_within, get_or_from_slice_get}
+use Rattle.std.proofs.Common.{◌≡◌, ◌≢◌, ℕ, ◌<◌, [], length, get_or, Some, false, inl, inr, refl, sym, arith, subst, All, slice_get}
+use Rattle.net_core.proofs.Library.{∥∥₁_elim, props, slice_get_read, slice_get_within, get_or_from_slice_get}
 use Rattle.net_core.specs.declared.network.Link.{Link}
-use Rattle.net_core.specs.Network.{IsLink, IsNetwork}
-use Rattle.net_core.specs.States.{fails}
-use Rattle.net_core.specs.Graphs.{Graph, HasEnds, Joins, Survives}
+use Rattle.net_core.specs.Terms.{IsLink, IsNetwork, fails, Graph, HasEnds, Joins, Survives}
 
 turned_ends : (l : Link) (x y : ℕ) → HasEnds l x y → HasEnds l y x
 turned_ends l x y (inl p) = inr (p.1, p.0)

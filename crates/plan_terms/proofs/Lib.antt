@@ -10,3 +10,4 @@ pub mod Multipliers
 pub mod OwnBounds
 pub mod Shortcuts
 pub mod Walks
+pub mod Lemmas

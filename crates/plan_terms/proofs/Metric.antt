@@ -1,22 +1,17 @@
 -- the metric inequality: what is carried over its distance is no more than the capacities along the lengths
 use Rattle.std.proofs.Common.{◌≡◌, ℕ, zero, suc, ◌+◌, ◌*◌, ◌≤◌, ◌<◌, List, [], ◌∷◌, length, true, false, cond, eqb, ◌||◌, Some, None, Option, unwrap_or, ⊎_elim, refl, sym, ap, subst, ◌∙◌, arith, sum_by, zip, slice_get, slice_index, slice_index_or}
-use Rattle.std.proofs.lemmas.List.Sums.{sum_by-cons}
-use Rattle.std.proofs.lemmas.List.Elements.{recursion_from_All}
-use Rattle.std.proofs.lemmas.Bool.{cases_eq, eq-eqb, ne_eqb}
-use Rattle.std.proofs.lemmas.Option.{slice_get_within}
-use Rattle.std.proofs.Math.Nat.{mul-le-mul_left, le_of_mul-le-mul_left}
-use Rattle.std.specs.List.{AllByRecursion}
+use Rattle.net_core.proofs.Library.{sum_by-cons, recursion_from_All, cases_eq, slice_get_within, le_of_mul-le-mul_left, AllByRecursion}
+use Rattle.std.proofs.lemmas.Bool.{eq-eqb, ne_eqb}
+use Rattle.std.proofs.Math.Nat.{mul-le-mul_left}
 use Rattle.net_core.specs.declared.demand.Demand.{Demand}
 use Rattle.net_core.specs.declared.ids.LinkId.{LinkId}
 use Rattle.net_core.specs.declared.plan.Flow.{Flow}
 use Rattle.net_core.specs.declared.plan.Routing.{Routing}
-use Rattle.net_core.specs.States.{names_link}
+use Rattle.net_core.specs.Terms.{names_link, Graph, Joins, sum_below}
 use Rattle.plan_terms.specs.Certificates.{IsRight}
 use Rattle.plan_terms.specs.Flows.{sent, load, IsFlow, Carries}
-use Rattle.net_core.specs.Graphs.{Graph, Joins}
 use Rattle.plan_terms.specs.Paths.{IsPath, IsDistance, length_of}
 use Rattle.plan_terms.proofs.Distinct.{DistinctLinks, path_links_inside, path_links_differ}
-use Rattle.net_core.specs.Sums.{sum_below}
 use Rattle.net_core.proofs.Sums.{below-same, below-le, below-times, below-none, below-plus, below-swapped, below-one, sums-le, sums-same, sums-equal, sums-times, paired}
 
 -- what different links sum to, link by link

@@ -1,15 +1,10 @@
 -- the certificate of a cut alone
-use Rattle.std.proofs.Math.Logic.{∥∥₁_elim}
-use Rattle.std.proofs.Props.{props}
+use Rattle.net_core.proofs.Library.{∥∥₁_elim, props, sum_by-cons, recursion_from_All, All-cons, All-nil, mul-sub, AllByRecursion}
 use Rattle.std.proofs.Common.{◌≡◌, ℕ, ◌-◌, ◌*◌, ◌^◌, ◌≤◌, ◌<◌, List, [], ◌∷◌, All, Some, length, slice_get, slice_index, get_or, sym, ap, subst, ◌∙◌, ◌+◌, arith, zip}
-use Rattle.std.proofs.lemmas.List.Sums.{sum_by-cons}
-use Rattle.std.proofs.lemmas.List.Elements.{recursion_from_All, All-cons, All-nil}
-use Rattle.std.proofs.Math.Nat.{mul-le-mul_left, mul-lt-mul_of_pos_right, mul-sub}
-use Rattle.std.specs.List.{AllByRecursion}
+use Rattle.std.proofs.Math.Nat.{mul-le-mul_left, mul-lt-mul_of_pos_right}
 use Rattle.net_core.specs.declared.network.Link.{Link}
 use Rattle.net_core.specs.declared.plan.CutLine.{CutLine}
-use Rattle.net_core.specs.Cases.{Case}
-use Rattle.net_core.specs.Network.{IsNetwork}
+use Rattle.net_core.specs.Terms.{Case, IsNetwork}
 use Rattle.plan_terms.specs.Capacities.{total_cost}
 use Rattle.plan_terms.specs.Certificates.{CertificateLine, IsCut, price, asked, fixed_along, given, raw_value, IsCertificate}
 use Rattle.plan_terms.specs.OwnBounds.{IsValid, OwnBoundHolds, IsOwnBound}

@@ -1,7 +1,6 @@
 -- a walk without its circles is a path, and no longer
 use Rattle.std.proofs.Common.{◌≡◌, ◌≢◌, ℕ, ◌≤◌, List, [], ◌∷◌, ◌⊎◌, inl, inr, ⊎_elim, sym, subst, arith}
-use Rattle.std.proofs.lemmas.Bool.{cases_eq}
-use Rattle.std.specs.List.{AllByRecursion}
+use Rattle.net_core.proofs.Library.{cases_eq, AllByRecursion}
 use Rattle.net_core.specs.declared.ids.LinkId.{LinkId}
 use Rattle.plan_terms.proofs.Distinct.{Has}
 use Rattle.plan_terms.specs.Paths.{Leads, last_node, length_of, AreDifferent, IsPath}

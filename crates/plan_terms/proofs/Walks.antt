@@ -1,6 +1,6 @@
 -- Walks along links, where `joins` says which link joins which nodes: what they reach, their parts, and when their nodes differ
 use Rattle.std.proofs.Common.{◌≡◌, ◌≢◌, ℕ, ◌+◌, ◌<◌, List, [], ◌∷◌, ◌++◌, get_or, ap, refl, ◌∙◌, arith, subst}
-use Rattle.std.specs.List.{AllByRecursion}
+use Rattle.net_core.proofs.Library.{AllByRecursion}
 use Rattle.net_core.specs.declared.ids.LinkId.{LinkId}
 use Rattle.plan_terms.specs.Paths.{Leads, last_node, length_of, AreDifferent, IsPath}
 use Rattle.plan_terms.specs.inner.Walks.{Walk}

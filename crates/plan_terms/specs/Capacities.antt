@@ -4,8 +4,7 @@ use Rattle.std.specs.List.{AllZip, list_any}
 use Rattle.net_core.specs.declared.network.Module.{Module}
 use Rattle.net_core.specs.declared.network.Link.{Link}
 use Rattle.net_core.specs.declared.plan.Routing.{Routing}
-use Rattle.net_core.specs.Cases.{Case, graph_in}
-use Rattle.net_core.specs.Graphs.{Joins}
+use Rattle.net_core.specs.Terms.{Case, graph_in, Joins}
 use Rattle.plan_terms.specs.Flows.{Carries}
 
 -- the capacity of counts of modules

@@ -4,8 +4,7 @@ use Rattle.std.specs.Int.{◌∣◌}
 use Rattle.net_core.specs.declared.demand.Demand.{Demand}
 use Rattle.net_core.specs.declared.network.Link.{Link}
 use Rattle.net_core.specs.declared.plan.CutLine.{CutLine}
-use Rattle.net_core.specs.Cases.{Case, graph_in}
-use Rattle.net_core.specs.Graphs.{Graph, Joins, Survives}
+use Rattle.net_core.specs.Terms.{Case, graph_in, Graph, Joins, Survives}
 use Rattle.plan_terms.specs.Bounds.{IsBound}
 use Rattle.plan_terms.specs.Capacities.{IsAble, total_cost}
 use Rattle.plan_terms.specs.Paths.{IsDistance}

@@ -5,7 +5,7 @@ use Rattle.net_core.specs.declared.journal.Edit.{Edit}
 use Rattle.net_core.specs.declared.journal.Edit.TheVariants.{Set, Add, Drop}
 use Rattle.net_core.specs.declared.journal.Reply.{Reply}
 use Rattle.net_core.specs.declared.journal.Reply.TheVariants.{Accepted, UnknownDemand, KnownDemand, UnknownNode, SelfDemand, TooMany, TooMuch}
-use Rattle.net_core.specs.Tests.{first_fault, are_same, is_named}
+use Rattle.net_core.specs.Terms.{first_fault, are_same, is_named}
 
 -- the reply, and the demands after the edit
 abbrev pub Answered : Type 0

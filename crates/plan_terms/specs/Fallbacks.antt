@@ -3,8 +3,7 @@ use Rattle.std.specs.Prelude.{◌≡◌, ℕ, ◌+◌, ◌<◌, List, [], ◌∷
 use Rattle.net_core.specs.declared.demand.Demand.{Demand}
 use Rattle.net_core.specs.declared.plan.Flow.{Flow}
 use Rattle.net_core.specs.declared.plan.Routing.{Routing}
-use Rattle.net_core.specs.Cases.{Case, graph_in}
-use Rattle.net_core.specs.Graphs.{Joins}
+use Rattle.net_core.specs.Terms.{Case, graph_in, Joins}
 use Rattle.plan_terms.specs.Capacities.{AreCounts, capacities, total_cost}
 use Rattle.plan_terms.specs.Covers.{CoverLoads}
 use Rattle.plan_terms.specs.Flows.{Carries, load}

@@ -3,7 +3,7 @@ use Rattle.std.specs.Prelude.{◌≡◌, ℕ, ◌*◌, ◌≤◌, ◌<◌, ◌==
 use Rattle.net_core.specs.declared.demand.Demand.{Demand}
 use Rattle.net_core.specs.declared.plan.Flow.{Flow}
 use Rattle.net_core.specs.declared.plan.Routing.{Routing}
-use Rattle.net_core.specs.States.{names_link}
+use Rattle.net_core.specs.Terms.{names_link}
 use Rattle.plan_terms.specs.Paths.{IsPath}
 
 -- what the flows of demand k sum to

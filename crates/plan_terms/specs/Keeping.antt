@@ -1,7 +1,7 @@
 -- what a state keeps of lengths
 use Rattle.std.specs.Prelude.{◌≡◌, ◌≢◌, ℕ, ◌*◌, ◌<◌, List, length, slice_index}
 use Rattle.std.specs.Int.{◌∣◌}
-use Rattle.net_core.specs.Graphs.{Graph, Survives}
+use Rattle.net_core.specs.Terms.{Graph, Survives}
 
 -- no surviving link has a positive length
 abbrev pub AreZero : Graph → List ℕ → Type 0

@@ -14,3 +14,4 @@ pub mod Prices
 pub mod Separations
 pub mod Violations
 pub mod inner
+pub mod Terms

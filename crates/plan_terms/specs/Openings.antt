@@ -1,7 +1,7 @@
 -- the opening cuts of a state
 use Rattle.std.specs.Prelude.{◌≡◌, ◌==◌, ℕ, List, [], ◌∷◌, Option, None, Some, cond, length, replicate}
 use Rattle.std.specs.Cmp.Lexicographic.{pointwise}
-use Rattle.net_core.specs.Graphs.{Graph}
+use Rattle.net_core.specs.Terms.{Graph}
 use Rattle.plan_terms.specs.Keeping.{AreZero, Keeps}
 use Rattle.plan_terms.specs.Prices.{ArePriceLengths}
 

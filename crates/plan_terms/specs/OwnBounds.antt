@@ -3,7 +3,7 @@ use Rattle.std.specs.Prelude.{◌≡◌, ℕ, ◌-◌, ◌*◌, ◌≤◌, ◌<�
 use Rattle.std.specs.Int.{◌∣◌}
 use Rattle.net_core.specs.declared.network.Link.{Link}
 use Rattle.net_core.specs.declared.plan.CutLine.{CutLine}
-use Rattle.net_core.specs.Cases.{Case}
+use Rattle.net_core.specs.Terms.{Case}
 use Rattle.plan_terms.specs.Bounds.{IsBound}
 use Rattle.plan_terms.specs.Capacities.{IsAble, total_cost}
 use Rattle.plan_terms.specs.Certificates.{IsCut, fixed_along}

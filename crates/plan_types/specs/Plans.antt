@@ -1,12 +1,6 @@
 -- what a sound plan is made of: routings that carry, a cost, and a certified bound
 use Rattle.std.specs.Prelude.{◌≡◌, ℕ, ◌+◌, List, Some, length, map, slice_get}
-use Rattle.net_core.specs.declared.plan.Routing.{Routing}
-use Rattle.net_core.specs.Cases.{Case, graph_in}
-use Rattle.net_core.specs.Graphs.{Joins}
-use Rattle.plan_terms.specs.Bounds.{IsBound, IsLowest}
-use Rattle.plan_terms.specs.Capacities.{capacities, total_cost}
-use Rattle.plan_terms.specs.Certificates.{CertificateLine, IsCertificate, raw_value}
-use Rattle.plan_terms.specs.Flows.{Carries}
+use Rattle.plan_terms.specs.Terms.{Routing, Case, graph_in, Joins, IsBound, IsLowest, capacities, total_cost, CertificateLine, IsCertificate, raw_value, Carries}
 use Rattle.plan_types.specs.declared.certificate.Certificate.{Certificate}
 use Rattle.plan_types.specs.declared.plan.Plan.{Plan}
 

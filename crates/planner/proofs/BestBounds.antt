@@ -1,27 +1,15 @@
 -- the bound of the best candidate is certified, and at least the own bound of each
 use Rattle.std.proofs.Common.{◌≡◌, ℕ, zero, suc, ◌-◌, ◌*◌, ◌^◌, ◌<◌, ◌≤◌, ⊎_elim, List, [], ◌∷◌, All, Some, get_or, length, slice_get, refl, sym, ap, subst, ◌∙◌, arith}
-use Rattle.std.specs.Int.{◌∣◌}
-use Rattle.std.proofs.Math.Logic.{∥∥₁_elim, ∥∥₁_map}
-use Rattle.std.proofs.Props.{props}
-use Rattle.std.proofs.lemmas.List.Elements.{All-nil, All-get_or}
-use Rattle.std.proofs.lemmas.Nat.Gcd.{dvd-zero, le_of_dvd}
-use Rattle.std.proofs.lemmas.Option.{get_or_from_slice_get, slice_get_within}
-use Rattle.std.proofs.Math.Nat.{dvd-mul_left, eq-one_of_dvd-one, le_of_mul-le-mul_left, mul-le-mul_left}
-use Rattle.net_core.specs.declared.journal.Entry.{Entry}
-use Rattle.net_core.specs.declared.network.Link.{Link}
-use Rattle.net_core.specs.declared.plan.CutLine.{CutLine}
-use Rattle.net_core.specs.Cases.{Case}
-use Rattle.net_core.specs.Network.{IsNetwork}
-use Rattle.plan_terms.specs.Bounds.{IsBound, IsLowest}
-use Rattle.plan_terms.specs.Certificates.{IsCertificate, fixed_along}
-use Rattle.plan_terms.specs.OwnBounds.{IsOwnBound}
-use Rattle.plan_terms.proofs.Bounds.{bound_same, lowest_positive}
-use Rattle.plan_terms.proofs.OwnBounds.{alone, certificate_alone, empty_certificate, empty_raw, own_bound_unique, product_below, raw_alone}
+use Rattle.net_core.proofs.Library.{◌∣◌, ∥∥₁_elim, ∥∥₁_map, props, All-nil, All-get_or, dvd-zero, get_or_from_slice_get, slice_get_within, dvd-mul_left, eq-one_of_dvd-one, le_of_mul-le-mul_left}
+use Rattle.std.proofs.lemmas.Nat.Gcd.{le_of_dvd}
+use Rattle.std.proofs.Math.Nat.{mul-le-mul_left}
+use Rattle.plan_terms.specs.Terms.{Entry, Link, CutLine, Case, IsNetwork, IsBound, IsLowest, IsCertificate, fixed_along, IsOwnBound}
+use Rattle.plan_terms.proofs.Lemmas.{bound_same, lowest_positive, alone, certificate_alone, empty_certificate, empty_raw, own_bound_unique, product_below, raw_alone}
 use Rattle.plan_types.specs.declared.certificate.CertLine.{CertLine}
 use Rattle.plan_types.specs.declared.certificate.Spot.{Spot}
 use Rattle.plan_types.specs.declared.certificate.Spot.TheVariants.{Pool, Local}
-use Rattle.plan_report.specs.Forms.{IsCertificateLineInForm, IsSpotInForm}
-use Rattle.cut_pool.specs.Histories.{cut_of_line, cuts_of}
+use Rattle.plan_report.specs.Terms.{IsCertificateLineInForm, IsSpotInForm}
+use Rattle.cut_pool.specs.Terms.{cut_of_line, cuts_of}
 use Rattle.metric_cut.specs.declared.certificate.OwnCertificate.{OwnCertificate}
 use Rattle.separator.specs.Separators.{IsSpotIn}
 use Rattle.plan_rounds.specs.declared.rounds.Worked.{Worked}

@@ -1,13 +1,9 @@
 -- cuts that a bound may rest on, and bounds that a certificate of the case gives
 use Rattle.std.proofs.Common.{◌≡◌, ◌^◌, ◌<◌, List, [], All}
-use Rattle.net_core.specs.declared.journal.Entry.{Entry}
-use Rattle.net_core.specs.declared.plan.CutLine.{CutLine}
-use Rattle.net_core.specs.Cases.{Case}
-use Rattle.plan_terms.specs.Bounds.{IsBound, IsLowest}
-use Rattle.plan_terms.specs.Certificates.{IsCertificate, IsCut, raw_value}
-use Rattle.plan_types.specs.Plans.{lines_of_certificate}
-use Rattle.plan_report.specs.Forms.{IsCertificateInForm}
-use Rattle.cut_pool.specs.Histories.{cut_of_line}
+use Rattle.plan_terms.specs.Terms.{Entry, CutLine, Case, IsBound, IsLowest, IsCertificate, IsCut, raw_value}
+use Rattle.plan_types.specs.Terms.{lines_of_certificate}
+use Rattle.plan_report.specs.Terms.{IsCertificateInForm}
+use Rattle.cut_pool.specs.Terms.{cut_of_line}
 use Rattle.separator.specs.Separators.{IsSpotIn}
 use Rattle.plan_rounds.specs.WorkedRounds.{StandAtSpots}
 use Rattle.plan_rounds.specs.declared.rounds.Worked.{Worked}

@@ -1,9 +1,6 @@
 -- the fallback plan's counts carry the demands
 use Rattle.std.proofs.Common.{ℕ, List, arith}
-use Rattle.net_core.specs.declared.plan.Routing.{Routing}
-use Rattle.net_core.specs.Cases.{Case}
-use Rattle.plan_terms.specs.Capacities.{IsAble}
-use Rattle.plan_terms.specs.Fallbacks.{IsFallback}
+use Rattle.plan_terms.specs.Terms.{Routing, Case, IsAble, IsFallback}
 use Rattle.net_core.proofs.Lists.{get_some}
 
 pub able : (p : Case) (counts : List (List ℕ)) (routings : List Routing) (cost : ℕ) → IsFallback p counts routings cost → IsAble p counts

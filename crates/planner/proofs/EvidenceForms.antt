@@ -1,35 +1,13 @@
 -- evidence names columns and rows of its program alone, so it is in form
 use Rattle.std.proofs.Common.{ℕ, ℤ, ◌^◌, ◌<◌, ◌≤◌, ⊎_elim, List, All, Contains, length, sym, subst, arith}
-use Rattle.std.proofs.lemmas.Bool.{cases_lt}
-use Rattle.std.proofs.lemmas.List.{get_or_past}
-use Rattle.std.proofs.lemmas.List.Elements.{All-contains}
-use Rattle.std.proofs.lemmas.Option.{get_or_from_slice_get, slice_get_within}
-use Rattle.net_core.specs.declared.columns.MasterColumn.{MasterColumn}
-use Rattle.net_core.specs.declared.columns.RouteColumn.{RouteColumn}
-use Rattle.net_core.specs.declared.columns.RouteColumn.TheVariants.{LinkSlack, DemandSlack}
-use Rattle.net_core.specs.declared.columns.WideKind.{WideKind}
-use Rattle.net_core.specs.declared.columns.WideKind.TheVariants.{Number, Row, Product, Sum, Common, Value, Length}
-use Rattle.net_core.specs.declared.demand.Demand.{Demand}
-use Rattle.net_core.specs.declared.ids.StateId.{StateId}
-use Rattle.net_core.specs.declared.plan.Caps.{Caps}
-use Rattle.net_core.specs.declared.plan.CutLine.{CutLine}
-use Rattle.net_core.specs.declared.places.Places.{Places}
-use Rattle.net_core.specs.declared.states.Listed.{Listed}
-use Rattle.net_core.specs.Cases.{Case}
-use Rattle.net_core.specs.Demands.{AreDemands}
-use Rattle.net_core.specs.Graphs.{Graph}
+use Rattle.net_core.proofs.Library.{cases_lt, get_or_past, All-contains, get_or_from_slice_get, slice_get_within}
+use Rattle.plan_terms.specs.Terms.{MasterColumn, RouteColumn, LinkSlack, DemandSlack, WideKind, Number, Row, Product, Sum, Common, Value, Length, Demand, StateId, Caps, CutLine, Places, Listed, Case, AreDemands, Graph, IsCut}
 use Rattle.module_prices.specs.declared.cheapest.UnitPair.{UnitPair}
-use Rattle.plan_terms.specs.Certificates.{IsCut}
-use Rattle.simplex_law.specs.Bases.{AreNames, IsFeasible}
-use Rattle.simplex_law.specs.Evidence.{HoldsNumber}
-use Rattle.simplex_law.specs.Programs.{ColumnOf, IsSlack}
-use Rattle.route_law.specs.RouteEvidence.{HasWideLength, HoldsOfRoute, IsRouteEvidence}
-use Rattle.route_law.specs.RoutingPrograms.{IsCarrying, IsRouteColumn, route_bound, route_rows, route_slack}
-use Rattle.route_law.proofs.Rows.{beside_each}
-use Rattle.master_law.specs.MasterEvidence.{HasWideRight, HoldsOfMaster, IsMasterEvidence}
-use Rattle.master_law.specs.MasterPrograms.{IsCutColumn, IsMasterColumn, master_bound, master_slack}
-use Rattle.plan_report.specs.KnownNames.{known_as}
-use Rattle.plan_report.specs.Forms.{AreCapsInForm, AreLinkNumbers, IsKindInForm, IsMasterColumnInForm, IsMasterEvidenceInForm, IsRouteColumnInForm, IsRouteEvidenceInForm}
+use Rattle.simplex_law.specs.Terms.{AreNames, IsFeasible, HoldsNumber, ColumnOf, IsSlack}
+use Rattle.route_law.specs.Terms.{HasWideLength, HoldsOfRoute, IsRouteEvidence, IsCarrying, IsRouteColumn, route_bound, route_rows, route_slack}
+use Rattle.route_law.proofs.Lemmas.{beside_each}
+use Rattle.master_law.specs.Terms.{HasWideRight, HoldsOfMaster, IsMasterEvidence, IsCutColumn, IsMasterColumn, master_bound, master_slack}
+use Rattle.plan_report.specs.Terms.{known_as, AreCapsInForm, AreLinkNumbers, IsKindInForm, IsMasterColumnInForm, IsMasterEvidenceInForm, IsRouteColumnInForm, IsRouteEvidenceInForm}
 use Rattle.planner.specs.inner.Finishing.{HasShortLengths}
 use Rattle.planner.proofs.InForm.{of_list, path_in_form}
 

@@ -1,22 +1,15 @@
 -- the greater of two bounds, that of a best certificate and that of the best cut alone, is certified
 use Rattle.std.proofs.Common.{◌≡◌, ℕ, ◌*◌, ◌^◌, ◌<◌, ◌≤◌, ⊎_elim, List, [], ◌∷◌, ◌++◌, All, Some, get_or, length, map, slice_get, refl, sym, ap, subst, ◌∙◌, arith}
-use Rattle.std.specs.Int.{◌∣◌}
-use Rattle.std.proofs.Math.Nat.{le_of_mul-le-mul_left, mul-le-mul_left}
-use Rattle.std.proofs.lemmas.List.{get_or_append_left, length-map, length-append}
-use Rattle.std.proofs.lemmas.List.Elements.{All-cons, All-head, All-map, All-nil, All-tail}
-use Rattle.std.proofs.lemmas.Option.{get_or_from_slice_get, slice_get-get_or, slice_get_within}
-use Rattle.net_core.specs.declared.journal.Entry.{Entry}
-use Rattle.net_core.specs.declared.network.Link.{Link}
-use Rattle.net_core.specs.declared.plan.CutLine.{CutLine}
-use Rattle.net_core.specs.Cases.{Case}
-use Rattle.plan_terms.specs.Bounds.{IsBound, IsLowest}
-use Rattle.plan_terms.specs.Certificates.{CertificateLine, IsCertificate, IsCut, raw_value}
-use Rattle.plan_terms.proofs.Bounds.{lowest_positive}
+use Rattle.net_core.proofs.Library.{◌∣◌, le_of_mul-le-mul_left, get_or_append_left, length-map, All-cons, All-head, All-map, All-nil, All-tail, get_or_from_slice_get, slice_get-get_or, slice_get_within}
+use Rattle.std.proofs.Math.Nat.{mul-le-mul_left}
+use Rattle.std.proofs.lemmas.List.{length-append}
+use Rattle.plan_terms.specs.Terms.{Entry, Link, CutLine, Case, IsBound, IsLowest, CertificateLine, IsCertificate, IsCut, raw_value}
+use Rattle.plan_terms.proofs.Lemmas.{lowest_positive}
 use Rattle.plan_types.specs.declared.certificate.CertLine.{CertLine}
 use Rattle.plan_types.specs.declared.certificate.Spot.{Spot}
 use Rattle.plan_types.specs.declared.certificate.Spot.TheVariants.{Local}
-use Rattle.plan_report.specs.Forms.{IsCertificateLineInForm}
-use Rattle.cut_pool.specs.Histories.{cut_of_line, cuts_of}
+use Rattle.plan_report.specs.Terms.{IsCertificateLineInForm}
+use Rattle.cut_pool.specs.Terms.{cut_of_line, cuts_of}
 use Rattle.master_bound.specs.Answers.{IsBestOf, cut_at, lines_of}
 use Rattle.master_bound.specs.declared.answer.Best.{Best}
 use Rattle.master_bound.specs.declared.answer.Multiplier.{Multiplier}

@@ -1,22 +1,9 @@
 -- histories, and the boards that they leave
-use Rattle.std.proofs.Common.{◌≡◌, ℕ, ◌+◌, ◌^◌, ◌≤◌, List, [], ◌∷◌, ◌++◌, Bool, true, false, Option, Some, None, cond, length, map, refl, ap, arith}
-use Rattle.std.specs.Prelude.{nat_le, nat_lt, not, ◌&&◌}
-use Rattle.std.proofs.Math.Logic.{∥∥₁_elim}
-use Rattle.std.proofs.Props.{props}
-use Rattle.std.proofs.lemmas.List.{length-map}
-use Rattle.net_core.specs.declared.demand.Demand.{Demand}
-use Rattle.net_core.specs.declared.journal.Edit.{Edit}
-use Rattle.net_core.specs.declared.journal.Edit.TheVariants.{Set, Add, Drop}
-use Rattle.net_core.specs.declared.journal.Entry.{Entry}
-use Rattle.net_core.specs.declared.journal.Entry.TheVariants.{Edited, Pooled}
-use Rattle.net_core.specs.declared.journal.Reply.{Reply}
-use Rattle.net_core.specs.declared.journal.Reply.TheVariants.{Accepted, UnknownDemand, KnownDemand, UnknownNode, SelfDemand, TooMany, TooMuch}
-use Rattle.net_core.specs.Cases.{Case}
-use Rattle.net_core.specs.Tests.{are_same, is_named}
-use Rattle.plan_terms.specs.Edits.{Answered, added, edit_reply, is_demand, next_version, node_of, set_need, total_need, version_after, within_total, without}
+use Rattle.std.proofs.Common.{◌≡◌, ℕ, ◌+◌, ◌^◌, ◌≤◌, List, [], ◌∷◌, ◌++◌, Bool, true, false, Option, Some, None, cond, length, map, refl, ap, arith, nat_le, nat_lt, not, ◌&&◌}
+use Rattle.net_core.proofs.Library.{∥∥₁_elim, props, length-map}
+use Rattle.plan_terms.specs.Terms.{Demand, Edit, Set, Add, Drop, Entry, Edited, Pooled, Reply, Accepted, UnknownDemand, KnownDemand, UnknownNode, SelfDemand, TooMany, TooMuch, Case, are_same, is_named, Answered, added, edit_reply, is_demand, next_version, node_of, set_need, total_need, version_after, within_total, without}
 use Rattle.cut_pool.specs.declared.board.Board.{Board}
-use Rattle.cut_pool.specs.Histories.{Dated, cut_of_line, cuts_of, left_by, left_by_entry, version_left}
-use Rattle.cut_pool.specs.Pools.{line_of_pooled}
+use Rattle.cut_pool.specs.Terms.{Dated, cut_of_line, cuts_of, left_by, left_by_entry, version_left, line_of_pooled}
 pub use Rattle.separator.proofs.Pooling.{cuts_both, get_after}
 
 -- ---- versions

@@ -1,28 +1,13 @@
 -- the plan of a fallback plan and a certified bound is in form and in lowest terms
 use Rattle.std.proofs.Common.{◌≡◌, ◌≢◌, ℕ, zero, suc, ◌+◌, ◌*◌, ◌^◌, ◌<◌, ◌≤◌, Bool, true, false, if◌then◌else◌, List, [], ◌∷◌, ◌++◌, All, AllPairs, Some, get_or, length, slice_get, sym, subst, arith, zip}
-use Rattle.std.specs.Int.{◌∣◌}
-use Rattle.std.proofs.Math.Nat.{eq-one_of_dvd-one}
+use Rattle.net_core.proofs.Library.{◌∣◌, eq-one_of_dvd-one, All-cons, All-nil, All-weaker, All-head, All-tail, sum_by-cons, slice_get_within, get_or_from_slice_get}
 use Rattle.std.proofs.lemmas.List.{append_assoc}
-use Rattle.std.proofs.lemmas.List.Elements.{All-cons, All-nil, All-weaker, All-head, All-tail}
-use Rattle.std.proofs.lemmas.List.Sums.{sum_by-cons}
-use Rattle.std.proofs.lemmas.Option.{slice_get_within, get_or_from_slice_get}
-use Rattle.net_core.specs.declared.demand.Demand.{Demand}
-use Rattle.net_core.specs.declared.ids.LinkId.{LinkId}
-use Rattle.net_core.specs.declared.network.Link.{Link}
-use Rattle.net_core.specs.declared.network.Module.{Module}
-use Rattle.net_core.specs.declared.plan.Flow.{Flow}
-use Rattle.net_core.specs.declared.plan.Routing.{Routing}
-use Rattle.net_core.specs.Demands.{AreDemands, IsDemand}
-use Rattle.net_core.specs.Graphs.{Graph, Joins}
-use Rattle.net_core.specs.Network.{IsLink, IsModule, IsNetwork}
+use Rattle.plan_terms.specs.Terms.{Demand, LinkId, Link, Module, Flow, Routing, AreDemands, IsDemand, Graph, Joins, IsLink, IsModule, IsNetwork, installs, link_cost, modules_cost, total_cost, IsLeastFlow, IsLeastRouting, IsPath, Leads, last_node}
 use Rattle.net_core.proofs.Accepted.{new_name}
-use Rattle.plan_terms.specs.Capacities.{installs, link_cost, modules_cost, total_cost}
-use Rattle.plan_terms.specs.Fallbacks.{IsLeastFlow, IsLeastRouting}
-use Rattle.plan_terms.specs.Paths.{IsPath, Leads, last_node}
-use Rattle.plan_terms.proofs.OwnBounds.{product_below}
-use Rattle.plan_report.specs.Forms.{IsDemandInForm, IsFlowInForm, IsPathInForm, IsRoutingInForm}
-use Rattle.route_law.specs.Routings.{IsLowestRouting}
-use Rattle.text_kit.specs.Items.{ComeAfter}
+use Rattle.plan_terms.proofs.Lemmas.{product_below}
+use Rattle.plan_report.specs.Terms.{IsDemandInForm, IsFlowInForm, IsPathInForm, IsRoutingInForm}
+use Rattle.route_law.specs.Terms.{IsLowestRouting}
+use Rattle.text_kit.specs.Terms.{ComeAfter}
 
 -- ---- paths
 

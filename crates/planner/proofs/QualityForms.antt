@@ -1,27 +1,13 @@
 -- shares, capacities and routings are in form
 use Rattle.std.proofs.Common.{ℕ, ◌+◌, ◌*◌, ◌^◌, ◌<◌, ◌≤◌, ⊎_elim, List, [], ◌∷◌, All, get_or, length, zip, ◌∙◌, arith}
-use Rattle.std.proofs.lemmas.List.{length-map}
-use Rattle.std.proofs.lemmas.Slice.Zip.{length-zip}
-use Rattle.std.proofs.lemmas.List.Elements.{All-cons, All-contains, All-head, All-nil, All-tail, All-weaker}
-use Rattle.std.proofs.lemmas.Option.{slice_get-get_or, slice_get_within}
-use Rattle.net_core.specs.declared.demand.Demand.{Demand}
-use Rattle.net_core.specs.declared.network.Link.{Link}
-use Rattle.net_core.specs.declared.network.Module.{Module}
-use Rattle.net_core.specs.declared.plan.Caps.{Caps}
-use Rattle.net_core.specs.declared.plan.Flow.{Flow}
-use Rattle.net_core.specs.declared.plan.Routing.{Routing}
-use Rattle.net_core.specs.Demands.{AreDemands}
-use Rattle.net_core.specs.Graphs.{Graph, Joins}
-use Rattle.net_core.specs.Network.{IsModule, IsNetwork}
+use Rattle.net_core.proofs.Library.{length-map, length-zip, All-cons, All-contains, All-head, All-nil, All-tail, All-weaker, slice_get-get_or, slice_get_within}
+use Rattle.plan_terms.specs.Terms.{Demand, Link, Module, Caps, Flow, Routing, AreDemands, Graph, Joins, IsModule, IsNetwork, AreCounts, AreWithinLimits, capacities, IsFlow, IsUnitPair}
 use Rattle.module_prices.specs.declared.cheapest.UnitPair.{UnitPair}
-use Rattle.plan_terms.specs.Capacities.{AreCounts, AreWithinLimits, capacities}
-use Rattle.plan_terms.specs.Flows.{IsFlow}
-use Rattle.plan_terms.specs.Prices.{IsUnitPair}
-use Rattle.plan_terms.proofs.OwnBounds.{product_below}
+use Rattle.plan_terms.proofs.Lemmas.{product_below}
 use Rattle.plan_types.specs.declared.quality.Share.{Share}
-use Rattle.plan_report.specs.Forms.{AreCapsInForm, IsFlowInForm, IsRoutingInForm, IsShareInForm}
+use Rattle.plan_report.specs.Terms.{AreCapsInForm, IsFlowInForm, IsRoutingInForm, IsShareInForm}
 use Rattle.flow_router.specs.Answers.{IsRouted}
-use Rattle.master_law.specs.UnitPairs.{AreUnitPairs, IsPairOfLink, share_capacities, share_caps}
+use Rattle.master_law.specs.Terms.{AreUnitPairs, IsPairOfLink, share_capacities, share_caps}
 use Rattle.share_covers.specs.InstalledRoutes.{installed_caps}
 use Rattle.planner.proofs.BestBounds.{lowest_small}
 use Rattle.planner.proofs.InForm.{of_list, path_in_form}

@@ -1,24 +1,17 @@
 -- the bound of a plan of a snapshot: certified, and at least all own bounds
 use Rattle.std.proofs.Common.{◌≡◌, ℕ, ◌+◌, ◌*◌, ◌<◌, ◌≤◌, inl, inr, ⊎_elim, List, [], ◌∷◌, ◌++◌, All, Contains, ◌⊎◌, Option, Some, None, IfSome, get_or, length, map, slice_get, refl, sym, ap, subst, ◌∙◌, arith}
-use Rattle.std.proofs.lemmas.Bool.{cases_eq}
+use Rattle.net_core.proofs.Library.{cases_eq, All-map, All-weaker, Contains-append_left, Contains-get_or, get_or_from_slice_get, slice_get-get_or, slice_get_within}
 use Rattle.std.proofs.lemmas.List.{append-nil, append_assoc}
-use Rattle.std.proofs.lemmas.List.Elements.{All-map, All-weaker, Contains-append_left, Contains-get_or}
-use Rattle.std.proofs.lemmas.Option.{get_or_from_slice_get, slice_get-get_or, slice_get_within}
-use Rattle.net_core.specs.declared.journal.Entry.{Entry}
-use Rattle.net_core.specs.declared.plan.CutLine.{CutLine}
-use Rattle.net_core.specs.Cases.{Case}
-use Rattle.net_core.specs.Network.{IsNetwork}
-use Rattle.plan_terms.specs.Bounds.{IsBound}
-use Rattle.plan_terms.specs.Certificates.{CertificateLine, IsCut, raw_value}
-use Rattle.plan_terms.proofs.Bounds.{bound_same}
-use Rattle.plan_types.specs.Plans.{lines_of_certificate}
+use Rattle.plan_terms.specs.Terms.{Entry, CutLine, Case, IsNetwork, IsBound, CertificateLine, IsCut, raw_value}
+use Rattle.plan_terms.proofs.Lemmas.{bound_same}
+use Rattle.plan_types.specs.Terms.{lines_of_certificate}
 use Rattle.plan_types.specs.declared.certificate.CertLine.{CertLine}
 use Rattle.plan_types.specs.declared.certificate.Spot.{Spot}
 use Rattle.plan_types.specs.declared.certificate.Spot.TheVariants.{Pool, Local}
-use Rattle.cut_pool.specs.Histories.{cut_of_line, cuts_of}
+use Rattle.cut_pool.specs.Terms.{cut_of_line, cuts_of}
 use Rattle.cut_pool.specs.declared.snapshot.Snapshot.{Snapshot}
 use Rattle.master_bound.specs.declared.answer.Best.{Best}
-use Rattle.master_law.specs.UnitPairs.{share_cost}
+use Rattle.master_law.specs.Terms.{share_cost}
 use Rattle.master_law.proofs.Greatest.{greatest_raw}
 use Rattle.master_law.proofs.Own.{bound_rises}
 use Rattle.plan_law.specs.WorkedLists.{HasCut, Round, after_rounds}

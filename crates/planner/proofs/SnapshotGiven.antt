@@ -1,23 +1,10 @@
 -- what planning for a snapshot knows, from what it was given
 use Rattle.std.proofs.Common.{◌≡◌, ℕ, ◌≤◌, List, All, IfSome, get_or, length, take, drop, sym, ap, subst, ◌∙◌, arith}
-use Rattle.std.proofs.Math.Logic.{∥∥₁_elim, ∥∥₁_map}
-use Rattle.std.proofs.Math.Seq.{take-length}
-use Rattle.std.proofs.Props.{props}
-use Rattle.std.proofs.lemmas.List.{length-append, length-map, take-append-drop}
-use Rattle.net_core.specs.declared.journal.Entry.{Entry}
-use Rattle.net_core.specs.declared.network.Network.{Network}
-use Rattle.net_core.specs.declared.plan.CutLine.{CutLine}
-use Rattle.net_core.specs.declared.states.States.{States}
-use Rattle.net_core.specs.Cases.{Case, graph_in}
-use Rattle.net_core.specs.Demands.{AreDemands}
-use Rattle.net_core.specs.Network.{IsNetwork}
-use Rattle.net_core.specs.Views.{case}
-use Rattle.plan_terms.specs.Capacities.{AreWithinLimits}
-use Rattle.plan_terms.specs.Certificates.{IsCut}
-use Rattle.plan_terms.specs.Fallbacks.{IsFallback}
+use Rattle.net_core.proofs.Library.{∥∥₁_elim, ∥∥₁_map, take-length, props, length-map}
+use Rattle.std.proofs.lemmas.List.{length-append, take-append-drop}
+use Rattle.plan_terms.specs.Terms.{Entry, Network, CutLine, States, Case, graph_in, AreDemands, IsNetwork, case, AreWithinLimits, IsCut, IsFallback}
 use Rattle.plan_types.specs.declared.plan.Plan.{Plan}
-use Rattle.cut_pool.specs.Histories.{cut_of_line, cuts_of}
-use Rattle.cut_pool.specs.Boards.{IsSnapshotOf, opening_case}
+use Rattle.cut_pool.specs.Terms.{cut_of_line, cuts_of, IsSnapshotOf, opening_case}
 use Rattle.cut_pool.specs.declared.board.Board.{Board}
 use Rattle.cut_pool.specs.declared.snapshot.Snapshot.{Snapshot}
 use Rattle.module_choice.specs.declared.fallback.Fallback.{Fallback}

@@ -1,34 +1,20 @@
 -- the quality of a plan of a snapshot is right, and in form
 use Rattle.std.proofs.Common.{◌≡◌, ℕ, pos, ◌+◌, ◌*◌, ◌<◌, ◌≤◌, ◌<ℤ◌, inl, inr, ⊎_elim, List, [], ◌∷◌, ◌++◌, All, Option, Some, None, IfSome, get_or, length, refl, sym, subst, arith}
-use Rattle.std.proofs.lemmas.Int.{ints}
+use Rattle.net_core.proofs.Library.{ints, slice_get-get_or}
 use Rattle.std.proofs.lemmas.List.{append-nil}
-use Rattle.std.proofs.lemmas.Option.{slice_get-get_or}
-use Rattle.net_core.specs.declared.columns.Evidence.{Evidence}
-use Rattle.net_core.specs.declared.columns.Evidence.TheVariants.{Route, Master}
-use Rattle.net_core.specs.declared.columns.RouteColumn.{RouteColumn}
-use Rattle.net_core.specs.declared.columns.WideKind.{WideKind}
-use Rattle.net_core.specs.declared.ids.StateId.{StateId}
-use Rattle.net_core.specs.declared.plan.Caps.{Caps}
-use Rattle.net_core.specs.declared.plan.CutLine.{CutLine}
-use Rattle.net_core.specs.declared.plan.Routing.{Routing}
-use Rattle.net_core.specs.Cases.{Case, graph_in}
-use Rattle.net_core.specs.Demands.{AreDemands}
-use Rattle.net_core.specs.Network.{IsNetwork}
+use Rattle.plan_terms.specs.Terms.{Evidence, Route, Master, RouteColumn, WideKind, StateId, Caps, CutLine, Routing, Case, graph_in, AreDemands, IsNetwork, IsCut}
 use Rattle.module_prices.specs.declared.cheapest.UnitPair.{UnitPair}
-use Rattle.plan_terms.specs.Certificates.{IsCut}
 use Rattle.plan_types.specs.declared.plan.Plan.{Plan}
 use Rattle.plan_types.specs.declared.quality.Cause.TheVariants.{Wide, Cuts}
 use Rattle.plan_types.specs.declared.quality.Fractional.{Fractional}
 use Rattle.plan_types.specs.declared.quality.Quality.{Quality}
 use Rattle.plan_types.specs.declared.quality.Quality.TheVariants.{Tight, Loose}
 use Rattle.plan_types.specs.declared.quality.Share.{Share}
-use Rattle.plan_report.specs.KnownNames.{known_to}
-use Rattle.plan_report.specs.Forms.{AreCapsInForm, IsEvidenceInForm, IsQualityInForm, IsShareInForm}
-use Rattle.route_law.specs.RouteEvidence.{IsRouteEvidence}
+use Rattle.plan_report.specs.Terms.{known_to, AreCapsInForm, IsEvidenceInForm, IsQualityInForm, IsShareInForm}
+use Rattle.route_law.specs.Terms.{IsRouteEvidence}
 use Rattle.master_bound.specs.Answers.{IsBestOf}
 use Rattle.master_bound.specs.declared.answer.Best.{Best}
-use Rattle.master_law.specs.LeastShares.{IsLeastShare}
-use Rattle.master_law.specs.UnitPairs.{share_caps, share_cost}
+use Rattle.master_law.specs.Terms.{IsLeastShare, share_caps, share_cost}
 use Rattle.plan_law.specs.LoosePlans.{HasQuality, IsLooseByWidth, IsWideInState, KeepsUp}
 use Rattle.plan_law.specs.TightPlans.{AreCarriedByShare, CostsAtMostCover, CostsRawValue, IsProperShare}
 use Rattle.plan_law.specs.WorkedLists.{Round, after_rounds, IsWorkedList}

@@ -1,24 +1,13 @@
 -- a plan of a snapshot is sound
 use Rattle.std.proofs.Common.{◌≡◌, ℕ, ◌+◌, ◌^◌, ◌<◌, ◌≤◌, List, All, Option, Some, None, get_or, length, slice_get, refl, sym, ap, subst, arith}
-use Rattle.std.proofs.lemmas.Option.{slice_get-get_or}
-use Rattle.net_core.specs.declared.journal.Entry.{Entry}
-use Rattle.net_core.specs.declared.plan.Routing.{Routing}
-use Rattle.net_core.specs.Cases.{Case, graph_in}
-use Rattle.net_core.specs.Demands.{AreDemands}
-use Rattle.net_core.specs.Graphs.{Joins}
-use Rattle.net_core.specs.Network.{IsNetwork}
-use Rattle.plan_terms.specs.Capacities.{AreCounts, AreWithinLimits, capacities, total_cost}
-use Rattle.plan_terms.specs.Certificates.{raw_value}
-use Rattle.plan_terms.specs.Fallbacks.{IsFallback, raised}
-use Rattle.plan_terms.specs.Flows.{Carries}
-use Rattle.plan_terms.proofs.Bounds.{lowest_positive}
-use Rattle.plan_terms.proofs.Duality.{weak_duality}
-use Rattle.plan_types.specs.Plans.{lines_of_certificate}
+use Rattle.net_core.proofs.Library.{slice_get-get_or}
+use Rattle.plan_terms.specs.Terms.{Entry, Routing, Case, graph_in, AreDemands, Joins, IsNetwork, AreCounts, AreWithinLimits, capacities, total_cost, raw_value, IsFallback, raised, Carries}
+use Rattle.plan_terms.proofs.Lemmas.{lowest_positive, weak_duality}
+use Rattle.plan_types.specs.Terms.{lines_of_certificate}
 use Rattle.plan_types.specs.declared.plan.Plan.{Plan}
 use Rattle.plan_types.specs.declared.quality.Quality.{Quality}
-use Rattle.plan_report.specs.KnownNames.{known_to}
-use Rattle.plan_report.specs.Forms.{IsPlanInForm, IsQualityInForm, IsRoutingInForm}
-use Rattle.route_law.specs.Routings.{IsLowestRouting}
+use Rattle.plan_report.specs.Terms.{known_to, IsPlanInForm, IsQualityInForm, IsRoutingInForm}
+use Rattle.route_law.specs.Terms.{IsLowestRouting}
 use Rattle.cut_pool.specs.declared.snapshot.Snapshot.{Snapshot}
 use Rattle.module_choice.specs.declared.fallback.Fallback.{Fallback}
 use Rattle.master_bound.specs.declared.answer.Best.{Best}

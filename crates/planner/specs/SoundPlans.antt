@@ -1,16 +1,10 @@
 -- the parts of a sound plan, beside that it carries, what it costs and what certifies its bound
 use Rattle.std.specs.Prelude.{◌≡◌, ℕ, ◌≤◌, ◌<◌, List, [], All, length}
 use Rattle.std.specs.Int.{◌∣◌}
-use Rattle.net_core.specs.declared.plan.Routing.{Routing}
-use Rattle.net_core.specs.Cases.{Case, graph_in}
-use Rattle.net_core.specs.Graphs.{Joins}
-use Rattle.plan_terms.specs.Certificates.{IsRight}
-use Rattle.plan_terms.specs.Fallbacks.{IsFallback}
-use Rattle.plan_terms.specs.Openings.{AreOpening}
-use Rattle.plan_terms.specs.OwnBounds.{IsOwnBound}
+use Rattle.plan_terms.specs.Terms.{Routing, Case, graph_in, Joins, IsRight, IsFallback, AreOpening, IsOwnBound}
 use Rattle.plan_types.specs.declared.certificate.Certificate.{Certificate}
 use Rattle.plan_types.specs.declared.plan.Plan.{Plan}
-use Rattle.route_law.specs.Routings.{IsLowestRouting}
+use Rattle.route_law.specs.Terms.{IsLowestRouting}
 
 -- ---- the bound
 

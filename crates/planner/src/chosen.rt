@@ -1,8 +1,5 @@
 ghost use Rattle.std.specs.Prelude.{◌≡◌, IfOk, IfSome};
-ghost use Rattle.net_core.specs.Views.{case_of};
-ghost use Rattle.plan_terms.specs.Capacities.{AreWithinLimits};
-ghost use Rattle.plan_terms.specs.Fallbacks.{IsFallback};
-ghost use Rattle.plan_terms.specs.Separations.{IsSurvivable};
+ghost use Rattle.plan_terms.specs.Terms.{case_of, AreWithinLimits, IsFallback, IsSurvivable};
 ghost use Rattle.planner.specs.inner.Finishing.{IsChosenFor, IsShareFor};
 
 use master_bound::Best;

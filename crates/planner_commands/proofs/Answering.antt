@@ -1,13 +1,7 @@
 -- how what one step comes to is what the run comes to
-use Rattle.std.proofs.Common.{◌≢◌, ℕ, List, [], Option, Result, Ok, Err, inl, inr}
+use Rattle.std.proofs.Common.{◌≢◌, ℕ, List, [], Option, Result, Ok, Err, inl, inr, String}
 use Rattle.std.specs.Global.{Global}
-use Rattle.std.specs.Prelude.{String}
-use Rattle.net_core.specs.declared.demand.Demand.{Demand}
-use Rattle.net_core.specs.declared.instance.Problem.{Problem}
-use Rattle.net_core.specs.declared.network.Network.{Network}
-use Rattle.net_core.specs.declared.network.Notes.{Notes}
-use Rattle.net_core.specs.Cases.{Case}
-use Rattle.net_core.specs.Views.{case}
+use Rattle.plan_terms.specs.Terms.{Demand, Problem, Network, Notes, Case, case}
 use Rattle.model_reader.specs.declared.model.Model.{Model}
 use Rattle.outside_io.specs.Outside.{Files}
 use Rattle.planner_commands.specs.Commands.{Command, IsCommand, PlanWords, default}

@@ -1,13 +1,11 @@
 -- files that are refused
 use Rattle.std.proofs.Common.{◌≡◌, ℕ, List, Result, Err, codes, subst}
-use Rattle.net_core.specs.declared.demand.Demand.{Demand}
-use Rattle.net_core.specs.declared.network.Network.{Network}
+use Rattle.plan_terms.specs.Terms.{Demand, Network}
 use Rattle.sndlib_reader.specs.Kinds.{kind_word}
 use Rattle.sndlib_reader.specs.NetworkFiles as networks
 use Rattle.sndlib_reader.specs.NetworkFiles.{IsFirstFault}
 use Rattle.sndlib_reader.specs.declared.fault.ReadKind.{ReadKind}
-use Rattle.text_kit.specs.Answers.{AnswersAs, Fails}
-use Rattle.text_kit.specs.Reading.{Read}
+use Rattle.text_kit.specs.Terms.{AnswersAs, Fails, Read}
 use Rattle.text_kit.specs.declared.refusal.Refusal.{Refusal}
 use Rattle.text_kit.specs.declared.refusal.Refusal.TheVariants.{Bad}
 use Rattle.planner_commands.specs.Inputs.{RefusesNetworkFile, SpellsNetwork}

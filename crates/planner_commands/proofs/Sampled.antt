@@ -1,8 +1,6 @@
 -- samples that are read back
 use Rattle.std.proofs.Common.{◌≡◌, ℕ, List, subst}
-use Rattle.net_core.specs.declared.demand.Demand.{Demand}
-use Rattle.net_core.specs.declared.network.Link.{Link}
-use Rattle.plan_terms.specs.Separations.{IsSurvivable}
+use Rattle.plan_terms.specs.Terms.{Demand, Link, IsSurvivable}
 use Rattle.sample_net.specs.Samples.{with_single_failures}
 
 -- what is read is the same, so no failure separates it either

@@ -1,25 +1,17 @@
 -- the report of one plan command
-use Rattle.std.proofs.Common.{◌≡◌, ◌≢◌, ◌∙◌, ℕ, zero, suc, ◌≤◌, ◌==◌, ◌++◌, List, [], ◌∷◌, Some, cond, flat_map, if◌then◌else◌, length, refl, slice_get, take, sym, ap, subst, arith, codes, decimal, inl, inr, ⊎_elim}
-use Rattle.std.specs.Prelude.{Bool, true, false}
-use Rattle.std.proofs.lemmas.Bool.{cases_eq, eq-eqb, ne_eqb}
-use Rattle.net_core.specs.declared.demand.Demand.{Demand}
-use Rattle.net_core.specs.declared.ids.StateId.{StateId}
-use Rattle.net_core.specs.declared.journal.Entry.{Entry}
-use Rattle.net_core.specs.declared.journal.Entry.TheVariants.{Edited, Pooled}
-use Rattle.net_core.specs.declared.network.Notes.{Notes}
-use Rattle.net_core.specs.Cases.{Case}
-use Rattle.plan_terms.specs.Separations.{IsFirstSeparation}
+use Rattle.std.proofs.Common.{◌≡◌, ◌≢◌, ◌∙◌, ℕ, zero, suc, ◌≤◌, ◌==◌, ◌++◌, List, [], ◌∷◌, Some, cond, flat_map, if◌then◌else◌, length, refl, slice_get, take, sym, ap, subst, arith, codes, decimal, inl, inr, ⊎_elim, Bool, true, false}
+use Rattle.net_core.proofs.Library.{cases_eq}
+use Rattle.std.proofs.lemmas.Bool.{eq-eqb, ne_eqb}
+use Rattle.plan_terms.specs.Terms.{Demand, StateId, Entry, Edited, Pooled, Notes, Case, IsFirstSeparation}
 use Rattle.plan_types.specs.declared.plan.Plan.{Plan}
 use Rattle.plan_types.specs.declared.report.Outcome.{Outcome}
 use Rattle.plan_types.specs.declared.report.Outcome.TheVariants.{Planned, Unsurvivable}
 use Rattle.plan_types.specs.declared.report.Report.{Report}
-use Rattle.cut_pool.specs.Histories.{Dated, demands_left, left_by}
+use Rattle.cut_pool.specs.Terms.{Dated, demands_left, left_by}
 use Rattle.session_script.specs.declared.script.Act.TheVariants as acts
 use Rattle.session_run.specs.Transcripts.{IsOutcomeAfter, IsTranscript, RunsFrom, acts_of, outcome_caller, edit_asked, edit_made, outcomes_of}
 use Rattle.acceptance.proofs.Transcripts.{transcript_accepted}
-use Rattle.plan_report.specs.Names.{state_name}
-use Rattle.plan_report.specs.KnownNames.{known_to}
-use Rattle.plan_report.specs.Texts.{SpellsReport, report_text}
+use Rattle.plan_report.specs.Terms.{state_name, known_to, SpellsReport, report_text}
 use Rattle.planner_commands.specs.Run.{EndsPlan, IsPlanReport, IsSummary, plan_commands, summary}
 use Rattle.planner_commands.specs.declared.status.Status.{Status}
 use Rattle.planner_commands.specs.declared.status.Status.TheVariants.{Done, NotSurvivable}

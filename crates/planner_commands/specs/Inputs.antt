@@ -1,11 +1,6 @@
 -- the files of a plan, read one after another, and what each may come to
 use Rattle.std.specs.Prelude.{◌≡◌, ◌≢◌, ℕ, ◌^◌, ◌⊎◌, Bool, true, false, List, [], ◌∷◌, ◌++◌, Option, Err, codes}
-use Rattle.net_core.specs.declared.demand.Demand.{Demand}
-use Rattle.net_core.specs.declared.network.Link.{Link}
-use Rattle.net_core.specs.declared.network.Network.{Network}
-use Rattle.net_core.specs.declared.places.Places.{Places}
-use Rattle.net_core.specs.declared.states.Listed.{Listed}
-use Rattle.net_core.specs.Settled.{settled_links, settled_notes}
+use Rattle.plan_terms.specs.Terms.{Demand, Link, Network, Places, Listed, settled_links, settled_notes}
 use Rattle.outside_io.specs.Outside.{Fetches, Files}
 use Rattle.outside_io.specs.declared.shelf.Fetch.TheVariants as fetch
 use Rattle.model_reader.specs.Failures as failures
@@ -17,13 +12,10 @@ use Rattle.model_reader.specs.declared.model.Model.{Model}
 use Rattle.sndlib_reader.specs.Kinds.{kind_word}
 use Rattle.sndlib_reader.specs.NetworkFiles as networks
 use Rattle.sndlib_reader.specs.NetworkFiles.{IsFirstFault}
-use Rattle.plan_report.specs.KnownNames.{KnownNames}
-use Rattle.plan_report.specs.Texts.{SpellsReport}
+use Rattle.plan_report.specs.Terms.{KnownNames, SpellsReport}
 use Rattle.report_reader.specs.ReadingReport.{report_of}
-use Rattle.report_words.specs.ReportKinds.{report_kind_word}
-use Rattle.session_script.specs.ScriptKinds.{script_kind_word}
-use Rattle.session_script.specs.ScriptReading.{script_of}
-use Rattle.session_script.specs.Scripts.{SpellsScript}
+use Rattle.report_words.specs.Terms.{report_kind_word}
+use Rattle.session_script.specs.Terms.{script_kind_word, script_of, SpellsScript}
 use Rattle.planner_commands.specs.Commands.{PlanWords, default}
 use Rattle.planner_commands.specs.Refusals.{Refuses, unused_line}
 use Rattle.planner_commands.specs.declared.status.Status.{Status}

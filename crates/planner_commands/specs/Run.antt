@@ -1,32 +1,24 @@
 -- what a run comes to: its status, and the text that it writes
 use Rattle.std.specs.Prelude.{◌≡◌, ◌≢◌, ℕ, ◌+◌, ◌≤◌, ◌⊎◌, List, [], ◌∷◌, ◌++◌, All, Option, String, codes, decimal, length}
 use Rattle.std.specs.Global.{Global}
-use Rattle.net_core.specs.declared.demand.Demand.{Demand}
-use Rattle.net_core.specs.declared.network.Network.{Network}
-use Rattle.net_core.specs.declared.network.Notes.{Notes}
-use Rattle.net_core.specs.declared.places.Places.TheVariants.{Three}
-use Rattle.net_core.specs.declared.states.Listed.{Listed}
-use Rattle.net_core.specs.Cases.{Case}
+use Rattle.plan_terms.specs.Terms.{Demand, Network, Notes, Three, Listed, Case, IsFirstSeparation}
 use Rattle.outside_io.specs.Outside.{Files, Rose, Takes, TakesPrefix}
-use Rattle.plan_terms.specs.Separations.{IsFirstSeparation}
 use Rattle.plan_types.specs.declared.plan.Plan.{Plan}
 use Rattle.plan_types.specs.declared.quality.Quality.{Quality}
 use Rattle.plan_types.specs.declared.quality.Quality.TheVariants.{Tight, Loose}
 use Rattle.plan_types.specs.declared.report.Outcome.TheVariants.{Planned}
 use Rattle.plan_types.specs.declared.report.Report.{Report}
-use Rattle.plan_report.specs.Names.{state_name}
-use Rattle.plan_report.specs.KnownNames.{known_to}
-use Rattle.plan_report.specs.Texts.{SpellsReport, report_text}
+use Rattle.plan_report.specs.Terms.{state_name, known_to, SpellsReport, report_text}
 use Rattle.plan_checker.specs.declared.finding.Finding.{Finding}
 use Rattle.report_checker.specs.Outcomes.{IsAcceptedOutcome, IsBelowAllAble}
 use Rattle.report_checker.specs.ReportFindings.{HasNoFinding, IsFirstOfReport}
 use Rattle.session_script.specs.declared.script.Act.TheVariants as act
 use Rattle.session_script.specs.declared.script.Command.{Command}
 use Rattle.session_script.specs.declared.script.Script.{Script}
-use Rattle.session_script.specs.Scripts.{SpellsScript}
+use Rattle.session_script.specs.Terms.{SpellsScript}
 use Rattle.session_run.specs.Transcripts.{IsTranscript}
 use Rattle.sample_net.specs.Samples.{no_notes, sample_demands, sample_links, sample_nodes, with_single_failures}
-use Rattle.text_kit.specs.Written.{money_word}
+use Rattle.text_kit.specs.Terms.{money_word}
 use Rattle.planner_commands.specs.Commands as commands
 use Rattle.planner_commands.specs.Commands.{IsCommand, PlanWords, usage}
 use Rattle.planner_commands.specs.Findings.{accepted_line, rejected_line}

@@ -1,7 +1,6 @@
 ghost use Rattle.std.specs.Prelude.{◌≡◌, IfOk, length};
-ghost use Rattle.net_core.specs.Views.{case};
-ghost use Rattle.plan_report.specs.KnownNames.{known_of};
-ghost use Rattle.plan_report.specs.Forms.{IsReportInForm};
+ghost use Rattle.plan_terms.specs.Terms.{case};
+ghost use Rattle.plan_report.specs.Terms.{known_of, IsReportInForm};
 ghost use Rattle.planner_commands.specs.Findings.{accepted_line, rejected_line};
 ghost use Rattle.planner_commands.specs.Run.{IsJudged};
 

@@ -1,6 +1,6 @@
 ghost use Rattle.std.specs.Prelude.{◌≡◌, ◌++◌, ◌∷◌, [], IfOk, OnOk, codes, decimal, length};
-ghost use Rattle.plan_report.specs.Names.{demand_name, link_name};
-ghost use Rattle.text_kit.specs.Written.{money_word};
+ghost use Rattle.plan_report.specs.Terms.{demand_name, link_name};
+ghost use Rattle.text_kit.specs.Terms.{money_word};
 ghost use Rattle.planner_commands.specs.Findings.{demands_of_outcome, demands_there, finding_words, place_words, rejected_line, accepted_line, spaced};
 
 use net_core::{Bytes, Demand, Link, LinkId, List, NoMemory, Places};

@@ -1,8 +1,5 @@
 ghost use Rattle.std.specs.Prelude.{◌≡◌, ◌≢◌, ℕ, List, [], Err, IfErr, IfOk, IsErrOf, length, true, false};
-ghost use Rattle.net_core.specs.declared.demand.Demand.{Demand};
-ghost use Rattle.net_core.specs.declared.network.Network.{Network as Net};
-ghost use Rattle.net_core.specs.declared.states.Listed.{Listed};
-ghost use Rattle.net_core.specs.Demands.{AreDemands};
+ghost use Rattle.plan_terms.specs.Terms.{Demand, Network as Net, Listed, AreDemands};
 ghost use Rattle.outside_io.specs.Outside.{Fetches};
 ghost use Rattle.model_reader.specs.Failures as failures;
 ghost use Rattle.model_reader.specs.Models as models;

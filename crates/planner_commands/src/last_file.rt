@@ -1,8 +1,7 @@
 ghost use Rattle.std.specs.Prelude.{◌≡◌, IfErr, IfOk, IsErrOf};
-ghost use Rattle.net_core.specs.Views.{case_of};
-ghost use Rattle.plan_report.specs.KnownNames.{known_of};
-ghost use Rattle.plan_report.specs.Texts.{SpellsReport};
-ghost use Rattle.session_script.specs.Scripts.{SpellsScript};
+ghost use Rattle.plan_terms.specs.Terms.{case_of};
+ghost use Rattle.plan_report.specs.Terms.{known_of, SpellsReport};
+ghost use Rattle.session_script.specs.Terms.{SpellsScript};
 ghost use Rattle.planner_commands.specs.Inputs.{Fetched, RefusesReportFile, RefusesScriptFile, StopsAtFile, input_limit, report_limit};
 ghost use Rattle.planner_commands.specs.Run.{KeepsShelf};
 ghost use Rattle.planner_commands.specs.inner.Steps.{Stops};

@@ -1,11 +1,6 @@
 ghost use Rattle.std.specs.Prelude.{◌≡◌, ◌+◌, ◌<◌, ◌++◌, ◌∷◌, [], List, IfOk, codes, decimal, length};
-ghost use Rattle.net_core.specs.declared.demand.Demand.{Demand as Dem};
-ghost use Rattle.net_core.specs.Demands.{AreDemands};
-ghost use Rattle.net_core.specs.Views.{case};
-ghost use Rattle.plan_report.specs.KnownNames.{known_of};
-ghost use Rattle.plan_report.specs.Forms.{IsReportInForm};
-ghost use Rattle.plan_report.specs.Names.{state_name};
-ghost use Rattle.plan_report.specs.Texts.{SpellsReport, report_text};
+ghost use Rattle.plan_terms.specs.Terms.{Demand as Dem, AreDemands, case};
+ghost use Rattle.plan_report.specs.Terms.{known_of, IsReportInForm, state_name, SpellsReport, report_text};
 ghost use Rattle.session_run.specs.Transcripts.{IsTranscript};
 ghost use Rattle.planner_commands.specs.Run.{EndsPlan, plan_commands};
 

@@ -1,5 +1,5 @@
 ghost use Rattle.std.specs.Prelude.{◌≡◌, ℕ, List, ◌≤◌, IfOk, IsErrOf};
-ghost use Rattle.net_core.specs.Views.{case};
+ghost use Rattle.plan_terms.specs.Terms.{case};
 ghost use Rattle.sample_net.specs.Samples.{no_notes};
 ghost use Rattle.planner_commands.specs.Commands as commands;
 ghost use Rattle.planner_commands.specs.Commands.{usage};

@@ -1,11 +1,8 @@
 ghost use Rattle.std.specs.Prelude.{◌≡◌, ◌≤◌, ◌+◌, ◌++◌, ◌∷◌, [], IfOk, OnOk, codes, decimal, length};
-ghost use Rattle.net_core.specs.Demands.{AreDemands};
-ghost use Rattle.net_core.specs.declared.places.Places.TheVariants.{Three};
-ghost use Rattle.net_core.specs.Views.{case_of};
-ghost use Rattle.plan_terms.specs.Separations.{IsSurvivable};
+ghost use Rattle.plan_terms.specs.Terms.{AreDemands, Three, case_of, IsSurvivable};
 ghost use Rattle.sample_net.specs.Samples.{no_notes, sample_demands, sample_links, sample_nodes, with_single_failures};
 ghost use Rattle.session_run.specs.Transcripts.{IsTranscript};
-ghost use Rattle.text_kit.specs.Written.{money_word};
+ghost use Rattle.text_kit.specs.Terms.{money_word};
 ghost use Rattle.planner_commands.specs.Run.{IsSummary, plan_commands, quality_word, raw_lines, sample_case, size_line, summary};
 ghost use Rattle.planner_commands.specs.declared.status.Status.{Status};
 ghost use Rattle.plan_types.specs.declared.report.Outcome.TheVariants.{Planned};

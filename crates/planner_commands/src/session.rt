@@ -1,8 +1,7 @@
 ghost use Rattle.std.specs.Prelude.{◌≡◌, IfOk};
-ghost use Rattle.net_core.specs.Views.{case};
-ghost use Rattle.plan_report.specs.KnownNames.{known_of};
-ghost use Rattle.plan_report.specs.Texts.{SpellsReport};
-ghost use Rattle.session_script.specs.Scripts.{IsScript};
+ghost use Rattle.plan_terms.specs.Terms.{case};
+ghost use Rattle.plan_report.specs.Terms.{known_of, SpellsReport};
+ghost use Rattle.session_script.specs.Terms.{IsScript};
 ghost use Rattle.plan_types.specs.declared.report.Report.{Report as Rep};
 ghost use Rattle.planner_commands.specs.Run.{IsPrintedReport};
 

@@ -4,9 +4,8 @@ use Rattle.net_core.specs.declared.demand.Demand.{Demand}
 use Rattle.net_core.specs.declared.network.Network.{Network}
 use Rattle.net_core.specs.declared.network.Notes.{Notes}
 use Rattle.net_core.specs.declared.states.States.{States}
-use Rattle.net_core.specs.Views.{case}
-use Rattle.plan_report.specs.Forms.{IsReportInForm}
-use Rattle.plan_report.specs.KnownNames.{known_of}
+use Rattle.net_core.specs.Terms.{case}
+use Rattle.plan_report.specs.Terms.{IsReportInForm, known_of}
 use Rattle.plan_types.specs.declared.report.Report.{Report}
 use Rattle.session_script.specs.declared.script.Command.{Command}
 use Rattle.session_run.specs.Transcripts.{IsTranscript}

@@ -1,6 +1,6 @@
 -- What callers that work at once share.
 use denote.Param.Send.{IsSync, sendable}
-use Rattle.std.proofs.Crossing.{crosses}
+use Rattle.net_core.proofs.Library.{crosses}
 use Rattle.net_core.proofs.plan.Caps.TheSendSync as all_caps
 use Rattle.net_core.specs.contracts.plan.Caps as caps
 

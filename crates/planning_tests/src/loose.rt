@@ -1,9 +1,8 @@
 //! Tests of plannings that end loose: each report is read again by the checker.
 ghost use Rattle.std.specs.Prelude.{IfSome, length};
-ghost use Rattle.net_core.specs.Demands.{AreDemands};
-ghost use Rattle.plan_report.specs.Forms.{IsReportInForm};
-ghost use Rattle.plan_report.specs.KnownNames.{known_of};
-ghost use Rattle.session_script.specs.Scripts.{IsScript};
+ghost use Rattle.net_core.specs.Terms.{AreDemands};
+ghost use Rattle.plan_report.specs.Terms.{IsReportInForm, known_of};
+ghost use Rattle.session_script.specs.Terms.{IsScript};
 
 use crate::problems::{Place, place_of};
 use net_core::{Copied, Demands, LinkId, List, Listed, Module, Name, States};

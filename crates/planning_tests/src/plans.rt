@@ -1,6 +1,6 @@
 //! Tests of plans for a snapshot of a new board.
 ghost use Rattle.std.specs.Prelude.{length};
-ghost use Rattle.net_core.specs.Demands.{AreDemands};
+ghost use Rattle.net_core.specs.Terms.{AreDemands};
 
 use crate::problems::{Place, TRIANGLE, discard, place_of};
 use cut_pool::Board;

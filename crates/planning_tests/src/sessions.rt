@@ -1,6 +1,6 @@
 //! Tests of sessions on the triangle.
 ghost use Rattle.std.specs.Prelude.{IfSome};
-ghost use Rattle.session_script.specs.Scripts.{IsScript};
+ghost use Rattle.session_script.specs.Terms.{IsScript};
 
 use crate::gates::{EditAmidPlan, LateEdit};
 use crate::problems::{Place, TRIANGLE, place_of};

@@ -1,6 +1,6 @@
 //! Tests of a separator over a board.
 ghost use Rattle.std.specs.Prelude.{◌≡◌, IfSome};
-ghost use Rattle.net_core.specs.Views.{graph};
+ghost use Rattle.net_core.specs.Terms.{graph};
 ghost use Rattle.metric_cut.specs.Cuts.{IsCutOf};
 
 use crate::problems::{one_demand, open_board};

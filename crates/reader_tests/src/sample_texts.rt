@@ -1,5 +1,5 @@
 ghost use Rattle.std.specs.Prelude.{◌≡◌, length};
-ghost use Rattle.net_core.specs.Demands.{AreDemands};
+ghost use Rattle.net_core.specs.Terms.{AreDemands};
 
 use net_core::{Demands, Network, Places};
 use sample_net::{has_writable_notes, network_text, sample};

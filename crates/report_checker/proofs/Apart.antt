@@ -1,13 +1,8 @@
 -- distances that tell whether nodes are apart
-use Rattle.std.proofs.Common.{ℕ, ◌≡◌, ◌<◌, ◌∙◌, List, Option, None, Some, Bool, length, refl, sym, ap, slice_get, subst}
-use Rattle.std.specs.Prelude.{◌↔◌, IsTrue, IfOk, Result, Ok, Err}
-use Rattle.std.proofs.lemmas.Option.{slice_get_within}
-use Rattle.net_core.specs.declared.demand.Demand.{Demand}
-use Rattle.net_core.specs.declared.list.NoMemory.{NoMemory}
-use Rattle.net_core.specs.Cases.{Case, graph_in}
-use Rattle.net_core.specs.Graphs.{Joins}
-use Rattle.plan_terms.specs.Paths.{AreApart, IsDistance}
-use Rattle.plan_checker.specs.Order.{HoldsNone}
+use Rattle.std.proofs.Common.{ℕ, ◌≡◌, ◌<◌, ◌∙◌, List, Option, None, Some, Bool, length, refl, sym, ap, slice_get, subst, ◌↔◌, IsTrue, IfOk, Result, Ok, Err}
+use Rattle.net_core.proofs.Library.{slice_get_within}
+use Rattle.plan_terms.specs.Terms.{Demand, NoMemory, Case, graph_in, Joins, AreApart, IsDistance}
+use Rattle.plan_checker.specs.Terms.{HoldsNone}
 use Rattle.plan_checker.specs.declared.finding.Finding.TheVariants.{Survivable}
 use Rattle.report_checker.specs.Outcomes.{HoldsSurvivable, SeparatesNamed}
 use Rattle.report_checker.specs.inner.Said.{IsSaidSeparation}

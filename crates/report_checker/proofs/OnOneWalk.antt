@@ -1,18 +1,15 @@
 -- outcomes that are checked along a walk
-use Rattle.std.proofs.Common.{◌≡◌, ◌∙◌, ℕ, suc, ◌+◌, ◌<◌, ◌≤◌, All, None, Some, length, get_or, arith, ap, slice_get, subst, sym, take, ⊎_elim}
-use Rattle.std.specs.Prelude.{IfErr, OnOk, Result, Ok, Err, ⊤}
+use Rattle.std.proofs.Common.{◌≡◌, ◌∙◌, ℕ, suc, ◌+◌, ◌<◌, ◌≤◌, All, None, Some, length, get_or, arith, ap, slice_get, subst, sym, take, ⊎_elim, IfErr, OnOk, Result, Ok, Err}
+use Rattle.net_core.proofs.Library.{⊤, cases_eq, get_or_from_slice_get, slice_get-get_or}
 use Rattle.std.proofs.Math.Nat.{min-le_right}
-use Rattle.std.proofs.lemmas.Bool.{cases_eq}
 use Rattle.std.proofs.lemmas.List.{take_min}
-use Rattle.std.proofs.lemmas.Option.{get_or_from_slice_get, slice_get-get_or}
-use Rattle.net_core.specs.Cases.{Case}
+use Rattle.plan_terms.specs.Terms.{Case}
 use Rattle.plan_types.specs.declared.report.Outcome.{Outcome}
 use Rattle.plan_types.specs.declared.report.Report.{Report}
-use Rattle.plan_checker.specs.Order.{HoldNone}
+use Rattle.plan_checker.specs.Terms.{HoldNone, StopsFirst, TellFirst}
 use Rattle.plan_checker.specs.declared.finding.CheckAnswer.TheVariants.{Rejected}
 use Rattle.plan_checker.specs.declared.finding.Finding.{Finding}
 use Rattle.plan_checker.specs.declared.stop.Stop.{Stop}
-use Rattle.plan_checker.specs.inner.Tests.{StopsFirst, TellFirst}
 use Rattle.plan_checker.proofs.Places.{holds_read}
 use Rattle.report_checker.specs.Outcomes.{IsAcceptedOutcome, case_at, outcome_findings}
 use Rattle.report_checker.specs.inner.Along.{AreChecked, AreSoundBefore, IsFirstAfterClean, IsSoundOutcome, outcome_place}

@@ -1,10 +1,8 @@
 -- the lines of a pool so far, and the next one
 use Rattle.std.proofs.Common.{ℕ, ◌≡◌, ◌+◌, ◌<◌, List, [], ◌∷◌, Some, length, get_or, arith, slice_get}
-use Rattle.std.proofs.lemmas.Option.{slice_get-get_or}
-use Rattle.net_core.specs.declared.plan.CutLine.{CutLine}
-use Rattle.net_core.specs.Cases.{Case, graph_in}
-use Rattle.plan_terms.specs.Certificates.{AreKept}
-use Rattle.plan_checker.specs.Places.{HoldsAt}
+use Rattle.net_core.proofs.Library.{slice_get-get_or}
+use Rattle.plan_terms.specs.Terms.{CutLine, Case, graph_in, AreKept}
+use Rattle.plan_checker.specs.Terms.{HoldsAt}
 use Rattle.plan_checker.proofs.Places.{each_read, holds_read, none_read}
 use Rattle.report_checker.specs.Pools.{IsBadCut}
 

@@ -1,19 +1,17 @@
 -- answers on outcomes and on whole reports
 use Rattle.std.proofs.Common.{◌≡◌, zero, suc, All, subst, sym}
-use Rattle.std.proofs.lemmas.List.Elements.{All-weaker}
-use Rattle.net_core.specs.declared.network.Notes.{Notes}
-use Rattle.net_core.specs.Cases.{Case}
-use Rattle.plan_terms.proofs.Duality.{weak_duality}
-use Rattle.plan_types.specs.Plans.{lines_of_certificate}
+use Rattle.net_core.proofs.Library.{All-weaker}
+use Rattle.plan_terms.specs.Terms.{Notes, Case}
+use Rattle.plan_terms.proofs.Lemmas.{weak_duality}
+use Rattle.plan_types.specs.Terms.{lines_of_certificate}
 use Rattle.plan_types.specs.declared.report.Outcome.{Outcome}
 use Rattle.plan_types.specs.declared.report.Outcome.TheVariants.{Planned, Unsurvivable}
 use Rattle.plan_types.specs.declared.report.Report.{Report}
-use Rattle.plan_checker.specs.Order.{HoldNone}
+use Rattle.plan_checker.specs.Terms.{HoldNone, StopsFirst}
 use Rattle.plan_checker.specs.declared.finding.CheckAnswer.{CheckAnswer}
 use Rattle.plan_checker.specs.declared.finding.CheckAnswer.TheVariants.{Accepted, NoMemory, Rejected}
 use Rattle.plan_checker.specs.declared.stop.Stop.{Stop}
 use Rattle.plan_checker.specs.declared.stop.Stop.TheVariants as stops
-use Rattle.plan_checker.specs.inner.Tests.{StopsFirst}
 use Rattle.report_checker.specs.Outcomes.{IsAcceptedOutcome, IsBelowAllAble, case_at}
 use Rattle.report_checker.specs.ReportFindings.{AnswersReport, whole_findings}
 use Rattle.report_checker.specs.inner.Outcomes.{TellOutcomes, answer_to}

@@ -1,14 +1,10 @@
 -- that no finding of a kind holds
 use Rattle.std.proofs.Common.{ℕ, List, take}
-use Rattle.net_core.specs.declared.journal.Entry.{Entry}
-use Rattle.net_core.specs.declared.plan.CutLine.{CutLine}
-use Rattle.net_core.specs.Cases.{Case}
-use Rattle.plan_checker.specs.Order.{HoldsNone}
-use Rattle.plan_checker.specs.Places.{HoldsAt}
+use Rattle.plan_terms.specs.Terms.{Entry, CutLine, Case}
+use Rattle.plan_checker.specs.Terms.{HoldsNone, HoldsAt, HasStaleRight}
 use Rattle.plan_checker.specs.declared.finding.Finding.TheVariants.{BadCut, EntryDiffers, PoolDiffers}
 use Rattle.report_checker.specs.Journals.{HoldsEntryDiffers, IsOtherEntry}
 use Rattle.report_checker.specs.Pools.{HoldsBadCut, HoldsPoolDiffers, IsBadCut}
-use Rattle.plan_checker.specs.Certified.{HasStaleRight}
 
 pub no_entry : (p : Case) (entries : List Entry) → ((k : ℕ) → HoldsAt entries k (IsOtherEntry p (take k entries)) → ⊥) → HoldsNone (HoldsEntryDiffers p entries)
 no_entry p entries none (EntryDiffers position) h = none h.0 h.2.0

@@ -1,14 +1,12 @@
 -- outcomes, and the case at their positions
-use Rattle.std.proofs.Common.{◌≡◌, ◌∙◌, List, length, nat_le, refl, ap, subst, take}
-use Rattle.std.specs.Prelude.{OnOk, Result, Ok, Err, ⊤}
-use Rattle.net_core.specs.declared.demand.Demand.{Demand}
-use Rattle.net_core.specs.Cases.{Case}
+use Rattle.std.proofs.Common.{◌≡◌, ◌∙◌, List, length, nat_le, refl, ap, subst, take, OnOk, Result, Ok, Err}
+use Rattle.net_core.proofs.Library.{⊤}
+use Rattle.plan_terms.specs.Terms.{Demand, Case}
 use Rattle.plan_types.specs.declared.report.Outcome.{Outcome}
 use Rattle.plan_types.specs.declared.report.Outcome.TheVariants.{Planned, Unsurvivable}
 use Rattle.plan_types.specs.declared.report.Report.{Report}
-use Rattle.plan_checker.specs.Order.{HoldsNone}
+use Rattle.plan_checker.specs.Terms.{HoldsNone, TellFirst}
 use Rattle.plan_checker.specs.declared.stop.Stop.{Stop}
-use Rattle.plan_checker.specs.inner.Tests.{TellFirst}
 use Rattle.plan_checker.proofs.Firsts.{told_later}
 use Rattle.report_checker.specs.Outcomes.{HoldsVersionDiffers, IsAcceptedOutcome, case_at, outcome_findings}
 use Rattle.report_checker.specs.inner.Said.{IsSaid, findings_there, outcome_position, outcome_version, said_findings}

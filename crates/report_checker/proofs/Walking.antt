@@ -1,18 +1,10 @@
 -- a walk with one entry more
-use Rattle.std.proofs.Common.{◌≡◌, ◌∙◌, ℕ, ◌+◌, ◌-◌, ◌^◌, ◌<◌, ◌≤◌, suc, Bool, List, [], ◌∷◌, ◌++◌, IsTrue, ◌↔◌, length, get_or, take, take-suc, nat_eq, sym, ap, subst, arith}
-use Rattle.std.specs.Prelude.{IfOk, OnOk, Result, Ok, Err}
+use Rattle.std.proofs.Common.{◌≡◌, ◌∙◌, ℕ, ◌+◌, ◌-◌, ◌^◌, ◌<◌, ◌≤◌, suc, Bool, List, [], ◌∷◌, ◌++◌, IsTrue, ◌↔◌, length, get_or, take, take-suc, nat_eq, sym, ap, subst, arith, IfOk, OnOk, Result, Ok, Err}
 use Rattle.std.proofs.lemmas.Bool.{eq-eqb, eqb-true}
-use Rattle.std.proofs.lemmas.Grind.{flat_map-append}
+use Rattle.net_core.proofs.Library.{flat_map-append}
 use Rattle.std.proofs.lemmas.List.{append-nil, length-append, length-take-le}
-use Rattle.net_core.specs.declared.journal.Edit.{Edit}
-use Rattle.net_core.specs.declared.journal.Entry.{Entry}
-use Rattle.net_core.specs.declared.journal.Entry.TheVariants.{Edited, Pooled}
-use Rattle.net_core.specs.declared.journal.Reply.{Reply}
-use Rattle.net_core.specs.declared.ids.StateId.{StateId}
-use Rattle.net_core.specs.declared.list.NoMemory.{NoMemory}
-use Rattle.net_core.specs.Cases.{Case}
-use Rattle.plan_terms.specs.Edits.{edit_reply, version_after}
-use Rattle.cut_pool.specs.Histories.{Dated, cuts_of, demands_left, left_by, left_by_entry, pooled_by, version_left}
+use Rattle.plan_terms.specs.Terms.{Edit, Entry, Edited, Pooled, Reply, StateId, NoMemory, Case, edit_reply, version_after}
+use Rattle.cut_pool.specs.Terms.{Dated, cuts_of, demands_left, left_by, left_by_entry, pooled_by, version_left}
 use Rattle.cut_pool.proofs.Growing.{left_more}
 use Rattle.report_checker.specs.inner.Walks.{HasPassed, Passes}
 use Rattle.report_checker.specs.declared.walk.Walk.{Walk}

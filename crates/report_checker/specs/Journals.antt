@@ -1,12 +1,8 @@
 -- findings on the journal of a report
 use Rattle.std.specs.Prelude.{◌≡◌, ◌≢◌, ℕ, ◌+◌, List, length, take}
-use Rattle.net_core.specs.declared.journal.Entry.{Entry}
-use Rattle.net_core.specs.declared.journal.Entry.TheVariants.{Edited, Pooled}
-use Rattle.net_core.specs.declared.network.Notes.{Notes}
-use Rattle.net_core.specs.Cases.{Case}
-use Rattle.plan_terms.specs.Edits.{edit_reply}
-use Rattle.cut_pool.specs.Histories.{cuts_of, demands_left, version_left}
-use Rattle.plan_checker.specs.Places.{HoldsAt, IsLeastPlace}
+use Rattle.plan_terms.specs.Terms.{Entry, Edited, Pooled, Notes, Case, edit_reply}
+use Rattle.cut_pool.specs.Terms.{cuts_of, demands_left, version_left}
+use Rattle.plan_checker.specs.Terms.{HoldsAt, IsLeastPlace}
 use Rattle.plan_checker.specs.declared.finding.Finding.{Finding}
 use Rattle.plan_checker.specs.declared.finding.Finding.TheVariants.{EntryDiffers, NotesDiffer}
 

@@ -1,15 +1,11 @@
 -- findings on an outcome of a report
 use Rattle.std.specs.Prelude.{◌≡◌, ◌≢◌, ℕ, ◌<◌, ◌≤◌, ◌⊎◌, List, [], ◌∷◌, length, nat_le, take}
-use Rattle.net_core.specs.declared.journal.Entry.{Entry}
-use Rattle.net_core.specs.Cases.{Case}
-use Rattle.plan_terms.specs.Capacities.{IsAble, total_cost}
-use Rattle.plan_terms.specs.Separations.{Separates}
+use Rattle.plan_terms.specs.Terms.{Entry, Case, IsAble, total_cost, Separates}
 use Rattle.plan_types.specs.declared.report.Outcome.{Outcome}
 use Rattle.plan_types.specs.declared.report.Outcome.TheVariants.{Planned, Unsurvivable}
 use Rattle.plan_types.specs.declared.report.Report.{Report}
-use Rattle.cut_pool.specs.Histories.{version_at, case_left}
-use Rattle.plan_checker.specs.Order.{Kind}
-use Rattle.plan_checker.specs.PlanFindings.{IsAcceptedPlan, plan_findings}
+use Rattle.cut_pool.specs.Terms.{version_at, case_left}
+use Rattle.plan_checker.specs.Terms.{Kind, IsAcceptedPlan, plan_findings}
 use Rattle.plan_checker.specs.declared.finding.Finding.{Finding}
 use Rattle.plan_checker.specs.declared.finding.Finding.TheVariants.{Survivable, VersionDiffers}
 

@@ -1,14 +1,10 @@
 -- findings on the pool of a report
 use Rattle.std.specs.Prelude.{◌≡◌, ◌≢◌, ℕ, ◌<◌, ◌⊎◌, List, length}
-use Rattle.net_core.specs.declared.journal.Entry.{Entry}
-use Rattle.net_core.specs.declared.plan.CutLine.{CutLine}
-use Rattle.net_core.specs.Cases.{Case, graph_in}
-use Rattle.plan_terms.specs.Certificates.{AreKept}
-use Rattle.cut_pool.specs.Histories.{cut_of_line, cuts_of}
-use Rattle.plan_checker.specs.Places.{HoldsAt, IsLeastPlace}
+use Rattle.plan_terms.specs.Terms.{Entry, CutLine, Case, graph_in, AreKept}
+use Rattle.cut_pool.specs.Terms.{cut_of_line, cuts_of}
+use Rattle.plan_checker.specs.Terms.{HoldsAt, IsLeastPlace, HasStaleRight}
 use Rattle.plan_checker.specs.declared.finding.Finding.{Finding}
 use Rattle.plan_checker.specs.declared.finding.Finding.TheVariants.{BadCut, PoolCount, PoolDiffers}
-use Rattle.plan_checker.specs.Certified.{HasStaleRight}
 
 -- the pool has another number of lines than the journal has cuts
 abbrev pub HoldsPoolCount : List Entry → List CutLine → Finding → Type 0

@@ -1,17 +1,15 @@
 -- the findings on a report, in their order
 use Rattle.std.specs.Prelude.{ℕ, zero, suc, ◌<◌, List, [], ◌∷◌, All}
-use Rattle.net_core.specs.declared.network.Notes.{Notes}
-use Rattle.net_core.specs.Cases.{Case}
+use Rattle.plan_terms.specs.Terms.{Notes, Case}
 use Rattle.plan_types.specs.declared.report.Report.{Report}
-use Rattle.plan_checker.specs.Order.{HoldNone, IsFirstFinding, Kind}
-use Rattle.plan_checker.specs.Places.{HoldsAt}
+use Rattle.plan_checker.specs.Terms.{HoldNone, IsFirstFinding, Kind, HoldsAt}
 use Rattle.plan_checker.specs.declared.finding.CheckAnswer.{CheckAnswer}
 use Rattle.plan_checker.specs.declared.finding.CheckAnswer.TheVariants.{Accepted, NoMemory, Rejected}
 use Rattle.plan_checker.specs.declared.finding.Finding.{Finding}
 use Rattle.report_checker.specs.Journals.{HoldsEntryDiffers, HoldsNotesDiffer}
 use Rattle.report_checker.specs.Outcomes.{outcome_findings}
 use Rattle.report_checker.specs.Pools.{HoldsBadCut, HoldsPoolCount, HoldsPoolDiffers}
-use Rattle.cut_pool.specs.Histories.{case_left}
+use Rattle.cut_pool.specs.Terms.{case_left}
 
 -- the kinds of findings on the whole report, where these are the network's notes, and the case has the opening demands
 abbrev pub whole_findings : Notes → Case → Report → List Kind

@@ -1,9 +1,7 @@
 ghost use Rattle.std.specs.Prelude.{◌≡◌, ◌+◌, ◌≤◌, All, IfOk, length, take};
-ghost use Rattle.net_core.specs.Cases.{Case};
-ghost use Rattle.net_core.specs.Views.{case_of};
+ghost use Rattle.plan_terms.specs.Terms.{Case, case_of};
 ghost use Rattle.plan_checker.specs.declared.finding.CheckAnswer.TheVariants.{Accepted};
-ghost use Rattle.plan_report.specs.KnownNames.{known_of};
-ghost use Rattle.plan_report.specs.Forms.{IsReportInForm};
+ghost use Rattle.plan_report.specs.Terms.{known_of, IsReportInForm};
 ghost use Rattle.plan_types.specs.declared.report.Report.{Report as Whole};
 ghost use Rattle.report_checker.specs.Outcomes.{IsAcceptedOutcome};
 ghost use Rattle.report_checker.specs.inner.Along.{AreChecked};

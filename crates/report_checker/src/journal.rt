@@ -1,7 +1,6 @@
 ghost use Rattle.std.specs.Prelude.{◌≡◌, ◌≤◌, All, IfErr, IfOk, length};
-ghost use Rattle.net_core.specs.Views.{case_of};
-ghost use Rattle.plan_checker.specs.Order.{HoldsNone};
-ghost use Rattle.plan_checker.specs.inner.Tests.{StopsBy, Tells};
+ghost use Rattle.plan_terms.specs.Terms.{case_of};
+ghost use Rattle.plan_checker.specs.Terms.{HoldsNone, StopsBy, Tells};
 ghost use Rattle.report_checker.specs.Journals.{HoldsEntryDiffers, HoldsNotesDiffer};
 ghost use Rattle.report_checker.specs.inner.Walks.{HasPassed, HasSmallNeed};
 

@@ -1,10 +1,7 @@
 ghost use Rattle.std.specs.Prelude.{◌≡◌, ◌+◌, ◌<◌, ◌↔◌, IfErr, IfOk, IsTrue, None, OnOk, length, min, take};
-ghost use Rattle.net_core.specs.Graphs.{Joins};
-ghost use Rattle.net_core.specs.Views.{case_of, graph};
-ghost use Rattle.plan_report.specs.KnownNames.{known_of};
-ghost use Rattle.plan_report.specs.Forms.{IsOutcomeInForm};
-ghost use Rattle.plan_terms.specs.Paths.{AreApart};
-ghost use Rattle.plan_checker.specs.inner.Tests.{StopsFirst, TellFirst, Tells};
+ghost use Rattle.plan_terms.specs.Terms.{Joins, case_of, graph, AreApart};
+ghost use Rattle.plan_report.specs.Terms.{known_of, IsOutcomeInForm};
+ghost use Rattle.plan_checker.specs.Terms.{StopsFirst, TellFirst, Tells};
 ghost use Rattle.report_checker.specs.Outcomes.{HoldsSurvivable, HoldsVersionDiffers, SeparatesNamed, case_at, outcome_findings};
 ghost use Rattle.report_checker.specs.inner.Along.{IsSoundOutcome, outcome_place};
 ghost use Rattle.report_checker.specs.inner.Said.{IsSaidSeparation, IsSaid, findings_there, outcome_position, outcome_version, said_findings};

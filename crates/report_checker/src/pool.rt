@@ -1,13 +1,8 @@
 ghost use Rattle.std.specs.Prelude.{◌≡◌, ℕ, ◌<◌, ◌≤◌, ◌^◌, ◌↔◌, List, All, IsFalse, IsTrue, OnOk, length, slice_get, Some};
-ghost use Rattle.net_core.specs.Cases.{graph_in};
-ghost use Rattle.net_core.specs.Views.{case_of};
-ghost use Rattle.net_core.specs.declared.journal.Entry.{Entry as Event};
-ghost use Rattle.net_core.specs.declared.plan.CutLine.{CutLine as Line};
-ghost use Rattle.plan_report.specs.Forms.{IsCutInForm};
-ghost use Rattle.plan_terms.specs.Certificates.{AreKept};
-ghost use Rattle.cut_pool.specs.Histories.{cut_of_line, cuts_of};
-ghost use Rattle.plan_checker.specs.Places.{HoldsAt};
-ghost use Rattle.plan_checker.specs.inner.Tests.{Tells};
+ghost use Rattle.plan_terms.specs.Terms.{graph_in, case_of, Entry as Event, CutLine as Line, AreKept};
+ghost use Rattle.plan_report.specs.Terms.{IsCutInForm};
+ghost use Rattle.cut_pool.specs.Terms.{cut_of_line, cuts_of};
+ghost use Rattle.plan_checker.specs.Terms.{HoldsAt, Tells};
 ghost use Rattle.report_checker.specs.Pools.{HoldsBadCut, HoldsPoolCount, HoldsPoolDiffers, IsBadCut};
 
 use net_core::{CutLine, Instance, Surviving};

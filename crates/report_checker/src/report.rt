@@ -1,9 +1,7 @@
 ghost use Rattle.std.specs.Prelude.{◌≡◌, ◌≤◌, All, OnOk, length};
-ghost use Rattle.net_core.specs.Demands.{AreDemands};
-ghost use Rattle.net_core.specs.Views.{case, case_of};
-ghost use Rattle.plan_report.specs.KnownNames.{known_of};
-ghost use Rattle.plan_report.specs.Forms.{IsReportInForm};
-ghost use Rattle.plan_checker.specs.inner.Tests.{TellFirst};
+ghost use Rattle.plan_terms.specs.Terms.{AreDemands, case, case_of};
+ghost use Rattle.plan_report.specs.Terms.{known_of, IsReportInForm};
+ghost use Rattle.plan_checker.specs.Terms.{TellFirst};
 ghost use Rattle.report_checker.specs.Outcomes.{IsAcceptedOutcome, IsBelowAllAble};
 ghost use Rattle.report_checker.specs.ReportFindings.{AnswersReport, whole_findings};
 ghost use Rattle.report_checker.specs.inner.Outcomes.{TellOutcomes, answer_to};

@@ -1,8 +1,5 @@
 ghost use Rattle.std.specs.Prelude.{◌≡◌, ◌-◌, ◌<◌, ◌^◌, ◌↔◌, List, IfOk, IsTrue, OnOk, []};
-ghost use Rattle.net_core.specs.Cases.{Case};
-ghost use Rattle.net_core.specs.Views.{case_of};
-ghost use Rattle.net_core.specs.declared.journal.Entry.{Entry as Event};
-ghost use Rattle.plan_terms.specs.Edits.{edit_need, edit_reply, version_after};
+ghost use Rattle.plan_terms.specs.Terms.{Case, case_of, Entry as Event, edit_need, edit_reply, version_after};
 ghost use Rattle.report_checker.specs.inner.Walks.{HasPassed, HasSmallNeed, Passes};
 
 use demand_book::Book;

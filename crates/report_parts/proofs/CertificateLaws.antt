@@ -1,28 +1,20 @@
 -- The reading of a certificate takes exactly its texts.
-use Rattle.std.proofs.Common.{◌≡◌, ◌⊎◌, inl, inr, ℕ, ◌+◌, ◌^◌, ◌<◌, ◌≤◌, true, List, [], ◌∷◌, ◌++◌, length, All, Err, refl, sym, ap, subst, ◌∙◌, arith, append_assoc}
-use Rattle.std.specs.Prelude.{codes, slice_get}
-use Rattle.std.proofs.lemmas.Option.{slice_get-get_or}
-use Rattle.net_core.specs.declared.plan.CutLine.{CutLine}
+use Rattle.std.proofs.Common.{◌≡◌, ◌⊎◌, inl, inr, ℕ, ◌+◌, ◌^◌, ◌<◌, ◌≤◌, true, List, [], ◌∷◌, ◌++◌, length, All, Err, refl, sym, ap, subst, ◌∙◌, arith, append_assoc, codes, slice_get}
+use Rattle.net_core.proofs.Library.{slice_get-get_or}
+use Rattle.plan_terms.specs.Terms.{CutLine}
 use Rattle.plan_types.specs.declared.certificate.CertLine.{CertLine}
 use Rattle.plan_types.specs.declared.certificate.Certificate.{Certificate}
 use Rattle.plan_types.specs.declared.certificate.Spot.{Spot}
 use Rattle.plan_types.specs.declared.certificate.Spot.TheVariants.{Pool, Local}
-use Rattle.text_kit.specs.Items.{Item, Verbatim, Whole, Opening, Closing}
+use Rattle.text_kit.specs.Terms.{Item, Verbatim, Whole, Opening, Closing}
 use Rattle.text_kit.proofs.Beginnings.{AnyText}
 use Rattle.text_kit.proofs.Spelled.{Lawful}
-use Rattle.plan_report.specs.Forms.{AreLinkNumbers, IsCertificateLineInForm, IsCutInForm, IsOfPool, line_lengths, line_state}
-use Rattle.plan_report.specs.Items.{certificate_items, certificate_line_items, spot_items}
-use Rattle.plan_report.specs.KnownNames.{KnownNames}
+use Rattle.plan_report.specs.Terms.{AreLinkNumbers, IsCertificateLineInForm, IsCutInForm, IsOfPool, line_lengths, line_state, certificate_items, certificate_line_items, spot_items, KnownNames}
 use Rattle.report_words.specs.declared.fault.ReportKind.TheVariants.{Token}
 use Rattle.report_parts.specs.declared.spot_cut.SpotCut.{SpotCut}
-use Rattle.report_words.specs.ReportWords.{closing_at, has_room}
+use Rattle.report_words.specs.Terms.{closing_at, has_room}
 use Rattle.report_parts.specs.ReadingParts.{certificate_at, certificate_line_at, local_spot_at, of_line, pool_spot_at, right_side_at, spot_at, spot_branches}
-use Rattle.report_words.proofs.BranchLaws.{branches_law, either_form, lawful_branch, lawful_no_branch}
-use Rattle.report_words.proofs.FieldLaws.{field_law}
-use Rattle.report_words.proofs.ListLaws.{few_law}
-use Rattle.report_words.proofs.Making.{MadeOf, law_made, made_last, made_then}
-use Rattle.report_words.proofs.NumberLaws.{numbers_law}
-use Rattle.report_words.proofs.WordLaws.{closing_law, keyword_law, number_law, opening_law, opening_within_law}
+use Rattle.report_words.proofs.Lemmas.{branches_law, either_form, lawful_branch, lawful_no_branch, field_law, few_law, MadeOf, law_made, made_last, made_then, numbers_law, closing_law, keyword_law, number_law, opening_law, opening_within_law}
 
 module _ (names : KnownNames) (pool : List CutLine) where
   abbrev IsPlacedAt : Spot → SpotCut → Type 0

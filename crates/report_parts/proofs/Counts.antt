@@ -1,11 +1,9 @@
 -- The capacity of a link grows module by module.
-use Rattle.std.proofs.Common.{◌≡◌, ℕ, suc, ◌+◌, ◌*◌, ◌<◌, ◌≤◌, min, nat_lt, List, [], ◌∷◌, ◌++◌, length, length-take, take, get_or, true, false, Some, refl, sym, ap, subst, ◌∙◌, arith}
-use Rattle.std.specs.Prelude.{zip, slice_get}
+use Rattle.std.proofs.Common.{◌≡◌, ℕ, suc, ◌+◌, ◌*◌, ◌<◌, ◌≤◌, min, nat_lt, List, [], ◌∷◌, ◌++◌, length, length-take, take, get_or, true, false, Some, refl, sym, ap, subst, ◌∙◌, arith, zip, slice_get}
 use Rattle.std.proofs.Math.Seq.{take-suc}
 use Rattle.std.proofs.lemmas.Bool.{lt-ltb, le-ltb, ltb-true, ltb-false}
-use Rattle.std.proofs.lemmas.List.Sums.{sum_by-cons}
-use Rattle.net_core.specs.declared.network.Module.{Module}
-use Rattle.plan_terms.specs.Capacities.{modules_capacity}
+use Rattle.net_core.proofs.Library.{sum_by-cons}
+use Rattle.plan_terms.specs.Terms.{Module, modules_capacity}
 
 -- without counts
 pub capacity_none : (modules : List Module) → modules_capacity modules [] ≡ 0

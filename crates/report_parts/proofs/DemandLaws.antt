@@ -1,23 +1,14 @@
 -- The reading of the demands of a plan takes exactly their texts.
-use Rattle.std.proofs.Common.{◌≡◌, ◌≢◌, ℕ, ◌<◌, false, List, [], length, AllPairs, refl}
-use Rattle.std.specs.Prelude.{codes, flat_map}
-use Rattle.net_core.specs.declared.demand.Demand.{Demand}
-use Rattle.net_core.specs.declared.places.Places.{Places}
-use Rattle.net_core.specs.Tests.{is_named}
-use Rattle.text_kit.specs.Items.{ComeAfter}
-use Rattle.text_kit.specs.Reading.{no_fault, Parenthesis}
+use Rattle.std.proofs.Common.{◌≡◌, ◌≢◌, ℕ, ◌<◌, false, List, [], length, AllPairs, refl, codes, flat_map}
+use Rattle.plan_terms.specs.Terms.{Demand, Places, is_named}
+use Rattle.text_kit.specs.Terms.{ComeAfter, no_fault, Parenthesis, ends_items, section}
 use Rattle.text_kit.proofs.Beginnings.{AnyText}
-use Rattle.text_kit.proofs.After.{after_as, after_differ}
-use Rattle.text_kit.proofs.Lawful.{lawful_list}
+use Rattle.text_kit.proofs.Lemmas.{after_as, after_differ, lawful_list}
 use Rattle.text_kit.proofs.Spelled.{Lawful}
-use Rattle.plan_report.specs.Forms.{IsDemandInForm}
-use Rattle.plan_report.specs.Items.{demand_items}
-use Rattle.text_kit.specs.Edits.{ends_items, section}
-use Rattle.plan_report.specs.Names.{node_name}
-use Rattle.report_words.specs.ReportWords.{closing_at}
+use Rattle.plan_report.specs.Terms.{IsDemandInForm, demand_items, node_name}
+use Rattle.report_words.specs.Terms.{closing_at}
 use Rattle.report_parts.specs.ReadingParts.{nodes_at, plan_demand_at, plan_demands_at}
-use Rattle.report_words.proofs.Making.{law_made, made_last, made_law, made_then}
-use Rattle.report_words.proofs.WordLaws.{AreApart, amount_law, closing_law, keyword_law, new_demand_law, node_law, opening_law}
+use Rattle.report_words.proofs.Lemmas.{law_made, made_last, made_law, made_then, AreApart, amount_law, closing_law, keyword_law, new_demand_law, node_law, opening_law}
 
 module _ (nodes : List (List ℕ)) (nodes_apart : AllPairs (λ x y. x ≢ y) nodes) where
   nodes_law : Lawful (nodes_at nodes) (λ e. ends_items (node_name nodes e.0) (node_name nodes e.1)) (λ e. (e.0.0 < length nodes) × (e.1.0 < length nodes)) AnyText

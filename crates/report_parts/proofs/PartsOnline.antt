@@ -1,29 +1,18 @@
 -- Each section of a plan is read without a look at what comes after it.
-use Rattle.std.proofs.Common.{◌≡◌, ℕ, ◌+◌, ◌^◌, Bool, true, List, [], length, Option, None, Some, Err, refl}
-use Rattle.std.specs.Prelude.{codes, slice_get}
-use Rattle.net_core.specs.declared.columns.MasterColumn.{MasterColumn}
-use Rattle.net_core.specs.declared.columns.RouteColumn.{RouteColumn}
-use Rattle.net_core.specs.declared.demand.Demand.{Demand}
-use Rattle.net_core.specs.declared.ids.LinkId.{LinkId}
-use Rattle.net_core.specs.declared.network.Link.{Link}
-use Rattle.net_core.specs.declared.places.Places.{Places}
-use Rattle.net_core.specs.declared.plan.CutLine.{CutLine}
-use Rattle.net_core.specs.declared.plan.Flow.{Flow}
-use Rattle.net_core.specs.declared.plan.Routing.{Routing}
+use Rattle.std.proofs.Common.{◌≡◌, ℕ, ◌+◌, ◌^◌, Bool, true, List, [], length, Option, None, Some, Err, refl, codes, slice_get}
+use Rattle.plan_terms.specs.Terms.{MasterColumn, RouteColumn, Demand, LinkId, Link, Places, CutLine, Flow, Routing}
 use Rattle.plan_types.specs.declared.certificate.CertLine.{CertLine}
-use Rattle.snd_tokens.specs.Lexemes.{EndAt}
-use Rattle.text_kit.specs.Reading.{Reading, no_fault, not_empty, of_length, Parenthesis}
-use Rattle.text_kit.proofs.Online.{IsOnline, TakesSome, online_close, online_give, online_list, online_open, online_then, online_word, takes_some}
-use Rattle.plan_report.specs.KnownNames.{KnownNames}
+use Rattle.snd_tokens.specs.Terms.{EndAt}
+use Rattle.text_kit.specs.Terms.{Reading, no_fault, not_empty, of_length, Parenthesis}
+use Rattle.text_kit.proofs.Lemmas.{IsOnline, TakesSome, online_close, online_give, online_list, online_open, online_then, online_word, takes_some}
+use Rattle.plan_report.specs.Terms.{KnownNames}
 use Rattle.report_words.specs.declared.fault.ReportKind.{ReportKind}
 use Rattle.report_words.specs.declared.fault.ReportKind.TheVariants.{Token, Ended, Limit}
-use Rattle.report_words.specs.ReportWords.{has_room, link_at, link_of, unknown_name, whole_within}
+use Rattle.report_words.specs.Terms.{has_room, link_at, link_of, unknown_name, whole_within}
 use Rattle.report_parts.specs.ReadingRoutings.{flow_at, path_at, routing_at, routings_at}
 use Rattle.report_parts.specs.ReadingQuality.{basis_at, caps_at, carry_at, evidence_at, fractional_at, left_at, loose_at, master_at, master_column_at, master_wide_at, metric_at, price_at, quality_at, route_at, route_column_at, route_wide_at, slack_at, tight_at, too_wide_at, wide_entry_at, wide_length_at, wide_number_at, wide_row_at, wide_sum_at, evidence_branches, loose_branches, master_column_branches, master_wide_branches, quality_branches, route_column_branches, route_wide_branches}
 use Rattle.report_parts.specs.ReadingParts.{all_counts_at, certificate_at, certificate_line_at, count_at, count_within, counts_at, local_spot_at, modules_at, next_counts_at, nodes_at, plan_demand_at, plan_demands_at, pool_spot_at, right_side_at, spot_at, spot_branches}
-use Rattle.report_words.proofs.Branching.{online_branch}
-use Rattle.report_words.proofs.FieldLaws.{field_online}
-use Rattle.report_words.proofs.WordsOnline.{column_some, numbers_online, opening_within_online}
+use Rattle.report_words.proofs.Lemmas.{online_branch, field_online, column_some, numbers_online, opening_within_online}
 
 -- ---- routings
 

@@ -1,38 +1,23 @@
 -- The readings of how good a bound is take exactly their texts.
-use Rattle.std.proofs.Common.{◌≡◌, inl, inr, ℕ, ◌+◌, ◌^◌, ◌<◌, Bool, true, List, [], ◌∷◌, ◌++◌, length, All, Err, refl, sym, ap, arith, append_assoc}
-use Rattle.std.specs.Prelude.{codes, flat_map}
-use Rattle.net_core.specs.declared.columns.Evidence.{Evidence}
-use Rattle.net_core.specs.declared.columns.Evidence.TheVariants.{Route, Master}
-use Rattle.net_core.specs.declared.columns.MasterColumn.{MasterColumn}
+use Rattle.std.proofs.Common.{◌≡◌, inl, inr, ℕ, ◌+◌, ◌^◌, ◌<◌, Bool, true, List, [], ◌∷◌, ◌++◌, length, All, Err, refl, sym, ap, arith, append_assoc, codes, flat_map}
+use Rattle.plan_terms.specs.Terms.{Evidence, Route, Master, MasterColumn, RouteColumn, WideKind, Demand, LinkId, Routing}
 use Rattle.net_core.specs.declared.columns.MasterColumn.TheVariants as master
-use Rattle.net_core.specs.declared.columns.RouteColumn.{RouteColumn}
 use Rattle.net_core.specs.declared.columns.RouteColumn.TheVariants as route
-use Rattle.net_core.specs.declared.columns.WideKind.{WideKind}
 use Rattle.net_core.specs.declared.columns.WideKind.TheVariants as wide
-use Rattle.net_core.specs.declared.demand.Demand.{Demand}
-use Rattle.net_core.specs.declared.ids.LinkId.{LinkId}
-use Rattle.net_core.specs.declared.plan.Routing.{Routing}
 use Rattle.plan_types.specs.declared.quality.Cause.TheVariants.{Wide, Cuts}
 use Rattle.plan_types.specs.declared.quality.Fractional.{Fractional}
 use Rattle.plan_types.specs.declared.quality.Quality.{Quality}
 use Rattle.plan_types.specs.declared.quality.Quality.TheVariants.{Tight, Loose}
-use Rattle.text_kit.specs.Items.{Item, Verbatim, Whole}
+use Rattle.text_kit.specs.Terms.{Item, Verbatim, Whole, enclosed}
 use Rattle.text_kit.proofs.Beginnings.{AnyText}
 use Rattle.text_kit.proofs.Spelled.{Lawful}
-use Rattle.plan_report.specs.Forms.{AreCapsInForm, AreRoutingsInForm, IsCauseInForm, IsEvidenceInForm, IsKindInForm, IsMasterColumnInForm, IsQualityInForm, IsRouteColumnInForm, IsShareInForm}
-use Rattle.plan_report.specs.Items.{cause_items, evidence_items, master_column_items, numbers_items, quality_items, route_column_items, routings_items, wide_items}
-use Rattle.text_kit.specs.Edits.{enclosed}
-use Rattle.plan_report.specs.KnownNames.{KnownNames}
+use Rattle.plan_report.specs.Terms.{AreCapsInForm, AreRoutingsInForm, IsCauseInForm, IsEvidenceInForm, IsKindInForm, IsMasterColumnInForm, IsQualityInForm, IsRouteColumnInForm, IsShareInForm, cause_items, evidence_items, master_column_items, numbers_items, quality_items, route_column_items, routings_items, wide_items, KnownNames}
 use Rattle.report_words.specs.declared.fault.ReportKind.TheVariants.{Token}
-use Rattle.report_words.specs.ReportWords.{has_room}
+use Rattle.report_words.specs.Terms.{has_room}
 use Rattle.report_parts.specs.ReadingQuality.{evidence_branches, loose_branches, master_column_branches, master_wide_branches, quality_branches, route_column_branches, route_wide_branches, basis_at, caps_at, carry_at, evidence_at, fractional_at, left_at, loose_at, master_at, master_column_at, master_wide_at, metric_at, price_at, quality_at, route_at, route_column_at, route_wide_at, slack_at, tight_at, too_wide_at, wide_entry_at, wide_length_at, wide_number_at, wide_row_at, wide_sum_at}
-use Rattle.report_words.proofs.BranchLaws.{branches_law, either_form, lawful_branch, lawful_no_branch}
-use Rattle.report_words.proofs.ListLaws.{exact_law}
-use Rattle.report_words.proofs.Making.{law_made, made_give, made_last, made_law, made_then}
+use Rattle.report_words.proofs.Lemmas.{branches_law, either_form, lawful_branch, lawful_no_branch, exact_law, law_made, made_give, made_last, made_law, made_then, numbers_law, AreApart, demand_law, link_law, number_law}
 use Rattle.report_parts.proofs.RoutingLaws.{AreLinksApart, path_law, routings_law}
-use Rattle.report_words.proofs.NumberLaws.{numbers_law}
 use Rattle.report_parts.proofs.ColumnVariants.{evidence_cases, master_cases, quality_cases, route_cases, wide_cases}
-use Rattle.report_words.proofs.WordLaws.{AreApart, demand_law, link_law, number_law}
 
 module _ (names : KnownNames) (apart : AreLinksApart names.links) where
   -- ---- columns of a program that finds a certificate

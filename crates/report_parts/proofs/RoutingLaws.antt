@@ -1,28 +1,15 @@
 -- The readings of paths and routings take exactly their texts.
-use Rattle.std.proofs.Common.{◌≡◌, ◌≢◌, ℕ, ◌+◌, ◌^◌, ◌<◌, true, List, [], ◌∷◌, length, AllPairs, refl, ap, arith}
-use Rattle.std.specs.Prelude.{codes}
-use Rattle.net_core.specs.declared.demand.Demand.{Demand}
-use Rattle.net_core.specs.declared.ids.LinkId.{LinkId}
-use Rattle.net_core.specs.declared.network.Link.{Link}
-use Rattle.net_core.specs.declared.plan.Flow.{Flow}
-use Rattle.net_core.specs.declared.plan.Routing.{Routing}
-use Rattle.text_kit.specs.Items.{Verbatim}
-use Rattle.text_kit.specs.Reading.{of_length}
+use Rattle.std.proofs.Common.{◌≡◌, ◌≢◌, ℕ, ◌+◌, ◌^◌, ◌<◌, true, List, [], ◌∷◌, length, AllPairs, refl, ap, arith, codes}
+use Rattle.plan_terms.specs.Terms.{Demand, LinkId, Link, Flow, Routing}
+use Rattle.text_kit.specs.Terms.{Verbatim, of_length, enclosed}
 use Rattle.text_kit.proofs.Beginnings.{AnyText}
-use Rattle.text_kit.proofs.After.{all_after, after_all}
-use Rattle.text_kit.proofs.Lawful.{lawful_some}
+use Rattle.text_kit.proofs.Lemmas.{all_after, after_all, lawful_some}
 use Rattle.text_kit.proofs.Spelled.{Lawful}
-use Rattle.plan_report.specs.Forms.{AreRoutingsInForm, IsFlowInForm, IsPathInForm, IsRoutingInForm}
-use Rattle.plan_report.specs.Items.{flow_items, path_items, routing_items, routings_items}
-use Rattle.text_kit.specs.Edits.{enclosed}
-use Rattle.plan_report.specs.Names.{link_name, state_name}
-use Rattle.plan_report.specs.KnownNames.{KnownNames}
+use Rattle.plan_report.specs.Terms.{AreRoutingsInForm, IsFlowInForm, IsPathInForm, IsRoutingInForm, flow_items, path_items, routing_items, routings_items, link_name, state_name, KnownNames}
 use Rattle.report_words.specs.declared.fault.ReportKind.TheVariants.{Token, Limit}
-use Rattle.report_words.specs.ReportWords.{has_room, link_at}
+use Rattle.report_words.specs.Terms.{has_room, link_at}
 use Rattle.report_parts.specs.ReadingRoutings.{flow_at, path_at, routing_at, routings_at}
-use Rattle.report_words.proofs.ListLaws.{few_law, few_rooms, is_length, lawful_placed, length_is, numbered_items, rooms_few}
-use Rattle.report_words.proofs.Making.{law_made, made_last, made_law, made_then}
-use Rattle.report_words.proofs.WordLaws.{AreApart, demand_within_law, keyword_within_law, link_law, number_law, opening_law, this_name_law, this_number_law}
+use Rattle.report_words.proofs.Lemmas.{few_law, few_rooms, is_length, lawful_placed, length_is, numbered_items, rooms_few, law_made, made_last, made_law, made_then, AreApart, demand_within_law, keyword_within_law, link_law, number_law, opening_law, this_name_law, this_number_law}
 
 -- ---- paths and flows
 

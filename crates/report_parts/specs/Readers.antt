@@ -1,10 +1,9 @@
 -- What a reader of a plan finds names in.
 use Rattle.std.specs.Prelude.{List}
-use Rattle.net_core.specs.declared.demand.Demand.{Demand}
-use Rattle.net_core.specs.declared.network.Link.{Link}
-use Rattle.plan_report.specs.KnownNames.{KnownNames}
+use Rattle.plan_terms.specs.Terms.{Demand, Link}
+use Rattle.plan_report.specs.Terms.{KnownNames}
 use Rattle.report_parts.specs.declared.plan_reader.PlanReader.{PlanReader}
-use Rattle.report_words.specs.Contexts.{known_in}
+use Rattle.report_words.specs.Terms.{known_in}
 
 -- the names of the network and of its states
 abbrev pub reader_names : PlanReader → KnownNames

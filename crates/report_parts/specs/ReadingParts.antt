@@ -1,23 +1,15 @@
 -- Reading the demands, the modules and the certificate of a plan.
 use Rattle.std.specs.Prelude.{ℕ, ◌+◌, ◌^◌, nat_lt, ◌&&◌, List, [], ◌∷◌, ◌++◌, length, Option, Some, None, Result, Ok, Err, slice_get, codes}
-use Rattle.net_core.specs.declared.demand.Demand.{Demand}
-use Rattle.net_core.specs.declared.ids.NodeId.{NodeId}
-use Rattle.net_core.specs.declared.network.Link.{Link}
-use Rattle.net_core.specs.declared.places.Places.{Places}
-use Rattle.net_core.specs.declared.plan.CutLine.{CutLine}
-use Rattle.plan_terms.specs.Capacities.{modules_capacity}
+use Rattle.plan_terms.specs.Terms.{Demand, NodeId, Link, Places, CutLine, modules_capacity}
 use Rattle.plan_types.specs.declared.certificate.CertLine.{CertLine}
 use Rattle.plan_types.specs.declared.certificate.Certificate.{Certificate}
 use Rattle.plan_types.specs.declared.certificate.Spot.TheVariants.{Pool, Local}
-use Rattle.text_kit.specs.Reading.{Reading, ◌>>=◌, give, list_at, no_fault, of_length, Parenthesis, word_at}
-use Rattle.plan_report.specs.Forms.{line_lengths, line_state}
-use Rattle.plan_report.specs.KnownNames.{KnownNames}
+use Rattle.text_kit.specs.Terms.{Reading, ◌>>=◌, give, list_at, no_fault, of_length, Parenthesis, word_at}
+use Rattle.plan_report.specs.Terms.{line_lengths, line_state, KnownNames}
 use Rattle.report_words.specs.declared.fault.ReportKind.{ReportKind}
 use Rattle.report_words.specs.declared.fault.ReportKind.TheVariants.{Token, Ended, Limit}
 use Rattle.report_parts.specs.declared.spot_cut.SpotCut.{SpotCut}
-use Rattle.report_words.specs.ReportWords.{amount_at, closing_at, has_room, keyword_at, new_demand, node_at, number_at, opening_at, opening_within, this_name_at, unknown_name, where_room, whole_within}
-use Rattle.report_words.specs.ReportFields.{field_at}
-use Rattle.report_words.specs.ReportChoices.{Branches, branch_at, numbers_at}
+use Rattle.report_words.specs.Terms.{amount_at, closing_at, has_room, keyword_at, new_demand, node_at, number_at, opening_at, opening_within, this_name_at, unknown_name, where_room, whole_within, field_at, Branches, branch_at, numbers_at}
 
 -- ---- demands
 

@@ -1,26 +1,18 @@
 -- Reading how good the bound of a plan is.
 use Rattle.std.specs.Prelude.{ℕ, ◌+◌, ◌^◌, Bool, true, List, [], ◌∷◌, length, codes}
-use Rattle.net_core.specs.declared.columns.Evidence.{Evidence}
-use Rattle.net_core.specs.declared.columns.Evidence.TheVariants.{Route, Master}
-use Rattle.net_core.specs.declared.columns.MasterColumn.{MasterColumn}
+use Rattle.plan_terms.specs.Terms.{Evidence, Route, Master, MasterColumn, RouteColumn, WideKind, Demand, Link, Caps}
 use Rattle.net_core.specs.declared.columns.MasterColumn.TheVariants as master
-use Rattle.net_core.specs.declared.columns.RouteColumn.{RouteColumn}
 use Rattle.net_core.specs.declared.columns.RouteColumn.TheVariants as route
-use Rattle.net_core.specs.declared.columns.WideKind.{WideKind}
 use Rattle.net_core.specs.declared.columns.WideKind.TheVariants as wide
-use Rattle.net_core.specs.declared.demand.Demand.{Demand}
-use Rattle.net_core.specs.declared.network.Link.{Link}
-use Rattle.net_core.specs.declared.plan.Caps.{Caps}
 use Rattle.plan_types.specs.declared.quality.Cause.TheVariants.{Wide, Cuts}
 use Rattle.plan_types.specs.declared.quality.Fractional.{Fractional}
 use Rattle.plan_types.specs.declared.quality.Quality.{Quality}
 use Rattle.plan_types.specs.declared.quality.Quality.TheVariants.{Tight, Loose}
-use Rattle.text_kit.specs.Reading.{Reading, ◌>>=◌, give, list_at, of_length, Parenthesis}
-use Rattle.plan_report.specs.KnownNames.{KnownNames}
+use Rattle.text_kit.specs.Terms.{Reading, ◌>>=◌, give, list_at, of_length, Parenthesis}
+use Rattle.plan_report.specs.Terms.{KnownNames}
 use Rattle.report_words.specs.declared.fault.ReportKind.{ReportKind}
 use Rattle.report_words.specs.declared.fault.ReportKind.TheVariants.{Limit}
-use Rattle.report_words.specs.ReportWords.{demand_at, has_room, link_at, number_at, opening_at}
-use Rattle.report_words.specs.ReportChoices.{Branches, branch_at, branch_within, numbers_at}
+use Rattle.report_words.specs.Terms.{demand_at, has_room, link_at, number_at, opening_at, Branches, branch_at, branch_within, numbers_at}
 use Rattle.report_parts.specs.ReadingRoutings.{path_at, routings_at}
 
 -- ---- columns

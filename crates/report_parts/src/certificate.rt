@@ -1,7 +1,7 @@
 ghost use Rattle.std.specs.Prelude.{◌≡◌, ◌<◌, ◌^◌, length, IfOk};
-ghost use Rattle.snd_tokens.specs.Lexemes.{left};
-ghost use Rattle.text_kit.specs.Answers.{ReadsAs};
-ghost use Rattle.report_words.specs.Contexts.{known_in};
+ghost use Rattle.snd_tokens.specs.Terms.{left};
+ghost use Rattle.text_kit.specs.Terms.{ReadsAs};
+ghost use Rattle.report_words.specs.Terms.{known_in};
 ghost use Rattle.report_parts.specs.ReadingParts.{certificate_at, local_spot_at, of_line, pool_spot_at, right_side_at, spot_at};
 
 use crate::discard::discard;
@@ -106,8 +106,8 @@ impl<'a> CertLineList<'a> {
 }
 
 impl<'a> Element for CertLineList<'a> {
-    ghost use Rattle.text_kit.specs.Reading.{no_fault};
-    ghost use Rattle.report_words.specs.Contexts.{known_in};
+    ghost use Rattle.text_kit.specs.Terms.{no_fault};
+    ghost use Rattle.report_words.specs.Terms.{known_in};
     ghost use Rattle.report_parts.specs.ReadingParts.{certificate_line_at};
 
     type Item = CertLine;

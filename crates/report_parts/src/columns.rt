@@ -1,6 +1,6 @@
 ghost use Rattle.std.specs.Prelude.{◌≡◌};
-ghost use Rattle.snd_tokens.specs.Lexemes.{left};
-ghost use Rattle.text_kit.specs.Answers.{ReadsAs};
+ghost use Rattle.snd_tokens.specs.Terms.{left};
+ghost use Rattle.text_kit.specs.Terms.{ReadsAs};
 ghost use Rattle.report_parts.specs.ReadingQuality.{basis_at, carry_at, left_at, master_column_at, metric_at, price_at, route_column_at, slack_at};
 ghost use Rattle.report_parts.specs.Readers.{reader_demands, reader_links, reader_names};
 
@@ -31,8 +31,8 @@ struct RouteBasis<'a> {
 }
 
 impl<'a> Element for RouteBasis<'a> {
-    ghost use Rattle.text_kit.specs.Reading.{of_length};
-    ghost use Rattle.report_words.specs.ReportWords.{has_room};
+    ghost use Rattle.text_kit.specs.Terms.{of_length};
+    ghost use Rattle.report_words.specs.Terms.{has_room};
     ghost use Rattle.report_parts.specs.ReadingQuality.{route_column_at};
     ghost use Rattle.report_parts.specs.Readers.{reader_demands, reader_links};
     ghost use Rattle.report_words.specs.declared.fault.ReportKind.TheVariants.{Limit};
@@ -65,8 +65,8 @@ struct MasterBasis<'a> {
 }
 
 impl<'a> Element for MasterBasis<'a> {
-    ghost use Rattle.text_kit.specs.Reading.{of_length};
-    ghost use Rattle.report_words.specs.ReportWords.{has_room};
+    ghost use Rattle.text_kit.specs.Terms.{of_length};
+    ghost use Rattle.report_words.specs.Terms.{has_room};
     ghost use Rattle.report_parts.specs.ReadingQuality.{master_column_at};
     ghost use Rattle.report_parts.specs.Readers.{reader_names};
     ghost use Rattle.report_words.specs.declared.fault.ReportKind.TheVariants.{Limit};

@@ -1,9 +1,8 @@
 ghost use Rattle.std.specs.Prelude.{◌≡◌, ◌<◌, ◌≤◌, ◌^◌, ◌++◌, ◌∷◌, [], length, map, Ok, None, true, not, IsTrue, IfOk, OnOk};
-ghost use Rattle.net_core.specs.Tests.{is_named};
-ghost use Rattle.snd_tokens.specs.Lexemes.{left, size};
-ghost use Rattle.text_kit.specs.Answers.{ReadsAs, TakesElement};
-ghost use Rattle.text_kit.specs.Reading.{sound, word_at};
-ghost use Rattle.report_words.specs.ReportWords.{demand_at, demand_of, demand_within, new_demand};
+ghost use Rattle.plan_terms.specs.Terms.{is_named};
+ghost use Rattle.snd_tokens.specs.Terms.{left, size};
+ghost use Rattle.text_kit.specs.Terms.{ReadsAs, TakesElement, sound, word_at};
+ghost use Rattle.report_words.specs.Terms.{demand_at, demand_of, demand_within, new_demand};
 ghost use Rattle.report_parts.specs.ReadingParts.{demand_list_at, nodes_at, plan_demand_at, plan_demands_at};
 
 use net_core::{Demand, Demands, List, Name, NoMemory, NodeId};

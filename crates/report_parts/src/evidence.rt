@@ -1,7 +1,7 @@
 ghost use Rattle.std.specs.Prelude.{◌≡◌, ◌+◌, ◌<◌, ◌^◌, length};
-ghost use Rattle.snd_tokens.specs.Lexemes.{left};
-ghost use Rattle.text_kit.specs.Answers.{ReadsAs};
-ghost use Rattle.report_words.specs.ReportWords.{number_at};
+ghost use Rattle.snd_tokens.specs.Terms.{left};
+ghost use Rattle.text_kit.specs.Terms.{ReadsAs};
+ghost use Rattle.report_words.specs.Terms.{number_at};
 ghost use Rattle.report_parts.specs.ReadingQuality.{caps_at, evidence_at, master_at, master_column_at, master_wide_at, route_at, route_column_at, route_wide_at, wide_entry_at, wide_length_at, wide_number_at, wide_row_at, wide_sum_at};
 ghost use Rattle.report_parts.specs.Readers.{reader_demands, reader_links, reader_names};
 

@@ -1,8 +1,8 @@
 ghost use Rattle.std.specs.Prelude.{◌≡◌, ◌+◌, ◌∷◌, ◌++◌, ◌<◌, ◌≤◌, ◌^◌, ◌*◌, [], ℕ, List, length, min, nat_lt, None, Some};
-ghost use Rattle.snd_tokens.specs.Lexemes.{left};
-ghost use Rattle.plan_terms.specs.Capacities.{modules_capacity};
-ghost use Rattle.text_kit.specs.Answers.{Fails, ReadsAs};
-ghost use Rattle.report_words.specs.ReportWords.{whole_within};
+ghost use Rattle.snd_tokens.specs.Terms.{left};
+ghost use Rattle.plan_terms.specs.Terms.{modules_capacity};
+ghost use Rattle.text_kit.specs.Terms.{Fails, ReadsAs};
+ghost use Rattle.report_words.specs.Terms.{whole_within};
 ghost use Rattle.report_parts.specs.ReadingParts.{all_counts_at, count_within, counts_at, modules_at};
 
 use net_core::{Counts, Link, List};
@@ -81,7 +81,7 @@ struct CountList<'a> {
 
 impl<'a> Element for CountList<'a> {
     ghost use Rattle.std.specs.Prelude.{length};
-    ghost use Rattle.text_kit.specs.Reading.{of_length};
+    ghost use Rattle.text_kit.specs.Terms.{of_length};
     ghost use Rattle.report_parts.specs.ReadingParts.{count_at};
     ghost use Rattle.report_words.specs.declared.fault.ReportKind.TheVariants.{Limit};
 
@@ -130,7 +130,7 @@ struct ModuleList<'a> {
 
 impl<'a> Element for ModuleList<'a> {
     ghost use Rattle.std.specs.Prelude.{length};
-    ghost use Rattle.text_kit.specs.Reading.{of_length};
+    ghost use Rattle.text_kit.specs.Terms.{of_length};
     ghost use Rattle.report_parts.specs.ReadingParts.{next_counts_at};
     ghost use Rattle.report_words.specs.declared.fault.ReportKind.TheVariants.{Limit};
 

@@ -1,10 +1,10 @@
 ghost use Rattle.std.specs.Prelude.{◌≡◌, ◌≤◌, length};
-ghost use Rattle.snd_tokens.specs.Lexemes.{left};
-ghost use Rattle.text_kit.specs.Answers.{ReadsAs};
+ghost use Rattle.snd_tokens.specs.Terms.{left};
+ghost use Rattle.text_kit.specs.Terms.{ReadsAs};
 ghost use Rattle.report_parts.specs.ReadingRoutings.{path_at, routings_at};
 ghost use Rattle.report_parts.specs.Readers.{reader_demands, reader_links, reader_names};
-ghost use Rattle.plan_report.specs.Names.{state_name};
-ghost use Rattle.report_words.specs.ReportWords.{this_name_at};
+ghost use Rattle.plan_report.specs.Terms.{state_name};
+ghost use Rattle.report_words.specs.Terms.{this_name_at};
 
 use crate::plan_reader::PlanReader;
 use net_core::{Flow, LinkId, List, Path, Routing, States};
@@ -33,8 +33,8 @@ struct LinkList<'a> {
 }
 
 impl<'a> Element for LinkList<'a> {
-    ghost use Rattle.text_kit.specs.Reading.{not_empty};
-    ghost use Rattle.report_words.specs.ReportWords.{link_at};
+    ghost use Rattle.text_kit.specs.Terms.{not_empty};
+    ghost use Rattle.report_words.specs.Terms.{link_at};
     ghost use Rattle.report_words.specs.declared.fault.ReportKind.TheVariants.{Token};
 
     type Item = LinkId;
@@ -67,7 +67,7 @@ struct FlowList<'a> {
 }
 
 impl<'a> Element for FlowList<'a> {
-    ghost use Rattle.text_kit.specs.Reading.{no_fault};
+    ghost use Rattle.text_kit.specs.Terms.{no_fault};
     ghost use Rattle.report_parts.specs.ReadingRoutings.{flow_at};
     ghost use Rattle.report_parts.specs.Readers.{reader_demands, reader_links};
 
@@ -117,7 +117,7 @@ struct RoutingList<'a> {
 
 impl<'a> Element for RoutingList<'a> {
     ghost use Rattle.std.specs.Prelude.{◌+◌, length};
-    ghost use Rattle.text_kit.specs.Reading.{of_length};
+    ghost use Rattle.text_kit.specs.Terms.{of_length};
     ghost use Rattle.report_parts.specs.ReadingRoutings.{routing_at};
     ghost use Rattle.report_parts.specs.Readers.{reader_demands, reader_names};
     ghost use Rattle.report_words.specs.declared.fault.ReportKind.TheVariants.{Limit};

@@ -1,9 +1,7 @@
 -- Entries that have their cuts keep them.
 use Rattle.std.proofs.Common.{◌≡◌, List, [], ◌∷◌, map, All, refl, ap, ◌∙◌}
-use Rattle.std.proofs.lemmas.List.Elements.{All-head, All-tail}
-use Rattle.net_core.specs.declared.journal.Entry.{Entry}
-use Rattle.net_core.specs.declared.journal.Entry.TheVariants.{Edited, Pooled}
-use Rattle.net_core.specs.declared.plan.CutLine.{CutLine}
+use Rattle.net_core.proofs.Library.{All-head, All-tail}
+use Rattle.plan_terms.specs.Terms.{Entry, Edited, Pooled, CutLine}
 use Rattle.report_reader.specs.ReadingReport.{filled}
 
 pub filled_again : (pool : List CutLine) (e : Entry) → filled pool (filled pool e) ≡ filled pool e

@@ -1,37 +1,19 @@
 -- The readings of the notes, the journal and the pool take exactly their texts.
-use Rattle.std.proofs.Common.{◌≡◌, ◌⊎◌, inl, inr, ℕ, ◌+◌, ◌^◌, ◌<◌, ◌≤◌, Bool, true, false, List, [], ◌∷◌, ◌++◌, length, All, IfOk, Result, Ok, Err, refl, sym, ap, subst, arith, append_assoc}
-use Rattle.std.specs.Prelude.{codes, flat_map}
-use Rattle.net_core.specs.declared.journal.Edit.TheVariants.{Set, Add, Drop}
-use Rattle.net_core.specs.declared.journal.Entry.{Entry}
-use Rattle.net_core.specs.declared.journal.Entry.TheVariants.{Edited, Pooled}
-use Rattle.net_core.specs.declared.journal.Reply.{Reply}
-use Rattle.net_core.specs.declared.journal.Reply.TheVariants.{Accepted, UnknownDemand, KnownDemand, UnknownNode, SelfDemand, TooMany, TooMuch}
-use Rattle.net_core.specs.declared.network.Notes.{Notes}
-use Rattle.net_core.specs.declared.places.Places.{Places}
-use Rattle.net_core.specs.declared.plan.CutLine.{CutLine}
-use Rattle.snd_tokens.specs.Lexemes.{Text}
-use Rattle.text_kit.specs.Answers.{ReadsAs}
-use Rattle.text_kit.specs.Items.{Item, Verbatim, Closing}
-use Rattle.text_kit.specs.Reading.{no_fault}
+use Rattle.std.proofs.Common.{◌≡◌, ◌⊎◌, inl, inr, ℕ, ◌+◌, ◌^◌, ◌<◌, ◌≤◌, Bool, true, false, List, [], ◌∷◌, ◌++◌, length, All, IfOk, Result, Ok, Err, refl, sym, ap, subst, arith, append_assoc, codes, flat_map}
+use Rattle.plan_terms.specs.Terms.{Set, Add, Drop, Entry, Edited, Pooled, Reply, Accepted, UnknownDemand, KnownDemand, UnknownNode, SelfDemand, TooMany, TooMuch, Notes, Places, CutLine}
+use Rattle.snd_tokens.specs.Terms.{Text}
+use Rattle.text_kit.specs.Terms.{ReadsAs, Item, Verbatim, Closing, no_fault, IsEditInForm, edit_items, ends_items}
 use Rattle.text_kit.specs.declared.refusal.Refusal.{Refusal}
 use Rattle.text_kit.proofs.Beginnings.{AnyText}
-use Rattle.text_kit.proofs.Lawful.{lawful_as}
+use Rattle.text_kit.proofs.Lemmas.{lawful_as}
 use Rattle.text_kit.proofs.Spelled.{Lawful}
-use Rattle.plan_report.specs.Forms.{IsCutInForm, IsEditedInForm, IsReplyInForm}
-use Rattle.plan_report.specs.Items.{entry_items, event_items, note_items, notes_items, numbered_from, pool_line_items, reply_items}
-use Rattle.text_kit.specs.Edits.{IsEditInForm, edit_items, ends_items}
-use Rattle.plan_report.specs.KnownNames.{KnownNames}
+use Rattle.plan_report.specs.Terms.{IsCutInForm, IsEditedInForm, IsReplyInForm, entry_items, event_items, note_items, notes_items, numbered_from, pool_line_items, reply_items, KnownNames}
 use Rattle.report_words.specs.declared.fault.ReportKind.{ReportKind}
 use Rattle.report_words.specs.declared.fault.ReportKind.TheVariants.{Token}
-use Rattle.report_words.specs.ReportWords.{closing_at, has_room}
+use Rattle.report_words.specs.Terms.{closing_at, has_room}
 use Rattle.report_reader.specs.ReadingJournal.{edit_branches, event_branches, notes_branches, reply_branches, routing_note_branches, setup_note_branches, accepted_at, add_at, drop_at, edit_at, edited_at, entries_at, journal_entry_at, event_at, noted, notes_at, notes_end_at, pool_at, pool_cut_at, pool_line_at, pooled_at, reply_at, routing_note_at, set_at, setup_note_at, too_much_at, two_names_at}
-use Rattle.report_words.proofs.BranchLaws.{branches_law, either_form, lawful_branch, lawful_closed, lawful_no_branch}
-use Rattle.report_words.proofs.ListLaws.{few_rooms, lawful_placed, numbered_items, rooms_few}
-use Rattle.report_words.proofs.Making.{MadeOf, law_made, made_give, made_last, made_law, made_then}
-use Rattle.report_words.proofs.FieldLaws.{field_law}
-use Rattle.report_words.proofs.NumberLaws.{numbers_law}
+use Rattle.report_words.proofs.Lemmas.{branches_law, either_form, lawful_branch, lawful_closed, lawful_no_branch, few_rooms, lawful_placed, numbered_items, rooms_few, MadeOf, law_made, made_give, made_last, made_law, made_then, field_law, numbers_law, amount_law, closing_law, money_law, name_law, number_law, opening_law, opening_within_law, this_number_law}
 use Rattle.report_reader.proofs.Variants.{edit_cases, entry_cases, reply_cases}
-use Rattle.report_words.proofs.WordLaws.{amount_law, closing_law, money_law, name_law, number_law, opening_law, opening_within_law, this_number_law}
 
 -- ---- notes
 

@@ -1,32 +1,23 @@
 -- The readings of outcomes take exactly their texts.
-use Rattle.std.proofs.Common.{◌≡◌, ◌≢◌, inl, inr, ℕ, ◌+◌, ◌≤◌, Bool, true, List, [], ◌∷◌, ◌++◌, length, All, AllPairs, Err, refl, ap, ◌∙◌, arith}
-use Rattle.std.specs.Prelude.{codes, flat_map, slice_get}
-use Rattle.net_core.specs.declared.plan.CutLine.{CutLine}
+use Rattle.std.proofs.Common.{◌≡◌, ◌≢◌, inl, inr, ℕ, ◌+◌, ◌≤◌, Bool, true, List, [], ◌∷◌, ◌++◌, length, All, AllPairs, Err, refl, ap, ◌∙◌, arith, codes, flat_map, slice_get}
+use Rattle.plan_terms.specs.Terms.{CutLine}
 use Rattle.plan_types.specs.declared.plan.Plan.{Plan}
 use Rattle.plan_types.specs.declared.report.Outcome.{Outcome}
 use Rattle.plan_types.specs.declared.report.Outcome.TheVariants.{Planned, Unsurvivable}
-use Rattle.text_kit.specs.Items.{Item, Verbatim, Opening, Closing}
+use Rattle.text_kit.specs.Terms.{Item, Verbatim, Opening, Closing}
 use Rattle.text_kit.proofs.Beginnings.{AnyText}
 use Rattle.text_kit.proofs.Spelled.{Lawful}
-use Rattle.plan_report.specs.Forms.{IsHeadInForm, IsOutcomeInForm}
-use Rattle.plan_report.specs.Items.{head_items, outcome_items, plan_items}
-use Rattle.plan_report.specs.Names.{state_name}
-use Rattle.plan_report.specs.KnownNames.{KnownNames}
+use Rattle.plan_report.specs.Terms.{IsHeadInForm, IsOutcomeInForm, head_items, outcome_items, plan_items, state_name, KnownNames}
 use Rattle.report_words.specs.declared.fault.ReportKind.TheVariants.{Token}
 use Rattle.report_reader.specs.declared.parts.Head.{Head}
-use Rattle.report_words.specs.ReportWords.{closing_at, has_room}
-use Rattle.report_words.specs.ReportChoices.{branch_within}
+use Rattle.report_words.specs.Terms.{closing_at, has_room, branch_within}
 use Rattle.report_reader.specs.ReadingReport.{head_at, outcome_at, outcome_branches, outcomes_at, planned_at, separated_at, unsurvivable_at}
-use Rattle.report_words.proofs.BranchLaws.{branches_law, either_form, lawful_branch, lawful_no_branch}
-use Rattle.report_words.proofs.FieldLaws.{field_law}
-use Rattle.report_words.proofs.ListLaws.{few_law}
-use Rattle.report_words.proofs.Making.{law_made, made_last, made_then}
+use Rattle.report_words.proofs.Lemmas.{branches_law, either_form, lawful_branch, lawful_no_branch, field_law, few_law, law_made, made_last, made_then, closing_law, keyword_law, name_law, opening_law, this_name_law}
 use Rattle.report_parts.proofs.ModuleLaws.{IsSound}
 use Rattle.report_reader.proofs.PlanLaws.{IsPlanOf, form_plan, plan_form, plan_law}
 use Rattle.report_parts.proofs.CertificateLaws.{IsPoolInForm}
 use Rattle.report_parts.proofs.RoutingLaws.{AreLinksApart}
 use Rattle.report_reader.proofs.Variants.{outcome_cases}
-use Rattle.report_words.proofs.WordLaws.{closing_law, keyword_law, name_law, opening_law, this_name_law}
 
 abbrev items_of : Head → List Item
 items_of h = head_items h.caller h.serial h.version h.position

@@ -1,30 +1,21 @@
 -- The readings of plans take exactly their texts.
-use Rattle.std.proofs.Common.{◌≡◌, ◌≢◌, ℕ, ◌^◌, ◌<◌, ◌≤◌, List, [], ◌∷◌, ◌++◌, All, AllPairs, refl, sym, ap, ◌∙◌, arith, append_assoc}
-use Rattle.std.specs.Prelude.{codes, flat_map, slice_get, zip}
-use Rattle.net_core.specs.declared.demand.Demand.{Demand}
-use Rattle.net_core.specs.declared.places.Places.{Places}
-use Rattle.net_core.specs.declared.plan.CutLine.{CutLine}
-use Rattle.plan_terms.specs.Capacities.{AreCounts, AreWithinLimits}
+use Rattle.std.proofs.Common.{◌≡◌, ◌≢◌, ℕ, ◌^◌, ◌<◌, ◌≤◌, List, [], ◌∷◌, ◌++◌, All, AllPairs, refl, sym, ap, ◌∙◌, arith, append_assoc, codes, flat_map, slice_get, zip}
+use Rattle.plan_terms.specs.Terms.{Demand, Places, CutLine, AreCounts, AreWithinLimits}
 use Rattle.plan_types.specs.declared.plan.Plan.{Plan}
 use Rattle.plan_types.specs.declared.quality.Quality.{Quality}
-use Rattle.text_kit.specs.Items.{ComeAfter, Item, Verbatim, Whole, Money}
+use Rattle.text_kit.specs.Terms.{ComeAfter, Item, Verbatim, Whole, Money, section}
 use Rattle.text_kit.proofs.Beginnings.{AnyText}
 use Rattle.text_kit.proofs.Spelled.{Lawful}
-use Rattle.plan_report.specs.Forms.{AreRoutingsInForm, IsDemandInForm, IsOfPool, IsPlanInForm, IsQualityInForm}
-use Rattle.plan_report.specs.Items.{certificate_items, demand_items, modules_items, plan_items, quality_items, routings_items}
-use Rattle.text_kit.specs.Edits.{section}
+use Rattle.plan_report.specs.Terms.{AreRoutingsInForm, IsDemandInForm, IsOfPool, IsPlanInForm, IsQualityInForm, certificate_items, demand_items, modules_items, plan_items, quality_items, routings_items, KnownNames}
 use Rattle.report_reader.specs.declared.parts.Head.{Head}
 use Rattle.report_reader.specs.declared.parts.PlanParts.{PlanParts}
 use Rattle.report_reader.specs.declared.parts.Routed.{Routed}
 use Rattle.report_reader.specs.declared.parts.Values.{Values}
 use Rattle.report_reader.specs.ReadingPlan.{plan_at, plan_of_parts, plan_parts_at, routed_at, values_at}
-use Rattle.plan_report.specs.KnownNames.{KnownNames}
-use Rattle.report_words.proofs.FieldLaws.{field_law}
-use Rattle.report_words.proofs.Making.{law_made, made_last, made_then}
+use Rattle.report_words.proofs.Lemmas.{field_law, law_made, made_last, made_then, AreApart, keyword_law, money_law, number_law}
 use Rattle.report_parts.proofs.ModuleLaws.{IsSound, modules_law}
 use Rattle.report_parts.proofs.QualityLaws.{quality_law}
 use Rattle.report_parts.proofs.RoutingLaws.{AreLinksApart, routings_law}
-use Rattle.report_words.proofs.WordLaws.{AreApart, keyword_law, money_law, number_law}
 use Rattle.report_parts.proofs.CertificateLaws.{IsCertificate, IsPoolInForm, certificate_law}
 use Rattle.report_parts.proofs.DemandLaws.{demands_apart, demands_law}
 

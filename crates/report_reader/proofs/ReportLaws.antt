@@ -1,38 +1,21 @@
 -- The reading of a report takes exactly the texts of reports.
-use Rattle.std.proofs.Common.{◌≡◌, ◌≢◌, ℕ, ◌+◌, ◌^◌, ◌<◌, ◌≤◌, List, [], ◌∷◌, ◌++◌, length, map, All, AllPairs, Option, ⊎_elim, Result, Ok, Err, IfOk, IfErr, refl, sym, ap, subst, ◌∙◌, arith, append_assoc}
-use Rattle.std.specs.Prelude.{codes, flat_map, slice_get}
-use Rattle.std.proofs.lemmas.List.Elements.{All-cons, All-nil, All-head, All-tail}
-use Rattle.std.proofs.lemmas.Bool.{cases_lt}
-use Rattle.std.proofs.lemmas.Option.{slice_get-get_or, slice_get_past}
-use Rattle.std.proofs.Props.{props}
-use Rattle.std.proofs.Math.Logic.{∥∥₁_elim}
-use Rattle.net_core.specs.Network.{IsNetwork}
-use Rattle.net_core.specs.declared.journal.Entry.{Entry}
-use Rattle.net_core.specs.declared.journal.Entry.TheVariants.{Edited, Pooled}
-use Rattle.net_core.specs.declared.network.Link.{Link}
-use Rattle.net_core.specs.declared.places.Places.{Places}
-use Rattle.net_core.specs.declared.plan.CutLine.{CutLine}
+use Rattle.std.proofs.Common.{◌≡◌, ◌≢◌, ℕ, ◌+◌, ◌^◌, ◌<◌, ◌≤◌, List, [], ◌∷◌, ◌++◌, length, map, All, AllPairs, Option, ⊎_elim, Result, Ok, Err, IfOk, IfErr, refl, sym, ap, subst, ◌∙◌, arith, append_assoc, codes, flat_map, slice_get}
+use Rattle.net_core.proofs.Library.{All-cons, All-nil, All-head, All-tail, cases_lt, slice_get-get_or, slice_get_past, props, ∥∥₁_elim}
+use Rattle.plan_terms.specs.Terms.{IsNetwork, Entry, Edited, Pooled, Link, Places, CutLine}
 use Rattle.plan_types.specs.declared.report.Outcome.{Outcome}
 use Rattle.plan_types.specs.declared.report.Report.{Report}
-use Rattle.text_kit.specs.Answers.{AnswersAs, ReadsAllAs}
-use Rattle.text_kit.specs.Files.{IsFileOf, IsNotTooEarly, SpellsBy}
-use Rattle.text_kit.specs.Items.{Item, Verbatim, Opening}
+use Rattle.text_kit.specs.Terms.{AnswersAs, ReadsAllAs, IsFileOf, IsNotTooEarly, SpellsBy, Item, Verbatim, Opening, section}
 use Rattle.text_kit.specs.declared.refusal.Refusal.{Refusal}
 use Rattle.text_kit.specs.declared.refusal.Refusal.TheVariants.{Bad, NoMemory}
 use Rattle.text_kit.proofs.Beginnings.{AnyText, IsEnd}
-use Rattle.text_kit.proofs.Files.{first_spelled, found_spelled, only_spelled}
-use Rattle.text_kit.proofs.Lawful.{lawful_key, lawful_open, lawful_whole}
-use Rattle.text_kit.proofs.Spelled.{Lawful, Spelled, spelled_law}
-use Rattle.plan_report.specs.Forms.{IsEntryInForm, IsReportInForm, line_lengths}
-use Rattle.plan_report.specs.Items.{entry_items, notes_items, numbered_from, outcome_items, pool_line_items, report_items}
-use Rattle.text_kit.specs.Edits.{section}
-use Rattle.plan_report.specs.Texts.{SpellsReport, report_header}
-use Rattle.plan_report.specs.KnownNames.{KnownNames}
+use Rattle.text_kit.proofs.Lemmas.{first_spelled, found_spelled, only_spelled, lawful_key, lawful_open, lawful_whole, Spelled, spelled_law}
+use Rattle.text_kit.proofs.Spelled.{Lawful}
+use Rattle.plan_report.specs.Terms.{IsEntryInForm, IsReportInForm, line_lengths, entry_items, notes_items, numbered_from, outcome_items, pool_line_items, report_items, SpellsReport, report_header, KnownNames}
 use Rattle.report_words.specs.declared.fault.ReportKind.{ReportKind}
 use Rattle.report_words.specs.declared.fault.ReportKind.TheVariants.{Header, Section, Ended}
 use Rattle.report_reader.specs.ReadingReport.{filled, last_sections_at, report_at, report_of, section_at, sections_at}
 use Rattle.report_reader.proofs.JournalLaws.{IsPlain, entries_law, notes_law, pool_law}
-use Rattle.report_words.proofs.Making.{law_made, made_last, made_law, made_then}
+use Rattle.report_words.proofs.Lemmas.{law_made, made_last, made_law, made_then}
 use Rattle.report_parts.proofs.ModuleLaws.{IsSound}
 use Rattle.report_reader.proofs.OutcomeLaws.{outcomes_law}
 use Rattle.report_reader.proofs.ReportOnline.{report_online}

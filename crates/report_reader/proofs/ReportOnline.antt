@@ -1,25 +1,17 @@
 -- Each part of a report is read without a look at what comes after it.
-use Rattle.std.proofs.Common.{ℕ, ◌+◌, ◌^◌, Bool, true, false, List, [], length, Ok, Err, refl}
-use Rattle.std.specs.Prelude.{codes}
-use Rattle.net_core.specs.declared.journal.Entry.{Entry}
-use Rattle.net_core.specs.declared.network.Notes.{Notes}
-use Rattle.net_core.specs.declared.demand.Demand.{Demand}
-use Rattle.net_core.specs.declared.places.Places.{Places}
-use Rattle.net_core.specs.declared.plan.CutLine.{CutLine}
-use Rattle.net_core.specs.declared.states.Listed.{Listed}
+use Rattle.std.proofs.Common.{ℕ, ◌+◌, ◌^◌, Bool, true, false, List, [], length, Ok, Err, refl, codes}
+use Rattle.plan_terms.specs.Terms.{Entry, Notes, Demand, Places, CutLine, Listed}
 use Rattle.plan_types.specs.declared.report.Outcome.{Outcome}
-use Rattle.text_kit.specs.Reading.{no_fault, Parenthesis}
-use Rattle.text_kit.proofs.Online.{IsOnline, TakesSome, online_close, online_give, online_list, online_open, online_then, online_whole, online_word, takes_some}
-use Rattle.plan_report.specs.KnownNames.{KnownNames}
+use Rattle.text_kit.specs.Terms.{no_fault, Parenthesis}
+use Rattle.text_kit.proofs.Lemmas.{IsOnline, TakesSome, online_close, online_give, online_list, online_open, online_then, online_whole, online_word, takes_some}
+use Rattle.plan_report.specs.Terms.{KnownNames}
 use Rattle.report_words.specs.declared.fault.ReportKind.TheVariants.{Section, Token, Ended}
 use Rattle.report_reader.specs.declared.parts.Head.{Head}
-use Rattle.report_words.specs.ReportWords.{has_room}
+use Rattle.report_words.specs.Terms.{has_room}
 use Rattle.report_reader.specs.ReadingJournal.{accepted_at, add_at, drop_at, edit_at, edited_at, entries_at, journal_entry_at, event_at, notes_at, notes_end_at, pool_at, pool_cut_at, pool_line_at, pooled_at, reply_at, routing_note_at, set_at, setup_note_at, too_much_at, two_names_at, edit_branches, event_branches, noted, notes_branches, reply_branches, routing_note_branches, setup_note_branches}
 use Rattle.report_reader.specs.ReadingPlan.{plan_at, plan_parts_at, routed_at, values_at}
 use Rattle.report_reader.specs.ReadingReport.{head_at, last_sections_at, separated_at, outcome_at, outcome_branches, outcomes_at, planned_at, report_at, section_at, sections_at, unsurvivable_at}
-use Rattle.report_words.proofs.Branching.{online_branch}
-use Rattle.report_words.proofs.FieldLaws.{field_online}
-use Rattle.report_words.proofs.WordsOnline.{column_some, numbers_online, opening_within_online}
+use Rattle.report_words.proofs.Lemmas.{online_branch, field_online, column_some, numbers_online, opening_within_online}
 use Rattle.report_parts.proofs.PartsOnline.{certificate_online, modules_online, plan_demands_online, quality_online, routings_online}
 
 -- ---- the notes

@@ -1,12 +1,6 @@
 -- What holds of each variant of edits, replies, entries and outcomes holds of all.
 use Rattle.std.proofs.Common.{ℕ, List}
-use Rattle.net_core.specs.declared.ids.StateId.{StateId}
-use Rattle.net_core.specs.declared.journal.Edit.{Edit}
-use Rattle.net_core.specs.declared.journal.Edit.TheVariants.{Set, Add, Drop}
-use Rattle.net_core.specs.declared.journal.Entry.{Entry}
-use Rattle.net_core.specs.declared.journal.Entry.TheVariants.{Edited, Pooled}
-use Rattle.net_core.specs.declared.journal.Reply.{Reply}
-use Rattle.net_core.specs.declared.journal.Reply.TheVariants.{Accepted, UnknownDemand, KnownDemand, UnknownNode, SelfDemand, TooMany, TooMuch}
+use Rattle.plan_terms.specs.Terms.{StateId, Edit, Set, Add, Drop, Entry, Edited, Pooled, Reply, Accepted, UnknownDemand, KnownDemand, UnknownNode, SelfDemand, TooMany, TooMuch}
 use Rattle.plan_types.specs.declared.plan.Plan.{Plan}
 use Rattle.plan_types.specs.declared.report.Outcome.{Outcome}
 use Rattle.plan_types.specs.declared.report.Outcome.TheVariants.{Planned, Unsurvivable}

@@ -1,17 +1,13 @@
 -- A whole report ends where its file does.
 use Rattle.std.proofs.Common.{◌≡◌, ℕ, Bool, true, cond, List, Result, Ok, Err, sym, ap, ◌∙◌}
-use Rattle.net_core.specs.Tests.{are_same}
+use Rattle.plan_terms.specs.Terms.{are_same}
 use Rattle.plan_types.specs.declared.report.Report.{Report}
-use Rattle.plan_report.specs.Texts.{report_header}
-use Rattle.snd_tokens.specs.Header.{first_line, trimmed}
-use Rattle.snd_tokens.specs.Lexemes.{Text, WordAt, OpenAt, CloseAt, EndAt}
-use Rattle.text_kit.specs.Answers.{ReadsAllAs, ReadsAs}
+use Rattle.plan_report.specs.Terms.{report_header, KnownNames}
+use Rattle.snd_tokens.specs.Terms.{first_line, trimmed, Text, WordAt, OpenAt, CloseAt, EndAt}
+use Rattle.text_kit.specs.Terms.{ReadsAllAs, ReadsAs, body, Read, after, end_at, give}
 use Rattle.text_kit.specs.declared.refusal.Refusal.{Refusal}
 use Rattle.text_kit.specs.declared.refusal.Refusal.TheVariants.{Bad, NoMemory}
-use Rattle.text_kit.specs.Files.{body}
-use Rattle.text_kit.specs.Reading.{Read, after, end_at, give}
-use Rattle.text_kit.proofs.Online.{ok_parts}
-use Rattle.plan_report.specs.KnownNames.{KnownNames}
+use Rattle.text_kit.proofs.Lemmas.{ok_parts}
 use Rattle.report_words.specs.declared.fault.ReportKind.{ReportKind}
 use Rattle.report_words.specs.declared.fault.ReportKind.TheVariants.{Header, Section}
 use Rattle.report_reader.specs.ReadingReport.{report_at, report_of, sections_at}

@@ -1,20 +1,10 @@
 -- Reading the notes, the journal and the pool of a report.
 use Rattle.std.specs.Prelude.{ℕ, ◌+◌, ◌^◌, Bool, true, false, List, [], ◌∷◌, length, Ok, codes}
-use Rattle.net_core.specs.declared.journal.Edit.{Edit}
-use Rattle.net_core.specs.declared.journal.Edit.TheVariants.{Set, Add, Drop}
-use Rattle.net_core.specs.declared.journal.Entry.{Entry}
-use Rattle.net_core.specs.declared.journal.Entry.TheVariants.{Edited, Pooled}
-use Rattle.net_core.specs.declared.journal.Reply.{Reply}
-use Rattle.net_core.specs.declared.journal.Reply.TheVariants.{Accepted, UnknownDemand, KnownDemand, UnknownNode, SelfDemand, TooMany, TooMuch}
-use Rattle.net_core.specs.declared.network.Notes.{Notes}
-use Rattle.net_core.specs.declared.places.Places.{Places}
-use Rattle.net_core.specs.declared.plan.CutLine.{CutLine}
-use Rattle.text_kit.specs.Reading.{Reading, ◌>>=◌, give, list_at, no_fault, Parenthesis}
-use Rattle.plan_report.specs.KnownNames.{KnownNames}
+use Rattle.plan_terms.specs.Terms.{Edit, Set, Add, Drop, Entry, Edited, Pooled, Reply, Accepted, UnknownDemand, KnownDemand, UnknownNode, SelfDemand, TooMany, TooMuch, Notes, Places, CutLine}
+use Rattle.text_kit.specs.Terms.{Reading, ◌>>=◌, give, list_at, no_fault, Parenthesis}
+use Rattle.plan_report.specs.Terms.{KnownNames}
 use Rattle.report_words.specs.declared.fault.ReportKind.{ReportKind}
-use Rattle.report_words.specs.ReportWords.{amount_at, closing_at, has_room, money_at, name_at, number_at, opening_at, opening_within, this_number_at}
-use Rattle.report_words.specs.ReportFields.{field_at}
-use Rattle.report_words.specs.ReportChoices.{Branches, branch_at, branch_or, numbers_at}
+use Rattle.report_words.specs.Terms.{amount_at, closing_at, has_room, money_at, name_at, number_at, opening_at, opening_within, this_number_at, field_at, Branches, branch_at, branch_or, numbers_at}
 
 -- ---- the notes: up to three words in order, and the closing parenthesis
 

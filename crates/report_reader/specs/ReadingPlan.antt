@@ -1,18 +1,15 @@
 -- Reading a plan: its costs, and all its parts.
 use Rattle.std.specs.Prelude.{◌^◌, List, codes}
-use Rattle.net_core.specs.declared.demand.Demand.{Demand}
-use Rattle.net_core.specs.declared.places.Places.{Places}
-use Rattle.net_core.specs.declared.plan.CutLine.{CutLine}
+use Rattle.plan_terms.specs.Terms.{Demand, Places, CutLine}
 use Rattle.plan_types.specs.declared.plan.Plan.{Plan}
-use Rattle.text_kit.specs.Reading.{Reading, ◌>>=◌, give}
-use Rattle.plan_report.specs.KnownNames.{KnownNames}
+use Rattle.text_kit.specs.Terms.{Reading, ◌>>=◌, give}
+use Rattle.plan_report.specs.Terms.{KnownNames}
 use Rattle.report_words.specs.declared.fault.ReportKind.{ReportKind}
 use Rattle.report_reader.specs.declared.parts.Head.{Head}
 use Rattle.report_reader.specs.declared.parts.PlanParts.{PlanParts}
 use Rattle.report_reader.specs.declared.parts.Routed.{Routed}
 use Rattle.report_reader.specs.declared.parts.Values.{Values}
-use Rattle.report_words.specs.ReportWords.{keyword_at, money_at, number_at}
-use Rattle.report_words.specs.ReportFields.{field_at}
+use Rattle.report_words.specs.Terms.{keyword_at, money_at, number_at, field_at}
 use Rattle.report_parts.specs.ReadingQuality.{quality_at}
 use Rattle.report_parts.specs.ReadingRoutings.{routings_at}
 use Rattle.report_parts.specs.ReadingParts.{certificate_at, modules_at, plan_demands_at}

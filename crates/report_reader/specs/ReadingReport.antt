@@ -1,25 +1,15 @@
 -- Reading a report from left to right: its parts in their order, and its first fault.
 use Rattle.std.specs.Prelude.{ℕ, ◌+◌, List, [], ◌∷◌, length, map, slice_get, codes}
-use Rattle.net_core.specs.declared.journal.Entry.{Entry}
-use Rattle.net_core.specs.declared.journal.Entry.TheVariants.{Edited, Pooled}
-use Rattle.net_core.specs.declared.network.Notes.{Notes}
-use Rattle.net_core.specs.declared.plan.CutLine.{CutLine}
-use Rattle.net_core.specs.declared.states.Listed.{Listed}
+use Rattle.plan_terms.specs.Terms.{Entry, Edited, Pooled, Notes, CutLine, Listed}
 use Rattle.plan_types.specs.declared.report.Outcome.{Outcome}
 use Rattle.plan_types.specs.declared.report.Outcome.TheVariants.{Planned, Unsurvivable}
 use Rattle.plan_types.specs.declared.report.Report.{Report}
-use Rattle.text_kit.specs.Files.{file_at}
-use Rattle.text_kit.specs.Reading.{Read, Reading, ◌>>=◌, expected, give, list_at, no_fault, open_at, Parenthesis, whole_at, word_at}
-use Rattle.plan_report.specs.Forms.{line_lengths, line_state}
-use Rattle.plan_report.specs.Names.{state_name}
-use Rattle.plan_report.specs.Texts.{report_header}
-use Rattle.plan_report.specs.KnownNames.{KnownNames}
+use Rattle.text_kit.specs.Terms.{file_at, Read, Reading, ◌>>=◌, expected, give, list_at, no_fault, open_at, Parenthesis, whole_at, word_at}
+use Rattle.plan_report.specs.Terms.{line_lengths, line_state, state_name, report_header, KnownNames}
 use Rattle.report_words.specs.declared.fault.ReportKind.{ReportKind}
 use Rattle.report_words.specs.declared.fault.ReportKind.TheVariants.{Header, Section, Ended}
 use Rattle.report_reader.specs.declared.parts.Head.{Head}
-use Rattle.report_words.specs.ReportWords.{closing_at, has_room, keyword_at, name_at, opening_at, this_name_at}
-use Rattle.report_words.specs.ReportFields.{field_at}
-use Rattle.report_words.specs.ReportChoices.{Branches, branch_within}
+use Rattle.report_words.specs.Terms.{closing_at, has_room, keyword_at, name_at, opening_at, this_name_at, field_at, Branches, branch_within}
 use Rattle.report_reader.specs.ReadingJournal.{entries_at, notes_at, pool_at}
 use Rattle.report_reader.specs.ReadingPlan.{plan_at}
 

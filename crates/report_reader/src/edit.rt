@@ -1,6 +1,6 @@
 ghost use Rattle.std.specs.Prelude.{◌≡◌};
-ghost use Rattle.snd_tokens.specs.Lexemes.{left};
-ghost use Rattle.text_kit.specs.Answers.{ReadsAs};
+ghost use Rattle.snd_tokens.specs.Terms.{left};
+ghost use Rattle.text_kit.specs.Terms.{ReadsAs};
 ghost use Rattle.report_reader.specs.ReadingJournal.{accepted_at, add_at, drop_at, edit_at, reply_at, set_at, too_much_at, two_names_at};
 
 use net_core::{Edit, Name, Places, Reply};

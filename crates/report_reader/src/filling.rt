@@ -1,5 +1,5 @@
 ghost use Rattle.std.specs.Prelude.{◌≡◌, map, slice_get, IfOk, OnOk};
-ghost use Rattle.plan_report.specs.Forms.{line_lengths, line_state};
+ghost use Rattle.plan_report.specs.Terms.{line_lengths, line_state};
 ghost use Rattle.report_reader.specs.ReadingReport.{filled};
 
 use net_core::{Copied, CutLine, Entry, List, NoMemory, StateId};

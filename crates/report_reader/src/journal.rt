@@ -1,6 +1,6 @@
 ghost use Rattle.std.specs.Prelude.{◌≡◌};
-ghost use Rattle.snd_tokens.specs.Lexemes.{left};
-ghost use Rattle.text_kit.specs.Answers.{ReadsAs};
+ghost use Rattle.snd_tokens.specs.Terms.{left};
+ghost use Rattle.text_kit.specs.Terms.{ReadsAs};
 ghost use Rattle.report_reader.specs.ReadingJournal.{edited_at, entries_at, event_at, pooled_at};
 
 use crate::edit::{edit, reply};
@@ -75,7 +75,7 @@ impl EntryList {
 }
 
 impl Element for EntryList {
-    ghost use Rattle.text_kit.specs.Reading.{no_fault};
+    ghost use Rattle.text_kit.specs.Terms.{no_fault};
     ghost use Rattle.report_reader.specs.ReadingJournal.{journal_entry_at};
 
     type Item = Entry;

@@ -1,7 +1,7 @@
 ghost use Rattle.std.specs.Prelude.{◌≡◌, ◌<◌, ◌≤◌, ◌^◌, length, IfOk};
-ghost use Rattle.snd_tokens.specs.Lexemes.{left};
-ghost use Rattle.text_kit.specs.Answers.{ReadsAs};
-ghost use Rattle.report_words.specs.Contexts.{known_in};
+ghost use Rattle.snd_tokens.specs.Terms.{left};
+ghost use Rattle.text_kit.specs.Terms.{ReadsAs};
+ghost use Rattle.report_words.specs.Terms.{known_in};
 ghost use Rattle.report_reader.specs.ReadingReport.{head_at, outcomes_at, planned_at, separated_at, unsurvivable_at};
 
 use crate::parts::Head;
@@ -120,8 +120,8 @@ impl<'a> OutcomeList<'a> {
 }
 
 impl<'a> Element for OutcomeList<'a> {
-    ghost use Rattle.text_kit.specs.Reading.{no_fault};
-    ghost use Rattle.report_words.specs.Contexts.{known_in};
+    ghost use Rattle.text_kit.specs.Terms.{no_fault};
+    ghost use Rattle.report_words.specs.Terms.{known_in};
     ghost use Rattle.report_reader.specs.ReadingReport.{outcome_at};
 
     type Item = Outcome;

@@ -1,7 +1,7 @@
 ghost use Rattle.std.specs.Prelude.{◌≡◌, ◌<◌, ◌^◌, length};
-ghost use Rattle.snd_tokens.specs.Lexemes.{left};
-ghost use Rattle.text_kit.specs.Answers.{ReadsAs};
-ghost use Rattle.report_words.specs.Contexts.{known_in};
+ghost use Rattle.snd_tokens.specs.Terms.{left};
+ghost use Rattle.text_kit.specs.Terms.{ReadsAs};
+ghost use Rattle.report_words.specs.Terms.{known_in};
 ghost use Rattle.report_parts.specs.Readers.{reader_demands, reader_names};
 ghost use Rattle.report_reader.specs.ReadingPlan.{plan_at, plan_parts_at, routed_at, values_at};
 

@@ -1,7 +1,7 @@
 ghost use Rattle.std.specs.Prelude.{◌≡◌, ◌≤◌, IfOk, length};
-ghost use Rattle.snd_tokens.specs.Lexemes.{left};
-ghost use Rattle.text_kit.specs.Answers.{ReadsAs};
-ghost use Rattle.plan_report.specs.KnownNames.{known_of};
+ghost use Rattle.snd_tokens.specs.Terms.{left};
+ghost use Rattle.text_kit.specs.Terms.{ReadsAs};
+ghost use Rattle.plan_report.specs.Terms.{known_of};
 ghost use Rattle.report_reader.specs.ReadingJournal.{pool_at, pool_cut_at};
 
 use net_core::{CutLine, List, Network, StateId, States};
@@ -47,8 +47,8 @@ impl<'a> LineList<'a> {
 }
 
 impl<'a> Element for LineList<'a> {
-    ghost use Rattle.text_kit.specs.Reading.{no_fault};
-    ghost use Rattle.plan_report.specs.KnownNames.{known_of};
+    ghost use Rattle.text_kit.specs.Terms.{no_fault};
+    ghost use Rattle.plan_report.specs.Terms.{known_of};
     ghost use Rattle.report_reader.specs.ReadingJournal.{pool_line_at};
 
     type Item = CutLine;

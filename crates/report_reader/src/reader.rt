@@ -1,11 +1,9 @@
 ghost use Rattle.std.specs.Prelude.{◌≡◌, IfErr, IfOk};
-ghost use Rattle.plan_report.specs.KnownNames.{known_of};
-ghost use Rattle.plan_report.specs.Texts.{SpellsReport, report_header};
+ghost use Rattle.plan_report.specs.Terms.{known_of, SpellsReport, report_header};
 ghost use Rattle.plan_types.specs.declared.report.Report.{Report as Rep};
-ghost use Rattle.snd_tokens.specs.Lexemes.{left};
-ghost use Rattle.text_kit.specs.Answers.{AnswersAs, ReadsAllAs, ReadsAs};
-ghost use Rattle.text_kit.specs.Files.{IsNotTooEarly};
-ghost use Rattle.report_words.specs.Contexts.{known_in};
+ghost use Rattle.snd_tokens.specs.Terms.{left};
+ghost use Rattle.text_kit.specs.Terms.{AnswersAs, ReadsAllAs, ReadsAs, IsNotTooEarly};
+ghost use Rattle.report_words.specs.Terms.{known_in};
 ghost use Rattle.report_reader.specs.ReadingReport.{last_sections_at, report_at, report_of, section_at, sections_at};
 
 use crate::filling::fill;

@@ -1,13 +1,11 @@
 -- Readings that a word chooses take exactly what one of their branches takes after its word.
 use Rattle.std.proofs.Common.{◌≡◌, ◌⊎◌, inl, inr, ℕ, Bool, true, false, cond, List, [], ◌∷◌, Result, Ok, Err, refl, sym, ap, subst, ◌∙◌}
-use Rattle.net_core.specs.Tests.{are_same}
-use Rattle.snd_tokens.specs.Lexemes.{Text, WordAt, OpenAt, CloseAt, EndAt}
-use Rattle.text_kit.specs.Items.{Item, Verbatim, Opening, Closing, Begins}
-use Rattle.text_kit.specs.Reading.{Reading}
+use Rattle.net_core.specs.Terms.{are_same}
+use Rattle.snd_tokens.specs.Terms.{Text, WordAt, OpenAt, CloseAt, EndAt}
+use Rattle.text_kit.specs.Terms.{Item, Verbatim, Opening, Closing, Begins, Reading}
 use Rattle.text_kit.proofs.Beginnings.{AnyText}
-use Rattle.text_kit.proofs.Lawful.{is_same, lawful_as}
-use Rattle.text_kit.proofs.Online.{ok_parts}
-use Rattle.text_kit.proofs.Spelled.{Lawful, Spelled}
+use Rattle.text_kit.proofs.Lemmas.{is_same, lawful_as, ok_parts, Spelled}
+use Rattle.text_kit.proofs.Spelled.{Lawful}
 use Rattle.report_words.specs.declared.fault.ReportKind.{ReportKind}
 use Rattle.report_words.specs.declared.fault.ReportKind.TheVariants.{Token, Limit}
 use Rattle.report_words.specs.ReportChoices.{Branches, branch_of, branch_or}

@@ -1,9 +1,9 @@
 -- Readings that a word chooses depend on no lexeme after what they take.
 use Rattle.std.proofs.Common.{◌≡◌, ℕ, zero, suc, Bool, true, false, cond, List, [], ◌∷◌, Result, Ok, Err, refl, sym, ◌∙◌}
-use Rattle.net_core.specs.Tests.{are_same}
-use Rattle.snd_tokens.specs.Lexemes.{Text, WordAt, OpenAt, CloseAt, EndAt}
-use Rattle.text_kit.specs.Reading.{Reading, after, ◌>>=◌, give, over_at, placed, step_at}
-use Rattle.text_kit.proofs.Online.{IsOnline, online_give, online_over, online_step, online_then}
+use Rattle.net_core.specs.Terms.{are_same}
+use Rattle.snd_tokens.specs.Terms.{Text, WordAt, OpenAt, CloseAt, EndAt}
+use Rattle.text_kit.specs.Terms.{Reading, after, ◌>>=◌, give, over_at, placed, step_at}
+use Rattle.text_kit.proofs.Lemmas.{IsOnline, online_give, online_over, online_step, online_then}
 use Rattle.report_words.specs.declared.fault.ReportKind.{ReportKind}
 use Rattle.report_words.specs.declared.fault.ReportKind.TheVariants.{Token, Ended, Limit}
 use Rattle.report_words.specs.ReportChoices.{Branches, branch_of, branch_or}

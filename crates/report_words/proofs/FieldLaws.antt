@@ -1,8 +1,8 @@
 -- The reading of a field takes exactly its texts, and has no look at what comes after them.
 use Rattle.std.proofs.Common.{ℕ, ◌≤◌, ◌<◌, List, [], ◌∷◌, refl}
-use Rattle.text_kit.specs.Items.{Verbatim, Whole}
+use Rattle.text_kit.specs.Terms.{Verbatim, Whole}
 use Rattle.text_kit.proofs.Beginnings.{AnyText}
-use Rattle.text_kit.proofs.Online.{IsOnline, online_then, online_word}
+use Rattle.text_kit.proofs.Lemmas.{IsOnline, online_then, online_word}
 use Rattle.text_kit.proofs.Spelled.{Lawful}
 use Rattle.report_words.specs.declared.fault.ReportKind.TheVariants.{Token, Ended}
 use Rattle.report_words.specs.ReportFields.{field_at}

@@ -8,3 +8,4 @@ pub mod NumberLaws
 pub mod WordsOnline
 pub mod Lookups
 pub mod Once
+pub mod Lemmas

@@ -1,15 +1,11 @@
 -- Lists between parentheses: of a length, of few elements, and of elements with their numbers.
-use Rattle.std.proofs.Common.{◌≡◌, ℕ, ◌+◌, ◌≤◌, ◌<◌, ◌==◌, true, false, cond, List, [], ◌∷◌, ◌++◌, length, All, Option, None, Some, refl, sym, ap, subst, ◌∙◌, arith, length-append}
-use Rattle.std.specs.Prelude.{flat_map}
+use Rattle.std.proofs.Common.{◌≡◌, ℕ, ◌+◌, ◌≤◌, ◌<◌, ◌==◌, true, false, cond, List, [], ◌∷◌, ◌++◌, length, All, Option, None, Some, refl, sym, ap, subst, ◌∙◌, arith, length-append, flat_map}
 use Rattle.std.proofs.lemmas.Bool.{eqb-true, eq-eqb}
-use Rattle.text_kit.specs.Items.{ComeAfter, Item, Closing}
-use Rattle.text_kit.specs.Reading.{Reading, ◌>>=◌, list_at, no_fault, of_length, Parenthesis}
+use Rattle.text_kit.specs.Terms.{ComeAfter, Item, Closing, Reading, ◌>>=◌, list_at, no_fault, of_length, Parenthesis, enclosed}
 use Rattle.text_kit.proofs.Beginnings.{AnyText, Starts}
-use Rattle.text_kit.proofs.After.{all_after, after_all, after_as}
-use Rattle.text_kit.proofs.Lawful.{after_few, few_after, lawful_as, lawful_list}
-use Rattle.text_kit.proofs.Spelled.{Lawful, SpelledAfter, law_spelled, spelled_as, spelled_law, spelled_list}
-use Rattle.plan_report.specs.Items.{numbered_from}
-use Rattle.text_kit.specs.Edits.{enclosed}
+use Rattle.text_kit.proofs.Lemmas.{all_after, after_all, after_as, after_few, few_after, lawful_as, lawful_list, SpelledAfter, law_spelled, spelled_as, spelled_law, spelled_list}
+use Rattle.text_kit.proofs.Spelled.{Lawful}
+use Rattle.plan_report.specs.Terms.{numbered_from}
 use Rattle.report_words.specs.declared.fault.ReportKind.{ReportKind}
 use Rattle.report_words.specs.declared.fault.ReportKind.TheVariants.{Limit}
 use Rattle.report_words.specs.ReportWords.{has_room, opening_at}

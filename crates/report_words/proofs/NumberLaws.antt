@@ -1,10 +1,10 @@
 -- The reading of a list of numbers takes exactly its texts.
 use Rattle.std.proofs.Common.{◌≡◌, ℕ, ◌<◌, true, [], ◌∷◌, length, All, refl, arith}
-use Rattle.text_kit.specs.Items.{Whole}
+use Rattle.text_kit.specs.Terms.{Whole}
 use Rattle.text_kit.proofs.Beginnings.{AnyText}
-use Rattle.text_kit.proofs.Lawful.{lawful_as}
+use Rattle.text_kit.proofs.Lemmas.{lawful_as}
 use Rattle.text_kit.proofs.Spelled.{Lawful}
-use Rattle.plan_report.specs.Items.{numbers_items}
+use Rattle.plan_report.specs.Terms.{numbers_items}
 use Rattle.report_words.specs.ReportWords.{has_room}
 use Rattle.report_words.specs.ReportChoices.{next_number_at, numbers_at}
 use Rattle.report_words.proofs.ListLaws.{exact_law}

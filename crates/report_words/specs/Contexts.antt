@@ -1,6 +1,6 @@
 -- What the names in a report stand for where a value of the program holds the network and its states.
 use Rattle.report_words.specs.declared.context.Context.{Context}
-use Rattle.plan_report.specs.KnownNames.{KnownNames, known_of}
+use Rattle.plan_report.specs.Terms.{KnownNames, known_of}
 
 abbrev pub known_in : Context → KnownNames
 known_in c = known_of c.net.now c.states.now

@@ -3,3 +3,4 @@ pub mod ReportFields
 pub mod ReportWords
 pub mod Contexts
 pub mod ReportChoices
+pub mod Terms

@@ -1,8 +1,8 @@
 -- Words that say what comes after them, and lists of numbers.
 use Rattle.std.specs.Prelude.{ℕ, Bool, true, if◌then◌else◌, List, [], ◌∷◌, Result, Err}
-use Rattle.net_core.specs.Tests.{are_same}
-use Rattle.snd_tokens.specs.Lexemes.{WordAt, OpenAt, CloseAt, EndAt}
-use Rattle.text_kit.specs.Reading.{Reading, ◌>>=◌, list_at, of_length, Parenthesis, placed}
+use Rattle.net_core.specs.Terms.{are_same}
+use Rattle.snd_tokens.specs.Terms.{WordAt, OpenAt, CloseAt, EndAt}
+use Rattle.text_kit.specs.Terms.{Reading, ◌>>=◌, list_at, of_length, Parenthesis, placed}
 use Rattle.report_words.specs.declared.fault.ReportKind.{ReportKind}
 use Rattle.report_words.specs.declared.fault.ReportKind.TheVariants.{Token, Ended, Limit}
 use Rattle.report_words.specs.ReportWords.{has_room, opening_at, room_number_at}

@@ -1,6 +1,6 @@
 -- Numbers after the word that says what they are.
 use Rattle.std.specs.Prelude.{ℕ, List}
-use Rattle.text_kit.specs.Reading.{Reading, ◌>>=◌}
+use Rattle.text_kit.specs.Terms.{Reading, ◌>>=◌}
 use Rattle.report_words.specs.declared.fault.ReportKind.{ReportKind}
 use Rattle.report_words.specs.ReportWords.{keyword_at, number_at}
 

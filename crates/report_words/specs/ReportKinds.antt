@@ -1,6 +1,6 @@
 -- how the kinds of faults of a report are written
 use Rattle.std.specs.Prelude.{ℕ, List, codes}
-use Rattle.text_kit.specs.Numbers.{number_word}
+use Rattle.text_kit.specs.Terms.{number_word}
 use Rattle.report_words.specs.declared.fault.ReportKind.{ReportKind}
 use Rattle.report_words.specs.declared.fault.ReportKind.TheVariants.{Header, Section, Token, Ended, Number, UnknownName, DoubleName, LimitName, Limit}
 

@@ -1,6 +1,6 @@
 -- What a word of a report says: numbers in their ranges, amounts, and names of what is known.
 use Rattle.std.specs.Prelude.{ℕ, ◌+◌, Bool, nat_le, nat_lt, ◌&&◌, if◌then◌else◌, List, length, position, Result, Ok, Err}
-use Rattle.net_core.specs.Tests.{are_same, is_named}
+use Rattle.net_core.specs.Terms.{are_same, is_named}
 use Rattle.net_core.specs.declared.demand.Demand.{Demand}
 use Rattle.net_core.specs.declared.ids.LinkId.{LinkId}
 use Rattle.net_core.specs.declared.ids.NodeId.{NodeId}
@@ -9,11 +9,8 @@ use Rattle.net_core.specs.declared.places.Places.{Places}
 use Rattle.snd_tokens.specs.declared.amounts.NumberFault.TheVariants as faults
 use Rattle.snd_tokens.specs.declared.whole_number.WholeFault.{WholeFault}
 use Rattle.snd_tokens.specs.declared.whole_number.WholeFault.TheVariants.{NotANumber, TooLarge}
-use Rattle.snd_tokens.specs.Amounts.{amount_of, money_of}
-use Rattle.snd_tokens.specs.Wholes.{whole_of}
-use Rattle.text_kit.specs.Names.{any_name, found_or}
-use Rattle.text_kit.specs.Numbers.{number_or}
-use Rattle.text_kit.specs.Reading.{Reading, open_at, close_at, expected, step_at, word_at}
+use Rattle.snd_tokens.specs.Terms.{amount_of, money_of, whole_of}
+use Rattle.text_kit.specs.Terms.{any_name, found_or, number_or, Reading, open_at, close_at, expected, step_at, word_at}
 use Rattle.report_words.specs.declared.fault.ReportKind.{ReportKind}
 use Rattle.report_words.specs.declared.fault.ReportKind.TheVariants.{Token, Ended, Number, UnknownName, DoubleName, LimitName, Limit}
 

@@ -1,7 +1,6 @@
 ghost use Rattle.std.specs.Prelude.{◌≡◌, ◌<◌, ℕ, List, [], Option, Ok, IfOk, IsTrue};
-ghost use Rattle.snd_tokens.specs.Lexemes.{Text, left, size};
-ghost use Rattle.text_kit.specs.Answers.{ReadsAs, TakesElement};
-ghost use Rattle.text_kit.specs.Reading.{Reading, Parenthesis, list_at};
+ghost use Rattle.snd_tokens.specs.Terms.{Text, left, size};
+ghost use Rattle.text_kit.specs.Terms.{ReadsAs, TakesElement, Reading, Parenthesis, list_at};
 ghost use Rattle.report_words.specs.declared.fault.ReportKind.{ReportKind};
 
 use crate::fault::{ReportKind, ReportRefusal};

@@ -1,6 +1,6 @@
 ghost use Rattle.std.specs.Prelude.{◌<◌, IfOk};
-ghost use Rattle.snd_tokens.specs.Lexemes.{left};
-ghost use Rattle.text_kit.specs.Answers.{ReadsAs};
+ghost use Rattle.snd_tokens.specs.Terms.{left};
+ghost use Rattle.text_kit.specs.Terms.{ReadsAs};
 ghost use Rattle.report_words.specs.ReportFields.{field_at};
 
 use crate::fault::ReportRefusal;

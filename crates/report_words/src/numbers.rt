@@ -1,7 +1,6 @@
 ghost use Rattle.std.specs.Prelude.{◌≡◌, ◌^◌};
-ghost use Rattle.snd_tokens.specs.Lexemes.{left};
-ghost use Rattle.text_kit.specs.Answers.{ReadsAs};
-ghost use Rattle.text_kit.specs.Reading.{of_length};
+ghost use Rattle.snd_tokens.specs.Terms.{left};
+ghost use Rattle.text_kit.specs.Terms.{ReadsAs, of_length};
 ghost use Rattle.report_words.specs.ReportChoices.{numbers_at};
 
 use crate::element::{Element, list};
@@ -35,7 +34,7 @@ struct LengthList {
 
 impl Element for LengthList {
     ghost use Rattle.std.specs.Prelude.{◌^◌};
-    ghost use Rattle.text_kit.specs.Reading.{of_length};
+    ghost use Rattle.text_kit.specs.Terms.{of_length};
     ghost use Rattle.report_words.specs.ReportChoices.{next_number_at};
     ghost use Rattle.report_words.specs.declared.fault.ReportKind.TheVariants.{Limit};
 
@@ -72,7 +71,7 @@ struct UnitList {
 
 impl Element for UnitList {
     ghost use Rattle.std.specs.Prelude.{◌^◌};
-    ghost use Rattle.text_kit.specs.Reading.{of_length};
+    ghost use Rattle.text_kit.specs.Terms.{of_length};
     ghost use Rattle.report_words.specs.ReportChoices.{next_number_at};
     ghost use Rattle.report_words.specs.declared.fault.ReportKind.TheVariants.{Limit};
 
@@ -110,7 +109,7 @@ struct CapacityList {
 
 impl Element for CapacityList {
     ghost use Rattle.std.specs.Prelude.{◌^◌};
-    ghost use Rattle.text_kit.specs.Reading.{of_length};
+    ghost use Rattle.text_kit.specs.Terms.{of_length};
     ghost use Rattle.report_words.specs.ReportChoices.{next_number_at};
     ghost use Rattle.report_words.specs.declared.fault.ReportKind.TheVariants.{Limit};
 

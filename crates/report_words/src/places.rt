@@ -1,5 +1,5 @@
 ghost use Rattle.std.specs.Prelude.{◌≡◌, ◌++◌, ◌∷◌, ◌<◌, [], length, Ok, true, false, IfSome, position, map};
-ghost use Rattle.net_core.specs.Tests.{are_same, is_named};
+ghost use Rattle.net_core.specs.Terms.{are_same, is_named};
 
 use indexmap::IndexSet;
 use net_core::NoMemory;

@@ -1,10 +1,6 @@
 ghost use Rattle.std.specs.Prelude.{◌≡◌, ◌≤◌, ◌<◌, ◌^◌, ◌+◌, nat_lt, length, true, Ok, None, IfOk};
-ghost use Rattle.snd_tokens.specs.Lexemes.{left};
-ghost use Rattle.snd_tokens.specs.Amounts.{amount_of, money_of};
-ghost use Rattle.text_kit.specs.Answers.{ReadsAs};
-ghost use Rattle.text_kit.specs.Names.{long_name_fault};
-ghost use Rattle.text_kit.specs.Numbers.{number_or};
-ghost use Rattle.text_kit.specs.Reading.{expected};
+ghost use Rattle.snd_tokens.specs.Terms.{left, amount_of, money_of};
+ghost use Rattle.text_kit.specs.Terms.{ReadsAs, long_name_fault, number_or, expected};
 ghost use Rattle.report_words.specs.ReportWords.{amount_at, closing_at, keyword_at, keyword_within, money_at, money_below, name_at, number_at, opening_at, opening_within, room_number_at, this_name, this_name_at, this_number, this_number_at, unknown_name, whole_within, within};
 
 use crate::fault::{ReportKind, ReportRefusal};

@@ -1,29 +1,14 @@
 -- where an optimum meets all needs, the flows of its basis carry the demands
 use Rattle.std.proofs.Common.{◌≡◌, ℕ, zero, suc, ◌+◌, ◌*◌, ◌<◌, ◌≤◌, List, [], ◌∷◌, All, Bool, true, false, ◌||◌, cond, eqb, length, slice_index, refl, sym, ap, ◌∙◌, arith, subst, ⊎_elim}
-use Rattle.std.specs.List.{AllByRecursion}
-use Rattle.std.proofs.lemmas.Bool.{cases_lt, ne_eqb}
-use Rattle.std.proofs.lemmas.Option.{slice_get_within, get_or_from_slice_get}
-use Rattle.std.proofs.lemmas.List.{get_or-map}
-use Rattle.std.proofs.Math.IntN.{ℤ, pos, ◌+ℤ◌, ◌*ℤ◌, *ℤ-zero, pos-*ℤ-pos}
+use Rattle.net_core.proofs.Library.{AllByRecursion, cases_lt, slice_get_within, get_or_from_slice_get, get_or-map, *ℤ-zero, pos-*ℤ-pos, ints}
+use Rattle.std.proofs.lemmas.Bool.{ne_eqb}
+use Rattle.std.proofs.Math.IntN.{ℤ, pos, ◌+ℤ◌, ◌*ℤ◌}
 use Rattle.std.specs.Int.Signed.{◌<ℤ◌, ◌≤ℤ◌}
-use Rattle.std.proofs.lemmas.Int.{ints}
-use Rattle.net_core.specs.declared.columns.RouteColumn.{RouteColumn}
-use Rattle.net_core.specs.declared.columns.RouteColumn.TheVariants.{LinkSlack, DemandSlack}
-use Rattle.net_core.specs.declared.demand.Demand.{Demand}
-use Rattle.net_core.specs.declared.ids.LinkId.{LinkId}
-use Rattle.net_core.specs.declared.plan.Caps.{Caps}
-use Rattle.net_core.specs.declared.plan.Routing.{Routing}
-use Rattle.net_core.specs.Graphs.{Graph, Joins}
-use Rattle.net_core.specs.States.{names_link}
-use Rattle.net_core.specs.Sums.{sum_below}
+use Rattle.plan_terms.specs.Terms.{RouteColumn, LinkSlack, DemandSlack, Demand, LinkId, Caps, Routing, Graph, Joins, names_link, sum_below, sent, load, IsFlow, Carries}
 use Rattle.net_core.proofs.Sums.{below-same, below-none, below-one, below-times, below-le}
-use Rattle.plan_terms.specs.Flows.{sent, load, IsFlow, Carries}
-use Rattle.plan_terms.proofs.Distinct.{path_links_inside}
-use Rattle.simplex_law.specs.Sums.{int_sum, dot, unit_vector}
-use Rattle.simplex_law.specs.Programs.{ColumnOf, IsSlack}
-use Rattle.simplex_law.specs.Optima.{IsOptimum}
-use Rattle.simplex_law.proofs.Arithmetic.{le_times, lt_cancel, moved_out, distribute_left}
-use Rattle.simplex_law.proofs.Sums.{sum-same, sum-le}
+use Rattle.plan_terms.proofs.Lemmas.{path_links_inside}
+use Rattle.simplex_law.specs.Terms.{int_sum, dot, unit_vector, ColumnOf, IsSlack, IsOptimum}
+use Rattle.simplex_law.proofs.Lemmas.{le_times, lt_cancel, moved_out, distribute_left, sum-same, sum-le}
 use Rattle.route_law.specs.BasisFlows.{is_of_demand, runs_over, AreFlowsOf}
 use Rattle.route_law.specs.Laws.{BasisFlowsCarry}
 use Rattle.route_law.specs.RoutingPrograms.{scaled_need, total_scaled_need, IsCarrying, route_rows, route_bound, route_slack, IsRouteColumn}

@@ -2,17 +2,10 @@
 use Rattle.std.proofs.Common.{◌≡◌, ℕ, zero, suc, ◌-◌, ◌*◌, ◌<◌, List, [], ◌∷◌, length, map, slice_index, refl, sym, ap, ◌∙◌, arith, subst, ⊎_elim}
 use Rattle.std.proofs.Math.IntN.{ℤ, pos, ◌*ℤ◌}
 use Rattle.std.specs.Int.Signed.{◌<ℤ◌}
-use Rattle.std.proofs.lemmas.Bool.{cases_lt}
-use Rattle.net_core.specs.declared.columns.RouteColumn.{RouteColumn}
-use Rattle.net_core.specs.declared.columns.WideKind.{WideKind}
-use Rattle.net_core.specs.declared.columns.WideKind.TheVariants.{Number, Row, Product, Sum, Common, Value, Length}
-use Rattle.net_core.specs.declared.demand.Demand.{Demand}
-use Rattle.net_core.specs.declared.plan.Caps.{Caps}
-use Rattle.net_core.specs.Graphs.{Graph}
-use Rattle.net_core.specs.Sums.{sum_below}
-use Rattle.simplex_law.specs.Sums.{dot}
-use Rattle.simplex_law.specs.Programs.{ColumnOf, slack_basis}
-use Rattle.simplex_law.proofs.Arithmetic.{moved_out}
+use Rattle.net_core.proofs.Library.{cases_lt}
+use Rattle.plan_terms.specs.Terms.{RouteColumn, WideKind, Number, Row, Product, Sum, Common, Value, Length, Demand, Caps, Graph, sum_below}
+use Rattle.simplex_law.specs.Terms.{dot, ColumnOf, slack_basis}
+use Rattle.simplex_law.proofs.Lemmas.{moved_out}
 use Rattle.route_law.specs.Divisions.{caps_times, DividedAreWide, DividedArePriced}
 use Rattle.route_law.specs.PricedLengths.{ArePricedLengths}
 use Rattle.route_law.specs.RouteEvidence.{HasWideLength, HoldsOfRoute, IsRouteEvidence}

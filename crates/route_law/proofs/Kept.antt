@@ -1,17 +1,9 @@
 -- what a state keeps of lengths is violated where the lengths are
-use Rattle.std.proofs.Common.{◌≡◌, ℕ, zero, suc, ◌*◌, ◌<◌, ◌≤◌, List, [], ◌∷◌, Some, None, Option, length, map, sum_by, zip, slice_index, slice_index_or, unwrap_or, refl, sym, ap, ◌∙◌, arith, subst, ⊎_elim}
-use Rattle.std.specs.Option.{option_map}
-use Rattle.std.proofs.lemmas.Bool.{cases_eq, cases_lt}
-use Rattle.std.proofs.lemmas.List.{length-map}
-use Rattle.std.proofs.lemmas.List.Sums.{sum_by-cons}
+use Rattle.std.proofs.Common.{◌≡◌, ℕ, zero, suc, ◌*◌, ◌<◌, ◌≤◌, List, [], ◌∷◌, Some, None, Option, length, map, sum_by, zip, slice_index, slice_index_or, unwrap_or, refl, sym, ap, ◌∙◌, arith, subst, ⊎_elim, option_map}
+use Rattle.net_core.proofs.Library.{cases_eq, cases_lt, length-map, sum_by-cons}
 use Rattle.std.proofs.Math.Nat.{mul-le-mul_left}
-use Rattle.net_core.specs.declared.demand.Demand.{Demand}
-use Rattle.net_core.specs.declared.ids.LinkId.{LinkId}
-use Rattle.net_core.specs.Graphs.{Graph, Joins}
-use Rattle.plan_terms.specs.Certificates.{IsRight}
-use Rattle.plan_terms.specs.Keeping.{Keeps}
-use Rattle.plan_terms.specs.Paths.{IsDistance, Leads, length_of}
-use Rattle.plan_terms.proofs.Metric.{metric_inequality_listed}
+use Rattle.plan_terms.specs.Terms.{Demand, LinkId, Graph, Joins, IsRight, Keeps, IsDistance, Leads, length_of}
+use Rattle.plan_terms.proofs.Lemmas.{metric_inequality_listed}
 use Rattle.route_law.specs.Laws.{LinkPricesAreViolated, ViolatedCarriesNothing}
 use Rattle.route_law.proofs.LinkPrices.{prices_violate}
 

@@ -14,3 +14,4 @@ pub mod Slacks
 pub mod SomePrices
 pub mod TermSums
 pub mod ZerosAndOnes
+pub mod Lemmas

@@ -1,27 +1,13 @@
 -- where not all needs can be carried, the capacities violate the cut of the link prices
 use Rattle.std.proofs.Common.{◌≡◌, ℕ, zero, suc, ◌+◌, ◌*◌, ◌<◌, ◌≤◌, List, [], ◌∷◌, Some, None, Option, length, map, sum_by, zip, slice_get, slice_index, slice_index_or, get_or, unwrap_or, refl, sym, ap, ◌∙◌, arith, subst, inl, ⊎_elim}
-use Rattle.std.proofs.lemmas.Bool.{cases_eq, cases_lt}
-use Rattle.std.proofs.lemmas.List.{get_or-map}
-use Rattle.std.proofs.lemmas.List.Sums.{sum_by-cons}
-use Rattle.std.proofs.lemmas.Option.{slice_get-get_or, slice_get_within}
+use Rattle.net_core.proofs.Library.{cases_eq, cases_lt, get_or-map, sum_by-cons, slice_get-get_or, slice_get_within, *ℤ_comm, *ℤ-zero, pos-*ℤ-pos, ints, by_lt_z}
 use Rattle.std.proofs.Math.Nat.{mul-le-mul_left}
-use Rattle.std.proofs.Math.IntN.{ℤ, pos, ◌+ℤ◌, ◌*ℤ◌, *ℤ_comm, *ℤ-zero, pos-*ℤ-pos}
+use Rattle.std.proofs.Math.IntN.{ℤ, pos, ◌+ℤ◌, ◌*ℤ◌}
 use Rattle.std.specs.Int.Signed.{◌<ℤ◌, ◌≤ℤ◌}
-use Rattle.std.proofs.lemmas.Int.{ints, by_lt_z}
-use Rattle.net_core.specs.declared.columns.RouteColumn.{RouteColumn}
-use Rattle.net_core.specs.declared.columns.RouteColumn.TheVariants.{Carry}
-use Rattle.net_core.specs.declared.demand.Demand.{Demand}
-use Rattle.net_core.specs.declared.plan.Caps.{Caps}
-use Rattle.net_core.specs.Graphs.{Graph, Joins}
-use Rattle.net_core.specs.Sums.{sum_below}
+use Rattle.plan_terms.specs.Terms.{RouteColumn, Carry, Demand, Caps, Graph, Joins, sum_below, IsRight, IsDistance, length_of}
 use Rattle.net_core.proofs.Sums.{below-same, below-none, below-first, below-times}
-use Rattle.plan_terms.specs.Certificates.{IsRight}
-use Rattle.plan_terms.specs.Paths.{IsDistance, length_of}
-use Rattle.simplex_law.specs.Sums.{int_sum, dot}
-use Rattle.simplex_law.specs.Programs.{ColumnOf}
-use Rattle.simplex_law.specs.Bases.{IsBest}
-use Rattle.simplex_law.proofs.Arithmetic.{le_times, distribute_left}
-use Rattle.simplex_law.proofs.Sums.{sum-same, sum-le, sum-plus, sum-times, sum-split}
+use Rattle.simplex_law.specs.Terms.{int_sum, dot, ColumnOf, IsBest}
+use Rattle.simplex_law.proofs.Lemmas.{le_times, distribute_left, sum-same, sum-le, sum-plus, sum-times, sum-split}
 use Rattle.route_law.specs.PricedLengths.{AreLinkPrices}
 use Rattle.route_law.specs.Routings.{AreJoined}
 use Rattle.route_law.specs.RoutingPrograms.{scaled_need, total_scaled_need, path_entry, IsCarrying, route_rows, route_bound, IsRouteColumn}

@@ -1,14 +1,7 @@
 -- routings over a smaller denominator
 use Rattle.std.proofs.Common.{◌≡◌, ℕ, zero, suc, ◌*◌, ◌<◌, ◌≤◌, List, [], ◌∷◌, All, Bool, true, false, cond, eqb, map, sum_by, slice_index, refl, sym, ap, ◌∙◌, arith}
-use Rattle.std.proofs.lemmas.List.Sums.{sum_by-cons}
-use Rattle.std.proofs.lemmas.List.Elements.{recursion_from_All, All-from_recursion}
-use Rattle.std.proofs.Math.Nat.{le_of_mul-le-mul_left}
-use Rattle.std.specs.List.{AllByRecursion}
-use Rattle.net_core.specs.declared.demand.Demand.{Demand}
-use Rattle.net_core.specs.declared.plan.Flow.{Flow}
-use Rattle.net_core.specs.declared.plan.Routing.{Routing}
-use Rattle.net_core.specs.States.{names_link}
-use Rattle.plan_terms.specs.Flows.{sent, load, IsFlow, Carries}
+use Rattle.net_core.proofs.Library.{sum_by-cons, recursion_from_All, All-from_recursion, le_of_mul-le-mul_left, AllByRecursion}
+use Rattle.plan_terms.specs.Terms.{Demand, Flow, Routing, names_link, sent, load, IsFlow, Carries}
 use Rattle.route_law.specs.Routings.{flow_times, over_times}
 
 -- a sum over flows that a test picks

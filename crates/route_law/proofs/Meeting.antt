@@ -1,23 +1,12 @@
 -- what the amounts of a basis leave of the needs
 use Rattle.std.proofs.Common.{◌≡◌, ℕ, zero, suc, ◌+◌, ◌-◌, ◌*◌, ◌<◌, ◌≤◌, List, cond, length, slice_index, refl, sym, ap, ◌∙◌, arith, subst, ⊎_elim}
-use Rattle.std.proofs.lemmas.Bool.{cases_lt}
-use Rattle.std.proofs.lemmas.Option.{slice_get_within}
-use Rattle.std.proofs.Math.IntN.{ℤ, pos, ◌+ℤ◌, ◌*ℤ◌, pos-*ℤ-pos}
+use Rattle.net_core.proofs.Library.{cases_lt, slice_get_within, pos-*ℤ-pos, ints}
+use Rattle.std.proofs.Math.IntN.{ℤ, pos, ◌+ℤ◌, ◌*ℤ◌}
 use Rattle.std.specs.Int.Signed.{◌<ℤ◌, ◌≤ℤ◌}
-use Rattle.std.proofs.lemmas.Int.{ints}
-use Rattle.net_core.specs.declared.columns.RouteColumn.{RouteColumn}
-use Rattle.net_core.specs.declared.columns.RouteColumn.TheVariants.{LinkSlack, DemandSlack, Carry}
-use Rattle.net_core.specs.declared.demand.Demand.{Demand}
-use Rattle.net_core.specs.declared.plan.Caps.{Caps}
-use Rattle.net_core.specs.Graphs.{Graph}
-use Rattle.net_core.specs.States.{names_link}
-use Rattle.net_core.specs.Sums.{sum_below}
+use Rattle.plan_terms.specs.Terms.{RouteColumn, LinkSlack, DemandSlack, Carry, Demand, Caps, Graph, names_link, sum_below}
 use Rattle.net_core.proofs.Sums.{below-same, below-none}
-use Rattle.simplex_law.specs.Sums.{int_sum, unit_vector}
-use Rattle.simplex_law.specs.Programs.{ColumnOf, IsSlack}
-use Rattle.simplex_law.specs.Optima.{IsOptimum}
-use Rattle.simplex_law.proofs.Arithmetic.{distribute_left}
-use Rattle.simplex_law.proofs.Sums.{sum-plus, sum-times, sum-same, sum-none, sum-swapped, sum-one, unit-same, unit-other}
+use Rattle.simplex_law.specs.Terms.{int_sum, unit_vector, ColumnOf, IsSlack, IsOptimum}
+use Rattle.simplex_law.proofs.Lemmas.{distribute_left, sum-plus, sum-times, sum-same, sum-none, sum-swapped, sum-one, unit-same, unit-other}
 use Rattle.route_law.specs.Laws.{basis_gain}
 use Rattle.route_law.specs.RoutingPrograms.{scaled_need, total_scaled_need, IsCarrying, route_rows, route_bound, route_slack, IsRouteColumn}
 use Rattle.route_law.proofs.Rows.{beside_first, beside_second, beside_after, sum-pos}

@@ -1,14 +1,8 @@
 -- cuts and routings over a multiple of the scale
 use Rattle.std.proofs.Common.{◌≡◌, ℕ, ◌+◌, ◌*◌, ◌<◌, ◌≤◌, List, [], ◌∷◌, All, map, sum_by, zip, slice_index, ap, ◌∙◌, arith, ⊎_elim}
-use Rattle.std.proofs.lemmas.Bool.{cases_lt}
-use Rattle.std.proofs.lemmas.List.Sums.{sum_by-cons}
-use Rattle.std.proofs.lemmas.List.Elements.{recursion_from_All, All-from_recursion}
+use Rattle.net_core.proofs.Library.{cases_lt, sum_by-cons, recursion_from_All, All-from_recursion, AllByRecursion}
 use Rattle.std.proofs.Math.Nat.{mul-le-mul_left}
-use Rattle.std.specs.List.{AllByRecursion}
-use Rattle.net_core.specs.declared.demand.Demand.{Demand}
-use Rattle.net_core.specs.declared.plan.Flow.{Flow}
-use Rattle.net_core.specs.Graphs.{Joins}
-use Rattle.plan_terms.specs.Flows.{load, IsFlow}
+use Rattle.plan_terms.specs.Terms.{Demand, Flow, Joins, load, IsFlow}
 use Rattle.route_law.specs.Divisions.{DividedAreCarried, DividedAreViolated}
 use Rattle.route_law.specs.Routings.{flow_times}
 use Rattle.route_law.proofs.Divided.{index_times}

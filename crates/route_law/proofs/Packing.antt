@@ -1,21 +1,12 @@
 -- the routing program is a packing program, where its bounds are narrow
 use Rattle.std.proofs.Common.{◌≡◌, ℕ, ◌+◌, ◌-◌, ◌<◌, ◌≤◌, List, true, false, cond, eqb, length, slice_index, sym, ap, ◌∙◌, arith, subst, ⊎_elim}
-use Rattle.std.proofs.lemmas.Bool.{cases_lt}
-use Rattle.std.proofs.lemmas.Option.{slice_get_within}
+use Rattle.net_core.proofs.Library.{cases_lt, slice_get_within, ints}
 use Rattle.std.proofs.Math.IntN.{ℤ, pos}
 use Rattle.std.specs.Int.Signed.{◌<ℤ◌, ◌≤ℤ◌}
-use Rattle.std.proofs.lemmas.Int.{ints}
-use Rattle.checked_fraction.specs.Rows.{IsNarrow}
-use Rattle.net_core.specs.declared.columns.RouteColumn.{RouteColumn}
-use Rattle.net_core.specs.declared.columns.RouteColumn.TheVariants.{LinkSlack, DemandSlack, Carry}
-use Rattle.net_core.specs.declared.demand.Demand.{Demand}
-use Rattle.net_core.specs.declared.ids.LinkId.{LinkId}
-use Rattle.net_core.specs.declared.plan.Caps.{Caps}
-use Rattle.net_core.specs.Graphs.{Graph}
-use Rattle.net_core.specs.States.{names_link}
-use Rattle.simplex_law.specs.Sums.{unit_vector}
-use Rattle.simplex_law.specs.Programs.{ColumnOf, IsSlack, IsProgramColumn, IsPacking}
-use Rattle.simplex_law.proofs.Sums.{unit-same}
+use Rattle.checked_fraction.specs.Terms.{IsNarrow}
+use Rattle.plan_terms.specs.Terms.{RouteColumn, LinkSlack, DemandSlack, Carry, Demand, LinkId, Caps, Graph, names_link}
+use Rattle.simplex_law.specs.Terms.{unit_vector, ColumnOf, IsSlack, IsProgramColumn, IsPacking}
+use Rattle.simplex_law.proofs.Lemmas.{unit-same}
 use Rattle.route_law.specs.RoutingPrograms.{scaled_need, path_entry, IsCarrying, route_rows, route_bound, route_slack, IsRouteColumn}
 use Rattle.route_law.proofs.Rows.{beside_first, beside_second, beside_after, beside_each}
 

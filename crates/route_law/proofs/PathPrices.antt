@@ -1,16 +1,12 @@
 -- what a path costs at prices of the rows
 use Rattle.std.proofs.Common.{◌≡◌, ℕ, Bool, true, false, ◌+◌, ◌*◌, ◌<◌, List, cond, length, slice_index, ap, ◌∙◌, arith}
-use Rattle.std.proofs.Math.IntN.{ℤ, pos, ◌+ℤ◌, ◌*ℤ◌, *ℤ-zero}
-use Rattle.std.proofs.lemmas.Int.{ints}
-use Rattle.net_core.specs.declared.ids.LinkId.{LinkId}
-use Rattle.net_core.specs.Graphs.{Graph, Joins}
-use Rattle.net_core.specs.States.{names_link}
+use Rattle.std.proofs.Math.IntN.{ℤ, pos, ◌+ℤ◌, ◌*ℤ◌}
+use Rattle.net_core.proofs.Library.{*ℤ-zero, ints}
+use Rattle.plan_terms.specs.Terms.{LinkId, Graph, Joins, names_link, IsPath, length_of}
 use Rattle.net_core.proofs.Sums.{below-times}
-use Rattle.plan_terms.specs.Paths.{IsPath, length_of}
-use Rattle.plan_terms.proofs.Distinct.{path_links_inside, path_links_differ}
-use Rattle.plan_terms.proofs.Metric.{links_length}
-use Rattle.simplex_law.specs.Sums.{int_sum, dot, unit_vector}
-use Rattle.simplex_law.proofs.Sums.{sum-same, sum-unit, sum-split}
+use Rattle.plan_terms.proofs.Lemmas.{path_links_inside, path_links_differ, links_length}
+use Rattle.simplex_law.specs.Terms.{int_sum, dot, unit_vector}
+use Rattle.simplex_law.proofs.Lemmas.{sum-same, sum-unit, sum-split}
 use Rattle.route_law.specs.RoutingPrograms.{beside, path_entry}
 use Rattle.route_law.proofs.Rows.{beside_first, beside_after, sum-pos}
 

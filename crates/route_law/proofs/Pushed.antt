@@ -1,10 +1,8 @@
 -- the flows of one basic column more
 use Rattle.std.proofs.Common.{◌≡◌, ℕ, suc, List, [], ◌∷◌, ◌++◌, Bool, true, false, cond, eqb, refl, ap, ◌∙◌, arith}
-use Rattle.std.proofs.lemmas.List.Sums.{sum_by_push}
-use Rattle.net_core.specs.declared.columns.RouteColumn.{RouteColumn}
-use Rattle.net_core.specs.declared.plan.Flow.{Flow}
-use Rattle.net_core.specs.States.{names_link}
-use Rattle.simplex_law.specs.Programs.{ColumnOf}
+use Rattle.net_core.proofs.Library.{sum_by_push}
+use Rattle.plan_terms.specs.Terms.{RouteColumn, Flow, names_link}
+use Rattle.simplex_law.specs.Terms.{ColumnOf}
 use Rattle.route_law.specs.BasisFlows.{is_of_demand, runs_over, AreFlowsOf}
 
 module _ (basis : ℕ → ColumnOf RouteColumn) (amounts : ℕ → ℕ) where

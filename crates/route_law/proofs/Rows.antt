@@ -1,11 +1,11 @@
 -- rows that stand beside each other, and sums over them
 use Rattle.std.proofs.Common.{◌≡◌, ℕ, zero, suc, ◌+◌, ◌-◌, ◌<◌, ◌≤◌, cond, sym, ap, ◌∙◌, arith, subst, refl, ⊎_elim}
 use Rattle.std.proofs.Math.IntN.{pos}
-use Rattle.std.proofs.lemmas.Int.{ints}
-use Rattle.std.proofs.lemmas.Bool.{cases_lt, lt-ltb, le-ltb}
-use Rattle.net_core.specs.Sums.{sum_below}
+use Rattle.net_core.proofs.Library.{ints, cases_lt}
+use Rattle.std.proofs.lemmas.Bool.{lt-ltb, le-ltb}
+use Rattle.plan_terms.specs.Terms.{sum_below}
 use Rattle.net_core.proofs.Sums.{below-none, below-plus}
-use Rattle.simplex_law.specs.Sums.{int_sum}
+use Rattle.simplex_law.specs.Terms.{int_sum}
 use Rattle.route_law.specs.RoutingPrograms.{beside}
 
 pub beside_first : {X : Type 0} (n : ℕ) (f g : ℕ → X) (k : ℕ) → k < n → beside n f g k ≡ f k

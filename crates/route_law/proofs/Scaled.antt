@@ -1,16 +1,12 @@
 -- bases, steps and evidence of a packing program whose bounds are all multiplied by one number
 use Rattle.std.proofs.Common.{◌≡◌, ℕ, zero, suc, ◌*◌, ◌<◌, ◌≤◌, inl, inr, sym, ap, ◌∙◌, arith, subst, ⊎_elim, unsigned_abs}
 use Rattle.std.proofs.Math.Nat.{mul-le-mul_left}
-use Rattle.std.proofs.Math.IntN.{ℤ, pos, ◌+ℤ◌, ◌*ℤ◌, *ℤ-zero}
+use Rattle.std.proofs.Math.IntN.{ℤ, pos, ◌+ℤ◌, ◌*ℤ◌}
+use Rattle.net_core.proofs.Library.{*ℤ-zero, ints}
 use Rattle.std.specs.Int.Signed.{◌<ℤ◌, ◌≤ℤ◌}
-use Rattle.std.proofs.lemmas.Int.{ints}
-use Rattle.net_core.specs.Sums.{sum_below}
-use Rattle.simplex_law.specs.Sums.{dot}
-use Rattle.simplex_law.specs.Programs.{ColumnOf}
-use Rattle.simplex_law.specs.Bases.{IsFeasible, IsBest, AreGainingSteps, IsReached}
-use Rattle.simplex_law.specs.Evidence.{IsWide, HoldsNumber, HoldsSum}
-use Rattle.simplex_law.proofs.Arithmetic.{distribute_left, le_times, moved_out, times_nonneg, le_cancel}
-use Rattle.simplex_law.proofs.Sums.{sum-same, sum-times}
+use Rattle.plan_terms.specs.Terms.{sum_below}
+use Rattle.simplex_law.specs.Terms.{dot, ColumnOf, IsFeasible, IsBest, AreGainingSteps, IsReached, IsWide, HoldsNumber, HoldsSum}
+use Rattle.simplex_law.proofs.Lemmas.{distribute_left, le_times, moved_out, times_nonneg, le_cancel, sum-same, sum-times}
 use Rattle.checked_fraction.proofs.Products.{size_times}
 
 wide_times : (d : ℕ) (z : ℤ) → 0 < d → IsWide z → IsWide (pos d *ℤ z)

@@ -1,17 +1,9 @@
 -- evidence of the slack basis, and evidence of the routing program from that of a packing program
 use Rattle.std.proofs.Common.{ℕ, ◌<◌, List, refl, inl}
 use Rattle.std.proofs.Math.IntN.{pos}
-use Rattle.net_core.specs.declared.columns.RouteColumn.{RouteColumn}
-use Rattle.net_core.specs.declared.columns.WideKind.{WideKind}
-use Rattle.net_core.specs.declared.columns.WideKind.TheVariants.{Number, Row, Product, Sum, Common, Value, Length}
-use Rattle.net_core.specs.declared.demand.Demand.{Demand}
-use Rattle.net_core.specs.declared.plan.Caps.{Caps}
-use Rattle.net_core.specs.Graphs.{Graph}
-use Rattle.simplex_law.specs.Sums.{unit_vector}
-use Rattle.simplex_law.specs.Programs.{ColumnOf, slack_basis}
-use Rattle.simplex_law.specs.Bases.{AreNames}
-use Rattle.simplex_law.specs.Evidence.{HoldsKind, IsReachedEvidence, IsWide}
-use Rattle.simplex_law.proofs.Reached.{start_reached, started}
+use Rattle.plan_terms.specs.Terms.{RouteColumn, WideKind, Number, Row, Product, Sum, Common, Value, Length, Demand, Caps, Graph}
+use Rattle.simplex_law.specs.Terms.{unit_vector, ColumnOf, slack_basis, AreNames, HoldsKind, IsReachedEvidence, IsWide}
+use Rattle.simplex_law.proofs.Lemmas.{start_reached, started}
 use Rattle.route_law.specs.RouteEvidence.{HoldsOfRoute, IsRouteEvidence}
 use Rattle.route_law.specs.RoutingPrograms.{route_rows, route_bound, route_slack, IsCarrying, IsRouteColumn}
 use Rattle.route_law.proofs.Packing.{bound_nonneg}

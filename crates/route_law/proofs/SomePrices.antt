@@ -1,24 +1,11 @@
 -- where not all needs can be met, a surviving link has a price
 use Rattle.std.proofs.Common.{◌≡◌, ℕ, ◌+◌, ◌*◌, ◌<◌, List, [], ◌∷◌, Some, length, slice_get, slice_index, get_or, refl, sym, ap, ◌∙◌, arith, subst, inl, ⊎_elim}
-use Rattle.std.proofs.lemmas.Bool.{cases_eq}
-use Rattle.std.proofs.lemmas.List.{get_or-map}
-use Rattle.std.proofs.lemmas.Option.{slice_get-get_or, slice_get_within}
-use Rattle.std.proofs.Math.IntN.{ℤ, pos, ◌+ℤ◌, ◌*ℤ◌, *ℤ-zero, *ℤ_comm, pos-*ℤ-pos}
+use Rattle.net_core.proofs.Library.{cases_eq, get_or-map, slice_get-get_or, slice_get_within, *ℤ-zero, *ℤ_comm, pos-*ℤ-pos, ints, by_lt_z}
+use Rattle.std.proofs.Math.IntN.{ℤ, pos, ◌+ℤ◌, ◌*ℤ◌}
 use Rattle.std.specs.Int.Signed.{◌<ℤ◌, ◌≤ℤ◌}
-use Rattle.std.proofs.lemmas.Int.{ints, by_lt_z}
-use Rattle.net_core.specs.declared.columns.RouteColumn.{RouteColumn}
-use Rattle.net_core.specs.declared.columns.RouteColumn.TheVariants.{Carry}
-use Rattle.net_core.specs.declared.demand.Demand.{Demand}
-use Rattle.net_core.specs.declared.ids.LinkId.{LinkId}
-use Rattle.net_core.specs.declared.plan.Caps.{Caps}
-use Rattle.net_core.specs.Graphs.{Graph, Joins}
-use Rattle.plan_terms.specs.Keeping.{AreZero}
-use Rattle.plan_terms.specs.Paths.{Leads, length_of}
-use Rattle.simplex_law.specs.Sums.{int_sum, dot}
-use Rattle.simplex_law.specs.Programs.{ColumnOf}
-use Rattle.simplex_law.specs.Bases.{IsBest}
-use Rattle.simplex_law.proofs.Arithmetic.{le_times}
-use Rattle.simplex_law.proofs.Sums.{sum-le, sum-none, sum-times, sum-split}
+use Rattle.plan_terms.specs.Terms.{RouteColumn, Carry, Demand, LinkId, Caps, Graph, Joins, AreZero, Leads, length_of}
+use Rattle.simplex_law.specs.Terms.{int_sum, dot, ColumnOf, IsBest}
+use Rattle.simplex_law.proofs.Lemmas.{le_times, sum-le, sum-none, sum-times, sum-split}
 use Rattle.route_law.specs.Routings.{AreJoined}
 use Rattle.route_law.specs.RoutingPrograms.{scaled_need, total_scaled_need, path_entry, IsCarrying, route_rows, route_bound, IsRouteColumn}
 use Rattle.route_law.proofs.PathPrices.{path_price}

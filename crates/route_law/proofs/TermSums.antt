@@ -2,11 +2,10 @@
 use Rattle.std.proofs.Common.{◌≡◌, ℕ, zero, suc, ◌<◌, cond, sym, subst, arith, ◌∙◌, ⊎_elim}
 use Rattle.std.proofs.Math.IntN.{ℤ, pos, ◌+ℤ◌, ◌-ℤ◌, ◌*ℤ◌}
 use Rattle.std.specs.Int.Signed.{◌≤ℤ◌}
-use Rattle.std.proofs.lemmas.Int.{ints}
-use Rattle.std.proofs.lemmas.Bool.{cases_eq, eq-eqb, ne_eqb}
-use Rattle.simplex_law.specs.Sums.{int_sum, dot, unit_vector, put}
-use Rattle.simplex_law.proofs.Arithmetic.{distribute_left, distribute_minus}
-use Rattle.simplex_law.proofs.Sums.{sum-same, sum-plus, sum-minus, sum-le, sum-none, sum-put, sum-unit}
+use Rattle.net_core.proofs.Library.{ints, cases_eq}
+use Rattle.std.proofs.lemmas.Bool.{eq-eqb, ne_eqb}
+use Rattle.simplex_law.specs.Terms.{int_sum, dot, unit_vector, put}
+use Rattle.simplex_law.proofs.Lemmas.{distribute_left, distribute_minus, sum-same, sum-plus, sum-minus, sum-le, sum-none, sum-put, sum-unit}
 
 -- a row times a column with two ones
 pub dot-pair : (m i l : ℕ) (u : ℕ → ℤ) → i < m → l < m → dot m u (λ k. unit_vector i k +ℤ unit_vector l k) ≡ u i +ℤ u l

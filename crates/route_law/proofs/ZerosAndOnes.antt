@@ -1,38 +1,14 @@
 -- each vector of zeros and ones with a one is priced: two nodes, a link for each number, and one demand
 use Rattle.std.proofs.Common.{◌≡◌, ◌≢◌, ℕ, zero, suc, ◌+◌, ◌-◌, ◌*◌, ◌<◌, ◌≤◌, ◌^◌, List, [], ◌∷◌, All, Some, true, false, ◌||◌, cond, eqb, length, map, get_or, slice_get, slice_index, refl, sym, ap, ◌∙◌, arith, subst, inl, inr, ⊎_elim}
-use Rattle.std.specs.List.{range_with_len}
-use Rattle.std.proofs.Math.IntN.{ℤ, pos, ◌+ℤ◌, ◌-ℤ◌, ◌*ℤ◌, zero-*ℤ}
-use Rattle.std.proofs.Math.Nat.{eq-one_of_dvd-one}
+use Rattle.net_core.proofs.Library.{range_with_len, zero-*ℤ, eq-one_of_dvd-one, ◌∣◌, ints, cases_eq, cases_lt, get_or_past, All-get_or, All-from_get_or, All-from_recursion, length-map-range_with_len, get_or-map-range_with_len, sum_by-cons, slice_get_within, slice_get-get_or, get_or_from_slice_get}
+use Rattle.std.proofs.Math.IntN.{ℤ, pos, ◌+ℤ◌, ◌-ℤ◌, ◌*ℤ◌}
 use Rattle.std.specs.Int.Signed.{◌<ℤ◌, ◌≤ℤ◌}
-use Rattle.std.specs.Int.{◌∣◌}
-use Rattle.std.proofs.lemmas.Int.{ints}
-use Rattle.std.proofs.lemmas.Bool.{cases_eq, cases_lt, eq-eqb, ne_eqb}
-use Rattle.std.proofs.lemmas.List.{get_or_past}
-use Rattle.std.proofs.lemmas.List.Elements.{All-get_or, All-from_get_or, All-from_recursion}
-use Rattle.std.proofs.lemmas.List.FromFn.{length-map-range_with_len, get_or-map-range_with_len}
+use Rattle.std.proofs.lemmas.Bool.{eq-eqb, ne_eqb}
 use Rattle.std.proofs.lemmas.List.Kept.{AllPairs-cons}
-use Rattle.std.proofs.lemmas.List.Sums.{sum_by-cons}
-use Rattle.std.proofs.lemmas.Option.{slice_get_within, slice_get-get_or, get_or_from_slice_get}
-use Rattle.net_core.specs.declared.columns.RouteColumn.{RouteColumn}
-use Rattle.net_core.specs.declared.columns.RouteColumn.TheVariants.{Carry}
-use Rattle.net_core.specs.declared.demand.Demand.{Demand}
-use Rattle.net_core.specs.declared.ids.LinkId.{LinkId}
-use Rattle.net_core.specs.declared.network.Link.{Link}
-use Rattle.net_core.specs.declared.network.Module.{Module}
-use Rattle.net_core.specs.declared.plan.Caps.{Caps}
-use Rattle.net_core.specs.Demands.{AreDemands, IsDemand}
-use Rattle.net_core.specs.Graphs.{Graph, Joins}
-use Rattle.net_core.specs.Network.{IsNetwork, IsLink, IsModule}
-use Rattle.net_core.specs.States.{names_link}
+use Rattle.plan_terms.specs.Terms.{RouteColumn, Carry, Demand, LinkId, Link, Module, Caps, AreDemands, IsDemand, Graph, Joins, IsNetwork, IsLink, IsModule, names_link, IsPath, Leads, last_node}
 use Rattle.net_core.proofs.Checks.{no_pairs}
-use Rattle.plan_terms.specs.Paths.{IsPath, Leads, last_node}
-use Rattle.simplex_law.specs.Sums.{dot, unit_vector}
-use Rattle.simplex_law.specs.Programs.{ColumnOf, slack_basis}
-use Rattle.simplex_law.specs.Bases.{IsBest, IsFeasible}
-use Rattle.simplex_law.proofs.Arithmetic.{times_nonneg}
-use Rattle.simplex_law.proofs.Optimal.{none_gains}
-use Rattle.simplex_law.proofs.Reached.{slack_is}
-use Rattle.simplex_law.proofs.Sums.{unit-same, unit-other, dot-unit, dot-of-unit}
+use Rattle.simplex_law.specs.Terms.{dot, unit_vector, ColumnOf, slack_basis, IsBest, IsFeasible}
+use Rattle.simplex_law.proofs.Lemmas.{times_nonneg, none_gains, slack_is, unit-same, unit-other, dot-unit, dot-of-unit}
 use Rattle.route_law.specs.Laws.{ZerosAndOnesArePriced}
 use Rattle.route_law.specs.PricedLengths.{ArePricedLengths, ArePricedSomewhere}
 use Rattle.route_law.specs.RoutingPrograms.{scaled_need, path_entry, IsCarrying, route_rows, route_bound, route_slack, IsRouteColumn}

@@ -1,12 +1,7 @@
 -- the flows of a basis of the routing program
 use Rattle.std.specs.Prelude.{◌≡◌, ◌==◌, ℕ, List, Bool, false, cond}
-use Rattle.net_core.specs.declared.columns.RouteColumn.{RouteColumn}
-use Rattle.net_core.specs.declared.columns.RouteColumn.TheVariants.{LinkSlack, DemandSlack, Carry}
-use Rattle.net_core.specs.declared.plan.Flow.{Flow}
-use Rattle.net_core.specs.States.{names_link}
-use Rattle.net_core.specs.Sums.{sum_below}
-use Rattle.plan_terms.specs.Flows.{sent, load}
-use Rattle.simplex_law.specs.Programs.{ColumnOf}
+use Rattle.plan_terms.specs.Terms.{RouteColumn, LinkSlack, DemandSlack, Carry, Flow, names_link, sum_below, sent, load}
+use Rattle.simplex_law.specs.Terms.{ColumnOf}
 
 -- the column carries demand k
 abbrev pub is_of_demand : RouteColumn → ℕ → Bool

@@ -1,18 +1,7 @@
 -- what routing in a state rests on
 use Rattle.std.specs.Prelude.{◌≡◌, ℕ, ℤ, ◌*◌, ◌*ℤ◌, ◌≤ℤ◌, ◌<ℤ◌, ◌≤◌, List, All, pos, length, slice_index}
-use Rattle.net_core.specs.declared.columns.RouteColumn.{RouteColumn}
-use Rattle.net_core.specs.declared.demand.Demand.{Demand}
-use Rattle.net_core.specs.declared.plan.Caps.{Caps}
-use Rattle.net_core.specs.declared.plan.CutLine.{CutLine}
-use Rattle.net_core.specs.declared.plan.Routing.{Routing}
-use Rattle.net_core.specs.Graphs.{Graph, Joins}
-use Rattle.plan_terms.specs.Certificates.{AreKept, IsRight}
-use Rattle.plan_terms.specs.Flows.{IsFlow, Carries}
-use Rattle.plan_terms.specs.Keeping.{Keeps}
-use Rattle.plan_terms.specs.Violations.{Violates}
-use Rattle.simplex_law.specs.Sums.{int_sum, dot}
-use Rattle.simplex_law.specs.Programs.{ColumnOf}
-use Rattle.simplex_law.specs.Optima.{IsOptimum}
+use Rattle.plan_terms.specs.Terms.{RouteColumn, Demand, Caps, CutLine, Routing, Graph, Joins, AreKept, IsRight, IsFlow, Carries, Keeps, Violates}
+use Rattle.simplex_law.specs.Terms.{int_sum, dot, ColumnOf, IsOptimum}
 use Rattle.route_law.specs.BasisFlows.{AreFlowsOf}
 use Rattle.route_law.specs.PricedLengths.{ArePricedLengths, ArePricedSomewhere}
 use Rattle.route_law.specs.Routings.{AreJoined}

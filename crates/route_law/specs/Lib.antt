@@ -5,3 +5,4 @@ pub mod PricedLengths
 pub mod RouteEvidence
 pub mod Routings
 pub mod RoutingPrograms
+pub mod Terms

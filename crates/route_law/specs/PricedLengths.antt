@@ -1,15 +1,8 @@
 -- lengths that are the link prices at an optimum of a routing program
 use Rattle.std.specs.Prelude.{◌≡◌, ℕ, ℤ, ◌*◌, ◌^◌, ◌<◌, ◌≤◌, List, All, pos, length, slice_index}
 use Rattle.std.specs.Int.{◌∣◌}
-use Rattle.net_core.specs.declared.columns.RouteColumn.{RouteColumn}
-use Rattle.net_core.specs.declared.demand.Demand.{Demand}
-use Rattle.net_core.specs.declared.plan.Caps.{Caps}
-use Rattle.net_core.specs.Demands.{AreDemands}
-use Rattle.net_core.specs.Graphs.{Graph}
-use Rattle.net_core.specs.Network.{IsNetwork}
-use Rattle.net_core.specs.States.{AreStates}
-use Rattle.simplex_law.specs.Programs.{ColumnOf}
-use Rattle.simplex_law.specs.Bases.{IsBest}
+use Rattle.plan_terms.specs.Terms.{RouteColumn, Demand, Caps, AreDemands, Graph, IsNetwork, AreStates}
+use Rattle.simplex_law.specs.Terms.{ColumnOf, IsBest}
 use Rattle.route_law.specs.RoutingPrograms.{route_rows, route_bound, IsRouteColumn}
 
 -- the prices of n links as whole numbers without a common divisor above 1, so that they aren't all 0

@@ -1,15 +1,7 @@
 -- evidence that a number of a routing program is too wide
 use Rattle.std.specs.Prelude.{ℕ, ℤ, ◌^◌, ◌≤◌, ◌*ℤ◌, ◌<ℤ◌, List, pos, length, slice_index}
-use Rattle.net_core.specs.declared.columns.RouteColumn.{RouteColumn}
-use Rattle.net_core.specs.declared.columns.WideKind.{WideKind}
-use Rattle.net_core.specs.declared.columns.WideKind.TheVariants.{Length}
-use Rattle.net_core.specs.declared.demand.Demand.{Demand}
-use Rattle.net_core.specs.declared.plan.Caps.{Caps}
-use Rattle.net_core.specs.Graphs.{Graph}
-use Rattle.simplex_law.specs.Sums.{dot}
-use Rattle.simplex_law.specs.Programs.{ColumnOf}
-use Rattle.simplex_law.specs.Bases.{IsBest}
-use Rattle.simplex_law.specs.Evidence.{HoldsKind, IsReachedEvidence}
+use Rattle.plan_terms.specs.Terms.{RouteColumn, WideKind, Length, Demand, Caps, Graph}
+use Rattle.simplex_law.specs.Terms.{dot, ColumnOf, IsBest, HoldsKind, IsReachedEvidence}
 use Rattle.route_law.specs.PricedLengths.{AreLinkPrices}
 use Rattle.route_law.specs.RoutingPrograms.{total_scaled_need, route_rows, route_bound, route_slack, IsRouteColumn}
 

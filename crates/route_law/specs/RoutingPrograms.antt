@@ -1,16 +1,7 @@
 -- the program that routes the demands of a state: the greatest flow over all paths (maximum multicommodity flow, in path columns)
 use Rattle.std.specs.Prelude.{◌≡◌, ℕ, ℤ, ◌+◌, ◌-◌, ◌*◌, ◌<◌, List, Some, pos, cond, nat_lt, length, map, slice_get, slice_index}
-use Rattle.net_core.specs.declared.columns.RouteColumn.{RouteColumn}
-use Rattle.net_core.specs.declared.columns.RouteColumn.TheVariants.{LinkSlack, DemandSlack, Carry}
-use Rattle.net_core.specs.declared.demand.Demand.{Demand}
-use Rattle.net_core.specs.declared.ids.LinkId.{LinkId}
-use Rattle.net_core.specs.declared.plan.Caps.{Caps}
-use Rattle.net_core.specs.Graphs.{Graph, Joins}
-use Rattle.net_core.specs.States.{names_link}
-use Rattle.net_core.specs.Sums.{sum_below}
-use Rattle.plan_terms.specs.Paths.{IsPath}
-use Rattle.simplex_law.specs.Sums.{unit_vector}
-use Rattle.simplex_law.specs.Programs.{ColumnOf, IsProgramColumn}
+use Rattle.plan_terms.specs.Terms.{RouteColumn, LinkSlack, DemandSlack, Carry, Demand, LinkId, Caps, Graph, Joins, names_link, sum_below, IsPath}
+use Rattle.simplex_law.specs.Terms.{unit_vector, ColumnOf, IsProgramColumn}
 
 -- f for the first n rows, and g for those after them
 abbrev pub beside : {X : Type 0} → ℕ → (ℕ → X) → (ℕ → X) → ℕ → X

@@ -1,11 +1,7 @@
 -- routings in lowest terms, and demands that some path carries
 use Rattle.std.specs.Prelude.{◌≡◌, ℕ, ◌*◌, ◌<◌, List, All, Some, map, slice_get}
 use Rattle.std.specs.Int.{◌∣◌}
-use Rattle.net_core.specs.declared.demand.Demand.{Demand}
-use Rattle.net_core.specs.declared.plan.Flow.{Flow}
-use Rattle.net_core.specs.declared.plan.Routing.{Routing}
-use Rattle.net_core.specs.Graphs.{Graph, Joins}
-use Rattle.plan_terms.specs.Paths.{AreApart}
+use Rattle.plan_terms.specs.Terms.{Demand, Flow, Routing, Graph, Joins, AreApart}
 
 -- 1 alone divides the denominator and each numerator
 abbrev pub IsLowestRouting : Routing → Type 0

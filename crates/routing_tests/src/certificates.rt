@@ -1,6 +1,6 @@
 ghost use Rattle.std.specs.Prelude.{◌<◌, ◌≤◌, ◌^◌, All, AllPairs, IfSome, IsTrue, length};
 ghost use Rattle.metric_cut.specs.Bounded.{HaveBound};
-ghost use Rattle.master_law.specs.MasterPrograms.{IsSameCut};
+ghost use Rattle.master_law.specs.Terms.{IsSameCut};
 
 use crate::fixtures::{THREE_LINKS, TRIANGLE, with_single_failures};
 use master_bound::{Best, MasterFault, best_own, master};

@@ -1,6 +1,5 @@
 ghost use Rattle.std.specs.Prelude.{IsTrue};
-ghost use Rattle.net_core.specs.Views.{case};
-ghost use Rattle.plan_terms.specs.Separations.{IsSurvivable};
+ghost use Rattle.plan_terms.specs.Terms.{case, IsSurvivable};
 
 use failure_states::first_separated;
 use net_core::Problem;

@@ -1,6 +1,6 @@
 ghost use Rattle.std.specs.Prelude.{◌≡◌, ◌<◌, ◌+◌, IsTrue, length};
-ghost use Rattle.net_core.specs.Views.{graph};
-ghost use Rattle.route_law.specs.Routings.{AreJoined};
+ghost use Rattle.plan_terms.specs.Terms.{graph};
+ghost use Rattle.route_law.specs.Terms.{AreJoined};
 
 use crate::fixtures::{NARROW, TRIANGLE, is_survivable, with_single_failures};
 use flow_router::{RouteAnswer, route_state, route_task};

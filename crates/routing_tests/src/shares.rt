@@ -1,7 +1,5 @@
 ghost use Rattle.std.specs.Prelude.{◌≡◌, ◌<◌, IfSome, length};
-ghost use Rattle.net_core.specs.Views.{case};
-ghost use Rattle.plan_terms.specs.Capacities.{AreCounts};
-ghost use Rattle.plan_terms.specs.Separations.{IsSurvivable};
+ghost use Rattle.plan_terms.specs.Terms.{case, AreCounts, IsSurvivable};
 
 use crate::fixtures::{THREE_LINKS, TRIANGLE, is_survivable, with_single_failures};
 use module_choice::fallback_plan;

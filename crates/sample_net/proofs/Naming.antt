@@ -1,11 +1,10 @@
 -- a letter and a number make a name
-use Rattle.std.proofs.Common.{◌≡◌, ◌≢◌, ℕ, ◌≤◌, ◌<◌, ◌^◌, ◌==◌, drop, true, false, not, arith, ap, refl}
-use Rattle.std.specs.Prelude.{decimal}
-use Rattle.std.specs.List.{list_all}
-use Rattle.std.proofs.lemmas.Bool.{ne_eqb, and_parts}
-use Rattle.std.proofs.lemmas.Fmt.{decimal_injective, length-decimal-le}
-use Rattle.net_core.specs.Names.{IsName, begins_comment, is_word_byte}
-use Rattle.text_kit.proofs.Numerals.{decimal_plain}
+use Rattle.std.proofs.Common.{◌≡◌, ◌≢◌, ℕ, ◌≤◌, ◌<◌, ◌^◌, ◌==◌, drop, true, false, not, arith, ap, refl, decimal}
+use Rattle.net_core.proofs.Library.{list_all, and_parts, length-decimal-le}
+use Rattle.std.proofs.lemmas.Bool.{ne_eqb}
+use Rattle.std.proofs.lemmas.Fmt.{decimal_injective}
+use Rattle.plan_terms.specs.Terms.{IsName, begins_comment, is_word_byte}
+use Rattle.text_kit.proofs.Lemmas.{decimal_plain}
 use Rattle.sample_net.specs.Samples.{numbered}
 
 -- a letter is a byte of a word, and begins no comment

@@ -1,11 +1,7 @@
 -- all pairs of nodes: how they grow row by row, how many there are, and that they are pairs of nodes
-use Rattle.std.proofs.Common.{◌≡◌, ℕ, zero, suc, ◌+◌, ◌-◌, ◌*◌, ◌/◌, ◌≤◌, ◌<◌, List, [], ◌∷◌, ◌++◌, map, length, All, arith, ap, refl, sym, subst, ◌∙◌, append-nil, append_assoc, length-append}
-use Rattle.std.specs.Prelude.{flat_map}
-use Rattle.std.specs.List.{range_with_len}
+use Rattle.std.proofs.Common.{◌≡◌, ℕ, zero, suc, ◌+◌, ◌-◌, ◌*◌, ◌/◌, ◌≤◌, ◌<◌, List, [], ◌∷◌, ◌++◌, map, length, All, arith, ap, refl, sym, subst, ◌∙◌, append-nil, append_assoc, length-append, flat_map}
+use Rattle.net_core.proofs.Library.{range_with_len, All-append, All-nil, length-map-range_with_len, map-range_with_len_more, mul-le}
 use Rattle.std.proofs.lemmas.List.Concat.{flat_map-append}
-use Rattle.std.proofs.lemmas.List.Elements.{All-append, All-nil}
-use Rattle.std.proofs.lemmas.List.FromFn.{length-map-range_with_len, map-range_with_len_more}
-use Rattle.std.proofs.lemmas.Nat.{mul-le}
 use Rattle.sample_net.specs.Samples.{pairs_of, sample_pairs}
 use Rattle.sample_net.proofs.Sequence.{all_made}
 

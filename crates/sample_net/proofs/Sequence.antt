@@ -1,8 +1,6 @@
 -- draws that follow other draws, and lists that are made place by place
 use Rattle.std.proofs.Common.{◌≡◌, ℕ, zero, suc, ◌+◌, ◌/◌, ◌^◌, ◌<◌, List, [], ◌∷◌, ◌++◌, map, get_or, All, AllPairs, arith, ap, refl, sym, subst, ◌∙◌}
-use Rattle.std.specs.List.{range_with_len}
-use Rattle.std.proofs.lemmas.List.FromFn.{get_or-map-range_with_len, length-map-range_with_len, map-range_with_len_more}
-use Rattle.std.proofs.lemmas.Nat.{mod_below}
+use Rattle.net_core.proofs.Library.{range_with_len, get_or-map-range_with_len, length-map-range_with_len, map-range_with_len_more, mod_below}
 use Rattle.sample_net.specs.Draws.{drawn, next_number, nth_draw, nth_number}
 
 -- one step more

@@ -1,16 +1,9 @@
 -- samples are networks, and their demands belong to them
 use Rattle.std.proofs.Common.{◌≡◌, ◌≢◌, ℕ, zero, suc, ◌+◌, ◌-◌, ◌*◌, ◌/◌, ◌%◌, ◌≤◌, ◌<◌, ◌==◌, not, false, ◌⊎◌, inl, inr, ⊎_elim, List, [], ◌∷◌, map, length, get_or, All, arith, ap, refl, sym, subst, ◌∙◌, length-append}
-use Rattle.std.specs.List.{list_any, range_with_len}
-use Rattle.std.proofs.lemmas.List.Elements.{All-append, All-cons, All-nil}
-use Rattle.std.proofs.lemmas.List.Folds.{list_any_none}
-use Rattle.std.proofs.lemmas.List.FromFn.{length-map-range_with_len}
+use Rattle.net_core.proofs.Library.{list_any, range_with_len, All-append, All-cons, All-nil, list_any_none, length-map-range_with_len, mod_below}
 use Rattle.std.proofs.lemmas.List.Sums.{sum_by-le}
-use Rattle.std.proofs.lemmas.Nat.{div-add-mod', mod_below}
-use Rattle.net_core.specs.Demands.{AreDemands, IsDemand}
-use Rattle.net_core.specs.Network.{IsLink, IsModule, IsNetwork}
-use Rattle.net_core.specs.declared.demand.Demand.{Demand}
-use Rattle.net_core.specs.declared.network.Link.{Link}
-use Rattle.net_core.specs.declared.network.Module.{Module}
+use Rattle.std.proofs.lemmas.Nat.{div-add-mod'}
+use Rattle.plan_terms.specs.Terms.{AreDemands, IsDemand, IsLink, IsModule, IsNetwork, Demand, Link, Module}
 use Rattle.sample_net.specs.Draws.{nth_draw, nth_number}
 use Rattle.sample_net.specs.Samples.{chord_count, chord_ends, demands_between, link_count, links_between, numbered, ring_ends, sample_demand, sample_ends, sample_link, sample_links, sample_modules, sample_nodes, sample_pairs}
 use Rattle.sample_net.proofs.Naming.{numbered_differ}

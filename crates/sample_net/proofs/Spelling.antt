@@ -1,32 +1,15 @@
 -- The text of a network spells it.
-use Rattle.std.proofs.Common.{◌≡◌, ℕ, ◌<◌, ◌^◌, ◌==◌, ◌||◌, inl, not, Bool, false, List, [], ◌∷◌, ◌++◌, All, map, length, Ok, refl, sym, ap, subst, ◌∙◌, arith, append-nil}
-use Rattle.std.specs.Prelude.{flat_map, codes}
-use Rattle.std.specs.List.{AllByRecursion, list_any}
-use Rattle.std.proofs.Math.Logic.{∥∥₁_elim}
-use Rattle.std.proofs.Props.{props}
-use Rattle.std.proofs.lemmas.List.Elements.{All-from_recursion, All-head, All-tail}
-use Rattle.snd_tokens.specs.Amounts.{amount_of, units_of}
-use Rattle.net_core.specs.Demands.{AreDemands, IsDemand}
-use Rattle.net_core.specs.Network.{IsNetwork}
-use Rattle.net_core.specs.declared.demand.Demand.{Demand}
-use Rattle.net_core.specs.declared.network.Link.{Link}
-use Rattle.net_core.specs.declared.network.Network.{Network}
-use Rattle.net_core.specs.declared.network.Notes.{Notes}
-use Rattle.net_core.specs.declared.places.Places.{Places}
-use Rattle.net_core.specs.declared.places.Places.TheVariants.{Three}
-use Rattle.text_kit.specs.Files.{IsFileOf, SpellsBy}
-use Rattle.text_kit.specs.Items.{ComeAfter, AreSpelled, Item, Verbatim, Closing}
-use Rattle.text_kit.specs.Written.{AddsItems, IsShortItem, money_word}
-use Rattle.text_kit.proofs.Adding.{writable}
-use Rattle.text_kit.proofs.Amounts.{amount_again, number_takes}
-use Rattle.text_kit.proofs.Files.{written_is_read}
-use Rattle.text_kit.proofs.Numerals.{money_again}
+use Rattle.std.proofs.Common.{◌≡◌, ℕ, ◌<◌, ◌^◌, ◌==◌, ◌||◌, inl, not, Bool, false, List, [], ◌∷◌, ◌++◌, All, map, length, Ok, refl, sym, ap, subst, ◌∙◌, arith, append-nil, flat_map, codes}
+use Rattle.net_core.proofs.Library.{AllByRecursion, list_any, ∥∥₁_elim, props, All-from_recursion, All-head, All-tail}
+use Rattle.snd_tokens.specs.Terms.{amount_of, units_of}
+use Rattle.plan_terms.specs.Terms.{AreDemands, IsDemand, IsNetwork, Demand, Link, Network, Notes, Places, Three}
+use Rattle.text_kit.specs.Terms.{IsFileOf, SpellsBy, ComeAfter, AreSpelled, Item, Verbatim, Closing, AddsItems, IsShortItem, money_word, section}
+use Rattle.text_kit.proofs.Lemmas.{writable, amount_again, number_takes, written_is_read, money_again}
 use Rattle.sndlib_reader.specs.NetworkFiles.{IsReadWith, Spells}
 use Rattle.sndlib_reader.proofs.ItsPlaces.{three_spelled}
 use Rattle.sndlib_reader.specs.Spelling.{IsPartAfter, IsShortLink, NodeName, NodePart, SpellsDemand, SpellsPart, SpellsParts, header, link_items, notes_of, parts_of}
 use Rattle.sample_net.specs.Texts.{HasWritableNotes, costless, costless_items, network_items, unit_demand_items}
 use Rattle.sndlib_reader.proofs.Nodes.{all_names}
-use Rattle.text_kit.specs.Edits.{section}
 
 -- what is told of a network's check is so
 network_told : (nodes : List (List ℕ)) (links : List Link) → ∥ IsNetwork nodes links ∥₁ → IsNetwork nodes links

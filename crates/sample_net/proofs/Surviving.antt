@@ -1,17 +1,9 @@
 -- samples are survivable: a ring without one of its links leads from each node to each other
 use Rattle.std.proofs.Common.{◌≡◌, ◌≢◌, ℕ, zero, suc, ◌+◌, ◌*◌, ◌%◌, ◌<◌, List, [], ◌∷◌, map, length, get_or, All, Some, false, slice_get, inl, arith, ap, refl, subst, ◌∙◌}
-use Rattle.std.specs.List.{range_with_len}
+use Rattle.net_core.proofs.Library.{range_with_len, get_or_append_left, get_or-map-range_with_len, length-map-range_with_len, get_or_from_slice_get, slice_get-get_or, slice_get_within}
 use Rattle.std.proofs.lemmas.Bool.{ne_eqb}
-use Rattle.std.proofs.lemmas.List.{get_or_append_left}
-use Rattle.std.proofs.lemmas.List.FromFn.{get_or-map-range_with_len, length-map-range_with_len}
-use Rattle.std.proofs.lemmas.Option.{get_or_from_slice_get, slice_get-get_or, slice_get_within}
-use Rattle.net_core.specs.Cases.{graph_in}
-use Rattle.net_core.specs.Graphs.{Joins}
-use Rattle.net_core.specs.States.{fails}
-use Rattle.net_core.specs.declared.demand.Demand.{Demand}
-use Rattle.net_core.specs.declared.network.Link.{Link}
-use Rattle.plan_terms.specs.Separations.{IsSurvivable}
-use Rattle.plan_terms.proofs.Joining.{joins_turned}
+use Rattle.plan_terms.specs.Terms.{graph_in, Joins, fails, Demand, Link, IsSurvivable}
+use Rattle.plan_terms.proofs.Lemmas.{joins_turned}
 use Rattle.model_reader.specs.Failures.{single_states, singles_from}
 use Rattle.sample_net.specs.Draws.{nth_draw, nth_number}
 use Rattle.sample_net.specs.Samples.{chord_count, chord_ends, demands_between, ring_ends, sample_demand, sample_ends, sample_link, sample_links, sample_pairs, with_single_failures}

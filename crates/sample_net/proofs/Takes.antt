@@ -1,7 +1,6 @@
 -- what a link and a demand take from the sequence
 use Rattle.std.proofs.Common.{◌≡◌, ℕ, ◌+◌, ◌*◌, arith, ap, ◌∙◌}
-use Rattle.net_core.specs.declared.demand.Demand.{Demand}
-use Rattle.net_core.specs.declared.network.Link.{Link}
+use Rattle.plan_terms.specs.Terms.{Demand, Link}
 use Rattle.sample_net.specs.Draws.{nth_draw, nth_number}
 use Rattle.sample_net.specs.Samples.{sample_demand, sample_link}
 use Rattle.sample_net.proofs.Sequence.{draw_later, steps_add}

@@ -1,12 +1,7 @@
 -- the sample network of a seed with n nodes: first come the draws of the chords, then those of the modules, then those of the needs
 use Rattle.std.specs.Prelude.{ℕ, ◌+◌, ◌-◌, ◌*◌, ◌/◌, ◌%◌, List, [], ◌∷◌, ◌++◌, false, flat_map, length, map, slice_index_or, decimal}
 use Rattle.std.specs.List.{range_with_len}
-use Rattle.net_core.specs.Cases.{Case}
-use Rattle.net_core.specs.declared.demand.Demand.{Demand}
-use Rattle.net_core.specs.declared.network.Link.{Link}
-use Rattle.net_core.specs.declared.network.Module.{Module}
-use Rattle.net_core.specs.declared.network.Notes.{Notes}
-use Rattle.net_core.specs.declared.places.Places.TheVariants.{Three}
+use Rattle.plan_terms.specs.Terms.{Case, Demand, Link, Module, Notes, Three}
 use Rattle.model_reader.specs.Failures.{single_states}
 use Rattle.sample_net.specs.Draws.{nth_draw, nth_number}
 

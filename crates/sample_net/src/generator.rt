@@ -1,7 +1,5 @@
 ghost use Rattle.std.specs.Prelude.{◌≡◌, ◌≤◌, ◌+◌, ◌-◌, ◌*◌, ◌/◌, IfOk, OnOk, length};
-ghost use Rattle.net_core.specs.Demands.{AreDemands};
-ghost use Rattle.net_core.specs.Network.{IsNetwork};
-ghost use Rattle.plan_terms.specs.Separations.{IsSurvivable};
+ghost use Rattle.plan_terms.specs.Terms.{AreDemands, IsNetwork, IsSurvivable};
 ghost use Rattle.sample_net.specs.Draws.{nth_number};
 ghost use Rattle.sample_net.specs.Samples.{chord_count, demands_between, link_count, no_notes, sample_demands, sample_links, sample_nodes, sample_pairs, with_single_failures};
 ghost use Rattle.sample_net.specs.Texts.{HasWritableNotes};

@@ -1,5 +1,5 @@
 ghost use Rattle.std.specs.Prelude.{◌≡◌, ◌≤◌, IfOk};
-ghost use Rattle.net_core.specs.Names.{IsName};
+ghost use Rattle.plan_terms.specs.Terms.{IsName};
 ghost use Rattle.sample_net.specs.Samples.{numbered};
 
 use net_core::{List, Name, NameFault, NoMemory};

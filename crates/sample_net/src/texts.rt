@@ -1,13 +1,10 @@
 ghost use Rattle.std.specs.Prelude.{◌≡◌, ◌<◌, ◌==◌, ◌↔◌, ◌∷◌, ◌++◌, [], All, IfOk, IsTrue, OnOk, codes, flat_map, length, not};
 ghost use Rattle.std.specs.List.{list_any};
-ghost use Rattle.net_core.specs.Demands.{AreDemands, IsDemand};
-ghost use Rattle.net_core.specs.Network.{IsLink};
-ghost use Rattle.text_kit.specs.Items.{Verbatim};
+ghost use Rattle.plan_terms.specs.Terms.{AreDemands, IsDemand, IsLink};
+ghost use Rattle.text_kit.specs.Terms.{Verbatim, AddsItems, section};
 ghost use Rattle.sndlib_reader.specs.Spelling.{node_pair_items, module_items};
 ghost use Rattle.sndlib_reader.specs.NetworkFiles.{Spells};
 ghost use Rattle.sample_net.specs.Texts.{HasWritableNotes, costless_items, network_items, network_text, unit_demand_items};
-ghost use Rattle.text_kit.specs.Written.{AddsItems};
-ghost use Rattle.text_kit.specs.Edits.{section};
 
 use net_core::{Bytes, Demand, Demands, Link, Module, Name, Network, NoMemory, NodeId, Places};
 use std::alloc::Global;

@@ -2,17 +2,14 @@
 use denote.RattleType.{RattleType}
 use denote.Struct.Tuple.{Tuple}
 use Rattle.std.proofs.Common.{◌≡◌, [], ◌∷◌, List, Option, Some, IfSome, subst}
-use Rattle.std.proofs.Math.Logic.{∥∥₁_elim}
-use Rattle.std.specs.Coded.{Coded-set, coded_option, ×_prop}
+use Rattle.net_core.proofs.Library.{∥∥₁_elim, Coded-set}
+use Rattle.std.specs.Coded.{coded_option, ×_prop}
 use Rattle.atomic_table.specs.Seated.{table_id_coded}
 use Rattle.net_core.specs.contracts.demand.Demand as demand
 use Rattle.net_core.specs.contracts.list.List as list
 use Rattle.net_core.specs.contracts.network.Network as network
 use Rattle.net_core.specs.contracts.states.States as states
-use Rattle.net_core.specs.declared.demand.Demand.{Demand}
-use Rattle.net_core.specs.declared.journal.Entry.{Entry}
-use Rattle.net_core.specs.declared.network.Network.{Network}
-use Rattle.net_core.specs.declared.states.States.{States}
+use Rattle.plan_terms.specs.Terms.{Demand, Entry, Network, States}
 use Rattle.cut_pool.specs.contracts.board.BoardChronicle.TheImpl.{ghosts}
 use Rattle.cut_pool.specs.declared.board.Board.{Board}
 use Rattle.turn_lock.specs.declared.desk.Desk.{Desk}

@@ -1,19 +1,15 @@
 -- what a turn does in which a cut is put into the pool
 use Rattle.std.proofs.Common.{◌≡◌, ◌∙◌, ℕ, ◌-◌, ◌⊎◌, inl, inr, ⊎_elim, List, [], ◌∷◌, ◌++◌, All, length, refl, sym, ap, subst, arith}
-use Rattle.std.specs.List.{range_with_len}
+use Rattle.net_core.proofs.Library.{range_with_len, All-nil, All-push, front_rest}
 use Rattle.std.proofs.lemmas.List.{append-nil, append_assoc, length-append}
-use Rattle.std.proofs.lemmas.List.Elements.{All-nil, All-push}
-use Rattle.std.proofs.lemmas.List.Prefix.{front_rest}
-use Rattle.net_core.specs.declared.journal.Entry.{Entry}
-use Rattle.net_core.specs.declared.journal.Entry.TheVariants.{Pooled}
+use Rattle.plan_terms.specs.Terms.{Entry, Pooled}
 use Rattle.metric_cut.specs.declared.cut.Cut.{Cut}
 use Rattle.plan_types.specs.declared.certificate.Spot.{Spot}
 use Rattle.plan_types.specs.declared.certificate.Spot.TheVariants.{Pool, Local}
 use Rattle.cut_pool.specs.declared.answers.AdmitAnswer.{AdmitAnswer}
 use Rattle.cut_pool.specs.declared.answers.AdmitAnswer.TheVariants.{Admitted, Known, PoolFull, Full, NoMemory}
 use Rattle.cut_pool.specs.declared.board.Board.{Board}
-use Rattle.cut_pool.specs.Boards.{AnswersAdmit, IsSameBoard, origin_of}
-use Rattle.cut_pool.specs.Histories.{cuts_of}
+use Rattle.cut_pool.specs.Terms.{AnswersAdmit, IsSameBoard, origin_of, cuts_of}
 use Rattle.turn_lock.specs.Passes.{items_at, own_items, own_places, seen_by}
 use Rattle.board_desk.specs.declared.caller.Caller.{Caller}
 use Rattle.board_desk.specs.Turns.{AdmitsInTurn, AreAtOneDesk, HasTurn}

@@ -1,9 +1,9 @@
 -- histories that callers have seen
 use Rattle.std.proofs.Common.{◌≡◌, ◌∙◌, List, [], None, Some, ap, subst, sym, arith}
-use Rattle.std.proofs.Math.Logic.{∥∥₁_map}
-use Rattle.net_core.specs.declared.journal.Entry.{Entry}
+use Rattle.net_core.proofs.Library.{∥∥₁_map}
+use Rattle.plan_terms.specs.Terms.{Entry}
 use Rattle.cut_pool.specs.declared.board.Board.{Board}
-use Rattle.cut_pool.specs.Boards.{origin_of}
+use Rattle.cut_pool.specs.Terms.{origin_of}
 use Rattle.turn_lock.specs.Passes.{items_at, opening_of, own_items, own_places, seen_by}
 use Rattle.board_desk.specs.declared.caller.Caller.{Caller}
 use Rattle.board_desk.specs.Turns.{AreAtOneDesk, HasTurn, board_made}

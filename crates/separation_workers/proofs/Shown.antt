@@ -1,10 +1,9 @@
 -- lengths that are shown
 use Rattle.std.proofs.Common.{◌≡◌, ℕ, ◌≤◌, List, All, Contains, length, slice_index, arith, ⊎_elim}
-use Rattle.std.proofs.lemmas.Bool.{cases_lt}
-use Rattle.std.proofs.lemmas.List.{get_or_past}
-use Rattle.std.proofs.lemmas.List.Elements.{All-get_or, at_from_Contains}
+use Rattle.net_core.proofs.Library.{cases_lt, get_or_past, All-get_or}
+use Rattle.std.proofs.lemmas.List.Elements.{at_from_Contains}
 use Rattle.hint_board.specs.Priced.{AreHintLengths}
-use Rattle.route_law.specs.Laws.{ZerosAndOnesArePriced}
+use Rattle.route_law.specs.Terms.{ZerosAndOnesArePriced}
 
 -- a number of a list whose numbers are 0 and 1, also past its end
 at_most_one : (lengths : List ℕ) → All (λ l. l ≤ 1) lengths → (k : ℕ) → slice_index lengths k ≤ 1

@@ -1,13 +1,10 @@
 -- what a caller pools and answers while it goes through the states
 use Rattle.std.proofs.Common.{◌≡◌, ◌∙◌, ℕ, ◌+◌, ◌≤◌, List, [], ◌∷◌, ◌++◌, All, Contains, length, sym, ap, arith, subst}
-use Rattle.std.proofs.Math.Logic.{∥∥₁_elim}
-use Rattle.std.proofs.Props.{props}
+use Rattle.net_core.proofs.Library.{∥∥₁_elim, props, front_rest}
 use Rattle.std.proofs.lemmas.List.{append-nil, append_assoc}
-use Rattle.std.proofs.lemmas.List.Prefix.{front_rest}
-use Rattle.net_core.specs.declared.plan.Caps.{Caps}
-use Rattle.net_core.specs.Cases.{Case}
+use Rattle.plan_terms.specs.Terms.{Caps, Case}
 use Rattle.plan_types.specs.declared.certificate.Spot.{Spot}
-use Rattle.cut_pool.specs.Histories.{cuts_of}
+use Rattle.cut_pool.specs.Terms.{cuts_of}
 use Rattle.separator.specs.declared.answers.StateAnswer.{StateAnswer}
 use Rattle.separator.specs.Separators.{IsAnswerOf, IsSpotIn, SeesMore, cut_answered, cuts_since}
 use Rattle.separator.specs.inner.Working.{AreAnswersBelow, AreCutsBelow, AreCutsOf}

@@ -1,8 +1,6 @@
 -- callers that take turns where they stand
 use Rattle.std.specs.Prelude.{◌≡◌, List}
-use Rattle.net_core.specs.declared.journal.Entry.{Entry}
-use Rattle.net_core.specs.declared.network.Network.{Network}
-use Rattle.net_core.specs.declared.states.States.{States}
+use Rattle.plan_terms.specs.Terms.{Entry, Network, States}
 use Rattle.turn_lock.specs.Passes.{opening_of}
 use Rattle.separation_workers.specs.Places.{history_in, own_in, units_in}
 use Rattle.separation_workers.specs.declared.turn_taker.TurnTaker.{TurnTaker}

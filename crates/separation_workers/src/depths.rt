@@ -1,5 +1,5 @@
 ghost use Rattle.std.specs.Prelude.{◌≡◌, ◌<◌, All, length};
-ghost use Rattle.net_core.specs.Demands.{AreDemands};
+ghost use Rattle.plan_terms.specs.Terms.{AreDemands};
 
 use crate::round::Round;
 use net_core::{Demand, LinkId, NodeId, Surviving};

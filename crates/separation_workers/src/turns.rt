@@ -1,5 +1,5 @@
 ghost use Rattle.std.specs.Prelude.{◌≡◌, IfOk};
-ghost use Rattle.net_core.specs.Views.{graph};
+ghost use Rattle.plan_terms.specs.Terms.{graph};
 ghost use Rattle.metric_cut.specs.Cuts.{IsCutOf};
 ghost use Rattle.turn_lock.specs.Passes.{own_items, own_units, seen_by};
 ghost use Rattle.board_desk.specs.Turns.{AreAtOneDesk, IsAtDesk, board_made};

@@ -1,6 +1,5 @@
 ghost use Rattle.std.specs.Prelude.{◌≡◌, ℕ, ◌≤◌, ◌<◌, ◌+◌, All, Contains, IfOk, IfSome, Some, length, slice_get};
-ghost use Rattle.net_core.specs.Views.{case_of};
-ghost use Rattle.plan_terms.specs.Separations.{IsSurvivable};
+ghost use Rattle.plan_terms.specs.Terms.{case_of, IsSurvivable};
 ghost use Rattle.turn_lock.specs.Passes.{opening_of};
 ghost use Rattle.board_desk.specs.Turns.{IsAtDesk, board_made};
 ghost use Rattle.separator.specs.Separators.{IsAnswerOf, SeesMore, cut_answered, cuts_since};

@@ -1,22 +1,13 @@
 -- what is answered of the states, one after another
 use Rattle.std.proofs.Common.{◌≡◌, ◌≢◌, ◌∙◌, ℕ, ◌+◌, ◌*◌, ◌<◌, ◌≤◌, ◌⊎◌, inl, inr, ⊎_elim, List, [], ◌∷◌, ◌++◌, All, AllPairs, Contains, None, Some, drop, get_or, length, slice_get, sym, ap, subst, arith, sum_by, zip}
-use Rattle.std.proofs.lemmas.List.{append-nil, drop-append-le, length-append}
+use Rattle.std.proofs.lemmas.List.{append-nil, length-append}
+use Rattle.net_core.proofs.Library.{drop-append-le, All-append, All-cons, All-nil, All-weaker, Contains-append_left, Contains-append_right, front_rest, all_pairs_push}
 use Rattle.std.proofs.lemmas.List.Concat.{flat_map-append}
-use Rattle.std.proofs.lemmas.List.Elements.{All-append, All-cons, All-nil, All-weaker, Contains-append_left, Contains-append_right}
-use Rattle.std.proofs.lemmas.List.Prefix.{front_rest}
-use Rattle.std.proofs.lemmas.List.Quantifiers.{all_pairs_push}
-use Rattle.net_core.specs.declared.demand.Demand.{Demand}
-use Rattle.net_core.specs.declared.journal.Entry.{Entry}
-use Rattle.net_core.specs.declared.plan.Caps.{Caps}
-use Rattle.net_core.specs.declared.plan.CutLine.{CutLine}
-use Rattle.net_core.specs.Cases.{Case, graph_in}
-use Rattle.net_core.specs.Graphs.{Joins}
-use Rattle.plan_terms.specs.Certificates.{AreKept, IsRight}
-use Rattle.plan_terms.specs.Keeping.{Keeps}
+use Rattle.plan_terms.specs.Terms.{Demand, Entry, Caps, CutLine, Case, graph_in, Joins, AreKept, IsRight, Keeps}
 use Rattle.metric_cut.specs.declared.cut.Cut.{Cut}
 use Rattle.plan_types.specs.declared.certificate.Spot.{Spot}
 use Rattle.cut_pool.specs.declared.board.Board.{Board}
-use Rattle.cut_pool.specs.Histories.{cut_of_line, cuts_of}
+use Rattle.cut_pool.specs.Terms.{cut_of_line, cuts_of}
 use Rattle.separator.specs.declared.answers.Separated.{Separated}
 use Rattle.separator.specs.declared.answers.Separated.TheVariants.{Routed, Violated, Wide}
 use Rattle.separator.specs.declared.answers.StateAnswer.{StateAnswer}

@@ -1,17 +1,13 @@
 -- boards whose pool grows, and what stands in it
 use Rattle.std.proofs.Common.{◌≡◌, ◌∙◌, ℕ, ◌<◌, ⊎_elim, List, [], ◌∷◌, ◌++◌, Some, length, slice_get, refl, sym, ap, subst, arith}
-use Rattle.std.proofs.lemmas.Grind.{flat_map-append}
+use Rattle.net_core.proofs.Library.{flat_map-append, All-append, All-nil, All-push, front_rest}
 use Rattle.std.proofs.lemmas.List.{append-nil, append_assoc}
-use Rattle.std.proofs.lemmas.List.Elements.{All-append, All-nil, All-push}
-use Rattle.std.proofs.lemmas.List.Prefix.{front_rest}
-use Rattle.net_core.specs.declared.journal.Entry.{Entry}
-use Rattle.net_core.specs.declared.journal.Entry.TheVariants.{Pooled}
+use Rattle.plan_terms.specs.Terms.{Entry, Pooled}
 use Rattle.metric_cut.specs.declared.cut.Cut.{Cut}
 use Rattle.plan_types.specs.declared.certificate.Spot.{Spot}
 use Rattle.plan_types.specs.declared.certificate.Spot.TheVariants.{Pool, Local}
 use Rattle.cut_pool.specs.declared.board.Board.{Board}
-use Rattle.cut_pool.specs.Boards.{GrowsBy, IsSameBoard}
-use Rattle.cut_pool.specs.Histories.{cuts_of, pooled_by}
+use Rattle.cut_pool.specs.Terms.{GrowsBy, IsSameBoard, cuts_of, pooled_by}
 use Rattle.separator.specs.Separators.{IsCutEntry, IsFullHistory, IsSpotIn, cuts_since}
 use Rattle.separator.specs.inner.Working.{PoolsMore, state_and_lengths}
 use Rattle.net_core.proofs.Lists.{get_front}

@@ -1,11 +1,11 @@
 -- histories that a separator has seen, as they grow, and where cuts stand in them
 use Rattle.std.proofs.Common.{◌≡◌, ◌≢◌, ℕ, zero, suc, ◌<◌, ◌≤◌, ◌⊎◌, inl, inr, ⊎_elim, List, [], ◌∷◌, ◌++◌, All, Some, None, length, slice_get, refl, sym, ap, subst, ◌∙◌, arith}
-use Rattle.std.proofs.lemmas.List.{append_assoc, append-nil, length-append, nil_from_length}
-use Rattle.std.proofs.lemmas.List.Elements.{All-append, All-nil}
-use Rattle.net_core.specs.declared.journal.Entry.{Entry}
+use Rattle.std.proofs.lemmas.List.{append_assoc, append-nil, length-append}
+use Rattle.net_core.proofs.Library.{nil_from_length, All-append, All-nil}
+use Rattle.plan_terms.specs.Terms.{Entry}
 use Rattle.plan_types.specs.declared.certificate.Spot.{Spot}
 use Rattle.plan_types.specs.declared.certificate.Spot.TheVariants.{Pool, Local}
-use Rattle.cut_pool.specs.Histories.{cuts_of}
+use Rattle.cut_pool.specs.Terms.{cuts_of}
 use Rattle.separator.specs.Separators.{IsCutEntry, IsPartOf, IsSpotIn, SeesMore}
 use Rattle.separator.proofs.Pooling.{cuts_both}
 use Rattle.net_core.proofs.Lists.{get_front}

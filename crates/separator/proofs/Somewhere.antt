@@ -1,23 +1,11 @@
 -- lengths that are priced in a state of a network are priced somewhere
 use Rattle.std.proofs.Common.{◌≡◌, ◌∙◌, ℕ, zero, suc, ◌^◌, ◌<◌, ◌≤◌, ◌||◌, inl, inr, ⊎_elim, false, cond, List, [], ◌∷◌, All, length, refl, sym, ap, subst, arith}
-use Rattle.std.proofs.Math.Logic.{∥∥₁_elim}
-use Rattle.std.proofs.Props.{props}
-use Rattle.std.proofs.lemmas.Bool.{cases_Bool, cases_eq, eq-eqb, ne_eqb}
-use Rattle.std.proofs.lemmas.List.Elements.{All-cons, All-nil}
-use Rattle.std.proofs.lemmas.Option.{slice_get_within}
-use Rattle.net_core.specs.declared.demand.Demand.{Demand}
-use Rattle.net_core.specs.declared.columns.RouteColumn.{RouteColumn}
-use Rattle.net_core.specs.declared.ids.LinkId.{LinkId}
-use Rattle.net_core.specs.declared.plan.Caps.{Caps}
-use Rattle.net_core.specs.declared.states.Listed.{Listed}
-use Rattle.net_core.specs.Demands.{AreDemands}
-use Rattle.net_core.specs.Graphs.{Graph, Joins}
-use Rattle.net_core.specs.Network.{IsNetwork}
-use Rattle.net_core.specs.States.{AreStates, fails, names_link}
-use Rattle.plan_terms.proofs.Distances.{path_alike}
-use Rattle.simplex_law.specs.Programs.{ColumnOf}
-use Rattle.route_law.specs.PricedLengths.{ArePricedLengths, ArePricedSomewhere}
-use Rattle.route_law.specs.RoutingPrograms.{IsCarrying, IsRouteColumn}
+use Rattle.net_core.proofs.Library.{∥∥₁_elim, props, cases_Bool, cases_eq, All-cons, All-nil, slice_get_within}
+use Rattle.std.proofs.lemmas.Bool.{eq-eqb, ne_eqb}
+use Rattle.plan_terms.specs.Terms.{Demand, RouteColumn, LinkId, Caps, Listed, AreDemands, Graph, Joins, IsNetwork, AreStates, fails, names_link}
+use Rattle.plan_terms.proofs.Lemmas.{path_alike}
+use Rattle.simplex_law.specs.Terms.{ColumnOf}
+use Rattle.route_law.specs.Terms.{ArePricedLengths, ArePricedSomewhere, IsCarrying, IsRouteColumn}
 use Rattle.flow_router.specs.Answers.{IsViolatedCut}
 use Rattle.metric_cut.specs.declared.cut.Cut.{Cut}
 use Rattle.separator.specs.Findings.{IsFoundCutOf}

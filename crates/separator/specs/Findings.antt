@@ -1,12 +1,9 @@
 -- what is found of a state at some capacities: that they carry the demands, a cut that they violate, or evidence
 use Rattle.std.specs.Prelude.{ℕ, List}
-use Rattle.net_core.specs.declared.demand.Demand.{Demand}
-use Rattle.net_core.specs.declared.plan.Caps.{Caps}
-use Rattle.net_core.specs.Graphs.{Graph}
-use Rattle.plan_terms.specs.Keeping.{Keeps}
+use Rattle.plan_terms.specs.Terms.{Demand, Caps, Graph, Keeps}
 use Rattle.metric_cut.specs.Cuts.{IsCutOf}
 use Rattle.metric_cut.specs.declared.cut.Cut.{Cut}
-use Rattle.route_law.specs.PricedLengths.{ArePricedSomewhere}
+use Rattle.route_law.specs.Terms.{ArePricedSomewhere}
 use Rattle.node_sets.specs.Boundaries.{IsViolatedAt}
 use Rattle.flow_router.specs.Answers.{IsEvidenceHere, IsRouted}
 use Rattle.flow_router.specs.declared.answer.RouteAnswer.{RouteAnswer}

@@ -1,6 +1,6 @@
 -- a separator over a board
 use Rattle.std.specs.Prelude.{List, drop}
-use Rattle.net_core.specs.declared.journal.Entry.{Entry}
+use Rattle.plan_terms.specs.Terms.{Entry}
 use Rattle.separator.specs.declared.one_by_one.OneByOne.{OneByOne}
 
 -- its own entries: those that the board has got since

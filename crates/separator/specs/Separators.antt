@@ -1,26 +1,14 @@
 -- what a separator has seen of a history, what of it the separator has committed, and what it answers
 use Rattle.std.specs.Prelude.{◌≡◌, ◌≢◌, ℕ, ◌+◌, ◌^◌, ◌<◌, ◌≤◌, ◌⊎◌, ◌++◌, List, [], ◌∷◌, All, Some, drop, length, slice_get, take}
 use Rattle.std.specs.List.{flat_map}
-use Rattle.net_core.specs.declared.demand.Demand.{Demand}
-use Rattle.net_core.specs.declared.journal.Entry.{Entry}
-use Rattle.net_core.specs.declared.journal.Entry.TheVariants.{Edited, Pooled}
-use Rattle.net_core.specs.declared.network.Network.{Network}
-use Rattle.net_core.specs.declared.plan.Caps.{Caps}
-use Rattle.net_core.specs.declared.plan.CutLine.{CutLine}
-use Rattle.net_core.specs.declared.states.States.{States}
-use Rattle.net_core.specs.Cases.{Case, graph_in}
-use Rattle.net_core.specs.Graphs.{Graph, Joins}
-use Rattle.net_core.specs.Views.{case}
-use Rattle.plan_terms.specs.Certificates.{IsCut, IsRight}
-use Rattle.plan_terms.specs.Keeping.{Keeps}
-use Rattle.plan_terms.specs.Violations.{Violates}
+use Rattle.plan_terms.specs.Terms.{Demand, Entry, Edited, Pooled, Network, Caps, CutLine, States, Case, graph_in, Graph, Joins, case, IsCut, IsRight, Keeps, Violates}
 use Rattle.plan_types.specs.declared.certificate.Spot.{Spot}
 use Rattle.plan_types.specs.declared.certificate.Spot.TheVariants.{Pool, Local}
-use Rattle.route_law.specs.PricedLengths.{ArePricedSomewhere}
+use Rattle.route_law.specs.Terms.{ArePricedSomewhere}
 use Rattle.flow_router.specs.Answers.{IsEvidenceHere, IsRouted}
 use Rattle.metric_cut.specs.Cuts.{IsCutOf}
 use Rattle.metric_cut.specs.declared.cut.Cut.{Cut}
-use Rattle.cut_pool.specs.Histories.{IsLegalAfter, cut_of_line, cuts_of}
+use Rattle.cut_pool.specs.Terms.{IsLegalAfter, cut_of_line, cuts_of}
 use Rattle.separator.specs.declared.answers.Separated.{Separated}
 use Rattle.separator.specs.declared.answers.Separated.TheVariants.{Routed, Violated, Wide}
 use Rattle.separator.specs.declared.answers.StateAnswer.{StateAnswer}

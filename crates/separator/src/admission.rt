@@ -1,6 +1,5 @@
 ghost use Rattle.std.specs.Prelude.{◌≡◌, [], IfOk, OnErr};
-ghost use Rattle.net_core.specs.Demands.{AreDemands};
-ghost use Rattle.net_core.specs.Views.{graph};
+ghost use Rattle.plan_terms.specs.Terms.{AreDemands, graph};
 ghost use Rattle.metric_cut.specs.Cuts.{IsCutOf};
 ghost use Rattle.separator.specs.Separators.{IsLineAt, IsSpotIn};
 ghost use Rattle.separator.specs.inner.Working.{PoolsMore, PoolsOnly, state_and_lengths};

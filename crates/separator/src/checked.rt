@@ -1,6 +1,5 @@
 ghost use Rattle.std.specs.Prelude.{◌≡◌, ◌≢◌, ◌⊎◌, IfOk, IfSome, None, length};
-ghost use Rattle.net_core.specs.Views.{case};
-ghost use Rattle.plan_terms.specs.Separations.{IsSurvivable};
+ghost use Rattle.plan_terms.specs.Terms.{case, IsSurvivable};
 ghost use Rattle.separator.specs.Separators.{AreStateAnswers};
 
 use crate::answers::StateAnswer;

@@ -1,6 +1,5 @@
 ghost use Rattle.std.specs.Prelude.{◌≡◌, ◌≤◌, ◌<◌, ◌+◌, [], List as Seq, All, Contains, IfOk, ℕ, length};
-ghost use Rattle.net_core.specs.Views.{case_of};
-ghost use Rattle.plan_terms.specs.Separations.{IsSurvivable};
+ghost use Rattle.plan_terms.specs.Terms.{case_of, IsSurvivable};
 ghost use Rattle.separator.specs.Separators.{IsAnswerOf, cut_answered, cuts_since};
 ghost use Rattle.separator.specs.inner.Working.{AreAnswersBelow, PoolsBelow, PoolsOf};
 

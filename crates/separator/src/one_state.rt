@@ -1,7 +1,6 @@
 ghost use Rattle.std.specs.Prelude.{◌≡◌, ◌<◌, ◌+◌, IfOk, OnErr, length};
-ghost use Rattle.net_core.specs.Cases.{graph_in};
-ghost use Rattle.net_core.specs.Views.{case_of, graph_of};
-ghost use Rattle.route_law.specs.Routings.{AreJoined};
+ghost use Rattle.plan_terms.specs.Terms.{graph_in, case_of, graph_of};
+ghost use Rattle.route_law.specs.Terms.{AreJoined};
 ghost use Rattle.separator.specs.Findings.{IsFinding, IsFoundCutOf};
 
 use crate::ranges::are_caps;

@@ -1,9 +1,5 @@
 ghost use Rattle.std.specs.Prelude.{◌≡◌, ◌≢◌, ◌<◌, List as Seq, All, AllPairs, Contains, IfOk, length};
-ghost use Rattle.net_core.specs.declared.journal.Entry.{Entry};
-ghost use Rattle.net_core.specs.declared.network.Network.{Network};
-ghost use Rattle.net_core.specs.declared.states.States.{States};
-ghost use Rattle.net_core.specs.Views.{case_of, graph};
-ghost use Rattle.plan_terms.specs.Separations.{IsSurvivable};
+ghost use Rattle.plan_terms.specs.Terms.{Entry, Network, States, case_of, graph, IsSurvivable};
 ghost use Rattle.metric_cut.specs.Cuts.{IsCutOf};
 ghost use Rattle.separator.specs.Separators.{AreStateAnswers, IsSeenHistory, IsSpotIn, SeesMore, SeparatesAt, cuts_answered, cuts_since};
 

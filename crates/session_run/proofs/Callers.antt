@@ -1,8 +1,8 @@
 -- a stable sort by the caller keeps the outcomes of each caller
 use Rattle.std.proofs.Common.{◌≡◌, ℕ, ◌==◌, List, [], nat_cmp, is_lt, sym, ◌∙◌, arith}
-use Rattle.std.proofs.lemmas.Bool.Decides.{nat_tests}
+use Rattle.net_core.proofs.Library.{nat_tests, ties}
 use Rattle.std.proofs.lemmas.List.Elements.{filter_agree}
-use Rattle.std.specs.List.Sorted.{ties, IsStableByKey}
+use Rattle.std.specs.List.Sorted.{IsStableByKey}
 use Rattle.plan_types.specs.declared.report.Outcome.{Outcome}
 use Rattle.plan_types.specs.declared.report.Outcome.TheVariants.{Unsurvivable}
 use Rattle.session_run.specs.Transcripts.{outcome_caller, outcomes_of}

@@ -1,14 +1,13 @@
 -- the board at the end, when all have met
-use Rattle.std.proofs.Common.{◌≡◌, ◌∙◌, List, [], ap, length, subst, sym, arith}
-use Rattle.std.specs.Prelude.{Result, Ok, Err, Vec}
-use Rattle.std.specs.List.{range_with_len}
-use Rattle.net_core.specs.Cases.{Case}
+use Rattle.std.proofs.Common.{◌≡◌, ◌∙◌, List, [], ap, length, subst, sym, arith, Result, Ok, Err, Vec}
+use Rattle.net_core.proofs.Library.{range_with_len}
+use Rattle.plan_terms.specs.Terms.{Case}
 use Rattle.plan_types.specs.declared.report.Outcome.{Outcome}
 use Rattle.planner.proofs.Histories.{board_few}
 use Rattle.cut_pool.specs.declared.board.Board.{Board}
-use Rattle.cut_pool.specs.Boards.{opening_case}
+use Rattle.cut_pool.specs.Terms.{opening_case}
 use Rattle.session_script.specs.declared.script.Command.{Command}
-use Rattle.session_script.specs.Scripts.{IsScript}
+use Rattle.session_script.specs.Terms.{IsScript}
 use Rattle.turn_lock.specs.Passes.{items_at, own_items, own_places, seen_by}
 use Rattle.board_desk.specs.declared.caller.Caller.{Caller}
 use Rattle.separation_workers.proofs.Places.{items_added}

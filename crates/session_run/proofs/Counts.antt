@@ -1,16 +1,10 @@
 -- how many entries the journal of a transcript has: no more than there are commands and lines of the pool
 use Rattle.std.proofs.Common.{◌≡◌, ◌≢◌, ◌∙◌, ℕ, zero, suc, ◌+◌, ◌<◌, ◌≤◌, ◌==◌, ◌++◌, Bool, true, false, List, [], ◌∷◌, flat_map, if◌then◌else◌, length, refl, sym, ap, arith, ⊎_elim}
-use Rattle.std.proofs.Math.Logic.{∥∥₁_elim}
-use Rattle.std.proofs.Props.{props}
-use Rattle.std.proofs.lemmas.Bool.{cases_eq, eq-eqb, ne_eqb}
-use Rattle.std.proofs.lemmas.List.{length-map}
-use Rattle.net_core.specs.declared.journal.Edit.{Edit}
-use Rattle.net_core.specs.declared.journal.Entry.{Entry}
-use Rattle.net_core.specs.declared.journal.Entry.TheVariants.{Edited, Pooled}
-use Rattle.net_core.specs.declared.network.Notes.{Notes}
-use Rattle.net_core.specs.Cases.{Case}
+use Rattle.net_core.proofs.Library.{∥∥₁_elim, props, cases_eq, length-map}
+use Rattle.std.proofs.lemmas.Bool.{eq-eqb, ne_eqb}
+use Rattle.plan_terms.specs.Terms.{Edit, Entry, Edited, Pooled, Notes, Case}
 use Rattle.plan_types.specs.declared.report.Report.{Report}
-use Rattle.cut_pool.specs.Histories.{cut_of_line, cuts_of}
+use Rattle.cut_pool.specs.Terms.{cut_of_line, cuts_of}
 use Rattle.session_script.specs.declared.script.Act.{Act}
 use Rattle.session_script.specs.declared.script.Act.TheVariants as acts
 use Rattle.session_script.specs.declared.script.Command.{Command}

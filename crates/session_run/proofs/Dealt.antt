@@ -1,14 +1,11 @@
 -- commands dealt to two groups of callers
-use Rattle.std.proofs.Common.{◌≡◌, ◌∙◌, ℕ, zero, suc, ◌+◌, ◌<◌, ◌≤◌, ◌==◌, ◌&&◌, ◌||◌, ◌⊎◌, inl, inr, ⊎_elim, Bool, true, false, cond, List, [], ◌∷◌, ◌++◌, All, filter, if◌then◌else◌, length, leb, ltb, get_or, take, add-one, refl, sym, ap, subst, arith}
-use Rattle.std.specs.Prelude.{count_by}
-use Rattle.std.specs.List.{list_any}
-use Rattle.std.proofs.lemmas.Bool.{cases_lt, cond_both, le-leb, le-ltb, lt-leb, lt-ltb, or_parts}
+use Rattle.std.proofs.Common.{◌≡◌, ◌∙◌, ℕ, zero, suc, ◌+◌, ◌<◌, ◌≤◌, ◌==◌, ◌&&◌, ◌||◌, ◌⊎◌, inl, inr, ⊎_elim, Bool, true, false, cond, List, [], ◌∷◌, ◌++◌, All, filter, if◌then◌else◌, length, leb, ltb, get_or, take, add-one, refl, sym, ap, subst, arith, count_by}
+use Rattle.net_core.proofs.Library.{list_any, cases_lt, cond_both, lt-leb, or_parts, All-head, All-tail, filter-append, sum_by-append}
+use Rattle.std.proofs.lemmas.Bool.{le-leb, le-ltb, lt-ltb}
 use Rattle.std.proofs.lemmas.List.{length-append}
-use Rattle.std.proofs.lemmas.List.Elements.{All-head, All-tail, filter-append}
-use Rattle.std.proofs.lemmas.List.Sums.{sum_by-append}
 use Rattle.std.proofs.Math.Seq.{take-suc}
 use Rattle.session_script.specs.declared.script.Command.{Command}
-use Rattle.session_script.specs.Scripts.{IsCommandInForm, is_plan}
+use Rattle.session_script.specs.Terms.{IsCommandInForm, is_plan}
 use Rattle.session_run.specs.Transcripts.{acts_of}
 use Rattle.session_run.specs.inner.Running.{commands_of, is_of}
 use Rattle.session_run.proofs.Steps.{choose_other}

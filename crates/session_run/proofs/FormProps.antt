@@ -1,25 +1,10 @@
 -- that a report is in form has one proof at most, so that it follows from what is known to hold without a witness
 use Rattle.std.proofs.Common.{ℕ, ◌+◌, ◌<◌, List, [], ◌∷◌, ◌++◌, length}
-use Rattle.std.proofs.Props.{props}
-use Rattle.net_core.specs.declared.columns.Evidence.{Evidence}
-use Rattle.net_core.specs.declared.columns.Evidence.TheVariants.{Route, Master}
-use Rattle.net_core.specs.declared.columns.MasterColumn.{MasterColumn}
+use Rattle.net_core.proofs.Library.{props}
+use Rattle.plan_terms.specs.Terms.{Evidence, Route, Master, MasterColumn, RouteColumn, WideKind, Number, Row, Product, Sum, Common, Value, Length, Demand, LinkId, Edit, Entry, Edited, Pooled, Reply, Accepted, UnknownDemand, KnownDemand, UnknownNode, SelfDemand, TooMany, TooMuch, Link, CutLine, AreCounts}
 use Rattle.net_core.specs.declared.columns.MasterColumn.TheVariants as master
-use Rattle.net_core.specs.declared.columns.RouteColumn.{RouteColumn}
 use Rattle.net_core.specs.declared.columns.RouteColumn.TheVariants as route
-use Rattle.net_core.specs.declared.columns.WideKind.{WideKind}
-use Rattle.net_core.specs.declared.columns.WideKind.TheVariants.{Number, Row, Product, Sum, Common, Value, Length}
-use Rattle.net_core.specs.declared.demand.Demand.{Demand}
-use Rattle.net_core.specs.declared.ids.LinkId.{LinkId}
-use Rattle.net_core.specs.declared.journal.Edit.{Edit}
 use Rattle.net_core.specs.declared.journal.Edit.TheVariants as edits
-use Rattle.net_core.specs.declared.journal.Entry.{Entry}
-use Rattle.net_core.specs.declared.journal.Entry.TheVariants.{Edited, Pooled}
-use Rattle.net_core.specs.declared.journal.Reply.{Reply}
-use Rattle.net_core.specs.declared.journal.Reply.TheVariants.{Accepted, UnknownDemand, KnownDemand, UnknownNode, SelfDemand, TooMany, TooMuch}
-use Rattle.net_core.specs.declared.network.Link.{Link}
-use Rattle.net_core.specs.declared.plan.CutLine.{CutLine}
-use Rattle.plan_terms.specs.Capacities.{AreCounts}
 use Rattle.plan_types.specs.declared.certificate.Spot.{Spot}
 use Rattle.plan_types.specs.declared.certificate.Spot.TheVariants.{Pool, Local}
 use Rattle.plan_types.specs.declared.plan.Plan.{Plan}
@@ -30,10 +15,8 @@ use Rattle.plan_types.specs.declared.quality.Quality.TheVariants.{Tight, Loose}
 use Rattle.plan_types.specs.declared.report.Outcome.{Outcome}
 use Rattle.plan_types.specs.declared.report.Outcome.TheVariants.{Planned, Unsurvivable}
 use Rattle.plan_types.specs.declared.report.Report.{Report}
-use Rattle.text_kit.specs.Items.{ComeAfter}
-use Rattle.plan_report.specs.KnownNames.{KnownNames}
-use Rattle.plan_report.specs.Forms.{IsCauseInForm, IsDemandInForm, IsEntryInForm, IsEvidenceInForm, IsKindInForm, IsMasterColumnInForm, IsOfPool, IsOutcomeInForm, IsPlanInForm, IsQualityInForm, IsReplyInForm, IsReportInForm, IsRouteColumnInForm, IsSpotInForm}
-use Rattle.text_kit.specs.Edits.{IsEditInForm}
+use Rattle.text_kit.specs.Terms.{ComeAfter, IsEditInForm}
+use Rattle.plan_report.specs.Terms.{KnownNames, IsCauseInForm, IsDemandInForm, IsEntryInForm, IsEvidenceInForm, IsKindInForm, IsMasterColumnInForm, IsOfPool, IsOutcomeInForm, IsPlanInForm, IsQualityInForm, IsReplyInForm, IsReportInForm, IsRouteColumnInForm, IsSpotInForm}
 
 -- ---- lists
 

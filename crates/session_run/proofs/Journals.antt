@@ -1,23 +1,11 @@
 -- entries of a legal journal, and the lines of its pool, are in form
 use Rattle.std.proofs.Common.{◌≡◌, ℕ, zero, suc, ◌^◌, ◌<◌, ◌≤◌, List, [], ◌∷◌, ◌++◌, All, Some, drop, length, map, slice_get, take, sym, ap, subst, ◌∙◌, arith}
-use Rattle.std.proofs.lemmas.List.{length-map, length-take-le}
-use Rattle.std.proofs.lemmas.List.Elements.{All-take, All-head, All-tail}
-use Rattle.std.proofs.lemmas.Option.{slice_get-get_or, slice_get_within}
-use Rattle.net_core.specs.declared.journal.Edit.{Edit}
-use Rattle.net_core.specs.declared.journal.Edit.TheVariants.{Set, Add, Drop}
-use Rattle.net_core.specs.declared.journal.Entry.{Entry}
-use Rattle.net_core.specs.declared.journal.Entry.TheVariants.{Edited, Pooled}
-use Rattle.net_core.specs.declared.journal.Reply.{Reply}
-use Rattle.net_core.specs.declared.journal.Reply.TheVariants.{Accepted, UnknownDemand, KnownDemand, UnknownNode, SelfDemand, TooMany, TooMuch}
-use Rattle.net_core.specs.declared.ids.StateId.{StateId}
-use Rattle.net_core.specs.declared.plan.CutLine.{CutLine}
-use Rattle.net_core.specs.Cases.{Case}
-use Rattle.net_core.specs.Demands.{AreDemands}
-use Rattle.plan_terms.specs.Certificates.{IsCut}
-use Rattle.plan_terms.specs.Edits.{edit_need, edit_reply, version_after}
-use Rattle.plan_report.specs.Forms.{HasPoolLine, IsCutInForm, IsEntryInForm, IsReplyInForm}
-use Rattle.cut_pool.specs.Histories.{Dated, IsLegalHistory, cut_of_line, cuts_of, demands_left, left_by, left_by_entry, version_left}
-use Rattle.text_kit.specs.Edits.{IsEditInForm}
+use Rattle.net_core.proofs.Library.{length-map, All-take, All-head, All-tail, slice_get-get_or, slice_get_within}
+use Rattle.std.proofs.lemmas.List.{length-take-le}
+use Rattle.plan_terms.specs.Terms.{Edit, Set, Add, Drop, Entry, Edited, Pooled, Reply, Accepted, UnknownDemand, KnownDemand, UnknownNode, SelfDemand, TooMany, TooMuch, StateId, CutLine, Case, AreDemands, IsCut, edit_need, edit_reply, version_after}
+use Rattle.plan_report.specs.Terms.{HasPoolLine, IsCutInForm, IsEntryInForm, IsReplyInForm}
+use Rattle.cut_pool.specs.Terms.{Dated, IsLegalHistory, cut_of_line, cuts_of, demands_left, left_by, left_by_entry, version_left}
+use Rattle.text_kit.specs.Terms.{IsEditInForm}
 use Rattle.planner.proofs.Histories.{cuts_both, get_after, reply_next, version_few}
 use Rattle.session_run.specs.inner.Ranges.{HasShortLengths}
 use Rattle.session_run.specs.inner.Running.{IsEntryOfCaller}

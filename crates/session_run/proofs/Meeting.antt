@@ -1,16 +1,13 @@
 -- two groups of callers that have met
-use Rattle.std.proofs.Common.{◌≡◌, ◌∙◌, ℕ, ◌+◌, ◌<◌, ◌≤◌, ◌==◌, ⊎_elim, List, [], ◌∷◌, ◌++◌, flat_map, length, true, ap, refl, sym, subst, arith}
-use Rattle.std.specs.Prelude.{Result, Ok, Err, Vec}
+use Rattle.std.proofs.Common.{◌≡◌, ◌∙◌, ℕ, ◌+◌, ◌<◌, ◌≤◌, ◌==◌, ⊎_elim, List, [], ◌∷◌, ◌++◌, flat_map, length, true, ap, refl, sym, subst, arith, Result, Ok, Err, Vec}
 use Rattle.std.proofs.lemmas.List.{append-nil, length-append}
-use Rattle.std.proofs.lemmas.List.Elements.{filter-append}
-use Rattle.net_core.specs.declared.journal.Entry.{Entry}
-use Rattle.net_core.specs.Cases.{Case}
+use Rattle.net_core.proofs.Library.{filter-append, list_any}
+use Rattle.plan_terms.specs.Terms.{Entry, Case}
 use Rattle.plan_types.specs.declared.report.Outcome.{Outcome}
-use Rattle.cut_pool.specs.Histories.{cuts_of, pooled_by}
+use Rattle.cut_pool.specs.Terms.{cuts_of, pooled_by}
 use Rattle.session_script.specs.declared.script.Act.{Act}
 use Rattle.session_script.specs.declared.script.Command.{Command}
 use Rattle.turn_lock.specs.Histories.{IsPrefix, are_places, merged}
-use Rattle.std.specs.List.{list_any}
 use Rattle.turn_lock.specs.Passes.{items_at, own_items, own_places, seen_by}
 use Rattle.turn_lock.proofs.Places.{prefix_le, wider}
 use Rattle.board_desk.specs.declared.caller.Caller.{Caller}

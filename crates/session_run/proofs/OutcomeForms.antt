@@ -1,25 +1,19 @@
 -- outcomes of commands that have run are in form
-use Rattle.std.proofs.Common.{◌≡◌, ℕ, zero, suc, ◌+◌, ◌<◌, ◌≤◌, ◌⊎◌, inl, inr, List, [], ◌∷◌, ◌++◌, All, Bool, true, false, cond, Some, ◌==◌, drop, get_or, if◌then◌else◌, length, map, slice_get, take, refl, sym, ap, subst, ◌∙◌, ⊎_elim, arith}
-use Rattle.std.specs.Prelude.{filter}
-use Rattle.std.proofs.Math.Logic.{∥∥₁_elim}
-use Rattle.std.proofs.lemmas.Bool.{cases_eq, cond-true, eq-eqb, ne_eqb}
+use Rattle.std.proofs.Common.{◌≡◌, ℕ, zero, suc, ◌+◌, ◌<◌, ◌≤◌, ◌⊎◌, inl, inr, List, [], ◌∷◌, ◌++◌, All, Bool, true, false, cond, Some, ◌==◌, drop, get_or, if◌then◌else◌, length, map, slice_get, take, refl, sym, ap, subst, ◌∙◌, ⊎_elim, arith, filter}
+use Rattle.net_core.proofs.Library.{∥∥₁_elim, cases_eq, cond-true, All-cons, All-filter, All-head, All-nil, All-tail, count_by-le-length, length-filter}
+use Rattle.std.proofs.lemmas.Bool.{eq-eqb, ne_eqb}
 use Rattle.std.proofs.lemmas.List.{length-take-le, take-append-drop}
-use Rattle.std.proofs.lemmas.List.Elements.{All-cons, All-filter, All-head, All-nil, All-tail}
-use Rattle.std.proofs.lemmas.List.Sums.{count_by-le-length, length-filter}
-use Rattle.net_core.specs.declared.journal.Entry.{Entry}
-use Rattle.net_core.specs.declared.plan.CutLine.{CutLine}
-use Rattle.net_core.specs.Cases.{Case}
+use Rattle.plan_terms.specs.Terms.{Entry, CutLine, Case}
 use Rattle.plan_types.specs.declared.certificate.Spot.{Spot}
 use Rattle.plan_types.specs.declared.certificate.Spot.TheVariants.{Pool, Local}
 use Rattle.plan_types.specs.declared.report.Outcome.{Outcome}
 use Rattle.plan_types.specs.declared.report.Outcome.TheVariants.{Planned, Unsurvivable}
-use Rattle.plan_report.specs.KnownNames.{known_to}
-use Rattle.plan_report.specs.Forms.{IsHeadInForm, IsOfPool, IsOutcomeInForm}
-use Rattle.cut_pool.specs.Histories.{cut_of_line, cuts_of, version_left}
+use Rattle.plan_report.specs.Terms.{known_to, IsHeadInForm, IsOfPool, IsOutcomeInForm}
+use Rattle.cut_pool.specs.Terms.{cut_of_line, cuts_of, version_left}
 use Rattle.session_script.specs.declared.script.Act.{Act}
 use Rattle.session_script.specs.declared.script.Act.TheVariants.{Change, Plan}
 use Rattle.session_script.specs.declared.script.Command.{Command}
-use Rattle.session_script.specs.Scripts.{IsCommandInForm, IsScript}
+use Rattle.session_script.specs.Terms.{IsCommandInForm, IsScript}
 use Rattle.separator.specs.Separators.{IsSpotIn}
 use Rattle.net_core.proofs.Lists.{get_front}
 use Rattle.planner.proofs.Histories.{cuts_both, version_few}

@@ -1,25 +1,12 @@
 -- a caller's plan: the snapshot that it takes in a turn, and what comes of it
-use Rattle.std.proofs.Common.{◌≡◌, ◌∙◌, ◌<◌, [], ◌∷◌, List, All, Some, length, slice_get, take, refl, sym, ap, subst, arith}
-use Rattle.std.specs.Prelude.{IfOk, Result, Ok, Err}
-use Rattle.std.proofs.Math.Logic.{∥∥₁_elim, ∥∥₁_map}
-use Rattle.std.proofs.Props.{props}
-use Rattle.std.proofs.lemmas.Option.{slice_get_within}
-use Rattle.net_core.specs.declared.demand.Demand.{Demand}
-use Rattle.net_core.specs.declared.journal.Entry.{Entry}
-use Rattle.net_core.specs.declared.list.NoMemory.{NoMemory}
-use Rattle.net_core.specs.declared.network.Network.{Network}
-use Rattle.net_core.specs.declared.states.States.{States}
-use Rattle.net_core.specs.Cases.{Case}
-use Rattle.net_core.specs.Demands.{AreDemands}
-use Rattle.net_core.specs.Views.{case}
-use Rattle.plan_terms.specs.Certificates.{IsCut}
-use Rattle.plan_terms.specs.Separations.{IsFirstSeparation}
+use Rattle.std.proofs.Common.{◌≡◌, ◌∙◌, ◌<◌, [], ◌∷◌, List, All, Some, length, slice_get, take, refl, sym, ap, subst, arith, IfOk, Result, Ok, Err}
+use Rattle.net_core.proofs.Library.{∥∥₁_elim, ∥∥₁_map, props, slice_get_within}
+use Rattle.plan_terms.specs.Terms.{Demand, Entry, NoMemory, Network, States, Case, AreDemands, case, IsCut, IsFirstSeparation}
 use Rattle.plan_types.specs.declared.report.Outcome.{Outcome}
 use Rattle.plan_rounds.specs.WorkedRounds.{IsWorkedPool}
 use Rattle.cut_pool.specs.declared.board.Board.{Board}
 use Rattle.cut_pool.specs.declared.snapshot.Snapshot.{Snapshot}
-use Rattle.cut_pool.specs.Boards.{IsSnapshotOf, opening_case, origin_of}
-use Rattle.cut_pool.specs.Histories.{cuts_of, case_left}
+use Rattle.cut_pool.specs.Terms.{IsSnapshotOf, opening_case, origin_of, cuts_of, case_left}
 use Rattle.separator.specs.Separators.{SeesMore}
 use Rattle.planner.specs.declared.answer.PlanAnswer.{PlanAnswer}
 use Rattle.planner.specs.declared.answer.PlanAnswer.TheVariants.{Planned, NotSurvivable}

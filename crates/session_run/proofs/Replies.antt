@@ -1,20 +1,9 @@
 -- replies to edits of demands: what they leave, and totals that are too much
-use Rattle.std.proofs.Common.{◌≡◌, ◌≢◌, ℕ, suc, ◌+◌, ◌^◌, ◌<◌, ◌≤◌, List, [], ◌∷◌, ◌++◌, All, Bool, true, false, not, ◌&&◌, cond, Option, Some, None, get_or, length, refl, sym, ap, ◌∙◌, ⊎_elim, arith}
-use Rattle.std.specs.Prelude.{AllPairs, filter, nat_le, nat_lt}
-use Rattle.std.proofs.lemmas.Bool.{cases_Bool, cond-false, cond-true, cond_both, false_from_ne_true, false≢true, ltb-true}
-use Rattle.std.proofs.lemmas.List.Folds.{list_any_at}
-use Rattle.std.proofs.lemmas.List.Kept.{AllPairs-filter}
-use Rattle.std.proofs.lemmas.List.Quantifiers.{all_pairs_push}
-use Rattle.std.proofs.lemmas.List.Sums.{sum_by-append, sum_by-cons}
-use Rattle.std.proofs.lemmas.Slice.Eq.{bytes_eq-Decides}
-use Rattle.net_core.specs.declared.demand.Demand.{Demand}
-use Rattle.net_core.specs.declared.journal.Edit.{Edit}
-use Rattle.net_core.specs.declared.journal.Edit.TheVariants.{Set, Add, Drop}
-use Rattle.net_core.specs.declared.journal.Reply.{Reply}
-use Rattle.net_core.specs.declared.journal.Reply.TheVariants.{Accepted, UnknownDemand, KnownDemand, UnknownNode, SelfDemand, TooMany, TooMuch}
-use Rattle.net_core.specs.Tests.{are_same, is_named}
-use Rattle.plan_terms.proofs.Edits.{changed, set_different, with_need}
-use Rattle.plan_terms.specs.Edits.{Answered, added, edit_need, edit_reply, is_demand, next_version, node_of, set_need, total_need, within_total, without}
+use Rattle.std.proofs.Common.{◌≡◌, ◌≢◌, ℕ, suc, ◌+◌, ◌^◌, ◌<◌, ◌≤◌, List, [], ◌∷◌, ◌++◌, All, Bool, true, false, not, ◌&&◌, cond, Option, Some, None, get_or, length, refl, sym, ap, ◌∙◌, ⊎_elim, arith, AllPairs, filter, nat_le, nat_lt}
+use Rattle.net_core.proofs.Library.{cases_Bool, cond-false, cond-true, cond_both, false_from_ne_true, false≢true, list_any_at, AllPairs-filter, all_pairs_push, sum_by-append, sum_by-cons, bytes_eq-Decides}
+use Rattle.std.proofs.lemmas.Bool.{ltb-true}
+use Rattle.plan_terms.specs.Terms.{Demand, Edit, Set, Add, Drop, Reply, Accepted, UnknownDemand, KnownDemand, UnknownNode, SelfDemand, TooMany, TooMuch, are_same, is_named, Answered, added, edit_need, edit_reply, is_demand, next_version, node_of, set_need, total_need, within_total, without}
+use Rattle.plan_terms.proofs.Lemmas.{changed, set_different, with_need}
 
 -- ---- demands
 

@@ -1,25 +1,16 @@
 -- the report of a board and of the outcomes of commands that have run
-use Rattle.std.proofs.Common.{◌≡◌, ℕ, ◌^◌, ◌<◌, ◌≤◌, ◌==◌, List, All, get_or, length, refl, sym, subst, arith}
-use Rattle.std.specs.Prelude.{AllPairs}
-use Rattle.std.proofs.Math.Logic.{∥∥₁_elim}
-use Rattle.std.proofs.Props.{props}
+use Rattle.std.proofs.Common.{◌≡◌, ℕ, ◌^◌, ◌<◌, ◌≤◌, ◌==◌, List, All, get_or, length, refl, sym, subst, arith, AllPairs}
+use Rattle.net_core.proofs.Library.{∥∥₁_elim, props, All-filter}
 use Rattle.std.proofs.lemmas.Bool.{eq-eqb}
-use Rattle.std.proofs.lemmas.List.Elements.{All-filter}
-use Rattle.net_core.specs.declared.journal.Entry.{Entry}
-use Rattle.net_core.specs.declared.network.Notes.{Notes}
-use Rattle.net_core.specs.declared.plan.CutLine.{CutLine}
-use Rattle.net_core.specs.Demands.{AreDemands}
-use Rattle.plan_terms.specs.Certificates.{IsCut}
+use Rattle.plan_terms.specs.Terms.{Entry, Notes, CutLine, AreDemands, IsCut}
 use Rattle.plan_types.specs.declared.report.Outcome.{Outcome}
 use Rattle.plan_types.specs.declared.report.Report.{Report}
-use Rattle.plan_report.specs.KnownNames.{known_of, known_to}
-use Rattle.plan_report.specs.Forms.{IsReportInForm}
+use Rattle.plan_report.specs.Terms.{known_of, known_to, IsReportInForm}
 use Rattle.cut_pool.specs.declared.board.Board.{Board}
-use Rattle.cut_pool.specs.Boards.{opening_case}
-use Rattle.cut_pool.specs.Histories.{IsLegalHistory, IsPoolAfter, case_left}
+use Rattle.cut_pool.specs.Terms.{opening_case, IsLegalHistory, IsPoolAfter, case_left}
 use Rattle.planner.proofs.Histories.{board_few}
 use Rattle.session_script.specs.declared.script.Command.{Command}
-use Rattle.session_script.specs.Scripts.{IsScript}
+use Rattle.session_script.specs.Terms.{IsScript}
 use Rattle.session_run.specs.Transcripts.{IsPlanned, IsTranscript, RunsFrom, acts_of, outcome_caller, outcomes_of, position_of}
 use Rattle.session_run.specs.inner.Ranges.{HasShortLengths, IsShortNamed}
 use Rattle.session_run.specs.inner.Running.{HaveRun}

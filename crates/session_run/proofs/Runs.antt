@@ -1,10 +1,6 @@
 -- a caller's run while the journal grows
 use Rattle.std.proofs.Common.{◌≡◌, ℕ, zero, suc, ◌+◌, ◌≤◌, List, [], ◌∷◌, ◌++◌, length, length-append, take, refl, sym, ap, subst, ◌∙◌, arith}
-use Rattle.net_core.specs.declared.journal.Edit.{Edit}
-use Rattle.net_core.specs.declared.journal.Entry.{Entry}
-use Rattle.net_core.specs.declared.journal.Entry.TheVariants.{Edited}
-use Rattle.net_core.specs.declared.journal.Reply.{Reply}
-use Rattle.net_core.specs.Cases.{Case}
+use Rattle.plan_terms.specs.Terms.{Edit, Entry, Edited, Reply, Case}
 use Rattle.plan_types.specs.declared.report.Outcome.{Outcome}
 use Rattle.session_script.specs.declared.script.Act.{Act}
 use Rattle.session_script.specs.declared.script.Act.TheVariants.{Change, Plan}

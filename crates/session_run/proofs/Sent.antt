@@ -1,7 +1,7 @@
 -- what callers on threads of their own are lent, and what they give
 use denote.Ref.{NamedLft}
 use denote.Param.Send.{IsSend, IsSync, sendable}
-use Rattle.std.proofs.Crossing.{crosses}
+use Rattle.net_core.proofs.Library.{crosses}
 use Rattle.hint_board.proofs.board.HintBoard.TheSendSync as hint_boards
 use Rattle.net_core.proofs.list.List.TheSendSync as lists
 use Rattle.net_core.proofs.name.Name.TheSendSync as names

@@ -1,15 +1,13 @@
 -- a caller's commands, one after another
 use Rattle.std.proofs.Common.{◌≡◌, ◌∙◌, ℕ, ◌+◌, ◌<◌, ◌≤◌, List, [], ◌∷◌, ◌++◌, All, ap, get_or, length, refl, subst, sym, take, arith}
 use Rattle.std.proofs.lemmas.List.{length-append}
-use Rattle.net_core.specs.declared.journal.Entry.{Entry}
-use Rattle.net_core.specs.Cases.{Case}
+use Rattle.plan_terms.specs.Terms.{Entry, Case}
 use Rattle.plan_types.specs.declared.report.Outcome.{Outcome}
-use Rattle.cut_pool.specs.Boards.{opening_case}
-use Rattle.cut_pool.specs.Histories.{cuts_of}
+use Rattle.cut_pool.specs.Terms.{opening_case, cuts_of}
 use Rattle.session_script.specs.declared.script.Act.{Act}
 use Rattle.session_script.specs.declared.script.Act.TheVariants.{Change, Plan}
 use Rattle.session_script.specs.declared.script.Command.{Command}
-use Rattle.session_script.specs.Scripts.{IsCommandInForm}
+use Rattle.session_script.specs.Terms.{IsCommandInForm}
 use Rattle.turn_lock.specs.Passes.{opening_of, own_items, own_units, seen_by}
 use Rattle.board_desk.specs.declared.caller.Caller.{Caller}
 use Rattle.board_desk.specs.Turns.{AreAtOneDesk, board_made}

@@ -1,18 +1,10 @@
 -- one command more
-use Rattle.std.proofs.Common.{◌≡◌, ◌≢◌, ℕ, suc, ◌+◌, ◌==◌, true, false, cond, List, [], ◌∷◌, ◌++◌, All, flat_map, if◌then◌else◌, length, length-append, ⊎_elim, refl, sym, ap, subst, ◌∙◌, arith}
-use Rattle.std.specs.Prelude.{Ok, count_by}
-use Rattle.std.proofs.Math.Logic.{∥∥₁_elim}
-use Rattle.std.proofs.Props.{props}
-use Rattle.std.proofs.lemmas.List.Elements.{All-append, All-head, All-push, All-tail, All-weaker, filter-append}
-use Rattle.std.proofs.lemmas.List.Sums.{sum_by-append}
-use Rattle.net_core.specs.declared.journal.Edit.{Edit}
-use Rattle.net_core.specs.declared.journal.Entry.{Entry}
-use Rattle.net_core.specs.declared.journal.Entry.TheVariants.{Edited, Pooled}
-use Rattle.net_core.specs.declared.journal.Reply.{Reply}
-use Rattle.net_core.specs.Cases.{Case}
+use Rattle.std.proofs.Common.{◌≡◌, ◌≢◌, ℕ, suc, ◌+◌, ◌==◌, true, false, cond, List, [], ◌∷◌, ◌++◌, All, flat_map, if◌then◌else◌, length, length-append, ⊎_elim, refl, sym, ap, subst, ◌∙◌, arith, Ok, count_by}
+use Rattle.net_core.proofs.Library.{∥∥₁_elim, props, All-append, All-head, All-push, All-tail, All-weaker, filter-append, sum_by-append, cases_eq, nil_from_length, flat_map-append}
+use Rattle.plan_terms.specs.Terms.{Edit, Entry, Edited, Pooled, Reply, Case}
 use Rattle.plan_types.specs.declared.report.Outcome.{Outcome}
 use Rattle.plan_types.specs.declared.report.Outcome.TheVariants.{Planned, Unsurvivable}
-use Rattle.cut_pool.specs.Histories.{cuts_of}
+use Rattle.cut_pool.specs.Terms.{cuts_of}
 use Rattle.session_script.specs.declared.script.Act.{Act}
 use Rattle.session_script.specs.declared.script.Act.TheVariants.{Change, Plan}
 use Rattle.session_script.specs.declared.script.Command.{Command}
@@ -24,11 +16,10 @@ use Rattle.planner.proofs.Histories.{cuts_both}
 use Rattle.session_run.specs.Transcripts.{IsOutcomeAfter, IsPlanned, RunsFrom, acts_of, outcome_caller, edit_asked, edit_made, outcomes_of, position_of}
 use Rattle.session_run.specs.inner.Running.{HaveRun, IsEntryOfCaller}
 use Rattle.session_run.specs.inner.Turns.{HasActed, PlansAt}
-use Rattle.session_script.specs.Scripts.{IsActInForm, IsCommandInForm, asks_plan, is_plan}
-use Rattle.std.proofs.lemmas.Bool.{cases_eq, eq-eqb, ne_eqb}
+use Rattle.session_script.specs.Terms.{IsActInForm, IsCommandInForm, asks_plan, is_plan}
+use Rattle.std.proofs.lemmas.Bool.{eq-eqb, ne_eqb}
 use Rattle.session_run.proofs.Runs.{run_edit, run_later, run_plan}
-use Rattle.std.proofs.lemmas.List.{nil_from_length, append-nil}
-use Rattle.std.proofs.lemmas.Grind.{flat_map-append}
+use Rattle.std.proofs.lemmas.List.{append-nil}
 
 -- ---- lists taken apart
 

@@ -1,11 +1,8 @@
 -- what a caller's turn leaves of its own entries
-use Rattle.std.proofs.Common.{◌≡◌, ◌∙◌, ◌-◌, ◌≤◌, ◌++◌, [], ◌∷◌, List, length, sym, ap, subst, arith}
-use Rattle.std.specs.Prelude.{Result}
-use Rattle.std.specs.List.{range_with_len}
+use Rattle.std.proofs.Common.{◌≡◌, ◌∙◌, ◌-◌, ◌≤◌, ◌++◌, [], ◌∷◌, List, length, sym, ap, subst, arith, Result}
+use Rattle.net_core.proofs.Library.{range_with_len}
 use Rattle.std.proofs.lemmas.List.{append-nil, length-append}
-use Rattle.net_core.specs.declared.journal.Edit.{Edit}
-use Rattle.net_core.specs.declared.journal.Entry.{Entry}
-use Rattle.net_core.specs.declared.journal.Entry.TheVariants.{Edited}
+use Rattle.plan_terms.specs.Terms.{Edit, Entry, Edited}
 use Rattle.cut_pool.specs.declared.answers.EditAnswer.{EditAnswer}
 use Rattle.cut_pool.specs.declared.answers.EditAnswer.TheVariants.{At, Full, NoMemory}
 use Rattle.cut_pool.specs.declared.board.Board.{Board}

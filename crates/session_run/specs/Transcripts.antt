@@ -1,21 +1,13 @@
 -- transcripts of scripts: what a report of a session has to be
 use Rattle.std.specs.Prelude.{◌≡◌, ℕ, ◌+◌, ◌≤◌, ◌==◌, List, [], ◌∷◌, All, AllPairs, Some, filter, flat_map, if◌then◌else◌, length, slice_get, take}
-use Rattle.net_core.specs.declared.demand.Demand.{Demand}
-use Rattle.net_core.specs.declared.journal.Edit.{Edit}
-use Rattle.net_core.specs.declared.journal.Entry.{Entry}
-use Rattle.net_core.specs.declared.journal.Entry.TheVariants.{Edited, Pooled}
-use Rattle.net_core.specs.declared.journal.Reply.{Reply}
-use Rattle.net_core.specs.declared.network.Notes.{Notes}
-use Rattle.net_core.specs.Cases.{Case}
-use Rattle.plan_terms.specs.Separations.{IsFirstSeparation}
+use Rattle.plan_terms.specs.Terms.{Demand, Edit, Entry, Edited, Pooled, Reply, Notes, Case, IsFirstSeparation}
 use Rattle.plan_types.specs.declared.plan.Plan.{Plan}
 use Rattle.plan_types.specs.declared.report.Outcome.{Outcome}
 use Rattle.plan_types.specs.declared.report.Outcome.TheVariants.{Planned, Unsurvivable}
 use Rattle.plan_types.specs.declared.report.Report.{Report}
-use Rattle.plan_report.specs.KnownNames.{known_to}
-use Rattle.plan_report.specs.Forms.{IsReportInForm}
+use Rattle.plan_report.specs.Terms.{known_to, IsReportInForm}
 use Rattle.cut_pool.specs.declared.snapshot.Snapshot.{Snapshot}
-use Rattle.cut_pool.specs.Histories.{IsLegalHistory, IsPoolAfter, demands_left, version_left, case_left}
+use Rattle.cut_pool.specs.Terms.{IsLegalHistory, IsPoolAfter, demands_left, version_left, case_left}
 use Rattle.session_script.specs.declared.script.Act.{Act}
 use Rattle.session_script.specs.declared.script.Act.TheVariants as acts
 use Rattle.session_script.specs.declared.script.Command.{Command}

@@ -1,6 +1,6 @@
 ghost use Rattle.std.specs.Prelude.{◌≡◌, ◌≤◌, [], IfOk, length, count_by};
-ghost use Rattle.net_core.specs.Demands.{AreDemands};
-ghost use Rattle.cut_pool.specs.Boards.{origin_of, spare_of};
+ghost use Rattle.plan_terms.specs.Terms.{AreDemands};
+ghost use Rattle.cut_pool.specs.Terms.{origin_of, spare_of};
 ghost use Rattle.session_run.specs.inner.Changes.{is_change};
 
 use cut_pool::Board;

@@ -1,5 +1,5 @@
 ghost use Rattle.std.specs.Prelude.{◌≡◌, ◌<◌, ◌^◌};
-ghost use Rattle.plan_terms.specs.Edits.{edit_need};
+ghost use Rattle.plan_terms.specs.Terms.{edit_need};
 ghost use Rattle.turn_lock.specs.Passes.{own_items, own_units, seen_by};
 ghost use Rattle.board_desk.specs.Turns.{AreAtOneDesk, IsAtDesk};
 ghost use Rattle.session_run.specs.inner.Turns.{EndsEdit, IsDoneBy};

@@ -1,7 +1,7 @@
 ghost use Rattle.std.specs.Prelude.{◌≡◌, ◌≤◌, ◌<◌, ◌+◌};
 ghost use Rattle.std.specs.List.{list_any};
 ghost use Rattle.std.specs.Thread.{IsSync};
-ghost use Rattle.cut_pool.specs.Boards.{opening_case};
+ghost use Rattle.cut_pool.specs.Terms.{opening_case};
 ghost use Rattle.turn_lock.specs.Passes.{own_items, own_units, seen_by};
 ghost use Rattle.board_desk.specs.Turns.{AreAtOneDesk, IsAtDesk, board_made};
 ghost use Rattle.session_run.specs.inner.Running.{AreBoth, CanRun, EndsRun, commands_of, is_of};

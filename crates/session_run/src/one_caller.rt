@@ -1,8 +1,8 @@
 ghost use Rattle.std.specs.Prelude.{◌≡◌, ◌≤◌, ◌+◌, [], All, length};
-ghost use Rattle.cut_pool.specs.Boards.{opening_case};
+ghost use Rattle.cut_pool.specs.Terms.{opening_case};
 ghost use Rattle.turn_lock.specs.Passes.{own_items, own_places, own_units, seen_by};
 ghost use Rattle.board_desk.specs.Turns.{AreAtOneDesk, IsAtDesk, board_made};
-ghost use Rattle.session_script.specs.Scripts.{IsCommandInForm};
+ghost use Rattle.session_script.specs.Terms.{IsCommandInForm};
 ghost use Rattle.session_run.specs.inner.Running.{EndsRun, commands_of};
 ghost use Rattle.session_run.specs.inner.Turns.{EndsAct, KeepsOutcome};
 

@@ -1,7 +1,6 @@
 ghost use Rattle.std.specs.Prelude.{◌≡◌, IfOk, length};
-ghost use Rattle.net_core.specs.Demands.{AreDemands};
-ghost use Rattle.net_core.specs.Views.{case};
-ghost use Rattle.cut_pool.specs.Boards.{opening_case};
+ghost use Rattle.plan_terms.specs.Terms.{AreDemands, case};
+ghost use Rattle.cut_pool.specs.Terms.{opening_case};
 ghost use Rattle.turn_lock.specs.Passes.{own_items, own_units, seen_by};
 ghost use Rattle.board_desk.specs.Turns.{AreAtOneDesk, IsAtDesk, board_made};
 ghost use Rattle.separator.specs.Separators.{SeesMore};

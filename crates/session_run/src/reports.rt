@@ -1,7 +1,7 @@
 ghost use Rattle.std.specs.Prelude.{◌≡◌, ◌≤◌, ℕ, AllPairs, IfOk, length};
-ghost use Rattle.net_core.specs.Demands.{AreDemands};
-ghost use Rattle.cut_pool.specs.Boards.{opening_case};
-ghost use Rattle.session_script.specs.Scripts.{IsScript};
+ghost use Rattle.plan_terms.specs.Terms.{AreDemands};
+ghost use Rattle.cut_pool.specs.Terms.{opening_case};
+ghost use Rattle.session_script.specs.Terms.{IsScript};
 ghost use Rattle.session_run.specs.Transcripts.{IsTranscript, outcome_caller, outcomes_of};
 ghost use Rattle.session_run.specs.inner.Running.{HaveRun};
 

@@ -1,8 +1,7 @@
 ghost use Rattle.std.specs.Prelude.{◌≡◌, ◌≢◌, [], ◌∷◌, IfOk, length};
-ghost use Rattle.net_core.specs.Demands.{AreDemands};
-ghost use Rattle.net_core.specs.Views.{case};
-ghost use Rattle.cut_pool.specs.Boards.{opening_case, origin_of};
-ghost use Rattle.session_script.specs.Scripts.{IsScript};
+ghost use Rattle.plan_terms.specs.Terms.{AreDemands, case};
+ghost use Rattle.cut_pool.specs.Terms.{opening_case, origin_of};
+ghost use Rattle.session_script.specs.Terms.{IsScript};
 ghost use Rattle.session_script.specs.declared.script.Act.TheVariants.{Plan};
 ghost use Rattle.session_run.specs.Transcripts.{IsTranscript};
 ghost use Rattle.session_run.specs.inner.Running.{HaveRun};

@@ -1,24 +1,13 @@
 -- The reading of a script takes exactly the texts of scripts.
-use Rattle.std.proofs.Common.{◌≡◌, ℕ, ◌+◌, ◌^◌, ◌<◌, ◌≤◌, true, cond, List, [], ◌∷◌, ◌++◌, length, Result, Ok, IfOk, IfErr, refl, sym, ap, subst, ◌∙◌, arith, append-nil, append_assoc, count_by}
-use Rattle.std.specs.Prelude.{codes, flat_map}
-use Rattle.std.proofs.lemmas.List.Sums.{sum_by-append}
-use Rattle.net_core.specs.Tests.{are_same}
+use Rattle.std.proofs.Common.{◌≡◌, ℕ, ◌+◌, ◌^◌, ◌<◌, ◌≤◌, true, cond, List, [], ◌∷◌, ◌++◌, length, Result, Ok, IfOk, IfErr, refl, sym, ap, subst, ◌∙◌, arith, append-nil, append_assoc, count_by, codes, flat_map}
+use Rattle.net_core.proofs.Library.{sum_by-append}
+use Rattle.net_core.specs.Terms.{are_same}
 use Rattle.net_core.specs.declared.journal.Edit.TheVariants as edits
 use Rattle.net_core.specs.declared.places.Places.{Places}
-use Rattle.snd_tokens.specs.Header.{first_line, trimmed}
-use Rattle.snd_tokens.specs.Lexemes.{Text, EndAt}
-use Rattle.text_kit.specs.Answers.{AnswersAs, ReadsAllAs}
-use Rattle.text_kit.specs.Files.{IsNotTooEarly, body}
-use Rattle.text_kit.specs.Items.{ComeAfter, Item, Verbatim, Whole, Money, Opening, Closing}
-use Rattle.text_kit.specs.Reading.{word_at, TheEnd, no_fault}
+use Rattle.snd_tokens.specs.Terms.{first_line, trimmed, Text, EndAt}
+use Rattle.text_kit.specs.Terms.{AnswersAs, ReadsAllAs, IsNotTooEarly, body, ComeAfter, Item, Verbatim, Whole, Money, Opening, Closing, word_at, TheEnd, no_fault, any_name}
 use Rattle.text_kit.specs.declared.refusal.Refusal.{Refusal}
-use Rattle.text_kit.specs.Names.{any_name}
-use Rattle.text_kit.proofs.Amounts.{lawful_amount}
-use Rattle.text_kit.proofs.NameLaws.{lawful_any_name}
-use Rattle.text_kit.proofs.After.{all_after, after_all, after_as, after_both}
-use Rattle.text_kit.proofs.Files.{answer_found, answer_only, answer_first, file_read}
-use Rattle.text_kit.proofs.Lawful.{AnyText, IsEnd, Lawful, after_few, few_after, lawful_as, lawful_close, lawful_give, lawful_list, lawful_open, lawful_then, lawful_word}
-use Rattle.text_kit.proofs.Online.{IsOnline, TakesSome, online_close, online_give, online_list, online_open, online_then, online_word, takes_some}
+use Rattle.text_kit.proofs.Lemmas.{lawful_amount, lawful_any_name, all_after, after_all, after_as, after_both, answer_found, answer_only, answer_first, file_read, AnyText, IsEnd, Lawful, after_few, few_after, lawful_as, lawful_close, lawful_give, lawful_list, lawful_open, lawful_then, lawful_word, IsOnline, TakesSome, online_close, online_give, online_list, online_open, online_then, online_word, takes_some}
 use Rattle.session_script.specs.declared.fault.ScriptKind.{ScriptKind}
 use Rattle.session_script.specs.declared.fault.ScriptKind.TheVariants.{Header, Token, Ended, LimitName, Number}
 use Rattle.session_script.specs.declared.script.Act.{Act}

@@ -1,11 +1,11 @@
 -- What a word of a script says, and which words say it.
-use Rattle.std.proofs.Common.{◌≡◌, ℕ, ◌<◌, ◌≤◌, ◌&&◌, Bool, true, false, cond, nat_lt, List, length, Result, Ok, Err, refl, ap, subst, ◌∙◌, arith, count_by}
-use Rattle.std.specs.Prelude.{codes}
-use Rattle.std.proofs.lemmas.Bool.{ltb-true, lt-ltb, and_parts}
-use Rattle.net_core.specs.Tests.{are_same}
+use Rattle.std.proofs.Common.{◌≡◌, ℕ, ◌<◌, ◌≤◌, ◌&&◌, Bool, true, false, cond, nat_lt, List, length, Result, Ok, Err, refl, ap, subst, ◌∙◌, arith, count_by, codes}
+use Rattle.std.proofs.lemmas.Bool.{ltb-true, lt-ltb}
+use Rattle.net_core.proofs.Library.{and_parts}
+use Rattle.net_core.specs.Terms.{are_same}
 use Rattle.snd_tokens.specs.declared.whole_number.WholeFault.{WholeFault}
-use Rattle.snd_tokens.specs.Wholes.{whole_of}
-use Rattle.text_kit.proofs.Outcomes.{if_ok, ok_is}
+use Rattle.snd_tokens.specs.Terms.{whole_of}
+use Rattle.text_kit.proofs.Lemmas.{if_ok, ok_is}
 use Rattle.session_script.specs.declared.fault.ScriptKind.{ScriptKind}
 use Rattle.session_script.specs.declared.fault.ScriptKind.TheVariants.{Token, Caller, LimitCommands, LimitPlans}
 use Rattle.session_script.specs.declared.script.Command.{Command}

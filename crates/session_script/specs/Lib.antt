@@ -1,3 +1,4 @@
 pub mod Scripts
 pub mod ScriptReading
 pub mod ScriptKinds
+pub mod Terms

@@ -1,6 +1,6 @@
 -- how the kinds of faults are written
 use Rattle.std.specs.Prelude.{ℕ, List, codes}
-use Rattle.text_kit.specs.Numbers.{number_word}
+use Rattle.text_kit.specs.Terms.{number_word}
 use Rattle.session_script.specs.declared.fault.ScriptKind.{ScriptKind}
 use Rattle.session_script.specs.declared.fault.ScriptKind.TheVariants.{Header, Token, Ended, Caller, Number, LimitName, LimitCommands, LimitPlans}
 

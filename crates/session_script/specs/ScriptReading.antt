@@ -1,15 +1,11 @@
 -- Reading a script from left to right: the tests of its words, and their order.
 use Rattle.std.specs.Prelude.{ℕ, Bool, nat_lt, ◌&&◌, if◌then◌else◌, List, [], length, count_by, Result, Ok, Err, codes}
-use Rattle.net_core.specs.Tests.{are_same}
+use Rattle.net_core.specs.Terms.{are_same}
 use Rattle.net_core.specs.declared.journal.Edit.TheVariants as edits
 use Rattle.net_core.specs.declared.places.Places.{Places}
 use Rattle.snd_tokens.specs.declared.whole_number.WholeFault.{WholeFault}
-use Rattle.snd_tokens.specs.Amounts.{amount_of}
-use Rattle.snd_tokens.specs.Wholes.{whole_of}
-use Rattle.text_kit.specs.Files.{file_at}
-use Rattle.text_kit.specs.Names.{any_name}
-use Rattle.text_kit.specs.Numbers.{number_or}
-use Rattle.text_kit.specs.Reading.{Read, Reading, ◌>>=◌, give, word_at, open_at, close_at, TheEnd, list_at, mapped, no_fault}
+use Rattle.snd_tokens.specs.Terms.{amount_of, whole_of}
+use Rattle.text_kit.specs.Terms.{file_at, any_name, number_or, Read, Reading, ◌>>=◌, give, word_at, open_at, close_at, TheEnd, list_at, mapped, no_fault}
 use Rattle.session_script.specs.declared.fault.ScriptKind.{ScriptKind}
 use Rattle.session_script.specs.declared.fault.ScriptKind.TheVariants.{Header, Token, Ended, Caller, Number, LimitName, LimitCommands, LimitPlans}
 use Rattle.session_script.specs.declared.script.Act.{Act}

@@ -1,9 +1,7 @@
 -- the grammar of a script: commands one after another, each of a caller
 use Rattle.std.specs.Prelude.{ℕ, ◌≤◌, Bool, true, false, List, [], ◌∷◌, length, All, flat_map, count_by, codes}
 use Rattle.net_core.specs.declared.places.Places.{Places}
-use Rattle.text_kit.specs.Edits.{IsEditInForm, edit_items}
-use Rattle.text_kit.specs.Files.{SpellsAs}
-use Rattle.text_kit.specs.Items.{Item, Verbatim, Whole}
+use Rattle.text_kit.specs.Terms.{IsEditInForm, edit_items, SpellsAs, Item, Verbatim, Whole}
 use Rattle.session_script.specs.declared.script.Act.{Act}
 use Rattle.session_script.specs.declared.script.Act.TheVariants.{Change, Plan}
 use Rattle.session_script.specs.declared.script.Command.{Command}

@@ -1,6 +1,6 @@
 ghost use Rattle.std.specs.Prelude.{◌≡◌};
-ghost use Rattle.snd_tokens.specs.Lexemes.{left};
-ghost use Rattle.text_kit.specs.Answers.{ReadsAs};
+ghost use Rattle.snd_tokens.specs.Terms.{left};
+ghost use Rattle.text_kit.specs.Terms.{ReadsAs};
 ghost use Rattle.session_script.specs.ScriptReading.{act_at, command_at};
 ghost use Rattle.session_script.specs.declared.script.Verb.TheVariants as verbs;
 

@@ -1,7 +1,6 @@
 ghost use Rattle.std.specs.Prelude.{◌≡◌, ◌<◌, [], IsTrue, IfOk, IfErr, Ok};
-ghost use Rattle.snd_tokens.specs.Lexemes.{left, size};
-ghost use Rattle.text_kit.specs.Answers.{AnswersAs, ReadsAllAs, ReadsAs, TakesElement};
-ghost use Rattle.text_kit.specs.Files.{IsNotTooEarly};
+ghost use Rattle.snd_tokens.specs.Terms.{left, size};
+ghost use Rattle.text_kit.specs.Terms.{AnswersAs, ReadsAllAs, ReadsAs, TakesElement, IsNotTooEarly};
 ghost use Rattle.session_script.specs.declared.script.Script.{Script as Scr};
 ghost use Rattle.session_script.specs.Scripts.{SpellsScript};
 ghost use Rattle.session_script.specs.ScriptReading.{commands_at, script_of};

@@ -1,8 +1,6 @@
 ghost use Rattle.std.specs.Prelude.{◌≡◌, ◌≤◌, None, count_by, length};
-ghost use Rattle.snd_tokens.specs.Lexemes.{left};
-ghost use Rattle.text_kit.specs.Answers.{ReadsAs};
-ghost use Rattle.text_kit.specs.Names.{any_name, long_name_fault};
-ghost use Rattle.text_kit.specs.Reading.{word_at};
+ghost use Rattle.snd_tokens.specs.Terms.{left};
+ghost use Rattle.text_kit.specs.Terms.{ReadsAs, any_name, long_name_fault, word_at};
 ghost use Rattle.session_script.specs.Scripts.{is_plan};
 ghost use Rattle.session_script.specs.ScriptReading.{begun_command, caller_of, need_in_script, verb_after, verb_of};
 

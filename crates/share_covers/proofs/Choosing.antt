@@ -1,28 +1,16 @@
 -- the fallback plan, or the covers of a share
 use Rattle.std.proofs.Common.{◌≡◌, ℕ, ◌*◌, ◌≤◌, ◌<◌, Bool, true, false, if◌then◌else◌, nat_lt, inl, inr, List, [], All, Some, get_or, length, refl, subst, arith, slice_get}
 use Rattle.std.proofs.lemmas.Bool.{ltb-false, ltb-true}
-use Rattle.std.proofs.lemmas.Option.{slice_get-get_or}
-use Rattle.std.proofs.Math.Logic.{∥∥₁_elim}
-use Rattle.std.proofs.Math.Nat.{eq-one_of_dvd-one}
-use Rattle.std.proofs.Props.{props}
-use Rattle.std.specs.Int.{◌∣◌}
+use Rattle.net_core.proofs.Library.{slice_get-get_or, ∥∥₁_elim, eq-one_of_dvd-one, props, ◌∣◌}
 use Rattle.module_choice.specs.declared.fallback.Fallback.{Fallback}
 use Rattle.module_choice.proofs.Carrying.{few_flows, flows_small}
 use Rattle.module_prices.specs.declared.cheapest.UnitPair.{UnitPair}
-use Rattle.net_core.specs.Cases.{Case, graph_in}
-use Rattle.net_core.specs.Demands.{AreDemands}
-use Rattle.net_core.specs.Graphs.{Joins}
-use Rattle.net_core.specs.Network.{IsLink}
-use Rattle.net_core.specs.declared.columns.Evidence.{Evidence}
-use Rattle.net_core.specs.declared.plan.Routing.{Routing}
-use Rattle.plan_terms.specs.Capacities.{AreWithinLimits}
-use Rattle.plan_terms.specs.Fallbacks.{IsFallback, raised}
-use Rattle.plan_terms.specs.Flows.{Carries}
+use Rattle.plan_terms.specs.Terms.{Case, graph_in, AreDemands, Joins, IsLink, Evidence, Routing, AreWithinLimits, IsFallback, raised, Carries}
 use Rattle.plan_types.specs.declared.quality.Fractional.{Fractional}
 use Rattle.plan_types.specs.declared.quality.Quality.{Quality}
 use Rattle.plan_types.specs.declared.quality.Quality.TheVariants.{Tight, Loose}
 use Rattle.plan_types.specs.declared.quality.Share.{Share}
-use Rattle.master_law.specs.UnitPairs.{AreUnitPairs, share_caps}
+use Rattle.master_law.specs.Terms.{AreUnitPairs, share_caps}
 use Rattle.plan_law.specs.TightPlans.{CostsAtMostCover}
 use Rattle.plan_law.proofs.Covering.{covers_carry}
 use Rattle.share_covers.specs.Choices.{CarriesShare, IsChosen, IsQualityAfter, IsQualityOfShare, IsWideAtCovers, RulesOutCovers}

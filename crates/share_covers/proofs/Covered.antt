@@ -1,13 +1,10 @@
 -- counts that cover what each link needs in a share
 use Rattle.std.proofs.Common.{◌≡◌, ℕ, ◌*◌, ◌^◌, ◌<◌, ◌≤◌, inl, List, [], All, Some, length, refl, sym, ap, subst, arith, slice_get, slice_index}
-use Rattle.std.proofs.lemmas.Option.{slice_get-get_or}
-use Rattle.std.proofs.lemmas.Grind.{get_or_default_zero}
-use Rattle.net_core.specs.Network.{IsLink, IsModule, IsNetwork}
-use Rattle.net_core.specs.declared.network.Link.{Link}
+use Rattle.net_core.proofs.Library.{slice_get-get_or, get_or_default_zero}
+use Rattle.plan_terms.specs.Terms.{IsLink, IsModule, IsNetwork, Link, AreCounts, total_cost}
 use Rattle.module_prices.specs.declared.cheapest.UnitPair.{UnitPair}
-use Rattle.plan_terms.specs.Capacities.{AreCounts, total_cost}
 use Rattle.plan_types.specs.declared.quality.Share.{Share}
-use Rattle.master_law.specs.UnitPairs.{AreUnitPairs, IsShareNeed}
+use Rattle.master_law.specs.Terms.{AreUnitPairs, IsShareNeed}
 use Rattle.plan_law.specs.TightPlans.{CoversShare}
 use Rattle.module_choice.specs.Coverings.{CoverNeeds}
 use Rattle.module_choice.proofs.Carrying.{network_links}

@@ -1,13 +1,10 @@
 -- a link has one unit pair
 use Rattle.std.proofs.Common.{◌≡◌, suc, inl, inr, List, [], ◌∷◌, All, length, sym, ap, ◌∙◌, arith}
 use Rattle.std.proofs.lemmas.List.{ext_get_or}
-use Rattle.std.proofs.lemmas.Option.{slice_get-get_or}
-use Rattle.net_core.specs.Network.{IsModule}
-use Rattle.net_core.specs.declared.network.Link.{Link}
-use Rattle.net_core.specs.declared.network.Module.{Module}
+use Rattle.net_core.proofs.Library.{slice_get-get_or}
+use Rattle.plan_terms.specs.Terms.{IsModule, Link, Module, IsUnitPair}
 use Rattle.module_prices.specs.declared.cheapest.UnitPair.{UnitPair}
-use Rattle.plan_terms.specs.Prices.{IsUnitPair}
-use Rattle.master_law.specs.UnitPairs.{AreUnitPairs, IsPairOfLink}
+use Rattle.master_law.specs.Terms.{AreUnitPairs, IsPairOfLink}
 use Rattle.module_choice.proofs.UnitPairs.{pair_once}
 use Rattle.share_covers.specs.Laws.{UnitPairsAreOne}
 use Rattle.net_core.proofs.Lists.{all_at, get_some}

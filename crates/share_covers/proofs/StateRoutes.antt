@@ -1,17 +1,11 @@
 -- routings of one state after another
 use Rattle.std.proofs.Common.{◌≡◌, ℕ, ◌+◌, ◌≤◌, ◌++◌, List, [], ◌∷◌, All, Some, length, length-append, refl, sym, subst, ◌∙◌, arith, slice_get, sum_by, ⊎_elim}
-use Rattle.net_core.specs.Cases.{Case, graph_in}
-use Rattle.net_core.specs.Demands.{AreDemands, IsDemand}
-use Rattle.net_core.specs.Graphs.{Joins}
-use Rattle.net_core.specs.declared.plan.Caps.{Caps}
-use Rattle.net_core.specs.declared.plan.Routing.{Routing}
-use Rattle.plan_terms.specs.Flows.{Carries}
-use Rattle.plan_terms.specs.Separations.{IsSurvivable}
+use Rattle.plan_terms.specs.Terms.{Case, graph_in, AreDemands, IsDemand, Joins, Caps, Routing, Carries, IsSurvivable}
 use Rattle.metric_cut.specs.declared.cut.Cut.{Cut}
 use Rattle.metric_cut.specs.inner.Rights.{part_of}
 use Rattle.metric_cut.proofs.Sides.{sum_is_right}
-use Rattle.route_law.specs.Routings.{AreJoined}
-use Rattle.route_law.proofs.Kept.{violated_carries_nothing}
+use Rattle.route_law.specs.Terms.{AreJoined}
+use Rattle.route_law.proofs.Lemmas.{violated_carries_nothing}
 use Rattle.module_choice.proofs.Carrying.{get_cases}
 use Rattle.flow_router.specs.Answers.{IsRouted, IsViolatedCut}
 

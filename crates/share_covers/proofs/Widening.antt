@@ -1,9 +1,7 @@
 -- evidence at the covers of a share
 use Rattle.std.proofs.Common.{◌≤◌, inr, length, sym, subst}
-use Rattle.net_core.specs.Cases.{graph_in}
-use Rattle.net_core.specs.declared.columns.Evidence.TheVariants.{Route, Master}
-use Rattle.net_core.specs.declared.plan.Caps.{Caps}
-use Rattle.route_law.specs.RouteEvidence.{IsRouteEvidence}
+use Rattle.plan_terms.specs.Terms.{graph_in, Route, Master, Caps}
+use Rattle.route_law.specs.Terms.{IsRouteEvidence}
 use Rattle.share_covers.specs.Laws.{WideCoversAreLoose}
 
 pub wide_covers_are_loose : WideCoversAreLoose

@@ -2,15 +2,13 @@
 use Rattle.std.specs.Prelude.{◌≡◌, ℕ, ◌≤◌, ◌<◌, ◌⊎◌, List}
 use Rattle.module_choice.specs.declared.fallback.Fallback.{Fallback}
 use Rattle.module_prices.specs.declared.cheapest.UnitPair.{UnitPair}
-use Rattle.net_core.specs.declared.columns.Evidence.{Evidence}
-use Rattle.net_core.specs.Cases.{Case}
-use Rattle.plan_terms.specs.Capacities.{AreCounts, AreWithinLimits, total_cost}
+use Rattle.plan_terms.specs.Terms.{Evidence, Case, AreCounts, AreWithinLimits, total_cost}
 use Rattle.plan_types.specs.declared.quality.Cause.TheVariants.{Wide}
 use Rattle.plan_types.specs.declared.quality.Fractional.{Fractional}
 use Rattle.plan_types.specs.declared.quality.Quality.{Quality}
 use Rattle.plan_types.specs.declared.quality.Quality.TheVariants.{Tight, Loose}
 use Rattle.plan_types.specs.declared.quality.Share.{Share}
-use Rattle.master_law.specs.UnitPairs.{AreUnitPairs}
+use Rattle.master_law.specs.Terms.{AreUnitPairs}
 use Rattle.plan_law.specs.TightPlans.{AreCarriedByShare, CostsAtMostCover, CoversShare, IsProperShare}
 use Rattle.share_covers.specs.InstalledRoutes.{AreRoutedWithin, IsShortWithin, IsWideWithin, installed_caps}
 use Rattle.share_covers.specs.ShareCovers.{AreShareCovers}

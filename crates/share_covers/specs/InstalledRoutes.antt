@@ -1,13 +1,6 @@
 -- what the states answer within capacities
 use Rattle.std.specs.Prelude.{◌≡◌, ℕ, ◌+◌, ◌≤◌, List, Some, length, slice_get}
-use Rattle.net_core.specs.declared.columns.Evidence.{Evidence}
-use Rattle.net_core.specs.declared.network.Link.{Link}
-use Rattle.net_core.specs.declared.plan.Caps.{Caps}
-use Rattle.net_core.specs.declared.plan.Routing.{Routing}
-use Rattle.net_core.specs.Cases.{Case, graph_in}
-use Rattle.net_core.specs.Graphs.{Joins}
-use Rattle.plan_terms.specs.Capacities.{capacities}
-use Rattle.plan_terms.specs.Flows.{Carries}
+use Rattle.plan_terms.specs.Terms.{Evidence, Link, Caps, Routing, Case, graph_in, Joins, capacities, Carries}
 use Rattle.flow_router.specs.Answers.{IsEvidenceHere, IsRouted}
 use Rattle.share_covers.specs.declared.routes.InstalledRoutes.{InstalledRoutes}
 use Rattle.share_covers.specs.declared.routes.InstalledRoutes.TheVariants.{Routed, Wide, Short}

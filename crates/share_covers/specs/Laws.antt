@@ -1,15 +1,10 @@
 -- what the covers of a share are for a planning
 use Rattle.std.specs.Prelude.{◌≡◌, ℕ, List}
 use Rattle.module_prices.specs.declared.cheapest.UnitPair.{UnitPair}
-use Rattle.net_core.specs.declared.columns.Evidence.{Evidence}
-use Rattle.net_core.specs.declared.network.Link.{Link}
-use Rattle.net_core.specs.declared.plan.CutLine.{CutLine}
-use Rattle.net_core.specs.Cases.{Case}
-use Rattle.net_core.specs.Network.{IsNetwork}
+use Rattle.plan_terms.specs.Terms.{Evidence, Link, CutLine, Case, IsNetwork}
 use Rattle.plan_types.specs.declared.plan.Plan.{Plan}
 use Rattle.plan_types.specs.declared.quality.Share.{Share}
-use Rattle.master_law.specs.LeastShares.{IsLeastShare}
-use Rattle.master_law.specs.UnitPairs.{AreUnitPairs}
+use Rattle.master_law.specs.Terms.{IsLeastShare, AreUnitPairs}
 use Rattle.plan_law.specs.LoosePlans.{IsLooseByWidth}
 use Rattle.plan_law.specs.TightPlans.{CostsRawValue}
 use Rattle.plan_law.specs.WorkedLists.{Round}

@@ -1,11 +1,9 @@
 -- what each link needs in a share, and counts of modules that cover it
 use Rattle.std.specs.Prelude.{◌≡◌, ℕ, ◌^◌, ◌<◌, List, Some, length, slice_get, slice_index}
 use Rattle.module_prices.specs.declared.cheapest.UnitPair.{UnitPair}
-use Rattle.net_core.specs.declared.network.Link.{Link}
-use Rattle.net_core.specs.declared.network.Module.{Module}
-use Rattle.plan_terms.specs.Capacities.{AreCounts, AreWithinLimits, modules_capacity, total_cost}
+use Rattle.plan_terms.specs.Terms.{Link, Module, AreCounts, AreWithinLimits, modules_capacity, total_cost}
 use Rattle.plan_types.specs.declared.quality.Share.{Share}
-use Rattle.master_law.specs.UnitPairs.{AreUnitPairs, IsPairOfLink, IsShareNeed}
+use Rattle.master_law.specs.Terms.{AreUnitPairs, IsPairOfLink, IsShareNeed}
 use Rattle.plan_law.specs.TightPlans.{CoversShare}
 use Rattle.share_covers.specs.declared.covers.Installed.{Installed}
 

@@ -1,6 +1,6 @@
 ghost use Rattle.std.specs.Prelude.{◌≡◌, ℕ, ◌*◌, ◌<◌, ◌≤◌, All, IfOk, length};
-ghost use Rattle.net_core.specs.Network.{IsModule};
-ghost use Rattle.master_law.specs.UnitPairs.{IsShareNeed};
+ghost use Rattle.plan_terms.specs.Terms.{IsModule};
+ghost use Rattle.master_law.specs.Terms.{IsShareNeed};
 ghost use Rattle.share_covers.specs.ShareCovers.{AreShareNeeds, IsNeedOfLink};
 
 use module_prices::unit_pair;

@@ -1,7 +1,5 @@
 ghost use Rattle.std.specs.Prelude.{◌≡◌, ◌<◌, IfOk, length};
-ghost use Rattle.net_core.specs.Views.{case_of};
-ghost use Rattle.plan_terms.specs.Capacities.{AreCounts};
-ghost use Rattle.plan_terms.specs.Separations.{IsSurvivable};
+ghost use Rattle.plan_terms.specs.Terms.{case_of, AreCounts, IsSurvivable};
 ghost use Rattle.share_covers.specs.InstalledRoutes.{IsRoutesAnswer, installed_caps};
 
 use flow_router::{RouteAnswer, route_state};

@@ -1,9 +1,6 @@
 -- tables gathered one after another
 use Rattle.std.proofs.Common.{◌≡◌, ℕ, ◌+◌, ◌<◌, List, [], ◌∷◌, ◌++◌, length, get_or, ⊎_elim, sym, subst, ◌∙◌, arith, length-append}
-use Rattle.std.proofs.Math.Logic.{∥∥₁_elim}
-use Rattle.std.proofs.Props.{props}
-use Rattle.std.proofs.lemmas.Bool.{cases_lt}
-use Rattle.std.proofs.lemmas.List.{get_or_append_left, get_or_default, get_or_push}
+use Rattle.net_core.proofs.Library.{∥∥₁_elim, props, cases_lt, get_or_append_left, get_or_default, get_or_push}
 use Rattle.short_paths.specs.inner.TightLinks.{AreTables}
 use Rattle.short_paths.specs.inner.Tables.{IsTable}
 

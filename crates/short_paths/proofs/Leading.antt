@@ -1,18 +1,8 @@
 -- from the arcs of a state and a table over them to the least of its shortest paths, where both are known without their witnesses
-use Rattle.std.proofs.Common.{◌≡◌, ◌≢◌, ℕ, ◌<◌, ◌≤◌, List, [], ◌∷◌, length, get_or, None, Some, inl, inr, ⊎_elim, refl, subst, arith}
-use Rattle.std.proofs.Math.Logic.{∥∥₁_elim}
-use Rattle.std.proofs.Props.{props}
-use Rattle.std.proofs.lemmas.Bool.{cases_eq}
-use Rattle.std.specs.List.{slice_get}
-use Rattle.net_core.specs.declared.ids.LinkId.{LinkId}
-use Rattle.net_core.specs.declared.network.Link.{Link}
-use Rattle.net_core.specs.Graphs.{Graph, HasEnds, Joins, Survives}
-use Rattle.plan_terms.specs.LeastPaths.{IsLeastPath}
-use Rattle.plan_terms.specs.Paths.{AreApart, IsPath, last_node}
-use Rattle.plan_terms.proofs.Distances.{path_alike}
-use Rattle.plan_terms.proofs.Joining.{joins_one, joins_turned}
-use Rattle.plan_terms.proofs.Shortcuts.{shortcut}
-use Rattle.plan_terms.proofs.Walks.{walk_back}
+use Rattle.std.proofs.Common.{◌≡◌, ◌≢◌, ℕ, ◌<◌, ◌≤◌, List, [], ◌∷◌, length, get_or, None, Some, inl, inr, ⊎_elim, refl, subst, arith, slice_get}
+use Rattle.net_core.proofs.Library.{∥∥₁_elim, props, cases_eq}
+use Rattle.plan_terms.specs.Terms.{LinkId, Link, Graph, HasEnds, Joins, Survives, IsLeastPath, AreApart, IsPath, last_node}
+use Rattle.plan_terms.proofs.Lemmas.{path_alike, joins_one, joins_turned, shortcut, walk_back}
 use Rattle.short_paths.specs.declared.forward_star.Arc.{Arc}
 use Rattle.short_paths.specs.inner.TightLinks.{Follows, IsFirstTight, LeadsOn}
 use Rattle.short_paths.specs.inner.ForwardStars.{AreArcs, HasArc}

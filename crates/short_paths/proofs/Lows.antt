@@ -1,8 +1,6 @@
 -- distances of a table are low
-use Rattle.std.proofs.Common.{◌≡◌, ℕ, ◌^◌, ◌<◌, ◌≤◌, None, Some, eqb, length, slice_index, unwrap_or, arith, ⊎_elim}
-use Rattle.std.specs.Prelude.{◌==◌, min, max}
-use Rattle.std.proofs.lemmas.Bool.{cases_lt, cond_both, eqb-false}
-use Rattle.std.proofs.lemmas.List.{get_or_past}
+use Rattle.std.proofs.Common.{◌≡◌, ℕ, ◌^◌, ◌<◌, ◌≤◌, None, Some, eqb, length, slice_index, unwrap_or, arith, ⊎_elim, ◌==◌, min, max}
+use Rattle.net_core.proofs.Library.{cases_lt, cond_both, eqb-false, get_or_past}
 use Rattle.short_paths.specs.declared.distance_table.DistanceTable.{DistanceTable}
 use Rattle.short_paths.specs.declared.distance_table.TheConstants.{APART}
 use Rattle.short_paths.specs.inner.Pairs.{pair_place}

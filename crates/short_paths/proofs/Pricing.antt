@@ -1,13 +1,8 @@
 -- a shortest path under scaled prices is a cheapest one
-use Rattle.std.proofs.Common.{◌≡◌, ℕ, ◌+◌, ◌*◌, ◌^◌, ◌<◌, ◌≤◌, List, [], ◌∷◌, length, get_or, map, take, ⊎_elim, ap, ◌∙◌, arith}
-use Rattle.std.specs.List.{All}
-use Rattle.std.proofs.lemmas.Bool.{cases_lt}
-use Rattle.std.proofs.lemmas.List.{get_or-map, get_or_past, length-map, take_more}
-use Rattle.net_core.specs.declared.ids.LinkId.{LinkId}
-use Rattle.plan_terms.specs.LeastPaths.{IsLeastPath}
-use Rattle.plan_terms.specs.Paths.{IsPath, Leads, length_of}
-use Rattle.plan_terms.proofs.Few.{path_few}
-use Rattle.plan_terms.proofs.Walks.{length_push}
+use Rattle.std.proofs.Common.{◌≡◌, ℕ, ◌+◌, ◌*◌, ◌^◌, ◌<◌, ◌≤◌, List, [], ◌∷◌, length, get_or, map, take, ⊎_elim, ap, ◌∙◌, arith, All}
+use Rattle.net_core.proofs.Library.{cases_lt, get_or-map, get_or_past, length-map, take_more}
+use Rattle.plan_terms.specs.Terms.{LinkId, IsLeastPath, IsPath, Leads, length_of}
+use Rattle.plan_terms.proofs.Lemmas.{path_few, length_push}
 use Rattle.short_paths.specs.PricedPaths.{IsPricedPath}
 use Rattle.short_paths.specs.declared.priced_paths.PricedPath.{PricedPath}
 use Rattle.short_paths.specs.inner.Scales.{scaled}

@@ -1,11 +1,9 @@
 -- from the table of a search to distances
 use Rattle.std.proofs.Common.{◌≡◌, ℕ, ◌+◌, ◌-◌, ◌^◌, ◌<◌, ◌≤◌, List, [], ◌∷◌, length, get_or, Option, None, Some, cond, eqb, true, false, map, ap, refl, sym, subst, ◌∙◌, arith}
-use Rattle.std.proofs.lemmas.Bool.{eqb-true, eqb-false}
-use Rattle.std.proofs.lemmas.List.{length-map, get_or-map}
-use Rattle.net_core.specs.declared.ids.LinkId.{LinkId}
-use Rattle.plan_terms.specs.Paths.{Leads, last_node, length_of, IsPath, IsDistance}
-use Rattle.plan_terms.proofs.Distances.{distance_alike}
-use Rattle.plan_terms.proofs.Shortcuts.{shortcut}
+use Rattle.std.proofs.lemmas.Bool.{eqb-true}
+use Rattle.net_core.proofs.Library.{eqb-false, length-map, get_or-map}
+use Rattle.plan_terms.specs.Terms.{LinkId, Leads, last_node, length_of, IsPath, IsDistance}
+use Rattle.plan_terms.proofs.Lemmas.{distance_alike, shortcut}
 use Rattle.short_paths.specs.declared.forward_star.Arc.{Arc}
 use Rattle.short_paths.specs.inner.ForwardStars.{AreArcs, HasArc}
 use Rattle.short_paths.specs.inner.Tables.{IsTable, answer_of}

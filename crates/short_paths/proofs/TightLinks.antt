@@ -1,10 +1,8 @@
 -- the first link that leads on, at each node in turn, gives the least of the shortest paths
 use Rattle.std.proofs.Common.{◌≡◌, ◌≢◌, ℕ, ◌+◌, ◌<◌, ◌≤◌, List, [], ◌∷◌, ◌++◌, length, get_or, inl, inr, ⊎_elim, refl, sym, subst, ap, ◌∙◌, arith}
-use Rattle.std.proofs.lemmas.Bool.{cases_lt}
-use Rattle.net_core.specs.declared.ids.LinkId.{LinkId}
-use Rattle.plan_terms.specs.LeastPaths.{IsLexLe, IsLeastPath}
-use Rattle.plan_terms.specs.Paths.{AreApart, Leads, last_node, length_of}
-use Rattle.plan_terms.proofs.Walks.{Falls, falls_differ}
+use Rattle.net_core.proofs.Library.{cases_lt}
+use Rattle.plan_terms.specs.Terms.{LinkId, IsLexLe, IsLeastPath, AreApart, Leads, last_node, length_of}
+use Rattle.plan_terms.proofs.Lemmas.{Falls, falls_differ}
 use Rattle.short_paths.specs.inner.TightLinks.{Follows, IsFirstTight, IsTightLink, LeadsOn}
 use Rattle.short_paths.specs.inner.Tables.{IsTable}
 

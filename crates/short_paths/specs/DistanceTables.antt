@@ -1,6 +1,6 @@
 -- what a table says of each two nodes
 use Rattle.std.specs.Prelude.{◌≡◌, ℕ, ◌<◌, List, Option}
-use Rattle.plan_terms.specs.Paths.{IsDistance}
+use Rattle.plan_terms.specs.Terms.{IsDistance}
 use Rattle.short_paths.specs.declared.distance_table.DistanceTable.{DistanceTable}
 use Rattle.short_paths.specs.inner.Pairs.{pair_distance}
 

@@ -1,7 +1,6 @@
 -- paths of least price
 use Rattle.std.specs.Prelude.{◌≡◌, ℕ, ◌≤◌, List}
-use Rattle.net_core.specs.declared.ids.LinkId.{LinkId}
-use Rattle.plan_terms.specs.Paths.{IsPath, length_of}
+use Rattle.plan_terms.specs.Terms.{LinkId, IsPath, length_of}
 use Rattle.short_paths.specs.declared.priced_paths.PricedPath.{PricedPath}
 
 -- a path from a to b with the sum of its prices, and no path from a to b has a smaller sum

@@ -1,7 +1,6 @@
 ghost use Rattle.std.specs.Prelude.{◌≡◌, ℕ, ◌+◌, ◌<◌, ◌≤◌, All, IfOk, OnOk, length};
 ghost use Rattle.std.specs.List.Sorted.{IsPermutation, IsNonDecreasingBy};
-ghost use Rattle.net_core.specs.Graphs.{Joins};
-ghost use Rattle.net_core.specs.Views.{graph_of};
+ghost use Rattle.plan_terms.specs.Terms.{Joins, graph_of};
 ghost use Rattle.short_paths.specs.inner.ForwardStars.{AddsArcs, AreArcs, AreStarts, IsStartOf, HasArc};
 
 use net_core::{LinkId, List, NoMemory, NodeId, Surviving};

@@ -1,8 +1,5 @@
 ghost use Rattle.std.specs.Prelude.{◌≡◌, ℕ, ◌+◌, ◌<◌, ◌^◌, ◌↔◌, IfOk, IsErrOf, length, slice_index};
-ghost use Rattle.net_core.specs.Graphs.{Joins, Survives};
-ghost use Rattle.net_core.specs.Views.{graph, graph_of};
-ghost use Rattle.plan_terms.specs.LeastPaths.{IsLeastPath};
-ghost use Rattle.plan_terms.specs.Paths.{AreApart};
+ghost use Rattle.plan_terms.specs.Terms.{Joins, Survives, graph, graph_of, IsLeastPath, AreApart};
 ghost use Rattle.short_paths.specs.declared.dijkstra.TheConstants.{FAR};
 ghost use Rattle.short_paths.specs.inner.ForwardStars.{AreArcs, HasArc, HaveLengths};
 ghost use Rattle.short_paths.specs.inner.Tables.{IsTable};

@@ -1,6 +1,5 @@
 ghost use Rattle.std.specs.Prelude.{◌≡◌, ℕ, ◌+◌, ◌<◌, ◌≤◌, ◌++◌, ◌^◌, All, IfOk, OnOk, length, map, slice_index};
-ghost use Rattle.net_core.specs.Graphs.{Joins};
-ghost use Rattle.net_core.specs.Views.{graph, graph_of};
+ghost use Rattle.plan_terms.specs.Terms.{Joins, graph, graph_of};
 ghost use Rattle.short_paths.specs.DistanceTables.{AreAllDistances};
 ghost use Rattle.short_paths.specs.inner.ForwardStars.{HasArc, HaveLengths};
 ghost use Rattle.short_paths.specs.inner.Pairs.{AddsRow, ArePairs, narrowed};

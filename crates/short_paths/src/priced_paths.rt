@@ -1,7 +1,5 @@
 ghost use Rattle.std.specs.Prelude.{◌≡◌, ℕ, ◌+◌, ◌*◌, ◌^◌, ◌<◌, ◌≤◌, All, IfOk, IsErrOf, length, map};
-ghost use Rattle.net_core.specs.Graphs.{Joins};
-ghost use Rattle.net_core.specs.Views.{graph, graph_of};
-ghost use Rattle.plan_terms.specs.Paths.{AreApart, length_of};
+ghost use Rattle.plan_terms.specs.Terms.{Joins, graph, graph_of, AreApart, length_of};
 ghost use Rattle.short_paths.specs.PricedPaths.{IsPricedPath};
 ghost use Rattle.short_paths.specs.inner.Scales.{scaled};
 

@@ -1,6 +1,5 @@
 ghost use Rattle.std.specs.Prelude.{◌≡◌, ℕ, ◌+◌, ◌<◌, ◌^◌, All, IfOk, length, map};
-ghost use Rattle.net_core.specs.Graphs.{Joins};
-ghost use Rattle.net_core.specs.Views.{graph, graph_of};
+ghost use Rattle.plan_terms.specs.Terms.{Joins, graph, graph_of};
 ghost use Rattle.short_paths.specs.DistanceRows.{AreDistances};
 ghost use Rattle.short_paths.specs.inner.ForwardStars.{HaveLengths};
 ghost use Rattle.short_paths.specs.inner.Tables.{answer_of};

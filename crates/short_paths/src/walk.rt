@@ -1,7 +1,5 @@
 ghost use Rattle.std.specs.Prelude.{◌≡◌, ◌≢◌, ◌<◌, ◌↔◌, All, IfSome, IfNone, IsTrue, ℕ, length, slice_index_or, slice_set, true};
-ghost use Rattle.net_core.specs.Graphs.{Joins};
-ghost use Rattle.net_core.specs.Views.{graph_of};
-ghost use Rattle.plan_terms.specs.Paths.{IsPath};
+ghost use Rattle.plan_terms.specs.Terms.{Joins, graph_of, IsPath};
 ghost use Rattle.short_paths.specs.inner.Walks.{IsUnseen, IsUnseenPath, far_end};
 
 use net_core::{Link, LinkId, NodeId, Surviving};

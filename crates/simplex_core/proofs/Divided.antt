@@ -2,8 +2,7 @@
 use Rattle.std.proofs.Common.{◌≡◌, ℕ, ◌<◌, ◌^◌, List, length, None, pos, sym, ◌∙◌, subst, arith}
 use Rattle.std.proofs.Math.IntN.{ℤ, ◌*ℤ◌}
 use Rattle.std.specs.Int.Signed.{◌<ℤ◌}
-use Rattle.checked_fraction.specs.Rows.{num, IsReduced}
-use Rattle.checked_fraction.specs.Mixed.{combined}
+use Rattle.checked_fraction.specs.Terms.{num, IsReduced, combined}
 use Rattle.checked_fraction.proofs.Products.{mixed_times, moved, regroup}
 use Rattle.checked_fraction.proofs.Reduced.{scaled}
 use Rattle.simplex_core.specs.inner.Factors.{AreFactorsOf}

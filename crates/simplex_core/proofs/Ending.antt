@@ -1,23 +1,14 @@
 -- the end: values over one denominator, and programs that stay the same
 use Rattle.std.proofs.Common.{◌≡◌, ℕ, ◌<◌, ◌*◌, ◌/◌, ◌^◌, List, length, get_or, refl, sym, ap, subst, ◌∙◌, arith, inl, inr, ⊎_elim, unsigned_abs, Result, Ok, Err}
 use Rattle.std.proofs.Math.IntN.{ℤ, pos, negsuc, ◌*ℤ◌, ◌-ℤ◌}
-use Rattle.std.specs.Int.{◌∣◌}
+use Rattle.net_core.proofs.Library.{◌∣◌, ints, get_or_from_slice_get}
 use Rattle.std.specs.Int.Signed.{◌<ℤ◌, ◌≤ℤ◌}
-use Rattle.std.proofs.lemmas.Int.{ints}
-use Rattle.std.proofs.lemmas.Option.{get_or_from_slice_get}
-use Rattle.checked_fraction.specs.Rows.{num, IsInLowestTerms}
-use Rattle.simplex_law.specs.Sums.{dot}
-use Rattle.simplex_law.specs.Programs.{ColumnOf, IsProgramColumn, IsPacking, IsSlack}
-use Rattle.simplex_law.specs.Optima.{IsOptimum}
-use Rattle.simplex_law.proofs.Sums.{dot-same}
-use Rattle.simplex_law.proofs.Limited.{limited}
-use Rattle.simplex_law.proofs.Optimal.{optimum, greatest, none_gains}
-use Rattle.simplex_law.proofs.Reached.{value_nonneg}
-use Rattle.simplex_law.proofs.Values.{value_low}
+use Rattle.checked_fraction.specs.Terms.{num, IsInLowestTerms}
+use Rattle.simplex_law.specs.Terms.{dot, ColumnOf, IsProgramColumn, IsPacking, IsSlack, IsOptimum, AreNames}
+use Rattle.simplex_law.proofs.Lemmas.{dot-same, limited, optimum, greatest, none_gains, value_nonneg, value_low}
 use Rattle.simplex_core.specs.inner.Commons.{IsFractionOf, AreFractionsOf, HaveFractions, num_of_fraction, den_of_fraction, fraction_den, DivideAll, value_at}
 use Rattle.simplex_core.specs.Prices.{GainsAt}
 use Rattle.simplex_core.specs.Tables.{nums_at, den_at}
-use Rattle.simplex_law.specs.Bases.{AreNames}
 use Rattle.simplex_core.specs.Programs.{IsSameProgram, Solves, IsSimplexAnswer}
 use Rattle.simplex_core.proofs.Solving.{IsAt}
 use Rattle.simplex_core.specs.inner.Outcomes.{HasLowValues, IsValued, IsValuesOutcome, IsBasisOutcome}

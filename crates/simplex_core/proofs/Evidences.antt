@@ -1,20 +1,14 @@
 -- what is too wide is evidence
 use Rattle.std.proofs.Common.{◌≡◌, ℕ, ◌<◌, ◌≤◌, ◌^◌, List, length, slice_set, sym, subst, arith, ⊎_elim}
 use Rattle.std.proofs.Math.IntN.{ℤ}
-use Rattle.checked_fraction.specs.Rows.{num, IsInLowestTerms}
+use Rattle.checked_fraction.specs.Terms.{num, IsInLowestTerms}
 use Rattle.net_core.specs.declared.columns.WideKind.{WideKind}
 use Rattle.net_core.specs.declared.columns.WideKind.TheVariants.{Number, Row as RowOf, Product, Sum, Common, Value, Length}
-use Rattle.std.specs.Int.{◌∣◌}
-use Rattle.std.proofs.lemmas.Nat.Gcd.{dvd_trans}
-use Rattle.simplex_law.specs.Sums.{dot, put}
+use Rattle.net_core.proofs.Library.{◌∣◌, dvd_trans}
+use Rattle.simplex_law.specs.Terms.{dot, put, ColumnOf, IsProgramColumn, slack_basis, AreNames, IsReached, HoldsRow, HoldsProduct, HoldsSum, HoldsKind, IsReachedEvidence}
 use Rattle.simplex_core.specs.inner.Commons.{IsFractionOf, den_of_fraction}
 use Rattle.simplex_core.proofs.Starts.{each_at}
-use Rattle.simplex_law.specs.Programs.{ColumnOf, IsProgramColumn, slack_basis}
-use Rattle.simplex_law.specs.Bases.{AreNames, IsReached}
-use Rattle.simplex_law.specs.Evidence.{HoldsRow, HoldsProduct, HoldsSum, HoldsKind, IsReachedEvidence}
-use Rattle.simplex_law.proofs.Bounds.{sizes}
-use Rattle.simplex_law.proofs.Reached.{turn_reached}
-use Rattle.simplex_law.proofs.Widths.{wide_row, wide_duals, wide_product, wide_price, wide_sum, wide_value, wide_common}
+use Rattle.simplex_law.proofs.Lemmas.{sizes, turn_reached, wide_row, wide_duals, wide_product, wide_price, wide_sum, wide_value, wide_common}
 use Rattle.simplex_core.specs.Tables.{nums_at, den_at}
 use Rattle.simplex_core.proofs.Solving.{IsAt, names_turn, lowest_at, pick_at, state_turn, bounds_turn}
 use Rattle.simplex_core.specs.inner.Outcomes.{IsWideEnd}

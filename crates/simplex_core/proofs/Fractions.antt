@@ -1,10 +1,10 @@
 -- the values of rows as fractions
 use Rattle.std.proofs.Common.{◌≡◌, ℕ, ◌+◌, ◌*◌, ◌++◌, List, [], ◌∷◌, length, length-append, Some, slice_get, sym, ap, subst, arith, unsigned_abs}
 use Rattle.std.proofs.Math.IntN.{ℤ}
-use Rattle.std.specs.Int.{◌∣◌}
-use Rattle.checked_fraction.specs.Rows.{num}
+use Rattle.net_core.proofs.Library.{◌∣◌}
+use Rattle.checked_fraction.specs.Terms.{num}
 use Rattle.checked_fraction.specs.declared.row.Row.{Row}
-use Rattle.simplex_law.specs.Sums.{dot}
+use Rattle.simplex_law.specs.Terms.{dot}
 use Rattle.simplex_core.specs.inner.Commons.{IsFractionOf}
 use Rattle.simplex_core.specs.Tables.{nums_of, den_of, nums_at, den_at}
 use Rattle.simplex_core.specs.inner.Shapes.{AtEach}

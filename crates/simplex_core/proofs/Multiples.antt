@@ -1,9 +1,6 @@
 -- least common multiples
 use Rattle.std.proofs.Common.{◌≡◌, ℕ, zero, suc, ◌+◌, ◌*◌, ◌/◌, ◌<◌, sym, ap, subst, ◌∙◌, arith, ⊎_elim}
-use Rattle.std.specs.Int.{◌∣◌, IsGcd}
-use Rattle.std.proofs.lemmas.Bool.{cases_lt}
-use Rattle.std.proofs.lemmas.Nat.Gcd.{dvd_trans}
-use Rattle.std.proofs.Math.Nat.{one-dvd, dvd-mul_left, dvd-mul_right, dvd_of_mul-dvd-mul_left, mul-dvd-mul_left, mul-dvd-mul_right, mul-div_cancel'}
+use Rattle.net_core.proofs.Library.{◌∣◌, IsGcd, cases_lt, dvd_trans, one-dvd, dvd-mul_left, dvd-mul_right, dvd_of_mul-dvd-mul_left, mul-dvd-mul_left, mul-dvd-mul_right, mul-div_cancel'}
 use Rattle.simplex_core.specs.Multiples.{IsLeastMultiple, HaveNoMultiple}
 use Rattle.simplex_core.specs.inner.Commons.{IsDenominator, HaveNoDenominator}
 use Rattle.net_core.proofs.Numbers.{positive_divisor}

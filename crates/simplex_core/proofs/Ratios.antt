@@ -1,24 +1,18 @@
 -- the order of the ratio test over the rows that the code has
-use Rattle.std.proofs.Common.{◌≡◌, ◌≢◌, ℕ, suc, ◌<◌, ◌+◌, List, length, Option, Some, None, Ok, refl, sym, ap, subst, ◌∙◌, arith, ⊎_elim, inl, inr}
+use Rattle.std.proofs.Common.{◌≡◌, ◌≢◌, ℕ, suc, ◌<◌, ◌+◌, List, length, Option, Some, None, Ok, refl, sym, ap, subst, ◌∙◌, arith, ⊎_elim, inl, inr, option_map}
 use Rattle.std.proofs.Math.IntN.{ℤ, pos, ◌*ℤ◌}
 use Rattle.std.specs.Int.Signed.{◌<ℤ◌, ◌≤ℤ◌}
-use Rattle.std.proofs.lemmas.Int.{ints}
-use Rattle.std.proofs.lemmas.Bool.{cases_lt}
-use Rattle.std.specs.Option.{option_map}
+use Rattle.net_core.proofs.Library.{ints, cases_lt}
 use Rattle.std.specs.declared.cmp.Ordering.{Ordering}
 use Rattle.std.specs.declared.cmp.Ordering.TheVariants.{Less, Equal, Greater}
-use Rattle.checked_fraction.specs.Rows.{num}
-use Rattle.checked_fraction.specs.Mixed.{combined}
+use Rattle.checked_fraction.specs.Terms.{num, combined}
 use Rattle.checked_fraction.specs.declared.row.Row.{Row}
-use Rattle.simplex_law.specs.Sums.{dot}
-use Rattle.simplex_law.specs.inner.Lexicographic.{valued}
-use Rattle.simplex_law.proofs.Order.{lex_at, lex_none, lex_sum, crossed}
+use Rattle.simplex_law.specs.Terms.{dot, valued, IsNoLater}
+use Rattle.simplex_law.proofs.Lemmas.{lex_at, lex_none, lex_sum, crossed, gone, over}
 use Rattle.simplex_core.specs.Tables.{nums_at}
 use Rattle.simplex_core.specs.inner.Ratios.{IsCandidate, ComparesRatios, IsFirstOf, IsBetter, IsRowNoLater, IsBestBefore, IsLeavingRow}
-use Rattle.simplex_law.specs.inner.Pivots.{IsNoLater}
 use Rattle.simplex_core.specs.Orders.{IsFirstLess, ComparesNumbers}
 use Rattle.simplex_core.specs.declared.ratio_test.Candidate.{Candidate}
-use Rattle.simplex_law.proofs.NoLater.{gone, over}
 
 pub no_later_trans : (m : ℕ) (bound u : ℕ → ℤ) (p : ℤ) (v : ℕ → ℤ) (q : ℤ) (w : ℕ → ℤ) (r : ℤ) → pos 0 <ℤ p → pos 0 <ℤ q → pos 0 <ℤ r
     → IsNoLater m bound u p v q → IsNoLater m bound v q w r → IsNoLater m bound u p w r

@@ -2,9 +2,9 @@
 use Rattle.std.proofs.Common.{◌≡◌, ◌≢◌, ℕ, ◌<◌, ◌+◌, ◌^◌, List, length, Option, slice_get, slice_set, get_or, get_or-set_same, get_or-set_other, below_more, sym, ap, subst, ◌∙◌, arith, unsigned_abs}
 use Rattle.std.proofs.Math.IntN.{ℤ, ◌*ℤ◌}
 use Rattle.std.specs.declared.cmp.Ordering.{Ordering}
-use Rattle.checked_fraction.specs.Rows.{num}
+use Rattle.checked_fraction.specs.Terms.{num}
 use Rattle.checked_fraction.specs.declared.row.Row.{Row}
-use Rattle.simplex_law.specs.Sums.{dot}
+use Rattle.simplex_law.specs.Terms.{dot}
 use Rattle.simplex_core.specs.Columns.{entry_of}
 use Rattle.simplex_core.specs.Orders.{ComparesNumbers}
 use Rattle.simplex_core.specs.Tables.{nums_of, nums_at, IsRectangle}

@@ -2,22 +2,14 @@
 use Rattle.std.proofs.Common.{◌≡◌, ℕ, ◌<◌, ◌^◌, List, length, Some, slice_get, slice_set, length-set, cond, refl, sym, ap, subst, ◌∙◌, arith, ⊎_elim, unsigned_abs}
 use Rattle.std.proofs.Math.IntN.{ℤ, pos}
 use Rattle.std.specs.Int.Signed.{◌≤ℤ◌}
-use Rattle.std.proofs.lemmas.Int.{ints}
-use Rattle.std.proofs.lemmas.Bool.{cases_eq, eq-eqb, ne_eqb}
-use Rattle.checked_fraction.specs.Rows.{num, IsInLowestTerms}
+use Rattle.net_core.proofs.Library.{ints, cases_eq}
+use Rattle.std.proofs.lemmas.Bool.{eq-eqb, ne_eqb}
+use Rattle.checked_fraction.specs.Terms.{num, IsInLowestTerms}
 use Rattle.checked_fraction.specs.declared.row.Row.{Row}
-use Rattle.simplex_law.specs.Sums.{dot, put}
-use Rattle.simplex_law.specs.Programs.{ColumnOf, IsProgramColumn, IsPacking, slack_basis}
-use Rattle.simplex_law.proofs.Numbers.{left_above, AreNumberedDuals, left_falls}
-use Rattle.simplex_law.proofs.Tableaux.{IsTableau}
-use Rattle.simplex_law.specs.inner.Pivots.{IsPick}
-use Rattle.simplex_law.proofs.Sums.{dot-same, dot-none}
-use Rattle.simplex_law.proofs.Bounds.{same_pick}
-use Rattle.simplex_law.proofs.Reached.{started, start_reached, turn_reached, value_nonneg}
-use Rattle.simplex_law.proofs.Turned.{turned, rises}
+use Rattle.simplex_law.specs.Terms.{dot, put, ColumnOf, IsProgramColumn, IsPacking, slack_basis, IsPick, AreNames, IsReached}
+use Rattle.simplex_law.proofs.Lemmas.{left_above, AreNumberedDuals, left_falls, IsTableau, dot-same, dot-none, same_pick, started, start_reached, turn_reached, value_nonneg, turned, rises}
 use Rattle.simplex_core.specs.Tables.{nums_of, den_of, nums_at, den_at, IsRectangle}
 use Rattle.simplex_core.specs.inner.Shapes.{IsStartBasis, IsShaped}
-use Rattle.simplex_law.specs.Bases.{AreNames, IsReached}
 use Rattle.simplex_core.specs.inner.Turns.{Picks, TurnsTo}
 use Rattle.simplex_core.specs.declared.basis.Basis.{Basis}
 use Rattle.simplex_core.proofs.Lists.{get_same, get_other}

@@ -2,13 +2,11 @@
 use Rattle.std.proofs.Common.{◌≡◌, ℕ, zero, suc, ◌<◌, ◌≤◌, ◌^◌, ◌+◌, ◌++◌, List, [], ◌∷◌, length, length-append, Some, replicate, slice_get, slice_set, length-set, get_or-set_same, get_or-set_other, refl, sym, ap, subst, ◌∙◌, arith, ⊎_elim}
 use Rattle.std.proofs.Math.IntN.{ℤ, pos}
 use Rattle.std.specs.Int.Signed.{◌≤ℤ◌}
-use Rattle.std.proofs.lemmas.Int.{ints}
-use Rattle.std.proofs.lemmas.Bool.{cases_lt, cases_eq}
-use Rattle.std.proofs.lemmas.Option.{get_or_from_slice_get}
-use Rattle.checked_fraction.specs.Rows.{num, IsNarrow}
+use Rattle.net_core.proofs.Library.{ints, cases_lt, cases_eq, get_or_from_slice_get}
+use Rattle.checked_fraction.specs.Terms.{num, IsNarrow}
 use Rattle.checked_fraction.specs.declared.row.Row.{Row}
-use Rattle.simplex_law.specs.Sums.{unit_vector}
-use Rattle.simplex_law.proofs.Sums.{unit-same, unit-other}
+use Rattle.simplex_law.specs.Terms.{unit_vector}
+use Rattle.simplex_law.proofs.Lemmas.{unit-same, unit-other}
 use Rattle.simplex_core.specs.Tables.{nums_of, den_of}
 use Rattle.simplex_core.specs.inner.Shapes.{AtEach, IsUnit, IsStartBasis}
 use Rattle.simplex_core.specs.declared.basis.Basis.{Basis}

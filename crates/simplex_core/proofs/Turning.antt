@@ -2,20 +2,17 @@
 use Rattle.std.proofs.Common.{◌≡◌, ℕ, ◌<◌, List, [], ◌∷◌, cond, eqb, refl, sym, subst, arith, inl, inr, ⊎_elim}
 use Rattle.std.proofs.Math.IntN.{ℤ, pos, ◌+ℤ◌, ◌-ℤ◌, ◌*ℤ◌}
 use Rattle.std.specs.Int.Signed.{◌<ℤ◌}
-use Rattle.std.proofs.lemmas.Int.{ints}
-use Rattle.checked_fraction.specs.Rows.{num}
-use Rattle.checked_fraction.specs.Mixed.{combined, IsTooWide}
+use Rattle.net_core.proofs.Library.{ints}
+use Rattle.checked_fraction.specs.Terms.{num, combined, IsTooWide}
 use Rattle.checked_fraction.specs.declared.row.Row.{Row}
 use Rattle.net_core.specs.declared.columns.WideKind.{WideKind}
 use Rattle.net_core.specs.declared.columns.WideKind.TheVariants.{Number, Row as RowOf, Product, Sum, Common, Value, Length}
-use Rattle.simplex_law.specs.Sums.{dot, unit_vector}
-use Rattle.simplex_law.specs.Programs.{ColumnOf, IsSlack}
-use Rattle.simplex_law.proofs.Sums.{dot-unit}
+use Rattle.simplex_law.specs.Terms.{dot, unit_vector, ColumnOf, IsSlack, IsNoLater}
+use Rattle.simplex_law.proofs.Lemmas.{dot-unit}
 use Rattle.simplex_core.specs.Columns.{column_from, entry_of}
 use Rattle.simplex_core.specs.Prices.{GainsAt}
 use Rattle.simplex_core.specs.Tables.{nums_at, den_at}
 use Rattle.simplex_core.specs.Turned.{IsWideRow}
-use Rattle.simplex_law.specs.inner.Pivots.{IsNoLater}
 use Rattle.simplex_core.specs.inner.Ratios.{IsRowNoLater}
 use Rattle.simplex_core.specs.inner.Turns.{reduced_cost, Picks, TurnsTo, IsWideOther, GetsWide, Enters, Chooses, HasEntered, IsTurnOutcome}
 use Rattle.simplex_core.specs.declared.basis.Basis.{Basis}

@@ -1,8 +1,8 @@
 -- the columns that the code has, as columns of a program
 use Rattle.std.specs.Prelude.{ℕ, ℤ, List, [], ◌∷◌, pos, ◌≢◌, ◌<◌, ◌≤ℤ◌}
 use Rattle.std.specs.List.{AllByRecursion}
-use Rattle.checked_fraction.specs.Rows.{IsNarrow}
-use Rattle.simplex_law.specs.Programs.{ColumnOf, entry_at}
+use Rattle.checked_fraction.specs.Terms.{IsNarrow}
+use Rattle.simplex_law.specs.Terms.{ColumnOf, entry_at}
 use Rattle.simplex_core.specs.declared.columns.Column.{Column}
 use Rattle.simplex_core.specs.declared.columns.Entry.{Entry}
 

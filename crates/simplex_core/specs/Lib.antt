@@ -6,3 +6,4 @@ pub mod Programs
 pub mod Tables
 pub mod Turned
 pub mod inner
+pub mod Terms

@@ -1,9 +1,8 @@
 -- what pricing finds
 use Rattle.std.specs.Prelude.{ℕ, ◌*ℤ◌, ◌<ℤ◌}
-use Rattle.checked_fraction.specs.Rows.{num, IsNarrow}
+use Rattle.checked_fraction.specs.Terms.{num, IsNarrow}
 use Rattle.checked_fraction.specs.declared.row.Row.{Row}
-use Rattle.simplex_law.specs.Sums.{dot}
-use Rattle.simplex_law.specs.Programs.{ColumnOf}
+use Rattle.simplex_law.specs.Terms.{dot, ColumnOf}
 use Rattle.simplex_core.specs.Columns.{column_of, AreEntries}
 use Rattle.simplex_core.specs.declared.columns.Column.{Column}
 use Rattle.simplex_core.specs.declared.columns.Price.{Price}

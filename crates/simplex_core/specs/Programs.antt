@@ -1,11 +1,7 @@
 -- programs that stay the same, and what is found of them
 use Rattle.std.specs.Prelude.{ℕ, ℤ, length, get_or, pos, Result, Ok, Err, ◌≡◌, ◌<◌, ◌^◌, ◌≤ℤ◌, ◌↔◌, ◌*ℤ◌}
-use Rattle.checked_fraction.specs.Rows.{num}
-use Rattle.simplex_law.specs.Sums.{int_sum}
-use Rattle.simplex_law.specs.Programs.{ColumnOf, IsProgramColumn, slack_basis}
-use Rattle.simplex_law.specs.Bases.{AreNames, IsReached}
-use Rattle.simplex_law.specs.Evidence.{HoldsKind, IsReachedEvidence}
-use Rattle.simplex_law.specs.Optima.{IsOptimum, IsGreatestGain}
+use Rattle.checked_fraction.specs.Terms.{num}
+use Rattle.simplex_law.specs.Terms.{int_sum, ColumnOf, IsProgramColumn, slack_basis, AreNames, IsReached, HoldsKind, IsReachedEvidence, IsOptimum, IsGreatestGain}
 use Rattle.simplex_core.specs.declared.optimum.Optimum.{Optimum}
 use Rattle.simplex_core.specs.declared.solver.SimplexFault.{SimplexFault}
 use Rattle.simplex_core.specs.declared.solver.SimplexFault.TheVariants.{Wide, NoMemory}

@@ -1,7 +1,7 @@
 -- rows as a table of numbers
 use Rattle.std.specs.Prelude.{ℕ, ℤ, List, [], length, Option, Some, None, pos, ◌≡◌, ◌<◌}
 use Rattle.std.specs.List.{slice_get}
-use Rattle.checked_fraction.specs.Rows.{num}
+use Rattle.checked_fraction.specs.Terms.{num}
 use Rattle.checked_fraction.specs.declared.row.Row.{Row}
 
 abbrev pub nums_of : Option Row → List ℤ

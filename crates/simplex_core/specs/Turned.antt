@@ -2,11 +2,10 @@
 use Rattle.std.specs.Prelude.{ℕ, ℤ, List, length, Option, Some, None, pos, ◌≡◌, ◌≢◌, ◌<◌, ◌^◌, ◌/◌, ◌*ℤ◌, ◌<ℤ◌, ◌⊎◌, unsigned_abs}
 use Rattle.std.specs.Int.{IsGcd}
 use Rattle.std.specs.List.{slice_get}
-use Rattle.checked_fraction.specs.Rows.{num, IsNarrow, IsReduced}
-use Rattle.checked_fraction.specs.Mixed.{combined, IsTooWide}
+use Rattle.checked_fraction.specs.Terms.{num, IsNarrow, IsReduced, combined, IsTooWide}
 use Rattle.checked_fraction.specs.declared.row.Row.{Row}
 use Rattle.checked_fraction.specs.declared.wide.WideNumber.{WideNumber}
-use Rattle.simplex_law.specs.Evidence.{IsWide}
+use Rattle.simplex_law.specs.Terms.{IsWide}
 use Rattle.simplex_core.specs.Tables.{nums_at, den_at, nums_of, den_of}
 
 -- p divided by its common divisor with q is below 2 ^ 62 in absolute value

@@ -1,6 +1,6 @@
 ghost use Rattle.std.specs.Prelude.{◌≡◌, ◌<◌, ◌≤ℤ◌, ℕ, ℤ, pos, length, replicate, IfOk};
-ghost use Rattle.checked_fraction.specs.Rows.{IsNarrow};
-ghost use Rattle.simplex_law.specs.Sums.{unit_vector};
+ghost use Rattle.checked_fraction.specs.Terms.{IsNarrow};
+ghost use Rattle.simplex_law.specs.Terms.{unit_vector};
 ghost use Rattle.simplex_core.specs.inner.Shapes.{AtEach, IsUnit, IsStartBasis};
 
 use crate::columns::Columns;

@@ -1,6 +1,6 @@
 ghost use Rattle.std.specs.Prelude.{◌≡◌, ◌↔◌, ◌<◌, ◌≤ℤ◌, ℕ, ℤ, pos, length};
-ghost use Rattle.checked_fraction.specs.Rows.{num};
-ghost use Rattle.simplex_law.specs.Programs.{ColumnOf};
+ghost use Rattle.checked_fraction.specs.Terms.{num};
+ghost use Rattle.simplex_law.specs.Terms.{ColumnOf};
 ghost use Rattle.simplex_core.specs.Prices.{Finds};
 
 use checked_fraction::Row;

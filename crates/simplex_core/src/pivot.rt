@@ -1,10 +1,8 @@
 ghost use Rattle.std.specs.Prelude.{◌≡◌, ◌≢◌, ◌<◌, ◌^◌, ◌*ℤ◌, ◌<ℤ◌, ℕ, pos, length, OnOk, IfErr};
-ghost use Rattle.checked_fraction.specs.Rows.{num, IsNarrow, IsReduced};
-ghost use Rattle.checked_fraction.specs.Mixed.{combined, IsTooWide};
+ghost use Rattle.checked_fraction.specs.Terms.{num, IsNarrow, IsReduced, combined, IsTooWide};
 ghost use Rattle.simplex_core.specs.Tables.{nums_at, IsRectangle};
-ghost use Rattle.simplex_core.specs.Turned.{IsNarrowOver, HavePivot};
+ghost use Rattle.simplex_core.specs.Turned.{IsNarrowOver, HavePivot, IsTooWideAt, AreTurned, IsWideRow};
 ghost use Rattle.simplex_core.specs.inner.Pivots.{CombinesAt, AreCombined};
-ghost use Rattle.simplex_core.specs.Turned.{IsTooWideAt, AreTurned, IsWideRow};
 
 use crate::factors::{Factors, factors_of};
 use checked_fraction::{Row, WideNumber, combine, narrowed, rescale};

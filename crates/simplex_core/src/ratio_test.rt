@@ -1,7 +1,7 @@
 ghost use Rattle.std.specs.Prelude.{◌≡◌, ◌+◌, ◌<◌, ◌≤◌, ◌^◌, ◌*ℤ◌, ◌<ℤ◌, ◌≤ℤ◌, ℤ, ℕ, pos, length, unsigned_abs, IfOk, IfErr, ◌⊎◌};
 ghost use Rattle.std.specs.Option.{ForSome, option_map};
-ghost use Rattle.checked_fraction.specs.Rows.{num, IsNarrow};
-ghost use Rattle.simplex_law.specs.Sums.{dot};
+ghost use Rattle.checked_fraction.specs.Terms.{num, IsNarrow};
+ghost use Rattle.simplex_law.specs.Terms.{dot};
 ghost use Rattle.simplex_core.specs.Tables.{nums_at, IsRectangle};
 ghost use Rattle.simplex_core.specs.inner.Products.{AreBoundedRows};
 ghost use Rattle.simplex_core.specs.Orders.{HasOrder, ComparesNumbers};

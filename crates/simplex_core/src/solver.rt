@@ -1,8 +1,7 @@
 ghost use Rattle.std.specs.Prelude.{◌≡◌, ◌<◌, ◌≤◌, ◌^◌, ◌<ℤ◌, ◌≤ℤ◌, ℕ, ℤ, pos, length, slice_set, unsigned_abs, IsTrue, false};
 ghost use Rattle.std.specs.List.{AllByRecursion};
-ghost use Rattle.checked_fraction.specs.Rows.{num, IsNarrow};
-ghost use Rattle.simplex_law.specs.Sums.{dot};
-ghost use Rattle.simplex_law.specs.Programs.{ColumnOf, IsProgramColumn, IsPacking};
+ghost use Rattle.checked_fraction.specs.Terms.{num, IsNarrow};
+ghost use Rattle.simplex_law.specs.Terms.{dot, ColumnOf, IsProgramColumn, IsPacking};
 ghost use Rattle.simplex_core.specs.Columns.{IsEntry, column_from};
 ghost use Rattle.simplex_core.specs.Turned.{IsNarrowOver, HavePivot};
 ghost use Rattle.simplex_core.specs.Tables.{nums_at};

@@ -2,8 +2,8 @@
 use Rattle.std.proofs.Common.{◌≡◌, ℕ, zero, suc, ◌<◌, ◌≤◌, ◌+◌, ◌*◌, inl, inr, ⊎_elim, refl, sym, ap, ◌∙◌, arith, subst, unsigned_abs}
 use Rattle.std.proofs.Math.IntN.{ℤ, pos, ◌-ℤ◌, ◌*ℤ◌}
 use Rattle.std.specs.Int.Signed.{◌<ℤ◌}
-use Rattle.checked_fraction.specs.Mixed.{combined}
-use Rattle.net_core.specs.Sums.{sum_below}
+use Rattle.checked_fraction.specs.Terms.{combined}
+use Rattle.net_core.specs.Terms.{sum_below}
 use Rattle.simplex_law.specs.Sums.{dot}
 use Rattle.simplex_law.specs.Programs.{ColumnOf}
 use Rattle.simplex_law.specs.inner.Lexicographic.{IsLexNonneg, valued}

@@ -2,8 +2,7 @@
 use Rattle.std.proofs.Common.{◌≡◌, ℕ, zero, suc, ◌+◌, ◌<◌, ◌^◌, ◌⊎◌, refl, sym, arith, inl, inr, ⊎_elim, cond, eqb, subst}
 use Rattle.std.proofs.Math.IntN.{ℤ, pos, negsuc, ◌*ℤ◌}
 use Rattle.std.specs.Int.Signed.{◌<ℤ◌}
-use Rattle.std.proofs.lemmas.Int.{ints}
-use Rattle.std.proofs.Math.Nat.{eq-one_of_dvd-one}
+use Rattle.net_core.proofs.Library.{ints, eq-one_of_dvd-one}
 use Rattle.simplex_law.specs.Sums.{dot, unit_vector, put}
 use Rattle.simplex_law.specs.Programs.{ColumnOf, IsProgramColumn, slack_basis}
 use Rattle.simplex_law.specs.Bases.{IsFeasible, IsBest, IsReached}

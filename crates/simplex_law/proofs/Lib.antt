@@ -18,3 +18,4 @@ pub mod Turned
 pub mod Unique
 pub mod Values
 pub mod Widths
+pub mod Lemmas

@@ -1,8 +1,8 @@
 -- a column that gains is limited by a row
 use Rattle.std.proofs.Common.{◌≡◌, ℕ, ◌<◌, sym, ◌∙◌, arith, subst}
-use Rattle.std.proofs.Math.IntN.{ℤ, pos, ◌*ℤ◌, *ℤ_comm, *ℤ-zero}
+use Rattle.std.proofs.Math.IntN.{ℤ, pos, ◌*ℤ◌}
+use Rattle.net_core.proofs.Library.{*ℤ_comm, *ℤ-zero, ints, by_lt_z}
 use Rattle.std.specs.Int.Signed.{◌<ℤ◌, ◌≤ℤ◌}
-use Rattle.std.proofs.lemmas.Int.{ints, by_lt_z}
 use Rattle.simplex_law.specs.Sums.{dot}
 use Rattle.simplex_law.specs.Programs.{ColumnOf, IsPacking}
 use Rattle.simplex_law.specs.Bases.{Gains}

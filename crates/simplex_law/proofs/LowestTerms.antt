@@ -2,12 +2,9 @@
 use Rattle.std.proofs.Common.{◌≡◌, ℕ, zero, suc, ◌<◌, ◌+◌, ◌*◌, ◌/◌, ◌%◌, refl, sym, ap, ◌∙◌, arith, subst, unsigned_abs}
 use Rattle.std.proofs.Math.IntN.{ℤ, pos, negsuc, ◌-ℤ◌, ◌*ℤ◌}
 use Rattle.std.specs.Int.Signed.{◌<ℤ◌}
-use Rattle.std.specs.Int.{◌∣◌, IsGcd}
-use Rattle.std.proofs.lemmas.Int.{ints, unsigned_abs-mul}
-use Rattle.std.proofs.lemmas.Nat.Gcd.{IsGcd-from_zero, IsGcd-from_mod}
-use Rattle.std.proofs.Math.Nat.{mul-div_cancel', mul-dvd-mul_left, dvd_of_mul-dvd-mul_left, dvd-one}
-use Rattle.checked_fraction.specs.Rows.{IsInLowestTerms}
-use Rattle.checked_fraction.specs.inner.Passes.{IsRowGcd}
+use Rattle.net_core.proofs.Library.{◌∣◌, IsGcd, ints, unsigned_abs-mul, IsGcd-from_zero, IsGcd-from_mod, mul-div_cancel', mul-dvd-mul_left, dvd_of_mul-dvd-mul_left}
+use Rattle.std.proofs.Math.Nat.{dvd-one}
+use Rattle.checked_fraction.specs.Terms.{IsInLowestTerms, IsRowGcd}
 use Rattle.checked_fraction.proofs.Divisors.{row_gcd_none, row_gcd_more}
 use Rattle.simplex_law.proofs.Rows.{IsMultiple}
 use Rattle.simplex_law.proofs.Arithmetic.{positive_cancel, minus_left}

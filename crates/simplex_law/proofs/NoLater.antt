@@ -1,9 +1,9 @@
 -- the order of the ratio test, and picks, over any rows of a basis
 use Rattle.std.proofs.Common.{◌≡◌, ℕ, suc, ◌<◌, sym, ap, ◌∙◌, arith, subst}
-use Rattle.std.proofs.Math.IntN.{ℤ, pos, ◌-ℤ◌, ◌*ℤ◌, *ℤ_comm}
+use Rattle.std.proofs.Math.IntN.{ℤ, pos, ◌-ℤ◌, ◌*ℤ◌}
+use Rattle.net_core.proofs.Library.{*ℤ_comm, ints}
 use Rattle.std.specs.Int.Signed.{◌<ℤ◌}
-use Rattle.std.proofs.lemmas.Int.{ints}
-use Rattle.checked_fraction.specs.Mixed.{combined}
+use Rattle.checked_fraction.specs.Terms.{combined}
 use Rattle.simplex_law.specs.Sums.{dot}
 use Rattle.simplex_law.specs.Programs.{ColumnOf}
 use Rattle.simplex_law.specs.inner.Lexicographic.{valued}

@@ -1,11 +1,9 @@
 -- a value is at most a bound
 use Rattle.std.proofs.Common.{◌≡◌, ℕ, zero, suc, ◌<◌, ◌≤◌, ◌-◌, ◌*◌, ◌^◌, ◌⊎◌, inl, inr, sym, ap, ◌∙◌, arith, ⊎_elim, subst, unsigned_abs}
-use Rattle.std.proofs.lemmas.Bool.{cases_lt}
-use Rattle.std.proofs.lemmas.Nat.{mul-le}
-use Rattle.std.proofs.Math.IntN.{ℤ, pos, ◌*ℤ◌, *ℤ_comm, *ℤ-zero}
+use Rattle.net_core.proofs.Library.{cases_lt, mul-le, *ℤ_comm, *ℤ-zero, ints, by_lt_z, unsigned_abs-mul}
+use Rattle.std.proofs.Math.IntN.{ℤ, pos, ◌*ℤ◌}
 use Rattle.std.specs.Int.Signed.{◌<ℤ◌, ◌≤ℤ◌}
-use Rattle.std.proofs.lemmas.Int.{ints, by_lt_z, unsigned_abs-mul}
-use Rattle.checked_fraction.specs.Rows.{IsNarrow}
+use Rattle.checked_fraction.specs.Terms.{IsNarrow}
 use Rattle.simplex_law.specs.Sums.{int_sum, dot, unit_vector}
 use Rattle.simplex_law.specs.Programs.{ColumnOf, IsPacking}
 use Rattle.simplex_law.specs.Bases.{IsRow}

@@ -1,16 +1,13 @@
 -- where a number is too wide, its kind holds of the basis
 use Rattle.std.proofs.Common.{◌≡◌, ◌≢◌, ℕ, ◌<◌, ◌≤◌, ◌-◌, ◌*◌, ◌^◌, refl, sym, ap, ◌∙◌, arith, inl, inr, ⊎_elim, cond, subst, unsigned_abs}
-use Rattle.std.proofs.lemmas.Bool.{cases_lt, eq-eqb, ne_eqb}
+use Rattle.net_core.proofs.Library.{cases_lt, ◌∣◌, ints, unsigned_abs-mul, mul-le}
+use Rattle.std.proofs.lemmas.Bool.{eq-eqb, ne_eqb}
 use Rattle.std.proofs.Math.IntN.{ℤ, pos, ◌-ℤ◌, ◌*ℤ◌}
 use Rattle.std.specs.Int.Signed.{◌<ℤ◌}
-use Rattle.std.specs.Int.{◌∣◌}
-use Rattle.std.proofs.lemmas.Int.{ints, unsigned_abs-mul}
-use Rattle.std.proofs.lemmas.Nat.{mul-le}
 use Rattle.std.proofs.lemmas.Nat.Gcd.{le_of_dvd}
-use Rattle.checked_fraction.specs.Rows.{IsInLowestTerms, IsNarrow}
-use Rattle.checked_fraction.specs.Mixed.{combined, IsTooWide, IsFirstWide}
+use Rattle.checked_fraction.specs.Terms.{IsInLowestTerms, IsNarrow, combined, IsTooWide, IsFirstWide}
 use Rattle.checked_fraction.specs.declared.wide.WideNumber.{WideNumber}
-use Rattle.net_core.specs.Sums.{sum_below}
+use Rattle.net_core.specs.Terms.{sum_below}
 use Rattle.simplex_law.specs.Sums.{dot, unit_vector, put}
 use Rattle.simplex_law.specs.Programs.{ColumnOf}
 use Rattle.simplex_law.specs.Bases.{IsRow}

@@ -4,3 +4,4 @@ pub mod Bases
 pub mod Evidence
 pub mod Optima
 pub mod inner
+pub mod Terms

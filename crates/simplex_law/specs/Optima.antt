@@ -1,6 +1,6 @@
 -- optima of a packing program
 use Rattle.std.specs.Prelude.{ℕ, ℤ, pos, ◌≡◌, ◌<◌, ◌*ℤ◌, ◌<ℤ◌, ◌≤ℤ◌}
-use Rattle.checked_fraction.specs.Rows.{IsInLowestTerms}
+use Rattle.checked_fraction.specs.Terms.{IsInLowestTerms}
 use Rattle.simplex_law.specs.Sums.{int_sum, dot}
 use Rattle.simplex_law.specs.Programs.{ColumnOf}
 use Rattle.simplex_law.specs.Bases.{IsBest}

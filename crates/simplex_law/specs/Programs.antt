@@ -1,6 +1,6 @@
 -- packing programs: the greatest gain of columns that fit into bounds
 use Rattle.std.specs.Prelude.{ℕ, ℤ, List, [], ◌∷◌, pos, ◌≡◌, ◌<◌, ◌+ℤ◌, ◌<ℤ◌, ◌≤ℤ◌, ◌⊎◌, cond, eqb}
-use Rattle.checked_fraction.specs.Rows.{IsNarrow}
+use Rattle.checked_fraction.specs.Terms.{IsNarrow}
 use Rattle.simplex_law.specs.Sums.{unit_vector}
 
 -- a column: its name, its gain, and its entry in each row

@@ -1,9 +1,7 @@
 -- numbers, digit by digit
 use Rattle.std.proofs.Common.{◌≡◌, ℕ, true, zero, suc, ◌+◌, ◌-◌, ◌*◌, ◌^◌, ◌<◌, ◌≤◌, min, List, [], ◌∷◌, ◌++◌, length, get_or, take, drop, replicate, ap, ◌∙◌, subst, refl, sym, arith, drop-cons, add-one, length-append, length-take, pow-add}
-use Rattle.std.specs.List.{list_all}
-use Rattle.std.proofs.lemmas.Bool.{and_from, and_parts}
-use Rattle.std.proofs.lemmas.List.{length-replicate}
-use Rattle.std.proofs.Math.Nat.{pow-suc, mul-le-mul_left, pow-le-pow_right}
+use Rattle.net_core.proofs.Library.{list_all, and_from, and_parts, length-replicate, pow-le-pow_right}
+use Rattle.std.proofs.Math.Nat.{pow-suc, mul-le-mul_left}
 use Rattle.snd_tokens.specs.Digits.{is_digit, number_of, number_after}
 use Rattle.snd_tokens.specs.Amounts.{first_places}
 

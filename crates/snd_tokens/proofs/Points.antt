@@ -1,8 +1,6 @@
 -- a word's parts before and after its point
 use Rattle.std.proofs.Common.{◌≡◌, ℕ, ◌+◌, ◌-◌, ◌<◌, Bool, true, false, cond, not, ◌||◌, List, [], ◌∷◌, length, take, drop, IsTrue, sym, refl, ap, ◌∙◌, subst, arith}
-use Rattle.std.specs.List.{list_all, list_any, position_or_len}
-use Rattle.std.proofs.lemmas.Bool.{false≢true, and_parts, and_from, or_right}
-use Rattle.std.proofs.lemmas.List.{take_rest, drop_all}
+use Rattle.net_core.proofs.Library.{list_all, list_any, position_or_len, false≢true, and_parts, and_from, or_right, take_rest, drop_all}
 use Rattle.snd_tokens.specs.Digits.{is_digit, are_digits}
 use Rattle.snd_tokens.specs.Amounts.{AreParts, is_point, is_decimal, whole_part, places_of}
 

@@ -2,7 +2,7 @@
 use Rattle.std.specs.Prelude.{◌≡◌, ℕ, IsTrue, ◌+◌, ◌*◌, ◌^◌, ◌==◌, nat_lt, Bool, cond, not, ◌||◌, ◌&&◌, List, ◌++◌, take, drop, replicate, Result, Ok, Err}
 use Rattle.std.specs.List.{list_all, list_any, before_first, after_first}
 use Rattle.net_core.specs.declared.places.Places.{Places}
-use Rattle.net_core.specs.Places.{digits_after_point}
+use Rattle.net_core.specs.Terms.{digits_after_point}
 use Rattle.snd_tokens.specs.declared.amounts.NumberFault.{NumberFault}
 use Rattle.snd_tokens.specs.declared.amounts.NumberFault.TheVariants.{NotANumber, TooFine, TooLarge}
 use Rattle.snd_tokens.specs.Digits.{is_digit, are_digits, number_of}

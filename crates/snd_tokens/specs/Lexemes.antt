@@ -3,7 +3,7 @@ use Rattle.std.specs.Prelude.{◌≡◌, ℕ, ◌≤◌, List, [], ◌∷◌, le
 use Rattle.snd_tokens.specs.declared.token.Token.{Token}
 use Rattle.snd_tokens.specs.declared.token.TokenKind.{TokenKind}
 use Rattle.snd_tokens.specs.declared.token.TokenKind.TheVariants as kinds
-use Rattle.net_core.specs.Names.{is_plain}
+use Rattle.net_core.specs.Terms.{is_plain}
 use Rattle.snd_tokens.specs.Tokens.{token_bytes, tokens_from}
 use Rattle.snd_tokens.specs.declared.cursor.Cursor.{Cursor}
 use Rattle.snd_tokens.specs.declared.lexeme.Next.{Next}

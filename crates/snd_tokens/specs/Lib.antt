@@ -4,3 +4,4 @@ pub mod Header
 pub mod Tokens
 pub mod Lexemes
 pub mod Wholes
+pub mod Terms

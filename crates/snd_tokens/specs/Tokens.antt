@@ -1,7 +1,7 @@
 -- the tokens of a text: words, and parentheses, each a token of its own
 use Rattle.std.specs.Prelude.{◌≡◌, ℕ, zero, suc, ◌+◌, ◌≤◌, ◌==◌, Bool, cond, not, ◌||◌, IsTrue, List, [], ◌∷◌, ◌++◌, length, drop, slice_range}
 use Rattle.std.specs.List.{prefix_len, position_or_len}
-use Rattle.net_core.specs.Names.{is_space, is_word_byte, is_plain}
+use Rattle.net_core.specs.Terms.{is_space, is_word_byte, is_plain}
 pub use Rattle.snd_tokens.specs.declared.token.Token.{Token}
 pub use Rattle.snd_tokens.specs.declared.token.TokenKind.{TokenKind}
 use Rattle.snd_tokens.specs.declared.token.TokenKind.TheVariants.{Word, Open, Close}

@@ -1,18 +1,14 @@
 -- Whole files with the places with which they are read: what is read is spelled, nothing else is, and no fault stands too early.
 use Rattle.std.proofs.Common.{◌≡◌, ℕ, Bool, true, false, cond, List, take, Ok, Err, IfOk, IfErr, refl, sym, ap, subst, ◌∙◌}
-use Rattle.std.proofs.lemmas.Bool.{false≢true}
+use Rattle.net_core.proofs.Library.{false≢true}
 use Rattle.net_core.specs.declared.demand.Demand.{Demand}
 use Rattle.net_core.specs.declared.network.Network.{Network}
 use Rattle.net_core.specs.declared.places.Places.{Places}
 use Rattle.net_core.specs.declared.places.Places.TheVariants.{Three, Six}
 use Rattle.snd_tokens.specs.declared.amounts.NumberFault.TheVariants.{NotANumber, TooFine, TooLarge}
-use Rattle.text_kit.specs.Answers.{ReadsAllAs}
-use Rattle.text_kit.specs.Files.{SpellsBy, body}
-use Rattle.text_kit.specs.Places.{EndsBefore}
-use Rattle.text_kit.specs.Reading.{Read}
+use Rattle.text_kit.specs.Terms.{ReadsAllAs, SpellsBy, body, EndsBefore, Read}
 use Rattle.text_kit.specs.declared.refusal.Refusal.TheVariants.{Bad, NoMemory}
-use Rattle.text_kit.proofs.Files.{fault_kept, found_spelled, only_spelled, spelled_faultless}
-use Rattle.text_kit.proofs.Online.{err_parts}
+use Rattle.text_kit.proofs.Lemmas.{fault_kept, found_spelled, only_spelled, spelled_faultless, err_parts}
 use Rattle.sndlib_reader.specs.declared.fault.ReadKind.{ReadKind}
 use Rattle.sndlib_reader.specs.declared.fault.ReadKind.TheVariants.{Header, Section, Token, Ended, Limit, Number, UnknownName, DoubleName, SelfLink, SelfDemand, ZeroModule, FixedLink}
 use Rattle.sndlib_reader.specs.NetworkFiles.{IsFirstFault, IsNoEarlyFault, IsReadWith, IsTooFineAt, Spells, in_its_places, is_too_fine, network_in, network_of}

@@ -1,23 +1,15 @@
 -- What is read of a network file is spelled, and what is spelled is read.
-use Rattle.std.proofs.Common.{◌≡◌, ◌≢◌, ℕ, ◌+◌, ◌*◌, ◌^◌, ◌<◌, ◌≤◌, ◌==◌, nat_lt, Bool, true, false, cond, List, [], ◌∷◌, ◌++◌, length, get_or, All, AllPairs, Option, None, Some, Ok, refl, sym, ap, subst, ◌∙◌, arith, append-nil, append_assoc}
-use Rattle.std.specs.Prelude.{flat_map}
+use Rattle.std.proofs.Common.{◌≡◌, ◌≢◌, ℕ, ◌+◌, ◌*◌, ◌^◌, ◌<◌, ◌≤◌, ◌==◌, nat_lt, Bool, true, false, cond, List, [], ◌∷◌, ◌++◌, length, get_or, All, AllPairs, Option, None, Some, Ok, refl, sym, ap, subst, ◌∙◌, arith, append-nil, append_assoc, flat_map}
 use Rattle.std.proofs.lemmas.Bool.{ltb-false}
-use Rattle.std.proofs.lemmas.List.Sums.{sum_by-cons, sum_by-append, sum_by_push}
-use Rattle.net_core.specs.Demands.{AreDemands, IsDemand}
-use Rattle.net_core.specs.Network.{IsLink, IsModule}
+use Rattle.net_core.proofs.Library.{sum_by-cons, sum_by-append, sum_by_push}
+use Rattle.net_core.specs.Terms.{AreDemands, IsDemand, IsLink, IsModule}
 use Rattle.net_core.specs.declared.demand.Demand.{Demand}
 use Rattle.net_core.specs.declared.ids.NodeId.{NodeId}
 use Rattle.net_core.specs.declared.network.Module.{Module}
 use Rattle.net_core.specs.declared.places.Places.{Places}
-use Rattle.text_kit.specs.Items.{ComeAfter, AreSpelled, Item, Verbatim, Money, Opening, Closing}
-use Rattle.text_kit.specs.Reading.{word_at, Parenthesis, no_fault}
-use Rattle.text_kit.proofs.After.{all_after, after_all, after_as, after_both}
-use Rattle.text_kit.specs.Numbers.{number_or}
-use Rattle.snd_tokens.specs.Amounts.{amount_of, units_of}
-use Rattle.text_kit.proofs.Amounts.{lawful_amount, number_takes}
-use Rattle.text_kit.proofs.NameLaws.{IsNew, are_new, lawful_new_name, lawful_place, new_are}
-use Rattle.text_kit.proofs.Lawful.{AnyText, Lawful, Starts, after_few, few_after, lawful_as, lawful_close, lawful_give, lawful_list, lawful_open, lawful_then, lawful_word}
-use Rattle.text_kit.proofs.Spelled.{Spelled, after_parts, parts_after, spelled_as, spelled_give, spelled_law, spelled_list, spelled_then, spelled_word}
+use Rattle.text_kit.specs.Terms.{ComeAfter, AreSpelled, Item, Verbatim, Money, Opening, Closing, word_at, Parenthesis, no_fault, number_or}
+use Rattle.text_kit.proofs.Lemmas.{all_after, after_all, after_as, after_both, lawful_amount, number_takes, IsNew, are_new, lawful_new_name, lawful_place, new_are, AnyText, Lawful, Starts, after_few, few_after, lawful_as, lawful_close, lawful_give, lawful_list, lawful_open, lawful_then, lawful_word, Spelled, after_parts, parts_after, spelled_as, spelled_give, spelled_law, spelled_list, spelled_then, spelled_word}
+use Rattle.snd_tokens.specs.Terms.{amount_of, units_of}
 use Rattle.sndlib_reader.specs.declared.costs.CostedLink.{CostedLink}
 use Rattle.sndlib_reader.specs.declared.demand.DemandRest.{DemandRest}
 use Rattle.sndlib_reader.specs.declared.link.LinkNumbers.{LinkNumbers}

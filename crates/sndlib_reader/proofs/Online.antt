@@ -1,11 +1,10 @@
 -- No answer depends on a lexeme after what was taken, or after the place of the fault.
-use Rattle.std.proofs.Common.{ℕ, true, false, List, [], Ok, Err, refl}
-use Rattle.std.specs.Prelude.{codes}
+use Rattle.std.proofs.Common.{ℕ, true, false, List, [], Ok, Err, refl, codes}
 use Rattle.net_core.specs.declared.demand.Demand.{Demand}
 use Rattle.net_core.specs.declared.network.Module.{Module}
 use Rattle.net_core.specs.declared.places.Places.{Places}
-use Rattle.text_kit.specs.Reading.{Reading, word_at, expected, Parenthesis, no_fault, list_at, each_at}
-use Rattle.text_kit.proofs.Online.{IsOnline, TakesSome, online_close, online_end, online_give, online_list, online_open, online_step, online_then, online_word, takes_some}
+use Rattle.text_kit.specs.Terms.{Reading, word_at, expected, Parenthesis, no_fault, list_at, each_at}
+use Rattle.text_kit.proofs.Lemmas.{IsOnline, TakesSome, online_close, online_end, online_give, online_list, online_open, online_step, online_then, online_word, takes_some}
 use Rattle.sndlib_reader.specs.declared.costs.CostedLink.{CostedLink}
 use Rattle.sndlib_reader.specs.declared.fault.ReadKind.{ReadKind}
 use Rattle.sndlib_reader.specs.declared.fault.ReadKind.TheVariants.{Section, Token, Ended, SelfLink, SelfDemand}

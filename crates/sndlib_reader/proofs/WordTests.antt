@@ -1,17 +1,14 @@
 -- What a word says, and which words say it.
-use Rattle.std.proofs.Common.{◌≡◌, ◌≢◌, ℕ, ◌+◌, ◌*◌, ◌^◌, ◌<◌, ◌≤◌, ◌==◌, ◌||◌, Bool, true, false, cond, nat_lt, List, [], length, get_or, AllPairs, None, Some, Result, Ok, Err, IsTrue, refl, sym, ap, subst, ◌∙◌, inl, inr, arith}
-use Rattle.std.specs.Prelude.{codes}
-use Rattle.std.proofs.lemmas.Bool.{ltb-true, ltb-false, le-ltb, lt-ltb, eqb-false, ne_eqb}
+use Rattle.std.proofs.Common.{◌≡◌, ◌≢◌, ℕ, ◌+◌, ◌*◌, ◌^◌, ◌<◌, ◌≤◌, ◌==◌, ◌||◌, Bool, true, false, cond, nat_lt, List, [], length, get_or, AllPairs, None, Some, Result, Ok, Err, IsTrue, refl, sym, ap, subst, ◌∙◌, inl, inr, arith, codes}
+use Rattle.std.proofs.lemmas.Bool.{ltb-true, ltb-false, le-ltb, lt-ltb, ne_eqb}
+use Rattle.net_core.proofs.Library.{eqb-false}
 use Rattle.snd_tokens.specs.declared.amounts.NumberFault.TheVariants.{NotANumber, TooLarge}
-use Rattle.snd_tokens.specs.Amounts.{amount_of, money_of, units}
-use Rattle.snd_tokens.specs.Digits.{are_digits}
+use Rattle.snd_tokens.specs.Terms.{amount_of, money_of, units, are_digits}
 use Rattle.net_core.specs.declared.network.Module.{Module}
 use Rattle.net_core.specs.declared.places.Places.{Places}
-use Rattle.net_core.specs.Tests.{are_same, is_named}
-use Rattle.text_kit.specs.Reading.{sound}
-use Rattle.text_kit.proofs.Amounts.{amount_again, amount_takes, number_takes}
-use Rattle.text_kit.proofs.NameLaws.{IsPlaceIn, place_again, place_takes}
-use Rattle.text_kit.proofs.Outcomes.{if_ok, ok_is, unless_ok}
+use Rattle.net_core.specs.Terms.{are_same, is_named}
+use Rattle.text_kit.specs.Terms.{sound}
+use Rattle.text_kit.proofs.Lemmas.{amount_again, amount_takes, number_takes, IsPlaceIn, place_again, place_takes, if_ok, ok_is, unless_ok}
 use Rattle.sndlib_reader.specs.declared.fault.Limited.TheVariants as limits
 use Rattle.sndlib_reader.specs.declared.fault.ReadKind.{ReadKind}
 use Rattle.sndlib_reader.specs.declared.fault.ReadKind.TheVariants.{Limit, Number, UnknownName, ZeroModule}

@@ -1,7 +1,7 @@
 -- what is skipped: lexemes whose parentheses balance
 use Rattle.std.specs.Prelude.{◌≡◌, ℕ, ◌+◌, ◌≤◌, List, [], ◌∷◌, ◌++◌, map, take}
-use Rattle.snd_tokens.specs.Lexemes.{Lexeme, Word, Open, Close}
-use Rattle.text_kit.specs.Items.{Item, Verbatim, Opening, Closing}
+use Rattle.snd_tokens.specs.Terms.{Lexeme, Word, Open, Close}
+use Rattle.text_kit.specs.Terms.{Item, Verbatim, Opening, Closing}
 
 -- how many parentheses are opened
 abbrev pub opened : List Lexeme → ℕ

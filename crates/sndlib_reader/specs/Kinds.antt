@@ -1,6 +1,6 @@
 -- how the kinds of faults are written
 use Rattle.std.specs.Prelude.{ℕ, List, codes}
-use Rattle.text_kit.specs.Numbers.{number_word}
+use Rattle.text_kit.specs.Terms.{number_word}
 use Rattle.sndlib_reader.specs.declared.fault.Limited.TheVariants.{Name, Nodes, Links, Modules, Demands, Total}
 use Rattle.sndlib_reader.specs.declared.fault.ReadKind.{ReadKind}
 use Rattle.sndlib_reader.specs.declared.fault.ReadKind.TheVariants.{Header, Section, Token, Ended, Limit, Number, UnknownName, DoubleName, SelfLink, SelfDemand, ZeroModule, FixedLink}

@@ -5,9 +5,7 @@ use Rattle.net_core.specs.declared.network.Network.{Network}
 use Rattle.net_core.specs.declared.places.Places.{Places}
 use Rattle.net_core.specs.declared.places.Places.TheVariants.{Three, Six}
 use Rattle.snd_tokens.specs.declared.amounts.NumberFault.TheVariants.{TooFine}
-use Rattle.text_kit.specs.Files.{SpellsBy, body, file_at}
-use Rattle.text_kit.specs.Places.{EndsBefore}
-use Rattle.text_kit.specs.Reading.{Read}
+use Rattle.text_kit.specs.Terms.{SpellsBy, body, file_at, EndsBefore, Read}
 use Rattle.text_kit.specs.declared.refusal.Refusal.{Refusal}
 use Rattle.text_kit.specs.declared.refusal.Refusal.TheVariants.{Bad, NoMemory}
 use Rattle.sndlib_reader.specs.declared.fault.ReadKind.{ReadKind}

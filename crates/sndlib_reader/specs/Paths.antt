@@ -1,8 +1,7 @@
 -- the section of admissible paths, of which nothing is kept
 use Rattle.std.specs.Prelude.{◌≡◌, ℕ, ◌≤◌, ◌⊎◌, List, [], ◌∷◌, ◌++◌, length, IsTrue, codes}
-use Rattle.net_core.specs.Tests.{is_named}
-use Rattle.text_kit.specs.Edits.{section}
-use Rattle.text_kit.specs.Items.{Item, Verbatim, Opening, Closing, AreSpelled}
+use Rattle.net_core.specs.Terms.{is_named}
+use Rattle.text_kit.specs.Terms.{section, Item, Verbatim, Opening, Closing, AreSpelled}
 
 -- a name of at most 255 bytes
 abbrev pub IsShortName : List Item → Type 0

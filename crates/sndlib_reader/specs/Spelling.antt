@@ -1,10 +1,8 @@
 -- The grammar of a network file: which items spell which network and demands.
 use Rattle.std.specs.Prelude.{◌≡◌, ℕ, ◌*◌, ◌≤◌, ◌<◌, ◌^◌, ◌==◌, ◌⊎◌, not, Bool, true, false, List, [], ◌∷◌, ◌++◌, length, get_or, map, flat_map, All, IsTrue, Ok, codes}
 use Rattle.std.specs.List.{list_any}
-use Rattle.snd_tokens.specs.Amounts.{amount_of, units_of}
-use Rattle.snd_tokens.specs.Digits.{are_digits}
-use Rattle.net_core.specs.Network.{IsNetwork}
-use Rattle.net_core.specs.Demands.{AreDemands}
+use Rattle.snd_tokens.specs.Terms.{amount_of, units_of, are_digits}
+use Rattle.net_core.specs.Terms.{IsNetwork, AreDemands}
 use Rattle.net_core.specs.declared.ids.NodeId.{NodeId}
 use Rattle.net_core.specs.declared.network.Module.{Module}
 use Rattle.net_core.specs.declared.network.Link.{Link}
@@ -13,10 +11,9 @@ use Rattle.net_core.specs.declared.network.Network.{Network}
 use Rattle.net_core.specs.declared.places.Places.{Places}
 use Rattle.net_core.specs.declared.demand.Demand.{Demand}
 use Rattle.sndlib_reader.specs.declared.costs.CostedLink.{CostedLink}
-use Rattle.text_kit.specs.Items.{Item, Verbatim, Money, Opening, Closing, ComeAfter, AreSpelled}
+use Rattle.text_kit.specs.Terms.{Item, Verbatim, Money, Opening, Closing, ComeAfter, AreSpelled, section}
 use Rattle.sndlib_reader.specs.Balance.{IsSkipped}
 use Rattle.sndlib_reader.specs.Paths.{ArePaths}
-use Rattle.text_kit.specs.Edits.{section}
 
 -- what stands in the list of nodes: a node's name, or the coordinates of the node before them
 pub data NodePart : Type 0 where

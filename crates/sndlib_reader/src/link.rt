@@ -1,8 +1,7 @@
 ghost use Rattle.std.specs.Prelude.{◌≡◌, ◌≤◌, ◌<◌, ◌++◌, ◌∷◌, None, false, IsTrue, IfOk, OnOk, Ok, [], length, map};
-ghost use Rattle.net_core.specs.Tests.{is_named};
-ghost use Rattle.snd_tokens.specs.Lexemes.{left, size};
-ghost use Rattle.text_kit.specs.Answers.{ReadsAs, TakesElement};
-ghost use Rattle.text_kit.specs.Reading.{sound, word_at};
+ghost use Rattle.net_core.specs.Terms.{is_named};
+ghost use Rattle.snd_tokens.specs.Terms.{left, size};
+ghost use Rattle.text_kit.specs.Terms.{ReadsAs, TakesElement, sound, word_at};
 ghost use Rattle.sndlib_reader.specs.Reading.{capacity, native_link_at, link_numbers_at, link_rest_at, named_link, link_fault, costed_links_at, module_at, native_modules_at};
 
 use crate::costs::CostedLink;

@@ -1,9 +1,7 @@
 ghost use Rattle.std.specs.Prelude.{◌≡◌, ◌≤◌, ◌++◌, ◌∷◌, [], None, false, length, position, IfOk, IsTrue, OnOk};
-ghost use Rattle.net_core.specs.Tests.{are_same, is_named};
-ghost use Rattle.snd_tokens.specs.Lexemes.{EndAt};
-ghost use Rattle.net_core.specs.Names.{is_plain};
-ghost use Rattle.text_kit.specs.Answers.{ReadsAs};
-ghost use Rattle.text_kit.specs.Reading.{placed, sound};
+ghost use Rattle.net_core.specs.Terms.{are_same, is_named, is_plain};
+ghost use Rattle.snd_tokens.specs.Terms.{EndAt};
+ghost use Rattle.text_kit.specs.Terms.{ReadsAs, placed, sound};
 
 use crate::fault::{ReadKind, ReadRefusal};
 use indexmap::IndexSet;

@@ -1,8 +1,7 @@
 ghost use Rattle.std.specs.Prelude.{◌≡◌, ◌≤◌, ◌<◌, None, false, IsTrue, IfOk, OnOk, Ok, [], length};
-ghost use Rattle.net_core.specs.Tests.{is_named};
-ghost use Rattle.snd_tokens.specs.Lexemes.{left, size};
-ghost use Rattle.text_kit.specs.Answers.{ReadsAs, TakesElement};
-ghost use Rattle.text_kit.specs.Reading.{word_at};
+ghost use Rattle.net_core.specs.Terms.{is_named};
+ghost use Rattle.snd_tokens.specs.Terms.{left, size};
+ghost use Rattle.text_kit.specs.Terms.{ReadsAs, TakesElement, word_at};
 ghost use Rattle.sndlib_reader.specs.Reading.{ends_at, node_fault, node_named, native_nodes_at, other_node};
 ghost use Rattle.sndlib_reader.specs.inner.Nodes.{parts_so_far};
 

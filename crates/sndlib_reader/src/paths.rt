@@ -1,7 +1,6 @@
 ghost use Rattle.std.specs.Prelude.{◌≡◌, ◌<◌, false, IsTrue, IfOk, Ok, Err};
-ghost use Rattle.snd_tokens.specs.Lexemes.{left, size};
-ghost use Rattle.text_kit.specs.Answers.{ReadsAs, TakesElement};
-ghost use Rattle.text_kit.specs.Reading.{each_at, step_at, word_at};
+ghost use Rattle.snd_tokens.specs.Terms.{left, size};
+ghost use Rattle.text_kit.specs.Terms.{ReadsAs, TakesElement, each_at, step_at, word_at};
 ghost use Rattle.sndlib_reader.specs.Reading.{is_paths, known_name, path_line_at, native_path_at, path_name, paths_at, some_at};
 
 use crate::fault::{Limited, ReadKind, ReadRefusal};

@@ -1,10 +1,9 @@
 ghost use Rattle.std.specs.Prelude.{◌≡◌, ◌≤◌, ℕ, List, [], length, map, IfOk, IfErr, Ok, Err, codes};
-ghost use Rattle.snd_tokens.specs.Lexemes.{Text, left};
-ghost use Rattle.net_core.specs.Network.{IsNetwork};
+ghost use Rattle.snd_tokens.specs.Terms.{Text, left};
+ghost use Rattle.net_core.specs.Terms.{IsNetwork};
 ghost use Rattle.net_core.specs.declared.network.Network.{Network as Net};
 ghost use Rattle.net_core.specs.declared.demand.Demand.{Demand as Dem};
-ghost use Rattle.text_kit.specs.Answers.{ReadsAllAs, ReadsAs};
-ghost use Rattle.text_kit.specs.Reading.{word_at};
+ghost use Rattle.text_kit.specs.Terms.{ReadsAllAs, ReadsAs, word_at};
 ghost use Rattle.text_kit.specs.declared.refusal.Refusal.{Refusal};
 ghost use Rattle.sndlib_reader.specs.declared.fault.ReadKind.{ReadKind};
 ghost use Rattle.sndlib_reader.specs.NetworkFiles.{IsFirstFault, IsNoEarlyFault, Spells, network_in, network_of};

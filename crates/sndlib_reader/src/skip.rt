@@ -1,6 +1,6 @@
 ghost use Rattle.std.specs.Prelude.{◌≡◌};
-ghost use Rattle.snd_tokens.specs.Lexemes.{left};
-ghost use Rattle.text_kit.specs.Answers.{ReadsAs};
+ghost use Rattle.snd_tokens.specs.Terms.{left};
+ghost use Rattle.text_kit.specs.Terms.{ReadsAs};
 ghost use Rattle.sndlib_reader.specs.Reading.{skipped_at};
 
 use crate::fault::{ReadKind, ReadRefusal};

@@ -1,13 +1,9 @@
 -- Items that are added to a text one after another.
-use Rattle.std.proofs.Common.{◌≡◌, ℕ, ◌+◌, ◌<◌, ◌≤◌, ◌^◌, ◌/◌, List, [], ◌∷◌, ◌++◌, length, get_or, take, sym, ap, subst, ◌∙◌, arith, append_assoc, append-nil, length-append}
-use Rattle.std.specs.Prelude.{flat_map, Result, Ok, Err, OnOk, decimal}
-use Rattle.std.specs.List.{AllByRecursion}
-use Rattle.std.proofs.lemmas.Fmt.{length-decimal-le}
-use Rattle.std.proofs.lemmas.Grind.{flat_map-append}
-use Rattle.std.proofs.lemmas.List.{take_more, take_all}
+use Rattle.std.proofs.Common.{◌≡◌, ℕ, ◌+◌, ◌<◌, ◌≤◌, ◌^◌, ◌/◌, List, [], ◌∷◌, ◌++◌, length, get_or, take, sym, ap, subst, ◌∙◌, arith, append_assoc, append-nil, length-append, flat_map, Result, Ok, Err, OnOk, decimal}
+use Rattle.net_core.proofs.Library.{AllByRecursion, length-decimal-le, flat_map-append, take_more}
+use Rattle.std.proofs.lemmas.List.{take_all}
 use Rattle.net_core.specs.declared.places.Places.{Places}
-use Rattle.net_core.specs.Names.{IsName}
-use Rattle.net_core.specs.Places.{digits_after_point}
+use Rattle.net_core.specs.Terms.{IsName, digits_after_point}
 use Rattle.text_kit.specs.Edits.{enclosed, section}
 use Rattle.text_kit.specs.Items.{Item, Verbatim, Whole, Money, Opening, Closing}
 use Rattle.text_kit.specs.Written.{AddsItems, IsShortItem, IsWritable, last_digits, money_word, written}

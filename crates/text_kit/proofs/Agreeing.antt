@@ -1,14 +1,11 @@
 -- Files that agree on their first bytes have the same lexemes there.
 use Rattle.std.proofs.Common.{◌≡◌, ℕ, zero, suc, ◌+◌, ◌-◌, ◌≤◌, ◌<◌, ◌==◌, ◌||◌, ⊎_elim, Bool, true, false, cond, not, List, [], ◌∷◌, ◌++◌, length, take, drop, refl, sym, ap, subst, ◌∙◌, arith}
-use Rattle.std.specs.List.{prefix_len}
-use Rattle.std.proofs.lemmas.Bool.{cases_eq, cases_lt}
+use Rattle.net_core.proofs.Library.{prefix_len, cases_eq, cases_lt, prefix_len-le-length}
 use Rattle.std.proofs.lemmas.List.{drop-drop, drop-take}
-use Rattle.std.proofs.lemmas.List.Sums.{prefix_len-le-length}
 use Rattle.snd_tokens.specs.declared.token.Token.{Token}
 use Rattle.snd_tokens.specs.declared.token.TokenKind.TheVariants as kinds
-use Rattle.net_core.specs.Names.{is_space, is_word_byte}
-use Rattle.snd_tokens.specs.Tokens.{starts_token, line_length, run_length, extent, token_of, token_bytes, begun, tokens_past, tokens_from}
-use Rattle.snd_tokens.specs.Lexemes.{WordAt, OpenAt, CloseAt, text_of, text_from}
+use Rattle.net_core.specs.Terms.{is_space, is_word_byte}
+use Rattle.snd_tokens.specs.Terms.{starts_token, line_length, run_length, extent, token_of, token_bytes, begun, tokens_past, tokens_from, WordAt, OpenAt, CloseAt, text_of, text_from}
 use Rattle.text_kit.specs.Places.{EndsBefore}
 use Rattle.text_kit.proofs.Alike.{AgreeThrough}
 

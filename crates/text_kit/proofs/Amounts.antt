@@ -2,10 +2,10 @@
 use Rattle.std.proofs.Common.{◌≡◌, ℕ, ◌^◌, ◌<◌, true, cond, not, nat_lt, List, [], ◌∷◌, Result, Ok, Err, ap, subst, arith, refl}
 use Rattle.std.proofs.lemmas.Bool.{ltb-true, lt-ltb}
 use Rattle.net_core.specs.declared.places.Places.{Places}
-use Rattle.net_core.specs.Places.{digits_after_point}
+use Rattle.net_core.specs.Terms.{digits_after_point}
 use Rattle.snd_tokens.specs.declared.amounts.NumberFault.{NumberFault}
 use Rattle.snd_tokens.specs.declared.amounts.NumberFault.TheVariants.{NotANumber, TooFine, TooLarge}
-use Rattle.snd_tokens.specs.Amounts.{amount_of, money_of, decimal_below, is_coarse, is_decimal, units}
+use Rattle.snd_tokens.specs.Terms.{amount_of, money_of, decimal_below, is_coarse, is_decimal, units}
 use Rattle.text_kit.specs.Items.{Money}
 use Rattle.text_kit.specs.Numbers.{number_or}
 use Rattle.text_kit.specs.Reading.{word_at}

@@ -1,6 +1,6 @@
 -- Texts that begin with items, and where lists of items end.
 use Rattle.std.proofs.Common.{◌≡◌, ℕ, ◌<◌, ◌≤◌, List, [], ◌∷◌, ◌++◌, Option, None, Some, Ok, refl, sym, ap, subst, arith}
-use Rattle.snd_tokens.specs.Lexemes.{Text, WordAt, OpenAt, CloseAt, EndAt, size}
+use Rattle.snd_tokens.specs.Terms.{Text, WordAt, OpenAt, CloseAt, EndAt, size}
 use Rattle.text_kit.specs.Items.{Item, Verbatim, Whole, Money, Opening, Closing, Begins}
 use Rattle.text_kit.specs.Reading.{Ending, Parenthesis, TheEnd, past_ending, sound}
 

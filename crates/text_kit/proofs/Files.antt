@@ -1,13 +1,9 @@
 -- Laws of whole files, for each reading that is lawful.
 use Rattle.std.proofs.Common.{◌≡◌, ℕ, suc, ◌+◌, ◌≤◌, ◌<◌, ◌==◌, min, Bool, true, false, cond, not, List, [], ◌∷◌, ◌++◌, length, take, drop, Result, Ok, Err, IfOk, IfErr, refl, sym, ap, subst, ◌∙◌, arith, ⊎_elim, ◌⊎◌, inl, inr, length-append}
-use Rattle.std.specs.List.{position_or_len}
-use Rattle.std.proofs.lemmas.Bool.{cases_eq, cases_lt}
+use Rattle.net_core.proofs.Library.{position_or_len, cases_eq, cases_lt, prefix_len-le-length}
 use Rattle.std.proofs.lemmas.List.{drop-drop, length-take}
-use Rattle.std.proofs.lemmas.List.Sums.{prefix_len-le-length}
-use Rattle.net_core.specs.Tests.{are_same}
-use Rattle.snd_tokens.specs.Header.{first_line, second_line, trimmed}
-use Rattle.snd_tokens.specs.Lexemes.{Text, WordAt, OpenAt, CloseAt, EndAt, text_from, text_of}
-use Rattle.snd_tokens.specs.Tokens.{tokens_from}
+use Rattle.net_core.specs.Terms.{are_same}
+use Rattle.snd_tokens.specs.Terms.{first_line, second_line, trimmed, Text, WordAt, OpenAt, CloseAt, EndAt, text_from, text_of, tokens_from}
 use Rattle.snd_tokens.proofs.Scan.{tokens_from-end}
 use Rattle.text_kit.specs.Answers.{AnswersAs, Fails, ReadsAllAs}
 use Rattle.text_kit.specs.Files.{IsNotTooEarly, SpellsAs, SpellsBy, body, file_at}

@@ -1,10 +1,8 @@
 -- Readings that take exactly the texts of what they give.
-use Rattle.std.proofs.Common.{◌≡◌, ℕ, ◌<◌, ◌≤◌, Bool, true, false, cond, List, [], ◌∷◌, ◌++◌, length, Option, None, Result, Ok, Err, refl, sym, ap, subst, ◌∙◌, arith, append-nil, length-append}
-use Rattle.std.specs.Prelude.{flat_map}
-use Rattle.std.proofs.lemmas.Bool.Decides.{Decides-eqb}
-use Rattle.std.proofs.lemmas.Slice.Eq.{slice_eq-Decides}
-use Rattle.net_core.specs.Tests.{are_same}
-use Rattle.snd_tokens.specs.Lexemes.{Text, WordAt, OpenAt, CloseAt, EndAt}
+use Rattle.std.proofs.Common.{◌≡◌, ℕ, ◌<◌, ◌≤◌, Bool, true, false, cond, List, [], ◌∷◌, ◌++◌, length, Option, None, Result, Ok, Err, refl, sym, ap, subst, ◌∙◌, arith, append-nil, length-append, flat_map}
+use Rattle.net_core.proofs.Library.{Decides-eqb, slice_eq-Decides}
+use Rattle.net_core.specs.Terms.{are_same}
+use Rattle.snd_tokens.specs.Terms.{Text, WordAt, OpenAt, CloseAt, EndAt}
 use Rattle.text_kit.specs.Items.{ComeAfter, AreSpelled, Item, Verbatim, Whole, Money, Opening, Closing, SpellsItem, Begins}
 use Rattle.text_kit.specs.Reading.{Read, Reading, after, ◌>>=◌, give, word_at, open_at, close_at, end_at, expected, Ending, Parenthesis, list_at, not_empty, whole_at}
 pub use Rattle.text_kit.proofs.Beginnings.{AnyText, IsEnd, IsLeftBy, Starts, begins_both, begins_parts, ending_again, ending_items, ending_takes, no_ending, sound_ok, starts_less}

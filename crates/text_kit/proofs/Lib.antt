@@ -14,3 +14,4 @@ pub mod Adding
 pub mod Files
 pub mod After
 pub mod NameLaws
+pub mod Lemmas

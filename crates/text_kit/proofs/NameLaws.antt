@@ -1,11 +1,8 @@
 -- Which words are names: any, new ones, and those that stand for something.
-use Rattle.std.proofs.Common.{◌≡◌, ◌≢◌, ℕ, ◌<◌, ◌≤◌, Bool, true, false, cond, nat_lt, List, [], ◌∷◌, length, get_or, All, AllPairs, Option, None, Some, Ok, refl, sym, ap, subst, ◌∙◌, arith}
-use Rattle.std.specs.Prelude.{position}
-use Rattle.std.specs.List.{position_or_len}
+use Rattle.std.proofs.Common.{◌≡◌, ◌≢◌, ℕ, ◌<◌, ◌≤◌, Bool, true, false, cond, nat_lt, List, [], ◌∷◌, length, get_or, All, AllPairs, Option, None, Some, Ok, refl, sym, ap, subst, ◌∙◌, arith, position}
+use Rattle.net_core.proofs.Library.{position_or_len, position-Some, position_or_len_is}
 use Rattle.std.proofs.lemmas.Bool.{ltb-true, ltb-false, le-ltb, lt-ltb}
-use Rattle.std.proofs.lemmas.List.Quantifiers.{position-Some}
-use Rattle.std.proofs.lemmas.List.Sums.{position_or_len_is}
-use Rattle.net_core.specs.Tests.{are_same, is_named}
+use Rattle.net_core.specs.Terms.{are_same, is_named}
 use Rattle.net_core.proofs.Accepted.{differ}
 use Rattle.text_kit.specs.Items.{ComeAfter, Verbatim}
 use Rattle.text_kit.specs.Names.{any_name, found_or, long_name_fault, named_place, new_name, new_name_fault}

@@ -1,6 +1,6 @@
 -- Readings whose answer depends on no lexeme after what they take, nor after the place of their fault.
 use Rattle.std.proofs.Common.{◌≡◌, ℕ, zero, suc, ◌<◌, ◌≤◌, List, [], ◌∷◌, ◌++◌, Option, None, Some, Result, Ok, Err, refl, sym, ap, subst, ◌∙◌, arith}
-use Rattle.snd_tokens.specs.Lexemes.{Text, WordAt, OpenAt, CloseAt, EndAt, size}
+use Rattle.snd_tokens.specs.Terms.{Text, WordAt, OpenAt, CloseAt, EndAt, size}
 use Rattle.text_kit.specs.Places.{place}
 use Rattle.text_kit.specs.Reading.{Read, Reading, after, ◌>>=◌, give, placed, step_at, word_at, open_at, close_at, end_at, over_at, Ending, Parenthesis, TheEnd, past_ending, sound, ended_or, elements_at, list_at, whole_at}
 use Rattle.text_kit.proofs.Alike.{AgreeThrough, Rises, Same, agree_same, past, past_size, past_sum, plus, plus_plus, plus_suc, same_all}

@@ -2,8 +2,7 @@
 use Rattle.std.proofs.Common.{◌≡◌, ℕ, zero, suc, ◌+◌, ◌≤◌, ◌==◌, true, false, cond, not, List, [], ◌∷◌, ◌++◌, length, drop, arith, length-drop}
 use Rattle.snd_tokens.specs.declared.token.Token.{Token}
 use Rattle.snd_tokens.specs.declared.token.TokenKind.TheVariants as kinds
-use Rattle.snd_tokens.specs.Tokens.{starts_token, run_length, extent, token_of, begun, tokens_past, tokens_from}
-use Rattle.snd_tokens.specs.Lexemes.{Text, text_of, text_from}
+use Rattle.snd_tokens.specs.Terms.{starts_token, run_length, extent, token_of, begun, tokens_past, tokens_from, Text, text_of, text_from}
 use Rattle.text_kit.specs.Places.{place}
 use Rattle.text_kit.proofs.Alike.{Rises}
 

@@ -1,6 +1,6 @@
 -- Readings that take exactly the texts whose items spell what they give, where one value may have several spellings.
 use Rattle.std.proofs.Common.{◌≡◌, ℕ, zero, suc, ◌<◌, List, [], ◌∷◌, ◌++◌, Option, None, Some, Result, Ok, Err, refl, sym, ap, subst, ◌∙◌, arith, append-nil, append_assoc}
-use Rattle.snd_tokens.specs.Lexemes.{Text, WordAt, OpenAt, CloseAt, EndAt, size}
+use Rattle.snd_tokens.specs.Terms.{Text, WordAt, OpenAt, CloseAt, EndAt, size}
 use Rattle.text_kit.specs.Items.{ComeAfter, AreSpelled, Item, Verbatim, Opening, Closing, Begins}
 use Rattle.text_kit.specs.Places.{place}
 use Rattle.text_kit.specs.Reading.{Read, Reading, after, ◌>>=◌, give, placed, word_at, Ending, Parenthesis, past_ending, sound, ended_or, list_at}

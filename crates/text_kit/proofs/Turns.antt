@@ -1,6 +1,6 @@
 -- TakesElement of a list.
 use Rattle.std.proofs.Common.{◌≡◌, ℕ, zero, suc, ◌<◌, List, [], ◌∷◌, ◌++◌, Option, None, Some, Ok, Err, refl, ap, ◌∙◌, arith}
-use Rattle.snd_tokens.specs.Lexemes.{Text, size}
+use Rattle.snd_tokens.specs.Terms.{Text, size}
 use Rattle.text_kit.specs.Places.{place}
 use Rattle.text_kit.specs.Reading.{Read, Reading, after, give, mapped, Ending, Parenthesis, past_ending, placed, sound, ended_or, list_at, no_fault, each_at}
 use Rattle.text_kit.proofs.Online.{TakesSome, before_ending, elements, more}

@@ -1,17 +1,14 @@
 -- A text that was written begins with its items.
-use Rattle.std.proofs.Common.{◌≡◌, ℕ, ◌+◌, ◌-◌, ◌≤◌, ◌<◌, ◌==◌, ◌||◌, Bool, true, false, not, List, [], ◌∷◌, ◌++◌, length, get_or, take, drop, refl, sym, ap, subst, ◌∙◌, arith, length-drop, drop-cons, add-one, append_assoc}
-use Rattle.std.specs.Prelude.{decimal, flat_map}
-use Rattle.std.specs.List.{AllByRecursion, list_all}
+use Rattle.std.proofs.Common.{◌≡◌, ℕ, ◌+◌, ◌-◌, ◌≤◌, ◌<◌, ◌==◌, ◌||◌, Bool, true, false, not, List, [], ◌∷◌, ◌++◌, length, get_or, take, drop, refl, sym, ap, subst, ◌∙◌, arith, length-drop, drop-cons, add-one, append_assoc, decimal, flat_map}
+use Rattle.net_core.proofs.Library.{AllByRecursion, list_all, and_parts}
 use Rattle.std.proofs.lemmas.List.{drop-drop}
 use Rattle.snd_tokens.specs.declared.token.TokenKind.TheVariants as kinds
-use Rattle.net_core.specs.Names.{is_plain, is_space, is_word_byte}
-use Rattle.snd_tokens.specs.Tokens.{run_length, starts_token, token_of, token_bytes, tokens_from}
-use Rattle.snd_tokens.specs.Lexemes.{Text, WordAt, OpenAt, CloseAt, EndAt, text_of, text_from}
+use Rattle.net_core.specs.Terms.{is_plain, is_space, is_word_byte}
+use Rattle.snd_tokens.specs.Terms.{run_length, starts_token, token_of, token_bytes, tokens_from, Text, WordAt, OpenAt, CloseAt, EndAt, text_of, text_from}
 use Rattle.snd_tokens.proofs.Scan.{tokens_from-close, tokens_from-end, tokens_from-open, tokens_from-space, tokens_from-word}
 use Rattle.text_kit.specs.Items.{Item, Verbatim, Whole, Money, Opening, Closing, SpellsItem, Begins}
 use Rattle.text_kit.specs.Written.{IsWritable, byte_after, money_word, word_of, written}
 use Rattle.text_kit.proofs.Numerals.{decimal_plain, decimal_writes, drop_first, money_again, money_plain, take_first, whole_again}
-use Rattle.std.proofs.lemmas.Bool.{and_parts}
 
 -- a byte at a place, and the bytes after it
 record From (whole : List ℕ) (at b : ℕ) (bytes : List ℕ) : Type 0 where

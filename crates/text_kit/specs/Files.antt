@@ -1,8 +1,7 @@
 -- whole files: a header line, and a text after it
 use Rattle.std.specs.Prelude.{◌≡◌, ℕ, if◌then◌else◌, List, take, Err}
-use Rattle.net_core.specs.Tests.{are_same}
-use Rattle.snd_tokens.specs.Header.{HasHeader, first_line, second_line, trimmed}
-use Rattle.snd_tokens.specs.Lexemes.{Text, text_from}
+use Rattle.net_core.specs.Terms.{are_same}
+use Rattle.snd_tokens.specs.Terms.{HasHeader, first_line, second_line, trimmed, Text, text_from}
 use Rattle.text_kit.specs.Items.{Item, IsMadeOf}
 use Rattle.text_kit.specs.Places.{EndsBefore}
 use Rattle.text_kit.specs.Reading.{Read, Reading}

@@ -1,9 +1,7 @@
 -- what a text is made of: parentheses, and words that stand for something
 use Rattle.std.specs.Prelude.{◌≡◌, ℕ, List, [], ◌∷◌, ◌++◌, Ok}
 use Rattle.net_core.specs.declared.places.Places.{Places}
-use Rattle.snd_tokens.specs.Amounts.{money_of}
-use Rattle.snd_tokens.specs.Lexemes.{Text, WordAt, OpenAt, CloseAt, EndAt}
-use Rattle.snd_tokens.specs.Wholes.{whole_of}
+use Rattle.snd_tokens.specs.Terms.{money_of, Text, WordAt, OpenAt, CloseAt, EndAt, whole_of}
 
 -- this very word, a whole number, an amount or money in units of a network with these places, or a parenthesis
 pub data Item : Type 0 where

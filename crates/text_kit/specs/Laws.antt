@@ -1,7 +1,7 @@
 -- what writing and reading keep
 use Rattle.std.specs.Prelude.{◌≡◌, ℕ, List, ◌∷◌, ◌++◌}
 use Rattle.std.specs.List.{AllByRecursion}
-use Rattle.snd_tokens.specs.Header.{first_line, trimmed}
+use Rattle.snd_tokens.specs.Terms.{first_line, trimmed}
 use Rattle.text_kit.specs.Files.{IsFileOf}
 use Rattle.text_kit.specs.Items.{Item}
 use Rattle.text_kit.specs.Written.{IsWritable, written}

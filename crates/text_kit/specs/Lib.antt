@@ -8,3 +8,4 @@ pub mod Answers
 pub mod Files
 pub mod Written
 pub mod Edits
+pub mod Terms

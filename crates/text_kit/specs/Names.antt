@@ -1,6 +1,6 @@
 -- words that are names, of at most 255 bytes
 use Rattle.std.specs.Prelude.{ℕ, nat_lt, Bool, if◌then◌else◌, List, length, position, Option, Some, None, Result, Ok, Err}
-use Rattle.net_core.specs.Tests.{are_same, is_named}
+use Rattle.net_core.specs.Terms.{are_same, is_named}
 use Rattle.text_kit.specs.Reading.{sound}
 
 -- a name that is too long has this fault

@@ -1,7 +1,7 @@
 -- Reading a text from left to right: what was read and what is left, or the first fault with its place.
 use Rattle.std.specs.Prelude.{ℕ, zero, suc, ◌==◌, if◌then◌else◌, List, [], ◌∷◌, ◌++◌, length, Option, None, Some, Result, Ok, Err}
-use Rattle.net_core.specs.Tests.{are_same}
-use Rattle.snd_tokens.specs.Lexemes.{Text, WordAt, OpenAt, CloseAt, EndAt, size}
+use Rattle.net_core.specs.Terms.{are_same}
+use Rattle.snd_tokens.specs.Terms.{Text, WordAt, OpenAt, CloseAt, EndAt, size}
 use Rattle.text_kit.specs.Places.{place}
 
 -- an answer: something and the text after it, or a fault of a kind at a place

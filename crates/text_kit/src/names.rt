@@ -1,6 +1,6 @@
 ghost use Rattle.std.specs.Prelude.{◌≡◌, ◌≤◌, false, nat_lt, length, None, IfOk, IsTrue};
-ghost use Rattle.snd_tokens.specs.Lexemes.{EndAt};
-ghost use Rattle.net_core.specs.Names.{is_plain};
+ghost use Rattle.snd_tokens.specs.Terms.{EndAt};
+ghost use Rattle.net_core.specs.Terms.{is_plain};
 ghost use Rattle.text_kit.specs.Answers.{ReadsAs};
 ghost use Rattle.text_kit.specs.Names.{new_name_fault};
 ghost use Rattle.text_kit.specs.Reading.{placed, sound};

@@ -1,5 +1,5 @@
 ghost use Rattle.std.specs.Prelude.{◌<◌, ◌^◌, ◌∷◌, [], OnOk};
-ghost use Rattle.net_core.specs.Names.{IsName};
+ghost use Rattle.net_core.specs.Terms.{IsName};
 ghost use Rattle.text_kit.specs.Edits.{ends_items};
 ghost use Rattle.text_kit.specs.Items.{Item, Verbatim, Whole, Money, Opening, Closing};
 ghost use Rattle.text_kit.specs.Written.{AddsItems, money_word};

@@ -1,5 +1,5 @@
 ghost use Rattle.std.specs.Prelude.{◌≡◌, ◌++◌, ◌∷◌, ◌/◌, ◌^◌, [], OnOk, decimal};
-ghost use Rattle.net_core.specs.Places.{digits_after_point};
+ghost use Rattle.net_core.specs.Terms.{digits_after_point};
 ghost use Rattle.text_kit.specs.Items.{Item, Verbatim, Whole, Money, Opening, Closing};
 ghost use Rattle.text_kit.specs.Written.{last_digit, last_digits, money_word, written};
 

@@ -2,13 +2,10 @@
 use Rattle.std.proofs.Common.{◌≡◌, ◌∙◌, ℕ, zero, suc, ◌-◌, ◌*◌, ◌^◌, ◌≤◌, ◌<◌, Bool, true, false, if◌then◌else◌, ◌||◌, List, [], ◌∷◌, All, get_or, zip, nat_lt, slice_index, refl, ap, arith}
 use Rattle.std.proofs.Math.ListN.{set}
 use Rattle.std.proofs.Math.Nat.{mul-le-mul_left}
-use Rattle.std.proofs.lemmas.Bool.Decides.{nat_tests}
-use Rattle.std.proofs.lemmas.List.Elements.{All-cons, All-nil, All-head, All-tail, length_all_zip}
-use Rattle.std.proofs.lemmas.List.Sums.{sum_by-cons}
+use Rattle.net_core.proofs.Library.{nat_tests, All-cons, All-nil, All-head, All-tail, sum_by-cons}
+use Rattle.std.proofs.lemmas.List.Elements.{length_all_zip}
 use Rattle.std.specs.List.{AllZip}
-use Rattle.net_core.specs.declared.network.Link.{Link}
-use Rattle.net_core.specs.declared.network.Module.{Module}
-use Rattle.plan_terms.specs.Capacities.{AreCounts, AreWithinLimits, capacities, installs, link_cost, modules_capacity, modules_cost, total_cost}
+use Rattle.plan_terms.specs.Terms.{Link, Module, AreCounts, AreWithinLimits, capacities, installs, link_cost, modules_capacity, modules_cost, total_cost}
 use Rattle.trim_plan.specs.Trimmed.{AreAtMost, module_count, one_less}
 
 -- ---- numbers

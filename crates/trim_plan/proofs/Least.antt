@@ -1,16 +1,13 @@
 -- where all blocks are cuts, no module can be spared
 use Rattle.std.proofs.Common.{◌≡◌, ◌∙◌, ℕ, ◌<◌, List, Contains, get_or, length, map, sym, ap, subst}
-use Rattle.std.proofs.lemmas.List.{get_or-map, length-map}
-use Rattle.std.proofs.lemmas.List.Elements.{All-contains}
-use Rattle.std.proofs.lemmas.Option.{get_or_from_slice_get}
+use Rattle.net_core.proofs.Library.{get_or-map, length-map, All-contains, get_or_from_slice_get}
 use Rattle.net_core.proofs.Lists.{get_some}
-use Rattle.net_core.specs.Cases.{Case, graph_in}
-use Rattle.plan_terms.specs.Capacities.{IsAble, capacities}
+use Rattle.plan_terms.specs.Terms.{Case, graph_in, IsAble, capacities}
 use Rattle.able_counts.specs.AbleTests.{IsStopAt, whole_caps}
 use Rattle.able_counts.specs.declared.stop.Stop.{Stop}
 use Rattle.able_counts.specs.declared.stop.Stop.TheVariants.{Cut, Wide}
 use Rattle.module_choice.proofs.Pairs.{capacities_long}
-use Rattle.route_law.proofs.Kept.{violated_carries_nothing}
+use Rattle.route_law.proofs.Lemmas.{violated_carries_nothing}
 use Rattle.trim_plan.specs.declared.trimming.Block.{Block}
 use Rattle.trim_plan.specs.Trimmed.{IsBlockAt, one_less}
 use Rattle.trim_plan.specs.Laws.{IsCutStop, TrimmedAreLeast}

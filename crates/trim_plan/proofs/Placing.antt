@@ -1,6 +1,7 @@
 -- blocks, one module and one link after another
 use Rattle.std.proofs.Common.{◌≡◌, ◌∙◌, ℕ, ◌+◌, ◌≤◌, ◌<◌, List, [], ◌∷◌, ◌++◌, length, slice_index, take, sym, ap, subst}
-use Rattle.std.proofs.lemmas.List.{append_assoc, map-append, take_all}
+use Rattle.std.proofs.lemmas.List.{append_assoc, take_all}
+use Rattle.net_core.proofs.Library.{map-append}
 use Rattle.trim_plan.specs.declared.trimming.Block.{Block}
 use Rattle.trim_plan.specs.Trimmed.{module_count, modules_in_use, one_less}
 use Rattle.trim_plan.specs.inner.Sparing.{LowersCounts, block_places}

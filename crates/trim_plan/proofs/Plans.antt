@@ -1,13 +1,11 @@
 -- plans with other counts
 use Rattle.std.proofs.Common.{◌≡◌, ◌≤◌, List, get_or, refl, sym, subst, arith}
-use Rattle.std.proofs.lemmas.Option.{slice_get-get_or}
-use Rattle.net_core.specs.declared.demand.Demand.{Demand}
-use Rattle.net_core.specs.Cases.{Case}
+use Rattle.net_core.proofs.Library.{slice_get-get_or}
+use Rattle.plan_terms.specs.Terms.{Demand, Case, capacities, total_cost}
 use Rattle.net_core.proofs.Lists.{all_at}
-use Rattle.plan_terms.specs.Capacities.{capacities, total_cost}
 use Rattle.plan_types.specs.declared.plan.Plan.{Plan}
-use Rattle.plan_report.specs.Forms.{IsRoutingInForm}
-use Rattle.route_law.specs.Routings.{IsLowestRouting}
+use Rattle.plan_report.specs.Terms.{IsRoutingInForm}
+use Rattle.route_law.specs.Terms.{IsLowestRouting}
 use Rattle.able_counts.specs.AbleTests.{AreRoutingsWithin}
 use Rattle.trim_plan.specs.Trimmed.{IsRoutedPlan, IsTrimming}
 use Rattle.trim_plan.specs.inner.Sparing.{AreTrimmedCounts}

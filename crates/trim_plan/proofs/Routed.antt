@@ -2,9 +2,7 @@
 use Rattle.std.proofs.Common.{◌∙◌, ℕ, ◌*◌, ◌≤◌, ⊎_elim, List, slice_index, arith}
 use Rattle.std.proofs.Math.Nat.{mul-le-mul_left}
 use Rattle.std.specs.List.{AllZip}
-use Rattle.net_core.specs.declared.plan.Routing.{Routing}
-use Rattle.net_core.specs.Cases.{Case}
-use Rattle.plan_terms.specs.Capacities.{capacities}
+use Rattle.plan_terms.specs.Terms.{Routing, Case, capacities}
 use Rattle.able_counts.specs.declared.able_test.AbleTest.{AbleTest}
 use Rattle.able_counts.specs.AbleTests.{AreKeptOrWithin, AreRoutedCounts, AreRoutingsWithin, IsRoutingWithin, IsTestOf}
 use Rattle.trim_plan.specs.Trimmed.{AreAtMost}

@@ -1,7 +1,6 @@
 -- what trimmed counts are good for
 use Rattle.std.specs.Prelude.{ℕ, ◌<◌, List, All}
-use Rattle.net_core.specs.Cases.{Case}
-use Rattle.plan_terms.specs.Capacities.{IsAble}
+use Rattle.plan_terms.specs.Terms.{Case, IsAble}
 use Rattle.able_counts.specs.declared.stop.Stop.{Stop}
 use Rattle.able_counts.specs.declared.stop.Stop.TheVariants.{Cut, Wide}
 use Rattle.trim_plan.specs.declared.trimming.Block.{Block}

@@ -1,13 +1,11 @@
 -- plans from which no module can be spared, each with what keeps it
 use Rattle.std.specs.Prelude.{◌≡◌, ℕ, zero, suc, ◌+◌, ◌-◌, ◌≤◌, ◌++◌, List, [], ◌∷◌, All, map, slice_index, slice_index_or, slice_set}
 use Rattle.std.specs.List.{AllZip}
-use Rattle.net_core.specs.Cases.{Case}
-use Rattle.plan_terms.specs.Capacities.{capacities}
-use Rattle.plan_types.specs.Plans.{IsCarryingPlan, IsCostedPlan}
+use Rattle.plan_terms.specs.Terms.{Case, capacities}
+use Rattle.plan_types.specs.Terms.{IsCarryingPlan, IsCostedPlan}
 use Rattle.plan_types.specs.declared.plan.Plan.{Plan}
-use Rattle.plan_report.specs.Forms.{IsPlanInForm}
-use Rattle.plan_report.specs.KnownNames.{known_to}
-use Rattle.route_law.specs.Routings.{IsLowestRouting}
+use Rattle.plan_report.specs.Terms.{IsPlanInForm, known_to}
+use Rattle.route_law.specs.Terms.{IsLowestRouting}
 use Rattle.able_counts.specs.AbleTests.{IsStopAt, whole_caps}
 use Rattle.trim_plan.specs.declared.trimming.Block.{Block}
 use Rattle.trim_plan.specs.declared.trimming.Trimmed.{Trimmed}

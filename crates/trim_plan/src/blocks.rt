@@ -1,10 +1,8 @@
 ghost use Rattle.std.specs.Prelude.{◌≡◌, ◌<◌, ◌++◌, [], All, IfOk, IsTrue, MatchOption, OnOk, false, length, slice_index_or};
-ghost use Rattle.net_core.specs.Views.{case_of};
-ghost use Rattle.plan_terms.specs.Separations.{IsSurvivable};
+ghost use Rattle.plan_terms.specs.Terms.{case_of, IsSurvivable};
 ghost use Rattle.able_counts.specs.AbleTests.{AreRoutedCounts};
-ghost use Rattle.trim_plan.specs.Trimmed.{AreAtMost, IsTrimmedBy};
+ghost use Rattle.trim_plan.specs.Trimmed.{AreAtMost, IsTrimmedBy, modules_in_use, IsBlockAt};
 ghost use Rattle.trim_plan.specs.inner.Sparing.{LowersCounts, block_places};
-ghost use Rattle.trim_plan.specs.Trimmed.{modules_in_use, IsBlockAt};
 
 use crate::lowered::{Place, module_count};
 use crate::sparing::take_off;

@@ -1,8 +1,6 @@
 ghost use Rattle.std.specs.Prelude.{◌≡◌, ◌<◌, None, IfOk, IfSome, OnOk};
-ghost use Rattle.net_core.specs.Views.{case_of};
-ghost use Rattle.plan_terms.specs.Separations.{IsSurvivable};
+ghost use Rattle.plan_terms.specs.Terms.{case_of, IsSurvivable, capacities};
 ghost use Rattle.able_counts.specs.AbleTests.{AreRoutedCounts, IsStopAt, whole_caps};
-ghost use Rattle.plan_terms.specs.Capacities.{capacities};
 ghost use Rattle.trim_plan.specs.Trimmed.{AreAtMost, module_count, one_less};
 
 use crate::dearest::dearest_first;

@@ -1,7 +1,5 @@
 ghost use Rattle.std.specs.Prelude.{◌≡◌, IfOk, length};
-ghost use Rattle.net_core.specs.Demands.{AreDemands};
-ghost use Rattle.net_core.specs.Views.{case, case_of};
-ghost use Rattle.plan_terms.specs.Separations.{IsSurvivable};
+ghost use Rattle.plan_terms.specs.Terms.{AreDemands, case, case_of, IsSurvivable};
 ghost use Rattle.trim_plan.specs.Trimmed.{IsRoutedPlan, IsTrimming};
 ghost use Rattle.trim_plan.specs.inner.Sparing.{AreTrimmedCounts};
 

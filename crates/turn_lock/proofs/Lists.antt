@@ -1,6 +1,6 @@
 -- Lists of which one element changes, and sums over them.
 use Rattle.std.proofs.Common.{◌≡◌, ◌≢◌, ℕ, zero, suc, ◌+◌, ◌<◌, ◌≤◌, List, [], ◌∷◌, ◌++◌, length, get_or, sum_by, set, ⊎_elim, refl, sym, ap, subst, arith}
-use Rattle.std.proofs.lemmas.List.Sums.{sum_by-set, sum_by-cons}
+use Rattle.net_core.proofs.Library.{sum_by-set, sum_by-cons}
 use mathlib.Core.Option.{some, some-injective, some-ne-none}
 use lib.ListN.{get_elem?}
 use Rattle.atomic_table.proofs.Lists.{at_set, at_snoc}

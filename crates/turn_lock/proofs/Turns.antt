@@ -1,8 +1,6 @@
 -- The steps of a turn keep the rule: draw, look, commit, serve.
 use Rattle.std.proofs.Common.{◌≡◌, ◌≢◌, ℕ, zero, suc, ◌+◌, ◌%◌, ◌^◌, ◌<◌, ◌≤◌, List, [], ◌∷◌, ◌++◌, length, get_or, sum_by, eqb, set, Some, Option, inl, inr, ⊎_elim, refl, sym, ap, subst, ◌∙◌, arith, length-append, map, true}
-use Rattle.std.proofs.lemmas.List.{set-get_or}
-use Rattle.std.proofs.lemmas.List.Sums.{sum_by_push}
-use Rattle.std.proofs.lemmas.Bool.{cases_eq}
+use Rattle.net_core.proofs.Library.{set-get_or, sum_by_push, cases_eq}
 use mathlib.Core.Option.{some, none, some-injective, some-ne-none}
 use lib.ListN.{get_elem?}
 use Rattle.atomic_table.specs.Table.{State, Me, Step, step, Allows, keeps, takes, gives, stepped, rest, opening}

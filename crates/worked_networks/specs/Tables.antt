@@ -3,8 +3,7 @@ use Rattle.std.specs.Prelude.{◌≡◌, ℕ, zero, suc, ◌+◌, ◌++◌, ⊤,
 use Rattle.net_core.specs.declared.demand.Demand.{Demand}
 use Rattle.net_core.specs.declared.network.Link.{Link}
 use Rattle.net_core.specs.declared.states.Listed.{Listed}
-use Rattle.net_core.specs.Network.{network_fault}
-use Rattle.net_core.specs.States.{states_fault}
+use Rattle.net_core.specs.Terms.{network_fault, states_fault}
 use Rattle.worked_networks.specs.declared.fault.WorkedFault.{WorkedFault}
 use Rattle.worked_networks.specs.declared.fault.WorkedFault.TheVariants.{Network, States, NoMemory}
 

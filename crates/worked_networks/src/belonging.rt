@@ -1,5 +1,5 @@
 ghost use Rattle.std.specs.Prelude.{◌≡◌, ◌≢◌, ◌≤◌, ◌<◌, ◌+◌, ◌*◌, ◌^◌, ◌↔◌, All, AllPairs, IsTrue, length, sum_by};
-ghost use Rattle.net_core.specs.Demands.{AreDemands, IsDemand};
+ghost use Rattle.net_core.specs.Terms.{AreDemands, IsDemand};
 
 use net_core::Demand;
 

@@ -1,5 +1,5 @@
 ghost use Rattle.std.specs.Prelude.{◌≡◌, ◌≤◌, ◌+◌, [], ◌∷◌, IfOk};
-ghost use Rattle.net_core.specs.Names.{IsName};
+ghost use Rattle.net_core.specs.Terms.{IsName};
 
 use net_core::{Name, NameFault, NoMemory};
 use std::alloc::Global;

@@ -1,6 +1,6 @@
 ghost use Rattle.std.specs.Prelude.{◌≡◌, ◌≤◌, ◌<◌, ◌+◌, ◌⊎◌, [], ◌∷◌, IfOk, IfErr, List as Seq, length, map};
 ghost use Rattle.net_core.specs.declared.states.Listed.{Listed as State};
-ghost use Rattle.net_core.specs.States.{AreStates};
+ghost use Rattle.net_core.specs.Terms.{AreStates};
 ghost use Rattle.worked_networks.specs.Tables.{AreSingles, RefusesStates, failed_of, single_state};
 
 use crate::fault::WorkedFault;

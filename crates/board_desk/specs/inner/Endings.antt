@@ -1,6 +1,6 @@
 -- what a board is at the end of a turn
 use Rattle.std.specs.Prelude.{◌≡◌, ◌++◌, List, [], ◌∷◌, Bool, true, false}
-use Rattle.net_core.specs.declared.journal.Entry.{Entry}
+use Rattle.plan_terms.specs.Terms.{Entry}
 use Rattle.cut_pool.specs.declared.answers.AdmitAnswer.{AdmitAnswer}
 use Rattle.cut_pool.specs.declared.answers.AdmitAnswer.TheVariants as admitting
 use Rattle.cut_pool.specs.declared.answers.EditAnswer.{EditAnswer}

@@ -1,9 +1,7 @@
 -- pooled cuts one by one
 use Rattle.std.specs.Prelude.{◌≡◌, ◌==◌, ℕ, ◌+◌, ◌-◌, ◌≤◌, ◌<◌, ◌^◌, ◌&&◌, Bool, List, sum_by}
 use Rattle.std.specs.Cmp.Lexicographic.{pointwise}
-use Rattle.net_core.specs.declared.demand.Demand.{Demand}
-use Rattle.net_core.specs.Demands.{AreDemands}
-use Rattle.net_core.specs.Graphs.{Graph}
+use Rattle.plan_terms.specs.Terms.{Demand, AreDemands, Graph}
 use Rattle.metric_cut.specs.Cuts.{IsCutOf}
 use Rattle.metric_cut.specs.declared.cut.Cut.{Cut}
 use Rattle.metric_cut.specs.inner.Rights.{part_of}

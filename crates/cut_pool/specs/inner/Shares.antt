@@ -1,9 +1,6 @@
 -- what one demand asks of cuts, before and after an edit
 use Rattle.std.specs.Prelude.{◌≡◌, ℕ, ◌+◌, ◌*◌, ◌<◌, ◌^◌, List, Option, None, Some, IfSome, sum_by, unwrap_or}
-use Rattle.net_core.specs.declared.demand.Demand.{Demand}
-use Rattle.net_core.specs.declared.journal.Edit.{Edit}
-use Rattle.net_core.specs.declared.journal.Edit.TheVariants.{Add, Drop, Set}
-use Rattle.plan_terms.specs.Edits.{without}
+use Rattle.plan_terms.specs.Terms.{Demand, Edit, Add, Drop, Set, without}
 use Rattle.short_paths.specs.declared.distance_table.DistanceTable.{DistanceTable}
 use Rattle.short_paths.specs.DistanceTables.{distance_at}
 use Rattle.metric_cut.specs.inner.Rights.{part_of}

@@ -1,6 +1,6 @@
 -- a demand of a list gets another need
 use Rattle.std.specs.Prelude.{◌≡◌, ◌≢◌, ℕ, List, Some, length, slice_get}
-use Rattle.net_core.specs.declared.demand.Demand.{Demand}
+use Rattle.plan_terms.specs.Terms.{Demand}
 
 -- the same demands, but that the one at place k has this need
 pub record IsPlaceOf (before : List Demand) (k need : ℕ) (after : List Demand) : Type 0 where

@@ -1,7 +1,6 @@
 -- the connected components of a graph, as labels of its nodes: nodes have one label where links lead between them
 use Rattle.std.specs.Prelude.{◌≡◌, ◌≢◌, ℕ, ◌<◌, List, [], Some, length, slice_get, slice_index}
-use Rattle.net_core.specs.declared.demand.Demand.{Demand}
-use Rattle.plan_terms.specs.inner.Walks.{Walk}
+use Rattle.plan_terms.specs.Terms.{Demand, Walk}
 
 -- links lead from a to b, perhaps along a node twice
 abbrev pub AreConnected : (ℕ → ℕ → ℕ → Type 0) → ℕ → ℕ → Type 0

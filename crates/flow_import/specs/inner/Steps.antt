@@ -1,10 +1,6 @@
 -- what the steps of an import answer
 use Rattle.std.specs.Prelude.{◌≡◌, ℕ, ◌<◌, ◌≤◌, List, All, Some, get_or, length, map, slice_get, slice_index}
-use Rattle.net_core.specs.declared.demand.Demand.{Demand}
-use Rattle.net_core.specs.declared.plan.Flow.{Flow}
-use Rattle.net_core.specs.declared.plan.Routing.{Routing}
-use Rattle.net_core.specs.Cases.{Case}
-use Rattle.net_core.specs.Graphs.{Graph, Survives}
+use Rattle.plan_terms.specs.Terms.{Demand, Flow, Routing, Case, Graph, Survives}
 use Rattle.path_split.specs.declared.arc.PathFlow.{PathFlow}
 use Rattle.path_split.specs.Balances.{AreNodesBalanced, IsFirstUnbalanced}
 use Rattle.path_split.specs.Splits.{IsFlowSplit}

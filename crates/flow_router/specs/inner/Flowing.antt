@@ -1,11 +1,8 @@
 -- the flows of a basis that is given by its names and values
 use Rattle.std.specs.Prelude.{◌≡◌, ℕ, ◌≤◌, ◌<◌, ◌⊎◌, List, All, Option, None, Some, false, get_or, length, slice_get}
-use Rattle.net_core.specs.declared.columns.RouteColumn.{RouteColumn}
-use Rattle.net_core.specs.declared.columns.RouteColumn.TheVariants.{DemandSlack, Carry}
-use Rattle.net_core.specs.declared.plan.Flow.{Flow}
-use Rattle.simplex_law.specs.Programs.{ColumnOf}
-use Rattle.simplex_law.specs.Bases.{AreNames}
-use Rattle.route_law.specs.BasisFlows.{is_of_demand, runs_over, AreFlowsOf}
+use Rattle.plan_terms.specs.Terms.{RouteColumn, DemandSlack, Carry, Flow}
+use Rattle.simplex_law.specs.Terms.{ColumnOf, AreNames}
+use Rattle.route_law.specs.Terms.{is_of_demand, runs_over, AreFlowsOf}
 
 -- the slack of a demand has a positive value
 pub record LeavesNeed (names : List RouteColumn) (values : List ℕ) : Type 0 where

@@ -1,9 +1,8 @@
 -- routings and their lowest terms
 use Rattle.std.specs.Prelude.{◌≡◌, ℕ, ◌<◌, List, All}
 use Rattle.std.specs.Int.{◌∣◌}
-use Rattle.net_core.specs.declared.plan.Flow.{Flow}
-use Rattle.net_core.specs.declared.plan.Routing.{Routing}
-use Rattle.route_law.specs.Routings.{IsLowestRouting, over_times}
+use Rattle.plan_terms.specs.Terms.{Flow, Routing}
+use Rattle.route_law.specs.Terms.{IsLowestRouting, over_times}
 
 -- the greatest number that divides the denominator and each numerator
 pub record IsCommonDivisor (den : ℕ) (flows : List Flow) (common : ℕ) : Type 0 where

@@ -1,14 +1,10 @@
 -- optima of the routing program of a task
 use Rattle.std.specs.Prelude.{ℕ, ◌*ℤ◌, ◌<ℤ◌, List, pos}
-use Rattle.net_core.specs.declared.columns.RouteColumn.{RouteColumn}
-use Rattle.net_core.specs.declared.route_task.RouteTask.{RouteTask}
-use Rattle.net_core.specs.Views.{graph_of}
-use Rattle.simplex_law.specs.Sums.{dot}
-use Rattle.simplex_core.specs.Programs.{Solves}
+use Rattle.plan_terms.specs.Terms.{RouteColumn, RouteTask, graph_of}
+use Rattle.simplex_law.specs.Terms.{dot}
+use Rattle.simplex_core.specs.Terms.{Solves}
 use Rattle.simplex_core.specs.declared.optimum.Optimum.{Optimum}
-use Rattle.route_law.specs.PricedLengths.{ArePricedLengths}
-use Rattle.route_law.specs.Routings.{AreJoined}
-use Rattle.route_law.specs.RoutingPrograms.{route_rows, route_bound, route_slack, total_scaled_need, IsCarrying}
+use Rattle.route_law.specs.Terms.{ArePricedLengths, AreJoined, route_rows, route_bound, route_slack, total_scaled_need, IsCarrying}
 
 -- an optimum of the task's routing program
 abbrev pub IsSolution : RouteTask → Optimum RouteColumn → Type 0

@@ -1,11 +1,6 @@
 -- a routing in the making
 use Rattle.std.specs.Prelude.{◌≡◌, ℕ, ◌+◌, ◌*◌, ◌<◌, ◌≤◌, ◌==◌, ◌⊎◌, ◌++◌, if◌then◌else◌, List, [], ◌∷◌, All, Any, Some, length, slice_get, slice_index}
-use Rattle.net_core.specs.declared.demand.Demand.{Demand}
-use Rattle.net_core.specs.declared.ids.LinkId.{LinkId}
-use Rattle.net_core.specs.declared.plan.Flow.{Flow}
-use Rattle.net_core.specs.States.{names_link}
-use Rattle.plan_terms.specs.Flows.{IsFlow, load, sent}
-use Rattle.plan_terms.specs.Paths.{IsPath}
+use Rattle.plan_terms.specs.Terms.{Demand, LinkId, Flow, names_link, IsFlow, load, sent, IsPath}
 use Rattle.greedy_router.specs.Blocked.{IsBlocked}
 use Rattle.greedy_router.specs.declared.draft.Draft.{Draft}
 use Rattle.greedy_router.specs.inner.FullLinks.{positives}

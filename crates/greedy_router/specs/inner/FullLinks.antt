@@ -1,7 +1,6 @@
 -- full links
 use Rattle.std.specs.Prelude.{ℕ, zero, suc, ◌+◌, ◌<◌, ◌≤◌, ◌^◌, List, [], ◌∷◌, All, length, slice_index}
-use Rattle.net_core.specs.declared.ids.LinkId.{LinkId}
-use Rattle.plan_terms.specs.Paths.{IsPath}
+use Rattle.plan_terms.specs.Terms.{LinkId, IsPath}
 
 -- a full link costs more than all others of a path, each of which costs 1
 abbrev pub full_price : ℕ → ℕ

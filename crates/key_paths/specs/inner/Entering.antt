@@ -1,16 +1,11 @@
 -- a column that gains enters a basis that is held by its keys
 use Rattle.std.specs.Prelude.{ℕ, ℤ, List, get_or, pos, ◌≡◌, ◌<◌, ◌+◌, ◌<ℤ◌, ◌⊎◌}
-use Rattle.checked_fraction.specs.Rows.{num}
-use Rattle.net_core.specs.declared.columns.RouteColumn.{RouteColumn}
-use Rattle.net_core.specs.declared.columns.WideKind.{WideKind}
-use Rattle.net_core.specs.declared.columns.WideKind.TheVariants.{Row as RowOf, Product, Common}
-use Rattle.simplex_law.specs.Programs.{ColumnOf}
-use Rattle.simplex_law.specs.Sums.{put}
-use Rattle.simplex_law.specs.inner.Pivots.{IsPick}
-use Rattle.simplex_core.specs.Tables.{nums_at, den_at}
-use Rattle.key_law.specs.KeyRows.{cost, full_prices, role_nums, AreKeyRows}
-use Rattle.key_rows.specs.Bases.{IsColumnNamed}
-use Rattle.key_rows.specs.FirstRoles.{LimitsNothing}
+use Rattle.checked_fraction.specs.Terms.{num}
+use Rattle.plan_terms.specs.Terms.{RouteColumn, WideKind, Row as RowOf, Product, Common}
+use Rattle.simplex_law.specs.Terms.{ColumnOf, put, IsPick}
+use Rattle.simplex_core.specs.Terms.{nums_at, den_at}
+use Rattle.key_law.specs.Terms.{cost, full_prices, role_nums, AreKeyRows}
+use Rattle.key_rows.specs.Terms.{IsColumnNamed, LimitsNothing}
 use Rattle.key_paths.specs.inner.Gaining.{cost_at}
 use Rattle.key_paths.specs.inner.Held.{IsHeld, IsNameOf}
 use Rattle.key_paths.specs.inner.Outcomes.{IsWideBasis}

@@ -1,16 +1,11 @@
 -- which columns of a routing program gain, by their names
 use Rattle.std.specs.Prelude.{ℕ, ℤ, List, [], ◌∷◌, ◌++◌, All, Some, length, pos, slice_get, slice_index, ◌≡◌, ◌<◌, ◌^◌, ◌+ℤ◌, ◌-ℤ◌, ◌<ℤ◌, ◌≤ℤ◌, ◌⊎◌}
-use Rattle.checked_fraction.specs.Rows.{num}
-use Rattle.net_core.specs.declared.columns.RouteColumn.{RouteColumn}
-use Rattle.net_core.specs.declared.columns.RouteColumn.TheVariants.{LinkSlack, DemandSlack, Carry}
-use Rattle.net_core.specs.declared.demand.Demand.{Demand}
-use Rattle.net_core.specs.declared.ids.LinkId.{LinkId}
-use Rattle.net_core.specs.Graphs.{Graph, Joins}
-use Rattle.plan_terms.specs.Paths.{IsPath}
-use Rattle.simplex_law.specs.Sums.{dot}
+use Rattle.checked_fraction.specs.Terms.{num}
+use Rattle.plan_terms.specs.Terms.{RouteColumn, LinkSlack, DemandSlack, Carry, Demand, LinkId, Graph, Joins, IsPath}
+use Rattle.simplex_law.specs.Terms.{dot}
 use Rattle.key_paths.specs.declared.carrier.Carrier.{Carrier}
 use Rattle.key_rows.specs.declared.keyed.Keyed.{Keyed}
-use Rattle.key_rows.specs.Names.{path_uses}
+use Rattle.key_rows.specs.Terms.{path_uses}
 
 -- the path joins the ends of demand k, which has a need
 pub record IsCarried (g : Graph) (demands : List Demand) (k : ℕ) (path : List LinkId) : Type 0 where

@@ -1,17 +1,11 @@
 -- a basis that is held by its keys, and a column that enters it
 use Rattle.std.specs.Prelude.{ℕ, ℤ, List, length, Some, pos, get_or, ◌≡◌, ◌<◌, ◌≤◌, ◌+◌, ◌≤ℤ◌, ◌⊎◌}
-use Rattle.checked_fraction.specs.Rows.{num}
-use Rattle.net_core.specs.declared.columns.RouteColumn.{RouteColumn}
-use Rattle.net_core.specs.declared.ids.LinkId.{LinkId}
-use Rattle.simplex_law.specs.Evidence.{HoldsRow}
-use Rattle.simplex_law.specs.Programs.{ColumnOf}
-use Rattle.simplex_law.specs.Sums.{dot}
-use Rattle.simplex_law.specs.inner.Pivots.{IsPick}
-use Rattle.simplex_core.specs.Tables.{nums_at, den_at}
-use Rattle.key_law.specs.Keys.{left_column}
-use Rattle.key_law.specs.KeyRows.{cost, full_prices, role_nums, AreKeyRows}
-use Rattle.key_rows.specs.Bases.{IsColumnNamed, IsKeyed}
-use Rattle.key_rows.specs.Names.{demand_in, column_name, uses, path_uses, IsNameWithin, IsShortPath}
+use Rattle.checked_fraction.specs.Terms.{num}
+use Rattle.plan_terms.specs.Terms.{RouteColumn, LinkId}
+use Rattle.simplex_law.specs.Terms.{HoldsRow, ColumnOf, dot, IsPick}
+use Rattle.simplex_core.specs.Terms.{nums_at, den_at}
+use Rattle.key_law.specs.Terms.{left_column, cost, full_prices, role_nums, AreKeyRows}
+use Rattle.key_rows.specs.Terms.{IsColumnNamed, IsKeyed, demand_in, column_name, uses, path_uses, IsNameWithin, IsShortPath}
 use Rattle.key_rows.specs.declared.keyed.Keyed.{Keyed}
 
 -- 0 or 1

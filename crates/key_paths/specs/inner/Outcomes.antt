@@ -1,11 +1,7 @@
 -- what comes of a column that enters
 use Rattle.std.specs.Prelude.{ℕ, ℤ, List, length, get_or, ◌≡◌, ◌<◌, ◌+◌, ◌⊎◌}
-use Rattle.net_core.specs.declared.columns.RouteColumn.{RouteColumn}
-use Rattle.net_core.specs.declared.columns.WideKind.{WideKind}
-use Rattle.net_core.specs.declared.columns.WideKind.TheVariants.{Number, Row as RowOf, Product, Sum, Common, Value, Length}
-use Rattle.simplex_law.specs.Evidence.{HoldsRow, HoldsProduct, HoldsCommon}
-use Rattle.simplex_law.specs.Programs.{ColumnOf}
-use Rattle.simplex_law.specs.Sums.{put}
+use Rattle.plan_terms.specs.Terms.{RouteColumn, WideKind, Number, Row as RowOf, Product, Sum, Common, Value, Length}
+use Rattle.simplex_law.specs.Terms.{HoldsRow, HoldsProduct, HoldsCommon, ColumnOf, put}
 use Rattle.key_paths.specs.inner.Held.{AreColumnNames, IsHeld, IsEntering, IsPriced}
 use Rattle.key_rows.specs.declared.key_row.WideKey.{WideKey}
 use Rattle.key_rows.specs.declared.key_row.WideKey.TheVariants.{Common as KeyCommon, Row as KeyRow}

@@ -1,18 +1,15 @@
 -- what the steps of a turn change of a basis with keys
 use Rattle.std.specs.Prelude.{ℕ, ℤ, List, length, Some, ◌≡◌, ◌≢◌, ◌<◌, ◌+◌, ◌+ℤ◌, ◌-ℤ◌, ◌*ℤ◌, get_or, slice_set}
 use Rattle.std.specs.List.{slice_get}
-use Rattle.checked_fraction.specs.Rows.{num, IsReduced}
-use Rattle.checked_fraction.specs.Mixed.{combined, IsTooWide}
+use Rattle.checked_fraction.specs.Terms.{num, IsReduced, combined, IsTooWide}
 use Rattle.checked_fraction.specs.declared.row.Row.{Row}
 use Rattle.checked_fraction.specs.declared.wide.WideNumber.{WideNumber}
 use Rattle.key_paths.specs.declared.turn_rows.WideTurn.{WideTurn}
 use Rattle.key_paths.specs.declared.turn_rows.WideTurn.TheVariants.{Prices, Row as RowOf}
-use Rattle.net_core.specs.declared.columns.RouteColumn.{RouteColumn}
-use Rattle.simplex_core.specs.Tables.{nums_at}
-use Rattle.simplex_core.specs.Turned.{AreTurned, IsWideRow}
-use Rattle.key_law.specs.Keys.{swap}
-use Rattle.key_rows.specs.KeyTests.{IsKeyRow}
-use Rattle.key_rows.specs.Names.{path_uses, links_in, key_name, owner_in}
+use Rattle.plan_terms.specs.Terms.{RouteColumn}
+use Rattle.simplex_core.specs.Terms.{nums_at, AreTurned, IsWideRow}
+use Rattle.key_law.specs.Terms.{swap}
+use Rattle.key_rows.specs.Terms.{IsKeyRow, path_uses, links_in, key_name, owner_in}
 use Rattle.key_rows.specs.declared.keyed.Keyed.{Keyed}
 
 -- what the key of demand d takes of link k at its bound

@@ -1,14 +1,13 @@
 -- keys as candidates, and which of two comes first
 use Rattle.std.specs.Prelude.{ℕ, ℤ, List, length, Option, Some, None, Result, Ok, Err, pos, ◌≡◌, ◌<◌, ◌≤◌, ◌+◌, ◌-◌, ◌≤ℤ◌, ◌<ℤ◌, ◌+ℤ◌, ◌*ℤ◌, ◌⊎◌, Bool, true, false}
-use Rattle.checked_fraction.specs.Rows.{num}
+use Rattle.checked_fraction.specs.Terms.{num}
 use Rattle.checked_fraction.specs.declared.row.Row.{Row}
-use Rattle.simplex_core.specs.inner.Commons.{HaveNoDenominator}
-use Rattle.simplex_core.specs.Tables.{nums_of}
-use Rattle.simplex_law.specs.Sums.{dot}
+use Rattle.simplex_core.specs.Terms.{HaveNoDenominator, nums_of}
+use Rattle.simplex_law.specs.Terms.{dot}
 use Rattle.std.specs.List.{slice_get}
 use Rattle.net_core.specs.declared.columns.RouteColumn.{RouteColumn}
 use Rattle.net_core.specs.declared.ids.LinkId.{LinkId}
-use Rattle.key_law.specs.Ties.{IsTieFirst}
+use Rattle.key_law.specs.Terms.{IsTieFirst}
 use Rattle.key_rows.specs.KeyRows.{amounts, own_den, AreWeights, left_over_rows}
 use Rattle.key_rows.specs.Names.{left_uses, own_entry}
 use Rattle.key_rows.specs.inner.Orders.{IsRowCandidate}

@@ -1,6 +1,6 @@
 -- a column that enters a basis with keys, and what its ratio test rests on
 use Rattle.std.specs.Prelude.{ℕ, length, pos, ◌≢◌, ◌<◌, ◌≤ℤ◌, ◌^◌, unsigned_abs}
-use Rattle.checked_fraction.specs.Rows.{num}
+use Rattle.checked_fraction.specs.Terms.{num}
 use Rattle.net_core.specs.declared.columns.RouteColumn.{RouteColumn}
 use Rattle.key_rows.specs.Bases.{IsShapedBasis}
 use Rattle.key_rows.specs.FirstRoles.{LeaveSomething}

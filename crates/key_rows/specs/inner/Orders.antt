@@ -1,10 +1,10 @@
 -- the order of candidates
 use Rattle.std.specs.Prelude.{ℕ, ℤ, List, Option, Some, None, pos, ◌≡◌, ◌<◌, ◌≤ℤ◌, ◌<ℤ◌, ◌⊎◌}
-use Rattle.checked_fraction.specs.Rows.{num}
+use Rattle.checked_fraction.specs.Terms.{num}
 use Rattle.checked_fraction.specs.declared.row.Row.{Row}
-use Rattle.simplex_law.specs.inner.Pivots.{IsNoLater}
-use Rattle.simplex_core.specs.Tables.{nums_at}
-use Rattle.key_law.specs.Ties.{ComesFirst}
+use Rattle.simplex_law.specs.Terms.{IsNoLater}
+use Rattle.simplex_core.specs.Terms.{nums_at}
+use Rattle.key_law.specs.Terms.{ComesFirst}
 use Rattle.key_rows.specs.KeyRows.{amounts}
 use Rattle.key_rows.specs.declared.order.Candidate.{Candidate}
 

@@ -1,6 +1,6 @@
 -- which roles the ratio test tries
 use Rattle.std.specs.Prelude.{ℕ, ℤ, List, Option, Some, None, length, pos, ◌≡◌, ◌≢◌, ◌<◌, ◌+◌, ◌⊎◌}
-use Rattle.checked_fraction.specs.Rows.{num}
+use Rattle.checked_fraction.specs.Terms.{num}
 use Rattle.net_core.specs.declared.columns.RouteColumn.{RouteColumn}
 use Rattle.key_rows.specs.KeyRows.{IsOwn}
 use Rattle.key_rows.specs.Names.{demand_in}

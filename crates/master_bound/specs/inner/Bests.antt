@@ -1,8 +1,6 @@
 -- the first cut of greatest own bound among the first ones of a list
 use Rattle.std.specs.Prelude.{◌≡◌, ℕ, ◌<◌, ◌≤◌, ◌⊎◌, List, Some, slice_get}
-use Rattle.net_core.specs.declared.network.Link.{Link}
-use Rattle.net_core.specs.declared.plan.CutLine.{CutLine}
-use Rattle.plan_terms.specs.OwnBounds.{IsOwnBound}
+use Rattle.plan_terms.specs.Terms.{Link, CutLine, IsOwnBound}
 use Rattle.master_bound.specs.declared.best.GreatestOwn.{GreatestOwn}
 
 -- the cut at place k takes the place of another where its own bound is greater

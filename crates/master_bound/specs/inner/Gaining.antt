@@ -1,12 +1,11 @@
 -- cuts that gain at the prices of the links
 use Rattle.std.specs.Prelude.{ℕ, ℤ, ◌≡◌, ◌<◌, ◌*ℤ◌, ◌-ℤ◌, ◌<ℤ◌, ◌≤ℤ◌, List, Option, None, Some, length, pos, slice_get}
-use Rattle.checked_fraction.specs.Rows.{num}
+use Rattle.checked_fraction.specs.Terms.{num}
 use Rattle.checked_fraction.specs.declared.row.Row.{Row}
 use Rattle.module_prices.specs.declared.cheapest.UnitPair.{UnitPair}
-use Rattle.net_core.specs.declared.network.Link.{Link}
-use Rattle.net_core.specs.declared.plan.CutLine.{CutLine}
-use Rattle.simplex_law.specs.Sums.{dot}
-use Rattle.master_law.specs.MasterPrograms.{cut_gain}
+use Rattle.plan_terms.specs.Terms.{Link, CutLine}
+use Rattle.simplex_law.specs.Terms.{dot}
+use Rattle.master_law.specs.Terms.{cut_gain}
 use Rattle.master_bound.specs.declared.candidate.Candidate.{Candidate}
 use Rattle.master_bound.specs.inner.Narrow.{length_entry}
 

@@ -1,13 +1,9 @@
 -- the multipliers of a basis that is given by its names and amounts
 use Rattle.std.specs.Prelude.{ℕ, ◌≡◌, ◌≢◌, ◌<◌, ◌≤◌, ◌/◌, ◌++◌, ◌⊎◌, List, [], ◌∷◌, All, AllPairs, Contains, Some, get_or, length, map, slice_get}
-use Rattle.net_core.specs.declared.columns.MasterColumn.{MasterColumn}
-use Rattle.net_core.specs.declared.columns.MasterColumn.TheVariants.{LinkSlack, Metric}
-use Rattle.net_core.specs.declared.network.Link.{Link}
-use Rattle.net_core.specs.declared.plan.CutLine.{CutLine}
-use Rattle.simplex_law.specs.Programs.{ColumnOf}
-use Rattle.simplex_law.specs.Bases.{AreNames}
-use Rattle.master_law.specs.BasisLines.{AreLinesOf}
-use Rattle.master_law.specs.MasterPrograms.{cut_gain}
+use Rattle.plan_terms.specs.Terms.{MasterColumn, Metric, Link, CutLine}
+use Rattle.net_core.specs.declared.columns.MasterColumn.TheVariants.{LinkSlack}
+use Rattle.simplex_law.specs.Terms.{ColumnOf, AreNames}
+use Rattle.master_law.specs.Terms.{AreLinesOf, cut_gain}
 use Rattle.master_bound.specs.declared.answer.Multiplier.{Multiplier}
 use Rattle.master_bound.specs.Answers.{cut_at, lines_of}
 

@@ -1,11 +1,10 @@
 -- cuts whose numbers are below 2 ^ 62
 use Rattle.std.specs.Prelude.{ℕ, ◌*◌, ◌<◌, ◌≤◌, ◌^◌, ◌⊎◌, List, All, Option, None, Some, length, slice_index, slice_get, ◌≡◌}
-use Rattle.checked_fraction.specs.Rows.{IsNarrow}
+use Rattle.checked_fraction.specs.Terms.{IsNarrow}
 use Rattle.module_prices.specs.declared.cheapest.UnitPair.{UnitPair}
-use Rattle.net_core.specs.declared.network.Link.{Link}
-use Rattle.net_core.specs.declared.plan.CutLine.{CutLine}
-use Rattle.simplex_law.specs.Evidence.{IsWide}
-use Rattle.master_law.specs.MasterPrograms.{cut_gain, unit_capacities}
+use Rattle.plan_terms.specs.Terms.{Link, CutLine}
+use Rattle.simplex_law.specs.Terms.{IsWide}
+use Rattle.master_law.specs.Terms.{cut_gain, unit_capacities}
 
 -- what lengths take of the row of link e
 abbrev pub length_entry : List UnitPair → List ℕ → ℕ → ℕ

@@ -1,20 +1,14 @@
 -- the columns that are handed out, and optima of the master program
 use Rattle.std.specs.Prelude.{ℕ, ◌≡◌, ◌<◌, List, [], ◌∷◌, pos, cond, nat_lt, length}
 use Rattle.std.specs.List.{AllByRecursion}
-use Rattle.checked_fraction.specs.Rows.{IsNarrow}
+use Rattle.checked_fraction.specs.Terms.{IsNarrow}
 use Rattle.module_prices.specs.declared.cheapest.UnitPair.{UnitPair}
-use Rattle.net_core.specs.declared.columns.MasterColumn.{MasterColumn}
-use Rattle.net_core.specs.declared.columns.MasterColumn.TheVariants.{Metric}
-use Rattle.net_core.specs.declared.columns.Evidence.TheVariants.{Master}
-use Rattle.net_core.specs.declared.columns.WideKind.{WideKind}
-use Rattle.net_core.specs.declared.network.Link.{Link}
-use Rattle.net_core.specs.declared.plan.CutLine.{CutLine}
-use Rattle.simplex_core.specs.Columns.{entry_of, AreEntries}
-use Rattle.simplex_core.specs.Programs.{Solves}
+use Rattle.plan_terms.specs.Terms.{MasterColumn, Metric, Master, WideKind, Link, CutLine}
+use Rattle.simplex_core.specs.Terms.{entry_of, AreEntries, Solves}
 use Rattle.simplex_core.specs.declared.columns.Column.{Column}
 use Rattle.simplex_core.specs.declared.columns.Entry.{Entry}
 use Rattle.simplex_core.specs.declared.optimum.Optimum.{Optimum}
-use Rattle.master_law.specs.MasterPrograms.{cut_gain, master_bound, master_slack, IsCutColumn}
+use Rattle.master_law.specs.Terms.{cut_gain, master_bound, master_slack, IsCutColumn}
 use Rattle.master_bound.specs.declared.answer.MasterFault.{MasterFault}
 use Rattle.master_bound.specs.declared.answer.MasterFault.TheVariants.{Wide}
 use Rattle.master_bound.specs.inner.Narrow.{length_entry}

@@ -1,8 +1,7 @@
 -- the opening cuts of a state, from what it keeps of two lists of lengths
 use Rattle.std.specs.Prelude.{◌==◌, ℕ, List, [], ◌∷◌, Option, None, Some, cond}
 use Rattle.std.specs.Cmp.Lexicographic.{pointwise}
-use Rattle.net_core.specs.Graphs.{Graph}
-use Rattle.plan_terms.specs.Prices.{ArePriceLengths}
+use Rattle.plan_terms.specs.Terms.{Graph, ArePriceLengths}
 use Rattle.metric_cut.specs.Cuts.{MayKeepCut}
 use Rattle.metric_cut.specs.declared.cut.Cut.{Cut}
 

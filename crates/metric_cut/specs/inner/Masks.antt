@@ -1,6 +1,6 @@
 -- how lengths become those that a state keeps
 use Rattle.std.specs.Prelude.{◌≡◌, ◌≢◌, ℕ, ◌/◌, ◌<◌, List, length, slice_index}
-use Rattle.net_core.specs.Graphs.{Graph, Survives}
+use Rattle.plan_terms.specs.Terms.{Graph, Survives}
 
 -- the lengths of the surviving links, and 0 elsewhere
 pub record AreMasked (g : Graph) (lengths masked : List ℕ) : Type 0 where

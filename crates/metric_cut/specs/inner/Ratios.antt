@@ -1,6 +1,6 @@
 -- ratios of a cost and a size, where a size of 0 makes a ratio greater than all
 use Rattle.std.specs.Prelude.{◌≡◌, ℕ, ◌*◌, ◌^◌, ◌≤◌, ◌<◌, List, All}
-use Rattle.net_core.specs.declared.network.Module.{Module}
+use Rattle.plan_terms.specs.Terms.{Module}
 use Rattle.metric_cut.specs.declared.ratio.Ratio.{Ratio}
 
 -- no ratio that is at least b is below a

@@ -1,6 +1,6 @@
 -- right sides by a table of distances
 use Rattle.std.specs.Prelude.{ℕ, ◌*◌, unwrap_or}
-use Rattle.net_core.specs.declared.demand.Demand.{Demand}
+use Rattle.plan_terms.specs.Terms.{Demand}
 use Rattle.short_paths.specs.declared.distance_table.DistanceTable.{DistanceTable}
 use Rattle.short_paths.specs.DistanceTables.{distance_at}
 

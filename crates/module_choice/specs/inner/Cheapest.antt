@@ -1,8 +1,6 @@
 -- the counts that a link gets, chosen by its modules alone
 use Rattle.std.specs.Prelude.{◌≡◌, ℕ, ◌^◌, ◌<◌, ◌≤◌, List, All}
-use Rattle.net_core.specs.declared.network.Module.{Module}
-use Rattle.plan_terms.specs.Capacities.{modules_capacity, modules_cost}
-use Rattle.plan_terms.specs.Covers.{MayCover, Reaches}
+use Rattle.plan_terms.specs.Terms.{Module, modules_capacity, modules_cost, MayCover, Reaches}
 
 -- Of the counts that a cover is chosen from and that reach the need these cost least, without a setup. None is installed where nothing is needed. They
 -- are within the limits.

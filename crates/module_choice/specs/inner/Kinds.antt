@@ -1,6 +1,6 @@
 -- the kind of module that a link is given
 use Rattle.std.specs.Prelude.{◌≡◌, ℕ, ◌*◌, ◌≤◌, List, Some, slice_get}
-use Rattle.net_core.specs.declared.network.Module.{Module}
+use Rattle.plan_terms.specs.Terms.{Module}
 use Rattle.module_choice.specs.declared.covers.Kind.{Kind}
 
 -- so many modules of this kind reach the need, no fewer of them do, and no modules of one kind that reach it cost less

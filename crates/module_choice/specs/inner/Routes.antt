@@ -1,17 +1,6 @@
 -- one path for each demand that has a need, state by state
 use Rattle.std.specs.Prelude.{◌≡◌, ℕ, ◌*◌, ◌^◌, ◌<◌, ◌==◌, ◌⊎◌, ◌++◌, [], ◌∷◌, List, All, AllPairs, Any, Some, count_by, length, slice_get, slice_index, sum_by, take}
-use Rattle.net_core.specs.declared.demand.Demand.{Demand}
-use Rattle.net_core.specs.declared.ids.LinkId.{LinkId}
-use Rattle.net_core.specs.declared.network.Link.{Link}
-use Rattle.net_core.specs.declared.network.Module.{Module}
-use Rattle.net_core.specs.declared.plan.Flow.{Flow}
-use Rattle.net_core.specs.declared.plan.Routing.{Routing}
-use Rattle.net_core.specs.Cases.{Case, graph_in}
-use Rattle.net_core.specs.Graphs.{Joins}
-use Rattle.plan_terms.specs.Capacities.{modules_capacity}
-use Rattle.plan_terms.specs.Covers.{CoverLoads}
-use Rattle.plan_terms.specs.Fallbacks.{IsLeastFlow, IsLeastRouting, peak}
-use Rattle.plan_terms.specs.LeastPaths.{IsLeastPath}
+use Rattle.plan_terms.specs.Terms.{Demand, LinkId, Link, Module, Flow, Routing, Case, graph_in, Joins, modules_capacity, CoverLoads, IsLeastFlow, IsLeastRouting, peak, IsLeastPath}
 use Rattle.module_choice.specs.inner.Cheapest.{AreCheapest}
 
 -- how often link e stands on the path

@@ -1,10 +1,6 @@
 -- the least costs of a link's modules to reach a number of steps
 use Rattle.std.specs.Prelude.{◌≡◌, ℕ, ◌+◌, ◌-◌, ◌*◌, ◌^◌, ◌<◌, ◌≤◌, List, All, Some, length, map, slice_get}
-use Rattle.net_core.specs.declared.network.Module.{Module}
-use Rattle.net_core.specs.Network.{IsModule}
-use Rattle.plan_terms.specs.Bounds.{IsGreatestDivisor}
-use Rattle.plan_terms.specs.Capacities.{modules_capacity, modules_cost}
-use Rattle.plan_terms.specs.Covers.{Reaches}
+use Rattle.plan_terms.specs.Terms.{Module, IsModule, IsGreatestDivisor, modules_capacity, modules_cost, Reaches}
 use Rattle.module_choice.specs.declared.tables.Entry.{Entry}
 use Rattle.module_choice.specs.declared.tables.Table.{Table}
 

@@ -1,9 +1,6 @@
 -- which module costs most per capacity among the cheapest ones of links
 use Rattle.std.specs.Prelude.{◌≡◌, ℕ, ◌*◌, ◌≤◌, ◌<◌, ◌⊎◌, List, [], All, Any, Some, length, slice_get, slice_index}
-use Rattle.net_core.specs.Network.{IsModule}
-use Rattle.net_core.specs.declared.network.Link.{Link}
-use Rattle.net_core.specs.declared.network.Module.{Module}
-use Rattle.plan_terms.specs.Prices.{HasLeastUnitCost, IsPriceLength}
+use Rattle.plan_terms.specs.Terms.{IsModule, Link, Module, HasLeastUnitCost, IsPriceLength}
 
 -- a module costs at most as much per capacity as another
 abbrev pub IsNoDearer : Module → Module → Type 0

@@ -1,6 +1,6 @@
 -- capacities whose sums along lengths fit
 use Rattle.std.specs.Prelude.{◌<◌, ◌^◌, All}
-use Rattle.net_core.specs.declared.plan.Caps.{Caps}
+use Rattle.plan_terms.specs.Terms.{Caps}
 
 -- numbers below 2^62 over a positive scale
 pub record AreNarrow (caps : Caps) : Type 0 where

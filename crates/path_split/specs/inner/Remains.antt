@@ -1,6 +1,6 @@
 -- what is left of legs and of a need, while one path after another is taken off
 use Rattle.std.specs.Prelude.{◌≡◌, ℕ, zero, suc, ◌+◌, ◌<◌, ◌≤◌, ◌⊎◌, ◌++◌, List, [], ◌∷◌, All, Any, drop, length, slice_index}
-use Rattle.plan_terms.specs.Paths.{IsPath}
+use Rattle.plan_terms.specs.Terms.{IsPath}
 use Rattle.path_split.specs.Splits.{path_load}
 use Rattle.path_split.specs.declared.arc.PathFlow.{PathFlow}
 use Rattle.path_split.specs.declared.leg.Leg.{Leg}

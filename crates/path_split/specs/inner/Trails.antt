@@ -1,8 +1,7 @@
 -- walks along legs with flow left
 use Rattle.std.specs.Prelude.{◌≡◌, ◌≢◌, ℕ, ◌-◌, ◌<◌, ◌≤◌, ◌⊎◌, List, [], ◌∷◌, length, map, slice_index, slice_set}
 use Rattle.std.specs.List.{AllByRecursion}
-use Rattle.net_core.specs.declared.ids.LinkId.{LinkId}
-use Rattle.plan_terms.specs.Paths.{AreDifferent}
+use Rattle.plan_terms.specs.Terms.{LinkId, AreDifferent}
 use Rattle.path_split.specs.declared.leg.Leg.{Leg}
 use Rattle.path_split.specs.inner.Legs.{leaves, leg_at, picked}
 

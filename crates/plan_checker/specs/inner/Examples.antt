@@ -1,6 +1,6 @@
 -- parts of plans that tests check
 use Rattle.std.specs.Prelude.{ℕ, List, [], ◌∷◌}
-use Rattle.net_core.specs.declared.demand.Demand.{Demand}
+use Rattle.plan_terms.specs.Terms.{Demand}
 
 -- 12.00 from A to C, and so much from A to B
 abbrev pub two_demands : ℕ → List Demand

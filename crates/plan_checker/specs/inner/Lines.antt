@@ -1,6 +1,6 @@
 -- lines of a certificate as its terms see them
 use Rattle.std.specs.Prelude.{List, map}
-use Rattle.plan_terms.specs.Certificates.{CertificateLine}
+use Rattle.plan_terms.specs.Terms.{CertificateLine}
 use Rattle.plan_types.specs.declared.certificate.CertLine.{CertLine}
 
 -- the cuts and numerators of lines

@@ -1,8 +1,6 @@
 -- routings along paths
 use Rattle.std.specs.Prelude.{◌≡◌, ℕ, List, All, Some, slice_get}
-use Rattle.net_core.specs.Cases.{Case, graph_in}
-use Rattle.net_core.specs.Graphs.{Joins}
-use Rattle.net_core.specs.declared.plan.Routing.{Routing}
+use Rattle.plan_terms.specs.Terms.{Case, graph_in, Joins, Routing}
 use Rattle.plan_checker.specs.Carried.{FollowsPath}
 
 -- in each state each flow follows a path

@@ -1,7 +1,6 @@
 -- a beginning that is under way: the opening cuts of some states are taken, and some of one further state
 use Rattle.std.specs.Prelude.{◌≡◌, ℕ, ◌<◌, ◌⊎◌, ◌++◌, List, All, AllPairs, Contains}
-use Rattle.net_core.specs.declared.plan.CutLine.{CutLine}
-use Rattle.net_core.specs.Cases.{Case}
+use Rattle.plan_terms.specs.Terms.{CutLine, Case}
 use Rattle.plan_law.specs.WorkedLists.{HasCut, HasOpeningOf, IsOpeningCut, Lacks, OpensBefore}
 
 -- The list is the snapshot's cuts, and the opening cuts that it lacks of the states below s, and of state s those with the lengths taken.

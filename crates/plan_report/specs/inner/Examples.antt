@@ -1,8 +1,6 @@
 -- the report of a plan without demands on the triangle
 use Rattle.std.specs.Prelude.{[], ◌∷◌, false}
-use Rattle.net_core.specs.declared.journal.Entry.TheVariants.{Pooled}
-use Rattle.net_core.specs.declared.plan.CutLine.{CutLine}
-use Rattle.net_core.specs.declared.plan.Routing.{Routing}
+use Rattle.plan_terms.specs.Terms.{Pooled, CutLine, Routing}
 use Rattle.plan_types.specs.declared.certificate.Certificate.{Certificate}
 use Rattle.plan_types.specs.declared.plan.Plan.{Plan}
 use Rattle.plan_types.specs.declared.quality.Quality.TheVariants.{Tight}

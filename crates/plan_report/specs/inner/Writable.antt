@@ -1,6 +1,6 @@
 -- what the writer needs of a demand
 use Rattle.std.specs.Prelude.{ℕ, ◌<◌, ◌^◌, List, length}
-use Rattle.net_core.specs.declared.demand.Demand.{Demand}
+use Rattle.plan_terms.specs.Terms.{Demand}
 
 -- two of the nodes, and a need below 2^40 units
 pub record IsWritableDemand (nodes : List (List ℕ)) (d : Demand) : Type 0 where

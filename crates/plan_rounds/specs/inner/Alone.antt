@@ -1,10 +1,8 @@
 -- a history that a separator writes alone
 use Rattle.std.specs.Prelude.{◌≡◌, ℕ, ◌+◌, ◌≤◌, ◌⊎◌, List, [], All, Contains, length, map}
-use Rattle.net_core.specs.declared.journal.Entry.{Entry}
-use Rattle.net_core.specs.declared.plan.CutLine.{CutLine}
-use Rattle.net_core.specs.Cases.{Case}
+use Rattle.plan_terms.specs.Terms.{Entry, CutLine, Case}
 use Rattle.module_prices.specs.declared.cheapest.UnitPair.{UnitPair}
-use Rattle.cut_pool.specs.Histories.{cut_of_line, cuts_of}
+use Rattle.cut_pool.specs.Terms.{cut_of_line, cuts_of}
 use Rattle.plan_law.specs.WorkedLists.{IsBeginning, IsWorkedList, Round}
 use Rattle.separator.specs.Separators.{IsCutEntry}
 use Rattle.plan_rounds.specs.WorkedRounds.{IsWorkedPool}

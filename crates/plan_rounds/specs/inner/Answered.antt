@@ -1,11 +1,6 @@
 -- what the answers of all states come to
 use Rattle.std.specs.Prelude.{◌≡◌, ◌≢◌, ℕ, ◌^◌, ◌<◌, ◌≤◌, ◌⊎◌, ◌++◌, List, [], ◌∷◌, None, Some, All, AllPairs, IfSome, length, slice_get}
-use Rattle.net_core.specs.declared.columns.Evidence.{Evidence}
-use Rattle.net_core.specs.declared.journal.Entry.{Entry}
-use Rattle.net_core.specs.declared.plan.Caps.{Caps}
-use Rattle.net_core.specs.declared.plan.CutLine.{CutLine}
-use Rattle.net_core.specs.declared.plan.Routing.{Routing}
-use Rattle.net_core.specs.Cases.{Case, graph_in}
+use Rattle.plan_terms.specs.Terms.{Evidence, Entry, Caps, CutLine, Routing, Case, graph_in}
 use Rattle.flow_router.specs.Answers.{IsEvidenceHere, IsRouted}
 use Rattle.separator.specs.Separators.{IsSeparatingCut}
 use Rattle.separator.specs.declared.answers.Separated.{Separated}

@@ -1,24 +1,14 @@
 -- the capacities of a share over a common divisor, and what is found of them
 use Rattle.std.specs.Prelude.{◌≡◌, ℕ, ◌+◌, ◌*◌, ◌^◌, ◌<◌, ◌≤◌, List, All, Some, length, map, slice_get}
 use Rattle.std.specs.Int.{◌∣◌}
-use Rattle.net_core.specs.declared.columns.Evidence.{Evidence}
-use Rattle.net_core.specs.declared.columns.Evidence.TheVariants.{Route, Master}
-use Rattle.net_core.specs.declared.columns.RouteColumn.{RouteColumn}
-use Rattle.net_core.specs.declared.columns.RouteColumn.TheVariants.{DemandSlack, LinkSlack}
-use Rattle.net_core.specs.declared.demand.Demand.{Demand}
-use Rattle.net_core.specs.declared.network.Link.{Link}
-use Rattle.net_core.specs.declared.plan.Caps.{Caps}
-use Rattle.net_core.specs.declared.plan.Routing.{Routing}
-use Rattle.net_core.specs.Cases.{Case}
+use Rattle.plan_terms.specs.Terms.{Evidence, Route, Master, RouteColumn, DemandSlack, LinkSlack, Demand, Link, Caps, Routing, Case}
 use Rattle.module_prices.specs.declared.cheapest.UnitPair.{UnitPair}
 use Rattle.plan_types.specs.declared.quality.Cause.TheVariants.{Wide, Cuts}
 use Rattle.plan_types.specs.declared.quality.Quality.{Quality}
 use Rattle.plan_types.specs.declared.quality.Quality.TheVariants.{Tight, Loose}
 use Rattle.plan_types.specs.declared.quality.Share.{Share}
-use Rattle.route_law.specs.Divisions.{caps_times}
-use Rattle.route_law.specs.Routings.{flow_times}
-use Rattle.route_law.specs.RoutingPrograms.{beside}
-use Rattle.master_law.specs.UnitPairs.{share_caps}
+use Rattle.route_law.specs.Terms.{caps_times, flow_times, beside}
+use Rattle.master_law.specs.Terms.{share_caps}
 use Rattle.plan_rounds.specs.inner.Answered.{AreRoutedStates, IsEvidenceOfState}
 use Rattle.plan_rounds.specs.declared.shares.ShareCaps.{ShareCaps}
 

@@ -1,12 +1,7 @@
 -- one turn of the rounds: the best certificate of the cuts, and what the states answer at its share
 use Rattle.std.specs.Prelude.{◌≡◌, ℕ, ◌+◌, ◌<◌, ◌≤◌, ◌⊎◌, ◌++◌, List, All, Option, Some, length, take}
-use Rattle.net_core.specs.declared.columns.Evidence.{Evidence}
-use Rattle.net_core.specs.declared.journal.Entry.{Entry}
-use Rattle.net_core.specs.declared.plan.Caps.{Caps}
-use Rattle.net_core.specs.declared.plan.CutLine.{CutLine}
-use Rattle.net_core.specs.Cases.{Case}
+use Rattle.plan_terms.specs.Terms.{Evidence, Entry, Caps, CutLine, Case, IsCut}
 use Rattle.module_prices.specs.declared.cheapest.UnitPair.{UnitPair}
-use Rattle.plan_terms.specs.Certificates.{IsCut}
 use Rattle.plan_types.specs.declared.quality.Cause.TheVariants as causes
 use Rattle.plan_types.specs.declared.quality.Cause.TheVariants.{Cuts}
 use Rattle.plan_types.specs.declared.quality.Quality.{Quality}

@@ -1,10 +1,6 @@
 -- the bound of the best cut
 use Rattle.std.specs.Prelude.{◌≡◌, ℕ, ◌-◌, ◌*◌, ◌^◌, ◌<◌, ◌⊎◌, List, [], ◌∷◌, All, Some, length, slice_get}
-use Rattle.net_core.specs.declared.network.Link.{Link}
-use Rattle.net_core.specs.declared.plan.CutLine.{CutLine}
-use Rattle.plan_terms.specs.Bounds.{IsBound, IsLowest}
-use Rattle.plan_terms.specs.Certificates.{fixed_along}
-use Rattle.plan_terms.specs.OwnBounds.{IsBestOwn, IsMultiplier}
+use Rattle.plan_terms.specs.Terms.{Link, CutLine, IsBound, IsLowest, fixed_along, IsBestOwn, IsMultiplier}
 use Rattle.plan_types.specs.declared.certificate.Spot.{Spot}
 use Rattle.metric_cut.specs.Bounded.{HaveBound}
 use Rattle.metric_cut.specs.declared.certificate.OwnCertificate.{OwnCertificate}

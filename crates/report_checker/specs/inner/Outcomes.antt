@@ -1,9 +1,8 @@
 -- what tests of outcomes come to
 use Rattle.std.specs.Prelude.{ℕ, zero, suc, ◌<◌, All}
-use Rattle.net_core.specs.Cases.{Case}
+use Rattle.plan_terms.specs.Terms.{Case}
 use Rattle.plan_types.specs.declared.report.Report.{Report}
-use Rattle.plan_checker.specs.Order.{HoldNone, IsFirstFinding}
-use Rattle.plan_checker.specs.Places.{HoldsAt}
+use Rattle.plan_checker.specs.Terms.{HoldNone, IsFirstFinding, HoldsAt}
 use Rattle.plan_checker.specs.declared.finding.CheckAnswer.{CheckAnswer}
 use Rattle.plan_checker.specs.declared.finding.CheckAnswer.TheVariants.{Accepted, NoMemory, Rejected}
 use Rattle.plan_checker.specs.declared.finding.Finding.{Finding}

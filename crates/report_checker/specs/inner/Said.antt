@@ -1,12 +1,10 @@
 -- what an outcome says of the demands at its position
 use Rattle.std.specs.Prelude.{◌≡◌, ℕ, Bool, List, [], ◌∷◌, length, nat_le}
-use Rattle.net_core.specs.Cases.{Case}
-use Rattle.plan_terms.specs.Separations.{Separates}
+use Rattle.plan_terms.specs.Terms.{Case, Separates}
 use Rattle.plan_types.specs.declared.report.Outcome.{Outcome}
 use Rattle.plan_types.specs.declared.report.Outcome.TheVariants.{Planned, Unsurvivable}
 use Rattle.plan_types.specs.declared.report.Report.{Report}
-use Rattle.plan_checker.specs.Order.{Kind}
-use Rattle.plan_checker.specs.PlanFindings.{IsAcceptedPlan, plan_findings}
+use Rattle.plan_checker.specs.Terms.{Kind, IsAcceptedPlan, plan_findings}
 use Rattle.report_checker.specs.Outcomes.{HoldsSurvivable, HoldsVersionDiffers, SeparatesNamed, case_at}
 
 -- demand k has the name, and the state separates it

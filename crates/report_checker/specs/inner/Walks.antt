@@ -1,10 +1,7 @@
 -- a walk through a journal
 use Rattle.std.specs.Prelude.{◌≡◌, ◌<◌, ◌^◌, List, [], ◌∷◌, ◌++◌, Bool, true, length}
-use Rattle.net_core.specs.declared.journal.Entry.{Entry}
-use Rattle.net_core.specs.declared.journal.Entry.TheVariants.{Edited, Pooled}
-use Rattle.net_core.specs.Cases.{Case}
-use Rattle.plan_terms.specs.Edits.{edit_need}
-use Rattle.cut_pool.specs.Histories.{cuts_of, demands_left, version_left}
+use Rattle.plan_terms.specs.Terms.{Entry, Edited, Pooled, Case, edit_need}
+use Rattle.cut_pool.specs.Terms.{cuts_of, demands_left, version_left}
 use Rattle.report_checker.specs.Journals.{IsOtherEntry}
 use Rattle.report_checker.specs.declared.walk.Walk.{Walk}
 

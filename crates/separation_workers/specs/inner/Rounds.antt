@@ -1,7 +1,6 @@
 -- what the workers of a round find
 use Rattle.std.specs.Prelude.{ℕ, ◌<◌, ◌+◌, List, Option, All, IfSome, length}
-use Rattle.net_core.specs.Cases.{graph_in}
-use Rattle.net_core.specs.Views.{case_of}
+use Rattle.plan_terms.specs.Terms.{graph_in, case_of}
 use Rattle.flow_router.specs.declared.answer.RouteAnswer.{RouteAnswer}
 use Rattle.separator.specs.Findings.{IsFinding}
 use Rattle.separation_workers.specs.declared.round.Round.{Round}

@@ -1,6 +1,6 @@
 -- what a turn does in which a cut is put into the pool
 use Rattle.std.specs.Prelude.{◌≡◌, ℕ, ◌⊎◌, List, [], ◌∷◌}
-use Rattle.net_core.specs.declared.journal.Entry.{Entry}
+use Rattle.plan_terms.specs.Terms.{Entry}
 use Rattle.plan_types.specs.declared.certificate.Spot.{Spot}
 use Rattle.plan_types.specs.declared.certificate.Spot.TheVariants.{Pool, Local}
 use Rattle.cut_pool.specs.declared.answers.AdmitAnswer.{AdmitAnswer}

@@ -3,15 +3,9 @@ use Rattle.std.specs.Prelude.{ℕ, zero, suc, ◌≤◌, List, [], ◌∷◌, dr
 use Rattle.std.proofs.Common.{◌∙◌, ap, inl, inr, subst, sym}
 use Rattle.std.proofs.Math.Logic.{∥∥₁_map}
 use Rattle.std.proofs.lemmas.List.{length-map}
-use Rattle.net_core.specs.declared.demand.Demand.{Demand}
-use Rattle.net_core.specs.declared.journal.Entry.{Entry}
-use Rattle.net_core.specs.declared.journal.Entry.TheVariants.{Edited, Pooled}
-use Rattle.net_core.specs.declared.network.Network.{Network}
-use Rattle.net_core.specs.declared.states.States.{States}
-use Rattle.net_core.specs.Views.{case}
+use Rattle.plan_terms.specs.Terms.{Demand, Entry, Edited, Pooled, Network, States, case}
 use Rattle.cut_pool.specs.declared.pooled.PooledCut.{PooledCut}
-use Rattle.cut_pool.specs.Histories.{IsBoardAfter, IsLegalAfter, cut_of_line}
-use Rattle.cut_pool.specs.Pools.{line_of_pooled}
+use Rattle.cut_pool.specs.Terms.{IsBoardAfter, IsLegalAfter, cut_of_line, line_of_pooled}
 use Rattle.separator.specs.Separators.{IsCutEntry, IsPartOf, IsSeenHistory}
 
 part_more : {X : Type 0} (xs ys : List X) (y : X) → IsPartOf xs ys → IsPartOf xs (y ∷ ys)

@@ -1,14 +1,12 @@
 -- what has run of a session
 use Rattle.std.specs.Prelude.{◌≡◌, ℕ, ◌+◌, ◌≤◌, ◌++◌, ◌&&◌, Bool, List, [], All, count_by, filter, flat_map, length, nat_le, nat_lt, Result, Ok, Err, Vec}
-use Rattle.net_core.specs.declared.journal.Entry.{Entry}
-use Rattle.net_core.specs.declared.journal.Entry.TheVariants.{Edited, Pooled}
-use Rattle.net_core.specs.Cases.{Case}
-use Rattle.text_kit.specs.Edits.{IsEditInForm}
+use Rattle.plan_terms.specs.Terms.{Entry, Edited, Pooled, Case}
+use Rattle.text_kit.specs.Terms.{IsEditInForm}
 use Rattle.plan_types.specs.declared.report.Outcome.{Outcome}
 use Rattle.plan_rounds.specs.WorkedRounds.{IsWorkedPool}
-use Rattle.cut_pool.specs.Histories.{cuts_of}
+use Rattle.cut_pool.specs.Terms.{cuts_of}
 use Rattle.session_script.specs.declared.script.Command.{Command}
-use Rattle.session_script.specs.Scripts.{IsCommandInForm, is_plan}
+use Rattle.session_script.specs.Terms.{IsCommandInForm, is_plan}
 use Rattle.turn_lock.specs.Passes.{own_places}
 use Rattle.board_desk.specs.declared.caller.Caller.{Caller}
 use Rattle.board_desk.specs.Turns.{IsAtDesk, board_made}

@@ -1,14 +1,6 @@
 -- what a caller's next command does
 use Rattle.std.specs.Prelude.{◌≡◌, ℕ, ◌+◌, ◌<◌, ◌++◌, List, [], ◌∷◌, All, IfOk, Some, length, slice_get, Result, Ok, Err}
-use Rattle.net_core.specs.declared.demand.Demand.{Demand}
-use Rattle.net_core.specs.declared.journal.Edit.{Edit}
-use Rattle.net_core.specs.declared.journal.Entry.{Entry}
-use Rattle.net_core.specs.declared.journal.Entry.TheVariants.{Edited}
-use Rattle.net_core.specs.declared.journal.Reply.{Reply}
-use Rattle.net_core.specs.declared.list.NoMemory.{NoMemory}
-use Rattle.net_core.specs.Cases.{Case}
-use Rattle.net_core.specs.Demands.{AreDemands}
-use Rattle.plan_terms.specs.Certificates.{IsCut}
+use Rattle.plan_terms.specs.Terms.{Demand, Edit, Entry, Edited, Reply, NoMemory, Case, AreDemands, IsCut}
 use Rattle.plan_types.specs.declared.report.Outcome.{Outcome}
 use Rattle.plan_types.specs.declared.report.Outcome.TheVariants as outcomes
 use Rattle.plan_rounds.specs.WorkedRounds.{IsWorkedPool}
@@ -17,7 +9,7 @@ use Rattle.planner.specs.declared.answer.PlanAnswer.TheVariants.{Planned, NotSur
 use Rattle.cut_pool.specs.declared.answers.EditAnswer.{EditAnswer}
 use Rattle.cut_pool.specs.declared.answers.EditAnswer.TheVariants as editing
 use Rattle.cut_pool.specs.declared.snapshot.Snapshot.{Snapshot}
-use Rattle.cut_pool.specs.Histories.{IsPoolAfter, demands_left, version_left, case_left}
+use Rattle.cut_pool.specs.Terms.{IsPoolAfter, demands_left, version_left, case_left}
 use Rattle.separator.specs.Separators.{IsCutEntry, SeesMore}
 use Rattle.session_script.specs.declared.script.Act.{Act}
 use Rattle.session_script.specs.declared.script.Act.TheVariants.{Change, Plan}

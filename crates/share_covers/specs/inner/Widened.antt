@@ -1,5 +1,5 @@
 -- qualities where a state is too wide
-use Rattle.net_core.specs.declared.columns.Evidence.{Evidence}
+use Rattle.plan_terms.specs.Terms.{Evidence}
 use Rattle.plan_types.specs.declared.quality.Cause.TheVariants.{Wide}
 use Rattle.plan_types.specs.declared.quality.Quality.{Quality}
 use Rattle.plan_types.specs.declared.quality.Quality.TheVariants.{Tight, Loose}

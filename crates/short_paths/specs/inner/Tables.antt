@@ -1,6 +1,6 @@
 -- tables of distances, in which a number says that there is none
 use Rattle.std.specs.Prelude.{◌≡◌, ℕ, ◌+◌, ◌*◌, ◌<◌, ◌≤◌, ◌==◌, cond, List, Option, None, Some, length, slice_index}
-use Rattle.plan_terms.specs.inner.Walks.{Walk}
+use Rattle.plan_terms.specs.Terms.{Walk}
 
 -- At each node that isn't reached stands far, and at the others the length of a walk that no link makes shorter. Where m bounds the
 -- lengths, m times the number of nodes bounds those.

@@ -1,6 +1,6 @@
 -- ways that take at each node the first link that leads on along a shortest path
 use Rattle.std.specs.Prelude.{◌≡◌, ◌≢◌, ℕ, ◌+◌, ◌<◌, ◌≤◌, List, [], ◌∷◌, length, slice_index, slice_index_or}
-use Rattle.net_core.specs.declared.ids.LinkId.{LinkId}
+use Rattle.plan_terms.specs.Terms.{LinkId}
 use Rattle.short_paths.specs.inner.Tables.{IsTable}
 
 -- link e leads from x to y along a shortest path to the target, to which `back` has the length from each node

@@ -1,10 +1,7 @@
 -- paths that keep off nodes that were seen
 use Rattle.std.specs.Prelude.{◌≡◌, ℕ, ◌==◌, Bool, true, false, cond, List, Option, None, Some, slice_index_or}
 use Rattle.std.specs.List.{AllByRecursion}
-use Rattle.net_core.specs.declared.ids.LinkId.{LinkId}
-use Rattle.net_core.specs.declared.ids.NodeId.{NodeId}
-use Rattle.net_core.specs.declared.network.Link.{Link}
-use Rattle.plan_terms.specs.Paths.{AreDifferent, Leads, last_node}
+use Rattle.plan_terms.specs.Terms.{LinkId, NodeId, Link, AreDifferent, Leads, last_node}
 
 -- the other end of a link, seen from one of its ends
 abbrev pub far_end : Link → ℕ → Option NodeId

@@ -3,7 +3,7 @@ use Rattle.std.specs.Prelude.{ℕ, ℤ, List, length, Option, Some, None, Result
 use Rattle.std.specs.Int.{◌∣◌}
 use Rattle.std.specs.List.{slice_get}
 use Rattle.checked_fraction.specs.declared.row.Row.{Row}
-use Rattle.simplex_law.specs.Sums.{dot}
+use Rattle.simplex_law.specs.Terms.{dot}
 use Rattle.simplex_core.specs.Tables.{nums_at, den_at}
 use Rattle.simplex_core.specs.inner.Shapes.{AtEach}
 use Rattle.simplex_core.specs.inner.Values.{sizes_of}

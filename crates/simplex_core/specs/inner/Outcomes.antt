@@ -1,6 +1,6 @@
 -- what comes of a best basis
 use Rattle.std.specs.Prelude.{ℕ, List, length, Result, Ok, Err, ◌≡◌, ◌<◌, ◌≤◌, ◌^◌}
-use Rattle.checked_fraction.specs.Rows.{num}
+use Rattle.checked_fraction.specs.Terms.{num}
 use Rattle.net_core.specs.declared.columns.WideKind.{WideKind}
 use Rattle.net_core.specs.declared.columns.WideKind.TheVariants.{Number, Row as RowOf, Product, Sum, Common, Value, Length}
 use Rattle.simplex_core.specs.inner.Commons.{AreFractionsOf, fraction_den, IsDenominator, HaveNoDenominator, DivideAll, value_at}

@@ -1,9 +1,9 @@
 -- products of rows with columns
 use Rattle.std.specs.Prelude.{ℕ, ℤ, List, length, Option, Some, None, ◌≡◌, ◌<◌, ◌≤◌, ◌^◌, unsigned_abs}
 use Rattle.simplex_core.specs.Tables.{nums_at, IsRectangle}
-use Rattle.checked_fraction.specs.Rows.{num, IsNarrow}
+use Rattle.checked_fraction.specs.Terms.{num, IsNarrow}
 use Rattle.checked_fraction.specs.declared.row.Row.{Row}
-use Rattle.simplex_law.specs.Sums.{dot}
+use Rattle.simplex_law.specs.Terms.{dot}
 use Rattle.simplex_core.specs.Columns.{entry_of}
 use Rattle.simplex_core.specs.declared.columns.Entry.{Entry}
 

@@ -2,10 +2,9 @@
 use Rattle.std.specs.Prelude.{ℕ, ℤ, pos, List, length, Option, Some, None, Result, Ok, Err, ◌≡◌, ◌<◌, ◌≤◌, ◌^◌, ◌<ℤ◌, unsigned_abs, ◌≤ℤ◌, ◌⊎◌}
 use Rattle.std.specs.declared.cmp.Ordering.{Ordering}
 use Rattle.std.specs.declared.cmp.Ordering.TheVariants.{Less, Equal, Greater}
-use Rattle.simplex_law.specs.inner.Pivots.{IsNoLater}
-use Rattle.checked_fraction.specs.Rows.{num}
+use Rattle.simplex_law.specs.Terms.{IsNoLater, dot}
+use Rattle.checked_fraction.specs.Terms.{num}
 use Rattle.checked_fraction.specs.declared.row.Row.{Row}
-use Rattle.simplex_law.specs.Sums.{dot}
 use Rattle.simplex_core.specs.Tables.{nums_at}
 use Rattle.simplex_core.specs.inner.Values.{sizes_of}
 use Rattle.simplex_core.specs.declared.ratio_test.Candidate.{Candidate}

@@ -1,15 +1,11 @@
 -- what a turn leaves
 use Rattle.std.specs.Prelude.{ℕ, ℤ, pos, slice_set, ◌≡◌, ◌≢◌, ◌<◌, ◌≤◌, ◌^◌, ◌-ℤ◌, ◌*ℤ◌, ◌<ℤ◌, ◌≤ℤ◌, ◌⊎◌, unsigned_abs}
-use Rattle.checked_fraction.specs.Rows.{num}
-use Rattle.checked_fraction.specs.Mixed.{combined, IsTooWide}
+use Rattle.checked_fraction.specs.Terms.{num, combined, IsTooWide}
 use Rattle.checked_fraction.specs.declared.row.Row.{Row}
 use Rattle.checked_fraction.specs.declared.wide.WideNumber.{WideNumber}
 use Rattle.net_core.specs.declared.columns.WideKind.{WideKind}
 use Rattle.net_core.specs.declared.columns.WideKind.TheVariants.{Number, Row as RowOf, Product, Sum, Common, Value, Length}
-use Rattle.simplex_law.specs.Sums.{dot}
-use Rattle.simplex_law.specs.Programs.{ColumnOf, IsProgramColumn}
-use Rattle.simplex_law.specs.Evidence.{IsWide}
-use Rattle.simplex_law.specs.inner.Pivots.{IsPick, IsTurned}
+use Rattle.simplex_law.specs.Terms.{dot, ColumnOf, IsProgramColumn, IsWide, IsPick, IsTurned}
 use Rattle.simplex_core.specs.Tables.{nums_at, den_at}
 use Rattle.simplex_core.specs.Prices.{GainsAt}
 use Rattle.simplex_core.specs.inner.Shapes.{IsShaped}

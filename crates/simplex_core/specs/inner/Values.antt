@@ -1,7 +1,7 @@
 -- the values of rows: their products with the bounds
 use Rattle.std.specs.Prelude.{ℕ, ℤ, Option, Some, None, ◌≡◌, ◌<◌, ◌≤◌, ◌^◌, ◌*◌, unsigned_abs}
-use Rattle.net_core.specs.Sums.{sum_below}
-use Rattle.simplex_law.specs.Sums.{dot}
+use Rattle.net_core.specs.Terms.{sum_below}
+use Rattle.simplex_law.specs.Terms.{dot}
 
 -- the absolute products of n numbers with the bounds
 abbrev pub sizes_of : ℕ → (ℕ → ℤ) → (ℕ → ℤ) → ℕ

@@ -1,6 +1,6 @@
 -- a measure that falls where duals rise, so that a method whose duals rise in each turn comes to an end
 use Rattle.std.specs.Prelude.{ℕ, ℤ, zero, suc, pos, ◌<◌, ◌+◌, ◌-◌, ◌*◌, ◌/◌, ◌^◌, ◌<ℤ◌, ◌+ℤ◌, unsigned_abs}
-use Rattle.checked_fraction.specs.Rows.{IsNarrow}
+use Rattle.checked_fraction.specs.Terms.{IsNarrow}
 use Rattle.simplex_law.specs.inner.Lexicographic.{valued}
 
 -- duals, and their denominator, are narrow

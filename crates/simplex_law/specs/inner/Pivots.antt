@@ -1,7 +1,6 @@
 -- which column enters, which row leaves, and the rows after the pivot
 use Rattle.std.specs.Prelude.{ℕ, ℤ, suc, pos, ◌≢◌, ◌<◌, ◌*ℤ◌, ◌-ℤ◌, ◌<ℤ◌}
-use Rattle.checked_fraction.specs.Rows.{IsReduced}
-use Rattle.checked_fraction.specs.Mixed.{combined}
+use Rattle.checked_fraction.specs.Terms.{IsReduced, combined}
 use Rattle.simplex_law.specs.Sums.{dot}
 use Rattle.simplex_law.specs.Programs.{ColumnOf}
 use Rattle.simplex_law.specs.inner.Lexicographic.{IsLexNonneg, valued}

@@ -1,7 +1,6 @@
 -- counts of which modules are taken off, and the blocks of those that are left
 use Rattle.std.specs.Prelude.{◌≡◌, ℕ, ◌<◌, List, map, sum, sum_by}
-use Rattle.net_core.specs.Cases.{Case}
-use Rattle.plan_terms.specs.Capacities.{AreCounts, AreWithinLimits, capacities, total_cost}
+use Rattle.plan_terms.specs.Terms.{Case, AreCounts, AreWithinLimits, capacities, total_cost}
 use Rattle.able_counts.specs.AbleTests.{AreRoutingsWithin}
 use Rattle.trim_plan.specs.Trimmed.{AreAtMost, IsTrimmedBy}
 use Rattle.trim_plan.specs.declared.trimming.Block.{Block}

@@ -1,5 +1,5 @@
 use Rattle.std.proofs.Common.{ℕ, ◌+◌, ◌≤◌, slice_index, take}
-use Rattle.plan_terms.specs.Flows.{load}
+use Rattle.plan_terms.specs.Terms.{load}
 use Rattle.able_counts.proofs.loads.take_flows.Given as goal
 
 -- the flows so far took their loads

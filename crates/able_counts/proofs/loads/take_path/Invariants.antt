@@ -1,5 +1,5 @@
 use Rattle.std.proofs.Common.{ℕ, ◌+◌, ◌≤◌, if◌then◌else◌, slice_index, take}
-use Rattle.net_core.specs.States.{names_link}
+use Rattle.plan_terms.specs.Terms.{names_link}
 use Rattle.able_counts.proofs.loads.take_path.Given as goal
 
 -- each link of the path so far gave the amount

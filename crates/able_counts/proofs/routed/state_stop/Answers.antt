@@ -1,6 +1,5 @@
 use Rattle.std.proofs.Common.{inr, subst, arith}
-use Rattle.net_core.specs.Cases.{graph_in}
-use Rattle.net_core.specs.Views.{case_of}
+use Rattle.plan_terms.specs.Terms.{graph_in, case_of}
 use Rattle.net_core.proofs.Networks.{few_links}
 use Rattle.separator.specs.Findings.{IsFinding}
 use Rattle.able_counts.proofs.Testing.{routed_within, survivable_joins}

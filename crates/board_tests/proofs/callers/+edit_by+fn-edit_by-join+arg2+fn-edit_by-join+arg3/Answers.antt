@@ -1,5 +1,5 @@
 use denote.Param.Send.{sendable}
-use Rattle.std.proofs.Crossing.{crosses, send}
+use Rattle.net_core.proofs.Library.{crosses, send}
 use Rattle.board_desk.proofs.Sent.{caller_send}
 use Rattle.board_tests.proofs.callers.+edit_by+fn-edit_by-join+arg2+fn-edit_by-join+arg3.Goals as goal
 

@@ -1,6 +1,6 @@
 use Rattle.std.proofs.Common.{arith, refl, subst, sym, ◌≤◌, ℕ, zero, suc, [], ◌∷◌, slice_index}
-use Rattle.std.proofs.lemmas.Result.{IfOk-weaker}
-use Rattle.route_law.specs.Laws.{ZerosAndOnesArePriced}
+use Rattle.net_core.proofs.Library.{IfOk-weaker}
+use Rattle.route_law.specs.Terms.{ZerosAndOnesArePriced}
 use Rattle.hint_board.specs.Priced.{AreHintLengths}
 use Rattle.board_tests.proofs.hints.lengths_of.Goals as goal
 

@@ -1,4 +1,4 @@
-use Rattle.std.proofs.lemmas.Nat.Gcd.{IsGcd-from_mod, IsGcd-from_zero}
+use Rattle.net_core.proofs.Library.{IsGcd-from_mod, IsGcd-from_zero}
 use Rattle.checked_fraction.proofs.fraction.gcd.Goals as goal
 
 pub loop-y-preserved : goal.loop-y-preserved

@@ -1,4 +1,4 @@
-use Rattle.std.proofs.lemmas.Nat.Gcd.{IsGcd-from_mod, IsGcd-from_zero}
+use Rattle.net_core.proofs.Library.{IsGcd-from_mod, IsGcd-from_zero}
 use Rattle.checked_fraction.proofs.fraction.word_gcd.Goals as goal
 
 pub loop-smaller-preserved : goal.loop-smaller-preserved

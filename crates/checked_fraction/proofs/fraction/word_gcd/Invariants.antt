@@ -1,5 +1,5 @@
 use Rattle.std.proofs.Common.{ℕ}
-use Rattle.std.specs.Int.{IsGcd}
+use Rattle.net_core.proofs.Library.{IsGcd}
 use Rattle.checked_fraction.proofs.fraction.word_gcd.Given as goal
 
 -- the divisor of the pair so far is the one that is sought

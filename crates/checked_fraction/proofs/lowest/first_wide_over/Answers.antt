@@ -1,6 +1,5 @@
 use Rattle.std.proofs.Common.{◌≡◌, ◌<◌, ◌^◌, ◌∙◌, below_more, unsigned_abs, to_z, of_z, subst, arith}
-use Rattle.std.specs.Int.{w128}
-use Rattle.std.proofs.lemmas.Int.{ints}
+use Rattle.net_core.proofs.Library.{w128, ints}
 use Rattle.checked_fraction.proofs.lowest.first_wide_over.Goals as goal
 
 pub returns-then-unsigned_abs-ge-WIDE-clause-wide : goal.returns-then-unsigned_abs-ge-WIDE-clause-wide

@@ -1,6 +1,5 @@
 use Rattle.std.proofs.Common.{arith, length, ◌*ℤ◌}
-use Rattle.std.proofs.lemmas.Int.{ints}
-use Rattle.std.proofs.lemmas.Result.{on_ok_weaker, IfErr-weaker}
+use Rattle.net_core.proofs.Library.{ints, on_ok_weaker, IfErr-weaker}
 use Rattle.checked_fraction.specs.Rows.{num}
 use Rattle.checked_fraction.specs.Mixed.{IsTooWide}
 use Rattle.checked_fraction.specs.inner.Passes.{raw}

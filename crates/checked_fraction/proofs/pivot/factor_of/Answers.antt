@@ -1,7 +1,6 @@
 use Rattle.std.proofs.Common.{◌≡◌, ◌≤◌, unsigned_abs, subst, arith}
-use Rattle.std.proofs.lemmas.Int.{ints}
+use Rattle.net_core.proofs.Library.{ints, IsGcd}
 use Rattle.std.proofs.lemmas.Nat.Gcd.{le_of_dvd}
-use Rattle.std.specs.Int.{IsGcd}
 use Rattle.checked_fraction.proofs.pivot.factor_of.Goals as goal
 use Rattle.net_core.proofs.Numbers.{positive_divisor}
 

@@ -1,6 +1,5 @@
 use Rattle.std.proofs.Common.{sym, subst}
-use Rattle.std.specs.Int.{IsGcd}
-use Rattle.std.proofs.lemmas.Nat.Gcd.{IsGcd-swap}
+use Rattle.net_core.proofs.Library.{IsGcd, IsGcd-swap}
 use Rattle.checked_fraction.proofs.pivot.joined.Goals as goal
 
 pub returns : goal.returns

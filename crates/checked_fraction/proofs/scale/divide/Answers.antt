@@ -1,5 +1,5 @@
 use Rattle.std.proofs.Common.{arith, ◌≡◌, w64, to_z, of_z, ap, ◌∙◌, int_div, pos}
-use Rattle.std.proofs.lemmas.Int.{ints}
+use Rattle.net_core.proofs.Library.{ints}
 use Rattle.checked_fraction.proofs.Writing.{write_one}
 use Rattle.checked_fraction.proofs.scale.divide.Goals as goal
 

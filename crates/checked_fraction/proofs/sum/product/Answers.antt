@@ -1,6 +1,5 @@
 use Rattle.std.proofs.Common.{◌≡◌, ◌^◌, ◌*ℤ◌, to_z, of_z, arith}
-use Rattle.std.specs.Int.{w128}
-use Rattle.std.proofs.lemmas.Int.{fits_signed_mul, ints}
+use Rattle.net_core.proofs.Library.{w128, fits_signed_mul, ints}
 use Rattle.checked_fraction.proofs.Products.{narrow_product}
 use Rattle.checked_fraction.proofs.sum.product.Goals as goal
 

@@ -1,6 +1,5 @@
 use Rattle.std.proofs.Common.{◌≡◌, ◌<◌, ◌^◌, ◌∙◌, below_more, inl, inr, pos, refl, unsigned_abs, to_z, of_z, subst, sym, ◌≤◌, arith}
-use Rattle.std.specs.Int.{w128}
-use Rattle.std.proofs.lemmas.Int.{ints}
+use Rattle.net_core.proofs.Library.{w128, ints}
 use Rattle.checked_fraction.proofs.wide.first_wide.Goals as goal
 
 pub returns-then-unsigned_abs-ge-WIDE-clause-wide : goal.returns-then-unsigned_abs-ge-WIDE-clause-wide

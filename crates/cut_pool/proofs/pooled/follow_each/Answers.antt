@@ -1,5 +1,5 @@
 use Rattle.std.proofs.Common.{subst, sym, rules}
-use Rattle.std.proofs.lemmas.List.Edits.{map_over_more}
+use Rattle.net_core.proofs.Library.{map_over_more}
 use Rattle.cut_pool.specs.inner.Pooling.{CanFollow, followed}
 use Rattle.cut_pool.proofs.Following.{next_right}
 use Rattle.cut_pool.proofs.pooled.follow_each.Goals as goal

@@ -1,5 +1,4 @@
-use Rattle.std.proofs.Common.{◌∙◌, ap, sym}
-use Rattle.std.specs.Prelude.{is_some}
+use Rattle.std.proofs.Common.{◌∙◌, ap, sym, is_some}
 use Rattle.demand_book.proofs.Changed.{place_known}
 use Rattle.cut_pool.specs.Rooms.{sets_known}
 use Rattle.cut_pool.proofs.shares.sets_known.Goals as goal

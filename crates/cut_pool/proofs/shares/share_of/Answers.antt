@@ -1,5 +1,5 @@
 use Rattle.std.proofs.Common.{◌≡◌, ◌∙◌, List, Some, ap, get_or, subst, sym}
-use Rattle.net_core.specs.declared.demand.Demand.{Demand}
+use Rattle.plan_terms.specs.Terms.{Demand}
 use Rattle.cut_pool.specs.declared.shares.DemandShare.{DemandShare}
 use Rattle.cut_pool.specs.inner.Shares.{IsShareIn}
 use Rattle.cut_pool.proofs.Leaving.{share_found, share_from, share_none}

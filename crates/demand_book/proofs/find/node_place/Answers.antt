@@ -1,5 +1,4 @@
-use Rattle.std.proofs.Common.{◌∙◌, ap}
-use Rattle.std.specs.Prelude.{is_some}
+use Rattle.std.proofs.Common.{◌∙◌, ap, is_some}
 use Rattle.demand_book.proofs.Changed.{place_known}
 use Rattle.demand_book.proofs.find.node_place.Goals as goal
 

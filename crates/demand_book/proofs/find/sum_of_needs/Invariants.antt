@@ -1,5 +1,5 @@
 use Rattle.std.proofs.Common.{◌≡◌, take}
-use Rattle.plan_terms.specs.Edits.{total_need}
+use Rattle.plan_terms.specs.Terms.{total_need}
 use Rattle.demand_book.proofs.find.sum_of_needs.Given as goal
 
 abbrev pub invariant-loop-d : goal.invariant-loop-d

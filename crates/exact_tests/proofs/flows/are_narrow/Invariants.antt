@@ -1,7 +1,7 @@
 use Rattle.std.proofs.Common.{ℕ, ◌<◌}
-use Rattle.checked_fraction.specs.Rows.{IsNarrow}
-use Rattle.net_core.specs.Views.{graph_of}
-use Rattle.route_law.specs.RoutingPrograms.{route_bound}
+use Rattle.checked_fraction.specs.Terms.{IsNarrow}
+use Rattle.net_core.specs.Terms.{graph_of}
+use Rattle.route_law.specs.Terms.{route_bound}
 use Rattle.exact_tests.proofs.flows.are_narrow.Given as goal
 
 -- the bounds so far are narrow

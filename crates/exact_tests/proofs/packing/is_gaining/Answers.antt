@@ -1,6 +1,6 @@
 use Rattle.std.proofs.Common.{length, sym, subst}
-use Rattle.std.specs.List.{AllByRecursion}
-use Rattle.simplex_core.specs.Columns.{IsEntry}
+use Rattle.net_core.proofs.Library.{AllByRecursion}
+use Rattle.simplex_core.specs.Terms.{IsEntry}
 use Rattle.exact_tests.proofs.Listed.{are_entries}
 use Rattle.exact_tests.proofs.packing.is_gaining.Goals as goal
 

@@ -1,6 +1,5 @@
 use Rattle.std.proofs.Common.{length}
-use Rattle.net_core.specs.Graphs.{Joins}
-use Rattle.net_core.specs.Views.{graph_of}
+use Rattle.plan_terms.specs.Terms.{Joins, graph_of}
 use Rattle.failure_states.specs.inner.Components.{AreComponents}
 use Rattle.failure_states.proofs.components.label_components.Given as goal
 

@@ -1,5 +1,5 @@
 use Rattle.std.proofs.Common.{false, refl}
-use Rattle.std.proofs.lemmas.Bool.{both_ways}
+use Rattle.net_core.proofs.Library.{both_ways}
 use Rattle.failure_states.proofs.Taking.{take_survivor, take_other}
 use Rattle.failure_states.proofs.components.take_link.Goals as goal
 

@@ -1,5 +1,5 @@
 use Rattle.std.proofs.Common.{length, subst}
-use Rattle.net_core.specs.Graphs.{Graph, Joins}
+use Rattle.plan_terms.specs.Terms.{Graph, Joins}
 use Rattle.failure_states.specs.inner.Components.{AreComponents}
 use Rattle.failure_states.proofs.Splits.{answer_separates}
 use Rattle.failure_states.proofs.separations.first_in_state.Goals as goal

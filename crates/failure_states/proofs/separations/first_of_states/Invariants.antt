@@ -1,6 +1,5 @@
 use Rattle.std.proofs.Common.{◌≡◌, ℕ, ◌<◌, length}
-use Rattle.net_core.specs.Views.{case_of}
-use Rattle.plan_terms.specs.Separations.{Separates}
+use Rattle.plan_terms.specs.Terms.{case_of, Separates}
 use Rattle.failure_states.proofs.separations.first_of_states.Given as goal
 
 -- no state so far separates a demand

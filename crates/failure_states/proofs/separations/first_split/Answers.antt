@@ -1,5 +1,5 @@
 use Rattle.std.proofs.Common.{false, refl}
-use Rattle.std.proofs.lemmas.Bool.{both_ways}
+use Rattle.net_core.proofs.Library.{both_ways}
 use Rattle.failure_states.proofs.Splits.{split_test, split_more, split_none}
 use Rattle.failure_states.proofs.separations.first_split.Goals as goal
 

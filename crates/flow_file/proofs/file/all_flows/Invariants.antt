@@ -1,6 +1,6 @@
 use Rattle.std.proofs.Common.{◌≡◌, []}
-use Rattle.snd_tokens.specs.Lexemes.{left, size}
-use Rattle.report_words.specs.Contexts.{known_in}
+use Rattle.snd_tokens.specs.Terms.{left, size}
+use Rattle.report_words.specs.Terms.{known_in}
 use Rattle.flow_file.specs.FlowReading.{states_flows_at}
 use Rattle.flow_file.proofs.file.all_flows.Given as goal
 

@@ -1,4 +1,4 @@
-use Rattle.plan_report.specs.KnownNames.{known_of}
+use Rattle.plan_report.specs.Terms.{known_of}
 use Rattle.flow_file.proofs.FlowLaws.{flows_first, flows_form, flows_found, flows_only}
 use Rattle.flow_file.proofs.file.read_flows.Goals as goal
 

@@ -1,6 +1,5 @@
 use Rattle.std.proofs.Common.{ℕ, ◌<◌, get_or}
-use Rattle.net_core.specs.Graphs.{Survives}
-use Rattle.net_core.specs.Views.{graph}
+use Rattle.plan_terms.specs.Terms.{Survives, graph}
 use Rattle.flow_import.proofs.loads.first_dead.Given as goal
 
 abbrev pub invariant-loop-e : goal.invariant-loop-e

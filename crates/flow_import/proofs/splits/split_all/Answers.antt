@@ -1,8 +1,6 @@
 use Rattle.std.proofs.Common.{◌≡◌, ◌+◌, ◌++◌, List, Some, length, slice_get, ap, subst, sym, refl, ◌∙◌}
-use Rattle.std.proofs.lemmas.Option.{slice_get_read}
-use Rattle.std.proofs.lemmas.Result.{err_from_is_err_and}
-use Rattle.net_core.specs.Views.{case}
-use Rattle.net_core.specs.declared.demand.Demand.{Demand}
+use Rattle.net_core.proofs.Library.{slice_get_read, err_from_is_err_and}
+use Rattle.plan_terms.specs.Terms.{case, Demand}
 use Rattle.path_split.specs.declared.arc.PathFlow.{PathFlow}
 use Rattle.flow_import.specs.inner.Steps.{AreSplitTo, IsOffFault, flows_along}
 use Rattle.flow_import.proofs.Splitting.{off_fault, split_even, split_more}

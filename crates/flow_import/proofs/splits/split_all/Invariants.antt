@@ -1,4 +1,4 @@
-use Rattle.net_core.specs.Views.{case}
+use Rattle.plan_terms.specs.Terms.{case}
 use Rattle.flow_import.specs.inner.Steps.{AreSplitTo}
 use Rattle.flow_import.proofs.splits.split_all.Given as goal
 

@@ -1,7 +1,6 @@
 use Rattle.std.proofs.Common.{ℕ, List, length, ap, arith, refl, subst, sym}
-use Rattle.net_core.specs.Cases.{graph_in}
-use Rattle.net_core.specs.Views.{case}
-use Rattle.std.proofs.lemmas.Result.{err_from_is_err_and}
+use Rattle.plan_terms.specs.Terms.{graph_in, case}
+use Rattle.net_core.proofs.Library.{err_from_is_err_and}
 use Rattle.flow_import.specs.Imports.{IsStateFault}
 use Rattle.flow_import.proofs.Carrying.{state_imported}
 use Rattle.flow_import.proofs.Importing.{all_alive, all_fit, exceeded_first, few_links, known_demands, known_links, off_state}

@@ -1,6 +1,6 @@
 use Rattle.std.proofs.Common.{◌+◌, ◌<◌, List, length, subst, sym, arith}
-use Rattle.std.proofs.lemmas.Result.{err_from_is_err_and}
-use Rattle.net_core.specs.Views.{case}
+use Rattle.net_core.proofs.Library.{err_from_is_err_and}
+use Rattle.plan_terms.specs.Terms.{case}
 use Rattle.flow_file.specs.declared.flow.LinkFlow.{LinkFlow}
 use Rattle.flow_import.specs.Imports.{IsImportFault, IsImportedState}
 use Rattle.flow_import.specs.inner.Steps.{AreImportedTo}

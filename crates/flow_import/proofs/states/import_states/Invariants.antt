@@ -1,4 +1,4 @@
-use Rattle.net_core.specs.Views.{case}
+use Rattle.plan_terms.specs.Terms.{case}
 use Rattle.flow_import.specs.inner.Steps.{AreImportedTo}
 use Rattle.flow_import.proofs.states.import_states.Given as goal
 

@@ -1,5 +1,5 @@
 use Rattle.std.proofs.Common.{take}
-use Rattle.plan_terms.specs.Bounds.{IsGreatestDivisor}
+use Rattle.plan_terms.specs.Terms.{IsGreatestDivisor}
 use Rattle.flow_router.proofs.cutting.common_price.Given as goal
 
 -- the divisor of the prices so far

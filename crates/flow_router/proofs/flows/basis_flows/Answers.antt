@@ -1,5 +1,5 @@
 use Rattle.std.proofs.Common.{length, refl}
-use Rattle.std.proofs.lemmas.Option.{slice_get_read}
+use Rattle.net_core.proofs.Library.{slice_get_read}
 use Rattle.flow_router.proofs.Flowing.{basis_flows_more}
 use Rattle.flow_router.proofs.flows.basis_flows.Goals as goal
 

@@ -1,5 +1,5 @@
 use Rattle.std.proofs.Common.{ℕ, ◌≡◌, ◌<◌, Some, get_or, slice_get}
-use Rattle.net_core.specs.declared.columns.RouteColumn.TheVariants.{DemandSlack}
+use Rattle.plan_terms.specs.Terms.{DemandSlack}
 use Rattle.flow_router.proofs.flows.leaves_need.Given as goal
 
 -- the columns so far leave nothing

@@ -1,6 +1,6 @@
 use Rattle.std.proofs.Common.{subst}
-use Rattle.std.specs.Int.{IsGcd}
-use Rattle.net_core.specs.declared.plan.Flow.{Flow}
+use Rattle.net_core.proofs.Library.{IsGcd}
+use Rattle.plan_terms.specs.Terms.{Flow}
 use Rattle.flow_router.proofs.Dividing.{common_more}
 use Rattle.flow_router.proofs.lowest.common_divisor.Goals as goal
 

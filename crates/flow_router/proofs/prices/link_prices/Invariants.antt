@@ -1,4 +1,4 @@
-use Rattle.checked_fraction.specs.Rows.{num}
+use Rattle.checked_fraction.specs.Terms.{num}
 use Rattle.flow_router.specs.inner.Lengths.{AreLinkCosts}
 use Rattle.flow_router.proofs.prices.link_prices.Given as goal
 

@@ -1,8 +1,7 @@
 use Rattle.std.proofs.Common.{subst}
-use Rattle.net_core.specs.Views.{graph_of}
+use Rattle.plan_terms.specs.Terms.{graph_of}
 use Rattle.metric_cut.specs.Cuts.{MayKeepCut}
-use Rattle.route_law.proofs.Kept.{link_prices_are_violated}
-use Rattle.route_law.proofs.SomePrices.{some_price}
+use Rattle.route_law.proofs.Lemmas.{link_prices_are_violated, some_price}
 use Rattle.flow_router.proofs.route.cut_of.Goals as goal
 
 pub unreachable-requires : goal.unreachable-requires

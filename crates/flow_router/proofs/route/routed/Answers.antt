@@ -1,5 +1,5 @@
 use Rattle.std.proofs.Common.{length, subst}
-use Rattle.net_core.specs.Views.{graph_of}
+use Rattle.plan_terms.specs.Terms.{graph_of}
 use Rattle.flow_router.specs.inner.Flowing.{AreBasisFlows}
 use Rattle.flow_router.proofs.Answering.{optimum_routed}
 use Rattle.flow_router.proofs.route.routed.Goals as goal

@@ -1,5 +1,5 @@
 use Rattle.std.proofs.Common.{All, ◌≡◌, subst}
-use Rattle.net_core.specs.Views.{graph_of}
+use Rattle.plan_terms.specs.Terms.{graph_of}
 use Rattle.flow_router.proofs.Answering.{greedy_routed}
 use Rattle.flow_router.proofs.route.routed_or_solved.Goals as goal
 

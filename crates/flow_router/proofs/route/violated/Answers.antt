@@ -1,8 +1,6 @@
 use Rattle.std.proofs.Common.{ap, length, subst, sym, ◌∙◌}
-use Rattle.net_core.specs.Views.{graph_of}
-use Rattle.net_core.specs.declared.columns.WideKind.TheVariants.{Length}
-use Rattle.plan_terms.specs.Bounds.{IsGreatestDivisor}
-use Rattle.route_law.specs.RouteEvidence.{IsRouteEvidence}
+use Rattle.plan_terms.specs.Terms.{graph_of, Length, IsGreatestDivisor}
+use Rattle.route_law.specs.Terms.{IsRouteEvidence}
 use Rattle.flow_router.proofs.CutPrices.{link_costs, price_long, prices_below, prices_some}
 use Rattle.flow_router.proofs.route.violated.Goals as goal
 

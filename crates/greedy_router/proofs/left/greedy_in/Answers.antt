@@ -1,5 +1,4 @@
-use Rattle.net_core.specs.Graphs.{Joins}
-use Rattle.net_core.specs.Views.{graph_of}
+use Rattle.plan_terms.specs.Terms.{Joins, graph_of}
 use Rattle.greedy_router.proofs.Adding.{left_of}
 use Rattle.greedy_router.proofs.left.greedy_in.Goals as goal
 

@@ -1,12 +1,7 @@
 use Rattle.std.proofs.Common.{List, ℕ, ◌*◌, get_or, length, map, refl, subst, sym, ap, take, ◌≡◌, ◌<◌, ◌∙◌, arith}
-use Rattle.std.specs.List.{range_with_len}
+use Rattle.net_core.proofs.Library.{range_with_len, take-length, length-map, slice_get_read}
 use Rattle.std.specs.List.Sorted.{IsPermutation}
-use Rattle.std.proofs.Math.Seq.{take-length}
-use Rattle.std.proofs.lemmas.List.{length-map}
-use Rattle.std.proofs.lemmas.Option.{slice_get_read}
-use Rattle.net_core.specs.Graphs.{Joins}
-use Rattle.net_core.specs.Views.{graph_of}
-use Rattle.net_core.specs.declared.demand.Demand.{Demand}
+use Rattle.plan_terms.specs.Terms.{Joins, graph_of, Demand}
 use Rattle.greedy_router.specs.inner.Drafts.{AreRouted}
 use Rattle.greedy_router.proofs.Adding.{routed_all, routed_more, routed_none}
 use Rattle.greedy_router.proofs.Falling.{place_below}

@@ -1,6 +1,5 @@
 use Rattle.std.proofs.Common.{take}
-use Rattle.net_core.specs.Graphs.{Joins}
-use Rattle.net_core.specs.Views.{graph_of}
+use Rattle.plan_terms.specs.Terms.{Joins, graph_of}
 use Rattle.greedy_router.specs.inner.Drafts.{AreRouted}
 use Rattle.greedy_router.proofs.left.route_all.Given as goal
 

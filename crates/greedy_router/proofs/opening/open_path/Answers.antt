@@ -1,6 +1,5 @@
 use Rattle.std.proofs.Common.{◌∙◌, Err, ap, subst}
-use Rattle.net_core.specs.Graphs.{Joins}
-use Rattle.net_core.specs.Views.{graph_of}
+use Rattle.plan_terms.specs.Terms.{Joins, graph_of}
 use Rattle.short_paths.specs.PricedPaths.{IsPricedPath}
 use Rattle.greedy_router.proofs.FreePaths.{low_prices, opened}
 use Rattle.greedy_router.proofs.opening.open_path.Goals as goal

@@ -1,7 +1,6 @@
 use Rattle.std.proofs.Common.{◌≡◌, ℕ, rules, sym, subst, get_or, length}
-use Rattle.std.proofs.lemmas.Fn.{always_returns_same}
+use Rattle.net_core.proofs.Library.{always_returns_same, IsStableBy}
 use Rattle.std.specs.declared.cmp.Reverse.{Reverse}
-use Rattle.std.specs.List.Sorted.{IsStableBy}
 use Rattle.greedy_router.specs.inner.Orders.{AreFalling}
 use Rattle.greedy_router.proofs.Falling.{Higher, falls}
 use Rattle.greedy_router.proofs.order.by_falling_amount.Goals as goal

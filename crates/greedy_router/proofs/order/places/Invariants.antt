@@ -1,5 +1,5 @@
 use Rattle.std.proofs.Common.{◌≡◌}
-use Rattle.std.specs.List.{range_with_len}
+use Rattle.net_core.proofs.Library.{range_with_len}
 use Rattle.greedy_router.proofs.order.places.Given as goal
 
 abbrev pub invariant-loop-place : goal.invariant-loop-place

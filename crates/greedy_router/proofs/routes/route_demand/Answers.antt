@@ -1,5 +1,4 @@
-use Rattle.net_core.specs.Graphs.{Joins}
-use Rattle.net_core.specs.Views.{graph_of}
+use Rattle.plan_terms.specs.Terms.{Joins, graph_of}
 use Rattle.greedy_router.proofs.Adding.{adds_more, sent_fewer}
 use Rattle.greedy_router.proofs.Differing.{path_differs}
 use Rattle.greedy_router.proofs.routes.route_demand.Goals as goal

@@ -1,6 +1,5 @@
 use Rattle.std.proofs.Common.{◌+◌}
-use Rattle.net_core.specs.Graphs.{Joins}
-use Rattle.net_core.specs.Views.{graph_of}
+use Rattle.plan_terms.specs.Terms.{Joins, graph_of}
 use Rattle.greedy_router.specs.inner.Drafts.{Adds}
 use Rattle.greedy_router.specs.inner.FullLinks.{positives}
 use Rattle.greedy_router.proofs.routes.route_demand.Given as goal

@@ -1,8 +1,7 @@
 use Rattle.std.proofs.Common.{◌≤◌, get_or, inl, inr, ⊎_elim, subst, arith}
-use Rattle.std.proofs.lemmas.Bool.{cases_lt}
+use Rattle.net_core.proofs.Library.{cases_lt, All-more, All-weaker, Contains-get_or}
 use Rattle.std.proofs.lemmas.List.{get_or-take, length-take-le}
-use Rattle.std.proofs.lemmas.List.Elements.{All-more, All-weaker, Contains-get_or}
-use Rattle.net_core.specs.declared.ids.LinkId.{LinkId}
+use Rattle.plan_terms.specs.Terms.{LinkId}
 use Rattle.greedy_router.proofs.sending.least_spare.Goals as goal
 
 abbrev first_link : LinkId

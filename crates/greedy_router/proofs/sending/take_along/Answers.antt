@@ -1,5 +1,5 @@
 use Rattle.std.proofs.Common.{length-set, ◌∙◌, arith}
-use Rattle.net_core.specs.declared.ids.LinkId.{LinkId}
+use Rattle.plan_terms.specs.Terms.{LinkId}
 use Rattle.greedy_router.proofs.Taking.{enough_left, take_step}
 use Rattle.greedy_router.proofs.sending.take_along.Goals as goal
 

@@ -1,5 +1,5 @@
 use Rattle.std.proofs.Common.{◌≡◌, ℕ, ◌+◌, cond, get_or, length, take}
-use Rattle.net_core.specs.States.{names_link}
+use Rattle.plan_terms.specs.Terms.{names_link}
 use Rattle.greedy_router.proofs.sending.take_along.Given as goal
 
 -- the amount has been taken from the links so far

@@ -1,10 +1,9 @@
 use Rattle.std.proofs.Common.{◌≡◌, ◌≤ℤ◌, ◌^◌, ◌<◌, ◌+◌, get_or, length, pos, unsigned_abs, to_z, of_z, slice_set, sym, subst, ap, ◌∙◌, arith}
-use Rattle.std.specs.Int.{w128}
-use Rattle.std.proofs.lemmas.Int.{ints}
-use Rattle.simplex_law.specs.Sums.{dot}
-use Rattle.simplex_core.specs.Tables.{nums_at}
-use Rattle.checked_fraction.specs.Rows.{num}
-use Rattle.key_rows.specs.Names.{demand_in, key_links, key_name, column_name, left_uses, IsNameWithin}
+use Rattle.net_core.proofs.Library.{w128, ints}
+use Rattle.simplex_law.specs.Terms.{dot}
+use Rattle.simplex_core.specs.Terms.{nums_at}
+use Rattle.checked_fraction.specs.Terms.{num}
+use Rattle.key_rows.specs.Terms.{demand_in, key_links, key_name, column_name, left_uses, IsNameWithin}
 use Rattle.key_paths.proofs.Exchanging.{shaped, rest_less, value_high, value_less, next_entering}
 use Rattle.key_paths.proofs.Holding.{rest_low, shaped_here, has_key, key_short}
 use Rattle.key_paths.proofs.Named.{short_links}

@@ -1,11 +1,10 @@
 use Rattle.std.proofs.Common.{◌≡◌, ◌≤◌, ◌^◌, length, unsigned_abs, to_z, of_z, ap, sym, ◌∙◌, subst, arith}
-use Rattle.std.specs.Int.{w128}
-use Rattle.std.proofs.lemmas.Int.{ints}
-use Rattle.checked_fraction.specs.Rows.{num, IsNarrow}
-use Rattle.simplex_law.specs.Sums.{dot}
-use Rattle.simplex_core.specs.Tables.{nums_at}
+use Rattle.net_core.proofs.Library.{w128, ints}
+use Rattle.checked_fraction.specs.Terms.{num, IsNarrow}
+use Rattle.simplex_law.specs.Terms.{dot}
+use Rattle.simplex_core.specs.Terms.{nums_at}
 use Rattle.simplex_core.proofs.RowsRead.{numbers_at, width_at}
-use Rattle.key_rows.specs.Names.{key_links, left_uses, IsNameWithin, IsShortPath}
+use Rattle.key_rows.specs.Terms.{key_links, left_uses, IsNameWithin, IsShortPath}
 use Rattle.key_paths.proofs.change_key.row_product.Goals as goal
 
 width : (c : goal.After-nums) → length c.nums.result.now ≡ length c.args.keyed.now.rows

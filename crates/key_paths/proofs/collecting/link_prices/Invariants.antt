@@ -1,5 +1,5 @@
 use Rattle.std.specs.Prelude.{ℕ, pos, All, length, slice_index, ◌≡◌, ◌<◌, ◌^◌}
-use Rattle.checked_fraction.specs.Rows.{num}
+use Rattle.checked_fraction.specs.Terms.{num}
 use Rattle.key_paths.proofs.collecting.link_prices.Given as goal
 
 -- the prices so far

@@ -1,5 +1,5 @@
 use Rattle.std.proofs.Common.{All, length, ◌-◌, sym, subst}
-use Rattle.net_core.specs.Views.{graph_of}
+use Rattle.plan_terms.specs.Terms.{graph_of}
 use Rattle.key_paths.specs.inner.Gaining.{IsCarrier}
 use Rattle.key_paths.proofs.Carried.{all_at, all_left}
 use Rattle.key_paths.proofs.collecting.next_gaining.Goals as goal

@@ -1,5 +1,5 @@
 use Rattle.std.proofs.Common.{Err, ap, refl, inr, ◌∙◌, arith}
-use Rattle.net_core.specs.Views.{graph_of}
+use Rattle.plan_terms.specs.Terms.{graph_of}
 use Rattle.key_paths.proofs.Carried.{adds, none_cheap}
 use Rattle.key_paths.proofs.collecting.offer.Goals as goal
 

@@ -1,6 +1,6 @@
 use Rattle.std.proofs.Common.{◌≡◌, ap, arith, length, refl, subst}
-use Rattle.std.proofs.lemmas.Option.{slice_get_read}
-use Rattle.net_core.specs.Views.{graph_of}
+use Rattle.net_core.proofs.Library.{slice_get_read}
+use Rattle.plan_terms.specs.Terms.{graph_of}
 use Rattle.key_paths.specs.inner.Gaining.{AreOffers, Offers}
 use Rattle.key_paths.proofs.Carried.{offers_more}
 use Rattle.key_paths.proofs.collecting.offers_of.Goals as goal

@@ -1,6 +1,6 @@
 use Rattle.std.proofs.Common.{subst, sym}
-use Rattle.net_core.specs.Views.{graph_of}
-use Rattle.key_rows.specs.Names.{IsShortPath}
+use Rattle.plan_terms.specs.Terms.{graph_of}
+use Rattle.key_rows.specs.Terms.{IsShortPath}
 use Rattle.key_paths.proofs.Carried.{carried_short}
 use Rattle.key_paths.proofs.collecting.still_gains.Goals as goal
 

@@ -1,5 +1,5 @@
 use Rattle.std.proofs.Common.{length, ap, arith}
-use Rattle.key_rows.specs.Names.{demand_in}
+use Rattle.key_rows.specs.Terms.{demand_in}
 use Rattle.key_paths.proofs.entering.cost_of.Goals as goal
 
 pub bounds-items-demand : goal.bounds-items-demand

@@ -1,12 +1,7 @@
 use Rattle.std.proofs.Common.{◌≡◌, ◌∙◌, ◌<◌, length, subst, sym, arith, to_z, of_z}
-use Rattle.std.specs.Int.{w128}
-use Rattle.std.proofs.lemmas.Int.{ints}
-use Rattle.std.specs.Option.{ForSome}
+use Rattle.net_core.proofs.Library.{w128, ints, ForSome}
 use Rattle.key_paths.specs.inner.Entering.{Enters}
-use Rattle.key_rows.specs.Bases.{IsRoom}
-use Rattle.key_rows.specs.FirstRoles.{IsFirstOfRoles}
-use Rattle.key_rows.specs.KeyTests.{HaveColumnProducts}
-use Rattle.key_rows.specs.Names.{demand_in, key_links, IsNameWithin}
+use Rattle.key_rows.specs.Terms.{IsRoom, IsFirstOfRoles, HaveColumnProducts, demand_in, key_links, IsNameWithin}
 use Rattle.key_paths.specs.inner.Gaining.{cost_at}
 use Rattle.key_paths.specs.declared.turns.Turn.TheVariants.{Wide}
 use Rattle.key_paths.proofs.Picking.{new_shaped, new_key, new_bounds, new_values, new_row_values, new_priced, ends_wide, ends_unbounded, ends_turned}

@@ -1,5 +1,5 @@
 use Rattle.std.proofs.Common.{ℕ, ◌<◌}
-use Rattle.key_rows.specs.KeyRows.{IsOwn}
+use Rattle.key_rows.specs.Terms.{IsOwn}
 use Rattle.key_paths.proofs.exchange.row_of.Given as goal
 
 -- none of the rows so far is one of the demand

@@ -1,6 +1,6 @@
 use Rattle.std.proofs.Common.{◌≡◌, length, slice_get, Some, ap, sym, ◌∙◌, subst}
-use Rattle.std.proofs.lemmas.Option.{slice_get-get_or}
-use Rattle.simplex_core.specs.Multiples.{IsLeastMultiple, HaveNoMultiple}
+use Rattle.net_core.proofs.Library.{slice_get-get_or}
+use Rattle.simplex_core.specs.Terms.{IsLeastMultiple, HaveNoMultiple}
 use Rattle.simplex_core.proofs.Multiples.{denominator_first, denominator_next, denominator_none}
 use Rattle.key_paths.specs.inner.Ends.{row_den}
 use Rattle.key_paths.proofs.Ending.{row_den_at}

@@ -1,4 +1,4 @@
-use Rattle.simplex_core.specs.inner.Commons.{IsDenominator}
+use Rattle.simplex_core.specs.Terms.{IsDenominator}
 use Rattle.key_paths.specs.inner.Ends.{row_den}
 use Rattle.key_paths.proofs.finish.common_of_all.Given as goal
 

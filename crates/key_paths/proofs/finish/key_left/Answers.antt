@@ -1,8 +1,8 @@
 use Rattle.std.proofs.Common.{◌≡◌, ◌<◌, ◌*◌, ◌/◌, ◌^◌, length, slice_get, get_or, Some, pos, unsigned_abs, ◌*ℤ◌, ap, sym, ◌∙◌, subst, arith}
-use Rattle.std.proofs.lemmas.Option.{slice_get-get_or}
-use Rattle.simplex_core.specs.Tables.{den_of}
+use Rattle.net_core.proofs.Library.{slice_get-get_or}
+use Rattle.simplex_core.specs.Terms.{den_of}
 use Rattle.key_paths.specs.inner.Ends.{shares}
-use Rattle.key_rows.specs.KeyRows.{amounts, times_taken}
+use Rattle.key_rows.specs.Terms.{amounts, times_taken}
 use Rattle.key_paths.proofs.Ending.{own_is, takes_less, left_next}
 use Rattle.key_paths.proofs.finish.key_left.Goals as goal
 

@@ -1,5 +1,5 @@
-use Rattle.checked_fraction.specs.Rows.{num}
-use Rattle.key_rows.specs.Names.{path_uses}
+use Rattle.checked_fraction.specs.Terms.{num}
+use Rattle.key_rows.specs.Terms.{path_uses}
 use Rattle.key_paths.proofs.Moving.{moved}
 use Rattle.key_paths.proofs.move_rest.move_rest.Goals as goal
 

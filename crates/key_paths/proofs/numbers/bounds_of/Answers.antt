@@ -1,7 +1,7 @@
 use Rattle.std.proofs.Common.{arith, ◌≡◌, ◌∙◌, w64, to_z, of_z}
-use Rattle.std.proofs.lemmas.Int.{ints}
-use Rattle.net_core.specs.Views.{graph_of}
-use Rattle.route_law.specs.RoutingPrograms.{route_bound}
+use Rattle.net_core.proofs.Library.{ints}
+use Rattle.plan_terms.specs.Terms.{graph_of}
+use Rattle.route_law.specs.Terms.{route_bound}
 use Rattle.simplex_core.proofs.Starts.{number_push}
 use Rattle.key_paths.proofs.numbers.bounds_of.Goals as goal
 

@@ -1,7 +1,7 @@
 use Rattle.std.proofs.Common.{◌≡◌, length}
-use Rattle.net_core.specs.Views.{graph_of}
-use Rattle.route_law.specs.RoutingPrograms.{route_bound}
-use Rattle.simplex_core.specs.inner.Shapes.{AtEach}
+use Rattle.plan_terms.specs.Terms.{graph_of}
+use Rattle.route_law.specs.Terms.{route_bound}
+use Rattle.simplex_core.specs.Terms.{AtEach}
 use Rattle.key_paths.proofs.numbers.bounds_of.Given as goal
 
 -- the bounds so far

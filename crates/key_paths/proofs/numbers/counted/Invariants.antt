@@ -1,5 +1,5 @@
 use Rattle.std.proofs.Common.{◌≡◌, length}
-use Rattle.simplex_core.specs.inner.Shapes.{AtEach}
+use Rattle.simplex_core.specs.Terms.{AtEach}
 use Rattle.key_paths.proofs.numbers.counted.Given as goal
 
 -- the numbers so far

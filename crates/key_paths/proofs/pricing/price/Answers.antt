@@ -1,4 +1,4 @@
-use Rattle.net_core.specs.Views.{graph_of}
+use Rattle.plan_terms.specs.Terms.{graph_of}
 use Rattle.key_paths.proofs.Carried.{none_gain}
 use Rattle.key_paths.proofs.pricing.price.Goals as goal
 

@@ -1,7 +1,7 @@
 use Rattle.std.proofs.Common.{◌∙◌, MatchOption, subst, sym, refl}
-use Rattle.net_core.specs.Views.{graph_of}
-use Rattle.route_law.proofs.Packing.{route_packing}
-use Rattle.key_rows.specs.Bases.{IsRoom}
+use Rattle.plan_terms.specs.Terms.{graph_of}
+use Rattle.route_law.proofs.Lemmas.{route_packing}
+use Rattle.key_rows.specs.Terms.{IsRoom}
 use Rattle.key_paths.specs.inner.Gaining.{IsGaining, NoneGains}
 use Rattle.key_paths.proofs.Answering.{keyed_answer}
 use Rattle.key_paths.proofs.Fitting.{apart_places, fitting}

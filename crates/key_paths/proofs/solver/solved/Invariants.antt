@@ -1,8 +1,8 @@
 use Rattle.std.proofs.Common.{All, length}
-use Rattle.net_core.specs.Views.{graph_of}
-use Rattle.route_law.specs.RoutingPrograms.{route_rows, route_bound}
-use Rattle.simplex_law.specs.inner.Measures.{left_over}
-use Rattle.key_rows.specs.Bases.{IsRoom}
+use Rattle.plan_terms.specs.Terms.{graph_of}
+use Rattle.route_law.specs.Terms.{route_rows, route_bound}
+use Rattle.simplex_law.specs.Terms.{left_over}
+use Rattle.key_rows.specs.Terms.{IsRoom}
 use Rattle.key_paths.specs.inner.Gaining.{IsCarrier}
 use Rattle.key_paths.proofs.Looping.{IsAt, whole_price}
 use Rattle.key_paths.proofs.solver.solved.Given as goal

@@ -1,10 +1,10 @@
 use Rattle.std.proofs.Common.{◌≡◌, ◌∙◌, pos, length, replicate, subst, sym, ap, arith}
 use Rattle.std.specs.Int.Signed.{◌≤ℤ◌}
-use Rattle.checked_fraction.specs.Rows.{num}
-use Rattle.net_core.specs.Views.{graph_of}
-use Rattle.route_law.specs.RoutingPrograms.{route_bound}
-use Rattle.route_law.proofs.Packing.{bound_nonneg}
-use Rattle.simplex_core.specs.inner.Shapes.{AtEach, IsUnit}
+use Rattle.checked_fraction.specs.Terms.{num}
+use Rattle.plan_terms.specs.Terms.{graph_of}
+use Rattle.route_law.specs.Terms.{route_bound}
+use Rattle.route_law.proofs.Lemmas.{bound_nonneg}
+use Rattle.simplex_core.specs.Terms.{AtEach, IsUnit}
 use Rattle.simplex_core.proofs.Starts.{zeros_length}
 use Rattle.key_rows.specs.declared.keyed.Keyed.{Keyed}
 use Rattle.key_paths.proofs.Slacks.{number_at, start_of}

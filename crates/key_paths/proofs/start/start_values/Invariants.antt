@@ -1,6 +1,6 @@
 use Rattle.std.proofs.Common.{◌≡◌, length, pos}
-use Rattle.checked_fraction.specs.Rows.{num}
-use Rattle.simplex_core.specs.inner.Shapes.{AtEach}
+use Rattle.checked_fraction.specs.Terms.{num}
+use Rattle.simplex_core.specs.Terms.{AtEach}
 use Rattle.key_paths.proofs.start.start_values.Given as goal
 
 -- the values so far

@@ -1,7 +1,6 @@
 use Rattle.std.proofs.Common.{arith, ◌≡◌, ◌∙◌, to_z, of_z}
-use Rattle.std.specs.Int.{w128}
-use Rattle.std.proofs.lemmas.Int.{ints}
-use Rattle.checked_fraction.specs.Rows.{num}
+use Rattle.net_core.proofs.Library.{w128, ints}
+use Rattle.checked_fraction.specs.Terms.{num}
 use Rattle.simplex_core.proofs.Starts.{number_push}
 use Rattle.key_paths.proofs.start.whole_rest.Goals as goal
 

@@ -1,6 +1,6 @@
 use Rattle.std.proofs.Common.{◌≡◌, length}
-use Rattle.checked_fraction.specs.Rows.{num}
-use Rattle.simplex_core.specs.inner.Shapes.{AtEach}
+use Rattle.checked_fraction.specs.Terms.{num}
+use Rattle.simplex_core.specs.Terms.{AtEach}
 use Rattle.key_paths.proofs.start.whole_rest.Given as goal
 
 -- the numbers so far

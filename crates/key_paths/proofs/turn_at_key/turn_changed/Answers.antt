@@ -1,7 +1,7 @@
 use Rattle.std.proofs.Common.{◌<◌, ◌+◌, length, sym, ap, subst, arith, inl}
-use Rattle.key_law.specs.Keys.{swap}
-use Rattle.key_law.proofs.Exchange.{swap_first}
-use Rattle.key_rows.specs.Bases.{IsRoom}
+use Rattle.key_law.specs.Terms.{swap}
+use Rattle.key_law.proofs.Lemmas.{swap_first}
+use Rattle.key_rows.specs.Terms.{IsRoom}
 use Rattle.key_paths.specs.inner.Outcomes.{wide_spread, IsWideBasis, ComesOf, TurnsAt}
 use Rattle.key_paths.proofs.Holding.{held_names}
 use Rattle.key_paths.proofs.KeyEvidence.{spread_wide}

@@ -1,10 +1,9 @@
 use Rattle.std.proofs.Common.{◌≡◌, ℕ, ◌<◌, ◌≤◌, ◌+◌, ◌^◌, w64, to_z, of_z, unsigned_abs, slice_set, ◌<ℤ◌, length, pos, subst, sym, ap, ◌∙◌, arith}
-use Rattle.checked_fraction.specs.Rows.{num}
-use Rattle.std.proofs.lemmas.Int.{ints}
-use Rattle.simplex_law.specs.Sums.{put}
+use Rattle.checked_fraction.specs.Terms.{num}
+use Rattle.net_core.proofs.Library.{ints}
+use Rattle.simplex_law.specs.Terms.{put}
 use Rattle.key_paths.specs.inner.Held.{IsWideNext}
-use Rattle.key_rows.specs.KeyRows.{amounts}
-use Rattle.key_rows.specs.Names.{links_in, path_uses, key_name, key_dual}
+use Rattle.key_rows.specs.Terms.{amounts, links_in, path_uses, key_name, key_dual}
 use Rattle.key_paths.proofs.Holding.{rest_low, key_once, amount_low}
 use Rattle.key_paths.proofs.KeyTurning.{low, name_once, value_high, taken_low, key_wide, next_held}
 use Rattle.key_paths.proofs.Moving.{moved_by, less_by}

@@ -1,13 +1,11 @@
 use Rattle.std.proofs.Common.{◌≡◌, ◌<◌, ◌≤◌, ◌^◌, ◌≤ℤ◌, length, pos, unsigned_abs, refl, sym, ap, ◌∙◌, subst, arith, inr}
-use Rattle.checked_fraction.specs.Rows.{num}
-use Rattle.net_core.specs.declared.columns.WideKind.TheVariants.{Row as RowOf}
-use Rattle.simplex_law.specs.Sums.{dot, put}
-use Rattle.simplex_core.specs.Tables.{nums_at}
-use Rattle.key_rows.specs.KeyRows.{amounts}
-use Rattle.key_rows.specs.Names.{key_name, key_dual}
+use Rattle.checked_fraction.specs.Terms.{num}
+use Rattle.plan_terms.specs.Terms.{Row as RowOf}
+use Rattle.simplex_law.specs.Terms.{dot, put}
+use Rattle.simplex_core.specs.Terms.{nums_at, IsRectangle}
+use Rattle.key_rows.specs.Terms.{amounts, key_name, key_dual}
 use Rattle.key_paths.specs.inner.Outcomes.{IsWideBasis}
 use Rattle.key_paths.proofs.RowTurning.{turn_wide, shaped, rest_less, value_high, value_less, value_kept, demand_wide, next_held}
-use Rattle.simplex_core.specs.Tables.{IsRectangle}
 use Rattle.key_paths.proofs.Holding.{has_key, shaped_here}
 use Rattle.key_paths.proofs.turns.replace.Goals as goal
 

@@ -1,5 +1,5 @@
 use Rattle.std.proofs.Common.{arith, refl}
-use Rattle.std.proofs.lemmas.Option.{slice_get_read}
+use Rattle.net_core.proofs.Library.{slice_get_read}
 use Rattle.key_rows.proofs.Rows.{row_more}
 use Rattle.key_rows.proofs.key_row.raw_at.Goals as goal
 

@@ -1,5 +1,5 @@
 use Rattle.std.proofs.Common.{◌≡◌, ◌≤◌, ◌*◌, ◌^◌, unsigned_abs}
-use Rattle.checked_fraction.specs.Totals.{total}
+use Rattle.checked_fraction.specs.Terms.{total}
 use Rattle.key_rows.specs.KeyRows.{less_rows}
 use Rattle.key_rows.proofs.key_row.raw_at.Given as goal
 

@@ -1,7 +1,7 @@
 use Rattle.std.proofs.Common.{◌≡◌, length, w64, to_z, of_z, sym, subst, arith}
-use Rattle.std.proofs.lemmas.Int.{ints}
-use Rattle.checked_fraction.specs.Rows.{num, IsNarrow, IsReduced}
-use Rattle.simplex_core.specs.Tables.{IsRectangle}
+use Rattle.net_core.proofs.Library.{ints}
+use Rattle.checked_fraction.specs.Terms.{num, IsNarrow, IsReduced}
+use Rattle.simplex_core.specs.Terms.{IsRectangle}
 use Rattle.key_rows.specs.KeyRows.{less_rows, IsWideKey}
 use Rattle.key_rows.proofs.key_row.spread_key.Goals as goal
 

@@ -1,5 +1,5 @@
 use Rattle.std.proofs.Common.{ap}
-use Rattle.checked_fraction.specs.Rows.{num}
+use Rattle.checked_fraction.specs.Terms.{num}
 use Rattle.key_rows.proofs.Rows.{one_time}
 use Rattle.key_rows.proofs.key_row.take_row.Goals as goal
 

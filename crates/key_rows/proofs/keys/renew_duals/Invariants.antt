@@ -1,5 +1,5 @@
 use Rattle.std.proofs.Common.{◌≡◌, ℕ, ◌<◌}
-use Rattle.checked_fraction.specs.Rows.{num, IsNarrow}
+use Rattle.checked_fraction.specs.Terms.{num, IsNarrow}
 use Rattle.key_rows.specs.Names.{key_name, key_dual}
 use Rattle.key_rows.proofs.keys.renew_duals.Given as goal
 

@@ -1,9 +1,7 @@
 use Rattle.std.proofs.Common.{◌≡◌, ◌<◌, ◌≤◌, ◌^◌, length, to_z, of_z, unsigned_abs, slice_get, Some, ap, sym, ◌∙◌, arith}
-use Rattle.std.specs.Int.{w128}
-use Rattle.std.proofs.lemmas.Int.{ints}
-use Rattle.std.proofs.lemmas.Option.{slice_get-get_or}
-use Rattle.simplex_law.specs.Sums.{dot}
-use Rattle.simplex_core.specs.Tables.{nums_at}
+use Rattle.net_core.proofs.Library.{w128, ints, slice_get-get_or}
+use Rattle.simplex_law.specs.Terms.{dot}
+use Rattle.simplex_core.specs.Terms.{nums_at}
 use Rattle.key_rows.specs.Names.{left_uses}
 use Rattle.key_rows.proofs.Listing.{each_more, product_at}
 use Rattle.key_rows.proofs.keys.write_products.Goals as goal

@@ -1,7 +1,7 @@
 use Rattle.std.proofs.Common.{◌≡◌, ℕ, ◌<◌, ◌≤◌, ◌^◌, length, unsigned_abs}
-use Rattle.checked_fraction.specs.Rows.{num}
-use Rattle.simplex_law.specs.Sums.{dot}
-use Rattle.simplex_core.specs.Tables.{nums_at}
+use Rattle.checked_fraction.specs.Terms.{num}
+use Rattle.simplex_law.specs.Terms.{dot}
+use Rattle.simplex_core.specs.Terms.{nums_at}
 use Rattle.key_rows.specs.Names.{left_uses}
 use Rattle.key_rows.proofs.keys.write_products.Given as goal
 

@@ -1,5 +1,5 @@
 use Rattle.std.proofs.Common.{◌-◌, ◌⊎◌, subst, sym, arith}
-use Rattle.std.proofs.lemmas.Result.{IfErr-weaker}
+use Rattle.net_core.proofs.Library.{IfErr-weaker}
 use Rattle.key_rows.specs.KeyTests.{IsWideTest}
 use Rattle.key_rows.specs.inner.Candidates.{IsKeyCandidate, IsWideRowTest}
 use Rattle.key_rows.specs.Names.{own_entry}

@@ -1,6 +1,6 @@
 use Rattle.std.proofs.Common.{◌≡◌, ◌+◌, ◌≤ℤ◌, length, pos, w64, to_z, of_z, ap, sym, subst, ◌∙◌, arith}
-use Rattle.std.proofs.lemmas.Int.{ints}
-use Rattle.checked_fraction.specs.Rows.{num, IsNarrow}
+use Rattle.net_core.proofs.Library.{ints}
+use Rattle.checked_fraction.specs.Terms.{num, IsNarrow}
 use Rattle.key_rows.specs.KeyRows.{AreWeights, amounts, left_over_rows}
 use Rattle.key_rows.proofs.ratio_test.key_candidate.Goals as goal
 

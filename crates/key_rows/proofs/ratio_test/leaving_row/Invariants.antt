@@ -1,5 +1,5 @@
 use Rattle.std.proofs.Common.{ℕ, ℤ, length}
-use Rattle.std.specs.Option.{ForSome}
+use Rattle.net_core.proofs.Library.{ForSome}
 use Rattle.key_rows.specs.KeyRows.{HaveValues}
 use Rattle.key_rows.specs.inner.Orders.{IsPlacedRow, IsBestRow}
 use Rattle.key_rows.proofs.ratio_test.leaving_row.Given as goal

@@ -1,5 +1,5 @@
 use Rattle.std.proofs.Common.{length, sym, subst, ◌∙◌, arith}
-use Rattle.checked_fraction.specs.Rows.{num, IsNarrow}
+use Rattle.checked_fraction.specs.Terms.{num, IsNarrow}
 use Rattle.simplex_core.proofs.RowsRead.{numbers_at, width_at}
 use Rattle.key_rows.proofs.Listing.{tie_at}
 use Rattle.key_rows.proofs.ratio_test.row_before.Goals as goal

@@ -1,7 +1,6 @@
 use Rattle.std.proofs.Common.{◌≡◌, ◌+◌, ◌≤◌, ◌^◌, ℤ, pos, unsigned_abs, length, get_or, to_z, of_z, sym, subst, ◌∙◌, arith}
-use Rattle.std.specs.Int.{w128}
-use Rattle.std.proofs.lemmas.Int.{ints}
-use Rattle.checked_fraction.specs.Rows.{num, IsNarrow}
+use Rattle.net_core.proofs.Library.{w128, ints}
+use Rattle.checked_fraction.specs.Terms.{num, IsNarrow}
 use Rattle.key_rows.specs.KeyRows.{amounts, left_over_rows}
 use Rattle.key_rows.specs.KeyTests.{product_over}
 use Rattle.key_rows.specs.inner.Candidates.{value_over}

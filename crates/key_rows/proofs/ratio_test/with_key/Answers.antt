@@ -1,6 +1,5 @@
 use Rattle.std.proofs.Common.{◌≡◌, Ok, Err, w64, to_z, of_z, inl, inr, refl, sym, subst, ◌∙◌, arith}
-use Rattle.std.proofs.lemmas.Int.{ints}
-use Rattle.std.proofs.lemmas.Result.{IfOk-weaker, err_from_is_err_and}
+use Rattle.net_core.proofs.Library.{ints, IfOk-weaker, err_from_is_err_and}
 use Rattle.key_rows.proofs.WideTests.{key_test}
 use Rattle.key_rows.specs.KeyTests.{IsWideTest}
 use Rattle.key_rows.specs.Names.{own_entry}

@@ -1,7 +1,5 @@
-use Rattle.std.proofs.Common.{◌≡◌, ◌+◌, ◌⊎◌, length, get_or, subst}
-use Rattle.std.specs.Option.{ForSome}
-use Rattle.std.specs.Result.{IfOk}
-use Rattle.std.proofs.lemmas.Result.{IfOk-weaker}
+use Rattle.std.proofs.Common.{◌≡◌, ◌+◌, ◌⊎◌, length, get_or, subst, IfOk}
+use Rattle.net_core.proofs.Library.{ForSome, IfOk-weaker}
 use Rattle.key_rows.specs.FirstRoles.{IsFirstOfRoles}
 use Rattle.key_rows.specs.inner.Candidates.{IsPlacedCandidate, IsWithKey}
 use Rattle.key_rows.specs.inner.Tried.{role_in, IsTried}

@@ -1,4 +1,4 @@
-use Rattle.std.specs.Option.{ForSome}
+use Rattle.net_core.proofs.Library.{ForSome}
 use Rattle.std.proofs.Common.{length}
 use Rattle.key_rows.specs.Bases.{IsRoom}
 use Rattle.key_rows.specs.FirstRoles.{IsFirstOfRoles}

@@ -1,6 +1,5 @@
 use Rattle.std.proofs.Common.{◌≡◌, ◌<◌, ◌+◌, Some, length, sym, ◌∙◌, ◌⊎◌}
-use Rattle.std.specs.Option.{ForSome}
-use Rattle.std.proofs.lemmas.Result.{IfOk-weaker}
+use Rattle.net_core.proofs.Library.{ForSome, IfOk-weaker}
 use Rattle.key_rows.specs.FirstRoles.{IsFirstOfRoles}
 use Rattle.key_rows.specs.Names.{demand_in}
 use Rattle.key_rows.specs.inner.Candidates.{IsPlacedCandidate, IsWithKey}

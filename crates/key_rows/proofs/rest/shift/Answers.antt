@@ -1,7 +1,6 @@
 use Rattle.std.proofs.Common.{◌≡◌, ◌<◌, ◌^◌, ◌+ℤ◌, ◌*ℤ◌, length, get_or, unsigned_abs, to_z, of_z, arith}
-use Rattle.std.specs.Int.{w128}
-use Rattle.std.proofs.lemmas.Int.{ints}
-use Rattle.checked_fraction.specs.Rows.{num}
+use Rattle.net_core.proofs.Library.{w128, ints}
+use Rattle.checked_fraction.specs.Terms.{num}
 use Rattle.net_core.specs.declared.ids.LinkId.{LinkId}
 use Rattle.key_rows.proofs.Paths.{link_inside}
 use Rattle.key_rows.proofs.Shifting.{shift_more, bound_more, uses_end, shifted}

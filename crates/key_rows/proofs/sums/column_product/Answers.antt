@@ -1,7 +1,6 @@
 use Rattle.std.proofs.Common.{◌≡◌, length, to_z, of_z, ◌∙◌, arith}
-use Rattle.std.specs.Int.{w128}
-use Rattle.std.proofs.lemmas.Int.{ints}
-use Rattle.checked_fraction.specs.Rows.{num}
+use Rattle.net_core.proofs.Library.{w128, ints}
+use Rattle.checked_fraction.specs.Terms.{num}
 use Rattle.key_rows.specs.Names.{uses, path_uses}
 use Rattle.key_rows.proofs.Products.{left_product}
 use Rattle.key_rows.proofs.sums.column_product.Goals as goal

@@ -1,7 +1,7 @@
 use Rattle.std.proofs.Common.{arith, length, pos}
-use Rattle.std.proofs.lemmas.Int.{ints}
-use Rattle.checked_fraction.specs.Rows.{num}
-use Rattle.simplex_law.proofs.Sparse.{sparse}
+use Rattle.net_core.proofs.Library.{ints}
+use Rattle.checked_fraction.specs.Terms.{num}
+use Rattle.simplex_law.proofs.Lemmas.{sparse}
 use Rattle.key_rows.proofs.Paths.{sum_rest, sum_end}
 use Rattle.key_rows.proofs.sums.path_sum.Goals as goal
 

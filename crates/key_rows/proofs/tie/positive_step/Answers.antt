@@ -1,12 +1,10 @@
 use Rattle.std.proofs.Common.{◌≡◌, ◌+ℤ◌, ◌*ℤ◌, length, w64, to_z, of_z, ap, sym, subst, ◌∙◌, arith}
-use Rattle.std.specs.Int.{w128}
-use Rattle.std.proofs.lemmas.Int.{ints}
-use Rattle.checked_fraction.specs.Rows.{num}
-use Rattle.simplex_law.specs.Sums.{dot}
+use Rattle.net_core.proofs.Library.{w128, ints}
+use Rattle.checked_fraction.specs.Terms.{num}
+use Rattle.simplex_law.specs.Terms.{dot}
 use Rattle.key_rows.specs.Names.{left_uses}
-use Rattle.key_rows.specs.inner.Candidates.{lowered_step}
+use Rattle.key_rows.specs.inner.Candidates.{lowered_step, IsWideRowTest}
 use Rattle.key_rows.proofs.Stepping.{step_positive, step_lowered}
-use Rattle.key_rows.specs.inner.Candidates.{IsWideRowTest}
 use Rattle.key_rows.proofs.WideTests.{wide_row}
 use Rattle.key_rows.proofs.tie.positive_step.Goals as goal
 

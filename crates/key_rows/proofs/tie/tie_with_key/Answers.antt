@@ -1,6 +1,5 @@
 use Rattle.std.proofs.Common.{◌≡◌, length, to_z, of_z, sym, ap, ◌∙◌, subst, arith}
-use Rattle.std.specs.Int.{w128}
-use Rattle.std.proofs.lemmas.Int.{ints}
+use Rattle.net_core.proofs.Library.{w128, ints}
 use Rattle.key_rows.specs.inner.Candidates.{IsLowered}
 use Rattle.key_rows.proofs.Stepping.{decided}
 use Rattle.key_rows.proofs.tie.tie_with_key.Goals as goal

@@ -1,11 +1,8 @@
 use Rattle.std.proofs.Common.{◌≡◌, pos, length, to_z, of_z, slice_get, Some, inl, refl, sym, ap, ◌∙◌, subst, arith}
-use Rattle.std.specs.Int.{w128}
-use Rattle.std.proofs.lemmas.Int.{ints}
+use Rattle.net_core.proofs.Library.{w128, ints, slice_get-get_or, err_from_is_err_and}
 use Rattle.std.specs.Int.Signed.{◌<ℤ◌}
-use Rattle.std.proofs.lemmas.Option.{slice_get-get_or}
-use Rattle.std.proofs.lemmas.Result.{err_from_is_err_and}
-use Rattle.checked_fraction.specs.Rows.{num, IsNarrow}
-use Rattle.simplex_core.specs.Tables.{nums_of}
+use Rattle.checked_fraction.specs.Terms.{num, IsNarrow}
+use Rattle.simplex_core.specs.Terms.{nums_of}
 use Rattle.key_rows.specs.inner.Candidates.{IsLowered, IsWideRowTest}
 use Rattle.key_rows.proofs.Stepping.{decided}
 use Rattle.key_rows.proofs.tie.tie_with_row.Goals as goal

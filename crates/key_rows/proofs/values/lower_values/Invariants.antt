@@ -1,5 +1,5 @@
 use Rattle.std.proofs.Common.{◌≡◌, ℕ, ◌<◌, ◌≤◌, ◌-ℤ◌, ◌*ℤ◌}
-use Rattle.checked_fraction.specs.Rows.{num}
+use Rattle.checked_fraction.specs.Terms.{num}
 use Rattle.key_rows.specs.KeyRows.{amounts}
 use Rattle.key_rows.proofs.values.lower_values.Given as goal
 

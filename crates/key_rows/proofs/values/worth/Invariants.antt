@@ -1,7 +1,6 @@
 use Rattle.std.proofs.Common.{◌≡◌, ◌≤◌, ◌*◌, ◌^◌, unsigned_abs}
-use Rattle.checked_fraction.specs.Rows.{num}
-use Rattle.simplex_law.specs.Sums.{dot}
-use Rattle.checked_fraction.specs.Totals.{total}
+use Rattle.checked_fraction.specs.Terms.{num, total}
+use Rattle.simplex_law.specs.Terms.{dot}
 use Rattle.key_rows.proofs.values.worth.Given as goal
 
 -- the sum of the products so far

@@ -1,4 +1,4 @@
-use Rattle.simplex_core.specs.inner.Commons.{IsDenominator}
+use Rattle.simplex_core.specs.Terms.{IsDenominator}
 use Rattle.key_rows.specs.KeyRows.{own_den}
 use Rattle.key_rows.proofs.weights.common_of.Given as goal
 

@@ -1,5 +1,5 @@
 use Rattle.std.proofs.Common.{subst, sym}
-use Rattle.simplex_core.specs.Multiples.{IsLeastMultiple}
+use Rattle.simplex_core.specs.Terms.{IsLeastMultiple}
 use Rattle.key_rows.proofs.Weighing.{multiple_of_one}
 use Rattle.key_rows.proofs.weights.joined_common.Goals as goal
 

@@ -1,5 +1,5 @@
 use Rattle.std.proofs.Common.{◌-ℤ◌, ap, sym, ◌∙◌, arith}
-use Rattle.checked_fraction.specs.Rows.{num}
+use Rattle.checked_fraction.specs.Terms.{num}
 use Rattle.key_rows.specs.KeyRows.{times_taken}
 use Rattle.std.proofs.Math.IntN.{◌*ℤ◌}
 use Rattle.key_rows.proofs.Left.{left_more}

@@ -1,6 +1,5 @@
 use Rattle.std.proofs.Common.{◌≡◌, ◌+◌, ◌≤◌, ◌*◌, ◌^◌, unsigned_abs}
-use Rattle.checked_fraction.specs.Rows.{num}
-use Rattle.checked_fraction.specs.Totals.{total}
+use Rattle.checked_fraction.specs.Terms.{num, total}
 use Rattle.key_rows.specs.KeyRows.{left_over_rows}
 use Rattle.key_rows.proofs.weights.step_of.Given as goal
 

@@ -1,7 +1,6 @@
 use Rattle.std.proofs.Common.{◌≡◌, to_z, of_z, ◌∙◌, arith}
-use Rattle.std.specs.Int.{w128}
-use Rattle.std.proofs.lemmas.Int.{ints}
-use Rattle.checked_fraction.specs.Totals.{total}
+use Rattle.net_core.proofs.Library.{w128, ints}
+use Rattle.checked_fraction.specs.Terms.{total}
 use Rattle.key_rows.proofs.Left.{taken_once}
 use Rattle.key_rows.proofs.weights.take.Goals as goal
 

@@ -1,8 +1,6 @@
 use Rattle.std.proofs.Common.{◌≡◌, ◌*ℤ◌, ◌<◌, length, pos, w64, to_z, of_z, unsigned_abs, slice_get, Some, ap, sym, ◌∙◌, subst, arith}
-use Rattle.std.specs.Int.{◌∣◌}
-use Rattle.std.proofs.lemmas.Int.{ints}
-use Rattle.std.proofs.lemmas.Option.{slice_get-get_or}
-use Rattle.simplex_core.specs.Tables.{den_of}
+use Rattle.net_core.proofs.Library.{◌∣◌, ints, slice_get-get_or}
+use Rattle.simplex_core.specs.Terms.{den_of}
 use Rattle.key_rows.proofs.Weighing.{own_divides, weight_more}
 use Rattle.key_rows.proofs.weights.write_weights.Goals as goal
 

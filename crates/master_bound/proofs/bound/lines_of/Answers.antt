@@ -1,5 +1,5 @@
 use Rattle.std.proofs.Common.{◌/◌, [], arith, get_or, inl, inr, length, sym, ◌∙◌}
-use Rattle.std.proofs.lemmas.Bool.{false≢true}
+use Rattle.net_core.proofs.Library.{false≢true}
 use Rattle.master_law.proofs.Lines.{lines_none}
 use Rattle.master_bound.proofs.Amounts.{all_narrow, wide_place}
 use Rattle.master_bound.specs.Answers.{lines_of}

@@ -1,6 +1,6 @@
 use Rattle.std.proofs.Common.{◌≡◌, length}
-use Rattle.master_law.specs.MasterPrograms.{master_slack}
-use Rattle.simplex_core.specs.inner.Shapes.{AtEach}
+use Rattle.master_law.specs.Terms.{master_slack}
+use Rattle.simplex_core.specs.Terms.{AtEach}
 use Rattle.master_bound.proofs.bound.slack_names.Given as goal
 
 -- the names so far

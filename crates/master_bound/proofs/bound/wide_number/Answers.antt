@@ -1,10 +1,7 @@
-use Rattle.std.proofs.Common.{◌≡◌, ap, get_or, length, refl, Some, subst, sym, ◌∙◌}
-use Rattle.std.specs.List.{slice_get}
-use Rattle.std.proofs.lemmas.Option.{get_or_from_slice_get, slice_get_read}
-use Rattle.net_core.specs.declared.columns.MasterColumn.TheVariants.{Metric}
-use Rattle.net_core.specs.declared.columns.WideKind.TheVariants.{Number}
-use Rattle.net_core.specs.declared.plan.CutLine.{CutLine}
-use Rattle.master_law.specs.MasterEvidence.{IsMasterEvidence}
+use Rattle.std.proofs.Common.{◌≡◌, ap, get_or, length, refl, Some, subst, sym, ◌∙◌, slice_get}
+use Rattle.net_core.proofs.Library.{get_or_from_slice_get, slice_get_read}
+use Rattle.plan_terms.specs.Terms.{Metric, Number, CutLine}
+use Rattle.master_law.specs.Terms.{IsMasterEvidence}
 use Rattle.master_bound.proofs.Networks.{number_evidence, slacks_named}
 use Rattle.master_bound.proofs.bound.wide_number.Goals as goal
 

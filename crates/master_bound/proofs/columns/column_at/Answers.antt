@@ -1,9 +1,7 @@
-use Rattle.std.proofs.Common.{◌≡◌, ℤ, Some, ap, arith, length, of_z, refl, slice_index_or, sym, to_z, w64, ◌∙◌}
-use Rattle.checked_fraction.specs.Rows.{IsNarrow}
+use Rattle.std.proofs.Common.{◌≡◌, ℤ, Some, ap, arith, length, of_z, refl, slice_index_or, sym, to_z, w64, ◌∙◌, slice_get}
+use Rattle.checked_fraction.specs.Terms.{IsNarrow}
 use Rattle.master_bound.specs.declared.rating.Rating.{Rating}
-use Rattle.std.proofs.lemmas.Int.{ints}
-use Rattle.std.proofs.lemmas.Option.{slice_get_read}
-use Rattle.std.specs.List.{slice_get}
+use Rattle.net_core.proofs.Library.{ints, slice_get_read}
 use Rattle.master_bound.proofs.Entering.{column_of_cut, rated}
 use Rattle.master_bound.proofs.columns.column_at.Goals as goal
 

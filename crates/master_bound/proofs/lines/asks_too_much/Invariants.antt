@@ -1,5 +1,5 @@
 use Rattle.std.proofs.Common.{◌≡◌, ◌<◌, ◌^◌, take}
-use Rattle.plan_terms.specs.Certificates.{asked}
+use Rattle.plan_terms.specs.Terms.{asked}
 use Rattle.master_bound.specs.Answers.{lines_of}
 use Rattle.master_bound.proofs.lines.asks_too_much.Given as goal
 

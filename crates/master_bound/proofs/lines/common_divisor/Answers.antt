@@ -1,4 +1,4 @@
-use Rattle.plan_terms.proofs.Bounds.{divisor_one}
+use Rattle.plan_terms.proofs.Lemmas.{divisor_one}
 use Rattle.master_bound.proofs.Amounts.{divisor_more}
 use Rattle.master_bound.proofs.lines.common_divisor.Goals as goal
 

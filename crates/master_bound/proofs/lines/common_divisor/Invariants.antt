@@ -1,5 +1,5 @@
 use Rattle.std.proofs.Common.{◌∷◌, take}
-use Rattle.plan_terms.specs.Bounds.{IsGreatestDivisor}
+use Rattle.plan_terms.specs.Terms.{IsGreatestDivisor}
 use Rattle.master_bound.proofs.lines.common_divisor.Given as goal
 
 -- the divisor of the denominator and the amounts so far

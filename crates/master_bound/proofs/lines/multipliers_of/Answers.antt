@@ -1,5 +1,5 @@
 use Rattle.std.proofs.Common.{length, refl}
-use Rattle.std.proofs.lemmas.Option.{slice_get_read}
+use Rattle.net_core.proofs.Library.{slice_get_read}
 use Rattle.master_bound.proofs.Multipliers.{multipliers_more}
 use Rattle.master_bound.proofs.lines.multipliers_of.Goals as goal
 

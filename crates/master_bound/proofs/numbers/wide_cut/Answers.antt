@@ -1,6 +1,6 @@
 use Rattle.std.proofs.Common.{All, arith, subst}
 use Rattle.std.proofs.lemmas.List.{take_all}
-use Rattle.std.proofs.lemmas.List.Elements.{All-more}
+use Rattle.net_core.proofs.Library.{All-more}
 use Rattle.master_bound.specs.inner.Narrow.{IsNarrowCut}
 use Rattle.master_bound.proofs.numbers.wide_cut.Goals as goal
 

@@ -1,6 +1,5 @@
-use Rattle.std.proofs.Common.{length, refl, sym, Some, ◌≡◌}
-use Rattle.std.proofs.lemmas.Option.{slice_get_read}
-use Rattle.std.specs.List.{slice_get}
+use Rattle.std.proofs.Common.{length, refl, sym, Some, ◌≡◌, slice_get}
+use Rattle.net_core.proofs.Library.{slice_get_read}
 use Rattle.master_bound.proofs.Entering.{counted, none_gains, rated, surplus_gains}
 use Rattle.master_bound.proofs.pricing.candidate_at.Goals as goal
 

@@ -1,6 +1,5 @@
-use Rattle.std.proofs.Common.{arith, length}
-use Rattle.std.specs.Prelude.{◌*ℤ◌}
-use Rattle.std.proofs.lemmas.Int.{ints}
+use Rattle.std.proofs.Common.{arith, length, ◌*ℤ◌}
+use Rattle.net_core.proofs.Library.{ints}
 use Rattle.master_bound.proofs.Costs.{cost_more, gained, none_gained, used_up}
 use Rattle.master_bound.proofs.pricing.surplus_of.Goals as goal
 

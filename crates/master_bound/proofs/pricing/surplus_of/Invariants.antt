@@ -1,5 +1,4 @@
-use Rattle.std.proofs.Common.{◌≡◌, ◌<◌, pos}
-use Rattle.std.specs.Prelude.{◌*ℤ◌, ◌-ℤ◌}
+use Rattle.std.proofs.Common.{◌≡◌, ◌<◌, pos, ◌*ℤ◌, ◌-ℤ◌}
 use Rattle.master_bound.specs.inner.Gaining.{cost_below}
 use Rattle.master_bound.proofs.pricing.surplus_of.Given as goal
 

@@ -1,5 +1,5 @@
 use Rattle.std.proofs.Common.{◌≡◌, map, take}
-use Rattle.master_law.specs.MasterPrograms.{cut_gain}
+use Rattle.master_law.specs.Terms.{cut_gain}
 use Rattle.master_bound.proofs.rating.ratings_of.Given as goal
 
 -- the gains of the cuts so far

@@ -1,6 +1,6 @@
 use Rattle.std.proofs.Common.{ℕ, ◌*◌, ◌^◌, get_or, arith}
 use Rattle.module_prices.specs.declared.cheapest.UnitPair.{UnitPair}
-use Rattle.plan_terms.proofs.OwnBounds.{product_below}
+use Rattle.plan_terms.proofs.Lemmas.{product_below}
 use Rattle.metric_cut.proofs.Pairs.{sum_more}
 use Rattle.master_bound.proofs.share.cost_of.Goals as goal
 

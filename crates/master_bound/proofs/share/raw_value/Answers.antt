@@ -1,6 +1,6 @@
 use Rattle.std.proofs.Common.{sym}
-use Rattle.std.proofs.Math.Nat.{div-mul_cancel}
-use Rattle.plan_terms.proofs.Multipliers.{lowest_terms}
+use Rattle.net_core.proofs.Library.{div-mul_cancel}
+use Rattle.plan_terms.proofs.Lemmas.{lowest_terms}
 use Rattle.master_bound.proofs.share.raw_value.Goals as goal
 use Rattle.net_core.proofs.Numbers.{positive_divisor}
 

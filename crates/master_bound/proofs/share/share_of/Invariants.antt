@@ -1,4 +1,4 @@
-use Rattle.checked_fraction.specs.Rows.{num}
+use Rattle.checked_fraction.specs.Terms.{num}
 use Rattle.master_bound.specs.inner.Shares.{AreUnitsOf}
 use Rattle.master_bound.proofs.share.share_of.Given as goal
 

@@ -1,6 +1,6 @@
 use Rattle.std.proofs.Common.{subst}
-use Rattle.net_core.specs.declared.network.Link.{Link}
-use Rattle.master_law.specs.UnitPairs.{IsPairOfLink}
+use Rattle.plan_terms.specs.Terms.{Link}
+use Rattle.master_law.specs.Terms.{IsPairOfLink}
 use Rattle.master_bound.proofs.UnitPairs.{pairs_more}
 use Rattle.master_bound.proofs.units.unit_pairs.Goals as goal
 

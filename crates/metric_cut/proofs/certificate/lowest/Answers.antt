@@ -1,6 +1,6 @@
 use Rattle.std.proofs.Common.{sym}
-use Rattle.std.proofs.Math.Nat.{div-mul_cancel}
-use Rattle.plan_terms.proofs.Multipliers.{lowest_terms}
+use Rattle.net_core.proofs.Library.{div-mul_cancel}
+use Rattle.plan_terms.proofs.Lemmas.{lowest_terms}
 use Rattle.metric_cut.proofs.certificate.lowest.Goals as goal
 use Rattle.net_core.proofs.Numbers.{positive_divisor}
 

@@ -1,5 +1,5 @@
 use Rattle.std.proofs.Common.{take}
-use Rattle.plan_terms.specs.Bounds.{IsGreatestDivisor}
+use Rattle.plan_terms.specs.Terms.{IsGreatestDivisor}
 use Rattle.metric_cut.proofs.keep.divisor_of_lengths.Given as goal
 
 -- the divisor of the lengths so far

@@ -1,4 +1,4 @@
-use Rattle.net_core.specs.Views.{graph_of}
+use Rattle.plan_terms.specs.Terms.{graph_of}
 use Rattle.metric_cut.proofs.Keepings.{AreMaskedBelow}
 use Rattle.metric_cut.proofs.keep.mask.Given as goal
 

@@ -1,4 +1,4 @@
-use Rattle.plan_terms.proofs.Multipliers.{ratio_quotient}
+use Rattle.plan_terms.proofs.Lemmas.{ratio_quotient}
 use Rattle.metric_cut.proofs.multiplier.greatest_multiplier.Goals as goal
 
 pub nonzero_div-result : goal.nonzero_div-result

@@ -1,7 +1,6 @@
 use Rattle.std.proofs.Common.{All, List, map, subst, sym}
-use Rattle.std.proofs.lemmas.Result.{IfOk-weaker}
-use Rattle.net_core.specs.Views.{graph}
-use Rattle.plan_terms.specs.Openings.{AreOpening}
+use Rattle.net_core.proofs.Library.{IfOk-weaker}
+use Rattle.plan_terms.specs.Terms.{graph, AreOpening}
 use Rattle.metric_cut.specs.Cuts.{IsCutOf}
 use Rattle.metric_cut.specs.declared.cut.Cut.{Cut}
 use Rattle.metric_cut.proofs.KeptCuts.{are_opening, opening_cuts}

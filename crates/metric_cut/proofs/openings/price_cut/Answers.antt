@@ -1,4 +1,4 @@
-use Rattle.std.proofs.lemmas.Result.{IfOk-weaker}
+use Rattle.net_core.proofs.Library.{IfOk-weaker}
 use Rattle.metric_cut.proofs.openings.price_cut.Goals as goal
 
 pub returns : goal.returns

@@ -1,5 +1,5 @@
 use Rattle.std.proofs.Common.{◌≡◌, ◌∙◌, ℕ, IfOk, ap, length, replicate, subst}
-use Rattle.net_core.specs.Views.{graph_of}
+use Rattle.plan_terms.specs.Terms.{graph_of}
 use Rattle.metric_cut.specs.Cuts.{MayKeepCut}
 use Rattle.metric_cut.proofs.openings.unit_cut.Goals as goal
 

@@ -1,5 +1,5 @@
 use Rattle.std.proofs.Common.{◌≡◌, ◌≤◌, ◌*◌, ◌^◌, take}
-use Rattle.plan_terms.specs.Certificates.{fixed_along}
+use Rattle.plan_terms.specs.Terms.{fixed_along}
 use Rattle.metric_cut.proofs.own_bounds.fixed_along.Given as goal
 
 -- the sum over the links so far

@@ -1,5 +1,5 @@
 use Rattle.std.proofs.Common.{◌*◌}
-use Rattle.plan_terms.proofs.Multipliers.{smaller_ratio}
+use Rattle.plan_terms.proofs.Lemmas.{smaller_ratio}
 use Rattle.metric_cut.proofs.ratio.lesser.Goals as goal
 
 pub returns-then-m-best-clause-kept : goal.returns-then-m-best-clause-kept

@@ -1,4 +1,4 @@
-use Rattle.text_kit.specs.Files.{body}
+use Rattle.text_kit.specs.Terms.{body}
 use Rattle.model_reader.proofs.FailureLaws.{failures_read, read_in_form}
 use Rattle.model_reader.proofs.failure_file.file.Goals as goal
 

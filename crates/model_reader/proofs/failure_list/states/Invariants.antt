@@ -1,5 +1,5 @@
 use Rattle.std.proofs.Common.{◌≡◌, []}
-use Rattle.snd_tokens.specs.Lexemes.{left, size}
+use Rattle.snd_tokens.specs.Terms.{left, size}
 use Rattle.model_reader.specs.FailuresReading.{states_at}
 use Rattle.model_reader.proofs.failure_list.states.Given as goal
 

@@ -1,5 +1,5 @@
 use Rattle.std.proofs.Common.{◌≡◌, drop}
-use Rattle.net_core.specs.Tests.{are_same}
+use Rattle.net_core.specs.Terms.{are_same}
 use Rattle.model_reader.specs.Models.{key_word}
 use Rattle.model_reader.specs.ModelReading.{first_key}
 use Rattle.model_reader.proofs.model_file.first_of.Given as goal

@@ -1,5 +1,5 @@
 use Rattle.std.proofs.Common.{◌≡◌, List, length}
-use Rattle.net_core.specs.declared.network.Module.{Module}
+use Rattle.plan_terms.specs.Terms.{Module}
 use Rattle.module_choice.specs.inner.Routes.{AlikeAreCovered}
 use Rattle.module_choice.proofs.SameModules.{TheseAreCovered}
 use Rattle.module_choice.proofs.alike.cover_by_table.Given as goal

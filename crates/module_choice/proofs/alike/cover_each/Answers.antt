@@ -1,6 +1,6 @@
 use Rattle.std.proofs.Common.{◌≡◌, ◌∙◌, ◌+◌, Some, ap, arith, length, refl, slice_get, subst, sym}
-use Rattle.std.proofs.lemmas.Option.{slice_get_read, slice_get_within}
-use Rattle.net_core.specs.declared.network.Link.{Link}
+use Rattle.net_core.proofs.Library.{slice_get_read, slice_get_within}
+use Rattle.plan_terms.specs.Terms.{Link}
 use Rattle.module_choice.specs.inner.Routes.{AlikeAreCovered}
 use Rattle.module_choice.proofs.SameModules.{AllCovered, covered_again, covered_next, needs_covered}
 use Rattle.module_choice.proofs.alike.cover_each.Goals as goal

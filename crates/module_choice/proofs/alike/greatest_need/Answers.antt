@@ -1,5 +1,5 @@
 use Rattle.std.proofs.Common.{arith}
-use Rattle.std.proofs.lemmas.Option.{slice_get_within}
+use Rattle.net_core.proofs.Library.{slice_get_within}
 use Rattle.module_choice.proofs.alike.greatest_need.Goals as goal
 
 pub returns-clause-reached : goal.returns-clause-reached

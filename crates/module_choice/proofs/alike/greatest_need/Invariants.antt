@@ -1,5 +1,5 @@
 use Rattle.std.proofs.Common.{◌≡◌, ◌<◌, ◌≤◌, ℕ, Some, get_or, slice_get}
-use Rattle.net_core.specs.declared.network.Link.{Link}
+use Rattle.plan_terms.specs.Terms.{Link}
 use Rattle.module_choice.proofs.alike.greatest_need.Given as goal
 
 -- no need so far is greater

@@ -1,5 +1,5 @@
 use Rattle.std.proofs.Common.{◌≡◌, ◌≢◌, ◌<◌, ℕ, Some, slice_get}
-use Rattle.net_core.specs.declared.network.Link.{Link}
+use Rattle.plan_terms.specs.Terms.{Link}
 use Rattle.module_choice.proofs.alike.has_earlier.Given as goal
 
 -- none of the links so far has the modules

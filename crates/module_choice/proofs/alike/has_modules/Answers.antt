@@ -1,6 +1,5 @@
-use Rattle.std.proofs.Common.{◌≡◌, subst}
-use Rattle.std.specs.Bool.{IsTrue}
-use Rattle.std.proofs.lemmas.Slice.Eq.{slice_eq-Decides}
+use Rattle.std.proofs.Common.{◌≡◌, subst, IsTrue}
+use Rattle.net_core.proofs.Library.{slice_eq-Decides}
 use Rattle.module_choice.proofs.SameModules.{module_decides}
 use Rattle.module_choice.proofs.alike.has_modules.Goals as goal
 

@@ -1,5 +1,5 @@
 use Rattle.std.proofs.Common.{◌≡◌, ◌-◌, ℕ, Some, length, get_or, slice_get}
-use Rattle.net_core.specs.declared.network.Link.{Link}
+use Rattle.plan_terms.specs.Terms.{Link}
 use Rattle.module_choice.proofs.alike.needs_of.Given as goal
 
 -- the needs so far

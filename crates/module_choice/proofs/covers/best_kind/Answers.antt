@@ -1,6 +1,6 @@
 use Rattle.std.proofs.Common.{◌+◌, ◌<◌, arith, get_or, length, refl, subst, sym}
-use Rattle.std.proofs.lemmas.Option.{slice_get-get_or}
-use Rattle.net_core.specs.declared.network.Module.{Module}
+use Rattle.net_core.proofs.Library.{slice_get-get_or}
+use Rattle.plan_terms.specs.Terms.{Module}
 use Rattle.module_choice.proofs.Choices.{IsBestSoFar, IsEnough, best_moves, best_of_all, best_stays}
 use Rattle.module_choice.proofs.covers.best_kind.Goals as goal
 use Rattle.module_choice.proofs.covers.best_kind.Goals.{then-cost_of, else-cost_of}

@@ -1,5 +1,5 @@
 use Rattle.std.proofs.Common.{◌≡◌, ◌*◌, ◌<◌, ◌-◌, ◌≤◌, IfOk, Some, arith, get_or, length, slice_get, subst}
-use Rattle.std.proofs.lemmas.Option.{slice_get-get_or}
+use Rattle.net_core.proofs.Library.{slice_get-get_or}
 use Rattle.module_choice.specs.declared.tables.Entry.{Entry}
 use Rattle.module_choice.specs.inner.Tables.{AreTaken}
 use Rattle.module_choice.proofs.Choices.{answers_also}

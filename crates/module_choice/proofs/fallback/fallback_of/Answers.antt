@@ -1,8 +1,6 @@
 use Rattle.std.proofs.Common.{◌≡◌, ◌<◌, ◌≤◌, ◌∙◌, ◌+◌, All, Some, ap, arith, get_or, length, slice_get, slice_index, subst, sym}
-use Rattle.std.proofs.lemmas.Option.{slice_get_within}
-use Rattle.net_core.specs.Network.{IsModule}
-use Rattle.net_core.specs.Views.{case_of}
-use Rattle.plan_terms.specs.Fallbacks.{raised}
+use Rattle.net_core.proofs.Library.{slice_get_within}
+use Rattle.plan_terms.specs.Terms.{IsModule, case_of, raised}
 use Rattle.module_choice.specs.inner.Routes.{AreCovered, AreRouted}
 use Rattle.module_choice.proofs.Falling.{covered_narrow, covered_shape, falls, fixed_small, modules_sound, raised_positive, unserved}
 use Rattle.module_choice.proofs.fallback.fallback_of.Goals as goal

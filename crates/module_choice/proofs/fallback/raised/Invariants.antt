@@ -1,5 +1,5 @@
 use Rattle.std.proofs.Common.{◌≡◌, take}
-use Rattle.plan_terms.specs.Fallbacks.{raised}
+use Rattle.plan_terms.specs.Terms.{raised}
 use Rattle.module_choice.proofs.fallback.raised.Given as goal
 
 -- the lengths so far

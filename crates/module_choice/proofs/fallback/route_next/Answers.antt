@@ -1,10 +1,5 @@
 use Rattle.std.proofs.Common.{◌≡◌, ◌∙◌, ◌+◌, List, ◌<◌, ◌^◌, ℕ, All, ap, arith, get_or, length, subst, sym}
-use Rattle.net_core.specs.Cases.{graph_in}
-use Rattle.net_core.specs.Graphs.{Joins}
-use Rattle.net_core.specs.Views.{case_of}
-use Rattle.net_core.specs.declared.plan.Flow.{Flow}
-use Rattle.net_core.specs.declared.ids.LinkId.{LinkId}
-use Rattle.plan_terms.specs.Fallbacks.{IsLeastRouting}
+use Rattle.plan_terms.specs.Terms.{graph_in, Joins, case_of, Flow, LinkId, IsLeastRouting}
 use Rattle.module_choice.specs.inner.Routes.{AreRouted, weight}
 use Rattle.module_choice.proofs.Carrying.{few_flows, flows_small, least_flows, links_known, network_links, routed_more}
 use Rattle.module_choice.proofs.fallback.route_next.Goals as goal

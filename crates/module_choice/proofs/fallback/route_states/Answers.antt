@@ -1,5 +1,5 @@
 use Rattle.std.proofs.Common.{◌≡◌, ◌∙◌, ◌+◌, arith, length, subst, sym}
-use Rattle.net_core.specs.Views.{case_of}
+use Rattle.plan_terms.specs.Terms.{case_of}
 use Rattle.net_core.proofs.Lists.{all_written}
 use Rattle.module_choice.specs.inner.Routes.{AreRouted}
 use Rattle.module_choice.proofs.fallback.route_states.Goals as goal

@@ -1,4 +1,4 @@
-use Rattle.net_core.specs.Views.{case_of}
+use Rattle.plan_terms.specs.Terms.{case_of}
 use Rattle.module_choice.specs.inner.Routes.{AreRouted}
 use Rattle.module_choice.proofs.fallback.route_states.Given as goal
 

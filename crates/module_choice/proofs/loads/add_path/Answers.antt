@@ -1,5 +1,5 @@
 use Rattle.std.proofs.Common.{get_or, length-set, arith}
-use Rattle.net_core.specs.declared.ids.LinkId.{LinkId}
+use Rattle.plan_terms.specs.Terms.{LinkId}
 use Rattle.module_choice.proofs.Weights.{add_step}
 use Rattle.module_choice.proofs.loads.add_path.Goals as goal
 

@@ -1,7 +1,6 @@
 use Rattle.std.proofs.Common.{length, refl}
-use Rattle.std.proofs.lemmas.Option.{slice_get_read}
-use Rattle.net_core.specs.Graphs.{Joins}
-use Rattle.net_core.specs.Views.{graph_of}
+use Rattle.net_core.proofs.Library.{slice_get_read}
+use Rattle.plan_terms.specs.Terms.{Joins, graph_of}
 use Rattle.module_choice.proofs.Routing.{flows_routing, flows_taken, flows_total}
 use Rattle.module_choice.proofs.routes.route_all.Goals as goal
 

@@ -1,5 +1,4 @@
-use Rattle.net_core.specs.Graphs.{Joins}
-use Rattle.net_core.specs.Views.{graph_of}
+use Rattle.plan_terms.specs.Terms.{Joins, graph_of}
 use Rattle.module_choice.specs.inner.Routes.{AreLeastFlows}
 use Rattle.module_choice.proofs.routes.route_all.Given as goal
 

@@ -1,10 +1,5 @@
 use Rattle.std.proofs.Common.{◌≡◌, ◌∙◌, List, arith, subst, sum_by}
-use Rattle.net_core.specs.declared.demand.Demand.{Demand}
-use Rattle.net_core.specs.Cases.{graph_in}
-use Rattle.net_core.specs.Graphs.{Joins}
-use Rattle.net_core.specs.Views.{case_of, graph_of}
-use Rattle.plan_terms.specs.Fallbacks.{IsLeastRouting}
-use Rattle.plan_terms.specs.Paths.{AreApart}
+use Rattle.plan_terms.specs.Terms.{Demand, graph_in, Joins, case_of, graph_of, IsLeastRouting, AreApart}
 use Rattle.module_choice.proofs.Choices.{answers_also}
 use Rattle.module_choice.proofs.routes.route_state.Goals as goal
 

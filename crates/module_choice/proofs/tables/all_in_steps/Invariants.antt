@@ -1,5 +1,5 @@
 use Rattle.std.proofs.Common.{◌≡◌, All, length, take}
-use Rattle.net_core.specs.Network.{IsModule}
+use Rattle.plan_terms.specs.Terms.{IsModule}
 use Rattle.module_choice.specs.inner.Tables.{in_units}
 use Rattle.module_choice.proofs.tables.all_in_steps.Given as goal
 

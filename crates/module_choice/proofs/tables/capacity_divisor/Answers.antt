@@ -1,7 +1,6 @@
 use Rattle.std.proofs.Common.{◌<◌, ◌^◌, arith, map, subst}
 use Rattle.std.proofs.lemmas.List.{take_all}
-use Rattle.net_core.specs.declared.network.Module.{Module}
-use Rattle.plan_terms.specs.Bounds.{IsGreatestDivisor}
+use Rattle.plan_terms.specs.Terms.{Module, IsGreatestDivisor}
 use Rattle.module_prices.proofs.Divisors.{module_divisor_step}
 use Rattle.module_choice.proofs.Steps.{capacity_limit}
 use Rattle.module_choice.proofs.tables.capacity_divisor.Goals as goal

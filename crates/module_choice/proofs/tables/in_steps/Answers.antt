@@ -1,5 +1,5 @@
 use Rattle.std.proofs.Common.{sym}
-use Rattle.std.proofs.Math.Nat.{mul-div_cancel'}
+use Rattle.net_core.proofs.Library.{mul-div_cancel'}
 use Rattle.module_choice.proofs.Steps.{quotient_sound}
 use Rattle.module_choice.proofs.tables.in_steps.Goals as goal
 use Rattle.net_core.proofs.Numbers.{positive_divisor}

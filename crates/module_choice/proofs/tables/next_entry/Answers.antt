@@ -1,5 +1,5 @@
-use Rattle.std.proofs.lemmas.Option.{slice_get-get_or}
-use Rattle.net_core.specs.declared.network.Module.{Module}
+use Rattle.net_core.proofs.Library.{slice_get-get_or}
+use Rattle.plan_terms.specs.Terms.{Module}
 use Rattle.module_choice.proofs.LeastCosts.{next_first, next_more, next_of_all}
 use Rattle.module_choice.proofs.tables.next_entry.Goals as goal
 

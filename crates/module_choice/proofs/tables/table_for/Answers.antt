@@ -1,6 +1,5 @@
-use Rattle.std.proofs.Common.{◌<◌, length, subst, sym}
-use Rattle.net_core.specs.declared.network.Module.{Module}
-use Rattle.std.proofs.Common.{List}
+use Rattle.std.proofs.Common.{◌<◌, length, subst, sym, List}
+use Rattle.plan_terms.specs.Terms.{Module}
 use Rattle.module_choice.proofs.Steps.{divides_each, some_scaled}
 use Rattle.module_choice.proofs.tables.table_for.Goals as goal
 

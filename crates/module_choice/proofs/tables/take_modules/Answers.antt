@@ -1,5 +1,5 @@
 use Rattle.std.proofs.Common.{arith, refl, subst, sym}
-use Rattle.net_core.specs.declared.network.Module.{Module}
+use Rattle.plan_terms.specs.Terms.{Module}
 use Rattle.module_choice.proofs.LeastCosts.{AreTakenSoFar, kind_carries, kind_known, taken_all, taken_next, taken_start}
 use Rattle.module_choice.proofs.tables.take_modules.Goals as goal
 

@@ -1,5 +1,5 @@
 use Rattle.std.proofs.Common.{◌∙◌}
-use Rattle.plan_terms.specs.Capacities.{capacities}
+use Rattle.plan_terms.specs.Terms.{capacities}
 use Rattle.module_choice.proofs.Pairs.{all_taken}
 use Rattle.module_choice.proofs.totals.all_capacities.Goals as goal
 

@@ -1,5 +1,5 @@
 use Rattle.std.proofs.Common.{◌≡◌, ◌*◌, ◌^◌, ◌≤◌, take}
-use Rattle.plan_terms.specs.Capacities.{modules_capacity}
+use Rattle.plan_terms.specs.Terms.{modules_capacity}
 use Rattle.module_choice.proofs.totals.modules_capacity.Given as goal
 
 -- the capacity so far

@@ -1,5 +1,5 @@
 use Rattle.std.proofs.Common.{◌≡◌, ◌*◌, ◌^◌, ◌≤◌, take}
-use Rattle.plan_terms.specs.Capacities.{total_cost}
+use Rattle.plan_terms.specs.Terms.{total_cost}
 use Rattle.module_choice.proofs.totals.total_cost.Given as goal
 
 -- the cost so far

@@ -1,5 +1,5 @@
 use Rattle.std.proofs.Common.{◌+◌, arith, subst, sym}
-use Rattle.net_core.specs.declared.network.Module.{Module}
+use Rattle.plan_terms.specs.Terms.{Module}
 use Rattle.module_prices.proofs.UnitCosts.{IsCheapestSoFar, cheapest_moves, cheapest_stays}
 use Rattle.module_prices.proofs.cheapest.cheapest.Goals as goal
 use Rattle.module_prices.proofs.cheapest.cheapest.Goals.{then-crossed, else-crossed}

@@ -1,8 +1,6 @@
 use Rattle.std.proofs.Common.{◌≡◌, ◌≤◌, ◌++◌, ◌∷◌, [], ◌∙◌, All, ap, arith, get_or, length, length-append, refl, subst, sym}
-use Rattle.std.proofs.lemmas.List.Elements.{All-push}
-use Rattle.std.proofs.lemmas.Option.{slice_get_read, slice_get_within}
-use Rattle.net_core.specs.declared.network.Link.{Link}
-use Rattle.plan_terms.specs.Prices.{IsPriceLength}
+use Rattle.net_core.proofs.Library.{All-push, slice_get_read, slice_get_within}
+use Rattle.plan_terms.specs.Terms.{Link, IsPriceLength}
 use Rattle.module_prices.proofs.UnitCosts.{priced_more}
 use Rattle.module_prices.proofs.lengths.lengths_of.Goals as goal
 

@@ -1,6 +1,5 @@
 use Rattle.std.proofs.Common.{◌≡◌, ◌≤◌, ◌<◌, ℕ, All, Some, get_or, length, slice_get}
-use Rattle.net_core.specs.declared.network.Link.{Link}
-use Rattle.plan_terms.specs.Prices.{IsPriceLength}
+use Rattle.plan_terms.specs.Terms.{Link, IsPriceLength}
 use Rattle.module_prices.proofs.lengths.lengths_of.Given as goal
 
 -- the links so far have their lengths

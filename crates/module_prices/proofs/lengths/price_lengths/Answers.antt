@@ -1,5 +1,5 @@
 use Rattle.std.proofs.Common.{◌∙◌, length, subst}
-use Rattle.std.proofs.lemmas.Result.{IfOk-weaker}
+use Rattle.net_core.proofs.Library.{IfOk-weaker}
 use Rattle.module_prices.specs.inner.Dearest.{ArePriced, IsDearestSoFar}
 use Rattle.module_prices.proofs.UnitCosts.{priced_lengths}
 use Rattle.module_prices.proofs.lengths.price_lengths.Goals as goal

@@ -1,5 +1,5 @@
 use Rattle.std.proofs.Common.{arith}
-use Rattle.plan_terms.proofs.Bounds.{bound_rounded}
+use Rattle.plan_terms.proofs.Lemmas.{bound_rounded}
 use Rattle.module_prices.proofs.Divisors.{rounded_up}
 use Rattle.module_prices.proofs.rounding.bound_of.Goals as goal
 

@@ -1,5 +1,5 @@
 use Rattle.std.proofs.Common.{subst}
-use Rattle.plan_terms.specs.Bounds.{IsGreatestDivisor, link_charges}
+use Rattle.plan_terms.specs.Terms.{IsGreatestDivisor, link_charges}
 use Rattle.module_prices.proofs.Divisors.{link_divisor_step}
 use Rattle.module_prices.proofs.rounding.cost_divisor.Goals as goal
 

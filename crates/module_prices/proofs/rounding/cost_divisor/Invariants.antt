@@ -1,5 +1,5 @@
 use Rattle.std.proofs.Common.{take}
-use Rattle.plan_terms.specs.Bounds.{IsGreatestDivisor, charges}
+use Rattle.plan_terms.specs.Terms.{IsGreatestDivisor, charges}
 use Rattle.module_prices.proofs.rounding.cost_divisor.Given as goal
 
 -- the divisor of what the links so far charge

@@ -1,6 +1,5 @@
 use Rattle.std.proofs.Common.{List, ◌<◌, arith, map, length, subst, ap, sym, ◌∙◌}
-use Rattle.net_core.specs.declared.network.Module.{Module}
-use Rattle.plan_terms.specs.Bounds.{IsGreatestDivisor}
+use Rattle.plan_terms.specs.Terms.{Module, IsGreatestDivisor}
 use Rattle.module_prices.proofs.Divisors.{link_divisor_none, link_divisor_whole}
 use Rattle.module_prices.proofs.rounding.link_divisor.Goals as goal
 

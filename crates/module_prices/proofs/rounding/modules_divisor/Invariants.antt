@@ -1,5 +1,5 @@
 use Rattle.std.proofs.Common.{map, take}
-use Rattle.plan_terms.specs.Bounds.{IsGreatestDivisor}
+use Rattle.plan_terms.specs.Terms.{IsGreatestDivisor}
 use Rattle.module_prices.proofs.rounding.modules_divisor.Given as goal
 
 -- the divisor of the costs so far

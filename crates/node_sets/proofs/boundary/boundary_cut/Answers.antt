@@ -1,8 +1,6 @@
 use Rattle.std.proofs.Common.{ap, cond, length, subst, ◌∙◌}
-use Rattle.std.proofs.lemmas.List.{length-map}
-use Rattle.net_core.specs.Views.{graph_of}
-use Rattle.net_core.specs.declared.network.Link.{Link}
-use Rattle.plan_terms.specs.Keeping.{Keeps}
+use Rattle.net_core.proofs.Library.{length-map}
+use Rattle.plan_terms.specs.Terms.{graph_of, Link, Keeps}
 use Rattle.metric_cut.specs.Cuts.{IsCutOf, MayKeepCut}
 use Rattle.node_sets.specs.Boundaries.{boundary_lengths, crosses_boundary}
 use Rattle.node_sets.specs.inner.Members.{is_in}

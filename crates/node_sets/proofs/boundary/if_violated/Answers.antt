@@ -1,5 +1,5 @@
 use Rattle.net_core.proofs.Networks.{few_links}
-use Rattle.net_core.specs.Views.{graph_of}
+use Rattle.plan_terms.specs.Terms.{graph_of}
 use Rattle.metric_cut.proofs.Keepings.{kept_have_bound}
 use Rattle.node_sets.specs.inner.Members.{is_in}
 use Rattle.node_sets.proofs.Boundaries.{boundary_priced}

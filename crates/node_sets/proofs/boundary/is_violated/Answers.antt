@@ -1,5 +1,5 @@
 use Rattle.std.proofs.Common.{rules}
-use Rattle.net_core.specs.Views.{graph_of}
+use Rattle.plan_terms.specs.Terms.{graph_of}
 use Rattle.node_sets.proofs.Boundaries.{violated_at}
 use Rattle.node_sets.proofs.boundary.is_violated.Goals as goal
 

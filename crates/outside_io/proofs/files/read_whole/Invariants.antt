@@ -1,5 +1,5 @@
 use Rattle.std.proofs.Common.{◌≤◌, length}
-use Rattle.std.specs.Io.KnownBytes.{Consumes}
+use Rattle.net_core.proofs.Library.{Consumes}
 use Rattle.outside_io.proofs.files.read_whole.Given as goal
 
 -- what stands in the buffer was read, and keeps the limit

@@ -1,5 +1,5 @@
 use Rattle.std.proofs.Common.{◌≤◌, length, take}
-use Rattle.std.specs.Io.KnownBytes.{Appends}
+use Rattle.net_core.proofs.Library.{Appends}
 use Rattle.outside_io.proofs.stream.write_whole.Given as goal
 
 -- the bytes up to here were taken

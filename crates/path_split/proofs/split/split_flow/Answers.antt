@@ -1,5 +1,5 @@
 use Rattle.std.proofs.Common.{◌≡◌, ap, subst, arith, length}
-use Rattle.net_core.specs.declared.ids.NodeId.{NodeId}
+use Rattle.plan_terms.specs.Terms.{NodeId}
 use Rattle.path_split.specs.Balances.{IsFirstUnbalanced}
 use Rattle.path_split.specs.inner.Legs.{IsFirstUneven}
 use Rattle.path_split.proofs.Ending.{even_balanced, first_unbalanced, legs_few, legs_known, match_none, match_some, whole_split}

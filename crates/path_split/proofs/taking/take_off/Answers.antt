@@ -1,5 +1,5 @@
 use Rattle.std.proofs.Common.{ap, sym, ◌∙◌}
-use Rattle.std.proofs.lemmas.List.{at_drop_more}
+use Rattle.net_core.proofs.Library.{at_drop_more}
 use Rattle.path_split.specs.inner.Trails.{less}
 use Rattle.path_split.proofs.Lessening.{enough_step}
 use Rattle.path_split.proofs.taking.take_off.Goals as goal

@@ -1,5 +1,5 @@
 use Rattle.std.proofs.Common.{length-set, sym, ◌∙◌, arith}
-use Rattle.std.proofs.lemmas.Bool.{false≢true}
+use Rattle.net_core.proofs.Library.{false≢true}
 use Rattle.path_split.proofs.Trailing.{flow_leaves, marks_push, walk_push}
 use Rattle.path_split.proofs.walk.find_walk.Goals as goal
 

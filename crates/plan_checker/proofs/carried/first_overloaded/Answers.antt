@@ -1,5 +1,5 @@
 use Rattle.std.proofs.Common.{subst, sym}
-use Rattle.plan_terms.specs.Flows.{load}
+use Rattle.plan_terms.specs.Terms.{load}
 use Rattle.module_choice.specs.inner.Routes.{weight}
 use Rattle.plan_checker.specs.inner.Mixed.{AreMixed}
 use Rattle.plan_checker.proofs.FlowSums.{mixed_same}

@@ -1,5 +1,5 @@
 use Rattle.std.proofs.Common.{subst, sym}
-use Rattle.plan_terms.specs.Flows.{sent}
+use Rattle.plan_terms.specs.Terms.{sent}
 use Rattle.plan_checker.specs.inner.Mixed.{AreMixed}
 use Rattle.plan_checker.proofs.carried.first_uncarried.Goals as goal
 

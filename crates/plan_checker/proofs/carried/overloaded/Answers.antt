@@ -1,7 +1,5 @@
 use Rattle.std.proofs.Common.{ℕ, ◌≡◌, ◌*◌, ◌<◌, List, subst, sym, arith}
-use Rattle.net_core.specs.Views.{case_of}
-use Rattle.net_core.specs.declared.plan.Routing.{Routing}
-use Rattle.plan_terms.specs.Flows.{load}
+use Rattle.plan_terms.specs.Terms.{case_of, Routing, load}
 use Rattle.plan_checker.specs.Carried.{IsOverloaded}
 use Rattle.plan_checker.specs.Places.{HoldsAt}
 use Rattle.module_choice.specs.inner.Routes.{weight}

@@ -1,8 +1,5 @@
 use Rattle.std.proofs.Common.{ℕ, ◌≢◌, ◌*◌, List, subst, arith}
-use Rattle.net_core.specs.Views.{case_of}
-use Rattle.net_core.specs.declared.demand.Demand.{Demand}
-use Rattle.net_core.specs.declared.plan.Routing.{Routing}
-use Rattle.plan_terms.specs.Flows.{sent}
+use Rattle.plan_terms.specs.Terms.{case_of, Demand, Routing, sent}
 use Rattle.plan_checker.specs.Carried.{IsUncarried}
 use Rattle.plan_checker.specs.Places.{HoldsAt, IsLeastPlace}
 use Rattle.plan_checker.specs.inner.Tests.{IsFirstPlace}

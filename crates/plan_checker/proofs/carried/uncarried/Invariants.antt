@@ -1,5 +1,5 @@
 use Rattle.std.proofs.Common.{ℕ, ◌<◌}
-use Rattle.net_core.specs.Views.{case_of}
+use Rattle.plan_terms.specs.Terms.{case_of}
 use Rattle.plan_checker.specs.Carried.{IsUncarried}
 use Rattle.plan_checker.proofs.carried.uncarried.Given as goal
 

@@ -1,10 +1,6 @@
 use Rattle.std.proofs.Common.{List, All, OnOk, ◌<◌, ◌^◌, ◌∙◌, subst}
-use Rattle.net_core.specs.Cases.{graph_in}
-use Rattle.net_core.specs.Graphs.{Joins}
-use Rattle.net_core.specs.Views.{case_of}
-use Rattle.plan_terms.specs.Certificates.{AreKept, IsRight, given, raw_value}
-use Rattle.plan_terms.specs.Bounds.{IsBound, IsLowest}
-use Rattle.plan_types.specs.Plans.{lines_of_certificate}
+use Rattle.plan_terms.specs.Terms.{graph_in, Joins, case_of, AreKept, IsRight, given, raw_value, IsBound, IsLowest}
+use Rattle.plan_types.specs.Terms.{lines_of_certificate}
 use Rattle.plan_types.specs.declared.certificate.CertLine.{CertLine}
 use Rattle.plan_checker.proofs.Certifying.{certified_by}
 use Rattle.plan_checker.proofs.certificate.check_certificate.Goals as goal

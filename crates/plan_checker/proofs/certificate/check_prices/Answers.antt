@@ -1,6 +1,6 @@
 use Rattle.std.proofs.Common.{◌≡◌, ◌∙◌, ℕ, List, Option, None, Some, subst}
-use Rattle.net_core.specs.declared.network.Link.{Link}
-use Rattle.plan_types.specs.Plans.{lines_of_certificate}
+use Rattle.plan_terms.specs.Terms.{Link}
+use Rattle.plan_types.specs.Terms.{lines_of_certificate}
 use Rattle.plan_types.specs.declared.certificate.CertLine.{CertLine}
 use Rattle.plan_checker.specs.Certified.{IsOverpriced}
 use Rattle.plan_checker.specs.inner.Lines.{certified}

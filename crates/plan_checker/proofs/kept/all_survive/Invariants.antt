@@ -1,6 +1,5 @@
 use Rattle.std.proofs.Common.{ℕ, ◌<◌, ◌≢◌, get_or}
-use Rattle.net_core.specs.Graphs.{Survives}
-use Rattle.net_core.specs.Views.{graph_of}
+use Rattle.plan_terms.specs.Terms.{Survives, graph_of}
 use Rattle.plan_checker.proofs.kept.all_survive.Given as goal
 
 -- the links so far survive, where their length is positive

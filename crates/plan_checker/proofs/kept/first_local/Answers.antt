@@ -1,8 +1,6 @@
 use Rattle.std.proofs.Common.{refl}
-use Rattle.std.proofs.lemmas.Bool.{false≢true}
-use Rattle.net_core.specs.Cases.{graph_in}
-use Rattle.net_core.specs.Views.{case_of}
-use Rattle.plan_terms.specs.Certificates.{AreKept}
+use Rattle.net_core.proofs.Library.{false≢true}
+use Rattle.plan_terms.specs.Terms.{graph_in, case_of, AreKept}
 use Rattle.plan_types.specs.declared.certificate.CertLine.{CertLine}
 use Rattle.plan_checker.specs.Certified.{IsLocalCut}
 use Rattle.plan_checker.proofs.Places.{all_held, each_more, none_at_all, none_more}

@@ -1,7 +1,5 @@
 use Rattle.std.proofs.Common.{ℕ, ◌<◌}
-use Rattle.net_core.specs.Cases.{graph_in}
-use Rattle.net_core.specs.Views.{case_of}
-use Rattle.plan_terms.specs.Certificates.{AreKept}
+use Rattle.plan_terms.specs.Terms.{graph_in, case_of, AreKept}
 use Rattle.plan_checker.specs.Certified.{IsLocalCut}
 use Rattle.plan_checker.specs.Places.{HoldsAt}
 use Rattle.plan_checker.proofs.kept.first_local.Given as goal

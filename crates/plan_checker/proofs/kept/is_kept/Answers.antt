@@ -1,6 +1,6 @@
 use Rattle.std.proofs.Common.{refl, eqb-true}
 use Rattle.std.proofs.lemmas.Bool.{eq-eqb}
-use Rattle.net_core.specs.Views.{graph_of}
+use Rattle.plan_terms.specs.Terms.{graph_of}
 use Rattle.plan_checker.proofs.KeptLengths.{kept_by}
 use Rattle.plan_checker.proofs.kept.is_kept.Goals as goal
 

@@ -1,6 +1,5 @@
 use Rattle.std.proofs.Common.{refl}
-use Rattle.net_core.specs.Graphs.{Joins}
-use Rattle.net_core.specs.Views.{graph_of}
+use Rattle.plan_terms.specs.Terms.{Joins, graph_of}
 use Rattle.plan_checker.specs.Carried.{FollowsPath}
 use Rattle.plan_checker.proofs.Places.{all_held, each_more, none_at_all, none_more}
 use Rattle.plan_checker.proofs.paths.first_astray.Goals as goal

@@ -1,5 +1,5 @@
 use Rattle.std.proofs.Common.{subst, sym}
-use Rattle.net_core.specs.Views.{case, case_of}
+use Rattle.plan_terms.specs.Terms.{case, case_of}
 use Rattle.plan_checker.specs.PlanFindings.{HoldsDemandsDiffer, own_findings}
 use Rattle.plan_checker.specs.inner.Tests.{TellFirst}
 use Rattle.plan_checker.proofs.Firsts.{told_later}

@@ -1,9 +1,6 @@
 use Rattle.std.proofs.Common.{List, Some, ◌≡◌, slice_get, subst, sym}
-use Rattle.net_core.specs.Views.{case_of}
-use Rattle.net_core.specs.declared.plan.Routing.{Routing}
-use Rattle.plan_report.specs.KnownNames.{known_to}
-use Rattle.plan_report.specs.Forms.{AreRoutingsInForm}
-use Rattle.plan_terms.specs.Capacities.{capacities}
+use Rattle.plan_terms.specs.Terms.{case_of, Routing, capacities}
+use Rattle.plan_report.specs.Terms.{known_to, AreRoutingsInForm}
 use Rattle.module_choice.proofs.Pairs.{capacities_long}
 use Rattle.plan_checker.proofs.Carrying.{carries_by}
 use Rattle.plan_checker.proofs.Firsts.{on_ok}

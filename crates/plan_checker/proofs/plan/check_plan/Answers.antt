@@ -1,6 +1,6 @@
-use Rattle.net_core.specs.Views.{case}
-use Rattle.plan_terms.proofs.Duality.{weak_duality}
-use Rattle.plan_types.specs.Plans.{lines_of_certificate}
+use Rattle.plan_terms.specs.Terms.{case}
+use Rattle.plan_terms.proofs.Lemmas.{weak_duality}
+use Rattle.plan_types.specs.Terms.{lines_of_certificate}
 use Rattle.plan_checker.proofs.plan.check_plan.Goals as goal
 
 pub returns-in-Ok-clause-bound : goal.returns-in-Ok-clause-bound

@@ -1,6 +1,6 @@
 use Rattle.std.proofs.Common.{◌*◌, ◌<◌, refl}
-use Rattle.std.proofs.lemmas.Bool.{false≢true}
-use Rattle.net_core.specs.declared.network.Module.{Module}
+use Rattle.net_core.proofs.Library.{false≢true}
+use Rattle.plan_terms.specs.Terms.{Module}
 use Rattle.plan_checker.proofs.Places.{holds_read, none_at_all, none_read}
 use Rattle.plan_checker.proofs.prices.first_overpriced.Goals as goal
 

@@ -1,7 +1,5 @@
 use Rattle.std.proofs.Common.{ℕ, ◌*◌, ◌<◌, List, get_or, subst, arith}
-use Rattle.net_core.specs.declared.network.Link.{Link}
-use Rattle.net_core.specs.declared.network.Module.{Module}
-use Rattle.plan_terms.specs.Certificates.{price}
+use Rattle.plan_terms.specs.Terms.{Link, Module, price}
 use Rattle.plan_checker.specs.Certified.{IsOverpriced}
 use Rattle.plan_checker.specs.Places.{HoldsAt, IsLeastPlace}
 use Rattle.plan_checker.specs.inner.Lines.{certified}

@@ -1,5 +1,5 @@
 use Rattle.std.proofs.Common.{◌≡◌, ◌*◌, ◌^◌, ◌≤◌, take}
-use Rattle.plan_terms.specs.Certificates.{price}
+use Rattle.plan_terms.specs.Terms.{price}
 use Rattle.plan_checker.specs.inner.Lines.{certified}
 use Rattle.plan_checker.proofs.prices.price_of.Given as goal
 

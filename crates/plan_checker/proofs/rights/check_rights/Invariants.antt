@@ -1,8 +1,5 @@
 use Rattle.std.proofs.Common.{ℕ, ◌<◌}
-use Rattle.net_core.specs.Cases.{graph_in}
-use Rattle.net_core.specs.Graphs.{Joins}
-use Rattle.net_core.specs.Views.{case_of}
-use Rattle.plan_terms.specs.Certificates.{IsRight}
+use Rattle.plan_terms.specs.Terms.{graph_in, Joins, case_of, IsRight}
 use Rattle.plan_checker.specs.Certified.{HasStaleRight}
 use Rattle.plan_checker.specs.Places.{HoldsAt}
 use Rattle.plan_checker.proofs.rights.check_rights.Given as goal

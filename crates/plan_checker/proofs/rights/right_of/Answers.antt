@@ -1,8 +1,5 @@
 use Rattle.std.proofs.Common.{ℕ, List, Err, ap, ◌∙◌, subst, sym}
-use Rattle.net_core.specs.Cases.{graph_in}
-use Rattle.net_core.specs.Graphs.{Joins}
-use Rattle.net_core.specs.Views.{case_of}
-use Rattle.plan_terms.specs.Certificates.{AreKept, IsRight}
+use Rattle.plan_terms.specs.Terms.{graph_in, Joins, case_of, AreKept, IsRight}
 use Rattle.plan_checker.proofs.KeptLengths.{keeps_same, kept_not_zero}
 use Rattle.plan_checker.proofs.rights.right_of.Goals as goal
 

@@ -1,11 +1,6 @@
 use Rattle.std.proofs.Common.{ℕ, All, List, get_or, subst, arith}
-use Rattle.std.proofs.lemmas.Option.{slice_get_within}
-use Rattle.net_core.specs.Cases.{graph_in}
-use Rattle.net_core.specs.Graphs.{Joins}
-use Rattle.net_core.specs.Views.{case_of}
-use Rattle.net_core.specs.declared.demand.Demand.{Demand}
-use Rattle.net_core.specs.declared.plan.Flow.{Flow}
-use Rattle.net_core.specs.declared.plan.Routing.{Routing}
+use Rattle.net_core.proofs.Library.{slice_get_within}
+use Rattle.plan_terms.specs.Terms.{graph_in, Joins, case_of, Demand, Flow, Routing}
 use Rattle.plan_checker.specs.Carried.{FollowsPath, HasBadPath}
 use Rattle.plan_checker.specs.Places.{HoldsAt, IsLeastPlace}
 use Rattle.plan_checker.proofs.Places.{each_read, groups_more, held_at, held_read, held_within, holds_read}

@@ -1,7 +1,5 @@
 use Rattle.std.proofs.Common.{ℕ, ◌<◌, All}
-use Rattle.net_core.specs.Cases.{graph_in}
-use Rattle.net_core.specs.Graphs.{Joins}
-use Rattle.net_core.specs.Views.{case_of}
+use Rattle.plan_terms.specs.Terms.{graph_in, Joins, case_of}
 use Rattle.plan_checker.specs.Carried.{FollowsPath, HasBadPath}
 use Rattle.plan_checker.specs.Places.{HoldsAt}
 use Rattle.plan_checker.proofs.routes.first_bad_path.Given as goal

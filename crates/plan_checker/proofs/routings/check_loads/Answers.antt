@@ -1,5 +1,5 @@
 use Rattle.std.proofs.Common.{ℕ, List, Option, None, Some, ◌≡◌, ◌∙◌, ap, length, subst}
-use Rattle.net_core.specs.declared.plan.Routing.{Routing}
+use Rattle.plan_terms.specs.Terms.{Routing}
 use Rattle.plan_checker.specs.Carried.{IsOverloaded}
 use Rattle.plan_checker.specs.inner.Tests.{IsFirstPair}
 use Rattle.plan_checker.specs.declared.place.Place.{Place}

@@ -1,6 +1,6 @@
 use Rattle.std.proofs.Common.{List, [], ◌∷◌, ℕ, ◌+◌, ◌<◌, ◌^◌, All, get_or, subst, sym, arith}
-use Rattle.std.proofs.lemmas.List.Elements.{All-append, All-from_recursion}
-use Rattle.net_core.specs.declared.network.Link.{Link}
+use Rattle.net_core.proofs.Library.{All-append, All-from_recursion}
+use Rattle.plan_terms.specs.Terms.{Link}
 use Rattle.plan_checker.specs.Shares.{IsShareOf}
 use Rattle.plan_checker.proofs.SharesKept.{GivesBefore, share_all, share_more}
 use Rattle.plan_checker.proofs.share.whole_share.Goals as goal

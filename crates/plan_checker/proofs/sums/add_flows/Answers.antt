@@ -1,5 +1,5 @@
 use Rattle.std.proofs.Common.{take}
-use Rattle.plan_terms.specs.Flows.{sent}
+use Rattle.plan_terms.specs.Terms.{sent}
 use Rattle.plan_checker.proofs.FlowSums.{mixed_same, sent_more}
 use Rattle.plan_checker.proofs.sums.add_flows.Goals as goal
 

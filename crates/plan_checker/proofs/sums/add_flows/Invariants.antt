@@ -1,5 +1,5 @@
 use Rattle.std.proofs.Common.{◌<◌, All, take}
-use Rattle.plan_terms.specs.Flows.{sent}
+use Rattle.plan_terms.specs.Terms.{sent}
 use Rattle.plan_checker.specs.inner.Mixed.{AreMixed}
 use Rattle.plan_checker.proofs.sums.add_flows.Given as goal
 

@@ -1,6 +1,6 @@
 use Rattle.std.proofs.Common.{take, subst, ◌+◌, ◌*◌}
 use Rattle.std.proofs.lemmas.List.{take_all}
-use Rattle.net_core.specs.declared.ids.LinkId.{LinkId}
+use Rattle.plan_terms.specs.Terms.{LinkId}
 use Rattle.module_choice.specs.inner.Routes.{times}
 use Rattle.plan_checker.specs.inner.Mixed.{AreMixed}
 use Rattle.plan_checker.proofs.FlowSums.{mixed_same, times_more}

@@ -1,6 +1,6 @@
 use Rattle.std.proofs.Common.{◌≢◌, ◌*◌, refl, arith}
-use Rattle.std.proofs.lemmas.Bool.{false≢true}
-use Rattle.net_core.specs.declared.demand.Demand.{Demand}
+use Rattle.net_core.proofs.Library.{false≢true}
+use Rattle.plan_terms.specs.Terms.{Demand}
 use Rattle.plan_checker.proofs.Places.{holds_read, none_at_all, none_read}
 use Rattle.plan_checker.proofs.sums.first_other.Goals as goal
 

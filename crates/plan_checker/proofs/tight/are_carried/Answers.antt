@@ -1,6 +1,6 @@
 use Rattle.std.proofs.Common.{Option, IfNone, refl, subst}
-use Rattle.std.proofs.lemmas.Bool.{false≢true}
-use Rattle.net_core.specs.Views.{case_of}
+use Rattle.net_core.proofs.Library.{false≢true}
+use Rattle.plan_terms.specs.Terms.{case_of}
 use Rattle.plan_checker.specs.Carried.{IsOverloaded, IsUncarried}
 use Rattle.plan_checker.specs.inner.Routes.{FollowPaths}
 use Rattle.plan_checker.specs.declared.place.Place.{Place}

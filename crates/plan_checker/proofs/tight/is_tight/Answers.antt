@@ -1,8 +1,6 @@
 use Rattle.std.proofs.Common.{List, ℕ, ◌↔◌, IfOk, IsTrue, ◌∙◌, refl, subst}
-use Rattle.std.proofs.lemmas.Bool.{false≢true}
-use Rattle.net_core.specs.Views.{case_of}
-use Rattle.net_core.specs.declared.network.Link.{Link}
-use Rattle.net_core.specs.declared.plan.Routing.{Routing}
+use Rattle.net_core.proofs.Library.{false≢true}
+use Rattle.plan_terms.specs.Terms.{case_of, Link, Routing}
 use Rattle.plan_checker.specs.Shares.{AreCarried, GivesShare}
 use Rattle.plan_checker.proofs.SharesKept.{not_tight, tight_by}
 use Rattle.plan_checker.proofs.tight.is_tight.Goals as goal

@@ -1,5 +1,5 @@
 use Rattle.std.proofs.Common.{◌≡◌, ◌-◌, ◌^◌, min, take}
-use Rattle.plan_terms.specs.Certificates.{asked}
+use Rattle.plan_terms.specs.Terms.{asked}
 use Rattle.plan_checker.specs.inner.Lines.{certified}
 use Rattle.plan_checker.proofs.worth.asked_of.Given as goal
 

@@ -1,5 +1,5 @@
 use Rattle.std.proofs.Common.{◌≡◌, ◌-◌, ◌^◌, min, take}
-use Rattle.plan_terms.specs.Certificates.{given}
+use Rattle.plan_terms.specs.Terms.{given}
 use Rattle.plan_checker.specs.inner.Lines.{certified}
 use Rattle.plan_checker.proofs.worth.given_of.Given as goal
 

@@ -1,7 +1,6 @@
 use Rattle.std.proofs.Common.{◌∷◌, take, flat_map}
-use Rattle.text_kit.specs.Items.{Opening}
+use Rattle.text_kit.specs.Terms.{Opening, AddsItems}
 use Rattle.plan_report.specs.Items.{master_column_items}
-use Rattle.text_kit.specs.Written.{AddsItems}
 use Rattle.plan_report.proofs.evidence.put_master_basis.Given as goal
 
 abbrev pub invariant-loop-column : goal.invariant-loop-column

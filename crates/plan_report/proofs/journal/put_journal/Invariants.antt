@@ -1,7 +1,6 @@
 use Rattle.std.proofs.Common.{◌∷◌, take, flat_map}
-use Rattle.text_kit.specs.Items.{Opening}
+use Rattle.text_kit.specs.Terms.{Opening, AddsItems}
 use Rattle.plan_report.specs.Items.{entry_items, numbered_from}
-use Rattle.text_kit.specs.Written.{AddsItems}
 use Rattle.plan_report.proofs.journal.put_journal.Given as goal
 
 abbrev pub invariant-loop-i : goal.invariant-loop-i

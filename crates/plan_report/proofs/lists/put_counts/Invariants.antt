@@ -1,6 +1,5 @@
 use Rattle.std.proofs.Common.{◌∷◌, [], take, flat_map}
-use Rattle.text_kit.specs.Items.{Whole, Opening}
-use Rattle.text_kit.specs.Written.{AddsItems}
+use Rattle.text_kit.specs.Terms.{Whole, Opening, AddsItems}
 use Rattle.plan_report.proofs.lists.put_counts.Given as goal
 
 abbrev pub invariant-loop-n : goal.invariant-loop-n

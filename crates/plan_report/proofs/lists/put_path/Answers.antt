@@ -1,6 +1,6 @@
 use Rattle.std.proofs.Common.{◌∷◌, [], arith}
-use Rattle.text_kit.specs.Items.{Verbatim, Opening}
-use Rattle.text_kit.proofs.Adding.{adds_list, adds_more}
+use Rattle.text_kit.specs.Terms.{Verbatim, Opening}
+use Rattle.text_kit.proofs.Lemmas.{adds_list, adds_more}
 use Rattle.plan_report.specs.Names.{link_name}
 use Rattle.plan_report.proofs.lists.put_path.Goals as goal
 

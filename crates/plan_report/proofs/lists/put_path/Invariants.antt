@@ -1,6 +1,5 @@
 use Rattle.std.proofs.Common.{◌∷◌, [], take, flat_map}
-use Rattle.text_kit.specs.Items.{Verbatim, Opening}
-use Rattle.text_kit.specs.Written.{AddsItems}
+use Rattle.text_kit.specs.Terms.{Verbatim, Opening, AddsItems}
 use Rattle.plan_report.specs.Names.{link_name}
 use Rattle.plan_report.proofs.lists.put_path.Given as goal
 

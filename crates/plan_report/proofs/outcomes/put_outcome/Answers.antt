@@ -1,4 +1,4 @@
-use Rattle.text_kit.proofs.Adding.{on_ok, adds_enclosed, adds_then}
+use Rattle.text_kit.proofs.Lemmas.{on_ok, adds_enclosed, adds_then}
 use Rattle.plan_report.proofs.outcomes.put_outcome.Goals as goal
 
 pub returns-in_ok-put_plan-in-Planned : goal.returns-in_ok-put_plan-in-Planned

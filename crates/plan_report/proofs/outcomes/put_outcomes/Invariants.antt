@@ -1,8 +1,7 @@
 use Rattle.std.proofs.Common.{◌∷◌, take, flat_map}
-use Rattle.text_kit.specs.Items.{Opening}
+use Rattle.text_kit.specs.Terms.{Opening, AddsItems}
 use Rattle.plan_report.specs.Items.{outcome_items}
 use Rattle.plan_report.specs.inner.Naming.{known_in}
-use Rattle.text_kit.specs.Written.{AddsItems}
 use Rattle.plan_report.proofs.outcomes.put_outcomes.Given as goal
 
 abbrev pub invariant-loop-outcome : goal.invariant-loop-outcome

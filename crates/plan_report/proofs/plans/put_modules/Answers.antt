@@ -1,7 +1,7 @@
 use Rattle.std.proofs.Common.{arith, zip}
-use Rattle.std.proofs.lemmas.Slice.Zip.{length-zip}
+use Rattle.net_core.proofs.Library.{length-zip}
 use Rattle.plan_report.specs.Items.{modules_items}
-use Rattle.text_kit.proofs.Adding.{adds_list}
+use Rattle.text_kit.proofs.Lemmas.{adds_list}
 use Rattle.plan_report.proofs.Putting.{adds_pair}
 use Rattle.plan_report.proofs.plans.put_modules.Goals as goal
 

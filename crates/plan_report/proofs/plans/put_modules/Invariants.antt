@@ -1,7 +1,6 @@
 use Rattle.std.proofs.Common.{◌∷◌, take, flat_map, zip}
-use Rattle.text_kit.specs.Items.{Opening}
+use Rattle.text_kit.specs.Terms.{Opening, AddsItems}
 use Rattle.plan_report.specs.Items.{modules_items}
-use Rattle.text_kit.specs.Written.{AddsItems}
 use Rattle.plan_report.proofs.plans.put_modules.Given as goal
 
 abbrev pub invariant-loop-e : goal.invariant-loop-e

@@ -1,6 +1,5 @@
-use Rattle.std.proofs.Math.Logic.{∥∥₁_elim, ∥∥₁_map}
-use Rattle.std.proofs.Props.{props}
-use Rattle.net_core.specs.Views.{case_of}
+use Rattle.net_core.proofs.Library.{∥∥₁_elim, ∥∥₁_map, props}
+use Rattle.plan_terms.specs.Terms.{case_of}
 use Rattle.plan_rounds.proofs.Listing.{listed_later, listed_take, takes_put}
 use Rattle.plan_rounds.proofs.OwnPool.{opening_taken}
 use Rattle.plan_rounds.proofs.Results.{on_ok}

@@ -1,9 +1,6 @@
 use Rattle.std.proofs.Common.{◌+◌, length, get_or, arith}
-use Rattle.std.proofs.Math.Logic.{∥∥₁_elim, ∥∥₁_map}
-use Rattle.std.proofs.Props.{props}
-use Rattle.std.proofs.lemmas.Option.{slice_get-get_or}
-use Rattle.net_core.specs.Cases.{graph_in}
-use Rattle.net_core.specs.Views.{case_of}
+use Rattle.net_core.proofs.Library.{∥∥₁_elim, ∥∥₁_map, props, slice_get-get_or}
+use Rattle.plan_terms.specs.Terms.{graph_in, case_of}
 use Rattle.plan_rounds.proofs.Undividing.{flows_fit, states_routed}
 use Rattle.plan_rounds.proofs.fractional.carried.Goals as goal
 

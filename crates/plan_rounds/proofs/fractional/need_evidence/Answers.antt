@@ -1,6 +1,5 @@
 use Rattle.std.proofs.Common.{refl}
-use Rattle.net_core.specs.Cases.{graph_in}
-use Rattle.net_core.specs.Views.{case_of}
+use Rattle.plan_terms.specs.Terms.{graph_in, case_of}
 use Rattle.plan_rounds.proofs.Undividing.{need_wide}
 use Rattle.plan_rounds.proofs.fractional.need_evidence.Goals as goal
 

@@ -1,7 +1,6 @@
 use Rattle.std.proofs.Common.{Option, IfSome, subst}
-use Rattle.std.proofs.Math.Logic.{∥∥₁_map}
-use Rattle.net_core.specs.declared.columns.Evidence.{Evidence}
-use Rattle.net_core.specs.Views.{case_of}
+use Rattle.net_core.proofs.Library.{∥∥₁_map}
+use Rattle.plan_terms.specs.Terms.{Evidence, case_of}
 use Rattle.plan_rounds.specs.inner.Answered.{IsEvidenceOfState}
 use Rattle.plan_rounds.proofs.Undividing.{whole_evidence}
 use Rattle.plan_rounds.proofs.fractional.quality_at.Goals as goal

@@ -1,5 +1,4 @@
-use Rattle.net_core.specs.Cases.{graph_in}
-use Rattle.net_core.specs.Views.{case_of}
+use Rattle.plan_terms.specs.Terms.{graph_in, case_of}
 use Rattle.plan_rounds.proofs.Opening.{state_few, state_opened}
 use Rattle.plan_rounds.proofs.Results.{on_ok}
 use Rattle.plan_rounds.proofs.Seeing.{goes_none}

@@ -1,7 +1,6 @@
 use Rattle.std.proofs.Common.{arith, subst}
-use Rattle.std.proofs.Math.Logic.{∥∥₁_elim, ∥∥₁_map}
-use Rattle.std.proofs.Props.{props}
-use Rattle.net_core.specs.Views.{case_of}
+use Rattle.net_core.proofs.Library.{∥∥₁_elim, ∥∥₁_map, props}
+use Rattle.plan_terms.specs.Terms.{case_of}
 use Rattle.plan_law.proofs.Begun.{opened_none}
 use Rattle.plan_rounds.specs.inner.Listing.{AreFirstSpots}
 use Rattle.plan_rounds.proofs.Listing.{pool_listed}

@@ -1,5 +1,5 @@
 use Rattle.std.proofs.Common.{◌+◌, ◌*◌, ◌≤◌, [], length}
-use Rattle.net_core.specs.Views.{case_of}
+use Rattle.plan_terms.specs.Terms.{case_of}
 use Rattle.plan_law.specs.inner.Openings.{IsOpenedTo}
 use Rattle.plan_rounds.specs.inner.Alone.{PoolsOpening}
 use Rattle.plan_rounds.specs.inner.Listing.{AreListed, GoesOn}

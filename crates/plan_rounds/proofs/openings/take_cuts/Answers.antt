@@ -1,9 +1,6 @@
-use Rattle.std.proofs.Math.Logic.{∥∥₁_elim, ∥∥₁_map}
-use Rattle.std.proofs.Props.{props}
+use Rattle.net_core.proofs.Library.{∥∥₁_elim, ∥∥₁_map, props, All-tail}
 use Rattle.std.proofs.Common.{All, List, arith, subst, sym}
-use Rattle.std.proofs.lemmas.List.Elements.{All-tail}
-use Rattle.net_core.specs.Cases.{graph_in}
-use Rattle.net_core.specs.Views.{case_of}
+use Rattle.plan_terms.specs.Terms.{graph_in, case_of}
 use Rattle.metric_cut.specs.Cuts.{IsCutOf}
 use Rattle.metric_cut.specs.declared.cut.Cut.{Cut}
 use Rattle.plan_rounds.specs.inner.Listing.{TakesCuts}

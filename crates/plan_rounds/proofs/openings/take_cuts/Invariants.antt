@@ -1,7 +1,5 @@
 use Rattle.std.proofs.Common.{List, All, length}
-use Rattle.net_core.specs.declared.plan.CutLine.{CutLine}
-use Rattle.net_core.specs.Cases.{graph_in}
-use Rattle.net_core.specs.Views.{case_of}
+use Rattle.plan_terms.specs.Terms.{CutLine, graph_in, case_of}
 use Rattle.metric_cut.specs.Cuts.{IsCutOf}
 use Rattle.plan_rounds.specs.inner.Alone.{PoolsOpening}
 use Rattle.plan_rounds.specs.inner.Listing.{AreListed, GoesOn, TakesCuts}

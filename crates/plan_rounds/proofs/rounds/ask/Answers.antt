@@ -1,7 +1,6 @@
 use Rattle.std.proofs.Common.{◌+◌, ◌≤◌, None, arith, length}
-use Rattle.std.proofs.Math.Logic.{∥∥₁_elim, ∥∥₁_map}
-use Rattle.std.proofs.Props.{props}
-use Rattle.net_core.specs.Views.{case_of}
+use Rattle.net_core.proofs.Library.{∥∥₁_elim, ∥∥₁_map, props}
+use Rattle.plan_terms.specs.Terms.{case_of}
 use Rattle.plan_rounds.proofs.Listing.{listed_later}
 use Rattle.separator.specs.Separators.{cuts_answered}
 use Rattle.plan_rounds.proofs.OwnTurns.{after_told, judged_pool}

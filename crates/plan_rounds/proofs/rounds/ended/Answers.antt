@@ -1,5 +1,5 @@
 use Rattle.std.proofs.Common.{refl}
-use Rattle.std.proofs.Math.Logic.{∥∥₁_map}
+use Rattle.net_core.proofs.Library.{∥∥₁_map}
 use Rattle.plan_rounds.proofs.rounds.ended.Goals as goal
 
 pub returns : goal.returns

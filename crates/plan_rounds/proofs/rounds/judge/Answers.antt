@@ -1,5 +1,5 @@
 use Rattle.std.proofs.Common.{arith, inl, inr, refl}
-use Rattle.std.proofs.Math.Logic.{∥∥₁_map}
+use Rattle.net_core.proofs.Library.{∥∥₁_map}
 use Rattle.plan_rounds.proofs.Results.{if_ok}
 use Rattle.plan_rounds.proofs.rounds.judge.Goals as goal
 

@@ -1,9 +1,7 @@
 use Rattle.std.proofs.Common.{◌≡◌, ◌+◌, ◌≤◌, List, [], ap, arith, length, map, subst, sym, ◌∙◌}
-use Rattle.std.proofs.Math.Logic.{∥∥₁_elim}
-use Rattle.std.proofs.Props.{props}
-use Rattle.net_core.specs.declared.plan.CutLine.{CutLine}
-use Rattle.net_core.specs.Views.{case_of}
-use Rattle.cut_pool.specs.Histories.{cut_of_line, cuts_of}
+use Rattle.net_core.proofs.Library.{∥∥₁_elim, props}
+use Rattle.plan_terms.specs.Terms.{CutLine, case_of}
+use Rattle.cut_pool.specs.Terms.{cut_of_line, cuts_of}
 use Rattle.plan_law.specs.WorkedLists.{IsBeginning}
 use Rattle.separator.specs.Separators.{IsPartOf, SeesMore}
 use Rattle.plan_rounds.specs.WorkedRounds.{IsPoolOf}

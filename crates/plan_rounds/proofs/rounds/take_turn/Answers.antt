@@ -1,6 +1,6 @@
 use Rattle.std.proofs.Common.{Err, subst, sym}
-use Rattle.std.proofs.Math.Logic.{∥∥₁_map}
-use Rattle.net_core.specs.Views.{case_of}
+use Rattle.net_core.proofs.Library.{∥∥₁_map}
+use Rattle.plan_terms.specs.Terms.{case_of}
 use Rattle.master_bound.specs.Answers.{IsMasterAnswer}
 use Rattle.master_bound.specs.declared.answer.MasterFault.{MasterFault}
 use Rattle.plan_rounds.specs.inner.Alone.{IsPoolAfterTurn}

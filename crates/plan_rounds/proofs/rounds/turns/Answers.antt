@@ -1,8 +1,6 @@
 use Rattle.std.proofs.Common.{◌≡◌, ◌-◌, ◌≤◌, List, ap, arith, length, subst, sym, ◌∙◌}
-use Rattle.std.proofs.Math.Logic.{∥∥₁_elim, ∥∥₁_map}
-use Rattle.std.proofs.Props.{props}
-use Rattle.net_core.specs.declared.plan.CutLine.{CutLine}
-use Rattle.net_core.specs.Views.{case_of}
+use Rattle.net_core.proofs.Library.{∥∥₁_elim, ∥∥₁_map, props}
+use Rattle.plan_terms.specs.Terms.{CutLine, case_of}
 use Rattle.plan_rounds.specs.WorkedRounds.{EndsBy}
 use Rattle.plan_rounds.specs.inner.Alone.{PoolsTurn}
 use Rattle.plan_rounds.specs.inner.Turns.{IsTurnOf}

@@ -1,9 +1,7 @@
 use Rattle.std.proofs.Common.{◌≡◌, ◌+◌, ◌-◌, ◌≤◌, List, [], All, length, map}
-use Rattle.net_core.specs.declared.plan.CutLine.{CutLine}
-use Rattle.net_core.specs.Views.{case_of}
-use Rattle.plan_terms.specs.Certificates.{IsCut}
+use Rattle.plan_terms.specs.Terms.{CutLine, case_of, IsCut}
 use Rattle.plan_law.specs.WorkedLists.{IsBeginning}
-use Rattle.cut_pool.specs.Histories.{cut_of_line, cuts_of}
+use Rattle.cut_pool.specs.Terms.{cut_of_line, cuts_of}
 use Rattle.plan_rounds.specs.inner.Alone.{IsAlone, IsPoolOfList}
 use Rattle.plan_rounds.specs.inner.Listing.{AreListed, GoesOn}
 use Rattle.plan_rounds.proofs.Turning.{IsWorking}

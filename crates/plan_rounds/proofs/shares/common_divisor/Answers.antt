@@ -1,5 +1,5 @@
 use Rattle.std.proofs.Common.{arith}
-use Rattle.std.proofs.Math.Nat.{le_of_dvd}
+use Rattle.net_core.proofs.Library.{le_of_dvd}
 use Rattle.plan_rounds.proofs.Sharing.{divides_more}
 use Rattle.plan_rounds.proofs.shares.common_divisor.Goals as goal
 

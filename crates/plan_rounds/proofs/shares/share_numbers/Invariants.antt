@@ -1,5 +1,5 @@
 use Rattle.std.proofs.Common.{◌≡◌, take}
-use Rattle.master_law.specs.UnitPairs.{share_capacities}
+use Rattle.master_law.specs.Terms.{share_capacities}
 use Rattle.plan_rounds.proofs.shares.share_numbers.Given as goal
 
 -- the capacities so far

@@ -1,8 +1,6 @@
 use Rattle.std.proofs.Common.{◌≡◌, ℕ, List, ◌++◌, length, map}
-use Rattle.net_core.specs.declared.journal.Entry.{Entry}
-use Rattle.net_core.specs.declared.plan.Caps.{Caps}
-use Rattle.net_core.specs.Cases.{Case}
-use Rattle.cut_pool.specs.Histories.{cut_of_line}
+use Rattle.plan_terms.specs.Terms.{Entry, Caps, Case}
+use Rattle.cut_pool.specs.Terms.{cut_of_line}
 use Rattle.separator.specs.Separators.{AreStateAnswers, cuts_answered}
 use Rattle.plan_rounds.specs.inner.Answered.{AreSorted}
 use Rattle.plan_rounds.proofs.Answering.{AreAnswersFrom}

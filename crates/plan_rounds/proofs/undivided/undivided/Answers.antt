@@ -1,5 +1,5 @@
 use Rattle.std.proofs.Common.{arith, refl}
-use Rattle.std.proofs.Math.Nat.{le_of_dvd}
+use Rattle.net_core.proofs.Library.{le_of_dvd}
 use Rattle.plan_rounds.proofs.Undividing.{undivided_of}
 use Rattle.plan_rounds.proofs.undivided.undivided.Goals as goal
 use Rattle.net_core.proofs.Numbers.{positive_divisor}

@@ -1,6 +1,6 @@
 use Rattle.std.proofs.Common.{◌<◌, ◌*◌, ◌^◌, All, List, subst}
-use Rattle.std.proofs.lemmas.List.Elements.{All-tail}
-use Rattle.net_core.specs.declared.plan.Routing.{Routing}
+use Rattle.net_core.proofs.Library.{All-tail}
+use Rattle.plan_terms.specs.Terms.{Routing}
 use Rattle.plan_rounds.proofs.Multiplying.{first_of}
 use Rattle.plan_rounds.proofs.Undividing.{IsUnderWay, under_way_more}
 use Rattle.plan_rounds.proofs.undivided.undivided_all.Goals as goal

@@ -1,6 +1,6 @@
-use Rattle.std.proofs.Math.Logic.{∥∥₁_map}
+use Rattle.net_core.proofs.Library.{∥∥₁_map}
 use Rattle.std.proofs.Common.{IfSome, subst}
-use Rattle.net_core.specs.Views.{case_of}
+use Rattle.plan_terms.specs.Terms.{case_of}
 use Rattle.planner.specs.inner.Finishing.{IsShareFor}
 use Rattle.planner.proofs.chosen.choose_counts.Goals as goal
 

@@ -1,5 +1,5 @@
 use Rattle.std.proofs.Common.{All, List, refl, subst}
-use Rattle.net_core.specs.declared.plan.CutLine.{CutLine}
+use Rattle.plan_terms.specs.Terms.{CutLine}
 use Rattle.separator.proofs.Seeing.{sees_none}
 use Rattle.planner.specs.inner.Finishing.{HasShortLengths}
 use Rattle.planner.proofs.SnapshotGiven.{bounds_known, made_sound, multipliers_known, pool_few, pool_known, shares_known, worked_for}

@@ -1,4 +1,4 @@
-use Rattle.std.proofs.lemmas.Result.{err_from_is_err_and}
+use Rattle.net_core.proofs.Library.{err_from_is_err_and}
 use Rattle.planner_commands.specs.inner.Steps.{named}
 use Rattle.planner_commands.proofs.Answering.{failures_end, model_ends}
 use Rattle.planner_commands.proofs.inputs.load_problem.Goals as goal

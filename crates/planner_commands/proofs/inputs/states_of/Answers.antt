@@ -2,7 +2,7 @@ use Rattle.std.proofs.Common.{codes}
 use Rattle.model_reader.specs.Failures.{SpellsFailures}
 use Rattle.model_reader.specs.FailuresReading.{failures_of}
 use Rattle.model_reader.specs.FaultWords.{failures_word}
-use Rattle.net_core.specs.declared.states.States.{States}
+use Rattle.plan_terms.specs.Terms.{States}
 use Rattle.planner_commands.specs.declared.status.Status.TheVariants.{BadFailures}
 use Rattle.planner_commands.proofs.Refusing.{reading_refused}
 use Rattle.planner_commands.proofs.inputs.states_of.Goals as goal

@@ -1,7 +1,5 @@
 use Rattle.std.proofs.Common.{codes}
-use Rattle.session_script.specs.ScriptKinds.{script_kind_word}
-use Rattle.session_script.specs.ScriptReading.{script_of}
-use Rattle.session_script.specs.Scripts.{SpellsScript}
+use Rattle.session_script.specs.Terms.{script_kind_word, script_of, SpellsScript}
 use Rattle.session_script.specs.declared.script.Script.{Script}
 use Rattle.planner_commands.specs.declared.status.Status.TheVariants.{BadScript}
 use Rattle.planner_commands.proofs.Refusing.{reading_refused}

@@ -1,5 +1,5 @@
 use Rattle.std.proofs.Common.{◌≤◌, arith, length, subst}
-use Rattle.std.proofs.lemmas.Result.{err_from_is_err_and}
+use Rattle.net_core.proofs.Library.{err_from_is_err_and}
 use Rattle.outside_io.specs.Outside.{Takes}
 use Rattle.planner_commands.proofs.Taking.{piece_fits, prefix_piece, took_more, took_prefix, whole_piece}
 use Rattle.planner_commands.proofs.output.put_text.Goals as goal

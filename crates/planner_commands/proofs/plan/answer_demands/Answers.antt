@@ -1,6 +1,6 @@
 use Rattle.std.proofs.Common.{subst}
-use Rattle.std.proofs.lemmas.Result.{IfOk-weaker}
-use Rattle.net_core.specs.Views.{case}
+use Rattle.net_core.proofs.Library.{IfOk-weaker}
+use Rattle.plan_terms.specs.Terms.{case}
 use Rattle.session_run.specs.Transcripts.{IsTranscript}
 use Rattle.planner_commands.proofs.plan.answer_demands.Goals as goal
 

@@ -1,9 +1,6 @@
 use Rattle.std.proofs.Common.{◌≡◌, ◌∙◌, ◌++◌, [], ◌∷◌, List, ap, codes, decimal}
-use Rattle.net_core.specs.declared.demand.Demand.{Demand}
-use Rattle.net_core.specs.Views.{case}
-use Rattle.plan_report.specs.Names.{state_name}
-use Rattle.plan_report.specs.KnownNames.{known_of}
-use Rattle.plan_report.specs.Texts.{SpellsReport, report_text}
+use Rattle.plan_terms.specs.Terms.{Demand, case}
+use Rattle.plan_report.specs.Terms.{state_name, known_of, SpellsReport, report_text}
 use Rattle.plan_types.specs.declared.report.Outcome.{Outcome}
 use Rattle.session_run.specs.Transcripts.{IsTranscript}
 use Rattle.planner_commands.specs.Run.{EndsPlan, plan_commands}

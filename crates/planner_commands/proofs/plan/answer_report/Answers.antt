@@ -1,6 +1,6 @@
 use Rattle.std.proofs.Common.{◌≡◌, ◌∙◌, [], ◌∷◌, Some, ap, arith, length, refl, slice_get, sym}
-use Rattle.std.proofs.lemmas.Option.{slice_get_read}
-use Rattle.net_core.specs.Views.{case}
+use Rattle.net_core.proofs.Library.{slice_get_read}
+use Rattle.plan_terms.specs.Terms.{case}
 use Rattle.plan_types.specs.declared.report.Outcome.{Outcome}
 use Rattle.planner_commands.proofs.SinglePlans.{has_one}
 use Rattle.planner_commands.proofs.plan.answer_report.Goals as goal

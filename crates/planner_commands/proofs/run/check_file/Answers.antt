@@ -1,7 +1,7 @@
 use Rattle.std.proofs.Common.{inl, inr}
-use Rattle.std.proofs.lemmas.Result.{err_from_is_err_and}
-use Rattle.net_core.specs.Views.{case}
-use Rattle.plan_report.specs.KnownNames.{known_of}
+use Rattle.net_core.proofs.Library.{err_from_is_err_and}
+use Rattle.plan_terms.specs.Terms.{case}
+use Rattle.plan_report.specs.Terms.{known_of}
 use Rattle.planner_commands.specs.Inputs.{RefusesReportFile, StopsAtFile, report_limit}
 use Rattle.planner_commands.specs.Run.{EndsCheck}
 use Rattle.planner_commands.specs.declared.status.Status.TheVariants.{BadReport}

@@ -1,5 +1,5 @@
 use Rattle.std.proofs.Common.{inl, inr, subst}
-use Rattle.std.proofs.lemmas.Result.{err_from_is_err_and}
+use Rattle.net_core.proofs.Library.{err_from_is_err_and}
 use Rattle.planner_commands.specs.Inputs.{RefusesScriptFile, StopsAtFile, input_limit}
 use Rattle.planner_commands.specs.Run.{EndsSession}
 use Rattle.planner_commands.specs.inner.Steps.{named}

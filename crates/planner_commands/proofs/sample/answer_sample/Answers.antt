@@ -1,6 +1,5 @@
 use Rattle.std.proofs.Common.{subst, sym}
-use Rattle.net_core.specs.declared.places.Places.TheVariants.{Three}
-use Rattle.plan_terms.specs.Separations.{IsSurvivable}
+use Rattle.plan_terms.specs.Terms.{Three, IsSurvivable}
 use Rattle.planner_commands.proofs.sample.answer_sample.Goals as goal
 
 pub summarized-requires-clause-survivable : goal.summarized-requires-clause-survivable

@@ -1,5 +1,5 @@
 use Rattle.std.proofs.Common.{◌∙◌, [], ◌∷◌, ap}
-use Rattle.net_core.specs.Views.{case_of}
+use Rattle.plan_terms.specs.Terms.{case_of}
 use Rattle.plan_types.specs.declared.report.Outcome.{Outcome}
 use Rattle.planner_commands.proofs.SinglePlans.{planned, refused}
 use Rattle.planner_commands.proofs.sample.plan_of.Goals as goal

@@ -1,5 +1,5 @@
 use Rattle.std.proofs.Common.{IfOk, subst}
-use Rattle.net_core.specs.Views.{case, case_of}
+use Rattle.plan_terms.specs.Terms.{case, case_of}
 use Rattle.session_run.specs.Transcripts.{IsTranscript}
 use Rattle.planner_commands.proofs.sample.planned.Goals as goal
 

@@ -1,6 +1,6 @@
 use Rattle.std.proofs.Common.{◌≡◌, ◌∙◌, [], ◌∷◌, Some, ap, arith, length, refl, slice_get, sym}
-use Rattle.std.proofs.lemmas.Option.{slice_get_read}
-use Rattle.net_core.specs.Views.{case_of}
+use Rattle.net_core.proofs.Library.{slice_get_read}
+use Rattle.plan_terms.specs.Terms.{case_of}
 use Rattle.plan_types.specs.declared.report.Outcome.{Outcome}
 use Rattle.planner_commands.proofs.SinglePlans.{has_one, plan_summary}
 use Rattle.planner_commands.proofs.sample.summarized.Goals as goal

@@ -1,7 +1,6 @@
 use Rattle.std.proofs.Common.{◌≡◌}
-use Rattle.net_core.specs.Views.{case}
-use Rattle.plan_report.specs.KnownNames.{known_to}
-use Rattle.plan_report.specs.Texts.{SpellsReport, report_text}
+use Rattle.plan_terms.specs.Terms.{case}
+use Rattle.plan_report.specs.Terms.{known_to, SpellsReport, report_text}
 use Rattle.plan_types.specs.declared.report.Report.{Report}
 use Rattle.acceptance.proofs.Transcripts.{transcript_accepted}
 use Rattle.planner_commands.specs.Run.{IsPrintedReport}

@@ -1,5 +1,5 @@
 use Rattle.std.proofs.Common.{ap, sym, subst}
-use Rattle.net_core.specs.Views.{case}
+use Rattle.net_core.specs.Terms.{case}
 use Rattle.cut_pool.specs.declared.board.Board.{Board}
 use Rattle.planner.specs.SnapshotPlans.{IsSnapshotIn}
 use Rattle.planner.proofs.SnapshotGiven.{board_snapshot}

@@ -1,5 +1,5 @@
 use denote.Param.Send.{sendable}
-use Rattle.std.proofs.Crossing.{crosses, send}
+use Rattle.net_core.proofs.Library.{crosses, send}
 use Rattle.board_desk.proofs.Sent.{caller_send}
 use Rattle.planning_tests.proofs.Sent.{caps_sync}
 use Rattle.planning_tests.proofs.workers.Fixture.TheSendSync as fixtures

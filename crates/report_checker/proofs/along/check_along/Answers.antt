@@ -1,5 +1,5 @@
 use Rattle.std.proofs.Common.{take}
-use Rattle.net_core.specs.Views.{case_of}
+use Rattle.plan_terms.specs.Terms.{case_of}
 use Rattle.report_checker.proofs.Walking.{passed_more, room}
 use Rattle.report_checker.proofs.along.check_along.Goals as goal
 

@@ -1,5 +1,5 @@
 use Rattle.std.proofs.Common.{take}
-use Rattle.net_core.specs.Views.{case_of}
+use Rattle.plan_terms.specs.Terms.{case_of}
 use Rattle.report_checker.specs.inner.Along.{AreChecked}
 use Rattle.report_checker.specs.inner.Walks.{HasPassed}
 use Rattle.report_checker.proofs.along.check_along.Given as goal

@@ -1,4 +1,4 @@
-use Rattle.net_core.specs.Views.{case_of}
+use Rattle.plan_terms.specs.Terms.{case_of}
 use Rattle.report_checker.proofs.along.check_outcomes.Goals as goal
 
 pub returns-in-Ok-clause-told : goal.returns-in-Ok-clause-told

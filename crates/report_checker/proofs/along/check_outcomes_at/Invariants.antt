@@ -1,5 +1,5 @@
 use Rattle.std.proofs.Common.{◌+◌}
-use Rattle.net_core.specs.Views.{case_of}
+use Rattle.plan_terms.specs.Terms.{case_of}
 use Rattle.report_checker.specs.inner.Along.{AreSoundBefore}
 use Rattle.report_checker.proofs.along.check_outcomes_at.Given as goal
 

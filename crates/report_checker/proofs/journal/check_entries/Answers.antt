@@ -1,6 +1,5 @@
 use Rattle.std.proofs.Common.{refl, take}
-use Rattle.net_core.specs.declared.journal.Entry.{Entry}
-use Rattle.net_core.specs.Views.{case_of}
+use Rattle.plan_terms.specs.Terms.{Entry, case_of}
 use Rattle.plan_checker.proofs.Places.{holds_here, none_at_all, none_more}
 use Rattle.report_checker.specs.Journals.{IsOtherEntry}
 use Rattle.report_checker.proofs.Telling.{no_entry}

@@ -1,6 +1,6 @@
 use Rattle.std.proofs.Common.{ℕ, ◌<◌, take}
-use Rattle.net_core.specs.Views.{case_of}
-use Rattle.plan_checker.specs.Places.{HoldsAt}
+use Rattle.plan_terms.specs.Terms.{case_of}
+use Rattle.plan_checker.specs.Terms.{HoldsAt}
 use Rattle.report_checker.specs.Journals.{IsOtherEntry}
 use Rattle.report_checker.specs.inner.Walks.{HasPassed}
 use Rattle.report_checker.proofs.journal.check_entries.Given as goal

@@ -1,6 +1,5 @@
 use Rattle.std.proofs.Common.{get_or, None}
-use Rattle.net_core.specs.Graphs.{Joins}
-use Rattle.net_core.specs.Views.{graph}
+use Rattle.plan_terms.specs.Terms.{Joins, graph}
 use Rattle.report_checker.proofs.Apart.{told_apart}
 use Rattle.report_checker.proofs.outcomes.are_apart.Goals as goal
 

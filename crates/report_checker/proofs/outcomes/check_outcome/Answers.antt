@@ -1,4 +1,4 @@
-use Rattle.net_core.specs.Views.{case_of}
+use Rattle.plan_terms.specs.Terms.{case_of}
 use Rattle.report_checker.proofs.There.{sound_there, told_there}
 use Rattle.report_checker.proofs.outcomes.check_outcome.Goals as goal
 

@@ -1,4 +1,4 @@
-use Rattle.net_core.specs.Views.{case_of}
+use Rattle.plan_terms.specs.Terms.{case_of}
 use Rattle.report_checker.proofs.OnOneWalk.{sound_met, stopped_met}
 use Rattle.report_checker.proofs.outcomes.check_outcome_if_here.Goals as goal
 

@@ -1,6 +1,6 @@
 use Rattle.std.proofs.Common.{arith, subst, ⊎_elim}
-use Rattle.std.proofs.lemmas.Bool.{cases_eq}
-use Rattle.net_core.specs.Views.{case_of}
+use Rattle.net_core.proofs.Library.{cases_eq}
+use Rattle.plan_terms.specs.Terms.{case_of}
 use Rattle.report_checker.specs.inner.Said.{IsSaidSeparation}
 use Rattle.report_checker.proofs.Apart.{no_survivable, none_named}
 use Rattle.report_checker.proofs.outcomes.check_separated.Goals as goal

@@ -1,5 +1,5 @@
 use Rattle.std.proofs.Common.{ℕ, ◌<◌}
-use Rattle.net_core.specs.Views.{case_of}
+use Rattle.plan_terms.specs.Terms.{case_of}
 use Rattle.report_checker.specs.inner.Said.{IsSaidSeparation}
 use Rattle.report_checker.proofs.outcomes.check_separated.Given as goal
 

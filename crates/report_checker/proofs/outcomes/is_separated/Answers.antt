@@ -1,6 +1,6 @@
 use Rattle.std.proofs.Common.{length, refl, arith}
-use Rattle.std.proofs.lemmas.Option.{slice_get_read}
-use Rattle.net_core.specs.Views.{case_of}
+use Rattle.net_core.proofs.Library.{slice_get_read}
+use Rattle.plan_terms.specs.Terms.{case_of}
 use Rattle.report_checker.proofs.Apart.{its_demand, told_separated}
 use Rattle.report_checker.proofs.outcomes.is_separated.Goals as goal
 

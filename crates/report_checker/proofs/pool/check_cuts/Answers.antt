@@ -1,7 +1,4 @@
-use Rattle.net_core.specs.declared.plan.CutLine.{CutLine}
-use Rattle.net_core.specs.Cases.{graph_in}
-use Rattle.net_core.specs.Views.{case_of}
-use Rattle.plan_terms.specs.Certificates.{AreKept}
+use Rattle.plan_terms.specs.Terms.{CutLine, graph_in, case_of, AreKept}
 use Rattle.plan_checker.proofs.Places.{all_held, none_at_all}
 use Rattle.report_checker.specs.Pools.{IsBadCut}
 use Rattle.report_checker.proofs.Telling.{no_bad}

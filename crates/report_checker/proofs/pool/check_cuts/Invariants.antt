@@ -1,8 +1,6 @@
 use Rattle.std.proofs.Common.{ℕ, ◌<◌}
-use Rattle.net_core.specs.Cases.{graph_in}
-use Rattle.net_core.specs.Views.{case_of}
-use Rattle.plan_terms.specs.Certificates.{AreKept}
-use Rattle.plan_checker.specs.Places.{HoldsAt}
+use Rattle.plan_terms.specs.Terms.{graph_in, case_of, AreKept}
+use Rattle.plan_checker.specs.Terms.{HoldsAt}
 use Rattle.report_checker.specs.Pools.{IsBadCut}
 use Rattle.report_checker.proofs.pool.check_cuts.Given as goal
 

@@ -1,7 +1,6 @@
 use Rattle.std.proofs.Common.{ℕ, ◌<◌}
-use Rattle.net_core.specs.Views.{case_of}
-use Rattle.plan_checker.specs.Places.{HoldsAt}
-use Rattle.plan_checker.specs.Certified.{HasStaleRight}
+use Rattle.plan_terms.specs.Terms.{case_of}
+use Rattle.plan_checker.specs.Terms.{HoldsAt, HasStaleRight}
 use Rattle.report_checker.proofs.pool.check_rights.Given as goal
 
 -- none of the lines so far has another right side than its cut

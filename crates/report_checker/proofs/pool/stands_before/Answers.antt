@@ -1,7 +1,7 @@
 use Rattle.std.proofs.Common.{◌≡◌, ◌∙◌, ap, arith, refl, sym}
-use Rattle.std.proofs.lemmas.Option.{get_or_from_slice_get}
-use Rattle.net_core.specs.declared.plan.CutLine.{CutLine}
-use Rattle.cut_pool.specs.Histories.{cut_of_line}
+use Rattle.net_core.proofs.Library.{get_or_from_slice_get}
+use Rattle.plan_terms.specs.Terms.{CutLine}
+use Rattle.cut_pool.specs.Terms.{cut_of_line}
 use Rattle.plan_checker.proofs.Places.{holds_here, none_more}
 use Rattle.report_checker.proofs.pool.stands_before.Goals as goal
 

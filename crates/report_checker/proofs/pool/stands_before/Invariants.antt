@@ -1,7 +1,7 @@
 use Rattle.std.proofs.Common.{ℕ, ◌≡◌, ◌<◌, Some, slice_get}
-use Rattle.net_core.specs.declared.plan.CutLine.{CutLine}
-use Rattle.cut_pool.specs.Histories.{cut_of_line}
-use Rattle.plan_checker.specs.Places.{HoldsAt}
+use Rattle.plan_terms.specs.Terms.{CutLine}
+use Rattle.cut_pool.specs.Terms.{cut_of_line}
+use Rattle.plan_checker.specs.Terms.{HoldsAt}
 use Rattle.report_checker.proofs.pool.stands_before.Given as goal
 
 -- none of the lines so far is the same cut

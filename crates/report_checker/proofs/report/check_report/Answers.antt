@@ -1,4 +1,4 @@
-use Rattle.net_core.specs.Views.{case}
+use Rattle.plan_terms.specs.Terms.{case}
 use Rattle.report_checker.proofs.Reports.{bounds_hold, never_accepted, report_told, whole_stops}
 use Rattle.report_checker.proofs.report.check_report.Goals as goal
 

@@ -1,4 +1,4 @@
-use Rattle.report_words.specs.Contexts.{known_in}
+use Rattle.report_words.specs.Terms.{known_in}
 use Rattle.report_parts.proofs.PartsOnline.{certificate_line_some}
 use Rattle.report_parts.proofs.certificate.certificate.Goals as goal
 

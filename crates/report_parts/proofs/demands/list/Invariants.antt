@@ -1,6 +1,6 @@
 use Rattle.std.proofs.Common.{◌≡◌, ◌<◌, ◌^◌, [], length, map}
-use Rattle.snd_tokens.specs.Lexemes.{left, size}
-use Rattle.text_kit.specs.Reading.{Parenthesis, list_at, no_fault}
+use Rattle.snd_tokens.specs.Terms.{left, size}
+use Rattle.text_kit.specs.Terms.{Parenthesis, list_at, no_fault}
 use Rattle.report_parts.specs.ReadingParts.{plan_demand_at}
 use Rattle.report_parts.proofs.demands.list.Given as goal
 

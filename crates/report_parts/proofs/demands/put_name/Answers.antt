@@ -1,5 +1,5 @@
 use Rattle.std.proofs.Common.{◌≡◌, true, false}
-use Rattle.report_words.proofs.Lookups.{named_among}
+use Rattle.report_words.proofs.Lemmas.{named_among}
 use Rattle.report_parts.proofs.demands.put_name.Goals as goal
 
 pub returns-then-branch-clause-known : goal.returns-then-branch-clause-known

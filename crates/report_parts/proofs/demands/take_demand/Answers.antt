@@ -1,5 +1,5 @@
-use Rattle.text_kit.specs.Reading.{Parenthesis, no_fault}
-use Rattle.text_kit.proofs.Turns.{list_turn}
+use Rattle.text_kit.specs.Terms.{Parenthesis, no_fault}
+use Rattle.text_kit.proofs.Lemmas.{list_turn}
 use Rattle.report_parts.specs.ReadingParts.{plan_demand_at}
 use Rattle.report_parts.proofs.PartsOnline.{plan_demand_some}
 use Rattle.report_parts.proofs.demands.take_demand.Goals as goal

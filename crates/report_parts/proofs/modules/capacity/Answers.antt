@@ -1,6 +1,6 @@
 use Rattle.std.proofs.Common.{◌≡◌, ◌+◌, ◌*◌, ◌<◌, ◌^◌, List, length, min, get_or, subst, arith}
-use Rattle.std.proofs.lemmas.Option.{slice_get-get_or}
-use Rattle.net_core.specs.declared.network.Module.{Module}
+use Rattle.net_core.proofs.Library.{slice_get-get_or}
+use Rattle.plan_terms.specs.Terms.{Module}
 use Rattle.report_parts.proofs.Counts.{capacity_next, capacity_none}
 use Rattle.report_parts.proofs.modules.capacity.Goals as goal
 

@@ -1,5 +1,5 @@
 use Rattle.std.proofs.Common.{◌≡◌, ◌+◌, ◌^◌, min, take}
-use Rattle.plan_terms.specs.Capacities.{modules_capacity}
+use Rattle.plan_terms.specs.Terms.{modules_capacity}
 use Rattle.report_parts.proofs.modules.capacity.Given as goal
 
 abbrev pub invariant-loop-i : goal.invariant-loop-i

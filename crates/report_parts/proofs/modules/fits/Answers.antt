@@ -1,7 +1,6 @@
 use Rattle.std.proofs.Common.{◌≡◌, ℕ, ◌+◌, ◌*◌, ◌^◌, List, length, min, nat_lt, get_or, subst, ap, ◌∙◌, arith}
-use Rattle.std.proofs.lemmas.Option.{slice_get-get_or}
-use Rattle.net_core.specs.declared.network.Module.{Module}
-use Rattle.plan_terms.specs.Capacities.{modules_capacity}
+use Rattle.net_core.proofs.Library.{slice_get-get_or}
+use Rattle.plan_terms.specs.Terms.{Module, modules_capacity}
 use Rattle.report_parts.proofs.Counts.{below_cut, capacity_push}
 use Rattle.report_parts.proofs.modules.fits.Goals as goal
 

@@ -1,7 +1,7 @@
 use Rattle.std.proofs.Common.{◌≡◌, ◌∙◌, ◌≤◌, ◌<◌, length, get_or, sym, ap, arith}
 use Rattle.std.proofs.Math.Seq.{map-set_same}
 use Rattle.std.proofs.lemmas.List.Elements.{All-from_all_within, AllWithin-more_set, AllWithin-upto}
-use Rattle.net_core.specs.declared.journal.Entry.{Entry}
+use Rattle.plan_terms.specs.Terms.{Entry}
 use Rattle.report_reader.specs.ReadingReport.{filled}
 use Rattle.report_reader.proofs.Fillings.{all_same, filled_again}
 use Rattle.report_reader.proofs.filling.fill_each.Goals as goal

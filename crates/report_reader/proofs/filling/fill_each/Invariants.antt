@@ -1,5 +1,5 @@
 use Rattle.std.proofs.Common.{◌≡◌, map}
-use Rattle.std.specs.List.{AllWithin}
+use Rattle.net_core.proofs.Library.{AllWithin}
 use Rattle.report_reader.specs.ReadingReport.{filled}
 use Rattle.report_reader.proofs.filling.fill_each.Given as goal
 

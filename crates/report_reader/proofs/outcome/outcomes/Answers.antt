@@ -1,4 +1,4 @@
-use Rattle.report_words.specs.Contexts.{known_in}
+use Rattle.report_words.specs.Terms.{known_in}
 use Rattle.report_reader.proofs.ReportOnline.{outcome_some}
 use Rattle.report_reader.proofs.outcome.outcomes.Goals as goal
 

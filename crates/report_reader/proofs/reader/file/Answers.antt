@@ -1,4 +1,4 @@
-use Rattle.plan_report.specs.KnownNames.{known_of}
+use Rattle.plan_report.specs.Terms.{known_of}
 use Rattle.report_reader.proofs.Whole.{file_answer}
 use Rattle.report_reader.proofs.reader.file.Goals as goal
 

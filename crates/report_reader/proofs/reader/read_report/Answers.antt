@@ -1,4 +1,4 @@
-use Rattle.plan_report.specs.KnownNames.{known_of}
+use Rattle.plan_report.specs.Terms.{known_of}
 use Rattle.report_reader.proofs.ReportLaws.{report_first, report_found, report_only}
 use Rattle.report_reader.proofs.reader.read_report.Goals as goal
 

@@ -1,6 +1,6 @@
 use Rattle.std.proofs.Common.{◌≡◌, []}
-use Rattle.snd_tokens.specs.Lexemes.{left, size}
-use Rattle.text_kit.specs.Reading.{Parenthesis, list_at}
+use Rattle.snd_tokens.specs.Terms.{left, size}
+use Rattle.text_kit.specs.Terms.{Parenthesis, list_at}
 use Rattle.report_words.proofs.element.list.Given as goal
 
 abbrev pub invariant-loop-all : goal.invariant-loop-all

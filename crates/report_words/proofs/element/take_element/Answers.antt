@@ -1,5 +1,5 @@
-use Rattle.text_kit.specs.Reading.{Parenthesis}
-use Rattle.text_kit.proofs.Turns.{list_turn}
+use Rattle.text_kit.specs.Terms.{Parenthesis}
+use Rattle.text_kit.proofs.Lemmas.{list_turn}
 use Rattle.report_words.proofs.element.take_element.Goals as goal
 
 pub returns-clause-turn : goal.returns-clause-turn

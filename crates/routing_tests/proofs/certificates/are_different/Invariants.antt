@@ -1,5 +1,5 @@
 use Rattle.std.proofs.Common.{◌≡◌, ℕ, ◌<◌, get_or}
-use Rattle.net_core.specs.declared.plan.CutLine.{CutLine}
+use Rattle.plan_terms.specs.Terms.{CutLine}
 use Rattle.routing_tests.proofs.certificates.are_different.Given as goal
 
 -- no state of the cuts below i stands twice, nor does one below j stand at i

@@ -1,6 +1,6 @@
 use Rattle.std.proofs.Common.{◌≡◌, ◌<◌, ◌^◌, ◌++◌, [], ◌∷◌, All, List, subst, sym}
-use Rattle.std.proofs.lemmas.List.Elements.{All-push}
-use Rattle.net_core.specs.declared.plan.CutLine.{CutLine}
+use Rattle.net_core.proofs.Library.{All-push}
+use Rattle.plan_terms.specs.Terms.{CutLine}
 use Rattle.metric_cut.specs.Bounded.{HaveBound}
 use Rattle.routing_tests.proofs.certificates.unit_lines.Goals as goal
 

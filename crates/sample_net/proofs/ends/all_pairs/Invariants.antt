@@ -1,6 +1,5 @@
-use Rattle.std.proofs.Common.{◌≡◌}
-use Rattle.std.specs.Prelude.{flat_map}
-use Rattle.std.specs.List.{range_with_len}
+use Rattle.std.proofs.Common.{◌≡◌, flat_map}
+use Rattle.net_core.proofs.Library.{range_with_len}
 use Rattle.sample_net.specs.Samples.{pairs_of}
 use Rattle.sample_net.proofs.ends.all_pairs.Given as goal
 

@@ -1,5 +1,5 @@
 use Rattle.std.proofs.Common.{ap, length, ◌∙◌}
-use Rattle.std.proofs.lemmas.Result.{on_ok_weaker}
+use Rattle.net_core.proofs.Library.{on_ok_weaker}
 use Rattle.sample_net.proofs.Sound.{ends_few, ends_long, links_steps}
 use Rattle.sample_net.proofs.generator.links.Goals as goal
 

@@ -1,6 +1,5 @@
 use Rattle.std.proofs.Common.{ap, length, not, sym, ◌==◌, ◌∙◌}
-use Rattle.std.specs.List.{list_any}
-use Rattle.std.proofs.lemmas.List.FromFn.{length-map-range_with_len}
+use Rattle.net_core.proofs.Library.{list_any, length-map-range_with_len}
 use Rattle.sample_net.specs.Draws.{nth_number}
 use Rattle.sample_net.specs.Samples.{chord_count, numbered, sample_ends, sample_nodes, sample_pairs}
 use Rattle.sample_net.proofs.Pairs.{pairs_count}

@@ -1,4 +1,4 @@
-use Rattle.text_kit.proofs.Adding.{adds_then, on_ok}
+use Rattle.text_kit.proofs.Lemmas.{adds_then, on_ok}
 use Rattle.sample_net.proofs.texts.put_demand.Goals as goal
 
 pub returns : goal.returns

@@ -1,8 +1,6 @@
-use Rattle.std.proofs.Common.{◌∷◌, take, flat_map}
-use Rattle.std.specs.Prelude.{codes}
-use Rattle.text_kit.specs.Items.{Opening, Verbatim}
+use Rattle.std.proofs.Common.{◌∷◌, take, flat_map, codes}
+use Rattle.text_kit.specs.Terms.{Opening, Verbatim, AddsItems}
 use Rattle.sample_net.specs.Texts.{unit_demand_items}
-use Rattle.text_kit.specs.Written.{AddsItems}
 use Rattle.sample_net.proofs.texts.put_demands.Given as goal
 
 abbrev pub invariant-loop-demand : goal.invariant-loop-demand

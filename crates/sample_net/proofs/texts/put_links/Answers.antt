@@ -1,8 +1,7 @@
-use Rattle.std.proofs.Common.{◌∷◌, [], arith}
-use Rattle.std.specs.Prelude.{codes}
-use Rattle.text_kit.specs.Items.{Opening, Verbatim}
+use Rattle.std.proofs.Common.{◌∷◌, [], arith, codes}
+use Rattle.text_kit.specs.Terms.{Opening, Verbatim}
 use Rattle.sample_net.specs.Texts.{costless_items}
-use Rattle.text_kit.proofs.Adding.{adds_next, adds_section}
+use Rattle.text_kit.proofs.Lemmas.{adds_next, adds_section}
 use Rattle.sample_net.proofs.texts.put_links.Goals as goal
 
 pub loop-link-preserved : goal.loop-link-preserved

@@ -1,7 +1,7 @@
 use Rattle.std.proofs.Common.{[]}
-use Rattle.net_core.specs.declared.places.Places.TheVariants.{Three}
+use Rattle.plan_terms.specs.Terms.{Three}
 use Rattle.sndlib_reader.specs.Spelling.{module_items}
-use Rattle.text_kit.proofs.Adding.{adds_more}
+use Rattle.text_kit.proofs.Lemmas.{adds_more}
 use Rattle.sample_net.proofs.texts.put_modules.Goals as goal
 
 pub loop-kind-preserved : goal.loop-kind-preserved

@@ -1,7 +1,7 @@
 use Rattle.std.proofs.Common.{take, flat_map}
-use Rattle.net_core.specs.declared.places.Places.TheVariants.{Three}
+use Rattle.plan_terms.specs.Terms.{Three}
 use Rattle.sndlib_reader.specs.Spelling.{module_items}
-use Rattle.text_kit.specs.Written.{AddsItems}
+use Rattle.text_kit.specs.Terms.{AddsItems}
 use Rattle.sample_net.proofs.texts.put_modules.Given as goal
 
 abbrev pub invariant-loop-kind : goal.invariant-loop-kind

@@ -1,7 +1,6 @@
-use Rattle.std.proofs.Common.{◌∷◌, [], arith}
-use Rattle.std.specs.Prelude.{codes}
-use Rattle.text_kit.specs.Items.{Opening, Verbatim}
-use Rattle.text_kit.proofs.Adding.{adds_next, adds_section}
+use Rattle.std.proofs.Common.{◌∷◌, [], arith, codes}
+use Rattle.text_kit.specs.Terms.{Opening, Verbatim}
+use Rattle.text_kit.proofs.Lemmas.{adds_next, adds_section}
 use Rattle.sample_net.proofs.texts.put_nodes.Goals as goal
 
 pub loop-node-preserved : goal.loop-node-preserved

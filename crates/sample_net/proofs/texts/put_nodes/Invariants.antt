@@ -1,7 +1,5 @@
-use Rattle.std.proofs.Common.{◌∷◌, [], take, flat_map}
-use Rattle.std.specs.Prelude.{codes}
-use Rattle.text_kit.specs.Items.{Opening, Verbatim}
-use Rattle.text_kit.specs.Written.{AddsItems}
+use Rattle.std.proofs.Common.{◌∷◌, [], take, flat_map, codes}
+use Rattle.text_kit.specs.Terms.{Opening, Verbatim, AddsItems}
 use Rattle.sample_net.proofs.texts.put_nodes.Given as goal
 
 abbrev pub invariant-loop-node : goal.invariant-loop-node

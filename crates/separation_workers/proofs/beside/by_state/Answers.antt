@@ -1,5 +1,6 @@
 use Rattle.std.proofs.Common.{IfSome, List, None, Option, drop, length, subst, sym, ◌++◌}
-use Rattle.std.proofs.lemmas.List.Elements.{All-append, All-drop, All-push, All-take}
+use Rattle.net_core.proofs.Library.{All-append, All-push, All-take}
+use Rattle.std.proofs.lemmas.List.Elements.{All-drop}
 use Rattle.separation_workers.specs.declared.round.StateFound.{StateFound}
 use Rattle.separation_workers.specs.inner.Rounds.{AreFound, IsStateFound}
 use Rattle.separation_workers.proofs.beside.by_state.Goals as goal

@@ -1,5 +1,5 @@
 use Rattle.std.proofs.Common.{[], ◌∷◌, ◌++◌}
-use Rattle.std.proofs.lemmas.List.Elements.{All-push, All-same}
+use Rattle.net_core.proofs.Library.{All-push, All-same}
 use Rattle.separation_workers.specs.declared.round.StateFound.{StateFound}
 use Rattle.separation_workers.specs.inner.Rounds.{IsStateFound}
 use Rattle.separation_workers.proofs.beside.find_some.Goals as goal

@@ -1,7 +1,5 @@
 use Rattle.std.proofs.Common.{◌*◌, ◌<◌, subst, sum_by, zip}
-use Rattle.net_core.specs.Cases.{graph_in}
-use Rattle.net_core.specs.Views.{case_of}
-use Rattle.plan_terms.specs.Violations.{Violates}
+use Rattle.plan_terms.specs.Terms.{graph_in, case_of, Violates}
 use Rattle.node_sets.proofs.Boundaries.{violated_at}
 use Rattle.separation_workers.proofs.hints.if_violated.Goals as goal
 

@@ -1,4 +1,4 @@
-use Rattle.std.proofs.lemmas.Result.{IfOk-weaker}
+use Rattle.net_core.proofs.Library.{IfOk-weaker}
 use Rattle.separation_workers.proofs.Pooling.{answer_pools, answer_seen, answer_spot}
 use Rattle.separation_workers.proofs.turns.spot_in_turn.Goals as goal
 

@@ -1,5 +1,5 @@
 use Rattle.std.proofs.Common.{◌+◌, length, refl, subst, sym}
-use Rattle.net_core.specs.Views.{case_of}
+use Rattle.plan_terms.specs.Terms.{case_of}
 use Rattle.separation_workers.specs.inner.Rounds.{AreFound}
 use Rattle.separation_workers.proofs.Working.{none_below, stays}
 use Rattle.separation_workers.proofs.workers.answer_round.Goals as goal

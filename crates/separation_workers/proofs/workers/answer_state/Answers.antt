@@ -1,6 +1,5 @@
 use Rattle.std.proofs.Common.{Contains, [], refl, subst}
-use Rattle.net_core.specs.Cases.{graph_in}
-use Rattle.net_core.specs.Views.{case_of}
+use Rattle.plan_terms.specs.Terms.{graph_in, case_of}
 use Rattle.separator.specs.Findings.{IsFinding, IsFoundCutOf}
 use Rattle.separator.specs.Separators.{cuts_since}
 use Rattle.separator.proofs.Answering.{at_most_answered, cuts_at_most, violated_answer}

@@ -1,5 +1,5 @@
 use Rattle.std.proofs.Common.{ap, arith, length, ◌+◌}
-use Rattle.net_core.specs.Views.{case_of}
+use Rattle.plan_terms.specs.Terms.{case_of}
 use Rattle.separation_workers.proofs.Working.{goes_on, one_answer_more, one_state_more, same_both, stopped_at}
 use Rattle.separation_workers.proofs.workers.answer_states.Goals as goal
 

@@ -1,4 +1,4 @@
-use Rattle.net_core.specs.Views.{case_of}
+use Rattle.plan_terms.specs.Terms.{case_of}
 use Rattle.separator.specs.Separators.{SeesMore, cuts_since}
 use Rattle.separator.specs.inner.Working.{AreAnswersBelow, AreCutsBelow}
 use Rattle.separation_workers.specs.inner.Rounds.{AreFound}

@@ -1,6 +1,5 @@
 use Rattle.std.proofs.Common.{ℕ, inr}
-use Rattle.net_core.specs.Cases.{Case}
-use Rattle.plan_terms.specs.Separations.{IsFirstSeparation, IsSurvivable}
+use Rattle.plan_terms.specs.Terms.{Case, IsFirstSeparation, IsSurvivable}
 use Rattle.separator.proofs.checked.separate_checked.Goals as goal
 
 pub separate-requires-clause-survivable : goal.separate-requires-clause-survivable

@@ -1,6 +1,5 @@
 use Rattle.std.proofs.Common.{[], arith, subst}
-use Rattle.net_core.specs.Cases.{graph_in}
-use Rattle.net_core.specs.Views.{case_of}
+use Rattle.plan_terms.specs.Terms.{graph_in, case_of}
 use Rattle.separator.specs.Findings.{IsFinding, IsFoundCutOf}
 use Rattle.separator.proofs.Answering.{among_answered, none_among, of_none, of_same, pools_only, violated_answer}
 use Rattle.separator.proofs.one_by_one.answer_state.Goals as goal

@@ -1,5 +1,5 @@
 use Rattle.std.proofs.Common.{◌+◌, ap, arith, length}
-use Rattle.net_core.specs.Views.{case_of}
+use Rattle.plan_terms.specs.Terms.{case_of}
 use Rattle.separator.proofs.Answering.{board_answers_more, below_more, below_weaker}
 use Rattle.separator.proofs.one_by_one.answer_states.Goals as goal
 

@@ -1,4 +1,4 @@
-use Rattle.net_core.specs.Views.{case_of}
+use Rattle.plan_terms.specs.Terms.{case_of}
 use Rattle.separator.specs.Separators.{cuts_since}
 use Rattle.separator.specs.inner.Working.{AreAnswersBelow, PoolsBelow}
 use Rattle.separator.proofs.one_by_one.answer_states.Given as goal

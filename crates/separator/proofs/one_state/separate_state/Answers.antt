@@ -1,5 +1,5 @@
 use Rattle.std.proofs.Common.{IfOk, subst, sym}
-use Rattle.route_law.specs.Routings.{AreJoined}
+use Rattle.route_law.specs.Terms.{AreJoined}
 use Rattle.separator.specs.Findings.{IsFinding}
 use Rattle.separator.proofs.one_state.separate_state.Goals as goal
 

@@ -1,5 +1,5 @@
 use Rattle.std.proofs.Common.{subst}
-use Rattle.net_core.specs.Views.{graph_of}
+use Rattle.plan_terms.specs.Terms.{graph_of}
 use Rattle.flow_router.specs.Answers.{IsRouteAnswer}
 use Rattle.separator.proofs.Somewhere.{found_cut}
 use Rattle.separator.proofs.one_state.separate_task.Goals as goal

@@ -1,9 +1,9 @@
 use denote.Param.Send.{sendable}
 use Rattle.std.proofs.Common.{◌∙◌, ◌-◌, ◌/◌, arith, subst, sym}
-use Rattle.std.proofs.Crossing.{crosses}
+use Rattle.net_core.proofs.Library.{crosses}
 use Rattle.board_desk.proofs.Sent.{caller_send}
 use Rattle.board_desk.specs.Turns.{board_made}
-use Rattle.cut_pool.specs.Boards.{opening_case}
+use Rattle.cut_pool.specs.Terms.{opening_case}
 use Rattle.turn_lock.specs.Passes.{opening_of, own_items, seen_by}
 use Rattle.session_run.specs.inner.Running.{EndsRun, commands_of}
 use Rattle.session_run.proofs.Dealt.{all_first, all_second}

@@ -1,5 +1,5 @@
 use Rattle.std.proofs.Common.{◌+◌, subst, take}
-use Rattle.cut_pool.specs.Boards.{opening_case}
+use Rattle.cut_pool.specs.Terms.{opening_case}
 use Rattle.turn_lock.specs.Passes.{own_items, seen_by}
 use Rattle.board_desk.specs.Turns.{board_made}
 use Rattle.session_run.specs.inner.Running.{commands_of, is_of}

@@ -1,5 +1,5 @@
 use Rattle.std.proofs.Common.{◌≡◌, ◌≤◌, ◌+◌, length, take}
-use Rattle.cut_pool.specs.Boards.{opening_case}
+use Rattle.cut_pool.specs.Terms.{opening_case}
 use Rattle.turn_lock.specs.Passes.{own_items, own_units, seen_by}
 use Rattle.board_desk.specs.Turns.{AreAtOneDesk, board_made}
 use Rattle.session_run.specs.Transcripts.{outcomes_of}

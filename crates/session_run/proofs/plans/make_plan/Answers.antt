@@ -1,6 +1,6 @@
 use Rattle.std.proofs.Common.{IfOk, refl, subst}
 use Rattle.turn_lock.specs.Passes.{own_items, seen_by}
-use Rattle.cut_pool.specs.Boards.{IsSnapshotOf}
+use Rattle.cut_pool.specs.Terms.{IsSnapshotOf}
 use Rattle.separation_workers.proofs.Seen.{seen_after_turn}
 use Rattle.session_run.proofs.Planning.{plan_since, snapshot_at_desk, stopped_since}
 use Rattle.session_run.proofs.plans.make_plan.Goals as goal

@@ -1,6 +1,6 @@
 use Rattle.std.proofs.Common.{IfOk, refl, subst}
-use Rattle.net_core.specs.Views.{case}
-use Rattle.cut_pool.specs.Boards.{opening_case}
+use Rattle.plan_terms.specs.Terms.{case}
+use Rattle.cut_pool.specs.Terms.{opening_case}
 use Rattle.turn_lock.specs.Passes.{own_items, seen_by}
 use Rattle.board_desk.specs.Turns.{board_made}
 use Rattle.planner.specs.SnapshotPlans.{IsSnapshotAnswer, PoolsAlone}

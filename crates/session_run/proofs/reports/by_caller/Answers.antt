@@ -1,5 +1,6 @@
 use Rattle.std.proofs.Common.{◌≤◌, AllPairs, length, rules, arith, ap, subst, sym, ◌∙◌}
-use Rattle.std.proofs.lemmas.List.Sorted.{IsNonDecreasingBy-from_sort_by_key, answers_always}
+use Rattle.net_core.proofs.Library.{IsNonDecreasingBy-from_sort_by_key}
+use Rattle.std.proofs.lemmas.List.Sorted.{answers_always}
 use Rattle.session_run.specs.Transcripts.{outcome_caller, outcomes_of}
 use Rattle.session_run.proofs.Callers.{stays_same}
 use Rattle.session_run.proofs.reports.by_caller.Goals as goal

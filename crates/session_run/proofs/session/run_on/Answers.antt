@@ -1,5 +1,5 @@
 use Rattle.std.proofs.Common.{◌∙◌, ap, subst, sym}
-use Rattle.cut_pool.specs.Boards.{opening_case, origin_of}
+use Rattle.cut_pool.specs.Terms.{opening_case, origin_of}
 use Rattle.turn_lock.specs.Passes.{opening_of, own_places, seen_by}
 use Rattle.board_desk.specs.Turns.{board_made}
 use Rattle.session_run.specs.inner.Running.{HaveRun}

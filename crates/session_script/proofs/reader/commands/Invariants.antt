@@ -1,5 +1,5 @@
 use Rattle.std.proofs.Common.{◌≡◌, []}
-use Rattle.snd_tokens.specs.Lexemes.{left, size}
+use Rattle.snd_tokens.specs.Terms.{left, size}
 use Rattle.session_script.specs.ScriptReading.{commands_at}
 use Rattle.session_script.proofs.reader.commands.Given as goal
 

@@ -1,5 +1,5 @@
 use Rattle.std.proofs.Common.{arith, subst, sym}
-use Rattle.net_core.specs.Views.{case_of}
+use Rattle.plan_terms.specs.Terms.{case_of}
 use Rattle.module_choice.proofs.Carrying.{network_links}
 use Rattle.share_covers.specs.Choices.{IsChosen}
 use Rattle.share_covers.proofs.Choosing.{decides, kept_cheaper}

@@ -1,5 +1,5 @@
 use Rattle.std.proofs.Common.{◌≡◌, ◌<◌, ℕ, Some, get_or, length, slice_get}
-use Rattle.net_core.specs.declared.network.Link.{Link}
+use Rattle.plan_terms.specs.Terms.{Link}
 use Rattle.share_covers.specs.ShareCovers.{IsNeedOfLink}
 use Rattle.share_covers.proofs.needs.share_needs.Given as goal
 

@@ -1,4 +1,4 @@
-use Rattle.net_core.specs.Views.{case_of}
+use Rattle.plan_terms.specs.Terms.{case_of}
 use Rattle.share_covers.proofs.StateRoutes.{AreRoutedTo}
 use Rattle.share_covers.proofs.routes.route_within.Given as goal
 

@@ -1,5 +1,5 @@
 use Rattle.std.proofs.Common.{refl, inl, inr}
-use Rattle.plan_terms.proofs.Joining.{joins_from, joins_ends}
+use Rattle.plan_terms.proofs.Lemmas.{joins_from, joins_ends}
 use Rattle.short_paths.proofs.ForwardStars.{adds_both}
 use Rattle.short_paths.proofs.forward_star.add_arcs.Goals as goal
 

@@ -1,5 +1,5 @@
 use Rattle.std.proofs.Common.{rules}
-use Rattle.std.proofs.lemmas.List.Sorted.{IsNonDecreasingBy-from_sort_by_key}
+use Rattle.net_core.proofs.Library.{IsNonDecreasingBy-from_sort_by_key}
 use Rattle.short_paths.proofs.forward_star.sorted.Goals as goal
 
 pub returns-clause-sorted : goal.returns-clause-sorted

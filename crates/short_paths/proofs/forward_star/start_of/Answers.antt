@@ -1,6 +1,5 @@
 use Rattle.std.proofs.Common.{ltb, rules}
-use Rattle.std.proofs.lemmas.List.Sorted.{IsPartitionedBy-ltb}
-use Rattle.std.proofs.lemmas.Fn.{always_returns_same}
+use Rattle.net_core.proofs.Library.{IsPartitionedBy-ltb, always_returns_same}
 use Rattle.short_paths.proofs.ForwardStars.{start_from_point}
 use Rattle.short_paths.proofs.forward_star.start_of.Goals as goal
 

@@ -1,5 +1,5 @@
 use Rattle.std.proofs.Common.{ap, length, arith}
-use Rattle.plan_terms.proofs.Joining.{joins_below}
+use Rattle.plan_terms.proofs.Lemmas.{joins_below}
 use Rattle.short_paths.proofs.ForwardStars.{arcs_more, arcs_all}
 use Rattle.short_paths.proofs.forward_star.surviving_arcs.Goals as goal
 

@@ -1,5 +1,4 @@
-use Rattle.net_core.specs.Graphs.{Joins}
-use Rattle.net_core.specs.Views.{graph_of}
+use Rattle.plan_terms.specs.Terms.{Joins, graph_of}
 use Rattle.short_paths.proofs.ForwardStars.{ArcsBelow}
 use Rattle.short_paths.proofs.forward_star.surviving_arcs.Given as goal
 

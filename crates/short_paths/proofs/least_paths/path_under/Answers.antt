@@ -1,4 +1,4 @@
-use Rattle.std.proofs.lemmas.Result.{IfOk-weaker}
+use Rattle.net_core.proofs.Library.{IfOk-weaker}
 use Rattle.short_paths.proofs.Leading.{leads_on, way_least, unfound_apart}
 use Rattle.short_paths.proofs.least_paths.path_under.Goals as goal
 

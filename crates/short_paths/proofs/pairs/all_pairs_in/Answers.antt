@@ -1,5 +1,5 @@
 use Rattle.std.proofs.Common.{ap, length, arith}
-use Rattle.plan_terms.proofs.Joining.{joins_turned}
+use Rattle.plan_terms.proofs.Lemmas.{joins_turned}
 use Rattle.short_paths.proofs.PairNumbers.{pairs_distance}
 use Rattle.short_paths.proofs.Tables.{arcs_distance, arcs_turned}
 use Rattle.short_paths.proofs.pairs.all_pairs_in.Goals as goal

@@ -1,5 +1,5 @@
 use Rattle.std.proofs.Common.{arith, get_or}
-use Rattle.net_core.specs.declared.ids.LinkId.{LinkId}
+use Rattle.plan_terms.specs.Terms.{LinkId}
 use Rattle.short_paths.proofs.Pricing.{total_more}
 use Rattle.short_paths.proofs.priced_paths.total_of.Goals as goal
 

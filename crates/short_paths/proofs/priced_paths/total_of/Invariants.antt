@@ -1,5 +1,5 @@
 use Rattle.std.proofs.Common.{◌≡◌, ◌≤◌, ◌*◌, ◌^◌, take}
-use Rattle.plan_terms.specs.Paths.{length_of}
+use Rattle.plan_terms.specs.Terms.{length_of}
 use Rattle.short_paths.proofs.priced_paths.total_of.Given as goal
 
 abbrev pub invariant-loop-e : goal.invariant-loop-e

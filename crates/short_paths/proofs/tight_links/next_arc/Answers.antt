@@ -1,5 +1,5 @@
 use Rattle.std.proofs.Common.{◌<◌, length, false, refl, arith}
-use Rattle.std.proofs.lemmas.Bool.{both_ways}
+use Rattle.net_core.proofs.Library.{both_ways}
 use Rattle.short_paths.proofs.ForwardStars.{arc}
 use Rattle.short_paths.proofs.Relaxing.{held, held_end}
 use Rattle.short_paths.proofs.Choosing.{best_other, best_later, best_now, best_next}

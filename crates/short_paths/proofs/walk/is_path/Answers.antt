@@ -1,5 +1,5 @@
 use Rattle.std.proofs.Common.{arith}
-use Rattle.net_core.specs.Views.{graph_of}
+use Rattle.plan_terms.specs.Terms.{graph_of}
 use Rattle.short_paths.proofs.Walks.{unseen_paths}
 use Rattle.short_paths.proofs.walk.is_path.Goals as goal
 

@@ -1,6 +1,5 @@
 use Rattle.std.proofs.Common.{◌≡◌, ◌↔◌, drop, length}
-use Rattle.net_core.specs.Graphs.{Joins}
-use Rattle.net_core.specs.Views.{graph_of}
+use Rattle.plan_terms.specs.Terms.{Joins, graph_of}
 use Rattle.short_paths.specs.inner.Walks.{IsUnseenPath}
 use Rattle.short_paths.proofs.walk.leads_unseen.Given as goal
 

@@ -1,5 +1,5 @@
 use Rattle.std.proofs.Common.{◌≡◌, ◌∙◌, get_or, refl, subst}
-use Rattle.net_core.specs.Views.{graph_of}
+use Rattle.plan_terms.specs.Terms.{graph_of}
 use Rattle.short_paths.proofs.Walks.{far_joins}
 use Rattle.short_paths.proofs.walk.next_node.Goals as goal
 

@@ -1,5 +1,5 @@
 use Rattle.std.proofs.Common.{arith, ◌≡◌, ◌∙◌, w64, to_z, of_z}
-use Rattle.std.proofs.lemmas.Int.{ints}
+use Rattle.net_core.proofs.Library.{ints}
 use Rattle.simplex_core.proofs.Starts.{number_push}
 use Rattle.simplex_core.proofs.basis.bounds_of.Goals as goal
 

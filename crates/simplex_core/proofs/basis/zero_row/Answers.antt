@@ -1,7 +1,6 @@
 use Rattle.std.proofs.Common.{arith, ap, subst, sym, length}
-use Rattle.std.proofs.lemmas.Int.{ints}
-use Rattle.std.proofs.Math.Nat.{eq-one_of_dvd-one}
-use Rattle.checked_fraction.specs.Rows.{num, IsNarrow}
+use Rattle.net_core.proofs.Library.{ints, eq-one_of_dvd-one}
+use Rattle.checked_fraction.specs.Terms.{num, IsNarrow}
 use Rattle.simplex_core.proofs.Starts.{zeros_num, zeros_length}
 use Rattle.simplex_core.proofs.basis.zero_row.Goals as goal
 

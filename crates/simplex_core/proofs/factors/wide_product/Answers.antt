@@ -1,6 +1,6 @@
 use Rattle.std.proofs.Common.{◌≡◌, arith, subst, refl, ⊎_elim}
-use Rattle.std.proofs.lemmas.Bool.{cases_lt}
-use Rattle.checked_fraction.specs.Rows.{num}
+use Rattle.net_core.proofs.Library.{cases_lt}
+use Rattle.checked_fraction.specs.Terms.{num}
 use Rattle.simplex_core.specs.Turned.{IsNarrowOver}
 use Rattle.simplex_core.proofs.factors.wide_product.Goals as goal
 

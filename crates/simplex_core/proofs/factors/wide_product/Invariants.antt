@@ -1,5 +1,5 @@
 use Rattle.std.proofs.Common.{ℕ, ◌<◌}
-use Rattle.checked_fraction.specs.Rows.{num}
+use Rattle.checked_fraction.specs.Terms.{num}
 use Rattle.simplex_core.specs.Turned.{IsNarrowOver}
 use Rattle.simplex_core.proofs.factors.wide_product.Given as goal
 

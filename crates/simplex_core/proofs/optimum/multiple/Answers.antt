@@ -1,5 +1,5 @@
 use Rattle.std.proofs.Common.{◌/◌}
-use Rattle.std.proofs.Math.Nat.{dvd-mul_left}
+use Rattle.net_core.proofs.Library.{dvd-mul_left}
 use Rattle.simplex_core.proofs.Multiples.{multiple_some, multiple_first, multiple_least}
 use Rattle.simplex_core.proofs.optimum.multiple.Goals as goal
 use Rattle.net_core.proofs.Numbers.{positive_divisor}

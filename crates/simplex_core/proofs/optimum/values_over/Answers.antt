@@ -1,5 +1,5 @@
 use Rattle.std.proofs.Common.{◌≡◌, ◌<◌, ◌*◌, ◌/◌, ◌^◌, [], ◌∷◌, Some, length, length-append, slice_get, ap, sym, ◌∙◌, subst, arith}
-use Rattle.std.proofs.lemmas.Option.{slice_get-get_or}
+use Rattle.net_core.proofs.Library.{slice_get-get_or}
 use Rattle.simplex_core.specs.inner.Commons.{num_of_fraction, den_of_fraction, value_at}
 use Rattle.simplex_core.specs.inner.Shapes.{AtEach}
 use Rattle.simplex_core.proofs.Starts.{each_push}

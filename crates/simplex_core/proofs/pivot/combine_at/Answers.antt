@@ -1,6 +1,6 @@
 use Rattle.std.proofs.Common.{length, get_or, refl}
-use Rattle.std.proofs.lemmas.Option.{slice_get-get_or}
-use Rattle.checked_fraction.specs.Rows.{num}
+use Rattle.net_core.proofs.Library.{slice_get-get_or}
+use Rattle.checked_fraction.specs.Terms.{num}
 use Rattle.simplex_core.proofs.Pivots.{combines_at, too_wide_at}
 use Rattle.simplex_core.proofs.pivot.combine_at.Goals as goal
 

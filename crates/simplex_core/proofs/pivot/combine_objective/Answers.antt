@@ -1,8 +1,6 @@
-use Rattle.std.proofs.Common.{◌≡◌, length, subst, sym, ◌∙◌, arith}
+use Rattle.std.proofs.Common.{◌≡◌, length, subst, sym, ◌∙◌, arith, OnOk, IfErr}
 use Rattle.std.proofs.Math.IntN.{◌*ℤ◌}
-use Rattle.std.specs.Result.{OnOk, IfErr}
-use Rattle.checked_fraction.specs.Rows.{num, IsReduced}
-use Rattle.checked_fraction.specs.Mixed.{combined, IsTooWide}
+use Rattle.checked_fraction.specs.Terms.{num, IsReduced, combined, IsTooWide}
 use Rattle.simplex_core.specs.Tables.{nums_of}
 use Rattle.simplex_core.proofs.Lists.{read_at}
 use Rattle.simplex_core.proofs.pivot.combine_objective.Goals as goal

@@ -1,8 +1,6 @@
 use Rattle.std.proofs.Common.{length, arith, pos, ◌≡◌, ◌*ℤ◌}
-use Rattle.std.proofs.lemmas.Int.{ints}
-use Rattle.std.proofs.lemmas.Result.{on_ok_weaker, IfErr-weaker}
-use Rattle.checked_fraction.specs.Rows.{num}
-use Rattle.checked_fraction.specs.Mixed.{combined, IsTooWide}
+use Rattle.net_core.proofs.Library.{ints, on_ok_weaker, IfErr-weaker}
+use Rattle.checked_fraction.specs.Terms.{num, combined, IsTooWide}
 use Rattle.simplex_core.proofs.Divided.{factored}
 use Rattle.simplex_core.proofs.Pivots.{kept_row}
 use Rattle.simplex_core.proofs.pivot.combine_row.Goals as goal

@@ -1,5 +1,5 @@
 use Rattle.std.proofs.Common.{length, arith}
-use Rattle.checked_fraction.specs.Rows.{num}
+use Rattle.checked_fraction.specs.Terms.{num}
 use Rattle.simplex_core.proofs.Pivots.{combined_next}
 use Rattle.simplex_core.proofs.pivot.combine_rows.Goals as goal
 

@@ -1,5 +1,5 @@
 use Rattle.std.proofs.Common.{length}
-use Rattle.checked_fraction.specs.Rows.{num}
+use Rattle.checked_fraction.specs.Terms.{num}
 use Rattle.simplex_core.specs.inner.Pivots.{AreCombined}
 use Rattle.simplex_core.proofs.pivot.combine_rows.Given as goal
 

@@ -1,7 +1,6 @@
-use Rattle.std.proofs.Common.{◌≡◌, length, drop, ap, sym, subst, ◌∙◌}
-use Rattle.std.specs.Result.{OnOk, IfErr}
+use Rattle.std.proofs.Common.{◌≡◌, length, drop, ap, sym, subst, ◌∙◌, OnOk, IfErr}
 use Rattle.std.proofs.lemmas.List.{take_at}
-use Rattle.std.proofs.lemmas.Result.{on_ok_weaker}
+use Rattle.net_core.proofs.Library.{on_ok_weaker}
 use Rattle.simplex_core.specs.Tables.{IsRectangle}
 use Rattle.simplex_core.specs.Turned.{HavePivot, AreTurned, IsWideRow}
 use Rattle.simplex_core.proofs.pivot.turn_list.Goals as goal

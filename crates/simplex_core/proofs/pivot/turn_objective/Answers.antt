@@ -1,8 +1,6 @@
-use Rattle.std.proofs.Common.{length, ap, subst, sym, ◌∙◌}
+use Rattle.std.proofs.Common.{length, ap, subst, sym, ◌∙◌, OnOk, IfErr}
 use Rattle.std.proofs.Math.IntN.{◌*ℤ◌}
-use Rattle.std.specs.Result.{OnOk, IfErr}
-use Rattle.checked_fraction.specs.Rows.{num, IsReduced}
-use Rattle.checked_fraction.specs.Mixed.{combined, IsTooWide}
+use Rattle.checked_fraction.specs.Terms.{num, IsReduced, combined, IsTooWide}
 use Rattle.simplex_core.specs.Tables.{nums_at, IsRectangle}
 use Rattle.simplex_core.specs.Turned.{IsNarrowOver, HavePivot}
 use Rattle.simplex_core.proofs.pivot.turn_objective.Goals as goal

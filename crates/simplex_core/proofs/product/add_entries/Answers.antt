@@ -1,7 +1,7 @@
 use Rattle.std.proofs.Common.{arith, pos, length}
-use Rattle.std.proofs.lemmas.Int.{ints}
-use Rattle.checked_fraction.specs.Rows.{num}
-use Rattle.simplex_law.proofs.Sparse.{sparse}
+use Rattle.net_core.proofs.Library.{ints}
+use Rattle.checked_fraction.specs.Terms.{num}
+use Rattle.simplex_law.proofs.Lemmas.{sparse}
 use Rattle.simplex_core.proofs.Entries.{dot_rest, dot_end, inside_all}
 use Rattle.simplex_core.proofs.product.add_entries.Goals as goal
 

@@ -1,7 +1,6 @@
 use Rattle.std.proofs.Common.{◌≡◌, ◌≤◌, ◌+◌, ◌*◌, ◌^◌, ◌+ℤ◌, unsigned_abs, drop}
-use Rattle.checked_fraction.specs.Rows.{num}
+use Rattle.checked_fraction.specs.Terms.{num, total}
 use Rattle.simplex_core.proofs.Entries.{entries_dot}
-use Rattle.checked_fraction.specs.Totals.{total}
 use Rattle.simplex_core.proofs.product.add_entries.Given as goal
 
 -- the sum so far and the products of what is left make the whole

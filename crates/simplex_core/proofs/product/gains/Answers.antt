@@ -1,9 +1,8 @@
 use Rattle.std.proofs.Common.{◌≡◌, length, w64, to_z, of_z, subst, arith}
 use Rattle.std.proofs.Math.IntN.{◌-ℤ◌, ◌*ℤ◌}
-use Rattle.std.proofs.lemmas.Int.{ints}
-use Rattle.checked_fraction.specs.Rows.{num}
-use Rattle.checked_fraction.specs.Totals.{total}
-use Rattle.simplex_law.specs.Sums.{dot}
+use Rattle.net_core.proofs.Library.{ints}
+use Rattle.checked_fraction.specs.Terms.{num, total}
+use Rattle.simplex_law.specs.Terms.{dot}
 use Rattle.simplex_core.specs.Columns.{entry_of}
 use Rattle.simplex_core.proofs.product.gains.Goals as goal
 

@@ -1,7 +1,5 @@
 use Rattle.std.proofs.Common.{◌≡◌, ◌≤◌, ◌^◌, ◌∙◌, length-set, subst, sym, arith, to_z, of_z, unsigned_abs}
-use Rattle.std.specs.Int.{w128}
-use Rattle.std.specs.List.{AllByRecursion}
-use Rattle.std.proofs.lemmas.Int.{ints}
+use Rattle.net_core.proofs.Library.{w128, AllByRecursion, ints}
 use Rattle.simplex_core.specs.Columns.{IsEntry}
 use Rattle.simplex_core.proofs.RowsRead.{numbers_at, width_at, dot_at, products_more}
 use Rattle.simplex_core.proofs.product.write_products.Goals as goal

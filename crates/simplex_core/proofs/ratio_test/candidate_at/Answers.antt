@@ -1,8 +1,7 @@
 use Rattle.std.proofs.Common.{refl, subst, sym, arith, ◌≡◌, ◌<◌, ◌^◌, Some, None, to_z, of_z, pos, unsigned_abs}
-use Rattle.std.proofs.lemmas.Int.{ints}
-use Rattle.std.specs.Int.{w128}
+use Rattle.net_core.proofs.Library.{ints, w128}
 use Rattle.std.specs.Int.Signed.{◌<ℤ◌}
-use Rattle.checked_fraction.specs.Rows.{num}
+use Rattle.checked_fraction.specs.Terms.{num}
 use Rattle.simplex_core.proofs.RowsRead.{numbers_at, value_at_row, width_at}
 use Rattle.simplex_core.proofs.ratio_test.candidate_at.Goals as goal
 

@@ -1,9 +1,7 @@
 use Rattle.std.proofs.Common.{length, ◌≡◌, ◌∙◌, subst, refl, arith, ◌-ℤ◌, ◌*ℤ◌, to_z, of_z, Ok}
-use Rattle.std.specs.Int.{w128}
-use Rattle.std.proofs.lemmas.Int.{ints}
-use Rattle.checked_fraction.specs.Rows.{num}
-use Rattle.simplex_law.specs.Sums.{dot}
-use Rattle.simplex_law.specs.Programs.{ColumnOf}
+use Rattle.net_core.proofs.Library.{w128, ints}
+use Rattle.checked_fraction.specs.Terms.{num}
+use Rattle.simplex_law.specs.Terms.{dot, ColumnOf}
 use Rattle.simplex_core.specs.Columns.{column_from, entry_of}
 use Rattle.simplex_core.specs.inner.Ratios.{IsLeavingRow}
 use Rattle.simplex_core.specs.declared.basis.Basis.{Basis}

@@ -1,5 +1,5 @@
 use Rattle.std.proofs.Common.{subst, length}
-use Rattle.checked_fraction.specs.Rows.{num}
+use Rattle.checked_fraction.specs.Terms.{num}
 use Rattle.simplex_core.specs.Turned.{IsNarrowOver}
 use Rattle.simplex_core.proofs.Divided.{has_pivot}
 use Rattle.simplex_core.proofs.solver.pivot_at.Goals as goal

@@ -1,5 +1,5 @@
-use Rattle.checked_fraction.specs.Rows.{num}
-use Rattle.simplex_law.proofs.Numbers.{left_above}
+use Rattle.checked_fraction.specs.Terms.{num}
+use Rattle.simplex_law.proofs.Lemmas.{left_above}
 use Rattle.simplex_core.specs.Programs.{IsSameProgram}
 use Rattle.simplex_core.proofs.Solving.{IsAt}
 use Rattle.simplex_core.proofs.solver.solve.Given as goal

@@ -1,8 +1,7 @@
 use Rattle.std.proofs.Common.{length, ◌≡◌, ◌<◌, ap, sym, subst, inl, inr, pos, ◌<ℤ◌, arith, w64, to_z, of_z, [], ◌∷◌}
-use Rattle.std.specs.List.{AllByRecursion}
-use Rattle.std.proofs.lemmas.Int.{ints}
-use Rattle.checked_fraction.specs.Rows.{num}
-use Rattle.simplex_law.specs.Programs.{ColumnOf}
+use Rattle.net_core.proofs.Library.{AllByRecursion, ints}
+use Rattle.checked_fraction.specs.Terms.{num}
+use Rattle.simplex_law.specs.Terms.{ColumnOf}
 use Rattle.simplex_core.specs.Columns.{column_from, column_of, IsEntry}
 use Rattle.simplex_core.specs.inner.Turns.{Enters, reduced_cost}
 use Rattle.simplex_core.proofs.Ending.{same_program}

@@ -1,6 +1,6 @@
 use Rattle.std.proofs.Common.{◌≡◌, ◌<◌, ◌^◌, ◌∙◌, ℕ, Err, ap, length, subst, sym}
-use Rattle.std.proofs.lemmas.Result.{err_from_is_err_and}
-use Rattle.checked_fraction.specs.Rows.{num}
+use Rattle.net_core.proofs.Library.{err_from_is_err_and}
+use Rattle.checked_fraction.specs.Terms.{num}
 use Rattle.simplex_core.specs.inner.Commons.{AreFractionsOf, HaveFractions, fraction_den, IsDenominator, HaveNoDenominator, value_at}
 use Rattle.simplex_core.specs.inner.Outcomes.{IsValuesOutcome}
 use Rattle.simplex_core.specs.inner.Shapes.{AtEach}

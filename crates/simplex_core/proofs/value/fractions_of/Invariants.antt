@@ -1,6 +1,6 @@
 use Rattle.std.proofs.Common.{◌≡◌, length}
-use Rattle.checked_fraction.specs.Rows.{num}
-use Rattle.simplex_law.specs.Sums.{dot}
+use Rattle.checked_fraction.specs.Terms.{num}
+use Rattle.simplex_law.specs.Terms.{dot}
 use Rattle.simplex_core.specs.inner.Commons.{IsFractionOf}
 use Rattle.simplex_core.specs.Tables.{nums_at, den_at}
 use Rattle.simplex_core.specs.inner.Shapes.{AtEach}

@@ -1,7 +1,7 @@
 use Rattle.std.proofs.Common.{◌≡◌, unsigned_abs, length, ap, ◌∙◌, arith}
-use Rattle.std.proofs.lemmas.Int.{ints}
-use Rattle.checked_fraction.specs.Rows.{num}
-use Rattle.simplex_law.specs.Sums.{dot}
+use Rattle.net_core.proofs.Library.{ints}
+use Rattle.checked_fraction.specs.Terms.{num}
+use Rattle.simplex_law.specs.Terms.{dot}
 use Rattle.simplex_core.proofs.Fractions.{fraction_is}
 use Rattle.simplex_core.proofs.value.row_fraction.Goals as goal
 

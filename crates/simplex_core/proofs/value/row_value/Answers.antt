@@ -1,5 +1,5 @@
 use Rattle.std.proofs.Common.{arith, ℕ, unsigned_abs, ◌*◌, ◌+◌, length}
-use Rattle.checked_fraction.specs.Rows.{num}
+use Rattle.checked_fraction.specs.Terms.{num}
 use Rattle.simplex_core.proofs.Values.{fewer, next_sum}
 use Rattle.simplex_core.proofs.value.row_value.Goals as goal
 

@@ -1,5 +1,5 @@
 use Rattle.std.proofs.Common.{◌≡◌, ◌+◌, ◌==◌, drop}
-use Rattle.std.specs.List.{position_or_len}
+use Rattle.net_core.proofs.Library.{position_or_len}
 use Rattle.snd_tokens.proofs.find.find_byte.Given as goal
 
 -- no byte before this place is the wanted one

@@ -1,5 +1,5 @@
 use Rattle.std.proofs.Common.{◌≡◌, ◌≤◌, ◌+◌, length, take}
-use Rattle.std.specs.List.{suffix_len}
+use Rattle.net_core.proofs.Library.{suffix_len}
 use Rattle.snd_tokens.specs.Header.{is_blank}
 use Rattle.snd_tokens.proofs.header.trimmed.Given as goal
 

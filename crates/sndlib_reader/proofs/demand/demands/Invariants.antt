@@ -1,5 +1,5 @@
 use Rattle.std.proofs.Common.{◌≡◌, ◌<◌, ◌^◌, [], map}
-use Rattle.snd_tokens.specs.Lexemes.{left, size}
+use Rattle.snd_tokens.specs.Terms.{left, size}
 use Rattle.sndlib_reader.specs.Reading.{native_demands_at, needs_in_all}
 use Rattle.sndlib_reader.proofs.demand.demands.Given as goal
 

@@ -1,5 +1,5 @@
-use Rattle.text_kit.specs.Reading.{Parenthesis, no_fault}
-use Rattle.text_kit.proofs.Turns.{list_turn}
+use Rattle.text_kit.specs.Terms.{Parenthesis, no_fault}
+use Rattle.text_kit.proofs.Lemmas.{list_turn}
 use Rattle.sndlib_reader.specs.Reading.{native_demand_at}
 use Rattle.sndlib_reader.proofs.Online.{demand_some}
 use Rattle.sndlib_reader.proofs.demand.take_demand.Goals as goal

@@ -1,5 +1,5 @@
 use Rattle.std.proofs.Common.{◌≡◌, []}
-use Rattle.snd_tokens.specs.Lexemes.{left, size}
+use Rattle.snd_tokens.specs.Terms.{left, size}
 use Rattle.sndlib_reader.specs.Reading.{native_modules_at}
 use Rattle.sndlib_reader.proofs.link.modules.Given as goal
 

@@ -1,5 +1,5 @@
-use Rattle.text_kit.specs.Reading.{Parenthesis}
-use Rattle.text_kit.proofs.Turns.{list_turn}
+use Rattle.text_kit.specs.Terms.{Parenthesis}
+use Rattle.text_kit.proofs.Lemmas.{list_turn}
 use Rattle.sndlib_reader.specs.Reading.{module_at, unserved}
 use Rattle.sndlib_reader.proofs.Online.{module_some}
 use Rattle.sndlib_reader.proofs.link.take_module.Goals as goal

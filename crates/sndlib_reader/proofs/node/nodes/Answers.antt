@@ -1,4 +1,4 @@
-use Rattle.snd_tokens.specs.Lexemes.{left}
+use Rattle.snd_tokens.specs.Terms.{left}
 use Rattle.sndlib_reader.proofs.Nodes.{nothing_so_far}
 use Rattle.sndlib_reader.proofs.node.nodes.Goals as goal
 

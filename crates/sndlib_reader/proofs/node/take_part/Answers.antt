@@ -1,5 +1,5 @@
-use Rattle.std.proofs.lemmas.Result.{err_from_is_err_and}
-use Rattle.snd_tokens.specs.Lexemes.{left}
+use Rattle.net_core.proofs.Library.{err_from_is_err_and}
+use Rattle.snd_tokens.specs.Terms.{left}
 use Rattle.sndlib_reader.proofs.Nodes.{coordinates_fail, coordinates_turn, name_fails, name_turn, no_coordinates, nodes_end, nodes_ended, skip_shorter}
 use Rattle.sndlib_reader.proofs.node.take_part.Goals as goal
 

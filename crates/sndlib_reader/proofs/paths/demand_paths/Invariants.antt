@@ -1,6 +1,6 @@
 use Rattle.std.proofs.Common.{◌≡◌}
-use Rattle.snd_tokens.specs.Lexemes.{left, size}
-use Rattle.text_kit.specs.Reading.{each_at}
+use Rattle.snd_tokens.specs.Terms.{left, size}
+use Rattle.text_kit.specs.Terms.{each_at}
 use Rattle.sndlib_reader.specs.Reading.{native_path_at}
 use Rattle.sndlib_reader.proofs.paths.demand_paths.Given as goal
 

@@ -1,6 +1,6 @@
 use Rattle.std.proofs.Common.{◌≡◌}
-use Rattle.snd_tokens.specs.Lexemes.{left, size}
-use Rattle.text_kit.specs.Reading.{each_at, word_at}
+use Rattle.snd_tokens.specs.Terms.{left, size}
+use Rattle.text_kit.specs.Terms.{each_at, word_at}
 use Rattle.sndlib_reader.specs.declared.fault.ReadKind.TheVariants.{Token, Ended}
 use Rattle.sndlib_reader.specs.Reading.{known_name}
 use Rattle.sndlib_reader.proofs.paths.path_links.Given as goal

@@ -1,4 +1,4 @@
-use Rattle.text_kit.proofs.Turns.{each_turn}
+use Rattle.text_kit.proofs.Lemmas.{each_turn}
 use Rattle.sndlib_reader.specs.Reading.{path_line_at}
 use Rattle.sndlib_reader.proofs.Online.{line_some}
 use Rattle.sndlib_reader.proofs.paths.take_line.Goals as goal

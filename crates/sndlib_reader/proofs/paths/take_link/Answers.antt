@@ -1,5 +1,5 @@
-use Rattle.text_kit.proofs.Turns.{each_turn}
-use Rattle.text_kit.specs.Reading.{word_at}
+use Rattle.text_kit.proofs.Lemmas.{each_turn}
+use Rattle.text_kit.specs.Terms.{word_at}
 use Rattle.sndlib_reader.specs.declared.fault.ReadKind.TheVariants.{Token, Ended}
 use Rattle.sndlib_reader.specs.Reading.{known_name}
 use Rattle.sndlib_reader.proofs.Online.{known_some}

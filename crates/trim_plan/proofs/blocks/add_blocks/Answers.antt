@@ -1,8 +1,6 @@
 use Rattle.std.proofs.Common.{◌≡◌, ◌∙◌, ◌<◌, All, ap, get_or, length, refl, slice_index, subst, sym, [], List, ℕ, arith}
-use Rattle.std.proofs.lemmas.List.Elements.{All-push}
-use Rattle.net_core.specs.declared.network.Link.{Link}
-use Rattle.net_core.specs.Views.{case_of}
-use Rattle.plan_terms.specs.Capacities.{capacities}
+use Rattle.net_core.proofs.Library.{All-push}
+use Rattle.plan_terms.specs.Terms.{Link, case_of, capacities}
 use Rattle.module_choice.proofs.Pairs.{counts_shape}
 use Rattle.able_counts.specs.AbleTests.{AreRoutedCounts, IsStopAt, whole_caps}
 use Rattle.trim_plan.specs.declared.trimming.Block.{Block}

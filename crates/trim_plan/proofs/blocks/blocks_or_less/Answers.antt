@@ -1,6 +1,6 @@
 use Rattle.std.proofs.Common.{◌∙◌, ◌≤◌, ◌<◌, ◌++◌, All, IsTrue, ap, arith, get_or, length, List, [], ℕ, subst, sym, rules}
 use Rattle.std.proofs.lemmas.List.{take_all}
-use Rattle.net_core.specs.Views.{case_of}
+use Rattle.plan_terms.specs.Terms.{case_of}
 use Rattle.able_counts.specs.AbleTests.{AreRoutedCounts}
 use Rattle.module_choice.proofs.Pairs.{counts_long}
 use Rattle.trim_plan.specs.Trimmed.{IsBlockAt, links_in_use, modules_in_use}

@@ -1,5 +1,5 @@
 use Rattle.std.proofs.Common.{◌≡◌, All, take}
-use Rattle.net_core.specs.Views.{case_of}
+use Rattle.plan_terms.specs.Terms.{case_of}
 use Rattle.able_counts.specs.AbleTests.{AreRoutedCounts}
 use Rattle.trim_plan.specs.Trimmed.{IsBlockAt, links_in_use}
 use Rattle.trim_plan.specs.inner.Sparing.{block_places}

@@ -1,5 +1,5 @@
 use Rattle.std.proofs.Common.{List, ℕ, subst, sym}
-use Rattle.net_core.specs.Views.{case_of}
+use Rattle.plan_terms.specs.Terms.{case_of}
 use Rattle.trim_plan.specs.Trimmed.{AreAtMost}
 use Rattle.trim_plan.proofs.AtMost.{counts_same, limits_at_most, one_less_at_most, shape_at_most}
 use Rattle.trim_plan.proofs.Routed.{routed_lower, routed_still}

@@ -1,5 +1,5 @@
 use Rattle.std.proofs.Common.{refl, subst, sym}
-use Rattle.net_core.specs.Views.{case}
+use Rattle.plan_terms.specs.Terms.{case}
 use Rattle.trim_plan.specs.Trimmed.{IsTrimming}
 use Rattle.trim_plan.proofs.Plans.{trimming_of}
 use Rattle.trim_plan.proofs.trimming.trim.Goals as goal

@@ -1,7 +1,5 @@
 use Rattle.std.proofs.Common.{◌≡◌, ◌∙◌, List, ℕ, Some, slice_get, subst, sym}
-use Rattle.net_core.specs.declared.plan.Routing.{Routing}
-use Rattle.net_core.specs.Views.{case_of}
-use Rattle.plan_terms.specs.Capacities.{capacities}
+use Rattle.plan_terms.specs.Terms.{Routing, case_of, capacities}
 use Rattle.able_counts.specs.AbleTests.{AreRoutedCounts, AreRoutingsWithin}
 use Rattle.trim_plan.specs.Trimmed.{AreAtMost}
 use Rattle.trim_plan.proofs.AtMost.{counts_both}

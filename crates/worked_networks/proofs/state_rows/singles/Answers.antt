@@ -1,5 +1,5 @@
 use Rattle.std.proofs.Common.{◌≡◌, arith, get_or, [], ◌∷◌, length-append, ap, ◌∙◌}
-use Rattle.std.proofs.lemmas.List.{get_or_default}
+use Rattle.net_core.proofs.Library.{get_or_default}
 use Rattle.net_core.specs.declared.network.Link.{Link}
 use Rattle.worked_networks.specs.Tables.{single_state}
 use Rattle.worked_networks.proofs.Singles.{single_more}

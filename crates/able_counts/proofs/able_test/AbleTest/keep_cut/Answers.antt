@@ -1,7 +1,6 @@
 use Rattle.std.proofs.Common.{All, sym, subst}
-use Rattle.std.proofs.lemmas.List.Elements.{All-push}
-use Rattle.net_core.specs.Views.{case_of}
-use Rattle.plan_terms.specs.Certificates.{IsCut}
+use Rattle.net_core.proofs.Library.{All-push}
+use Rattle.plan_terms.specs.Terms.{case_of, IsCut}
 use Rattle.able_counts.specs.AbleTests.{IsStopAt}
 use Rattle.able_counts.proofs.able_test.AbleTest.keep_cut.Goals as goal
 

@@ -1,6 +1,5 @@
 use Rattle.std.proofs.Common.{◌≡◌, ◌∙◌, ℕ, ◌≤◌, All, List, ap, length, subst, sym}
-use Rattle.net_core.specs.declared.plan.CutLine.{CutLine}
-use Rattle.net_core.specs.Views.{case_of}
+use Rattle.plan_terms.specs.Terms.{CutLine, case_of}
 use Rattle.net_core.proofs.Networks.{few_links}
 use Rattle.module_choice.proofs.Pairs.{capacities_long}
 use Rattle.able_counts.proofs.Testing.{lengths_of_cuts}

@@ -1,5 +1,5 @@
 use Rattle.std.proofs.Common.{arith}
-use Rattle.net_core.specs.Views.{case_of}
+use Rattle.plan_terms.specs.Terms.{case_of}
 use Rattle.able_counts.proofs.Testing.{kept_both, kept_none, stop_of_later, within_all, within_more, within_none}
 use Rattle.able_counts.proofs.able_test.AbleTest.stop_in_turn.Goals as goal
 

@@ -1,4 +1,4 @@
-use Rattle.net_core.specs.Views.{case_of}
+use Rattle.plan_terms.specs.Terms.{case_of}
 use Rattle.able_counts.proofs.Testing.{kept_both}
 use Rattle.able_counts.proofs.able_test.AbleTest.stop_within.Goals as goal
 

@@ -1,6 +1,5 @@
 use Rattle.std.proofs.Common.{sym, subst}
-use Rattle.std.specs.Int.{◌∣◌}
-use Rattle.std.proofs.Math.Nat.{one-dvd}
+use Rattle.net_core.proofs.Library.{◌∣◌, one-dvd}
 use Rattle.checked_fraction.proofs.divisor.Divisor.divides.Goals as goal
 
 pub returns-then-self-eq1 : goal.returns-then-self-eq1

@@ -1,5 +1,5 @@
 use Rattle.std.proofs.Common.{◌≡◌, ◌<◌, ◌^◌, length, to_z, of_z, sym, subst, arith, w64}
-use Rattle.std.proofs.lemmas.Int.{ints}
+use Rattle.net_core.proofs.Library.{ints}
 use Rattle.checked_fraction.specs.Rows.{num, IsNarrow, IsInLowestTerms}
 use Rattle.checked_fraction.proofs.row.RowCopied.copy.Goals as goal
 

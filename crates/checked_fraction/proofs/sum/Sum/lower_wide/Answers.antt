@@ -1,6 +1,5 @@
 use Rattle.std.proofs.Common.{◌≡◌, w64, to_z, of_z, ◌∙◌, arith}
-use Rattle.std.specs.Int.{w128}
-use Rattle.std.proofs.lemmas.Int.{ints}
+use Rattle.net_core.proofs.Library.{w128, ints}
 use Rattle.checked_fraction.proofs.Parts.{lowered}
 use Rattle.checked_fraction.proofs.sum.Sum.lower_wide.Goals as goal
 

@@ -1,10 +1,7 @@
-use Rattle.std.proofs.Common.{◌∙◌, ◌<◌, ◌≤◌, ◌^◌, ◌++◌, ◌∷◌, [], All, List, ap, length, map, refl, sym, subst, arith}
-use Rattle.std.specs.Prelude.{position}
+use Rattle.std.proofs.Common.{◌∙◌, ◌<◌, ◌≤◌, ◌^◌, ◌++◌, ◌∷◌, [], All, List, ap, length, map, refl, sym, subst, arith, position}
 use Rattle.std.proofs.lemmas.List.{length-append}
-use Rattle.std.proofs.lemmas.List.Elements.{All-push}
-use Rattle.net_core.specs.declared.demand.Demand.{Demand}
-use Rattle.net_core.specs.declared.journal.Entry.{Entry}
-use Rattle.net_core.specs.declared.journal.Entry.TheVariants.{Pooled}
+use Rattle.net_core.proofs.Library.{All-push}
+use Rattle.plan_terms.specs.Terms.{Demand, Entry, Pooled}
 use Rattle.cut_pool.specs.declared.pooled.PooledCut.{PooledCut}
 use Rattle.cut_pool.specs.Boards.{opening_case}
 use Rattle.cut_pool.specs.Histories.{IsBoardAfter}

@@ -1,7 +1,6 @@
 use Rattle.std.proofs.Common.{◌≡◌, ◌∙◌, All, ap, length, map, sym}
-use Rattle.std.proofs.lemmas.List.{length-map}
-use Rattle.std.proofs.lemmas.Result.{IfOk-weaker}
-use Rattle.net_core.specs.Views.{case}
+use Rattle.net_core.proofs.Library.{length-map, IfOk-weaker}
+use Rattle.plan_terms.specs.Terms.{case}
 use Rattle.cut_pool.specs.declared.pooled.PooledCut.{PooledCut}
 use Rattle.cut_pool.specs.Boards.{IsAudit, opening_case}
 use Rattle.cut_pool.specs.inner.Pooling.{StandsAmong}

@@ -1,5 +1,5 @@
 use Rattle.std.proofs.Common.{◌∙◌, ap, map}
-use Rattle.std.proofs.lemmas.Result.{IfOk-weaker}
+use Rattle.net_core.proofs.Library.{IfOk-weaker}
 use Rattle.cut_pool.specs.Boards.{AreLinesNow}
 use Rattle.cut_pool.specs.Pools.{line_of_pooled}
 use Rattle.cut_pool.proofs.Told.{lines_now}

@@ -1,7 +1,6 @@
 use Rattle.std.proofs.Common.{◌≡◌, ◌<◌, List, Some, get_or, length, slice_get, subst, sym, arith}
-use Rattle.std.proofs.Math.Logic.{∥∥₁_elim}
-use Rattle.std.proofs.Props.{props}
-use Rattle.net_core.specs.Cases.{graph_in}
+use Rattle.net_core.proofs.Library.{∥∥₁_elim, props}
+use Rattle.plan_terms.specs.Terms.{graph_in}
 use Rattle.metric_cut.specs.Cuts.{IsCutOf}
 use Rattle.cut_pool.specs.declared.pooled.PooledCut.{PooledCut}
 use Rattle.cut_pool.specs.Boards.{opening_case}

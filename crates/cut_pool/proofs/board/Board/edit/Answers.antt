@@ -1,9 +1,6 @@
-use Rattle.std.proofs.Common.{◌≡◌, ◌∙◌, All, List, length, sym, subst, refl, ap, true, arith}
-use Rattle.std.specs.Prelude.{IfOk}
-use Rattle.std.proofs.lemmas.List.{length-map}
-use Rattle.net_core.specs.declared.demand.Demand.{Demand}
-use Rattle.net_core.specs.Views.{case}
-use Rattle.plan_terms.specs.Edits.{edit_reply}
+use Rattle.std.proofs.Common.{◌≡◌, ◌∙◌, All, List, length, sym, subst, refl, ap, true, arith, IfOk}
+use Rattle.net_core.proofs.Library.{length-map}
+use Rattle.plan_terms.specs.Terms.{Demand, case, edit_reply}
 use Rattle.cut_pool.specs.declared.pooled.PooledCut.{PooledCut}
 use Rattle.cut_pool.specs.Boards.{opening_case}
 use Rattle.cut_pool.specs.Rooms.{left_spare, sets_known}

@@ -1,7 +1,5 @@
 use Rattle.std.proofs.Common.{◌<◌, ◌^◌, List, get_or, length, subst, sym, arith}
-use Rattle.net_core.specs.Cases.{graph_in}
-use Rattle.net_core.specs.Graphs.{Joins}
-use Rattle.plan_terms.specs.Certificates.{IsRight}
+use Rattle.plan_terms.specs.Terms.{graph_in, Joins, IsRight}
 use Rattle.cut_pool.specs.declared.pooled.PooledCut.{PooledCut}
 use Rattle.cut_pool.specs.Boards.{opening_case}
 use Rattle.cut_pool.specs.Histories.{demands_left}

@@ -1,8 +1,5 @@
 use Rattle.std.proofs.Common.{◌≡◌, ◌∙◌, All, List, length, subst, sym}
-use Rattle.net_core.specs.declared.demand.Demand.{Demand}
-use Rattle.net_core.specs.Demands.{AreDemands}
-use Rattle.net_core.specs.Views.{case}
-use Rattle.plan_terms.specs.Certificates.{IsCut}
+use Rattle.plan_terms.specs.Terms.{Demand, AreDemands, case, IsCut}
 use Rattle.cut_pool.specs.Boards.{opening_case}
 use Rattle.cut_pool.specs.Histories.{demands_left}
 use Rattle.cut_pool.proofs.board.Board.snapshot.Goals as goal

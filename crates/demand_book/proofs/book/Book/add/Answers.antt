@@ -1,7 +1,5 @@
 use Rattle.std.proofs.Common.{rules, ◌≡◌, ◌+◌, ◌^◌, ◌<◌, ◌++◌, [], ◌∷◌, length, sym, subst, ◌∙◌, ap, arith}
-use Rattle.net_core.specs.Demands.{AreDemands, IsDemand}
-use Rattle.net_core.specs.declared.demand.Demand.{Demand}
-use Rattle.plan_terms.specs.Edits.{total_need}
+use Rattle.plan_terms.specs.Terms.{AreDemands, IsDemand, Demand, total_need}
 use Rattle.demand_book.proofs.Changed.{added_demands, added_total}
 use Rattle.demand_book.proofs.book.Book.add.Goals as goal
 

@@ -1,6 +1,5 @@
 use Rattle.std.proofs.Common.{◌≡◌, ◌-◌, true, sym, subst, ◌∙◌, arith}
-use Rattle.plan_terms.specs.Edits.{is_demand}
-use Rattle.net_core.specs.Demands.{AreDemands}
+use Rattle.plan_terms.specs.Terms.{is_demand, AreDemands}
 use Rattle.demand_book.proofs.Changed.{IsAlone, alone, remove_demands, remove_is, remove_total}
 use Rattle.demand_book.proofs.Replies.{drop_accepted}
 use Rattle.demand_book.proofs.book.Book.drop_demand.Goals as goal

@@ -1,8 +1,6 @@
-use Rattle.std.proofs.Common.{rules, ◌≡◌, ◌<◌, true, false, length, sym, ap, refl}
-use Rattle.std.specs.Prelude.{position, unwrap_or, Some}
-use Rattle.std.proofs.lemmas.Bool.{lt-leb}
-use Rattle.net_core.specs.Tests.{are_same, is_named}
-use Rattle.plan_terms.specs.Edits.{is_demand}
+use Rattle.std.proofs.Common.{rules, ◌≡◌, ◌<◌, true, false, length, sym, ap, refl, position, unwrap_or, Some}
+use Rattle.net_core.proofs.Library.{lt-leb}
+use Rattle.plan_terms.specs.Terms.{are_same, is_named, is_demand}
 use Rattle.demand_book.proofs.Replies.{ends_differ, place_below}
 use Rattle.demand_book.proofs.book.Book.ends.Goals as goal
 

@@ -1,10 +1,9 @@
 use Rattle.std.proofs.Common.{◌≡◌, Some, List, slice_get, ap, subst, sym, ◌∙◌, ◌<ℤ◌, ◌*ℤ◌, false, true, refl}
-use Rattle.std.proofs.lemmas.Option.{slice_get-get_or}
-use Rattle.checked_fraction.specs.Rows.{num}
-use Rattle.simplex_law.specs.Sums.{dot}
-use Rattle.simplex_core.specs.Columns.{entry_of}
+use Rattle.net_core.proofs.Library.{slice_get-get_or}
+use Rattle.checked_fraction.specs.Terms.{num}
+use Rattle.simplex_law.specs.Terms.{dot}
+use Rattle.simplex_core.specs.Terms.{entry_of, Finds}
 use Rattle.exact_tests.specs.Listed.{IsListedColumn, entries_of}
-use Rattle.simplex_core.specs.Prices.{Finds}
 use Rattle.exact_tests.specs.declared.packing.Shape.{Shape}
 use Rattle.simplex_core.specs.declared.columns.Price.TheVariants.{Optimal}
 use Rattle.exact_tests.specs.declared.packing.Label.TheVariants.{Listed}

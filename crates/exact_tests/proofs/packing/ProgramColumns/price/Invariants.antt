@@ -1,7 +1,7 @@
 use Rattle.std.proofs.Common.{◌≡◌, ◌<◌, ℕ, Some, slice_get, ◌*ℤ◌, ◌<ℤ◌}
-use Rattle.checked_fraction.specs.Rows.{num}
-use Rattle.simplex_law.specs.Sums.{dot}
-use Rattle.simplex_core.specs.Columns.{entry_of}
+use Rattle.checked_fraction.specs.Terms.{num}
+use Rattle.simplex_law.specs.Terms.{dot}
+use Rattle.simplex_core.specs.Terms.{entry_of}
 use Rattle.exact_tests.specs.Listed.{entries_of}
 use Rattle.exact_tests.specs.declared.packing.Shape.{Shape}
 use Rattle.exact_tests.proofs.packing.ProgramColumns.price.Given as goal

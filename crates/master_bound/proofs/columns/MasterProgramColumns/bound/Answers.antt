@@ -1,7 +1,5 @@
-use Rattle.std.proofs.Common.{◌≡◌, ◌<◌, ◌^◌, ℕ, ap, arith, length, slice_index_or, sym, to_z, w64, ◌∙◌}
-use Rattle.std.specs.Prelude.{pos}
-use Rattle.std.proofs.lemmas.Int.{ints}
-use Rattle.std.proofs.lemmas.List.{get_or-map}
+use Rattle.std.proofs.Common.{◌≡◌, ◌<◌, ◌^◌, ℕ, ap, arith, length, slice_index_or, sym, to_z, w64, ◌∙◌, pos}
+use Rattle.net_core.proofs.Library.{ints, get_or-map}
 use Rattle.module_prices.specs.declared.cheapest.UnitPair.{UnitPair}
 use Rattle.master_bound.proofs.columns.MasterProgramColumns.bound.Goals as goal
 

@@ -1,4 +1,4 @@
-use Rattle.std.proofs.lemmas.Option.{slice_get_within}
+use Rattle.net_core.proofs.Library.{slice_get_within}
 use Rattle.master_bound.proofs.Entering.{counted, gaining_column, no_column}
 use Rattle.master_bound.proofs.columns.MasterProgramColumns.price.Goals as goal
 

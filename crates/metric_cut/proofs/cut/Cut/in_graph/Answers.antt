@@ -1,5 +1,5 @@
 use Rattle.std.proofs.Common.{arith, refl}
-use Rattle.net_core.specs.Views.{graph_of}
+use Rattle.plan_terms.specs.Terms.{graph_of}
 use Rattle.metric_cut.proofs.Keepings.{keeps_kept}
 use Rattle.metric_cut.proofs.cut.Cut.in_graph.Goals as goal
 

@@ -1,5 +1,5 @@
 use Rattle.std.proofs.Common.{subst}
-use Rattle.net_core.specs.Views.{graph}
+use Rattle.plan_terms.specs.Terms.{graph}
 use Rattle.metric_cut.specs.Cuts.{IsCutOf, MayKeepCut}
 use Rattle.metric_cut.proofs.Keepings.{kept_have_bound}
 use Rattle.metric_cut.proofs.cut.Cut.new.Goals as goal

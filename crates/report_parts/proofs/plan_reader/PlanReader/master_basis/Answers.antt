@@ -1,4 +1,4 @@
-use Rattle.report_words.specs.ReportWords.{has_room}
+use Rattle.report_words.specs.Terms.{has_room}
 use Rattle.report_parts.proofs.PartsOnline.{master_column_some}
 use Rattle.report_parts.specs.Readers.{reader_names}
 use Rattle.report_parts.proofs.plan_reader.PlanReader.master_basis.Goals as goal

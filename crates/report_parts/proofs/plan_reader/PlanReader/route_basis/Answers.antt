@@ -1,4 +1,4 @@
-use Rattle.report_words.specs.ReportWords.{has_room}
+use Rattle.report_words.specs.Terms.{has_room}
 use Rattle.report_parts.proofs.PartsOnline.{route_column_some}
 use Rattle.report_parts.specs.Readers.{reader_demands, reader_links}
 use Rattle.report_parts.proofs.plan_reader.PlanReader.route_basis.Goals as goal

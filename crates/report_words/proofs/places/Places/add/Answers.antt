@@ -1,5 +1,5 @@
 use Rattle.std.proofs.Common.{◌≡◌, ℕ, false, true, List, sym, subst, ◌∙◌}
-use Rattle.net_core.specs.Tests.{is_named}
+use Rattle.net_core.specs.Terms.{is_named}
 use Rattle.report_words.proofs.Lookups.{known_by, new_by, old_by}
 use Rattle.report_words.proofs.places.Places.add.Goals as goal
 

@@ -1,6 +1,5 @@
-use Rattle.std.proofs.Common.{◌≡◌, ℕ, List, subst, ◌∙◌}
-use Rattle.std.specs.Prelude.{position}
-use Rattle.net_core.specs.Tests.{are_same}
+use Rattle.std.proofs.Common.{◌≡◌, ℕ, List, subst, ◌∙◌, position}
+use Rattle.net_core.specs.Terms.{are_same}
 use Rattle.report_words.proofs.Lookups.{found_by}
 use Rattle.report_words.proofs.places.Places.find.Goals as goal
 

@@ -1,4 +1,4 @@
-use Rattle.net_core.specs.Views.{case_of}
+use Rattle.plan_terms.specs.Terms.{case_of}
 use Rattle.separation_workers.proofs.Working.{none_below, stays}
 use Rattle.separation_workers.proofs.workers.WorkersSeparate.separate.Goals as goal
 

@@ -1,6 +1,6 @@
 use Rattle.std.proofs.Common.{All, Contains, subst, sym}
-use Rattle.std.proofs.lemmas.Result.{IfOk-weaker}
-use Rattle.net_core.specs.Views.{case_of}
+use Rattle.net_core.proofs.Library.{IfOk-weaker}
+use Rattle.plan_terms.specs.Terms.{case_of}
 use Rattle.separator.specs.Separators.{SeparatesAt, cuts_answered, cuts_since}
 use Rattle.separator.proofs.Answering.{own_cuts, sees_more}
 use Rattle.separator.proofs.one_by_one.OneByOneSeparate.separate.Goals as goal

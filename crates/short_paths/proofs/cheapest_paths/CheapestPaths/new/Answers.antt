@@ -1,5 +1,5 @@
 use Rattle.std.proofs.Common.{arith}
-use Rattle.std.proofs.lemmas.Option.{slice_get_within}
+use Rattle.net_core.proofs.Library.{slice_get_within}
 use Rattle.short_paths.proofs.Pricing.{scaled_long, scaled_short}
 use Rattle.short_paths.proofs.cheapest_paths.CheapestPaths.new.Goals as goal
 

@@ -1,9 +1,6 @@
 use Rattle.std.proofs.Common.{Err, ap, arith, length, ◌∙◌}
-use Rattle.net_core.specs.Graphs.{Joins}
-use Rattle.net_core.specs.Views.{graph_of}
-use Rattle.plan_terms.proofs.Distinct.{path_links_known}
-use Rattle.plan_terms.proofs.Few.{path_few}
-use Rattle.plan_terms.proofs.Joining.{joins_below, joins_inside}
+use Rattle.plan_terms.specs.Terms.{Joins, graph_of}
+use Rattle.plan_terms.proofs.Lemmas.{path_links_known, path_few, joins_below, joins_inside}
 use Rattle.short_paths.proofs.Pricing.{least_priced}
 use Rattle.short_paths.proofs.cheapest_paths.CheapestPaths.path.Goals as goal
 use Rattle.net_core.proofs.Networks.{few_nodes}

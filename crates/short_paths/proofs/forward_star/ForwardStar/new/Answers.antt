@@ -1,4 +1,4 @@
-use Rattle.plan_terms.proofs.Joining.{joins_below, joins_inside}
+use Rattle.plan_terms.proofs.Lemmas.{joins_below, joins_inside}
 use Rattle.short_paths.proofs.ForwardStars.{arcs_moved, arcs_within, arcs_below}
 use Rattle.short_paths.proofs.forward_star.ForwardStar.new.Goals as goal
 

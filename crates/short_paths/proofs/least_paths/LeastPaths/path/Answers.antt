@@ -1,5 +1,5 @@
 use Rattle.std.proofs.Common.{arith}
-use Rattle.std.proofs.lemmas.Result.{IfOk-weaker}
+use Rattle.net_core.proofs.Library.{IfOk-weaker}
 use Rattle.short_paths.proofs.Leading.{leads_on, way_least, unfound_apart, apart_unfound}
 use Rattle.short_paths.proofs.least_paths.LeastPaths.path.Goals as goal
 
