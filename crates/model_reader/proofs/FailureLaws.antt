@@ -1,7 +1,7 @@
 -- The reading of a failure list takes exactly the texts of failure lists.
 use Rattle.std.proofs.Common.{◌≡◌, ◌≢◌, ℕ, ◌<◌, ◌≤◌, Bool, true, false, cond, List, [], ◌∷◌, ◌++◌, length, get_or, All, AllPairs, Result, Ok, Err, IfOk, IfErr, refl, sym, ap, subst, ◌∙◌, append-nil, flat_map, codes}
 use Rattle.net_core.proofs.Library.{slice_get-get_or}
-use Rattle.net_core.specs.Terms.{IsNetwork, AreStates, are_same}
+use Rattle.net_core.specs.Terms.{IsNetwork, AreStates, are_same, link_name}
 use Rattle.net_core.specs.declared.ids.LinkId.{LinkId}
 use Rattle.net_core.specs.declared.network.Link.{Link}
 use Rattle.net_core.specs.declared.states.Listed.{Listed}
@@ -14,7 +14,7 @@ use Rattle.model_reader.specs.declared.failures.FailureList.{FailureList}
 use Rattle.model_reader.specs.declared.failures.FailureList.TheVariants.{OneByOne, EverySingleLink}
 use Rattle.model_reader.specs.declared.failures.FailuresKind.{FailuresKind}
 use Rattle.model_reader.specs.declared.failures.FailuresKind.TheVariants.{Header, Section, Token, Ended, LimitName, UnknownLink, DoubleState, LimitStates}
-use Rattle.model_reader.specs.Failures.{IsListInForm, IsShort, SpellsFailures, failures_header, failing_link_name, list_items, state_items, states_of}
+use Rattle.model_reader.specs.Failures.{IsListInForm, IsShort, SpellsFailures, failures_header, list_items, state_items, states_of}
 use Rattle.model_reader.specs.FailuresReading.{after_word, failure_list_at, failures_at, failures_of, failing_link_at, is_list, links_at, state_at, states_at}
 use Rattle.model_reader.proofs.FailureSingles.{network_differs}
 use Rattle.net_core.proofs.Checks.{same_is}
@@ -26,12 +26,12 @@ no_link = record { name = []; a = record { 0 = 0 }; b = record { 0 = 0 }; fixed 
 
 -- a link of the network whose name isn't too long
 abbrev IsLinkIn : List Link → LinkId → Type 0
-IsLinkIn links e = (e.0 < length links) × (length (failing_link_name links e) ≤ 255)
+IsLinkIn links e = (e.0 < length links) × (length (link_name links e) ≤ 255)
 
 abbrev AreDifferent : List Link → Type 0
 AreDifferent links = AllPairs (λ x y. x.name ≢ y.name) links
 
-name_at_place : (links : List Link) (e : LinkId) → e.0 < length links → failing_link_name links e ≡ (get_or links e.0 no_link).name
+name_at_place : (links : List Link) (e : LinkId) → e.0 < length links → link_name links e ≡ (get_or links e.0 no_link).name
 name_at_place links e lt = rw (slice_get-get_or links e.0 no_link lt) refl
 
 -- ---- states
@@ -49,7 +49,7 @@ are_states links listed all =
         checked = record { few = new.0; some = each (λ s. 1 ≤ length s.links) (λ before s h. h.1.0); different = new.1 };
         known = each (λ s. All (λ e. e.0 < length links) s.links) (λ before s h. of_links (λ e. e.0 < length links) s (λ e i. i.0) h.1.1);
       },
-      each (IsShort links) (λ before s h. (h.0.2, of_links (λ e. length (failing_link_name links e) ≤ 255) s (λ e i. i.1) h.1.1)),
+      each (IsShort links) (λ before s h. (h.0.2, of_links (λ e. length (link_name links e) ≤ 255) s (λ e i. i.1) h.1.1)),
     )
 
 are_after : (links : List Link) (listed : List Listed) → AreStates (length links) listed × All (IsShort links) listed → ComeAfter (IsStateAfter links) [] listed
@@ -62,8 +62,8 @@ are_after links listed h =
 
 -- ---- the law
 
-link_lawful : (links : List Link) → AreDifferent links → Lawful (failing_link_at links) (λ e. Verbatim (failing_link_name links e) ∷ []) (IsLinkIn links) AnyText
-link_lawful links pairs = lawful_as (failing_link_at links) _ (λ e. Verbatim (failing_link_name links e) ∷ []) _ (IsLinkIn links) AnyText
+link_lawful : (links : List Link) → AreDifferent links → Lawful (failing_link_at links) (λ e. Verbatim (link_name links e) ∷ []) (IsLinkIn links) AnyText
+link_lawful links pairs = lawful_as (failing_link_at links) _ (λ e. Verbatim (link_name links e) ∷ []) _ (IsLinkIn links) AnyText
     (λ e h. ap (λ (n : List ℕ). Verbatim n ∷ []) (sym (name_at_place links e h.0.0)))
     (λ e h. (h.0.0, subst (λ (n : List ℕ). length n ≤ 255) (sym (name_at_place links e h.0.0)) h.0.1))
     (λ e h. ((h.0, subst (λ (n : List ℕ). length n ≤ 255) (name_at_place links e h.0) h.1), refl))
@@ -73,12 +73,12 @@ link_lawful links pairs = lawful_as (failing_link_at links) _ (λ e. Verbatim (f
 state_lawful : (links : List Link) → AreDifferent links → (sofar : List Listed) → Lawful (state_at links sofar) (state_items links) (IsStateAfter links sofar) AnyText
 unfolding state_at
 state_lawful links pairs sofar = lawful_as (state_at links sofar) _ (state_items links) _ (IsStateAfter links sofar) AnyText
-    (λ s h. ap (λ (is : List Item). Verbatim s.name ∷ Opening ∷ is) (append-nil (flat_map (λ e. Verbatim (failing_link_name links e) ∷ []) s.links ++ Closing ∷ [])))
+    (λ s h. ap (λ (is : List Item). Verbatim s.name ∷ Opening ∷ is) (append-nil (flat_map (λ e. Verbatim (link_name links e) ∷ []) s.links ++ Closing ∷ [])))
     (λ s h. (h.0, h.1.1.0))
     (λ s h. (h.0, (tt, (h.1, refl))))
     (lawful_then _ _ _ _ _ _ AnyText (λ s. s.name) (λ a s h. ap (λ (x : Listed). x.name) h.1.1) (lawful_new_name (λ x. x.name) 256 LimitName DoubleState LimitStates Token Ended sofar) (λ name.
     lawful_then _ _ _ _ _ _ AnyText (λ s. tt) (λ a s h. refl) (lawful_open Token Ended) (λ a.
-    lawful_then _ _ _ _ _ _ AnyText (λ s. s.links) (λ a s h. ap (λ (x : Listed). x.links) h) (lawful_some Token (λ before. failing_link_at links) (λ e. Verbatim (failing_link_name links e) ∷ []) (λ before e. IsLinkIn links e) (λ e. tt) (λ before. link_lawful links pairs)) (λ failing.
+    lawful_then _ _ _ _ _ _ AnyText (λ s. s.links) (λ a s h. ap (λ (x : Listed). x.links) h) (lawful_some Token (λ before. failing_link_at links) (λ e. Verbatim (link_name links e) ∷ []) (λ before e. IsLinkIn links e) (λ e. tt) (λ before. link_lawful links pairs)) (λ failing.
     lawful_give (record { name = name; links = failing })))))
 
 states_lawful : (links : List Link) → AreDifferent links → Lawful (states_at links []) (λ xs. flat_map (state_items links) xs ++ Closing ∷ []) (λ xs. AreStates (length links) xs × All (IsShort links) xs) AnyText

@@ -7,39 +7,39 @@ use Rattle.net_core.specs.declared.ids.LinkId.{LinkId}
 use Rattle.net_core.specs.declared.network.Link.{Link}
 use Rattle.net_core.specs.declared.states.Listed.{Listed}
 use Rattle.net_core.specs.declared.states.StatesFault.{StatesFault}
-use Rattle.net_core.specs.Terms.{IsNetwork, AreStates, states_fault}
-use Rattle.model_reader.specs.Failures.{single, single_states, singles_from}
+use Rattle.net_core.specs.Terms.{IsNetwork, AreStates, single_state, states_fault}
+use Rattle.model_reader.specs.Failures.{single_states, singles_from}
 use Rattle.net_core.proofs.Accepted.{states_accepted}
 use Rattle.net_core.proofs.Networks.{few_links}
 
-singles_push : (at : ℕ) (ls : List Link) (l : Link) → singles_from at (ls ++ l ∷ []) ≡ singles_from at ls ++ single (at + length ls) l.name ∷ []
-singles_push at [] l = ap (λ (k : ℕ). single k l.name ∷ []) (omega arith)
+singles_push : (at : ℕ) (ls : List Link) (l : Link) → singles_from at (ls ++ l ∷ []) ≡ singles_from at ls ++ single_state (at + length ls) l.name ∷ []
+singles_push at [] l = ap (λ (k : ℕ). single_state k l.name ∷ []) (omega arith)
 singles_push at (x ∷ xs) l =
-    ap (λ (ss : List Listed). single at x.name ∷ ss) (singles_push (at + 1) xs l ∙ ap (λ (k : ℕ). singles_from (at + 1) xs ++ single k l.name ∷ []) (omega arith))
+    ap (λ (ss : List Listed). single_state at x.name ∷ ss) (singles_push (at + 1) xs l ∙ ap (λ (k : ℕ). singles_from (at + 1) xs ++ single_state k l.name ∷ []) (omega arith))
 
 -- the states of one more link
-pub singles_more : (links : List Link) (i : ℕ) (l : Link) (d : Link) → i < length links → l ≡ get_or links i d → single_states (take (i + 1) links) ≡ single_states (take i links) ++ single i l.name ∷ []
+pub singles_more : (links : List Link) (i : ℕ) (l : Link) (d : Link) → i < length links → l ≡ get_or links i d → single_states (take (i + 1) links) ≡ single_states (take i links) ++ single_state i l.name ∷ []
 singles_more links i l d lt is =
     let more : take (i + 1) links ≡ take i links ++ get_or links i d ∷ [] = rw add-one (take-suc links i d lt) in
     let len : 0 + length (take i links) ≡ i = omega (arith, length-take i links) in
     ap (λ (ls : List Link). single_states ls) more
     ∙ singles_push 0 (take i links) (get_or links i d)
-    ∙ ap (λ (k : ℕ). single_states (take i links) ++ single k (get_or links i d).name ∷ []) len
-    ∙ ap (λ (x : Link). single_states (take i links) ++ single i x.name ∷ []) (sym is)
+    ∙ ap (λ (k : ℕ). single_states (take i links) ++ single_state k (get_or links i d).name ∷ []) len
+    ∙ ap (λ (x : Link). single_states (take i links) ++ single_state i x.name ∷ []) (sym is)
 
 singles_length : (at : ℕ) (ls : List Link) → length (singles_from at ls) ≡ length ls
 singles_length at [] = refl
 singles_length at (l ∷ ls) = ap suc (singles_length (at + 1) ls)
 
 -- the state at a place
-single_at : (at : ℕ) (ls : List Link) (i : ℕ) (d : Listed) (l : Link) → i < length ls → get_or (singles_from at ls) i d ≡ single (at + i) (get_or ls i l).name
+single_at : (at : ℕ) (ls : List Link) (i : ℕ) (d : Listed) (l : Link) → i < length ls → get_or (singles_from at ls) i d ≡ single_state (at + i) (get_or ls i l).name
 single_at at [] i d l lt = absurd (omega (arith, lt))
-single_at at (x ∷ xs) zero d l lt = ap (λ (k : ℕ). single k x.name) (omega arith)
-single_at at (x ∷ xs) (suc i) d l lt = single_at (at + 1) xs i d l (omega (arith, lt)) ∙ ap (λ (k : ℕ). single k (get_or xs i l).name) (omega arith)
+single_at at (x ∷ xs) zero d l lt = ap (λ (k : ℕ). single_state k x.name) (omega arith)
+single_at at (x ∷ xs) (suc i) d l lt = single_at (at + 1) xs i d l (omega (arith, lt)) ∙ ap (λ (k : ℕ). single_state k (get_or xs i l).name) (omega arith)
 
 -- the state of the link at a place
-state_at : (links : List Link) (i : ℕ) (d : Listed) (l : Link) → i < length links → get_or (single_states links) i d ≡ single i (get_or links i l).name
-state_at links i d l lt = single_at 0 links i d l lt ∙ ap (λ (k : ℕ). single k (get_or links i l).name) (omega arith)
+state_at : (links : List Link) (i : ℕ) (d : Listed) (l : Link) → i < length links → get_or (single_states links) i d ≡ single_state i (get_or links i l).name
+state_at links i d l lt = single_at 0 links i d l lt ∙ ap (λ (k : ℕ). single_state k (get_or links i l).name) (omega arith)
 
 abbrev no_link : Link
 no_link = record { name = []; a = record { 0 = 0 }; b = record { 0 = 0 }; fixed = 0; setup = 0; modules = [] }

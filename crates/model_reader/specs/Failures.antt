@@ -1,10 +1,8 @@
 -- the grammar of a failure list: named states, each with the links that fail; or the word for every single-link failure
-use Rattle.std.specs.Prelude.{ℕ, ◌+◌, ◌≤◌, List, [], ◌∷◌, ◌++◌, length, All, flat_map, slice_get, codes}
-use Rattle.std.specs.Option.{option_map_or}
-use Rattle.net_core.specs.declared.ids.LinkId.{LinkId}
+use Rattle.std.specs.Prelude.{ℕ, ◌+◌, ◌≤◌, List, [], ◌∷◌, ◌++◌, length, All, flat_map, codes}
 use Rattle.net_core.specs.declared.network.Link.{Link}
 use Rattle.net_core.specs.declared.states.Listed.{Listed}
-use Rattle.net_core.specs.Terms.{AreStates}
+use Rattle.net_core.specs.Terms.{AreStates, link_name, single_state}
 use Rattle.model_reader.specs.declared.failures.FailureList.{FailureList}
 use Rattle.model_reader.specs.declared.failures.FailureList.TheVariants.{OneByOne, EverySingleLink}
 use Rattle.text_kit.specs.Terms.{SpellsAs, Item, Verbatim, Opening, Closing}
@@ -13,18 +11,10 @@ use Rattle.text_kit.specs.Terms.{SpellsAs, Item, Verbatim, Opening, Closing}
 abbrev pub failures_header : List ℕ
 failures_header = codes "?planner failures; version: 1"
 
--- a link's name
-abbrev pub failing_link_name : List Link → LinkId → List ℕ
-failing_link_name links e = option_map_or (λ l. l.name) (slice_get links e.0) []
-
--- the state of this name, which fails the one link of this place
-abbrev pub single : ℕ → List ℕ → Listed
-single at name = record { name = name; links = record { 0 = at } ∷ [] }
-
 -- each link as a state of its name, where the first has a place
 abbrev pub singles_from : ℕ → List Link → List Listed
 singles_from at [] = []
-singles_from at (l ∷ ls) = single at l.name ∷ singles_from (at + 1) ls
+singles_from at (l ∷ ls) = single_state at l.name ∷ singles_from (at + 1) ls
 
 -- every single-link failure, as a state with the name of the link, in the order of the links
 abbrev pub single_states : List Link → List Listed
@@ -37,7 +27,7 @@ states_of links EverySingleLink = single_states links
 
 -- a state's name, and its links between parentheses
 abbrev pub state_items : List Link → Listed → List Item
-state_items links s = Verbatim s.name ∷ Opening ∷ (flat_map (λ e. Verbatim (failing_link_name links e) ∷ []) s.links ++ Closing ∷ [])
+state_items links s = Verbatim s.name ∷ Opening ∷ (flat_map (λ e. Verbatim (link_name links e) ∷ []) s.links ++ Closing ∷ [])
 
 -- all states between parentheses, or one word
 abbrev pub list_items : List Link → FailureList → List Item
@@ -46,7 +36,7 @@ list_items links EverySingleLink = Verbatim (codes "ALL_SINGLE_LINKS") ∷ []
 
 -- a state's name and those of its links have at most 255 bytes
 abbrev pub IsShort : List Link → Listed → Type 0
-IsShort links s = (length s.name ≤ 255) × All (λ e. length (failing_link_name links e) ≤ 255) s.links
+IsShort links s = (length s.name ≤ 255) × All (λ e. length (link_name links e) ≤ 255) s.links
 
 -- states of the network, whose names aren't too long
 abbrev pub IsListInForm : List Link → FailureList → Type 0

@@ -89,7 +89,8 @@ fn is_listed(name: &[u8], listed: &[Listed]) -> bool
 
 /// What is wrong with a word as the name of a state after these ones.
 fn name_fault(listed: &[Listed], word: &[u8]) -> Option<FailuresKind>
-    ensures value { sound word.now result ≡ new_name (λ s. s.name) 256 FailuresKind.LimitName FailuresKind.DoubleState FailuresKind.LimitStates listed.now word.now }
+    ensures value { sound word.now result ≡ new_name (λ s. s.name) 256 FailuresKind.LimitName FailuresKind.DoubleState
+        FailuresKind.LimitStates listed.now word.now }
     ensures short { result ≡ None → length word.now ≤ 255 }
 {
     new_name_fault(
@@ -105,7 +106,10 @@ fn name_fault(listed: &[Listed], word: &[u8]) -> Option<FailuresKind>
 
 /// Takes the name of a state after these ones.
 fn name(alloc: Global, listed: &[Listed], text: &mut Cursor) -> Result<Name, FailuresRefusal>
-    ensures { ReadsAs (λ n. n) result (left text.new) (word_at FailuresKind.Token FailuresKind.Ended (new_name (λ s. s.name) 256 FailuresKind.LimitName FailuresKind.DoubleState FailuresKind.LimitStates listed.now) (left text.old)) }
+    ensures { ReadsAs (λ n. n) result (left text.new)
+        (word_at FailuresKind.Token FailuresKind.Ended
+        (new_name (λ s. s.name) 256 FailuresKind.LimitName FailuresKind.DoubleState FailuresKind.LimitStates
+        listed.now) (left text.old)) }
 {
     let (at, word) = word(FailuresKind::Token, FailuresKind::Ended, text)?;
     named(alloc, at, word, name_fault(listed, word))
@@ -136,7 +140,8 @@ fn take_state(
     text: &mut Cursor,
 ) -> Result<bool, FailuresRefusal>
     requires { length links.now ≤ 256 }
-    ensures turn { TakesElement result (states_at links.now all.old (left text.old)) (states_at links.now all.new (left text.new)) (Ok (all.new, left text.new)) }
+    ensures turn { TakesElement result (states_at links.now all.old (left text.old)) (states_at links.now all.new (left text.new))
+        (Ok (all.new, left text.new)) }
     ensures shorter { IfOk result (λ more. IsTrue more → size (left text.new) < size (left text.old)) }
 {
     if let Some(_) = closes(text) {

@@ -1,6 +1,6 @@
 ghost use Rattle.std.specs.Prelude.{◌≡◌, ◌≤◌, [], ◌∷◌, length, IfOk};
-ghost use Rattle.net_core.specs.Terms.{AreStates};
-ghost use Rattle.model_reader.specs.Failures.{single, single_states};
+ghost use Rattle.net_core.specs.Terms.{AreStates, single_state};
+ghost use Rattle.model_reader.specs.Failures.{single_states};
 
 use net_core::{Copied, Link, LinkId, List, Listed, Network, NoMemory, States};
 use std::alloc::Global;
@@ -23,7 +23,7 @@ fn just(alloc: Global, link: LinkId) -> Result<List<LinkId>, NoMemory>
 
 /// The failure of a single link, as a state with its name.
 fn single(alloc: Global, id: LinkId, link: &Link) -> Result<Listed, NoMemory>
-    ensures { IfOk result (λ s. s ≡ single id.0 link.now.name) }
+    ensures { IfOk result (λ s. s ≡ single_state id.0 link.now.name) }
 {
     Ok(Listed {
         name: link.name.copy()?,

@@ -46,7 +46,7 @@ pub enum ModelKind {
     Ended,
     /// A word is no key.
     Key,
-    /// A key stands twice.
+    /// A key is given twice.
     DoubleKey,
     /// The value of the key is none that is served.
     Unsupported(ModelKey),

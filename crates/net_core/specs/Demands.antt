@@ -2,6 +2,10 @@
 use Rattle.std.specs.Prelude.{◌≢◌, ℕ, ◌≤◌, ◌<◌, ◌^◌, List, length, All, AllPairs, sum_by}
 use Rattle.net_core.specs.declared.demand.Demand.{Demand}
 
+-- all needs together
+abbrev pub total_need : List Demand → ℕ
+total_need demands = sum_by (λ d. d.need) demands
+
 -- a demand joins two different ones of n nodes, and its need is below 2^40 units
 pub record IsDemand (n : ℕ) (d : Demand) : Type 0 where
   pub from_known : d.from.0 < n
@@ -14,4 +18,4 @@ pub record AreDemands (n : ℕ) (demands : List Demand) : Type 0 where
   pub few : length demands ≤ 2048
   pub different : AllPairs (λ x y. x.name ≢ y.name) demands
   pub each : All (IsDemand n) demands
-  pub total : sum_by (λ d. d.need) demands < 2 ^ 44
+  pub total : total_need demands < 2 ^ 44

@@ -1,6 +1,8 @@
 -- what a network meets, and the faults that keep a list of nodes and links from being one
-use Rattle.std.specs.Prelude.{◌≡◌, ◌≢◌, ℕ, ◌≤◌, ◌<◌, ◌^◌, ◌||◌, ◌&&◌, ◌==◌, ◌++◌, List, [], ◌∷◌, Bool, not, nat_lt, length, All, AllPairs, Option}
+use Rattle.std.specs.Prelude.{◌≡◌, ◌≢◌, ℕ, ◌≤◌, ◌<◌, ◌^◌, ◌||◌, ◌&&◌, ◌==◌, ◌++◌, List, [], ◌∷◌, Bool, not, nat_lt, length, All, AllPairs, Option, slice_get}
 use Rattle.std.specs.List.{list_any}
+use Rattle.std.specs.Option.{option_map_or}
+use Rattle.net_core.specs.declared.ids.LinkId.{LinkId}
 use Rattle.net_core.specs.declared.network.Module.{Module}
 use Rattle.net_core.specs.declared.network.Link.{Link}
 use Rattle.net_core.specs.declared.network.NetFault.{NetFault}
@@ -31,6 +33,10 @@ pub record IsNetwork (nodes : List (List ℕ)) (links : List Link) : Type 0 wher
   pub different_nodes : AllPairs (λ x y. x ≢ y) nodes
   pub different_links : AllPairs (λ x y. x.name ≢ y.name) links
   pub sound : All (IsLink (length nodes)) links
+
+-- a link's name
+abbrev pub link_name : List Link → LinkId → List ℕ
+link_name links e = option_map_or (λ l. l.name) (slice_get links e.0) []
 
 -- a test, and the fault that it finds
 abbrev pub Test : Type 0

@@ -12,6 +12,10 @@ use Rattle.net_core.specs.Tests.{first_fault, is_named}
 abbrev pub names_link : ℕ → List LinkId → Bool
 names_link e links = list_any (λ x. x.0 == e) links
 
+-- the state that fails link e alone, under this name
+abbrev pub single_state : ℕ → List ℕ → Listed
+single_state e name = record { name = name; links = record { 0 = e } ∷ [] }
+
 -- the state fails the link
 abbrev pub fails : List Listed → ℕ → ℕ → Bool
 fails listed zero e = false

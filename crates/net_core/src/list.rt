@@ -110,6 +110,13 @@ impl<T> List<T> {
         self.items.remove(at)
     }
 
+    /// The items, as a vector. They stay where they are, in the list's memory: so a loop over the vector moves each item out in constant time.
+    pub fn into_vec(self) -> Vec<T>
+        ensures { result.items ≡ self }
+    {
+        self.items
+    }
+
     /// The list of a vector's items. They stay where they are, in the vector's memory.
     pub fn from_vec(items: Vec<T>) -> List<T>
         ensures { result ≡ items.items }
@@ -120,6 +127,7 @@ impl<T> List<T> {
 
 impl<T: Drop> List<T> {
     /// Drops all items, one after another. The list keeps its room for later ones.
+    /// It takes time in the size of the items.
     pub fn clear(&mut self)
         ensures { self.new ≡ [] }
     {
@@ -129,7 +137,7 @@ impl<T: Drop> List<T> {
 
 impl<T: Copy> List<T> {
     /// As many copies of one item, in time that grows with their number. It asks for memory once, for exactly
-    /// so many items, and not at all for none.
+    /// this number of items, and not at all for none.
     pub fn filled(alloc: Global, item: T, count: usize) -> Result<List<T>, NoMemory>
         ensures { IfOk result (λ l. l ≡ replicate count item) }
     {

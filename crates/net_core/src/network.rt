@@ -312,6 +312,7 @@ impl Network {
     }
 
     /// How many digits after the point the amounts have, and so what a unit is.
+    /// It takes constant time, as `nodes`, `links` and `notes` do.
     pub fn places(&self) -> Places
         ensures { result ≡ self.now.places }
     {

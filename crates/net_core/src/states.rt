@@ -141,6 +141,7 @@ impl States {
     }
 
     /// How many states there are, the one without failures among them.
+    /// It takes constant time, as `listed` does.
     pub fn count(&self) -> u32
         ensures { result ≡ length self.now.listed + 1 }
     {

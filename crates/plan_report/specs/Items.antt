@@ -1,6 +1,6 @@
 -- The grammar of a report: the items that its text is made of, part by part. Names are those of the network's nodes and links and of the listed states.
 use Rattle.std.specs.Prelude.{ℕ, ◌+◌, Bool, if◌then◌else◌, List, [], ◌∷◌, ◌++◌, flat_map, zip, codes}
-use Rattle.plan_terms.specs.Terms.{Evidence, Route, Master, MasterColumn, RouteColumn, WideKind, Number, Row, Product, Sum, Common, Value, Length, Demand, LinkId, StateId, Entry, Edited, Pooled, Reply, Accepted, UnknownDemand, KnownDemand, UnknownNode, SelfDemand, TooMany, TooMuch, Link, Notes, Places, CutLine, Flow, Routing, Listed}
+use Rattle.plan_terms.specs.Terms.{Evidence, Route, Master, MasterColumn, RouteColumn, WideKind, Number, Row, Product, Sum, Common, Value, Length, Demand, LinkId, StateId, Entry, Edited, Pooled, Reply, Accepted, UnknownDemand, KnownDemand, UnknownNode, SelfDemand, TooMany, TooMuch, Link, Notes, Places, CutLine, Flow, Routing, Listed, link_name}
 use Rattle.net_core.specs.declared.columns.MasterColumn.TheVariants as master
 use Rattle.net_core.specs.declared.columns.RouteColumn.TheVariants as route
 use Rattle.plan_types.specs.declared.certificate.CertLine.{CertLine}
@@ -17,7 +17,7 @@ use Rattle.plan_types.specs.declared.report.Outcome.TheVariants.{Planned, Unsurv
 use Rattle.plan_types.specs.declared.report.Report.{Report}
 use Rattle.text_kit.specs.Terms.{Item, Verbatim, Whole, Money, edit_items, enclosed, ends_items, section}
 use Rattle.plan_report.specs.KnownNames.{KnownNames}
-use Rattle.plan_report.specs.Names.{demand_name, link_name, node_name, state_name}
+use Rattle.plan_report.specs.Names.{demand_name, node_name, state_name}
 
 -- ---- numbers, cuts and paths
 

@@ -7,10 +7,6 @@ use Rattle.plan_terms.specs.Terms.{Demand, LinkId, NodeId, Link, Listed}
 abbrev pub node_name : List (List ℕ) → NodeId → List ℕ
 node_name nodes n = get_or nodes n.0 []
 
--- a link's name
-abbrev pub link_name : List Link → LinkId → List ℕ
-link_name links e = option_map_or (λ l. l.name) (slice_get links e.0) []
-
 -- a demand's name
 abbrev pub demand_name : List Demand → ℕ → List ℕ
 demand_name demands k = option_map_or (λ d. d.name) (slice_get demands k) []

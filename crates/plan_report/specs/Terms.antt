@@ -2,5 +2,6 @@
 pub use Rattle.plan_report.specs.Forms.{AreCapsInForm, AreLinkNumbers, AreRoutingsInForm, HasPoolLine, IsCauseInForm, IsCertificateInForm, IsCertificateLineInForm, IsCutInForm, IsDemandInForm, IsEditedInForm, IsEntryInForm, IsEvidenceInForm, IsFlowInForm, IsHeadInForm, IsKindInForm, IsMasterColumnInForm, IsMasterEvidenceInForm, IsOfPool, IsOutcomeInForm, IsPathInForm, IsPlanInForm, IsQualityInForm, IsReplyInForm, IsReportInForm, IsRouteColumnInForm, IsRouteEvidenceInForm, IsRoutingInForm, IsShareInForm, IsSpotInForm, line_lengths, line_state}
 pub use Rattle.plan_report.specs.Items.{cause_items, certificate_items, certificate_line_items, demand_items, entry_items, event_items, evidence_items, flow_items, head_items, master_column_items, modules_items, note_items, notes_items, numbered_from, numbers_items, outcome_items, path_items, plan_items, pool_line_items, quality_items, reply_items, report_items, route_column_items, routing_items, routings_items, spot_items, wide_items}
 pub use Rattle.plan_report.specs.KnownNames.{KnownNames, known_as, known_of, known_to}
-pub use Rattle.plan_report.specs.Names.{demand_name, link_name, node_name, state_name}
+pub use Rattle.plan_report.specs.Names.{demand_name, node_name, state_name}
+pub use Rattle.plan_terms.specs.Terms.{link_name}
 pub use Rattle.plan_report.specs.Texts.{SpellsReport, report_header, report_text}

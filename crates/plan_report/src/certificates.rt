@@ -7,7 +7,7 @@ use net_core::{Bytes, CutLine, NoMemory};
 use plan_types::{CertLine, Certificate, Spot};
 use text_kit::puts::{put_close, put_field, put_keyword, put_number, put_open, put_whole};
 
-/// Puts last where a cut stands, with its state and lengths if it stands in no pool.
+/// Puts last where a cut is, with its state and lengths if it is in no pool.
 fn put_spot(text: &mut Bytes, spot: Spot, cut: &CutLine) -> Result<(), NoMemory>
     ensures { OnOk result (AddsItems text.old (spot_items spot cut.now) text.new) }
 {

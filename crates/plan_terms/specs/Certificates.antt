@@ -16,6 +16,10 @@ pub record AreKept (g : Graph) (lengths : List ℕ) : Type 0 where
   pub zero : (e : ℕ) → slice_index lengths e ≢ 0 → Survives g e
   pub lowest : (d : ℕ) → All (λ l. d ∣ l) lengths → d ≡ 1
 
+-- lengths below 2^32
+abbrev pub HasShortLengths : CutLine → Type 0
+HasShortLengths line = All (λ x. x < 2 ^ 32) line.lengths
+
 -- The right side of a metric inequality: the needs times the distances of the demands' ends. Ends that are apart count 0.
 pub record IsRight (joins : ℕ → ℕ → ℕ → Type 0) (lengths : List ℕ) (demands : List Demand) (right : ℕ) : Type 0 where
   pub far : List (Option ℕ)

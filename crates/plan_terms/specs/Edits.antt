@@ -1,19 +1,15 @@
 -- edits of demands: what each is answered, and the demands after it
-use Rattle.std.specs.Prelude.{ℕ, ◌+◌, ◌-◌, ◌^◌, List, [], ◌∷◌, ◌++◌, Bool, Option, None, Some, cond, filter, length, map, min, nat_le, nat_lt, not, ◌&&◌, position, sum_by, unwrap_or}
+use Rattle.std.specs.Prelude.{ℕ, ◌+◌, ◌-◌, ◌^◌, List, [], ◌∷◌, ◌++◌, Bool, Option, None, Some, cond, filter, length, map, min, nat_le, nat_lt, not, ◌&&◌, position, unwrap_or}
 use Rattle.net_core.specs.declared.demand.Demand.{Demand}
 use Rattle.net_core.specs.declared.journal.Edit.{Edit}
 use Rattle.net_core.specs.declared.journal.Edit.TheVariants.{Set, Add, Drop}
 use Rattle.net_core.specs.declared.journal.Reply.{Reply}
 use Rattle.net_core.specs.declared.journal.Reply.TheVariants.{Accepted, UnknownDemand, KnownDemand, UnknownNode, SelfDemand, TooMany, TooMuch}
-use Rattle.net_core.specs.Terms.{first_fault, are_same, is_named}
+use Rattle.net_core.specs.Terms.{first_fault, are_same, is_named, total_need}
 
 -- the reply, and the demands after the edit
 abbrev pub Answered : Type 0
 Answered = Reply × List Demand
-
--- all needs together
-abbrev pub total_need : List Demand → ℕ
-total_need demands = sum_by (λ d. d.need) demands
 
 -- a demand has the name
 abbrev pub is_demand : List ℕ → List Demand → Bool

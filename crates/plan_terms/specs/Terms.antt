@@ -1,12 +1,12 @@
 -- The words of networks, demands, routings and cuts, with the types of plans, passed on from one place to other crates. Declares nothing.
 pub use Rattle.net_core.specs.Cases.{Case, graph_in}
-pub use Rattle.net_core.specs.Demands.{AreDemands, IsDemand}
+pub use Rattle.net_core.specs.Demands.{AreDemands, IsDemand, total_need}
 pub use Rattle.net_core.specs.Graphs.{Graph, HasEnds, Joins, Survives}
 pub use Rattle.net_core.specs.Names.{IsName, begins_comment, is_plain, is_space, is_word_byte}
-pub use Rattle.net_core.specs.Network.{IsLink, IsModule, IsNetwork, network_fault}
+pub use Rattle.net_core.specs.Network.{IsLink, IsModule, IsNetwork, link_name, network_fault}
 pub use Rattle.net_core.specs.Places.{digits_after_point}
 pub use Rattle.net_core.specs.Settled.{settled_links, settled_notes}
-pub use Rattle.net_core.specs.States.{AreStates, fails, names_link, states_fault}
+pub use Rattle.net_core.specs.States.{AreStates, fails, names_link, single_state, states_fault}
 pub use Rattle.net_core.specs.Sums.{sum_below}
 pub use Rattle.net_core.specs.Tests.{are_same, first_fault, is_named}
 pub use Rattle.net_core.specs.Views.{case, case_of, graph, graph_of}
@@ -46,9 +46,9 @@ pub use Rattle.net_core.specs.declared.states.States.{States}
 pub use Rattle.net_core.specs.declared.states.StatesFault.{StatesFault}
 pub use Rattle.plan_terms.specs.Bounds.{IsBound, IsGreatestDivisor, IsLowest, charges, link_charges, with_setup}
 pub use Rattle.plan_terms.specs.Capacities.{AreCounts, AreWithinLimits, IsAble, capacities, installs, link_cost, modules_capacity, modules_cost, total_cost}
-pub use Rattle.plan_terms.specs.Certificates.{AreKept, CertificateLine, IsCertificate, IsCut, IsRight, asked, fixed_along, given, price, raw_value}
+pub use Rattle.plan_terms.specs.Certificates.{AreKept, CertificateLine, HasShortLengths, IsCertificate, IsCut, IsRight, asked, fixed_along, given, price, raw_value}
 pub use Rattle.plan_terms.specs.Covers.{AreOfOneKind, CoverLoads, Covers, IsFewSteps, MayCover, Reaches}
-pub use Rattle.plan_terms.specs.Edits.{Answered, add_fault, added, edit_need, edit_reply, is_demand, next_version, node_of, set_need, total_need, version_after, within_total, without}
+pub use Rattle.plan_terms.specs.Edits.{Answered, add_fault, added, edit_need, edit_reply, is_demand, next_version, node_of, set_need, version_after, within_total, without}
 pub use Rattle.plan_terms.specs.Fallbacks.{IsFallback, IsLeastFlow, IsLeastRouting, peak, raised}
 pub use Rattle.plan_terms.specs.Flows.{Carries, IsFlow, load, sent}
 pub use Rattle.plan_terms.specs.Keeping.{AreZero, Keeps}

@@ -1,6 +1,6 @@
 use net_core::{Copied, CutLine, List, NoMemory};
 
-/// Where a cut of a certificate stands: in the pool, at this index, or in the certificate alone.
+/// Where a cut of a certificate is: in the pool, at this index, or in the certificate alone.
 #[derive(Clone, Copy, Debug, PartialEq, Eq)]
 pub enum Spot {
     Pool(u32),

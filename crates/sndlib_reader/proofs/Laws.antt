@@ -2,7 +2,7 @@
 use Rattle.std.proofs.Common.{◌≡◌, ◌≢◌, ℕ, ◌+◌, ◌*◌, ◌^◌, ◌<◌, ◌≤◌, ◌==◌, nat_lt, Bool, true, false, cond, List, [], ◌∷◌, ◌++◌, length, get_or, All, AllPairs, Option, None, Some, Ok, refl, sym, ap, subst, ◌∙◌, arith, append-nil, append_assoc, flat_map}
 use Rattle.std.proofs.lemmas.Bool.{ltb-false}
 use Rattle.net_core.proofs.Library.{sum_by-cons, sum_by-append, sum_by_push}
-use Rattle.net_core.specs.Terms.{AreDemands, IsDemand, IsLink, IsModule}
+use Rattle.net_core.specs.Terms.{AreDemands, IsDemand, IsLink, IsModule, total_need}
 use Rattle.net_core.specs.declared.demand.Demand.{Demand}
 use Rattle.net_core.specs.declared.ids.NodeId.{NodeId}
 use Rattle.net_core.specs.declared.network.Module.{Module}
@@ -18,7 +18,7 @@ use Rattle.sndlib_reader.specs.declared.fault.Limited.TheVariants as limits
 use Rattle.sndlib_reader.specs.declared.fault.ReadKind.{ReadKind}
 use Rattle.sndlib_reader.specs.declared.fault.ReadKind.TheVariants.{Token, Ended, Limit, Number, DoubleName, UnknownName, SelfLink, SelfDemand, FixedLink}
 use Rattle.sndlib_reader.specs.Spelling.{IsHops, IsShortLink, SpellsDemand, node_pair_items, link_items, module_items}
-use Rattle.sndlib_reader.specs.Reading.{other_node, amount, unit, capacity, need, hops, ends_at, module_at, unserved, native_modules_at, link_numbers_at, link_rest_at, named_link, native_link_at, costed_links_at, needs_in_all, demand_rest_at, native_demand_at, native_demands_at}
+use Rattle.sndlib_reader.specs.Reading.{other_node, amount, unit, capacity, need, hops, ends_at, module_at, unserved, native_modules_at, link_numbers_at, link_rest_at, named_link, native_link_at, costed_links_at, demand_rest_at, native_demand_at, native_demands_at}
 use Rattle.sndlib_reader.proofs.WordTests.{IsCapacity, IsNodeIn, capacity_again, capacity_takes, hops_again, hops_takes, need_again, need_takes, other_again, other_takes}
 
 abbrev pub AreDifferent : List (List ℕ) → Type 0
@@ -189,7 +189,7 @@ pub record IsDemandAfter (nodes : List (List ℕ)) (sofar : List Demand) (d : De
   pub new : IsNew (λ x. x.name) 2048 sofar d.name
   pub ends : AreEnds nodes d.from d.to
   pub need : d.need < 2 ^ 40
-  pub below : needs_in_all sofar + d.need < 2 ^ 44
+  pub below : total_need sofar + d.need < 2 ^ 44
 
 -- how what a demand has after its name is spelled
 pub record SpellsRest (p : Places) (nodes : List (List ℕ)) (before : ℕ) (r : DemandRest) (items : List Item) : Type 0 where
@@ -327,7 +327,7 @@ demand_spelled p nodes pairs sofar = spelled_as (native_demand_at p nodes sofar)
       t.items_are,
     ))
     (spelled_then _ _ _ _ AnyText (spelled_law _ _ _ AnyText (lawful_new_name (λ x. x.name) 2048 (Limit limits.Name) DoubleName (Limit limits.Demands) Token Ended sofar)) (λ name js s.
-    spelled_then _ _ _ _ AnyText (rest_spelled p nodes pairs (needs_in_all sofar)) (λ rest js s.
+    spelled_then _ _ _ _ AnyText (rest_spelled p nodes pairs (total_need sofar)) (λ rest js s.
     spelled_give _)))
 
 demand_starts : (p : Places) (nodes : List (List ℕ)) (sofar : List Demand) (d : Demand) (is : List Item) → IsDemandAfter nodes sofar d × SpellsDemand p nodes d is → Starts is
@@ -340,17 +340,17 @@ demands_spelled p nodes pairs = spelled_as (native_demands_at p nodes []) _ _ An
     (spelled_list no_fault (native_demand_at p nodes) (λ sofar d is. IsDemandAfter nodes sofar d × SpellsDemand p nodes d is) (demand_starts p nodes) (demand_spelled p nodes pairs))
 
 -- the need of all, one by one
-total_below : (sofar ds : List Demand) → needs_in_all sofar < 2 ^ 44 → ComeAfter (λ before d. needs_in_all before + d.need < 2 ^ 44) sofar ds → needs_in_all (sofar ++ ds) < 2 ^ 44
-total_below sofar [] small all = subst (λ (xs : List Demand). needs_in_all xs < 2 ^ 44) (sym (append-nil sofar)) small
+total_below : (sofar ds : List Demand) → total_need sofar < 2 ^ 44 → ComeAfter (λ before d. total_need before + d.need < 2 ^ 44) sofar ds → total_need (sofar ++ ds) < 2 ^ 44
+total_below sofar [] small all = subst (λ (xs : List Demand). total_need xs < 2 ^ 44) (sym (append-nil sofar)) small
 total_below sofar (d ∷ ds) small all =
-    subst (λ (xs : List Demand). needs_in_all xs < 2 ^ 44) (append_assoc sofar (d ∷ []) ds)
+    subst (λ (xs : List Demand). total_need xs < 2 ^ 44) (append_assoc sofar (d ∷ []) ds)
     (total_below (sofar ++ d ∷ []) ds (subst (λ (k : ℕ). k < 2 ^ 44) (sym (sum_by_push (λ x. x.need) sofar d)) all.0) all.1)
 
-below_total : (sofar ds : List Demand) → needs_in_all (sofar ++ ds) < 2 ^ 44 → ComeAfter (λ before d. needs_in_all before + d.need < 2 ^ 44) sofar ds
+below_total : (sofar ds : List Demand) → total_need (sofar ++ ds) < 2 ^ 44 → ComeAfter (λ before d. total_need before + d.need < 2 ^ 44) sofar ds
 below_total sofar [] small = tt
 below_total sofar (d ∷ ds) small =
-    let sum : needs_in_all (sofar ++ d ∷ ds) ≡ needs_in_all sofar + (d.need + needs_in_all ds) = sum_by-append (λ x. x.need) sofar (d ∷ ds) ∙ ap (λ (k : ℕ). needs_in_all sofar + k) (sum_by-cons (λ x. x.need) d ds) in
-    (omega (arith, sum, small), below_total (sofar ++ d ∷ []) ds (subst (λ (xs : List Demand). needs_in_all xs < 2 ^ 44) (sym (append_assoc sofar (d ∷ []) ds)) small))
+    let sum : total_need (sofar ++ d ∷ ds) ≡ total_need sofar + (d.need + total_need ds) = sum_by-append (λ x. x.need) sofar (d ∷ ds) ∙ ap (λ (k : ℕ). total_need sofar + k) (sum_by-cons (λ x. x.need) d ds) in
+    (omega (arith, sum, small), below_total (sofar ++ d ∷ []) ds (subst (λ (xs : List Demand). total_need xs < 2 ^ 44) (sym (append_assoc sofar (d ∷ []) ds)) small))
 
 pub are_demands : (nodes : List (List ℕ)) (ds : List Demand) → ComeAfter (IsDemandAfter nodes) [] ds → AreDemands (length nodes) ds
 are_demands nodes ds all =
@@ -359,7 +359,7 @@ are_demands nodes ds all =
       few = new.0;
       different = new.1;
       each = after_all (IsDemand (length nodes)) [] ds (after_as (IsDemandAfter nodes) (λ before d. IsDemand (length nodes) d) [] ds (λ before d h. record { from_known = h.ends.0.0; to_known = h.ends.1.1.0; different = h.ends.1.0; need = h.need }) all);
-      total = total_below [] ds (omega arith) (after_as (IsDemandAfter nodes) (λ before d. needs_in_all before + d.need < 2 ^ 44) [] ds (λ before d h. h.below) all);
+      total = total_below [] ds (omega arith) (after_as (IsDemandAfter nodes) (λ before d. total_need before + d.need < 2 ^ 44) [] ds (λ before d h. h.below) all);
     }
 
 spelled_short : (p : Places) (nodes : List (List ℕ)) (ds : List Demand) (is : List Item) → AreSpelled (SpellsDemand p nodes) ds is → (sofar : List Demand) → ComeAfter (λ before d. length d.name ≤ 255) sofar ds
@@ -372,6 +372,6 @@ demands_are p nodes ds is short are spelled =
     (λ before d h.
     let one = h.1.1 in
     record { new = h.0; ends = ((one.from_known, short d.from.0 [] one.from_known), (one.different, (one.to_known, short d.to.0 [] one.to_known))); need = one.need; below = h.1.0 })
-    (after_both (λ before d. IsNew (λ x. x.name) 2048 before d.name) (λ before d. (needs_in_all before + d.need < 2 ^ 44) × IsDemand (length nodes) d) [] ds
+    (after_both (λ before d. IsNew (λ x. x.name) 2048 before d.name) (λ before d. (total_need before + d.need < 2 ^ 44) × IsDemand (length nodes) d) [] ds
     (new_are (λ (x : Demand). x.name) 2048 ds are.few are.different (after_all (λ (d : Demand). length d.name ≤ 255) [] ds (spelled_short p nodes ds is spelled [])))
-    (after_both (λ before d. needs_in_all before + d.need < 2 ^ 44) (λ before d. IsDemand (length nodes) d) [] ds (below_total [] ds are.total) (all_after (IsDemand (length nodes)) [] ds are.each)))
+    (after_both (λ before d. total_need before + d.need < 2 ^ 44) (λ before d. IsDemand (length nodes) d) [] ds (below_total [] ds are.total) (all_after (IsDemand (length nodes)) [] ds are.each)))

@@ -9,7 +9,8 @@ use Rattle.sndlib_reader.specs.declared.costs.CostedLink.{CostedLink}
 use Rattle.sndlib_reader.specs.declared.fault.ReadKind.{ReadKind}
 use Rattle.sndlib_reader.specs.declared.fault.ReadKind.TheVariants.{Section, Token, Ended, SelfLink, SelfDemand}
 use Rattle.sndlib_reader.specs.Spelling.{names_of}
-use Rattle.sndlib_reader.specs.Reading.{known_name, path_name, node_named, other_node, amount, unit, capacity, need, needs_in_all, hops, native_section_at, part_at, ends_at, module_at, unserved, link_numbers_at, link_rest_at, native_link_at, costed_links_at, demand_rest_at, native_demand_at, native_demands_at, some_at, native_path_at, path_line_at, is_meta, after_meta, start_at, is_paths, after_paths, paths_at, parts, after_links_at, after_nodes_at, node_section_at, native_sections_at}
+use Rattle.sndlib_reader.specs.Reading.{known_name, path_name, node_named, other_node, amount, unit, capacity, need, hops, native_section_at, part_at, ends_at, module_at, unserved, link_numbers_at, link_rest_at, native_link_at, costed_links_at, demand_rest_at, native_demand_at, native_demands_at, some_at, native_path_at, path_line_at, is_meta, after_meta, start_at, is_paths, after_paths, paths_at, parts, after_links_at, after_nodes_at, node_section_at, native_sections_at}
+use Rattle.net_core.specs.Terms.{total_need}
 use Rattle.sndlib_reader.proofs.Nodes.{part_online, part_some}
 use Rattle.sndlib_reader.proofs.Skipped.{skipped_online}
 
@@ -75,7 +76,7 @@ demand_online : (p : Places) (nodes : List (List ℕ)) (sofar : List Demand) →
 unfolding native_demand_at
 demand_online p nodes sofar =
     online_then _ _ (online_word Token Ended _) (λ name.
-    online_then _ _ (demand_rest_online p nodes (needs_in_all sofar)) (λ rest.
+    online_then _ _ (demand_rest_online p nodes (total_need sofar)) (λ rest.
     online_give _))
 
 pub demand_some : (p : Places) (nodes : List (List ℕ)) (sofar : List Demand) → TakesSome (native_demand_at p nodes sofar)

@@ -1,8 +1,8 @@
 -- Reading a network file from left to right: the tests of its words, and their order.
-use Rattle.std.specs.Prelude.{ℕ, zero, suc, ◌+◌, ◌*◌, ◌^◌, ◌==◌, nat_lt, Bool, true, false, ◌||◌, ◌&&◌, if◌then◌else◌, List, [], length, map, Option, Some, None, Result, Ok, Err, sum_by, codes}
+use Rattle.std.specs.Prelude.{ℕ, zero, suc, ◌+◌, ◌*◌, ◌^◌, ◌==◌, nat_lt, Bool, true, false, ◌||◌, ◌&&◌, if◌then◌else◌, List, [], length, map, Option, Some, None, Result, Ok, Err, codes}
 use Rattle.snd_tokens.specs.declared.amounts.NumberFault.TheVariants.{NotANumber, TooLarge}
 use Rattle.snd_tokens.specs.Terms.{amount_of, units_of, are_digits, WordAt, OpenAt, CloseAt, EndAt}
-use Rattle.net_core.specs.Terms.{are_same, is_named}
+use Rattle.net_core.specs.Terms.{are_same, is_named, total_need}
 use Rattle.net_core.specs.declared.ids.NodeId.{NodeId}
 use Rattle.net_core.specs.declared.network.Module.{Module}
 use Rattle.net_core.specs.declared.places.Places.{Places}
@@ -183,10 +183,6 @@ native_link_at p nodes sofar = do
 abbrev pub costed_links_at : Places → List (List ℕ) → List CostedLink → Reading ReadKind (List CostedLink)
 costed_links_at p nodes sofar = list_at Parenthesis no_fault (native_link_at p nodes) sofar
 
--- the need of all demands
-abbrev pub needs_in_all : List Demand → ℕ
-needs_in_all demands = sum_by (λ d. d.need) demands
-
 -- what a demand has after its name, after others of this total
 unfoldable pub demand_rest_at : Places → List (List ℕ) → ℕ → Reading ReadKind DemandRest
 demand_rest_at p nodes before = do
@@ -200,7 +196,7 @@ demand_rest_at p nodes before = do
 unfoldable pub native_demand_at : Places → List (List ℕ) → List Demand → Reading ReadKind Demand
 native_demand_at p nodes sofar = do
   name ← word_at Token Ended (λ w. sound w (demand_fault sofar w))
-  rest ← demand_rest_at p nodes (needs_in_all sofar)
+  rest ← demand_rest_at p nodes (total_need sofar)
   give (record { name = name; from = rest.from; to = rest.to; need = rest.need })
 
 -- further demands

@@ -46,12 +46,12 @@ pub(crate) fn notes_of(links: &[CostedLink]) -> Notes
 }
 
 /// The links without these costs; none is copied.
-pub(crate) fn links_of(alloc: Global, mut costed: List<CostedLink>) -> Result<List<Link>, NoMemory>
+pub(crate) fn links_of(alloc: Global, costed: List<CostedLink>) -> Result<List<Link>, NoMemory>
     ensures { IfOk result (λ ls. ls ≡ map (λ l. l.link) costed) }
 {
     let mut links = List::new(alloc);
-    while costed.len() > 0 {
-        links.push(costed.remove(0).link)?;
+    for l in costed.into_vec() {
+        links.push(l.link)?;
     }
     Ok(links)
 }

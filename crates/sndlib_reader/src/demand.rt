@@ -1,8 +1,8 @@
 ghost use Rattle.std.specs.Prelude.{◌≡◌, ◌≤◌, ◌<◌, ◌^◌, ◌+◌, ◌++◌, ◌∷◌, None, false, IsTrue, IfOk, OnOk, Ok, [], length, map};
-ghost use Rattle.net_core.specs.Terms.{is_named};
+ghost use Rattle.net_core.specs.Terms.{is_named, total_need};
 ghost use Rattle.snd_tokens.specs.Terms.{left, size};
 ghost use Rattle.text_kit.specs.Terms.{ReadsAs, TakesElement, sound, word_at};
-ghost use Rattle.sndlib_reader.specs.Reading.{native_demand_at, demand_rest_at, demand_fault, native_demands_at, hops, need, needs_in_all, unit};
+ghost use Rattle.sndlib_reader.specs.Reading.{native_demand_at, demand_rest_at, demand_fault, native_demands_at, hops, need, unit};
 
 use crate::fault::{Limited, ReadKind, ReadRefusal};
 use crate::names::Names;
@@ -124,7 +124,8 @@ fn demand_name<'a>(
     text: &mut Cursor<'a>,
 ) -> Result<Name, ReadRefusal>
     requires { names.now ≡ map (λ d. d.name) demands.now }
-    ensures reads { ReadsAs (λ n. n) result (left text.new) (word_at ReadKind.Token ReadKind.Ended (λ w. sound w (demand_fault demands.now w)) (left text.old)) }
+    ensures reads { ReadsAs (λ n. n) result (left text.new)
+        (word_at ReadKind.Token ReadKind.Ended (λ w. sound w (demand_fault demands.now w)) (left text.old)) }
     ensures last { IfOk result (λ n. names.new ≡ names.old ++ n ∷ []) }
 {
     let (at, word) = word(ReadKind::Token, ReadKind::Ended, text)?;
@@ -164,7 +165,7 @@ fn demand<'a>(
 ) -> Result<Demand, ReadRefusal>
     requires nodes { length nodes.now ≤ 128 }
     requires named { names.now ≡ map (λ d. d.name) demands.now }
-    requires sum { before ≡ needs_in_all demands.now }
+    requires sum { before ≡ total_need demands.now }
     requires below { before < 2 ^ 44 }
     ensures reads { ReadsAs (λ d. d) result (left text.new) (native_demand_at places nodes.now demands.now (left text.old)) }
     ensures below { IfOk result (λ d. before + d.need < 2 ^ 44) }
@@ -192,12 +193,13 @@ fn take_demand<'a>(
 ) -> Result<bool, ReadRefusal>
     requires nodes { length nodes.now ≤ 128 }
     requires named { names.now ≡ map (λ d. d.name) all.now }
-    requires sum { sum.now ≡ needs_in_all all.now }
+    requires sum { sum.now ≡ total_need all.now }
     requires below { sum.now < 2 ^ 44 }
-    ensures turn { TakesElement result (native_demands_at places nodes.now all.old (left text.old)) (native_demands_at places nodes.now all.new (left text.new)) (Ok (all.new, left text.new)) }
+    ensures turn { TakesElement result (native_demands_at places nodes.now all.old (left text.old))
+        (native_demands_at places nodes.now all.new (left text.new)) (Ok (all.new, left text.new)) }
     ensures shorter { IfOk result (λ more. IsTrue more → size (left text.new) < size (left text.old)) }
     ensures named { OnOk result (names.new ≡ map (λ d. d.name) all.new) }
-    ensures sum { OnOk result (sum.new ≡ needs_in_all all.new) }
+    ensures sum { OnOk result (sum.new ≡ total_need all.new) }
     ensures below { OnOk result (sum.new < 2 ^ 44) }
 {
     if let Some(_) = closes(text) {

@@ -6,7 +6,7 @@ use snd_tokens::NumberFault;
 use text_kit::Refusal;
 use text_kit::fault_word::{FaultWord, number_word};
 
-/// What there may be only so many of, or so much.
+/// What has a greatest number or amount.
 #[derive(Clone, Copy, Debug, PartialEq, Eq)]
 pub enum Limited {
     /// A name has at most 255 bytes.

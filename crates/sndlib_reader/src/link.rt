@@ -77,7 +77,8 @@ fn take_module(
     all: &mut List<Module>,
     text: &mut Cursor,
 ) -> Result<bool, ReadRefusal>
-    ensures turn { TakesElement result (native_modules_at places fixed all.old (left text.old)) (native_modules_at places fixed all.new (left text.new)) (Ok (all.new, left text.new)) }
+    ensures turn { TakesElement result (native_modules_at places fixed all.old (left text.old))
+        (native_modules_at places fixed all.new (left text.new)) (Ok (all.new, left text.new)) }
     ensures shorter { IfOk result (λ more. IsTrue more → size (left text.new) < size (left text.old)) }
 {
     if let Some(at) = closes(text) {
@@ -227,7 +228,8 @@ fn take_link<'a>(
 ) -> Result<bool, ReadRefusal>
     requires nodes { length nodes.now ≤ 128 }
     requires named { names.now ≡ map (λ l. l.link.name) all.now }
-    ensures turn { TakesElement result (costed_links_at places nodes.now all.old (left text.old)) (costed_links_at places nodes.now all.new (left text.new)) (Ok (all.new, left text.new)) }
+    ensures turn { TakesElement result (costed_links_at places nodes.now all.old (left text.old))
+        (costed_links_at places nodes.now all.new (left text.new)) (Ok (all.new, left text.new)) }
     ensures shorter { IfOk result (λ more. IsTrue more → size (left text.new) < size (left text.old)) }
     ensures named { OnOk result (names.new ≡ map (λ l. l.link.name) all.new) }
 {

@@ -45,7 +45,8 @@ fn take_part<'a>(
 ) -> Result<bool, ReadRefusal>
     requires some { IsTrue after_name.now → 1 ≤ length nodes.now }
     requires named { names.now ≡ nodes.now }
-    ensures turn { TakesElement result (native_nodes_at (parts_so_far nodes.old after_name.old) (left text.old)) (native_nodes_at (parts_so_far nodes.new after_name.new) (left text.new)) (Ok (nodes.new, left text.new)) }
+    ensures turn { TakesElement result (native_nodes_at (parts_so_far nodes.old after_name.old) (left text.old))
+        (native_nodes_at (parts_so_far nodes.new after_name.new) (left text.new)) (Ok (nodes.new, left text.new)) }
     ensures shorter { IfOk result (λ more. IsTrue more → size (left text.new) < size (left text.old)) }
     ensures some { OnOk result (IsTrue after_name.new → 1 ≤ length nodes.new) }
     ensures named { OnOk result (names.new ≡ nodes.new) }

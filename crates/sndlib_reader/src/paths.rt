@@ -65,7 +65,8 @@ fn path(links: &Names, text: &mut Cursor) -> Result<(), ReadRefusal>
 
 /// Takes one path more of a demand, and says whether there was one.
 fn take_path(links: &Names, text: &mut Cursor) -> Result<bool, ReadRefusal>
-    ensures turn { TakesElement result (each_at (native_path_at links.now) (left text.old)) (each_at (native_path_at links.now) (left text.new)) (Ok (tt, left text.new)) }
+    ensures turn { TakesElement result (each_at (native_path_at links.now) (left text.old))
+        (each_at (native_path_at links.now) (left text.new)) (Ok (tt, left text.new)) }
     ensures shorter { IfOk result (λ more. IsTrue more → size (left text.new) < size (left text.old)) }
 {
     if let Some(_) = closes(text) {
@@ -96,7 +97,8 @@ fn line(links: &Names, demands: &Names, text: &mut Cursor) -> Result<(), ReadRef
 
 /// Takes one line more, and says whether there was one.
 fn take_line(links: &Names, demands: &Names, text: &mut Cursor) -> Result<bool, ReadRefusal>
-    ensures turn { TakesElement result (each_at (path_line_at links.now demands.now) (left text.old)) (each_at (path_line_at links.now demands.now) (left text.new)) (Ok (tt, left text.new)) }
+    ensures turn { TakesElement result (each_at (path_line_at links.now demands.now) (left text.old))
+        (each_at (path_line_at links.now demands.now) (left text.new)) (Ok (tt, left text.new)) }
     ensures shorter { IfOk result (λ more. IsTrue more → size (left text.new) < size (left text.old)) }
 {
     if let Some(_) = closes(text) {

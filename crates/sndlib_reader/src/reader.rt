@@ -144,7 +144,8 @@ fn after_nodes(
 ) -> Result<(List<CostedLink>, Demands), ReadRefusal>
     requires { length nodes.now ≤ 128 }
     ensures reads { ReadsAs (λ r. r) result (left text.new) (after_nodes_at places nodes.now (left text.old)) }
-    ensures links { IfOk result (λ r. (rest : Text) × (native_section_at (codes "LINKS") (costed_links_at places nodes.now []) (left text.old) ≡ Ok (r.0, rest))) }
+    ensures links { IfOk result (λ r. (rest : Text)
+        × (native_section_at (codes "LINKS") (costed_links_at places nodes.now []) (left text.old) ≡ Ok (r.0, rest))) }
 {
     let (links, names) = link_section(alloc, places, nodes, text)?;
     let demands = after_links(alloc, places, nodes, &names, text)?;
@@ -226,7 +227,8 @@ pub fn read_network(alloc: Global, bytes: &[u8]) -> Result<(Network, Demands), R
     // What is read is spelled, in the places with which the file is read.
     ensures read { IfOk result (λ r. Spells bytes.now r.0 r.1) }
     // Nothing else is spelled.
-    ensures only { IfOk result (λ r. (net : Net) (demands : List Dem) → Spells bytes.now net demands → (net.nodes ≡ r.0.nodes) × (net.links ≡ r.0.links) × (net.notes ≡ r.0.notes) × (net.places ≡ r.0.places) × (demands ≡ r.1)) }
+    ensures only { IfOk result (λ r. (net : Net) (demands : List Dem) → Spells bytes.now net demands → (net.nodes ≡ r.0.nodes)
+        × (net.links ≡ r.0.links) × (net.notes ≡ r.0.notes) × (net.places ≡ r.0.places) × (demands ≡ r.1)) }
     // What is refused as bad spells nothing, and the fault is the first one by place.
     ensures refused { (at : ℕ) (kind : ReadKind) → result ≡ Err (Refusal.Bad at kind)
         → IsFirstFault bytes.now at kind × ((net : Net) (demands : List Dem) → Spells bytes.now net demands → ⊥) }

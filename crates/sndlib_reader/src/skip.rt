@@ -7,7 +7,7 @@ use crate::fault::{ReadKind, ReadRefusal};
 use snd_tokens::{Cursor, Next};
 use text_kit::refusal::bad;
 
-/// Takes what is left of an open parenthesis, whatever stands in it.
+/// Takes what is left of an open parenthesis, whatever is in it.
 pub(crate) fn skip(text: &mut Cursor) -> Result<(), ReadRefusal>
     ensures { ReadsAs (λ _. tt) result (left text.new) (skipped_at 0 (left text.old)) }
 {

@@ -4,8 +4,8 @@ use Rattle.net_core.proofs.Library.{get_or-append_seam, ∥∥₁_elim, cases_lt
 use Rattle.net_core.specs.declared.ids.LinkId.{LinkId}
 use Rattle.net_core.specs.declared.network.Link.{Link}
 use Rattle.net_core.specs.declared.states.Listed.{Listed}
-use Rattle.net_core.specs.Terms.{IsNetwork, AreStates}
-use Rattle.worked_networks.specs.Tables.{AreSingles, single_state}
+use Rattle.net_core.specs.Terms.{IsNetwork, AreStates, single_state}
+use Rattle.worked_networks.specs.Tables.{AreSingles}
 
 -- one state more
 pub single_more : (links : List Link) (listed : List Listed) (t : Listed) (e : ℕ) → length listed ≡ e → ((k : Link) → t ≡ single_state e (get_or links e k).name)

@@ -3,7 +3,7 @@ use Rattle.std.specs.Prelude.{◌≡◌, ℕ, zero, suc, ◌+◌, ◌++◌, ⊤,
 use Rattle.net_core.specs.declared.demand.Demand.{Demand}
 use Rattle.net_core.specs.declared.network.Link.{Link}
 use Rattle.net_core.specs.declared.states.Listed.{Listed}
-use Rattle.net_core.specs.Terms.{network_fault, states_fault}
+use Rattle.net_core.specs.Terms.{network_fault, single_state, states_fault}
 use Rattle.worked_networks.specs.declared.fault.WorkedFault.{WorkedFault}
 use Rattle.worked_networks.specs.declared.fault.WorkedFault.TheVariants.{Network, States, NoMemory}
 
@@ -39,10 +39,6 @@ abbrev pub RefusesStates : ℕ → List Listed → WorkedFault → Type 0
 RefusesStates links listed (States fault) = states_fault links listed ≡ Some fault
 RefusesStates links listed NoMemory = ⊤
 RefusesStates links listed _ = ⊥
-
--- the state that fails link e alone, under this name
-abbrev pub single_state : ℕ → List ℕ → Listed
-single_state e name = record { name = name; links = record { 0 = e } ∷ [] }
 
 -- each link fails alone, under its name
 pub record AreSingles (links : List Link) (listed : List Listed) : Type 0 where

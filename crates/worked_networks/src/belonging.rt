@@ -3,7 +3,7 @@ ghost use Rattle.net_core.specs.Terms.{AreDemands, IsDemand};
 
 use net_core::Demand;
 
-/// Whether the demand joins two of so many nodes, and its need is below 2^40.
+/// Whether the demand joins two of this number of nodes, and its need is below 2^40.
 fn is_demand(nodes: usize, d: &Demand) -> bool
     ensures { IsTrue result ↔ IsDemand nodes d.now }
 {
@@ -46,7 +46,7 @@ fn total(demands: &[Demand]) -> u128
     total
 }
 
-/// Whether they are the demands of so many nodes. It takes time in the square of the demands, and no memory.
+/// Whether they are demands of this number of nodes. It takes time in the square of the demands, and no memory.
 pub fn belong(nodes: usize, demands: &[Demand]) -> bool
     ensures { IsTrue result ↔ AreDemands nodes demands.now }
 {

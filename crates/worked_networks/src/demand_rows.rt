@@ -30,7 +30,7 @@ fn listed(alloc: Global, rows: &[DemandRow]) -> Result<Demands, NoMemory>
     Ok(demands)
 }
 
-/// Up to 26 demands A, B and so on of so many nodes, one for each row: each joins two of them, and the needs, in units, are
+/// Up to 26 demands A, B and so on of this number of nodes, one for each row: each joins two of them, and the needs, in units, are
 /// below 2^40 each and below 2^44 together.
 ///
 /// It takes time in the square of the rows, and memory in the rows.

@@ -16,7 +16,7 @@ pub fn name(alloc: Global, bytes: &[u8]) -> Result<Name, NoMemory>
     }
 }
 
-/// The name of one letter, so many places after the first. It takes a byte of memory.
+/// The name of one letter, this number of places after the first. It takes a byte of memory.
 pub fn letter(alloc: Global, first: u8, place: usize) -> Result<Name, NoMemory>
     requires first { 65 ≤ first }
     requires place { first + place ≤ 122 }
