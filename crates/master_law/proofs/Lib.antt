@@ -6,6 +6,7 @@ pub mod Laws
 pub mod Lines
 pub mod Own
 pub mod Packing
+pub mod PairsOnce
 pub mod Shared
 pub mod Shares
 pub mod Slacks

@@ -1,4 +1,9 @@
-ghost use Rattle.master_law.specs.Laws.{BasisLinesCertify, BoundRises, LeastShareViolatesNone, NoCertificateIsGreater, RawValueIsShareCost};
+ghost use Rattle.master_law.specs.Laws.{BasisLinesCertify, BoundRises, LeastShareViolatesNone, NoCertificateIsGreater, RawValueIsShareCost, UnitPairsAreOne};
+
+/// Each link of a network has one unit pair.
+pub fn unit_pairs_are_one()
+    ensures { UnitPairsAreOne }
+{}
 
 /// A least share of cuts violates none of them.
 pub fn least_share_violates_none()

@@ -9,4 +9,3 @@ pub mod Routing
 pub mod Setups
 pub mod Weights
 pub mod Steps
-pub mod UnitPairs

@@ -45,7 +45,8 @@ fn has_earlier(links: &[Link], at: usize) -> bool
 /// The greatest need, up to a limit, of the links with these modules.
 fn greatest_need(links: &[Link], needs: &[u64], modules: &[Module], limit: u64) -> u64
     requires { length needs.now ≡ length links.now }
-    ensures reached { (e : ℕ) (l : L) → slice_get links.now e ≡ Some l → l.modules ≡ modules.now → slice_index needs.now e ≤ limit → slice_index needs.now e ≤ result }
+    ensures reached { (e : ℕ) (l : L) → slice_get links.now e ≡ Some l → l.modules ≡ modules.now → slice_index needs.now e ≤ limit
+        → slice_index needs.now e ≤ result }
     ensures limit { result ≤ limit }
 {
     let mut greatest = 0;
@@ -107,7 +108,7 @@ fn cover_alike(
     cover_by_table(alloc, links, needs, modules, &table, counts)
 }
 
-/// No counts yet for each of so many links.
+/// No counts yet for each of this number of links.
 fn no_counts(alloc: Global, links: usize) -> Result<Counts, NoMemory>
     ensures { IfOk result (λ counts. length counts ≡ links) }
 {

@@ -35,7 +35,7 @@ fn count_for(capacity: u64, need: u64) -> u64
     need.div_ceil(capacity)
 }
 
-/// The cost of so many modules.
+/// The cost of this number of modules.
 fn cost_of(m: &Module, count: u64) -> u128
     ensures { result ≡ m.now.cost * count }
 {

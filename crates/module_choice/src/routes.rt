@@ -54,7 +54,8 @@ fn take_demand(
 /// Takes one demand after another.
 fn route_all(alloc: Global, paths: &LeastPaths, demands: &[Demand]) -> Result<Routing, NoMemory>
     requires demands { AreDemands (length paths.now.graph.net.now.nodes) demands.now }
-    requires joined { let g = graph_of paths.now.graph in (k : ℕ) (d : Demand) → slice_get demands.now k ≡ Some d → 0 < d.need → AreApart (Joins g) d.from.0 d.to.0 → ⊥ }
+    requires joined { let g = graph_of paths.now.graph in (k : ℕ) (d : Demand) → slice_get demands.now k ≡ Some d → 0 < d.need
+        → AreApart (Joins g) d.from.0 d.to.0 → ⊥ }
     ensures routed { let g = graph_of paths.now.graph in IfOk result (IsLeastRouting (Joins g) paths.now.lengths demands.now) }
     ensures total { IfOk result (λ r. sum_by (λ f. f.num) r.flows ≡ sum_by (λ d. d.need) demands.now) }
 {

@@ -8,7 +8,7 @@ use checked_fraction::gcd;
 use net_core::{List, Module, NoMemory};
 use std::alloc::Global;
 
-/// Needs of up to so many steps are answered from a table.
+/// The greatest need, in steps, that is answered from a table.
 pub(crate) const MOST_STEPS: u64 = 100000;
 
 /// The least cost to reach a number of steps, in units of the network, and the kind of a module with which it is reached.
@@ -132,7 +132,7 @@ fn least_costs(alloc: Global, modules: &[Module], steps: usize) -> Result<List<E
     Ok(entries)
 }
 
-/// Takes modules of each kind for so many steps, from the last entry back to the first.
+/// Takes modules of each kind that reach this number of steps, from the last entry back to the first.
 fn take_modules(modules: &[Module], entries: &[Entry], steps: usize, counts: &mut [u64])
     requires kinds { length modules.now ≤ 16 }
     requires sound { All IsModule modules.now }
@@ -150,7 +150,7 @@ fn take_modules(modules: &[Module], entries: &[Entry], steps: usize, counts: &mu
     }
 }
 
-/// How many modules of each kind reach so many steps at the least cost.
+/// How many modules of each kind reach this number of steps at the least cost.
 pub(crate) fn counts_for(
     alloc: Global,
     modules: &[Module],

@@ -110,6 +110,7 @@ pub fn cost(net: &Network, counts: &Counts) -> u128
 }
 
 /// The capacities that counts of modules install, at the scale 1.
+/// It takes time in the number of modules, and 16 bytes a link.
 pub fn capacities(alloc: Global, net: &Network, counts: &Counts) -> Result<Caps, NoMemory>
     requires { AreCounts net.now.links counts.now }
     ensures { IfOk result (λ caps. (caps.scale ≡ 1) × (caps.nums ≡ capacities net.now.links counts.now)) }

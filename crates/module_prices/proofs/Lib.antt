@@ -1,3 +1,4 @@
 pub mod Divisors
 pub mod LowestTerms
 pub mod UnitCosts
+pub mod UnitPairs

@@ -7,7 +7,7 @@ use Rattle.plan_types.specs.declared.plan.Plan.{Plan}
 use Rattle.plan_types.specs.declared.quality.Fractional.{Fractional}
 use Rattle.plan_types.specs.declared.quality.Share.{Share}
 use Rattle.plan_checker.specs.Shares.{AreCarried, GivesShare, IsShareOf, IsTight}
-use Rattle.module_choice.proofs.UnitPairs.{pair_once}
+use Rattle.module_prices.proofs.UnitPairs.{pair_once}
 use Rattle.net_core.proofs.Lists.{get_some}
 
 no_pair : (modules : List Module) (capacity cost : ℕ) → IsUnitPair modules capacity cost → modules ≡ [] → ⊥

@@ -32,7 +32,8 @@ fn check_cuts(instance: &Instance, lines: &[CertLine], full: bool) -> Test
 fn check_prices(instance: &Instance, plan: &Plan) -> Test
     requires { IsCertificateInForm instance.now.net.now.links instance.now.states.now.listed plan.now.certificate }
     ensures told { Tells (HoldsPriceExceeded instance.now.net.now.links plan.now.certificate.den (lines_of_certificate plan.now.certificate)) result }
-    ensures priced { OnOk result ((e m : ℕ) → IsOverpriced instance.now.net.now.links plan.now.certificate.den (lines_of_certificate plan.now.certificate) e m → ⊥) }
+    ensures priced { OnOk result ((e m : ℕ) → IsOverpriced instance.now.net.now.links plan.now.certificate.den
+        (lines_of_certificate plan.now.certificate) e m → ⊥) }
 {
     let links = instance.net.links().items();
     let lines = plan.certificate.lines.items();

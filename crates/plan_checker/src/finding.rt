@@ -8,7 +8,7 @@ pub enum Finding {
     NotesDiffer,
     /// The entry at this position, from 1, has another reply, or another index than the next.
     EntryDiffers(u64),
-    /// So many lines of the pool, and so many cuts of the journal.
+    /// The number of lines of the pool, and of cuts in the journal.
     PoolCount(u32, u32),
     /// The state doesn't keep the lengths of this line of the pool, or an earlier line is the same cut.
     BadCut(u32),
@@ -44,7 +44,7 @@ pub enum Finding {
     NotTight,
 }
 
-/// What a check comes to.
+/// The result of a check.
 #[derive(Clone, Copy)]
 pub enum CheckAnswer {
     /// There is no finding.

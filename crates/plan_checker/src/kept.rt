@@ -36,11 +36,7 @@ fn is_local(instance: &Instance, line: &CertLine, full: bool) -> bool
     ensures local { IsTrue result ↔ IsLocalCut (case_of instance.now) full line.now }
     ensures kept { IsFalse result → AreKept (graph_in (case_of instance.now) line.now.cut.state.0) line.now.cut.lengths }
 {
-    let graph = Surviving {
-        net: instance.net,
-        states: instance.states,
-        state: line.cut.state,
-    };
+    let graph = instance.in_state(line.cut.state);
     (line.spot == Spot::Local && !full) || !is_kept(&graph, line.cut.lengths.items())
 }
 

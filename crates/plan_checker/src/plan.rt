@@ -68,7 +68,8 @@ pub fn check_plan(
     requires form { IsPlanInForm (known_of net.now states.now) plan.now }
     ensures told { AnswersPlan (plan_findings (case net.now states.now demands.now) pool_full plan.now) result }
     ensures sound { result ≡ CheckAnswer.Accepted → IsAcceptedPlan (case net.now states.now demands.now) plan.now }
-    ensures bound { result ≡ CheckAnswer.Accepted → (counts : List (List ℕ)) → IsAble (case net.now states.now demands.now) counts → plan.now.bound ≤ total_cost net.now.links counts }
+    ensures bound { result ≡ CheckAnswer.Accepted → (counts : List (List ℕ)) → IsAble (case net.now states.now demands.now) counts
+        → plan.now.bound ≤ total_cost net.now.links counts }
 {
     let instance = Instance {
         net,

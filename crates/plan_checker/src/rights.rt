@@ -33,7 +33,8 @@ pub(crate) fn check_rights(alloc: Global, instance: &Instance, lines: &[CertLine
     requires form { All (λ l. IsCutInForm instance.now.net.now.links instance.now.states.now.listed l.cut) lines.now }
     requires kept { All (λ l. AreKept (graph_in (case_of instance.now) l.cut.state.0) l.cut.lengths) lines.now }
     ensures told { Tells (HoldsRightDiffers (case_of instance.now) lines.now) result }
-    ensures rights { OnOk result (All (λ l. IsRight (Joins (graph_in (case_of instance.now) l.cut.state.0)) l.cut.lengths instance.now.demands.now l.cut.right) lines.now) }
+    ensures rights { OnOk result (All (λ l. IsRight (Joins (graph_in (case_of instance.now) l.cut.state.0)) l.cut.lengths
+        instance.now.demands.now l.cut.right) lines.now) }
 {
     for i in 0..lines.len() {
         let cut = &lines[i].cut;

@@ -66,7 +66,8 @@ pub(crate) fn check_routings(
     requires form { AreRoutingsInForm (known_of instance.now.net.now instance.now.states.now) instance.now.demands.now routings.now }
     requires shape { AreCounts instance.now.net.now.links counts.now }
     requires small { All (λ n. n < 2 ^ 46) (capacities instance.now.net.now.links counts.now) }
-    ensures told { TellFirst (HoldsBadPath (case_of instance.now) routings.now ∷ HoldsNotCarried (case_of instance.now) routings.now ∷ HoldsOverloaded (capacities instance.now.net.now.links counts.now) routings.now ∷ []) result }
+    ensures told { TellFirst (HoldsBadPath (case_of instance.now) routings.now ∷ HoldsNotCarried (case_of instance.now) routings.now
+        ∷ HoldsOverloaded (capacities instance.now.net.now.links counts.now) routings.now ∷ []) result }
     ensures paths { OnOk result (FollowPaths (case_of instance.now) routings.now) }
     ensures met { OnOk result ((s k : ℕ) → IsUncarried (case_of instance.now) 1 routings.now s k → ⊥) }
     ensures within { OnOk result ((s e : ℕ) → IsOverloaded (capacities instance.now.net.now.links counts.now) routings.now s e → ⊥) }

@@ -10,7 +10,7 @@ pub enum Stop {
     NoMemory,
 }
 
-/// What a test comes to: nothing found, or a reason to stop.
+/// The result of a test: nothing found, or a reason to stop.
 pub type Test = Result<(), Stop>;
 
 impl From<NoMemory> for Stop {

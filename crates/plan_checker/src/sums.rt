@@ -72,7 +72,7 @@ fn zeros(alloc: Global, count: usize, den: u64) -> Result<Vec<Mixed>, NoMemory>
     Ok(vec![in alloc; zero; count]?)
 }
 
-/// The sum of each of so many demands' flows, over the denominator.
+/// The sum of each demand's flows, over the denominator.
 pub(crate) fn sums_of(
     alloc: Global,
     demands: usize,
@@ -89,7 +89,7 @@ pub(crate) fn sums_of(
     Ok(sums)
 }
 
-/// What flows bring onto each of so many links, over the denominator.
+/// What flows bring onto each link, over the denominator.
 pub(crate) fn loads_of(
     alloc: Global,
     links: usize,

@@ -60,10 +60,12 @@ pub(crate) fn check_worth(links: &[Link], plan: &Plan) -> Test
     requires positive { 0 < plan.now.certificate.den }
     requires den { plan.now.certificate.den < 2 ^ 72 }
     requires raw { 0 < plan.now.raw_den }
-    ensures told { TellFirst (HoldsCertificateWide links.now (lines_of_certificate plan.now.certificate) ∷ HoldsRawDiffers links.now plan.now ∷ HoldsBoundDiffers links.now plan.now ∷ []) result }
+    ensures told { TellFirst (HoldsCertificateWide links.now (lines_of_certificate plan.now.certificate)
+        ∷ HoldsRawDiffers links.now plan.now ∷ HoldsBoundDiffers links.now plan.now ∷ []) result }
     ensures asked { OnOk result (asked (lines_of_certificate plan.now.certificate) < 2 ^ 126) }
     ensures given { OnOk result (given links.now (lines_of_certificate plan.now.certificate) < 2 ^ 126) }
-    ensures raw { OnOk result (IsLowest (raw_value links.now (lines_of_certificate plan.now.certificate)) plan.now.certificate.den plan.now.raw_num plan.now.raw_den) }
+    ensures raw { OnOk result (IsLowest (raw_value links.now (lines_of_certificate plan.now.certificate)) plan.now.certificate.den
+        plan.now.raw_num plan.now.raw_den) }
     ensures bound { OnOk result (IsBound links.now (raw_value links.now (lines_of_certificate plan.now.certificate)) plan.now.certificate.den plan.now.bound) }
 {
     let lines = plan.certificate.lines.items();

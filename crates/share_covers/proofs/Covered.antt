@@ -10,7 +10,7 @@ use Rattle.module_choice.specs.Coverings.{CoverNeeds}
 use Rattle.module_choice.proofs.Carrying.{network_links}
 use Rattle.module_choice.proofs.Falling.{all_shaped, capacities_small}
 use Rattle.share_covers.specs.ShareCovers.{AreShareCovers, AreShareNeeds}
-use Rattle.share_covers.proofs.PairsOnce.{pairs_once}
+use Rattle.master_law.proofs.PairsOnce.{pairs_once}
 use Rattle.net_core.proofs.Lists.{all_at}
 
 -- the modules of a link of a network are sound

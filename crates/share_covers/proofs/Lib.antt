@@ -1,5 +1,4 @@
 pub mod Choosing
 pub mod Covered
-pub mod PairsOnce
 pub mod StateRoutes
 pub mod Widening

@@ -1,9 +1,4 @@
-ghost use Rattle.share_covers.specs.Laws.{UnitPairsAreOne, WideCoversAreLoose};
-
-/// Each link of a network has one unit pair.
-pub fn unit_pairs_are_one()
-    ensures { UnitPairsAreOne }
-{}
+ghost use Rattle.share_covers.specs.Laws.{WideCoversAreLoose};
 
 /// Evidence at the covers of a share makes a plan loose by width, where the share is a least one and costs the raw value.
 pub fn wide_covers_are_loose()

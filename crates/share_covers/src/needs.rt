@@ -29,7 +29,7 @@ fn need_of(capacity: u64, units: u64, scale: u64) -> u64
     whole(given, scale).min(MOST_NEED as u128) as u64
 }
 
-/// What a link with these modules needs for so many units over a scale.
+/// What a link with these modules needs for a number of units over a scale.
 fn link_need(modules: &[Module], units: u64, scale: u64) -> u64
     requires sound { All IsModule modules.now }
     requires scale { 0 < scale }

@@ -1,7 +1,7 @@
 use Rattle.std.proofs.Common.{◌^◌, inl, inr, refl, subst, sym, ◌∙◌, arith}
 use Rattle.plan_terms.specs.Terms.{IsUnitPair}
 use Rattle.plan_terms.proofs.Lemmas.{product_below}
-use Rattle.module_choice.proofs.UnitPairs.{pair_small}
+use Rattle.module_prices.proofs.UnitPairs.{pair_small}
 use Rattle.plan_checker.proofs.share.share_of.Goals as goal
 
 pub returns-in-Some-clause-value : goal.returns-in-Some-clause-value

@@ -4,9 +4,9 @@ use Rattle.std.proofs.lemmas.List.{ext_get_or}
 use Rattle.net_core.proofs.Library.{slice_get-get_or}
 use Rattle.plan_terms.specs.Terms.{IsModule, Link, Module, IsUnitPair}
 use Rattle.module_prices.specs.declared.cheapest.UnitPair.{UnitPair}
-use Rattle.master_law.specs.Terms.{AreUnitPairs, IsPairOfLink}
-use Rattle.module_choice.proofs.UnitPairs.{pair_once}
-use Rattle.share_covers.specs.Laws.{UnitPairsAreOne}
+use Rattle.module_prices.proofs.UnitPairs.{pair_once}
+use Rattle.master_law.specs.Laws.{UnitPairsAreOne}
+use Rattle.master_law.specs.UnitPairs.{AreUnitPairs, IsPairOfLink}
 use Rattle.net_core.proofs.Lists.{all_at, get_some}
 
 same_pair : (a b : UnitPair) → a.capacity ≡ b.capacity → a.cost ≡ b.cost → a ≡ b

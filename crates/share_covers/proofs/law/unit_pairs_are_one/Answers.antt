@@ -1,5 +1,0 @@
-use Rattle.share_covers.proofs.PairsOnce.{unit_pairs_are_one}
-use Rattle.share_covers.proofs.law.unit_pairs_are_one.Goals as goal
-
-pub returns : goal.returns
-returns c = unit_pairs_are_one
