@@ -37,6 +37,7 @@ fn no_columns(alloc: Global, count: usize) -> Result<List<List<RouteColumn>>, No
 
 impl AbleTest {
     /// A test that knows no cuts yet, with a routing for each state, within whatever capacities.
+    /// It copies nothing; it takes memory for an empty list of columns in each state.
     pub fn new(
         alloc: Global,
         instance: &Instance,
@@ -57,6 +58,7 @@ impl AbleTest {
     }
 
     /// The routings, one for each state: within the capacities of the last counts that carry the demands, as long as no others were asked.
+    /// It takes constant time.
     pub fn routings(&self) -> &List<Routing>
         ensures { result.now ≡ self.now.routings }
     {
@@ -93,7 +95,7 @@ impl AbleTest {
         }
     }
 
-    /// The same where there is one.
+    /// Keeps a copy of the cut that a state gave, if it gave one, and which state that was.
     fn keep(
         &mut self,
         instance: &Instance,
@@ -127,7 +129,8 @@ impl AbleTest {
         requires narrow { All (λ n. n < 2 ^ 62) caps.now.nums }
         ensures sound { IsTestOf (case_of instance.now) self.new }
         ensures kept { AreKeptOrWithin (case_of instance.now) caps.now.nums self.old.routings self.new.routings }
-        ensures carried { IfOk result (λ o. o ≡ None → (r : Routing) → slice_get self.new.routings state.0 ≡ Some r → IsRoutingWithin (case_of instance.now) state.0 caps.now.nums r) }
+        ensures carried { IfOk result (λ o. o ≡ None → (r : Routing) → slice_get self.new.routings state.0 ≡ Some r
+            → IsRoutingWithin (case_of instance.now) state.0 caps.now.nums r) }
         ensures stop { IfOk result (λ o. IfSome o (IsStopAt (case_of instance.now) caps.now)) }
     {
         let at = state.0 as usize;
@@ -143,7 +146,7 @@ impl AbleTest {
         Ok(found)
     }
 
-    /// The same of the state that refused last.
+    /// Why capacities don't carry the demands in the state that refused last.
     fn stop_again(&mut self, instance: &Instance, caps: &Caps) -> Result<Option<Stop>, NoMemory>
         requires sound { IsTestOf (case_of instance.now) self.old }
         requires survivable { IsSurvivable (case_of instance.now) }
@@ -161,7 +164,7 @@ impl AbleTest {
         }
     }
 
-    /// The same of all states, in their order: a cut of some state, or else evidence of some state.
+    /// Why capacities don't carry the demands in some state, tried in their order: a cut of a state, or else evidence of one.
     fn stop_in_turn(&mut self, instance: &Instance, caps: &Caps) -> Result<Option<Stop>, NoMemory>
         requires sound { IsTestOf (case_of instance.now) self.old }
         requires survivable { IsSurvivable (case_of instance.now) }
@@ -185,7 +188,7 @@ impl AbleTest {
         Ok(wide)
     }
 
-    /// The same, of the state that refused last first.
+    /// Why capacities don't carry the demands in some state; the state that refused last is tried first.
     fn stop_within(&mut self, instance: &Instance, caps: &Caps) -> Result<Option<Stop>, NoMemory>
         requires sound { IsTestOf (case_of instance.now) self.old }
         requires survivable { IsSurvivable (case_of instance.now) }
@@ -205,6 +208,21 @@ impl AbleTest {
         self.stop_in_turn(instance, caps)
     }
 
+    /// A cut that is known and that counts of modules violate, the newest first: then they don't carry the demands. It takes time in the number
+    /// of the cuts and the links, and memory for a copy of the cut.
+    pub fn known_stop(&self, instance: &Instance, counts: &Counts) -> Result<Option<Stop>, NoMemory>
+        requires sound { IsTestOf (case_of instance.now) self.now }
+        requires shape { AreCounts instance.now.net.now.links counts.now }
+        requires limits { AreWithinLimits instance.now.net.now.links counts.now }
+        ensures { IfOk result (λ o. IfSome o (IsStopAt (case_of instance.now) (whole_caps (capacities instance.now.net.now.links counts.now)))) }
+    {
+        let caps = capacities(self.alloc, instance.net, counts)?;
+        match last_violated(self.cuts.items(), &caps)? {
+            Some(line) => Ok(Some(Stop::Cut(line))),
+            None => Ok(None),
+        }
+    }
+
     /// Why counts of modules aren't known to carry the demands in all states, none of which separates a demand: a cut of some state, or else
     /// evidence. `None` where they carry them: then `routings` has a routing for each state within their capacities.
     ///
@@ -218,7 +236,9 @@ impl AbleTest {
         requires limits { AreWithinLimits instance.now.net.now.links counts.now }
         ensures sound { IsTestOf (case_of instance.now) self.new }
         ensures kept { AreKeptOrWithin (case_of instance.now) (capacities instance.now.net.now.links counts.now) self.old.routings self.new.routings }
-        ensures carried { IfOk result (λ o. o ≡ None → AreRoutingsWithin (case_of instance.now) (capacities instance.now.net.now.links counts.now) self.new.routings) }
+        ensures carried { IfOk result (λ o. o ≡ None
+            → AreRoutingsWithin (case_of instance.now) (capacities instance.now.net.now.links counts.now)
+            self.new.routings) }
         ensures stop { IfOk result (λ o. IfSome o (IsStopAt (case_of instance.now) (whole_caps (capacities instance.now.net.now.links counts.now)))) }
     {
         let caps = capacities(self.alloc, instance.net, counts)?;

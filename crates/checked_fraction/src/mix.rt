@@ -87,7 +87,7 @@ pub(crate) fn narrowed(a: i128) -> i64
     a as i64
 }
 
-/// The same where it is narrow.
+/// Number `k` of the combined row, divided, where it is narrow.
 pub(crate) fn narrow_at(nums: &[i64], pivot: &[i64], mix: &Mix, divisor: &Divisor, k: usize) -> i64
     requires inside { k < length nums.now }
     requires can_mix { CanMix nums.now pivot.now mix.now }

@@ -177,7 +177,7 @@ fn reduce(row: &mut Row, pivot: &[i64], mix: &Mix) -> Result<(), WideNumber>
     Ok(())
 }
 
-/// The same where the factors may have a common divisor.
+/// The row combined and reduced where the factors may have a common divisor, or unchanged where it would be too wide.
 fn combine_by(row: &mut Row, pivot: &[i64], mix: &Mix) -> Result<(), WideNumber>
     requires can_mix { CanMix row.old.nums pivot.now mix.now }
     requires positive { pos 0 <ℤ mix.now.q }

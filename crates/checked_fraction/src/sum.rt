@@ -54,6 +54,7 @@ fn low_part(size: &u128) -> i64
 
 impl Sum {
     /// The sum of no products.
+    /// No call of a sum asks for memory, and each takes constant time.
     pub fn new() -> Sum
         ensures high { result.high ≡ pos 0 }
         ensures low { result.low ≡ 0 }

@@ -4,7 +4,7 @@ use net_core::{Edit, Reply};
 /// What a board answers to an edit. An edit that wasn't committed comes back.
 #[derive(Drop)]
 pub enum EditAnswer {
-    /// It stands at this position of the history, with its reply; positions count from 1.
+    /// It is at this position of the history, with its reply; positions count from 1.
     At { position: u64, reply: Reply },
     /// The history has 65,536 entries.
     Full(Edit),
@@ -15,7 +15,7 @@ pub enum EditAnswer {
 /// What a board answers to a cut. A cut that wasn't admitted comes back.
 #[derive(Drop)]
 pub enum AdmitAnswer {
-    /// It has this index in the pool, and its entry stands at this position of the history; positions count from 1.
+    /// It has this index in the pool, and its entry is at this position of the history; positions count from 1.
     Admitted { index: u32, position: u64 },
     /// The pool has this cut already, at this index.
     Known(u32, Cut),

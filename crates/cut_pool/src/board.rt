@@ -131,7 +131,8 @@ impl<'a> Board<'a> {
     }
 
     /// Puts a cut of the board's network and states last in the pool, with its right side at the demands now, and commits it. A cut
-    /// that stands there already isn't put again: its state is compared first, and lengths in one state alone.
+    /// that is there already isn't put again: its state is compared first, and lengths in one state alone.
+    /// It takes time in the number of cuts, and for a new one in the number of demands; memory for the cut and its entry.
     pub fn admit(&mut self, cut: Cut) -> AdmitAnswer
         requires { IsCutOf (graph self.old.net.now self.old.states.now cut.state.0) cut }
         ensures answer { AnswersAdmit self.old cut result self.new }
@@ -157,7 +158,7 @@ impl<'a> Board<'a> {
         }
     }
 
-    /// Takes memory for the entries of so many edits, each of which sets the need of a known demand.
+    /// Takes memory for the entries of this number of edits, each of which sets the need of a known demand.
     pub fn reserve(&mut self, edits: u32) -> Result<(), NoMemory>
         ensures same { IsSameBoard self.old self.new }
         ensures ok { OnOk result (spare_of self.new ≡ max (spare_of self.old) edits) }
@@ -166,7 +167,7 @@ impl<'a> Board<'a> {
         self.storage.reserve(edits)
     }
 
-    /// For so many edits that set the need of a known demand the board has memory.
+    /// The number of edits for which the board has memory, if each sets the need of a known demand.
     pub fn spare(&self) -> u32
         ensures { result ≡ spare_of self.now }
     {
@@ -188,6 +189,7 @@ impl<'a> Board<'a> {
     }
 
     /// The cut of this index, with its distances.
+    /// It takes constant time, as `cuts`, `right`, `version`, `demands`, `entries` and `entry` do.
     pub fn cut(&self, index: u32) -> &Cut
         requires { index < length (cuts_of self.now.entries) }
         ensures at { slice_get (cuts_of self.now.entries) index ≡ Some (result.now.state.0, result.now.lengths) }
@@ -236,6 +238,7 @@ impl<'a> Board<'a> {
     }
 
     /// The lines of the pool, with their right sides at the demands now.
+    /// It copies the lengths of each cut: time and memory in the cuts times the links.
     pub fn lines(&self) -> Result<List<CutLine>, NoMemory>
         ensures { IfOk result (AreLinesNow self.now) }
     {
@@ -252,6 +255,7 @@ impl<'a> Board<'a> {
     }
 
     /// The lines of the pool, with right sides that are summed anew.
+    /// It takes the time of `audit`, and the memory of `lines`.
     pub fn audited_lines<R: Threads + Sync>(&self, rt: &R) -> Result<List<CutLine>, NoMemory>
         ensures { IfOk result (AreLinesNow self.now) }
     {
@@ -260,6 +264,7 @@ impl<'a> Board<'a> {
     }
 
     /// What the board is now. It copies the demands, and of each cut the lengths.
+    /// Time and memory grow with the demands, and with the cuts times the links.
     pub fn snapshot(&self) -> Result<Snapshot, NoMemory>
         ensures { IfOk result (IsSnapshotOf self.now) }
     {

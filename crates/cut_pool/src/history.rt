@@ -55,14 +55,14 @@ impl History {
         self.entries.len()
     }
 
-    /// For so many edits that set the need of a known demand there is memory.
+    /// The number of edits for which there is memory, if each sets the need of a known demand.
     pub fn spare(&self) -> u32
         ensures { result ≡ self.now.spare }
     {
         self.spare
     }
 
-    /// Takes memory for so many edits.
+    /// Takes memory for this number of edits.
     pub fn reserve(&mut self, edits: u32) -> Result<(), NoMemory>
         ensures entries { self.new.entries.items ≡ self.old.entries.items }
         ensures ok { OnOk result (self.new.spare ≡ max self.old.spare edits) }
@@ -75,7 +75,7 @@ impl History {
         Ok(())
     }
 
-    /// For so many edits there is memory once this one is committed.
+    /// The number of edits for which there is memory once this one is committed.
     fn left(&self, book: &Book, edit: &Edit) -> u32
         ensures { result ≡ left_spare book.now.demands edit.now self.now.spare }
     {

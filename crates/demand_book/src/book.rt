@@ -49,7 +49,7 @@ impl Book {
         })
     }
 
-    /// The number of accepted edits; it stands still at 2^64 - 1.
+    /// The number of accepted edits; it stays at 2^64 - 1.
     pub fn version(&self) -> u64
         ensures { result ≡ self.now.version }
     {
@@ -64,6 +64,7 @@ impl Book {
     }
 
     /// The demands, in the order in which they were added.
+    /// It takes constant time, as `version` and `total` do.
     pub fn demands(&self) -> &Demands
         ensures { result.now ≡ self.now.demands }
     {

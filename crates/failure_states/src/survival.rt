@@ -4,6 +4,7 @@ ghost use Rattle.plan_terms.specs.Terms.{Survives, graph};
 use net_core::{LinkId, Network, StateId, States, Surviving};
 
 /// Whether a link survives in a state: the state doesn't fail it, and it has a module.
+/// It takes time in the number of links that the state fails.
 pub fn survives(net: &Network, states: &States, state: StateId, link: LinkId) -> bool
     requires state { state.0 < length states.now.listed + 1 }
     requires link { link.0 < length net.now.links }

@@ -85,7 +85,7 @@ fn link_flows(
     Ok(all)
 }
 
-/// Takes the name and the flows of a state after those of so many others.
+/// Takes the name and the flows of a state, given how many states came before.
 #[tactic(auto, unfolding(crate::specs::FlowReading::state_flows_at))]
 fn state_flows(
     alloc: Global,
@@ -101,7 +101,7 @@ fn state_flows(
     link_flows(alloc, context, demands, text)
 }
 
-/// What is wrong with the flows of so many states.
+/// What is wrong with the flows of this number of states.
 fn states_fault(states: &States, all: &[List<LinkFlow>]) -> Option<FlowsKind>
     ensures { result ≡ of_length (length states.now.listed + 1) FlowsKind.Limit all.now }
 {

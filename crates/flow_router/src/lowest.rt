@@ -29,7 +29,7 @@ fn divide(flows: &mut [Flow], common: u128)
     }
 }
 
-/// The same of a list.
+/// Divides each flow of a list.
 fn divide_list(flows: &mut List<Flow>, common: u128)
     requires positive { 0 < common }
     requires divides { All (λ f. common ∣ f.num) flows.old }
@@ -38,7 +38,7 @@ fn divide_list(flows: &mut List<Flow>, common: u128)
     divide(flows.items_mut(), common);
 }
 
-/// The same routing in lowest terms.
+/// The routing in lowest terms.
 pub(crate) fn lowest(routing: Routing) -> Routing
     requires { 0 < routing.den }
     ensures { IsInLowest routing result }

@@ -110,13 +110,14 @@ fn answer_of(
     }
 }
 
-/// The answer that the routing program gives, with known columns at hand. They become those of the optimum, if there is one.
+/// The answer that the routing program gives, which begins with known columns. They become those of the optimum, if there is one.
 fn solved(
     alloc: Global,
     task: &RouteTask,
     known: &mut List<RouteColumn>,
 ) -> Result<RouteAnswer, NoMemory>
-    requires narrow { (k : ℕ) → k < route_rows (graph_of task.now.graph) task.now.demands.now → IsNarrow (route_bound (graph_of task.now.graph) task.now.demands.now task.now.caps.now k) }
+    requires narrow { (k : ℕ) → k < route_rows (graph_of task.now.graph) task.now.demands.now
+        → IsNarrow (route_bound (graph_of task.now.graph) task.now.demands.now task.now.caps.now k) }
     requires joined { AreJoined (graph_of task.now.graph) task.now.demands.now }
     ensures answer { IfOk result (IsRouteAnswer (graph_of task.now.graph) task.now.demands.now task.now.caps.now) }
     ensures same { OnErr result (known.new ≡ known.old) }
@@ -145,7 +146,8 @@ fn routed_or_solved(
     task: &RouteTask,
     known: &mut List<RouteColumn>,
 ) -> Result<RouteAnswer, NoMemory>
-    requires narrow { (k : ℕ) → k < route_rows (graph_of task.now.graph) task.now.demands.now → IsNarrow (route_bound (graph_of task.now.graph) task.now.demands.now task.now.caps.now k) }
+    requires narrow { (k : ℕ) → k < route_rows (graph_of task.now.graph) task.now.demands.now
+        → IsNarrow (route_bound (graph_of task.now.graph) task.now.demands.now task.now.caps.now k) }
     requires joined { AreJoined (graph_of task.now.graph) task.now.demands.now }
     ensures answer { IfOk result (IsRouteAnswer (graph_of task.now.graph) task.now.demands.now task.now.caps.now) }
     ensures same { OnErr result (known.new ≡ known.old) }
@@ -167,7 +169,7 @@ fn routed_or_solved(
 /// 1.999 on BC they aren't: the links at C have 11.999 together, and the cut has the lengths 0, 1, 1.
 ///
 /// It takes time that grows with the turns of the simplex method, each in the square of the count of links at most, with a search from
-/// each node where no path at hand gains, and memory by that square and by the links of one path for each demand.
+/// each node where no known path gains, and memory by that square and by the links of one path for each demand.
 ///
 /// `known` are columns of an earlier optimum, whatever they are: those of them that are paths of the demands in this state enter the
 /// routing program first, as long as they gain. Where an optimum is found, `known` becomes its columns, which save most of the searches
@@ -191,6 +193,7 @@ pub fn route_task(
 }
 
 /// `route_task` for demands within capacities in a state, with no known columns.
+/// It takes the time and the memory of `route_task`.
 pub fn route_state<'a>(
     alloc: Global,
     net: &'a Network,

@@ -62,6 +62,7 @@ pub fn greedy_in(alloc: Global, task: &RouteTask) -> Result<Left, NoMemory>
 }
 
 /// `greedy_in` for demands within capacities in a state.
+/// It takes the time and the memory of `greedy_in`.
 pub fn greedy<'a>(
     alloc: Global,
     net: &'a Network,

@@ -22,7 +22,9 @@ pub fn route_demand(
     requires spares { length draft.old.spares ≡ length graph.now.net.now.links }
     requires k { k < length draft.old.rest }
     ensures adds { let g = graph_of graph.now in OnOk result (Adds (Joins g) k d.now draft.old draft.new) }
-    ensures blocked { let g = graph_of graph.now in OnOk result (0 < slice_index draft.new.rest k → IsBlocked (Joins g) (λ e. 0 < slice_index draft.new.spares e) d.now.from.0 d.now.to.0) }
+    ensures blocked { let g = graph_of graph.now in
+        OnOk result (0 < slice_index draft.new.rest k
+        → IsBlocked (Joins g) (λ e. 0 < slice_index draft.new.spares e) d.now.from.0 d.now.to.0) }
 {
     while draft.rest.items()[k as usize] > 0 {
         match open_path(alloc, graph, draft.spares.items(), d.from, d.to)? {

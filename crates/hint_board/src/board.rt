@@ -41,6 +41,7 @@ impl Hint {
     ghost use Rattle.hint_board.specs.Hints.{index_of_hint};
 
     /// The index of the posted vector on its board.
+    /// It takes constant time.
     pub fn at(&self) -> u64
         ensures { result ≡ index_of_hint self.now }
     {
@@ -52,7 +53,7 @@ impl HintBoard {
     ghost use Rattle.hint_board.specs.Priced.{AreHintLengths};
     ghost use Rattle.hint_board.specs.Hints.{IsHintOf, hint_links, posted_lengths};
 
-    /// An empty board for vectors of so many lengths. It takes a fixed amount of memory, whatever the number.
+    /// An empty board for vectors of this number of lengths. It takes a fixed amount of memory, whatever the number.
     pub fn new(alloc: Global, links: u32) -> Result<HintBoard, NoMemory>
         ensures { IfOk result (λ board. hint_links board ≡ links) }
     {

@@ -46,7 +46,8 @@ fn row_product(keyed: &Keyed, name: &RouteColumn, i: usize) -> i128
     requires name { IsNameWithin (length keyed.now.rows) name.now }
     requires key { ForSome (demand_in name.now) (HasKey keyed.now.names keyed.now.places (length keyed.now.rows)) }
     requires short { IsShortPath (length keyed.now.rows) (key_links keyed.now.names keyed.now.places (length keyed.now.rows) (demand_in name.now)) }
-    ensures value { result ≡ dot (length keyed.now.rows) (nums_at keyed.now.rows i) (left_uses name.now (key_links keyed.now.names keyed.now.places (length keyed.now.rows) (demand_in name.now))) }
+    ensures value { result ≡ dot (length keyed.now.rows) (nums_at keyed.now.rows i)
+        (left_uses name.now (key_links keyed.now.names keyed.now.places (length keyed.now.rows) (demand_in name.now))) }
     ensures bound { unsigned_abs result ≤ 2 ^ 71 }
 {
     let links = keyed.rows.len();

@@ -49,7 +49,7 @@ fn next_gaining(task: &RouteTask, keyed: &Keyed, waiting: &mut List<Carrier>) ->
     None
 }
 
-/// A demand's cheapest path comes to the others, if it gains.
+/// Adds a demand's cheapest path to the others, if it gains.
 fn offer(
     paths: &CheapestPaths,
     d: &Demand,
@@ -123,7 +123,7 @@ fn offers_of(
     Ok(found)
 }
 
-/// The same, with the searches. It takes one search from each node.
+/// The cheapest path of each demand whose flow gains, with the searches for it. It takes one search from each node.
 fn collect(alloc: Global, task: &RouteTask, keyed: &Keyed) -> Result<List<Carrier>, NoMemory>
     requires links { length keyed.now.prices.nums ≡ length task.now.graph.net.now.links }
     requires demands { length keyed.now.duals ≡ length task.now.demands.now }

@@ -77,7 +77,7 @@ fn wide_kind(keyed: &Keyed, name: RouteColumn, wide: WideTest) -> WideKind<Route
     }
 }
 
-/// A column of this cost, whose products are at hand, enters for that of a role.
+/// A column of this cost, whose products are known, enters for that of a role.
 fn turn_at(keyed: &mut Keyed, room: &mut Room, name: RouteColumn, cost: &i128, role: u32) -> Turn
     requires enters { HasPriced (length keyed.old.rows) (length keyed.old.duals) keyed.old name cost.now role }
     requires shaped { IsShapedBasis (length keyed.old.rows) (length keyed.old.duals) keyed.old }

@@ -69,7 +69,7 @@ fn swap_places(places: &mut [u32], a: usize, b: usize)
     places[b] = first;
 }
 
-/// The same of a list.
+/// Two roles change their places, in a list.
 fn swap_place_list(places: &mut List<u32>, a: usize, b: usize)
     requires a { a < length places.old }
     requires b { b < length places.old }
@@ -90,7 +90,7 @@ fn swap_row(rows: &mut [Row], i: usize, row: &mut Row)
     mem::swap(&mut rows[i], row);
 }
 
-/// The same of a list.
+/// A row of a list and another one change places.
 fn swap_row_list(rows: &mut List<Row>, i: usize, row: &mut Row)
     requires { i < length rows.old }
     ensures count { length rows.new ≡ length rows.old }

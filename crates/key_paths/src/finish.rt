@@ -35,7 +35,7 @@ fn value_over(value: u128, row: &Row, all: u64) -> u128
     value * (all / size_of_den(row)) as u128
 }
 
-/// The same where the row is one of the demand, and 0 where it isn't.
+/// A row's value, over the common denominator, where the row is one of the demand; 0 where it isn't.
 fn own_over(value: u128, row: &Row, owner: u32, demand: u32, all: u64) -> u128
     requires { value * (all / unsigned_abs row.now.den) < 2 ^ 124 }
     ensures { pos result ≡ (unit_vector owner demand *ℤ pos (all / unsigned_abs row.now.den)) *ℤ pos value }

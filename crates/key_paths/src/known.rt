@@ -27,7 +27,7 @@ fn carries(task: &RouteTask, demand: u32, path: &[LinkId], seen: &mut [bool]) ->
         && is_path(&task.graph, path, d.from, d.to, seen)
 }
 
-/// The same with room in a list.
+/// Whether a path is one of a demand that has a need; the room is a list.
 fn carries_by(task: &RouteTask, demand: u32, path: &Path, seen: &mut List<bool>) -> bool
     requires { length seen.old ≡ length task.now.graph.net.now.nodes }
     ensures size { length seen.new ≡ length task.now.graph.net.now.nodes }
@@ -36,7 +36,7 @@ fn carries_by(task: &RouteTask, demand: u32, path: &Path, seen: &mut List<bool>)
     carries(task, demand, path.items(), seen.items_mut())
 }
 
-/// A column comes to the carriers if it is a path of one of the demands.
+/// Adds a column to the carriers if it is a path of one of the demands.
 fn offer_known(
     task: &RouteTask,
     column: &RouteColumn,

@@ -1,6 +1,6 @@
 //! The greatest flow of a state's demands over all their paths, by a simplex method that keeps rows of links alone.
 //!
-//! A basis has a key for each demand: one of its paths, or its slack. Each other column stands as its difference
+//! A basis has a key for each demand: one of its paths, or its slack. Each other column is kept as its difference
 //! from the key of its demand, so that the rows of demands need not be kept.
 #![tactic(auto)]
 

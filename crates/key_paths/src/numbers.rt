@@ -56,7 +56,7 @@ pub fn bound_of(task: &RouteTask, row: u32) -> u128
     }
 }
 
-/// The same bound in one word, where it is narrow.
+/// The bound of a row in one word, where it is narrow.
 fn narrow_bound(task: &RouteTask, row: u32) -> i64
     requires row { row < route_rows (graph_of task.now.graph) task.now.demands.now }
     requires narrow { IsNarrow (route_bound (graph_of task.now.graph) task.now.demands.now task.now.caps.now row) }
@@ -67,6 +67,7 @@ fn narrow_bound(task: &RouteTask, row: u32) -> i64
 }
 
 /// The names of all slacks, in the order of their rows.
+/// Time and memory grow with the number of rows.
 pub fn slack_names(alloc: Global, task: &RouteTask) -> Result<List<RouteColumn>, NoMemory>
     ensures count { IfOk result (λ names. length names ≡ route_rows (graph_of task.now.graph) task.now.demands.now) }
     ensures names { IfOk result (AtEach (λ i name. name ≡ route_slack (graph_of task.now.graph) i)) }
@@ -80,7 +81,8 @@ pub fn slack_names(alloc: Global, task: &RouteTask) -> Result<List<RouteColumn>,
 
 /// The bounds of all rows.
 pub(crate) fn bounds_of(alloc: Global, task: &RouteTask) -> Result<List<i64>, NoMemory>
-    requires { (k : ℕ) → k < route_rows (graph_of task.now.graph) task.now.demands.now → IsNarrow (route_bound (graph_of task.now.graph) task.now.demands.now task.now.caps.now k) }
+    requires { (k : ℕ) → k < route_rows (graph_of task.now.graph) task.now.demands.now
+        → IsNarrow (route_bound (graph_of task.now.graph) task.now.demands.now task.now.caps.now k) }
     ensures count { IfOk result (λ bounds. length bounds ≡ route_rows (graph_of task.now.graph) task.now.demands.now) }
     ensures bounds { IfOk result (AtEach (λ i b. b ≡ route_bound (graph_of task.now.graph) task.now.demands.now task.now.caps.now i)) }
 {

@@ -65,7 +65,8 @@ pub(crate) fn price(
     requires demands { length keyed.now.duals ≡ length task.now.demands.now }
     requires waiting { All (IsCarrier (graph_of task.now.graph) task.now.demands.now) waiting.old }
     ensures waiting { All (IsCarrier (graph_of task.now.graph) task.now.demands.now) waiting.new }
-    ensures found { IfOk result (λ o. MatchOption o (NoneGains (graph_of task.now.graph) task.now.demands.now keyed.now) (IsGaining (graph_of task.now.graph) task.now.demands.now keyed.now)) }
+    ensures found { IfOk result (λ o. MatchOption o (NoneGains (graph_of task.now.graph) task.now.demands.now keyed.now)
+        (IsGaining (graph_of task.now.graph) task.now.demands.now keyed.now)) }
 {
     if let Some(link) = first_negative(keyed.prices.nums()) {
         return Ok(Some(RouteColumn::LinkSlack(LinkId(link))));

@@ -22,7 +22,7 @@ use net_core::{
 use simplex_core::{Optimum, SimplexFault};
 use std::alloc::Global;
 
-/// What a basis with a number that is too wide comes to.
+/// The answer where a number of a basis is too wide.
 fn stopped(keyed: Keyed, kind: WideKind<RouteColumn>) -> SimplexFault<RouteColumn>
     ensures { result ≡ SimplexFault.Wide keyed.names kind }
 {
@@ -40,11 +40,16 @@ fn solved(
     room: &mut Room,
     waiting: &mut List<Carrier>,
 ) -> Result<Optimum<RouteColumn>, SimplexFault<RouteColumn>>
-    requires narrow { (k : ℕ) → k < route_rows (graph_of task.now.graph) task.now.demands.now → IsNarrow (route_bound (graph_of task.now.graph) task.now.demands.now task.now.caps.now k) }
-    requires start { IsStart (length task.now.graph.net.now.links) (length task.now.demands.now) (route_bound (graph_of task.now.graph) task.now.demands.now task.now.caps.now) (route_slack (graph_of task.now.graph)) keyed }
+    requires narrow { (k : ℕ) → k < route_rows (graph_of task.now.graph) task.now.demands.now
+        → IsNarrow (route_bound (graph_of task.now.graph) task.now.demands.now task.now.caps.now k) }
+    requires start { IsStart (length task.now.graph.net.now.links) (length task.now.demands.now)
+        (route_bound (graph_of task.now.graph) task.now.demands.now task.now.caps.now)
+        (route_slack (graph_of task.now.graph)) keyed }
     requires room { IsRoom (length keyed.rows) room.old }
     requires waiting { All (IsCarrier (graph_of task.now.graph) task.now.demands.now) waiting.old }
-    ensures { IsSimplexAnswer (route_rows (graph_of task.now.graph) task.now.demands.now) (route_bound (graph_of task.now.graph) task.now.demands.now task.now.caps.now) (route_slack (graph_of task.now.graph)) (IsCarrying (graph_of task.now.graph) task.now.demands.now) result }
+    ensures { IsSimplexAnswer (route_rows (graph_of task.now.graph) task.now.demands.now)
+        (route_bound (graph_of task.now.graph) task.now.demands.now task.now.caps.now)
+        (route_slack (graph_of task.now.graph)) (IsCarrying (graph_of task.now.graph) task.now.demands.now) result }
 {
     loop {
         let Some(name) = price(alloc, task, &keyed, waiting)? else {
@@ -74,8 +79,11 @@ pub fn solve_task(
     task: &RouteTask,
     known: &[RouteColumn],
 ) -> Result<Optimum<RouteColumn>, SimplexFault<RouteColumn>>
-    requires { (k : ℕ) → k < route_rows (graph_of task.now.graph) task.now.demands.now → IsNarrow (route_bound (graph_of task.now.graph) task.now.demands.now task.now.caps.now k) }
-    ensures { IsSimplexAnswer (route_rows (graph_of task.now.graph) task.now.demands.now) (route_bound (graph_of task.now.graph) task.now.demands.now task.now.caps.now) (route_slack (graph_of task.now.graph)) (IsCarrying (graph_of task.now.graph) task.now.demands.now) result }
+    requires { (k : ℕ) → k < route_rows (graph_of task.now.graph) task.now.demands.now
+        → IsNarrow (route_bound (graph_of task.now.graph) task.now.demands.now task.now.caps.now k) }
+    ensures { IsSimplexAnswer (route_rows (graph_of task.now.graph) task.now.demands.now)
+        (route_bound (graph_of task.now.graph) task.now.demands.now task.now.caps.now)
+        (route_slack (graph_of task.now.graph)) (IsCarrying (graph_of task.now.graph) task.now.demands.now) result }
 {
     let mut waiting = known_carriers(alloc, task, known)?;
     let mut room = room_of(alloc, links_of(task))?;
@@ -84,6 +92,7 @@ pub fn solve_task(
 }
 
 /// `solve_task` for demands within capacities in a state, with no known paths.
+/// It takes the time and the memory of `solve_task`.
 pub fn solve_routes<'a>(
     alloc: Global,
     net: &'a Network,
@@ -95,8 +104,12 @@ pub fn solve_routes<'a>(
     requires state { state.0 < length states.now.listed + 1 }
     requires belong { AreDemands (length net.now.nodes) demands.now }
     requires count { length caps.now.nums ≡ length net.now.links }
-    requires narrow { (k : ℕ) → k < route_rows (graph net.now states.now state.0) demands.now → IsNarrow (route_bound (graph net.now states.now state.0) demands.now caps.now k) }
-    ensures { IsSimplexAnswer (route_rows (graph net.now states.now state.0) demands.now) (route_bound (graph net.now states.now state.0) demands.now caps.now) (route_slack (graph net.now states.now state.0)) (IsCarrying (graph net.now states.now state.0) demands.now) result }
+    requires narrow { (k : ℕ) → k < route_rows (graph net.now states.now state.0) demands.now
+        → IsNarrow (route_bound (graph net.now states.now state.0) demands.now caps.now k) }
+    ensures { IsSimplexAnswer (route_rows (graph net.now states.now state.0) demands.now)
+        (route_bound (graph net.now states.now state.0) demands.now caps.now)
+        (route_slack (graph net.now states.now state.0))
+        (IsCarrying (graph net.now states.now state.0) demands.now) result }
 {
     let task = RouteTask {
         graph: Surviving { net, states, state },

@@ -103,8 +103,11 @@ fn slack_amounts(
 
 /// The slack basis, in which the slack of each demand is its key.
 pub(crate) fn slack_keyed(alloc: Global, task: &RouteTask) -> Result<Keyed, NoMemory>
-    requires { (k : ℕ) → k < route_rows (graph_of task.now.graph) task.now.demands.now → IsNarrow (route_bound (graph_of task.now.graph) task.now.demands.now task.now.caps.now k) }
-    ensures { IfOk result (IsStart (length task.now.graph.net.now.links) (length task.now.demands.now) (route_bound (graph_of task.now.graph) task.now.demands.now task.now.caps.now) (route_slack (graph_of task.now.graph))) }
+    requires { (k : ℕ) → k < route_rows (graph_of task.now.graph) task.now.demands.now
+        → IsNarrow (route_bound (graph_of task.now.graph) task.now.demands.now task.now.caps.now k) }
+    ensures { IfOk result (IsStart (length task.now.graph.net.now.links) (length task.now.demands.now)
+        (route_bound (graph_of task.now.graph) task.now.demands.now task.now.caps.now)
+        (route_slack (graph_of task.now.graph))) }
 {
     let links = links_of(task);
     let bounds = bounds_of(alloc, task)?;

@@ -24,7 +24,7 @@ pub(crate) fn set_name(names: &mut List<RouteColumn>, place: usize, name: RouteC
     names.items_mut()[place] = name;
 }
 
-/// The demand of a column as the owner of a row; the count of demands stands for none.
+/// The demand of a column as the owner of a row; the number of demands means none.
 fn owner_of(name: &RouteColumn, demands: u32) -> u32
     ensures { result ≡ owner_in demands name.now }
 {
@@ -42,7 +42,7 @@ fn set_owner(owners: &mut List<u32>, i: usize, owner: u32)
     owners.items_mut()[i] = owner;
 }
 
-/// Makes rows and prices those of the next basis, in which the column stands in the place of that of row `i`.
+/// Makes rows and prices those of the next basis, in which the column has taken the place of that of row `i`.
 pub(crate) fn turn_rows(
     keyed: &mut Keyed,
     room: &mut Room,

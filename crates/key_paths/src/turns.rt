@@ -34,7 +34,7 @@ fn wide_turn(keyed: &Keyed, wide: WideTurn) -> WideKind<RouteColumn>
     }
 }
 
-/// The column, whose products are at hand, takes the place of that of row `i`.
+/// The column, whose products are known, takes the place of that of row `i`.
 fn replace(keyed: &mut Keyed, room: &mut Room, name: RouteColumn, cost: &i128, i: usize) -> Turn
     requires enters { HasPriced (length keyed.old.rows) (length keyed.old.duals) keyed.old name cost.now i }
     requires room { IsRoom (length keyed.old.rows) room.old }
@@ -81,7 +81,7 @@ fn product_place(places: &[u32], links: usize, k: u32) -> u32
     }
 }
 
-/// A column of this cost, whose products are at hand, enters at row `i`, unless a product stays wide when it is divided.
+/// A column of this cost, whose products are known, enters at row `i`, unless a product stays wide when it is divided.
 pub(crate) fn turn_row(
     keyed: &mut Keyed,
     room: &mut Room,

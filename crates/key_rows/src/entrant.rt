@@ -1,7 +1,7 @@
 use crate::keyed::Keyed;
 use net_core::{LinkId, RouteColumn};
 
-/// A column that enters a basis, whose products with the rows are at hand.
+/// A column that enters a basis, whose products with the rows are known.
 #[derive(Clone, Copy)]
 pub(crate) struct Entrant<'a> {
     pub(crate) keyed: &'a Keyed,

@@ -64,7 +64,7 @@ fn write_raw(raw: &mut [i128], rows: &[Row], owners: &[u32], weights: &[i64], de
     true
 }
 
-/// The same in a list.
+/// Writes the numbers of a key's row to a list before it is in lowest terms, unless one is 2^124 or more.
 fn write_raw_list(
     raw: &mut List<i128>,
     rows: &[Row],
@@ -125,6 +125,7 @@ pub enum WideKey {
 }
 
 /// Writes the row of a demand's key to the room for a row.
+/// It takes time in the rows that have a product with the key times their numbers, and asks for no memory.
 pub fn spread_key(keyed: &Keyed, room: &mut Room, demand: u32) -> Result<(), WideKey>
     requires shaped { IsShapedBasis (length keyed.now.rows) (length keyed.now.duals) keyed.now }
     requires room { IsRoom (length keyed.now.rows) room.old }

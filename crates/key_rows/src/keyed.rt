@@ -11,7 +11,7 @@ pub struct Keyed {
     pub names: List<RouteColumn>,
     /// The places by role.
     pub places: List<u32>,
-    /// The demand of each row's column. The count of demands stands for none.
+    /// The demand of each row's column. The number of demands means none.
     pub owners: List<u32>,
     /// The rows of the inverse: the link entries.
     pub rows: List<Row>,

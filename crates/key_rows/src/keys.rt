@@ -54,6 +54,7 @@ fn write_products(products: &mut [i128], rows: &[Row], name: &RouteColumn, key: 
 }
 
 /// Writes the product of each row with what is left of a column when the key of its demand, along this path, is taken away.
+/// It takes time in the rows times the links of the two paths, and asks for no memory.
 pub fn write_product_list(
     products: &mut List<i128>,
     rows: &[Row],
@@ -131,6 +132,7 @@ fn renew_duals(
 }
 
 /// Writes the prices of the demands anew, up to the first that is too wide. Says whether all are written.
+/// It takes time in the links of all keys, and asks for no memory.
 pub fn renew_dual_list(
     duals: &mut List<i64>,
     names: &[RouteColumn],

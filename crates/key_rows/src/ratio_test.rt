@@ -195,7 +195,7 @@ fn weighed_candidate(
     Ok(positive_candidate(role, value, step))
 }
 
-/// The same with weights that are worked out first.
+/// The key of a demand, in this role, as a candidate, with weights that are worked out first.
 fn key_candidate(
     keyed: &Keyed,
     room: &mut Room,
@@ -449,8 +449,9 @@ fn with_keys(
     Ok(best)
 }
 
-/// The role whose column leaves when one enters whose products are at hand: of those of positive product the first by
+/// The role whose column leaves when one with known products enters: of those of positive product the first by
 /// its ratio.
+/// It takes time in the number of roles; only where ratios are equal are rows compared, number by number. It asks for no memory.
 pub fn leaving(keyed: &Keyed, room: &mut Room, name: &RouteColumn) -> Result<Option<u32>, WideTest>
     requires shaped { IsShapedBasis (length keyed.now.rows) (length keyed.now.duals) keyed.now }
     requires room { IsRoom (length keyed.now.rows) room.old }

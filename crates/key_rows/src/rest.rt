@@ -30,6 +30,7 @@ fn shift(rest: &mut [i128], path: &[LinkId], by: &i64)
 }
 
 /// Adds a number at each link of a path, in what is left of the links.
+/// It takes time in the links of the path.
 pub fn shift_list(rest: &mut List<i128>, path: &[LinkId], by: &i64)
     requires path { IsShortPath (length rest.old) path.now }
     requires by { IsNarrow by.now }

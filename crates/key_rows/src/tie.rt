@@ -92,7 +92,7 @@ fn wide_key(wide: &WideKey, role: u32) -> WideTest
     }
 }
 
-/// The same for a key that may leave: its product is positive.
+/// What is too wide of the row of the key in this role, which may leave: its product is positive.
 fn positive_step(
     entrant: &Entrant,
     room: &mut Room,

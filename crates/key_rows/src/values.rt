@@ -23,6 +23,7 @@ fn add_term(sum: &mut Sum, num: &i64, rest: &i128)
 }
 
 /// The value of a row, where that is known to be 0 or more and below 2^124: its product with what the keys leave of the links.
+/// It takes time in the number of links.
 pub fn worth(nums: &[i64], rest: &[i128]) -> u128
     requires equal { length nums.now ≡ length rest.now }
     requires short { length nums.now < 2 ^ 32 }
@@ -73,6 +74,7 @@ fn renew_values(values: &mut [u128], rows: &[Row], products: &[i128], rest: &[i1
 }
 
 /// Writes the values of the rows that a turn has changed, which are those that have a product with the column that entered.
+/// It takes time in the changed rows times the links, and asks for no memory.
 pub fn renew_value_list(values: &mut List<u128>, rows: &[Row], products: &[i128], rest: &[i128])
     requires count { length values.old ≡ length rows.now }
     requires products { length products.now ≡ length rows.now }
@@ -124,6 +126,7 @@ fn lower_values(values: &mut [u128], products: &[i128], bound: &i64)
 }
 
 /// Takes what a key's column brings away from each value.
+/// It takes time in the number of rows.
 pub fn lower_value_list(values: &mut List<u128>, products: &[i128], bound: &i64)
     requires products { length products.now ≡ length values.old }
     requires values { (i : ℕ) → i < length values.old → unsigned_abs (amounts values.old i) < 2 ^ 124 }

@@ -82,7 +82,8 @@ fn lines_of(
 ) -> Result<Option<Lines>, NoMemory>
     requires units { AreUnitPairs task.now.net.now.links task.now.pairs.now }
     requires different { AllPairs (λ a b. IsSameCut a b → ⊥) task.now.cuts.now }
-    requires packing { IsPacking (length task.now.net.now.links) (master_bound task.now.pairs.now) (IsMasterColumn task.now.net.now.links task.now.pairs.now task.now.cuts.now) }
+    requires packing { IsPacking (length task.now.net.now.links) (master_bound task.now.pairs.now)
+        (IsMasterColumn task.now.net.now.links task.now.pairs.now task.now.cuts.now) }
     requires solution { IsMasterSolution task.now.net.now.links task.now.pairs.now task.now.cuts.now optimum.now }
     requires share { IsShareOfDuals optimum.now.duals share.now }
     requires raw { IsLowest (share_cost task.now.pairs.now share.now) share.now.scale raw.now.num raw.now.den }
@@ -126,7 +127,8 @@ fn certified(
 ) -> Result<Best, MasterFault>
     requires units { AreUnitPairs task.now.net.now.links task.now.pairs.now }
     requires different { AllPairs (λ a b. IsSameCut a b → ⊥) task.now.cuts.now }
-    requires packing { IsPacking (length task.now.net.now.links) (master_bound task.now.pairs.now) (IsMasterColumn task.now.net.now.links task.now.pairs.now task.now.cuts.now) }
+    requires packing { IsPacking (length task.now.net.now.links) (master_bound task.now.pairs.now)
+        (IsMasterColumn task.now.net.now.links task.now.pairs.now task.now.cuts.now) }
     requires solution { IsMasterSolution task.now.net.now.links task.now.pairs.now task.now.cuts.now optimum }
     requires share { IsShareOfDuals optimum.duals share }
     requires raw { IsLowest (share_cost task.now.pairs.now share) share.scale raw.num raw.den }
@@ -150,7 +152,8 @@ fn certified(
 fn best_of(alloc: Global, task: &Task, optimum: Optimum<MasterColumn>) -> Result<Best, MasterFault>
     requires units { AreUnitPairs task.now.net.now.links task.now.pairs.now }
     requires different { AllPairs (λ a b. IsSameCut a b → ⊥) task.now.cuts.now }
-    requires packing { IsPacking (length task.now.net.now.links) (master_bound task.now.pairs.now) (IsMasterColumn task.now.net.now.links task.now.pairs.now task.now.cuts.now) }
+    requires packing { IsPacking (length task.now.net.now.links) (master_bound task.now.pairs.now)
+        (IsMasterColumn task.now.net.now.links task.now.pairs.now task.now.cuts.now) }
     requires solution { IsMasterSolution task.now.net.now.links task.now.pairs.now task.now.cuts.now optimum }
     ensures { IsMasterAnswer task.now.net.now.links task.now.cuts.now result }
 {
@@ -176,7 +179,8 @@ fn optimum_of(
 ) -> Result<Optimum<MasterColumn>, MasterFault>
     requires gains { map (λ r. r.gain) ratings ≡ map (cut_gain task.now.net.now.links) task.now.cuts.now }
     requires units { AreUnitPairs task.now.net.now.links task.now.pairs.now }
-    requires packing { IsPacking (length task.now.net.now.links) (master_bound task.now.pairs.now) (IsMasterColumn task.now.net.now.links task.now.pairs.now task.now.cuts.now) }
+    requires packing { IsPacking (length task.now.net.now.links) (master_bound task.now.pairs.now)
+        (IsMasterColumn task.now.net.now.links task.now.pairs.now task.now.cuts.now) }
     ensures solution { IfOk result (IsMasterSolution task.now.net.now.links task.now.pairs.now task.now.cuts.now) }
     ensures fault { IfErr result (λ fault. IsMasterAnswer task.now.net.now.links task.now.cuts.now (Err fault)) }
 {

@@ -45,7 +45,8 @@ fn entries_of(alloc: Global, pairs: &[UnitPair], lengths: &[u32]) -> Result<List
 /// The column of the cut at place `k`.
 fn column_at(program: &MasterProgram, k: usize) -> Result<Column<MasterColumn>, NoMemory>
     requires { k < length program.now.task.cuts.now }
-    ensures { IfOk result (λ c. (cut : CutLine) → slice_get program.now.task.cuts.now k ≡ Some cut → IsColumnOfCut program.now.task.net.now.links program.now.task.pairs.now cut c) }
+    ensures { IfOk result (λ c. (cut : CutLine) → slice_get program.now.task.cuts.now k ≡ Some cut
+        → IsColumnOfCut program.now.task.net.now.links program.now.task.pairs.now cut c) }
 {
     let cut = &program.task.cuts.items()[k];
     let entries = entries_of(

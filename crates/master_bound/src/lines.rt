@@ -58,7 +58,8 @@ pub(crate) fn has_wide(amounts: &[u128], common: u128) -> bool
 
 /// The place of the first cut with this state and these lengths.
 fn place_of(cuts: &[CutLine], state: StateId, lengths: &Lengths) -> Option<usize>
-    ensures { MatchOption result ((cut : CutLine) → Contains cuts.now cut → Metric state lengths.now ≡ Metric cut.state cut.lengths → ⊥) (IsPlaceOf cuts.now (Metric state lengths.now)) }
+    ensures { MatchOption result ((cut : CutLine) → Contains cuts.now cut
+        → Metric state lengths.now ≡ Metric cut.state cut.lengths → ⊥) (IsPlaceOf cuts.now (Metric state lengths.now)) }
 {
     cuts.iter()
         .position(|cut| cut.state == state && cut.lengths == *lengths)
@@ -108,7 +109,8 @@ pub(crate) fn multipliers_of(
     requires count { length amounts.now ≡ length basis.now }
     requires common { 0 < common }
     requires narrow { All (λ a. a / common < 2 ^ 62) amounts.now }
-    requires listed { (j : ℕ) (name : MasterColumn) → slice_get basis.now j ≡ Some name → 0 < get_or amounts.now j 0 → (cut : CutLine) × IsListedCut cuts.now name cut }
+    requires listed { (j : ℕ) (name : MasterColumn) → slice_get basis.now j ≡ Some name → 0 < get_or amounts.now j 0 → (cut : CutLine)
+        × IsListedCut cuts.now name cut }
     ensures { IfOk result (AreBasisMultipliers cuts.now basis.now amounts.now common (length basis.now)) }
 {
     let mut multipliers = List::new(alloc);

@@ -97,7 +97,7 @@ fn greater(best: Candidate, next: Candidate) -> Candidate
     }
 }
 
-/// The same where there may be none.
+/// The candidate of greater surplus per weight where there may be none; the first at a tie.
 fn better(best: Option<Candidate>, next: Option<Candidate>) -> Option<Candidate>
     ensures is { (result ≡ best) ⊎ (result ≡ next) }
     ensures none { result ≡ None → (best ≡ None) × (next ≡ None) }
@@ -113,7 +113,8 @@ fn better(best: Option<Candidate>, next: Option<Candidate>) -> Option<Candidate>
 pub(crate) fn best_candidate(program: &MasterProgram, duals: &Row) -> Option<Candidate>
     requires duals { length duals.now.nums ≡ length program.now.task.net.now.links }
     requires positive { (e : ℕ) → e < length program.now.task.net.now.links → pos 0 ≤ℤ num duals.now.nums e }
-    ensures { IsCandidate program.now.task.net.now.links program.now.task.pairs.now program.now.task.cuts.now duals.now (length program.now.task.cuts.now) result }
+    ensures { IsCandidate program.now.task.net.now.links program.now.task.pairs.now program.now.task.cuts.now duals.now
+        (length program.now.task.cuts.now) result }
 {
     let mut best = None;
     for k in 0..program.task.cuts.len() {

@@ -40,8 +40,10 @@ pub fn own_certificate(net: &Network, line: &CutLine) -> OwnCertificate
     requires lengths { HaveBound net.now.links line.now.lengths }
     requires right { line.now.right < 2 ^ 84 }
     ensures multiplier { IsMultiplier net.now.links line.now.lengths result.multiplier.num result.multiplier.den }
-    ensures raw { IsLowest (result.multiplier.num * (line.now.right - fixed_along line.now.lengths net.now.links)) result.multiplier.den result.raw.num result.raw.den }
-    ensures bound { IsBound net.now.links (result.multiplier.num * (line.now.right - fixed_along line.now.lengths net.now.links)) result.multiplier.den result.bound }
+    ensures raw { IsLowest (result.multiplier.num * (line.now.right - fixed_along line.now.lengths net.now.links))
+        result.multiplier.den result.raw.num result.raw.den }
+    ensures bound { IsBound net.now.links (result.multiplier.num * (line.now.right - fixed_along line.now.lengths net.now.links))
+        result.multiplier.den result.bound }
     ensures num { result.multiplier.num < 2 ^ 40 }
     ensures den { result.multiplier.den < 2 ^ 72 }
 {

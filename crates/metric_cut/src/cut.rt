@@ -71,6 +71,7 @@ impl Cut {
     ///
     /// In a state that fails the third link alone, the lengths 2, 4, 6 become 1, 2, 0. A state that fails the first two as well
     /// keeps nothing of them, so they make no cut there.
+    /// It takes memory for the distances of all pairs of nodes, 8 bytes each; the lengths are taken over.
     pub fn new(
         alloc: Global,
         net: &Network,
@@ -99,6 +100,7 @@ impl Cut {
     }
 
     /// `Cut::new` in a surviving graph; `None` exactly where no surviving link has a positive length.
+    /// It takes the time and the memory of `Cut::new`.
     pub fn in_graph(
         alloc: Global,
         graph: &Surviving,
@@ -135,6 +137,7 @@ impl Cut {
     }
 
     /// The least length over all paths of surviving links, and `None` exactly where no path leads.
+    /// It takes constant time.
     pub fn distance(&self, a: NodeId, b: NodeId) -> Option<u64>
         requires first { a.0 < self.now.table.nodes }
         requires second { b.0 < self.now.table.nodes }

@@ -38,7 +38,7 @@ fn divide(lengths: &mut [u32], common: u128)
     }
 }
 
-/// The same as `keep`, on a slice.
+/// `keep` on a slice.
 fn keep_items(graph: &Surviving, lengths: &mut [u32]) -> bool
     requires { length lengths.old ≡ length graph.now.net.now.links }
     ensures zero { IsFalse result ↔ AreZero (graph_of graph.now) lengths.old }

@@ -66,6 +66,7 @@ fn each_once(alloc: Global, unit: Option<Cut>, price: Option<Cut>) -> Result<Lis
 ///
 /// A triangle whose links cost the same has the one opening cut 1, 1, 1 without failures, and 1, 1, 0 in a state that fails the
 /// third link. Where a unit of capacity costs half as much on the first link, the second cut is 1, 2, 2.
+/// It takes memory for two cuts.
 pub fn opening(
     alloc: Global,
     net: &Network,

@@ -36,7 +36,7 @@ fn place_of(found: &[Found], boundary: &Crossing) -> usize
 }
 
 impl Deepest {
-    /// None yet, of so many nodes, with capacities over a scale.
+    /// None yet, of this number of nodes, with capacities over a scale.
     pub(crate) fn new(alloc: Global, nodes: u32, scale: u64) -> Deepest
         requires { nodes ≤ 128 }
     {

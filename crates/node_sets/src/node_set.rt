@@ -42,7 +42,7 @@ impl NodeSet {
         }
     }
 
-    /// The set of the first nodes, so many of them.
+    /// The set of the first `nodes` nodes.
     pub(crate) fn of_first(nodes: u32) -> NodeSet
         requires { nodes ≤ 128 }
     {

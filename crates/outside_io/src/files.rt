@@ -38,6 +38,7 @@ fn read_once<R: Read>(file: &mut R, buffer: &mut [u8], left: u64, into: &mut Byt
 }
 
 /// Reads a file to its end, or until it has read one byte more than the limit.
+/// It reads at most 4,096 bytes at a time, and takes memory for what it has read.
 pub fn read_whole<R: Read>(file: &mut R, limit: u64, into: &mut Bytes) -> Fetch
     requires { into.old ≡ [] }
     ensures read { Reads (R.remaining file.old) limit result into.new }

@@ -88,6 +88,7 @@ fn find<'a>(files: &'a [MemFile], name: &[u8]) -> Option<&'a MemFile>
 
 impl MemShelf {
     /// A shelf of these files. The fetches whose numbers stand in `failing` will fail, counted from 0.
+    /// A fetch takes time in the number of files, and memory for a copy of the file that it finds.
     pub fn new(files: List<MemFile>, failing: List<u32>) -> MemShelf
         requires { HaveDifferentNames files }
         ensures { result ≡ record {

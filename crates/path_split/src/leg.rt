@@ -47,7 +47,7 @@ fn legs_of(alloc: Global, links: &[Link], arcs: &[Arc]) -> Result<Vec<Leg>, NoMe
     Ok(legs)
 }
 
-/// The same legs, sorted by the node that they leave.
+/// The legs, sorted by the node that they leave.
 fn sorted(mut legs: Vec<Leg>) -> List<Leg>
     ensures same { IsPermutation legs.items result }
     ensures sorted { IsNonDecreasingBy (λ g. g.from.0) result }

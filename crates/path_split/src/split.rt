@@ -161,7 +161,8 @@ pub fn split_flow(
     requires few { length arcs.now ≤ 65536 }
     ensures balanced { IfOk result (λ flows. AreNodesBalanced (length net.now.nodes) net.now.links arcs.now from.0 to.0 need) }
     ensures split { IfOk result (λ flows. IsFlowSplit net.now.links arcs.now from.0 to.0 need flows) }
-    ensures unbalanced { IfErr result (λ fault. (n : ℕ) → fault ≡ Unbalanced (record { 0 = n }) → IsFirstUnbalanced (length net.now.nodes) net.now.links arcs.now from.0 to.0 need n) }
+    ensures unbalanced { IfErr result (λ fault. (n : ℕ) → fault ≡ Unbalanced (record { 0 = n })
+        → IsFirstUnbalanced (length net.now.nodes) net.now.links arcs.now from.0 to.0 need n) }
 {
     let nodes = net.nodes().len();
     let legs = sorted_legs(alloc, net.links().items(), arcs.items())?;

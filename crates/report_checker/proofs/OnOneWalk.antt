@@ -14,7 +14,8 @@ use Rattle.plan_checker.proofs.Places.{holds_read}
 use Rattle.report_checker.specs.Outcomes.{IsAcceptedOutcome, case_at, outcome_findings}
 use Rattle.report_checker.specs.inner.Along.{AreChecked, AreSoundBefore, IsFirstAfterClean, IsSoundOutcome, outcome_place}
 use Rattle.report_checker.specs.inner.Outcomes.{IsFirstOfOutcomes, TellOutcomes}
-use Rattle.report_checker.specs.inner.Said.{IsSaid, findings_there, outcome_position}
+use Rattle.report_checker.specs.inner.Said.{IsSaid, findings_there}
+use Rattle.plan_types.specs.Terms.{outcome_position}
 use Rattle.report_checker.specs.inner.Walks.{HasPassed}
 use Rattle.report_checker.specs.declared.along.Checked.{Checked}
 use Rattle.report_checker.specs.declared.walk.Walk.{Walk}

@@ -9,7 +9,8 @@ use Rattle.plan_checker.specs.Terms.{HoldsNone, TellFirst}
 use Rattle.plan_checker.specs.declared.stop.Stop.{Stop}
 use Rattle.plan_checker.proofs.Firsts.{told_later}
 use Rattle.report_checker.specs.Outcomes.{HoldsVersionDiffers, IsAcceptedOutcome, case_at, outcome_findings}
-use Rattle.report_checker.specs.inner.Said.{IsSaid, findings_there, outcome_position, outcome_version, said_findings}
+use Rattle.report_checker.specs.inner.Said.{IsSaid, findings_there, outcome_version, said_findings}
+use Rattle.plan_types.specs.Terms.{outcome_position}
 use Rattle.report_checker.specs.inner.Walks.{HasPassed}
 use Rattle.report_checker.specs.declared.walk.Walk.{Walk}
 

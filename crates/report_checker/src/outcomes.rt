@@ -4,7 +4,8 @@ ghost use Rattle.plan_report.specs.Terms.{known_of, IsOutcomeInForm};
 ghost use Rattle.plan_checker.specs.Terms.{StopsFirst, TellFirst, Tells};
 ghost use Rattle.report_checker.specs.Outcomes.{HoldsSurvivable, HoldsVersionDiffers, SeparatesNamed, case_at, outcome_findings};
 ghost use Rattle.report_checker.specs.inner.Along.{IsSoundOutcome, outcome_place};
-ghost use Rattle.report_checker.specs.inner.Said.{IsSaidSeparation, IsSaid, findings_there, outcome_position, outcome_version, said_findings};
+ghost use Rattle.report_checker.specs.inner.Said.{IsSaidSeparation, IsSaid, findings_there, outcome_version, said_findings};
+ghost use Rattle.plan_types.specs.Terms.{outcome_position};
 ghost use Rattle.report_checker.specs.inner.Walks.{HasPassed};
 
 use crate::walk::Walk;

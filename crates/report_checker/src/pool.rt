@@ -38,7 +38,8 @@ fn is_same_cut(a: &CutLine, b: &CutLine) -> bool
 /// Whether one of the first lines is of the same cut as line `k`.
 fn stands_before(pool: &[CutLine], k: usize) -> bool
     requires { k < length pool.now }
-    ensures { (line : Line) → slice_get pool.now k ≡ Some line → IsTrue result ↔ ((j : ℕ) × (j < k) × HoldsAt pool.now j (λ l. cut_of_line l ≡ cut_of_line line)) }
+    ensures { (line : Line) → slice_get pool.now k ≡ Some line
+        → IsTrue result ↔ ((j : ℕ) × (j < k) × HoldsAt pool.now j (λ l. cut_of_line l ≡ cut_of_line line)) }
 {
     for j in 0..k {
         if is_same_cut(&pool[j], &pool[k]) {

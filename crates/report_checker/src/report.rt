@@ -31,7 +31,7 @@ fn check_whole(alloc: Global, instance: &Instance, report: &Report) -> Test
     check_rights(alloc, &end, report.pool.items())
 }
 
-/// What a reason to stop on the whole report comes to.
+/// The answer to a reason to stop, where it concerns the whole report.
 fn answer_of(stop: Stop) -> CheckAnswer
     ensures { result ≡ answer_to stop }
 {

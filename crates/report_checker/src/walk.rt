@@ -28,7 +28,9 @@ impl Walk {
         requires { edit_need edit.now < 2 ^ 40 }
         ensures reply { IfOk result (λ r. IsTrue r ↔ ((edit_reply self.old.book.nodes self.old.book.demands self.old.book.version edit.now).0 ≡ reply)) }
         ensures demands { OnOk result (self.new.book.demands ≡ (edit_reply self.old.book.nodes self.old.book.demands self.old.book.version edit.now).1) }
-        ensures version { OnOk result (self.new.book.version ≡ version_after self.old.book.version (edit_reply self.old.book.nodes self.old.book.demands self.old.book.version edit.now).0) }
+        ensures version { OnOk result (self.new.book.version
+            ≡ version_after self.old.book.version
+            (edit_reply self.old.book.nodes self.old.book.demands self.old.book.version edit.now).0) }
         ensures nodes { OnOk result (self.new.book.nodes ≡ self.old.book.nodes) }
         ensures cuts { self.new.cuts ≡ self.old.cuts }
     {

@@ -38,7 +38,7 @@ const MAX_ROWS: usize = u32::MAX as usize;
 
 const SCALE_LIMIT: u128 = 1 << 62;
 
-/// Takes a row of a basis of so many rows, or the row of its objective.
+/// Takes a row of a basis with this number of rows, or the row of its objective.
 fn row(rows: usize, text: &mut Cursor) -> Result<u32, ReportRefusal>
     requires { rows + 1 < 2 ^ 32 }
     ensures { ReadsAs (λ i. i) result (left text.new) (number_at 0 (rows + 1) (left text.old)) }

@@ -37,7 +37,7 @@ fn capped(before: u64, each: u64, count: u64) -> u64
     capacity
 }
 
-/// The capacity of a link with so many of its first modules; at most the limit.
+/// The capacity of a link with these counts of its first modules; at most the limit.
 fn capacity(link: &Link, counts: &[u64]) -> u64
     requires { length counts.now ≤ length link.now.modules }
     ensures { result ≡ min (link.now.fixed + modules_capacity link.now.modules counts.now) (2 ^ 46) }
@@ -49,7 +49,7 @@ fn capacity(link: &Link, counts: &[u64]) -> u64
     capacity
 }
 
-/// Whether a link with so many of its first modules and `count` of the next one stays below the
+/// Whether a link with these counts of its first modules and `count` of the next one stays below the
 /// limit of its capacity.
 fn fits(link: &Link, sofar: &[u64], count: u64) -> bool
     requires { length sofar.now < length link.now.modules }

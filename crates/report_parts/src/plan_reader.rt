@@ -3,7 +3,7 @@ use report_words::context::Context;
 use std::alloc::Global;
 
 /// Reads what a plan says of its routings and of its bound, by the names of the network, of its states
-/// and of the plan's demands. The readings stand beside the parts that they give.
+/// and of the plan's demands.
 #[derive(Clone, Copy)]
 pub struct PlanReader<'a> {
     pub alloc: Global,

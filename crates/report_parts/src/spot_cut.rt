@@ -1,7 +1,7 @@
 use net_core::{Lengths, StateId};
 use plan_types::Spot;
 
-/// The cut of a certificate's line: where it stands, its state and its lengths.
+/// The cut of a certificate's line: where it is, its state and its lengths.
 #[derive(Drop)]
 pub struct SpotCut {
     pub spot: Spot,

@@ -53,7 +53,7 @@ impl Element for LengthList {
     }
 }
 
-/// Takes lengths, one below 2^32 for each of so many links, between parentheses. A length that is out
+/// Takes lengths, one below 2^32 for each link, between parentheses. A length that is out
 /// of that range, or one too many or too few, is `limit`. It takes memory for 4 bytes a link.
 #[tactic(auto, unfolding(crate::specs::ReportChoices::numbers_at))]
 pub fn lengths(alloc: Global, count: usize, text: &mut Cursor) -> Result<Lengths, ReportRefusal>
@@ -90,7 +90,7 @@ impl Element for UnitList {
     }
 }
 
-/// Takes units of a share's scale, a number below 2^62 for each of so many links, between parentheses.
+/// Takes units of a share's scale, a number below 2^62 for each link, between parentheses.
 /// A number that is out of that range, or one too many or too few, is `limit`. It takes memory for 8
 /// bytes a link.
 #[tactic(auto, unfolding(crate::specs::ReportChoices::numbers_at))]
@@ -133,7 +133,7 @@ impl Element for CapacityList {
     }
 }
 
-/// Takes capacities in parts of their scale, a number below 2^126 for each of so many links, between
+/// Takes capacities in parts of their scale, a number below 2^126 for each link, between
 /// parentheses. A number that is out of that range, or one too many or too few, is `limit`. It takes
 /// memory for 16 bytes a link.
 #[tactic(auto, unfolding(crate::specs::ReportChoices::numbers_at))]

@@ -32,6 +32,7 @@ impl<'a> Places<'a> {
     }
 
     /// The place of a name, from 0, if it is one of these.
+    /// It takes constant time on average, beside the bytes of the name.
     pub fn find(&self, name: &[u8]) -> Option<usize>
         ensures place { result ≡ position (λ n. are_same n name.now) self.now }
         ensures within { IfSome result (λ i. i < length self.now) }

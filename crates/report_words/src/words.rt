@@ -40,6 +40,7 @@ pub fn whole_within(least: u128, limit: u128, word: &[u8]) -> Result<u128, Repor
 }
 
 /// Takes a whole number from `least`, below `limit`, with the faults of `whole_within`.
+/// It takes time in the bytes up to the word's end, and no memory; so do the other words of this module but `name`, which copies what it takes.
 pub fn number(least: u128, limit: u128, text: &mut Cursor) -> Result<u128, ReportRefusal>
     ensures reads { ReadsAs (λ n. n) result (left text.new) (number_at least limit (left text.old)) }
     ensures least { IfOk result (λ n. least ≤ n) }

@@ -6,7 +6,7 @@ use crate::forward_star::{Arc, ForwardStar};
 use net_core::{Lengths, List, NoMemory, NodeId};
 use std::alloc::Global;
 
-/// What stands at a node that isn't reached.
+/// The number of a node that isn't reached.
 pub const FAR: u128 = u128::MAX;
 
 /// The lengths in the width of a search.
@@ -66,7 +66,9 @@ fn relax(star: &ForwardStar, lengths: &[u128], at: NodeId, found: &mut [u128])
     requires near { slice_index found.old at.0 < 2 ^ 120 }
     ensures lower { (k : ℕ) → slice_index found.new k ≤ slice_index found.old k }
     ensures all { (e y : ℕ) → HasArc star.now.arcs e at.0 y → slice_index found.new y ≤ slice_index found.old at.0 + slice_index lengths.now e }
-    ensures sound { (k : ℕ) → (slice_index found.new k ≡ slice_index found.old k) ⊎ ((e : ℕ) × HasArc star.now.arcs e at.0 k × (slice_index found.new k ≡ slice_index found.old at.0 + slice_index lengths.now e)) }
+    ensures sound { (k : ℕ) → (slice_index found.new k ≡ slice_index found.old k)
+        ⊎ ((e : ℕ) × HasArc star.now.arcs e at.0 k
+        × (slice_index found.new k ≡ slice_index found.old at.0 + slice_index lengths.now e)) }
 {
     let far = found[at.0 as usize];
     for arc in star.leaving(at) {
@@ -105,7 +107,7 @@ pub struct Search {
     pub ghost sizes: { length settled.items ≡ length found.items },
 }
 
-/// Finds the distances from a node, whatever stands there.
+/// Finds the distances from a node, whatever the list holds before.
 fn fill(
     star: &ForwardStar,
     lengths: &[u128],

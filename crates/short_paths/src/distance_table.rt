@@ -5,7 +5,7 @@ ghost use Rattle.short_paths.specs.inner.Tables.{answer_of};
 
 use net_core::{Copied, List, NoMemory, NodeId};
 
-/// What stands at two nodes that no path joins.
+/// The number of two nodes that no path joins.
 pub const APART: u64 = u64::MAX;
 
 /// The distance of each two nodes, the same either way round, in the unit of the lengths. It takes 8 bytes for each pair of nodes:
@@ -27,7 +27,7 @@ pub(crate) fn pair_count(nodes: u32) -> usize
     (nodes * nodes.saturating_sub(1) / 2) as usize
 }
 
-/// Where the number of two nodes stands.
+/// The place of the number of two nodes.
 fn pair_place(low: u32, high: u32) -> usize
     requires order { low < high }
     requires few { high < 128 }

@@ -60,7 +60,7 @@ fn surviving_arcs(alloc: Global, graph: &Surviving) -> Result<Vec<Arc>, NoMemory
     Ok(arcs)
 }
 
-/// The same arcs, sorted by the node that they leave.
+/// The arcs, sorted by the node that they leave.
 fn sorted(mut arcs: Vec<Arc>) -> List<Arc>
     ensures same { IsPermutation arcs.items result }
     ensures sorted { IsNonDecreasingBy (λ a. a.from.0) result }

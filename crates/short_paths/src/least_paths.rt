@@ -68,7 +68,7 @@ impl<'n> LeastPaths<'n> {
         LeastPaths::under(alloc, graph, wide)
     }
 
-    /// The same under lengths in the width of a search.
+    /// Runs the searches under lengths in the width of a search.
     pub(crate) fn under(
         alloc: Global,
         graph: &Surviving<'n>,

@@ -59,6 +59,7 @@ fn pairs_of(
 }
 
 /// `all_pairs` in a surviving graph.
+/// It takes the time and the memory of `all_pairs`.
 pub fn all_pairs_in(
     alloc: Global,
     graph: &Surviving,

@@ -49,6 +49,7 @@ pub fn total_of(prices: &[u64], path: &[LinkId]) -> u128
 }
 
 /// `priced_path` in a surviving graph.
+/// It takes the time and the memory of `priced_path`.
 pub fn priced_path_in(
     alloc: Global,
     graph: &Surviving,

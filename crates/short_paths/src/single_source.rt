@@ -34,6 +34,7 @@ fn answers(alloc: Global, found: &[u128]) -> Result<List<Option<u64>>, NoMemory>
 }
 
 /// `distances` in a surviving graph.
+/// It takes the time and the memory of `distances`.
 pub fn distances_in(
     alloc: Global,
     graph: &Surviving,

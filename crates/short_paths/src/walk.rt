@@ -78,7 +78,7 @@ fn leads_unseen(
 }
 
 /// Whether links are a path between two nodes: each survives, and no node comes twice. `seen` is room for a mark of each node,
-/// whatever stands there. It takes no memory, and time that grows with the nodes and with the path.
+/// whatever the list holds before. It takes no memory, and time that grows with the nodes and with the path.
 pub fn is_path(
     graph: &Surviving,
     path: &[LinkId],

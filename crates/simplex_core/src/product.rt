@@ -48,7 +48,7 @@ fn reduced_cost_sum(duals: &Row, gain: &i64, entries: &[Entry]) -> Sum
     sum
 }
 
-/// The same, where 128 bits hold it.
+/// The product of the objective row with a column, less the column's gain over the row's denominator, where 128 bits hold it.
 pub(crate) fn reduced_cost_of(duals: &Row, gain: &i64, entries: &[Entry]) -> Option<i128>
     requires gain { IsNarrow gain.now }
     requires entries { AllByRecursion (IsEntry (length duals.now.nums)) entries.now }
@@ -75,7 +75,7 @@ fn write_products(products: &mut [i128], rows: &[Row], entries: &[Entry]) -> Opt
     None
 }
 
-/// The same of lists.
+/// Writes the product of each row with entries to a list, up to the first that 128 bits don't hold.
 pub(crate) fn write_list(
     products: &mut List<i128>,
     rows: &List<Row>,

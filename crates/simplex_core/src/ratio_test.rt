@@ -58,7 +58,7 @@ fn compare_sizes(a: u64, p: &i128, b: u64, q: &i128) -> Ordering
     cmp(a as u128, p.unsigned_abs(), b as u128, q.unsigned_abs())
 }
 
-/// The same of numbers of either sign.
+/// How `a / p` compares with `b / q`, for numbers of either sign.
 fn compare_fractions(a: &i64, p: &i128, b: &i64, q: &i128) -> Ordering
     requires p { pos 0 <ℤ p.now }
     requires q { pos 0 <ℤ q.now }
@@ -76,7 +76,7 @@ fn compare_fractions(a: &i64, p: &i128, b: &i64, q: &i128) -> Ordering
     compare_sizes(a.unsigned_abs(), p, b.unsigned_abs(), q)
 }
 
-/// The same, by products where they fit into 128 bits.
+/// How `a / p` compares with `b / q`, by products where they fit into 128 bits.
 fn compare_ratios(a: &i64, p: &i128, b: &i64, q: &i128) -> Ordering
     requires a { IsNarrow a.now }
     requires b { IsNarrow b.now }
@@ -255,7 +255,7 @@ fn leaving_row(rows: &[Row], bounds: &[i64], products: &[i128]) -> Result<Option
     Ok(row_of(&best))
 }
 
-/// The same of lists.
+/// The row that leaves, of lists.
 pub(crate) fn leaving_of(
     rows: &List<Row>,
     bounds: &List<i64>,

@@ -94,7 +94,7 @@ fn is_low(duals: &Row, bounds: &List<i64>) -> bool
     row_value(duals.nums(), bounds.items()).is_some()
 }
 
-/// Makes the rows those of the basis in which the column, whose products are at hand, stands at `r`. A kind says what is too wide.
+/// Makes the rows those of the basis in which the column, whose products are known, is at `r`. A kind says what is too wide.
 fn replace<N: Drop>(basis: &mut Basis<N>, name: N, cost: &i128, r: usize) -> Turn<N>
     requires shaped { IsShaped (length basis.old.rows) basis.old }
     requires pivot { HavePivot basis.old.products (length basis.old.rows) r }
@@ -116,7 +116,7 @@ fn replace<N: Drop>(basis: &mut Basis<N>, name: N, cost: &i128, r: usize) -> Tur
     }
 }
 
-/// The column, whose products are at hand, enters at row `r`, unless a product stays wide when it is divided.
+/// The column, whose products are known, enters at row `r`, unless a product stays wide when it is divided.
 fn pivot_at<N: Drop>(basis: &mut Basis<N>, name: N, cost: &i128, r: usize) -> Turn<N>
     requires shaped { IsShaped (length basis.old.rows) basis.old }
     requires inside { r < length basis.old.rows }
@@ -222,7 +222,7 @@ fn finish<N: Drop>(alloc: Global, basis: Basis<N>) -> Result<Optimum<N>, Simplex
     Err(SimplexFault::Wide { basis: names, kind })
 }
 
-/// What a basis with a number that is too wide comes to.
+/// The answer where a number of a basis is too wide.
 fn stopped<N: Drop>(basis: Basis<N>, kind: WideKind<N>) -> SimplexFault<N>
     ensures { result ≡ SimplexFault.Wide basis.names kind }
 {

@@ -38,6 +38,7 @@ pub fn word<'a, K: Debug + Drop>(
 }
 
 /// Takes one expected word.
+/// It takes time in the bytes up to the word's end, and no memory; so do the other steps of this module.
 pub fn expect<K: Copy + Debug + Drop>(
     other: K,
     ended: K,

@@ -2,7 +2,7 @@ ghost use Rattle.std.specs.Prelude.{◌≡◌, ◌<◌, ◌^◌, List, length};
 
 /// A value that stands for a list of items, its history, and that was made with some data, its origin.
 pub trait Chronicle {
-    /// What stands in the history.
+    /// The items of the history.
     type Item;
     /// The data that the value was made with, as contracts see it.
     type Origin;

@@ -109,6 +109,7 @@ impl<T: Chronicle> Desk<T> {
     }
 
     /// Two passes for one. Half of the units, rounded down, go to the second, which has no items of its own.
+    /// It takes constant time and no memory.
     pub fn split(&self, pass: Pass<T>) -> (Pass<T>, Pass<T>)
         requires own { IsPassOf self.now pass }
         requires units { 2 ≤ own_units pass }
@@ -125,6 +126,7 @@ impl<T: Chronicle> Desk<T> {
 
     /// One pass for two. It has seen the longer of their lists, of which the other is a prefix, and has the items and
     /// units of both.
+    /// It takes constant time and no memory.
     pub fn meet(&self, into: Pass<T>, other: Pass<T>) -> Pass<T>
         requires own { IsPassOf self.now into }
         requires same { IsPassOf self.now other }
@@ -142,7 +144,8 @@ impl<T: Chronicle> Desk<T> {
         Pass { seat }
     }
 
-    /// The value, back from the desk. Nothing stands in its history but the pass's own items.
+    /// The value, back from the desk. Its history has the pass's own items and no others.
+    /// It takes constant time and no memory.
     pub fn close(self, pass: Pass<T>) -> T
         requires own { IsPassOf self pass }
         requires all { own_units pass ≡ 2 ^ 32 }

@@ -6,7 +6,7 @@ use Rattle.plan_types.specs.declared.report.Report.{Report}
 use Rattle.plan_checker.specs.Terms.{HoldNone, IsFirstFinding, HoldsAt}
 use Rattle.plan_checker.specs.declared.finding.Finding.{Finding}
 use Rattle.report_checker.specs.Outcomes.{IsAcceptedOutcome, outcome_findings}
-use Rattle.report_checker.specs.inner.Said.{outcome_position}
+use Rattle.plan_types.specs.Terms.{outcome_position}
 use Rattle.report_checker.specs.declared.along.Checked.{Checked}
 
 -- the number of entries before an outcome, which are all where its position is past the journal

@@ -1,6 +1,7 @@
 -- what an outcome says of the demands at its position
 use Rattle.std.specs.Prelude.{◌≡◌, ℕ, Bool, List, [], ◌∷◌, length, nat_le}
 use Rattle.plan_terms.specs.Terms.{Case, Separates}
+use Rattle.plan_types.specs.Terms.{outcome_position}
 use Rattle.plan_types.specs.declared.report.Outcome.{Outcome}
 use Rattle.plan_types.specs.declared.report.Outcome.TheVariants.{Planned, Unsurvivable}
 use Rattle.plan_types.specs.declared.report.Report.{Report}
@@ -11,14 +12,10 @@ use Rattle.report_checker.specs.Outcomes.{HoldsSurvivable, HoldsVersionDiffers, 
 abbrev pub IsSaidSeparation : Case → ℕ → List ℕ → ℕ → Type 0
 IsSaidSeparation p state name k = (s : Separates p state k) × (s.demand.name ≡ name)
 
--- the version of an outcome, and its position
+-- the version of an outcome
 abbrev pub outcome_version : Outcome → ℕ
 outcome_version (Planned caller serial plan) = plan.version
 outcome_version (Unsurvivable caller serial version position state demand) = version
-
-abbrev pub outcome_position : Outcome → ℕ
-outcome_position (Planned caller serial plan) = plan.position
-outcome_position (Unsurvivable caller serial version position state demand) = position
 
 -- the findings on it, beside that on its version
 abbrev pub said_findings : Case → Bool → Outcome → List Kind
