@@ -5,6 +5,7 @@ use denote.Struct.Declared.{shape}
 use denote.Struct.Tuple.{Tuple}
 use denote.Param.Send.{IsSend, recorded_send, sendable, shr_send, struct_send}
 use Rattle.std.proofs.Common.{[], ◌∷◌}
+use Rattle.std.specs.contracts.option.Option.{the_field as option_of}
 use Rattle.net_core.proofs.Library.{crosses}
 use Rattle.net_core.specs.contracts.demand.Demand as demand
 use Rattle.net_core.specs.contracts.journal.Entry as entry
@@ -34,9 +35,12 @@ told_send = search (sendable, crosses) depth 20
 pub board_send : (κ : NamedLft) → IsSend (board.the_row κ)
 board_send κ = search (sendable, crosses, lists.the_send, networks.the_sync, all_states.the_sync, told_send, pools.the_send) depth 30 fits 20000
 
+option_send : (R : RattleType) → IsSend R → IsSend (option_of R).row
+option_send R s = search sendable depth 12
+
 -- a caller may go to another thread
 pub caller_send : (κ ν : NamedLft) → IsSend (caller.the_row κ ν)
 caller_send κ ν =
     let to_desk = desks.the_sync (board.the_row ν) entry.the_row origin ghosts (board_send ν) in
-    let pass = passes.the_field_send (board.the_row ν) entry.the_row origin ghosts (board_send ν) in
-    recorded_send _ _ _ (caller.the_type κ ν).to_one (struct_send (shape (caller.the_type κ ν)) (search sendable, (shr_send _ _ _ to_desk, (pass, tt))))
+    let pass = passes.the_send (board.the_row ν) entry.the_row origin ghosts (board_send ν) in
+    recorded_send _ _ _ (caller.the_type κ ν).to_one (struct_send (shape (caller.the_type κ ν)) (search sendable, (shr_send _ _ _ to_desk, (option_send _ pass, tt))))

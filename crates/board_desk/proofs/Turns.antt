@@ -1,8 +1,8 @@
 -- How a caller's turn comes to be what is said of it.
-use Rattle.std.proofs.Common.{◌≡◌, ◌∙◌, ℕ, ◌-◌, ◌++◌, ◌∷◌, [], true, false, List, length, subst, sym, ap, arith}
+use Rattle.std.proofs.Common.{◌≡◌, ◌∙◌, ℕ, ◌-◌, ◌++◌, ◌∷◌, [], true, false, List, Some, length, subst, sym, ap, arith}
 use Rattle.net_core.proofs.Library.{range_with_len}
 use Rattle.std.proofs.lemmas.List.{append-nil, length-append}
-use Rattle.plan_terms.specs.Terms.{Demand, Edit, Entry, Edited, Pooled, Network, States}
+use Rattle.plan_terms.specs.Terms.{Edit, Entry, Edited, Pooled}
 use Rattle.metric_cut.specs.declared.cut.Cut.{Cut}
 use Rattle.cut_pool.specs.declared.answers.AdmitAnswer.{AdmitAnswer}
 use Rattle.cut_pool.specs.declared.answers.AdmitAnswer.TheVariants as admitting
@@ -10,16 +10,12 @@ use Rattle.cut_pool.specs.declared.answers.EditAnswer.{EditAnswer}
 use Rattle.cut_pool.specs.declared.answers.EditAnswer.TheVariants as editing
 use Rattle.cut_pool.specs.declared.board.Board.{Board}
 use Rattle.cut_pool.specs.Terms.{AnswersAdmit, AnswersEdit, origin_of}
-use Rattle.turn_lock.specs.declared.desk.Turn.{Turn}
 use Rattle.turn_lock.specs.Histories.{IsPrefix}
-use Rattle.turn_lock.specs.Passes.{own_places, seen_by, turn_history, turn_places}
+use Rattle.turn_lock.specs.Passes.{AreOfOneDesk, IsPassOf, own_places, own_units, seen_by, turn_history, turn_places, turn_units}
 use Rattle.board_desk.specs.declared.caller.Caller.{Caller}
-use Rattle.board_desk.specs.Turns.{HasTurn, board_made}
+use Rattle.board_desk.specs.Turns.{HasTurn, IsPassThere, IsSameCaller, board_made, places_in, seen_in, units_in}
 use Rattle.board_desk.specs.inner.Endings.{IsGrown, cut_enters, edit_enters}
-
--- a turn at a desk with a board
-abbrev BoardTurn : Type 0
-BoardTurn = Turn Board Entry (Network × States × List Demand)
+use Rattle.board_desk.proofs.Passes.{BoardPass, BoardTurn, some_pass}
 
 -- the place of one entry more
 place_of_one : (own : List ℕ) (before after : List Entry) (entry : Entry) → after ≡ before ++ entry ∷ []
@@ -66,34 +62,49 @@ cut_keeps found left cut (admitting.PoolFull back) answers = answers.3.origin
 cut_keeps found left cut (admitting.Full back) answers = answers.4.origin
 cut_keeps found left cut (admitting.NoMemory back) answers = answers.4.origin
 
--- the caller left with what its board has grown by
-pub left_grown : (old new : Caller) (turn : BoardTurn) (found after : Board) → origin_of found ≡ origin_of (board_made old)
-    → found.entries ≡ turn_history turn
-    → IsPrefix (seen_by old.pass) (turn_history turn)
-    → turn_places turn ≡ own_places old.pass
-    → seen_by new.pass ≡ after.entries
-    → own_places new.pass ≡ turn_places turn ++ range_with_len (length (turn_history turn)) (length after.entries - length (turn_history turn))
-    → HasTurn old found after new
-left_grown old new turn found after origin stands begins had seen places = record {
-  begins = subst (λ h. IsPrefix (seen_by old.pass) h) (sym stands) begins;
-  origin = origin;
-  seen = seen;
-  places = places ∙ ap (λ ps. ps ++ range_with_len (length (turn_history turn)) (length after.entries - length (turn_history turn))) had
-      ∙ ap (λ h. own_places old.pass ++ range_with_len (length h) (length after.entries - length h)) (sym stands);
-}
+-- a caller has taken a turn with its pass, and has another pass after it
+module _ (old new : Caller) (pass left : BoardPass) (turn : BoardTurn) (had : old.pass ≡ Some pass) (has : new.pass ≡ Some left) where
+  -- it is the same caller
+  pub left_same : new.desk.now ≡ old.desk.now → new.number ≡ old.number → IsPassThere old.desk.now old.pass
+      → AreOfOneDesk pass turn → AreOfOneDesk left turn → turn_units turn ≡ own_units pass → own_units left ≡ turn_units turn
+      → IsSameCaller old new
+  left_same desk number there entered ended units units_left =
+      let own = some_pass old.desk.now old.pass there pass had in
+      record {
+        own = subst (IsPassThere new.desk.now) (sym has)
+            (subst (λ d. IsPassOf d left) (sym desk) (ended.0 ∙ (sym entered.0 ∙ own.0), ended.1 ∙ (sym entered.1 ∙ own.1)));
+        desk = desk;
+        number = number;
+        units = ap units_in has ∙ (units_left ∙ (units ∙ sym (ap units_in had)));
+      }
 
--- the caller left with the entries as they were
-pub left_as_found : (old new : Caller) (turn : BoardTurn) (found after : Board) → origin_of found ≡ origin_of (board_made old)
-    → found.entries ≡ turn_history turn
-    → IsPrefix (seen_by old.pass) (turn_history turn)
-    → turn_places turn ≡ own_places old.pass
-    → after.entries ≡ found.entries
-    → seen_by new.pass ≡ turn_history turn
-    → own_places new.pass ≡ turn_places turn
-    → HasTurn old found after new
-left_as_found old new turn found after origin stands begins had same seen places = record {
-  begins = subst (λ h. IsPrefix (seen_by old.pass) h) (sym stands) begins;
-  origin = origin;
-  seen = seen ∙ sym stands ∙ sym same;
-  places = places ∙ had ∙ place_of_none (own_places old.pass) found.entries after.entries same;
-}
+  module _ (found after : Board) (origin : origin_of found ≡ origin_of (board_made old)) (stands : found.entries ≡ turn_history turn)
+      (begins : IsPrefix (seen_by pass) (turn_history turn)) (entered : turn_places turn ≡ own_places pass) where
+    begins_found : IsPrefix (seen_in old.pass).history found.entries
+    begins_found = subst (λ p. IsPrefix (seen_in p).history found.entries) (sym had) (subst (IsPrefix (seen_by pass)) (sym stands) begins)
+
+    places_had : turn_places turn ≡ places_in old.pass
+    places_had = entered ∙ sym (ap places_in had)
+
+    -- it left with what its board has grown by
+    pub left_grown : seen_by left ≡ after.entries
+        → own_places left ≡ turn_places turn ++ range_with_len (length (turn_history turn)) (length after.entries - length (turn_history turn))
+        → HasTurn old found after new
+    left_grown seen places = record {
+      begins = begins_found;
+      origin = origin;
+      seen = ap (λ p. (seen_in p).history) has ∙ seen;
+      places = ap places_in has
+          ∙ (places
+          ∙ (ap (λ ps. ps ++ range_with_len (length (turn_history turn)) (length after.entries - length (turn_history turn))) places_had
+          ∙ ap (λ h. places_in old.pass ++ range_with_len (length h) (length after.entries - length h)) (sym stands)));
+    }
+
+    -- it left with the entries as they were
+    pub left_as_found : after.entries ≡ found.entries → seen_by left ≡ turn_history turn → own_places left ≡ turn_places turn → HasTurn old found after new
+    left_as_found same seen places = record {
+      begins = begins_found;
+      origin = origin;
+      seen = ap (λ p. (seen_in p).history) has ∙ (seen ∙ (sym stands ∙ sym same));
+      places = ap places_in has ∙ (places ∙ (places_had ∙ place_of_none (places_in old.pass) found.entries after.entries same));
+    }

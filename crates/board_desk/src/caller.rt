@@ -3,7 +3,7 @@ ghost use Rattle.std.specs.List.{range_with_len};
 ghost use Rattle.plan_terms.specs.Terms.{graph, edit_need};
 ghost use Rattle.metric_cut.specs.Cuts.{IsCutOf};
 ghost use Rattle.turn_lock.specs.Histories.{IsPrefix, longer, merged};
-ghost use Rattle.turn_lock.specs.Passes.{AreOfOneDesk, IsPassOf, own_places, own_units, seen_by, turn_history, turn_origin, turn_places, turn_units};
+ghost use Rattle.turn_lock.specs.Passes.{AreOfOneDesk, IsPassOf, own_units, seen_by, turn_history, turn_origin, turn_places, turn_units, own_places};
 ghost use Rattle.cut_pool.specs.Terms.{origin_of};
 ghost use Rattle.board_desk.specs.inner.Endings.{IsGrown, cut_enters, edit_enters};
 
@@ -13,10 +13,11 @@ use net_core::{Edit, NoMemory};
 use std::sync::Wait;
 use turn_lock::{Desk, Pass, Turn};
 
-/// A caller at a desk with a board: its number, and its pass. It goes into a thread of its own as one value.
+/// A caller at a desk with a board: its number, and its pass, which is there between turns. It goes into a thread of its own as one
+/// value.
 ///
 /// ```text
-/// let (answer, caller) = caller.edit(&rt, Edit::Set { name, need: 24000 });
+/// let answer = caller.edit(&rt, Edit::Set { name, need: 24000 });
 /// let (first, second) = caller.split(2);                                // for two threads
 /// let caller = first.meet(second);
 /// ```
@@ -24,7 +25,7 @@ use turn_lock::{Desk, Pass, Turn};
 pub struct Caller<'d, 'a> {
     number: u32,
     desk: &'d Desk<Board<'a>>,
-    pass: Pass<Board<'a>>,
+    pass: Option<Pass<Board<'a>>>,
 }
 
 /// Whether a board that answers an edit so has one entry more.
@@ -47,7 +48,9 @@ fn end_turn<'d, 'a>(turn: Turn<'d, Board<'a>>, board: Board<'a>, grown: bool) ->
     requires grown { IsGrown grown (turn_history turn) board.entries }
     ensures own { AreOfOneDesk result turn.entry }
     ensures seen { seen_by result ≡ board.entry.entries }
-    ensures places { own_places result ≡ turn_places turn.entry ++ range_with_len (length (turn_history turn.entry)) (length board.entry.entries - length (turn_history turn.entry)) }
+    ensures places { own_places result ≡ turn_places turn.entry
+        ++ range_with_len (length (turn_history turn.entry))
+        (length board.entry.entries - length (turn_history turn.entry)) }
     ensures units { own_units result ≡ turn_units turn.entry }
 {
     if grown {
@@ -58,7 +61,7 @@ fn end_turn<'d, 'a>(turn: Turn<'d, Board<'a>>, board: Board<'a>, grown: bool) ->
 }
 
 impl<'d, 'a> Caller<'d, 'a> {
-    ghost use Rattle.board_desk.specs.Turns.{AdmitsInTurn, AreAtOneDesk, EditsInTurn, IsAtDesk, LooksInTurn, board_made};
+    ghost use Rattle.board_desk.specs.Turns.{AdmitsInTurn, AreAtOneDesk, EditsInTurn, IsAtDesk, IsSameCaller, LooksInTurn, board_made, caller_places, caller_seen, caller_units};
 
     /// The caller of this number, with a pass of the desk.
     pub fn new(number: u32, desk: &'d Desk<Board<'a>>, pass: Pass<Board<'a>>) -> Caller<'d, 'a>
@@ -66,84 +69,117 @@ impl<'d, 'a> Caller<'d, 'a> {
         ensures own { IsAtDesk result }
         ensures number { result.number ≡ number }
         ensures desk { result.desk.now ≡ desk.now }
-        ensures pass { result.pass ≡ pass.entry }
+        ensures pass { result.pass ≡ Some pass.entry }
     {
-        Caller { number, desk, pass }
+        Caller {
+            number,
+            desk,
+            pass: Some(pass),
+        }
+    }
+
+    /// The caller's number.
+    pub fn number(&self) -> u32
+        ensures { result ≡ self.now.number }
+    {
+        self.number
+    }
+
+    /// Gives the caller another number.
+    pub fn set_number(&mut self, number: u32)
+        ensures number { self.new.number ≡ number }
+        ensures desk { self.new.desk.now ≡ self.old.desk.now }
+        ensures pass { self.new.pass ≡ self.old.pass }
+    {
+        self.number = number;
+    }
+
+    /// The caller, moved out, so that it may be handed on by value and put back.
+    pub fn take(&mut self) -> Caller<'d, 'a>
+        ensures { result ≡ self.old }
+    {
+        Caller {
+            number: self.number,
+            desk: self.desk,
+            pass: self.pass.take(),
+        }
     }
 
     /// Waits for a turn, makes an edit in it, whose need is in units, and commits it with its reply. It may never return.
-    pub fn edit<R: Wait>(self, rt: &R, edit: Edit) -> (EditAnswer, Caller<'d, 'a>)
-        requires own { IsAtDesk self }
+    pub fn edit<R: Wait>(&mut self, rt: &R, edit: Edit) -> EditAnswer
+        requires own { IsAtDesk self.old }
         requires need { edit_need edit < 2 ^ 40 }
-        ensures desk { AreAtOneDesk self.entry result.1 }
-        ensures number { result.1.number ≡ self.entry.number }
-        ensures units { own_units result.1.pass ≡ own_units self.entry.pass }
-        ensures turn { EditsInTurn self.entry edit result.0 result.1 }
+        ensures same { IsSameCaller self.old self.new }
+        ensures turn { EditsInTurn self.old edit result self.new }
     {
-        let Caller { number, desk, pass } = self;
-        let (mut board, turn) = desk.enter(rt, pass);
-        let answer = board.edit(number, edit);
-        let pass = end_turn(turn, board, edit_enters(&answer));
-        (answer, Caller { number, desk, pass })
+        let Some(pass) = self.pass.take() else {
+            unreachable!()
+        };
+        let (mut board, turn) = self.desk.enter(rt, pass);
+        let answer = board.edit(self.number, edit);
+        self.pass = Some(end_turn(turn, board, edit_enters(&answer)));
+        answer
     }
 
     /// Waits for a turn, and puts a cut of the desk's network and states into the pool in it, as `Board::admit` does. It may never return.
-    pub fn admit<R: Wait>(self, rt: &R, cut: Cut) -> (AdmitAnswer, Caller<'d, 'a>)
-        requires own { IsAtDesk self }
-        requires cut { IsCutOf (graph (board_made self).net.now (board_made self).states.now cut.state.0) cut }
-        ensures desk { AreAtOneDesk self.entry result.1 }
-        ensures number { result.1.number ≡ self.entry.number }
-        ensures units { own_units result.1.pass ≡ own_units self.entry.pass }
-        ensures turn { AdmitsInTurn self.entry cut result.0 result.1 }
+    pub fn admit<R: Wait>(&mut self, rt: &R, cut: Cut) -> AdmitAnswer
+        requires own { IsAtDesk self.old }
+        requires cut { IsCutOf (graph (board_made self.old).net.now (board_made self.old).states.now cut.state.0) cut }
+        ensures same { IsSameCaller self.old self.new }
+        ensures turn { AdmitsInTurn self.old cut result self.new }
     {
-        let Caller { number, desk, pass } = self;
-        let (mut board, turn) = desk.enter(rt, pass);
+        let Some(pass) = self.pass.take() else {
+            unreachable!()
+        };
+        let (mut board, turn) = self.desk.enter(rt, pass);
         let answer = board.admit(cut);
-        let pass = end_turn(turn, board, cut_enters(&answer));
-        (answer, Caller { number, desk, pass })
+        self.pass = Some(end_turn(turn, board, cut_enters(&answer)));
+        answer
     }
 
     /// Waits for a turn, and takes a snapshot in it, which commits nothing. It may never return.
-    pub fn snapshot<R: Wait>(self, rt: &R) -> (Result<Snapshot, NoMemory>, Caller<'d, 'a>)
-        requires { IsAtDesk self }
-        ensures desk { AreAtOneDesk self.entry result.1 }
-        ensures number { result.1.number ≡ self.entry.number }
-        ensures units { own_units result.1.pass ≡ own_units self.entry.pass }
-        ensures turn { LooksInTurn self.entry result.0 result.1 }
+    pub fn snapshot<R: Wait>(&mut self, rt: &R) -> Result<Snapshot, NoMemory>
+        requires { IsAtDesk self.old }
+        ensures same { IsSameCaller self.old self.new }
+        ensures turn { LooksInTurn self.old result self.new }
     {
-        let Caller { number, desk, pass } = self;
-        let (board, turn) = desk.enter(rt, pass);
+        let Some(pass) = self.pass.take() else {
+            unreachable!()
+        };
+        let (board, turn) = self.desk.enter(rt, pass);
         let snapshot = board.snapshot();
-        let pass = turn.leave(board);
-        (snapshot, Caller { number, desk, pass })
+        self.pass = Some(turn.leave(board));
+        snapshot
     }
 
     /// Two callers for one. The second has this number, half of the units, rounded down, and no entries of its own.
     pub fn split(self, number: u32) -> (Caller<'d, 'a>, Caller<'d, 'a>)
         requires own { IsAtDesk self }
-        requires units { 2 ≤ own_units self.pass }
+        requires units { 2 ≤ caller_units self }
         ensures own { AreAtOneDesk self.entry result.0 × AreAtOneDesk self.entry result.1 }
         ensures numbers { (result.0.number ≡ self.entry.number) × (result.1.number ≡ number) }
-        ensures seen { (seen_by result.0.pass ≡ seen_by self.entry.pass) × (seen_by result.1.pass ≡ seen_by self.entry.pass) }
-        ensures places { (own_places result.0.pass ≡ own_places self.entry.pass) × (own_places result.1.pass ≡ []) }
-        ensures units { (own_units result.0.pass + own_units result.1.pass ≡ own_units self.entry.pass) × (own_units result.1.pass ≡ own_units self.entry.pass / 2) }
+        ensures seen { ((caller_seen result.0).history ≡ (caller_seen self.entry).history)
+            × ((caller_seen result.1).history ≡ (caller_seen self.entry).history) }
+        ensures places { (caller_places result.0 ≡ caller_places self.entry) × (caller_places result.1 ≡ []) }
+        ensures units { (caller_units result.0 + caller_units result.1 ≡ caller_units self.entry) × (caller_units result.1 ≡ caller_units self.entry / 2) }
     {
         let Caller {
             number: mine,
             desk,
             pass,
         } = self;
+        let Some(pass) = pass else { unreachable!() };
         let (first, second) = desk.split(pass);
         (
             Caller {
                 number: mine,
                 desk,
-                pass: first,
+                pass: Some(first),
             },
             Caller {
                 number,
                 desk,
-                pass: second,
+                pass: Some(second),
             },
         )
     }
@@ -153,29 +189,33 @@ impl<'d, 'a> Caller<'d, 'a> {
         requires { AreAtOneDesk self other }
         ensures own { AreAtOneDesk self.entry result }
         ensures number { result.number ≡ self.entry.number }
-        ensures seen { seen_by result.pass ≡ longer (seen_by self.entry.pass) (seen_by other.entry.pass) }
-        ensures first { IsPrefix (seen_by self.entry.pass) (seen_by result.pass) }
-        ensures second { IsPrefix (seen_by other.entry.pass) (seen_by result.pass) }
-        ensures places { own_places result.pass ≡ merged (own_places self.entry.pass) (own_places other.entry.pass) }
-        ensures units { own_units result.pass ≡ own_units self.entry.pass + own_units other.entry.pass }
+        ensures seen { (caller_seen result).history ≡ longer (caller_seen self.entry).history (caller_seen other.entry).history }
+        ensures first { IsPrefix (caller_seen self.entry).history (caller_seen result).history }
+        ensures second { IsPrefix (caller_seen other.entry).history (caller_seen result).history }
+        ensures places { caller_places result ≡ merged (caller_places self.entry) (caller_places other.entry) }
+        ensures units { caller_units result ≡ caller_units self.entry + caller_units other.entry }
     {
         let Caller { number, desk, pass } = self;
-        let pass = desk.meet(pass, other.pass);
-        Caller { number, desk, pass }
-    }
-
-    /// The caller's number, its desk, and its pass.
-    pub fn into_parts(self) -> (u32, &'d Desk<Board<'a>>, Pass<Board<'a>>)
-        ensures { (result.0 ≡ self.entry.number) × (result.1.now ≡ self.entry.desk.now) × (result.2 ≡ self.entry.pass) }
-    {
-        let Caller { number, desk, pass } = self;
-        (number, desk, pass)
+        let Some(pass) = pass else { unreachable!() };
+        let Some(more) = other.pass else {
+            unreachable!()
+        };
+        let pass = desk.meet(pass, more);
+        Caller {
+            number,
+            desk,
+            pass: Some(pass),
+        }
     }
 
     /// The caller's pass, with which the desk may be closed.
     pub fn into_pass(self) -> Pass<Board<'a>>
-        ensures { result ≡ self.entry.pass }
+        requires { IsAtDesk self }
+        ensures { self.entry.pass ≡ Some result }
     {
-        self.pass
+        let Some(pass) = self.pass else {
+            unreachable!()
+        };
+        pass
     }
 }
