@@ -3,16 +3,17 @@ use Rattle.std.proofs.Common.{◌≡◌, ◌≢◌, ◌∙◌, ℕ, ◌+◌, ◌
 use Rattle.std.proofs.lemmas.List.{append-nil, length-append}
 use Rattle.net_core.proofs.Library.{drop-append-le, All-append, All-cons, All-nil, All-weaker, Contains-append_left, Contains-append_right, front_rest, all_pairs_push}
 use Rattle.std.proofs.lemmas.List.Concat.{flat_map-append}
-use Rattle.plan_terms.specs.Terms.{Demand, Entry, Caps, CutLine, Case, graph_in, Joins, AreKept, IsRight, Keeps}
+use Rattle.plan_terms.specs.Terms.{Demand, Entry, Caps, Network, CutLine, States, Case, graph_in, Joins, AreKept, IsRight, Keeps}
 use Rattle.metric_cut.specs.declared.cut.Cut.{Cut}
 use Rattle.plan_types.specs.declared.certificate.Spot.{Spot}
 use Rattle.cut_pool.specs.declared.board.Board.{Board}
-use Rattle.cut_pool.specs.Terms.{cut_of_line, cuts_of}
+use Rattle.cut_pool.specs.Terms.{origin_of, cut_of_line, cuts_of}
 use Rattle.separator.specs.declared.answers.Separated.{Separated}
 use Rattle.separator.specs.declared.answers.Separated.TheVariants.{Routed, Violated, Wide}
 use Rattle.separator.specs.declared.answers.StateAnswer.{StateAnswer}
 use Rattle.separator.specs.Findings.{IsFoundCutOf}
-use Rattle.separator.specs.Separators.{IsAnswerOf, IsLineAt, IsSeparatingCut, IsSpotIn, SeparatesAt, SeesMore, cut_answered, cuts_answered, cuts_since}
+use Rattle.separator.specs.declared.one_by_one.Beginning.{Beginning}
+use Rattle.separator.specs.Separators.{Frame, IsAnswerOf, IsLineAt, IsSeparatingCut, IsSpotIn, SeparatesAt, SeesMore, cut_answered, cuts_answered, cuts_after}
 use Rattle.separator.specs.inner.Seen.{drop_is_part}
 use Rattle.separator.specs.inner.Working.{AreAnswersBelow, AreCutsBelow, AreCutsOf, PoolsBelow, PoolsMore, PoolsOf, PoolsOnly, state_and_lengths}
 use Rattle.separator.proofs.Pooling.{pools_both, pools_none, pools_since, spot_later}
@@ -29,7 +30,7 @@ pub no_cuts : (p : Case) (caps : Caps) (s : ℕ) → AreCutsOf p caps s []
 no_cuts p caps s = record { few = omega arith; of = All-nil (λ (c : ℕ × List ℕ). c.0 ≡ s); separating = All-nil (SeparatesAt p caps) }
 
 -- the cuts of a board that pools nothing more, or this cut
-at_most_since : (old new : Board) (cut : ℕ × List ℕ) → PoolsOnly old new cut → (cuts_since old.entries new.entries ≡ []) ⊎ (cuts_since old.entries new.entries ≡ cut ∷ [])
+at_most_since : (old new : Board) (cut : ℕ × List ℕ) → PoolsOnly old new cut → (cuts_after old.entries new.entries ≡ []) ⊎ (cuts_after old.entries new.entries ≡ cut ∷ [])
 at_most_since old new cut only = ⊎_elim
     (λ (none : PoolsMore old new []). inl (pools_since old new [] none))
     (λ (one : PoolsMore old new (cut ∷ [])). inr (pools_since old new (cut ∷ []) one))
@@ -88,9 +89,9 @@ module _ (p : Case) (caps : Caps) (s : ℕ) (cut : Cut) (line : CutLine) (found 
       only
 
   -- so it is on a board
-  pub pools_only : (old new : Board) → PoolsOnly old new (state_and_lengths cut) → PoolsOf p caps s old new (cuts_since old.entries new.entries)
+  pub pools_only : (old new : Board) → PoolsOnly old new (state_and_lengths cut) → PoolsOf p caps s old new (cuts_after old.entries new.entries)
   pools_only old new only =
-      let since = cuts_since old.entries new.entries in
+      let since = cuts_after old.entries new.entries in
       record {
         pools = ⊎_elim
             (λ (none : PoolsMore old new []). subst (PoolsMore old new) (sym (pools_since old new [] none)) none)
@@ -99,17 +100,17 @@ module _ (p : Case) (caps : Caps) (s : ℕ) (cut : Cut) (line : CutLine) (found 
         cuts_are = cuts_at_most since (at_most_since old new (state_and_lengths cut) only);
       }
 
-  pub among_answered : (old new : Board) (spot : Spot) → PoolsOnly old new (state_and_lengths cut) → All (Contains (cut_answered (Violated line spot))) (cuts_since old.entries new.entries)
-  among_answered old new spot only = at_most_answered spot (cuts_since old.entries new.entries) (at_most_since old new (state_and_lengths cut) only)
+  pub among_answered : (old new : Board) (spot : Spot) → PoolsOnly old new (state_and_lengths cut) → All (Contains (cut_answered (Violated line spot))) (cuts_after old.entries new.entries)
+  among_answered old new spot only = at_most_answered spot (cuts_after old.entries new.entries) (at_most_since old new (state_and_lengths cut) only)
 
 -- a board whose pool stays as it is
-pub of_same : (p : Case) (caps : Caps) (s : ℕ) (old new : Board) → PoolsMore old new [] → PoolsOf p caps s old new (cuts_since old.entries new.entries)
+pub of_same : (p : Case) (caps : Caps) (s : ℕ) (old new : Board) → PoolsMore old new [] → PoolsOf p caps s old new (cuts_after old.entries new.entries)
 of_same p caps s old new pools = subst (PoolsOf p caps s old new) (sym (pools_since old new [] pools)) (record { pools = pools; cuts_are = no_cuts p caps s })
 
-pub of_none : (p : Case) (caps : Caps) (s : ℕ) (b : Board) → PoolsOf p caps s b b (cuts_since b.entries b.entries)
+pub of_none : (p : Case) (caps : Caps) (s : ℕ) (b : Board) → PoolsOf p caps s b b (cuts_after b.entries b.entries)
 of_none p caps s b = of_same p caps s b b (pools_none b)
 
-pub none_among : (b : Board) (named : List (ℕ × List ℕ)) → All (Contains named) (cuts_since b.entries b.entries)
+pub none_among : (b : Board) (named : List (ℕ × List ℕ)) → All (Contains named) (cuts_after b.entries b.entries)
 none_among b named = subst (All (Contains named)) (sym (pools_since b b [] (pools_none b))) (All-nil (Contains named))
 
 -- ---- one state after another
@@ -145,19 +146,19 @@ module _ (p : Case) (caps : Caps) where
     separating = one.separating;
   }
 
-  pub below_none : (b : Board) → PoolsBelow p caps 0 b b (cuts_since b.entries b.entries)
+  pub below_none : (b : Board) → PoolsBelow p caps 0 b b (cuts_after b.entries b.entries)
   below_none b = subst (PoolsBelow p caps 0 b b) (sym (pools_since b b [] (pools_none b))) (record { pools = pools_none b; cuts_are = cuts_none })
 
-  pub below_more : (n : ℕ) (a b c : Board) → PoolsBelow p caps n a b (cuts_since a.entries b.entries) → PoolsOf p caps n b c (cuts_since b.entries c.entries)
-      → PoolsBelow p caps (n + 1) a c (cuts_since a.entries c.entries)
+  pub below_more : (n : ℕ) (a b c : Board) → PoolsBelow p caps n a b (cuts_after a.entries b.entries) → PoolsOf p caps n b c (cuts_after b.entries c.entries)
+      → PoolsBelow p caps (n + 1) a c (cuts_after a.entries c.entries)
   below_more n a b c one two =
-      let xs = cuts_since a.entries b.entries in
-      let ys = cuts_since b.entries c.entries in
+      let xs = cuts_after a.entries b.entries in
+      let ys = cuts_after b.entries c.entries in
       let both = pools_both a b c xs ys one.pools two.pools in
       subst (PoolsBelow p caps (n + 1) a c) (sym (pools_since a c (xs ++ ys) both)) (record { pools = both; cuts_are = cuts_more n xs ys one.cuts_are two.cuts_are })
 
-  pub below_weaker : (m n : ℕ) (a b : Board) → m ≤ n → PoolsBelow p caps m a b (cuts_since a.entries b.entries) → PoolsBelow p caps n a b (cuts_since a.entries b.entries)
-  below_weaker m n a b le one = record { pools = one.pools; cuts_are = cuts_weaker m n (cuts_since a.entries b.entries) le one.cuts_are }
+  pub below_weaker : (m n : ℕ) (a b : Board) → m ≤ n → PoolsBelow p caps m a b (cuts_after a.entries b.entries) → PoolsBelow p caps n a b (cuts_after a.entries b.entries)
+  below_weaker m n a b le one = record { pools = one.pools; cuts_are = cuts_weaker m n (cuts_after a.entries b.entries) le one.cuts_are }
 
   pub answers_none : (history : List Entry) (answers : List StateAnswer) → answers ≡ [] → AreAnswersBelow p caps 0 history [] answers
   answers_none history answers is = record {
@@ -197,27 +198,34 @@ module _ (p : Case) (caps : Caps) where
         }
 
   -- so it is on boards
-  pub board_answers_none : (b : Board) (answers : List StateAnswer) → answers ≡ [] → AreAnswersBelow p caps 0 b.entries (cuts_since b.entries b.entries) answers
+  pub board_answers_none : (b : Board) (answers : List StateAnswer) → answers ≡ [] → AreAnswersBelow p caps 0 b.entries (cuts_after b.entries b.entries) answers
   board_answers_none b answers is = subst (λ cuts. AreAnswersBelow p caps 0 b.entries cuts answers) (sym (pools_since b b [] (pools_none b))) (answers_none b.entries answers is)
 
-  pub board_answers_more : (n : ℕ) (a b c : Board) (answers : List StateAnswer) (answer : StateAnswer) → PoolsMore a b (cuts_since a.entries b.entries) → PoolsMore b c (cuts_since b.entries c.entries)
-      → AreAnswersBelow p caps n b.entries (cuts_since a.entries b.entries) answers
-      → answer.state.0 ≡ n → IsAnswerOf p caps c.entries n answer.answer → All (Contains (cut_answered answer.answer)) (cuts_since b.entries c.entries)
-      → AreAnswersBelow p caps (n + 1) c.entries (cuts_since a.entries c.entries) (answers ++ answer ∷ [])
+  pub board_answers_more : (n : ℕ) (a b c : Board) (answers : List StateAnswer) (answer : StateAnswer) → PoolsMore a b (cuts_after a.entries b.entries) → PoolsMore b c (cuts_after b.entries c.entries)
+      → AreAnswersBelow p caps n b.entries (cuts_after a.entries b.entries) answers
+      → answer.state.0 ≡ n → IsAnswerOf p caps c.entries n answer.answer → All (Contains (cut_answered answer.answer)) (cuts_after b.entries c.entries)
+      → AreAnswersBelow p caps (n + 1) c.entries (cuts_after a.entries c.entries) (answers ++ answer ∷ [])
   board_answers_more n a b c answers answer first second so_far state is named =
-      let xs = cuts_since a.entries b.entries in
-      let ys = cuts_since b.entries c.entries in
+      let xs = cuts_after a.entries b.entries in
+      let ys = cuts_after b.entries c.entries in
       subst (λ cuts. AreAnswersBelow p caps (n + 1) c.entries cuts (answers ++ answer ∷ [])) (sym (pools_since a c (xs ++ ys) (pools_both a b c xs ys first second)))
       (answers_more b.entries c.entries (λ cut spot. spot_later b c ys cut spot second) n xs ys answers answer so_far state is named)
 
 -- ---- the separator
+
+-- what no call changes, by the origin of the board and the number of entries that it began with
+abbrev frame_by : ℕ → Network × States × List Demand → Frame Beginning
+frame_by began origin = record { network = origin.0; states = origin.1; mark = record { opening = origin.2; entries = began } }
+
+pub same_frame : (began : ℕ) (old new : Board) → origin_of new ≡ origin_of old → frame_by began (origin_of new) ≡ frame_by began (origin_of old)
+same_frame began old new same = ap (frame_by began) same
 
 module _ (began : ℕ) (old new : Board) (cuts : List (ℕ × List ℕ)) (within : began ≤ length old.entries) (pools : PoolsMore old new cuts) where
   own_now : drop began new.entries ≡ drop began old.entries ++ pools.more
   own_now = ap (drop began) pools.entries ∙ drop-append-le began old.entries pools.more within
 
   -- its own entries are what the board has got
-  pub sees_more : SeesMore old.entries (drop began old.entries) new.entries (drop began new.entries)
+  pub sees_more : SeesMore (record { history = old.entries; own = drop began old.entries }) (record { history = new.entries; own = drop began new.entries })
   sees_more = record {
     further = pools.more;
     seen = pools.entries;
@@ -228,5 +236,5 @@ module _ (began : ℕ) (old new : Board) (cuts : List (ℕ × List ℕ)) (within
   }
 
   -- so are the cuts
-  pub own_cuts : cuts_since (drop began old.entries) (drop began new.entries) ≡ cuts
+  pub own_cuts : cuts_after (drop began old.entries) (drop began new.entries) ≡ cuts
   own_cuts = ap cuts_of (front_rest (drop began new.entries) (drop began old.entries) pools.more own_now) ∙ pools.are

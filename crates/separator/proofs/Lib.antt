@@ -1,3 +1,4 @@
+pub mod Admitting
 pub mod Answering
 pub mod Pooling
 pub mod Seeing

@@ -8,7 +8,7 @@ use Rattle.plan_types.specs.declared.certificate.Spot.{Spot}
 use Rattle.plan_types.specs.declared.certificate.Spot.TheVariants.{Pool, Local}
 use Rattle.cut_pool.specs.declared.board.Board.{Board}
 use Rattle.cut_pool.specs.Terms.{GrowsBy, IsSameBoard, cuts_of, pooled_by}
-use Rattle.separator.specs.Separators.{IsCutEntry, IsFullHistory, IsSpotIn, cuts_since}
+use Rattle.separator.specs.Separators.{IsCutEntry, IsFullHistory, IsSpotIn, cuts_after}
 use Rattle.separator.specs.inner.Working.{PoolsMore, state_and_lengths}
 use Rattle.net_core.proofs.Lists.{get_front}
 
@@ -68,7 +68,7 @@ pools_both a b c xs ys one two = record {
 }
 
 -- the cuts of the entries after the old ones
-pub pools_since : (old new : Board) (cuts : List (ℕ × List ℕ)) → PoolsMore old new cuts → cuts_since old.entries new.entries ≡ cuts
+pub pools_since : (old new : Board) (cuts : List (ℕ × List ℕ)) → PoolsMore old new cuts → cuts_after old.entries new.entries ≡ cuts
 pools_since old new cuts p = ap cuts_of (front_rest new.entries old.entries p.more p.entries) ∙ p.are
 
 -- ---- where cuts stand

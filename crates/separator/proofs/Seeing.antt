@@ -6,6 +6,7 @@ use Rattle.plan_terms.specs.Terms.{Entry}
 use Rattle.plan_types.specs.declared.certificate.Spot.{Spot}
 use Rattle.plan_types.specs.declared.certificate.Spot.TheVariants.{Pool, Local}
 use Rattle.cut_pool.specs.Terms.{cuts_of}
+use Rattle.turn_lock.specs.Passes.{Seen}
 use Rattle.separator.specs.Separators.{IsCutEntry, IsPartOf, IsSpotIn, SeesMore}
 use Rattle.separator.proofs.Pooling.{cuts_both}
 use Rattle.net_core.proofs.Lists.{get_front}
@@ -41,15 +42,15 @@ part_both (x ∷ xs) (y ∷ ys) us vs first second = ⊎_elim
     (λ r. inr (part_both (x ∷ xs) ys us vs r second))
     first
 
-pub sees_none : (history own : List Entry) → SeesMore history own history own
-sees_none history own = record { further = []; seen = sym (append-nil history); committed = []; own_is = sym (append-nil own); among = tt; pooled = All-nil IsCutEntry }
+pub sees_none : (seen : Seen Entry) → SeesMore seen seen
+sees_none s = record { further = []; seen = sym (append-nil s.history); committed = []; own_is = sym (append-nil s.own); among = tt; pooled = All-nil IsCutEntry }
 
-pub sees_both : (h o h1 o1 h2 o2 : List Entry) → SeesMore h o h1 o1 → SeesMore h1 o1 h2 o2 → SeesMore h o h2 o2
-sees_both h o h1 o1 h2 o2 a b = record {
+pub sees_both : (s0 s1 s2 : Seen Entry) → SeesMore s0 s1 → SeesMore s1 s2 → SeesMore s0 s2
+sees_both s0 s1 s2 a b = record {
   further = a.further ++ b.further;
-  seen = b.seen ∙ (ap (λ es. es ++ b.further) a.seen ∙ append_assoc h a.further b.further);
+  seen = b.seen ∙ (ap (λ es. es ++ b.further) a.seen ∙ append_assoc s0.history a.further b.further);
   committed = a.committed ++ b.committed;
-  own_is = b.own_is ∙ (ap (λ es. es ++ b.committed) a.own_is ∙ append_assoc o a.committed b.committed);
+  own_is = b.own_is ∙ (ap (λ es. es ++ b.committed) a.own_is ∙ append_assoc s0.own a.committed b.committed);
   among = part_both a.committed a.further b.committed b.further a.among b.among;
   pooled = All-append IsCutEntry a.committed b.committed a.pooled b.pooled;
 }

@@ -1,8 +1,15 @@
 -- a separator over a board
-use Rattle.std.specs.Prelude.{List, drop}
+use Rattle.std.specs.Prelude.{drop}
 use Rattle.plan_terms.specs.Terms.{Entry}
+use Rattle.turn_lock.specs.Passes.{Seen}
+use Rattle.separator.specs.declared.one_by_one.Beginning.{Beginning}
 use Rattle.separator.specs.declared.one_by_one.OneByOne.{OneByOne}
+use Rattle.separator.specs.Separators.{Frame}
 
--- its own entries: those that the board has got since
-abbrev pub own_of : OneByOne → List Entry
-own_of s = drop s.began.value s.board.entries
+-- no call changes the board's network, its states, its opening demands, and the number of entries that the separator began with
+abbrev pub board_frame : OneByOne → Frame Beginning
+board_frame s = record { network = s.board.net.now; states = s.board.states.now; mark = record { opening = s.board.opening.value; entries = s.began.value } }
+
+-- it has seen all entries of the board, and its own are those that the board has got since
+abbrev pub board_seen : OneByOne → Seen Entry
+board_seen s = record { history = s.board.entries; own = drop s.began.value s.board.entries }

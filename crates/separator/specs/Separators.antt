@@ -6,6 +6,7 @@ use Rattle.plan_types.specs.declared.certificate.Spot.{Spot}
 use Rattle.plan_types.specs.declared.certificate.Spot.TheVariants.{Pool, Local}
 use Rattle.route_law.specs.Terms.{ArePricedSomewhere}
 use Rattle.flow_router.specs.Answers.{IsEvidenceHere, IsRouted}
+use Rattle.turn_lock.specs.Passes.{Seen}
 use Rattle.metric_cut.specs.Cuts.{IsCutOf}
 use Rattle.metric_cut.specs.declared.cut.Cut.{Cut}
 use Rattle.cut_pool.specs.Terms.{IsLegalAfter, cut_of_line, cuts_of}
@@ -14,6 +15,12 @@ use Rattle.separator.specs.declared.answers.Separated.TheVariants.{Routed, Viola
 use Rattle.separator.specs.declared.answers.StateAnswer.{StateAnswer}
 
 -- ---- what a separator has seen, and what it commits
+
+-- what no call of a separator changes: its network, its states, and a mark
+pub record Frame (M : Type 0) : Type 0 where
+  pub network : Network
+  pub states : States
+  pub mark : M
 
 -- some of the items, in their order
 abbrev pub IsPartOf : {X : Type 0} → List X → List X → Type 0
@@ -28,24 +35,28 @@ IsCutEntry (Pooled index state lengths) = Unit {0}
 
 -- A history that a separator has seen, and the separator's own entries in it. It keeps its limits, and each cut that it pools has
 -- lengths that a state of the case keeps, differs in state or lengths from all before it, and has their number as its index.
-pub record IsSeenHistory (net : Network) (states : States) (history own : List Entry) : Type 0 where
-  pub few : length history ≤ 65536
-  pub few_cuts : length (cuts_of history) ≤ 4096
-  pub legal : (n : ℕ) (e : Entry) → slice_get history n ≡ Some e → IsCutEntry e → IsLegalAfter (case net states []) (take n history) e
-  pub own_among : IsPartOf own history
+pub record IsSeenHistory (net : Network) (states : States) (seen : Seen Entry) : Type 0 where
+  pub few : length seen.history ≤ 65536
+  pub few_cuts : length (cuts_of seen.history) ≤ 4096
+  pub legal : (n : ℕ) (e : Entry) → slice_get seen.history n ≡ Some e → IsCutEntry e → IsLegalAfter (case net states []) (take n seen.history) e
+  pub own_among : IsPartOf seen.own seen.history
 
 -- A separator has seen some more entries, and has committed some of them, each of which pools a cut.
-pub record SeesMore (history own history_now own_now : List Entry) : Type 0 where
+pub record SeesMore (old new : Seen Entry) : Type 0 where
   pub further : List Entry
-  pub seen : history_now ≡ history ++ further
+  pub seen : new.history ≡ old.history ++ further
   pub committed : List Entry
-  pub own_is : own_now ≡ own ++ committed
+  pub own_is : new.own ≡ old.own ++ committed
   pub among : IsPartOf committed further
   pub pooled : All IsCutEntry committed
 
--- the cuts that are pooled by the entries after these
-abbrev pub cuts_since : List Entry → List Entry → List (ℕ × List ℕ)
-cuts_since own own_now = cuts_of (drop (length own) own_now)
+-- the cuts that are pooled by the entries that have come after others
+abbrev pub cuts_after : List Entry → List Entry → List (ℕ × List ℕ)
+cuts_after before entries = cuts_of (drop (length before) entries)
+
+-- the cuts that the separator has pooled since
+abbrev pub cuts_since : (old new : Seen Entry) → List (ℕ × List ℕ)
+cuts_since old new = cuts_after old.own new.own
 
 -- ---- where a cut stands
 

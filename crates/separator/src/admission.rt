@@ -2,6 +2,7 @@ ghost use Rattle.std.specs.Prelude.{◌≡◌, [], IfOk, OnErr};
 ghost use Rattle.plan_terms.specs.Terms.{AreDemands, graph};
 ghost use Rattle.metric_cut.specs.Cuts.{IsCutOf};
 ghost use Rattle.separator.specs.Separators.{IsLineAt, IsSpotIn};
+ghost use Rattle.separator.specs.Spots.{IsSpotAfter};
 ghost use Rattle.separator.specs.inner.Working.{PoolsMore, PoolsOnly, state_and_lengths};
 
 use cut_pool::{AdmitAnswer, Board};
@@ -23,6 +24,19 @@ pub fn line_of(cut: &Cut, demands: &Demands) -> Result<CutLine, NoMemory>
     })
 }
 
+/// Where a cut stands after a board's answer to it.
+pub fn spot_after(answer: AdmitAnswer) -> Result<Spot, NoMemory>
+    ensures { IsSpotAfter answer result }
+{
+    match answer {
+        AdmitAnswer::Admitted { index, .. } => Ok(Spot::Pool(index)),
+        AdmitAnswer::Known(index, _) => Ok(Spot::Pool(index)),
+        AdmitAnswer::PoolFull(_) => Ok(Spot::Local),
+        AdmitAnswer::Full(_) => Ok(Spot::Local),
+        AdmitAnswer::NoMemory(_) => Err(NoMemory),
+    }
+}
+
 /// Admits a cut to the board's pool, where there is room for it, and says where it stands.
 pub fn spot_of(board: &mut Board, cut: Cut) -> Result<Spot, NoMemory>
     requires { IsCutOf (graph board.old.net.now board.old.states.now cut.state.0) cut }
@@ -30,13 +44,7 @@ pub fn spot_of(board: &mut Board, cut: Cut) -> Result<Spot, NoMemory>
     ensures spot { IfOk result (IsSpotIn board.new.entries (state_and_lengths cut)) }
     ensures none { OnErr result (PoolsMore board.old board.new []) }
 {
-    match board.admit(cut) {
-        AdmitAnswer::Admitted { index, .. } => Ok(Spot::Pool(index)),
-        AdmitAnswer::Known(index, _) => Ok(Spot::Pool(index)),
-        AdmitAnswer::PoolFull(_) => Ok(Spot::Local),
-        AdmitAnswer::Full(_) => Ok(Spot::Local),
-        AdmitAnswer::NoMemory(_) => Err(NoMemory),
-    }
+    spot_after(board.admit(cut))
 }
 
 /// The line of a cut of the board's network and states, and where it stands, once it is admitted where there is room for it.

@@ -16,16 +16,14 @@
 
 mod admission;
 pub mod answers;
-pub mod checked;
-mod known;
 pub mod one_by_one;
 mod one_state;
 mod ranges;
 pub mod separating;
+mod warm_start;
 
-pub use admission::line_of;
+pub use admission::{line_of, spot_after};
 pub use answers::{Separated, StateAnswer};
-pub use checked::separate_checked;
 pub use one_by_one::OneByOne;
 pub use one_state::separate_state;
 pub use separating::Separate;

@@ -1,12 +1,12 @@
 ghost use Rattle.std.specs.Prelude.{◌≡◌, ◌≤◌, ◌<◌, ◌+◌, [], List as Seq, All, Contains, IfOk, ℕ, length};
 ghost use Rattle.plan_terms.specs.Terms.{case_of, IsSurvivable};
-ghost use Rattle.separator.specs.Separators.{IsAnswerOf, cut_answered, cuts_since};
+ghost use Rattle.separator.specs.Separators.{IsAnswerOf, cut_answered, cuts_after};
 ghost use Rattle.separator.specs.inner.Working.{AreAnswersBelow, PoolsBelow, PoolsOf};
 
 use crate::admission::{line_and_spot, spot_of};
 use crate::answers::{Separated, StateAnswer};
-use crate::known::KnownColumns;
 use crate::separating::Separate;
+use crate::warm_start::KnownColumns;
 use cut_pool::Board;
 use flow_router::RouteAnswer;
 use metric_cut::Cut;
@@ -34,12 +34,12 @@ pub struct OneByOne<'a> {
 }
 
 impl<'a> OneByOne<'a> {
-    ghost use Rattle.separator.specs.OneByOnes.{own_of};
+    ghost use Rattle.separator.specs.OneByOnes.{board_seen};
 
     /// A separator over a board. Its own entries are those that the board gets from now on.
     pub fn new(alloc: Global, board: Board<'a>) -> OneByOne<'a>
         ensures board { result.board ≡ board.entry }
-        ensures own { own_of result ≡ [] }
+        ensures own { (board_seen result).own ≡ [] }
     {
         let began = Remembered::of(&board.count());
         OneByOne {
@@ -72,10 +72,10 @@ fn answer_state(
     requires survivable { IsSurvivable (case_of instance.now) }
     requires scale { 0 < caps.now.scale }
     requires caps { length caps.now.nums ≡ length instance.now.net.now.links }
-    ensures pools { PoolsOf (case_of instance.now) caps.now state.0 board.old board.new (cuts_since board.old.entries board.new.entries) }
+    ensures pools { PoolsOf (case_of instance.now) caps.now state.0 board.old board.new (cuts_after board.old.entries board.new.entries) }
     ensures state { IfOk result (λ a. a.state ≡ state) }
     ensures answer { IfOk result (λ a. IsAnswerOf (case_of instance.now) caps.now board.new.entries state.0 a.answer) }
-    ensures among { IfOk result (λ a. All (Contains (cut_answered a.answer)) (cuts_since board.old.entries board.new.entries)) }
+    ensures among { IfOk result (λ a. All (Contains (cut_answered a.answer)) (cuts_after board.old.entries board.new.entries)) }
 {
     match known.separate_state(instance, state, caps)? {
         RouteAnswer::Routed(routing) => Ok(StateAnswer {
@@ -109,8 +109,10 @@ fn answer_states(
     requires survivable { IsSurvivable (case_of instance.now) }
     requires scale { 0 < caps.now.scale }
     requires caps { length caps.now.nums ≡ length instance.now.net.now.links }
-    ensures pools { PoolsBelow (case_of instance.now) caps.now (length instance.now.states.now.listed + 1) board.old board.new (cuts_since board.old.entries board.new.entries) }
-    ensures answers { IfOk result (AreAnswersBelow (case_of instance.now) caps.now (length instance.now.states.now.listed + 1) board.new.entries (cuts_since board.old.entries board.new.entries)) }
+    ensures pools { PoolsBelow (case_of instance.now) caps.now (length instance.now.states.now.listed + 1) board.old board.new
+        (cuts_after board.old.entries board.new.entries) }
+    ensures answers { IfOk result (AreAnswersBelow (case_of instance.now) caps.now (length instance.now.states.now.listed + 1)
+        board.new.entries (cuts_after board.old.entries board.new.entries)) }
 {
     let mut answers = List::new(alloc);
     for s in 0..instance.states.count() {
@@ -120,20 +122,14 @@ fn answer_states(
 }
 
 impl<'a> Separate for OneByOne<'a> {
-    ghost use Rattle.separator.specs.OneByOnes.{own_of};
+    ghost use Rattle.separator.specs.OneByOnes.{board_frame, board_seen};
     ghost use Rattle.separator.specs.inner.Seen.{board_is_seen};
 
     type Mark = Beginning;
 
-    ghost network = { λ s. s.board.net.now };
+    ghost frame = { board_frame };
 
-    ghost states = { λ s. s.board.states.now };
-
-    ghost mark = { λ s. record { opening = s.board.opening.value; entries = s.began.value } };
-
-    ghost history = { λ s. s.board.entries };
-
-    ghost own = { own_of };
+    ghost seen_of = { board_seen };
 
     ghost seen = { λ s. board_is_seen s.began.value s.board.net.now s.board.states.now s.board.opening.value s.board.entries s.board.book.demands s.board.book.version s.board.pool s.board.few s.board.few_cuts s.board.stands };
 

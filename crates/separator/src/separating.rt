@@ -1,7 +1,8 @@
-ghost use Rattle.std.specs.Prelude.{◌≡◌, ◌≢◌, ◌<◌, List as Seq, All, AllPairs, Contains, IfOk, length};
-ghost use Rattle.plan_terms.specs.Terms.{Entry, Network, States, case_of, graph, IsSurvivable};
+ghost use Rattle.std.specs.Prelude.{◌≡◌, ◌≢◌, ◌<◌, All, AllPairs, Contains, IfOk, length};
+ghost use Rattle.plan_terms.specs.Terms.{Entry, case_of, graph, IsSurvivable};
 ghost use Rattle.metric_cut.specs.Cuts.{IsCutOf};
-ghost use Rattle.separator.specs.Separators.{AreStateAnswers, IsSeenHistory, IsSpotIn, SeesMore, SeparatesAt, cuts_answered, cuts_since};
+ghost use Rattle.turn_lock.specs.Passes.{Seen};
+ghost use Rattle.separator.specs.Separators.{AreStateAnswers, Frame, IsSeenHistory, IsSpotIn, SeesMore, SeparatesAt, cuts_answered, cuts_since};
 
 use crate::answers::StateAnswer;
 use metric_cut::Cut;
@@ -14,47 +15,36 @@ pub trait Separate {
     /// Plain data that no call changes.
     type Mark;
 
-    /// The network, whose states are asked.
-    ghost network: { Self → Network };
+    /// What no call changes: the network, whose states are asked, the states, and the mark.
+    ghost frame: { Self → Frame Self.Mark };
 
-    ghost states: { Self → States };
-
-    ghost mark: { Self → Self.Mark };
-
-    /// The history that it has seen.
-    ghost history: { Self → Seq Entry };
-
-    /// The entries that it has committed, in their order.
-    ghost own: { Self → Seq Entry };
+    /// The history that it has seen, and the entries in it that it has committed, in their order.
+    ghost seen_of: { Self → Seen Entry };
 
     /// Puts a cut of the network and the states into the pool, if it isn't there and there is room for it, and says where it stands.
     /// Out of memory, it may have seen more of the history all the same.
     fn admit(&mut self, cut: Cut) -> Result<Spot, NoMemory>
-        requires { IsCutOf (graph (network self.old) (states self.old) cut.state.0) cut }
-        ensures network { network self.new ≡ network self.old }
-        ensures states { states self.new ≡ states self.old }
-        ensures mark { mark self.new ≡ mark self.old }
-        ensures more { SeesMore (history self.old) (own self.old) (history self.new) (own self.new) }
-        ensures only { All (λ c. c ≡ (cut.state.0, cut.lengths)) (cuts_since (own self.old) (own self.new)) }
-        ensures spot { IfOk result (IsSpotIn (history self.new) (cut.state.0, cut.lengths)) };
+        requires { IsCutOf (graph (frame self.old).network (frame self.old).states cut.state.0) cut }
+        ensures frame { frame self.new ≡ frame self.old }
+        ensures more { SeesMore (seen_of self.old) (seen_of self.new) }
+        ensures only { All (λ c. c ≡ (cut.state.0, cut.lengths)) (cuts_since (seen_of self.old) (seen_of self.new)) }
+        ensures spot { IfOk result (IsSpotIn (seen_of self.new).history (cut.state.0, cut.lengths)) };
 
     /// Asks of each state whether the capacities, one number for each link over a scale, carry the demands there. Where they don't, one
     /// cut that they violate is put into the pool, while there is room. Out of memory, some cuts may have been put there all the same.
     fn separate(&mut self, instance: &Instance, caps: &Caps) -> Result<List<StateAnswer>, NoMemory>
-        requires net { instance.now.net.now ≡ network self.old }
-        requires listed { instance.now.states.now ≡ states self.old }
+        requires net { instance.now.net.now ≡ (frame self.old).network }
+        requires listed { instance.now.states.now ≡ (frame self.old).states }
         requires survivable { IsSurvivable (case_of instance.now) }
         requires scale { 0 < caps.now.scale }
         requires caps { length caps.now.nums ≡ length instance.now.net.now.links }
-        ensures network { network self.new ≡ network self.old }
-        ensures states { states self.new ≡ states self.old }
-        ensures mark { mark self.new ≡ mark self.old }
-        ensures more { SeesMore (history self.old) (own self.old) (history self.new) (own self.new) }
-        ensures separating { ∥ All (SeparatesAt (case_of instance.now) caps.now) (cuts_since (own self.old) (own self.new)) ∥₁ }
-        ensures different { AllPairs (λ x y. x.0 ≢ y.0) (cuts_since (own self.old) (own self.new)) }
-        ensures answers { IfOk result (λ answers. ∥ AreStateAnswers (case_of instance.now) caps.now (history self.new) answers ∥₁) }
-        ensures answered { IfOk result (λ answers. All (Contains (cuts_answered answers)) (cuts_since (own self.old) (own self.new))) };
+        ensures frame { frame self.new ≡ frame self.old }
+        ensures more { SeesMore (seen_of self.old) (seen_of self.new) }
+        ensures separating { ∥ All (SeparatesAt (case_of instance.now) caps.now) (cuts_since (seen_of self.old) (seen_of self.new)) ∥₁ }
+        ensures different { AllPairs (λ x y. x.0 ≢ y.0) (cuts_since (seen_of self.old) (seen_of self.new)) }
+        ensures answers { IfOk result (λ answers. ∥ AreStateAnswers (case_of instance.now) caps.now (seen_of self.new).history answers ∥₁) }
+        ensures answered { IfOk result (λ answers. All (Contains (cuts_answered answers)) (cuts_since (seen_of self.old) (seen_of self.new))) };
 
     /// What has been seen keeps the limits of a history, and the own entries stand in it.
-    ghost seen: { (s : Self) → ∥ IsSeenHistory (network s) (states s) (history s) (own s) ∥₁ };
+    ghost seen: { (s : Self) → ∥ IsSeenHistory (frame s).network (frame s).states (seen_of s) ∥₁ };
 }

@@ -30,7 +30,7 @@ legal_cut net states opening before (Pooled index state lengths) some legal = le
 pub board_is_seen : (n : ℕ) (net : Network) (states : States) (opening : List Demand) (entries : List Entry) (demands : List Demand) (version : ℕ) (pool : List PooledCut)
     → length entries ≤ 65536 → length pool ≤ 4096
     → ∥ IsBoardAfter (case net states opening) entries demands version (map line_of_pooled pool) ∥₁
-    → ∥ IsSeenHistory net states entries (drop n entries) ∥₁
+    → ∥ IsSeenHistory net states (record { history = entries; own = drop n entries }) ∥₁
 board_is_seen n net states opening entries demands version pool few few_cuts stands = ∥∥₁_map stands (λ b. record {
   few = few;
   few_cuts = subst (λ (k : ℕ). k ≤ 4096) (sym (length-map pool line_of_pooled) ∙ (sym (length-map (map line_of_pooled pool) cut_of_line) ∙ ap length b.pool.cuts)) few_cuts;

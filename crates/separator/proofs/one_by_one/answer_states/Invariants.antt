@@ -1,10 +1,10 @@
 use Rattle.plan_terms.specs.Terms.{case_of}
-use Rattle.separator.specs.Separators.{cuts_since}
+use Rattle.separator.specs.Separators.{cuts_after}
 use Rattle.separator.specs.inner.Working.{AreAnswersBelow, PoolsBelow}
 use Rattle.separator.proofs.one_by_one.answer_states.Given as goal
 
 -- the states so far
 abbrev pub invariant-loop-s : goal.invariant-loop-s
 invariant-loop-s l =
-    PoolsBelow (case_of l.instance) l.caps l.s l.fn.board l.board (cuts_since l.fn.board.entries l.board.entries)
-    × AreAnswersBelow (case_of l.instance) l.caps l.s l.board.entries (cuts_since l.fn.board.entries l.board.entries) l.answers
+    PoolsBelow (case_of l.instance) l.caps l.s l.fn.board l.board (cuts_after l.fn.board.entries l.board.entries)
+    × AreAnswersBelow (case_of l.instance) l.caps l.s l.board.entries (cuts_after l.fn.board.entries l.board.entries) l.answers

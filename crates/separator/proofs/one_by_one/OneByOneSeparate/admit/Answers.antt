@@ -1,7 +1,13 @@
 use Rattle.std.proofs.Common.{[], ◌∷◌, ⊎_elim}
 use Rattle.separator.specs.inner.Working.{PoolsMore, state_and_lengths}
-use Rattle.separator.proofs.Answering.{sees_more}
+use Rattle.separator.proofs.Answering.{same_frame, sees_more}
 use Rattle.separator.proofs.one_by_one.OneByOneSeparate.admit.Goals as goal
+
+pub returns-clause-frame : goal.returns-clause-frame
+returns-clause-frame c =
+    let cut = state_and_lengths c.args.cut in
+    same_frame c.args.self.now.began.value c.args.self.now.board c.spot_of.new.board
+    (⊎_elim (λ (none : PoolsMore c.args.self.now.board c.spot_of.new.board []). none.origin) (λ (one : PoolsMore c.args.self.now.board c.spot_of.new.board (cut ∷ [])). one.origin) c.spot_of.ensures.only)
 
 pub returns-clause-more : goal.returns-clause-more
 returns-clause-more c =

@@ -25,7 +25,7 @@ impl KnownColumns {
         }
     }
 
-    /// The same as `separate_state`, with what is known of the state at hand. Where memory runs out, the same is known as before.
+    /// Answers a state as `separate_state` does, and begins with the columns known of it. Where memory runs out, these are as they were.
     pub fn separate_state(
         &mut self,
         instance: &Instance,
