@@ -1,7 +1,7 @@
--- passes of a desk with a board
+-- callers at a desk with a board
 use denote.RattleType.{RattleType}
 use denote.Struct.Tuple.{Tuple}
-use Rattle.std.proofs.Common.{◌≡◌, [], ◌∷◌, List, Option, Some, IfSome, subst}
+use Rattle.std.proofs.Common.{◌≡◌, [], ◌∷◌, Option, None, Some, refl}
 use Rattle.net_core.proofs.Library.{∥∥₁_elim, Coded-set}
 use Rattle.std.specs.Coded.{coded_option, ×_prop}
 use Rattle.atomic_table.specs.Seated.{table_id_coded}
@@ -9,27 +9,23 @@ use Rattle.net_core.specs.contracts.demand.Demand as demand
 use Rattle.net_core.specs.contracts.list.List as list
 use Rattle.net_core.specs.contracts.network.Network as network
 use Rattle.net_core.specs.contracts.states.States as states
-use Rattle.plan_terms.specs.Terms.{Demand, Entry, Network, States}
-use Rattle.cut_pool.specs.contracts.board.BoardChronicle.TheImpl.{ghosts}
-use Rattle.cut_pool.specs.declared.board.Board.{Board}
-use Rattle.turn_lock.specs.declared.desk.Desk.{Desk}
-use Rattle.turn_lock.specs.declared.desk.Pass.{Pass}
-use Rattle.turn_lock.specs.Passes.{IsPassOf}
+use Rattle.board_desk.specs.declared.caller.Caller.{Caller}
+use Rattle.board_desk.specs.Turns.{IsAtDesk, IsPassThere, IsSameCaller}
+use Rattle.board_desk.proofs.Passes.{BoardDesk, BoardPass}
+use Rattle.separation_workers.specs.Callers.{caller_frame}
 
 -- the origin of a board, as a type of the language
 abbrev origin : RattleType
 origin = Tuple (network.the_row ∷ states.the_row ∷ list.the_row demand.the_row ∷ [])
 
-abbrev BoardDesk : Type 0
-BoardDesk = Desk Board Entry (Network × States × List Demand)
+-- that a pass of the desk is there has one proof at most
+one_proof : (desk : BoardDesk) (found : Option BoardPass) → IsProp (IsPassThere desk found)
+one_proof desk None = λ a b. absurd a
+one_proof desk (Some pass) = ×_prop (Coded-set table_id_coded _ _) (Coded-set (coded_option origin.coded) _ _)
 
-abbrev BoardPass : Type 0
-BoardPass = Pass Board Entry (Network × States × List Demand) ghosts
+pub at_desk : (c : Caller) → ∥ IsAtDesk c ∥₁ → IsAtDesk c
+at_desk c own = ∥∥₁_elim own (one_proof c.desk.now c.pass) (λ p. p)
 
--- that a pass is one of the desk's has one proof at most
-one_proof : (desk : BoardDesk) (pass : BoardPass) → IsProp (IsPassOf desk pass)
-one_proof desk pass = ×_prop (Coded-set table_id_coded _ _) (Coded-set (coded_option origin.coded) _ _)
-
--- a pass that is there is one of the desk's
-pub pass_there : (desk : BoardDesk) (found : Option BoardPass) (pass : BoardPass) → found ≡ Some pass → ∥ IfSome found (IsPassOf desk) ∥₁ → IsPassOf desk pass
-pass_there desk found pass is own = ∥∥₁_elim (subst (λ o. ∥ IfSome o (IsPassOf desk) ∥₁) is own) (one_proof desk pass) (λ p. p)
+-- the frame of a separator for the caller is as it was
+pub same_frame : (old new : Caller) → IsSameCaller old new → caller_frame new ≡ caller_frame old
+same_frame old new same = rw (same.desk, same.number, same.units) refl

@@ -1,83 +1,102 @@
 -- what a caller pools and answers while it goes through the states
-use Rattle.std.proofs.Common.{◌≡◌, ◌∙◌, ℕ, ◌+◌, ◌≤◌, List, [], ◌∷◌, ◌++◌, All, Contains, length, sym, ap, arith, subst}
+use Rattle.std.proofs.Common.{◌≡◌, ◌∙◌, ℕ, ◌+◌, ◌≤◌, List, [], ◌∷◌, ◌++◌, All, Contains, length, refl, sym, ap, arith, subst}
 use Rattle.net_core.proofs.Library.{∥∥₁_elim, props, front_rest}
 use Rattle.std.proofs.lemmas.List.{append-nil, append_assoc}
 use Rattle.plan_terms.specs.Terms.{Caps, Case}
 use Rattle.plan_types.specs.declared.certificate.Spot.{Spot}
+use Rattle.board_desk.specs.declared.caller.Caller.{Caller}
+use Rattle.board_desk.specs.Turns.{IsSameCaller, caller_seen}
+use Rattle.board_desk.proofs.Passes.{BoardDesk}
+use Rattle.turn_lock.specs.Passes.{opening_of}
 use Rattle.cut_pool.specs.Terms.{cuts_of}
 use Rattle.separator.specs.declared.answers.StateAnswer.{StateAnswer}
-use Rattle.separator.specs.Separators.{IsAnswerOf, IsSpotIn, SeesMore, cut_answered, cuts_since}
+use Rattle.separator.specs.Separators.{IsAnswerOf, IsSpotIn, cut_answered, cuts_since}
 use Rattle.separator.specs.inner.Working.{AreAnswersBelow, AreCutsBelow, AreCutsOf}
 use Rattle.separator.proofs.Answering.{answers_more, answers_none, cuts_more, cuts_none, cuts_weaker, no_cuts}
 use Rattle.separator.proofs.Pooling.{cuts_both}
 use Rattle.separator.proofs.Seeing.{sees_both, sees_none, spot_later}
-use Rattle.separation_workers.specs.declared.turn_taker.TurnTaker.{TurnTaker}
-use Rattle.separation_workers.specs.TurnTakers.{IsSameCaller, history_seen, own_entries}
+use Rattle.separation_workers.specs.declared.round.Round.{Round}
+use Rattle.separation_workers.specs.Callers.{SeesOn}
+use Rattle.separation_workers.specs.inner.Rounds.{IsInRound}
 
--- a caller has seen some more, and has committed cuts
-abbrev Goes : TurnTaker → TurnTaker → Type 0
-Goes a b = SeesMore (history_seen a) (own_entries a) (history_seen b) (own_entries b)
+abbrev cuts_pooled : Caller → Caller → List (ℕ × List ℕ)
+cuts_pooled a b = cuts_since (caller_seen a) (caller_seen b)
 
-abbrev cuts_pooled : TurnTaker → TurnTaker → List (ℕ × List ℕ)
-cuts_pooled a b = cuts_since (own_entries a) (own_entries b)
+-- a caller of a round is in the round after each step
+module _ (r : Round) where
+  pub stays : (a : Caller) → IsInRound r a → SeesOn a a
+  stays a at = record { same = record { own = at.own; desk = refl; number = refl; units = refl }; seen = at.seen; more = sees_none (caller_seen a) }
 
-pub stays : (a : TurnTaker) → Goes a a
-stays a = sees_none (history_seen a) (own_entries a)
+  pub still_in : (a b : Caller) → IsInRound r a → SeesOn a b → IsInRound r b
+  still_in a b at goes = record {
+    own = goes.same.own;
+    seen = goes.seen;
+    net = ap (λ (d : BoardDesk). (opening_of d).net.now) goes.same.desk ∙ at.net;
+    states = ap (λ (d : BoardDesk). (opening_of d).states.now) goes.same.desk ∙ at.states;
+  }
 
-pub goes_on : (a b t : TurnTaker) → Goes a b → Goes b t → Goes a t
-goes_on a b t first second = sees_both (history_seen a) (own_entries a) (history_seen b) (own_entries b) (history_seen t) (own_entries t) first second
+same_both : (a b t : Caller) → IsSameCaller a b → IsSameCaller b t → IsSameCaller a t
+same_both a b t one two = record { own = two.own; desk = two.desk ∙ one.desk; number = two.number ∙ one.number; units = two.units ∙ one.units }
+
+pub goes_on : (a b t : Caller) → SeesOn a b → SeesOn b t → SeesOn a t
+goes_on a b t first second = record {
+  same = same_both a b t first.same second.same;
+  seen = second.seen;
+  more = sees_both (caller_seen a) (caller_seen b) (caller_seen t) first.more second.more;
+}
 
 -- the cuts of two steps
-pooled_none : (a : TurnTaker) → [] ≡ cuts_pooled a a
-pooled_none a = sym (ap cuts_of (front_rest (own_entries a) (own_entries a) [] (sym (append-nil (own_entries a)))))
+pooled_none : (a : Caller) → [] ≡ cuts_pooled a a
+pooled_none a = let own = (caller_seen a).own in sym (ap cuts_of (front_rest own own [] (sym (append-nil own))))
 
 -- no cut is pooled, so all that are have any property
-pub none_among : (a : TurnTaker) (P : ℕ × List ℕ → Type 0) → All P (cuts_pooled a a)
+pub none_among : (a : Caller) (P : ℕ × List ℕ → Type 0) → All P (cuts_pooled a a)
 none_among a P = subst (All P) (pooled_none a) (λ k d lt. absurd (omega (arith, lt)))
 
-pooled_both : (a b t : TurnTaker) → Goes a b → Goes b t → cuts_pooled a b ++ cuts_pooled b t ≡ cuts_pooled a t
-pooled_both a b t first second =
-    let one : cuts_pooled a b ≡ cuts_of first.committed = ap cuts_of (front_rest (own_entries b) (own_entries a) first.committed first.own_is) in
-    let two : cuts_pooled b t ≡ cuts_of second.committed = ap cuts_of (front_rest (own_entries t) (own_entries b) second.committed second.own_is) in
+pooled_both : (a b t : Caller) → SeesOn a b → SeesOn b t → cuts_pooled a b ++ cuts_pooled b t ≡ cuts_pooled a t
+pooled_both a b t one_step next_step =
+    let first = one_step.more in
+    let second = next_step.more in
+    let own = λ (c : Caller). (caller_seen c).own in
+    let one : cuts_pooled a b ≡ cuts_of first.committed = ap cuts_of (front_rest (own b) (own a) first.committed first.own_is) in
+    let two : cuts_pooled b t ≡ cuts_of second.committed = ap cuts_of (front_rest (own t) (own b) second.committed second.own_is) in
     let all : cuts_pooled a t ≡ cuts_of (first.committed ++ second.committed) =
-    ap cuts_of (front_rest (own_entries t) (own_entries a) (first.committed ++ second.committed)
-    (second.own_is ∙ (ap (λ es. es ++ second.committed) first.own_is ∙ append_assoc (own_entries a) first.committed second.committed))) in
+    ap cuts_of (front_rest (own t) (own a) (first.committed ++ second.committed)
+    (second.own_is ∙ (ap (λ es. es ++ second.committed) first.own_is ∙ append_assoc (own a) first.committed second.committed))) in
     ap (λ cs. cs ++ cuts_pooled b t) one ∙ (ap (λ cs. cuts_of first.committed ++ cs) two ∙ (sym (cuts_both first.committed second.committed) ∙ sym all))
 
 -- a cut that stands somewhere stands there after a step
-stands_later : (a b : TurnTaker) → Goes a b → (cut : ℕ × List ℕ) (spot : Spot) → IsSpotIn (history_seen a) cut spot → IsSpotIn (history_seen b) cut spot
-stands_later a b more cut spot at =
-    let few : length (history_seen b) ≤ 65536 = ∥∥₁_elim b.seen (hlevel props) (λ s. s.few) in
-    let few_cuts : length (cuts_of (history_seen b)) ≤ 4096 = ∥∥₁_elim b.seen (hlevel props) (λ s. s.few_cuts) in
+stands_later : (a b : Caller) → SeesOn a b → (cut : ℕ × List ℕ) (spot : Spot) → IsSpotIn (caller_seen a).history cut spot → IsSpotIn (caller_seen b).history cut spot
+stands_later a b goes cut spot at =
+    let more = goes.more in
+    let few : length (caller_seen b).history ≤ 65536 = ∥∥₁_elim goes.seen (hlevel props) (λ s. s.few) in
+    let few_cuts : length (cuts_of (caller_seen b).history) ≤ 4096 = ∥∥₁_elim goes.seen (hlevel props) (λ s. s.few_cuts) in
     subst (λ es. IsSpotIn es cut spot) (sym more.seen)
-    (spot_later (history_seen a) more.further cut spot (subst (λ es. length es ≤ 65536) more.seen few) (subst (λ es. length (cuts_of es) ≤ 4096) more.seen few_cuts) at)
-
-pub same_both : (a b t : TurnTaker) → IsSameCaller a b → IsSameCaller b t → IsSameCaller a t
-same_both a b t one two = record { desk = two.desk ∙ one.desk; number = two.number ∙ one.number; units = two.units ∙ one.units }
+    (spot_later (caller_seen a).history more.further cut spot (subst (λ es. length es ≤ 65536) more.seen few) (subst (λ es. length (cuts_of es) ≤ 4096) more.seen few_cuts) at)
 
 module _ (p : Case) (caps : Caps) where
-  pub none_of_state : (s : ℕ) (a : TurnTaker) → AreCutsOf p caps s (cuts_pooled a a)
+  pub none_of_state : (s : ℕ) (a : Caller) → AreCutsOf p caps s (cuts_pooled a a)
   none_of_state s a = subst (AreCutsOf p caps s) (pooled_none a) (no_cuts p caps s)
 
-  pub none_so_far : (a : TurnTaker) → AreCutsBelow p caps 0 (cuts_pooled a a)
+  pub none_so_far : (a : Caller) → AreCutsBelow p caps 0 (cuts_pooled a a)
   none_so_far a = subst (AreCutsBelow p caps 0) (pooled_none a) (cuts_none p caps)
 
-  pub none_below : (all : ℕ) (a : TurnTaker) → AreCutsBelow p caps all (cuts_pooled a a)
+  pub none_below : (all : ℕ) (a : Caller) → AreCutsBelow p caps all (cuts_pooled a a)
   none_below all a = cuts_weaker p caps 0 all (cuts_pooled a a) (omega arith) (none_so_far a)
 
-  pub none_answered : (a : TurnTaker) (answers : List StateAnswer) → answers ≡ [] → AreAnswersBelow p caps 0 (history_seen a) (cuts_pooled a a) answers
-  none_answered a answers is = subst (λ cuts. AreAnswersBelow p caps 0 (history_seen a) cuts answers) (pooled_none a) (answers_none p caps (history_seen a) answers is)
+  pub none_answered : (a : Caller) (answers : List StateAnswer) → answers ≡ [] → AreAnswersBelow p caps 0 (caller_seen a).history (cuts_pooled a a) answers
+  none_answered a answers is = subst (λ cuts. AreAnswersBelow p caps 0 (caller_seen a).history cuts answers) (pooled_none a) (answers_none p caps (caller_seen a).history answers is)
 
-  module _ (n : ℕ) (a b t : TurnTaker) (first : Goes a b) (second : Goes b t) where
+  module _ (n : ℕ) (a b t : Caller) (first : SeesOn a b) (second : SeesOn b t) where
     pub one_state_more : AreCutsBelow p caps n (cuts_pooled a b) → AreCutsOf p caps n (cuts_pooled b t) → AreCutsBelow p caps (n + 1) (cuts_pooled a t)
     one_state_more one two = subst (AreCutsBelow p caps (n + 1)) (pooled_both a b t first second) (cuts_more p caps n (cuts_pooled a b) (cuts_pooled b t) one two)
 
     pub stopped_at : (all : ℕ) → n + 1 ≤ all → AreCutsBelow p caps n (cuts_pooled a b) → AreCutsOf p caps n (cuts_pooled b t) → AreCutsBelow p caps all (cuts_pooled a t)
     stopped_at all le one two = cuts_weaker p caps (n + 1) all (cuts_pooled a t) le (one_state_more one two)
 
-    pub one_answer_more : (answers : List StateAnswer) (answer : StateAnswer) → AreAnswersBelow p caps n (history_seen b) (cuts_pooled a b) answers
-        → answer.state.0 ≡ n → IsAnswerOf p caps (history_seen t) n answer.answer → All (Contains (cut_answered answer.answer)) (cuts_pooled b t)
-        → AreAnswersBelow p caps (n + 1) (history_seen t) (cuts_pooled a t) (answers ++ answer ∷ [])
+    pub one_answer_more : (answers : List StateAnswer) (answer : StateAnswer) → AreAnswersBelow p caps n (caller_seen b).history (cuts_pooled a b) answers
+        → answer.state.0 ≡ n → IsAnswerOf p caps (caller_seen t).history n answer.answer → All (Contains (cut_answered answer.answer)) (cuts_pooled b t)
+        → AreAnswersBelow p caps (n + 1) (caller_seen t).history (cuts_pooled a t) (answers ++ answer ∷ [])
     one_answer_more answers answer so_far state is named =
-        subst (λ cuts. AreAnswersBelow p caps (n + 1) (history_seen t) cuts (answers ++ answer ∷ [])) (pooled_both a b t first second)
-        (answers_more p caps (history_seen b) (history_seen t) (stands_later b t second) n (cuts_pooled a b) (cuts_pooled b t) answers answer so_far state is named)
+        subst (λ cuts. AreAnswersBelow p caps (n + 1) (caller_seen t).history cuts (answers ++ answer ∷ [])) (pooled_both a b t first second)
+        (answers_more p caps (caller_seen b).history (caller_seen t).history (stands_later b t second) n (cuts_pooled a b) (cuts_pooled b t) answers answer so_far state is named)

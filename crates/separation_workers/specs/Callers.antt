@@ -1,9 +1,23 @@
 -- what a caller has seen at its desk
-use Rattle.turn_lock.specs.Passes.{own_items, seen_by}
 use Rattle.board_desk.specs.declared.caller.Caller.{Caller}
-use Rattle.board_desk.specs.Turns.{board_made}
-use Rattle.separator.specs.Separators.{IsSeenHistory}
+use Rattle.board_desk.specs.Turns.{IsSameCaller, board_made, caller_seen, caller_units}
+use Rattle.separator.specs.Separators.{Frame, IsSeenHistory, SeesMore}
+use Rattle.separation_workers.specs.declared.workers.DeskMark.{DeskMark}
 
 -- it has seen a history of the network and the states of its desk, in which its own entries stand
 abbrev pub HasSeenHistory : Caller → Type 0
-HasSeenHistory c = ∥ IsSeenHistory (board_made c).net.now (board_made c).states.now (seen_by c.pass) (own_items c.pass) ∥₁
+HasSeenHistory c = ∥ IsSeenHistory (board_made c).net.now (board_made c).states.now (caller_seen c) ∥₁
+
+-- the caller has seen such a history that goes on from what it had seen, and has committed no more than cuts
+pub record SeesOn (old new : Caller) : Type 0 where
+  pub same : IsSameCaller old new
+  pub seen : HasSeenHistory new
+  pub more : SeesMore (caller_seen old) (caller_seen new)
+
+-- what no call of a separator for the caller changes: the network and the states of its desk, the desk, its number, and its units
+abbrev pub caller_frame : Caller → Frame DeskMark
+caller_frame c = record {
+  network = (board_made c).net.now;
+  states = (board_made c).states.now;
+  mark = record { desk = c.desk.now; number = c.number; units = caller_units c };
+}

@@ -1,4 +1,2 @@
 pub mod Callers
-pub mod Places
-pub mod TurnTakers
 pub mod inner

@@ -14,8 +14,7 @@ mod discard;
 mod hints;
 mod hold;
 mod round;
-mod turn_taker;
-mod turns;
+mod spot;
 mod workers;
 
 pub use hold::Hold;

@@ -1,20 +1,17 @@
 ghost use Rattle.std.specs.Prelude.{◌≡◌, ℕ, ◌≤◌, ◌<◌, ◌+◌, All, Contains, IfOk, IfSome, Some, length, slice_get};
 ghost use Rattle.plan_terms.specs.Terms.{case_of, IsSurvivable};
-ghost use Rattle.turn_lock.specs.Passes.{opening_of};
-ghost use Rattle.board_desk.specs.Turns.{IsAtDesk, board_made};
-ghost use Rattle.separator.specs.Separators.{IsAnswerOf, SeesMore, cut_answered, cuts_since};
+ghost use Rattle.board_desk.specs.Turns.{IsAtDesk, board_made, caller_seen};
+ghost use Rattle.separator.specs.Separators.{IsAnswerOf, cut_answered, cuts_since};
 ghost use Rattle.separator.specs.inner.Working.{AreAnswersBelow, AreCutsBelow, AreCutsOf};
 ghost use Rattle.hint_board.specs.Hints.{hint_links};
-ghost use Rattle.separation_workers.specs.Callers.{HasSeenHistory};
-ghost use Rattle.separation_workers.specs.inner.Rounds.{AreFound, IsFoundOf, IsStateFound};
-ghost use Rattle.separation_workers.specs.Places.{units_in};
-ghost use Rattle.separation_workers.specs.TurnTakers.{IsSameCaller, desk_network, desk_states, history_seen, own_entries};
+ghost use Rattle.separation_workers.specs.Callers.{HasSeenHistory, SeesOn, caller_frame};
+ghost use Rattle.separation_workers.specs.inner.Rounds.{AreFound, IsFoundOf, IsInRound, IsStateFound};
 
 use crate::beside::{find_state, find_states};
 use crate::hints::post;
 use crate::hold::Hold;
 use crate::round::{Round, StateColumns, StateFound};
-use crate::turn_taker::TurnTaker;
+use crate::spot::spot_in_turn;
 use board_desk::Caller;
 use cut_pool::Board;
 use flow_router::RouteAnswer;
@@ -52,9 +49,11 @@ pub struct Workers<'r, 'd, 'a, R, G> {
     hold: &'r Hold,
     alloc: Global,
     hints: &'r HintBoard,
-    taker: TurnTaker<'d, 'a>,
+    caller: Caller<'d, 'a>,
     columns: List<StateColumns>,
-    pub ghost links: { hint_links hints.now ≡ length (desk_network taker).links },
+    pub ghost own: { ∥ IsAtDesk caller ∥₁ },
+    pub ghost seen: { HasSeenHistory caller },
+    pub ghost links: { hint_links hints.now ≡ length (board_made caller).net.now.links },
 }
 
 impl<'r, 'd, 'a, R, G> Workers<'r, 'd, 'a, R, G> {
@@ -71,9 +70,7 @@ impl<'r, 'd, 'a, R, G> Workers<'r, 'd, 'a, R, G> {
         requires own { IsAtDesk caller }
         requires seen { HasSeenHistory caller }
         requires hints { hint_links hints.now ≡ length (board_made caller).net.now.links }
-        ensures number { result.taker.number ≡ caller.entry.number }
-        ensures desk { result.taker.desk.now ≡ caller.entry.desk.now }
-        ensures pass { result.taker.pass ≡ Some caller.entry.pass }
+        ensures { result.caller ≡ caller.entry }
     {
         Workers {
             rt,
@@ -81,7 +78,7 @@ impl<'r, 'd, 'a, R, G> Workers<'r, 'd, 'a, R, G> {
             hold,
             alloc,
             hints,
-            taker: TurnTaker::new(caller),
+            caller,
             columns: List::new(alloc),
         }
     }
@@ -90,11 +87,9 @@ impl<'r, 'd, 'a, R, G> Workers<'r, 'd, 'a, R, G> {
     pub fn into_caller(self) -> Caller<'d, 'a>
         ensures own { IsAtDesk result }
         ensures seen { HasSeenHistory result }
-        ensures number { result.number ≡ self.entry.taker.number }
-        ensures desk { result.desk.now ≡ self.entry.taker.desk.now }
-        ensures pass { Some result.pass ≡ self.entry.taker.pass }
+        ensures caller { result ≡ self.entry.caller }
     {
-        self.taker.into_caller()
+        self.caller
     }
 }
 
@@ -144,18 +139,16 @@ fn answer_state<R: Wait, G: Gate>(
     round: &Round,
     state: StateId,
     found: RouteAnswer,
-    taker: &mut TurnTaker,
+    caller: &mut Caller,
 ) -> Result<StateAnswer, NoMemory>
-    requires net { desk_network taker.old ≡ round.now.instance.net.now }
-    requires listed { desk_states taker.old ≡ round.now.instance.states.now }
+    requires caller { IsInRound round.now caller.old }
     requires state { state.0 < length round.now.instance.states.now.listed + 1 }
     requires found { IsFoundOf round.now state.0 found }
-    ensures same { IsSameCaller taker.old taker.new }
-    ensures more { SeesMore (history_seen taker.old) (own_entries taker.old) (history_seen taker.new) (own_entries taker.new) }
-    ensures cuts { AreCutsOf (case_of round.now.instance) round.now.caps.now state.0 (cuts_since (own_entries taker.old) (own_entries taker.new)) }
+    ensures goes { SeesOn caller.old caller.new }
+    ensures cuts { AreCutsOf (case_of round.now.instance) round.now.caps.now state.0 (cuts_since (caller_seen caller.old) (caller_seen caller.new)) }
     ensures state { IfOk result (λ a. a.state ≡ state) }
-    ensures answer { IfOk result (λ a. IsAnswerOf (case_of round.now.instance) round.now.caps.now (history_seen taker.new) state.0 a.answer) }
-    ensures among { IfOk result (λ a. All (Contains (cut_answered a.answer)) (cuts_since (own_entries taker.old) (own_entries taker.new))) }
+    ensures answer { IfOk result (λ a. IsAnswerOf (case_of round.now.instance) round.now.caps.now (caller_seen caller.new).history state.0 a.answer) }
+    ensures among { IfOk result (λ a. All (Contains (cut_answered a.answer)) (cuts_since (caller_seen caller.old) (caller_seen caller.new))) }
 {
     gate.after(round.caller, state.0);
     match found {
@@ -166,7 +159,7 @@ fn answer_state<R: Wait, G: Gate>(
         RouteAnswer::Violated(cut) => {
             let line = line_of(&cut, round.instance.demands)?;
             post(rt, round.hints, cut.lengths());
-            let spot = taker.admit(rt, cut)?;
+            let spot = spot_in_turn(rt, caller, cut)?;
             Ok(StateAnswer {
                 state,
                 answer: Separated::Violated(line, spot),
@@ -185,21 +178,22 @@ fn answer_states<R: Wait, G: Gate>(
     gate: &G,
     round: &Round,
     places: &mut [Option<StateFound>],
-    taker: &mut TurnTaker,
+    caller: &mut Caller,
 ) -> Result<List<StateAnswer>, NoMemory>
-    requires net { desk_network taker.old ≡ round.now.instance.net.now }
-    requires listed { desk_states taker.old ≡ round.now.instance.states.now }
+    requires caller { IsInRound round.now caller.old }
     requires found { AreFound round.now places.old }
-    ensures same { IsSameCaller taker.old taker.new }
-    ensures more { SeesMore (history_seen taker.old) (own_entries taker.old) (history_seen taker.new) (own_entries taker.new) }
-    ensures cuts { AreCutsBelow (case_of round.now.instance) round.now.caps.now (length round.now.instance.states.now.listed + 1) (cuts_since (own_entries taker.old) (own_entries taker.new)) }
-    ensures answers { IfOk result (AreAnswersBelow (case_of round.now.instance) round.now.caps.now (length round.now.instance.states.now.listed + 1) (history_seen taker.new) (cuts_since (own_entries taker.old) (own_entries taker.new))) }
+    ensures goes { SeesOn caller.old caller.new }
+    ensures cuts { AreCutsBelow (case_of round.now.instance) round.now.caps.now (length round.now.instance.states.now.listed + 1)
+        (cuts_since (caller_seen caller.old) (caller_seen caller.new)) }
+    ensures answers { IfOk result (AreAnswersBelow (case_of round.now.instance) round.now.caps.now
+        (length round.now.instance.states.now.listed + 1) (caller_seen caller.new).history
+        (cuts_since (caller_seen caller.old) (caller_seen caller.new))) }
 {
     let mut answers = List::new(round.alloc);
     for s in 0..round.instance.states.count() {
         let state = StateId(s);
         let found = found_of(round, places, state)?;
-        answers.push(answer_state(rt, gate, round, state, found, taker)?)?;
+        answers.push(answer_state(rt, gate, round, state, found, caller)?)?;
     }
     Ok(answers)
 }
@@ -210,40 +204,35 @@ fn answer_round<R: Threads + Wait, G: Gate>(
     gate: &G,
     hold: &Hold,
     round: &Round,
-    taker: &mut TurnTaker,
+    caller: &mut Caller,
 ) -> Result<List<StateAnswer>, NoMemory>
-    requires net { desk_network taker.old ≡ round.now.instance.net.now }
-    requires listed { desk_states taker.old ≡ round.now.instance.states.now }
-    ensures same { IsSameCaller taker.old taker.new }
-    ensures more { SeesMore (history_seen taker.old) (own_entries taker.old) (history_seen taker.new) (own_entries taker.new) }
-    ensures cuts { AreCutsBelow (case_of round.now.instance) round.now.caps.now (length round.now.instance.states.now.listed + 1) (cuts_since (own_entries taker.old) (own_entries taker.new)) }
-    ensures answers { IfOk result (AreAnswersBelow (case_of round.now.instance) round.now.caps.now (length round.now.instance.states.now.listed + 1) (history_seen taker.new) (cuts_since (own_entries taker.old) (own_entries taker.new))) }
+    requires caller { IsInRound round.now caller.old }
+    ensures goes { SeesOn caller.old caller.new }
+    ensures cuts { AreCutsBelow (case_of round.now.instance) round.now.caps.now (length round.now.instance.states.now.listed + 1)
+        (cuts_since (caller_seen caller.old) (caller_seen caller.new)) }
+    ensures answers { IfOk result (AreAnswersBelow (case_of round.now.instance) round.now.caps.now
+        (length round.now.instance.states.now.listed + 1) (caller_seen caller.new).history
+        (cuts_since (caller_seen caller.old) (caller_seen caller.new))) }
 {
     let states = round.instance.states.count();
     for state in 0..states {
         gate.before(round.caller, state);
     }
     let mut places = find_states(rt, hold, round)?;
-    answer_states(rt, gate, round, places.items_mut(), taker)
+    answer_states(rt, gate, round, places.items_mut(), caller)
 }
 
 impl<'r, 'd, 'a, R: Threads + Wait, G: Gate> Separate for Workers<'r, 'd, 'a, R, G> {
     type Mark = DeskMark<'a>;
 
-    ghost network = { λ s. desk_network s.taker };
+    ghost frame = { λ s. caller_frame s.caller };
 
-    ghost states = { λ s. desk_states s.taker };
+    ghost seen_of = { λ s. caller_seen s.caller };
 
-    ghost mark = { λ s. record { desk = s.taker.desk.now; number = s.taker.number; units = units_in s.taker.pass } };
-
-    ghost history = { λ s. history_seen s.taker };
-
-    ghost own = { λ s. own_entries s.taker };
-
-    ghost seen = { λ s. s.taker.seen };
+    ghost seen = { λ s. s.seen };
 
     fn admit(&mut self, cut: Cut) -> Result<Spot, NoMemory> {
-        self.taker.admit(self.rt, cut)
+        spot_in_turn(self.rt, &mut self.caller, cut)
     }
 
     fn separate(
@@ -260,11 +249,11 @@ impl<'r, 'd, 'a, R: Threads + Wait, G: Gate> Separate for Workers<'r, 'd, 'a, R,
                 demands: instance.demands,
             },
             caps,
-            caller: self.taker.number(),
+            caller: self.caller.number(),
             hints: self.hints,
             columns: self.columns.items(),
             next: AtomicU32::new(0),
         };
-        answer_round(self.rt, self.gate, self.hold, &round, &mut self.taker)
+        answer_round(self.rt, self.gate, self.hold, &round, &mut self.caller)
     }
 }

@@ -1,8 +1,11 @@
 -- what the workers of a round find
-use Rattle.std.specs.Prelude.{ℕ, ◌<◌, ◌+◌, List, Option, All, IfSome, length}
+use Rattle.std.specs.Prelude.{◌≡◌, ℕ, ◌<◌, ◌+◌, List, Option, All, IfSome, length}
 use Rattle.plan_terms.specs.Terms.{graph_in, case_of}
 use Rattle.flow_router.specs.declared.answer.RouteAnswer.{RouteAnswer}
+use Rattle.board_desk.specs.declared.caller.Caller.{Caller}
+use Rattle.board_desk.specs.Turns.{IsAtDesk, board_made}
 use Rattle.separator.specs.Findings.{IsFinding}
+use Rattle.separation_workers.specs.Callers.{HasSeenHistory}
 use Rattle.separation_workers.specs.declared.round.Round.{Round}
 use Rattle.separation_workers.specs.declared.round.StateFound.{StateFound}
 
@@ -17,3 +20,10 @@ IsStateFound r found = (found.state.0 < length r.instance.states.now.listed + 1)
 -- what is found of some states of the round, and nothing of others
 abbrev pub AreFound : Round → List (Option StateFound) → Type 0
 AreFound r places = All (λ place. IfSome place (IsStateFound r)) places
+
+-- a caller at a desk of the round's network and states, which has seen a history of these
+pub record IsInRound (r : Round) (c : Caller) : Type 0 where
+  pub own : IsAtDesk c
+  pub seen : HasSeenHistory c
+  pub net : (board_made c).net.now ≡ r.instance.net.now
+  pub states : (board_made c).states.now ≡ r.instance.states.now

@@ -1,16 +1,16 @@
 use Rattle.plan_terms.specs.Terms.{case_of}
-use Rattle.separator.specs.Separators.{SeesMore, cuts_since}
+use Rattle.separator.specs.Separators.{cuts_since}
 use Rattle.separator.specs.inner.Working.{AreAnswersBelow, AreCutsBelow}
 use Rattle.separation_workers.specs.inner.Rounds.{AreFound}
-use Rattle.separation_workers.specs.TurnTakers.{IsSameCaller, history_seen, own_entries}
+use Rattle.board_desk.specs.Turns.{caller_seen}
+use Rattle.separation_workers.specs.Callers.{SeesOn}
 use Rattle.separation_workers.proofs.workers.answer_states.Given as goal
 
 -- the states so far
 abbrev pub invariant-loop-s : goal.invariant-loop-s
 invariant-loop-s g l = record {
-  same : IsSameCaller l.fn.taker l.taker;
-  more : SeesMore (history_seen l.fn.taker) (own_entries l.fn.taker) (history_seen l.taker) (own_entries l.taker);
-  cuts : AreCutsBelow (case_of l.round.instance) l.round.caps.now l.s (cuts_since (own_entries l.fn.taker) (own_entries l.taker));
+  goes : SeesOn l.fn.caller l.caller;
+  cuts : AreCutsBelow (case_of l.round.instance) l.round.caps.now l.s (cuts_since (caller_seen l.fn.caller) (caller_seen l.caller));
   found : AreFound l.round l.places;
-  answers : AreAnswersBelow (case_of l.round.instance) l.round.caps.now l.s (history_seen l.taker) (cuts_since (own_entries l.fn.taker) (own_entries l.taker)) l.answers;
+  answers : AreAnswersBelow (case_of l.round.instance) l.round.caps.now l.s (caller_seen l.caller).history (cuts_since (caller_seen l.fn.caller) (caller_seen l.caller)) l.answers;
 }
