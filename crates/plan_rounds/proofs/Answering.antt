@@ -2,14 +2,14 @@
 use Rattle.std.proofs.Common.{◌≡◌, ◌≢◌, ℕ, ◌+◌, ◌<◌, ◌≤◌, inl, inr, ⊎_elim, List, [], ◌∷◌, ◌++◌, Some, None, get_or, length, map, slice_get, refl, sym, ap, subst, ◌∙◌, arith, suc}
 use Rattle.net_core.proofs.Library.{cases_lt, map-append, All-nil, All-push, All-weaker, all_pairs_push}
 use Rattle.std.proofs.lemmas.List.{append-nil, append_assoc, length-append}
-use Rattle.plan_terms.specs.Terms.{Entry, Caps, CutLine, Routing, Case, graph_in}
+use Rattle.plan_terms.specs.Terms.{Entry, Caps, CutLine, Routing, Case, graph_in, HasShortLengths}
 use Rattle.flow_router.specs.Answers.{IsRouted}
 use Rattle.cut_pool.specs.Terms.{cut_of_line}
 use Rattle.separator.specs.Separators.{AreStateAnswers, IsAnswerOf, IsSeparatingCut, cut_answered, cuts_answered}
 use Rattle.separator.specs.declared.answers.Separated.{Separated}
 use Rattle.separator.specs.declared.answers.Separated.TheVariants.{Routed, Violated, Wide}
 use Rattle.separator.specs.declared.answers.StateAnswer.{StateAnswer}
-use Rattle.plan_rounds.specs.inner.Answered.{AnswersShort, AreSorted, HasShort, IsRoutedOrWide, PutsAnswer}
+use Rattle.plan_rounds.specs.inner.Answered.{AnswersShort, AreSorted, IsRoutedOrWide, PutsAnswer}
 use Rattle.plan_rounds.specs.declared.sorting.Answered.{Answered}
 use Rattle.separator.proofs.Seeing.{get_more}
 use Rattle.plan_rounds.proofs.Seeing.{stand_more}
@@ -49,7 +49,7 @@ module _ (p : Case) (caps : Caps) (history : List Entry) where
   pub sorted_none : AreSorted p caps history 0 (record { routings = []; found = record { lines = []; spots = [] }; wide = None })
   sorted_none = record {
     cuts = All-nil (IsSeparatingCut p caps);
-    short = All-nil HasShort;
+    short = All-nil HasShortLengths;
     states = λ i j d ij lj. absurd (omega (arith, lj));
     before = All-nil (λ (c : CutLine). c.state.0 < 0);
     spots = record { count = refl; each = λ i line spot one two. absurd (let e : None ≡ Some line = one in cc e) };
@@ -88,7 +88,7 @@ module _ (p : Case) (caps : Caps) (history : List Entry) where
   })
   sorted_more n (Violated line spot) old new inside are is short puts = subst (AreSorted p caps history (n + 1)) (sym puts) (record {
     cuts = All-push (IsSeparatingCut p caps) old.found.lines line are.cuts is.1;
-    short = All-push HasShort old.found.lines line are.short short;
+    short = All-push HasShortLengths old.found.lines line are.short short;
     states = all_pairs_push (λ x y. x.state ≢ y.state) old.found.lines line are.states
         (λ k d lt same. let back : (get_or old.found.lines k d).state.0 ≡ line.state.0 = ap (λ st. st.0) same in omega (arith, are.before k d lt, back, is.0));
     before = All-push (λ (c : CutLine). c.state.0 < n + 1) old.found.lines line

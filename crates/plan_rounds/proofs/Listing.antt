@@ -10,6 +10,7 @@ use Rattle.metric_cut.specs.declared.cut.Cut.{Cut}
 use Rattle.cut_pool.specs.Terms.{cut_of_line, cuts_of}
 use Rattle.master_law.specs.Terms.{IsSameCut}
 use Rattle.plan_law.specs.WorkedLists.{AreDifferentCuts, HasCut}
+use Rattle.turn_lock.specs.Passes.{Seen}
 use Rattle.separator.specs.Separators.{IsLineAt, IsSeenHistory, IsSpotIn, SeesMore}
 use Rattle.separator.proofs.Answering.{line_is}
 use Rattle.plan_rounds.specs.WorkedRounds.{IsPoolOf, StandAtSpots}
@@ -43,13 +44,13 @@ listed_put p h line spot old new is low at are puts = ⊎_elim
     puts
 
 -- the list as a separator has seen more
-pub listed_later : (p : Case) (net : Network) (states : States) (h own h_now own_now : List Entry) (c : Candidates) → SeesMore h own h_now own_now → IsSeenHistory net states h_now own_now → AreListed p h c → AreListed p h_now c
-listed_later p net states h own h_now own_now c more seen are = record {
+pub listed_later : (p : Case) (net : Network) (states : States) (old new : Seen Entry) (c : Candidates) → SeesMore old new → IsSeenHistory net states new → AreListed p old.history c → AreListed p new.history c
+listed_later p net states old new c more seen are = record {
   cuts = are.cuts;
   low = are.low;
   different = are.different;
   spots = subst (λ es. StandAtSpots es c.lines c.spots) (sym more.seen)
-      (stand_later net states h own_now more.further c.lines c.spots (subst (λ es. IsSeenHistory net states es own_now) more.seen seen) are.spots);
+      (stand_later old.history more.further c.lines c.spots (subst (λ es. length es ≤ 65536) more.seen seen.few) (subst (λ es. length (cuts_of es) ≤ 4096) more.seen seen.few_cuts) are.spots);
 }
 
 -- a cut that is admitted comes to the list
@@ -72,21 +73,21 @@ lines_differ lines all i j d ij lj same =
     all i j (cut_of_line d) ij (subst (λ n. j < n) (sym (length-map lines cut_of_line)) lj)
     (get_or-map cut_of_line lines i d (cut_of_line d) (omega (arith, ij, lj)) ∙ (pair ∙ sym (get_or-map cut_of_line lines j d (cut_of_line d) lj)))
 
-pub pool_listed : (p : Case) (net : Network) (states : States) (h own : List Entry) (lines : List CutLine) (spots : List Spot) → IsSeenHistory net states h own → IsPoolOf p h lines → AreFirstSpots (length lines) spots
-    → AreListed p h (record { lines = lines; spots = spots })
-pool_listed p net states h own lines spots seen pool are = record {
+pub pool_listed : (p : Case) (net : Network) (states : States) (seen : Seen Entry) (lines : List CutLine) (spots : List Spot) → IsSeenHistory net states seen → IsPoolOf p seen.history lines → AreFirstSpots (length lines) spots
+    → AreListed p seen.history (record { lines = lines; spots = spots })
+pool_listed p net states s lines spots seen pool are = record {
   cuts = pool.cuts;
   low = pool.low;
-  different = lines_differ lines (subst (AllPairs (λ a b. a ≢ b)) (sym pool.pooled) (cuts_differ (case net states []) h seen.legal pool.position));
+  different = lines_differ lines (subst (AllPairs (λ a b. a ≢ b)) (sym pool.pooled) (cuts_differ (case net states []) s.history seen.legal pool.position));
   spots = record {
     count = are.count;
     each = λ i line spot one two.
         let within = slice_get_within lines i line one in
         let same : Some (Pool i) ≡ Some spot = sym (are.each i within) ∙ two in
         let is : Pool i ≡ spot = cc same in
-        let at : slice_get (cuts_of (take pool.position h)) i ≡ Some (cut_of_line line) =
+        let at : slice_get (cuts_of (take pool.position s.history)) i ≡ Some (cut_of_line line) =
         ap (λ cuts. slice_get cuts i) (sym pool.pooled) ∙ (slice_get-map cut_of_line lines i ∙ ap (option_map cut_of_line) one) in
-        let whole : cuts_of (take pool.position h) ++ cuts_of (drop pool.position h) ≡ cuts_of h = sym (cuts_both (take pool.position h) (drop pool.position h)) ∙ ap cuts_of (take-append-drop pool.position h) in
-        subst (IsSpotIn h (cut_of_line line)) is (subst (λ cs. slice_get cs i ≡ Some (cut_of_line line)) whole (get_front (cuts_of (take pool.position h)) (cuts_of (drop pool.position h)) i (cut_of_line line) at));
+        let whole : cuts_of (take pool.position s.history) ++ cuts_of (drop pool.position s.history) ≡ cuts_of s.history = sym (cuts_both (take pool.position s.history) (drop pool.position s.history)) ∙ ap cuts_of (take-append-drop pool.position s.history) in
+        subst (IsSpotIn s.history (cut_of_line line)) is (subst (λ cs. slice_get cs i ≡ Some (cut_of_line line)) whole (get_front (cuts_of (take pool.position s.history)) (cuts_of (drop pool.position s.history)) i (cut_of_line line) at));
   };
 }

@@ -13,6 +13,7 @@ use Rattle.simplex_law.specs.Terms.{ColumnOf}
 use Rattle.master_law.specs.Terms.{IsLeastShare, IsCutColumn, IsMasterColumn}
 use Rattle.plan_law.specs.WorkedLists.{HasCut, IsFoundCut, IsRound, IsWorkedList, Lacks, Round}
 use Rattle.plan_law.proofs.Rounds.{worked_on}
+use Rattle.turn_lock.specs.Passes.{Seen}
 use Rattle.separator.specs.Separators.{IsLineAt, IsCutEntry, IsFullHistory, IsPartOf, IsSeenHistory, IsSeparatingCut, IsSpotIn, SeesMore, SeparatesAt, cuts_since}
 use Rattle.separator.proofs.Answering.{line_is}
 use Rattle.plan_rounds.specs.inner.Alone.{HasSameCuts, IsAlone, IsPoolOfList, PoolsOpening, Within}
@@ -39,26 +40,26 @@ drop_front : {X : Type 0} (xs ys : List X) → drop (length xs) (xs ++ ys) ≡ y
 drop_front [] ys = refl
 drop_front (x ∷ xs) ys = drop_front xs ys
 
-module _ (h o h1 o1 : List Entry) (part : IsPartOf o h) (more : SeesMore h o h1 o1) (alone : IsAlone h1 o1) where
-  long : length h + length more.further ≡ length o + length more.committed
+module _ (old now : Seen Entry) (part : IsPartOf old.own old.history) (more : SeesMore old now) (alone : IsAlone now) where
+  long : length old.history + length more.further ≡ length old.own + length more.committed
   long =
       let same = ap length (sym more.seen ∙ (alone.same ∙ more.own_is)) in
-      omega (arith, same, length-append h more.further, length-append o more.committed)
+      omega (arith, same, length-append old.history more.further, length-append old.own more.committed)
 
   -- all entries were its own before
-  pub alone_before : IsAlone h o
+  pub alone_before : IsAlone old
   alone_before = record {
-    same = let few = part_few more.committed more.further more.among in sym (part_whole o h part (omega (arith, long, few)));
-    pooled = front_all IsCutEntry h more.further (subst (All IsCutEntry) more.seen alone.pooled);
+    same = let few = part_few more.committed more.further more.among in sym (part_whole old.own old.history part (omega (arith, long, few)));
+    pooled = front_all IsCutEntry old.history more.further (subst (All IsCutEntry) more.seen alone.pooled);
   }
 
   -- what it has committed is all that it has seen since
-  pub alone_since : cuts_of h1 ≡ cuts_of h ++ cuts_since o o1
+  pub alone_since : cuts_of now.history ≡ cuts_of old.history ++ cuts_since old now
   alone_since =
-      let few = part_few o h part in
+      let few = part_few old.own old.history part in
       let all : more.committed ≡ more.further = part_whole more.committed more.further more.among (omega (arith, long, few)) in
-      let since : cuts_since o o1 ≡ cuts_of more.further = ap (λ es. cuts_of (drop (length o) es)) more.own_is ∙ (ap cuts_of (drop_front o more.committed) ∙ ap cuts_of all) in
-      ap cuts_of more.seen ∙ (cuts_both h more.further ∙ ap (λ cs. cuts_of h ++ cs) (sym since))
+      let since : cuts_since old now ≡ cuts_of more.further = ap (λ es. cuts_of (drop (length old.own) es)) more.own_is ∙ (ap cuts_of (drop_front old.own more.committed) ∙ ap cuts_of all) in
+      ap cuts_of more.seen ∙ (cuts_both old.history more.further ∙ ap (λ cs. cuts_of old.history ++ cs) (sym since))
 
 -- as many entries as cuts
 pub all_cuts : (h : List Entry) → All IsCutEntry h → length h ≡ length (cuts_of h)
@@ -66,8 +67,8 @@ all_cuts [] all = refl
 all_cuts (Edited caller edit reply ∷ es) all = absurd (All-head IsCutEntry (Edited caller edit reply) es all)
 all_cuts (Pooled index state lengths ∷ es) all = ap suc (all_cuts es (All-tail IsCutEntry (Pooled index state lengths) es all))
 
-pub seen_differ : (net : Network) (states : States) (h own : List Entry) → IsSeenHistory net states h own → AllPairs (λ a b. a ≢ b) (cuts_of h)
-seen_differ net states h own seen = subst (λ es. AllPairs (λ a b. a ≢ b) (cuts_of es)) (take-length h) (cuts_differ (case net states []) h seen.legal (length h))
+pub seen_differ : (net : Network) (states : States) (s : Seen Entry) → IsSeenHistory net states s → AllPairs (λ a b. a ≢ b) (cuts_of s.history)
+seen_differ net states s seen = subst (λ es. AllPairs (λ a b. a ≢ b) (cuts_of es)) (take-length s.history) (cuts_differ (case net states []) s.history seen.legal (length s.history))
 
 -- ---- opening cuts
 
@@ -85,35 +86,35 @@ none_more xs cut different at =
     different at.0 (length xs + 0) cut (omega (arith, at.1)) (omega (arith, length-append xs (cut ∷ [])))
     (get_or_append_left xs (cut ∷ []) cut at.0 at.1 ∙ (at.2 ∙ sym (get_or-append-add xs (cut ∷ []) 0 cut)))
 
-module _ (net : Network) (states : States) (h o h1 o1 : List Entry) (cut : ℕ × List ℕ) (spot : Spot) (lines : List CutLine) (part : IsPartOf o h) (more : SeesMore h o h1 o1)
-    (seen : IsSeenHistory net states h1 o1) (only : All (λ c. c ≡ cut) (cuts_since o o1)) (at : IsSpotIn h1 cut spot) (alone : IsAlone h1 o1) (few : length lines ≤ 4000) (same : cuts_of h ≡ map cut_of_line lines) where
-  either : (cuts_since o o1 ≡ []) ⊎ (cuts_since o o1 ≡ cut ∷ [])
-  either = one_more (cuts_of h) (cuts_since o o1) cut (subst (AllPairs (λ a b. a ≢ b)) (alone_since h o h1 o1 part more alone) (seen_differ net states h1 o1 seen)) only
+module _ (net : Network) (states : States) (old now : Seen Entry) (cut : ℕ × List ℕ) (spot : Spot) (lines : List CutLine) (part : IsPartOf old.own old.history) (more : SeesMore old now)
+    (seen : IsSeenHistory net states now) (only : All (λ c. c ≡ cut) (cuts_since old now)) (at : IsSpotIn now.history cut spot) (alone : IsAlone now) (few : length lines ≤ 4000) (same : cuts_of old.history ≡ map cut_of_line lines) where
+  either : (cuts_since old now ≡ []) ⊎ (cuts_since old now ≡ cut ∷ [])
+  either = one_more (cuts_of old.history) (cuts_since old now) cut (subst (AllPairs (λ a b. a ≢ b)) (alone_since old now part more alone) (seen_differ net states now seen)) only
 
-  now_is : (cs : List (ℕ × List ℕ)) → cuts_since o o1 ≡ cs → cuts_of h1 ≡ cuts_of h ++ cs
-  now_is cs e = alone_since h o h1 o1 part more alone ∙ ap (λ xs. cuts_of h ++ xs) e
+  now_is : (cs : List (ℕ × List ℕ)) → cuts_since old now ≡ cs → cuts_of now.history ≡ cuts_of old.history ++ cs
+  now_is cs e = alone_since old now part more alone ∙ ap (λ xs. cuts_of old.history ++ xs) e
 
-  pub stood_before : Contains (cuts_of h) cut → cuts_of h1 ≡ cuts_of h
+  pub stood_before : Contains (cuts_of old.history) cut → cuts_of now.history ≡ cuts_of old.history
   stood_before known = ⊎_elim
-      (λ none. now_is [] none ∙ append-nil (cuts_of h))
-      (λ one. absurd (none_more (cuts_of h) cut (subst (AllPairs (λ a b. a ≢ b)) (now_is (cut ∷ []) one) (seen_differ net states h1 o1 seen)) known))
+      (λ none. now_is [] none ∙ append-nil (cuts_of old.history))
+      (λ one. absurd (none_more (cuts_of old.history) cut (subst (AllPairs (λ a b. a ≢ b)) (now_is (cut ∷ []) one) (seen_differ net states now seen)) known))
       either
 
-  not_full : cuts_since o o1 ≡ [] → IsFullHistory h1 → ⊥
+  not_full : cuts_since old now ≡ [] → IsFullHistory now.history → ⊥
   not_full none full =
-      let count : length (cuts_of h1) ≡ length lines = ap length (now_is [] none ∙ (append-nil (cuts_of h) ∙ same)) ∙ length-map lines cut_of_line in
+      let count : length (cuts_of now.history) ≡ length lines = ap length (now_is [] none ∙ (append-nil (cuts_of old.history) ∙ same)) ∙ length-map lines cut_of_line in
       ⊎_elim
       (λ cuts. omega (arith, cuts, count, few))
-      (λ entries. omega (arith, entries, all_cuts h1 alone.pooled, count, few))
+      (λ entries. omega (arith, entries, all_cuts now.history alone.pooled, count, few))
       full
 
-  stands_now : (s : Spot) → IsSpotIn h1 cut s → cuts_since o o1 ≡ [] → Contains (cuts_of h1) cut
-  stands_now (Pool i) here none = (i, slice_get_within (cuts_of h1) i cut here, get_or_from_slice_get (cuts_of h1) i cut cut here)
+  stands_now : (s : Spot) → IsSpotIn now.history cut s → cuts_since old now ≡ [] → Contains (cuts_of now.history) cut
+  stands_now (Pool i) here none = (i, slice_get_within (cuts_of now.history) i cut here, get_or_from_slice_get (cuts_of now.history) i cut cut here)
   stands_now Local here none = absurd (not_full none here.0)
 
-  pub stands_new : (Contains (cuts_of h) cut → ⊥) → cuts_of h1 ≡ cuts_of h ++ cut ∷ []
+  pub stands_new : (Contains (cuts_of old.history) cut → ⊥) → cuts_of now.history ≡ cuts_of old.history ++ cut ∷ []
   stands_new unknown = ⊎_elim
-      (λ none. absurd (unknown (subst (λ xs. Contains xs cut) (now_is [] none ∙ append-nil (cuts_of h)) (stands_now spot at none))))
+      (λ none. absurd (unknown (subst (λ xs. Contains xs cut) (now_is [] none ∙ append-nil (cuts_of old.history)) (stands_now spot at none))))
       (λ one. now_is (cut ∷ []) one)
       either
 
@@ -244,9 +245,9 @@ pool_round p pairs caps pool lines share cuts old least found separates differen
 -- ---- opening cuts that come to the list
 
 -- a cut that is admitted is pooled where it comes to the list
-pub opening_taken : (net : Network) (states : States) (h o h1 o1 : List Entry) (cut : Cut) (demands : List Demand) (line : CutLine) (spot : Spot) (old new : Candidates) → IsPartOf o h → SeesMore h o h1 o1 → IsSeenHistory net states h1 o1
-    → All (λ c. c ≡ (cut.state.0, cut.lengths)) (cuts_since o o1) → IsSpotIn h1 (cut.state.0, cut.lengths) spot → IsLineAt demands cut line → PutsLine line spot old new → PoolsOpening h h1 o1 old.lines new.lines
-opening_taken net states h o h1 o1 cut demands line spot old new part more seen only at is puts = record { grows = grows; pools = pools }
+pub opening_taken : (net : Network) (states : States) (before now : Seen Entry) (cut : Cut) (demands : List Demand) (line : CutLine) (spot : Spot) (old new : Candidates) → IsPartOf before.own before.history → SeesMore before now → IsSeenHistory net states now
+    → All (λ c. c ≡ (cut.state.0, cut.lengths)) (cuts_since before now) → IsSpotIn now.history (cut.state.0, cut.lengths) spot → IsLineAt demands cut line → PutsLine line spot old new → PoolsOpening before now old.lines new.lines
+opening_taken net states before now cut demands line spot old new part more seen only at is puts = record { grows = grows; pools = pools }
   where
     grows : length old.lines ≤ length new.lines
     grows = ⊎_elim
@@ -254,31 +255,31 @@ opening_taken net states h o h1 o1 cut demands line spot old new part more seen 
         (λ lacks. let same = ap (λ (x : Candidates). length x.lines) lacks.1 in omega (arith, same, length-append old.lines (line ∷ [])))
         puts
 
-    pools : IsAlone h1 o1 → length new.lines ≤ 4000 → cuts_of h ≡ map cut_of_line old.lines → cuts_of h1 ≡ map cut_of_line new.lines
+    pools : IsAlone now → length new.lines ≤ 4000 → cuts_of before.history ≡ map cut_of_line old.lines → cuts_of now.history ≡ map cut_of_line new.lines
     pools alone few same = ⊎_elim
         (λ known.
         let lines : new.lines ≡ old.lines = ap (λ (x : Candidates). x.lines) known.1 in
         let few_old : length old.lines ≤ 4000 = subst (λ ls. length ls ≤ 4000) lines few in
-        let stood : Contains (cuts_of h) (cut.state.0, cut.lengths) = subst (λ xs. Contains xs (cut.state.0, cut.lengths)) (sym same) (subst (Contains (map cut_of_line old.lines)) (line_is demands cut line is) (among_cuts old.lines line known.0)) in
-        stood_before net states h o h1 o1 (cut.state.0, cut.lengths) spot old.lines part more seen only at alone few_old same stood ∙ (same ∙ ap (map cut_of_line) (sym lines)))
+        let stood : Contains (cuts_of before.history) (cut.state.0, cut.lengths) = subst (λ xs. Contains xs (cut.state.0, cut.lengths)) (sym same) (subst (Contains (map cut_of_line old.lines)) (line_is demands cut line is) (among_cuts old.lines line known.0)) in
+        stood_before net states before now (cut.state.0, cut.lengths) spot old.lines part more seen only at alone few_old same stood ∙ (same ∙ ap (map cut_of_line) (sym lines)))
         (λ lacks.
         let lines : new.lines ≡ old.lines ++ line ∷ [] = ap (λ (x : Candidates). x.lines) lacks.1 in
         let few_old : length old.lines ≤ 4000 = let long = ap length lines in omega (arith, few, long, length-append old.lines (line ∷ [])) in
-        let unknown : Contains (cuts_of h) (cut.state.0, cut.lengths) → ⊥ = λ has. not_among old.lines line lacks.0 (subst (Contains (map cut_of_line old.lines)) (sym (line_is demands cut line is)) (subst (λ xs. Contains xs (cut.state.0, cut.lengths)) same has)) in
-        stands_new net states h o h1 o1 (cut.state.0, cut.lengths) spot old.lines part more seen only at alone few_old same unknown
+        let unknown : Contains (cuts_of before.history) (cut.state.0, cut.lengths) → ⊥ = λ has. not_among old.lines line lacks.0 (subst (Contains (map cut_of_line old.lines)) (sym (line_is demands cut line is)) (subst (λ xs. Contains xs (cut.state.0, cut.lengths)) same has)) in
+        stands_new net states before now (cut.state.0, cut.lengths) spot old.lines part more seen only at alone few_old same unknown
         ∙ (ap (λ xs. xs ++ (cut.state.0, cut.lengths) ∷ []) same
         ∙ (ap (λ x. map cut_of_line old.lines ++ x ∷ []) (sym (line_is demands cut line is))
         ∙ (sym (map-append cut_of_line old.lines (line ∷ [])) ∙ ap (map cut_of_line) (sym lines)))))
         puts
 
-pub pools_none : (h o : List Entry) (lines : List CutLine) → PoolsOpening h h o lines lines
-pools_none h o lines = record { grows = omega arith; pools = λ alone few same. same }
+pub pools_none : (seen : Seen Entry) (lines : List CutLine) → PoolsOpening seen seen lines lines
+pools_none seen lines = record { grows = omega arith; pools = λ alone few same. same }
 
 -- one after another
-pub pools_both : (h0 h o h1 o1 : List Entry) (lines0 lines lines1 : List CutLine) → IsPartOf o h → SeesMore h o h1 o1 → PoolsOpening h0 h o lines0 lines → PoolsOpening h h1 o1 lines lines1 → PoolsOpening h0 h1 o1 lines0 lines1
-pools_both h0 h o h1 o1 lines0 lines lines1 part more first second = record {
+pub pools_both : (s0 s s1 : Seen Entry) (lines0 lines lines1 : List CutLine) → IsPartOf s.own s.history → SeesMore s s1 → PoolsOpening s0 s lines0 lines → PoolsOpening s s1 lines lines1 → PoolsOpening s0 s1 lines0 lines1
+pools_both s0 s s1 lines0 lines lines1 part more first second = record {
   grows = omega (arith, first.grows, second.grows);
-  pools = λ alone few same. second.pools alone few (first.pools (alone_before h o h1 o1 part more alone) (omega (arith, few, second.grows)) same);
+  pools = λ alone few same. second.pools alone few (first.pools (alone_before s s1 part more alone) (omega (arith, few, second.grows)) same);
 }
 
 -- ---- pigeonholes

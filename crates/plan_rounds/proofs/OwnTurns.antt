@@ -13,6 +13,7 @@ use Rattle.master_bound.specs.declared.answer.Best.{Best}
 use Rattle.plan_law.specs.WorkedLists.{AreDifferentCuts, IsBeginning}
 use Rattle.plan_law.proofs.Pairs.{pairs_append}
 use Rattle.plan_law.proofs.Rounds.{begun_worked, found_is_new, worked_cuts}
+use Rattle.turn_lock.specs.Passes.{Seen}
 use Rattle.separator.specs.Separators.{IsCutEntry, IsFullHistory, IsPartOf, IsSeenHistory, IsSeparatingCut, IsSpotIn, SeesMore, SeparatesAt, cuts_since}
 use Rattle.plan_rounds.specs.WorkedRounds.{IsBestAt, IsPoolOf, IsWorkedPool}
 use Rattle.plan_rounds.specs.inner.Alone.{HasSameCuts, IsAlone, IsPoolAfterTurn, IsPoolOfList}
@@ -63,20 +64,20 @@ pairs_differ lines different i j d ij lj same =
     let state : (get_or lines i none).state.0 ≡ (get_or lines j none).state.0 = ap (λ x. x.0) pair in
     different i j none ij inside (ap (λ n. record { 0 = n }) state, ap (λ x. x.1) pair)
 
-module _ (p : Case) (pairs : List UnitPair) (units : AreUnitPairs p.links pairs) (net : Network) (states : States) (h o h1 o1 : List Entry) (part : IsPartOf o h) (more : SeesMore h o h1 o1) (seen : IsSeenHistory net states h1 o1) (alone : IsAlone h1 o1)
+module _ (p : Case) (pairs : List UnitPair) (units : AreUnitPairs p.links pairs) (net : Network) (states : States) (past now : Seen Entry) (part : IsPartOf past.own past.history) (more : SeesMore past now) (seen : IsSeenHistory net states now) (alone : IsAlone now)
     (best : Best) (c : ShareCaps) (a : Answered) (old : Candidates) (answered : List (ℕ × List ℕ)) (n : ℕ) (at : IsBestAt p pairs old.lines best) (is : IsDividedShare p.links pairs best.share c)
-    (separates : All (SeparatesAt p c.divided) (cuts_since o o1)) (apart : AllPairs (λ x y. x.0 ≢ y.0) (cuts_since o o1)) (inside : All (Contains answered) (cuts_since o o1)) (found_is : map cut_of_line a.found.lines ≡ answered)
-    (sorted : AreSorted p c.divided h1 n a) (listed : AreListed p h old) (pool : IsPoolOfList p pairs (cuts_of h) old.lines) where
+    (separates : All (SeparatesAt p c.divided) (cuts_since past now)) (apart : AllPairs (λ x y. x.0 ≢ y.0) (cuts_since past now)) (inside : All (Contains answered) (cuts_since past now)) (found_is : map cut_of_line a.found.lines ≡ answered)
+    (sorted : AreSorted p c.divided now.history n a) (listed : AreListed p past.history old) (pool : IsPoolOfList p pairs (cuts_of past.history) old.lines) where
   abbrev cs : List (ℕ × List ℕ)
-  cs = cuts_since o o1
+  cs = cuts_since past now
 
-  since : cuts_of h1 ≡ cuts_of h ++ cuts_since o o1
-  since = alone_since h o h1 o1 part more alone
+  since : cuts_of now.history ≡ cuts_of past.history ++ cuts_since past now
+  since = alone_since past now part more alone
 
-  round : IsRoundOfPool p pairs pool.made (cuts_of h) (cuts_since o o1)
-  round = pool_round p pairs c.divided (cuts_of h) old.lines best.share (cuts_since o o1) pool at.least (λ line cut. found_of p pairs best.share c line is cut) separates apart (subst (λ xs. length xs ≤ 4096) since seen.few_cuts)
+  round : IsRoundOfPool p pairs pool.made (cuts_of past.history) (cuts_since past now)
+  round = pool_round p pairs c.divided (cuts_of past.history) old.lines best.share (cuts_since past now) pool at.least (λ line cut. found_of p pairs best.share c line is cut) separates apart (subst (λ xs. length xs ≤ 4096) since seen.few_cuts)
 
-  worked : IsWorkedPool p h1
+  worked : IsWorkedPool p now.history
   worked = record { pairs = pairs; rounds = round.rounds; lines = round.made; list = round.list; pooled = round.pooled ∙ sym since }
 
   made_cuts : All (IsCut p) round.made
@@ -90,40 +91,40 @@ module _ (p : Case) (pairs : List UnitPair) (units : AreUnitPairs p.links pairs)
       (λ i j d ij lj same. sorted.states i j d ij lj same.0)
       (λ i j d li lj same. found_is_new p pairs units old.lines best.share (get_or a.found.lines j d) (get_or old.lines i d) at.least (found_of p pairs best.share c (get_or a.found.lines j d) is (sorted.cuts j d lj)) (Contains-get_or old.lines i d li) (listed.cuts i d li) same)
 
-  module _ (room : length (cuts_of h1) ≢ 4096) (same : HasSameCuts old.lines pool.made) where
-    open_history : IsFullHistory h1 → ⊥
-    open_history full = ⊎_elim room (λ entries. let count = all_cuts h1 alone.pooled in let few = seen.few_cuts in omega (arith, entries, count, few)) full
+  module _ (room : length (cuts_of now.history) ≢ 4096) (same : HasSameCuts old.lines pool.made) where
+    open_history : IsFullHistory now.history → ⊥
+    open_history full = ⊎_elim room (λ entries. let count = all_cuts now.history alone.pooled in let few = seen.few_cuts in omega (arith, entries, count, few)) full
 
-    stands : (cut : ℕ × List ℕ) (spot : Spot) → IsSpotIn h1 cut spot → Contains (cuts_of h1) cut
-    stands cut (Pool i) here = (i, slice_get_within (cuts_of h1) i cut here, get_or_from_slice_get (cuts_of h1) i cut cut here)
+    stands : (cut : ℕ × List ℕ) (spot : Spot) → IsSpotIn now.history cut spot → Contains (cuts_of now.history) cut
+    stands cut (Pool i) here = (i, slice_get_within (cuts_of now.history) i cut here, get_or_from_slice_get (cuts_of now.history) i cut cut here)
     stands cut Local here = absurd (open_history here.0)
 
-    found_stands : All (λ line. Contains (cuts_of h1) (cut_of_line line)) a.found.lines
+    found_stands : All (λ line. Contains (cuts_of now.history) (cut_of_line line)) a.found.lines
     found_stands k d lt =
         let count = sorted.spots.count in
         let spot : Spot = get_or a.found.spots k Local in
         stands (cut_of_line (get_or a.found.lines k d)) spot (sorted.spots.each k (get_or a.found.lines k d) spot (slice_get-get_or a.found.lines k d lt) (slice_get-get_or a.found.spots k Local (omega (arith, lt, count))))
 
-    of_made : (line : CutLine) → IsCut p line → Contains (cuts_of h1) (cut_of_line line) → Contains round.made line
+    of_made : (line : CutLine) → IsCut p line → Contains (cuts_of now.history) (cut_of_line line) → Contains round.made line
     of_made line cut here =
         let found = line_of_cut round.made (cut_of_line line) (subst (λ xs. Contains xs (cut_of_line line)) (since ∙ sym round.pooled) here) in
         subst (Contains round.made) (line_once p found.0 line (All-contains (IsCut p) round.made found.0 made_cuts found.1) cut found.2) found.1
 
-    old_stands : All (λ line. Contains (cuts_of h1) (cut_of_line line)) old.lines
+    old_stands : All (λ line. Contains (cuts_of now.history) (cut_of_line line)) old.lines
     old_stands k d lt =
         let line : CutLine = get_or old.lines k d in
         let held : Contains round.made line = subst (λ xs. Contains xs line) (sym round.following) (Contains-append_left pool.made round.found line (same.to line (Contains-get_or old.lines k d lt))) in
         subst (λ xs. Contains xs (cut_of_line line)) (round.pooled ∙ sym since) (cut_among round.made line held)
 
-    few_both : length old.lines + length a.found.lines ≤ length (cuts_of h1)
+    few_both : length old.lines + length a.found.lines ≤ length (cuts_of now.history)
     few_both =
-        let most = few_within (map cut_of_line (old.lines ++ a.found.lines)) (cuts_of h1) (pairs_differ (old.lines ++ a.found.lines) both_differ)
-        (All-map (Contains (cuts_of h1)) cut_of_line (old.lines ++ a.found.lines) (All-append (λ line. Contains (cuts_of h1) (cut_of_line line)) old.lines a.found.lines old_stands found_stands)) in
+        let most = few_within (map cut_of_line (old.lines ++ a.found.lines)) (cuts_of now.history) (pairs_differ (old.lines ++ a.found.lines) both_differ)
+        (All-map (Contains (cuts_of now.history)) cut_of_line (old.lines ++ a.found.lines) (All-append (λ line. Contains (cuts_of now.history) (cut_of_line line)) old.lines a.found.lines old_stands found_stands)) in
         omega (arith, most, length-map (old.lines ++ a.found.lines) cut_of_line, length-append old.lines a.found.lines)
 
-    few_since : length (cuts_since o o1) ≤ length a.found.lines
+    few_since : length (cuts_since past now) ≤ length a.found.lines
     few_since =
-        let most = few_within (cuts_since o o1) answered (λ i j d ij lj e. apart i j d ij lj (ap (λ x. x.0) e)) inside in
+        let most = few_within (cuts_since past now) answered (λ i j d ij lj e. apart i j d ij lj (ap (λ x. x.0) e)) inside in
         let long = ap length found_is in
         omega (arith, most, long, length-map a.found.lines cut_of_line)
 
@@ -140,45 +141,45 @@ module _ (p : Case) (pairs : List UnitPair) (units : AreUnitPairs p.links pairs)
           let are = ap length round.are in
           let before = ap length pool.pooled in
           let count = same.count in
-          omega (arith, one, two, all, following, are, before, count, length-append old.lines a.found.lines, length-append (cuts_of h) (cuts_since o o1), length-append pool.made round.found, length-map round.found cut_of_line, length-map pool.made cut_of_line);
+          omega (arith, one, two, all, following, are, before, count, length-append old.lines a.found.lines, length-append (cuts_of past.history) (cuts_since past now), length-append pool.made round.found, length-map round.found cut_of_line, length-map pool.made cut_of_line);
       to = λ line here. ⊎_elim
           (λ first. subst (λ xs. Contains xs line) (sym round.following) (Contains-append_left pool.made round.found line (same.to line first)))
-          (λ second. of_made line (All-contains (IsCut p) a.found.lines line found_cuts second) (All-contains (λ x. Contains (cuts_of h1) (cut_of_line x)) a.found.lines line found_stands second))
+          (λ second. of_made line (All-contains (IsCut p) a.found.lines line found_cuts second) (All-contains (λ x. Contains (cuts_of now.history) (cut_of_line x)) a.found.lines line found_stands second))
           (Contains-append_cases old.lines a.found.lines line here);
       back = λ line here. ⊎_elim
           (λ first. Contains-append_left old.lines a.found.lines line (same.back line first))
           (λ second.
-          let of : Contains (cuts_since o o1) (cut_of_line line) = subst (λ xs. Contains xs (cut_of_line line)) round.are (cut_among round.found line second) in
-          let told : Contains (map cut_of_line a.found.lines) (cut_of_line line) = subst (λ xs. Contains xs (cut_of_line line)) (sym found_is) (All-contains (Contains answered) (cuts_since o o1) (cut_of_line line) inside of) in
+          let of : Contains (cuts_since past now) (cut_of_line line) = subst (λ xs. Contains xs (cut_of_line line)) round.are (cut_among round.found line second) in
+          let told : Contains (map cut_of_line a.found.lines) (cut_of_line line) = subst (λ xs. Contains xs (cut_of_line line)) (sym found_is) (All-contains (Contains answered) (cuts_since past now) (cut_of_line line) inside of) in
           let found = line_of_cut a.found.lines (cut_of_line line) told in
           let once = line_once p found.0 line (All-contains (IsCut p) a.found.lines found.0 found_cuts found.1) (All-contains (IsCut p) round.found line round.are_cuts second) found.2 in
           Contains-append_right old.lines a.found.lines line (subst (Contains a.found.lines) once found.1))
           (Contains-append_cases pool.made round.found line (subst (λ xs. Contains xs line) round.following here));
     }
 
-  same_or_full : (room : ℕ) (new : Candidates) → length old.lines + room ≡ 4096 → AddsFirst room a.found old new → HasSameCuts new.lines round.made ⊎ (length (cuts_of h1) ≡ 4096)
+  same_or_full : (room : ℕ) (new : Candidates) → length old.lines + room ≡ 4096 → AddsFirst room a.found old new → HasSameCuts new.lines round.made ⊎ (length (cuts_of now.history) ≡ 4096)
   same_or_full room new full adds = ⊎_elim
-      (λ (is_full : length (cuts_of h1) ≡ 4096). inr is_full)
-      (λ (left : length (cuts_of h1) ≢ 4096). ⊎_elim
+      (λ (is_full : length (cuts_of now.history) ≡ 4096). inr is_full)
+      (λ (left : length (cuts_of now.history) ≢ 4096). ⊎_elim
       (λ (same : HasSameCuts old.lines pool.made).
       inl (subst (λ ls. HasSameCuts ls round.made) (sym (adds.lines ∙ ap (λ ls. old.lines ++ ls) (all_found left same room full))) (same_after left same)))
-      (λ (before : length (cuts_of h) ≡ 4096).
-      absurd (left (let all = ap length since in let few = seen.few_cuts in omega (arith, all, few, before, length-append (cuts_of h) (cuts_since o o1)))))
+      (λ (before : length (cuts_of past.history) ≡ 4096).
+      absurd (left (let all = ap length since in let few = seen.few_cuts in omega (arith, all, few, before, length-append (cuts_of past.history) (cuts_since past now)))))
       pool.same)
-      (cases_eq (length (cuts_of h1)) 4096)
+      (cases_eq (length (cuts_of now.history)) 4096)
 
-  pub judged_pool : (room : ℕ) (new : Candidates) (turn : Turn) → length old.lines + room ≡ 4096 → Judges p room c.whole a best old new turn → IsPoolAfterTurn p pairs h1 new.lines turn
+  pub judged_pool : (room : ℕ) (new : Candidates) (turn : Turn) → length old.lines + room ≡ 4096 → Judges p room c.whole a best old new turn → IsPoolAfterTurn p pairs now.history new.lines turn
   judged_pool room new turn full judges = ⊎_elim
-      (λ end. subst (IsPoolAfterTurn p pairs h1 new.lines) (sym end.3) ∣ worked ∣₁)
+      (λ end. subst (IsPoolAfterTurn p pairs now.history new.lines) (sym end.3) ∣ worked ∣₁)
       (⊎_elim
-      (λ further. subst (IsPoolAfterTurn p pairs h1 new.lines) (sym further.3) ∣ record {
+      (λ further. subst (IsPoolAfterTurn p pairs now.history new.lines) (sym further.3) ∣ record {
         rounds = round.rounds;
         made = round.made;
         list = round.list;
         pooled = round.pooled ∙ sym since;
         same = same_or_full room new full further.2;
       } ∣₁)
-      (λ end. subst (IsPoolAfterTurn p pairs h1 new.lines) (sym end.2.1) ∣ worked ∣₁))
+      (λ end. subst (IsPoolAfterTurn p pairs now.history new.lines) (sym end.2.1) ∣ worked ∣₁))
       judges
 
 -- what is told of a turn's pool, known once
@@ -202,9 +203,14 @@ pub pool_worked : (p : Case) (pairs : List UnitPair) (h : List Entry) (lines : L
 pool_worked p pairs h lines pool = record { pairs = pairs; rounds = pool.rounds; lines = pool.made; list = pool.list; pooled = pool.pooled }
 
 -- a separator whose history was empty, and is its own, is alone
-pub alone_from_none : (o h1 o1 : List Entry) → IsPartOf o [] → SeesMore [] o h1 o1 → h1 ≡ o1 → IsAlone h1 o1
-alone_from_none [] h1 o1 part more same = record { same = same; pooled = subst (All IsCutEntry) (sym (same ∙ more.own_is)) more.pooled }
-alone_from_none (e ∷ es) h1 o1 part more same = absurd part
+pub alone_from_none : (old now : Seen Entry) → old.own ≡ [] → SeesMore old now → now.history ≡ now.own → IsAlone now
+alone_from_none old now none more same = record { same = same; pooled = subst (All IsCutEntry) (sym (same ∙ (more.own_is ∙ ap (λ es. es ++ more.committed) none))) more.pooled }
+
+-- a part of nothing is nothing
+pub part_none : {X : Type 0} (xs ys : List X) → ys ≡ [] → IsPartOf xs ys → xs ≡ []
+part_none [] ys none part = refl
+part_none (x ∷ xs) [] none part = absurd part
+part_none (x ∷ xs) (y ∷ ys) none part = absurd (let e : y ∷ ys ≡ [] = none in cc e)
 
 -- no cuts are pooled before the first entry
 pub pool_none : (p : Case) (pool : List CutLine) → IsPoolOf p [] pool → pool ≡ []

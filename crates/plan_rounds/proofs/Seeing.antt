@@ -1,11 +1,12 @@
 -- histories that a separator has seen, as they grow, and where cuts stand in them
-use Rattle.std.proofs.Common.{◌≡◌, ◌≢◌, ℕ, zero, suc, ◌<◌, ⊎_elim, List, [], ◌∷◌, ◌++◌, AllPairs, Some, length, take, slice_get, refl, sym, subst, ◌∙◌, arith}
+use Rattle.std.proofs.Common.{◌≡◌, ◌≢◌, ℕ, zero, suc, ◌<◌, ◌≤◌, ⊎_elim, List, [], ◌∷◌, ◌++◌, AllPairs, Some, length, take, slice_get, refl, sym, subst, ◌∙◌, arith}
 use Rattle.std.proofs.lemmas.List.{append_assoc, append-nil, length-append}
 use Rattle.net_core.proofs.Library.{all_pairs_push}
-use Rattle.plan_terms.specs.Terms.{Entry, Edited, Pooled, Network, CutLine, States, Case}
+use Rattle.plan_terms.specs.Terms.{Entry, Edited, Pooled, CutLine, Case}
 use Rattle.plan_types.specs.declared.certificate.Spot.{Spot}
 use Rattle.cut_pool.specs.Terms.{IsLegalAfter, cut_of_line, cuts_of}
-use Rattle.separator.specs.Separators.{IsCutEntry, IsSeenHistory, IsSpotIn}
+use Rattle.turn_lock.specs.Passes.{Seen}
+use Rattle.separator.specs.Separators.{Frame, IsCutEntry, IsSpotIn}
 use Rattle.separator.proofs.Pooling.{cuts_both}
 use Rattle.separator.proofs.Seeing.{get_more, sees_both, sees_none, spot_later}
 use Rattle.plan_rounds.specs.WorkedRounds.{StandAtSpots}
@@ -13,24 +14,18 @@ use Rattle.plan_rounds.specs.inner.Listing.{GoesOn}
 
 -- ---- some more entries
 
-pub goes_none : {M : Type 0} (net : Network) (states : States) (mark : M) (history own : List Entry) → GoesOn net net states states mark mark history own history own
-goes_none net states mark history own = record { network = refl; listed = refl; same_mark = refl; more = sees_none history own }
+pub goes_none : {M : Type 0} (frame : Frame M) (seen : Seen Entry) → GoesOn frame frame seen seen
+goes_none frame seen = record { same = refl; more = sees_none seen }
 
-pub goes_both : {M : Type 0} (n0 n1 n2 : Network) (s0 s1 s2 : States) (m0 m1 m2 : M) (h0 o0 h1 o1 h2 o2 : List Entry)
-    → GoesOn n0 n1 s0 s1 m0 m1 h0 o0 h1 o1 → GoesOn n1 n2 s1 s2 m1 m2 h1 o1 h2 o2 → GoesOn n0 n2 s0 s2 m0 m2 h0 o0 h2 o2
-goes_both n0 n1 n2 s0 s1 s2 m0 m1 m2 h0 o0 h1 o1 h2 o2 a b = record {
-  network = b.network ∙ a.network;
-  listed = b.listed ∙ a.listed;
-  same_mark = b.same_mark ∙ a.same_mark;
-  more = sees_both h0 o0 h1 o1 h2 o2 a.more b.more;
-}
+pub goes_both : {M : Type 0} (f0 f1 f2 : Frame M) (s0 s1 s2 : Seen Entry) → GoesOn f0 f1 s0 s1 → GoesOn f1 f2 s1 s2 → GoesOn f0 f2 s0 s2
+goes_both f0 f1 f2 s0 s1 s2 a b = record { same = b.same ∙ a.same; more = sees_both s0 s1 s2 a.more b.more }
 
 -- ---- what stands, stands later
 
-pub stand_later : (net : Network) (states : States) (h own f : List Entry) (lines : List CutLine) (spots : List Spot) → IsSeenHistory net states (h ++ f) own → StandAtSpots h lines spots → StandAtSpots (h ++ f) lines spots
-stand_later net states h own f lines spots seen s = record {
+pub stand_later : (h f : List Entry) (lines : List CutLine) (spots : List Spot) → length (h ++ f) ≤ 65536 → length (cuts_of (h ++ f)) ≤ 4096 → StandAtSpots h lines spots → StandAtSpots (h ++ f) lines spots
+stand_later h f lines spots few few_cuts s = record {
   count = s.count;
-  each = λ i line spot one two. spot_later h f (cut_of_line line) spot seen.few seen.few_cuts (s.each i line spot one two);
+  each = λ i line spot one two. spot_later h f (cut_of_line line) spot few few_cuts (s.each i line spot one two);
 }
 
 -- one line more

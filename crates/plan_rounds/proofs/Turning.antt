@@ -2,7 +2,7 @@
 use Rattle.std.proofs.Common.{◌≡◌, ℕ, zero, suc, ◌+◌, ◌-◌, ◌*◌, ◌^◌, ◌<◌, ◌≤◌, ◌⊎◌, inl, inr, ⊎_elim, List, [], ◌∷◌, ◌++◌, All, AllPairs, Option, Some, None, get_or, length, min, take, slice_get, refl, sym, ap, subst, ◌∙◌, arith}
 use Rattle.net_core.proofs.Library.{ints, All-append, All-take, All-weaker, Contains-get_or}
 use Rattle.std.proofs.lemmas.List.{length-append, length-take}
-use Rattle.plan_terms.specs.Terms.{Evidence, Route, Master, Entry, Caps, CutLine, Case, graph_in, AreDemands, Joins, IsModule, IsNetwork, IsCut, Carries, Violates}
+use Rattle.plan_terms.specs.Terms.{Evidence, Route, Master, Entry, Caps, CutLine, Case, graph_in, AreDemands, Joins, IsModule, IsNetwork, IsCut, Carries, Violates, HasShortLengths}
 use Rattle.module_prices.specs.declared.cheapest.UnitPair.{UnitPair}
 use Rattle.plan_types.specs.declared.certificate.Spot.{Spot}
 use Rattle.plan_types.specs.declared.quality.Cause.TheVariants.{Wide, Cuts}
@@ -21,7 +21,7 @@ use Rattle.plan_law.proofs.Pairs.{pairs_append}
 use Rattle.plan_law.proofs.Rounds.{begun_worked, found_is_new, short_round, worked_on}
 use Rattle.separator.specs.Separators.{IsSeparatingCut}
 use Rattle.plan_rounds.specs.WorkedRounds.{AreWorkedRounds, EndsBy, IsBestAt, IsBestOfLast, IsCarriedOrWide, StandAtSpots, AreCarriedOrWide}
-use Rattle.plan_rounds.specs.inner.Answered.{AreSorted, HasShort}
+use Rattle.plan_rounds.specs.inner.Answered.{AreSorted}
 use Rattle.plan_rounds.specs.inner.Listing.{AreListed}
 use Rattle.plan_rounds.specs.inner.Sharing.{IsDividedShare, IsQualityAt}
 use Rattle.plan_rounds.specs.inner.Turns.{AddsFirst, IsFurther, IsTurnOf, Judges}
@@ -30,7 +30,7 @@ use Rattle.plan_rounds.specs.declared.rounds.Turn.{Turn}
 use Rattle.plan_rounds.specs.declared.rounds.Turn.TheVariants.{Last}
 use Rattle.plan_rounds.specs.declared.shares.ShareCaps.{ShareCaps}
 use Rattle.plan_rounds.specs.declared.sorting.Answered.{Answered}
-use Rattle.share_covers.proofs.PairsOnce.{links_once}
+use Rattle.master_law.proofs.PairsOnce.{links_once}
 use Rattle.plan_rounds.proofs.Rights.{right_low}
 
 -- a worked list of the pool, and what is known of the best certificate before it
@@ -163,7 +163,7 @@ module _ (p : Case) (pairs : List UnitPair) where
         are_low : All (λ l. l.right < 2 ^ 84) cuts
         are_low k d lt =
             let line = get_or cuts k d in
-            right_low (graph_in p line.state.0) checked few p.demands belong line.lengths (All-take HasShort room a.found.lines sorted.short k d lt) line.right (are_cuts k d lt).right
+            right_low (graph_in p line.state.0) checked few p.demands belong line.lengths (All-take HasShortLengths room a.found.lines sorted.short k d lt) line.right (are_cuts k d lt).right
 
     some_found : 0 < length a.found.lines → (line : CutLine) × IsFoundCut p pairs best.share line
     some_found some = let none : CutLine = record { state = record { 0 = 0 }; lengths = []; right = 0 } in (get_or a.found.lines 0 none, found 0 none some)

@@ -16,6 +16,7 @@ use Rattle.master_bound.specs.Answers.{IsBestOf}
 use Rattle.master_bound.specs.declared.answer.Best.{Best}
 use Rattle.plan_law.specs.TightPlans.{IsProperShare}
 use Rattle.plan_law.specs.WorkedLists.{Round, after_rounds, IsFoundCut, IsWorkedList}
+use Rattle.turn_lock.specs.Passes.{Seen}
 use Rattle.separator.specs.Separators.{IsSpotIn}
 use Rattle.plan_rounds.specs.declared.rounds.Worked.{Worked}
 
@@ -42,7 +43,7 @@ module _ (p : Case) (pairs : List UnitPair) where
       ((r : Routing) × Carries (Joins (graph_in p s)) p.demands (share_caps p.links pairs best.share).scale (share_caps p.links pairs best.share).nums r)
       ⊎ ((basis : List RouteColumn) × (kind : WideKind RouteColumn) × IsRouteEvidence (graph_in p s) p.demands (share_caps p.links pairs best.share) basis kind)
 
-  -- no state is refused for a cut that the share violates
+  -- each state is carried within the share, or a number of it is too wide there
   abbrev pub AreCarriedOrWide : Best → Type 0
   AreCarriedOrWide best = (s : ℕ) → s ≤ length p.listed → IsCarriedOrWide best s
 
@@ -112,3 +113,7 @@ pub record IsWorkedPool (p : Case) (history : List Entry) : Type 0 where
   pub lines : List CutLine
   pub list : IsWorkedList p pairs [] rounds lines
   pub pooled : map cut_of_line lines ≡ cuts_of history
+
+-- where the history was empty, and the separator alone has written it, it pools a worked list
+abbrev pub IsWorkedAlone : Case → (old new : Seen Entry) → Type 0
+IsWorkedAlone p old new = old.history ≡ [] → new.history ≡ new.own → ∥ IsWorkedPool p new.history ∥₁

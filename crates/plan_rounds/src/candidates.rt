@@ -70,14 +70,14 @@ pub fn take_cut<S: Separate>(
     separator: &mut S,
     candidates: &mut Candidates,
 ) -> Result<(), NoMemory>
-    requires network { instance.now.net.now ≡ S.network separator.old }
-    requires states { instance.now.states.now ≡ S.states separator.old }
+    requires network { instance.now.net.now ≡ (S.frame separator.old).network }
+    requires states { instance.now.states.now ≡ (S.frame separator.old).states }
     requires cut { IsCutOf (graph_in (case_of instance.now) cut.state.0) cut }
-    requires listed { ∥ AreListed (case_of instance.now) (S.history separator.old) candidates.old ∥₁ }
-    ensures on { GoesOn (S.network separator.old) (S.network separator.new) (S.states separator.old) (S.states separator.new) (S.mark separator.old) (S.mark separator.new) (S.history separator.old) (S.own separator.old) (S.history separator.new) (S.own separator.new) }
-    ensures listed { OnOk result ∥ AreListed (case_of instance.now) (S.history separator.new) candidates.new ∥₁ }
+    requires listed { ∥ AreListed (case_of instance.now) (S.seen_of separator.old).history candidates.old ∥₁ }
+    ensures on { GoesOn (S.frame separator.old) (S.frame separator.new) (S.seen_of separator.old) (S.seen_of separator.new) }
+    ensures listed { OnOk result ∥ AreListed (case_of instance.now) (S.seen_of separator.new).history candidates.new ∥₁ }
     ensures taken { OnOk result (TakesCut instance.now.demands.now cut candidates.old.lines candidates.new.lines) }
-    ensures alone { OnOk result ∥ PoolsOpening (S.history separator.old) (S.history separator.new) (S.own separator.new) candidates.old.lines candidates.new.lines ∥₁ }
+    ensures alone { OnOk result ∥ PoolsOpening (S.seen_of separator.old) (S.seen_of separator.new) candidates.old.lines candidates.new.lines ∥₁ }
 {
     let line = line_of(&cut, instance.demands)?;
     let spot = separator.admit(cut)?;

@@ -20,14 +20,14 @@ fn take_cuts<S: Separate>(
     separator: &mut S,
     candidates: &mut Candidates,
 ) -> Result<(), NoMemory>
-    requires network { instance.now.net.now ≡ S.network separator.old }
-    requires states { instance.now.states.now ≡ S.states separator.old }
+    requires network { instance.now.net.now ≡ (S.frame separator.old).network }
+    requires states { instance.now.states.now ≡ (S.frame separator.old).states }
     requires cuts { All (λ c. IsCutOf (graph_in (case_of instance.now) c.state.0) c) cuts }
-    requires listed { ∥ AreListed (case_of instance.now) (S.history separator.old) candidates.old ∥₁ }
-    ensures on { GoesOn (S.network separator.old) (S.network separator.new) (S.states separator.old) (S.states separator.new) (S.mark separator.old) (S.mark separator.new) (S.history separator.old) (S.own separator.old) (S.history separator.new) (S.own separator.new) }
-    ensures listed { OnOk result ∥ AreListed (case_of instance.now) (S.history separator.new) candidates.new ∥₁ }
+    requires listed { ∥ AreListed (case_of instance.now) (S.seen_of separator.old).history candidates.old ∥₁ }
+    ensures on { GoesOn (S.frame separator.old) (S.frame separator.new) (S.seen_of separator.old) (S.seen_of separator.new) }
+    ensures listed { OnOk result ∥ AreListed (case_of instance.now) (S.seen_of separator.new).history candidates.new ∥₁ }
     ensures taken { OnOk result (TakesCuts instance.now.demands.now cuts candidates.old.lines candidates.new.lines) }
-    ensures alone { OnOk result ∥ PoolsOpening (S.history separator.old) (S.history separator.new) (S.own separator.new) candidates.old.lines candidates.new.lines ∥₁ }
+    ensures alone { OnOk result ∥ PoolsOpening (S.seen_of separator.old) (S.seen_of separator.new) candidates.old.lines candidates.new.lines ∥₁ }
 {
     let mut left = cuts;
     while left.len() > 0 {
@@ -45,15 +45,16 @@ fn open_state<S: Separate>(
     separator: &mut S,
     candidates: &mut Candidates,
 ) -> Result<(), NoMemory>
-    requires network { instance.now.net.now ≡ S.network separator.old }
-    requires states { instance.now.states.now ≡ S.states separator.old }
+    requires network { instance.now.net.now ≡ (S.frame separator.old).network }
+    requires states { instance.now.states.now ≡ (S.frame separator.old).states }
     requires state { state.0 < length instance.now.states.now.listed + 1 }
-    requires listed { ∥ AreListed (case_of instance.now) (S.history separator.old) candidates.old ∥₁ }
-    ensures on { GoesOn (S.network separator.old) (S.network separator.new) (S.states separator.old) (S.states separator.new) (S.mark separator.old) (S.mark separator.new) (S.history separator.old) (S.own separator.old) (S.history separator.new) (S.own separator.new) }
-    ensures listed { OnOk result ∥ AreListed (case_of instance.now) (S.history separator.new) candidates.new ∥₁ }
-    ensures opened { OnOk result ((pool : Seq CutLine) → IsOpenedTo (case_of instance.now) pool state.0 [] candidates.old.lines → IsOpenedTo (case_of instance.now) pool (state.0 + 1) [] candidates.new.lines) }
+    requires listed { ∥ AreListed (case_of instance.now) (S.seen_of separator.old).history candidates.old ∥₁ }
+    ensures on { GoesOn (S.frame separator.old) (S.frame separator.new) (S.seen_of separator.old) (S.seen_of separator.new) }
+    ensures listed { OnOk result ∥ AreListed (case_of instance.now) (S.seen_of separator.new).history candidates.new ∥₁ }
+    ensures opened { OnOk result ((pool : Seq CutLine) → IsOpenedTo (case_of instance.now) pool state.0 [] candidates.old.lines
+        → IsOpenedTo (case_of instance.now) pool (state.0 + 1) [] candidates.new.lines) }
     ensures few { OnOk result (length candidates.new.lines ≤ length candidates.old.lines + 2) }
-    ensures alone { OnOk result ∥ PoolsOpening (S.history separator.old) (S.history separator.new) (S.own separator.new) candidates.old.lines candidates.new.lines ∥₁ }
+    ensures alone { OnOk result ∥ PoolsOpening (S.seen_of separator.old) (S.seen_of separator.new) candidates.old.lines candidates.new.lines ∥₁ }
 {
     let cuts = opening(alloc, instance.net, instance.states, state)?;
     take_cuts(instance, cuts, separator, candidates)
@@ -66,15 +67,15 @@ pub fn open_states<S: Separate>(
     pool: List<CutLine>,
     separator: &mut S,
 ) -> Result<Candidates, NoMemory>
-    requires network { instance.now.net.now ≡ S.network separator.old }
-    requires states { instance.now.states.now ≡ S.states separator.old }
+    requires network { instance.now.net.now ≡ (S.frame separator.old).network }
+    requires states { instance.now.states.now ≡ (S.frame separator.old).states }
     requires few { length pool ≤ 4096 }
-    requires pool { ∥ IsPoolOf (case_of instance.now) (S.history separator.old) pool ∥₁ }
-    ensures on { GoesOn (S.network separator.old) (S.network separator.new) (S.states separator.old) (S.states separator.new) (S.mark separator.old) (S.mark separator.new) (S.history separator.old) (S.own separator.old) (S.history separator.new) (S.own separator.new) }
-    ensures listed { IfOk result (λ c. ∥ AreListed (case_of instance.now) (S.history separator.new) c ∥₁) }
+    requires pool { ∥ IsPoolOf (case_of instance.now) (S.seen_of separator.old).history pool ∥₁ }
+    ensures on { GoesOn (S.frame separator.old) (S.frame separator.new) (S.seen_of separator.old) (S.seen_of separator.new) }
+    ensures listed { IfOk result (λ c. ∥ AreListed (case_of instance.now) (S.seen_of separator.new).history c ∥₁) }
     ensures begins { IfOk result (λ c. IsBeginning (case_of instance.now) pool c.lines) }
     ensures few { IfOk result (λ c. length c.lines ≤ length pool + 2 * (length instance.now.states.now.listed + 1)) }
-    ensures alone { IfOk result (λ c. ∥ PoolsOpening (S.history separator.old) (S.history separator.new) (S.own separator.new) pool c.lines ∥₁) }
+    ensures alone { IfOk result (λ c. ∥ PoolsOpening (S.seen_of separator.old) (S.seen_of separator.new) pool c.lines ∥₁) }
 {
     let spots = pool_spots(alloc, pool.len())?;
     let mut candidates = Candidates { lines: pool, spots };

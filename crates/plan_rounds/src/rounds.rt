@@ -1,10 +1,10 @@
-ghost use Rattle.std.specs.Prelude.{◌≡◌, [], ◌+◌, ◌≤◌, ◌<◌, ℕ, List as Seq, Option as Maybe, None, IfOk, IfSome, OnOk, length};
+ghost use Rattle.std.specs.Prelude.{◌≡◌, ◌+◌, ◌≤◌, ◌<◌, ℕ, List as Seq, Option as Maybe, None, IfOk, IfSome, OnOk, length};
 ghost use Rattle.plan_terms.specs.Terms.{case_of, IsSurvivable};
 ghost use Rattle.route_law.specs.Terms.{caps_times};
 ghost use Rattle.master_law.specs.Terms.{AreUnitPairs};
 ghost use Rattle.master_bound.specs.declared.answer.Best.{Best};
 ghost use Rattle.separator.specs.Separators.{SeesMore};
-ghost use Rattle.plan_rounds.specs.WorkedRounds.{AreWorkedRounds, IsBestAt, IsPoolOf, IsWorkedPool};
+ghost use Rattle.plan_rounds.specs.WorkedRounds.{AreWorkedRounds, IsBestAt, IsPoolOf, IsWorkedAlone};
 ghost use Rattle.plan_rounds.specs.inner.Alone.{PoolsRounds, PoolsTurn};
 ghost use Rattle.plan_rounds.specs.inner.Answered.{AreRoutedStates, IsEvidenceOfState};
 ghost use Rattle.plan_rounds.specs.inner.Listing.{AreListed, GoesOn};
@@ -61,7 +61,8 @@ fn ended(
 ) -> Result<Turn, NoMemory>
     requires positive { 0 < caps.divisor }
     requires times { caps_times caps.divisor caps.divided ≡ caps.whole }
-    requires routed { answered.wide ≡ None → ∥ AreRoutedStates (case_of instance.now) caps.divided (length instance.now.states.now.listed + 1) answered.routings ∥₁ }
+    requires routed { answered.wide ≡ None → ∥ AreRoutedStates (case_of instance.now) caps.divided
+        (length instance.now.states.now.listed + 1) answered.routings ∥₁ }
     requires wide { ∥ IfSome answered.wide (IsEvidenceOfState (case_of instance.now) caps.divided) ∥₁ }
     ensures { IfOk result (λ turn. ∥ EndsAt (case_of instance.now) caps.whole best turn ∥₁) }
 {
@@ -101,7 +102,9 @@ fn judge(
 ) -> Result<Turn, NoMemory>
     requires positive { 0 < caps.divisor }
     requires times { caps_times caps.divisor caps.divided ≡ caps.whole }
-    requires routed { length answered.found.lines ≡ 0 → answered.wide ≡ None → ∥ AreRoutedStates (case_of instance.now) caps.divided (length instance.now.states.now.listed + 1) answered.routings ∥₁ }
+    requires routed { length answered.found.lines ≡ 0 → answered.wide ≡ None
+        → ∥ AreRoutedStates (case_of instance.now) caps.divided (length instance.now.states.now.listed + 1)
+        answered.routings ∥₁ }
     requires wide { ∥ IfSome answered.wide (IsEvidenceOfState (case_of instance.now) caps.divided) ∥₁ }
     ensures { IfOk result (λ turn. ∥ Judges (case_of instance.now) room caps.whole answered best candidates.old candidates.new turn ∥₁) }
 {
@@ -137,16 +140,18 @@ fn ask<S: Separate>(
     separator: &mut S,
     candidates: &mut Candidates,
 ) -> Result<Turn, NoMemory>
-    requires network { instance.now.net.now ≡ S.network separator.old }
-    requires states { instance.now.states.now ≡ S.states separator.old }
+    requires network { instance.now.net.now ≡ (S.frame separator.old).network }
+    requires states { instance.now.states.now ≡ (S.frame separator.old).states }
     requires survivable { IsSurvivable (case_of instance.now) }
     requires pairs { AreUnitPairs instance.now.net.now.links pairs.now }
-    requires listed { ∥ AreListed (case_of instance.now) (S.history separator.old) candidates.old ∥₁ }
+    requires listed { ∥ AreListed (case_of instance.now) (S.seen_of separator.old).history candidates.old ∥₁ }
     requires best { IsBestAt (case_of instance.now) pairs.now candidates.old.lines best }
-    ensures on { GoesOn (S.network separator.old) (S.network separator.new) (S.states separator.old) (S.states separator.new) (S.mark separator.old) (S.mark separator.new) (S.history separator.old) (S.own separator.old) (S.history separator.new) (S.own separator.new) }
-    ensures listed { OnOk result ∥ AreListed (case_of instance.now) (S.history separator.new) candidates.new ∥₁ }
-    ensures turn { IfOk result (λ turn. (before : Maybe Best) → ∥ IsTurnOf (case_of instance.now) pairs.now room before candidates.old.lines candidates.new.lines turn ∥₁) }
-    ensures alone { IfOk result (λ turn. PoolsTurn (case_of instance.now) pairs.now room (S.history separator.old) (S.history separator.new) (S.own separator.new) candidates.old.lines candidates.new.lines turn) }
+    ensures on { GoesOn (S.frame separator.old) (S.frame separator.new) (S.seen_of separator.old) (S.seen_of separator.new) }
+    ensures listed { OnOk result ∥ AreListed (case_of instance.now) (S.seen_of separator.new).history candidates.new ∥₁ }
+    ensures turn { IfOk result (λ turn. (before : Maybe Best)
+        → ∥ IsTurnOf (case_of instance.now) pairs.now room before candidates.old.lines candidates.new.lines turn ∥₁) }
+    ensures alone { IfOk result (λ turn. PoolsTurn (case_of instance.now) pairs.now room (S.seen_of separator.old)
+        (S.seen_of separator.new) candidates.old.lines candidates.new.lines turn) }
 {
     let caps = share_caps(alloc, instance.net, pairs, &best.share)?;
     let answers = separator.separate(instance, &caps.divided)?;
@@ -177,16 +182,17 @@ fn take_turn<S: Separate>(
     separator: &mut S,
     candidates: &mut Candidates,
 ) -> Result<Turn, NoMemory>
-    requires network { instance.now.net.now ≡ S.network separator.old }
-    requires states { instance.now.states.now ≡ S.states separator.old }
+    requires network { instance.now.net.now ≡ (S.frame separator.old).network }
+    requires states { instance.now.states.now ≡ (S.frame separator.old).states }
     requires survivable { IsSurvivable (case_of instance.now) }
     requires pairs { AreUnitPairs instance.now.net.now.links pairs.now }
-    requires listed { ∥ AreListed (case_of instance.now) (S.history separator.old) candidates.old ∥₁ }
+    requires listed { ∥ AreListed (case_of instance.now) (S.seen_of separator.old).history candidates.old ∥₁ }
     requires few { length candidates.old.lines ≤ 8192 }
-    ensures on { GoesOn (S.network separator.old) (S.network separator.new) (S.states separator.old) (S.states separator.new) (S.mark separator.old) (S.mark separator.new) (S.history separator.old) (S.own separator.old) (S.history separator.new) (S.own separator.new) }
-    ensures listed { OnOk result ∥ AreListed (case_of instance.now) (S.history separator.new) candidates.new ∥₁ }
+    ensures on { GoesOn (S.frame separator.old) (S.frame separator.new) (S.seen_of separator.old) (S.seen_of separator.new) }
+    ensures listed { OnOk result ∥ AreListed (case_of instance.now) (S.seen_of separator.new).history candidates.new ∥₁ }
     ensures turn { IfOk result (λ turn. ∥ IsTurnOf (case_of instance.now) pairs.now room before candidates.old.lines candidates.new.lines turn ∥₁) }
-    ensures alone { IfOk result (λ turn. PoolsTurn (case_of instance.now) pairs.now room (S.history separator.old) (S.history separator.new) (S.own separator.new) candidates.old.lines candidates.new.lines turn) }
+    ensures alone { IfOk result (λ turn. PoolsTurn (case_of instance.now) pairs.now room (S.seen_of separator.old)
+        (S.seen_of separator.new) candidates.old.lines candidates.new.lines turn) }
 {
     match master(alloc, instance.net, &candidates.lines) {
         Ok(best) => ask(alloc, instance, pairs, room, best, separator, candidates),
@@ -203,16 +209,16 @@ fn turns<S: Separate>(
     candidates: Candidates,
     separator: &mut S,
 ) -> Result<Worked, NoMemory>
-    requires network { instance.now.net.now ≡ S.network separator.old }
-    requires states { instance.now.states.now ≡ S.states separator.old }
+    requires network { instance.now.net.now ≡ (S.frame separator.old).network }
+    requires states { instance.now.states.now ≡ (S.frame separator.old).states }
     requires survivable { IsSurvivable (case_of instance.now) }
     requires pairs { AreUnitPairs instance.now.net.now.links pairs.now }
-    requires listed { ∥ AreListed (case_of instance.now) (S.history separator.old) candidates ∥₁ }
+    requires listed { ∥ AreListed (case_of instance.now) (S.seen_of separator.old).history candidates ∥₁ }
     requires few { most ≤ 8192 }
     requires room { length candidates.lines ≤ most }
-    ensures on { GoesOn (S.network separator.old) (S.network separator.new) (S.states separator.old) (S.states separator.new) (S.mark separator.old) (S.mark separator.new) (S.history separator.old) (S.own separator.old) (S.history separator.new) (S.own separator.new) }
-    ensures worked { IfOk result (λ worked. WorksOn (case_of instance.now) (S.history separator.new) most candidates.lines worked) }
-    ensures alone { OnOk result (PoolsRounds (case_of instance.now) most (S.history separator.old) (S.history separator.new) (S.own separator.new) candidates.lines) }
+    ensures on { GoesOn (S.frame separator.old) (S.frame separator.new) (S.seen_of separator.old) (S.seen_of separator.new) }
+    ensures worked { IfOk result (λ worked. WorksOn (case_of instance.now) (S.seen_of separator.new).history most candidates.lines worked) }
+    ensures alone { OnOk result (PoolsRounds (case_of instance.now) most (S.seen_of separator.old) (S.seen_of separator.new) candidates.lines) }
 {
     let mut candidates = candidates;
     let mut before = None;
@@ -241,28 +247,6 @@ fn turns<S: Separate>(
     }
 }
 
-/// Opens the states, and then goes on turn by turn.
-fn opened_turns<S: Separate>(
-    alloc: Global,
-    instance: &Instance,
-    pool: List<CutLine>,
-    separator: &mut S,
-) -> Result<Worked, NoMemory>
-    requires network { instance.now.net.now ≡ S.network separator.old }
-    requires states { instance.now.states.now ≡ S.states separator.old }
-    requires survivable { IsSurvivable (case_of instance.now) }
-    requires few { length pool ≤ 4096 }
-    requires pool { ∥ IsPoolOf (case_of instance.now) (S.history separator.old) pool ∥₁ }
-    ensures on { GoesOn (S.network separator.old) (S.network separator.new) (S.states separator.old) (S.states separator.new) (S.mark separator.old) (S.mark separator.new) (S.history separator.old) (S.own separator.old) (S.history separator.new) (S.own separator.new) }
-    ensures worked { IfOk result (λ worked. ∥ AreWorkedRounds (case_of instance.now) (S.history separator.new) pool worked ∥₁) }
-    ensures alone { OnOk result (S.history separator.old ≡ [] → S.history separator.new ≡ S.own separator.new → ∥ IsWorkedPool (case_of instance.now) (S.history separator.new) ∥₁) }
-{
-    let most = pool.len() + MOST_ADDED;
-    let pairs = unit_pairs(alloc, instance.net)?;
-    let candidates = open_states(alloc, instance, pool, separator)?;
-    turns(alloc, instance, &pairs, most, candidates, separator)
-}
-
 /// Works on the cuts of a pool: puts the opening cuts of each state after them, and then, turn by turn, the cuts that the share of the
 /// best certificate so far violates, until it violates none, a number is too wide, or 4,096 cuts were added and it violates a further one.
 ///
@@ -281,17 +265,18 @@ pub fn work_rounds<S: Separate>(
     pool: List<CutLine>,
     separator: &mut S,
 ) -> Result<Worked, NoMemory>
-    requires network { instance.now.net.now ≡ S.network separator.old }
-    requires states { instance.now.states.now ≡ S.states separator.old }
+    requires network { instance.now.net.now ≡ (S.frame separator.old).network }
+    requires states { instance.now.states.now ≡ (S.frame separator.old).states }
     requires survivable { IsSurvivable (case_of instance.now) }
     requires few { length pool ≤ 4096 }
-    requires pool { ∥ IsPoolOf (case_of instance.now) (S.history separator.old) pool ∥₁ }
-    ensures network { S.network separator.new ≡ S.network separator.old }
-    ensures states { S.states separator.new ≡ S.states separator.old }
-    ensures mark { S.mark separator.new ≡ S.mark separator.old }
-    ensures more { SeesMore (S.history separator.old) (S.own separator.old) (S.history separator.new) (S.own separator.new) }
-    ensures worked { IfOk result (λ worked. ∥ AreWorkedRounds (case_of instance.now) (S.history separator.new) pool worked ∥₁) }
-    ensures alone { OnOk result (S.history separator.old ≡ [] → S.history separator.new ≡ S.own separator.new → ∥ IsWorkedPool (case_of instance.now) (S.history separator.new) ∥₁) }
+    requires pool { ∥ IsPoolOf (case_of instance.now) (S.seen_of separator.old).history pool ∥₁ }
+    ensures frame { S.frame separator.new ≡ S.frame separator.old }
+    ensures more { SeesMore (S.seen_of separator.old) (S.seen_of separator.new) }
+    ensures worked { IfOk result (λ worked. ∥ AreWorkedRounds (case_of instance.now) (S.seen_of separator.new).history pool worked ∥₁) }
+    ensures alone { OnOk result (IsWorkedAlone (case_of instance.now) (S.seen_of separator.old) (S.seen_of separator.new)) }
 {
-    opened_turns(alloc, instance, pool, separator)
+    let most = pool.len() + MOST_ADDED;
+    let pairs = unit_pairs(alloc, instance.net)?;
+    let candidates = open_states(alloc, instance, pool, separator)?;
+    turns(alloc, instance, &pairs, most, candidates, separator)
 }

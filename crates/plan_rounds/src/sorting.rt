@@ -43,7 +43,8 @@ fn put_answer(answer: Separated, answered: &mut Answered) -> Result<(), NoMemory
 
 /// Sorts the answers of all states.
 pub fn sorted(alloc: Global, answers: List<StateAnswer>) -> Result<Answered, NoMemory>
-    ensures sorted { IfOk result (λ a. (p : Case) (caps : Caps) (history : Seq Entry) → AreStateAnswers p caps history answers → AreSorted p caps history (length p.listed + 1) a) }
+    ensures sorted { IfOk result (λ a. (p : Case) (caps : Caps) (history : Seq Entry) → AreStateAnswers p caps history answers
+        → AreSorted p caps history (length p.listed + 1) a) }
     ensures found { IfOk result (λ a. map cut_of_line a.found.lines ≡ cuts_answered answers) }
 {
     let mut answered = Answered {

@@ -4,20 +4,21 @@ use Rattle.plan_terms.specs.Terms.{Entry, CutLine, Case}
 use Rattle.module_prices.specs.declared.cheapest.UnitPair.{UnitPair}
 use Rattle.cut_pool.specs.Terms.{cut_of_line, cuts_of}
 use Rattle.plan_law.specs.WorkedLists.{IsBeginning, IsWorkedList, Round}
+use Rattle.turn_lock.specs.Passes.{Seen}
 use Rattle.separator.specs.Separators.{IsCutEntry}
 use Rattle.plan_rounds.specs.WorkedRounds.{IsWorkedPool}
 use Rattle.plan_rounds.specs.declared.rounds.Turn.{Turn}
 use Rattle.plan_rounds.specs.declared.rounds.Turn.TheVariants.{Further, Last}
 
 -- all entries are the separator's own, and pool cuts
-pub record IsAlone (history own : List Entry) : Type 0 where
-  pub same : history ≡ own
-  pub pooled : All IsCutEntry history
+pub record IsAlone (seen : Seen Entry) : Type 0 where
+  pub same : seen.history ≡ seen.own
+  pub pooled : All IsCutEntry seen.history
 
 -- the list has grown by opening cuts; a separator that is alone has pooled them
-pub record PoolsOpening (h h_now own_now : List Entry) (lines lines_now : List CutLine) : Type 0 where
+pub record PoolsOpening (old new : Seen Entry) (lines lines_now : List CutLine) : Type 0 where
   pub grows : length lines ≤ length lines_now
-  pub pools : IsAlone h_now own_now → length lines_now ≤ 4000 → cuts_of h ≡ map cut_of_line lines → cuts_of h_now ≡ map cut_of_line lines_now
+  pub pools : IsAlone new → length lines_now ≤ 4000 → cuts_of old.history ≡ map cut_of_line lines → cuts_of new.history ≡ map cut_of_line lines_now
 
 -- each cut of the one list is one of the other
 abbrev pub Within : List CutLine → List CutLine → Type 0
@@ -43,10 +44,10 @@ IsPoolAfterTurn p pairs h lines (Further best) = ∥ IsPoolOfList p pairs (cuts_
 IsPoolAfterTurn p pairs h lines (Last best quality) = ∥ IsWorkedPool p h ∥₁
 
 -- and what a separator that is alone makes of it
-abbrev pub PoolsTurn : Case → List UnitPair → ℕ → (h h_now own_now : List Entry) → (lines lines_now : List CutLine) → Turn → Type 0
-PoolsTurn p pairs room h h_now own_now lines lines_now turn =
-    IsAlone h_now own_now → length lines + room ≡ 4096 → ∥ IsPoolOfList p pairs (cuts_of h) lines ∥₁ → IsPoolAfterTurn p pairs h_now lines_now turn
+abbrev pub PoolsTurn : Case → List UnitPair → ℕ → (old new : Seen Entry) → (lines lines_now : List CutLine) → Turn → Type 0
+PoolsTurn p pairs room old new lines lines_now turn =
+    IsAlone new → length lines + room ≡ 4096 → ∥ IsPoolOfList p pairs (cuts_of old.history) lines ∥₁ → IsPoolAfterTurn p pairs new.history lines_now turn
 
 -- and what of all turns after what the list begins with
-abbrev pub PoolsRounds : Case → ℕ → (h h_now own_now : List Entry) → List CutLine → Type 0
-PoolsRounds p most h h_now own_now lines = IsAlone h_now own_now → most ≡ 4096 → IsBeginning p [] lines → cuts_of h ≡ map cut_of_line lines → ∥ IsWorkedPool p h_now ∥₁
+abbrev pub PoolsRounds : Case → ℕ → (old new : Seen Entry) → List CutLine → Type 0
+PoolsRounds p most old new lines = IsAlone new → most ≡ 4096 → IsBeginning p [] lines → cuts_of old.history ≡ map cut_of_line lines → ∥ IsWorkedPool p new.history ∥₁

@@ -1,6 +1,6 @@
 -- what the answers of all states come to
 use Rattle.std.specs.Prelude.{◌≡◌, ◌≢◌, ℕ, ◌^◌, ◌<◌, ◌≤◌, ◌⊎◌, ◌++◌, List, [], ◌∷◌, None, Some, All, AllPairs, IfSome, length, slice_get}
-use Rattle.plan_terms.specs.Terms.{Evidence, Entry, Caps, CutLine, Routing, Case, graph_in}
+use Rattle.plan_terms.specs.Terms.{Evidence, Entry, Caps, CutLine, Routing, Case, graph_in, HasShortLengths}
 use Rattle.flow_router.specs.Answers.{IsEvidenceHere, IsRouted}
 use Rattle.separator.specs.Separators.{IsSeparatingCut}
 use Rattle.separator.specs.declared.answers.Separated.{Separated}
@@ -15,14 +15,10 @@ PutsAnswer (Violated line spot) old new =
     new ≡ record { routings = old.routings; found = record { lines = old.found.lines ++ line ∷ []; spots = old.found.spots ++ spot ∷ [] }; wide = old.wide }
 PutsAnswer (Wide evidence) old new = new ≡ record { routings = old.routings; found = old.found; wide = Some evidence }
 
--- its lengths are below 2^32
-abbrev pub HasShort : CutLine → Type 0
-HasShort line = All (λ x. x < 2 ^ 32) line.lengths
-
 -- so are those of a cut that is answered
 abbrev pub AnswersShort : Separated → Type 0
 AnswersShort (Routed routing) = Unit {0}
-AnswersShort (Violated line spot) = HasShort line
+AnswersShort (Violated line spot) = HasShortLengths line
 AnswersShort (Wide evidence) = Unit {0}
 
 module _ (p : Case) (caps : Caps) where
@@ -44,7 +40,7 @@ module _ (p : Case) (caps : Caps) (history : List Entry) where
   -- one is wide. Where there is no cut, each state is routed or wide, and where there is no evidence either, each is routed.
   pub record AreSorted (n : ℕ) (a : Answered) : Type 0 where
     pub cuts : All (IsSeparatingCut p caps) a.found.lines
-    pub short : All HasShort a.found.lines
+    pub short : All HasShortLengths a.found.lines
     pub states : AllPairs (λ x y. x.state ≢ y.state) a.found.lines
     pub before : All (λ c. c.state.0 < n) a.found.lines
     pub spots : StandAtSpots history a.found.lines a.found.spots

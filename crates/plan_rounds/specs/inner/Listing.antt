@@ -1,20 +1,19 @@
 -- the cuts of a planning, as they come to its list
 use Rattle.std.specs.Prelude.{◌≡◌, ℕ, ◌^◌, ◌<◌, ◌⊎◌, ◌++◌, List, [], ◌∷◌, All, Some, length, slice_get}
-use Rattle.plan_terms.specs.Terms.{Demand, Entry, Network, CutLine, States, Case, IsCut}
+use Rattle.plan_terms.specs.Terms.{Demand, Entry, CutLine, Case, IsCut}
 use Rattle.plan_types.specs.declared.certificate.Spot.{Spot}
 use Rattle.plan_types.specs.declared.certificate.Spot.TheVariants.{Pool}
 use Rattle.metric_cut.specs.declared.cut.Cut.{Cut}
 use Rattle.plan_law.specs.WorkedLists.{AreDifferentCuts, HasCut, Lacks}
-use Rattle.separator.specs.Separators.{IsLineAt, SeesMore}
+use Rattle.turn_lock.specs.Passes.{Seen}
+use Rattle.separator.specs.Separators.{Frame, IsLineAt, SeesMore}
 use Rattle.plan_rounds.specs.WorkedRounds.{StandAtSpots}
 use Rattle.plan_rounds.specs.declared.candidates.Candidates.{Candidates}
 
 -- a separator has the network, states and mark that it had, and has seen some more entries, of which its own pool cuts
-pub record GoesOn {M : Type 0} (net net_now : Network) (states states_now : States) (mark mark_now : M) (history own history_now own_now : List Entry) : Type 0 where
-  pub network : net_now ≡ net
-  pub listed : states_now ≡ states
-  pub same_mark : mark_now ≡ mark
-  pub more : SeesMore history own history_now own_now
+pub record GoesOn {M : Type 0} (frame frame_now : Frame M) (old new : Seen Entry) : Type 0 where
+  pub same : frame_now ≡ frame
+  pub more : SeesMore old new
 
 -- cuts of the case with right sides below 2^84, no two the same, each with the spot where it stands in the history
 pub record AreListed (p : Case) (history : List Entry) (c : Candidates) : Type 0 where

@@ -5,7 +5,7 @@ use Rattle.plan_rounds.proofs.Seeing.{goes_none}
 use Rattle.plan_rounds.proofs.openings.open_state.Goals as goal
 
 pub returns-in_err-cuts-clause-on : goal.returns-in_err-cuts-clause-on
-returns-in_err-cuts-clause-on g c = goes_none _ _ _ _ _
+returns-in_err-cuts-clause-on g c = goes_none _ _
 
 pub returns-clause-opened : goal.returns-clause-opened
 returns-clause-opened g c =

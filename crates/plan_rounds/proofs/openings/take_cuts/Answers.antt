@@ -10,7 +10,7 @@ use Rattle.plan_rounds.proofs.Seeing.{goes_both, goes_none}
 use Rattle.plan_rounds.proofs.openings.take_cuts.Goals as goal
 
 pub loop-left-init : goal.loop-left-init
-loop-left-init g c = (c.requires.cuts, goes_none _ _ _ _ _, c.requires.listed, λ end takes. takes, ∣ pools_none (g.S.Separate.history c.args.separator.now) (g.S.Separate.own c.args.separator.now) c.args.candidates.now.lines ∣₁)
+loop-left-init g c = (c.requires.cuts, goes_none _ _, c.requires.listed, λ end takes. takes, ∣ pools_none (g.S.Separate.seen_of c.args.separator.now) c.args.candidates.now.lines ∣₁)
 
 pub take_cut-requires-clause-cut : goal.take_cut-requires-clause-cut
 take_cut-requires-clause-cut g c =
@@ -20,7 +20,7 @@ take_cut-requires-clause-cut g c =
     subst (All is) first c.loop-left.invariant.0 0 cut (omega arith)
 
 pub returns-in_err-take_cut-clause-on : goal.returns-in_err-take_cut-clause-on
-returns-in_err-take_cut-clause-on g c = goes_both _ _ _ _ _ _ _ _ _ _ _ _ _ _ _ c.loop-left.invariant.1 c.in_err-take_cut.ensures.on
+returns-in_err-take_cut-clause-on g c = goes_both _ _ _ _ _ _ c.loop-left.invariant.1 c.in_err-take_cut.ensures.on
 
 pub loop-left-preserved : goal.loop-left-preserved
 loop-left-preserved g c =
@@ -30,10 +30,10 @@ loop-left-preserved g c =
     let first = first_of c.loop-left.left rest cut c.remove-cut.ensures.item c.remove-cut.ensures.items in
     let so_far = c.loop-left.invariant in (
       All-tail is cut rest (subst (All is) first so_far.0),
-      goes_both _ _ _ _ _ _ _ _ _ _ _ _ _ _ _ so_far.1 c.in_ok-take_cut.ensures.on,
+      goes_both _ _ _ _ _ _ so_far.1 c.in_ok-take_cut.ensures.on,
       c.in_ok-take_cut.ensures.listed,
       λ end takes. so_far.3 end (subst (λ (cs : List Cut). TakesCuts c.args.instance.now.demands.now cs c.loop-left.candidates.lines end) (sym first) (c.take_cut.new.candidates.lines, c.in_ok-take_cut.ensures.taken, takes)),
       ∥∥₁_elim (g.met.S.Separate.seen c.loop-left.separator) (hlevel props) (λ seen. ∥∥₁_elim so_far.4 (hlevel props) (λ first. ∥∥₁_map c.in_ok-take_cut.ensures.alone (λ second.
-          pools_both (g.S.Separate.history c.args.separator.now) (g.S.Separate.history c.loop-left.separator) (g.S.Separate.own c.loop-left.separator) (g.S.Separate.history c.take_cut.new.separator) (g.S.Separate.own c.take_cut.new.separator)
+          pools_both (g.S.Separate.seen_of c.args.separator.now) (g.S.Separate.seen_of c.loop-left.separator) (g.S.Separate.seen_of c.take_cut.new.separator)
           c.args.candidates.now.lines c.loop-left.candidates.lines c.take_cut.new.candidates.lines seen.own_among c.in_ok-take_cut.ensures.on.more first second))),
     )

@@ -15,7 +15,7 @@ invariant-loop-left g l =
     let before = l.fn.separator in
     let now = l.separator in
     All (λ c. IsCutOf (graph_in (case_of l.instance) c.state.0) c) l.left
-    × GoesOn (g.S.Separate.network before) (g.S.Separate.network now) (g.S.Separate.states before) (g.S.Separate.states now) (g.S.Separate.mark before) (g.S.Separate.mark now) (g.S.Separate.history before) (g.S.Separate.own before) (g.S.Separate.history now) (g.S.Separate.own now)
-    × ∥ AreListed (case_of l.instance) (g.S.Separate.history now) l.candidates ∥₁
+    × GoesOn (g.S.Separate.frame before) (g.S.Separate.frame now) (g.S.Separate.seen_of before) (g.S.Separate.seen_of now)
+    × ∥ AreListed (case_of l.instance) (g.S.Separate.seen_of now).history l.candidates ∥₁
     × ((end : List CutLine) → TakesCuts l.instance.demands.now l.left l.candidates.lines end → TakesCuts l.instance.demands.now l.fn.cuts l.fn.candidates.lines end)
-    × ∥ PoolsOpening (g.S.Separate.history before) (g.S.Separate.history now) (g.S.Separate.own now) l.fn.candidates.lines l.candidates.lines ∥₁
+    × ∥ PoolsOpening (g.S.Separate.seen_of before) (g.S.Separate.seen_of now) l.fn.candidates.lines l.candidates.lines ∥₁

@@ -11,18 +11,18 @@ use Rattle.plan_rounds.proofs.Turning.{judged_listed, judged_turn}
 use Rattle.plan_rounds.proofs.rounds.ask.Goals as goal
 
 pub returns-in_err-caps-clause-on : goal.returns-in_err-caps-clause-on
-returns-in_err-caps-clause-on g c = goes_none _ _ _ _ _
+returns-in_err-caps-clause-on g c = goes_none _ _
 
 pub separate-requires-clause-caps : goal.separate-requires-clause-caps
 separate-requires-clause-caps g c = divided_count c.args.instance.now.net.now.links c.args.pairs.now c.args.best.share c.in_ok-caps.caps c.requires.pairs.count c.requires.best.least.count c.in_ok-caps.ensures
 
 pub judge-requires-clause-routed : goal.judge-requires-clause-routed
 judge-requires-clause-routed g c none not_wide =
-    ∥∥₁_map c.in_ok-answers.ensures.answers (λ are. (c.in_ok-answered.ensures.sorted (case_of c.args.instance.now) c.in_ok-caps.caps.divided (g.S.Separate.history c.separate.new.self) are).routed none not_wide)
+    ∥∥₁_map c.in_ok-answers.ensures.answers (λ are. (c.in_ok-answered.ensures.sorted (case_of c.args.instance.now) c.in_ok-caps.caps.divided (g.S.Separate.seen_of c.separate.new.self).history are).routed none not_wide)
 
 pub judge-requires-clause-wide : goal.judge-requires-clause-wide
 judge-requires-clause-wide g c =
-    ∥∥₁_map c.in_ok-answers.ensures.answers (λ are. (c.in_ok-answered.ensures.sorted (case_of c.args.instance.now) c.in_ok-caps.caps.divided (g.S.Separate.history c.separate.new.self) are).wide)
+    ∥∥₁_map c.in_ok-answers.ensures.answers (λ are. (c.in_ok-answered.ensures.sorted (case_of c.args.instance.now) c.in_ok-caps.caps.divided (g.S.Separate.seen_of c.separate.new.self).history are).wide)
 
 pub returns-clause-listed : goal.returns-clause-listed
 returns-clause-listed g c =
@@ -38,9 +38,9 @@ returns-clause-listed g c =
     ∥∥₁_elim c.in_ok-answers.ensures.answers (hlevel props) (λ are_answers.
     ∥∥₁_elim c.requires.listed (hlevel props) (λ are.
     ∥∥₁_map (g.met.S.Separate.seen now) (λ seen.
-    judged_listed p c.args.pairs.now (g.S.Separate.history now) n c.args.room None c.args.best c.in_ok-caps.caps c.in_ok-answered.answered old c.requires.pairs c.requires.best c.in_ok-caps.ensures
-    (c.in_ok-answered.ensures.sorted p c.in_ok-caps.caps.divided (g.S.Separate.history now) are_answers) c.judge.new.candidates turn net.checked few c.args.instance.now.belong
-    (listed_later p (g.S.Separate.network now) (g.S.Separate.states now) (g.S.Separate.history before) (g.S.Separate.own before) (g.S.Separate.history now) (g.S.Separate.own now) old c.in_ok-answers.ensures.more seen are) judges)))))
+    judged_listed p c.args.pairs.now (g.S.Separate.seen_of now).history n c.args.room None c.args.best c.in_ok-caps.caps c.in_ok-answered.answered old c.requires.pairs c.requires.best c.in_ok-caps.ensures
+    (c.in_ok-answered.ensures.sorted p c.in_ok-caps.caps.divided (g.S.Separate.seen_of now).history are_answers) c.judge.new.candidates turn net.checked few c.args.instance.now.belong
+    (listed_later p (g.S.Separate.frame now).network (g.S.Separate.frame now).states (g.S.Separate.seen_of before) (g.S.Separate.seen_of now) old c.in_ok-answers.ensures.more seen are) judges)))))
     c.judge.ensures
 
 pub returns-clause-turn : goal.returns-clause-turn
@@ -51,8 +51,8 @@ returns-clause-turn g c =
     if_ok c.judge.result _ _
     (λ turn told before. ∥∥₁_elim told (hlevel props) (λ judges.
     ∥∥₁_map c.in_ok-answers.ensures.answers (λ are_answers.
-    judged_turn p c.args.pairs.now (g.S.Separate.history now) n c.args.room before c.args.best c.in_ok-caps.caps c.in_ok-answered.answered c.args.candidates.now c.requires.pairs c.requires.best c.in_ok-caps.ensures
-    (c.in_ok-answered.ensures.sorted p c.in_ok-caps.caps.divided (g.S.Separate.history now) are_answers) c.judge.new.candidates turn (omega arith) judges)))
+    judged_turn p c.args.pairs.now (g.S.Separate.seen_of now).history n c.args.room before c.args.best c.in_ok-caps.caps c.in_ok-answered.answered c.args.candidates.now c.requires.pairs c.requires.best c.in_ok-caps.ensures
+    (c.in_ok-answered.ensures.sorted p c.in_ok-caps.caps.divided (g.S.Separate.seen_of now).history are_answers) c.judge.new.candidates turn (omega arith) judges)))
     c.judge.ensures
 
 pub returns-clause-alone : goal.returns-clause-alone
@@ -65,7 +65,7 @@ returns-clause-alone g c =
     let answers = c.in_ok-answers.ensures in
     if_ok c.judge.result _ _
     (λ turn told alone full known.
-    after_told p pairs (g.S.Separate.history now) c.judge.new.candidates.lines turn
+    after_told p pairs (g.S.Separate.seen_of now).history c.judge.new.candidates.lines turn
     (∥∥₁_elim told (hlevel props) (λ judges.
     ∥∥₁_elim known (hlevel props) (λ pool.
     ∥∥₁_elim answers.answers (hlevel props) (λ are_answers.
@@ -73,7 +73,7 @@ returns-clause-alone g c =
     ∥∥₁_elim c.requires.listed (hlevel props) (λ listed.
     ∥∥₁_elim (g.met.S.Separate.seen before) (hlevel props) (λ seen_before.
     ∥∥₁_map (g.met.S.Separate.seen now) (λ seen.
-    judged_pool p pairs c.requires.pairs (g.S.Separate.network now) (g.S.Separate.states now) (g.S.Separate.history before) (g.S.Separate.own before) (g.S.Separate.history now) (g.S.Separate.own now) seen_before.own_among answers.more seen alone
+    judged_pool p pairs c.requires.pairs (g.S.Separate.frame now).network (g.S.Separate.frame now).states (g.S.Separate.seen_of before) (g.S.Separate.seen_of now) seen_before.own_among answers.more seen alone
     c.args.best c.in_ok-caps.caps c.in_ok-answered.answered c.args.candidates.now (cuts_answered c.in_ok-answers.answers) n c.requires.best c.in_ok-caps.ensures separates answers.different answers.answered c.in_ok-answered.ensures.found
-    (c.in_ok-answered.ensures.sorted p c.in_ok-caps.caps.divided (g.S.Separate.history now) are_answers) listed pool c.args.room c.judge.new.candidates turn full judges)))))))))
+    (c.in_ok-answered.ensures.sorted p c.in_ok-caps.caps.divided (g.S.Separate.seen_of now).history are_answers) listed pool c.args.room c.judge.new.candidates turn full judges)))))))))
     c.judge.ensures

@@ -14,7 +14,7 @@ use Rattle.plan_rounds.proofs.rounds.take_turn.Goals as goal
 use Rattle.net_core.proofs.Networks.{modules_sound}
 
 pub master-requires-clause-lengths : goal.master-requires-clause-lengths
-master-requires-clause-lengths g c = have_bounds (case_of c.args.instance.now) (g.S.Separate.history c.args.separator.now) c.args.candidates.now c.requires.listed
+master-requires-clause-lengths g c = have_bounds (case_of c.args.instance.now) (g.S.Separate.seen_of c.args.separator.now).history c.args.candidates.now c.requires.listed
 
 pub ask-requires-clause-best : goal.ask-requires-clause-best
 ask-requires-clause-best g c =
@@ -22,7 +22,7 @@ ask-requires-clause-best g c =
     best_at (case_of c.args.instance.now) c.args.pairs.now (modules_sound net.nodes net.links net.checked) c.requires.pairs c.args.candidates.now.lines c.in-Ok.best c.in-Ok.ensures
 
 pub returns-in-Err-clause-on : goal.returns-in-Err-clause-on
-returns-in-Err-clause-on g c = goes_none _ _ _ _ _
+returns-in-Err-clause-on g c = goes_none _ _
 
 pub returns-in-Err-clause-turn : goal.returns-in-Err-clause-turn
 returns-in-Err-clause-turn g c =
@@ -38,7 +38,7 @@ returns-in-Err-clause-turn g c =
 pub returns-in-Err-clause-alone : goal.returns-in-Err-clause-alone
 returns-in-Err-clause-alone g c =
     let p = case_of c.args.instance.now in
-    let h = g.S.Separate.history c.args.separator.now in
+    let h = (g.S.Separate.seen_of c.args.separator.now).history in
     let lines = c.args.candidates.now.lines in
     if_ok c.too_wide.result _ _
     (λ turn made alone full known. subst (IsPoolAfterTurn p c.args.pairs.now h lines) (sym made.2) (∥∥₁_map known (pool_worked p c.args.pairs.now h lines)))

@@ -13,18 +13,18 @@ use Rattle.plan_rounds.proofs.rounds.turns.Goals as goal
 
 pub loop-candidates-init : goal.loop-candidates-init
 loop-candidates-init g c = (
-  goes_none _ _ _ _ _,
+  goes_none _ _,
   c.requires.listed,
   c.requires.room,
   λ pool same known begins. ∣ working_begins (case_of c.args.instance.now) c.args.pairs.now pool c.args.candidates.lines c.requires.pairs begins (omega (arith, same, c.requires.room)) ∣₁,
-  λ alone most begins same. ∣ pool_begins (case_of c.args.instance.now) c.args.pairs.now (g.S.Separate.history c.args.separator.now) c.args.candidates.lines c.requires.pairs begins (omega (arith, most, c.requires.room)) same ∣₁,
+  λ alone most begins same. ∣ pool_begins (case_of c.args.instance.now) c.args.pairs.now (g.S.Separate.seen_of c.args.separator.now).history c.args.candidates.lines c.requires.pairs begins (omega (arith, most, c.requires.room)) same ∣₁,
 )
 
 pub take_turn-requires-clause-network : goal.take_turn-requires-clause-network
-take_turn-requires-clause-network g c = c.requires.network ∙ sym c.loop-candidates.invariant.0.network
+take_turn-requires-clause-network g c = c.requires.network ∙ ap (λ f. f.network) (sym c.loop-candidates.invariant.0.same)
 
 pub take_turn-requires-clause-states : goal.take_turn-requires-clause-states
-take_turn-requires-clause-states g c = c.requires.states ∙ sym c.loop-candidates.invariant.0.listed
+take_turn-requires-clause-states g c = c.requires.states ∙ ap (λ f. f.states) (sym c.loop-candidates.invariant.0.same)
 
 pub take_turn-requires-clause-listed : goal.take_turn-requires-clause-listed
 take_turn-requires-clause-listed g c = c.loop-candidates.invariant.1
@@ -33,7 +33,7 @@ pub take_turn-requires-clause-few : goal.take_turn-requires-clause-few
 take_turn-requires-clause-few g c = let le : length c.loop-candidates.candidates.lines ≤ 8192 = omega (arith, c.loop-candidates.invariant.2, c.requires.few) in le
 
 pub returns-in_err-best-clause-on : goal.returns-in_err-best-clause-on
-returns-in_err-best-clause-on g c = goes_both _ _ _ _ _ _ _ _ _ _ _ _ _ _ _ c.loop-candidates.invariant.0 c.in_err-best.ensures.on
+returns-in_err-best-clause-on g c = goes_both _ _ _ _ _ _ c.loop-candidates.invariant.0 c.in_err-best.ensures.on
 
 pub loop-candidates-preserved : goal.loop-candidates-preserved
 loop-candidates-preserved g c =
@@ -47,7 +47,7 @@ loop-candidates-preserved g c =
     let room = c.args.most - c.len.result in
     let is : room ≡ c.args.most - length old = ap (λ n. c.args.most - n) c.len.ensures in
     let further = subst (λ t. ∥ IsTurnOf p pairs room before old new t ∥₁) c.in-Further.is c.in_ok-best.ensures.turn in (
-      goes_both _ _ _ _ _ _ _ _ _ _ _ _ _ _ _ so_far.0 c.in_ok-best.ensures.on,
+      goes_both _ _ _ _ _ _ so_far.0 c.in_ok-best.ensures.on,
       c.in_ok-best.ensures.listed,
       ∥∥₁_elim further (hlevel props) (λ f. (further_room p pairs room c.args.most before old new best is so_far.2 f).0),
       λ pool same known begins. ∥∥₁_elim further (hlevel props) (λ f.
@@ -55,11 +55,11 @@ loop-candidates-preserved g c =
       λ alone most begins same.
           let here = c.loop-candidates.separator in
           let now = c.take_turn.new.separator in
-          let pools : PoolsTurn p pairs room (g.S.Separate.history here) (g.S.Separate.history now) (g.S.Separate.own now) old new (Further best) =
-          subst (PoolsTurn p pairs room (g.S.Separate.history here) (g.S.Separate.history now) (g.S.Separate.own now) old new) c.in-Further.is c.in_ok-best.ensures.alone in
+          let pools : PoolsTurn p pairs room (g.S.Separate.seen_of here) (g.S.Separate.seen_of now) old new (Further best) =
+          subst (PoolsTurn p pairs room (g.S.Separate.seen_of here) (g.S.Separate.seen_of now) old new) c.in-Further.is c.in_ok-best.ensures.alone in
           ∥∥₁_elim (g.met.S.Separate.seen here) (hlevel props) (λ seen.
           pools alone (omega (arith, most, is, so_far.2))
-          (so_far.4 (alone_before (g.S.Separate.history here) (g.S.Separate.own here) (g.S.Separate.history now) (g.S.Separate.own now) seen.own_among c.in_ok-best.ensures.on.more alone) most begins same)),
+          (so_far.4 (alone_before (g.S.Separate.seen_of here) (g.S.Separate.seen_of now) seen.own_among c.in_ok-best.ensures.on.more alone) most begins same)),
     )
 
 pub loop-candidates-smaller : goal.loop-candidates-smaller
@@ -75,7 +75,7 @@ loop-candidates-smaller g c =
     ∥∥₁_elim further (hlevel props) (λ f. (further_room p pairs room c.args.most before old new c.in-Further.best is c.loop-candidates.invariant.2 f).1)
 
 pub returns-in-Last-clause-on : goal.returns-in-Last-clause-on
-returns-in-Last-clause-on g c = goes_both _ _ _ _ _ _ _ _ _ _ _ _ _ _ _ c.loop-candidates.invariant.0 c.in_ok-best.ensures.on
+returns-in-Last-clause-on g c = goes_both _ _ _ _ _ _ c.loop-candidates.invariant.0 c.in_ok-best.ensures.on
 
 pub returns-in-Last-clause-worked : goal.returns-in-Last-clause-worked
 returns-in-Last-clause-worked g c pool same known begins =
@@ -92,7 +92,7 @@ returns-in-Last-clause-worked g c pool same known begins =
     let last = subst (λ t. ∥ IsTurnOf p pairs room before old new.lines t ∥₁) c.in-Last.is c.in_ok-best.ensures.turn in
     ∥∥₁_elim last (hlevel props) (λ e. ∥∥₁_elim c.in_ok-best.ensures.listed (hlevel props) (λ are.
     ∥∥₁_map (so_far.3 pool same known begins) (λ w.
-    working_ends p pairs (g.S.Separate.history c.take_turn.new.separator) pool new before best room quality are
+    working_ends p pairs (g.S.Separate.seen_of c.take_turn.new.separator).history pool new before best room quality are
     (let long = ap length e.0 in omega (arith, long, is, same, so_far.2))
     (subst (λ (ls : List CutLine). IsWorking p pairs pool ls before) (sym e.0) w)
     (subst (λ (ls : List CutLine). EndsBy p pairs ls (room ≡ 0) (λ b. b ≡ before) best quality) (sym e.0) e.1))))
@@ -108,8 +108,8 @@ returns-in-Last-clause-alone g c alone most begins same =
     let is : room ≡ c.args.most - length old = ap (λ n. c.args.most - n) c.len.ensures in
     let here = c.loop-candidates.separator in
     let now = c.take_turn.new.separator in
-    let pools : PoolsTurn p pairs room (g.S.Separate.history here) (g.S.Separate.history now) (g.S.Separate.own now) old new (Last c.in-Last.best c.in-Last.quality) =
-    subst (PoolsTurn p pairs room (g.S.Separate.history here) (g.S.Separate.history now) (g.S.Separate.own now) old new) c.in-Last.is c.in_ok-best.ensures.alone in
+    let pools : PoolsTurn p pairs room (g.S.Separate.seen_of here) (g.S.Separate.seen_of now) old new (Last c.in-Last.best c.in-Last.quality) =
+    subst (PoolsTurn p pairs room (g.S.Separate.seen_of here) (g.S.Separate.seen_of now) old new) c.in-Last.is c.in_ok-best.ensures.alone in
     ∥∥₁_elim (g.met.S.Separate.seen here) (hlevel props) (λ seen.
     pools alone (omega (arith, most, is, so_far.2))
-    (so_far.4 (alone_before (g.S.Separate.history here) (g.S.Separate.own here) (g.S.Separate.history now) (g.S.Separate.own now) seen.own_among c.in_ok-best.ensures.on.more alone) most begins same))
+    (so_far.4 (alone_before (g.S.Separate.seen_of here) (g.S.Separate.seen_of now) seen.own_among c.in_ok-best.ensures.on.more alone) most begins same))

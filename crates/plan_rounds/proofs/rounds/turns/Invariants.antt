@@ -17,9 +17,9 @@ invariant-loop-candidates g l =
     let before = l.fn.separator in
     let now = l.separator in
     let p = case_of l.instance in
-    GoesOn (g.S.Separate.network before) (g.S.Separate.network now) (g.S.Separate.states before) (g.S.Separate.states now) (g.S.Separate.mark before) (g.S.Separate.mark now) (g.S.Separate.history before) (g.S.Separate.own before) (g.S.Separate.history now) (g.S.Separate.own now)
-    × ∥ AreListed p (g.S.Separate.history now) l.candidates ∥₁
+    GoesOn (g.S.Separate.frame before) (g.S.Separate.frame now) (g.S.Separate.seen_of before) (g.S.Separate.seen_of now)
+    × ∥ AreListed p (g.S.Separate.seen_of now).history l.candidates ∥₁
     × (length l.candidates.lines ≤ l.most)
     × ((pool : List CutLine) → length pool + 4096 ≡ l.most → All (IsCut p) pool → IsBeginning p pool l.fn.candidates.lines → ∥ IsWorking p l.pairs pool l.candidates.lines l.before ∥₁)
-    × (IsAlone (g.S.Separate.history now) (g.S.Separate.own now) → l.most ≡ 4096 → IsBeginning p [] l.fn.candidates.lines → cuts_of (g.S.Separate.history before) ≡ map cut_of_line l.fn.candidates.lines
-    → ∥ IsPoolOfList p l.pairs (cuts_of (g.S.Separate.history now)) l.candidates.lines ∥₁)
+    × (IsAlone (g.S.Separate.seen_of now) → l.most ≡ 4096 → IsBeginning p [] l.fn.candidates.lines → cuts_of (g.S.Separate.seen_of before).history ≡ map cut_of_line l.fn.candidates.lines
+    → ∥ IsPoolOfList p l.pairs (cuts_of (g.S.Separate.seen_of now).history) l.candidates.lines ∥₁)
