@@ -15,7 +15,7 @@ use Rattle.separator.specs.Separators.{IsSpotIn}
 use Rattle.plan_rounds.specs.declared.rounds.Worked.{Worked}
 use Rattle.planner.specs.SoundPlans.{IsOwnAtMost}
 use Rattle.planner.specs.inner.Candidates.{HaveBounds, IsBestBound, IsBoundOfBest, IsBoundOfCut, IsBoundOfNone, IsOwnCertificate}
-use Rattle.planner.specs.declared.certified.CertifiedBound.{CertifiedBound}
+use Rattle.planner.specs.declared.own_bound.CertifiedBound.{CertifiedBound}
 use Rattle.net_core.proofs.Lists.{all_one}
 use Rattle.checked_fraction.proofs.Once.{divides_rest, shared_divisor}
 use Rattle.plan_rounds.proofs.Bounding.{has_bound}

@@ -8,7 +8,7 @@ use Rattle.separator.specs.Separators.{IsSpotIn}
 use Rattle.plan_rounds.specs.WorkedRounds.{StandAtSpots}
 use Rattle.plan_rounds.specs.declared.rounds.Worked.{Worked}
 use Rattle.planner.specs.SoundPlans.{IsLowestCertificate}
-use Rattle.planner.specs.declared.certified.CertifiedBound.{CertifiedBound}
+use Rattle.planner.specs.declared.own_bound.CertifiedBound.{CertifiedBound}
 
 -- a cut of the case, with a right side below 2^84
 pub record IsCandidate (p : Case) (cut : CutLine) : Type 0 where

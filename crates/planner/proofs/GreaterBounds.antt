@@ -3,7 +3,7 @@ use Rattle.std.proofs.Common.{◌≡◌, ℕ, ◌*◌, ◌^◌, ◌<◌, ◌≤�
 use Rattle.net_core.proofs.Library.{◌∣◌, le_of_mul-le-mul_left, get_or_append_left, length-map, All-cons, All-head, All-map, All-nil, All-tail, get_or_from_slice_get, slice_get-get_or, slice_get_within}
 use Rattle.std.proofs.Math.Nat.{mul-le-mul_left}
 use Rattle.std.proofs.lemmas.List.{length-append}
-use Rattle.plan_terms.specs.Terms.{Entry, Link, CutLine, Case, IsBound, IsLowest, CertificateLine, IsCertificate, IsCut, raw_value}
+use Rattle.plan_terms.specs.Terms.{Entry, Link, CutLine, Case, IsBound, IsLowest, CertificateLine, IsCertificate, IsCut, raw_value, HasShortLengths}
 use Rattle.plan_terms.proofs.Lemmas.{lowest_positive}
 use Rattle.plan_types.specs.declared.certificate.CertLine.{CertLine}
 use Rattle.plan_types.specs.declared.certificate.Spot.{Spot}
@@ -15,9 +15,9 @@ use Rattle.master_bound.specs.declared.answer.Best.{Best}
 use Rattle.master_bound.specs.declared.answer.Multiplier.{Multiplier}
 use Rattle.separator.specs.Separators.{IsSpotIn}
 use Rattle.plan_rounds.specs.declared.rounds.Worked.{Worked}
-use Rattle.planner.specs.declared.certified.CertifiedBound.{CertifiedBound}
+use Rattle.planner.specs.declared.own_bound.CertifiedBound.{CertifiedBound}
 use Rattle.planner.specs.inner.Candidates.{IsBestBound, IsBoundOfBest}
-use Rattle.planner.specs.inner.Finishing.{AreMultipliersOf, HasShortLengths, bound_made, line_at}
+use Rattle.planner.specs.inner.Finishing.{AreMultipliersOf, bound_made, line_at}
 use Rattle.planner.proofs.BestBounds.{lowest_small, spot_in_form}
 use Rattle.planner.proofs.Candidates.{AreCandidates, IsCandidate, IsCertifiedBound}
 

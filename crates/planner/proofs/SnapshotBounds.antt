@@ -2,7 +2,7 @@
 use Rattle.std.proofs.Common.{◌≡◌, ℕ, ◌+◌, ◌*◌, ◌<◌, ◌≤◌, inl, inr, ⊎_elim, List, [], ◌∷◌, ◌++◌, All, Contains, ◌⊎◌, Option, Some, None, IfSome, get_or, length, map, slice_get, refl, sym, ap, subst, ◌∙◌, arith}
 use Rattle.net_core.proofs.Library.{cases_eq, All-map, All-weaker, Contains-append_left, Contains-get_or, get_or_from_slice_get, slice_get-get_or, slice_get_within}
 use Rattle.std.proofs.lemmas.List.{append-nil, append_assoc}
-use Rattle.plan_terms.specs.Terms.{Entry, CutLine, Case, IsNetwork, IsBound, CertificateLine, IsCut, raw_value}
+use Rattle.plan_terms.specs.Terms.{Entry, CutLine, Case, IsNetwork, IsBound, CertificateLine, IsCut, raw_value, HasShortLengths}
 use Rattle.plan_terms.proofs.Lemmas.{bound_same}
 use Rattle.plan_types.specs.Terms.{lines_of_certificate}
 use Rattle.plan_types.specs.declared.certificate.CertLine.{CertLine}
@@ -21,8 +21,8 @@ use Rattle.plan_rounds.specs.declared.rounds.Worked.{Worked}
 use Rattle.separator.specs.Separators.{IsFullHistory, IsSpotIn}
 use Rattle.planner.specs.SnapshotPlans.{AreHeld, IsSnapshotIn}
 use Rattle.planner.specs.SoundPlans.{AreOpeningAtMost, IsAboveOwnBounds, IsOwnAtMost}
-use Rattle.planner.specs.declared.certified.CertifiedBound.{CertifiedBound}
-use Rattle.planner.specs.inner.Finishing.{AreMultipliersOf, HasShortLengths, IsBetterBound, IsBoundOfMaster, IsGreaterBound, IsShareFor, bound_made}
+use Rattle.planner.specs.declared.own_bound.CertifiedBound.{CertifiedBound}
+use Rattle.planner.specs.inner.Finishing.{AreMultipliersOf, IsBetterBound, IsBoundOfMaster, IsGreaterBound, IsShareFor, bound_made}
 use Rattle.planner.proofs.BestBounds.{best_certified, each_at_most}
 use Rattle.planner.proofs.Candidates.{AreCandidates, IsCertifiedBound}
 use Rattle.planner.proofs.GreaterBounds.{best_is_certified, best_multipliers, lines_of_best, lines_of_own, no_greater}

@@ -2,7 +2,7 @@
 use Rattle.std.proofs.Common.{◌≡◌, ℕ, ◌≤◌, List, All, IfSome, get_or, length, take, drop, sym, ap, subst, ◌∙◌, arith}
 use Rattle.net_core.proofs.Library.{∥∥₁_elim, ∥∥₁_map, take-length, props, length-map}
 use Rattle.std.proofs.lemmas.List.{length-append, take-append-drop}
-use Rattle.plan_terms.specs.Terms.{Entry, Network, CutLine, States, Case, graph_in, AreDemands, IsNetwork, case, AreWithinLimits, IsCut, IsFallback}
+use Rattle.plan_terms.specs.Terms.{Entry, Network, CutLine, States, Case, graph_in, AreDemands, IsNetwork, case, AreWithinLimits, IsCut, IsFallback, HasShortLengths}
 use Rattle.plan_types.specs.declared.plan.Plan.{Plan}
 use Rattle.cut_pool.specs.Terms.{cut_of_line, cuts_of, IsSnapshotOf, opening_case}
 use Rattle.cut_pool.specs.declared.board.Board.{Board}
@@ -12,11 +12,12 @@ use Rattle.plan_rounds.specs.WorkedRounds.{AreWorkedRounds, IsPoolOf}
 use Rattle.plan_rounds.specs.declared.rounds.Worked.{Worked}
 use Rattle.plan_rounds.proofs.Rights.{right_low}
 use Rattle.share_covers.specs.declared.choice.Chosen.{Chosen}
+use Rattle.turn_lock.specs.Passes.{Seen}
 use Rattle.separator.specs.Separators.{IsSeenHistory}
 use Rattle.planner.specs.SnapshotPlans.{IsSnapshotIn, IsSnapshotPlan}
-use Rattle.planner.specs.declared.certified.CertifiedBound.{CertifiedBound}
+use Rattle.planner.specs.declared.own_bound.CertifiedBound.{CertifiedBound}
 use Rattle.planner.specs.inner.Candidates.{HaveBounds}
-use Rattle.planner.specs.inner.Finishing.{AreMultipliersOf, HasShortLengths, IsBetterBound, IsChosenFor, IsShareFor, plan_made}
+use Rattle.planner.specs.inner.Finishing.{AreMultipliersOf, IsBetterBound, IsChosenFor, IsShareFor, plan_made}
 use Rattle.planner.proofs.BestBounds.{have_bounds}
 use Rattle.planner.proofs.Histories.{cuts_both, version_few}
 use Rattle.planner.proofs.SnapshotBounds.{IsWorkedFor, candidates_are, multipliers_are, shares_are}
@@ -29,11 +30,11 @@ first_few n history =
     let both = ap length (cuts_both (take n history) (drop n history)) in
     omega (arith, parts, both, length-append (cuts_of (take n history)) (cuts_of (drop n history)))
 
-pub pool_few : {p : Case} {net : Network} {states : States} {history own : List Entry} {s : Snapshot} → ∥ IsSnapshotIn p history s ∥₁ → ∥ IsSeenHistory net states history own ∥₁ → length s.cuts ≤ 4096
-pool_few {history = history} {s = s} given seen =
+pub pool_few : {p : Case} {net : Network} {states : States} {known : Seen Entry} {s : Snapshot} → ∥ IsSnapshotIn p known.history s ∥₁ → ∥ IsSeenHistory net states known ∥₁ → length s.cuts ≤ 4096
+pool_few {known = known} {s = s} given seen =
     ∥∥₁_elim given (hlevel props) (λ is. ∥∥₁_elim seen (hlevel props) (λ kept.
     let same = ap length is.pooled in
-    let few = first_few s.position history in
+    let few = first_few s.position known.history in
     omega (arith, same, few, kept.few_cuts, length-map s.cuts cut_of_line)))
 
 pub pool_known : (net : Network) (states : States) (history : List Entry) (s : Snapshot) → AreDemands (length net.nodes) s.demands → ∥ IsSnapshotIn (case net states s.demands) history s ∥₁ → All HasShortLengths s.cuts
@@ -51,9 +52,9 @@ pool_known net states history s belong given short =
 
 -- ---- after the rounds
 
-pub worked_for : {p : Case} {net_before net_after : Network} {states_before states_after : States} {before own_before history own : List Entry} {s : Snapshot} {w : Worked}
-    → ∥ IsSnapshotIn p before s ∥₁ → ∥ AreWorkedRounds p history s.cuts w ∥₁ → ∥ IsNetwork p.nodes p.links ∥₁
-    → ∥ IsSeenHistory net_before states_before before own_before ∥₁ → ∥ IsSeenHistory net_after states_after history own ∥₁ → ∥ IsWorkedFor p before history s w ∥₁
+pub worked_for : {p : Case} {net_before net_after : Network} {states_before states_after : States} {before now : Seen Entry} {s : Snapshot} {w : Worked}
+    → ∥ IsSnapshotIn p before.history s ∥₁ → ∥ AreWorkedRounds p now.history s.cuts w ∥₁ → ∥ IsNetwork p.nodes p.links ∥₁
+    → ∥ IsSeenHistory net_before states_before before ∥₁ → ∥ IsSeenHistory net_after states_after now ∥₁ → ∥ IsWorkedFor p before.history now.history s w ∥₁
 worked_for given worked checked seen_before seen =
     ∥∥₁_elim given (hlevel props) (λ is. ∥∥₁_elim checked (hlevel props) (λ net. ∥∥₁_elim seen_before (hlevel props) (λ kept_before. ∥∥₁_elim seen (hlevel props) (λ kept. ∥∥₁_map worked (λ are. record {
       net = net;

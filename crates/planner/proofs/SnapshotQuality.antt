@@ -2,7 +2,7 @@
 use Rattle.std.proofs.Common.{◌≡◌, ℕ, pos, ◌+◌, ◌*◌, ◌<◌, ◌≤◌, ◌<ℤ◌, inl, inr, ⊎_elim, List, [], ◌∷◌, ◌++◌, All, Option, Some, None, IfSome, get_or, length, refl, sym, subst, arith}
 use Rattle.net_core.proofs.Library.{ints, slice_get-get_or}
 use Rattle.std.proofs.lemmas.List.{append-nil}
-use Rattle.plan_terms.specs.Terms.{Evidence, Route, Master, RouteColumn, WideKind, StateId, Caps, CutLine, Routing, Case, graph_in, AreDemands, IsNetwork, IsCut}
+use Rattle.plan_terms.specs.Terms.{Evidence, Route, Master, RouteColumn, WideKind, StateId, Caps, CutLine, Routing, Case, graph_in, AreDemands, IsNetwork, IsCut, HasShortLengths}
 use Rattle.module_prices.specs.declared.cheapest.UnitPair.{UnitPair}
 use Rattle.plan_types.specs.declared.plan.Plan.{Plan}
 use Rattle.plan_types.specs.declared.quality.Cause.TheVariants.{Wide, Cuts}
@@ -21,7 +21,7 @@ use Rattle.plan_law.specs.WorkedLists.{Round, after_rounds, IsWorkedList}
 use Rattle.plan_rounds.specs.WorkedRounds.{EndsBy, IsBestAt, IsBestOfLast, IsCarriedAt, IsWideAt}
 use Rattle.share_covers.specs.Choices.{IsQualityAfter, IsQualityOfShare, IsWideAtCovers}
 use Rattle.share_covers.specs.declared.choice.Chosen.{Chosen}
-use Rattle.planner.specs.inner.Finishing.{HasShortLengths, IsShareFor}
+use Rattle.planner.specs.inner.Finishing.{IsShareFor}
 use Rattle.planner.proofs.EvidenceForms.{master_evidence_form, route_evidence_form}
 use Rattle.planner.proofs.GreaterBounds.{keeps_up}
 use Rattle.planner.proofs.QualityForms.{installed_form, routed_form, share_caps_form}

@@ -1,7 +1,7 @@
 -- a plan of a snapshot is sound
 use Rattle.std.proofs.Common.{◌≡◌, ℕ, ◌+◌, ◌^◌, ◌<◌, ◌≤◌, List, All, Option, Some, None, get_or, length, slice_get, refl, sym, ap, subst, arith}
 use Rattle.net_core.proofs.Library.{slice_get-get_or}
-use Rattle.plan_terms.specs.Terms.{Entry, Routing, Case, graph_in, AreDemands, Joins, IsNetwork, AreCounts, AreWithinLimits, capacities, total_cost, raw_value, IsFallback, raised, Carries}
+use Rattle.plan_terms.specs.Terms.{Entry, Routing, Case, graph_in, AreDemands, Joins, IsNetwork, AreCounts, AreWithinLimits, capacities, total_cost, raw_value, IsFallback, raised, Carries, HasShortLengths}
 use Rattle.plan_terms.proofs.Lemmas.{lowest_positive, weak_duality}
 use Rattle.plan_types.specs.Terms.{lines_of_certificate}
 use Rattle.plan_types.specs.declared.plan.Plan.{Plan}
@@ -17,8 +17,8 @@ use Rattle.plan_rounds.specs.declared.rounds.Worked.{Worked}
 use Rattle.share_covers.specs.InstalledRoutes.{installed_caps}
 use Rattle.share_covers.specs.declared.choice.Chosen.{Chosen}
 use Rattle.planner.specs.SnapshotPlans.{IsSnapshotPlan}
-use Rattle.planner.specs.declared.certified.CertifiedBound.{CertifiedBound}
-use Rattle.planner.specs.inner.Finishing.{HasShortLengths, IsBetterBound, IsChosenFor, IsGreaterBound, plan_made}
+use Rattle.planner.specs.declared.own_bound.CertifiedBound.{CertifiedBound}
+use Rattle.planner.specs.inner.Finishing.{IsBetterBound, IsChosenFor, IsGreaterBound, plan_made}
 use Rattle.planner.proofs.Candidates.{IsCertifiedBound}
 use Rattle.planner.proofs.Carrying.{able}
 use Rattle.planner.proofs.GreaterBounds.{best_multipliers}

@@ -1,5 +1,5 @@
 -- plans of a snapshot, which come of a worked list of its cuts
-use Rattle.std.specs.Prelude.{◌≡◌, ◌≤◌, ◌⊎◌, List, [], All, Contains, length, map, take}
+use Rattle.std.specs.Prelude.{◌≡◌, ◌≤◌, ◌⊎◌, List, All, Contains, length, map, take}
 use Rattle.plan_terms.specs.Terms.{Entry, CutLine, Case, IsCut, IsFirstSeparation}
 use Rattle.plan_types.specs.Terms.{IsCarryingPlan, IsCertifiedPlan, IsCostedPlan}
 use Rattle.plan_types.specs.declared.plan.Plan.{Plan}
@@ -7,7 +7,8 @@ use Rattle.plan_report.specs.Terms.{known_to, IsPlanInForm}
 use Rattle.cut_pool.specs.Terms.{cut_of_line, cuts_of}
 use Rattle.cut_pool.specs.declared.snapshot.Snapshot.{Snapshot}
 use Rattle.plan_law.specs.LoosePlans.{IsWorkedPlan}
-use Rattle.plan_rounds.specs.WorkedRounds.{IsWorkedPool}
+use Rattle.plan_rounds.specs.WorkedRounds.{IsWorkedAlone}
+use Rattle.turn_lock.specs.Passes.{Seen}
 use Rattle.separator.specs.Separators.{IsFullHistory, IsSpotIn}
 use Rattle.planner.specs.SoundPlans.{IsAboveOwnBounds, IsBelowFallback, IsLowestPlan}
 use Rattle.planner.specs.declared.answer.PlanAnswer.{PlanAnswer}
@@ -50,6 +51,6 @@ IsSnapshotAnswer p snapshot before after (Planned plan) = ∥ IsSnapshotPlan p s
 IsSnapshotAnswer p snapshot before after (NotSurvivable s demands) = IsFirstSeparation p s.state.0 s.demand × (after ≡ before) × (demands ≡ snapshot.demands)
 
 -- where a plan is made over a history that was empty, and that the separator alone has written, the pool is a worked list in its order
-abbrev pub PoolsAlone : Case → (before after own : List Entry) → PlanAnswer → Type 0
-PoolsAlone p before after own (Planned plan) = before ≡ [] → after ≡ own → ∥ IsWorkedPool p after ∥₁
-PoolsAlone p before after own (NotSurvivable s demands) = Unit {0}
+abbrev pub PoolsAlone : Case → (old new : Seen Entry) → PlanAnswer → Type 0
+PoolsAlone p old new (Planned plan) = IsWorkedAlone p old new
+PoolsAlone p old new (NotSurvivable s demands) = Unit {0}

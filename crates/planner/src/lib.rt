@@ -3,11 +3,11 @@
 #![tactic(auto)]
 
 pub mod answer;
-mod better;
-mod certified;
-mod chosen;
-mod made;
+mod bound;
+mod choose_counts;
 mod on_snapshot;
+mod own_bound;
+mod plan;
 pub mod ranges;
 
 pub use answer::PlanAnswer;

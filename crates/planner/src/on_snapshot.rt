@@ -1,13 +1,13 @@
-ghost use Rattle.std.specs.Prelude.{◌≡◌, [], IfOk, OnOk, length};
+ghost use Rattle.std.specs.Prelude.{◌≡◌, IfOk, OnOk, length};
 ghost use Rattle.plan_terms.specs.Terms.{AreDemands, case, IsSurvivable};
-ghost use Rattle.plan_rounds.specs.WorkedRounds.{IsWorkedPool};
+ghost use Rattle.plan_rounds.specs.WorkedRounds.{IsWorkedAlone};
 ghost use Rattle.separator.specs.Separators.{SeesMore};
 ghost use Rattle.planner.specs.SnapshotPlans.{IsSnapshotAnswer, IsSnapshotIn, IsSnapshotPlan, PoolsAlone};
 
 use crate::answer::PlanAnswer;
-use crate::better::better_bound;
-use crate::chosen::choose_counts;
-use crate::made::{Standing, make_plan};
+use crate::bound::better_bound;
+use crate::choose_counts::choose_counts;
+use crate::plan::{Standing, make_plan};
 use crate::ranges::are_short_cuts;
 use cut_pool::Snapshot;
 use failure_states::first_separated;
@@ -26,17 +26,15 @@ fn plan_survivable<S: Separate>(
     snapshot: Snapshot,
     separator: &mut S,
 ) -> Result<Plan, NoMemory>
-    requires network { S.network separator.old ≡ net.now }
-    requires states { S.states separator.old ≡ states.now }
+    requires network { (S.frame separator.old).network ≡ net.now }
+    requires states { (S.frame separator.old).states ≡ states.now }
     requires belong { AreDemands (length net.now.nodes) snapshot.demands }
-    requires snapshot { ∥ IsSnapshotIn (case net.now states.now snapshot.demands) (S.history separator.old) snapshot ∥₁ }
+    requires snapshot { ∥ IsSnapshotIn (case net.now states.now snapshot.demands) (S.seen_of separator.old).history snapshot ∥₁ }
     requires survivable { IsSurvivable (case net.now states.now snapshot.demands) }
-    ensures network { S.network separator.new ≡ S.network separator.old }
-    ensures states { S.states separator.new ≡ S.states separator.old }
-    ensures mark { S.mark separator.new ≡ S.mark separator.old }
-    ensures more { SeesMore (S.history separator.old) (S.own separator.old) (S.history separator.new) (S.own separator.new) }
-    ensures plan { IfOk result (λ plan. ∥ IsSnapshotPlan (case net.now states.now snapshot.demands) snapshot (S.history separator.new) plan ∥₁) }
-    ensures alone { OnOk result (S.history separator.old ≡ [] → S.history separator.new ≡ S.own separator.new → ∥ IsWorkedPool (case net.now states.now snapshot.demands) (S.history separator.new) ∥₁) }
+    ensures frame { S.frame separator.new ≡ S.frame separator.old }
+    ensures more { SeesMore (S.seen_of separator.old) (S.seen_of separator.new) }
+    ensures plan { IfOk result (λ plan. ∥ IsSnapshotPlan (case net.now states.now snapshot.demands) snapshot (S.seen_of separator.new).history plan ∥₁) }
+    ensures alone { OnOk result (IsWorkedAlone (case net.now states.now snapshot.demands) (S.seen_of separator.old) (S.seen_of separator.new)) }
 {
     are_short_cuts(snapshot.cuts.items());
     let Snapshot {
@@ -80,16 +78,15 @@ pub fn plan_snapshot<S: Separate>(
     snapshot: Snapshot,
     separator: &mut S,
 ) -> Result<PlanAnswer, NoMemory>
-    requires network { S.network separator.old ≡ net.now }
-    requires states { S.states separator.old ≡ states.now }
+    requires network { (S.frame separator.old).network ≡ net.now }
+    requires states { (S.frame separator.old).states ≡ states.now }
     requires belong { AreDemands (length net.now.nodes) snapshot.demands }
-    requires snapshot { ∥ IsSnapshotIn (case net.now states.now snapshot.demands) (S.history separator.old) snapshot ∥₁ }
-    ensures network { S.network separator.new ≡ S.network separator.old }
-    ensures states { S.states separator.new ≡ S.states separator.old }
-    ensures mark { S.mark separator.new ≡ S.mark separator.old }
-    ensures more { SeesMore (S.history separator.old) (S.own separator.old) (S.history separator.new) (S.own separator.new) }
-    ensures answer { IfOk result (IsSnapshotAnswer (case net.now states.now snapshot.demands) snapshot (S.history separator.old) (S.history separator.new)) }
-    ensures alone { IfOk result (PoolsAlone (case net.now states.now snapshot.demands) (S.history separator.old) (S.history separator.new) (S.own separator.new)) }
+    requires snapshot { ∥ IsSnapshotIn (case net.now states.now snapshot.demands) (S.seen_of separator.old).history snapshot ∥₁ }
+    ensures frame { S.frame separator.new ≡ S.frame separator.old }
+    ensures more { SeesMore (S.seen_of separator.old) (S.seen_of separator.new) }
+    ensures answer { IfOk result (IsSnapshotAnswer (case net.now states.now snapshot.demands) snapshot
+        (S.seen_of separator.old).history (S.seen_of separator.new).history) }
+    ensures alone { IfOk result (PoolsAlone (case net.now states.now snapshot.demands) (S.seen_of separator.old) (S.seen_of separator.new)) }
 {
     match first_separated(alloc, net, states, &snapshot.demands)? {
         Some(separation) => Ok(PlanAnswer::NotSurvivable(separation, snapshot.demands)),

@@ -1,5 +1,5 @@
 ghost use Rattle.std.specs.Prelude.{◌<◌, ◌≤◌, ◌^◌, All, length};
-ghost use Rattle.planner.specs.inner.Finishing.{HasShortLengths};
+ghost use Rattle.plan_terms.specs.Terms.{HasShortLengths};
 
 use net_core::{CutLine, Demand};
 

@@ -5,7 +5,7 @@ use Rattle.plan_types.specs.declared.certificate.Spot.{Spot}
 use Rattle.metric_cut.specs.Bounded.{HaveBound}
 use Rattle.metric_cut.specs.declared.certificate.OwnCertificate.{OwnCertificate}
 use Rattle.plan_rounds.specs.declared.rounds.Worked.{Worked}
-use Rattle.planner.specs.declared.certified.CertifiedBound.{CertifiedBound}
+use Rattle.planner.specs.declared.own_bound.CertifiedBound.{CertifiedBound}
 
 -- each of the rounds' cuts has a bound of its own, and a spot
 pub record HaveBounds (links : List Link) (w : Worked) : Type 0 where

@@ -12,13 +12,9 @@ use Rattle.master_bound.specs.declared.answer.Multiplier.{Multiplier}
 use Rattle.share_covers.specs.Choices.{IsChosen, IsQualityOfShare}
 use Rattle.share_covers.specs.declared.choice.Chosen.{Chosen}
 use Rattle.plan_rounds.specs.declared.rounds.Worked.{Worked}
-use Rattle.planner.specs.declared.certified.CertifiedBound.{CertifiedBound}
-use Rattle.planner.specs.declared.made.Standing.{Standing}
+use Rattle.planner.specs.declared.own_bound.CertifiedBound.{CertifiedBound}
+use Rattle.planner.specs.declared.plan.Standing.{Standing}
 use Rattle.planner.specs.inner.Candidates.{IsBestBound}
-
--- lengths below 2^32
-abbrev pub HasShortLengths : CutLine → Type 0
-HasShortLengths cut = All (λ x. x < 2 ^ 32) cut.lengths
 
 -- ---- the bound
 

@@ -2,7 +2,7 @@ use Rattle.separator.proofs.Seeing.{sees_none}
 use Rattle.planner.proofs.on_snapshot.plan_snapshot.Goals as goal
 
 pub returns-in_err-separation-clause-more : goal.returns-in_err-separation-clause-more
-returns-in_err-separation-clause-more g c = sees_none (g.S.Separate.history c.args.separator.now) (g.S.Separate.own c.args.separator.now)
+returns-in_err-separation-clause-more g c = sees_none (g.S.Separate.seen_of c.args.separator.now)
 
 pub returns-in-Some-clause-more : goal.returns-in-Some-clause-more
-returns-in-Some-clause-more g c = sees_none (g.S.Separate.history c.args.separator.now) (g.S.Separate.own c.args.separator.now)
+returns-in-Some-clause-more g c = sees_none (g.S.Separate.seen_of c.args.separator.now)

@@ -1,19 +1,18 @@
 use Rattle.std.proofs.Common.{All, List, refl, subst}
-use Rattle.plan_terms.specs.Terms.{CutLine}
+use Rattle.plan_terms.specs.Terms.{CutLine, HasShortLengths}
 use Rattle.separator.proofs.Seeing.{sees_none}
-use Rattle.planner.specs.inner.Finishing.{HasShortLengths}
 use Rattle.planner.proofs.SnapshotGiven.{bounds_known, made_sound, multipliers_known, pool_few, pool_known, shares_known, worked_for}
 use Rattle.planner.proofs.on_snapshot.plan_survivable.Goals as goal
 
 pub returns-in_err-fallback-clause-more : goal.returns-in_err-fallback-clause-more
-returns-in_err-fallback-clause-more g c = sees_none (g.S.Separate.history c.args.separator.now) (g.S.Separate.own c.args.separator.now)
+returns-in_err-fallback-clause-more g c = sees_none (g.S.Separate.seen_of c.args.separator.now)
 
 pub work_rounds-requires-clause-few : goal.work_rounds-requires-clause-few
 work_rounds-requires-clause-few g c = pool_few c.requires.snapshot (g.met.S.Separate.seen c.args.separator.now)
 
 pub work_rounds-requires-clause-pool : goal.work_rounds-requires-clause-pool
 work_rounds-requires-clause-pool g c =
-    pool_known c.args.net.now c.args.states.now (g.S.Separate.history c.args.separator.now) c.args.snapshot c.requires.belong c.requires.snapshot
+    pool_known c.args.net.now c.args.states.now (g.S.Separate.seen_of c.args.separator.now).history c.args.snapshot c.requires.belong c.requires.snapshot
     (subst (λ (xs : List CutLine). All HasShortLengths xs) c.items.ensures c.are_short_cuts.ensures)
 
 pub better_bound-requires-clause-cuts : goal.better_bound-requires-clause-cuts

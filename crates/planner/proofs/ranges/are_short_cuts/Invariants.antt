@@ -1,5 +1,5 @@
 use Rattle.std.proofs.Common.{All, take}
-use Rattle.planner.specs.inner.Finishing.{HasShortLengths}
+use Rattle.plan_terms.specs.Terms.{HasShortLengths}
 use Rattle.planner.proofs.ranges.are_short_cuts.Given as goal
 
 -- the cuts so far

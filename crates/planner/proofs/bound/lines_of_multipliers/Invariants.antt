@@ -1,6 +1,6 @@
 use Rattle.std.proofs.Common.{◌≡◌, map, take}
 use Rattle.planner.specs.inner.Finishing.{line_at}
-use Rattle.planner.proofs.better.lines_of_multipliers.Given as goal
+use Rattle.planner.proofs.bound.lines_of_multipliers.Given as goal
 
 -- the lines of the multipliers so far
 abbrev pub invariant-loop-i : goal.invariant-loop-i

@@ -1,7 +1,7 @@
 ghost use Rattle.std.specs.Prelude.{◌≡◌, ◌≤◌, All, length};
 ghost use Rattle.planner.specs.inner.Finishing.{plan_made};
 
-use crate::certified::CertifiedBound;
+use crate::own_bound::CertifiedBound;
 use crate::ranges::are_named;
 use net_core::Demands;
 use plan_types::Plan;

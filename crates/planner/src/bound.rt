@@ -2,7 +2,7 @@ ghost use Rattle.std.specs.Prelude.{◌≡◌, ◌*◌, ◌<◌, ◌≤◌, All,
 ghost use Rattle.planner.specs.inner.Candidates.{HaveBounds};
 ghost use Rattle.planner.specs.inner.Finishing.{AreMultipliersOf, IsBetterBound, IsBoundOfMaster, line_at};
 
-use crate::certified::{CertifiedBound, best_bound};
+use crate::own_bound::{CertifiedBound, best_bound};
 use checked_fraction::cmp;
 use master_bound::{Best, Multiplier};
 use metric_cut::RawValue;
