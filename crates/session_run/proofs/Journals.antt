@@ -2,12 +2,11 @@
 use Rattle.std.proofs.Common.{◌≡◌, ℕ, zero, suc, ◌^◌, ◌<◌, ◌≤◌, List, [], ◌∷◌, ◌++◌, All, Some, drop, length, map, slice_get, take, sym, ap, subst, ◌∙◌, arith}
 use Rattle.net_core.proofs.Library.{length-map, All-take, All-head, All-tail, slice_get-get_or, slice_get_within}
 use Rattle.std.proofs.lemmas.List.{length-take-le}
-use Rattle.plan_terms.specs.Terms.{Edit, Set, Add, Drop, Entry, Edited, Pooled, Reply, Accepted, UnknownDemand, KnownDemand, UnknownNode, SelfDemand, TooMany, TooMuch, StateId, CutLine, Case, AreDemands, IsCut, edit_need, edit_reply, version_after}
+use Rattle.plan_terms.specs.Terms.{Edit, Set, Add, Drop, Entry, Edited, Pooled, Reply, Accepted, UnknownDemand, KnownDemand, UnknownNode, SelfDemand, TooMany, TooMuch, StateId, CutLine, Case, AreDemands, IsCut, edit_need, edit_reply, version_after, HasShortLengths}
 use Rattle.plan_report.specs.Terms.{HasPoolLine, IsCutInForm, IsEntryInForm, IsReplyInForm}
 use Rattle.cut_pool.specs.Terms.{Dated, IsLegalHistory, cut_of_line, cuts_of, demands_left, left_by, left_by_entry, version_left}
 use Rattle.text_kit.specs.Terms.{IsEditInForm}
 use Rattle.planner.proofs.Histories.{cuts_both, get_after, reply_next, version_few}
-use Rattle.session_run.specs.inner.Ranges.{HasShortLengths}
 use Rattle.session_run.specs.inner.Running.{IsEntryOfCaller}
 use Rattle.session_run.proofs.Replies.{HasLowTotal, IsLow, reply_low}
 

@@ -1,3 +1,4 @@
+mod Acts
 pub mod Callers
 mod Closing
 pub mod Counts

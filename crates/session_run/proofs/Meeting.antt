@@ -1,19 +1,21 @@
 -- two groups of callers that have met
-use Rattle.std.proofs.Common.{◌≡◌, ◌∙◌, ℕ, ◌+◌, ◌<◌, ◌≤◌, ◌==◌, ⊎_elim, List, [], ◌∷◌, ◌++◌, flat_map, length, true, ap, refl, sym, subst, arith, Result, Ok, Err, Vec}
+use Rattle.std.proofs.Common.{◌≡◌, ◌∙◌, ℕ, ◌<◌, ◌≤◌, ◌==◌, ⊎_elim, List, [], ◌∷◌, ◌++◌, flat_map, length, true, ap, refl, sym, subst, arith, Result, Ok, Err, Vec}
 use Rattle.std.proofs.lemmas.List.{append-nil, length-append}
 use Rattle.net_core.proofs.Library.{filter-append, list_any}
 use Rattle.plan_terms.specs.Terms.{Entry, Case}
 use Rattle.plan_types.specs.declared.report.Outcome.{Outcome}
-use Rattle.cut_pool.specs.Terms.{cuts_of, pooled_by}
+use Rattle.cut_pool.specs.Terms.{pooled_by}
 use Rattle.session_script.specs.declared.script.Act.{Act}
 use Rattle.session_script.specs.declared.script.Command.{Command}
 use Rattle.turn_lock.specs.Histories.{IsPrefix, are_places, merged}
-use Rattle.turn_lock.specs.Passes.{items_at, own_items, own_places, seen_by}
+use Rattle.turn_lock.specs.Passes.{Seen, items_at}
 use Rattle.turn_lock.proofs.Places.{prefix_le, wider}
 use Rattle.board_desk.specs.declared.caller.Caller.{Caller}
+use Rattle.board_desk.specs.Turns.{caller_places, caller_seen}
+use Rattle.board_desk.proofs.Passes.{own_at, placed_in}
 use Rattle.separation_workers.proofs.Places.{items_front}
 use Rattle.session_run.specs.Transcripts.{RunsFrom, acts_of, outcome_caller, edit_asked, edit_made, outcomes_of}
-use Rattle.session_run.specs.inner.Running.{AreBoth, EndsRun, HaveRun, IsEntryOfCaller, IsFullAt, commands_of, is_of}
+use Rattle.session_run.specs.inner.Running.{AreBoth, AreFewOwn, EndsRun, HaveRun, IsEntryOfCaller, IsFullAt, commands_of, is_of}
 use Rattle.session_run.specs.declared.setting.Stop.{Stop}
 use Rattle.session_run.specs.declared.setting.Stop.TheVariants.{NoMemory, Full}
 use Rattle.session_run.proofs.Dealt.{IsDealt, dealt, some_command}
@@ -37,9 +39,9 @@ full_in : (seen h : List Entry) (stop : Stop) → IsPrefix seen h → IsFullAt s
 full_in seen h NoMemory begins full = tt
 full_in seen h Full begins full = omega (arith, full, ap length begins.1, length-append seen begins.0)
 
-few_of : {A : Type 0} (p : Case) (cs : List Command) (seen own : List Entry) (ended : Result (Vec Outcome A) Stop) → EndsRun p cs seen own ended → length own ≤ length cs + length (cuts_of own)
-few_of p cs seen own (Ok outcomes) h = h.few
-few_of p cs seen own (Err stop) h = h.0
+few_of : {A : Type 0} (p : Case) (cs : List Command) (seen : Seen Entry) (ended : Result (Vec Outcome A) Stop) → EndsRun p cs seen ended → AreFewOwn seen cs
+few_of p cs seen (Ok outcomes) h = h.few
+few_of p cs seen (Err stop) h = h.0
 
 module _ (p : Case) (one two all : List Command) (dealt : IsDealt one two all) (some_one : 1 ≤ length one) (some_two : 1 ≤ length two)
     (s1 s2 h : List Entry) (first : IsPrefix s1 h) (second : IsPrefix s2 h) (ps qs : List ℕ) (placed : are_places 0 (length h) qs ≡ true) where
@@ -52,12 +54,21 @@ module _ (p : Case) (one two all : List Command) (dealt : IsDealt one two all) (
   abbrev own : List Entry
   own = items_at h (merged ps qs)
 
-  few_both : length own1 ≤ length one + length (cuts_of own1) → length own2 ≤ length two + length (cuts_of own2) → length own ≤ length all + length (cuts_of own)
+  abbrev seen1 : Seen Entry
+  seen1 = record { history = s1; own = own1 }
+
+  abbrev seen2 : Seen Entry
+  seen2 = record { history = s2; own = own2 }
+
+  abbrev seen : Seen Entry
+  seen = record { history = h; own = own }
+
+  few_both : AreFewOwn seen1 one → AreFewOwn seen2 two → AreFewOwn seen all
   few_both a b =
       let sum = dealt.count in
       omega (arith, a, b, sum, met_count h ps qs, met_given h ps qs pooled_by)
 
-  module _ (o1 o2 : List Outcome) (a : HaveRun p s1 own1 one o1) (b : HaveRun p s2 own2 two o2) where
+  module _ (o1 o2 : List Outcome) (a : HaveRun p seen1 one o1) (b : HaveRun p seen2 two o2) where
     edits_both : (caller : ℕ) → flat_map (edit_made caller) own ≡ flat_map edit_asked (acts_of caller all)
     edits_both caller = ⊎_elim
         (λ d.
@@ -85,7 +96,7 @@ module _ (p : Case) (one two all : List Command) (dealt : IsDealt one two all) (
         (subst (RunsFrom p h caller 0 1 (acts_of caller one)) (sym outs) (run_in p s1 h first caller (acts_of caller one) (outcomes_of caller o1) (a.runs caller))))
         (dealt.acts caller)
 
-    run_both : HaveRun p h own all (o1 ++ o2)
+    run_both : HaveRun p seen all (o1 ++ o2)
     run_both = record {
       edits = edits_both;
       runs = runs_both;
@@ -100,28 +111,32 @@ module _ (p : Case) (one two all : List Command) (dealt : IsDealt one two all) (
       alone = λ is. let sum = dealt.count in let single = is.alone in absurd (omega (arith, some_one, some_two, sum, ap length single));
     }
 
-  pub ends_both : {A : Type 0} (r1 r2 r : Result (Vec Outcome A) Stop) → AreBoth r1 r2 r → EndsRun p one s1 own1 r1 → EndsRun p two s2 own2 r2 → EndsRun p all h own r
-  ends_both (Ok o1) (Ok o2) (Ok os) is a b = subst (HaveRun p h own all) (sym is) (run_both o1.items o2.items a b)
+  pub ends_both : {A : Type 0} (r1 r2 r : Result (Vec Outcome A) Stop) → AreBoth r1 r2 r → EndsRun p one seen1 r1 → EndsRun p two seen2 r2 → EndsRun p all seen r
+  ends_both (Ok o1) (Ok o2) (Ok os) is a b = subst (HaveRun p seen all) (sym is) (run_both o1.items o2.items a b)
   ends_both (Ok o1) (Ok o2) (Err stop) is a b = (few_both a.few b.few, subst (IsFullAt h) (sym is) tt)
   ends_both (Ok o1) (Err s) (Ok os) is a b = absurd is
   ends_both (Ok o1) (Err s) (Err stop) is a b = (few_both a.few b.0, subst (IsFullAt h) (sym is) (full_in s2 h s second b.1))
   ends_both (Err s) r2 (Ok os) is a b = absurd is
-  ends_both (Err s) r2 (Err stop) is a b = (few_both a.0 (few_of p two s2 own2 r2 b), subst (IsFullAt h) (sym is) (full_in s1 h s first a.1))
+  ends_both (Err s) r2 (Err stop) is a b = (few_both a.0 (few_of p two seen2 r2 b), subst (IsFullAt h) (sym is) (full_in s1 h s first a.1))
 
 -- the callers of two groups have met
 module _ (p : Case) (one two met : Caller) (low middle high : ℕ) (lower : low < middle) (upper : middle < high) (cs : List Command)
-    (first : IsPrefix (seen_by one.pass) (seen_by met.pass)) (second : IsPrefix (seen_by two.pass) (seen_by met.pass)) (places : own_places met.pass ≡ merged (own_places one.pass) (own_places two.pass)) where
+    (first : IsPrefix (caller_seen one).history (caller_seen met).history) (second : IsPrefix (caller_seen two).history (caller_seen met).history)
+    (places : caller_places met ≡ merged (caller_places one) (caller_places two)) where
   pub callers_met : {A : Type 0} (r1 r2 r : Result (Vec Outcome A) Stop) → list_any (is_of low middle) cs ≡ true → list_any (is_of middle high) cs ≡ true → AreBoth r1 r2 r
-      → EndsRun p (commands_of low middle cs) (seen_by one.pass) (own_items one.pass) r1 → EndsRun p (commands_of middle high cs) (seen_by two.pass) (own_items two.pass) r2
-      → EndsRun p (commands_of low high cs) (seen_by met.pass) (own_items met.pass) r
+      → EndsRun p (commands_of low middle cs) (caller_seen one) r1 → EndsRun p (commands_of middle high cs) (caller_seen two) r2
+      → EndsRun p (commands_of low high cs) (caller_seen met) r
   callers_met r1 r2 r some_one some_two both a b =
-      let h = seen_by met.pass in
-      let in_one = items_in (seen_by one.pass) h (own_places one.pass) first one.pass.placed in
-      let in_two = items_in (seen_by two.pass) h (own_places two.pass) second two.pass.placed in
-      let placed = wider 0 0 (length (seen_by two.pass)) (length h) (own_places two.pass) (omega arith) (prefix_le (seen_by two.pass) h second) two.pass.placed in
-      subst (λ ps. EndsRun p (commands_of low high cs) h (items_at h ps) r) (sym places)
+      let s1 = (caller_seen one).history in
+      let s2 = (caller_seen two).history in
+      let h = (caller_seen met).history in
+      let in_one = own_at one.pass ∙ items_in s1 h (caller_places one) first (placed_in one.pass) in
+      let in_two = own_at two.pass ∙ items_in s2 h (caller_places two) second (placed_in two.pass) in
+      let in_met : (caller_seen met).own ≡ items_at h (merged (caller_places one) (caller_places two)) = own_at met.pass ∙ ap (items_at h) places in
+      let within = wider 0 0 (length s2) (length h) (caller_places two) (omega arith) (prefix_le s2 h second) (placed_in two.pass) in
+      subst (λ es. EndsRun p (commands_of low high cs) (record { history = h; own = es }) r) (sym in_met)
       (ends_both p (commands_of low middle cs) (commands_of middle high cs) (commands_of low high cs) (dealt low middle high lower upper cs)
       (some_command (is_of low middle) cs some_one) (some_command (is_of middle high) cs some_two)
-      (seen_by one.pass) (seen_by two.pass) h first second (own_places one.pass) (own_places two.pass) placed r1 r2 r both
-      (subst (λ es. EndsRun p (commands_of low middle cs) (seen_by one.pass) es r1) in_one a)
-      (subst (λ es. EndsRun p (commands_of middle high cs) (seen_by two.pass) es r2) in_two b))
+      s1 s2 h first second (caller_places one) (caller_places two) within r1 r2 r both
+      (subst (λ es. EndsRun p (commands_of low middle cs) (record { history = s1; own = es }) r1) in_one a)
+      (subst (λ es. EndsRun p (commands_of middle high cs) (record { history = s2; own = es }) r2) in_two b))

@@ -19,7 +19,7 @@ use Rattle.net_core.proofs.Lists.{get_front}
 use Rattle.planner.proofs.Histories.{cuts_both, version_few}
 use Rattle.session_run.specs.Transcripts.{IsOutcomeAfter, RunsFrom, acts_of, outcome_caller, outcomes_of}
 use Rattle.session_run.specs.inner.Ranges.{IsShortNamed}
-use Rattle.session_run.specs.inner.Running.{HaveRun}
+use Rattle.session_run.specs.inner.Running.{HaveRun, all_own}
 use Rattle.session_run.proofs.FormProps.{outcome_prop}
 use Rattle.session_run.proofs.Journals.{line_at}
 
@@ -109,7 +109,7 @@ module _ (p : Case) (es : List Entry) (lines : List CutLine) (few : length es �
   none_form caller [] run = All-nil InForm
   none_form caller (o ∷ os) run = absurd run
 
-  module _ (commands : List Command) (outcomes : List Outcome) (script : IsScript commands) (h : HaveRun p es es commands outcomes) (short : All IsShortNamed outcomes) where
+  module _ (commands : List Command) (outcomes : List Outcome) (script : IsScript commands) (h : HaveRun p (all_own es) commands outcomes) (short : All IsShortNamed outcomes) where
     few_of : (caller : ℕ) → length (outcomes_of caller outcomes) ≤ 64
     few_of caller =
         let count = h.count in

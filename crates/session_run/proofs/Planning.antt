@@ -3,7 +3,7 @@ use Rattle.std.proofs.Common.{◌≡◌, ◌∙◌, ◌<◌, [], ◌∷◌, List
 use Rattle.net_core.proofs.Library.{∥∥₁_elim, ∥∥₁_map, props, slice_get_within}
 use Rattle.plan_terms.specs.Terms.{Demand, Entry, NoMemory, Network, States, Case, AreDemands, case, IsCut, IsFirstSeparation}
 use Rattle.plan_types.specs.declared.report.Outcome.{Outcome}
-use Rattle.plan_rounds.specs.WorkedRounds.{IsWorkedPool}
+use Rattle.plan_rounds.specs.WorkedRounds.{IsWorkedAlone, IsWorkedPool}
 use Rattle.cut_pool.specs.declared.board.Board.{Board}
 use Rattle.cut_pool.specs.declared.snapshot.Snapshot.{Snapshot}
 use Rattle.cut_pool.specs.Terms.{IsSnapshotOf, opening_case, origin_of, cuts_of, case_left}
@@ -13,11 +13,12 @@ use Rattle.planner.specs.declared.answer.PlanAnswer.TheVariants.{Planned, NotSur
 use Rattle.planner.specs.SnapshotPlans.{IsSnapshotAnswer, IsSnapshotIn, IsSnapshotPlan, PoolsAlone}
 use Rattle.planner.proofs.Histories.{version_few}
 use Rattle.separator.proofs.Seeing.{sees_none}
-use Rattle.turn_lock.specs.Passes.{opening_of, own_items, seen_by}
+use Rattle.turn_lock.specs.Passes.{Seen, opening_of}
 use Rattle.board_desk.specs.declared.caller.Caller.{Caller}
-use Rattle.board_desk.specs.Turns.{AreAtOneDesk, HasTurn, board_made}
+use Rattle.board_desk.specs.Turns.{HasTurn, IsSameCaller, board_made, caller_seen}
 use Rattle.session_run.specs.declared.plans.Asked.{Asked}
 use Rattle.session_run.specs.Transcripts.{IsOutcomeAfter, IsPlanned}
+use Rattle.session_run.specs.inner.Running.{case_made}
 use Rattle.session_run.specs.inner.Turns.{IsOutcomeFor, IsSnapshotHere, NamesDemand, PlansAt, PlansSince}
 use Rattle.session_run.proofs.Turns.{own_same}
 
@@ -31,11 +32,11 @@ same_opening a b same = ap case_at same
     case_at o = case o.0 o.1 o.2
 
 -- a snapshot that was taken in a turn is of all that its caller has then seen
-pub snapshot_here : (old new : Caller) (found : Board) (snapshot : Snapshot) → HasTurn old found found new → IsSnapshotOf found snapshot → IsSnapshotHere (opening_case (board_made old)) (seen_by new.pass) snapshot
+pub snapshot_here : (old new : Caller) (found : Board) (snapshot : Snapshot) → HasTurn old found found new → IsSnapshotOf found snapshot → IsSnapshotHere (case_made old) (caller_seen new).history snapshot
 snapshot_here old new found snapshot turn is =
     let cuts : ∥ All (IsCut (case_left (opening_case found) found.entries)) snapshot.cuts ∥₁ =
     subst (λ d. ∥ All (IsCut (case found.net.now found.states.now d)) snapshot.cuts ∥₁) is.demands_are is.cuts_are in
-    subst (λ p. IsSnapshotHere p (seen_by new.pass) snapshot) (same_opening found (board_made old) turn.origin)
+    subst (λ p. IsSnapshotHere p (caller_seen new).history snapshot) (same_opening found (board_made old) turn.origin)
     (subst (λ es. IsSnapshotHere (opening_case found) es snapshot) (sym turn.seen)
     (record { position = is.position_is; version = is.version_is; demands = is.demands_are; belong = is.belong; pool = is.pool; cuts = cuts }))
 
@@ -66,8 +67,14 @@ module _ (net : Network) (states : States) (b : Board) (seen : List Entry) (snap
 
 -- ---- what comes of it
 
-module _ (p q : Case) (asked : Asked) (seen own seen_now own_now : List Entry) (snapshot : Snapshot) (here : IsSnapshotHere p seen snapshot) (same : q ≡ case_left p seen)
-    (more : SeesMore seen own seen_now own_now) where
+module _ (p q : Case) (asked : Asked) (old new : Seen Entry) (snapshot : Snapshot) (here : IsSnapshotHere p old.history snapshot) (same : q ≡ case_left p old.history)
+    (more : SeesMore old new) where
+  abbrev seen : List Entry
+  seen = old.history
+
+  abbrev seen_now : List Entry
+  seen_now = new.history
+
   outcome_made : (answer : PlanAnswer) (o : Outcome) → IsSnapshotAnswer q snapshot seen seen_now answer → IsOutcomeFor asked snapshot.version snapshot.position answer o
       → IsOutcomeAfter p seen seen_now asked.caller asked.serial o
   outcome_made (Planned plan) o planned is =
@@ -95,34 +102,34 @@ module _ (p q : Case) (asked : Asked) (seen own seen_now own_now : List Entry) (
         },
       )
 
-  pool_made : (answer : PlanAnswer) (o : Outcome) → PoolsAlone q seen seen_now own_now answer → IsOutcomeFor asked snapshot.version snapshot.position answer o
-      → seen ≡ [] → seen_now ≡ own_now → IsPlanned o → ∥ IsWorkedPool p seen_now ∥₁
-  pool_made (Planned plan) o alone is none all planned = subst (λ r. ∥ IsWorkedPool r seen_now ∥₁) (same ∙ ap (case_left p) none) (alone none all)
-  pool_made (NotSurvivable s demands) o alone is none all planned = absurd (subst IsPlanned is.2 planned)
+  pool_made : (answer : PlanAnswer) (o : Outcome) → PoolsAlone q old new answer → IsOutcomeFor asked snapshot.version snapshot.position answer o
+      → IsPlanned o → IsWorkedAlone p old new
+  pool_made (Planned plan) o alone is planned = λ none all. subst (λ r. ∥ IsWorkedPool r seen_now ∥₁) (same ∙ ap (case_left p) none) (alone none all)
+  pool_made (NotSurvivable s demands) o alone is planned = absurd (subst IsPlanned is.2 planned)
 
-  pub plan_made : (answer : PlanAnswer) (made : Result Outcome NoMemory) → IsSnapshotAnswer q snapshot seen seen_now answer → PoolsAlone q seen seen_now own_now answer
-      → IfOk made (IsOutcomeFor asked snapshot.version snapshot.position answer) → PlansAt p asked seen own seen_now own_now made
+  pub plan_made : (answer : PlanAnswer) (made : Result Outcome NoMemory) → IsSnapshotAnswer q snapshot seen seen_now answer → PoolsAlone q old new answer
+      → IfOk made (IsOutcomeFor asked snapshot.version snapshot.position answer) → PlansAt p asked old new made
   plan_made answer (Ok o) answered alone is = record { more = more; outcome = outcome_made answer o answered is; alone = pool_made answer o alone is }
   plan_made answer (Err fault) answered alone is = record { more = more; outcome = tt; alone = tt }
 
 -- what was taken in the snapshot's turn and after it
-module _ (old new : Caller) (found : Board) (turn : HasTurn old found found new) (same : AreAtOneDesk old new) (asked : Asked) where
-  pub snapshot_at_desk : (snapshot : Snapshot) → IsSnapshotOf found snapshot → IsSnapshotHere (opening_case (board_made new)) (seen_by new.pass) snapshot
+module _ (old new : Caller) (found : Board) (turn : HasTurn old found found new) (same : IsSameCaller old new) (asked : Asked) where
+  pub snapshot_at_desk : (snapshot : Snapshot) → IsSnapshotOf found snapshot → IsSnapshotHere (case_made new) (caller_seen new).history snapshot
   snapshot_at_desk snapshot is =
-      subst (λ d. IsSnapshotHere (opening_case (opening_of d)) (seen_by new.pass) snapshot) same.0 (snapshot_here old new found snapshot turn is)
+      subst (λ d. IsSnapshotHere (opening_case (opening_of d)) (caller_seen new).history snapshot) (sym same.desk) (snapshot_here old new found snapshot turn is)
 
-  pub plan_since : (seen_now own_now : List Entry) (made : Result Outcome NoMemory) → PlansAt (opening_case (board_made new)) asked (seen_by new.pass) (own_items new.pass) seen_now own_now made
-      → PlansSince (opening_case (board_made old)) asked (seen_by old.pass) (own_items old.pass) seen_now own_now made
-  plan_since seen_now own_now made at = (
-    seen_by new.pass,
+  pub plan_since : (now : Seen Entry) (made : Result Outcome NoMemory) → PlansAt (case_made new) asked (caller_seen new) now made
+      → PlansSince (case_made old) asked (caller_seen old) now made
+  plan_since now made at = (
+    (caller_seen new).history,
     (turn.begins.0, turn.begins.1 ∙ sym turn.seen),
-    subst (λ d. PlansAt (opening_case (opening_of d)) asked (seen_by new.pass) (own_items old.pass) seen_now own_now made) (sym same.0)
-        (subst (λ es. PlansAt (opening_case (board_made new)) asked (seen_by new.pass) es seen_now own_now made) (own_same old new found found turn refl) at),
+    subst (λ d. PlansAt (opening_case (opening_of d)) asked (record { history = (caller_seen new).history; own = (caller_seen old).own }) now made) same.desk
+        (subst (λ es. PlansAt (case_made new) asked (record { history = (caller_seen new).history; own = es }) now made) (own_same old new found found turn refl) at),
   )
 
-  pub stopped_since : (fault : NoMemory) → PlansSince (opening_case (board_made old)) asked (seen_by old.pass) (own_items old.pass) (seen_by new.pass) (own_items new.pass) (Err fault)
+  pub stopped_since : (fault : NoMemory) → PlansSince (case_made old) asked (caller_seen old) (caller_seen new) (Err fault)
   stopped_since fault =
-      plan_since (seen_by new.pass) (own_items new.pass) (Err fault) (record { more = sees_none (seen_by new.pass) (own_items new.pass); outcome = tt; alone = tt })
+      plan_since (caller_seen new) (Err fault) (record { more = sees_none (caller_seen new); outcome = tt; alone = tt })
 
 -- the demand that a separation names is one of those handed back
 pub names_one : (q : Case) (snapshot : Snapshot) (seen seen_now : List Entry) (answer : PlanAnswer) → q.demands ≡ snapshot.demands → IsSnapshotAnswer q snapshot seen seen_now answer → NamesDemand answer

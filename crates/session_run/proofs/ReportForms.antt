@@ -2,7 +2,7 @@
 use Rattle.std.proofs.Common.{◌≡◌, ℕ, ◌^◌, ◌<◌, ◌≤◌, ◌==◌, List, All, get_or, length, refl, sym, subst, arith, AllPairs}
 use Rattle.net_core.proofs.Library.{∥∥₁_elim, props, All-filter}
 use Rattle.std.proofs.lemmas.Bool.{eq-eqb}
-use Rattle.plan_terms.specs.Terms.{Entry, Notes, CutLine, AreDemands, IsCut}
+use Rattle.plan_terms.specs.Terms.{Entry, Notes, CutLine, AreDemands, IsCut, HasShortLengths}
 use Rattle.plan_types.specs.declared.report.Outcome.{Outcome}
 use Rattle.plan_types.specs.declared.report.Report.{Report}
 use Rattle.plan_report.specs.Terms.{known_of, known_to, IsReportInForm}
@@ -11,9 +11,10 @@ use Rattle.cut_pool.specs.Terms.{opening_case, IsLegalHistory, IsPoolAfter, case
 use Rattle.planner.proofs.Histories.{board_few}
 use Rattle.session_script.specs.declared.script.Command.{Command}
 use Rattle.session_script.specs.Terms.{IsScript}
-use Rattle.session_run.specs.Transcripts.{IsPlanned, IsTranscript, RunsFrom, acts_of, outcome_caller, outcomes_of, position_of}
-use Rattle.session_run.specs.inner.Ranges.{HasShortLengths, IsShortNamed}
-use Rattle.session_run.specs.inner.Running.{HaveRun}
+use Rattle.session_run.specs.Transcripts.{IsPlanned, IsTranscript, RunsFrom, acts_of, outcome_caller, outcomes_of}
+use Rattle.plan_types.specs.Terms.{outcome_position}
+use Rattle.session_run.specs.inner.Ranges.{IsShortNamed}
+use Rattle.session_run.specs.inner.Running.{HaveRun, all_own}
 use Rattle.session_run.proofs.FormProps.{report_prop}
 use Rattle.session_run.proofs.Journals.{entries_form, lines_few, lines_form}
 use Rattle.session_run.proofs.OutcomeForms.{kept_one, outcomes_form}
@@ -25,7 +26,7 @@ of_all P xs ys same all k d lt =
     kept_one P (λ (o : Outcome). outcome_caller o == caller) ys (subst (All P) (same caller) (All-filter (λ (o : Outcome). outcome_caller o == caller) P xs all)) k d lt (eq-eqb caller caller refl)
 
 module _ (b : Board) (notes : Notes) (commands : List Command) (outcomes sorted : List Outcome) (lines : List CutLine) (opening : AreDemands (length b.net.now.nodes) b.opening.value) (script : IsScript commands)
-    (run : HaveRun (opening_case b) b.entries b.entries commands outcomes)
+    (run : HaveRun (opening_case b) (all_own b.entries) commands outcomes)
     (pool : ∥ IsPoolAfter (opening_case b) b.entries lines ∥₁) (cuts : ∥ All (IsCut (case_left (opening_case b) b.entries)) lines ∥₁) (low : All (λ l. l.right < 2 ^ 84) lines)
     (short : All HasShortLengths lines) (named : All IsShortNamed outcomes)
     (ordered : AllPairs (λ x y. outcome_caller x ≤ outcome_caller y) sorted) (same : (caller : ℕ) → outcomes_of caller sorted ≡ outcomes_of caller outcomes) (count : length sorted ≡ length outcomes) where
@@ -55,8 +56,8 @@ module _ (b : Board) (notes : Notes) (commands : List Command) (outcomes sorted 
   planned_before : All IsPlanned sorted → All IsPlanned outcomes
   planned_before = of_all IsPlanned sorted outcomes same
 
-  first_after : All (λ o. position_of o ≡ 0) outcomes → All (λ o. position_of o ≡ 0) sorted
-  first_after = of_all (λ o. position_of o ≡ 0) outcomes sorted (λ caller. sym (same caller))
+  first_after : All (λ o. outcome_position o ≡ 0) outcomes → All (λ o. outcome_position o ≡ 0) sorted
+  first_after = of_all (λ o. outcome_position o ≡ 0) outcomes sorted (λ caller. sym (same caller))
 
   transcript_same : IsTranscript (opening_case b) notes commands all
   transcript_same = record {

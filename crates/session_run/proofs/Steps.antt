@@ -13,9 +13,12 @@ use Rattle.separator.specs.Separators.{IsCutEntry, IsPartOf}
 use Rattle.separator.proofs.Seeing.{part_few}
 use Rattle.plan_rounds.proofs.OwnPool.{all_cuts}
 use Rattle.planner.proofs.Histories.{cuts_both}
-use Rattle.session_run.specs.Transcripts.{IsOutcomeAfter, IsPlanned, RunsFrom, acts_of, outcome_caller, edit_asked, edit_made, outcomes_of, position_of}
+use Rattle.session_run.specs.Transcripts.{IsOutcomeAfter, IsPlanned, RunsFrom, acts_of, outcome_caller, edit_asked, edit_made, outcomes_of}
+use Rattle.plan_types.specs.Terms.{outcome_position}
 use Rattle.session_run.specs.inner.Running.{HaveRun, IsEntryOfCaller}
-use Rattle.session_run.specs.inner.Turns.{HasActed, PlansAt}
+use Rattle.session_run.specs.inner.Turns.{HasActed, PlansAt, Progress}
+use Rattle.session_run.specs.declared.plans.Asked.{Asked}
+use Rattle.turn_lock.specs.Passes.{Seen}
 use Rattle.session_script.specs.Terms.{IsActInForm, IsCommandInForm, asks_plan, is_plan}
 use Rattle.std.proofs.lemmas.Bool.{eq-eqb, ne_eqb}
 use Rattle.session_run.proofs.Runs.{run_edit, run_later, run_plan}
@@ -77,7 +80,7 @@ pub caller_is : (p : Case) (before after : List Entry) (caller serial : ℕ) (o 
 caller_is p before after caller serial (Planned by number plan) is = is.0
 caller_is p before after caller serial (Unsurvivable by number version position state demand) is = is.0
 
-position_is : (p : Case) (before after : List Entry) (caller serial : ℕ) (o : Outcome) → IsOutcomeAfter p before after caller serial o → position_of o ≡ length before
+position_is : (p : Case) (before after : List Entry) (caller serial : ℕ) (o : Outcome) → IsOutcomeAfter p before after caller serial o → outcome_position o ≡ length before
 position_is p before after caller serial (Planned by number plan) is = ∥∥₁_elim is.2 (hlevel props) (λ between. between.sound.same_position ∙ between.left.position)
 position_is p before after caller serial (Unsurvivable by number version position state demand) is = is.3
 
@@ -93,7 +96,13 @@ outcomes_other outcomes o caller ne =
 
 -- ---- an edit more
 
-module _ (p : Case) (seen own : List Entry) (commands : List Command) (outcomes : List Outcome) (h : HaveRun p seen own commands outcomes) (c : Command) (waited : List Entry) where
+module _ (p : Case) (sofar : Seen Entry) (commands : List Command) (outcomes : List Outcome) (h : HaveRun p sofar commands outcomes) (c : Command) (waited : List Entry) where
+  abbrev seen : List Entry
+  seen = sofar.history
+
+  abbrev own : List Entry
+  own = sofar.own
+
   module _ (edit : Edit) (reply : Reply) (act : c.act ≡ Change edit) (form : IsEntryOfCaller (Edited c.caller edit reply)) where
     abbrev entry : Entry
     entry = Edited c.caller edit reply
@@ -127,7 +136,7 @@ module _ (p : Case) (seen own : List Entry) (commands : List Command) (outcomes 
         (run_later p (seen ++ waited) (entry ∷ []) caller 0 1 (acts_of caller commands) (outcomes_of caller outcomes)
         (run_later p seen waited caller 0 1 (acts_of caller commands) (outcomes_of caller outcomes) (h.runs caller)))
 
-    pub edited_run : HaveRun p ((seen ++ waited) ++ entry ∷ []) (own ++ entry ∷ []) (commands ++ c ∷ []) outcomes
+    pub edited_run : HaveRun p (record { history = (seen ++ waited) ++ entry ∷ []; own = own ++ entry ∷ [] }) (commands ++ c ∷ []) outcomes
     edited_run = record {
       edits = λ caller. ⊎_elim
           (λ (e : c.caller ≡ caller). subst (λ k. flat_map (edit_made k) (own ++ entry ∷ []) ≡ flat_map edit_asked (acts_of k (commands ++ c ∷ []))) e edits_own)
@@ -202,7 +211,7 @@ module _ (p : Case) (seen own : List Entry) (commands : List Command) (outcomes 
         let own_none = ap length none in
         nil_from_length before (omega (arith, some, own_none, ap length same, length-append before further, length-append own committed))
 
-    pub planned_run : HaveRun p (before ++ further) (own ++ committed) (commands ++ c ∷ []) (outcomes ++ o ∷ [])
+    pub planned_run : HaveRun p (record { history = before ++ further; own = own ++ committed }) (commands ++ c ∷ []) (outcomes ++ o ∷ [])
     planned_run = record {
       edits = λ caller. edits_same caller ∙ sym (asked_same caller);
       runs = λ caller. ⊎_elim
@@ -223,7 +232,7 @@ module _ (p : Case) (seen own : List Entry) (commands : List Command) (outcomes 
           let count = h.count in
           let none : length outcomes ≡ 0 = count ∙ ap (count_by is_plan) empty_before in
           let nothing = nothing_before (h.none empty_before) same in (
-            All-push (λ x. position_of x ≡ 0) outcomes o (λ k d lt. absurd (omega (arith, none, lt))) (position_is p before (before ++ further) c.caller (length (outcomes_of c.caller outcomes) + 1) o is ∙ ap length nothing),
+            All-push (λ x. outcome_position x ≡ 0) outcomes o (λ k d lt. absurd (omega (arith, none, lt))) (position_is p before (before ++ further) c.caller (length (outcomes_of c.caller outcomes) + 1) o is ∙ ap length nothing),
             first nothing same (last_holds IsPlanned outcomes o planned),
           );
     }
@@ -234,37 +243,42 @@ module _ (p : Case) (seen own : List Entry) (commands : List Command) (outcomes 
 -- ---- a command more
 
 -- a caller's next act, done
-pub acted_run : (p : Case) (seen own seen_now own_now : List Entry) (commands : List Command) (before after : List Outcome) (c : Command) (act : Act) → c.act ≡ act
-    → outcomes_of c.caller before ≡ before → HaveRun p seen own commands before → IsCommandInForm c → HasActed p c.caller act seen own before seen_now own_now after
-    → HaveRun p seen_now own_now (commands ++ c ∷ []) after
-acted_run p seen own seen_now own_now commands before after c (Change edit) is mine h form done =
+pub acted_run : (p : Case) (old new : Progress) (commands : List Command) (c : Command) (act : Act) → c.act ≡ act
+    → outcomes_of c.caller old.outcomes ≡ old.outcomes → HaveRun p old.seen commands old.outcomes → IsCommandInForm c → HasActed p c.caller act old new
+    → HaveRun p new.seen (commands ++ c ∷ []) new.outcomes
+acted_run p old new commands c (Change edit) is mine h form done =
     let edited = subst IsActInForm is form.act in
     let made = done.0 in
-    subst (λ es. HaveRun p es own_now (commands ++ c ∷ []) after) (sym made.2)
-    (subst (λ es. HaveRun p ((seen ++ made.0) ++ Edited c.caller edit made.1 ∷ []) es (commands ++ c ∷ []) after) (sym made.3)
-    (subst (HaveRun p ((seen ++ made.0) ++ Edited c.caller edit made.1 ∷ []) (own ++ Edited c.caller edit made.1 ∷ []) (commands ++ c ∷ [])) (sym done.1)
-    (edited_run p seen own commands before h c made.0 edit made.1 is (form.some, form.most, edited))))
-acted_run p seen own seen_now own_now commands before after c Plan is mine h form done =
+    let history = (old.seen.history ++ made.0) ++ Edited c.caller edit made.1 ∷ [] in
+    subst (λ es. HaveRun p (record { history = es; own = new.seen.own }) (commands ++ c ∷ []) new.outcomes) (sym made.2)
+    (subst (λ es. HaveRun p (record { history = history; own = es }) (commands ++ c ∷ []) new.outcomes) (sym made.3)
+    (subst (HaveRun p (record { history = history; own = old.seen.own ++ Edited c.caller edit made.1 ∷ [] }) (commands ++ c ∷ [])) (sym done.1)
+    (edited_run p old.seen commands old.outcomes h c made.0 edit made.1 is (form.some, form.most, edited))))
+acted_run p old new commands c Plan is mine h form done =
+    let seen = old.seen.history in
+    let own = old.seen.own in
+    let now = new.seen.history in
     let o = done.0 in
     let since = done.2 in
     let waited = since.1.0 in
+    let asked : Asked = record { caller = c.caller; serial = length old.outcomes + 1 } in
     let begun : since.0 ≡ seen ++ waited = sym since.1.1 in
-    let at : PlansAt p (record { caller = c.caller; serial = length before + 1 }) (seen ++ waited) own seen_now own_now (Ok o) =
-    subst (λ es. PlansAt p (record { caller = c.caller; serial = length before + 1 }) es own seen_now own_now (Ok o)) begun since.2 in
-    let serial : length before + 1 ≡ length (outcomes_of c.caller before) + 1 = ap (λ os. length os + 1) (sym mine) in
-    let outcome : IsOutcomeAfter p (seen ++ waited) ((seen ++ waited) ++ at.more.further) c.caller (length (outcomes_of c.caller before) + 1) o =
+    let at : PlansAt p asked (record { history = seen ++ waited; own = own }) new.seen (Ok o) =
+    subst (λ es. PlansAt p asked (record { history = es; own = own }) new.seen (Ok o)) begun since.2 in
+    let serial : length old.outcomes + 1 ≡ length (outcomes_of c.caller old.outcomes) + 1 = ap (λ os. length os + 1) (sym mine) in
+    let outcome : IsOutcomeAfter p (seen ++ waited) ((seen ++ waited) ++ at.more.further) c.caller (length (outcomes_of c.caller old.outcomes) + 1) o =
     subst (λ k. IsOutcomeAfter p (seen ++ waited) ((seen ++ waited) ++ at.more.further) c.caller k o) serial
-    (subst (λ es. IsOutcomeAfter p (seen ++ waited) es c.caller (length before + 1) o) at.more.seen at.outcome) in
+    (subst (λ es. IsOutcomeAfter p (seen ++ waited) es c.caller (length old.outcomes + 1) o) at.more.seen at.outcome) in
     let first : seen ++ waited ≡ [] → (seen ++ waited) ++ at.more.further ≡ own ++ at.more.committed → IsPlanned o → ∥ IsWorkedPool p ((seen ++ waited) ++ at.more.further) ∥₁ =
-    λ none same planned. subst (λ es. ∥ IsWorkedPool p es ∥₁) at.more.seen (at.alone none (at.more.seen ∙ (same ∙ sym at.more.own_is)) planned) in
-    subst (λ es. HaveRun p es own_now (commands ++ c ∷ []) after) (sym at.more.seen)
-    (subst (λ es. HaveRun p ((seen ++ waited) ++ at.more.further) es (commands ++ c ∷ []) after) (sym at.more.own_is)
-    (subst (HaveRun p ((seen ++ waited) ++ at.more.further) (own ++ at.more.committed) (commands ++ c ∷ [])) (sym done.1)
-    (planned_run p seen own commands before h c waited at.more.further at.more.committed at.more.among at.more.pooled is o outcome first)))
+    λ none same planned. subst (λ es. ∥ IsWorkedPool p es ∥₁) at.more.seen (at.alone planned none (at.more.seen ∙ (same ∙ sym at.more.own_is))) in
+    subst (λ es. HaveRun p (record { history = es; own = new.seen.own }) (commands ++ c ∷ []) new.outcomes) (sym at.more.seen)
+    (subst (λ es. HaveRun p (record { history = (seen ++ waited) ++ at.more.further; own = es }) (commands ++ c ∷ []) new.outcomes) (sym at.more.own_is)
+    (subst (HaveRun p (record { history = (seen ++ waited) ++ at.more.further; own = own ++ at.more.committed }) (commands ++ c ∷ [])) (sym done.1)
+    (planned_run p old.seen commands old.outcomes h c waited at.more.further at.more.committed at.more.among at.more.pooled is o outcome first)))
 
 -- before the first command
-pub none_run : (p : Case) (seen : List Entry) → HaveRun p seen [] [] []
-none_run p seen = record {
+pub none_run : (p : Case) (history : List Entry) → HaveRun p (record { history = history; own = [] }) [] []
+none_run p history = record {
   edits = λ caller. refl;
   runs = λ caller. omega arith;
   few = omega arith;

@@ -1,6 +1,7 @@
 -- transcripts of scripts: what a report of a session has to be
 use Rattle.std.specs.Prelude.{◌≡◌, ℕ, ◌+◌, ◌≤◌, ◌==◌, List, [], ◌∷◌, All, AllPairs, Some, filter, flat_map, if◌then◌else◌, length, slice_get, take}
 use Rattle.plan_terms.specs.Terms.{Demand, Edit, Entry, Edited, Pooled, Reply, Notes, Case, IsFirstSeparation}
+use Rattle.plan_types.specs.Terms.{outcome_position}
 use Rattle.plan_types.specs.declared.plan.Plan.{Plan}
 use Rattle.plan_types.specs.declared.report.Outcome.{Outcome}
 use Rattle.plan_types.specs.declared.report.Outcome.TheVariants.{Planned, Unsurvivable}
@@ -42,11 +43,6 @@ outcomes_of caller outcomes = filter (λ o. outcome_caller o == caller) outcomes
 abbrev pub IsPlanned : Outcome → Type 0
 IsPlanned (Planned caller serial plan) = Unit {0}
 IsPlanned (Unsurvivable caller serial version position state demand) = ⊥
-
--- the number of entries that an outcome is of
-abbrev pub position_of : Outcome → ℕ
-position_of (Planned caller serial plan) = plan.position
-position_of (Unsurvivable caller serial version position state demand) = position
 
 -- one plan command and nothing else
 pub record IsOnePlan (commands : List Command) : Type 0 where
@@ -111,4 +107,4 @@ pub record IsTranscript (p : Case) (notes : Notes) (commands : List Command) (r 
   pub runs : (caller : ℕ) → RunsFrom p r.entries caller 0 1 (acts_of caller commands) (outcomes_of caller r.outcomes)
   pub ordered : AllPairs (λ a b. outcome_caller a ≤ outcome_caller b) r.outcomes
   pub form : IsReportInForm (known_to p) r
-  pub alone : IsOnePlan commands → All IsPlanned r.outcomes → All (λ o. position_of o ≡ 0) r.outcomes × ∥ IsWorkedPool p r.entries ∥₁
+  pub alone : IsOnePlan commands → All IsPlanned r.outcomes → All (λ o. outcome_position o ≡ 0) r.outcomes × ∥ IsWorkedPool p r.entries ∥₁

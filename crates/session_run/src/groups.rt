@@ -1,10 +1,8 @@
 ghost use Rattle.std.specs.Prelude.{◌≡◌, ◌≤◌, ◌<◌, ◌+◌};
 ghost use Rattle.std.specs.List.{list_any};
 ghost use Rattle.std.specs.Thread.{IsSync};
-ghost use Rattle.cut_pool.specs.Terms.{opening_case};
-ghost use Rattle.turn_lock.specs.Passes.{own_items, own_units, seen_by};
-ghost use Rattle.board_desk.specs.Turns.{AreAtOneDesk, IsAtDesk, board_made};
-ghost use Rattle.session_run.specs.inner.Running.{AreBoth, CanRun, EndsRun, commands_of, is_of};
+ghost use Rattle.board_desk.specs.Turns.{AreAtOneDesk, caller_seen, caller_units};
+ghost use Rattle.session_run.specs.inner.Running.{AreBoth, CanRun, EndsRun, case_made, commands_of, is_of};
 
 use crate::one_caller::run_caller;
 use crate::setting::{Setting, Stop};
@@ -30,17 +28,6 @@ fn names_any(commands: &[Command], low: u32, high: u32) -> bool
     commands.iter().any(|command| is_of(command, low, high))
 }
 
-/// The caller, under another number.
-fn numbered<'d, 'a>(caller: Caller<'d, 'a>, number: u32) -> Caller<'d, 'a>
-    requires { IsAtDesk caller }
-    ensures number { result.number ≡ number }
-    ensures desk { AreAtOneDesk caller.entry result }
-    ensures pass { result.pass ≡ caller.entry.pass }
-{
-    let (_, desk, pass) = caller.into_parts();
-    Caller::new(number, desk, pass)
-}
-
 /// The outcomes of two groups.
 fn both(
     one: Result<Vec<Outcome>, Stop>,
@@ -54,6 +41,25 @@ fn both(
     Ok(all)
 }
 
+/// Runs the commands of one caller, under its number. It may never return.
+fn run_one<'d, 'a, R: Threads + Wait, G: Gate>(
+    rt: &R,
+    gate: &G,
+    setting: &Setting,
+    number: u32,
+    caller: Caller<'d, 'a>,
+) -> (Result<Vec<Outcome>, Stop>, Caller<'d, 'a>)
+    requires { CanRun setting.now caller }
+    ensures desk { AreAtOneDesk caller.entry result.1 }
+    ensures units { caller_units result.1 ≡ caller_units caller.entry }
+    ensures run { EndsRun (case_made caller.entry) (commands_of number (number + 1) setting.now.commands.now) (caller_seen result.1) result.0 }
+{
+    let mut caller = caller;
+    caller.set_number(number);
+    let ran = run_caller(rt, gate, setting, &mut caller);
+    (ran, caller)
+}
+
 /// Runs the callers from `low` on and below `high`, each that a command names on a thread of its own, and gives their outcomes. Where
 /// a thread can't be started, its work is done by the one that would start it. It may never return.
 pub fn run_callers<'d, 'a, R: Threads + Wait + Sync, G: Gate + Sync>(
@@ -65,14 +71,14 @@ pub fn run_callers<'d, 'a, R: Threads + Wait + Sync, G: Gate + Sync>(
     caller: Caller<'d, 'a>,
 ) -> (Result<Vec<Outcome>, Stop>, Caller<'d, 'a>)
     requires some { low < high }
-    requires units { high ≤ low + own_units caller.pass }
+    requires units { high ≤ low + caller_units caller }
     requires ready { CanRun setting.now caller }
     ensures desk { AreAtOneDesk caller.entry result.1 }
-    ensures units { own_units result.1.pass ≡ own_units caller.entry.pass }
-    ensures run { EndsRun (opening_case (board_made caller.entry)) (commands_of low high setting.now.commands.now) (seen_by result.1.pass) (own_items result.1.pass) result.0 }
+    ensures units { caller_units result.1 ≡ caller_units caller.entry }
+    ensures run { EndsRun (case_made caller.entry) (commands_of low high setting.now.commands.now) (caller_seen result.1) result.0 }
 {
     if high - low <= 1 {
-        return run_caller(rt, gate, setting, low, numbered(caller, low));
+        return run_one(rt, gate, setting, low, caller);
     }
     let middle = high - (high - low) / 2;
     if !names_any(setting.commands, middle, high) {
@@ -87,20 +93,20 @@ pub fn run_callers<'d, 'a, R: Threads + Wait + Sync, G: Gate + Sync>(
         move || -> (Result<Vec<Outcome>, Stop>, Caller)
             requires sync { IsSync R.row × IsSync G.row }
             requires some { low < middle }
-            requires units { middle ≤ low + own_units one.pass }
+            requires units { middle ≤ low + caller_units one }
             requires ready { CanRun setting.now one }
             ensures desk { AreAtOneDesk one.entry result.1 }
-            ensures units { own_units result.1.pass ≡ own_units one.entry.pass }
-            ensures run { EndsRun (opening_case (board_made one.entry)) (commands_of low middle setting.entry.now.commands.now) (seen_by result.1.pass) (own_items result.1.pass) result.0 }
+            ensures units { caller_units result.1 ≡ caller_units one.entry }
+            ensures run { EndsRun (case_made one.entry) (commands_of low middle setting.entry.now.commands.now) (caller_seen result.1) result.0 }
         { run_callers(rt, gate, setting, low, middle, one) },
         move || -> (Result<Vec<Outcome>, Stop>, Caller)
             requires sync { IsSync R.row × IsSync G.row }
             requires some { middle < high }
-            requires units { high ≤ middle + own_units two.pass }
+            requires units { high ≤ middle + caller_units two }
             requires ready { CanRun setting.now two }
             ensures desk { AreAtOneDesk two.entry result.1 }
-            ensures units { own_units result.1.pass ≡ own_units two.entry.pass }
-            ensures run { EndsRun (opening_case (board_made two.entry)) (commands_of middle high setting.entry.now.commands.now) (seen_by result.1.pass) (own_items result.1.pass) result.0 }
+            ensures units { caller_units result.1 ≡ caller_units two.entry }
+            ensures run { EndsRun (case_made two.entry) (commands_of middle high setting.entry.now.commands.now) (caller_seen result.1) result.0 }
         { run_callers(rt, gate, setting, middle, high, two) },
     );
     (both(first, second), one.meet(two))

@@ -1,5 +1,6 @@
 ghost use Rattle.std.specs.Prelude.{All};
-ghost use Rattle.session_run.specs.inner.Ranges.{HasShortLengths, IsShortNamed};
+ghost use Rattle.session_run.specs.inner.Ranges.{IsShortNamed};
+ghost use Rattle.plan_terms.specs.Terms.{HasShortLengths};
 
 use net_core::CutLine;
 use plan_types::Outcome;

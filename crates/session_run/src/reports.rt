@@ -3,7 +3,7 @@ ghost use Rattle.plan_terms.specs.Terms.{AreDemands};
 ghost use Rattle.cut_pool.specs.Terms.{opening_case};
 ghost use Rattle.session_script.specs.Terms.{IsScript};
 ghost use Rattle.session_run.specs.Transcripts.{IsTranscript, outcome_caller, outcomes_of};
-ghost use Rattle.session_run.specs.inner.Running.{HaveRun};
+ghost use Rattle.session_run.specs.inner.Running.{HaveRun, all_own};
 
 use crate::ranges::{are_short_named, have_short_lengths};
 use cut_pool::Board;
@@ -45,7 +45,7 @@ pub fn report<R: Threads + Sync>(
 ) -> Result<Report, NoMemory>
     requires opening { AreDemands (length board.now.net.now.nodes) board.now.opening.value }
     requires script { IsScript commands.now }
-    requires run { HaveRun (opening_case board.now) board.now.entries board.now.entries commands.now outcomes }
+    requires run { HaveRun (opening_case board.now) (all_own board.now.entries) commands.now outcomes }
     ensures { IfOk result (IsTranscript (opening_case board.now) net.now.notes commands.now) }
 {
     let pool = board.audited_lines(rt)?;

@@ -4,7 +4,7 @@ ghost use Rattle.cut_pool.specs.Terms.{opening_case, origin_of};
 ghost use Rattle.session_script.specs.Terms.{IsScript};
 ghost use Rattle.session_script.specs.declared.script.Act.TheVariants.{Plan};
 ghost use Rattle.session_run.specs.Transcripts.{IsTranscript};
-ghost use Rattle.session_run.specs.inner.Running.{HaveRun};
+ghost use Rattle.session_run.specs.inner.Running.{HaveRun, all_own};
 
 use crate::boards::board_for;
 use crate::groups::run_callers;
@@ -44,7 +44,7 @@ fn run_on<'a, R: Threads + Wait + Sync, G: Gate + Sync>(
     requires empty { board.entries ≡ [] }
     requires script { IsScript setting.now.commands.now }
     ensures origin { IfOk result (λ ran. origin_of ran.1 ≡ origin_of board.entry) }
-    ensures run { IfOk result (λ ran. HaveRun (opening_case ran.1) ran.1.entries ran.1.entries setting.now.commands.now ran.0) }
+    ensures run { IfOk result (λ ran. HaveRun (opening_case ran.1) (all_own ran.1.entries) setting.now.commands.now ran.0) }
 {
     let (desk, pass) = Desk::new(setting.alloc, board)?;
     let (outcomes, caller) = run_callers(rt, gate, setting, 1, 9, Caller::new(1, &desk, pass));

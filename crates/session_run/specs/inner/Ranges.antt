@@ -8,7 +8,3 @@ use Rattle.plan_types.specs.declared.report.Outcome.TheVariants.{Planned, Unsurv
 abbrev pub IsShortNamed : Outcome → Type 0
 IsShortNamed (Planned caller serial plan) = Unit {0}
 IsShortNamed (Unsurvivable caller serial version position state demand) = length demand ≤ 255
-
--- lengths below 2^32
-abbrev pub HasShortLengths : CutLine → Type 0
-HasShortLengths line = All (λ x. x < 2 ^ 32) line.lengths

@@ -4,13 +4,14 @@ use Rattle.plan_terms.specs.Terms.{Entry, Edited, Pooled, Case}
 use Rattle.text_kit.specs.Terms.{IsEditInForm}
 use Rattle.plan_types.specs.declared.report.Outcome.{Outcome}
 use Rattle.plan_rounds.specs.WorkedRounds.{IsWorkedPool}
-use Rattle.cut_pool.specs.Terms.{cuts_of}
+use Rattle.cut_pool.specs.Terms.{opening_case, cuts_of}
 use Rattle.session_script.specs.declared.script.Command.{Command}
 use Rattle.session_script.specs.Terms.{IsCommandInForm, is_plan}
-use Rattle.turn_lock.specs.Passes.{own_places}
+use Rattle.turn_lock.specs.Passes.{Seen}
 use Rattle.board_desk.specs.declared.caller.Caller.{Caller}
-use Rattle.board_desk.specs.Turns.{IsAtDesk, board_made}
-use Rattle.session_run.specs.Transcripts.{IsOnePlan, IsPlanned, RunsFrom, acts_of, edit_asked, edit_made, outcomes_of, position_of}
+use Rattle.board_desk.specs.Turns.{IsAtDesk, board_made, caller_places}
+use Rattle.session_run.specs.Transcripts.{IsOnePlan, IsPlanned, RunsFrom, acts_of, edit_asked, edit_made, outcomes_of}
+use Rattle.plan_types.specs.Terms.{outcome_position}
 use Rattle.session_run.specs.declared.setting.Setting.{Setting}
 use Rattle.session_run.specs.declared.setting.Stop.{Stop}
 use Rattle.session_run.specs.declared.setting.Stop.TheVariants.{NoMemory, Full}
@@ -27,16 +28,24 @@ abbrev pub IsEntryOfCaller : Entry → Type 0
 IsEntryOfCaller (Edited caller edit reply) = (1 ≤ caller) × (caller ≤ 8) × IsEditInForm edit
 IsEntryOfCaller (Pooled index state lengths) = Unit {0}
 
--- These commands have run, with these own entries in the history that was seen so far, and with these outcomes, those of each caller in
+-- a history that is all its own
+abbrev pub all_own : List Entry → Seen Entry
+all_own entries = record { history = entries; own = entries }
+
+-- there are no more own entries than commands and own pooled cuts
+abbrev pub AreFewOwn : Seen Entry → List Command → Type 0
+AreFewOwn seen commands = length seen.own ≤ length commands + length (cuts_of seen.own)
+
+-- These commands have run, with the own entries in the history that was seen so far, and with these outcomes, those of each caller in
 -- the order of its commands.
-pub record HaveRun (p : Case) (seen own : List Entry) (commands : List Command) (outcomes : List Outcome) : Type 0 where
-  pub edits : (caller : ℕ) → flat_map (edit_made caller) own ≡ flat_map edit_asked (acts_of caller commands)
-  pub runs : (caller : ℕ) → RunsFrom p seen caller 0 1 (acts_of caller commands) (outcomes_of caller outcomes)
-  pub few : length own ≤ length commands + length (cuts_of own)
+pub record HaveRun (p : Case) (seen : Seen Entry) (commands : List Command) (outcomes : List Outcome) : Type 0 where
+  pub edits : (caller : ℕ) → flat_map (edit_made caller) seen.own ≡ flat_map edit_asked (acts_of caller commands)
+  pub runs : (caller : ℕ) → RunsFrom p seen.history caller 0 1 (acts_of caller commands) (outcomes_of caller outcomes)
+  pub few : AreFewOwn seen commands
   pub count : length outcomes ≡ count_by is_plan commands
-  pub entries : All IsEntryOfCaller own
-  pub none : commands ≡ [] → own ≡ []
-  pub alone : IsOnePlan commands → seen ≡ own → All IsPlanned outcomes → All (λ o. position_of o ≡ 0) outcomes × ∥ IsWorkedPool p seen ∥₁
+  pub entries : All IsEntryOfCaller seen.own
+  pub none : commands ≡ [] → seen.own ≡ []
+  pub alone : IsOnePlan commands → seen.history ≡ seen.own → All IsPlanned outcomes → All (λ o. outcome_position o ≡ 0) outcomes × ∥ IsWorkedPool p seen.history ∥₁
 
 -- a caller finds no room only where the history has 65,536 entries
 abbrev pub IsFullAt : List Entry → Stop → Type 0
@@ -44,16 +53,24 @@ IsFullAt seen NoMemory = Unit {0}
 IsFullAt seen Full = 65536 ≤ length seen
 
 -- What running these commands comes to: they have run, or their callers have stopped, with few own entries beside pooled cuts.
-abbrev pub EndsRun : {A : Type 0} → Case → List Command → List Entry → List Entry → Result (Vec Outcome A) Stop → Type 0
-EndsRun p commands seen own (Ok outcomes) = HaveRun p seen own commands outcomes.items
-EndsRun p commands seen own (Err stop) = (length own ≤ length commands + length (cuts_of own)) × IsFullAt seen stop
+abbrev pub EndsRun : {A : Type 0} → Case → List Command → Seen Entry → Result (Vec Outcome A) Stop → Type 0
+EndsRun p commands seen (Ok outcomes) = HaveRun p seen commands outcomes.items
+EndsRun p commands seen (Err stop) = AreFewOwn seen commands × IsFullAt seen.history stop
 
--- a caller at a desk whose board has the network and the states of the setting, with no entries of its own so far; the commands are few, and in form
-pub record CanRun (setting : Setting) (caller : Caller) : Type 0 where
+-- the case of the board that the caller's desk was made with
+abbrev pub case_made : Caller → Case
+case_made caller = opening_case (board_made caller)
+
+-- a caller at a desk whose board has the network and the states of the setting
+pub record IsOfSetting (setting : Setting) (caller : Caller) : Type 0 where
   pub own : IsAtDesk caller
-  pub none : own_places caller.pass ≡ []
   pub net : (board_made caller).net.now ≡ setting.net.now
   pub states : (board_made caller).states.now ≡ setting.states.now
+
+-- such a caller, with no entries of its own so far; the commands are few, and in form
+pub record CanRun (setting : Setting) (caller : Caller) : Type 0 where
+  pub of : IsOfSetting setting caller
+  pub none : caller_places caller ≡ []
   pub few : length setting.commands.now ≤ 1000
   pub form : All IsCommandInForm setting.commands.now
 

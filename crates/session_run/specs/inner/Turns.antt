@@ -3,7 +3,7 @@ use Rattle.std.specs.Prelude.{◌≡◌, ℕ, ◌+◌, ◌<◌, ◌++◌, List, 
 use Rattle.plan_terms.specs.Terms.{Demand, Edit, Entry, Edited, Reply, NoMemory, Case, AreDemands, IsCut}
 use Rattle.plan_types.specs.declared.report.Outcome.{Outcome}
 use Rattle.plan_types.specs.declared.report.Outcome.TheVariants as outcomes
-use Rattle.plan_rounds.specs.WorkedRounds.{IsWorkedPool}
+use Rattle.plan_rounds.specs.WorkedRounds.{IsWorkedAlone}
 use Rattle.planner.specs.declared.answer.PlanAnswer.{PlanAnswer}
 use Rattle.planner.specs.declared.answer.PlanAnswer.TheVariants.{Planned, NotSurvivable}
 use Rattle.cut_pool.specs.declared.answers.EditAnswer.{EditAnswer}
@@ -13,7 +13,11 @@ use Rattle.cut_pool.specs.Terms.{IsPoolAfter, demands_left, version_left, case_l
 use Rattle.separator.specs.Separators.{IsCutEntry, SeesMore}
 use Rattle.session_script.specs.declared.script.Act.{Act}
 use Rattle.session_script.specs.declared.script.Act.TheVariants.{Change, Plan}
+use Rattle.session_script.specs.declared.script.Command.{Command}
 use Rattle.turn_lock.specs.Histories.{IsPrefix}
+use Rattle.turn_lock.specs.Passes.{Seen}
+use Rattle.board_desk.specs.declared.caller.Caller.{Caller}
+use Rattle.board_desk.specs.Turns.{caller_seen}
 use Rattle.session_run.specs.Transcripts.{IsOutcomeAfter, IsPlanned}
 use Rattle.session_run.specs.inner.Running.{IsFullAt}
 use Rattle.session_run.specs.declared.plans.Asked.{Asked}
@@ -29,10 +33,13 @@ IsDoneBy (editing.Full back) done = done ≡ Err stops.Full
 IsDoneBy (editing.NoMemory back) done = done ≡ Err stops.NoMemory
 
 -- the caller has seen some more, and has one entry more of its own, the edit; or it has none, and the journal may have no room
-abbrev pub EndsEdit : ℕ → Edit → List Entry → List Entry → List Entry → List Entry → Result (Unit {0}) Stop → Type 0
-EndsEdit caller edit seen own seen_now own_now (Ok u) =
-    (waited : List Entry) × (reply : Reply) × (seen_now ≡ (seen ++ waited) ++ Edited caller edit reply ∷ []) × (own_now ≡ own ++ Edited caller edit reply ∷ [])
-EndsEdit caller edit seen own seen_now own_now (Err stop) = (own_now ≡ own) × IsFullAt seen_now stop
+abbrev pub EndsEdit : ℕ → Edit → Seen Entry → Seen Entry → Result (Unit {0}) Stop → Type 0
+EndsEdit caller edit old new (Ok u) =
+    (waited : List Entry)
+    × (reply : Reply)
+    × (new.history ≡ (old.history ++ waited) ++ Edited caller edit reply ∷ [])
+    × (new.own ≡ old.own ++ Edited caller edit reply ∷ [])
+EndsEdit caller edit old new (Err stop) = (new.own ≡ old.own) × IsFullAt new.history stop
 
 -- ---- plans
 
@@ -58,40 +65,48 @@ pub record IsSnapshotHere (p : Case) (seen : List Entry) (snapshot : Snapshot) :
 
 -- Planning for what was seen: what is committed are pooled cuts, and the outcome is that of the history before them. Where there was
 -- none, and a plan's caller alone has written what stands now, that is a worked pool.
-pub record PlansAt (p : Case) (asked : Asked) (seen own seen_now own_now : List Entry) (made : Result Outcome NoMemory) : Type 0 where
-  pub more : SeesMore seen own seen_now own_now
-  pub outcome : IfOk made (IsOutcomeAfter p seen seen_now asked.caller asked.serial)
-  pub alone : IfOk made (λ o. seen ≡ [] → seen_now ≡ own_now → IsPlanned o → ∥ IsWorkedPool p seen_now ∥₁)
+pub record PlansAt (p : Case) (asked : Asked) (old new : Seen Entry) (made : Result Outcome NoMemory) : Type 0 where
+  pub more : SeesMore old new
+  pub outcome : IfOk made (IsOutcomeAfter p old.history new.history asked.caller asked.serial)
+  pub alone : IfOk made (λ o. IsPlanned o → IsWorkedAlone p old new)
 
 -- planning for a history that begins with all that was seen
-abbrev pub PlansSince : Case → Asked → List Entry → List Entry → List Entry → List Entry → Result Outcome NoMemory → Type 0
-PlansSince p asked seen own seen_now own_now made = (before : List Entry) × IsPrefix seen before × PlansAt p asked before own seen_now own_now made
+abbrev pub PlansSince : Case → Asked → Seen Entry → Seen Entry → Result Outcome NoMemory → Type 0
+PlansSince p asked old new made =
+    (before : List Entry) × IsPrefix old.history before × PlansAt p asked (record { history = before; own = old.own }) new made
 
 -- ---- commands
 
--- the outcome stands after the others, or there was none or no memory for it
-abbrev pub KeepsOutcome : Result Outcome NoMemory → List Outcome → List Outcome → Result (Unit {0}) Stop → Type 0
-KeepsOutcome (Ok o) before after (Ok u) = after ≡ before ++ o ∷ []
-KeepsOutcome (Ok o) before after (Err stop) = stop ≡ stops.NoMemory
-KeepsOutcome (Err fault) before after (Ok u) = ⊥
-KeepsOutcome (Err fault) before after (Err stop) = stop ≡ stops.NoMemory
+-- the outcome comes after the others, or there was no memory for it
+abbrev pub KeepsOutcome : Outcome → List Outcome → List Outcome → Result (Unit {0}) Stop → Type 0
+KeepsOutcome o before after (Ok u) = after ≡ before ++ o ∷ []
+KeepsOutcome o before after (Err stop) = stop ≡ stops.NoMemory
+
+-- how far a caller has come: what it has seen, and the outcomes of its plan commands
+pub record Progress : Type 0 where
+  pub seen : Seen Entry
+  pub outcomes : List Outcome
+
+-- a caller's progress, with these outcomes of its plan commands
+abbrev pub progress_of : Caller → List Outcome → Progress
+progress_of c outcomes = record { seen = caller_seen c; outcomes = outcomes }
 
 -- the next act of a caller is done: an edit, or a plan with one outcome more
-abbrev pub HasActed : Case → ℕ → Act → List Entry → List Entry → List Outcome → List Entry → List Entry → List Outcome → Type 0
-HasActed p caller (Change edit) seen own before seen_now own_now after = EndsEdit caller edit seen own seen_now own_now (Ok tt) × (after ≡ before)
-HasActed p caller Plan seen own before seen_now own_now after =
+abbrev pub HasActed : Case → ℕ → Act → Progress → Progress → Type 0
+HasActed p caller (Change edit) old new = EndsEdit caller edit old.seen new.seen (Ok tt) × (new.outcomes ≡ old.outcomes)
+HasActed p caller Plan old new =
     (o : Outcome)
-    × (after ≡ before ++ o ∷ [])
-    × PlansSince p (record { caller = caller; serial = length before + 1 }) seen own seen_now own_now (Ok o)
+    × (new.outcomes ≡ old.outcomes ++ o ∷ [])
+    × PlansSince p (record { caller = caller; serial = length old.outcomes + 1 }) old.seen new.seen (Ok o)
 
 -- the caller has stopped in an act, and has pooled cuts at most
-pub record HasStopped (own seen_now own_now : List Entry) (stop : Stop) : Type 0 where
+pub record HasStopped (old new : Seen Entry) (stop : Stop) : Type 0 where
   pub more : List Entry
-  pub own_is : own_now ≡ own ++ more
+  pub own_is : new.own ≡ old.own ++ more
   pub pooled : All IsCutEntry more
-  pub full : IsFullAt seen_now stop
+  pub full : IsFullAt new.history stop
 
--- what a caller's next act comes to
-abbrev pub EndsAct : Case → ℕ → Act → List Entry → List Entry → List Outcome → List Entry → List Entry → List Outcome → Result (Unit {0}) Stop → Type 0
-EndsAct p caller act seen own before seen_now own_now after (Ok u) = HasActed p caller act seen own before seen_now own_now after
-EndsAct p caller act seen own before seen_now own_now after (Err stop) = HasStopped own seen_now own_now stop
+-- what a caller's next command ends with
+abbrev pub EndsAct : Case → Command → Progress → Progress → Result (Unit {0}) Stop → Type 0
+EndsAct p c old new (Ok u) = HasActed p c.caller c.act old new
+EndsAct p c old new (Err stop) = HasStopped old.seen new.seen stop

@@ -1,5 +1,5 @@
 use Rattle.std.proofs.Common.{All, take}
-use Rattle.session_run.specs.inner.Ranges.{HasShortLengths}
+use Rattle.plan_terms.specs.Terms.{HasShortLengths}
 use Rattle.session_run.proofs.ranges.have_short_lengths.Given as goal
 
 -- the lines so far

@@ -1,5 +1,6 @@
 use Rattle.std.proofs.Common.{All, ◌∙◌, subst}
-use Rattle.session_run.specs.inner.Ranges.{HasShortLengths, IsShortNamed}
+use Rattle.session_run.specs.inner.Ranges.{IsShortNamed}
+use Rattle.plan_terms.specs.Terms.{HasShortLengths}
 use Rattle.session_run.proofs.ReportForms.{transcript}
 use Rattle.session_run.proofs.reports.report.Goals as goal
 
