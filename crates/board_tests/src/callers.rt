@@ -4,7 +4,7 @@ ghost use Rattle.std.specs.Thread.{IsSync};
 ghost use Rattle.plan_terms.specs.Terms.{graph};
 ghost use Rattle.metric_cut.specs.Cuts.{IsCutOf};
 ghost use Rattle.turn_lock.specs.Passes.{IsPassOf, opening_of, own_places, own_units};
-ghost use Rattle.board_desk.specs.Turns.{AreAtOneDesk, IsAtDesk, board_made};
+ghost use Rattle.board_desk.specs.Turns.{AreAtOneDesk, IsAtDesk, IsSameCaller, board_made, caller_places, caller_units};
 
 use crate::changes::{Change, edit_of};
 use crate::cuts::unit_cut;
@@ -38,28 +38,27 @@ fn open_desk(alloc: Global, problem: &Problem) -> Option<(Desk<Board<'_>>, Pass<
 }
 
 /// Sets the need of A in a turn. Where memory runs out, no edit is made.
-fn edit_once<'d, 'a, R: Wait>(
-    rt: &R,
-    alloc: Global,
-    caller: Caller<'d, 'a>,
-    need: u32,
-) -> Caller<'d, 'a>
-    requires { IsAtDesk caller }
-    ensures desk { AreAtOneDesk caller.entry result }
-    ensures units { own_units result.pass ≡ own_units caller.entry.pass }
+fn edit_once<R: Wait>(rt: &R, alloc: Global, caller: &mut Caller, need: u32)
+    requires { IsAtDesk caller.old }
+    ensures { IsSameCaller caller.old caller.new }
 {
-    match edit_of(alloc, &Change::Set(b'A', need)) {
-        Some(edit) => {
-            let (answer, caller) = caller.edit(rt, edit);
-            discard(answer);
-            caller
-        }
-        None => caller,
+    if let Some(edit) = edit_of(alloc, &Change::Set(b'A', need)) {
+        discard(caller.edit(rt, edit));
     }
 }
 
 /// Sets the need of A so many times, each in a turn of its own.
-fn edit_often<'d, 'a, R: Wait>(
+fn edit_often<R: Wait>(rt: &R, alloc: Global, caller: &mut Caller, edits: u32)
+    requires { IsAtDesk caller.old }
+    ensures { IsSameCaller caller.old caller.new }
+{
+    for need in 0..edits {
+        edit_once(rt, alloc, caller, need);
+    }
+}
+
+/// The caller, after this many edits.
+fn edited<'d, 'a, R: Wait>(
     rt: &R,
     alloc: Global,
     caller: Caller<'d, 'a>,
@@ -67,12 +66,10 @@ fn edit_often<'d, 'a, R: Wait>(
 ) -> Caller<'d, 'a>
     requires { IsAtDesk caller }
     ensures desk { AreAtOneDesk caller.entry result }
-    ensures units { own_units result.pass ≡ own_units caller.entry.pass }
+    ensures units { caller_units result ≡ caller_units caller.entry }
 {
     let mut caller = caller;
-    for need in 0..edits {
-        caller = edit_once(rt, alloc, caller, need);
-    }
+    edit_often(rt, alloc, &mut caller, edits);
     caller
 }
 
@@ -85,12 +82,12 @@ fn edit_by<'d, 'a, R: Threads + Wait + Sync>(
     edits: u32,
 ) -> Caller<'d, 'a>
     requires own { IsAtDesk caller }
-    requires units { threads ≤ own_units caller.pass }
+    requires units { threads ≤ caller_units caller }
     ensures desk { AreAtOneDesk caller.entry result }
-    ensures units { own_units result.pass ≡ own_units caller.entry.pass }
+    ensures units { caller_units result ≡ caller_units caller.entry }
 {
     if threads <= 1 {
-        return edit_often(rt, alloc, caller, edits);
+        return edited(rt, alloc, caller, edits);
     }
     let some = threads / 2;
     let rest = threads - some;
@@ -100,16 +97,16 @@ fn edit_by<'d, 'a, R: Threads + Wait + Sync>(
         move || -> Caller
             requires sync { IsSync R.row }
             requires own { IsAtDesk one }
-            requires units { rest ≤ own_units one.pass }
+            requires units { rest ≤ caller_units one }
             ensures desk { AreAtOneDesk one.entry result }
-            ensures units { own_units result.pass ≡ own_units one.entry.pass }
+            ensures units { caller_units result ≡ caller_units one.entry }
         { edit_by(rt, alloc, one, rest, edits) },
         move || -> Caller
             requires sync { IsSync R.row }
             requires own { IsAtDesk two }
-            requires units { some ≤ own_units two.pass }
+            requires units { some ≤ caller_units two }
             ensures desk { AreAtOneDesk two.entry result }
-            ensures units { own_units result.pass ≡ own_units two.entry.pass }
+            ensures units { caller_units result ≡ caller_units two.entry }
         { edit_by(rt, alloc, two, some, edits) },
     );
     one.meet(two)
@@ -168,17 +165,16 @@ fn met_by_another<'d, 'a, R: Wait>(
     cut: Cut,
 ) -> Option<Caller<'d, 'a>>
     requires own { IsAtDesk caller }
-    requires units { 2 ≤ own_units caller.pass }
-    requires none { own_places caller.pass ≡ [] }
+    requires units { 2 ≤ caller_units caller }
+    requires none { caller_places caller ≡ [] }
     requires cut { IsCutOf (graph (board_made caller).net.now (board_made caller).states.now cut.state.0) cut }
     ensures desk { IfSome result (AreAtOneDesk caller.entry) }
-    ensures units { IfSome result (λ met. own_units met.pass ≡ own_units caller.entry.pass) }
-    ensures named { IfSome result (λ met. length (own_places met.pass) ≡ 1) }
+    ensures units { IfSome result (λ met. caller_units met ≡ caller_units caller.entry) }
+    ensures named { IfSome result (λ met. length (caller_places met) ≡ 1) }
 {
-    let (one, other) = caller.split(2);
-    let (answer, one) = one.admit(rt, cut);
-    let (found, other) = other.snapshot(rt);
-    discard(found);
+    let (mut one, mut other) = caller.split(2);
+    let answer = one.admit(rt, cut);
+    discard(other.snapshot(rt));
     match answer {
         AdmitAnswer::Admitted { .. } => Some(other.meet(one)),
         refused => {
@@ -235,18 +231,19 @@ fn counts_in(found: &Result<Snapshot, NoMemory>) -> Option<(u64, u64, usize)> {
 /// A caller admits a cut, as the first entry, and splits in two. The position, the version and the number of cuts that the second finds.
 fn found_by_a_second<R: Wait>(rt: &R, caller: Caller, cut: Cut) -> Option<(u64, u64, usize)>
     requires own { IsAtDesk caller }
-    requires units { 2 ≤ own_units caller.pass }
+    requires units { 2 ≤ caller_units caller }
     requires cut { IsCutOf (graph (board_made caller).net.now (board_made caller).states.now cut.state.0) cut }
 {
-    let (answer, caller) = caller.admit(rt, cut);
+    let mut caller = caller;
+    let answer = caller.admit(rt, cut);
     let is_first = is_first(&answer);
     discard(answer);
-    let (first, second) = caller.split(2);
+    let (first, mut second) = caller.split(2);
     discard(first);
-    let (found, second) = second.snapshot(rt);
-    discard(second);
+    let found = second.snapshot(rt);
     let counts = counts_in(&found);
     discard(found);
+    discard(second);
     if is_first { counts } else { None }
 }
 

@@ -1,7 +1,6 @@
 //! Tests of plannings that end loose: each report is read again by the checker.
-ghost use Rattle.std.specs.Prelude.{IfSome, length};
+ghost use Rattle.std.specs.Prelude.{length};
 ghost use Rattle.net_core.specs.Terms.{AreDemands};
-ghost use Rattle.plan_report.specs.Terms.{IsReportInForm, known_of};
 ghost use Rattle.session_script.specs.Terms.{IsScript};
 
 use crate::problems::{Place, place_of};
@@ -17,34 +16,8 @@ use std::sync::Wait;
 use std::thread::Threads;
 use worked_networks::{DemandRow, LinkRow, TEN, demands, network};
 
-/// The report of a script.
-#[tactic(auto, using(crate::proofs::Forms::in_form))]
-fn session_report<R: Threads + Wait + Sync>(
-    rt: &R,
-    alloc: Global,
-    place: &Place,
-    opening: Demands,
-    script: &Script,
-) -> Option<Report>
-    requires opening { AreDemands (length place.now.net.nodes) opening }
-    requires script { IsScript script.now.commands }
-    ensures { IfSome result (IsReportInForm (known_of place.now.net place.now.states)) }
-{
-    match run_session(
-        rt,
-        alloc,
-        &place.net,
-        &place.states,
-        opening,
-        script,
-        &OpenGate,
-    ) {
-        Ok(report) => Some(report),
-        Err(_) => None,
-    }
-}
-
 /// The report of a script, if the checker accepts it.
+#[tactic(auto, using(crate::proofs::Forms::in_form))]
 fn accepted<R: Threads + Wait + Sync>(
     rt: &R,
     alloc: Global,
@@ -55,9 +28,10 @@ fn accepted<R: Threads + Wait + Sync>(
     requires opening { AreDemands (length place.now.net.nodes) opening.now }
     requires script { IsScript script.now.commands }
 {
+    let Place { net, states } = place;
     let copy = opening.copy().ok()?;
-    let report = session_report(rt, alloc, place, copy, script)?;
-    match check_report(alloc, &place.net, &place.states, opening, &report) {
+    let report = run_session(rt, alloc, net, states, copy, script, &OpenGate).ok()?;
+    match check_report(alloc, net, states, opening, &report) {
         CheckAnswer::Accepted => Some(report),
         _ => None,
     }

@@ -3,11 +3,12 @@ ghost use Rattle.std.specs.Prelude.{◌≡◌, IfSome};
 ghost use Rattle.net_core.specs.Terms.{graph};
 ghost use Rattle.metric_cut.specs.Cuts.{IsCutOf};
 
+use crate::checked::separate_checked;
 use crate::problems::{one_demand, open_board};
 use metric_cut::Cut;
 use net_core::{Caps, Evidence, LinkId, List, Problem, RouteColumn, StateId, WideKind};
 use plan_types::Spot;
-use separator::{OneByOne, Separate, Separated, StateAnswer, separate_checked};
+use separator::{OneByOne, Separate, Separated, StateAnswer};
 use std::alloc::Global;
 
 /// What is expected of a state.
@@ -111,10 +112,9 @@ fn is_met<S: Separate>(
     caps: &Caps,
     wants: &[Want],
 ) -> bool
-    requires net { problem.now.net ≡ S.network separator.old }
-    requires states { problem.now.states ≡ S.states separator.old }
-    ensures net { S.network separator.new ≡ S.network separator.old }
-    ensures states { S.states separator.new ≡ S.states separator.old }
+    requires net { problem.now.net ≡ (S.frame separator.old).network }
+    requires states { problem.now.states ≡ (S.frame separator.old).states }
+    ensures { S.frame separator.new ≡ S.frame separator.old }
 {
     match separate_checked(alloc, separator, problem, caps) {
         Ok(Some(answers)) => all_meet(answers.items(), wants),
@@ -186,10 +186,9 @@ fn unit_spot<S: Separate>(
     problem: &Problem,
     state: u32,
 ) -> Option<Spot>
-    requires net { problem.now.net ≡ S.network separator.old }
-    requires states { problem.now.states ≡ S.states separator.old }
-    ensures net { S.network separator.new ≡ S.network separator.old }
-    ensures states { S.states separator.new ≡ S.states separator.old }
+    requires net { problem.now.net ≡ (S.frame separator.old).network }
+    requires states { problem.now.states ≡ (S.frame separator.old).states }
+    ensures { S.frame separator.new ≡ S.frame separator.old }
 {
     let cut = unit_cut(alloc, problem, state)?;
     separator.admit(cut).ok()
@@ -197,8 +196,8 @@ fn unit_spot<S: Separate>(
 
 /// Whether the unit cuts of the states 0 and 3 get the first two places, and that of 0 its own when it comes again.
 fn are_placed<S: Separate>(alloc: Global, separator: &mut S, problem: &Problem) -> bool
-    requires net { problem.now.net ≡ S.network separator.old }
-    requires states { problem.now.states ≡ S.states separator.old }
+    requires net { problem.now.net ≡ (S.frame separator.old).network }
+    requires states { problem.now.states ≡ (S.frame separator.old).states }
 {
     unit_spot(alloc, separator, problem, 0) == Some(Spot::Pool(0))
         && unit_spot(alloc, separator, problem, 3) == Some(Spot::Pool(1))

@@ -3,8 +3,9 @@ ghost use Rattle.std.specs.Prelude.{◌≡◌, ◌≤◌, ◌^◌, IfSome, lengt
 ghost use Rattle.std.specs.Thread.{IsSync};
 ghost use Rattle.hint_board.specs.Hints.{hint_links};
 ghost use Rattle.turn_lock.specs.Passes.{IsPassOf, opening_of, own_units};
-ghost use Rattle.board_desk.specs.Turns.{AreAtOneDesk, IsAtDesk, board_made};
+ghost use Rattle.board_desk.specs.Turns.{AreAtOneDesk, IsAtDesk, IsSameCaller, board_made, caller_units};
 
+use crate::checked::separate_checked;
 use crate::problems::{discard, one_demand, open_board};
 use board_desk::Caller;
 use cut_pool::{Board, Snapshot};
@@ -13,7 +14,7 @@ use net_core::{Caps, CutLine, List, NoMemory, Problem};
 use outside_io::OpenGate;
 use plan_types::Spot;
 use separation_workers::{Hold, Workers};
-use separator::{OneByOne, Separated, StateAnswer, separate_checked};
+use separator::{OneByOne, Separated, StateAnswer};
 use std::alloc::Global;
 use std::sync::Wait;
 use std::thread;
@@ -57,24 +58,24 @@ fn open_desk(alloc: Global, problem: &Problem) -> Option<(Desk<Board<'_>>, Pass<
 }
 
 /// What a caller is answered at capacities, after a look at the board. A hold may keep one of its workers waiting.
-fn answered<'d, 'a, R: Threads + Wait>(
+fn answered<R: Threads + Wait>(
     rt: &R,
     alloc: Global,
     hold: &Hold,
-    fixture: &'a Fixture,
+    fixture: &Fixture,
     caps: &Caps,
-    caller: Caller<'d, 'a>,
-) -> (Option<List<StateAnswer>>, Caller<'d, 'a>)
-    requires own { IsAtDesk caller }
-    requires net { fixture.now.problem.net ≡ (board_made caller).net.now }
-    requires states { fixture.now.problem.states ≡ (board_made caller).states.now }
-    ensures desk { AreAtOneDesk caller.entry result.1 }
-    ensures units { own_units result.1.pass ≡ own_units caller.entry.pass }
+    caller: &mut Caller,
+) -> Option<List<StateAnswer>>
+    requires own { IsAtDesk caller.old }
+    requires net { fixture.now.problem.net ≡ (board_made caller.old).net.now }
+    requires states { fixture.now.problem.states ≡ (board_made caller.old).states.now }
+    ensures { IsSameCaller caller.old caller.new }
 {
-    let (_, caller) = caller.snapshot(rt);
-    let mut separator = Workers::new(rt, alloc, &OpenGate, hold, &fixture.hints, caller);
+    discard(caller.snapshot(rt));
+    let mut separator = Workers::new(rt, alloc, &OpenGate, hold, &fixture.hints, caller.take());
     let answers = separate_checked(alloc, &mut separator, &fixture.problem, caps);
-    (answers.ok().flatten(), separator.into_caller())
+    *caller = separator.into_caller();
+    answers.ok().flatten()
 }
 
 /// What a caller alone is answered at a new desk.
@@ -86,9 +87,8 @@ fn at_new_desk<R: Threads + Wait>(
     caps: &Caps,
 ) -> Option<List<StateAnswer>> {
     let (desk, pass) = open_desk(alloc, &fixture.problem)?;
-    let caller = Caller::new(1, &desk, pass);
-    let (answers, _) = answered(rt, alloc, hold, fixture, caps, caller);
-    answers
+    let mut caller = Caller::new(1, &desk, pass);
+    answered(rt, alloc, hold, fixture, caps, &mut caller)
 }
 
 /// The same at capacities of these numbers.
@@ -210,7 +210,7 @@ fn standing(answers: &Option<List<StateAnswer>>, snapshot: &Result<Snapshot, NoM
         .count()
 }
 
-/// How many states have a cut at their spot, as the caller then sees the pool.
+/// How many states have a cut at their spot, as the caller then sees the pool, and the caller.
 fn stands<'d, 'a, R: Threads + Wait>(
     rt: &R,
     alloc: Global,
@@ -222,10 +222,11 @@ fn stands<'d, 'a, R: Threads + Wait>(
     requires net { fixture.now.problem.net ≡ (board_made caller).net.now }
     requires states { fixture.now.problem.states ≡ (board_made caller).states.now }
     ensures desk { AreAtOneDesk caller.entry result.1 }
-    ensures units { own_units result.1.pass ≡ own_units caller.entry.pass }
+    ensures units { caller_units result.1 ≡ caller_units caller.entry }
 {
-    let (answers, caller) = answered(rt, alloc, &Hold::open(), fixture, caps, caller);
-    let (snapshot, caller) = caller.snapshot(rt);
+    let mut caller = caller;
+    let answers = answered(rt, alloc, &Hold::open(), fixture, caps, &mut caller);
+    let snapshot = caller.snapshot(rt);
     (standing(&answers, &snapshot), caller)
 }
 
@@ -238,11 +239,11 @@ fn at_once<'d, 'a, R: Threads + Wait + Sync>(
     caller: Caller<'d, 'a>,
 ) -> (usize, usize, Caller<'d, 'a>)
     requires own { IsAtDesk caller }
-    requires units { 2 ≤ own_units caller.pass }
+    requires units { 2 ≤ caller_units caller }
     requires net { fixture.now.problem.net ≡ (board_made caller).net.now }
     requires states { fixture.now.problem.states ≡ (board_made caller).states.now }
     ensures desk { AreAtOneDesk caller.entry result.2 }
-    ensures units { own_units result.2.pass ≡ own_units caller.entry.pass }
+    ensures units { caller_units result.2 ≡ caller_units caller.entry }
 {
     let (one, two) = caller.split(2);
     let ((of_one, one), (of_two, two)) = thread::join(
@@ -253,7 +254,7 @@ fn at_once<'d, 'a, R: Threads + Wait + Sync>(
             requires net { fixture.now.problem.net ≡ (board_made one).net.now }
             requires states { fixture.now.problem.states ≡ (board_made one).states.now }
             ensures desk { AreAtOneDesk one.entry result.1 }
-            ensures units { own_units result.1.pass ≡ own_units one.entry.pass }
+            ensures units { caller_units result.1 ≡ caller_units one.entry }
         { stands(rt, alloc, fixture, caps, one) },
         move || -> (usize, Caller)
             requires sync { IsSync R.row }
@@ -261,7 +262,7 @@ fn at_once<'d, 'a, R: Threads + Wait + Sync>(
             requires net { fixture.now.problem.net ≡ (board_made two).net.now }
             requires states { fixture.now.problem.states ≡ (board_made two).states.now }
             ensures desk { AreAtOneDesk two.entry result.1 }
-            ensures units { own_units result.1.pass ≡ own_units two.entry.pass }
+            ensures units { caller_units result.1 ≡ caller_units two.entry }
         { stands(rt, alloc, fixture, caps, two) },
     );
     (of_one, of_two, one.meet(two))
