@@ -1,7 +1,7 @@
 -- plans with other counts
-use Rattle.std.proofs.Common.{◌≡◌, ◌≤◌, List, get_or, refl, sym, subst, arith}
+use Rattle.std.proofs.Common.{◌≡◌, ℕ, ◌≤◌, List, get_or, refl, sym, subst, arith}
 use Rattle.net_core.proofs.Library.{slice_get-get_or}
-use Rattle.plan_terms.specs.Terms.{Demand, Case, capacities, total_cost}
+use Rattle.plan_terms.specs.Terms.{Demand, Routing, Case, AreCounts, AreWithinLimits, capacities, total_cost}
 use Rattle.net_core.proofs.Lists.{all_at}
 use Rattle.plan_types.specs.declared.plan.Plan.{Plan}
 use Rattle.plan_report.specs.Terms.{IsRoutingInForm}
@@ -23,6 +23,36 @@ plan_routings p plan same is = record {
   };
 }
 
+-- a plan with other counts that carry its demands, and that cost no more
+pub routed_with : (p : Case) (plan : Plan) (counts : List (List ℕ)) (cost : ℕ) (routings : List Routing) → plan.demands ≡ p.demands → IsRoutedPlan p plan
+    → AreCounts p.links counts → AreWithinLimits p.links counts → AreRoutingsWithin p (capacities p.links counts) routings → cost ≡ total_cost p.links counts → cost ≤ plan.cost
+    → IsRoutedPlan p (record plan { counts = counts; cost = cost; routings = routings })
+routed_with p plan counts cost routings same is shape limits within paid cheaper =
+    let form = is.form in
+    record {
+      carrying = record { states = within.states; each = λ s r at. (within.each s r at).carries };
+      costed = paid;
+      form = record {
+        version = form.version;
+        position = form.position;
+        demands = form.demands;
+        counts = shape;
+        limits = limits;
+        cost = let low = form.cost in omega (arith, low, cheaper);
+        routings = record {
+          long = within.states;
+          each = λ k d lt. subst (λ (ds : List Demand). IsRoutingInForm p.links ds (get_or routings k d)) (sym same) (within.each k (get_or routings k d) (slice_get-get_or routings k d lt)).form;
+        };
+        certificate = form.certificate;
+        raw_num = form.raw_num;
+        raw_positive = form.raw_positive;
+        raw_den = form.raw_den;
+        bound = form.bound;
+        quality = form.quality;
+      };
+      lowest = λ k d lt. (within.each k (get_or routings k d) (slice_get-get_or routings k d lt)).lowest;
+    }
+
 -- a plan with trimmed counts
 pub trimming_of : (p : Case) (plan : Plan) (t : Trimming) → plan.demands ≡ p.demands → IsRoutedPlan p plan → AreTrimmedCounts p plan.counts t
     → IsTrimming p plan (record { plan = record plan { counts = t.counts; cost = t.cost; routings = t.routings }; blocks = t.blocks })
@@ -31,32 +61,9 @@ trimming_of p plan t same is are =
     let paid = are.paid in
     let costed : plan.cost ≡ total_cost p.links plan.counts = is.costed in
     let cheaper : t.cost ≤ plan.cost = omega (arith, le, paid, costed) in
-    let form = is.form in
     record {
       same = refl;
-      routed = record {
-        carrying = record { states = are.routings.states; each = λ s r at. (are.routings.each s r at).carries };
-        costed = paid;
-        form = record {
-          version = form.version;
-          position = form.position;
-          demands = form.demands;
-          counts = are.shape;
-          limits = are.limits;
-          cost = let low = form.cost in omega (arith, low, cheaper);
-          routings = record {
-            long = are.routings.states;
-            each = λ k d lt. subst (λ (ds : List Demand). IsRoutingInForm p.links ds (get_or t.routings k d)) (sym same) (are.routings.each k (get_or t.routings k d) (slice_get-get_or t.routings k d lt)).form;
-          };
-          certificate = form.certificate;
-          raw_num = form.raw_num;
-          raw_positive = form.raw_positive;
-          raw_den = form.raw_den;
-          bound = form.bound;
-          quality = form.quality;
-        };
-        lowest = λ k d lt. (are.routings.each k (get_or t.routings k d) (slice_get-get_or t.routings k d lt)).lowest;
-      };
+      routed = routed_with p plan t.counts t.cost t.routings same is are.shape are.limits are.routings paid cheaper;
       fewer = are.fewer;
       cheaper = cheaper;
       trimmed = are.trimmed;

@@ -1,5 +1,5 @@
 -- plans from which no module can be spared, each with what keeps it
-use Rattle.std.specs.Prelude.{◌≡◌, ℕ, zero, suc, ◌+◌, ◌-◌, ◌≤◌, ◌++◌, List, [], ◌∷◌, All, map, slice_index, slice_index_or, slice_set}
+use Rattle.std.specs.Prelude.{◌≡◌, ℕ, zero, suc, ◌+◌, ◌-◌, ◌^◌, ◌≤◌, ◌++◌, List, [], ◌∷◌, All, map, slice_index, slice_index_or, slice_set}
 use Rattle.std.specs.List.{AllZip}
 use Rattle.plan_terms.specs.Terms.{Case, capacities}
 use Rattle.plan_types.specs.Terms.{IsCarryingPlan, IsCostedPlan}
@@ -7,6 +7,7 @@ use Rattle.plan_types.specs.declared.plan.Plan.{Plan}
 use Rattle.plan_report.specs.Terms.{IsPlanInForm, known_to}
 use Rattle.route_law.specs.Terms.{IsLowestRouting}
 use Rattle.able_counts.specs.AbleTests.{IsStopAt, whole_caps}
+use Rattle.trim_plan.specs.declared.dearest.Priced.{Priced}
 use Rattle.trim_plan.specs.declared.trimming.Block.{Block}
 use Rattle.trim_plan.specs.declared.trimming.Trimmed.{Trimmed}
 
@@ -34,6 +35,10 @@ modules_in_use e m (suc n ∷ counts) = (e, m) ∷ modules_in_use e (m + 1) coun
 abbrev pub links_in_use : ℕ → List (List ℕ) → List (ℕ × ℕ)
 links_in_use e [] = []
 links_in_use e (counts ∷ rest) = modules_in_use e 0 counts ++ links_in_use (e + 1) rest
+
+-- the rank of a module by its cost: the dearer, the less
+abbrev pub price_rank : Priced → ℕ
+price_rank p = 2 ^ 64 - 1 - p.cost
 
 -- ---- blocks
 

@@ -27,7 +27,9 @@ fn add_blocks(
     ensures lowered { IfOk result (λ b. b ≡ false → LowersCounts counts.old counts.new) }
     ensures same { IfOk result (λ b. IsTrue b → counts.new ≡ counts.old) }
     ensures blocked { IfOk result (λ b. IsTrue b → All (IsBlockAt (case_of instance.now) counts.old) blocks.new) }
-    ensures places { IfOk result (λ b. IsTrue b → block_places blocks.new ≡ block_places blocks.old ++ modules_in_use link 0 (slice_index_or counts.old link [])) }
+    ensures places { IfOk result (λ b. IsTrue b
+        → block_places blocks.new ≡ block_places blocks.old
+        ++ modules_in_use link 0 (slice_index_or counts.old link [])) }
 {
     for m in 0..instance.net.links().items()[link].modules.len() {
         let place = Place { link, module: m };
@@ -55,7 +57,8 @@ fn blocks_or_less(
     requires survivable { IsSurvivable (case_of instance.now) }
     requires routed { AreRoutedCounts (case_of instance.now) counts.old test.old }
     ensures routed { OnOk result (AreRoutedCounts (case_of instance.now) counts.new test.new) }
-    ensures blocks { IfOk result (λ o. MatchOption o (LowersCounts counts.old counts.new) (λ blocks. (counts.new ≡ counts.old) × IsTrimmedBy (case_of instance.now) counts.old blocks)) }
+    ensures blocks { IfOk result (λ o. MatchOption o (LowersCounts counts.old counts.new)
+        (λ blocks. (counts.new ≡ counts.old) × IsTrimmedBy (case_of instance.now) counts.old blocks)) }
 {
     let mut blocks = List::new(alloc);
     for e in 0..instance.net.links().len() {

@@ -1,3 +1,6 @@
+ghost use Rattle.std.specs.Prelude.{◌≡◌, ◌≤◌, AllPairs, IfOk};
+ghost use Rattle.trim_plan.specs.Trimmed.{price_rank};
+
 use crate::lowered::Place;
 use net_core::{List, Module, Network, NoMemory};
 use std::alloc::Global;
@@ -20,15 +23,22 @@ fn add_modules(priced: &mut List<Priced>, link: usize, modules: &[Module]) -> Re
     Ok(())
 }
 
-/// All modules, the dearest first; those of one cost in link and module order.
-pub(crate) fn dearest_first(alloc: Global, net: &Network) -> Result<List<Priced>, NoMemory> {
+/// The rank of a module by its cost.
+fn rank_of(priced: &Priced) -> u64
+    ensures { result ≡ price_rank priced.now }
+{
+    u64::MAX - priced.cost
+}
+
+/// All modules, the dearest first; those of one cost in link and module order. It takes time and memory in the number of modules.
+pub fn dearest_first(alloc: Global, net: &Network) -> Result<List<Priced>, NoMemory>
+    ensures { IfOk result (AllPairs (λ a b. price_rank a ≤ price_rank b)) }
+{
     let links = net.links().items();
     let mut priced = List::new(alloc);
     for e in 0..links.len() {
         add_modules(&mut priced, e, links[e].modules.items())?;
     }
-    priced
-        .items_mut()
-        .sort_by_key(alloc, |p| u64::MAX - p.cost)?;
+    priced.items_mut().sort_by_key(alloc, |p| rank_of(p))?;
     Ok(priced)
 }

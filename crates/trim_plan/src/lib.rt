@@ -19,5 +19,7 @@ mod sparing;
 mod trimming;
 
 pub use able_counts::Stop;
+pub use dearest::{Priced, dearest_first};
+pub use lowered::{Place, module_count, one_less};
 pub use sparing::spare_modules;
 pub use trimming::{Block, Trimmed, trim};

@@ -18,7 +18,7 @@ fn number_at(numbers: &[u64], at: usize) -> u64
 }
 
 /// The count of a module; 0 where there is none at this place.
-pub(crate) fn module_count(counts: &Counts, place: Place) -> u64
+pub fn module_count(counts: &Counts, place: Place) -> u64
     ensures { result ≡ module_count counts.now place.link place.module }
 {
     let lists = counts.items();
@@ -49,7 +49,7 @@ fn lower_link(counts: &mut [List<u64>], e: usize, m: usize)
 }
 
 /// The counts with one module less.
-pub(crate) fn one_less(counts: &Counts, place: Place) -> Result<Counts, NoMemory>
+pub fn one_less(counts: &Counts, place: Place) -> Result<Counts, NoMemory>
     requires { 0 < module_count counts.now place.link place.module }
     ensures { IfOk result (λ lower. lower ≡ one_less counts.now place.link place.module) }
 {

@@ -22,7 +22,11 @@ pub(crate) fn take_off(
     ensures routed { OnOk result (AreRoutedCounts (case_of instance.now) counts.new test.new) }
     ensures fewer { OnOk result (AreAtMost counts.new counts.old) }
     ensures taken { IfOk result (λ o. o ≡ None → counts.new ≡ one_less counts.old place.link place.module) }
-    ensures kept { IfOk result (λ o. IfSome o (λ why. (counts.new ≡ counts.old) × IsStopAt (case_of instance.now) (whole_caps (capacities instance.now.net.now.links (one_less counts.old place.link place.module))) why)) }
+    ensures kept { IfOk result (λ o. IfSome o
+        (λ why. (counts.new ≡ counts.old)
+        × IsStopAt (case_of instance.now)
+        (whole_caps (capacities instance.now.net.now.links (one_less counts.old place.link place.module)))
+        why)) }
 {
     let lower = one_less(counts, place)?;
     let found = test.stop(instance, &lower)?;

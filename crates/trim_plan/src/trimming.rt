@@ -71,14 +71,14 @@ fn with_counts(plan: Plan, t: Trimming) -> Trimmed
     }
 }
 
-/// Takes modules off a plan until none can be spared, and says of each that is left what keeps it.
+/// Takes modules off a plan until no single one is known to be spare, and says of each that is left what keeps it.
 ///
 /// The plan carries its demands, has the cost of its counts, and is in form and in lowest terms; its demands belong to the network, and no
 /// state separates one. The new plan has other counts, cost and routings, none of its counts is greater, and it costs no more. The dearest
 /// module is tried first. Where a number of some state's routing program is too wide, the module stays, and its block is the evidence.
 ///
 /// On the triangle with modules of 10.00 for 5.00, of which the link AC has two for a demand of 12.00 from A to C, none can be spared: AC's
-/// block is the cut of the lengths that separate C. It asks once for each module that is taken off and twice for each that is left; most are
+/// block is the cut of the lengths 1 0 1, which separate A. It asks once for each module that is taken off and twice for each that is left; most are
 /// refused by a cut that is known. It takes the memory of the routings twice, and of the cuts that it finds.
 pub fn trim(alloc: Global, net: &Network, states: &States, plan: Plan) -> Result<Trimmed, NoMemory>
     requires belong { AreDemands (length net.now.nodes) plan.demands }
