@@ -1,0 +1,11 @@
+-- counts of which those of one link change
+use Rattle.std.proofs.Common.{◌≡◌, ◌∙◌, ℕ, zero, suc, List, [], ◌∷◌, get_or, length}
+use Rattle.std.proofs.Math.ListN.{set}
+use Rattle.plan_terms.specs.Terms.{Link, AreCounts}
+
+pub shape_set : (links : List Link) (counts : List (List ℕ)) (e : ℕ) (c past : List ℕ) → length c ≡ length (get_or counts e past) → AreCounts links counts → AreCounts links (set counts e c)
+shape_set [] [] e c past same are = tt
+shape_set [] (x ∷ xs) e c past same are = absurd are
+shape_set (l ∷ ls) [] e c past same are = absurd are
+shape_set (l ∷ ls) (x ∷ xs) zero c past same are = (same ∙ are.0, are.1)
+shape_set (l ∷ ls) (x ∷ xs) (suc e) c past same are = (are.0, shape_set ls xs e c past same are.1)

@@ -1,0 +1,27 @@
+-- plans with cheaper counts
+use Rattle.std.proofs.Common.{◌≡◌, ◌≤◌, refl, ℕ, Some, slice_get, List}
+use Rattle.plan_terms.specs.Terms.{Case, Routing, capacities}
+use Rattle.plan_types.specs.declared.plan.Plan.{Plan}
+use Rattle.able_counts.specs.AbleTests.{IsRoutingOf}
+use Rattle.trim_plan.specs.Trimmed.{IsRoutedPlan}
+use Rattle.trim_plan.proofs.Plans.{plan_routings, routed_with}
+use Rattle.plan_swaps.specs.declared.kept.Kept.{Kept}
+use Rattle.plan_swaps.specs.Swaps.{IsCheaperPlan}
+use Rattle.plan_swaps.specs.inner.Searching.{AreCarryingCounts}
+
+module _ (p : Case) (plan : Plan) (same : plan.demands ≡ p.demands) (is : IsRoutedPlan p plan) where
+  -- each of a plan's routings is one of its state
+  pub routing_of_plan : (s : ℕ) (r : Routing) → slice_get plan.routings s ≡ Some r → IsRoutingOf p s r
+  routing_of_plan s r at = record { nums = capacities p.links plan.counts; within = (plan_routings p plan same is).each s r at }
+
+  -- a plan's counts carry the demands
+  pub plan_carries : AreCarryingCounts p (record { counts = plan.counts; cost = plan.cost; routings = plan.routings })
+  plan_carries = record { shape = is.form.counts; limits = is.form.limits; routings = plan_routings p plan same is; paid = is.costed }
+
+  -- the plan with cheaper counts
+  pub cheaper_with : (k : Kept) → AreCarryingCounts p k → k.cost ≤ plan.cost → IsCheaperPlan p plan (record plan { counts = k.counts; cost = k.cost; routings = k.routings })
+  cheaper_with k are cheaper = record {
+    same = refl;
+    routed = routed_with p plan k.counts k.cost k.routings same is are.shape are.limits are.routings are.paid cheaper;
+    cheaper = cheaper;
+  }

@@ -1,0 +1,14 @@
+//! Makes a plan cheaper by exchanging modules: one for a cheaper one, or one more for others that can then be spared.
+#![tactic(auto)]
+
+mod kept;
+mod limits;
+mod moves;
+mod raised;
+mod search;
+mod sparing;
+mod starts;
+mod swapping;
+mod swaps;
+
+pub use swapping::{swap, swap_from};

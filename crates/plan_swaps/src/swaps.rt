@@ -1,0 +1,249 @@
+ghost use Rattle.std.specs.Prelude.{◌≤◌, IfOk, IfSome};
+ghost use Rattle.plan_terms.specs.Terms.{case_of, AreCounts, AreWithinLimits, IsSurvivable};
+ghost use Rattle.able_counts.specs.AbleTests.{IsTestOf};
+ghost use Rattle.plan_swaps.specs.inner.Searching.{AreAskedCounts, AreCarryingCounts};
+
+use crate::kept::{Kept, keep_cheaper};
+use crate::moves::{Move, in_use, next_move};
+use crate::raised::one_more;
+use crate::search::Search;
+use crate::sparing::spare_others;
+use module_choice::cost;
+use net_core::{Copied, Counts, Instance, NoMemory};
+use std::alloc::Global;
+use trim_plan::{Place, Priced, module_count, one_less};
+
+/// How much a search asks of the test at most: ten for each ask, and one for each look at the known cuts.
+const MOST_ASKS: u64 = 200_000;
+
+/// What comes of other counts.
+#[derive(Drop)]
+pub enum Outcome {
+    /// They are kept.
+    Kept,
+    /// A cut says that they don't carry the demands.
+    Refused,
+    /// They cost as much or more, or it isn't known whether they carry the demands.
+    Dear,
+}
+
+/// Keeps counts less the modules that no known cut keeps, but none at one place, where the others carry the demands and cost less.
+fn keep_spared(
+    instance: &Instance,
+    search: &mut Search,
+    dearest: &[Priced],
+    kept: &mut Kept,
+    counts: &Counts,
+    but: Option<Place>,
+) -> Result<Outcome, NoMemory>
+    requires survivable { IsSurvivable (case_of instance.now) }
+    requires asked { AreAskedCounts (case_of instance.now) search.old counts.now }
+    requires kept { AreCarryingCounts (case_of instance.now) kept.old }
+    ensures sound { IsTestOf (case_of instance.now) search.new.test }
+    ensures kept { AreCarryingCounts (case_of instance.now) kept.new }
+    ensures cheaper { kept.new.cost ≤ kept.old.cost }
+{
+    let mut fewer = counts.copy()?;
+    spare_others(instance, search, dearest, but, &mut fewer)?;
+    if keep_cheaper(instance, search, kept, &fewer)? {
+        return Ok(Outcome::Kept);
+    }
+    if cost(instance.net, &fewer) < kept.cost && search.refuses(instance, &fewer)? {
+        Ok(Outcome::Refused)
+    } else {
+        Ok(Outcome::Dear)
+    }
+}
+
+/// Keeps counts less what can be spared of their modules, the dearest first, but none at one place, where that costs less.
+fn keep_lesser(
+    instance: &Instance,
+    search: &mut Search,
+    dearest: &[Priced],
+    kept: &mut Kept,
+    counts: &Counts,
+    but: Option<Place>,
+) -> Result<bool, NoMemory>
+    requires survivable { IsSurvivable (case_of instance.now) }
+    requires asked { AreAskedCounts (case_of instance.now) search.old counts.now }
+    requires kept { AreCarryingCounts (case_of instance.now) kept.old }
+    ensures sound { IsTestOf (case_of instance.now) search.new.test }
+    ensures kept { AreCarryingCounts (case_of instance.now) kept.new }
+    ensures cheaper { kept.new.cost ≤ kept.old.cost }
+{
+    for _ in 0..search.asks {
+        match keep_spared(instance, search, dearest, kept, counts, but)? {
+            Outcome::Kept => return Ok(true),
+            Outcome::Dear => return Ok(false),
+            Outcome::Refused => {
+                if search.asks == 0 {
+                    return Ok(false);
+                }
+            }
+        }
+    }
+    Ok(false)
+}
+
+/// The counts with one module taken off and another put on.
+fn moved(
+    alloc: Global,
+    instance: &Instance,
+    counts: &Counts,
+    what: Move,
+) -> Result<Option<Counts>, NoMemory>
+    requires shape { AreCounts instance.now.net.now.links counts.now }
+    ensures { IfOk result (λ o. IfSome o (λ made. AreCounts instance.now.net.now.links made × AreWithinLimits instance.now.net.now.links made)) }
+{
+    if module_count(counts, what.off) == 0 {
+        return Ok(None);
+    }
+    let lower = one_less(counts, what.off)?;
+    one_more(alloc, instance.net, &lower, what.on)
+}
+
+/// Exchanges one module, where the new counts carry the demands.
+fn try_move(
+    alloc: Global,
+    instance: &Instance,
+    search: &mut Search,
+    kept: &mut Kept,
+    what: Move,
+) -> Result<bool, NoMemory>
+    requires survivable { IsSurvivable (case_of instance.now) }
+    requires sound { IsTestOf (case_of instance.now) search.old.test }
+    requires kept { AreCarryingCounts (case_of instance.now) kept.old }
+    ensures sound { IsTestOf (case_of instance.now) search.new.test }
+    ensures kept { AreCarryingCounts (case_of instance.now) kept.new }
+    ensures cheaper { kept.new.cost ≤ kept.old.cost }
+{
+    match moved(alloc, instance, &kept.counts, what)? {
+        Some(counts) => keep_cheaper(instance, search, kept, &counts),
+        None => Ok(false),
+    }
+}
+
+/// Exchanges one module for a cheaper one, the move that saves most first.
+fn exchange(
+    alloc: Global,
+    instance: &Instance,
+    search: &mut Search,
+    dearest: &[Priced],
+    kept: &mut Kept,
+) -> Result<bool, NoMemory>
+    requires survivable { IsSurvivable (case_of instance.now) }
+    requires sound { IsTestOf (case_of instance.now) search.old.test }
+    requires kept { AreCarryingCounts (case_of instance.now) kept.old }
+    ensures sound { IsTestOf (case_of instance.now) search.new.test }
+    ensures kept { AreCarryingCounts (case_of instance.now) kept.new }
+    ensures cheaper { kept.new.cost ≤ kept.old.cost }
+{
+    let mut all = in_use(alloc, dearest, &kept.counts)?;
+    for _ in 0..search.asks {
+        let Some(what) = next_move(dearest, all.items_mut()) else {
+            return Ok(false);
+        };
+        if search.asks == 0 {
+            return Ok(false);
+        }
+        if try_move(alloc, instance, search, kept, what)? {
+            return Ok(true);
+        }
+    }
+    Ok(false)
+}
+
+/// Puts one module on and takes off what can be spared of the others, where that costs less.
+fn try_more(
+    alloc: Global,
+    instance: &Instance,
+    search: &mut Search,
+    dearest: &[Priced],
+    kept: &mut Kept,
+    place: Place,
+) -> Result<bool, NoMemory>
+    requires survivable { IsSurvivable (case_of instance.now) }
+    requires sound { IsTestOf (case_of instance.now) search.old.test }
+    requires kept { AreCarryingCounts (case_of instance.now) kept.old }
+    ensures sound { IsTestOf (case_of instance.now) search.new.test }
+    ensures kept { AreCarryingCounts (case_of instance.now) kept.new }
+    ensures cheaper { kept.new.cost ≤ kept.old.cost }
+{
+    match one_more(alloc, instance.net, &kept.counts, place)? {
+        Some(counts) => keep_lesser(instance, search, dearest, kept, &counts, Some(place)),
+        None => Ok(false),
+    }
+}
+
+/// Puts one module on for others, the first that helps.
+fn put_on(
+    alloc: Global,
+    instance: &Instance,
+    search: &mut Search,
+    dearest: &[Priced],
+    kept: &mut Kept,
+) -> Result<bool, NoMemory>
+    requires survivable { IsSurvivable (case_of instance.now) }
+    requires sound { IsTestOf (case_of instance.now) search.old.test }
+    requires kept { AreCarryingCounts (case_of instance.now) kept.old }
+    ensures sound { IsTestOf (case_of instance.now) search.new.test }
+    ensures kept { AreCarryingCounts (case_of instance.now) kept.new }
+    ensures cheaper { kept.new.cost ≤ kept.old.cost }
+{
+    for priced in dearest {
+        if search.asks == 0 {
+            return Ok(false);
+        }
+        if try_more(alloc, instance, search, dearest, kept, priced.place)? {
+            return Ok(true);
+        }
+    }
+    Ok(false)
+}
+
+/// Exchanges one module for a cheaper one, or else puts one on for others.
+fn improve(
+    alloc: Global,
+    instance: &Instance,
+    search: &mut Search,
+    dearest: &[Priced],
+    kept: &mut Kept,
+) -> Result<bool, NoMemory>
+    requires survivable { IsSurvivable (case_of instance.now) }
+    requires sound { IsTestOf (case_of instance.now) search.old.test }
+    requires kept { AreCarryingCounts (case_of instance.now) kept.old }
+    ensures sound { IsTestOf (case_of instance.now) search.new.test }
+    ensures kept { AreCarryingCounts (case_of instance.now) kept.new }
+    ensures cheaper { kept.new.cost ≤ kept.old.cost }
+{
+    if exchange(alloc, instance, search, dearest, kept)? {
+        return Ok(true);
+    }
+    put_on(alloc, instance, search, dearest, kept)
+}
+
+/// Makes the kept counts cheaper, until nothing helps or all asks are spent.
+pub(crate) fn make_cheaper(
+    alloc: Global,
+    instance: &Instance,
+    search: &mut Search,
+    dearest: &[Priced],
+    kept: &mut Kept,
+) -> Result<(), NoMemory>
+    requires survivable { IsSurvivable (case_of instance.now) }
+    requires sound { IsTestOf (case_of instance.now) search.old.test }
+    requires kept { AreCarryingCounts (case_of instance.now) kept.old }
+    ensures sound { IsTestOf (case_of instance.now) search.new.test }
+    ensures kept { AreCarryingCounts (case_of instance.now) kept.new }
+    ensures cheaper { kept.new.cost ≤ kept.old.cost }
+{
+    search.asks = MOST_ASKS;
+    for _ in 0..MOST_ASKS {
+        let counts = kept.counts.copy()?;
+        keep_lesser(instance, search, dearest, kept, &counts, None)?;
+        if !improve(alloc, instance, search, dearest, kept)? {
+            return Ok(());
+        }
+    }
+    Ok(())
+}
