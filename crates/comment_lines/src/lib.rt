@@ -1,0 +1,5 @@
+//! Comment lines that stand after the last token of a text: how they are written, and that a reader passes over them.
+#![tactic(auto)]
+
+pub mod law;
+pub mod puts;
