@@ -22,8 +22,8 @@ use Rattle.session_script.specs.declared.script.Command.{Command}
 use Rattle.session_run.specs.Transcripts.{IsNamedSeparation, IsOutcomeAfter, IsPlanBetween, IsTranscript, RunsFrom, acts_of, outcome_caller, outcomes_of}
 use Rattle.session_run.proofs.Counts.{few_entries}
 use Rattle.session_run.proofs.OutcomeForms.{kept_one}
-use Rattle.acceptance.specs.Reports.{IsSoundPlanOf, IsSoundRefusalOf}
-use Rattle.acceptance.specs.Transcripts.{TranscriptsAreAccepted}
+use Rattle.acceptance.specs.Reports.{IsSoundOutcomeOf, IsSoundPlanOf, IsSoundRefusalOf}
+use Rattle.acceptance.specs.Transcripts.{TranscriptsAreAccepted, TranscriptsAreSound}
 use Rattle.acceptance.proofs.Reports.{outcome_none, sound_reports_are_accepted}
 use Rattle.acceptance.proofs.Snapshots.{tight_where_claimed}
 use Rattle.acceptance.proofs.Sound.{none_prop}
@@ -102,6 +102,10 @@ module _ (p : Case) (notes : Notes) (commands : List Command) (r : Report) (few 
     outcome_clean (Unsurvivable by number version position state demand) is =
         outcome_none p r (Unsurvivable by number version position state demand) (sound_refusal version position state.0 demand is.2 is.3 is.4)
 
+    outcome_sound : (o : Outcome) → IsOutcomeAfter p (take n es) (take m es) caller serial o → ∥ IsSoundOutcomeOf p r o ∥₁
+    outcome_sound (Planned by number plan) is = ∥∥₁_elim is.2 (hlevel props) (λ after. ∣ sound_plan plan after ∣₁)
+    outcome_sound (Unsurvivable by number version position state demand) is = ∣ sound_refusal version position state.0 demand is.2 is.3 is.4 ∣₁
+
     outcome_bound : (o : Outcome) → IsOutcomeAfter p (take n es) (take m es) caller serial o → IsBelowAllAble p r o
     outcome_bound (Planned by number plan) is = λ counts able. ∥∥₁_elim is.2 (hlevel props) (λ after. bound_holds plan after counts able)
     outcome_bound (Unsurvivable by number version position state demand) is = tt
@@ -122,6 +126,9 @@ module _ (p : Case) (notes : Notes) (commands : List Command) (r : Report) (few 
         let caller = outcome_caller o in
         kept_one Q (λ x. outcome_caller x == caller) r.outcomes (of_run caller 0 1 (acts_of caller commands) (outcomes_of caller r.outcomes) (t.runs caller)) k d lt (eq-eqb caller caller refl)
 
+  pub transcript_sound : All (λ o. ∥ IsSoundOutcomeOf p r o ∥₁) r.outcomes
+  transcript_sound = of_all (λ o. ∥ IsSoundOutcomeOf p r o ∥₁) outcome_sound
+
   whole_clean : HoldNone (whole_findings notes p r)
   whole_clean =
       let one = none_prop (whole_findings notes p r) in
@@ -136,3 +143,6 @@ module _ (p : Case) (notes : Notes) (commands : List Command) (r : Report) (few 
 
 pub transcripts_are_accepted : TranscriptsAreAccepted
 transcripts_are_accepted p notes commands r few t = transcript_accepted p notes commands r few t
+
+pub transcripts_are_sound : TranscriptsAreSound
+transcripts_are_sound p notes commands r few t = transcript_sound p notes commands r few t

@@ -6,6 +6,7 @@ use Rattle.session_script.specs.declared.script.Command.{Command}
 use Rattle.session_run.specs.Transcripts.{IsTranscript}
 use Rattle.report_checker.specs.Outcomes.{IsBelowAllAble}
 use Rattle.report_checker.specs.ReportFindings.{HasNoFinding}
+use Rattle.acceptance.specs.Reports.{IsSoundOutcomeOf}
 
 -- A transcript of at most 1,000 commands has no finding, and the bounds of its plans hold.
 abbrev pub TranscriptsAreAccepted : Type 0
@@ -13,3 +14,10 @@ TranscriptsAreAccepted = (p : Case) (notes : Notes) (commands : List Command) (r
     → length commands ≤ 1000
     → IsTranscript p notes commands r
     → HasNoFinding notes p r × All (IsBelowAllAble p r) r.outcomes
+
+-- Each outcome of a transcript of at most 1,000 commands is sound by itself.
+abbrev pub TranscriptsAreSound : Type 0
+TranscriptsAreSound = (p : Case) (notes : Notes) (commands : List Command) (r : Report)
+    → length commands ≤ 1000
+    → IsTranscript p notes commands r
+    → All (λ o. ∥ IsSoundOutcomeOf p r o ∥₁) r.outcomes

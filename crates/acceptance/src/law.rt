@@ -1,6 +1,6 @@
 ghost use Rattle.acceptance.specs.Laws.{SnapshotPlansAreAccepted, SoundPlansAreAccepted};
 ghost use Rattle.acceptance.specs.Reports.{SoundReportsAreAccepted};
-ghost use Rattle.acceptance.specs.Transcripts.{TranscriptsAreAccepted};
+ghost use Rattle.acceptance.specs.Transcripts.{TranscriptsAreAccepted, TranscriptsAreSound};
 
 /// A plan whose parts are sound has no finding.
 pub fn sound_plans_are_accepted()
@@ -20,4 +20,9 @@ pub fn sound_reports_are_accepted()
 /// A transcript of at most 1,000 commands has no finding, and no counts that can carry a plan's demands cost less than its bound.
 pub fn transcripts_are_accepted()
     ensures { TranscriptsAreAccepted }
+{}
+
+/// Each outcome of a transcript of at most 1,000 commands is sound by itself.
+pub fn transcripts_are_sound()
+    ensures { TranscriptsAreSound }
 {}
