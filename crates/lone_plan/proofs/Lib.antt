@@ -1,0 +1,5 @@
+pub mod Alone
+pub mod Accepted
+pub mod CheaperKept
+pub mod Certain
+pub mod PlansOf

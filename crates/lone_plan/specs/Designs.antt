@@ -1,0 +1,33 @@
+-- the design of a plan, and cheaper ones in its place
+use Rattle.std.specs.Prelude.{◌≡◌, ℕ, ◌≤◌, List, All}
+use Rattle.plan_terms.specs.Terms.{Notes, Routing, Case, IsSurvivable}
+use Rattle.plan_types.specs.Terms.{IsCarryingPlan, IsCostedPlan}
+use Rattle.plan_types.specs.declared.plan.Plan.{Plan}
+use Rattle.plan_report.specs.Terms.{IsPlanInForm, known_to}
+use Rattle.route_law.specs.Terms.{IsLowestRouting}
+use Rattle.session_run.specs.Transcripts.{IsTranscript}
+use Rattle.lone_plan.specs.declared.planned.PlannedReport.{PlannedReport}
+use Rattle.lone_plan.specs.LonePlans.{IsSoundDesign, plan_commands, redesigned, redesigned_plan, whole_report}
+
+-- the plan is made of the opening demands: it carries them in each state, at the cost of its counts, in form and in lowest terms
+pub record IsMadePlan (p : Case) (plan : Plan) : Type 0 where
+  pub demands : plan.demands ≡ p.demands
+  pub carrying : IsCarryingPlan p plan
+  pub costed : IsCostedPlan p plan
+  pub form : IsPlanInForm (known_to p) plan
+  pub lowest : All IsLowestRouting plan.routings
+
+-- The plan of a transcript of one plan command is made of the opening demands, and no state separates one of them.
+abbrev pub LonePlansCarry : Type 0
+LonePlansCarry = (p : Case) (notes : Notes) (r : PlannedReport)
+    → IsTranscript p notes plan_commands (whole_report r)
+    → IsMadePlan p r.plan × IsSurvivable p
+
+-- The report of a plan stays a transcript where a sound design in lowest terms that costs no more stands in the place of the plan's own.
+abbrev pub CheaperRedesignsArePlans : Type 0
+CheaperRedesignsArePlans = (p : Case) (notes : Notes) (r : PlannedReport) (counts : List (List ℕ)) (cost : ℕ) (routings : List Routing)
+    → IsTranscript p notes plan_commands (whole_report r)
+    → IsSoundDesign p (redesigned_plan r.plan counts cost routings)
+    → All IsLowestRouting routings
+    → cost ≤ r.plan.cost
+    → IsTranscript p notes plan_commands (whole_report (redesigned r counts cost routings))

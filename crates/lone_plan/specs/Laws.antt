@@ -1,0 +1,29 @@
+-- what holds of the report of one plan
+use Rattle.std.specs.Prelude.{ℕ, List, All}
+use Rattle.plan_terms.specs.Terms.{Notes, Routing, Case}
+use Rattle.plan_types.specs.declared.report.Report.{Report}
+use Rattle.plan_report.specs.Terms.{IsReportInForm, known_to}
+use Rattle.report_checker.specs.Outcomes.{IsBelowAllAble}
+use Rattle.report_checker.specs.ReportFindings.{HasNoFinding}
+use Rattle.session_run.specs.Transcripts.{IsTranscript}
+use Rattle.lone_plan.specs.declared.planned.PlannedReport.{PlannedReport}
+use Rattle.lone_plan.specs.LonePlans.{IsSoundDesign, plan_commands, redesigned, redesigned_plan, whole_report}
+
+-- the report is in form, no finding holds of it, and no counts that can carry a plan's demands cost less than the plan's bound
+pub record IsAcceptable (p : Case) (notes : Notes) (r : Report) : Type 0 where
+  pub form : IsReportInForm (known_to p) r
+  pub clean : HasNoFinding notes p r
+  pub bounded : All (IsBelowAllAble p r) r.outcomes
+
+-- the report of a plan is acceptable
+abbrev pub LonePlansAreAccepted : Type 0
+LonePlansAreAccepted = (p : Case) (notes : Notes) (r : PlannedReport)
+    → IsTranscript p notes plan_commands (whole_report r)
+    → IsAcceptable p notes (whole_report r)
+
+-- and so is that of a plan with a sound design in the place of its own
+abbrev pub RedesignsAreAccepted : Type 0
+RedesignsAreAccepted = (p : Case) (notes : Notes) (r : PlannedReport) (counts : List (List ℕ)) (cost : ℕ) (routings : List Routing)
+    → IsTranscript p notes plan_commands (whole_report r)
+    → IsSoundDesign p (redesigned_plan r.plan counts cost routings)
+    → IsAcceptable p notes (whole_report (redesigned r counts cost routings))

@@ -1,0 +1,3 @@
+pub mod LonePlans
+pub mod Laws
+pub mod Designs

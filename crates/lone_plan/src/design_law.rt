@@ -1,0 +1,12 @@
+ghost use Rattle.lone_plan.specs.Designs.{CheaperRedesignsArePlans, LonePlansCarry};
+
+/// The plan of a report of one plan command carries the opening demands in each state, at the cost of its counts, in form and in lowest
+/// terms, and no state separates one of them.
+pub fn lone_plans_carry()
+    ensures { LonePlansCarry }
+{}
+
+/// The report of a plan stays a transcript where a sound design in lowest terms that costs no more replaces the plan's own.
+pub fn cheaper_redesigns_are_plans()
+    ensures { CheaperRedesignsArePlans }
+{}
