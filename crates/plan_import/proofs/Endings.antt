@@ -1,0 +1,39 @@
+-- what an import answers
+use Rattle.std.proofs.Common.{◌≢◌, refl, length, ⊎_elim}
+use Rattle.plan_terms.specs.Terms.{Notes, Case, AreDemands, IsNetwork, capacities}
+use Rattle.plan_report.specs.Terms.{known_to}
+use Rattle.session_run.specs.Transcripts.{IsTranscript}
+use Rattle.flow_file.specs.declared.flow.FlowFile.{FlowFile}
+use Rattle.flow_file.specs.FlowFiles.{IsFlowFile}
+use Rattle.flow_import.specs.declared.fault.ImportFault.{ImportFault}
+use Rattle.flow_import.specs.declared.fault.ImportFault.TheVariants.{NoMemory}
+use Rattle.flow_import.specs.declared.imported.Imported.{Imported}
+use Rattle.flow_import.specs.Imports.{IsImportFault, IsImported}
+use Rattle.lone_plan.specs.declared.planned.PlannedReport.{PlannedReport}
+use Rattle.lone_plan.specs.LonePlans.{plan_commands, whole_report}
+use Rattle.lone_plan.proofs.Accepted.{redesigns_are_accepted}
+use Rattle.plan_import.specs.ImportedPlans.{HasImportFault, IsImportedReport, with_design}
+use Rattle.plan_import.proofs.Designs.{sound_design}
+
+module _ (p : Case) (notes : Notes) (file : FlowFile) (r : PlannedReport) (t : IsTranscript p notes plan_commands (whole_report r)) where
+  pub imported_report : ∥ IsNetwork p.nodes p.links ∥₁ → AreDemands (length p.nodes) p.demands → IsFlowFile (known_to p) p.demands file
+      → (i : Imported) → IsImported p file i → IsImportedReport p notes file (whole_report (with_design r i))
+  imported_report net belong form i is =
+      let design = sound_design p net belong file form r.plan i is in
+      record {
+        planned = r;
+        transcript = t;
+        imported = i;
+        of_file = is;
+        same = refl;
+        sound = design;
+        acceptable = redesigns_are_accepted p notes r i.counts i.cost i.routings t design;
+      }
+
+  pub fault_told : (fault : ImportFault) → fault ≢ NoMemory → IsImportFault p (capacities p.links file.counts) file.flows fault → HasImportFault p notes file fault
+  fault_told fault told is = record {
+    planned = r;
+    transcript = t;
+    first = ⊎_elim (λ none. absurd (told none)) (λ first. first) is;
+    told = told;
+  }

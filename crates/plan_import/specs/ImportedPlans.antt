@@ -1,0 +1,44 @@
+-- what an import comes to: a plan with another tool's design, or the first fault
+use Rattle.std.specs.Prelude.{◌≡◌, ◌≢◌}
+use Rattle.plan_terms.specs.Terms.{Notes, Case, capacities}
+use Rattle.plan_types.specs.declared.report.Report.{Report}
+use Rattle.session_run.specs.Transcripts.{IsTranscript}
+use Rattle.flow_file.specs.declared.flow.FlowFile.{FlowFile}
+use Rattle.flow_import.specs.declared.fault.ImportFault.{ImportFault}
+use Rattle.flow_import.specs.declared.fault.ImportFault.TheVariants.{NoMemory}
+use Rattle.flow_import.specs.declared.imported.Imported.{Imported}
+use Rattle.flow_import.specs.Imports.{IsFirstStateFault, IsImported}
+use Rattle.lone_plan.specs.declared.planned.PlannedReport.{PlannedReport}
+use Rattle.lone_plan.specs.Laws.{IsAcceptable}
+use Rattle.lone_plan.specs.LonePlans.{IsSeparationOf, IsSoundDesign, plan_commands, redesigned, whole_report}
+use Rattle.plan_import.specs.declared.ending.ImportEnding.{ImportEnding}
+use Rattle.plan_import.specs.declared.ending.ImportEnding.TheVariants as ending
+
+-- the report of a plan with the imported counts, cost and routings in the place of its own
+abbrev pub with_design : PlannedReport → Imported → PlannedReport
+with_design planned i = redesigned planned i.counts i.cost i.routings
+
+-- The report is that of a plan of the case, but for the plan's counts, cost and routings, which are those of the file: they carry the
+-- demands in each state, each flow comes of a split of the file's, and the cost is what the file's counts cost. The report is in form, no
+-- finding holds of it, and no able counts cost less than the plan's bound.
+pub record IsImportedReport (p : Case) (notes : Notes) (file : FlowFile) (r : Report) : Type 0 where
+  pub planned : PlannedReport
+  pub transcript : IsTranscript p notes plan_commands (whole_report planned)
+  pub imported : Imported
+  pub of_file : IsImported p file imported
+  pub same : r ≡ whole_report (with_design planned imported)
+  pub sound : IsSoundDesign p (with_design planned imported).plan
+  pub acceptable : IsAcceptable p notes r
+
+-- A plan of the case can be made, and the fault is the first of the file's flows.
+pub record HasImportFault (p : Case) (notes : Notes) (file : FlowFile) (fault : ImportFault) : Type 0 where
+  pub planned : PlannedReport
+  pub transcript : IsTranscript p notes plan_commands (whole_report planned)
+  pub first : IsFirstStateFault p (capacities p.links file.counts) file.flows fault
+  pub told : fault ≢ NoMemory
+
+-- a report with the imported design, the first fault, or the first separation
+abbrev pub IsImportEnding : Case → Notes → FlowFile → ImportEnding → Type 0
+IsImportEnding p notes file (ending.Imported r) = IsImportedReport p notes file (whole_report r)
+IsImportEnding p notes file (ending.Faulty fault) = HasImportFault p notes file fault
+IsImportEnding p notes file (ending.Separated state demand) = IsSeparationOf p state.0 demand

@@ -1,0 +1,6 @@
+//! Another tool's solution beside this planner's bound: a plan of the problem, with the imported design in the place of its own.
+#![tactic(auto)]
+
+mod ending;
+
+pub use ending::{ImportEnding, import_plan};
