@@ -1,0 +1,4 @@
+pub mod Blocks
+pub mod NoNames
+pub mod Spelling
+pub mod Trimming

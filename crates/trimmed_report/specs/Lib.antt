@@ -1,0 +1,2 @@
+pub mod BlockLines
+pub mod TrimmedReports

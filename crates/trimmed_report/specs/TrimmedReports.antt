@@ -1,0 +1,23 @@
+-- what a trimming comes to: the report of a plan from which no module can be spared, or the first separation
+use Rattle.std.specs.Prelude.{List}
+use Rattle.plan_terms.specs.Terms.{Notes, Case}
+use Rattle.session_run.specs.Transcripts.{IsTranscript}
+use Rattle.trim_plan.specs.declared.trimming.Block.{Block}
+use Rattle.trim_plan.specs.Trimmed.{IsTrimmedBy}
+use Rattle.lone_plan.specs.declared.planned.PlannedReport.{PlannedReport}
+use Rattle.lone_plan.specs.Laws.{IsAcceptable}
+use Rattle.lone_plan.specs.LonePlans.{IsSeparationOf, plan_commands, whole_report}
+use Rattle.trimmed_report.specs.declared.ending.TrimEnding.{TrimEnding}
+use Rattle.trimmed_report.specs.declared.ending.TrimEnding.TheVariants as ending
+
+-- The report is a transcript of one plan command, its one outcome is a plan that is trimmed by the blocks, no finding holds of it, and no
+-- able counts cost less than the plan's bound.
+pub record IsTrimmedReport (p : Case) (notes : Notes) (r : PlannedReport) (blocks : List Block) : Type 0 where
+  pub transcript : IsTranscript p notes plan_commands (whole_report r)
+  pub trimmed : IsTrimmedBy p r.plan.counts blocks
+  pub acceptable : IsAcceptable p notes (whole_report r)
+
+-- such a report with the blocks, or the first separation
+abbrev pub IsTrimEnding : Case → Notes → TrimEnding → Type 0
+IsTrimEnding p notes (ending.Trimmed r blocks) = IsTrimmedReport p notes r blocks
+IsTrimEnding p notes (ending.Separated state demand) = IsSeparationOf p state.0 demand

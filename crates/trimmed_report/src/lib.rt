@@ -1,0 +1,10 @@
+//! The report of a trimmed plan, and the comment lines that tell what keeps each of its modules.
+#![tactic(auto)]
+
+mod comments;
+mod ending;
+mod names;
+mod writer;
+
+pub use ending::{TrimEnding, trim_once};
+pub use writer::write_trimmed;
