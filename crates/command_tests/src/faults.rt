@@ -8,7 +8,7 @@ use std::thread::Threads;
 type Row = (&'static str, u32, Status);
 
 /// Commands of each kind, and some that are refused.
-const COMMANDS: [Row; 12] = [
+const COMMANDS: [Row; 15] = [
     ("plan triangle", 1, Status::Done),
     ("plan triangle reconfigure single", 3, Status::Done),
     ("plan towns reconfigure single", 3, Status::Done),
@@ -23,6 +23,13 @@ const COMMANDS: [Row; 12] = [
         4,
         Status::BadReport,
     ),
+    ("import triangle default default circle", 2, Status::Done),
+    (
+        "import triangle reconfigure single circle",
+        4,
+        Status::BadFlows,
+    ),
+    ("import idle default last circle", 3, Status::BadFlows),
     ("sample 1 6", 0, Status::Done),
     ("sample", 0, Status::BadWords),
 ];

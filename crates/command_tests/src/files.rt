@@ -248,6 +248,12 @@ caller 1 plan
 const NO_COMMANDS: &[u8] = b"?planner script; version: 1
 ";
 
+/// Two modules on each link, and the demand's flow beside one that goes round.
+const FLOWS_AND_A_CIRCLE: &[u8] = b"?planner flows; version: 1
+MODULES ( AB ( 2 ) BC ( 2 ) AC ( 2 ) )
+FLOWS ( none ( D1 AC A 12 D1 AB A 3 D1 BC B 3 D1 AC C 3 ) )
+";
+
 const NINTH_CALLER: &[u8] = b"?planner script; version: 1
 caller 9 plan
 ";
@@ -256,11 +262,12 @@ caller 9 plan
 pub(crate) type File<'a> = (&'a str, &'a [u8]);
 
 /// The files that the commands name.
-const FILES: [File<'static>; 32] = [
+const FILES: [File<'static>; 33] = [
     ("triangle", TRIANGLE),
     ("empty", NO_DEMANDS),
     ("set", SET_AND_PLAN),
     ("idle-script", NO_COMMANDS),
+    ("circle", FLOWS_AND_A_CIRCLE),
     ("ninth", NINTH_CALLER),
     ("fixed", FIXED_TRIANGLE),
     ("parallel", PARALLEL),

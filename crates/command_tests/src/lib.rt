@@ -10,6 +10,8 @@ mod faults;
 #[cfg(test)]
 mod files;
 #[cfg(test)]
+mod imports;
+#[cfg(test)]
 mod long_files;
 #[cfg(test)]
 mod measured;
@@ -21,3 +23,5 @@ mod runs;
 mod samples;
 #[cfg(test)]
 mod sessions;
+#[cfg(test)]
+mod trims;

@@ -4,7 +4,7 @@ use std::sync::Wait;
 use std::thread::Threads;
 
 const USAGE: &str =
-    "usage: plan NET [MODEL [FAILURES]] | session NET MODEL FAILURES SCRIPT | check NET MODEL FAILURES REPORT | sample SEED N\n";
+    "usage: plan NET [MODEL [FAILURES]] | session NET MODEL FAILURES SCRIPT | check NET MODEL FAILURES REPORT | sample SEED N | trim NET [MODEL [FAILURES]] | import NET MODEL FAILURES FLOWS\n";
 
 /// Words, how many files they fetch, and the status and the text that they come to.
 type Row = (&'static str, u32, Status, &'static str);
@@ -361,7 +361,7 @@ const PLANS: [Row; 15] = [
 ];
 
 /// Files that are refused or missing, and words outside the grammar.
-const REFUSALS: [Row; 26] = [
+const REFUSALS: [Row; 28] = [
     (
         "plan large-then-fine",
         1,
@@ -458,6 +458,13 @@ const REFUSALS: [Row; 26] = [
         USAGE,
     ),
     ("plans triangle", 0, Status::BadWords, USAGE),
+    ("trim", 0, Status::BadWords, USAGE),
+    (
+        "trim triangle default default default",
+        0,
+        Status::BadWords,
+        USAGE,
+    ),
 ];
 
 #[test]

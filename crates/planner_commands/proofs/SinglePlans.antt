@@ -1,178 +1,54 @@
 -- the report of one plan command
-use Rattle.std.proofs.Common.{◌≡◌, ◌≢◌, ◌∙◌, ℕ, zero, suc, ◌≤◌, ◌==◌, ◌++◌, List, [], ◌∷◌, Some, cond, flat_map, if◌then◌else◌, length, refl, slice_get, take, sym, ap, subst, arith, codes, decimal, inl, inr, ⊎_elim, Bool, true, false}
-use Rattle.net_core.proofs.Library.{cases_eq}
-use Rattle.std.proofs.lemmas.Bool.{eq-eqb, ne_eqb}
-use Rattle.plan_terms.specs.Terms.{Demand, StateId, Entry, Edited, Pooled, Notes, Case, IsFirstSeparation}
-use Rattle.plan_types.specs.declared.plan.Plan.{Plan}
-use Rattle.plan_types.specs.declared.report.Outcome.{Outcome}
-use Rattle.plan_types.specs.declared.report.Outcome.TheVariants.{Planned, Unsurvivable}
-use Rattle.plan_types.specs.declared.report.Report.{Report}
-use Rattle.cut_pool.specs.Terms.{Dated, demands_left, left_by}
-use Rattle.session_script.specs.declared.script.Act.TheVariants as acts
-use Rattle.session_run.specs.Transcripts.{IsOutcomeAfter, IsTranscript, RunsFrom, acts_of, outcome_caller, edit_asked, edit_made, outcomes_of}
-use Rattle.acceptance.proofs.Transcripts.{transcript_accepted}
+use Rattle.std.proofs.Common.{◌≡◌, ℕ, ◌++◌, List, [], ◌∷◌, codes, decimal, refl, sym, subst, inl, inr}
+use Rattle.plan_terms.specs.Terms.{Notes, Case}
 use Rattle.plan_report.specs.Terms.{state_name, known_to, SpellsReport, report_text}
-use Rattle.planner_commands.specs.Run.{EndsPlan, IsPlanReport, IsSummary, plan_commands, summary}
+use Rattle.session_run.specs.Transcripts.{IsTranscript}
+use Rattle.lone_plan.specs.LonePlans.{IsSeparationOf, plan_commands, whole_report}
+use Rattle.lone_plan.specs.declared.planned.PlannedReport.{PlannedReport}
+use Rattle.lone_plan.proofs.Accepted.{lone_plans_are_accepted}
+use Rattle.planner_commands.specs.Run.{EndsPlan, IsPlanReport, IsSummary, NamesFirstSeparation, summary}
 use Rattle.planner_commands.specs.declared.status.Status.{Status}
 use Rattle.planner_commands.specs.declared.status.Status.TheVariants.{Done, NotSurvivable}
 
--- ---- callers
-
-none_else : (caller : ℕ) → 1 ≢ caller → acts_of caller plan_commands ≡ []
-none_else caller other = ap (λ b. (if b then acts.Plan ∷ [] else []) ++ []) (ne_eqb 1 caller other)
-
-asks_no_edit : (b : Bool) → flat_map edit_asked ((if b then acts.Plan ∷ [] else []) ++ []) ≡ []
-asks_no_edit true = refl
-asks_no_edit false = refl
-
--- ---- journals without edits
-
-not_nothing : {X : Type 0} (x : X) (xs : List X) → x ∷ xs ≡ [] → ⊥
-not_nothing x xs same = cc same
-
-unedited : (nodes : List (List ℕ)) (d : Dated) (es : List Entry) → ((caller : ℕ) → flat_map (edit_made caller) es ≡ []) → (n : ℕ) → left_by nodes d (take n es) ≡ d
-unedited nodes d es none zero = refl
-unedited nodes d [] none (suc n) = refl
-unedited nodes d (Edited by edit reply ∷ es) none (suc n) =
-    absurd (not_nothing edit (flat_map (edit_made by) es) (sym (ap (λ b. (if b then edit ∷ [] else []) ++ flat_map (edit_made by) es) (eq-eqb by by refl)) ∙ none by))
-unedited nodes d (Pooled index state lengths ∷ es) none (suc n) = unedited nodes d es none n
-
--- ---- the one outcome
-
-module _ (p : Case) (es : List Entry) where
-  -- an outcome at its place
-  pub record IsAlone (o : Outcome) : Type 0 where
-    pub n : ℕ
-    pub m : ℕ
-    pub within : n ≤ m
-    pub last : m ≤ length es
-    pub is : IsOutcomeAfter p (take n es) (take m es) 1 1 o
-
-  -- a caller's run, if the caller asks for nothing
-  idle : (caller : ℕ) (os : List Outcome) → 1 ≢ caller → RunsFrom p es caller 0 1 (acts_of caller plan_commands) os → os ≡ []
-  idle caller [] other run = refl
-  idle caller (o ∷ os) other run = absurd (subst (λ asked. RunsFrom p es caller 0 1 asked (o ∷ os)) (none_else caller other) run)
-
-  first_kept : (caller : ℕ) (o : Outcome) (os : List Outcome) → outcome_caller o ≡ caller → outcomes_of caller (o ∷ os) ≡ o ∷ outcomes_of caller os
-  first_kept caller o os is = ap (λ b. cond b (o ∷ outcomes_of caller os) (outcomes_of caller os)) (eq-eqb (outcome_caller o) caller is)
-
-  first_left : (caller : ℕ) (o : Outcome) (os : List Outcome) → outcome_caller o ≢ caller → outcomes_of caller (o ∷ os) ≡ outcomes_of caller os
-  first_left caller o os other = ap (λ b. cond b (o ∷ outcomes_of caller os) (outcomes_of caller os)) (ne_eqb (outcome_caller o) caller other)
-
-  abbrev AllRun : List Outcome → Type 0
-  AllRun os = (caller : ℕ) → RunsFrom p es caller 0 1 (acts_of caller plan_commands) (outcomes_of caller os)
-
-  -- each outcome is of caller 1
-  of_first : (o : Outcome) (os : List Outcome) → AllRun (o ∷ os) → outcome_caller o ≡ 1
-  of_first o os runs = ⊎_elim
-      (λ is. is)
-      (λ other.
-      let caller = outcome_caller o in
-      absurd (not_nothing o (outcomes_of caller os) (sym (first_kept caller o os refl) ∙ idle caller (outcomes_of caller (o ∷ os)) (λ same. other (sym same)) (runs caller))))
-      (cases_eq (outcome_caller o) 1)
-
-  -- what follows the outcome of caller 1 is no outcome of caller 1
-  rest_of : (at serial : ℕ) (os : List Outcome) → RunsFrom p es 1 at serial [] os → os ≡ []
-  rest_of at serial [] run = refl
-  rest_of at serial (o ∷ os) run = absurd run
-
-  -- and none of another
-  no_rest : (o : Outcome) (os : List Outcome) → AllRun (o ∷ os) → outcome_caller o ≡ 1 → outcomes_of 1 os ≡ [] → os ≡ []
-  no_rest o [] runs one none = refl
-  no_rest o (q ∷ os) runs one none = ⊎_elim
-      (λ is. absurd (not_nothing q (outcomes_of 1 os) (sym (first_kept 1 q os is) ∙ none)))
-      (λ other.
-      let caller = outcome_caller q in
-      absurd (not_nothing q (outcomes_of caller os) (sym (first_left caller o (q ∷ os) (λ same. other (sym same ∙ one)) ∙ first_kept caller q os refl) ∙ idle caller (outcomes_of caller (o ∷ q ∷ os)) (λ same. other (sym same)) (runs caller))))
-      (cases_eq (outcome_caller q) 1)
-
-  -- there is one outcome
-  pub alone : (os : List Outcome) → AllRun os → (o : Outcome) × (os ≡ o ∷ []) × IsAlone o
-  alone [] runs = absurd (runs 1)
-  alone (o ∷ os) runs =
-      let one = of_first o os runs in
-      let run = subst (RunsFrom p es 1 0 1 (acts.Plan ∷ [])) (first_kept 1 o os one) (runs 1) in (
-        o,
-        ap (λ rest. o ∷ rest) (no_rest o os runs one (rest_of run.1 2 (outcomes_of 1 os) run.6)),
-        record { n = run.0; m = run.1; within = run.3; last = run.4; is = run.5 },
-      )
-
--- the report of one plan command has one outcome, for the opening demands
-module _ (p : Case) (notes : Notes) (r : Report) (t : IsTranscript p notes plan_commands r) where
-  unmoved : (n : ℕ) → demands_left p (take n r.entries) ≡ p.demands
-  unmoved n = ap (λ (d : Dated). d.demands) (unedited p.nodes (record { demands = p.demands; version = 0 }) r.entries (λ caller. t.edits caller ∙ asks_no_edit (1 == caller)) n)
-
-  one : (o : Outcome) × (r.outcomes ≡ o ∷ []) × IsAlone p r.entries o
-  one = alone p r.entries r.outcomes t.runs
-
-  -- it is this one
-  is_one : (o : Outcome) → r.outcomes ≡ o ∷ [] → IsAlone p r.entries o
-  is_one o same = let found = one in subst (IsAlone p r.entries) (let there = found.1 in cc (there, same)) found.2
-
-  -- a separation of the opening demands, and the name of the demand
-  pub record IsSeparated (state : ℕ) (name : List ℕ) : Type 0 where
-    pub place : ℕ
-    pub first : IsFirstSeparation p state place
-    pub named : first.separates.demand.name ≡ name
-
-  pub refused : (by serial version position : ℕ) (state : StateId) (name : List ℕ) → r.outcomes ≡ Unsurvivable by serial version position state name ∷ [] → IsSeparated state.0 name
-  refused by serial version position state name same =
-      let found = is_one (Unsurvivable by serial version position state name) same in
-      let named = found.is.4 in
-      let first : IsFirstSeparation p state.0 named.place =
-      subst (λ ds. IsFirstSeparation (record { nodes = p.nodes; links = p.links; listed = p.listed; demands = ds; places = p.places }) state.0 named.place) (unmoved found.n) named.first in
-      let there : slice_get p.demands named.place ≡ Some named.demand = subst (λ ds. slice_get ds named.place ≡ Some named.demand) (unmoved found.n) named.at in
-      let demand : first.separates.demand ≡ named.demand = let here = first.separates.at in cc (here, there) in
-      record { place = named.place; first = first; named = ap (λ (d : Demand). d.name) demand ∙ named.named }
-
-  pub planned : (by serial : ℕ) (plan : Plan) → r.outcomes ≡ Planned by serial plan ∷ [] → r.outcomes ≡ Planned 1 1 plan ∷ []
-  planned by serial plan same =
-      let found = is_one (Planned by serial plan) same in
-      same ∙ ap (λ o. o ∷ []) (let caller = found.is.0 in let number = found.is.1 in cc (caller, number))
-
-  -- there is one outcome
-  pub has_one : (o : Outcome) × (r.outcomes ≡ o ∷ [])
-  has_one = let found = one in (found.0, found.1)
-
+module _ (p : Case) (notes : Notes) (r : PlannedReport) (t : IsTranscript p notes plan_commands (whole_report r)) where
   -- its text is the report of a plan
-  pub plan_report : (by serial : ℕ) (plan : Plan) → r.outcomes ≡ Planned by serial plan ∷ [] → (text : List ℕ) → text ≡ report_text (known_to p) r → IsPlanReport p notes text
-  plan_report by serial plan same text printed =
-      let accepted = transcript_accepted p notes plan_commands r (omega arith) t in
+  pub plan_report : (text : List ℕ) → text ≡ report_text (known_to p) (whole_report r) → IsPlanReport p notes text
+  plan_report text printed =
+      let accepted = lone_plans_are_accepted p notes r t in
       record {
-        report = r;
-        plan = plan;
-        alone = planned by serial plan same;
-        printed = record { transcript = t; clean = accepted.0; bounded = accepted.1; printed = printed };
+        report = whole_report r;
+        plan = r.plan;
+        alone = refl;
+        printed = record { transcript = t; clean = accepted.clean; bounded = accepted.bounded; printed = printed };
       }
 
   -- so it is what planning comes to
-  pub plan_ends : (by serial : ℕ) (plan : Plan) → r.outcomes ≡ Planned by serial plan ∷ [] → (status : Status) (text : List ℕ) → status ≡ Done → text ≡ report_text (known_to p) r → SpellsReport (known_to p) text r
-      → EndsPlan p notes status text
+  pub plan_ends : (status : Status) (text : List ℕ) → status ≡ Done → text ≡ report_text (known_to p) (whole_report r) → SpellsReport (known_to p) text (whole_report r) → EndsPlan p notes status text
   unfolding plan_report
-  plan_ends by serial plan same status text done printed spelled = inl (done, (plan_report by serial plan same text printed, spelled))
+  plan_ends status text done printed spelled = inl (done, (plan_report text printed, spelled))
 
   -- the lines of the plan are a summary
-  pub plan_summary : (seed nodes : ℕ) (plan : Plan) → r.outcomes ≡ Planned 1 1 plan ∷ [] → (text : List ℕ) → text ≡ summary seed nodes p plan → IsSummary seed nodes p notes text
+  pub plan_summary : (seed nodes : ℕ) (text : List ℕ) → text ≡ summary seed nodes p r.plan → IsSummary seed nodes p notes text
   unfolding plan_report
-  plan_summary seed nodes plan same text printed = record {
-    report = report_text (known_to p) r;
-    planned = plan_report 1 1 plan same (report_text (known_to p) r) refl;
+  plan_summary seed nodes text printed = record {
+    report = report_text (known_to p) (whole_report r);
+    planned = plan_report (report_text (known_to p) (whole_report r)) refl;
     printed = printed;
   }
 
-  -- and so is a refusal, with its line
-  pub refusal_ends : (by serial version position : ℕ) (state : StateId) (name : List ℕ) → r.outcomes ≡ Unsurvivable by serial version position state name ∷ []
-      → (status : Status) (text : List ℕ) → status ≡ NotSurvivable
-      → text ≡ codes "not survivable: state " ++ decimal state.0 ++ 32 ∷ state_name p.listed state.0 ++ codes " demand " ++ name ++ 10 ∷ []
-      → EndsPlan p notes status text
-  refusal_ends by serial version position state name same status text is printed =
-      let found = refused by serial version position state name same in
-      inr (
-        is,
-        record {
-          state = state.0;
-          place = found.place;
-          first = found.first;
-          printed = subst (λ n. text ≡ codes "not survivable: state " ++ decimal state.0 ++ 32 ∷ state_name p.listed state.0 ++ codes " demand " ++ n ++ 10 ∷ []) (sym found.named) printed;
-        },
-      )
+-- the line of a separation names it
+pub separation_named : (p : Case) (state : ℕ) (name text : List ℕ) → IsSeparationOf p state name
+    → text ≡ codes "not survivable: state " ++ decimal state ++ 32 ∷ state_name p.listed state ++ codes " demand " ++ name ++ 10 ∷ []
+    → NamesFirstSeparation p text
+separation_named p state name text is printed = record {
+  state = state;
+  place = is.place;
+  first = is.first;
+  printed = subst (λ n. text ≡ codes "not survivable: state " ++ decimal state ++ 32 ∷ state_name p.listed state ++ codes " demand " ++ n ++ 10 ∷ []) (sym is.named) printed;
+}
+
+-- and so the run ends
+pub separation_ends : (p : Case) (notes : Notes) (state : ℕ) (name : List ℕ) (status : Status) (text : List ℕ) → IsSeparationOf p state name → status ≡ NotSurvivable
+    → text ≡ codes "not survivable: state " ++ decimal state ++ 32 ∷ state_name p.listed state ++ codes " demand " ++ name ++ 10 ∷ []
+    → EndsPlan p notes status text
+separation_ends p notes state name status text is same printed = inr (same, separation_named p state name text is printed)

@@ -9,11 +9,14 @@ pub record PlanWords : Type 0 where
   pub model : List ℕ
   pub failures : List ℕ
 
--- a command: a plan for files, a session of a script, the check of a report, or a sample of a seed with so many nodes
+-- a command: a plan for files, a session of a script, the check of a report, a trimmed plan for files, the import of a file of flows, or a
+-- sample of a seed with so many nodes
 pub data Command : Type 0 where
   Plan : PlanWords → Command
   Session : PlanWords → List ℕ → Command
   Check : PlanWords → List ℕ → Command
+  Trim : PlanWords → Command
+  Import : PlanWords → List ℕ → Command
   Sample : ℕ → ℕ → Command
 
 -- the word for a model or a failure list that is in no file
@@ -57,6 +60,8 @@ abbrev pub IsNamed : List ℕ → List (List ℕ) → Command → Type 0
 IsNamed name words (Plan w) = (name ≡ codes "plan") × AreFiles words w
 IsNamed name words (Session w script) = (name ≡ codes "session") × AreFourFiles words w script
 IsNamed name words (Check w report) = (name ≡ codes "check") × AreFourFiles words w report
+IsNamed name words (Trim w) = (name ≡ codes "trim") × AreFiles words w
+IsNamed name words (Import w flows) = (name ≡ codes "import") × AreFourFiles words w flows
 IsNamed name words (Sample seed nodes) = (name ≡ codes "sample") × AreSample words seed nodes
 
 -- the words are those of the command
@@ -66,4 +71,4 @@ IsCommand (name ∷ words) c = MayBeFiles words × IsNamed (string_bytes name) (
 
 -- the line that answers words outside the grammar
 abbrev pub usage : List ℕ
-usage = codes "usage: plan NET [MODEL [FAILURES]] | session NET MODEL FAILURES SCRIPT | check NET MODEL FAILURES REPORT | sample SEED N\n"
+usage = codes "usage: plan NET [MODEL [FAILURES]] | session NET MODEL FAILURES SCRIPT | check NET MODEL FAILURES REPORT | sample SEED N | trim NET [MODEL [FAILURES]] | import NET MODEL FAILURES FLOWS\n"

@@ -1,12 +1,14 @@
--- the lines of a check
+-- the lines of a check, and of an import that has a fault
 use Rattle.std.specs.Prelude.{ℕ, zero, suc, List, [], ◌∷◌, ◌++◌, codes, decimal, flat_map, slice_get}
 use Rattle.std.specs.Option.{option_map_or}
-use Rattle.plan_terms.specs.Terms.{Demand, Link, Places}
+use Rattle.plan_terms.specs.Terms.{Demand, Link, Places, Case}
 use Rattle.plan_types.specs.declared.report.Outcome.{Outcome}
 use Rattle.plan_types.specs.declared.report.Outcome.TheVariants.{Planned, Unsurvivable}
-use Rattle.plan_report.specs.Terms.{demand_name, link_name}
+use Rattle.plan_report.specs.Terms.{demand_name, link_name, node_name, state_name}
 use Rattle.plan_checker.specs.declared.finding.Finding.{Finding}
 use Rattle.plan_checker.specs.declared.finding.Finding.TheVariants.{NotesDiffer, EntryDiffers, PoolCount, BadCut, PoolDiffers, VersionDiffers, DemandsDiffer, Survivable, BadPath, NotCarried, Overloaded, CostDiffers, LocalCut, RightDiffers, PriceExceeded, CertificateWide, RawDiffers, BoundDiffers, NotTight}
+use Rattle.flow_import.specs.declared.fault.ImportFault.{ImportFault}
+use Rattle.flow_import.specs.declared.fault.ImportFault.TheVariants as import_fault
 use Rattle.text_kit.specs.Terms.{money_word}
 
 -- words, each after a space
@@ -58,3 +60,14 @@ rejected_line places links outcomes outcome finding =
 -- the line of a report without a finding: how many outcomes it has
 abbrev pub accepted_line : ℕ → List ℕ
 accepted_line outcomes = codes "accepted " ++ decimal outcomes ++ 10 ∷ []
+
+-- the words of an import's fault: what it is, and the names of the state, of the link or the demand, and of the node
+abbrev pub import_fault_words : Case → ImportFault → List (List ℕ)
+import_fault_words p (import_fault.Dead s e) = codes "dead" ∷ state_name p.listed s.0 ∷ link_name p.links e ∷ []
+import_fault_words p (import_fault.Unbalanced s k n) = codes "unbalanced" ∷ state_name p.listed s.0 ∷ demand_name p.demands k ∷ node_name p.nodes n ∷ []
+import_fault_words p (import_fault.Overloaded s e) = codes "overloaded" ∷ state_name p.listed s.0 ∷ link_name p.links e ∷ []
+import_fault_words p import_fault.NoMemory = []
+
+-- the line of an import with this fault
+abbrev pub import_fault_line : Case → ImportFault → List ℕ
+import_fault_line p fault = codes "rejected import" ++ spaced (import_fault_words p fault) ++ 10 ∷ []

@@ -13,6 +13,9 @@ use Rattle.sndlib_reader.specs.Kinds.{kind_word}
 use Rattle.sndlib_reader.specs.NetworkFiles as networks
 use Rattle.sndlib_reader.specs.NetworkFiles.{IsFirstFault}
 use Rattle.plan_report.specs.Terms.{KnownNames, SpellsReport}
+use Rattle.flow_file.specs.FlowFiles.{SpellsFlows}
+use Rattle.flow_file.specs.FlowKinds.{flows_kind_word}
+use Rattle.flow_file.specs.FlowReading.{flows_of}
 use Rattle.report_reader.specs.ReadingReport.{report_of}
 use Rattle.report_words.specs.Terms.{report_kind_word}
 use Rattle.session_script.specs.Terms.{script_kind_word, script_of, SpellsScript}
@@ -68,6 +71,10 @@ RefusesScriptFile places =
 abbrev pub RefusesReportFile : KnownNames → List ℕ → List ℕ → Type 0
 RefusesReportFile names =
     Refuses (SpellsReport names) (λ bytes at kind. report_of names bytes ≡ Err (at, kind)) (codes "report") report_kind_word
+
+abbrev pub RefusesFlowFile : KnownNames → List Demand → List ℕ → List ℕ → Type 0
+RefusesFlowFile names demands =
+    Refuses (SpellsFlows names demands) (λ bytes at kind. flows_of names demands bytes ≡ Err (at, kind)) (codes "flows") flows_kind_word
 
 -- The model: that of its file; without one, reconfiguration where a failure file is named, and no setup is charged.
 abbrev pub HasModel : Option Files → PlanWords → Model → Type 0

@@ -12,19 +12,27 @@ use Rattle.plan_report.specs.Terms.{state_name, known_to, SpellsReport, report_t
 use Rattle.plan_checker.specs.declared.finding.Finding.{Finding}
 use Rattle.report_checker.specs.Outcomes.{IsAcceptedOutcome, IsBelowAllAble}
 use Rattle.report_checker.specs.ReportFindings.{HasNoFinding, IsFirstOfReport}
-use Rattle.session_script.specs.declared.script.Act.TheVariants as act
 use Rattle.session_script.specs.declared.script.Command.{Command}
 use Rattle.session_script.specs.declared.script.Script.{Script}
 use Rattle.session_script.specs.Terms.{SpellsScript}
 use Rattle.session_run.specs.Transcripts.{IsTranscript}
 use Rattle.sample_net.specs.Samples.{no_notes, sample_demands, sample_links, sample_nodes, with_single_failures}
+use Rattle.flow_file.specs.FlowFiles.{SpellsFlows}
+use Rattle.flow_file.specs.declared.flow.FlowFile.{FlowFile}
+use Rattle.flow_import.specs.declared.fault.ImportFault.{ImportFault}
+use Rattle.lone_plan.specs.declared.planned.PlannedReport.{PlannedReport}
+use Rattle.lone_plan.specs.LonePlans.{plan_commands, whole_report}
+use Rattle.plan_import.specs.ImportedPlans.{HasImportFault, IsImportedReport}
+use Rattle.trim_plan.specs.declared.trimming.Block.{Block}
+use Rattle.trimmed_report.specs.BlockLines.{block_lines}
+use Rattle.trimmed_report.specs.TrimmedReports.{IsTrimmedReport}
 use Rattle.text_kit.specs.Terms.{money_word}
 use Rattle.planner_commands.specs.Commands as commands
 use Rattle.planner_commands.specs.Commands.{IsCommand, PlanWords, usage}
-use Rattle.planner_commands.specs.Findings.{accepted_line, rejected_line}
-use Rattle.planner_commands.specs.Inputs.{Fetched, HasInputs, RefusesReportFile, RefusesScriptFile, StopsAtFile, StopsAtInputs, input_limit, report_limit}
+use Rattle.planner_commands.specs.Findings.{accepted_line, import_fault_line, rejected_line}
+use Rattle.planner_commands.specs.Inputs.{Fetched, HasInputs, RefusesFlowFile, RefusesReportFile, RefusesScriptFile, StopsAtFile, StopsAtInputs, input_limit, report_limit}
 use Rattle.planner_commands.specs.declared.status.Status.{Status}
-use Rattle.planner_commands.specs.declared.status.Status.TheVariants.{Done, BadWords, NoFile, ReadFault, WriteFault, BadNetwork, BadModel, BadFailures, BadScript, NotSurvivable, Rejected, TooLong, BadReport, NoMemory}
+use Rattle.planner_commands.specs.declared.status.Status.TheVariants.{Done, BadWords, NoFile, ReadFault, WriteFault, BadNetwork, BadModel, BadFailures, BadScript, NotSurvivable, Rejected, TooLong, BadReport, NoMemory, BadFlows, BadImport}
 
 -- the number of each status, with which the program ends
 abbrev pub status_number : Status → ℕ
@@ -42,6 +50,8 @@ status_number Rejected = 11
 status_number TooLong = 12
 status_number BadReport = 13
 status_number NoMemory = 14
+status_number BadFlows = 15
+status_number BadImport = 16
 
 -- ---- reports
 
@@ -54,10 +64,6 @@ pub record IsPrintedReport (p : Case) (notes : Notes) (commands : List Command) 
   pub printed : text ≡ report_text (known_to p) r
 
 -- ---- a plan
-
--- the script of a plan: one plan command, of caller 1
-abbrev pub plan_commands : List Command
-plan_commands = record { caller = 1; act = act.Plan } ∷ []
 
 -- the text is the report of a plan
 pub record IsPlanReport (p : Case) (notes : Notes) (text : List ℕ) : Type 0 where
@@ -106,6 +112,49 @@ abbrev pub EndsCheck : Option Files → List ℕ → Case → Notes → Status �
 EndsCheck files name p notes status text =
     StopsAtFile files report_limit name BadReport (RefusesReportFile (known_to p)) status text
     ⊎ ((r : Report) × Fetched files report_limit name (SpellsReport (known_to p)) r × IsJudged p notes r status text)
+
+-- ---- a trimmed plan
+
+-- The text is the report of a plan from which no module can be spared, and then a comment line for each module: what keeps it. It spells
+-- the report.
+pub record IsPrintedTrim (p : Case) (notes : Notes) (text : List ℕ) : Type 0 where
+  pub report : PlannedReport
+  pub blocks : List Block
+  pub trimmed : IsTrimmedReport p notes report blocks
+  pub printed : text ≡ report_text (known_to p) (whole_report report) ++ block_lines p.links p.demands blocks
+  pub spelled : SpellsReport (known_to p) text (whole_report report)
+
+-- what trimming comes to, unless memory runs out: such a text, or the first separation
+abbrev pub EndsTrim : Case → Notes → Status → List ℕ → Type 0
+EndsTrim p notes status text = ((status ≡ Done) × IsPrintedTrim p notes text) ⊎ ((status ≡ NotSurvivable) × NamesFirstSeparation p text)
+
+-- ---- an import
+
+-- the text is the report of a plan with the file's counts and flows in the place of its own, and spells it
+pub record IsPrintedImport (p : Case) (notes : Notes) (file : FlowFile) (text : List ℕ) : Type 0 where
+  pub report : Report
+  pub imported : IsImportedReport p notes file report
+  pub printed : text ≡ report_text (known_to p) report
+  pub spelled : SpellsReport (known_to p) text report
+
+-- the text names the first fault of the file's flows, for a case that has a plan
+pub record NamesImportFault (p : Case) (notes : Notes) (file : FlowFile) (text : List ℕ) : Type 0 where
+  pub fault : ImportFault
+  pub first : HasImportFault p notes file fault
+  pub printed : text ≡ import_fault_line p fault
+
+-- What importing a file comes to, unless memory runs out: the report with its design, its first fault, or the first separation of the case.
+abbrev pub EndsImported : Case → Notes → FlowFile → Status → List ℕ → Type 0
+EndsImported p notes file status text =
+    ((status ≡ Done) × IsPrintedImport p notes file text)
+    ⊎ ((status ≡ BadImport) × NamesImportFault p notes file text)
+    ⊎ ((status ≡ NotSurvivable) × NamesFirstSeparation p text)
+
+-- What an import comes to: its file of flows ends the run, or is imported.
+abbrev pub EndsImport : Option Files → List ℕ → Case → Notes → Status → List ℕ → Type 0
+EndsImport files name p notes status text =
+    StopsAtFile files input_limit name BadFlows (RefusesFlowFile (known_to p) p.demands) status text
+    ⊎ ((file : FlowFile) × Fetched files input_limit name (SpellsFlows (known_to p) p.demands) file × EndsImported p notes file status text)
 
 -- ---- a sample
 
@@ -156,6 +205,8 @@ abbrev pub EndsCommand : Option Files → commands.Command → Status → List �
 EndsCommand files (commands.Plan w) = EndsAfterInputs files w EndsPlan
 EndsCommand files (commands.Session w script) = EndsAfterInputs files w (EndsSession files script)
 EndsCommand files (commands.Check w report) = EndsAfterInputs files w (EndsCheck files report)
+EndsCommand files (commands.Trim w) = EndsAfterInputs files w EndsTrim
+EndsCommand files (commands.Import w flows) = EndsAfterInputs files w (EndsImport files flows)
 EndsCommand files (commands.Sample seed nodes) = λ status text. (status ≡ Done) × IsSummary seed nodes (sample_case seed nodes) no_notes text
 
 -- ---- a run

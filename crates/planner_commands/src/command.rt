@@ -51,7 +51,8 @@ fn files_of(words: &[String]) -> Option<PlanFiles<'_>>
 
 /// The files that four words name.
 fn four_of(words: &[String]) -> Option<FourFiles<'_>>
-    ensures { MatchOption result ((w : PlanWords) (last : List ℕ) → AreFourFiles (map string_bytes words.now) w last → ⊥) (λ f. AreFourFiles (map string_bytes words.now) (named f.files) f.last.now) }
+    ensures { MatchOption result ((w : PlanWords) (last : List ℕ) → AreFourFiles (map string_bytes words.now) w last → ⊥)
+        (λ f. AreFourFiles (map string_bytes words.now) (named f.files) f.last.now) }
 {
     match words {
         [network, model, failures, last] => Some(FourFiles {
@@ -105,7 +106,8 @@ fn sample_words(seed: &str, nodes: &str) -> Option<SampleWords>
 
 /// The seed and the number of nodes that two words write.
 fn sample_of(words: &[String]) -> Option<SampleWords>
-    ensures { MatchOption result ((seed nodes : ℕ) → AreSample (map string_bytes words.now) seed nodes → ⊥) (λ s. AreSample (map string_bytes words.now) s.seed s.nodes) }
+    ensures { MatchOption result ((seed nodes : ℕ) → AreSample (map string_bytes words.now) seed nodes → ⊥)
+        (λ s. AreSample (map string_bytes words.now) s.seed s.nodes) }
 {
     match words {
         [seed, nodes] => sample_words(seed.as_str(), nodes.as_str()),
@@ -122,7 +124,8 @@ fn is_named(word: &str, name: &str) -> bool
 
 /// The command of this name with these words after it; none where they are no words of such a command.
 fn named_command<'w>(name: &str, words: &'w [String]) -> Option<Command<'w>>
-    ensures { MatchOption result ((c : commands.Command) → IsNamed name.now (map string_bytes words.now) c → ⊥) (λ c. IsNamed name.now (map string_bytes words.now) (asked_command c)) }
+    ensures { MatchOption result ((c : commands.Command) → IsNamed name.now (map string_bytes words.now) c → ⊥)
+        (λ c. IsNamed name.now (map string_bytes words.now) (asked_command c)) }
 {
     if is_named(name, "plan") {
         let files = files_of(words)?;
@@ -135,6 +138,14 @@ fn named_command<'w>(name: &str, words: &'w [String]) -> Option<Command<'w>>
     if is_named(name, "check") {
         let files = four_of(words)?;
         return Some(Command::Check(files));
+    }
+    if is_named(name, "trim") {
+        let files = files_of(words)?;
+        return Some(Command::Trim(files));
+    }
+    if is_named(name, "import") {
+        let files = four_of(words)?;
+        return Some(Command::Import(files));
     }
     if is_named(name, "sample") {
         let words = sample_of(words)?;

@@ -10,7 +10,7 @@ use std::alloc::Global;
 use text_kit::write::{put_decimal, put_money_word};
 
 /// Puts a word last, after a space.
-fn put_word(text: &mut Bytes, word: &[u8]) -> Result<(), NoMemory>
+pub fn put_word(text: &mut Bytes, word: &[u8]) -> Result<(), NoMemory>
     ensures { OnOk result (text.new ≡ text.old ++ 32 ∷ word.now) }
 {
     text.append(b" ")?;
@@ -67,7 +67,7 @@ fn put_costs(
 }
 
 /// The name of a link; nothing where there is no such link.
-fn link_name(links: &[Link], e: LinkId) -> &[u8]
+pub fn link_name(links: &[Link], e: LinkId) -> &[u8]
     ensures { result.now ≡ link_name links.now e }
 {
     match links.get(e.0 as usize) {
@@ -77,7 +77,7 @@ fn link_name(links: &[Link], e: LinkId) -> &[u8]
 }
 
 /// The name of a demand; nothing where there is no such demand.
-fn demand_name(demands: &[Demand], k: u32) -> &[u8]
+pub fn demand_name(demands: &[Demand], k: u32) -> &[u8]
     ensures { result.now ≡ demand_name demands.now k }
 {
     match demands.get(k as usize) {

@@ -106,7 +106,8 @@ fn load_network<S: Shelf>(
 /// The model. Without a file, a failure file asks for reconfiguration, and no setup is charged.
 fn load_model<S: Shelf>(alloc: Global, files: &PlanFiles, shelf: &mut S) -> Result<Model, Stop>
     ensures has { IfOk result (HasModel (S.files shelf.old) (named files.now)) }
-    ensures ends { IfErr result (Stops (λ s text. (files.now.model.now ≢ default) × StopsAtFile (S.files shelf.old) input_limit files.now.model.now Status.BadModel RefusesModelFile s text)) }
+    ensures ends { IfErr result (Stops (λ s text. (files.now.model.now ≢ default)
+        × StopsAtFile (S.files shelf.old) input_limit files.now.model.now Status.BadModel RefusesModelFile s text)) }
     ensures shelf { KeepsShelf S.files S.faults (IsErrOf result Stop.ReadFault) shelf.old shelf.new }
 {
     if files.model == DEFAULT {
@@ -139,7 +140,8 @@ fn load_failures<S: Shelf>(
     shelf: &mut S,
 ) -> Result<States, Stop>
     ensures has { IfOk result (λ r. Fetched (S.files shelf.old) input_limit files.now.failures.now (failures.SpellsFailures net.now.links) r.listed) }
-    ensures ends { IfErr result (Stops (StopsAtFile (S.files shelf.old) input_limit files.now.failures.now Status.BadFailures (RefusesFailureFile net.now.links))) }
+    ensures ends { IfErr result (Stops (StopsAtFile (S.files shelf.old) input_limit files.now.failures.now Status.BadFailures
+        (RefusesFailureFile net.now.links))) }
     ensures shelf { KeepsShelf S.files S.faults (IsErrOf result Stop.ReadFault) shelf.old shelf.new }
 {
     let bytes = fetch_file(alloc, INPUT_LIMIT, files.failures, shelf)?;

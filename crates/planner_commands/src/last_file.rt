@@ -1,8 +1,8 @@
 ghost use Rattle.std.specs.Prelude.{◌≡◌, IfErr, IfOk, IsErrOf};
-ghost use Rattle.plan_terms.specs.Terms.{case_of};
 ghost use Rattle.plan_report.specs.Terms.{known_of, SpellsReport};
+ghost use Rattle.flow_file.specs.FlowFiles.{IsFlowFile, SpellsFlows};
 ghost use Rattle.session_script.specs.Terms.{SpellsScript};
-ghost use Rattle.planner_commands.specs.Inputs.{Fetched, RefusesReportFile, RefusesScriptFile, StopsAtFile, input_limit, report_limit};
+ghost use Rattle.planner_commands.specs.Inputs.{Fetched, RefusesFlowFile, RefusesReportFile, RefusesScriptFile, StopsAtFile, input_limit, report_limit};
 ghost use Rattle.planner_commands.specs.Run.{KeepsShelf};
 ghost use Rattle.planner_commands.specs.inner.Steps.{Stops};
 
@@ -10,6 +10,7 @@ use crate::answer::Stop;
 use crate::inputs::{INPUT_LIMIT, fetch_file};
 use crate::refusal::refused;
 use crate::status::Status;
+use flow_file::{FlowFile, FlowsRefusal, read_flows};
 use net_core::{Places, Problem};
 use outside_io::Shelf;
 use plan_types::Report;
@@ -71,9 +72,50 @@ pub fn load_report<S: Shelf>(
     shelf: &mut S,
 ) -> Result<Report, Stop>
     ensures has { IfOk result (Fetched (S.files shelf.old) report_limit name.now (SpellsReport (known_of problem.now.net problem.now.states))) }
-    ensures ends { IfErr result (Stops (StopsAtFile (S.files shelf.old) report_limit name.now Status.BadReport (RefusesReportFile (known_of problem.now.net problem.now.states)))) }
+    ensures ends { IfErr result (Stops (StopsAtFile (S.files shelf.old) report_limit name.now Status.BadReport
+        (RefusesReportFile (known_of problem.now.net problem.now.states)))) }
     ensures shelf { KeepsShelf S.files S.faults (IsErrOf result Stop.ReadFault) shelf.old shelf.new }
 {
     let bytes = fetch_file(alloc, REPORT_LIMIT, name, shelf)?;
     report_of(alloc, problem, bytes.items())
+}
+
+/// The counts and the flows that bytes spell, for a problem.
+fn flows_of(alloc: Global, problem: &Problem, bytes: &[u8]) -> Result<FlowFile, Stop>
+    ensures spelled { IfOk result (SpellsFlows (known_of problem.now.net problem.now.states) problem.now.demands bytes.now) }
+    ensures form { IfOk result (IsFlowFile (known_of problem.now.net problem.now.states) problem.now.demands) }
+    ensures refused { IfErr result (Stops (λ s text. (s ≡ Status.BadFlows)
+        × RefusesFlowFile (known_of problem.now.net problem.now.states) problem.now.demands bytes.now text)) }
+{
+    match read_flows(
+        alloc,
+        &problem.net,
+        &problem.states,
+        &problem.demands,
+        bytes,
+    ) {
+        Ok(file) => Ok(file),
+        Err(FlowsRefusal::Bad { at, kind }) => {
+            Err(refused(alloc, Status::BadFlows, b"flows", &kind, at))
+        }
+        Err(FlowsRefusal::NoMemory) => Err(Stop::NoMemory),
+    }
+}
+
+/// The counts and the flows of a file, for a problem.
+pub fn load_flows<S: Shelf>(
+    alloc: Global,
+    problem: &Problem,
+    name: &str,
+    shelf: &mut S,
+) -> Result<FlowFile, Stop>
+    ensures has { IfOk result (Fetched (S.files shelf.old) input_limit name.now
+        (SpellsFlows (known_of problem.now.net problem.now.states) problem.now.demands)) }
+    ensures form { IfOk result (IsFlowFile (known_of problem.now.net problem.now.states) problem.now.demands) }
+    ensures ends { IfErr result (Stops (StopsAtFile (S.files shelf.old) input_limit name.now Status.BadFlows
+        (RefusesFlowFile (known_of problem.now.net problem.now.states) problem.now.demands))) }
+    ensures shelf { KeepsShelf S.files S.faults (IsErrOf result Stop.ReadFault) shelf.old shelf.new }
+{
+    let bytes = fetch_file(alloc, INPUT_LIMIT, name, shelf)?;
+    flows_of(alloc, problem, bytes.items())
 }

@@ -10,13 +10,15 @@ ghost use Rattle.planner_commands.specs.declared.status.Status.{Status};
 use crate::answer::{Answer, Stop};
 use crate::check::answer_check;
 use crate::command::command_of;
+use crate::import::answer_import;
 use crate::inputs::load_problem;
-use crate::last_file::{load_report, load_script};
+use crate::last_file::{load_flows, load_report, load_script};
 use crate::output::say;
 use crate::plan::answer_plan;
 use crate::sample::answer_sample;
 use crate::session::answer_session;
 use crate::status::Status;
+use crate::trim::answer_trim;
 use crate::words::{Command, FourFiles, PlanFiles, SampleWords};
 use net_core::{List, NoMemory, Problem};
 use outside_io::{Gate, Shelf, Sink};
@@ -26,7 +28,7 @@ use std::thread::Threads;
 
 /// The line that answers words outside the grammar.
 const USAGE: &[u8] =
-    b"usage: plan NET [MODEL [FAILURES]] | session NET MODEL FAILURES SCRIPT | check NET MODEL FAILURES REPORT | sample SEED N\n";
+    b"usage: plan NET [MODEL [FAILURES]] | session NET MODEL FAILURES SCRIPT | check NET MODEL FAILURES REPORT | sample SEED N | trim NET [MODEL [FAILURES]] | import NET MODEL FAILURES FLOWS\n";
 
 /// The answer to words outside the grammar.
 fn bad_words(alloc: Global) -> Result<Answer, NoMemory>
@@ -76,7 +78,8 @@ fn check_file<S: Shelf>(
     name: &str,
     shelf: &mut S,
 ) -> Result<Answer, Stop>
-    ensures ends { HasCause (EndsCheck (S.files shelf.old) name.now (case problem.now.net problem.now.states problem.now.demands) problem.now.net.notes) result }
+    ensures ends { HasCause (EndsCheck (S.files shelf.old) name.now (case problem.now.net problem.now.states problem.now.demands)
+        problem.now.net.notes) result }
     ensures shelf { KeepsShelf S.files S.faults (IsErrOf result Stop.ReadFault) shelf.old shelf.new }
 {
     let report = load_report(alloc, problem, name, shelf)?;
@@ -90,6 +93,37 @@ fn check_files<S: Shelf>(alloc: Global, four: &FourFiles, shelf: &mut S) -> Resu
 {
     let problem = load_problem(alloc, &four.files, shelf)?;
     check_file(alloc, &problem, four.last, shelf)
+}
+
+/// The answer to a trimming of a plan of these files.
+fn trim_files<Rt: Threads + Wait + Sync, S: Shelf, G: Gate + Sync>(
+    rt: &Rt,
+    alloc: Global,
+    files: &PlanFiles,
+    shelf: &mut S,
+    gate: &G,
+) -> Result<Answer, Stop>
+    ensures ends { HasCause (EndsCommand (S.files shelf.old) (commands.Trim (named files.now))) result }
+    ensures shelf { KeepsShelf S.files S.faults (IsErrOf result Stop.ReadFault) shelf.old shelf.new }
+{
+    let problem = load_problem(alloc, files, shelf)?;
+    Ok(answer_trim(rt, alloc, problem, gate)?)
+}
+
+/// The answer to an import of these files.
+fn import_files<Rt: Threads + Wait + Sync, S: Shelf, G: Gate + Sync>(
+    rt: &Rt,
+    alloc: Global,
+    four: &FourFiles,
+    shelf: &mut S,
+    gate: &G,
+) -> Result<Answer, Stop>
+    ensures ends { HasCause (EndsCommand (S.files shelf.old) (commands.Import (named four.now.files) four.now.last.now)) result }
+    ensures shelf { KeepsShelf S.files S.faults (IsErrOf result Stop.ReadFault) shelf.old shelf.new }
+{
+    let problem = load_problem(alloc, &four.files, shelf)?;
+    let file = load_flows(alloc, &problem, four.last, shelf)?;
+    Ok(answer_import(rt, alloc, problem, file, gate)?)
 }
 
 /// The answer to a sample of these words.
@@ -119,6 +153,8 @@ fn answer_words<Rt: Threads + Wait + Sync, S: Shelf, G: Gate + Sync>(
         Some(Command::Plan(files)) => plan_files(rt, alloc, &files, shelf, gate),
         Some(Command::Session(four)) => session_files(rt, alloc, &four, shelf, gate),
         Some(Command::Check(four)) => check_files(alloc, &four, shelf),
+        Some(Command::Trim(files)) => trim_files(rt, alloc, &files, shelf, gate),
+        Some(Command::Import(four)) => import_files(rt, alloc, &four, shelf, gate),
         Some(Command::Sample(words)) => Ok(sample_words(rt, alloc, &words)?),
         None => Ok(bad_words(alloc)?),
     }

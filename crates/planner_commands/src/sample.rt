@@ -1,20 +1,20 @@
-ghost use Rattle.std.specs.Prelude.{◌≡◌, ◌≤◌, ◌+◌, ◌++◌, ◌∷◌, [], IfOk, OnOk, codes, decimal, length};
+ghost use Rattle.std.specs.Prelude.{◌≡◌, ◌≤◌, ◌+◌, ◌++◌, IfOk, OnOk, decimal, length};
 ghost use Rattle.plan_terms.specs.Terms.{AreDemands, Three, case_of, IsSurvivable};
 ghost use Rattle.sample_net.specs.Samples.{no_notes, sample_demands, sample_links, sample_nodes, with_single_failures};
 ghost use Rattle.session_run.specs.Transcripts.{IsTranscript};
+ghost use Rattle.lone_plan.specs.LonePlans.{plan_commands, whole_report};
 ghost use Rattle.text_kit.specs.Terms.{money_word};
-ghost use Rattle.planner_commands.specs.Run.{IsSummary, plan_commands, quality_word, raw_lines, sample_case, size_line, summary};
+ghost use Rattle.planner_commands.specs.Run.{IsSummary, quality_word, raw_lines, sample_case, size_line, summary};
 ghost use Rattle.planner_commands.specs.declared.status.Status.{Status};
-ghost use Rattle.plan_types.specs.declared.report.Outcome.TheVariants.{Planned};
 
 use crate::answer::Answer;
 use crate::status::Status;
+use lone_plan::{LonePlan, PlannedReport, plan_once};
 use model_reader::single_links;
-use net_core::{Bytes, Copied, Demands, Instance, List, Network, NoMemory, Places};
+use net_core::{Bytes, Demands, Instance, List, Network, NoMemory, Places};
 use outside_io::OpenGate;
-use plan_types::{Outcome, Plan, Quality, Report};
+use plan_types::{Plan, Quality};
 use sample_net::{network_text, sample};
-use session_run::{run_session, single_plan};
 use sndlib_reader::{ReadRefusal, read_network};
 use std::alloc::Global;
 use std::sync::Wait;
@@ -54,19 +54,6 @@ fn read_back(alloc: Global, seed: u64, nodes: u32) -> Result<(Network, Demands),
         Ok(read) => Ok(read),
         Err(ReadRefusal::Bad { .. }) => unreachable!(),
         Err(ReadRefusal::NoMemory) => Err(NoMemory),
-    }
-}
-
-/// The plan of an outcome, which stands alone in a report of one plan command, for demands that no state separates.
-fn plan_of<'a>(instance: &Instance, report: &Report, outcome: &'a Outcome) -> &'a Plan
-    requires transcript { IsTranscript (case_of instance.now) instance.now.net.now.notes plan_commands report.now }
-    requires survivable { IsSurvivable (case_of instance.now) }
-    requires alone { report.now.outcomes ≡ outcome.now ∷ [] }
-    ensures { report.now.outcomes ≡ Planned 1 1 result.now ∷ [] }
-{
-    match outcome {
-        Outcome::Planned { plan, .. } => plan,
-        Outcome::Unsurvivable { .. } => unreachable!(),
     }
 }
 
@@ -127,46 +114,39 @@ fn summary_of(
     Ok(text)
 }
 
-/// The answer of the plan in a report of one plan command.
+/// The answer of a plan.
 fn summarized(
     alloc: Global,
     seed: u64,
     nodes: u32,
     instance: &Instance,
-    report: &Report,
+    planned: &PlannedReport,
 ) -> Result<Answer, NoMemory>
-    requires transcript { IsTranscript (case_of instance.now) instance.now.net.now.notes plan_commands report.now }
-    requires survivable { IsSurvivable (case_of instance.now) }
+    requires { IsTranscript (case_of instance.now) instance.now.net.now.notes plan_commands (whole_report planned.now) }
     ensures status { IfOk result (λ a. a.status ≡ Status.Done) }
     ensures summary { IfOk result (λ a. IsSummary seed nodes (case_of instance.now) instance.now.net.now.notes a.text) }
 {
-    let plan = plan_of(instance, report, &report.outcomes.items()[0]);
-    let text = summary_of(alloc, seed, nodes, instance, plan)?;
+    let text = summary_of(alloc, seed, nodes, instance, &planned.plan)?;
     Ok(Answer {
         status: Status::Done,
         text,
     })
 }
 
-/// The report of one plan command. It may never return.
+/// The plan of an instance that no state separates. It may never return.
 fn planned<R: Threads + Wait + Sync>(
     rt: &R,
     alloc: Global,
     instance: &Instance,
-) -> Result<Report, NoMemory>
-    ensures { IfOk result (IsTranscript (case_of instance.now) instance.now.net.now.notes plan_commands) }
+) -> Result<PlannedReport, NoMemory>
+    requires survivable { IsSurvivable (case_of instance.now) }
+    ensures { IfOk result (λ r. IsTranscript (case_of instance.now) instance.now.net.now.notes plan_commands (whole_report r)) }
 {
-    let script = single_plan(alloc)?;
-    let demands = instance.demands.copy()?;
-    run_session(
-        rt,
-        alloc,
-        instance.net,
-        instance.states,
-        demands,
-        &script,
-        &OpenGate,
-    )
+    match plan_once(rt, alloc, instance, &OpenGate) {
+        Ok(LonePlan::Planned(planned)) => Ok(planned),
+        Ok(LonePlan::Separated { .. }) => unreachable!(),
+        Err(NoMemory) => Err(NoMemory),
+    }
 }
 
 /// The summary of the plan of a sample, with each single-link failure. Nobody is held: a sample has one caller. It may never return.

@@ -32,6 +32,10 @@ pub enum Status {
     BadReport,
     /// No memory was found.
     NoMemory,
+    /// The file of flows is refused.
+    BadFlows,
+    /// The flows that were to be imported have a fault.
+    BadImport,
 }
 
 impl Status {
@@ -54,6 +58,8 @@ impl Status {
             Status::TooLong => 12,
             Status::BadReport => 13,
             Status::NoMemory => 14,
+            Status::BadFlows => 15,
+            Status::BadImport => 16,
         }
     }
 }

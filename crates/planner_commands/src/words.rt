@@ -32,6 +32,10 @@ pub enum Command<'w> {
     Session(FourFiles<'w>),
     /// Whether a report has a finding.
     Check(FourFiles<'w>),
+    /// A plan from which no module can be spared, with the report of it.
+    Trim(PlanFiles<'w>),
+    /// A plan with the design of a file of flows.
+    Import(FourFiles<'w>),
     /// A summary of the plan of a sample network.
     Sample(SampleWords),
 }

@@ -6,7 +6,7 @@ use Rattle.planner_commands.specs.declared.answer.Answer.{Answer}
 use Rattle.planner_commands.specs.declared.answer.Stop.{Stop}
 use Rattle.planner_commands.specs.declared.answer.Stop.TheVariants as stop
 use Rattle.planner_commands.specs.declared.words.Command.{Command}
-use Rattle.planner_commands.specs.declared.words.Command.TheVariants.{Plan, Session, Check, Sample}
+use Rattle.planner_commands.specs.declared.words.Command.TheVariants.{Plan, Session, Check, Trim, Import, Sample}
 use Rattle.planner_commands.specs.declared.words.PlanFiles.{PlanFiles}
 use Rattle.planner_commands.specs.declared.status.Status.{Status}
 use Rattle.planner_commands.specs.declared.status.Status.TheVariants.{ReadFault}
@@ -20,6 +20,8 @@ abbrev pub asked_command : Command → commands.Command
 asked_command (Plan files) = commands.Plan (named files)
 asked_command (Session four) = commands.Session (named four.files) four.last.now
 asked_command (Check four) = commands.Check (named four.files) four.last.now
+asked_command (Trim files) = commands.Trim (named files)
+asked_command (Import four) = commands.Import (named four.files) four.last.now
 asked_command (Sample words) = commands.Sample words.seed words.nodes
 
 -- a stop has its cause, unless memory ran out

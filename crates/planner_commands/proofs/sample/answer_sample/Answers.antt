@@ -2,8 +2,8 @@ use Rattle.std.proofs.Common.{subst, sym}
 use Rattle.plan_terms.specs.Terms.{Three, IsSurvivable}
 use Rattle.planner_commands.proofs.sample.answer_sample.Goals as goal
 
-pub summarized-requires-clause-survivable : goal.summarized-requires-clause-survivable
-summarized-requires-clause-survivable g c =
+pub planned-requires-clause-survivable : goal.planned-requires-clause-survivable
+planned-requires-clause-survivable g c κs within =
     let net = c.in_ok-net.net in
     let demands = c.in_ok-net.demands in
     subst (λ places. IsSurvivable (record { nodes = net.nodes; links = net.links; listed = c.in_ok-states.states.listed; demands = demands; places = places })) (sym c.in_ok-net.ensures.places)

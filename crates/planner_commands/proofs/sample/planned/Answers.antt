@@ -1,12 +1,11 @@
-use Rattle.std.proofs.Common.{IfOk, subst}
-use Rattle.plan_terms.specs.Terms.{case, case_of}
-use Rattle.session_run.specs.Transcripts.{IsTranscript}
+use Rattle.std.proofs.Common.{subst}
+use Rattle.plan_terms.specs.Terms.{case_of}
+use Rattle.lone_plan.specs.LonePlans.{IsLoneAnswer, IsSeparationOf}
 use Rattle.planner_commands.proofs.sample.planned.Goals as goal
 
-pub returns : goal.returns
-returns g c =
-    let i = c.args.instance.now in
-    let net = i.net.now in
-    subst (λ commands. IfOk c.run_session.result (IsTranscript (case_of i) net.notes commands)) c.in_ok-script.ensures.script
-    (subst (λ demands. IfOk c.run_session.result (IsTranscript (case net i.states.now demands) net.notes c.in_ok-script.script.commands)) c.in_ok-demands.ensures
-    c.run_session.ensures)
+pub unreachable-requires : goal.unreachable-requires
+unreachable-requires g c =
+    let p = case_of c.args.instance.now in
+    let arm = c.in-Ok-Separated in
+    let is : IsSeparationOf p arm.field-0-0.0 arm.field-0-1 = subst (IsLoneAnswer p c.args.instance.now.net.now.notes) arm.field-0-is arm.ensures in
+    c.requires.survivable arm.field-0-0.0 is.place is.first.state is.first.separates

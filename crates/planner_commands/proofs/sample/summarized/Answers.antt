@@ -1,28 +1,7 @@
-use Rattle.std.proofs.Common.{◌≡◌, ◌∙◌, [], ◌∷◌, Some, ap, arith, length, refl, slice_get, sym}
-use Rattle.net_core.proofs.Library.{slice_get_read}
 use Rattle.plan_terms.specs.Terms.{case_of}
-use Rattle.plan_types.specs.declared.report.Outcome.{Outcome}
-use Rattle.planner_commands.proofs.SinglePlans.{has_one, plan_summary}
+use Rattle.planner_commands.proofs.SinglePlans.{plan_summary}
 use Rattle.planner_commands.proofs.sample.summarized.Goals as goal
-
-pub bounds-items-0 : goal.bounds-items-0
-bounds-items-0 c =
-    let found = has_one (case_of c.args.instance.now) c.args.instance.now.net.now.notes c.args.report.now c.requires.transcript in
-    let long = ap length found.1 in
-    let same = ap length c.items.ensures in
-    omega (arith, long, same)
-
-pub plan_of-plan-requires-clause-alone : goal.plan_of-plan-requires-clause-alone
-plan_of-plan-requires-clause-alone c =
-    let outcomes = c.args.report.now.outcomes in
-    let found = has_one (case_of c.args.instance.now) c.args.instance.now.net.now.notes c.args.report.now c.requires.transcript in
-    let long = ap length found.1 in
-    let first : Outcome = c.index-items-0.result in
-    let at : slice_get outcomes 0 ≡ Some first = slice_get_read outcomes (length outcomes) 0 first refl (omega (arith, long)) (rw c.items.ensures at c.index-items-0.is) in
-    let one : Some found.0 ≡ Some first = sym (ap (λ os. slice_get os 0) found.1) ∙ at in
-    found.1 ∙ ap (λ (o : Outcome). o ∷ []) (cc one)
 
 pub returns-clause-summary : goal.returns-clause-summary
 returns-clause-summary c =
-    plan_summary (case_of c.args.instance.now) c.args.instance.now.net.now.notes c.args.report.now c.requires.transcript
-    c.args.seed c.args.nodes c.plan_of-plan.result.now c.plan_of-plan.ensures c.in_ok-text.text c.in_ok-text.ensures
+    plan_summary (case_of c.args.instance.now) c.args.instance.now.net.now.notes c.args.planned.now c.requires c.args.seed c.args.nodes c.in_ok-text.text c.in_ok-text.ensures

@@ -1,0 +1,9 @@
+use Rattle.planner_commands.specs.Run.{EndsTrim}
+use Rattle.planner_commands.specs.inner.Steps.{named}
+use Rattle.planner_commands.proofs.Answering.{after_inputs}
+use Rattle.planner_commands.proofs.run.trim_files.Goals as goal
+
+pub returns-clause-ends : goal.returns-clause-ends
+returns-clause-ends g c =
+    after_inputs (g.S.Shelf.files c.args.shelf.now) (named c.args.files.now) EndsTrim c.in_ok-problem.problem c.in_ok-problem.ensures.has
+    c.in_ok-answer_trim.field-0.status c.in_ok-answer_trim.field-0.text c.in_ok-answer_trim.ensures
