@@ -20,6 +20,8 @@ def imports(lines, prefix):
     names, aliases = {}, {}
     for line in lines:
         line = line.strip().rstrip(";")
+        # What a file passes on begins with `pub`.
+        line = re.sub(r"^(unfoldable )?pub use ", "use ", line)
         if not line.startswith(prefix + "use Rattle."):
             continue
         path = line[len(prefix) + len("use Rattle."):]
@@ -43,7 +45,7 @@ def definitions(path):
     found, current, constructors = {}, None, {}
     for line in open(path, encoding="utf-8"):
         bare = line.strip()
-        if not bare or bare.startswith("--") or bare.startswith("use ") or bare.startswith("infix"):
+        if not bare or bare.startswith("--") or re.match(r"(unfoldable )?(pub )?use |infix", bare):
             continue
         if re.match(r"^(pub )?mod(ule)? ", bare):
             current = None
@@ -92,6 +94,9 @@ class House:
             own, constructors, names, aliases = self.files.get(module, ({}, {}, {}, {}))
             name = constructors.get(name, name)
             if (module, name) in seen:
+                continue
+            if name not in own and name in names:
+                todo.append(names[name])
                 continue
             if name not in own:
                 # Types that Rust declares are in `declared`, and contracts of traits in `contracts`.

@@ -35,8 +35,8 @@ def refused(program, words, library, work, number):
 
 
 def is_other_report(program, words, work, ended):
-    """Whether a plan or a session wrote a whole report, as `check` says."""
-    if words[0] not in ("plan", "session") or ended[0] != 0:
+    """Whether a plan, a session or an import wrote a whole report, as `check` says."""
+    if words[0] not in ("plan", "session", "import") or ended[0] != 0:
         return False
     report = os.path.join(work, "other-report")
     with open(report, "wb") as out:

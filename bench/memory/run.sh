@@ -1,5 +1,5 @@
 #!/usr/bin/env bash
-# Refuses each allocation of a plan, a session, a check and a sample in turn. Give the program first.
+# Refuses each allocation of a plan, a session, a check, an import and a sample in turn. Give the program first.
 set -euo pipefail
 here=$(cd "$(dirname "$0")" && pwd)
 program=$(realpath "$1")
@@ -16,4 +16,5 @@ each plan "$data/broken.txt"
 each plan "$towns" "$data/model.txt"
 each session "$data/triangle.txt" "$data/model.txt" default "$data/script.txt"
 each check "$data/triangle.txt" "$data/model.txt" default "$work/report.txt"
+each import "$data/triangle.txt" default default "$data/flows.txt"
 each sample 7 6
