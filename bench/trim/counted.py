@@ -9,7 +9,7 @@ PLACES = [
     ("able_counts/able_test.rs", "        if let Some(line) = last_violated", "        crate::work(0);\n{}"),
     ("able_counts/able_test.rs", "            return Ok(Some(Stop::Cut(line)));\n", "            crate::work(1);\n{}"),
     ("able_counts/routed.rs", "    match separate_state", "    crate::work(2);\n{}"),
-    ("able_counts/able_test.rs", "        Ok(last_violated", "        crate::work(4);\n{}"),
+    ("able_counts/able_test.rs", "        match last_violated", "        crate::work(4);\n{}"),
     ("flow_router/route.rs", "    match solve_task", "    crate::work(3);\n{}"),
 ]
 
