@@ -16,9 +16,9 @@ use trim_plan::{Place, Priced, module_count, one_less};
 /// How much a search asks of the test at most: ten for each ask, and one for each look at the known cuts.
 const MOST_ASKS: u64 = 200_000;
 
-/// What comes of other counts.
+/// The result of trying other counts.
 #[derive(Drop)]
-pub enum Outcome {
+pub enum Trial {
     /// They are kept.
     Kept,
     /// A cut says that they don't carry the demands.
@@ -35,7 +35,7 @@ fn keep_spared(
     kept: &mut Kept,
     counts: &Counts,
     but: Option<Place>,
-) -> Result<Outcome, NoMemory>
+) -> Result<Trial, NoMemory>
     requires survivable { IsSurvivable (case_of instance.now) }
     requires asked { AreAskedCounts (case_of instance.now) search.old counts.now }
     requires kept { AreCarryingCounts (case_of instance.now) kept.old }
@@ -46,12 +46,12 @@ fn keep_spared(
     let mut fewer = counts.copy()?;
     spare_others(instance, search, dearest, but, &mut fewer)?;
     if keep_cheaper(instance, search, kept, &fewer)? {
-        return Ok(Outcome::Kept);
+        return Ok(Trial::Kept);
     }
     if cost(instance.net, &fewer) < kept.cost && search.refuses(instance, &fewer)? {
-        Ok(Outcome::Refused)
+        Ok(Trial::Refused)
     } else {
-        Ok(Outcome::Dear)
+        Ok(Trial::Dear)
     }
 }
 
@@ -73,9 +73,9 @@ fn keep_lesser(
 {
     for _ in 0..search.asks {
         match keep_spared(instance, search, dearest, kept, counts, but)? {
-            Outcome::Kept => return Ok(true),
-            Outcome::Dear => return Ok(false),
-            Outcome::Refused => {
+            Trial::Kept => return Ok(true),
+            Trial::Dear => return Ok(false),
+            Trial::Refused => {
                 if search.asks == 0 {
                     return Ok(false);
                 }
