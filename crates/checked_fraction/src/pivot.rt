@@ -167,7 +167,8 @@ fn reduce(row: &mut Row, pivot: &[i64], mix: &Mix) -> Result<(), WideNumber>
     requires can_mix { CanMix row.old.nums pivot.now mix.now }
     requires positive { pos 0 <ℤ mix.now.q }
     ensures length { length row.new.nums ≡ length row.old.nums }
-    ensures reduced { OnOk result (IsReduced (length row.old.nums) (raw row.old.nums pivot.now mix.now) (row.old.den *ℤ mix.now.q) (num row.new.nums) row.new.den) }
+    ensures reduced { OnOk result (IsReduced (length row.old.nums) (raw row.old.nums pivot.now mix.now) (row.old.den *ℤ mix.now.q)
+        (num row.new.nums) row.new.den) }
     ensures wide { IfErr result (IsTooWide (length row.old.nums) (raw row.old.nums pivot.now mix.now) (row.old.den *ℤ mix.now.q)) }
     ensures same { OnErr result (row.new ≡ row.old) }
 {
@@ -182,7 +183,8 @@ fn combine_by(row: &mut Row, pivot: &[i64], mix: &Mix) -> Result<(), WideNumber>
     requires can_mix { CanMix row.old.nums pivot.now mix.now }
     requires positive { pos 0 <ℤ mix.now.q }
     ensures length { length row.new.nums ≡ length row.old.nums }
-    ensures reduced { OnOk result (IsReduced (length row.old.nums) (raw row.old.nums pivot.now mix.now) (row.old.den *ℤ mix.now.q) (num row.new.nums) row.new.den) }
+    ensures reduced { OnOk result (IsReduced (length row.old.nums) (raw row.old.nums pivot.now mix.now) (row.old.den *ℤ mix.now.q)
+        (num row.new.nums) row.new.den) }
     ensures wide { IfErr result (IsTooWide (length row.old.nums) (raw row.old.nums pivot.now mix.now) (row.old.den *ℤ mix.now.q)) }
     ensures same { OnErr result (row.new ≡ row.old) }
 {
@@ -205,7 +207,8 @@ pub fn combine(row: &mut Row, p: i64, pivot: &Row, q: i64) -> Result<(), WideNum
     requires q { IsNarrow q }
     requires positive { pos 0 <ℤ q }
     ensures length { length row.new.nums ≡ length row.old.nums }
-    ensures reduced { OnOk result (IsReduced (length row.old.nums) (combined (num row.old.nums) p (num pivot.now.nums) q) (row.old.den *ℤ q) (num row.new.nums) row.new.den) }
+    ensures reduced { OnOk result (IsReduced (length row.old.nums) (combined (num row.old.nums) p (num pivot.now.nums) q)
+        (row.old.den *ℤ q) (num row.new.nums) row.new.den) }
     ensures wide { IfErr result (IsTooWide (length row.old.nums) (combined (num row.old.nums) p (num pivot.now.nums) q) (row.old.den *ℤ q)) }
     ensures same { OnErr result (row.new ≡ row.old) }
 {

@@ -128,7 +128,8 @@ const GROUPS: [Group; 4] = [
 
 /// Whether all bounds are below 2^62.
 fn are_narrow(task: &RouteTask) -> bool
-    ensures { IsTrue result → (k : ℕ) → k < route_rows (graph_of task.now.graph) task.now.demands.now → IsNarrow (route_bound (graph_of task.now.graph) task.now.demands.now task.now.caps.now k) }
+    ensures { IsTrue result → (k : ℕ) → k < route_rows (graph_of task.now.graph) task.now.demands.now
+        → IsNarrow (route_bound (graph_of task.now.graph) task.now.demands.now task.now.caps.now k) }
 {
     for row in 0..rows_of(task) {
         if bound_of(task, row) > NARROW {

@@ -114,7 +114,9 @@ fn entries_of(shape: &Shape) -> [Entry; 3]
 
 fn is_gaining(duals: &Row, shape: &Shape) -> bool
     requires { length duals.now.nums ≡ 3 }
-    ensures { IsTrue result ↔ (dot 3 (num duals.now.nums) (entry_of (entries_of shape.now.takes.first shape.now.takes.second shape.now.takes.third)) <ℤ (duals.now.den *ℤ shape.now.gain)) }
+    ensures { IsTrue result ↔ (dot 3 (num duals.now.nums)
+        (entry_of (entries_of shape.now.takes.first shape.now.takes.second shape.now.takes.third)) <ℤ
+        (duals.now.den *ℤ shape.now.gain)) }
 {
     gains(duals, shape.gain, &entries_of(shape))
 }

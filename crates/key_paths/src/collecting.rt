@@ -13,7 +13,8 @@ use std::alloc::Global;
 /// Takes the last one.
 fn pop(waiting: &mut List<Carrier>) -> Option<Carrier>
     ensures { MatchOption result ((length waiting.old ≡ 0) × (waiting.new ≡ waiting.old))
-        (λ c. (slice_get waiting.old (length waiting.old - 1) ≡ Some c) × (waiting.new ≡ remove waiting.old (length waiting.old - 1)) × (0 < length waiting.old)) }
+        (λ c. (slice_get waiting.old (length waiting.old - 1) ≡ Some c)
+        × (waiting.new ≡ remove waiting.old (length waiting.old - 1)) × (0 < length waiting.old)) }
 {
     let count = waiting.len();
     if count == 0 {
@@ -147,7 +148,9 @@ pub(crate) fn find(
     requires positive { (e : ℕ) → e < length keyed.now.prices.nums → pos 0 ≤ℤ num keyed.now.prices.nums e }
     requires carriers { All (IsCarrier (graph_of task.now.graph) task.now.demands.now) waiting.old }
     ensures carriers { All (IsCarrier (graph_of task.now.graph) task.now.demands.now) waiting.new }
-    ensures found { IfOk result (λ o. MatchOption o ((k : ℕ) (d : Demand) → slice_get task.now.demands.now k ≡ Some d → NoneIsCheap (graph_of task.now.graph) keyed.now k d)
+    ensures found { IfOk result (λ o. MatchOption o
+        ((k : ℕ) (d : Demand) → slice_get task.now.demands.now k ≡ Some d
+        → NoneIsCheap (graph_of task.now.graph) keyed.now k d)
         (λ c. IsGaining (graph_of task.now.graph) task.now.demands.now keyed.now (Carry c.demand c.path))) }
 {
     if let Some(c) = next_gaining(task, keyed, waiting) {

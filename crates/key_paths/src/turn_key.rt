@@ -24,10 +24,12 @@ pub(crate) fn turn_key(keyed: &mut Keyed, name: RouteColumn, demand: u32) -> Res
     requires alone { IsAlone keyed.old.owners (length keyed.old.rows) demand }
     ensures held { (bound : ℕ → ℤ) (basis : ℕ → ColumnOf Name) (place role : ℕ → ℕ) (c : ColumnOf Name)
         → IsEntering (length keyed.old.rows) (length keyed.old.duals) bound basis place role keyed.old name c (length keyed.old.rows + demand)
-        → OnOk result (IsHeld (length keyed.old.rows) (length keyed.old.duals) bound (put basis (place (length keyed.old.rows + demand)) c) place role keyed.new) }
+        → OnOk result (IsHeld (length keyed.old.rows) (length keyed.old.duals) bound
+        (put basis (place (length keyed.old.rows + demand)) c) place role keyed.new) }
     ensures wide { (bound : ℕ → ℤ) (basis : ℕ → ColumnOf Name) (place role : ℕ → ℕ) (c : ColumnOf Name)
         → IsEntering (length keyed.old.rows) (length keyed.old.duals) bound basis place role keyed.old name c (length keyed.old.rows + demand)
-        → IfErr result (IsWideNext (length keyed.old.rows) (length keyed.old.duals) (put basis (place (length keyed.old.rows + demand)) c) keyed.new.names) }
+        → IfErr result (IsWideNext (length keyed.old.rows) (length keyed.old.duals)
+        (put basis (place (length keyed.old.rows + demand)) c) keyed.new.names) }
 {
     let links = keyed.rows.len();
     let place = keyed.places.items()[links + demand as usize] as usize;

@@ -106,7 +106,8 @@ fn key_row(
     requires positive { pos 0 <ℤ all.now }
     ensures length { length row.new.nums ≡ length row.old.nums }
     ensures room { length raw.new ≡ length raw.old }
-    ensures done { IsTrue result → IsReduced (length rows.now) (less_rows rows.now owners.now weights.now demand (length rows.now)) all.now (num row.new.nums) row.new.den }
+    ensures done { IsTrue result → IsReduced (length rows.now) (less_rows rows.now owners.now weights.now demand (length rows.now))
+        all.now (num row.new.nums) row.new.den }
     ensures wide { result ≡ false → IsWideKey (less_rows rows.now owners.now weights.now demand (length rows.now)) (length rows.now) all.now }
 {
     if !write_raw_list(raw, rows, owners, weights, demand) {

@@ -119,8 +119,12 @@ fn renew_duals(
     requires narrow { (d : ℕ) → IsNarrow (num duals.old d) }
     ensures count { length duals.new ≡ length duals.old }
     ensures narrow { (d : ℕ) → IsNarrow (num duals.new d) }
-    ensures all { IsTrue result → (d : ℕ) → d < length duals.old → num duals.new d ≡ key_dual links (num prices.now.nums) prices.now.den (key_name names.now places.now links d) }
-    ensures wide { result ≡ false → (d : ℕ) × (d < length duals.old) × (2 ^ 62 ≤ unsigned_abs (key_dual links (num prices.now.nums) prices.now.den (key_name names.now places.now links d))) }
+    ensures all { IsTrue result → (d : ℕ) → d < length duals.old
+        → num duals.new d ≡ key_dual links (num prices.now.nums) prices.now.den
+        (key_name names.now places.now links d) }
+    ensures wide { result ≡ false → (d : ℕ) × (d < length duals.old)
+        × (2 ^ 62 ≤ unsigned_abs
+        (key_dual links (num prices.now.nums) prices.now.den (key_name names.now places.now links d))) }
 {
     for d in 0..duals.len() {
         let Some(dual) = next_dual(prices, key_of(names, places, links, d as u32)) else {
@@ -147,8 +151,12 @@ pub fn renew_dual_list(
     requires narrow { (d : ℕ) → IsNarrow (num duals.old d) }
     ensures count { length duals.new ≡ length duals.old }
     ensures narrow { (d : ℕ) → IsNarrow (num duals.new d) }
-    ensures all { IsTrue result → (d : ℕ) → d < length duals.old → num duals.new d ≡ key_dual links (num prices.now.nums) prices.now.den (key_name names.now places.now links d) }
-    ensures wide { result ≡ false → (d : ℕ) × (d < length duals.old) × (2 ^ 62 ≤ unsigned_abs (key_dual links (num prices.now.nums) prices.now.den (key_name names.now places.now links d))) }
+    ensures all { IsTrue result → (d : ℕ) → d < length duals.old
+        → num duals.new d ≡ key_dual links (num prices.now.nums) prices.now.den
+        (key_name names.now places.now links d) }
+    ensures wide { result ≡ false → (d : ℕ) × (d < length duals.old)
+        × (2 ^ 62 ≤ unsigned_abs
+        (key_dual links (num prices.now.nums) prices.now.den (key_name names.now places.now links d))) }
 {
     renew_duals(duals.items_mut(), names, places, prices, links)
 }

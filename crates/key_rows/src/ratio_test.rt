@@ -44,8 +44,10 @@ fn row_before(rows: &[Row], first: &Candidate, second: &Candidate) -> bool
     requires inside_second { second.now.role < length rows.now }
     requires first { pos 0 <ℤ first.now.product }
     requires second { pos 0 <ℤ second.now.product }
-    ensures yes { IsTrue result → IsTieFirst (length rows.now) (nums_at rows.now first.now.role) first.now.product (nums_at rows.now second.now.role) second.now.product first.now.role second.now.role }
-    ensures no { result ≡ false → IsTieFirst (length rows.now) (nums_at rows.now second.now.role) second.now.product (nums_at rows.now first.now.role) first.now.product second.now.role first.now.role }
+    ensures yes { IsTrue result → IsTieFirst (length rows.now) (nums_at rows.now first.now.role) first.now.product
+        (nums_at rows.now second.now.role) second.now.product first.now.role second.now.role }
+    ensures no { result ≡ false → IsTieFirst (length rows.now) (nums_at rows.now second.now.role) second.now.product
+        (nums_at rows.now first.now.role) first.now.product second.now.role first.now.role }
 {
     tie_first(
         first.role,
@@ -65,7 +67,8 @@ fn better_row(rows: &[Row], best: &Candidate, other: &Candidate) -> Candidate
     requires inside_other { other.now.role < length rows.now }
     requires best { pos 0 <ℤ best.now.product }
     requires other { pos 0 <ℤ other.now.product }
-    ensures one { ((result ≡ best.now) × IsRowFirst (length rows.now) rows.now best.now other.now) ⊎ ((result ≡ other.now) × IsRowFirst (length rows.now) rows.now other.now best.now) }
+    ensures one { ((result ≡ best.now) × IsRowFirst (length rows.now) rows.now best.now other.now)
+        ⊎ ((result ≡ other.now) × IsRowFirst (length rows.now) rows.now other.now best.now) }
 {
     match compare_values(other, best) {
         Ordering::Less => *other,
@@ -125,7 +128,9 @@ fn next_row(
     requires products { length products.now ≡ length rows.now }
     requires best { ForSome best (IsPlacedRow (length rows.now)) }
     ensures placed { ForSome result (IsPlacedRow (length rows.now)) }
-    ensures first { (rest : ℕ → ℤ) → HaveValues (length rows.now) rows.now rest values.now → IsBestRow (length rows.now) rows.now rest values.now products.now i best → IsBestRow (length rows.now) rows.now rest values.now products.now (i + 1) result }
+    ensures first { (rest : ℕ → ℤ) → HaveValues (length rows.now) rows.now rest values.now
+        → IsBestRow (length rows.now) rows.now rest values.now products.now i best
+        → IsBestRow (length rows.now) rows.now rest values.now products.now (i + 1) result }
 {
     if products[i] <= 0 {
         return best;
@@ -141,7 +146,8 @@ fn leaving_row(rows: &[Row], values: &[u128], products: &[i128]) -> Option<Candi
     requires values { length values.now ≡ length rows.now }
     requires products { length products.now ≡ length rows.now }
     ensures placed { ForSome result (IsPlacedRow (length rows.now)) }
-    ensures first { (rest : ℕ → ℤ) → HaveValues (length rows.now) rows.now rest values.now → IsBestRow (length rows.now) rows.now rest values.now products.now (length rows.now) result }
+    ensures first { (rest : ℕ → ℤ) → HaveValues (length rows.now) rows.now rest values.now
+        → IsBestRow (length rows.now) rows.now rest values.now products.now (length rows.now) result }
 {
     let mut best = None;
     for i in 0..rows.len() {
@@ -183,7 +189,9 @@ fn weighed_candidate(
     requires weights { AreWeights keyed.now.rows keyed.now.owners weights.now demand all.now }
     requires bounds { (r : ℕ) → r < length keyed.now.bounds → pos 0 ≤ℤ num keyed.now.bounds r }
     requires low { (i : ℕ) → i < length keyed.now.rows → unsigned_abs (num keyed.now.products i) < 2 ^ 76 }
-    requires values { (n : ℕ) → n ≤ length keyed.now.rows → pos 0 ≤ℤ left_over_rows keyed.now.owners weights.now demand all.now (num keyed.now.bounds role) (amounts keyed.now.values) n }
+    requires values { (n : ℕ) → n ≤ length keyed.now.rows
+        → pos 0 ≤ℤ left_over_rows keyed.now.owners weights.now demand all.now (num keyed.now.bounds role)
+        (amounts keyed.now.values) n }
     ensures { IsKeyTest keyed.now demand own.now result }
 {
     let owners = keyed.owners.items();
@@ -393,7 +401,10 @@ fn with_own_key(
     requires best { ForSome best (IsPlacedCandidate entrant.now.keyed.now entrant.now.name.now) }
     ensures room { IsRoom (length entrant.now.keyed.now.rows) room.new }
     ensures placed { IfOk result (λ after. ForSome after (IsPlacedCandidate entrant.now.keyed.now entrant.now.name.now)) }
-    ensures first { IfOk result (λ after. IsFirstOfRoles entrant.now.keyed.now entrant.now.name.now (λ r. r < length entrant.now.keyed.now.rows) (role_in best) → IsFirstOfRoles entrant.now.keyed.now entrant.now.name.now (IsTried entrant.now.keyed.now entrant.now.name.now 0) (role_in after)) }
+    ensures first { IfOk result (λ after. IsFirstOfRoles entrant.now.keyed.now entrant.now.name.now
+        (λ r. r < length entrant.now.keyed.now.rows) (role_in best)
+        → IsFirstOfRoles entrant.now.keyed.now entrant.now.name.now
+        (IsTried entrant.now.keyed.now entrant.now.name.now 0) (role_in after)) }
     ensures wide { IfErr result (IsWideTest entrant.now.keyed.now entrant.now.name.now) }
 {
     match demand_of(entrant.name) {
@@ -416,7 +427,10 @@ fn with_key_of_row(
     requires best { ForSome best (IsPlacedCandidate entrant.now.keyed.now entrant.now.name.now) }
     ensures room { IsRoom (length entrant.now.keyed.now.rows) room.new }
     ensures placed { IfOk result (λ after. ForSome after (IsPlacedCandidate entrant.now.keyed.now entrant.now.name.now)) }
-    ensures first { IfOk result (λ after. IsFirstOfRoles entrant.now.keyed.now entrant.now.name.now (IsTried entrant.now.keyed.now entrant.now.name.now i) (role_in best) → IsFirstOfRoles entrant.now.keyed.now entrant.now.name.now (IsTried entrant.now.keyed.now entrant.now.name.now (i + 1)) (role_in after)) }
+    ensures first { IfOk result (λ after. IsFirstOfRoles entrant.now.keyed.now entrant.now.name.now
+        (IsTried entrant.now.keyed.now entrant.now.name.now i) (role_in best)
+        → IsFirstOfRoles entrant.now.keyed.now entrant.now.name.now
+        (IsTried entrant.now.keyed.now entrant.now.name.now (i + 1)) (role_in after)) }
     ensures wide { IfErr result (IsWideTest entrant.now.keyed.now entrant.now.name.now) }
 {
     if !is_to_be_tried(entrant.keyed, entrant.name, i) {

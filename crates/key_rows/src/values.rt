@@ -64,7 +64,8 @@ fn renew_values(values: &mut [u128], rows: &[Row], products: &[i128], rest: &[i1
     requires rest { (k : ℕ) → k < length rest.now → unsigned_abs (num rest.now k) < 2 ^ 76 }
     requires high { (i : ℕ) → i < length rows.now → pos 0 ≤ℤ dot (length rest.now) (nums_at rows.now i) (num rest.now) }
     requires low { (i : ℕ) → i < length rows.now → unsigned_abs (dot (length rest.now) (nums_at rows.now i) (num rest.now)) < 2 ^ 124 }
-    requires kept { (i : ℕ) → i < length rows.now → num products.now i ≡ pos 0 → amounts values.old i ≡ dot (length rest.now) (nums_at rows.now i) (num rest.now) }
+    requires kept { (i : ℕ) → i < length rows.now → num products.now i ≡ pos 0
+        → amounts values.old i ≡ dot (length rest.now) (nums_at rows.now i) (num rest.now) }
     ensures count { length values.new ≡ length values.old }
     ensures values { (i : ℕ) → i < length rows.now → amounts values.new i ≡ dot (length rest.now) (nums_at rows.now i) (num rest.now) }
 {
@@ -82,7 +83,8 @@ pub fn renew_value_list(values: &mut List<u128>, rows: &[Row], products: &[i128]
     requires rest { (k : ℕ) → k < length rest.now → unsigned_abs (num rest.now k) < 2 ^ 76 }
     requires high { (i : ℕ) → i < length rows.now → pos 0 ≤ℤ dot (length rest.now) (nums_at rows.now i) (num rest.now) }
     requires low { (i : ℕ) → i < length rows.now → unsigned_abs (dot (length rest.now) (nums_at rows.now i) (num rest.now)) < 2 ^ 124 }
-    requires kept { (i : ℕ) → i < length rows.now → num products.now i ≡ pos 0 → amounts values.old i ≡ dot (length rest.now) (nums_at rows.now i) (num rest.now) }
+    requires kept { (i : ℕ) → i < length rows.now → num products.now i ≡ pos 0
+        → amounts values.old i ≡ dot (length rest.now) (nums_at rows.now i) (num rest.now) }
     ensures count { length values.new ≡ length values.old }
     ensures values { (i : ℕ) → i < length rows.now → amounts values.new i ≡ dot (length rest.now) (nums_at rows.now i) (num rest.now) }
 {

@@ -114,7 +114,8 @@ impl States {
     /// The states of this list, which is dropped at a refusal. It compares each name with all before it, so it
     /// takes time in the square of the number of states. It asks for no memory.
     pub fn new(net: &Network, listed: List<Listed>) -> Result<States, StatesFault>
-        ensures faults { MatchResult result (λ _. states_fault (length net.now.links) listed ≡ None) (λ f. states_fault (length net.now.links) listed ≡ Some f) }
+        ensures faults { MatchResult result (λ _. states_fault (length net.now.links) listed ≡ None)
+            (λ f. states_fault (length net.now.links) listed ≡ Some f) }
         ensures accepted { AreStates (length net.now.links) listed → IsOk result }
         ensures list { MatchResult result (λ s. (s.listed ≡ listed) × AreStates (length net.now.links) s.listed) (λ _. Unit {0}) }
     {

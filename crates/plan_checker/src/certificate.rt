@@ -48,10 +48,12 @@ fn check_prices(instance: &Instance, plan: &Plan) -> Test
 pub(crate) fn check_certificate(alloc: Global, instance: &Instance, plan: &Plan, full: bool) -> Test
     requires form { IsCertificateInForm instance.now.net.now.links instance.now.states.now.listed plan.now.certificate }
     requires raw { 0 < plan.now.raw_den }
-    ensures told { TellFirst (HoldsLocalCut (case_of instance.now) full plan.now.certificate.lines ∷ HoldsRightDiffers (case_of instance.now) plan.now.certificate.lines
+    ensures told { TellFirst (HoldsLocalCut (case_of instance.now) full plan.now.certificate.lines
+        ∷ HoldsRightDiffers (case_of instance.now) plan.now.certificate.lines
         ∷ HoldsPriceExceeded instance.now.net.now.links plan.now.certificate.den (lines_of_certificate plan.now.certificate)
         ∷ HoldsCertificateWide instance.now.net.now.links (lines_of_certificate plan.now.certificate)
-        ∷ HoldsRawDiffers instance.now.net.now.links plan.now ∷ HoldsBoundDiffers instance.now.net.now.links plan.now ∷ []) result }
+        ∷ HoldsRawDiffers instance.now.net.now.links plan.now ∷ HoldsBoundDiffers instance.now.net.now.links plan.now ∷ [])
+        result }
     ensures certified { OnOk result (IsCertifiedPlan (case_of instance.now) plan.now) }
 {
     let lines = plan.certificate.lines.items();

@@ -105,7 +105,9 @@ fn put_fractional(
     fractional: &Fractional,
 ) -> Result<(), NoMemory>
     requires { AreRoutingsInForm (known_in names.now) demands.now fractional.now.routings }
-    ensures { OnOk result (AddsItems text.old (Whole fractional.now.share.scale ∷ numbers_items fractional.now.share.units ++ routings_items (known_in names.now) demands.now fractional.now.routings) text.new) }
+    ensures { OnOk result (AddsItems text.old
+        (Whole fractional.now.share.scale ∷ numbers_items fractional.now.share.units
+        ++ routings_items (known_in names.now) demands.now fractional.now.routings) text.new) }
 {
     put_number(text, fractional.share.scale)?;
     put_counts(text, fractional.share.units.items())?;

@@ -16,8 +16,11 @@ fn combine_by(row: &mut Row, factors: &Factors, pivot: &Row) -> Result<(), WideN
     requires q { IsNarrow factors.now.q }
     requires positive { pos 0 <ℤ factors.now.q }
     ensures length { length row.new.nums ≡ length row.old.nums }
-    ensures reduced { OnOk result (IsReduced (length row.old.nums) (combined (num row.old.nums) factors.now.p (num pivot.now.nums) factors.now.q) (row.old.den *ℤ factors.now.q) (num row.new.nums) row.new.den) }
-    ensures wide { IfErr result (IsTooWide (length row.old.nums) (combined (num row.old.nums) factors.now.p (num pivot.now.nums) factors.now.q) (row.old.den *ℤ factors.now.q)) }
+    ensures reduced { OnOk result (IsReduced (length row.old.nums)
+        (combined (num row.old.nums) factors.now.p (num pivot.now.nums) factors.now.q) (row.old.den *ℤ factors.now.q)
+        (num row.new.nums) row.new.den) }
+    ensures wide { IfErr result (IsTooWide (length row.old.nums)
+        (combined (num row.old.nums) factors.now.p (num pivot.now.nums) factors.now.q) (row.old.den *ℤ factors.now.q)) }
 {
     combine(row, factors.p, pivot, factors.q)
 }
@@ -29,7 +32,8 @@ fn combine_row(row: &mut Row, p: &i128, pivot: &Row, q: &i128) -> Result<(), Wid
     requires narrow { IsNarrow q.now }
     requires over { IsNarrowOver q.now p.now }
     ensures length { length row.new.nums ≡ length row.old.nums }
-    ensures reduced { OnOk result (IsReduced (length row.old.nums) (combined (num row.old.nums) p.now (num pivot.now.nums) q.now) (row.old.den *ℤ q.now) (num row.new.nums) row.new.den) }
+    ensures reduced { OnOk result (IsReduced (length row.old.nums) (combined (num row.old.nums) p.now (num pivot.now.nums) q.now)
+        (row.old.den *ℤ q.now) (num row.new.nums) row.new.den) }
     ensures wide { IfErr result (IsTooWide (length row.old.nums) (combined (num row.old.nums) p.now (num pivot.now.nums) q.now) (row.old.den *ℤ q.now)) }
 {
     if *p == 0 {
@@ -69,7 +73,8 @@ fn combine_at(
     requires rectangle { IsRectangle (length pivot.now.nums) rows.old }
     requires pivot { HavePivot products.now (length rows.old) r }
     ensures combined { OnOk result (CombinesAt (length pivot.now.nums) rows.old rows.new products.now (num pivot.now.nums) (num products.now r) r i) }
-    ensures wide { IfErr result (λ k. (k ≡ i) × (i ≢ r) × IsTooWideAt (length pivot.now.nums) rows.old products.now (num pivot.now.nums) (num products.now r) i) }
+    ensures wide { IfErr result (λ k. (k ≡ i) × (i ≢ r)
+        × IsTooWideAt (length pivot.now.nums) rows.old products.now (num pivot.now.nums) (num products.now r) i) }
 {
     if i == r {
         return Ok(());
@@ -84,8 +89,10 @@ fn combine_at(
 fn combine_rows(rows: &mut [Row], products: &[i128], pivot: &Row, r: usize) -> Result<(), u32>
     requires rectangle { IsRectangle (length pivot.now.nums) rows.old }
     requires pivot { HavePivot products.now (length rows.old) r }
-    ensures combined { OnOk result (AreCombined (length pivot.now.nums) rows.old rows.new products.now (num pivot.now.nums) (num products.now r) r (length rows.old)) }
-    ensures wide { IfErr result (λ i. (i < length rows.old) × (i ≢ r) × IsTooWideAt (length pivot.now.nums) rows.old products.now (num pivot.now.nums) (num products.now r) i) }
+    ensures combined { OnOk result (AreCombined (length pivot.now.nums) rows.old rows.new products.now (num pivot.now.nums)
+        (num products.now r) r (length rows.old)) }
+    ensures wide { IfErr result (λ i. (i < length rows.old) × (i ≢ r)
+        × IsTooWideAt (length pivot.now.nums) rows.old products.now (num pivot.now.nums) (num products.now r) i) }
 {
     for i in 0..rows.len() {
         combine_at(rows, products, pivot, r, i)?;
@@ -143,8 +150,12 @@ fn combine_objective(
     requires pivot { HavePivot products.now (length rows.now) r }
     requires over { IsNarrowOver (num products.now r) cost.now }
     ensures length { length duals.new.nums ≡ length rows.now }
-    ensures reduced { OnOk result (IsReduced (length rows.now) (combined (num duals.old.nums) cost.now (nums_at rows.now r) (num products.now r)) (duals.old.den *ℤ num products.now r) (num duals.new.nums) duals.new.den) }
-    ensures wide { IfErr result (IsTooWide (length rows.now) (combined (num duals.old.nums) cost.now (nums_at rows.now r) (num products.now r)) (duals.old.den *ℤ num products.now r)) }
+    ensures reduced { OnOk result (IsReduced (length rows.now)
+        (combined (num duals.old.nums) cost.now (nums_at rows.now r) (num products.now r))
+        (duals.old.den *ℤ num products.now r) (num duals.new.nums) duals.new.den) }
+    ensures wide { IfErr result (IsTooWide (length rows.now)
+        (combined (num duals.old.nums) cost.now (nums_at rows.now r) (num products.now r))
+        (duals.old.den *ℤ num products.now r)) }
 {
     combine_row(duals, cost, &rows[r], &products[r])
 }
@@ -164,8 +175,12 @@ pub fn turn_objective(
     requires pivot { HavePivot products.now (length rows.now) r }
     requires over { IsNarrowOver (num products.now r) cost.now }
     ensures length { length duals.new.nums ≡ length rows.now }
-    ensures reduced { OnOk result (IsReduced (length rows.now) (combined (num duals.old.nums) cost.now (nums_at rows.now r) (num products.now r)) (duals.old.den *ℤ num products.now r) (num duals.new.nums) duals.new.den) }
-    ensures wide { IfErr result (IsTooWide (length rows.now) (combined (num duals.old.nums) cost.now (nums_at rows.now r) (num products.now r)) (duals.old.den *ℤ num products.now r)) }
+    ensures reduced { OnOk result (IsReduced (length rows.now)
+        (combined (num duals.old.nums) cost.now (nums_at rows.now r) (num products.now r))
+        (duals.old.den *ℤ num products.now r) (num duals.new.nums) duals.new.den) }
+    ensures wide { IfErr result (IsTooWide (length rows.now)
+        (combined (num duals.old.nums) cost.now (nums_at rows.now r) (num products.now r))
+        (duals.old.den *ℤ num products.now r)) }
 {
     combine_objective(duals, cost, rows.items(), products.items(), r)
 }

@@ -134,7 +134,8 @@ fn compare_rows(rows: &[Row], first: &Candidate, second: &Candidate) -> Ordering
     requires inside_second { second.now.row < length rows.now }
     requires first { pos 0 <ℤ first.now.product }
     requires second { pos 0 <ℤ second.now.product }
-    ensures { ComparesNumbers (length rows.now) (λ k. nums_at rows.now first.now.row k *ℤ second.now.product) (λ k. nums_at rows.now second.now.row k *ℤ first.now.product) result }
+    ensures { ComparesNumbers (length rows.now) (λ k. nums_at rows.now first.now.row k *ℤ second.now.product)
+        (λ k. nums_at rows.now second.now.row k *ℤ first.now.product) result }
 {
     compare_numbers(
         rows[first.row].nums(),

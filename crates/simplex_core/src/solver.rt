@@ -156,7 +156,8 @@ fn enter<N: Drop>(basis: &mut Basis<N>, name: N, gain: &i64, entries: &[Entry]) 
 fn take_turn<C: Columns>(cols: &mut C, basis: &mut Basis<C::Name>) -> Turn<C::Name>
     requires shaped { IsShaped (C.rows cols.old) basis.old }
     requires values { (k : ℕ) → k < length basis.old.rows → pos 0 ≤ℤ dot (length basis.old.rows) (nums_at basis.old.rows k) (num basis.old.bounds) }
-    ensures same { IsSameProgram (C.rows cols.old) (C.rows cols.new) (C.bound cols.old) (C.bound cols.new) (C.slack cols.old) (C.slack cols.new) (C.is_listed cols.old) (C.is_listed cols.new) }
+    ensures same { IsSameProgram (C.rows cols.old) (C.rows cols.new) (C.bound cols.old) (C.bound cols.new) (C.slack cols.old)
+        (C.slack cols.new) (C.is_listed cols.old) (C.is_listed cols.new) }
     ensures turn { IsTurnOutcome (C.rows cols.old) (C.slack cols.old) (C.is_listed cols.old) basis.old result basis.new }
 {
     if let Some(row) = first_negative(basis.duals.nums()) {
@@ -245,7 +246,8 @@ pub fn solve<C: Columns>(
     cols: &mut C,
 ) -> Result<Optimum<C::Name>, SimplexFault<C::Name>>
     requires { IsPacking (C.rows cols.old) (C.bound cols.old) (IsProgramColumn (C.rows cols.old) (C.slack cols.old) (C.is_listed cols.old)) }
-    ensures same { IsSameProgram (C.rows cols.old) (C.rows cols.new) (C.bound cols.old) (C.bound cols.new) (C.slack cols.old) (C.slack cols.new) (C.is_listed cols.old) (C.is_listed cols.new) }
+    ensures same { IsSameProgram (C.rows cols.old) (C.rows cols.new) (C.bound cols.old) (C.bound cols.new) (C.slack cols.old)
+        (C.slack cols.new) (C.is_listed cols.old) (C.is_listed cols.new) }
     ensures answer { IsSimplexAnswer (C.rows cols.old) (C.bound cols.old) (C.slack cols.old) (C.is_listed cols.old) result }
 {
     let mut basis = slack_basis(alloc, cols)?;

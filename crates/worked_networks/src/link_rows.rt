@@ -50,7 +50,14 @@ pub const ONE: [Module; 1] = [Module {
 
 /// The link of a row.
 pub(crate) fn link(name: Name, row: &LinkRow, alloc: Global) -> Result<Link, NoMemory>
-    ensures { IfOk result (λ l. l ≡ record { name = name; a = record { 0 = row.now.0 }; b = record { 0 = row.now.1 }; fixed = row.now.2; setup = 0; modules = row.now.3.now }) }
+    ensures { IfOk result (λ l. l ≡ record {
+      name = name;
+      a = record { 0 = row.now.0 };
+      b = record { 0 = row.now.1 };
+      fixed = row.now.2;
+      setup = 0;
+      modules = row.now.3.now;
+    }) }
 {
     Ok(Link {
         name,
@@ -65,7 +72,8 @@ pub(crate) fn link(name: Name, row: &LinkRow, alloc: Global) -> Result<Link, NoM
 /// The links a, b and so on of the rows.
 fn links_of(alloc: Global, rows: &[LinkRow]) -> Result<List<Link>, NoMemory>
     requires { length rows.now ≤ 26 }
-    ensures { IfOk result (λ links. (map (λ l. l.name) links ≡ letters 97 (length rows.now)) × (map ends_of links ≡ map ends_of_row rows.now) × (map (λ l. l.modules) links ≡ map (λ r. r.3.now) rows.now)) }
+    ensures { IfOk result (λ links. (map (λ l. l.name) links ≡ letters 97 (length rows.now))
+        × (map ends_of links ≡ map ends_of_row rows.now) × (map (λ l. l.modules) links ≡ map (λ r. r.3.now) rows.now)) }
 {
     let mut links = List::new(alloc);
     for e in 0..rows.len() {
