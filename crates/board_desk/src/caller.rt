@@ -1,4 +1,4 @@
-ghost use Rattle.std.specs.Prelude.{◌≡◌, ◌+◌, ◌-◌, ◌/◌, ◌<◌, ◌≤◌, ◌^◌, ◌++◌, [], Some, length};
+ghost use Rattle.std.specs.Prelude.{◌≡◌, ◌+◌, ◌-◌, ◌/◌, ◌<◌, ◌≤◌, ◌^◌, ◌++◌, [], None, Some, length};
 ghost use Rattle.std.specs.List.{range_with_len};
 ghost use Rattle.plan_terms.specs.Terms.{graph, edit_need};
 ghost use Rattle.metric_cut.specs.Cuts.{IsCutOf};
@@ -94,9 +94,13 @@ impl<'d, 'a> Caller<'d, 'a> {
         self.number = number;
     }
 
-    /// The caller, moved out, so that it may be handed on by value and put back.
+    /// The caller, moved out, so that it may be handed on by value and put back. What is left keeps its number and
+    /// its desk, and has no pass.
     pub fn take(&mut self) -> Caller<'d, 'a>
-        ensures { result ≡ self.old }
+        ensures moved { result ≡ self.old }
+        ensures number { self.new.number ≡ self.old.number }
+        ensures desk { self.new.desk.now ≡ self.old.desk.now }
+        ensures gone { self.new.pass ≡ None }
     {
         Caller {
             number: self.number,
