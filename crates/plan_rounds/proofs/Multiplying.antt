@@ -1,6 +1,6 @@
 -- flows that are multiplied one after another
-use Rattle.std.proofs.Common.{◌≡◌, ℕ, zero, suc, ◌+◌, ◌-◌, ◌*◌, ◌^◌, ◌<◌, ◌≤◌, ◌⊎◌, ◌++◌, List, [], ◌∷◌, All, None, Some, length, get_or, map, take, slice_get, slice_set, remove, refl, sym, ap, ◌∙◌, subst, arith, ⊎_elim}
-use Rattle.std.proofs.lemmas.List.{append_assoc, append-nil, get_or-set_other, length-set, take_all}
+use Rattle.std.proofs.Common.{◌≡◌, ℕ, ◌+◌, ◌*◌, ◌^◌, ◌<◌, ◌≤◌, ◌++◌, List, [], ◌∷◌, All, None, Some, length, get_or, map, take, slice_get, slice_set, remove, refl, sym, ap, ◌∙◌, subst, arith}
+use Rattle.std.proofs.lemmas.List.{get_or-set_other, length-set, take_all}
 use Rattle.net_core.proofs.Library.{map-append, take_more, take_more_set, get_or_default}
 use Rattle.plan_terms.specs.Terms.{Flow}
 use Rattle.route_law.specs.Terms.{flow_times}
@@ -50,20 +50,7 @@ pub first_of : {X : Type 0} (xs rest : List X) (x : X) → slice_get xs 0 ≡ So
 first_of [] rest x at is = absurd (let e : None ≡ Some x = at in cc e)
 first_of (y ∷ ys) rest x at is = let e : Some y ≡ Some x = at in let r : rest ≡ ys = is in cc (e, r)
 
--- ---- the first items of a list, moved one by one
-
-pub take_step : {X : Type 0} (x : X) (rest : List X) (n : ℕ) → 0 < n → take n (x ∷ rest) ≡ x ∷ take (n - 1) rest
-take_step x rest zero some = absurd (omega (arith, some))
-take_step x rest (suc n) some = let same : suc n - 1 ≡ n = omega arith in ap (λ k. x ∷ take k rest) (sym same)
-
-pub take_moved : {X : Type 0} (into rest all : List X) (x : X) (n : ℕ) → 0 < n → into ++ take n (x ∷ rest) ≡ all → (into ++ x ∷ []) ++ take (n - 1) rest ≡ all
-take_moved into rest all x n some is = append_assoc into (x ∷ []) (take (n - 1) rest) ∙ (ap (λ xs. into ++ xs) (sym (take_step x rest n some)) ∙ is)
-
-pub take_nothing : {X : Type 0} (into left all : List X) (n : ℕ) → (length left ≡ 0) ⊎ (n ≡ 0) → into ++ take n left ≡ all → into ≡ all
-take_nothing into left all n none is = sym (append-nil into) ∙ (ap (λ xs. into ++ xs) (sym (nothing left n none)) ∙ is)
-  where
-    nothing : {X : Type 0} (left : List X) (n : ℕ) → (length left ≡ 0) ⊎ (n ≡ 0) → take n left ≡ []
-    nothing [] zero none = refl
-    nothing [] (suc n) none = refl
-    nothing (x ∷ xs) zero none = refl
-    nothing (x ∷ xs) (suc n) none = absurd (⊎_elim (λ l. omega (arith, l)) (λ r. omega (arith, r)) none)
+-- a list without items
+pub none_left : {X : Type 0} (xs : List X) → length xs ≡ 0 → xs ≡ []
+none_left [] none = refl
+none_left (x ∷ xs) none = absurd (omega (arith, none))

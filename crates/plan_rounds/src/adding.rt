@@ -8,11 +8,10 @@ use net_core::{List, NoMemory};
 fn add_items<T: Drop>(items: List<T>, most: usize, into: &mut List<T>) -> Result<(), NoMemory>
     ensures { OnOk result (into.new ≡ into.old ++ take most items) }
 {
-    let mut left = items;
-    let mut room = most;
-    while left.len() > 0 && room > 0 {
-        into.push(left.remove(0))?;
-        room -= 1;
+    let mut first = items.into_vec();
+    first.truncate(most);
+    for item in first {
+        into.push(item)?;
     }
     Ok(())
 }

@@ -53,9 +53,8 @@ pub fn undivided_all(
     ensures { IfOk result (AreUndivided divisor routings) }
 {
     let mut whole = List::new(alloc);
-    let mut left = routings;
-    while left.len() > 0 {
-        whole.push(undivided(left.remove(0), divisor))?;
+    for routing in routings.into_vec() {
+        whole.push(undivided(routing, divisor))?;
     }
     Ok(whole)
 }

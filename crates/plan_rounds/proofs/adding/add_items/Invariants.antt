@@ -1,10 +1,8 @@
 use Rattle.std.proofs.Common.{◌≡◌, ◌++◌, length, take}
+use Rattle.std.specs.Vec.Iter.{into_iter_items, into_iter_len}
 use Rattle.plan_rounds.proofs.adding.add_items.Given as goal
 
--- the items that are left
-abbrev pub decreases-loop-into : goal.decreases-loop-into
-decreases-loop-into g l = length l.left
-
--- those that were put are the first
-abbrev pub invariant-loop-into : goal.invariant-loop-into
-invariant-loop-into g l = l.into ++ take l.room l.left ≡ l.fn.into ++ take l.fn.most l.fn.items
+-- those that were put are the first, and the others are left
+abbrev pub invariant-loop-item : goal.invariant-loop-item
+invariant-loop-item g l =
+    let left = into_iter_items l.item-iterator in (l.into ++ left ≡ l.fn.into ++ take l.fn.most l.fn.items) × (into_iter_len l.item-iterator ≡ length left)
