@@ -1,5 +1,5 @@
 -- flows of one demand are added to a routing
-use Rattle.std.proofs.Common.{◌≡◌, ℕ, ◌+◌, ◌*◌, ◌<◌, ◌≤◌, ◌==◌, ◌++◌, All, Some, if◌then◌else◌, List, [], ◌∷◌, get_or, length, length-append, map, slice_get, take, ⊎_elim, refl, sym, ap, subst, ◌∙◌, arith}
+use Rattle.std.proofs.Common.{◌≡◌, ℕ, ◌+◌, ◌*◌, ◌<◌, ◌≤◌, ◌==◌, ◌⊎◌, ◌++◌, All, Some, if◌then◌else◌, List, [], ◌∷◌, get_or, length, length-append, map, slice_get, take, ⊎_elim, refl, sym, ap, subst, ◌∙◌, arith}
 use Rattle.std.proofs.lemmas.List.{append_assoc, append-nil}
 use Rattle.net_core.proofs.Library.{get_or-map, length-map, All-append, All-contains, All-more, All-nil, All-push, All-weaker, range_with_len, get_or-range_with_len, length-range_with_len, All-permutation, IsPermutation-sym, sum_by-append, sum_by_push, get_or_from_slice_get, slice_get_within}
 use Rattle.std.specs.List.Sorted.{IsPermutation}
@@ -7,7 +7,7 @@ use Rattle.plan_terms.specs.Terms.{Demand, LinkId, Flow, names_link, IsFlow, loa
 use Rattle.greedy_router.specs.Blocked.{HasSpare, IsBlocked}
 use Rattle.greedy_router.specs.Left.{IsLeft}
 use Rattle.greedy_router.specs.declared.draft.Draft.{Draft}
-use Rattle.greedy_router.specs.inner.Drafts.{Adds, AreRouted, IsDraft, IsEnded, IsFlowOf, Sends}
+use Rattle.greedy_router.specs.inner.Drafts.{Adds, AreRouted, IsDraft, IsEnded, IsFlowOf, Sends, SendsOpen}
 use Rattle.greedy_router.specs.inner.FullLinks.{positives}
 use Rattle.greedy_router.proofs.Positives.{few_positives, fewer, one_fewer}
 
@@ -75,30 +75,38 @@ module _ (joins : ℕ → ℕ → ℕ → Type 0) (demands : List Demand) (scale
         omega (arith, more, a.few, r.few);
   }
 
+  -- an earlier flow's path was taken again, or wasn't
+  pub draft_again : (f : Flow) (old new : Draft) → IsFlow joins demands f → (new ≡ old) ⊎ SendsOpen f.demand f.path old new → IsDraft joins demands scale nums old → IsDraft joins demands scale nums new
+  draft_again f old new is may was = ⊎_elim
+      (λ same. subst (IsDraft joins demands scale nums) (sym same) was)
+      (λ s. draft_added f.demand is.of old new is.at (adds_more joins f.demand is.of f.path old old new (adds_none joins f.demand is.of old) is.path s.open_links s.missing s.sends) was)
+      may
+
   -- nothing is routed yet
-  pub routed_none : (draft : Draft) → draft.flows ≡ [] → draft.rest ≡ map (λ d. d.need * scale) demands → draft.spares ≡ nums → AreRouted joins demands scale nums [] draft
-  routed_none draft flows rest spares =
+  pub draft_none : (draft : Draft) → draft.flows ≡ [] → draft.rest ≡ map (λ d. d.need * scale) demands → draft.spares ≡ nums → IsDraft joins demands scale nums draft
+  draft_none draft flows rest spares =
       let none : length draft.flows ≡ 0 = ap length flows in
       let rests : length draft.rest ≡ length demands = ap length rest ∙ length-map demands (λ (d : Demand). d.need * scale) in
       let links : length draft.spares ≡ length nums = ap length spares in
       record {
-        whole = record {
-          flows = subst (All (IsFlow joins demands)) (sym flows) (All-nil (IsFlow joins demands));
-          rests = rests;
-          links = links;
-          met = λ k d at.
-              let zero_sent : sent draft.flows k ≡ 0 = ap (λ fs. sent fs k) flows in
-              let is : get_or draft.rest k 0 ≡ (get_or demands k d).need * scale = ap (λ xs. get_or xs k 0) rest ∙ get_or-map (λ (x : Demand). x.need * scale) demands k d 0 (slice_get_within demands k d at) in
-              let same : (get_or demands k d).need * scale ≡ d.need * scale = ap (λ (x : Demand). x.need * scale) (get_or_from_slice_get demands k d d at) in
-              omega (arith, zero_sent, is, same);
-          spares = λ e.
-              let zero_load : load draft.flows e ≡ 0 = ap (λ fs. load fs e) flows in
-              let is : get_or draft.spares e 0 ≡ get_or nums e 0 = ap (λ xs. get_or xs e 0) spares in
-              omega (arith, zero_load, is);
-          few = omega (arith, none, rests, links, few_positives draft.spares, few_positives draft.rest);
-        };
-        ended = All-nil (IsEnded joins demands draft);
+        flows = subst (All (IsFlow joins demands)) (sym flows) (All-nil (IsFlow joins demands));
+        rests = rests;
+        links = links;
+        met = λ k d at.
+            let zero_sent : sent draft.flows k ≡ 0 = ap (λ fs. sent fs k) flows in
+            let is : get_or draft.rest k 0 ≡ (get_or demands k d).need * scale = ap (λ xs. get_or xs k 0) rest ∙ get_or-map (λ (x : Demand). x.need * scale) demands k d 0 (slice_get_within demands k d at) in
+            let same : (get_or demands k d).need * scale ≡ d.need * scale = ap (λ (x : Demand). x.need * scale) (get_or_from_slice_get demands k d d at) in
+            omega (arith, zero_sent, is, same);
+        spares = λ e.
+            let zero_load : load draft.flows e ≡ 0 = ap (λ fs. load fs e) flows in
+            let is : get_or draft.spares e 0 ≡ get_or nums e 0 = ap (λ xs. get_or xs e 0) spares in
+            omega (arith, zero_load, is);
+        few = omega (arith, none, rests, links, few_positives draft.spares, few_positives draft.rest);
       }
+
+  -- no demand was routed yet
+  pub routed_none : (draft : Draft) → IsDraft joins demands scale nums draft → AreRouted joins demands scale nums [] draft
+  routed_none draft is = record { whole = is; ended = All-nil (IsEnded joins demands draft) }
 
   -- one demand more was routed
   pub routed_more : (order : List ℕ) (i : ℕ) (d : Demand) (old new : Draft) → i < length order → slice_get demands (get_or order i 0) ≡ Some d → Adds joins (get_or order i 0) d old new

@@ -1,14 +1,15 @@
-ghost use Rattle.std.specs.Prelude.{◌≡◌, ◌+◌, ◌<◌, IfOk, length};
+ghost use Rattle.std.specs.Prelude.{◌≡◌, ◌+◌, ◌<◌, All, IfOk, length};
 ghost use Rattle.std.specs.List.{range_with_len};
-ghost use Rattle.plan_terms.specs.Terms.{AreDemands, Joins, graph, graph_of};
+ghost use Rattle.plan_terms.specs.Terms.{AreDemands, IsFlow, Joins, graph, graph_of};
 ghost use Rattle.greedy_router.specs.Left.{IsLeft};
-ghost use Rattle.greedy_router.specs.inner.Drafts.{AreRouted};
+ghost use Rattle.greedy_router.specs.inner.Drafts.{AreRouted, IsDraft};
 
 use crate::draft::{Draft, empty_draft};
 use crate::order::by_falling_amount;
 use crate::routes::route_demand;
+use crate::sending::send_again;
 use net_core::{
-    Caps, Demand, Demands, List, Network, NoMemory, RouteTask, Routing, StateId, States, Surviving,
+    Caps, Demands, Flow, List, Network, NoMemory, RouteTask, Routing, StateId, States, Surviving,
 };
 use std::alloc::Global;
 
@@ -20,23 +21,54 @@ pub struct Left {
     pub rest: List<u128>,
 }
 
-/// Routes one demand after another, those of greater need first.
-fn route_all(
-    alloc: Global,
-    graph: &Surviving,
-    demands: &[Demand],
-    caps: &Caps,
-) -> Result<Draft, NoMemory>
-    requires demands { AreDemands (length graph.now.net.now.nodes) demands.now }
-    requires caps { length caps.now.nums ≡ length graph.now.net.now.links }
-    ensures { let g = graph_of graph.now in IfOk result (AreRouted (Joins g) demands.now caps.now.scale caps.now.nums (range_with_len 0 (length demands.now))) }
+/// What can be sent along the paths of earlier flows, one after another.
+fn begin_with(alloc: Global, task: &RouteTask, earlier: &[Flow]) -> Result<Draft, NoMemory>
+    requires { All (IsFlow (Joins (graph_of task.now.graph)) task.now.demands.now) earlier.now }
+    ensures { IfOk result (IsDraft (Joins (graph_of task.now.graph)) task.now.demands.now task.now.caps.now.scale task.now.caps.now.nums) }
 {
-    let mut draft = empty_draft(alloc, demands, caps)?;
-    let order = by_falling_amount(alloc, draft.rest.items())?;
-    for k in order.items() {
-        route_demand(alloc, graph, &demands[*k as usize], *k, &mut draft)?;
+    let mut draft = empty_draft(alloc, task.demands.items(), task.caps)?;
+    for flow in earlier {
+        send_again(flow, &mut draft)?;
     }
     Ok(draft)
+}
+
+/// Routes one demand after another, those of which more is missing first.
+fn route_missing(alloc: Global, task: &RouteTask, earlier: &[Flow]) -> Result<Draft, NoMemory>
+    requires { All (IsFlow (Joins (graph_of task.now.graph)) task.now.demands.now) earlier.now }
+    ensures { IfOk result (AreRouted (Joins (graph_of task.now.graph)) task.now.demands.now task.now.caps.now.scale task.now.caps.now.nums
+        (range_with_len 0 (length task.now.demands.now))) }
+{
+    let mut draft = begin_with(alloc, task, earlier)?;
+    let demands = task.demands.items();
+    let order = by_falling_amount(alloc, draft.rest.items())?;
+    for k in order.items() {
+        route_demand(alloc, &task.graph, &demands[*k as usize], *k, &mut draft)?;
+    }
+    Ok(draft)
+}
+
+/// `greedy_in` that begins with the paths of an earlier routing of the demands in the task's graph, whatever the capacities were: along
+/// each path, in their order, goes as much as its links have left, up to what is missing of the demand. Then what is missing of the
+/// demands is routed as by `greedy_in`, the most first.
+///
+/// Where the earlier routing still fits, or nearly so, it searches only for few demands, or for none. It takes the time of `greedy_in` for these
+/// and time in the links of the earlier paths, and memory for a copy of each path.
+///
+/// The triangle AB, BC, AC with 4.00 on AB and BC and 2.00 on AC and a demand of 6.00 from A to C, of which 4.00 went over AC and 2.00
+/// over AB and BC, gets 2.00 over AC and 4.00 over AB and BC, without a search.
+pub fn greedy_after(alloc: Global, task: &RouteTask, earlier: &[Flow]) -> Result<Left, NoMemory>
+    requires { All (IsFlow (Joins (graph_of task.now.graph)) task.now.demands.now) earlier.now }
+    ensures { IfOk result (IsLeft (Joins (graph_of task.now.graph)) task.now.demands.now task.now.caps.now.scale task.now.caps.now.nums) }
+{
+    let draft = route_missing(alloc, task, earlier)?;
+    Ok(Left {
+        routing: Routing {
+            den: 1,
+            flows: draft.flows,
+        },
+        rest: draft.rest,
+    })
 }
 
 /// Routes the demands of a task, those of greater need first and of equal ones the earlier, each along
@@ -51,14 +83,7 @@ fn route_all(
 pub fn greedy_in(alloc: Global, task: &RouteTask) -> Result<Left, NoMemory>
     ensures { IfOk result (IsLeft (Joins (graph_of task.now.graph)) task.now.demands.now task.now.caps.now.scale task.now.caps.now.nums) }
 {
-    let draft = route_all(alloc, &task.graph, task.demands.items(), task.caps)?;
-    Ok(Left {
-        routing: Routing {
-            den: 1,
-            flows: draft.flows,
-        },
-        rest: draft.rest,
-    })
+    greedy_after(alloc, task, &[])
 }
 
 /// `greedy_in` for demands within capacities in a state.

@@ -13,4 +13,4 @@ mod order;
 mod routes;
 mod sending;
 
-pub use left::{Left, greedy, greedy_in};
+pub use left::{Left, greedy, greedy_after, greedy_in};

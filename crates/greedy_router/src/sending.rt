@@ -1,9 +1,9 @@
-ghost use Rattle.std.specs.Prelude.{◌≡◌, ◌≢◌, ℕ, ◌+◌, ◌<◌, ◌≤◌, ◌⊎◌, ◌==◌, All, AllPairs, Any, OnOk, if◌then◌else◌, length, slice_index};
+ghost use Rattle.std.specs.Prelude.{◌≡◌, ◌≢◌, ℕ, ◌+◌, ◌<◌, ◌≤◌, ◌⊎◌, ◌==◌, All, AllPairs, Any, OnOk, IsTrue, if◌then◌else◌, length, slice_index};
 ghost use Rattle.plan_terms.specs.Terms.{names_link};
-ghost use Rattle.greedy_router.specs.inner.Drafts.{Sends};
+ghost use Rattle.greedy_router.specs.inner.Drafts.{Sends, SendsOpen};
 
 use crate::draft::Draft;
-use net_core::{Flow, LinkId, NoMemory, Path};
+use net_core::{Copied, Flow, LinkId, NoMemory, Path};
 
 /// The least of an amount and of what is left along a path.
 fn least_spare(spares: &[u128], path: &[LinkId], most: u128) -> u128
@@ -57,4 +57,31 @@ pub fn send(draft: &mut Draft, demand: u32, path: Path) -> Result<(), NoMemory>
     take_rest(draft.rest.items_mut(), demand, num);
     draft.flows.push(Flow { demand, path, num })?;
     Ok(())
+}
+
+/// Whether no link of a path is full.
+fn is_open(spares: &[u128], path: &[LinkId]) -> bool
+    requires { All (λ e. e.0 < length spares.now) path.now }
+    ensures { IsTrue result → All (λ e. 0 < slice_index spares.now e.0) path.now }
+{
+    for e in path {
+        if spares[e.0 as usize] == 0 {
+            return false;
+        }
+    }
+    true
+}
+
+/// Sends along the path of an earlier flow as much as its links have left, up to what is missing of the demand.
+pub fn send_again(flow: &Flow, draft: &mut Draft) -> Result<(), NoMemory>
+    requires demand { flow.now.demand < length draft.old.rest }
+    requires known { All (λ e. e.0 < length draft.old.spares) flow.now.path }
+    requires distinct { AllPairs (λ x y. x.0 ≢ y.0) flow.now.path }
+    ensures { OnOk result ((draft.new ≡ draft.old) ⊎ SendsOpen flow.now.demand flow.now.path draft.old draft.new) }
+{
+    let missing = draft.rest.items()[flow.demand as usize];
+    if missing == 0 || !is_open(draft.spares.items(), flow.path.items()) {
+        return Ok(());
+    }
+    send(draft, flow.demand, flow.path.copy()?)
 }

@@ -16,6 +16,12 @@ pub record Sends (k : ℕ) (path : List LinkId) (old new : Draft) : Type 0 where
   pub spares : (e : ℕ) → slice_index new.spares e + (if names_link e path then num else 0) ≡ slice_index old.spares e
   pub ends : (slice_index new.rest k ≡ 0) ⊎ Any (λ e. slice_index new.spares e.0 ≡ 0) path
 
+-- a flow of a demand that has a rest, along links that aren't full
+pub record SendsOpen (k : ℕ) (path : List LinkId) (old new : Draft) : Type 0 where
+  pub missing : 0 < slice_index old.rest k
+  pub open_links : All (λ e. 0 < slice_index old.spares e.0) path
+  pub sends : Sends k path old new
+
 -- a flow of demand k
 pub record IsFlowOf (joins : ℕ → ℕ → ℕ → Type 0) (k : ℕ) (d : Demand) (f : Flow) : Type 0 where
   pub demand : f.demand ≡ k
