@@ -1,3 +1,4 @@
 pub mod FoundForms
+pub mod Repairing
 pub mod RoomLeft
 pub mod Testing

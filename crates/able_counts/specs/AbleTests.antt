@@ -50,10 +50,9 @@ pub record IsRoutingOf (p : Case) (s : ℕ) (r : Routing) : Type 0 where
   pub nums : List ℕ
   pub within : IsRoutingWithin p s nums r
 
--- What a test of the case keeps: cuts of the case, with columns and a routing for each state.
+-- What a test of the case keeps: cuts of the case, and a routing for each state.
 pub record IsTestOf (p : Case) (t : AbleTest) : Type 0 where
   pub cuts : All (IsCut p) t.cuts
-  pub columns : length t.columns ≡ length p.listed + 1
   pub states : length t.routings ≡ length p.listed + 1
   pub each : (s : ℕ) (r : Routing) → slice_get t.routings s ≡ Some r → IsRoutingOf p s r
 

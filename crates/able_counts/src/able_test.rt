@@ -3,41 +3,37 @@ ghost use Rattle.plan_terms.specs.Terms.{Routing, case_of, AreCounts, AreWithinL
 ghost use Rattle.able_counts.specs.AbleTests.{AreKeptOrWithin, AreRoutingsWithin, IsRoutingWithin, IsRoutingOf, IsStopAt, IsTestOf, whole_caps};
 
 use crate::cuts::last_violated;
+use crate::nodes::short_state;
+use crate::quick::{quick_stop, set_stop};
 use crate::routed::state_stop;
 use crate::stop::{Stop, discard, is_cut, later};
 use module_choice::capacities;
-use net_core::{
-    Caps, Copied, Counts, CutLine, Instance, List, NoMemory, RouteColumn, Routing, StateId,
-};
+use net_core::{Caps, Copied, Counts, CutLine, Instance, List, NoMemory, Routing, StateId};
 use std::alloc::Global;
 
-/// What was learned of counts of modules: cuts, and for each state the last routing and the columns of its last routing program.
+/// What was learned of counts of modules: cuts, and for each state the last routing.
 /// What it answers is said of the counts alone; what it keeps makes the next answer cheaper.
 #[derive(Drop)]
 pub struct AbleTest {
     alloc: Global,
     /// The newest last.
     cuts: List<CutLine>,
-    columns: List<List<RouteColumn>>,
     routings: List<Routing>,
     /// The state that refused last.
     refused: u32,
 }
 
-/// As many lists without columns.
-fn no_columns(alloc: Global, count: usize) -> Result<List<List<RouteColumn>>, NoMemory>
-    ensures { IfOk result (λ columns. length columns ≡ count) }
+/// The state some places after another, where the first comes after the last.
+fn state_after(first: u32, places: u32, count: u32) -> StateId
+    requires { 0 < count }
+    ensures { result.0 < count }
 {
-    let mut columns = List::new(alloc);
-    for _ in 0..count {
-        columns.push(List::new(alloc))?;
-    }
-    Ok(columns)
+    StateId(((first as u64 + places as u64) % count as u64) as u32)
 }
 
 impl AbleTest {
     /// A test that knows no cuts yet, with a routing for each state, within whatever capacities.
-    /// It copies nothing; it takes memory for an empty list of columns in each state.
+    /// It copies nothing.
     pub fn new(
         alloc: Global,
         instance: &Instance,
@@ -51,7 +47,6 @@ impl AbleTest {
         Ok(AbleTest {
             alloc,
             cuts: List::new(alloc),
-            columns: no_columns(alloc, routings.len())?,
             routings,
             refused: 0,
         })
@@ -140,16 +135,20 @@ impl AbleTest {
             state,
             caps,
             &mut self.routings.items_mut()[at],
-            &mut self.columns.items_mut()[at],
         )?;
         self.keep(instance, state, caps, &found)?;
         Ok(found)
     }
 
-    /// Why capacities don't carry the demands in the state that refused last.
-    fn stop_again(&mut self, instance: &Instance, caps: &Caps) -> Result<Option<Stop>, NoMemory>
+    /// A cut that capacities violate in a state, where it is soon found.
+    fn quick_stop_in(
+        &mut self,
+        instance: &Instance,
+        state: StateId,
+        caps: &Caps,
+    ) -> Result<Option<Stop>, NoMemory>
         requires sound { IsTestOf (case_of instance.now) self.old }
-        requires survivable { IsSurvivable (case_of instance.now) }
+        requires state { state.0 < length instance.now.states.now.listed + 1 }
         requires scale { caps.now.scale ≡ 1 }
         requires count { length caps.now.nums ≡ length instance.now.net.now.links }
         requires narrow { All (λ n. n < 2 ^ 62) caps.now.nums }
@@ -157,11 +156,55 @@ impl AbleTest {
         ensures kept { AreKeptOrWithin (case_of instance.now) caps.now.nums self.old.routings self.new.routings }
         ensures stop { IfOk result (λ o. IfSome o (IsStopAt (case_of instance.now) caps.now)) }
     {
-        if self.refused < instance.states.count() {
-            self.stop_in(instance, StateId(self.refused), caps)
-        } else {
-            Ok(None)
+        let at = state.0 as usize;
+        let found = quick_stop(
+            self.alloc,
+            instance,
+            state,
+            caps,
+            &mut self.routings.items_mut()[at],
+        )?;
+        self.keep(instance, state, caps, &found)?;
+        Ok(found)
+    }
+
+    /// A cut of a set of nodes that capacities violate in a state in which the links of some node have too little.
+    fn short_stop(&mut self, instance: &Instance, caps: &Caps) -> Result<Option<Stop>, NoMemory>
+        requires sound { IsTestOf (case_of instance.now) self.old }
+        requires scale { caps.now.scale ≡ 1 }
+        requires count { length caps.now.nums ≡ length instance.now.net.now.links }
+        ensures sound { IsTestOf (case_of instance.now) self.new }
+        ensures routings { self.new.routings ≡ self.old.routings }
+        ensures stop { IfOk result (λ o. IfSome o (IsStopAt (case_of instance.now) caps.now)) }
+    {
+        match short_state(self.alloc, instance, caps)? {
+            Some(state) => {
+                let found = set_stop(self.alloc, instance, state, caps)?;
+                self.keep(instance, state, caps, &found)?;
+                Ok(found)
+            }
+            None => Ok(None),
         }
+    }
+
+    /// A cut that capacities violate in some state, where it is soon found; the state that refused last is tried first.
+    fn quick_stop(&mut self, instance: &Instance, caps: &Caps) -> Result<Option<Stop>, NoMemory>
+        requires sound { IsTestOf (case_of instance.now) self.old }
+        requires scale { caps.now.scale ≡ 1 }
+        requires count { length caps.now.nums ≡ length instance.now.net.now.links }
+        requires narrow { All (λ n. n < 2 ^ 62) caps.now.nums }
+        ensures sound { IsTestOf (case_of instance.now) self.new }
+        ensures kept { AreKeptOrWithin (case_of instance.now) caps.now.nums self.old.routings self.new.routings }
+        ensures stop { IfOk result (λ o. IfSome o (IsStopAt (case_of instance.now) caps.now)) }
+    {
+        let (first, count) = (self.refused, instance.states.count());
+        for places in 0..count {
+            let state = state_after(first, places, count);
+            if let Some(stop) = self.quick_stop_in(instance, state, caps)? {
+                return Ok(Some(stop));
+            }
+        }
+        Ok(None)
     }
 
     /// Why capacities don't carry the demands in some state, tried in their order: a cut of a state, or else evidence of one.
@@ -188,7 +231,7 @@ impl AbleTest {
         Ok(wide)
     }
 
-    /// Why capacities don't carry the demands in some state; the state that refused last is tried first.
+    /// Why capacities don't carry the demands in some state; a program is solved only where no state has a cut that is soon found.
     fn stop_within(&mut self, instance: &Instance, caps: &Caps) -> Result<Option<Stop>, NoMemory>
         requires sound { IsTestOf (case_of instance.now) self.old }
         requires survivable { IsSurvivable (case_of instance.now) }
@@ -200,11 +243,12 @@ impl AbleTest {
         ensures carried { IfOk result (λ o. o ≡ None → AreRoutingsWithin (case_of instance.now) caps.now.nums self.new.routings) }
         ensures stop { IfOk result (λ o. IfSome o (IsStopAt (case_of instance.now) caps.now)) }
     {
-        let found = self.stop_again(instance, caps)?;
-        if is_cut(&found) {
-            return Ok(found);
+        if let Some(stop) = self.short_stop(instance, caps)? {
+            return Ok(Some(stop));
         }
-        discard(found);
+        if let Some(stop) = self.quick_stop(instance, caps)? {
+            return Ok(Some(stop));
+        }
         self.stop_in_turn(instance, caps)
     }
 
@@ -226,9 +270,10 @@ impl AbleTest {
     /// Why counts of modules aren't known to carry the demands in all states, none of which separates a demand: a cut of some state, or else
     /// evidence. `None` where they carry them: then `routings` has a routing for each state within their capacities.
     ///
-    /// It asks cheaply first: the cuts that it knows, the newest first; then the state that refused last; then each state whose last routing
-    /// isn't within the capacities, with the columns of its last routing program. It takes time as `separate_state` for each such state, and
-    /// keeps a cut for each that it finds.
+    /// It asks cheaply first: the cuts that it knows, the newest first; then each state whose last routing isn't within the capacities,
+    /// the state that refused last before the others, for a routing along the paths of the last one, or a cut of a set of nodes. Only then it
+    /// asks, with the last routing's paths, each state that has neither. It takes time as `separate_state` for each of these, and keeps a cut
+    /// for each that it finds.
     pub fn stop(&mut self, instance: &Instance, counts: &Counts) -> Result<Option<Stop>, NoMemory>
         requires sound { IsTestOf (case_of instance.now) self.old }
         requires survivable { IsSurvivable (case_of instance.now) }

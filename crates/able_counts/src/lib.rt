@@ -13,6 +13,8 @@
 mod able_test;
 mod cuts;
 mod loads;
+mod nodes;
+mod quick;
 mod routed;
 mod stop;
 

@@ -5,8 +5,8 @@ use Rattle.separator.specs.Findings.{IsFinding}
 use Rattle.able_counts.proofs.Testing.{routed_within, survivable_joins}
 use Rattle.able_counts.proofs.routed.state_stop.Goals as goal
 
-pub separate_state-requires-clause-joined : goal.separate_state-requires-clause-joined
-separate_state-requires-clause-joined c = survivable_joins (case_of c.args.instance.now) c.args.state.0 c.requires.survivable c.requires.state
+pub route_anew-requires-clause-joined : goal.route_anew-requires-clause-joined
+route_anew-requires-clause-joined c = survivable_joins (case_of c.args.instance.now) c.args.state.0 c.requires.survivable c.requires.state
 
 pub returns-in-Routed-clause-kept : goal.returns-in-Routed-clause-kept
 returns-in-Routed-clause-kept c =
@@ -14,7 +14,7 @@ returns-in-Routed-clause-kept c =
     let s = c.args.state.0 in
     let caps = c.args.caps.now in
     inr (routed_within p s caps c.requires.scale c.args.instance.now.belong (few_links p.nodes p.links c.args.instance.now.net.now.checked) c.in-Routed.found
-    (subst (IsFinding (graph_in p s) p.demands caps) c.in-Routed.is c.in_ok-found.ensures.found))
+    (subst (IsFinding (graph_in p s) p.demands caps) c.in-Routed.is c.in_ok-found.ensures))
 
 pub returns-in-Routed-clause-carried : goal.returns-in-Routed-clause-carried
 returns-in-Routed-clause-carried c _ =
@@ -22,7 +22,7 @@ returns-in-Routed-clause-carried c _ =
     let s = c.args.state.0 in
     let caps = c.args.caps.now in
     routed_within p s caps c.requires.scale c.args.instance.now.belong (few_links p.nodes p.links c.args.instance.now.net.now.checked) c.in-Routed.found
-    (subst (IsFinding (graph_in p s) p.demands caps) c.in-Routed.is c.in_ok-found.ensures.found)
+    (subst (IsFinding (graph_in p s) p.demands caps) c.in-Routed.is c.in_ok-found.ensures)
 
 pub returns-in-Wide-clause-stop : goal.returns-in-Wide-clause-stop
 returns-in-Wide-clause-stop c =
@@ -31,5 +31,5 @@ returns-in-Wide-clause-stop c =
     record {
       state = s;
       listed_state = omega (arith, c.requires.state);
-      here = subst (IsFinding (graph_in p s) p.demands c.args.caps.now) c.in-Wide.is c.in_ok-found.ensures.found;
+      here = subst (IsFinding (graph_in p s) p.demands c.args.caps.now) c.in-Wide.is c.in_ok-found.ensures;
     }

@@ -12,7 +12,6 @@ returns-in_ok-push-in-Cut-clause-sound c =
       cuts =
           let is : IsCut p c.in_ok-copy-in-Cut.field-0 = subst (IsCut p) (sym c.in_ok-copy-in-Cut.ensures) stops.0 in
           subst (All (IsCut p)) (sym c.in_ok-push-in-Cut.ensures.ok) (All-push (IsCut p) c.args.self.now.cuts c.in_ok-copy-in-Cut.field-0 c.requires.sound.cuts is);
-      columns = c.requires.sound.columns;
       states = c.requires.sound.states;
       each = c.requires.sound.each;
     }

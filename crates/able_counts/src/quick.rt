@@ -1,0 +1,100 @@
+ghost use Rattle.std.specs.Prelude.{◌≡◌, ◌⊎◌, ◌^◌, ◌+◌, ◌<◌, All, IfOk, IfSome, IsTrue, length};
+ghost use Rattle.plan_terms.specs.Terms.{case_of, graph_in, IsFlow, Joins};
+ghost use Rattle.able_counts.specs.AbleTests.{IsRoutingOf, IsRoutingWithin, IsStopAt};
+
+use crate::loads::is_within;
+use crate::stop::Stop;
+use greedy_router::greedy_after;
+use net_core::{Caps, Flow, Instance, NoMemory, RouteTask, Routing, StateId};
+use node_sets::grown_set;
+use separator::line_of;
+use std::alloc::Global;
+
+/// Whether no demand has a rest.
+fn leaves_nothing(rest: &[u128]) -> bool
+    ensures { IsTrue result → All (λ r. r ≡ 0) rest.now }
+{
+    rest.iter().all(|r| *r == 0)
+}
+
+/// A routing within capacities in a state that begins with the paths of an earlier one, where greedy steps carry all demands.
+/// It takes time in the square of the nodes for each demand that its earlier paths don't carry.
+fn mended(
+    alloc: Global,
+    instance: &Instance,
+    state: StateId,
+    caps: &Caps,
+    earlier: &[Flow],
+) -> Result<Option<Routing>, NoMemory>
+    requires state { state.0 < length instance.now.states.now.listed + 1 }
+    requires scale { caps.now.scale ≡ 1 }
+    requires count { length caps.now.nums ≡ length instance.now.net.now.links }
+    requires narrow { All (λ n. n < 2 ^ 62) caps.now.nums }
+    requires earlier { All (IsFlow (Joins (graph_in (case_of instance.now) state.0)) instance.now.demands.now) earlier.now }
+    ensures { IfOk result (λ o. IfSome o (IsRoutingWithin (case_of instance.now) state.0 caps.now.nums)) }
+{
+    let task = RouteTask {
+        graph: instance.in_state(state),
+        demands: instance.demands,
+        caps,
+    };
+    let left = greedy_after(alloc, &task, earlier)?;
+    if leaves_nothing(left.rest.items()) {
+        Ok(Some(left.routing))
+    } else {
+        Ok(None)
+    }
+}
+
+/// A cut of a set of nodes that capacities violate in a state, where one is found.
+/// It takes time in the cube of the nodes.
+pub(crate) fn set_stop(
+    alloc: Global,
+    instance: &Instance,
+    state: StateId,
+    caps: &Caps,
+) -> Result<Option<Stop>, NoMemory>
+    requires state { state.0 < length instance.now.states.now.listed + 1 }
+    requires scale { caps.now.scale ≡ 1 }
+    requires count { length caps.now.nums ≡ length instance.now.net.now.links }
+    ensures { IfOk result (λ o. IfSome o (IsStopAt (case_of instance.now) caps.now)) }
+{
+    let task = RouteTask {
+        graph: instance.in_state(state),
+        demands: instance.demands,
+        caps,
+    };
+    match grown_set(alloc, &task)? {
+        Some(cut) => Ok(Some(Stop::Cut(line_of(&cut, instance.demands)?))),
+        None => Ok(None),
+    }
+}
+
+/// A cut of a set of nodes that capacities violate in a state, unless the routing is within them or can be mended; then it becomes one
+/// within them. It solves no program.
+pub(crate) fn quick_stop(
+    alloc: Global,
+    instance: &Instance,
+    state: StateId,
+    caps: &Caps,
+    routing: &mut Routing,
+) -> Result<Option<Stop>, NoMemory>
+    requires state { state.0 < length instance.now.states.now.listed + 1 }
+    requires scale { caps.now.scale ≡ 1 }
+    requires count { length caps.now.nums ≡ length instance.now.net.now.links }
+    requires narrow { All (λ n. n < 2 ^ 62) caps.now.nums }
+    requires routing { IsRoutingOf (case_of instance.now) state.0 routing.old }
+    ensures kept { (routing.new ≡ routing.old) ⊎ IsRoutingWithin (case_of instance.now) state.0 caps.now.nums routing.new }
+    ensures stop { IfOk result (λ o. IfSome o (IsStopAt (case_of instance.now) caps.now)) }
+{
+    if is_within(alloc, routing, caps)? {
+        return Ok(None);
+    }
+    match mended(alloc, instance, state, caps, routing.flows.items())? {
+        Some(found) => {
+            *routing = found;
+            Ok(None)
+        }
+        None => set_stop(alloc, instance, state, caps),
+    }
+}
