@@ -3,4 +3,5 @@ pub mod Placing
 pub mod Least
 pub mod Lowering
 pub mod Plans
+mod Pricing
 pub mod Routed

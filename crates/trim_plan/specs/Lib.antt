@@ -1,3 +1,4 @@
+pub mod Dearest
 pub mod Trimmed
 pub mod Laws
 pub mod inner

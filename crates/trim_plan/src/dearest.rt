@@ -1,4 +1,6 @@
-ghost use Rattle.std.specs.Prelude.{◌≡◌, ◌≤◌, AllPairs, IfOk};
+ghost use Rattle.std.specs.Prelude.{◌≡◌, ◌≤◌, ◌++◌, AllPairs, IfOk, OnOk};
+ghost use Rattle.std.specs.List.Sorted.{IsPermutation};
+ghost use Rattle.trim_plan.specs.Dearest.{priced_links, priced_modules};
 ghost use Rattle.trim_plan.specs.Trimmed.{price_rank};
 
 use crate::lowered::Place;
@@ -13,7 +15,9 @@ pub struct Priced {
 }
 
 /// Puts the modules of a link last.
-fn add_modules(priced: &mut List<Priced>, link: usize, modules: &[Module]) -> Result<(), NoMemory> {
+fn add_modules(priced: &mut List<Priced>, link: usize, modules: &[Module]) -> Result<(), NoMemory>
+    ensures { OnOk result (priced.new ≡ priced.old ++ priced_modules link 0 modules.now) }
+{
     for module in 0..modules.len() {
         priced.push(Priced {
             cost: modules[module].cost,
@@ -32,7 +36,8 @@ fn rank_of(priced: &Priced) -> u64
 
 /// All modules, the dearest first; those of one cost in link and module order. It takes time and memory in the number of modules.
 pub fn dearest_first(alloc: Global, net: &Network) -> Result<List<Priced>, NoMemory>
-    ensures { IfOk result (AllPairs (λ a b. price_rank a ≤ price_rank b)) }
+    ensures modules { IfOk result (IsPermutation (priced_links 0 net.now.links)) }
+    ensures dearest { IfOk result (AllPairs (λ a b. price_rank a ≤ price_rank b)) }
 {
     let links = net.links().items();
     let mut priced = List::new(alloc);
