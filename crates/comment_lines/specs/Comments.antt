@@ -1,5 +1,5 @@
 -- comment lines: a `#`, and words, each after one space
-use Rattle.std.specs.Prelude.{◌≡◌, ℕ, ◌==◌, true, List, [], ◌∷◌, ◌++◌, not}
+use Rattle.std.specs.Prelude.{◌≡◌, ℕ, ◌==◌, true, List, [], ◌∷◌, ◌++◌, All, flat_map, not}
 use Rattle.std.specs.List.{AllByRecursion, list_all}
 use Rattle.text_kit.specs.Terms.{Item}
 use Rattle.text_kit.specs.Written.{word_of}
@@ -29,3 +29,8 @@ HasOneLine i = IsOneLine (word_of i)
 pub record AddsSpaced (old : List ℕ) (items : List Item) (new : List ℕ) : Type 0 where
   pub text : new ≡ old ++ spaced_items items
   pub each : AllByRecursion HasOneLine items
+
+-- a comment line for each of these lists of items was put after what stood there
+pub record AddsLines (old : List ℕ) (lines : List (List Item)) (new : List ℕ) : Type 0 where
+  pub text : new ≡ old ++ flat_map comment_line lines
+  pub each : All (λ items. IsOneLine (spaced_items items)) lines

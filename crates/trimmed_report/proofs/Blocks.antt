@@ -8,7 +8,8 @@ use Rattle.able_counts.specs.declared.stop.Stop.{Stop}
 use Rattle.able_counts.specs.declared.stop.Stop.TheVariants.{Cut, Wide}
 use Rattle.trim_plan.specs.Trimmed.{IsBlockAt, IsTrimmedBy}
 use Rattle.trim_plan.specs.declared.trimming.Block.{Block}
-use Rattle.trimmed_report.specs.BlockLines.{IsOfRouting, IsTold}
+use Rattle.report_comments.specs.ReportComments.{IsOfRouting}
+use Rattle.trimmed_report.specs.BlockLines.{IsTold}
 
 evidence_of_routing : (p : Case) (s : ℕ) (caps : Caps) (e : Evidence) → IsEvidenceHere (graph_in p s) p.demands caps e → IsOfRouting e
 evidence_of_routing p s caps (Route state within basis kind) here = tt

@@ -1,4 +1,2 @@
 pub mod Blocks
-pub mod NoNames
-pub mod Spelling
 pub mod Trimming

@@ -1,9 +1,10 @@
 -- the comment lines that tell what keeps each module of a trimmed plan
-use Rattle.std.specs.Prelude.{ℕ, List, [], ◌∷◌, codes, flat_map}
-use Rattle.plan_terms.specs.Terms.{Demand, Evidence, Route, Master, Link}
+use Rattle.std.specs.Prelude.{ℕ, List, [], ◌∷◌, codes, flat_map, map}
+use Rattle.plan_terms.specs.Terms.{Demand, Link}
 use Rattle.plan_report.specs.Terms.{evidence_items, link_name}
 use Rattle.text_kit.specs.Terms.{Item, Verbatim, Whole}
 use Rattle.comment_lines.specs.Comments.{comment_line}
+use Rattle.report_comments.specs.ReportComments.{IsOfRouting}
 use Rattle.able_counts.specs.declared.stop.Stop.{Stop}
 use Rattle.able_counts.specs.declared.stop.Stop.TheVariants.{Cut, Wide}
 use Rattle.trim_plan.specs.declared.trimming.Block.{Block}
@@ -20,16 +21,11 @@ block_items links demands b = Verbatim (codes "blocked") ∷ Verbatim (link_name
 
 -- a comment line for each block
 abbrev pub block_lines : List Link → List Demand → List Block → List ℕ
-block_lines links demands blocks = flat_map (λ b. comment_line (block_items links demands b)) blocks
+block_lines links demands blocks = flat_map comment_line (map (block_items links demands) blocks)
 
 -- ---- what can stand in such a line
 
--- evidence of a program that routes
-abbrev pub IsOfRouting : Evidence → Type 0
-IsOfRouting (Route state caps basis kind) = Unit {0}
-IsOfRouting (Master basis kind) = ⊥
-
--- a cut, or such evidence
+-- a cut, or evidence of a program that routes
 abbrev pub IsTold : Stop → Type 0
 IsTold (Cut line) = Unit {0}
 IsTold (Wide evidence) = IsOfRouting evidence

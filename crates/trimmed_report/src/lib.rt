@@ -3,7 +3,6 @@
 
 mod comments;
 mod ending;
-mod names;
 mod writer;
 
 pub use ending::{TrimEnding, trim_once};

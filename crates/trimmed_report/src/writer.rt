@@ -1,8 +1,8 @@
-ghost use Rattle.std.specs.Prelude.{◌≡◌, ◌++◌, All, IfOk, OnOk};
+ghost use Rattle.std.specs.Prelude.{◌≡◌, ◌++◌, All, IfOk, OnOk, map};
 ghost use Rattle.plan_terms.specs.Terms.{case_of};
 ghost use Rattle.plan_report.specs.Terms.{known_of, report_text, SpellsReport};
 ghost use Rattle.lone_plan.specs.LonePlans.{whole_report};
-ghost use Rattle.comment_lines.specs.Comments.{IsOneLine, spaced_items};
+ghost use Rattle.comment_lines.specs.Comments.{AddsLines};
 ghost use Rattle.trimmed_report.specs.BlockLines.{IsTold, block_items, block_lines};
 ghost use Rattle.trimmed_report.specs.TrimmedReports.{IsTrimmedReport};
 
@@ -16,8 +16,7 @@ use trim_plan::Block;
 /// Puts a comment line for each block of an instance's plan last.
 fn put_lines(text: &mut Bytes, instance: &Instance, blocks: &List<Block>) -> Result<(), NoMemory>
     requires { All (λ b. IsTold b.why) blocks.now }
-    ensures text { OnOk result (text.new ≡ text.old ++ block_lines instance.now.net.now.links instance.now.demands.now blocks.now) }
-    ensures lines { OnOk result (All (λ b. IsOneLine (spaced_items (block_items instance.now.net.now.links instance.now.demands.now b))) blocks.now) }
+    ensures { OnOk result (AddsLines text.old (map (block_items instance.now.net.now.links instance.now.demands.now) blocks.now) text.new) }
 {
     put_blocks(
         text,

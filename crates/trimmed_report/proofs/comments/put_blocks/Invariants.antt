@@ -1,7 +1,7 @@
-use Rattle.std.proofs.Common.{◌≡◌, ◌++◌, take, All}
-use Rattle.comment_lines.specs.Comments.{IsOneLine, spaced_items}
-use Rattle.trimmed_report.specs.BlockLines.{block_items, block_lines}
+use Rattle.std.proofs.Common.{map, take}
+use Rattle.comment_lines.specs.Comments.{AddsLines}
+use Rattle.trimmed_report.specs.BlockLines.{block_items}
 use Rattle.trimmed_report.proofs.comments.put_blocks.Given as goal
 
 abbrev pub invariant-loop-block : goal.invariant-loop-block
-invariant-loop-block l = (l.text ≡ l.fn.text ++ block_lines l.links l.demands (take l.block-index l.blocks)) × All (λ b. IsOneLine (spaced_items (block_items l.links l.demands b))) (take l.block-index l.blocks)
+invariant-loop-block l = AddsLines l.fn.text (map (block_items l.links l.demands) (take l.block-index l.blocks)) l.text

@@ -1,11 +1,12 @@
-use Rattle.std.proofs.Common.{◌++◌, ◌∙◌, List, ℕ, ap, subst, sym}
+use Rattle.std.proofs.Common.{◌++◌, ◌∙◌, List, ℕ, ap, map, subst, sym}
 use Rattle.plan_terms.specs.Terms.{case_of}
 use Rattle.plan_types.specs.declared.report.Report.{Report}
 use Rattle.plan_report.specs.Terms.{IsReportInForm, SpellsReport, known_to, report_text}
 use Rattle.lone_plan.specs.LonePlans.{whole_report}
-use Rattle.trimmed_report.specs.BlockLines.{block_lines}
+use Rattle.comment_lines.specs.Comments.{AddsLines}
+use Rattle.report_comments.proofs.Spelling.{reports_take_comments}
+use Rattle.trimmed_report.specs.BlockLines.{block_items, block_lines}
 use Rattle.trimmed_report.proofs.Blocks.{blocks_told}
-use Rattle.trimmed_report.proofs.Spelling.{spelled_with_blocks}
 use Rattle.trimmed_report.proofs.writer.write_trimmed.Goals as goal
 
 pub write_report-requires : goal.write_report-requires
@@ -23,10 +24,7 @@ pub returns-clause-spelled : goal.returns-clause-spelled
 returns-clause-spelled c =
     let p = case_of c.args.instance.now in
     let known = known_to p in
-    let r = whole_report c.args.report in
-    let text = c.in_ok-text.ensures.text ∙ ap (report_text known) c.in_ok-whole.ensures in
-    let lines : List ℕ = block_lines p.links p.demands c.args.blocks.now in
-    let spelled : SpellsReport known (report_text known r) r =
-    subst (λ (x : Report). SpellsReport known (report_text known r) x) c.in_ok-whole.ensures (subst (λ (t : List ℕ). SpellsReport known t c.in_ok-whole.whole) text c.in_ok-text.ensures.spelled) in
-    subst (λ (t : List ℕ). SpellsReport known t r) (sym (c.in_ok-put_lines.ensures.text ∙ ap (λ (t : List ℕ). t ++ lines) text))
-    (spelled_with_blocks p.links p.demands known r c.args.blocks.now c.in_ok-put_lines.ensures.lines spelled)
+    let text = c.in_ok-text.ensures.text in
+    let spelled = subst (λ (t : List ℕ). SpellsReport known t c.in_ok-whole.whole) text c.in_ok-text.ensures.spelled in
+    let adds = subst (λ (t : List ℕ). AddsLines t (map (block_items p.links p.demands) c.args.blocks.now) c.put_lines.new.text) text c.in_ok-put_lines.ensures in
+    subst (λ (x : Report). SpellsReport known c.put_lines.new.text x) c.in_ok-whole.ensures (reports_take_comments known c.in_ok-whole.whole (map (block_items p.links p.demands) c.args.blocks.now) c.put_lines.new.text adds spelled)

@@ -41,13 +41,9 @@ fn put_link_name(text: &mut Bytes, links: &[Link], link: LinkId) -> Result<(), N
     put_word(text, link_name(links, link))
 }
 
-/// Puts a word and the name of a link last.
-pub(crate) fn put_link(
-    text: &mut Bytes,
-    word: &[u8],
-    links: &[Link],
-    link: LinkId,
-) -> Result<(), NoMemory>
+/// Puts a word and the name of a link last, each after a space. It takes time in their lengths, and asks for memory only where the text has no
+/// room left; where memory runs out, the text may end in part of them.
+pub fn put_link(text: &mut Bytes, word: &[u8], links: &[Link], link: LinkId) -> Result<(), NoMemory>
     requires { IsOneLine word.now }
     ensures { OnOk result (AddsSpaced text.old (Verbatim word.now ∷ Verbatim (link_name links.now link) ∷ []) text.new) }
 {
@@ -56,7 +52,7 @@ pub(crate) fn put_link(
 }
 
 /// Puts a word and the name of a demand last.
-pub(crate) fn put_demand(
+pub fn put_demand(
     text: &mut Bytes,
     word: &[u8],
     demands: &[Demand],
@@ -70,7 +66,7 @@ pub(crate) fn put_demand(
 }
 
 /// Puts the links of a path last, between parentheses.
-pub(crate) fn put_path(text: &mut Bytes, links: &[Link], path: &[LinkId]) -> Result<(), NoMemory>
+pub fn put_path(text: &mut Bytes, links: &[Link], path: &[LinkId]) -> Result<(), NoMemory>
     ensures { OnOk result (AddsSpaced text.old (path_items links.now path.now) text.new) }
 {
     put_open(text)?;

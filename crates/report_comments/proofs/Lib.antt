@@ -1,0 +1,2 @@
+pub mod NoNames
+pub mod Spelling

@@ -1,0 +1,6 @@
+ghost use Rattle.report_comments.specs.ReportComments.{ReportsTakeComments};
+
+/// The text of a report with comments after it spells the report, too.
+pub fn reports_take_comments()
+    ensures { ReportsTakeComments }
+{}
