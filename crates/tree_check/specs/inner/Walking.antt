@@ -1,0 +1,98 @@
+-- what a node that holds is to a walk, and what a walk has found
+use Rattle.std.specs.Prelude.{◌≡◌, ℕ, ◌≤◌, ◌<◌, ◌⊎◌, ⊤, true, false, Option, None, Some, List, [], ◌∷◌, ◌++◌, All, min, take}
+use Rattle.std.specs.List.{AllZip}
+use Rattle.plan_terms.specs.Terms.{AreCounts, Case, Link, case_of}
+use Rattle.plan_checker.specs.Terms.{IsLeastPlace}
+use Rattle.tree_check.specs.Boxes.{least_counts, whole_box}
+use Rattle.tree_check.specs.BoxValues.{HasBoxValue}
+use Rattle.tree_check.specs.Lines.{NamesLine}
+use Rattle.tree_check.specs.Proofs.{FailsAtNode, HasOpenValue, HoldsAtNode, HoldsNode, IsMissingAt, IsOpenAt, IsUnfounded}
+use Rattle.tree_check.specs.Trees.{TreeBox, boxes_left, sides_of}
+use Rattle.tree_check.specs.declared.line.Line.{Line}
+use Rattle.tree_check.specs.declared.nodes.Held.{Held}
+use Rattle.tree_check.specs.declared.nodes.Held.TheVariants.{Settled, Open}
+use Rattle.tree_check.specs.declared.proof.BoxCert.{BoxCert}
+use Rattle.tree_check.specs.declared.proof.Node.{Node}
+use Rattle.tree_check.specs.declared.proof.Proof.{Proof}
+use Rattle.tree_check.specs.declared.stop.Stop.{Stop}
+use Rattle.tree_check.specs.declared.stop.Stop.TheVariants.{Fault, NoMemory}
+use Rattle.tree_check.specs.declared.tests.Tests.{Tests}
+use Rattle.tree_check.specs.declared.walk.Found.{Found}
+use Rattle.tree_check.specs.inner.Testing.{IsTestOf}
+
+-- ---- nodes
+
+-- an open leaf of this value, or no open leaf
+abbrev pub IsHeldAs : (ℕ → Line → Type 0) → List Link → TreeBox → Node → Held → Type 0
+IsHeldAs names links box node Settled = (value : ℕ) → HasOpenValue names links box node value → ⊥
+IsHeldAs names links box node (Open value) = HasOpenValue names links box node value
+
+-- the cuts were tested, one by one
+abbrev pub AreTests : Tests → Type 0
+AreTests t = AllZip (IsTestOf (case_of t.instance.now)) t.cuts.now t.tested.now
+
+-- the lines that indices name, by these tests
+abbrev pub names_in : Tests → ℕ → Line → Type 0
+names_in t = NamesLine (case_of t.instance.now) t.cuts.now
+
+-- a certificate has a value for a box
+abbrev pub HasValueIn : Tests → TreeBox → BoxCert → ℕ → Type 0
+HasValueIn t box cert value = HasBoxValue (names_in t) t.instance.now.net.now.links box cert value
+
+-- a node holds for a box
+abbrev pub HoldsIn : Tests → TreeBox → Node → Type 0
+HoldsIn t box node = HoldsNode (names_in t) (case_of t.instance.now) t.cost box node
+
+-- what a node that holds is for a box, and none where it doesn't hold
+abbrev pub IsHeldIn : Tests → TreeBox → Node → Option Held → Type 0
+IsHeldIn t box node None = HoldsIn t box node → ⊥
+IsHeldIn t box node (Some held) = HoldsIn t box node × IsHeldAs (names_in t) t.instance.now.net.now.links box node held
+
+-- ---- a walk
+
+-- a node takes the next box: it holds there, is so, and leaves its sides in the box's place
+pub record TakesBox (names : ℕ → Line → Type 0) (p : Case) (cost : ℕ) (node : Node) (old new : List TreeBox) (held : Held) : Type 0 where
+  pub box : TreeBox
+  pub later : List TreeBox
+  pub first : old ≡ box ∷ later
+  pub left : new ≡ sides_of box node ++ later
+  pub holds : HoldsNode names p cost box node
+  pub is : IsHeldAs names p.links box node held
+
+-- a node takes no box: there is none, or the node doesn't hold there
+abbrev pub CannotTake : (ℕ → Line → Type 0) → Case → ℕ → Node → List TreeBox → Type 0
+CannotTake names p cost node old = (box : TreeBox) (later : List TreeBox) → old ≡ box ∷ later → HoldsNode names p cost box node → ⊥
+
+-- what a node takes, and none where it takes no box
+abbrev pub TakesIfAny : Tests → Node → List TreeBox → List TreeBox → Option Held → Type 0
+TakesIfAny t node old new None = CannotTake (names_in t) (case_of t.instance.now) t.cost node old
+TakesIfAny t node old new (Some held) = TakesBox (names_in t) (case_of t.instance.now) t.cost node old new held
+
+-- each box has a span for each module
+abbrev pub HaveShape : List Link → List TreeBox → Type 0
+HaveShape links boxes = All (λ box. AreCounts links (least_counts box)) boxes
+
+-- what was found of the first n nodes: the least of the plan's cost and the open leaves' values, and whether a leaf is open
+pub record IsFoundOf (p : Case) (proof : Proof) (n : ℕ) (found : Found) : Type 0 where
+  pub at_most_cost : found.least ≤ proof.plan.cost
+  pub at_most_each : (i value : ℕ) → i < n → IsOpenAt p proof i value → found.least ≤ value
+  pub reached : (found.least ≡ proof.plan.cost) ⊎ ((i : ℕ) × IsOpenAt p proof i found.least)
+  pub closed : found.is_open ≡ false → (i value : ℕ) → i < n → IsOpenAt p proof i value → ⊥
+  pub opened : found.is_open ≡ true → (i : ℕ) × (value : ℕ) × IsOpenAt p proof i value
+
+-- the first n nodes hold, what they leave is left, and this was found of them
+pub record HasWalked (p : Case) (proof : Proof) (n : ℕ) (left : List TreeBox) (found : Found) : Type 0 where
+  pub hold : (i : ℕ) → i < n → HoldsAtNode p proof i
+  pub left_is : left ≡ boxes_left (whole_box p.links ∷ []) (take n proof.tree)
+  pub shape : HaveShape p.links left
+  pub found_is : IsFoundOf p proof n found
+
+-- what was found, with a node that holds
+abbrev pub with_held : Found → Held → Found
+with_held found Settled = found
+with_held found (Open value) = record { is_open = true; least = min value found.least }
+
+-- a walk ends at what is wrong first, with the number of the answer
+abbrev pub StopsWalk : Case → Proof → Stop → Type 0
+StopsWalk p proof (Fault k) = IsLeastPlace (FailsAtNode p proof) k ⊎ (IsMissingAt p proof k ⊎ IsUnfounded p proof k)
+StopsWalk p proof NoMemory = ⊤

@@ -1,0 +1,31 @@
+ghost use Rattle.tree_check.specs.Laws.{BoxValueHolds, CheapestHolds, CutLinesAreMet, EmptiedHasNone, LeavesCover, OpenLeavesHold};
+
+/// The leaves of a whole tree cover all counts.
+pub fn leaves_cover()
+    ensures { LeavesCover }
+{}
+
+/// Counts that carry the demands in each state meet the line of each cut.
+pub fn cut_lines_are_met()
+    ensures { CutLinesAreMet }
+{}
+
+/// No counts of a box that meet the lines of a certificate cost less than its value.
+pub fn box_value_holds()
+    ensures { BoxValueHolds }
+{}
+
+/// No counts of an emptied box meet the line that empties it.
+pub fn emptied_has_none()
+    ensures { EmptiedHasNone }
+{}
+
+/// No counts that carry the demands cost less than a plan that a tree shows to be cheapest.
+pub fn cheapest_holds()
+    ensures { CheapestHolds }
+{}
+
+/// No counts that carry the demands cost less than what a tree with open leaves shows.
+pub fn open_leaves_hold()
+    ensures { OpenLeavesHold }
+{}
