@@ -1,0 +1,2 @@
+pub mod Money
+pub mod Numbered

@@ -1,0 +1,29 @@
+-- money ends no line
+use Rattle.std.proofs.Common.{◌≡◌, ℕ, zero, suc, ◌/◌, ◌^◌, ◌<◌, ◌==◌, not, List, [], ◌∷◌, ◌++◌, refl, ap, sym, ◌∙◌, append-nil, append_assoc, decimal, arith}
+use Rattle.std.proofs.lemmas.Bool.{ne_eqb}
+use Rattle.net_core.proofs.Library.{and_from, list_all}
+use Rattle.std.proofs.lemmas.List.Folds.{list_all-append}
+use Rattle.net_core.specs.declared.places.Places.{Places}
+use Rattle.net_core.specs.Terms.{digits_after_point}
+use Rattle.text_kit.specs.Terms.{Money, money_word}
+use Rattle.text_kit.specs.Written.{last_digit, last_digits}
+use Rattle.comment_lines.specs.Comments.{AddsSpaced, IsOneLine}
+use Rattle.comment_lines.proofs.OneLine.{decimal_one_line}
+
+digits_one_line : (k n : ℕ) → IsOneLine (last_digits k n)
+digits_one_line zero n = refl
+digits_one_line (suc k) n =
+    let d = last_digit (n / 10 ^ k) in
+    and_from (not (d == 10)) (list_all (λ b. not (b == 10)) (last_digits k n)) (ap not (ne_eqb d 10 (λ e. omega (arith, e)))) (digits_one_line k n)
+
+money_one_line : (p : Places) (n : ℕ) → n / 10 ^ digits_after_point p < 2 ^ 128 → IsOneLine (money_word p n)
+money_one_line p n lt =
+    list_all-append (λ b. not (b == 10)) (decimal (n / 10 ^ digits_after_point p)) (46 ∷ last_digits (digits_after_point p) n)
+    ∙ rw (decimal_one_line (n / 10 ^ digits_after_point p) lt, digits_one_line (digits_after_point p) n) refl
+
+-- money after a space
+pub spaced_money : (a b c : List ℕ) (p : Places) (n : ℕ) → n / 10 ^ digits_after_point p < 2 ^ 128 → b ≡ a ++ 32 ∷ [] → c ≡ b ++ money_word p n → AddsSpaced a (Money p n ∷ []) c
+spaced_money a b c p n lt begun put = record {
+  text = put ∙ (ap (λ (t : List ℕ). t ++ money_word p n) begun ∙ (append_assoc a (32 ∷ []) (money_word p n) ∙ ap (λ (t : List ℕ). a ++ 32 ∷ t) (sym (append-nil (money_word p n)))));
+  each = (money_one_line p n lt, tt);
+}

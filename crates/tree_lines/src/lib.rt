@@ -1,0 +1,8 @@
+//! The comment lines of a branch tree below a report: the cuts that it names, its nodes in preorder, and what it shows.
+#![tactic(auto)]
+
+mod cuts;
+mod nodes;
+mod proof;
+
+pub use proof::put_proof;
