@@ -1,5 +1,5 @@
 use crate::runs::{Ended, run_words};
-use planner_commands::status::Status;
+use command_answers::Status;
 use std::sync::Wait;
 use std::test::Fail;
 use std::thread::Threads;

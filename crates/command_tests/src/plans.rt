@@ -1,5 +1,5 @@
 use crate::runs::{comes_to, run_words};
-use planner_commands::status::Status;
+use command_answers::Status;
 use std::sync::Wait;
 use std::thread::Threads;
 

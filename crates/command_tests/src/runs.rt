@@ -1,8 +1,8 @@
 use crate::files::{File, all_files};
+use command_answers::Status;
 use net_core::{Bytes, List};
 use outside_io::{MemShelf, MemSink, OpenGate, Shelf, Sink, have_different_names};
 use planner_commands::run::run;
-use planner_commands::status::Status;
 use std::alloc::Global;
 use std::sync::Wait;
 use std::thread::Threads;

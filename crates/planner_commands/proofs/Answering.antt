@@ -8,11 +8,11 @@ use Rattle.planner_commands.specs.Commands.{Command, IsCommand, PlanWords, defau
 use Rattle.planner_commands.specs.Inputs.{Fetched, HasInputs, HasModel, RefusesModelFile, SpellsNetwork, StopsAtFailures, StopsAtFile, StopsAtInputs, input_limit}
 use Rattle.planner_commands.specs.Run.{Ends, EndsAfterInputs, EndsCommand}
 use Rattle.planner_commands.specs.inner.Steps.{HasCause, Stops}
-use Rattle.planner_commands.specs.declared.answer.Answer.{Answer}
-use Rattle.planner_commands.specs.declared.answer.Stop.{Stop}
-use Rattle.planner_commands.specs.declared.answer.Stop.TheVariants as stop
-use Rattle.planner_commands.specs.declared.status.Status.{Status}
-use Rattle.planner_commands.specs.declared.status.Status.TheVariants.{BadModel, ReadFault}
+use Rattle.command_answers.specs.declared.answer.Answer.{Answer}
+use Rattle.planner_commands.specs.declared.stop.Stop.{Stop}
+use Rattle.planner_commands.specs.declared.stop.Stop.TheVariants as stop
+use Rattle.command_answers.specs.declared.status.Status.{Status}
+use Rattle.command_answers.specs.declared.status.Status.TheVariants.{BadModel, ReadFault}
 
 -- a further cause
 pub stop_map : (P Q : Status → List ℕ → Type 0) (s : Stop) → ((status : Status) (text : List ℕ) → P status text → Q status text) → Stops P s → Stops Q s

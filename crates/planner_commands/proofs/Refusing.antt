@@ -11,9 +11,9 @@ use Rattle.text_kit.specs.declared.refusal.Refusal.TheVariants.{Bad}
 use Rattle.planner_commands.specs.Inputs.{RefusesNetworkFile, SpellsNetwork}
 use Rattle.planner_commands.specs.Refusals.{Refuses, refusal_line}
 use Rattle.planner_commands.specs.inner.Steps.{Says, Stops}
-use Rattle.planner_commands.specs.declared.answer.Stop.{Stop}
-use Rattle.planner_commands.specs.declared.status.Status.{Status}
-use Rattle.planner_commands.specs.declared.status.Status.TheVariants.{BadNetwork}
+use Rattle.planner_commands.specs.declared.stop.Stop.{Stop}
+use Rattle.command_answers.specs.declared.status.Status.{Status}
+use Rattle.command_answers.specs.declared.status.Status.TheVariants.{BadNetwork}
 use Rattle.planner_commands.proofs.Answering.{stop_map}
 
 -- bytes that spell nothing, with their first fault

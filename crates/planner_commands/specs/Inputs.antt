@@ -21,8 +21,8 @@ use Rattle.report_words.specs.Terms.{report_kind_word}
 use Rattle.session_script.specs.Terms.{script_kind_word, script_of, SpellsScript}
 use Rattle.planner_commands.specs.Commands.{PlanWords, default}
 use Rattle.planner_commands.specs.Refusals.{Refuses, unused_line}
-use Rattle.planner_commands.specs.declared.status.Status.{Status}
-use Rattle.planner_commands.specs.declared.status.Status.TheVariants.{BadFailures, BadModel, BadNetwork, NoFile, ReadFault, TooLong}
+use Rattle.command_answers.specs.declared.status.Status.{Status}
+use Rattle.command_answers.specs.declared.status.Status.TheVariants.{BadFailures, BadModel, BadNetwork, NoFile, ReadFault, TooLong}
 
 -- an input file has at most 16 MiB, and a report 256 MiB
 abbrev pub input_limit : ℕ

@@ -1,5 +1,4 @@
 pub mod Commands
-pub mod Findings
 pub mod Inputs
 pub mod Refusals
 pub mod Run

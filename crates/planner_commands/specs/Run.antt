@@ -1,89 +1,22 @@
 -- what a run comes to: its status, and the text that it writes
-use Rattle.std.specs.Prelude.{◌≡◌, ◌≢◌, ℕ, ◌+◌, ◌≤◌, ◌⊎◌, List, [], ◌∷◌, ◌++◌, All, Option, String, codes, decimal, length}
+use Rattle.std.specs.Prelude.{◌≡◌, ◌≢◌, ℕ, ◌≤◌, ◌⊎◌, List, [], Option, String}
 use Rattle.std.specs.Global.{Global}
-use Rattle.plan_terms.specs.Terms.{Demand, Network, Notes, Three, Listed, Case, IsFirstSeparation}
+use Rattle.plan_terms.specs.Terms.{Demand, Network, Notes, Listed, Case}
 use Rattle.outside_io.specs.Outside.{Files, Rose, Takes, TakesPrefix}
-use Rattle.plan_types.specs.declared.plan.Plan.{Plan}
-use Rattle.plan_types.specs.declared.quality.Quality.{Quality}
-use Rattle.plan_types.specs.declared.quality.Quality.TheVariants.{Tight, Loose}
-use Rattle.plan_types.specs.declared.report.Outcome.TheVariants.{Planned}
 use Rattle.plan_types.specs.declared.report.Report.{Report}
-use Rattle.plan_report.specs.Terms.{state_name, known_to, SpellsReport, report_text}
-use Rattle.plan_checker.specs.declared.finding.Finding.{Finding}
-use Rattle.report_checker.specs.Outcomes.{IsAcceptedOutcome, IsBelowAllAble}
-use Rattle.report_checker.specs.ReportFindings.{HasNoFinding, IsFirstOfReport}
+use Rattle.plan_report.specs.Terms.{known_to, SpellsReport}
 use Rattle.session_script.specs.declared.script.Command.{Command}
 use Rattle.session_script.specs.declared.script.Script.{Script}
 use Rattle.session_script.specs.Terms.{SpellsScript}
-use Rattle.session_run.specs.Transcripts.{IsTranscript}
-use Rattle.sample_net.specs.Samples.{no_notes, sample_demands, sample_links, sample_nodes, with_single_failures}
+use Rattle.sample_net.specs.Samples.{no_notes}
 use Rattle.flow_file.specs.FlowFiles.{SpellsFlows}
 use Rattle.flow_file.specs.declared.flow.FlowFile.{FlowFile}
-use Rattle.flow_import.specs.declared.fault.ImportFault.{ImportFault}
-use Rattle.lone_plan.specs.declared.planned.PlannedReport.{PlannedReport}
-use Rattle.lone_plan.specs.LonePlans.{plan_commands, whole_report}
-use Rattle.plan_import.specs.ImportedPlans.{HasImportFault, IsImportedReport}
-use Rattle.trim_plan.specs.declared.trimming.Block.{Block}
-use Rattle.trimmed_report.specs.BlockLines.{block_lines}
-use Rattle.trimmed_report.specs.TrimmedReports.{IsTrimmedReport}
-use Rattle.text_kit.specs.Terms.{money_word}
 use Rattle.planner_commands.specs.Commands as commands
 use Rattle.planner_commands.specs.Commands.{IsCommand, PlanWords, usage}
-use Rattle.planner_commands.specs.Findings.{accepted_line, import_fault_line, rejected_line}
 use Rattle.planner_commands.specs.Inputs.{Fetched, HasInputs, RefusesFlowFile, RefusesReportFile, RefusesScriptFile, StopsAtFile, StopsAtInputs, input_limit, report_limit}
-use Rattle.planner_commands.specs.declared.status.Status.{Status}
-use Rattle.planner_commands.specs.declared.status.Status.TheVariants.{Done, BadWords, NoFile, ReadFault, WriteFault, BadNetwork, BadModel, BadFailures, BadScript, NotSurvivable, Rejected, TooLong, BadReport, NoMemory, BadFlows, BadImport}
-
--- the number of each status, with which the program ends
-abbrev pub status_number : Status → ℕ
-status_number Done = 0
-status_number BadWords = 2
-status_number NoFile = 3
-status_number ReadFault = 4
-status_number WriteFault = 5
-status_number BadNetwork = 6
-status_number BadModel = 7
-status_number BadFailures = 8
-status_number BadScript = 9
-status_number NotSurvivable = 10
-status_number Rejected = 11
-status_number TooLong = 12
-status_number BadReport = 13
-status_number NoMemory = 14
-status_number BadFlows = 15
-status_number BadImport = 16
-
--- ---- reports
-
--- The text is that of this report, which is a transcript of the commands, from the opening demands of the case. No finding holds of
--- it, and no counts that can carry the demands of a plan of it cost less than the plan's bound.
-pub record IsPrintedReport (p : Case) (notes : Notes) (commands : List Command) (r : Report) (text : List ℕ) : Type 0 where
-  pub transcript : IsTranscript p notes commands r
-  pub clean : HasNoFinding notes p r
-  pub bounded : All (IsBelowAllAble p r) r.outcomes
-  pub printed : text ≡ report_text (known_to p) r
-
--- ---- a plan
-
--- the text is the report of a plan
-pub record IsPlanReport (p : Case) (notes : Notes) (text : List ℕ) : Type 0 where
-  pub report : Report
-  pub plan : Plan
-  pub alone : report.outcomes ≡ Planned 1 1 plan ∷ []
-  pub printed : IsPrintedReport p notes plan_commands report text
-
--- the text names the first state that separates a demand which has a need, and the first such demand
-pub record NamesFirstSeparation (p : Case) (text : List ℕ) : Type 0 where
-  pub state : ℕ
-  pub place : ℕ
-  pub first : IsFirstSeparation p state place
-  pub printed : text ≡ codes "not survivable: state " ++ decimal state ++ 32 ∷ state_name p.listed state ++ codes " demand " ++ first.separates.demand.name ++ 10 ∷ []
-
--- what planning comes to, unless memory runs out: a text that spells the report of a plan, or the first separation
-abbrev pub EndsPlan : Case → Notes → Status → List ℕ → Type 0
-EndsPlan p notes status text =
-    ((status ≡ Done) × ((planned : IsPlanReport p notes text) × SpellsReport (known_to p) text planned.report))
-    ⊎ ((status ≡ NotSurvivable) × NamesFirstSeparation p text)
+use Rattle.command_answers.specs.declared.status.Status.{Status}
+use Rattle.command_answers.specs.declared.status.Status.TheVariants.{Done, BadWords, WriteFault, BadScript, BadReport, NoMemory, BadFlows}
+use Rattle.command_answers.specs.Answers.{IsPrintedReport, EndsPlan, IsJudged, EndsTrim, EndsImported, sample_case, IsSummary}
 
 -- ---- a session
 
@@ -97,97 +30,19 @@ EndsSession files name p notes status text =
 
 -- ---- a check
 
--- What a check says of a report: that no finding holds, and then each outcome is what an accepted one is known to be and each plan's
--- bound holds for all able counts; or the first finding.
-abbrev pub IsJudged : Case → Notes → Report → Status → List ℕ → Type 0
-IsJudged p notes r status text =
-    ((status ≡ Done) × HasNoFinding notes p r × All (IsAcceptedOutcome p r) r.outcomes × All (IsBelowAllAble p r) r.outcomes
-    × (text ≡ accepted_line (length r.outcomes)))
-    ⊎ ((status ≡ Rejected) × ((outcome : ℕ) × (finding : Finding)
-    × IsFirstOfReport notes p r outcome finding
-    × (text ≡ rejected_line p.places p.links r.outcomes outcome finding)))
-
 -- What a check comes to: its report ends the run, or is judged.
 abbrev pub EndsCheck : Option Files → List ℕ → Case → Notes → Status → List ℕ → Type 0
 EndsCheck files name p notes status text =
     StopsAtFile files report_limit name BadReport (RefusesReportFile (known_to p)) status text
     ⊎ ((r : Report) × Fetched files report_limit name (SpellsReport (known_to p)) r × IsJudged p notes r status text)
 
--- ---- a trimmed plan
-
--- The text is the report of a plan from which no module can be spared, and then a comment line for each module: what keeps it. It spells
--- the report.
-pub record IsPrintedTrim (p : Case) (notes : Notes) (text : List ℕ) : Type 0 where
-  pub report : PlannedReport
-  pub blocks : List Block
-  pub trimmed : IsTrimmedReport p notes report blocks
-  pub printed : text ≡ report_text (known_to p) (whole_report report) ++ block_lines p.links p.demands blocks
-  pub spelled : SpellsReport (known_to p) text (whole_report report)
-
--- what trimming comes to, unless memory runs out: such a text, or the first separation
-abbrev pub EndsTrim : Case → Notes → Status → List ℕ → Type 0
-EndsTrim p notes status text = ((status ≡ Done) × IsPrintedTrim p notes text) ⊎ ((status ≡ NotSurvivable) × NamesFirstSeparation p text)
-
 -- ---- an import
-
--- the text is the report of a plan with the file's counts and flows in the place of its own, and spells it
-pub record IsPrintedImport (p : Case) (notes : Notes) (file : FlowFile) (text : List ℕ) : Type 0 where
-  pub report : Report
-  pub imported : IsImportedReport p notes file report
-  pub printed : text ≡ report_text (known_to p) report
-  pub spelled : SpellsReport (known_to p) text report
-
--- the text names the first fault of the file's flows, for a case that has a plan
-pub record NamesImportFault (p : Case) (notes : Notes) (file : FlowFile) (text : List ℕ) : Type 0 where
-  pub fault : ImportFault
-  pub first : HasImportFault p notes file fault
-  pub printed : text ≡ import_fault_line p fault
-
--- What importing a file comes to, unless memory runs out: the report with its design, its first fault, or the first separation of the case.
-abbrev pub EndsImported : Case → Notes → FlowFile → Status → List ℕ → Type 0
-EndsImported p notes file status text =
-    ((status ≡ Done) × IsPrintedImport p notes file text)
-    ⊎ ((status ≡ BadImport) × NamesImportFault p notes file text)
-    ⊎ ((status ≡ NotSurvivable) × NamesFirstSeparation p text)
 
 -- What an import comes to: its file of flows ends the run, or is imported.
 abbrev pub EndsImport : Option Files → List ℕ → Case → Notes → Status → List ℕ → Type 0
 EndsImport files name p notes status text =
     StopsAtFile files input_limit name BadFlows (RefusesFlowFile (known_to p) p.demands) status text
     ⊎ ((file : FlowFile) × Fetched files input_limit name (SpellsFlows (known_to p) p.demands) file × EndsImported p notes file status text)
-
--- ---- a sample
-
--- the case of a sample: its network, where each link fails alone, and its demands
-abbrev pub sample_case : ℕ → ℕ → Case
-sample_case seed nodes = with_single_failures (sample_nodes nodes) (sample_links seed nodes) (sample_demands seed nodes)
-
--- the line of a network's size
-abbrev pub size_line : Case → List ℕ
-size_line p =
-    codes "nodes " ++ decimal (length p.nodes) ++ codes " links " ++ decimal (length p.links)
-    ++ codes " demands " ++ decimal (length p.demands) ++ codes " states " ++ decimal (length p.listed + 1) ++ 10 ∷ []
-
--- the word of a plan's quality
-abbrev pub quality_word : Quality → List ℕ
-quality_word (Tight f) = codes "tight"
-quality_word (Loose cause) = codes "loose"
-
--- the end of a line, and the lines of a plan's raw value and quality
-abbrev pub raw_lines : Plan → List ℕ
-raw_lines plan = codes "\nraw " ++ decimal plan.raw_num ++ 32 ∷ decimal plan.raw_den ++ codes "\nquality " ++ quality_word plan.quality ++ 10 ∷ []
-
--- the lines of a plan of a sample
-abbrev pub summary : ℕ → ℕ → Case → Plan → List ℕ
-summary seed nodes p plan =
-    codes "sample " ++ decimal seed ++ 32 ∷ decimal nodes ++ 10 ∷ size_line p
-    ++ codes "cost " ++ money_word Three plan.cost ++ codes "\nbound " ++ money_word Three plan.bound ++ raw_lines plan
-
--- the text has the lines of a plan whose report is that of a plan of the case
-pub record IsSummary (seed nodes : ℕ) (p : Case) (notes : Notes) (text : List ℕ) : Type 0 where
-  pub report : List ℕ
-  pub planned : IsPlanReport p notes report
-  pub printed : text ≡ summary seed nodes p planned.plan
 
 -- ---- commands
 

@@ -8,11 +8,11 @@ ghost use Rattle.planner_commands.specs.Inputs.{Fetched, HasInputs, HasModel, Ha
 ghost use Rattle.planner_commands.specs.Run.{KeepsShelf};
 ghost use Rattle.planner_commands.specs.inner.Steps.{Stops, named};
 
-use crate::answer::Stop;
 use crate::command::DEFAULT;
 use crate::refusal::{UnusedFailures, not_fetched, refused};
-use crate::status::Status;
+use crate::stop::Stop;
 use crate::words::PlanFiles;
+use command_answers::Status;
 use model_reader::{
     FailuresRefusal, Model, ModelRefusal, only_none, read_failures, read_model, single_links,
 };

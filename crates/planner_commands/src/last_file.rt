@@ -6,10 +6,10 @@ ghost use Rattle.planner_commands.specs.Inputs.{Fetched, RefusesFlowFile, Refuse
 ghost use Rattle.planner_commands.specs.Run.{KeepsShelf};
 ghost use Rattle.planner_commands.specs.inner.Steps.{Stops};
 
-use crate::answer::Stop;
 use crate::inputs::{INPUT_LIMIT, fetch_file};
 use crate::refusal::refused;
-use crate::status::Status;
+use crate::stop::Stop;
+use command_answers::Status;
 use flow_file::{FlowFile, FlowsRefusal, read_flows};
 use net_core::{Places, Problem};
 use outside_io::Shelf;

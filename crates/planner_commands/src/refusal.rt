@@ -2,8 +2,8 @@ ghost use Rattle.std.specs.Prelude.{◌≡◌, ◌≢◌, ◌++◌, ◌∷◌, [
 ghost use Rattle.planner_commands.specs.Refusals.{refusal_line};
 ghost use Rattle.planner_commands.specs.inner.Steps.{Says, Stops};
 
-use crate::answer::{Answer, Stop};
-use crate::status::Status;
+use crate::stop::Stop;
+use command_answers::{Answer, Status};
 use net_core::{Bytes, List, NoMemory};
 use std::alloc::Global;
 use text_kit::FaultWord;

@@ -3,23 +3,21 @@ ghost use Rattle.plan_terms.specs.Terms.{case};
 ghost use Rattle.sample_net.specs.Samples.{no_notes};
 ghost use Rattle.planner_commands.specs.Commands as commands;
 ghost use Rattle.planner_commands.specs.Commands.{usage};
-ghost use Rattle.planner_commands.specs.Run.{Ends, EndsCheck, EndsCommand, IsSummary, KeepsShelf, PutsText, sample_case};
+ghost use Rattle.command_answers.specs.Answers.{IsSummary, sample_case};
+ghost use Rattle.planner_commands.specs.Run.{Ends, EndsCheck, EndsCommand, KeepsShelf, PutsText};
 ghost use Rattle.planner_commands.specs.inner.Steps.{HasCause, named};
-ghost use Rattle.planner_commands.specs.declared.status.Status.{Status};
+ghost use Rattle.command_answers.specs.declared.status.Status.{Status};
 
-use crate::answer::{Answer, Stop};
-use crate::check::answer_check;
 use crate::command::command_of;
-use crate::import::answer_import;
 use crate::inputs::load_problem;
 use crate::last_file::{load_flows, load_report, load_script};
 use crate::output::say;
-use crate::plan::answer_plan;
-use crate::sample::answer_sample;
-use crate::session::answer_session;
-use crate::status::Status;
-use crate::trim::answer_trim;
+use crate::stop::Stop;
 use crate::words::{Command, FourFiles, PlanFiles, SampleWords};
+use command_answers::{
+    Answer, Status, answer_check, answer_import, answer_plan, answer_sample, answer_session,
+    answer_trim,
+};
 use net_core::{List, NoMemory, Problem};
 use outside_io::{Gate, Shelf, Sink};
 use std::alloc::Global;

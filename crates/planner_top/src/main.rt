@@ -3,9 +3,9 @@
 
 mod run;
 
+use command_answers::Status;
 use net_core::NoMemory;
 use outside_io::{FileShelf, OpenGate, StreamSink};
-use planner_commands::status::Status;
 use run::run;
 use std::process::ExitCode;
 use std::{env, io};

@@ -1,10 +1,10 @@
 ghost use Rattle.std.specs.Prelude.{◌≡◌, ℕ, List, ◌≤◌};
 ghost use Rattle.planner_commands.specs.Run.{Ends, KeepsShelf, PutsText};
-ghost use Rattle.planner_commands.specs.declared.status.Status.{Status};
+ghost use Rattle.command_answers.specs.declared.status.Status.{Status};
 
+use command_answers::Status;
 use outside_io::{Gate, Shelf, Sink};
 use planner_commands::run as commands;
-use planner_commands::status::Status;
 use std::alloc::Global;
 use std::sync::Wait;
 use std::thread::Threads;

@@ -2,14 +2,14 @@
 use Rattle.std.specs.Prelude.{◌≡◌, ℕ, List, [], Result, Ok, Err}
 use Rattle.planner_commands.specs.Commands as commands
 use Rattle.planner_commands.specs.Commands.{PlanWords}
-use Rattle.planner_commands.specs.declared.answer.Answer.{Answer}
-use Rattle.planner_commands.specs.declared.answer.Stop.{Stop}
-use Rattle.planner_commands.specs.declared.answer.Stop.TheVariants as stop
+use Rattle.command_answers.specs.declared.answer.Answer.{Answer}
+use Rattle.planner_commands.specs.declared.stop.Stop.{Stop}
+use Rattle.planner_commands.specs.declared.stop.Stop.TheVariants as stop
 use Rattle.planner_commands.specs.declared.words.Command.{Command}
 use Rattle.planner_commands.specs.declared.words.Command.TheVariants.{Plan, Session, Check, Trim, Import, Sample}
 use Rattle.planner_commands.specs.declared.words.PlanFiles.{PlanFiles}
-use Rattle.planner_commands.specs.declared.status.Status.{Status}
-use Rattle.planner_commands.specs.declared.status.Status.TheVariants.{ReadFault}
+use Rattle.command_answers.specs.declared.status.Status.{Status}
+use Rattle.command_answers.specs.declared.status.Status.TheVariants.{ReadFault}
 
 -- the files that the words name
 abbrev pub named : PlanFiles → PlanWords

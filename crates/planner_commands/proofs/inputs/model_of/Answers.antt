@@ -3,7 +3,7 @@ use Rattle.model_reader.specs.FaultWords.{model_word}
 use Rattle.model_reader.specs.ModelReading.{model_of}
 use Rattle.model_reader.specs.Models.{SpellsModel}
 use Rattle.model_reader.specs.declared.model.Model.{Model}
-use Rattle.planner_commands.specs.declared.status.Status.TheVariants.{BadModel}
+use Rattle.command_answers.specs.declared.status.Status.TheVariants.{BadModel}
 use Rattle.planner_commands.proofs.Refusing.{reading_refused}
 use Rattle.planner_commands.proofs.inputs.model_of.Goals as goal
 

@@ -3,7 +3,7 @@ use Rattle.model_reader.specs.Failures.{SpellsFailures}
 use Rattle.model_reader.specs.FailuresReading.{failures_of}
 use Rattle.model_reader.specs.FaultWords.{failures_word}
 use Rattle.plan_terms.specs.Terms.{States}
-use Rattle.planner_commands.specs.declared.status.Status.TheVariants.{BadFailures}
+use Rattle.command_answers.specs.declared.status.Status.TheVariants.{BadFailures}
 use Rattle.planner_commands.proofs.Refusing.{reading_refused}
 use Rattle.planner_commands.proofs.inputs.states_of.Goals as goal
 

@@ -4,7 +4,7 @@ use Rattle.flow_file.specs.FlowFiles.{SpellsFlows}
 use Rattle.flow_file.specs.FlowKinds.{flows_kind_word}
 use Rattle.flow_file.specs.FlowReading.{flows_of}
 use Rattle.flow_file.specs.declared.flow.FlowFile.{FlowFile}
-use Rattle.planner_commands.specs.declared.status.Status.TheVariants.{BadFlows}
+use Rattle.command_answers.specs.declared.status.Status.TheVariants.{BadFlows}
 use Rattle.planner_commands.proofs.Refusing.{reading_refused}
 use Rattle.planner_commands.proofs.last_file.flows_of.Goals as goal
 

@@ -3,7 +3,7 @@ use Rattle.plan_report.specs.Terms.{known_of, SpellsReport}
 use Rattle.plan_types.specs.declared.report.Report.{Report}
 use Rattle.report_reader.specs.ReadingReport.{report_of}
 use Rattle.report_words.specs.Terms.{report_kind_word}
-use Rattle.planner_commands.specs.declared.status.Status.TheVariants.{BadReport}
+use Rattle.command_answers.specs.declared.status.Status.TheVariants.{BadReport}
 use Rattle.planner_commands.proofs.Refusing.{reading_refused}
 use Rattle.planner_commands.proofs.last_file.report_of.Goals as goal
 

@@ -1,7 +1,7 @@
 use Rattle.std.proofs.Common.{codes}
 use Rattle.session_script.specs.Terms.{script_kind_word, script_of, SpellsScript}
 use Rattle.session_script.specs.declared.script.Script.{Script}
-use Rattle.planner_commands.specs.declared.status.Status.TheVariants.{BadScript}
+use Rattle.command_answers.specs.declared.status.Status.TheVariants.{BadScript}
 use Rattle.planner_commands.proofs.Refusing.{reading_refused}
 use Rattle.planner_commands.proofs.last_file.script_of.Goals as goal
 

@@ -4,7 +4,7 @@ use Rattle.plan_terms.specs.Terms.{case}
 use Rattle.plan_report.specs.Terms.{known_of}
 use Rattle.planner_commands.specs.Inputs.{RefusesReportFile, StopsAtFile, report_limit}
 use Rattle.planner_commands.specs.Run.{EndsCheck}
-use Rattle.planner_commands.specs.declared.status.Status.TheVariants.{BadReport}
+use Rattle.command_answers.specs.declared.status.Status.TheVariants.{BadReport}
 use Rattle.planner_commands.proofs.Answering.{stop_map}
 use Rattle.planner_commands.proofs.run.check_file.Goals as goal
 

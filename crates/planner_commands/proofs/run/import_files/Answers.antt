@@ -4,7 +4,7 @@ use Rattle.plan_report.specs.Terms.{known_of}
 use Rattle.planner_commands.specs.Inputs.{RefusesFlowFile, StopsAtFile, input_limit}
 use Rattle.planner_commands.specs.Run.{EndsImport}
 use Rattle.planner_commands.specs.inner.Steps.{named}
-use Rattle.planner_commands.specs.declared.status.Status.TheVariants.{BadFlows}
+use Rattle.command_answers.specs.declared.status.Status.TheVariants.{BadFlows}
 use Rattle.planner_commands.proofs.Answering.{after_inputs, last_ends}
 use Rattle.planner_commands.proofs.run.import_files.Goals as goal
 

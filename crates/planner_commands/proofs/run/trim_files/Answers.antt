@@ -1,4 +1,4 @@
-use Rattle.planner_commands.specs.Run.{EndsTrim}
+use Rattle.command_answers.specs.Answers.{EndsTrim}
 use Rattle.planner_commands.specs.inner.Steps.{named}
 use Rattle.planner_commands.proofs.Answering.{after_inputs}
 use Rattle.planner_commands.proofs.run.trim_files.Goals as goal

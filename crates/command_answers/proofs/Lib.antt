@@ -1,0 +1,3 @@
+pub mod SinglePlans
+pub mod Clauses
+pub mod Sampled

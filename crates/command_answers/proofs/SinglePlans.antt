@@ -1,0 +1,54 @@
+-- the report of one plan command
+use Rattle.std.proofs.Common.{◌≡◌, ℕ, ◌++◌, List, [], ◌∷◌, codes, decimal, refl, sym, subst, inl, inr}
+use Rattle.plan_terms.specs.Terms.{Notes, Case}
+use Rattle.plan_report.specs.Terms.{state_name, known_to, SpellsReport, report_text}
+use Rattle.session_run.specs.Transcripts.{IsTranscript}
+use Rattle.lone_plan.specs.LonePlans.{IsSeparationOf, plan_commands, whole_report}
+use Rattle.lone_plan.specs.declared.planned.PlannedReport.{PlannedReport}
+use Rattle.lone_plan.proofs.Accepted.{lone_plans_are_accepted}
+use Rattle.command_answers.specs.Answers.{EndsPlan, IsPlanReport, IsSummary, NamesFirstSeparation, summary}
+use Rattle.command_answers.specs.declared.status.Status.{Status}
+use Rattle.command_answers.specs.declared.status.Status.TheVariants.{Done, NotSurvivable}
+
+module _ (p : Case) (notes : Notes) (r : PlannedReport) (t : IsTranscript p notes plan_commands (whole_report r)) where
+  -- its text is the report of a plan
+  pub plan_report : (text : List ℕ) → text ≡ report_text (known_to p) (whole_report r) → IsPlanReport p notes text
+  plan_report text printed =
+      let accepted = lone_plans_are_accepted p notes r t in
+      record {
+        report = whole_report r;
+        plan = r.plan;
+        alone = refl;
+        printed = record { transcript = t; clean = accepted.clean; bounded = accepted.bounded; printed = printed };
+      }
+
+  -- so it is what planning comes to
+  pub plan_ends : (status : Status) (text : List ℕ) → status ≡ Done → text ≡ report_text (known_to p) (whole_report r) → SpellsReport (known_to p) text (whole_report r) → EndsPlan p notes status text
+  unfolding plan_report
+  plan_ends status text done printed spelled = inl (done, (plan_report text printed, spelled))
+
+  -- the lines of the plan are a summary
+  pub plan_summary : (seed nodes : ℕ) (text : List ℕ) → text ≡ summary seed nodes p r.plan → IsSummary seed nodes p notes text
+  unfolding plan_report
+  plan_summary seed nodes text printed = record {
+    report = report_text (known_to p) (whole_report r);
+    planned = plan_report (report_text (known_to p) (whole_report r)) refl;
+    printed = printed;
+  }
+
+-- the line of a separation names it
+pub separation_named : (p : Case) (state : ℕ) (name text : List ℕ) → IsSeparationOf p state name
+    → text ≡ codes "not survivable: state " ++ decimal state ++ 32 ∷ state_name p.listed state ++ codes " demand " ++ name ++ 10 ∷ []
+    → NamesFirstSeparation p text
+separation_named p state name text is printed = record {
+  state = state;
+  place = is.place;
+  first = is.first;
+  printed = subst (λ n. text ≡ codes "not survivable: state " ++ decimal state ++ 32 ∷ state_name p.listed state ++ codes " demand " ++ n ++ 10 ∷ []) (sym is.named) printed;
+}
+
+-- and so the run ends
+pub separation_ends : (p : Case) (notes : Notes) (state : ℕ) (name : List ℕ) (status : Status) (text : List ℕ) → IsSeparationOf p state name → status ≡ NotSurvivable
+    → text ≡ codes "not survivable: state " ++ decimal state ++ 32 ∷ state_name p.listed state ++ codes " demand " ++ name ++ 10 ∷ []
+    → EndsPlan p notes status text
+separation_ends p notes state name status text is same printed = inr (same, separation_named p state name text is printed)

@@ -1,0 +1,28 @@
+use Rattle.std.proofs.Common.{subst}
+use Rattle.net_core.proofs.Library.{IfOk-weaker}
+use Rattle.plan_terms.specs.Terms.{case_of}
+use Rattle.plan_import.specs.ImportedPlans.{IsImportEnding}
+use Rattle.command_answers.proofs.import.answer_ending.Goals as goal
+
+pub answer_imported-requires : goal.answer_imported-requires
+answer_imported-requires c =
+    let i = c.args.instance.now in
+    (c.requires.0, subst (IsImportEnding (case_of i) i.net.now.notes c.requires.0) c.in-Imported.is c.requires.1)
+
+pub returns-in-Imported : goal.returns-in-Imported
+returns-in-Imported c =
+    let i = c.args.instance.now in
+    IfOk-weaker c.answer_imported.result _ _ (λ a ends file is. ends file (subst (IsImportEnding (case_of i) i.net.now.notes file) c.in-Imported.is is)) c.answer_imported.ensures
+
+pub returns-in-Faulty : goal.returns-in-Faulty
+returns-in-Faulty c =
+    let i = c.args.instance.now in
+    IfOk-weaker c.answer_fault.result _ _ (λ a ends file is. ends file (subst (IsImportEnding (case_of i) i.net.now.notes file) c.in-Faulty.is is)) c.answer_fault.ensures
+
+pub answer_separated-requires : goal.answer_separated-requires
+answer_separated-requires c =
+    let i = c.args.instance.now in
+    subst (IsImportEnding (case_of i) i.net.now.notes c.requires.0) c.in-Separated.is c.requires.1
+
+pub returns-in-Separated : goal.returns-in-Separated
+returns-in-Separated c = IfOk-weaker c.answer_separated.result _ _ (λ a ends file is. ends file) c.answer_separated.ensures

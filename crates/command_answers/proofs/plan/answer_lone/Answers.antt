@@ -1,0 +1,10 @@
+use Rattle.std.proofs.Common.{subst}
+use Rattle.plan_terms.specs.Terms.{case_of}
+use Rattle.lone_plan.specs.LonePlans.{IsLoneAnswer}
+use Rattle.command_answers.proofs.plan.answer_lone.Goals as goal
+
+pub answer_planned-requires : goal.answer_planned-requires
+answer_planned-requires c = let i = c.args.instance.now in subst (IsLoneAnswer (case_of i) i.net.now.notes) c.in-Planned.is c.requires
+
+pub answer_separated-requires : goal.answer_separated-requires
+answer_separated-requires c = let i = c.args.instance.now in subst (IsLoneAnswer (case_of i) i.net.now.notes) c.in-Separated.is c.requires

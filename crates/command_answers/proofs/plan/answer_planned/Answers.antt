@@ -1,0 +1,23 @@
+use Rattle.std.proofs.Common.{◌≡◌}
+use Rattle.plan_terms.specs.Terms.{case_of}
+use Rattle.plan_report.specs.Terms.{known_to, SpellsReport, report_text}
+use Rattle.lone_plan.specs.LonePlans.{whole_report}
+use Rattle.command_answers.specs.Answers.{EndsPlan}
+use Rattle.command_answers.specs.declared.answer.Answer.{Answer}
+use Rattle.command_answers.specs.declared.status.Status.TheVariants.{Done}
+use Rattle.command_answers.proofs.Clauses.{three_ok}
+use Rattle.command_answers.proofs.SinglePlans.{plan_ends}
+use Rattle.command_answers.proofs.plan.answer_planned.Goals as goal
+
+pub planned-requires : goal.planned-requires
+planned-requires c = c.requires.form
+
+pub returns : goal.returns
+returns c =
+    let p = case_of c.args.instance.now in
+    let notes = c.args.instance.now.net.now.notes in
+    let whole = whole_report c.args.report in
+    three_ok c.planned.result (λ (a : Answer). a.status ≡ Done) (λ (a : Answer). a.text ≡ report_text (known_to p) whole) (λ (a : Answer). SpellsReport (known_to p) a.text whole)
+    (λ (a : Answer). EndsPlan p notes a.status a.text)
+    (λ a status text spelled. plan_ends p notes c.args.report c.requires a.status a.text status text spelled)
+    c.planned.ensures.status c.planned.ensures.text c.planned.ensures.spelled

@@ -1,0 +1,10 @@
+use Rattle.std.proofs.Common.{subst}
+use Rattle.plan_terms.specs.Terms.{case_of}
+use Rattle.trimmed_report.specs.TrimmedReports.{IsTrimEnding}
+use Rattle.command_answers.proofs.trim.answer_ending.Goals as goal
+
+pub answer_trimmed-requires : goal.answer_trimmed-requires
+answer_trimmed-requires c = let i = c.args.instance.now in subst (IsTrimEnding (case_of i) i.net.now.notes) c.in-Trimmed.is c.requires
+
+pub answer_separated-requires : goal.answer_separated-requires
+answer_separated-requires c = let i = c.args.instance.now in subst (IsTrimEnding (case_of i) i.net.now.notes) c.in-Separated.is c.requires

@@ -1,0 +1,171 @@
+ghost use Rattle.std.specs.Prelude.{◌≡◌, ◌++◌, ◌∷◌, [], IfOk, codes, decimal};
+ghost use Rattle.plan_terms.specs.Terms.{case, case_of};
+ghost use Rattle.plan_report.specs.Terms.{known_of, IsReportInForm, state_name, SpellsReport, report_text};
+ghost use Rattle.session_run.specs.Transcripts.{IsTranscript};
+ghost use Rattle.lone_plan.specs.LonePlans.{IsLoneAnswer, IsSeparationOf, plan_commands, whole_report};
+ghost use Rattle.command_answers.specs.Answers.{EndsPlan};
+
+use crate::answer::Answer;
+use crate::status::Status;
+use lone_plan::{LonePlan, PlannedReport, plan_once};
+use net_core::{Bytes, Instance, List as Items, Name, Network, NoMemory, Problem, StateId, States};
+use outside_io::Gate;
+use plan_report::write_report;
+use plan_types::Report;
+use std::alloc::Global;
+use std::sync::Wait;
+use std::thread::Threads;
+use text_kit::write::put_decimal;
+
+/// The name of a state; nothing where there is no such state.
+pub fn state_name(states: &States, state: StateId) -> &[u8]
+    ensures { result.now ≡ state_name states.now.listed state.0 }
+{
+    if state.0 == 0 {
+        return b"none";
+    }
+    match states.listed().items().get(state.0 as usize - 1) {
+        Some(listed) => listed.name.bytes(),
+        None => b"",
+    }
+}
+
+/// The line of a network that isn't survivable.
+fn separated_line(
+    alloc: Global,
+    state: StateId,
+    name: &[u8],
+    demand: &[u8],
+) -> Result<Bytes, NoMemory>
+    ensures { IfOk result (λ text. text ≡ codes "not survivable: state " ++ decimal state.0 ++ 32 ∷ name.now ++ codes " demand " ++ demand.now ++ 10 ∷ []) }
+{
+    let mut text = Items::new(alloc);
+    text.append(b"not survivable: state ")?;
+    put_decimal(&mut text, state.0 as u128)?;
+    text.append(b" ")?;
+    text.append(name)?;
+    text.append(b" demand ")?;
+    text.append(demand)?;
+    text.append(b"\n")?;
+    Ok(text)
+}
+
+/// The answer to a network that isn't survivable.
+pub fn separated(
+    alloc: Global,
+    states: &States,
+    state: StateId,
+    demand: &Name,
+) -> Result<Answer, NoMemory>
+    ensures status { IfOk result (λ a. a.status ≡ Status.NotSurvivable) }
+    ensures text { IfOk result (λ a. a.text ≡ codes "not survivable: state " ++ decimal state.0 ++ 32
+        ∷ state_name states.now.listed state.0 ++ codes " demand " ++ demand.now ++ 10 ∷ []) }
+{
+    let name = state_name(states, state);
+    let text = separated_line(alloc, state, name, demand.bytes())?;
+    Ok(Answer {
+        status: Status::NotSurvivable,
+        text,
+    })
+}
+
+/// The answer of a report that is in form.
+pub fn reported(
+    alloc: Global,
+    net: &Network,
+    states: &States,
+    report: &Report,
+) -> Result<Answer, NoMemory>
+    requires { IsReportInForm (known_of net.now states.now) report.now }
+    ensures status { IfOk result (λ a. a.status ≡ Status.Done) }
+    ensures text { IfOk result (λ a. a.text ≡ report_text (known_of net.now states.now) report.now) }
+    ensures spelled { IfOk result (λ a. SpellsReport (known_of net.now states.now) a.text report.now) }
+{
+    let text = write_report(alloc, net, states, report)?;
+    Ok(Answer {
+        status: Status::Done,
+        text,
+    })
+}
+
+/// The answer of a plan, by its report.
+pub fn planned(
+    alloc: Global,
+    net: &Network,
+    states: &States,
+    plan: PlannedReport,
+) -> Result<Answer, NoMemory>
+    requires { IsReportInForm (known_of net.now states.now) (whole_report plan) }
+    ensures status { IfOk result (λ a. a.status ≡ Status.Done) }
+    ensures text { IfOk result (λ a. a.text ≡ report_text (known_of net.now states.now) (whole_report plan)) }
+    ensures spelled { IfOk result (λ a. SpellsReport (known_of net.now states.now) a.text (whole_report plan)) }
+{
+    let report = plan.into_report(alloc)?;
+    reported(alloc, net, states, &report)
+}
+
+/// The answer of a plan of an instance, by its report.
+fn answer_planned(
+    alloc: Global,
+    instance: &Instance,
+    report: PlannedReport,
+) -> Result<Answer, NoMemory>
+    requires { IsTranscript (case_of instance.now) instance.now.net.now.notes plan_commands (whole_report report) }
+    ensures { IfOk result (λ a. EndsPlan (case_of instance.now) instance.now.net.now.notes a.status a.text) }
+{
+    planned(alloc, instance.net, instance.states, report)
+}
+
+/// The answer of an instance that has no plan.
+fn answer_separated(
+    alloc: Global,
+    instance: &Instance,
+    state: StateId,
+    demand: &Name,
+) -> Result<Answer, NoMemory>
+    requires { IsSeparationOf (case_of instance.now) state.0 demand.now }
+    ensures { IfOk result (λ a. EndsPlan (case_of instance.now) instance.now.net.now.notes a.status a.text) }
+{
+    separated(alloc, instance.states, state, demand)
+}
+
+/// The answer to the result of one plan command.
+fn answer_lone(alloc: Global, instance: &Instance, lone: LonePlan) -> Result<Answer, NoMemory>
+    requires { IsLoneAnswer (case_of instance.now) instance.now.net.now.notes lone }
+    ensures { IfOk result (λ a. EndsPlan (case_of instance.now) instance.now.net.now.notes a.status a.text) }
+{
+    match lone {
+        LonePlan::Planned(report) => answer_planned(alloc, instance, report),
+        LonePlan::Separated { state, demand } => answer_separated(alloc, instance, state, &demand),
+    }
+}
+
+/// The report of a plan of an instance, or the line of the first demand that a state separates. It may never return.
+fn answer_instance<R: Threads + Wait + Sync, G: Gate + Sync>(
+    rt: &R,
+    alloc: Global,
+    instance: &Instance,
+    gate: &G,
+) -> Result<Answer, NoMemory>
+    ensures { IfOk result (λ a. EndsPlan (case_of instance.now) instance.now.net.now.notes a.status a.text) }
+{
+    let lone = plan_once(rt, alloc, instance, gate)?;
+    answer_lone(alloc, instance, lone)
+}
+
+/// The report of a plan of a problem, or the line of the first demand that a state separates. It may never return.
+pub fn answer_plan<R: Threads + Wait + Sync, G: Gate + Sync>(
+    rt: &R,
+    alloc: Global,
+    problem: Problem,
+    gate: &G,
+) -> Result<Answer, NoMemory>
+    ensures { IfOk result (λ a. EndsPlan (case problem.net problem.states problem.demands) problem.net.notes a.status a.text) }
+{
+    let instance = Instance {
+        net: &problem.net,
+        states: &problem.states,
+        demands: &problem.demands,
+    };
+    answer_instance(rt, alloc, &instance, gate)
+}

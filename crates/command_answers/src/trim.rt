@@ -1,0 +1,90 @@
+ghost use Rattle.std.specs.Prelude.{IfOk};
+ghost use Rattle.plan_terms.specs.Terms.{case, case_of};
+ghost use Rattle.lone_plan.specs.LonePlans.{IsSeparationOf};
+ghost use Rattle.trimmed_report.specs.TrimmedReports.{IsTrimEnding, IsTrimmedReport};
+ghost use Rattle.command_answers.specs.Answers.{EndsTrim};
+
+use crate::answer::Answer;
+use crate::plan::separated;
+use crate::status::Status;
+use lone_plan::PlannedReport;
+use net_core::{Instance, List, Name, NoMemory, Problem, StateId};
+use outside_io::Gate;
+use std::alloc::Global;
+use std::sync::Wait;
+use std::thread::Threads;
+use trim_plan::Block;
+use trimmed_report::{TrimEnding, trim_once, write_trimmed};
+
+/// The answer of a trimmed plan: its report, and a comment line for each block.
+fn answer_trimmed(
+    alloc: Global,
+    instance: &Instance,
+    report: PlannedReport,
+    blocks: &List<Block>,
+) -> Result<Answer, NoMemory>
+    requires { IsTrimmedReport (case_of instance.now) instance.now.net.now.notes report blocks.now }
+    ensures { IfOk result (λ a. EndsTrim (case_of instance.now) instance.now.net.now.notes a.status a.text) }
+{
+    Ok(Answer {
+        status: Status::Done,
+        text: write_trimmed(alloc, instance, report, blocks)?,
+    })
+}
+
+/// The answer of an instance that has no plan.
+fn answer_separated(
+    alloc: Global,
+    instance: &Instance,
+    state: StateId,
+    demand: &Name,
+) -> Result<Answer, NoMemory>
+    requires { IsSeparationOf (case_of instance.now) state.0 demand.now }
+    ensures { IfOk result (λ a. EndsTrim (case_of instance.now) instance.now.net.now.notes a.status a.text) }
+{
+    separated(alloc, instance.states, state, demand)
+}
+
+/// The answer to the result of a trimming.
+fn answer_ending(alloc: Global, instance: &Instance, ending: TrimEnding) -> Result<Answer, NoMemory>
+    requires { IsTrimEnding (case_of instance.now) instance.now.net.now.notes ending }
+    ensures { IfOk result (λ a. EndsTrim (case_of instance.now) instance.now.net.now.notes a.status a.text) }
+{
+    match ending {
+        TrimEnding::Trimmed { report, blocks } => answer_trimmed(alloc, instance, report, &blocks),
+        TrimEnding::Separated { state, demand } => {
+            answer_separated(alloc, instance, state, &demand)
+        }
+    }
+}
+
+/// The report of a trimmed plan of an instance, with what keeps each module; or the line of the first demand that a state separates. It
+/// may never return.
+fn answer_instance<R: Threads + Wait + Sync, G: Gate + Sync>(
+    rt: &R,
+    alloc: Global,
+    instance: &Instance,
+    gate: &G,
+) -> Result<Answer, NoMemory>
+    ensures { IfOk result (λ a. EndsTrim (case_of instance.now) instance.now.net.now.notes a.status a.text) }
+{
+    let ending = trim_once(rt, alloc, instance, gate)?;
+    answer_ending(alloc, instance, ending)
+}
+
+/// The answer of a trim of a problem. It may never return.
+pub fn answer_trim<R: Threads + Wait + Sync, G: Gate + Sync>(
+    rt: &R,
+    alloc: Global,
+    problem: Problem,
+    gate: &G,
+) -> Result<Answer, NoMemory>
+    ensures { IfOk result (λ a. EndsTrim (case problem.net problem.states problem.demands) problem.net.notes a.status a.text) }
+{
+    let instance = Instance {
+        net: &problem.net,
+        states: &problem.states,
+        demands: &problem.demands,
+    };
+    answer_instance(rt, alloc, &instance, gate)
+}

@@ -1,8 +1,0 @@
-use Rattle.std.proofs.Common.{◌≡◌, IfOk, subst}
-use Rattle.plan_report.specs.Terms.{known_of, report_text}
-use Rattle.planner_commands.specs.declared.answer.Answer.{Answer}
-use Rattle.planner_commands.proofs.plan.planned.Goals as goal
-
-pub returns-clause-text : goal.returns-clause-text
-returns-clause-text c =
-    subst (λ r. IfOk c.reported.result (λ (a : Answer). a.text ≡ report_text (known_of c.args.net.now c.args.states.now) r)) c.in_ok-report.ensures c.reported.ensures.text
