@@ -1,11 +1,10 @@
 //! Tests of exchanged modules, against costs that were worked out by hand.
-ghost use Rattle.plan_terms.specs.Terms.{case_of};
-ghost use Rattle.session_run.specs.Transcripts.{IsTranscript};
-ghost use Rattle.lone_plan.specs.LonePlans.{plan_commands, whole_report};
+ghost use Rattle.std.specs.Prelude.{length};
+ghost use Rattle.plan_terms.specs.Terms.{AreDemands, case, IsSurvivable};
+ghost use Rattle.trim_plan.specs.Trimmed.{IsRoutedPlan};
 
-use lone_plan::{LonePlan, PlannedReport, plan_once};
+use crate::planned::planned;
 use net_core::{Instance, NoMemory};
-use outside_io::OpenGate;
 use plan_swaps::swap;
 use plan_types::Plan;
 use std::alloc::Global;
@@ -13,24 +12,16 @@ use std::sync::Wait;
 use std::thread::Threads;
 use worked_networks::{PARALLEL, network, problem, triangle};
 
-/// The plan of a report, with modules exchanged.
-fn swapped(alloc: Global, instance: &Instance, planned: PlannedReport) -> Result<Plan, NoMemory>
-    requires { IsTranscript (case_of instance.now) instance.now.net.now.notes plan_commands (whole_report planned) }
+/// What a plan costs after modules are exchanged.
+fn swapped_cost(alloc: Global, instance: &Instance, plan: Plan) -> Option<u128>
+    requires belong { AreDemands (length instance.now.net.now.nodes) plan.demands }
+    requires survivable { IsSurvivable (case instance.now.net.now instance.now.states.now plan.demands) }
+    requires routed { IsRoutedPlan (case instance.now.net.now instance.now.states.now plan.demands) plan }
 {
-    swap(alloc, instance.net, instance.states, planned.plan)
-}
-
-/// The cost of a report's plan before modules are exchanged, and after.
-fn costs_of(
-    alloc: Global,
-    instance: &Instance,
-    planned: PlannedReport,
-) -> Result<(u128, u128), NoMemory>
-    requires { IsTranscript (case_of instance.now) instance.now.net.now.notes plan_commands (whole_report planned) }
-{
-    let before = planned.plan.cost;
-    let plan = swapped(alloc, instance, planned)?;
-    Ok((before, plan.cost))
+    match swap(alloc, instance.net, instance.states, plan) {
+        Ok(swapped) => Some(swapped.cost),
+        Err(NoMemory) => None,
+    }
 }
 
 /// What the plan of an instance costs before modules are exchanged and after, in units of the network.
@@ -39,11 +30,10 @@ fn costs<R: Threads + Wait + Sync>(
     alloc: Global,
     instance: &Instance,
 ) -> Option<(u128, u128)> {
-    match plan_once(rt, alloc, instance, &OpenGate) {
-        Ok(LonePlan::Planned(planned)) => costs_of(alloc, instance, planned).ok(),
-        Ok(LonePlan::Separated { .. }) => None,
-        Err(NoMemory) => None,
-    }
+    let plan = planned(rt, alloc, instance)?;
+    let before = plan.cost;
+    let after = swapped_cost(alloc, instance, plan)?;
+    Some((before, after))
 }
 
 /// The costs on the triangle with a demand of 12.00 from A to C, where each link may fail.

@@ -1,0 +1,37 @@
+//! Plans that the tests begin with.
+ghost use Rattle.std.specs.Prelude.{IfSome, length};
+ghost use Rattle.plan_terms.specs.Terms.{AreDemands, case, case_of, IsSurvivable};
+ghost use Rattle.session_run.specs.Transcripts.{IsTranscript};
+ghost use Rattle.lone_plan.specs.LonePlans.{plan_commands, whole_report};
+ghost use Rattle.trim_plan.specs.Trimmed.{IsRoutedPlan};
+
+use lone_plan::{LonePlan, PlannedReport, plan_once};
+use net_core::{Instance, NoMemory};
+use outside_io::OpenGate;
+use plan_types::Plan;
+use std::alloc::Global;
+use std::sync::Wait;
+use std::thread::Threads;
+
+/// The plan of a report.
+fn plan_of(instance: &Instance, planned: PlannedReport) -> Plan
+    requires { IsTranscript (case_of instance.now) instance.now.net.now.notes plan_commands (whole_report planned) }
+    ensures belong { AreDemands (length instance.now.net.now.nodes) result.demands }
+    ensures survivable { IsSurvivable (case instance.now.net.now instance.now.states.now result.demands) }
+    ensures routed { IsRoutedPlan (case instance.now.net.now instance.now.states.now result.demands) result }
+{
+    planned.plan
+}
+
+/// The plan of an instance, where no state separates a demand.
+pub fn planned<R: Threads + Wait + Sync>(rt: &R, alloc: Global, instance: &Instance) -> Option<Plan>
+    ensures belong { IfSome result (λ plan. AreDemands (length instance.now.net.now.nodes) plan.demands) }
+    ensures survivable { IfSome result (λ plan. IsSurvivable (case instance.now.net.now instance.now.states.now plan.demands)) }
+    ensures routed { IfSome result (λ plan. IsRoutedPlan (case instance.now.net.now instance.now.states.now plan.demands) plan) }
+{
+    match plan_once(rt, alloc, instance, &OpenGate) {
+        Ok(LonePlan::Planned(planned)) => Some(plan_of(instance, planned)),
+        Ok(LonePlan::Separated { .. }) => None,
+        Err(NoMemory) => None,
+    }
+}

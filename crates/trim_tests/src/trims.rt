@@ -1,0 +1,151 @@
+//! Tests of trimmed plans, against least costs that another solver found, or that were worked out by hand.
+ghost use Rattle.std.specs.Prelude.{length};
+ghost use Rattle.plan_terms.specs.Terms.{AreDemands, case, IsSurvivable};
+ghost use Rattle.trim_plan.specs.Trimmed.{IsRoutedPlan};
+
+use crate::blocked::are_blocked;
+use crate::planned::planned;
+use net_core::{Demands, Instance, Network, NoMemory, Problem};
+use plan_types::Plan;
+use sample_net::sample;
+use std::alloc::Global;
+use std::sync::Wait;
+use std::thread::Threads;
+use trim_plan::{Trimmed, trim};
+use worked_networks::{DemandRow, LinkRow, PARALLEL, TEN, network, problem, single_failures};
+
+/// The trimmed plan.
+fn trimmed_plan(alloc: Global, instance: &Instance, plan: Plan) -> Option<Trimmed>
+    requires belong { AreDemands (length instance.now.net.now.nodes) plan.demands }
+    requires survivable { IsSurvivable (case instance.now.net.now instance.now.states.now plan.demands) }
+    requires routed { IsRoutedPlan (case instance.now.net.now instance.now.states.now plan.demands) plan }
+{
+    trim(alloc, instance.net, instance.states, plan).ok()
+}
+
+/// The cost of a trimmed plan, and its blocks; none where a block isn't as plain arithmetic has it.
+fn judged(net: &Network, trimmed: &Trimmed) -> Option<(u128, usize)> {
+    if are_blocked(net, trimmed) {
+        Some((trimmed.plan.cost, trimmed.blocks.len()))
+    } else {
+        None
+    }
+}
+
+/// What `judged` says of a plan once it is trimmed.
+fn judged_plan(alloc: Global, instance: &Instance, plan: Plan) -> Option<(u128, usize)>
+    requires belong { AreDemands (length instance.now.net.now.nodes) plan.demands }
+    requires survivable { IsSurvivable (case instance.now.net.now instance.now.states.now plan.demands) }
+    requires routed { IsRoutedPlan (case instance.now.net.now instance.now.states.now plan.demands) plan }
+{
+    match trimmed_plan(alloc, instance, plan) {
+        Some(trimmed) => judged(instance.net, &trimmed),
+        None => None,
+    }
+}
+
+/// A plan's cost, and what `judged` says of the trimmed plan.
+fn trimmed<R: Threads + Wait + Sync>(
+    rt: &R,
+    alloc: Global,
+    instance: &Instance,
+) -> Option<(u128, u128, usize)> {
+    let plan = planned(rt, alloc, instance)?;
+    let before = plan.cost;
+    let (after, blocks) = judged_plan(alloc, instance, plan)?;
+    Some((before, after, blocks))
+}
+
+/// The planning of a network, where each link may fail.
+fn with_failures(alloc: Global, net: Network, demands: Demands) -> Option<Problem>
+    requires { AreDemands (length net.nodes) demands }
+{
+    let states = single_failures(alloc, &net).ok()?;
+    Some(Problem {
+        net,
+        states,
+        demands,
+    })
+}
+
+/// The sample network of a seed with six nodes, where each link may fail.
+fn sample_problem(alloc: Global, seed: u64) -> Option<Problem> {
+    match sample(alloc, seed, 6) {
+        Ok((net, demands)) => with_failures(alloc, net, demands),
+        Err(NoMemory) => None,
+    }
+}
+
+/// The costs of a sample network's plan and of the trimmed plan, and its blocks.
+fn on_sample<R: Threads + Wait + Sync>(
+    rt: &R,
+    alloc: Global,
+    seed: u64,
+) -> Option<(u128, u128, usize)> {
+    let problem = sample_problem(alloc, seed)?;
+    trimmed(rt, alloc, &problem.instance())
+}
+
+/// Whether the trimmed plan of a sample network costs between the least cost and that of the plan.
+fn costs_between<R: Threads + Wait + Sync>(rt: &R, alloc: Global, seed: u64, least: u128) -> bool {
+    match on_sample(rt, alloc, seed) {
+        Some((before, after, _)) => least <= after && after <= before,
+        None => false,
+    }
+}
+
+/// The least costs of sample networks with six nodes, by their seeds, from an integer program over cuts.
+const LEAST: [(u64, u128); 3] = [(1, 269000), (2, 373000), (3, 277000)];
+
+#[test]
+fn trimmed_samples_cost_between_the_least_and_the_plan(rt: HostRuntime) {
+    for (seed, least) in &LEAST {
+        assert!(rt; costs_between(&rt, rt.alloc(), *seed, *least));
+    }
+}
+
+/// Links, a demand, and what the trimmed plan costs and how many blocks it has, where each link may fail.
+type Worked = (usize, &'static [LinkRow<'static>], DemandRow, u128, usize);
+
+/// The triangle with 10.00 on each link, where a detour and the link itself need 12.00 each.
+const FIXED: [LinkRow; 3] = [
+    (0, 1, 10000, &TEN),
+    (1, 2, 10000, &TEN),
+    (0, 2, 10000, &TEN),
+];
+
+/// Four links of which covers take a module each, and one path with its detour takes two.
+const WIDE_MODULES: [LinkRow; 4] = [
+    (0, 1, 0, &TEN),
+    (0, 1, 0, &TEN),
+    (0, 1, 0, &TEN),
+    (0, 1, 0, &TEN),
+];
+
+const WORKED: [Worked; 3] = [
+    (3, &FIXED, (0, 2, 12000), 15000, 3),
+    (2, &WIDE_MODULES, (0, 1, 10000), 10000, 2),
+    (2, &PARALLEL, (0, 1, 10000), 14000, 4),
+];
+
+/// The problem of a row.
+fn worked_problem(alloc: Global, row: &Worked) -> Option<Problem> {
+    let net = network(alloc, row.0, row.1).ok()?;
+    problem(alloc, net, &[row.2]).ok()
+}
+
+/// The cost of a trimmed plan, and the number of its blocks.
+fn worked<R: Threads + Wait + Sync>(rt: &R, alloc: Global, row: &Worked) -> Option<(u128, usize)> {
+    let problem = worked_problem(alloc, row)?;
+    match trimmed(rt, alloc, &problem.instance()) {
+        Some((_, after, blocks)) => Some((after, blocks)),
+        None => None,
+    }
+}
+
+#[test]
+fn trimmed_plans_have_a_block_for_each_module(rt: HostRuntime) {
+    for row in &WORKED {
+        assert!(rt; worked(&rt, rt.alloc(), row) == Some((row.3, row.4)));
+    }
+}
