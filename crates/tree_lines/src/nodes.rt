@@ -1,8 +1,9 @@
-ghost use Rattle.std.specs.Prelude.{◌∷◌, [], All, OnOk, flat_map, map};
+ghost use Rattle.std.specs.Prelude.{◌∷◌, [], All, OnOk, codes, flat_map, map};
+ghost use Rattle.plan_report.specs.Terms.{link_name};
 ghost use Rattle.text_kit.specs.Terms.{Verbatim, Whole};
 ghost use Rattle.comment_lines.specs.Comments.{AddsLines, AddsSpaced, IsOneLine};
 ghost use Rattle.report_comments.specs.ReportComments.{IsOfRouting};
-ghost use Rattle.tree_check.specs.declared.proof.Node.TheVariants.{Split as SplitNode, Stuck as StuckNode};
+ghost use Rattle.tree_check.specs.declared.proof.Node.TheVariants.{Stuck as StuckNode};
 ghost use Rattle.tree_lines.specs.TreeLines.{IsToldNode, box_certificate_items, node_items};
 
 use comment_lines::puts::{put_field, put_whole, put_word};
@@ -30,18 +31,17 @@ fn put_certificate(text: &mut Bytes, word: &[u8], cert: &BoxCert) -> Result<(), 
     put_multipliers(text, cert.lines.items())
 }
 
-/// Puts the words of a split last.
+/// Puts the words of a split last: its link's name, the module's place there and the number.
 fn put_split(
     text: &mut Bytes,
     links: &[Link],
-    demands: &[Demand],
     link: LinkId,
     place: u32,
     number: u64,
 ) -> Result<(), NoMemory>
-    ensures { OnOk result (AddsSpaced text.old (node_items links.now demands.now (SplitNode link place number)) text.new) }
+    ensures { OnOk result (AddsSpaced text.old
+        (Verbatim (codes "split") ∷ Verbatim (link_name links.now link) ∷ Whole place ∷ Whole number ∷ []) text.new) }
 {
-    let _ = demands;
     put_link(text, b"split", links, link)?;
     put_whole(text, place as u128)?;
     put_whole(text, number as u128)
@@ -74,7 +74,7 @@ fn put_words(
     ensures { OnOk result (AddsSpaced text.old (node_items links.now demands.now node.now) text.new) }
 {
     match node {
-        Node::Split { link, module, at } => put_split(text, links, demands, *link, *module, *at),
+        Node::Split { link, module, at } => put_split(text, links, *link, *module, *at),
         Node::Closed(cert) => put_certificate(text, b"closed", cert),
         Node::Empty { cut } => put_field(text, b"empty", *cut as u128),
         Node::Spent(cert) => put_certificate(text, b"spent", cert),
