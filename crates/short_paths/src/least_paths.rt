@@ -7,6 +7,7 @@ ghost use Rattle.short_paths.specs.inner.TightLinks.{AreTables};
 
 use crate::dijkstra::{Search, widened};
 use crate::forward_star::ForwardStar;
+use crate::path_finder::PathFinder;
 use crate::tight_links::{PathFault, way_back};
 use net_core::{Lengths, List, Network, NoMemory, NodeId, Path, StateId, States, Surviving};
 use std::alloc::Global;
@@ -113,46 +114,6 @@ impl<'n> LeastPaths<'n> {
     }
 }
 
-/// The search from a node, which finds the distance from each node to it.
-fn search_to(
-    alloc: Global,
-    star: &ForwardStar,
-    lengths: &[u128],
-    nodes: usize,
-    to: NodeId,
-) -> Result<Search, NoMemory>
-    requires lengths { HaveLengths star.now.arcs lengths.now }
-    requires nodes { length star.now.starts ≡ nodes + 1 }
-    requires to { to.0 < nodes }
-    ensures size { IfOk result (λ s. length s.found.items ≡ nodes) }
-    ensures table { IfOk result (λ s. IsTable (HasArc star.now.arcs) lengths.now FAR to.0 s.found.items) }
-{
-    let mut search = Search::new(alloc, nodes)?;
-    search.run(star, lengths, to);
-    Ok(search)
-}
-
-/// The least path in a surviving graph, under lengths in the width of a search.
-pub(crate) fn path_under(
-    alloc: Global,
-    graph: &Surviving,
-    lengths: &[u128],
-    from: NodeId,
-    to: NodeId,
-) -> Result<Path, PathFault>
-    requires lengths { length lengths.now ≡ length graph.now.net.now.links }
-    requires short { (e : ℕ) → slice_index lengths.now e < 2 ^ 100 }
-    requires long { let g = graph_of graph.now in (e : ℕ) → Survives g e → 0 < slice_index lengths.now e }
-    requires from { from.0 < length graph.now.net.now.nodes }
-    requires to { to.0 < length graph.now.net.now.nodes }
-    ensures found { let g = graph_of graph.now in IfOk result (IsLeastPath (Joins g) lengths.now from.0 to.0) }
-    ensures apart { let g = graph_of graph.now in IsErrOf result PathFault.Apart → AreApart (Joins g) from.0 to.0 }
-{
-    let star = ForwardStar::new(alloc, graph)?;
-    let search = search_to(alloc, &star, lengths, graph.net.nodes().len(), to)?;
-    way_back(alloc, &star, lengths, search.found(), from, to)
-}
-
 /// The least of the shortest paths between two nodes, by the numbers of its links, over the links that survive in the
 /// state. From a node to itself it is the empty path.
 ///
@@ -179,5 +140,6 @@ pub fn least_path(
 {
     let graph = Surviving { net, states, state };
     let wide = widened(alloc, lengths)?;
-    path_under(alloc, &graph, wide.items(), from, to)
+    let mut finder = PathFinder::new(alloc, &graph)?;
+    finder.least_path(wide.items(), from, to)
 }

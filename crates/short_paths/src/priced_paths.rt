@@ -3,7 +3,7 @@ ghost use Rattle.plan_terms.specs.Terms.{Joins, graph, graph_of, AreApart, lengt
 ghost use Rattle.short_paths.specs.PricedPaths.{IsPricedPath};
 ghost use Rattle.short_paths.specs.inner.Scales.{scaled};
 
-use crate::least_paths::path_under;
+use crate::path_finder::PathFinder;
 use crate::tight_links::PathFault;
 use net_core::{Copied, LinkId, List, Network, NoMemory, NodeId, Path, StateId, States, Surviving};
 use std::alloc::Global;
@@ -64,14 +64,8 @@ pub fn priced_path_in(
     ensures found { let g = graph_of graph.now in IfOk result (IsPricedPath (Joins g) prices.now from.0 to.0) }
     ensures apart { let g = graph_of graph.now in IsErrOf result PathFault.Apart → AreApart (Joins g) from.0 to.0 }
 {
-    let lengths = scaled(alloc, prices.items())?;
-    match path_under(alloc, graph, lengths.items(), from, to) {
-        Ok(path) => {
-            let total = total_of(prices.items(), path.items());
-            Ok(PricedPath { path, total })
-        }
-        Err(fault) => Err(fault),
-    }
+    let mut finder = PathFinder::new(alloc, graph)?;
+    finder.cheapest_path(prices.items(), from, to)
 }
 
 /// A path between two nodes whose prices have the least sum over all paths of links that survive in the state.
