@@ -1,4 +1,4 @@
-ghost use Rattle.std.specs.Prelude.{◌≡◌, ◌+◌, ◌<◌, All, IfOk, length};
+ghost use Rattle.std.specs.Prelude.{◌≡◌, ◌+◌, ◌<◌, ◌↔◌, All, IfOk, IsTrue, length};
 ghost use Rattle.std.specs.List.{range_with_len};
 ghost use Rattle.plan_terms.specs.Terms.{AreDemands, IsFlow, Joins, graph, graph_of};
 ghost use Rattle.greedy_router.specs.Left.{IsLeft};
@@ -11,6 +11,7 @@ use crate::sending::send_again;
 use net_core::{
     Caps, Demands, Flow, List, Network, NoMemory, RouteTask, Routing, StateId, States, Surviving,
 };
+use short_paths::PathFinder;
 use std::alloc::Global;
 
 /// A routing, and what it leaves of each demand: the need less the demand's flows, over the scale of the capacities.
@@ -19,6 +20,15 @@ pub struct Left {
     pub routing: Routing,
     /// One number for each demand.
     pub rest: List<u128>,
+}
+
+impl Left {
+    /// Whether all demands are carried: nothing is left of any. It takes time in the demands, and no memory.
+    pub fn is_whole(&self) -> bool
+        ensures { IsTrue result ↔ All (λ r. r ≡ 0) self.now.rest }
+    {
+        self.rest.items().iter().all(|r| *r == 0)
+    }
 }
 
 /// What can be sent along the paths of earlier flows, one after another.
@@ -42,8 +52,9 @@ fn route_missing(alloc: Global, task: &RouteTask, earlier: &[Flow]) -> Result<Dr
     let mut draft = begin_with(alloc, task, earlier)?;
     let demands = task.demands.items();
     let order = by_falling_amount(alloc, draft.rest.items())?;
+    let mut finder = PathFinder::new(alloc, &task.graph)?;
     for k in order.items() {
-        route_demand(alloc, &task.graph, &demands[*k as usize], *k, &mut draft)?;
+        route_demand(alloc, &mut finder, &demands[*k as usize], *k, &mut draft)?;
     }
     Ok(draft)
 }

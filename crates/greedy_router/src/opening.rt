@@ -3,8 +3,8 @@ ghost use Rattle.plan_terms.specs.Terms.{Joins, graph_of};
 ghost use Rattle.greedy_router.specs.Blocked.{IsBlocked};
 ghost use Rattle.greedy_router.specs.inner.FullLinks.{IsOpenPath, full_price};
 
-use net_core::{List, NoMemory, NodeId, Path, Surviving};
-use short_paths::{PathFault, PricedPath, priced_path_in};
+use net_core::{List, NoMemory, NodeId, Path};
+use short_paths::{PathFault, PathFinder, PricedPath};
 use std::alloc::Global;
 
 /// The price of a full link. A path of links that aren't full costs less.
@@ -42,20 +42,21 @@ fn cheap_path(priced: PricedPath) -> Option<Path>
 /// A path of the fewest links that aren't full, if there is one.
 pub fn open_path(
     alloc: Global,
-    graph: &Surviving,
+    finder: &mut PathFinder,
     spares: &[u128],
     from: NodeId,
     to: NodeId,
 ) -> Result<Option<Path>, NoMemory>
-    requires spares { length spares.now ≡ length graph.now.net.now.links }
-    requires from { from.0 < length graph.now.net.now.nodes }
-    requires to { to.0 < length graph.now.net.now.nodes }
-    ensures { let g = graph_of graph.now in IfOk result (λ found. MatchOption found
+    requires spares { length spares.now ≡ length finder.old.graph.net.now.links }
+    requires from { from.0 < length finder.old.graph.net.now.nodes }
+    requires to { to.0 < length finder.old.graph.net.now.nodes }
+    ensures graph { finder.new.graph ≡ finder.old.graph }
+    ensures found { let g = graph_of finder.old.graph in IfOk result (λ found. MatchOption found
         (IsBlocked (Joins g) (λ e. 0 < slice_index spares.now e) from.0 to.0)
         (IsOpenPath (Joins g) spares.now from.0 to.0)) }
 {
     let prices = full_prices(alloc, spares)?;
-    match priced_path_in(alloc, graph, &prices, from, to) {
+    match finder.cheapest_path(prices.items(), from, to) {
         Ok(priced) => Ok(cheap_path(priced)),
         Err(PathFault::Apart) => Ok(None),
         Err(PathFault::NoMemory) => Err(NoMemory),

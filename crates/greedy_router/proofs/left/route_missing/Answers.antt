@@ -18,7 +18,7 @@ pub loop-k-init : goal.loop-k-init
 loop-k-init c =
     let task = c.args.task.now in
     let caps = task.caps.now in
-    routed_none (Joins (graph_of task.graph)) task.demands.now caps.scale caps.nums c.in_ok-draft.draft c.in_ok-draft.ensures
+    (c.in_ok-finder.ensures, routed_none (Joins (graph_of task.graph)) task.demands.now caps.scale caps.nums c.in_ok-draft.draft c.in_ok-draft.ensures)
 
 pub bounds-demands-k : goal.bounds-demands-k
 bounds-demands-k c =
@@ -33,7 +33,7 @@ route_demand-requires-clause-k c =
     let order = c.items-k-items.result.now in
     let moved = moved_places c.items.result.now _ order _ demands c.items.ensures c.in_ok-draft.ensures.rests c.items-k-items.ensures c.in_ok-order.ensures.places in
     let below = place_below (length demands) order c.loop-k.k-index moved c.loop-k-test.true in
-    subst (λ n. get_or order c.loop-k.k-index 0 < n) (sym c.loop-k.invariant.whole.rests) below
+    subst (λ n. get_or order c.loop-k.k-index 0 < n) (sym c.loop-k.invariant.1.whole.rests) below
 
 pub route_demand-requires-clause-from : goal.route_demand-requires-clause-from
 route_demand-requires-clause-from c =
@@ -44,7 +44,7 @@ route_demand-requires-clause-from c =
     let below = place_below (length demands) order c.loop-k.k-index moved c.loop-k-test.true in
     let at : d ≡ get_or demands (get_or order c.loop-k.k-index 0) d = subst (λ (ds : List Demand). d ≡ get_or ds (get_or order c.loop-k.k-index 0) d) c.items-demands.ensures c.index-demands-k.is in
     let known = c.args.task.now.belong.each (get_or order c.loop-k.k-index 0) d below in
-    subst (λ (x : Demand). x.from.0 < length c.args.task.now.graph.net.now.nodes) (sym at) known.from_known
+    subst (λ (x : Demand). x.from.0 < length c.loop-k.finder.graph.net.now.nodes) (sym at) (rw (sym c.loop-k.invariant.0) at known.from_known)
 
 pub route_demand-requires-clause-to : goal.route_demand-requires-clause-to
 route_demand-requires-clause-to c =
@@ -55,7 +55,7 @@ route_demand-requires-clause-to c =
     let below = place_below (length demands) order c.loop-k.k-index moved c.loop-k-test.true in
     let at : d ≡ get_or demands (get_or order c.loop-k.k-index 0) d = subst (λ (ds : List Demand). d ≡ get_or ds (get_or order c.loop-k.k-index 0) d) c.items-demands.ensures c.index-demands-k.is in
     let known = c.args.task.now.belong.each (get_or order c.loop-k.k-index 0) d below in
-    subst (λ (x : Demand). x.to.0 < length c.args.task.now.graph.net.now.nodes) (sym at) known.to_known
+    subst (λ (x : Demand). x.to.0 < length c.loop-k.finder.graph.net.now.nodes) (sym at) (rw (sym c.loop-k.invariant.0) at known.to_known)
 
 pub loop-k-preserved : goal.loop-k-preserved
 loop-k-preserved c =
@@ -68,8 +68,11 @@ loop-k-preserved c =
     let moved = moved_places c.items.result.now _ order _ demands c.items.ensures c.in_ok-draft.ensures.rests c.items-k-items.ensures c.in_ok-order.ensures.places in
     let below = place_below (length demands) order c.loop-k.k-index moved c.loop-k-test.true in
     let at : d ≡ get_or demands (get_or order c.loop-k.k-index 0) d = subst (λ (ds : List Demand). d ≡ get_or ds (get_or order c.loop-k.k-index 0) d) c.items-demands.ensures c.index-demands-k.is in
-    routed_more (Joins (graph_of task.graph)) demands caps.scale caps.nums order c.loop-k.k-index d c.loop-k.draft c.route_demand.new.draft c.loop-k-test.true
-    (slice_get_read demands (length demands) (get_or order c.loop-k.k-index 0) d refl below at) e.adds e.blocked c.loop-k.invariant
+    let same = c.loop-k.invariant.0 in (
+      c.in_ok-route_demand.ensures.graph ∙ same,
+      routed_more (Joins (graph_of task.graph)) demands caps.scale caps.nums order c.loop-k.k-index d c.loop-k.draft c.route_demand.new.draft c.loop-k-test.true
+          (slice_get_read demands (length demands) (get_or order c.loop-k.k-index 0) d refl below at) (rw same at e.adds) (rw same at e.blocked) c.loop-k.invariant.1,
+    )
 
 pub returns : goal.returns
 returns c =
@@ -80,4 +83,4 @@ returns c =
     let moved = moved_places c.items.result.now _ order _ demands c.items.ensures c.in_ok-draft.ensures.rests c.items-k-items.ensures c.in_ok-order.ensures.places in
     let end : c.loop-k.k-index ≡ length order = omega (arith, c.loop-k-test.false, c.loop-k.auto.k-index-end) in
     routed_all (Joins (graph_of task.graph)) demands caps.scale caps.nums order (range_with_len 0 (length demands)) c.loop-k.draft moved
-    (subst (λ xs. AreRouted (Joins (graph_of task.graph)) demands caps.scale caps.nums xs c.loop-k.draft) (ap (λ n. take n order) end ∙ take-length order) c.loop-k.invariant)
+    (subst (λ xs. AreRouted (Joins (graph_of task.graph)) demands caps.scale caps.nums xs c.loop-k.draft) (ap (λ n. take n order) end ∙ take-length order) c.loop-k.invariant.1)
