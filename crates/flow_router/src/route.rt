@@ -133,13 +133,6 @@ fn solved(
     }
 }
 
-/// Whether nothing is left.
-fn is_whole(rest: &[u128]) -> bool
-    ensures { IsTrue result ↔ All (λ r. r ≡ 0) rest.now }
-{
-    rest.iter().all(|r| *r == 0)
-}
-
 /// The answer to numbers that are narrow: a greedy routing that leaves nothing, or that of the routing program.
 fn routed_or_solved(
     alloc: Global,
@@ -153,7 +146,7 @@ fn routed_or_solved(
     ensures same { OnErr result (known.new ≡ known.old) }
 {
     let left = greedy_in(alloc, task)?;
-    if is_whole(left.rest.items()) {
+    if left.is_whole() {
         return Ok(RouteAnswer::Routed(left.routing));
     }
     solved(alloc, task, known)

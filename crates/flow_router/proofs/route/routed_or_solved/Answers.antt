@@ -1,4 +1,3 @@
-use Rattle.std.proofs.Common.{All, ◌≡◌, subst}
 use Rattle.plan_terms.specs.Terms.{graph_of}
 use Rattle.flow_router.proofs.Answering.{greedy_routed}
 use Rattle.flow_router.proofs.route.routed_or_solved.Goals as goal
@@ -8,6 +7,6 @@ returns-then-is_whole c =
     let task = c.args.task.now in
     record {
       answer = greedy_routed (graph_of task.graph) task.demands.now task.caps.now c.in_ok-left.left task.count c.requires.narrow c.in_ok-left.ensures
-          (subst (All (λ r. r ≡ 0)) c.items.ensures (c.is_whole.ensures.0 c.if-is_whole.true));
+          (c.is_whole.ensures.0 c.if-is_whole.true);
       same = tt;
     }
