@@ -2,7 +2,7 @@
 use Rattle.std.proofs.Common.{◌≡◌, ◌≢◌, ◌^◌, ◌<◌, ◌≤◌, inl, inr, ⊎_elim, List, [], ◌++◌, AllPairs, Some, get_or, length, map, take, drop, slice_get, sym, ap, subst, ◌∙◌, arith, option_map}
 use Rattle.net_core.proofs.Library.{get_or-map, length-map, All-push, all_pairs_push, slice_get-map, slice_get_within}
 use Rattle.std.proofs.lemmas.List.{take-append-drop}
-use Rattle.plan_terms.specs.Terms.{Demand, Entry, Network, CutLine, States, Case, graph_in, Joins, case, AreKept, IsCut, IsRight}
+use Rattle.plan_terms.specs.Terms.{Demand, Entry, Network, CutLine, States, Case, graph_in, case, IsCut}
 use Rattle.plan_types.specs.declared.certificate.Spot.{Spot}
 use Rattle.plan_types.specs.declared.certificate.Spot.TheVariants.{Pool}
 use Rattle.metric_cut.specs.Cuts.{IsCutOf}
@@ -12,25 +12,13 @@ use Rattle.master_law.specs.Terms.{IsSameCut}
 use Rattle.plan_law.specs.WorkedLists.{AreDifferentCuts, HasCut}
 use Rattle.turn_lock.specs.Passes.{Seen}
 use Rattle.separator.specs.Separators.{IsLineAt, IsSeenHistory, IsSpotIn, SeesMore}
-use Rattle.separator.proofs.Answering.{line_is}
+use Rattle.separator.proofs.Answering.{line_is, line_is_cut}
 use Rattle.plan_rounds.specs.WorkedRounds.{IsPoolOf, StandAtSpots}
 use Rattle.plan_rounds.specs.inner.Listing.{AreFirstSpots, AreListed, PutsLine, TakesCut}
 use Rattle.plan_rounds.specs.declared.candidates.Candidates.{Candidates}
 use Rattle.separator.proofs.Pooling.{cuts_both}
 use Rattle.plan_rounds.proofs.Seeing.{cuts_differ, stand_later, stand_more}
 use Rattle.net_core.proofs.Lists.{get_front}
-
--- the line of a cut of the case's network is a cut of the case
-pub line_is_cut : (p : Case) (cut : Cut) (line : CutLine) → IsCutOf (graph_in p cut.state.0) cut → IsLineAt p.demands cut line → IsCut p line
-line_is_cut p cut line of is =
-    let back = sym (ap (λ st. st.0) is.state) in
-    let same = sym is.lengths in
-    record {
-      listed_state = subst (λ k. k ≤ length p.listed) back of.listed_state;
-      kept = subst (λ k. AreKept (graph_in p k) line.lengths) back (subst (λ ls. AreKept (graph_in p cut.state.0) ls) same of.kept);
-      right = subst (λ k. IsRight (Joins (graph_in p k)) line.lengths p.demands line.right) back
-          (subst (λ ls. IsRight (Joins (graph_in p cut.state.0)) ls p.demands line.right) same (is.right (graph_in p cut.state.0) of));
-    }
 
 listed_put : (p : Case) (h : List Entry) (line : CutLine) (spot : Spot) (old new : Candidates) → IsCut p line → line.right < 2 ^ 84 → IsSpotIn h (cut_of_line line) spot → AreListed p h old → PutsLine line spot old new → AreListed p h new
 listed_put p h line spot old new is low at are puts = ⊎_elim
@@ -56,7 +44,7 @@ listed_later p net states old new c more seen are = record {
 -- a cut that is admitted comes to the list
 pub listed_take : (p : Case) (h : List Entry) (cut : Cut) (line : CutLine) (spot : Spot) (old new : Candidates) → IsCutOf (graph_in p cut.state.0) cut → IsLineAt p.demands cut line → IsSpotIn h (cut.state.0, cut.lengths) spot → AreListed p h old → PutsLine line spot old new → AreListed p h new
 listed_take p h cut line spot old new of is at are puts =
-    listed_put p h line spot old new (line_is_cut p cut line of is) is.low (subst (λ c. IsSpotIn h c spot) (sym (line_is p.demands cut line is)) at) are puts
+    listed_put p h line spot old new (line_is_cut p cut.state.0 cut line of is) is.low (subst (λ c. IsSpotIn h c spot) (sym (line_is p.demands cut line is)) at) are puts
 
 pub takes_put : (demands : List Demand) (cut : Cut) (line : CutLine) (spot : Spot) (old new : Candidates) → IsLineAt demands cut line → PutsLine line spot old new → TakesCut demands cut old.lines new.lines
 takes_put demands cut line spot old new is puts = ⊎_elim

@@ -9,7 +9,7 @@ use Rattle.plan_law.specs.WorkedLists.{HasCut}
 use Rattle.plan_law.specs.inner.Openings.{IsOpenedTo}
 use Rattle.plan_law.proofs.Begun.{opened_known, opened_new, opened_state, once_few}
 use Rattle.plan_rounds.specs.inner.Listing.{TakesCut, TakesCuts}
-use Rattle.plan_rounds.proofs.Listing.{line_is_cut}
+use Rattle.separator.proofs.Answering.{line_is_cut}
 
 abbrev pub lengths_of_cuts : List Cut → List (List ℕ)
 lengths_of_cuts cuts = map (λ c. c.lengths) cuts
@@ -26,7 +26,7 @@ module _ (p : Case) (pool : List CutLine) (s : ℕ) where
       let is = lacks.1 in
       let state : line.state.0 ≡ s = ap (λ st. st.0) is.state ∙ sym of.state in
       let here : IsCutOf (graph_in p cut.state.0) cut = subst (λ t. IsCutOf (graph_in p t) cut) of.state of in
-      let taken_line = opened_new p pool s taken old o line rest state (line_is_cut p cut line here is) (subst (λ ls. AreOpening (graph_in p s) (taken ++ ls ∷ rest)) (sym is.lengths) opening) lacks.2 in
+      let taken_line = opened_new p pool s taken old o line rest state (line_is_cut p cut.state.0 cut line here is) (subst (λ ls. AreOpening (graph_in p s) (taken ++ ls ∷ rest)) (sym is.lengths) opening) lacks.2 in
       subst (IsOpenedTo p pool s (taken ++ cut.lengths ∷ [])) (sym lacks.3) (subst (λ ls. IsOpenedTo p pool s (taken ++ ls ∷ []) (old ++ line ∷ [])) is.lengths taken_line))
       takes
 

@@ -3,7 +3,8 @@ use Rattle.std.proofs.Common.{◌≡◌, ◌≢◌, ◌∙◌, ℕ, ◌+◌, ◌
 use Rattle.std.proofs.lemmas.List.{append-nil, length-append}
 use Rattle.net_core.proofs.Library.{drop-append-le, All-append, All-cons, All-nil, All-weaker, Contains-append_left, Contains-append_right, front_rest, all_pairs_push}
 use Rattle.std.proofs.lemmas.List.Concat.{flat_map-append}
-use Rattle.plan_terms.specs.Terms.{Demand, Entry, Caps, Network, CutLine, States, Case, graph_in, Joins, AreKept, IsRight, Keeps}
+use Rattle.plan_terms.specs.Terms.{Demand, Entry, Caps, Network, CutLine, States, Case, graph_in, Joins, AreKept, IsCut, IsRight, Keeps}
+use Rattle.metric_cut.specs.Cuts.{IsCutOf}
 use Rattle.metric_cut.specs.declared.cut.Cut.{Cut}
 use Rattle.plan_types.specs.declared.certificate.Spot.{Spot}
 use Rattle.cut_pool.specs.declared.board.Board.{Board}
@@ -36,6 +37,18 @@ at_most_since old new cut only = ⊎_elim
     (λ (one : PoolsMore old new (cut ∷ [])). inr (pools_since old new (cut ∷ []) one))
     only
 
+-- the line of a cut of the case's network is a cut of the case
+pub line_is_cut : (p : Case) (s : ℕ) (cut : Cut) (line : CutLine) → IsCutOf (graph_in p s) cut → IsLineAt p.demands cut line → IsCut p line
+line_is_cut p s cut line of is =
+    let there : s ≡ line.state.0 = of.state ∙ sym (ap (λ st. st.0) is.state) in
+    let same : cut.lengths ≡ line.lengths = sym is.lengths in
+    record {
+      listed_state = subst (λ k. k ≤ length p.listed) there of.listed_state;
+      kept = subst (λ k. AreKept (graph_in p k) line.lengths) there (subst (AreKept (graph_in p s)) same of.kept);
+      right = subst (λ k. IsRight (Joins (graph_in p k)) line.lengths p.demands line.right) there
+          (subst (λ ls. IsRight (Joins (graph_in p s)) ls p.demands line.right) same (is.right (graph_in p s) of));
+    }
+
 module _ (p : Case) (caps : Caps) (s : ℕ) (cut : Cut) (line : CutLine) (found : IsFoundCutOf (graph_in p s) p.demands caps cut) (is : IsLineAt p.demands cut line) where
   -- its state is the one that was asked
   pub state_asked : line.state.0 ≡ s
@@ -46,15 +59,9 @@ module _ (p : Case) (caps : Caps) (s : ℕ) (cut : Cut) (line : CutLine) (found 
   line_separates =
       let there : s ≡ line.state.0 = sym state_asked in
       let same : cut.lengths ≡ line.lengths = sym is.lengths in
-      let right = is.right (graph_in p s) found.of in
-      let violated = found.violated line.right right in
+      let violated = found.violated line.right (is.right (graph_in p s) found.of) in
       record {
-        cut = record {
-          listed_state = subst (λ k. k ≤ length p.listed) there found.of.listed_state;
-          kept = subst (λ k. AreKept (graph_in p k) line.lengths) there (subst (AreKept (graph_in p s)) same found.of.kept);
-          right = subst (λ k. IsRight (Joins (graph_in p k)) line.lengths p.demands line.right) there
-              (subst (λ ls. IsRight (Joins (graph_in p s)) ls p.demands line.right) same right);
-        };
+        cut = line_is_cut p s cut line found.of is;
         violated = subst (λ ls. sum_by (λ x. x.0 * x.1) (zip ls caps.nums) < line.right * caps.scale) same violated;
         lengths = found.lengths;
         priced = found.priced;
