@@ -1,6 +1,6 @@
 -- flows that are multiplied one after another
-use Rattle.std.proofs.Common.{◌≡◌, ℕ, ◌+◌, ◌*◌, ◌^◌, ◌<◌, ◌≤◌, ◌++◌, List, [], ◌∷◌, All, None, Some, length, get_or, map, take, slice_get, slice_set, remove, refl, sym, ap, ◌∙◌, subst, arith}
-use Rattle.std.proofs.lemmas.List.{get_or-set_other, length-set, take_all}
+use Rattle.std.proofs.Common.{◌≡◌, ℕ, ◌+◌, ◌*◌, ◌^◌, ◌<◌, ◌≤◌, ◌++◌, List, [], ◌∷◌, All, length, get_or, map, reverse, take, slice_set, refl, sym, ap, ◌∙◌, subst, arith}
+use Rattle.std.proofs.lemmas.List.{get_or-set_other, length-set, reverse-append, take_all}
 use Rattle.net_core.proofs.Library.{map-append, take_more, take_more_set, get_or_default}
 use Rattle.plan_terms.specs.Terms.{Flow}
 use Rattle.route_law.specs.Terms.{flow_times}
@@ -45,10 +45,9 @@ multiplied_fits factor n old new d lt sofar all =
     let same : (get_or new n d).num * factor ≡ factor * (get_or old n d).num = ap (λ (f : Flow). f.num * factor) (sofar.rest n d (omega arith)) ∙ swap (get_or old n d).num factor in
     omega (arith, at, same)
 
--- the first item, and the others
-pub first_of : {X : Type 0} (xs rest : List X) (x : X) → slice_get xs 0 ≡ Some x → rest ≡ remove xs 0 → xs ≡ x ∷ rest
-first_of [] rest x at is = absurd (let e : None ≡ Some x = at in cc e)
-first_of (y ∷ ys) rest x at is = let e : Some y ≡ Some x = at in let r : rest ≡ ys = is in cc (e, r)
+-- the last item is the first of the reverse
+pub last_first : {X : Type 0} (xs rest : List X) (x : X) → xs ≡ rest ++ x ∷ [] → reverse xs ≡ x ∷ reverse rest
+last_first xs rest x is = ap reverse is ∙ reverse-append rest (x ∷ [])
 
 -- a list without items
 pub none_left : {X : Type 0} (xs : List X) → length xs ≡ 0 → xs ≡ []

@@ -29,9 +29,9 @@ fn take_cuts<S: Separate>(
     ensures taken { OnOk result (TakesCuts instance.now.demands.now cuts candidates.old.lines candidates.new.lines) }
     ensures alone { OnOk result ∥ PoolsOpening (S.seen_of separator.old) (S.seen_of separator.new) candidates.old.lines candidates.new.lines ∥₁ }
 {
-    let mut left = cuts;
-    while left.len() > 0 {
-        let cut = left.remove(0);
+    let mut left = cuts.into_vec();
+    left.reverse();
+    while let Some(cut) = left.pop() {
         take_cut(instance, cut, separator, candidates)?;
     }
     Ok(())

@@ -55,10 +55,10 @@ pub fn sorted(alloc: Global, answers: List<StateAnswer>) -> Result<Answered, NoM
         },
         wide: None,
     };
-    let mut left = answers;
-    while left.len() > 0 {
-        let StateAnswer { answer, .. } = left.remove(0);
-        put_answer(answer, &mut answered)?;
+    let mut left = answers.into_vec();
+    left.reverse();
+    while let Some(next) = left.pop() {
+        put_answer(next.answer, &mut answered)?;
     }
     Ok(answered)
 }

@@ -1,39 +1,44 @@
-use Rattle.std.proofs.Common.{◌≡◌, ◌+◌, List, [], ◌∷◌, ◌++◌, ap, length, map, arith, refl, subst, sym, ◌∙◌}
-use Rattle.std.proofs.lemmas.List.{append-nil}
+use Rattle.std.proofs.Common.{◌≡◌, ◌+◌, List, [], ◌++◌, ap, length, map, arith, reverse, subst, sym, ◌∙◌}
+use Rattle.std.proofs.lemmas.List.{append-nil, reverse-reverse}
 use Rattle.cut_pool.specs.Terms.{cut_of_line}
 use Rattle.separator.specs.Separators.{cuts_answered}
 use Rattle.separator.specs.declared.answers.StateAnswer.{StateAnswer}
 use Rattle.plan_rounds.specs.inner.Answered.{AreSorted}
-use Rattle.plan_rounds.proofs.Answering.{AreAnswersFrom, found_more, answers_rest, answers_some, sorted_more}
-use Rattle.plan_rounds.proofs.Multiplying.{first_of}
+use Rattle.plan_rounds.proofs.Answering.{AreAnswersFrom, answers_all, found_more, answers_rest, answers_some, sorted_more, sorted_none}
+use Rattle.plan_rounds.proofs.Multiplying.{last_first, none_left}
 use Rattle.plan_rounds.proofs.sorting.sorted.Goals as goal
 
-pub loop-left-preserved : goal.loop-left-preserved
-loop-left-preserved c = (
+pub loop-next-init : goal.loop-next-init
+loop-next-init c =
+    let same : reverse c.reverse.new.self.items ≡ c.args.answers = ap reverse c.reverse.ensures.items ∙ (reverse-reverse _ ∙ c.into_vec-left.ensures) in (
+      λ p caps history are. (0, subst (AreAnswersFrom p caps history 0) (sym same) (answers_all p caps history c.args.answers are), rw (c.new.ensures, c.new-2.ensures, c.new-3.ensures) (sorted_none p caps history)),
+      rw c.new-2.ensures (ap cuts_answered same),
+    )
+
+pub loop-next-preserved : goal.loop-next-preserved
+loop-next-preserved c = (
   λ p caps history are.
-      let so_far = c.loop-left.invariant.0 p caps history are in
+      let so_far = c.loop-next.invariant.0 p caps history are in
       let n = so_far.0 in
-      let a = c.remove-answer.result in
-      let rest = c.remove-answer.new.self in
-      let first = first_of c.loop-left.left rest a c.remove-answer.ensures.item c.remove-answer.ensures.items in
+      let a = c.in-Some.next in
+      let rest = reverse c.pop.new.self.items in
+      let first = last_first c.loop-next.left.items c.pop.new.self.items a c.in-Some.ensures.items in
       let here = subst (AreAnswersFrom p caps history n) first so_far.1 in
       let parts = answers_rest p caps history n a rest here in
-      (n + 1, parts.1, sorted_more p caps history n a.answer c.loop-left.answered c.put_answer.new.answered (answers_some p caps history n a rest here) so_far.2 parts.0 c.in_ok-put_answer.ensures.short c.in_ok-put_answer.ensures.puts),
-  found_more c.remove-answer.result c.remove-answer.new.self c.loop-left.answered c.put_answer.new.answered c.in_ok-put_answer.ensures.puts
-      ∙ (ap (λ (xs : List StateAnswer). map cut_of_line c.loop-left.answered.found.lines ++ cuts_answered xs) (sym (first_of c.loop-left.left c.remove-answer.new.self c.remove-answer.result c.remove-answer.ensures.item c.remove-answer.ensures.items)) ∙ c.loop-left.invariant.1),
+      (n + 1, parts.1, sorted_more p caps history n a.answer c.loop-next.answered c.put_answer.new.answered (answers_some p caps history n a rest here) so_far.2 parts.0 c.in_ok-put_answer.ensures.short c.in_ok-put_answer.ensures.puts),
+  found_more c.in-Some.next (reverse c.pop.new.self.items) c.loop-next.answered c.put_answer.new.answered c.in_ok-put_answer.ensures.puts
+      ∙ (ap (λ (xs : List StateAnswer). map cut_of_line c.loop-next.answered.found.lines ++ cuts_answered xs) (sym (last_first c.loop-next.left.items c.pop.new.self.items c.in-Some.next c.in-Some.ensures.items)) ∙ c.loop-next.invariant.1),
 )
 
 pub returns-clause-found : goal.returns-clause-found
 returns-clause-found c =
-    let none : c.loop-left.left ≡ [] = empty c.loop-left.left (omega (arith, c.loop-left-test.false)) in
-    sym (append-nil (map cut_of_line c.loop-left.answered.found.lines)) ∙ (ap (λ (xs : List StateAnswer). map cut_of_line c.loop-left.answered.found.lines ++ cuts_answered xs) (sym none) ∙ c.loop-left.invariant.1)
-  where
-    empty : {X : Type 0} (xs : List X) → length xs ≡ 0 → xs ≡ []
-    empty [] same = refl
-    empty (x ∷ xs) same = absurd (omega (arith, same))
+    let none : c.loop-next.left.items ≡ [] = none_left c.loop-next.left.items (omega (arith, c.in_default.ensures.cases)) in
+    sym (append-nil (map cut_of_line c.loop-next.answered.found.lines))
+    ∙ (ap (λ (xs : List StateAnswer). map cut_of_line c.loop-next.answered.found.lines ++ cuts_answered (reverse xs)) (sym none) ∙ c.loop-next.invariant.1)
 
 pub returns-clause-sorted : goal.returns-clause-sorted
 returns-clause-sorted c p caps history are =
-    let so_far = c.loop-left.invariant.0 p caps history are in
-    let all : so_far.0 ≡ length p.listed + 1 = omega (arith, so_far.1.count, c.loop-left-test.false) in
-    subst (λ n. AreSorted p caps history n c.loop-left.answered) all so_far.2
+    let so_far = c.loop-next.invariant.0 p caps history are in
+    let none : c.loop-next.left.items ≡ [] = none_left c.loop-next.left.items (omega (arith, c.in_default.ensures.cases)) in
+    let all : so_far.0 ≡ length p.listed + 1 = omega (arith, so_far.1.count, ap (λ (xs : List StateAnswer). length (reverse xs)) none) in
+    subst (λ n. AreSorted p caps history n c.loop-next.answered) all so_far.2
