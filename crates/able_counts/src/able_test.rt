@@ -2,7 +2,7 @@ ghost use Rattle.std.specs.Prelude.{◌≡◌, ◌^◌, ◌+◌, ◌<◌, Some, 
 ghost use Rattle.plan_terms.specs.Terms.{Routing, case_of, AreCounts, AreWithinLimits, capacities, IsSurvivable};
 ghost use Rattle.able_counts.specs.AbleTests.{AreKeptOrWithin, AreRoutingsWithin, IsRoutingWithin, IsRoutingOf, IsStopAt, IsTestOf, whole_caps};
 
-use crate::cuts::last_violated;
+use crate::cuts::{known_cut, last_violated};
 use crate::nodes::short_state;
 use crate::quick::{quick_stop, set_stop};
 use crate::routed::state_stop;
@@ -50,6 +50,19 @@ impl AbleTest {
             routings,
             refused: 0,
         })
+    }
+
+    /// Keeps a cut of the state and the lengths of a given one, with the right side of the demands; nothing where these make no cut.
+    /// It takes the time and the memory of `Cut::new`.
+    pub fn know(&mut self, instance: &Instance, given: &CutLine) -> Result<(), NoMemory>
+        requires sound { IsTestOf (case_of instance.now) self.old }
+        ensures sound { IsTestOf (case_of instance.now) self.new }
+        ensures routings { self.new.routings ≡ self.old.routings }
+    {
+        if let Some(line) = known_cut(self.alloc, instance, given)? {
+            self.cuts.push(line)?;
+        }
+        Ok(())
     }
 
     /// The routings, one for each state: within the capacities of the last counts that carry the demands, as long as no others were asked.

@@ -1,8 +1,10 @@
 ghost use Rattle.std.specs.Prelude.{◌≡◌, ◌^◌, ◌≤◌, ◌<◌, All, Contains, IfOk, IfSome, length};
-ghost use Rattle.plan_terms.specs.Terms.{Violates};
+ghost use Rattle.plan_terms.specs.Terms.{IsCut, Violates, case_of};
 
-use metric_cut::violated_by;
-use net_core::{Caps, Copied, CutLine, NoMemory};
+use metric_cut::{Cut, violated_by};
+use net_core::{Caps, Copied, CutLine, Instance, NoMemory};
+use separator::line_of;
+use std::alloc::Global;
 
 /// A copy of the last of some cuts that the capacities violate.
 pub(crate) fn last_violated(cuts: &[CutLine], caps: &Caps) -> Result<Option<CutLine>, NoMemory>
@@ -19,4 +21,24 @@ pub(crate) fn last_violated(cuts: &[CutLine], caps: &Caps) -> Result<Option<CutL
         }
     }
     Ok(None)
+}
+
+/// The cut of a given one's state and lengths, with its right side at the demands, where these make one.
+pub(crate) fn known_cut(
+    alloc: Global,
+    instance: &Instance,
+    given: &CutLine,
+) -> Result<Option<CutLine>, NoMemory>
+    ensures { IfOk result (λ o. IfSome o (IsCut (case_of instance.now))) }
+{
+    if given.state.0 >= instance.states.count()
+        || given.lengths.len() != instance.net.links().len()
+    {
+        return Ok(None);
+    }
+    let graph = instance.in_state(given.state);
+    match Cut::in_graph(alloc, &graph, given.lengths.copy()?)? {
+        Some(cut) => Ok(Some(line_of(&cut, instance.demands)?)),
+        None => Ok(None),
+    }
 }

@@ -10,13 +10,6 @@ use node_sets::grown_set;
 use separator::line_of;
 use std::alloc::Global;
 
-/// Whether no demand has a rest.
-fn leaves_nothing(rest: &[u128]) -> bool
-    ensures { IsTrue result → All (λ r. r ≡ 0) rest.now }
-{
-    rest.iter().all(|r| *r == 0)
-}
-
 /// A routing within capacities in a state that begins with the paths of an earlier one, where greedy steps carry all demands.
 /// It takes time in the square of the nodes for each demand that its earlier paths don't carry.
 fn mended(
@@ -39,7 +32,7 @@ fn mended(
         caps,
     };
     let left = greedy_after(alloc, &task, earlier)?;
-    if leaves_nothing(left.rest.items()) {
+    if left.is_whole() {
         Ok(Some(left.routing))
     } else {
         Ok(None)
