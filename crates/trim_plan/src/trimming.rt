@@ -1,5 +1,6 @@
 ghost use Rattle.std.specs.Prelude.{◌≡◌, IfOk, length};
 ghost use Rattle.plan_terms.specs.Terms.{AreDemands, case, case_of, IsSurvivable};
+ghost use Rattle.able_counts.specs.AbleTests.{IsTestOf};
 ghost use Rattle.trim_plan.specs.Trimmed.{IsRoutedPlan, IsTrimming};
 ghost use Rattle.trim_plan.specs.inner.Sparing.{AreTrimmedCounts};
 
@@ -8,7 +9,7 @@ use crate::sparing::spare_modules;
 use able_counts::{AbleTest, Stop};
 use module_choice::cost;
 use net_core::{Copied, Counts, Instance, LinkId, List, Network, NoMemory, Routing, States};
-use plan_types::Plan;
+use plan_types::{Certificate, Plan};
 use std::alloc::Global;
 
 /// What keeps a module: with one less of it the counts aren't known to carry the demands.
@@ -36,6 +37,23 @@ pub struct Trimming {
     pub blocks: List<Block>,
 }
 
+/// Tells a test the cuts of a plan's certificate, so that it asks the states about fewer counts. It takes the time and the memory of
+/// `AbleTest::know` for each.
+pub fn know_certificate(
+    instance: &Instance,
+    certificate: &Certificate,
+    test: &mut AbleTest,
+) -> Result<(), NoMemory>
+    requires sound { IsTestOf (case_of instance.now) test.old }
+    ensures sound { IsTestOf (case_of instance.now) test.new }
+    ensures routings { test.new.routings ≡ test.old.routings }
+{
+    for line in certificate.lines.items() {
+        test.know(instance, &line.cut)?;
+    }
+    Ok(())
+}
+
 /// The trimmed counts of a plan.
 fn trimmed_counts(alloc: Global, instance: &Instance, plan: &Plan) -> Result<Trimming, NoMemory>
     requires survivable { IsSurvivable (case_of instance.now) }
@@ -45,6 +63,7 @@ fn trimmed_counts(alloc: Global, instance: &Instance, plan: &Plan) -> Result<Tri
 {
     let mut counts = plan.counts.copy()?;
     let mut test = AbleTest::new(alloc, instance, plan.routings.copy()?)?;
+    know_certificate(instance, &plan.certificate, &mut test)?;
     spare_modules(alloc, instance, &mut test, &mut counts)?;
     let blocks = settled_blocks(alloc, instance, &mut test, &mut counts)?;
     let cost = cost(instance.net, &counts);
@@ -79,7 +98,7 @@ fn with_counts(plan: Plan, t: Trimming) -> Trimmed
 ///
 /// On the triangle with modules of 10.00 for 5.00, of which the link AC has two for a demand of 12.00 from A to C, none can be spared: AC's
 /// block is the cut of the lengths 1 0 1, which separate A. It asks once for each module that is taken off and twice for each that is left; most are
-/// refused by a cut that is known. It takes the memory of the routings twice, and of the cuts that it finds.
+/// refused by a cut that is known, such as those of the plan's certificate. It takes the memory of the routings twice, and of the cuts that it finds.
 pub fn trim(alloc: Global, net: &Network, states: &States, plan: Plan) -> Result<Trimmed, NoMemory>
     requires belong { AreDemands (length net.now.nodes) plan.demands }
     requires survivable { IsSurvivable (case net.now states.now plan.demands) }

@@ -20,11 +20,11 @@ pub spare_modules-requires-clause-routed : goal.spare_modules-requires-clause-ro
 spare_modules-requires-clause-routed c =
     let p = case_of c.args.instance.now in
     let plan = c.args.plan.now in
-    subst (λ (cs : List (List ℕ)). AreRoutedCounts p cs c.in_ok-test.test) (sym c.in_ok-counts.ensures) (record {
+    subst (λ (cs : List (List ℕ)). AreRoutedCounts p cs c.know_certificate.new.test) (sym c.in_ok-counts.ensures) (record {
       shape = c.requires.routed.form.counts;
       limits = c.requires.routed.form.limits;
-      test = c.in_ok-test.ensures.sound;
-      routings = subst (AreRoutingsWithin p (capacities p.links plan.counts)) (sym (c.in_ok-test.ensures.routings ∙ c.in_ok-copy.ensures)) (plan_routings p plan c.requires.demands c.requires.routed);
+      test = c.know_certificate.ensures.sound;
+      routings = subst (AreRoutingsWithin p (capacities p.links plan.counts)) (sym (c.know_certificate.ensures.routings ∙ (c.in_ok-test.ensures.routings ∙ c.in_ok-copy.ensures))) (plan_routings p plan c.requires.demands c.requires.routed);
     })
 
 pub returns : goal.returns
