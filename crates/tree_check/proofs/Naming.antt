@@ -11,16 +11,17 @@ use Rattle.tree_check.specs.Trees.{TreeBox}
 use Rattle.tree_check.specs.declared.line.Line.{Line}
 use Rattle.tree_check.specs.declared.proof.BoxCert.{BoxCert}
 use Rattle.tree_check.specs.declared.tested.Tested.{Tested}
-use Rattle.tree_check.specs.inner.Testing.{IsSoundAt, IsTestOf, test_at, weighed}
+use Rattle.tree_check.specs.Testing.{IsTestedAs}
+use Rattle.tree_check.specs.inner.Testing.{IsSoundAt, test_at, weighed}
 
 -- a cut and its test, at one place of the lists
 record TestAt (p : Case) (cuts : List CutLine) (tested : List Tested) (i : ℕ) : Type 0 where
   cut : CutLine
   at : slice_get cuts i ≡ Some cut
   inside : i < length tested
-  is : IsTestOf p cut (test_at tested i)
+  is : IsTestedAs p cut (test_at tested i)
 
-test_of : (p : Case) (cuts : List CutLine) (tested : List Tested) (i : ℕ) → AllZip (IsTestOf p) cuts tested → i < length tested → TestAt p cuts tested i
+test_of : (p : Case) (cuts : List CutLine) (tested : List Tested) (i : ℕ) → AllZip (IsTestedAs p) cuts tested → i < length tested → TestAt p cuts tested i
 test_of p cuts [] i all lt = absurd (omega arith)
 test_of p [] (t ∷ ts) i all lt = absurd all
 test_of p (c ∷ cs) (t ∷ ts) zero all lt = record { cut = c; at = refl; inside = omega arith; is = all.0 }
@@ -28,16 +29,16 @@ test_of p (c ∷ cs) (t ∷ ts) (suc i) all lt =
     let there = test_of p cs ts i all.1 (omega arith) in
     record { cut = there.cut; at = there.at; inside = let le = there.inside in omega arith; is = there.is }
 
-test_for : (p : Case) (cuts : List CutLine) (tested : List Tested) (i : ℕ) (cut : CutLine) → AllZip (IsTestOf p) cuts tested → slice_get cuts i ≡ Some cut → (i < length tested) × IsTestOf p cut (test_at tested i)
+test_for : (p : Case) (cuts : List CutLine) (tested : List Tested) (i : ℕ) (cut : CutLine) → AllZip (IsTestedAs p) cuts tested → slice_get cuts i ≡ Some cut → (i < length tested) × IsTestedAs p cut (test_at tested i)
 test_for p [] tested i cut all at = absurd (cc at)
 test_for p (c ∷ cs) [] i cut all at = absurd all
-test_for p (c ∷ cs) (t ∷ ts) zero cut all at = (omega arith, subst (λ (x : CutLine). IsTestOf p x t) (cc at) all.0)
+test_for p (c ∷ cs) (t ∷ ts) zero cut all at = (omega arith, subst (λ (x : CutLine). IsTestedAs p x t) (cc at) all.0)
 test_for p (c ∷ cs) (t ∷ ts) (suc i) cut all at = let there = test_for p cs ts i cut all.1 at in (omega (arith, there.0), there.1)
 
 same_weighted : (t : WeightedLine) (line : Line) (num : ℕ) → t.line ≡ line → t.num ≡ num → t ≡ record { line = line; num = num }
 same_weighted t line num its own = ap (λ (l : Line). record { line = l; num = t.num }) its ∙ ap (λ (n : ℕ). record { line = line; num = n }) own
 
-module _ (p : Case) (cuts : List CutLine) (tested : List Tested) (all : AllZip (IsTestOf p) cuts tested) where
+module _ (p : Case) (cuts : List CutLine) (tested : List Tested) (all : AllZip (IsTestedAs p) cuts tested) where
   -- the index of a sound cut names its line
   pub sound_names : (i : ℕ) → IsSoundAt tested i → NamesLine p cuts i (test_at tested i).line
   sound_names i sound =

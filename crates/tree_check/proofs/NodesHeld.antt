@@ -11,8 +11,9 @@ use Rattle.tree_check.specs.declared.nodes.Held.TheVariants.{Settled, Open}
 use Rattle.tree_check.specs.declared.proof.BoxCert.{BoxCert}
 use Rattle.tree_check.specs.declared.proof.Node.TheVariants.{Spent, Stuck}
 use Rattle.tree_check.specs.declared.tests.Tests.{Tests}
+use Rattle.tree_check.specs.Testing.{AreTests, HasValueIn, names_in}
 use Rattle.tree_check.specs.inner.Testing.{IsSoundAt, test_at, weighed}
-use Rattle.tree_check.specs.inner.Walking.{AreTests, HasValueIn, IsHeldIn, names_in}
+use Rattle.tree_check.specs.inner.Walking.{IsHeldIn}
 use Rattle.tree_check.proofs.Naming.{named_is_sound, sound_are_named, sound_names, value_of_sound, value_once}
 
 module _ (t : Tests) (are : AreTests t) (box : TreeBox) where

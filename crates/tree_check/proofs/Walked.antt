@@ -19,8 +19,8 @@ use Rattle.tree_check.specs.declared.proof.Verdict.TheVariants.{Cheapest}
 use Rattle.tree_check.specs.declared.tested.Tested.{Tested}
 use Rattle.tree_check.specs.declared.tests.Tests.{Tests}
 use Rattle.tree_check.specs.declared.walk.Found.{Found}
-use Rattle.tree_check.specs.inner.Testing.{IsTestOf}
-use Rattle.tree_check.specs.inner.Walking.{AreTests, CannotTake, HasWalked, HaveShape, IsFoundOf, IsHeldAs, TakesBox, TakesIfAny, names_in, with_held}
+use Rattle.tree_check.specs.Testing.{AreTests, IsTestedAs, names_in}
+use Rattle.tree_check.specs.inner.Walking.{CannotTake, HasWalked, HaveShape, IsFoundOf, IsHeldAs, TakesBox, TakesIfAny, with_held}
 use Rattle.tree_check.proofs.LeftBoxes.{left_more, shape_set, whole_shape}
 use Rattle.tree_check.proofs.Naming.{value_once}
 
@@ -52,7 +52,7 @@ taken_shape names p cost node old new held shape takes =
 
 -- ---- a node more
 
-module _ (p : Case) (proof : Proof) (tested : List Tested) (all : AllZip (IsTestOf p) proof.cuts tested) where
+module _ (p : Case) (proof : Proof) (tested : List Tested) (all : AllZip (IsTestedAs p) proof.cuts tested) where
   abbrev names : ℕ → Line → Type 0
   names = NamesLine p proof.cuts
 
@@ -218,7 +218,7 @@ module _ (t : Tests) (proof : Proof) (are : AreTests t) (cuts : proof.cuts ≡ t
       let p = case_of t.instance.now in
       let taken = subst (TakesIfAny t node old new) is takes in
       let own = subst (λ (c : ℕ). TakesBox (names_in t) p c node old new held) (sym cost) taken in
-      walked_more p proof t.tested.now (subst (λ (cs : List CutLine). AllZip (IsTestOf p) cs t.tested.now) (sym cuts) are) n node old new held found at walked
+      walked_more p proof t.tested.now (subst (λ (cs : List CutLine). AllZip (IsTestedAs p) cs t.tested.now) (sym cuts) are) n node old new held found at walked
       (subst (λ (cs : List CutLine). TakesBox (NamesLine p cs) p proof.plan.cost node old new held) (sym cuts) own)
 
   pub stops_by_tests : (n : ℕ) (node : Node) (old new : List TreeBox) (found : Found) (o : Option Held) → n < length proof.tree → slice_get proof.tree n ≡ Some node

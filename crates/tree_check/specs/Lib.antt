@@ -2,6 +2,7 @@ pub mod Boxes
 pub mod Lines
 pub mod BoxValues
 pub mod Trees
+pub mod Testing
 pub mod Proofs
 pub mod Laws
 pub mod Terms

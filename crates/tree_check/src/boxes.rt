@@ -40,7 +40,7 @@ fn span_in(spans: &[Span], m: usize) -> Span
 }
 
 /// The span of a module; all counts where there is no such module.
-pub(crate) fn span_at(boxed: &[List<Span>], e: usize, m: usize) -> Span
+pub fn span_at(boxed: &[List<Span>], e: usize, m: usize) -> Span
     ensures { result ≡ span_at boxed.now e m }
 {
     if e < boxed.len() {
@@ -51,7 +51,7 @@ pub(crate) fn span_at(boxed: &[List<Span>], e: usize, m: usize) -> Span
 }
 
 /// Whether a box can be split at a module and a number: the number is at least its least count, and below its greatest.
-pub(crate) fn is_split(boxed: &[List<Span>], e: usize, m: usize, at: u64) -> bool
+pub fn is_split(boxed: &[List<Span>], e: usize, m: usize, at: u64) -> bool
     ensures { IsTrue result ↔ IsSplitOf boxed.now e m at }
 {
     if e >= boxed.len() || m >= boxed[e].len() {
@@ -92,7 +92,7 @@ fn with_span(boxed: &Boxed, e: usize, m: usize, span: Span) -> Result<Boxed, NoM
 }
 
 /// The side of a split with at most `at` modules of the kind.
-pub(crate) fn lower_side(boxed: &Boxed, e: usize, m: usize, at: u64) -> Result<Boxed, NoMemory>
+pub fn lower_side(boxed: &Boxed, e: usize, m: usize, at: u64) -> Result<Boxed, NoMemory>
     requires { IsSplitOf boxed.now e m at }
     ensures { IfOk result (λ box. box ≡ with_span boxed.now e m (up_to at (span_at boxed.now e m))) }
 {
@@ -109,7 +109,7 @@ pub(crate) fn lower_side(boxed: &Boxed, e: usize, m: usize, at: u64) -> Result<B
 }
 
 /// The side of a split with more of them.
-pub(crate) fn upper_side(boxed: &Boxed, e: usize, m: usize, at: u64) -> Result<Boxed, NoMemory>
+pub fn upper_side(boxed: &Boxed, e: usize, m: usize, at: u64) -> Result<Boxed, NoMemory>
     requires { IsSplitOf boxed.now e m at }
     ensures { IfOk result (λ box. box ≡ with_span boxed.now e m (beyond at (span_at boxed.now e m))) }
 {

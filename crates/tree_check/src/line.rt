@@ -61,7 +61,7 @@ fn number_in(numbers: &[u128], m: usize) -> u128
 }
 
 /// The coefficient of a module; 0 where there is no such module.
-pub(crate) fn coefficient(line: &Line, e: usize, m: usize) -> u128
+pub fn coefficient(line: &Line, e: usize, m: usize) -> u128
     ensures { result ≡ entry line.now.coefs e m }
 {
     let coefs = line.coefs.items();

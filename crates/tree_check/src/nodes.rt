@@ -2,7 +2,8 @@ ghost use Rattle.std.specs.Prelude.{◌≡◌, ◌↔◌, ℕ, false, true, IfOk
 ghost use Rattle.plan_terms.specs.Terms.{AreCounts, case_of};
 ghost use Rattle.tree_check.specs.Boxes.{IsFixedBox, least_counts};
 ghost use Rattle.tree_check.specs.Proofs.{ClosesBox, EmptiesBox, IsEvidenceAt};
-ghost use Rattle.tree_check.specs.inner.Walking.{AreTests, HasValueIn, IsHeldIn, names_in};
+ghost use Rattle.tree_check.specs.Testing.{AreTests, HasValueIn, names_in};
+ghost use Rattle.tree_check.specs.inner.Walking.{IsHeldIn};
 
 use crate::boxes::{Boxed, is_split};
 use crate::emptied::is_emptied;
@@ -25,7 +26,7 @@ pub(crate) enum Held {
 }
 
 /// The value of a certificate for a box; none where it is no certificate of it.
-fn value_in(tests: &Tests, boxed: &Boxed, cert: &BoxCert) -> Option<u128>
+pub fn value_in(tests: &Tests, boxed: &Boxed, cert: &BoxCert) -> Option<u128>
     requires { AreTests tests.now }
     ensures { MatchOption result ((v : ℕ) → HasValueIn tests.now boxed.now cert.now v → ⊥) (HasValueIn tests.now boxed.now cert.now) }
 {
@@ -38,7 +39,7 @@ fn value_in(tests: &Tests, boxed: &Boxed, cert: &BoxCert) -> Option<u128>
 }
 
 /// Whether a certificate closes a box.
-fn is_closed(tests: &Tests, boxed: &Boxed, cert: &BoxCert) -> bool
+pub fn is_closed(tests: &Tests, boxed: &Boxed, cert: &BoxCert) -> bool
     requires { AreTests tests.now }
     ensures { IsTrue result ↔ ClosesBox (names_in tests.now) tests.now.instance.now.net.now.links boxed.now tests.now.cost cert.now }
 {
@@ -49,7 +50,7 @@ fn is_closed(tests: &Tests, boxed: &Boxed, cert: &BoxCert) -> bool
 }
 
 /// Whether a cut empties a box.
-fn is_empty(tests: &Tests, boxed: &Boxed, cut: u32) -> bool
+pub fn is_empty(tests: &Tests, boxed: &Boxed, cut: u32) -> bool
     requires { AreTests tests.now }
     ensures { IsTrue result ↔ EmptiesBox (names_in tests.now) tests.now.instance.now.net.now.links boxed.now cut }
 {

@@ -1,7 +1,8 @@
 ghost use Rattle.std.specs.Prelude.{◌≡◌, ◌<◌, ◌↔◌, All, IfOk, IsTrue, length};
 ghost use Rattle.std.specs.List.{AllZip};
 ghost use Rattle.plan_terms.specs.Terms.{case_of};
-ghost use Rattle.tree_check.specs.inner.Testing.{IsSoundAt, IsTestOf, test_at};
+ghost use Rattle.tree_check.specs.Testing.{IsTestedAs};
+ghost use Rattle.tree_check.specs.inner.Testing.{IsSoundAt, test_at};
 
 use crate::cuts::is_cut;
 use crate::line::{Line, line_of_cut};
@@ -11,7 +12,7 @@ use std::alloc::Global;
 
 /// A cut that was tested: whether it is one of the case, and its line if so.
 #[derive(Drop)]
-pub(crate) struct Tested {
+pub struct Tested {
     pub sound: bool,
     pub line: Line,
 }
@@ -25,8 +26,8 @@ fn free_line(alloc: Global) -> Line {
     }
 }
 
-fn tested_cut(alloc: Global, instance: &Instance, cut: &CutLine) -> Result<Tested, NoMemory>
-    ensures { IfOk result (IsTestOf (case_of instance.now) cut.now) }
+pub fn tested_cut(alloc: Global, instance: &Instance, cut: &CutLine) -> Result<Tested, NoMemory>
+    ensures { IfOk result (IsTestedAs (case_of instance.now) cut.now) }
 {
     if !is_cut(alloc, instance, cut)? {
         return Ok(Tested {
@@ -42,12 +43,12 @@ fn tested_cut(alloc: Global, instance: &Instance, cut: &CutLine) -> Result<Teste
 
 /// All cuts, tested one by one.
 #[tactic(auto, using(crate::proofs::TestsMade::tests_more))]
-pub(crate) fn tested_cuts(
+pub fn tested_cuts(
     alloc: Global,
     instance: &Instance,
     cuts: &[CutLine],
 ) -> Result<List<Tested>, NoMemory>
-    ensures { IfOk result (AllZip (IsTestOf (case_of instance.now)) cuts.now) }
+    ensures { IfOk result (AllZip (IsTestedAs (case_of instance.now)) cuts.now) }
 {
     let mut tested = List::new(alloc);
     for cut in cuts {

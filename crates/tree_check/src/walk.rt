@@ -5,7 +5,8 @@ ghost use Rattle.tree_check.specs.Laws.{IsSplitIfAny};
 ghost use Rattle.tree_check.specs.Proofs.{IsAcceptedProof, VerdictFollows};
 ghost use Rattle.tree_check.specs.Trees.{sides_of};
 ghost use Rattle.tree_check.specs.declared.proof.Proof.{Proof as TreeProof};
-ghost use Rattle.tree_check.specs.inner.Walking.{AreTests, HasWalked, HaveShape, IsFoundOf, StopsWalk, TakesIfAny, with_held};
+ghost use Rattle.tree_check.specs.Testing.{AreTests};
+ghost use Rattle.tree_check.specs.inner.Walking.{HasWalked, HaveShape, IsFoundOf, StopsWalk, TakesIfAny, with_held};
 
 use crate::boxes::{Boxed, lower_side, upper_side, whole_box};
 use crate::nodes::{Held, held_node};

@@ -1,15 +1,8 @@
--- what tests of certificates and cuts go by
-use Rattle.std.specs.Prelude.{◌≡◌, ◌↔◌, ℕ, ◌<◌, List, IsTrue, false, [], length, map, slice_index_or}
-use Rattle.plan_terms.specs.Terms.{Case, CutLine, IsCut}
+-- tests of cuts by their indices
+use Rattle.std.specs.Prelude.{ℕ, ◌<◌, List, IsTrue, false, [], length, map, slice_index_or}
 use Rattle.master_bound.specs.declared.answer.Multiplier.{Multiplier}
 use Rattle.tree_check.specs.BoxValues.{WeightedLine}
-use Rattle.tree_check.specs.Lines.{line_of_cut}
 use Rattle.tree_check.specs.declared.tested.Tested.{Tested}
-
--- a cut was tested: it is one of the case exactly where it is sound, and its line is then its own
-pub record IsTestOf (p : Case) (cut : CutLine) (t : Tested) : Type 0 where
-  pub sound : IsTrue t.sound ↔ IsCut p cut
-  pub own : IsTrue t.sound → t.line ≡ line_of_cut p.links cut
 
 -- a test that nothing passed
 abbrev pub no_test : Tested

@@ -4,9 +4,8 @@ use Rattle.std.specs.List.{AllZip}
 use Rattle.plan_terms.specs.Terms.{AreCounts, Case, Link, case_of}
 use Rattle.plan_checker.specs.Terms.{IsLeastPlace}
 use Rattle.tree_check.specs.Boxes.{least_counts, whole_box}
-use Rattle.tree_check.specs.BoxValues.{HasBoxValue}
-use Rattle.tree_check.specs.Lines.{NamesLine}
 use Rattle.tree_check.specs.Proofs.{FailsAtNode, HasOpenValue, HoldsAtNode, HoldsNode, IsMissingAt, IsOpenAt, IsUnfounded}
+use Rattle.tree_check.specs.Testing.{names_in}
 use Rattle.tree_check.specs.Trees.{TreeBox, boxes_left, sides_of}
 use Rattle.tree_check.specs.declared.line.Line.{Line}
 use Rattle.tree_check.specs.declared.nodes.Held.{Held}
@@ -18,7 +17,6 @@ use Rattle.tree_check.specs.declared.stop.Stop.{Stop}
 use Rattle.tree_check.specs.declared.stop.Stop.TheVariants.{Fault, NoMemory}
 use Rattle.tree_check.specs.declared.tests.Tests.{Tests}
 use Rattle.tree_check.specs.declared.walk.Found.{Found}
-use Rattle.tree_check.specs.inner.Testing.{IsTestOf}
 
 -- ---- nodes
 
@@ -26,18 +24,6 @@ use Rattle.tree_check.specs.inner.Testing.{IsTestOf}
 abbrev pub IsHeldAs : (ℕ → Line → Type 0) → List Link → TreeBox → Node → Held → Type 0
 IsHeldAs names links box node Settled = (value : ℕ) → HasOpenValue names links box node value → ⊥
 IsHeldAs names links box node (Open value) = HasOpenValue names links box node value
-
--- the cuts were tested, one by one
-abbrev pub AreTests : Tests → Type 0
-AreTests t = AllZip (IsTestOf (case_of t.instance.now)) t.cuts.now t.tested.now
-
--- the lines that indices name, by these tests
-abbrev pub names_in : Tests → ℕ → Line → Type 0
-names_in t = NamesLine (case_of t.instance.now) t.cuts.now
-
--- a certificate has a value for a box
-abbrev pub HasValueIn : Tests → TreeBox → BoxCert → ℕ → Type 0
-HasValueIn t box cert value = HasBoxValue (names_in t) t.instance.now.net.now.links box cert value
 
 -- a node holds for a box
 abbrev pub HoldsIn : Tests → TreeBox → Node → Type 0
