@@ -64,9 +64,9 @@ use master_bound::{Best, master};
 use metric_cut::opening;
 use module_choice::{Fallback, fallback_plan};
 use module_prices::unit_pair;
-use net_core::{Caps, Copied, Demand, Demands, Global, Instance, Link, List, Module, Network, NodeId, StateId, States};
+use net_core::{Caps, Copied, CutLine, Demand, Demands, Global, Instance, Link, List, Module, Network, NodeId, StateId, States};
 use plan_swaps::swap;
-use plan_types::{Cause, Certificate, Plan, Quality};
+use plan_types::{Cause, CertLine, Certificate, Plan, Quality, Spot};
 use separator::{line_of, separate_state};
 use share_covers::{Chosen, choose};
 use trim_plan::trim;
@@ -151,8 +151,14 @@ fn caps_of(net: &Network, best: &Best) -> Caps {
     Caps { scale: (share.scale as u128 / common) as u64, nums: List::from_vec(nums) }
 }
 
-/// The counts of a planning.
-fn planned(instance: &Instance) -> Chosen {
+/// The certificate of a share: its cuts with their numerators.
+fn certificate_of(best: &Best, cuts: &List<CutLine>) -> Certificate {
+    let lines = best.multipliers.items().iter().map(|m| CertLine { num: m.num, spot: Spot::Local, cut: cuts.items()[m.cut as usize].clone() });
+    Certificate { den: best.den, lines: List::from_vec(lines.collect::<std::vec::Vec<_>>()) }
+}
+
+/// The counts of a planning, and the certificate of its bound.
+fn planned(instance: &Instance) -> (Chosen, Certificate) {
     let Instance { net, states, demands } = *instance;
     let fallback = fallback_plan(Global, net, states, demands).unwrap();
     let mut cuts = List::new(Global);
@@ -174,7 +180,8 @@ fn planned(instance: &Instance) -> Chosen {
             }
         }
         if further.is_empty() {
-            return choose(Global, instance, fallback, &best.share, Quality::Loose(Cause::Cuts)).unwrap();
+            let chosen = choose(Global, instance, fallback, &best.share, Quality::Loose(Cause::Cuts)).unwrap();
+            return (chosen, certificate_of(&best, &cuts));
         }
         for cut in further {
             cuts.push(cut).ok();
@@ -182,7 +189,7 @@ fn planned(instance: &Instance) -> Chosen {
     }
 }
 
-fn plan_of(instance: &Instance, chosen: Chosen) -> Plan {
+fn plan_of(instance: &Instance, (chosen, certificate): (Chosen, Certificate)) -> Plan {
     Plan {
         version: 0,
         position: 0,
@@ -190,7 +197,7 @@ fn plan_of(instance: &Instance, chosen: Chosen) -> Plan {
         counts: chosen.counts,
         cost: chosen.cost,
         routings: chosen.routings,
-        certificate: Certificate { den: 1, lines: List::new(Global) },
+        certificate,
         raw_num: 0,
         raw_den: 1,
         bound: 0,
@@ -215,7 +222,7 @@ fn main() {
         let swapped = swap(Global, &net, &states, trimmed.plan).unwrap();
         times.push(clock());
         let swapping = taken();
-        let ms: std::vec::Vec<String> = times.windows(2).map(|t| format!("{:.1}", (t[1] - t[0]) as f64 / 1e3)).collect();
+        let ms: std::vec::Vec<String> = times.windows(2).map(|t| format!("{:.3}", (t[1] - t[0]) as f64 / 1e3)).collect();
         println!("{} {first} {second} {} {blocks} ms {} trim {trimming:?} swap {swapping:?}", pair[0], swapped.cost, ms.join(" "));
     }
 }

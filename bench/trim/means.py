@@ -39,7 +39,7 @@ def main():
         over = [f"{mean(lambda r: r[0][i] / r[1]):.3f}" if all_of[0][1] else "" for i in range(3)]
         over.append(f"{max(r[0][2] / r[1] for r in all_of):.3f}" if all_of[0][1] else "")
         over += [f"{mean(lambda r: r[0][i] / r[0][0]):.3f}" for i in (1, 2)]
-        times = [f"{mean(lambda r: r[2][i]):.1f}" for i in range(3)]
+        times = [f"{mean(lambda r: r[2][i]):.2f}" for i in range(3)]
         counts = [f"{mean(lambda r: r[3][i]):.0f}" for i in range(11)]
         print("| " + " | ".join([name, *over, *times, *counts]) + " |")
 

@@ -2,9 +2,10 @@
 #![tactic(auto)]
 
 mod kept;
-mod limits;
+pub mod limits;
 mod moves;
 mod raised;
+mod refusals;
 mod search;
 mod sparing;
 mod starts;

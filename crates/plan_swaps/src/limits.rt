@@ -27,11 +27,7 @@ fn are_small(capacities: &[u128]) -> bool
 }
 
 /// Whether counts are within the limits: each below 2^44, and each link's capacity below 2^46 units.
-pub(crate) fn are_within_limits(
-    alloc: Global,
-    net: &Network,
-    counts: &Counts,
-) -> Result<bool, NoMemory>
+pub fn are_within_limits(alloc: Global, net: &Network, counts: &Counts) -> Result<bool, NoMemory>
     requires { AreCounts net.now.links counts.now }
     ensures { IfOk result (λ b. IsTrue b → AreWithinLimits net.now.links counts.now) }
 {

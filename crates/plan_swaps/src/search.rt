@@ -1,30 +1,24 @@
-ghost use Rattle.std.specs.Prelude.{◌≡◌, None, IfOk, IsTrue};
+ghost use Rattle.std.specs.Prelude.{◌≡◌, IfOk, IsTrue};
 ghost use Rattle.plan_terms.specs.Terms.{case_of, AreCounts, AreWithinLimits, IsSurvivable, capacities};
 ghost use Rattle.able_counts.specs.AbleTests.{AreRoutingsWithin, IsTestOf};
 
+use crate::refusals::Refusals;
 use able_counts::{AbleTest, Stop};
-use net_core::{Counts, Instance, NoMemory};
+use net_core::{Counts, Instance, Link, NoMemory};
+use trim_plan::Place;
 
-/// A test of counts, and how much may still be asked of it.
+/// A test of counts, the cuts that were met, and how much may still be asked.
 #[derive(Drop)]
 pub struct Search {
     pub test: AbleTest,
-    /// Ten for each ask, and one for each look at the known cuts.
+    pub refusals: Refusals,
+    /// Ten for each ask, and one for each look at the cuts that were met.
     pub asks: u64,
 }
 
-/// Whether nothing stops counts; lets go of what does.
-fn is_free(found: Option<Stop>) -> bool
-    ensures { IsTrue result → found ≡ None }
-{
-    match found {
-        Some(_stop) => false,
-        None => true,
-    }
-}
-
 impl Search {
-    /// Whether counts are known to carry the demands in each state; the test's routings are within them then.
+    /// Whether counts are known to carry the demands in each state; the test's routings are within them then. A cut that says that they
+    /// don't is met.
     pub(crate) fn carries(&mut self, instance: &Instance, counts: &Counts) -> Result<bool, NoMemory>
         requires survivable { IsSurvivable (case_of instance.now) }
         requires sound { IsTestOf (case_of instance.now) self.old.test }
@@ -36,19 +30,21 @@ impl Search {
             self.new.test.routings) }
     {
         self.asks = self.asks.saturating_sub(10);
-        let found = self.test.stop(instance, counts)?;
-        Ok(is_free(found))
+        match self.test.stop(instance, counts)? {
+            None => Ok(true),
+            Some(Stop::Wide(_evidence)) => Ok(false),
+            Some(Stop::Cut(cut)) => {
+                self.refusals.meet(cut)?;
+                Ok(false)
+            }
+        }
     }
 
-    /// Whether a known cut says that counts don't carry the demands.
-    pub(crate) fn refuses(&mut self, instance: &Instance, counts: &Counts) -> Result<bool, NoMemory>
-        requires sound { IsTestOf (case_of instance.now) self.old.test }
-        requires shape { AreCounts instance.now.net.now.links counts.now }
-        requires limits { AreWithinLimits instance.now.net.now.links counts.now }
+    /// Whether a cut that was met refuses the measured counts with one module less, and perhaps another one more.
+    pub(crate) fn keeps(&mut self, links: &[Link], off: Place, on: Option<Place>) -> bool
         ensures { self.new.test ≡ self.old.test }
     {
         self.asks = self.asks.saturating_sub(1);
-        let found = self.test.known_stop(instance, counts)?;
-        Ok(!is_free(found))
+        self.refusals.keeps(links, off, on)
     }
 }

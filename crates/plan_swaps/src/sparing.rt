@@ -5,7 +5,7 @@ use crate::search::Search;
 use net_core::{Counts, Instance, NoMemory};
 use trim_plan::{Place, Priced, module_count, one_less};
 
-/// Takes one module off unless a known cut says that the others don't carry the demands.
+/// Takes one module off the measured counts, unless a cut that was met says that the others don't carry the demands.
 fn take_off(
     instance: &Instance,
     search: &mut Search,
@@ -15,18 +15,16 @@ fn take_off(
     requires asked { AreAskedCounts (case_of instance.now) search.old counts.old }
     ensures asked { AreAskedCounts (case_of instance.now) search.new counts.new }
 {
-    if search.asks == 0 || module_count(counts, place) == 0 {
+    let links = instance.net.links().items();
+    if search.asks == 0 || module_count(counts, place) == 0 || search.keeps(links, place, None) {
         return Ok(false);
     }
-    let lower = one_less(counts, place)?;
-    if search.refuses(instance, &lower)? {
-        return Ok(false);
-    }
-    *counts = lower;
+    search.refusals.lower(links, place);
+    *counts = one_less(counts, place)?;
     Ok(true)
 }
 
-/// Takes modules of one kind off a link, until a known cut refuses it.
+/// Takes modules of one kind off a link, until a cut that was met refuses it.
 fn take_all_off(
     instance: &Instance,
     search: &mut Search,
@@ -52,7 +50,7 @@ fn is_at(place: Place, other: Option<Place>) -> bool {
     }
 }
 
-/// Takes off the modules that no known cut keeps, the dearest first, but none at one place.
+/// Takes off the modules that no cut that was met keeps, the dearest first, but none at one place.
 pub(crate) fn spare_others(
     instance: &Instance,
     search: &mut Search,
@@ -63,6 +61,9 @@ pub(crate) fn spare_others(
     requires asked { AreAskedCounts (case_of instance.now) search.old counts.old }
     ensures asked { AreAskedCounts (case_of instance.now) search.new counts.new }
 {
+    search
+        .refusals
+        .measure(instance.net.links().items(), counts);
     for priced in dearest {
         if !is_at(priced.place, but) {
             take_all_off(instance, search, counts, priced.place)?;

@@ -5,14 +5,24 @@ ghost use Rattle.plan_swaps.specs.Swaps.{AreNoCheaper, IsCheaperPlan, IsCheaperT
 ghost use Rattle.plan_swaps.specs.inner.Searching.{AreCarryingCounts};
 
 use crate::kept::Kept;
+use crate::refusals::Refusals;
 use crate::search::Search;
 use crate::starts::try_starts;
 use crate::swaps::make_cheaper;
 use able_counts::AbleTest;
 use net_core::{Copied, Counts, Instance, Network, NoMemory, States};
-use plan_types::Plan;
+use plan_types::{Certificate, Plan};
 use std::alloc::Global;
 use trim_plan::dearest_first;
+
+/// The cuts of a certificate, which are met at the start.
+fn met_cuts(alloc: Global, certificate: &Certificate) -> Result<Refusals, NoMemory> {
+    let mut refusals = Refusals::new(alloc);
+    for line in certificate.lines.items() {
+        refusals.meet(line.cut.copy()?)?;
+    }
+    Ok(refusals)
+}
 
 /// The cheapest counts to which exchanges of modules lead from a plan's counts and from other counts.
 fn swapped_counts(
@@ -36,7 +46,11 @@ fn swapped_counts(
         routings: plan.routings.copy()?,
     };
     let test = AbleTest::new(alloc, instance, plan.routings.copy()?)?;
-    let mut search = Search { test, asks: 0 };
+    let mut search = Search {
+        test,
+        refusals: met_cuts(alloc, &plan.certificate)?,
+        asks: 0,
+    };
     make_cheaper(alloc, instance, &mut search, dearest.items(), &mut kept)?;
     try_starts(
         alloc,

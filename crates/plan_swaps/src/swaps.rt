@@ -8,7 +8,6 @@ use crate::moves::{Move, in_use, next_move};
 use crate::raised::one_more;
 use crate::search::Search;
 use crate::sparing::spare_others;
-use module_choice::cost;
 use net_core::{Copied, Counts, Instance, NoMemory};
 use std::alloc::Global;
 use trim_plan::{Place, Priced, module_count, one_less};
@@ -21,13 +20,13 @@ const MOST_ASKS: u64 = 200_000;
 pub enum Trial {
     /// They are kept.
     Kept,
-    /// A cut says that they don't carry the demands.
+    /// A cut that wasn't met before says that they don't carry the demands.
     Refused,
     /// They cost as much or more, or it isn't known whether they carry the demands.
     Dear,
 }
 
-/// Keeps counts less the modules that no known cut keeps, but none at one place, where the others carry the demands and cost less.
+/// Keeps counts less the modules that no cut that was met keeps, but none at one place, where the others carry the demands and cost less.
 fn keep_spared(
     instance: &Instance,
     search: &mut Search,
@@ -43,12 +42,12 @@ fn keep_spared(
     ensures kept { AreCarryingCounts (case_of instance.now) kept.new }
     ensures cheaper { kept.new.cost ≤ kept.old.cost }
 {
+    let met = search.refusals.len();
     let mut fewer = counts.copy()?;
     spare_others(instance, search, dearest, but, &mut fewer)?;
     if keep_cheaper(instance, search, kept, &fewer)? {
-        return Ok(Trial::Kept);
-    }
-    if cost(instance.net, &fewer) < kept.cost && search.refuses(instance, &fewer)? {
+        Ok(Trial::Kept)
+    } else if search.refusals.len() > met {
         Ok(Trial::Refused)
     } else {
         Ok(Trial::Dear)
@@ -102,7 +101,7 @@ fn moved(
     one_more(alloc, instance.net, &lower, what.on)
 }
 
-/// Exchanges one module, where the new counts carry the demands.
+/// Exchanges one module of the counts, which are measured, where the new counts carry the demands.
 fn try_move(
     alloc: Global,
     instance: &Instance,
@@ -117,10 +116,18 @@ fn try_move(
     ensures kept { AreCarryingCounts (case_of instance.now) kept.new }
     ensures cheaper { kept.new.cost ≤ kept.old.cost }
 {
-    match moved(alloc, instance, &kept.counts, what)? {
-        Some(counts) => keep_cheaper(instance, search, kept, &counts),
-        None => Ok(false),
+    let links = instance.net.links().items();
+    if search.keeps(links, what.off, Some(what.on)) {
+        return Ok(false);
     }
+    let Some(counts) = moved(alloc, instance, &kept.counts, what)? else {
+        return Ok(false);
+    };
+    if keep_cheaper(instance, search, kept, &counts)? {
+        return Ok(true);
+    }
+    search.refusals.measure(links, &kept.counts);
+    Ok(false)
 }
 
 /// Exchanges one module for a cheaper one, the move that saves most first.
@@ -139,6 +146,9 @@ fn exchange(
     ensures cheaper { kept.new.cost ≤ kept.old.cost }
 {
     let mut all = in_use(alloc, dearest, &kept.counts)?;
+    search
+        .refusals
+        .measure(instance.net.links().items(), &kept.counts);
     for _ in 0..search.asks {
         let Some(what) = next_move(dearest, all.items_mut()) else {
             return Ok(false);

@@ -5,27 +5,16 @@ use Rattle.trim_plan.specs.Trimmed.{AreAtMost}
 use Rattle.trim_plan.proofs.AtMost.{limits_at_most, one_less_at_most, shape_at_most}
 use Rattle.plan_swaps.proofs.sparing.take_off.Goals as goal
 
-pub refuses-requires-clause-shape : goal.refuses-requires-clause-shape
-refuses-requires-clause-shape c =
-    let counts = c.args.counts.now in
-    let le = subst (λ (l : List (List ℕ)). AreAtMost l counts) (sym c.in_ok-lower.ensures) (one_less_at_most counts c.args.place.link c.args.place.«module») in
-    shape_at_most c.args.instance.now.net.now.links c.in_ok-lower.lower counts le c.requires.asked.shape
-
-pub refuses-requires-clause-limits : goal.refuses-requires-clause-limits
-refuses-requires-clause-limits c =
-    let counts = c.args.counts.now in
-    let le = subst (λ (l : List (List ℕ)). AreAtMost l counts) (sym c.in_ok-lower.ensures) (one_less_at_most counts c.args.place.link c.args.place.«module») in
-    limits_at_most c.args.instance.now.net.now.links c.in_ok-lower.lower counts le c.requires.asked.limits
-
 pub returns : goal.returns
 returns c =
     let counts = c.args.counts.now in
     let links = c.args.instance.now.net.now.links in
-    let le = subst (λ (l : List (List ℕ)). AreAtMost l counts) (sym c.in_ok-lower.ensures) (one_less_at_most counts c.args.place.link c.args.place.«module») in
+    let lower = c.in_ok-counts.field-0 in
+    let le = subst (λ (l : List (List ℕ)). AreAtMost l counts) (sym c.in_ok-counts.ensures) (one_less_at_most counts c.args.place.link c.args.place.«module») in
     record {
       asked = record {
-        test = subst (IsTestOf (case_of c.args.instance.now)) (sym c.refuses.ensures) c.requires.asked.test;
-        shape = shape_at_most links c.in_ok-lower.lower counts le c.requires.asked.shape;
-        limits = limits_at_most links c.in_ok-lower.lower counts le c.requires.asked.limits;
+        test = subst (IsTestOf (case_of c.args.instance.now)) (sym c.keeps.ensures) c.requires.asked.test;
+        shape = shape_at_most links lower counts le c.requires.asked.shape;
+        limits = limits_at_most links lower counts le c.requires.asked.limits;
       };
     }
