@@ -9,3 +9,5 @@ mod planned;
 mod swaps;
 #[cfg(test)]
 mod trims;
+#[cfg(test)]
+mod wide;

@@ -15,7 +15,7 @@ use trim_plan::{Trimmed, trim};
 use worked_networks::{DemandRow, LinkRow, PARALLEL, TEN, network, problem, single_failures};
 
 /// The trimmed plan.
-fn trimmed_plan(alloc: Global, instance: &Instance, plan: Plan) -> Option<Trimmed>
+pub fn trimmed_plan(alloc: Global, instance: &Instance, plan: Plan) -> Option<Trimmed>
     requires belong { AreDemands (length instance.now.net.now.nodes) plan.demands }
     requires survivable { IsSurvivable (case instance.now.net.now instance.now.states.now plan.demands) }
     requires routed { IsRoutedPlan (case instance.now.net.now instance.now.states.now plan.demands) plan }
@@ -104,8 +104,15 @@ fn trimmed_samples_cost_between_the_least_and_the_plan(rt: HostRuntime) {
     }
 }
 
-/// Links, a demand, and what the trimmed plan costs and how many blocks it has, where each link may fail.
-type Worked = (usize, &'static [LinkRow<'static>], DemandRow, u128, usize);
+/// Links, a demand, and what the plan costs, the trimmed plan costs and how many blocks it has, where each link may fail.
+type Worked = (
+    usize,
+    &'static [LinkRow<'static>],
+    DemandRow,
+    u128,
+    u128,
+    usize,
+);
 
 /// The triangle with 10.00 on each link, where a detour and the link itself need 12.00 each.
 const FIXED: [LinkRow; 3] = [
@@ -114,7 +121,7 @@ const FIXED: [LinkRow; 3] = [
     (0, 2, 10000, &TEN),
 ];
 
-/// Four links of which covers take a module each, and one path with its detour takes two.
+/// Four links of which covers take a module each, for 20.00, and the fallback, a path with its detour, takes two.
 const WIDE_MODULES: [LinkRow; 4] = [
     (0, 1, 0, &TEN),
     (0, 1, 0, &TEN),
@@ -123,9 +130,9 @@ const WIDE_MODULES: [LinkRow; 4] = [
 ];
 
 const WORKED: [Worked; 3] = [
-    (3, &FIXED, (0, 2, 12000), 15000, 3),
-    (2, &WIDE_MODULES, (0, 1, 10000), 10000, 2),
-    (2, &PARALLEL, (0, 1, 10000), 14000, 4),
+    (3, &FIXED, (0, 2, 12000), 15000, 15000, 3),
+    (2, &WIDE_MODULES, (0, 1, 10000), 10000, 10000, 2),
+    (2, &PARALLEL, (0, 1, 10000), 16000, 14000, 4),
 ];
 
 /// The problem of a row.
@@ -134,18 +141,19 @@ fn worked_problem(alloc: Global, row: &Worked) -> Option<Problem> {
     problem(alloc, net, &[row.2]).ok()
 }
 
-/// The cost of a trimmed plan, and the number of its blocks.
-fn worked<R: Threads + Wait + Sync>(rt: &R, alloc: Global, row: &Worked) -> Option<(u128, usize)> {
+/// The cost of a plan and of the trimmed plan, and the number of its blocks.
+fn worked<R: Threads + Wait + Sync>(
+    rt: &R,
+    alloc: Global,
+    row: &Worked,
+) -> Option<(u128, u128, usize)> {
     let problem = worked_problem(alloc, row)?;
-    match trimmed(rt, alloc, &problem.instance()) {
-        Some((_, after, blocks)) => Some((after, blocks)),
-        None => None,
-    }
+    trimmed(rt, alloc, &problem.instance())
 }
 
 #[test]
 fn trimmed_plans_have_a_block_for_each_module(rt: HostRuntime) {
     for row in &WORKED {
-        assert!(rt; worked(&rt, rt.alloc(), row) == Some((row.3, row.4)));
+        assert!(rt; worked(&rt, rt.alloc(), row) == Some((row.3, row.4, row.5)));
     }
 }

@@ -1,0 +1,132 @@
+//! A trimmed plan of a network where a module can neither be spared nor refused by a cut.
+//!
+//! Three pairs of demands fill a chain of stages, or take a short way over one link of which they need a module. Two further demands get in
+//! each other's way where the one of 0.003 takes its shortest path. All that is installed without modules carries the demands, so no cut is
+//! violated; but without the module no greedy routing is found, and the numbers of the routing program grow too wide.
+ghost use Rattle.std.specs.Prelude.{length};
+ghost use Rattle.plan_terms.specs.Terms.{AreDemands, case, IsSurvivable};
+ghost use Rattle.trim_plan.specs.Trimmed.{IsRoutedPlan};
+
+use crate::planned::planned;
+use crate::trims::trimmed_plan;
+use net_core::{Instance, Link, List, Module, Network, NodeId, Notes, Places, Problem};
+use plan_types::Plan;
+use std::alloc::Global;
+use std::sync::Wait;
+use std::thread::Threads;
+use trim_plan::{Block, Stop};
+use wide_chain::{CHAIN_DEMANDS, STAGES, chain_links, numbered, numbered_nodes};
+use worked_networks::{DemandRow, LinkRow, TEN, demands, failing};
+
+/// A module of 10.00 for 6.00.
+const DEAR: [Module; 1] = [Module {
+    capacity: 10000,
+    cost: 6000,
+}];
+
+/// The link of the short way, its ways to the chain and to the further demands, and the links of these.
+const BESIDE: [LinkRow; 12] = [
+    (61, 62, 0, &TEN),
+    (0, 61, 5000, &DEAR),
+    (40, 61, 5000, &DEAR),
+    (20, 62, 5000, &DEAR),
+    (60, 62, 5000, &DEAR),
+    (63, 61, 5000, &DEAR),
+    (64, 62, 5000, &DEAR),
+    (63, 64, 3, &DEAR),
+    (64, 65, 3, &DEAR),
+    (63, 66, 2, &DEAR),
+    (66, 67, 2, &DEAR),
+    (67, 65, 2, &DEAR),
+];
+
+/// The demands that get in each other's way.
+const CROSSING: [DemandRow; 2] = [(63, 65, 3), (63, 64, 2)];
+
+/// A link beside the chain.
+fn link_beside(alloc: Global, k: u32, row: &LinkRow) -> Option<Link> {
+    if k >= 1000 {
+        return None;
+    }
+    Some(Link {
+        name: numbered(alloc, k)?,
+        a: NodeId(row.0),
+        b: NodeId(row.1),
+        fixed: row.2,
+        setup: 0,
+        modules: List::from_slice(alloc, row.3).ok()?,
+    })
+}
+
+/// The links of the chain, and those beside it.
+fn all_links(alloc: Global) -> Option<List<Link>> {
+    let mut links = chain_links(alloc)?;
+    let mut k = 2 * STAGES;
+    for row in &BESIDE {
+        links.push(link_beside(alloc, k, row)?).ok()?;
+        k = k.saturating_add(1);
+    }
+    Some(links)
+}
+
+/// The network, without notes of costs.
+fn wide_network(alloc: Global) -> Option<Network> {
+    let nodes = numbered_nodes(alloc, STAGES + 8)?;
+    let notes = Notes {
+        fixed_cost: false,
+        routing_cost: false,
+        setup_cost: false,
+    };
+    Network::check(nodes, all_links(alloc)?, notes, Places::Three).ok()
+}
+
+/// The planning of the network without failures.
+fn wide_problem(alloc: Global) -> Option<Problem> {
+    let net = wide_network(alloc)?;
+    let states = failing(alloc, &net, &[]).ok()?;
+    let mut rows = List::from_slice(alloc, &CHAIN_DEMANDS).ok()?;
+    rows.append(&CROSSING).ok()?;
+    let demands = demands(alloc, net.nodes().len(), rows.items()).ok()?;
+    Some(Problem {
+        net,
+        states,
+        demands,
+    })
+}
+
+/// Whether evidence keeps a module.
+fn is_wide(block: &Block) -> bool {
+    match &block.why {
+        Stop::Wide(_) => true,
+        Stop::Cut(_) => false,
+    }
+}
+
+/// What the trimmed plan costs, how many blocks it has, and how many of these are evidence.
+fn trimmed_wide(alloc: Global, instance: &Instance, plan: Plan) -> Option<(u128, usize, usize)>
+    requires belong { AreDemands (length instance.now.net.now.nodes) plan.demands }
+    requires survivable { IsSurvivable (case instance.now.net.now instance.now.states.now plan.demands) }
+    requires routed { IsRoutedPlan (case instance.now.net.now instance.now.states.now plan.demands) plan }
+{
+    let trimmed = trimmed_plan(alloc, instance, plan)?;
+    let blocks = trimmed.blocks.items();
+    let wide = blocks.iter().filter(|b| is_wide(b)).count();
+    Some((trimmed.plan.cost, blocks.len(), wide))
+}
+
+/// The same of the network's plan.
+fn on_wide_network<R: Threads + Wait + Sync>(
+    rt: &R,
+    alloc: Global,
+) -> Option<(u128, usize, usize)> {
+    let problem = wide_problem(alloc)?;
+    let instance = problem.instance();
+    let plan = planned(rt, alloc, &instance)?;
+    trimmed_wide(alloc, &instance, plan)
+}
+
+/// The module stays, with evidence, where all others are taken off.
+#[test]
+fn a_module_stays_where_a_number_is_too_wide(rt: HostRuntime) {
+    assert!(rt; on_wide_network(&rt, rt.alloc()) == Some((5000, 1, 1)));
+}
