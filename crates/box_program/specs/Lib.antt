@@ -1,0 +1,3 @@
+pub mod Divisors
+pub mod Solutions
+pub mod inner

@@ -1,0 +1,2 @@
+pub mod BoxPrograms
+pub mod BoxRows

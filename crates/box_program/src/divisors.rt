@@ -1,0 +1,74 @@
+ghost use Rattle.std.specs.Prelude.{ℕ, ◌↔◌, ◌<◌, All};
+ghost use Rattle.std.specs.Int.{◌∣◌};
+ghost use Rattle.box_program.specs.Divisors.{IsCommonUnit, IsDivisorWith};
+
+use checked_fraction::gcd;
+use net_core::{Link, List, Module};
+use tree_check::Line;
+use tree_check::tested::Tested;
+
+/// The greatest number that divides another one and these.
+fn divisor_among(unit: u128, numbers: &[u128]) -> u128
+    ensures { (d : ℕ) → (d ∣ result) ↔ (d ∣ unit) × All (λ n. d ∣ n) numbers.now }
+{
+    let mut unit = unit;
+    for number in numbers {
+        unit = gcd(unit, *number);
+    }
+    unit
+}
+
+/// The greatest number that divides another one and those of lists.
+fn divisor_over(unit: u128, lists: &[List<u128>]) -> u128
+    ensures { (d : ℕ) → (d ∣ result) ↔ (d ∣ unit) × All (λ numbers. All (λ n. d ∣ n) numbers) lists.now }
+{
+    let mut unit = unit;
+    for numbers in lists {
+        unit = divisor_among(unit, numbers.items());
+    }
+    unit
+}
+
+/// The greatest number that divides another one, each coefficient of a line, and what the line asks for beyond what is given. It takes
+/// the time of a greatest common divisor for each coefficient.
+pub fn divisor_of(line: &Line, unit: u128) -> u128
+    ensures { IsDivisorWith unit line.now result }
+{
+    let unit = gcd(unit, line.right.saturating_sub(line.given));
+    divisor_over(unit, line.coefs.items())
+}
+
+/// The greatest number that divides each number of lines; 0 where there is none but 0. It takes the time of `divisor_of` for each line.
+pub fn common_unit(tested: &[Tested]) -> u128
+    ensures { IsCommonUnit tested.now result }
+{
+    let mut unit = 0;
+    for t in tested {
+        unit = divisor_of(&t.line, unit);
+    }
+    unit
+}
+
+/// A number that divides another one and the costs of modules.
+fn cost_divisor(unit: u128, modules: &[Module]) -> u128 {
+    let mut unit = unit;
+    for module in modules {
+        unit = gcd(unit, module.cost as u128);
+    }
+    unit
+}
+
+/// The greatest common divisor of all module costs, where it is below 2^40; else 1.
+pub(crate) fn cost_unit(links: &[Link]) -> u64
+    ensures { 0 < result }
+{
+    let mut unit = 0;
+    for link in links {
+        unit = cost_divisor(unit, link.modules.items());
+    }
+    if unit == 0 || unit >= 1 << 40 {
+        1
+    } else {
+        unit as u64
+    }
+}
