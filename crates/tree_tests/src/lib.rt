@@ -1,6 +1,8 @@
-//! Tests of the check of branch trees.
+//! Tests of the check of branch trees, and of the programs of boxes.
 #![tactic(auto)]
 
+#[cfg(test)]
+mod programs;
 #[cfg(test)]
 mod rows;
 #[cfg(test)]

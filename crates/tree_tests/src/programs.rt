@@ -1,0 +1,115 @@
+//! Tests of the program of a box, against optima that were worked out by hand.
+use box_program::{Lines, Solution, common_unit, solved};
+use net_core::{List, Module, NoMemory};
+use std::alloc::Global;
+use tree_check::tested::Tested;
+use tree_check::{Boxed, Line, Span};
+use worked_networks::{LinkRow, network};
+
+/// A link of modules of 5.000 for 3.000.
+const LINK: [LinkRow; 1] = [(
+    0,
+    1,
+    0,
+    &[Module {
+        capacity: 5000,
+        cost: 3000,
+    }],
+)];
+
+/// The counts of the module, and what a line asks for, if there is one.
+type Asked = (Span, Option<u128>);
+
+/// The module's amount over a denominator, if it has several counts; the numerator of the line over the certificate's denominator, if it
+/// has one; and the rank.
+type Found = (Option<(u128, u128, u128)>, Option<(u64, u128)>, u128);
+
+/// All counts fixed; no line; and a line that asks for 2 and 2 fifths of the module, whose cost over its capacity is 3 fifths.
+const PROGRAMS: [(Asked, Found); 3] = [
+    (
+        (
+            Span {
+                least: 3,
+                most: Some(3),
+            },
+            Some(12000),
+        ),
+        (None, None, 9_000_000),
+    ),
+    (
+        (
+            Span {
+                least: 2,
+                most: None,
+            },
+            None,
+        ),
+        (Some((2, 0, 1)), None, 6_000_000),
+    ),
+    (
+        (
+            Span {
+                least: 0,
+                most: None,
+            },
+            Some(12000),
+        ),
+        (Some((2, 2, 5)), Some((3, 5)), 7_200_000),
+    ),
+];
+
+/// A list of a list of one item.
+fn nested<T: Drop>(alloc: Global, item: T) -> Result<List<List<T>>, NoMemory> {
+    let mut inner = List::new(alloc);
+    inner.push(item)?;
+    let mut outer = List::new(alloc);
+    outer.push(inner)?;
+    Ok(outer)
+}
+
+/// The line that asks for so much, if it does.
+fn lines(alloc: Global, asked: Option<u128>) -> Result<List<Tested>, NoMemory> {
+    let mut lines = List::new(alloc);
+    if let Some(right) = asked {
+        lines.push(Tested {
+            sound: true,
+            line: Line {
+                coefs: nested(alloc, 5000)?,
+                given: 0,
+                right,
+            },
+        })?;
+    }
+    Ok(lines)
+}
+
+/// What a solution says of the module, of the line and of the rank.
+fn told(solution: &Solution) -> Found {
+    let amount = solution.amounts.items().first();
+    let line = solution.cert.lines.items().first();
+    (
+        amount.map(|a| (a.whole, a.part, solution.den)),
+        line.map(|m| (m.num, solution.cert.den)),
+        solution.rank,
+    )
+}
+
+/// What is found of a program, where the plan costs 100.000.
+fn found(alloc: Global, asked: &Asked) -> Option<Found> {
+    let net = network(alloc, 2, &LINK).ok()?;
+    let boxed: Boxed = nested(alloc, asked.0).ok()?;
+    let tested = lines(alloc, asked.1).ok()?;
+    let lines = Lines {
+        tested: tested.items(),
+        unit: common_unit(tested.items()),
+    };
+    let solution = solved(alloc, net.links().items(), 100_000, lines, &boxed).ok()?;
+    Some(told(&solution?))
+}
+
+#[test]
+fn programs_of_boxes_leave_amounts_and_certificates(rt: HostRuntime) {
+    for (asked, expected) in &PROGRAMS {
+        assert!(rt; found(rt.alloc(), asked) == Some(*expected));
+    }
+}
