@@ -6,7 +6,7 @@ use Rattle.net_core.proofs.Library.{All-cons, All-head, All-tail, All-weaker}
 use Rattle.plan_terms.specs.Terms.{Link}
 use Rattle.tree_check.specs.Boxes.{span_at}
 use Rattle.tree_check.specs.declared.boxes.Span.{Span}
-use Rattle.box_program.specs.Solutions.{AreApart, HasAmount, IsAmountOf, IsCertificateOf, IsFree, IsMultiplierOf, IsSolutionOf, LiesIn, rounded_up}
+use Rattle.box_program.specs.Solutions.{AreOfDifferentModules, HasAmount, IsAmountOf, IsCertificateOf, IsFree, IsMultiplierOf, IsSolutionOf, LiesIn, rounded_up}
 use Rattle.box_program.specs.declared.shape.ModuleRow.{ModuleRow}
 use Rattle.box_program.specs.declared.solution.Amount.{Amount}
 use Rattle.box_program.specs.declared.solution.Solution.{Solution}
@@ -43,25 +43,25 @@ module _ (den : ℕ) where
     amounts_each (r ∷ rs) (a ∷ bs) each zip =
         All-cons (IsAmountOf links box den) a bs (amount_of_row r a (All-head (IsRowOf links box) r rs each) zip.0) (amounts_each rs bs (All-tail (IsRowOf links box) r rs each) zip.1)
 
-  apart_amounts : (r q : ModuleRow) (a b : Amount) → AreRowsApart r q → IsAmountAt den r a → IsAmountAt den q b → AreApart a b
+  apart_amounts : (r q : ModuleRow) (a b : Amount) → AreRowsApart r q → IsAmountAt den r a → IsAmountAt den q b → AreOfDifferentModules a b
   apart_amounts r q a b apart one other = ⊎_elim
       (λ ne. inl (λ eq. ne (sym one.same_link ∙ (eq ∙ other.same_link))))
       (λ ne. inr (λ eq. ne (sym one.same_module ∙ (eq ∙ other.same_module))))
       apart
 
-  apart_from : (r : ModuleRow) (a : Amount) (rows : List ModuleRow) (amounts : List Amount) → All (AreRowsApart r) rows → IsAmountAt den r a → AllZip (IsAmountAt den) rows amounts → All (AreApart a) amounts
+  apart_from : (r : ModuleRow) (a : Amount) (rows : List ModuleRow) (amounts : List Amount) → All (AreRowsApart r) rows → IsAmountAt den r a → AllZip (IsAmountAt den) rows amounts → All (AreOfDifferentModules a) amounts
   apart_from r a [] [] apart is zip = λ k d lt. absurd (omega arith)
   apart_from r a [] (b ∷ bs) apart is zip = absurd zip
   apart_from r a (q ∷ rs) [] apart is zip = absurd zip
   apart_from r a (q ∷ rs) (b ∷ bs) apart is zip =
-      All-cons (AreApart a) b bs (apart_amounts r q a b (All-head (AreRowsApart r) q rs apart) is zip.0) (apart_from r a rs bs (All-tail (AreRowsApart r) q rs apart) is zip.1)
+      All-cons (AreOfDifferentModules a) b bs (apart_amounts r q a b (All-head (AreRowsApart r) q rs apart) is zip.0) (apart_from r a rs bs (All-tail (AreRowsApart r) q rs apart) is zip.1)
 
-  pub amounts_once : (rows : List ModuleRow) (amounts : List Amount) → AllPairs AreRowsApart rows → AllZip (IsAmountAt den) rows amounts → AllPairs AreApart amounts
+  pub amounts_once : (rows : List ModuleRow) (amounts : List Amount) → AllPairs AreRowsApart rows → AllZip (IsAmountAt den) rows amounts → AllPairs AreOfDifferentModules amounts
   amounts_once [] [] once zip = λ i j d lt within. absurd (omega arith)
   amounts_once [] (a ∷ bs) once zip = absurd zip
   amounts_once (r ∷ rs) [] once zip = absurd zip
   amounts_once (r ∷ rs) (a ∷ bs) once zip =
-      AllPairs-cons AreApart a bs (apart_from r a rs bs (λ k d lt. once 0 (suc k) d (omega arith) (omega arith)) zip.0 zip.1)
+      AllPairs-cons AreOfDifferentModules a bs (apart_from r a rs bs (λ k d lt. once 0 (suc k) d (omega arith) (omega arith)) zip.0 zip.1)
       (amounts_once rs bs (λ i j d lt within. once (suc i) (suc j) d (omega arith) (omega arith)) zip.1)
 
   amount_there : (rows : List ModuleRow) (amounts : List Amount) (k : ℕ) (r : ModuleRow) → AllZip (IsAmountAt den) rows amounts → k < length rows → get_or rows k r ≡ r

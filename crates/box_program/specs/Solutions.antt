@@ -30,8 +30,8 @@ pub record IsAmountOf (links : List Link) (box : List (List Span)) (den : ℕ) (
   pub lies : LiesIn (span_at box a.link a.module) a
 
 -- two amounts are of different modules
-abbrev pub AreApart : Amount → Amount → Type 0
-AreApart a b = (a.link ≢ b.link) ⊎ (a.module ≢ b.module)
+abbrev pub AreOfDifferentModules : Amount → Amount → Type 0
+AreOfDifferentModules a b = (a.link ≢ b.link) ⊎ (a.module ≢ b.module)
 
 -- an amount of module m of link e is among them
 abbrev pub HasAmount : List Amount → ℕ → ℕ → Type 0
@@ -52,6 +52,6 @@ pub record IsCertificateOf (n : ℕ) (cert : BoxCert) : Type 0 where
 pub record IsSolutionOf (links : List Link) (n : ℕ) (box : List (List Span)) (s : Solution) : Type 0 where
   pub den : 0 < s.den
   pub each : All (IsAmountOf links box s.den) s.amounts
-  pub once : AllPairs AreApart s.amounts
+  pub once : AllPairs AreOfDifferentModules s.amounts
   pub all : (e m : ℕ) → IsFree links box e m → HasAmount s.amounts e m
   pub certificate : IsCertificateOf n s.cert
