@@ -265,21 +265,6 @@ impl AbleTest {
         self.stop_in_turn(instance, caps)
     }
 
-    /// A cut that is known and that counts of modules violate, the newest first: then they don't carry the demands. It takes time in the number
-    /// of the cuts and the links, and memory for a copy of the cut.
-    pub fn known_stop(&self, instance: &Instance, counts: &Counts) -> Result<Option<Stop>, NoMemory>
-        requires sound { IsTestOf (case_of instance.now) self.now }
-        requires shape { AreCounts instance.now.net.now.links counts.now }
-        requires limits { AreWithinLimits instance.now.net.now.links counts.now }
-        ensures { IfOk result (λ o. IfSome o (IsStopAt (case_of instance.now) (whole_caps (capacities instance.now.net.now.links counts.now)))) }
-    {
-        let caps = capacities(self.alloc, instance.net, counts)?;
-        match last_violated(self.cuts.items(), &caps)? {
-            Some(line) => Ok(Some(Stop::Cut(line))),
-            None => Ok(None),
-        }
-    }
-
     /// Why counts of modules aren't known to carry the demands in all states, none of which separates a demand: a cut of some state, or else
     /// evidence. `None` where they carry them: then `routings` has a routing for each state within their capacities.
     ///

@@ -22,4 +22,4 @@ pub use able_counts::Stop;
 pub use dearest::{Priced, dearest_first};
 pub use lowered::{Place, module_count, one_less};
 pub use sparing::spare_modules;
-pub use trimming::{Block, Trimmed, know_certificate, trim};
+pub use trimming::{Block, Trimmed, trim};

@@ -37,9 +37,8 @@ pub struct Trimming {
     pub blocks: List<Block>,
 }
 
-/// Tells a test the cuts of a plan's certificate, so that it asks the states about fewer counts. It takes the time and the memory of
-/// `AbleTest::know` for each.
-pub fn know_certificate(
+/// Tells a test the cuts of a plan's certificate, so that it asks the states about fewer counts.
+fn know_certificate(
     instance: &Instance,
     certificate: &Certificate,
     test: &mut AbleTest,
