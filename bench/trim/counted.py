@@ -1,6 +1,6 @@
 """Puts counters into the plain code of the crates: counts that are asked about, those that a known
-cut refuses, states whose last routing is mended, states routed anew, those of them by a routing
-program, and counts of which it is looked up whether a known cut refuses them.
+cut refuses, states whose last routing is mended, states routed anew, and those of them by a routing
+program.
 
 Usage: counted.py FOLDER
 """
@@ -12,7 +12,6 @@ PLACES = [
     ("able_counts/quick.rs", "        *routing = found;", "        crate::work(2);\n{}"),
     ("able_counts/routed.rs", "    let mut known = columns_of", "    crate::work(3);\n{}"),
     ("flow_router/route.rs", "    match solve_task", "    crate::work(4);\n{}"),
-    ("able_counts/able_test.rs", "        match last_violated", "        crate::work(5);\n{}"),
 ]
 
 

@@ -89,15 +89,15 @@ unsafe extern "C" {
 }
 
 /// How often counts were asked about, how many of these a known cut refused, how many states had their routing mended, how many were
-/// routed anew, how many of these by a routing program, and how often it was only looked up whether a known cut refuses counts.
-pub static WORK: [std::sync::atomic::AtomicU64; 6] = [const { std::sync::atomic::AtomicU64::new(0) }; 6];
+/// routed anew, and how many of these by a routing program.
+pub static WORK: [std::sync::atomic::AtomicU64; 5] = [const { std::sync::atomic::AtomicU64::new(0) }; 5];
 
 pub fn work(kind: usize) {
     WORK[kind].fetch_add(1, std::sync::atomic::Ordering::Relaxed);
 }
 
-fn taken() -> [u64; 6] {
-    [0, 1, 2, 3, 4, 5].map(|kind| WORK[kind].swap(0, std::sync::atomic::Ordering::Relaxed))
+fn taken() -> [u64; 5] {
+    [0, 1, 2, 3, 4].map(|kind| WORK[kind].swap(0, std::sync::atomic::Ordering::Relaxed))
 }
 
 /// The number that a name such as n12 ends with.

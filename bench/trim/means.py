@@ -14,7 +14,7 @@ LEAST = {
 HEAD = [
     "Network", "Plan / least", "Trimmed / least", "Swapped / least", "Worst of these", "Trimmed / plan", "Swapped / plan",
     "Plan, ms", "Trim, ms", "Swaps, ms", "Asks of trim", "By a known cut", "Mended", "Anew", "Programs",
-    "Asks of swaps", "By a known cut", "Mended", "Anew", "Programs", "Looked up",
+    "Asks of swaps", "By a known cut", "Mended", "Anew", "Programs",
 ]
 
 
@@ -30,7 +30,7 @@ def main():
         costs, times = [int(w) for w in words[1:4]], [float(w) for w in words[6:9]]
         seed, _, nodes = words[0].partition(".")
         least = LEAST[int(nodes)][int(seed) - 1] * 1000 if nodes else None
-        rows.setdefault(f"{nodes} nodes" if nodes else seed, []).append((costs, least, times, numbers(words[10:15]) + numbers(words[17:23])))
+        rows.setdefault(f"{nodes} nodes" if nodes else seed, []).append((costs, least, times, numbers(words[10:15]) + numbers(words[16:21])))
     print("| " + " | ".join(HEAD) + " |")
     print("|---" * len(HEAD) + "|")
     for name, all_of in rows.items():
@@ -40,7 +40,7 @@ def main():
         over.append(f"{max(r[0][2] / r[1] for r in all_of):.3f}" if all_of[0][1] else "")
         over += [f"{mean(lambda r: r[0][i] / r[0][0]):.3f}" for i in (1, 2)]
         times = [f"{mean(lambda r: r[2][i]):.2f}" for i in range(3)]
-        counts = [f"{mean(lambda r: r[3][i]):.0f}" for i in range(11)]
+        counts = [f"{mean(lambda r: r[3][i]):.0f}" for i in range(10)]
         print("| " + " | ".join([name, *over, *times, *counts]) + " |")
 
 
