@@ -1,4 +1,4 @@
--- the comment lines of a branch tree: the cuts that it names, its nodes in preorder, and its verdict
+-- the comment lines of a branch tree: its cuts, its nodes in preorder, and its verdict
 use Rattle.std.specs.Prelude.{ℕ, List, [], ◌∷◌, ◌++◌, All, codes, flat_map, length, map, zip}
 use Rattle.std.specs.List.{range_with_len}
 use Rattle.plan_terms.specs.Terms.{CutLine, Demand, Link, Places}

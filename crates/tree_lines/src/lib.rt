@@ -1,4 +1,4 @@
-//! The comment lines of a branch tree below a report: the cuts that it names, its nodes in preorder, and what it shows.
+//! The comment lines of a branch tree below a report: its cuts, its nodes in preorder, and what it shows.
 #![tactic(auto)]
 
 mod cuts;
