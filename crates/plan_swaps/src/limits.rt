@@ -26,10 +26,11 @@ fn are_small(capacities: &[u128]) -> bool
     capacities.iter().all(|n| *n < 1 << 46)
 }
 
-/// Whether counts are within the limits: each below 2^44, and each link's capacity below 2^46 units.
+/// Whether counts are within the limits of plans: each below 2^44, and each link's capacity below 2^46 units. It takes time in the number
+/// of the modules, and memory for a number of each link.
 pub fn are_within_limits(alloc: Global, net: &Network, counts: &Counts) -> Result<bool, NoMemory>
     requires { AreCounts net.now.links counts.now }
-    ensures { IfOk result (λ b. IsTrue b → AreWithinLimits net.now.links counts.now) }
+    ensures { IfOk result (λ b. IsTrue b ↔ AreWithinLimits net.now.links counts.now) }
 {
     let caps = capacities(alloc, net, counts)?;
     Ok(are_all_few(counts.items()) && are_small(caps.nums.items()))
