@@ -1,0 +1,120 @@
+-- what is found at a box
+use Rattle.std.proofs.Common.{◌≡◌, ℕ, ◌+◌, ◌^◌, ◌≤◌, ◌<◌, List, [], ◌∷◌, ◌++◌, All, Some, get_or, length, map, take, refl, subst, sym, arith, slice_get}
+use Rattle.net_core.proofs.Library.{All-map, All-take, All-weaker, slice_get-get_or}
+use Rattle.net_core.proofs.Networks.{few_links}
+use Rattle.module_choice.proofs.Carrying.{network_links}
+use Rattle.able_counts.specs.AbleTests.{IsWideSomewhere, whole_caps}
+use Rattle.plan_terms.specs.Terms.{AreCounts, AreDemands, Case, CutLine, Evidence, IsCut, IsNetwork, Link, Violates, capacities, total_cost}
+use Rattle.plan_types.specs.declared.plan.Plan.{Plan}
+use Rattle.tree_check.specs.Boxes.{IsFixedBox, least_counts}
+use Rattle.tree_check.specs.BoxValues.{HasBoxValue, IsEmptiedBy}
+use Rattle.tree_check.specs.Lines.{NamesLine, line_of_cut}
+use Rattle.tree_check.specs.Proofs.{EmptiesBox}
+use Rattle.tree_check.specs.Trees.{TreeBox}
+use Rattle.tree_check.specs.declared.boxes.Span.{Span}
+use Rattle.tree_check.specs.declared.proof.Node.TheVariants.{Closed, Empty}
+use Rattle.branch_tree.specs.Proving.{HasFreeValue, IsUnsettled}
+use Rattle.branch_tree.specs.declared.certs.Valued.{Valued}
+use Rattle.branch_tree.specs.declared.found.Cheaper.{Cheaper}
+use Rattle.branch_tree.specs.declared.found.Found.TheVariants as found
+use Rattle.branch_tree.specs.declared.twigs.Twig.TheVariants as twig
+use Rattle.branch_tree.specs.inner.Growing.{AreCheaperCounts, IsFoundAt, IsSearchBox, IsValued}
+use Rattle.branch_tree.proofs.Extending.{low_box}
+use Rattle.branch_tree.proofs.FreeValues.{free_value}
+use Rattle.branch_tree.proofs.LeastCosts.{free_reaches}
+use Rattle.branch_tree.proofs.OwnValues.{place_names}
+use Rattle.branch_tree.proofs.ViolatedCuts.{violated_empties}
+use Rattle.branch_tree.proofs.WideForms.{wide_form}
+
+-- ---- settled boxes
+
+-- a certificate of at least the plan's cost
+pub closed_found : (p : Case) (plan : Plan) (handed cuts : List CutLine) (n : ℕ) (box : TreeBox) (v : Valued) → HasBoxValue (NamesLine p cuts) p.links box v.cert v.value
+    → plan.cost ≤ v.value → IsFoundAt p plan handed cuts n box (found.Twig (twig.Settled (Closed v.cert)))
+closed_found p plan handed cuts n box v has reaches = ((record { value = v.value; has = has; reaches = reaches }, tt), refl)
+
+-- a cut that empties it
+pub empty_found : (p : Case) (plan : Plan) (handed cuts : List CutLine) (n : ℕ) (box : TreeBox) (i : ℕ) → EmptiesBox (NamesLine p cuts) p.links box i
+    → IsFoundAt p plan handed cuts n box (found.Twig (twig.Settled (Empty i)))
+empty_found p plan handed cuts n box i empties = ((empties, tt), refl)
+
+-- a greater value
+pub valued_more : (p : Case) (plan : Plan) (cuts : List CutLine) (box : TreeBox) (old new : Valued) → IsValued p plan cuts box old
+    → HasBoxValue (NamesLine p cuts) p.links box new.cert new.value → old.value ≤ new.value → IsValued p plan cuts box new
+valued_more p plan cuts box old new is has more = record { has = has; least = λ value plans. omega (arith, is.least value plans, more) }
+
+-- a box that no cut empties, and whose best certificate doesn't close it
+pub unsettled_box : (p : Case) (plan : Plan) (cuts : List CutLine) (n : ℕ) (box : TreeBox) (v : Valued) → All (IsCut p) cuts
+    → ((i : ℕ) → EmptiesBox (NamesLine p cuts) p.links box i → ⊥) → IsValued p plan cuts box v → ((value : ℕ) → HasFreeValue p.links box value → value ≤ v.value)
+    → v.value < plan.cost → IsUnsettled p.links plan (take n cuts) box
+unsettled_box p plan cuts n box v sound none valued free below = record {
+  unemptied = All-take (λ (cut : CutLine). IsEmptiedBy p.links box (line_of_cut p.links cut) → ⊥) n cuts
+      (λ k d lt empties. none k (line_of_cut p.links (get_or cuts k d), place_names p cuts k (get_or cuts k d) sound (slice_get-get_or cuts k d lt), empties));
+  by_plan = λ value plans. omega (arith, valued.least value plans, below);
+  by_none = λ value frees. omega (arith, free value frees, below);
+}
+
+-- a box that has to be split
+pub open_found : (p : Case) (plan : Plan) (handed cuts : List CutLine) (n : ℕ) (box : TreeBox) (v : Valued) (rank seen : ℕ) → IsSearchBox p.links n box → IsValued p plan cuts box v
+    → v.value < plan.cost → IsUnsettled p.links plan handed box → (IsFixedBox box → ⊥)
+    → IsFoundAt p plan handed cuts n box (found.Twig (twig.Open (record { boxed = box; best = v; rank = rank; seen = seen })))
+open_found p plan handed cuts n box v rank seen is valued below unsettled unfixed =
+    (record { same = refl; search_box = is; valued = valued; below = below; unsettled = unsettled; unfixed = unfixed }, refl)
+
+-- ---- boxes of one choice of counts
+
+last_at : {X : Type 0} (xs : List X) (x : X) → slice_get (xs ++ x ∷ []) (length xs) ≡ Some x
+last_at [] x = refl
+last_at (y ∷ xs) x = last_at xs x
+
+-- a cut that its counts violate is put last
+pub violated_found : (p : Case) (plan : Plan) (handed cuts more : List CutLine) (cut : CutLine) (n i : ℕ) (box : TreeBox) → i ≡ length cuts → AreCounts p.links (least_counts box) → IsFixedBox box
+    → more ≡ cuts ++ cut ∷ [] → All (IsCut p) more → IsCut p cut → Violates (whole_caps (capacities p.links (least_counts box))) cut
+    → IsFoundAt p plan handed more n box (found.Twig (twig.Settled (Empty i)))
+violated_found p plan handed cuts more cut n i box last shape fixed is sound of violated =
+    empty_found p plan handed more n box i (
+      line_of_cut p.links cut,
+      place_names p more i cut sound (subst (λ (k : ℕ). slice_get more k ≡ Some cut) (sym last) (subst (λ (cs : List CutLine). slice_get cs (length cuts) ≡ Some cut) (sym is) (last_at cuts cut))),
+      violated_empties p.links box shape fixed cut of.kept.count violated,
+    )
+
+-- its counts cost less than the plan
+pub fixed_cheaper : (p : Case) (plan : Plan) (handed : List CutLine) (n : ℕ) (box : TreeBox) → ∥ IsNetwork p.nodes p.links ∥₁ → IsSearchBox p.links n box → n ≤ 2 ^ 14
+    → IsUnsettled p.links plan handed box → total_cost p.links (least_counts box) < plan.cost
+fixed_cheaper p plan handed n box network is few unsettled =
+    let low = (low_box p.links n (2 ^ 14) box few is).low in
+    let free = free_value p.links (few_links p.nodes p.links network)
+    (λ k d lt. let sound = network_links p.nodes p.links network k d lt in (sound.few, sound.setup, sound.each)) box low in
+    omega (arith, free_reaches p.links box free.0 is.shape free.1, unsettled.by_none free.0 free.1)
+
+pub cheaper_than : (p : Case) (most cost : ℕ) (c : Cheaper) → most < cost → AreCheaperCounts p (most + 1) c → AreCheaperCounts p cost c
+cheaper_than p most cost c less is = record {
+  shape = is.shape;
+  limits = is.limits;
+  routings = is.routings;
+  paid = is.paid;
+  cheaper = omega (arith, less, is.cheaper);
+}
+
+low_counts : (links : List Link) (n : ℕ) (box : TreeBox) → n ≤ 2 ^ 14 → IsSearchBox links n box → All (All (λ m. m < 2 ^ 64)) (least_counts box)
+low_counts links n box few is =
+    All-map (All (λ (m : ℕ). m < 2 ^ 64)) (λ (spans : List Span). map (λ (s : Span). s.least) spans) box
+    (All-weaker (All (λ (s : Span). s.least ≤ 2 ^ 44 + n)) (λ spans. All (λ (m : ℕ). m < 2 ^ 64) (map (λ (s : Span). s.least) spans))
+    (λ (spans : List Span) low. All-map (λ (m : ℕ). m < 2 ^ 64) (λ (s : Span). s.least) spans
+    (All-weaker (λ (s : Span). s.least ≤ 2 ^ 44 + n) (λ s. s.least < 2 ^ 64) (λ (s : Span) le. omega (arith, le, few)) spans low))
+    box is.low)
+
+-- evidence that a number is too wide at its counts
+pub stuck_found : (p : Case) (plan : Plan) (handed cuts : List CutLine) (n : ℕ) (box : TreeBox) (v : Valued) (evidence : Evidence) → ∥ IsNetwork p.nodes p.links ∥₁ → AreDemands (length p.nodes) p.demands
+    → IsSearchBox p.links n box → n ≤ 2 ^ 14 → IsFixedBox box → IsValued p plan cuts box v → v.value < plan.cost → IsWideSomewhere p (whole_caps (capacities p.links (least_counts box))) evidence
+    → IsFoundAt p plan handed cuts n box (found.Twig (twig.Stuck v evidence))
+stuck_found p plan handed cuts n box v evidence network demands is few fixed valued below wide = (
+  record {
+    valued = valued;
+    below = below;
+    fixed = fixed;
+    form = wide_form p (network_links p.nodes p.links network) demands (least_counts box) is.shape (low_counts p.links n box few is) evidence wide;
+    wide = wide;
+  },
+  refl,
+)

@@ -1,0 +1,58 @@
+use Rattle.std.proofs.Common.{List, IfOk, subst}
+use Rattle.net_core.proofs.Library.{on_ok_weaker, slice_get_within}
+use Rattle.plan_terms.specs.Terms.{CutLine}
+use Rattle.branch_tree.specs.declared.twigs.Twig.{Twig}
+use Rattle.branch_tree.specs.declared.twigs.Twig.TheVariants as twig
+use Rattle.branch_tree.specs.inner.Growing.{IsTurnTo, aimed}
+use Rattle.branch_tree.specs.inner.Places.{AreSettled, IsOpenPlace}
+use Rattle.branch_tree.proofs.Extending.{aim_on, handed_same, learned_on}
+use Rattle.branch_tree.proofs.growth.grow_once.Goals as goal
+
+pub look_again-requires-clause-aim : goal.look_again-requires-clause-aim
+look_again-requires-clause-aim c = aim_on c.args.aim.now c.args.search.now.known.cuts c.loop.search.known.cuts c.loop.invariant.learned.extends c.requires.aim
+
+pub look_again-requires-clause-at : goal.look_again-requires-clause-at
+look_again-requires-clause-at c =
+    let twigs = c.loop.tree.twigs.items in
+    let place = subst (λ (ts : List Twig). IsOpenPlace ts c.in-Some.at) c.deref.ensures.value c.in-Some.ensures in
+    slice_get_within twigs c.in-Some.at (twig.Open place.opened) place.at
+
+pub returns-in_default-clause-turn : goal.returns-in_default-clause-turn
+returns-in_default-clause-turn c = (c.loop.invariant.growing, subst (λ (ts : List Twig). AreSettled ts) c.deref.ensures.value c.in_default.ensures)
+
+pub split_at-requires-clause-aim : goal.split_at-requires-clause-aim
+split_at-requires-clause-aim c =
+    let first = learned_on c.args.search.now c.loop.search c.look_again.new.search c.loop.invariant.learned c.in_ok-cheaper.ensures.learned in
+    aim_on c.args.aim.now c.args.search.now.known.cuts c.look_again.new.search.known.cuts first.extends c.requires.aim
+
+pub returns-then-eq-clause-learned : goal.returns-then-eq-clause-learned
+returns-then-eq-clause-learned c =
+    let first = learned_on c.args.search.now c.loop.search c.look_again.new.search c.loop.invariant.learned c.in_ok-cheaper.ensures.learned in
+    on_ok_weaker c.split_at.result (learned_on c.args.search.now c.look_again.new.search c.split_at.new.search first) c.split_at.ensures.learned
+
+pub returns-then-eq-clause-turn : goal.returns-then-eq-clause-turn
+returns-then-eq-clause-turn c =
+    let a = c.args.aim.now in
+    let first = learned_on c.args.search.now c.loop.search c.look_again.new.search c.loop.invariant.learned c.in_ok-cheaper.ensures.learned in
+    subst (λ (handed : List CutLine). IfOk c.split_at.result (IsTurnTo (aimed a) a.plan.now handed c.split_at.new.search.known.cuts c.args.splits c.split_at.new.tree.twigs.items))
+    (handed_same c.args.search.now c.look_again.new.search first c.requires.search.inside)
+    c.split_at.ensures.turn
+
+pub split_at-requires-in-Some-least_open-clause-aim : goal.split_at-requires-in-Some-least_open-clause-aim
+split_at-requires-in-Some-least_open-clause-aim c = aim_on c.args.aim.now c.args.search.now.known.cuts c.loop.search.known.cuts c.loop.invariant.learned.extends c.requires.aim
+
+pub returns-in-None-clause-turn : goal.returns-in-None-clause-turn
+returns-in-None-clause-turn c = (c.loop.invariant.growing, subst (λ (ts : List Twig). AreSettled ts) c.deref-2.ensures.value c.in-None.ensures)
+
+pub returns-in-Some-least_open-clause-learned : goal.returns-in-Some-least_open-clause-learned
+returns-in-Some-least_open-clause-learned c =
+    let split = c.split_at-in-Some-least_open in
+    on_ok_weaker split.result (learned_on c.args.search.now c.loop.search split.new.search c.loop.invariant.learned) split.ensures.learned
+
+pub returns-in-Some-least_open-clause-turn : goal.returns-in-Some-least_open-clause-turn
+returns-in-Some-least_open-clause-turn c =
+    let a = c.args.aim.now in
+    let split = c.split_at-in-Some-least_open in
+    subst (λ (handed : List CutLine). IfOk split.result (IsTurnTo (aimed a) a.plan.now handed split.new.search.known.cuts c.args.splits split.new.tree.twigs.items))
+    (handed_same c.args.search.now c.loop.search c.loop.invariant.learned c.requires.search.inside)
+    split.ensures.turn

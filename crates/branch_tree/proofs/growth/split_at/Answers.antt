@@ -1,0 +1,116 @@
+use Rattle.std.proofs.Common.{◌+◌, ◌^◌, List, insert, set, subst, sym, arith}
+use Rattle.net_core.proofs.Library.{slice_get_within}
+use Rattle.tree_check.specs.declared.proof.Node.{Node}
+use Rattle.branch_tree.specs.declared.growth.Sides.{Sides}
+use Rattle.branch_tree.specs.declared.growth.Sides.TheVariants as sides
+use Rattle.branch_tree.specs.declared.twigs.Twig.{Twig}
+use Rattle.branch_tree.specs.declared.twigs.Twig.TheVariants as twig
+use Rattle.branch_tree.specs.inner.Growing.{AreSidesOf, IsGrowing, aimed, handed_in}
+use Rattle.branch_tree.proofs.Extending.{growing_on, low_box}
+use Rattle.branch_tree.proofs.Sides.{split_link_small, split_module_small}
+use Rattle.branch_tree.proofs.Turning.{open_known, read_open, split_growing}
+use Rattle.branch_tree.proofs.growth.split_at.Goals as goal
+
+pub choose-requires-clause-search_box : goal.choose-requires-clause-search_box
+choose-requires-clause-search_box c =
+    let a = c.args.aim.now in
+    let s = c.args.search.now in
+    let twigs = c.args.tree.now.twigs.items in
+    let inside = slice_get_within twigs c.args.at (twig.Open c.requires.open.opened) c.requires.open.at in
+    let there = read_open twigs c.args.at c.index.result.now c.in-Open.open inside c.index.ensures c.in-Open.is in
+    let known = open_known (aimed a) a.plan.now (handed_in s) s.known.cuts c.args.splits c.args.at twigs c.in-Open.open there c.requires.growing in
+    low_box a.instance.now.net.now.links c.args.splits (2 ^ 14) c.in-Open.open.boxed (omega (arith, c.requires.splits)) known.search_box
+
+pub choose-requires-clause-unfixed : goal.choose-requires-clause-unfixed
+choose-requires-clause-unfixed c =
+    let a = c.args.aim.now in
+    let s = c.args.search.now in
+    let twigs = c.args.tree.now.twigs.items in
+    let inside = slice_get_within twigs c.args.at (twig.Open c.requires.open.opened) c.requires.open.at in
+    let there = read_open twigs c.args.at c.index.result.now c.in-Open.open inside c.index.ensures c.in-Open.is in
+    (open_known (aimed a) a.plan.now (handed_in s) s.known.cuts c.args.splits c.args.at twigs c.in-Open.open there c.requires.growing).unfixed
+
+pub choose-requires-clause-by_none : goal.choose-requires-clause-by_none
+choose-requires-clause-by_none c =
+    let a = c.args.aim.now in
+    let s = c.args.search.now in
+    let twigs = c.args.tree.now.twigs.items in
+    let inside = slice_get_within twigs c.args.at (twig.Open c.requires.open.opened) c.requires.open.at in
+    let there = read_open twigs c.args.at c.index.result.now c.in-Open.open inside c.index.ensures c.in-Open.is in
+    (open_known (aimed a) a.plan.now (handed_in s) s.known.cuts c.args.splits c.args.at twigs c.in-Open.open there c.requires.growing).unsettled.by_none
+
+pub look_sides-requires-clause-open : goal.look_sides-requires-clause-open
+look_sides-requires-clause-open c =
+    let a = c.args.aim.now in
+    let s = c.args.search.now in
+    let twigs = c.args.tree.now.twigs.items in
+    let inside = slice_get_within twigs c.args.at (twig.Open c.requires.open.opened) c.requires.open.at in
+    let there = read_open twigs c.args.at c.index.result.now c.in-Open.open inside c.index.ensures c.in-Open.is in
+    open_known (aimed a) a.plan.now (handed_in s) s.known.cuts c.args.splits c.args.at twigs c.in-Open.open there c.requires.growing
+
+pub look_sides-requires-clause-choice : goal.look_sides-requires-clause-choice
+look_sides-requires-clause-choice c =
+    let a = c.args.aim.now in
+    let s = c.args.search.now in
+    let twigs = c.args.tree.now.twigs.items in
+    let inside = slice_get_within twigs c.args.at (twig.Open c.requires.open.opened) c.requires.open.at in
+    let there = read_open twigs c.args.at c.index.result.now c.in-Open.open inside c.index.ensures c.in-Open.is in
+    let known = open_known (aimed a) a.plan.now (handed_in s) s.known.cuts c.args.splits c.args.at twigs c.in-Open.open there c.requires.growing in
+    c.in_ok-choice.ensures c.args.splits known.search_box.low
+
+pub split_of-requires-clause-link : goal.split_of-requires-clause-link
+split_of-requires-clause-link c =
+    let a = c.args.aim.now in
+    let net = a.instance.now.net.now in
+    let s = c.args.search.now in
+    let twigs = c.args.tree.now.twigs.items in
+    let o = c.in-Open.open in
+    let choice = c.in_ok-choice.choice in
+    let inside = slice_get_within twigs c.args.at (twig.Open c.requires.open.opened) c.requires.open.at in
+    let there = read_open twigs c.args.at c.index.result.now o inside c.index.ensures c.in-Open.is in
+    let known = open_known (aimed a) a.plan.now (handed_in s) s.known.cuts c.args.splits c.args.at twigs o there c.requires.growing in
+    let is = c.in_ok-choice.ensures c.args.splits known.search_box.low in
+    split_link_small net.nodes net.links c.args.splits o.boxed choice.place.link choice.place.module choice.at net.checked known.search_box is.split
+
+pub split_of-requires-clause-inside : goal.split_of-requires-clause-inside
+split_of-requires-clause-inside c =
+    let a = c.args.aim.now in
+    let net = a.instance.now.net.now in
+    let s = c.args.search.now in
+    let twigs = c.args.tree.now.twigs.items in
+    let o = c.in-Open.open in
+    let choice = c.in_ok-choice.choice in
+    let inside = slice_get_within twigs c.args.at (twig.Open c.requires.open.opened) c.requires.open.at in
+    let there = read_open twigs c.args.at c.index.result.now o inside c.index.ensures c.in-Open.is in
+    let known = open_known (aimed a) a.plan.now (handed_in s) s.known.cuts c.args.splits c.args.at twigs o there c.requires.growing in
+    let is = c.in_ok-choice.ensures c.args.splits known.search_box.low in
+    split_module_small net.nodes net.links c.args.splits o.boxed choice.place.link choice.place.module choice.at net.checked known.search_box is.split
+
+pub split-requires : goal.split-requires
+split-requires c = slice_get_within c.args.tree.now.twigs.items c.args.at (twig.Open c.requires.open.opened) c.requires.open.at
+
+pub returns-in_ok-split-in-Twigs-clause-turn : goal.returns-in_ok-split-in-Twigs-clause-turn
+returns-in_ok-split-in-Twigs-clause-turn c =
+    let a = c.args.aim.now in
+    let p = aimed a in
+    let plan = a.plan.now in
+    let s = c.args.search.now in
+    let handed = handed_in s in
+    let cuts = c.look_sides.new.search.known.cuts in
+    let n = c.args.splits in
+    let i = c.args.at in
+    let twigs = c.args.tree.now.twigs.items in
+    let o = c.in-Open.open in
+    let choice = c.in_ok-choice.choice in
+    let lower = c.in-Twigs.lower in
+    let upper = c.in-Twigs.upper in
+    let inside = slice_get_within twigs i (twig.Open c.requires.open.opened) c.requires.open.at in
+    let there = read_open twigs i c.index.result.now o inside c.index.ensures c.in-Open.is in
+    let known = open_known p plan handed s.known.cuts n i twigs o there c.requires.growing in
+    let is = c.in_ok-choice.ensures n known.search_box.low in
+    let both : AreSidesOf p plan handed cuts (n + 1) o.boxed choice (sides.Twigs lower upper) =
+    subst (λ (found : Sides). AreSidesOf p plan handed cuts (n + 1) o.boxed choice found) c.in-Twigs.is c.in_ok-cheaper.ensures.found in
+    let later = growing_on p plan s.known.cuts cuts c.in_ok-cheaper.ensures.learned.extends handed n twigs c.requires.growing in
+    subst (λ (ts : List Twig). IsGrowing p plan handed cuts (n + 1) ts) (sym c.in_ok-split-in-Twigs.ensures)
+    (subst (λ (node : Node). IsGrowing p plan handed cuts (n + 1) (set (insert (insert twigs (i + 1) upper) (i + 1) lower) i (twig.Settled node))) (sym c.split_of.ensures)
+    (split_growing p plan handed cuts n i twigs o there later choice lower upper is both))

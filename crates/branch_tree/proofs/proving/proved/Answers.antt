@@ -1,0 +1,42 @@
+use Rattle.std.proofs.Common.{◌∙◌, refl, subst}
+use Rattle.std.proofs.lemmas.Result.{IfOk-weaker}
+use Rattle.plan_terms.specs.Terms.{case_of}
+use Rattle.branch_tree.specs.declared.growth.Growth.{Growth}
+use Rattle.branch_tree.specs.inner.Growing.{IsGrownTo, handed_in}
+use Rattle.branch_tree.proofs.Extending.{handed_same}
+use Rattle.branch_tree.proofs.Restarts.{aim_of, attempt_room, cheaper_both, cheaper_none, made_proof}
+use Rattle.branch_tree.proofs.proving.proved.Goals as goal
+
+pub attempt-init : goal.attempt-init
+attempt-init c = record { plan = cheaper_none (case_of c.args.instance.now) c.args.plan c.requires.routed; search = c.requires.search; handed = refl; few = c.requires.few }
+
+pub grown-requires-clause-aim : goal.grown-requires-clause-aim
+grown-requires-clause-aim c =
+    aim_of _ c.args.plan c.attempt.search (handed_in c.args.search) c.requires.survivable c.requires.demands c.attempt.invariant.plan c.attempt.invariant.handed c.requires.own
+
+pub grown-requires-clause-room : goal.grown-requires-clause-room
+grown-requires-clause-room c = attempt_room (case_of c.args.instance.now) c.attempt.search c.args.limit c.attempt.invariant.search c.attempt.invariant.few c.requires.limit
+
+pub attempt-preserved : goal.attempt-preserved
+attempt-preserved c =
+    let p = case_of c.args.instance.now in
+    let old = c.attempt.search in
+    let told = c.in_ok-cheaper.ensures in
+    record {
+      plan = cheaper_both p c.args.plan c.attempt.plan _ c.attempt.invariant.plan c.in_ok-plan-in-Cheaper.ensures.plan;
+      search = c.in_ok-search-in-Cheaper.ensures.search;
+      handed = c.in_ok-search-in-Cheaper.ensures.handed ∙ (handed_same old c.grown.new.search told.learned c.attempt.invariant.search.inside ∙ c.attempt.invariant.handed);
+      few = c.in_ok-search-in-Cheaper.ensures.few;
+    }
+
+pub returns-in-Tree : goal.returns-in-Tree
+returns-in-Tree c =
+    let p = case_of c.args.instance.now in
+    let old = c.attempt.search in
+    let new = c.grown.new.search in
+    let told = c.in_ok-cheaper.ensures in
+    let is = subst (λ (g : Growth). IsGrownTo p c.attempt.plan (handed_in old) new.known.cuts c.args.limit g) c.in-Tree.is told.grown in
+    IfOk-weaker c.proof_of.result _ _
+    (made_proof p c.args.plan c.attempt.plan old new c.in-Tree.tree c.args.limit (handed_in c.args.search) c.attempt.invariant.handed c.attempt.invariant.plan c.requires.certified c.requires.limit
+    c.attempt.invariant.search told.search told.learned is)
+    c.proof_of.ensures

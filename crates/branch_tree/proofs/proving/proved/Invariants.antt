@@ -1,0 +1,18 @@
+use Rattle.std.proofs.Common.{◌≡◌, ◌+◌, ◌≤◌, length}
+use Rattle.plan_terms.specs.Terms.{case_of}
+use Rattle.plan_swaps.specs.Swaps.{IsCheaperPlan}
+use Rattle.branch_tree.specs.inner.Growing.{IsSearch, handed_in}
+use Rattle.branch_tree.proofs.proving.proved.Given as goal
+
+-- the plan is the given one or a cheaper one, and the handed-in cuts are the first ones still
+abbrev pub invariant-attempt : goal.invariant-attempt
+invariant-attempt l = record {
+  plan : IsCheaperPlan (case_of l.instance) l.fn.plan l.plan;
+  search : IsSearch (case_of l.instance) l.search;
+  handed : handed_in l.search ≡ handed_in l.fn.search;
+  few : length l.search.known.cuts ≤ l.search.handed + 4096;
+}
+
+-- each attempt begins with a cheaper plan
+abbrev pub decreases-attempt : goal.decreases-attempt
+decreases-attempt l = l.plan.cost

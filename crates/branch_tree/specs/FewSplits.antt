@@ -1,0 +1,57 @@
+-- how many splits a branch tree has at most
+use Rattle.std.specs.Prelude.{ℕ, ◌+◌, ◌-◌, ◌*◌, ◌/◌, ◌<◌, Bool, true, false, List, [], ◌∷◌, All, count_by, length}
+use Rattle.plan_terms.specs.Terms.{Link, Module}
+use Rattle.tree_check.specs.Boxes.{IsSplitOf}
+use Rattle.tree_check.specs.BoxValues.{module_costs}
+use Rattle.tree_check.specs.Lines.{entry}
+use Rattle.tree_check.specs.Trees.{IsNodeOf, TreeBox}
+use Rattle.tree_check.specs.declared.proof.Node.{Node}
+use Rattle.tree_check.specs.declared.proof.Node.TheVariants.{Split, Closed, Empty, Spent, Stuck}
+
+-- a node is a split
+abbrev pub is_split : Node → Bool
+is_split (Split link at_module number) = true
+is_split _ = false
+
+-- the number of splits of a tree
+abbrev pub split_number : List Node → ℕ
+split_number tree = count_by is_split tree
+
+-- how many whole numbers there are that cost less than the plan, at so much for each: the plan's cost over it, rounded up
+abbrev pub numbers_below : ℕ → ℕ → ℕ
+numbers_below cost each = (cost + each - 1) / each
+
+-- one more than these, multiplied over the modules of a link
+abbrev pub modules_room : ℕ → List Module → ℕ
+modules_room cost [] = 1
+modules_room cost (m ∷ modules) = (numbers_below cost m.cost + 1) * modules_room cost modules
+
+-- and over the modules of all links
+abbrev pub split_room : ℕ → List Link → ℕ
+split_room cost [] = 1
+split_room cost (l ∷ links) = modules_room cost l.modules * split_room cost links
+
+-- all modules cost something
+abbrev pub AreCharged : List Link → Type 0
+AreCharged links = All (λ l. All (λ m. 0 < m.cost) l.modules) links
+
+-- a split is one of its box, at a number of modules that cost less than the plan
+abbrev pub IsCheapSplit : List Link → ℕ → TreeBox → Node → Type 0
+IsCheapSplit links cost box (Split link at_module number) =
+    IsSplitOf box link.0 at_module number × (entry (module_costs links) link.0 at_module * number < cost)
+IsCheapSplit links cost box _ = Unit {0}
+
+-- node i of the list belongs to the tree, and is a cheap split if it is a split
+pub record IsCheapNode (links : List Link) (cost : ℕ) (tree : List Node) (i : ℕ) : Type 0 where
+  pub box : TreeBox
+  pub node : Node
+  pub stands : IsNodeOf links tree i box node
+  pub cheap : IsCheapSplit links cost box node
+
+-- Where all modules cost something, all nodes belong to the tree, and each split is at a number of modules that cost less than the plan,
+-- the tree has fewer splits than the product, over all modules, of one more than how many such numbers there are.
+abbrev pub SplitsAreFew : Type 0
+SplitsAreFew = (links : List Link) (cost : ℕ) (tree : List Node)
+    → AreCharged links
+    → ((i : ℕ) → i < length tree → IsCheapNode links cost tree i)
+    → split_number tree < split_room cost links

@@ -1,0 +1,3 @@
+pub mod Proving
+pub mod FewSplits
+pub mod inner

@@ -1,0 +1,102 @@
+-- what a search for a branch tree comes to: a proof, and the cause of each of its nodes
+use Rattle.std.specs.Prelude.{◌≡◌, ℕ, ◌+◌, ◌*◌, ◌^◌, ◌≤◌, ◌<◌, ◌↔◌, List, [], All, Contains, length, map, take}
+use Rattle.plan_terms.specs.Terms.{Case, CutLine, Evidence, IsCut, Link, capacities}
+use Rattle.plan_types.specs.declared.certificate.Certificate.{Certificate}
+use Rattle.plan_types.specs.declared.plan.Plan.{Plan}
+use Rattle.able_counts.specs.AbleTests.{IsWideSomewhere, whole_caps}
+use Rattle.plan_swaps.specs.Swaps.{IsCheaperPlan}
+use Rattle.tree_check.specs.Boxes.{IsFixedBox, least_counts}
+use Rattle.tree_check.specs.BoxValues.{IsBoxCertificate, IsBoxValue, IsEmptiedBy, WeightedLine, module_costs}
+use Rattle.tree_check.specs.Lines.{entry, line_of_cut}
+use Rattle.tree_check.specs.Proofs.{IsAcceptedProof, IsOpenAt}
+use Rattle.tree_check.specs.Trees.{IsNodeOf, TreeBox}
+use Rattle.tree_check.specs.declared.proof.BoxCert.{BoxCert}
+use Rattle.tree_check.specs.declared.proof.Node.{Node}
+use Rattle.tree_check.specs.declared.proof.Node.TheVariants.{Split, Closed, Empty, Spent, Stuck}
+use Rattle.tree_check.specs.declared.proof.Proof.{Proof}
+use Rattle.tree_check.specs.declared.proof.Verdict.TheVariants.{Above}
+use Rattle.branch_tree.specs.FewSplits.{AreCharged, split_number, split_room}
+
+-- ---- a plan's certificate over boxes
+
+-- the lines of a plan's certificate, with their numerators
+abbrev pub lines_of_plan : List Link → Certificate → List WeightedLine
+lines_of_plan links c = map (λ l. record { line = line_of_cut links l.cut; num = l.num }) c.lines
+
+-- the plan's certificate, read as one of boxes, has this value for a box
+abbrev pub HasPlanValue : List Link → Certificate → TreeBox → ℕ → Type 0
+HasPlanValue links c box value = IsBoxValue links box c.den (lines_of_plan links c) value
+
+-- the certificate of no lines has this value
+abbrev pub HasFreeValue : List Link → TreeBox → ℕ → Type 0
+HasFreeValue links box value = IsBoxValue links box 1 [] value
+
+-- ---- causes
+
+-- A box that isn't settled at once: no handed-in cut empties it, and neither the plan's certificate nor that of no lines closes it.
+pub record IsUnsettled (links : List Link) (plan : Plan) (handed : List CutLine) (box : TreeBox) : Type 0 where
+  pub unemptied : All (λ cut. IsEmptiedBy links box (line_of_cut links cut) → ⊥) handed
+  pub by_plan : (value : ℕ) → HasPlanValue links plan.certificate box value → value < plan.cost
+  pub by_none : (value : ℕ) → HasFreeValue links box value → value < plan.cost
+
+-- The cause of a node: a box is split only where it isn't settled at once, at a number of modules that cost less than the plan; it is
+-- spent only where it isn't settled at once, has several choices of counts, and the tree has as many splits as the limit says; it is
+-- stuck only where evidence holds at the capacities of its counts.
+abbrev pub HasNodeCause : Case → Plan → List CutLine → ℕ → List Node → TreeBox → Node → Type 0
+HasNodeCause p plan handed limit tree box (Split link at_module number) =
+    (entry (module_costs p.links) link.0 at_module * number < plan.cost) × IsUnsettled p.links plan handed box
+HasNodeCause p plan handed limit tree box (Spent cert) =
+    (split_number tree ≡ limit) × (IsFixedBox box → ⊥) × IsUnsettled p.links plan handed box
+HasNodeCause p plan handed limit tree box (Stuck cert evidence) = IsWideSomewhere p (whole_caps (capacities p.links (least_counts box))) evidence
+HasNodeCause p plan handed limit tree box _ = Unit {0}
+
+-- each node of the tree has its cause
+abbrev pub HaveNodeCauses : Case → List CutLine → ℕ → Proof → Type 0
+HaveNodeCauses p handed limit proof = (i : ℕ) (box : TreeBox) (node : Node)
+    → IsNodeOf p.links proof.tree i box node
+    → HasNodeCause p proof.plan handed limit proof.tree box node
+
+-- some leaf is open
+abbrev pub HasOpenLeaf : Case → Proof → Type 0
+HasOpenLeaf p proof = (i : ℕ) × (value : ℕ) × IsOpenAt p proof i value
+
+-- the plan's certificate, read as one of boxes, is one for the box of each open leaf
+abbrev pub IsCertificateOfLeaves : Case → Proof → Type 0
+IsCertificateOfLeaves p proof = (i value : ℕ) (leaf : IsOpenAt p proof i value)
+    → IsBoxCertificate p.links leaf.box proof.plan.certificate.den (lines_of_plan p.links proof.plan.certificate)
+
+-- What a search for a branch tree comes to: the given plan or a cheaper one, and a proof that is accepted and whose nodes have their
+-- causes. All its cuts are cuts of the case, the handed-in ones first. Its tree has as many splits as the limit says at most, and, where
+-- all modules cost something, fewer than a tree has room for. Each open leaf is worth less than the plan costs. A value is told exactly
+-- where some leaf is open; it is at least the plan's bound where the plan's certificate is one of all open leaves.
+pub record IsProofOf (p : Case) (given : Plan) (handed : List CutLine) (limit : ℕ) (proof : Proof) : Type 0 where
+  pub plan : IsCheaperPlan p given proof.plan
+  pub cuts : take (length handed) proof.cuts ≡ handed
+  pub sound : All (IsCut p) proof.cuts
+  pub few : length proof.tree + 1 < 2 ^ 32
+  pub accepted : IsAcceptedProof p proof
+  pub within : split_number proof.tree ≤ limit
+  pub fewer : AreCharged p.links → split_number proof.tree < split_room proof.plan.cost p.links
+  pub causes : HaveNodeCauses p handed limit proof
+  pub below : (i value : ℕ) → IsOpenAt p proof i value → value < proof.plan.cost
+  pub told : ((least : ℕ) × (proof.verdict ≡ Above least)) ↔ HasOpenLeaf p proof
+  pub bounded : (least : ℕ) → proof.verdict ≡ Above least → IsCertificateOfLeaves p proof → proof.plan.bound ≤ least
+
+-- ---- what is handed in
+
+-- The cuts that a search begins with: cuts of the case, at most 8,192, among them those of the plan's certificate.
+pub record AreHandedCuts (p : Case) (plan : Plan) (cuts : List CutLine) : Type 0 where
+  pub few : length cuts ≤ 8192
+  pub sound : All (IsCut p) cuts
+  pub own : All (λ l. Contains cuts l.cut) plan.certificate.lines
+
+-- ---- a limit that is never reached
+
+-- Where all modules cost something, a limit of at least as many splits as a tree has room for leaves no box spent.
+abbrev pub NoneIsSpent : Type 0
+NoneIsSpent = (p : Case) (given : Plan) (handed : List CutLine) (limit : ℕ) (proof : Proof) (i : ℕ) (box : TreeBox) (cert : BoxCert)
+    → AreCharged p.links
+    → IsProofOf p given handed limit proof
+    → split_room proof.plan.cost p.links ≤ limit
+    → IsNodeOf p.links proof.tree i box (Spent cert)
+    → ⊥

@@ -1,0 +1,38 @@
+-- where an open box may be split
+use Rattle.std.specs.Prelude.{◌≡◌, ℕ, ◌*◌, ◌^◌, ◌≤◌, ◌<◌, ◌⊎◌, List, Some, slice_get}
+use Rattle.plan_terms.specs.Terms.{Link}
+use Rattle.tree_check.specs.Boxes.{IsFixedBox, IsFixedSpan, IsSplitOf, span_at}
+use Rattle.tree_check.specs.BoxValues.{module_costs}
+use Rattle.tree_check.specs.Lines.{entry}
+use Rattle.tree_check.specs.Trees.{TreeBox}
+use Rattle.tree_check.specs.declared.boxes.Span.{Span}
+use Rattle.trim_plan.specs.declared.lowered.Place.{Place}
+use Rattle.branch_tree.specs.Proving.{HasFreeValue}
+use Rattle.branch_tree.specs.declared.choice.Choice.{Choice}
+use Rattle.branch_tree.specs.inner.Growing.{IsSearchBox}
+
+-- a box that can be split: it has several choices of counts, and the certificate of no lines doesn't close it
+pub record IsSplittable (links : List Link) (cost : ℕ) (box : TreeBox) : Type 0 where
+  pub search_box : IsSearchBox links (2 ^ 14) box
+  pub unfixed : IsFixedBox box → ⊥
+  pub below : (value : ℕ) → HasFreeValue links box value → value < cost
+
+-- a box can be split so, at a number of modules that costs less than the plan
+pub record IsCheapChoice (links : List Link) (cost : ℕ) (box : TreeBox) (c : Choice) : Type 0 where
+  pub split : IsSplitOf box c.place.link c.place.module c.at
+  pub cheap : entry (module_costs links) c.place.link c.place.module * c.at < cost
+
+-- and the number is at most 2^44, or the module's least count
+pub record IsTriable (links : List Link) (cost : ℕ) (box : TreeBox) (c : Choice) : Type 0 where
+  pub choice : IsCheapChoice links cost box c
+  pub low : (c.at ≤ 2 ^ 44) ⊎ (c.at ≡ (span_at box c.place.link c.place.module).least)
+
+-- a span of several counts stands at this place
+abbrev pub IsFreeSpan : List Span → ℕ → Type 0
+IsFreeSpan spans m = (s : Span) × (slice_get spans m ≡ Some s) × (IsFixedSpan s → ⊥)
+
+-- module m of a link, which has several counts
+pub record HasFreePlace (box : TreeBox) (place : Place) : Type 0 where
+  pub spans : List Span
+  pub link : slice_get box place.link ≡ Some spans
+  pub free : IsFreeSpan spans place.module

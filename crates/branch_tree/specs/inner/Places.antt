@@ -1,0 +1,47 @@
+-- places of trees on the way, and the boxes that they take
+use Rattle.std.specs.Prelude.{◌≡◌, ℕ, List, Some, false, count_by, slice_get}
+use Rattle.tree_check.specs.Trees.{TreeBox, sides_of}
+use Rattle.tree_check.specs.declared.proof.Node.{Node}
+use Rattle.tree_check.specs.declared.proof.Node.TheVariants.{Spent, Stuck}
+use Rattle.branch_tree.specs.FewSplits.{is_split}
+use Rattle.branch_tree.specs.inner.Preorder.{ArePlaced}
+use Rattle.branch_tree.specs.declared.twigs.OpenBox.{OpenBox}
+use Rattle.branch_tree.specs.declared.twigs.Twig.{Twig}
+use Rattle.branch_tree.specs.declared.twigs.Twig.TheVariants as twig
+
+-- the node that a place of a tree becomes; an open box is spent
+abbrev pub node_of : Twig → Node
+node_of (twig.Settled node) = node
+node_of (twig.Stuck v evidence) = Stuck v.cert evidence
+node_of (twig.Open o) = Spent o.best.cert
+
+-- a place that isn't a split
+abbrev pub IsLeafTwig : Twig → Type 0
+IsLeafTwig t = is_split (node_of t) ≡ false
+
+-- the boxes of the sides of a place; only a split has some
+abbrev pub twig_sides : TreeBox → Twig → List TreeBox
+twig_sides box t = sides_of box (node_of t)
+
+-- places in preorder, which take these boxes in turn, and leave none
+abbrev pub AreTwigsOf : (TreeBox → Twig → Type 0) → List TreeBox → List Twig → Type 0
+AreTwigsOf = ArePlaced twig_sides
+
+-- how many splits the places are
+abbrev pub twig_splits : List Twig → ℕ
+twig_splits twigs = count_by (λ t. is_split (node_of t)) twigs
+
+-- an open box
+abbrev pub IsOpenTwig : Twig → Type 0
+IsOpenTwig (twig.Settled node) = ⊥
+IsOpenTwig (twig.Stuck v evidence) = ⊥
+IsOpenTwig (twig.Open o) = Unit {0}
+
+-- an open box is at this place
+pub record IsOpenPlace (twigs : List Twig) (i : ℕ) : Type 0 where
+  pub opened : OpenBox
+  pub at : slice_get twigs i ≡ Some (twig.Open opened)
+
+-- no place is open
+abbrev pub AreSettled : List Twig → Type 0
+AreSettled twigs = (i : ℕ) → IsOpenPlace twigs i → ⊥

@@ -1,0 +1,233 @@
+ghost use Rattle.std.specs.Prelude.{◌≡◌, ◌+◌, ◌*◌, ◌≤◌, ◌<◌, ◌^◌, IfOk, IfSome, MatchOption, None, OnOk, Some, length, slice_get, slice_set};
+ghost use Rattle.tree_check.specs.Boxes.{whole_box};
+ghost use Rattle.branch_tree.specs.inner.Growing.{AreCheaperCounts, AreSidesOf, HasLearned, IsAim, IsChoiceOf, IsGrowing, IsGrownTo, IsOpenBox, IsSearch, IsTurnTo, aimed, handed_in, most_cuts};
+ghost use Rattle.branch_tree.specs.inner.Places.{IsOpenPlace};
+
+use crate::aim::Aim;
+use crate::certs::{copied, empty_cert};
+use crate::choice::{Choice, choose};
+use crate::evaluation::{Search, look};
+use crate::found::{Cheaper, Found};
+use crate::tree::{Tree, least_open, set_twig};
+use crate::twigs::{OpenBox, Twig};
+use net_core::{Copied, LinkId, NoMemory};
+use std::alloc::Global;
+use tree_check::Node;
+use tree_check::boxes::{lower_side, upper_side, whole_box};
+
+/// What becomes of a tree.
+#[derive(Drop)]
+pub(crate) enum Growth {
+    Tree(Tree),
+    Cheaper(Cheaper),
+}
+
+/// What becomes of a box that is split.
+#[derive(Drop)]
+enum Sides {
+    Twigs(Twig, Twig),
+    Cheaper(Cheaper),
+}
+
+/// What is found at the two sides of a split.
+fn look_sides(
+    alloc: Global,
+    aim: &Aim,
+    search: &mut Search,
+    open: &OpenBox,
+    choice: &Choice,
+    splits: u32,
+) -> Result<Sides, NoMemory>
+    requires aim { IsAim search.old.known.cuts aim.now }
+    requires search { IsSearch (aimed aim.now) search.old }
+    requires room { most_cuts search.old + 2 < 2 ^ 31 }
+    requires splits { splits < 2 ^ 14 }
+    requires open { IsOpenBox (aimed aim.now) aim.now.plan.now (handed_in search.old) search.old.known.cuts splits open.now.boxed open.now }
+    requires choice { IsChoiceOf (aimed aim.now).links aim.now.plan.now.cost splits open.now.boxed choice.now }
+    ensures search { OnOk result (IsSearch (aimed aim.now) search.new) }
+    ensures learned { OnOk result (HasLearned search.old search.new) }
+    ensures few { OnOk result (length search.new.known.cuts ≤ most_cuts search.old + 2) }
+    ensures found { IfOk result (AreSidesOf (aimed aim.now) aim.now.plan.now (handed_in search.old) search.new.known.cuts (splits + 1) open.now.boxed choice.now) }
+{
+    let (link, module) = (choice.place.link, choice.place.module);
+    let lower = lower_side(&open.boxed, link, module, choice.at)?;
+    let upper = upper_side(&open.boxed, link, module, choice.at)?;
+    let first = match look(alloc, aim, search, lower, &open.best.cert, splits + 1)? {
+        Found::Cheaper(cheaper) => return Ok(Sides::Cheaper(cheaper)),
+        Found::Twig(twig) => twig,
+    };
+    match look(alloc, aim, search, upper, &open.best.cert, splits + 1)? {
+        Found::Cheaper(cheaper) => Ok(Sides::Cheaper(cheaper)),
+        Found::Twig(second) => Ok(Sides::Twigs(first, second)),
+    }
+}
+
+/// The split that a choice is.
+fn split_of(choice: &Choice) -> Node
+    requires link { choice.now.place.link < 2 ^ 32 }
+    requires inside { choice.now.place.module < 2 ^ 32 }
+    ensures { result ≡ Node.Split (record { 0 = choice.now.place.link }) choice.now.place.module choice.now.at }
+{
+    Node::Split {
+        link: LinkId(choice.place.link as u32),
+        module: choice.place.module as u32,
+        at: choice.at,
+    }
+}
+
+/// Another twig at a place of a tree.
+fn replace(tree: &mut Tree, at: usize, twig: Twig)
+    requires { at < length tree.old.twigs.items }
+    ensures { tree.new.twigs.items ≡ slice_set tree.old.twigs.items at twig }
+{
+    set_twig(&mut tree.twigs, at, twig);
+}
+
+/// Looks at an open box anew, where cuts were found since.
+fn look_again(
+    alloc: Global,
+    aim: &Aim,
+    search: &mut Search,
+    tree: &mut Tree,
+    at: usize,
+    splits: u32,
+) -> Result<Option<Cheaper>, NoMemory>
+    requires aim { IsAim search.old.known.cuts aim.now }
+    requires search { IsSearch (aimed aim.now) search.old }
+    requires room { most_cuts search.old + 1 < 2 ^ 31 }
+    requires splits { splits ≤ 2 ^ 14 }
+    requires at { at < length tree.old.twigs.items }
+    requires growing { IsGrowing (aimed aim.now) aim.now.plan.now (handed_in search.old) search.old.known.cuts splits tree.old.twigs.items }
+    ensures search { OnOk result (IsSearch (aimed aim.now) search.new) }
+    ensures learned { OnOk result (HasLearned search.old search.new) }
+    ensures few { OnOk result (length search.new.known.cuts ≤ most_cuts search.old) }
+    ensures growing { OnOk result (IsGrowing (aimed aim.now) aim.now.plan.now (handed_in search.old) search.new.known.cuts splits tree.new.twigs.items) }
+    ensures same { length tree.new.twigs.items ≡ length tree.old.twigs.items }
+    ensures found { IfOk result (λ o. IfSome o (AreCheaperCounts (aimed aim.now) aim.now.plan.now.cost)) }
+{
+    let Twig::Open(open) = &tree.twigs[at] else {
+        return Ok(None);
+    };
+    if open.seen == search.known.cuts.len() {
+        return Ok(None);
+    }
+    let boxed = open.boxed.copy()?;
+    let cert = copied(&open.best.cert)?;
+    match look(alloc, aim, search, boxed, &cert, splits)? {
+        Found::Cheaper(cheaper) => Ok(Some(cheaper)),
+        Found::Twig(twig) => {
+            replace(tree, at, twig);
+            Ok(None)
+        }
+    }
+}
+
+/// What a turn leaves.
+#[derive(Drop)]
+enum Turn {
+    /// One box was split.
+    Split,
+    /// No box is open.
+    Done,
+    Cheaper(Cheaper),
+}
+
+/// Splits the open box at a place.
+fn split_at(
+    alloc: Global,
+    aim: &Aim,
+    search: &mut Search,
+    tree: &mut Tree,
+    at: usize,
+    splits: u32,
+) -> Result<Turn, NoMemory>
+    requires aim { IsAim search.old.known.cuts aim.now }
+    requires search { IsSearch (aimed aim.now) search.old }
+    requires room { most_cuts search.old + 2 < 2 ^ 31 }
+    requires splits { splits < 2 ^ 14 }
+    requires open { IsOpenPlace tree.old.twigs.items at }
+    requires growing { IsGrowing (aimed aim.now) aim.now.plan.now (handed_in search.old) search.old.known.cuts splits tree.old.twigs.items }
+    ensures search { OnOk result (IsSearch (aimed aim.now) search.new) }
+    ensures learned { OnOk result (HasLearned search.old search.new) }
+    ensures few { OnOk result (length search.new.known.cuts ≤ most_cuts search.old + 2) }
+    ensures turn { IfOk result (IsTurnTo (aimed aim.now) aim.now.plan.now (handed_in search.old) search.new.known.cuts splits tree.new.twigs.items) }
+{
+    let Twig::Open(open) = &tree.twigs[at] else {
+        unreachable!()
+    };
+    let choice = choose(alloc, aim, &search.known, open)?;
+    match look_sides(alloc, aim, search, open, &choice, splits)? {
+        Sides::Cheaper(cheaper) => Ok(Turn::Cheaper(cheaper)),
+        Sides::Twigs(lower, upper) => {
+            tree.split(at, split_of(&choice), lower, upper)?;
+            Ok(Turn::Split)
+        }
+    }
+}
+
+/// Splits the open box of least rank.
+fn grow_once(
+    alloc: Global,
+    aim: &Aim,
+    search: &mut Search,
+    tree: &mut Tree,
+    splits: u32,
+) -> Result<Turn, NoMemory>
+    requires aim { IsAim search.old.known.cuts aim.now }
+    requires search { IsSearch (aimed aim.now) search.old }
+    requires room { most_cuts search.old + 2 < 2 ^ 31 }
+    requires splits { splits < 2 ^ 14 }
+    requires growing { IsGrowing (aimed aim.now) aim.now.plan.now (handed_in search.old) search.old.known.cuts splits tree.old.twigs.items }
+    ensures search { OnOk result (IsSearch (aimed aim.now) search.new) }
+    ensures learned { OnOk result (HasLearned search.old search.new) }
+    ensures few { OnOk result (length search.new.known.cuts ≤ most_cuts search.old + 2) }
+    ensures turn { IfOk result (IsTurnTo (aimed aim.now) aim.now.plan.now (handed_in search.old) search.new.known.cuts splits tree.new.twigs.items) }
+{
+    for _ in 0..tree.twigs.len() {
+        let Some(at) = least_open(&tree.twigs) else {
+            return Ok(Turn::Done);
+        };
+        if let Some(cheaper) = look_again(alloc, aim, search, tree, at, splits)? {
+            return Ok(Turn::Cheaper(cheaper));
+        }
+        if least_open(&tree.twigs) == Some(at) {
+            return split_at(alloc, aim, search, tree, at, splits);
+        }
+    }
+    match least_open(&tree.twigs) {
+        None => Ok(Turn::Done),
+        Some(at) => split_at(alloc, aim, search, tree, at, splits),
+    }
+}
+
+/// Grows a tree by as many splits as a limit says, or until no box is open, or until cheaper counts are found.
+pub(crate) fn grown(
+    alloc: Global,
+    aim: &Aim,
+    search: &mut Search,
+    limit: u32,
+) -> Result<Growth, NoMemory>
+    requires aim { IsAim search.old.known.cuts aim.now }
+    requires search { IsSearch (aimed aim.now) search.old }
+    requires room { most_cuts search.old + 2 * limit + 1 < 2 ^ 31 }
+    requires limit { limit ≤ 9999 }
+    ensures search { OnOk result (IsSearch (aimed aim.now) search.new) }
+    ensures learned { OnOk result (HasLearned search.old search.new) }
+    ensures few { OnOk result (length search.new.known.cuts ≤ most_cuts search.old + 2 * limit + 1) }
+    ensures grown { IfOk result (IsGrownTo (aimed aim.now) aim.now.plan.now (handed_in search.old) search.new.known.cuts limit) }
+{
+    let whole = whole_box(alloc, aim.instance.net)?;
+    let root = match look(alloc, aim, search, whole, &empty_cert(alloc), 0)? {
+        Found::Cheaper(cheaper) => return Ok(Growth::Cheaper(cheaper)),
+        Found::Twig(twig) => twig,
+    };
+    let mut tree = Tree::new(alloc, root)?;
+    for splits in 0..limit {
+        match grow_once(alloc, aim, search, &mut tree, splits)? {
+            Turn::Split => {}
+            Turn::Done => return Ok(Growth::Tree(tree)),
+            Turn::Cheaper(cheaper) => return Ok(Growth::Cheaper(cheaper)),
+        }
+    }
+    Ok(Growth::Tree(tree))
+}

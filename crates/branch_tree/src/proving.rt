@@ -1,0 +1,235 @@
+ghost use Rattle.std.specs.Prelude.{◌≡◌, ℕ, List, ◌+◌, ◌≤◌, ◌<◌, IfOk, length, map, take};
+ghost use Rattle.plan_terms.specs.Terms.{AreDemands, IsAble, IsSurvivable, case, case_of, total_cost};
+ghost use Rattle.plan_types.specs.Terms.{IsCertifiedPlan};
+ghost use Rattle.trim_plan.specs.Trimmed.{IsRoutedPlan};
+ghost use Rattle.plan_swaps.specs.Swaps.{IsCheaperPlan};
+ghost use Rattle.branch_tree.specs.FewSplits.{AreCharged};
+ghost use Rattle.branch_tree.specs.Proving.{AreHandedCuts, IsProofOf};
+ghost use Rattle.branch_tree.specs.inner.Growing.{AreCheaperCounts, IsKnown, IsOwnCert, IsSearch, handed_in};
+ghost use Rattle.branch_tree.specs.inner.Places.{node_of};
+ghost use Rattle.branch_tree.specs.inner.Showing.{all_shown, verdict_of};
+
+use crate::aim::Aim;
+use crate::evaluation::{MOST_FURTHER, Search};
+use crate::found::Cheaper;
+use crate::growth::{Growth, grown};
+use crate::known::Known;
+use crate::own::own_cert;
+use crate::tree::{Tree, finished};
+use able_counts::AbleTest;
+use net_core::{Copied, CutLine, Instance, List, Network, NoMemory, States};
+use plan_swaps::swap;
+use plan_types::Plan;
+use std::alloc::Global;
+use tree_check::{BoxCert, Proof, Verdict};
+
+/// The plan with cheaper counts.
+fn with_cheaper(plan: Plan, cheaper: Cheaper) -> Plan
+    ensures { result ≡ record plan { counts = cheaper.counts; cost = cheaper.cost; routings = cheaper.routings } }
+{
+    Plan {
+        counts: cheaper.counts,
+        cost: cheaper.cost,
+        routings: cheaper.routings,
+        ..plan
+    }
+}
+
+/// The plan with cheaper counts, which exchanges of modules make cheaper still.
+fn cheaper_plan(
+    alloc: Global,
+    instance: &Instance,
+    plan: Plan,
+    cheaper: Cheaper,
+) -> Result<Plan, NoMemory>
+    requires survivable { IsSurvivable (case_of instance.now) }
+    requires demands { plan.demands ≡ instance.now.demands.now }
+    requires routed { IsRoutedPlan (case_of instance.now) plan }
+    requires cheaper { AreCheaperCounts (case_of instance.now) plan.cost cheaper }
+    ensures plan { IfOk result (IsCheaperPlan (case_of instance.now) plan) }
+    ensures less { IfOk result (λ r. r.cost < plan.cost) }
+{
+    swap(
+        alloc,
+        instance.net,
+        instance.states,
+        with_cheaper(plan, cheaper),
+    )
+}
+
+/// The first cuts.
+fn first_cuts(cuts: List<CutLine>, most: usize) -> List<CutLine>
+    ensures { result ≡ take most cuts }
+{
+    let mut all = cuts.into_vec();
+    all.truncate(most);
+    List::from_vec(all)
+}
+
+/// What is known with the first cuts alone.
+fn first_known(
+    alloc: Global,
+    instance: &Instance,
+    known: Known,
+    most: usize,
+) -> Result<Known, NoMemory>
+    requires { IsKnown (case_of instance.now) known }
+    ensures known { IfOk result (IsKnown (case_of instance.now)) }
+    ensures cuts { IfOk result (λ k. k.cuts ≡ take most known.cuts) }
+{
+    if known.cuts.len() <= most {
+        return Ok(known);
+    }
+    Known::new(alloc, instance, first_cuts(known.cuts, most))
+}
+
+/// What a search has learned, with as many further cuts as whole points may add: so they don't grow without bound.
+fn begun_anew(alloc: Global, instance: &Instance, search: Search) -> Result<Search, NoMemory>
+    requires { IsSearch (case_of instance.now) search }
+    ensures search { IfOk result (IsSearch (case_of instance.now)) }
+    ensures handed { IfOk result (λ s. handed_in s ≡ handed_in search) }
+    ensures few { IfOk result (λ s. length s.known.cuts ≤ s.handed + 4096) }
+{
+    let Search {
+        known,
+        test,
+        handed,
+    } = search;
+    let known = first_known(alloc, instance, known, handed + MOST_FURTHER)?;
+    Ok(Search {
+        known,
+        test,
+        handed,
+    })
+}
+
+/// The proof that a tree is.
+fn proof_of(alloc: Global, plan: Plan, cuts: List<CutLine>, tree: Tree) -> Result<Proof, NoMemory>
+    ensures { IfOk result (λ r. r ≡ record {
+      plan = plan;
+      cuts = cuts;
+      tree = map node_of tree.twigs.items;
+      verdict = verdict_of (all_shown plan.cost tree.twigs.items);
+    }) }
+{
+    let (tree, verdict) = finished(alloc, tree, plan.cost)?;
+    Ok(Proof {
+        plan,
+        cuts,
+        tree,
+        verdict,
+    })
+}
+
+/// The proof of a plan, or of a cheaper one that the search finds: then the tree begins anew.
+fn proved<'a>(
+    alloc: Global,
+    instance: &'a Instance<'a>,
+    plan: Plan,
+    own: &'a BoxCert,
+    search: Search,
+    limit: u32,
+) -> Result<Proof, NoMemory>
+    requires limit { limit ≤ 9999 }
+    requires survivable { IsSurvivable (case_of instance.now) }
+    requires demands { plan.demands ≡ instance.now.demands.now }
+    requires routed { IsRoutedPlan (case_of instance.now) plan }
+    requires certified { IsCertifiedPlan (case_of instance.now) plan }
+    requires search { IsSearch (case_of instance.now) search }
+    requires few { length search.known.cuts ≤ search.handed + 4096 }
+    requires own { IsOwnCert (case_of instance.now) (handed_in search) plan own.now }
+    ensures { IfOk result (IsProofOf (case_of instance.now) plan (handed_in search) limit) }
+{
+    let mut plan = plan;
+    let mut search = search;
+    'attempt: loop {
+        let aim = Aim {
+            instance: &*instance,
+            plan: &plan,
+            own: &*own,
+        };
+        match grown(alloc, &aim, &mut search, limit)? {
+            Growth::Cheaper(cheaper) => {
+                plan = cheaper_plan(alloc, instance, plan, cheaper)?;
+                search = begun_anew(alloc, instance, search)?;
+            }
+            Growth::Tree(tree) => return proof_of(alloc, plan, search.known.cuts, tree),
+        }
+    }
+}
+
+/// The proof of a plan, or of a cheaper one, from handed-in cuts.
+fn searched(
+    alloc: Global,
+    instance: &Instance,
+    plan: Plan,
+    cuts: List<CutLine>,
+    limit: u32,
+) -> Result<Proof, NoMemory>
+    requires limit { limit ≤ 9999 }
+    requires survivable { IsSurvivable (case_of instance.now) }
+    requires demands { plan.demands ≡ instance.now.demands.now }
+    requires routed { IsRoutedPlan (case_of instance.now) plan }
+    requires certified { IsCertifiedPlan (case_of instance.now) plan }
+    requires cuts { AreHandedCuts (case_of instance.now) plan cuts }
+    ensures { IfOk result (IsProofOf (case_of instance.now) plan cuts limit) }
+{
+    let own = own_cert(alloc, instance, &plan, cuts.items())?;
+    let handed = cuts.len();
+    let search = Search {
+        known: Known::new(alloc, instance, cuts)?,
+        test: AbleTest::new(alloc, instance, plan.routings.copy()?)?,
+        handed,
+    };
+    proved(alloc, instance, plan, &own, search, limit)
+}
+
+/// Searches for a branch tree that shows a plan to be cheapest, with at most `limit` splits.
+///
+/// The limit is at most 9,999. All modules cost something. The plan carries its demands, has the cost of its counts and a certified bound,
+/// and is in form and in lowest terms; its demands belong to the network, and no state separates one. The cuts are those of the network
+/// with their right sides at the demands, at most 8,192, among them those of the plan's certificate.
+///
+/// The answer's plan is the given one but for its counts, cost and routings, and costs at most what the given one does: exchanges of
+/// modules and cheaper counts on the way make it so. Its tree is of this plan. The cuts that the search finds come after the given ones.
+/// Where the tree has no open leaf the verdict is `Cheapest`, else `Above` with the least of the plan's cost and the open leaves' values,
+/// in units of the network. An open leaf is `Spent` where the limit of splits was reached, or `Stuck`, a box of one choice of counts of
+/// which a number of some state's routing program is too wide.
+///
+/// On the triangle with modules of 10.00 for 5.00 and a demand of 12.00 from A to C, two modules on each link are cheapest where each link
+/// fails alone, for 30.00: AC is split at 1, then AB.
+///
+/// The box whose program is worth least is split first, where the product of the rises of its two sides is greatest among eight modules.
+/// Each split takes up to nineteen programs of as many rows as twice the modules, one more for each cut that a whole point violates, and
+/// routing programs for whole points and for boxes of one choice of counts. It takes memory for a number of each module for each cut, and
+/// for the boxes that are open.
+pub fn prove(
+    alloc: Global,
+    net: &Network,
+    states: &States,
+    plan: Plan,
+    cuts: List<CutLine>,
+    limit: u32,
+) -> Result<Proof, NoMemory>
+    requires limit { limit ≤ 9999 }
+    requires charged { AreCharged net.now.links }
+    requires belong { AreDemands (length net.now.nodes) plan.demands }
+    requires survivable { IsSurvivable (case net.now states.now plan.demands) }
+    requires routed { IsRoutedPlan (case net.now states.now plan.demands) plan }
+    requires certified { IsCertifiedPlan (case net.now states.now plan.demands) plan }
+    requires cuts { AreHandedCuts (case net.now states.now plan.demands) plan cuts }
+    ensures proof { IfOk result (IsProofOf (case net.now states.now plan.demands) plan cuts limit) }
+    ensures cheapest { IfOk result (λ r. r.verdict ≡ Verdict.Cheapest → (counts : List (List ℕ)) → IsAble (case net.now states.now plan.demands) counts
+        → r.plan.cost ≤ total_cost net.now.links counts) }
+    ensures above { IfOk result (λ r. (least : ℕ) → r.verdict ≡ Verdict.Above least → (counts : List (List ℕ))
+        → IsAble (case net.now states.now plan.demands) counts → least ≤ total_cost net.now.links counts) }
+{
+    let demands = plan.demands.copy()?;
+    let instance = Instance {
+        net,
+        states,
+        demands: &demands,
+    };
+    let better = swap(alloc, net, states, plan)?;
+    searched(alloc, &instance, better, cuts, limit)
+}
