@@ -1,0 +1,5 @@
+pub mod Certain
+pub mod Handing
+pub mod Known
+pub mod Proved
+pub mod Told

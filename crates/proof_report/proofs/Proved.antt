@@ -1,0 +1,69 @@
+-- the report of a plan with its branch tree
+use Rattle.std.proofs.Common.{◌≡◌, ℕ, ◌≤◌, List, subst, sym}
+use Rattle.plan_terms.specs.Terms.{Case, CutLine, Demand, IsAble, Notes, total_cost}
+use Rattle.plan_types.specs.declared.plan.Plan.{Plan}
+use Rattle.plan_report.specs.Terms.{AreRoutingsInForm, known_to}
+use Rattle.session_run.specs.Transcripts.{IsTranscript}
+use Rattle.trim_plan.specs.Trimmed.{IsRoutedPlan}
+use Rattle.lone_plan.specs.declared.planned.PlannedReport.{PlannedReport}
+use Rattle.lone_plan.specs.LonePlans.{IsSoundDesign, plan_commands, redesigned_plan, whole_report}
+use Rattle.lone_plan.proofs.Accepted.{lone_plans_are_accepted}
+use Rattle.lone_plan.proofs.CheaperKept.{cheaper_redesigns_are_plans}
+use Rattle.lone_plan.proofs.PlansOf.{lone_plans_carry}
+use Rattle.tree_check.specs.declared.proof.Proof.{Proof}
+use Rattle.tree_check.specs.declared.proof.Verdict.TheVariants.{Cheapest, Above}
+use Rattle.branch_tree.specs.Proving.{IsProofOf}
+use Rattle.proof_report.specs.ProvedReports.{AreHandedIn, IsProvedReport, IsTrimmedOnce, certificate_cuts}
+use Rattle.proof_report.specs.declared.ending.ProvedReport.{ProvedReport}
+
+module _ (p : Case) (notes : Notes) (limit : ℕ) (r : PlannedReport) (is : IsTrimmedOnce p notes r) where
+  abbrev t : IsTranscript p notes plan_commands (whole_report r)
+  t = is.trimmed.transcript
+
+  -- the plan carries the opening demands
+  pub routed_plan : IsRoutedPlan p r.plan
+  routed_plan =
+      let made = (lone_plans_carry p notes r t).0 in
+      record { carrying = made.carrying; costed = made.costed; form = made.form; lowest = made.lowest }
+
+  module _ (cuts : List CutLine) (handed : AreHandedIn r.pool (certificate_cuts r.plan.certificate) cuts) (proof : Proof) (proved : IsProofOf p r.plan cuts limit proof) where
+    abbrev new : Plan
+    new = redesigned_plan r.plan proof.plan.counts proof.plan.cost proof.plan.routings
+
+    new_routed : IsRoutedPlan p new
+    new_routed = subst (IsRoutedPlan p) proved.plan.same proved.plan.routed
+
+    design : IsSoundDesign p new
+    design = record {
+      shape = new_routed.form.counts;
+      limits = new_routed.form.limits;
+      low = new_routed.form.cost;
+      form = subst (λ (ds : List Demand). AreRoutingsInForm (known_to p) ds proof.plan.routings) (lone_plans_carry p notes r t).0.demands new_routed.form.routings;
+      carrying = new_routed.carrying;
+      costed = new_routed.costed;
+    }
+
+    abbrev made : ProvedReport
+    made = record { notes = r.notes; entries = r.entries; pool = r.pool; proof = proof }
+
+    abbrev with_plan : Plan → PlannedReport
+    with_plan plan = record { notes = r.notes; entries = r.entries; pool = r.pool; plan = plan }
+
+    new_transcript : IsTranscript p notes plan_commands (whole_report (with_plan proof.plan))
+    new_transcript = subst (λ (plan : Plan). IsTranscript p notes plan_commands (whole_report (with_plan plan))) (sym proved.plan.same)
+        (cheaper_redesigns_are_plans p notes r proof.plan.counts proof.plan.cost proof.plan.routings t design new_routed.lowest proved.plan.cheaper)
+
+    pub proved_report_made : (proof.verdict ≡ Cheapest → (counts : List (List ℕ)) → IsAble p counts → proof.plan.cost ≤ total_cost p.links counts)
+        → ((least : ℕ) → proof.verdict ≡ Above least → (counts : List (List ℕ)) → IsAble p counts → least ≤ total_cost p.links counts)
+        → IsProvedReport p notes limit made
+    proved_report_made cheapest above = record {
+      transcript = new_transcript;
+      acceptable = lone_plans_are_accepted p notes (with_plan proof.plan) new_transcript;
+      given = r.plan;
+      trimmed = is;
+      handed = cuts;
+      begun = handed;
+      proved = proved;
+      cheapest = cheapest;
+      above = above;
+    }

@@ -1,0 +1,74 @@
+-- what a proof comes to: the report of a plan with its branch tree, or the first separation
+use Rattle.std.specs.Prelude.{◌≡◌, ◌≢◌, ℕ, ◌≤◌, ◌++◌, List, All, AllPairs, Contains, flat_map, length, map}
+use Rattle.plan_terms.specs.Terms.{Case, CutLine, IsAble, Notes, total_cost}
+use Rattle.plan_types.specs.declared.certificate.Certificate.{Certificate}
+use Rattle.plan_types.specs.declared.plan.Plan.{Plan}
+use Rattle.comment_lines.specs.Comments.{comment_line}
+use Rattle.session_run.specs.Transcripts.{IsTranscript}
+use Rattle.lone_plan.specs.declared.planned.PlannedReport.{PlannedReport}
+use Rattle.lone_plan.specs.Laws.{IsAcceptable}
+use Rattle.lone_plan.specs.LonePlans.{IsSeparationOf, plan_commands, whole_report}
+use Rattle.trim_plan.specs.declared.trimming.Block.{Block}
+use Rattle.trimmed_report.specs.TrimmedReports.{IsTrimmedReport}
+use Rattle.tree_check.specs.declared.proof.Proof.{Proof}
+use Rattle.tree_check.specs.declared.proof.Verdict.TheVariants.{Cheapest, Above}
+use Rattle.tree_lines.specs.TreeLines.{proof_lines}
+use Rattle.branch_tree.specs.Proving.{IsProofOf}
+use Rattle.proof_report.specs.declared.ending.ProofEnding.{ProofEnding}
+use Rattle.proof_report.specs.declared.ending.ProofEnding.TheVariants as ending
+use Rattle.proof_report.specs.declared.ending.ProvedReport.{ProvedReport}
+
+-- ---- texts
+
+-- the report with this plan
+abbrev pub report_with : ProvedReport → Plan → PlannedReport
+report_with r plan = record { notes = r.notes; entries = r.entries; pool = r.pool; plan = plan }
+
+-- the report with the proof's plan
+abbrev pub proved_report : ProvedReport → PlannedReport
+proved_report r = report_with r r.proof.plan
+
+-- the comment lines of a proof of the case
+abbrev pub proof_text : Case → Proof → List ℕ
+proof_text p proof = flat_map comment_line (proof_lines p.links p.demands p.places proof)
+
+-- ---- what a search begins with
+
+-- the cuts of a certificate
+abbrev pub certificate_cuts : Certificate → List CutLine
+certificate_cuts c = map (λ l. l.cut) c.lines
+
+-- The cuts that a search begins with: those of a pool, and after them those of a certificate that the pool lacks, each once.
+pub record AreHandedIn (pool own cuts : List CutLine) : Type 0 where
+  pub others : List CutLine
+  pub whole : cuts ≡ pool ++ others
+  pub few : length others ≤ length own
+  pub all : All (Contains cuts) own
+  pub each : All (λ cut. Contains own cut × (Contains pool cut → ⊥)) others
+  pub once : AllPairs ◌≢◌ others
+
+-- the report of a trimmed plan
+pub record IsTrimmedOnce (p : Case) (notes : Notes) (r : PlannedReport) : Type 0 where
+  pub blocks : List Block
+  pub trimmed : IsTrimmedReport p notes r blocks
+
+-- ---- what it comes to
+
+-- The report is a transcript of one plan command, its one outcome is the proof's plan, and no finding holds of it. The proof is one of
+-- the trimmed plan, by a search with this limit that begins with the cuts of the pool and of the plan's certificate. Where it says that
+-- the plan is cheapest, no able counts cost less; and none cost less than the value that it tells.
+pub record IsProvedReport (p : Case) (notes : Notes) (limit : ℕ) (r : ProvedReport) : Type 0 where
+  pub transcript : IsTranscript p notes plan_commands (whole_report (proved_report r))
+  pub acceptable : IsAcceptable p notes (whole_report (proved_report r))
+  pub given : Plan
+  pub trimmed : IsTrimmedOnce p notes (report_with r given)
+  pub handed : List CutLine
+  pub begun : AreHandedIn r.pool (certificate_cuts given.certificate) handed
+  pub proved : IsProofOf p given handed limit r.proof
+  pub cheapest : r.proof.verdict ≡ Cheapest → (counts : List (List ℕ)) → IsAble p counts → r.proof.plan.cost ≤ total_cost p.links counts
+  pub above : (least : ℕ) → r.proof.verdict ≡ Above least → (counts : List (List ℕ)) → IsAble p counts → least ≤ total_cost p.links counts
+
+-- such a report, or the first separation
+abbrev pub IsProofEnding : Case → Notes → ℕ → ProofEnding → Type 0
+IsProofEnding p notes limit (ending.Proved r) = IsProvedReport p notes limit r
+IsProofEnding p notes limit (ending.Separated state demand) = IsSeparationOf p state.0 demand
