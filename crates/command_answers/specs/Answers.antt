@@ -21,6 +21,9 @@ use Rattle.plan_import.specs.ImportedPlans.{HasImportFault, IsImportedReport}
 use Rattle.trim_plan.specs.declared.trimming.Block.{Block}
 use Rattle.trimmed_report.specs.BlockLines.{block_lines}
 use Rattle.trimmed_report.specs.TrimmedReports.{IsTrimmedReport}
+use Rattle.branch_tree.specs.FewSplits.{AreCharged}
+use Rattle.proof_report.specs.ProvedReports.{IsProvedReport, proved_report, proof_text}
+use Rattle.proof_report.specs.declared.ending.ProvedReport.{ProvedReport}
 use Rattle.text_kit.specs.Terms.{money_word}
 use Rattle.command_answers.specs.Findings.{accepted_line, import_fault_line, rejected_line}
 use Rattle.command_answers.specs.declared.status.Status.{Status}
@@ -103,6 +106,30 @@ pub record IsPrintedTrim (p : Case) (notes : Notes) (text : List ℕ) : Type 0 w
 -- what trimming comes to, unless memory runs out: such a text, or the first separation
 abbrev pub EndsTrim : Case → Notes → Status → List ℕ → Type 0
 EndsTrim p notes status text = ((status ≡ Done) × IsPrintedTrim p notes text) ⊎ ((status ≡ NotSurvivable) × NamesFirstSeparation p text)
+
+-- ---- a plan with its branch tree
+
+-- the line of a network in which a module costs nothing
+abbrev pub free_module_line : List ℕ
+free_module_line = codes "refused network free-module at 0\n"
+
+-- The text is the report of a plan, and then the comment lines of its branch tree. It spells the report.
+pub record IsPrintedProof (p : Case) (notes : Notes) (limit : ℕ) (text : List ℕ) : Type 0 where
+  pub report : ProvedReport
+  pub proved : IsProvedReport p notes limit report
+  pub printed : text ≡ report_text (known_to p) (whole_report (proved_report report)) ++ proof_text p report.proof
+  pub spelled : SpellsReport (known_to p) text (whole_report (proved_report report))
+
+-- where all modules cost something: such a text, or the first separation
+abbrev pub EndsCharged : ℕ → Case → Notes → Status → List ℕ → Type 0
+EndsCharged limit p notes status text =
+    ((status ≡ Done) × IsPrintedProof p notes limit text) ⊎ ((status ≡ NotSurvivable) × NamesFirstSeparation p text)
+
+-- What a proof comes to, unless memory runs out: the line that a module costs nothing, or what it comes to where all cost something.
+abbrev pub EndsProve : ℕ → Case → Notes → Status → List ℕ → Type 0
+EndsProve limit p notes status text =
+    ((status ≡ BadNetwork) × (AreCharged p.links → ⊥) × (text ≡ free_module_line))
+    ⊎ (AreCharged p.links × EndsCharged limit p notes status text)
 
 -- ---- an import
 

@@ -9,13 +9,14 @@ pub record PlanWords : Type 0 where
   pub model : List ℕ
   pub failures : List ℕ
 
--- a command: a plan for files, a session of a script, the check of a report, a trimmed plan for files, the import of a file of flows, or a
--- sample of a seed with so many nodes
+-- a command: a plan for files, a session of a script, the check of a report, a trimmed plan for files, a plan for files with its branch tree
+-- of so many splits at most, the import of a file of flows, or a sample of a seed with so many nodes
 pub data Command : Type 0 where
   Plan : PlanWords → Command
   Session : PlanWords → List ℕ → Command
   Check : PlanWords → List ℕ → Command
   Trim : PlanWords → Command
+  Prove : ℕ → PlanWords → Command
   Import : PlanWords → List ℕ → Command
   Sample : ℕ → ℕ → Command
 
@@ -51,6 +52,11 @@ abbrev pub AreSample : List (List ℕ) → ℕ → ℕ → Type 0
 AreSample (s ∷ n ∷ []) seed nodes = IsNumberWord 20 seed s × (seed < 2 ^ 64) × IsNumberWord 2 nodes n × (4 ≤ nodes) × (nodes ≤ 40)
 AreSample _ seed nodes = ⊥
 
+-- the first word is a limit of splits, from 1 to 9,999, and the others are the files
+abbrev pub AreProof : List (List ℕ) → ℕ → PlanWords → Type 0
+AreProof [] limit w = ⊥
+AreProof (l ∷ files) limit w = IsNumberWord 4 limit l × (1 ≤ limit) × (limit ≤ 9999) × AreFiles files w
+
 -- each of the words may stand for a file
 abbrev pub MayBeFiles : List (String Global) → Type 0
 MayBeFiles words = All (λ word. may_be_file (string_bytes word) ≡ true) words
@@ -61,6 +67,7 @@ IsNamed name words (Plan w) = (name ≡ codes "plan") × AreFiles words w
 IsNamed name words (Session w script) = (name ≡ codes "session") × AreFourFiles words w script
 IsNamed name words (Check w report) = (name ≡ codes "check") × AreFourFiles words w report
 IsNamed name words (Trim w) = (name ≡ codes "trim") × AreFiles words w
+IsNamed name words (Prove limit w) = (name ≡ codes "prove") × AreProof words limit w
 IsNamed name words (Import w flows) = (name ≡ codes "import") × AreFourFiles words w flows
 IsNamed name words (Sample seed nodes) = (name ≡ codes "sample") × AreSample words seed nodes
 
@@ -71,4 +78,4 @@ IsCommand (name ∷ words) c = MayBeFiles words × IsNamed (string_bytes name) (
 
 -- the line that answers words outside the grammar
 abbrev pub usage : List ℕ
-usage = codes "usage: plan NET [MODEL [FAILURES]] | session NET MODEL FAILURES SCRIPT | check NET MODEL FAILURES REPORT | sample SEED N | trim NET [MODEL [FAILURES]] | import NET MODEL FAILURES FLOWS\n"
+usage = codes "usage: plan NET [MODEL [FAILURES]] | session NET MODEL FAILURES SCRIPT | check NET MODEL FAILURES REPORT | sample SEED N | trim NET [MODEL [FAILURES]] | prove LIMIT NET [MODEL [FAILURES]] | import NET MODEL FAILURES FLOWS\n"

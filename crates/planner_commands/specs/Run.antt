@@ -16,7 +16,7 @@ use Rattle.planner_commands.specs.Commands.{IsCommand, PlanWords, usage}
 use Rattle.planner_commands.specs.Inputs.{Fetched, HasInputs, RefusesFlowFile, RefusesReportFile, RefusesScriptFile, StopsAtFile, StopsAtInputs, input_limit, report_limit}
 use Rattle.command_answers.specs.declared.status.Status.{Status}
 use Rattle.command_answers.specs.declared.status.Status.TheVariants.{Done, BadWords, WriteFault, BadScript, BadReport, NoMemory, BadFlows}
-use Rattle.command_answers.specs.Answers.{IsPrintedReport, EndsPlan, IsJudged, EndsTrim, EndsImported, sample_case, IsSummary}
+use Rattle.command_answers.specs.Answers.{IsPrintedReport, EndsPlan, IsJudged, EndsTrim, EndsProve, EndsImported, sample_case, IsSummary}
 
 -- ---- a session
 
@@ -61,6 +61,7 @@ EndsCommand files (commands.Plan w) = EndsAfterInputs files w EndsPlan
 EndsCommand files (commands.Session w script) = EndsAfterInputs files w (EndsSession files script)
 EndsCommand files (commands.Check w report) = EndsAfterInputs files w (EndsCheck files report)
 EndsCommand files (commands.Trim w) = EndsAfterInputs files w EndsTrim
+EndsCommand files (commands.Prove limit w) = EndsAfterInputs files w (EndsProve limit)
 EndsCommand files (commands.Import w flows) = EndsAfterInputs files w (EndsImport files flows)
 EndsCommand files (commands.Sample seed nodes) = λ status text. (status ≡ Done) × IsSummary seed nodes (sample_case seed nodes) no_notes text
 

@@ -1,9 +1,9 @@
 ghost use Rattle.std.specs.Prelude.{◌≡◌, ◌≤◌, ◌<◌, ◌^◌, ◌==◌, ◌∷◌, [], ℕ, List, IsTrue, ◌↔◌, MatchOption, map, slice_index, string_bytes};
 ghost use Rattle.planner_commands.specs.Commands as commands;
-ghost use Rattle.planner_commands.specs.Commands.{AreFiles, AreFourFiles, AreSample, IsCommand, IsNamed, IsNumberWord, MayBeFiles, PlanWords, may_be_file};
+ghost use Rattle.planner_commands.specs.Commands.{AreFiles, AreFourFiles, AreProof, AreSample, IsCommand, IsNamed, IsNumberWord, MayBeFiles, PlanWords, may_be_file};
 ghost use Rattle.planner_commands.specs.inner.Steps.{asked_command, named};
 
-use crate::words::{Command, FourFiles, PlanFiles, SampleWords};
+use crate::words::{Command, FourFiles, PlanFiles, ProofWords, SampleWords};
 
 /// The word for a model or a failure list that is in no file.
 pub const DEFAULT: &str = "default";
@@ -115,6 +115,32 @@ fn sample_of(words: &[String]) -> Option<SampleWords>
     }
 }
 
+/// The limit of splits that a word writes, and the files that the others name.
+fn proof_words<'w>(limit: &str, files: &'w [String]) -> Option<ProofWords<'w>>
+    ensures { MatchOption result ((n : ℕ) (w : PlanWords) → AreProof (limit.now ∷ map string_bytes files.now) n w → ⊥)
+        (λ p. AreProof (limit.now ∷ map string_bytes files.now) p.limit (named p.files)) }
+{
+    let limit = number_word(limit, 4)?;
+    let files = files_of(files)?;
+    if 1 <= limit && limit <= 9999 {
+        Some(ProofWords {
+            limit: limit as u32,
+            files,
+        })
+    } else {
+        None
+    }
+}
+
+/// The limit of splits and the files that words give.
+fn proof_of(words: &[String]) -> Option<ProofWords<'_>>
+    ensures { MatchOption result ((n : ℕ) (w : PlanWords) → AreProof (map string_bytes words.now) n w → ⊥)
+        (λ p. AreProof (map string_bytes words.now) p.limit (named p.files)) }
+{
+    let (limit, files) = words.split_first()?;
+    proof_words(limit.as_str(), files)
+}
+
 /// Whether a word is the name of a command.
 fn is_named(word: &str, name: &str) -> bool
     ensures { IsTrue result ↔ (word.now ≡ name.now) }
@@ -142,6 +168,10 @@ fn named_command<'w>(name: &str, words: &'w [String]) -> Option<Command<'w>>
     if is_named(name, "trim") {
         let files = files_of(words)?;
         return Some(Command::Trim(files));
+    }
+    if is_named(name, "prove") {
+        let words = proof_of(words)?;
+        return Some(Command::Prove(words));
     }
     if is_named(name, "import") {
         let files = four_of(words)?;

@@ -13,10 +13,10 @@ use crate::inputs::load_problem;
 use crate::last_file::{load_flows, load_report, load_script};
 use crate::output::say;
 use crate::stop::Stop;
-use crate::words::{Command, FourFiles, PlanFiles, SampleWords};
+use crate::words::{Command, FourFiles, PlanFiles, ProofWords, SampleWords};
 use command_answers::{
-    Answer, Status, answer_check, answer_import, answer_plan, answer_sample, answer_session,
-    answer_trim,
+    Answer, Status, answer_check, answer_import, answer_plan, answer_prove, answer_sample,
+    answer_session, answer_trim,
 };
 use net_core::{List, NoMemory, Problem};
 use outside_io::{Gate, Shelf, Sink};
@@ -26,7 +26,7 @@ use std::thread::Threads;
 
 /// The line that answers words outside the grammar.
 const USAGE: &[u8] =
-    b"usage: plan NET [MODEL [FAILURES]] | session NET MODEL FAILURES SCRIPT | check NET MODEL FAILURES REPORT | sample SEED N | trim NET [MODEL [FAILURES]] | import NET MODEL FAILURES FLOWS\n";
+    b"usage: plan NET [MODEL [FAILURES]] | session NET MODEL FAILURES SCRIPT | check NET MODEL FAILURES REPORT | sample SEED N | trim NET [MODEL [FAILURES]] | prove LIMIT NET [MODEL [FAILURES]] | import NET MODEL FAILURES FLOWS\n";
 
 /// The answer to words outside the grammar.
 fn bad_words(alloc: Global) -> Result<Answer, NoMemory>
@@ -108,6 +108,21 @@ fn trim_files<Rt: Threads + Wait + Sync, S: Shelf, G: Gate + Sync>(
     Ok(answer_trim(rt, alloc, problem, gate)?)
 }
 
+/// The answer to a plan of these files with its branch tree.
+fn prove_files<Rt: Threads + Wait + Sync, S: Shelf, G: Gate + Sync>(
+    rt: &Rt,
+    alloc: Global,
+    words: &ProofWords,
+    shelf: &mut S,
+    gate: &G,
+) -> Result<Answer, Stop>
+    ensures ends { HasCause (EndsCommand (S.files shelf.old) (commands.Prove words.now.limit (named words.now.files))) result }
+    ensures shelf { KeepsShelf S.files S.faults (IsErrOf result Stop.ReadFault) shelf.old shelf.new }
+{
+    let problem = load_problem(alloc, &words.files, shelf)?;
+    Ok(answer_prove(rt, alloc, problem, words.limit, gate)?)
+}
+
 /// The answer to an import of these files.
 fn import_files<Rt: Threads + Wait + Sync, S: Shelf, G: Gate + Sync>(
     rt: &Rt,
@@ -152,6 +167,7 @@ fn answer_words<Rt: Threads + Wait + Sync, S: Shelf, G: Gate + Sync>(
         Some(Command::Session(four)) => session_files(rt, alloc, &four, shelf, gate),
         Some(Command::Check(four)) => check_files(alloc, &four, shelf),
         Some(Command::Trim(files)) => trim_files(rt, alloc, &files, shelf, gate),
+        Some(Command::Prove(words)) => prove_files(rt, alloc, &words, shelf, gate),
         Some(Command::Import(four)) => import_files(rt, alloc, &four, shelf, gate),
         Some(Command::Sample(words)) => Ok(sample_words(rt, alloc, &words)?),
         None => Ok(bad_words(alloc)?),

@@ -15,6 +15,14 @@ pub struct FourFiles<'w> {
     pub last: &'w str,
 }
 
+/// The most splits of a branch tree, from 1 to 9,999, and the files of a planning.
+#[derive(Clone, Copy)]
+pub struct ProofWords<'w> {
+    pub limit: u32,
+    pub files: PlanFiles<'w>,
+    pub ghost range: { (1 ≤ limit) × (limit ≤ 9999) },
+}
+
 /// The seed of a sample, and its number of nodes, from 4 to 40.
 #[derive(Clone, Copy)]
 pub struct SampleWords {
@@ -34,6 +42,8 @@ pub enum Command<'w> {
     Check(FourFiles<'w>),
     /// A plan from which no module can be spared, with the report of it.
     Trim(PlanFiles<'w>),
+    /// A plan with its branch tree, with the report of it.
+    Prove(ProofWords<'w>),
     /// A plan with the design of a file of flows.
     Import(FourFiles<'w>),
     /// A summary of the plan of a sample network.

@@ -6,7 +6,7 @@ use Rattle.command_answers.specs.declared.answer.Answer.{Answer}
 use Rattle.planner_commands.specs.declared.stop.Stop.{Stop}
 use Rattle.planner_commands.specs.declared.stop.Stop.TheVariants as stop
 use Rattle.planner_commands.specs.declared.words.Command.{Command}
-use Rattle.planner_commands.specs.declared.words.Command.TheVariants.{Plan, Session, Check, Trim, Import, Sample}
+use Rattle.planner_commands.specs.declared.words.Command.TheVariants.{Plan, Session, Check, Trim, Prove, Import, Sample}
 use Rattle.planner_commands.specs.declared.words.PlanFiles.{PlanFiles}
 use Rattle.command_answers.specs.declared.status.Status.{Status}
 use Rattle.command_answers.specs.declared.status.Status.TheVariants.{ReadFault}
@@ -21,6 +21,7 @@ asked_command (Plan files) = commands.Plan (named files)
 asked_command (Session four) = commands.Session (named four.files) four.last.now
 asked_command (Check four) = commands.Check (named four.files) four.last.now
 asked_command (Trim files) = commands.Trim (named files)
+asked_command (Prove words) = commands.Prove words.limit (named words.files)
 asked_command (Import four) = commands.Import (named four.files) four.last.now
 asked_command (Sample words) = commands.Sample words.seed words.nodes
 

@@ -1,0 +1,129 @@
+ghost use Rattle.std.specs.Prelude.{◌≡◌, ◌≤◌, ◌<◌, ◌↔◌, All, IfOk, IsTrue};
+ghost use Rattle.plan_terms.specs.Terms.{case, case_of};
+ghost use Rattle.lone_plan.specs.LonePlans.{IsSeparationOf};
+ghost use Rattle.proof_report.specs.ProvedReports.{IsProofEnding, IsProvedReport};
+ghost use Rattle.branch_tree.specs.FewSplits.{AreCharged};
+ghost use Rattle.command_answers.specs.Answers.{EndsProve, EndsCharged, free_module_line};
+ghost use Rattle.command_answers.specs.declared.status.Status.{Status};
+
+use crate::answer::Answer;
+use crate::plan::separated;
+use crate::status::Status;
+use net_core::{Instance, Link, List, Module, Name, NoMemory, Problem, StateId};
+use outside_io::Gate;
+use proof_report::{ProofEnding, ProvedReport, prove_once, write_proved};
+use std::alloc::Global;
+use std::sync::Wait;
+use std::thread::Threads;
+
+/// Whether each of these modules costs something.
+fn are_dear(modules: &[Module]) -> bool
+    ensures { IsTrue result ↔ All (λ m. 0 < m.cost) modules.now }
+{
+    modules.iter().all(|m| m.cost > 0)
+}
+
+/// Whether all modules cost something.
+fn are_charged(links: &[Link]) -> bool
+    ensures { IsTrue result ↔ AreCharged links.now }
+{
+    links.iter().all(|l| are_dear(l.modules.items()))
+}
+
+/// The answer to a network in which a module costs nothing.
+fn free_module(alloc: Global) -> Result<Answer, NoMemory>
+    ensures { IfOk result (λ a. (a.status ≡ Status.BadNetwork) × (a.text ≡ free_module_line)) }
+{
+    Ok(Answer {
+        status: Status::BadNetwork,
+        text: List::from_slice(alloc, b"refused network free-module at 0\n")?,
+    })
+}
+
+/// The answer of a plan with its branch tree: its report, and the comment lines of the tree.
+fn answer_proved(
+    alloc: Global,
+    instance: &Instance,
+    report: ProvedReport,
+    limit: u32,
+) -> Result<Answer, NoMemory>
+    requires { IsProvedReport (case_of instance.now) instance.now.net.now.notes limit report }
+    ensures { IfOk result (λ a. EndsCharged limit (case_of instance.now) instance.now.net.now.notes a.status a.text) }
+{
+    Ok(Answer {
+        status: Status::Done,
+        text: write_proved(alloc, instance, report, limit)?,
+    })
+}
+
+/// The answer of an instance that has no plan.
+fn answer_separated(
+    alloc: Global,
+    instance: &Instance,
+    state: StateId,
+    demand: &Name,
+    limit: u32,
+) -> Result<Answer, NoMemory>
+    requires { IsSeparationOf (case_of instance.now) state.0 demand.now }
+    ensures { IfOk result (λ a. EndsCharged limit (case_of instance.now) instance.now.net.now.notes a.status a.text) }
+{
+    let _ = limit;
+    separated(alloc, instance.states, state, demand)
+}
+
+/// The answer to the result of a proof.
+fn answer_ending(
+    alloc: Global,
+    instance: &Instance,
+    ending: ProofEnding,
+    limit: u32,
+) -> Result<Answer, NoMemory>
+    requires { IsProofEnding (case_of instance.now) instance.now.net.now.notes limit ending }
+    ensures { IfOk result (λ a. EndsCharged limit (case_of instance.now) instance.now.net.now.notes a.status a.text) }
+{
+    match ending {
+        ProofEnding::Proved(report) => answer_proved(alloc, instance, report, limit),
+        ProofEnding::Separated { state, demand } => {
+            answer_separated(alloc, instance, state, &demand, limit)
+        }
+    }
+}
+
+/// The report of a plan of an instance with its branch tree of at most `limit` splits; or the line of the first demand that a state
+/// separates. It may never return.
+fn answer_instance<R: Threads + Wait + Sync, G: Gate + Sync>(
+    rt: &R,
+    alloc: Global,
+    instance: &Instance,
+    limit: u32,
+    gate: &G,
+) -> Result<Answer, NoMemory>
+    requires limit { limit ≤ 9999 }
+    requires charged { AreCharged instance.now.net.now.links }
+    ensures { IfOk result (λ a. EndsCharged limit (case_of instance.now) instance.now.net.now.notes a.status a.text) }
+{
+    let ending = prove_once(rt, alloc, instance, limit, gate)?;
+    answer_ending(alloc, instance, ending, limit)
+}
+
+/// The answer of a proof of a problem with at most `limit` splits, at most 9,999. It may never return.
+pub fn answer_prove<R: Threads + Wait + Sync, G: Gate + Sync>(
+    rt: &R,
+    alloc: Global,
+    problem: Problem,
+    limit: u32,
+    gate: &G,
+) -> Result<Answer, NoMemory>
+    requires { limit ≤ 9999 }
+    ensures { IfOk result (λ a. EndsProve limit (case problem.net problem.states problem.demands) problem.net.notes a.status a.text) }
+{
+    if !are_charged(problem.net.links().items()) {
+        return free_module(alloc);
+    }
+    let instance = Instance {
+        net: &problem.net,
+        states: &problem.states,
+        demands: &problem.demands,
+    };
+    answer_instance(rt, alloc, &instance, limit, gate)
+}

@@ -1,0 +1,9 @@
+use Rattle.command_answers.specs.Answers.{EndsProve}
+use Rattle.planner_commands.specs.inner.Steps.{named}
+use Rattle.planner_commands.proofs.Answering.{after_inputs}
+use Rattle.planner_commands.proofs.run.prove_files.Goals as goal
+
+pub returns-clause-ends : goal.returns-clause-ends
+returns-clause-ends g c =
+    after_inputs (g.S.Shelf.files c.args.shelf.now) (named c.args.words.now.files) (EndsProve c.args.words.now.limit) c.in_ok-problem.problem c.in_ok-problem.ensures.has
+    c.in_ok-answer_prove.field-0.status c.in_ok-answer_prove.field-0.text c.in_ok-answer_prove.ensures
