@@ -18,6 +18,8 @@ mod measured;
 #[cfg(test)]
 mod plans;
 #[cfg(test)]
+mod proofs;
+#[cfg(test)]
 mod runs;
 #[cfg(test)]
 mod samples;

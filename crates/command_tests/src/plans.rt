@@ -3,8 +3,9 @@ use command_answers::Status;
 use std::sync::Wait;
 use std::thread::Threads;
 
-const USAGE: &str =
-    "usage: plan NET [MODEL [FAILURES]] | session NET MODEL FAILURES SCRIPT | check NET MODEL FAILURES REPORT | sample SEED N | trim NET [MODEL [FAILURES]] | import NET MODEL FAILURES FLOWS\n";
+/// The line that answers words outside the grammar.
+pub(crate) const USAGE: &str =
+    "usage: plan NET [MODEL [FAILURES]] | session NET MODEL FAILURES SCRIPT | check NET MODEL FAILURES REPORT | sample SEED N | trim NET [MODEL [FAILURES]] | prove LIMIT NET [MODEL [FAILURES]] | import NET MODEL FAILURES FLOWS\n";
 
 /// Words, how many files they fetch, and the status and the text that they come to.
 type Row = (&'static str, u32, Status, &'static str);

@@ -1,0 +1,5 @@
+//! Tests of the search for branch trees.
+#![tactic(auto)]
+
+#[cfg(test)]
+mod searches;
