@@ -66,9 +66,11 @@ def main():
     shutil.copy(os.path.join(os.path.dirname(os.path.abspath(__file__)), "net_core.rs"), folder)
     for crate in crates:
         os.makedirs(f"{folder}/{crate}", exist_ok=True)
+        with open(f"crates/{crate}/src/lib.rt", encoding="utf-8") as root:
+            tested = "#[cfg(test)]\nmod tests;\n" in root.read()
         for path in glob.glob(f"crates/{crate}/src/*.rt"):
             name = os.path.basename(path)[: -len(".rt")]
-            if name == "tests":
+            if name == "tests" and tested:
                 continue
             to = f"{folder}/{crate}.rs" if name == "lib" else f"{folder}/{crate}/{name}.rs"
             with open(path, encoding="utf-8") as source, open(to, "w", encoding="utf-8") as it:

@@ -130,6 +130,9 @@ impl<T> List<T> {
         self.items.clear();
     }
 
+    pub fn into_vec(self) -> Vec<T> {
+        Vec { items: self.items }
+    }
     pub fn from_vec(items: impl Into<std::vec::Vec<T>>) -> List<T> {
         List { items: items.into() }
     }
