@@ -1,0 +1,2 @@
+pub mod WarmAnswers
+pub mod inner

@@ -1,0 +1,11 @@
+use metric_cut::Cut;
+use net_core::Routing;
+
+/// What is found of the demands of a state at some capacities.
+#[derive(Drop)]
+pub enum WarmAnswer {
+    /// This routing carries them.
+    Routed(Routing),
+    /// The capacities violate this cut of a set of nodes.
+    Violated(Cut),
+}

@@ -1,0 +1,248 @@
+ghost use Rattle.std.specs.Prelude.{◌<◌, IfOk, IfSome};
+ghost use Rattle.plan_terms.specs.Terms.{graph_of};
+ghost use Rattle.node_sets.specs.Boundaries.{IsBoundaryCut};
+ghost use Rattle.warm_routing.specs.WarmAnswers.{IsWarmAnswer};
+ghost use Rattle.warm_routing.specs.inner.Steps.{IsSoundChoice, IsSoundStep};
+
+use crate::answer::WarmAnswer;
+use crate::basis::Basis;
+use crate::entering::{Entrant, entering_path, entering_slack};
+use crate::leaving::{fixed_point, leaving, points_of};
+use crate::routing::routing_of;
+use crate::row::set_values;
+use crate::searching::{Waiting, collect, given, set_lengths};
+use crate::share::{Share, shares_of};
+use crate::shortage::{Shortage, shortage_of, weigh};
+use crate::start::{bounds_of, first_basis, needs_of};
+use crate::turning::{set_products, turn};
+use flow_mending::if_routed;
+use metric_cut::Cut;
+use net_core::{List, NoMemory, RouteTask};
+use node_sets::threshold_set;
+use std::alloc::Global;
+
+/// A basis that is kept from one question to the next. It saves work and changes no answer's meaning, so that nothing need be known of it.
+#[derive(Drop)]
+pub struct WarmRouter {
+    alloc: Global,
+    basis: Basis,
+}
+
+/// What one question is of, and the paths that may enter.
+#[derive(Drop)]
+struct Question {
+    bounds: List<i128>,
+    needs: List<i128>,
+    waiting: List<Waiting>,
+}
+
+/// How the search for an answer goes on.
+#[derive(Drop)]
+enum Step {
+    /// A column has entered.
+    Turned,
+    /// There is this answer.
+    Done(WarmAnswer),
+    /// It isn't found.
+    GivenUp,
+}
+
+/// What enters, or an answer.
+#[derive(Drop)]
+enum Choice {
+    Enters(Entrant),
+    Done(WarmAnswer),
+    Nothing,
+}
+
+/// A violated cut of a set of nodes that are near under the slopes.
+fn near_set(alloc: Global, task: &RouteTask, slopes: &[i64]) -> Result<Option<Cut>, NoMemory>
+    requires scale { 0 < task.now.caps.now.scale }
+    ensures { IfOk result (λ o. IfSome o (IsBoundaryCut (graph_of task.now.graph) task.now.demands.now task.now.caps.now)) }
+{
+    let mut lengths = List::filled(alloc, 0, task.graph.net.links().len())?;
+    set_lengths(lengths.items_mut(), slopes);
+    threshold_set(alloc, task, &lengths)
+}
+
+/// Searches for paths that may enter, and for a violated cut of a set of nodes near under the slopes.
+fn search(
+    alloc: Global,
+    task: &RouteTask,
+    basis: &Basis,
+    shortage: &Shortage,
+    shares: &[Share],
+    question: &mut Question,
+) -> Result<Choice, NoMemory>
+    requires scale { 0 < task.now.caps.now.scale }
+    ensures { IfOk result (IsSoundChoice (graph_of task.now.graph) task.now.demands.now task.now.caps.now) }
+{
+    let slopes = shortage.slopes.items();
+    let keys = basis.keys.items();
+    let needs = question.needs.items();
+    let found = collect(alloc, task, shortage, keys, shares, needs)?;
+    question.waiting = found.waiting;
+    if given(slopes, question.bounds.items()) < found.asked {
+        if let Some(cut) = near_set(alloc, task, slopes)? {
+            return Ok(Choice::Done(WarmAnswer::Violated(cut)));
+        }
+    }
+    match entering_path(shortage, keys, shares, needs, &mut question.waiting) {
+        Some(entrant) => Ok(Choice::Enters(entrant)),
+        None => Ok(Choice::Nothing),
+    }
+}
+
+/// What enters next.
+fn choose(
+    alloc: Global,
+    task: &RouteTask,
+    basis: &Basis,
+    shortage: &Shortage,
+    shares: &[Share],
+    question: &mut Question,
+) -> Result<Choice, NoMemory>
+    requires scale { 0 < task.now.caps.now.scale }
+    ensures { IfOk result (IsSoundChoice (graph_of task.now.graph) task.now.demands.now task.now.caps.now) }
+{
+    if let Some(entrant) = entering_slack(shortage.slopes.items()) {
+        return Ok(Choice::Enters(entrant));
+    }
+    let keys = basis.keys.items();
+    let needs = question.needs.items();
+    if let Some(entrant) = entering_path(shortage, keys, shares, needs, &mut question.waiting) {
+        return Ok(Choice::Enters(entrant));
+    }
+    search(alloc, task, basis, shortage, shares, question)
+}
+
+/// Lets a column enter; `false` where a number is too wide, and then the basis is given up.
+fn enter(
+    alloc: Global,
+    basis: &mut Basis,
+    question: &Question,
+    den: i64,
+    entrant: Entrant,
+) -> Result<bool, NoMemory> {
+    let Entrant { column, slope } = entrant;
+    set_products(basis, &column);
+    let entering = column.demand();
+    let needs = question.needs.items();
+    let Some(shares) = shares_of(alloc, basis.rows.items(), needs, entering)? else {
+        return Ok(false);
+    };
+    let mut points = points_of(alloc, basis.rows.items(), shares.items(), needs, entering)?;
+    let Some(role) = leaving(&mut points, fixed_point(slope as i128, den)) else {
+        return Ok(false);
+    };
+    let turned = turn(alloc, basis, &role, column)?.is_some();
+    if !turned {
+        basis.rows.clear();
+    }
+    Ok(turned)
+}
+
+/// The answer that a basis gives in which nothing is short, if its routing carries the demands.
+fn routed(
+    alloc: Global,
+    task: &RouteTask,
+    basis: &Basis,
+    shares: &[Share],
+    needs: &[i128],
+) -> Result<Step, NoMemory>
+    ensures { IfOk result (IsSoundStep (graph_of task.now.graph) task.now.demands.now task.now.caps.now) }
+{
+    let Some(routing) = routing_of(alloc, basis, shares, needs)? else {
+        return Ok(Step::GivenUp);
+    };
+    match if_routed(alloc, task, routing)? {
+        Some(routing) => Ok(Step::Done(WarmAnswer::Routed(routing))),
+        None => Ok(Step::GivenUp),
+    }
+}
+
+/// One step: an answer where nothing is short, else a turn.
+fn advance(
+    alloc: Global,
+    task: &RouteTask,
+    basis: &mut Basis,
+    question: &mut Question,
+) -> Result<Step, NoMemory>
+    requires scale { 0 < task.now.caps.now.scale }
+    ensures { IfOk result (IsSoundStep (graph_of task.now.graph) task.now.demands.now task.now.caps.now) }
+{
+    let needs = question.needs.items();
+    let Some(shares) = shares_of(alloc, basis.rows.items(), needs, None)? else {
+        return Ok(Step::GivenUp);
+    };
+    let shares = shares.items();
+    if !weigh(basis.rows.items_mut(), shares) {
+        return routed(alloc, task, basis, shares, needs);
+    }
+    let links = question.bounds.len();
+    let Some(shortage) = shortage_of(alloc, basis.rows.items(), links)? else {
+        return Ok(Step::GivenUp);
+    };
+    match choose(alloc, task, basis, &shortage, shares, question)? {
+        Choice::Enters(entrant) => {
+            if enter(alloc, basis, question, shortage.den, entrant)? {
+                Ok(Step::Turned)
+            } else {
+                Ok(Step::GivenUp)
+            }
+        }
+        Choice::Done(answer) => Ok(Step::Done(answer)),
+        Choice::Nothing => Ok(Step::GivenUp),
+    }
+}
+
+impl WarmRouter {
+    /// A router that begins with the first question's paths of fewest links.
+    pub fn new(alloc: Global) -> WarmRouter {
+        WarmRouter {
+            alloc,
+            basis: Basis {
+                keys: List::new(alloc),
+                rows: List::new(alloc),
+            },
+        }
+    }
+
+    /// Begins anew where the basis has another shape than the network and the demands.
+    fn prepare(&mut self, task: &RouteTask) -> Result<Question, NoMemory> {
+        if self.basis.keys.len() != task.demands.len()
+            || self.basis.rows.len() != task.graph.net.links().len()
+        {
+            self.basis = first_basis(self.alloc, task)?;
+        }
+        let bounds = bounds_of(self.alloc, task)?;
+        let needs = needs_of(self.alloc, task)?;
+        let rest = self.basis.rest(self.alloc, bounds.items(), needs.items())?;
+        set_values(self.basis.rows.items_mut(), rest.items());
+        Ok(Question {
+            bounds,
+            needs,
+            waiting: List::new(self.alloc),
+        })
+    }
+
+    /// Whether capacities carry the demands in a state; `None` where it isn't known: after so many turns, where a number is too wide, and
+    /// where no set of nodes shows why not.
+    ///
+    /// Each turn takes time in the square of the links, and some take a search from each node; a cut takes the time of `threshold_set`. It
+    /// keeps a path for each demand and a number for each link with each link.
+    pub fn ask(&mut self, task: &RouteTask, turns: u32) -> Result<Option<WarmAnswer>, NoMemory>
+        requires scale { 0 < task.now.caps.now.scale }
+        ensures { IfOk result (λ o. IfSome o (IsWarmAnswer (graph_of task.now.graph) task.now.demands.now task.now.caps.now)) }
+    {
+        let mut question = self.prepare(task)?;
+        for _ in 0..turns {
+            match advance(self.alloc, task, &mut self.basis, &mut question)? {
+                Step::Turned => {}
+                Step::Done(answer) => return Ok(Some(answer)),
+                Step::GivenUp => return Ok(None),
+            }
+        }
+        Ok(None)
+    }
+}

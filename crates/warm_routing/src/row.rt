@@ -1,0 +1,142 @@
+use crate::column::Column;
+use crate::numbers::{common, over, signed, wide_over};
+use net_core::List;
+
+/// A column of the basis with its row of the inverse, whole numbers over `den`.
+#[derive(Drop)]
+pub(crate) struct BasisRow {
+    pub column: Column,
+    /// One number for each link.
+    pub nums: List<i64>,
+    pub den: i64,
+    /// What the column carries, over `den`; below 0 that much is short.
+    pub value: i128,
+    /// What it loses to a unit of the column that enters, over `den`.
+    pub product: i64,
+    /// How often its value counts in what is short.
+    pub weight: i64,
+}
+
+/// The product of a row's numbers with what the keys leave of the links.
+fn worth(nums: &[i64], rest: &[i128]) -> i128 {
+    let mut sum = 0i128;
+    for e in 0..nums.len() {
+        if e < rest.len() && nums[e] != 0 {
+            sum = sum.wrapping_add((nums[e] as i128).wrapping_mul(rest[e]));
+        }
+    }
+    sum
+}
+
+/// The values at what the keys leave of the links.
+pub(crate) fn set_values(rows: &mut [BasisRow], rest: &[i128]) {
+    for i in 0..rows.len() {
+        rows[i].value = worth(rows[i].nums.items(), rest);
+    }
+}
+
+/// The greatest common divisor of numbers and a denominator.
+fn common_of(nums: &[i64], den: u64) -> u64 {
+    let mut shared = den;
+    for e in 0..nums.len() {
+        if shared == 1 {
+            return 1;
+        }
+        if nums[e] != 0 {
+            shared = common(shared, nums[e].unsigned_abs());
+        }
+    }
+    shared
+}
+
+/// Divides each number.
+fn divide(nums: &mut [i64], by: i64) {
+    for e in 0..nums.len() {
+        nums[e] = over(nums[e], by);
+    }
+}
+
+/// The bits of all numbers.
+fn bits_of(nums: &[i64]) -> u64 {
+    let mut bits = 0;
+    for e in 0..nums.len() {
+        bits |= nums[e].unsigned_abs();
+    }
+    bits
+}
+
+/// Brings a row to lowest terms; `None` where its numbers are too wide.
+pub(crate) fn lower(row: &mut BasisRow) -> Option<()> {
+    let shared = common_of(row.nums.items(), row.den.unsigned_abs());
+    if shared > 1 {
+        let by = signed(shared)?;
+        divide(row.nums.items_mut(), by);
+        row.den = over(row.den, by);
+        row.value = wide_over(row.value, by);
+        row.product = over(row.product, by);
+    }
+    signed(bits_of(row.nums.items()) | row.den.unsigned_abs())?;
+    Some(())
+}
+
+/// Takes `less` times another row from `times` this row.
+fn mix(nums: &mut [i64], times: i64, less: i64, other: &[i64]) {
+    for e in 0..nums.len() {
+        if e < other.len() {
+            nums[e] = nums[e]
+                .wrapping_mul(times)
+                .wrapping_sub(other[e].wrapping_mul(less));
+        }
+    }
+}
+
+/// A row after a turn at another one, whose product is positive.
+pub(crate) fn combine(row: &mut BasisRow, pivot: &BasisRow) -> Option<()> {
+    if row.product == 0 {
+        return Some(());
+    }
+    let size = row.product.unsigned_abs();
+    let shared = signed(common(size, pivot.product.unsigned_abs()))?;
+    signed(size)?;
+    let (less, times) = (over(row.product, shared), over(pivot.product, shared));
+    mix(row.nums.items_mut(), times, less, pivot.nums.items());
+    row.den = row.den.wrapping_mul(times);
+    row.value = row
+        .value
+        .wrapping_mul(times as i128)
+        .wrapping_sub(pivot.value.wrapping_mul(less as i128));
+    lower(row)
+}
+
+/// A row with its sign changed where its product is below 0.
+fn turn_sign(row: &mut BasisRow) {
+    if row.product < 0 {
+        negate(row.nums.items_mut());
+        row.product = 0i64.wrapping_sub(row.product);
+        row.value = 0i128.wrapping_sub(row.value);
+    }
+}
+
+/// Changes the sign of each number.
+fn negate(nums: &mut [i64]) {
+    for e in 0..nums.len() {
+        nums[e] = 0i64.wrapping_sub(nums[e]);
+    }
+}
+
+/// The row at which a turn is made, with a positive product; `None` where it has none or too wide a one.
+pub(crate) fn ready(row: &mut BasisRow) -> Option<()> {
+    turn_sign(row);
+    if row.product == 0 {
+        return None;
+    }
+    signed(row.product.unsigned_abs())?;
+    Some(())
+}
+
+/// The row of the column that has entered.
+pub(crate) fn entered(row: &mut BasisRow, column: Column) -> Option<()> {
+    row.column = column;
+    row.den = row.product;
+    lower(row)
+}

@@ -1,0 +1,104 @@
+use crate::numbers::{common_multiple, over};
+use crate::row::BasisRow;
+use net_core::{List, NoMemory};
+use std::alloc::Global;
+
+/// What is left to a demand's key once the rows of the demand have their parts, over `den`.
+#[derive(Clone, Copy)]
+pub(crate) struct Share {
+    pub demand: usize,
+    pub den: i64,
+    /// What the key carries; below 0 that much is short.
+    pub value: i128,
+    /// What the key loses to a unit of the column that enters.
+    pub product: i128,
+}
+
+/// The place of a demand's share, which is past the end where there is none.
+pub(crate) fn place_of(shares: &[Share], demand: usize) -> usize {
+    for k in 0..shares.len() {
+        if shares[k].demand == demand {
+            return k;
+        }
+    }
+    shares.len()
+}
+
+/// Whether a demand's key has a negative value.
+pub(crate) fn is_short(shares: &[Share], demand: usize) -> bool {
+    let at = place_of(shares, demand);
+    at < shares.len() && shares[at].value < 0
+}
+
+/// Takes a row's part away.
+fn take_part(share: &mut Share, row: &BasisRow) -> Option<()> {
+    let den = common_multiple(share.den, row.den)?;
+    let up = over(den, share.den) as i128;
+    let part = over(den, row.den) as i128;
+    share.den = den;
+    share.value = share
+        .value
+        .wrapping_mul(up)
+        .wrapping_sub(row.value.wrapping_mul(part));
+    share.product = share
+        .product
+        .wrapping_mul(up)
+        .wrapping_sub((row.product as i128).wrapping_mul(part));
+    Some(())
+}
+
+/// What a demand needs.
+pub(crate) fn need_of(needs: &[i128], demand: usize) -> i128 {
+    if demand < needs.len() {
+        needs[demand]
+    } else {
+        0
+    }
+}
+
+/// The key of a demand without rows, where a column of some demand enters.
+pub(crate) fn whole_share(needs: &[i128], demand: usize, entering: Option<usize>) -> Share {
+    Share {
+        demand,
+        den: 1,
+        value: need_of(needs, demand),
+        product: if entering == Some(demand) { 1 } else { 0 },
+    }
+}
+
+/// Takes a row's part from its demand's key.
+fn add_row(
+    shares: &mut List<Share>,
+    row: &BasisRow,
+    needs: &[i128],
+    entering: Option<usize>,
+) -> Result<Option<()>, NoMemory> {
+    let Some(demand) = row.column.demand() else {
+        return Ok(Some(()));
+    };
+    let at = place_of(shares.items(), demand);
+    if at == shares.len() {
+        shares.push(whole_share(needs, demand, entering))?;
+    }
+    let all = shares.items_mut();
+    if at < all.len() {
+        return Ok(take_part(&mut all[at], row));
+    }
+    Ok(None)
+}
+
+/// What is left to the key of each demand that has rows; `None` where a number is too wide.
+pub(crate) fn shares_of(
+    alloc: Global,
+    rows: &[BasisRow],
+    needs: &[i128],
+    entering: Option<usize>,
+) -> Result<Option<List<Share>>, NoMemory> {
+    let mut shares = List::new(alloc);
+    for row in rows {
+        if add_row(&mut shares, row, needs, entering)?.is_none() {
+            return Ok(None);
+        }
+    }
+    Ok(Some(shares))
+}

@@ -1,0 +1,71 @@
+use crate::numbers::{common_multiple, over};
+use crate::row::BasisRow;
+use crate::share::{Share, is_short};
+use net_core::{List, NoMemory};
+use std::alloc::Global;
+
+/// How all that is short together depends on the links' capacities.
+#[derive(Drop)]
+pub(crate) struct Shortage {
+    /// What a unit of each link's capacity takes off, over `den`.
+    pub slopes: List<i64>,
+    pub den: i64,
+}
+
+/// How often a row's value counts.
+fn weight_of(row: &BasisRow, shares: &[Share]) -> i64 {
+    let own = if row.value < 0 { 1 } else { 0 };
+    match row.column.demand() {
+        Some(demand) if is_short(shares, demand) => own - 1,
+        _ => own,
+    }
+}
+
+/// Whether some value is negative, each row's weight set by that.
+pub(crate) fn weigh(rows: &mut [BasisRow], shares: &[Share]) -> bool {
+    let mut short = false;
+    for i in 0..rows.len() {
+        rows[i].weight = weight_of(&rows[i], shares);
+        short = short || rows[i].value < 0;
+    }
+    short || shares.iter().any(|share| share.value < 0)
+}
+
+/// The least common denominator of the rows that count.
+fn common_den(rows: &[BasisRow]) -> Option<i64> {
+    let mut den = 1;
+    for row in rows {
+        if row.weight != 0 {
+            den = common_multiple(den, row.den)?;
+        }
+    }
+    Some(den)
+}
+
+/// Adds numbers some times.
+fn add(slopes: &mut [i64], nums: &[i64], times: i64) {
+    for e in 0..slopes.len() {
+        if e < nums.len() {
+            slopes[e] = slopes[e].wrapping_add(nums[e].wrapping_mul(times));
+        }
+    }
+}
+
+/// How what is short depends on the capacities, by the weights of the rows; `None` where a number is too wide.
+pub(crate) fn shortage_of(
+    alloc: Global,
+    rows: &[BasisRow],
+    links: usize,
+) -> Result<Option<Shortage>, NoMemory> {
+    let Some(den) = common_den(rows) else {
+        return Ok(None);
+    };
+    let mut slopes = List::filled(alloc, 0, links)?;
+    for row in rows {
+        if row.weight != 0 {
+            let times = over(den, row.den).wrapping_mul(row.weight);
+            add(slopes.items_mut(), row.nums.items(), times);
+        }
+    }
+    Ok(Some(Shortage { slopes, den }))
+}

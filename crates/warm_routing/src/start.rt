@@ -1,0 +1,72 @@
+use crate::basis::Basis;
+use crate::column::Column;
+use crate::row::BasisRow;
+use flow_mending::bounded;
+use flow_mending::reach::Reach;
+use net_core::{LinkId, List, NoMemory, Path, RouteTask};
+use std::alloc::Global;
+
+/// The capacity of each link, 0 where the state fails it.
+pub(crate) fn bounds_of(alloc: Global, task: &RouteTask) -> Result<List<i128>, NoMemory> {
+    let nums = task.caps.nums.items();
+    let mut bounds = List::from_vec(Vec::with_capacity(alloc, nums.len())?);
+    for e in 0..nums.len() {
+        let survives = task.graph.has(LinkId(e as u32));
+        bounds.push(if survives { bounded(nums[e]) } else { 0 })?;
+    }
+    Ok(bounds)
+}
+
+/// What each demand needs over the scale.
+pub(crate) fn needs_of(alloc: Global, task: &RouteTask) -> Result<List<i128>, NoMemory> {
+    let demands = task.demands.items();
+    let mut needs = List::from_vec(Vec::with_capacity(alloc, demands.len())?);
+    for d in demands {
+        needs.push(bounded(d.need as u128 * task.caps.scale as u128))?;
+    }
+    Ok(needs)
+}
+
+/// A path of fewest links for each demand; none for one whose ends are apart.
+fn first_keys(alloc: Global, task: &RouteTask) -> Result<List<Path>, NoMemory> {
+    let mut reach = Reach::new(alloc, &task.graph)?;
+    let mut keys = List::new(alloc);
+    for d in task.demands.items() {
+        reach.search(d.to, Some(d.from));
+        match reach.path(alloc, d.from)? {
+            Some(path) => keys.push(path)?,
+            None => keys.push(List::new(alloc))?,
+        }
+    }
+    Ok(keys)
+}
+
+/// The row of a link's slack.
+fn unit_row(alloc: Global, links: usize, at: usize) -> Result<BasisRow, NoMemory> {
+    let mut nums = List::filled(alloc, 0, links)?;
+    let all = nums.items_mut();
+    if at < all.len() {
+        all[at] = 1;
+    }
+    Ok(BasisRow {
+        column: Column::Slack(at),
+        nums,
+        den: 1,
+        value: 0,
+        product: 0,
+        weight: 0,
+    })
+}
+
+/// Keys of fewest links, and the slacks of the links.
+pub(crate) fn first_basis(alloc: Global, task: &RouteTask) -> Result<Basis, NoMemory> {
+    let links = task.graph.net.links().len();
+    let mut rows = List::new(alloc);
+    for e in 0..links {
+        rows.push(unit_row(alloc, links, e)?)?;
+    }
+    Ok(Basis {
+        keys: first_keys(alloc, task)?,
+        rows,
+    })
+}
