@@ -1,4 +1,3 @@
 pub mod FoundForms
 pub mod Repairing
-pub mod RoomLeft
 pub mod Testing

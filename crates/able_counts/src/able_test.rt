@@ -10,6 +10,7 @@ use crate::stop::{Stop, discard, is_cut, later};
 use module_choice::capacities;
 use net_core::{Caps, Copied, Counts, CutLine, Instance, List, NoMemory, Routing, StateId};
 use std::alloc::Global;
+use warm_routing::WarmRouter;
 
 /// What was learned of counts of modules: cuts, and for each state the last routing.
 /// What it answers is said of the counts alone; what it keeps makes the next answer cheaper.
@@ -21,6 +22,8 @@ pub struct AbleTest {
     routings: List<Routing>,
     /// The state that refused last.
     refused: u32,
+    /// The basis of the last routing program.
+    warm: WarmRouter,
 }
 
 /// The state some places after another, where the first comes after the last.
@@ -49,6 +52,7 @@ impl AbleTest {
             cuts: List::new(alloc),
             routings,
             refused: 0,
+            warm: WarmRouter::new(alloc),
         })
     }
 
@@ -147,6 +151,7 @@ impl AbleTest {
             instance,
             state,
             caps,
+            &mut self.warm,
             &mut self.routings.items_mut()[at],
         )?;
         self.keep(instance, state, caps, &found)?;

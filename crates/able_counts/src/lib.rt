@@ -12,7 +12,6 @@
 
 mod able_test;
 mod cuts;
-mod loads;
 mod nodes;
 mod quick;
 mod routed;

@@ -1,29 +1,26 @@
-ghost use Rattle.std.specs.Prelude.{◌≡◌, ◌⊎◌, ◌^◌, ◌+◌, ◌<◌, All, IfOk, IfSome, IsTrue, length};
-ghost use Rattle.plan_terms.specs.Terms.{case_of, graph_in, IsFlow, Joins};
+ghost use Rattle.std.specs.Prelude.{◌≡◌, ◌⊎◌, ◌^◌, ◌+◌, ◌<◌, All, IfOk, IfSome, length};
+ghost use Rattle.plan_terms.specs.Terms.{case_of};
 ghost use Rattle.able_counts.specs.AbleTests.{IsRoutingOf, IsRoutingWithin, IsStopAt};
 
-use crate::loads::is_within;
 use crate::stop::Stop;
-use greedy_router::greedy_after;
-use net_core::{Caps, Flow, Instance, NoMemory, RouteTask, Routing, StateId};
+use flow_mending::{is_within, mended};
+use net_core::{Caps, Instance, NoMemory, RouteTask, Routing, StateId};
 use node_sets::grown_set;
 use separator::line_of;
 use std::alloc::Global;
 
-/// A routing within capacities in a state that begins with the paths of an earlier one, where greedy steps carry all demands.
-/// It takes time in the square of the nodes for each demand that its earlier paths don't carry.
-fn mended(
+/// A routing within capacities in a state that keeps most flows of an earlier one, where what no longer fits finds its way.
+/// It takes time in the links of the flows, and a search for each demand of which some doesn't fit.
+fn mended_in(
     alloc: Global,
     instance: &Instance,
     state: StateId,
     caps: &Caps,
-    earlier: &[Flow],
+    earlier: &Routing,
 ) -> Result<Option<Routing>, NoMemory>
     requires state { state.0 < length instance.now.states.now.listed + 1 }
     requires scale { caps.now.scale ≡ 1 }
     requires count { length caps.now.nums ≡ length instance.now.net.now.links }
-    requires narrow { All (λ n. n < 2 ^ 62) caps.now.nums }
-    requires earlier { All (IsFlow (Joins (graph_in (case_of instance.now) state.0)) instance.now.demands.now) earlier.now }
     ensures { IfOk result (λ o. IfSome o (IsRoutingWithin (case_of instance.now) state.0 caps.now.nums)) }
 {
     let task = RouteTask {
@@ -31,11 +28,9 @@ fn mended(
         demands: instance.demands,
         caps,
     };
-    let left = greedy_after(alloc, &task, earlier)?;
-    if left.is_whole() {
-        Ok(Some(left.routing))
-    } else {
-        Ok(None)
+    match mended(alloc, &task, earlier)? {
+        Some(found) => Ok(Some(found)),
+        None => Ok(None),
     }
 }
 
@@ -83,7 +78,7 @@ pub(crate) fn quick_stop(
     if is_within(alloc, routing, caps)? {
         return Ok(None);
     }
-    match mended(alloc, instance, state, caps, routing.flows.items())? {
+    match mended_in(alloc, instance, state, caps, routing)? {
         Some(found) => {
             *routing = found;
             Ok(None)

@@ -1,15 +1,22 @@
-ghost use Rattle.std.specs.Prelude.{◌≡◌, ◌⊎◌, ◌^◌, ◌+◌, ◌<◌, All, IfOk, IfSome, None, length};
-ghost use Rattle.plan_terms.specs.Terms.{case_of, graph_in, IsSurvivable};
+ghost use Rattle.std.specs.Prelude.{◌≡◌, ◌⊎◌, ◌^◌, ◌+◌, ◌<◌, All, IfOk, IfSome, List as Seq, None, length};
+ghost use Rattle.plan_terms.specs.Terms.{case_of, graph_in, Caps as CapsOf, Demand, Graph, IsSurvivable};
 ghost use Rattle.route_law.specs.Terms.{AreJoined};
 ghost use Rattle.separator.specs.Findings.{IsFinding};
+ghost use Rattle.warm_routing.specs.WarmAnswers.{IsWarmAnswer};
 ghost use Rattle.able_counts.specs.AbleTests.{IsRoutingOf, IsRoutingWithin, IsStopAt};
 
-use crate::loads::is_within;
 use crate::stop::Stop;
+use flow_mending::is_within;
 use flow_router::RouteAnswer;
-use net_core::{Caps, Copied, Flow, Instance, List, NoMemory, RouteColumn, Routing, StateId};
+use net_core::{
+    Caps, Copied, Flow, Instance, List, NoMemory, RouteColumn, RouteTask, Routing, StateId,
+};
 use separator::{line_of, separate_state};
 use std::alloc::Global;
+use warm_routing::{WarmAnswer, WarmRouter};
+
+/// A kept basis is given so many turns.
+const TURNS: u32 = 1_000;
 
 /// The columns of a routing's flows.
 fn columns_of(alloc: Global, flows: &[Flow]) -> Result<List<RouteColumn>, NoMemory> {
@@ -20,6 +27,39 @@ fn columns_of(alloc: Global, flows: &[Flow]) -> Result<List<RouteColumn>, NoMemo
     Ok(columns)
 }
 
+/// What a kept basis finds, as an answer.
+fn answer_of(found: WarmAnswer) -> RouteAnswer
+    ensures { (g : Graph) (demands : Seq Demand) (caps : CapsOf) → IsWarmAnswer g demands caps found → IsFinding g demands caps result }
+{
+    match found {
+        WarmAnswer::Routed(routing) => RouteAnswer::Routed(routing),
+        WarmAnswer::Violated(cut) => RouteAnswer::Violated(cut),
+    }
+}
+
+/// What a kept basis finds of the demands of a state.
+fn route_warm(
+    instance: &Instance,
+    state: StateId,
+    caps: &Caps,
+    warm: &mut WarmRouter,
+) -> Result<Option<RouteAnswer>, NoMemory>
+    requires state { state.0 < length instance.now.states.now.listed + 1 }
+    requires scale { 0 < caps.now.scale }
+    requires count { length caps.now.nums ≡ length instance.now.net.now.links }
+    ensures { IfOk result (λ o. IfSome o (IsFinding (graph_in (case_of instance.now) state.0) instance.now.demands.now caps.now)) }
+{
+    let task = RouteTask {
+        graph: instance.in_state(state),
+        demands: instance.demands,
+        caps,
+    };
+    match warm.ask(&task, TURNS)? {
+        Some(found) => Ok(Some(answer_of(found))),
+        None => Ok(None),
+    }
+}
+
 /// Whether capacities carry the demands in a state, where a routing program begins with the paths of earlier flows.
 fn route_anew(
     alloc: Global,
@@ -27,6 +67,7 @@ fn route_anew(
     state: StateId,
     caps: &Caps,
     earlier: &[Flow],
+    warm: &mut WarmRouter,
 ) -> Result<RouteAnswer, NoMemory>
     requires state { state.0 < length instance.now.states.now.listed + 1 }
     requires scale { 0 < caps.now.scale }
@@ -34,6 +75,9 @@ fn route_anew(
     requires joined { AreJoined (graph_in (case_of instance.now) state.0) instance.now.demands.now }
     ensures { IfOk result (IsFinding (graph_in (case_of instance.now) state.0) instance.now.demands.now caps.now) }
 {
+    if let Some(answer) = route_warm(instance, state, caps, warm)? {
+        return Ok(answer);
+    }
     let mut known = columns_of(alloc, earlier)?;
     separate_state(alloc, instance, state, caps, &mut known)
 }
@@ -46,6 +90,7 @@ pub(crate) fn state_stop(
     instance: &Instance,
     state: StateId,
     caps: &Caps,
+    warm: &mut WarmRouter,
     routing: &mut Routing,
 ) -> Result<Option<Stop>, NoMemory>
     requires state { state.0 < length instance.now.states.now.listed + 1 }
@@ -61,7 +106,7 @@ pub(crate) fn state_stop(
     if is_within(alloc, routing, caps)? {
         return Ok(None);
     }
-    match route_anew(alloc, instance, state, caps, routing.flows.items())? {
+    match route_anew(alloc, instance, state, caps, routing.flows.items(), warm)? {
         RouteAnswer::Routed(found) => {
             *routing = found;
             Ok(None)
