@@ -9,11 +9,11 @@ use Rattle.plan_swaps.specs.declared.kept.Kept.{Kept}
 use Rattle.plan_swaps.specs.Swaps.{IsCheaperPlan}
 use Rattle.plan_swaps.specs.inner.Searching.{AreCarryingCounts}
 
-module _ (p : Case) (plan : Plan) (same : plan.demands ≡ p.demands) (is : IsRoutedPlan p plan) where
-  -- each of a plan's routings is one of its state
-  pub routing_of_plan : (s : ℕ) (r : Routing) → slice_get plan.routings s ≡ Some r → IsRoutingOf p s r
-  routing_of_plan s r at = record { nums = capacities p.links plan.counts; within = (plan_routings p plan same is).each s r at }
+-- each routing of counts is one of its state
+pub routing_of_kept : (p : Case) (k : Kept) → AreCarryingCounts p k → (s : ℕ) (r : Routing) → slice_get k.routings s ≡ Some r → IsRoutingOf p s r
+routing_of_kept p k are s r at = record { nums = capacities p.links k.counts; within = are.routings.each s r at }
 
+module _ (p : Case) (plan : Plan) (same : plan.demands ≡ p.demands) (is : IsRoutedPlan p plan) where
   -- a plan's counts carry the demands
   pub plan_carries : AreCarryingCounts p (record { counts = plan.counts; cost = plan.cost; routings = plan.routings })
   plan_carries = record { shape = is.form.counts; limits = is.form.limits; routings = plan_routings p plan same is; paid = is.costed }

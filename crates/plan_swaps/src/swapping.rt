@@ -10,9 +10,10 @@ use crate::search::Search;
 use crate::starts::try_starts;
 use crate::swaps::make_cheaper;
 use able_counts::AbleTest;
-use net_core::{Copied, Counts, Instance, Network, NoMemory, States};
+use net_core::{Copied, Counts, Instance, List, Network, NoMemory, States};
 use plan_types::{Certificate, Plan};
 use std::alloc::Global;
+use std::mem;
 use trim_plan::dearest_first;
 
 /// The cuts of a certificate, which are met at the start.
@@ -24,31 +25,28 @@ fn met_cuts(alloc: Global, certificate: &Certificate) -> Result<Refusals, NoMemo
     Ok(refusals)
 }
 
-/// The cheapest counts to which exchanges of modules lead from a plan's counts and from other counts.
+/// The cheapest counts to which exchanges of modules lead from given counts that carry the demands, and from others. The cuts of a
+/// certificate are met at the start.
 fn swapped_counts(
     alloc: Global,
     instance: &Instance,
-    plan: &Plan,
+    certificate: &Certificate,
+    given: Kept,
     starts: &[Counts],
 ) -> Result<Kept, NoMemory>
     requires survivable { IsSurvivable (case_of instance.now) }
-    requires demands { plan.now.demands ≡ instance.now.demands.now }
-    requires routed { IsRoutedPlan (case_of instance.now) plan.now }
+    requires given { AreCarryingCounts (case_of instance.now) given }
     requires starts { All (λ counts. AreCounts instance.now.net.now.links counts × AreWithinLimits instance.now.net.now.links counts) starts.now }
     ensures carrying { IfOk result (AreCarryingCounts (case_of instance.now)) }
-    ensures cheaper { IfOk result (λ kept. kept.cost ≤ plan.now.cost) }
+    ensures cheaper { IfOk result (λ kept. kept.cost ≤ given.cost) }
     ensures starts { IfOk result (λ kept. All (AreNoCheaper (case_of instance.now) kept.cost) starts.now) }
 {
     let dearest = dearest_first(alloc, instance.net)?;
-    let mut kept = Kept {
-        counts: plan.counts.copy()?,
-        cost: plan.cost,
-        routings: plan.routings.copy()?,
-    };
-    let test = AbleTest::new(alloc, instance, plan.routings.copy()?)?;
+    let test = AbleTest::new(alloc, instance, given.routings.copy()?)?;
+    let mut kept = given;
     let mut search = Search {
         test,
-        refusals: met_cuts(alloc, &plan.certificate)?,
+        refusals: met_cuts(alloc, certificate)?,
         asks: 0,
     };
     make_cheaper(alloc, instance, &mut search, dearest.items(), &mut kept)?;
@@ -96,12 +94,20 @@ pub fn swap_from(
     requires starts { All (λ counts. AreCounts net.now.links counts × AreWithinLimits net.now.links counts) starts.now }
     ensures { IfOk result (IsCheaperThanStarts (case net.now states.now plan.demands) plan starts.now) }
 {
+    let mut plan = plan;
+    let mut routings = List::new(alloc);
+    mem::swap(&mut plan.routings, &mut routings);
+    let given = Kept {
+        counts: plan.counts.copy()?,
+        cost: plan.cost,
+        routings,
+    };
     let instance = Instance {
         net,
         states,
         demands: &plan.demands,
     };
-    let kept = swapped_counts(alloc, &instance, &plan, starts)?;
+    let kept = swapped_counts(alloc, &instance, &plan.certificate, given, starts)?;
     Ok(with_counts(plan, kept))
 }
 
