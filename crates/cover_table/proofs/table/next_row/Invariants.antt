@@ -1,0 +1,12 @@
+use Rattle.std.proofs.Common.{◌≡◌, ◌<◌, ◌≤◌, ◌^◌, All, length}
+use Rattle.cover_table.specs.inner.Rows.{IsNextFront}
+use Rattle.cover_table.proofs.table.next_row.Given as goal
+
+-- the entries so far
+abbrev pub invariant-loop-r : goal.invariant-loop-r
+invariant-loop-r l = record {
+  some : 0 < l.r;
+  count : length l.next ≡ l.r;
+  front : IsNextFront l.row l.size l.weight l.next;
+  small : All (λ n. n ≤ 2 ^ 45) l.next;
+}

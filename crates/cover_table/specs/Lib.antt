@@ -1,0 +1,2 @@
+pub mod CoverWeights
+pub mod inner
