@@ -1,0 +1,60 @@
+-- what the indices of sources and of tests name
+use Rattle.std.proofs.Common.{◌≡◌, ◌≢◌, ◌++◌, ℕ, zero, suc, ◌<◌, inl, inr, ⊎_elim, Bool, true, false, IsTrue, List, [], ◌∷◌, Some, get_or, length, length-append, slice_get, refl, ap, sym, subst, arith}
+use Rattle.net_core.proofs.Library.{cases_eq, slice_get_within}
+use Rattle.plan_terms.specs.Terms.{Case, CutLine, IsCut}
+use Rattle.line_check.specs.Inequalities.{line_of_cut}
+use Rattle.line_check.specs.Lines.{IsMadeAt, IsMadeOf, Source, names_among, sources_of}
+use Rattle.line_check.specs.Testing.{AreTested, names_by, no_test, says, test_at}
+use Rattle.line_check.specs.declared.inequality.Inequality.{Inequality}
+use Rattle.line_check.specs.declared.line.Line.{Line}
+use Rattle.line_check.specs.declared.tested.Tested.{Tested}
+
+-- the index of a source names the line that it makes
+pub source_names : (p : Case) (sources : List Source) (n i : ℕ) (robust : Bool) (source : Source) (made : Inequality) → i < n
+    → slice_get sources i ≡ Some source → IsMadeOf p (names_among p sources i) robust source made → names_among p sources n robust i made
+source_names p sources zero i robust source made lt at is = absurd (omega (arith, lt))
+source_names p sources (suc n) i robust source made lt at is = ⊎_elim
+    (λ (here : i ≡ n).
+    let made_at : IsMadeAt p (names_among p sources i) robust sources i made = record { source = source; at = at; is = is } in
+    inr (here, subst (λ (k : ℕ). IsMadeAt p (names_among p sources k) robust sources k made) here made_at))
+    (λ (before : i ≢ n). inl (source_names p sources n i robust source made (omega (arith, lt, before)) at is))
+    (cases_eq i n)
+
+or_before : {X : Type 0} (xs ys : List X) (i : ℕ) (d : X) → i < length xs → get_or (xs ++ ys) i d ≡ get_or xs i d
+or_before [] ys i d lt = absurd (omega (arith, lt))
+or_before (x ∷ xs) ys zero d lt = refl
+or_before (x ∷ xs) ys (suc i) d lt = or_before xs ys i d (omega (arith, lt))
+
+-- the index of a test names the same line where others are put after
+pub tested_front : (tested more : List Tested) (robust : Bool) (i : ℕ) (line : Inequality) → names_by tested robust i line → names_by (tested ++ more) robust i line
+tested_front tested more robust i line names =
+    let same : test_at tested i ≡ test_at (tested ++ more) i = sym (or_before tested more i no_test names.0) in (
+      omega (arith, names.0, length-append tested more),
+      subst (λ (t : Tested). IsTrue (says robust t)) same names.1,
+      subst (λ (t : Tested). line ≡ t.line) same names.2,
+    )
+
+-- ---- cuts
+
+-- as many as the cuts
+pub cut_sources : (cuts : List CutLine) → length (sources_of cuts []) ≡ length cuts
+cut_sources [] = refl
+cut_sources (c ∷ cs) = omega (arith, cut_sources cs)
+
+-- a cut more
+pub cut_pushed : (cuts : List CutLine) (cut : CutLine) → sources_of (cuts ++ cut ∷ []) [] ≡ sources_of cuts [] ++ inl cut ∷ []
+cut_pushed [] cut = refl
+cut_pushed (c ∷ cs) cut = ap (λ (ss : List Source). inl c ∷ ss) (cut_pushed cs cut)
+
+pub cut_at : (cuts : List CutLine) (lines : List Line) (i : ℕ) (cut : CutLine) → slice_get cuts i ≡ Some cut → slice_get (sources_of cuts lines) i ≡ Some (inl cut)
+cut_at [] lines i cut at = absurd (cc at)
+cut_at (c ∷ cs) lines zero cut at = let same : c ≡ cut = cc at in ap (λ (x : CutLine). Some (inl x)) same
+cut_at (c ∷ cs) lines (suc i) cut at = cut_at cs lines i cut at
+
+-- the place of a cut of the case names its line
+pub cut_names : (p : Case) (sources : List Source) (tested : List Tested) (i : ℕ) (cut : CutLine) → AreTested p sources tested → slice_get sources i ≡ Some (inl cut)
+    → IsCut p cut → names_by tested false i (line_of_cut p.links cut)
+cut_names p sources tested i cut are at of_case =
+    (are.names false i (line_of_cut p.links cut)).0
+    (source_names p sources (length sources) i false (inl cut) (line_of_cut p.links cut) (slice_get_within sources i (inl cut) at) at
+    (of_case, λ (e : false ≡ true). absurd (cc e), refl))
