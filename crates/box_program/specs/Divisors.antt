@@ -1,15 +1,15 @@
 -- numbers that divide all numbers of lines
 use Rattle.std.specs.Prelude.{ℕ, ◌-◌, ◌↔◌, List, All}
 use Rattle.std.specs.Int.{◌∣◌}
-use Rattle.tree_check.specs.declared.line.Line.{Line}
-use Rattle.tree_check.specs.declared.tested.Tested.{Tested}
+use Rattle.line_check.specs.declared.inequality.Inequality.{Inequality}
+use Rattle.line_check.specs.declared.tested.Tested.{Tested}
 
 -- a number divides each coefficient of a line, and what the line asks for beyond what is given
-abbrev pub DividesLine : ℕ → Line → Type 0
+abbrev pub DividesLine : ℕ → Inequality → Type 0
 DividesLine d line = All (λ coefs. All (λ c. d ∣ c) coefs) line.coefs × (d ∣ (line.right - line.given))
 
 -- the greatest number that divides another one and a line
-abbrev pub IsDivisorWith : ℕ → Line → ℕ → Type 0
+abbrev pub IsDivisorWith : ℕ → Inequality → ℕ → Type 0
 IsDivisorWith unit line g = (d : ℕ) → (d ∣ g) ↔ (d ∣ unit) × DividesLine d line
 
 -- the greatest number that divides all lines

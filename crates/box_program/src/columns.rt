@@ -5,13 +5,13 @@ use crate::program::Rated;
 use crate::rows::{WIDE, signed};
 use crate::shape::{Cap, ModuleRow, Rows};
 use crate::spans::modules_of;
+use line_check::inequality::coefficient;
+use line_check::{Inequality, Tested};
 use net_core::{Link, List, NoMemory};
 use simplex_core::{Column, Entry};
 use std::alloc::Global;
+use tree_check::Span;
 use tree_check::boxes::span_at;
-use tree_check::line::coefficient;
-use tree_check::tested::Tested;
-use tree_check::{Line, Span};
 
 /// What a column gains, and what it takes.
 #[derive(Drop)]
@@ -45,7 +45,7 @@ fn weight_of(bounds: &[i64], entries: &[Entry]) -> u128
 }
 
 /// What is left of what a line asks for when the least counts of a link's modules give their part.
-fn rest_after(line: &Line, links: &[Link], boxed: &[List<Span>], e: usize, rest: u128) -> u128
+fn rest_after(line: &Inequality, links: &[Link], boxed: &[List<Span>], e: usize, rest: u128) -> u128
     requires { e < length links.now }
 {
     let mut rest = rest;
@@ -57,7 +57,7 @@ fn rest_after(line: &Line, links: &[Link], boxed: &[List<Span>], e: usize, rest:
 }
 
 /// What a line asks for beyond what the least counts of a box give; 0 where they give enough.
-fn gain_of(line: &Line, links: &[Link], boxed: &[List<Span>]) -> u128 {
+fn gain_of(line: &Inequality, links: &[Link], boxed: &[List<Span>]) -> u128 {
     let mut rest = line.right.saturating_sub(line.given);
     for e in 0..links.len() {
         rest = rest_after(line, links, boxed, e, rest);
@@ -86,7 +86,7 @@ fn push_entry(entries: &mut List<Entry>, row: u32, value: u64) -> Result<(), NoM
 fn line_entries(
     alloc: Global,
     modules: &[ModuleRow],
-    line: &Line,
+    line: &Inequality,
     unit: u128,
 ) -> Result<Option<List<Entry>>, NoMemory>
     requires few { length modules.now ≤ 2 ^ 20 }
@@ -108,7 +108,7 @@ fn line_entries(
 fn line_load(
     alloc: Global,
     modules: &[ModuleRow],
-    line: &Line,
+    line: &Inequality,
     gain: u128,
     unit: u128,
 ) -> Result<Option<Load>, NoMemory>

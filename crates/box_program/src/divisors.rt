@@ -3,9 +3,8 @@ ghost use Rattle.std.specs.Int.{◌∣◌};
 ghost use Rattle.box_program.specs.Divisors.{IsCommonUnit, IsDivisorWith};
 
 use checked_fraction::gcd;
+use line_check::{Inequality, Tested};
 use net_core::{Link, List, Module};
-use tree_check::Line;
-use tree_check::tested::Tested;
 
 /// The greatest number that divides another one and these.
 fn divisor_among(unit: u128, numbers: &[u128]) -> u128
@@ -31,7 +30,7 @@ fn divisor_over(unit: u128, lists: &[List<u128>]) -> u128
 
 /// The greatest number that divides another one, each coefficient of a line, and what the line asks for beyond what is given. It takes
 /// the time of a greatest common divisor for each coefficient.
-pub fn divisor_of(line: &Line, unit: u128) -> u128
+pub fn divisor_of(line: &Inequality, unit: u128) -> u128
     ensures { IsDivisorWith unit line.now result }
 {
     let unit = gcd(unit, line.right.saturating_sub(line.given));

@@ -4,9 +4,9 @@ use Rattle.std.proofs.Math.Nat.{mul-le-mul_left}
 use Rattle.net_core.proofs.Library.{cases_eq}
 use Rattle.tree_check.specs.Boxes.{span_at}
 use Rattle.tree_check.specs.Laws.{EmptiedHasNone}
-use Rattle.tree_check.specs.Lines.{entry}
+use Rattle.line_check.specs.Inequalities.{entry}
 use Rattle.tree_check.proofs.InBoxes.{count_in_span}
-use Rattle.tree_check.proofs.OverModules.{over-le}
+use Rattle.line_check.proofs.OverModules.{over-le}
 
 -- a count is at most the greatest one
 pub at_most : (most : Option ℕ) (n : ℕ) → IsSome most → IfSome most (λ t. n ≤ t) → n ≤ unwrap_or most 0

@@ -5,7 +5,7 @@ use Rattle.std.specs.List.{AllZip}
 use Rattle.net_core.proofs.Library.{cases_lt}
 use Rattle.plan_terms.specs.Terms.{AreCounts, Link}
 use Rattle.tree_check.specs.Boxes.{AreInBox, IsInSpan, IsSplitOf, any_count, beyond, lower_side, span_at, spans_of, up_to, upper_side, whole_box}
-use Rattle.tree_check.specs.Lines.{entry, module_number}
+use Rattle.line_check.specs.Inequalities.{entry, module_number}
 use Rattle.tree_check.specs.Trees.{TreeBox}
 use Rattle.tree_check.specs.declared.boxes.Span.{Span}
 

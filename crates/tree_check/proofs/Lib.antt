@@ -1,12 +1,8 @@
 pub mod InBoxes
 pub mod Covering
-pub mod CutLines
 pub mod EmptiedBoxes
-pub mod OverModules
 pub mod Verdicts
 pub mod Values
-pub mod LinesMade
-pub mod TestsMade
 pub mod WeighedSums
 pub mod GainsMade
 pub mod ValuesTold

@@ -1,66 +1,42 @@
--- cuts that were tested, and the lines that indices name
-use Rattle.std.proofs.Common.{◌≡◌, ℕ, zero, suc, ◌-◌, ◌<◌, List, [], ◌∷◌, All, Some, length, slice_get, refl, ap, subst, sym, ◌∙◌, arith}
-use Rattle.std.specs.List.{AllByRecursion, AllZip}
+-- lines that were tested, and the lines that indices name
+use Rattle.std.proofs.Common.{◌≡◌, ℕ, ◌-◌, false, List, [], ◌∷◌, All, refl, ap, subst, sym, ◌∙◌}
+use Rattle.std.specs.List.{AllByRecursion}
 use Rattle.net_core.proofs.Library.{All-from_recursion, recursion_from_All}
 use Rattle.master_bound.specs.declared.answer.Multiplier.{Multiplier}
 use Rattle.plan_terms.proofs.Lemmas.{bound_unique}
-use Rattle.plan_terms.specs.Terms.{Case, CutLine, Link}
-use Rattle.tree_check.specs.BoxValues.{AreNamedBy, HasBoxValue, IsBoxValue, WeightedLine, value_gains, value_losses}
-use Rattle.tree_check.specs.Lines.{NamesLine}
+use Rattle.plan_terms.specs.Terms.{Case, Link}
+use Rattle.line_check.specs.Inequalities.{AreNamedBy, WeightedLine}
+use Rattle.line_check.specs.Testing.{IsSoundAt, names_by, test_at, weighed}
+use Rattle.line_check.specs.declared.inequality.Inequality.{Inequality}
+use Rattle.line_check.specs.declared.tested.Tested.{Tested}
+use Rattle.tree_check.specs.BoxValues.{HasBoxValue, IsBoxValue, value_gains, value_losses}
+use Rattle.tree_check.specs.Proofs.{HasOpenValue, HoldsNode}
 use Rattle.tree_check.specs.Trees.{TreeBox}
-use Rattle.tree_check.specs.declared.line.Line.{Line}
 use Rattle.tree_check.specs.declared.proof.BoxCert.{BoxCert}
-use Rattle.tree_check.specs.declared.tested.Tested.{Tested}
-use Rattle.tree_check.specs.Testing.{IsTestedAs}
-use Rattle.tree_check.specs.inner.Testing.{IsSoundAt, test_at, weighed}
+use Rattle.tree_check.specs.declared.proof.Node.{Node}
+use Rattle.tree_check.specs.declared.proof.Node.TheVariants.{Split, Closed, Empty, Spent, Stuck}
 
--- a cut and its test, at one place of the lists
-record TestAt (p : Case) (cuts : List CutLine) (tested : List Tested) (i : ℕ) : Type 0 where
-  cut : CutLine
-  at : slice_get cuts i ≡ Some cut
-  inside : i < length tested
-  is : IsTestedAs p cut (test_at tested i)
+same_weighted : (t : WeightedLine) (line : Inequality) (num : ℕ) → t.line ≡ line → t.num ≡ num → t ≡ record { line = line; num = num }
+same_weighted t line num its own = ap (λ (l : Inequality). record { line = l; num = t.num }) its ∙ ap (λ (n : ℕ). record { line = line; num = n }) own
 
-test_of : (p : Case) (cuts : List CutLine) (tested : List Tested) (i : ℕ) → AllZip (IsTestedAs p) cuts tested → i < length tested → TestAt p cuts tested i
-test_of p cuts [] i all lt = absurd (omega arith)
-test_of p [] (t ∷ ts) i all lt = absurd all
-test_of p (c ∷ cs) (t ∷ ts) zero all lt = record { cut = c; at = refl; inside = omega arith; is = all.0 }
-test_of p (c ∷ cs) (t ∷ ts) (suc i) all lt =
-    let there = test_of p cs ts i all.1 (omega arith) in
-    record { cut = there.cut; at = there.at; inside = let le = there.inside in omega arith; is = there.is }
+module _ (tested : List Tested) where
+  -- the index of a line that holds names it
+  pub sound_names : (i : ℕ) → IsSoundAt tested i → names_by tested false i (test_at tested i).line
+  sound_names i sound = (sound.0, sound.1, refl)
 
-test_for : (p : Case) (cuts : List CutLine) (tested : List Tested) (i : ℕ) (cut : CutLine) → AllZip (IsTestedAs p) cuts tested → slice_get cuts i ≡ Some cut → (i < length tested) × IsTestedAs p cut (test_at tested i)
-test_for p [] tested i cut all at = absurd (cc at)
-test_for p (c ∷ cs) [] i cut all at = absurd all
-test_for p (c ∷ cs) (t ∷ ts) zero cut all at = (omega arith, subst (λ (x : CutLine). IsTestedAs p x t) (cc at) all.0)
-test_for p (c ∷ cs) (t ∷ ts) (suc i) cut all at = let there = test_for p cs ts i cut all.1 at in (omega (arith, there.0), there.1)
+  -- an index that names a line is that of one that holds, and the line is the tested one
+  pub named_is_sound : (i : ℕ) (line : Inequality) → names_by tested false i line → IsSoundAt tested i × (line ≡ (test_at tested i).line)
+  named_is_sound i line names = ((names.0, names.1), names.2)
 
-same_weighted : (t : WeightedLine) (line : Line) (num : ℕ) → t.line ≡ line → t.num ≡ num → t ≡ record { line = line; num = num }
-same_weighted t line num its own = ap (λ (l : Line). record { line = l; num = t.num }) its ∙ ap (λ (n : ℕ). record { line = line; num = n }) own
-
-module _ (p : Case) (cuts : List CutLine) (tested : List Tested) (all : AllZip (IsTestedAs p) cuts tested) where
-  -- the index of a sound cut names its line
-  pub sound_names : (i : ℕ) → IsSoundAt tested i → NamesLine p cuts i (test_at tested i).line
-  sound_names i sound =
-      let there = test_of p cuts tested i all sound.0 in
-      record { cut = there.cut; at = there.at; of_case = there.is.sound.0 sound.1; same = there.is.own sound.1 }
-
-  -- an index that names a line is that of a sound cut, and the line is the tested one
-  pub named_is_sound : (i : ℕ) (line : Line) → NamesLine p cuts i line → IsSoundAt tested i × (line ≡ (test_at tested i).line)
-  named_is_sound i line names =
-      let there = test_for p cuts tested i names.cut all names.at in
-      let sound = there.1.sound.1 names.of_case in
-      ((there.0, sound), names.same ∙ sym (there.1.own sound))
-
-  named_by_recursion : (ms : List Multiplier) → AllByRecursion (λ m. IsSoundAt tested m.cut) ms → AreNamedBy (NamesLine p cuts) ms (weighed tested ms)
+  named_by_recursion : (ms : List Multiplier) → AllByRecursion (λ m. IsSoundAt tested m.cut) ms → AreNamedBy (names_by tested false) ms (weighed tested ms)
   named_by_recursion [] sound = tt
   named_by_recursion (m ∷ ms) sound = ((sound_names m.cut sound.0, refl), named_by_recursion ms sound.1)
 
   -- sound indices name their lines
-  pub sound_are_named : (ms : List Multiplier) → All (λ m. IsSoundAt tested m.cut) ms → AreNamedBy (NamesLine p cuts) ms (weighed tested ms)
+  pub sound_are_named : (ms : List Multiplier) → All (λ m. IsSoundAt tested m.cut) ms → AreNamedBy (names_by tested false) ms (weighed tested ms)
   sound_are_named ms sound = named_by_recursion ms (recursion_from_All (λ m. IsSoundAt tested m.cut) ms sound)
 
-  named_sound : (ms : List Multiplier) (terms : List WeightedLine) → AreNamedBy (NamesLine p cuts) ms terms → AllByRecursion (λ m. IsSoundAt tested m.cut) ms × (terms ≡ weighed tested ms)
+  named_sound : (ms : List Multiplier) (terms : List WeightedLine) → AreNamedBy (names_by tested false) ms terms → AllByRecursion (λ m. IsSoundAt tested m.cut) ms × (terms ≡ weighed tested ms)
   named_sound [] [] named = (tt, refl)
   named_sound [] (t ∷ ts) named = absurd named
   named_sound (m ∷ ms) [] named = absurd named
@@ -73,7 +49,7 @@ module _ (p : Case) (cuts : List CutLine) (tested : List Tested) (all : AllZip (
       ((first.0, rest.0), ap (λ (x : WeightedLine). x ∷ ts) head ∙ ap (λ (xs : List WeightedLine). record { line = (test_at tested m.cut).line; num = m.num } ∷ xs) rest.1)
 
   -- a certificate has a value only where its indices are those of sound cuts, and it is that of their lines
-  pub value_of_sound : (links : List Link) (box : TreeBox) (cert : BoxCert) (value : ℕ) → HasBoxValue (NamesLine p cuts) links box cert value
+  pub value_of_sound : (links : List Link) (box : TreeBox) (cert : BoxCert) (value : ℕ) → HasBoxValue (names_by tested false) links box cert value
       → All (λ m. IsSoundAt tested m.cut) cert.lines × IsBoxValue links box cert.den (weighed tested cert.lines) value
   value_of_sound links box cert value has =
       let of = named_sound cert.lines has.terms has.named in (
@@ -82,10 +58,38 @@ module _ (p : Case) (cuts : List CutLine) (tested : List Tested) (all : AllZip (
       )
 
   -- a certificate has one value for a box
-  pub value_once : (links : List Link) (box : TreeBox) (cert : BoxCert) (a b : ℕ) → HasBoxValue (NamesLine p cuts) links box cert a → HasBoxValue (NamesLine p cuts) links box cert b → a ≡ b
+  pub value_once : (links : List Link) (box : TreeBox) (cert : BoxCert) (a b : ℕ) → HasBoxValue (names_by tested false) links box cert a → HasBoxValue (names_by tested false) links box cert b → a ≡ b
   value_once links box cert a b one other =
       let first = (value_of_sound links box cert a one).1 in
       let second = (value_of_sound links box cert b other).1 in
       let terms = weighed tested cert.lines in
       let raw : ℕ = value_gains links box cert.den terms - value_losses links box cert.den terms in
       bound_unique links raw cert.den raw cert.den a b first.certificate.positive first.certificate.positive refl first.rounded second.rounded
+
+-- ---- the same by other names
+
+module _ (a b : ℕ → Inequality → Type 0) (to : (i : ℕ) (line : Inequality) → a i line → b i line) where
+  named_map : (ms : List Multiplier) (terms : List WeightedLine) → AreNamedBy a ms terms → AreNamedBy b ms terms
+  named_map [] [] named = tt
+  named_map [] (t ∷ ts) named = absurd named
+  named_map (m ∷ ms) [] named = absurd named
+  named_map (m ∷ ms) (t ∷ ts) named = ((to m.cut t.line named.0.0, named.0.1), named_map ms ts named.1)
+
+  pub value_map : (links : List Link) (box : TreeBox) (cert : BoxCert) (value : ℕ) → HasBoxValue a links box cert value → HasBoxValue b links box cert value
+  value_map links box cert value has = record { terms = has.terms; named = named_map cert.lines has.terms has.named; is = has.is }
+
+  -- a node that holds
+  pub holds_map : (p : Case) (cost : ℕ) (box : TreeBox) (node : Node) → HoldsNode a p cost box node → HoldsNode b p cost box node
+  holds_map p cost box (Split link at_module number) holds = holds
+  holds_map p cost box (Closed cert) holds = record { value = holds.value; has = value_map p.links box cert holds.value holds.has; reaches = holds.reaches }
+  holds_map p cost box (Empty cut) holds = (holds.0, to cut holds.0 holds.1, holds.2)
+  holds_map p cost box (Spent cert) holds = (holds.0, value_map p.links box cert holds.0 holds.1)
+  holds_map p cost box (Stuck cert evidence) holds = ((holds.0.0, value_map p.links box cert holds.0.0 holds.0.1), holds.1, holds.2)
+
+  -- the value of an open leaf
+  pub open_map : (links : List Link) (box : TreeBox) (node : Node) (value : ℕ) → HasOpenValue a links box node value → HasOpenValue b links box node value
+  open_map links box (Split link at_module number) value has = has
+  open_map links box (Closed cert) value has = has
+  open_map links box (Empty cut) value has = has
+  open_map links box (Spent cert) value has = value_map links box cert value has
+  open_map links box (Stuck cert evidence) value has = value_map links box cert value has

@@ -5,18 +5,18 @@ use Rattle.tree_check.specs.BoxValues.{IsBoxValue, IsEmptiedBy}
 use Rattle.tree_check.specs.Boxes.{IsFixedBox, least_counts}
 use Rattle.tree_check.specs.Proofs.{ClosesBox, EmptiesBox, IsEvidenceAt}
 use Rattle.tree_check.specs.Trees.{TreeBox}
-use Rattle.tree_check.specs.declared.line.Line.{Line}
+use Rattle.line_check.specs.declared.inequality.Inequality.{Inequality}
 use Rattle.tree_check.specs.declared.nodes.Held.{Held}
 use Rattle.tree_check.specs.declared.nodes.Held.TheVariants.{Settled, Open}
 use Rattle.tree_check.specs.declared.proof.BoxCert.{BoxCert}
 use Rattle.tree_check.specs.declared.proof.Node.TheVariants.{Spent, Stuck}
 use Rattle.tree_check.specs.declared.tests.Tests.{Tests}
-use Rattle.tree_check.specs.Testing.{AreTests, HasValueIn, names_in}
-use Rattle.tree_check.specs.inner.Testing.{IsSoundAt, test_at, weighed}
+use Rattle.tree_check.specs.Testing.{HasValueIn, names_in}
+use Rattle.line_check.specs.Testing.{IsSoundAt, test_at, weighed}
 use Rattle.tree_check.specs.inner.Walking.{IsHeldIn}
 use Rattle.tree_check.proofs.Naming.{named_is_sound, sound_are_named, sound_names, value_of_sound, value_once}
 
-module _ (t : Tests) (are : AreTests t) (box : TreeBox) where
+module _ (t : Tests) (box : TreeBox) where
   -- a certificate has the value that its tested lines have
   pub value_told : (cert : BoxCert) (links : List Link) (own : TreeBox) (o : Option ℕ) → links ≡ t.instance.now.net.now.links → own ≡ box
       → (IsNone o → (v : ℕ) → All (λ m. IsSoundAt t.tested.now m.cut) cert.lines → IsBoxValue links own cert.den (weighed t.tested.now cert.lines) v → ⊥)
@@ -24,13 +24,13 @@ module _ (t : Tests) (are : AreTests t) (box : TreeBox) where
       → IfSome o (IsBoxValue links own cert.den (weighed t.tested.now cert.lines))
       → MatchOption o ((v : ℕ) → HasValueIn t box cert v → ⊥) (HasValueIn t box cert)
   value_told cert links own None same_links same_box none sound value = λ v has.
-      let of = value_of_sound (case_of t.instance.now) t.cuts.now t.tested.now are t.instance.now.net.now.links box cert v has in
+      let of = value_of_sound t.tested.now t.instance.now.net.now.links box cert v has in
       none refl v of.0
       (subst (λ (ls : List Link). IsBoxValue ls own cert.den (weighed t.tested.now cert.lines) v) (sym same_links)
       (subst (λ (b : TreeBox). IsBoxValue t.instance.now.net.now.links b cert.den (weighed t.tested.now cert.lines) v) (sym same_box) of.1))
   value_told cert links own (Some v) same_links same_box none sound value = record {
     terms = weighed t.tested.now cert.lines;
-    named = sound_are_named (case_of t.instance.now) t.cuts.now t.tested.now are cert.lines sound;
+    named = sound_are_named t.tested.now cert.lines sound;
     is =
         subst (λ (b : TreeBox). IsBoxValue t.instance.now.net.now.links b cert.den (weighed t.tested.now cert.lines) v) same_box
         (subst (λ (ls : List Link). IsBoxValue ls own cert.den (weighed t.tested.now cert.lines) v) same_links value);
@@ -42,23 +42,23 @@ module _ (t : Tests) (are : AreTests t) (box : TreeBox) where
 
   pub closed_by : (cert : BoxCert) (v : ℕ) → HasValueIn t box cert v → ClosesBox (names_in t) t.instance.now.net.now.links box t.cost cert → t.cost ≤ v
   closed_by cert v has closes =
-      let same = value_once (case_of t.instance.now) t.cuts.now t.tested.now are t.instance.now.net.now.links box cert closes.value v closes.has has in
+      let same = value_once t.tested.now t.instance.now.net.now.links box cert closes.value v closes.has has in
       omega (arith, same, closes.reaches)
 
   -- a tested line empties the box exactly where it is tested so
   pub emptied_sound : (cut : ℕ) → EmptiesBox (names_in t) t.instance.now.net.now.links box cut → IsSoundAt t.tested.now cut
-  emptied_sound cut empties = (named_is_sound (case_of t.instance.now) t.cuts.now t.tested.now are cut empties.0 empties.1).0
+  emptied_sound cut empties = (named_is_sound t.tested.now cut empties.0 empties.1).0
 
-  pub emptied_told : (cut : ℕ) (line : Line) (links : List Link) (own : TreeBox) (r : Bool) → IsSoundAt t.tested.now cut → line ≡ (test_at t.tested.now cut).line
+  pub emptied_told : (cut : ℕ) (line : Inequality) (links : List Link) (own : TreeBox) (r : Bool) → IsSoundAt t.tested.now cut → line ≡ (test_at t.tested.now cut).line
       → links ≡ t.instance.now.net.now.links → own ≡ box → (IsTrue r ↔ IsEmptiedBy links own line) → (IsTrue r ↔ EmptiesBox (names_in t) t.instance.now.net.now.links box cut)
   emptied_told cut line links own r sound same same_links same_box tells = (
     λ yes. (
       line,
-      subst (names_in t cut) (sym same) (sound_names (case_of t.instance.now) t.cuts.now t.tested.now are cut sound),
+      subst (names_in t cut) (sym same) (sound_names t.tested.now cut sound),
       subst (λ (b : TreeBox). IsEmptiedBy t.instance.now.net.now.links b line) same_box (subst (λ (ls : List Link). IsEmptiedBy ls own line) same_links (tells.0 yes)),
     ),
     λ empties.
-        let named = named_is_sound (case_of t.instance.now) t.cuts.now t.tested.now are cut empties.0 empties.1 in
+        let named = named_is_sound t.tested.now cut empties.0 empties.1 in
         let here : IsEmptiedBy t.instance.now.net.now.links box line = subst (IsEmptiedBy t.instance.now.net.now.links box) (named.1 ∙ sym same) empties.2 in
         tells.1 (subst (λ (ls : List Link). IsEmptiedBy ls own line) (sym same_links) (subst (λ (b : TreeBox). IsEmptiedBy t.instance.now.net.now.links b line) (sym same_box) here)),
   )

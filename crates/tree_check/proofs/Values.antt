@@ -7,14 +7,14 @@ use Rattle.net_core.proofs.Sums.{below-first}
 use Rattle.plan_terms.specs.Terms.{AreCounts, Link, Module, installs, link_cost, modules_cost, sum_below, total_cost}
 use Rattle.plan_terms.proofs.Duality.{bound_met}
 use Rattle.tree_check.specs.Boxes.{AreInBox, IsInSpan, span_at}
-use Rattle.tree_check.specs.BoxValues.{IsBoxCertificate, WeightedLine, all_gains, all_losses, asked_right, certain_setup, certain_setups, given_free, module_charge, module_costs, module_gain, module_loss, module_price}
+use Rattle.tree_check.specs.BoxValues.{IsBoxCertificate, all_gains, all_losses, asked_right, certain_setup, certain_setups, given_free, module_charge, module_costs, module_gain, module_loss}
 use Rattle.tree_check.specs.Laws.{BoxValueHolds}
-use Rattle.tree_check.specs.Lines.{MeetsLine, entry, over_modules}
+use Rattle.line_check.specs.Inequalities.{MeetsLine, WeightedLine, entry, module_price, over_modules}
 use Rattle.tree_check.specs.Trees.{TreeBox}
 use Rattle.tree_check.specs.declared.boxes.Span.{Span}
 use Rattle.tree_check.proofs.InBoxes.{count_in_span}
 use Rattle.tree_check.proofs.EmptiedBoxes.{at_most}
-use Rattle.tree_check.proofs.OverModules.{over-first, over-le, over-plus, over-same, over-times}
+use Rattle.line_check.proofs.OverModules.{over-first, over-le, over-plus, over-same, over-times}
 
 -- ---- what lines ask for is given, or has a price
 

@@ -5,50 +5,51 @@ use Rattle.net_core.proofs.Library.{All-from_recursion, slice_get_within}
 use Rattle.plan_terms.specs.Terms.{Case, IsAble, total_cost}
 use Rattle.master_bound.specs.declared.answer.Multiplier.{Multiplier}
 use Rattle.tree_check.specs.Boxes.{AreInBox}
-use Rattle.tree_check.specs.BoxValues.{AreNamedBy, HasBoxValue, WeightedLine}
+use Rattle.tree_check.specs.BoxValues.{HasBoxValue}
 use Rattle.tree_check.specs.Laws.{CheapestHolds, IsSplitIfAny, OpenLeavesHold}
-use Rattle.tree_check.specs.Lines.{MeetsLine, NamesLine}
-use Rattle.tree_check.specs.Proofs.{HoldsNode, IsAcceptedProof, IsOpenAt, VerdictFollows}
+use Rattle.line_check.specs.Inequalities.{AreNamedBy, MeetsLine, WeightedLine}
+use Rattle.line_check.specs.Lines.{sources_of}
+use Rattle.tree_check.specs.Proofs.{HoldsNode, IsAcceptedProof, IsOpenAt, VerdictFollows, names_of}
 use Rattle.tree_check.specs.Trees.{IsNodeOf, TreeBox, sides_of}
-use Rattle.tree_check.specs.declared.line.Line.{Line}
+use Rattle.line_check.specs.declared.inequality.Inequality.{Inequality}
 use Rattle.tree_check.specs.declared.proof.BoxCert.{BoxCert}
 use Rattle.tree_check.specs.declared.proof.Node.{Node}
 use Rattle.tree_check.specs.declared.proof.Node.TheVariants.{Split, Closed, Empty, Spent, Stuck}
 use Rattle.tree_check.specs.declared.proof.Proof.{Proof}
 use Rattle.tree_check.specs.declared.proof.Verdict.TheVariants.{Cheapest, Above}
 use Rattle.tree_check.proofs.Covering.{leaves_cover}
-use Rattle.tree_check.proofs.CutLines.{cut_lines_are_met}
+use Rattle.line_check.proofs.LinesMet.{lines_are_met}
 use Rattle.tree_check.proofs.EmptiedBoxes.{emptied_has_none}
 use Rattle.tree_check.proofs.Values.{box_value_holds}
 
 module _ (p : Case) (proof : Proof) (counts : List (List ℕ)) (able : IsAble p counts) where
-  named_met : (i : ℕ) (line : Line) → NamesLine p proof.cuts i line → MeetsLine p.links line counts
-  named_met i line names = subst (λ (l : Line). MeetsLine p.links l counts) (sym names.same) (cut_lines_are_met p names.cut counts names.of_case able)
+  named_met : (i : ℕ) (line : Inequality) → names_of p proof i line → MeetsLine p.links line counts
+  named_met i line names = lines_are_met p (sources_of proof.cuts proof.lines) i line counts names able
 
-  all_met : (ms : List Multiplier) (terms : List WeightedLine) → AreNamedBy (NamesLine p proof.cuts) ms terms → AllByRecursion (λ t. MeetsLine p.links t.line counts) terms
+  all_met : (ms : List Multiplier) (terms : List WeightedLine) → AreNamedBy (names_of p proof) ms terms → AllByRecursion (λ t. MeetsLine p.links t.line counts) terms
   all_met [] [] named = tt
   all_met [] (t ∷ ts) named = absurd named
   all_met (m ∷ ms) [] named = absurd named
   all_met (m ∷ ms) (t ∷ ts) named = (named_met m.cut t.line named.0.0, all_met ms ts named.1)
 
-  value_met : (box : TreeBox) (cert : BoxCert) (value : ℕ) → HasBoxValue (NamesLine p proof.cuts) p.links box cert value → AreInBox box counts → value ≤ total_cost p.links counts
+  value_met : (box : TreeBox) (cert : BoxCert) (value : ℕ) → HasBoxValue (names_of p proof) p.links box cert value → AreInBox box counts → value ≤ total_cost p.links counts
   value_met box cert value has within =
       box_value_holds p.links box cert.den has.terms value counts has.is able.shape within (All-from_recursion (λ t. MeetsLine p.links t.line counts) has.terms (all_met cert.lines has.terms has.named))
 
   -- the counts cost no less than the plan, or than the value of an open leaf
   module _ (accepted : IsAcceptedProof p proof) where
-    node_holds : (i : ℕ) (box : TreeBox) (node : Node) → IsNodeOf p.links proof.tree i box node → HoldsNode (NamesLine p proof.cuts) p proof.plan.cost box node
+    node_holds : (i : ℕ) (box : TreeBox) (node : Node) → IsNodeOf p.links proof.tree i box node → HoldsNode (names_of p proof) p proof.plan.cost box node
     node_holds i box node is_node =
         let known = accepted.hold i (slice_get_within proof.tree i node is_node.at) in
         let same_node : known.node ≡ node = let a = known.is_node.at in let b = is_node.at in cc (a, b) in
         let same_box : known.box ≡ box = let a = known.is_node.next in let b = is_node.next in cc (a, b) in
-        subst (λ (n : Node). HoldsNode (NamesLine p proof.cuts) p proof.plan.cost box n) same_node
-        (subst (λ (b : TreeBox). HoldsNode (NamesLine p proof.cuts) p proof.plan.cost b known.node) same_box known.holds)
+        subst (λ (n : Node). HoldsNode (names_of p proof) p proof.plan.cost box n) same_node
+        (subst (λ (b : TreeBox). HoldsNode (names_of p proof) p proof.plan.cost b known.node) same_box known.holds)
 
     splits : (i : ℕ) (box : TreeBox) (node : Node) → IsNodeOf p.links proof.tree i box node → IsSplitIfAny box node
     splits i box node is_node = split_if_any box node (node_holds i box node is_node)
       where
-        split_if_any : (box : TreeBox) (node : Node) → HoldsNode (NamesLine p proof.cuts) p proof.plan.cost box node → IsSplitIfAny box node
+        split_if_any : (box : TreeBox) (node : Node) → HoldsNode (names_of p proof) p proof.plan.cost box node → IsSplitIfAny box node
         split_if_any box (Split link at_module number) holds = holds
         split_if_any box (Closed cert) holds = tt
         split_if_any box (Empty cut) holds = tt
@@ -62,7 +63,7 @@ module _ (p : Case) (proof : Proof) (counts : List (List ℕ)) (able : IsAble p 
       open_leaf : IsOpenAt p proof place value
       least : value ≤ total_cost p.links counts
 
-    at_leaf : (i : ℕ) (box : TreeBox) (node : Node) → IsNodeOf p.links proof.tree i box node → HoldsNode (NamesLine p proof.cuts) p proof.plan.cost box node → sides_of box node ≡ [] → AreInBox box counts
+    at_leaf : (i : ℕ) (box : TreeBox) (node : Node) → IsNodeOf p.links proof.tree i box node → HoldsNode (names_of p proof) p proof.plan.cost box node → sides_of box node ≡ [] → AreInBox box counts
         → (proof.plan.cost ≤ total_cost p.links counts) ⊎ Opened
     at_leaf i box (Split link at_module number) is_node holds leaf within = absurd (cc leaf)
     at_leaf i box (Closed cert) is_node holds leaf within = inl (omega (arith, holds.reaches, value_met box cert holds.value holds.has within))

@@ -1,28 +1,30 @@
 -- a walk, node by node, and what it ends with
 use Rattle.std.proofs.Common.{◌≡◌, ℕ, ◌+◌, ◌<◌, ◌≤◌, true, false, List, [], ◌∷◌, Option, None, Some, inl, inr, ⊎_elim, length, min, slice_get, take, refl, ap, subst, sym, ◌∙◌, arith}
-use Rattle.std.specs.List.{AllZip}
 use Rattle.std.proofs.lemmas.List.{take_all}
 use Rattle.net_core.proofs.Library.{All-append, All-cons, All-nil, All-tail, cases_lt, false_from_ne_true, nil_from_length, slice_get_within}
 use Rattle.plan_checker.specs.Terms.{IsLeastPlace}
-use Rattle.plan_terms.specs.Terms.{AreCounts, Case, CutLine, Link, case_of}
+use Rattle.plan_terms.specs.Terms.{AreCounts, Case, Link, case_of}
 use Rattle.tree_check.specs.Boxes.{beyond, least_counts, lower_side, span_at, up_to, upper_side, whole_box}
-use Rattle.tree_check.specs.Lines.{NamesLine}
-use Rattle.tree_check.specs.Proofs.{FailsAtNode, HasOpenValue, HoldsAtNode, HoldsNode, IsAcceptedProof, IsLeastValue, IsOpenAt, IsUnfounded, VerdictFollows}
+use Rattle.line_check.specs.Lines.{sources_of}
+use Rattle.line_check.specs.Testing.{AreTested, names_by}
+use Rattle.tree_check.specs.Proofs.{FailsAtNode, HasOpenValue, HoldsAtNode, HoldsNode, IsAcceptedProof, IsLeastValue, IsOpenAt, IsUnfounded, VerdictFollows, names_of}
 use Rattle.tree_check.specs.Trees.{IsNodeOf, IsWhole, TreeBox, boxes_left, sides_of}
-use Rattle.tree_check.specs.declared.line.Line.{Line}
+use Rattle.line_check.specs.declared.inequality.Inequality.{Inequality}
 use Rattle.tree_check.specs.declared.nodes.Held.{Held}
 use Rattle.tree_check.specs.declared.nodes.Held.TheVariants.{Settled, Open}
+use Rattle.tree_check.specs.BoxValues.{HasBoxValue}
+use Rattle.tree_check.specs.declared.proof.BoxCert.{BoxCert}
 use Rattle.tree_check.specs.declared.proof.Node.{Node}
 use Rattle.tree_check.specs.declared.proof.Node.TheVariants.{Split, Closed, Empty, Spent, Stuck}
 use Rattle.tree_check.specs.declared.proof.Proof.{Proof}
 use Rattle.tree_check.specs.declared.proof.Verdict.TheVariants.{Cheapest}
-use Rattle.tree_check.specs.declared.tested.Tested.{Tested}
+use Rattle.line_check.specs.declared.tested.Tested.{Tested}
 use Rattle.tree_check.specs.declared.tests.Tests.{Tests}
 use Rattle.tree_check.specs.declared.walk.Found.{Found}
-use Rattle.tree_check.specs.Testing.{AreTests, IsTestedAs, names_in}
+use Rattle.tree_check.specs.Testing.{AreTestsOf, names_in}
 use Rattle.tree_check.specs.inner.Walking.{CannotTake, HasWalked, HaveShape, IsFoundOf, IsHeldAs, TakesBox, TakesIfAny, with_held}
 use Rattle.tree_check.proofs.LeftBoxes.{left_more, shape_set, whole_shape}
-use Rattle.tree_check.proofs.Naming.{value_once}
+use Rattle.tree_check.proofs.Naming.{holds_map, open_map, value_map, value_once}
 
 -- ---- what is left has a span for each module
 
@@ -44,7 +46,7 @@ sides_shape links box (Stuck cert evidence) shape = All-nil (HasShape links)
 pub first_shape : (links : List Link) (box : TreeBox) (later : List TreeBox) → HaveShape links (box ∷ later) → AreCounts links (least_counts box)
 first_shape links box later shape = shape 0 box (omega arith)
 
-taken_shape : (names : ℕ → Line → Type 0) (p : Case) (cost : ℕ) (node : Node) (old new : List TreeBox) (held : Held) → HaveShape p.links old → TakesBox names p cost node old new held → HaveShape p.links new
+taken_shape : (names : ℕ → Inequality → Type 0) (p : Case) (cost : ℕ) (node : Node) (old new : List TreeBox) (held : Held) → HaveShape p.links old → TakesBox names p cost node old new held → HaveShape p.links new
 taken_shape names p cost node old new held shape takes =
     let before = subst (HaveShape p.links) takes.first shape in
     subst (HaveShape p.links) (sym takes.left)
@@ -52,17 +54,27 @@ taken_shape names p cost node old new held shape takes =
 
 -- ---- a node more
 
-module _ (p : Case) (proof : Proof) (tested : List Tested) (all : AllZip (IsTestedAs p) proof.cuts tested) where
-  abbrev names : ℕ → Line → Type 0
-  names = NamesLine p proof.cuts
+module _ (p : Case) (proof : Proof) (tested : List Tested) (all : AreTested p (sources_of proof.cuts proof.lines) tested) where
+  abbrev names : ℕ → Inequality → Type 0
+  names = names_of p proof
+
+  to_tests : (i : ℕ) (line : Inequality) → names i line → names_by tested false i line
+  to_tests i line = (all.names false i line).0
+
+  from_tests : (i : ℕ) (line : Inequality) → names_by tested false i line → names i line
+  from_tests i line = (all.names false i line).1
+
+  cert_once : (box : TreeBox) (cert : BoxCert) (a b : ℕ) → HasBoxValue names p.links box cert a → HasBoxValue names p.links box cert b → a ≡ b
+  cert_once box cert a b one other =
+      value_once tested p.links box cert a b (value_map names (names_by tested false) to_tests p.links box cert a one) (value_map names (names_by tested false) to_tests p.links box cert b other)
 
   -- an open leaf has one value
   open_once : (box : TreeBox) (node : Node) (a b : ℕ) → HasOpenValue names p.links box node a → HasOpenValue names p.links box node b → a ≡ b
   open_once box (Split link at_module number) a b one other = absurd one
   open_once box (Closed cert) a b one other = absurd one
   open_once box (Empty cut) a b one other = absurd one
-  open_once box (Spent cert) a b one other = value_once p proof.cuts tested all p.links box cert a b one other
-  open_once box (Stuck cert evidence) a b one other = value_once p proof.cuts tested all p.links box cert a b one other
+  open_once box (Spent cert) a b one other = cert_once box cert a b one other
+  open_once box (Stuck cert evidence) a b one other = cert_once box cert a b one other
 
   module _ (n : ℕ) (node : Node) (box : TreeBox) (is : IsNodeOf p.links proof.tree n box node) where
     -- what is open at this place is this node, for this box
@@ -112,6 +124,24 @@ module _ (p : Case) (proof : Proof) (tested : List Tested) (all : AllZip (IsTest
           opened = λ _. (n, v, leaf);
         }
 
+  held_from : (box : TreeBox) (node : Node) (held : Held) → IsHeldAs (names_by tested false) p.links box node held → IsHeldAs names p.links box node held
+  held_from box node Settled is = λ value has. is value (open_map names (names_by tested false) to_tests p.links box node value has)
+  held_from box node (Open value) is = open_map (names_by tested false) names from_tests p.links box node value is
+
+  -- what a node takes by tests it takes
+  pub takes_from : (cost : ℕ) (node : Node) (old new : List TreeBox) (held : Held) → TakesBox (names_by tested false) p cost node old new held → TakesBox names p cost node old new held
+  takes_from cost node old new held takes = record {
+    box = takes.box;
+    later = takes.later;
+    first = takes.first;
+    left = takes.left;
+    holds = holds_map (names_by tested false) names from_tests p cost takes.box node takes.holds;
+    is = held_from takes.box node held takes.is;
+  }
+
+  pub cannot_from : (cost : ℕ) (node : Node) (old : List TreeBox) → CannotTake (names_by tested false) p cost node old → CannotTake names p cost node old
+  cannot_from cost node old cannot box later first holds = cannot box later first (holds_map names (names_by tested false) to_tests p cost box node holds)
+
   pub walked_more : (n : ℕ) (node : Node) (old new : List TreeBox) (held : Held) (found : Found) → slice_get proof.tree n ≡ Some node
       → HasWalked p proof n old found → TakesBox names p proof.plan.cost node old new held → HasWalked p proof (n + 1) new (with_held found held)
   walked_more n node old new held found at walked takes =
@@ -148,13 +178,13 @@ module _ (p : Case) (proof : Proof) where
 
   -- a node that takes no box is the first one that doesn't hold
   pub stops_at : (n : ℕ) (node : Node) (old : List TreeBox) (found : Found) → n < length proof.tree → slice_get proof.tree n ≡ Some node
-      → HasWalked p proof n old found → CannotTake (NamesLine p proof.cuts) p proof.plan.cost node old → IsLeastPlace (FailsAtNode p proof) n
+      → HasWalked p proof n old found → CannotTake (names_of p proof) p proof.plan.cost node old → IsLeastPlace (FailsAtNode p proof) n
   stops_at n node old found lt at walked cannot = (
     (
       lt,
       λ (h : HoldsAtNode p proof n).
           let same : h.node ≡ node = let a = h.is_node.at in let b = at in cc (a, b) in
-          cannot h.box h.is_node.later (walked.left_is ∙ h.is_node.next) (subst (λ (x : Node). HoldsNode (NamesLine p proof.cuts) p proof.plan.cost h.box x) same h.holds),
+          cannot h.box h.is_node.later (walked.left_is ∙ h.is_node.next) (subst (λ (x : Node). HoldsNode (names_of p proof) p proof.plan.cost h.box x) same h.holds),
     ),
     λ j low fails. fails.1 (walked.hold j low),
   )
@@ -208,9 +238,9 @@ module _ (p : Case) (proof : Proof) where
         is.reached in
         omega arith
 
--- ---- the same by tests of a proof's own cuts and cost
+-- ---- the same by tests of a proof's own lines and cost
 
-module _ (t : Tests) (proof : Proof) (are : AreTests t) (cuts : proof.cuts ≡ t.cuts.now) (cost : proof.plan.cost ≡ t.cost) where
+module _ (t : Tests) (proof : Proof) (are : AreTestsOf proof t) (cost : proof.plan.cost ≡ t.cost) where
   pub walked_by_tests : (n : ℕ) (node : Node) (old new : List TreeBox) (held : Held) (found : Found) (o : Option Held) → slice_get proof.tree n ≡ Some node
       → HasWalked (case_of t.instance.now) proof n old found → TakesIfAny t node old new o → o ≡ Some held
       → HasWalked (case_of t.instance.now) proof (n + 1) new (with_held found held)
@@ -218,8 +248,7 @@ module _ (t : Tests) (proof : Proof) (are : AreTests t) (cuts : proof.cuts ≡ t
       let p = case_of t.instance.now in
       let taken = subst (TakesIfAny t node old new) is takes in
       let own = subst (λ (c : ℕ). TakesBox (names_in t) p c node old new held) (sym cost) taken in
-      walked_more p proof t.tested.now (subst (λ (cs : List CutLine). AllZip (IsTestedAs p) cs t.tested.now) (sym cuts) are) n node old new held found at walked
-      (subst (λ (cs : List CutLine). TakesBox (NamesLine p cs) p proof.plan.cost node old new held) (sym cuts) own)
+      walked_more p proof t.tested.now are n node old new held found at walked (takes_from p proof t.tested.now are proof.plan.cost node old new held own)
 
   pub stops_by_tests : (n : ℕ) (node : Node) (old new : List TreeBox) (found : Found) (o : Option Held) → n < length proof.tree → slice_get proof.tree n ≡ Some node
       → HasWalked (case_of t.instance.now) proof n old found → TakesIfAny t node old new o → o ≡ None → IsLeastPlace (FailsAtNode (case_of t.instance.now) proof) n
@@ -227,4 +256,4 @@ module _ (t : Tests) (proof : Proof) (are : AreTests t) (cuts : proof.cuts ≡ t
       let p = case_of t.instance.now in
       let cannot = subst (TakesIfAny t node old new) is takes in
       let own = subst (λ (c : ℕ). CannotTake (names_in t) p c node old) (sym cost) cannot in
-      stops_at p proof n node old found lt at walked (subst (λ (cs : List CutLine). CannotTake (NamesLine p cs) p proof.plan.cost node old) (sym cuts) own)
+      stops_at p proof n node old found lt at walked (cannot_from p proof t.tested.now are proof.plan.cost node old own)

@@ -2,10 +2,10 @@
 use Rattle.std.proofs.Common.{◌≡◌, ℕ, ◌+◌, ◌*◌, ◌<◌, List, [], ◌∷◌, get_or, length, map, take, refl, sym, ◌∙◌, arith, sum_by}
 use Rattle.net_core.proofs.Library.{sum_by-cons, sum_by_more}
 use Rattle.master_bound.specs.declared.answer.Multiplier.{Multiplier}
-use Rattle.tree_check.specs.BoxValues.{WeightedLine, asked_right, given_free, module_price}
-use Rattle.tree_check.specs.Lines.{entry}
-use Rattle.tree_check.specs.declared.tested.Tested.{Tested}
-use Rattle.tree_check.specs.inner.Testing.{test_at, weighed}
+use Rattle.tree_check.specs.BoxValues.{asked_right, given_free}
+use Rattle.line_check.specs.Inequalities.{WeightedLine, entry}
+use Rattle.line_check.specs.declared.tested.Tested.{Tested}
+use Rattle.line_check.specs.Testing.{test_at, weighed}
 
 sum_mapped : {X Y : Type 0} (f : Y → ℕ) (g : X → Y) (xs : List X) → sum_by f (map g xs) ≡ sum_by (λ x. f (g x)) xs
 sum_mapped f g [] = refl
@@ -26,7 +26,3 @@ asked_more tested ms i d lt = line_more (λ t. t.num * t.line.right) tested ms i
 pub given_more : (tested : List Tested) (ms : List Multiplier) (i : ℕ) (d : Multiplier) → i < length ms
     → given_free (weighed tested (take (i + 1) ms)) ≡ given_free (weighed tested (take i ms)) + (get_or ms i d).num * (test_at tested (get_or ms i d).cut).line.given
 given_more tested ms i d lt = line_more (λ t. t.num * t.line.given) tested ms i d lt
-
-pub price_more : (tested : List Tested) (ms : List Multiplier) (e m i : ℕ) (d : Multiplier) → i < length ms
-    → module_price (weighed tested (take (i + 1) ms)) e m ≡ module_price (weighed tested (take i ms)) e m + (get_or ms i d).num * entry (test_at tested (get_or ms i d).cut).line.coefs e m
-price_more tested ms e m i d lt = line_more (λ t. t.num * entry t.line.coefs e m) tested ms i d lt

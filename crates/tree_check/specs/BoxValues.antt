@@ -1,20 +1,14 @@
 -- what lines show about the counts of a box: a least cost, or that there are none
 use Rattle.std.specs.Prelude.{◌≡◌, ◌≢◌, ℕ, ◌+◌, ◌-◌, ◌*◌, ◌^◌, ◌≤◌, ◌<◌, List, All, Bool, IsSome, if◌then◌else◌, length, map, nat_lt, slice_index, sum_by, unwrap_or}
-use Rattle.std.specs.List.{AllZip, list_any}
+use Rattle.std.specs.List.{list_any}
 use Rattle.plan_terms.specs.Terms.{IsBound, Link, sum_below}
-use Rattle.master_bound.specs.declared.answer.Multiplier.{Multiplier}
 use Rattle.tree_check.specs.Boxes.{span_at, spans_of}
-use Rattle.tree_check.specs.Lines.{entry, module_number, over_modules}
+use Rattle.line_check.specs.Inequalities.{AreNamedBy, WeightedLine, entry, module_number, module_price, over_modules}
 use Rattle.tree_check.specs.declared.boxes.Span.{Span}
-use Rattle.tree_check.specs.declared.line.Line.{Line}
+use Rattle.line_check.specs.declared.inequality.Inequality.{Inequality}
 use Rattle.tree_check.specs.declared.proof.BoxCert.{BoxCert}
 
 -- ---- sums of a certificate
-
--- a line with its numerator
-pub record WeightedLine : Type 0 where
-  pub line : Line
-  pub num : ℕ
 
 -- what the lines ask for
 abbrev pub asked_right : List WeightedLine → ℕ
@@ -23,10 +17,6 @@ asked_right terms = sum_by (λ t. t.num * t.line.right) terms
 -- what they are given without modules
 abbrev pub given_free : List WeightedLine → ℕ
 given_free terms = sum_by (λ t. t.num * t.line.given) terms
-
--- the price of module m of link e along the lines, over the denominator
-abbrev pub module_price : List WeightedLine → ℕ → ℕ → ℕ
-module_price terms e m = sum_by (λ t. t.num * entry t.line.coefs e m) terms
 
 -- the cost of each module of each link
 abbrev pub module_costs : List Link → List (List ℕ)
@@ -118,12 +108,8 @@ pub record IsBoxValue (links : List Link) (box : List (List Span)) (den : ℕ) (
   pub certificate : IsBoxCertificate links box den terms
   pub rounded : IsBound links (value_gains links box den terms - value_losses links box den terms) den value
 
--- the lines that a certificate names, with its numerators
-abbrev pub AreNamedBy : (ℕ → Line → Type 0) → List Multiplier → List WeightedLine → Type 0
-AreNamedBy names multipliers terms = AllZip (λ m t. names m.cut t.line × (m.num ≡ t.num)) multipliers terms
-
 -- a certificate by indices of lines has a value for a box
-pub record HasBoxValue (names : ℕ → Line → Type 0) (links : List Link) (box : List (List Span)) (cert : BoxCert) (value : ℕ) : Type 0 where
+pub record HasBoxValue (names : ℕ → Inequality → Type 0) (links : List Link) (box : List (List Span)) (cert : BoxCert) (value : ℕ) : Type 0 where
   pub terms : List WeightedLine
   pub named : AreNamedBy names cert.lines terms
   pub is : IsBoxValue links box cert.den terms value
@@ -131,10 +117,10 @@ pub record HasBoxValue (names : ℕ → Line → Type 0) (links : List Link) (bo
 -- ---- emptied boxes
 
 -- the greatest counts of a box, times their coefficients
-abbrev pub most_along : List Link → List (List Span) → Line → ℕ
+abbrev pub most_along : List Link → List (List Span) → Inequality → ℕ
 most_along links box line = over_modules links (λ e m. entry line.coefs e m * unwrap_or (span_at box e m).most 0)
 
 -- A line empties a box: each module of positive coefficient has a greatest count, and these counts don't meet the line.
-pub record IsEmptiedBy (links : List Link) (box : List (List Span)) (line : Line) : Type 0 where
+pub record IsEmptiedBy (links : List Link) (box : List (List Span)) (line : Inequality) : Type 0 where
   pub bounded : (e m : ℕ) → e < length links → m < module_number links e → entry line.coefs e m ≢ 0 → IsSome (span_at box e m).most
   pub short : line.given + most_along links box line < line.right

@@ -1,12 +1,12 @@
 -- what branch trees, lines and box values are good for
 use Rattle.std.specs.Prelude.{◌≡◌, ℕ, ◌≤◌, List, [], All}
-use Rattle.plan_terms.specs.Terms.{AreCounts, Case, CutLine, IsAble, IsCut, Link, total_cost}
+use Rattle.plan_terms.specs.Terms.{AreCounts, Case, IsAble, Link, total_cost}
 use Rattle.tree_check.specs.Boxes.{AreInBox, IsSplitOf}
-use Rattle.tree_check.specs.BoxValues.{IsBoxValue, IsEmptiedBy, WeightedLine}
-use Rattle.tree_check.specs.Lines.{MeetsLine, line_of_cut}
+use Rattle.tree_check.specs.BoxValues.{IsBoxValue, IsEmptiedBy}
+use Rattle.line_check.specs.Inequalities.{MeetsLine, WeightedLine}
 use Rattle.tree_check.specs.Proofs.{IsAcceptedProof}
 use Rattle.tree_check.specs.Trees.{IsNodeOf, IsWhole, TreeBox, sides_of}
-use Rattle.tree_check.specs.declared.line.Line.{Line}
+use Rattle.line_check.specs.declared.inequality.Inequality.{Inequality}
 use Rattle.tree_check.specs.declared.proof.Node.{Node}
 use Rattle.tree_check.specs.declared.proof.Node.TheVariants.{Split}
 use Rattle.tree_check.specs.declared.proof.Proof.{Proof}
@@ -34,13 +34,6 @@ LeavesCover = (links : List Link) (tree : List Node) (counts : List (List ℕ))
     → AreCounts links counts
     → IsInLeaf links tree counts
 
--- Able counts meet the line of each cut (weak duality).
-abbrev pub CutLinesAreMet : Type 0
-CutLinesAreMet = (p : Case) (cut : CutLine) (counts : List (List ℕ))
-    → IsCut p cut
-    → IsAble p counts
-    → MeetsLine p.links (line_of_cut p.links cut) counts
-
 -- No counts of a box that meet the lines of a certificate cost less than its value.
 abbrev pub BoxValueHolds : Type 0
 BoxValueHolds = (links : List Link) (box : TreeBox) (den : ℕ) (terms : List WeightedLine) (value : ℕ) (counts : List (List ℕ))
@@ -52,7 +45,7 @@ BoxValueHolds = (links : List Link) (box : TreeBox) (den : ℕ) (terms : List We
 
 -- No counts of an emptied box meet the line that empties it.
 abbrev pub EmptiedHasNone : Type 0
-EmptiedHasNone = (links : List Link) (box : TreeBox) (line : Line) (counts : List (List ℕ))
+EmptiedHasNone = (links : List Link) (box : TreeBox) (line : Inequality) (counts : List (List ℕ))
     → IsEmptiedBy links box line
     → AreCounts links counts
     → AreInBox box counts

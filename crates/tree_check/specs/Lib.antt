@@ -1,5 +1,4 @@
 pub mod Boxes
-pub mod Lines
 pub mod BoxValues
 pub mod Trees
 pub mod Testing

@@ -5,9 +5,9 @@ use Rattle.plan_report.specs.Terms.{IsRouteEvidenceInForm, known_to}
 use Rattle.plan_checker.specs.Terms.{IsLeastPlace}
 use Rattle.tree_check.specs.Boxes.{IsFixedBox, IsSplitOf, least_counts}
 use Rattle.tree_check.specs.BoxValues.{HasBoxValue, IsEmptiedBy}
-use Rattle.tree_check.specs.Lines.{NamesLine}
+use Rattle.line_check.specs.Lines.{NamesLine, sources_of}
 use Rattle.tree_check.specs.Trees.{IsNodeOf, IsWhole, TreeBox}
-use Rattle.tree_check.specs.declared.line.Line.{Line}
+use Rattle.line_check.specs.declared.inequality.Inequality.{Inequality}
 use Rattle.tree_check.specs.declared.proof.BoxCert.{BoxCert}
 use Rattle.tree_check.specs.declared.proof.Node.{Node}
 use Rattle.tree_check.specs.declared.proof.Node.TheVariants.{Split, Closed, Empty, Spent, Stuck}
@@ -26,17 +26,17 @@ IsEvidenceAt p counts (Route state caps basis kind) =
 IsEvidenceAt p counts (Master basis kind) = ⊥
 
 -- a certificate closes a box: its value is at least the cost
-pub record ClosesBox (names : ℕ → Line → Type 0) (links : List Link) (box : TreeBox) (cost : ℕ) (cert : BoxCert) : Type 0 where
+pub record ClosesBox (names : ℕ → Inequality → Type 0) (links : List Link) (box : TreeBox) (cost : ℕ) (cert : BoxCert) : Type 0 where
   pub value : ℕ
   pub has : HasBoxValue names links box cert value
   pub reaches : cost ≤ value
 
 -- a line that an index names empties a box
-abbrev pub EmptiesBox : (ℕ → Line → Type 0) → List Link → TreeBox → ℕ → Type 0
-EmptiesBox names links box cut = (line : Line) × names cut line × IsEmptiedBy links box line
+abbrev pub EmptiesBox : (ℕ → Inequality → Type 0) → List Link → TreeBox → ℕ → Type 0
+EmptiesBox names links box cut = (line : Inequality) × names cut line × IsEmptiedBy links box line
 
 -- a node holds for its box
-abbrev pub HoldsNode : (ℕ → Line → Type 0) → Case → ℕ → TreeBox → Node → Type 0
+abbrev pub HoldsNode : (ℕ → Inequality → Type 0) → Case → ℕ → TreeBox → Node → Type 0
 HoldsNode names p cost box (Split link at_module number) = IsSplitOf box link.0 at_module number
 HoldsNode names p cost box (Closed cert) = ClosesBox names p.links box cost cert
 HoldsNode names p cost box (Empty cut) = EmptiesBox names p.links box cut
@@ -44,12 +44,16 @@ HoldsNode names p cost box (Spent cert) = (value : ℕ) × HasBoxValue names p.l
 HoldsNode names p cost box (Stuck cert evidence) =
     ((value : ℕ) × HasBoxValue names p.links box cert value) × IsFixedBox box × IsEvidenceAt p (least_counts box) evidence
 
+-- the lines that a proof's indices name: those of its cuts, and then its further lines
+abbrev pub names_of : Case → Proof → ℕ → Inequality → Type 0
+names_of p proof = NamesLine p (sources_of proof.cuts proof.lines)
+
 -- node i of the list belongs to the tree, and holds
 pub record HoldsAtNode (p : Case) (proof : Proof) (i : ℕ) : Type 0 where
   pub box : TreeBox
   pub node : Node
   pub is_node : IsNodeOf p.links proof.tree i box node
-  pub holds : HoldsNode (NamesLine p proof.cuts) p proof.plan.cost box node
+  pub holds : HoldsNode (names_of p proof) p proof.plan.cost box node
 
 -- node i doesn't hold
 abbrev pub FailsAtNode : Case → Proof → ℕ → Type 0
@@ -62,7 +66,7 @@ HoldAllNodes p proof = (i : ℕ) → i < length proof.tree → HoldsAtNode p pro
 -- ---- verdicts
 
 -- the certificate of an open leaf has this value for its box
-abbrev pub HasOpenValue : (ℕ → Line → Type 0) → List Link → TreeBox → Node → ℕ → Type 0
+abbrev pub HasOpenValue : (ℕ → Inequality → Type 0) → List Link → TreeBox → Node → ℕ → Type 0
 HasOpenValue names links box (Spent cert) value = HasBoxValue names links box cert value
 HasOpenValue names links box (Stuck cert evidence) value = HasBoxValue names links box cert value
 HasOpenValue names links box _ value = ⊥
@@ -72,7 +76,7 @@ pub record IsOpenAt (p : Case) (proof : Proof) (i value : ℕ) : Type 0 where
   pub box : TreeBox
   pub node : Node
   pub is_node : IsNodeOf p.links proof.tree i box node
-  pub has : HasOpenValue (NamesLine p proof.cuts) p.links box node value
+  pub has : HasOpenValue (names_of p proof) p.links box node value
 
 -- the least of the plan's cost and the values of the open leaves
 pub record IsLeastValue (p : Case) (proof : Proof) (least : ℕ) : Type 0 where

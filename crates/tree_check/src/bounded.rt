@@ -1,13 +1,13 @@
 ghost use Rattle.std.specs.Prelude.{◌≡◌, ℕ, ◌+◌, ◌*◌, ◌<◌, ◌≤◌, ◌^◌, All, IsTrue, IsFalse, MatchOption, length, map, slice_index};
 ghost use Rattle.plan_terms.specs.Terms.{IsModule};
 ghost use Rattle.tree_check.specs.BoxValues.{module_costs};
-ghost use Rattle.tree_check.specs.Lines.{entry, module_number};
+ghost use Rattle.line_check.specs.Inequalities.{entry, module_number};
 ghost use Rattle.tree_check.specs.inner.Weighing.{AddsModules, AreGainsOf, IsBoundedIn, IsGainOf, gain_in, loss_in};
 
 use crate::boxes::{Span, span_at};
-use crate::sums::module_price;
 use crate::total::Total;
 use crate::weighing::Weighing;
+use line_check::module_price;
 use net_core::{Link, Module};
 
 /// From here on a number is too wide.

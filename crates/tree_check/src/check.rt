@@ -5,9 +5,9 @@ ghost use Rattle.tree_check.specs.inner.Walking.{StopsWalk};
 
 use crate::proof::{Proof, TreeAnswer, Verdict};
 use crate::stop::Stop;
-use crate::tested::tested_cuts;
 use crate::tests::Tests;
 use crate::walk::walk;
+use line_check::tested::tested_lines;
 use net_core::{Demands, Instance, Network, States};
 use std::alloc::Global;
 
@@ -17,10 +17,9 @@ fn checked(alloc: Global, instance: &Instance, proof: &Proof) -> Result<(), Stop
     ensures accepted { OnOk result (IsAcceptedProof (case_of instance.now) proof.now) }
     ensures stops { IfErr result (StopsWalk (case_of instance.now) proof.now) }
 {
-    let tested = tested_cuts(alloc, instance, proof.cuts.items())?;
+    let tested = tested_lines(alloc, instance, proof.cuts.items(), proof.lines.items())?;
     let tests = Tests {
         instance,
-        cuts: proof.cuts.items(),
         tested: tested.items(),
         cost: proof.plan.cost,
     };
@@ -28,12 +27,13 @@ fn checked(alloc: Global, instance: &Instance, proof: &Proof) -> Result<(), Stop
 }
 
 /// Checks that a branch tree shows what its verdict says of a plan's cost, and trusts nothing of whoever made it: each split divides
-/// its box, each certificate has the value that it needs, each box that is called empty is emptied by its cut, and the verdict follows
-/// from the leaves.
+/// its box, each certificate has the value that it needs, each box that is called empty is emptied by its line, each line that a leaf
+/// names holds, and the verdict follows from the leaves.
 ///
 /// `Rejected` gives the first node that doesn't hold, the number of nodes where one is missing, and one more where the verdict doesn't
-/// follow. For each cut it takes a shortest-path search from each node of the network, and for each node of the tree the lines of its
-/// certificate times the modules. It takes memory for a number of each module for each cut, and for the boxes that no node has yet.
+/// follow. For each cut it takes a shortest-path search from each node of the network, for each further line its terms times the modules
+/// or up to 4,096 times the kinds of modules, and for each node of the tree the lines of its certificate times the modules. It takes
+/// memory for a number of each module for each line, and for the boxes that no node has yet.
 ///
 /// ```text
 /// let answer = check_tree(alloc, &net, &states, &demands, &proof);

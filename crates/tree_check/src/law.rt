@@ -1,13 +1,8 @@
-ghost use Rattle.tree_check.specs.Laws.{BoxValueHolds, CheapestHolds, CutLinesAreMet, EmptiedHasNone, LeavesCover, OpenLeavesHold};
+ghost use Rattle.tree_check.specs.Laws.{BoxValueHolds, CheapestHolds, EmptiedHasNone, LeavesCover, OpenLeavesHold};
 
 /// The leaves of a whole tree cover all counts.
 pub fn leaves_cover()
     ensures { LeavesCover }
-{}
-
-/// Counts that carry the demands in each state meet the line of each cut.
-pub fn cut_lines_are_met()
-    ensures { CutLinesAreMet }
 {}
 
 /// No counts of a box that meet the lines of a certificate cost less than its value.

@@ -4,17 +4,14 @@
 mod bounded;
 pub mod boxes;
 pub mod check;
-mod cuts;
 mod emptied;
 mod evidence;
 pub mod fixed;
 pub mod law;
-pub mod line;
 pub mod nodes;
 pub mod proof;
 mod stop;
 mod sums;
-pub mod tested;
 pub mod tests;
 mod total;
 mod value;
@@ -23,6 +20,5 @@ mod weighing;
 
 pub use boxes::{Boxed, Span};
 pub use check::check_tree;
-pub use line::Line;
-pub use master_bound::Multiplier;
+pub use line_check::{Inequality, Line, Multiplier, TableKind};
 pub use proof::{BoxCert, Node, Proof, TreeAnswer, Verdict};

@@ -2,7 +2,7 @@ ghost use Rattle.std.specs.Prelude.{◌≡◌, ◌↔◌, ℕ, false, true, IfOk
 ghost use Rattle.plan_terms.specs.Terms.{AreCounts, case_of};
 ghost use Rattle.tree_check.specs.Boxes.{IsFixedBox, least_counts};
 ghost use Rattle.tree_check.specs.Proofs.{ClosesBox, EmptiesBox, IsEvidenceAt};
-ghost use Rattle.tree_check.specs.Testing.{AreTests, HasValueIn, names_in};
+ghost use Rattle.tree_check.specs.Testing.{HasValueIn, names_in};
 ghost use Rattle.tree_check.specs.inner.Walking.{IsHeldIn};
 
 use crate::boxes::{Boxed, is_split};
@@ -10,9 +10,10 @@ use crate::emptied::is_emptied;
 use crate::evidence::is_evidence_at;
 use crate::fixed::fixed_counts;
 use crate::proof::{BoxCert, Node};
-use crate::tested::{is_sound, line_in};
 use crate::tests::Tests;
 use crate::value::cert_value;
+use line_check::line_in;
+use line_check::tested::is_sound;
 use net_core::{Evidence, NoMemory};
 use std::alloc::Global;
 
@@ -27,7 +28,6 @@ pub(crate) enum Held {
 
 /// The value of a certificate for a box; none where it is no certificate of it.
 pub fn value_in(tests: &Tests, boxed: &Boxed, cert: &BoxCert) -> Option<u128>
-    requires { AreTests tests.now }
     ensures { MatchOption result ((v : ℕ) → HasValueIn tests.now boxed.now cert.now v → ⊥) (HasValueIn tests.now boxed.now cert.now) }
 {
     cert_value(
@@ -40,7 +40,6 @@ pub fn value_in(tests: &Tests, boxed: &Boxed, cert: &BoxCert) -> Option<u128>
 
 /// Whether a certificate closes a box.
 pub fn is_closed(tests: &Tests, boxed: &Boxed, cert: &BoxCert) -> bool
-    requires { AreTests tests.now }
     ensures { IsTrue result ↔ ClosesBox (names_in tests.now) tests.now.instance.now.net.now.links boxed.now tests.now.cost cert.now }
 {
     match value_in(tests, boxed, cert) {
@@ -49,9 +48,8 @@ pub fn is_closed(tests: &Tests, boxed: &Boxed, cert: &BoxCert) -> bool
     }
 }
 
-/// Whether a cut empties a box.
+/// Whether a line empties a box.
 pub fn is_empty(tests: &Tests, boxed: &Boxed, cut: u32) -> bool
-    requires { AreTests tests.now }
     ensures { IsTrue result ↔ EmptiesBox (names_in tests.now) tests.now.instance.now.net.now.links boxed.now cut }
 {
     is_sound(tests.tested, cut)
@@ -81,7 +79,6 @@ fn is_stuck(
 
 /// An open leaf of the certificate's value; none where it is no certificate of the box.
 fn held_open(tests: &Tests, boxed: &Boxed, cert: &BoxCert) -> Option<Held>
-    requires { AreTests tests.now }
     ensures { MatchOption result ((v : ℕ) → HasValueIn tests.now boxed.now cert.now v → ⊥)
         (λ h. (v : ℕ) × (h ≡ Held.Open v) × HasValueIn tests.now boxed.now cert.now v) }
 {
@@ -104,8 +101,7 @@ pub(crate) fn held_node(
     boxed: &Boxed,
     node: &Node,
 ) -> Result<Option<Held>, NoMemory>
-    requires tests { AreTests tests.now }
-    requires shape { AreCounts tests.now.instance.now.net.now.links (least_counts boxed.now) }
+    requires { AreCounts tests.now.instance.now.net.now.links (least_counts boxed.now) }
     ensures { IfOk result (IsHeldIn tests.now boxed.now node.now) }
 {
     match node {

@@ -1,4 +1,4 @@
-use master_bound::Multiplier;
+use line_check::{Line, Multiplier};
 use net_core::{CutLine, Evidence, LinkId, List};
 use plan_types::Plan;
 
@@ -33,11 +33,13 @@ pub enum Verdict {
     Above(u128),
 }
 
-/// A plan with a branch tree in preorder, and the cuts that its leaves name by their index.
+/// A plan with a branch tree in preorder, and the lines that its leaves name by their index: those of the cuts, and then further ones.
 #[derive(Drop)]
 pub struct Proof {
     pub plan: Plan,
     pub cuts: List<CutLine>,
+    /// Each over earlier lines.
+    pub lines: List<Line>,
     pub tree: List<Node>,
     pub verdict: Verdict,
 }

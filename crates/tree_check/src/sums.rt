@@ -1,17 +1,8 @@
 ghost use Rattle.std.specs.Prelude.{◌≡◌, ◌-◌, ◌*◌, ◌<◌, ◌^◌, ◌↔◌, All, IsTrue, length, min};
-ghost use Rattle.tree_check.specs.BoxValues.{asked_right, given_free, module_price};
-ghost use Rattle.tree_check.specs.inner.Testing.{weighed};
+ghost use Rattle.tree_check.specs.BoxValues.{asked_right, given_free};
+ghost use Rattle.line_check.specs.Testing.{weighed};
 
-use crate::line::coefficient;
-use crate::tested::{Tested, line_in};
-use master_bound::Multiplier;
-
-/// A product that 128 bits don't hold is the greatest number.
-fn times(num: u64, n: u128) -> u128
-    ensures { result ≡ min (num * n) (2 ^ 128 - 1) }
-{
-    (num as u128).saturating_mul(n)
-}
+use line_check::{Multiplier, Tested, line_in, times};
 
 /// What lines ask for; a sum that 128 bits don't hold is the greatest number.
 #[tactic(auto, using(crate::proofs::WeighedSums::asked_more))]
@@ -35,20 +26,6 @@ pub(crate) fn given_free(tested: &[Tested], lines: &[Multiplier]) -> u128
     let mut sum = 0u128;
     for m in lines {
         sum = sum.saturating_add(times(m.num, line_in(tested, m.cut).given));
-    }
-    sum
-}
-
-/// The price of a module along lines; a sum that 128 bits don't hold is the greatest number.
-#[tactic(auto, using(crate::proofs::WeighedSums::price_more))]
-pub(crate) fn module_price(tested: &[Tested], lines: &[Multiplier], e: usize, m: usize) -> u128
-    requires { All (λ x. x.cut < length tested.now) lines.now }
-    ensures { result ≡ min (module_price (weighed tested.now lines.now) e m) (2 ^ 128 - 1) }
-{
-    let mut sum = 0u128;
-    for x in lines {
-        let coef = coefficient(line_in(tested, x.cut), e, m);
-        sum = sum.saturating_add(times(x.num, coef));
     }
     sum
 }

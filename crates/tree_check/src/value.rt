@@ -1,16 +1,17 @@
 ghost use Rattle.std.specs.Prelude.{◌≡◌, ℕ, ◌+◌, ◌*◌, ◌-◌, ◌<◌, ◌≤◌, ◌^◌, All, IfSome, IsNone, IsTrue, MatchOption, length};
 ghost use Rattle.plan_terms.specs.Terms.{IsBound, IsModule};
 ghost use Rattle.tree_check.specs.BoxValues.{AreNear, IsBoxValue, certain_setup, certain_setups, installs_always};
-ghost use Rattle.tree_check.specs.inner.Testing.{IsSoundAt, weighed};
+ghost use Rattle.line_check.specs.Testing.{IsSoundAt, weighed};
 ghost use Rattle.tree_check.specs.inner.Weighing.{AreGainsOf, IsValueIn, total_of};
 
 use crate::bounded::{Gains, WIDE, all_gains};
 use crate::boxes::Span;
 use crate::proof::BoxCert;
 use crate::sums::{are_narrow, asked_right, given_free};
-use crate::tested::{Tested, are_sound};
 use crate::total::Total;
 use crate::weighing::Weighing;
+use line_check::Tested;
+use line_check::tested::are_sound;
 use module_prices::bound_of;
 use net_core::{Link, List};
 

@@ -5,7 +5,7 @@ ghost use Rattle.tree_check.specs.Laws.{IsSplitIfAny};
 ghost use Rattle.tree_check.specs.Proofs.{IsAcceptedProof, VerdictFollows};
 ghost use Rattle.tree_check.specs.Trees.{sides_of};
 ghost use Rattle.tree_check.specs.declared.proof.Proof.{Proof as TreeProof};
-ghost use Rattle.tree_check.specs.Testing.{AreTests};
+ghost use Rattle.tree_check.specs.Testing.{AreTestsOf};
 ghost use Rattle.tree_check.specs.inner.Walking.{HasWalked, HaveShape, IsFoundOf, StopsWalk, TakesIfAny, with_held};
 
 use crate::boxes::{Boxed, lower_side, upper_side, whole_box};
@@ -58,8 +58,7 @@ fn take_node(
     left: &mut VecDeque<Boxed>,
     node: &Node,
 ) -> Result<Option<Held>, NoMemory>
-    requires tests { AreTests tests.now }
-    requires shape { HaveShape tests.now.instance.now.net.now.links left.old.items }
+    requires { HaveShape tests.now.instance.now.net.now.links left.old.items }
     ensures { IfOk result (TakesIfAny tests.now node.now left.old.items left.new.items) }
 {
     match left.pop_front() {
@@ -81,8 +80,7 @@ fn take_all(
     left: &mut VecDeque<Boxed>,
     proof: &Proof,
 ) -> Result<Found, Stop>
-    requires tests { AreTests tests.now }
-    requires cuts { proof.now.cuts ≡ tests.now.cuts.now }
+    requires tests { AreTestsOf proof.now tests.now }
     requires cost { proof.now.plan.cost ≡ tests.now.cost }
     requires few { length proof.now.tree + 1 < 2 ^ 32 }
     requires whole { left.old.items ≡ whole_box tests.now.instance.now.net.now.links ∷ [] }
@@ -124,8 +122,7 @@ fn whole_left(alloc: Global, net: &Network) -> Result<VecDeque<Boxed>, NoMemory>
 
 /// Walks through a proof's tree, and tells what is wrong with it first.
 pub(crate) fn walk(alloc: Global, tests: &Tests, proof: &Proof) -> Result<(), Stop>
-    requires tests { AreTests tests.now }
-    requires cuts { proof.now.cuts ≡ tests.now.cuts.now }
+    requires tests { AreTestsOf proof.now tests.now }
     requires cost { proof.now.plan.cost ≡ tests.now.cost }
     requires few { length proof.now.tree + 1 < 2 ^ 32 }
     ensures accepted { OnOk result (IsAcceptedProof (case_of tests.now.instance.now) proof.now) }

@@ -2,8 +2,7 @@ ghost use Rattle.std.specs.Prelude.{◌<◌, ◌≤◌, ◌^◌, All, length};
 ghost use Rattle.plan_terms.specs.Terms.{IsModule};
 
 use crate::boxes::Span;
-use crate::tested::Tested;
-use master_bound::Multiplier;
+use line_check::{Multiplier, Tested};
 use net_core::{Link, List};
 
 /// What a certificate's value is computed of: a box, and lines with numerators over a denominator.

@@ -1,10 +1,15 @@
--- the comment lines of a branch tree: its cuts, its nodes in preorder, and its verdict
+-- the comment lines of a branch tree: its cuts and further lines, its nodes in preorder, and its verdict
 use Rattle.std.specs.Prelude.{ℕ, List, [], ◌∷◌, ◌++◌, All, codes, flat_map, length, map, zip}
 use Rattle.std.specs.List.{range_with_len}
 use Rattle.plan_terms.specs.Terms.{CutLine, Demand, Link, Places}
 use Rattle.plan_report.specs.Terms.{evidence_items, link_name}
 use Rattle.text_kit.specs.Terms.{Item, Money, Verbatim, Whole}
 use Rattle.report_comments.specs.ReportComments.{IsOfRouting}
+use Rattle.master_bound.specs.declared.answer.Multiplier.{Multiplier}
+use Rattle.line_check.specs.declared.line.Line.{Line}
+use Rattle.line_check.specs.declared.line.Line.TheVariants.{Divided, Table}
+use Rattle.line_check.specs.declared.line.TableKind.{TableKind}
+use Rattle.line_check.specs.declared.line.TableKind.TheVariants.{Plain, Failing}
 use Rattle.tree_check.specs.declared.proof.BoxCert.{BoxCert}
 use Rattle.tree_check.specs.declared.proof.Node.{Node}
 use Rattle.tree_check.specs.declared.proof.Node.TheVariants.{Split, Closed, Empty, Spent, Stuck}
@@ -16,9 +21,24 @@ use Rattle.tree_check.specs.declared.proof.Verdict.TheVariants.{Cheapest, Above}
 abbrev pub box_cut_items : ℕ × CutLine → List Item
 box_cut_items (i, cut) = Verbatim (codes "box-cut") ∷ Whole i ∷ Whole cut.state.0 ∷ Whole cut.right ∷ flat_map (λ n. Whole n ∷ []) cut.lengths
 
--- a certificate of a box: its denominator, and each numerator with the index of its cut
+-- numerators, each with the index of its line
+abbrev pub multiplier_items : List Multiplier → List Item
+multiplier_items multipliers = flat_map (λ m. Whole m.num ∷ Whole m.cut ∷ []) multipliers
+
+-- the word of a kind of table line
+abbrev pub table_word : TableKind → List ℕ
+table_word Plain = codes "plain"
+table_word Failing = codes "failing"
+
+-- a further line with its index: the divisor and the numerators of a divided line; the line, the kind and the weights of a table line
+abbrev pub line_items : ℕ × Line → List Item
+line_items (i, Divided divisor terms) = Verbatim (codes "line") ∷ Whole i ∷ Whole divisor ∷ multiplier_items terms
+line_items (i, Table line kind weights) =
+    Verbatim (codes "table") ∷ Whole i ∷ Whole line ∷ Verbatim (table_word kind) ∷ flat_map (λ n. Whole n ∷ []) weights
+
+-- a certificate of a box: its denominator, and each numerator with the index of its line
 abbrev pub box_certificate_items : BoxCert → List Item
-box_certificate_items cert = Whole cert.den ∷ flat_map (λ m. Whole m.num ∷ Whole m.cut ∷ []) cert.lines
+box_certificate_items cert = Whole cert.den ∷ multiplier_items cert.lines
 
 -- a node: a split with its link's name, its module and its number, or a leaf with what it shows
 abbrev pub node_items : List Link → List Demand → Node → List Item
@@ -37,7 +57,9 @@ verdict_items places (Above least) = Verbatim (codes "above") ∷ Money places l
 -- the lines of a proof
 abbrev pub proof_lines : List Link → List Demand → Places → Proof → List (List Item)
 proof_lines links demands places proof =
-    map box_cut_items (zip (range_with_len 0 (length proof.cuts)) proof.cuts) ++ map (node_items links demands) proof.tree ++ verdict_items places proof.verdict ∷ []
+    map box_cut_items (zip (range_with_len 0 (length proof.cuts)) proof.cuts)
+    ++ map line_items (zip (range_with_len (length proof.cuts) (length proof.lines)) proof.lines)
+    ++ map (node_items links demands) proof.tree ++ verdict_items places proof.verdict ∷ []
 
 -- what evidence a node has is of a program that routes
 abbrev pub IsToldNode : Node → Type 0

@@ -1,4 +1,4 @@
-ghost use Rattle.std.specs.Prelude.{◌∷◌, [], All, OnOk, codes, flat_map, map};
+ghost use Rattle.std.specs.Prelude.{◌∷◌, [], All, OnOk, codes, map};
 ghost use Rattle.plan_report.specs.Terms.{link_name};
 ghost use Rattle.text_kit.specs.Terms.{Verbatim, Whole};
 ghost use Rattle.comment_lines.specs.Comments.{AddsLines, AddsSpaced, IsOneLine};
@@ -6,21 +6,11 @@ ghost use Rattle.report_comments.specs.ReportComments.{IsOfRouting};
 ghost use Rattle.tree_check.specs.declared.proof.Node.TheVariants.{Stuck as StuckNode};
 ghost use Rattle.tree_lines.specs.TreeLines.{IsToldNode, box_certificate_items, node_items};
 
+use crate::lines::put_multipliers;
 use comment_lines::puts::{put_field, put_whole, put_word};
 use net_core::{Bytes, Demand, Evidence, Link, LinkId, NoMemory};
 use report_comments::{put_evidence, put_link};
-use tree_check::{BoxCert, Multiplier, Node};
-
-/// Puts numerators last, each with the index of its cut.
-fn put_multipliers(text: &mut Bytes, multipliers: &[Multiplier]) -> Result<(), NoMemory>
-    ensures { OnOk result (AddsSpaced text.old (flat_map (λ m. Whole m.num ∷ Whole m.cut ∷ []) multipliers.now) text.new) }
-{
-    for m in multipliers {
-        put_whole(text, m.num as u128)?;
-        put_whole(text, m.cut as u128)?;
-    }
-    Ok(())
-}
+use tree_check::{BoxCert, Node};
 
 /// Puts a word and a certificate of a box last.
 fn put_certificate(text: &mut Bytes, word: &[u8], cert: &BoxCert) -> Result<(), NoMemory>

@@ -1,9 +1,9 @@
 //! Tests of the program of a box, against optima that were worked out by hand.
 use box_program::{Lines, Solution, common_unit, solved};
+use line_check::{Inequality, Tested};
 use net_core::{List, Module, NoMemory};
 use std::alloc::Global;
-use tree_check::tested::Tested;
-use tree_check::{Boxed, Line, Span};
+use tree_check::{Boxed, Span};
 use worked_networks::{LinkRow, network};
 
 /// A link of modules of 5.000 for 3.000.
@@ -73,7 +73,8 @@ fn lines(alloc: Global, asked: Option<u128>) -> Result<List<Tested>, NoMemory> {
     if let Some(right) = asked {
         lines.push(Tested {
             sound: true,
-            line: Line {
+            robust: true,
+            line: Inequality {
                 coefs: nested(alloc, 5000)?,
                 given: 0,
                 right,

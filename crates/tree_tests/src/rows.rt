@@ -3,7 +3,7 @@ use net_core::{
 };
 use plan_types::{Cause, Certificate, Plan, Quality};
 use std::alloc::Global;
-use tree_check::{BoxCert, Multiplier, Node, Proof, TreeAnswer, Verdict, check_tree};
+use tree_check::{BoxCert, Line, Multiplier, Node, Proof, TreeAnswer, Verdict, check_tree};
 use worked_networks::{problem, triangle};
 
 /// Lines of a certificate: indices of cuts with their numerators.
@@ -23,10 +23,20 @@ pub(crate) enum NodeRow {
 /// A cut: its state, its lengths and its right side.
 pub(crate) type CutRow = (u32, &'static [u32], u128);
 
+/// A divided line: its divisor, and indices of earlier lines with their numerators.
+pub(crate) type DividedRow = (u128, &'static [LineRow]);
+
+/// The cuts and further lines of a tree.
+#[derive(Clone, Copy)]
+pub(crate) struct Named<'a> {
+    pub cuts: &'a [CutRow],
+    pub lines: &'a [DividedRow],
+}
+
 /// A tree with its verdict, and what a check says of it.
 pub(crate) type TreeRow = (&'static [NodeRow], Verdict, TreeAnswer);
 
-fn certificate(alloc: Global, den: u128, rows: &[LineRow]) -> Result<BoxCert, NoMemory> {
+fn multipliers(alloc: Global, rows: &[LineRow]) -> Result<List<Multiplier>, NoMemory> {
     let mut lines = List::new(alloc);
     for (cut, num) in rows {
         lines.push(Multiplier {
@@ -34,7 +44,14 @@ fn certificate(alloc: Global, den: u128, rows: &[LineRow]) -> Result<BoxCert, No
             num: *num,
         })?;
     }
-    Ok(BoxCert { den, lines })
+    Ok(lines)
+}
+
+fn certificate(alloc: Global, den: u128, rows: &[LineRow]) -> Result<BoxCert, NoMemory> {
+    Ok(BoxCert {
+        den,
+        lines: multipliers(alloc, rows)?,
+    })
 }
 
 /// Evidence of the slacks' basis at these capacities.
@@ -92,6 +109,17 @@ fn cuts(alloc: Global, rows: &[CutRow]) -> Result<List<CutLine>, NoMemory> {
     Ok(cuts)
 }
 
+fn divided(alloc: Global, rows: &[DividedRow]) -> Result<List<Line>, NoMemory> {
+    let mut lines = List::new(alloc);
+    for (divisor, terms) in rows {
+        lines.push(Line::Divided {
+            divisor: *divisor,
+            terms: multipliers(alloc, terms)?,
+        })?;
+    }
+    Ok(lines)
+}
+
 /// A plan of this cost and nothing else.
 fn plan_of(alloc: Global, cost: u128) -> Plan {
     Plan {
@@ -117,18 +145,19 @@ fn worked(alloc: Global) -> Option<Problem> {
     problem(alloc, triangle(alloc, 0).ok()?, &[(0, 2, 12000)]).ok()
 }
 
-fn proof(alloc: Global, cost: u128, lines: &[CutRow], row: &TreeRow) -> Result<Proof, NoMemory> {
+fn proof(alloc: Global, cost: u128, named: &Named, row: &TreeRow) -> Result<Proof, NoMemory> {
     Ok(Proof {
         plan: plan_of(alloc, cost),
-        cuts: cuts(alloc, lines)?,
+        cuts: cuts(alloc, named.cuts)?,
+        lines: divided(alloc, named.lines)?,
         tree: nodes(alloc, row.0)?,
         verdict: row.1,
     })
 }
 
 /// Whether a check says this of a tree on the triangle.
-fn is_answered(alloc: Global, p: &Problem, cost: u128, lines: &[CutRow], row: &TreeRow) -> bool {
-    match proof(alloc, cost, lines, row) {
+fn is_answered(alloc: Global, p: &Problem, cost: u128, named: &Named, row: &TreeRow) -> bool {
+    match proof(alloc, cost, named, row) {
         Ok(made) => {
             made.tree.len() < 1000
                 && check_tree(alloc, &p.net, &p.states, &p.demands, &made) == row.2
@@ -141,13 +170,13 @@ fn is_answered(alloc: Global, p: &Problem, cost: u128, lines: &[CutRow], row: &T
 pub(crate) fn first_wrong(
     alloc: Global,
     cost: u128,
-    lines: &[CutRow],
+    named: &Named,
     rows: &[TreeRow],
 ) -> Option<usize> {
     match worked(alloc) {
         None => Some(rows.len()),
         Some(p) => rows
             .iter()
-            .position(|row| !is_answered(alloc, &p, cost, lines, row)),
+            .position(|row| !is_answered(alloc, &p, cost, named, row)),
     }
 }

@@ -1,5 +1,5 @@
 use crate::rows::NodeRow::{Closed, Empty, Spent, Split, Stuck};
-use crate::rows::{CutRow, TreeRow, first_wrong};
+use crate::rows::{CutRow, DividedRow, Named, TreeRow, first_wrong};
 use tree_check::TreeAnswer::{Accepted, Rejected};
 use tree_check::Verdict::{Above, Cheapest};
 
@@ -243,6 +243,67 @@ const ROWS: [TreeRow; 27] = [
 
 #[test]
 fn trees_are_answered(rt: HostRuntime) {
-    let wrong = first_wrong(rt.alloc(), 30000, &CUTS, &ROWS);
+    let named = Named {
+        cuts: &CUTS,
+        lines: &[],
+    };
+    let wrong = first_wrong(rt.alloc(), 30000, &named, &ROWS);
+    assert!(rt; wrong.is_none(), "row {}", wrong.unwrap_or(0));
+}
+
+/// Lines after the six cuts: two modules of each of AC, AB and BC; one over what is no cut, and one over a later line; and six modules of
+/// all links together.
+const LINES: [DividedRow; 6] = [
+    (10000, &[(0, 1)]),
+    (10000, &[(1, 1)]),
+    (10000, &[(2, 1)]),
+    (10000, &[(3, 1)]),
+    (1, &[(11, 1)]),
+    (1, &[(6, 1), (7, 1), (8, 1)]),
+];
+
+/// Six modules for 5.00 each cost 30.00, so that no split is needed. A numerator of 5001 prices a module above its cost; with 4999 the
+/// value is 29.998, which is 30.00 in whole modules.
+const LINE_ROWS: [TreeRow; 11] = [
+    (
+        &[Closed(1, &[(6, 5000), (7, 5000), (8, 5000)])],
+        Cheapest,
+        Accepted,
+    ),
+    (&[Closed(1, &[(11, 5000)])], Cheapest, Accepted),
+    (
+        &[Closed(1, &[(6, 5001), (7, 5000), (8, 5000)])],
+        Cheapest,
+        Rejected(0),
+    ),
+    (
+        &[Closed(1, &[(6, 4999), (7, 5000), (8, 5000)])],
+        Cheapest,
+        Accepted,
+    ),
+    (&[Closed(1, &[(9, 5000)])], Cheapest, Rejected(0)),
+    (&[Closed(1, &[(10, 5000)])], Cheapest, Rejected(0)),
+    (&[Closed(1, &[(12, 5000)])], Cheapest, Rejected(0)),
+    (
+        &[Split(2, 0, 1), Empty(6), Closed(1, &[(11, 5000)])],
+        Cheapest,
+        Accepted,
+    ),
+    (
+        &[Split(2, 0, 1), Empty(7), Closed(1, &[(11, 5000)])],
+        Cheapest,
+        Rejected(1),
+    ),
+    (&[Spent(1, &[(6, 5000)])], Above(10000), Accepted),
+    (&[Spent(1, &[(6, 5000)])], Above(10001), Rejected(2)),
+];
+
+#[test]
+fn leaves_name_further_lines(rt: HostRuntime) {
+    let named = Named {
+        cuts: &CUTS,
+        lines: &LINES,
+    };
+    let wrong = first_wrong(rt.alloc(), 30000, &named, &LINE_ROWS);
     assert!(rt; wrong.is_none(), "row {}", wrong.unwrap_or(0));
 }

@@ -1,16 +1,16 @@
 -- greatest counts along a line, module by module
 use Rattle.std.specs.Prelude.{◌≡◌, ◌≢◌, ℕ, ◌*◌, ◌-◌, ◌^◌, List, Option, None, Some, IsSome, min, unwrap_or}
 use Rattle.tree_check.specs.Boxes.{span_at}
-use Rattle.tree_check.specs.Lines.{entry}
+use Rattle.line_check.specs.Inequalities.{entry}
 use Rattle.tree_check.specs.declared.boxes.Span.{Span}
-use Rattle.tree_check.specs.declared.line.Line.{Line}
+use Rattle.line_check.specs.declared.inequality.Inequality.{Inequality}
 
 -- module m of link e has a greatest count where its coefficient is positive
-abbrev pub HasMost : Line → List (List Span) → ℕ → ℕ → Type 0
+abbrev pub HasMost : Inequality → List (List Span) → ℕ → ℕ → Type 0
 HasMost line box e m = entry line.coefs e m ≢ 0 → IsSome (span_at box e m).most
 
 -- the greatest count of module m of link e, times its coefficient
-abbrev pub most_at : Line → List (List Span) → ℕ → ℕ → ℕ
+abbrev pub most_at : Inequality → List (List Span) → ℕ → ℕ → ℕ
 most_at line box e m = entry line.coefs e m * unwrap_or (span_at box e m).most 0
 
 -- such a sum, or the greatest number where 128 bits don't hold it; none where a greatest count is missing

@@ -7,7 +7,7 @@ use Rattle.tree_check.specs.Boxes.{least_counts, whole_box}
 use Rattle.tree_check.specs.Proofs.{FailsAtNode, HasOpenValue, HoldsAtNode, HoldsNode, IsMissingAt, IsOpenAt, IsUnfounded}
 use Rattle.tree_check.specs.Testing.{names_in}
 use Rattle.tree_check.specs.Trees.{TreeBox, boxes_left, sides_of}
-use Rattle.tree_check.specs.declared.line.Line.{Line}
+use Rattle.line_check.specs.declared.inequality.Inequality.{Inequality}
 use Rattle.tree_check.specs.declared.nodes.Held.{Held}
 use Rattle.tree_check.specs.declared.nodes.Held.TheVariants.{Settled, Open}
 use Rattle.tree_check.specs.declared.proof.BoxCert.{BoxCert}
@@ -21,7 +21,7 @@ use Rattle.tree_check.specs.declared.walk.Found.{Found}
 -- ---- nodes
 
 -- an open leaf of this value, or no open leaf
-abbrev pub IsHeldAs : (ℕ → Line → Type 0) → List Link → TreeBox → Node → Held → Type 0
+abbrev pub IsHeldAs : (ℕ → Inequality → Type 0) → List Link → TreeBox → Node → Held → Type 0
 IsHeldAs names links box node Settled = (value : ℕ) → HasOpenValue names links box node value → ⊥
 IsHeldAs names links box node (Open value) = HasOpenValue names links box node value
 
@@ -37,7 +37,7 @@ IsHeldIn t box node (Some held) = HoldsIn t box node × IsHeldAs (names_in t) t.
 -- ---- a walk
 
 -- a node takes the next box: it holds there, is so, and leaves its sides in the box's place
-pub record TakesBox (names : ℕ → Line → Type 0) (p : Case) (cost : ℕ) (node : Node) (old new : List TreeBox) (held : Held) : Type 0 where
+pub record TakesBox (names : ℕ → Inequality → Type 0) (p : Case) (cost : ℕ) (node : Node) (old new : List TreeBox) (held : Held) : Type 0 where
   pub box : TreeBox
   pub later : List TreeBox
   pub first : old ≡ box ∷ later
@@ -46,7 +46,7 @@ pub record TakesBox (names : ℕ → Line → Type 0) (p : Case) (cost : ℕ) (n
   pub is : IsHeldAs names p.links box node held
 
 -- a node takes no box: there is none, or the node doesn't hold there
-abbrev pub CannotTake : (ℕ → Line → Type 0) → Case → ℕ → Node → List TreeBox → Type 0
+abbrev pub CannotTake : (ℕ → Inequality → Type 0) → Case → ℕ → Node → List TreeBox → Type 0
 CannotTake names p cost node old = (box : TreeBox) (later : List TreeBox) → old ≡ box ∷ later → HoldsNode names p cost box node → ⊥
 
 -- what a node takes, and none where it takes no box

@@ -1,6 +1,6 @@
 use Rattle.std.proofs.Common.{◌≡◌, ℕ, ◌<◌, ◌-◌, ◌^◌, min}
 use Rattle.plan_terms.specs.Terms.{sum_below}
-use Rattle.tree_check.specs.Lines.{module_number}
+use Rattle.line_check.specs.Inequalities.{module_number}
 use Rattle.tree_check.specs.inner.Emptying.{HasMost, most_at}
 use Rattle.tree_check.proofs.emptied.most_of_box.Given as goal
 

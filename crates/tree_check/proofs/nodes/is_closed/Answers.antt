@@ -12,6 +12,6 @@ returns-in-Some c =
     let box = c.args.boxed.now in
     let cert = c.args.cert.now in
     let value = c.in-Some.value in (
-      λ yes. closes_by t c.requires box cert value c.in-Some.ensures (grind (arith, nat_tests)),
-      λ closes. let reached : t.cost ≤ value = closed_by t c.requires box cert value c.in-Some.ensures closes in grind (arith, nat_tests),
+      λ yes. closes_by t box cert value c.in-Some.ensures (grind (arith, nat_tests)),
+      λ closes. let reached : t.cost ≤ value = closed_by t box cert value c.in-Some.ensures closes in grind (arith, nat_tests),
     )

@@ -19,4 +19,4 @@ cert_value-requires-clause-sound c =
 pub returns : goal.returns
 returns c =
     let told = c.cert_value.ensures in
-    value_told c.args.tests.now c.requires c.args.boxed.now c.args.cert.now c.items.result.now c.items-2.result.now c.cert_value.result (c.items.ensures ∙ c.links.ensures) c.items-2.ensures told.none told.sound told.value
+    value_told c.args.tests.now c.args.boxed.now c.args.cert.now c.items.result.now c.items-2.result.now c.cert_value.result (c.items.ensures ∙ c.links.ensures) c.items-2.ensures told.none told.sound told.value

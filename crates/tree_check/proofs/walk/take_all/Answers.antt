@@ -22,7 +22,7 @@ pub returns-in-None-clause-stops : goal.returns-in-None-clause-stops
 returns-in-None-clause-stops c =
     let tree = c.items-tree.result.now in
     let i = c.loop-i.i in
-    inl (stops_by_tests c.args.tests.now c.args.proof.now c.requires.tests c.requires.cuts c.requires.cost i c.index-tree-i.result c.loop-i.left.items c.take_node.new.left.items c.loop-i.found c.in_ok-take_node.field-0
+    inl (stops_by_tests c.args.tests.now c.args.proof.now c.requires.tests c.requires.cost i c.index-tree-i.result c.loop-i.left.items c.take_node.new.left.items c.loop-i.found c.in_ok-take_node.field-0
     (subst (λ (ns : List Node). i < length ns) c.items-tree.ensures c.loop-i-test.true)
     (node_at c.args.proof.now.tree tree i c.index-tree-i.result c.items-tree.ensures c.loop-i-test.true c.index-tree-i.is)
     c.loop-i.invariant c.in_ok-take_node.ensures c.in-None.is)
@@ -32,6 +32,6 @@ loop-i-preserved c =
     let tree = c.items-tree.result.now in
     let i = c.loop-i.i in
     subst (HasWalked (case_of c.args.tests.now.instance.now) c.args.proof.now (i + 1) c.take_node.new.left.items) (sym c.with_held-found.ensures)
-    (walked_by_tests c.args.tests.now c.args.proof.now c.requires.tests c.requires.cuts c.requires.cost i c.index-tree-i.result c.loop-i.left.items c.take_node.new.left.items c.in-Some.held c.loop-i.found c.in_ok-take_node.field-0
+    (walked_by_tests c.args.tests.now c.args.proof.now c.requires.tests c.requires.cost i c.index-tree-i.result c.loop-i.left.items c.take_node.new.left.items c.in-Some.held c.loop-i.found c.in_ok-take_node.field-0
     (node_at c.args.proof.now.tree tree i c.index-tree-i.result c.items-tree.ensures c.loop-i-test.true c.index-tree-i.is)
     c.loop-i.invariant c.in_ok-take_node.ensures c.in-Some.is)

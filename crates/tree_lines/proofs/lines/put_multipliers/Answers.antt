@@ -1,7 +1,7 @@
 use Rattle.std.proofs.Common.{[], ◌∷◌, arith}
 use Rattle.text_kit.specs.Terms.{Whole}
 use Rattle.comment_lines.proofs.Spacing.{spaced_all, spaced_more, spaced_none, spaced_then}
-use Rattle.tree_lines.proofs.nodes.put_multipliers.Goals as goal
+use Rattle.tree_lines.proofs.lines.put_multipliers.Goals as goal
 
 pub loop-m-init : goal.loop-m-init
 loop-m-init c = spaced_none c.args.text.now

@@ -1,0 +1,7 @@
+use Rattle.text_kit.proofs.Lemmas.{on_ok}
+use Rattle.comment_lines.proofs.Lines.{line_put}
+use Rattle.tree_lines.specs.TreeLines.{line_items}
+use Rattle.tree_lines.proofs.lines.put_line.Goals as goal
+
+pub returns : goal.returns
+returns c = on_ok _ (λ ended. line_put _ _ _ _ (line_items (c.args.index, c.args.line.now)) c.in_ok-append.ensures.ok c.in_ok-put_words.ensures ended) c.append-2.ensures.ok
