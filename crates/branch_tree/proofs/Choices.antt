@@ -4,7 +4,7 @@ use Rattle.net_core.proofs.Library.{cases_eq, get_or_from_slice_get, length-map,
 use Rattle.plan_terms.specs.Terms.{AreCounts, IsModule, Link, sum_below}
 use Rattle.tree_check.specs.Boxes.{IsFixedSpan, IsSplitOf, any_count, least_counts, span_at, spans_of}
 use Rattle.tree_check.specs.BoxValues.{module_costs}
-use Rattle.tree_check.specs.Lines.{entry, module_number, over_modules}
+use Rattle.line_check.specs.Inequalities.{entry, module_number, over_modules}
 use Rattle.tree_check.specs.Trees.{TreeBox}
 use Rattle.tree_check.specs.declared.boxes.Span.{Span}
 use Rattle.trim_plan.specs.declared.lowered.Place.{Place}

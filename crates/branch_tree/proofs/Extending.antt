@@ -1,16 +1,21 @@
 -- what is known of a search and its tree stays where cuts are put after
-use Rattle.std.proofs.Common.{◌≡◌, ℕ, zero, suc, ◌+◌, ◌^◌, ◌≤◌, List, [], ◌∷◌, ◌++◌, All, append-nil, length, length-append, take, refl, ap, subst, sym, ◌∙◌, arith}
+use Rattle.std.proofs.Common.{◌≡◌, ℕ, zero, suc, ◌+◌, ◌^◌, ◌≤◌, false, List, [], ◌∷◌, ◌++◌, All, Some, append-nil, length, length-append, slice_get, take, refl, ap, subst, sym, ◌∙◌, arith}
 use Rattle.std.proofs.lemmas.List.{append_assoc}
+use Rattle.std.specs.List.{AllZip}
 use Rattle.net_core.proofs.Library.{All-weaker}
 use Rattle.plan_terms.specs.Terms.{Case, CutLine, Link}
+use Rattle.plan_types.specs.declared.certificate.CertLine.{CertLine}
 use Rattle.plan_types.specs.declared.plan.Plan.{Plan}
+use Rattle.master_bound.specs.declared.answer.Multiplier.{Multiplier}
+use Rattle.line_check.specs.Testing.{names_by}
+use Rattle.line_check.specs.declared.tested.Tested.{Tested}
+use Rattle.line_check.proofs.NamesOn.{tested_front}
 use Rattle.tree_check.specs.Boxes.{whole_box}
-use Rattle.tree_check.specs.Lines.{NamesLine}
 use Rattle.tree_check.specs.Trees.{TreeBox}
 use Rattle.tree_check.specs.declared.boxes.Span.{Span}
-use Rattle.tree_check.specs.declared.line.Line.{Line}
+use Rattle.line_check.specs.declared.inequality.Inequality.{Inequality}
 use Rattle.tree_check.specs.declared.proof.BoxCert.{BoxCert}
-use Rattle.branch_tree.specs.Proving.{lines_of_plan}
+use Rattle.tree_check.proofs.Naming.{holds_map, value_map}
 use Rattle.branch_tree.specs.declared.aim.Aim.{Aim}
 use Rattle.branch_tree.specs.declared.certs.Valued.{Valued}
 use Rattle.branch_tree.specs.declared.evaluation.Search.{Search}
@@ -19,19 +24,32 @@ use Rattle.branch_tree.specs.declared.twigs.Twig.{Twig}
 use Rattle.branch_tree.specs.declared.twigs.Twig.TheVariants as twig
 use Rattle.branch_tree.specs.inner.Growing.{Extends, HasLearned, IsAim, IsGrowing, IsOpenBox, IsOwnCert, IsSearchBox, IsTwigOf, IsValued, aimed, handed_in, most_cuts}
 use Rattle.branch_tree.specs.inner.Places.{AreTwigsOf, twig_sides}
-use Rattle.branch_tree.proofs.MoreCuts.{holds_more, named_more, names_more, value_more}
+use Rattle.branch_tree.proofs.OwnValues.{IsOwnLine}
 use Rattle.branch_tree.proofs.Placing.{placed_weaker}
 
--- ---- cuts after cuts
+-- ---- items after items
 
-pub extends_none : (cuts : List CutLine) → Extends cuts cuts
-extends_none cuts = ([], sym (append-nil cuts))
+module _ {X : Type 0} where
+  pub extends_none : (xs : List X) → Extends xs xs
+  extends_none xs = record { more = []; is = sym (append-nil xs) }
 
-pub extends_push : (cuts more : List CutLine) (cut : CutLine) → more ≡ cuts ++ cut ∷ [] → Extends cuts more
-extends_push cuts more cut is = (cut ∷ [], is)
+  pub extends_push : (xs ys : List X) (x : X) → ys ≡ xs ++ x ∷ [] → Extends xs ys
+  extends_push xs ys x is = record { more = x ∷ []; is = is }
 
-pub extends_on : (a b c : List CutLine) → Extends a b → Extends b c → Extends a c
-extends_on a b c one other = (one.0 ++ other.0, other.1 ∙ (ap (λ (cuts : List CutLine). cuts ++ other.0) one.1 ∙ append_assoc a one.0 other.0))
+  pub extends_on : (a b c : List X) → Extends a b → Extends b c → Extends a c
+  extends_on a b c one other = record {
+    more = one.more ++ other.more;
+    is = other.is ∙ (ap (λ (xs : List X). xs ++ other.more) one.is ∙ append_assoc a one.more other.more);
+  }
+
+  at_before : (xs ys : List X) (i : ℕ) (x : X) → slice_get xs i ≡ Some x → slice_get (xs ++ ys) i ≡ Some x
+  at_before [] ys i x there = absurd (cc there)
+  at_before (y ∷ xs) ys zero x there = there
+  at_before (y ∷ xs) ys (suc i) x there = at_before xs ys i x there
+
+  -- an item stays at its place
+  pub at_still : (old new : List X) → Extends old new → (i : ℕ) (x : X) → slice_get old i ≡ Some x → slice_get new i ≡ Some x
+  at_still old new extends i x there = subst (λ (xs : List X). slice_get xs i ≡ Some x) (sym extends.is) (at_before old extends.more i x there)
 
 -- the first ones are the same
 pub take_before : {X : Type 0} (n : ℕ) (xs ys : List X) → n ≤ length xs → take n (xs ++ ys) ≡ take n xs
@@ -42,11 +60,12 @@ take_before (suc n) (x ∷ xs) ys le = ap (λ rest. x ∷ rest) (take_before n x
 -- ---- a search that has learned more
 
 pub learned_none : (s : Search) → HasLearned s s
-learned_none s = record { extends = extends_none s.known.cuts; handed = refl }
+learned_none s = record { extends = extends_none s.known.cuts; tested = extends_none s.known.tested; handed = refl }
 
 pub learned_on : (a b c : Search) → HasLearned a b → HasLearned b c → HasLearned a c
 learned_on a b c one other = record {
   extends = extends_on a.known.cuts b.known.cuts c.known.cuts one.extends other.extends;
+  tested = extends_on a.known.tested b.known.tested c.known.tested one.tested other.tested;
   handed = other.handed ∙ one.handed;
 }
 
@@ -54,10 +73,10 @@ learned_on a b c one other = record {
 pub handed_same : (old new : Search) → HasLearned old new → old.handed ≤ length old.known.cuts → handed_in new ≡ handed_in old
 handed_same old new learned inside =
     ap (λ n. take n new.known.cuts) learned.handed
-    ∙ (ap (λ (cuts : List CutLine). take old.handed cuts) learned.extends.1 ∙ take_before old.handed old.known.cuts learned.extends.0 inside)
+    ∙ (ap (λ (cuts : List CutLine). take old.handed cuts) learned.extends.is ∙ take_before old.handed old.known.cuts learned.extends.more inside)
 
 pub more_cuts : (old new : List CutLine) → Extends old new → length old ≤ length new
-more_cuts old new extends = omega (arith, ap (λ (cuts : List CutLine). length cuts) extends.1, length-append old extends.0)
+more_cuts old new extends = omega (arith, ap (λ (cuts : List CutLine). length cuts) extends.is, length-append old extends.more)
 
 -- ---- boxes and places
 
@@ -69,19 +88,36 @@ low_box links n m box le is = record {
       (λ (spans : List Span) few. All-weaker (λ (s : Span). s.least ≤ 2 ^ 44 + n) (λ s. s.least ≤ 2 ^ 44 + m) (λ (s : Span) low. omega (arith, le, low)) spans few) box is.low;
 }
 
-module _ (p : Case) (plan : Plan) (old new : List CutLine) (extends : Extends old new) where
-  names_on : (i : ℕ) (line : Line) → NamesLine p old i line → NamesLine p new i line
-  names_on i line names = subst (λ (cuts : List CutLine). NamesLine p cuts i line) (sym extends.1) (names_more p old extends.0 i line names)
+-- ---- the plan's certificate
 
-  -- the plan's certificate by indices
-  pub own_on : (cert : BoxCert) → IsOwnCert p old plan cert → IsOwnCert p new plan cert
-  own_on cert own = record {
-    den = own.den;
-    named = named_more (NamesLine p old) (NamesLine p new) names_on cert.lines (lines_of_plan p.links plan.certificate) own.named;
-  }
+own_on : (old new : List CutLine) → Extends old new → (ms : List Multiplier) (ls : List CertLine)
+    → AllZip (IsOwnLine old) ms ls → AllZip (IsOwnLine new) ms ls
+own_on old new extends [] [] own = tt
+own_on old new extends [] (l ∷ ls) own = absurd own
+own_on old new extends (m ∷ ms) [] own = absurd own
+own_on old new extends (m ∷ ms) (l ∷ ls) own = ((at_still old new extends m.cut l.cut own.0.0, own.0.1), own_on old new extends ms ls own.1)
+
+-- it stays the plan's by indices
+pub cert_on : (old new : List CutLine) → Extends old new → (plan : Plan) (cert : BoxCert) → IsOwnCert old plan cert → IsOwnCert new plan cert
+cert_on old new extends plan cert own = record { den = own.den; named = own_on old new extends cert.lines plan.certificate.lines own.named }
+
+-- an aim stays one
+pub aim_on : (a : Aim) (old new : List CutLine) → Extends old new → IsAim old a → IsAim new a
+aim_on a old new extends is = record {
+  survivable = is.survivable;
+  demands = is.demands;
+  routed = is.routed;
+  own = cert_on old new extends a.plan.now a.own.now is.own;
+}
+
+-- ---- what lines show
+
+module _ (p : Case) (plan : Plan) (old new : List Tested) (extends : Extends old new) where
+  names_on : (i : ℕ) (line : Inequality) → names_by old false i line → names_by new false i line
+  names_on i line names = subst (λ (tested : List Tested). names_by tested false i line) (sym extends.is) (tested_front old extends.more false i line names)
 
   pub valued_on : (box : TreeBox) (v : Valued) → IsValued p plan old box v → IsValued p plan new box v
-  valued_on box v is = record { has = value_more (NamesLine p old) (NamesLine p new) names_on p.links box v.cert v.value is.has; least = is.least }
+  valued_on box v is = record { has = value_map (names_by old false) (names_by new false) names_on p.links box v.cert v.value is.has; least = is.least }
 
   module _ (handed : List CutLine) (n m : ℕ) (le : n ≤ m) where
     open_on : (box : TreeBox) (o : OpenBox) → IsOpenBox p plan handed old n box o → IsOpenBox p plan handed new m box o
@@ -96,7 +132,7 @@ module _ (p : Case) (plan : Plan) (old new : List CutLine) (extends : Extends ol
 
     -- what is known of the box at a place, also where there are more splits
     pub twig_on : (box : TreeBox) (t : Twig) → IsTwigOf p plan handed old n box t → IsTwigOf p plan handed new m box t
-    twig_on box (twig.Settled node) is = (holds_more (NamesLine p old) (NamesLine p new) names_on p plan.cost box node is.0, is.1)
+    twig_on box (twig.Settled node) is = (holds_map (names_by old false) (names_by new false) names_on p plan.cost box node is.0, is.1)
     twig_on box (twig.Stuck v evidence) is = record { valued = valued_on box v is.valued; below = is.below; fixed = is.fixed; form = is.form; wide = is.wide }
     twig_on box (twig.Open o) is = open_on box o is
 
@@ -110,15 +146,6 @@ module _ (p : Case) (plan : Plan) (old new : List CutLine) (extends : Extends ol
     splits = is.splits;
     few = is.few;
   }
-
--- an aim stays one
-pub aim_on : (a : Aim) (old new : List CutLine) → Extends old new → IsAim old a → IsAim new a
-aim_on a old new extends is = record {
-  survivable = is.survivable;
-  demands = is.demands;
-  routed = is.routed;
-  own = own_on (aimed a) a.plan.now old new extends a.own.now is.own;
-}
 
 pub cuts_most : (s : Search) → length s.known.cuts ≤ most_cuts s
 cuts_most s = first_of (omega arith, grind arith)

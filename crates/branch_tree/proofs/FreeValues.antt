@@ -9,11 +9,11 @@ use Rattle.module_prices.proofs.Divisors.{rounded_up}
 use Rattle.plan_terms.proofs.Bounds.{bound_free, bound_rounded, bound_unique, divisor_both, divisor_none, divisor_one}
 use Rattle.plan_terms.specs.Terms.{IsBound, IsGreatestDivisor, IsModule, Link, Module, charges, sum_below}
 use Rattle.tree_check.specs.Boxes.{any_count, span_at}
-use Rattle.tree_check.specs.BoxValues.{AreNamedBy, HasBoxValue, IsBoxCertificate, IsBoxValue, WeightedLine, all_gains, all_losses, certain_setup, certain_setups, module_charge, module_costs, module_gain, module_loss, value_gains, value_losses}
-use Rattle.tree_check.specs.Lines.{entry, module_number, over_modules}
+use Rattle.line_check.specs.Inequalities.{AreNamedBy, WeightedLine, entry, module_number, over_modules}
+use Rattle.tree_check.specs.BoxValues.{HasBoxValue, IsBoxCertificate, IsBoxValue, all_gains, all_losses, certain_setup, certain_setups, module_charge, module_costs, module_gain, module_loss, value_gains, value_losses}
 use Rattle.tree_check.specs.Trees.{TreeBox}
 use Rattle.tree_check.specs.declared.boxes.Span.{Span}
-use Rattle.tree_check.specs.declared.line.Line.{Line}
+use Rattle.line_check.specs.declared.inequality.Inequality.{Inequality}
 use Rattle.branch_tree.specs.Proving.{HasFreeValue}
 use Rattle.branch_tree.specs.inner.Growing.{AreLow}
 
@@ -161,7 +161,7 @@ free_once links box a b one other =
     let raw : ℕ = value_gains links box 1 [] - value_losses links box 1 [] in
     bound_unique links raw 1 raw 1 a b (omega arith) (omega arith) refl one.rounded other.rounded
 
-module _ (names : ℕ → Line → Type 0) (links : List Link) (box : TreeBox) (value : ℕ) where
+module _ (names : ℕ → Inequality → Type 0) (links : List Link) (box : TreeBox) (value : ℕ) where
   pub free_has_value : HasFreeValue links box value → HasBoxValue names links box (record { den = 1; lines = [] }) value
   free_has_value is = record { terms = []; named = tt; is = is }
 

@@ -8,7 +8,6 @@ pub mod LeastCosts
 pub mod Loads
 pub mod Looking
 pub mod Lowering
-pub mod MoreCuts
 pub mod Opened
 pub mod OwnValues
 pub mod Placing

@@ -1,5 +1,5 @@
 -- what is found at a box
-use Rattle.std.proofs.Common.{◌≡◌, ℕ, ◌+◌, ◌^◌, ◌≤◌, ◌<◌, List, [], ◌∷◌, ◌++◌, All, Some, get_or, length, map, take, refl, subst, sym, arith, slice_get}
+use Rattle.std.proofs.Common.{◌≡◌, ℕ, ◌+◌, ◌^◌, ◌≤◌, ◌<◌, false, List, [], ◌∷◌, ◌++◌, All, Some, get_or, length, map, take, refl, subst, sym, arith, slice_get}
 use Rattle.net_core.proofs.Library.{All-map, All-take, All-weaker, slice_get-get_or}
 use Rattle.net_core.proofs.Networks.{few_links}
 use Rattle.module_choice.proofs.Carrying.{network_links}
@@ -8,7 +8,9 @@ use Rattle.plan_terms.specs.Terms.{AreCounts, AreDemands, Case, CutLine, Evidenc
 use Rattle.plan_types.specs.declared.plan.Plan.{Plan}
 use Rattle.tree_check.specs.Boxes.{IsFixedBox, least_counts}
 use Rattle.tree_check.specs.BoxValues.{HasBoxValue, IsEmptiedBy}
-use Rattle.tree_check.specs.Lines.{NamesLine, line_of_cut}
+use Rattle.line_check.specs.Inequalities.{line_of_cut}
+use Rattle.line_check.specs.Testing.{names_by}
+use Rattle.line_check.specs.declared.tested.Tested.{Tested}
 use Rattle.tree_check.specs.Proofs.{EmptiesBox}
 use Rattle.tree_check.specs.Trees.{TreeBox}
 use Rattle.tree_check.specs.declared.boxes.Span.{Span}
@@ -18,47 +20,48 @@ use Rattle.branch_tree.specs.declared.certs.Valued.{Valued}
 use Rattle.branch_tree.specs.declared.found.Cheaper.{Cheaper}
 use Rattle.branch_tree.specs.declared.found.Found.TheVariants as found
 use Rattle.branch_tree.specs.declared.twigs.Twig.TheVariants as twig
-use Rattle.branch_tree.specs.inner.Growing.{AreCheaperCounts, IsFoundAt, IsSearchBox, IsValued}
+use Rattle.branch_tree.specs.declared.known.Known.{Known}
+use Rattle.branch_tree.specs.inner.Growing.{AreCheaperCounts, IsFoundAt, IsKnown, IsSearchBox, IsValued}
 use Rattle.branch_tree.proofs.Extending.{low_box}
 use Rattle.branch_tree.proofs.FreeValues.{free_value}
 use Rattle.branch_tree.proofs.LeastCosts.{free_reaches}
-use Rattle.branch_tree.proofs.OwnValues.{place_names}
+use Rattle.branch_tree.proofs.Knowing.{place_names}
 use Rattle.branch_tree.proofs.ViolatedCuts.{violated_empties}
 use Rattle.branch_tree.proofs.WideForms.{wide_form}
 
 -- ---- settled boxes
 
 -- a certificate of at least the plan's cost
-pub closed_found : (p : Case) (plan : Plan) (handed cuts : List CutLine) (n : ℕ) (box : TreeBox) (v : Valued) → HasBoxValue (NamesLine p cuts) p.links box v.cert v.value
-    → plan.cost ≤ v.value → IsFoundAt p plan handed cuts n box (found.Twig (twig.Settled (Closed v.cert)))
-closed_found p plan handed cuts n box v has reaches = ((record { value = v.value; has = has; reaches = reaches }, tt), refl)
+pub closed_found : (p : Case) (plan : Plan) (handed : List CutLine) (tested : List Tested) (n : ℕ) (box : TreeBox) (v : Valued) → HasBoxValue (names_by tested false) p.links box v.cert v.value
+    → plan.cost ≤ v.value → IsFoundAt p plan handed tested n box (found.Twig (twig.Settled (Closed v.cert)))
+closed_found p plan handed tested n box v has reaches = ((record { value = v.value; has = has; reaches = reaches }, tt), refl)
 
 -- a cut that empties it
-pub empty_found : (p : Case) (plan : Plan) (handed cuts : List CutLine) (n : ℕ) (box : TreeBox) (i : ℕ) → EmptiesBox (NamesLine p cuts) p.links box i
-    → IsFoundAt p plan handed cuts n box (found.Twig (twig.Settled (Empty i)))
-empty_found p plan handed cuts n box i empties = ((empties, tt), refl)
+pub empty_found : (p : Case) (plan : Plan) (handed : List CutLine) (tested : List Tested) (n : ℕ) (box : TreeBox) (i : ℕ) → EmptiesBox (names_by tested false) p.links box i
+    → IsFoundAt p plan handed tested n box (found.Twig (twig.Settled (Empty i)))
+empty_found p plan handed tested n box i empties = ((empties, tt), refl)
 
 -- a greater value
-pub valued_more : (p : Case) (plan : Plan) (cuts : List CutLine) (box : TreeBox) (old new : Valued) → IsValued p plan cuts box old
-    → HasBoxValue (NamesLine p cuts) p.links box new.cert new.value → old.value ≤ new.value → IsValued p plan cuts box new
-valued_more p plan cuts box old new is has more = record { has = has; least = λ value plans. omega (arith, is.least value plans, more) }
+pub valued_more : (p : Case) (plan : Plan) (tested : List Tested) (box : TreeBox) (old new : Valued) → IsValued p plan tested box old
+    → HasBoxValue (names_by tested false) p.links box new.cert new.value → old.value ≤ new.value → IsValued p plan tested box new
+valued_more p plan tested box old new is has more = record { has = has; least = λ value plans. omega (arith, is.least value plans, more) }
 
 -- a box that no cut empties, and whose best certificate doesn't close it
-pub unsettled_box : (p : Case) (plan : Plan) (cuts : List CutLine) (n : ℕ) (box : TreeBox) (v : Valued) → All (IsCut p) cuts
-    → ((i : ℕ) → EmptiesBox (NamesLine p cuts) p.links box i → ⊥) → IsValued p plan cuts box v → ((value : ℕ) → HasFreeValue p.links box value → value ≤ v.value)
-    → v.value < plan.cost → IsUnsettled p.links plan (take n cuts) box
-unsettled_box p plan cuts n box v sound none valued free below = record {
-  unemptied = All-take (λ (cut : CutLine). IsEmptiedBy p.links box (line_of_cut p.links cut) → ⊥) n cuts
-      (λ k d lt empties. none k (line_of_cut p.links (get_or cuts k d), place_names p cuts k (get_or cuts k d) sound (slice_get-get_or cuts k d lt), empties));
+pub unsettled_box : (p : Case) (plan : Plan) (k : Known) (n : ℕ) (box : TreeBox) (v : Valued) → IsKnown p k
+    → ((i : ℕ) → EmptiesBox (names_by k.tested false) p.links box i → ⊥) → IsValued p plan k.tested box v → ((value : ℕ) → HasFreeValue p.links box value → value ≤ v.value)
+    → v.value < plan.cost → IsUnsettled p.links plan (take n k.cuts) box
+unsettled_box p plan k n box v known none valued free below = record {
+  unemptied = All-take (λ (cut : CutLine). IsEmptiedBy p.links box (line_of_cut p.links cut) → ⊥) n k.cuts
+      (λ i d lt empties. none i (line_of_cut p.links (get_or k.cuts i d), place_names p k known i (get_or k.cuts i d) (slice_get-get_or k.cuts i d lt), empties));
   by_plan = λ value plans. omega (arith, valued.least value plans, below);
   by_none = λ value frees. omega (arith, free value frees, below);
 }
 
 -- a box that has to be split
-pub open_found : (p : Case) (plan : Plan) (handed cuts : List CutLine) (n : ℕ) (box : TreeBox) (v : Valued) (rank seen : ℕ) → IsSearchBox p.links n box → IsValued p plan cuts box v
+pub open_found : (p : Case) (plan : Plan) (handed : List CutLine) (tested : List Tested) (n : ℕ) (box : TreeBox) (v : Valued) (rank seen : ℕ) → IsSearchBox p.links n box → IsValued p plan tested box v
     → v.value < plan.cost → IsUnsettled p.links plan handed box → (IsFixedBox box → ⊥)
-    → IsFoundAt p plan handed cuts n box (found.Twig (twig.Open (record { boxed = box; best = v; rank = rank; seen = seen })))
-open_found p plan handed cuts n box v rank seen is valued below unsettled unfixed =
+    → IsFoundAt p plan handed tested n box (found.Twig (twig.Open (record { boxed = box; best = v; rank = rank; seen = seen })))
+open_found p plan handed tested n box v rank seen is valued below unsettled unfixed =
     (record { same = refl; search_box = is; valued = valued; below = below; unsettled = unsettled; unfixed = unfixed }, refl)
 
 -- ---- boxes of one choice of counts
@@ -68,13 +71,15 @@ last_at [] x = refl
 last_at (y ∷ xs) x = last_at xs x
 
 -- a cut that its counts violate is put last
-pub violated_found : (p : Case) (plan : Plan) (handed cuts more : List CutLine) (cut : CutLine) (n i : ℕ) (box : TreeBox) → i ≡ length cuts → AreCounts p.links (least_counts box) → IsFixedBox box
-    → more ≡ cuts ++ cut ∷ [] → All (IsCut p) more → IsCut p cut → Violates (whole_caps (capacities p.links (least_counts box))) cut
-    → IsFoundAt p plan handed more n box (found.Twig (twig.Settled (Empty i)))
-violated_found p plan handed cuts more cut n i box last shape fixed is sound of violated =
-    empty_found p plan handed more n box i (
+pub violated_found : (p : Case) (plan : Plan) (handed : List CutLine) (old new : Known) (cut : CutLine) (n i : ℕ) (box : TreeBox) → i ≡ length old.cuts
+    → AreCounts p.links (least_counts box) → IsFixedBox box → new.cuts ≡ old.cuts ++ cut ∷ [] → IsKnown p new → IsCut p cut
+    → Violates (whole_caps (capacities p.links (least_counts box))) cut → IsFoundAt p plan handed new.tested n box (found.Twig (twig.Settled (Empty i)))
+violated_found p plan handed old new cut n i box last shape fixed is known of violated =
+    let there : slice_get new.cuts i ≡ Some cut = subst (λ (k : ℕ). slice_get new.cuts k ≡ Some cut) (sym last)
+    (subst (λ (cs : List CutLine). slice_get cs (length old.cuts) ≡ Some cut) (sym is) (last_at old.cuts cut)) in
+    empty_found p plan handed new.tested n box i (
       line_of_cut p.links cut,
-      place_names p more i cut sound (subst (λ (k : ℕ). slice_get more k ≡ Some cut) (sym last) (subst (λ (cs : List CutLine). slice_get cs (length cuts) ≡ Some cut) (sym is) (last_at cuts cut))),
+      place_names p new known i cut there,
       violated_empties p.links box shape fixed cut of.kept.count violated,
     )
 
@@ -105,10 +110,10 @@ low_counts links n box few is =
     box is.low)
 
 -- evidence that a number is too wide at its counts
-pub stuck_found : (p : Case) (plan : Plan) (handed cuts : List CutLine) (n : ℕ) (box : TreeBox) (v : Valued) (evidence : Evidence) → ∥ IsNetwork p.nodes p.links ∥₁ → AreDemands (length p.nodes) p.demands
-    → IsSearchBox p.links n box → n ≤ 2 ^ 14 → IsFixedBox box → IsValued p plan cuts box v → v.value < plan.cost → IsWideSomewhere p (whole_caps (capacities p.links (least_counts box))) evidence
-    → IsFoundAt p plan handed cuts n box (found.Twig (twig.Stuck v evidence))
-stuck_found p plan handed cuts n box v evidence network demands is few fixed valued below wide = (
+pub stuck_found : (p : Case) (plan : Plan) (handed : List CutLine) (tested : List Tested) (n : ℕ) (box : TreeBox) (v : Valued) (evidence : Evidence) → ∥ IsNetwork p.nodes p.links ∥₁ → AreDemands (length p.nodes) p.demands
+    → IsSearchBox p.links n box → n ≤ 2 ^ 14 → IsFixedBox box → IsValued p plan tested box v → v.value < plan.cost → IsWideSomewhere p (whole_caps (capacities p.links (least_counts box))) evidence
+    → IsFoundAt p plan handed tested n box (found.Twig (twig.Stuck v evidence))
+stuck_found p plan handed tested n box v evidence network demands is few fixed valued below wide = (
   record {
     valued = valued;
     below = below;

@@ -1,47 +1,47 @@
 -- a plan's certificate, by the indices of its cuts
-use Rattle.std.proofs.Common.{◌≡◌, ℕ, ◌+◌, ◌<◌, List, [], ◌∷◌, ◌++◌, All, Some, get_or, length, map, refl, ap, sym, subst, ◌∙◌, slice_get, take}
+use Rattle.std.proofs.Common.{◌≡◌, ℕ, ◌+◌, ◌<◌, false, List, [], ◌∷◌, ◌++◌, Some, get_or, length, map, refl, ap, sym, subst, ◌∙◌, slice_get, take}
 use Rattle.std.proofs.lemmas.List.{take_more}
-use Rattle.net_core.proofs.Library.{get_or_from_slice_get, map-append, slice_get_within}
+use Rattle.std.specs.List.{AllZip}
 use Rattle.master_bound.specs.declared.answer.Multiplier.{Multiplier}
-use Rattle.plan_terms.specs.Terms.{Case, CutLine, IsCut, Link}
+use Rattle.plan_terms.specs.Terms.{Case, CutLine, Link}
 use Rattle.plan_types.specs.declared.certificate.CertLine.{CertLine}
 use Rattle.plan_types.specs.declared.plan.Plan.{Plan}
-use Rattle.tree_check.specs.BoxValues.{AreNamedBy, HasBoxValue, IsBoxValue, WeightedLine}
-use Rattle.tree_check.specs.Lines.{NamesLine, line_of_cut}
+use Rattle.line_check.specs.Inequalities.{AreNamedBy, WeightedLine, line_of_cut}
+use Rattle.line_check.specs.Testing.{names_by}
+use Rattle.tree_check.specs.BoxValues.{HasBoxValue, IsBoxValue}
 use Rattle.tree_check.specs.Trees.{TreeBox}
 use Rattle.tree_check.specs.declared.proof.BoxCert.{BoxCert}
 use Rattle.branch_tree.specs.Proving.{HasPlanValue, lines_of_plan}
-use Rattle.branch_tree.specs.inner.Growing.{IsOwnCert}
-use Rattle.branch_tree.proofs.Knowing.{zip_push}
+use Rattle.branch_tree.specs.declared.known.Known.{Known}
+use Rattle.branch_tree.specs.inner.Growing.{IsKnown, IsOwnCert}
+use Rattle.branch_tree.proofs.Knowing.{place_names, zip_push}
 
--- the place of a cut names its line
-pub place_names : (p : Case) (cuts : List CutLine) (i : ℕ) (cut : CutLine) → All (IsCut p) cuts → slice_get cuts i ≡ Some cut → NamesLine p cuts i (line_of_cut p.links cut)
-place_names p cuts i cut sound at = record {
-  cut = cut;
-  at = at;
-  of_case = subst (IsCut p) (get_or_from_slice_get cuts i cut cut at) (sound i cut (slice_get_within cuts i cut at));
-  same = refl;
-}
+-- an index with its numerator is a line of the plan's certificate
+abbrev pub IsOwnLine : List CutLine → Multiplier → CertLine → Type 0
+IsOwnLine cuts m l = (slice_get cuts m.cut ≡ Some l.cut) × (m.num ≡ l.num)
 
--- a line of the plan's certificate with its numerator
-abbrev pub weighted_of : List Link → CertLine → WeightedLine
-weighted_of links l = record { line = line_of_cut links l.cut; num = l.num }
+-- a line more
+pub own_more : (cuts : List CutLine) (ms : List Multiplier) (ls : List CertLine) (i cut : ℕ) (l d : CertLine) → i < length ls → l ≡ get_or ls i d
+    → slice_get cuts cut ≡ Some l.cut → AllZip (IsOwnLine cuts) ms (take i ls)
+    → AllZip (IsOwnLine cuts) (ms ++ record { cut = cut; num = l.num } ∷ []) (take (i + 1) ls)
+own_more cuts ms ls i cut l d lt is at so_far =
+    let more : take (i + 1) ls ≡ take i ls ++ l ∷ [] = take_more ls i d lt ∙ ap (λ (x : CertLine). take i ls ++ x ∷ []) (sym is) in
+    subst (AllZip (IsOwnLine cuts) (ms ++ record { cut = cut; num = l.num } ∷ [])) (sym more)
+    (zip_push (IsOwnLine cuts) ms (take i ls) (record { cut = cut; num = l.num }) l so_far (at, refl))
 
-pub own_more : (p : Case) (cuts : List CutLine) (ms : List Multiplier) (ls : List CertLine) (i cut : ℕ) (l d : CertLine) → i < length ls → l ≡ get_or ls i d → All (IsCut p) cuts
-    → slice_get cuts cut ≡ Some l.cut → AreNamedBy (NamesLine p cuts) ms (map (weighted_of p.links) (take i ls))
-    → AreNamedBy (NamesLine p cuts) (ms ++ record { cut = cut; num = l.num } ∷ []) (map (weighted_of p.links) (take (i + 1) ls))
-own_more p cuts ms ls i cut l d lt is sound at named =
-    let more : map (weighted_of p.links) (take (i + 1) ls) ≡ map (weighted_of p.links) (take i ls) ++ weighted_of p.links l ∷ [] =
-    ap (map (weighted_of p.links)) (take_more ls i d lt) ∙ (map-append (weighted_of p.links) (take i ls) (get_or ls i d ∷ []) ∙ ap (λ (x : CertLine). map (weighted_of p.links) (take i ls) ++ weighted_of p.links x ∷ []) (sym is)) in
-    subst (AreNamedBy (NamesLine p cuts) (ms ++ record { cut = cut; num = l.num } ∷ [])) (sym more)
-    (zip_push (λ (m : Multiplier) (t : WeightedLine). NamesLine p cuts m.cut t.line × (m.num ≡ t.num)) ms (map (weighted_of p.links) (take i ls)) (record { cut = cut; num = l.num }) (weighted_of p.links l)
-    named (place_names p cuts cut l.cut sound at, refl))
+module _ (p : Case) (k : Known) (known : IsKnown p k) where
+  own_named : (ms : List Multiplier) (ls : List CertLine) → AllZip (IsOwnLine k.cuts) ms ls
+      → AreNamedBy (names_by k.tested false) ms (map (λ (l : CertLine). record { line = line_of_cut p.links l.cut; num = l.num }) ls)
+  own_named [] [] own = tt
+  own_named [] (l ∷ ls) own = absurd own
+  own_named (m ∷ ms) [] own = absurd own
+  own_named (m ∷ ms) (l ∷ ls) own = ((place_names p k known m.cut l.cut own.0.0, own.0.1), own_named ms ls own.1)
 
--- a value that the plan's certificate has is that of the certificate by indices
-pub own_has : (p : Case) (cuts : List CutLine) (plan : Plan) (cert : BoxCert) (box : TreeBox) (value : ℕ) → IsOwnCert p cuts plan cert
-    → HasPlanValue p.links plan.certificate box value → HasBoxValue (NamesLine p cuts) p.links box cert value
-own_has p cuts plan cert box value own is = record {
-  terms = lines_of_plan p.links plan.certificate;
-  named = own.named;
-  is = subst (λ (den : ℕ). IsBoxValue p.links box den (lines_of_plan p.links plan.certificate) value) (sym own.den) is;
-}
+  -- a value that the plan's certificate has is that of the certificate by indices
+  pub own_has : (plan : Plan) (cert : BoxCert) (box : TreeBox) (value : ℕ) → IsOwnCert k.cuts plan cert
+      → HasPlanValue p.links plan.certificate box value → HasBoxValue (names_by k.tested false) p.links box cert value
+  own_has plan cert box value own is = record {
+    terms = lines_of_plan p.links plan.certificate;
+    named = own_named cert.lines plan.certificate.lines own.named;
+    is = subst (λ (den : ℕ). IsBoxValue p.links box den (lines_of_plan p.links plan.certificate) value) (sym own.den) is;
+  }

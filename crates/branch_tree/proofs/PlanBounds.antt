@@ -11,10 +11,10 @@ use Rattle.plan_types.specs.Terms.{IsCertifiedPlan, lines_of_certificate}
 use Rattle.plan_types.specs.declared.certificate.CertLine.{CertLine}
 use Rattle.plan_types.specs.declared.plan.Plan.{Plan}
 use Rattle.tree_check.specs.Boxes.{span_at}
-use Rattle.tree_check.specs.BoxValues.{IsBoxCertificate, WeightedLine, all_losses, asked_right, given_free, module_charge, module_costs, module_price, value_gains, value_losses}
-use Rattle.tree_check.specs.Lines.{coefficients_of, entry, line_of_cut, module_number, over_modules}
+use Rattle.line_check.specs.Inequalities.{WeightedLine, coefficients_of, entry, line_of_cut, module_number, module_price, over_modules}
+use Rattle.tree_check.specs.BoxValues.{IsBoxCertificate, all_losses, asked_right, given_free, module_charge, module_costs, value_gains, value_losses}
 use Rattle.tree_check.specs.Trees.{TreeBox}
-use Rattle.tree_check.proofs.OverModules.{over-same}
+use Rattle.line_check.proofs.OverModules.{over-same}
 use Rattle.branch_tree.specs.Proving.{HasPlanValue, lines_of_plan}
 
 -- ---- bounds

@@ -1,13 +1,11 @@
 -- what a tree that is grown comes to
 use Rattle.std.proofs.Common.{◌≡◌, ◌∙◌, ℕ, zero, suc, ◌+◌, ◌≤◌, ◌<◌, ◌⊎◌, inl, inr, ⊎_elim, ◌↔◌, Bool, true, false, cond, if◌then◌else◌, List, [], ◌∷◌, ◌++◌, Some, All, length, map, slice_get, take, refl, ap, sym, subst, arith}
-use Rattle.std.specs.List.{AllZip}
 use Rattle.net_core.proofs.Library.{cases_Bool, length-map, slice_get_within, sum_by-cons}
 use Rattle.plan_terms.specs.Terms.{Case, CutLine, IsCut}
 use Rattle.plan_types.specs.Terms.{IsCertifiedPlan}
 use Rattle.plan_types.specs.declared.plan.Plan.{Plan}
 use Rattle.plan_swaps.specs.Swaps.{IsCheaperPlan}
 use Rattle.tree_check.specs.Boxes.{whole_box}
-use Rattle.tree_check.specs.Lines.{NamesLine}
 use Rattle.tree_check.specs.Proofs.{HasOpenValue, HoldAllNodes, HoldsNode, IsOpenAt, VerdictFollows}
 use Rattle.tree_check.specs.Trees.{IsWhole, TreeBox, boxes_left}
 use Rattle.tree_check.specs.declared.proof.Node.{Node}
@@ -15,9 +13,11 @@ use Rattle.tree_check.specs.declared.proof.Node.TheVariants.{Split, Closed, Empt
 use Rattle.tree_check.specs.declared.proof.Proof.{Proof}
 use Rattle.tree_check.specs.declared.proof.Verdict.{Verdict}
 use Rattle.tree_check.specs.declared.proof.Verdict.TheVariants.{Cheapest, Above}
-use Rattle.tree_check.specs.declared.tested.Tested.{Tested}
-use Rattle.tree_check.specs.Testing.{IsTestedAs}
-use Rattle.tree_check.proofs.Naming.{value_once}
+use Rattle.line_check.specs.Lines.{NamesLine, sources_of}
+use Rattle.line_check.specs.Testing.{AreTested, names_by}
+use Rattle.line_check.specs.declared.inequality.Inequality.{Inequality}
+use Rattle.line_check.specs.declared.tested.Tested.{Tested}
+use Rattle.tree_check.proofs.Naming.{holds_map, open_map, value_once}
 use Rattle.branch_tree.specs.FewSplits.{IsCheapNode, is_split, split_number}
 use Rattle.branch_tree.specs.Proving.{HasNodeCause, HasOpenLeaf, HasPlanValue, HaveNodeCauses, IsCertificateOfLeaves, IsProofOf}
 use Rattle.branch_tree.specs.inner.Growing.{IsGrowing, IsSettledNode, IsTwigOf}
@@ -76,8 +76,8 @@ same_least a b e = cc e
 no_least : (a : ℕ) → Cheapest ≡ Above a → ⊥
 no_least a e = cc e
 
-module _ (p : Case) (plan : Plan) (handed cuts : List CutLine) (n : ℕ) where
-  holds_of : (box : TreeBox) (t : Twig) → IsTwigOf p plan handed cuts n box t → HoldsNode (NamesLine p cuts) p plan.cost box (node_of t)
+module _ (p : Case) (plan : Plan) (handed cuts : List CutLine) (tested : List Tested) (n : ℕ) where
+  holds_of : (box : TreeBox) (t : Twig) → IsTwigOf p plan handed tested n box t → HoldsNode (names_by tested false) p plan.cost box (node_of t)
   holds_of box (twig.Settled node) is = is.0
   holds_of box (twig.Stuck v evidence) is = ((v.value, is.valued.has), is.fixed, is.form)
   holds_of box (twig.Open o) is = (o.best.value, is.valued.has)
@@ -89,52 +89,59 @@ module _ (p : Case) (plan : Plan) (handed cuts : List CutLine) (n : ℕ) where
   settled_cause limit tree box (Spent cert) is = absurd is
   settled_cause limit tree box (Stuck cert evidence) is = absurd is
 
-  cause_of : (limit : ℕ) (tree : List Node) (box : TreeBox) (t : Twig) → (((o : OpenBox) → t ≡ twig.Open o → ⊥) ⊎ (split_number tree ≡ limit)) → IsTwigOf p plan handed cuts n box t
+  cause_of : (limit : ℕ) (tree : List Node) (box : TreeBox) (t : Twig) → (((o : OpenBox) → t ≡ twig.Open o → ⊥) ⊎ (split_number tree ≡ limit)) → IsTwigOf p plan handed tested n box t
       → HasNodeCause p plan handed limit tree box (node_of t)
   cause_of limit tree box (twig.Settled node) ends is = settled_cause limit tree box node is.1
   cause_of limit tree box (twig.Stuck v evidence) ends is = is.wide
   cause_of limit tree box (twig.Open o) ends is = (⊎_elim (λ (none : (b : OpenBox) → twig.Open o ≡ twig.Open b → ⊥). absurd (none o refl)) (λ reached. reached) ends, is.unfixed, is.unsettled)
 
   -- an open leaf's place is open, and worth less than the plan
-  open_value : (box : TreeBox) (t : Twig) (value : ℕ) → IsTwigOf p plan handed cuts n box t → IsOpenOf t value → HasOpenValue (NamesLine p cuts) p.links box (node_of t) value
+  open_value : (box : TreeBox) (t : Twig) (value : ℕ) → IsTwigOf p plan handed tested n box t → IsOpenOf t value → HasOpenValue (names_by tested false) p.links box (node_of t) value
   open_value box (twig.Settled node) value is opened = absurd opened
-  open_value box (twig.Stuck v evidence) value is opened = subst (λ k. HasOpenValue (NamesLine p cuts) p.links box (Stuck v.cert evidence) k) opened is.valued.has
-  open_value box (twig.Open o) value is opened = subst (λ k. HasOpenValue (NamesLine p cuts) p.links box (Spent o.best.cert) k) opened is.valued.has
+  open_value box (twig.Stuck v evidence) value is opened = subst (λ k. HasOpenValue (names_by tested false) p.links box (Stuck v.cert evidence) k) opened is.valued.has
+  open_value box (twig.Open o) value is opened = subst (λ k. HasOpenValue (names_by tested false) p.links box (Spent o.best.cert) k) opened is.valued.has
 
-  open_below : (box : TreeBox) (t : Twig) (value : ℕ) → IsTwigOf p plan handed cuts n box t → IsOpenOf t value → value < plan.cost
+  open_below : (box : TreeBox) (t : Twig) (value : ℕ) → IsTwigOf p plan handed tested n box t → IsOpenOf t value → value < plan.cost
   open_below box (twig.Settled node) value is opened = absurd opened
   open_below box (twig.Stuck v evidence) value is opened = let low = is.below in let same : v.value ≡ value = opened in omega (arith, low, same)
   open_below box (twig.Open o) value is opened = let low = is.below in let same : o.best.value ≡ value = opened in omega (arith, low, same)
 
   -- what a plan's certificate is worth for it is no more
-  open_least : IsCertifiedPlan p plan → (box : TreeBox) (t : Twig) (value : ℕ) → IsTwigOf p plan handed cuts n box t → IsOpenOf t value → (worth : ℕ) → HasPlanValue p.links plan.certificate box worth → worth ≤ value
+  open_least : IsCertifiedPlan p plan → (box : TreeBox) (t : Twig) (value : ℕ) → IsTwigOf p plan handed tested n box t → IsOpenOf t value → (worth : ℕ) → HasPlanValue p.links plan.certificate box worth → worth ≤ value
   open_least certified box (twig.Settled node) value is opened worth has = absurd opened
   open_least certified box (twig.Stuck v evidence) value is opened worth has = let le = is.valued.least worth has in let same : v.value ≡ value = opened in omega (arith, le, same)
   open_least certified box (twig.Open o) value is opened worth has = let le = is.valued.least worth has in let same : o.best.value ≡ value = opened in omega (arith, le, same)
 
-  settled_closed : (box : TreeBox) (node : Node) (value : ℕ) → IsSettledNode p plan handed box node → HasOpenValue (NamesLine p cuts) p.links box node value → ⊥
+  settled_closed : (box : TreeBox) (node : Node) (value : ℕ) → IsSettledNode p plan handed box node → HasOpenValue (names_by tested false) p.links box node value → ⊥
   settled_closed box (Split link at_module number) value is has = has
   settled_closed box (Closed cert) value is has = has
   settled_closed box (Empty cut) value is has = has
   settled_closed box (Spent cert) value is has = is
   settled_closed box (Stuck cert evidence) value is has = is
 
-  module _ (tested : List Tested) (all : AllZip (IsTestedAs p) cuts tested) where
-    -- a leaf that is open has the value of its place
-    opened_of : (box : TreeBox) (t : Twig) (value : ℕ) → IsTwigOf p plan handed cuts n box t → HasOpenValue (NamesLine p cuts) p.links box (node_of t) value → IsOpenOf t value
-    opened_of box (twig.Settled node) value is has = settled_closed box node value is.1 has
-    opened_of box (twig.Stuck v evidence) value is has = value_once p cuts tested all p.links box v.cert v.value value is.valued.has has
-    opened_of box (twig.Open o) value is has = value_once p cuts tested all p.links box o.best.cert o.best.value value is.valued.has has
+  -- what indices name by the tests is what they name by the cuts
+  module _ (are : AreTested p (sources_of cuts []) tested) where
+    by_cuts : (i : ℕ) (line : Inequality) → names_by tested false i line → NamesLine p (sources_of cuts []) i line
+    by_cuts i line names = (are.names false i line).1 names
 
-    module _ (twigs : List Twig) (growing : IsGrowing p plan handed cuts n twigs) where
+    by_tests : (i : ℕ) (line : Inequality) → NamesLine p (sources_of cuts []) i line → names_by tested false i line
+    by_tests i line names = (are.names false i line).0 names
+
+    -- a leaf that is open has the value of its place
+    opened_of : (box : TreeBox) (t : Twig) (value : ℕ) → IsTwigOf p plan handed tested n box t → HasOpenValue (names_by tested false) p.links box (node_of t) value → IsOpenOf t value
+    opened_of box (twig.Settled node) value is has = settled_closed box node value is.1 has
+    opened_of box (twig.Stuck v evidence) value is has = value_once tested p.links box v.cert v.value value is.valued.has has
+    opened_of box (twig.Open o) value is has = value_once tested p.links box o.best.cert o.best.value value is.valued.has has
+
+    module _ (twigs : List Twig) (growing : IsGrowing p plan handed tested n twigs) where
       abbrev shown : Shown
       shown = all_shown plan.cost twigs
 
       abbrev pub proof_of : Proof
-      proof_of = record { plan = plan; cuts = cuts; tree = map node_of twigs; verdict = verdict_of shown }
+      proof_of = record { plan = plan; cuts = cuts; lines = []; tree = map node_of twigs; verdict = verdict_of shown }
 
       abbrev known : TreeBox → Twig → Type 0
-      known = IsTwigOf p plan handed cuts n
+      known = IsTwigOf p plan handed tested n
 
       hold_all : HoldAllNodes p proof_of
       hold_all i lt =
@@ -143,7 +150,8 @@ module _ (p : Case) (plan : Plan) (handed cuts : List CutLine) (n : ℕ) where
             box = place.box;
             node = node_of place.of;
             is_node = record { at = place.at; later = place.later; next = place.next };
-            holds = holds_of place.box place.of place.here;
+            holds = holds_map (names_by tested false) (NamesLine p (sources_of cuts [])) by_cuts p plan.cost place.box (node_of place.of)
+                (holds_of place.box place.of place.here);
           }
 
       whole : IsWhole p.links (map node_of twigs)
@@ -166,7 +174,8 @@ module _ (p : Case) (plan : Plan) (handed cuts : List CutLine) (n : ℕ) where
               box = place.box;
               node = node_of place.of;
               is_node = record { at = place.at; later = place.later; next = place.next };
-              has = open_value place.box place.of value place.here opened;
+              has = open_map (names_by tested false) (NamesLine p (sources_of cuts [])) by_cuts p.links place.box (node_of place.of) value
+                  (open_value place.box place.of value place.here opened);
             };
             of = place.of;
             here = place.here;
@@ -180,7 +189,9 @@ module _ (p : Case) (plan : Plan) (handed cuts : List CutLine) (n : ℕ) where
           record {
             of = there.twig;
             at = there.at;
-            is = opened_of leaf.box there.twig value there.here (subst (λ (node : Node). HasOpenValue (NamesLine p cuts) p.links leaf.box node value) (sym there.same) leaf.has);
+            is = opened_of leaf.box there.twig value there.here
+                (open_map (NamesLine p (sources_of cuts [])) (names_by tested false) by_tests p.links leaf.box (node_of there.twig) value
+                (subst (λ (node : Node). HasOpenValue (NamesLine p (sources_of cuts [])) p.links leaf.box node value) (sym there.same) leaf.has));
           }
 
       -- something is open where the verdict says so
@@ -278,6 +289,7 @@ module _ (p : Case) (plan : Plan) (handed cuts : List CutLine) (n : ℕ) where
           record {
             plan = cheaper;
             cuts = first;
+            lines = refl;
             sound = sound;
             few = omega (arith, length-map twigs node_of, long, within, few);
             accepted = record { hold = hold_all; whole = whole; follows = follows };

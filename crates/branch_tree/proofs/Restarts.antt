@@ -18,7 +18,7 @@ use Rattle.branch_tree.specs.declared.aim.Aim.{Aim}
 use Rattle.branch_tree.specs.declared.evaluation.Search.{Search}
 use Rattle.branch_tree.specs.declared.tree.Tree.{Tree}
 use Rattle.branch_tree.specs.declared.found.Cheaper.{Cheaper}
-use Rattle.branch_tree.proofs.Extending.{handed_same, own_on}
+use Rattle.branch_tree.proofs.Extending.{cert_on, handed_same}
 use Rattle.branch_tree.proofs.Proved.{is_proof}
 
 -- the first of the first
@@ -44,8 +44,8 @@ module _ (p : Case) where
   pub certified_still : (a b : Plan) → IsCheaperPlan p a b → IsCertifiedPlan p a → IsCertifiedPlan p b
   certified_still a b cheaper is = subst (λ (x : Plan). IsCertifiedPlan p x) (sym cheaper.same) (record { certificate = is.certificate; raw = is.raw; rounded = is.rounded })
 
-  pub own_still : (cuts : List CutLine) (a b : Plan) (cert : BoxCert) → IsCheaperPlan p a b → IsOwnCert p cuts a cert → IsOwnCert p cuts b cert
-  own_still cuts a b cert cheaper is = subst (λ (x : Plan). IsOwnCert p cuts x cert) (sym cheaper.same) (record { den = is.den; named = is.named })
+  pub own_still : (cuts : List CutLine) (a b : Plan) (cert : BoxCert) → IsCheaperPlan p a b → IsOwnCert cuts a cert → IsOwnCert cuts b cert
+  own_still cuts a b cert cheaper is = subst (λ (x : Plan). IsOwnCert cuts x cert) (sym cheaper.same) (record { den = is.den; named = is.named })
 
   pub demands_still : (a b : Plan) → IsCheaperPlan p a b → b.demands ≡ a.demands
   demands_still a b cheaper = ap (λ (x : Plan). x.demands) cheaper.same
@@ -58,6 +58,7 @@ module _ (p : Case) where
   proof_still a b handed limit proof cheaper is = record {
     plan = cheaper_both a b proof.plan cheaper is.plan;
     cuts = is.cuts;
+    lines = is.lines;
     sound = is.sound;
     few = is.few;
     accepted = is.accepted;
@@ -112,17 +113,17 @@ begun_search p old new was known test handed cuts =
 
 -- the first cuts come first
 front_extends : (n : ℕ) (cuts : List CutLine) → Extends (take n cuts) cuts
-front_extends n cuts = (drop n cuts, sym (take-append-drop n cuts))
+front_extends n cuts = record { more = drop n cuts; is = sym (take-append-drop n cuts) }
 
 -- an aim at the given plan or a cheaper one
 pub aim_of : (a : Aim) (given : Plan) (s : Search) (handed : List CutLine) → IsSurvivable (aimed a) → given.demands ≡ (aimed a).demands → IsCheaperPlan (aimed a) given a.plan.now
-    → handed_in s ≡ handed → IsOwnCert (aimed a) handed given a.own.now → IsAim s.known.cuts a
+    → handed_in s ≡ handed → IsOwnCert handed given a.own.now → IsAim s.known.cuts a
 aim_of a given s handed survivable same cheaper first own = record {
   survivable = survivable;
   demands = demands_still (aimed a) given a.plan.now cheaper ∙ same;
   routed = cheaper.routed;
-  own = own_on (aimed a) a.plan.now (handed_in s) s.known.cuts (front_extends s.handed s.known.cuts) a.own.now
-      (subst (λ (cuts : List CutLine). IsOwnCert (aimed a) cuts a.plan.now a.own.now) (sym first) (own_still (aimed a) handed given a.plan.now a.own.now cheaper own));
+  own = cert_on (handed_in s) s.known.cuts (front_extends s.handed s.known.cuts) a.plan.now a.own.now
+      (subst (λ (cuts : List CutLine). IsOwnCert cuts a.plan.now a.own.now) (sym first) (own_still (aimed a) handed given a.plan.now a.own.now cheaper own));
 }
 
 -- the handed-in cuts are the first ones of a longer list too
@@ -133,20 +134,20 @@ first_again old new inside learned =
 
 -- a tree that is grown is a proof of the given plan or a cheaper one
 pub grown_proof : (p : Case) (given plan : Plan) (old new : Search) (tree : Tree) (limit : ℕ) → IsCheaperPlan p given plan → IsCertifiedPlan p given → limit ≤ 9999 → IsSearch p old → IsSearch p new → HasLearned old new
-    → IsGrownTree p plan (handed_in old) new.known.cuts limit tree
-    → IsProofOf p given (handed_in old) limit (record { plan = plan; cuts = new.known.cuts; tree = map node_of tree.twigs.items; verdict = verdict_of (all_shown plan.cost tree.twigs.items) })
+    → IsGrownTree p plan (handed_in old) new.known.tested limit tree
+    → IsProofOf p given (handed_in old) limit (record { plan = plan; cuts = new.known.cuts; lines = []; tree = map node_of tree.twigs.items; verdict = verdict_of (all_shown plan.cost tree.twigs.items) })
 grown_proof p given plan old new tree limit cheaper certified few was now learned is =
-    is_proof p plan (handed_in old) new.known.cuts is.n new.known.tested now.known.tested tree.twigs.items is.growing given limit now.known.sound cheaper (first_again old new was.inside learned) (certified_still p given plan cheaper certified) is.within few is.ends
+    is_proof p plan (handed_in old) new.known.cuts new.known.tested is.n now.known.tested tree.twigs.items is.growing given limit now.known.sound cheaper (first_again old new was.inside learned) (certified_still p given plan cheaper certified) is.within few is.ends
 
 -- and so is a value that is made of it
 pub made_proof : (p : Case) (given plan : Plan) (old new : Search) (tree : Tree) (limit : ℕ) (handed : List CutLine) → handed_in old ≡ handed → IsCheaperPlan p given plan → IsCertifiedPlan p given → limit ≤ 9999
-    → IsSearch p old → IsSearch p new → HasLearned old new → IsGrownTree p plan (handed_in old) new.known.cuts limit tree
-    → (made : Proof) → made ≡ record { plan = plan; cuts = new.known.cuts; tree = map node_of tree.twigs.items; verdict = verdict_of (all_shown plan.cost tree.twigs.items) }
+    → IsSearch p old → IsSearch p new → HasLearned old new → IsGrownTree p plan (handed_in old) new.known.tested limit tree
+    → (made : Proof) → made ≡ record { plan = plan; cuts = new.known.cuts; lines = []; tree = map node_of tree.twigs.items; verdict = verdict_of (all_shown plan.cost tree.twigs.items) }
     → IsProofOf p given handed limit made
 made_proof p given plan old new tree limit handed same cheaper certified few was now learned is made as_is =
     subst (λ (proof : Proof). IsProofOf p given handed limit proof) (sym as_is)
     (subst
-    (λ (cuts : List CutLine). IsProofOf p given cuts limit (record { plan = plan; cuts = new.known.cuts; tree = map node_of tree.twigs.items; verdict = verdict_of (all_shown plan.cost tree.twigs.items) }))
+    (λ (cuts : List CutLine). IsProofOf p given cuts limit (record { plan = plan; cuts = new.known.cuts; lines = []; tree = map node_of tree.twigs.items; verdict = verdict_of (all_shown plan.cost tree.twigs.items) }))
     same
     (grown_proof p given plan old new tree limit cheaper certified few was now learned is))
 

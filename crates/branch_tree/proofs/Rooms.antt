@@ -9,7 +9,7 @@ use Rattle.net_core.proofs.Library.{recursion_from_All, length-replicate}
 use Rattle.plan_terms.specs.Terms.{Link, Module}
 use Rattle.tree_check.specs.Boxes.{IsSplitOf, any_count, beyond, lower_side, span_at, spans_of, up_to, upper_side, whole_box}
 use Rattle.tree_check.specs.BoxValues.{module_costs}
-use Rattle.tree_check.specs.Lines.{entry}
+use Rattle.line_check.specs.Inequalities.{entry}
 use Rattle.tree_check.specs.Trees.{TreeBox, boxes_left, sides_of}
 use Rattle.tree_check.specs.declared.boxes.Span.{Span}
 use Rattle.tree_check.specs.declared.proof.Node.{Node}

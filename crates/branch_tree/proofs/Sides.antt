@@ -93,10 +93,10 @@ whole_searched links = record { shape = whole_shape links; some = any_some links
 -- what was found at the lower side, and then at the upper one
 pub sides_found : (p : Case) (plan : Plan) (n : ℕ) (box : TreeBox) (c : Choice) (before between after : Search) (lower upper : Twig)
     → before.handed ≤ length before.known.cuts → HasLearned before between → HasLearned between after
-    → IsFoundAt p plan (handed_in before) between.known.cuts n (lower_side box c.place.link c.place.module c.at) (found.Twig lower)
-    → IsFoundAt p plan (handed_in between) after.known.cuts n (upper_side box c.place.link c.place.module c.at) (found.Twig upper)
-    → AreSidesOf p plan (handed_in before) after.known.cuts n box c (sides.Twigs lower upper)
+    → IsFoundAt p plan (handed_in before) between.known.tested n (lower_side box c.place.link c.place.module c.at) (found.Twig lower)
+    → IsFoundAt p plan (handed_in between) after.known.tested n (upper_side box c.place.link c.place.module c.at) (found.Twig upper)
+    → AreSidesOf p plan (handed_in before) after.known.tested n box c (sides.Twigs lower upper)
 sides_found p plan n box c before between after lower upper inside first second below above = (
-  (twig_on p plan between.known.cuts after.known.cuts second.extends (handed_in before) n n (omega arith) (lower_side box c.place.link c.place.module c.at) lower below.0, below.1),
-  subst (λ (handed : List CutLine). IsFoundAt p plan handed after.known.cuts n (upper_side box c.place.link c.place.module c.at) (found.Twig upper)) (handed_same before between first inside) above,
+  (twig_on p plan between.known.tested after.known.tested second.tested (handed_in before) n n (omega arith) (lower_side box c.place.link c.place.module c.at) lower below.0, below.1),
+  subst (λ (handed : List CutLine). IsFoundAt p plan handed after.known.tested n (upper_side box c.place.link c.place.module c.at) (found.Twig upper)) (handed_same before between first inside) above,
 )

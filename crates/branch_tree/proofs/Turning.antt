@@ -4,6 +4,7 @@ use Rattle.std.proofs.lemmas.List.{length-append}
 use Rattle.net_core.proofs.Library.{slice_get_read, slice_get_within, sum_by-append, sum_by-cons}
 use Rattle.plan_terms.specs.Terms.{Case, CutLine}
 use Rattle.plan_types.specs.declared.plan.Plan.{Plan}
+use Rattle.line_check.specs.declared.tested.Tested.{Tested}
 use Rattle.tree_check.specs.Boxes.{IsSplitOf, lower_side, upper_side, whole_box}
 use Rattle.tree_check.specs.Trees.{TreeBox}
 use Rattle.tree_check.specs.declared.proof.Node.TheVariants.{Split}
@@ -59,32 +60,32 @@ splits_append ts us = sum_by-append (λ (x : Twig). cond (is_split (node_of x)) 
 
 -- ---- trees
 
-module _ (p : Case) (plan : Plan) (handed cuts : List CutLine) where
+module _ (p : Case) (plan : Plan) (handed : List CutLine) (tested : List Tested) where
   -- the tree of one place
-  pub root_growing : (root : Twig) → IsTwigOf p plan handed cuts 0 (whole_box p.links) root → IsLeafTwig root → IsGrowing p plan handed cuts 0 (root ∷ [])
+  pub root_growing : (root : Twig) → IsTwigOf p plan handed tested 0 (whole_box p.links) root → IsLeafTwig root → IsGrowing p plan handed tested 0 (root ∷ [])
   root_growing root is leaf = record {
-    placed = (is, subst (λ (boxes : List TreeBox). AreTwigsOf (IsTwigOf p plan handed cuts 0) (boxes ++ []) []) (sym (leaf_sides (whole_box p.links) (node_of root) leaf)) tt);
+    placed = (is, subst (λ (boxes : List TreeBox). AreTwigsOf (IsTwigOf p plan handed tested 0) (boxes ++ []) []) (sym (leaf_sides (whole_box p.links) (node_of root) leaf)) tt);
     splits = omega (arith, splits_cons root [], no_split root leaf);
     few = refl;
   }
 
-  module _ (n i : ℕ) (twigs : List Twig) (o : OpenBox) (at : slice_get twigs i ≡ Some (twig.Open o)) (growing : IsGrowing p plan handed cuts n twigs) where
+  module _ (n i : ℕ) (twigs : List Twig) (o : OpenBox) (at : slice_get twigs i ≡ Some (twig.Open o)) (growing : IsGrowing p plan handed tested n twigs) where
     -- what is known of an open box
-    pub open_known : IsOpenBox p plan handed cuts n o.boxed o
+    pub open_known : IsOpenBox p plan handed tested n o.boxed o
     open_known =
-        let found = place_of twig_sides (IsTwigOf p plan handed cuts n) (whole_box p.links ∷ []) twigs i (twig.Open o) growing.placed at in
-        let here : IsOpenBox p plan handed cuts n found.0.place o = found.0.here in
-        subst (λ (box : TreeBox). IsOpenBox p plan handed cuts n box o) (sym here.same) here
+        let found = place_of twig_sides (IsTwigOf p plan handed tested n) (whole_box p.links ∷ []) twigs i (twig.Open o) growing.placed at in
+        let here : IsOpenBox p plan handed tested n found.0.place o = found.0.here in
+        subst (λ (box : TreeBox). IsOpenBox p plan handed tested n box o) (sym here.same) here
 
     -- an open box becomes what was found anew
-    pub twig_growing : (new : Twig) → IsTwigOf p plan handed cuts n o.boxed new → IsLeafTwig new → IsGrowing p plan handed cuts n (set twigs i new)
+    pub twig_growing : (new : Twig) → IsTwigOf p plan handed tested n o.boxed new → IsLeafTwig new → IsGrowing p plan handed tested n (set twigs i new)
     twig_growing new is leaf =
-        let known = IsTwigOf p plan handed cuts n in
+        let known = IsTwigOf p plan handed tested n in
         let found = place_of twig_sides known (whole_box p.links ∷ []) twigs i (twig.Open o) growing.placed at in
         let place = found.0.place in
         let later = found.0.later in
         let rest = drop (suc i) twigs in
-        let here : IsOpenBox p plan handed cuts n place o = found.0.here in
+        let here : IsOpenBox p plan handed tested n place o = found.0.here in
         let now : known place new = subst (λ (box : TreeBox). known box new) here.same is in
         let after : AreTwigsOf known (twig_sides place new ++ later) rest =
         subst (λ (boxes : List TreeBox). AreTwigsOf known (boxes ++ later) rest) (sym (leaf_sides place (node_of new) leaf)) found.0.after in
@@ -117,17 +118,17 @@ module _ (p : Case) (plan : Plan) (handed cuts : List CutLine) where
         }
 
     -- an open box is split
-    pub split_growing : (c : Choice) (lower upper : Twig) → IsChoiceOf p.links plan.cost n o.boxed c → AreSidesOf p plan handed cuts (n + 1) o.boxed c (sides.Twigs lower upper)
-        → IsGrowing p plan handed cuts (n + 1) (set (insert (insert twigs (i + 1) upper) (i + 1) lower) i (twig.Settled (Split (record { 0 = c.place.link }) c.place.module c.at)))
+    pub split_growing : (c : Choice) (lower upper : Twig) → IsChoiceOf p.links plan.cost n o.boxed c → AreSidesOf p plan handed tested (n + 1) o.boxed c (sides.Twigs lower upper)
+        → IsGrowing p plan handed tested (n + 1) (set (insert (insert twigs (i + 1) upper) (i + 1) lower) i (twig.Settled (Split (record { 0 = c.place.link }) c.place.module c.at)))
     split_growing c lower upper choice found_sides =
-        let known = IsTwigOf p plan handed cuts (n + 1) in
+        let known = IsTwigOf p plan handed tested (n + 1) in
         let placed : AreTwigsOf known (whole_box p.links ∷ []) twigs =
-        twigs_on p plan cuts cuts (extends_none cuts) handed n (n + 1) (omega arith) (whole_box p.links ∷ []) twigs growing.placed in
+        twigs_on p plan tested tested (extends_none tested) handed n (n + 1) (omega arith) (whole_box p.links ∷ []) twigs growing.placed in
         let found = place_of twig_sides known (whole_box p.links ∷ []) twigs i (twig.Open o) placed at in
         let place = found.0.place in
         let later = found.0.later in
         let rest = drop (suc i) twigs in
-        let here : IsOpenBox p plan handed cuts (n + 1) place o = found.0.here in
+        let here : IsOpenBox p plan handed tested (n + 1) place o = found.0.here in
         let top = twig.Settled (Split (record { 0 = c.place.link }) c.place.module c.at) in
         let low_box = lower_side place c.place.link c.place.module c.at in
         let high_box = upper_side place c.place.link c.place.module c.at in

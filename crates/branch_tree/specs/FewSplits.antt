@@ -3,7 +3,7 @@ use Rattle.std.specs.Prelude.{ℕ, ◌+◌, ◌-◌, ◌*◌, ◌/◌, ◌<◌, 
 use Rattle.plan_terms.specs.Terms.{Link, Module}
 use Rattle.tree_check.specs.Boxes.{IsSplitOf}
 use Rattle.tree_check.specs.BoxValues.{module_costs}
-use Rattle.tree_check.specs.Lines.{entry}
+use Rattle.line_check.specs.Inequalities.{entry}
 use Rattle.tree_check.specs.Trees.{IsNodeOf, TreeBox}
 use Rattle.tree_check.specs.declared.proof.Node.{Node}
 use Rattle.tree_check.specs.declared.proof.Node.TheVariants.{Split, Closed, Empty, Spent, Stuck}

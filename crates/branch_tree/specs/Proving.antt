@@ -6,8 +6,8 @@ use Rattle.plan_types.specs.declared.plan.Plan.{Plan}
 use Rattle.able_counts.specs.AbleTests.{IsWideSomewhere, whole_caps}
 use Rattle.plan_swaps.specs.Swaps.{IsCheaperPlan}
 use Rattle.tree_check.specs.Boxes.{IsFixedBox, least_counts}
-use Rattle.tree_check.specs.BoxValues.{IsBoxCertificate, IsBoxValue, IsEmptiedBy, WeightedLine, module_costs}
-use Rattle.tree_check.specs.Lines.{entry, line_of_cut}
+use Rattle.line_check.specs.Inequalities.{WeightedLine, entry, line_of_cut}
+use Rattle.tree_check.specs.BoxValues.{IsBoxCertificate, IsBoxValue, IsEmptiedBy, module_costs}
 use Rattle.tree_check.specs.Proofs.{IsAcceptedProof, IsOpenAt}
 use Rattle.tree_check.specs.Trees.{IsNodeOf, TreeBox}
 use Rattle.tree_check.specs.declared.proof.BoxCert.{BoxCert}
@@ -66,12 +66,14 @@ IsCertificateOfLeaves p proof = (i value : ℕ) (leaf : IsOpenAt p proof i value
     → IsBoxCertificate p.links leaf.box proof.plan.certificate.den (lines_of_plan p.links proof.plan.certificate)
 
 -- What a search for a branch tree comes to: the given plan or a cheaper one, and a proof that is accepted and whose nodes have their
--- causes. All its cuts are cuts of the case, the handed-in ones first. Its tree has as many splits as the limit says at most, and, where
--- all modules cost something, fewer than a tree has room for. Each open leaf is worth less than the plan costs. A value is told exactly
--- where some leaf is open; it is at least the plan's bound where the plan's certificate is one of all open leaves.
+-- causes. All its cuts are cuts of the case, the handed-in ones first, and it has no further lines. Its tree has as many splits as the
+-- limit says at most, and, where all modules cost something, fewer than a tree has room for. Each open leaf is worth less than the plan
+-- costs. A value is told exactly where some leaf is open; it is at least the plan's bound where the plan's certificate is one of all open
+-- leaves.
 pub record IsProofOf (p : Case) (given : Plan) (handed : List CutLine) (limit : ℕ) (proof : Proof) : Type 0 where
   pub plan : IsCheaperPlan p given proof.plan
   pub cuts : take (length handed) proof.cuts ≡ handed
+  pub lines : proof.lines ≡ []
   pub sound : All (IsCut p) proof.cuts
   pub few : length proof.tree + 1 < 2 ^ 32
   pub accepted : IsAcceptedProof p proof

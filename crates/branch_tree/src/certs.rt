@@ -1,6 +1,6 @@
-ghost use Rattle.std.specs.Prelude.{◌≡◌, ◌≤◌, ◌^◌, ℕ, [], IfOk};
+ghost use Rattle.std.specs.Prelude.{◌≡◌, ◌≤◌, ◌^◌, ℕ, [], IfOk, false};
+ghost use Rattle.line_check.specs.Testing.{names_by};
 ghost use Rattle.tree_check.specs.BoxValues.{HasBoxValue};
-ghost use Rattle.tree_check.specs.Lines.{NamesLine};
 ghost use Rattle.branch_tree.specs.Proving.{HasFreeValue};
 ghost use Rattle.branch_tree.specs.inner.Growing.{IsAim, IsKnown, IsSearchBox, IsValued, aimed};
 
@@ -46,12 +46,11 @@ pub(crate) fn greater(
     best: Valued,
     cert: &BoxCert,
 ) -> Result<Valued, NoMemory>
-    requires known { IsKnown (aimed aim.now) known.now }
-    requires best { HasBoxValue (NamesLine (aimed aim.now) known.now.cuts) (aimed aim.now).links boxed.now best.cert best.value }
-    ensures has { IfOk result (λ v. HasBoxValue (NamesLine (aimed aim.now) known.now.cuts) (aimed aim.now).links boxed.now v.cert v.value) }
+    requires best { HasBoxValue (names_by known.now.tested false) (aimed aim.now).links boxed.now best.cert best.value }
+    ensures has { IfOk result (λ v. HasBoxValue (names_by known.now.tested false) (aimed aim.now).links boxed.now v.cert v.value) }
     ensures more { IfOk result (λ v. best.value ≤ v.value) }
     ensures most { IfOk result (λ v. (value : ℕ)
-        → HasBoxValue (NamesLine (aimed aim.now) known.now.cuts) (aimed aim.now).links boxed.now cert.now value
+        → HasBoxValue (names_by known.now.tested false) (aimed aim.now).links boxed.now cert.now value
         → value ≤ v.value) }
 {
     let tests = known.tests(aim);
@@ -69,9 +68,8 @@ pub(crate) fn greater(
 
 /// The certificate of no lines, with its value for a box.
 fn empty_valued(alloc: Global, aim: &Aim, known: &Known, boxed: &Boxed) -> Valued
-    requires known { IsKnown (aimed aim.now) known.now }
     requires search_box { IsSearchBox (aimed aim.now).links (2 ^ 14) boxed.now }
-    ensures has { HasBoxValue (NamesLine (aimed aim.now) known.now.cuts) (aimed aim.now).links boxed.now result.cert result.value }
+    ensures has { HasBoxValue (names_by known.now.tested false) (aimed aim.now).links boxed.now result.cert result.value }
     ensures is { HasFreeValue (aimed aim.now).links boxed.now result.value }
 {
     let cert = empty_cert(alloc);
@@ -93,7 +91,7 @@ pub(crate) fn greatest(
     requires known { IsKnown (aimed aim.now) known.now }
     requires aim { IsAim known.now.cuts aim.now }
     requires search_box { IsSearchBox (aimed aim.now).links (2 ^ 14) boxed.now }
-    ensures valued { IfOk result (IsValued (aimed aim.now) aim.now.plan.now known.now.cuts boxed.now) }
+    ensures valued { IfOk result (IsValued (aimed aim.now) aim.now.plan.now known.now.tested boxed.now) }
     ensures free { IfOk result (λ v. (value : ℕ) → HasFreeValue (aimed aim.now).links boxed.now value → value ≤ v.value) }
 {
     let empty = empty_valued(alloc, aim, known, boxed);

@@ -2,7 +2,7 @@ ghost use Rattle.std.specs.Prelude.{◌≡◌, ◌≤◌, ◌<◌, ◌^◌, ◌�
 ghost use Rattle.std.specs.List.Sorted.{IsPermutation};
 ghost use Rattle.tree_check.specs.Boxes.{IsFixedBox, IsFixedSpan};
 ghost use Rattle.tree_check.specs.BoxValues.{module_costs};
-ghost use Rattle.tree_check.specs.Lines.{entry};
+ghost use Rattle.line_check.specs.Inequalities.{entry};
 ghost use Rattle.branch_tree.specs.inner.Choosing.{HasFreePlace, IsCheapChoice, IsFreeSpan, IsSplittable, IsTriable};
 ghost use Rattle.branch_tree.specs.Proving.{HasFreeValue};
 ghost use Rattle.branch_tree.specs.inner.Growing.{AreLow, IsChoiceOf, IsKnown, IsSearchBox, aimed};

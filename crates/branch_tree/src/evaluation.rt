@@ -1,7 +1,8 @@
 ghost use Rattle.std.specs.Prelude.{◌≡◌, ◌+◌, ◌≤◌, ◌<◌, ◌^◌, IfOk, IfSome, OnOk, length};
 ghost use Rattle.plan_terms.specs.Terms.{AreCounts};
 ghost use Rattle.tree_check.specs.Boxes.{IsFixedBox, least_counts};
-ghost use Rattle.branch_tree.specs.inner.Growing.{HasLearned, IsAim, IsFoundAt, IsRoundTo, IsSearch, IsSearchBox, IsUnsettledIn, IsValued, aimed, handed_in, most_cuts};
+ghost use Rattle.branch_tree.specs.inner.Growing.{HasLearned, IsAim, IsSearch, aimed, handed_in, most_cuts};
+ghost use Rattle.branch_tree.specs.inner.Growing.{IsFoundAt, IsRoundTo, IsSearchBox, IsUnsettledIn, IsValued};
 ghost use Rattle.branch_tree.specs.inner.Asking.{IsTriedTo};
 
 use crate::aim::Aim;
@@ -48,13 +49,13 @@ fn look_fixed(
     requires low { depth ≤ 2 ^ 14 }
     requires fixed { IsFixedBox boxed.now }
     requires counts { counts ≡ least_counts boxed.now }
-    requires valued { IsValued (aimed aim.now) aim.now.plan.now search.old.known.cuts boxed.now best }
+    requires valued { IsValued (aimed aim.now) aim.now.plan.now search.old.known.tested boxed.now best }
     requires below { best.value < aim.now.plan.now.cost }
     requires unsettled { IsUnsettledIn (aimed aim.now) aim.now.plan.now search.old boxed.now }
     ensures search { OnOk result (IsSearch (aimed aim.now) search.new) }
     ensures learned { OnOk result (HasLearned search.old search.new) }
     ensures few { OnOk result (length search.new.known.cuts ≤ length search.old.known.cuts + 1) }
-    ensures found { IfOk result (IsFoundAt (aimed aim.now) aim.now.plan.now (handed_in search.old) search.new.known.cuts depth boxed.now) }
+    ensures found { IfOk result (IsFoundAt (aimed aim.now) aim.now.plan.now (handed_in search.old) search.new.known.tested depth boxed.now) }
 {
     match ask(alloc, aim, &mut search.test, counts)? {
         Asked::Carried(cheaper) => Ok(Found::Cheaper(cheaper)),
@@ -129,12 +130,12 @@ fn look_once(
     requires aim { IsAim search.old.known.cuts aim.now }
     requires search { IsSearch (aimed aim.now) search.old }
     requires room { most_cuts search.old < 2 ^ 31 }
-    requires valued { IsValued (aimed aim.now) aim.now.plan.now search.old.known.cuts boxed.now best }
+    requires valued { IsValued (aimed aim.now) aim.now.plan.now search.old.known.tested boxed.now best }
     requires below { best.value < aim.now.plan.now.cost }
     ensures search { OnOk result (IsSearch (aimed aim.now) search.new) }
     ensures learned { OnOk result (HasLearned search.old search.new) }
     ensures few { OnOk result (length search.new.known.cuts ≤ most_cuts search.old) }
-    ensures round { IfOk result (IsRoundTo (aimed aim.now) aim.now.plan.now search.new.known.cuts boxed.now) }
+    ensures round { IfOk result (IsRoundTo (aimed aim.now) aim.now.plan.now search.new.known.tested boxed.now) }
 {
     let Some(solution) = search.known.solved(alloc, aim, boxed)? else {
         let rank = best.value.saturating_mul(1000);
@@ -167,7 +168,6 @@ fn open(search: &Search, boxed: Boxed, best: Valued, rank: u128) -> Found
 }
 
 /// What is found at a box of several choices of counts.
-#[tactic(auto, using(crate::proofs::Extending::learned_on))]
 fn look_open(
     alloc: Global,
     aim: &Aim,
@@ -181,13 +181,13 @@ fn look_open(
     requires room { most_cuts search.old < 2 ^ 31 }
     requires search_box { IsSearchBox (aimed aim.now).links depth boxed }
     requires unfixed { IsFixedBox boxed → ⊥ }
-    requires valued { IsValued (aimed aim.now) aim.now.plan.now search.old.known.cuts boxed best }
+    requires valued { IsValued (aimed aim.now) aim.now.plan.now search.old.known.tested boxed best }
     requires below { best.value < aim.now.plan.now.cost }
     requires unsettled { IsUnsettledIn (aimed aim.now) aim.now.plan.now search.old boxed }
     ensures search { OnOk result (IsSearch (aimed aim.now) search.new) }
     ensures learned { OnOk result (HasLearned search.old search.new) }
     ensures few { OnOk result (length search.new.known.cuts ≤ most_cuts search.old) }
-    ensures found { IfOk result (IsFoundAt (aimed aim.now) aim.now.plan.now (handed_in search.old) search.new.known.cuts depth boxed) }
+    ensures found { IfOk result (IsFoundAt (aimed aim.now) aim.now.plan.now (handed_in search.old) search.new.known.tested depth boxed) }
 {
     let mut best = best;
     let mut rank = 0;
@@ -225,7 +225,7 @@ pub(crate) fn look(
     ensures learned { OnOk result (HasLearned search.old search.new) }
     ensures few { OnOk result (length search.new.known.cuts ≤ most_cuts search.old + 1) }
     ensures unfixed { OnOk result ((IsFixedBox boxed → ⊥) → length search.new.known.cuts ≤ most_cuts search.old) }
-    ensures found { IfOk result (IsFoundAt (aimed aim.now) aim.now.plan.now (handed_in search.old) search.new.known.cuts depth boxed) }
+    ensures found { IfOk result (IsFoundAt (aimed aim.now) aim.now.plan.now (handed_in search.old) search.new.known.tested depth boxed) }
 {
     if let Some(cut) = search.known.emptied_by(aim, &boxed) {
         return Ok(Found::Twig(Twig::Settled(Node::Empty { cut })));

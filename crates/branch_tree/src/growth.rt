@@ -1,6 +1,7 @@
 ghost use Rattle.std.specs.Prelude.{◌≡◌, ◌+◌, ◌*◌, ◌≤◌, ◌<◌, ◌^◌, IfOk, IfSome, MatchOption, None, OnOk, Some, length, slice_get, slice_set};
 ghost use Rattle.tree_check.specs.Boxes.{whole_box};
-ghost use Rattle.branch_tree.specs.inner.Growing.{AreCheaperCounts, AreSidesOf, HasLearned, IsAim, IsChoiceOf, IsGrowing, IsGrownTo, IsOpenBox, IsSearch, IsTurnTo, aimed, handed_in, most_cuts};
+ghost use Rattle.branch_tree.specs.inner.Growing.{AreCheaperCounts, AreSidesOf, IsChoiceOf, IsGrowing, IsGrownTo, IsOpenBox, IsTurnTo};
+ghost use Rattle.branch_tree.specs.inner.Growing.{HasLearned, IsAim, IsSearch, aimed, handed_in, most_cuts};
 ghost use Rattle.branch_tree.specs.inner.Places.{IsOpenPlace};
 
 use crate::aim::Aim;
@@ -42,12 +43,13 @@ fn look_sides(
     requires search { IsSearch (aimed aim.now) search.old }
     requires room { most_cuts search.old + 2 < 2 ^ 31 }
     requires splits { splits < 2 ^ 14 }
-    requires open { IsOpenBox (aimed aim.now) aim.now.plan.now (handed_in search.old) search.old.known.cuts splits open.now.boxed open.now }
+    requires open { IsOpenBox (aimed aim.now) aim.now.plan.now (handed_in search.old) search.old.known.tested splits open.now.boxed open.now }
     requires choice { IsChoiceOf (aimed aim.now).links aim.now.plan.now.cost splits open.now.boxed choice.now }
     ensures search { OnOk result (IsSearch (aimed aim.now) search.new) }
     ensures learned { OnOk result (HasLearned search.old search.new) }
     ensures few { OnOk result (length search.new.known.cuts ≤ most_cuts search.old + 2) }
-    ensures found { IfOk result (AreSidesOf (aimed aim.now) aim.now.plan.now (handed_in search.old) search.new.known.cuts (splits + 1) open.now.boxed choice.now) }
+    ensures found { IfOk result (AreSidesOf (aimed aim.now) aim.now.plan.now (handed_in search.old) search.new.known.tested (splits + 1)
+        open.now.boxed choice.now) }
 {
     let (link, module) = (choice.place.link, choice.place.module);
     let lower = lower_side(&open.boxed, link, module, choice.at)?;
@@ -97,11 +99,11 @@ fn look_again(
     requires room { most_cuts search.old + 1 < 2 ^ 31 }
     requires splits { splits ≤ 2 ^ 14 }
     requires at { at < length tree.old.twigs.items }
-    requires growing { IsGrowing (aimed aim.now) aim.now.plan.now (handed_in search.old) search.old.known.cuts splits tree.old.twigs.items }
+    requires growing { IsGrowing (aimed aim.now) aim.now.plan.now (handed_in search.old) search.old.known.tested splits tree.old.twigs.items }
     ensures search { OnOk result (IsSearch (aimed aim.now) search.new) }
     ensures learned { OnOk result (HasLearned search.old search.new) }
     ensures few { OnOk result (length search.new.known.cuts ≤ most_cuts search.old) }
-    ensures growing { OnOk result (IsGrowing (aimed aim.now) aim.now.plan.now (handed_in search.old) search.new.known.cuts splits tree.new.twigs.items) }
+    ensures growing { OnOk result (IsGrowing (aimed aim.now) aim.now.plan.now (handed_in search.old) search.new.known.tested splits tree.new.twigs.items) }
     ensures same { length tree.new.twigs.items ≡ length tree.old.twigs.items }
     ensures found { IfOk result (λ o. IfSome o (AreCheaperCounts (aimed aim.now) aim.now.plan.now.cost)) }
 {
@@ -146,11 +148,11 @@ fn split_at(
     requires room { most_cuts search.old + 2 < 2 ^ 31 }
     requires splits { splits < 2 ^ 14 }
     requires open { IsOpenPlace tree.old.twigs.items at }
-    requires growing { IsGrowing (aimed aim.now) aim.now.plan.now (handed_in search.old) search.old.known.cuts splits tree.old.twigs.items }
+    requires growing { IsGrowing (aimed aim.now) aim.now.plan.now (handed_in search.old) search.old.known.tested splits tree.old.twigs.items }
     ensures search { OnOk result (IsSearch (aimed aim.now) search.new) }
     ensures learned { OnOk result (HasLearned search.old search.new) }
     ensures few { OnOk result (length search.new.known.cuts ≤ most_cuts search.old + 2) }
-    ensures turn { IfOk result (IsTurnTo (aimed aim.now) aim.now.plan.now (handed_in search.old) search.new.known.cuts splits tree.new.twigs.items) }
+    ensures turn { IfOk result (IsTurnTo (aimed aim.now) aim.now.plan.now (handed_in search.old) search.new.known.tested splits tree.new.twigs.items) }
 {
     let Twig::Open(open) = &tree.twigs[at] else {
         unreachable!()
@@ -177,11 +179,11 @@ fn grow_once(
     requires search { IsSearch (aimed aim.now) search.old }
     requires room { most_cuts search.old + 2 < 2 ^ 31 }
     requires splits { splits < 2 ^ 14 }
-    requires growing { IsGrowing (aimed aim.now) aim.now.plan.now (handed_in search.old) search.old.known.cuts splits tree.old.twigs.items }
+    requires growing { IsGrowing (aimed aim.now) aim.now.plan.now (handed_in search.old) search.old.known.tested splits tree.old.twigs.items }
     ensures search { OnOk result (IsSearch (aimed aim.now) search.new) }
     ensures learned { OnOk result (HasLearned search.old search.new) }
     ensures few { OnOk result (length search.new.known.cuts ≤ most_cuts search.old + 2) }
-    ensures turn { IfOk result (IsTurnTo (aimed aim.now) aim.now.plan.now (handed_in search.old) search.new.known.cuts splits tree.new.twigs.items) }
+    ensures turn { IfOk result (IsTurnTo (aimed aim.now) aim.now.plan.now (handed_in search.old) search.new.known.tested splits tree.new.twigs.items) }
 {
     for _ in 0..tree.twigs.len() {
         let Some(at) = least_open(&tree.twigs) else {
@@ -214,7 +216,7 @@ pub(crate) fn grown(
     ensures search { OnOk result (IsSearch (aimed aim.now) search.new) }
     ensures learned { OnOk result (HasLearned search.old search.new) }
     ensures few { OnOk result (length search.new.known.cuts ≤ most_cuts search.old + 2 * limit + 1) }
-    ensures grown { IfOk result (IsGrownTo (aimed aim.now) aim.now.plan.now (handed_in search.old) search.new.known.cuts limit) }
+    ensures grown { IfOk result (IsGrownTo (aimed aim.now) aim.now.plan.now (handed_in search.old) search.new.known.tested limit) }
 {
     let whole = whole_box(alloc, aim.instance.net)?;
     let root = match look(alloc, aim, search, whole, &empty_cert(alloc), 0)? {

@@ -1,21 +1,22 @@
-ghost use Rattle.std.specs.Prelude.{◌≡◌, ◌↔◌, ◌+◌, ◌++◌, ◌<◌, ◌^◌, [], ◌∷◌, ℕ, All, Contains, IfOk, IfSome, IsTrue, MatchOption, None, OnOk, Some, length, slice_get};
+ghost use Rattle.std.specs.Prelude.{◌≡◌, ◌↔◌, ◌+◌, ◌++◌, ◌<◌, ◌^◌, [], ◌∷◌, ℕ, false, length, slice_get};
+ghost use Rattle.std.specs.Prelude.{All, Contains, IfOk, IfSome, IsTrue, MatchOption, None, OnOk, Some};
 ghost use Rattle.plan_terms.specs.Terms.{IsCut, case_of};
 ghost use Rattle.box_program.specs.Solutions.{IsSolutionOf};
-ghost use Rattle.tree_check.specs.Lines.{NamesLine};
+ghost use Rattle.line_check.specs.Testing.{names_by};
 ghost use Rattle.tree_check.specs.Proofs.{EmptiesBox};
-ghost use Rattle.tree_check.specs.Testing.{AreTests};
-ghost use Rattle.branch_tree.specs.inner.Growing.{IsKnown, aimed};
+ghost use Rattle.branch_tree.specs.inner.Growing.{Extends, IsKnown, aimed};
 
 use crate::aim::Aim;
 use box_program::{Lines, Solution, common_unit, divisor_of, solved};
+use line_check::Tested;
+use line_check::tested::{tested_cut, tested_lines};
 use net_core::{CutLine, Instance, List, NoMemory};
 use std::alloc::Global;
 use tree_check::Boxed;
 use tree_check::nodes::is_empty;
-use tree_check::tested::{Tested, tested_cut, tested_cuts};
 use tree_check::tests::Tests;
 
-/// The cuts of a proof, in the order of their indices, with their lines.
+/// The cuts of a proof, in the order of their indices, each tested.
 #[derive(Drop)]
 pub(crate) struct Known {
     pub cuts: List<CutLine>,
@@ -36,7 +37,8 @@ impl Known {
         ensures known { IfOk result (IsKnown (case_of instance.now)) }
         ensures cuts { IfOk result (λ known. known.cuts ≡ cuts) }
     {
-        let tested = tested_cuts(alloc, instance, cuts.items())?;
+        let none = List::new(alloc);
+        let tested = tested_lines(alloc, instance, cuts.items(), none.items())?;
         let unit = common_unit(tested.items());
         Ok(Known { cuts, tested, unit })
     }
@@ -53,6 +55,7 @@ impl Known {
         requires sound { IsCut (case_of instance.now) cut }
         ensures known { OnOk result (IsKnown (case_of instance.now) self.new) }
         ensures cuts { OnOk result (self.new.cuts ≡ self.old.cuts ++ cut ∷ []) }
+        ensures tested { OnOk result (Extends self.old.tested self.new.tested) }
     {
         let tested = tested_cut(alloc, instance, &cut)?;
         self.unit = divisor_of(&tested.line, self.unit);
@@ -63,15 +66,12 @@ impl Known {
 
     /// What nodes are tested by.
     pub(crate) fn tests<'a>(&'a self, aim: &Aim<'a>) -> Tests<'a>
-        requires { IsKnown (aimed aim.now) self.now }
         ensures instance { result.instance.now ≡ aim.now.instance.now }
-        ensures cuts { result.cuts.now ≡ self.now.cuts }
+        ensures tested { result.tested.now ≡ self.now.tested }
         ensures cost { result.cost ≡ aim.now.plan.now.cost }
-        ensures are { AreTests result }
     {
         Tests {
             instance: aim.instance,
-            cuts: self.cuts.items(),
             tested: self.tested.items(),
             cost: aim.plan.cost,
         }
@@ -97,8 +97,8 @@ impl Known {
     /// The first cut that empties a box.
     pub(crate) fn emptied_by(&self, aim: &Aim, boxed: &Boxed) -> Option<u32>
         requires { IsKnown (aimed aim.now) self.now }
-        ensures none { result ≡ None → (i : ℕ) → EmptiesBox (NamesLine (aimed aim.now) self.now.cuts) (aimed aim.now).links boxed.now i → ⊥ }
-        ensures some { IfSome result (EmptiesBox (NamesLine (aimed aim.now) self.now.cuts) (aimed aim.now).links boxed.now) }
+        ensures none { result ≡ None → (i : ℕ) → EmptiesBox (names_by self.now.tested false) (aimed aim.now).links boxed.now i → ⊥ }
+        ensures some { IfSome result (EmptiesBox (names_by self.now.tested false) (aimed aim.now).links boxed.now) }
     {
         let tests = self.tests(aim);
         for i in 0..self.cuts.len() {

@@ -1,27 +1,19 @@
 ghost use Rattle.std.specs.Prelude.{◌<◌, ◌^◌, All, Contains, IfOk, length};
-ghost use Rattle.plan_terms.specs.Terms.{IsCut, case_of};
 ghost use Rattle.branch_tree.specs.inner.Growing.{IsOwnCert};
 
 use crate::known::index_of;
-use net_core::{CutLine, Instance, List, NoMemory};
+use net_core::{CutLine, List, NoMemory};
 use plan_types::Plan;
 use std::alloc::Global;
 use tree_check::{BoxCert, Multiplier};
 
 /// A plan's certificate, read as one of boxes: by the indices of its cuts.
-pub(crate) fn own_cert(
-    alloc: Global,
-    instance: &Instance,
-    plan: &Plan,
-    cuts: &[CutLine],
-) -> Result<BoxCert, NoMemory>
+pub(crate) fn own_cert(alloc: Global, plan: &Plan, cuts: &[CutLine]) -> Result<BoxCert, NoMemory>
     requires few { length cuts.now < 2 ^ 31 }
-    requires sound { All (IsCut (case_of instance.now)) cuts.now }
     requires own { All (λ l. Contains cuts.now l.cut) plan.now.certificate.lines }
-    ensures { IfOk result (IsOwnCert (case_of instance.now) cuts.now plan.now) }
+    ensures { IfOk result (IsOwnCert cuts.now plan.now) }
 {
     let certificate = &plan.certificate;
-    let _ = instance;
     let mut lines = List::new(alloc);
     for line in certificate.lines.items() {
         match index_of(cuts, &line.cut) {

@@ -1,4 +1,4 @@
-ghost use Rattle.std.specs.Prelude.{◌≡◌, ℕ, List, ◌+◌, ◌≤◌, ◌<◌, IfOk, length, map, take};
+ghost use Rattle.std.specs.Prelude.{◌≡◌, ℕ, List, [], ◌+◌, ◌≤◌, ◌<◌, IfOk, length, map, take};
 ghost use Rattle.plan_terms.specs.Terms.{AreDemands, IsAble, IsSurvivable, case, case_of, total_cost};
 ghost use Rattle.plan_types.specs.Terms.{IsCertifiedPlan};
 ghost use Rattle.trim_plan.specs.Trimmed.{IsRoutedPlan};
@@ -108,6 +108,7 @@ fn proof_of(alloc: Global, plan: Plan, cuts: List<CutLine>, tree: Tree) -> Resul
     ensures { IfOk result (λ r. r ≡ record {
       plan = plan;
       cuts = cuts;
+      lines = [];
       tree = map node_of tree.twigs.items;
       verdict = verdict_of (all_shown plan.cost tree.twigs.items);
     }) }
@@ -116,6 +117,7 @@ fn proof_of(alloc: Global, plan: Plan, cuts: List<CutLine>, tree: Tree) -> Resul
     Ok(Proof {
         plan,
         cuts,
+        lines: List::new(alloc),
         tree,
         verdict,
     })
@@ -137,7 +139,7 @@ fn proved<'a>(
     requires certified { IsCertifiedPlan (case_of instance.now) plan }
     requires search { IsSearch (case_of instance.now) search }
     requires few { length search.known.cuts ≤ search.handed + 4096 }
-    requires own { IsOwnCert (case_of instance.now) (handed_in search) plan own.now }
+    requires own { IsOwnCert (handed_in search) plan own.now }
     ensures { IfOk result (IsProofOf (case_of instance.now) plan (handed_in search) limit) }
 {
     let mut plan = plan;
@@ -174,7 +176,7 @@ fn searched(
     requires cuts { AreHandedCuts (case_of instance.now) plan cuts }
     ensures { IfOk result (IsProofOf (case_of instance.now) plan cuts limit) }
 {
-    let own = own_cert(alloc, instance, &plan, cuts.items())?;
+    let own = own_cert(alloc, &plan, cuts.items())?;
     let handed = cuts.len();
     let search = Search {
         known: Known::new(alloc, instance, cuts)?,

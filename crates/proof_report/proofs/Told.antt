@@ -3,10 +3,9 @@ use Rattle.std.proofs.Common.{ℕ, List, subst, sym}
 use Rattle.net_core.proofs.Library.{get_or_from_slice_get}
 use Rattle.plan_terms.specs.Terms.{Case, Evidence, Route, Master}
 use Rattle.report_comments.specs.ReportComments.{IsOfRouting}
-use Rattle.tree_check.specs.Lines.{NamesLine}
-use Rattle.tree_check.specs.Proofs.{HoldsAtNode, HoldsNode, IsAcceptedProof, IsEvidenceAt}
+use Rattle.line_check.specs.declared.inequality.Inequality.{Inequality}
+use Rattle.tree_check.specs.Proofs.{HoldsAtNode, HoldsNode, IsAcceptedProof, IsEvidenceAt, names_of}
 use Rattle.tree_check.specs.Trees.{TreeBox}
-use Rattle.tree_check.specs.declared.line.Line.{Line}
 use Rattle.tree_check.specs.declared.proof.Node.{Node}
 use Rattle.tree_check.specs.declared.proof.Node.TheVariants.{Split, Closed, Empty, Spent, Stuck}
 use Rattle.tree_check.specs.declared.proof.Proof.{Proof}
@@ -16,7 +15,7 @@ evidence_told : (p : Case) (counts : List (List ℕ)) (e : Evidence) → IsEvide
 evidence_told p counts (Route state caps basis kind) is = tt
 evidence_told p counts (Master basis kind) is = is
 
-node_told : (names : ℕ → Line → Type 0) (p : Case) (cost : ℕ) (box : TreeBox) (node : Node) → HoldsNode names p cost box node → IsToldNode node
+node_told : (names : ℕ → Inequality → Type 0) (p : Case) (cost : ℕ) (box : TreeBox) (node : Node) → HoldsNode names p cost box node → IsToldNode node
 node_told names p cost box (Split link at_module number) holds = tt
 node_told names p cost box (Closed cert) holds = tt
 node_told names p cost box (Empty cut) holds = tt
@@ -26,4 +25,4 @@ node_told names p cost box (Stuck cert evidence) holds = evidence_told p _ evide
 pub proof_told : (p : Case) (proof : Proof) → IsAcceptedProof p proof → IsToldProof proof
 proof_told p proof accepted i d lt =
     let holds : HoldsAtNode p proof i = accepted.hold i lt in
-    subst IsToldNode (sym (get_or_from_slice_get proof.tree i holds.node d holds.is_node.at)) (node_told (NamesLine p proof.cuts) p proof.plan.cost holds.box holds.node holds.holds)
+    subst IsToldNode (sym (get_or_from_slice_get proof.tree i holds.node d holds.is_node.at)) (node_told (names_of p proof) p proof.plan.cost holds.box holds.node holds.holds)

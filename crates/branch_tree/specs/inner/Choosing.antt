@@ -3,7 +3,7 @@ use Rattle.std.specs.Prelude.{◌≡◌, ℕ, ◌*◌, ◌^◌, ◌≤◌, ◌<�
 use Rattle.plan_terms.specs.Terms.{Link}
 use Rattle.tree_check.specs.Boxes.{IsFixedBox, IsFixedSpan, IsSplitOf, span_at}
 use Rattle.tree_check.specs.BoxValues.{module_costs}
-use Rattle.tree_check.specs.Lines.{entry}
+use Rattle.line_check.specs.Inequalities.{entry}
 use Rattle.tree_check.specs.Trees.{TreeBox}
 use Rattle.tree_check.specs.declared.boxes.Span.{Span}
 use Rattle.trim_plan.specs.declared.lowered.Place.{Place}

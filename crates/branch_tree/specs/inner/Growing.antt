@@ -1,23 +1,24 @@
 -- trees on the way: what is known at each of their places
-use Rattle.std.specs.Prelude.{◌≡◌, ℕ, ◌+◌, ◌*◌, ◌^◌, ◌≤◌, ◌<◌, ◌⊎◌, ◌++◌, List, [], ◌∷◌, Some, IfSome, All, false, length, max, slice_get, take, count_by}
+use Rattle.std.specs.Prelude.{◌≡◌, ℕ, ◌+◌, ◌*◌, ◌^◌, ◌≤◌, ◌<◌, ◌⊎◌, ◌++◌, List, [], ◌∷◌, Some, IfSome, All, false, length, max, slice_get, take}
 use Rattle.std.specs.List.{AllZip}
 use Rattle.plan_terms.specs.Terms.{AreCounts, AreWithinLimits, Case, CutLine, Evidence, IsCut, IsSurvivable, Link, capacities, case_of, total_cost}
 use Rattle.plan_types.specs.declared.plan.Plan.{Plan}
 use Rattle.able_counts.specs.AbleTests.{AreRoutingsWithin, IsWideSomewhere, whole_caps}
 use Rattle.able_counts.specs.AbleTests.{IsTestOf as IsAbleTestOf}
 use Rattle.trim_plan.specs.Trimmed.{IsRoutedPlan}
+use Rattle.line_check.specs.Inequalities.{entry}
+use Rattle.line_check.specs.Lines.{sources_of}
+use Rattle.line_check.specs.Testing.{AreTested, names_by}
+use Rattle.line_check.specs.declared.tested.Tested.{Tested}
 use Rattle.tree_check.specs.Boxes.{IsFixedBox, IsSplitOf, least_counts, lower_side, upper_side, whole_box}
-use Rattle.tree_check.specs.BoxValues.{AreNamedBy, HasBoxValue, module_costs}
-use Rattle.tree_check.specs.Lines.{NamesLine, entry}
+use Rattle.tree_check.specs.BoxValues.{HasBoxValue, module_costs}
 use Rattle.tree_check.specs.Proofs.{HoldsNode, IsEvidenceAt}
-use Rattle.tree_check.specs.Trees.{TreeBox, sides_of}
-use Rattle.tree_check.specs.Testing.{IsTestedAs}
-use Rattle.tree_check.specs.declared.boxes.Span.{Span}
+use Rattle.tree_check.specs.Trees.{TreeBox}
 use Rattle.tree_check.specs.declared.proof.BoxCert.{BoxCert}
 use Rattle.tree_check.specs.declared.proof.Node.{Node}
 use Rattle.tree_check.specs.declared.proof.Node.TheVariants.{Split, Closed, Empty, Spent, Stuck}
 use Rattle.branch_tree.specs.inner.Places.{AreSettled, AreTwigsOf, IsLeafTwig, twig_splits}
-use Rattle.branch_tree.specs.Proving.{HasNodeCause, HasPlanValue, IsUnsettled, lines_of_plan}
+use Rattle.branch_tree.specs.Proving.{HasNodeCause, HasPlanValue, IsUnsettled}
 use Rattle.branch_tree.specs.declared.aim.Aim.{Aim}
 use Rattle.branch_tree.specs.declared.certs.Valued.{Valued}
 use Rattle.branch_tree.specs.declared.evaluation.Round.{Round}
@@ -41,31 +42,32 @@ use Rattle.branch_tree.specs.declared.twigs.Twig.TheVariants as twig
 
 -- ---- what a search knows
 
--- cuts of the case, each with its line
+-- cuts of the case, tested one by one
 pub record IsKnown (p : Case) (k : Known) : Type 0 where
   pub sound : All (IsCut p) k.cuts
-  pub tested : AllZip (IsTestedAs p) k.cuts k.tested
+  pub tested : AreTested p (sources_of k.cuts []) k.tested
   pub few : length k.cuts < 2 ^ 31
 
--- cuts are put after cuts
-abbrev pub Extends : List CutLine → List CutLine → Type 0
-Extends old new = (more : List CutLine) × (new ≡ old ++ more)
+-- items are put after those of a list
+pub record Extends {X : Type 0} (old new : List X) : Type 0 where
+  pub more : List X
+  pub is : new ≡ old ++ more
 
 -- the case of an aim
 abbrev pub aimed : Aim → Case
 aimed a = case_of a.instance.now
 
 -- a certificate is the plan's, by indices of cuts
-pub record IsOwnCert (p : Case) (cuts : List CutLine) (plan : Plan) (cert : BoxCert) : Type 0 where
+pub record IsOwnCert (cuts : List CutLine) (plan : Plan) (cert : BoxCert) : Type 0 where
   pub den : cert.den ≡ plan.certificate.den
-  pub named : AreNamedBy (NamesLine p cuts) cert.lines (lines_of_plan p.links plan.certificate)
+  pub named : AllZip (λ m l. (slice_get cuts m.cut ≡ Some l.cut) × (m.num ≡ l.num)) cert.lines plan.certificate.lines
 
 -- an aim that a search can have: a plan of the case that carries its demands
 pub record IsAim (cuts : List CutLine) (a : Aim) : Type 0 where
   pub survivable : IsSurvivable (aimed a)
   pub demands : a.plan.now.demands ≡ (aimed a).demands
   pub routed : IsRoutedPlan (aimed a) a.plan.now
-  pub own : IsOwnCert (aimed a) cuts a.plan.now a.own.now
+  pub own : IsOwnCert cuts a.plan.now a.own.now
 
 -- the cuts that were handed in
 abbrev pub handed_in : Search → List CutLine
@@ -89,6 +91,7 @@ pub record IsSearch (p : Case) (s : Search) : Type 0 where
 -- a search has learned more
 pub record HasLearned (old new : Search) : Type 0 where
   pub extends : Extends old.known.cuts new.known.cuts
+  pub tested : Extends old.known.tested new.known.tested
   pub handed : new.handed ≡ old.handed
 
 -- ---- what is found
@@ -116,8 +119,8 @@ pub record IsSearchBox (links : List Link) (n : ℕ) (box : TreeBox) : Type 0 wh
   pub low : AreLow n box
 
 -- a certificate has its value for a box, which is no less than that of the plan's certificate
-pub record IsValued (p : Case) (plan : Plan) (cuts : List CutLine) (box : TreeBox) (v : Valued) : Type 0 where
-  pub has : HasBoxValue (NamesLine p cuts) p.links box v.cert v.value
+pub record IsValued (p : Case) (plan : Plan) (tested : List Tested) (box : TreeBox) (v : Valued) : Type 0 where
+  pub has : HasBoxValue (names_by tested false) p.links box v.cert v.value
   pub least : (value : ℕ) → HasPlanValue p.links plan.certificate box value → value ≤ v.value
 
 -- a split with its cause, or a leaf that isn't open
@@ -129,58 +132,58 @@ IsSettledNode p plan handed box (Spent cert) = ⊥
 IsSettledNode p plan handed box (Stuck cert evidence) = ⊥
 
 -- an open box: it is worth less than the plan, isn't settled at once, and has several choices of counts
-pub record IsOpenBox (p : Case) (plan : Plan) (handed cuts : List CutLine) (n : ℕ) (box : TreeBox) (o : OpenBox) : Type 0 where
+pub record IsOpenBox (p : Case) (plan : Plan) (handed : List CutLine) (tested : List Tested) (n : ℕ) (box : TreeBox) (o : OpenBox) : Type 0 where
   pub same : o.boxed ≡ box
   pub search_box : IsSearchBox p.links n box
-  pub valued : IsValued p plan cuts box o.best
+  pub valued : IsValued p plan tested box o.best
   pub below : o.best.value < plan.cost
   pub unsettled : IsUnsettled p.links plan handed box
   pub unfixed : IsFixedBox box → ⊥
 
 -- evidence that the one choice of counts of a box is too wide, which is worth less than the plan
-pub record IsStuckBox (p : Case) (plan : Plan) (cuts : List CutLine) (box : TreeBox) (v : Valued) (evidence : Evidence) : Type 0 where
-  pub valued : IsValued p plan cuts box v
+pub record IsStuckBox (p : Case) (plan : Plan) (tested : List Tested) (box : TreeBox) (v : Valued) (evidence : Evidence) : Type 0 where
+  pub valued : IsValued p plan tested box v
   pub below : v.value < plan.cost
   pub fixed : IsFixedBox box
   pub form : IsEvidenceAt p (least_counts box) evidence
   pub wide : IsWideSomewhere p (whole_caps (capacities p.links (least_counts box))) evidence
 
 -- what is known of the box at a place of a tree
-abbrev pub IsTwigOf : Case → Plan → List CutLine → List CutLine → ℕ → TreeBox → Twig → Type 0
-IsTwigOf p plan handed cuts n box (twig.Settled node) =
-    HoldsNode (NamesLine p cuts) p plan.cost box node × IsSettledNode p plan handed box node
-IsTwigOf p plan handed cuts n box (twig.Stuck v evidence) = IsStuckBox p plan cuts box v evidence
-IsTwigOf p plan handed cuts n box (twig.Open o) = IsOpenBox p plan handed cuts n box o
+abbrev pub IsTwigOf : Case → Plan → List CutLine → List Tested → ℕ → TreeBox → Twig → Type 0
+IsTwigOf p plan handed tested n box (twig.Settled node) =
+    HoldsNode (names_by tested false) p plan.cost box node × IsSettledNode p plan handed box node
+IsTwigOf p plan handed tested n box (twig.Stuck v evidence) = IsStuckBox p plan tested box v evidence
+IsTwigOf p plan handed tested n box (twig.Open o) = IsOpenBox p plan handed tested n box o
 
 -- ---- trees
 
 -- what is found at a box
-abbrev pub IsFoundAt : Case → Plan → List CutLine → List CutLine → ℕ → TreeBox → Found → Type 0
-IsFoundAt p plan handed cuts n box (found.Twig t) = IsTwigOf p plan handed cuts n box t × IsLeafTwig t
-IsFoundAt p plan handed cuts n box (found.Cheaper c) = AreCheaperCounts p plan.cost c
+abbrev pub IsFoundAt : Case → Plan → List CutLine → List Tested → ℕ → TreeBox → Found → Type 0
+IsFoundAt p plan handed tested n box (found.Twig t) = IsTwigOf p plan handed tested n box t × IsLeafTwig t
+IsFoundAt p plan handed tested n box (found.Cheaper c) = AreCheaperCounts p plan.cost c
 
 -- what a look at the program of an open box leaves: what is found there, or a certificate that doesn't close it
-abbrev pub IsRoundTo : Case → Plan → List CutLine → TreeBox → Round → Type 0
-IsRoundTo p plan cuts box (round.Found f) = (handed : List CutLine) (n : ℕ) → IsFoundAt p plan handed cuts n box f
-IsRoundTo p plan cuts box (round.Open best rank again) = IsValued p plan cuts box best × (best.value < plan.cost)
+abbrev pub IsRoundTo : Case → Plan → List Tested → TreeBox → Round → Type 0
+IsRoundTo p plan tested box (round.Found f) = (handed : List CutLine) (n : ℕ) → IsFoundAt p plan handed tested n box f
+IsRoundTo p plan tested box (round.Open best rank again) = IsValued p plan tested box best × (best.value < plan.cost)
 
 -- places of a tree of the case with so many splits
-pub record IsGrowing (p : Case) (plan : Plan) (handed cuts : List CutLine) (n : ℕ) (twigs : List Twig) : Type 0 where
-  pub placed : AreTwigsOf (IsTwigOf p plan handed cuts n) (whole_box p.links ∷ []) twigs
+pub record IsGrowing (p : Case) (plan : Plan) (handed : List CutLine) (tested : List Tested) (n : ℕ) (twigs : List Twig) : Type 0 where
+  pub placed : AreTwigsOf (IsTwigOf p plan handed tested n) (whole_box p.links ∷ []) twigs
   pub splits : twig_splits twigs ≡ n
   pub few : length twigs ≡ 2 * n + 1
 
 -- a tree that needn't grow: no place is open, or it has as many splits as the limit says
-pub record IsGrownTree (p : Case) (plan : Plan) (handed cuts : List CutLine) (limit : ℕ) (tree : Tree) : Type 0 where
+pub record IsGrownTree (p : Case) (plan : Plan) (handed : List CutLine) (tested : List Tested) (limit : ℕ) (tree : Tree) : Type 0 where
   pub n : ℕ
-  pub growing : IsGrowing p plan handed cuts n tree.twigs.items
+  pub growing : IsGrowing p plan handed tested n tree.twigs.items
   pub within : n ≤ limit
   pub ends : AreSettled tree.twigs.items ⊎ (n ≡ limit)
 
 -- what becomes of a tree
-abbrev pub IsGrownTo : Case → Plan → List CutLine → List CutLine → ℕ → Growth → Type 0
-IsGrownTo p plan handed cuts limit (growth.Tree tree) = IsGrownTree p plan handed cuts limit tree
-IsGrownTo p plan handed cuts limit (growth.Cheaper c) = AreCheaperCounts p plan.cost c
+abbrev pub IsGrownTo : Case → Plan → List CutLine → List Tested → ℕ → Growth → Type 0
+IsGrownTo p plan handed tested limit (growth.Tree tree) = IsGrownTree p plan handed tested limit tree
+IsGrownTo p plan handed tested limit (growth.Cheaper c) = AreCheaperCounts p plan.cost c
 
 -- a box can be split so: at a number of modules that cost less than the plan, and that isn't large
 pub record IsChoiceOf (links : List Link) (cost n : ℕ) (box : TreeBox) (c : Choice) : Type 0 where
@@ -189,14 +192,14 @@ pub record IsChoiceOf (links : List Link) (cost n : ℕ) (box : TreeBox) (c : Ch
   pub low : c.at ≤ 2 ^ 44 + n
 
 -- what is found at the two sides of a split
-abbrev pub AreSidesOf : Case → Plan → List CutLine → List CutLine → ℕ → TreeBox → Choice → Sides → Type 0
-AreSidesOf p plan handed cuts n box c (sides.Twigs lower upper) =
-    IsFoundAt p plan handed cuts n (lower_side box c.place.link c.place.module c.at) (found.Twig lower)
-    × IsFoundAt p plan handed cuts n (upper_side box c.place.link c.place.module c.at) (found.Twig upper)
-AreSidesOf p plan handed cuts n box c (sides.Cheaper cheaper) = AreCheaperCounts p plan.cost cheaper
+abbrev pub AreSidesOf : Case → Plan → List CutLine → List Tested → ℕ → TreeBox → Choice → Sides → Type 0
+AreSidesOf p plan handed tested n box c (sides.Twigs lower upper) =
+    IsFoundAt p plan handed tested n (lower_side box c.place.link c.place.module c.at) (found.Twig lower)
+    × IsFoundAt p plan handed tested n (upper_side box c.place.link c.place.module c.at) (found.Twig upper)
+AreSidesOf p plan handed tested n box c (sides.Cheaper cheaper) = AreCheaperCounts p plan.cost cheaper
 
 -- what a turn leaves: a tree with one split more, one that has no open box, or cheaper counts
-abbrev pub IsTurnTo : Case → Plan → List CutLine → List CutLine → ℕ → List Twig → Turn → Type 0
-IsTurnTo p plan handed cuts n twigs turn.Split = IsGrowing p plan handed cuts (n + 1) twigs
-IsTurnTo p plan handed cuts n twigs turn.Done = IsGrowing p plan handed cuts n twigs × AreSettled twigs
-IsTurnTo p plan handed cuts n twigs (turn.Cheaper c) = AreCheaperCounts p plan.cost c
+abbrev pub IsTurnTo : Case → Plan → List CutLine → List Tested → ℕ → List Twig → Turn → Type 0
+IsTurnTo p plan handed tested n twigs turn.Split = IsGrowing p plan handed tested (n + 1) twigs
+IsTurnTo p plan handed tested n twigs turn.Done = IsGrowing p plan handed tested n twigs × AreSettled twigs
+IsTurnTo p plan handed tested n twigs (turn.Cheaper c) = AreCheaperCounts p plan.cost c

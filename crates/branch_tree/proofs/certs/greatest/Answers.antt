@@ -12,7 +12,7 @@ returns-clause-valued c =
     (λ v has more. record {
       has = has;
       least = λ value is.
-          let own = c.in_ok-best.ensures.most value (own_has (aimed a) c.args.known.now.cuts a.plan.now a.own.now c.args.boxed.now value c.requires.aim.own is) in
+          let own = c.in_ok-best.ensures.most value (own_has (aimed a) c.args.known.now c.requires.known a.plan.now a.own.now c.args.boxed.now value c.requires.aim.own is) in
           omega (arith, own, more);
     })
     c.greater-2.ensures.has c.greater-2.ensures.more

@@ -28,7 +28,7 @@ loop-preserved c =
     let old = c.loop.search in
     let new = c.look_once.new.search in
     let told = c.in_ok-found.ensures in
-    let round = subst (λ (r : Round). IsRoundTo (aimed a) a.plan.now new.known.cuts c.loop.boxed r) c.in-Open.is told.round in
+    let round = subst (λ (r : Round). IsRoundTo (aimed a) a.plan.now new.known.tested c.loop.boxed r) c.in-Open.is told.round in
     record {
       aim = aim_on a old.known.cuts new.known.cuts told.learned.extends c.loop.invariant.aim;
       sound = told.search;
@@ -39,39 +39,47 @@ loop-preserved c =
       below = round.1;
     }
 
+pub returns-in-Found-clause-learned : goal.returns-in-Found-clause-learned
+returns-in-Found-clause-learned c =
+    learned_on c.args.search.now c.loop.search c.look_once.new.search c.loop.invariant.learned c.in_ok-found.ensures.learned
+
+pub returns-then-not-again-clause-learned : goal.returns-then-not-again-clause-learned
+returns-then-not-again-clause-learned c =
+    learned_on c.args.search.now c.loop.search c.look_once.new.search c.loop.invariant.learned c.in_ok-found.ensures.learned
+
 pub returns-in-Found-clause-found : goal.returns-in-Found-clause-found
 returns-in-Found-clause-found c =
     let a = c.args.aim.now in
-    let cuts = c.look_once.new.search.known.cuts in
+    let tested = c.look_once.new.search.known.tested in
     let handed = handed_in c.args.search.now in
-    let round = subst (λ (r : Round). IsRoundTo (aimed a) a.plan.now cuts c.loop.boxed r) c.in-Found.is c.in_ok-found.ensures.round in
-    subst (λ (box : TreeBox). IsFoundAt (aimed a) a.plan.now handed cuts c.args.depth box c.in-Found.found) c.loop.invariant.box (round handed c.args.depth)
+    let round = subst (λ (r : Round). IsRoundTo (aimed a) a.plan.now tested c.loop.boxed r) c.in-Found.is c.in_ok-found.ensures.round in
+    subst (λ (box : TreeBox). IsFoundAt (aimed a) a.plan.now handed tested c.args.depth box c.in-Found.found) c.loop.invariant.box (round handed c.args.depth)
 
 pub returns-then-not-again-clause-found : goal.returns-then-not-again-clause-found
 returns-then-not-again-clause-found c =
     let a = c.args.aim.now in
-    let cuts = c.look_once.new.search.known.cuts in
+    let tested = c.look_once.new.search.known.tested in
     let handed = handed_in c.args.search.now in
     let box = c.loop.boxed in
     let same = c.loop.invariant.box in
-    let round = subst (λ (r : Round). IsRoundTo (aimed a) a.plan.now cuts box r) c.in-Open.is c.in_ok-found.ensures.round in
-    let here = open_found (aimed a) a.plan.now handed cuts c.args.depth box c.in-Open.better c.in-Open.worth (length cuts)
+    let round = subst (λ (r : Round). IsRoundTo (aimed a) a.plan.now tested box r) c.in-Open.is c.in_ok-found.ensures.round in
+    let here = open_found (aimed a) a.plan.now handed tested c.args.depth box c.in-Open.better c.in-Open.worth (length c.look_once.new.search.known.cuts)
     (subst (IsSearchBox (aimed a).links c.args.depth) (sym same) c.requires.search_box) round.0 round.1
     (subst (IsUnsettledIn (aimed a) a.plan.now c.args.search.now) (sym same) c.requires.unsettled)
     (subst (λ (b : TreeBox). IsFixedBox b → ⊥) (sym same) c.requires.unfixed) in
-    subst (λ (b : TreeBox). IsFoundAt (aimed a) a.plan.now handed cuts c.args.depth b c.open.result) same
-    (subst (λ (f : Found). IsFoundAt (aimed a) a.plan.now handed cuts c.args.depth box f) (sym c.open.ensures) here)
+    subst (λ (b : TreeBox). IsFoundAt (aimed a) a.plan.now handed tested c.args.depth b c.open.result) same
+    (subst (λ (f : Found). IsFoundAt (aimed a) a.plan.now handed tested c.args.depth box f) (sym c.open.ensures) here)
 
 pub returns-clause-found : goal.returns-clause-found
 returns-clause-found c =
     let a = c.args.aim.now in
-    let cuts = c.loop.search.known.cuts in
+    let tested = c.loop.search.known.tested in
     let handed = handed_in c.args.search.now in
     let box = c.loop.boxed in
     let same = c.loop.invariant.box in
-    let here = open_found (aimed a) a.plan.now handed cuts c.args.depth box c.loop.best c.loop.rank (length cuts)
+    let here = open_found (aimed a) a.plan.now handed tested c.args.depth box c.loop.best c.loop.rank (length c.loop.search.known.cuts)
     (subst (IsSearchBox (aimed a).links c.args.depth) (sym same) c.requires.search_box) c.loop.invariant.valued c.loop.invariant.below
     (subst (IsUnsettledIn (aimed a) a.plan.now c.args.search.now) (sym same) c.requires.unsettled)
     (subst (λ (b : TreeBox). IsFixedBox b → ⊥) (sym same) c.requires.unfixed) in
-    subst (λ (b : TreeBox). IsFoundAt (aimed a) a.plan.now handed cuts c.args.depth b c.open-2.result) same
-    (subst (λ (f : Found). IsFoundAt (aimed a) a.plan.now handed cuts c.args.depth box f) (sym c.open-2.ensures) here)
+    subst (λ (b : TreeBox). IsFoundAt (aimed a) a.plan.now handed tested c.args.depth b c.open-2.result) same
+    (subst (λ (f : Found). IsFoundAt (aimed a) a.plan.now handed tested c.args.depth box f) (sym c.open-2.ensures) here)

@@ -10,6 +10,6 @@ invariant-loop l = record {
   learned : HasLearned l.fn.search l.search;
   box : l.boxed ≡ l.fn.boxed;
   few : length l.search.known.cuts ≤ most_cuts l.fn.search;
-  valued : IsValued (aimed l.aim) l.aim.plan.now l.search.known.cuts l.boxed l.best;
+  valued : IsValued (aimed l.aim) l.aim.plan.now l.search.known.tested l.boxed l.best;
   below : l.best.value < l.aim.plan.now.cost;
 }

@@ -34,7 +34,7 @@ pub returns-then-eq-clause-turn : goal.returns-then-eq-clause-turn
 returns-then-eq-clause-turn c =
     let a = c.args.aim.now in
     let first = learned_on c.args.search.now c.loop.search c.look_again.new.search c.loop.invariant.learned c.in_ok-cheaper.ensures.learned in
-    subst (λ (handed : List CutLine). IfOk c.split_at.result (IsTurnTo (aimed a) a.plan.now handed c.split_at.new.search.known.cuts c.args.splits c.split_at.new.tree.twigs.items))
+    subst (λ (handed : List CutLine). IfOk c.split_at.result (IsTurnTo (aimed a) a.plan.now handed c.split_at.new.search.known.tested c.args.splits c.split_at.new.tree.twigs.items))
     (handed_same c.args.search.now c.look_again.new.search first c.requires.search.inside)
     c.split_at.ensures.turn
 
@@ -53,6 +53,6 @@ pub returns-in-Some-least_open-clause-turn : goal.returns-in-Some-least_open-cla
 returns-in-Some-least_open-clause-turn c =
     let a = c.args.aim.now in
     let split = c.split_at-in-Some-least_open in
-    subst (λ (handed : List CutLine). IfOk split.result (IsTurnTo (aimed a) a.plan.now handed split.new.search.known.cuts c.args.splits split.new.tree.twigs.items))
+    subst (λ (handed : List CutLine). IfOk split.result (IsTurnTo (aimed a) a.plan.now handed split.new.search.known.tested c.args.splits split.new.tree.twigs.items))
     (handed_same c.args.search.now c.loop.search c.loop.invariant.learned c.requires.search.inside)
     split.ensures.turn

@@ -8,5 +8,5 @@ invariant-loop l = record {
   search : IsSearch (aimed l.aim) l.search;
   learned : HasLearned l.fn.search l.search;
   few : length l.search.known.cuts ≤ most_cuts l.fn.search;
-  growing : IsGrowing (aimed l.aim) l.aim.plan.now (handed_in l.fn.search) l.search.known.cuts l.splits l.tree.twigs.items;
+  growing : IsGrowing (aimed l.aim) l.aim.plan.now (handed_in l.fn.search) l.search.known.tested l.splits l.tree.twigs.items;
 }

@@ -15,7 +15,7 @@ look-requires-clause-search_box c =
     let s = c.args.search.now in
     let twigs = c.args.tree.now.twigs.items in
     let there = read_open twigs c.args.at c.index.result.now c.in-Open.open c.requires.at c.index.ensures c.in-Open.is in
-    let known = open_known (aimed a) a.plan.now (handed_in s) s.known.cuts c.args.splits c.args.at twigs c.in-Open.open there c.requires.growing in
+    let known = open_known (aimed a) a.plan.now (handed_in s) s.known.tested c.args.splits c.args.at twigs c.in-Open.open there c.requires.growing in
     subst (λ (box : TreeBox). IsSearchBox a.instance.now.net.now.links c.args.splits box) (sym c.in_ok-boxed.ensures) known.search_box
 
 pub returns-in-Cheaper-clause-few : goal.returns-in-Cheaper-clause-few
@@ -24,14 +24,14 @@ returns-in-Cheaper-clause-few c =
     let s = c.args.search.now in
     let twigs = c.args.tree.now.twigs.items in
     let there = read_open twigs c.args.at c.index.result.now c.in-Open.open c.requires.at c.index.ensures c.in-Open.is in
-    let known = open_known (aimed a) a.plan.now (handed_in s) s.known.cuts c.args.splits c.args.at twigs c.in-Open.open there c.requires.growing in
+    let known = open_known (aimed a) a.plan.now (handed_in s) s.known.tested c.args.splits c.args.at twigs c.in-Open.open there c.requires.growing in
     c.in_ok-cheaper.ensures.unfixed (λ fixed. known.unfixed (subst IsFixedBox c.in_ok-boxed.ensures fixed))
 
 pub returns-in-Cheaper-clause-growing : goal.returns-in-Cheaper-clause-growing
 returns-in-Cheaper-clause-growing c =
     let a = c.args.aim.now in
     let s = c.args.search.now in
-    growing_on (aimed a) a.plan.now s.known.cuts c.look.new.search.known.cuts c.in_ok-cheaper.ensures.learned.extends (handed_in s) c.args.splits
+    growing_on (aimed a) a.plan.now s.known.tested c.look.new.search.known.tested c.in_ok-cheaper.ensures.learned.tested (handed_in s) c.args.splits
     c.args.tree.now.twigs.items c.requires.growing
 
 pub returns-clause-few : goal.returns-clause-few
@@ -40,7 +40,7 @@ returns-clause-few c =
     let s = c.args.search.now in
     let twigs = c.args.tree.now.twigs.items in
     let there = read_open twigs c.args.at c.index.result.now c.in-Open.open c.requires.at c.index.ensures c.in-Open.is in
-    let known = open_known (aimed a) a.plan.now (handed_in s) s.known.cuts c.args.splits c.args.at twigs c.in-Open.open there c.requires.growing in
+    let known = open_known (aimed a) a.plan.now (handed_in s) s.known.tested c.args.splits c.args.at twigs c.in-Open.open there c.requires.growing in
     c.in_ok-cheaper.ensures.unfixed (λ fixed. known.unfixed (subst IsFixedBox c.in_ok-boxed.ensures fixed))
 
 pub returns-clause-growing : goal.returns-clause-growing
@@ -48,15 +48,15 @@ returns-clause-growing c =
     let a = c.args.aim.now in
     let p = aimed a in
     let s = c.args.search.now in
-    let cuts = c.look.new.search.known.cuts in
+    let tested = c.look.new.search.known.tested in
     let n = c.args.splits in
     let twigs = c.args.tree.now.twigs.items in
     let o = c.in-Open.open in
     let t = c.in-Twig.twig in
     let there = read_open twigs c.args.at c.index.result.now o c.requires.at c.index.ensures c.in-Open.is in
-    let here : IsFoundAt p a.plan.now (handed_in s) cuts n o.boxed (found.Twig t) =
-    subst (λ (box : TreeBox). IsFoundAt p a.plan.now (handed_in s) cuts n box (found.Twig t)) c.in_ok-boxed.ensures
-    (subst (λ (f : Found). IsFoundAt p a.plan.now (handed_in s) cuts n c.in_ok-boxed.boxed f) c.in-Twig.is c.in_ok-cheaper.ensures.found) in
-    let later = growing_on p a.plan.now s.known.cuts cuts c.in_ok-cheaper.ensures.learned.extends (handed_in s) n twigs c.requires.growing in
-    subst (λ (ts : List Twig). IsGrowing p a.plan.now (handed_in s) cuts n ts) (sym c.replace.ensures)
-    (twig_growing p a.plan.now (handed_in s) cuts n c.args.at twigs o there later t here.0 here.1)
+    let here : IsFoundAt p a.plan.now (handed_in s) tested n o.boxed (found.Twig t) =
+    subst (λ (box : TreeBox). IsFoundAt p a.plan.now (handed_in s) tested n box (found.Twig t)) c.in_ok-boxed.ensures
+    (subst (λ (f : Found). IsFoundAt p a.plan.now (handed_in s) tested n c.in_ok-boxed.boxed f) c.in-Twig.is c.in_ok-cheaper.ensures.found) in
+    let later = growing_on p a.plan.now s.known.tested tested c.in_ok-cheaper.ensures.learned.tested (handed_in s) n twigs c.requires.growing in
+    subst (λ (ts : List Twig). IsGrowing p a.plan.now (handed_in s) tested n ts) (sym c.replace.ensures)
+    (twig_growing p a.plan.now (handed_in s) tested n c.args.at twigs o there later t here.0 here.1)

@@ -18,7 +18,7 @@ choose-requires-clause-search_box c =
     let twigs = c.args.tree.now.twigs.items in
     let inside = slice_get_within twigs c.args.at (twig.Open c.requires.open.opened) c.requires.open.at in
     let there = read_open twigs c.args.at c.index.result.now c.in-Open.open inside c.index.ensures c.in-Open.is in
-    let known = open_known (aimed a) a.plan.now (handed_in s) s.known.cuts c.args.splits c.args.at twigs c.in-Open.open there c.requires.growing in
+    let known = open_known (aimed a) a.plan.now (handed_in s) s.known.tested c.args.splits c.args.at twigs c.in-Open.open there c.requires.growing in
     low_box a.instance.now.net.now.links c.args.splits (2 ^ 14) c.in-Open.open.boxed (omega (arith, c.requires.splits)) known.search_box
 
 pub choose-requires-clause-unfixed : goal.choose-requires-clause-unfixed
@@ -28,7 +28,7 @@ choose-requires-clause-unfixed c =
     let twigs = c.args.tree.now.twigs.items in
     let inside = slice_get_within twigs c.args.at (twig.Open c.requires.open.opened) c.requires.open.at in
     let there = read_open twigs c.args.at c.index.result.now c.in-Open.open inside c.index.ensures c.in-Open.is in
-    (open_known (aimed a) a.plan.now (handed_in s) s.known.cuts c.args.splits c.args.at twigs c.in-Open.open there c.requires.growing).unfixed
+    (open_known (aimed a) a.plan.now (handed_in s) s.known.tested c.args.splits c.args.at twigs c.in-Open.open there c.requires.growing).unfixed
 
 pub choose-requires-clause-by_none : goal.choose-requires-clause-by_none
 choose-requires-clause-by_none c =
@@ -37,7 +37,7 @@ choose-requires-clause-by_none c =
     let twigs = c.args.tree.now.twigs.items in
     let inside = slice_get_within twigs c.args.at (twig.Open c.requires.open.opened) c.requires.open.at in
     let there = read_open twigs c.args.at c.index.result.now c.in-Open.open inside c.index.ensures c.in-Open.is in
-    (open_known (aimed a) a.plan.now (handed_in s) s.known.cuts c.args.splits c.args.at twigs c.in-Open.open there c.requires.growing).unsettled.by_none
+    (open_known (aimed a) a.plan.now (handed_in s) s.known.tested c.args.splits c.args.at twigs c.in-Open.open there c.requires.growing).unsettled.by_none
 
 pub look_sides-requires-clause-open : goal.look_sides-requires-clause-open
 look_sides-requires-clause-open c =
@@ -46,7 +46,7 @@ look_sides-requires-clause-open c =
     let twigs = c.args.tree.now.twigs.items in
     let inside = slice_get_within twigs c.args.at (twig.Open c.requires.open.opened) c.requires.open.at in
     let there = read_open twigs c.args.at c.index.result.now c.in-Open.open inside c.index.ensures c.in-Open.is in
-    open_known (aimed a) a.plan.now (handed_in s) s.known.cuts c.args.splits c.args.at twigs c.in-Open.open there c.requires.growing
+    open_known (aimed a) a.plan.now (handed_in s) s.known.tested c.args.splits c.args.at twigs c.in-Open.open there c.requires.growing
 
 pub look_sides-requires-clause-choice : goal.look_sides-requires-clause-choice
 look_sides-requires-clause-choice c =
@@ -55,7 +55,7 @@ look_sides-requires-clause-choice c =
     let twigs = c.args.tree.now.twigs.items in
     let inside = slice_get_within twigs c.args.at (twig.Open c.requires.open.opened) c.requires.open.at in
     let there = read_open twigs c.args.at c.index.result.now c.in-Open.open inside c.index.ensures c.in-Open.is in
-    let known = open_known (aimed a) a.plan.now (handed_in s) s.known.cuts c.args.splits c.args.at twigs c.in-Open.open there c.requires.growing in
+    let known = open_known (aimed a) a.plan.now (handed_in s) s.known.tested c.args.splits c.args.at twigs c.in-Open.open there c.requires.growing in
     c.in_ok-choice.ensures c.args.splits known.search_box.low
 
 pub split_of-requires-clause-link : goal.split_of-requires-clause-link
@@ -68,7 +68,7 @@ split_of-requires-clause-link c =
     let choice = c.in_ok-choice.choice in
     let inside = slice_get_within twigs c.args.at (twig.Open c.requires.open.opened) c.requires.open.at in
     let there = read_open twigs c.args.at c.index.result.now o inside c.index.ensures c.in-Open.is in
-    let known = open_known (aimed a) a.plan.now (handed_in s) s.known.cuts c.args.splits c.args.at twigs o there c.requires.growing in
+    let known = open_known (aimed a) a.plan.now (handed_in s) s.known.tested c.args.splits c.args.at twigs o there c.requires.growing in
     let is = c.in_ok-choice.ensures c.args.splits known.search_box.low in
     split_link_small net.nodes net.links c.args.splits o.boxed choice.place.link choice.place.module choice.at net.checked known.search_box is.split
 
@@ -82,7 +82,7 @@ split_of-requires-clause-inside c =
     let choice = c.in_ok-choice.choice in
     let inside = slice_get_within twigs c.args.at (twig.Open c.requires.open.opened) c.requires.open.at in
     let there = read_open twigs c.args.at c.index.result.now o inside c.index.ensures c.in-Open.is in
-    let known = open_known (aimed a) a.plan.now (handed_in s) s.known.cuts c.args.splits c.args.at twigs o there c.requires.growing in
+    let known = open_known (aimed a) a.plan.now (handed_in s) s.known.tested c.args.splits c.args.at twigs o there c.requires.growing in
     let is = c.in_ok-choice.ensures c.args.splits known.search_box.low in
     split_module_small net.nodes net.links c.args.splits o.boxed choice.place.link choice.place.module choice.at net.checked known.search_box is.split
 
@@ -96,7 +96,7 @@ returns-in_ok-split-in-Twigs-clause-turn c =
     let plan = a.plan.now in
     let s = c.args.search.now in
     let handed = handed_in s in
-    let cuts = c.look_sides.new.search.known.cuts in
+    let tested = c.look_sides.new.search.known.tested in
     let n = c.args.splits in
     let i = c.args.at in
     let twigs = c.args.tree.now.twigs.items in
@@ -106,11 +106,11 @@ returns-in_ok-split-in-Twigs-clause-turn c =
     let upper = c.in-Twigs.upper in
     let inside = slice_get_within twigs i (twig.Open c.requires.open.opened) c.requires.open.at in
     let there = read_open twigs i c.index.result.now o inside c.index.ensures c.in-Open.is in
-    let known = open_known p plan handed s.known.cuts n i twigs o there c.requires.growing in
+    let known = open_known p plan handed s.known.tested n i twigs o there c.requires.growing in
     let is = c.in_ok-choice.ensures n known.search_box.low in
-    let both : AreSidesOf p plan handed cuts (n + 1) o.boxed choice (sides.Twigs lower upper) =
-    subst (λ (found : Sides). AreSidesOf p plan handed cuts (n + 1) o.boxed choice found) c.in-Twigs.is c.in_ok-cheaper.ensures.found in
-    let later = growing_on p plan s.known.cuts cuts c.in_ok-cheaper.ensures.learned.extends handed n twigs c.requires.growing in
-    subst (λ (ts : List Twig). IsGrowing p plan handed cuts (n + 1) ts) (sym c.in_ok-split-in-Twigs.ensures)
-    (subst (λ (node : Node). IsGrowing p plan handed cuts (n + 1) (set (insert (insert twigs (i + 1) upper) (i + 1) lower) i (twig.Settled node))) (sym c.split_of.ensures)
-    (split_growing p plan handed cuts n i twigs o there later choice lower upper is both))
+    let both : AreSidesOf p plan handed tested (n + 1) o.boxed choice (sides.Twigs lower upper) =
+    subst (λ (found : Sides). AreSidesOf p plan handed tested (n + 1) o.boxed choice found) c.in-Twigs.is c.in_ok-cheaper.ensures.found in
+    let later = growing_on p plan s.known.tested tested c.in_ok-cheaper.ensures.learned.tested handed n twigs c.requires.growing in
+    subst (λ (ts : List Twig). IsGrowing p plan handed tested (n + 1) ts) (sym c.in_ok-split-in-Twigs.ensures)
+    (subst (λ (node : Node). IsGrowing p plan handed tested (n + 1) (set (insert (insert twigs (i + 1) upper) (i + 1) lower) i (twig.Settled node))) (sym c.split_of.ensures)
+    (split_growing p plan handed tested n i twigs o there later choice lower upper is both))

@@ -1,10 +1,8 @@
-use Rattle.std.proofs.Common.{◌+◌, ◌<◌, List, Contains, ap, arith, get_or, length, map, subst, sym, take, ◌∙◌}
+use Rattle.std.proofs.Common.{◌+◌, ◌<◌, List, Contains, ap, arith, get_or, length, subst, sym, take, ◌∙◌}
+use Rattle.std.specs.List.{AllZip}
 use Rattle.master_bound.specs.declared.answer.Multiplier.{Multiplier}
-use Rattle.plan_terms.specs.Terms.{case_of}
 use Rattle.plan_types.specs.declared.certificate.CertLine.{CertLine}
-use Rattle.tree_check.specs.BoxValues.{AreNamedBy}
-use Rattle.tree_check.specs.Lines.{NamesLine}
-use Rattle.branch_tree.proofs.OwnValues.{own_more, weighted_of}
+use Rattle.branch_tree.proofs.OwnValues.{IsOwnLine, own_more}
 use Rattle.branch_tree.proofs.own.own_cert.Goals as goal
 
 pub unreachable-requires : goal.unreachable-requires
@@ -15,11 +13,10 @@ unreachable-requires c =
 
 pub loop-line-preserved : goal.loop-line-preserved
 loop-line-preserved c =
-    let p = case_of c.args.instance.now in
     let ls = c.args.plan.now.certificate.lines in
     let i = c.loop-line.line-index in
     let l = c.line-item.result in
     let same = c.line-item.is ∙ ap (λ (xs : List CertLine). get_or xs i l) c.items-line-items.ensures in
     let inside : i < length ls = omega (arith, c.loop-line-test.true, ap (λ (xs : List CertLine). length xs) c.items-line-items.ensures) in
-    subst (λ (ms : List Multiplier). AreNamedBy (NamesLine p c.args.cuts.now) ms (map (weighted_of p.links) (take (i + 1) ls))) (sym c.in_ok-push-in-Some.ensures.ok)
-    (own_more p c.args.cuts.now c.loop-line.lines ls i c.in-Some.cut l l inside same c.requires.sound c.in-Some.ensures c.loop-line.invariant)
+    subst (λ (ms : List Multiplier). AllZip (IsOwnLine c.args.cuts.now) ms (take (i + 1) ls)) (sym c.in_ok-push-in-Some.ensures.ok)
+    (own_more c.args.cuts.now c.loop-line.lines ls i c.in-Some.cut l l inside same c.in-Some.ensures c.loop-line.invariant)

@@ -35,7 +35,7 @@ returns-in-Tree c =
     let old = c.attempt.search in
     let new = c.grown.new.search in
     let told = c.in_ok-cheaper.ensures in
-    let is = subst (λ (g : Growth). IsGrownTo p c.attempt.plan (handed_in old) new.known.cuts c.args.limit g) c.in-Tree.is told.grown in
+    let is = subst (λ (g : Growth). IsGrownTo p c.attempt.plan (handed_in old) new.known.tested c.args.limit g) c.in-Tree.is told.grown in
     IfOk-weaker c.proof_of.result _ _
     (made_proof p c.args.plan c.attempt.plan old new c.in-Tree.tree c.args.limit (handed_in c.args.search) c.attempt.invariant.handed c.attempt.invariant.plan c.requires.certified c.requires.limit
     c.attempt.invariant.search told.search told.learned is)

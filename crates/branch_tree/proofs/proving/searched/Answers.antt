@@ -1,7 +1,7 @@
 use Rattle.std.proofs.Common.{◌≡◌, ◌∙◌, List, All, Contains, IfOk, Some, ap, arith, slice_get, subst, sym, take}
 use Rattle.std.proofs.lemmas.List.{take_all}
 use Rattle.plan_terms.specs.Terms.{CutLine, Routing, case_of}
-use Rattle.plan_swaps.proofs.Swapped.{routing_of_plan}
+use Rattle.plan_swaps.proofs.Swapped.{plan_carries, routing_of_kept}
 use Rattle.branch_tree.specs.Proving.{IsProofOf}
 use Rattle.branch_tree.proofs.proving.searched.Goals as goal
 
@@ -10,7 +10,8 @@ own_cert-requires-clause-own c = subst (λ (cuts : List CutLine). All (λ l. Con
 
 pub new-requires-2-clause-each : goal.new-requires-2-clause-each
 new-requires-2-clause-each c s r at =
-    routing_of_plan (case_of c.args.instance.now) c.args.plan c.requires.demands c.requires.routed s r
+    let p = case_of c.args.instance.now in
+    routing_of_kept p _ (plan_carries p c.args.plan c.requires.demands c.requires.routed) s r
     (subst (λ (rs : List Routing). slice_get rs s ≡ Some r) c.in_ok-copy.ensures at)
 
 pub returns : goal.returns

@@ -4,7 +4,7 @@ use Rattle.net_core.proofs.Library.{cases_lt}
 use Rattle.tree_check.specs.Proofs.{EmptiesBox}
 use Rattle.tree_check.specs.Testing.{names_in}
 use Rattle.branch_tree.specs.inner.Growing.{aimed}
-use Rattle.branch_tree.proofs.Knowing.{empties_told, none_empties}
+use Rattle.branch_tree.proofs.Knowing.{empties_told, none_empties, tests_length}
 use Rattle.branch_tree.proofs.known.Known.emptied_by.Goals as goal
 
 pub loop-i-preserved : goal.loop-i-preserved
@@ -18,5 +18,8 @@ loop-i-preserved c = λ k lt empties. ⊎_elim
 
 pub returns-clause-none : goal.returns-clause-none
 returns-clause-none c = λ _.
-    none_empties (aimed c.args.aim.now) c.args.self.now.cuts (aimed c.args.aim.now).links c.args.boxed.now c.loop-i.i (omega (arith, c.loop-i-test.false, c.len-i-end.ensures))
-    (λ k lt empties. c.loop-i.invariant k lt (empties_told c.args.aim.now c.args.self.now.cuts c.tests-tests.result c.tests-tests.ensures.instance c.tests-tests.ensures.cuts c.args.boxed.now k empties))
+    let long = tests_length (aimed c.args.aim.now) c.args.self.now c.requires in
+    let told = c.tests-tests.ensures in
+    none_empties c.args.self.now.tested (aimed c.args.aim.now).links c.args.boxed.now c.loop-i.i (omega (arith, c.loop-i-test.false, c.len-i-end.ensures, long))
+    (λ k lt empties. c.loop-i.invariant k lt
+    (empties_told c.args.aim.now c.args.self.now.tested c.tests-tests.result told.instance told.tested c.args.boxed.now k empties))

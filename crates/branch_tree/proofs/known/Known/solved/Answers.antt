@@ -1,7 +1,7 @@
 use Rattle.std.proofs.Common.{List, IfOk, IfSome, length, subst, ◌∙◌}
 use Rattle.box_program.specs.Solutions.{IsSolutionOf}
 use Rattle.plan_terms.specs.Terms.{Link}
-use Rattle.tree_check.specs.declared.tested.Tested.{Tested}
+use Rattle.line_check.specs.declared.tested.Tested.{Tested}
 use Rattle.branch_tree.proofs.known.Known.solved.Goals as goal
 
 pub returns : goal.returns
