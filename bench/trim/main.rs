@@ -17,6 +17,7 @@ mod share_covers;
 mod short_paths;
 mod simplex_core;
 mod trim_plan;
+mod warm_routing;
 
 mod plan_types {
     pub mod certificate;
@@ -89,7 +90,7 @@ unsafe extern "C" {
 }
 
 /// How often counts were asked about, how many of these a known cut refused, how many states had their routing mended, how many were
-/// routed anew, and how many of these by a routing program.
+/// asked from the kept basis, and how many by a routing program.
 pub static WORK: [std::sync::atomic::AtomicU64; 5] = [const { std::sync::atomic::AtomicU64::new(0) }; 5];
 
 pub fn work(kind: usize) {

@@ -13,8 +13,8 @@ LEAST = {
 }
 HEAD = [
     "Network", "Plan / least", "Trimmed / least", "Swapped / least", "Worst of these", "Trimmed / plan", "Swapped / plan",
-    "Plan, ms", "Trim, ms", "Swaps, ms", "Asks of trim", "By a known cut", "Mended", "Anew", "Programs",
-    "Asks of swaps", "By a known cut", "Mended", "Anew", "Programs",
+    "Plan, ms", "Trim, ms", "Swaps, ms", "Asks of trim", "By a known cut", "Mended", "Asked", "Programs",
+    "Asks of swaps", "By a known cut", "Mended", "Asked", "Programs",
 ]
 
 
