@@ -6,6 +6,7 @@ mod box_program;
 mod branch_tree;
 mod checked_fraction;
 mod cover_table;
+mod flow_mending;
 mod flow_router;
 mod greedy_router;
 mod key_paths;
@@ -22,6 +23,7 @@ mod short_paths;
 mod simplex_core;
 mod tree_check;
 mod trim_plan;
+mod warm_routing;
 
 mod plan_checker {
     pub mod kept;

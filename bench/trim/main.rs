@@ -3,6 +3,7 @@
 #![allow(dead_code, unused)]
 mod able_counts;
 mod checked_fraction;
+mod flow_mending;
 mod flow_router;
 mod greedy_router;
 mod key_paths;
