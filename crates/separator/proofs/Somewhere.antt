@@ -8,6 +8,7 @@ use Rattle.simplex_law.specs.Terms.{ColumnOf}
 use Rattle.route_law.specs.Terms.{ArePricedLengths, ArePricedSomewhere, IsCarrying, IsRouteColumn}
 use Rattle.flow_router.specs.Answers.{IsViolatedCut}
 use Rattle.metric_cut.specs.declared.cut.Cut.{Cut}
+use Rattle.node_sets.specs.Boundaries.{IsBoundaryCut, boundary_lengths}
 use Rattle.separator.specs.Findings.{IsFoundCutOf}
 
 -- ---- the same links under other states
@@ -184,3 +185,7 @@ module _ (g : Graph) (network : ∥ IsNetwork g.nodes g.links ∥₁) (demands :
     keeps = is.keeps;
     violated = is.violated;
   }
+
+-- a violated cut of a set of nodes
+pub boundary_found : (g : Graph) (demands : List Demand) (caps : Caps) (cut : Cut) → IsBoundaryCut g demands caps cut → IsFoundCutOf g demands caps cut
+boundary_found g demands caps cut is = record { of = is.of; lengths = boundary_lengths is.is_member g.links; priced = is.priced; keeps = is.keeps; violated = is.violated }

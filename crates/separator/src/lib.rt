@@ -16,6 +16,7 @@
 
 mod admission;
 pub mod answers;
+mod known_state;
 pub mod one_by_one;
 mod one_state;
 mod ranges;
@@ -24,6 +25,7 @@ mod warm_start;
 
 pub use admission::{line_of, spot_after};
 pub use answers::{Separated, StateAnswer};
+pub use known_state::KnownState;
 pub use one_by_one::OneByOne;
-pub use one_state::separate_state;
+pub use one_state::{separate_from, separate_state};
 pub use separating::Separate;

@@ -6,7 +6,7 @@ ghost use Rattle.separator.specs.inner.Working.{AreAnswersBelow, PoolsBelow, Poo
 use crate::admission::{line_and_spot, spot_of};
 use crate::answers::{Separated, StateAnswer};
 use crate::separating::Separate;
-use crate::warm_start::KnownColumns;
+use crate::warm_start::KnownStates;
 use cut_pool::Board;
 use flow_router::RouteAnswer;
 use metric_cut::Cut;
@@ -29,7 +29,7 @@ pub struct OneByOne<'a> {
     board: Board<'a>,
     alloc: Global,
     began: Remembered<u64>,
-    known: KnownColumns,
+    known: KnownStates,
     pub ghost began_before: { began.value ≤ length board.entries },
 }
 
@@ -46,7 +46,7 @@ impl<'a> OneByOne<'a> {
             board,
             alloc,
             began,
-            known: KnownColumns::new(alloc),
+            known: KnownStates::new(alloc),
         }
     }
 
@@ -64,7 +64,7 @@ fn answer_state(
     state: StateId,
     caps: &Caps,
     board: &mut Board,
-    known: &mut KnownColumns,
+    known: &mut KnownStates,
 ) -> Result<StateAnswer, NoMemory>
     requires net { board.old.net.now ≡ instance.now.net.now }
     requires listed { board.old.states.now ≡ instance.now.states.now }
@@ -102,7 +102,7 @@ fn answer_states(
     instance: &Instance,
     caps: &Caps,
     board: &mut Board,
-    known: &mut KnownColumns,
+    known: &mut KnownStates,
 ) -> Result<List<StateAnswer>, NoMemory>
     requires net { board.old.net.now ≡ instance.now.net.now }
     requires listed { board.old.states.now ≡ instance.now.states.now }

@@ -1,6 +1,7 @@
-ghost use Rattle.std.specs.Prelude.{◌≡◌, ◌<◌, ◌+◌, IfOk, OnErr, length};
-ghost use Rattle.plan_terms.specs.Terms.{graph_in, case_of, graph_of};
+ghost use Rattle.std.specs.Prelude.{◌≡◌, ◌<◌, ◌+◌, IfOk, List as Seq, OnErr, length};
+ghost use Rattle.plan_terms.specs.Terms.{Caps as CapsOf, Demand, Graph, graph_in, case_of, graph_of};
 ghost use Rattle.route_law.specs.Terms.{AreJoined};
+ghost use Rattle.warm_routing.specs.WarmAnswers.{IsWarmAnswer};
 ghost use Rattle.separator.specs.Findings.{IsFinding, IsFoundCutOf};
 
 use crate::ranges::are_caps;
@@ -9,6 +10,10 @@ use metric_cut::Cut;
 use net_core::{Caps, Instance, List, NoMemory, RouteColumn, RouteTask, StateId};
 use node_sets::{grown_set, threshold_set};
 use std::alloc::Global;
+use warm_routing::{WarmAnswer, WarmRouter};
+
+/// A kept basis is given so many turns.
+const TURNS: u32 = 1_000;
 
 /// The cut of a set of nodes that lie near to each other under the lengths of a violated cut, and that cut itself where no such set is
 /// violated or memory runs out.
@@ -23,8 +28,8 @@ fn nearest_set(alloc: Global, task: &RouteTask, cut: Cut) -> Cut
     }
 }
 
-/// A violated cut of a set of nodes that grow, else what routing finds, its cut exchanged for that of a near set if one is violated.
-fn separate_task(
+/// What routing finds, its cut exchanged for that of a near set if one is violated.
+fn route_near(
     alloc: Global,
     task: &RouteTask,
     known: &mut List<RouteColumn>,
@@ -35,12 +40,72 @@ fn separate_task(
     ensures same { OnErr result (known.new ≡ known.old) }
 {
     are_caps(task.caps);
-    if let Some(set) = grown_set(alloc, task)? {
-        return Ok(RouteAnswer::Violated(set));
-    }
     match route_task(alloc, task, known)? {
         RouteAnswer::Violated(cut) => Ok(RouteAnswer::Violated(nearest_set(alloc, task, cut))),
         answer => Ok(answer),
+    }
+}
+
+/// A violated cut of a set of nodes that grow, else what routing finds.
+fn separate_task(
+    alloc: Global,
+    task: &RouteTask,
+    known: &mut List<RouteColumn>,
+) -> Result<RouteAnswer, NoMemory>
+    requires scale { 0 < task.now.caps.now.scale }
+    requires joined { AreJoined (graph_of task.now.graph) task.now.demands.now }
+    ensures found { IfOk result (IsFinding (graph_of task.now.graph) task.now.demands.now task.now.caps.now) }
+    ensures same { OnErr result (known.new ≡ known.old) }
+{
+    match grown_set(alloc, task)? {
+        Some(set) => Ok(RouteAnswer::Violated(set)),
+        None => route_near(alloc, task, known),
+    }
+}
+
+/// What a kept basis finds, as an answer.
+fn answer_of(found: WarmAnswer) -> RouteAnswer
+    ensures { (g : Graph) (demands : Seq Demand) (caps : CapsOf) → IsWarmAnswer g demands caps found → IsFinding g demands caps result }
+{
+    match found {
+        WarmAnswer::Routed(routing) => RouteAnswer::Routed(routing),
+        WarmAnswer::Violated(cut) => RouteAnswer::Violated(cut),
+    }
+}
+
+/// What a kept basis finds, and where it finds nothing, what routing finds.
+fn route_warm(
+    alloc: Global,
+    task: &RouteTask,
+    known: &mut List<RouteColumn>,
+    warm: &mut WarmRouter,
+) -> Result<RouteAnswer, NoMemory>
+    requires scale { 0 < task.now.caps.now.scale }
+    requires joined { AreJoined (graph_of task.now.graph) task.now.demands.now }
+    ensures found { IfOk result (IsFinding (graph_of task.now.graph) task.now.demands.now task.now.caps.now) }
+    ensures same { OnErr result (known.new ≡ known.old) }
+{
+    match warm.ask(task, TURNS)? {
+        Some(found) => Ok(answer_of(found)),
+        None => route_near(alloc, task, known),
+    }
+}
+
+/// A violated cut of a set of nodes that grow, else what a kept basis finds, else what routing finds.
+fn separate_task_warm(
+    alloc: Global,
+    task: &RouteTask,
+    known: &mut List<RouteColumn>,
+    warm: &mut WarmRouter,
+) -> Result<RouteAnswer, NoMemory>
+    requires scale { 0 < task.now.caps.now.scale }
+    requires joined { AreJoined (graph_of task.now.graph) task.now.demands.now }
+    ensures found { IfOk result (IsFinding (graph_of task.now.graph) task.now.demands.now task.now.caps.now) }
+    ensures same { OnErr result (known.new ≡ known.old) }
+{
+    match grown_set(alloc, task)? {
+        Some(set) => Ok(RouteAnswer::Violated(set)),
+        None => route_warm(alloc, task, known, warm),
     }
 }
 
@@ -77,4 +142,35 @@ pub fn separate_state<'a>(
         caps,
     };
     separate_task(alloc, &task, known)
+}
+
+/// Answers as `separate_state` does with known columns, and before it routes it asks a basis that is kept from one such question to the
+/// next.
+///
+/// All states and all capacities of a network with its demands have one system of equations with other right sides, so that a basis which
+/// one question ended with is some turns away from the next answer. One of the same state is nearest. Nothing is known of it, and what it
+/// finds is counted anew; a state is routed where it finds nothing within 1,000 turns.
+///
+/// It takes the time and the memory of `separate_state` and of `WarmRouter::ask`.
+pub fn separate_from<'a>(
+    alloc: Global,
+    instance: &Instance<'a>,
+    state: StateId,
+    caps: &'a Caps,
+    known: &mut List<RouteColumn>,
+    warm: &mut WarmRouter,
+) -> Result<RouteAnswer, NoMemory>
+    requires state { state.0 < length instance.now.states.now.listed + 1 }
+    requires scale { 0 < caps.now.scale }
+    requires caps { length caps.now.nums ≡ length instance.now.net.now.links }
+    requires joined { AreJoined (graph_in (case_of instance.now) state.0) instance.now.demands.now }
+    ensures found { IfOk result (IsFinding (graph_in (case_of instance.now) state.0) instance.now.demands.now caps.now) }
+    ensures same { OnErr result (known.new ≡ known.old) }
+{
+    let task = RouteTask {
+        graph: instance.in_state(state),
+        demands: instance.demands,
+        caps,
+    };
+    separate_task_warm(alloc, &task, known, warm)
 }

@@ -2,7 +2,7 @@ use Rattle.std.proofs.Common.{subst}
 use Rattle.plan_terms.specs.Terms.{graph_of}
 use Rattle.flow_router.specs.Answers.{IsRouteAnswer}
 use Rattle.separator.proofs.Somewhere.{found_cut}
-use Rattle.separator.proofs.one_state.separate_task.Goals as goal
+use Rattle.separator.proofs.one_state.route_near.Goals as goal
 
 pub nearest_set-requires-clause-cut : goal.nearest_set-requires-clause-cut
 nearest_set-requires-clause-cut c =
