@@ -15,15 +15,15 @@ use std::thread::Threads;
 /// So many threads work for a caller beside its own.
 const HELPERS: u32 = 3;
 
-/// Routes a state with what is known of it. Where another worker has that in hand, it is routed without.
+/// Routes a state with what is kept of it. Where another worker has that in hand, it is routed without.
 fn route(round: &Round, state: StateId) -> Result<RouteAnswer, NoMemory>
     requires { state.0 < length round.now.instance.states.now.listed + 1 }
     ensures { IfOk result (IsFoundOf round.now state.0) }
 {
     let instance = &round.instance;
-    if let Some(columns) = round.columns.get(state.0 as usize) {
-        if let Some(mut known) = columns.try_lock() {
-            return separate_state(round.alloc, instance, state, round.caps, &mut known);
+    if let Some(kept) = round.kept.get(state.0 as usize) {
+        if let Some(mut known) = kept.try_lock() {
+            return known.separate(round.alloc, instance, state, round.caps);
         }
     }
     separate_state(

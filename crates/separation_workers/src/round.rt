@@ -4,13 +4,14 @@ ghost use Rattle.hint_board.specs.Hints.{hint_links};
 
 use flow_router::RouteAnswer;
 use hint_board::HintBoard;
-use net_core::{Caps, Instance, List, RouteColumn, StateId};
+use net_core::{Caps, Instance, StateId};
+use separator::KnownState;
 use std::alloc::Global;
 use std::sync::Mutex;
 use std::sync::atomic::{AtomicU32, Ordering};
 
-/// The columns that a state's routing program ended with, for the worker that has the state.
-pub type StateColumns = Mutex<List<RouteColumn>>;
+/// What is kept of a state, for the worker that has the state.
+pub type KeptState = Mutex<KnownState>;
 
 /// A round of separation: what all its workers share.
 #[derive(Drop)]
@@ -21,8 +22,8 @@ pub struct Round<'i, 'c, 'h, 'k> {
     /// The caller's number.
     pub caller: u32,
     pub hints: &'h HintBoard,
-    /// What is known of each state, from state 0 on; where there is nothing, a state is routed without.
-    pub columns: &'k [StateColumns],
+    /// What is kept of each state, from state 0 on; where there is nothing, a state is routed without.
+    pub kept: &'k [KeptState],
     /// The first state that nobody has taken.
     pub next: AtomicU32,
     pub ghost survivable: { IsSurvivable (case_of instance) },

@@ -10,7 +10,7 @@ ghost use Rattle.separation_workers.specs.inner.Rounds.{AreFound, IsFoundOf, IsI
 use crate::beside::{find_state, find_states};
 use crate::hints::post;
 use crate::hold::Hold;
-use crate::round::{Round, StateColumns, StateFound};
+use crate::round::{KeptState, Round, StateFound};
 use crate::spot::spot_in_turn;
 use board_desk::Caller;
 use cut_pool::Board;
@@ -20,7 +20,7 @@ use metric_cut::Cut;
 use net_core::{Caps, Instance, List, NoMemory, StateId};
 use outside_io::Gate;
 use plan_types::Spot;
-use separator::{Separate, Separated, StateAnswer, line_of};
+use separator::{KnownState, Separate, Separated, StateAnswer, line_of};
 use std::alloc::Global;
 use std::sync::atomic::AtomicU32;
 use std::sync::{Mutex, Wait};
@@ -50,7 +50,7 @@ pub struct Workers<'r, 'd, 'a, R, G> {
     alloc: Global,
     hints: &'r HintBoard,
     caller: Caller<'d, 'a>,
-    columns: List<StateColumns>,
+    kept: List<KeptState>,
     pub ghost own: { ∥ IsAtDesk caller ∥₁ },
     pub ghost seen: { HasSeenHistory caller },
     pub ghost links: { hint_links hints.now ≡ length (board_made caller).net.now.links },
@@ -79,7 +79,7 @@ impl<'r, 'd, 'a, R, G> Workers<'r, 'd, 'a, R, G> {
             alloc,
             hints,
             caller,
-            columns: List::new(alloc),
+            kept: List::new(alloc),
         }
     }
 
@@ -93,10 +93,10 @@ impl<'r, 'd, 'a, R, G> Workers<'r, 'd, 'a, R, G> {
     }
 }
 
-/// A place for what is known of each of so many states.
-fn reach(alloc: Global, columns: &mut List<StateColumns>, states: u32) -> Result<(), NoMemory> {
-    for _ in columns.len()..states as usize {
-        columns.push(Mutex::new(List::new(alloc)))?;
+/// A place for what is kept of each of so many states.
+fn reach(alloc: Global, kept: &mut List<KeptState>, states: u32) -> Result<(), NoMemory> {
+    for _ in kept.len()..states as usize {
+        kept.push(Mutex::new(KnownState::new(alloc)))?;
     }
     Ok(())
 }
@@ -240,7 +240,7 @@ impl<'r, 'd, 'a, R: Threads + Wait, G: Gate> Separate for Workers<'r, 'd, 'a, R,
         instance: &Instance,
         caps: &Caps,
     ) -> Result<List<StateAnswer>, NoMemory> {
-        reach(self.alloc, &mut self.columns, instance.states.count())?;
+        reach(self.alloc, &mut self.kept, instance.states.count())?;
         let round = Round {
             alloc: self.alloc,
             instance: Instance {
@@ -251,7 +251,7 @@ impl<'r, 'd, 'a, R: Threads + Wait, G: Gate> Separate for Workers<'r, 'd, 'a, R,
             caps,
             caller: self.caller.number(),
             hints: self.hints,
-            columns: self.columns.items(),
+            kept: self.kept.items(),
             next: AtomicU32::new(0),
         };
         answer_round(self.rt, self.gate, self.hold, &round, &mut self.caller)
