@@ -6,3 +6,4 @@ pub mod ModuleLaws
 pub mod DemandLaws
 pub mod CertificateLaws
 pub mod PartsOnline
+pub mod Once

@@ -1,4 +1,4 @@
-ghost use Rattle.std.specs.Prelude.{◌≡◌, ◌<◌, ◌≤◌, ◌^◌, ◌++◌, ◌∷◌, [], length, map, Ok, None, true, not, IsTrue, IfOk, OnOk};
+ghost use Rattle.std.specs.Prelude.{◌≡◌, ◌≢◌, ◌<◌, ◌≤◌, AllPairs, ◌^◌, ◌++◌, ◌∷◌, [], length, map, Ok, None, true, not, IsTrue, IfOk, OnOk};
 ghost use Rattle.plan_terms.specs.Terms.{is_named};
 ghost use Rattle.snd_tokens.specs.Terms.{left, size};
 ghost use Rattle.text_kit.specs.Terms.{ReadsAs, TakesElement, sound, word_at};
@@ -32,7 +32,32 @@ pub struct PlanDemands<'a> {
     ghost few: { length list < 2 ^ 32 },
 }
 
+/// The names of demands, which are all different.
+fn demand_places(alloc: Global, demands: &[Demand]) -> Result<Places<'_>, NoMemory>
+    requires { AllPairs (λ x y. x.name ≢ y.name) demands.now }
+    ensures { IfOk result (λ p. p ≡ map (λ d. d.name) demands.now) }
+{
+    let mut places = Places::new(alloc);
+    for demand in demands {
+        if !places.add(demand.name.bytes())? {
+            unreachable!();
+        }
+    }
+    Ok(places)
+}
+
 impl<'a> PlanDemands<'a> {
+    /// A copy of demands whose names are all different, and which are found by these. It takes time and memory in their number.
+    pub fn of(alloc: Global, demands: &'a [Demand]) -> Result<PlanDemands<'a>, NoMemory>
+        requires few { length demands.now ≤ 2048 }
+        requires different { AllPairs (λ x y. x.name ≢ y.name) demands.now }
+        ensures { IfOk result (λ p. p.list ≡ demands.now) }
+    {
+        let places = demand_places(alloc, demands)?;
+        let list = List::from_slice(alloc, demands)?;
+        Ok(PlanDemands { list, places })
+    }
+
     /// The demand that a word names.
     fn demand_of(&self, word: &[u8]) -> Result<u32, ReportKind>
         ensures { result ≡ demand_of self.now.list word.now }

@@ -235,7 +235,7 @@ impl<'a> PlanReader<'a> {
     /// A state, a row or a number that is out of its range, or a column too many or too few is `limit`.
     /// It takes memory for the capacities and the basis, which has a column for each link, and on a
     /// routing for each demand too.
-    pub(crate) fn evidence(&self, text: &mut Cursor) -> Result<Evidence, ReportRefusal>
+    pub fn evidence(&self, text: &mut Cursor) -> Result<Evidence, ReportRefusal>
         ensures { ReadsAs (λ e. e) result (left text.new) (evidence_at (reader_names self.now) (reader_demands self.now) (left text.old)) }
     {
         let (at, word) = word(ReportKind::Token, ReportKind::Ended, text)?;
