@@ -1,0 +1,21 @@
+-- where the first fault of a tree stands
+use Rattle.std.specs.Prelude.{◌≡◌, ℕ, ◌+◌, ◌<◌, List, drop, take}
+use Rattle.plan_terms.specs.Terms.{Demand}
+use Rattle.plan_report.specs.Terms.{KnownNames}
+use Rattle.snd_tokens.specs.Terms.{run_length}
+use Rattle.text_kit.specs.declared.refusal.Refusal.{Refusal}
+use Rattle.text_kit.specs.declared.refusal.Refusal.TheVariants.{Bad, NoMemory}
+use Rattle.report_words.specs.declared.fault.ReportKind.{ReportKind}
+use Rattle.proof_reader.specs.declared.tree.ReadTree.{ReadTree}
+use Rattle.proof_reader.specs.Trees.{SpellsTree}
+
+-- the token at a place, or the one byte there that is none, and the byte after it stand before another place
+pub record PassesToken (at limit : ℕ) (bytes : List ℕ) : Type 0 where
+  pub byte : at + 1 < limit
+  pub token : at + run_length (drop at bytes) < limit
+
+-- A fault doesn't stand too early: no bytes that agree past the token or the end of the line at its place are spelled right.
+abbrev pub IsNoEarlyTreeFault : KnownNames → List Demand → ℕ → List ℕ → Refusal ReportKind → Type 0
+IsNoEarlyTreeFault known demands from bytes (Bad at kind) =
+    (other : List ℕ) (n : ℕ) (t : ReadTree) → take n bytes ≡ take n other → PassesToken at n bytes → SpellsTree known demands from other t → ⊥
+IsNoEarlyTreeFault known demands from bytes NoMemory = Unit {0}
