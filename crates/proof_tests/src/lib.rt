@@ -1,0 +1,9 @@
+//! Tests of the reading of printed branch trees.
+#![tactic(auto)]
+
+#[cfg(test)]
+mod faults;
+#[cfg(test)]
+mod texts;
+#[cfg(test)]
+mod trees;
