@@ -1,5 +1,5 @@
 -- what the program of a box leaves: an amount of each module of several counts, and a certificate
-use Rattle.std.specs.Prelude.{◌≡◌, ◌≢◌, ℕ, ◌+◌, ◌<◌, ◌^◌, ◌⊎◌, List, All, AllPairs, Contains, length, min}
+use Rattle.std.specs.Prelude.{◌≡◌, ◌≢◌, ℕ, ◌+◌, ◌<◌, ◌≤◌, ◌^◌, ◌⊎◌, List, All, AllPairs, Contains, length, min}
 use Rattle.plan_terms.specs.Terms.{Link}
 use Rattle.master_bound.specs.declared.answer.Multiplier.{Multiplier}
 use Rattle.tree_check.specs.Boxes.{IsFixedSpan, IsInSpan, span_at}
@@ -42,6 +42,10 @@ pub record IsMultiplierOf (n : ℕ) (m : Multiplier) : Type 0 where
   pub line : m.cut < n
   pub some : 0 < m.num
   pub narrow : m.num < 2 ^ 62
+
+-- a multiplier of a line from an index on
+abbrev pub IsFrom : ℕ → Multiplier → Type 0
+IsFrom first m = first ≤ m.cut
 
 -- numerators of some of n lines over a denominator
 pub record IsCertificateOf (n : ℕ) (cert : BoxCert) : Type 0 where

@@ -1,5 +1,5 @@
 ghost use Rattle.std.specs.Prelude.{◌<◌, All, IfOk, OnOk};
-ghost use Rattle.box_program.specs.Solutions.{IsCertificateOf, IsMultiplierOf};
+ghost use Rattle.box_program.specs.Solutions.{IsCertificateOf, IsFrom, IsMultiplierOf};
 
 use crate::program::BoxProgram;
 use checked_fraction::gcd;
@@ -55,17 +55,21 @@ fn common_divisor(den: u128, terms: &[Term]) -> u128
     common.max(1)
 }
 
-/// Puts the multiplier of one of so many lines last, unless it is 0 or too wide.
+/// Puts the multiplier of one of so many lines last, unless it is of one before the first, 0 or too wide.
 fn push_multiplier(
     multipliers: &mut List<Multiplier>,
+    first: usize,
     lines: u32,
     line: u32,
     num: u128,
 ) -> Result<(), NoMemory>
-    requires { All (IsMultiplierOf lines) multipliers.old }
-    ensures { OnOk result (All (IsMultiplierOf lines) multipliers.new) }
+    requires are { All (IsMultiplierOf lines) multipliers.old }
+    requires later { All (IsFrom first) multipliers.old }
+    ensures are { OnOk result (All (IsMultiplierOf lines) multipliers.new) }
+    ensures later { OnOk result (All (IsFrom first) multipliers.new) }
 {
-    if line >= lines || num == 0 || num >= 1 << 62 {
+    let known = first <= line as usize && line < lines;
+    if !known || num == 0 || num >= 1 << 62 {
         return Ok(());
     }
     multipliers.push(Multiplier {
@@ -78,16 +82,24 @@ fn push_multiplier(
 /// The multipliers of numerators over a divisor.
 fn multipliers_of(
     alloc: Global,
+    first: usize,
     lines: u32,
     terms: &[Term],
     divisor: u128,
 ) -> Result<List<Multiplier>, NoMemory>
     requires { 0 < divisor }
-    ensures { IfOk result (All (IsMultiplierOf lines)) }
+    ensures are { IfOk result (All (IsMultiplierOf lines)) }
+    ensures later { IfOk result (All (IsFrom first)) }
 {
     let mut multipliers = List::new(alloc);
     for term in terms {
-        push_multiplier(&mut multipliers, lines, term.line, term.num / divisor)?;
+        push_multiplier(
+            &mut multipliers,
+            first,
+            lines,
+            term.line,
+            term.num / divisor,
+        )?;
     }
     Ok(multipliers)
 }
@@ -100,12 +112,13 @@ pub(crate) fn certificate_of(
     line_unit: u128,
     cost_unit: u64,
 ) -> Result<BoxCert, NoMemory>
-    ensures { IfOk result (IsCertificateOf program.now.lines) }
+    ensures are { IfOk result (IsCertificateOf program.now.lines) }
+    ensures later { IfOk result (λ cert. All (IsFrom program.now.first) cert.lines) }
 {
     let terms = terms_of(alloc, program, best, cost_unit)?;
     let den = (best.den as u128).saturating_mul(line_unit);
     let common = common_divisor(den, terms.items());
-    let lines = multipliers_of(alloc, program.lines, terms.items(), common)?;
+    let lines = multipliers_of(alloc, program.first, program.lines, terms.items(), common)?;
     Ok(BoxCert {
         den: (den / common).max(1),
         lines,

@@ -227,13 +227,14 @@ fn add_line(
     }
 }
 
-/// The columns of a box's program: those of greatest counts, and those of lines that the least counts don't meet.
+/// The columns of a box's program: those of greatest counts, and those of lines from an index on that the least counts don't meet.
 pub(crate) fn columns_of(
     alloc: Global,
     rows: &Rows,
     links: &[Link],
     boxed: &[List<Span>],
     tested: &[Tested],
+    first: usize,
     unit: u128,
 ) -> Result<List<Rated>, NoMemory>
     requires few { length tested.now ≤ 2 ^ 24 }
@@ -242,7 +243,7 @@ pub(crate) fn columns_of(
     ensures count { IfOk result (λ columns. length columns ≤ 2 ^ 25) }
 {
     let mut columns = cap_columns(alloc, rows)?;
-    for i in 0..tested.len() {
+    for i in first.min(tested.len())..tested.len() {
         let line = &tested[i].line;
         let gain = gain_of(line, links, boxed) / unit;
         let load = line_load(alloc, rows.modules.items(), line, gain, unit)?;

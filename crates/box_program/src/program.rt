@@ -25,6 +25,8 @@ pub(crate) struct Rated {
 pub(crate) struct BoxProgram {
     pub rows: Rows,
     pub columns: List<Rated>,
+    /// Lines from this index on are taken.
+    pub first: usize,
     /// How many lines there are.
     pub lines: u32,
     pub ghost few: { length columns < 2 ^ 30 },

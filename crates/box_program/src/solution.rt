@@ -1,6 +1,6 @@
-ghost use Rattle.std.specs.Prelude.{◌≡◌, ◌<◌, ◌≤◌, ◌^◌, IfOk, IfSome, length};
+ghost use Rattle.std.specs.Prelude.{◌≡◌, ◌<◌, ◌≤◌, ◌^◌, All, IfOk, IfSome, length};
 ghost use Rattle.std.specs.List.{AllZip};
-ghost use Rattle.box_program.specs.Solutions.{IsSolutionOf};
+ghost use Rattle.box_program.specs.Solutions.{IsFrom, IsSolutionOf};
 ghost use Rattle.box_program.specs.inner.BoxRows.{AreRowsOf, IsAmountAt};
 
 use crate::certificate::certificate_of;
@@ -15,10 +15,13 @@ use simplex_core::{Optimum, SimplexFault, solve};
 use std::alloc::Global;
 use tree_check::{BoxCert, Boxed, Span};
 
-/// Lines, and a number that divides each of theirs.
+/// Lines by their indices, of which a program takes those from one on.
 #[derive(Clone, Copy)]
 pub struct Lines<'a> {
     pub tested: &'a [Tested],
+    /// Earlier lines are left out, and no certificate names them.
+    pub first: usize,
+    /// What divides each number of the lines that are taken.
     pub unit: u128,
 }
 
@@ -112,7 +115,8 @@ fn solution_of(
 ) -> Result<Solution, NoMemory>
     requires rows { AreRowsOf links.now boxed.now program.now.rows.modules }
     requires prices { length best.now.duals.nums ≡ length program.now.rows.bounds }
-    ensures { IfOk result (IsSolutionOf links.now program.now.lines boxed.now) }
+    ensures is { IfOk result (IsSolutionOf links.now program.now.lines boxed.now) }
+    ensures later { IfOk result (λ s. All (IsFrom program.now.first) s.cert.lines) }
 {
     let den = price_den(best);
     let modules = program.rows.modules.items();
@@ -139,23 +143,24 @@ fn first_lines(tested: &[Tested]) -> &[Tested]
 fn program_of(
     alloc: Global,
     links: &[Link],
-    tested: &[Tested],
-    unit: u128,
+    lines: Lines,
     boxed: &[List<Span>],
     scale: &Scale,
 ) -> Result<Option<BoxProgram>, NoMemory>
-    requires { 0 < unit }
+    requires { 0 < lines.unit }
     ensures rows { IfOk result (λ o. IfSome o (λ p. AreRowsOf links.now boxed.now p.rows.modules)) }
-    ensures lines { IfOk result (λ o. IfSome o (λ p. p.lines ≤ length tested.now)) }
+    ensures lines { IfOk result (λ o. IfSome o (λ p. p.lines ≤ length lines.entry.tested.now)) }
+    ensures first { IfOk result (λ o. IfSome o (λ p. p.first ≡ lines.entry.first)) }
 {
-    let tested = first_lines(tested);
+    let tested = first_lines(lines.tested);
     let Some(rows) = rows_of(alloc, links, boxed, scale)? else {
         return Ok(None);
     };
-    let columns = columns_of(alloc, &rows, links, boxed, tested, unit)?;
+    let columns = columns_of(alloc, &rows, links, boxed, tested, lines.first, lines.unit)?;
     Ok(Some(BoxProgram {
         rows,
         columns,
+        first: lines.first,
         lines: tested.len() as u32,
     }))
 }
@@ -176,7 +181,8 @@ fn optimum_of(alloc: Global, program: &BoxProgram) -> Result<Option<Optimum<u32>
 /// further parts over one denominator, which together cost least of all that meet the lines; and numerators of lines over a
 /// denominator, a certificate of the greatest value for the box. None where a number is too wide.
 ///
-/// Only the form of what is answered is promised, and that each amount is in its module's span. Where all numbers are small, it is the
+/// Only the form of what is answered is promised: that each amount is in its module's span, and that no line before the first one taken
+/// is named. Where all numbers are small, it is the
 /// optimum; `value_in` says what the certificate is worth.
 ///
 /// One link with a module of 5.000 for 3.000, and a line that asks for 12.000 of it: in the box of all counts the amount is 2 and 2 / 5,
@@ -192,14 +198,16 @@ pub fn solved(
     lines: Lines,
     boxed: &Boxed,
 ) -> Result<Option<Solution>, NoMemory>
-    ensures { IfOk result (λ o. IfSome o (IsSolutionOf links.now (length lines.entry.tested.now) boxed.now)) }
+    ensures solution { IfOk result (λ o. IfSome o (IsSolutionOf links.now (length lines.entry.tested.now) boxed.now)) }
+    ensures later { IfOk result (λ o. IfSome o (λ s. All (IsFrom lines.entry.first) s.cert.lines)) }
 {
     let Some(scale) = scale_of(links, cost) else {
         return Ok(None);
     };
     let unit = lines.unit.max(1);
+    let lines = Lines { unit, ..lines };
     let spans = boxed.items();
-    let Some(program) = program_of(alloc, links, lines.tested, unit, spans, &scale)? else {
+    let Some(program) = program_of(alloc, links, lines, spans, &scale)? else {
         return Ok(None);
     };
     let Some(best) = optimum_of(alloc, &program)? else {
