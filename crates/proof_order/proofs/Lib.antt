@@ -1,0 +1,3 @@
+mod Moves
+pub mod NamesKept
+mod Placed
