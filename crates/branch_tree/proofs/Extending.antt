@@ -1,5 +1,5 @@
 -- what is known of a search and its tree stays where cuts are put after
-use Rattle.std.proofs.Common.{◌≡◌, ℕ, zero, suc, ◌+◌, ◌^◌, ◌≤◌, false, List, [], ◌∷◌, ◌++◌, All, Some, append-nil, length, length-append, slice_get, take, refl, ap, subst, sym, ◌∙◌, arith}
+use Rattle.std.proofs.Common.{◌≡◌, ℕ, zero, suc, ◌+◌, ◌^◌, ◌≤◌, false, List, [], ◌∷◌, ◌++◌, All, Some, append-nil, length, length-append, map, slice_get, take, refl, ap, subst, sym, ◌∙◌, arith}
 use Rattle.std.proofs.lemmas.List.{append_assoc}
 use Rattle.std.specs.List.{AllZip}
 use Rattle.net_core.proofs.Library.{All-weaker}
@@ -16,14 +16,20 @@ use Rattle.tree_check.specs.declared.boxes.Span.{Span}
 use Rattle.line_check.specs.declared.inequality.Inequality.{Inequality}
 use Rattle.tree_check.specs.declared.proof.BoxCert.{BoxCert}
 use Rattle.tree_check.proofs.Naming.{holds_map, value_map}
+use Rattle.able_counts.specs.AbleTests.{IsTestOf as IsAbleTestOf}
+use Rattle.proof_order.specs.Orders.{cuts_among}
+use Rattle.proof_order.specs.declared.entry.Entry.{Entry}
+use Rattle.proof_order.specs.declared.entry.Entry.TheVariants as entry
 use Rattle.branch_tree.specs.declared.aim.Aim.{Aim}
+use Rattle.branch_tree.specs.declared.known.Known.{Known}
 use Rattle.branch_tree.specs.declared.certs.Valued.{Valued}
-use Rattle.branch_tree.specs.declared.evaluation.Search.{Search}
+use Rattle.branch_tree.specs.declared.search.Search.{Search}
 use Rattle.branch_tree.specs.declared.twigs.OpenBox.{OpenBox}
 use Rattle.branch_tree.specs.declared.twigs.Twig.{Twig}
 use Rattle.branch_tree.specs.declared.twigs.Twig.TheVariants as twig
-use Rattle.branch_tree.specs.inner.Growing.{Extends, HasLearned, IsAim, IsGrowing, IsOpenBox, IsOwnCert, IsSearchBox, IsTwigOf, IsValued, aimed, handed_in, most_cuts}
+use Rattle.branch_tree.specs.inner.Growing.{Extends, HasLearned, IsAim, IsKnown, IsSearch, IsGrowing, IsOpenBox, IsOwnCert, IsSearchBox, IsTwigOf, IsValued, aimed, handed_in, most_entries}
 use Rattle.branch_tree.specs.inner.Places.{AreTwigsOf, twig_sides}
+use Rattle.branch_tree.proofs.Knowing.{known_same}
 use Rattle.branch_tree.proofs.OwnValues.{IsOwnLine}
 use Rattle.branch_tree.proofs.Placing.{placed_weaker}
 
@@ -60,23 +66,65 @@ take_before (suc n) (x ∷ xs) ys le = ap (λ rest. x ∷ rest) (take_before n x
 -- ---- a search that has learned more
 
 pub learned_none : (s : Search) → HasLearned s s
-learned_none s = record { extends = extends_none s.known.cuts; tested = extends_none s.known.tested; handed = refl }
+learned_none s = record { extends = extends_none s.known.entries; tested = extends_none s.known.tested; divides = refl; handed = refl; room = refl }
 
 pub learned_on : (a b c : Search) → HasLearned a b → HasLearned b c → HasLearned a c
 learned_on a b c one other = record {
-  extends = extends_on a.known.cuts b.known.cuts c.known.cuts one.extends other.extends;
+  extends = extends_on a.known.entries b.known.entries c.known.entries one.extends other.extends;
   tested = extends_on a.known.tested b.known.tested c.known.tested one.tested other.tested;
+  divides = other.divides ∙ one.divides;
   handed = other.handed ∙ one.handed;
+  room = other.room ∙ one.room;
 }
 
--- the cuts that were handed in are the same
-pub handed_same : (old new : Search) → HasLearned old new → old.handed ≤ length old.known.cuts → handed_in new ≡ handed_in old
-handed_same old new learned inside =
-    ap (λ n. take n new.known.cuts) learned.handed
-    ∙ (ap (λ (cuts : List CutLine). take old.handed cuts) learned.extends.is ∙ take_before old.handed old.known.cuts learned.extends.more inside)
+-- the handed-in ones are the same
+taken_same : (old new : Search) → HasLearned old new → old.handed ≤ length old.known.entries → take new.handed new.known.entries ≡ take old.handed old.known.entries
+taken_same old new learned inside =
+    ap (λ n. take n new.known.entries) learned.handed
+    ∙ (ap (λ (es : List Entry). take old.handed es) learned.extends.is ∙ take_before old.handed old.known.entries learned.extends.more inside)
 
-pub more_cuts : (old new : List CutLine) → Extends old new → length old ≤ length new
-more_cuts old new extends = omega (arith, ap (λ (cuts : List CutLine). length cuts) extends.is, length-append old extends.more)
+pub handed_same : (old new : Search) → HasLearned old new → old.handed ≤ length old.known.entries → handed_in new ≡ handed_in old
+handed_same old new learned inside = ap (λ (es : List Entry). cuts_among es) (taken_same old new learned inside)
+
+pub more_entries : (old new : List Entry) → Extends old new → length old ≤ length new
+more_entries old new extends = omega (arith, ap (λ (es : List Entry). length es) extends.is, length-append old extends.more)
+
+-- a search with the same handed-in cuts
+pub search_with : (p : Case) (old new : Search) → IsSearch p old → IsKnown p new.known → IsAbleTestOf p new.test → new.handed ≡ old.handed → new.room ≡ old.room
+    → take new.handed new.known.entries ≡ take old.handed old.known.entries → new.handed ≤ length new.known.entries → IsSearch p new
+search_with p old new was known test handed room taken inside = record {
+  known = known;
+  test = test;
+  first = taken ∙ (was.first ∙ ap (λ (es : List Entry). map entry.Cut (cuts_among es)) (sym taken));
+  inside = inside;
+  few = omega (arith, was.few, handed);
+  enough = omega (arith, was.enough, handed, room);
+  small = omega (arith, was.small, room);
+}
+
+-- and one that has learned more
+pub search_on : (p : Case) (old new : Search) → IsSearch p old → IsKnown p new.known → IsAbleTestOf p new.test → HasLearned old new → IsSearch p new
+search_on p old new was known test learned =
+    search_with p old new was known test learned.handed learned.room (taken_same old new learned was.inside)
+    (omega (arith, was.inside, learned.handed, more_entries old.known.entries new.known.entries learned.extends))
+
+-- ---- a search whose programs take other lines
+
+module _ (old : Search) (k : Known) (entries : k.entries ≡ old.known.entries) (tested : k.tested ≡ old.known.tested) (divides : k.divides ≡ old.known.divides) where
+  abbrev pub aside : Search
+  aside = record { known = k; test = old.test; handed = old.handed; room = old.room }
+
+  pub aside_learned : HasLearned old aside
+  aside_learned = record {
+    extends = subst (λ (es : List Entry). Extends old.known.entries es) (sym entries) (extends_none old.known.entries);
+    tested = subst (λ (ts : List Tested). Extends old.known.tested ts) (sym tested) (extends_none old.known.tested);
+    divides = divides;
+    handed = refl;
+    room = refl;
+  }
+
+  pub aside_search : (p : Case) → IsSearch p old → IsSearch p aside
+  aside_search p was = search_on p old aside was (known_same p old.known k was.known entries tested divides) was.test aside_learned
 
 -- ---- boxes and places
 
@@ -90,19 +138,19 @@ low_box links n m box le is = record {
 
 -- ---- the plan's certificate
 
-own_on : (old new : List CutLine) → Extends old new → (ms : List Multiplier) (ls : List CertLine)
+own_on : (old new : List Entry) → Extends old new → (ms : List Multiplier) (ls : List CertLine)
     → AllZip (IsOwnLine old) ms ls → AllZip (IsOwnLine new) ms ls
 own_on old new extends [] [] own = tt
 own_on old new extends [] (l ∷ ls) own = absurd own
 own_on old new extends (m ∷ ms) [] own = absurd own
-own_on old new extends (m ∷ ms) (l ∷ ls) own = ((at_still old new extends m.cut l.cut own.0.0, own.0.1), own_on old new extends ms ls own.1)
+own_on old new extends (m ∷ ms) (l ∷ ls) own = ((at_still old new extends m.cut (entry.Cut l.cut) own.0.0, own.0.1), own_on old new extends ms ls own.1)
 
 -- it stays the plan's by indices
-pub cert_on : (old new : List CutLine) → Extends old new → (plan : Plan) (cert : BoxCert) → IsOwnCert old plan cert → IsOwnCert new plan cert
+pub cert_on : (old new : List Entry) → Extends old new → (plan : Plan) (cert : BoxCert) → IsOwnCert old plan cert → IsOwnCert new plan cert
 cert_on old new extends plan cert own = record { den = own.den; named = own_on old new extends cert.lines plan.certificate.lines own.named }
 
 -- an aim stays one
-pub aim_on : (a : Aim) (old new : List CutLine) → Extends old new → IsAim old a → IsAim new a
+pub aim_on : (a : Aim) (old new : List Entry) → Extends old new → IsAim old a → IsAim new a
 aim_on a old new extends is = record {
   survivable = is.survivable;
   demands = is.demands;
@@ -147,9 +195,13 @@ module _ (p : Case) (plan : Plan) (old new : List Tested) (extends : Extends old
     few = is.few;
   }
 
-pub cuts_most : (s : Search) → length s.known.cuts ≤ most_cuts s
-cuts_most s = first_of (omega arith, grind arith)
+pub entries_most : (s : Search) → length s.known.entries ≤ most_entries s
+entries_most s = first_of (omega arith, grind arith)
 
--- how many cuts there are at most stays
-pub most_on : (a b : Search) → HasLearned a b → length b.known.cuts ≤ most_cuts a → most_cuts b ≤ most_cuts a
-most_on a b learned few = first_of (omega (arith, few, learned.handed), grind (arith, few, learned.handed))
+-- how many entries there are at most grows by no more than the entries
+pub most_more : (a b : Search) (n : ℕ) → HasLearned a b → length b.known.entries ≤ most_entries a + n → most_entries b ≤ most_entries a + n
+most_more a b n learned few = first_of (omega (arith, few, learned.room), grind (arith, few, learned.room))
+
+-- how many entries there are at most stays
+pub most_on : (a b : Search) → HasLearned a b → length b.known.entries ≤ most_entries a → most_entries b ≤ most_entries a
+most_on a b learned few = first_of (omega (arith, few, learned.room), grind (arith, few, learned.room))

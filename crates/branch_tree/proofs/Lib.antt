@@ -13,6 +13,7 @@ pub mod OwnValues
 pub mod Placing
 pub mod PlanBounds
 pub mod Proved
+pub mod Reordered
 pub mod Restarts
 pub mod Results
 pub mod Rooms

@@ -1,5 +1,5 @@
 -- what is found at a box
-use Rattle.std.proofs.Common.{◌≡◌, ℕ, ◌+◌, ◌^◌, ◌≤◌, ◌<◌, false, List, [], ◌∷◌, ◌++◌, All, Some, get_or, length, map, take, refl, subst, sym, arith, slice_get}
+use Rattle.std.proofs.Common.{◌≡◌, ℕ, zero, suc, ◌+◌, ◌^◌, ◌≤◌, ◌<◌, false, List, [], ◌∷◌, ◌++◌, All, Some, get_or, length, map, take, refl, subst, sym, arith, slice_get}
 use Rattle.net_core.proofs.Library.{All-map, All-take, All-weaker, slice_get-get_or}
 use Rattle.net_core.proofs.Networks.{few_links}
 use Rattle.module_choice.proofs.Carrying.{network_links}
@@ -20,12 +20,15 @@ use Rattle.branch_tree.specs.declared.certs.Valued.{Valued}
 use Rattle.branch_tree.specs.declared.found.Cheaper.{Cheaper}
 use Rattle.branch_tree.specs.declared.found.Found.TheVariants as found
 use Rattle.branch_tree.specs.declared.twigs.Twig.TheVariants as twig
+use Rattle.proof_order.specs.declared.entry.Entry.{Entry}
+use Rattle.proof_order.specs.declared.entry.Entry.TheVariants as entry
+use Rattle.branch_tree.specs.declared.search.Search.{Search}
 use Rattle.branch_tree.specs.declared.known.Known.{Known}
-use Rattle.branch_tree.specs.inner.Growing.{AreCheaperCounts, IsFoundAt, IsKnown, IsSearchBox, IsValued}
+use Rattle.branch_tree.specs.inner.Growing.{AreCheaperCounts, IsFoundAt, IsKnown, IsSearch, IsSearchBox, IsValued, handed_in}
 use Rattle.branch_tree.proofs.Extending.{low_box}
 use Rattle.branch_tree.proofs.FreeValues.{free_value}
 use Rattle.branch_tree.proofs.LeastCosts.{free_reaches}
-use Rattle.branch_tree.proofs.Knowing.{place_names}
+use Rattle.branch_tree.proofs.Knowing.{entry_at, place_names}
 use Rattle.branch_tree.proofs.ViolatedCuts.{violated_empties}
 use Rattle.branch_tree.proofs.WideForms.{wide_form}
 
@@ -46,13 +49,22 @@ pub valued_more : (p : Case) (plan : Plan) (tested : List Tested) (box : TreeBox
     → HasBoxValue (names_by tested false) p.links box new.cert new.value → old.value ≤ new.value → IsValued p plan tested box new
 valued_more p plan tested box old new is has more = record { has = has; least = λ value plans. omega (arith, is.least value plans, more) }
 
+at_of_take : {X : Type 0} (n : ℕ) (xs : List X) (i : ℕ) (x : X) → slice_get (take n xs) i ≡ Some x → slice_get xs i ≡ Some x
+at_of_take zero xs i x at = absurd (cc at)
+at_of_take (suc n) [] i x at = absurd (cc at)
+at_of_take (suc n) (y ∷ xs) zero x at = at
+at_of_take (suc n) (y ∷ xs) (suc i) x at = at_of_take n xs i x at
+
 -- a box that no cut empties, and whose best certificate doesn't close it
-pub unsettled_box : (p : Case) (plan : Plan) (k : Known) (n : ℕ) (box : TreeBox) (v : Valued) → IsKnown p k
-    → ((i : ℕ) → EmptiesBox (names_by k.tested false) p.links box i → ⊥) → IsValued p plan k.tested box v → ((value : ℕ) → HasFreeValue p.links box value → value ≤ v.value)
-    → v.value < plan.cost → IsUnsettled p.links plan (take n k.cuts) box
-unsettled_box p plan k n box v known none valued free below = record {
-  unemptied = All-take (λ (cut : CutLine). IsEmptiedBy p.links box (line_of_cut p.links cut) → ⊥) n k.cuts
-      (λ i d lt empties. none i (line_of_cut p.links (get_or k.cuts i d), place_names p k known i (get_or k.cuts i d) (slice_get-get_or k.cuts i d lt), empties));
+pub unsettled_box : (p : Case) (plan : Plan) (s : Search) (box : TreeBox) (v : Valued) → IsSearch p s
+    → ((i : ℕ) → EmptiesBox (names_by s.known.tested false) p.links box i → ⊥) → IsValued p plan s.known.tested box v
+    → ((value : ℕ) → HasFreeValue p.links box value → value ≤ v.value) → v.value < plan.cost → IsUnsettled p.links plan (handed_in s) box
+unsettled_box p plan s box v is none valued free below = record {
+  unemptied = λ i d lt empties.
+      let cut : CutLine = get_or (handed_in s) i d in
+      let there : slice_get (take s.handed s.known.entries) i ≡ Some (entry.Cut cut) =
+      subst (λ (es : List Entry). slice_get es i ≡ Some (entry.Cut cut)) (sym is.first) (entry_at (handed_in s) i cut (slice_get-get_or (handed_in s) i d lt)) in
+      none i (line_of_cut p.links cut, place_names p s.known is.known i cut (at_of_take s.handed s.known.entries i (entry.Cut cut) there), empties);
   by_plan = λ value plans. omega (arith, valued.least value plans, below);
   by_none = λ value frees. omega (arith, free value frees, below);
 }
@@ -71,12 +83,12 @@ last_at [] x = refl
 last_at (y ∷ xs) x = last_at xs x
 
 -- a cut that its counts violate is put last
-pub violated_found : (p : Case) (plan : Plan) (handed : List CutLine) (old new : Known) (cut : CutLine) (n i : ℕ) (box : TreeBox) → i ≡ length old.cuts
-    → AreCounts p.links (least_counts box) → IsFixedBox box → new.cuts ≡ old.cuts ++ cut ∷ [] → IsKnown p new → IsCut p cut
+pub violated_found : (p : Case) (plan : Plan) (handed : List CutLine) (old new : Known) (cut : CutLine) (n i : ℕ) (box : TreeBox) → i ≡ length old.entries
+    → AreCounts p.links (least_counts box) → IsFixedBox box → new.entries ≡ old.entries ++ entry.Cut cut ∷ [] → IsKnown p new → IsCut p cut
     → Violates (whole_caps (capacities p.links (least_counts box))) cut → IsFoundAt p plan handed new.tested n box (found.Twig (twig.Settled (Empty i)))
 violated_found p plan handed old new cut n i box last shape fixed is known of violated =
-    let there : slice_get new.cuts i ≡ Some cut = subst (λ (k : ℕ). slice_get new.cuts k ≡ Some cut) (sym last)
-    (subst (λ (cs : List CutLine). slice_get cs (length old.cuts) ≡ Some cut) (sym is) (last_at old.cuts cut)) in
+    let there : slice_get new.entries i ≡ Some (entry.Cut cut) = subst (λ (k : ℕ). slice_get new.entries k ≡ Some (entry.Cut cut)) (sym last)
+    (subst (λ (es : List Entry). slice_get es (length old.entries) ≡ Some (entry.Cut cut)) (sym is) (last_at old.entries (entry.Cut cut))) in
     empty_found p plan handed new.tested n box i (
       line_of_cut p.links cut,
       place_names p new known i cut there,

@@ -7,7 +7,9 @@ use Rattle.plan_types.specs.declared.plan.Plan.{Plan}
 use Rattle.plan_swaps.specs.Swaps.{IsCheaperPlan}
 use Rattle.tree_check.specs.Boxes.{whole_box}
 use Rattle.tree_check.specs.Proofs.{HasOpenValue, HoldAllNodes, HoldsNode, IsOpenAt, VerdictFollows}
-use Rattle.tree_check.specs.Trees.{IsWhole, TreeBox, boxes_left}
+use Rattle.tree_check.specs.BoxValues.{HasBoxValue}
+use Rattle.tree_check.specs.Trees.{IsWhole, TreeBox, boxes_left, sides_of}
+use Rattle.tree_check.specs.declared.proof.BoxCert.{BoxCert}
 use Rattle.tree_check.specs.declared.proof.Node.{Node}
 use Rattle.tree_check.specs.declared.proof.Node.TheVariants.{Split, Closed, Empty, Spent, Stuck}
 use Rattle.tree_check.specs.declared.proof.Proof.{Proof}
@@ -16,8 +18,11 @@ use Rattle.tree_check.specs.declared.proof.Verdict.TheVariants.{Cheapest, Above}
 use Rattle.line_check.specs.Lines.{NamesLine, sources_of}
 use Rattle.line_check.specs.Testing.{AreTested, names_by}
 use Rattle.line_check.specs.declared.inequality.Inequality.{Inequality}
+use Rattle.line_check.specs.declared.line.Line.{Line}
 use Rattle.line_check.specs.declared.tested.Tested.{Tested}
-use Rattle.tree_check.proofs.Naming.{holds_map, open_map, value_once}
+use Rattle.proof_order.specs.Orders.{cuts_among, lines_among, moved_certificate, moved_line, moved_node, place_of, source_of}
+use Rattle.proof_order.specs.declared.entry.Entry.{Entry}
+use Rattle.proof_order.proofs.NamesKept.{names_are_kept}
 use Rattle.branch_tree.specs.FewSplits.{IsCheapNode, is_split, split_number}
 use Rattle.branch_tree.specs.Proving.{HasNodeCause, HasOpenLeaf, HasPlanValue, HaveNodeCauses, IsCertificateOfLeaves, IsProofOf}
 use Rattle.branch_tree.specs.inner.Growing.{IsGrowing, IsSettledNode, IsTwigOf}
@@ -29,40 +34,54 @@ use Rattle.branch_tree.specs.declared.twigs.Twig.{Twig}
 use Rattle.branch_tree.specs.declared.twigs.Twig.TheVariants as twig
 use Rattle.branch_tree.proofs.CheapSplits.{cheap_of}
 use Rattle.branch_tree.proofs.PlanBounds.{plan_value}
+use Rattle.branch_tree.proofs.Reordered.{holds_moved, moved_sides, moved_split, names_once, value_moved, value_same}
 use Rattle.branch_tree.proofs.Rooms.{splits_are_few}
 use Rattle.branch_tree.proofs.Shown.{HasOpenPlace, IsOpenOf, SomeOpen, at_most_each, least_falls, least_reached, open_somewhere}
 use Rattle.branch_tree.proofs.TwigNodes.{twig_at, twigs_whole}
 
 -- ---- nodes and places
 
--- a place of the tree, with its node and its box
-record PlaceAt (is : TreeBox → Twig → Type 0) (boxes : List TreeBox) (twigs : List Twig) (i : ℕ) : Type 0 where
-  box : TreeBox
-  later : List TreeBox
-  of : Twig
-  there : slice_get twigs i ≡ Some of
-  at : slice_get (map node_of twigs) i ≡ Some (node_of of)
-  next : boxes_left boxes (take i (map node_of twigs)) ≡ box ∷ later
-  here : is box of
+abbrev once_if : Bool → ℕ
+once_if b = cond b 1 0
 
-place_at : (is : TreeBox → Twig → Type 0) (boxes : List TreeBox) (twigs : List Twig) (i : ℕ) → AreTwigsOf is boxes twigs → i < length twigs → PlaceAt is boxes twigs i
-place_at is boxes [] i are lt = absurd (omega (arith, lt))
-place_at is [] (t ∷ ts) i are lt = absurd are
-place_at is (b ∷ bs) (t ∷ ts) zero are lt = record { box = b; later = bs; of = t; there = refl; at = refl; next = refl; here = are.0 }
-place_at is (b ∷ bs) (t ∷ ts) (suc i) are lt =
-    let rest = place_at is (twig_sides b t ++ bs) ts i are.1 (omega (arith, lt)) in
-    record { box = rest.box; later = rest.later; of = rest.of; there = rest.there; at = rest.at; next = rest.next; here = rest.here }
+-- what each place becomes by other indices
+module _ (to : ℕ → ℕ) where
+  abbrev pub told_node : Twig → Node
+  told_node t = moved_node to (node_of t)
 
--- the splits of the nodes are those of the places
-splits_same : (twigs : List Twig) → split_number (map node_of twigs) ≡ twig_splits twigs
-splits_same [] = refl
-splits_same (t ∷ ts) =
-    omega (
-      arith,
-      splits_same ts,
-      sum_by-cons (λ (n : Node). cond (is_split n) 1 0) (node_of t) (map node_of ts),
-      sum_by-cons (λ (x : Twig). cond (is_split (node_of x)) 1 0) t ts,
-    )
+  told_sides : (box : TreeBox) (t : Twig) → sides_of box (told_node t) ≡ twig_sides box t
+  told_sides box t = moved_sides to box (node_of t)
+
+  -- a place of the tree, with its node and its box
+  record PlaceAt (is : TreeBox → Twig → Type 0) (boxes : List TreeBox) (twigs : List Twig) (i : ℕ) : Type 0 where
+    box : TreeBox
+    later : List TreeBox
+    of : Twig
+    there : slice_get twigs i ≡ Some of
+    at : slice_get (map told_node twigs) i ≡ Some (told_node of)
+    next : boxes_left boxes (take i (map told_node twigs)) ≡ box ∷ later
+    here : is box of
+
+  place_at : (is : TreeBox → Twig → Type 0) (boxes : List TreeBox) (twigs : List Twig) (i : ℕ) → AreTwigsOf is boxes twigs → i < length twigs → PlaceAt is boxes twigs i
+  place_at is boxes [] i are lt = absurd (omega (arith, lt))
+  place_at is [] (t ∷ ts) i are lt = absurd are
+  place_at is (b ∷ bs) (t ∷ ts) zero are lt = record { box = b; later = bs; of = t; there = refl; at = refl; next = refl; here = are.0 }
+  place_at is (b ∷ bs) (t ∷ ts) (suc i) are lt =
+      let rest = place_at is (twig_sides b t ++ bs) ts i are.1 (omega (arith, lt)) in
+      let next = subst (λ (sides : List TreeBox). boxes_left (sides ++ bs) (take i (map told_node ts)) ≡ rest.box ∷ rest.later) (sym (told_sides b t)) rest.next in
+      record { box = rest.box; later = rest.later; of = rest.of; there = rest.there; at = rest.at; next = next; here = rest.here }
+
+  -- the splits of the nodes are those of the places
+  splits_same : (twigs : List Twig) → split_number (map told_node twigs) ≡ twig_splits twigs
+  splits_same [] = refl
+  splits_same (t ∷ ts) =
+      omega (
+        arith,
+        splits_same ts,
+        sum_by-cons (λ (n : Node). cond (is_split n) 1 0) (told_node t) (map told_node ts),
+        sum_by-cons (λ (x : Twig). cond (is_split (node_of x)) 1 0) t ts,
+        ap once_if (moved_split to (node_of t)),
+      )
 
 verdict_open : (shown : Shown) → shown.unsettled ≡ true → verdict_of shown ≡ Above shown.least
 verdict_open shown is = ap (λ (b : Bool). if b then Above shown.least else Cheapest) is
@@ -76,7 +95,26 @@ same_least a b e = cc e
 no_least : (a : ℕ) → Cheapest ≡ Above a → ⊥
 no_least a e = cc e
 
-module _ (p : Case) (plan : Plan) (handed cuts : List CutLine) (tested : List Tested) (n : ℕ) where
+-- the proof of a plan whose nodes are those of places that name entries
+abbrev pub told_proof : Plan → List Entry → List Twig → Proof
+told_proof plan entries twigs = record {
+  plan = plan;
+  cuts = cuts_among entries;
+  lines = map (moved_line (place_of entries)) (lines_among entries);
+  tree = map (told_node (place_of entries)) twigs;
+  verdict = verdict_of (all_shown plan.cost twigs);
+}
+
+-- the cause of a node is that of the moved one
+cause_moved : (to : ℕ → ℕ) (p : Case) (plan : Plan) (handed : List CutLine) (limit : ℕ) (tree : List Node) (box : TreeBox) (node : Node)
+    → HasNodeCause p plan handed limit tree box node → HasNodeCause p plan handed limit tree box (moved_node to node)
+cause_moved to p plan handed limit tree box (Split link at_module number) cause = cause
+cause_moved to p plan handed limit tree box (Closed cert) cause = tt
+cause_moved to p plan handed limit tree box (Empty cut) cause = tt
+cause_moved to p plan handed limit tree box (Spent cert) cause = cause
+cause_moved to p plan handed limit tree box (Stuck cert evidence) cause = cause
+
+module _ (p : Case) (plan : Plan) (handed : List CutLine) (entries : List Entry) (tested : List Tested) (n : ℕ) where
   holds_of : (box : TreeBox) (t : Twig) → IsTwigOf p plan handed tested n box t → HoldsNode (names_by tested false) p plan.cost box (node_of t)
   holds_of box (twig.Settled node) is = is.0
   holds_of box (twig.Stuck v evidence) is = ((v.value, is.valued.has), is.fixed, is.form)
@@ -95,12 +133,7 @@ module _ (p : Case) (plan : Plan) (handed cuts : List CutLine) (tested : List Te
   cause_of limit tree box (twig.Stuck v evidence) ends is = is.wide
   cause_of limit tree box (twig.Open o) ends is = (⊎_elim (λ (none : (b : OpenBox) → twig.Open o ≡ twig.Open b → ⊥). absurd (none o refl)) (λ reached. reached) ends, is.unfixed, is.unsettled)
 
-  -- an open leaf's place is open, and worth less than the plan
-  open_value : (box : TreeBox) (t : Twig) (value : ℕ) → IsTwigOf p plan handed tested n box t → IsOpenOf t value → HasOpenValue (names_by tested false) p.links box (node_of t) value
-  open_value box (twig.Settled node) value is opened = absurd opened
-  open_value box (twig.Stuck v evidence) value is opened = subst (λ k. HasOpenValue (names_by tested false) p.links box (Stuck v.cert evidence) k) opened is.valued.has
-  open_value box (twig.Open o) value is opened = subst (λ k. HasOpenValue (names_by tested false) p.links box (Spent o.best.cert) k) opened is.valued.has
-
+  -- an open place is worth less than the plan
   open_below : (box : TreeBox) (t : Twig) (value : ℕ) → IsTwigOf p plan handed tested n box t → IsOpenOf t value → value < plan.cost
   open_below box (twig.Settled node) value is opened = absurd opened
   open_below box (twig.Stuck v evidence) value is opened = let low = is.below in let same : v.value ≡ value = opened in omega (arith, low, same)
@@ -112,50 +145,77 @@ module _ (p : Case) (plan : Plan) (handed cuts : List CutLine) (tested : List Te
   open_least certified box (twig.Stuck v evidence) value is opened worth has = let le = is.valued.least worth has in let same : v.value ≡ value = opened in omega (arith, le, same)
   open_least certified box (twig.Open o) value is opened worth has = let le = is.valued.least worth has in let same : o.best.value ≡ value = opened in omega (arith, le, same)
 
-  settled_closed : (box : TreeBox) (node : Node) (value : ℕ) → IsSettledNode p plan handed box node → HasOpenValue (names_by tested false) p.links box node value → ⊥
+  abbrev lines_told : List Line
+  lines_told = map (moved_line (place_of entries)) (lines_among entries)
+
+  -- what indices name in the proof
+  abbrev names_told : ℕ → Inequality → Type 0
+  names_told = NamesLine p (sources_of (cuts_among entries) lines_told)
+
+  abbrev pub node_told : Twig → Node
+  node_told = told_node (place_of entries)
+
+  told_once : (i : ℕ) (a b : Inequality) → names_told i a → names_told i b → a ≡ b
+  told_once = names_once p (sources_of (cuts_among entries) lines_told) (length (sources_of (cuts_among entries) lines_told)) false
+
+  settled_closed : (box : TreeBox) (node : Node) (value : ℕ) → IsSettledNode p plan handed box node
+      → HasOpenValue names_told p.links box (moved_node (place_of entries) node) value → ⊥
   settled_closed box (Split link at_module number) value is has = has
   settled_closed box (Closed cert) value is has = has
   settled_closed box (Empty cut) value is has = has
   settled_closed box (Spent cert) value is has = is
   settled_closed box (Stuck cert evidence) value is has = is
 
-  -- what indices name by the tests is what they name by the cuts
-  module _ (are : AreTested p (sources_of cuts []) tested) where
-    by_cuts : (i : ℕ) (line : Inequality) → names_by tested false i line → NamesLine p (sources_of cuts []) i line
-    by_cuts i line names = (are.names false i line).1 names
+  module _ (are : AreTested p (map source_of entries) tested) where
+    -- what an index names by the tests, its place in the proof names
+    by_order : (i : ℕ) (line : Inequality) → names_by tested false i line → names_told (place_of entries i) line
+    by_order i line names = names_are_kept p entries i line ((are.names false i line).1 names)
 
-    by_tests : (i : ℕ) (line : Inequality) → NamesLine p (sources_of cuts []) i line → names_by tested false i line
-    by_tests i line names = (are.names false i line).0 names
+    told_value : (box : TreeBox) (cert : BoxCert) (value : ℕ) → HasBoxValue (names_by tested false) p.links box cert value
+        → HasBoxValue names_told p.links box (moved_certificate (place_of entries) cert) value
+    told_value = value_moved (names_by tested false) names_told (place_of entries) by_order p.links
+
+    -- an open leaf's place is open
+    open_told : (box : TreeBox) (t : Twig) (value : ℕ) → IsTwigOf p plan handed tested n box t → IsOpenOf t value
+        → HasOpenValue names_told p.links box (node_told t) value
+    open_told box (twig.Settled node) value is opened = absurd opened
+    open_told box (twig.Stuck v evidence) value is opened =
+        subst (λ k. HasOpenValue names_told p.links box (node_told (twig.Stuck v evidence)) k) opened (told_value box v.cert v.value is.valued.has)
+    open_told box (twig.Open o) value is opened =
+        subst (λ k. HasOpenValue names_told p.links box (node_told (twig.Open o)) k) opened (told_value box o.best.cert o.best.value is.valued.has)
 
     -- a leaf that is open has the value of its place
-    opened_of : (box : TreeBox) (t : Twig) (value : ℕ) → IsTwigOf p plan handed tested n box t → HasOpenValue (names_by tested false) p.links box (node_of t) value → IsOpenOf t value
+    opened_of : (box : TreeBox) (t : Twig) (value : ℕ) → IsTwigOf p plan handed tested n box t → HasOpenValue names_told p.links box (node_told t) value → IsOpenOf t value
     opened_of box (twig.Settled node) value is has = settled_closed box node value is.1 has
-    opened_of box (twig.Stuck v evidence) value is has = value_once tested p.links box v.cert v.value value is.valued.has has
-    opened_of box (twig.Open o) value is has = value_once tested p.links box o.best.cert o.best.value value is.valued.has has
+    opened_of box (twig.Stuck v evidence) value is has =
+        value_same names_told told_once p.links box (moved_certificate (place_of entries) v.cert) v.value value (told_value box v.cert v.value is.valued.has) has
+    opened_of box (twig.Open o) value is has =
+        value_same names_told told_once p.links box (moved_certificate (place_of entries) o.best.cert) o.best.value value
+        (told_value box o.best.cert o.best.value is.valued.has) has
 
     module _ (twigs : List Twig) (growing : IsGrowing p plan handed tested n twigs) where
       abbrev shown : Shown
       shown = all_shown plan.cost twigs
 
-      abbrev pub proof_of : Proof
-      proof_of = record { plan = plan; cuts = cuts; lines = []; tree = map node_of twigs; verdict = verdict_of shown }
+      abbrev proof_of : Proof
+      proof_of = told_proof plan entries twigs
 
       abbrev known : TreeBox → Twig → Type 0
       known = IsTwigOf p plan handed tested n
 
       hold_all : HoldAllNodes p proof_of
       hold_all i lt =
-          let place = place_at known (whole_box p.links ∷ []) twigs i growing.placed (omega (arith, lt, length-map twigs node_of)) in
+          let place = place_at (place_of entries) known (whole_box p.links ∷ []) twigs i growing.placed (omega (arith, lt, length-map twigs node_told)) in
           record {
             box = place.box;
-            node = node_of place.of;
+            node = node_told place.of;
             is_node = record { at = place.at; later = place.later; next = place.next };
-            holds = holds_map (names_by tested false) (NamesLine p (sources_of cuts [])) by_cuts p plan.cost place.box (node_of place.of)
+            holds = holds_moved (names_by tested false) names_told (place_of entries) by_order p plan.cost place.box (node_of place.of)
                 (holds_of place.box place.of place.here);
           }
 
-      whole : IsWhole p.links (map node_of twigs)
-      whole = twigs_whole known (whole_box p.links ∷ []) twigs growing.placed
+      whole : IsWhole p.links (map node_told twigs)
+      whole = twigs_whole node_told (told_sides (place_of entries)) known (whole_box p.links ∷ []) twigs growing.placed
 
       -- an open place is an open leaf
       record LeafAt (i value : ℕ) : Type 0 where
@@ -166,16 +226,15 @@ module _ (p : Case) (plan : Plan) (handed cuts : List CutLine) (tested : List Te
 
       leaf_at : (i value : ℕ) → HasOpenPlace twigs i value → LeafAt i value
       leaf_at i value h =
-          let place = place_at known (whole_box p.links ∷ []) twigs i growing.placed (slice_get_within twigs i h.of h.at) in
+          let place = place_at (place_of entries) known (whole_box p.links ∷ []) twigs i growing.placed (slice_get_within twigs i h.of h.at) in
           let same : h.of ≡ place.of = let a = h.at in let b = place.there in cc (a, b) in
           let opened : IsOpenOf place.of value = subst (λ (t : Twig). IsOpenOf t value) same h.is in
           record {
             leaf = record {
               box = place.box;
-              node = node_of place.of;
+              node = node_told place.of;
               is_node = record { at = place.at; later = place.later; next = place.next };
-              has = open_map (names_by tested false) (NamesLine p (sources_of cuts [])) by_cuts p.links place.box (node_of place.of) value
-                  (open_value place.box place.of value place.here opened);
+              has = open_told place.box place.of value place.here opened;
             };
             of = place.of;
             here = place.here;
@@ -185,13 +244,12 @@ module _ (p : Case) (plan : Plan) (handed cuts : List CutLine) (tested : List Te
       -- an open leaf is an open place
       place_of_leaf : (i value : ℕ) → IsOpenAt p proof_of i value → HasOpenPlace twigs i value
       place_of_leaf i value leaf =
-          let there = twig_at known (whole_box p.links ∷ []) twigs i leaf.box leaf.is_node.later leaf.node growing.placed leaf.is_node.at leaf.is_node.next in
+          let there = twig_at node_told (told_sides (place_of entries)) known (whole_box p.links ∷ []) twigs i leaf.box leaf.is_node.later leaf.node growing.placed leaf.is_node.at leaf.is_node.next in
           record {
             of = there.twig;
             at = there.at;
             is = opened_of leaf.box there.twig value there.here
-                (open_map (NamesLine p (sources_of cuts [])) (names_by tested false) by_tests p.links leaf.box (node_of there.twig) value
-                (subst (λ (node : Node). HasOpenValue (NamesLine p (sources_of cuts [])) p.links leaf.box node value) (sym there.same) leaf.has));
+                (subst (λ (node : Node). HasOpenValue names_told p.links leaf.box node value) (sym there.same) leaf.has);
           }
 
       -- something is open where the verdict says so
@@ -254,15 +312,16 @@ module _ (p : Case) (plan : Plan) (handed cuts : List CutLine) (tested : List Te
 
       causes : (limit : ℕ) → AreSettled twigs ⊎ (n ≡ limit) → HaveNodeCauses p handed limit proof_of
       causes limit ends i box node is_node =
-          let there = twig_at known (whole_box p.links ∷ []) twigs i box is_node.later node growing.placed is_node.at is_node.next in
+          let there = twig_at node_told (told_sides (place_of entries)) known (whole_box p.links ∷ []) twigs i box is_node.later node growing.placed is_node.at is_node.next in
           let splits = growing.splits in
-          subst (λ (x : Node). HasNodeCause p plan handed limit (map node_of twigs) box x) there.same
-          (cause_of limit (map node_of twigs) box there.twig
+          subst (λ (x : Node). HasNodeCause p plan handed limit (map node_told twigs) box x) there.same
+          (cause_moved (place_of entries) p plan handed limit (map node_told twigs) box (node_of there.twig)
+          (cause_of limit (map node_told twigs) box there.twig
           (⊎_elim
           (λ (settled : AreSettled twigs). inl (λ o same. settled i (record { opened = o; at = there.at ∙ ap (λ (t : Twig). Some t) same })))
-          (λ (same : n ≡ limit). inr (omega (arith, splits_same twigs, splits, same)))
+          (λ (same : n ≡ limit). inr (omega (arith, splits_same (place_of entries) twigs, splits, same)))
           ends)
-          there.here)
+          there.here))
 
       -- a tree that needn't grow is a proof
       below : (i value : ℕ) → IsOpenAt p proof_of i value → value < plan.cost
@@ -271,7 +330,7 @@ module _ (p : Case) (plan : Plan) (handed cuts : List CutLine) (tested : List Te
           open_below l.leaf.box l.of value l.here l.opened
 
       -- each split is a cheap one
-      cheap_node : (limit : ℕ) → AreSettled twigs ⊎ (n ≡ limit) → (i : ℕ) → i < length (map node_of twigs) → IsCheapNode p.links plan.cost (map node_of twigs) i
+      cheap_node : (limit : ℕ) → AreSettled twigs ⊎ (n ≡ limit) → (i : ℕ) → i < length (map node_told twigs) → IsCheapNode p.links plan.cost (map node_told twigs) i
       cheap_node limit ends i lt =
           let known = hold_all i lt in
           record {
@@ -281,7 +340,7 @@ module _ (p : Case) (plan : Plan) (handed cuts : List CutLine) (tested : List Te
             cheap = cheap_of p proof_of handed limit known.box known.node known.holds (causes limit ends i known.box known.node known.is_node);
           }
 
-      pub is_proof : (given : Plan) (limit : ℕ) → All (IsCut p) cuts → IsCheaperPlan p given plan → take (length handed) cuts ≡ handed → IsCertifiedPlan p plan → n ≤ limit → limit ≤ 9999 → AreSettled twigs ⊎ (n ≡ limit)
+      pub is_proof : (given : Plan) (limit : ℕ) → All (IsCut p) (cuts_among entries) → IsCheaperPlan p given plan → take (length handed) (cuts_among entries) ≡ handed → IsCertifiedPlan p plan → n ≤ limit → limit ≤ 9999 → AreSettled twigs ⊎ (n ≡ limit)
           → IsProofOf p given handed limit proof_of
       is_proof given limit sound cheaper first certified within few ends =
           let long = growing.few in
@@ -289,12 +348,11 @@ module _ (p : Case) (plan : Plan) (handed cuts : List CutLine) (tested : List Te
           record {
             plan = cheaper;
             cuts = first;
-            lines = refl;
             sound = sound;
-            few = omega (arith, length-map twigs node_of, long, within, few);
+            few = omega (arith, length-map twigs node_told, long, within, few);
             accepted = record { hold = hold_all; whole = whole; follows = follows };
-            within = omega (arith, splits_same twigs, splits, within);
-            fewer = λ charged. splits_are_few p.links plan.cost (map node_of twigs) charged (cheap_node limit ends);
+            within = omega (arith, splits_same (place_of entries) twigs, splits, within);
+            fewer = λ charged. splits_are_few p.links plan.cost (map node_told twigs) charged (cheap_node limit ends);
             causes = causes limit ends;
             below = below;
             told = told;

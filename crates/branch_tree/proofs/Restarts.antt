@@ -1,25 +1,32 @@
 -- plans that become cheaper on the way
-use Rattle.std.proofs.Common.{◌≡◌, ◌∙◌, ℕ, zero, suc, ◌+◌, ◌*◌, ◌^◌, ◌≤◌, ◌<◌, List, [], ◌∷◌, drop, length, map, take, refl, ap, sym, subst, arith}
-use Rattle.std.proofs.lemmas.List.{length-take, take-append-drop}
-use Rattle.plan_terms.specs.Terms.{Case, CutLine, IsSurvivable}
+use Rattle.std.proofs.Common.{◌≡◌, ◌∙◌, ℕ, zero, suc, ◌+◌, ◌*◌, ◌^◌, ◌≤◌, ◌<◌, ⊎_elim, Bool, List, [], ◌∷◌, ◌++◌, All, drop, length, map, take, refl, ap, sym, subst, arith}
+use Rattle.std.proofs.lemmas.List.{length-map, length-take, take-append-drop, take-map, take_all}
+use Rattle.net_core.proofs.Library.{All-cons, All-head, All-nil, All-tail}
+use Rattle.plan_terms.specs.Terms.{Case, CutLine, IsCut, IsSurvivable}
 use Rattle.plan_types.specs.Terms.{IsCertifiedPlan}
 use Rattle.plan_types.specs.declared.plan.Plan.{Plan}
 use Rattle.plan_swaps.specs.Swaps.{IsCheaperPlan}
 use Rattle.tree_check.specs.declared.proof.BoxCert.{BoxCert}
+use Rattle.tree_check.specs.declared.proof.Node.{Node}
+use Rattle.proof_order.specs.Orders.{cuts_among, moved_line, moved_node, place_of}
+use Rattle.proof_order.specs.declared.entry.Entry.{Entry}
+use Rattle.proof_order.specs.declared.entry.Entry.TheVariants as entry
 use Rattle.tree_check.specs.declared.proof.Proof.{Proof}
 use Rattle.trim_plan.specs.Trimmed.{IsRoutedPlan}
 use Rattle.trim_plan.proofs.Plans.{routed_with}
 use Rattle.branch_tree.specs.Proving.{AreHandedCuts, IsProofOf}
 use Rattle.able_counts.specs.AbleTests.{IsTestOf as IsAbleTestOf}
-use Rattle.branch_tree.specs.inner.Growing.{AreCheaperCounts, Extends, HasLearned, IsAim, IsGrownTree, IsKnown, IsOwnCert, IsSearch, aimed, handed_in, most_cuts}
+use Rattle.branch_tree.specs.inner.Growing.{AreCheaperCounts, Extends, HasLearned, IsAim, IsGrownTree, IsKnown, IsOwnCert, IsSearch, IsSoundEntry, aimed, handed_in, most_entries}
+use Rattle.branch_tree.specs.inner.Making.{AreFirstOf, IsProofMade, IsProofWith}
 use Rattle.branch_tree.specs.inner.Places.{node_of}
-use Rattle.branch_tree.specs.inner.Showing.{all_shown, verdict_of}
 use Rattle.branch_tree.specs.declared.aim.Aim.{Aim}
-use Rattle.branch_tree.specs.declared.evaluation.Search.{Search}
+use Rattle.branch_tree.specs.declared.search.Search.{Search}
 use Rattle.branch_tree.specs.declared.tree.Tree.{Tree}
+use Rattle.branch_tree.specs.declared.twigs.Twig.{Twig}
 use Rattle.branch_tree.specs.declared.found.Cheaper.{Cheaper}
-use Rattle.branch_tree.proofs.Extending.{cert_on, handed_same}
-use Rattle.branch_tree.proofs.Proved.{is_proof}
+use Rattle.branch_tree.proofs.Extending.{cert_on, handed_same, search_with, take_before}
+use Rattle.branch_tree.proofs.Knowing.{cuts_same}
+use Rattle.branch_tree.proofs.Proved.{is_proof, told_node, told_proof}
 
 -- the first of the first
 first_of_first : {X : Type 0} (n most : ℕ) (xs : List X) → n ≤ most → take n (take most xs) ≡ take n xs
@@ -44,8 +51,8 @@ module _ (p : Case) where
   pub certified_still : (a b : Plan) → IsCheaperPlan p a b → IsCertifiedPlan p a → IsCertifiedPlan p b
   certified_still a b cheaper is = subst (λ (x : Plan). IsCertifiedPlan p x) (sym cheaper.same) (record { certificate = is.certificate; raw = is.raw; rounded = is.rounded })
 
-  pub own_still : (cuts : List CutLine) (a b : Plan) (cert : BoxCert) → IsCheaperPlan p a b → IsOwnCert cuts a cert → IsOwnCert cuts b cert
-  own_still cuts a b cert cheaper is = subst (λ (x : Plan). IsOwnCert cuts x cert) (sym cheaper.same) (record { den = is.den; named = is.named })
+  pub own_still : (entries : List Entry) (a b : Plan) (cert : BoxCert) → IsCheaperPlan p a b → IsOwnCert entries a cert → IsOwnCert entries b cert
+  own_still entries a b cert cheaper is = subst (λ (x : Plan). IsOwnCert entries x cert) (sym cheaper.same) (record { den = is.den; named = is.named })
 
   pub demands_still : (a b : Plan) → IsCheaperPlan p a b → b.demands ≡ a.demands
   demands_still a b cheaper = ap (λ (x : Plan). x.demands) cheaper.same
@@ -58,7 +65,6 @@ module _ (p : Case) where
   proof_still a b handed limit proof cheaper is = record {
     plan = cheaper_both a b proof.plan cheaper is.plan;
     cuts = is.cuts;
-    lines = is.lines;
     sound = is.sound;
     few = is.few;
     accepted = is.accepted;
@@ -95,62 +101,163 @@ module _ (p : Case) (plan made : Plan) (c : Cheaper) (is : made ≡ record plan 
       let more = further.cheaper in
       (cheaper_both p plan made swapped made_cheaper further, omega (arith, cost, less, more))
 
+-- ---- the handed-in cuts
+
+cuts_append : (es fs : List Entry) → cuts_among (es ++ fs) ≡ cuts_among es ++ cuts_among fs
+cuts_append [] fs = refl
+cuts_append (entry.Cut c ∷ es) fs = ap (λ (rest : List CutLine). c ∷ rest) (cuts_append es fs)
+cuts_append (entry.Line l ∷ es) fs = cuts_append es fs
+
+pub cuts_sound : (p : Case) (es : List Entry) → All (IsSoundEntry p) es → All (IsCut p) (cuts_among es)
+cuts_sound p [] all = All-nil (IsCut p)
+cuts_sound p (entry.Cut c ∷ es) all =
+    All-cons (IsCut p) c (cuts_among es) (All-head (IsSoundEntry p) (entry.Cut c) es all) (cuts_sound p es (All-tail (IsSoundEntry p) (entry.Cut c) es all))
+cuts_sound p (entry.Line l ∷ es) all = cuts_sound p es (All-tail (IsSoundEntry p) (entry.Line l) es all)
+
+module _ (p : Case) (s : Search) (is : IsSearch p s) where
+  -- as many as the search says
+  handed_length : length (handed_in s) ≡ s.handed
+  handed_length =
+      omega (
+        arith,
+        is.inside,
+        length-take s.handed s.known.entries,
+        ap (λ (es : List Entry). length es) is.first,
+        length-map (handed_in s) entry.Cut,
+      )
+
+  -- they are the first cuts
+  front_cuts : take s.handed (cuts_among s.known.entries) ≡ handed_in s
+  front_cuts =
+      let rest = cuts_among (drop s.handed s.known.entries) in
+      let whole : cuts_among s.known.entries ≡ handed_in s ++ rest =
+      ap (λ (es : List Entry). cuts_among es) (sym (take-append-drop s.handed s.known.entries)) ∙ cuts_append (take s.handed s.known.entries) (drop s.handed s.known.entries) in
+      ap (λ (cs : List CutLine). take s.handed cs) whole
+      ∙ (take_before s.handed (handed_in s) rest (omega (arith, handed_length)) ∙ take_all s.handed (handed_in s) (omega (arith, handed_length)))
+
+  -- the first entries come first
+  front_extends : Extends (map entry.Cut (handed_in s)) s.known.entries
+  front_extends = record {
+    more = drop s.handed s.known.entries;
+    is = sym (take-append-drop s.handed s.known.entries) ∙ ap (λ (es : List Entry). es ++ drop s.handed s.known.entries) is.first;
+  }
+
 -- ---- what a search is for
 
--- a search that begins anew with the first cuts
-pub begun_search : (p : Case) (old new : Search) → IsSearch p old → IsKnown p new.known → new.test ≡ old.test → new.handed ≡ old.handed → new.known.cuts ≡ take (old.handed + 4096) old.known.cuts
-    → IsSearch p new × ((handed_in new ≡ handed_in old) × (length new.known.cuts ≤ new.handed + 4096))
-begun_search p old new was known test handed cuts =
-    let inside = was.inside in
-    let few = was.few in
-    let long = ap (λ (xs : List CutLine). length xs) cuts in (
-      record { known = known; test = subst (λ t. IsAbleTestOf p t) (sym test) was.test; inside = omega (arith, long, length-take (old.handed + 4096) old.known.cuts, inside, handed); few = omega (arith, few, handed) },
-      (
-        ap (λ n. take n new.known.cuts) handed ∙ (ap (λ (xs : List CutLine). take old.handed xs) cuts ∙ first_of_first old.handed (old.handed + 4096) old.known.cuts (omega arith)),
-        omega (arith, long, length-take (old.handed + 4096) old.known.cuts, handed),
-      ),
-    )
+-- a search that begins anew
+module _ (p : Case) (old new : Search) (was : IsSearch p old) (known : IsKnown p new.known) (test : new.test ≡ old.test) (handed : new.handed ≡ old.handed)
+    (room : new.room ≡ old.room) where
+  begun_with : take new.handed new.known.entries ≡ take old.handed old.known.entries → new.handed ≤ length new.known.entries
+      → length new.known.entries ≤ new.room → IsSearch p new × ((handed_in new ≡ handed_in old) × (length new.known.entries ≤ new.room))
+  begun_with taken inside few = (
+    search_with p old new was known (subst (λ t. IsAbleTestOf p t) (sym test) was.test) handed room taken inside,
+    (ap (λ (es : List Entry). cuts_among es) taken, few),
+  )
 
--- the first cuts come first
-front_extends : (n : ℕ) (cuts : List CutLine) → Extends (take n cuts) cuts
-front_extends n cuts = record { more = drop n cuts; is = sym (take-append-drop n cuts) }
+  begun_same : new.known.entries ≡ old.known.entries → length old.known.entries ≤ old.room
+      → IsSearch p new × ((handed_in new ≡ handed_in old) × (length new.known.entries ≤ new.room))
+  begun_same same le =
+      let inside = was.inside in
+      let long = ap (λ (es : List Entry). length es) same in
+      begun_with
+      (ap (λ n. take n new.known.entries) handed ∙ ap (λ (es : List Entry). take old.handed es) same)
+      (omega (arith, inside, long, handed))
+      (omega (arith, le, long, room))
+
+  begun_cuts : new.known.entries ≡ map entry.Cut (take old.room (cuts_among old.known.entries))
+      → IsSearch p new × ((handed_in new ≡ handed_in old) × (length new.known.entries ≤ new.room))
+  begun_cuts is =
+      let most : ℕ = old.room in
+      let cuts : List CutLine = cuts_among old.known.entries in
+      let taken : take old.handed (map entry.Cut (take most cuts)) ≡ take old.handed old.known.entries =
+      take-map entry.Cut old.handed (take most cuts)
+      ∙ (ap (map entry.Cut) (first_of_first old.handed most cuts (omega (arith, was.enough)) ∙ front_cuts p old was) ∙ sym was.first) in
+      let long = ap (λ (es : List Entry). length es) is in
+      let front = ap (λ (cs : List CutLine). length cs) (front_cuts p old was) in
+      begun_with
+      (ap (λ n. take n new.known.entries) handed ∙ (ap (λ (es : List Entry). take old.handed es) is ∙ taken))
+      (omega (arith, long, length-map (take most cuts) entry.Cut, length-take most cuts, length-take old.handed cuts, front, handed_length p old was, handed))
+      (omega (arith, long, length-map (take most cuts) entry.Cut, length-take most cuts, room))
+
+  pub begun_search : AreFirstOf old.room old.known.entries new.known
+      → IsSearch p new × ((handed_in new ≡ handed_in old) × (length new.known.entries ≤ new.room))
+  begun_search first = ⊎_elim (λ same. begun_same same.0 same.1) begun_cuts first
+
+-- ---- where a search begins
+
+first_handed : (cuts : List CutLine) (entries : List Entry) (n : ℕ) → entries ≡ map entry.Cut cuts → n ≡ length cuts → take n entries ≡ map entry.Cut cuts
+first_handed cuts entries n is long =
+    ap (λ (es : List Entry). take n es) is ∙ take_all n (map entry.Cut cuts) (omega (arith, long, length-map cuts entry.Cut))
+
+-- all its cuts were handed in
+pub first_cuts : (s : Search) (cuts : List CutLine) → s.known.entries ≡ map entry.Cut cuts → s.handed ≡ length cuts → handed_in s ≡ cuts
+first_cuts s cuts is long = ap (λ (es : List Entry). cuts_among es) (first_handed cuts s.known.entries s.handed is long) ∙ cuts_same cuts
+
+pub first_search : (p : Case) (s : Search) (cuts : List CutLine) → IsKnown p s.known → IsAbleTestOf p s.test → s.known.entries ≡ map entry.Cut cuts
+    → s.handed ≡ length cuts → length cuts ≤ 8192 → s.handed ≤ s.room → s.room ≤ 2 ^ 15 → IsSearch p s
+first_search p s cuts known test is long few enough small = record {
+  known = known;
+  test = test;
+  first = first_handed cuts s.known.entries s.handed is long ∙ ap (map entry.Cut) (sym (first_cuts s cuts is long));
+  inside = omega (arith, long, ap (λ (es : List Entry). length es) is, length-map cuts entry.Cut);
+  few = omega (arith, few, long);
+  enough = enough;
+  small = small;
+}
 
 -- an aim at the given plan or a cheaper one
-pub aim_of : (a : Aim) (given : Plan) (s : Search) (handed : List CutLine) → IsSurvivable (aimed a) → given.demands ≡ (aimed a).demands → IsCheaperPlan (aimed a) given a.plan.now
-    → handed_in s ≡ handed → IsOwnCert handed given a.own.now → IsAim s.known.cuts a
-aim_of a given s handed survivable same cheaper first own = record {
+pub aim_of : (a : Aim) (given : Plan) (s : Search) (handed : List CutLine) → IsSearch (aimed a) s → IsSurvivable (aimed a) → given.demands ≡ (aimed a).demands
+    → IsCheaperPlan (aimed a) given a.plan.now → handed_in s ≡ handed → IsOwnCert (map entry.Cut handed) given a.own.now → IsAim s.known.entries a
+aim_of a given s handed is survivable same cheaper first own = record {
   survivable = survivable;
   demands = demands_still (aimed a) given a.plan.now cheaper ∙ same;
   routed = cheaper.routed;
-  own = cert_on (handed_in s) s.known.cuts (front_extends s.handed s.known.cuts) a.plan.now a.own.now
-      (subst (λ (cuts : List CutLine). IsOwnCert cuts a.plan.now a.own.now) (sym first) (own_still (aimed a) handed given a.plan.now a.own.now cheaper own));
+  own = cert_on (map entry.Cut (handed_in s)) s.known.entries (front_extends (aimed a) s is) a.plan.now a.own.now
+      (subst (λ (cuts : List CutLine). IsOwnCert (map entry.Cut cuts) a.plan.now a.own.now) (sym first)
+      (own_still (aimed a) (map entry.Cut handed) given a.plan.now a.own.now cheaper own));
 }
 
--- the handed-in cuts are the first ones of a longer list too
-first_again : (old new : Search) → old.handed ≤ length old.known.cuts → HasLearned old new → take (length (handed_in old)) new.known.cuts ≡ handed_in old
-first_again old new inside learned =
-    let long : length (handed_in old) ≡ new.handed = let same = learned.handed in omega (arith, length-take old.handed old.known.cuts, inside, same) in
-    ap (λ n. take n new.known.cuts) long ∙ handed_same old new learned inside
+-- the handed-in cuts are the first ones of what was learned too
+first_again : (p : Case) (old new : Search) → IsSearch p old → IsSearch p new → HasLearned old new
+    → take (length (handed_in old)) (cuts_among new.known.entries) ≡ handed_in old
+first_again p old new was now learned =
+    ap (λ n. take n (cuts_among new.known.entries)) (handed_length p old was ∙ sym learned.handed)
+    ∙ (front_cuts p new now ∙ handed_same old new learned was.inside)
 
 -- a tree that is grown is a proof of the given plan or a cheaper one
-pub grown_proof : (p : Case) (given plan : Plan) (old new : Search) (tree : Tree) (limit : ℕ) → IsCheaperPlan p given plan → IsCertifiedPlan p given → limit ≤ 9999 → IsSearch p old → IsSearch p new → HasLearned old new
-    → IsGrownTree p plan (handed_in old) new.known.tested limit tree
-    → IsProofOf p given (handed_in old) limit (record { plan = plan; cuts = new.known.cuts; lines = []; tree = map node_of tree.twigs.items; verdict = verdict_of (all_shown plan.cost tree.twigs.items) })
-grown_proof p given plan old new tree limit cheaper certified few was now learned is =
-    is_proof p plan (handed_in old) new.known.cuts new.known.tested is.n now.known.tested tree.twigs.items is.growing given limit now.known.sound cheaper (first_again old new was.inside learned) (certified_still p given plan cheaper certified) is.within few is.ends
-
--- and so is a value that is made of it
-pub made_proof : (p : Case) (given plan : Plan) (old new : Search) (tree : Tree) (limit : ℕ) (handed : List CutLine) → handed_in old ≡ handed → IsCheaperPlan p given plan → IsCertifiedPlan p given → limit ≤ 9999
+grown_proof : (p : Case) (given plan : Plan) (old new : Search) (tree : Tree) (limit : ℕ) → IsCheaperPlan p given plan → IsCertifiedPlan p given → limit ≤ 9999
     → IsSearch p old → IsSearch p new → HasLearned old new → IsGrownTree p plan (handed_in old) new.known.tested limit tree
-    → (made : Proof) → made ≡ record { plan = plan; cuts = new.known.cuts; lines = []; tree = map node_of tree.twigs.items; verdict = verdict_of (all_shown plan.cost tree.twigs.items) }
-    → IsProofOf p given handed limit made
-made_proof p given plan old new tree limit handed same cheaper certified few was now learned is made as_is =
-    subst (λ (proof : Proof). IsProofOf p given handed limit proof) (sym as_is)
-    (subst
-    (λ (cuts : List CutLine). IsProofOf p given cuts limit (record { plan = plan; cuts = new.known.cuts; lines = []; tree = map node_of tree.twigs.items; verdict = verdict_of (all_shown plan.cost tree.twigs.items) }))
-    same
-    (grown_proof p given plan old new tree limit cheaper certified few was now learned is))
+    → IsProofOf p given (handed_in old) limit (told_proof plan new.known.entries tree.twigs.items)
+grown_proof p given plan old new tree limit cheaper certified few was now learned is =
+    is_proof p plan (handed_in old) new.known.entries new.known.tested is.n now.known.tested tree.twigs.items is.growing given limit
+    (cuts_sound p new.known.entries now.known.sound) cheaper (first_again p old new was now learned) (certified_still p given plan cheaper certified) is.within few is.ends
 
--- there is room for the cuts of an attempt
-pub attempt_room : (p : Case) (s : Search) (limit : ℕ) → IsSearch p s → length s.known.cuts ≤ s.handed + 4096 → limit ≤ 9999 → most_cuts s + 2 * limit + 1 < 2 ^ 31
-attempt_room p s limit is few le = let small = is.few in first_of (omega (arith, small, few, le), grind (arith, small, few, le))
+told_map : (to : ℕ → ℕ) (ts : List Twig) → map (moved_node to) (map node_of ts) ≡ map (told_node to) ts
+told_map to [] = refl
+told_map to (t ∷ ts) = ap (λ (rest : List Node). told_node to t ∷ rest) (told_map to ts)
+
+-- a value that is made of it
+made_told : (plan : Plan) (entries : List Entry) (twigs : List Twig) (made : Proof) → IsProofMade plan entries twigs made → made ≡ told_proof plan entries twigs
+made_told plan entries twigs made is =
+    let told = told_proof plan entries twigs in
+    ap (λ x. record { plan = x; cuts = made.cuts; lines = made.lines; tree = made.tree; verdict = made.verdict }) is.plan_is
+    ∙ (ap (λ x. record { plan = plan; cuts = x; lines = made.lines; tree = made.tree; verdict = made.verdict }) is.cuts
+    ∙ (ap (λ x. record { plan = plan; cuts = told.cuts; lines = x; tree = made.tree; verdict = made.verdict }) is.lines
+    ∙ (ap (λ x. record { plan = plan; cuts = told.cuts; lines = told.lines; tree = x; verdict = made.verdict }) (is.tree ∙ told_map (place_of entries) twigs)
+    ∙ ap (λ x. record { plan = plan; cuts = told.cuts; lines = told.lines; tree = told.tree; verdict = x }) is.verdict)))
+
+-- is such a proof too, without further lines where none were made
+pub made_proof : (p : Case) (given plan : Plan) (old new : Search) (tree : Tree) (limit : ℕ) (handed : List CutLine) (divides : Bool) → handed_in old ≡ handed
+    → new.known.divides ≡ divides → IsCheaperPlan p given plan → IsCertifiedPlan p given → limit ≤ 9999 → IsSearch p old → IsSearch p new → HasLearned old new
+    → IsGrownTree p plan (handed_in old) new.known.tested limit tree → (made : Proof) → IsProofMade plan new.known.entries tree.twigs.items made
+    → IsProofWith p divides given handed limit made
+made_proof p given plan old new tree limit handed divides same divided cheaper certified few was now learned is made as_is = record {
+  proof_is = subst (λ (proof : Proof). IsProofOf p given handed limit proof) (sym (made_told plan new.known.entries tree.twigs.items made as_is))
+      (subst (λ (cuts : List CutLine). IsProofOf p given cuts limit (told_proof plan new.known.entries tree.twigs.items)) same
+      (grown_proof p given plan old new tree limit cheaper certified few was now learned is));
+  plain = λ none. as_is.lines ∙ ap (map (moved_line (place_of new.known.entries))) (now.known.plain (divided ∙ none));
+}
+
+-- there is room for the entries of an attempt
+pub attempt_room : (p : Case) (s : Search) (limit : ℕ) → IsSearch p s → length s.known.entries ≤ s.room → limit ≤ 9999 → most_entries s + 2 * limit + 1 < 2 ^ 31
+attempt_room p s limit is few le = let small = is.small in first_of (omega (arith, small, few, le), grind (arith, small, few, le))

@@ -12,7 +12,7 @@ use Rattle.tree_check.specs.declared.boxes.Span.{Span}
 use Rattle.tree_check.proofs.LeftBoxes.{shape_set, whole_shape}
 use Rattle.branch_tree.specs.inner.Growing.{AreLow, AreSidesOf, HasLearned, HaveCounts, IsChoiceOf, IsFoundAt, IsSearchBox, handed_in}
 use Rattle.branch_tree.specs.declared.choice.Choice.{Choice}
-use Rattle.branch_tree.specs.declared.evaluation.Search.{Search}
+use Rattle.branch_tree.specs.declared.search.Search.{Search}
 use Rattle.branch_tree.specs.declared.found.Found.TheVariants as found
 use Rattle.branch_tree.specs.declared.growth.Sides.TheVariants as sides
 use Rattle.branch_tree.specs.declared.twigs.Twig.{Twig}
@@ -92,7 +92,7 @@ whole_searched links = record { shape = whole_shape links; some = any_some links
 
 -- what was found at the lower side, and then at the upper one
 pub sides_found : (p : Case) (plan : Plan) (n : ℕ) (box : TreeBox) (c : Choice) (before between after : Search) (lower upper : Twig)
-    → before.handed ≤ length before.known.cuts → HasLearned before between → HasLearned between after
+    → before.handed ≤ length before.known.entries → HasLearned before between → HasLearned between after
     → IsFoundAt p plan (handed_in before) between.known.tested n (lower_side box c.place.link c.place.module c.at) (found.Twig lower)
     → IsFoundAt p plan (handed_in between) after.known.tested n (upper_side box c.place.link c.place.module c.at) (found.Twig upper)
     → AreSidesOf p plan (handed_in before) after.known.tested n box c (sides.Twigs lower upper)

@@ -66,14 +66,12 @@ IsCertificateOfLeaves p proof = (i value : ℕ) (leaf : IsOpenAt p proof i value
     → IsBoxCertificate p.links leaf.box proof.plan.certificate.den (lines_of_plan p.links proof.plan.certificate)
 
 -- What a search for a branch tree comes to: the given plan or a cheaper one, and a proof that is accepted and whose nodes have their
--- causes. All its cuts are cuts of the case, the handed-in ones first, and it has no further lines. Its tree has as many splits as the
--- limit says at most, and, where all modules cost something, fewer than a tree has room for. Each open leaf is worth less than the plan
--- costs. A value is told exactly where some leaf is open; it is at least the plan's bound where the plan's certificate is one of all open
--- leaves.
+-- causes. All its cuts are cuts of the case, the handed-in ones first. Its tree has as many splits as the limit says at most, and, where
+-- all modules cost something, fewer than a tree has room for. Each open leaf is worth less than the plan costs. A value is told exactly
+-- where some leaf is open; it is at least the plan's bound where the plan's certificate is one of all open leaves.
 pub record IsProofOf (p : Case) (given : Plan) (handed : List CutLine) (limit : ℕ) (proof : Proof) : Type 0 where
   pub plan : IsCheaperPlan p given proof.plan
   pub cuts : take (length handed) proof.cuts ≡ handed
-  pub lines : proof.lines ≡ []
   pub sound : All (IsCut p) proof.cuts
   pub few : length proof.tree + 1 < 2 ^ 32
   pub accepted : IsAcceptedProof p proof

@@ -89,7 +89,7 @@ pub(crate) fn greatest(
     inherited: &BoxCert,
 ) -> Result<Valued, NoMemory>
     requires known { IsKnown (aimed aim.now) known.now }
-    requires aim { IsAim known.now.cuts aim.now }
+    requires aim { IsAim known.now.entries aim.now }
     requires search_box { IsSearchBox (aimed aim.now).links (2 ^ 14) boxed.now }
     ensures valued { IfOk result (IsValued (aimed aim.now) aim.now.plan.now known.now.tested boxed.now) }
     ensures free { IfOk result (λ v. (value : ℕ) → HasFreeValue (aimed aim.now).links boxed.now value → value ≤ v.value) }

@@ -1,7 +1,7 @@
 ghost use Rattle.std.specs.Prelude.{◌≡◌, ◌+◌, ◌≤◌, ◌<◌, ◌^◌, IfOk, IfSome, OnOk, length};
 ghost use Rattle.plan_terms.specs.Terms.{AreCounts};
 ghost use Rattle.tree_check.specs.Boxes.{IsFixedBox, least_counts};
-ghost use Rattle.branch_tree.specs.inner.Growing.{HasLearned, IsAim, IsSearch, aimed, handed_in, most_cuts};
+ghost use Rattle.branch_tree.specs.inner.Growing.{HasLearned, IsAim, IsSearch, aimed, handed_in, most_entries};
 ghost use Rattle.branch_tree.specs.inner.Growing.{IsFoundAt, IsRoundTo, IsSearchBox, IsUnsettledIn, IsValued};
 ghost use Rattle.branch_tree.specs.inner.Asking.{IsTriedTo};
 
@@ -9,28 +9,17 @@ use crate::aim::Aim;
 use crate::asks::{Asked, ask, ask_within};
 use crate::certs::{Valued, greater, greatest};
 use crate::found::{Cheaper, Found};
-use crate::known::{Known, index_of};
+use crate::known::has_cut;
+use crate::lines::make_box_lines;
+use crate::search::{MOST_FURTHER, Search};
 use crate::twigs::{OpenBox, Twig};
 use crate::whole::whole_counts;
-use able_counts::AbleTest;
 use module_choice::cost;
 use net_core::{Counts, NoMemory};
 use plan_swaps::limits::are_within_limits;
 use std::alloc::Global;
 use tree_check::fixed::fixed_counts;
 use tree_check::{BoxCert, Boxed, Node};
-
-/// How many cuts of whole points are kept beside the handed-in ones.
-pub(crate) const MOST_FURTHER: usize = 4096;
-
-/// What a search has learned: cuts, and a test of counts.
-#[derive(Drop)]
-pub(crate) struct Search {
-    pub known: Known,
-    pub test: AbleTest,
-    /// How many of the cuts were handed in.
-    pub handed: usize,
-}
 
 /// What is found at a box of one choice of counts that no known cut empties, and whose best certificate doesn't close it.
 fn look_fixed(
@@ -42,9 +31,9 @@ fn look_fixed(
     counts: Counts,
     depth: u32,
 ) -> Result<Found, NoMemory>
-    requires aim { IsAim search.old.known.cuts aim.now }
+    requires aim { IsAim search.old.known.entries aim.now }
     requires search { IsSearch (aimed aim.now) search.old }
-    requires room { length search.old.known.cuts + 1 < 2 ^ 31 }
+    requires room { length search.old.known.entries + 1 < 2 ^ 31 }
     requires search_box { IsSearchBox (aimed aim.now).links depth boxed.now }
     requires low { depth ≤ 2 ^ 14 }
     requires fixed { IsFixedBox boxed.now }
@@ -54,13 +43,13 @@ fn look_fixed(
     requires unsettled { IsUnsettledIn (aimed aim.now) aim.now.plan.now search.old boxed.now }
     ensures search { OnOk result (IsSearch (aimed aim.now) search.new) }
     ensures learned { OnOk result (HasLearned search.old search.new) }
-    ensures few { OnOk result (length search.new.known.cuts ≤ length search.old.known.cuts + 1) }
+    ensures few { OnOk result (length search.new.known.entries ≤ length search.old.known.entries + 1) }
     ensures found { IfOk result (IsFoundAt (aimed aim.now) aim.now.plan.now (handed_in search.old) search.new.known.tested depth boxed.now) }
 {
     match ask(alloc, aim, &mut search.test, counts)? {
         Asked::Carried(cheaper) => Ok(Found::Cheaper(cheaper)),
         Asked::Cut(line) => {
-            let cut = search.known.cuts.len() as u32;
+            let cut = search.known.entries.len() as u32;
             search.known.push(alloc, aim.instance, line)?;
             Ok(Found::Twig(Twig::Settled(Node::Empty { cut })))
         }
@@ -84,13 +73,13 @@ fn try_whole(
     search: &mut Search,
     counts: Counts,
 ) -> Result<Tried, NoMemory>
-    requires aim { IsAim search.old.known.cuts aim.now }
+    requires aim { IsAim search.old.known.entries aim.now }
     requires search { IsSearch (aimed aim.now) search.old }
-    requires room { most_cuts search.old < 2 ^ 31 }
+    requires room { most_entries search.old < 2 ^ 31 }
     requires shape { AreCounts (aimed aim.now).links counts }
     ensures search { OnOk result (IsSearch (aimed aim.now) search.new) }
     ensures learned { OnOk result (HasLearned search.old search.new) }
-    ensures few { OnOk result (length search.new.known.cuts ≤ most_cuts search.old) }
+    ensures few { OnOk result (length search.new.known.entries ≤ most_entries search.old) }
     ensures tried { IfOk result (IsTriedTo (aimed aim.now) aim.now.plan.now.cost) }
 {
     let net = aim.instance.net;
@@ -100,8 +89,8 @@ fn try_whole(
     match ask_within(aim, &mut search.test, counts)? {
         Asked::Carried(cheaper) => Ok(Tried::Cheaper(cheaper)),
         Asked::Cut(line) => {
-            let full = search.known.cuts.len() >= search.handed + MOST_FURTHER;
-            if full || index_of(search.known.cuts.items(), &line).is_some() {
+            let full = search.known.entries.len() >= search.room;
+            if full || has_cut(search.known.entries.items(), &line) {
                 return Ok(Tried::Nothing);
             }
             search.known.push(alloc, aim.instance, line)?;
@@ -127,14 +116,14 @@ fn look_once(
     boxed: &Boxed,
     best: Valued,
 ) -> Result<Round, NoMemory>
-    requires aim { IsAim search.old.known.cuts aim.now }
+    requires aim { IsAim search.old.known.entries aim.now }
     requires search { IsSearch (aimed aim.now) search.old }
-    requires room { most_cuts search.old < 2 ^ 31 }
+    requires room { most_entries search.old < 2 ^ 31 }
     requires valued { IsValued (aimed aim.now) aim.now.plan.now search.old.known.tested boxed.now best }
     requires below { best.value < aim.now.plan.now.cost }
     ensures search { OnOk result (IsSearch (aimed aim.now) search.new) }
     ensures learned { OnOk result (HasLearned search.old search.new) }
-    ensures few { OnOk result (length search.new.known.cuts ≤ most_cuts search.old) }
+    ensures few { OnOk result (length search.new.known.entries ≤ most_entries search.old) }
     ensures round { IfOk result (IsRoundTo (aimed aim.now) aim.now.plan.now search.new.known.tested boxed.now) }
 {
     let Some(solution) = search.known.solved(alloc, aim, boxed)? else {
@@ -157,13 +146,13 @@ fn look_once(
 
 /// An open box.
 fn open(search: &Search, boxed: Boxed, best: Valued, rank: u128) -> Found
-    ensures { result ≡ Found.Twig (Twig.Open (record { boxed = boxed; best = best; rank = rank; seen = length search.now.known.cuts })) }
+    ensures { result ≡ Found.Twig (Twig.Open (record { boxed = boxed; best = best; rank = rank; seen = search.now.known.cuts_end })) }
 {
     Found::Twig(Twig::Open(OpenBox {
         boxed,
         best,
         rank,
-        seen: search.known.cuts.len(),
+        seen: search.known.cuts_end,
     }))
 }
 
@@ -176,9 +165,9 @@ fn look_open(
     best: Valued,
     depth: u32,
 ) -> Result<Found, NoMemory>
-    requires aim { IsAim search.old.known.cuts aim.now }
+    requires aim { IsAim search.old.known.entries aim.now }
     requires search { IsSearch (aimed aim.now) search.old }
-    requires room { most_cuts search.old < 2 ^ 31 }
+    requires room { most_entries search.old < 2 ^ 31 }
     requires search_box { IsSearchBox (aimed aim.now).links depth boxed }
     requires unfixed { IsFixedBox boxed → ⊥ }
     requires valued { IsValued (aimed aim.now) aim.now.plan.now search.old.known.tested boxed best }
@@ -186,7 +175,7 @@ fn look_open(
     requires unsettled { IsUnsettledIn (aimed aim.now) aim.now.plan.now search.old boxed }
     ensures search { OnOk result (IsSearch (aimed aim.now) search.new) }
     ensures learned { OnOk result (HasLearned search.old search.new) }
-    ensures few { OnOk result (length search.new.known.cuts ≤ most_cuts search.old) }
+    ensures few { OnOk result (length search.new.known.entries ≤ most_entries search.old) }
     ensures found { IfOk result (IsFoundAt (aimed aim.now) aim.now.plan.now (handed_in search.old) search.new.known.tested depth boxed) }
 {
     let mut best = best;
@@ -206,6 +195,35 @@ fn look_open(
     Ok(open(search, boxed, best, rank))
 }
 
+/// What is found at such a box after lines were made for it, where lines are to be made and it isn't that of all counts.
+fn look_divided(
+    alloc: Global,
+    aim: &Aim,
+    search: &mut Search,
+    boxed: Boxed,
+    best: Valued,
+    depth: u32,
+) -> Result<Found, NoMemory>
+    requires aim { IsAim search.old.known.entries aim.now }
+    requires search { IsSearch (aimed aim.now) search.old }
+    requires room { most_entries search.old < 2 ^ 31 }
+    requires search_box { IsSearchBox (aimed aim.now).links depth boxed }
+    requires unfixed { IsFixedBox boxed → ⊥ }
+    requires valued { IsValued (aimed aim.now) aim.now.plan.now search.old.known.tested boxed best }
+    requires below { best.value < aim.now.plan.now.cost }
+    requires unsettled { IsUnsettledIn (aimed aim.now) aim.now.plan.now search.old boxed }
+    ensures search { OnOk result (IsSearch (aimed aim.now) search.new) }
+    ensures learned { OnOk result (HasLearned search.old search.new) }
+    ensures few { OnOk result (length search.new.known.entries ≤ most_entries search.old) }
+    ensures found { IfOk result (IsFoundAt (aimed aim.now) aim.now.plan.now (handed_in search.old) search.new.known.tested depth boxed) }
+{
+    if depth == 0 {
+        return look_open(alloc, aim, search, boxed, best, depth);
+    }
+    make_box_lines(alloc, aim, search, &boxed)?;
+    look_open(alloc, aim, search, boxed, best, depth)
+}
+
 /// What is found at a box: that it is empty, that the greatest of its certificates closes it, that its one choice of counts carries the
 /// demands or not, or that it has to be split.
 pub(crate) fn look(
@@ -216,15 +234,15 @@ pub(crate) fn look(
     inherited: &BoxCert,
     depth: u32,
 ) -> Result<Found, NoMemory>
-    requires aim { IsAim search.old.known.cuts aim.now }
+    requires aim { IsAim search.old.known.entries aim.now }
     requires search { IsSearch (aimed aim.now) search.old }
-    requires room { most_cuts search.old + 1 < 2 ^ 31 }
+    requires room { most_entries search.old + 1 < 2 ^ 31 }
     requires search_box { IsSearchBox (aimed aim.now).links depth boxed }
     requires low { depth ≤ 2 ^ 14 }
     ensures search { OnOk result (IsSearch (aimed aim.now) search.new) }
     ensures learned { OnOk result (HasLearned search.old search.new) }
-    ensures few { OnOk result (length search.new.known.cuts ≤ most_cuts search.old + 1) }
-    ensures unfixed { OnOk result ((IsFixedBox boxed → ⊥) → length search.new.known.cuts ≤ most_cuts search.old) }
+    ensures few { OnOk result (length search.new.known.entries ≤ most_entries search.old + 1) }
+    ensures unfixed { OnOk result ((IsFixedBox boxed → ⊥) → length search.new.known.entries ≤ most_entries search.old) }
     ensures found { IfOk result (IsFoundAt (aimed aim.now) aim.now.plan.now (handed_in search.old) search.new.known.tested depth boxed) }
 {
     if let Some(cut) = search.known.emptied_by(aim, &boxed) {
@@ -236,6 +254,6 @@ pub(crate) fn look(
     }
     match fixed_counts(alloc, boxed.items())? {
         Some(counts) => look_fixed(alloc, aim, search, best, &boxed, counts, depth),
-        None => look_open(alloc, aim, search, boxed, best, depth),
+        None => look_divided(alloc, aim, search, boxed, best, depth),
     }
 }

@@ -1,14 +1,16 @@
 ghost use Rattle.std.specs.Prelude.{◌≡◌, ◌+◌, ◌*◌, ◌≤◌, ◌<◌, ◌^◌, IfOk, IfSome, MatchOption, None, OnOk, Some, length, slice_get, slice_set};
 ghost use Rattle.tree_check.specs.Boxes.{whole_box};
 ghost use Rattle.branch_tree.specs.inner.Growing.{AreCheaperCounts, AreSidesOf, IsChoiceOf, IsGrowing, IsGrownTo, IsOpenBox, IsTurnTo};
-ghost use Rattle.branch_tree.specs.inner.Growing.{HasLearned, IsAim, IsSearch, aimed, handed_in, most_cuts};
+ghost use Rattle.branch_tree.specs.inner.Growing.{HasLearned, IsAim, IsSearch, aimed, handed_in, most_entries};
 ghost use Rattle.branch_tree.specs.inner.Places.{IsOpenPlace};
 
 use crate::aim::Aim;
 use crate::certs::{copied, empty_cert};
 use crate::choice::{Choice, choose};
-use crate::evaluation::{Search, look};
+use crate::evaluation::look;
 use crate::found::{Cheaper, Found};
+use crate::lines::make_first_lines;
+use crate::search::Search;
 use crate::tree::{Tree, least_open, set_twig};
 use crate::twigs::{OpenBox, Twig};
 use net_core::{Copied, LinkId, NoMemory};
@@ -39,15 +41,15 @@ fn look_sides(
     choice: &Choice,
     splits: u32,
 ) -> Result<Sides, NoMemory>
-    requires aim { IsAim search.old.known.cuts aim.now }
+    requires aim { IsAim search.old.known.entries aim.now }
     requires search { IsSearch (aimed aim.now) search.old }
-    requires room { most_cuts search.old + 2 < 2 ^ 31 }
+    requires room { most_entries search.old + 2 < 2 ^ 31 }
     requires splits { splits < 2 ^ 14 }
     requires open { IsOpenBox (aimed aim.now) aim.now.plan.now (handed_in search.old) search.old.known.tested splits open.now.boxed open.now }
     requires choice { IsChoiceOf (aimed aim.now).links aim.now.plan.now.cost splits open.now.boxed choice.now }
     ensures search { OnOk result (IsSearch (aimed aim.now) search.new) }
     ensures learned { OnOk result (HasLearned search.old search.new) }
-    ensures few { OnOk result (length search.new.known.cuts ≤ most_cuts search.old + 2) }
+    ensures few { OnOk result (length search.new.known.entries ≤ most_entries search.old + 2) }
     ensures found { IfOk result (AreSidesOf (aimed aim.now) aim.now.plan.now (handed_in search.old) search.new.known.tested (splits + 1)
         open.now.boxed choice.now) }
 {
@@ -94,15 +96,15 @@ fn look_again(
     at: usize,
     splits: u32,
 ) -> Result<Option<Cheaper>, NoMemory>
-    requires aim { IsAim search.old.known.cuts aim.now }
+    requires aim { IsAim search.old.known.entries aim.now }
     requires search { IsSearch (aimed aim.now) search.old }
-    requires room { most_cuts search.old + 1 < 2 ^ 31 }
+    requires room { most_entries search.old + 1 < 2 ^ 31 }
     requires splits { splits ≤ 2 ^ 14 }
     requires at { at < length tree.old.twigs.items }
     requires growing { IsGrowing (aimed aim.now) aim.now.plan.now (handed_in search.old) search.old.known.tested splits tree.old.twigs.items }
     ensures search { OnOk result (IsSearch (aimed aim.now) search.new) }
     ensures learned { OnOk result (HasLearned search.old search.new) }
-    ensures few { OnOk result (length search.new.known.cuts ≤ most_cuts search.old) }
+    ensures few { OnOk result (length search.new.known.entries ≤ most_entries search.old) }
     ensures growing { OnOk result (IsGrowing (aimed aim.now) aim.now.plan.now (handed_in search.old) search.new.known.tested splits tree.new.twigs.items) }
     ensures same { length tree.new.twigs.items ≡ length tree.old.twigs.items }
     ensures found { IfOk result (λ o. IfSome o (AreCheaperCounts (aimed aim.now) aim.now.plan.now.cost)) }
@@ -110,7 +112,7 @@ fn look_again(
     let Twig::Open(open) = &tree.twigs[at] else {
         return Ok(None);
     };
-    if open.seen == search.known.cuts.len() {
+    if open.seen == search.known.cuts_end {
         return Ok(None);
     }
     let boxed = open.boxed.copy()?;
@@ -143,15 +145,15 @@ fn split_at(
     at: usize,
     splits: u32,
 ) -> Result<Turn, NoMemory>
-    requires aim { IsAim search.old.known.cuts aim.now }
+    requires aim { IsAim search.old.known.entries aim.now }
     requires search { IsSearch (aimed aim.now) search.old }
-    requires room { most_cuts search.old + 2 < 2 ^ 31 }
+    requires room { most_entries search.old + 2 < 2 ^ 31 }
     requires splits { splits < 2 ^ 14 }
     requires open { IsOpenPlace tree.old.twigs.items at }
     requires growing { IsGrowing (aimed aim.now) aim.now.plan.now (handed_in search.old) search.old.known.tested splits tree.old.twigs.items }
     ensures search { OnOk result (IsSearch (aimed aim.now) search.new) }
     ensures learned { OnOk result (HasLearned search.old search.new) }
-    ensures few { OnOk result (length search.new.known.cuts ≤ most_cuts search.old + 2) }
+    ensures few { OnOk result (length search.new.known.entries ≤ most_entries search.old + 2) }
     ensures turn { IfOk result (IsTurnTo (aimed aim.now) aim.now.plan.now (handed_in search.old) search.new.known.tested splits tree.new.twigs.items) }
 {
     let Twig::Open(open) = &tree.twigs[at] else {
@@ -175,14 +177,14 @@ fn grow_once(
     tree: &mut Tree,
     splits: u32,
 ) -> Result<Turn, NoMemory>
-    requires aim { IsAim search.old.known.cuts aim.now }
+    requires aim { IsAim search.old.known.entries aim.now }
     requires search { IsSearch (aimed aim.now) search.old }
-    requires room { most_cuts search.old + 2 < 2 ^ 31 }
+    requires room { most_entries search.old + 2 < 2 ^ 31 }
     requires splits { splits < 2 ^ 14 }
     requires growing { IsGrowing (aimed aim.now) aim.now.plan.now (handed_in search.old) search.old.known.tested splits tree.old.twigs.items }
     ensures search { OnOk result (IsSearch (aimed aim.now) search.new) }
     ensures learned { OnOk result (HasLearned search.old search.new) }
-    ensures few { OnOk result (length search.new.known.cuts ≤ most_cuts search.old + 2) }
+    ensures few { OnOk result (length search.new.known.entries ≤ most_entries search.old + 2) }
     ensures turn { IfOk result (IsTurnTo (aimed aim.now) aim.now.plan.now (handed_in search.old) search.new.known.tested splits tree.new.twigs.items) }
 {
     for _ in 0..tree.twigs.len() {
@@ -202,20 +204,15 @@ fn grow_once(
     }
 }
 
-/// Grows a tree by as many splits as a limit says, or until no box is open, or until cheaper counts are found.
-pub(crate) fn grown(
-    alloc: Global,
-    aim: &Aim,
-    search: &mut Search,
-    limit: u32,
-) -> Result<Growth, NoMemory>
-    requires aim { IsAim search.old.known.cuts aim.now }
+/// Grows a tree by what is known, by as many splits as a limit says, or until no box is open, or until cheaper counts are found.
+fn grown_on(alloc: Global, aim: &Aim, search: &mut Search, limit: u32) -> Result<Growth, NoMemory>
+    requires aim { IsAim search.old.known.entries aim.now }
     requires search { IsSearch (aimed aim.now) search.old }
-    requires room { most_cuts search.old + 2 * limit + 1 < 2 ^ 31 }
+    requires room { most_entries search.old + 2 * limit + 1 < 2 ^ 31 }
     requires limit { limit ≤ 9999 }
     ensures search { OnOk result (IsSearch (aimed aim.now) search.new) }
     ensures learned { OnOk result (HasLearned search.old search.new) }
-    ensures few { OnOk result (length search.new.known.cuts ≤ most_cuts search.old + 2 * limit + 1) }
+    ensures few { OnOk result (length search.new.known.entries ≤ most_entries search.old + 2 * limit + 1) }
     ensures grown { IfOk result (IsGrownTo (aimed aim.now) aim.now.plan.now (handed_in search.old) search.new.known.tested limit) }
 {
     let whole = whole_box(alloc, aim.instance.net)?;
@@ -232,4 +229,25 @@ pub(crate) fn grown(
         }
     }
     Ok(Growth::Tree(tree))
+}
+
+/// Grows a tree so, after lines were made for its root if lines are to be made.
+pub(crate) fn grown(
+    alloc: Global,
+    aim: &Aim,
+    search: &mut Search,
+    limit: u32,
+) -> Result<Growth, NoMemory>
+    requires aim { IsAim search.old.known.entries aim.now }
+    requires search { IsSearch (aimed aim.now) search.old }
+    requires room { most_entries search.old + 2 * limit + 1 < 2 ^ 31 }
+    requires limit { limit ≤ 9999 }
+    ensures search { OnOk result (IsSearch (aimed aim.now) search.new) }
+    ensures learned { OnOk result (HasLearned search.old search.new) }
+    ensures few { OnOk result (length search.new.known.entries ≤ most_entries search.old + 2 * limit + 1) }
+    ensures grown { IfOk result (IsGrownTo (aimed aim.now) aim.now.plan.now (handed_in search.old) search.new.known.tested limit) }
+{
+    let whole = whole_box(alloc, aim.instance.net)?;
+    make_first_lines(alloc, aim, search, &whole)?;
+    grown_on(alloc, aim, search, limit)
 }

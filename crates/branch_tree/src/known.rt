@@ -1,4 +1,4 @@
-ghost use Rattle.std.specs.Prelude.{◌≡◌, ◌↔◌, ◌+◌, ◌++◌, ◌<◌, ◌^◌, [], ◌∷◌, ℕ, false, length, slice_get};
+ghost use Rattle.std.specs.Prelude.{◌≡◌, ◌↔◌, ◌+◌, ◌++◌, ◌<◌, ◌^◌, ◌≤◌, [], ◌∷◌, ℕ, false, true, length, map, slice_get};
 ghost use Rattle.std.specs.Prelude.{All, Contains, IfOk, IfSome, IsTrue, MatchOption, None, OnOk, Some};
 ghost use Rattle.plan_terms.specs.Terms.{IsCut, case_of};
 ghost use Rattle.box_program.specs.Solutions.{IsSolutionOf};
@@ -8,39 +8,78 @@ ghost use Rattle.branch_tree.specs.inner.Growing.{Extends, IsKnown, aimed};
 
 use crate::aim::Aim;
 use box_program::{Lines, Solution, common_unit, divisor_of, solved};
-use line_check::Tested;
-use line_check::tested::{tested_cut, tested_lines};
+use line_check::tested::{tested_cut, tested_line, tested_lines};
+use line_check::{Line, Tested};
 use net_core::{CutLine, Instance, List, NoMemory};
+use proof_order::Entry;
 use std::alloc::Global;
 use tree_check::Boxed;
 use tree_check::nodes::is_empty;
 use tree_check::tests::Tests;
 
-/// The cuts of a proof, in the order of their indices, each tested.
+/// The cuts and lines of a proof in the order in which they were found, each tested. Its place is its index in the search.
 #[derive(Drop)]
 pub(crate) struct Known {
-    pub cuts: List<CutLine>,
+    pub entries: List<Entry>,
     pub tested: List<Tested>,
-    /// What divides each number of the lines.
+    /// The programs of boxes take the cuts and lines from this place on.
+    pub first: usize,
+    /// What divides each of their numbers.
     pub unit: u128,
+    /// The place after the last cut that was put.
+    pub cuts_end: usize,
+    /// Whether lines are made of the cuts.
+    pub divides: bool,
+}
+
+/// Cuts as entries.
+fn entries_of(alloc: Global, cuts: List<CutLine>) -> Result<List<Entry>, NoMemory>
+    ensures { IfOk result (λ entries. entries ≡ map Entry.Cut cuts) }
+{
+    let mut entries = List::new(alloc);
+    for cut in cuts.into_vec() {
+        entries.push(Entry::Cut(cut))?;
+    }
+    Ok(entries)
 }
 
 impl Known {
-    /// Cuts of an instance with their lines.
+    /// Cuts of an instance, each tested.
     pub(crate) fn new(
         alloc: Global,
         instance: &Instance,
         cuts: List<CutLine>,
+        divides: bool,
     ) -> Result<Known, NoMemory>
         requires few { length cuts < 2 ^ 31 }
         requires sound { All (IsCut (case_of instance.now)) cuts }
         ensures known { IfOk result (IsKnown (case_of instance.now)) }
-        ensures cuts { IfOk result (λ known. known.cuts ≡ cuts) }
+        ensures entries { IfOk result (λ known. known.entries ≡ map Entry.Cut cuts) }
+        ensures divides { IfOk result (λ known. known.divides ≡ divides) }
     {
         let none = List::new(alloc);
         let tested = tested_lines(alloc, instance, cuts.items(), none.items())?;
         let unit = common_unit(tested.items());
-        Ok(Known { cuts, tested, unit })
+        Ok(Known {
+            cuts_end: cuts.len(),
+            entries: entries_of(alloc, cuts)?,
+            tested,
+            first: 0,
+            unit,
+            divides,
+        })
+    }
+
+    /// Puts an entry last, with its test.
+    fn put(&mut self, tested: Tested, entry: Entry) -> Result<(), NoMemory>
+        ensures entries { OnOk result (self.new.entries ≡ self.old.entries ++ entry ∷ []) }
+        ensures tested { OnOk result (self.new.tested ≡ self.old.tested ++ tested ∷ []) }
+        ensures divides { self.new.divides ≡ self.old.divides }
+    {
+        self.unit = divisor_of(&tested.line, self.unit);
+        self.tested.push(tested)?;
+        self.entries.push(entry)?;
+        Ok(())
     }
 
     /// Puts a cut last.
@@ -51,16 +90,50 @@ impl Known {
         cut: CutLine,
     ) -> Result<(), NoMemory>
         requires known { IsKnown (case_of instance.now) self.old }
-        requires room { length self.old.cuts + 1 < 2 ^ 31 }
+        requires room { length self.old.entries + 1 < 2 ^ 31 }
         requires sound { IsCut (case_of instance.now) cut }
         ensures known { OnOk result (IsKnown (case_of instance.now) self.new) }
-        ensures cuts { OnOk result (self.new.cuts ≡ self.old.cuts ++ cut ∷ []) }
+        ensures entries { OnOk result (self.new.entries ≡ self.old.entries ++ Entry.Cut cut ∷ []) }
         ensures tested { OnOk result (Extends self.old.tested self.new.tested) }
+        ensures divides { OnOk result (self.new.divides ≡ self.old.divides) }
     {
         let tested = tested_cut(alloc, instance, &cut)?;
-        self.unit = divisor_of(&tested.line, self.unit);
-        self.tested.push(tested)?;
-        self.cuts.push(cut)?;
+        self.put(tested, Entry::Cut(cut))?;
+        self.cuts_end = self.entries.len();
+        Ok(())
+    }
+
+    /// From here on the programs of boxes take what is put from now on, and no longer what is there.
+    pub(crate) fn set_aside(&mut self)
+        ensures entries { self.new.entries ≡ self.old.entries }
+        ensures tested { self.new.tested ≡ self.old.tested }
+        ensures divides { self.new.divides ≡ self.old.divides }
+    {
+        self.first = self.entries.len();
+        self.unit = 0;
+    }
+
+    /// Puts a line last, if it holds.
+    pub(crate) fn push_line(
+        &mut self,
+        alloc: Global,
+        instance: &Instance,
+        line: Line,
+    ) -> Result<(), NoMemory>
+        requires known { IsKnown (case_of instance.now) self.old }
+        requires room { length self.old.entries + 1 < 2 ^ 31 }
+        requires divides { self.old.divides ≡ true }
+        ensures known { OnOk result (IsKnown (case_of instance.now) self.new) }
+        ensures extends { OnOk result (Extends self.old.entries self.new.entries) }
+        ensures few { OnOk result (length self.new.entries ≤ length self.old.entries + 1) }
+        ensures tested { OnOk result (Extends self.old.tested self.new.tested) }
+        ensures divides { OnOk result (self.new.divides ≡ true) }
+    {
+        let tested = tested_line(alloc, instance, self.tested.items(), &line)?;
+        if !tested.sound {
+            return Ok(());
+        }
+        self.put(tested, Entry::Line(line))?;
         Ok(())
     }
 
@@ -88,20 +161,21 @@ impl Known {
     {
         let lines = Lines {
             tested: self.tested.items(),
+            first: self.first,
             unit: self.unit,
         };
         let links = aim.instance.net.links().items();
         solved(alloc, links, aim.plan.cost, lines, boxed)
     }
 
-    /// The first cut that empties a box.
+    /// The first cut or line that empties a box.
     pub(crate) fn emptied_by(&self, aim: &Aim, boxed: &Boxed) -> Option<u32>
         requires { IsKnown (aimed aim.now) self.now }
         ensures none { result ≡ None → (i : ℕ) → EmptiesBox (names_by self.now.tested false) (aimed aim.now).links boxed.now i → ⊥ }
         ensures some { IfSome result (EmptiesBox (names_by self.now.tested false) (aimed aim.now).links boxed.now) }
     {
         let tests = self.tests(aim);
-        for i in 0..self.cuts.len() {
+        for i in 0..self.entries.len() {
             if is_empty(&tests, boxed, i as u32) {
                 return Some(i as u32);
             }
@@ -128,4 +202,17 @@ pub fn index_of(cuts: &[CutLine], cut: &CutLine) -> Option<u32>
         }
     }
     None
+}
+
+/// Whether an entry is this cut.
+fn is_entry_of(entry: &Entry, cut: &CutLine) -> bool {
+    match entry {
+        Entry::Cut(known) => is_same(known, cut),
+        Entry::Line(_) => false,
+    }
+}
+
+/// Whether a cut is among entries. It takes time in the entries.
+pub(crate) fn has_cut(entries: &[Entry], cut: &CutLine) -> bool {
+    entries.iter().any(|entry| is_entry_of(entry, cut))
 }

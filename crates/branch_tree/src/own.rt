@@ -1,9 +1,10 @@
-ghost use Rattle.std.specs.Prelude.{◌<◌, ◌^◌, All, Contains, IfOk, length};
+ghost use Rattle.std.specs.Prelude.{◌<◌, ◌^◌, All, Contains, IfOk, length, map};
 ghost use Rattle.branch_tree.specs.inner.Growing.{IsOwnCert};
 
 use crate::known::index_of;
 use net_core::{CutLine, List, NoMemory};
 use plan_types::Plan;
+use proof_order::Entry;
 use std::alloc::Global;
 use tree_check::{BoxCert, Multiplier};
 
@@ -11,7 +12,7 @@ use tree_check::{BoxCert, Multiplier};
 pub(crate) fn own_cert(alloc: Global, plan: &Plan, cuts: &[CutLine]) -> Result<BoxCert, NoMemory>
     requires few { length cuts.now < 2 ^ 31 }
     requires own { All (λ l. Contains cuts.now l.cut) plan.now.certificate.lines }
-    ensures { IfOk result (IsOwnCert cuts.now plan.now) }
+    ensures { IfOk result (IsOwnCert (map Entry.Cut cuts.now) plan.now) }
 {
     let certificate = &plan.certificate;
     let mut lines = List::new(alloc);

@@ -1,4 +1,4 @@
-ghost use Rattle.std.specs.Prelude.{◌≡◌, ℕ, List, [], ◌+◌, ◌≤◌, ◌<◌, IfOk, length, map, take};
+ghost use Rattle.std.specs.Prelude.{◌≡◌, ℕ, List, [], ◌+◌, ◌^◌, ◌≤◌, ◌<◌, IfOk, false, length, map, take};
 ghost use Rattle.plan_terms.specs.Terms.{AreDemands, IsAble, IsSurvivable, case, case_of, total_cost};
 ghost use Rattle.plan_types.specs.Terms.{IsCertifiedPlan};
 ghost use Rattle.trim_plan.specs.Trimmed.{IsRoutedPlan};
@@ -6,20 +6,20 @@ ghost use Rattle.plan_swaps.specs.Swaps.{IsCheaperPlan};
 ghost use Rattle.branch_tree.specs.FewSplits.{AreCharged};
 ghost use Rattle.branch_tree.specs.Proving.{AreHandedCuts, IsProofOf};
 ghost use Rattle.branch_tree.specs.inner.Growing.{AreCheaperCounts, IsKnown, IsOwnCert, IsSearch, handed_in};
-ghost use Rattle.branch_tree.specs.inner.Places.{node_of};
-ghost use Rattle.branch_tree.specs.inner.Showing.{all_shown, verdict_of};
+ghost use Rattle.branch_tree.specs.inner.Making.{AreFirstOf, IsProofMade, IsProofWith};
 
 use crate::aim::Aim;
-use crate::evaluation::{MOST_FURTHER, Search};
 use crate::found::Cheaper;
 use crate::growth::{Growth, grown};
 use crate::known::Known;
 use crate::own::own_cert;
+use crate::search::{MOST_FURTHER, Search};
 use crate::tree::{Tree, finished};
 use able_counts::AbleTest;
 use net_core::{Copied, CutLine, Instance, List, Network, NoMemory, States};
 use plan_swaps::swap;
 use plan_types::Plan;
+use proof_order::{Entry, Ordered, in_order};
 use std::alloc::Global;
 use tree_check::{BoxCert, Proof, Verdict};
 
@@ -66,7 +66,7 @@ fn first_cuts(cuts: List<CutLine>, most: usize) -> List<CutLine>
     List::from_vec(all)
 }
 
-/// What is known with the first cuts alone.
+/// What is known; or, where there are more entries than so many, as many of the first cuts alone.
 fn first_known(
     alloc: Global,
     instance: &Instance,
@@ -75,49 +75,56 @@ fn first_known(
 ) -> Result<Known, NoMemory>
     requires { IsKnown (case_of instance.now) known }
     ensures known { IfOk result (IsKnown (case_of instance.now)) }
-    ensures cuts { IfOk result (λ k. k.cuts ≡ take most known.cuts) }
+    ensures entries { IfOk result (AreFirstOf most known.entries) }
+    ensures divides { IfOk result (λ k. k.divides ≡ known.divides) }
 {
-    if known.cuts.len() <= most {
+    if known.entries.len() <= most {
         return Ok(known);
     }
-    Known::new(alloc, instance, first_cuts(known.cuts, most))
+    let Known {
+        entries,
+        divides,
+        ..
+    } = known;
+    let none = List::new(alloc);
+    let Ordered { cuts, .. } = in_order(alloc, entries, none)?;
+    Known::new(alloc, instance, first_cuts(cuts, most), divides)
 }
 
-/// What a search has learned, with as many further cuts as whole points may add: so they don't grow without bound.
+/// What a search has learned, with as many further entries as whole points may add: so they don't grow without bound.
 fn begun_anew(alloc: Global, instance: &Instance, search: Search) -> Result<Search, NoMemory>
     requires { IsSearch (case_of instance.now) search }
     ensures search { IfOk result (IsSearch (case_of instance.now)) }
     ensures handed { IfOk result (λ s. handed_in s ≡ handed_in search) }
-    ensures few { IfOk result (λ s. length s.known.cuts ≤ s.handed + 4096) }
+    ensures divides { IfOk result (λ s. s.known.divides ≡ search.known.divides) }
+    ensures few { IfOk result (λ s. length s.known.entries ≤ s.room) }
 {
     let Search {
         known,
         test,
         handed,
+        room,
     } = search;
-    let known = first_known(alloc, instance, known, handed + MOST_FURTHER)?;
+    let known = first_known(alloc, instance, known, room)?;
     Ok(Search {
         known,
         test,
         handed,
+        room,
     })
 }
 
-/// The proof that a tree is.
-fn proof_of(alloc: Global, plan: Plan, cuts: List<CutLine>, tree: Tree) -> Result<Proof, NoMemory>
-    ensures { IfOk result (λ r. r ≡ record {
-      plan = plan;
-      cuts = cuts;
-      lines = [];
-      tree = map node_of tree.twigs.items;
-      verdict = verdict_of (all_shown plan.cost tree.twigs.items);
-    }) }
+/// The proof that a tree is, with the entries that its nodes name in the order of a proof.
+fn proof_of(alloc: Global, plan: Plan, entries: List<Entry>, tree: Tree) -> Result<Proof, NoMemory>
+    requires { length entries < 2 ^ 31 }
+    ensures { IfOk result (IsProofMade plan entries tree.twigs.items) }
 {
-    let (tree, verdict) = finished(alloc, tree, plan.cost)?;
+    let (nodes, verdict) = finished(alloc, tree, plan.cost)?;
+    let Ordered { cuts, lines, tree } = in_order(alloc, entries, nodes)?;
     Ok(Proof {
         plan,
         cuts,
-        lines: List::new(alloc),
+        lines,
         tree,
         verdict,
     })
@@ -138,9 +145,9 @@ fn proved<'a>(
     requires routed { IsRoutedPlan (case_of instance.now) plan }
     requires certified { IsCertifiedPlan (case_of instance.now) plan }
     requires search { IsSearch (case_of instance.now) search }
-    requires few { length search.known.cuts ≤ search.handed + 4096 }
-    requires own { IsOwnCert (handed_in search) plan own.now }
-    ensures { IfOk result (IsProofOf (case_of instance.now) plan (handed_in search) limit) }
+    requires few { length search.known.entries ≤ search.room }
+    requires own { IsOwnCert (map Entry.Cut (handed_in search)) plan own.now }
+    ensures { IfOk result (IsProofWith (case_of instance.now) search.known.divides plan (handed_in search) limit) }
 {
     let mut plan = plan;
     let mut search = search;
@@ -155,8 +162,21 @@ fn proved<'a>(
                 plan = cheaper_plan(alloc, instance, plan, cheaper)?;
                 search = begun_anew(alloc, instance, search)?;
             }
-            Growth::Tree(tree) => return proof_of(alloc, plan, search.known.cuts, tree),
+            Growth::Tree(tree) => return proof_of(alloc, plan, search.known.entries, tree),
         }
+    }
+}
+
+/// How many cuts and lines are kept at most, where so many cuts were handed in: with lines there is room for a coarse one of each.
+fn room_for(handed: usize, divides: bool) -> usize
+    requires { handed ≤ 8192 }
+    ensures enough { handed ≤ result }
+    ensures small { result ≤ 2 ^ 15 }
+{
+    if divides {
+        handed + handed + MOST_FURTHER
+    } else {
+        handed + MOST_FURTHER
     }
 }
 
@@ -167,6 +187,7 @@ fn searched(
     plan: Plan,
     cuts: List<CutLine>,
     limit: u32,
+    divides: bool,
 ) -> Result<Proof, NoMemory>
     requires limit { limit ≤ 9999 }
     requires survivable { IsSurvivable (case_of instance.now) }
@@ -174,16 +195,51 @@ fn searched(
     requires routed { IsRoutedPlan (case_of instance.now) plan }
     requires certified { IsCertifiedPlan (case_of instance.now) plan }
     requires cuts { AreHandedCuts (case_of instance.now) plan cuts }
-    ensures { IfOk result (IsProofOf (case_of instance.now) plan cuts limit) }
+    ensures { IfOk result (IsProofWith (case_of instance.now) divides plan cuts limit) }
 {
     let own = own_cert(alloc, &plan, cuts.items())?;
     let handed = cuts.len();
     let search = Search {
-        known: Known::new(alloc, instance, cuts)?,
+        known: Known::new(alloc, instance, cuts, divides)?,
         test: AbleTest::new(alloc, instance, plan.routings.copy()?)?,
         handed,
+        room: room_for(handed, divides),
     };
     proved(alloc, instance, plan, &own, search, limit)
+}
+
+/// Exchanges modules, and then searches for the proof.
+fn prove_with(
+    alloc: Global,
+    net: &Network,
+    states: &States,
+    plan: Plan,
+    cuts: List<CutLine>,
+    limit: u32,
+    divides: bool,
+) -> Result<Proof, NoMemory>
+    requires limit { limit ≤ 9999 }
+    requires charged { AreCharged net.now.links }
+    requires belong { AreDemands (length net.now.nodes) plan.demands }
+    requires survivable { IsSurvivable (case net.now states.now plan.demands) }
+    requires routed { IsRoutedPlan (case net.now states.now plan.demands) plan }
+    requires certified { IsCertifiedPlan (case net.now states.now plan.demands) plan }
+    requires cuts { AreHandedCuts (case net.now states.now plan.demands) plan cuts }
+    ensures proof { IfOk result (IsProofOf (case net.now states.now plan.demands) plan cuts limit) }
+    ensures lines { divides ≡ false → IfOk result (λ r. r.lines ≡ []) }
+    ensures cheapest { IfOk result (λ r. r.verdict ≡ Verdict.Cheapest → (counts : List (List ℕ)) → IsAble (case net.now states.now plan.demands) counts
+        → r.plan.cost ≤ total_cost net.now.links counts) }
+    ensures above { IfOk result (λ r. (least : ℕ) → r.verdict ≡ Verdict.Above least → (counts : List (List ℕ))
+        → IsAble (case net.now states.now plan.demands) counts → least ≤ total_cost net.now.links counts) }
+{
+    let demands = plan.demands.copy()?;
+    let instance = Instance {
+        net,
+        states,
+        demands: &demands,
+    };
+    let better = swap(alloc, net, states, plan)?;
+    searched(alloc, &instance, better, cuts, limit, divides)
 }
 
 /// Searches for a branch tree that shows a plan to be cheapest, with at most `limit` splits.
@@ -221,17 +277,43 @@ pub fn prove(
     requires certified { IsCertifiedPlan (case net.now states.now plan.demands) plan }
     requires cuts { AreHandedCuts (case net.now states.now plan.demands) plan cuts }
     ensures proof { IfOk result (IsProofOf (case net.now states.now plan.demands) plan cuts limit) }
+    ensures lines { IfOk result (λ r. r.lines ≡ []) }
     ensures cheapest { IfOk result (λ r. r.verdict ≡ Verdict.Cheapest → (counts : List (List ℕ)) → IsAble (case net.now states.now plan.demands) counts
         → r.plan.cost ≤ total_cost net.now.links counts) }
     ensures above { IfOk result (λ r. (least : ℕ) → r.verdict ≡ Verdict.Above least → (counts : List (List ℕ))
         → IsAble (case net.now states.now plan.demands) counts → least ≤ total_cost net.now.links counts) }
 {
-    let demands = plan.demands.copy()?;
-    let instance = Instance {
-        net,
-        states,
-        demands: &demands,
-    };
-    let better = swap(alloc, net, states, plan)?;
-    searched(alloc, &instance, better, cuts, limit)
+    prove_with(alloc, net, states, plan, cuts, limit, false)
+}
+
+/// As `prove`, but the tree's leaves may also name lines that are made of the cuts, and come with the proof: sums of cuts that are divided
+/// and rounded up know that modules are whole. With them a tree has few splits, and the value without any split is mostly within a tenth
+/// of the least cost.
+///
+/// Before the tree grows, each cut gets a line whose right side is at most 64, and programs take these in place of the given cuts. Then up
+/// to 40 lines are made that the point of the program of all counts misses, in up to 20 rounds, and up to 10 at each other box that is
+/// looked at. But for cuts of boxes of one choice of counts, the cuts and lines of the answer are at most 4,096 more than twice the given
+/// cuts. A round takes a program, and time in the cuts and lines times the modules times the square of the kinds of modules.
+pub fn prove_by_lines(
+    alloc: Global,
+    net: &Network,
+    states: &States,
+    plan: Plan,
+    cuts: List<CutLine>,
+    limit: u32,
+) -> Result<Proof, NoMemory>
+    requires limit { limit ≤ 9999 }
+    requires charged { AreCharged net.now.links }
+    requires belong { AreDemands (length net.now.nodes) plan.demands }
+    requires survivable { IsSurvivable (case net.now states.now plan.demands) }
+    requires routed { IsRoutedPlan (case net.now states.now plan.demands) plan }
+    requires certified { IsCertifiedPlan (case net.now states.now plan.demands) plan }
+    requires cuts { AreHandedCuts (case net.now states.now plan.demands) plan cuts }
+    ensures proof { IfOk result (IsProofOf (case net.now states.now plan.demands) plan cuts limit) }
+    ensures cheapest { IfOk result (λ r. r.verdict ≡ Verdict.Cheapest → (counts : List (List ℕ)) → IsAble (case net.now states.now plan.demands) counts
+        → r.plan.cost ≤ total_cost net.now.links counts) }
+    ensures above { IfOk result (λ r. (least : ℕ) → r.verdict ≡ Verdict.Above least → (counts : List (List ℕ))
+        → IsAble (case net.now states.now plan.demands) counts → least ≤ total_cost net.now.links counts) }
+{
+    prove_with(alloc, net, states, plan, cuts, limit, true)
 }

@@ -9,7 +9,7 @@ pub(crate) struct OpenBox {
     pub best: Valued,
     /// What the box's program is worth, in thousandths of a unit: boxes of least rank are split first.
     pub rank: u128,
-    /// How many cuts were known when it was looked at.
+    /// Where the last cut ended when it was looked at.
     pub seen: usize,
 }
 

@@ -1,5 +1,5 @@
 -- trees on the way: what is known at each of their places
-use Rattle.std.specs.Prelude.{◌≡◌, ℕ, ◌+◌, ◌*◌, ◌^◌, ◌≤◌, ◌<◌, ◌⊎◌, ◌++◌, List, [], ◌∷◌, Some, IfSome, All, false, length, max, slice_get, take}
+use Rattle.std.specs.Prelude.{◌≡◌, ℕ, ◌+◌, ◌*◌, ◌^◌, ◌≤◌, ◌<◌, ◌⊎◌, ◌++◌, List, [], ◌∷◌, Some, IfSome, All, false, length, map, max, slice_get, take}
 use Rattle.std.specs.List.{AllZip}
 use Rattle.plan_terms.specs.Terms.{AreCounts, AreWithinLimits, Case, CutLine, Evidence, IsCut, IsSurvivable, Link, capacities, case_of, total_cost}
 use Rattle.plan_types.specs.declared.plan.Plan.{Plan}
@@ -7,7 +7,6 @@ use Rattle.able_counts.specs.AbleTests.{AreRoutingsWithin, IsWideSomewhere, whol
 use Rattle.able_counts.specs.AbleTests.{IsTestOf as IsAbleTestOf}
 use Rattle.trim_plan.specs.Trimmed.{IsRoutedPlan}
 use Rattle.line_check.specs.Inequalities.{entry}
-use Rattle.line_check.specs.Lines.{sources_of}
 use Rattle.line_check.specs.Testing.{AreTested, names_by}
 use Rattle.line_check.specs.declared.tested.Tested.{Tested}
 use Rattle.tree_check.specs.Boxes.{IsFixedBox, IsSplitOf, least_counts, lower_side, upper_side, whole_box}
@@ -17,13 +16,16 @@ use Rattle.tree_check.specs.Trees.{TreeBox}
 use Rattle.tree_check.specs.declared.proof.BoxCert.{BoxCert}
 use Rattle.tree_check.specs.declared.proof.Node.{Node}
 use Rattle.tree_check.specs.declared.proof.Node.TheVariants.{Split, Closed, Empty, Spent, Stuck}
+use Rattle.proof_order.specs.Orders.{cuts_among, lines_among, source_of}
+use Rattle.proof_order.specs.declared.entry.Entry.{Entry}
+use Rattle.proof_order.specs.declared.entry.Entry.TheVariants as entry
 use Rattle.branch_tree.specs.inner.Places.{AreSettled, AreTwigsOf, IsLeafTwig, twig_splits}
 use Rattle.branch_tree.specs.Proving.{HasNodeCause, HasPlanValue, IsUnsettled}
 use Rattle.branch_tree.specs.declared.aim.Aim.{Aim}
 use Rattle.branch_tree.specs.declared.certs.Valued.{Valued}
 use Rattle.branch_tree.specs.declared.evaluation.Round.{Round}
 use Rattle.branch_tree.specs.declared.evaluation.Round.TheVariants as round
-use Rattle.branch_tree.specs.declared.evaluation.Search.{Search}
+use Rattle.branch_tree.specs.declared.search.Search.{Search}
 use Rattle.branch_tree.specs.declared.found.Cheaper.{Cheaper}
 use Rattle.branch_tree.specs.declared.found.Found.{Found}
 use Rattle.branch_tree.specs.declared.found.Found.TheVariants as found
@@ -42,11 +44,17 @@ use Rattle.branch_tree.specs.declared.twigs.Twig.TheVariants as twig
 
 -- ---- what a search knows
 
--- cuts of the case, tested one by one
+-- a cut of the case, or a line
+abbrev pub IsSoundEntry : Case → Entry → Type 0
+IsSoundEntry p (entry.Cut cut) = IsCut p cut
+IsSoundEntry p (entry.Line line) = Unit {0}
+
+-- cuts of the case and lines, tested one by one; no lines where none are made
 pub record IsKnown (p : Case) (k : Known) : Type 0 where
-  pub sound : All (IsCut p) k.cuts
-  pub tested : AreTested p (sources_of k.cuts []) k.tested
-  pub few : length k.cuts < 2 ^ 31
+  pub sound : All (IsSoundEntry p) k.entries
+  pub tested : AreTested p (map source_of k.entries) k.tested
+  pub few : length k.entries < 2 ^ 31
+  pub plain : k.divides ≡ false → lines_among k.entries ≡ []
 
 -- items are put after those of a list
 pub record Extends {X : Type 0} (old new : List X) : Type 0 where
@@ -57,25 +65,25 @@ pub record Extends {X : Type 0} (old new : List X) : Type 0 where
 abbrev pub aimed : Aim → Case
 aimed a = case_of a.instance.now
 
--- a certificate is the plan's, by indices of cuts
-pub record IsOwnCert (cuts : List CutLine) (plan : Plan) (cert : BoxCert) : Type 0 where
+-- a certificate is the plan's, by indices of cuts among entries
+pub record IsOwnCert (entries : List Entry) (plan : Plan) (cert : BoxCert) : Type 0 where
   pub den : cert.den ≡ plan.certificate.den
-  pub named : AllZip (λ m l. (slice_get cuts m.cut ≡ Some l.cut) × (m.num ≡ l.num)) cert.lines plan.certificate.lines
+  pub named : AllZip (λ m l. (slice_get entries m.cut ≡ Some (entry.Cut l.cut)) × (m.num ≡ l.num)) cert.lines plan.certificate.lines
 
 -- an aim that a search can have: a plan of the case that carries its demands
-pub record IsAim (cuts : List CutLine) (a : Aim) : Type 0 where
+pub record IsAim (entries : List Entry) (a : Aim) : Type 0 where
   pub survivable : IsSurvivable (aimed a)
   pub demands : a.plan.now.demands ≡ (aimed a).demands
   pub routed : IsRoutedPlan (aimed a) a.plan.now
-  pub own : IsOwnCert cuts a.plan.now a.own.now
+  pub own : IsOwnCert entries a.plan.now a.own.now
 
 -- the cuts that were handed in
 abbrev pub handed_in : Search → List CutLine
-handed_in s = take s.handed s.known.cuts
+handed_in s = cuts_among (take s.handed s.known.entries)
 
--- how many cuts there are at most after whole points were asked about
-abbrev pub most_cuts : Search → ℕ
-most_cuts s = max (length s.known.cuts) (s.handed + 4096)
+-- how many entries there are at most after whole points were asked about, and lines made
+abbrev pub most_entries : Search → ℕ
+most_entries s = max (length s.known.entries) s.room
 
 -- a box that isn't settled at once by what was handed in
 abbrev pub IsUnsettledIn : Case → Plan → Search → TreeBox → Type 0
@@ -85,14 +93,19 @@ IsUnsettledIn p plan s box = IsUnsettled p.links plan (handed_in s) box
 pub record IsSearch (p : Case) (s : Search) : Type 0 where
   pub known : IsKnown p s.known
   pub test : IsAbleTestOf p s.test
-  pub inside : s.handed ≤ length s.known.cuts
+  pub first : take s.handed s.known.entries ≡ map entry.Cut (handed_in s)
+  pub inside : s.handed ≤ length s.known.entries
   pub few : s.handed ≤ 8192
+  pub enough : s.handed ≤ s.room
+  pub small : s.room ≤ 2 ^ 15
 
 -- a search has learned more
 pub record HasLearned (old new : Search) : Type 0 where
-  pub extends : Extends old.known.cuts new.known.cuts
+  pub extends : Extends old.known.entries new.known.entries
   pub tested : Extends old.known.tested new.known.tested
+  pub divides : new.known.divides ≡ old.known.divides
   pub handed : new.handed ≡ old.handed
+  pub room : new.room ≡ old.room
 
 -- ---- what is found
 

@@ -10,15 +10,15 @@ look_fixed-requires-clause-unsettled c =
     let a = c.args.aim.now in
     let s = c.args.search.now in
     let told = c.in_ok-best.ensures in
-    unsettled_box (aimed a) a.plan.now s.known s.handed c.args.boxed c.in_ok-best.best c.requires.search.known (c.emptied_by.ensures.none c.in_default.is) told.valued told.free
+    unsettled_box (aimed a) a.plan.now s c.args.boxed c.in_ok-best.best c.requires.search (c.emptied_by.ensures.none c.in_default.is) told.valued told.free
     (omega (arith, c.if-best-aim.false))
 
-pub look_open-requires-clause-unsettled : goal.look_open-requires-clause-unsettled
-look_open-requires-clause-unsettled c =
+pub look_divided-requires-clause-unsettled : goal.look_divided-requires-clause-unsettled
+look_divided-requires-clause-unsettled c =
     let a = c.args.aim.now in
     let s = c.args.search.now in
     let told = c.in_ok-best.ensures in
-    unsettled_box (aimed a) a.plan.now s.known s.handed c.args.boxed c.in_ok-best.best c.requires.search.known (c.emptied_by.ensures.none c.in_default.is) told.valued told.free
+    unsettled_box (aimed a) a.plan.now s c.args.boxed c.in_ok-best.best c.requires.search (c.emptied_by.ensures.none c.in_default.is) told.valued told.free
     (omega (arith, c.if-best-aim.false))
 
 pub returns-in-Some-2-clause-unfixed : goal.returns-in-Some-2-clause-unfixed

@@ -25,7 +25,7 @@ returns-in_ok-push-in-Cut-clause-found c =
     let answer = subst (λ (asked : Asked). IsAnswerTo p c.args.counts asked) c.in-Cut.is c.in_ok-cheaper.ensures.answer in
     let violates = subst (λ (cs : List (List ℕ)). Violates (whole_caps (capacities p.links cs)) c.in-Cut.line) c.requires.counts answer.1 in
     violated_found p a.plan.now handed old new c.in-Cut.line c.args.depth _ c.args.boxed.now (omega (arith, c.len-cut.ensures, c.requires.room)) c.requires.search_box.shape c.requires.fixed
-    c.in_ok-push-in-Cut.ensures.cuts c.in_ok-push-in-Cut.ensures.known answer.0 violates
+    c.in_ok-push-in-Cut.ensures.entries c.in_ok-push-in-Cut.ensures.known answer.0 violates
 
 pub returns-in-Wide-clause-found : goal.returns-in-Wide-clause-found
 returns-in-Wide-clause-found c =

@@ -4,7 +4,7 @@ use Rattle.tree_check.specs.Trees.{TreeBox}
 use Rattle.branch_tree.specs.declared.evaluation.Round.{Round}
 use Rattle.branch_tree.specs.declared.found.Found.{Found}
 use Rattle.branch_tree.specs.inner.Growing.{IsFoundAt, IsRoundTo, IsSearchBox, IsUnsettledIn, aimed, handed_in}
-use Rattle.branch_tree.proofs.Extending.{aim_on, cuts_most, learned_none, learned_on, most_on}
+use Rattle.branch_tree.proofs.Extending.{aim_on, entries_most, learned_none, learned_on, most_on}
 use Rattle.branch_tree.proofs.Looking.{open_found}
 use Rattle.branch_tree.proofs.evaluation.look_open.Goals as goal
 
@@ -14,7 +14,7 @@ loop-init c = record {
   sound = c.requires.search;
   learned = learned_none c.args.search.now;
   box = refl;
-  few = cuts_most c.args.search.now;
+  few = entries_most c.args.search.now;
   valued = c.requires.valued;
   below = c.requires.below;
 }
@@ -30,7 +30,7 @@ loop-preserved c =
     let told = c.in_ok-found.ensures in
     let round = subst (λ (r : Round). IsRoundTo (aimed a) a.plan.now new.known.tested c.loop.boxed r) c.in-Open.is told.round in
     record {
-      aim = aim_on a old.known.cuts new.known.cuts told.learned.extends c.loop.invariant.aim;
+      aim = aim_on a old.known.entries new.known.entries told.learned.extends c.loop.invariant.aim;
       sound = told.search;
       learned = learned_on c.args.search.now old new c.loop.invariant.learned told.learned;
       box = c.loop.invariant.box;
@@ -63,7 +63,7 @@ returns-then-not-again-clause-found c =
     let box = c.loop.boxed in
     let same = c.loop.invariant.box in
     let round = subst (λ (r : Round). IsRoundTo (aimed a) a.plan.now tested box r) c.in-Open.is c.in_ok-found.ensures.round in
-    let here = open_found (aimed a) a.plan.now handed tested c.args.depth box c.in-Open.better c.in-Open.worth (length c.look_once.new.search.known.cuts)
+    let here = open_found (aimed a) a.plan.now handed tested c.args.depth box c.in-Open.better c.in-Open.worth c.look_once.new.search.known.cuts_end
     (subst (IsSearchBox (aimed a).links c.args.depth) (sym same) c.requires.search_box) round.0 round.1
     (subst (IsUnsettledIn (aimed a) a.plan.now c.args.search.now) (sym same) c.requires.unsettled)
     (subst (λ (b : TreeBox). IsFixedBox b → ⊥) (sym same) c.requires.unfixed) in
@@ -77,7 +77,7 @@ returns-clause-found c =
     let handed = handed_in c.args.search.now in
     let box = c.loop.boxed in
     let same = c.loop.invariant.box in
-    let here = open_found (aimed a) a.plan.now handed tested c.args.depth box c.loop.best c.loop.rank (length c.loop.search.known.cuts)
+    let here = open_found (aimed a) a.plan.now handed tested c.args.depth box c.loop.best c.loop.rank c.loop.search.known.cuts_end
     (subst (IsSearchBox (aimed a).links c.args.depth) (sym same) c.requires.search_box) c.loop.invariant.valued c.loop.invariant.below
     (subst (IsUnsettledIn (aimed a) a.plan.now c.args.search.now) (sym same) c.requires.unsettled)
     (subst (λ (b : TreeBox). IsFixedBox b → ⊥) (sym same) c.requires.unfixed) in

@@ -1,15 +1,15 @@
 use Rattle.std.proofs.Common.{◌≡◌, ◌≤◌, ◌<◌, length}
-use Rattle.branch_tree.specs.inner.Growing.{HasLearned, IsAim, IsSearch, IsValued, aimed, most_cuts}
+use Rattle.branch_tree.specs.inner.Growing.{HasLearned, IsAim, IsSearch, IsValued, aimed, most_entries}
 use Rattle.branch_tree.proofs.evaluation.look_open.Given as goal
 
 -- the search has learned more, and the best certificate doesn't close the box
 abbrev pub invariant-loop : goal.invariant-loop
 invariant-loop l = record {
-  aim : IsAim l.search.known.cuts l.aim;
+  aim : IsAim l.search.known.entries l.aim;
   sound : IsSearch (aimed l.aim) l.search;
   learned : HasLearned l.fn.search l.search;
   box : l.boxed ≡ l.fn.boxed;
-  few : length l.search.known.cuts ≤ most_cuts l.fn.search;
+  few : length l.search.known.entries ≤ most_entries l.fn.search;
   valued : IsValued (aimed l.aim) l.aim.plan.now l.search.known.tested l.boxed l.best;
   below : l.best.value < l.aim.plan.now.cost;
 }

@@ -9,7 +9,7 @@ use Rattle.branch_tree.proofs.Extending.{aim_on, handed_same, learned_on}
 use Rattle.branch_tree.proofs.growth.grow_once.Goals as goal
 
 pub look_again-requires-clause-aim : goal.look_again-requires-clause-aim
-look_again-requires-clause-aim c = aim_on c.args.aim.now c.args.search.now.known.cuts c.loop.search.known.cuts c.loop.invariant.learned.extends c.requires.aim
+look_again-requires-clause-aim c = aim_on c.args.aim.now c.args.search.now.known.entries c.loop.search.known.entries c.loop.invariant.learned.extends c.requires.aim
 
 pub look_again-requires-clause-at : goal.look_again-requires-clause-at
 look_again-requires-clause-at c =
@@ -23,7 +23,7 @@ returns-in_default-clause-turn c = (c.loop.invariant.growing, subst (λ (ts : Li
 pub split_at-requires-clause-aim : goal.split_at-requires-clause-aim
 split_at-requires-clause-aim c =
     let first = learned_on c.args.search.now c.loop.search c.look_again.new.search c.loop.invariant.learned c.in_ok-cheaper.ensures.learned in
-    aim_on c.args.aim.now c.args.search.now.known.cuts c.look_again.new.search.known.cuts first.extends c.requires.aim
+    aim_on c.args.aim.now c.args.search.now.known.entries c.look_again.new.search.known.entries first.extends c.requires.aim
 
 pub returns-then-eq-clause-learned : goal.returns-then-eq-clause-learned
 returns-then-eq-clause-learned c =
@@ -39,7 +39,7 @@ returns-then-eq-clause-turn c =
     c.split_at.ensures.turn
 
 pub split_at-requires-in-Some-least_open-clause-aim : goal.split_at-requires-in-Some-least_open-clause-aim
-split_at-requires-in-Some-least_open-clause-aim c = aim_on c.args.aim.now c.args.search.now.known.cuts c.loop.search.known.cuts c.loop.invariant.learned.extends c.requires.aim
+split_at-requires-in-Some-least_open-clause-aim c = aim_on c.args.aim.now c.args.search.now.known.entries c.loop.search.known.entries c.loop.invariant.learned.extends c.requires.aim
 
 pub returns-in-None-clause-turn : goal.returns-in-None-clause-turn
 returns-in-None-clause-turn c = (c.loop.invariant.growing, subst (λ (ts : List Twig). AreSettled ts) c.deref-2.ensures.value c.in-None.ensures)

@@ -1,5 +1,5 @@
 use Rattle.std.proofs.Common.{◌≤◌, length}
-use Rattle.branch_tree.specs.inner.Growing.{HasLearned, IsGrowing, IsSearch, aimed, handed_in, most_cuts}
+use Rattle.branch_tree.specs.inner.Growing.{HasLearned, IsGrowing, IsSearch, aimed, handed_in, most_entries}
 use Rattle.branch_tree.proofs.growth.grow_once.Given as goal
 
 -- the tree is one of the case still, and no cuts were added but those of whole points
@@ -7,6 +7,6 @@ abbrev pub invariant-loop : goal.invariant-loop
 invariant-loop l = record {
   search : IsSearch (aimed l.aim) l.search;
   learned : HasLearned l.fn.search l.search;
-  few : length l.search.known.cuts ≤ most_cuts l.fn.search;
+  few : length l.search.known.entries ≤ most_entries l.fn.search;
   growing : IsGrowing (aimed l.aim) l.aim.plan.now (handed_in l.fn.search) l.search.known.tested l.splits l.tree.twigs.items;
 }

@@ -16,7 +16,7 @@ look-requires-clause-search_box c =
 
 pub look-requires-2-clause-aim : goal.look-requires-2-clause-aim
 look-requires-2-clause-aim c =
-    aim_on c.args.aim.now c.args.search.now.known.cuts c.look.new.search.known.cuts c.in_ok-cheaper.ensures.learned.extends c.requires.aim
+    aim_on c.args.aim.now c.args.search.now.known.entries c.look.new.search.known.entries c.in_ok-cheaper.ensures.learned.extends c.requires.aim
 
 pub look-requires-2-clause-search_box : goal.look-requires-2-clause-search_box
 look-requires-2-clause-search_box c =

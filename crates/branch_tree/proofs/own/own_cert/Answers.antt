@@ -1,7 +1,8 @@
-use Rattle.std.proofs.Common.{◌+◌, ◌<◌, List, Contains, ap, arith, get_or, length, subst, sym, take, ◌∙◌}
+use Rattle.std.proofs.Common.{◌+◌, ◌<◌, List, Contains, ap, arith, get_or, length, map, subst, sym, take, ◌∙◌}
 use Rattle.std.specs.List.{AllZip}
 use Rattle.master_bound.specs.declared.answer.Multiplier.{Multiplier}
 use Rattle.plan_types.specs.declared.certificate.CertLine.{CertLine}
+use Rattle.proof_order.specs.declared.entry.Entry.TheVariants as entry
 use Rattle.branch_tree.proofs.OwnValues.{IsOwnLine, own_more}
 use Rattle.branch_tree.proofs.own.own_cert.Goals as goal
 
@@ -18,5 +19,5 @@ loop-line-preserved c =
     let l = c.line-item.result in
     let same = c.line-item.is ∙ ap (λ (xs : List CertLine). get_or xs i l) c.items-line-items.ensures in
     let inside : i < length ls = omega (arith, c.loop-line-test.true, ap (λ (xs : List CertLine). length xs) c.items-line-items.ensures) in
-    subst (λ (ms : List Multiplier). AllZip (IsOwnLine c.args.cuts.now) ms (take (i + 1) ls)) (sym c.in_ok-push-in-Some.ensures.ok)
+    subst (λ (ms : List Multiplier). AllZip (IsOwnLine (map entry.Cut c.args.cuts.now)) ms (take (i + 1) ls)) (sym c.in_ok-push-in-Some.ensures.ok)
     (own_more c.args.cuts.now c.loop-line.lines ls i c.in-Some.cut l l inside same c.in-Some.ensures c.loop-line.invariant)

@@ -1,8 +1,9 @@
-use Rattle.std.proofs.Common.{take}
+use Rattle.std.proofs.Common.{map, take}
 use Rattle.std.specs.List.{AllZip}
+use Rattle.proof_order.specs.declared.entry.Entry.TheVariants as entry
 use Rattle.branch_tree.proofs.OwnValues.{IsOwnLine}
 use Rattle.branch_tree.proofs.own.own_cert.Given as goal
 
 -- the lines so far
 abbrev pub invariant-loop-line : goal.invariant-loop-line
-invariant-loop-line l = AllZip (IsOwnLine l.fn.cuts) l.lines (take l.line-index l.fn.plan.certificate.lines)
+invariant-loop-line l = AllZip (IsOwnLine (map entry.Cut l.fn.cuts)) l.lines (take l.line-index l.fn.plan.certificate.lines)

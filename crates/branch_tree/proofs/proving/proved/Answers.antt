@@ -8,11 +8,11 @@ use Rattle.branch_tree.proofs.Restarts.{aim_of, attempt_room, cheaper_both, chea
 use Rattle.branch_tree.proofs.proving.proved.Goals as goal
 
 pub attempt-init : goal.attempt-init
-attempt-init c = record { plan = cheaper_none (case_of c.args.instance.now) c.args.plan c.requires.routed; search = c.requires.search; handed = refl; few = c.requires.few }
+attempt-init c = record { plan = cheaper_none (case_of c.args.instance.now) c.args.plan c.requires.routed; search = c.requires.search; handed = refl; divides = refl; few = c.requires.few }
 
 pub grown-requires-clause-aim : goal.grown-requires-clause-aim
 grown-requires-clause-aim c =
-    aim_of _ c.args.plan c.attempt.search (handed_in c.args.search) c.requires.survivable c.requires.demands c.attempt.invariant.plan c.attempt.invariant.handed c.requires.own
+    aim_of _ c.args.plan c.attempt.search (handed_in c.args.search) c.attempt.invariant.search c.requires.survivable c.requires.demands c.attempt.invariant.plan c.attempt.invariant.handed c.requires.own
 
 pub grown-requires-clause-room : goal.grown-requires-clause-room
 grown-requires-clause-room c = attempt_room (case_of c.args.instance.now) c.attempt.search c.args.limit c.attempt.invariant.search c.attempt.invariant.few c.requires.limit
@@ -26,6 +26,7 @@ attempt-preserved c =
       plan = cheaper_both p c.args.plan c.attempt.plan _ c.attempt.invariant.plan c.in_ok-plan-in-Cheaper.ensures.plan;
       search = c.in_ok-search-in-Cheaper.ensures.search;
       handed = c.in_ok-search-in-Cheaper.ensures.handed ∙ (handed_same old c.grown.new.search told.learned c.attempt.invariant.search.inside ∙ c.attempt.invariant.handed);
+      divides = c.in_ok-search-in-Cheaper.ensures.divides ∙ (told.learned.divides ∙ c.attempt.invariant.divides);
       few = c.in_ok-search-in-Cheaper.ensures.few;
     }
 
@@ -37,6 +38,7 @@ returns-in-Tree c =
     let told = c.in_ok-cheaper.ensures in
     let is = subst (λ (g : Growth). IsGrownTo p c.attempt.plan (handed_in old) new.known.tested c.args.limit g) c.in-Tree.is told.grown in
     IfOk-weaker c.proof_of.result _ _
-    (made_proof p c.args.plan c.attempt.plan old new c.in-Tree.tree c.args.limit (handed_in c.args.search) c.attempt.invariant.handed c.attempt.invariant.plan c.requires.certified c.requires.limit
+    (made_proof p c.args.plan c.attempt.plan old new c.in-Tree.tree c.args.limit (handed_in c.args.search) c.args.search.known.divides c.attempt.invariant.handed
+    (told.learned.divides ∙ c.attempt.invariant.divides) c.attempt.invariant.plan c.requires.certified c.requires.limit
     c.attempt.invariant.search told.search told.learned is)
     c.proof_of.ensures

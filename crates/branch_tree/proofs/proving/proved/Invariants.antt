@@ -10,7 +10,8 @@ invariant-attempt l = record {
   plan : IsCheaperPlan (case_of l.instance) l.fn.plan l.plan;
   search : IsSearch (case_of l.instance) l.search;
   handed : handed_in l.search ≡ handed_in l.fn.search;
-  few : length l.search.known.cuts ≤ l.search.handed + 4096;
+  divides : l.search.known.divides ≡ l.fn.search.known.divides;
+  few : length l.search.known.entries ≤ l.search.room;
 }
 
 -- each attempt begins with a cheaper plan

@@ -7,4 +7,4 @@ use Rattle.branch_tree.proofs.known.Known.solved.Goals as goal
 pub returns : goal.returns
 returns c =
     subst (λ (ls : List Link). IfOk c.solved.result (λ o. IfSome o (IsSolutionOf ls (length c.args.self.now.tested) c.args.boxed.now))) (c.items-links.ensures ∙ c.links.ensures)
-    (subst (λ (tested : List Tested). IfOk c.solved.result (λ o. IfSome o (IsSolutionOf c.items-links.result.now (length tested) c.args.boxed.now))) c.items.ensures c.solved.ensures)
+    (subst (λ (tested : List Tested). IfOk c.solved.result (λ o. IfSome o (IsSolutionOf c.items-links.result.now (length tested) c.args.boxed.now))) c.items.ensures c.solved.ensures.solution)

@@ -1,12 +1,12 @@
 use Rattle.std.proofs.Common.{◌+◌, ◌*◌, ◌≤◌, length}
-use Rattle.branch_tree.specs.inner.Growing.{HasLearned, IsGrowing, IsSearch, aimed, handed_in, most_cuts}
-use Rattle.branch_tree.proofs.growth.grown.Given as goal
+use Rattle.branch_tree.specs.inner.Growing.{HasLearned, IsGrowing, IsSearch, aimed, handed_in, most_entries}
+use Rattle.branch_tree.proofs.growth.grown_on.Given as goal
 
 -- the tree has as many splits as there were turns, each of which added two cuts at most but for those of whole points
 abbrev pub invariant-loop-splits : goal.invariant-loop-splits
 invariant-loop-splits l = record {
   search : IsSearch (aimed l.aim) l.search;
   learned : HasLearned l.fn.search l.search;
-  few : length l.search.known.cuts ≤ most_cuts l.fn.search + 2 * l.splits + 1;
+  few : length l.search.known.entries ≤ most_entries l.fn.search + 2 * l.splits + 1;
   growing : IsGrowing (aimed l.aim) l.aim.plan.now (handed_in l.fn.search) l.search.known.tested l.splits l.tree.twigs.items;
 }

@@ -1,0 +1,14 @@
+use Rattle.std.proofs.Common.{refl}
+use Rattle.plan_terms.specs.Terms.{case_of}
+use Rattle.branch_tree.proofs.Restarts.{begun_search}
+use Rattle.branch_tree.proofs.proving.begun_anew.Goals as goal
+
+pub returns-clause-search : goal.returns-clause-search
+returns-clause-search c =
+    let told = c.in_ok-known.ensures in
+    (begun_search (case_of c.args.instance.now) c.args.search _ c.requires told.known refl refl refl told.entries).0
+
+pub returns-clause-handed : goal.returns-clause-handed
+returns-clause-handed c =
+    let told = c.in_ok-known.ensures in
+    (begun_search (case_of c.args.instance.now) c.args.search _ c.requires told.known refl refl refl told.entries).1.0

@@ -1,0 +1,30 @@
+-- how a proof is made of what a search knows
+use Rattle.std.specs.Prelude.{◌≡◌, ℕ, ◌≤◌, ◌⊎◌, Bool, false, List, [], length, map, take}
+use Rattle.plan_terms.specs.Terms.{Case, CutLine}
+use Rattle.plan_types.specs.declared.plan.Plan.{Plan}
+use Rattle.tree_check.specs.declared.proof.Proof.{Proof}
+use Rattle.proof_order.specs.Orders.{cuts_among, lines_among, moved_line, moved_node, place_of}
+use Rattle.proof_order.specs.declared.entry.Entry.{Entry}
+use Rattle.proof_order.specs.declared.entry.Entry.TheVariants as entry
+use Rattle.branch_tree.specs.Proving.{IsProofOf}
+use Rattle.branch_tree.specs.inner.Places.{node_of}
+use Rattle.branch_tree.specs.inner.Showing.{all_shown, verdict_of}
+use Rattle.branch_tree.specs.declared.known.Known.{Known}
+use Rattle.branch_tree.specs.declared.twigs.Twig.{Twig}
+
+-- the same entries, so many at most; or so many of the first cuts alone
+abbrev pub AreFirstOf : ℕ → List Entry → Known → Type 0
+AreFirstOf most entries k = ((k.entries ≡ entries) × (length entries ≤ most)) ⊎ (k.entries ≡ map entry.Cut (take most (cuts_among entries)))
+
+-- the proof of a plan whose nodes are those of places that name entries
+pub record IsProofMade (plan : Plan) (entries : List Entry) (twigs : List Twig) (proof : Proof) : Type 0 where
+  pub plan_is : proof.plan ≡ plan
+  pub cuts : proof.cuts ≡ cuts_among entries
+  pub lines : proof.lines ≡ map (moved_line (place_of entries)) (lines_among entries)
+  pub tree : proof.tree ≡ map (moved_node (place_of entries)) (map node_of twigs)
+  pub verdict : proof.verdict ≡ verdict_of (all_shown plan.cost twigs)
+
+-- what a search comes to, without further lines where none are made
+pub record IsProofWith (p : Case) (divides : Bool) (given : Plan) (handed : List CutLine) (limit : ℕ) (proof : Proof) : Type 0 where
+  pub proof_is : IsProofOf p given handed limit proof
+  pub plain : divides ≡ false → proof.lines ≡ []
