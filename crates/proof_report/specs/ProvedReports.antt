@@ -1,5 +1,5 @@
 -- what a proof comes to: the report of a plan with its branch tree, or the first separation
-use Rattle.std.specs.Prelude.{◌≡◌, ◌≢◌, ℕ, ◌≤◌, ◌++◌, List, All, AllPairs, Contains, flat_map, length, map}
+use Rattle.std.specs.Prelude.{◌≡◌, ◌≢◌, ℕ, ◌≤◌, ◌++◌, List, [], All, AllPairs, Contains, flat_map, length, map}
 use Rattle.plan_terms.specs.Terms.{Case, CutLine, IsAble, Notes, total_cost}
 use Rattle.plan_types.specs.declared.certificate.Certificate.{Certificate}
 use Rattle.plan_types.specs.declared.plan.Plan.{Plan}
@@ -55,8 +55,8 @@ pub record IsTrimmedOnce (p : Case) (notes : Notes) (r : PlannedReport) : Type 0
 -- ---- what it comes to
 
 -- The report is a transcript of one plan command, its one outcome is the proof's plan, and no finding holds of it. The proof is one of
--- the trimmed plan, by a search with this limit that begins with the cuts of the pool and of the plan's certificate. Where it says that
--- the plan is cheapest, no able counts cost less; and none cost less than the value that it tells.
+-- the trimmed plan over cuts alone, by a search with this limit that begins with the cuts of the pool and of the plan's certificate. Where
+-- it says that the plan is cheapest, no able counts cost less; and none cost less than the value that it tells.
 pub record IsProvedReport (p : Case) (notes : Notes) (limit : ℕ) (r : ProvedReport) : Type 0 where
   pub transcript : IsTranscript p notes plan_commands (whole_report (proved_report r))
   pub acceptable : IsAcceptable p notes (whole_report (proved_report r))
@@ -65,6 +65,7 @@ pub record IsProvedReport (p : Case) (notes : Notes) (limit : ℕ) (r : ProvedRe
   pub handed : List CutLine
   pub begun : AreHandedIn r.pool (certificate_cuts given.certificate) handed
   pub proved : IsProofOf p given handed limit r.proof
+  pub plain : r.proof.lines ≡ []
   pub cheapest : r.proof.verdict ≡ Cheapest → (counts : List (List ℕ)) → IsAble p counts → r.proof.plan.cost ≤ total_cost p.links counts
   pub above : (least : ℕ) → r.proof.verdict ≡ Above least → (counts : List (List ℕ)) → IsAble p counts → least ≤ total_cost p.links counts
 

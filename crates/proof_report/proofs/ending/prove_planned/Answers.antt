@@ -84,6 +84,7 @@ returns c =
     let at = λ (ds : List Demand). case i.net.now i.states.now ds in
     proved_report_made p i.net.now.notes c.args.limit c.args.planned c.requires.trimmed c.in_ok-cuts.cuts c.in_ok-cuts.ensures proof
     (subst (λ (ds : List Demand). IsProofOf (at ds) c.args.planned.plan c.in_ok-cuts.cuts c.args.limit proof) known.0.demands c.in_ok-proof.ensures.proof)
+    c.in_ok-proof.ensures.lines
     (subst (λ (ds : List Demand). proof.verdict ≡ Cheapest → (counts : List (List ℕ)) → IsAble (at ds) counts → proof.plan.cost ≤ total_cost p.links counts) known.0.demands c.in_ok-proof.ensures.cheapest)
     (subst (λ (ds : List Demand). (least : ℕ) → proof.verdict ≡ Above least → (counts : List (List ℕ)) → IsAble (at ds) counts → least ≤ total_cost p.links counts) known.0.demands
     c.in_ok-proof.ensures.above)
