@@ -9,3 +9,5 @@ mod refusal;
 pub mod run;
 mod stop;
 mod words;
+
+pub use command_answers::Status;
