@@ -1,6 +1,6 @@
 use crate::plans::{CHARGED_REPORT, FINER_REPORT, NOTED_REPORT, RAISED_REPORT, TRIANGLE_REPORT};
 use crate::runs::{replaced, run_words};
-use command_answers::Status;
+use planner_commands::Status;
 use std::sync::Wait;
 use std::test::Fail;
 use std::thread::Threads;

@@ -1,5 +1,5 @@
 use crate::runs::{Ended, run_words};
-use command_answers::Status;
+use planner_commands::Status;
 use std::sync::Wait;
 use std::test::Fail;
 use std::thread::Threads;

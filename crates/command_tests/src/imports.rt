@@ -1,6 +1,6 @@
 use crate::plans::TRIANGLE_REPORT;
 use crate::runs::{comes_to, run_words};
-use command_answers::Status;
+use planner_commands::Status;
 use std::sync::Wait;
 use std::thread::Threads;
 

@@ -1,8 +1,8 @@
 use crate::files::TRIANGLE;
 use crate::plans::TRIANGLE_REPORT;
 use crate::runs::{Ended, comes_to, run_words};
-use command_answers::Status;
 use net_core::{Bytes, List};
+use planner_commands::Status;
 use std::alloc::Global;
 use std::sync::Wait;
 use std::thread::Threads;

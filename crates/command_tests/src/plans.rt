@@ -1,5 +1,5 @@
 use crate::runs::{comes_to, run_words};
-use command_answers::Status;
+use planner_commands::Status;
 use std::sync::Wait;
 use std::thread::Threads;
 
@@ -189,7 +189,7 @@ state 3 AC 1 ( D1 12000 ( AB BC )
 )
 )
 tight 1 ( 6000 6000 6000 )
-( state 0 none 1 ( D1 12000 ( AC )
+( state 0 none 1 ( D1 12000 ( AB BC )
 )
 state 1 AB 1 ( D1 12000 ( AC )
 )

@@ -1,7 +1,7 @@
 use crate::files::{File, all_files};
-use command_answers::Status;
 use net_core::{Bytes, List};
 use outside_io::{MemShelf, MemSink, OpenGate, Shelf, Sink, have_different_names};
+use planner_commands::Status;
 use planner_commands::run::run;
 use std::alloc::Global;
 use std::sync::Wait;

@@ -1,5 +1,5 @@
 use crate::runs::{comes_to, run_words};
-use command_answers::Status;
+use planner_commands::Status;
 use std::sync::Wait;
 use std::thread::Threads;
 

@@ -1,6 +1,6 @@
 use crate::runs::{Ended, comes_to, run_words};
-use command_answers::Status;
 use net_core::{Bytes, List};
+use planner_commands::Status;
 use sample_net::{network_text, sample};
 use std::alloc::Global;
 use std::sync::Wait;
