@@ -16,7 +16,7 @@ use worked_networks::{
 };
 
 /// What a search comes to: the plan's cost, what it is shown to be, and the number of splits.
-type Found = (u128, Verdict, usize);
+pub(crate) type Found = (u128, Verdict, usize);
 
 /// Whether each of these modules costs something.
 fn are_dear(modules: &[Module]) -> bool
@@ -26,14 +26,14 @@ fn are_dear(modules: &[Module]) -> bool
 }
 
 /// Whether all modules cost something.
-fn are_charged(links: &[Link]) -> bool
+pub(crate) fn are_charged(links: &[Link]) -> bool
     ensures { IsTrue result ↔ All (λ l. All (λ m. 0 < m.cost) l.modules) links.now }
 {
     links.iter().all(|l| are_dear(l.modules.items()))
 }
 
 /// How many nodes are splits.
-fn split_number(nodes: &[Node]) -> usize {
+pub(crate) fn split_number(nodes: &[Node]) -> usize {
     nodes
         .iter()
         .filter(|node| matches!(node, Node::Split { .. }))
@@ -94,7 +94,7 @@ fn with_failures(alloc: Global, net: Network, demands: Demands) -> Option<Proble
 }
 
 /// The sample network of a seed with six nodes, where each link may fail.
-fn sample_problem(alloc: Global, seed: u64) -> Option<Problem> {
+pub(crate) fn sample_problem(alloc: Global, seed: u64) -> Option<Problem> {
     match sample(alloc, seed, 6) {
         Ok((net, demands)) => with_failures(alloc, net, demands),
         Err(NoMemory) => None,
@@ -102,7 +102,7 @@ fn sample_problem(alloc: Global, seed: u64) -> Option<Problem> {
 }
 
 /// The triangle with a demand of 12.00 from A to C, where each link may fail.
-fn triangle_problem(alloc: Global) -> Option<Problem> {
+pub(crate) fn triangle_problem(alloc: Global) -> Option<Problem> {
     problem(alloc, triangle(alloc, 0).ok()?, &[(0, 2, 12000)]).ok()
 }
 
@@ -130,7 +130,7 @@ fn shows_least<R: Threads + Wait + Sync>(
 }
 
 /// Seeds of sample networks with six nodes, and their least costs, from an integer program over cuts.
-const LEAST: [(u64, u128); 3] = [(1, 269000), (2, 373000), (3, 277000)];
+pub(crate) const LEAST: [(u64, u128); 3] = [(1, 269000), (2, 373000), (3, 277000)];
 
 #[test]
 fn sample_plans_are_shown_to_be_cheapest(rt: HostRuntime) {

@@ -102,6 +102,7 @@ fn found(alloc: Global, asked: &Asked) -> Option<Found> {
     let tested = lines(alloc, asked.1).ok()?;
     let lines = Lines {
         tested: tested.items(),
+        first: 0,
         unit: common_unit(tested.items()),
     };
     let solution = solved(alloc, net.links().items(), 100_000, lines, &boxed).ok()?;
