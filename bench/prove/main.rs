@@ -12,12 +12,14 @@ mod greedy_router;
 mod key_paths;
 mod key_rows;
 mod line_check;
+mod line_maker;
 mod master_bound;
 mod module_choice;
 mod module_prices;
 mod net_core;
 mod node_sets;
 mod plan_swaps;
+mod proof_order;
 mod share_covers;
 mod short_paths;
 mod simplex_core;
@@ -77,7 +79,7 @@ use metric_cut::opening;
 use module_choice::{Fallback, fallback_plan};
 use module_prices::unit_pair;
 use net_core::{Caps, Copied, CutLine, Demand, Demands, Global, Instance, Link, List, Module, Network, NodeId, StateId, States};
-use branch_tree::prove;
+use branch_tree::{prove, prove_by_lines};
 use plan_types::{CertLine, Cause, Certificate, Plan, Quality, Spot};
 use separator::{line_of, separate_state};
 use share_covers::{Chosen, choose};
@@ -244,8 +246,41 @@ fn splits(tree: &List<Node>) -> usize {
     tree.items().iter().filter(|n| matches!(n, Node::Split { .. })).count()
 }
 
+/// Writes the integer program over cuts in the LP format, with a whole count for each module.
+fn write_model(net: &Network, cuts: &List<CutLine>) {
+    let links = net.links.items();
+    let names = || links.iter().enumerate().flat_map(|(e, l)| l.modules.items().iter().enumerate().map(move |(m, module)| (e, m, module)));
+    println!("Minimize");
+    for (e, m, module) in names() {
+        println!(" + {} x{e}_{m}", module.cost);
+    }
+    println!("Subject To");
+    for cut in cuts.items() {
+        let sum: std::vec::Vec<String> = names()
+            .filter(|(e, _, _)| cut.lengths.items()[*e] > 0)
+            .map(|(e, m, module)| format!(" + {} x{e}_{m}", cut.lengths.items()[e] as u128 * module.capacity as u128))
+            .collect();
+        if !sum.is_empty() {
+            println!("{} >= {}", sum.join("\n"), cut.right);
+        }
+    }
+    println!("General");
+    for (e, m, _) in names() {
+        println!(" x{e}_{m}");
+    }
+    println!("End");
+}
+
 fn main() {
     let words: std::vec::Vec<String> = std::env::args().skip(1).collect();
+    if words[0] == "model" {
+        let (net, demands) = read(&std::fs::read_to_string(&words[1]).unwrap());
+        let states = States { links: net.links.len() as u32 };
+        let instance = Instance { net: &net, states: &states, demands: &demands };
+        return write_model(&net, &planned(&instance).1);
+    }
+    let by_lines = words[0] == "lines";
+    let words = &words[by_lines as usize..];
     let limit = words[0].parse().unwrap();
     for pair in words[1..].chunks(2) {
         let (net, demands) = read(&std::fs::read_to_string(&pair[1]).unwrap());
@@ -254,7 +289,8 @@ fn main() {
         let (plan, cuts) = planned(&instance);
         let (first, bound, handed) = (plan.cost, plan.bound, cuts.len());
         let start = clock();
-        let proof = prove(Global, &net, &states, plan, cuts, limit).unwrap();
+        let search = if by_lines { prove_by_lines } else { prove };
+        let proof = search(Global, &net, &states, plan, cuts, limit).unwrap();
         let middle = clock();
         let answer = check_tree(Global, &net, &states, &demands, &proof);
         let end = clock();
