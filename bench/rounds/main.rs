@@ -1,8 +1,9 @@
 // The rounds of a planning with every single-link failure, by the code of the crates without its contracts: the best certificate of
 // the cuts so far, all states at its share, and the cuts that they find, until no state finds one. Prints processor time.
-// Usage: rounds NETWORK [forget], with a network as sample.py prints it; with `forget` each state is routed with no known column
+// Usage: rounds NETWORK [forget], with a network file whose nodes are n0, n1 ..; with `forget` nothing is kept of a state from round to round
 #![allow(dead_code, unused)]
 mod checked_fraction;
+mod flow_mending;
 mod flow_router;
 mod greedy_router;
 mod key_paths;
@@ -13,12 +14,16 @@ mod net_core;
 mod node_sets;
 mod short_paths;
 mod simplex_core;
+mod warm_routing;
 
 mod plan_types {
-    pub struct Share {
-        pub scale: u64,
-        pub units: crate::net_core::List<u64>,
-    }
+    pub mod certificate;
+    pub mod plan;
+    pub mod quality;
+
+    pub use certificate::{CertLine, Certificate, Spot};
+    pub use plan::Plan;
+    pub use quality::{Cause, Fractional, Quality, Share};
 }
 
 mod metric_cut {
@@ -32,11 +37,12 @@ mod metric_cut {
 
     pub use cut::{Cut, CutFault};
     pub use openings::opening;
-    pub use own_bounds::own_bound;
+    pub use own_bounds::{fixed_along, own_bound};
     pub use violation::violated_by;
 }
 
 mod separator {
+    pub mod known_state;
     pub mod one_state;
     pub mod ranges;
 }
@@ -46,8 +52,20 @@ use flow_router::RouteAnswer;
 use master_bound::{Best, master};
 use metric_cut::{Cut, opening};
 use module_prices::unit_pair;
-use net_core::{Caps, CutLine, Demand, Demands, Global, Instance, Link, List, Module, Network, NodeId, StateId, States};
-use separator::one_state::separate_state;
+use net_core::{Caps, Copied, CutLine, Demand, Demands, Global, Instance, Link, List, Module, Network, NodeId, StateId, States};
+use separator::known_state::KnownState;
+
+impl Copied for master_bound::answer::Multiplier {
+    fn copy(&self) -> Result<Self, net_core::NoMemory> {
+        Ok(*self)
+    }
+}
+
+impl Copied for simplex_core::columns::Entry {
+    fn copy(&self) -> Result<Self, net_core::NoMemory> {
+        Ok(*self)
+    }
+}
 
 // Processor time of the process, in millionths of a second.
 unsafe extern "C" {
@@ -61,22 +79,31 @@ fn number(word: &str) -> u32 {
 
 /// An amount in thousandths.
 fn amount(word: &str) -> u64 {
-    word.trim_end_matches(',').replace('.', "").parse().unwrap()
+    let (whole, part) = word.split_once('.').unwrap_or((word, ""));
+    format!("{whole}{part:0<3}").parse().unwrap()
 }
 
 fn read(text: &str) -> (Network, Demands) {
     let (mut links, mut demands, mut nodes) = (vec![], vec![], 0);
-    for line in text.lines().skip(1) {
-        let words: std::vec::Vec<&str> = line.split(' ').collect();
-        let (a, b) = (NodeId(number(words[1])), NodeId(number(words[2])));
-        nodes = nodes.max(a.0 + 1).max(b.0 + 1);
-        if words[0].starts_with('l') {
-            let module = |m: &[&str]| Module { capacity: amount(m[0]), cost: amount(m[2]) };
-            let modules = List::from_vec(words[3..].chunks(3).map(module).collect::<std::vec::Vec<_>>());
-            links.push(Link { a, b, fixed: 0, modules });
-        } else {
-            demands.push(Demand { from: a, to: b, need: amount(words[3]) });
+    let rest = text.split_once("LINKS").unwrap().1;
+    let (first, second) = rest.split_once("DEMANDS").unwrap();
+    let words: std::vec::Vec<&str> = first.split_whitespace().filter(|w| !"()".contains(w)).collect();
+    let mut at = 0;
+    while at < words.len() {
+        let mut end = at + 7;
+        while end < words.len() && !words[end].starts_with('l') {
+            end += 1;
         }
+        let (a, b) = (NodeId(number(words[at + 1])), NodeId(number(words[at + 2])));
+        nodes = nodes.max(a.0 + 1).max(b.0 + 1);
+        let module = |m: &[&str]| Module { capacity: amount(m[0]), cost: amount(m[1]) };
+        let modules = List::from_vec(words[at + 7..end].chunks(2).map(module).collect::<std::vec::Vec<_>>());
+        links.push(Link { a, b, fixed: 0, setup: 0, modules });
+        at = end;
+    }
+    let words: std::vec::Vec<&str> = second.split_whitespace().filter(|w| !"()".contains(w)).collect();
+    for d in words.chunks(6) {
+        demands.push(Demand { from: NodeId(number(d[1])), to: NodeId(number(d[2])), need: amount(d[4]) });
     }
     let nodes = List::from_vec(vec![(); nodes as usize]);
     (Network { nodes, links: List::from_vec(links) }, List::from_vec(demands))
@@ -112,7 +139,7 @@ fn main() {
         }
     }
     let forget = words.get(2).is_some_and(|word| word == "forget");
-    let mut known: std::vec::Vec<_> = (0..states.count()).map(|_| List::new(Global)).collect();
+    let mut kept: std::vec::Vec<_> = (0..states.count()).map(|_| KnownState::new(Global)).collect();
     let (opening, mut rounds, mut bounding, mut separating) = (cuts.len(), 0, 0, 0);
     loop {
         let begin = clock();
@@ -122,9 +149,9 @@ fn main() {
         let mut further = vec![];
         for s in 0..states.count() {
             if forget {
-                known[s as usize] = List::new(Global);
+                kept[s as usize] = KnownState::new(Global);
             }
-            match separate_state(Global, &instance, StateId(s), &caps, &mut known[s as usize]).unwrap() {
+            match kept[s as usize].separate(Global, &instance, StateId(s), &caps).unwrap() {
                 RouteAnswer::Routed(_) => {}
                 RouteAnswer::Violated(cut) => further.push(line_of(&cut, &demands)),
                 RouteAnswer::Wide(_) => panic!("state {s} is wide"),

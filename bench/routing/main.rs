@@ -11,6 +11,12 @@ mod net_core;
 mod short_paths;
 mod simplex_core;
 
+impl net_core::Copied for simplex_core::columns::Entry {
+    fn copy(&self) -> Result<Self, net_core::NoMemory> {
+        Ok(*self)
+    }
+}
+
 mod metric_cut {
     pub mod cut;
     pub mod keep;
@@ -89,7 +95,7 @@ fn read(text: &str) -> (Network, Demands) {
         let (a, b) = (NodeId(number(words[1])), NodeId(number(words[2])));
         nodes = nodes.max(a.0 + 1).max(b.0 + 1);
         if words[0].starts_with('l') {
-            links.push(Link { a, b });
+            links.push(Link { a, b, fixed: 0, setup: 0, modules: List::new(Global) });
         } else {
             let need = words[3].replace('.', "").parse().unwrap();
             demands.push(Demand { from: a, to: b, need });
@@ -101,7 +107,7 @@ fn read(text: &str) -> (Network, Demands) {
 
 fn route(net: &Network, demands: &Demands, capacity: u128) -> RouteAnswer {
     let caps = Caps { scale: 1, nums: List::from_vec(vec![capacity; net.links.len()]) };
-    route_state(Global, net, &States, StateId(0), demands, &caps).unwrap()
+    route_state(Global, net, &States { links: 0 }, StateId(0), demands, &caps).unwrap()
 }
 
 /// The least capacity of each link that carries all demands.

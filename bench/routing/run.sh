@@ -6,7 +6,8 @@ cd "$(dirname "$0")/../.."
 room=$(mktemp -d)
 trap 'rm -r "$room"' EXIT
 python3 bench/plain/plain.py "$room" checked_fraction simplex_core short_paths key_rows key_paths metric_cut greedy_router flow_router
-cp bench/routing/main.rs bench/routing/net_core.rs "$room"
+rm "$room/metric_cut.rs"
+cp bench/routing/main.rs bench/trim/net_core.rs "$room"
 grep -lE '\bVec\b' "$room"/*/*.rs | xargs sed -i '1i use crate::net_core::Vec;'
 # Each search, each turn and each column that enters is counted, and the time of searches is taken.
 count() {
