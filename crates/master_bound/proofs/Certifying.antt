@@ -17,10 +17,10 @@ use Rattle.master_law.proofs.Certified.{modules_priced, raw_is_cost, raw_is_gain
 use Rattle.master_law.proofs.Lines.{asked_times, given_times, line_times, priced_lowest, raw_times}
 use Rattle.master_law.proofs.Own.{bound_rises, own_raw}
 use Rattle.master_law.proofs.Shares.{least_share}
+use Rattle.master_bound.specs.Optima.{IsMasterOptimum}
 use Rattle.master_bound.specs.Answers.{AreMultipliers, IsBestOf, cut_at, lines_of}
 use Rattle.master_bound.specs.declared.answer.Multiplier.{Multiplier}
 use Rattle.master_bound.specs.inner.Lines.{AreAmounts, AreBasisMultipliers, IsMultiplierOf}
-use Rattle.master_bound.specs.inner.Programs.{IsMasterSolution}
 use Rattle.master_bound.specs.inner.Shares.{IsShareOfDuals}
 use Rattle.master_bound.proofs.Lowest.{common_some, in_lowest, part_some, whole_den}
 use Rattle.master_bound.proofs.Optima.{all_named, gains_as_cut, lines_whole, some_lines}
@@ -86,7 +86,7 @@ one_divides d h =
     let high : 0 < d = positive_divisor d 1 (omega arith) h in
     omega (arith, low, high)
 
-module _ (links : List Link) (pairs : List UnitPair) (cuts : List CutLine) (sound : All (λ l. All IsModule l.modules) links) (units : AreUnitPairs links pairs) (best : Optimum MasterColumn) (solution : IsMasterSolution links pairs cuts best)
+module _ (links : List Link) (pairs : List UnitPair) (cuts : List CutLine) (sound : All (λ l. All IsModule l.modules) links) (units : AreUnitPairs links pairs) (best : Optimum MasterColumn) (solution : IsMasterOptimum links pairs cuts best)
     (share : Share) (is : IsShareOfDuals best.duals share) (raw_num raw_den : ℕ) (low : IsLowest (share_cost pairs share) share.scale raw_num raw_den) where
   abbrev values : ℕ → ℕ
   values j = get_or best.values j 0

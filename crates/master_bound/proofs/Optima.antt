@@ -17,13 +17,14 @@ use Rattle.master_law.proofs.WideLines.{wide_lines}
 use Rattle.master_bound.specs.Answers.{cut_at}
 use Rattle.master_bound.specs.inner.Lines.{AreAmounts, GainsAsCut, HaveOneName, IsListedCut, amount_of}
 use Rattle.master_bound.specs.inner.Programs.{IsMasterSolution}
+use Rattle.master_bound.specs.Optima.{IsMasterOptimum, IsWideOptimum}
 use Rattle.master_bound.proofs.Lowest.{common_some, in_lowest, whole_amount, whole_den}
 use Rattle.checked_fraction.proofs.Products.{regroup}
 
 no_metric : (cut : CutLine) (k : ℕ) → Metric cut.state cut.lengths ≡ master_slack k → ⊥
 no_metric cut k e = cc e
 
-module _ (links : List Link) (pairs : List UnitPair) (cuts : List CutLine) (best : Optimum MasterColumn) (solution : IsMasterSolution links pairs cuts best) where
+module _ (links : List Link) (pairs : List UnitPair) (cuts : List CutLine) (best : Optimum MasterColumn) (solution : IsMasterOptimum links pairs cuts best) where
   -- the columns of the basis are cuts and slacks
   column : (j : ℕ) → j < length links → IsMasterColumn links pairs cuts (solution.basis j)
   column j l = solution.optimum.best.feasible.columns j l
@@ -67,14 +68,6 @@ module _ (links : List Link) (pairs : List UnitPair) (cuts : List CutLine) (best
 
       zero : (x : ℤ) → pos 0 <ℤ x → x *ℤ pos 1 ≡ pos 0 → ⊥
       zero x h e = omega (arith, ints, h, e)
-
-  -- evidence that a value is too wide
-  pub value_evidence : HasWideValue links pairs cuts solution.basis → IsMasterEvidence links pairs cuts best.basis Value
-  value_evidence holds = record {
-    basis = solution.basis;
-    evidence = record { named = solution.names; feasible = solution.optimum.best.feasible; holds = holds };
-    reached = solution.reached;
-  }
 
   -- lines of its first n columns, whose numerators are the values
   pub some_lines : (n : ℕ) → n ≤ length links → (lines : List CertificateLine) × AreLinesOf links n solution.basis (λ j. get_or best.values j 0) lines
@@ -125,12 +118,12 @@ module _ (links : List Link) (pairs : List UnitPair) (cuts : List CutLine) (best
 
       -- where a numerator of the certificate, or what its lines ask for, is too wide, so is a value
       pub wide_value : (n : ℕ) (lines : List CertificateLine) → n ≤ length links → AreLinesOf links n solution.basis few lines
-          → ((j : ℕ) × (j < length links) × (2 ^ 62 ≤ few j)) ⊎ (2 ^ 126 ≤ asked lines) → IsMasterEvidence links pairs cuts best.basis Value
-      wide_value n lines le of wide = value_evidence
-          (wide_lines links pairs cuts solution.basis (λ j. get_or best.values j 0) best.den (num best.duals.nums) best.duals.den solution.optimum common (best.den / common) few
+          → ((j : ℕ) × (j < length links) × (2 ^ 62 ≤ few j)) ⊎ (2 ^ 126 ≤ asked lines) → HasWideValue links pairs cuts solution.basis
+      wide_value n lines le of wide =
+          wide_lines links pairs cuts solution.basis (λ j. get_or best.values j 0) best.den (num best.duals.nums) best.duals.den solution.optimum common (best.den / common) few
           (whole_den best.den amounts common some divisor) of_cut of_slack
           (λ d of_part of_nums. in_lowest best.den amounts common some divisor d of_part (λ j l. of_nums j (omega (arith, l, are.count, solution.names.count))))
-          n lines le of (⊎_elim (λ first. inl first) (λ second. inr (inl second)) wide))
+          n lines le of (⊎_elim (λ first. inl first) (λ second. inr (inl second)) wide)
 
       -- lines of the amounts over the divisor, with numerators as many times as large, are lines of the values
       pub lines_whole : (lines : List CertificateLine) → AreLinesOf links (length links) solution.basis few lines → AreLinesOf links (length links) solution.basis (λ j. get_or best.values j 0) (map (line_times common) lines)
@@ -164,3 +157,24 @@ module _ (links : List Link) (pairs : List UnitPair) (cuts : List CutLine) (best
 
           none : (f v x : ℕ) → x ≡ 0 → common * (f * x) ≡ v * x
           none f v x z = let p : f * x ≡ 0 = ap (λ y. f * y) z ∙ omega arith in let q : v * x ≡ 0 = ap (λ y. v * y) z ∙ omega arith in ap (λ y. common * y) p ∙ (omega (arith, q))
+
+-- an optimum that is reached is one
+pub reached_optimum : (links : List Link) (pairs : List UnitPair) (cuts : List CutLine) (best : Optimum MasterColumn) → IsMasterSolution links pairs cuts best → IsMasterOptimum links pairs cuts best
+reached_optimum links pairs cuts best s = record {
+  basis = s.basis;
+  names = s.names;
+  optimum = s.optimum;
+  narrow = s.narrow;
+  count = s.count;
+  prices = s.prices;
+  positive = s.positive;
+}
+
+-- evidence that a value of a reached basis is too wide
+pub value_evidence : (links : List Link) (pairs : List UnitPair) (cuts : List CutLine) (best : Optimum MasterColumn) → IsMasterSolution links pairs cuts best → IsWideOptimum links pairs cuts best → IsMasterEvidence links pairs cuts best.basis Value
+unfolding reached_optimum
+value_evidence links pairs cuts best s wide = record {
+  basis = s.basis;
+  evidence = record { named = s.names; feasible = s.optimum.best.feasible; holds = wide (reached_optimum links pairs cuts best s) };
+  reached = s.reached;
+}

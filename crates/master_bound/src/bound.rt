@@ -4,7 +4,8 @@ ghost use Rattle.metric_cut.specs.Bounded.{HaveBound};
 ghost use Rattle.simplex_core.specs.Terms.{AtEach};
 ghost use Rattle.simplex_law.specs.Terms.{IsPacking};
 ghost use Rattle.master_law.specs.Terms.{IsMasterEvidence, IsMasterColumn, IsSameCut, cut_gain, master_bound, master_slack, AreUnitPairs, share_cost};
-ghost use Rattle.master_bound.specs.Answers.{IsEvidenceOf, IsMasterAnswer};
+ghost use Rattle.master_bound.specs.Answers.{IsBestOf, IsMasterAnswer};
+ghost use Rattle.master_bound.specs.Optima.{IsMasterOptimum, IsTooWideAt, IsWideOptimum};
 ghost use Rattle.master_bound.specs.inner.Narrow.{IsNarrowCut, IsWideCut};
 ghost use Rattle.master_bound.specs.inner.Programs.{IsMasterSolution, IsWideAnswer};
 ghost use Rattle.master_bound.specs.inner.Shares.{IsShareOfDuals};
@@ -84,12 +85,12 @@ fn lines_of(
     requires different { AllPairs (λ a b. IsSameCut a b → ⊥) task.now.cuts.now }
     requires packing { IsPacking (length task.now.net.now.links) (master_bound task.now.pairs.now)
         (IsMasterColumn task.now.net.now.links task.now.pairs.now task.now.cuts.now) }
-    requires solution { IsMasterSolution task.now.net.now.links task.now.pairs.now task.now.cuts.now optimum.now }
+    requires solution { IsMasterOptimum task.now.net.now.links task.now.pairs.now task.now.cuts.now optimum.now }
     requires share { IsShareOfDuals optimum.now.duals share.now }
     requires raw { IsLowest (share_cost task.now.pairs.now share.now) share.now.scale raw.now.num raw.now.den }
     requires some { 0 < raw.now.num }
     ensures { IfOk result (λ found. MatchOption found
-        (IsEvidenceOf task.now.net.now.links task.now.cuts.now (Evidence.Master optimum.now.basis WideKind.Value))
+        (IsWideOptimum task.now.net.now.links task.now.pairs.now task.now.cuts.now optimum.now)
         (λ lines. IsMasterAnswer task.now.net.now.links task.now.cuts.now
         (Ok (record { den = lines.den; multipliers = lines.multipliers; share = share.now; raw_num = raw.now.num; raw_den = raw.now.den })))) }
 {
@@ -117,58 +118,82 @@ fn wide_value(optimum: Optimum<MasterColumn>) -> MasterFault
     wide(optimum.basis, WideKind::Value)
 }
 
-/// The certificate of an optimum whose share costs something.
+/// The certificate of an optimum whose share costs something, unless a value of it is too wide.
 fn certified(
     alloc: Global,
     task: &Task,
-    optimum: Optimum<MasterColumn>,
+    optimum: &Optimum<MasterColumn>,
     share: Share,
     raw: RawValue,
-) -> Result<Best, MasterFault>
+) -> Result<Option<Best>, NoMemory>
     requires units { AreUnitPairs task.now.net.now.links task.now.pairs.now }
     requires different { AllPairs (λ a b. IsSameCut a b → ⊥) task.now.cuts.now }
     requires packing { IsPacking (length task.now.net.now.links) (master_bound task.now.pairs.now)
         (IsMasterColumn task.now.net.now.links task.now.pairs.now task.now.cuts.now) }
-    requires solution { IsMasterSolution task.now.net.now.links task.now.pairs.now task.now.cuts.now optimum }
-    requires share { IsShareOfDuals optimum.duals share }
+    requires solution { IsMasterOptimum task.now.net.now.links task.now.pairs.now task.now.cuts.now optimum.now }
+    requires share { IsShareOfDuals optimum.now.duals share }
     requires raw { IsLowest (share_cost task.now.pairs.now share) share.scale raw.num raw.den }
     requires some { 0 < raw.num }
-    ensures { IsMasterAnswer task.now.net.now.links task.now.cuts.now result }
+    ensures { IfOk result (λ found. MatchOption found
+        (IsWideOptimum task.now.net.now.links task.now.pairs.now task.now.cuts.now optimum.now) (IsBestOf task.now.net.now.links task.now.cuts.now)) }
 {
-    let found = lines_of(alloc, task, &optimum, &share, &raw)?;
-    match found {
-        Some(Lines { den, multipliers }) => Ok(Best {
-            den,
-            multipliers,
-            share,
-            raw_num: raw.num,
-            raw_den: raw.den,
-        }),
-        None => Err(wide_value(optimum)),
-    }
+    let Some(Lines { den, multipliers }) = lines_of(alloc, task, optimum, &share, &raw)? else {
+        return Ok(None);
+    };
+    Ok(Some(Best {
+        den,
+        multipliers,
+        share,
+        raw_num: raw.num,
+        raw_den: raw.den,
+    }))
 }
 
-/// The answer that an optimum gives.
-fn best_of(alloc: Global, task: &Task, optimum: Optimum<MasterColumn>) -> Result<Best, MasterFault>
+/// The certificate of an optimum, unless a value of it is too wide.
+fn best_of(
+    alloc: Global,
+    task: &Task,
+    optimum: &Optimum<MasterColumn>,
+) -> Result<Option<Best>, NoMemory>
     requires units { AreUnitPairs task.now.net.now.links task.now.pairs.now }
     requires different { AllPairs (λ a b. IsSameCut a b → ⊥) task.now.cuts.now }
     requires packing { IsPacking (length task.now.net.now.links) (master_bound task.now.pairs.now)
         (IsMasterColumn task.now.net.now.links task.now.pairs.now task.now.cuts.now) }
-    requires solution { IsMasterSolution task.now.net.now.links task.now.pairs.now task.now.cuts.now optimum }
-    ensures { IsMasterAnswer task.now.net.now.links task.now.cuts.now result }
+    requires solution { IsMasterOptimum task.now.net.now.links task.now.pairs.now task.now.cuts.now optimum.now }
+    ensures { IfOk result (λ found. MatchOption found
+        (IsWideOptimum task.now.net.now.links task.now.pairs.now task.now.cuts.now optimum.now) (IsBestOf task.now.net.now.links task.now.cuts.now)) }
 {
     let share = share_of(alloc, &optimum.duals)?;
     let raw = raw_value(task.pairs.items(), &share);
     if raw.num > 0 {
         return certified(alloc, task, optimum, share, raw);
     }
-    Ok(Best {
+    Ok(Some(Best {
         den: 1,
         multipliers: List::new(alloc),
         share,
         raw_num: raw.num,
         raw_den: raw.den,
-    })
+    }))
+}
+
+/// The answer that an optimum of the simplex method gives.
+fn answer_of(
+    alloc: Global,
+    task: &Task,
+    optimum: Optimum<MasterColumn>,
+) -> Result<Best, MasterFault>
+    requires units { AreUnitPairs task.now.net.now.links task.now.pairs.now }
+    requires different { AllPairs (λ a b. IsSameCut a b → ⊥) task.now.cuts.now }
+    requires packing { IsPacking (length task.now.net.now.links) (master_bound task.now.pairs.now)
+        (IsMasterColumn task.now.net.now.links task.now.pairs.now task.now.cuts.now) }
+    requires solution { IsMasterSolution task.now.net.now.links task.now.pairs.now task.now.cuts.now optimum }
+    ensures { IsMasterAnswer task.now.net.now.links task.now.cuts.now result }
+{
+    match best_of(alloc, task, &optimum)? {
+        Some(best) => Ok(best),
+        None => Err(wide_value(optimum)),
+    }
 }
 
 /// The optimum of the program of a task's cuts.
@@ -207,7 +232,7 @@ fn solved(alloc: Global, task: &Task) -> Result<Best, MasterFault>
         task.cuts.items(),
     )?;
     let optimum = optimum_of(alloc, task, ratings)?;
-    best_of(alloc, task, optimum)
+    answer_of(alloc, task, optimum)
 }
 
 /// The answer of cuts, beside the unit pairs of the links.
@@ -255,4 +280,33 @@ pub fn master(alloc: Global, net: &Network, cuts: &List<CutLine>) -> Result<Best
 {
     let pairs = unit_pairs(alloc, net)?;
     answered(alloc, net, cuts, &pairs)
+}
+
+/// The best certificate of cuts, as `master` gives it, by an optimum of their program that is known, beside the unit pairs of the links.
+/// There is none only where a number of a cut, or one of the certificate, is too wide. The basis need not be one that gaining steps reach.
+///
+/// It takes time in the count of links times that of the cuts, and memory for the certificate and the share.
+pub fn best_at(
+    alloc: Global,
+    net: &Network,
+    cuts: &List<CutLine>,
+    pairs: &List<UnitPair>,
+    optimum: &Optimum<MasterColumn>,
+) -> Result<Option<Best>, NoMemory>
+    requires few { length cuts.now ≤ 8192 }
+    requires lengths { All (λ cut. HaveBound net.now.links cut.lengths) cuts.now }
+    requires right { All (λ cut. cut.right < 2 ^ 84) cuts.now }
+    requires different { AllPairs (λ a b. IsSameCut a b → ⊥) cuts.now }
+    requires units { AreUnitPairs net.now.links pairs.now }
+    requires costs { All (λ p. p.cost < 2 ^ 40) pairs.now }
+    requires optimum { IsMasterOptimum net.now.links pairs.now cuts.now optimum.now }
+    ensures { IfOk result (λ found. MatchOption found (IsTooWideAt net.now.links pairs.now cuts.now optimum.now) (IsBestOf net.now.links cuts.now)) }
+{
+    match wide_cut(net.links().items(), pairs.items(), cuts.items()) {
+        Some(_) => Ok(None),
+        None => {
+            let task = Task { net, cuts, pairs };
+            best_of(alloc, &task, optimum)
+        }
+    }
 }

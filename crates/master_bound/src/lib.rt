@@ -23,5 +23,5 @@ mod units;
 
 pub use answer::{Best, MasterFault, Multiplier};
 pub use best::best_own;
-pub use bound::master;
+pub use bound::{best_at, master};
 pub use units::unit_pairs;

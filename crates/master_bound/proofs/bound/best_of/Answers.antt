@@ -7,5 +7,5 @@ pub returns : goal.returns
 returns c =
     let task = c.args.task.now in
     rw c.new.ensures
-    (best_of_none task.net.now.links task.pairs.now task.cuts.now (network_modules task.net.now) c.requires.units c.args.optimum c.requires.solution c.in_ok-share.share c.in_ok-share.ensures c.raw_value-raw.result.num c.raw_value-raw.result.den
+    (best_of_none task.net.now.links task.pairs.now task.cuts.now (network_modules task.net.now) c.requires.units c.args.optimum.now c.requires.solution c.in_ok-share.share c.in_ok-share.ensures c.raw_value-raw.result.num c.raw_value-raw.result.den
     (rw c.items.ensures at c.raw_value-raw.ensures) (omega (arith, c.if-raw-gt0.false)))

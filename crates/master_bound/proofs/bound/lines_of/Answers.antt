@@ -3,6 +3,7 @@ use Rattle.net_core.proofs.Library.{false≢true}
 use Rattle.master_law.proofs.Lines.{lines_none}
 use Rattle.master_bound.proofs.Amounts.{all_narrow, wide_place}
 use Rattle.master_bound.specs.Answers.{lines_of}
+use Rattle.master_bound.specs.Optima.{IsMasterOptimum}
 use Rattle.master_bound.proofs.Certifying.{best_of_lines, few_lines, narrow_nums, some_den}
 use Rattle.master_bound.proofs.Lowest.{common_some}
 use Rattle.master_bound.proofs.Networks.{network_few, network_modules}
@@ -24,12 +25,9 @@ returns-then-has_wide c =
     let are = rw (c.items-basis.ensures, c.items.ensures) at c.in_ok-amounts.ensures in
     let divisor = rw c.items-2.ensures at c.common_divisor-common.ensures in
     let some = some_den best.den c.requires.solution.optimum.positive in
-    let any = wide_place amounts common ((rw c.items-3.ensures at c.has_wide.ensures.0) c.if-has_wide.true) in (
-      task.pairs.now,
-      c.requires.units,
-      wide_value links task.pairs.now cuts best c.requires.solution amounts are common some divisor 0 [] (omega arith) (lines_none links c.requires.solution.basis (λ j. get_or amounts j 0 / common))
-          (inl (any.0, omega (arith, any.1, are.count, c.requires.solution.names.count), any.2)),
-    )
+    let any = wide_place amounts common ((rw c.items-3.ensures at c.has_wide.ensures.0) c.if-has_wide.true) in
+    λ o. wide_value links task.pairs.now cuts best o amounts are common some divisor 0 [] (omega arith) (lines_none links o.basis (λ j. get_or amounts j 0 / common))
+    (inl (any.0, omega (arith, any.1, are.count, o.names.count), any.2))
 
 pub multipliers_of-requires-clause-common : goal.multipliers_of-requires-clause-common
 multipliers_of-requires-clause-common c =
@@ -66,13 +64,10 @@ returns-then-asks_too_much c =
     let divisor = rw c.items-2.ensures at c.common_divisor-common.ensures in
     let some = some_den best.den c.requires.solution.optimum.positive in
     let of = rw (c.items-basis.ensures, c.items-cuts.ensures, c.items-4.ensures) at c.in_ok-multipliers.ensures in
-    let lines = few_lines links task.pairs.now cuts (network_modules task.net.now) c.requires.units best c.requires.solution c.args.share.now c.requires.share c.args.raw.now.num c.args.raw.now.den c.requires.raw amounts are common divisor
-    c.in_ok-multipliers.multipliers of c.requires.different in (
-      task.pairs.now,
-      c.requires.units,
-      wide_value links task.pairs.now cuts best c.requires.solution amounts are common some divisor (length links) (lines_of cuts c.in_ok-multipliers.multipliers) (omega arith) lines
-          (inr ((rw (c.items-cuts.ensures, c.items-5.ensures) at c.asks_too_much.ensures.yes) c.if-asks_too_much.true)),
-    )
+    let lines = λ (o : IsMasterOptimum links task.pairs.now cuts best). few_lines links task.pairs.now cuts (network_modules task.net.now) c.requires.units best o c.args.share.now c.requires.share c.args.raw.now.num c.args.raw.now.den c.requires.raw amounts are common divisor
+    c.in_ok-multipliers.multipliers of c.requires.different in
+    λ o. wide_value links task.pairs.now cuts best o amounts are common some divisor (length links) (lines_of cuts c.in_ok-multipliers.multipliers) (omega arith) (lines o)
+    (inr ((rw (c.items-cuts.ensures, c.items-5.ensures) at c.asks_too_much.ensures.yes) c.if-asks_too_much.true))
 
 pub nonzero_div-result : goal.nonzero_div-result
 nonzero_div-result c =

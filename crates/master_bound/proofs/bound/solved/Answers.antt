@@ -6,7 +6,7 @@ optimum_of-requires-clause-packing c =
     let task = c.args.task.now in
     task_packing task.net.now.links task.pairs.now task.cuts.now (network_modules task.net.now) c.requires.units c.requires.lengths c.requires.narrow task.costs c.requires.different
 
-pub best_of-requires-clause-packing : goal.best_of-requires-clause-packing
-best_of-requires-clause-packing c =
+pub answer_of-requires-clause-packing : goal.answer_of-requires-clause-packing
+answer_of-requires-clause-packing c =
     let task = c.args.task.now in
     task_packing task.net.now.links task.pairs.now task.cuts.now (network_modules task.net.now) c.requires.units c.requires.lengths c.requires.narrow task.costs c.requires.different
