@@ -1,0 +1,4 @@
+mod Scaling
+mod Optimal
+mod Slots
+mod Steps

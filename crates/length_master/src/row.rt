@@ -1,0 +1,161 @@
+use crate::slot::Slot;
+use checked_fraction::gcd;
+use net_core::{List, NoMemory};
+use std::alloc::Global;
+
+/// Numbers of a row are below this; with wider ones nothing is found.
+const WIDE: u128 = 1 << 62;
+
+/// A column of the basis with its row of the inverse over lengths, whole numbers over `den`.
+#[derive(Drop)]
+pub struct KeptRow {
+    pub slot: Slot,
+    /// One number for each link.
+    pub nums: List<i64>,
+    pub den: i64,
+    /// What is taken of the column, over `den` and the common multiple of the capacities.
+    pub value: i128,
+    /// What it loses to a unit of the column that enters, over `den`.
+    pub product: i128,
+}
+
+/// The row of a link's slack in the basis of all slacks.
+pub(crate) fn unit_row(alloc: Global, links: usize, at: usize) -> Result<KeptRow, NoMemory> {
+    let mut nums = List::filled(alloc, 0, links)?;
+    let all = nums.items_mut();
+    if at < all.len() {
+        all[at] = 1;
+    }
+    Ok(KeptRow {
+        slot: Slot::Slack(at),
+        nums,
+        den: 1,
+        value: 0,
+        product: 0,
+    })
+}
+
+/// A quotient by a positive number; by another one the number itself.
+pub(crate) fn over(number: i128, by: u128) -> i128 {
+    if by > 1 && by < 1 << 126 {
+        number / by as i128
+    } else {
+        number
+    }
+}
+
+/// A wide number in one word, and 0 for one that doesn't fit.
+pub(crate) fn word(number: i128) -> i64 {
+    if number > -(1 << 62) && number < 1 << 62 {
+        number as i64
+    } else {
+        0
+    }
+}
+
+/// A quotient by a positive number; by 0 the number itself.
+pub(crate) fn part(number: u128, by: u128) -> u128 {
+    if by > 1 { number / by } else { number }
+}
+
+/// What is taken of a row's column, from the bounds of all rows.
+pub(crate) fn worth(nums: &[i64], bounds: &[i128]) -> i128 {
+    let mut sum = 0i128;
+    for e in 0..nums.len() {
+        if e < bounds.len() && nums[e] != 0 {
+            sum = sum.wrapping_add((nums[e] as i128).wrapping_mul(bounds[e]));
+        }
+    }
+    sum
+}
+
+/// A number of the row less that of another, each taken some times.
+fn mixed(number: i64, times: i128, other: i64, less: i128) -> i128 {
+    (number as i128)
+        .wrapping_mul(times)
+        .wrapping_sub((other as i128).wrapping_mul(less))
+}
+
+/// The greatest common divisor of a denominator and of mixed numbers, where each of them is narrow over it.
+fn common_of(nums: &[i64], times: i128, other: &[i64], less: i128, whole: u128) -> Option<u128> {
+    let mut shared = whole;
+    let mut most = whole;
+    for e in 0..nums.len() {
+        if e < other.len() {
+            let size = mixed(nums[e], times, other[e], less).unsigned_abs();
+            most = most.max(size);
+            if shared != 1 && size != 0 {
+                shared = gcd(size, shared);
+            }
+        }
+    }
+    if part(most, shared) < WIDE {
+        Some(shared)
+    } else {
+        None
+    }
+}
+
+/// Takes `less` times another row from `times` this row, over a common divisor.
+fn mix(nums: &mut [i64], times: i128, other: &[i64], less: i128, shared: u128) {
+    for e in 0..nums.len() {
+        if e < other.len() {
+            nums[e] = word(over(mixed(nums[e], times, other[e], less), shared));
+        }
+    }
+}
+
+/// A row after a turn at another one, whose product is positive; `None` where a number is too wide.
+pub(crate) fn combine(row: &mut KeptRow, pivot: &KeptRow) -> Option<()> {
+    if row.product == 0 {
+        return Some(());
+    }
+    let shared = gcd(row.product.unsigned_abs(), pivot.product.unsigned_abs());
+    let (less, times) = (over(row.product, shared), over(pivot.product, shared));
+    if less.unsigned_abs() >= WIDE || times.unsigned_abs() >= WIDE {
+        return None;
+    }
+    let whole = (row.den as i128).wrapping_mul(times);
+    let other = pivot.nums.items();
+    let common = common_of(row.nums.items(), times, other, less, whole.unsigned_abs())?;
+    mix(row.nums.items_mut(), times, other, less, common);
+    row.den = word(over(whole, common));
+    let value = row
+        .value
+        .wrapping_mul(times)
+        .wrapping_sub(pivot.value.wrapping_mul(less));
+    row.value = over(value, common);
+    Some(())
+}
+
+/// The greatest common divisor of a denominator and of numbers.
+fn shared_of(nums: &[i64], whole: u128) -> u128 {
+    let mut shared = whole;
+    for e in 0..nums.len() {
+        if shared != 1 && nums[e] != 0 {
+            shared = gcd(nums[e].unsigned_abs() as u128, shared);
+        }
+    }
+    shared
+}
+
+/// Divides each number.
+fn divide(nums: &mut [i64], by: u128) {
+    for e in 0..nums.len() {
+        nums[e] = word(over(nums[e] as i128, by));
+    }
+}
+
+/// The row of the column that has entered; `None` where its product is too wide.
+pub(crate) fn enter(row: &mut KeptRow, slot: Slot) -> Option<()> {
+    let whole = row.product.unsigned_abs();
+    let shared = shared_of(row.nums.items(), whole);
+    if part(whole, shared) >= WIDE {
+        return None;
+    }
+    divide(row.nums.items_mut(), shared);
+    row.slot = slot;
+    row.den = word(over(row.product, shared));
+    row.value = over(row.value, shared);
+    Some(())
+}
