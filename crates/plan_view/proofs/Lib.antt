@@ -1,0 +1,7 @@
+mod Firsts
+mod LineSums
+mod Pairs
+mod Plans
+mod RowLists
+mod Rounding
+mod Sums

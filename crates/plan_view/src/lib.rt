@@ -1,0 +1,18 @@
+//! The numbers that people read of a checked plan: a row for each link and for each state, and the whole.
+#![tactic(auto)]
+
+mod costs;
+mod fractions;
+mod greatest;
+mod links;
+mod loads;
+mod parts;
+mod rerouting;
+pub mod rows;
+mod states;
+mod summary;
+
+pub use links::link_rows;
+pub use rows::{LinkRow, PlanSummary, StateRow};
+pub use states::state_rows;
+pub use summary::plan_summary;

@@ -1,0 +1,52 @@
+use net_core::{LinkId, List};
+use plan_view::{LinkRow, StateRow};
+
+/// The capacity of a link, its load without failures, its greatest load, the state of that, the use there in per cent, and its cost.
+pub(crate) type LinkWant = (u128, u128, u128, u32, u32, u128);
+
+/// The links that a state fails, what it reroutes, its fullest link, the use of that in per cent, and the state's part of the bound in
+/// tenths of a per cent.
+pub(crate) type StateWant = (&'static [LinkId], u128, u32, u32, u32);
+
+/// Whether the row at a place is as wanted.
+fn is_link_row(at: usize, row: &LinkRow, want: &LinkWant) -> bool {
+    row.link.0 as usize == at
+        && row.capacity == want.0
+        && row.normal == want.1
+        && row.worst == want.2
+        && row.state.0 == want.3
+        && row.used == want.4
+        && row.cost == want.5
+}
+
+/// Whether the row at a place is as wanted.
+fn is_state_row(at: usize, row: &StateRow, want: &StateWant) -> bool {
+    row.state.0 as usize == at
+        && row.failed.items() == want.0
+        && row.rerouted == want.1
+        && row.fullest == Some(LinkId(want.2))
+        && row.used == want.3
+        && row.part == want.4
+}
+
+/// Whether all rows are as wanted.
+pub(crate) fn are_link_rows(rows: &List<LinkRow>, wants: &[LinkWant]) -> bool {
+    rows.len() == wants.len()
+        && rows
+            .items()
+            .iter()
+            .zip(wants.iter())
+            .enumerate()
+            .all(|(at, (row, want))| is_link_row(at, row, want))
+}
+
+/// Whether all rows are as wanted.
+pub(crate) fn are_state_rows(rows: &List<StateRow>, wants: &[StateWant]) -> bool {
+    rows.len() == wants.len()
+        && rows
+            .items()
+            .iter()
+            .zip(wants.iter())
+            .enumerate()
+            .all(|(at, (row, want))| is_state_row(at, row, want))
+}

@@ -1,0 +1,191 @@
+use crate::rows::{LinkWant, StateWant, are_link_rows, are_state_rows};
+use net_core::{LinkId, Problem};
+use plan_checker::{CheckAnswer, check_plan};
+use plan_types::{Outcome, Plan};
+use plan_view::{PlanSummary, link_rows, plan_summary, state_rows};
+use report_reader::read_report;
+use std::alloc::Global;
+use worked_networks::{failing, problem, triangle};
+
+/// A plan of the triangle, whose links each have this capacity in place, for one demand from A to C, and what people read of it.
+#[derive(Clone, Copy)]
+struct Worked {
+    fixed: u64,
+    need: u64,
+    failed: &'static [&'static [u32]],
+    report: &'static str,
+    links: [LinkWant; 3],
+    states: &'static [StateWant],
+    whole: PlanSummary,
+}
+
+const WORKED: [Worked; 3] = [
+    // each link fails alone; the demand goes along AC, and along AB and BC where AC fails
+    Worked {
+        fixed: 0,
+        need: 12000,
+        failed: &[&[0], &[1], &[2]],
+        report: "?planner report; version: 1
+NOTES ( ) JOURNAL ( ) POOL ( ( 0 state 3 right 24000 ( 1 1 0 ) ) ( 1 state 1 right 12000 ( 0 0 1 ) ) )
+OUTCOMES ( PLAN ( caller 1 plan 1 version 0 position 0
+  DEMANDS ( A ( A C ) 12.000 )
+  cost 30.000 bound 20.000 raw 18000 1
+  MODULES ( AB ( 2 ) BC ( 2 ) AC ( 2 ) )
+  CERTIFICATE ( 2 ( 1 pool 0 right 24000 ) ( 1 pool 1 right 12000 ) )
+  ROUTES (
+    state 0 none 1 ( A 12000 ( AC ) )
+    state 1 f 1 ( A 12000 ( AC ) )
+    state 2 g 1 ( A 12000 ( AC ) )
+    state 3 h 1 ( A 12000 ( AB BC ) )
+  )
+  loose cuts
+) )
+",
+        links: [
+            (20000, 0, 12000, 3, 60, 10000),
+            (20000, 0, 12000, 3, 60, 10000),
+            (20000, 12000, 12000, 0, 60, 10000),
+        ],
+        states: &[
+            (&[], 0, 2, 60, 0),
+            (&[LinkId(0)], 0, 2, 60, 333),
+            (&[LinkId(1)], 0, 2, 60, 0),
+            (&[LinkId(2)], 12000, 0, 60, 667),
+        ],
+        whole: PlanSummary {
+            cost: 30000,
+            bound: 20000,
+            raw: 18000,
+            gap: 333,
+            capacity: 60000,
+            normal: 12000,
+            states: 4,
+        },
+    },
+    // a duct with AB and BC fails; a third of the demand goes along AC before, and all of it then. There is no certificate.
+    Worked {
+        fixed: 5000,
+        need: 10000,
+        failed: &[&[0, 1]],
+        report: "?planner report; version: 1
+NOTES ( ) JOURNAL ( ) POOL ( )
+OUTCOMES ( PLAN ( caller 1 plan 1 version 0 position 0
+  DEMANDS ( A ( A C ) 10.000 )
+  cost 15.000 bound 0.000 raw 0 1
+  MODULES ( AB ( 1 ) BC ( 1 ) AC ( 1 ) )
+  CERTIFICATE ( 1 )
+  ROUTES (
+    state 0 none 3 ( A 10000 ( AC ) A 20000 ( AB BC ) )
+    state 1 f 1 ( A 10000 ( AC ) )
+  )
+  loose cuts
+) )
+",
+        links: [
+            (15000, 6667, 6667, 0, 45, 5000),
+            (15000, 6667, 6667, 0, 45, 5000),
+            (15000, 3334, 10000, 1, 67, 5000),
+        ],
+        states: &[
+            (&[], 0, 0, 45, 0),
+            (&[LinkId(0), LinkId(1)], 6667, 2, 67, 0),
+        ],
+        whole: PlanSummary {
+            cost: 15000,
+            bound: 0,
+            raw: 0,
+            gap: 1000,
+            capacity: 45000,
+            normal: 16667,
+            states: 2,
+        },
+    },
+    // AC fails, on which nothing is installed; of the 24.000 that the cut asks for, 10.000 are in place
+    Worked {
+        fixed: 5000,
+        need: 12000,
+        failed: &[&[2]],
+        report: "?planner report; version: 1
+NOTES ( ) JOURNAL ( ) POOL ( ( 0 state 1 right 24000 ( 1 1 0 ) ) )
+OUTCOMES ( PLAN ( caller 1 plan 1 version 0 position 0
+  DEMANDS ( A ( A C ) 12.000 )
+  cost 10.000 bound 10.000 raw 7000 1
+  MODULES ( AB ( 1 ) BC ( 1 ) AC ( 0 ) )
+  CERTIFICATE ( 2 ( 1 pool 0 right 24000 ) )
+  ROUTES (
+    state 0 none 1 ( A 12000 ( AB BC ) )
+    state 1 f 1 ( A 12000 ( AB BC ) )
+  )
+  loose cuts
+) )
+",
+        links: [
+            (15000, 12000, 12000, 0, 80, 5000),
+            (15000, 12000, 12000, 0, 80, 5000),
+            (5000, 0, 0, 0, 0, 0),
+        ],
+        states: &[(&[], 0, 0, 80, 0), (&[LinkId(2)], 0, 0, 80, 1000)],
+        whole: PlanSummary {
+            cost: 10000,
+            bound: 10000,
+            raw: 7000,
+            gap: 0,
+            capacity: 35000,
+            normal: 24000,
+            states: 2,
+        },
+    },
+];
+
+/// The triangle with the states and the demand of a row.
+fn problem_of(alloc: Global, worked: &Worked) -> Option<Problem> {
+    let net = triangle(alloc, worked.fixed).ok()?;
+    let states = failing(alloc, &net, worked.failed).ok()?;
+    let p = problem(alloc, net, &[(0, 2, worked.need)]).ok()?;
+    Some(Problem {
+        net: p.net,
+        states,
+        demands: p.demands,
+    })
+}
+
+/// Whether a check accepts the plan, and its rows are as wanted.
+fn is_seen(alloc: Global, p: &Problem, plan: &Plan, worked: &Worked) -> Option<bool> {
+    let CheckAnswer::Accepted = check_plan(alloc, &p.net, &p.states, &p.demands, plan, false) else {
+        return Some(false);
+    };
+    let instance = p.instance();
+    let links = link_rows(alloc, &instance, plan).ok()?;
+    let states = state_rows(alloc, &instance, plan).ok()?;
+    let whole = plan_summary(alloc, &instance, plan).ok()?;
+    Some(
+        are_link_rows(&links, &worked.links)
+            && are_state_rows(&states, worked.states)
+            && whole == worked.whole,
+    )
+}
+
+/// Whether what people read of a row's plan is as wanted.
+fn is_right(alloc: Global, worked: &Worked) -> Option<bool> {
+    let p = problem_of(alloc, worked)?;
+    let report = read_report(alloc, &p.net, &p.states, worked.report.as_bytes()).ok()?;
+    match report.outcomes.items().first()? {
+        Outcome::Planned { plan, .. } => is_seen(alloc, &p, plan, worked),
+        Outcome::Unsurvivable { .. } => None,
+    }
+}
+
+/// How many rows are right, up to the first that isn't.
+fn right_rows(alloc: Global) -> usize {
+    for (i, worked) in WORKED.iter().enumerate() {
+        if is_right(alloc, worked) != Some(true) {
+            return i;
+        }
+    }
+    WORKED.len()
+}
+
+#[test]
+fn rows_of_plans_have_the_numbers_worked_out_by_hand(rt: HostRuntime) {
+    assert_eq!(rt; right_rows(rt.alloc()), 3);
+}
