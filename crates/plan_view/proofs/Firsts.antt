@@ -1,8 +1,8 @@
 -- the first of the greatest fractions, one fraction after another
-use Rattle.std.proofs.Common.{◌≡◌, ℕ, ◌+◌, ◌*◌, ◌<◌, ◌≤◌, Option, None, Some, sym, subst, arith, ⊎_elim}
-use Rattle.std.proofs.Math.Nat.{mul-le-mul_left, mul-le-mul_right, le_of_mul-le-mul_right}
+use Rattle.std.proofs.Common.{◌≡◌, ℕ, ◌+◌, ◌*◌, ◌<◌, ◌≤◌, Option, None, Some, sym, ap, subst, arith, ⊎_elim}
+use Rattle.std.proofs.Math.Nat.{mul-le-mul, mul-le-mul_left, mul-le-mul_right, le_of_mul-le-mul_right}
 use Rattle.net_core.proofs.Library.{cases_eq, cases_lt}
-use Rattle.plan_view.specs.Loads.{IsFirstIfAny, IsFirstOfGreatest}
+use Rattle.plan_view.specs.Loads.{IsFirstOfGreatest}
 
 -- a / b is at most c / d, and that less than e / f
 less_after : (a b c d e f : ℕ) → 0 < b → 0 < d → 0 < f → a * d ≤ c * b → c * f < e * d → a * f < e * b
@@ -67,3 +67,27 @@ module _ (n : ℕ) (num den : ℕ → ℕ) where
       (λ l. none j l)
       (λ ge. let e : n ≡ j = omega (arith, lt, ge) in subst (λ i. den i ≡ 0) e zero)
       (cases_lt j n)
+
+-- what is within no capacity is 0
+zero_within : (load capacity den : ℕ) → load ≤ capacity * den → capacity ≡ 0 → load ≡ 0
+zero_within load capacity den within none =
+    let product : capacity * den ≡ 0 * den = ap (λ x. x * den) none in
+    omega (arith, within, product)
+
+-- where no capacity is positive, no link is loaded
+pub none_loaded : (n den : ℕ) (load capacity : ℕ → ℕ) → ((e : ℕ) → load e ≤ capacity e * den) → ((e : ℕ) → e < n → capacity e ≡ 0) → (e : ℕ) → e < n → load e ≡ 0
+none_loaded n den load capacity within none e lt = zero_within (load e) (capacity e) den (within e) (none e lt)
+
+-- where the first of greatest load over capacity isn't loaded, none is
+pub none_at_all : (n den k : ℕ) (load capacity : ℕ → ℕ) → ((e : ℕ) → load e ≤ capacity e * den) → IsFirstOfGreatest n load capacity k → load k ≡ 0 → (e : ℕ) → e < n → load e ≡ 0
+none_at_all n den k load capacity within is zero e lt = ⊎_elim
+    (λ some.
+    let most = is.most e lt some in
+    let product : load k * capacity e ≡ 0 * capacity e = ap (λ x. x * capacity e) zero in
+    let low : load e * capacity k ≤ 0 = omega (arith, most, product) in
+    ⊎_elim
+    (λ loaded. let one : 1 * 1 ≤ load e * capacity k = mul-le-mul (omega (arith, loaded)) (omega (arith, is.counts)) in absurd (omega (arith, one, low)))
+    (λ ge. omega (arith, ge))
+    (cases_lt 0 (load e)))
+    (λ ge. zero_within (load e) (capacity e) den (within e) (omega (arith, ge)))
+    (cases_lt 0 (capacity e))

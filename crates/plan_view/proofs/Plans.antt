@@ -14,6 +14,7 @@ use Rattle.plan_view.specs.Loads.{den_in, load_in, routing_in}
 use Rattle.plan_view.specs.Reroutes.{brought, goes_as}
 use Rattle.plan_view.specs.Sound.{IsSoundPlan}
 use Rattle.plan_view.specs.inner.Lines.{asked_among, given_among}
+use Rattle.plan_view.specs.inner.LowRoutings.{IsLowRouting}
 use Rattle.plan_view.proofs.LineSums.{asked_is, given_is}
 
 abbrev no_routing : Routing
@@ -84,6 +85,20 @@ module _ (p : Case) (plan : Plan) (sound : IsSoundPlan p plan) where
       let need = demand.need in
       let product : flow.of.need * den_in plan.routings k ≤ 2 ^ 40 * 2 ^ 62 = mul-le-mul (omega (arith, need)) (omega (arith, den_low k)) in
       omega (arith, brought_sent (routing_in plan.routings k).flows f, met, product)
+
+  -- the routing of each state is low
+  pub low_at : (s : ℕ) → s < length plan.routings → IsLowRouting (capacities p.links plan.counts) (routing_in plan.routings s)
+  low_at s lt = record {
+    few = few_flows s lt;
+    positive = den_positive s lt;
+    den = den_low s;
+    within = λ e. load_within s e;
+    low = λ e. omega (arith, load_low s e);
+  }
+
+  -- all capacities are
+  pub small_capacities : All (λ n. n < 2 ^ 46) (capacities p.links plan.counts)
+  small_capacities e d lt = sound.form.limits.small e d lt
 
   pub load_fits : (s e : ℕ) → load_in plan.routings s e < 2 ^ 128
   load_fits s e = omega (arith, load_low s e)

@@ -1,10 +1,11 @@
 -- rows, one more after another
 use Rattle.std.proofs.Common.{◌≡◌, ℕ, zero, suc, ◌+◌, ◌<◌, List, [], ◌∷◌, ◌++◌, None, Some, ◌⊎◌, inl, inr, length, length-append, slice_get, refl, sym, ap, subst, arith, ⊎_elim}
 use Rattle.net_core.proofs.Library.{slice_get_within}
-use Rattle.plan_terms.specs.Terms.{Case, Link}
+use Rattle.plan_terms.specs.Terms.{Case, Link, Routing}
 use Rattle.plan_types.specs.declared.plan.Plan.{Plan}
-use Rattle.plan_view.specs.Rows.{AreLinkRows, AreStateRows, IsLinkRow, IsStateRow}
+use Rattle.plan_view.specs.Rows.{AreLinkRows, AreLoadRows, AreStateRows, IsLinkRow, IsLoadRow, IsStateRow}
 use Rattle.plan_view.specs.declared.rows.LinkRow.{LinkRow}
+use Rattle.plan_view.specs.declared.rows.LoadRow.{LoadRow}
 use Rattle.plan_view.specs.declared.rows.StateRow.{StateRow}
 
 -- what stands at a place of a list with one item more
@@ -41,4 +42,18 @@ states_more p plan n rows row are is = record {
       (λ h. let same : n ≡ s = omega (arith, h.0, are.long) in
       subst (λ i. IsStateRow p plan i other) same (subst (λ r. IsStateRow p plan n r) h.1 is))
       (pushed rows row s other there);
+}
+
+pub loads_none : (capacities : List ℕ) (routing : Routing) → AreLoadRows capacities routing 0 []
+loads_none capacities routing = record { long = refl; each = λ e row there. absurd (let lt = slice_get_within [] e row there in omega (arith, lt)) }
+
+pub loads_more : (capacities : List ℕ) (routing : Routing) (n : ℕ) (rows : List LoadRow) (row : LoadRow) → AreLoadRows capacities routing n rows → IsLoadRow capacities routing n row
+    → AreLoadRows capacities routing (n + 1) (rows ++ row ∷ [])
+loads_more capacities routing n rows row are is = record {
+  long = omega (arith, length-append rows (row ∷ []), are.long);
+  each = λ e other there. ⊎_elim
+      (λ h. are.each e other h)
+      (λ h. let same : n ≡ e = omega (arith, h.0, are.long) in
+      subst (λ i. IsLoadRow capacities routing i other) same (subst (λ r. IsLoadRow capacities routing n r) h.1 is))
+      (pushed rows row e other there);
 }

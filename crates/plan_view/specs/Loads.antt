@@ -1,6 +1,6 @@
 -- what the routings of a plan bring onto links, state by state, and the first of the greatest fractions
 use Rattle.std.specs.Prelude.{◌≡◌, ℕ, ◌*◌, ◌≤◌, ◌<◌, List, [], Option, None, Some, slice_index_or}
-use Rattle.plan_terms.specs.Terms.{Routing, load}
+use Rattle.plan_terms.specs.Terms.{LinkId, Routing, load}
 
 -- the routing of state s; where there is none, no flows over 0
 abbrev pub routing_in : List Routing → ℕ → Routing
@@ -25,3 +25,8 @@ pub record IsFirstOfGreatest (n : ℕ) (num den : ℕ → ℕ) (k : ℕ) : Type 
 abbrev pub IsFirstIfAny : ℕ → (ℕ → ℕ) → (ℕ → ℕ) → Option ℕ → Type 0
 IsFirstIfAny n num den None = (j : ℕ) → j < n → den j ≡ 0
 IsFirstIfAny n num den (Some k) = IsFirstOfGreatest n num den k
+
+-- the first link of greatest load over capacity, which has some load; none where no link has any
+abbrev pub IsFullestLink : ℕ → (ℕ → ℕ) → (ℕ → ℕ) → Option LinkId → Type 0
+IsFullestLink n load capacity None = (e : ℕ) → e < n → load e ≡ 0
+IsFullestLink n load capacity (Some k) = (0 < load k.0) × IsFirstOfGreatest n load capacity k.0

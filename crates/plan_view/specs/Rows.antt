@@ -1,14 +1,15 @@
 -- what the rows of a plan say: each number is a definition's
 use Rattle.std.specs.Prelude.{◌≡◌, ℕ, zero, suc, ◌+◌, ◌*◌, ◌/◌, List, [], Option, None, Some, length, slice_get, slice_index, sum_by}
 use Rattle.std.specs.Option.{option_map_or}
-use Rattle.plan_terms.specs.Terms.{Case, Link, LinkId, Listed, Routing, capacities, link_cost, load, modules_capacity, raw_value, sum_below}
+use Rattle.plan_terms.specs.Terms.{Case, Link, LinkId, Listed, Routing, capacities, link_cost, load, modules_capacity, raw_value, sum_below, total_cost}
 use Rattle.plan_types.specs.Terms.{lines_of_certificate}
 use Rattle.plan_types.specs.declared.plan.Plan.{Plan}
-use Rattle.plan_view.specs.Loads.{IsFirstIfAny, IsFirstOfGreatest, den_in, load_in, routing_in}
+use Rattle.plan_view.specs.Loads.{IsFirstOfGreatest, IsFullestLink, den_in, load_in, routing_in}
 use Rattle.plan_view.specs.Parts.{IsGap, paid_by}
 use Rattle.plan_view.specs.Reroutes.{rerouted}
 use Rattle.plan_view.specs.Rounding.{IsCeiling, IsNearest}
 use Rattle.plan_view.specs.declared.rows.LinkRow.{LinkRow}
+use Rattle.plan_view.specs.declared.rows.LoadRow.{LoadRow}
 use Rattle.plan_view.specs.declared.rows.PlanSummary.{PlanSummary}
 use Rattle.plan_view.specs.declared.rows.StateRow.{StateRow}
 
@@ -39,18 +40,13 @@ abbrev pub IsUseOf : Routing → List ℕ → Option LinkId → ℕ → Type 0
 IsUseOf routing capacities None used = used ≡ 0
 IsUseOf routing capacities (Some e) used = IsCeiling (100 * load routing.flows e.0) (slice_index capacities e.0 * routing.den) used
 
--- the place of the link, if there is one
-abbrev pub place_of_link : Option LinkId → Option ℕ
-place_of_link None = None
-place_of_link (Some e) = Some e.0
-
 -- the row of state s
 pub record IsStateRow (p : Case) (plan : Plan) (s : ℕ) (row : StateRow) : Type 0 where
   pub state : row.state.0 ≡ s
   pub failed : row.failed ≡ failed_links p.listed s
   pub rerouted : IsCeiling (rerouted (routing_in plan.routings 0) (routing_in plan.routings s) (routing_in plan.routings s).flows)
       (den_in plan.routings s * den_in plan.routings 0) row.rerouted
-  pub fullest : IsFirstIfAny (length p.links) (load_in plan.routings s) (slice_index (capacities p.links plan.counts)) (place_of_link row.fullest)
+  pub fullest : IsFullestLink (length p.links) (load_in plan.routings s) (slice_index (capacities p.links plan.counts)) row.fullest
   pub used : IsUseOf (routing_in plan.routings s) (capacities p.links plan.counts) row.fullest row.used
   pub part : IsNearest (1000 * paid_by p.links plan.certificate s) (raw_value p.links (lines_of_certificate plan.certificate)) row.part
 
@@ -59,9 +55,20 @@ pub record AreStateRows (p : Case) (plan : Plan) (n : ℕ) (rows : List StateRow
   pub long : length rows ≡ n
   pub each : (s : ℕ) (row : StateRow) → slice_get rows s ≡ Some row → IsStateRow p plan s row
 
--- the numbers of the whole plan
+-- the row of link e in one state, where this is its routing
+pub record IsLoadRow (capacities : List ℕ) (routing : Routing) (e : ℕ) (row : LoadRow) : Type 0 where
+  pub link : row.link.0 ≡ e
+  pub load : IsCeiling (load routing.flows e) routing.den row.load
+  pub used : IsCeiling (100 * load routing.flows e) (slice_index capacities e * routing.den) row.used
+
+-- the rows of the first n links in one state, in their order
+pub record AreLoadRows (capacities : List ℕ) (routing : Routing) (n : ℕ) (rows : List LoadRow) : Type 0 where
+  pub long : length rows ≡ n
+  pub each : (e : ℕ) (row : LoadRow) → slice_get rows e ≡ Some row → IsLoadRow capacities routing e row
+
+-- the numbers of the whole plan; its cost is what the links cost together
 pub record IsPlanSummary (p : Case) (plan : Plan) (whole : PlanSummary) : Type 0 where
-  pub cost : whole.cost ≡ plan.cost
+  pub cost : whole.cost ≡ total_cost p.links plan.counts
   pub bound : whole.bound ≡ plan.bound
   pub raw : whole.raw ≡ plan.raw_num / plan.raw_den
   pub gap : IsGap plan.cost plan.bound whole.gap

@@ -1,6 +1,7 @@
 -- The words of this crate, passed on from one place to other crates. Declares nothing.
-pub use Rattle.plan_view.specs.Loads.{IsFirstIfAny, IsFirstOfGreatest, den_in, load_in, routing_in}
+pub use Rattle.plan_view.specs.Loads.{IsFirstOfGreatest, IsFullestLink, den_in, load_in, routing_in}
 pub use Rattle.plan_view.specs.Parts.{IsGap, asked_in_state, given_in_state, paid_by}
 pub use Rattle.plan_view.specs.Reroutes.{brought_beyond, brought, goes_as, rerouted}
 pub use Rattle.plan_view.specs.Rounding.{IsCeiling, IsNearest}
-pub use Rattle.plan_view.specs.Rows.{AreLinkRows, AreStateRows, IsLinkRow, IsPlanSummary, IsStateRow, failed_links}
+pub use Rattle.plan_view.specs.Rows.{AreLinkRows, AreLoadRows, AreStateRows, IsLinkRow, IsLoadRow, IsPlanSummary, IsStateRow, failed_links}
+pub use Rattle.plan_view.specs.Sound.{IsSoundPlan}

@@ -9,10 +9,13 @@ mod loads;
 mod parts;
 mod rerouting;
 pub mod rows;
+mod state_loads;
 mod states;
 mod summary;
 
 pub use links::link_rows;
-pub use rows::{LinkRow, PlanSummary, StateRow};
+pub use parts::gap_of;
+pub use rows::{LinkRow, LoadRow, PlanSummary, StateRow};
+pub use state_loads::load_rows;
 pub use states::state_rows;
 pub use summary::plan_summary;

@@ -58,11 +58,7 @@ fn link_row(
 /// // the triangle, where each link fails alone: AB has 20.000 and carries 12.000 in state AC, 60 per cent
 /// let rows = link_rows(alloc, &instance, &plan)?;
 /// ```
-pub fn link_rows(
-    alloc: Global,
-    instance: &Instance,
-    plan: &Plan,
-) -> Result<List<LinkRow>, NoMemory>
+pub fn link_rows(alloc: Global, instance: &Instance, plan: &Plan) -> Result<List<LinkRow>, NoMemory>
     requires { IsSoundPlan (case_of instance.now) plan.now }
     ensures { IfOk result (AreLinkRows instance.now.net.now.links plan.now (length instance.now.net.now.links)) }
 {

@@ -78,15 +78,16 @@ pub(crate) fn part_of(links: &[Link], certificate: &Certificate, state: u32) -> 
     thousandths(raw_among(links, Some(state), lines).min(whole), whole)
 }
 
-/// What a cost is above its bound, in thousandths of the cost, to the nearest, but never 0 where it is above.
-pub(crate) fn gap_of(cost: u128, bound: u128) -> u32
+/// What a cost is above a bound, in tenths of a per cent of the cost, to the nearest, but never 0 where it is above. It takes time in
+/// these tenths.
+///
+/// ```text
+/// let gap = gap_of(30000, 20000);     // 333
+/// ```
+pub fn gap_of(cost: u128, bound: u128) -> u32
     ensures { IsGap cost bound result }
 {
     let above = cost.saturating_sub(bound);
     let near = thousandths(above, cost);
-    if near == 0 && above > 0 {
-        1
-    } else {
-        near
-    }
+    if near == 0 && above > 0 { 1 } else { near }
 }

@@ -12,7 +12,7 @@ pub struct LinkRow {
     pub normal: u128,
     /// The greatest load of all states, rounded up.
     pub worst: u128,
-    /// The first state of greatest load.
+    /// The first state of greatest load, and so of greatest use: the capacity is the same in all states.
     pub state: StateId,
     /// The use of the capacity in that state, in per cent, rounded up; 0 where there is no capacity.
     pub used: u32,
@@ -28,7 +28,7 @@ pub struct StateRow {
     pub failed: List<LinkId>,
     /// What goes along other paths than without failures, rounded up.
     pub rerouted: u128,
-    /// The first link of greatest use; none where no link has capacity.
+    /// The first link of greatest use; none where no link is loaded.
     pub fullest: Option<LinkId>,
     /// The use of its capacity, in per cent, rounded up; 0 where there is none.
     pub used: u32,
@@ -36,9 +36,20 @@ pub struct StateRow {
     pub part: u32,
 }
 
+/// What people read of a link in one state. Amounts are in units of the network.
+#[derive(Clone, Copy, Debug, PartialEq, Eq)]
+pub struct LoadRow {
+    pub link: LinkId,
+    /// What it carries there, rounded up.
+    pub load: u128,
+    /// The use of its capacity there, in per cent, rounded up; 0 where there is no capacity.
+    pub used: u32,
+}
+
 /// What people read of the whole plan. Amounts and costs are in units of the network.
 #[derive(Clone, Copy, Debug, PartialEq, Eq)]
 pub struct PlanSummary {
+    /// What all links cost together.
     pub cost: u128,
     /// No counts of modules that carry the demands cost less.
     pub bound: u128,

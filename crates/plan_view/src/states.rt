@@ -1,10 +1,12 @@
 ghost use Rattle.std.specs.Prelude.{◌≡◌, ℕ, ◌+◌, ◌*◌, ◌<◌, ◌≤◌, ◌^◌, All, IfOk, IfSome, length, slice_index};
 ghost use Rattle.plan_terms.specs.Terms.{capacities, case_of, load};
-ghost use Rattle.plan_view.specs.Rows.{AreStateRows, IsStateRow, IsUseOf, failed_links, place_of_link};
+ghost use Rattle.plan_view.specs.Loads.{IsFirstIfAny, IsFullestLink};
+ghost use Rattle.plan_view.specs.Rows.{AreStateRows, IsStateRow, IsUseOf, failed_links};
 ghost use Rattle.plan_view.specs.Sound.{IsSoundPlan};
+ghost use Rattle.plan_view.specs.inner.LowRoutings.{IsLowRouting};
 
 use crate::greatest::fullest_link;
-use crate::loads::use_of;
+use crate::loads::{load_of, use_of};
 use crate::parts::part_of;
 use crate::rerouting::rerouted_amount;
 use crate::rows::StateRow;
@@ -12,6 +14,13 @@ use module_choice::capacities;
 use net_core::{Copied, Instance, LinkId, List, Listed, NoMemory, Routing, StateId};
 use plan_types::Plan;
 use std::alloc::Global;
+
+/// The fullest link of a state, and its use in per cent, rounded up.
+#[derive(Clone, Copy)]
+struct Fullest {
+    link: Option<LinkId>,
+    used: u32,
+}
 
 /// A copy of the links that a state fails.
 fn failed_links(alloc: Global, listed: &[Listed], state: u32) -> Result<List<LinkId>, NoMemory>
@@ -24,12 +33,21 @@ fn failed_links(alloc: Global, listed: &[Listed], state: u32) -> Result<List<Lin
     listed[state as usize - 1].links.copy()
 }
 
-/// The link at a place, if there is one.
-fn link_at(place: Option<u32>) -> Option<LinkId>
-    ensures { place_of_link result ≡ place }
+/// The link at a place, if there is one and it is loaded.
+#[tactic(auto, using(crate::proofs::Firsts::none_loaded, crate::proofs::Firsts::none_at_all))]
+fn if_loaded(capacities: &[u128], routing: &Routing, place: Option<u32>) -> Option<LinkId>
+    requires first { IsFirstIfAny (length capacities.now) (load routing.now.flows) (slice_index capacities.now) place }
+    requires low { IsLowRouting capacities.now routing.now }
+    ensures { IsFullestLink (length capacities.now) (load routing.now.flows) (slice_index capacities.now) result }
 {
     match place {
-        Some(e) => Some(LinkId(e)),
+        Some(e) => {
+            if load_of(routing.flows.items(), LinkId(e)) > 0 {
+                Some(LinkId(e))
+            } else {
+                None
+            }
+        }
         None => None,
     }
 }
@@ -37,15 +55,28 @@ fn link_at(place: Option<u32>) -> Option<LinkId>
 /// The use of a link, in per cent, rounded up; 0 where there is none.
 fn use_of_fullest(routing: &Routing, capacities: &[u128], fullest: Option<LinkId>) -> u32
     requires inside { IfSome fullest (λ e. e.0 < length capacities.now) }
-    requires within { (e : ℕ) → load routing.now.flows e ≤ slice_index capacities.now e * routing.now.den }
-    requires low { All (λ n. n < 2 ^ 46) capacities.now }
-    requires den { routing.now.den < 2 ^ 62 }
+    requires small { All (λ n. n < 2 ^ 46) capacities.now }
+    requires low { IsLowRouting capacities.now routing.now }
     ensures { IsUseOf routing.now capacities.now fullest result }
 {
     match fullest {
         Some(e) => use_of(routing, e, capacities[e.0 as usize]),
         None => 0,
     }
+}
+
+/// The fullest link of a state, with its use.
+fn fullest_of(routing: &Routing, capacities: &[u128]) -> Fullest
+    requires few { length capacities.now < 2 ^ 32 }
+    requires small { All (λ n. n < 2 ^ 46) capacities.now }
+    requires low { IsLowRouting capacities.now routing.now }
+    ensures link { IsFullestLink (length capacities.now) (load routing.now.flows) (slice_index capacities.now) result.link }
+    ensures used { IsUseOf routing.now capacities.now result.link result.used }
+{
+    let first = fullest_link(capacities, routing.flows.items());
+    let link = if_loaded(capacities, routing, first);
+    let used = use_of_fullest(routing, capacities, link);
+    Fullest { link, used }
 }
 
 /// The row of one state, in which this is the capacity of each link.
@@ -62,14 +93,15 @@ fn state_row(
     ensures { IfOk result (IsStateRow (case_of instance.now) plan.now state) }
 {
     let routings = plan.routings.items();
+    let normal = &routings[0];
     let routing = &routings[state as usize];
-    let fullest = link_at(fullest_link(caps, routing.flows.items()));
+    let fullest = fullest_of(routing, caps);
     Ok(StateRow {
         state: StateId(state),
         failed: failed_links(alloc, instance.states.listed().items(), state)?,
-        rerouted: rerouted_amount(&routings[0], routing),
-        fullest,
-        used: use_of_fullest(routing, caps, fullest),
+        rerouted: rerouted_amount(normal, routing),
+        fullest: fullest.link,
+        used: fullest.used,
         part: part_of(instance.net.links().items(), &plan.certificate, state),
     })
 }

@@ -46,7 +46,11 @@ fn total_capacity(capacities: &[u128]) -> u128
 /// // the triangle: cost 30.000, bound 20.000, raw value 18.000, a gap of 33.3 per cent, 60.000 installed, 4 states
 /// let whole = plan_summary(alloc, &instance, &plan)?;
 /// ```
-pub fn plan_summary(alloc: Global, instance: &Instance, plan: &Plan) -> Result<PlanSummary, NoMemory>
+pub fn plan_summary(
+    alloc: Global,
+    instance: &Instance,
+    plan: &Plan,
+) -> Result<PlanSummary, NoMemory>
     requires { IsSoundPlan (case_of instance.now) plan.now }
     ensures { IfOk result (IsPlanSummary (case_of instance.now) plan.now) }
 {

@@ -4,5 +4,6 @@ pub mod Runs
 pub mod Trees
 pub mod ReadingLines
 pub mod ReadingTrees
+pub mod ReportEnds
 pub mod FirstFaults
 pub mod Laws

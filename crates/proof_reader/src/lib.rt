@@ -5,6 +5,7 @@
 #![tactic(auto)]
 
 mod cuts;
+mod ends;
 pub mod law;
 mod lines;
 mod nodes;
@@ -14,5 +15,6 @@ mod run;
 mod sofar;
 pub mod tree;
 
+pub use ends::report_end;
 pub use reader::read_tree;
 pub use tree::ReadTree;

@@ -209,7 +209,7 @@ fn named_tree(
 ///
 /// ```text
 /// let report = read_report(alloc, &net, &states, bytes)?;
-/// let tree = read_tree(alloc, &net, &states, &plan.demands, bytes, end)?;     // `end` is the place after the report's last token
+/// let tree = read_tree(alloc, &net, &states, &plan.demands, bytes, report_end(bytes))?;
 /// let proof = Proof { plan, cuts: tree.cuts, lines: tree.lines, tree: tree.tree, verdict: tree.verdict };     // for `check_tree`
 /// ```
 ///

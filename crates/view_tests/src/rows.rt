@@ -1,12 +1,15 @@
 use net_core::{LinkId, List};
-use plan_view::{LinkRow, StateRow};
+use plan_view::{LinkRow, LoadRow, StateRow};
 
 /// The capacity of a link, its load without failures, its greatest load, the state of that, the use there in per cent, and its cost.
 pub(crate) type LinkWant = (u128, u128, u128, u32, u32, u128);
 
 /// The links that a state fails, what it reroutes, its fullest link, the use of that in per cent, and the state's part of the bound in
 /// tenths of a per cent.
-pub(crate) type StateWant = (&'static [LinkId], u128, u32, u32, u32);
+pub(crate) type StateWant = (&'static [LinkId], u128, Option<LinkId>, u32, u32);
+
+/// What a link carries in a state, and the use there in per cent.
+pub(crate) type LoadWant = (u128, u32);
 
 /// Whether the row at a place is as wanted.
 fn is_link_row(at: usize, row: &LinkRow, want: &LinkWant) -> bool {
@@ -24,7 +27,7 @@ fn is_state_row(at: usize, row: &StateRow, want: &StateWant) -> bool {
     row.state.0 as usize == at
         && row.failed.items() == want.0
         && row.rerouted == want.1
-        && row.fullest == Some(LinkId(want.2))
+        && row.fullest == want.2
         && row.used == want.3
         && row.part == want.4
 }
@@ -49,4 +52,12 @@ pub(crate) fn are_state_rows(rows: &List<StateRow>, wants: &[StateWant]) -> bool
             .zip(wants.iter())
             .enumerate()
             .all(|(at, (row, want))| is_state_row(at, row, want))
+}
+
+/// Whether all rows are as wanted.
+pub(crate) fn are_load_rows(rows: &List<LoadRow>, wants: &[LoadWant]) -> bool {
+    rows.len() == wants.len()
+        && rows.items().iter().zip(wants.iter()).enumerate().all(|(at, (row, want))| {
+            row.link.0 as usize == at && row.load == want.0 && row.used == want.1
+        })
 }

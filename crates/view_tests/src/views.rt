@@ -1,8 +1,8 @@
-use crate::rows::{LinkWant, StateWant, are_link_rows, are_state_rows};
+use crate::rows::{LinkWant, LoadWant, StateWant, are_link_rows, are_load_rows, are_state_rows};
 use net_core::{LinkId, Problem};
 use plan_checker::{CheckAnswer, check_plan};
 use plan_types::{Outcome, Plan};
-use plan_view::{PlanSummary, link_rows, plan_summary, state_rows};
+use plan_view::{PlanSummary, gap_of, link_rows, load_rows, plan_summary, state_rows};
 use report_reader::read_report;
 use std::alloc::Global;
 use worked_networks::{failing, problem, triangle};
@@ -16,10 +16,12 @@ struct Worked {
     report: &'static str,
     links: [LinkWant; 3],
     states: &'static [StateWant],
+    /// What the links carry in the first failure.
+    loads: [LoadWant; 3],
     whole: PlanSummary,
 }
 
-const WORKED: [Worked; 3] = [
+const WORKED: [Worked; 4] = [
     // each link fails alone; the demand goes along AC, and along AB and BC where AC fails
     Worked {
         fixed: 0,
@@ -47,11 +49,12 @@ OUTCOMES ( PLAN ( caller 1 plan 1 version 0 position 0
             (20000, 12000, 12000, 0, 60, 10000),
         ],
         states: &[
-            (&[], 0, 2, 60, 0),
-            (&[LinkId(0)], 0, 2, 60, 333),
-            (&[LinkId(1)], 0, 2, 60, 0),
-            (&[LinkId(2)], 12000, 0, 60, 667),
+            (&[], 0, Some(LinkId(2)), 60, 0),
+            (&[LinkId(0)], 0, Some(LinkId(2)), 60, 333),
+            (&[LinkId(1)], 0, Some(LinkId(2)), 60, 0),
+            (&[LinkId(2)], 12000, Some(LinkId(0)), 60, 667),
         ],
+        loads: [(0, 0), (0, 0), (12000, 60)],
         whole: PlanSummary {
             cost: 30000,
             bound: 20000,
@@ -62,7 +65,8 @@ OUTCOMES ( PLAN ( caller 1 plan 1 version 0 position 0
             states: 4,
         },
     },
-    // a duct with AB and BC fails; a third of the demand goes along AC before, and all of it then. There is no certificate.
+    // a duct with AB and BC fails; a third of the demand goes along AC before, and all of it then, each way in two flows or one. There is
+    // no certificate.
     Worked {
         fixed: 5000,
         need: 10000,
@@ -75,8 +79,8 @@ OUTCOMES ( PLAN ( caller 1 plan 1 version 0 position 0
   MODULES ( AB ( 1 ) BC ( 1 ) AC ( 1 ) )
   CERTIFICATE ( 1 )
   ROUTES (
-    state 0 none 3 ( A 10000 ( AC ) A 20000 ( AB BC ) )
-    state 1 f 1 ( A 10000 ( AC ) )
+    state 0 none 3 ( A 5000 ( AB BC ) A 10000 ( AC ) A 15000 ( AB BC ) )
+    state 1 f 1 ( A 4000 ( AC ) A 6000 ( AC ) )
   )
   loose cuts
 ) )
@@ -87,9 +91,10 @@ OUTCOMES ( PLAN ( caller 1 plan 1 version 0 position 0
             (15000, 3334, 10000, 1, 67, 5000),
         ],
         states: &[
-            (&[], 0, 0, 45, 0),
-            (&[LinkId(0), LinkId(1)], 6667, 2, 67, 0),
+            (&[], 0, Some(LinkId(0)), 45, 0),
+            (&[LinkId(0), LinkId(1)], 6667, Some(LinkId(2)), 67, 0),
         ],
+        loads: [(0, 0), (0, 0), (10000, 67)],
         whole: PlanSummary {
             cost: 15000,
             bound: 0,
@@ -124,7 +129,11 @@ OUTCOMES ( PLAN ( caller 1 plan 1 version 0 position 0
             (15000, 12000, 12000, 0, 80, 5000),
             (5000, 0, 0, 0, 0, 0),
         ],
-        states: &[(&[], 0, 0, 80, 0), (&[LinkId(2)], 0, 0, 80, 1000)],
+        states: &[
+            (&[], 0, Some(LinkId(0)), 80, 0),
+            (&[LinkId(2)], 0, Some(LinkId(0)), 80, 1000),
+        ],
+        loads: [(12000, 80), (12000, 80), (0, 0)],
         whole: PlanSummary {
             cost: 10000,
             bound: 10000,
@@ -132,6 +141,39 @@ OUTCOMES ( PLAN ( caller 1 plan 1 version 0 position 0
             gap: 0,
             capacity: 35000,
             normal: 24000,
+            states: 2,
+        },
+    },
+    // nothing is asked for, and nothing is carried
+    Worked {
+        fixed: 5000,
+        need: 0,
+        failed: &[&[0]],
+        report: "?planner report; version: 1
+NOTES ( ) JOURNAL ( ) POOL ( )
+OUTCOMES ( PLAN ( caller 1 plan 1 version 0 position 0
+  DEMANDS ( A ( A C ) 0.000 )
+  cost 0.000 bound 0.000 raw 0 1
+  MODULES ( AB ( 0 ) BC ( 0 ) AC ( 0 ) )
+  CERTIFICATE ( 1 )
+  ROUTES ( state 0 none 1 ( ) state 1 f 1 ( ) )
+  loose cuts
+) )
+",
+        links: [
+            (5000, 0, 0, 0, 0, 0),
+            (5000, 0, 0, 0, 0, 0),
+            (5000, 0, 0, 0, 0, 0),
+        ],
+        states: &[(&[], 0, None, 0, 0), (&[LinkId(0)], 0, None, 0, 0)],
+        loads: [(0, 0), (0, 0), (0, 0)],
+        whole: PlanSummary {
+            cost: 0,
+            bound: 0,
+            raw: 0,
+            gap: 0,
+            capacity: 15000,
+            normal: 0,
             states: 2,
         },
     },
@@ -157,10 +199,12 @@ fn is_seen(alloc: Global, p: &Problem, plan: &Plan, worked: &Worked) -> Option<b
     let instance = p.instance();
     let links = link_rows(alloc, &instance, plan).ok()?;
     let states = state_rows(alloc, &instance, plan).ok()?;
+    let loads = load_rows(alloc, &instance, plan, 1).ok()?;
     let whole = plan_summary(alloc, &instance, plan).ok()?;
     Some(
         are_link_rows(&links, &worked.links)
             && are_state_rows(&states, worked.states)
+            && are_load_rows(&loads, &worked.loads)
             && whole == worked.whole,
     )
 }
@@ -187,5 +231,32 @@ fn right_rows(alloc: Global) -> usize {
 
 #[test]
 fn rows_of_plans_have_the_numbers_worked_out_by_hand(rt: HostRuntime) {
-    assert_eq!(rt; right_rows(rt.alloc()), 3);
+    assert_eq!(rt; right_rows(rt.alloc()), 4);
+}
+
+/// A cost, a bound, and the gap in tenths of a per cent of the cost.
+const GAPS: [(u128, u128, u32); 11] = [
+    (30000, 20000, 333),
+    (3, 1, 667),
+    (16, 15, 63),
+    (400, 399, 3),
+    (2000, 1999, 1),
+    (2001, 2000, 1),
+    (100000, 99999, 1),
+    (1000, 1000, 0),
+    (1000, 2000, 0),
+    (0, 0, 0),
+    (1 << 126, 0, 1000),
+];
+
+/// The first gap that isn't as wanted.
+fn first_wrong() -> Option<usize> {
+    GAPS.iter()
+        .position(|(cost, bound, gap)| gap_of(*cost, *bound) != *gap)
+}
+
+#[test]
+fn gaps_are_to_the_nearest_and_never_hidden(rt: HostRuntime) {
+    let wrong = first_wrong();
+    assert!(rt; wrong.is_none(), "row {}", wrong.unwrap_or(0));
 }
