@@ -1,0 +1,25 @@
+//! Where a report ends, below which its tree stands.
+use proof_reader::report_end;
+
+/// A text, and the place after its last token, counted by hand.
+const ENDS: [(&[u8], u64); 8] = [
+    (b"OUTCOMES ( )\n# box-cut 0 0 12000 1 0 1\n", 12),
+    (b"OUTCOMES ( ) # cheapest ( )\n# (", 12),
+    (b"OUTCOMES ( )", 12),
+    (b"POOL # ( )\r\n ( 1 )\t\r\n", 18),
+    (b"a(b)c # )", 5),
+    (b"# ( )\nword", 10),
+    (b"# ( )\n \n", 0),
+    (b"", 0),
+];
+
+/// The first text whose end isn't there.
+fn first_wrong() -> Option<usize> {
+    ENDS.iter().position(|(text, end)| report_end(text) != *end)
+}
+
+#[test]
+fn reports_end_after_their_last_token(rt: HostRuntime) {
+    let wrong = first_wrong();
+    assert!(rt; wrong.is_none(), "row {}", wrong.unwrap_or(0));
+}
