@@ -1,18 +1,24 @@
 -- what is known of the routings of a sound plan
-use Rattle.std.proofs.Common.{◌≡◌, ℕ, ◌+◌, ◌*◌, ◌^◌, ◌<◌, ◌≤◌, ◌==◌, ◌&&◌, Bool, true, false, if◌then◌else◌, List, [], All, None, Some, zip, get_or, length, sym, ap, ◌∙◌, subst, arith, slice_get, ⊎_elim}
+use Rattle.std.proofs.Common.{◌≡◌, ℕ, ◌+◌, ◌*◌, ◌^◌, ◌<◌, ◌≤◌, ◌==◌, ◌&&◌, Bool, true, false, if◌then◌else◌, List, [], All, None, Some, zip, get_or, length, sym, ap, ◌∙◌, subst, arith, slice_get, slice_index, ⊎_elim}
 use Rattle.std.proofs.Math.Nat.{mul-le-mul}
 use Rattle.std.proofs.lemmas.Bool.{eq-eqb, ne_eqb}
 use Rattle.std.proofs.lemmas.List.Sums.{sum_by-le-sum_by}
 use Rattle.std.specs.Cmp.Lexicographic.{pointwise}
-use Rattle.net_core.proofs.Library.{cases_eq, cases_lt, get_or-map, get_or-zip, get_or_past, length-zip, props, slice_get-get_or, ∥∥₁_elim}
+use Rattle.net_core.proofs.Library.{cases_eq, cases_lt, get_or-map, get_or_default, get_or-zip, get_or_past, length-zip, props, slice_get-get_or, ∥∥₁_elim}
 use Rattle.net_core.proofs.Networks.{modules_sound}
-use Rattle.module_choice.proofs.Pairs.{counts_long, counts_shape}
+use Rattle.net_core.specs.States.{IsStateList}
+use Rattle.module_choice.proofs.Pairs.{capacities_long, counts_long, counts_shape}
 use Rattle.net_core.proofs.Lists.{all_at}
-use Rattle.plan_terms.specs.Terms.{AreDemands, Case, Carries, Flow, IsFlow, IsModule, IsNetwork, Joins, Link, Routing, capacities, graph_in, load, modules_capacity, sent}
+use Rattle.plan_terms.specs.Terms.{AreDemands, Case, Carries, Flow, IsFlow, IsModule, IsNetwork, Joins, Link, Listed, Routing, capacities, graph_in, load, modules_capacity, raw_value, sent}
+use Rattle.plan_types.specs.Terms.{lines_of_certificate}
 use Rattle.plan_types.specs.declared.plan.Plan.{Plan}
-use Rattle.plan_view.specs.Loads.{den_in, load_in, routing_in}
-use Rattle.plan_view.specs.Reroutes.{brought, goes_as}
+use Rattle.plan_view.specs.Loads.{IsFullestLink, den_in, load_in, routing_in}
+use Rattle.plan_view.specs.Parts.{paid_by}
+use Rattle.plan_view.specs.Reroutes.{brought, goes_as, rerouted}
+use Rattle.plan_view.specs.Rounding.{IsCeiling, IsNearest}
+use Rattle.plan_view.specs.Rows.{IsStateRow, IsUseOf, failed_links}
 use Rattle.plan_view.specs.Sound.{IsSoundPlan}
+use Rattle.plan_view.specs.declared.rows.StateRow.{StateRow}
 use Rattle.plan_view.specs.inner.Lines.{asked_among, given_among}
 use Rattle.plan_view.specs.inner.LowRoutings.{IsLowRouting}
 use Rattle.plan_view.proofs.LineSums.{asked_is, given_is}
@@ -37,6 +43,10 @@ pub brought_sent : (flows : List Flow) (f : Flow) → brought flows f ≤ sent f
 brought_sent flows f =
     sum_by-le-sum_by (λ (g : Flow). (if goes_as f g then g.num else 0)) (λ (g : Flow). (if g.demand == f.demand then g.num else 0)) flows
     (λ g. subst (λ b. (if goes_as f g then g.num else 0) ≤ (if b then g.num else 0)) (turned f.demand g.demand) (both_le (f.demand == g.demand) (pointwise (λ x y. x.0 == y.0) f.path g.path) g.num))
+
+-- a failure list has at most 256 states
+pub few_listed : (listed : List Listed) → ∥ IsStateList listed ∥₁ → length listed ≤ 256
+few_listed listed checked = ∥∥₁_elim checked (hlevel props) (λ states. states.few)
 
 module _ (p : Case) (plan : Plan) (sound : IsSoundPlan p plan) where
   past : (s : ℕ) → length plan.routings ≤ s → routing_in plan.routings s ≡ no_routing
@@ -99,6 +109,61 @@ module _ (p : Case) (plan : Plan) (sound : IsSoundPlan p plan) where
   -- all capacities are
   pub small_capacities : All (λ n. n < 2 ^ 46) (capacities p.links plan.counts)
   small_capacities e d lt = sound.form.limits.small e d lt
+
+  -- there is a routing for each state, in one form or another
+  pub state_within : (s : ℕ) → s ≤ length p.listed → s < length plan.routings
+  state_within s le = omega (arith, sound.carrying.states, le)
+
+  pub routing_is : (s : ℕ) (r : Routing) → s ≤ length p.listed → r ≡ get_or plan.routings s r → r ≡ routing_in plan.routings s
+  routing_is s r le is = is ∙ get_or_default plan.routings s r no_routing (state_within s le)
+
+  pub low_of : (caps : List ℕ) (s : ℕ) (r : Routing) → caps ≡ capacities p.links plan.counts → s ≤ length p.listed → r ≡ get_or plan.routings s r → IsLowRouting caps r
+  low_of caps s r same le is =
+      subst (λ (x : List ℕ). IsLowRouting x r) (sym same)
+      (subst (λ (x : Routing). IsLowRouting (capacities p.links plan.counts) x) (sym (routing_is s r le is)) (low_at s (state_within s le)))
+
+  pub small_of : (caps : List ℕ) → caps ≡ capacities p.links plan.counts → All (λ n. n < 2 ^ 46) caps
+  small_of caps same = subst (λ (x : List ℕ). All (λ n. n < 2 ^ 46) x) (sym same) small_capacities
+
+  -- what the routing of one state brings of the demands of another one's flows
+  pub brought_of : (n : ℕ) → AreDemands n p.demands → (s k : ℕ) (r q : Routing) → s ≤ length p.listed → k ≤ length p.listed → r ≡ get_or plan.routings s r → q ≡ get_or plan.routings k q
+      → All (λ f. brought q.flows f ≤ 2 ^ 102) r.flows
+  brought_of n are s k r q le inside is there =
+      subst (λ (x : Routing). All (λ f. brought q.flows f ≤ 2 ^ 102) x.flows) (sym (routing_is s r le is))
+      (subst (λ (x : Routing). All (λ f. brought x.flows f ≤ 2 ^ 102) (routing_in plan.routings s).flows) (sym (routing_is k q inside there))
+      (λ i d lt. brought_low n are s k d (state_within s le) (state_within k inside) i lt))
+
+  pub few_routings : ∥ IsStateList p.listed ∥₁ → length plan.routings < 2 ^ 32
+  few_routings checked = omega (arith, sound.carrying.states, few_listed p.listed checked)
+
+  -- the row of a state, from its routing and that without failures
+  pub row_of : (s : ℕ) (caps : List ℕ) (normal r : Routing) (row : StateRow) → caps ≡ capacities p.links plan.counts → s ≤ length p.listed
+      → normal ≡ get_or plan.routings 0 normal → r ≡ get_or plan.routings s r
+      → row.state.0 ≡ s → row.failed ≡ failed_links p.listed s
+      → IsCeiling (rerouted normal r r.flows) (r.den * normal.den) row.rerouted
+      → IsFullestLink (length caps) (load r.flows) (slice_index caps) row.fullest
+      → IsUseOf r caps row.fullest row.used
+      → IsNearest (1000 * paid_by p.links plan.certificate s) (raw_value p.links (lines_of_certificate plan.certificate)) row.part
+      → IsStateRow p plan s row
+  row_of s caps normal r row same le zero_is is state failed again fullest used part =
+      let cs = capacities p.links plan.counts in
+      let n : normal ≡ routing_in plan.routings 0 = routing_is 0 normal (omega arith) zero_is in
+      let e : r ≡ routing_in plan.routings s = routing_is s r le is in
+      let moved : IsCeiling (rerouted normal (routing_in plan.routings s) (routing_in plan.routings s).flows) (den_in plan.routings s * normal.den) row.rerouted =
+          subst (λ (x : Routing). IsCeiling (rerouted normal x x.flows) (x.den * normal.den) row.rerouted) e again in
+      let first : IsFullestLink (length caps) (load_in plan.routings s) (slice_index caps) row.fullest =
+          subst (λ (x : Routing). IsFullestLink (length caps) (load x.flows) (slice_index caps) row.fullest) e fullest in
+      let own : IsFullestLink (length cs) (load_in plan.routings s) (slice_index cs) row.fullest =
+          subst (λ (x : List ℕ). IsFullestLink (length x) (load_in plan.routings s) (slice_index x) row.fullest) same first in
+      let there : IsUseOf (routing_in plan.routings s) caps row.fullest row.used = subst (λ (x : Routing). IsUseOf x caps row.fullest row.used) e used in
+      record {
+        state = state;
+        failed = failed;
+        rerouted = subst (λ (x : Routing). IsCeiling (rerouted x (routing_in plan.routings s) (routing_in plan.routings s).flows) (den_in plan.routings s * x.den) row.rerouted) n moved;
+        fullest = subst (λ k. IsFullestLink k (load_in plan.routings s) (slice_index cs) row.fullest) (capacities_long p.links plan.counts sound.form.counts) own;
+        used = subst (λ (x : List ℕ). IsUseOf (routing_in plan.routings s) x row.fullest row.used) same there;
+        part = part;
+      }
 
   pub load_fits : (s e : ℕ) → load_in plan.routings s e < 2 ^ 128
   load_fits s e = omega (arith, load_low s e)

@@ -24,11 +24,14 @@ pub record IsLinkRow (plan : Plan) (l : Link) (counts : List ℕ) (e : ℕ) (row
   pub used : IsCeiling (100 * load_in plan.routings row.state.0 e) (row.capacity * den_in plan.routings row.state.0) row.used
   pub cost : row.cost ≡ link_cost l counts
 
+-- the row of link e, whatever link and counts stand there
+abbrev pub IsRowAt : List Link → Plan → ℕ → LinkRow → Type 0
+IsRowAt links plan e row = (l : Link) (counts : List ℕ) → slice_get links e ≡ Some l → slice_get plan.counts e ≡ Some counts → IsLinkRow plan l counts e row
+
 -- the rows of the first n links, in their order
 pub record AreLinkRows (links : List Link) (plan : Plan) (n : ℕ) (rows : List LinkRow) : Type 0 where
   pub long : length rows ≡ n
-  pub each : (e : ℕ) (l : Link) (counts : List ℕ) (row : LinkRow) → slice_get links e ≡ Some l → slice_get plan.counts e ≡ Some counts → slice_get rows e ≡ Some row
-      → IsLinkRow plan l counts e row
+  pub each : (e : ℕ) (row : LinkRow) → slice_get rows e ≡ Some row → IsRowAt links plan e row
 
 -- the links that state s fails
 abbrev pub failed_links : List Listed → ℕ → List LinkId
@@ -58,7 +61,7 @@ pub record AreStateRows (p : Case) (plan : Plan) (n : ℕ) (rows : List StateRow
 -- the row of link e in one state, where this is its routing
 pub record IsLoadRow (capacities : List ℕ) (routing : Routing) (e : ℕ) (row : LoadRow) : Type 0 where
   pub link : row.link.0 ≡ e
-  pub load : IsCeiling (load routing.flows e) routing.den row.load
+  pub carried : IsCeiling (load routing.flows e) routing.den row.load
   pub used : IsCeiling (100 * load routing.flows e) (slice_index capacities e * routing.den) row.used
 
 -- the rows of the first n links in one state, in their order

@@ -1,7 +1,7 @@
 ghost use Rattle.std.specs.Prelude.{◌≡◌, ℕ, ◌+◌, ◌*◌, ◌<◌, ◌≤◌, ◌^◌, All, IfOk, length, slice_index};
 ghost use Rattle.plan_terms.specs.Terms.{IsModule, capacities, case_of, modules_capacity};
 ghost use Rattle.plan_view.specs.Loads.{den_in, load_in};
-ghost use Rattle.plan_view.specs.Rows.{AreLinkRows, IsLinkRow};
+ghost use Rattle.plan_view.specs.Rows.{AreLinkRows, IsLinkRow, IsRowAt};
 ghost use Rattle.plan_view.specs.Sound.{IsSoundPlan};
 
 use crate::costs::link_cost;
@@ -49,6 +49,23 @@ fn link_row(
     })
 }
 
+/// The row of the link at a place, where these are the capacities of all links.
+fn row_at(
+    instance: &Instance,
+    plan: &Plan,
+    caps: &[u128],
+    e: u32,
+) -> Result<LinkRow, NoMemory>
+    requires sound { IsSoundPlan (case_of instance.now) plan.now }
+    requires inside { e < length instance.now.net.now.links }
+    requires capacities { caps.now ≡ capacities instance.now.net.now.links plan.now.counts }
+    ensures { IfOk result (IsRowAt instance.now.net.now.links plan.now e) }
+{
+    let l = &instance.net.links().items()[e as usize];
+    let counts = &plan.counts.items()[e as usize];
+    link_row(plan, LinkId(e), l, counts, caps[e as usize])
+}
+
 /// A row for each link, in the order of the network: its modules, its capacity, its load without failures and its greatest load, and
 /// what it costs. The plan is one that a check accepted for this instance.
 ///
@@ -58,18 +75,15 @@ fn link_row(
 /// // the triangle, where each link fails alone: AB has 20.000 and carries 12.000 in state AC, 60 per cent
 /// let rows = link_rows(alloc, &instance, &plan)?;
 /// ```
+#[tactic(auto, using(crate::proofs::RowLists::links_none, crate::proofs::RowLists::links_more))]
 pub fn link_rows(alloc: Global, instance: &Instance, plan: &Plan) -> Result<List<LinkRow>, NoMemory>
     requires { IsSoundPlan (case_of instance.now) plan.now }
     ensures { IfOk result (AreLinkRows instance.now.net.now.links plan.now (length instance.now.net.now.links)) }
 {
-    let links = instance.net.links().items();
-    let counts = plan.counts.items();
     let caps = capacities(alloc, instance.net, &plan.counts)?;
     let mut rows = List::new(alloc);
-    for e in 0..links.len() {
-        let capacity = caps.nums.items()[e];
-        let row = link_row(plan, LinkId(e as u32), &links[e], &counts[e], capacity)?;
-        rows.push(row)?;
+    for e in 0..instance.net.links().len() as u32 {
+        rows.push(row_at(instance, plan, caps.nums.items(), e)?)?;
     }
     Ok(rows)
 }

@@ -61,9 +61,7 @@ pub fn load_rows(
     ensures { IfOk result (AreLoadRows (capacities instance.now.net.now.links plan.now.counts) (routing_in plan.now.routings state) (length instance.now.net.now.links)) }
 {
     let caps = capacities(alloc, instance.net, &plan.counts)?;
-    rows_of(
-        alloc,
-        caps.nums.items(),
-        &plan.routings.items()[state as usize],
-    )
+    let nums = caps.nums.items();
+    let routings = plan.routings.items();
+    rows_of(alloc, nums, &routings[state as usize])
 }

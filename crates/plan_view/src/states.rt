@@ -116,6 +116,7 @@ fn state_row(
 /// // the triangle, where each link fails alone: in state AC 12.000 goes other ways, and its cuts pay for 66.7 per cent of the bound
 /// let rows = state_rows(alloc, &instance, &plan)?;
 /// ```
+#[tactic(auto, using(crate::proofs::RowLists::states_none))]
 pub fn state_rows(
     alloc: Global,
     instance: &Instance,
@@ -127,7 +128,8 @@ pub fn state_rows(
     let caps = capacities(alloc, instance.net, &plan.counts)?;
     let mut rows = List::new(alloc);
     for state in 0..instance.states.count() {
-        rows.push(state_row(alloc, instance, plan, caps.nums.items(), state)?)?;
+        let row = state_row(alloc, instance, plan, caps.nums.items(), state)?;
+        rows.push(row)?;
     }
     Ok(rows)
 }
