@@ -86,7 +86,11 @@ none_at_all n den k load capacity within is zero e lt = ⊎_elim
     let product : load k * capacity e ≡ 0 * capacity e = ap (λ x. x * capacity e) zero in
     let low : load e * capacity k ≤ 0 = omega (arith, most, product) in
     ⊎_elim
-    (λ loaded. let one : 1 * 1 ≤ load e * capacity k = mul-le-mul (omega (arith, loaded)) (omega (arith, is.counts)) in absurd (omega (arith, one, low)))
+    (λ loaded.
+    let some_load : 1 ≤ load e = omega (arith, loaded) in
+    let some_capacity : 1 ≤ capacity k = omega (arith, is.counts) in
+    let one : 1 * 1 ≤ load e * capacity k = mul-le-mul some_load some_capacity in
+    absurd (omega (arith, one, low)))
     (λ ge. omega (arith, ge))
     (cases_lt 0 (load e)))
     (λ ge. zero_within (load e) (capacity e) den (within e) (omega (arith, ge)))

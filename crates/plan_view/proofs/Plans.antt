@@ -9,7 +9,7 @@ use Rattle.net_core.proofs.Networks.{modules_sound}
 use Rattle.net_core.specs.States.{IsStateList}
 use Rattle.module_choice.proofs.Pairs.{capacities_long, counts_long, counts_shape}
 use Rattle.net_core.proofs.Lists.{all_at}
-use Rattle.plan_terms.specs.Terms.{AreDemands, Case, Carries, Flow, IsFlow, IsModule, IsNetwork, Joins, Link, Listed, Routing, capacities, graph_in, load, modules_capacity, raw_value, sent}
+use Rattle.plan_terms.specs.Terms.{AreDemands, Case, Carries, Flow, IsDemand, IsFlow, IsModule, IsNetwork, Joins, Link, Listed, Routing, capacities, graph_in, load, modules_capacity, raw_value, sent}
 use Rattle.plan_types.specs.Terms.{lines_of_certificate}
 use Rattle.plan_types.specs.declared.plan.Plan.{Plan}
 use Rattle.plan_view.specs.Loads.{IsFullestLink, den_in, load_in, routing_in}
@@ -81,7 +81,9 @@ module _ (p : Case) (plan : Plan) (sound : IsSoundPlan p plan) where
 
   pub load_low : (s e : ℕ) → load_in plan.routings s e ≤ 2 ^ 108
   load_low s e =
-      let product : get_or (capacities p.links plan.counts) e 0 * den_in plan.routings s ≤ 2 ^ 46 * 2 ^ 62 = mul-le-mul (omega (arith, capacity_low e)) (omega (arith, den_low s)) in
+      let capacity : get_or (capacities p.links plan.counts) e 0 ≤ 2 ^ 46 = omega (arith, capacity_low e) in
+      let den : den_in plan.routings s ≤ 2 ^ 62 = omega (arith, den_low s) in
+      let product : get_or (capacities p.links plan.counts) e 0 * den_in plan.routings s ≤ 2 ^ 46 * 2 ^ 62 = mul-le-mul capacity den in
       omega (arith, product, load_within s e)
 
   -- what a routing brings of a known demand along a path
@@ -91,9 +93,10 @@ module _ (p : Case) (plan : Plan) (sound : IsSoundPlan p plan) where
       let f = get_or (routing_in plan.routings s).flows i d in
       let flow : IsFlow (Joins (graph_in p s)) p.demands f = (carry_at s lt).flows i d in_list in
       let met : sent (routing_in plan.routings k).flows f.demand ≡ flow.of.need * 1 * den_in plan.routings k = (carry_at k inside).met f.demand flow.of flow.at in
-      let demand = all_at _ p.demands f.demand flow.of are.each flow.at in
-      let need = demand.need in
-      let product : flow.of.need * den_in plan.routings k ≤ 2 ^ 40 * 2 ^ 62 = mul-le-mul (omega (arith, need)) (omega (arith, den_low k)) in
+      let demand : IsDemand n flow.of = all_at (IsDemand n) p.demands f.demand flow.of are.each flow.at in
+      let need : flow.of.need ≤ 2 ^ 40 = omega (arith, demand.need) in
+      let den : den_in plan.routings k ≤ 2 ^ 62 = omega (arith, den_low k) in
+      let product : flow.of.need * den_in plan.routings k ≤ 2 ^ 40 * 2 ^ 62 = mul-le-mul need den in
       omega (arith, brought_sent (routing_in plan.routings k).flows f, met, product)
 
   -- the routing of each state is low
@@ -150,11 +153,11 @@ module _ (p : Case) (plan : Plan) (sound : IsSoundPlan p plan) where
       let n : normal ≡ routing_in plan.routings 0 = routing_is 0 normal (omega arith) zero_is in
       let e : r ≡ routing_in plan.routings s = routing_is s r le is in
       let moved : IsCeiling (rerouted normal (routing_in plan.routings s) (routing_in plan.routings s).flows) (den_in plan.routings s * normal.den) row.rerouted =
-          subst (λ (x : Routing). IsCeiling (rerouted normal x x.flows) (x.den * normal.den) row.rerouted) e again in
+      subst (λ (x : Routing). IsCeiling (rerouted normal x x.flows) (x.den * normal.den) row.rerouted) e again in
       let first : IsFullestLink (length caps) (load_in plan.routings s) (slice_index caps) row.fullest =
-          subst (λ (x : Routing). IsFullestLink (length caps) (load x.flows) (slice_index caps) row.fullest) e fullest in
+      subst (λ (x : Routing). IsFullestLink (length caps) (load x.flows) (slice_index caps) row.fullest) e fullest in
       let own : IsFullestLink (length cs) (load_in plan.routings s) (slice_index cs) row.fullest =
-          subst (λ (x : List ℕ). IsFullestLink (length x) (load_in plan.routings s) (slice_index x) row.fullest) same first in
+      subst (λ (x : List ℕ). IsFullestLink (length x) (load_in plan.routings s) (slice_index x) row.fullest) same first in
       let there : IsUseOf (routing_in plan.routings s) caps row.fullest row.used = subst (λ (x : Routing). IsUseOf x caps row.fullest row.used) e used in
       record {
         state = state;

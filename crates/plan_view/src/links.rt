@@ -50,12 +50,7 @@ fn link_row(
 }
 
 /// The row of the link at a place, where these are the capacities of all links.
-fn row_at(
-    instance: &Instance,
-    plan: &Plan,
-    caps: &[u128],
-    e: u32,
-) -> Result<LinkRow, NoMemory>
+fn row_at(instance: &Instance, plan: &Plan, caps: &[u128], e: u32) -> Result<LinkRow, NoMemory>
     requires sound { IsSoundPlan (case_of instance.now) plan.now }
     requires inside { e < length instance.now.net.now.links }
     requires capacities { caps.now ≡ capacities instance.now.net.now.links plan.now.counts }
@@ -75,7 +70,7 @@ fn row_at(
 /// // the triangle, where each link fails alone: AB has 20.000 and carries 12.000 in state AC, 60 per cent
 /// let rows = link_rows(alloc, &instance, &plan)?;
 /// ```
-#[tactic(auto, using(crate::proofs::RowLists::links_none, crate::proofs::RowLists::links_more))]
+#[tactic(auto, using(crate::proofs::RowLists::links_none))]
 pub fn link_rows(alloc: Global, instance: &Instance, plan: &Plan) -> Result<List<LinkRow>, NoMemory>
     requires { IsSoundPlan (case_of instance.now) plan.now }
     ensures { IfOk result (AreLinkRows instance.now.net.now.links plan.now (length instance.now.net.now.links)) }
@@ -83,7 +78,8 @@ pub fn link_rows(alloc: Global, instance: &Instance, plan: &Plan) -> Result<List
     let caps = capacities(alloc, instance.net, &plan.counts)?;
     let mut rows = List::new(alloc);
     for e in 0..instance.net.links().len() as u32 {
-        rows.push(row_at(instance, plan, caps.nums.items(), e)?)?;
+        let row = row_at(instance, plan, caps.nums.items(), e)?;
+        rows.push(row)?;
     }
     Ok(rows)
 }
