@@ -1,7 +1,7 @@
 -- the first of the greatest fractions, one fraction after another
-use Rattle.std.proofs.Common.{◌≡◌, ℕ, ◌+◌, ◌*◌, ◌<◌, ◌≤◌, Option, None, Some, sym, ap, subst, arith, ⊎_elim}
-use Rattle.std.proofs.Math.Nat.{mul-le-mul, mul-le-mul_left, mul-le-mul_right, le_of_mul-le-mul_right}
-use Rattle.net_core.proofs.Library.{cases_eq, cases_lt}
+use Rattle.std.proofs.Common.{◌≡◌, ℕ, ◌+◌, ◌*◌, ◌<◌, ◌≤◌, sym, ap, subst, arith, ⊎_elim}
+use Rattle.std.proofs.Math.Nat.{mul-le-mul, mul-le-mul_right}
+use Rattle.net_core.proofs.Library.{cases_lt}
 use Rattle.plan_view.specs.Loads.{IsFirstOfGreatest}
 
 -- a / b is at most c / d, and that less than e / f

@@ -1,5 +1,5 @@
 -- rows, one more after another
-use Rattle.std.proofs.Common.{◌≡◌, ℕ, zero, suc, ◌+◌, ◌<◌, List, [], ◌∷◌, ◌++◌, None, Some, ◌⊎◌, inl, inr, length, length-append, slice_get, refl, sym, ap, subst, arith, ⊎_elim}
+use Rattle.std.proofs.Common.{◌≡◌, ℕ, zero, suc, ◌+◌, List, [], ◌∷◌, ◌++◌, None, Some, ◌⊎◌, inl, inr, length, length-append, slice_get, refl, ap, subst, arith, ⊎_elim}
 use Rattle.net_core.proofs.Library.{slice_get_within}
 use Rattle.plan_terms.specs.Terms.{Case, Link, Routing}
 use Rattle.plan_types.specs.declared.plan.Plan.{Plan}

@@ -1,5 +1,5 @@
 -- sums over flows, one flow after another
-use Rattle.std.proofs.Common.{◌≡◌, ℕ, ◌+◌, ◌<◌, ◌≤◌, Bool, if◌then◌else◌, List, ◌∷◌, drop, get_or, length, take, sym, ap, ◌∙◌}
+use Rattle.std.proofs.Common.{◌≡◌, ℕ, ◌+◌, ◌<◌, ◌≤◌, if◌then◌else◌, List, ◌∷◌, drop, get_or, length, take, sym, ap, ◌∙◌}
 use Rattle.std.proofs.lemmas.List.Sums.{sum_by_more, sum_by_more_le}
 use Rattle.net_core.proofs.Library.{at_drop_more}
 use Rattle.plan_terms.specs.Terms.{Flow, Routing, load, names_link}

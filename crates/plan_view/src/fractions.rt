@@ -1,4 +1,4 @@
-ghost use Rattle.std.specs.Prelude.{◌≡◌, ◌*◌, ◌<◌, ◌^◌, ◌↔◌, ◌+◌, ◌≤◌, IsTrue};
+ghost use Rattle.std.specs.Prelude.{◌≡◌, ◌*◌, ◌<◌, ◌↔◌, ◌+◌, ◌≤◌, IsTrue};
 ghost use Rattle.plan_view.specs.Rounding.{IsCeiling, IsNearest};
 
 use checked_fraction::cmp;

@@ -1,4 +1,4 @@
-ghost use Rattle.std.specs.Prelude.{◌≡◌, ℕ, ◌+◌, ◌*◌, ◌<◌, ◌≤◌, ◌^◌, ◌↔◌, All, IsTrue, length, slice_index};
+ghost use Rattle.std.specs.Prelude.{ℕ, ◌+◌, ◌*◌, ◌<◌, ◌^◌, ◌↔◌, IsTrue, length, slice_index};
 ghost use Rattle.plan_terms.specs.Terms.{load};
 ghost use Rattle.plan_view.specs.Loads.{den_in, load_in, IsFirstIfAny, IsFirstOfGreatest};
 

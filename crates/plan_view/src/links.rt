@@ -1,4 +1,4 @@
-ghost use Rattle.std.specs.Prelude.{◌≡◌, ℕ, ◌+◌, ◌*◌, ◌<◌, ◌≤◌, ◌^◌, All, IfOk, length, slice_index};
+ghost use Rattle.std.specs.Prelude.{◌≡◌, ℕ, ◌+◌, ◌*◌, ◌<◌, ◌≤◌, ◌^◌, All, IfOk, length};
 ghost use Rattle.plan_terms.specs.Terms.{IsModule, capacities, case_of, modules_capacity};
 ghost use Rattle.plan_view.specs.Loads.{den_in, load_in};
 ghost use Rattle.plan_view.specs.Rows.{AreLinkRows, IsLinkRow, IsRowAt};

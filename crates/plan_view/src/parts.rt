@@ -1,4 +1,4 @@
-ghost use Rattle.std.specs.Prelude.{◌≡◌, ℕ, ◌-◌, ◌*◌, ◌^◌, ◌<◌, ◌≤◌, All, None, length, max, min};
+ghost use Rattle.std.specs.Prelude.{◌≡◌, ◌-◌, ◌*◌, ◌^◌, ◌<◌, ◌≤◌, All, None, length, min};
 ghost use Rattle.plan_terms.specs.Terms.{raw_value};
 ghost use Rattle.plan_types.specs.Terms.{lines_of_certificate};
 ghost use Rattle.plan_view.specs.Parts.{IsGap, paid_by};

@@ -1,4 +1,4 @@
-ghost use Rattle.std.specs.Prelude.{◌≡◌, ℕ, ◌+◌, ◌*◌, ◌<◌, ◌≤◌, ◌^◌, All, IfOk, IfSome, length, slice_index};
+ghost use Rattle.std.specs.Prelude.{◌≡◌, ◌+◌, ◌<◌, ◌≤◌, ◌^◌, All, IfOk, IfSome, length, slice_index};
 ghost use Rattle.plan_terms.specs.Terms.{capacities, case_of, load};
 ghost use Rattle.plan_view.specs.Loads.{IsFirstIfAny, IsFullestLink};
 ghost use Rattle.plan_view.specs.Rows.{AreStateRows, IsStateRow, IsUseOf, failed_links};

@@ -1,4 +1,4 @@
-use Rattle.std.proofs.Common.{◌≡◌, ◌*◌, ◌<◌, List, ℕ, get_or, length, ap, subst, ◌∙◌, sym, arith, refl}
+use Rattle.std.proofs.Common.{◌≡◌, ◌*◌, ◌<◌, List, ℕ, get_or, length, ap, subst, ◌∙◌, arith, refl}
 use Rattle.net_core.proofs.Networks.{few_links}
 use Rattle.module_choice.proofs.Pairs.{capacities_long}
 use Rattle.plan_terms.specs.Terms.{Link, Listed, Routing, case_of, raw_value}
