@@ -1,5 +1,10 @@
+ghost use Rattle.std.specs.Prelude.{IsTrue};
+ghost use Rattle.plan_terms.specs.Terms.{case_of};
+ghost use Rattle.plan_report.specs.Terms.{IsPlanInForm, known_to};
+ghost use Rattle.plan_view.specs.Terms.{IsSoundPlan};
+
 use crate::rows::{LinkWant, LoadWant, StateWant, are_link_rows, are_load_rows, are_state_rows};
-use net_core::{LinkId, Problem};
+use net_core::{Instance, LinkId, Problem};
 use plan_checker::{CheckAnswer, check_plan};
 use plan_types::{Outcome, Plan};
 use plan_view::{PlanSummary, gap_of, link_rows, load_rows, plan_summary, state_rows};
@@ -191,16 +196,35 @@ fn problem_of(alloc: Global, worked: &Worked) -> Option<Problem> {
     })
 }
 
-/// Whether a check accepts the plan, and its rows are as wanted.
-fn is_seen(alloc: Global, p: &Problem, plan: &Plan, worked: &Worked) -> Option<bool> {
-    let CheckAnswer::Accepted = check_plan(alloc, &p.net, &p.states, &p.demands, plan, false) else {
-        return Some(false);
-    };
-    let instance = p.instance();
-    let links = link_rows(alloc, &instance, plan).ok()?;
-    let states = state_rows(alloc, &instance, plan).ok()?;
-    let loads = load_rows(alloc, &instance, plan, 1).ok()?;
-    let whole = plan_summary(alloc, &instance, plan).ok()?;
+/// Whether a check accepts the plan.
+fn is_accepted(alloc: Global, instance: &Instance, plan: &Plan) -> bool
+    requires { IsPlanInForm (known_to (case_of instance.now)) plan.now }
+    ensures { IsTrue result → IsSoundPlan (case_of instance.now) plan.now }
+{
+    match check_plan(
+        alloc,
+        instance.net,
+        instance.states,
+        instance.demands,
+        plan,
+        false,
+    ) {
+        CheckAnswer::Accepted => true,
+        _ => false,
+    }
+}
+
+/// Whether the rows of a sound plan are as wanted.
+fn are_seen(alloc: Global, instance: &Instance, plan: &Plan, worked: &Worked) -> Option<bool>
+    requires { IsSoundPlan (case_of instance.now) plan.now }
+{
+    if instance.states.count() < 2 {
+        return None;
+    }
+    let links = link_rows(alloc, instance, plan).ok()?;
+    let states = state_rows(alloc, instance, plan).ok()?;
+    let loads = load_rows(alloc, instance, plan, 1).ok()?;
+    let whole = plan_summary(alloc, instance, plan).ok()?;
     Some(
         are_link_rows(&links, &worked.links)
             && are_state_rows(&states, worked.states)
@@ -209,12 +233,28 @@ fn is_seen(alloc: Global, p: &Problem, plan: &Plan, worked: &Worked) -> Option<b
     )
 }
 
+/// Whether a check accepts the plan, and its rows are as wanted.
+fn is_seen(alloc: Global, instance: &Instance, plan: &Plan, worked: &Worked) -> Option<bool>
+    requires { IsPlanInForm (known_to (case_of instance.now)) plan.now }
+{
+    if is_accepted(alloc, instance, plan) {
+        are_seen(alloc, instance, plan, worked)
+    } else {
+        Some(false)
+    }
+}
+
 /// Whether what people read of a row's plan is as wanted.
 fn is_right(alloc: Global, worked: &Worked) -> Option<bool> {
     let p = problem_of(alloc, worked)?;
     let report = read_report(alloc, &p.net, &p.states, worked.report.as_bytes()).ok()?;
+    let instance = Instance {
+        net: &p.net,
+        states: &p.states,
+        demands: &p.demands,
+    };
     match report.outcomes.items().first()? {
-        Outcome::Planned { plan, .. } => is_seen(alloc, &p, plan, worked),
+        Outcome::Planned { plan, .. } => is_seen(alloc, &instance, plan, worked),
         Outcome::Unsurvivable { .. } => None,
     }
 }
