@@ -8,7 +8,7 @@ use Rattle.checked_fraction.specs.declared.row.Row.{Row}
 use Rattle.module_prices.specs.declared.cheapest.UnitPair.{UnitPair}
 use Rattle.simplex_law.proofs.Lemmas.{times_nonneg, times_nonpositive}
 use Rattle.master_bound.specs.inner.Gaining.{cost_below}
-use Rattle.master_bound.specs.inner.Narrow.{length_entry}
+use Rattle.master_bound.specs.Narrow.{length_entry}
 
 next : (n : ℕ) → n + 1 ≡ suc n
 next n = omega arith

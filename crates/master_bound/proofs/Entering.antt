@@ -17,7 +17,7 @@ use Rattle.master_law.specs.Terms.{cut_entry, cut_gain, IsCutColumn}
 use Rattle.master_bound.specs.declared.candidate.Candidate.{Candidate}
 use Rattle.master_bound.specs.declared.rating.Rating.{Rating}
 use Rattle.master_bound.specs.inner.Gaining.{CutGains, IsCandidate, IsCandidateAt, cost_below}
-use Rattle.master_bound.specs.inner.Narrow.{length_entry}
+use Rattle.master_bound.specs.Narrow.{length_entry}
 use Rattle.master_bound.specs.inner.Programs.{AreEntriesOf, IsColumnOfCut, entry_in}
 
 same : (x : ℤ) → x ≡ x

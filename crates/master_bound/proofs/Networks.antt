@@ -11,7 +11,7 @@ use Rattle.simplex_core.proofs.Starts.{each_at}
 use Rattle.master_law.specs.Terms.{IsMasterEvidence, IsMasterColumn, IsSameCut, master_bound, master_slack, AreUnitPairs}
 use Rattle.master_law.proofs.Packing.{master_packing}
 use Rattle.master_law.proofs.Slacks.{cut_evidence, right_evidence}
-use Rattle.master_bound.specs.inner.Narrow.{HaveWideEntry, IsNarrowCut, IsWideCut}
+use Rattle.master_bound.specs.Narrow.{HaveWideEntry, IsNarrowCut, IsWideCut}
 
 -- the modules of a network are sound, and its links are few
 pub network_modules : (net : Network) → All (λ l. All IsModule l.modules) net.links

@@ -1,3 +1,4 @@
 pub mod Answers
+pub mod Narrow
 pub mod Optima
 pub mod inner

@@ -6,7 +6,7 @@ use Rattle.plan_terms.specs.Terms.{MasterColumn, Link, CutLine}
 use Rattle.simplex_law.specs.Terms.{ColumnOf, AreNames, IsOptimum}
 use Rattle.simplex_core.specs.declared.optimum.Optimum.{Optimum}
 use Rattle.master_law.specs.Terms.{HasWideValue, IsMasterColumn, master_bound}
-use Rattle.master_bound.specs.inner.Narrow.{IsWideCut}
+use Rattle.master_bound.specs.Narrow.{IsWideCut}
 
 -- a best basis of the master program of the cuts, with values that fill its rows and prices of equal value
 pub record IsMasterOptimum (links : List Link) (pairs : List UnitPair) (cuts : List CutLine) (best : Optimum MasterColumn) : Type 0 where

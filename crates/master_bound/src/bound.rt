@@ -6,7 +6,7 @@ ghost use Rattle.simplex_law.specs.Terms.{IsPacking};
 ghost use Rattle.master_law.specs.Terms.{IsMasterEvidence, IsMasterColumn, IsSameCut, cut_gain, master_bound, master_slack, AreUnitPairs, share_cost};
 ghost use Rattle.master_bound.specs.Answers.{IsBestOf, IsMasterAnswer};
 ghost use Rattle.master_bound.specs.Optima.{IsMasterOptimum, IsTooWideAt, IsWideOptimum};
-ghost use Rattle.master_bound.specs.inner.Narrow.{IsNarrowCut, IsWideCut};
+ghost use Rattle.master_bound.specs.Narrow.{IsNarrowCut, IsWideCut};
 ghost use Rattle.master_bound.specs.inner.Programs.{IsMasterSolution, IsWideAnswer};
 ghost use Rattle.master_bound.specs.inner.Shares.{IsShareOfDuals};
 

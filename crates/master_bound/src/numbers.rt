@@ -1,6 +1,6 @@
 ghost use Rattle.std.specs.Prelude.{◌≡◌, ◌≤◌, ◌<◌, ◌^◌, All, length, true, false};
 ghost use Rattle.master_law.specs.Terms.{cut_gain};
-ghost use Rattle.master_bound.specs.inner.Narrow.{length_entry, HaveNarrowEntries, HaveWideEntry, IsNarrowCut, IsWideCut, FindsWideCut};
+ghost use Rattle.master_bound.specs.Narrow.{length_entry, HaveNarrowEntries, HaveWideEntry, IsNarrowCut, IsWideCut, FindsWideCut};
 
 use metric_cut::fixed_along;
 use module_prices::UnitPair;

@@ -1,6 +1,6 @@
 ghost use Rattle.std.specs.Prelude.{◌≡◌, ◌<◌, ◌^◌, ◌*ℤ◌, ◌≤ℤ◌, ◌⊎◌, ℕ, None, length, pos};
 ghost use Rattle.checked_fraction.specs.Terms.{num, IsNarrow};
-ghost use Rattle.master_bound.specs.inner.Narrow.{length_entry, HaveNarrowEntries};
+ghost use Rattle.master_bound.specs.Narrow.{length_entry, HaveNarrowEntries};
 ghost use Rattle.master_bound.specs.inner.Gaining.{IsSurplus, IsCandidate, IsCandidateAt};
 
 use crate::candidate::Candidate;

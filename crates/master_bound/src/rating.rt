@@ -1,7 +1,7 @@
 ghost use Rattle.std.specs.Prelude.{◌≡◌, ◌*◌, ◌≤◌, ◌<◌, ◌^◌, All, IfOk, length, map};
 ghost use Rattle.checked_fraction.specs.Terms.{IsNarrow};
 ghost use Rattle.master_law.specs.Terms.{cut_gain};
-ghost use Rattle.master_bound.specs.inner.Narrow.{HaveNarrowEntries, IsNarrowCut};
+ghost use Rattle.master_bound.specs.Narrow.{HaveNarrowEntries, IsNarrowCut};
 
 use crate::numbers::{entry_of, gain_of};
 use module_prices::UnitPair;

@@ -1,5 +1,5 @@
 ghost use Rattle.std.specs.Prelude.{◌≡◌, ◌≤◌, ◌<◌, ◌^◌, All, length};
-ghost use Rattle.master_bound.specs.inner.Narrow.{HaveNarrowEntries};
+ghost use Rattle.master_bound.specs.Narrow.{HaveNarrowEntries};
 
 use module_prices::UnitPair;
 use net_core::{CutLine, List, Network};

@@ -1,12 +1,13 @@
 -- what is tested of a basis, its values and its prices
-use Rattle.std.specs.Prelude.{ℕ, ℤ, ◌≡◌, ◌<◌, ◌^◌, ◌*ℤ◌, ◌≤ℤ◌, ◌*◌, List, Some, pos, get_or, length, slice_get, slice_index}
+use Rattle.std.specs.Prelude.{ℕ, ℤ, ◌≡◌, ◌<◌, ◌^◌, ◌*ℤ◌, ◌≤ℤ◌, List, Some, pos, get_or, length, slice_get}
 use Rattle.checked_fraction.specs.Terms.{num}
 use Rattle.checked_fraction.specs.declared.row.Row.{Row}
 use Rattle.module_prices.specs.declared.cheapest.UnitPair.{UnitPair}
 use Rattle.plan_terms.specs.Terms.{MasterColumn, Link, CutLine}
 use Rattle.simplex_law.specs.Terms.{dot, int_sum, unit_vector}
-use Rattle.master_law.specs.Terms.{cut_gain, master_bound, unit_capacities}
+use Rattle.master_law.specs.Terms.{cut_gain, master_bound}
 use Rattle.master_bound.specs.Answers.{cut_at}
+use Rattle.master_bound.specs.Narrow.{length_entry}
 use Rattle.length_master.specs.declared.priced.Balance.{Balance}
 use Rattle.length_master.specs.declared.row.KeptRow.{KeptRow}
 use Rattle.length_master.specs.inner.Slots.{ArePlacedRows, row_at, slot_entry, slot_gain, slot_lengths, slot_name}
@@ -26,10 +27,6 @@ filled_below pairs cuts rows values e n = int_sum n (λ j. pos (get_or values j 
 -- values over den fill the first n rows
 abbrev pub AreFilled : List UnitPair → List CutLine → List KeptRow → List ℕ → ℕ → ℕ → Type 0
 AreFilled pairs cuts rows values den n = (e : ℕ) → e < n → filled_below pairs cuts rows values e (length rows) ≡ pos den *ℤ master_bound pairs e
-
--- what a unit of lengths takes of the row of link e
-abbrev pub length_entry : List UnitPair → List ℕ → ℕ → ℕ
-length_entry pairs lengths e = slice_index lengths e * slice_index (unit_capacities pairs) e
 
 -- what the entries of a cut cost at prices
 abbrev pub cut_cost : List UnitPair → Row → CutLine → ℤ

@@ -7,7 +7,7 @@ use Rattle.plan_terms.specs.Terms.{Link, CutLine}
 use Rattle.simplex_law.specs.Terms.{dot}
 use Rattle.master_law.specs.Terms.{cut_gain}
 use Rattle.master_bound.specs.declared.candidate.Candidate.{Candidate}
-use Rattle.master_bound.specs.inner.Narrow.{length_entry}
+use Rattle.master_bound.specs.Narrow.{length_entry}
 
 -- what the first n entries of lengths cost
 abbrev pub cost_below : Row → List UnitPair → List ℕ → ℕ → ℤ

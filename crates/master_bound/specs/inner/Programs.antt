@@ -11,7 +11,7 @@ use Rattle.simplex_core.specs.declared.optimum.Optimum.{Optimum}
 use Rattle.master_law.specs.Terms.{cut_gain, master_bound, master_slack, IsCutColumn}
 use Rattle.master_bound.specs.declared.answer.MasterFault.{MasterFault}
 use Rattle.master_bound.specs.declared.answer.MasterFault.TheVariants.{Wide}
-use Rattle.master_bound.specs.inner.Narrow.{length_entry}
+use Rattle.master_bound.specs.Narrow.{length_entry}
 
 -- the entry of a row, unless it is 0
 abbrev pub entry_in : ℕ → ℕ → List Entry

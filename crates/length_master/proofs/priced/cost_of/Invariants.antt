@@ -2,7 +2,7 @@ use Rattle.std.proofs.Common.{◌≡◌}
 use Rattle.std.proofs.Math.IntN.{pos}
 use Rattle.checked_fraction.specs.Terms.{num}
 use Rattle.simplex_law.specs.Terms.{dot}
-use Rattle.length_master.specs.inner.Tests.{length_entry}
+use Rattle.master_bound.specs.Narrow.{length_entry}
 use Rattle.length_master.proofs.priced.cost_of.Given as goal
 
 -- the sum so far

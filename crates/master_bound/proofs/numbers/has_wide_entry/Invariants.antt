@@ -1,5 +1,5 @@
 use Rattle.std.proofs.Common.{ℕ, ◌<◌, ◌^◌}
-use Rattle.master_bound.specs.inner.Narrow.{length_entry}
+use Rattle.master_bound.specs.Narrow.{length_entry}
 use Rattle.master_bound.proofs.numbers.has_wide_entry.Given as goal
 
 -- the entries so far are narrow

@@ -1,7 +1,7 @@
 use Rattle.std.proofs.Common.{All, arith, subst}
 use Rattle.std.proofs.lemmas.List.{take_all}
 use Rattle.net_core.proofs.Library.{All-more}
-use Rattle.master_bound.specs.inner.Narrow.{IsNarrowCut}
+use Rattle.master_bound.specs.Narrow.{IsNarrowCut}
 use Rattle.master_bound.proofs.numbers.wide_cut.Goals as goal
 
 pub loop-k-preserved : goal.loop-k-preserved

@@ -1,5 +1,5 @@
 use Rattle.std.proofs.Common.{All, take}
-use Rattle.master_bound.specs.inner.Narrow.{IsNarrowCut}
+use Rattle.master_bound.specs.Narrow.{IsNarrowCut}
 use Rattle.master_bound.proofs.numbers.wide_cut.Given as goal
 
 -- the cuts so far are narrow
