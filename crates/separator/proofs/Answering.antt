@@ -176,7 +176,7 @@ module _ (p : Case) (caps : Caps) where
 
   -- in a history in which each cut stands where it stood
   module _ (h later : List Entry) (stands : (cut : ℕ × List ℕ) (spot : Spot) → IsSpotIn h cut spot → IsSpotIn later cut spot) where
-    answer_later : (s : ℕ) (answer : Separated) → IsAnswerOf p caps h s answer → IsAnswerOf p caps later s answer
+    pub answer_later : (s : ℕ) (answer : Separated) → IsAnswerOf p caps h s answer → IsAnswerOf p caps later s answer
     answer_later s (Routed routing) is = is
     answer_later s (Violated line spot) is = (is.0, is.1, stands (cut_of_line line) spot is.2)
     answer_later s (Wide evidence) is = is

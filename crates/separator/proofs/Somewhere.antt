@@ -1,5 +1,5 @@
 -- lengths that are priced in a state of a network are priced somewhere
-use Rattle.std.proofs.Common.{◌≡◌, ◌∙◌, ℕ, zero, suc, ◌^◌, ◌<◌, ◌≤◌, ◌||◌, inl, inr, ⊎_elim, false, cond, List, [], ◌∷◌, All, length, refl, sym, ap, subst, arith}
+use Rattle.std.proofs.Common.{◌≡◌, ◌∙◌, ℕ, zero, suc, ◌^◌, ◌<◌, ◌≤◌, ◌||◌, inl, inr, ⊎_elim, IfSome, None, Option, Some, false, cond, List, [], ◌∷◌, All, length, refl, sym, ap, subst, arith}
 use Rattle.net_core.proofs.Library.{∥∥₁_elim, props, cases_Bool, cases_eq, All-cons, All-nil, slice_get_within}
 use Rattle.std.proofs.lemmas.Bool.{eq-eqb, ne_eqb}
 use Rattle.plan_terms.specs.Terms.{Demand, RouteColumn, LinkId, Caps, Listed, AreDemands, Graph, Joins, IsNetwork, AreStates, fails, names_link}
@@ -189,3 +189,8 @@ module _ (g : Graph) (network : ∥ IsNetwork g.nodes g.links ∥₁) (demands :
 -- a violated cut of a set of nodes
 pub boundary_found : (g : Graph) (demands : List Demand) (caps : Caps) (cut : Cut) → IsBoundaryCut g demands caps cut → IsFoundCutOf g demands caps cut
 boundary_found g demands caps cut is = record { of = is.of; lengths = boundary_lengths is.is_member g.links; priced = is.priced; keeps = is.keeps; violated = is.violated }
+
+-- so it is of a set that may be found, of the same surviving graph
+pub boundary_may_be : (g h : Graph) (demands : List Demand) (caps : Caps) (found : Option Cut) → g ≡ h → IfSome found (IsBoundaryCut g demands caps) → IfSome found (IsFoundCutOf h demands caps)
+boundary_may_be g h demands caps None same is = tt
+boundary_may_be g h demands caps (Some cut) same is = boundary_found h demands caps cut (subst (λ (k : Graph). IsBoundaryCut k demands caps cut) same is)

@@ -1,5 +1,5 @@
 -- what a separator has seen of a history, what of it the separator has committed, and what it answers
-use Rattle.std.specs.Prelude.{◌≡◌, ◌≢◌, ℕ, ◌+◌, ◌^◌, ◌<◌, ◌≤◌, ◌⊎◌, ◌++◌, List, [], ◌∷◌, All, Some, drop, length, slice_get, take}
+use Rattle.std.specs.Prelude.{◌≡◌, ◌≢◌, ℕ, ◌+◌, ◌^◌, ◌<◌, ◌≤◌, ◌⊎◌, ◌++◌, List, [], ◌∷◌, All, AllPairs, Some, drop, length, slice_get, take}
 use Rattle.std.specs.List.{flat_map}
 use Rattle.plan_terms.specs.Terms.{Demand, Entry, Edited, Pooled, Network, Caps, CutLine, States, Case, graph_in, Graph, Joins, case, IsCut, IsRight, Keeps, Violates}
 use Rattle.plan_types.specs.declared.certificate.Spot.{Spot}
@@ -112,6 +112,12 @@ cut_answered (Routed routing) = []
 cut_answered (Violated line spot) = cut_of_line line ∷ []
 cut_answered (Wide evidence) = []
 
--- the cuts that are answered, in the order of the states
+-- the cuts that are answered, in the order of the answers
 abbrev pub cuts_answered : List StateAnswer → List (ℕ × List ℕ)
 cuts_answered answers = flat_map (λ a. cut_answered a.answer) answers
+
+-- Right answers of different states. Where none of them is a cut, there is one for each state, in their order.
+pub record AreSomeAnswers (p : Case) (caps : Caps) (history : List Entry) (answers : List StateAnswer) : Type 0 where
+  pub different : AllPairs (λ x y. x.state.0 ≢ y.state.0) answers
+  pub right : All (λ a. (a.state.0 ≤ length p.listed) × IsAnswerOf p caps history a.state.0 a.answer) answers
+  pub cutless : cuts_answered answers ≡ [] → AreStateAnswers p caps history answers

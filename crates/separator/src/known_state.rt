@@ -3,7 +3,7 @@ ghost use Rattle.plan_terms.specs.Terms.{graph_in, case_of};
 ghost use Rattle.route_law.specs.Terms.{AreJoined};
 ghost use Rattle.separator.specs.Findings.{IsFinding};
 
-use crate::one_state::separate_from;
+use crate::one_state::{route_from, separate_from};
 use flow_router::RouteAnswer;
 use net_core::{Caps, Instance, List, NoMemory, RouteColumn, StateId};
 use std::alloc::Global;
@@ -42,6 +42,31 @@ impl KnownState {
         ensures same { OnErr result (self.new.columns ≡ self.old.columns) }
     {
         separate_from(
+            alloc,
+            instance,
+            state,
+            caps,
+            &mut self.columns,
+            &mut self.warm,
+        )
+    }
+
+    /// Answers the state as `route_from` does. Where memory runs out, the columns are as they were.
+    pub fn route(
+        &mut self,
+        alloc: Global,
+        instance: &Instance,
+        state: StateId,
+        caps: &Caps,
+    ) -> Result<RouteAnswer, NoMemory>
+        requires state { state.0 < length instance.now.states.now.listed + 1 }
+        requires scale { 0 < caps.now.scale }
+        requires caps { length caps.now.nums ≡ length instance.now.net.now.links }
+        requires joined { AreJoined (graph_in (case_of instance.now) state.0) instance.now.demands.now }
+        ensures found { IfOk result (IsFinding (graph_in (case_of instance.now) state.0) instance.now.demands.now caps.now) }
+        ensures same { OnErr result (self.new.columns ≡ self.old.columns) }
+    {
+        route_from(
             alloc,
             instance,
             state,

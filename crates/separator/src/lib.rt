@@ -16,16 +16,19 @@
 
 mod admission;
 pub mod answers;
+mod found;
 mod known_state;
 pub mod one_by_one;
 mod one_state;
 mod ranges;
 pub mod separating;
+mod some_states;
 mod warm_start;
 
 pub use admission::{line_of, spot_after};
 pub use answers::{Separated, StateAnswer};
 pub use known_state::KnownState;
 pub use one_by_one::OneByOne;
-pub use one_state::{separate_from, separate_state};
+pub use one_state::{separate_from, separate_state, set_in_state};
 pub use separating::Separate;
+pub use some_states::{is_cut, joined};

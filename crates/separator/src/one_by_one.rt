@@ -3,12 +3,13 @@ ghost use Rattle.plan_terms.specs.Terms.{case_of, IsSurvivable};
 ghost use Rattle.separator.specs.Separators.{IsAnswerOf, cut_answered, cuts_after};
 ghost use Rattle.separator.specs.inner.Working.{AreAnswersBelow, PoolsBelow, PoolsOf};
 
-use crate::admission::{line_and_spot, spot_of};
-use crate::answers::{Separated, StateAnswer};
+use crate::admission::spot_of;
+use crate::answers::StateAnswer;
+use crate::found::answer_found;
 use crate::separating::Separate;
+use crate::some_states::answer_some;
 use crate::warm_start::KnownStates;
 use cut_pool::Board;
-use flow_router::RouteAnswer;
 use metric_cut::Cut;
 use net_core::{Caps, Demands, Instance, List, NoMemory, StateId};
 use plan_types::Spot;
@@ -30,6 +31,8 @@ pub struct OneByOne<'a> {
     alloc: Global,
     began: Remembered<u64>,
     known: KnownStates,
+    /// The state that was violated last when states were asked in a ring, where the next ring begins.
+    first: u32,
     pub ghost began_before: { began.value ≤ length board.entries },
 }
 
@@ -47,6 +50,7 @@ impl<'a> OneByOne<'a> {
             alloc,
             began,
             known: KnownStates::new(alloc),
+            first: 0,
         }
     }
 
@@ -77,23 +81,8 @@ fn answer_state(
     ensures answer { IfOk result (λ a. IsAnswerOf (case_of instance.now) caps.now board.new.entries state.0 a.answer) }
     ensures among { IfOk result (λ a. All (Contains (cut_answered a.answer)) (cuts_after board.old.entries board.new.entries)) }
 {
-    match known.separate_state(instance, state, caps)? {
-        RouteAnswer::Routed(routing) => Ok(StateAnswer {
-            state,
-            answer: Separated::Routed(routing),
-        }),
-        RouteAnswer::Violated(cut) => {
-            let (line, spot) = line_and_spot(instance.demands, cut, board)?;
-            Ok(StateAnswer {
-                state,
-                answer: Separated::Violated(line, spot),
-            })
-        }
-        RouteAnswer::Wide(evidence) => Ok(StateAnswer {
-            state,
-            answer: Separated::Wide(evidence),
-        }),
-    }
+    let found = known.separate_state(instance, state, caps)?;
+    answer_found(instance, state, caps, found, board)
 }
 
 /// What is found of each state, the cuts admitted to the board's pool.
@@ -143,5 +132,20 @@ impl<'a> Separate for OneByOne<'a> {
         caps: &Caps,
     ) -> Result<List<StateAnswer>, NoMemory> {
         answer_states(self.alloc, instance, caps, &mut self.board, &mut self.known)
+    }
+
+    fn separate_some(
+        &mut self,
+        instance: &Instance,
+        caps: &Caps,
+    ) -> Result<List<StateAnswer>, NoMemory> {
+        answer_some(
+            self.alloc,
+            instance,
+            caps,
+            &mut self.first,
+            &mut self.board,
+            &mut self.known,
+        )
     }
 }

@@ -1,4 +1,4 @@
-ghost use Rattle.std.specs.Prelude.{◌≡◌, ◌<◌, ◌+◌, IfOk, List as Seq, OnErr, length};
+ghost use Rattle.std.specs.Prelude.{◌≡◌, ◌<◌, ◌+◌, IfOk, IfSome, List as Seq, OnErr, length};
 ghost use Rattle.plan_terms.specs.Terms.{Caps as CapsOf, Demand, Graph, graph_in, case_of, graph_of};
 ghost use Rattle.route_law.specs.Terms.{AreJoined};
 ghost use Rattle.warm_routing.specs.WarmAnswers.{IsWarmAnswer};
@@ -173,4 +173,52 @@ pub fn separate_from<'a>(
         caps,
     };
     separate_task_warm(alloc, &task, known, warm)
+}
+
+/// Answers as `separate_from` does, but looks for no set of nodes before it asks the kept basis: meant for a state whose sets were looked at.
+///
+/// It takes the time and the memory of `route_task` and of `WarmRouter::ask`.
+pub fn route_from<'a>(
+    alloc: Global,
+    instance: &Instance<'a>,
+    state: StateId,
+    caps: &'a Caps,
+    known: &mut List<RouteColumn>,
+    warm: &mut WarmRouter,
+) -> Result<RouteAnswer, NoMemory>
+    requires state { state.0 < length instance.now.states.now.listed + 1 }
+    requires scale { 0 < caps.now.scale }
+    requires caps { length caps.now.nums ≡ length instance.now.net.now.links }
+    requires joined { AreJoined (graph_in (case_of instance.now) state.0) instance.now.demands.now }
+    ensures found { IfOk result (IsFinding (graph_in (case_of instance.now) state.0) instance.now.demands.now caps.now) }
+    ensures same { OnErr result (known.new ≡ known.old) }
+{
+    let task = RouteTask {
+        graph: instance.in_state(state),
+        demands: instance.demands,
+        caps,
+    };
+    route_warm(alloc, &task, known, warm)
+}
+
+/// A cut of a set of nodes that the capacities violate in a state, as `grown_set` finds it. `None` says nothing of the capacities.
+///
+/// It takes time in the cube of the nodes.
+pub fn set_in_state<'a>(
+    alloc: Global,
+    instance: &Instance<'a>,
+    state: StateId,
+    caps: &'a Caps,
+) -> Result<Option<Cut>, NoMemory>
+    requires state { state.0 < length instance.now.states.now.listed + 1 }
+    requires scale { 0 < caps.now.scale }
+    requires caps { length caps.now.nums ≡ length instance.now.net.now.links }
+    ensures { IfOk result (λ o. IfSome o (IsFoundCutOf (graph_in (case_of instance.now) state.0) instance.now.demands.now caps.now)) }
+{
+    let task = RouteTask {
+        graph: instance.in_state(state),
+        demands: instance.demands,
+        caps,
+    };
+    grown_set(alloc, &task)
 }

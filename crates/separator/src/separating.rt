@@ -2,7 +2,7 @@ ghost use Rattle.std.specs.Prelude.{◌≡◌, ◌≢◌, ◌<◌, All, AllPairs
 ghost use Rattle.plan_terms.specs.Terms.{Entry, case_of, graph, IsSurvivable};
 ghost use Rattle.metric_cut.specs.Cuts.{IsCutOf};
 ghost use Rattle.turn_lock.specs.Passes.{Seen};
-ghost use Rattle.separator.specs.Separators.{AreStateAnswers, Frame, IsSeenHistory, IsSpotIn, SeesMore, SeparatesAt, cuts_answered, cuts_since};
+ghost use Rattle.separator.specs.Separators.{AreSomeAnswers, AreStateAnswers, Frame, IsSeenHistory, IsSpotIn, SeesMore, SeparatesAt, cuts_answered, cuts_since};
 
 use crate::answers::StateAnswer;
 use metric_cut::Cut;
@@ -43,6 +43,27 @@ pub trait Separate {
         ensures separating { ∥ All (SeparatesAt (case_of instance.now) caps.now) (cuts_since (seen_of self.old) (seen_of self.new)) ∥₁ }
         ensures different { AllPairs (λ x y. x.0 ≢ y.0) (cuts_since (seen_of self.old) (seen_of self.new)) }
         ensures answers { IfOk result (λ answers. ∥ AreStateAnswers (case_of instance.now) caps.now (seen_of self.new).history answers ∥₁) }
+        ensures answered { IfOk result (λ answers. All (Contains (cuts_answered answers)) (cuts_since (seen_of self.old) (seen_of self.new))) };
+
+    /// Asks of states whether the capacities, one number for each link over a scale, carry the demands there, until they don't in one: a
+    /// round that stops early. Its answers are of different states, and one of them is a cut that the capacities violate, or there is one
+    /// of each state, in their order. Each cut is put into the pool, while there is room. Out of memory, some cuts may have been put there
+    /// all the same.
+    fn separate_some(
+        &mut self,
+        instance: &Instance,
+        caps: &Caps,
+    ) -> Result<List<StateAnswer>, NoMemory>
+        requires net { instance.now.net.now ≡ (frame self.old).network }
+        requires listed { instance.now.states.now ≡ (frame self.old).states }
+        requires survivable { IsSurvivable (case_of instance.now) }
+        requires scale { 0 < caps.now.scale }
+        requires caps { length caps.now.nums ≡ length instance.now.net.now.links }
+        ensures frame { frame self.new ≡ frame self.old }
+        ensures more { SeesMore (seen_of self.old) (seen_of self.new) }
+        ensures separating { ∥ All (SeparatesAt (case_of instance.now) caps.now) (cuts_since (seen_of self.old) (seen_of self.new)) ∥₁ }
+        ensures different { AllPairs (λ x y. x.0 ≢ y.0) (cuts_since (seen_of self.old) (seen_of self.new)) }
+        ensures answers { IfOk result (λ answers. ∥ AreSomeAnswers (case_of instance.now) caps.now (seen_of self.new).history answers ∥₁) }
         ensures answered { IfOk result (λ answers. All (Contains (cuts_answered answers)) (cuts_since (seen_of self.old) (seen_of self.new))) };
 
     /// What has been seen keeps the limits of a history, and the own entries stand in it.

@@ -39,6 +39,22 @@ impl KnownStates {
     {
         separate_known(self.alloc, instance, state, caps, &mut self.by_state)
     }
+
+    /// Answers a state of which no set of nodes is known to be violated, and begins with what is kept of it.
+    pub fn route_state(
+        &mut self,
+        instance: &Instance,
+        state: StateId,
+        caps: &Caps,
+    ) -> Result<RouteAnswer, NoMemory>
+        requires state { state.0 < length instance.now.states.now.listed + 1 }
+        requires scale { 0 < caps.now.scale }
+        requires caps { length caps.now.nums ≡ length instance.now.net.now.links }
+        requires joined { AreJoined (graph_in (case_of instance.now) state.0) instance.now.demands.now }
+        ensures found { IfOk result (IsFinding (graph_in (case_of instance.now) state.0) instance.now.demands.now caps.now) }
+    {
+        route_known(self.alloc, instance, state, caps, &mut self.by_state)
+    }
 }
 
 /// The same over the list itself.
@@ -61,6 +77,30 @@ fn separate_known(
     }
     let mut known = KnownState::new(alloc);
     let found = known.separate(alloc, instance, state, caps)?;
+    by_state.push(known)?;
+    Ok(found)
+}
+
+/// So it is where no sets of nodes are looked at.
+fn route_known(
+    alloc: Global,
+    instance: &Instance,
+    state: StateId,
+    caps: &Caps,
+    by_state: &mut List<KnownState>,
+) -> Result<RouteAnswer, NoMemory>
+    requires state { state.0 < length instance.now.states.now.listed + 1 }
+    requires scale { 0 < caps.now.scale }
+    requires caps { length caps.now.nums ≡ length instance.now.net.now.links }
+    requires joined { AreJoined (graph_in (case_of instance.now) state.0) instance.now.demands.now }
+    ensures found { IfOk result (IsFinding (graph_in (case_of instance.now) state.0) instance.now.demands.now caps.now) }
+{
+    let at = state.0 as usize;
+    if at < by_state.len() {
+        return by_state.items_mut()[at].route(alloc, instance, state, caps);
+    }
+    let mut known = KnownState::new(alloc);
+    let found = known.route(alloc, instance, state, caps)?;
     by_state.push(known)?;
     Ok(found)
 }

@@ -1,11 +1,14 @@
 -- a board while cuts are put into its pool
-use Rattle.std.specs.Prelude.{◌≡◌, ◌≢◌, ℕ, ◌≤◌, ◌<◌, ◌⊎◌, ◌++◌, List, [], ◌∷◌, All, AllPairs, Contains, Some, length, slice_get}
-use Rattle.plan_terms.specs.Terms.{Entry, Caps, Case}
+use Rattle.std.specs.Prelude.{◌≡◌, ◌≢◌, ℕ, ◌+◌, ◌≤◌, ◌<◌, ◌⊎◌, ◌++◌, List, [], ◌∷◌, All, AllPairs, Contains, Some, length, slice_get}
+use Rattle.plan_terms.specs.Terms.{Entry, Caps, Case, graph_in}
+use Rattle.flow_router.specs.Answers.{IsEvidenceHere, IsRouted}
 use Rattle.metric_cut.specs.declared.cut.Cut.{Cut}
 use Rattle.cut_pool.specs.declared.board.Board.{Board}
 use Rattle.cut_pool.specs.Terms.{origin_of, cuts_of}
+use Rattle.separator.specs.declared.answers.Separated.{Separated}
+use Rattle.separator.specs.declared.answers.Separated.TheVariants.{Routed, Violated, Wide}
 use Rattle.separator.specs.declared.answers.StateAnswer.{StateAnswer}
-use Rattle.separator.specs.Separators.{IsAnswerOf, IsCutEntry, IsFullHistory, SeparatesAt, cuts_answered}
+use Rattle.separator.specs.Separators.{IsAnswerOf, IsCutEntry, IsFullHistory, SeparatesAt, cut_answered, cuts_answered}
 
 -- state and lengths of a cut
 abbrev pub state_and_lengths : Cut → ℕ × List ℕ
@@ -41,6 +44,7 @@ pub record PoolsBelow (p : Case) (caps : Caps) (n : ℕ) (old new : Board) (cuts
   pub pools : PoolsMore old new cuts
   pub cuts_are : AreCutsBelow p caps n cuts
 
+-- the board pools cuts of state s, at most one
 pub record PoolsOf (p : Case) (caps : Caps) (s : ℕ) (old new : Board) (cuts : List (ℕ × List ℕ)) : Type 0 where
   pub pools : PoolsMore old new cuts
   pub cuts_are : AreCutsOf p caps s cuts
@@ -50,3 +54,37 @@ pub record AreAnswersBelow (p : Case) (caps : Caps) (n : ℕ) (history : List En
   pub count : length answers ≡ n
   pub each : (s : ℕ) (a : StateAnswer) → slice_get answers s ≡ Some a → (a.state.0 ≡ s) × IsAnswerOf p caps history s a.answer
   pub among : All (Contains (cuts_answered answers)) cuts
+
+-- cuts of different states below n are answered, and each of these cuts is one of them
+pub record AreCutsAnswered (p : Case) (caps : Caps) (n : ℕ) (history : List Entry) (cuts : List (ℕ × List ℕ)) (answers : List StateAnswer) : Type 0 where
+  pub below : All (λ a. a.state.0 < n) answers
+  pub different : AllPairs (λ x y. x.state.0 ≢ y.state.0) answers
+  pub right : All (λ a. IsAnswerOf p caps history a.state.0 a.answer) answers
+  pub are_cuts : length (cuts_answered answers) ≡ length answers
+  pub among : All (Contains (cuts_answered answers)) cuts
+
+-- what is found of state s is no cut
+abbrev pub IsOtherAnswerOf : Case → Caps → ℕ → Separated → Type 0
+IsOtherAnswerOf p caps s (Routed routing) = IsRouted (graph_in p s) p.demands caps routing
+IsOtherAnswerOf p caps s (Violated line spot) = ⊥
+IsOtherAnswerOf p caps s (Wide evidence) = IsEvidenceHere (graph_in p s) p.demands caps evidence
+
+-- the answers of the states from m on to before n, in their order, none of which is a cut
+pub record AreOtherAnswers (p : Case) (caps : Caps) (m n : ℕ) (answers : List StateAnswer) : Type 0 where
+  pub count : m + length answers ≡ n
+  pub each : (i : ℕ) (a : StateAnswer) → slice_get answers i ≡ Some a → (a.state.0 ≡ m + i) × IsOtherAnswerOf p caps (m + i) a.answer
+
+-- they go on with those from n on to before t
+abbrev pub GoOnTo : Case → Caps → (n t : ℕ) → (old new : List StateAnswer) → Type 0
+GoOnTo p caps n t old new = (m : ℕ) → AreOtherAnswers p caps m n old → AreOtherAnswers p caps m t new
+
+-- the answer of state s is a cut, and each of these cuts is it
+pub record IsCutAnswer (p : Case) (caps : Caps) (s : ℕ) (history : List Entry) (cuts : List (ℕ × List ℕ)) (a : StateAnswer) : Type 0 where
+  pub state : a.state.0 ≡ s
+  pub answer : IsAnswerOf p caps history s a.answer
+  pub one : length (cut_answered a.answer) ≡ 1
+  pub among : All (Contains (cut_answered a.answer)) cuts
+
+-- nothing is answered of state s, and there is none of these cuts, or a cut is answered
+abbrev pub AddsCut : Case → Caps → ℕ → List Entry → List (ℕ × List ℕ) → (old new : List StateAnswer) → Type 0
+AddsCut p caps s history cuts old new = ((new ≡ old) × (cuts ≡ [])) ⊎ ((a : StateAnswer) × (new ≡ old ++ a ∷ []) × IsCutAnswer p caps s history cuts a)

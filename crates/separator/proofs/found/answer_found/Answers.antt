@@ -1,0 +1,22 @@
+use Rattle.std.proofs.Common.{[], subst}
+use Rattle.plan_terms.specs.Terms.{graph_in, case_of}
+use Rattle.separator.specs.Findings.{IsFinding}
+use Rattle.separator.proofs.Answering.{none_among, of_none}
+use Rattle.separator.proofs.found.answer_found.Goals as goal
+
+pub answer_cut-requires-clause-found : goal.answer_cut-requires-clause-found
+answer_cut-requires-clause-found c =
+    let p = case_of c.args.instance.now in
+    subst (IsFinding (graph_in p c.args.state.0) p.demands c.args.caps.now) c.in-Violated.is c.requires.found
+
+pub returns-in-Routed-clause-pools : goal.returns-in-Routed-clause-pools
+returns-in-Routed-clause-pools c = of_none (case_of c.args.instance.now) c.args.caps.now c.args.state.0 c.args.board.now
+
+pub returns-in-Routed-clause-among : goal.returns-in-Routed-clause-among
+returns-in-Routed-clause-among c = none_among c.args.board.now []
+
+pub returns-in-Wide-clause-pools : goal.returns-in-Wide-clause-pools
+returns-in-Wide-clause-pools c = of_none (case_of c.args.instance.now) c.args.caps.now c.args.state.0 c.args.board.now
+
+pub returns-in-Wide-clause-among : goal.returns-in-Wide-clause-among
+returns-in-Wide-clause-among c = none_among c.args.board.now []

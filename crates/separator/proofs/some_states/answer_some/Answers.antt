@@ -1,0 +1,36 @@
+use Rattle.std.proofs.Common.{◌≡◌, ◌+◌, ◌<◌, [], ap, arith, length}
+use Rattle.net_core.proofs.Library.{IfOk-weaker, nil_from_length}
+use Rattle.plan_terms.specs.Terms.{case_of}
+use Rattle.separator.specs.Separators.{cuts_after, cuts_answered}
+use Rattle.separator.proofs.SomeAnswers.{cuts_are_some}
+use Rattle.separator.proofs.SomeBoards.{among_after_nothing, below_after_nothing, pools_nothing}
+use Rattle.separator.proofs.some_states.answer_some.Goals as goal
+
+pub returns-then-len-eq0-clause-pools : goal.returns-then-len-eq0-clause-pools
+returns-then-len-eq0-clause-pools c =
+    let n = length c.args.instance.now.states.now.listed + 1 in
+    let a = c.args.board.now in
+    let b = c.answer_sets.new.board in
+    let none : c.in_ok-cuts.cuts ≡ [] = nil_from_length c.in_ok-cuts.cuts (omega (arith, c.if-len-eq0.true, c.len.ensures)) in
+    below_after_nothing (case_of c.args.instance.now) c.args.caps.now n n a b c.ask_ring.new.board (omega arith)
+    (pools_nothing a b (cuts_answered c.in_ok-cuts.cuts) (ap cuts_answered none) c.in_ok-cuts.ensures.cuts.among c.answer_sets.ensures.pools.pools) c.ask_ring.ensures.pools
+
+pub returns-then-len-eq0-clause-among : goal.returns-then-len-eq0-clause-among
+returns-then-len-eq0-clause-among c =
+    let a = c.args.board.now in
+    let b = c.answer_sets.new.board in
+    let none : c.in_ok-cuts.cuts ≡ [] = nil_from_length c.in_ok-cuts.cuts (omega (arith, c.if-len-eq0.true, c.len.ensures)) in
+    let pools = pools_nothing a b (cuts_answered c.in_ok-cuts.cuts) (ap cuts_answered none) c.in_ok-cuts.ensures.cuts.among c.answer_sets.ensures.pools.pools in
+    IfOk-weaker c.ask_ring.result _ _
+    (λ answers among. among_after_nothing a b c.ask_ring.new.board (cuts_answered answers) pools c.ask_ring.ensures.pools.pools among)
+    c.ask_ring.ensures.among
+
+pub returns-clause-answers : goal.returns-clause-answers
+returns-clause-answers c =
+    let a = c.args.board.now in
+    let b = c.answer_sets.new.board in
+    let some : 0 < length c.in_ok-cuts.cuts = omega (arith, c.if-len-eq0.false, c.len.ensures) in
+    cuts_are_some (case_of c.args.instance.now) c.args.caps.now b.entries (cuts_after a.entries b.entries) c.in_ok-cuts.cuts c.in_ok-cuts.ensures.cuts some
+
+pub returns-clause-among : goal.returns-clause-among
+returns-clause-among c = c.in_ok-cuts.ensures.cuts.among
