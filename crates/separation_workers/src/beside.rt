@@ -1,45 +1,60 @@
-ghost use Rattle.std.specs.Prelude.{◌<◌, ◌+◌, All, IfOk, length};
+ghost use Rattle.std.specs.Prelude.{◌<◌, ◌≤◌, ◌+◌, All, IfOk, length};
 ghost use Rattle.std.specs.Thread.{IsSync};
 ghost use Rattle.separation_workers.specs.inner.Rounds.{AreFound, IsFoundOf, IsStateFound};
 
 use crate::discard::discard;
 use crate::hints::hinted_cut;
-use crate::round::{Round, StateFound};
+use crate::round::{Round, StateFound, Work};
 use flow_router::RouteAnswer;
 use net_core::{List, NoMemory, StateId};
 use outside_io::Gate;
-use separator::separate_state;
+use separator::{KnownState, separate_state};
 use std::thread;
 use std::thread::Threads;
 
 /// So many threads work for a caller beside its own.
 const HELPERS: u32 = 3;
 
+/// What is found of a state by what is kept of it, and first among sets of nodes if these weren't looked at.
+fn ask(round: &Round, state: StateId, known: &mut KnownState) -> Result<RouteAnswer, NoMemory>
+    requires { state.0 < length round.now.instance.states.now.listed + 1 }
+    ensures { IfOk result (IsFoundOf round.now state.0) }
+{
+    let instance = &round.instance;
+    if round.has_sets {
+        known.route(round.alloc, instance, state, round.caps)
+    } else {
+        known.separate(round.alloc, instance, state, round.caps)
+    }
+}
+
 /// Routes a state with what is kept of it. Where another worker has that in hand, it is routed without.
 fn route(round: &Round, state: StateId) -> Result<RouteAnswer, NoMemory>
     requires { state.0 < length round.now.instance.states.now.listed + 1 }
     ensures { IfOk result (IsFoundOf round.now state.0) }
 {
-    let instance = &round.instance;
     if let Some(kept) = round.kept.get(state.0 as usize) {
         if let Some(mut known) = kept.try_lock() {
-            return known.separate(round.alloc, instance, state, round.caps);
+            return ask(round, state, &mut known);
         }
     }
     separate_state(
         round.alloc,
-        instance,
+        &round.instance,
         state,
         round.caps,
         &mut List::new(round.alloc),
     )
 }
 
-/// What is found of a state: first by the lengths that are shown, then by routing.
+/// What is found of a state: first by the lengths that are shown, if sets of nodes weren't looked at, then by routing.
 pub fn find_state(round: &Round, state: StateId) -> Result<RouteAnswer, NoMemory>
     requires { state.0 < length round.now.instance.states.now.listed + 1 }
     ensures { IfOk result (IsFoundOf round.now state.0) }
 {
+    if round.has_sets {
+        return route(round, state);
+    }
     match hinted_cut(round, state)? {
         Some(cut) => Ok(RouteAnswer::Violated(cut)),
         None => route(round, state),
@@ -47,28 +62,29 @@ pub fn find_state(round: &Round, state: StateId) -> Result<RouteAnswer, NoMemory
 }
 
 /// What is found of a state. Where memory runs out, no worker takes a further state.
-fn find_or_stop(round: &Round, state: StateId) -> Result<RouteAnswer, NoMemory>
+fn find_or_stop(round: &Round, work: &Work, state: StateId) -> Result<RouteAnswer, NoMemory>
     requires { state.0 < length round.now.instance.states.now.listed + 1 }
     ensures { IfOk result (IsFoundOf round.now state.0) }
 {
     let found = find_state(round, state);
     if found.is_err() {
-        round.stop();
+        work.stop();
     }
     found
 }
 
 /// What one worker finds of the states that it takes. The gate hears of each.
-fn find_some<G: Gate>(gate: &G, round: &Round) -> Result<Vec<StateFound>, NoMemory>
+fn find_some<G: Gate>(gate: &G, round: &Round, work: &Work) -> Result<Vec<StateFound>, NoMemory>
+    requires { work.now.end ≤ length round.now.instance.states.now.listed + 1 }
     ensures { IfOk result (λ found. All (IsStateFound round.now) found.items) }
 {
     let mut found = Vec::new(round.alloc);
     for _ in 0..round.instance.states.count() {
-        let Some(state) = round.take() else {
+        let Some(state) = work.take() else {
             break;
         };
         gate.before(round.caller, state.0);
-        let answer = find_or_stop(round, state)?;
+        let answer = find_or_stop(round, work, state)?;
         gate.after(round.caller, state.0);
         found.push(StateFound { state, answer })?;
     }
@@ -81,22 +97,26 @@ fn find_beside<R: Threads, G: Gate + Sync>(
     rt: &R,
     gate: &G,
     round: &Round,
+    work: &Work,
     helpers: u32,
 ) -> Result<Vec<StateFound>, NoMemory>
+    requires { work.now.end ≤ length round.now.instance.states.now.listed + 1 }
     ensures { IfOk result (λ found. All (IsStateFound round.now) found.items) }
 {
     if helpers == 0 {
-        return find_some(gate, round);
+        return find_some(gate, round, work);
     }
     let here = move || -> Result<Vec<StateFound>, NoMemory>
         requires sync { IsSync G.row }
+        requires end { work.now.end ≤ length round.now.instance.states.now.listed + 1 }
         ensures { IfOk result (λ v. All (IsStateFound round.entry.now) v.items) }
-    { find_some(gate, round) };
+    { find_some(gate, round, work) };
     let beside = move || -> Result<Vec<StateFound>, NoMemory>
         requires sync { IsSync G.row }
         requires some { 0 < helpers }
+        requires end { work.now.end ≤ length round.now.instance.states.now.listed + 1 }
         ensures { IfOk result (λ v. All (IsStateFound round.entry.now) v.items) }
-    { find_beside(rt, gate, round, helpers - 1) };
+    { find_beside(rt, gate, round, work, helpers - 1) };
     let (one, rest) = thread::join(rt, here, beside);
     let mut found = one?;
     let mut others = rest?;
@@ -134,14 +154,20 @@ fn by_state(round: &Round, found: Vec<StateFound>) -> Result<List<Option<StateFo
     Ok(List::from_vec(places))
 }
 
-/// What the workers of a round find, each at the place of its state. The gate hears of a state on the thread that works on it.
+/// What the workers of a round find of the states from one on to before another, each at the place of its state. The gate hears of a state
+/// on the thread that works on it.
 pub fn find_states<R: Threads, G: Gate + Sync>(
     rt: &R,
     gate: &G,
     round: &Round,
+    from: u32,
+    to: u32,
 ) -> Result<List<Option<StateFound>>, NoMemory>
+    requires from { from < to }
+    requires to { to ≤ length round.now.instance.states.now.listed + 1 }
     ensures { IfOk result (AreFound round.now) }
 {
-    let helpers = HELPERS.min(round.instance.states.count() - 1);
-    by_state(round, find_beside(rt, gate, round, helpers)?)
+    let work = Work::of(from, to);
+    let helpers = HELPERS.min(to - from - 1);
+    by_state(round, find_beside(rt, gate, round, &work, helpers)?)
 }

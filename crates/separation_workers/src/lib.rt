@@ -14,6 +14,7 @@ mod discard;
 mod hints;
 mod hold;
 mod round;
+mod some_states;
 mod spot;
 mod workers;
 

@@ -1,4 +1,4 @@
-ghost use Rattle.std.specs.Prelude.{◌≡◌, ◌<◌, ◌+◌, IfSome, length};
+ghost use Rattle.std.specs.Prelude.{◌≡◌, ◌<◌, IfSome, length};
 ghost use Rattle.plan_terms.specs.Terms.{case_of, IsSurvivable};
 ghost use Rattle.hint_board.specs.Hints.{hint_links};
 
@@ -24,8 +24,8 @@ pub struct Round<'i, 'c, 'h, 'k> {
     pub hints: &'h HintBoard,
     /// What is kept of each state, from state 0 on; where there is nothing, a state is routed without.
     pub kept: &'k [KeptState],
-    /// The first state that nobody has taken.
-    pub next: AtomicU32,
+    /// Whether the sets of nodes of all states are looked at apart, so that the workers ask a state without hints and sets.
+    pub has_sets: bool,
     pub ghost survivable: { IsSurvivable (case_of instance) },
     pub ghost scale: { 0 < caps.now.scale },
     pub ghost count: { length caps.now.nums ≡ length instance.net.now.links },
@@ -39,13 +39,31 @@ pub struct StateFound {
     pub answer: RouteAnswer,
 }
 
-impl<'i, 'c, 'h, 'k> Round<'i, 'c, 'h, 'k> {
+/// States of a round that its workers take, one after another, from one on to before another.
+#[derive(Drop)]
+pub struct Work {
+    /// The first state that nobody has taken.
+    next: AtomicU32,
+    end: u32,
+}
+
+impl Work {
+    /// The states from the first one on to before the end.
+    pub fn of(first: u32, end: u32) -> Work
+        ensures { result.end ≡ end }
+    {
+        Work {
+            next: AtomicU32::new(first),
+            end,
+        }
+    }
+
     /// Takes the next state that nobody has taken.
     pub fn take(&self) -> Option<StateId>
-        ensures { IfSome result (λ s. s.0 < length self.now.instance.states.now.listed + 1) }
+        ensures { IfSome result (λ s. s.0 < self.now.end) }
     {
         let next = self.next.fetch_add(1, Ordering::SeqCst);
-        if next < self.instance.states.count() {
+        if next < self.end {
             Some(StateId(next))
         } else {
             None
@@ -54,7 +72,6 @@ impl<'i, 'c, 'h, 'k> Round<'i, 'c, 'h, 'k> {
 
     /// Leaves no state to take.
     pub fn stop(&self) {
-        self.next
-            .store(self.instance.states.count(), Ordering::SeqCst);
+        self.next.store(self.end, Ordering::SeqCst);
     }
 }

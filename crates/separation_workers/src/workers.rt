@@ -1,5 +1,6 @@
 ghost use Rattle.std.specs.Prelude.{◌≡◌, ℕ, ◌≤◌, ◌<◌, ◌+◌, All, Contains, IfOk, IfSome, Some, length, slice_get};
-ghost use Rattle.plan_terms.specs.Terms.{case_of, IsSurvivable};
+ghost use Rattle.plan_terms.specs.Terms.{graph_in, case_of, IsSurvivable};
+ghost use Rattle.separator.specs.Findings.{IsFoundCutOf};
 ghost use Rattle.board_desk.specs.Turns.{IsAtDesk, board_made, caller_seen};
 ghost use Rattle.separator.specs.Separators.{IsAnswerOf, cut_answered, cuts_since};
 ghost use Rattle.separator.specs.inner.Working.{AreAnswersBelow, AreCutsBelow, AreCutsOf};
@@ -11,6 +12,7 @@ use crate::beside::{find_state, find_states};
 use crate::hints::post;
 use crate::hold::Hold;
 use crate::round::{KeptState, Round, StateFound};
+use crate::some_states::answer_some;
 use crate::spot::spot_in_turn;
 use board_desk::Caller;
 use cut_pool::Board;
@@ -22,7 +24,6 @@ use outside_io::Gate;
 use plan_types::Spot;
 use separator::{KnownState, Separate, Separated, StateAnswer, line_of};
 use std::alloc::Global;
-use std::sync::atomic::AtomicU32;
 use std::sync::{Mutex, Wait};
 use std::thread::Threads;
 use turn_lock::Desk;
@@ -40,8 +41,8 @@ pub struct DeskMark<'a> {
 /// puts their cuts into the pool, in the order of the states and in a turn for each, so that other callers edit and plan meanwhile. It
 /// waits for these turns, and may never return.
 ///
-/// The gate hears on the caller's own thread: of each state before a round, and of each state again when all are solved and before its
-/// cut is put into the pool. A hold hears of a state on the thread that works on it.
+/// The gate hears on the caller's own thread: of each state before a round, and again of each that has an answer, when its worker and those
+/// beside it are done and before its cut is put into the pool. A hold hears of a state on the thread that works on it.
 #[derive(Drop)]
 pub struct Workers<'r, 'd, 'a, R, G> {
     rt: &'r R,
@@ -51,6 +52,8 @@ pub struct Workers<'r, 'd, 'a, R, G> {
     hints: &'r HintBoard,
     caller: Caller<'d, 'a>,
     kept: List<KeptState>,
+    /// The state that was violated last when states were asked in a ring, where the next ring begins.
+    first: u32,
     pub ghost own: { ∥ IsAtDesk caller ∥₁ },
     pub ghost seen: { HasSeenHistory caller },
     pub ghost links: { hint_links hints.now ≡ length (board_made caller).net.now.links },
@@ -80,6 +83,7 @@ impl<'r, 'd, 'a, R, G> Workers<'r, 'd, 'a, R, G> {
             hints,
             caller,
             kept: List::new(alloc),
+            first: 0,
         }
     }
 
@@ -116,7 +120,7 @@ fn taken(round: &Round, places: &mut [Option<StateFound>], state: StateId) -> Op
 }
 
 /// What is found of a state of the round, also where no worker has told of it.
-fn found_of(
+pub fn found_of(
     round: &Round,
     places: &mut [Option<StateFound>],
     state: StateId,
@@ -132,8 +136,34 @@ fn found_of(
     }
 }
 
+/// The answer of a state that a cut is found of, the cut put into the pool, and its lengths shown.
+pub fn answer_cut<R: Wait>(
+    rt: &R,
+    round: &Round,
+    state: StateId,
+    cut: Cut,
+    caller: &mut Caller,
+) -> Result<StateAnswer, NoMemory>
+    requires caller { IsInRound round.now caller.old }
+    requires found { IsFoundCutOf (graph_in (case_of round.now.instance) state.0) round.now.instance.demands.now round.now.caps.now cut }
+    ensures goes { SeesOn caller.old caller.new }
+    ensures cuts { AreCutsOf (case_of round.now.instance) round.now.caps.now state.0 (cuts_since (caller_seen caller.old) (caller_seen caller.new)) }
+    ensures state { IfOk result (λ a. a.state ≡ state) }
+    ensures answer { IfOk result (λ a. IsAnswerOf (case_of round.now.instance) round.now.caps.now (caller_seen caller.new).history state.0 a.answer) }
+    ensures among { IfOk result (λ a. All (Contains (cut_answered a.answer)) (cuts_since (caller_seen caller.old) (caller_seen caller.new))) }
+    ensures one { IfOk result (λ a. length (cut_answered a.answer) ≡ 1) }
+{
+    let line = line_of(&cut, round.instance.demands)?;
+    post(rt, round.hints, cut.lengths());
+    let spot = spot_in_turn(rt, caller, cut)?;
+    Ok(StateAnswer {
+        state,
+        answer: Separated::Violated(line, spot),
+    })
+}
+
 /// What is answered of a state, its cut put into the pool, and its lengths shown.
-fn answer_state<R: Wait, G: Gate>(
+pub fn answer_state<R: Wait, G: Gate>(
     rt: &R,
     gate: &G,
     round: &Round,
@@ -156,15 +186,7 @@ fn answer_state<R: Wait, G: Gate>(
             state,
             answer: Separated::Routed(routing),
         }),
-        RouteAnswer::Violated(cut) => {
-            let line = line_of(&cut, round.instance.demands)?;
-            post(rt, round.hints, cut.lengths());
-            let spot = spot_in_turn(rt, caller, cut)?;
-            Ok(StateAnswer {
-                state,
-                answer: Separated::Violated(line, spot),
-            })
-        }
+        RouteAnswer::Violated(cut) => answer_cut(rt, round, state, cut, caller),
         RouteAnswer::Wide(evidence) => Ok(StateAnswer {
             state,
             answer: Separated::Wide(evidence),
@@ -218,7 +240,7 @@ fn answer_round<R: Threads + Wait, G: Gate>(
     for state in 0..states {
         gate.before(round.caller, state);
     }
-    let mut places = find_states(rt, hold, round)?;
+    let mut places = find_states(rt, hold, round, 0, states)?;
     answer_states(rt, gate, round, places.items_mut(), caller)
 }
 
@@ -252,8 +274,37 @@ impl<'r, 'd, 'a, R: Threads + Wait, G: Gate> Separate for Workers<'r, 'd, 'a, R,
             caller: self.caller.number(),
             hints: self.hints,
             kept: self.kept.items(),
-            next: AtomicU32::new(0),
+            has_sets: false,
         };
         answer_round(self.rt, self.gate, self.hold, &round, &mut self.caller)
+    }
+
+    fn separate_some(
+        &mut self,
+        instance: &Instance,
+        caps: &Caps,
+    ) -> Result<List<StateAnswer>, NoMemory> {
+        reach(self.alloc, &mut self.kept, instance.states.count())?;
+        let round = Round {
+            alloc: self.alloc,
+            instance: Instance {
+                net: instance.net,
+                states: instance.states,
+                demands: instance.demands,
+            },
+            caps,
+            caller: self.caller.number(),
+            hints: self.hints,
+            kept: self.kept.items(),
+            has_sets: true,
+        };
+        answer_some(
+            self.rt,
+            self.gate,
+            self.hold,
+            &round,
+            &mut self.first,
+            &mut self.caller,
+        )
     }
 }

@@ -1,10 +1,12 @@
 -- what the workers of a round find
-use Rattle.std.specs.Prelude.{◌≡◌, ℕ, ◌<◌, ◌+◌, List, Option, All, IfSome, length}
+use Rattle.std.specs.Prelude.{◌≡◌, ℕ, ◌<◌, ◌+◌, ◌⊎◌, ◌++◌, List, [], ◌∷◌, Option, All, IfSome, length}
 use Rattle.plan_terms.specs.Terms.{graph_in, case_of}
 use Rattle.flow_router.specs.declared.answer.RouteAnswer.{RouteAnswer}
 use Rattle.board_desk.specs.declared.caller.Caller.{Caller}
 use Rattle.board_desk.specs.Turns.{IsAtDesk, board_made}
 use Rattle.separator.specs.Findings.{IsFinding}
+use Rattle.separator.specs.Separators.{cut_answered}
+use Rattle.separator.specs.declared.answers.StateAnswer.{StateAnswer}
 use Rattle.separation_workers.specs.Callers.{HasSeenHistory}
 use Rattle.separation_workers.specs.declared.round.Round.{Round}
 use Rattle.separation_workers.specs.declared.round.StateFound.{StateFound}
@@ -27,3 +29,9 @@ pub record IsInRound (r : Round) (c : Caller) : Type 0 where
   pub seen : HasSeenHistory c
   pub net : (board_made c).net.now ≡ r.instance.net.now
   pub states : (board_made c).states.now ≡ r.instance.states.now
+
+-- a cut goes to the cuts, and another answer to the others
+abbrev pub IsPutApart : StateAnswer → (cuts cuts_now others others_now : List StateAnswer) → Type 0
+IsPutApart a cuts cuts_now others others_now =
+    ((length (cut_answered a.answer) ≡ 1) × (cuts_now ≡ cuts ++ a ∷ []) × (others_now ≡ others))
+    ⊎ ((cut_answered a.answer ≡ []) × (cuts_now ≡ cuts) × (others_now ≡ others ++ a ∷ []))

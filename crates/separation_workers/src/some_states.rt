@@ -1,0 +1,272 @@
+ghost use Rattle.std.specs.Prelude.{◌≡◌, ◌≤◌, ◌<◌, ◌+◌, [], All, Contains, IfOk, OnOk, length};
+ghost use Rattle.plan_terms.specs.Terms.{case_of};
+ghost use Rattle.board_desk.specs.Turns.{caller_seen};
+ghost use Rattle.separator.specs.Separators.{AreSomeAnswers, cuts_answered, cuts_since};
+ghost use Rattle.separator.specs.inner.Working.{AddsCut, AreCutsAnswered, AreCutsBelow, AreCutsOf, AreOtherAnswers, GoOnTo};
+ghost use Rattle.separation_workers.specs.Callers.{SeesOn};
+ghost use Rattle.separation_workers.specs.inner.Rounds.{AreFound, IsInRound, IsPutApart};
+
+use crate::beside::find_states;
+use crate::hold::Hold;
+use crate::round::{Round, StateFound};
+use crate::workers::{answer_cut, answer_state, found_of};
+use board_desk::Caller;
+use net_core::{List, NoMemory, StateId};
+use outside_io::Gate;
+use separator::{StateAnswer, is_cut, joined, set_in_state};
+use std::sync::Wait;
+use std::thread::Threads;
+
+/// So many states of a ring are asked beside each other. It doesn't change with the processors, so that the answers don't.
+const BATCH: u32 = 4;
+
+/// Puts the cut of a violated set of nodes of a state to the answers, if there is one, and into the pool.
+fn answer_set<R: Wait, G: Gate>(
+    rt: &R,
+    gate: &G,
+    round: &Round,
+    state: StateId,
+    caller: &mut Caller,
+    answers: &mut List<StateAnswer>,
+) -> Result<(), NoMemory>
+    requires caller { IsInRound round.now caller.old }
+    requires state { state.0 < length round.now.instance.states.now.listed + 1 }
+    ensures goes { SeesOn caller.old caller.new }
+    ensures cuts { AreCutsOf (case_of round.now.instance) round.now.caps.now state.0 (cuts_since (caller_seen caller.old) (caller_seen caller.new)) }
+    ensures adds { OnOk result (AddsCut (case_of round.now.instance) round.now.caps.now state.0 (caller_seen caller.new).history
+        (cuts_since (caller_seen caller.old) (caller_seen caller.new)) answers.old answers.new) }
+{
+    match set_in_state(round.alloc, &round.instance, state, round.caps)? {
+        Some(cut) => {
+            gate.after(round.caller, state.0);
+            let answer = answer_cut(rt, round, state, cut, caller)?;
+            answers.push(answer)?;
+            Ok(())
+        }
+        None => Ok(()),
+    }
+}
+
+/// The cuts of violated sets of nodes, one of each state that has one, put into the pool.
+fn answer_sets<R: Wait, G: Gate>(
+    rt: &R,
+    gate: &G,
+    round: &Round,
+    caller: &mut Caller,
+) -> Result<List<StateAnswer>, NoMemory>
+    requires caller { IsInRound round.now caller.old }
+    ensures goes { SeesOn caller.old caller.new }
+    ensures below { AreCutsBelow (case_of round.now.instance) round.now.caps.now (length round.now.instance.states.now.listed + 1)
+        (cuts_since (caller_seen caller.old) (caller_seen caller.new)) }
+    ensures cuts { IfOk result (AreCutsAnswered (case_of round.now.instance) round.now.caps.now (length round.now.instance.states.now.listed + 1)
+        (caller_seen caller.new).history (cuts_since (caller_seen caller.old) (caller_seen caller.new))) }
+{
+    let mut answers = List::new(round.alloc);
+    for s in 0..round.instance.states.count() {
+        answer_set(rt, gate, round, StateId(s), caller, &mut answers)?;
+    }
+    Ok(answers)
+}
+
+/// Puts an answer to the cuts, or to the others.
+fn put_answer(
+    answer: StateAnswer,
+    cuts: &mut List<StateAnswer>,
+    others: &mut List<StateAnswer>,
+) -> Result<(), NoMemory>
+    ensures { OnOk result (IsPutApart answer cuts.old cuts.new others.old others.new) }
+{
+    if is_cut(&answer.answer) {
+        cuts.push(answer)?;
+    } else {
+        others.push(answer)?;
+    }
+    Ok(())
+}
+
+/// Puts what is answered of states at hand into the pool where it is a cut, and the others to `others`. The cuts are answered.
+fn answer_places<R: Wait, G: Gate>(
+    rt: &R,
+    gate: &G,
+    round: &Round,
+    from: u32,
+    to: u32,
+    places: &mut [Option<StateFound>],
+    caller: &mut Caller,
+    others: &mut List<StateAnswer>,
+) -> Result<List<StateAnswer>, NoMemory>
+    requires caller { IsInRound round.now caller.old }
+    requires from { from ≤ to }
+    requires to { to ≤ length round.now.instance.states.now.listed + 1 }
+    requires found { AreFound round.now places.old }
+    ensures goes { SeesOn caller.old caller.new }
+    ensures below { AreCutsBelow (case_of round.now.instance) round.now.caps.now to (cuts_since (caller_seen caller.old) (caller_seen caller.new)) }
+    ensures cuts { IfOk result (AreCutsAnswered (case_of round.now.instance) round.now.caps.now to
+        (caller_seen caller.new).history (cuts_since (caller_seen caller.old) (caller_seen caller.new))) }
+    ensures others { IfOk result (λ cuts. cuts ≡ [] → GoOnTo (case_of round.now.instance) round.now.caps.now from to others.old others.new) }
+{
+    let mut cuts = List::new(round.alloc);
+    for s in from..to {
+        let found = found_of(round, places, StateId(s))?;
+        let answer = answer_state(rt, gate, round, StateId(s), found, caller)?;
+        put_answer(answer, &mut cuts, others)?;
+    }
+    Ok(cuts)
+}
+
+/// Asks states beside each other. The cuts that are found of them are answered; the others go to `others`.
+fn answer_batch<R: Threads + Wait, G: Gate>(
+    rt: &R,
+    gate: &G,
+    hold: &Hold,
+    round: &Round,
+    from: u32,
+    to: u32,
+    caller: &mut Caller,
+    others: &mut List<StateAnswer>,
+) -> Result<List<StateAnswer>, NoMemory>
+    requires caller { IsInRound round.now caller.old }
+    requires from { from < to }
+    requires to { to ≤ length round.now.instance.states.now.listed + 1 }
+    ensures goes { SeesOn caller.old caller.new }
+    ensures below { AreCutsBelow (case_of round.now.instance) round.now.caps.now to (cuts_since (caller_seen caller.old) (caller_seen caller.new)) }
+    ensures cuts { IfOk result (AreCutsAnswered (case_of round.now.instance) round.now.caps.now to
+        (caller_seen caller.new).history (cuts_since (caller_seen caller.old) (caller_seen caller.new))) }
+    ensures others { IfOk result (λ cuts. cuts ≡ [] → GoOnTo (case_of round.now.instance) round.now.caps.now from to others.old others.new) }
+{
+    let mut places = find_states(rt, hold, round, from, to)?;
+    answer_places(
+        rt,
+        gate,
+        round,
+        from,
+        to,
+        places.items_mut(),
+        caller,
+        others,
+    )
+}
+
+/// Asks states, a batch after another, until cuts are found of one: these. The answers before go to `others`.
+fn ask_until_cuts<R: Threads + Wait, G: Gate>(
+    rt: &R,
+    gate: &G,
+    hold: &Hold,
+    round: &Round,
+    from: u32,
+    to: u32,
+    caller: &mut Caller,
+    others: &mut List<StateAnswer>,
+) -> Result<List<StateAnswer>, NoMemory>
+    requires caller { IsInRound round.now caller.old }
+    requires from { from ≤ to }
+    requires to { to ≤ length round.now.instance.states.now.listed + 1 }
+    ensures goes { SeesOn caller.old caller.new }
+    ensures below { AreCutsBelow (case_of round.now.instance) round.now.caps.now to (cuts_since (caller_seen caller.old) (caller_seen caller.new)) }
+    ensures cuts { IfOk result (AreCutsAnswered (case_of round.now.instance) round.now.caps.now to
+        (caller_seen caller.new).history (cuts_since (caller_seen caller.old) (caller_seen caller.new))) }
+    ensures others { IfOk result (λ cuts. cuts ≡ [] → GoOnTo (case_of round.now.instance) round.now.caps.now from to others.old others.new) }
+{
+    let mut at = from;
+    while at < to {
+        let end = at + BATCH.min(to - at);
+        let cuts = answer_batch(rt, gate, hold, round, at, end, caller, others)?;
+        if cuts.len() > 0 {
+            return Ok(cuts);
+        }
+        at = end;
+    }
+    Ok(List::new(round.alloc))
+}
+
+/// The state of the first answer.
+fn first_state(answers: &[StateAnswer]) -> u32 {
+    match answers {
+        [answer, ..] => answer.state.0,
+        [] => 0,
+    }
+}
+
+/// Asks the states before one, until cuts are found; `later` are the answers of the states from that one on.
+fn ask_before<R: Threads + Wait, G: Gate>(
+    rt: &R,
+    gate: &G,
+    hold: &Hold,
+    round: &Round,
+    start: u32,
+    later: List<StateAnswer>,
+    first: &mut u32,
+    caller: &mut Caller,
+) -> Result<List<StateAnswer>, NoMemory>
+    requires caller { IsInRound round.now caller.old }
+    requires start { start ≤ length round.now.instance.states.now.listed + 1 }
+    requires later { AreOtherAnswers (case_of round.now.instance) round.now.caps.now start (length round.now.instance.states.now.listed + 1) later }
+    ensures goes { SeesOn caller.old caller.new }
+    ensures below { AreCutsBelow (case_of round.now.instance) round.now.caps.now (length round.now.instance.states.now.listed + 1)
+        (cuts_since (caller_seen caller.old) (caller_seen caller.new)) }
+    ensures answers { IfOk result (AreSomeAnswers (case_of round.now.instance) round.now.caps.now (caller_seen caller.new).history) }
+    ensures among { IfOk result (λ answers. All (Contains (cuts_answered answers)) (cuts_since (caller_seen caller.old) (caller_seen caller.new))) }
+{
+    let mut answers = List::new(round.alloc);
+    let cuts = ask_until_cuts(rt, gate, hold, round, 0, start, caller, &mut answers)?;
+    if cuts.len() == 0 {
+        return joined(answers, later);
+    }
+    *first = first_state(cuts.items());
+    Ok(cuts)
+}
+
+/// Asks the states from the first one on, and then those before it, until cuts are found.
+fn ask_ring<R: Threads + Wait, G: Gate>(
+    rt: &R,
+    gate: &G,
+    hold: &Hold,
+    round: &Round,
+    first: &mut u32,
+    caller: &mut Caller,
+) -> Result<List<StateAnswer>, NoMemory>
+    requires caller { IsInRound round.now caller.old }
+    ensures goes { SeesOn caller.old caller.new }
+    ensures below { AreCutsBelow (case_of round.now.instance) round.now.caps.now (length round.now.instance.states.now.listed + 1)
+        (cuts_since (caller_seen caller.old) (caller_seen caller.new)) }
+    ensures answers { IfOk result (AreSomeAnswers (case_of round.now.instance) round.now.caps.now (caller_seen caller.new).history) }
+    ensures among { IfOk result (λ answers. All (Contains (cuts_answered answers)) (cuts_since (caller_seen caller.old) (caller_seen caller.new))) }
+{
+    let count = round.instance.states.count();
+    let start = (*first).min(count);
+    let mut later = List::new(round.alloc);
+    let cuts = ask_until_cuts(rt, gate, hold, round, start, count, caller, &mut later)?;
+    if cuts.len() == 0 {
+        return ask_before(rt, gate, hold, round, start, later, first, caller);
+    }
+    *first = first_state(cuts.items());
+    Ok(cuts)
+}
+
+/// The cuts of violated sets of nodes that are found of the states, where there are any. Else the states are asked in a ring, four beside
+/// each other, from the one that was violated last when states were asked, until cuts are found: these, and where none is, the answers of
+/// all states.
+pub fn answer_some<R: Threads + Wait, G: Gate>(
+    rt: &R,
+    gate: &G,
+    hold: &Hold,
+    round: &Round,
+    first: &mut u32,
+    caller: &mut Caller,
+) -> Result<List<StateAnswer>, NoMemory>
+    requires caller { IsInRound round.now caller.old }
+    ensures goes { SeesOn caller.old caller.new }
+    ensures below { AreCutsBelow (case_of round.now.instance) round.now.caps.now (length round.now.instance.states.now.listed + 1)
+        (cuts_since (caller_seen caller.old) (caller_seen caller.new)) }
+    ensures answers { IfOk result (AreSomeAnswers (case_of round.now.instance) round.now.caps.now (caller_seen caller.new).history) }
+    ensures among { IfOk result (λ answers. All (Contains (cuts_answered answers)) (cuts_since (caller_seen caller.old) (caller_seen caller.new))) }
+{
+    for state in 0..round.instance.states.count() {
+        gate.before(round.caller, state);
+    }
+    let cuts = answer_sets(rt, gate, round, caller)?;
+    if cuts.len() == 0 {
+        return ask_ring(rt, gate, hold, round, first, caller);
+    }
+    Ok(cuts)
+}
