@@ -1,15 +1,16 @@
 -- the answers of all states, sorted
-use Rattle.std.proofs.Common.{◌≡◌, ◌≢◌, ℕ, ◌+◌, ◌<◌, ◌≤◌, inl, inr, ⊎_elim, List, [], ◌∷◌, ◌++◌, Some, None, get_or, length, map, slice_get, refl, sym, ap, subst, ◌∙◌, arith, suc}
-use Rattle.net_core.proofs.Library.{cases_lt, map-append, All-nil, All-push, All-weaker, all_pairs_push}
+use Rattle.std.proofs.Common.{◌≡◌, ◌≢◌, ℕ, ◌+◌, ◌<◌, ◌≤◌, inl, inr, ⊎_elim, List, [], ◌∷◌, ◌++◌, All, AllPairs, IfSome, Some, None, get_or, length, map, slice_get, refl, sym, ap, subst, ◌∙◌, arith, suc}
+use Rattle.net_core.proofs.Library.{cases_lt, map-append, nil_from_length, All-head, All-nil, All-push, All-tail, All-weaker, all_pairs_push}
 use Rattle.std.proofs.lemmas.List.{append-nil, append_assoc, length-append}
 use Rattle.plan_terms.specs.Terms.{Entry, Caps, CutLine, Routing, Case, graph_in, HasShortLengths}
 use Rattle.flow_router.specs.Answers.{IsRouted}
 use Rattle.cut_pool.specs.Terms.{cut_of_line}
-use Rattle.separator.specs.Separators.{AreStateAnswers, IsAnswerOf, IsSeparatingCut, cut_answered, cuts_answered}
+use Rattle.separator.specs.Separators.{AreSomeAnswers, AreStateAnswers, IsAnswerOf, IsSeparatingCut, cut_answered, cuts_answered}
 use Rattle.separator.specs.declared.answers.Separated.{Separated}
 use Rattle.separator.specs.declared.answers.Separated.TheVariants.{Routed, Violated, Wide}
 use Rattle.separator.specs.declared.answers.StateAnswer.{StateAnswer}
-use Rattle.plan_rounds.specs.inner.Answered.{AnswersShort, AreSorted, IsRoutedOrWide, PutsAnswer}
+use Rattle.plan_rounds.specs.WorkedRounds.{StandAtSpots}
+use Rattle.plan_rounds.specs.inner.Answered.{AnswersShort, AreSorted, IsEvidenceOfState, IsRoutedOrWide, PutsAnswer}
 use Rattle.plan_rounds.specs.declared.sorting.Answered.{Answered}
 use Rattle.separator.proofs.Seeing.{get_more}
 use Rattle.plan_rounds.proofs.Seeing.{stand_more}
@@ -117,3 +118,100 @@ found_more a rest old new puts = ap (λ xs. xs ++ cuts_answered rest) (found_put
     found_put (Routed routing) old new puts = ap (λ (x : Answered). map cut_of_line x.found.lines) puts ∙ sym (append-nil (map cut_of_line old.found.lines))
     found_put (Violated line spot) old new puts = ap (λ (x : Answered). map cut_of_line x.found.lines) puts ∙ map-append cut_of_line old.found.lines (line ∷ [])
     found_put (Wide evidence) old new puts = ap (λ (x : Answered). map cut_of_line x.found.lines) puts ∙ sym (append-nil (map cut_of_line old.found.lines))
+
+-- ---- the answers of some states
+
+module _ (p : Case) (caps : Caps) (history : List Entry) where
+  -- the answers so far are sorted, and those that are left are right ones of other states
+  pub record AreSomeSorted (rest : List StateAnswer) (a : Answered) : Type 0 where
+    pub cuts : All (IsSeparatingCut p caps) a.found.lines
+    pub short : All HasShortLengths a.found.lines
+    pub states : AllPairs (λ x y. x.state ≢ y.state) a.found.lines
+    pub before : All (λ c. c.state.0 < length p.listed + 1) a.found.lines
+    pub spots : StandAtSpots history a.found.lines a.found.spots
+    pub wide : IfSome a.wide (IsEvidenceOfState p caps)
+    pub right : All (λ x. (x.state.0 ≤ length p.listed) × IsAnswerOf p caps history x.state.0 x.answer) rest
+    pub different : AllPairs (λ x y. x.state.0 ≢ y.state.0) rest
+    pub apart : All (λ x. All (λ c. c.state.0 ≢ x.state.0) a.found.lines) rest
+
+module _ (p : Case) (caps : Caps) (history : List Entry) where
+  some_sorted_none : (answers : List StateAnswer) → AreSomeAnswers p caps history answers → AreSomeSorted p caps history answers (record { routings = []; found = record { lines = []; spots = [] }; wide = None })
+  some_sorted_none answers are = record {
+    cuts = All-nil (IsSeparatingCut p caps);
+    short = All-nil HasShortLengths;
+    states = λ i j d ij lj. absurd (omega (arith, lj));
+    before = All-nil (λ (c : CutLine). c.state.0 < length p.listed + 1);
+    spots = record { count = refl; each = λ i line spot one two. absurd (let e : None ≡ Some line = one in cc e) };
+    wide = tt;
+    right = are.right;
+    different = are.different;
+    apart = λ k d lt. All-nil (λ (c : CutLine). c.state.0 ≢ (get_or answers k d).state.0);
+  }
+
+  -- one answer more
+  some_sorted_more : (a : StateAnswer) (rest : List StateAnswer) (answer : Separated) (old new : Answered) → AreSomeSorted p caps history (a ∷ rest) old → a.state.0 ≤ length p.listed → IsAnswerOf p caps history a.state.0 answer
+      → AnswersShort answer → PutsAnswer answer old new → AreSomeSorted p caps history rest new
+  some_sorted_more a rest (Routed routing) old new are inside is short puts = subst (AreSomeSorted p caps history rest) (sym puts) (record {
+    cuts = are.cuts;
+    short = are.short;
+    states = are.states;
+    before = are.before;
+    spots = are.spots;
+    wide = are.wide;
+    right = All-tail (λ (x : StateAnswer). (x.state.0 ≤ length p.listed) × IsAnswerOf p caps history x.state.0 x.answer) a rest are.right;
+    different = λ i j d ij lj. are.different (suc i) (suc j) d (omega (arith, ij)) (omega (arith, lj));
+    apart = All-tail (λ (x : StateAnswer). All (λ (c : CutLine). c.state.0 ≢ x.state.0) old.found.lines) a rest are.apart;
+  })
+  some_sorted_more a rest (Violated line spot) old new are inside is short puts = subst (AreSomeSorted p caps history rest) (sym puts) (record {
+    cuts = All-push (IsSeparatingCut p caps) old.found.lines line are.cuts is.1;
+    short = All-push HasShortLengths old.found.lines line are.short short;
+    states = all_pairs_push (λ x y. x.state ≢ y.state) old.found.lines line are.states
+        (λ k d lt same. are.apart 0 a (omega arith) k d lt (ap (λ st. st.0) same ∙ is.0));
+    before = All-push (λ (c : CutLine). c.state.0 < length p.listed + 1) old.found.lines line are.before (omega (arith, is.0, inside));
+    spots = stand_more history old.found.lines old.found.spots line spot are.spots is.2;
+    wide = are.wide;
+    right = All-tail (λ (x : StateAnswer). (x.state.0 ≤ length p.listed) × IsAnswerOf p caps history x.state.0 x.answer) a rest are.right;
+    different = λ i j d ij lj. are.different (suc i) (suc j) d (omega (arith, ij)) (omega (arith, lj));
+    apart = λ k d lt.
+        let x = get_or rest k d in
+        let other : a.state.0 ≢ x.state.0 = are.different 0 (suc k) d (omega arith) (omega (arith, lt)) in
+        All-push (λ (c : CutLine). c.state.0 ≢ x.state.0) old.found.lines line (are.apart (suc k) d (omega (arith, lt))) (λ same. other (sym is.0 ∙ same));
+  })
+  some_sorted_more a rest (Wide evidence) old new are inside is short puts = subst (AreSomeSorted p caps history rest) (sym puts) (record {
+    cuts = are.cuts;
+    short = are.short;
+    states = are.states;
+    before = are.before;
+    spots = are.spots;
+    wide = (a.state.0, inside, is);
+    right = All-tail (λ (x : StateAnswer). (x.state.0 ≤ length p.listed) × IsAnswerOf p caps history x.state.0 x.answer) a rest are.right;
+    different = λ i j d ij lj. are.different (suc i) (suc j) d (omega (arith, ij)) (omega (arith, lj));
+    apart = All-tail (λ (x : StateAnswer). All (λ (c : CutLine). c.state.0 ≢ x.state.0) old.found.lines) a rest are.apart;
+  })
+
+  pub some_begun : (answers left : List StateAnswer) (made : Answered) → left ≡ answers → made ≡ record { routings = []; found = record { lines = []; spots = [] }; wide = None }
+      → AreSomeAnswers p caps history answers → AreSomeSorted p caps history left made
+  some_begun answers left made same is are =
+      subst (AreSomeSorted p caps history left) (sym is) (subst (λ (xs : List StateAnswer). AreSomeSorted p caps history xs (record { routings = []; found = record { lines = []; spots = [] }; wide = None })) (sym same) (some_sorted_none answers are))
+
+  pub some_further : (a : StateAnswer) (rest : List StateAnswer) (old new : Answered) → AreSomeSorted p caps history (a ∷ rest) old → AnswersShort a.answer → PutsAnswer a.answer old new → AreSomeSorted p caps history rest new
+  some_further a rest old new are short puts =
+      let is = All-head (λ (x : StateAnswer). (x.state.0 ≤ length p.listed) × IsAnswerOf p caps history x.state.0 x.answer) a rest are.right in
+      some_sorted_more a rest a.answer old new are is.0 is.1 short puts
+
+  -- all of them
+  pub some_are_sorted : (answers rest : List StateAnswer) (a : Answered) → AreSomeAnswers p caps history answers → AreSomeSorted p caps history rest a → map cut_of_line a.found.lines ≡ cuts_answered answers
+      → (AreStateAnswers p caps history answers → AreSorted p caps history (length p.listed + 1) a) → AreSorted p caps history (length p.listed + 1) a
+  some_are_sorted answers rest a are some found if_all =
+      let all = λ (none : length a.found.lines ≡ 0).
+      if_all (are.cutless (sym found ∙ ap (map cut_of_line) (nil_from_length a.found.lines none))) in
+      record {
+        cuts = some.cuts;
+        short = some.short;
+        states = some.states;
+        before = some.before;
+        spots = some.spots;
+        wide = some.wide;
+        cutless = λ none. (all none).cutless none;
+        routed = λ none. (all none).routed none;
+      }

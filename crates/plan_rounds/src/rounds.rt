@@ -1,9 +1,9 @@
-ghost use Rattle.std.specs.Prelude.{◌≡◌, ◌+◌, ◌≤◌, ◌<◌, ℕ, List as Seq, Option as Maybe, None, IfOk, IfSome, OnOk, length};
+ghost use Rattle.std.specs.Prelude.{◌≡◌, ◌≢◌, ◌+◌, ◌≤◌, ◌<◌, ℕ, List as Seq, Option as Maybe, None, All, AllPairs, Contains, IfOk, IfSome, OnOk, length};
 ghost use Rattle.plan_terms.specs.Terms.{case_of, IsSurvivable};
 ghost use Rattle.route_law.specs.Terms.{caps_times};
 ghost use Rattle.master_law.specs.Terms.{AreUnitPairs};
 ghost use Rattle.master_bound.specs.declared.answer.Best.{Best};
-ghost use Rattle.separator.specs.Separators.{SeesMore};
+ghost use Rattle.separator.specs.Separators.{AreSomeAnswers, SeesMore, SeparatesAt, cuts_answered, cuts_since};
 ghost use Rattle.plan_rounds.specs.WorkedRounds.{AreWorkedRounds, IsBestAt, IsPoolOf, IsWorkedAlone};
 ghost use Rattle.plan_rounds.specs.inner.Alone.{PoolsRounds, PoolsTurn};
 ghost use Rattle.plan_rounds.specs.inner.Answered.{AreRoutedStates, IsEvidenceOfState};
@@ -19,9 +19,9 @@ use crate::shares::{ShareCaps, share_caps};
 use crate::sorting::{Answered, sorted};
 use master_bound::{Best, MasterFault, master, unit_pairs};
 use module_prices::UnitPair;
-use net_core::{CutLine, Instance, List, NoMemory};
+use net_core::{Caps, CutLine, Instance, List, NoMemory};
 use plan_types::{Cause, Quality, Spot};
-use separator::Separate;
+use separator::{Separate, StateAnswer};
 use std::alloc::Global;
 
 /// So many cuts are added at most.
@@ -130,13 +130,40 @@ fn judge(
     go_on(best, found, room, candidates)
 }
 
-/// Asks each state about the share of the best certificate of the cuts so far.
+/// What states answer at capacities: all of them in the first round, as tests of gates and of shown lengths want it, and later some.
+fn answers_at<S: Separate>(
+    instance: &Instance,
+    caps: &Caps,
+    is_first: bool,
+    separator: &mut S,
+) -> Result<List<StateAnswer>, NoMemory>
+    requires network { instance.now.net.now ≡ (S.frame separator.old).network }
+    requires states { instance.now.states.now ≡ (S.frame separator.old).states }
+    requires survivable { IsSurvivable (case_of instance.now) }
+    requires scale { 0 < caps.now.scale }
+    requires caps { length caps.now.nums ≡ length instance.now.net.now.links }
+    ensures frame { S.frame separator.new ≡ S.frame separator.old }
+    ensures more { SeesMore (S.seen_of separator.old) (S.seen_of separator.new) }
+    ensures separating { ∥ All (SeparatesAt (case_of instance.now) caps.now) (cuts_since (S.seen_of separator.old) (S.seen_of separator.new)) ∥₁ }
+    ensures different { AllPairs (λ x y. x.0 ≢ y.0) (cuts_since (S.seen_of separator.old) (S.seen_of separator.new)) }
+    ensures answers { IfOk result (λ answers. ∥ AreSomeAnswers (case_of instance.now) caps.now (S.seen_of separator.new).history answers ∥₁) }
+    ensures answered { IfOk result (λ answers. All (Contains (cuts_answered answers)) (cuts_since (S.seen_of separator.old) (S.seen_of separator.new))) }
+{
+    if is_first {
+        separator.separate(instance, caps)
+    } else {
+        separator.separate_some(instance, caps)
+    }
+}
+
+/// Asks states about the share of the best certificate of the cuts so far.
 fn ask<S: Separate>(
     alloc: Global,
     instance: &Instance,
     pairs: &List<UnitPair>,
     room: usize,
     best: Best,
+    is_first: bool,
     separator: &mut S,
     candidates: &mut Candidates,
 ) -> Result<Turn, NoMemory>
@@ -154,7 +181,7 @@ fn ask<S: Separate>(
         (S.seen_of separator.new) candidates.old.lines candidates.new.lines turn) }
 {
     let caps = share_caps(alloc, instance.net, pairs, &best.share)?;
-    let answers = separator.separate(instance, &caps.divided)?;
+    let answers = answers_at(instance, &caps.divided, is_first, separator)?;
     let answered = sorted(alloc, answers)?;
     judge(alloc, instance, room, best, caps, answered, candidates)
 }
@@ -194,8 +221,11 @@ fn take_turn<S: Separate>(
     ensures alone { IfOk result (λ turn. PoolsTurn (case_of instance.now) pairs.now room (S.seen_of separator.old)
         (S.seen_of separator.new) candidates.old.lines candidates.new.lines turn) }
 {
+    let is_first = before.is_none();
     match master(alloc, instance.net, &candidates.lines) {
-        Ok(best) => ask(alloc, instance, pairs, room, best, separator, candidates),
+        Ok(best) => ask(
+            alloc, instance, pairs, room, best, is_first, separator, candidates,
+        ),
         Err(fault) => too_wide(fault, before),
     }
 }

@@ -13,22 +13,22 @@ use Rattle.plan_rounds.proofs.rounds.ask.Goals as goal
 pub returns-in_err-caps-clause-on : goal.returns-in_err-caps-clause-on
 returns-in_err-caps-clause-on g c = goes_none _ _
 
-pub separate-requires-clause-caps : goal.separate-requires-clause-caps
-separate-requires-clause-caps g c = divided_count c.args.instance.now.net.now.links c.args.pairs.now c.args.best.share c.in_ok-caps.caps c.requires.pairs.count c.requires.best.least.count c.in_ok-caps.ensures
+pub answers_at-requires-clause-caps : goal.answers_at-requires-clause-caps
+answers_at-requires-clause-caps g c = divided_count c.args.instance.now.net.now.links c.args.pairs.now c.args.best.share c.in_ok-caps.caps c.requires.pairs.count c.requires.best.least.count c.in_ok-caps.ensures
 
 pub judge-requires-clause-routed : goal.judge-requires-clause-routed
 judge-requires-clause-routed g c none not_wide =
-    ∥∥₁_map c.in_ok-answers.ensures.answers (λ are. (c.in_ok-answered.ensures.sorted (case_of c.args.instance.now) c.in_ok-caps.caps.divided (g.S.Separate.seen_of c.separate.new.self).history are).routed none not_wide)
+    ∥∥₁_map c.in_ok-answers.ensures.answers (λ are. (c.in_ok-answered.ensures.sorted (case_of c.args.instance.now) c.in_ok-caps.caps.divided (g.S.Separate.seen_of c.answers_at.new.separator).history are).routed none not_wide)
 
 pub judge-requires-clause-wide : goal.judge-requires-clause-wide
 judge-requires-clause-wide g c =
-    ∥∥₁_map c.in_ok-answers.ensures.answers (λ are. (c.in_ok-answered.ensures.sorted (case_of c.args.instance.now) c.in_ok-caps.caps.divided (g.S.Separate.seen_of c.separate.new.self).history are).wide)
+    ∥∥₁_map c.in_ok-answers.ensures.answers (λ are. (c.in_ok-answered.ensures.sorted (case_of c.args.instance.now) c.in_ok-caps.caps.divided (g.S.Separate.seen_of c.answers_at.new.separator).history are).wide)
 
 pub returns-clause-listed : goal.returns-clause-listed
 returns-clause-listed g c =
     let p = case_of c.args.instance.now in
     let before = c.args.separator.now in
-    let now = c.separate.new.self in
+    let now = c.answers_at.new.separator in
     let old = c.args.candidates.now in
     let n = length c.args.instance.now.states.now.listed + 1 in
     let net = c.args.instance.now.net.now in
@@ -46,7 +46,7 @@ returns-clause-listed g c =
 pub returns-clause-turn : goal.returns-clause-turn
 returns-clause-turn g c =
     let p = case_of c.args.instance.now in
-    let now = c.separate.new.self in
+    let now = c.answers_at.new.separator in
     let n = length c.args.instance.now.states.now.listed + 1 in
     if_ok c.judge.result _ _
     (λ turn told before. ∥∥₁_elim told (hlevel props) (λ judges.
@@ -60,7 +60,7 @@ returns-clause-alone g c =
     let p = case_of c.args.instance.now in
     let pairs = c.args.pairs.now in
     let before = c.args.separator.now in
-    let now = c.separate.new.self in
+    let now = c.answers_at.new.separator in
     let n = length c.args.instance.now.states.now.listed + 1 in
     let answers = c.in_ok-answers.ensures in
     if_ok c.judge.result _ _
