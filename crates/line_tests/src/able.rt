@@ -7,7 +7,7 @@ use worked_networks::{LinkRow, network, problem};
 
 /// The networks whose counts are all tried.
 #[derive(Clone, Copy)]
-enum Tried {
+pub(crate) enum Tried {
     /// The triangle of links with modules of 10.00, and a demand of 12.00.
     Triangle,
     /// Three parallel links with modules of 10.00 and of 25.00, and a demand of 30.00.
@@ -15,7 +15,7 @@ enum Tried {
 }
 
 /// The cuts of one link each of the triangle where the two others don't carry, and that of C where nothing fails.
-const TRIANGLE_CUTS: [CutRow; 4] = [
+pub(crate) const TRIANGLE_CUTS: [CutRow; 4] = [
     (1, &[0, 0, 1], 12000),
     (3, &[1, 0, 0], 12000),
     (3, &[0, 1, 0], 12000),
@@ -41,7 +41,7 @@ const PARALLEL: [LinkRow; 3] = [
 ];
 
 /// The cuts of the parallel links where one of them fails, and where nothing does.
-const PARALLEL_CUTS: [CutRow; 4] = [
+pub(crate) const PARALLEL_CUTS: [CutRow; 4] = [
     (1, &[0, 1, 1], 30000),
     (2, &[1, 0, 1], 30000),
     (3, &[1, 1, 0], 30000),
@@ -135,7 +135,7 @@ fn first_unmet(tried: Tried, all: &[Tested]) -> Option<usize> {
     None
 }
 
-fn problem_of(alloc: Global, tried: Tried) -> Option<Problem> {
+pub(crate) fn problem_of(alloc: Global, tried: Tried) -> Option<Problem> {
     match tried {
         Tried::Triangle => worked(alloc, 0),
         Tried::Parallel => {

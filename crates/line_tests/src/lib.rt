@@ -6,6 +6,8 @@ mod able;
 #[cfg(test)]
 mod limits;
 #[cfg(test)]
+mod made;
+#[cfg(test)]
 mod numbers;
 #[cfg(test)]
 mod rows;

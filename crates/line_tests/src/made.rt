@@ -1,0 +1,329 @@
+use crate::able::{PARALLEL_CUTS, TRIANGLE_CUTS, Tried, problem_of};
+use crate::rows::LineRow::{Divided, Failing, Plain};
+use crate::rows::{CutRow, LineRow, cuts, instance_of, tested};
+use line_check::{Line, Multiplier, TableKind, Tested};
+use net_core::{CutLine, List};
+use std::alloc::Global;
+use table_maker::{Part, TableTask, narrow_lines, set_cuts, table_lines};
+
+/// Known cuts of the triangle, and the further ones of the node sets into which they part it.
+type SetsRow = (&'static [CutRow], &'static [CutRow]);
+
+/// Where AB has no length, A and B are on one side; where BC has none and AB fails, B and C are. All three nodes are apart where each
+/// link has a length, but nothing has to leave B.
+const SETS: [SetsRow; 6] = [
+    (&[], &[]),
+    (
+        &[(0, &[0, 1, 1], 12000)],
+        &[(2, &[0, 0, 1], 12000), (3, &[0, 1, 0], 12000)],
+    ),
+    (
+        &[(0, &[1, 0, 1], 12000)],
+        &[(1, &[0, 0, 1], 12000), (3, &[1, 0, 0], 12000)],
+    ),
+    (
+        &[(1, &[0, 0, 1], 12000)],
+        &[(0, &[1, 0, 1], 12000), (3, &[1, 0, 0], 12000)],
+    ),
+    (
+        &[(0, &[0, 1, 1], 12000), (2, &[0, 0, 1], 12000)],
+        &[(3, &[0, 1, 0], 12000)],
+    ),
+    (
+        &[(0, &[1, 1, 1], 12000)],
+        &[
+            (0, &[1, 0, 1], 12000),
+            (1, &[0, 0, 1], 12000),
+            (3, &[1, 0, 0], 12000),
+            (0, &[0, 1, 1], 12000),
+            (2, &[0, 0, 1], 12000),
+            (3, &[0, 1, 0], 12000),
+        ],
+    ),
+];
+
+/// Whether cuts are those of rows, in this order.
+fn are_cuts(found: &[CutLine], rows: &[CutRow]) -> bool {
+    found.len() == rows.len()
+        && (0..found.len()).all(|i| {
+            found[i].state.0 == rows[i].0
+                && found[i].lengths.items() == rows[i].1
+                && found[i].right == rows[i].2
+        })
+}
+
+/// Whether the further cuts of a row are found; none where memory is out.
+fn are_sets_found(alloc: Global, row: &SetsRow) -> Option<bool> {
+    let p = problem_of(alloc, Tried::Triangle)?;
+    let known = cuts(alloc, row.0).ok()?;
+    let found = set_cuts(alloc, &instance_of(&p), known.items()).ok()?;
+    Some(are_cuts(found.items(), row.1))
+}
+
+/// A network with cuts and lines over them.
+#[derive(Clone, Copy)]
+struct Given {
+    tried: Tried,
+    cuts: &'static [CutRow],
+    lines: &'static [LineRow],
+}
+
+/// All cuts of the triangle.
+const TRIANGLE: Given = Given {
+    tried: Tried::Triangle,
+    cuts: &TRIANGLE_CUTS,
+    lines: &[],
+};
+
+/// Lines that need 4096 and 4097.
+const AT_THE_LIMIT: Given = Given {
+    tried: Tried::Triangle,
+    cuts: &[(0, &[0, 1, 1], 12000)],
+    lines: &[Divided(3000, &[(0, 1024)]), Divided(12000, &[(0, 4097)])],
+};
+
+/// Cuts whose right sides aren't their own.
+const REFUSED: Given = Given {
+    tried: Tried::Triangle,
+    cuts: &[(0, &[0, 1, 1], 12001), (3, &[1, 0, 0], 11999)],
+    lines: &[],
+};
+
+/// The cut of C where nothing fails, and its narrow line, twice.
+const AT_C: Given = Given {
+    tried: Tried::Triangle,
+    cuts: &[(0, &[0, 1, 1], 12000)],
+    lines: &[Divided(2000, &[(0, 1)]), Divided(2000, &[(0, 1)])],
+};
+
+/// The cut of C where BC fails, and its narrow line.
+const WHERE_BC_FAILS: Given = Given {
+    tried: Tried::Triangle,
+    cuts: &[(2, &[0, 0, 1], 12000)],
+    lines: &[Divided(2000, &[(0, 1)])],
+};
+
+/// A node with three links to the rest, which need 6 by modules of 2 and 5, where nothing fails.
+const THREE_LINKS: Given = Given {
+    tried: Tried::Parallel,
+    cuts: &[(0, &[1, 1, 1], 30000)],
+    lines: &[Divided(5000, &[(0, 1)])],
+};
+
+/// Narrow lines over what is given.
+type NarrowRow = (&'static Given, &'static [LineRow]);
+
+/// What the triangle's cuts need is 12000, and a module gives 10000 of it, or nothing: all over 2000. The three links' modules give 10000
+/// and 25000 of 30000: all over 5000, and what is narrow then stays as it is. What needs 4097 is halved.
+const NARROW: [NarrowRow; 4] = [
+    (
+        &TRIANGLE,
+        &[
+            Divided(2000, &[(0, 1)]),
+            Divided(2000, &[(1, 1)]),
+            Divided(2000, &[(2, 1)]),
+            Divided(2000, &[(3, 1)]),
+        ],
+    ),
+    (
+        &AT_THE_LIMIT,
+        &[Divided(2000, &[(0, 1)]), Divided(2, &[(2, 1)])],
+    ),
+    (&REFUSED, &[]),
+    (&THREE_LINKS, &[Divided(5000, &[(0, 1)])]),
+];
+
+/// What a point has of modules, by link and place, over a denominator.
+type PointRow = (&'static [(usize, usize, u128)], u128);
+
+/// Table lines over what is given: the point, the greatest weight, how many at most, and those that are made.
+type TableRow = (&'static Given, PointRow, u32, usize, &'static [LineRow]);
+
+/// 0.6 of a module on BC and on AC.
+const LITTLE: PointRow = (&[(1, 0, 6), (2, 0, 6)], 10);
+
+/// At C two modules cover what is needed, and three where one has failed. In parts of 20 they weigh 10 each, and 7, which makes 21. With
+/// 0.6 on each link 12 of 20 are there, and 8.4 of 21; with one on each 20, and 14 of 21; with 2.9 together 20.3 of 21; and with 2.99999
+/// less than a ten-thousandth is missed. A module that isn't there gives nothing.
+///
+/// Where BC fails only AC is left, of which nothing more may fail.
+///
+/// Over the three links the kinds cost 5000 and 9000. Covers cost 14000 at least by one of each kind, and where a largest one has failed
+/// 20000, by four small ones: in parts of 20 the weights are 8 and 13, and 5 and 9, over which four small ones weigh 20.
+const TABLES: [TableRow; 18] = [
+    (&AT_C, LITTLE, 20, 9, &[Failing(1, &[7]), Plain(1, &[10])]),
+    (&AT_C, LITTLE, 20, 1, &[Failing(1, &[7])]),
+    (&AT_C, LITTLE, 20, 0, &[]),
+    (
+        &AT_C,
+        (&[(1, 0, 1), (2, 0, 1)], 1),
+        20,
+        9,
+        &[Failing(1, &[7])],
+    ),
+    (
+        &AT_C,
+        (&[(1, 0, 20), (2, 0, 9)], 10),
+        20,
+        9,
+        &[Failing(1, &[7])],
+    ),
+    (&AT_C, (&[(2, 0, 299999)], 100000), 20, 9, &[]),
+    (&AT_C, (&[(1, 0, 1), (2, 0, 2)], 1), 20, 9, &[]),
+    (
+        &AT_C,
+        (&[(0, 0, 9), (2, 1, 9), (3, 0, 9), (1, 0, 1), (2, 0, 1)], 1),
+        20,
+        9,
+        &[Failing(1, &[7])],
+    ),
+    (&AT_C, (&[], 0), 20, 9, &[]),
+    (&AT_C, LITTLE, 0, 9, &[]),
+    (&AT_C, LITTLE, 1, 9, &[Failing(1, &[1]), Plain(1, &[1])]),
+    (
+        &AT_C,
+        LITTLE,
+        4294967295,
+        9,
+        &[Failing(1, &[1431655765]), Plain(1, &[2147483648])],
+    ),
+    (
+        &WHERE_BC_FAILS,
+        (&[(2, 0, 1)], 1),
+        20,
+        9,
+        &[Plain(1, &[10])],
+    ),
+    (&TRIANGLE, LITTLE, 20, 9, &[]),
+    (
+        &THREE_LINKS,
+        (&[], 1),
+        20,
+        9,
+        &[Plain(1, &[8, 13]), Failing(1, &[5, 9])],
+    ),
+    (
+        &THREE_LINKS,
+        (&[(0, 1, 1), (1, 1, 1)], 1),
+        20,
+        9,
+        &[Failing(1, &[5, 9])],
+    ),
+    (
+        &THREE_LINKS,
+        (&[(0, 1, 1)], 1),
+        14,
+        9,
+        &[Failing(1, &[4, 7]), Plain(1, &[5, 9])],
+    ),
+    (
+        &THREE_LINKS,
+        (&[(0, 1, 1), (1, 1, 1), (2, 0, 1)], 1),
+        20,
+        9,
+        &[],
+    ),
+];
+
+/// Whether a line has terms.
+fn are_terms(found: &[Multiplier], terms: &[(u32, u64)]) -> bool {
+    found.len() == terms.len()
+        && (0..found.len()).all(|i| found[i].cut == terms[i].0 && found[i].num == terms[i].1)
+}
+
+/// Whether a line is a table line of these.
+fn is_table(line: &Line, at: u32, as_kind: TableKind, by: &[u32]) -> bool {
+    match line {
+        Line::Divided { .. } => false,
+        Line::Table {
+            line,
+            kind,
+            weights,
+        } => *line == at && *kind == as_kind && weights.items() == by,
+    }
+}
+
+/// Whether a line is a divided one of these.
+fn is_divided(line: &Line, over: u128, of: &[(u32, u64)]) -> bool {
+    match line {
+        Line::Divided { divisor, terms } => *divisor == over && are_terms(terms.items(), of),
+        Line::Table { .. } => false,
+    }
+}
+
+/// Whether a line is that of a row.
+fn is_line(line: &Line, row: &LineRow) -> bool {
+    match row {
+        Divided(divisor, terms) => is_divided(line, *divisor, terms),
+        Plain(at, weights) => is_table(line, *at, TableKind::Plain, weights),
+        Failing(at, weights) => is_table(line, *at, TableKind::Failing, weights),
+    }
+}
+
+/// Whether lines are those of rows, in this order.
+fn are_lines(found: &[Line], rows: &[LineRow]) -> bool {
+    found.len() == rows.len() && (0..found.len()).all(|i| is_line(&found[i], &rows[i]))
+}
+
+/// Whether a row's narrow lines are made; none where memory is out.
+fn are_narrow_made(alloc: Global, row: &NarrowRow) -> Option<bool> {
+    let (given, made) = row;
+    let p = problem_of(alloc, given.tried)?;
+    let all = tested(alloc, &instance_of(&p), given.cuts, given.lines)?;
+    let found = narrow_lines(alloc, &instance_of(&p), all.items()).ok()?;
+    Some(are_lines(found.items(), made))
+}
+
+fn parts(alloc: Global, rows: &[(usize, usize, u128)]) -> Option<List<Part>> {
+    let mut point = List::new(alloc);
+    for (link, module, parts) in rows {
+        let part = Part {
+            link: *link,
+            module: *module,
+            parts: *parts,
+        };
+        point.push(part).ok()?;
+    }
+    Some(point)
+}
+
+/// Whether a row's table lines are made; none where memory is out.
+fn are_tables_made(alloc: Global, row: &TableRow) -> Option<bool> {
+    let (given, (point, den), most_weight, most, made) = row;
+    let p = problem_of(alloc, given.tried)?;
+    let all = tested(alloc, &instance_of(&p), given.cuts, given.lines)?;
+    let point = parts(alloc, point)?;
+    let task = TableTask {
+        instance: &instance_of(&p),
+        tested: all.items(),
+        point: point.items(),
+        den: *den,
+        most_weight: *most_weight,
+    };
+    let found = table_lines(alloc, &task, *most).ok()?;
+    Some(are_lines(found.items(), made))
+}
+
+#[test]
+fn cuts_of_node_sets_are_found(rt: HostRuntime) {
+    let wrong = SETS
+        .iter()
+        .position(|row| are_sets_found(rt.alloc(), row) != Some(true));
+    assert!(rt; wrong.is_none(), "row {}", wrong.unwrap_or(0));
+}
+
+#[test]
+fn narrow_lines_are_made(rt: HostRuntime) {
+    let wrong = NARROW
+        .iter()
+        .position(|row| are_narrow_made(rt.alloc(), row) != Some(true));
+    assert!(rt; wrong.is_none(), "row {}", wrong.unwrap_or(0));
+}
+
+#[test]
+fn table_lines_are_made(rt: HostRuntime) {
+    let wrong = TABLES
+        .iter()
+        .position(|row| are_tables_made(rt.alloc(), row) != Some(true));
+    assert!(rt; wrong.is_none(), "row {}", wrong.unwrap_or(0));
+}

@@ -1,0 +1,9 @@
+use Rattle.table_maker.specs.inner.Finding.{AreFound, IsSameSearch}
+use Rattle.table_maker.proofs.boundaries.Sets.push_marked.Given as goal
+
+-- the cuts so far are cuts of the same case
+abbrev pub invariant-loop-mark : goal.invariant-loop-mark
+invariant-loop-mark l = record {
+  found : AreFound l.self;
+  same : IsSameSearch l.fn.self l.self;
+}

@@ -1,0 +1,13 @@
+use Rattle.std.proofs.Common.{ℕ, ◌<◌}
+use Rattle.std.specs.Int.{◌∣◌}
+use Rattle.line_check.specs.Inequalities.{module_number, need_of}
+use Rattle.line_check.specs.Lines.{capped}
+use Rattle.table_maker.proofs.narrow.common_in.Given as goal
+
+-- the number so far divides what is needed, and what the modules of the links so far give
+abbrev pub invariant-loop-e : goal.invariant-loop-e
+invariant-loop-e l = record {
+  positive : 0 < l.common;
+  need : l.common ∣ need_of l.line;
+  gives : (k m : ℕ) → k < l.e → m < module_number l.links k → l.common ∣ capped l.line k m;
+}
