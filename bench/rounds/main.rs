@@ -1,6 +1,7 @@
 // The rounds of a planning with every single-link failure, by the code of the crates without its contracts: the best certificate of
-// the cuts so far, all states at its share, and the cuts that they find, until no state finds one. Prints processor time.
-// Usage: rounds NETWORK [forget], with a network file whose nodes are n0, n1 ..; with `forget` nothing is kept of a state from round to round
+// the cuts so far, states at its share, and the cuts that they find, until no state finds one. Prints processor time.
+// Usage: rounds NETWORK [each], with a network file whose nodes are n0, n1 ..; with `each` every state is asked in each round, and without it
+// rounds stop early
 #![allow(dead_code, unused)]
 mod checked_fraction;
 mod flow_mending;
@@ -52,7 +53,8 @@ use flow_router::RouteAnswer;
 use master_bound::{Best, master};
 use metric_cut::{Cut, opening};
 use module_prices::unit_pair;
-use net_core::{Caps, Copied, CutLine, Demand, Demands, Global, Instance, Link, List, Module, Network, NodeId, StateId, States};
+use net_core::{Caps, Copied, CutLine, Demand, Demands, Global, Instance, Link, List, Module, Network, NodeId, RouteTask, StateId, States};
+use node_sets::grown_set;
 use separator::known_state::KnownState;
 
 impl Copied for master_bound::answer::Multiplier {
@@ -138,23 +140,33 @@ fn main() {
             cuts.push(line_of(cut, &demands)).ok();
         }
     }
-    let forget = words.get(2).is_some_and(|word| word == "forget");
+    let way = words.get(2).map_or("", |word| word.as_str());
     let mut kept: std::vec::Vec<_> = (0..states.count()).map(|_| KnownState::new(Global)).collect();
     let (opening, mut rounds, mut bounding, mut separating) = (cuts.len(), 0, 0, 0);
+    let (mut first, mut tests) = (0, 0);
     loop {
         let begin = clock();
         let Ok(best) = master(Global, &net, &cuts) else { panic!("the master program is wide") };
         let found = clock();
         let caps = caps_of(&net, &best);
         let mut further = vec![];
-        for s in 0..states.count() {
-            if forget {
-                kept[s as usize] = KnownState::new(Global);
+        if way == "each" || rounds == 0 {
+            for s in 0..states.count() {
+                tests += 1;
+                further.extend(cut_in(kept[s as usize].separate(Global, &instance, StateId(s), &caps).unwrap()));
             }
-            match kept[s as usize].separate(Global, &instance, StateId(s), &caps).unwrap() {
-                RouteAnswer::Routed(_) => {}
-                RouteAnswer::Violated(cut) => further.push(line_of(&cut, &demands)),
-                RouteAnswer::Wide(_) => panic!("state {s} is wide"),
+        } else {
+            further = sets_at(&instance, &caps);
+            if further.is_empty() {
+                for k in 0..states.count() {
+                    let s = (first + k) % states.count();
+                    tests += 1;
+                    further.extend(cut_in(kept[s as usize].route(Global, &instance, StateId(s), &caps).unwrap()));
+                    if !further.is_empty() {
+                        first = s;
+                        break;
+                    }
+                }
             }
         }
         rounds += 1;
@@ -164,7 +176,7 @@ fn main() {
             let (raw, ms) = (format!("{}/{}", best.raw_num, best.raw_den), |t: i64| t as f64 / 1e3);
             let (nodes, links, count, bits) = (net.nodes.len(), net.links.len(), demands.len(), best.share.scale.ilog2() + 1);
             println!(
-                "| {nodes} | {links} | {count} | {raw} | {rounds} | {} ({opening}) | {bits} | {:.0} | {:.0} |",
+                "| {nodes} | {links} | {count} | {raw} | {rounds} | {} ({opening}) | {bits} | {tests} | {:.0} | {:.0} |",
                 cuts.len(),
                 ms(bounding),
                 ms(separating)
@@ -172,7 +184,22 @@ fn main() {
             return;
         }
         for cut in further {
-            cuts.push(cut).ok();
+            cuts.push(line_of(&cut, &demands)).ok();
         }
     }
+}
+
+/// The cut that an answer is, if it is one.
+fn cut_in(answer: RouteAnswer) -> Option<Cut> {
+    match answer {
+        RouteAnswer::Routed(_) => None,
+        RouteAnswer::Violated(cut) => Some(cut),
+        RouteAnswer::Wide(_) => panic!("a state is wide"),
+    }
+}
+
+/// The cuts of violated sets of nodes, at most one of a state.
+fn sets_at(instance: &Instance, caps: &Caps) -> std::vec::Vec<Cut> {
+    let task = |s| RouteTask { graph: instance.in_state(StateId(s)), demands: instance.demands, caps };
+    (0..instance.states.count()).filter_map(|s| grown_set(Global, &task(s)).unwrap()).collect()
 }

@@ -1,7 +1,7 @@
 #!/usr/bin/env bash
 # The rounds of plannings with every single-link failure, by the code of the crates without its contracts.
 # Usage: bench/rounds/run.sh SEED.NODES|NAME ..      sample networks, and networks of the sizes in bench/plans/sizes.py with seed 1;
-# each with what is kept of the states from round to round, and without
+# each with all states asked in each round, and with rounds that stop early
 set -eu
 cd "$(dirname "$0")/../.."
 room=$(mktemp -d)
@@ -11,13 +11,14 @@ rm "$room/metric_cut.rs" "$room/separator.rs" "$room/plan_types.rs"
 cp bench/rounds/main.rs bench/trim/net_core.rs "$room"
 grep -lE '\bVec\b' "$room"/*/*.rs | xargs sed -i '1i use crate::net_core::Vec;'
 rustc -O --edition 2024 -o "$room/rounds" "$room/main.rs"
-echo '| Network | Nodes | Links | Demands | Raw value | Rounds | Cuts (opening) | Bits of the scale | Certificates, ms | States, ms | States with nothing kept, ms |'
-echo '|---|---|---|---|---|---|---|---|---|---|---|'
+echo '| Network | Way | Nodes | Links | Demands | Raw value | Rounds | Cuts (opening) | Bits of the scale | States asked | Certificates, ms | States, ms |'
+echo '|---|---|---|---|---|---|---|---|---|---|---|---|'
 for name in "$@"; do
   case $name in
     *.*) python3 bench/sample/sample.py "${name%.*}" "${name#*.}" file >"$room/network" ;;
     *) python3 bench/plans/sizes.py "$name" >"$room/network" ;;
   esac
-  forgotten=$("$room/rounds" "$room/network" forget | awk -F'|' '{ print $(NF - 1) }')
-  echo "| $name $("$room/rounds" "$room/network")$forgotten|"
+  for way in each early; do
+    echo "| $name | $way $("$room/rounds" "$room/network" $way)"
+  done
 done
