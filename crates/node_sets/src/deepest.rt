@@ -10,9 +10,9 @@ const MOST: usize = 12;
 
 /// A set with what crosses its boundary.
 #[derive(Clone, Copy)]
-struct Found {
-    set: NodeSet,
-    boundary: Crossing,
+pub(crate) struct Found {
+    pub(crate) set: NodeSet,
+    pub(crate) boundary: Crossing,
 }
 
 /// The violated sets that have least capacity for each unit of demand: up to 12 of those that were offered, the least first, each once.
@@ -21,6 +21,12 @@ pub(crate) struct Deepest {
     all: NodeSet,
     scale: u64,
     found: Vec<Found>,
+}
+
+/// What takes sets as they grow.
+pub(crate) trait TakesSets {
+    /// Takes a set, with what crosses its boundary.
+    fn offer(&mut self, set: NodeSet, boundary: Crossing) -> Result<(), NoMemory>;
 }
 
 /// Where a set belongs: before the first that has more capacity for each unit of demand.
@@ -47,8 +53,16 @@ impl Deepest {
         }
     }
 
+    /// The first set whose boundary a failed link crosses, and the first of all where there is none.
+    pub(crate) fn choose(&self, task: &RouteTask) -> Option<NodeSet> {
+        let crossed = self.found.iter().find(|f| crosses_failed(task, f.set));
+        crossed.or(self.found.first()).map(|f| f.set)
+    }
+}
+
+impl TakesSets for Deepest {
     /// Keeps a set if it is violated and one of the least.
-    pub(crate) fn offer(&mut self, set: NodeSet, boundary: Crossing) -> Result<(), NoMemory> {
+    fn offer(&mut self, set: NodeSet, boundary: Crossing) -> Result<(), NoMemory> {
         if !boundary.is_short(self.scale) {
             return Ok(());
         }
@@ -62,12 +76,6 @@ impl Deepest {
             self.found.truncate(MOST);
         }
         Ok(())
-    }
-
-    /// The first set whose boundary a failed link crosses, and the first of all where there is none.
-    pub(crate) fn choose(&self, task: &RouteTask) -> Option<NodeSet> {
-        let crossed = self.found.iter().find(|f| crosses_failed(task, f.set));
-        crossed.or(self.found.first()).map(|f| f.set)
     }
 }
 

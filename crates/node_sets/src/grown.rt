@@ -3,7 +3,7 @@ ghost use Rattle.plan_terms.specs.Terms.{graph_of};
 ghost use Rattle.node_sets.specs.Boundaries.{IsBoundaryCut};
 
 use crate::boundary::cut_of_chosen;
-use crate::deepest::Deepest;
+use crate::deepest::{Deepest, TakesSets};
 use crate::growth::Growth;
 use crate::narrow::are_narrow;
 use crate::pair_table::PairTable;
@@ -11,15 +11,15 @@ use metric_cut::Cut;
 use net_core::{NoMemory, NodeId, RouteTask};
 use std::alloc::Global;
 
-/// The node beside a set with which the boundary has least capacity for each unit of demand.
-fn next_node(growth: &Growth, nodes: u32) -> Option<NodeId>
+/// The node beside a set with which the boundary has least capacity for each unit of demand; one node may be left out.
+fn next_node(growth: &Growth, nodes: u32, without: Option<NodeId>) -> Option<NodeId>
     requires { nodes ≡ growth.now.table.now.nodes }
     ensures { IfSome result (λ node. node.0 < nodes) }
 {
     let mut next = None;
     for k in 0..nodes {
         let node = NodeId(k);
-        if growth.is_beside(node) {
+        if growth.is_beside(node) && without != Some(node) {
             let boundary = growth.boundary_with(node);
             next = match next {
                 Some((_, least)) if !boundary.is_deeper(&least) => next,
@@ -30,25 +30,26 @@ fn next_node(growth: &Growth, nodes: u32) -> Option<NodeId>
     next.map(|(node, _)| node)
 }
 
-/// Offers the sets that grow from a node, up to half of all nodes.
-fn grow_from(
+/// Offers the sets that grow from a node, up to half of all nodes; one node may be left out of them.
+pub(crate) fn grow_from<T: TakesSets>(
     alloc: Global,
     table: &PairTable,
     start: NodeId,
-    deepest: &mut Deepest,
+    without: Option<NodeId>,
+    taker: &mut T,
 ) -> Result<(), NoMemory>
     requires { start.0 < table.now.nodes }
 {
     let nodes = table.nodes();
     let mut growth = Growth::empty(alloc, table)?;
     growth.add(start);
-    deepest.offer(growth.set(), growth.boundary())?;
+    taker.offer(growth.set(), growth.boundary())?;
     for _ in 1..nodes / 2 {
-        match next_node(&growth, nodes) {
+        match next_node(&growth, nodes, without) {
             Some(node) => growth.add(node),
             None => return Ok(()),
         }
-        deepest.offer(growth.set(), growth.boundary())?;
+        taker.offer(growth.set(), growth.boundary())?;
     }
     Ok(())
 }
@@ -75,7 +76,7 @@ pub fn grown_set(alloc: Global, task: &RouteTask) -> Result<Option<Cut>, NoMemor
     let table = PairTable::new(alloc, task)?;
     let mut deepest = Deepest::new(alloc, table.nodes(), task.caps.scale);
     for k in 0..table.nodes() {
-        grow_from(alloc, &table, NodeId(k), &mut deepest)?;
+        grow_from(alloc, &table, NodeId(k), None, &mut deepest)?;
     }
     cut_of_chosen(alloc, task, &deepest)
 }

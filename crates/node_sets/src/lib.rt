@@ -15,7 +15,9 @@ mod growth;
 mod narrow;
 mod node_set;
 mod pair_table;
+mod round_sets;
 mod threshold;
 
 pub use grown::grown_set;
+pub use round_sets::{RoundSets, round_set};
 pub use threshold::threshold_set;

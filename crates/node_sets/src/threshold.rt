@@ -3,7 +3,7 @@ ghost use Rattle.plan_terms.specs.Terms.{graph_of};
 ghost use Rattle.node_sets.specs.Boundaries.{IsBoundaryCut};
 
 use crate::boundary::cut_of_chosen;
-use crate::deepest::Deepest;
+use crate::deepest::{Deepest, TakesSets};
 use crate::growth::Growth;
 use crate::narrow::are_narrow;
 use crate::node_set::NodeSet;
