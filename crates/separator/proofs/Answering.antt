@@ -26,6 +26,16 @@ use Rattle.separator.proofs.Seeing.{get_more}
 pub line_is : (demands : List Demand) (cut : Cut) (line : CutLine) → IsLineAt demands cut line → cut_of_line line ≡ state_and_lengths cut
 line_is demands cut line is = let one = ap (λ st. st.0) is.state in let two = is.lengths in cc (one, two)
 
+-- it is the cut that is answered
+pub cut_named : (demands : List Demand) (cut : Cut) (line : CutLine) → IsLineAt demands cut line → (spot : Spot) (cuts : List (ℕ × List ℕ)) → (cuts ≡ []) ⊎ (cuts ≡ state_and_lengths cut ∷ [])
+    → All (Contains (cut_answered (Violated line spot))) cuts
+cut_named demands cut line is spot cuts only =
+    let named = cut_answered (Violated line spot) in
+    ⊎_elim
+    (λ none. subst (All (Contains named)) (sym none) (All-nil (Contains named)))
+    (λ one. subst (All (Contains named)) (sym one) (All-cons (Contains named) (state_and_lengths cut) [] (0, omega arith, line_is demands cut line is) (All-nil (Contains named))))
+    only
+
 -- no cuts
 pub no_cuts : (p : Case) (caps : Caps) (s : ℕ) → AreCutsOf p caps s []
 no_cuts p caps s = record { few = omega arith; of = All-nil (λ (c : ℕ × List ℕ). c.0 ≡ s); separating = All-nil (SeparatesAt p caps) }
@@ -86,15 +96,6 @@ module _ (p : Case) (caps : Caps) (s : ℕ) (cut : Cut) (line : CutLine) (found 
       }))
       only
 
-  -- it is the cut that is answered
-  pub at_most_answered : (spot : Spot) (cuts : List (ℕ × List ℕ)) → (cuts ≡ []) ⊎ (cuts ≡ state_and_lengths cut ∷ []) → All (Contains (cut_answered (Violated line spot))) cuts
-  at_most_answered spot cuts only =
-      let named = cut_answered (Violated line spot) in
-      ⊎_elim
-      (λ none. subst (All (Contains named)) (sym none) (All-nil (Contains named)))
-      (λ one. subst (All (Contains named)) (sym one) (All-cons (Contains named) (state_and_lengths cut) [] (0, omega arith, line_is p.demands cut line is) (All-nil (Contains named))))
-      only
-
   -- so it is on a board
   pub pools_only : (old new : Board) → PoolsOnly old new (state_and_lengths cut) → PoolsOf p caps s old new (cuts_after old.entries new.entries)
   pools_only old new only =
@@ -107,8 +108,10 @@ module _ (p : Case) (caps : Caps) (s : ℕ) (cut : Cut) (line : CutLine) (found 
         cuts_are = cuts_at_most since (at_most_since old new (state_and_lengths cut) only);
       }
 
-  pub among_answered : (old new : Board) (spot : Spot) → PoolsOnly old new (state_and_lengths cut) → All (Contains (cut_answered (Violated line spot))) (cuts_after old.entries new.entries)
-  among_answered old new spot only = at_most_answered spot (cuts_after old.entries new.entries) (at_most_since old new (state_and_lengths cut) only)
+-- where a board pools nothing more, or this cut, it is the cut that is answered
+pub among_answered : (demands : List Demand) (cut : Cut) (line : CutLine) → IsLineAt demands cut line → (old new : Board) (spot : Spot) → PoolsOnly old new (state_and_lengths cut)
+    → All (Contains (cut_answered (Violated line spot))) (cuts_after old.entries new.entries)
+among_answered demands cut line is old new spot only = cut_named demands cut line is spot (cuts_after old.entries new.entries) (at_most_since old new (state_and_lengths cut) only)
 
 -- a board whose pool stays as it is
 pub of_same : (p : Case) (caps : Caps) (s : ℕ) (old new : Board) → PoolsMore old new [] → PoolsOf p caps s old new (cuts_after old.entries new.entries)

@@ -9,8 +9,8 @@ use Rattle.cut_pool.specs.Terms.{cut_of_line}
 use Rattle.separator.specs.declared.answers.Separated.{Separated}
 use Rattle.separator.specs.declared.answers.Separated.TheVariants.{Routed, Violated, Wide}
 use Rattle.separator.specs.declared.answers.StateAnswer.{StateAnswer}
-use Rattle.separator.specs.Separators.{AreSomeAnswers, AreStateAnswers, IsAnswerOf, IsSpotIn, cut_answered, cuts_answered}
-use Rattle.separator.specs.inner.Working.{AreCutsAnswered, AreOtherAnswers, IsOtherAnswerOf}
+use Rattle.separator.specs.Separators.{AreAnswersUntilCut, AreRoundAnswers, AreStateAnswers, AreViolatedStates, IsAnswerOf, IsSpotIn, cut_answered, cuts_answered}
+use Rattle.separator.specs.inner.Working.{AreCutsAnswered, AreOtherAnswers}
 use Rattle.separator.proofs.Answering.{answer_later}
 use Rattle.separator.proofs.Seeing.{get_more}
 
@@ -42,78 +42,74 @@ among_more answers a xs ys so_far named =
     (λ k d lt. Contains-append_right (cuts_answered answers) (cut_answered a.answer ++ []) (get_or ys k d)
     (Contains-append_left (cut_answered a.answer) [] (get_or ys k d) (named k d lt))))
 
+none_both : (xs ys : List StateAnswer) → cuts_answered xs ≡ [] → cuts_answered ys ≡ [] → cuts_answered (xs ++ ys) ≡ []
+none_both xs ys one two = flat_map-append (λ (x : StateAnswer). cut_answered x.answer) xs ys ∙ (ap (λ (cs : List (ℕ × List ℕ)). cs ++ cuts_answered ys) one ∙ two)
+
 module _ (p : Case) (caps : Caps) where
   -- ---- answers that are no cuts
 
-  other_answer : (h : List Entry) (s : ℕ) (answer : Separated) → IsOtherAnswerOf p caps s answer → IsAnswerOf p caps h s answer
-  other_answer h s (Routed routing) is = is
-  other_answer h s (Violated line spot) is = absurd is
-  other_answer h s (Wide evidence) is = is
-
-  pub is_other : (h : List Entry) (s : ℕ) (answer : Separated) → cut_answered answer ≡ [] → IsAnswerOf p caps h s answer → IsOtherAnswerOf p caps s answer
-  is_other h s (Routed routing) none is = is
-  is_other h s (Violated line spot) none is = absurd (let e : cut_of_line line ∷ [] ≡ [] = none in cc e)
-  is_other h s (Wide evidence) none is = is
+  -- what is no cut stands at any history
+  any_history : (h now : List Entry) (s : ℕ) (answer : Separated) → cut_answered answer ≡ [] → IsAnswerOf p caps h s answer → IsAnswerOf p caps now s answer
+  any_history h now s (Routed routing) none is = is
+  any_history h now s (Violated line spot) none is = absurd (let e : cut_of_line line ∷ [] ≡ [] = none in cc e)
+  any_history h now s (Wide evidence) none is = is
 
   pub others_none : (m : ℕ) (answers : List StateAnswer) → answers ≡ [] → AreOtherAnswers p caps m m answers
   others_none m answers is = record {
     count = let none = ap length is in omega (arith, none);
-    each = λ i a at. absurd (let e : None ≡ Some a = ap (λ (xs : List StateAnswer). slice_get xs i) (sym is) ∙ at in cc e);
+    each = λ now i a at. absurd (let e : None ≡ Some a = ap (λ (xs : List StateAnswer). slice_get xs i) (sym is) ∙ at in cc e);
+    none = ap cuts_answered is;
   }
 
-  pub others_more : (m n : ℕ) (answers : List StateAnswer) (a : StateAnswer) → AreOtherAnswers p caps m n answers → a.state.0 ≡ n → IsOtherAnswerOf p caps n a.answer
-      → AreOtherAnswers p caps m (n + 1) (answers ++ a ∷ [])
-  others_more m n answers a are state is = record {
+  pub others_more : (h : List Entry) (m n : ℕ) (answers : List StateAnswer) (a : StateAnswer) → AreOtherAnswers p caps m n answers → a.state.0 ≡ n → cut_answered a.answer ≡ []
+      → IsAnswerOf p caps h n a.answer → AreOtherAnswers p caps m (n + 1) (answers ++ a ∷ [])
+  others_more h m n answers a are state none is = record {
     count = let few = are.count in omega (arith, few, length-append answers (a ∷ []));
-    each = λ i x at. ⊎_elim
-        (λ (before : (i < length answers) × (slice_get answers i ≡ Some x)). are.each i x before.1)
+    each = λ now i x at. ⊎_elim
+        (λ (before : (i < length answers) × (slice_get answers i ≡ Some x)). are.each now i x before.1)
         (λ (last : (i ≡ length answers) × (a ≡ x)).
         let here : n ≡ m + i = let few = are.count in omega (arith, few, last.0) in
-        let there : (a.state.0 ≡ m + i) × IsOtherAnswerOf p caps (m + i) a.answer = (state ∙ here, subst (λ k. IsOtherAnswerOf p caps k a.answer) here is) in
-        subst (λ (y : StateAnswer). (y.state.0 ≡ m + i) × IsOtherAnswerOf p caps (m + i) y.answer) last.1 there)
+        let there : (a.state.0 ≡ m + i) × IsAnswerOf p caps now (m + i) a.answer = (state ∙ here, subst (λ k. IsAnswerOf p caps now k a.answer) here (any_history h now n a.answer none is)) in
+        subst (λ (y : StateAnswer). (y.state.0 ≡ m + i) × IsAnswerOf p caps now (m + i) y.answer) last.1 there)
         (get_more answers a i x at);
+    none = none_both answers (a ∷ []) are.none (ap (λ (cs : List (ℕ × List ℕ)). cs ++ []) none);
   }
 
   pub others_both : (m n t : ℕ) (xs ys : List StateAnswer) → AreOtherAnswers p caps m n xs → AreOtherAnswers p caps n t ys → AreOtherAnswers p caps m t (xs ++ ys)
   others_both m n t xs ys one two = record {
     count = let first = one.count in let second = two.count in omega (arith, first, second, length-append xs ys);
-    each = λ i x at. ⊎_elim
-        (λ (before : (i < length xs) × (slice_get xs i ≡ Some x)). one.each i x before.1)
+    each = λ now i x at. ⊎_elim
+        (λ (before : (i < length xs) × (slice_get xs i ≡ Some x)). one.each now i x before.1)
         (λ (after : (j : ℕ) × (i ≡ length xs + j) × (slice_get ys j ≡ Some x)).
         let here : n + after.0 ≡ m + i = let first = one.count in omega (arith, first, after.1) in
-        let is = two.each after.0 x after.2 in
-        (is.0 ∙ here, subst (λ k. IsOtherAnswerOf p caps k x.answer) here is.1))
+        let is = two.each now after.0 x after.2 in
+        (is.0 ∙ here, subst (λ k. IsAnswerOf p caps now k x.answer) here is.1))
         (get_both xs ys i x at);
+    none = none_both xs ys one.none two.none;
   }
 
   others_all : (h : List Entry) (answers : List StateAnswer) → AreOtherAnswers p caps 0 (length p.listed + 1) answers → AreStateAnswers p caps h answers
   others_all h answers are = record {
     count = let all = are.count in omega (arith, all);
     each = λ s a at.
-        let is = are.each s a at in
+        let is = are.each h s a at in
         let same : 0 + s ≡ s = omega arith in
-        (is.0 ∙ same, other_answer h s a.answer (subst (λ k. IsOtherAnswerOf p caps k a.answer) same is.1));
-  }
-
-  -- the answers of all states are right answers of different ones
-  pub all_are_some : (h : List Entry) (answers : List StateAnswer) → AreStateAnswers p caps h answers → AreSomeAnswers p caps h answers
-  all_are_some h answers are = record {
-    different = λ i j d ij lj same.
-        let one = are.each i (get_or answers i d) (slice_get-get_or answers i d (omega (arith, ij, lj))) in
-        let two = are.each j (get_or answers j d) (slice_get-get_or answers j d lj) in
-        omega (arith, one.0, two.0, same, ij);
-    right = λ k d lt.
-        let one = are.each k (get_or answers k d) (slice_get-get_or answers k d lt) in
-        let all = are.count in
-        (omega (arith, one.0, lt, all), subst (λ s. IsAnswerOf p caps h s (get_or answers k d).answer) (sym one.0) one.1);
-    cutless = λ none. are;
+        (is.0 ∙ same, subst (λ k. IsAnswerOf p caps h k a.answer) same is.1);
   }
 
   -- the answers from a state on, after those of the states before it
   pub ring_answers : (h : List Entry) (start : ℕ) (answers later all : List StateAnswer) → AreOtherAnswers p caps 0 start answers
-      → AreOtherAnswers p caps start (length p.listed + 1) later → all ≡ answers ++ later → AreSomeAnswers p caps h all
+      → AreOtherAnswers p caps start (length p.listed + 1) later → all ≡ answers ++ later → AreAnswersUntilCut p caps h all
   ring_answers h start answers later all one two is =
-      subst (AreSomeAnswers p caps h) (sym is) (all_are_some h (answers ++ later) (others_all h (answers ++ later) (others_both 0 start (length p.listed + 1) answers later one two)))
+      let both = others_both 0 start (length p.listed + 1) answers later one two in
+      subst (AreAnswersUntilCut p caps h) (sym is) (inr (others_all h (answers ++ later) both, both.none))
+
+  -- a round that stops early
+  pub until_cut_are_of_round : (h : List Entry) (answers : List StateAnswer) → AreAnswersUntilCut p caps h answers → AreRoundAnswers p caps h answers
+  until_cut_are_of_round h answers are = ⊎_elim
+      (λ (cuts : AreViolatedStates p caps h answers). inr cuts)
+      (λ (all : AreStateAnswers p caps h answers × (cuts_answered answers ≡ [])). inl all.0)
+      are
 
   -- ---- answers that are cuts
 
@@ -174,9 +170,11 @@ module _ (p : Case) (caps : Caps) where
   cut_alone h s n cuts a lt state is one named =
       answered_wider (s + 1) n h cuts (a ∷ []) (omega (arith, lt)) (cut_more h h (λ cut spot at. at) s [] cuts [] a (cuts_unanswered s h [] refl) state is one named)
 
-  pub cuts_are_some : (h : List Entry) (cuts : List (ℕ × List ℕ)) (answers : List StateAnswer) → AreCutsAnswered p caps (length p.listed + 1) h cuts answers → 0 < length answers → AreSomeAnswers p caps h answers
-  cuts_are_some h cuts answers are some = record {
+  pub cuts_are_some : (h : List Entry) (cuts : List (ℕ × List ℕ)) (answers : List StateAnswer) → AreCutsAnswered p caps (length p.listed + 1) h cuts answers → 0 < length answers
+      → AreAnswersUntilCut p caps h answers
+  cuts_are_some h cuts answers are some = inl (record {
+    some = some;
     different = are.different;
     right = λ k d lt. let low = are.below k d lt in (omega (arith, low), are.right k d lt);
-    cutless = λ none. absurd (let few = ap length none in let count = are.are_cuts in omega (arith, few, count, some));
-  }
+    cuts = are.are_cuts;
+  })

@@ -5,7 +5,7 @@ use Rattle.net_core.proofs.Library.{All-nil}
 use Rattle.plan_terms.specs.Terms.{Caps, Case}
 use Rattle.cut_pool.specs.declared.board.Board.{Board}
 use Rattle.separator.specs.declared.answers.StateAnswer.{StateAnswer}
-use Rattle.separator.specs.Separators.{AreSomeAnswers, IsAnswerOf, cut_answered, cuts_answered, cuts_after}
+use Rattle.separator.specs.Separators.{AreAnswersUntilCut, IsAnswerOf, cut_answered, cuts_answered, cuts_after}
 use Rattle.separator.specs.inner.Working.{AddsCut, AreCutsAnswered, IsCutAnswer, PoolsBelow, PoolsMore, PoolsOf}
 use Rattle.separator.proofs.Answering.{cuts_more, cuts_none, cuts_weaker}
 use Rattle.separator.proofs.Pooling.{pools_both, pools_none, pools_since, spot_later}
@@ -81,13 +81,13 @@ module _ (p : Case) (caps : Caps) where
   -- the one cut that is answered, after nothing was
   pub only_is_some : (n : ℕ) (a b c : Board) (x : StateAnswer) (answers : List StateAnswer) → n ≤ length p.listed + 1 → PoolsMore a b [] → PoolsMore b c (cuts_after b.entries c.entries)
       → AreCutsAnswered p caps n c.entries (cuts_after b.entries c.entries) (x ∷ []) → answers ≡ x ∷ []
-      → AreSomeAnswers p caps c.entries answers × All (Contains (cuts_answered answers)) (cuts_after a.entries c.entries)
+      → AreAnswersUntilCut p caps c.entries answers × All (Contains (cuts_answered answers)) (cuts_after a.entries c.entries)
   only_is_some n a b c x answers le none more are is =
       let all = length p.listed + 1 in
       let wide : AreCutsAnswered p caps all c.entries (cuts_after a.entries c.entries) (x ∷ []) =
       subst (λ (cuts : List (ℕ × List ℕ)). AreCutsAnswered p caps all c.entries cuts (x ∷ [])) (cuts_after_nothing a b c none more)
       (answered_wider p caps n all c.entries (cuts_after b.entries c.entries) (x ∷ []) le are) in
-      subst (λ (xs : List StateAnswer). AreSomeAnswers p caps c.entries xs × All (Contains (cuts_answered xs)) (cuts_after a.entries c.entries)) (sym is)
+      subst (λ (xs : List StateAnswer). AreAnswersUntilCut p caps c.entries xs × All (Contains (cuts_answered xs)) (cuts_after a.entries c.entries)) (sym is)
       (cuts_are_some p caps c.entries (cuts_after a.entries c.entries) (x ∷ []) wide (omega arith), wide.among)
 
   -- no cut is pooled where none is found

@@ -116,8 +116,18 @@ cut_answered (Wide evidence) = []
 abbrev pub cuts_answered : List StateAnswer → List (ℕ × List ℕ)
 cuts_answered answers = flat_map (λ a. cut_answered a.answer) answers
 
--- Right answers of different states. Where none of them is a cut, there is one for each state, in their order.
-pub record AreSomeAnswers (p : Case) (caps : Caps) (history : List Entry) (answers : List StateAnswer) : Type 0 where
+-- cuts of different states that the capacities violate, one or more, with the spots where they stand
+pub record AreViolatedStates (p : Case) (caps : Caps) (history : List Entry) (answers : List StateAnswer) : Type 0 where
+  pub some : 0 < length answers
   pub different : AllPairs (λ x y. x.state.0 ≢ y.state.0) answers
   pub right : All (λ a. (a.state.0 ≤ length p.listed) × IsAnswerOf p caps history a.state.0 a.answer) answers
-  pub cutless : cuts_answered answers ≡ [] → AreStateAnswers p caps history answers
+  pub cuts : length (cuts_answered answers) ≡ length answers
+
+-- violated cuts of different states and nothing else, or one answer for each state, in their order, and none of them is a cut
+abbrev pub AreAnswersUntilCut : Case → Caps → List Entry → List StateAnswer → Type 0
+AreAnswersUntilCut p caps history answers =
+    AreViolatedStates p caps history answers ⊎ (AreStateAnswers p caps history answers × (cuts_answered answers ≡ []))
+
+-- the answers of a round, in which each state is asked, or states are asked until one is violated
+abbrev pub AreRoundAnswers : Case → Caps → List Entry → List StateAnswer → Type 0
+AreRoundAnswers p caps history answers = AreStateAnswers p caps history answers ⊎ AreViolatedStates p caps history answers

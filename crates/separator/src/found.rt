@@ -1,8 +1,9 @@
 ghost use Rattle.std.specs.Prelude.{◌≡◌, ◌<◌, All, Contains, IfOk, length};
 ghost use Rattle.plan_terms.specs.Terms.{graph_in, case_of};
-ghost use Rattle.separator.specs.Findings.{IsFinding, IsFoundCutOf};
+ghost use Rattle.metric_cut.specs.Cuts.{IsCutOf};
+ghost use Rattle.separator.specs.Findings.{IsFinding};
 ghost use Rattle.separator.specs.Separators.{IsAnswerOf, cut_answered, cuts_after};
-ghost use Rattle.separator.specs.inner.Working.{PoolsOf};
+ghost use Rattle.separator.specs.inner.Working.{AnswersFound, PoolsFound, PoolsOf};
 
 use crate::admission::line_and_spot;
 use crate::answers::{Separated, StateAnswer};
@@ -15,20 +16,18 @@ use net_core::{Caps, Instance, NoMemory, StateId};
 pub fn answer_cut(
     instance: &Instance,
     state: StateId,
-    caps: &Caps,
     cut: Cut,
     board: &mut Board,
 ) -> Result<StateAnswer, NoMemory>
     requires net { board.old.net.now ≡ instance.now.net.now }
     requires listed { board.old.states.now ≡ instance.now.states.now }
-    requires found { IsFoundCutOf (graph_in (case_of instance.now) state.0) instance.now.demands.now caps.now cut }
-    ensures pools { PoolsOf (case_of instance.now) caps.now state.0 board.old board.new (cuts_after board.old.entries board.new.entries) }
+    requires cut { IsCutOf (graph_in (case_of instance.now) state.0) cut }
+    ensures pools { PoolsFound (case_of instance.now) state.0 cut board.old board.new }
     ensures state { IfOk result (λ a. a.state ≡ state) }
-    ensures answer { IfOk result (λ a. IsAnswerOf (case_of instance.now) caps.now board.new.entries state.0 a.answer) }
+    ensures answer { IfOk result (λ a. AnswersFound (case_of instance.now) state.0 cut board.new.entries a.answer) }
     ensures among { IfOk result (λ a. All (Contains (cut_answered a.answer)) (cuts_after board.old.entries board.new.entries)) }
     ensures one { IfOk result (λ a. length (cut_answered a.answer) ≡ 1) }
 {
-    let _caps = caps;
     let (line, spot) = line_and_spot(instance.demands, cut, board)?;
     Ok(StateAnswer {
         state,
@@ -57,7 +56,7 @@ pub fn answer_found(
             state,
             answer: Separated::Routed(routing),
         }),
-        RouteAnswer::Violated(cut) => answer_cut(instance, state, caps, cut, board),
+        RouteAnswer::Violated(cut) => answer_cut(instance, state, cut, board),
         RouteAnswer::Wide(evidence) => Ok(StateAnswer {
             state,
             answer: Separated::Wide(evidence),

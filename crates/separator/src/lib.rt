@@ -29,6 +29,6 @@ pub use admission::{line_of, spot_after};
 pub use answers::{Separated, StateAnswer};
 pub use known_state::KnownState;
 pub use one_by_one::OneByOne;
-pub use one_state::{separate_from, separate_state, set_in_state};
+pub use one_state::{separate_from, separate_state, set_in_state, sets_of_round};
 pub use separating::Separate;
-pub use some_states::{is_cut, joined};
+pub use some_states::{answers_of_both, is_cut};

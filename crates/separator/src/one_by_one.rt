@@ -31,7 +31,7 @@ pub struct OneByOne<'a> {
     alloc: Global,
     began: Remembered<u64>,
     known: KnownStates,
-    /// The state that was violated last when states were asked in a ring, where the next ring begins.
+    /// The state that was violated last when states were asked in a ring. The next ring begins with it.
     first: u32,
     pub ghost began_before: { began.value ≤ length board.entries },
 }
@@ -134,7 +134,7 @@ impl<'a> Separate for OneByOne<'a> {
         answer_states(self.alloc, instance, caps, &mut self.board, &mut self.known)
     }
 
-    fn separate_some(
+    fn separate_until_cut(
         &mut self,
         instance: &Instance,
         caps: &Caps,

@@ -8,7 +8,7 @@ use crate::ranges::are_caps;
 use flow_router::{RouteAnswer, route_task};
 use metric_cut::Cut;
 use net_core::{Caps, Instance, List, NoMemory, RouteColumn, RouteTask, StateId};
-use node_sets::{grown_set, threshold_set};
+use node_sets::{RoundSets, grown_set, round_set, threshold_set};
 use std::alloc::Global;
 use warm_routing::{WarmAnswer, WarmRouter};
 
@@ -201,14 +201,34 @@ pub fn route_from<'a>(
     route_warm(alloc, &task, known, warm)
 }
 
-/// A cut of a set of nodes that the capacities violate in a state, as `grown_set` finds it. `None` says nothing of the capacities.
+/// The sets of nodes that grow where no link fails, for all states that are asked at these capacities.
 ///
-/// It takes time in the cube of the nodes.
+/// It takes time in the cube of the nodes, and 56 bytes times their square.
+pub fn sets_of_round<'a>(
+    alloc: Global,
+    instance: &Instance<'a>,
+    caps: &'a Caps,
+) -> Result<RoundSets, NoMemory>
+    requires scale { 0 < caps.now.scale }
+    requires caps { length caps.now.nums ≡ length instance.now.net.now.links }
+{
+    let task = RouteTask {
+        graph: instance.in_state(StateId(0)),
+        demands: instance.demands,
+        caps,
+    };
+    RoundSets::grow(alloc, &task)
+}
+
+/// A cut of a set of nodes that the capacities violate in a state, as `round_set` finds it, or none; there may be violated sets all the same.
+///
+/// It takes the time and the memory of `round_set`.
 pub fn set_in_state<'a>(
     alloc: Global,
     instance: &Instance<'a>,
     state: StateId,
     caps: &'a Caps,
+    sets: &RoundSets,
 ) -> Result<Option<Cut>, NoMemory>
     requires state { state.0 < length instance.now.states.now.listed + 1 }
     requires scale { 0 < caps.now.scale }
@@ -220,5 +240,5 @@ pub fn set_in_state<'a>(
         demands: instance.demands,
         caps,
     };
-    grown_set(alloc, &task)
+    round_set(alloc, &task, sets)
 }

@@ -2,7 +2,7 @@ ghost use Rattle.std.specs.Prelude.{◌≡◌, ◌≢◌, ◌<◌, All, AllPairs
 ghost use Rattle.plan_terms.specs.Terms.{Entry, case_of, graph, IsSurvivable};
 ghost use Rattle.metric_cut.specs.Cuts.{IsCutOf};
 ghost use Rattle.turn_lock.specs.Passes.{Seen};
-ghost use Rattle.separator.specs.Separators.{AreSomeAnswers, AreStateAnswers, Frame, IsSeenHistory, IsSpotIn, SeesMore, SeparatesAt, cuts_answered, cuts_since};
+ghost use Rattle.separator.specs.Separators.{AreAnswersUntilCut, AreStateAnswers, Frame, IsSeenHistory, IsSpotIn, SeesMore, SeparatesAt, cuts_answered, cuts_since};
 
 use crate::answers::StateAnswer;
 use metric_cut::Cut;
@@ -46,10 +46,10 @@ pub trait Separate {
         ensures answered { IfOk result (λ answers. All (Contains (cuts_answered answers)) (cuts_since (seen_of self.old) (seen_of self.new))) };
 
     /// Asks of states whether the capacities, one number for each link over a scale, carry the demands there, until they don't in one: a
-    /// round that stops early. Its answers are of different states, and one of them is a cut that the capacities violate, or there is one
-    /// of each state, in their order. Each cut is put into the pool, while there is room. Out of memory, some cuts may have been put there
-    /// all the same.
-    fn separate_some(
+    /// round that stops early. What is answered are cuts that the capacities violate, of different states and in any order; where no cut is
+    /// found, each state is answered, in their order. Each cut is put into the pool, while there is room. Out of memory, some cuts may have
+    /// been put there all the same.
+    fn separate_until_cut(
         &mut self,
         instance: &Instance,
         caps: &Caps,
@@ -63,7 +63,7 @@ pub trait Separate {
         ensures more { SeesMore (seen_of self.old) (seen_of self.new) }
         ensures separating { ∥ All (SeparatesAt (case_of instance.now) caps.now) (cuts_since (seen_of self.old) (seen_of self.new)) ∥₁ }
         ensures different { AllPairs (λ x y. x.0 ≢ y.0) (cuts_since (seen_of self.old) (seen_of self.new)) }
-        ensures answers { IfOk result (λ answers. ∥ AreSomeAnswers (case_of instance.now) caps.now (seen_of self.new).history answers ∥₁) }
+        ensures answers { IfOk result (λ answers. ∥ AreAnswersUntilCut (case_of instance.now) caps.now (seen_of self.new).history answers ∥₁) }
         ensures answered { IfOk result (λ answers. All (Contains (cuts_answered answers)) (cuts_since (seen_of self.old) (seen_of self.new))) };
 
     /// What has been seen keeps the limits of a history, and the own entries stand in it.

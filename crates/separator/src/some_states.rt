@@ -1,22 +1,24 @@
 ghost use Rattle.std.specs.Prelude.{◌≡◌, ◌≤◌, ◌<◌, ◌+◌, ◌++◌, [], ◌∷◌, All, Contains, IfOk, IfSome, IsTrue, None, OnOk, false, length};
 ghost use Rattle.plan_terms.specs.Terms.{case_of, IsSurvivable};
-ghost use Rattle.separator.specs.Separators.{AreSomeAnswers, IsAnswerOf, cut_answered, cuts_after, cuts_answered};
-ghost use Rattle.separator.specs.inner.Working.{AddsCut, AreCutsAnswered, AreOtherAnswers, GoOnTo, PoolsBelow, PoolsMore, PoolsOf};
+ghost use Rattle.separator.specs.Separators.{AreAnswersUntilCut, IsAnswerOf, cut_answered, cuts_after, cuts_answered};
+ghost use Rattle.separator.specs.inner.Working.{AddsCut, AreCutsAnswered, AreOtherAnswers, ContinueTo, PoolsBelow, PoolsMore, PoolsOf};
 
 use crate::answers::{Separated, StateAnswer};
 use crate::found::{answer_cut, answer_found};
-use crate::one_state::set_in_state;
+use crate::one_state::{set_in_state, sets_of_round};
 use crate::warm_start::KnownStates;
 use cut_pool::Board;
 use net_core::{Caps, Instance, List, NoMemory, StateId};
+use node_sets::RoundSets;
 use std::alloc::Global;
 
-/// Puts the cut of a violated set of nodes of a state to the answers, if there is one, and admits it to the board's pool.
+/// Puts the cut of a violated set of nodes of a state to the answers, if one is found, and admits it to the board's pool.
 fn answer_set(
     alloc: Global,
     instance: &Instance,
     state: StateId,
     caps: &Caps,
+    sets: &RoundSets,
     board: &mut Board,
     answers: &mut List<StateAnswer>,
 ) -> Result<(), NoMemory>
@@ -29,9 +31,9 @@ fn answer_set(
     ensures adds { OnOk result (AddsCut (case_of instance.now) caps.now state.0 board.new.entries
         (cuts_after board.old.entries board.new.entries) answers.old answers.new) }
 {
-    match set_in_state(alloc, instance, state, caps)? {
+    match set_in_state(alloc, instance, state, caps, sets)? {
         Some(cut) => {
-            let answer = answer_cut(instance, state, caps, cut, board)?;
+            let answer = answer_cut(instance, state, cut, board)?;
             answers.push(answer)?;
             Ok(())
         }
@@ -39,7 +41,7 @@ fn answer_set(
     }
 }
 
-/// The cuts of violated sets of nodes, one of each state that has one, admitted to the board's pool.
+/// The cuts of violated sets of nodes, one of each state of which one is found, admitted to the board's pool.
 fn answer_sets(
     alloc: Global,
     instance: &Instance,
@@ -55,14 +57,23 @@ fn answer_sets(
     ensures cuts { IfOk result (AreCutsAnswered (case_of instance.now) caps.now (length instance.now.states.now.listed + 1)
         board.new.entries (cuts_after board.old.entries board.new.entries)) }
 {
+    let sets = sets_of_round(alloc, instance, caps)?;
     let mut answers = List::new(alloc);
     for s in 0..instance.states.count() {
-        answer_set(alloc, instance, StateId(s), caps, board, &mut answers)?;
+        answer_set(
+            alloc,
+            instance,
+            StateId(s),
+            caps,
+            &sets,
+            board,
+            &mut answers,
+        )?;
     }
     Ok(answers)
 }
 
-/// What is found of a state in which no set of nodes is violated, its cut admitted to the board's pool where one is found.
+/// What is found of a state by routing alone, its cut admitted to the board's pool where one is found.
 fn answer_routed(
     instance: &Instance,
     state: StateId,
@@ -116,7 +127,7 @@ fn ask_until_cut(
     ensures pools { PoolsBelow (case_of instance.now) caps.now to board.old board.new (cuts_after board.old.entries board.new.entries) }
     ensures cut { IfOk result (λ o. IfSome o (λ a. AreCutsAnswered (case_of instance.now) caps.now to board.new.entries
         (cuts_after board.old.entries board.new.entries) (a ∷ []))) }
-    ensures others { IfOk result (λ o. o ≡ None → PoolsMore board.old board.new [] × GoOnTo (case_of instance.now) caps.now from to others.old others.new) }
+    ensures others { IfOk result (λ o. o ≡ None → PoolsMore board.old board.new [] × ContinueTo (case_of instance.now) caps.now from to others.old others.new) }
 {
     for s in from..to {
         let answer = answer_routed(instance, StateId(s), caps, board, known)?;
@@ -143,7 +154,7 @@ fn only_cut(
 }
 
 /// The answers of both lists, one list after the other.
-pub fn joined(
+pub fn answers_of_both(
     answers: List<StateAnswer>,
     others: List<StateAnswer>,
 ) -> Result<List<StateAnswer>, NoMemory>
@@ -175,13 +186,13 @@ fn ask_before(
     requires caps { length caps.now.nums ≡ length instance.now.net.now.links }
     ensures pools { PoolsBelow (case_of instance.now) caps.now (length instance.now.states.now.listed + 1) board.old board.new
         (cuts_after board.old.entries board.new.entries) }
-    ensures answers { IfOk result (AreSomeAnswers (case_of instance.now) caps.now board.new.entries) }
+    ensures answers { IfOk result (AreAnswersUntilCut (case_of instance.now) caps.now board.new.entries) }
     ensures among { IfOk result (λ answers. All (Contains (cuts_answered answers)) (cuts_after board.old.entries board.new.entries)) }
 {
     let mut answers = List::new(alloc);
     match ask_until_cut(instance, caps, 0, start, board, known, &mut answers)? {
         Some(cut) => only_cut(alloc, cut, first),
-        None => joined(answers, later),
+        None => answers_of_both(answers, later),
     }
 }
 
@@ -201,7 +212,7 @@ fn ask_ring(
     requires caps { length caps.now.nums ≡ length instance.now.net.now.links }
     ensures pools { PoolsBelow (case_of instance.now) caps.now (length instance.now.states.now.listed + 1) board.old board.new
         (cuts_after board.old.entries board.new.entries) }
-    ensures answers { IfOk result (AreSomeAnswers (case_of instance.now) caps.now board.new.entries) }
+    ensures answers { IfOk result (AreAnswersUntilCut (case_of instance.now) caps.now board.new.entries) }
     ensures among { IfOk result (λ answers. All (Contains (cuts_answered answers)) (cuts_after board.old.entries board.new.entries)) }
 {
     let count = instance.states.count();
@@ -213,8 +224,9 @@ fn ask_ring(
     }
 }
 
-/// The cuts of violated sets of nodes that are found of the states, where there are any. Else the states are asked in a ring, from the one
-/// that was violated last when states were asked: the first cut that is found then, and where none is, the answers of all states.
+/// The cuts of those violated sets of nodes that growing finds, one of each state that has one. Where it finds none, the states are asked in
+/// a ring, from the one that was violated last when states were asked: the first cut that is found then, and where none is, the answers of
+/// all states.
 pub fn answer_some(
     alloc: Global,
     instance: &Instance,
@@ -230,7 +242,7 @@ pub fn answer_some(
     requires caps { length caps.now.nums ≡ length instance.now.net.now.links }
     ensures pools { PoolsBelow (case_of instance.now) caps.now (length instance.now.states.now.listed + 1) board.old board.new
         (cuts_after board.old.entries board.new.entries) }
-    ensures answers { IfOk result (AreSomeAnswers (case_of instance.now) caps.now board.new.entries) }
+    ensures answers { IfOk result (AreAnswersUntilCut (case_of instance.now) caps.now board.new.entries) }
     ensures among { IfOk result (λ answers. All (Contains (cuts_answered answers)) (cuts_after board.old.entries board.new.entries)) }
 {
     let cuts = answer_sets(alloc, instance, caps, board)?;

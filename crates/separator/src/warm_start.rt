@@ -40,7 +40,7 @@ impl KnownStates {
         separate_known(self.alloc, instance, state, caps, &mut self.by_state)
     }
 
-    /// Answers a state of which no set of nodes is known to be violated, and begins with what is kept of it.
+    /// Answers a state as `route_from` does, and begins with what is kept of it.
     pub fn route_state(
         &mut self,
         instance: &Instance,

@@ -1,14 +1,13 @@
 -- a board while cuts are put into its pool
 use Rattle.std.specs.Prelude.{◌≡◌, ◌≢◌, ℕ, ◌+◌, ◌≤◌, ◌<◌, ◌⊎◌, ◌++◌, List, [], ◌∷◌, All, AllPairs, Contains, Some, length, slice_get}
 use Rattle.plan_terms.specs.Terms.{Entry, Caps, Case, graph_in}
-use Rattle.flow_router.specs.Answers.{IsEvidenceHere, IsRouted}
 use Rattle.metric_cut.specs.declared.cut.Cut.{Cut}
 use Rattle.cut_pool.specs.declared.board.Board.{Board}
 use Rattle.cut_pool.specs.Terms.{origin_of, cuts_of}
-use Rattle.separator.specs.declared.answers.Separated.{Separated}
-use Rattle.separator.specs.declared.answers.Separated.TheVariants.{Routed, Violated, Wide}
 use Rattle.separator.specs.declared.answers.StateAnswer.{StateAnswer}
-use Rattle.separator.specs.Separators.{IsAnswerOf, IsCutEntry, IsFullHistory, SeparatesAt, cut_answered, cuts_answered}
+use Rattle.separator.specs.declared.answers.Separated.{Separated}
+use Rattle.separator.specs.Findings.{IsFoundCutOf}
+use Rattle.separator.specs.Separators.{IsAnswerOf, IsCutEntry, IsFullHistory, SeparatesAt, cut_answered, cuts_after, cuts_answered}
 
 -- state and lengths of a cut
 abbrev pub state_and_lengths : Cut → ℕ × List ℕ
@@ -49,6 +48,14 @@ pub record PoolsOf (p : Case) (caps : Caps) (s : ℕ) (old new : Board) (cuts : 
   pub pools : PoolsMore old new cuts
   pub cuts_are : AreCutsOf p caps s cuts
 
+-- so it does at any capacities at which this cut is found of state s
+abbrev pub PoolsFound : Case → ℕ → Cut → (old new : Board) → Type 0
+PoolsFound p s cut old new = (caps : Caps) → IsFoundCutOf (graph_in p s) p.demands caps cut → PoolsOf p caps s old new (cuts_after old.entries new.entries)
+
+-- the right answer of state s at any capacities at which this cut is found of the state
+abbrev pub AnswersFound : Case → ℕ → Cut → List Entry → Separated → Type 0
+AnswersFound p s cut history answer = (caps : Caps) → IsFoundCutOf (graph_in p s) p.demands caps cut → IsAnswerOf p caps history s answer
+
 -- the answers of the states below n, among which each of these cuts is
 pub record AreAnswersBelow (p : Case) (caps : Caps) (n : ℕ) (history : List Entry) (cuts : List (ℕ × List ℕ)) (answers : List StateAnswer) : Type 0 where
   pub count : length answers ≡ n
@@ -63,20 +70,15 @@ pub record AreCutsAnswered (p : Case) (caps : Caps) (n : ℕ) (history : List En
   pub are_cuts : length (cuts_answered answers) ≡ length answers
   pub among : All (Contains (cuts_answered answers)) cuts
 
--- what is found of state s is no cut
-abbrev pub IsOtherAnswerOf : Case → Caps → ℕ → Separated → Type 0
-IsOtherAnswerOf p caps s (Routed routing) = IsRouted (graph_in p s) p.demands caps routing
-IsOtherAnswerOf p caps s (Violated line spot) = ⊥
-IsOtherAnswerOf p caps s (Wide evidence) = IsEvidenceHere (graph_in p s) p.demands caps evidence
-
--- the answers of the states from m on to before n, in their order, none of which is a cut
+-- the answers of the states from m on to before n, in their order; none of them is a cut, so they hold at any history
 pub record AreOtherAnswers (p : Case) (caps : Caps) (m n : ℕ) (answers : List StateAnswer) : Type 0 where
   pub count : m + length answers ≡ n
-  pub each : (i : ℕ) (a : StateAnswer) → slice_get answers i ≡ Some a → (a.state.0 ≡ m + i) × IsOtherAnswerOf p caps (m + i) a.answer
+  pub each : (history : List Entry) (i : ℕ) (a : StateAnswer) → slice_get answers i ≡ Some a → (a.state.0 ≡ m + i) × IsAnswerOf p caps history (m + i) a.answer
+  pub none : cuts_answered answers ≡ []
 
 -- they go on with those from n on to before t
-abbrev pub GoOnTo : Case → Caps → (n t : ℕ) → (old new : List StateAnswer) → Type 0
-GoOnTo p caps n t old new = (m : ℕ) → AreOtherAnswers p caps m n old → AreOtherAnswers p caps m t new
+abbrev pub ContinueTo : Case → Caps → (n t : ℕ) → (old new : List StateAnswer) → Type 0
+ContinueTo p caps n t old new = (m : ℕ) → AreOtherAnswers p caps m n old → AreOtherAnswers p caps m t new
 
 -- the answer of state s is a cut, and each of these cuts is it
 pub record IsCutAnswer (p : Case) (caps : Caps) (s : ℕ) (history : List Entry) (cuts : List (ℕ × List ℕ)) (a : StateAnswer) : Type 0 where

@@ -6,6 +6,6 @@ use Rattle.separator.proofs.one_state.set_in_state.Goals as goal
 pub returns : goal.returns
 returns c =
     let instance = c.args.instance.now in
-    IfOk-weaker c.grown_set.result _ _
+    IfOk-weaker c.round_set.result _ _
     (λ found. boundary_may_be (graph_of c.in_state.result) (graph_in (case_of instance) c.args.state.0) instance.demands.now c.args.caps.now found c.in_state.ensures.graph)
-    c.grown_set.ensures
+    c.round_set.ensures

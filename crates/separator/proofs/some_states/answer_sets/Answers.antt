@@ -4,6 +4,12 @@ use Rattle.separator.proofs.Answering.{below_more, below_none, below_weaker}
 use Rattle.separator.proofs.SomeBoards.{board_adds, board_unanswered}
 use Rattle.separator.proofs.some_states.answer_sets.Goals as goal
 
+pub returns-in_err-sets-clause-pools : goal.returns-in_err-sets-clause-pools
+returns-in_err-sets-clause-pools c =
+    let p = case_of c.args.instance.now in
+    let b = c.args.board.now in
+    below_weaker p c.args.caps.now 0 (length c.args.instance.now.states.now.listed + 1) b b (omega arith) (below_none p c.args.caps.now b)
+
 pub loop-s-init : goal.loop-s-init
 loop-s-init c =
     let p = case_of c.args.instance.now in

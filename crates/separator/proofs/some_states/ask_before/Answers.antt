@@ -50,13 +50,13 @@ returns-in-None-clause-answers c =
     let caps = c.args.caps.now in
     let now = c.ask_until_cut.new.board in
     let told = c.in_ok-cut.ensures.others c.in-None.is in
-    IfOk-weaker c.joined.result _ _
+    IfOk-weaker c.answers_of_both.result _ _
     (λ all is. ring_answers p caps now.entries c.args.start c.ask_until_cut.new.others c.args.later all (told.1 0 (others_none p caps 0 c.new-answers.result c.new-answers.ensures)) c.requires.later is)
-    c.joined.ensures
+    c.answers_of_both.ensures
 
 pub returns-in-None-clause-among : goal.returns-in-None-clause-among
 returns-in-None-clause-among c =
     let told = c.in_ok-cut.ensures.others c.in-None.is in
-    IfOk-weaker c.joined.result _ _
+    IfOk-weaker c.answers_of_both.result _ _
     (λ all is. none_is_among (case_of c.args.instance.now) c.args.caps.now c.args.board.now c.ask_until_cut.new.board (cuts_answered all) told.0)
-    c.joined.ensures
+    c.answers_of_both.ensures

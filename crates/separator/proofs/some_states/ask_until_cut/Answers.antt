@@ -1,9 +1,9 @@
 use Rattle.std.proofs.Common.{◌≡◌, ℕ, List, [], ◌∷◌, ap, arith, subst}
 use Rattle.plan_terms.specs.Terms.{case_of}
 use Rattle.separator.specs.Separators.{cut_answered, cuts_after}
-use Rattle.separator.specs.inner.Working.{AreCutsAnswered, GoOnTo}
+use Rattle.separator.specs.inner.Working.{AreCutsAnswered, ContinueTo}
 use Rattle.separator.proofs.Pooling.{pools_none}
-use Rattle.separator.proofs.SomeAnswers.{cut_alone, is_other, others_more}
+use Rattle.separator.proofs.SomeAnswers.{cut_alone, others_more}
 use Rattle.separator.proofs.SomeBoards.{below_after_nothing, cuts_after_nothing, nothing_below, nothing_both, of_is_below, pools_nothing}
 use Rattle.separator.proofs.some_states.ask_until_cut.Goals as goal
 
@@ -60,7 +60,7 @@ loop-s-preserved c =
     let none = c.is_cut.ensures.none c.if-is_cut.false in (
       nothing_both c.args.board.now b now c.loop-s.invariant.0 (pools_nothing b now (cut_answered x.answer) none c.in_ok-answer.ensures.among c.answer_routed.ensures.pools.pools),
       λ m are. rw c.in_ok-push.ensures.ok
-          (others_more p caps m s c.loop-s.others x (c.loop-s.invariant.1 m are) (ap (λ st. st.0) c.in_ok-answer.ensures.state) (is_other p caps now.entries s x.answer none c.in_ok-answer.ensures.answer)),
+          (others_more p caps now.entries m s c.loop-s.others x (c.loop-s.invariant.1 m are) (ap (λ st. st.0) c.in_ok-answer.ensures.state) none c.in_ok-answer.ensures.answer),
     )
 
 pub returns-clause-pools : goal.returns-clause-pools
@@ -69,4 +69,4 @@ returns-clause-pools c = nothing_below (case_of c.args.instance.now) c.args.caps
 pub returns-clause-others : goal.returns-clause-others
 returns-clause-others c none =
     let p = case_of c.args.instance.now in
-    (c.loop-s.invariant.0, subst (λ k. GoOnTo p c.args.caps.now c.args.from k c.args.others.now c.loop-s.others) (let end : c.loop-s.s ≡ c.args.to = omega arith in end) c.loop-s.invariant.1)
+    (c.loop-s.invariant.0, subst (λ k. ContinueTo p c.args.caps.now c.args.from k c.args.others.now c.loop-s.others) (let end : c.loop-s.s ≡ c.args.to = omega arith in end) c.loop-s.invariant.1)

@@ -3,7 +3,7 @@ use Rattle.net_core.proofs.Library.{IfOk-weaker}
 use Rattle.plan_terms.specs.Terms.{case_of}
 use Rattle.separator.specs.Separators.{SeparatesAt, cuts_answered, cuts_after}
 use Rattle.separator.proofs.Answering.{own_cuts, same_frame, sees_more}
-use Rattle.separator.proofs.one_by_one.OneByOneSeparate.separate_some.Goals as goal
+use Rattle.separator.proofs.one_by_one.OneByOneSeparate.separate_until_cut.Goals as goal
 
 pub returns-clause-frame : goal.returns-clause-frame
 returns-clause-frame c = same_frame c.args.self.now.began.value c.args.self.now.board c.answer_some.new.board c.answer_some.ensures.pools.pools.origin
