@@ -11,11 +11,11 @@ use Rattle.turn_lock.specs.Passes.{opening_of}
 use Rattle.cut_pool.specs.Terms.{cuts_of}
 use Rattle.separator.specs.declared.answers.StateAnswer.{StateAnswer}
 use Rattle.separator.specs.Separators.{IsAnswerOf, IsSpotIn, cut_answered, cuts_since}
-use Rattle.separator.specs.inner.Working.{AddsCut, AreAnswersBelow, AreCutsAnswered, AreCutsBelow, AreCutsOf, AreOtherAnswers, GoOnTo, IsCutAnswer}
+use Rattle.separator.specs.inner.Working.{AddsCut, AreAnswersBelow, AreCutsAnswered, AreCutsBelow, AreCutsOf, AreOtherAnswers, ContinueTo, IsCutAnswer}
 use Rattle.separator.proofs.Answering.{answers_more, answers_none, cuts_more, cuts_none, cuts_weaker, no_cuts}
 use Rattle.separator.proofs.Pooling.{cuts_both}
 use Rattle.separator.proofs.Seeing.{sees_both, sees_none, spot_later}
-use Rattle.separator.proofs.SomeAnswers.{among_none, answered_later, answered_wider, cut_more, cuts_unanswered, is_other, others_more}
+use Rattle.separator.proofs.SomeAnswers.{among_none, answered_later, answered_wider, cut_more, cuts_unanswered, others_more}
 use Rattle.separation_workers.specs.declared.round.Round.{Round}
 use Rattle.separation_workers.specs.Callers.{SeesOn}
 use Rattle.separation_workers.specs.inner.Rounds.{IsInRound, IsPutApart}
@@ -179,10 +179,10 @@ module _ (p : Case) (caps : Caps) where
 
   -- an answer more among those that are no cuts, while there is no cut
   pub put_goes_on : (h : List Entry) (from n : ℕ) (start : List StateAnswer) (x : StateAnswer) (cuts cuts_now others others_now : List StateAnswer) → IsPutApart x cuts cuts_now others others_now
-      → x.state.0 ≡ n → IsAnswerOf p caps h n x.answer → (cuts ≡ [] → GoOnTo p caps from n start others) → cuts_now ≡ [] → GoOnTo p caps from (n + 1) start others_now
+      → x.state.0 ≡ n → IsAnswerOf p caps h n x.answer → (cuts ≡ [] → ContinueTo p caps from n start others) → cuts_now ≡ [] → ContinueTo p caps from (n + 1) start others_now
   put_goes_on h from n start x cuts cuts_now others others_now put state is so_far empty m are = ⊎_elim
       (λ (one : (length (cut_answered x.answer) ≡ 1) × (cuts_now ≡ cuts ++ x ∷ []) × (others_now ≡ others)).
       absurd (let none = ap length (sym one.1 ∙ empty) in omega (arith, none, length-append cuts (x ∷ []))))
       (λ (none : (cut_answered x.answer ≡ []) × (cuts_now ≡ cuts) × (others_now ≡ others ++ x ∷ [])).
-      subst (AreOtherAnswers p caps m (n + 1)) (sym none.2) (others_more p caps m n others x (so_far (sym none.1 ∙ empty) m are) state (is_other p caps h n x.answer none.0 is)))
+      subst (AreOtherAnswers p caps m (n + 1)) (sym none.2) (others_more p caps h m n others x (so_far (sym none.1 ∙ empty) m are) state none.0 is))
       put

@@ -15,13 +15,13 @@ use std::thread::Threads;
 /// So many threads work for a caller beside its own.
 const HELPERS: u32 = 3;
 
-/// What is found of a state by what is kept of it, and first among sets of nodes if these weren't looked at.
+/// What is found of a state by what is kept of it, and before that among sets of nodes, if it isn't asked by routing alone.
 fn ask(round: &Round, state: StateId, known: &mut KnownState) -> Result<RouteAnswer, NoMemory>
     requires { state.0 < length round.now.instance.states.now.listed + 1 }
     ensures { IfOk result (IsFoundOf round.now state.0) }
 {
     let instance = &round.instance;
-    if round.has_sets {
+    if round.by_routing_alone {
         known.route(round.alloc, instance, state, round.caps)
     } else {
         known.separate(round.alloc, instance, state, round.caps)
@@ -47,12 +47,12 @@ fn route(round: &Round, state: StateId) -> Result<RouteAnswer, NoMemory>
     )
 }
 
-/// What is found of a state: first by the lengths that are shown, if sets of nodes weren't looked at, then by routing.
+/// What is found of a state: first by the lengths that are shown, if it isn't asked by routing alone, then by routing.
 pub fn find_state(round: &Round, state: StateId) -> Result<RouteAnswer, NoMemory>
     requires { state.0 < length round.now.instance.states.now.listed + 1 }
     ensures { IfOk result (IsFoundOf round.now state.0) }
 {
-    if round.has_sets {
+    if round.by_routing_alone {
         return route(round, state);
     }
     match hinted_cut(round, state)? {
@@ -73,7 +73,7 @@ fn find_or_stop(round: &Round, work: &Work, state: StateId) -> Result<RouteAnswe
     found
 }
 
-/// What one worker finds of the states that it takes. The gate hears of each.
+/// What one worker finds of the states that it takes. The gate, which is a hold, hears of each.
 fn find_some<G: Gate>(gate: &G, round: &Round, work: &Work) -> Result<Vec<StateFound>, NoMemory>
     requires { work.now.end ≤ length round.now.instance.states.now.listed + 1 }
     ensures { IfOk result (λ found. All (IsStateFound round.now) found.items) }
@@ -154,8 +154,8 @@ fn by_state(round: &Round, found: Vec<StateFound>) -> Result<List<Option<StateFo
     Ok(List::from_vec(places))
 }
 
-/// What the workers of a round find of the states from one on to before another, each at the place of its state. The gate hears of a state
-/// on the thread that works on it.
+/// What the workers of a round find of the states from one on to before another, each at the place of its state. The gate is a hold, which
+/// hears of a state on the thread that works on it; the caller's own gate hears of it elsewhere.
 pub fn find_states<R: Threads, G: Gate + Sync>(
     rt: &R,
     gate: &G,

@@ -24,8 +24,8 @@ pub struct Round<'i, 'c, 'h, 'k> {
     pub hints: &'h HintBoard,
     /// What is kept of each state, from state 0 on; where there is nothing, a state is routed without.
     pub kept: &'k [KeptState],
-    /// Whether the sets of nodes of all states are looked at apart, so that the workers ask a state without hints and sets.
-    pub has_sets: bool,
+    /// Whether states are asked by routing alone: without the lengths that are shown, and without sets of nodes.
+    pub by_routing_alone: bool,
     pub ghost survivable: { IsSurvivable (case_of instance) },
     pub ghost scale: { 0 < caps.now.scale },
     pub ghost count: { length caps.now.nums ≡ length instance.net.now.links },

@@ -1,8 +1,8 @@
 ghost use Rattle.std.specs.Prelude.{◌≡◌, ◌≤◌, ◌<◌, ◌+◌, [], All, Contains, IfOk, OnOk, length};
 ghost use Rattle.plan_terms.specs.Terms.{case_of};
 ghost use Rattle.board_desk.specs.Turns.{caller_seen};
-ghost use Rattle.separator.specs.Separators.{AreSomeAnswers, cuts_answered, cuts_since};
-ghost use Rattle.separator.specs.inner.Working.{AddsCut, AreCutsAnswered, AreCutsBelow, AreCutsOf, AreOtherAnswers, GoOnTo};
+ghost use Rattle.separator.specs.Separators.{AreAnswersUntilCut, cuts_answered, cuts_since};
+ghost use Rattle.separator.specs.inner.Working.{AddsCut, AreCutsAnswered, AreCutsBelow, AreCutsOf, AreOtherAnswers, ContinueTo};
 ghost use Rattle.separation_workers.specs.Callers.{SeesOn};
 ghost use Rattle.separation_workers.specs.inner.Rounds.{AreFound, IsInRound, IsPutApart};
 
@@ -12,20 +12,22 @@ use crate::round::{Round, StateFound};
 use crate::workers::{answer_cut, answer_state, found_of};
 use board_desk::Caller;
 use net_core::{List, NoMemory, StateId};
+use node_sets::RoundSets;
 use outside_io::Gate;
-use separator::{StateAnswer, is_cut, joined, set_in_state};
+use separator::{StateAnswer, answers_of_both, is_cut, set_in_state, sets_of_round};
 use std::sync::Wait;
 use std::thread::Threads;
 
 /// So many states of a ring are asked beside each other. It doesn't change with the processors, so that the answers don't.
 const BATCH: u32 = 4;
 
-/// Puts the cut of a violated set of nodes of a state to the answers, if there is one, and into the pool.
+/// Puts the cut of a violated set of nodes of a state to the answers, if one is found, and into the pool.
 fn answer_set<R: Wait, G: Gate>(
     rt: &R,
     gate: &G,
     round: &Round,
     state: StateId,
+    sets: &RoundSets,
     caller: &mut Caller,
     answers: &mut List<StateAnswer>,
 ) -> Result<(), NoMemory>
@@ -36,8 +38,9 @@ fn answer_set<R: Wait, G: Gate>(
     ensures adds { OnOk result (AddsCut (case_of round.now.instance) round.now.caps.now state.0 (caller_seen caller.new).history
         (cuts_since (caller_seen caller.old) (caller_seen caller.new)) answers.old answers.new) }
 {
-    match set_in_state(round.alloc, &round.instance, state, round.caps)? {
+    match set_in_state(round.alloc, &round.instance, state, round.caps, sets)? {
         Some(cut) => {
+            gate.before(round.caller, state.0);
             gate.after(round.caller, state.0);
             let answer = answer_cut(rt, round, state, cut, caller)?;
             answers.push(answer)?;
@@ -47,7 +50,7 @@ fn answer_set<R: Wait, G: Gate>(
     }
 }
 
-/// The cuts of violated sets of nodes, one of each state that has one, put into the pool.
+/// The cuts of violated sets of nodes, one of each state of which one is found, put into the pool.
 fn answer_sets<R: Wait, G: Gate>(
     rt: &R,
     gate: &G,
@@ -61,9 +64,10 @@ fn answer_sets<R: Wait, G: Gate>(
     ensures cuts { IfOk result (AreCutsAnswered (case_of round.now.instance) round.now.caps.now (length round.now.instance.states.now.listed + 1)
         (caller_seen caller.new).history (cuts_since (caller_seen caller.old) (caller_seen caller.new))) }
 {
+    let sets = sets_of_round(round.alloc, &round.instance, round.caps)?;
     let mut answers = List::new(round.alloc);
     for s in 0..round.instance.states.count() {
-        answer_set(rt, gate, round, StateId(s), caller, &mut answers)?;
+        answer_set(rt, gate, round, StateId(s), &sets, caller, &mut answers)?;
     }
     Ok(answers)
 }
@@ -103,7 +107,7 @@ fn answer_places<R: Wait, G: Gate>(
     ensures below { AreCutsBelow (case_of round.now.instance) round.now.caps.now to (cuts_since (caller_seen caller.old) (caller_seen caller.new)) }
     ensures cuts { IfOk result (AreCutsAnswered (case_of round.now.instance) round.now.caps.now to
         (caller_seen caller.new).history (cuts_since (caller_seen caller.old) (caller_seen caller.new))) }
-    ensures others { IfOk result (λ cuts. cuts ≡ [] → GoOnTo (case_of round.now.instance) round.now.caps.now from to others.old others.new) }
+    ensures others { IfOk result (λ cuts. cuts ≡ [] → ContinueTo (case_of round.now.instance) round.now.caps.now from to others.old others.new) }
 {
     let mut cuts = List::new(round.alloc);
     for s in from..to {
@@ -132,8 +136,11 @@ fn answer_batch<R: Threads + Wait, G: Gate>(
     ensures below { AreCutsBelow (case_of round.now.instance) round.now.caps.now to (cuts_since (caller_seen caller.old) (caller_seen caller.new)) }
     ensures cuts { IfOk result (AreCutsAnswered (case_of round.now.instance) round.now.caps.now to
         (caller_seen caller.new).history (cuts_since (caller_seen caller.old) (caller_seen caller.new))) }
-    ensures others { IfOk result (λ cuts. cuts ≡ [] → GoOnTo (case_of round.now.instance) round.now.caps.now from to others.old others.new) }
+    ensures others { IfOk result (λ cuts. cuts ≡ [] → ContinueTo (case_of round.now.instance) round.now.caps.now from to others.old others.new) }
 {
+    for state in from..to {
+        gate.before(round.caller, state);
+    }
     let mut places = find_states(rt, hold, round, from, to)?;
     answer_places(
         rt,
@@ -165,7 +172,7 @@ fn ask_until_cuts<R: Threads + Wait, G: Gate>(
     ensures below { AreCutsBelow (case_of round.now.instance) round.now.caps.now to (cuts_since (caller_seen caller.old) (caller_seen caller.new)) }
     ensures cuts { IfOk result (AreCutsAnswered (case_of round.now.instance) round.now.caps.now to
         (caller_seen caller.new).history (cuts_since (caller_seen caller.old) (caller_seen caller.new))) }
-    ensures others { IfOk result (λ cuts. cuts ≡ [] → GoOnTo (case_of round.now.instance) round.now.caps.now from to others.old others.new) }
+    ensures others { IfOk result (λ cuts. cuts ≡ [] → ContinueTo (case_of round.now.instance) round.now.caps.now from to others.old others.new) }
 {
     let mut at = from;
     while at < to {
@@ -204,13 +211,13 @@ fn ask_before<R: Threads + Wait, G: Gate>(
     ensures goes { SeesOn caller.old caller.new }
     ensures below { AreCutsBelow (case_of round.now.instance) round.now.caps.now (length round.now.instance.states.now.listed + 1)
         (cuts_since (caller_seen caller.old) (caller_seen caller.new)) }
-    ensures answers { IfOk result (AreSomeAnswers (case_of round.now.instance) round.now.caps.now (caller_seen caller.new).history) }
+    ensures answers { IfOk result (AreAnswersUntilCut (case_of round.now.instance) round.now.caps.now (caller_seen caller.new).history) }
     ensures among { IfOk result (λ answers. All (Contains (cuts_answered answers)) (cuts_since (caller_seen caller.old) (caller_seen caller.new))) }
 {
     let mut answers = List::new(round.alloc);
     let cuts = ask_until_cuts(rt, gate, hold, round, 0, start, caller, &mut answers)?;
     if cuts.len() == 0 {
-        return joined(answers, later);
+        return answers_of_both(answers, later);
     }
     *first = first_state(cuts.items());
     Ok(cuts)
@@ -229,7 +236,7 @@ fn ask_ring<R: Threads + Wait, G: Gate>(
     ensures goes { SeesOn caller.old caller.new }
     ensures below { AreCutsBelow (case_of round.now.instance) round.now.caps.now (length round.now.instance.states.now.listed + 1)
         (cuts_since (caller_seen caller.old) (caller_seen caller.new)) }
-    ensures answers { IfOk result (AreSomeAnswers (case_of round.now.instance) round.now.caps.now (caller_seen caller.new).history) }
+    ensures answers { IfOk result (AreAnswersUntilCut (case_of round.now.instance) round.now.caps.now (caller_seen caller.new).history) }
     ensures among { IfOk result (λ answers. All (Contains (cuts_answered answers)) (cuts_since (caller_seen caller.old) (caller_seen caller.new))) }
 {
     let count = round.instance.states.count();
@@ -243,9 +250,9 @@ fn ask_ring<R: Threads + Wait, G: Gate>(
     Ok(cuts)
 }
 
-/// The cuts of violated sets of nodes that are found of the states, where there are any. Else the states are asked in a ring, four beside
-/// each other, from the one that was violated last when states were asked, until cuts are found: these, and where none is, the answers of
-/// all states.
+/// The cuts of those violated sets of nodes that growing finds, one of each state that has one. Where it finds none, the states are asked in
+/// a ring, four beside each other, from the one that was violated last when states were asked, until cuts are found: these, and where none is,
+/// the answers of all states.
 pub fn answer_some<R: Threads + Wait, G: Gate>(
     rt: &R,
     gate: &G,
@@ -258,12 +265,9 @@ pub fn answer_some<R: Threads + Wait, G: Gate>(
     ensures goes { SeesOn caller.old caller.new }
     ensures below { AreCutsBelow (case_of round.now.instance) round.now.caps.now (length round.now.instance.states.now.listed + 1)
         (cuts_since (caller_seen caller.old) (caller_seen caller.new)) }
-    ensures answers { IfOk result (AreSomeAnswers (case_of round.now.instance) round.now.caps.now (caller_seen caller.new).history) }
+    ensures answers { IfOk result (AreAnswersUntilCut (case_of round.now.instance) round.now.caps.now (caller_seen caller.new).history) }
     ensures among { IfOk result (λ answers. All (Contains (cuts_answered answers)) (cuts_since (caller_seen caller.old) (caller_seen caller.new))) }
 {
-    for state in 0..round.instance.states.count() {
-        gate.before(round.caller, state);
-    }
     let cuts = answer_sets(rt, gate, round, caller)?;
     if cuts.len() == 0 {
         return ask_ring(rt, gate, hold, round, first, caller);

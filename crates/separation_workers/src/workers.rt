@@ -41,8 +41,9 @@ pub struct DeskMark<'a> {
 /// puts their cuts into the pool, in the order of the states and in a turn for each, so that other callers edit and plan meanwhile. It
 /// waits for these turns, and may never return.
 ///
-/// The gate hears on the caller's own thread: of each state before a round, and again of each that has an answer, when its worker and those
-/// beside it are done and before its cut is put into the pool. A hold hears of a state on the thread that works on it.
+/// The gate hears on the caller's own thread: of each state that is asked, before its worker begins, and again when this worker and those
+/// beside it are done and before a cut of the state is put into the pool. In a round that stops early it hears of no other state, but of one
+/// with a violated set of nodes, both times before the cut is put into the pool. A hold hears of a state on the thread that works on it.
 #[derive(Drop)]
 pub struct Workers<'r, 'd, 'a, R, G> {
     rt: &'r R,
@@ -52,7 +53,7 @@ pub struct Workers<'r, 'd, 'a, R, G> {
     hints: &'r HintBoard,
     caller: Caller<'d, 'a>,
     kept: List<KeptState>,
-    /// The state that was violated last when states were asked in a ring, where the next ring begins.
+    /// The state that was violated last when states were asked in a ring. The next ring begins with it.
     first: u32,
     pub ghost own: { ∥ IsAtDesk caller ∥₁ },
     pub ghost seen: { HasSeenHistory caller },
@@ -274,12 +275,12 @@ impl<'r, 'd, 'a, R: Threads + Wait, G: Gate> Separate for Workers<'r, 'd, 'a, R,
             caller: self.caller.number(),
             hints: self.hints,
             kept: self.kept.items(),
-            has_sets: false,
+            by_routing_alone: false,
         };
         answer_round(self.rt, self.gate, self.hold, &round, &mut self.caller)
     }
 
-    fn separate_some(
+    fn separate_until_cut(
         &mut self,
         instance: &Instance,
         caps: &Caps,
@@ -296,7 +297,7 @@ impl<'r, 'd, 'a, R: Threads + Wait, G: Gate> Separate for Workers<'r, 'd, 'a, R,
             caller: self.caller.number(),
             hints: self.hints,
             kept: self.kept.items(),
-            has_sets: true,
+            by_routing_alone: true,
         };
         answer_some(
             self.rt,

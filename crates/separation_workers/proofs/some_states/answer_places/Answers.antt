@@ -1,7 +1,7 @@
 use Rattle.std.proofs.Common.{◌≡◌, ap, arith, subst, sym}
 use Rattle.plan_terms.specs.Terms.{case_of}
 use Rattle.board_desk.specs.Turns.{caller_seen}
-use Rattle.separator.specs.inner.Working.{GoOnTo}
+use Rattle.separator.specs.inner.Working.{ContinueTo}
 use Rattle.separation_workers.proofs.Working.{goes_on, nothing_below, one_state_more, pooled_none, put_goes_on, put_more, stays, still_in, stopped_at, unanswered}
 use Rattle.separation_workers.proofs.some_states.answer_places.Goals as goal
 
@@ -64,4 +64,4 @@ loop-s-preserved g c =
 pub returns-clause-others : goal.returns-clause-others
 returns-clause-others g c none =
     let p = case_of c.args.round.now.instance in
-    subst (λ k. GoOnTo p c.args.round.now.caps.now c.args.from k c.args.others.now c.loop-s.others) (let end : c.loop-s.s ≡ c.args.to = omega arith in end) (c.loop-s.invariant.others none)
+    subst (λ k. ContinueTo p c.args.round.now.caps.now c.args.from k c.args.others.now c.loop-s.others) (let end : c.loop-s.s ≡ c.args.to = omega arith in end) (c.loop-s.invariant.others none)

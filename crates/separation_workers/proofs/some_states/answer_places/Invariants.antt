@@ -1,7 +1,7 @@
 use Rattle.std.proofs.Common.{◌≡◌, []}
 use Rattle.plan_terms.specs.Terms.{case_of}
 use Rattle.separator.specs.Separators.{cuts_since}
-use Rattle.separator.specs.inner.Working.{AreCutsAnswered, AreCutsBelow, GoOnTo}
+use Rattle.separator.specs.inner.Working.{AreCutsAnswered, AreCutsBelow, ContinueTo}
 use Rattle.board_desk.specs.Turns.{caller_seen}
 use Rattle.separation_workers.specs.Callers.{SeesOn}
 use Rattle.separation_workers.specs.inner.Rounds.{AreFound}
@@ -14,5 +14,5 @@ invariant-loop-s g l = record {
   below : AreCutsBelow (case_of l.round.instance) l.round.caps.now l.s (cuts_since (caller_seen l.fn.caller) (caller_seen l.caller));
   found : AreFound l.round l.places;
   cuts : AreCutsAnswered (case_of l.round.instance) l.round.caps.now l.s (caller_seen l.caller).history (cuts_since (caller_seen l.fn.caller) (caller_seen l.caller)) l.cuts;
-  others : l.cuts ≡ [] → GoOnTo (case_of l.round.instance) l.round.caps.now l.from l.s l.fn.others l.others;
+  others : l.cuts ≡ [] → ContinueTo (case_of l.round.instance) l.round.caps.now l.from l.s l.fn.others l.others;
 }

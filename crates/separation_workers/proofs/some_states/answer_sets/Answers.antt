@@ -1,7 +1,14 @@
 use Rattle.std.proofs.Common.{◌+◌, arith, length}
 use Rattle.plan_terms.specs.Terms.{case_of}
-use Rattle.separation_workers.proofs.Working.{adds_more, goes_on, none_so_far, one_state_more, stays, still_in, stopped_at, unanswered}
+use Rattle.separation_workers.proofs.Working.{adds_more, goes_on, none_below, none_so_far, one_state_more, stays, still_in, stopped_at, unanswered}
 use Rattle.separation_workers.proofs.some_states.answer_sets.Goals as goal
+
+pub returns-in_err-sets-clause-goes : goal.returns-in_err-sets-clause-goes
+returns-in_err-sets-clause-goes g c = stays c.args.round.now c.args.caller.now c.requires.caller
+
+pub returns-in_err-sets-clause-below : goal.returns-in_err-sets-clause-below
+returns-in_err-sets-clause-below g c =
+    none_below (case_of c.args.round.now.instance) c.args.round.now.caps.now (length c.args.round.now.instance.states.now.listed + 1) c.args.caller.now
 
 pub loop-s-init : goal.loop-s-init
 loop-s-init g c =

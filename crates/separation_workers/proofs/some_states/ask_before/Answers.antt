@@ -23,19 +23,19 @@ returns-then-len-eq0-clause-answers g c =
     let p = case_of c.args.round.now.instance in
     let caps = c.args.round.now.caps.now in
     let empty : c.in_ok-cuts.cuts ≡ [] = nil_from_length c.in_ok-cuts.cuts (omega (arith, c.if-len-eq0.true, c.len.ensures)) in
-    IfOk-weaker c.joined.result _ _
+    IfOk-weaker c.answers_of_both.result _ _
     (λ all is. ring_answers p caps (caller_seen c.ask_until_cuts.new.caller).history c.args.start c.ask_until_cuts.new.others c.args.later all
     (c.in_ok-cuts.ensures.others empty 0 (others_none p caps 0 c.new-answers.result c.new-answers.ensures)) c.requires.later is)
-    c.joined.ensures
+    c.answers_of_both.ensures
 
 pub returns-then-len-eq0-clause-among : goal.returns-then-len-eq0-clause-among
 returns-then-len-eq0-clause-among g c =
     let a = c.args.caller.now in
     let now = c.ask_until_cuts.new.caller in
     let empty : c.in_ok-cuts.cuts ≡ [] = nil_from_length c.in_ok-cuts.cuts (omega (arith, c.if-len-eq0.true, c.len.ensures)) in
-    IfOk-weaker c.joined.result _ _
+    IfOk-weaker c.answers_of_both.result _ _
     (λ all is. among_nothing a now (cuts_answered all) (pooled_nothing a now (cuts_answered c.in_ok-cuts.cuts) (ap cuts_answered empty) c.in_ok-cuts.ensures.cuts.among))
-    c.joined.ensures
+    c.answers_of_both.ensures
 
 pub returns-clause-below : goal.returns-clause-below
 returns-clause-below g c =

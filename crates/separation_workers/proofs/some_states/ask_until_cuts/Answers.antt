@@ -2,7 +2,7 @@ use Rattle.std.proofs.Common.{◌≡◌, [], ap, arith, length, subst, sym, ◌�
 use Rattle.net_core.proofs.Library.{nil_from_length}
 use Rattle.plan_terms.specs.Terms.{case_of}
 use Rattle.separator.specs.Separators.{cuts_answered}
-use Rattle.separator.specs.inner.Working.{GoOnTo}
+use Rattle.separator.specs.inner.Working.{ContinueTo}
 use Rattle.separation_workers.proofs.Working.{answered_after_nothing, answered_none, below_after_nothing, goes_on, nothing_below, pooled_after_nothing, pooled_none, pooled_nothing, stays, still_in}
 use Rattle.separation_workers.proofs.some_states.ask_until_cuts.Goals as goal
 
@@ -70,4 +70,4 @@ returns-clause-cuts g c =
 pub returns-clause-others : goal.returns-clause-others
 returns-clause-others g c none =
     let p = case_of c.args.round.now.instance in
-    subst (λ k. GoOnTo p c.args.round.now.caps.now c.args.from k c.args.others.now c.loop-at.others) (let end : c.loop-at.at ≡ c.args.to = omega arith in end) c.loop-at.invariant.others
+    subst (λ k. ContinueTo p c.args.round.now.caps.now c.args.from k c.args.others.now c.loop-at.others) (let end : c.loop-at.at ≡ c.args.to = omega arith in end) c.loop-at.invariant.others

@@ -1,6 +1,6 @@
 use Rattle.std.proofs.Common.{◌≡◌, ◌≤◌, ◌-◌, []}
 use Rattle.plan_terms.specs.Terms.{case_of}
-use Rattle.separator.specs.inner.Working.{GoOnTo}
+use Rattle.separator.specs.inner.Working.{ContinueTo}
 use Rattle.separation_workers.specs.Callers.{SeesOn}
 use Rattle.separation_workers.proofs.Working.{cuts_pooled}
 use Rattle.separation_workers.proofs.some_states.ask_until_cuts.Given as goal
@@ -16,5 +16,5 @@ invariant-loop-at g l = record {
   none : cuts_pooled l.fn.caller l.caller ≡ [];
   after : l.from ≤ l.at;
   within : l.at ≤ l.to;
-  others : GoOnTo (case_of l.round.instance) l.round.caps.now l.from l.at l.fn.others l.others;
+  others : ContinueTo (case_of l.round.instance) l.round.caps.now l.from l.at l.fn.others l.others;
 }

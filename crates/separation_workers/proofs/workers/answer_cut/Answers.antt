@@ -1,6 +1,6 @@
 use Rattle.plan_terms.specs.Terms.{case_of}
 use Rattle.separator.specs.Separators.{cuts_since}
-use Rattle.separator.proofs.Answering.{at_most_answered, cuts_at_most, violated_answer}
+use Rattle.separator.proofs.Answering.{cut_named, cuts_at_most, violated_answer}
 use Rattle.board_desk.specs.Turns.{caller_seen}
 use Rattle.separation_workers.proofs.Working.{none_of_state, stays}
 use Rattle.separation_workers.proofs.workers.answer_cut.Goals as goal
@@ -34,5 +34,5 @@ returns-clause-answer g c =
 
 pub returns-clause-among : goal.returns-clause-among
 returns-clause-among g c =
-    at_most_answered (case_of c.args.round.now.instance) c.args.round.now.caps.now c.args.state.0 c.args.cut c.in_ok-line.line c.requires.found c.in_ok-line.ensures c.in_ok-spot.spot
+    cut_named c.args.round.now.instance.demands.now c.args.cut c.in_ok-line.line c.in_ok-line.ensures c.in_ok-spot.spot
     (cuts_since (caller_seen c.args.caller.now) (caller_seen c.spot_in_turn.new.caller)) c.spot_in_turn.ensures.pools

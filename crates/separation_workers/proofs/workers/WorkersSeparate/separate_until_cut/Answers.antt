@@ -4,7 +4,7 @@ use Rattle.board_desk.specs.Turns.{caller_seen}
 use Rattle.separator.proofs.Seeing.{sees_none}
 use Rattle.separation_workers.proofs.Desks.{at_desk, same_frame}
 use Rattle.separation_workers.proofs.Working.{none_below}
-use Rattle.separation_workers.proofs.workers.WorkersSeparate.separate_some.Goals as goal
+use Rattle.separation_workers.proofs.workers.WorkersSeparate.separate_until_cut.Goals as goal
 
 pub returns-in_err-reach-clause-more : goal.returns-in_err-reach-clause-more
 returns-in_err-reach-clause-more g c = sees_none (caller_seen c.args.self.now.caller)
