@@ -1,11 +1,11 @@
 -- the answers of all states, sorted
 use Rattle.std.proofs.Common.{◌≡◌, ◌≢◌, ℕ, ◌+◌, ◌<◌, ◌≤◌, inl, inr, ⊎_elim, List, [], ◌∷◌, ◌++◌, All, AllPairs, IfSome, Some, None, get_or, length, map, slice_get, refl, sym, ap, subst, ◌∙◌, arith, suc}
-use Rattle.net_core.proofs.Library.{cases_lt, map-append, nil_from_length, All-head, All-nil, All-push, All-tail, All-weaker, all_pairs_push}
-use Rattle.std.proofs.lemmas.List.{append-nil, append_assoc, length-append}
+use Rattle.net_core.proofs.Library.{cases_lt, map-append, All-head, All-nil, All-push, All-tail, All-weaker, all_pairs_push}
+use Rattle.std.proofs.lemmas.List.{append-nil, append_assoc, length-append, length-map}
 use Rattle.plan_terms.specs.Terms.{Entry, Caps, CutLine, Routing, Case, graph_in, HasShortLengths}
 use Rattle.flow_router.specs.Answers.{IsRouted}
 use Rattle.cut_pool.specs.Terms.{cut_of_line}
-use Rattle.separator.specs.Separators.{AreSomeAnswers, AreStateAnswers, IsAnswerOf, IsSeparatingCut, cut_answered, cuts_answered}
+use Rattle.separator.specs.Separators.{AreStateAnswers, AreViolatedStates, IsAnswerOf, IsSeparatingCut, cut_answered, cuts_answered}
 use Rattle.separator.specs.declared.answers.Separated.{Separated}
 use Rattle.separator.specs.declared.answers.Separated.TheVariants.{Routed, Violated, Wide}
 use Rattle.separator.specs.declared.answers.StateAnswer.{StateAnswer}
@@ -135,7 +135,7 @@ module _ (p : Case) (caps : Caps) (history : List Entry) where
     pub apart : All (λ x. All (λ c. c.state.0 ≢ x.state.0) a.found.lines) rest
 
 module _ (p : Case) (caps : Caps) (history : List Entry) where
-  some_sorted_none : (answers : List StateAnswer) → AreSomeAnswers p caps history answers → AreSomeSorted p caps history answers (record { routings = []; found = record { lines = []; spots = [] }; wide = None })
+  some_sorted_none : (answers : List StateAnswer) → AreViolatedStates p caps history answers → AreSomeSorted p caps history answers (record { routings = []; found = record { lines = []; spots = [] }; wide = None })
   some_sorted_none answers are = record {
     cuts = All-nil (IsSeparatingCut p caps);
     short = All-nil HasShortLengths;
@@ -190,7 +190,7 @@ module _ (p : Case) (caps : Caps) (history : List Entry) where
   })
 
   pub some_begun : (answers left : List StateAnswer) (made : Answered) → left ≡ answers → made ≡ record { routings = []; found = record { lines = []; spots = [] }; wide = None }
-      → AreSomeAnswers p caps history answers → AreSomeSorted p caps history left made
+      → AreViolatedStates p caps history answers → AreSomeSorted p caps history left made
   some_begun answers left made same is are =
       subst (AreSomeSorted p caps history left) (sym is) (subst (λ (xs : List StateAnswer). AreSomeSorted p caps history xs (record { routings = []; found = record { lines = []; spots = [] }; wide = None })) (sym same) (some_sorted_none answers are))
 
@@ -199,12 +199,11 @@ module _ (p : Case) (caps : Caps) (history : List Entry) where
       let is = All-head (λ (x : StateAnswer). (x.state.0 ≤ length p.listed) × IsAnswerOf p caps history x.state.0 x.answer) a rest are.right in
       some_sorted_more a rest a.answer old new are is.0 is.1 short puts
 
-  -- all of them
-  pub some_are_sorted : (answers rest : List StateAnswer) (a : Answered) → AreSomeAnswers p caps history answers → AreSomeSorted p caps history rest a → map cut_of_line a.found.lines ≡ cuts_answered answers
-      → (AreStateAnswers p caps history answers → AreSorted p caps history (length p.listed + 1) a) → AreSorted p caps history (length p.listed + 1) a
-  some_are_sorted answers rest a are some found if_all =
-      let all = λ (none : length a.found.lines ≡ 0).
-      if_all (are.cutless (sym found ∙ ap (map cut_of_line) (nil_from_length a.found.lines none))) in
+  -- all of them, with a cut among them
+  pub some_are_sorted : (answers rest : List StateAnswer) (a : Answered) → AreViolatedStates p caps history answers → AreSomeSorted p caps history rest a → map cut_of_line a.found.lines ≡ cuts_answered answers
+      → AreSorted p caps history (length p.listed + 1) a
+  some_are_sorted answers rest a are some found =
+      let cut : 0 < length a.found.lines = omega (arith, are.some, are.cuts, ap length found, length-map a.found.lines cut_of_line) in
       record {
         cuts = some.cuts;
         short = some.short;
@@ -212,6 +211,6 @@ module _ (p : Case) (caps : Caps) (history : List Entry) where
         before = some.before;
         spots = some.spots;
         wide = some.wide;
-        cutless = λ none. (all none).cutless none;
-        routed = λ none. (all none).routed none;
+        cutless = λ none. absurd (omega (arith, none, cut));
+        routed = λ none. absurd (omega (arith, none, cut));
       }

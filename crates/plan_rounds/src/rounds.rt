@@ -3,7 +3,7 @@ ghost use Rattle.plan_terms.specs.Terms.{case_of, IsSurvivable};
 ghost use Rattle.route_law.specs.Terms.{caps_times};
 ghost use Rattle.master_law.specs.Terms.{AreUnitPairs};
 ghost use Rattle.master_bound.specs.declared.answer.Best.{Best};
-ghost use Rattle.separator.specs.Separators.{AreSomeAnswers, SeesMore, SeparatesAt, cuts_answered, cuts_since};
+ghost use Rattle.separator.specs.Separators.{AreRoundAnswers, SeesMore, SeparatesAt, cuts_answered, cuts_since};
 ghost use Rattle.plan_rounds.specs.WorkedRounds.{AreWorkedRounds, IsBestAt, IsPoolOf, IsWorkedAlone};
 ghost use Rattle.plan_rounds.specs.inner.Alone.{PoolsRounds, PoolsTurn};
 ghost use Rattle.plan_rounds.specs.inner.Answered.{AreRoutedStates, IsEvidenceOfState};
@@ -146,13 +146,13 @@ fn answers_at<S: Separate>(
     ensures more { SeesMore (S.seen_of separator.old) (S.seen_of separator.new) }
     ensures separating { ∥ All (SeparatesAt (case_of instance.now) caps.now) (cuts_since (S.seen_of separator.old) (S.seen_of separator.new)) ∥₁ }
     ensures different { AllPairs (λ x y. x.0 ≢ y.0) (cuts_since (S.seen_of separator.old) (S.seen_of separator.new)) }
-    ensures answers { IfOk result (λ answers. ∥ AreSomeAnswers (case_of instance.now) caps.now (S.seen_of separator.new).history answers ∥₁) }
+    ensures answers { IfOk result (λ answers. ∥ AreRoundAnswers (case_of instance.now) caps.now (S.seen_of separator.new).history answers ∥₁) }
     ensures answered { IfOk result (λ answers. All (Contains (cuts_answered answers)) (cuts_since (S.seen_of separator.old) (S.seen_of separator.new))) }
 {
     if is_first {
         separator.separate(instance, caps)
     } else {
-        separator.separate_some(instance, caps)
+        separator.separate_until_cut(instance, caps)
     }
 }
 

@@ -1,7 +1,7 @@
 ghost use Rattle.std.specs.Prelude.{◌≡◌, ◌+◌, ◌<◌, ◌^◌, ℕ, List as Seq, All, IfOk, OnOk, length, map};
 ghost use Rattle.plan_terms.specs.Terms.{Entry, Caps, Case};
 ghost use Rattle.cut_pool.specs.Terms.{cut_of_line};
-ghost use Rattle.separator.specs.Separators.{AreSomeAnswers, cuts_answered};
+ghost use Rattle.separator.specs.Separators.{AreRoundAnswers, cuts_answered};
 ghost use Rattle.plan_rounds.specs.inner.Answered.{AnswersShort, AreSorted, PutsAnswer};
 
 use crate::candidates::Candidates;
@@ -43,7 +43,7 @@ fn put_answer(answer: Separated, answered: &mut Answered) -> Result<(), NoMemory
 
 /// Sorts the answers of states.
 pub fn sorted(alloc: Global, answers: List<StateAnswer>) -> Result<Answered, NoMemory>
-    ensures sorted { IfOk result (λ a. (p : Case) (caps : Caps) (history : Seq Entry) → AreSomeAnswers p caps history answers
+    ensures sorted { IfOk result (λ a. (p : Case) (caps : Caps) (history : Seq Entry) → AreRoundAnswers p caps history answers
         → AreSorted p caps history (length p.listed + 1) a) }
     ensures found { IfOk result (λ a. map cut_of_line a.found.lines ≡ cuts_answered answers) }
 {

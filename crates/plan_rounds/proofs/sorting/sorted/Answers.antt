@@ -1,7 +1,7 @@
-use Rattle.std.proofs.Common.{◌≡◌, ◌+◌, List, None, [], ◌++◌, ap, refl, length, map, arith, reverse, subst, sym, ◌∙◌}
+use Rattle.std.proofs.Common.{◌≡◌, ◌+◌, ⊎_elim, List, None, [], ◌++◌, ap, refl, length, map, arith, reverse, subst, sym, ◌∙◌}
 use Rattle.std.proofs.lemmas.List.{append-nil, reverse-reverse}
 use Rattle.cut_pool.specs.Terms.{cut_of_line}
-use Rattle.separator.specs.Separators.{AreStateAnswers, cuts_answered}
+use Rattle.separator.specs.Separators.{AreStateAnswers, AreViolatedStates, cuts_answered}
 use Rattle.separator.specs.declared.answers.StateAnswer.{StateAnswer}
 use Rattle.plan_rounds.specs.inner.Answered.{AreSorted}
 use Rattle.plan_rounds.proofs.Answering.{AreAnswersFrom, AreSomeSorted, answers_all, found_more, answers_rest, answers_some, some_are_sorted, some_begun, some_further, sorted_more, sorted_none}
@@ -50,8 +50,11 @@ returns-clause-sorted c p caps history are =
     let found : map cut_of_line c.loop-next.answered.found.lines ≡ cuts_answered c.args.answers =
     sym (append-nil (map cut_of_line c.loop-next.answered.found.lines))
     ∙ (ap (λ (xs : List StateAnswer). map cut_of_line c.loop-next.answered.found.lines ++ cuts_answered (reverse xs)) (sym none) ∙ c.loop-next.invariant.1) in
-    some_are_sorted p caps history c.args.answers (reverse c.loop-next.left.items) c.loop-next.answered are (c.loop-next.invariant.2 p caps history are) found
+    ⊎_elim
     (λ (all_are : AreStateAnswers p caps history c.args.answers).
     let so_far = c.loop-next.invariant.0 p caps history all_are in
     let all : so_far.0 ≡ length p.listed + 1 = omega (arith, so_far.1.count, ap (λ (xs : List StateAnswer). length (reverse xs)) none) in
     subst (λ n. AreSorted p caps history n c.loop-next.answered) all so_far.2)
+    (λ (cuts : AreViolatedStates p caps history c.args.answers).
+    some_are_sorted p caps history c.args.answers (reverse c.loop-next.left.items) c.loop-next.answered cuts (c.loop-next.invariant.2 p caps history cuts) found)
+    are
