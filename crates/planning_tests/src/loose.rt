@@ -100,8 +100,8 @@ fn a_planning_ends_loose_by_width(rt: HostRuntime) {
     assert!(rt; ends_loose_by_width(&rt, rt.alloc()));
 }
 
-/// A chain of nineteen links, and one beside the first, which fails.
-const LONG: [LinkRow; 20] = [
+/// A chain of nineteen links, and one beside each of the first two, which fail together.
+const LONG: [LinkRow; 21] = [
     (0, 1, 0, &TEN),
     (1, 2, 0, &TEN),
     (2, 3, 0, &TEN),
@@ -122,6 +122,7 @@ const LONG: [LinkRow; 20] = [
     (17, 18, 0, &TEN),
     (18, 19, 0, &TEN),
     (0, 1, 0, &TEN),
+    (1, 2, 0, &TEN),
 ];
 
 /// A demand along each link of the chain.
@@ -147,12 +148,12 @@ const ALONG: [DemandRow; 19] = [
     (18, 19, 29000),
 ];
 
-/// One of 256 states, which all fail the link beside the first.
+/// One of 256 states, which all fail the links beside the first two.
 fn state_of(alloc: Global, k: usize) -> Option<Listed> {
     let bytes = [b'A' + (k / 16 % 16) as u8, b'A' + (k % 16) as u8];
     Some(Listed {
         name: Name::new(alloc, &bytes).ok()?,
-        links: List::from_slice(alloc, &[LinkId(19)]).ok()?,
+        links: List::from_slice(alloc, &[LinkId(19), LinkId(20)]).ok()?,
     })
 }
 
