@@ -1,7 +1,7 @@
 // The rounds of a planning with every single-link failure, by the code of the crates without its contracts: the best certificate of
 // the cuts so far, states at its share, and the cuts that they find, until no state finds one. Prints processor time.
-// Usage: rounds NETWORK [each], with a network file whose nodes are n0, n1 ..; with `each` every state is asked in each round, and without it
-// rounds stop early
+// Usage: rounds NETWORK [each | grown], with a network file whose nodes are n0, n1 ..; with `each` every state is asked in each round, else
+// rounds stop early, and with `grown` the sets of nodes grow for each state anew
 #![allow(dead_code, unused)]
 mod checked_fraction;
 mod flow_mending;
@@ -54,7 +54,7 @@ use master_bound::{Best, master};
 use metric_cut::{Cut, opening};
 use module_prices::unit_pair;
 use net_core::{Caps, Copied, CutLine, Demand, Demands, Global, Instance, Link, List, Module, Network, NodeId, RouteTask, StateId, States};
-use node_sets::grown_set;
+use node_sets::{RoundSets, grown_set, round_set};
 use separator::known_state::KnownState;
 
 impl Copied for master_bound::answer::Multiplier {
@@ -156,7 +156,7 @@ fn main() {
                 further.extend(cut_in(kept[s as usize].separate(Global, &instance, StateId(s), &caps).unwrap()));
             }
         } else {
-            further = sets_at(&instance, &caps);
+            further = sets_at(&instance, &caps, way == "grown");
             if further.is_empty() {
                 for k in 0..states.count() {
                     let s = (first + k) % states.count();
@@ -199,7 +199,11 @@ fn cut_in(answer: RouteAnswer) -> Option<Cut> {
 }
 
 /// The cuts of violated sets of nodes, at most one of a state.
-fn sets_at(instance: &Instance, caps: &Caps) -> std::vec::Vec<Cut> {
+fn sets_at(instance: &Instance, caps: &Caps, grown: bool) -> std::vec::Vec<Cut> {
     let task = |s| RouteTask { graph: instance.in_state(StateId(s)), demands: instance.demands, caps };
-    (0..instance.states.count()).filter_map(|s| grown_set(Global, &task(s)).unwrap()).collect()
+    if grown {
+        return (0..instance.states.count()).filter_map(|s| grown_set(Global, &task(s)).unwrap()).collect();
+    }
+    let sets = RoundSets::grow(Global, &task(0)).unwrap();
+    (0..instance.states.count()).filter_map(|s| round_set(Global, &task(s), &sets).unwrap()).collect()
 }
