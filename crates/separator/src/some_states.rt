@@ -57,7 +57,7 @@ fn answer_sets(
     ensures cuts { IfOk result (AreCutsAnswered (case_of instance.now) caps.now (length instance.now.states.now.listed + 1)
         board.new.entries (cuts_after board.old.entries board.new.entries)) }
 {
-    let sets = sets_of_round(alloc, instance, caps)?;
+    let sets = sets_of_round(alloc, &*instance, &*caps)?;
     let mut answers = List::new(alloc);
     for s in 0..instance.states.count() {
         answer_set(
