@@ -1,9 +1,9 @@
-ghost use Rattle.std.specs.Prelude.{◌≡◌, ◌≢◌, ◌+◌, ◌≤◌, ◌<◌, ℕ, List as Seq, Option as Maybe, None, All, AllPairs, Contains, IfOk, IfSome, OnOk, length};
+ghost use Rattle.std.specs.Prelude.{◌≡◌, ◌≢◌, ◌+◌, ◌≤◌, ◌<◌, ℕ, List as Seq, Option as Maybe, None, All, AllPairs, Contains, IfOk, IfSome, OnOk, length, true, false};
 ghost use Rattle.plan_terms.specs.Terms.{case_of, IsSurvivable};
 ghost use Rattle.route_law.specs.Terms.{caps_times};
 ghost use Rattle.master_law.specs.Terms.{AreUnitPairs};
 ghost use Rattle.master_bound.specs.declared.answer.Best.{Best};
-ghost use Rattle.separator.specs.Separators.{AreRoundAnswers, SeesMore, SeparatesAt, cuts_answered, cuts_since};
+ghost use Rattle.separator.specs.Separators.{AreAnswersUntilCut, AreRoundAnswers, AreStateAnswers, SeesMore, SeparatesAt, cuts_answered, cuts_since};
 ghost use Rattle.plan_rounds.specs.WorkedRounds.{AreWorkedRounds, IsBestAt, IsPoolOf, IsWorkedAlone};
 ghost use Rattle.plan_rounds.specs.inner.Alone.{PoolsRounds, PoolsTurn};
 ghost use Rattle.plan_rounds.specs.inner.Answered.{AreRoutedStates, IsEvidenceOfState};
@@ -147,6 +147,9 @@ fn answers_at<S: Separate>(
     ensures separating { ∥ All (SeparatesAt (case_of instance.now) caps.now) (cuts_since (S.seen_of separator.old) (S.seen_of separator.new)) ∥₁ }
     ensures different { AllPairs (λ x y. x.0 ≢ y.0) (cuts_since (S.seen_of separator.old) (S.seen_of separator.new)) }
     ensures answers { IfOk result (λ answers. ∥ AreRoundAnswers (case_of instance.now) caps.now (S.seen_of separator.new).history answers ∥₁) }
+    ensures first { is_first ≡ true → IfOk result (λ answers. ∥ AreStateAnswers (case_of instance.now) caps.now (S.seen_of separator.new).history answers ∥₁) }
+    ensures later { is_first ≡ false
+        → IfOk result (λ answers. ∥ AreAnswersUntilCut (case_of instance.now) caps.now (S.seen_of separator.new).history answers ∥₁) }
     ensures answered { IfOk result (λ answers. All (Contains (cuts_answered answers)) (cuts_since (S.seen_of separator.old) (S.seen_of separator.new))) }
 {
     if is_first {
