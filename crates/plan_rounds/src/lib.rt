@@ -13,6 +13,7 @@
 
 mod adding;
 mod candidates;
+mod certificates;
 mod fractional;
 mod openings;
 mod rounds;

@@ -13,11 +13,13 @@ ghost use Rattle.plan_rounds.specs.declared.rounds.Turn.TheVariants.{Further};
 
 use crate::adding::add_first;
 use crate::candidates::Candidates;
+use crate::certificates::best_so_far;
 use crate::fractional::quality_at;
 use crate::openings::open_states;
 use crate::shares::{ShareCaps, share_caps};
 use crate::sorting::{Answered, sorted};
-use master_bound::{Best, MasterFault, master, unit_pairs};
+use length_master::KeptMaster;
+use master_bound::{Best, MasterFault, unit_pairs};
 use module_prices::UnitPair;
 use net_core::{Caps, CutLine, Instance, List, NoMemory};
 use plan_types::{Cause, Quality, Spot};
@@ -202,13 +204,14 @@ fn too_wide(fault: MasterFault, before: Option<Best>) -> Result<Turn, NoMemory>
 }
 
 /// One turn: the best certificate of the cuts so far, and what the states answer at its share. The one before is for the end where
-/// this one is too wide.
+/// this one is too wide, and what is kept of its program is what this one begins with.
 fn take_turn<S: Separate>(
     alloc: Global,
     instance: &Instance,
     pairs: &List<UnitPair>,
     room: usize,
     before: Option<Best>,
+    kept: &mut KeptMaster,
     separator: &mut S,
     candidates: &mut Candidates,
 ) -> Result<Turn, NoMemory>
@@ -225,7 +228,7 @@ fn take_turn<S: Separate>(
         (S.seen_of separator.new) candidates.old.lines candidates.new.lines turn) }
 {
     let is_first = before.is_none();
-    match master(alloc, instance.net, &candidates.lines) {
+    match best_so_far(alloc, instance.net, &candidates.lines, kept) {
         Ok(best) => ask(
             alloc, instance, pairs, room, best, is_first, separator, candidates,
         ),
@@ -255,6 +258,7 @@ fn turns<S: Separate>(
 {
     let mut candidates = candidates;
     let mut before = None;
+    let mut kept = KeptMaster::new();
     loop {
         let room = most - candidates.lines.len();
         match take_turn(
@@ -263,6 +267,7 @@ fn turns<S: Separate>(
             pairs,
             room,
             before,
+            &mut kept,
             separator,
             &mut candidates,
         )? {

@@ -13,8 +13,8 @@ use Rattle.plan_rounds.proofs.Turning.{best_at, wide_turn}
 use Rattle.plan_rounds.proofs.rounds.take_turn.Goals as goal
 use Rattle.net_core.proofs.Networks.{modules_sound}
 
-pub master-requires-clause-lengths : goal.master-requires-clause-lengths
-master-requires-clause-lengths g c = have_bounds (case_of c.args.instance.now) (g.S.Separate.seen_of c.args.separator.now).history c.args.candidates.now c.requires.listed
+pub best_so_far-requires-clause-lengths : goal.best_so_far-requires-clause-lengths
+best_so_far-requires-clause-lengths g c = have_bounds (case_of c.args.instance.now) (g.S.Separate.seen_of c.args.separator.now).history c.args.candidates.now c.requires.listed
 
 pub ask-requires-clause-best : goal.ask-requires-clause-best
 ask-requires-clause-best g c =
