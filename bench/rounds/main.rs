@@ -1,7 +1,7 @@
 // The rounds of a planning with every single-link failure, by the code of the crates without its contracts: the best certificate of
 // the cuts so far, states at its share, and the cuts that they find, until no state finds one. Prints processor time.
-// Usage: rounds NETWORK [each | grown], with a network file whose nodes are n0, n1 ..; with `each` every state is asked in each round, else
-// rounds stop early, and with `grown` the sets of nodes grow for each state anew
+// Usage: rounds NETWORK [each | grown | kept], with a network file whose nodes are n0, n1 ..; with `each` every state is asked in each round, else
+// rounds stop early; with `grown` the sets of nodes grow for each state anew; and with `kept` a certificate begins with the basis of the last one
 #![allow(dead_code, unused)]
 mod checked_fraction;
 mod flow_mending;
@@ -9,6 +9,7 @@ mod flow_router;
 mod greedy_router;
 mod key_paths;
 mod key_rows;
+mod length_master;
 mod master_bound;
 mod module_prices;
 mod net_core;
@@ -50,6 +51,7 @@ mod separator {
 
 use checked_fraction::gcd;
 use flow_router::RouteAnswer;
+use length_master::KeptMaster;
 use master_bound::{Best, master};
 use metric_cut::{Cut, opening};
 use module_prices::unit_pair;
@@ -141,12 +143,14 @@ fn main() {
         }
     }
     let way = words.get(2).map_or("", |word| word.as_str());
+    let mut basis = KeptMaster::new();
     let mut kept: std::vec::Vec<_> = (0..states.count()).map(|_| KnownState::new(Global)).collect();
     let (opening, mut rounds, mut bounding, mut separating) = (cuts.len(), 0, 0, 0);
     let (mut first, mut tests) = (0, 0);
     loop {
         let begin = clock();
-        let Ok(best) = master(Global, &net, &cuts) else { panic!("the master program is wide") };
+        let answer = if way == "kept" { basis.best(Global, &net, &cuts) } else { master(Global, &net, &cuts) };
+        let Ok(best) = answer else { panic!("the master program is wide") };
         let found = clock();
         let caps = caps_of(&net, &best);
         let mut further = vec![];

@@ -1,12 +1,13 @@
 #!/usr/bin/env bash
 # The rounds of plannings with every single-link failure, by the code of the crates without its contracts.
 # Usage: bench/rounds/run.sh SEED.NODES|NAME ..      sample networks, and networks of the sizes in bench/plans/sizes.py with seed 1;
-# each with all states asked in each round, with rounds that stop early, and with sets of nodes that grow once for all states of a round too
+# each with all states asked in each round, with rounds that stop early, with sets of nodes that grow once for all states of a round too, and with
+# certificates from the basis of the round before as well
 set -eu
 cd "$(dirname "$0")/../.."
 room=$(mktemp -d)
 trap 'rm -r "$room"' EXIT
-python3 bench/plain/plain.py "$room" checked_fraction simplex_core short_paths key_rows key_paths module_prices metric_cut greedy_router flow_router node_sets master_bound flow_mending warm_routing separator plan_types
+python3 bench/plain/plain.py "$room" checked_fraction simplex_core short_paths key_rows key_paths module_prices metric_cut greedy_router flow_router node_sets master_bound length_master flow_mending warm_routing separator plan_types
 rm "$room/metric_cut.rs" "$room/separator.rs" "$room/plan_types.rs"
 cp bench/rounds/main.rs bench/trim/net_core.rs "$room"
 grep -lE '\bVec\b' "$room"/*/*.rs | xargs sed -i '1i use crate::net_core::Vec;'
@@ -18,7 +19,7 @@ for name in "$@"; do
     *.*) python3 bench/sample/sample.py "${name%.*}" "${name#*.}" file >"$room/network" ;;
     *) python3 bench/plans/sizes.py "$name" >"$room/network" ;;
   esac
-  for way in each grown round; do
+  for way in each grown round kept; do
     echo "| $name | $way $("$room/rounds" "$room/network" $way)"
   done
 done
