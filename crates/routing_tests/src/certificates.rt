@@ -3,6 +3,7 @@ ghost use Rattle.metric_cut.specs.Bounded.{HaveBound};
 ghost use Rattle.master_law.specs.Terms.{IsSameCut};
 
 use crate::fixtures::{THREE_LINKS, TRIANGLE, with_single_failures};
+use length_master::KeptMaster;
 use master_bound::{Best, MasterFault, best_own, master};
 use metric_cut::{Cut, CutLine};
 use net_core::{Copied, Evidence, List, MasterColumn, Network, Problem, StateId, WideKind};
@@ -175,27 +176,49 @@ fn is_wide(fault: &MasterFault) -> bool {
     }
 }
 
-/// Whether the row's certificate is the best of the cuts.
-fn is_of_cuts(alloc: Global, net: &Network, cuts: &List<CutLine>, want: &Want) -> bool
+/// Whether the answer is as expected.
+fn is_wanted(answer: &Result<Best, MasterFault>, want: &Want) -> bool {
+    match answer {
+        Ok(best) => is_best(best, want),
+        Err(fault) => matches!(want, Want::Wide) && is_wide(fault),
+    }
+}
+
+/// Whether the row's certificate is the best of the cuts, from the slacks and from what is kept.
+fn is_of_cuts(
+    alloc: Global,
+    net: &Network,
+    cuts: &List<CutLine>,
+    kept: &mut KeptMaster,
+    want: &Want,
+) -> bool
     requires few { length cuts.now ≤ 4 }
     requires bound { All (λ line. HaveBound net.now.links line.lengths) cuts.now }
     requires right { All (λ line. line.right < 2 ^ 84) cuts.now }
 {
-    if !are_different(cuts.items()) {
-        return false;
-    }
-    match master(alloc, net, cuts) {
-        Ok(best) => is_best(&best, want),
-        Err(fault) => matches!(want, Want::Wide) && is_wide(&fault),
+    are_different(cuts.items())
+        && is_wanted(&master(alloc, net, cuts), want)
+        && is_wanted(&kept.best(alloc, net, cuts), want)
+}
+
+/// Whether the certificate of unit cuts is as expected.
+fn is_round(
+    alloc: Global,
+    p: &Problem,
+    rows: &[LineRow],
+    kept: &mut KeptMaster,
+    want: &Want,
+) -> bool {
+    match unit_lines(alloc, p, rows) {
+        Some(cuts) => cuts.len() <= 4 && is_of_cuts(alloc, &p.net, &cuts, kept, want),
+        None => false,
     }
 }
 
 /// Whether the row's certificate is as expected.
 fn is_certified(alloc: Global, p: &Problem, row: &Row) -> bool {
-    match unit_lines(alloc, p, row.2) {
-        Some(cuts) => cuts.len() <= 4 && is_of_cuts(alloc, &p.net, &cuts, &row.3),
-        None => false,
-    }
+    let mut kept = KeptMaster::new();
+    is_round(alloc, p, row.2, &mut kept, &row.3)
 }
 
 /// The same on the row's links.
@@ -210,5 +233,62 @@ fn is_certified_there(alloc: Global, row: &Row) -> bool {
 fn best_certificates_are_as_by_hand(rt: HostRuntime) {
     for row in &ROWS {
         assert!(rt; is_certified_there(rt.alloc(), row));
+    }
+}
+
+/// Unit cuts of one round after the other, and the best certificate of each.
+type Rounds = &'static [(&'static [LineRow], Want)];
+
+/// Nodes and links, and rounds: with more cuts, the same ones, and others.
+const KEPT: [(usize, &[LinkRow<'static>], Rounds); 2] = [
+    (
+        2,
+        &THREE_LINKS,
+        &[
+            (&[(2, 10000)], Want::Ones(1, 1, (10000, 1))),
+            (&ANY_TWO, Want::Ones(3, 2, (15000, 1))),
+            (&ANY_TWO, Want::Share(1, 5000)),
+            (&[(1, 10000)], Want::Ones(1, 1, (10000, 1))),
+        ],
+    ),
+    (
+        2,
+        &PARALLEL,
+        &[
+            (&[], Want::Ones(0, 1, (0, 1))),
+            (&ANY_THREE, Want::Ones(4, 3, (40000, 3))),
+            (&ANY_THREE, Want::Share(3, 10000)),
+        ],
+    ),
+];
+
+/// Whether each round's certificate is as expected, from the basis that the one before has left.
+fn are_rounds(alloc: Global, p: &Problem, rounds: Rounds) -> bool {
+    let mut kept = KeptMaster::new();
+    for round in rounds {
+        if !is_round(alloc, p, round.0, &mut kept, &round.1) {
+            return false;
+        }
+    }
+    true
+}
+
+/// The same on links.
+fn are_rounds_there(
+    alloc: Global,
+    nodes: usize,
+    links: &[LinkRow<'static>],
+    rounds: Rounds,
+) -> bool {
+    match with_single_failures(alloc, nodes, links, &[]) {
+        Some(p) => are_rounds(alloc, &p, rounds),
+        None => false,
+    }
+}
+
+#[test]
+fn kept_certificates_are_as_by_hand(rt: HostRuntime) {
+    for row in &KEPT {
+        assert!(rt; are_rounds_there(rt.alloc(), row.0, row.1, row.2));
     }
 }
