@@ -55,6 +55,21 @@ fn common_divisor(den: u128, terms: &[Term]) -> u128
     common.max(1)
 }
 
+/// The greatest of a number and all numerators.
+fn widest(den: u128, terms: &[Term]) -> u128 {
+    terms.iter().fold(den, |widest, term| widest.max(term.num))
+}
+
+/// What a denominator and all numerators are divided by: what divides them all; or so many times as much, where some would be wider than
+/// 60 bits.
+fn divisor_for(den: u128, terms: &[Term]) -> u128
+    ensures { 0 < result }
+{
+    let common = common_divisor(den, terms);
+    let parts = widest(den, terms) / common >> 60;
+    common.saturating_mul(parts + 1).max(1)
+}
+
 /// Puts the multiplier of one of so many lines last, unless it is of one before the first, 0 or too wide.
 fn push_multiplier(
     multipliers: &mut List<Multiplier>,
@@ -104,7 +119,8 @@ fn multipliers_of(
     Ok(multipliers)
 }
 
-/// The certificate of an optimum, where lines were divided by one unit, and costs by another.
+/// The certificate of an optimum, where lines were divided by one unit, and costs by another. Where its numbers are wide, numerators are
+/// rounded down and the denominator up, so that it stays one.
 pub(crate) fn certificate_of(
     alloc: Global,
     program: &BoxProgram,
@@ -117,10 +133,10 @@ pub(crate) fn certificate_of(
 {
     let terms = terms_of(alloc, program, best, cost_unit)?;
     let den = (best.den as u128).saturating_mul(line_unit);
-    let common = common_divisor(den, terms.items());
-    let lines = multipliers_of(alloc, program.first, program.lines, terms.items(), common)?;
+    let divisor = divisor_for(den, terms.items());
+    let lines = multipliers_of(alloc, program.first, program.lines, terms.items(), divisor)?;
     Ok(BoxCert {
-        den: (den / common).max(1),
+        den: den.div_ceil(divisor).max(1),
         lines,
     })
 }
