@@ -3,6 +3,7 @@
 #![allow(dead_code, unused)]
 mod able_counts;
 mod box_program;
+mod box_search;
 mod branch_tree;
 mod checked_fraction;
 mod cover_table;
@@ -23,6 +24,7 @@ mod proof_order;
 mod share_covers;
 mod short_paths;
 mod simplex_core;
+mod table_maker;
 mod tree_check;
 mod trim_plan;
 mod warm_routing;

@@ -1,13 +1,14 @@
 #!/usr/bin/env bash
 # Branch trees of plans with every single-link failure, by the code of the crates without its contracts.
 # Usage: bench/prove/run.sh LIMIT SEED.NODES ..            as in run.sh 9999 1.4 2.4
-#        bench/prove/run.sh lines LIMIT SEED.NODES ..      by divided lines
+#        bench/prove/run.sh lines LIMIT SEED.NODES ..      by lines
+#        bench/prove/run.sh lines LIMIT FILE ..            of networks in files, as of ../kinds/kinds.py
 #        bench/prove/run.sh model SEED.NODES               the integer program over the handed-in cuts, in the LP format
 set -eu
 cd "$(dirname "$0")/../.."
 room=$(mktemp -d)
 trap 'rm -r "$room"' EXIT
-python3 bench/plain/plain.py "$room" checked_fraction simplex_core short_paths key_rows key_paths module_prices metric_cut greedy_router flow_router node_sets master_bound separator flow_mending warm_routing plan_types module_choice share_covers able_counts trim_plan plan_swaps plan_checker cover_table line_check tree_check box_program line_maker proof_order branch_tree
+python3 bench/plain/plain.py "$room" checked_fraction simplex_core short_paths key_rows key_paths module_prices metric_cut greedy_router flow_router node_sets master_bound separator flow_mending warm_routing plan_types module_choice share_covers able_counts trim_plan plan_swaps plan_checker cover_table line_check table_maker tree_check box_program line_maker proof_order box_search branch_tree
 rm "$room/metric_cut.rs" "$room/separator.rs" "$room/plan_types.rs" "$room/plan_checker.rs"
 cp bench/prove/main.rs "$room"
 cp bench/trim/net_core.rs "$room"
@@ -26,6 +27,7 @@ limit=$1
 shift
 networks=()
 for one in "$@"; do
+  if [ -f "$one" ]; then networks+=("$(basename "$one")" "$one"); continue; fi
   python3 bench/sample/sample.py "${one%.*}" "${one#*.}" file >"$room/$one"
   networks+=("$one" "$room/$one")
 done

@@ -10,9 +10,10 @@ use Rattle.tree_check.specs.declared.boxes.Span.{Span}
 use Rattle.trim_plan.specs.declared.lowered.Place.{Place}
 use Rattle.branch_tree.specs.declared.choice.Choice.{Choice}
 use Rattle.branch_tree.specs.inner.Choosing.{HasFreePlace, IsSplittable, IsTriable}
-use Rattle.branch_tree.specs.inner.Growing.{AreLow, IsChoiceOf}
-use Rattle.branch_tree.proofs.FreeValues.{free_value}
-use Rattle.branch_tree.proofs.LeastCosts.{free_reaches, total_least}
+use Rattle.box_search.specs.Finds.{AreLow}
+use Rattle.branch_tree.specs.inner.Growing.{IsChoiceOf}
+use Rattle.box_search.proofs.FreeValues.{free_value}
+use Rattle.box_search.proofs.LeastCosts.{free_reaches, total_least}
 
 -- ---- what may be tried is a choice
 

@@ -2,12 +2,13 @@
 use Rattle.std.proofs.Common.{◌≡◌, ◌≢◌, ◌∙◌, ℕ, ◌+◌, ◌<◌, ◌⊎◌, ⊎_elim, List, [], ◌∷◌, ◌++◌, None, Some, Option, MatchOption, append_assoc, map, slice_get, refl, sym, ap, subst, arith}
 use Rattle.net_core.proofs.Library.{cases_eq}
 use Rattle.tree_check.specs.declared.proof.Node.{Node}
-use Rattle.branch_tree.specs.inner.Places.{IsOpenPlace, IsOpenTwig, node_of}
+use Rattle.branch_tree.specs.inner.Places.{IsOpenPlace, IsOpenTwig}
+use Rattle.box_search.specs.Finds.{node_of}
 use Rattle.branch_tree.specs.inner.Showing.{shown_more, shown_with}
 use Rattle.branch_tree.specs.declared.tree.Ranked.{Ranked}
 use Rattle.branch_tree.specs.declared.tree.Shown.{Shown}
-use Rattle.branch_tree.specs.declared.twigs.Twig.{Twig}
-use Rattle.branch_tree.specs.declared.twigs.Twig.TheVariants as twig
+use Rattle.box_search.specs.declared.twigs.Twig.{Twig}
+use Rattle.box_search.specs.declared.twigs.Twig.TheVariants as twig
 
 -- ---- an open place
 

@@ -15,7 +15,7 @@ use Rattle.line_check.specs.Inequalities.{WeightedLine, coefficients_of, entry, 
 use Rattle.tree_check.specs.BoxValues.{IsBoxCertificate, all_losses, asked_right, given_free, module_charge, module_costs, value_gains, value_losses}
 use Rattle.tree_check.specs.Trees.{TreeBox}
 use Rattle.line_check.proofs.OverModules.{over-same}
-use Rattle.branch_tree.specs.Proving.{HasPlanValue, lines_of_plan}
+use Rattle.box_search.specs.Causes.{HasPlanValue, lines_of_plan}
 
 -- ---- bounds
 

@@ -23,15 +23,19 @@ use Rattle.line_check.specs.declared.tested.Tested.{Tested}
 use Rattle.proof_order.specs.Orders.{cuts_among, lines_among, moved_certificate, moved_line, moved_node, place_of, source_of}
 use Rattle.proof_order.specs.declared.entry.Entry.{Entry}
 use Rattle.proof_order.proofs.NamesKept.{names_are_kept}
-use Rattle.branch_tree.specs.FewSplits.{IsCheapNode, is_split, split_number}
-use Rattle.branch_tree.specs.Proving.{HasNodeCause, HasOpenLeaf, HasPlanValue, HaveNodeCauses, IsCertificateOfLeaves, IsProofOf}
-use Rattle.branch_tree.specs.inner.Growing.{IsGrowing, IsSettledNode, IsTwigOf}
-use Rattle.branch_tree.specs.inner.Places.{AreSettled, AreTwigsOf, node_of, twig_sides, twig_splits}
+use Rattle.branch_tree.specs.FewSplits.{IsCheapNode, split_number}
+use Rattle.box_search.specs.Finds.{is_split}
+use Rattle.branch_tree.specs.Proving.{HasNodeCause, HasOpenLeaf, HaveNodeCauses, IsCertificateOfLeaves, IsProofOf}
+use Rattle.box_search.specs.Causes.{HasPlanValue}
+use Rattle.branch_tree.specs.inner.Growing.{IsGrowing}
+use Rattle.box_search.specs.Finds.{IsSettledNode, IsTwigOf}
+use Rattle.branch_tree.specs.inner.Places.{AreSettled, AreTwigsOf, twig_sides, twig_splits}
+use Rattle.box_search.specs.Finds.{node_of}
 use Rattle.branch_tree.specs.inner.Showing.{all_shown, verdict_of}
 use Rattle.branch_tree.specs.declared.tree.Shown.{Shown}
-use Rattle.branch_tree.specs.declared.twigs.OpenBox.{OpenBox}
-use Rattle.branch_tree.specs.declared.twigs.Twig.{Twig}
-use Rattle.branch_tree.specs.declared.twigs.Twig.TheVariants as twig
+use Rattle.box_search.specs.declared.twigs.OpenBox.{OpenBox}
+use Rattle.box_search.specs.declared.twigs.Twig.{Twig}
+use Rattle.box_search.specs.declared.twigs.Twig.TheVariants as twig
 use Rattle.branch_tree.proofs.CheapSplits.{cheap_of}
 use Rattle.branch_tree.proofs.PlanBounds.{plan_value}
 use Rattle.branch_tree.proofs.Reordered.{holds_moved, moved_sides, moved_split, names_once, value_moved, value_same}

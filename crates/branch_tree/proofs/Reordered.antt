@@ -17,7 +17,7 @@ use Rattle.tree_check.specs.declared.proof.BoxCert.{BoxCert}
 use Rattle.tree_check.specs.declared.proof.Node.{Node}
 use Rattle.tree_check.specs.declared.proof.Node.TheVariants.{Split, Closed, Empty, Spent, Stuck}
 use Rattle.proof_order.specs.Orders.{moved_certificate, moved_multipliers, moved_node}
-use Rattle.branch_tree.specs.FewSplits.{is_split}
+use Rattle.box_search.specs.Finds.{is_split}
 
 -- ---- moved nodes
 

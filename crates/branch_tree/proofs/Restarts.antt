@@ -16,16 +16,18 @@ use Rattle.trim_plan.specs.Trimmed.{IsRoutedPlan}
 use Rattle.trim_plan.proofs.Plans.{routed_with}
 use Rattle.branch_tree.specs.Proving.{AreHandedCuts, IsProofOf}
 use Rattle.able_counts.specs.AbleTests.{IsTestOf as IsAbleTestOf}
-use Rattle.branch_tree.specs.inner.Growing.{AreCheaperCounts, Extends, HasLearned, IsAim, IsGrownTree, IsKnown, IsOwnCert, IsSearch, IsSoundEntry, aimed, handed_in, most_entries}
+use Rattle.box_search.specs.Finds.{AreCheaperCounts}
+use Rattle.box_search.specs.Searches.{Extends, HasLearned, IsAim, IsKnown, IsOwnCert, IsSearch, IsSoundEntry, aimed, handed_in, most_entries}
+use Rattle.branch_tree.specs.inner.Growing.{IsGrownTree}
 use Rattle.branch_tree.specs.inner.Making.{AreFirstOf, IsProofMade, IsProofWith}
-use Rattle.branch_tree.specs.inner.Places.{node_of}
-use Rattle.branch_tree.specs.declared.aim.Aim.{Aim}
-use Rattle.branch_tree.specs.declared.search.Search.{Search}
+use Rattle.box_search.specs.Finds.{node_of}
+use Rattle.box_search.specs.declared.aim.Aim.{Aim}
+use Rattle.box_search.specs.declared.search.Search.{Search}
 use Rattle.branch_tree.specs.declared.tree.Tree.{Tree}
-use Rattle.branch_tree.specs.declared.twigs.Twig.{Twig}
-use Rattle.branch_tree.specs.declared.found.Cheaper.{Cheaper}
-use Rattle.branch_tree.proofs.Extending.{cert_on, handed_same, search_with, take_before}
-use Rattle.branch_tree.proofs.Knowing.{cuts_same}
+use Rattle.box_search.specs.declared.twigs.Twig.{Twig}
+use Rattle.box_search.specs.declared.found.Cheaper.{Cheaper}
+use Rattle.box_search.proofs.Extending.{cert_on, handed_same, search_with, take_before}
+use Rattle.box_search.proofs.Knowing.{cuts_same}
 use Rattle.branch_tree.proofs.Proved.{is_proof, told_node, told_proof}
 
 -- the first of the first

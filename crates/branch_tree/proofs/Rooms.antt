@@ -14,7 +14,8 @@ use Rattle.tree_check.specs.Trees.{TreeBox, boxes_left, sides_of}
 use Rattle.tree_check.specs.declared.boxes.Span.{Span}
 use Rattle.tree_check.specs.declared.proof.Node.{Node}
 use Rattle.tree_check.specs.declared.proof.Node.TheVariants.{Split, Closed, Empty, Spent, Stuck}
-use Rattle.branch_tree.specs.FewSplits.{IsCheapSplit, SplitsAreFew, is_split, modules_room, numbers_below, split_number, split_room}
+use Rattle.branch_tree.specs.FewSplits.{IsCheapSplit, SplitsAreFew, modules_room, numbers_below, split_number, split_room}
+use Rattle.box_search.specs.Finds.{is_split}
 
 -- numbers below the least of a greatest count, if there is one, and a number
 abbrev numbers_up_to : Option ℕ → ℕ → ℕ

@@ -3,8 +3,8 @@ use Rattle.std.proofs.Common.{◌≡◌, ◌∙◌, ℕ, zero, suc, ◌≤◌, �
 use Rattle.net_core.proofs.Library.{cases_lt}
 use Rattle.branch_tree.specs.inner.Showing.{shown_more, shown_with}
 use Rattle.branch_tree.specs.declared.tree.Shown.{Shown}
-use Rattle.branch_tree.specs.declared.twigs.Twig.{Twig}
-use Rattle.branch_tree.specs.declared.twigs.Twig.TheVariants as twig
+use Rattle.box_search.specs.declared.twigs.Twig.{Twig}
+use Rattle.box_search.specs.declared.twigs.Twig.TheVariants as twig
 
 -- an open place has this value
 abbrev pub IsOpenOf : Twig → ℕ → Type 0

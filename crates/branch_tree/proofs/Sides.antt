@@ -10,13 +10,15 @@ use Rattle.tree_check.specs.Boxes.{IsSplitOf, any_count, beyond, least_counts, l
 use Rattle.tree_check.specs.Trees.{TreeBox}
 use Rattle.tree_check.specs.declared.boxes.Span.{Span}
 use Rattle.tree_check.proofs.LeftBoxes.{shape_set, whole_shape}
-use Rattle.branch_tree.specs.inner.Growing.{AreLow, AreSidesOf, HasLearned, HaveCounts, IsChoiceOf, IsFoundAt, IsSearchBox, handed_in}
+use Rattle.box_search.specs.Finds.{AreLow, HaveCounts, IsFoundAt, IsSearchBox}
+use Rattle.branch_tree.specs.inner.Growing.{AreSidesOf, IsChoiceOf}
+use Rattle.box_search.specs.Searches.{HasLearned, handed_in}
 use Rattle.branch_tree.specs.declared.choice.Choice.{Choice}
-use Rattle.branch_tree.specs.declared.search.Search.{Search}
-use Rattle.branch_tree.specs.declared.found.Found.TheVariants as found
+use Rattle.box_search.specs.declared.search.Search.{Search}
+use Rattle.box_search.specs.declared.found.Found.TheVariants as found
 use Rattle.branch_tree.specs.declared.growth.Sides.TheVariants as sides
-use Rattle.branch_tree.specs.declared.twigs.Twig.{Twig}
-use Rattle.branch_tree.proofs.Extending.{handed_same, low_box, twig_on}
+use Rattle.box_search.specs.declared.twigs.Twig.{Twig}
+use Rattle.box_search.proofs.Extending.{handed_same, low_box, twig_on}
 
 -- a low span in the place of another
 low_set : (n : ℕ) (box : TreeBox) (e m : ℕ) (s : Span) → e < length box → AreLow n box → s.least ≤ 2 ^ 44 + n → AreLow n (set box e (set (spans_of box e) m s))

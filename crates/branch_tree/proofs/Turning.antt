@@ -8,16 +8,19 @@ use Rattle.line_check.specs.declared.tested.Tested.{Tested}
 use Rattle.tree_check.specs.Boxes.{IsSplitOf, lower_side, upper_side, whole_box}
 use Rattle.tree_check.specs.Trees.{TreeBox}
 use Rattle.tree_check.specs.declared.proof.Node.TheVariants.{Split}
-use Rattle.branch_tree.specs.FewSplits.{is_split}
-use Rattle.branch_tree.specs.inner.Growing.{AreSidesOf, IsChoiceOf, IsGrowing, IsOpenBox, IsTwigOf}
-use Rattle.branch_tree.specs.inner.Places.{AreTwigsOf, IsLeafTwig, node_of, twig_sides, twig_splits}
+use Rattle.box_search.specs.Finds.{is_split}
+use Rattle.branch_tree.specs.inner.Growing.{AreSidesOf, IsChoiceOf, IsGrowing}
+use Rattle.box_search.specs.Finds.{IsOpenBox, IsTwigOf}
+use Rattle.branch_tree.specs.inner.Places.{AreTwigsOf, twig_sides, twig_splits}
+use Rattle.box_search.specs.Finds.{IsLeafTwig, node_of}
 use Rattle.branch_tree.specs.declared.choice.Choice.{Choice}
-use Rattle.branch_tree.specs.declared.found.Found.TheVariants as found
+use Rattle.box_search.specs.declared.found.Found.TheVariants as found
 use Rattle.branch_tree.specs.declared.growth.Sides.TheVariants as sides
-use Rattle.branch_tree.specs.declared.twigs.OpenBox.{OpenBox}
-use Rattle.branch_tree.specs.declared.twigs.Twig.{Twig}
-use Rattle.branch_tree.specs.declared.twigs.Twig.TheVariants as twig
-use Rattle.branch_tree.proofs.Extending.{extends_none, twigs_on}
+use Rattle.box_search.specs.declared.twigs.OpenBox.{OpenBox}
+use Rattle.box_search.specs.declared.twigs.Twig.{Twig}
+use Rattle.box_search.specs.declared.twigs.Twig.TheVariants as twig
+use Rattle.box_search.proofs.Extending.{extends_none}
+use Rattle.branch_tree.proofs.Staying.{twigs_on}
 use Rattle.branch_tree.proofs.Placing.{place_of}
 use Rattle.branch_tree.proofs.TwigNodes.{leaf_sides}
 

@@ -3,9 +3,10 @@ use Rattle.std.proofs.Common.{◌≡◌, ℕ, zero, suc, ◌+◌, List, [], ◌�
 use Rattle.tree_check.specs.Trees.{TreeBox, boxes_left, sides_of}
 use Rattle.tree_check.specs.declared.proof.Node.{Node}
 use Rattle.tree_check.specs.declared.proof.Node.TheVariants.{Split, Closed, Empty, Spent, Stuck}
-use Rattle.branch_tree.specs.FewSplits.{is_split}
-use Rattle.branch_tree.specs.inner.Places.{AreTwigsOf, node_of, twig_sides}
-use Rattle.branch_tree.specs.declared.twigs.Twig.{Twig}
+use Rattle.box_search.specs.Finds.{is_split}
+use Rattle.branch_tree.specs.inner.Places.{AreTwigsOf, twig_sides}
+use Rattle.box_search.specs.Finds.{node_of}
+use Rattle.box_search.specs.declared.twigs.Twig.{Twig}
 
 -- a node that isn't a split has no sides
 pub leaf_sides : (box : TreeBox) (node : Node) → is_split node ≡ false → sides_of box node ≡ []

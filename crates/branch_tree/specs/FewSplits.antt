@@ -1,17 +1,13 @@
 -- how many splits a branch tree has at most
-use Rattle.std.specs.Prelude.{ℕ, ◌+◌, ◌-◌, ◌*◌, ◌/◌, ◌<◌, Bool, true, false, List, [], ◌∷◌, All, count_by, length}
+use Rattle.std.specs.Prelude.{ℕ, ◌+◌, ◌-◌, ◌*◌, ◌/◌, ◌<◌, List, [], ◌∷◌, All, count_by, length}
 use Rattle.plan_terms.specs.Terms.{Link, Module}
 use Rattle.tree_check.specs.Boxes.{IsSplitOf}
 use Rattle.tree_check.specs.BoxValues.{module_costs}
 use Rattle.line_check.specs.Inequalities.{entry}
 use Rattle.tree_check.specs.Trees.{IsNodeOf, TreeBox}
 use Rattle.tree_check.specs.declared.proof.Node.{Node}
-use Rattle.tree_check.specs.declared.proof.Node.TheVariants.{Split, Closed, Empty, Spent, Stuck}
-
--- a node is a split
-abbrev pub is_split : Node → Bool
-is_split (Split link at_module number) = true
-is_split _ = false
+use Rattle.tree_check.specs.declared.proof.Node.TheVariants.{Split}
+use Rattle.box_search.specs.Finds.{is_split}
 
 -- the number of splits of a tree
 abbrev pub split_number : List Node → ℕ

@@ -1,43 +1,23 @@
 -- what a search for a branch tree comes to: a proof, and the cause of each of its nodes
-use Rattle.std.specs.Prelude.{◌≡◌, ℕ, ◌+◌, ◌*◌, ◌^◌, ◌≤◌, ◌<◌, ◌↔◌, List, [], All, Contains, length, map, take}
-use Rattle.plan_terms.specs.Terms.{Case, CutLine, Evidence, IsCut, Link, capacities}
-use Rattle.plan_types.specs.declared.certificate.Certificate.{Certificate}
+use Rattle.std.specs.Prelude.{◌≡◌, ℕ, ◌+◌, ◌*◌, ◌^◌, ◌≤◌, ◌<◌, ◌↔◌, List, All, Contains, length, take}
+use Rattle.plan_terms.specs.Terms.{Case, CutLine, IsCut, capacities}
 use Rattle.plan_types.specs.declared.plan.Plan.{Plan}
 use Rattle.able_counts.specs.AbleTests.{IsWideSomewhere, whole_caps}
 use Rattle.plan_swaps.specs.Swaps.{IsCheaperPlan}
 use Rattle.tree_check.specs.Boxes.{IsFixedBox, least_counts}
-use Rattle.line_check.specs.Inequalities.{WeightedLine, entry, line_of_cut}
-use Rattle.tree_check.specs.BoxValues.{IsBoxCertificate, IsBoxValue, IsEmptiedBy, module_costs}
+use Rattle.line_check.specs.Inequalities.{entry}
+use Rattle.tree_check.specs.BoxValues.{IsBoxCertificate, module_costs}
 use Rattle.tree_check.specs.Proofs.{IsAcceptedProof, IsOpenAt}
 use Rattle.tree_check.specs.Trees.{IsNodeOf, TreeBox}
 use Rattle.tree_check.specs.declared.proof.BoxCert.{BoxCert}
 use Rattle.tree_check.specs.declared.proof.Node.{Node}
-use Rattle.tree_check.specs.declared.proof.Node.TheVariants.{Split, Closed, Empty, Spent, Stuck}
+use Rattle.tree_check.specs.declared.proof.Node.TheVariants.{Split, Spent, Stuck}
 use Rattle.tree_check.specs.declared.proof.Proof.{Proof}
 use Rattle.tree_check.specs.declared.proof.Verdict.TheVariants.{Above}
+use Rattle.box_search.specs.Causes.{IsUnsettled, lines_of_plan}
 use Rattle.branch_tree.specs.FewSplits.{AreCharged, split_number, split_room}
 
--- ---- a plan's certificate over boxes
-
--- the lines of a plan's certificate, with their numerators
-abbrev pub lines_of_plan : List Link → Certificate → List WeightedLine
-lines_of_plan links c = map (λ l. record { line = line_of_cut links l.cut; num = l.num }) c.lines
-
--- the plan's certificate, read as one of boxes, has this value for a box
-abbrev pub HasPlanValue : List Link → Certificate → TreeBox → ℕ → Type 0
-HasPlanValue links c box value = IsBoxValue links box c.den (lines_of_plan links c) value
-
--- the certificate of no lines has this value
-abbrev pub HasFreeValue : List Link → TreeBox → ℕ → Type 0
-HasFreeValue links box value = IsBoxValue links box 1 [] value
-
 -- ---- causes
-
--- A box that isn't settled at once: no handed-in cut empties it, and neither the plan's certificate nor that of no lines closes it.
-pub record IsUnsettled (links : List Link) (plan : Plan) (handed : List CutLine) (box : TreeBox) : Type 0 where
-  pub unemptied : All (λ cut. IsEmptiedBy links box (line_of_cut links cut) → ⊥) handed
-  pub by_plan : (value : ℕ) → HasPlanValue links plan.certificate box value → value < plan.cost
-  pub by_none : (value : ℕ) → HasFreeValue links box value → value < plan.cost
 
 -- The cause of a node: a box is split only where it isn't settled at once, at a number of modules that cost less than the plan; it is
 -- spent only where it isn't settled at once, has several choices of counts, and the tree has as many splits as the limit says; it is

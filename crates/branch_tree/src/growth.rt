@@ -1,22 +1,17 @@
 ghost use Rattle.std.specs.Prelude.{◌≡◌, ◌+◌, ◌*◌, ◌≤◌, ◌<◌, ◌^◌, IfOk, IfSome, MatchOption, None, OnOk, Some, length, slice_get, slice_set};
 ghost use Rattle.tree_check.specs.Boxes.{whole_box};
-ghost use Rattle.branch_tree.specs.inner.Growing.{AreCheaperCounts, AreSidesOf, IsChoiceOf, IsGrowing, IsGrownTo, IsOpenBox, IsTurnTo};
-ghost use Rattle.branch_tree.specs.inner.Growing.{HasLearned, IsAim, IsSearch, aimed, handed_in, most_entries};
+ghost use Rattle.box_search.specs.Finds.{AreCheaperCounts, IsOpenBox};
+ghost use Rattle.branch_tree.specs.inner.Growing.{AreSidesOf, IsChoiceOf, IsGrowing, IsGrownTo, IsTurnTo};
+ghost use Rattle.box_search.specs.Searches.{HasLearned, IsAim, IsSearch, aimed, handed_in, most_entries};
 ghost use Rattle.branch_tree.specs.inner.Places.{IsOpenPlace};
 
-use crate::aim::Aim;
-use crate::certs::{copied, empty_cert};
 use crate::choice::{Choice, choose};
-use crate::evaluation::look;
-use crate::found::{Cheaper, Found};
-use crate::lines::make_first_lines;
-use crate::search::Search;
 use crate::tree::{Tree, least_open, set_twig};
-use crate::twigs::{OpenBox, Twig};
+use box_search::{Aim, Cheaper, Found, OpenBox, Search, Twig, copied, look, make_first_lines};
 use net_core::{Copied, LinkId, NoMemory};
 use std::alloc::Global;
-use tree_check::Node;
 use tree_check::boxes::{lower_side, upper_side, whole_box};
+use tree_check::{BoxCert, Node};
 
 /// What becomes of a tree.
 #[derive(Drop)]
@@ -204,8 +199,15 @@ fn grow_once(
     }
 }
 
-/// Grows a tree by what is known, by as many splits as a limit says, or until no box is open, or until cheaper counts are found.
-fn grown_on(alloc: Global, aim: &Aim, search: &mut Search, limit: u32) -> Result<Growth, NoMemory>
+/// Grows a tree by what is known, by as many splits as a limit says, or until no box is open, or until cheaper counts are found. The box
+/// of all counts has this certificate besides.
+fn grown_on(
+    alloc: Global,
+    aim: &Aim,
+    search: &mut Search,
+    root: &BoxCert,
+    limit: u32,
+) -> Result<Growth, NoMemory>
     requires aim { IsAim search.old.known.entries aim.now }
     requires search { IsSearch (aimed aim.now) search.old }
     requires room { most_entries search.old + 2 * limit + 1 < 2 ^ 31 }
@@ -216,7 +218,7 @@ fn grown_on(alloc: Global, aim: &Aim, search: &mut Search, limit: u32) -> Result
     ensures grown { IfOk result (IsGrownTo (aimed aim.now) aim.now.plan.now (handed_in search.old) search.new.known.tested limit) }
 {
     let whole = whole_box(alloc, aim.instance.net)?;
-    let root = match look(alloc, aim, search, whole, &empty_cert(alloc), 0)? {
+    let root = match look(alloc, aim, search, whole, root, 0)? {
         Found::Cheaper(cheaper) => return Ok(Growth::Cheaper(cheaper)),
         Found::Twig(twig) => twig,
     };
@@ -231,11 +233,13 @@ fn grown_on(alloc: Global, aim: &Aim, search: &mut Search, limit: u32) -> Result
     Ok(Growth::Tree(tree))
 }
 
-/// Grows a tree so, after lines were made for its root if lines are to be made.
+/// Grows a tree so, after lines were made for its root if lines are to be made. The best certificate of the box of all counts that they
+/// give takes the place of `root`.
 pub(crate) fn grown(
     alloc: Global,
     aim: &Aim,
     search: &mut Search,
+    root: &mut BoxCert,
     limit: u32,
 ) -> Result<Growth, NoMemory>
     requires aim { IsAim search.old.known.entries aim.now }
@@ -248,6 +252,6 @@ pub(crate) fn grown(
     ensures grown { IfOk result (IsGrownTo (aimed aim.now) aim.now.plan.now (handed_in search.old) search.new.known.tested limit) }
 {
     let whole = whole_box(alloc, aim.instance.net)?;
-    make_first_lines(alloc, aim, search, &whole)?;
-    grown_on(alloc, aim, search, limit)
+    make_first_lines(alloc, aim, search, &whole, root)?;
+    grown_on(alloc, aim, search, root, limit)
 }

@@ -9,25 +9,13 @@
 //! ```
 #![tactic(auto)]
 
-mod aim;
-mod asks;
-mod certs;
 mod choice;
-mod evaluation;
-mod found;
 mod growth;
-mod known;
-mod large;
 pub mod law;
-mod lines;
-mod lowered;
 mod own;
 mod proving;
-mod search;
 mod tree;
-mod twigs;
-mod whole;
 
-pub use known::index_of;
+pub use box_search::index_of;
 pub use proving::{prove, prove_by_lines};
 pub use tree_check::{BoxCert, Node, Proof, Verdict};

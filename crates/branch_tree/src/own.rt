@@ -1,7 +1,7 @@
 ghost use Rattle.std.specs.Prelude.{◌<◌, ◌^◌, All, Contains, IfOk, length, map};
-ghost use Rattle.branch_tree.specs.inner.Growing.{IsOwnCert};
+ghost use Rattle.box_search.specs.Searches.{IsOwnCert};
 
-use crate::known::index_of;
+use box_search::index_of;
 use net_core::{CutLine, List, NoMemory};
 use plan_types::Plan;
 use proof_order::Entry;

@@ -5,17 +5,15 @@ ghost use Rattle.trim_plan.specs.Trimmed.{IsRoutedPlan};
 ghost use Rattle.plan_swaps.specs.Swaps.{IsCheaperPlan};
 ghost use Rattle.branch_tree.specs.FewSplits.{AreCharged};
 ghost use Rattle.branch_tree.specs.Proving.{AreHandedCuts, IsProofOf};
-ghost use Rattle.branch_tree.specs.inner.Growing.{AreCheaperCounts, IsKnown, IsOwnCert, IsSearch, handed_in};
+ghost use Rattle.box_search.specs.Finds.{AreCheaperCounts};
+ghost use Rattle.box_search.specs.Searches.{IsKnown, IsOwnCert, IsSearch, handed_in};
 ghost use Rattle.branch_tree.specs.inner.Making.{AreFirstOf, IsProofMade, IsProofWith};
 
-use crate::aim::Aim;
-use crate::found::Cheaper;
 use crate::growth::{Growth, grown};
-use crate::known::Known;
 use crate::own::own_cert;
-use crate::search::{MOST_FURTHER, Search};
 use crate::tree::{Tree, finished};
 use able_counts::AbleTest;
+use box_search::{Aim, Cheaper, Known, MOST_FURTHER, MOST_SET_CUTS, Search, empty_cert};
 use net_core::{Copied, CutLine, Instance, List, Network, NoMemory, States};
 use plan_swaps::swap;
 use plan_types::Plan;
@@ -151,13 +149,14 @@ fn proved<'a>(
 {
     let mut plan = plan;
     let mut search = search;
+    let mut root = empty_cert(alloc);
     'attempt: loop {
         let aim = Aim {
             instance: &*instance,
             plan: &plan,
             own: &*own,
         };
-        match grown(alloc, &aim, &mut search, limit)? {
+        match grown(alloc, &aim, &mut search, &mut root, limit)? {
             Growth::Cheaper(cheaper) => {
                 plan = cheaper_plan(alloc, instance, plan, cheaper)?;
                 search = begun_anew(alloc, instance, search)?;
@@ -167,14 +166,15 @@ fn proved<'a>(
     }
 }
 
-/// How many cuts and lines are kept at most, where so many cuts were handed in: with lines there is room for a coarse one of each.
+/// How many cuts and lines are kept at most, where so many cuts were handed in: with lines there is room for cuts of node sets, for a
+/// coarse line of each handed-in cut, and for one that table lines are made over of each cut.
 fn room_for(handed: usize, divides: bool) -> usize
     requires { handed ≤ 8192 }
     ensures enough { handed ≤ result }
     ensures small { result ≤ 2 ^ 15 }
 {
     if divides {
-        handed + handed + MOST_FURTHER
+        handed + handed + handed + MOST_SET_CUTS + MOST_SET_CUTS + MOST_FURTHER
     } else {
         handed + MOST_FURTHER
     }
@@ -292,8 +292,15 @@ pub fn prove(
 ///
 /// Before the tree grows, each cut gets a line whose right side is at most 64, and programs take these in place of the given cuts. Then up
 /// to 40 lines are made that the point of the program of all counts misses, in up to 20 rounds, and up to 10 at each other box that is
-/// looked at. But for cuts of boxes of one choice of counts, the cuts and lines of the answer are at most 4,096 more than twice the given
-/// cuts. A round takes a program, and time in the cuts and lines times the modules times the square of the kinds of modules.
+/// looked at. Where a program gets too wide with the lines of a round, they are taken off again, and the next round has a third as many; the
+/// certificate of the last program that isn't too wide counts for the box of all counts, whatever happens later.
+///
+/// Where a link has more than two kinds of modules, the cuts of node sets come first, up to 1,024, and rounds make table lines of weights up
+/// to 20 besides, over cuts and lines of right sides up to 4,096.
+///
+/// But for cuts of boxes of one choice of counts, the cuts and lines of the answer are at most 6,144 more than three times the given cuts. A
+/// round takes a program, and time in the cuts and lines times the modules times the square of the kinds of modules; one of table lines
+/// takes, for each line, up to 4,096 times the kinds.
 pub fn prove_by_lines(
     alloc: Global,
     net: &Network,

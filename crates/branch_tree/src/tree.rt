@@ -1,8 +1,9 @@
 ghost use Rattle.std.specs.Prelude.{◌≡◌, ◌+◌, ◌<◌, ◌⊎◌, [], ◌∷◌, true, min, IfOk, MatchOption, None, OnOk, insert, length, map, slice_set};
-ghost use Rattle.branch_tree.specs.inner.Places.{AreSettled, IsOpenPlace, IsOpenTwig, node_of};
+ghost use Rattle.branch_tree.specs.inner.Places.{AreSettled, IsOpenPlace, IsOpenTwig};
+ghost use Rattle.box_search.specs.Finds.{node_of};
 ghost use Rattle.branch_tree.specs.inner.Showing.{all_shown, shown_with, verdict_of};
 
-use crate::twigs::{OpenBox, Twig};
+use box_search::{OpenBox, Twig};
 use net_core::{List, NoMemory};
 use std::alloc::Global;
 use tree_check::{Node, Verdict};

@@ -7,9 +7,9 @@ use Rattle.line_check.specs.Inequalities.{entry}
 use Rattle.tree_check.specs.Trees.{TreeBox}
 use Rattle.tree_check.specs.declared.boxes.Span.{Span}
 use Rattle.trim_plan.specs.declared.lowered.Place.{Place}
-use Rattle.branch_tree.specs.Proving.{HasFreeValue}
+use Rattle.box_search.specs.Causes.{HasFreeValue}
 use Rattle.branch_tree.specs.declared.choice.Choice.{Choice}
-use Rattle.branch_tree.specs.inner.Growing.{IsSearchBox}
+use Rattle.box_search.specs.Finds.{IsSearchBox}
 
 -- a box that can be split: it has several choices of counts, and the certificate of no lines doesn't close it
 pub record IsSplittable (links : List Link) (cost : ℕ) (box : TreeBox) : Type 0 where

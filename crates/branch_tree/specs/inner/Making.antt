@@ -7,10 +7,10 @@ use Rattle.proof_order.specs.Orders.{cuts_among, lines_among, moved_line, moved_
 use Rattle.proof_order.specs.declared.entry.Entry.{Entry}
 use Rattle.proof_order.specs.declared.entry.Entry.TheVariants as entry
 use Rattle.branch_tree.specs.Proving.{IsProofOf}
-use Rattle.branch_tree.specs.inner.Places.{node_of}
+use Rattle.box_search.specs.Finds.{node_of}
 use Rattle.branch_tree.specs.inner.Showing.{all_shown, verdict_of}
-use Rattle.branch_tree.specs.declared.known.Known.{Known}
-use Rattle.branch_tree.specs.declared.twigs.Twig.{Twig}
+use Rattle.box_search.specs.declared.known.Known.{Known}
+use Rattle.box_search.specs.declared.twigs.Twig.{Twig}
 
 -- the same entries, so many at most; or so many of the first cuts alone
 abbrev pub AreFirstOf : ℕ → List Entry → Known → Type 0

@@ -1,23 +1,11 @@
 -- places of trees on the way, and the boxes that they take
-use Rattle.std.specs.Prelude.{◌≡◌, ℕ, List, Some, false, count_by, slice_get}
+use Rattle.std.specs.Prelude.{◌≡◌, ℕ, List, Some, count_by, slice_get}
 use Rattle.tree_check.specs.Trees.{TreeBox, sides_of}
-use Rattle.tree_check.specs.declared.proof.Node.{Node}
-use Rattle.tree_check.specs.declared.proof.Node.TheVariants.{Spent, Stuck}
-use Rattle.branch_tree.specs.FewSplits.{is_split}
+use Rattle.box_search.specs.Finds.{is_split, node_of}
 use Rattle.branch_tree.specs.inner.Preorder.{ArePlaced}
-use Rattle.branch_tree.specs.declared.twigs.OpenBox.{OpenBox}
-use Rattle.branch_tree.specs.declared.twigs.Twig.{Twig}
-use Rattle.branch_tree.specs.declared.twigs.Twig.TheVariants as twig
-
--- the node that a place of a tree becomes; an open box is spent
-abbrev pub node_of : Twig → Node
-node_of (twig.Settled node) = node
-node_of (twig.Stuck v evidence) = Stuck v.cert evidence
-node_of (twig.Open o) = Spent o.best.cert
-
--- a place that isn't a split
-abbrev pub IsLeafTwig : Twig → Type 0
-IsLeafTwig t = is_split (node_of t) ≡ false
+use Rattle.box_search.specs.declared.twigs.OpenBox.{OpenBox}
+use Rattle.box_search.specs.declared.twigs.Twig.{Twig}
+use Rattle.box_search.specs.declared.twigs.Twig.TheVariants as twig
 
 -- the boxes of the sides of a place; only a split has some
 abbrev pub twig_sides : TreeBox → Twig → List TreeBox

@@ -3,8 +3,8 @@ use Rattle.std.specs.Prelude.{ℕ, min, true, false, List, [], ◌∷◌, if◌t
 use Rattle.tree_check.specs.declared.proof.Verdict.{Verdict}
 use Rattle.tree_check.specs.declared.proof.Verdict.TheVariants.{Cheapest, Above}
 use Rattle.branch_tree.specs.declared.tree.Shown.{Shown}
-use Rattle.branch_tree.specs.declared.twigs.Twig.{Twig}
-use Rattle.branch_tree.specs.declared.twigs.Twig.TheVariants as twig
+use Rattle.box_search.specs.declared.twigs.Twig.{Twig}
+use Rattle.box_search.specs.declared.twigs.Twig.TheVariants as twig
 
 -- what is shown with one place more
 abbrev pub shown_with : Shown → Twig → Shown

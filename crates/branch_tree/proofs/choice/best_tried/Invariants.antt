@@ -1,6 +1,6 @@
 use Rattle.std.proofs.Common.{IfSome}
 use Rattle.branch_tree.specs.inner.Choosing.{IsTriable}
-use Rattle.branch_tree.specs.inner.Growing.{aimed}
+use Rattle.box_search.specs.Searches.{aimed}
 use Rattle.branch_tree.proofs.choice.best_tried.Given as goal
 
 -- the best so far may be tried

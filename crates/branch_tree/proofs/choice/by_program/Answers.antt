@@ -1,7 +1,7 @@
 use Rattle.std.proofs.Common.{All, subst, sym}
 use Rattle.net_core.proofs.Library.{All-permutation}
 use Rattle.branch_tree.specs.inner.Choosing.{IsTriable}
-use Rattle.branch_tree.specs.inner.Growing.{aimed}
+use Rattle.box_search.specs.Searches.{aimed}
 use Rattle.branch_tree.specs.declared.choice.Scored.{Scored}
 use Rattle.branch_tree.proofs.choice.by_program.Goals as goal
 

@@ -1,7 +1,7 @@
 use Rattle.std.proofs.Common.{◌∙◌}
 use Rattle.net_core.proofs.Library.{All-push, All-same}
 use Rattle.branch_tree.specs.inner.Choosing.{IsTriable}
-use Rattle.branch_tree.specs.inner.Growing.{aimed}
+use Rattle.box_search.specs.Searches.{aimed}
 use Rattle.branch_tree.specs.declared.choice.Scored.{Scored}
 use Rattle.branch_tree.proofs.choice.choices.Goals as goal
 use Rattle.branch_tree.proofs.choice.choices.Goals.{in-Some+in_ok-push, in_default}

@@ -1,6 +1,6 @@
 use Rattle.std.proofs.Common.{All}
 use Rattle.branch_tree.specs.inner.Choosing.{IsTriable}
-use Rattle.branch_tree.specs.inner.Growing.{aimed}
+use Rattle.box_search.specs.Searches.{aimed}
 use Rattle.branch_tree.proofs.choice.choices.Given as goal
 
 -- the choices of the amounts so far

@@ -1,11 +1,12 @@
 use Rattle.std.proofs.Common.{List, IfOk, subst}
 use Rattle.net_core.proofs.Library.{on_ok_weaker, slice_get_within}
 use Rattle.plan_terms.specs.Terms.{CutLine}
-use Rattle.branch_tree.specs.declared.twigs.Twig.{Twig}
-use Rattle.branch_tree.specs.declared.twigs.Twig.TheVariants as twig
-use Rattle.branch_tree.specs.inner.Growing.{IsTurnTo, aimed}
+use Rattle.box_search.specs.declared.twigs.Twig.{Twig}
+use Rattle.box_search.specs.declared.twigs.Twig.TheVariants as twig
+use Rattle.branch_tree.specs.inner.Growing.{IsTurnTo}
+use Rattle.box_search.specs.Searches.{aimed}
 use Rattle.branch_tree.specs.inner.Places.{AreSettled, IsOpenPlace}
-use Rattle.branch_tree.proofs.Extending.{aim_on, handed_same, learned_on}
+use Rattle.box_search.proofs.Extending.{aim_on, handed_same, learned_on}
 use Rattle.branch_tree.proofs.growth.grow_once.Goals as goal
 
 pub look_again-requires-clause-aim : goal.look_again-requires-clause-aim

@@ -1,5 +1,6 @@
 use Rattle.std.proofs.Common.{◌≤◌, length}
-use Rattle.branch_tree.specs.inner.Growing.{HasLearned, IsGrowing, IsSearch, aimed, handed_in, most_entries}
+use Rattle.box_search.specs.Searches.{HasLearned, IsSearch, aimed, handed_in, most_entries}
+use Rattle.branch_tree.specs.inner.Growing.{IsGrowing}
 use Rattle.branch_tree.proofs.growth.grow_once.Given as goal
 
 -- the tree is one of the case still, and no cuts were added but those of whole points

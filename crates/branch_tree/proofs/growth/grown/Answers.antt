@@ -1,8 +1,9 @@
 use Rattle.std.proofs.Common.{◌+◌, ◌*◌, ◌≤◌, List, IfOk, length, subst, arith}
 use Rattle.net_core.proofs.Library.{on_ok_weaker}
 use Rattle.plan_terms.specs.Terms.{CutLine}
-use Rattle.branch_tree.specs.inner.Growing.{IsGrownTo, aimed, most_entries}
-use Rattle.branch_tree.proofs.Extending.{aim_on, handed_same, learned_on, most_on}
+use Rattle.branch_tree.specs.inner.Growing.{IsGrownTo}
+use Rattle.box_search.specs.Searches.{aimed, most_entries}
+use Rattle.box_search.proofs.Extending.{aim_on, handed_same, learned_on, most_on}
 use Rattle.branch_tree.proofs.growth.grown.Goals as goal
 
 pub grown_on-requires-clause-aim : goal.grown_on-requires-clause-aim

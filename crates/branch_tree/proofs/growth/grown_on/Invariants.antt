@@ -1,5 +1,6 @@
 use Rattle.std.proofs.Common.{◌+◌, ◌*◌, ◌≤◌, length}
-use Rattle.branch_tree.specs.inner.Growing.{HasLearned, IsGrowing, IsSearch, aimed, handed_in, most_entries}
+use Rattle.box_search.specs.Searches.{HasLearned, IsSearch, aimed, handed_in, most_entries}
+use Rattle.branch_tree.specs.inner.Growing.{IsGrowing}
 use Rattle.branch_tree.proofs.growth.grown_on.Given as goal
 
 -- the tree has as many splits as there were turns, each of which added two cuts at most but for those of whole points

@@ -1,11 +1,13 @@
 use Rattle.std.proofs.Common.{List, subst, sym}
 use Rattle.tree_check.specs.Boxes.{IsFixedBox}
 use Rattle.tree_check.specs.Trees.{TreeBox}
-use Rattle.branch_tree.specs.declared.found.Found.{Found}
-use Rattle.branch_tree.specs.declared.found.Found.TheVariants as found
-use Rattle.branch_tree.specs.declared.twigs.Twig.{Twig}
-use Rattle.branch_tree.specs.inner.Growing.{IsFoundAt, IsGrowing, IsSearchBox, aimed, handed_in}
-use Rattle.branch_tree.proofs.Extending.{growing_on}
+use Rattle.box_search.specs.declared.found.Found.{Found}
+use Rattle.box_search.specs.declared.found.Found.TheVariants as found
+use Rattle.box_search.specs.declared.twigs.Twig.{Twig}
+use Rattle.box_search.specs.Finds.{IsFoundAt, IsSearchBox}
+use Rattle.branch_tree.specs.inner.Growing.{IsGrowing}
+use Rattle.box_search.specs.Searches.{aimed, handed_in}
+use Rattle.branch_tree.proofs.Staying.{growing_on}
 use Rattle.branch_tree.proofs.Turning.{open_known, read_open, twig_growing}
 use Rattle.branch_tree.proofs.growth.look_again.Goals as goal
 

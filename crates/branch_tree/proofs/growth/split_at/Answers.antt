@@ -3,10 +3,12 @@ use Rattle.net_core.proofs.Library.{slice_get_within}
 use Rattle.tree_check.specs.declared.proof.Node.{Node}
 use Rattle.branch_tree.specs.declared.growth.Sides.{Sides}
 use Rattle.branch_tree.specs.declared.growth.Sides.TheVariants as sides
-use Rattle.branch_tree.specs.declared.twigs.Twig.{Twig}
-use Rattle.branch_tree.specs.declared.twigs.Twig.TheVariants as twig
-use Rattle.branch_tree.specs.inner.Growing.{AreSidesOf, IsGrowing, aimed, handed_in}
-use Rattle.branch_tree.proofs.Extending.{growing_on, low_box}
+use Rattle.box_search.specs.declared.twigs.Twig.{Twig}
+use Rattle.box_search.specs.declared.twigs.Twig.TheVariants as twig
+use Rattle.branch_tree.specs.inner.Growing.{AreSidesOf, IsGrowing}
+use Rattle.box_search.specs.Searches.{aimed, handed_in}
+use Rattle.branch_tree.proofs.Staying.{growing_on}
+use Rattle.box_search.proofs.Extending.{low_box}
 use Rattle.branch_tree.proofs.Sides.{split_link_small, split_module_small}
 use Rattle.branch_tree.proofs.Turning.{open_known, read_open, split_growing}
 use Rattle.branch_tree.proofs.growth.split_at.Goals as goal

@@ -3,7 +3,7 @@ use Rattle.std.specs.List.{AllZip}
 use Rattle.master_bound.specs.declared.answer.Multiplier.{Multiplier}
 use Rattle.plan_types.specs.declared.certificate.CertLine.{CertLine}
 use Rattle.proof_order.specs.declared.entry.Entry.TheVariants as entry
-use Rattle.branch_tree.proofs.OwnValues.{IsOwnLine, own_more}
+use Rattle.box_search.proofs.OwnValues.{IsOwnLine, own_more}
 use Rattle.branch_tree.proofs.own.own_cert.Goals as goal
 
 pub unreachable-requires : goal.unreachable-requires

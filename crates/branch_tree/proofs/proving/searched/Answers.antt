@@ -4,7 +4,7 @@ use Rattle.plan_terms.specs.Terms.{CutLine, Routing, case_of}
 use Rattle.plan_swaps.proofs.Swapped.{plan_carries, routing_of_kept}
 use Rattle.proof_order.specs.declared.entry.Entry.{Entry}
 use Rattle.proof_order.specs.declared.entry.Entry.TheVariants as entry
-use Rattle.branch_tree.specs.inner.Growing.{IsOwnCert, handed_in}
+use Rattle.box_search.specs.Searches.{IsOwnCert, handed_in}
 use Rattle.branch_tree.specs.inner.Making.{IsProofWith}
 use Rattle.branch_tree.proofs.Restarts.{first_cuts, first_search}
 use Rattle.branch_tree.proofs.proving.searched.Goals as goal

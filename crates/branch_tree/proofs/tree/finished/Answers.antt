@@ -1,6 +1,6 @@
 use Rattle.std.proofs.Common.{ap, arith, length, map}
 use Rattle.std.specs.Vec.Iter.{into_iter_items}
-use Rattle.branch_tree.specs.inner.Places.{node_of}
+use Rattle.box_search.specs.Finds.{node_of}
 use Rattle.branch_tree.specs.inner.Showing.{all_shown}
 use Rattle.branch_tree.proofs.Opened.{more_shown, nodes_more}
 use Rattle.branch_tree.proofs.tree.finished.Goals as goal

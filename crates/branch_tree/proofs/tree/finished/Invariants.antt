@@ -1,6 +1,6 @@
 use Rattle.std.proofs.Common.{◌≡◌, ◌++◌, length, map}
 use Rattle.std.specs.Vec.Iter.{into_iter_items, into_iter_len}
-use Rattle.branch_tree.specs.inner.Places.{node_of}
+use Rattle.box_search.specs.Finds.{node_of}
 use Rattle.branch_tree.specs.inner.Showing.{all_shown, shown_more}
 use Rattle.branch_tree.proofs.tree.finished.Given as goal
 

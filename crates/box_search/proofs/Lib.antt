@@ -1,0 +1,13 @@
+pub mod Asked
+pub mod Extending
+pub mod FreeValues
+pub mod Knowing
+pub mod LeastCosts
+pub mod Loads
+pub mod Looking
+pub mod Lowering
+pub mod OwnValues
+pub mod Results
+pub mod ViolatedCuts
+pub mod WholeCounts
+pub mod WideForms

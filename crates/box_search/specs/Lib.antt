@@ -1,0 +1,4 @@
+pub mod Causes
+pub mod Finds
+pub mod Searches
+pub mod inner

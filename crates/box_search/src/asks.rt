@@ -1,0 +1,85 @@
+ghost use Rattle.std.specs.Prelude.{◌≡◌, IfOk, OnOk};
+ghost use Rattle.plan_terms.specs.Terms.{AreCounts, AreWithinLimits, IsSurvivable};
+ghost use Rattle.able_counts.specs.AbleTests.{IsTestOf};
+ghost use Rattle.box_search.specs.inner.Asking.{IsAnswerTo, asked_of};
+ghost use Rattle.box_search.specs.Searches.{aimed};
+
+use crate::aim::Aim;
+use crate::found::Cheaper;
+use crate::large::stop_anywhere;
+use crate::lowered::lowered_counts;
+use able_counts::{AbleTest, Stop};
+use module_choice::cost;
+use net_core::{Copied, Counts, CutLine, Evidence, NoMemory};
+use plan_swaps::limits::are_within_limits;
+use std::alloc::Global;
+
+/// What is known of counts that are asked about.
+#[derive(Drop)]
+pub(crate) enum Asked {
+    /// They carry the demands; or lesser ones within the limits of plans do.
+    Carried(Cheaper),
+    /// Their capacities violate this cut.
+    Cut(CutLine),
+    /// A number of a state's routing program is too wide at their capacities.
+    Wide(Evidence),
+}
+
+/// What stops counts.
+fn stopped(stop: Stop) -> Asked
+    ensures { result ≡ asked_of stop }
+{
+    match stop {
+        Stop::Cut(line) => Asked::Cut(line),
+        Stop::Wide(evidence) => Asked::Wide(evidence),
+    }
+}
+
+/// Asks about counts within the limits of plans.
+pub(crate) fn ask_within(aim: &Aim, test: &mut AbleTest, counts: Counts) -> Result<Asked, NoMemory>
+    requires survivable { IsSurvivable (aimed aim.now) }
+    requires sound { IsTestOf (aimed aim.now) test.old }
+    requires shape { AreCounts (aimed aim.now).links counts }
+    requires limits { AreWithinLimits (aimed aim.now).links counts }
+    ensures sound { OnOk result (IsTestOf (aimed aim.now) test.new) }
+    ensures answer { IfOk result (IsAnswerTo (aimed aim.now) counts) }
+{
+    let found = test.stop(aim.instance, &counts)?;
+    match found {
+        Some(stop) => Ok(stopped(stop)),
+        None => Ok(Asked::Carried(Cheaper {
+            cost: cost(aim.instance.net, &counts),
+            counts,
+            routings: test.routings().copy()?,
+        })),
+    }
+}
+
+/// Asks about any counts.
+pub(crate) fn ask(
+    alloc: Global,
+    aim: &Aim,
+    test: &mut AbleTest,
+    counts: Counts,
+) -> Result<Asked, NoMemory>
+    requires survivable { IsSurvivable (aimed aim.now) }
+    requires sound { IsTestOf (aimed aim.now) test.old }
+    requires shape { AreCounts (aimed aim.now).links counts }
+    ensures sound { OnOk result (IsTestOf (aimed aim.now) test.new) }
+    ensures answer { IfOk result (IsAnswerTo (aimed aim.now) counts) }
+{
+    if are_within_limits(alloc, aim.instance.net, &counts)? {
+        return ask_within(aim, test, counts);
+    }
+    match stop_anywhere(alloc, aim.instance, &counts)? {
+        Ok(routings) => {
+            let counts = lowered_counts(alloc, aim.instance, &counts)?;
+            Ok(Asked::Carried(Cheaper {
+                cost: cost(aim.instance.net, &counts),
+                counts,
+                routings,
+            }))
+        }
+        Err(stop) => Ok(stopped(stop)),
+    }
+}

@@ -1,0 +1,19 @@
+use crate::known::Known;
+use able_counts::AbleTest;
+
+/// How many cuts of whole points and further lines are kept beside the handed-in cuts.
+pub const MOST_FURTHER: usize = 4096;
+
+/// How many cuts of node sets there are at most.
+pub const MOST_SET_CUTS: usize = 1024;
+
+/// What a search has learned: cuts and lines, and a test of counts.
+#[derive(Drop)]
+pub struct Search {
+    pub known: Known,
+    pub test: AbleTest,
+    /// How many of the cuts were handed in.
+    pub handed: usize,
+    /// How many cuts and lines are kept at most, but for cuts of boxes of one choice of counts.
+    pub room: usize,
+}
