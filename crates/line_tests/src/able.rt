@@ -1,9 +1,9 @@
 use crate::rows::LineRow::{Divided, Failing, Plain};
 use crate::rows::{CutRow, LineRow, instance_of, tested, worked};
 use line_check::{Inequality, Tested};
-use net_core::{Module, Problem};
+use net_core::{List, Module, Problem};
 use std::alloc::Global;
-use worked_networks::{LinkRow, network, problem};
+use worked_networks::{DemandRow, LinkRow, network, problem};
 
 /// The networks whose counts are all tried.
 #[derive(Clone, Copy)]
@@ -12,6 +12,8 @@ pub(crate) enum Tried {
     Triangle,
     /// Three parallel links with modules of 10.00 and of 25.00, and a demand of 30.00.
     Parallel,
+    /// Links and demands of a sample of four nodes, with smaller modules.
+    Sample,
 }
 
 /// The cuts of one link each of the triangle where the two others don't carry, and that of C where nothing fails.
@@ -46,6 +48,53 @@ pub(crate) const PARALLEL_CUTS: [CutRow; 4] = [
     (2, &[1, 0, 1], 30000),
     (3, &[1, 1, 0], 30000),
     (0, &[1, 1, 1], 30000),
+];
+
+const SMALL: [Module; 1] = [Module {
+    capacity: 35000,
+    cost: 5000,
+}];
+
+const LARGE: [Module; 1] = [Module {
+    capacity: 70000,
+    cost: 9000,
+}];
+
+/// The ring and the two chords of the sample of seed 1, with modules of 35.00 or of 70.00.
+const SAMPLE: [LinkRow; 6] = [
+    (0, 1, 0, &LARGE),
+    (1, 2, 0, &SMALL),
+    (2, 3, 0, &SMALL),
+    (3, 0, 0, &LARGE),
+    (0, 2, 0, &SMALL),
+    (2, 0, 0, &SMALL),
+];
+
+/// Its demands.
+const SAMPLE_DEMANDS: [DemandRow; 6] = [
+    (0, 1, 35000),
+    (0, 2, 13000),
+    (0, 3, 11000),
+    (1, 2, 16000),
+    (1, 3, 13000),
+    (2, 3, 6000),
+];
+
+/// The cuts of the sample's second and of its fourth node where one of their two links fails, and that of the second where nothing does.
+const NODE_CUTS: [CutRow; 4] = [
+    (1, &[0, 1, 0, 0, 0, 0], 64000),
+    (3, &[0, 0, 0, 1, 0, 0], 30000),
+    (4, &[0, 0, 1, 0, 0, 0], 30000),
+    (0, &[1, 1, 0, 0, 0, 0], 64000),
+];
+
+/// Cuts between the sample's first two nodes and the others where links between these fail, that of the fourth node where one of its links
+/// does, and that of the two sides where nothing does.
+const SIDE_CUTS: [CutRow; 4] = [
+    (2, &[0, 0, 0, 1, 1, 1], 53000),
+    (5, &[0, 1, 0, 1, 0, 1], 53000),
+    (4, &[0, 0, 1, 0, 0, 0], 30000),
+    (0, &[0, 1, 0, 1, 1, 1], 53000),
 ];
 
 const DIVISORS: [u128; 12] = [
@@ -97,11 +146,56 @@ fn carried_without(code: u64, failed: u32) -> u128 {
     sum
 }
 
-/// Whether counts carry the demand whichever link fails.
+/// Whether one of two nodes is in a set, which is a bit for each node, and the other isn't.
+fn are_apart(inside: u32, a: u32, b: u32) -> bool {
+    a < 32 && b < 32 && (inside >> a) & 1 != (inside >> b) & 1
+}
+
+/// What the sample's links carry between a set of nodes and the others without one of them.
+fn carried_across(code: u64, inside: u32, failed: u32) -> u128 {
+    let mut at = 0u32;
+    let mut sum = 0u128;
+    for (a, b, _, modules) in &SAMPLE {
+        if at != failed && are_apart(inside, *a, *b) {
+            let capacity = modules.first().map_or(0, |module| module.capacity);
+            sum = sum.saturating_add(count_at(code, at).saturating_mul(capacity as u128));
+        }
+        at = at.saturating_add(1);
+    }
+    sum
+}
+
+/// What the sample's demands ask for between a set of nodes and the others.
+fn asked_across(inside: u32) -> u128 {
+    let mut sum = 0u128;
+    for (from, to, need) in &SAMPLE_DEMANDS {
+        if are_apart(inside, *from, *to) {
+            sum = sum.saturating_add(*need as u128);
+        }
+    }
+    sum
+}
+
+/// Whether counts carry the sample's demands whichever link fails: between four nodes demands are carried wherever each set of nodes has
+/// the capacity for those that leave it (Papernov).
+fn carry_sample(code: u64) -> bool {
+    for inside in 1..8 {
+        let asked = asked_across(inside);
+        for failed in 0..6 {
+            if carried_across(code, inside, failed) < asked {
+                return false;
+            }
+        }
+    }
+    true
+}
+
+/// Whether counts carry the demands whichever link fails.
 fn are_able(tried: Tried, code: u64) -> bool {
     match tried {
         Tried::Triangle => (0..3).all(|e| count_at(code, e) >= 2),
         Tried::Parallel => (0..3).all(|e| carried_without(code, e) >= 30000),
+        Tried::Sample => carry_sample(code),
     }
 }
 
@@ -118,21 +212,29 @@ fn are_met(line: &Inequality, code: u64) -> bool {
     sum >= line.right
 }
 
-/// The first line that holds and some able counts of up to three of each kind don't meet.
-fn first_unmet(tried: Tried, all: &[Tested]) -> Option<usize> {
-    let codes = match tried {
+/// All counts of up to three of each kind that carry the demands.
+fn able_codes(alloc: Global, tried: Tried) -> Option<List<u64>> {
+    let end = match tried {
         Tried::Triangle => 1 << 6,
-        Tried::Parallel => 1 << 12,
+        Tried::Parallel | Tried::Sample => 1 << 12,
     };
-    for code in 0..codes {
+    let mut codes = List::new(alloc);
+    for code in 0..end {
         if are_able(tried, code) {
-            let unmet = all.iter().position(|t| t.sound && !are_met(&t.line, code));
-            if unmet.is_some() {
-                return unmet;
-            }
+            codes.push(code).ok()?;
         }
     }
-    None
+    Some(codes)
+}
+
+/// Whether some counts don't meet some line that holds.
+fn is_some_unmet(codes: &[u64], all: &[Tested]) -> bool {
+    for t in all {
+        if t.sound && codes.iter().any(|code| !are_met(&t.line, *code)) {
+            return true;
+        }
+    }
+    false
 }
 
 pub(crate) fn problem_of(alloc: Global, tried: Tried) -> Option<Problem> {
@@ -142,16 +244,21 @@ pub(crate) fn problem_of(alloc: Global, tried: Tried) -> Option<Problem> {
             let net = network(alloc, 2, &PARALLEL).ok()?;
             problem(alloc, net, &[(0, 1, 30000)]).ok()
         }
+        Tried::Sample => {
+            let net = network(alloc, 4, &SAMPLE).ok()?;
+            problem(alloc, net, &SAMPLE_DEMANDS).ok()
+        }
     }
 }
 
 /// How many lines hold, of all divisors; none where some able counts don't meet one of them.
 fn number_held(alloc: Global, tried: Tried, cuts: &[CutRow]) -> Option<usize> {
     let p = problem_of(alloc, tried)?;
+    let codes = able_codes(alloc, tried)?;
     let mut held = 0usize;
     for divisor in &DIVISORS {
         let all = tested(alloc, &instance_of(&p), cuts, &lines_over(*divisor))?;
-        if first_unmet(tried, all.items()).is_some() {
+        if is_some_unmet(codes.items(), all.items()) {
             return None;
         }
         let sound = all.items().iter().filter(|t| t.sound).count();
@@ -170,4 +277,22 @@ fn able_counts_of_the_triangle_meet_all_lines(rt: HostRuntime) {
 fn able_counts_of_parallel_links_meet_all_lines(rt: HostRuntime) {
     let held = number_held(rt.alloc(), Tried::Parallel, &PARALLEL_CUTS);
     assert!(rt; held >= Some(150), "{} lines", held.unwrap_or(0));
+}
+
+/// Three modules on each link carry the sample's demands, and without those of its first link they don't.
+#[test]
+fn counts_of_a_sample_are_able_or_not(rt: HostRuntime) {
+    assert!(rt; carry_sample(0xfff) && !carry_sample(0xffc));
+}
+
+#[test]
+fn able_counts_of_a_sample_meet_lines_over_cuts_of_nodes(rt: HostRuntime) {
+    let held = number_held(rt.alloc(), Tried::Sample, &NODE_CUTS);
+    assert!(rt; held >= Some(140), "{} lines", held.unwrap_or(0));
+}
+
+#[test]
+fn able_counts_of_a_sample_meet_lines_over_cuts_of_sides(rt: HostRuntime) {
+    let held = number_held(rt.alloc(), Tried::Sample, &SIDE_CUTS);
+    assert!(rt; held >= Some(140), "{} lines", held.unwrap_or(0));
 }

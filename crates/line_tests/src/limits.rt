@@ -1,4 +1,4 @@
-use crate::rows::LineRow::{Divided, Plain};
+use crate::rows::LineRow::{Divided, Failing, Plain};
 use crate::rows::{CutRow, Expected, LineRow, first_wrong};
 
 /// A cut of one link, and that of C where nothing fails.
@@ -9,8 +9,8 @@ const MOST: [(u32, u64); 256] = [(0, 1); 256];
 const TOO_MANY: [(u32, u64); 257] = [(0, 1); 257];
 
 /// Each number at its limit, and one past it: 2^126 for divisors and sums, 2^62 for numerators, 256 terms, and 4096 for what a table
-/// line needs.
-const ROWS: [(LineRow, Expected); 14] = [
+/// line needs. A weight may be as great as 32 bits hold, and two modules cover what 4096 asks for.
+const ROWS: [(LineRow, Expected); 22] = [
     (Divided((1 << 126) - 1, &[(0, 1)]), Some((&[0, 0, 1], 1))),
     (Divided(1 << 126, &[(0, 1)]), None),
     (Divided(0, &[(0, 1)]), None),
@@ -31,6 +31,20 @@ const ROWS: [(LineRow, Expected); 14] = [
     (Divided(1 << 120, &[(11, 1 << 52)]), None),
     (Divided(3000, &[(1, 1024)]), Some((&[0, 3414, 3414], 4096))),
     (Plain(14, &[1]), Some((&[0, 1, 1], 2))),
+    (Divided(12000, &[(1, 4097)]), Some((&[0, 3415, 3415], 4097))),
+    (Plain(16, &[1]), None),
+    (Failing(14, &[1]), Some((&[0, 1, 1], 3))),
+    (Failing(16, &[1]), None),
+    (
+        Plain(14, &[4294967295]),
+        Some((&[0, 4294967295, 4294967295], 8589934590)),
+    ),
+    (
+        Failing(14, &[4294967295]),
+        Some((&[0, 4294967295, 4294967295], 12884901885)),
+    ),
+    (Plain(14, &[1, 1]), None),
+    (Plain(14, &[]), None),
 ];
 
 #[test]
