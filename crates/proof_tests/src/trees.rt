@@ -222,7 +222,7 @@ fn plan(alloc: Global) -> Plan {
 }
 
 /// What a check says of a tree of such a plan.
-fn answer_to(alloc: Global, p: &Problem, tree: ReadTree) -> Option<TreeAnswer> {
+pub(crate) fn answer_to(alloc: Global, p: &Problem, tree: ReadTree) -> Option<TreeAnswer> {
     let proof = Proof {
         plan: plan(alloc),
         cuts: tree.cuts,
