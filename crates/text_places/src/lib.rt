@@ -1,0 +1,8 @@
+//! Where a byte of a text stands, as people count: its line and its column, and the part of its line around it.
+#![tactic(auto)]
+
+mod place;
+mod window;
+
+pub use place::{Place, begins_character, characters, place_of};
+pub use window::{Window, window_of};
