@@ -1,0 +1,40 @@
+ghost use Rattle.std.specs.Prelude.{◌≡◌, ◌++◌, ◌≤◌, OnOk, All, length};
+ghost use Rattle.text_table.specs.Cells.{cells_below, row_text, table_text, cell_text};
+
+use crate::cell::{put_left, put_right, put_spaces};
+use crate::column::{Column, Row};
+use net_core::{Bytes, NoMemory};
+
+/// Puts a cell of a column last, after its gap.
+fn put_cell(text: &mut Bytes, column: Column, cell: &[u8]) -> Result<(), NoMemory>
+    ensures { OnOk result (text.new ≡ text.old ++ cell_text column cell.now) }
+{
+    put_spaces(text, column.gap)?;
+    if column.right {
+        put_right(text, column.width, cell)
+    } else {
+        put_left(text, column.width, cell)
+    }
+}
+
+/// Puts a row last, and ends the line. There is a column for each cell.
+pub fn put_row(text: &mut Bytes, columns: &[Column], row: &[Bytes]) -> Result<(), NoMemory>
+    requires { length row.now ≤ length columns.now }
+    ensures { OnOk result (text.new ≡ text.old ++ row_text columns.now row.now) }
+{
+    for i in 0..row.len() {
+        put_cell(text, columns[i], row[i].items())?;
+    }
+    text.append(b"\n")
+}
+
+/// Puts rows last, of which none has more cells than there are columns.
+pub fn put_rows(text: &mut Bytes, columns: &[Column], rows: &[Row]) -> Result<(), NoMemory>
+    requires { All (λ row. length row ≤ length columns.now) rows.now }
+    ensures { OnOk result (text.new ≡ text.old ++ table_text columns.now rows.now) }
+{
+    for row in rows {
+        put_row(text, columns, row.items())?;
+    }
+    Ok(())
+}
