@@ -1,0 +1,42 @@
+ghost use Rattle.std.specs.Prelude.{◌≡◌, ◌≤◌, ◌++◌, OnOk, length, map};
+ghost use Rattle.text_places.specs.Windows.{IsWindow};
+ghost use Rattle.fault_texts.specs.FaultTexts.{excerpt_text, shown_byte};
+
+use net_core::{Bytes, NoMemory};
+use text_places::{Window, characters};
+use text_table::put_spaces;
+
+/// A byte as it is shown: control bytes are spaces, so that the caret stands below its byte.
+fn shown_byte(byte: u8) -> u8
+    ensures { result ≡ shown_byte byte }
+{
+    if byte < 32 || byte == 127 { 32 } else { byte }
+}
+
+/// Puts the bytes last, as they are shown.
+fn put_shown(text: &mut Bytes, bytes: &[u8]) -> Result<(), NoMemory>
+    ensures { OnOk result (text.new ≡ text.old ++ map shown_byte bytes.now) }
+{
+    for b in bytes {
+        text.append(&[shown_byte(*b)])?;
+    }
+    Ok(())
+}
+
+/// Puts a part of a byte's line last, and below it a caret under the byte.
+pub(crate) fn put_excerpt(
+    text: &mut Bytes,
+    bytes: &[u8],
+    at: usize,
+    window: Window,
+) -> Result<(), NoMemory>
+    requires within { at ≤ length bytes.now }
+    requires window { IsWindow bytes.now at window.from window.to }
+    ensures { OnOk result (text.new ≡ text.old ++ excerpt_text bytes.now at window.from window.to) }
+{
+    put_spaces(text, 4)?;
+    put_shown(text, &bytes[window.from..window.to])?;
+    text.append(b"\n")?;
+    put_spaces(text, 4 + characters(&bytes[window.from..at]))?;
+    text.append(b"^\n")
+}
