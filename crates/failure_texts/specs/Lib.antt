@@ -1,0 +1,3 @@
+pub mod FailureTexts
+pub mod Fates
+pub mod inner

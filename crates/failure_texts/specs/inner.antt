@@ -1,0 +1,2 @@
+pub mod FateItems
+pub mod Listings
