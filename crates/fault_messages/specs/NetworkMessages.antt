@@ -1,0 +1,60 @@
+-- what is said of each fault of a network file
+use Rattle.std.specs.Prelude.{ℕ, List, codes}
+use Rattle.snd_tokens.specs.declared.amounts.NumberFault.{NumberFault}
+use Rattle.snd_tokens.specs.declared.amounts.NumberFault.TheVariants as numbers
+use Rattle.sndlib_reader.specs.declared.fault.Limited.{Limited}
+use Rattle.sndlib_reader.specs.declared.fault.Limited.TheVariants as limits
+use Rattle.sndlib_reader.specs.declared.fault.ReadKind.{ReadKind}
+use Rattle.sndlib_reader.specs.declared.fault.ReadKind.TheVariants as kinds
+
+-- of what a network has too many or too much of
+abbrev pub limit_message : Limited → List ℕ × List ℕ
+limit_message limits.Name = (codes "this name is too long", codes "a name has at most 255 bytes")
+limit_message limits.Nodes = (codes "this node is one too many", codes "a network has at most 128 nodes")
+limit_message limits.Links = (codes "this link is one too many", codes "a network has at most 256 links")
+limit_message limits.Modules = (codes "this module is one too many", codes "a link has at most 16 modules")
+limit_message limits.Demands = (codes "this demand is one too many", codes "a network has at most 2048 demands")
+limit_message limits.Total = (
+  codes "with this demand all needs together are too large",
+  codes "they sum to less than 17592186044.416, or than 17592186.044416 in a file with a finer number than thousandths",
+)
+
+-- of a number
+abbrev pub number_message : NumberFault → List ℕ × List ℕ
+number_message numbers.NotANumber = (
+  codes "this is no number",
+  codes "a number is digits, or digits, a point and digits; it has no sign, no exponent and no comma, and a path length may be UNLIMITED",
+)
+number_message numbers.TooFine = (
+  codes "this number has too many places",
+  codes "past the sixth place after the point there are only zeros, and a routing unit is a whole number",
+)
+number_message numbers.TooLarge = (
+  codes "this number is too large",
+  codes "an amount, and a demand's unit times its value, is below 1099511627.776, or below 1099511.627776 in a file with a finer number than thousandths",
+)
+
+-- of any fault: what is wrong, and what helps
+abbrev pub network_message : ReadKind → List ℕ × List ℕ
+network_message (kinds.Limit limited) = limit_message limited
+network_message (kinds.Number fault) = number_message fault
+network_message kinds.Header = (codes "this is no network", codes "the first line of a network is: ?SNDlib native format; type: network; version: 1.0")
+network_message kinds.Section = (
+  codes "another section is expected here, or its parenthesis, or the end of the file",
+  codes "the sections are NODES, LINKS and DEMANDS, in this order and each in parentheses; META may stand before them, and ADMISSIBLE_PATHS after them",
+)
+network_message kinds.Token = (
+  codes "a word stands where a parenthesis is expected, or the other way round",
+  codes "a link is: NAME ( NODE NODE ) number number number number ( capacity cost .. ); a demand is: NAME ( NODE NODE ) unit value UNLIMITED",
+)
+network_message kinds.Ended = (codes "the file ends too early", codes "is it cut off, or does a parenthesis stay open?")
+network_message kinds.UnknownName = (
+  codes "nothing has this name",
+  codes "a link or a demand ends at nodes of the list, and an admissible path is one of links for a demand; upper and lower case differ",
+)
+network_message kinds.DoubleName = (codes "this name stands twice", codes "each node, each link and each demand has a name of its own")
+network_message kinds.SelfLink = (codes "this link joins a node to itself", codes "the ends of a link are two nodes")
+network_message kinds.SelfDemand = (codes "this demand goes from a node to itself", codes "the ends of a demand are two nodes")
+network_message kinds.ZeroModule = (codes "this module has no capacity", codes "the capacity of a module is above 0")
+network_message kinds.FixedLink =
+    (codes "this link has capacity in place and no module", codes "a link is planned only with a module; give it one, or leave the link out")
