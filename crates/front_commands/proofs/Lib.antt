@@ -1,0 +1,4 @@
+pub mod Causing
+pub mod Nothing
+pub mod Showing
+pub mod Separated

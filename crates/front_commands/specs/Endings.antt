@@ -1,0 +1,95 @@
+-- what a run for people comes to: its status, the text that it prints, and the message beside it
+use Rattle.std.specs.Prelude.{◌≡◌, ℕ, ◌⊎◌, List, [], ◌++◌, Option, String, codes}
+use Rattle.std.specs.Global.{Global}
+use Rattle.plan_terms.specs.Terms.{Demand, Network}
+use Rattle.outside_io.specs.Outside.{Files, Rose, Takes, TakesPrefix}
+use Rattle.command_answers.specs.declared.status.Status.{Status}
+use Rattle.command_answers.specs.declared.status.Status.TheVariants.{BadNetwork, BadWords, Done, NoMemory, NotSurvivable, WriteFault}
+use Rattle.command_answers.specs.Answers.{NamesFirstSeparation}
+use Rattle.failure_texts.specs.FailureTexts.{IsFailureList}
+use Rattle.failure_texts.specs.Fates.{with_states}
+use Rattle.planner_commands.specs.Inputs.{Fetched, SpellsNetwork, input_limit}
+use Rattle.front_commands.specs.Fronts.{FrontCommand, Help, Version, Failures, IsFrontCommand}
+use Rattle.front_commands.specs.Messages.{EndsInLine, FailsAtFile, ShowsNetworkFault}
+
+-- ---- texts of their own
+
+-- how the program is used
+abbrev pub help_text : List ℕ
+help_text =
+    codes "zorgwint helps people with the files of a capacity planning.\n"
+    ++ codes "\n"
+    ++ codes "  zorgwint failures NET\n"
+    ++ codes "      a failure list of each single link that can fail without separating a demand; the others stand in comments\n"
+    ++ codes "  zorgwint help | --help | --version\n"
+    ++ codes "\n"
+    ++ codes "NET is the file of a network in SNDlib's native format, and - is standard input. After -- no word is an option.\n"
+    ++ codes "\n"
+    ++ codes "Exit statuses: 0 done, 2 these words are no command, 3 a file isn't there, 4 reading failed, 5 writing failed,\n"
+    ++ codes "6 the network is refused, 10 a demand is separated, 12 a file is too long, 14 there is no memory\n"
+
+-- which version it is
+abbrev pub version_text : List ℕ
+version_text = codes "zorgwint 1\n"
+
+-- what is said of words that are no command
+abbrev pub usage_message : List ℕ
+usage_message = codes "these words are no command; zorgwint --help tells which are\nusage: zorgwint failures NET | help | --help | --version\n"
+
+-- what is said where memory ran out
+abbrev pub memory_message : List ℕ
+memory_message = codes "there is no memory left\n"
+
+-- what is said where writing the text failed
+abbrev pub write_message : List ℕ
+write_message = codes "writing failed: is the disk full?\n"
+
+-- ---- commands
+
+-- a demand is separated where nothing fails, and the message ends in the planner's line of the first one that has a need
+abbrev pub SaysApart : Network → List Demand → Status → List ℕ → Type 0
+SaysApart net demands = EndsInLine (λ status line. (status ≡ NotSurvivable) × NamesFirstSeparation (with_states net demands []) line)
+
+-- What a failure list of a network comes to: a demand is separated where nothing fails, or the text has the failure of each link that alone
+-- separates none, and no other, so that the network survives them all.
+abbrev pub ListsFailures : Network → List Demand → Status → List ℕ → List ℕ → Type 0
+ListsFailures net demands status text message =
+    ((text ≡ []) × SaysApart net demands status message)
+    ⊎ ((status ≡ Done) × IsFailureList net demands text × (message ≡ []))
+
+-- What it comes to for a file: the file ends the run with a message, or it is the list of the network that the file spells.
+abbrev pub EndsFailures : Option Files → List ℕ → Status → List ℕ → List ℕ → Type 0
+EndsFailures files name status text message =
+    ((text ≡ []) × FailsAtFile files input_limit name BadNetwork (ShowsNetworkFault name) status message)
+    ⊎ ((net : Network) × (demands : List Demand) × Fetched files input_limit name SpellsNetwork (net, demands)
+    × ListsFailures net demands status text message)
+
+-- what a command comes to
+abbrev pub EndsFrontCommand : Option Files → FrontCommand → Status → List ℕ → List ℕ → Type 0
+EndsFrontCommand files Help status text message = (status ≡ Done) × (text ≡ help_text) × (message ≡ [])
+EndsFrontCommand files Version status text message = (status ≡ Done) × (text ≡ version_text) × (message ≡ [])
+EndsFrontCommand files (Failures network) status text message = EndsFailures files network status text message
+
+-- ---- a run
+
+-- What a run comes to, with its whole text and message: memory runs out, which needs no cause, or the words are no command, or they are one.
+abbrev pub EndsFront : List (String Global) → Option Files → Status → List ℕ → List ℕ → Type 0
+EndsFront words files status text message =
+    ((status ≡ NoMemory) × (text ≡ []) × (message ≡ memory_message))
+    ⊎ ((status ≡ BadWords) × ((c : FrontCommand) → IsFrontCommand words c → ⊥) × (text ≡ []) × (message ≡ usage_message))
+    ⊎ ((c : FrontCommand) × IsFrontCommand words c × EndsFrontCommand files c status text message)
+
+-- the sink beside takes a message whole, or it counts a fault and takes a prefix
+abbrev pub TellsBeside : {E : Type 0} → (E → Option (List ℕ)) → (E → ℕ) → List ℕ → E → E → Type 0
+TellsBeside taken faults message old new =
+    Takes (taken old) (taken new) message
+    ⊎ (Rose (faults old) (faults new) × TakesPrefix (taken old) (taken new) message)
+
+-- The sink takes the whole text and the one beside it the message, and the status stays; or writing the text failed, the sink has counted
+-- it and taken a prefix, and the one beside it is told so.
+abbrev pub PutsBoth : {K E : Type 0} → (K → Option (List ℕ)) → (K → ℕ) → (E → Option (List ℕ)) → (E → ℕ)
+    → Status → List ℕ → List ℕ → Status → K → K → E → E → Type 0
+PutsBoth taken faults told told_faults status text message result old new before after =
+    ((result ≡ status) × Takes (taken old) (taken new) text × TellsBeside told told_faults message before after)
+    ⊎ ((result ≡ WriteFault) × (status ≡ Done) × Rose (faults old) (faults new) × TakesPrefix (taken old) (taken new) text
+    × TellsBeside told told_faults write_message before after)

@@ -1,0 +1,4 @@
+pub mod Fronts
+pub mod Messages
+pub mod Endings
+pub mod inner

@@ -1,0 +1,84 @@
+ghost use Rattle.std.specs.Prelude.{◌≡◌, ℕ, List, [], IfErr, IfOk, IsErrOf, length};
+ghost use Rattle.plan_terms.specs.Terms.{AreDemands};
+ghost use Rattle.outside_io.specs.Outside.{Fetches};
+ghost use Rattle.planner_commands.specs.Inputs.{Fetched, SpellsNetwork, StopsAtFetch, input_limit};
+ghost use Rattle.planner_commands.specs.Run.{KeepsShelf};
+ghost use Rattle.front_commands.specs.Messages.{EndsInLine, FailsAtFile, ShowsNetworkFault};
+ghost use Rattle.front_commands.specs.inner.Causes.{Halts};
+
+use crate::refusal::{FaultyFile, not_fetched, refused};
+use crate::stop::Halt;
+use command_answers::Status;
+use fault_messages::network_sentence;
+use net_core::{Bytes, Demands, List as Items, Network};
+use outside_io::{Fetch, Shelf};
+use sndlib_reader::{ReadRefusal, read_network};
+use std::alloc::Global;
+
+/// How many bytes an input file may have.
+const INPUT_LIMIT: u64 = 1 << 24;
+
+/// The content of a file of at most so many bytes.
+fn fetch_file<S: Shelf>(alloc: Global, limit: u64, name: &str, shelf: &mut S) -> Result<Bytes, Halt>
+    ensures found { IfOk result (λ bytes. Fetches (S.files shelf.old) name.now limit Fetch.Found bytes) }
+    ensures ends { IfErr result (Halts (EndsInLine (StopsAtFetch (S.files shelf.old) limit name.now))) }
+    ensures shelf { KeepsShelf S.files S.faults (IsErrOf result Halt.ReadFault) shelf.old shelf.new }
+{
+    let mut bytes = Items::new(alloc);
+    match shelf.fetch(name, limit, &mut bytes) {
+        Fetch::Found => Ok(bytes),
+        Fetch::Missing => Err(not_fetched(
+            alloc,
+            Status::NoFile,
+            name,
+            b": there is no such file\n",
+            b"no file ",
+        )),
+        Fetch::TooLong => Err(not_fetched(
+            alloc,
+            Status::TooLong,
+            name,
+            b": the file is too long; a network has at most 16 MiB\n",
+            b"too long ",
+        )),
+        Fetch::Failed => Err(Halt::ReadFault),
+        Fetch::NoMemory => Err(Halt::NoMemory),
+    }
+}
+
+/// The network and the demands that bytes spell.
+fn network_of(alloc: Global, name: &str, bytes: &[u8]) -> Result<(Network, Demands), Halt>
+    ensures spelled { IfOk result (SpellsNetwork bytes.now) }
+    ensures belong { IfOk result (λ r. AreDemands (length r.0.nodes) r.1) }
+    ensures refused { IfErr result (Halts (λ s message. (s ≡ Status.BadNetwork) × ShowsNetworkFault name.now bytes.now message)) }
+{
+    match read_network(alloc, bytes) {
+        Ok(read) => Ok(read),
+        Err(ReadRefusal::Bad { at, kind }) => {
+            let file = FaultyFile {
+                status: Status::BadNetwork,
+                file: b"network",
+                name,
+                bytes,
+                at,
+            };
+            Err(refused(alloc, &file, &kind, network_sentence(kind)))
+        }
+        Err(ReadRefusal::NoMemory) => Err(Halt::NoMemory),
+    }
+}
+
+/// The network and the demands of a file.
+pub(crate) fn load_network<S: Shelf>(
+    alloc: Global,
+    name: &str,
+    shelf: &mut S,
+) -> Result<(Network, Demands), Halt>
+    ensures has { IfOk result (Fetched (S.files shelf.old) input_limit name.now SpellsNetwork) }
+    ensures belong { IfOk result (λ r. AreDemands (length r.0.nodes) r.1) }
+    ensures ends { IfErr result (Halts (FailsAtFile (S.files shelf.old) input_limit name.now Status.BadNetwork (ShowsNetworkFault name.now))) }
+    ensures shelf { KeepsShelf S.files S.faults (IsErrOf result Halt.ReadFault) shelf.old shelf.new }
+{
+    let bytes = fetch_file(alloc, INPUT_LIMIT, name, shelf)?;
+    network_of(alloc, name, bytes.items())
+}

@@ -1,0 +1,31 @@
+//! Helps people with the files of a capacity planning, and says what is wrong with one.
+#![tactic(auto)]
+
+mod run;
+
+use command_answers::Status;
+use net_core::NoMemory;
+use outside_io::{FileShelf, StreamSink};
+use run::run;
+use std::process::ExitCode;
+use std::{env, io};
+
+/// The command-line arguments, and none where one of them isn't text.
+fn words_of(rt: &HostRuntime) -> Result<Vec<String>, NoMemory> {
+    match env::args(rt) {
+        Ok(args) => Ok(args.skip(1).collect(rt.alloc())?),
+        Err(fault) if fault.kind() == io::ErrorKind::OutOfMemory => Err(NoMemory),
+        Err(_) => Ok(Vec::new(rt.alloc())),
+    }
+}
+
+fn main(rt: HostRuntime) -> ExitCode {
+    let Ok(words) = words_of(&rt) else {
+        return ExitCode::from(Status::NoMemory.number());
+    };
+    let mut shelf = FileShelf::new(&rt);
+    let mut out = StreamSink::new(io::writer(&rt));
+    let mut beside = StreamSink::new(rt.stderr());
+    let status = run(rt.alloc(), &words, &mut shelf, &mut out, &mut beside);
+    ExitCode::from(status.number())
+}

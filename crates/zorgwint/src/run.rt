@@ -1,0 +1,35 @@
+ghost use Rattle.std.specs.Prelude.{◌≡◌, ℕ, List, ◌≤◌};
+ghost use Rattle.planner_commands.specs.Run.{KeepsShelf};
+ghost use Rattle.front_commands.specs.Endings.{EndsFront, PutsBoth};
+ghost use Rattle.command_answers.specs.declared.status.Status.{Status};
+
+use command_answers::Status;
+use front_commands::run as commands;
+use outside_io::{Shelf, Sink};
+use std::alloc::Global;
+
+/// Carries out the command that the words give: reads its file from the shelf, prints its text to a sink, and says what is wrong to the one
+/// beside it. Nothing is printed where something is wrong.
+///
+/// ```text
+/// let mut shelf = MemShelf::new(files, List::new(alloc));              // with the triangle's network under the name t.txt
+/// let status = run(alloc, &words, &mut shelf, &mut out, &mut beside);  // the words are failures t.txt
+/// // Done, and `out` has taken the failure list; for a network that isn't there NoFile, and `beside` has taken what is said of it
+/// ```
+pub fn run<S: Shelf, K: Sink, E: Sink>(
+    alloc: Global,
+    words: &[String],
+    shelf: &mut S,
+    out: &mut K,
+    beside: &mut E,
+) -> Status
+    // What the run comes to has its cause in the words and the files, reading fails only where the shelf counts it, and text and message
+    // are written. The files stay as they are, and no count of faults falls.
+    ensures outcome { (status : Status) × (text : List ℕ) × (message : List ℕ) × EndsFront words.now (S.files shelf.old) status text message
+        × KeepsShelf S.files S.faults (status ≡ Status.ReadFault) shelf.old shelf.new
+        × PutsBoth K.taken K.faults E.taken E.faults status text message result out.old out.new beside.old beside.new }
+    ensures later { K.faults out.old ≤ K.faults out.new }
+    ensures beside { E.faults beside.old ≤ E.faults beside.new }
+{
+    commands::run(alloc, words, shelf, out, beside)
+}
