@@ -1,0 +1,15 @@
+//! Tests of lines and columns, of tables, of messages with a caret, and of failure lists as text.
+#![tactic(auto)]
+
+#[cfg(test)]
+mod failures;
+#[cfg(test)]
+mod faults;
+#[cfg(test)]
+mod headers;
+#[cfg(test)]
+mod places;
+#[cfg(test)]
+mod tables;
+#[cfg(test)]
+mod windows;
