@@ -21,10 +21,10 @@ row_more least rows k i most row lt is before =
       fits = All-more (fits i wide) rows k row lt (All-weaker (fits i most) (fits i wide) (λ x p. omega (arith, p)) (take k rows) before.fits)
           (subst (λ r. fits i wide r) is (omega arith));
       narrow = λ other le all.
-        let first = before.narrow other le (λ j d within.
+          let first = before.narrow other le (λ j d within.
           let near : j < k = omega (arith, within, length-take k rows) in
           subst (fits i other) (get_or-take (k + 1) rows j d (omega (arith, near)) ∙ sym (get_or-take k rows j d near))
           (all j d (omega (arith, near, lt, length-take (k + 1) rows)))) in
-        let last : here ≤ other = subst (fits i other) (get_or-take (k + 1) rows k row (omega arith) ∙ sym is) (all k row (omega (arith, lt, length-take (k + 1) rows))) in
-        omega (arith, first, last);
+          let last : here ≤ other = subst (fits i other) (get_or-take (k + 1) rows k row (omega arith) ∙ sym is) (all k row (omega (arith, lt, length-take (k + 1) rows))) in
+          omega (arith, first, last);
     }
