@@ -1,0 +1,72 @@
+use net_core::{List, Name};
+use outside_io::MemFile;
+use std::alloc::Global;
+
+/// A file, by its name and its bytes.
+type File = (&'static str, &'static [u8]);
+
+const TRIANGLE: &[u8] = b"?SNDlib native format; type: network; version: 1.0
+NODES ( A B C )
+LINKS (
+  AB ( A B ) 0 0 0 0 ( 10.00 5.00 )
+  BC ( B C ) 0 0 0 0 ( 10.00 5.00 )
+  AC ( A C ) 0 0 0 0 ( 10.00 5.00 )
+)
+DEMANDS (
+  D1 ( A C ) 1 12.00 UNLIMITED
+)
+";
+
+/// The triangle, and a node D that one link joins to C.
+const BRIDGE: &[u8] = b"?SNDlib native format; type: network; version: 1.0
+NODES ( A B C D )
+LINKS (
+  AB ( A B ) 0 0 0 0 ( 10.00 5.00 )
+  BC ( B C ) 0 0 0 0 ( 10.00 5.00 )
+  CD ( C D ) 0 0 0 0 ( 10.00 5.00 )
+  AC ( A C ) 0 0 0 0 ( 10.00 5.00 )
+)
+DEMANDS (
+  D1 ( A C ) 1 12.00 UNLIMITED
+  D2 ( A D ) 1 3.00 UNLIMITED
+)
+";
+
+/// A node that no link joins to others.
+const APART: &[u8] = b"?SNDlib native format; type: network; version: 1.0
+NODES ( A B C )
+LINKS ( AB ( A B ) 0 0 0 0 ( 10.00 5.00 ) )
+DEMANDS ( D1 ( A B ) 1 1.00 UNLIMITED D2 ( A C ) 1 1.00 UNLIMITED )
+";
+
+/// A link that has capacity in place and no module.
+const BROKEN: &[u8] = b"?SNDlib native format; type: network; version: 1.0
+NODES ( A B )
+LINKS ( L ( A B ) 5 0 0 0 ( ) )
+DEMANDS ( D ( A B ) 1 1 UNLIMITED )
+";
+
+const FILES: [File; 6] = [
+    ("triangle", TRIANGLE),
+    ("bridge", BRIDGE),
+    ("apart", APART),
+    ("broken", BROKEN),
+    ("-x", TRIANGLE),
+    ("/dev/stdin", TRIANGLE),
+];
+
+/// Puts a file last.
+fn put(held: &mut List<MemFile>, alloc: Global, file: File) -> Option<()> {
+    let name = Name::new(alloc, file.0.as_bytes()).ok()?;
+    let bytes = List::from_slice(alloc, file.1).ok()?;
+    held.push(MemFile { name, bytes }).ok()
+}
+
+/// All files.
+pub(crate) fn all_files(alloc: Global) -> Option<List<MemFile>> {
+    let mut held = List::new(alloc);
+    for file in &FILES {
+        put(&mut held, alloc, *file)?;
+    }
+    Some(held)
+}

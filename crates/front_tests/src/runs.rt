@@ -1,0 +1,61 @@
+use crate::files::all_files;
+use front_commands::Status;
+use front_commands::run::run;
+use net_core::List;
+use outside_io::{MemShelf, MemSink, Shelf, Sink, have_different_names};
+use std::alloc::Global;
+
+/// Words, which fetch, put and message fails, counted from 0, and what the run comes to: its status, what it prints, and what it says beside.
+pub(crate) struct Row {
+    pub(crate) words: &'static str,
+    pub(crate) failing: (u32, u32),
+    pub(crate) status: Status,
+    pub(crate) text: &'static str,
+    pub(crate) message: &'static str,
+}
+
+/// The words of a command.
+fn words_of(alloc: Global, words: &str) -> Option<Vec<String>> {
+    let mut list = Vec::new(alloc);
+    for word in words.split(' ') {
+        list.push(word.to_string(alloc).ok()?).ok()?;
+    }
+    Some(list)
+}
+
+/// A shelf of all files, of which this fetch fails.
+fn shelf_of(alloc: Global, fetch: u32) -> Option<MemShelf> {
+    let files = all_files(alloc)?;
+    let failing = List::from_slice(alloc, &[fetch]).ok()?;
+    have_different_names(files.items()).then(|| MemShelf::new(files, failing))
+}
+
+/// An empty sink, of which this put fails.
+fn sink_of(alloc: Global, put: u32) -> Option<MemSink> {
+    let failing = List::from_slice(alloc, &[put]).ok()?;
+    MemSink::new(alloc, 100000, failing).ok()
+}
+
+/// Whether a run over these comes to what its row says.
+fn ends_so(
+    alloc: Global,
+    words: &[String],
+    mut shelf: MemShelf,
+    mut out: MemSink,
+    mut beside: MemSink,
+    row: &Row,
+) -> bool {
+    let status = run(alloc, words, &mut shelf, &mut out, &mut beside);
+    status == row.status
+        && out.bytes() == row.text.as_bytes()
+        && beside.bytes() == row.message.as_bytes()
+}
+
+/// Whether the words of a row come to what it says; nothing where there is no memory.
+pub(crate) fn comes_to(alloc: Global, row: &Row) -> Option<bool> {
+    let words = words_of(alloc, row.words)?;
+    let shelf = shelf_of(alloc, row.failing.0)?;
+    let out = sink_of(alloc, row.failing.1)?;
+    let beside = sink_of(alloc, 9)?;
+    Some(ends_so(alloc, &words, shelf, out, beside, row))
+}
