@@ -22,63 +22,43 @@ AC ( AC )
 /// Half of the list of the triangle.
 const HALF: &str = "?planner failures; version: 1\nFAILUR";
 
-/// A run that fetches and puts without fault.
-const fn sound(
-    words: &'static str,
-    status: Status,
-    text: &'static str,
-    message: &'static str,
-) -> Row {
-    Row {
-        words,
-        failing: (9, 9),
-        status,
-        text,
-        message,
-    }
-}
-
-/// A run whose first fetch fails, or whose first put.
-const fn faulty(
-    failing: (u32, u32),
-    status: Status,
-    text: &'static str,
-    message: &'static str,
-) -> Row {
-    Row {
-        words: "failures triangle",
-        failing,
-        status,
-        text,
-        message,
-    }
-}
+/// No fetch and no put fails.
+const SOUND: (u32, u32) = (9, 9);
 
 const ROWS: [Row; 15] = [
-    sound("failures triangle", Status::Done, TRIANGLE_LIST, ""),
-    sound("failures bridge", Status::Done, BRIDGE_LIST, ""),
-    sound("failures -", Status::Done, TRIANGLE_LIST, ""),
-    sound("failures -- -x", Status::Done, TRIANGLE_LIST, ""),
-    sound("--version", Status::Done, "zorgwint 1\n", ""),
-    sound("failures -x", Status::BadWords, "", USAGE),
-    sound("failures", Status::BadWords, "", USAGE),
-    sound("failures triangle bridge", Status::BadWords, "", USAGE),
-    sound("plan triangle", Status::BadWords, "", USAGE),
-    sound("help me", Status::BadWords, "", USAGE),
-    sound(
+    ("failures triangle", SOUND, Status::Done, TRIANGLE_LIST, ""),
+    ("failures bridge", SOUND, Status::Done, BRIDGE_LIST, ""),
+    ("failures -", SOUND, Status::Done, TRIANGLE_LIST, ""),
+    ("failures -- -x", SOUND, Status::Done, TRIANGLE_LIST, ""),
+    ("--version", SOUND, Status::Done, "zorgwint 1\n", ""),
+    ("failures -x", SOUND, Status::BadWords, "", USAGE),
+    ("failures", SOUND, Status::BadWords, "", USAGE),
+    (
+        "failures triangle bridge",
+        SOUND,
+        Status::BadWords,
+        "",
+        USAGE,
+    ),
+    ("plan triangle", SOUND, Status::BadWords, "", USAGE),
+    ("help me", SOUND, Status::BadWords, "", USAGE),
+    (
         "failures nothing",
+        SOUND,
         Status::NoFile,
         "",
         "nothing: there is no such file\nno file nothing\n",
     ),
-    sound(
+    (
         "failures apart",
+        SOUND,
         Status::NotSurvivable,
         "",
         "no path joins the ends of demand D2, even where nothing fails\nnot survivable: state 0 none demand D2\n",
     ),
-    sound(
+    (
         "failures broken",
+        SOUND,
         Status::BadNetwork,
         "",
         "broken:3:29: this link has capacity in place and no module
@@ -88,13 +68,15 @@ const ROWS: [Row; 15] = [
 refused network fixed-link at 93
 ",
     ),
-    faulty(
+    (
+        "failures triangle",
         (0, 9),
         Status::ReadFault,
         "",
         "reading failed: it is a folder, or there is no right to read it, or the disk is damaged\n",
     ),
-    faulty(
+    (
+        "failures triangle",
         (9, 0),
         Status::WriteFault,
         HALF,
@@ -105,6 +87,6 @@ refused network fixed-link at 93
 #[test]
 fn runs_come_to_their_rows(rt: HostRuntime) {
     for row in &ROWS {
-        assert!(rt; comes_to(rt.alloc(), row) == Some(true), "{}", row.words);
+        assert!(rt; comes_to(rt.alloc(), row) == Some(true), "{}", row.0);
     }
 }

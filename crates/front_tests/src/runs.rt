@@ -5,14 +5,8 @@ use net_core::List;
 use outside_io::{MemShelf, MemSink, Shelf, Sink, have_different_names};
 use std::alloc::Global;
 
-/// Words, which fetch, put and message fails, counted from 0, and what the run comes to: its status, what it prints, and what it says beside.
-pub(crate) struct Row {
-    pub(crate) words: &'static str,
-    pub(crate) failing: (u32, u32),
-    pub(crate) status: Status,
-    pub(crate) text: &'static str,
-    pub(crate) message: &'static str,
-}
+/// Words, which fetch and which put fails, counted from 0, and what the run comes to: its status, what it prints, and what it says beside.
+pub(crate) type Row = (&'static str, (u32, u32), Status, &'static str, &'static str);
 
 /// The words of a command.
 fn words_of(alloc: Global, words: &str) -> Option<Vec<String>> {
@@ -46,16 +40,14 @@ fn ends_so(
     row: &Row,
 ) -> bool {
     let status = run(alloc, words, &mut shelf, &mut out, &mut beside);
-    status == row.status
-        && out.bytes() == row.text.as_bytes()
-        && beside.bytes() == row.message.as_bytes()
+    status == row.2 && out.bytes() == row.3.as_bytes() && beside.bytes() == row.4.as_bytes()
 }
 
 /// Whether the words of a row come to what it says; nothing where there is no memory.
 pub(crate) fn comes_to(alloc: Global, row: &Row) -> Option<bool> {
-    let words = words_of(alloc, row.words)?;
-    let shelf = shelf_of(alloc, row.failing.0)?;
-    let out = sink_of(alloc, row.failing.1)?;
+    let words = words_of(alloc, row.0)?;
+    let shelf = shelf_of(alloc, row.1.0)?;
+    let out = sink_of(alloc, row.1.1)?;
     let beside = sink_of(alloc, 9)?;
     Some(ends_so(alloc, &words, shelf, out, beside, row))
 }
