@@ -7,8 +7,8 @@ use Rattle.model_reader.specs.declared.failures.FailuresKind.TheVariants as kind
 abbrev pub failures_message : FailuresKind → List ℕ × List ℕ
 failures_message kinds.Header = (codes "this is no failure list", codes "the first line of a failure list is: ?planner failures; version: 1")
 failures_message kinds.Section = (
-  codes "FAILURES and its parenthesis, or ALL_SINGLE_LINKS, is expected here, and nothing after it",
-  codes "a failure list is: FAILURES ( NAME ( LINK .. ) .. )",
+  codes "FAILURES and its parenthesis, or ALL_SINGLE_LINKS, is expected here, or the end of the file after them",
+  codes "a failure list is: FAILURES ( NAME ( LINK .. ) .. ), or ALL_SINGLE_LINKS",
 )
 failures_message kinds.Token = (codes "a failure is a name, and in parentheses at least one link", codes "as in: duct ( AB BC )")
 failures_message kinds.Ended = (codes "the file ends too early", codes "is it cut off, or does a parenthesis stay open?")

@@ -23,7 +23,7 @@ limit_message limits.Total = (
 abbrev pub number_message : NumberFault → List ℕ × List ℕ
 number_message numbers.NotANumber = (
   codes "this is no number",
-  codes "a number is digits, or digits, a point and digits; it has no sign, no exponent and no comma, and a path length may be UNLIMITED",
+  codes "a number is digits, or digits, a point and digits; it has no sign, no exponent and no comma, and a path length is digits alone, or UNLIMITED",
 )
 number_message numbers.TooFine = (
   codes "this number has too many places",
@@ -44,12 +44,12 @@ network_message kinds.Section = (
   codes "the sections are NODES, LINKS and DEMANDS, in this order and each in parentheses; META may stand before them, and ADMISSIBLE_PATHS after them",
 )
 network_message kinds.Token = (
-  codes "a word stands where a parenthesis is expected, or the other way round",
+  codes "another word or parenthesis is expected here",
   codes "a link is: NAME ( NODE NODE ) number number number number ( capacity cost .. ); a demand is: NAME ( NODE NODE ) unit value UNLIMITED",
 )
 network_message kinds.Ended = (codes "the file ends too early", codes "is it cut off, or does a parenthesis stay open?")
 network_message kinds.UnknownName = (
-  codes "nothing has this name",
+  codes "no node, link or demand of the kind that is due here has this name",
   codes "a link or a demand ends at nodes of the list, and an admissible path is one of links for a demand; upper and lower case differ",
 )
 network_message kinds.DoubleName = (codes "this name stands twice", codes "each node, each link and each demand has a name of its own")

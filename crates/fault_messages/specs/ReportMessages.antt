@@ -11,7 +11,7 @@ use Rattle.report_words.specs.declared.fault.ReportKind.TheVariants as kinds
 abbrev pub report_number_message : NumberFault → List ℕ × List ℕ
 report_number_message numbers.NotANumber =
     (codes "this is no number", codes "a whole number has no zeros before it, and a need or money is digits, or digits, a point and digits")
-report_number_message numbers.TooFine = (codes "this number has more places than the network", codes "was the report made for this network?")
+report_number_message numbers.TooFine = (codes "this number has a digit other than 0 past the network's last place", codes "was the report made for this network?")
 report_number_message numbers.TooLarge = (codes "this number is too large", codes "a need is below 2^40 units, and money or any other number below 2^126")
 
 -- of a first line, for a network of these places
@@ -31,13 +31,13 @@ report_message places kinds.Token = (codes "another word is expected here, or a 
 report_message places kinds.Ended = (codes "the report ends too early", codes "is it cut off?")
 report_message places kinds.UnknownName = (
   codes "no link, node or demand has this name, or another name is expected here",
-  codes "is the report of another network, or of another failure list? name those with --model, --failures or --survive",
+  codes "is the report of another network, or of another failure list?",
 )
 report_message places kinds.DoubleName = (codes "an earlier demand of the plan has this name", codes "each demand has a name of its own")
 report_message places kinds.LimitName = (codes "this name is too long", codes "a name has at most 255 bytes")
 report_message places kinds.Limit = (
   codes "this number is out of its range, or something is one too many or too few here",
-  codes "is the report of another network, or of another failure list? name those with --model, --failures or --survive",
+  codes "is the report of another network, or of another failure list?",
 )
 
 -- of any fault of proof lines
@@ -52,9 +52,9 @@ proof_message kinds.Ended = (
 )
 proof_message kinds.UnknownName = (
   codes "no link or demand has this name",
-  codes "is the report of another network, or of another failure list? name those with --model, --failures or --survive",
+  codes "is the report of another network, or of another failure list?",
 )
 proof_message kinds.DoubleName = (codes "this name stands twice", codes "were the lines below the report changed by hand?")
 proof_message kinds.LimitName = (codes "this name is too long", codes "a name has at most 255 bytes")
 proof_message kinds.Limit =
-    (codes "this number is out of its range, or a proof line is one too many here", codes "were the lines below the report changed by hand?")
+    (codes "this number is out of its range, or a length or a proof line is one too many or too few here", codes "were the lines below the report changed by hand?")

@@ -14,8 +14,8 @@ pub fn failures_sentence(kind: FailuresKind) -> Sentence
             help: "the first line of a failure list is: ?planner failures; version: 1",
         },
         FailuresKind::Section => Sentence {
-            wrong: "FAILURES and its parenthesis, or ALL_SINGLE_LINKS, is expected here, and nothing after it",
-            help: "a failure list is: FAILURES ( NAME ( LINK .. ) .. )",
+            wrong: "FAILURES and its parenthesis, or ALL_SINGLE_LINKS, is expected here, or the end of the file after them",
+            help: "a failure list is: FAILURES ( NAME ( LINK .. ) .. ), or ALL_SINGLE_LINKS",
         },
         FailuresKind::Token => Sentence {
             wrong: "a failure is a name, and in parentheses at least one link",

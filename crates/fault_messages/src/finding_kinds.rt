@@ -19,7 +19,7 @@ fn finding_wrong(finding: Finding) -> &'static str
         Finding::PoolDiffers(_, _, _) =>
             "the right side of a cut of the pool is another one at the last demands",
         Finding::VersionDiffers(_, _) =>
-            "the version of a plan isn't the number of edits that were accepted before it",
+            "the version of an outcome isn't the number of edits accepted before its place in the journal, or that place is past the journal",
         Finding::DemandsDiffer =>
             "the demands of a plan aren't those of the network after the edits before it",
         Finding::Survivable => "a state is said to separate a demand, and doesn't",

@@ -44,7 +44,7 @@ fn number_sentence(fault: NumberFault) -> Sentence
     match fault {
         NumberFault::NotANumber => Sentence {
             wrong: "this is no number",
-            help: "a number is digits, or digits, a point and digits; it has no sign, no exponent and no comma, and a path length may be UNLIMITED",
+            help: "a number is digits, or digits, a point and digits; it has no sign, no exponent and no comma, and a path length is digits alone, or UNLIMITED",
         },
         NumberFault::TooFine => Sentence {
             wrong: "this number has too many places",
@@ -73,7 +73,7 @@ pub fn network_sentence(kind: ReadKind) -> Sentence
             help: "the sections are NODES, LINKS and DEMANDS, in this order and each in parentheses; META may stand before them, and ADMISSIBLE_PATHS after them",
         },
         ReadKind::Token => Sentence {
-            wrong: "a word stands where a parenthesis is expected, or the other way round",
+            wrong: "another word or parenthesis is expected here",
             help: "a link is: NAME ( NODE NODE ) number number number number ( capacity cost .. ); a demand is: NAME ( NODE NODE ) unit value UNLIMITED",
         },
         ReadKind::Ended => Sentence {
@@ -81,7 +81,7 @@ pub fn network_sentence(kind: ReadKind) -> Sentence
             help: "is it cut off, or does a parenthesis stay open?",
         },
         ReadKind::UnknownName => Sentence {
-            wrong: "nothing has this name",
+            wrong: "no node, link or demand of the kind that is due here has this name",
             help: "a link or a demand ends at nodes of the list, and an admissible path is one of links for a demand; upper and lower case differ",
         },
         ReadKind::DoubleName => Sentence {

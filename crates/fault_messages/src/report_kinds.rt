@@ -16,7 +16,7 @@ fn number_sentence(fault: NumberFault) -> Sentence
             help: "a whole number has no zeros before it, and a need or money is digits, or digits, a point and digits",
         },
         NumberFault::TooFine => Sentence {
-            wrong: "this number has more places than the network",
+            wrong: "this number has a digit other than 0 past the network's last place",
             help: "was the report made for this network?",
         },
         NumberFault::TooLarge => Sentence {
@@ -63,7 +63,7 @@ pub fn report_sentence(places: Places, kind: ReportKind) -> Sentence
         },
         ReportKind::UnknownName => Sentence {
             wrong: "no link, node or demand has this name, or another name is expected here",
-            help: "is the report of another network, or of another failure list? name those with --model, --failures or --survive",
+            help: "is the report of another network, or of another failure list?",
         },
         ReportKind::DoubleName => Sentence {
             wrong: "an earlier demand of the plan has this name",
@@ -75,7 +75,7 @@ pub fn report_sentence(places: Places, kind: ReportKind) -> Sentence
         },
         ReportKind::Limit => Sentence {
             wrong: "this number is out of its range, or something is one too many or too few here",
-            help: "is the report of another network, or of another failure list? name those with --model, --failures or --survive",
+            help: "is the report of another network, or of another failure list?",
         },
     }
 }
@@ -104,7 +104,7 @@ pub fn proof_sentence(kind: ReportKind) -> Sentence
         },
         ReportKind::UnknownName => Sentence {
             wrong: "no link or demand has this name",
-            help: "is the report of another network, or of another failure list? name those with --model, --failures or --survive",
+            help: "is the report of another network, or of another failure list?",
         },
         ReportKind::DoubleName => Sentence {
             wrong: "this name stands twice",
@@ -115,7 +115,7 @@ pub fn proof_sentence(kind: ReportKind) -> Sentence
             help: "a name has at most 255 bytes",
         },
         ReportKind::Limit => Sentence {
-            wrong: "this number is out of its range, or a proof line is one too many here",
+            wrong: "this number is out of its range, or a length or a proof line is one too many or too few here",
             help: "were the lines below the report changed by hand?",
         },
     }

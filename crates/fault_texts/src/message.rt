@@ -48,7 +48,7 @@ fn put_wrong(
 }
 
 /// Puts what is wrong with a file at a byte of it last: the file's name, the line and the column with a sentence, the line itself with a
-/// caret, and what helps. It goes over the bytes before the byte at most three times.
+/// caret, and what helps. It goes over the bytes before the byte at most four times.
 pub fn put_fault(
     text: &mut Bytes,
     name: &[u8],

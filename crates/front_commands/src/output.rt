@@ -6,7 +6,7 @@ use crate::usage::WRITE_MESSAGE;
 use command_answers::Status;
 use outside_io::Sink;
 
-/// PutsBoth a message beside the text. Where that fails, nowhere is left to say so.
+/// Puts a message beside the text. Where that fails, nowhere is left to say so.
 pub(crate) fn tell<E: Sink>(beside: &mut E, message: &[u8])
     ensures later { E.faults beside.old ≤ E.faults beside.new }
     ensures tells { TellsBeside E.taken E.faults message.now beside.old beside.new }

@@ -54,7 +54,7 @@ fn answer_words<S: Shelf>(alloc: Global, words: &[String], shelf: &mut S) -> Res
 }
 
 /// Carries out the command that the words give: reads its file from the shelf, prints its text to a sink, and says what is wrong to the one
-/// beside it. Nothing is printed where something is wrong.
+/// beside it. Where something is wrong it prints nothing, or, where writing fails, the beginning of the text.
 ///
 /// ```text
 /// let mut shelf = MemShelf::new(files, List::new(alloc));              // with the triangle's network under the name t.txt

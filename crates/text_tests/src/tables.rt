@@ -84,7 +84,7 @@ fn are_even(text: &[u8], count: usize) -> bool {
     start == text.len()
 }
 
-/// Whether a name of 255 bytes keeps the columns straight: 2 + 255 + 3 + 8 characters in each line.
+/// Whether a name of 255 bytes keeps the columns straight: 2 + 255 + 3 + 9 characters in each line.
 fn is_straight(alloc: Global) -> Result<bool, NoMemory> {
     let mut rows = List::new(alloc);
     rows.push(row_of(alloc, (b"Link", b"Cost"))?)?;
