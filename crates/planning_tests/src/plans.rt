@@ -9,7 +9,7 @@ use plan_types::{Plan, Quality, Spot};
 use planner::{PlanAnswer, plan_snapshot};
 use separator::OneByOne;
 use std::alloc::Global;
-use worked_networks::{CHAIN, DemandRow, LinkRow, ONE, PARALLEL, TEN, demands};
+use worked_networks::{CHAIN, DemandRow, LinkRow, PARALLEL, TEN, demands};
 
 /// What is looked at of a plan: its cost, its raw value, its bound, and whether it is tight.
 type Looked = (u128, (u128, u128), u128, bool);
@@ -79,50 +79,6 @@ const CERTIFIED: Row = (
     &[&[0], &[1], &[2]],
     (0, 1, 10000),
     Some(((15000, (15000, 1), 15000, true), Some((2, 3, [0, 1, 1, 1])))),
-);
-
-/// 24 parallel links, the fewest for which a round's certificate is found over lengths alone.
-const MANY_LINKS: [LinkRow; 24] = [(0, 1, 0, &ONE); 24];
-
-/// Each of 24 links alone.
-const EACH_OF_24: [&[u32]; 24] = [
-    &[0],
-    &[1],
-    &[2],
-    &[3],
-    &[4],
-    &[5],
-    &[6],
-    &[7],
-    &[8],
-    &[9],
-    &[10],
-    &[11],
-    &[12],
-    &[13],
-    &[14],
-    &[15],
-    &[16],
-    &[17],
-    &[18],
-    &[19],
-    &[20],
-    &[21],
-    &[22],
-    &[23],
-];
-
-/// 24 parallel links that fail alone: any 23 of them carry 46.00 with 2.00 on each, so that each failure's cut has the multiplier 1 / 23.
-const MANY: Row = (
-    2,
-    &MANY_LINKS,
-    24,
-    &EACH_OF_24,
-    (0, 1, 46000),
-    Some((
-        (48000, (48000, 1), 48000, true),
-        Some((23, 24, [0, 1, 1, 1])),
-    )),
 );
 
 /// A chain whose last link fails.
@@ -232,7 +188,6 @@ fn small_networks_have_tight_plans(rt: HostRuntime) {
 #[test]
 fn a_certificate_names_the_pooled_cuts_of_the_failures(rt: HostRuntime) {
     assert!(rt; is_planned(rt.alloc(), &CERTIFIED));
-    assert!(rt; is_planned(rt.alloc(), &MANY));
 }
 
 #[test]
