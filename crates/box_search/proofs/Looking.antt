@@ -1,13 +1,13 @@
 -- what is found at a box
 use Rattle.std.proofs.Common.{◌≡◌, ℕ, zero, suc, ◌+◌, ◌^◌, ◌≤◌, ◌<◌, false, List, [], ◌∷◌, ◌++◌, All, Some, get_or, length, map, take, refl, subst, sym, arith, slice_get}
-use Rattle.net_core.proofs.Library.{All-map, All-take, All-weaker, slice_get-get_or}
+use Rattle.net_core.proofs.Library.{All-map, All-weaker, slice_get-get_or}
 use Rattle.net_core.proofs.Networks.{few_links}
 use Rattle.module_choice.proofs.Carrying.{network_links}
 use Rattle.able_counts.specs.AbleTests.{IsWideSomewhere, whole_caps}
 use Rattle.plan_terms.specs.Terms.{AreCounts, AreDemands, Case, CutLine, Evidence, IsCut, IsNetwork, Link, Violates, capacities, total_cost}
 use Rattle.plan_types.specs.declared.plan.Plan.{Plan}
 use Rattle.tree_check.specs.Boxes.{IsFixedBox, least_counts}
-use Rattle.tree_check.specs.BoxValues.{HasBoxValue, IsEmptiedBy}
+use Rattle.tree_check.specs.BoxValues.{HasBoxValue}
 use Rattle.line_check.specs.Inequalities.{line_of_cut}
 use Rattle.line_check.specs.Testing.{names_by}
 use Rattle.line_check.specs.declared.tested.Tested.{Tested}

@@ -3,10 +3,10 @@ use Rattle.std.proofs.Common.{◌≡◌, ℕ, ◌+◌, ◌<◌, false, List, [],
 use Rattle.std.proofs.lemmas.List.{take_more}
 use Rattle.std.specs.List.{AllZip}
 use Rattle.master_bound.specs.declared.answer.Multiplier.{Multiplier}
-use Rattle.plan_terms.specs.Terms.{Case, CutLine, Link}
+use Rattle.plan_terms.specs.Terms.{Case, CutLine}
 use Rattle.plan_types.specs.declared.certificate.CertLine.{CertLine}
 use Rattle.plan_types.specs.declared.plan.Plan.{Plan}
-use Rattle.line_check.specs.Inequalities.{AreNamedBy, WeightedLine, line_of_cut}
+use Rattle.line_check.specs.Inequalities.{AreNamedBy, line_of_cut}
 use Rattle.line_check.specs.Testing.{names_by}
 use Rattle.tree_check.specs.BoxValues.{HasBoxValue, IsBoxValue}
 use Rattle.tree_check.specs.Trees.{TreeBox}

@@ -1,12 +1,11 @@
 -- nodes by the indices of a proof, and what these name
-use Rattle.std.proofs.Common.{◌≡◌, ◌∙◌, ℕ, zero, suc, ◌-◌, ◌<◌, inl, inr, Bool, true, false, List, [], ◌∷◌, Some, slice_get, refl, ap, sym, subst, arith}
+use Rattle.std.proofs.Common.{◌≡◌, ◌∙◌, ℕ, zero, suc, ◌-◌, ◌<◌, inl, inr, Bool, true, List, [], ◌∷◌, refl, ap, sym, subst, arith}
 use Rattle.master_bound.specs.declared.answer.Multiplier.{Multiplier}
 use Rattle.plan_terms.specs.Terms.{Case, Link}
 use Rattle.plan_terms.proofs.Lemmas.{bound_unique}
 use Rattle.line_check.specs.Inequalities.{AreNamedBy, WeightedLine}
 use Rattle.line_check.specs.Lines.{IsMadeOf, IsTableOver, Naming, Source, divided_line, names_among}
 use Rattle.line_check.specs.declared.inequality.Inequality.{Inequality}
-use Rattle.line_check.specs.declared.line.Line.{Line}
 use Rattle.line_check.specs.declared.line.Line.TheVariants.{Divided, Table}
 use Rattle.line_check.specs.declared.line.TableKind.TheVariants.{Plain, Failing}
 use Rattle.line_check.proofs.SameTables.{table_same}

@@ -5,7 +5,6 @@ use Rattle.tree_check.specs.declared.proof.Node.{Node}
 use Rattle.tree_check.specs.declared.proof.Node.TheVariants.{Split, Closed, Empty, Spent, Stuck}
 use Rattle.box_search.specs.Finds.{is_split}
 use Rattle.branch_tree.specs.inner.Places.{AreTwigsOf, twig_sides}
-use Rattle.box_search.specs.Finds.{node_of}
 use Rattle.box_search.specs.declared.twigs.Twig.{Twig}
 
 -- a node that isn't a split has no sides

@@ -287,12 +287,12 @@ pub fn prove(
 }
 
 /// As `prove`, but the tree's leaves may also name lines that are made of the cuts, and come with the proof: sums of cuts that are divided
-/// and rounded up know that modules are whole. With them a tree has few splits, and the value without any split is mostly within a tenth
-/// of the least cost.
+/// and rounded up know that modules are whole. With them a tree has few splits, and where links have two kinds of modules the value without
+/// any split is mostly within a tenth of the least cost.
 ///
-/// Before the tree grows, each cut gets a line whose right side is at most 64, and programs take these in place of the given cuts. Then up
-/// to 40 lines are made that the point of the program of all counts misses, in up to 20 rounds, and up to 10 at each other box that is
-/// looked at. Where a program gets too wide with the lines of a round, they are taken off again, and the next round has a third as many; the
+/// Before the tree grows, each cut gets a line whose right side is at most 64, and programs take these in place of the given cuts. Then
+/// lines are made that the point of the program of all counts misses, up to 40 in each of up to 20 rounds, and up to 10 at each other box
+/// that is looked at. Where a program gets too wide with the lines of a round, they are taken off again, and the next round has a third as many; the
 /// certificate of the last program that isn't too wide counts for the box of all counts, whatever happens later.
 ///
 /// Where a link has more than two kinds of modules, the cuts of node sets come first, up to 1,024, and rounds make table lines of weights up

@@ -11,8 +11,8 @@ use std::alloc::Global;
 /// With fewer links the program is solved from the slacks.
 const FEW_LINKS: usize = 24;
 
-/// The best certificate of the cuts so far. With few links it is found from the slacks, which takes a millisecond at most and makes
-/// it depend on the cuts alone; with more it begins with the basis that the rounds before have left.
+/// The best certificate of the cuts so far. With few links it is found from the slacks, which takes little time and makes it
+/// depend on the cuts alone; with more it begins with the basis that the rounds before have left.
 pub(crate) fn best_so_far(
     alloc: Global,
     net: &Network,

@@ -295,7 +295,7 @@ fn turns<S: Separate>(
 /// In the triangle with a demand of 12.00 the unit cut of state `none` is the first opening cut. It asks for 12.00, its share costs
 /// 6.00, which carries the demand, and the quality is `Tight`.
 ///
-/// It takes a simplex run over the cuts and one over the paths of each state for each turn, and memory for two cuts of each state, for
+/// It takes at most a simplex run over the cuts and one over the paths of each state for each turn, and memory for two cuts of each state, for
 /// those of the turns, and for one routing of each state.
 pub fn work_rounds<S: Separate>(
     alloc: Global,

@@ -4,7 +4,6 @@ use Rattle.module_choice.proofs.Carrying.{network_links}
 use Rattle.line_check.specs.Testing.{names_by}
 use Rattle.tree_check.specs.BoxValues.{HasBoxValue}
 use Rattle.tree_check.specs.declared.proof.BoxCert.{BoxCert}
-use Rattle.box_search.specs.Searches.{aimed}
 use Rattle.box_search.proofs.FreeValues.{free_has_value, free_value}
 use Rattle.box_search.proofs.Knowing.{value_told}
 use Rattle.box_search.proofs.certs.empty_valued.Goals as goal

@@ -1,4 +1,4 @@
-use Rattle.std.proofs.Common.{arith, length, refl, subst, sym}
+use Rattle.std.proofs.Common.{arith, refl, subst, sym}
 use Rattle.tree_check.specs.Boxes.{IsFixedBox}
 use Rattle.tree_check.specs.Trees.{TreeBox}
 use Rattle.box_search.specs.declared.evaluation.Round.{Round}

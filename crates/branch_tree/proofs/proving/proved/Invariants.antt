@@ -1,4 +1,4 @@
-use Rattle.std.proofs.Common.{◌≡◌, ◌+◌, ◌≤◌, length}
+use Rattle.std.proofs.Common.{◌≡◌, ◌≤◌, length}
 use Rattle.plan_terms.specs.Terms.{case_of}
 use Rattle.plan_swaps.specs.Swaps.{IsCheaperPlan}
 use Rattle.box_search.specs.Searches.{IsSearch, handed_in}
